@@ -1,6 +1,7 @@
 //! The files and sinks of the outside, as traits whose contracts say what they hold and count the
 //! faults, with two loops over them that read a whole file and write all bytes. Objects in memory
-//! tell their bytes; those over real files and streams only count. It stands on no other crate.
+//! tell their bytes; those over real files and streams only count. It stands on sig_base,
+//! of which it takes `Text`.
 #![tactic(auto)]
 
 mod calls;
@@ -26,3 +27,6 @@ pub use put::put_all;
 pub use quiet_sink::QuietSink;
 pub use read::{ReadAnswer, read_all};
 pub use sink::{Sink, WriteFault, Wrote};
+
+#[cfg(test)]
+mod tests;
