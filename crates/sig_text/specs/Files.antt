@@ -1,5 +1,5 @@
 -- What the calls of a `Files` answer, and what they do to what is told.
-use Rattle.std.specs.Prelude.{ℕ, ◌≡◌, ◌<◌, List, length, take, ⊤, Option, None, Some}
+use Rattle.std.specs.Prelude.{ℕ, ◌≡◌, ◌<◌, Bool, true, false, List, length, take, ⊤, Option, None, Some}
 use Rattle.std.specs.Io.KnownBytes.{Consumes, IsAtEnd}
 use Rattle.sig_text.specs.declared.files.Begun.{Begun}
 use Rattle.sig_text.specs.declared.files.Begun.TheVariants.{Ready, Missing, Failed}
@@ -31,6 +31,27 @@ abbrev pub UnlessReady : Begun → Type 0 → Type 0
 UnlessReady Ready fact = ⊤
 UnlessReady Missing fact = fact
 UnlessReady Failed fact = fact
+
+-- a fact for the two answers of `begin` that are no failure
+abbrev pub UnlessFailed : Begun → Type 0 → Type 0
+UnlessFailed Ready fact = fact
+UnlessFailed Missing fact = fact
+UnlessFailed Failed fact = ⊤
+
+-- which answer it is
+abbrev pub begin_failed : Begun → Bool
+begin_failed Ready = false
+begin_failed Missing = false
+begin_failed Failed = true
+
+abbrev pub begin_missed : Begun → Bool
+begin_missed Ready = false
+begin_missed Missing = true
+begin_missed Failed = false
+
+abbrev pub read_failed : ReadStep → Bool
+read_failed (Got n) = false
+read_failed ReadFailed = true
 
 -- the bytes that were found are there, and they are what is left to be read
 abbrev pub IsOpened : Option (List ℕ) → Option (List ℕ) → Type 0

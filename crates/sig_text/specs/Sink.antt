@@ -1,5 +1,5 @@
 -- What the calls of a `Sink` answer, and what it took.
-use Rattle.std.specs.Prelude.{ℕ, ◌≡◌, ◌++◌, List, [], take, ⊤}
+use Rattle.std.specs.Prelude.{ℕ, ◌≡◌, ◌++◌, Bool, true, false, List, [], take, ⊤}
 use Rattle.std.proofs.Common.{append_assoc, ap, ◌∙◌, sym}
 use Rattle.std.proofs.lemmas.List.{append-nil}
 use Rattle.sig_text.specs.declared.sink.Wrote.{Wrote}
@@ -18,6 +18,11 @@ OnWriteFailed Failed fact = fact
 abbrev pub TookNone : Wrote → Type 0
 TookNone (Took n) = n ≡ 0
 TookNone Failed = Unit {0}
+
+-- the answer is a failure
+abbrev pub write_failed : Wrote → Bool
+write_failed (Took n) = false
+write_failed Failed = true
 
 -- the bytes of the piece that an answer of `write` says were taken
 abbrev pub taken_of : Wrote → List ℕ → List ℕ
