@@ -1,0 +1,10 @@
+pub mod Listed
+pub mod Marks
+pub mod Numbers
+pub mod Pieces
+pub mod PlaceLemmas
+pub mod Stands
+pub mod Classes
+pub mod Fronts
+pub mod Unique
+pub mod SliceLemmas

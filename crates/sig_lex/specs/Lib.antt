@@ -1,0 +1,5 @@
+pub mod Bytes
+pub mod Places
+pub mod Slices
+pub mod Tables
+pub mod Tokens

@@ -1,0 +1,12 @@
+-- Places in a text.
+use Rattle.std.specs.Prelude.{ℕ, ◌+◌, ◌==◌, List, length, count_by}
+use Rattle.std.specs.List.{after_last}
+use Rattle.sig_base.specs.declared.span.Span.{Span}
+
+-- The place of what follows these bytes: one more line than they have newlines, and one more column
+-- than they have bytes after their last newline.
+abbrev pub place_after : List ℕ → Span
+place_after front = record {
+  line = 1 + count_by (λ b. b == 10) front;
+  col = 1 + length (after_last (λ b. b == 10) front);
+}

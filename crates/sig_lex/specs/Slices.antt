@@ -1,0 +1,17 @@
+-- Tokens as slices of a text.
+use Rattle.std.specs.Prelude.{◌≡◌, ◌≢◌, ℕ, ◌<◌, ◌≤◌, List, [], ◌∷◌, ◌++◌, length, take}
+use Rattle.std.specs.List.{AllByRecursion}
+use Rattle.sig_lex.specs.declared.token.Token.{Token}
+use Rattle.sig_lex.specs.declared.token.TokenKind.TheVariants.{Last}
+use Rattle.sig_lex.specs.Places.{place_after}
+use Rattle.sig_lex.specs.Tokens.{token_at}
+
+-- The tokens are slices of the text from the byte i on, one after another, each with the place of its
+-- first byte.
+abbrev pub InOrder : List ℕ → ℕ → List Token → Type 0
+InOrder text i [] = i ≤ length text
+InOrder text i (t ∷ tokens) = (i ≤ t.start) × (t.start ≤ t.stop) × (t.at ≡ place_after (take t.start text)) × InOrder text t.stop tokens
+
+-- no token but the last is the end of the text, and that one stands after the last byte
+abbrev pub EndsOnce : List ℕ → List Token → Type 0
+EndsOnce text tokens = (others : List Token) × (tokens ≡ others ++ token_at text (length text) Last 0 ∷ []) × AllByRecursion (λ t. (t.kind ≢ Last) × (t.start < t.stop)) others

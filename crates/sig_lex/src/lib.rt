@@ -1,0 +1,21 @@
+//! The lexer of sigc: the bytes of a program as its list of tokens, or the first fault with its
+//! place. What the tokens of a text are is defined in `specs/Tokens.antt`, apart from the scan. It
+//! stands on sig_base.
+#![tactic(auto)]
+
+mod answer;
+mod laws;
+mod piece;
+mod place;
+mod run;
+mod scan;
+mod table;
+mod token;
+
+pub use answer::LexAnswer;
+pub use laws::{one_reading, slices_in_order};
+pub use scan::lex;
+pub use token::{Token, TokenKind};
+
+#[cfg(test)]
+mod tests;

@@ -1,0 +1,8 @@
+-- Lemmas of this crate.
+pub mod FormLemmas
+pub mod PlaceLemmas
+pub mod ReadingLemmas
+pub mod RuleLemmas
+pub mod SmallLemmas
+pub mod SpellingLemmas
+pub mod SplittingLemmas
