@@ -1,0 +1,10 @@
+mod Numerals
+mod LineWords
+mod Lines
+mod FlowLines
+mod Sums
+mod TakenPieces
+mod RunLength
+mod ProgramFile
+mod Runs
+mod Causes

@@ -1,0 +1,5 @@
+pub mod FlowFile
+pub mod Loaded
+pub mod SmallRun
+pub mod TopCall
+pub mod Words

@@ -1,0 +1,1 @@
+process SUM = (? integer A, B ! integer Y) Y := A + B;
