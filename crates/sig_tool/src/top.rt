@@ -88,3 +88,6 @@ pub fn sig_main<R: Threads + Wait + Sync, F: Files, S: Sink, E: Sink, G: Gate + 
         }
     }
 }
+
+#[cfg(test)]
+mod tests;

@@ -1,0 +1,289 @@
+//! Runs of the top call over files and sinks in memory.
+
+use super::*;
+use sig_text::{Files, MemFiles, MemSink};
+use std::process::Abort;
+use std::test::Fail;
+
+const SUM: &[u8] = b"process SUM = (? integer A, B ! integer Y) Y := A + B;";
+
+const DIFFERENCE: &[u8] = b"process Z = (? integer A, B ! integer Y) Y := A - B;";
+
+const TWICE: &[u8] = b"process Z = (? integer A ! integer Y) Y := A + A;";
+
+/// What a call must write and answer.
+#[derive(Clone, Copy)]
+struct Wanted {
+    out: &'static [u8],
+    err: &'static [u8],
+    status: u8,
+}
+
+/// A gate at which nobody waits.
+struct Open;
+
+impl Gate for Open {
+    fn pass(&self, _cluster: u32, _instant: u32) {}
+}
+
+fn files_of(alloc: Global, program: &[u8], flows: &[u8]) -> Result<MemFiles, Fail> {
+    let mut files = MemFiles::new(alloc);
+    files.add("P", program)?;
+    files.add("F", flows)?;
+    Ok(files)
+}
+
+fn words_of(alloc: Global, line: &[&str]) -> Result<Vec<String>, Fail> {
+    let mut words = Vec::new(alloc);
+    for word in line {
+        words.push(String::from_str(alloc, word)?)?;
+    }
+    Ok(words)
+}
+
+/// Calls with these words, and compares what it wrote and answered.
+fn call<R: Threads + Wait + Sync + Abort + AllocGlobal>(
+    rt: &R,
+    line: &[&str],
+    files: &mut MemFiles,
+    out: &mut MemSink,
+    wanted: Wanted,
+) -> Result<(), Fail> {
+    let words = words_of(rt.alloc(), line)?;
+    let mut err = MemSink::new(rt.alloc(), 200)?;
+    let status = sig_main(rt, rt.alloc(), &words, files, out, &mut err, &Open);
+    assert!(rt; out.bytes() == wanted.out);
+    assert_eq!(rt; err.bytes(), wanted.err);
+    assert_eq!(rt; status, wanted.status);
+    Ok(())
+}
+
+/// Runs a program over a flow file with room for the whole text.
+fn run_text<R: Threads + Wait + Sync + Abort + AllocGlobal>(
+    rt: &R,
+    program: &[u8],
+    flows: &[u8],
+    wanted: Wanted,
+) -> Result<(), Fail> {
+    let mut files = files_of(rt.alloc(), program, flows)?;
+    let mut out = MemSink::new(rt.alloc(), 1000)?;
+    call(rt, &["run", "P", "F"], &mut files, &mut out, wanted)
+}
+
+#[test]
+fn runs_to_the_end(rt: HostRuntime) -> Result<(), Fail> {
+    let sums = Wanted {
+        out: b"Y 11\nY 22\n",
+        err: b"end: input B exhausted after 2 instants\n",
+        status: 0,
+    };
+    run_text(&rt, SUM, b"A 1 2 3\nB 10 20", sums)?;
+    let pieces = Wanted {
+        out: b"Y 11\nY 22\n",
+        err: b"end: input B exhausted after 2 instants\n",
+        status: 0,
+    };
+    run_text(&rt, SUM, b"B 10\r\n\n \t\nA\t1 2\n A 3 \nB 020\n", pieces)?;
+    let none = Wanted {
+        out: b"",
+        err: b"end: input A exhausted after 0 instants\n",
+        status: 0,
+    };
+    run_text(&rt, SUM, b"", none)?;
+    let least = Wanted {
+        out: b"Y -9223372036854775808\n",
+        err: b"end: input A exhausted after 1 instants\n",
+        status: 0,
+    };
+    run_text(&rt, SUM, b"A -9223372036854775808\nB -0", least)
+}
+
+#[test]
+fn ends_at_an_overflow(rt: HostRuntime) -> Result<(), Fail> {
+    let first = Wanted {
+        out: b"",
+        err: b"end: overflow at 1:49 after 0 instants\n",
+        status: 3,
+    };
+    run_text(&rt, DIFFERENCE, b"A -9223372036854775808\nB 1", first)?;
+    let third = Wanted {
+        out: b"Y 2\nY -4\n",
+        err: b"end: overflow at 1:46 after 2 instants\n",
+        status: 3,
+    };
+    run_text(&rt, TWICE, b"A 1 -2 9223372036854775807 4", third)
+}
+
+#[test]
+fn ends_at_the_limit(rt: HostRuntime) -> Result<(), Fail> {
+    let mut flows = Vec::from_slice(rt.alloc(), b"A")?;
+    for _ in 0..1_000_001 {
+        flows.extend_from_slice(b" 0")?;
+    }
+    let mut files = files_of(rt.alloc(), TWICE, &flows)?;
+    let words = words_of(rt.alloc(), &["run", "P", "F"])?;
+    let mut out = MemSink::new(rt.alloc(), 4_000_000)?;
+    let mut err = MemSink::new(rt.alloc(), 200)?;
+    let status = sig_main(
+        &rt,
+        rt.alloc(),
+        &words,
+        &mut files,
+        &mut out,
+        &mut err,
+        &Open,
+    );
+    assert_eq!(rt; status, 0);
+    assert_eq!(rt;
+        err.bytes(),
+        b"end: limit after 1000000 instants\n".as_slice()
+    );
+    assert_eq!(rt; out.bytes().len(), 4_000_000);
+    assert!(rt;
+        out.bytes()
+            .chunks(4)
+            .all(|line| line == b"Y 0\n".as_slice())
+    );
+    Ok(())
+}
+
+#[test]
+fn refuses_programs(rt: HostRuntime) -> Result<(), Fail> {
+    for program in [
+        b"".as_slice(),
+        b"process P = (? integer A ! integer Y) Y := A * A;",
+    ] {
+        let wanted = Wanted {
+            out: b"",
+            err: b"error: not built yet\n",
+            status: 1,
+        };
+        run_text(&rt, program, b"A 1", wanted)?;
+    }
+    let long = vec![in rt.alloc(); b' '; 1_048_577]?;
+    let wanted = Wanted {
+        out: b"",
+        err: b"error: program longer than 1048576 bytes\n",
+        status: 1,
+    };
+    run_text(&rt, &long, b"A 1", wanted)
+}
+
+#[test]
+fn refuses_flow_files(rt: HostRuntime) -> Result<(), Fail> {
+    let bad: [&[u8]; 8] = [
+        b"A 1x",
+        b"A 9223372036854775808",
+        b"A -9223372036854775809",
+        b"C 1",
+        b"A 1\r",
+        b"A \x80",
+        b"A +1",
+        b"A 1 -",
+    ];
+    for flows in bad {
+        let wanted = Wanted {
+            out: b"",
+            err: b"error: F: not a flow file\n",
+            status: 4,
+        };
+        run_text(&rt, SUM, flows, wanted)?;
+    }
+    Ok(())
+}
+
+#[test]
+fn refuses_too_many_values(rt: HostRuntime) -> Result<(), Fail> {
+    let mut flows = Vec::from_slice(rt.alloc(), b"A")?;
+    for _ in 0..4_000_001 {
+        flows.extend_from_slice(b" 1")?;
+    }
+    let wanted = Wanted {
+        out: b"",
+        err: b"error: F: not a flow file\n",
+        status: 4,
+    };
+    run_text(&rt, TWICE, &flows, wanted)
+}
+
+#[test]
+fn refuses_long_flow_files(rt: HostRuntime) -> Result<(), Fail> {
+    let long = vec![in rt.alloc(); b' '; 67_108_865]?;
+    let wanted = Wanted {
+        out: b"",
+        err: b"error: F: longer than 67108864 bytes\n",
+        status: 4,
+    };
+    run_text(&rt, TWICE, &long, wanted)
+}
+
+#[test]
+fn refuses_words(rt: HostRuntime) -> Result<(), Fail> {
+    let lines: [&[&str]; 7] = [
+        &[],
+        &["run", "P"],
+        &["run", "P", "F", "F"],
+        &["--help"],
+        &["run", "--", "F"],
+        &["run", "P", "-F"],
+        &["check", "P"],
+    ];
+    for line in lines {
+        let mut files = files_of(rt.alloc(), SUM, b"A 1\nB 1")?;
+        let mut out = MemSink::new(rt.alloc(), 100)?;
+        let wanted = Wanted {
+            out: b"",
+            err: b"error: these words are not a command\n",
+            status: 2,
+        };
+        call(&rt, line, &mut files, &mut out, wanted)?;
+    }
+    Ok(())
+}
+
+#[test]
+fn names_the_file_that_fails(rt: HostRuntime) -> Result<(), Fail> {
+    let mut files = MemFiles::new(rt.alloc());
+    let mut out = MemSink::new(rt.alloc(), 100)?;
+    let missing = Wanted {
+        out: b"",
+        err: b"error: P: not found\n",
+        status: 5,
+    };
+    call(&rt, &["run", "P", "F"], &mut files, &mut out, missing)?;
+    files.add("P", SUM)?;
+    let second = Wanted {
+        out: b"",
+        err: b"error: -: not found\n",
+        status: 5,
+    };
+    call(&rt, &["run", "P", "-"], &mut files, &mut out, second)?;
+    let mut files = files_of(rt.alloc(), SUM, b"A 1\nB 1")?;
+    files.fail_at(2)?;
+    let fault = Wanted {
+        out: b"",
+        err: b"error: P: read failed\n",
+        status: 5,
+    };
+    call(&rt, &["run", "P", "F"], &mut files, &mut out, fault)
+}
+
+#[test]
+fn tells_of_a_sink_that_fails(rt: HostRuntime) -> Result<(), Fail> {
+    let mut files = files_of(rt.alloc(), SUM, b"A 1 2 3\nB 10 20")?;
+    let mut short = MemSink::new(rt.alloc(), 7)?;
+    let cut = Wanted {
+        out: b"Y 11\nY ",
+        err: b"error: write failed\n",
+        status: 6,
+    };
+    call(&rt, &["run", "P", "F"], &mut files, &mut short, cut)?;
+    let mut sticky = MemSink::new(rt.alloc(), 100)?;
+    sticky.fail_at(9)?;
+    let unflushed = Wanted {
+        out: b"Y 11\nY 22\n",
+        err: b"error: write failed\n",
+        status: 6,
+    };
+    call(&rt, &["run", "P", "F"], &mut files, &mut sticky, unflushed)
+}
