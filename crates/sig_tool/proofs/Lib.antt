@@ -8,3 +8,4 @@ mod RunLength
 mod ProgramFile
 mod Runs
 mod Causes
+mod RunCauses

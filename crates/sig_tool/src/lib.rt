@@ -12,4 +12,5 @@ mod run;
 mod top;
 mod words;
 
+pub use run::{Cause, one_end};
 pub use top::sig_main;

@@ -1,7 +1,7 @@
 //! The run of a straight program over flows.
 
-ghost use Rattle.std.specs.Prelude.{◌≡◌, ◌≤◌, ◌<◌, ℕ, [], length, All, IfOk, OnErr, slice_index_or};
-ghost use Rattle.sig_plan.specs.Small.{IsSmall, small_of};
+ghost use Rattle.std.specs.Prelude.{◌≡◌, ◌≤◌, ◌<◌, ℕ, ℤ, List, [], length, All, IfOk, OnErr, slice_index_or};
+ghost use Rattle.sig_plan.specs.Small.{IsSmall, Small, small_of};
 ghost use Rattle.sig_text.specs.Counts.{Rose};
 ghost use Rattle.sig_text.specs.Sink.{TookPrefix};
 ghost use Rattle.sig_tool.specs.SmallRun.{IsCause, IsExhausted, IsLength, text_of};
@@ -32,6 +32,13 @@ pub struct Ended {
     pub instants: usize,
     pub cause: Cause,
 }
+
+/// A law: a run of a program over flows has one number of instants and one cause.
+pub fn one_end()
+    ensures { (s : Small) (flows : List (List ℤ)) (limit m n : ℕ) (one other : Cause) →
+        IsLength s flows limit m → IsLength s flows limit n → IsCause s flows limit m one → IsCause s flows limit n other →
+        (m ≡ n) × (one ≡ other) }
+{}
 
 /// Runs a program over its flows, one per input, for at most `limit` instants. It appends the line of
 /// each instant and takes no memory. Where the sink fails, a prefix of the run's text was appended.

@@ -1,0 +1,13 @@
+pub mod Trees
+pub mod Listed
+pub mod Canonical
+pub mod Growth
+pub mod Sides
+pub mod Steps
+pub mod Kept
+pub mod Counts
+pub mod SameQuestion
+pub mod Functions
+pub mod Variables
+pub mod CallerLemmas
+pub mod Rows

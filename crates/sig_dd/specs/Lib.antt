@@ -1,0 +1,4 @@
+pub mod Diagram
+pub mod Nodes
+pub mod Question
+pub mod Support

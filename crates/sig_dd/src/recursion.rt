@@ -1,0 +1,52 @@
+//! The recursion below the calls: it goes down the variables, and answers each question once.
+
+ghost use Rattle.std.specs.Prelude.{◌≡◌, ◌+◌, ◌^◌, ◌<◌, ℕ, List, length, IfOk, Err};
+ghost use Rattle.sig_dd.specs.Nodes.{IsStore, Keeps, IsFull};
+ghost use Rattle.sig_dd.specs.Question.{HoldsAll, IsAnswer, IsTable, TestsOnly};
+
+use crate::answer::DdAnswer;
+use crate::node::Ref;
+use crate::question::{Question, Step};
+use crate::store::Store;
+use std::collections::HashMap;
+
+/// The questions that were answered so far.
+pub(crate) type Table = HashMap<Question, Ref>;
+
+impl Store {
+    /// The reference that answers the question. Each question is split once while the table lives.
+    pub(crate) fn answer_in(
+        &mut self,
+        table: &mut Table,
+        question: Question,
+    ) -> Result<Ref, DdAnswer>
+        requires held { HoldsAll self.old.nodes question }
+        requires table { IsTable ⟦<Question as PartialEq>⟧.eq self.old.nodes table.old }
+        ensures store { IsStore self.new }
+        ensures kept { Keeps self.old self.new }
+        ensures table { IsTable ⟦<Question as PartialEq>⟧.eq self.new.nodes table.new }
+        ensures value { IfOk result (IsAnswer self.new.nodes question) }
+
+        // The nodes that are added; a refusal for their number comes before the last of them.
+        ensures added { (vs : List ℕ) → TestsOnly self.old.nodes question vs
+            → length self.new.nodes < length self.old.nodes + 2 ^ length vs }
+        ensures full { (n : ℕ) → result ≡ Err (DdAnswer.Budget n) → IsFull self.new n }
+        ensures budget { (n : ℕ) → result ≡ Err (DdAnswer.Budget n)
+            → (vs : List ℕ)
+            → TestsOnly self.old.nodes question vs
+            → length self.new.nodes + 1 < length self.old.nodes + 2 ^ length vs }
+    {
+        let split = match self.step(question) {
+            Step::Known(r) => return Ok(r),
+            Step::Open(split) => split,
+        };
+        if let Some(known) = table.get(&question) {
+            return Ok(*known);
+        }
+        let low = self.answer_in(table, split.low)?;
+        let high = self.answer_in(table, split.high)?;
+        let r = self.node_for(split.variable, low, high)?;
+        table.insert(question, r)?;
+        Ok(r)
+    }
+}

@@ -1,0 +1,42 @@
+-- What a contract sees of the two ends of a link.
+use Rattle.std.specs.Prelude.{◌≡◌, ◌≤◌, ℕ, ℤ, List, ◌++◌, length}
+use Rattle.std.specs.Arc.{arc_value}
+use Rattle.crossbeam_queue.specs.Passes.{view, ruled_capacity}
+use Rattle.atomic_table.specs.Seated.{TableId}
+use Rattle.sig_link.specs.declared.ends.Put.{Put}
+use Rattle.sig_link.specs.declared.ends.Take.{Take}
+
+-- which link it is
+abbrev pub LinkId : Type 0
+LinkId = TableId
+
+-- the link of the end that puts, and that of the end that takes
+abbrev pub put_link : Put → LinkId
+put_link p = p.pass.table_id
+
+abbrev pub take_link : Take → LinkId
+take_link t = t.pass.table_id
+
+-- how many items the link holds at most
+abbrev pub put_capacity : Put → ℕ
+put_capacity p = ruled_capacity (arc_value p.line)
+
+-- all items that were sent, oldest first
+abbrev pub sent : Put → List ℤ
+sent p = (view p.pass).sent
+
+-- all items that were taken, oldest first
+abbrev pub taken : Take → List ℤ
+taken t = (view t.pass).taken
+
+-- they are the ends of one link
+abbrev pub OfOneLink : Put → Take → Type 0
+OfOneLink p t = put_link p ≡ take_link t
+
+-- it is an end of the same link, with the same capacity
+abbrev pub IsSamePut : Put → Put → Type 0
+IsSamePut old new = (put_link new ≡ put_link old) × (put_capacity new ≡ put_capacity old)
+
+-- what was taken, followed by so many queued items, at most the capacity, is what was sent
+abbrev pub IsSettled : Put → Take → ℕ → Type 0
+IsSettled p t left = (queue : List ℤ) × (sent p ≡ taken t ++ queue) × (length queue ≡ left) × (left ≤ put_capacity p)

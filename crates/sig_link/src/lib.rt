@@ -1,0 +1,22 @@
+//! A link between two threads: a queue of 64-bit integers with one end that puts and one end that
+//! takes. The rule that every step keeps is that what was sent is what was taken, followed by what
+//! the queue holds. It stands on sig_base, of which it takes `Full`, and on the kit's
+//! `crossbeam_queue`.
+#![tactic(auto)]
+
+mod ends;
+mod laws;
+mod opening;
+mod pop;
+mod push;
+mod rule;
+mod settling;
+mod steps;
+
+pub use ends::{Put, Take};
+pub use laws::{ends_may_be_moved, steps_keep_the_rule, taken_is_a_prefix};
+pub use opening::{LinkAnswer, link};
+pub use settling::{Settled, settle};
+
+#[cfg(test)]
+mod tests;

@@ -1,0 +1,49 @@
+//! The making of a link.
+
+ghost use Rattle.std.specs.Prelude.{◌≡◌, ◌≤◌, [], IfOk};
+ghost use Rattle.sig_link.specs.Ends.{put_capacity, sent, taken, OfOneLink};
+ghost use Rattle.sig_link.specs.declared.opening.LinkAnswer.TheVariants.{OutOfMemory};
+
+use super::ends::{Put, Take};
+use super::rule::{Line, TwoEnds};
+use std::alloc::{AllocError, Global};
+use std::sync::Arc;
+use thiserror::Error;
+
+/// The refusal of [`link`].
+#[derive(Clone, Copy, Debug, PartialEq, Eq, Error)]
+pub enum LinkAnswer {
+    /// Memory was wanting.
+    #[error("out of memory")]
+    OutOfMemory,
+}
+
+impl From<AllocError> for LinkAnswer {
+    ghost from_gives = { λ _ answer. answer ≡ OutOfMemory };
+
+    fn from(_error: AllocError) -> LinkAnswer {
+        LinkAnswer::OutOfMemory
+    }
+}
+
+/// An empty link that holds so many items at most, and its two ends. Only memory can be wanting; no
+/// later call on the link takes any.
+pub fn link(alloc: Global, capacity: u32) -> Result<(Put, Take), LinkAnswer>
+    requires { (1 ≤ capacity) × (capacity ≤ 65536) }
+    ensures ends { IfOk result (λ ends. OfOneLink ends.0 ends.1 × (put_capacity ends.0 ≡ capacity)) }
+    ensures empty { IfOk result (λ ends. (sent ends.0 ≡ []) × (taken ends.1 ≡ [])) }
+{
+    let (queue, mut putter) = Line::ruled(alloc, capacity as usize)?;
+    let taker = queue.another::<TwoEnds>(&mut putter);
+    let mine = Arc::new(alloc, queue).map_err(AllocError::from)?;
+    let theirs = Arc::try_clone(&mine)?;
+    let put = Put {
+        line: mine,
+        pass: putter,
+    };
+    let take = Take {
+        line: theirs,
+        pass: taker,
+    };
+    Ok((put, take))
+}
