@@ -1,0 +1,28 @@
+#!/bin/sh
+# Builds the constraints of eight queens and a parity of 64 variables with sig_dd, and with BuDDy
+# (Debian's libbdd-dev) where that is installed, and prints nodes and times. It works in a folder
+# of its own and leaves nothing here. Needs rt, and for BuDDy a C compiler.
+set -eu
+here=$(cd "$(dirname "$0")" && pwd)
+work=$(mktemp -d)
+trap 'rm -rf "$work"' EXIT
+mkdir -p "$work/crates/dd_bench/src"
+for part in src specs proofs; do
+    mkdir -p "$work/crates/sig_dd"
+    cp -r "$here/../crates/sig_dd/$part" "$work/crates/sig_dd/$part"
+done
+printf 'sig_dd: indexmap thiserror\ndd_bench: sig_dd anyhow\n' >"$work/crates.txt"
+cp "$here/diagrams/program.txt" "$work/crates/dd_bench/src/main.rt"
+for name in rules row_has_one queens parity; do
+    mkdir -p "$work/crates/dd_bench/proofs/$name"
+    cp "$here/diagrams/$name.invariants.txt" "$work/crates/dd_bench/proofs/$name/Invariants.antt"
+done
+cd "$work/crates/dd_bench"
+rt run >"$work/log" 2>&1 || { tail -n 20 "$work/log"; exit 1; }
+echo 'sig_dd (all nodes made, in five turns):'
+/usr/bin/time -f '%M KB at most' ./out/dd_bench
+if [ -e /usr/include/bdd.h ]; then
+    cc -O2 -o "$work/buddy" "$here/diagrams/buddy.c" -lbdd -lm
+    echo 'BuDDy:'
+    /usr/bin/time -f '%M KB at most' "$work/buddy"
+fi

@@ -1,0 +1,2 @@
+process BALANCE = (? integer OPENING, PAID, FEE ! integer LEFT)
+  LEFT := OPENING - PAID - FEE;

@@ -1,0 +1,2 @@
+process TWICE = (? integer A ! integer Y)
+  Y := A + A;
