@@ -25,13 +25,16 @@ all_parts (v ∷ vs) = v.parts + all_parts vs
 
 -- every seat has seen no less than the word
 abbrev pub IsAtMostSeen : ℕ → List Sight → Type 0
-IsAtMostSeen word sights = (number : ℕ) (v : Sight) → get_elem? sights number ≡ some v → word ≤ v.seen
+IsAtMostSeen word sights =
+    (number : ℕ) (v : Sight) → get_elem? sights number ≡ some v → word ≤ v.seen
 
 -- a seat without parts has recorded none
 abbrev pub IdleHasNone : List Sight → Type 0
-IdleHasNone sights = (number : ℕ) (v : Sight) → get_elem? sights number ≡ some v → v.parts ≡ 0 → v.recorded ≡ no_place
+IdleHasNone sights =
+    (number : ℕ) (v : Sight) → get_elem? sights number ≡ some v → v.parts ≡ 0 → v.recorded ≡ no_place
 
--- The word is the least that was recorded, and is at most each seat's least seen. The parts of all seats add up to those that the word was made for
+-- The word is the least that was recorded, and is at most each seat's least seen. The parts of all
+-- seats add up to those that the word was made for, and a seat without parts has recorded none
 abbrev pub IsLeast : ℕ → State (Unit {0}) Sight → Type 0
 IsLeast parts s =
     (word : ℕ) × (s.words ≡ word ∷ []) × (word ≡ least_recorded s.views) × IsAtMostSeen word s.views

@@ -16,7 +16,7 @@ halt_id h = h.table.shared.table_id
 abbrev pub halt_parts : Halt → ℕ
 halt_parts h = h.table.shared.key
 
--- the word that a seat is of, its parts, the least word that it recorded, and the least that it has seen
+-- the word that a seat is of, its parts, and the least words that it recorded and has seen
 abbrev pub seat_id : HaltSeat → HaltId
 seat_id s = s.seat.table_id
 
@@ -45,6 +45,7 @@ IsSameSeat old new = (seat_id new ≡ seat_id old) × (parts new ≡ parts old)
 abbrev pub IsAtMostKnown : ℕ → HaltSeat → Type 0
 IsAtMostKnown word s = (word ≤ seen s) × (word ≤ recorded s)
 
--- the word was found at a step of the call, and the lesser of it and the place is what the seat has seen last
+-- a word was found at a step of the call, and the lesser of it and the place is the least that the
+-- seat has seen
 abbrev pub Lowers : HaltSeat → ℕ → HaltSeat → Type 0
 Lowers old place new = (found : ℕ) × IsAtMostKnown found old × (seen new ≡ min found place)

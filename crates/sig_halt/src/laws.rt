@@ -7,10 +7,12 @@ ghost use Rattle.sig_halt.specs.declared.rule.Sight.{Sight};
 
 use super::halt::{Halt, HaltSeat};
 
-/// A law: each kind of step keeps the rule, whatever was recorded and whatever the other seats know.
-/// At the closing, the word is what the seat with all parts recorded, and at most what it has seen.
+/// A law: each kind of step keeps the rule, whatever was recorded and whatever the other seats
+/// know. At the closing, the word is what the seat with all parts recorded, and at most what it has
+/// seen.
 pub fn steps_keep_the_rule()
-    ensures making { (parts : ℕ) → IsLeast parts (opening (no_place ∷ []) [] (sight parts no_place no_place)) }
+    ensures making { (parts : ℕ) →
+        IsLeast parts (opening (no_place ∷ []) [] (sight parts no_place no_place)) }
     ensures split { (parts number : ℕ) (v : Sight) → 2 ≤ v.parts →
         Splits (IsLeast parts) number v (kept v) (given v) }
     ensures load { (parts slots number : ℕ) (me : Me (Unit {0}) Sight) →
@@ -21,8 +23,9 @@ pub fn steps_keep_the_rule()
         (λ found after. IsBelow found me.0 × (after ≡ (failed me.0 place found, me.1))) }
     ensures join { (parts number : ℕ) (v : Sight) (other : ℕ) (w : Sight) → 1 ≤ v.parts →
         Joins (IsLeast parts) number v other w (joined v w) spent }
-    ensures close { (parts number : ℕ) (v : Sight) (s : State (Unit {0}) Sight) → v.parts ≡ parts → v.recorded ≤ no_place →
-        Seen (IsLeast parts) number v s → (s.words ≡ v.recorded ∷ []) × (v.recorded ≤ v.seen) }
+    ensures close { (parts number : ℕ) (v : Sight) (s : State (Unit {0}) Sight) →
+        v.parts ≡ parts → v.recorded ≤ no_place → Seen (IsLeast parts) number v s →
+        (s.words ≡ v.recorded ∷ []) × (v.recorded ≤ v.seen) }
 {}
 
 /// A law: a word may be shared between threads, and its seats may be moved to them.

@@ -32,7 +32,8 @@ impl Halt {
     pub fn new(alloc: Global, parts: u32) -> Result<(Halt, HaltSeat), HaltAnswer>
         requires { (1 ≤ parts) × (parts ≤ 65) }
         ensures word { IfOk result (λ made. IsSeatOf made.0 made.1 × (halt_parts made.0 ≡ parts)) }
-        ensures seat { IfOk result (λ made. (parts_of made.1 ≡ parts) × (recorded made.1 ≡ no_place) × (seen made.1 ≡ no_place)) }
+        ensures all { IfOk result (λ made. parts_of made.1 ≡ parts) }
+        ensures none { IfOk result (λ made. (recorded made.1 ≡ no_place) × (seen made.1 ≡ no_place)) }
     {
         let (table, seat) = Word::of_words(alloc, &[u64::MAX], &parts)?;
         Ok((Halt { table }, HaltSeat { seat }))

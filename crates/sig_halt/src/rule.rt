@@ -35,7 +35,8 @@ pub type WordSeat = Seat<(), Sight>;
 pub struct Looking;
 
 impl Play<(), Sight> for Looking {
-    ghost then = { λ step before found after. IsBelow found before.0 × (after ≡ (looked before.0 found, before.1)) };
+    ghost then = { λ step before found after. IsBelow found before.0
+        × (after ≡ (looked before.0 found, before.1)) };
 }
 
 /// A fetch_min: the place is recorded, and the lesser of it and what was found is the least word
@@ -43,7 +44,8 @@ impl Play<(), Sight> for Looking {
 pub struct Failing;
 
 impl Play<(), Sight> for Failing {
-    ghost then = { λ step before found after. IsBelow found before.0 × (after ≡ (failed before.0 step.first found, before.1)) };
+    ghost then = { λ step before found after. IsBelow found before.0
+        × (after ≡ (failed before.0 step.first found, before.1)) };
 }
 
 /// A seat gives up one part, and a new one gets it.

@@ -33,7 +33,8 @@ pub fn lower_step(halt: &Halt, seat: &mut WordSeat, place: u64)
     requires word { seat.old.table_id ≡ halt_id halt.now }
     requires parts { 1 ≤ seat.old.me.0.parts }
     ensures word { seat.new.table_id ≡ seat.old.table_id }
-    ensures failed { (found : ℕ) × IsBelow found seat.old.me.0 × (seat.new.me ≡ (failed seat.old.me.0 place found, seat.old.me.1)) }
+    ensures failed { (found : ℕ) × IsBelow found seat.old.me.0
+        × (seat.new.me ≡ (failed seat.old.me.0 place found, seat.old.me.1)) }
 {
     halt.table.shared.fetch_min::<Failing>(seat, 0, place);
 }

@@ -39,4 +39,5 @@ IsSamePut old new = (put_link new ≡ put_link old) × (put_capacity new ≡ put
 
 -- what was taken, followed by so many queued items, at most the capacity, is what was sent
 abbrev pub IsSettled : Put → Take → ℕ → Type 0
-IsSettled p t left = (queue : List ℤ) × (sent p ≡ taken t ++ queue) × (length queue ≡ left) × (left ≤ put_capacity p)
+IsSettled p t left =
+    (queue : List ℤ) × (sent p ≡ taken t ++ queue) × (length queue ≡ left) × (left ≤ put_capacity p)

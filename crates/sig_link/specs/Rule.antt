@@ -22,19 +22,23 @@ KnowsTaken taker taken number h = h.takes ≡ true → (number ≡ taker) × (h.
 abbrev pub InOrder : List ℤ → List Hand → Type 0
 InOrder queue hands =
     (putter : ℕ) × (taker : ℕ) × (sent : List ℤ) × (taken : List ℤ) × (sent ≡ taken ++ queue)
-    × ((number : ℕ) (h : Hand) → get_elem? hands number ≡ some h → KnowsSent putter sent number h × KnowsTaken taker taken number h)
+    × ((number : ℕ) (h : Hand) → get_elem? hands number ≡ some h →
+    KnowsSent putter sent number h × KnowsTaken taker taken number h)
 
 -- what the hand that may take has taken is a prefix of what the hand that may put has sent
 abbrev pub TakenIsPrefix : List Hand → Type 0
 TakenIsPrefix hands =
-    (i j : ℕ) (p t : Hand) → get_elem? hands i ≡ some p → get_elem? hands j ≡ some t → p.puts ≡ true → t.takes ≡ true
+    (i j : ℕ) (p t : Hand) → get_elem? hands i ≡ some p → get_elem? hands j ≡ some t
+    → p.puts ≡ true → t.takes ≡ true
     → (queue : List ℤ) × (p.sent ≡ t.taken ++ queue)
 
 -- it is a pass of the same queue, which may do the same
 abbrev pub IsSameEnd : Pass ℤ Hand → Pass ℤ Hand → Type 0
-IsSameEnd old new = (new.table_id ≡ old.table_id) × ((view new).puts ≡ (view old).puts) × ((view new).takes ≡ (view old).takes)
+IsSameEnd old new =
+    (new.table_id ≡ old.table_id) × ((view new).puts ≡ (view old).puts) × ((view new).takes ≡ (view old).takes)
 
--- at one step of the call the queue held as many items as the capacity, and they followed what was taken in what was sent
+-- at one step of the call the queue held as many items as the capacity, and they followed what was
+-- taken in what was sent
 abbrev pub WasFull : ℕ → List ℤ → Type 0
 WasFull capacity all_sent = Held capacity (λ queue. (all_taken : List ℤ) × (all_sent ≡ all_taken ++ queue))
 

@@ -20,14 +20,16 @@ pub fn steps_keep_the_rule()
     ensures second_end { (number : ℕ) (h : Hand) → h.puts ≡ true → h.takes ≡ true →
         Forks InOrder number h (hand true false h.sent []) (hand false true [] h.taken) }
     ensures push { (capacity number : ℕ) (h : Hand) (x : ℤ) → h.puts ≡ true →
-        Pushes InOrder capacity number h x (λ after. after ≡ hand h.puts h.takes (h.sent ++ x ∷ []) h.taken) }
+        Pushes InOrder capacity number h x
+        (λ after. after ≡ hand h.puts h.takes (h.sent ++ x ∷ []) h.taken) }
     ensures push_full { (number : ℕ) (h : Hand) → h.puts ≡ true →
         Learns InOrder number h (λ queue. (taken : List ℤ) × (h.sent ≡ taken ++ queue)) }
     ensures pop { (number : ℕ) (h : Hand) → h.takes ≡ true →
         Pops InOrder number h (λ x after. after ≡ hand h.puts h.takes h.sent (h.taken ++ x ∷ [])) }
     ensures pop_empty { (number : ℕ) (h : Hand) → h.takes ≡ true →
         Learns InOrder number h (λ queue. (sent : List ℤ) × (sent ≡ h.taken ++ queue)) }
-    ensures settling { (number : ℕ) (p : Hand) (other : ℕ) (t : Hand) → p.puts ≡ true → t.takes ≡ true →
+    ensures settling { (number : ℕ) (p : Hand) (other : ℕ) (t : Hand) →
+        p.puts ≡ true → t.takes ≡ true →
         Merges InOrder number p other t (hand true true p.sent t.taken) (hand false false [] []) }
     ensures settled { (number : ℕ) (h : Hand) → h.puts ≡ true → h.takes ≡ true →
         Learns InOrder number h (λ queue. h.sent ≡ h.taken ++ queue) }

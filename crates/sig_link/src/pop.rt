@@ -14,7 +14,8 @@ impl Take {
     pub fn pop<R: Wait>(&mut self, rt: &R) -> Option<i64>
         ensures end { take_link self.new ≡ take_link self.old }
         ensures item { IfSome result (λ x. taken self.new ≡ taken self.old ++ x ∷ []) }
-        ensures empty { IfNone result ((taken self.new ≡ taken self.old) × WasEmpty (taken self.old)) }
+        ensures empty { IfNone result ((taken self.new ≡ taken self.old)
+            × WasEmpty (taken self.old)) }
     {
         pop_step(rt, &self.line, &mut self.pass)
     }

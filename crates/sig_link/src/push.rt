@@ -16,7 +16,8 @@ impl Put {
         requires { length (sent self.old) < 2 ^ 32 }
         ensures end { IsSamePut self.old self.new }
         ensures ok { OnOk result (sent self.new ≡ sent self.old ++ item ∷ []) }
-        ensures full { OnErr result ((sent self.new ≡ sent self.old) × WasFull (put_capacity self.old) (sent self.old)) }
+        ensures full { OnErr result ((sent self.new ≡ sent self.old)
+            × WasFull (put_capacity self.old) (sent self.old)) }
     {
         push_step(rt, &self.line, &mut self.pass, item)
     }

@@ -2,7 +2,7 @@
 
 ghost use Rattle.std.specs.Prelude.{◌≡◌, true, [], ◌∷◌, ◌++◌, IfNone, IfSome, OnErr, OnOk};
 ghost use Rattle.crossbeam_queue.specs.Passes.{view, ruled_capacity, IsPassOf};
-ghost use Rattle.sig_link.specs.Rule.{hand, IsSameEnd, WasFull, WasEmpty};
+ghost use Rattle.sig_link.specs.Rule.{IsSameEnd, WasFull, WasEmpty};
 
 use super::rule::{Line, LinkPass, Popping, Pushing};
 use sig_base::Full;
@@ -14,7 +14,8 @@ pub fn push_step<R: Wait>(rt: &R, line: &Line, pass: &mut LinkPass, item: i64) -
     requires end { (view pass.old).puts ≡ true }
     ensures queue { IsPassOf line.now pass.new × IsSameEnd pass.old pass.new }
     ensures ok { OnOk result ((view pass.new).sent ≡ (view pass.old).sent ++ item ∷ []) }
-    ensures full { OnErr result ((view pass.new ≡ view pass.old) × WasFull (ruled_capacity line.now) (view pass.old).sent) }
+    ensures full { OnErr result ((view pass.new ≡ view pass.old)
+        × WasFull (ruled_capacity line.now) (view pass.old).sent) }
 {
     match line.push_as::<Pushing, R>(rt, pass, item) {
         Ok(()) => Ok(()),
@@ -28,7 +29,8 @@ pub fn pop_step<R: Wait>(rt: &R, line: &Line, pass: &mut LinkPass) -> Option<i64
     requires end { (view pass.old).takes ≡ true }
     ensures queue { IsPassOf line.now pass.new × IsSameEnd pass.old pass.new }
     ensures item { IfSome result (λ x. (view pass.new).taken ≡ (view pass.old).taken ++ x ∷ []) }
-    ensures empty { IfNone result ((view pass.new ≡ view pass.old) × WasEmpty (view pass.old).taken) }
+    ensures empty { IfNone result ((view pass.new ≡ view pass.old)
+        × WasEmpty (view pass.old).taken) }
 {
     line.pop_as::<Popping, R>(rt, pass)
 }

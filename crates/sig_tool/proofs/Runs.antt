@@ -6,8 +6,9 @@ use Rattle.sig_text.specs.Files.{Contents}
 use Rattle.sig_text.specs.Sink.{TookPrefix}
 use Rattle.sig_tool.specs.FlowFile.{flow_in}
 use Rattle.sig_tool.specs.Loaded.{Holds, HoldsOnly, HoldsFlows}
-use Rattle.sig_tool.specs.SmallRun.{IsLength, text_of}
-use Rattle.sig_tool.specs.TopCall.{Run, WritesRun, WroteRun, run_text}
+use Rattle.sig_tool.specs.SmallRun.{IsCause, IsLength, text_of}
+use Rattle.sig_tool.proofs.RunCauses.{one_end}
+use Rattle.sig_tool.specs.TopCall.{IsSameRun, Run, WritesRun, WroteRun, run_text}
 
 -- a file holds the bytes that it has
 pub same_bytes : {P Q : List ℕ → Type 0} (found : Option (List ℕ)) (limit most : ℕ) (one : Holds found limit P) (other : Holds found most Q) → other.bytes ≡ one.bytes
@@ -20,6 +21,23 @@ same_flows found names one other first second =
     second.good.values
     ∙ ap (λ bytes. map (flow_in (lines bytes)) names) (same_bytes found 67108864 67108864 first second)
     ∙ sym first.good.values
+
+-- files that hold one program have one run
+only_run : (s : Small) (values : List (List ℤ)) (held : Contents) (program flows : List ℕ) → HoldsOnly (held program) s → HoldsFlows (held flows) s.inputs values → (run other : Run held program flows) → run.small ≡ s → run.values ≡ values → IsSameRun other run
+only_run s values held program flows only holds run other is_small are_values =
+    let same_small : other.small ≡ run.small = only.only other.small other.holds_program ∙ sym is_small in
+    let same_values : other.values ≡ run.values =
+    same_flows (held flows) s.inputs values other.values holds (subst (λ t. HoldsFlows (held flows) t.inputs other.values) (only.only other.small other.holds_program) other.holds_flows) ∙ sym are_values in
+    let ends = one_end run.small run.values 1000000 other.instants run.instants other.cause run.cause
+    (subst (λ v. IsLength run.small v 1000000 other.instants) same_values (subst (λ t. IsLength t other.values 1000000 other.instants) same_small other.long))
+    run.long
+    (subst (λ v. IsCause run.small v 1000000 other.instants other.cause) same_values (subst (λ t. IsCause t other.values 1000000 other.instants other.cause) same_small other.ends))
+    run.ends in
+    record {
+      text = ap (λ t. text_of t other.values other.instants) same_small ∙ ap (λ v. text_of run.small v other.instants) same_values ∙ ap (text_of run.small run.values) ends.0;
+      instants = ends.0;
+      cause = ends.1;
+    }
 
 -- the run of the files that hold this program and these flows
 pub wrote : {S : Type 0} (took : S → List ℕ → S → Type 0) (before after : S) (status : ℕ) (s : Small) (values : List (List ℤ)) (Said : List ℕ → Type 0) (contents : Option Contents) (program flows : List ℕ) → WritesRun took before after status s values Said → IfSome contents (λ held. HoldsOnly (held program) s) → IfSome contents (λ held. HoldsFlows (held flows) s.inputs values) → IfSome contents (λ held. WroteRun took before after status held program flows Said)
@@ -36,6 +54,18 @@ wrote took before after status s values Said (Some held) program flows writes on
         cause = writes.cause;
         ends = writes.ends;
       };
+      only = λ other. only_run s values held program flows only holds
+          (record {
+            small = s;
+            holds_program = only.holds;
+            values = values;
+            holds_flows = holds;
+            instants = writes.instants;
+            long = writes.long;
+            cause = writes.cause;
+            ends = writes.ends;
+          })
+          other refl refl;
       text = writes.text;
       overflow = writes.overflow;
       line = writes.line;

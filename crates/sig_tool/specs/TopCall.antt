@@ -118,6 +118,12 @@ EndsRun status = (status ≡ 0) ⊎ (status ≡ 3)
 abbrev pub BeginsNoRun : ℕ → Type 0
 BeginsNoRun status = (status ≡ 1) ⊎ ((status ≡ 2) ⊎ ((status ≡ 4) ⊎ ((status ≡ 5) ⊎ (status ≡ 7))))
 
+-- two runs of the same files have one text, one number of instants and one cause
+pub record IsSameRun {held : Contents} {program flows : List ℕ} (one other : Run held program flows) : Type 0 where
+  pub text : run_text one ≡ run_text other
+  pub instants : one.instants ≡ other.instants
+  pub cause : one.cause ≡ other.cause
+
 -- a run of this program over these values, of which the whole text was taken; the status tells whether
 -- an operator ended it, and what is said of its line holds
 pub record WritesRun {S : Type 0} (took : S → List ℕ → S → Type 0) (before after : S) (status : ℕ) (s : Small) (values : List (List ℤ)) (Said : List ℕ → Type 0) : Type 0 where
@@ -129,10 +135,11 @@ pub record WritesRun {S : Type 0} (took : S → List ℕ → S → Type 0) (befo
   pub overflow : (status ≡ 3) ↔ IsTrue (is_overflow cause)
   pub line : Said (end_line s instants cause)
 
--- a run, of which the whole text was taken; the status tells whether an operator ended it, and what is
--- said of its line holds
+-- a run, the only one of these files, of which the whole text was taken; the status tells whether an
+-- operator ended it, and what is said of its line holds
 pub record WroteRun {S : Type 0} (took : S → List ℕ → S → Type 0) (before after : S) (status : ℕ) (held : Contents) (program flows : List ℕ) (Said : List ℕ → Type 0) : Type 0 where
   pub run : Run held program flows
+  pub only : (other : Run held program flows) → IsSameRun other run
   pub text : took before (run_text run) after
   pub overflow : (status ≡ 3) ↔ IsTrue (is_overflow run.cause)
   pub line : Said (end_line run.small run.instants run.cause)
