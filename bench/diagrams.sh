@@ -20,9 +20,20 @@ done
 cd "$work/crates/dd_bench"
 rt run >"$work/log" 2>&1 || { tail -n 20 "$work/log"; exit 1; }
 echo 'sig_dd (all nodes made, in five turns):'
-/usr/bin/time -f '%M KB at most' ./out/dd_bench
+/usr/bin/time -f '%M KB at most' ./out/dd_bench >"$work/own"
+cat "$work/own"
 if [ -e /usr/include/bdd.h ]; then
     cc -O2 -o "$work/buddy" "$here/diagrams/buddy.c" -lbdd -lm
     echo 'BuDDy:'
-    /usr/bin/time -f '%M KB at most' "$work/buddy"
+    /usr/bin/time -f '%M KB at most' "$work/buddy" >"$work/other"
+    cat "$work/other"
+    for name in 'queens 8' 'parity 64'; do
+        awk -v name="$name:" '
+            index($0, name) == 1 {
+                for (i = 1; i < NF; i++) if ($(i + 1) ~ /^us/) break
+                if (!(FILENAME in best) || $i + 0 < best[FILENAME]) best[FILENAME] = $i + 0
+            }
+            END { printf "%s ratio of least times: %.2f\n", name, best[ARGV[1]] / best[ARGV[2]] }
+        ' "$work/own" "$work/other"
+    done
 fi
