@@ -2,6 +2,7 @@
 use Rattle.std.specs.Prelude.{◌≡◌, ◌<◌, ◌⊎◌, ◌↔◌, ⊤, IsTrue, length, ℕ, ℤ, List, [], ◌∷◌, map, flat_map, codes, slice_index_or, Option, None, IfSome, Bool, true, false}
 use Rattle.std.specs.Fmt.{decimal}
 use Rattle.sig_plan.specs.Small.{Small}
+use Rattle.sig_text.specs.Counts.{DidNotRise}
 use Rattle.sig_text.specs.Files.{Contents}
 use Rattle.sig_tool.specs.Loaded.{HasCountCause, HasLoadCause, answer_of, name_of, HoldsOnly, HoldsProgram, HoldsFlows, HoldsLongProgram, HoldsNoProgram, HoldsLongFlows, HoldsNoFlows}
 use Rattle.sig_tool.specs.SmallRun.{IsLength, IsCause, text_of}
@@ -117,6 +118,10 @@ EndsRun status = (status ≡ 0) ⊎ (status ≡ 3)
 -- the statuses of a command that began no run
 abbrev pub BeginsNoRun : ℕ → Type 0
 BeginsNoRun status = (status ≡ 1) ⊎ ((status ≡ 2) ⊎ ((status ≡ 4) ⊎ ((status ≡ 5) ⊎ (status ≡ 7))))
+
+-- a line was taken, and no more, where the sink's count of faults did not rise
+abbrev pub SaysLine : {E : Type 0} → (E → List ℕ → E → Type 0) → ℕ → ℕ → E → E → List ℕ → Type 0
+SaysLine took faults faults' before after line = DidNotRise faults faults' → took before line after
 
 -- two runs of the same files have one text, one number of instants and one cause
 pub record IsSameRun {held : Contents} {program flows : List ℕ} (one other : Run held program flows) : Type 0 where

@@ -51,11 +51,14 @@ fn read_file<F: Files>(
     name: &str,
     limit: usize,
 ) -> Result<Vec<u8>, FileAnswer>
-    ensures bytes { IfSome (F.contents files.old) (λ held. IfOk result (λ bytes. held name.now ≡ Some bytes.items)) }
+    ensures bytes { IfSome (F.contents files.old) (λ held.
+        IfOk result (λ bytes. held name.now ≡ Some bytes.items)) }
     ensures within { IfOk result (λ bytes. vec_len bytes ≤ limit) }
-    ensures read { Reads (F.contents files.old) (F.contents files.new) (F.at files.new) (F.misses files.old) (F.misses files.new)
-        (F.faults files.old) (F.faults files.new) name.now result }
-    ensures cause { IfSome (F.contents files.old) (λ held. IfErr result (HasContentCause (held name.now) limit (λ _. ⊥))) }
+    ensures read { Reads (F.contents files.old) (F.contents files.new) (F.at files.new)
+        (F.misses files.old) (F.misses files.new) (F.faults files.old) (F.faults files.new)
+        name.now result }
+    ensures cause { IfSome (F.contents files.old) (λ held.
+        IfErr result (HasContentCause (held name.now) limit (λ _. ⊥))) }
 {
     match read_all(alloc, files, name, limit) {
         Ok(bytes) => Ok(bytes),
@@ -74,10 +77,12 @@ pub fn load_flows<F: Files>(
     inputs: &[Text],
 ) -> Result<Vec<Flow>, FileAnswer>
     requires differ { IsDistinct bytes_eq inputs.now }
-    ensures flows { IfSome (F.contents files.old) (λ held. IfOk result (λ flows. HoldsFlows (held name.now) inputs.now flows.items)) }
+    ensures flows { IfSome (F.contents files.old) (λ held.
+        IfOk result (λ flows. HoldsFlows (held name.now) inputs.now flows.items)) }
     ensures count { IfOk result (λ flows. vec_len flows ≡ length inputs.now) }
-    ensures read { Reads (F.contents files.old) (F.contents files.new) (F.at files.new) (F.misses files.old) (F.misses files.new)
-        (F.faults files.old) (F.faults files.new) name.now result }
+    ensures read { Reads (F.contents files.old) (F.contents files.new) (F.at files.new)
+        (F.misses files.old) (F.misses files.new) (F.faults files.old) (F.faults files.new)
+        name.now result }
     ensures cause { IfSome (F.contents files.old) (λ held. IfErr result
         (HasContentCause (held name.now) FLOW_BYTES (λ bytes. (flows : List (List ℤ)) → ¬ IsFlowFile inputs.now bytes flows))) }
 {
@@ -105,10 +110,14 @@ pub fn load<F: Files>(
 ) -> Result<Loaded, Refusal>
     ensures small { IfOk result (λ loaded. IsSmall (small_of loaded.program)) }
     ensures count { IfOk result (λ loaded. vec_len loaded.flows ≡ vec_len loaded.program.inputs) }
-    ensures program { IfSome (F.contents files.old) (λ held. IfOk result (λ loaded. HoldsOnly (held program.now) (small_of loaded.program))) }
-    ensures flows { IfSome (F.contents files.old) (λ held. IfOk result (λ loaded. HoldsFlows (held flows.now) loaded.program.inputs.items loaded.flows.items)) }
-    ensures content_cause { IfSome (F.contents files.old) (λ held. IfErr result (HasLoadCause held program.now flows.now)) }
-    ensures count_cause { IfErr result (λ refusal. HasCountCause (F.contents files.old) (F.misses files.old) (F.misses files.new)
+    ensures program { IfSome (F.contents files.old) (λ held.
+        IfOk result (λ loaded. HoldsOnly (held program.now) (small_of loaded.program))) }
+    ensures flows { IfSome (F.contents files.old) (λ held. IfOk result (λ loaded.
+        HoldsFlows (held flows.now) loaded.program.inputs.items loaded.flows.items)) }
+    ensures content_cause { IfSome (F.contents files.old) (λ held.
+        IfErr result (HasLoadCause held program.now flows.now)) }
+    ensures count_cause { IfErr result (λ refusal.
+        HasCountCause (F.contents files.old) (F.misses files.old) (F.misses files.new)
         (F.faults files.old) (F.faults files.new) (name_of program.now flows.now refusal) (answer_of refusal)) }
     ensures contents_stay { F.contents files.new ≡ F.contents files.old }
 {
@@ -125,9 +134,11 @@ pub fn load<F: Files>(
 /// The straight program that the file of this name holds.
 fn load_program<F: Files>(alloc: Global, files: &mut F, name: &str) -> Result<Straight, FileAnswer>
     ensures small { IfOk result (λ s. IsSmall (small_of s)) }
-    ensures program { IfSome (F.contents files.old) (λ held. IfOk result (λ s. HoldsOnly (held name.now) (small_of s))) }
-    ensures read { Reads (F.contents files.old) (F.contents files.new) (F.at files.new) (F.misses files.old) (F.misses files.new)
-        (F.faults files.old) (F.faults files.new) name.now result }
+    ensures program { IfSome (F.contents files.old) (λ held.
+        IfOk result (λ s. HoldsOnly (held name.now) (small_of s))) }
+    ensures read { Reads (F.contents files.old) (F.contents files.new) (F.at files.new)
+        (F.misses files.old) (F.misses files.new) (F.faults files.old) (F.faults files.new)
+        name.now result }
     ensures cause { IfSome (F.contents files.old) (λ held. IfErr result
         (HasContentCause (held name.now) PROGRAM_BYTES (λ bytes. (s : Small) → ¬ IsSmallProgram bytes s))) }
 {

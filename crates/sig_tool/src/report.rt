@@ -3,7 +3,7 @@
 ghost use Rattle.std.specs.Prelude.{◌≡◌, ◌<◌, [], flat_map, length, slice_index_or};
 ghost use Rattle.sig_plan.specs.Small.{small_of};
 ghost use Rattle.sig_text.specs.Counts.{DidNotRise};
-ghost use Rattle.sig_tool.specs.TopCall.{IsOfProgram, end_line, operator_col, operator_line, refusal_line};
+ghost use Rattle.sig_tool.specs.TopCall.{IsOfProgram, SaysLine, end_line, operator_col, operator_line, refusal_line};
 
 use crate::load::{FileAnswer, Refusal};
 use crate::pieces::put_pieces;
@@ -16,8 +16,8 @@ use sig_text::Sink;
 /// Appends the line that says what ended a run.
 pub fn say_end<E: Sink>(err: &mut E, program: &Straight, ended: Ended)
     requires { IsOfProgram (small_of program.now) ended.cause }
-    ensures { DidNotRise (E.faults err.old) (E.faults err.new) →
-        E.took err.old (end_line (small_of program.now) ended.instants ended.cause) err.new }
+    ensures { SaysLine E.took (E.faults err.old) (E.faults err.new) err.old err.new
+        (end_line (small_of program.now) ended.instants ended.cause) }
 {
     let mut buffer = Buffer::new();
     let count = buffer.format(ended.instants).as_bytes();
@@ -77,7 +77,8 @@ fn operator_place(program: &Straight, operator: usize) -> Span
 
 /// Appends a line in pieces, and hands it on. A fault changes nothing else.
 pub fn say<E: Sink>(err: &mut E, line: &[&[u8]])
-    ensures { DidNotRise (E.faults err.old) (E.faults err.new) → E.took err.old (flat_map (λ piece. piece.now) line.now) err.new }
+    ensures { SaysLine E.took (E.faults err.old) (E.faults err.new) err.old err.new
+        (flat_map (λ piece. piece.now) line.now) }
 {
     match put_pieces(err, line) {
         Ok(()) => {
@@ -89,8 +90,8 @@ pub fn say<E: Sink>(err: &mut E, line: &[&[u8]])
 
 /// Appends the line that says why a command was refused.
 pub fn say_refusal<E: Sink>(err: &mut E, program: &str, flows: &str, refusal: Refusal)
-    ensures { DidNotRise (E.faults err.old) (E.faults err.new) →
-        E.took err.old (refusal_line program.now flows.now refusal) err.new }
+    ensures { SaysLine E.took (E.faults err.old) (E.faults err.new) err.old err.new
+        (refusal_line program.now flows.now refusal) }
 {
     let (name, answer) = match refusal {
         Refusal::Program(FileAnswer::TooLong) => {

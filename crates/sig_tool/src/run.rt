@@ -50,9 +50,12 @@ pub fn run<S: Sink>(
 ) -> Result<Ended, WriteFault>
     requires small { IsSmall (small_of program.now) }
     requires same_length { length flows.now ≡ length program.now.inputs.items }
-    ensures length { IfOk result (λ ended. IsLength (small_of program.now) flows.now limit ended.instants) }
-    ensures cause { IfOk result (λ ended. IsCause (small_of program.now) flows.now limit ended.instants ended.cause) }
-    ensures text { IfOk result (λ ended. S.took out.old (text_of (small_of program.now) flows.now ended.instants) out.new) }
+    ensures length { IfOk result (λ ended.
+        IsLength (small_of program.now) flows.now limit ended.instants) }
+    ensures cause { IfOk result (λ ended.
+        IsCause (small_of program.now) flows.now limit ended.instants ended.cause) }
+    ensures text { IfOk result (λ ended.
+        S.took out.old (text_of (small_of program.now) flows.now ended.instants) out.new) }
     ensures prefix { OnErr result ((n : ℕ) → IsLength (small_of program.now) flows.now limit n →
         TookPrefix S.took out.old (text_of (small_of program.now) flows.now n) out.new) }
     ensures failed { OnErr result (Rose (S.faults out.old) (S.faults out.new)) }

@@ -3,7 +3,7 @@
 ghost use Rattle.std.specs.Prelude.{◌≡◌, ◌≤◌, ◌⊎◌, ◌↔◌, [], None, codes, IfSome, IsTrue};
 ghost use Rattle.sig_text.specs.Counts.{DidNotRise, Rose};
 ghost use Rattle.sig_text.specs.Sink.{TookPrefix};
-ghost use Rattle.sig_tool.specs.TopCall.{AreRefusedFlows, BeginsNoRun, EndsRun, IsFileMissing, IsRefusedBy, IsRefusedProgram, OfRun, RefusesFiles, Run, WroteRun, run_text};
+ghost use Rattle.sig_tool.specs.TopCall.{AreRefusedFlows, BeginsNoRun, EndsRun, IsFileMissing, IsRefusedBy, IsRefusedProgram, OfRun, RefusesFiles, Run, SaysLine, WroteRun, run_text};
 ghost use Rattle.sig_tool.specs.Words.{run_files, texts};
 
 use crate::command::run_command;
@@ -43,7 +43,7 @@ pub fn sig_main<R: Threads + Wait + Sync, F: Files, S: Sink, E: Sink, G: Gate + 
     // A run that came to its end wrote its whole text, and said what ended it.
     ensures whole { EndsRun result → OfRun (F.contents files.old) (texts words.now) (λ held program flows.
         WroteRun S.took out.old out.new result held program flows
-        (λ line. DidNotRise (E.faults err.old) (E.faults err.new) → E.took err.old line err.new)) }
+        (SaysLine E.took (E.faults err.old) (E.faults err.new) err.old err.new)) }
     ensures flushed { EndsRun result → IsTrue (S.clean out.new) }
 
     // Whatever the status, a prefix of the text was appended.
@@ -52,7 +52,8 @@ pub fn sig_main<R: Threads + Wait + Sync, F: Files, S: Sink, E: Sink, G: Gate + 
     ensures nothing { BeginsNoRun result → S.took out.old [] out.new }
 
     // 1 comes where the program is refused, unless reading failed or memory was wanting.
-    ensures program_only { result ≡ 1 → OfRun (F.contents files.old) (texts words.now) (λ held program _. IsRefusedProgram held program) }
+    ensures program_only { result ≡ 1 → OfRun (F.contents files.old) (texts words.now)
+        (λ held program _. IsRefusedProgram held program) }
     ensures program { OfRun (F.contents files.old) (texts words.now) (λ held program _.
         IsRefusedProgram held program → (result ≡ 1) ⊎ ((result ≡ 5) ⊎ (result ≡ 7))) }
 
@@ -62,7 +63,8 @@ pub fn sig_main<R: Threads + Wait + Sync, F: Files, S: Sink, E: Sink, G: Gate + 
         AreRefusedFlows held program flows → (result ≡ 4) ⊎ ((result ≡ 5) ⊎ (result ≡ 7))) }
 
     // 5 comes only where a count rose; where no call failed, only where a file is missing, and there.
-    ensures counted { result ≡ 5 → Rose (F.misses files.old) (F.misses files.new) ⊎ Rose (F.faults files.old) (F.faults files.new) }
+    ensures counted { result ≡ 5 →
+        Rose (F.misses files.old) (F.misses files.new) ⊎ Rose (F.faults files.old) (F.faults files.new) }
     ensures missing_only { result ≡ 5 → DidNotRise (F.faults files.old) (F.faults files.new) →
         OfRun (F.contents files.old) (texts words.now) IsFileMissing }
     ensures missing { OfRun (F.contents files.old) (texts words.now) (λ held program flows.
@@ -72,13 +74,14 @@ pub fn sig_main<R: Threads + Wait + Sync, F: Files, S: Sink, E: Sink, G: Gate + 
     ensures failed { result ≡ 6 → Rose (S.faults out.old) (S.faults out.new) }
 
     // Each refusal has its line.
-    ensures words_line { result ≡ 2 → DidNotRise (E.faults err.old) (E.faults err.new) →
-        E.took err.old (codes "error: these words are not a command\n") err.new }
-    ensures fault_line { result ≡ 6 → DidNotRise (E.faults err.old) (E.faults err.new) →
-        E.took err.old (codes "error: write failed\n") err.new }
+    ensures words_line { result ≡ 2 → SaysLine E.took (E.faults err.old) (E.faults err.new) err.old err.new
+        (codes "error: these words are not a command\n") }
+    ensures fault_line { result ≡ 6 → SaysLine E.took (E.faults err.old) (E.faults err.new) err.old err.new
+        (codes "error: write failed\n") }
     ensures refused { RefusesFiles result → IfSome (run_files (texts words.now)) (λ names.
-        IsRefusedBy (F.contents files.old) (F.misses files.old) (F.misses files.new) (F.faults files.old) (F.faults files.new)
-        result names.0 names.1 (λ line. DidNotRise (E.faults err.old) (E.faults err.new) → E.took err.old line err.new)) }
+        IsRefusedBy (F.contents files.old) (F.misses files.old) (F.misses files.new)
+        (F.faults files.old) (F.faults files.new) result names.0 names.1
+        (SaysLine E.took (E.faults err.old) (E.faults err.new) err.old err.new)) }
 {
     match run_files(words) {
         Some(names) => run_command(alloc, names.program, names.flows, files, out, err),

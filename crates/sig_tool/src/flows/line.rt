@@ -83,7 +83,8 @@ pub fn read_line(
     requires few { count ≤ VALUES }
     ensures line { OnOk result (IsFlowLine inputs.now (words_of line.now)) }
     ensures flows { OnOk result ((k : ℕ) → k < length inputs.now →
-        slice_index_or flows.new k [] ≡ slice_index_or flows.old k [] ++ values_for (slice_index_or inputs.now k []) (words_of line.now)) }
+        slice_index_or flows.new k []
+        ≡ slice_index_or flows.old k [] ++ values_for (slice_index_or inputs.now k []) (words_of line.now)) }
     ensures counted { IfOk result (λ n. n ≡ count + value_count (words_of line.now)) }
     ensures few { IfOk result (λ n. n ≤ VALUES) }
     ensures not_flows { IsErrOf result FlowsAnswer.NotFlows →

@@ -15,7 +15,8 @@ pub fn sum_at(program: &Straight, flows: &[Flow], instant: usize) -> Result<i64,
     requires same_length { length flows.now ≡ length program.now.inputs.items }
     requires values { EachHasValue flows.now instant }
     ensures { MatchResult result
-        (λ sum. All (FitsSigned w64) (partial_sums (small_of program.now) flows.now instant) × (sum ≡ output_at (small_of program.now) flows.now instant))
+        (λ sum. All (FitsSigned w64) (partial_sums (small_of program.now) flows.now instant)
+        × (sum ≡ output_at (small_of program.now) flows.now instant))
         (λ operator. Overflows (small_of program.now) flows.now instant operator) }
 {
     let mut sum = value_of(flows, program.first as usize, instant);
