@@ -5,10 +5,12 @@
 mod ids;
 pub mod limits;
 mod place;
+mod signal;
 mod span;
 mod text;
 
 pub use ids::{EqId, Full, Kind, OpId, SigId};
 pub use place::{Place, packing_keeps_order};
+pub use signal::Signal;
 pub use span::Span;
 pub use text::Text;

@@ -11,16 +11,18 @@ pub struct Place {
 }
 
 impl Place {
+    ghost use Rattle.sig_base.specs.Places.{packed};
+
     /// The place as one word. The word `u64::MAX` stands for no place.
     pub fn pack(self) -> u64
-        ensures { result ≡ self.instant * 2 ^ 32 + self.pos }
+        ensures { result ≡ packed self }
     {
         self.instant as u64 * 0x1_0000_0000 + self.pos as u64
     }
 
     /// The place that packs into this word.
     pub fn unpack(word: u64) -> Place
-        ensures { result.instant * 2 ^ 32 + result.pos ≡ word }
+        ensures { packed result ≡ word }
     {
         Place {
             instant: (word / 0x1_0000_0000) as u32,
