@@ -1,8 +1,38 @@
 //! Places in a program's text.
 
-/// A place in a text: its line and its column, both counted from 1. Columns count bytes.
+ghost use Rattle.std.specs.Prelude.{Some};
+
+use std::fmt;
+
+/// A place in a text: its line and its column, both counted from 1. Columns count bytes. It is
+/// shown as its line, a colon and its column.
 #[derive(Clone, Copy, Debug, PartialEq, Eq, PartialOrd, Ord, Hash)]
 pub struct Span {
     pub line: u32,
     pub col: u32,
+}
+
+impl fmt::Display for Span {
+    ghost use Rattle.sig_base.specs.Lines.{place_text};
+
+    ghost output = { λ at. Some (place_text at) };
+
+    fn fmt<W: fmt::Write>(&self, f: &mut fmt::Formatter<W>) -> fmt::Result {
+        let line = self.line;
+        let col = self.col;
+        write!(f, "{line}:{col}")
+    }
+}
+
+#[cfg(test)]
+mod tests {
+    use super::*;
+    use std::test::Fail;
+
+    #[test]
+    fn shows_line_and_column(rt: HostRuntime) -> Result<(), Fail> {
+        let at = Span { line: 12, col: 3 };
+        assert_eq!(rt; at.to_string(rt.alloc())?, "12:3");
+        Ok(())
+    }
 }
