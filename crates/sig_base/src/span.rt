@@ -32,7 +32,7 @@ mod tests {
     #[test]
     fn shows_line_and_column(rt: HostRuntime) -> Result<(), Fail> {
         let at = Span { line: 12, col: 3 };
-        assert_eq!(rt; at.to_string(rt.alloc())?, "12:3");
+        assert_eq!(rt; at.to_string(rt.alloc())?.as_str(), "12:3");
         Ok(())
     }
 }
