@@ -1,0 +1,9 @@
+//! The syntax tree of programs, and what programs are: the grammar as a relation between tokens and
+//! trees (`specs/Grammar.antt` and the files that it names). It stands on sig_base.
+#![tactic(auto)]
+
+mod expr;
+mod process;
+
+pub use expr::{BinOp, Constant, Expr, Name, UnOp};
+pub use process::{Body, Group, Item, Process, Program, Right, RunOn};
