@@ -1,0 +1,9 @@
+pub mod Equations
+pub mod Expressions
+pub mod Grammar
+pub mod Levels
+pub mod Limits
+pub mod Processes
+pub mod Repeated
+pub mod Syntax
+pub mod Terminals
