@@ -78,6 +78,11 @@ pub record Spaced : Type 0 where
 abbrev pub word_of : Spaced → Lexeme
 word_of s = s.word
 
+-- the blank is one, and the word is one by itself
+pub record IsPrintable (s : Spaced) : Type 0 where
+  pub blank : is_blank s.blank ≡ true
+  pub spelled : IsSpelled s.word
+
 -- the words, each after its blank
 abbrev pub spaced_text : List Spaced → List ℕ
 spaced_text [] = []

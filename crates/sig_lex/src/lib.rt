@@ -13,7 +13,7 @@ mod table;
 mod token;
 
 pub use answer::LexAnswer;
-pub use laws::{one_reading, slices_in_order};
+pub use laws::{each_token, one_reading, slices_in_order, some_reading, spelling, tokens_of_words};
 pub use scan::lex;
 pub use token::{Token, TokenKind};
 
