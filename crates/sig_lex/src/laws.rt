@@ -10,6 +10,8 @@ ghost use Rattle.sig_lex.specs.Slices.{StandsIn, InOrder, EndsOnce};
 ghost use Rattle.sig_lex.specs.Lexemes.{Lexeme, text_of, lexemes, the_end, Spells, IsSpelled, EndsWord, IsSpaced, Spaced, IsPrintable, word_of, printed_text};
 ghost use Rattle.sig_lex.specs.Tokens.{AreTokens, IsFirstFault, IsLexeme};
 
+use crate::token::Token;
+
 /// A law: a text has one list of tokens, or one first fault, and not both.
 pub fn one_reading()
     ensures tokens { (text : List ℕ) (a b : List Token) → AreTokens text a → AreTokens text b → a ≡ b }
@@ -39,6 +41,15 @@ pub fn each_token()
         All (λ t. t.kind ≢ Last → Spells t.kind (text_of text t)) tokens }
     ensures words { (text : List ℕ) (tokens : List Token) → AreTokens text tokens →
         (words : List Lexeme) × (lexemes text tokens ≡ words ++ the_end ∷ []) × AllByRecursion IsSpelled words }
+{}
+
+/// A law: what `each_token` says, of these bytes and these tokens.
+pub fn these_tokens(bytes: &[u8], tokens: &[Token])
+    requires { AreTokens bytes.now tokens.now }
+    ensures some { 0 < length tokens.now }
+    ensures slices { All (StandsIn bytes.now) tokens.now }
+    ensures last { (k : ℕ) (d : Token) → k < length tokens.now → ((slice_index_or tokens.now k d).kind ≡ Last) ↔ (k + 1 ≡ length tokens.now) }
+    ensures spelled { All (λ t. t.kind ≢ Last → Spells t.kind (text_of bytes.now t)) tokens.now }
 {}
 
 /// A law: bytes spell a token where they are one by themselves, and they are then one also in front

@@ -1,6 +1,7 @@
 //! Tables of texts with their tokens, made by hand from the lexical rules.
 
 use crate::{LexAnswer, Token, TokenKind, lex};
+use sig_base::Span;
 use sig_base::limits::PROGRAM_BYTES;
 use std::alloc::{AllocError, Global};
 use std::test::Fail;
@@ -70,7 +71,7 @@ fn token_at(alloc: Global, text: &str, start: usize) -> Result<Option<(TokenKind
 
 #[test]
 fn gives_tokens_or_the_first_fault(rt: HostRuntime) -> Result<(), Fail> {
-    let rows: [(&[u8], &str); 38] = [
+    let rows: [(&[u8], &str); 39] = [
         (
             b"process SUM = (? integer A",
             "word process 1:1\nname SUM 1:9\nmark = 1:13\nmark ( 1:15\nmark ? 1:16\nword integer 1:18\nname A 1:26\nlast  1:27\n",
@@ -130,12 +131,35 @@ fn gives_tokens_or_the_first_fault(rt: HostRuntime) -> Result<(), Fail> {
         (b"/==", "mark /= 1:1\nmark = 1:3\nlast  1:4\n"),
         (b"//=/", "mark / 1:1\nmark /= 1:2\nmark / 1:4\nlast  1:5\n"),
         (
+            b"Y:=A/B%/%/=C",
+            "name Y 1:1\nmark := 1:2\nname A 1:4\nmark / 1:5\nname B 1:6\nmark /= 1:10\nname C 1:12\nlast  1:13\n",
+        ),
+        (
             b"((|))",
             "mark ( 1:1\nmark (| 1:2\nmark ) 1:4\nmark ) 1:5\nlast  1:6\n",
         ),
     ];
     for (text, want) in rows {
         assert_eq!(rt; written(rt.alloc(), text)?.as_str(), want);
+    }
+    Ok(())
+}
+
+#[test]
+fn writes_each_answer_as_a_line(rt: HostRuntime) -> Result<(), Fail> {
+    let at = Span { line: 12, col: 345 };
+    let rows = [
+        (LexAnswer::BadByte(at), "error 12:345: unexpected byte"),
+        (
+            LexAnswer::OpenComment(at),
+            "error 12:345: comment not closed",
+        ),
+        (LexAnswer::LongNumber(at), "error 12:345: number too large"),
+        (LexAnswer::OutOfMemory, "error: out of memory"),
+    ];
+    for (answer, want) in rows {
+        let line = format!(in rt.alloc(); "{answer}")?;
+        assert_eq!(rt; line.as_str(), want);
     }
     Ok(())
 }
