@@ -15,7 +15,7 @@ for crate in sig_base sig_lex; do
 done
 mkdir -p "$work/crates/lex_bench/src"
 cp "$here/tokens/program.txt" "$work/crates/lex_bench/src/main.rt"
-printf 'sig_base:\nsig_lex: sig_base thiserror\nlex_bench: sig_base sig_lex anyhow\n' >"$work/crates.txt"
+printf 'sig_base:\nsig_lex: sig_base memchr thiserror\nlex_bench: sig_base sig_lex anyhow\n' >"$work/crates.txt"
 cd "$work/crates/lex_bench"
 rt run >"$work/log" 2>&1 || { tail -n 20 "$work/log"; exit 1; }
 ./out/lex_bench

@@ -20,12 +20,16 @@ use Rattle.sig_lex.proofs.Listed.{listed}
 use Rattle.sig_lex.proofs.Marks.{each_entry, mark_length}
 
 -- whether the table has the bytes
-is_listed : List (List ℕ) → List ℕ → Bool
+pub is_listed : List (List ℕ) → List ℕ → Bool
 is_listed table bytes = list_any (λ entry. bytes_eq entry bytes) table
 
-listed_true : (table : List (List ℕ)) (bytes : List ℕ) → Contains table bytes → is_listed table bytes ≡ true
+pub listed_true : (table : List (List ℕ)) (bytes : List ℕ) → Contains table bytes → is_listed table bytes ≡ true
 unfolding is_listed
 listed_true table bytes = (listed table bytes (is_listed table bytes) refl).1
+
+pub is_listed_true : (table : List (List ℕ)) (bytes : List ℕ) → is_listed table bytes ≡ true → Contains table bytes
+unfolding is_listed
+is_listed_true table bytes = (listed table bytes (is_listed table bytes) refl).0
 
 listed_false : (table : List (List ℕ)) (bytes : List ℕ) → (Contains table bytes → ⊥) → is_listed table bytes ≡ false
 unfolding is_listed

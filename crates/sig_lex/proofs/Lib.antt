@@ -1,10 +1,16 @@
 pub mod Listed
 pub mod Marks
 pub mod Numbers
+pub mod Comments
 pub mod Pieces
 pub mod PlaceLemmas
+pub mod Along
 pub mod Stands
 pub mod Classes
 pub mod Fronts
 pub mod Unique
 pub mod SliceLemmas
+pub mod SpellingLemmas
+pub mod Total
+pub mod Spacing
+pub mod Each

@@ -1,34 +1,40 @@
--- The value of digits.
-use Rattle.std.proofs.Common.{◌≡◌, ℕ, ◌+◌, ◌-◌, ◌*◌, ◌<◌, ◌≤◌, List, true, length, take, drop, get_or, map, sym, ap, ◌∙◌, arith, take-append-drop}
-use Rattle.std.specs.Char.{digit_value, is_ascii_digit}
-use Rattle.std.specs.Str.Parse.{digits_value}
-use Rattle.std.specs.Int.Digits.{number_from_digits, number_from_digits_after}
+-- Digits, and their value.
+use Rattle.std.proofs.Common.{◌≡◌, ℕ, ◌<◌, ◌^◌, List, true, length, get_or, arith, None, Some, Result, Ok, Err, sym, ap, ◌∙◌, subst}
+use Rattle.std.specs.List.{AllPass}
+use Rattle.std.specs.Prelude.{MatchResult}
+use Rattle.std.specs.Result.{OkIff, result_ok}
+use Rattle.std.specs.Char.{is_ascii_digit}
+use Rattle.std.specs.Int.{IsInRange}
+use Rattle.std.specs.Str.{IsUtf8}
+use Rattle.std.specs.Str.Parse.{digits_value, ParsesUnsigned}
 use Rattle.std.proofs.lemmas.Bool.{and_parts, leb-true}
-use Rattle.std.proofs.lemmas.Int.Digits.{digits_value_is, digits_value_more, number_after_append, number_after_ge}
-use Rattle.std.proofs.lemmas.List.{map-append}
-use Rattle.std.proofs.lemmas.Str.{digit_value_digit}
+use Rattle.std.proofs.lemmas.Str.{IsUtf8-from_ascii}
+use Rattle.std.proofs.lemmas.Str.Ascii.{IsAscii-from_all}
+use Rattle.std.proofs.lemmas.Str.Parse.{parse_digits, numerals_by_value, tells_by_index}
 
-pub digit_low : (c : ℕ) → is_ascii_digit c ≡ true → 48 ≤ c
-digit_low c is = leb-true 48 c (and_parts _ _ is).0
+digit_range : (c : ℕ) → is_ascii_digit c ≡ true → IsInRange 48 57 c
+digit_range c is =
+    let both = and_parts _ _ is in
+    (leb-true 48 c both.0, leb-true c 57 both.1)
 
-pub digit_high : (c : ℕ) → is_ascii_digit c ≡ true → c ≤ 57
-digit_high c is = leb-true c 57 (and_parts _ _ is).1
+module _ (digits : List ℕ) (all : AllPass is_ascii_digit digits) where
+  pub digits_utf8 : IsUtf8 digits
+  digits_utf8 = IsUtf8-from_ascii digits (IsAscii-from_all digits (λ k d lt. let range = digit_range (get_or digits k d) (all k d lt) in omega arith))
 
--- one more digit
-pub value_more : (digits : List ℕ) (i : ℕ) → i < length digits → is_ascii_digit (get_or digits i 0) ≡ true → digits_value 10 (take (i + 1) digits) ≡ digits_value 10 (take i digits) * 10 + (get_or digits i 0 - 48)
-value_more digits i lt is =
-    let low = digit_low (get_or digits i 0) is in
-    let high = digit_high (get_or digits i 0) is in
-    omega (arith, digits_value_more 10 digits i lt, digit_value_digit (get_or digits i 0) (low, high))
+  -- what they are read as
+  pub digits_read : {E : Type 0} (r : Result ℕ E) → ParsesUnsigned 64 10 digits r → OkIff r ((0 < length digits) × (digits_value 10 digits < 2 ^ 64)) (digits_value 10 digits)
+  digits_read r parses = parse_digits (numerals_by_value _ tells_by_index) 64 digits r parses (λ k lt. digit_range (get_or digits k 0) (all k 0 lt))
 
--- more digits stand for no less
-pub value_grows : (digits : List ℕ) (i : ℕ) → digits_value 10 (take i digits) ≤ digits_value 10 digits
-value_grows digits i =
-    let front = map digit_value (take i digits) in
-    let back = map digit_value (drop i digits) in
-    let whole : digits_value 10 digits ≡ number_from_digits_after 10 (number_from_digits 10 front) back =
-    digits_value_is 10 digits
-    ∙ ap (λ (l : List ℕ). number_from_digits 10 (map digit_value l)) (sym (take-append-drop i digits))
-    ∙ ap (number_from_digits 10) (map-append digit_value (take i digits) (drop i digits))
-    ∙ number_after_append 10 0 front back in
-    omega (arith, whole, digits_value_is 10 (take i digits), number_after_ge 10 (number_from_digits 10 front) back (omega arith))
+  -- a reading of them as text does not fail
+  pub no_text_fault : {T E : Type 0} (P : T → Type 0) (Q : E → Type 0) (r : Result T E) → MatchResult r P (λ e. ¬ IsUtf8 digits × Q e) → result_ok r ≡ None → ⊥
+  no_text_fault P Q (Ok text) cases none = cc
+  no_text_fault P Q (Err e) cases none = cases.0 digits_utf8
+
+  -- nor does a reading of the text as a number of 64 bits, where their value is one
+  pub no_read_fault : {T E F : Type 0} (P : T → Type 0) (Q : E → Type 0) (now : T → List ℕ) → ((t : T) → P t → now t ≡ digits) → (r : Result T E) (text : T) (s : Result ℕ F) → MatchResult r P Q → result_ok r ≡ Some text → ParsesUnsigned 64 10 (now text) s → result_ok s ≡ None → 0 < length digits → digits_value 10 digits < 2 ^ 64 → ⊥
+  no_read_fault P Q now same (Ok t) text (Ok value) cases is parses none some small = cc
+  no_read_fault P Q now same (Ok t) text (Err fault) cases is parses none some small =
+      let the_text : t ≡ text = cc in
+      let failed = digits_read (Err fault) (subst (λ l. ParsesUnsigned 64 10 l (Err fault)) (ap now (sym the_text) ∙ same t cases) parses) in
+      failed (some, small)
+  no_read_fault P Q now same (Err e) text s cases is parses none some small = cc

@@ -5,7 +5,7 @@ use Rattle.std.proofs.lemmas.Bool.{ne_eqb}
 use Rattle.std.proofs.lemmas.List.Sums.{count_by_more_yes, count_by_more_no, suffix_len-take_yes, suffix_len-take_no, suffix_len-le-length}
 use Rattle.sig_lex.specs.Places.{place_after}
 
-abbrev newline : ℕ → Bool
+abbrev pub newline : ℕ → Bool
 newline b = eqb b 10
 
 -- the bytes after the last newline are as many as are none at the end
@@ -15,7 +15,7 @@ col_is front = let short = suffix_len-le-length (λ b. not (newline b)) front in
 line_newline : (bytes : List ℕ) (i : ℕ) → i < length bytes → newline (get_or bytes i 0) ≡ true → (place_after (take (i + 1) bytes)).line ≡ (place_after (take i bytes)).line + 1
 line_newline bytes i lt is = omega (arith, count_by_more_yes newline bytes i 0 lt is)
 
-line_other : (bytes : List ℕ) (i : ℕ) → i < length bytes → newline (get_or bytes i 0) ≡ false → (place_after (take (i + 1) bytes)).line ≡ (place_after (take i bytes)).line
+pub line_other : (bytes : List ℕ) (i : ℕ) → i < length bytes → newline (get_or bytes i 0) ≡ false → (place_after (take (i + 1) bytes)).line ≡ (place_after (take i bytes)).line
 line_other bytes i lt is = omega (arith, count_by_more_no newline bytes i 0 lt is)
 
 module _ (bytes : List ℕ) (i : ℕ) (lt : i < length bytes) where
@@ -25,7 +25,7 @@ module _ (bytes : List ℕ) (i : ℕ) (lt : i < length bytes) where
   col_newline : newline (get_or bytes i 0) ≡ true → (place_after (take (i + 1) bytes)).col ≡ 1
   col_newline is = col_is (take (i + 1) bytes) ∙ ap (λ (n : ℕ). 1 + n) (suffix_len-take_no (λ b. not (newline b)) bytes (i + 1) 0 (omega arith) (omega arith) (ap (λ (k : ℕ). not (newline (get_or bytes k 0))) back ∙ ap not is))
 
-  col_other : newline (get_or bytes i 0) ≡ false → (place_after (take (i + 1) bytes)).col ≡ (place_after (take i bytes)).col + 1
+  pub col_other : newline (get_or bytes i 0) ≡ false → (place_after (take (i + 1) bytes)).col ≡ (place_after (take i bytes)).col + 1
   col_other is =
       let step = suffix_len-take_yes (λ b. not (newline b)) bytes (i + 1) 0 (omega arith) (omega arith) (ap (λ (k : ℕ). not (newline (get_or bytes k 0))) back ∙ ap not is) in
       let same = ap (λ (k : ℕ). suffix_len (λ b. not (newline b)) (take k bytes)) back in

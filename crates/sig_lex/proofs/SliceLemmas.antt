@@ -21,7 +21,7 @@ run_some p [] there passes = there
 run_some p (b ∷ bytes) there passes = rw passes (omega arith)
 
 -- a token is not empty, and none of these is the last
-lexeme_some : (kind : TokenKind) (n : ℕ) (bytes : List ℕ) → 0 < length bytes → IsLexeme kind bytes n → 0 < n
+pub lexeme_some : (kind : TokenKind) (n : ℕ) (bytes : List ℕ) → 0 < length bytes → IsLexeme kind bytes n → 0 < n
 lexeme_some Name n bytes there (name, _) = omega (arith, name.whole, run_some is_name_byte bytes there (letter_goes_on (first bytes) name.letter))
 lexeme_some Word n bytes there (name, _) = omega (arith, name.whole, run_some is_name_byte bytes there (letter_goes_on (first bytes) name.letter))
 lexeme_some (Number value) n bytes there (digits, _, _) = omega (arith, digits.whole, run_some is_ascii_digit bytes there digits.digit)
@@ -29,7 +29,7 @@ lexeme_some Label n bytes there label = omega (arith, label.whole)
 lexeme_some Mark n bytes there mark = omega (arith, (mark_length (take n bytes) mark.is_mark).0, length-take-le n bytes mark.within)
 lexeme_some Last n bytes there never = absurd never
 
-lexeme_no_last : (kind : TokenKind) (n : ℕ) (bytes : List ℕ) → IsLexeme kind bytes n → kind ≢ Last
+pub lexeme_no_last : (kind : TokenKind) (n : ℕ) (bytes : List ℕ) → IsLexeme kind bytes n → kind ≢ Last
 lexeme_no_last Name n bytes lexeme same = cc
 lexeme_no_last Word n bytes lexeme same = cc
 lexeme_no_last (Number value) n bytes lexeme same = cc

@@ -1,4 +1,5 @@
 pub mod Bytes
+pub mod Lexemes
 pub mod Places
 pub mod Slices
 pub mod Tables

@@ -6,6 +6,12 @@ use Rattle.sig_lex.specs.declared.token.TokenKind.TheVariants.{Last}
 use Rattle.sig_lex.specs.Places.{place_after}
 use Rattle.sig_lex.specs.Tokens.{token_at}
 
+-- The token is a slice of the text, with the place of its first byte.
+pub record StandsIn (text : List ℕ) (t : Token) : Type 0 where
+  pub ordered : t.start ≤ t.stop
+  pub within : t.stop ≤ length text
+  pub place : t.at ≡ place_after (take t.start text)
+
 -- The tokens are slices of the text from the byte i on, one after another, each with the place of its
 -- first byte.
 abbrev pub InOrder : List ℕ → ℕ → List Token → Type 0

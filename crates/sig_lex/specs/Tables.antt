@@ -11,7 +11,7 @@ abbrev pub marks : List (List ℕ)
 marks = codes "(|" ∷ codes "|)" ∷ codes "|" ∷ codes "(" ∷ codes ")" ∷ codes "{" ∷ codes "}"
     ∷ codes "," ∷ codes ";" ∷ codes "?" ∷ codes "!" ∷ codes ":=" ∷ codes "^=" ∷ codes "^+"
     ∷ codes "^*" ∷ codes "^-" ∷ codes "^" ∷ codes "$" ∷ codes "=" ∷ codes "/=" ∷ codes "<"
-    ∷ codes "<=" ∷ codes ">" ∷ codes ">=" ∷ codes "+" ∷ codes "-" ∷ codes "*" ∷ []
+    ∷ codes "<=" ∷ codes ">" ∷ codes ">=" ∷ codes "+" ∷ codes "-" ∷ codes "*" ∷ codes "/" ∷ []
 
 -- the bytes are a reserved word
 abbrev pub IsWord : List ℕ → Type 0

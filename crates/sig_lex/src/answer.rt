@@ -7,20 +7,21 @@ use sig_base::Span;
 use std::alloc::AllocFailed;
 use thiserror::Error;
 
-/// The first fault of a text, with its place, or want of memory.
+/// The first fault of a text, with its place, or want of memory. It displays as the line, without
+/// its newline, that the program writes on standard error.
 #[derive(Clone, Copy, Debug, PartialEq, Eq, Error)]
 pub enum LexAnswer {
     /// A byte that begins no token, or the opening `"` of a label that is not closed on its line or
     /// holds a byte that is not printable.
-    #[error("no token begins at {}:{}", .0.line, .0.col)]
+    #[error("error {}:{}: unexpected byte", .0.line, .0.col)]
     BadByte(Span),
     /// The opening `%` of a comment that is not closed.
-    #[error("the comment at {}:{} is not closed", .0.line, .0.col)]
+    #[error("error {}:{}: comment not closed", .0.line, .0.col)]
     OpenComment(Span),
     /// The first digit of a number above 9223372036854775807.
-    #[error("the number at {}:{} is too great", .0.line, .0.col)]
+    #[error("error {}:{}: number too large", .0.line, .0.col)]
     LongNumber(Span),
-    #[error("out of memory")]
+    #[error("error: out of memory")]
     OutOfMemory,
 }
 

@@ -13,7 +13,9 @@ mod table;
 mod token;
 
 pub use answer::LexAnswer;
-pub use laws::{one_reading, slices_in_order};
+pub use laws::{
+    each_token, one_reading, slices_in_order, some_reading, spelling, these_tokens, tokens_of_words,
+};
 pub use scan::lex;
 pub use token::{Token, TokenKind};
 

@@ -10,9 +10,10 @@ ghost use Rattle.sig_lex.specs.Tables.{IsMark};
 ghost use Rattle.sig_lex.specs.Tokens.{IsPiece, BeginsWithFault, IsOther, greatest_number};
 
 use crate::answer::LexAnswer;
-use crate::run::{comment_run, digit_run, label_run, name_run};
+use crate::run::{digit_run, label_run, name_run};
 use crate::table::{is_mark, is_word};
 use crate::token::TokenKind;
+use memchr::memchr;
 use sig_base::Span;
 
 /// The greatest value of a number.
@@ -68,14 +69,13 @@ fn comment(bytes: &[u8], at: Span) -> Result<Piece, LexAnswer>
     ensures within { IfOk result (λ piece. piece.size ≤ length bytes.now) }
     ensures fault { IfErr result (λ fault. BeginsWithFault fault at bytes.now) }
 {
-    let inside = comment_run(&bytes[1..]);
-    if inside + 1 == bytes.len() {
-        return Err(LexAnswer::OpenComment(at));
+    match memchr(b'%', &bytes[1..]) {
+        Some(inside) => Ok(Piece {
+            kind: None,
+            size: inside + 2,
+        }),
+        None => Err(LexAnswer::OpenComment(at)),
     }
-    Ok(Piece {
-        kind: None,
-        size: inside + 2,
-    })
 }
 
 /// A name or a reserved word.
@@ -110,18 +110,13 @@ fn number(bytes: &[u8], at: Span) -> Result<Piece, LexAnswer>
 
 /// The value of these digits, where it is not above the greatest.
 fn value_of(digits: &[u8]) -> Option<u64>
-    requires { AllPass is_ascii_digit digits.now }
+    requires some { 0 < length digits.now }
+    requires digits { AllPass is_ascii_digit digits.now }
     ensures { SomeIff result (digits_value 10 digits.now ≤ greatest_number) (digits_value 10 digits.now) }
 {
-    let mut value = 0u64;
-    for digit in digits {
-        let more = u128::from(value) * 10 + u128::from(*digit - b'0');
-        if more > u128::from(GREATEST) {
-            return None;
-        }
-        value = more as u64;
-    }
-    Some(value)
+    let text = str::from_utf8(digits).ok()?;
+    let value = u64::from_str_radix(text, 10).ok()?;
+    (value <= GREATEST).then_some(value)
 }
 
 /// A label.

@@ -1,9 +1,9 @@
 //! Runs: how many bytes at the front of a text are of one kind.
 
-ghost use Rattle.std.specs.Prelude.{◌≡◌, ◌≤◌, length, not};
+ghost use Rattle.std.specs.Prelude.{◌≡◌, ◌≤◌, length};
 ghost use Rattle.std.specs.List.{prefix_len};
 ghost use Rattle.std.specs.Char.{is_ascii_digit};
-ghost use Rattle.sig_lex.specs.Bytes.{is_name_byte, is_percent, is_label_byte};
+ghost use Rattle.sig_lex.specs.Bytes.{is_name_byte, is_label_byte};
 
 /// Bytes with which a name goes on: letters, digits and `_`.
 pub fn name_run(bytes: &[u8]) -> usize
@@ -27,14 +27,6 @@ pub fn label_run(bytes: &[u8]) -> usize
     ensures within { result ≤ length bytes.now }
 {
     bytes.iter().take_while(|b| is_label_byte(**b)).count()
-}
-
-/// Bytes up to the next `%`.
-pub fn comment_run(bytes: &[u8]) -> usize
-    ensures run { result ≡ prefix_len (λ b. not (is_percent b)) bytes.now }
-    ensures within { result ≤ length bytes.now }
-{
-    bytes.iter().take_while(|b| **b != b'%').count()
 }
 
 fn is_name_byte(byte: u8) -> bool

@@ -1,10 +1,11 @@
 //! The scan of a text from its first byte to its last.
 
-ghost use Rattle.std.specs.Prelude.{◌≡◌, ℕ, ◌+◌, ◌<◌, ◌≤◌, ◌^◌, ◌++◌, List, OnOk, IfOk, IfErr, IsErrAnd, MatchResult, length, ◌⊎◌, option_to_list, option_map};
+ghost use Rattle.std.specs.Prelude.{◌≡◌, ℕ, ◌+◌, ◌<◌, ◌≤◌, ◌^◌, ◌++◌, List, OnOk, IfOk, IfErr, IsErrAnd, MatchResult, length, take, drop, ◌⊎◌, option_to_list, option_map};
 ghost use Rattle.sig_base.specs.declared.limits.TheConstants.{PROGRAM_BYTES};
 ghost use Rattle.sig_lex.specs.declared.token.Token.{Token};
 ghost use Rattle.sig_lex.specs.declared.answer.LexAnswer.{LexAnswer};
-ghost use Rattle.sig_lex.specs.Tokens.{AreTokens, IsFirstFault, token_of};
+ghost use Rattle.sig_lex.specs.Places.{place_after};
+ghost use Rattle.sig_lex.specs.Tokens.{AreTokens, IsFirstFault, IsPiece, token_of};
 
 use crate::answer::LexAnswer;
 use crate::piece::{Piece, piece_of};
@@ -32,6 +33,23 @@ fn add(
             at,
         }),
         None => Ok(()),
+    }
+}
+
+/// The place after a piece, where `at` is the place of its first byte. A token holds no newline.
+fn passed(bytes: &[u8], start: usize, piece: Piece, at: Span) -> Span
+    requires small { length bytes.now ≤ PROGRAM_BYTES }
+    requires piece { IsPiece piece.kind (drop start bytes.now) piece.size }
+    requires within { start + piece.size ≤ length bytes.now }
+    requires here { at ≡ place_after (take start bytes.now) }
+    ensures { result ≡ place_after (take (start + piece.size) bytes.now) }
+{
+    match piece.kind {
+        Some(_) => Span {
+            line: at.line,
+            col: at.col + piece.size as u32,
+        },
+        None => advanced(bytes, start, start + piece.size, at),
     }
 }
 
@@ -64,15 +82,15 @@ fn scanned(alloc: Global, bytes: &[u8]) -> Result<Vec<Token>, LexAnswer>
     let mut start = 0;
     while start < bytes.len() {
         let piece = piece_of(&bytes[start..], at)?;
-        let stop = start + piece.size;
         add(&mut tokens, piece, start, at)?;
-        at = advanced(bytes, start, stop, at);
-        start = stop;
+        at = passed(bytes, start, piece, at);
+        start += piece.size;
     }
-    let end = Piece {
-        kind: Some(TokenKind::Last),
-        size: 0,
-    };
-    add(&mut tokens, end, start, at)?;
+    tokens.push(Token {
+        kind: TokenKind::Last,
+        start: start as u32,
+        stop: start as u32,
+        at,
+    })?;
     Ok(tokens)
 }

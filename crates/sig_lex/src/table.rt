@@ -1,8 +1,6 @@
 //! The reserved words and the marks.
 
-ghost use Rattle.std.specs.Prelude.{◌≡◌, ◌↔◌, IsTrue};
-ghost use Rattle.std.specs.List.{list_any};
-ghost use Rattle.std.specs.Str.{bytes_eq};
+ghost use Rattle.std.specs.Prelude.{◌↔◌, IsTrue};
 ghost use Rattle.sig_lex.specs.Tables.{IsWord, IsMark};
 
 /// The reserved words.
@@ -12,28 +10,21 @@ const WORDS: [&[u8]; 18] = [
 ];
 
 /// The marks, each of one byte or two.
-const MARKS: [&[u8]; 27] = [
+const MARKS: [&[u8]; 28] = [
     b"(|", b"|)", b"|", b"(", b")", b"{", b"}", b",", b";", b"?", b"!", b":=", b"^=", b"^+", b"^*",
-    b"^-", b"^", b"$", b"=", b"/=", b"<", b"<=", b">", b">=", b"+", b"-", b"*",
+    b"^-", b"^", b"$", b"=", b"/=", b"<", b"<=", b">", b">=", b"+", b"-", b"*", b"/",
 ];
 
 /// Whether these bytes are a reserved word.
 pub fn is_word(bytes: &[u8]) -> bool
     ensures { IsTrue result ↔ IsWord bytes.now }
 {
-    is_entry(&WORDS, bytes)
+    WORDS.contains(&bytes)
 }
 
 /// Whether these bytes are a mark.
 pub fn is_mark(bytes: &[u8]) -> bool
     ensures { IsTrue result ↔ IsMark bytes.now }
 {
-    is_entry(&MARKS, bytes)
-}
-
-/// Whether these bytes are an entry of the table.
-fn is_entry(table: &[&[u8]], bytes: &[u8]) -> bool
-    ensures { result ≡ list_any (λ entry. bytes_eq entry.now bytes.now) table.now }
-{
-    table.iter().any(|entry| *entry == bytes)
+    MARKS.contains(&bytes)
 }

@@ -1,13 +1,14 @@
 //! Tables of texts with their tokens, made by hand from the lexical rules.
 
 use crate::{LexAnswer, Token, TokenKind, lex};
+use sig_base::Span;
 use sig_base::limits::PROGRAM_BYTES;
 use std::alloc::{AllocError, Global};
 use std::test::Fail;
 
-const MARKS: [&str; 27] = [
+const MARKS: [&str; 28] = [
     "(|", "|)", "|", "(", ")", "{", "}", ",", ";", "?", "!", ":=", "^=", "^+", "^*", "^-", "^",
-    "$", "=", "/=", "<", "<=", ">", ">=", "+", "-", "*",
+    "$", "=", "/=", "<", "<=", ">", ">=", "+", "-", "*", "/",
 ];
 
 const WORDS: [&str; 18] = [
@@ -70,7 +71,7 @@ fn token_at(alloc: Global, text: &str, start: usize) -> Result<Option<(TokenKind
 
 #[test]
 fn gives_tokens_or_the_first_fault(rt: HostRuntime) -> Result<(), Fail> {
-    let rows: [(&[u8], &str); 37] = [
+    let rows: [(&[u8], &str); 39] = [
         (
             b"process SUM = (? integer A",
             "word process 1:1\nname SUM 1:9\nmark = 1:13\nmark ( 1:15\nmark ? 1:16\nword integer 1:18\nname A 1:26\nlast  1:27\n",
@@ -84,16 +85,16 @@ fn gives_tokens_or_the_first_fault(rt: HostRuntime) -> Result<(), Fail> {
             b"a_1B whenx When",
             "name a_1B 1:1\nname whenx 1:6\nname When 1:12\nlast  1:16\n",
         ),
-        (b"_a", "no token begins at 1:1"),
+        (b"_a", "error 1:1: unexpected byte"),
         // Numbers.
         (
             b"9223372036854775807",
             "number 9223372036854775807 9223372036854775807 1:1\nlast  1:20\n",
         ),
-        (b"\n 9223372036854775808", "the number at 2:2 is too great"),
+        (b"\n 9223372036854775808", "error 2:2: number too large"),
         (
             b"99999999999999999999999999999999999999999",
-            "the number at 1:1 is too great",
+            "error 1:1: number too large",
         ),
         (
             b"00000000000000000000000000001",
@@ -101,26 +102,26 @@ fn gives_tokens_or_the_first_fault(rt: HostRuntime) -> Result<(), Fail> {
         ),
         (b"7a", "number 7 7 1:1\nname a 1:2\nlast  1:3\n"),
         // Comments.
-        (b"% note", "the comment at 1:1 is not closed"),
+        (b"% note", "error 1:1: comment not closed"),
         (b"%a\nb%c", "name c 2:3\nlast  2:4\n"),
         (b"%\xC3\xA9\x00\"%x", "name x 1:7\nlast  1:8\n"),
-        (b"%%%", "the comment at 1:3 is not closed"),
-        (b"%\"", "the comment at 1:1 is not closed"),
+        (b"%%%", "error 1:3: comment not closed"),
+        (b"%\"", "error 1:1: comment not closed"),
         // Labels.
         (b"\"\"", "label \"\" 1:1\nlast  1:3\n"),
         (b"\"%\"", "label \"%\" 1:1\nlast  1:4\n"),
-        (b"\"\"\"", "no token begins at 1:3"),
-        (b"x \"a\nb\"", "no token begins at 1:3"),
-        (b"\"a\tb\"", "no token begins at 1:1"),
-        (b"\"\x7F\"", "no token begins at 1:1"),
-        (b"\"\xC3\"", "no token begins at 1:1"),
-        (b"\"abc", "no token begins at 1:1"),
+        (b"\"\"\"", "error 1:3: unexpected byte"),
+        (b"x \"a\nb\"", "error 1:3: unexpected byte"),
+        (b"\"a\tb\"", "error 1:1: unexpected byte"),
+        (b"\"\x7F\"", "error 1:1: unexpected byte"),
+        (b"\"\xC3\"", "error 1:1: unexpected byte"),
+        (b"\"abc", "error 1:1: unexpected byte"),
         // Bytes with which nothing begins.
-        (b"x\xFF", "no token begins at 1:2"),
-        (b"\x00", "no token begins at 1:1"),
-        (b"a\n/b", "no token begins at 2:1"),
-        (b": =", "no token begins at 1:1"),
-        (b"& % note", "no token begins at 1:1"),
+        (b"x\xFF", "error 1:2: unexpected byte"),
+        (b"\x00", "error 1:1: unexpected byte"),
+        (b"a\n\\b", "error 2:1: unexpected byte"),
+        (b": =", "error 1:1: unexpected byte"),
+        (b"& % note", "error 1:1: unexpected byte"),
         // The longest mark is taken.
         (b"(||)", "mark (| 1:1\nmark |) 1:3\nlast  1:5\n"),
         (b"|||)", "mark | 1:1\nmark | 1:2\nmark |) 1:3\nlast  1:5\n"),
@@ -128,6 +129,11 @@ fn gives_tokens_or_the_first_fault(rt: HostRuntime) -> Result<(), Fail> {
         (b"^^=", "mark ^ 1:1\nmark ^= 1:2\nlast  1:4\n"),
         (b"<=>", "mark <= 1:1\nmark > 1:3\nlast  1:4\n"),
         (b"/==", "mark /= 1:1\nmark = 1:3\nlast  1:4\n"),
+        (b"//=/", "mark / 1:1\nmark /= 1:2\nmark / 1:4\nlast  1:5\n"),
+        (
+            b"Y:=A/B%/%/=C",
+            "name Y 1:1\nmark := 1:2\nname A 1:4\nmark / 1:5\nname B 1:6\nmark /= 1:10\nname C 1:12\nlast  1:13\n",
+        ),
         (
             b"((|))",
             "mark ( 1:1\nmark (| 1:2\nmark ) 1:4\nmark ) 1:5\nlast  1:6\n",
@@ -135,6 +141,25 @@ fn gives_tokens_or_the_first_fault(rt: HostRuntime) -> Result<(), Fail> {
     ];
     for (text, want) in rows {
         assert_eq!(rt; written(rt.alloc(), text)?.as_str(), want);
+    }
+    Ok(())
+}
+
+#[test]
+fn writes_each_answer_as_a_line(rt: HostRuntime) -> Result<(), Fail> {
+    let at = Span { line: 12, col: 345 };
+    let rows = [
+        (LexAnswer::BadByte(at), "error 12:345: unexpected byte"),
+        (
+            LexAnswer::OpenComment(at),
+            "error 12:345: comment not closed",
+        ),
+        (LexAnswer::LongNumber(at), "error 12:345: number too large"),
+        (LexAnswer::OutOfMemory, "error: out of memory"),
+    ];
+    for (answer, want) in rows {
+        let line = format!(in rt.alloc(); "{answer}")?;
+        assert_eq!(rt; line.as_str(), want);
     }
     Ok(())
 }

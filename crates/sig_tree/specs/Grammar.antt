@@ -1,14 +1,17 @@
 -- The grammar: programs, sentences and what a sentence begins with.
-use Rattle.std.specs.Prelude.{zero, ◌++◌, ◌≢◌, List, []}
+use Rattle.std.specs.Prelude.{◌≢◌, ℕ, ◌++◌, List, []}
+use Rattle.sig_lex.specs.declared.token.Token.{Token}
+use Rattle.sig_lex.specs.Tokens.{AreTokens}
 use Rattle.sig_tree.specs.Syntax.{ProcessModel}
 use Rattle.sig_tree.specs.Terminals.{Leaf}
+use Rattle.sig_tree.specs.Leaves.{leaves_of}
 use Rattle.sig_tree.specs.Limits.{Limits, both_limits, no_limits}
 use Rattle.sig_tree.specs.Repeated.{Each}
 use Rattle.sig_tree.specs.Processes.{IsModel}
 
 -- program = process { process }
 abbrev pub IsProgram : Limits → List ProcessModel → List Leaf → Type 0
-IsProgram limits processes leaves = (processes ≢ []) × Each (λ process. IsModel limits process zero) processes leaves
+IsProgram limits processes leaves = (processes ≢ []) × Each (λ process. IsModel limits process 0) processes leaves
 
 -- the leaves are those of the program of this tree, within both limits
 abbrev pub HasTree : List Leaf → List ProcessModel → Type 0
@@ -21,3 +24,7 @@ IsSentence leaves = (processes : List ProcessModel) × IsProgram no_limits proce
 -- some leaves that have a tree within these limits begin with these
 abbrev pub Begins : Limits → List Leaf → Type 0
 Begins limits leaves = (rest : List Leaf) × (processes : List ProcessModel) × IsProgram limits processes (leaves ++ rest)
+
+-- the text is that of the program of this tree
+abbrev pub IsText : List ℕ → List ProcessModel → Type 0
+IsText text processes = (tokens : List Token) × AreTokens text tokens × HasTree (leaves_of text tokens) processes

@@ -1,6 +1,7 @@
 pub mod Equations
 pub mod Expressions
 pub mod Grammar
+pub mod Leaves
 pub mod Levels
 pub mod Limits
 pub mod Processes

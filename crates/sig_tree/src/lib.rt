@@ -1,5 +1,5 @@
 //! The syntax tree of programs, and what programs are: the grammar as a relation between tokens and
-//! trees (`specs/Grammar.antt` and the files that it names). It stands on sig_base.
+//! trees (`specs/Grammar.antt` and the files that it names). It stands on sig_base and sig_lex.
 #![tactic(auto)]
 
 mod expr;

@@ -1,15 +1,9 @@
-use Rattle.std.proofs.Common.{◌+◌, arith}
-use Rattle.sig_lex.proofs.Numbers.{value_more, value_grows}
+use Rattle.std.proofs.Common.{arith, ◌∙◌, sym}
+use Rattle.sig_lex.proofs.Numbers.{no_text_fault, no_read_fault}
 use Rattle.sig_lex.proofs.piece.value_of.Goals as goal
 
--- the digits so far are too great already
-pub returns-then-more-from : goal.returns-then-more-from
-returns-then-more-from c =
-    let step = value_more c.args.digits.now c.loop-digit.digit-index c.loop-digit-test.true (c.requires c.loop-digit.digit-index 0 c.loop-digit-test.true) in
-    let grows = value_grows c.args.digits.now (c.loop-digit.digit-index + 1) in
-    λ small. omega (arith, step, grows, small)
+pub returns-in_err-text : goal.returns-in_err-text
+returns-in_err-text c = absurd (no_text_fault c.args.digits.now c.requires.digits _ _ c.from_utf8.result c.from_utf8.ensures.cases (sym c.ok.ensures.value ∙ c.in_err-text.was))
 
-pub loop-digit-preserved : goal.loop-digit-preserved
-loop-digit-preserved c =
-    let step = value_more c.args.digits.now c.loop-digit.digit-index c.loop-digit-test.true (c.requires c.loop-digit.digit-index 0 c.loop-digit-test.true) in
-    record { so_far = omega (arith, step); not_above = omega arith }
+pub returns-in_err-value : goal.returns-in_err-value
+returns-in_err-value c = rw c.from_residual-in_err-value.ensures (λ small. no_read_fault c.args.digits.now c.requires.digits _ _ (λ s. s.now) (λ s is. is.0) c.from_utf8.result c.in_ok-text.text c.from_str_radix.result c.from_utf8.ensures.cases (sym c.in_ok-text.ensures.value) c.from_str_radix.ensures.value (sym c.ok-2.ensures.value ∙ c.in_err-value.was) c.requires.some (omega (arith, small)))
