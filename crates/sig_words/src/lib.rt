@@ -1,0 +1,21 @@
+//! The command line of sigc: its words as one of ten commands with their settings, or a refusal.
+//! What the words of a command are is defined in `specs/Commands.antt`, apart from how they are read.
+//! It stands on sig_base.
+#![tactic(auto)]
+
+mod answer;
+mod command;
+mod given;
+mod number;
+mod option;
+mod plain;
+mod read;
+mod settings;
+mod verb;
+
+pub use answer::WordsAnswer;
+pub use command::{Command, Settings};
+pub use read::read_words;
+
+#[cfg(test)]
+mod tests;
