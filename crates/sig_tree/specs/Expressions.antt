@@ -29,13 +29,16 @@ IsOptionalInit (Some constant) leaves = IsInit constant leaves
 abbrev pub IsOptionalOne : List Leaf → Type 0
 IsOptionalOne leaves = (leaves ≡ []) ⊎ ((at : Span) × (leaves ≡ leaf (number 1) at ∷ []))
 
--- Where an expression of a wanted level is asked for inside so many constructs, one stands that is
--- tight enough, in no parentheses, or any one in so many parentheses.
+-- An expression where one of a wanted level is asked for, inside so many constructs, with so many
+-- parentheses around it. With none, it must be tight enough. With one more, there is a `(`, which is
+-- counted here, and inside it any level will do. The level of the expression and what it is without
+-- parentheses are parameters, so that the recursion of `IsBare` goes down the tree.
 abbrev pub Enclosed : Limits → (level : ℕ) → (ℕ → List Leaf → Type 0) → (parentheses wanted depth : ℕ) → List Leaf → Type 0
 Enclosed limits level IsBare zero wanted depth leaves = (wanted ≤ level) × IsBare depth leaves
 Enclosed limits level IsBare (suc parentheses) wanted depth leaves = MayStandInside limits depth
     × Between (mark (codes "(")) (mark (codes ")")) (Enclosed limits level IsBare parentheses default_level (suc depth)) leaves
 
+-- the same, with any number of parentheses
 abbrev pub Stands : Limits → (level : ℕ) → (ℕ → List Leaf → Type 0) → (wanted depth : ℕ) → List Leaf → Type 0
 Stands limits level IsBare wanted depth leaves = (parentheses : ℕ) × Enclosed limits level IsBare parentheses wanted depth leaves
 

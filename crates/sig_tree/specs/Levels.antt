@@ -14,6 +14,8 @@
 --   delay_level    = primary_level | delay_level "$" [ "1" ] [ "init" constant ]
 --   primary_level  = NAME | NUMBER | "true" | "false" | "(" default_level ")" | "^" primary_level
 --
+-- which say the same as, in this order, the nonterminals expr, mixed with first, clocks, disj, conj,
+-- neg, rel, sum, prod, minus, post and prim of the grammar in docs/language.md.
 -- An expression stands at the level of its outermost operator, and at every looser one.
 use Rattle.std.specs.Prelude.{ℕ}
 use Rattle.sig_tree.specs.declared.expr.UnOp.{UnOp}

@@ -70,12 +70,12 @@ IsWhere locals inner AreEntries leaves = ((locals ≡ []) × (inner ≡ no_model
 
 -- "process" NAME "=" params interface pragmas body where ";"
 abbrev pub IsProcess : Limits → ℕ → Heading → List Placement → Equations → (List Leaf → Type 0) → List Leaf → Type 0
-IsProcess limits depth heading pragmas body AreLocals leaves =
+IsProcess limits depth heading pragmas body IsWherePart leaves =
     (begun equals ended : Span) × (params interface placed equations locals : List Leaf)
     × (leaves ≡ leaf (word (codes "process")) begun ∷ name_leaf heading.name ∷ leaf (mark (codes "=")) equals
     ∷ (params ++ (interface ++ (placed ++ (equations ++ (locals ++ leaf (mark (codes ";")) ended ∷ []))))))
     × AreParams heading.params params × IsInterface heading.inputs heading.outputs interface
-    × ArePragmas pragmas placed × IsBody limits body depth equations × AreLocals locals
+    × ArePragmas pragmas placed × IsBody limits body depth equations × IsWherePart locals
 
 -- a process whose contents stand inside so many constructs
 abbrev mutual
