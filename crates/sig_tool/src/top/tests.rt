@@ -66,9 +66,20 @@ fn answer<R: Threads + Wait + Sync + Abort + AllocGlobal, F: Files, S: Sink, E: 
 ) -> Result<u8, Fail> {
     let words = words_of(rt.alloc(), line)?;
     let gate = Counting::new();
-    let status = sig_main(rt, rt.alloc(), &words, files, out, err, &gate);
+    let status = status_of(rt, &words, files, out, err, &gate);
     assert_eq!(rt; gate.passes.load(Ordering::SeqCst), 0);
     Ok(status)
+}
+
+fn status_of<R: Threads + Wait + Sync + AllocGlobal, F: Files, S: Sink, E: Sink>(
+    rt: &R,
+    words: &[String],
+    files: &mut F,
+    out: &mut S,
+    err: &mut E,
+    gate: &Counting,
+) -> u8 {
+    sig_main(rt, rt.alloc(), words, files, out, err, gate)
 }
 
 /// Calls with these words, and compares what it wrote and answered.
