@@ -1,4 +1,5 @@
-// The baseline of sum.sh: adds two flows, instant by instant, with the C library alone.
+// The baseline of sum.py: adds two flows, instant by instant. Numbers are read by strtoll; they are
+// written by sprintf or, with -DBY_HAND, by a formatter of its own.
 // usage: sum FLOWS
 #include <stdio.h>
 #include <stdlib.h>
@@ -22,6 +23,32 @@ static Flow flow(char *line, size_t most) {
         at = next;
     }
 }
+
+#ifdef BY_HAND
+static size_t put_line(char *out, long long value) {
+    char digits[20];
+    size_t used = 0, count = 0;
+    unsigned long long left = value < 0 ? 0ull - (unsigned long long)value : (unsigned long long)value;
+    out[used++] = 'Y';
+    out[used++] = ' ';
+    if (value < 0) {
+        out[used++] = '-';
+    }
+    do {
+        digits[count++] = (char)('0' + left % 10);
+        left /= 10;
+    } while (left != 0);
+    while (count != 0) {
+        out[used++] = digits[--count];
+    }
+    out[used++] = '\n';
+    return used;
+}
+#else
+static size_t put_line(char *out, long long value) {
+    return (size_t)sprintf(out, "Y %lld\n", value);
+}
+#endif
 
 int main(int count, char **words) {
     if (count != 2) {
@@ -52,7 +79,7 @@ int main(int count, char **words) {
         if (__builtin_add_overflow(a.values[i], b.values[i], &sum)) {
             break;
         }
-        used += (size_t)sprintf(out + used, "Y %lld\n", sum);
+        used += put_line(out + used, sum);
     }
     fwrite(out, 1, used, stdout);
     return 0;

@@ -1,6 +1,7 @@
-"""Runs `sigc run` on two flows of 1,000,000 values beside a plain C program that prints the same text.
+"""Runs `sigc run` on two flows of 1,000,000 values beside a plain C program that prints the same text,
+once with sprintf and once with a formatter written by hand.
 
-Prints the time and the peak memory of each, and the ratio of the times. Both texts are compared.
+Prints the time and the peak memory of each, and the ratios of the times. The texts are compared.
 usage: sum.py SIGC
 """
 
@@ -15,6 +16,7 @@ import time
 HERE = os.path.dirname(os.path.abspath(__file__))
 COUNT = 1_000_000
 ROUNDS = 5
+BASELINES = (("sprintf", ()), ("by-hand", ("-DBY_HAND",)))
 
 
 def write_flows(path):
@@ -44,17 +46,18 @@ def main():
         def path(name):
             return os.path.join(folder, name)
 
-        subprocess.run(["gcc", "-O2", "-o", path("sum"), os.path.join(HERE, "sum.c")], check=True)
+        for name, flags in BASELINES:
+            subprocess.run(["gcc", "-O2", *flags, "-o", path(name), os.path.join(HERE, "sum.c")], check=True)
         write_flows(path("flows"))
         program = os.path.join(HERE, "..", "examples", "sum.sig")
         print(f"flow file: {os.path.getsize(path('flows')) / 1e6:.1f} MB")
-        own, own_peak = measured([sigc, "run", program, path("flows")], path("own"))
-        plain, plain_peak = measured([path("sum"), path("flows")], path("plain"))
-        with open(path("own"), "rb") as left, open(path("plain"), "rb") as right:
-            assert left.read() == right.read(), "the texts differ"
-        print(f"sigc: {own:.3f} s, {own_peak:.0f} MB")
-        print(f"C:    {plain:.3f} s, {plain_peak:.0f} MB")
-        print(f"ratio of times: {own / plain:.2f}")
+        own, peak = measured([sigc, "run", program, path("flows")], path("own"))
+        print(f"sigc: {own:.3f} s, {peak:.0f} MB")
+        for name, _ in BASELINES:
+            plain, peak = measured([path(name), path("flows")], path("plain"))
+            with open(path("own"), "rb") as left, open(path("plain"), "rb") as right:
+                assert left.read() == right.read(), "the texts differ"
+            print(f"C, {name}: {plain:.3f} s, {peak:.0f} MB; ratio of times: {own / plain:.2f}")
 
 
 main()

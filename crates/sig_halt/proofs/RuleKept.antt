@@ -5,8 +5,9 @@ use mathlib.Core.Option.{some, some-injective, some-ne-none}
 use lib.ListN.{get_elem?}
 use Rattle.atomic_table.specs.Table.{State, Me, keeps, Allows, Splits, Joins, Seen, opening}
 use Rattle.atomic_table.proofs.Lists.{at_set, at_snoc, set_else}
+use Rattle.sig_base.specs.Places.{no_place}
 use Rattle.sig_halt.specs.declared.rule.Sight.{Sight}
-use Rattle.sig_halt.specs.Rule.{no_place, sight, least_recorded, all_parts, IsAtMostSeen, IdleHasNone, IsLeast, looked, failed, kept, given, joined, spent, IsBelow}
+use Rattle.sig_halt.specs.Rule.{sight, least_recorded, all_parts, IsAtMostSeen, IdleHasNone, IsLeast, looked, failed, kept, given, joined, spent, IsBelow}
 
 -- the least that the seats but this one recorded
 abbrev others : List Sight → ℕ → ℕ

@@ -1,13 +1,10 @@
 -- What a seat of the failure word knows, and the rule between the word and what all seats know.
-use Rattle.std.specs.Prelude.{◌≡◌, ◌+◌, ◌-◌, ◌^◌, ◌≤◌, ℕ, min, List, [], ◌∷◌}
+use Rattle.std.specs.Prelude.{◌≡◌, ◌+◌, ◌-◌, ◌≤◌, ℕ, min, List, [], ◌∷◌}
 use mathlib.Core.Option.{some}
 use lib.ListN.{get_elem?}
 use Rattle.atomic_table.specs.Table.{State}
+use Rattle.sig_base.specs.Places.{no_place}
 use Rattle.sig_halt.specs.declared.rule.Sight.{Sight}
-
--- the word of no place
-abbrev pub no_place : ℕ
-no_place = 2 ^ 64 - 1
 
 -- what a seat knows: its parts, the least word that it recorded, and the least that it has seen
 abbrev pub sight : ℕ → ℕ → ℕ → Sight

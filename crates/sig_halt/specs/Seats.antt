@@ -1,9 +1,8 @@
 -- What a contract sees of a failure word and of its seats.
-use Rattle.std.specs.Prelude.{◌≡◌, ◌+◌, ◌*◌, ◌^◌, ◌≤◌, ℕ, min}
+use Rattle.std.specs.Prelude.{◌≡◌, ◌≤◌, ℕ, min}
 use Rattle.atomic_table.specs.Seated.{TableId}
-use Rattle.sig_base.specs.declared.place.Place.{Place}
 use Rattle.sig_halt.specs.declared.halt.Halt.{Halt}
-use Rattle.sig_halt.specs.declared.halt.HaltSeat.{HaltSeat}
+use Rattle.sig_halt.specs.declared.halt_seat.HaltSeat.{HaltSeat}
 
 -- which word it is
 abbrev pub HaltId : Type 0
@@ -32,10 +31,6 @@ seen s = s.seat.me.0.seen
 -- it is a seat of this word
 abbrev pub IsSeatOf : Halt → HaltSeat → Type 0
 IsSeatOf h s = seat_id s ≡ halt_id h
-
--- a place as one word
-abbrev pub packed : Place → ℕ
-packed p = p.instant * 2 ^ 32 + p.pos
 
 -- it is of the same word, with as many parts
 abbrev pub IsSameSeat : HaltSeat → HaltSeat → Type 0

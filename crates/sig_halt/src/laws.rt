@@ -2,10 +2,12 @@
 
 ghost use Rattle.std.specs.Prelude.{◌≡◌, ◌≤◌, ℕ, [], ◌∷◌, min};
 ghost use Rattle.atomic_table.specs.Table.{opening, Allows, Joins, Me, Seen, Splits, State};
-ghost use Rattle.sig_halt.specs.Rule.{failed, given, joined, kept, looked, no_place, sight, spent, IsBelow, IsLeast};
+ghost use Rattle.sig_base.specs.Places.{no_place};
+ghost use Rattle.sig_halt.specs.Rule.{failed, given, joined, kept, looked, sight, spent, IsBelow, IsLeast};
 ghost use Rattle.sig_halt.specs.declared.rule.Sight.{Sight};
 
-use super::halt::{Halt, HaltSeat};
+use super::halt::Halt;
+use super::halt_seat::HaltSeat;
 
 /// A law: each kind of step keeps the rule, whatever was recorded and whatever the other seats
 /// know. At the closing, the word is what the seat with all parts recorded, and at most what it has

@@ -4,20 +4,15 @@
 //! kit's `atomic_table`.
 #![tactic(auto)]
 
-mod closing;
-mod fail;
 mod halt;
-mod join;
+mod halt_seat;
 mod laws;
-mod look;
-mod opening;
 mod rule;
-mod split;
 mod steps;
 
-pub use halt::{Halt, HaltSeat};
+pub use halt::{Halt, HaltAnswer};
+pub use halt_seat::HaltSeat;
 pub use laws::{a_word_may_be_shared, steps_keep_the_rule};
-pub use opening::HaltAnswer;
 
 #[cfg(test)]
 mod tests;

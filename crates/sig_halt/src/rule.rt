@@ -18,7 +18,8 @@ pub struct Sight {
 pub struct Least;
 
 impl TableRule<(), Sight, u32> for Least {
-    ghost use Rattle.sig_halt.specs.Rule.{IsLeast, sight, no_place};
+    ghost use Rattle.sig_base.specs.Places.{no_place};
+    ghost use Rattle.sig_halt.specs.Rule.{IsLeast, sight};
 
     ghost holds = { IsLeast };
 

@@ -3,8 +3,8 @@ use Rattle.std.specs.Prelude.{◌≡◌, ◌≤◌, ℕ, ℤ, List, ◌++◌, le
 use Rattle.std.specs.Arc.{arc_value}
 use Rattle.crossbeam_queue.specs.Passes.{view, ruled_capacity}
 use Rattle.atomic_table.specs.Seated.{TableId}
-use Rattle.sig_link.specs.declared.ends.Put.{Put}
-use Rattle.sig_link.specs.declared.ends.Take.{Take}
+use Rattle.sig_link.specs.declared.put.Put.{Put}
+use Rattle.sig_link.specs.declared.take.Take.{Take}
 
 -- which link it is
 abbrev pub LinkId : Type 0

@@ -1,2 +1,4 @@
-pub mod Rule
 pub mod Ends
+pub mod Rule
+pub use Rattle.crossbeam_queue.specs.Fifo
+pub use Rattle.crossbeam_queue.specs.Passes

@@ -5,7 +5,8 @@ ghost use Rattle.crossbeam_queue.specs.Fifo.{Forks, Learns, Merges, Pops, Pushes
 ghost use Rattle.sig_link.specs.Rule.{hand, InOrder, TakenIsPrefix};
 ghost use Rattle.sig_link.specs.declared.rule.Hand.{Hand};
 
-use super::ends::{Put, Take};
+use super::put::Put;
+use super::take::Take;
 
 /// A law: wherever the rule holds, what was taken is a prefix of what was sent.
 pub fn taken_is_a_prefix()

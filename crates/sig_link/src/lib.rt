@@ -4,19 +4,19 @@
 //! `crossbeam_queue`.
 #![tactic(auto)]
 
-mod ends;
 mod laws;
 mod opening;
-mod pop;
-mod push;
+mod put;
 mod rule;
 mod settling;
 mod steps;
+mod take;
 
-pub use ends::{Put, Take};
 pub use laws::{ends_may_be_moved, steps_keep_the_rule, taken_is_a_prefix};
 pub use opening::{LinkAnswer, link};
+pub use put::Put;
 pub use settling::{Settled, settle};
+pub use take::Take;
 
 #[cfg(test)]
 mod tests;

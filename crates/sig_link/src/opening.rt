@@ -4,8 +4,9 @@ ghost use Rattle.std.specs.Prelude.{◌≡◌, ◌≤◌, [], IfOk};
 ghost use Rattle.sig_link.specs.Ends.{put_capacity, sent, taken, OfOneLink};
 ghost use Rattle.sig_link.specs.declared.opening.LinkAnswer.TheVariants.{OutOfMemory};
 
-use super::ends::{Put, Take};
+use super::put::Put;
 use super::rule::{Line, TwoEnds};
+use super::take::Take;
 use std::alloc::{AllocError, Global};
 use std::sync::Arc;
 use thiserror::Error;

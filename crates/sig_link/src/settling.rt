@@ -2,8 +2,9 @@
 
 ghost use Rattle.sig_link.specs.Ends.{OfOneLink, IsSettled};
 
-use super::ends::{Put, Take};
+use super::put::Put;
 use super::rule::{OneHand, Whole};
+use super::take::Take;
 use std::sync::Wait;
 
 /// What a settled link still held.

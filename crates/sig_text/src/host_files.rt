@@ -1,9 +1,9 @@
 //! The files of the operating system.
 
-ghost use Rattle.std.specs.Prelude.{None};
+ghost use Rattle.std.specs.Prelude.{◌≤◌, None, IfOk, length};
 
 use super::files::{Begun, Files, ReadStep};
-use std::io::{ErrorKind, Read};
+use std::io::{self, ErrorKind, Read};
 use std::{fs, rt};
 
 /// The files of the operating system, by their paths. It tells nothing of what they hold, and counts
@@ -59,15 +59,58 @@ impl<'a, R: rt::Files> Files for HostFiles<'a, R> {
     }
 
     fn read(&mut self, piece: &mut [u8]) -> ReadStep {
-        match &mut self.file {
-            None => ReadStep::Got(0),
-            Some(file) => match file.read(piece) {
-                Ok(count) => ReadStep::Got(count),
-                Err(_) => {
-                    self.faults = self.faults.saturating_add(1);
-                    ReadStep::Failed
-                }
-            },
+        let Some(file) = &mut self.file else {
+            return ReadStep::Got(0);
+        };
+        match read_retrying(file, piece) {
+            Ok(count) => ReadStep::Got(count),
+            Err(_) => {
+                self.faults = self.faults.saturating_add(1);
+                ReadStep::Failed
+            }
         }
+    }
+}
+
+// One read, made again where a signal interrupts it.
+fn read_retrying<R: Read>(reader: &mut R, piece: &mut [u8]) -> io::Result<usize>
+    ensures { IfOk result (λ count. count ≤ length piece.new) }
+{
+    for _ in 0..u64::MAX {
+        match reader.read(piece) {
+            Err(error) if error.kind() == ErrorKind::Interrupted => {}
+            result => return result,
+        }
+    }
+    Err(io::Error::from(ErrorKind::Interrupted))
+}
+
+#[cfg(test)]
+mod tests {
+    use super::*;
+    use std::test::Fail;
+
+    // A reader that a signal interrupts so often before it gives two bytes.
+    #[derive(Drop)]
+    struct Interrupted {
+        left: u32,
+    }
+
+    impl Read for Interrupted {
+        fn read(&mut self, piece: &mut [u8]) -> io::Result<usize> {
+            if self.left > 0 {
+                self.left -= 1;
+                return Err(io::Error::from(ErrorKind::Interrupted));
+            }
+            Ok(piece.len().min(2))
+        }
+    }
+
+    #[test]
+    fn reads_again_after_a_signal(rt: HostRuntime) -> Result<(), Fail> {
+        let mut reader = Interrupted { left: 3 };
+        assert_eq!(rt; read_retrying(&mut reader, &mut [0; 4]).ok(), Some(2));
+        assert_eq!(rt; reader.left, 0);
+        Ok(())
     }
 }

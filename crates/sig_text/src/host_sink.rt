@@ -1,20 +1,18 @@
 //! A sink over a stream of the operating system.
 
-ghost use Rattle.std.specs.Prelude.{⊤};
+ghost use Rattle.std.specs.Prelude.{◌≤◌, ⊤, IfOk, length};
 
 use super::calls::MemAnswer;
 use super::sink::{Sink, WriteFault, Wrote};
 use std::alloc::Global;
-use std::io::{BufWriter, Write};
+use std::io::{self, BufWriter, ErrorKind, Write};
 
 /// How many bytes wait in the buffer at most.
 const BUFFER: usize = 65_536;
 
-/// How many bytes one write takes at most, so that the buffer is passed on half full or fuller.
-const PIECE: usize = 32_768;
-
-/// A sink over a stream, such as standard output. Bytes wait in a buffer, which is passed on in parts
-/// of 32 KiB or more, and the rest of it by a flush. It tells nothing of its bytes and counts faults.
+/// A sink over a stream, such as standard output. Bytes wait in a buffer, which is passed on when it
+/// is full and by a flush; where the sink is dropped after a fault, what still waits in the buffer is
+/// passed on once more. It tells nothing of its bytes and counts faults.
 #[derive(Drop)]
 pub struct HostSink<W: Write + Drop> {
     stream: BufWriter<W>,
@@ -28,7 +26,7 @@ impl<W: Write + Drop> HostSink<W> {
         match BufWriter::with_capacity(alloc, BUFFER, stream) {
             Ok(stream) => Ok(HostSink {
                 stream,
-                clean: true,
+                clean: false,
                 faults: 0,
             }),
             Err(_) => Err(MemAnswer::OutOfMemory),
@@ -45,8 +43,7 @@ impl<W: Write + Drop> Sink for HostSink<W> {
 
     fn write(&mut self, piece: &[u8]) -> Wrote {
         self.clean = false;
-        let count = piece.len().min(PIECE);
-        match self.stream.write(&piece[..count]) {
+        match write_retrying(&mut self.stream, piece) {
             Ok(taken) if taken > 0 || piece.is_empty() => Wrote::Took(taken),
             _ => {
                 self.faults = self.faults.saturating_add(1);
@@ -71,4 +68,53 @@ impl<W: Write + Drop> Sink for HostSink<W> {
     ghost took_nothing = { λ _. tt };
 
     ghost took_both = { λ _ _ _ _ _ _ _. tt };
+}
+
+// One write, made again where a signal interrupts it.
+fn write_retrying<W: Write>(writer: &mut W, piece: &[u8]) -> io::Result<usize>
+    ensures { IfOk result (λ count. count ≤ length piece.now) }
+{
+    for _ in 0..u64::MAX {
+        match writer.write(piece) {
+            Err(error) if error.kind() == ErrorKind::Interrupted => {}
+            result => return result,
+        }
+    }
+    Err(io::Error::from(ErrorKind::Interrupted))
+}
+
+#[cfg(test)]
+mod tests {
+    use super::*;
+    use std::test::Fail;
+
+    // A stream that a signal interrupts at every other call.
+    #[derive(Drop)]
+    struct Interrupted {
+        calls: u32,
+        taken: usize,
+    }
+
+    impl Write for Interrupted {
+        fn write(&mut self, piece: &[u8]) -> io::Result<usize> {
+            self.calls = self.calls.wrapping_add(1);
+            if self.calls % 2 == 1 {
+                return Err(io::Error::from(ErrorKind::Interrupted));
+            }
+            self.taken = self.taken.saturating_add(piece.len());
+            Ok(piece.len())
+        }
+
+        fn flush(&mut self) -> io::Result<()> {
+            Ok(())
+        }
+    }
+
+    #[test]
+    fn writes_again_after_a_signal(rt: HostRuntime) -> Result<(), Fail> {
+        let mut stream = Interrupted { calls: 0, taken: 0 };
+        assert_eq!(rt; write_retrying(&mut stream, b"four").ok(), Some(4));
+        assert_eq!(rt; (stream.calls, stream.taken), (2, 4));
+        Ok(())
+    }
 }

@@ -1,6 +1,6 @@
 //! A sink in memory, with room for so many bytes.
 
-ghost use Rattle.std.specs.Prelude.{◌≡◌, ◌↔◌, ◌++◌, ◌∷◌, [], ◌≤◌, ◌<◌, IfOk, OnOk, OnErr, IsTrue, true, is_err, length, min};
+ghost use Rattle.std.specs.Prelude.{◌≡◌, ◌↔◌, ◌++◌, ◌∷◌, [], ◌≤◌, ◌<◌, IfOk, OnOk, OnErr, IsTrue, false, is_err, length, min};
 ghost use Rattle.sig_text.specs.Calls.{NextFails, after_call};
 ghost use Rattle.sig_text.specs.Sink.{IfTook, TellsBytes, taken_of, write_failed};
 ghost use Rattle.sig_text.specs.MemSink.{Grew, Grew-nothing, Grew-both, WriteFails, room_left};
@@ -37,14 +37,14 @@ impl MemSink {
         ensures { IfOk result (λ sink. sink ≡ record {
           bytes = [];
           room = room;
-          clean = true;
+          clean = false;
           calls = record { made = 0; failing = []; faults = 0 };
         }) }
     {
         Ok(MemSink {
             bytes: Vec::with_capacity(alloc, room as usize)?,
             room: room as usize,
-            clean: true,
+            clean: false,
             calls: Calls::new(alloc),
         })
     }

@@ -164,3 +164,30 @@ fn reads_what_it_wrote(rt: HostRuntime) -> Result<(), Fail> {
     );
     Ok(())
 }
+
+#[test]
+fn keeps_nothing_of_an_earlier_file(rt: HostRuntime) -> Result<(), Fail> {
+    let alloc = rt.alloc();
+    let folder = env::temp_dir(&rt)?;
+    let id = process::id(rt.process());
+    let name = format!(in alloc; "{}/sig_text_earlier_{id}", folder.display())?;
+    let below = format!(in alloc; "{name}/below")?;
+    let none = format!(in alloc; "{name}_none")?;
+    fs::write(&rt, name.as_str(), b"earlier")?;
+    let mut files = HostFiles::new(&rt);
+
+    assert_eq!(rt; files.begin(&name), Begun::Ready);
+    assert_eq!(rt; files.begin(&none), Begun::Missing);
+    assert_eq!(rt; files.read(&mut [0]), ReadStep::Got(0));
+
+    // A file is no folder, so what is asked for below it fails and is not missing.
+    assert_eq!(rt; files.begin(&name), Begun::Ready);
+    assert_eq!(rt; files.begin(&below), Begun::Failed);
+    assert_eq!(rt; files.read(&mut [0]), ReadStep::Got(0));
+    assert_eq!(rt;
+        read_all(alloc, &mut files, &below, LONG),
+        Err(ReadAnswer::ReadFault)
+    );
+    fs::remove_file(&rt, name.as_str())?;
+    Ok(())
+}

@@ -6,6 +6,9 @@ mod Sums
 mod TakenPieces
 mod RunLength
 mod ProgramFile
-mod Runs
-mod Causes
 mod RunCauses
+mod Stages
+mod OneOutcome
+mod Loads
+mod RunClauses
+mod CommandWords

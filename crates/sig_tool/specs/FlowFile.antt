@@ -55,3 +55,7 @@ pub record IsFlowFile (names : List (List ℕ)) (bytes : List ℕ) (flows : List
   pub each_line : AllByRecursion (λ line. IsFlowLine names (words_of line)) (lines bytes)
   pub few : sum_by (λ line. value_count (words_of line)) (lines bytes) ≤ 4000000
   pub values : flows ≡ map (flow_in (lines bytes)) names
+
+-- the bytes are no flow file for inputs of these names
+abbrev pub IsNoFlowFile : List (List ℕ) → List ℕ → Type 0
+IsNoFlowFile names bytes = (flows : List (List ℤ)) → ¬ IsFlowFile names bytes flows

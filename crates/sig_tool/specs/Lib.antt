@@ -1,5 +1,13 @@
+pub mod Commands
 pub mod FlowFile
-pub mod Loaded
+pub mod Outcomes
+pub mod Reading
+pub mod Refusals
+pub mod RunEnd
 pub mod SmallRun
 pub mod TopCall
 pub mod Words
+pub use Rattle.sig_plan.specs.Small
+pub use Rattle.sig_text.specs.Counts
+pub use Rattle.sig_text.specs.Files
+pub use Rattle.sig_text.specs.Sink

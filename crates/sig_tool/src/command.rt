@@ -1,15 +1,17 @@
 //! The command `run`: from the names of two files to a status.
 
-ghost use Rattle.std.specs.Prelude.{◌≡◌, ◌≤◌, ◌⊎◌, ◌↔◌, ℕ, [], codes, IfOk, OnOk, OnErr, IfSome, IsTrue, length, vec_len};
+ghost use Rattle.std.specs.Prelude.{◌≡◌, ◌⊎◌, ℕ, IfOk, OnOk, OnErr, IfSome, IsTrue, length, vec_len};
 ghost use Rattle.sig_plan.specs.Small.{IsSmall, small_of};
-ghost use Rattle.sig_text.specs.Counts.{DidNotRise, Rose};
+ghost use Rattle.sig_text.specs.Counts.{Rose};
 ghost use Rattle.sig_text.specs.Sink.{TookPrefix};
 ghost use Rattle.sig_tool.specs.SmallRun.{IsCause, IsLength, text_of};
-ghost use Rattle.sig_tool.specs.TopCall.{BeginsRun, EndsRun, HoldRun, IsRefusedBy, RefusesFiles, Run, SaysLine, WritesRun, WroteRun, is_overflow, run_text, status_of};
+ghost use Rattle.sig_tool.specs.Commands.{Run};
+ghost use Rattle.sig_tool.specs.RunEnd.{end_status};
+ghost use Rattle.sig_tool.specs.TopCall.{HasBegun, IsDone, IsDue, IsRefusedBy, IsRefused, IsStatusOf, MayAnswer, OfOutcome, RunsWhole, SaysLine, write_line};
 
 use crate::flows::Flow;
-use crate::load::{FileAnswer, Loaded, Refusal, load};
-use crate::report::{say, say_end, say_refusal};
+use crate::load::{Loaded, load};
+use crate::report::{say_end, say_fault, say_refusal};
 use crate::run::{Cause, Ended, run};
 use sig_base::limits::INSTANTS_DEFAULT;
 use sig_plan::Straight;
@@ -36,43 +38,28 @@ fn run_out<S: Sink>(program: &Straight, flows: &[Flow], out: &mut S) -> Result<E
     Ok(ended)
 }
 
-/// The status of a refusal.
-fn status(refusal: Refusal) -> u8
-    ensures { result ≡ status_of refusal }
-{
-    match refusal {
-        Refusal::Program(FileAnswer::TooLong | FileAnswer::Refused) => 1,
-        Refusal::Flows(FileAnswer::TooLong | FileAnswer::Refused) => 4,
-        Refusal::Program(FileAnswer::Missing | FileAnswer::ReadFault) => 5,
-        Refusal::Flows(FileAnswer::Missing | FileAnswer::ReadFault) => 5,
-        Refusal::Program(FileAnswer::OutOfMemory) => 7,
-        Refusal::Flows(FileAnswer::OutOfMemory) => 7,
-    }
-}
-
 /// Runs what was loaded, and says on `err` how it ended.
 fn run_loaded<S: Sink, E: Sink>(loaded: &Loaded, out: &mut S, err: &mut E) -> u8
     requires small { IsSmall (small_of loaded.now.program) }
     requires count { vec_len loaded.now.flows ≡ vec_len loaded.now.program.inputs }
-    ensures numbers { EndsRun result ⊎ (result ≡ 6) }
-    ensures whole { EndsRun result → WritesRun S.took out.old out.new result
-        (small_of loaded.now.program) loaded.now.flows.items
-        (SaysLine E.took (E.faults err.old) (E.faults err.new) err.old err.new) }
-    ensures flushed { EndsRun result → IsTrue (S.clean out.new) }
+    ensures numbers { IsDone result ⊎ (result ≡ 6) }
+    ensures whole { IsDone result → RunsWhole (small_of loaded.now.program) loaded.now.flows.items result
+        (λ text. S.took out.old text out.new) (SaysLine E.took (E.faults err.old) (E.faults err.new) err.old err.new) }
+    ensures flushed { IsDone result → IsTrue (S.clean out.new) }
     ensures prefix { (n : ℕ) →
         IsLength (small_of loaded.now.program) loaded.now.flows.items INSTANTS_DEFAULT n →
         TookPrefix S.took out.old (text_of (small_of loaded.now.program) loaded.now.flows.items n) out.new }
     ensures failed { result ≡ 6 → Rose (S.faults out.old) (S.faults out.new) }
     ensures fault_line { result ≡ 6 → SaysLine E.took (E.faults err.old) (E.faults err.new) err.old err.new
-        (codes "error: write failed\n") }
+        write_line }
 {
     match run_out(&loaded.program, &loaded.flows, out) {
         Ok(ended) => {
             say_end(err, &loaded.program, ended);
             end_status(ended.cause)
         }
-        Err(WriteFault) => {
-            say(err, &[b"error: write failed\n"]);
+        Err(fault) => {
+            say_fault(err, fault);
             6
         }
     }
@@ -80,8 +67,7 @@ fn run_loaded<S: Sink, E: Sink>(loaded: &Loaded, out: &mut S, err: &mut E) -> u8
 
 /// The status of a run that came to its end.
 fn end_status(cause: Cause) -> u8
-    ensures ends { EndsRun result }
-    ensures overflow { (result ≡ 3) ↔ IsTrue (is_overflow cause) }
+    ensures { result ≡ end_status cause }
 {
     match cause {
         Cause::Limit | Cause::Exhausted(_) => 0,
@@ -98,29 +84,28 @@ pub fn run_command<F: Files, S: Sink, E: Sink>(
     out: &mut S,
     err: &mut E,
 ) -> u8
-    ensures numbers { BeginsRun result ⊎ RefusesFiles result }
-    ensures held { BeginsRun result →
-        IfSome (F.contents files.old) (λ held. HoldRun held program.now flows.now) }
-    ensures whole { EndsRun result → IfSome (F.contents files.old) (λ held.
-        WroteRun S.took out.old out.new result held program.now flows.now
-        (SaysLine E.took (E.faults err.old) (E.faults err.new) err.old err.new)) }
-    ensures flushed { EndsRun result → IsTrue (S.clean out.new) }
-    ensures prefix { IfSome (F.contents files.old) (λ held. (run : Run held program.now flows.now) →
-        TookPrefix S.took out.old (run_text run) out.new) }
-    ensures nothing { RefusesFiles result → S.took out.old [] out.new }
-    ensures refused { RefusesFiles result →
-        IsRefusedBy (F.contents files.old) (F.misses files.old) (F.misses files.new)
-        (F.faults files.old) (F.faults files.new) result program.now flows.now
+    ensures numbers { IsStatusOf (Run program.now flows.now) result }
+    ensures prefix { OfOutcome (F.contents files.old) (Run program.now flows.now) (λ o.
+        TookPrefix S.took out.old o.text out.new) }
+    ensures whole { IsDone result → IfSome (F.contents files.old) (λ held.
+        IsDue held (Run program.now flows.now) (F.at files.old) (F.at files.new) result (λ text line.
+        S.took out.old text out.new × SaysLine E.took (E.faults err.old) (E.faults err.new) err.old err.new line)) }
+    ensures flushed { IsDone result → IsTrue (S.clean out.new) }
+    ensures status { OfOutcome (F.contents files.old) (Run program.now flows.now) (λ o. MayAnswer o.status result
+        (Rose (F.faults files.old) (F.faults files.new)) (Rose (S.faults out.old) (S.faults out.new))) }
+    ensures refused { IsRefused result →
+        IsRefusedBy (Run program.now flows.now) (F.contents files.old) (F.at files.old) (F.at files.new)
+        (F.misses files.old) (F.misses files.new) (F.faults files.old) (F.faults files.new) result
         (SaysLine E.took (E.faults err.old) (E.faults err.new) err.old err.new) }
+    ensures untouched { IsRefused result → out.new ≡ out.old }
+    ensures begun { IfSome (F.contents files.old) (λ held.
+        HasBegun held (Run program.now flows.now) (F.at files.old) (F.at files.new)) }
     ensures failed { result ≡ 6 → Rose (S.faults out.old) (S.faults out.new) }
     ensures fault_line { result ≡ 6 → SaysLine E.took (E.faults err.old) (E.faults err.new) err.old err.new
-        (codes "error: write failed\n") }
+        write_line }
 {
     match load(alloc, files, program, flows) {
         Ok(loaded) => run_loaded(&loaded, out, err),
-        Err(refusal) => {
-            say_refusal(err, program, flows, refusal);
-            status(refusal)
-        }
+        Err(refusal) => say_refusal(alloc, err, refusal).status(),
     }
 }

@@ -1,8 +1,8 @@
 //! Flow files: one flow of integers per input, read line by line.
 
-ghost use Rattle.std.specs.Prelude.{◌≡◌, ℕ, List, ℤ, [], vec_len, slice_index_or, IfOk, IsErrOf, bytes_eq};
+ghost use Rattle.std.specs.Prelude.{◌≡◌, ℕ, [], vec_len, slice_index_or, IfOk, IsErrOf, bytes_eq};
 ghost use Rattle.std.specs.List.{IsDistinct};
-ghost use Rattle.sig_tool.specs.FlowFile.{IsFlowFile};
+ghost use Rattle.sig_tool.specs.FlowFile.{IsFlowFile, IsNoFlowFile};
 
 mod flow;
 mod integer;
@@ -21,8 +21,7 @@ use words::next_line;
 pub fn read_flows(alloc: Global, bytes: &[u8], inputs: &[Text]) -> Result<Vec<Flow>, FlowsAnswer>
     requires differ { IsDistinct bytes_eq inputs.now }
     ensures flows { IfOk result (λ flows. IsFlowFile inputs.now bytes.now flows.items) }
-    ensures not_flows { IsErrOf result FlowsAnswer.NotFlows →
-        (flows : List (List ℤ)) → ¬ IsFlowFile inputs.now bytes.now flows }
+    ensures not_flows { IsErrOf result FlowsAnswer.NotFlows → IsNoFlowFile inputs.now bytes.now }
 {
     let mut flows = empty_flows(alloc, inputs.len())?;
     let mut count = 0;

@@ -7,10 +7,11 @@ mod command;
 mod flows;
 mod load;
 mod pieces;
+mod refusal;
 mod report;
 mod run;
 mod top;
 mod words;
 
 pub use run::{Cause, one_end};
-pub use top::sig_main;
+pub use top::{one_outcome, sig_main};

@@ -1,17 +1,19 @@
 //! The one line on `err` that says how a command ended.
 
-ghost use Rattle.std.specs.Prelude.{◌≡◌, ◌<◌, [], flat_map, length, slice_index_or};
+ghost use Rattle.std.specs.Prelude.{◌≡◌, ◌<◌, ◌⊎◌, ◌++◌, [], codes, flat_map, length, slice_index_or};
 ghost use Rattle.sig_plan.specs.Small.{small_of};
-ghost use Rattle.sig_text.specs.Counts.{DidNotRise};
-ghost use Rattle.sig_tool.specs.TopCall.{IsOfProgram, SaysLine, end_line, operator_col, operator_line, refusal_line};
+ghost use Rattle.sig_tool.specs.Refusals.{line_of};
+ghost use Rattle.sig_tool.specs.RunEnd.{IsOfProgram, end_line, operator_col, operator_line};
+ghost use Rattle.sig_tool.specs.TopCall.{SaysLine, words_line, write_line};
 
-use crate::load::{FileAnswer, Refusal};
 use crate::pieces::put_pieces;
+use crate::refusal::Refusal;
 use crate::run::{Cause, Ended};
 use itoa::Buffer;
 use sig_base::Span;
 use sig_plan::Straight;
-use sig_text::Sink;
+use sig_text::{Sink, WriteFault};
+use std::alloc::{AllocError, Global};
 
 /// Appends the line that says what ended a run.
 pub fn say_end<E: Sink>(err: &mut E, program: &Straight, ended: Ended)
@@ -88,31 +90,36 @@ pub fn say<E: Sink>(err: &mut E, line: &[&[u8]])
     }
 }
 
-/// Appends the line that says why a command was refused.
-pub fn say_refusal<E: Sink>(err: &mut E, program: &str, flows: &str, refusal: Refusal)
-    ensures { SaysLine E.took (E.faults err.old) (E.faults err.new) err.old err.new
-        (refusal_line program.now flows.now refusal) }
+/// Appends the line of a write that failed.
+pub fn say_fault<E: Sink>(err: &mut E, fault: WriteFault)
+    ensures { SaysLine E.took (E.faults err.old) (E.faults err.new) err.old err.new write_line }
 {
-    let (name, answer) = match refusal {
-        Refusal::Program(FileAnswer::TooLong) => {
-            return say(err, &[b"error: program longer than 1048576 bytes\n"]);
+    let WriteFault = fault;
+    say(err, &[b"error: write failed\n"]);
+}
+
+/// Appends the line of words that are no command.
+pub fn say_words<E: Sink>(err: &mut E)
+    ensures { SaysLine E.took (E.faults err.old) (E.faults err.new) err.old err.new words_line }
+{
+    say(err, &[b"error: these words are not a command\n"]);
+}
+
+/// Appends the line of a refusal, and answers the refusal that was said: want of memory where there
+/// was none for the line.
+pub fn say_refusal<'a, E: Sink>(alloc: Global, err: &mut E, refusal: Refusal<'a>) -> Refusal<'a>
+    ensures said { SaysLine E.took (E.faults err.old) (E.faults err.new) err.old err.new
+        (line_of result ++ codes "\n") }
+    ensures same { (result ≡ refusal.entry) ⊎ (result ≡ Refusal.OutOfMemory) }
+{
+    match format!(in alloc; "{refusal}\n") {
+        Ok(line) => {
+            say(err, &[line.as_bytes()]);
+            refusal
         }
-        Refusal::Program(FileAnswer::Refused) => return say(err, &[b"error: not built yet\n"]),
-        Refusal::Program(answer) => (program, answer),
-        Refusal::Flows(answer) => (flows, answer),
-    };
-    match answer {
-        FileAnswer::Missing => say(err, &[b"error: ", name.as_bytes(), b": not found\n"]),
-        FileAnswer::ReadFault => say(err, &[b"error: ", name.as_bytes(), b": read failed\n"]),
-        FileAnswer::TooLong => say(
-            err,
-            &[
-                b"error: ",
-                name.as_bytes(),
-                b": longer than 67108864 bytes\n",
-            ],
-        ),
-        FileAnswer::Refused => say(err, &[b"error: ", name.as_bytes(), b": not a flow file\n"]),
-        FileAnswer::OutOfMemory => say(err, &[b"error: out of memory\n"]),
+        Err(AllocError) => {
+            say(err, &[b"error: out of memory\n"]);
+            Refusal::OutOfMemory
+        }
     }
 }

@@ -1,13 +1,16 @@
 //! The top call: from the words of a command line, files and sinks to a status.
 
-ghost use Rattle.std.specs.Prelude.{◌≡◌, ◌≤◌, ◌⊎◌, ◌↔◌, [], None, codes, IfSome, IsTrue};
-ghost use Rattle.sig_text.specs.Counts.{DidNotRise, Rose};
+ghost use Rattle.std.specs.Prelude.{◌≡◌, IfSome, IsTrue};
+ghost use Rattle.sig_text.specs.Counts.{Rose};
+ghost use Rattle.sig_text.specs.Files.{Contents};
 ghost use Rattle.sig_text.specs.Sink.{TookPrefix};
-ghost use Rattle.sig_tool.specs.TopCall.{AreRefusedFlows, BeginsNoRun, EndsRun, IsFileMissing, IsRefusedBy, IsRefusedProgram, OfRun, RefusesFiles, Run, SaysLine, WroteRun, run_text};
-ghost use Rattle.sig_tool.specs.Words.{run_files, texts};
+ghost use Rattle.sig_tool.specs.Commands.{Command};
+ghost use Rattle.sig_tool.specs.Outcomes.{ComesTo, Outcome};
+ghost use Rattle.sig_tool.specs.TopCall.{AreNoCommand, HasBegun, IsDone, IsDue, IsRefused, IsRefusedBy, IsStatus, IsStatusOf, MayAnswer, OfCommand, OfOutcome, SaysLine, words_line, write_line};
+ghost use Rattle.sig_tool.specs.Words.{texts};
 
 use crate::command::run_command;
-use crate::report::say;
+use crate::report::say_words;
 use crate::words::run_files;
 use sig_text::{Files, Gate, Sink};
 use std::alloc::Global;
@@ -37,60 +40,57 @@ pub fn sig_main<R: Threads + Wait + Sync, F: Files, S: Sink, E: Sink, G: Gate + 
     err: &mut E,
     _gate: &G,
 ) -> u8
-    ensures numbers { result ≤ 7 }
-    ensures words { (result ≡ 2) ↔ (run_files (texts words.now) ≡ None) }
+    // The statuses, and those of each command. 2 comes where the words are no command.
+    ensures numbers { IsStatus result }
+    ensures numbers_of { OfCommand (texts words.now) (λ c. IsStatusOf c result) }
+    ensures no_command { AreNoCommand (texts words.now) → result ≡ 2 }
 
-    // A run that came to its end wrote its whole text, and said what ended it.
-    ensures whole { EndsRun result → OfRun (F.contents files.old) (texts words.now) (λ held program flows.
-        WroteRun S.took out.old out.new result held program flows
-        (SaysLine E.took (E.faults err.old) (E.faults err.new) err.old err.new)) }
-    ensures flushed { EndsRun result → IsTrue (S.clean out.new) }
+    // Whatever the status, a prefix of the text that is due was appended.
+    ensures prefix { OfCommand (texts words.now) (λ c. OfOutcome (F.contents files.old) c (λ o.
+        TookPrefix S.took out.old o.text out.new)) }
 
-    // Whatever the status, a prefix of the text was appended.
-    ensures prefix { OfRun (F.contents files.old) (texts words.now) (λ held program flows.
-        (run : Run held program flows) → TookPrefix S.took out.old (run_text run) out.new) }
-    ensures nothing { BeginsNoRun result → S.took out.old [] out.new }
+    // A command that is done wrote all of it, and said what ended it.
+    ensures whole { IsDone result → OfCommand (texts words.now) (λ c. IfSome (F.contents files.old) (λ held.
+        IsDue held c (F.at files.old) (F.at files.new) result (λ text line.
+        S.took out.old text out.new × SaysLine E.took (E.faults err.old) (E.faults err.new) err.old err.new line))) }
+    ensures flushed { IsDone result → IsTrue (S.clean out.new) }
 
-    // 1 comes where the program is refused, unless reading failed or memory was wanting.
-    ensures program_only { result ≡ 1 → OfRun (F.contents files.old) (texts words.now)
-        (λ held program _. IsRefusedProgram held program) }
-    ensures program { OfRun (F.contents files.old) (texts words.now) (λ held program _.
-        IsRefusedProgram held program → (result ≡ 1) ⊎ ((result ≡ 5) ⊎ (result ≡ 7))) }
-
-    // So does 4 where the flow file is refused.
-    ensures flows_only { result ≡ 4 → OfRun (F.contents files.old) (texts words.now) AreRefusedFlows }
-    ensures flows { OfRun (F.contents files.old) (texts words.now) (λ held program flows.
-        AreRefusedFlows held program flows → (result ≡ 4) ⊎ ((result ≡ 5) ⊎ (result ≡ 7))) }
-
-    // 5 comes only where a count rose; where no call failed, only where a file is missing, and there.
-    ensures counted { result ≡ 5 →
-        Rose (F.misses files.old) (F.misses files.new) ⊎ Rose (F.faults files.old) (F.faults files.new) }
-    ensures missing_only { result ≡ 5 → DidNotRise (F.faults files.old) (F.faults files.new) →
-        OfRun (F.contents files.old) (texts words.now) IsFileMissing }
-    ensures missing { OfRun (F.contents files.old) (texts words.now) (λ held program flows.
-        IsFileMissing held program flows → (result ≡ 5) ⊎ (result ≡ 7)) }
-
-    // 6 comes only where the count of `out` rose.
+    // The status is the one that the told contents call for, if no call failed and memory was found.
+    ensures status { OfCommand (texts words.now) (λ c. OfOutcome (F.contents files.old) c (λ o.
+        MayAnswer o.status result (Rose (F.faults files.old) (F.faults files.new))
+        (Rose (S.faults out.old) (S.faults out.new)))) }
     ensures failed { result ≡ 6 → Rose (S.faults out.old) (S.faults out.new) }
 
-    // Each refusal has its line.
-    ensures words_line { result ≡ 2 → SaysLine E.took (E.faults err.old) (E.faults err.new) err.old err.new
-        (codes "error: these words are not a command\n") }
-    ensures fault_line { result ≡ 6 → SaysLine E.took (E.faults err.old) (E.faults err.new) err.old err.new
-        (codes "error: write failed\n") }
-    ensures refused { RefusesFiles result → IfSome (run_files (texts words.now)) (λ names.
-        IsRefusedBy (F.contents files.old) (F.misses files.old) (F.misses files.new)
-        (F.faults files.old) (F.faults files.new) result names.0 names.1
+    // A refused command says one line, with its cause, and leaves the output as it was.
+    ensures refused { IsRefused result → OfCommand (texts words.now) (λ c.
+        IsRefusedBy c (F.contents files.old) (F.at files.old) (F.at files.new)
+        (F.misses files.old) (F.misses files.new) (F.faults files.old) (F.faults files.new) result
         (SaysLine E.took (E.faults err.old) (E.faults err.new) err.old err.new)) }
+    ensures words_line { AreNoCommand (texts words.now) →
+        SaysLine E.took (E.faults err.old) (E.faults err.new) err.old err.new words_line }
+    ensures fault_line { result ≡ 6 →
+        SaysLine E.took (E.faults err.old) (E.faults err.new) err.old err.new write_line }
+    ensures untouched { IsRefused result → out.new ≡ out.old }
+
+    // No file is begun but those of the command.
+    ensures begun { OfCommand (texts words.now) (λ c. IfSome (F.contents files.old) (λ held.
+        HasBegun held c (F.at files.old) (F.at files.new))) }
+    ensures none_begun { AreNoCommand (texts words.now) → files.new ≡ files.old }
 {
     match run_files(words) {
         Some(names) => run_command(alloc, names.program, names.flows, files, out, err),
         None => {
-            say(err, &[b"error: these words are not a command\n"]);
+            say_words(err);
             2
         }
     }
 }
+
+/// A law: a command over told contents comes to one outcome at most.
+pub fn one_outcome()
+    ensures { (held : Contents) (c : Command) (one other : Outcome) →
+        ComesTo held c one → ComesTo held c other → one ≡ other }
+{}
 
 #[cfg(test)]
 mod tests;

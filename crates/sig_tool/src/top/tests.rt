@@ -1,9 +1,11 @@
 //! Runs of the top call over files and sinks in memory.
 
 use super::*;
-use sig_text::{Files, MemFiles, MemSink};
+use sig_text::{Begun, Files, HostFiles, HostSink, MemFiles, MemSink, WriteFault};
 use std::process::Abort;
+use std::sync::atomic::{AtomicU64, Ordering};
 use std::test::Fail;
+use std::{env, fs, process};
 
 const SUM: &[u8] = b"process SUM = (? integer A, B ! integer Y) Y := A + B;";
 
@@ -19,11 +21,24 @@ struct Wanted {
     status: u8,
 }
 
-/// A gate at which nobody waits.
-struct Open;
+/// A gate that counts how often it is passed.
+#[derive(Drop)]
+struct Counting {
+    passes: AtomicU64,
+}
 
-impl Gate for Open {
-    fn pass(&self, _cluster: u32, _instant: u32) {}
+impl Counting {
+    fn new() -> Counting {
+        Counting {
+            passes: AtomicU64::new(0),
+        }
+    }
+}
+
+impl Gate for Counting {
+    fn pass(&self, _cluster: u32, _instant: u32) {
+        self.passes.fetch_add(1, Ordering::SeqCst);
+    }
 }
 
 fn files_of(alloc: Global, program: &[u8], flows: &[u8]) -> Result<MemFiles, Fail> {
@@ -41,6 +56,32 @@ fn words_of(alloc: Global, line: &[&str]) -> Result<Vec<String>, Fail> {
     Ok(words)
 }
 
+/// The status of a call with these words, which passes no gate.
+fn answer<R: Threads + Wait + Sync + Abort + AllocGlobal, F: Files, S: Sink, E: Sink>(
+    rt: &R,
+    line: &[&str],
+    files: &mut F,
+    out: &mut S,
+    err: &mut E,
+) -> Result<u8, Fail> {
+    let words = words_of(rt.alloc(), line)?;
+    let gate = Counting::new();
+    let status = status_of(rt, &words, files, out, err, &gate);
+    assert_eq!(rt; gate.passes.load(Ordering::SeqCst), 0);
+    Ok(status)
+}
+
+fn status_of<R: Threads + Wait + Sync + AllocGlobal, F: Files, S: Sink, E: Sink>(
+    rt: &R,
+    words: &[String],
+    files: &mut F,
+    out: &mut S,
+    err: &mut E,
+    gate: &Counting,
+) -> u8 {
+    sig_main(rt, rt.alloc(), words, files, out, err, gate)
+}
+
 /// Calls with these words, and compares what it wrote and answered.
 fn call<R: Threads + Wait + Sync + Abort + AllocGlobal>(
     rt: &R,
@@ -49,9 +90,8 @@ fn call<R: Threads + Wait + Sync + Abort + AllocGlobal>(
     out: &mut MemSink,
     wanted: Wanted,
 ) -> Result<(), Fail> {
-    let words = words_of(rt.alloc(), line)?;
     let mut err = MemSink::new(rt.alloc(), 200)?;
-    let status = sig_main(rt, rt.alloc(), &words, files, out, &mut err, &Open);
+    let status = answer(rt, line, files, out, &mut err)?;
     assert!(rt; out.bytes() == wanted.out);
     assert_eq!(rt; err.bytes(), wanted.err);
     assert_eq!(rt; status, wanted.status);
@@ -121,18 +161,9 @@ fn ends_at_the_limit(rt: HostRuntime) -> Result<(), Fail> {
         flows.extend_from_slice(b" 0")?;
     }
     let mut files = files_of(rt.alloc(), TWICE, &flows)?;
-    let words = words_of(rt.alloc(), &["run", "P", "F"])?;
     let mut out = MemSink::new(rt.alloc(), 4_000_000)?;
     let mut err = MemSink::new(rt.alloc(), 200)?;
-    let status = sig_main(
-        &rt,
-        rt.alloc(),
-        &words,
-        &mut files,
-        &mut out,
-        &mut err,
-        &Open,
-    );
+    let status = answer(&rt, &["run", "P", "F"], &mut files, &mut out, &mut err)?;
     assert_eq!(rt; status, 0);
     assert_eq!(rt;
         err.bytes(),
@@ -286,4 +317,123 @@ fn tells_of_a_sink_that_fails(rt: HostRuntime) -> Result<(), Fail> {
         status: 6,
     };
     call(&rt, &["run", "P", "F"], &mut files, &mut sticky, unflushed)
+}
+
+#[test]
+fn names_the_flow_file_that_fails(rt: HostRuntime) -> Result<(), Fail> {
+    // The program is read by the calls 1 to 3, and the flow file by those from 4 on.
+    for (call, line) in [
+        (1, b"error: P: read failed\n".as_slice()),
+        (3, b"error: P: read failed\n"),
+        (4, b"error: F: read failed\n"),
+        (5, b"error: F: read failed\n"),
+        (6, b"error: F: read failed\n"),
+    ] {
+        let mut files = files_of(rt.alloc(), SUM, b"A 1\nB 1")?;
+        files.fail_at(call)?;
+        let mut out = MemSink::new(rt.alloc(), 100)?;
+        let wanted = Wanted {
+            out: b"",
+            err: line,
+            status: 5,
+        };
+        call_run(&rt, &mut files, &mut out, wanted)?;
+    }
+    Ok(())
+}
+
+/// Calls with the words of a run.
+fn call_run<R: Threads + Wait + Sync + Abort + AllocGlobal>(
+    rt: &R,
+    files: &mut MemFiles,
+    out: &mut MemSink,
+    wanted: Wanted,
+) -> Result<(), Fail> {
+    call(rt, &["run", "P", "F"], files, out, wanted)
+}
+
+#[test]
+fn asks_for_no_more_than_it_needs(rt: HostRuntime) -> Result<(), Fail> {
+    let words: &[&str] = &["run", "P"];
+    let run: &[&str] = &["run", "P", "F"];
+    let none: &[&str] = &["run", "Q", "F"];
+    let refused = b"error: these words are not a command\n".as_slice();
+    let not_built = b"error: not built yet\n".as_slice();
+    let missing = b"error: Q: not found\n".as_slice();
+    // The call behind the last one that is needed fails where it is made.
+    for (line, err, status, next) in [
+        (words, refused, 2, 1),
+        (run, not_built, 1, 4),
+        (none, missing, 5, 2),
+    ] {
+        let mut files = files_of(rt.alloc(), b"no program", b"A 1")?;
+        files.fail_at(next)?;
+        let mut out = MemSink::new(rt.alloc(), 100)?;
+        out.fail_at(1)?;
+        let wanted = Wanted {
+            out: b"",
+            err,
+            status,
+        };
+        call(&rt, line, &mut files, &mut out, wanted)?;
+        assert_eq!(rt; files.begin("P"), Begun::Failed);
+        assert_eq!(rt; out.flush(), Err(WriteFault));
+    }
+    Ok(())
+}
+
+#[test]
+fn keeps_its_status_where_err_fails(rt: HostRuntime) -> Result<(), Fail> {
+    let flows = b"A 1 2 3\nB 10 20".as_slice();
+    let least = b"A 9223372036854775807\nB 1".as_slice();
+    let run: &[&str] = &["run", "P", "F"];
+    for (line, program, flows, room, status) in [
+        (run, SUM, flows, 100, 0),
+        (run, SUM, least, 100, 3),
+        (run, b"no program".as_slice(), flows, 100, 1),
+        (&["--help"], SUM, flows, 100, 2),
+        (run, SUM, b"A x", 100, 4),
+        (&["run", "P", "Q"], SUM, flows, 100, 5),
+        (run, SUM, flows, 7, 6),
+    ] {
+        // An `err` without room fails at each write, and at the calls listed also at a flush.
+        let mut files = files_of(rt.alloc(), program, flows)?;
+        let mut out = MemSink::new(rt.alloc(), room)?;
+        let mut err = MemSink::new(rt.alloc(), 0)?;
+        for call in 1..20 {
+            err.fail_at(call)?;
+        }
+        let found = answer(&rt, line, &mut files, &mut out, &mut err)?;
+        assert_eq!(rt; found, status);
+        assert!(rt; err.bytes().is_empty());
+    }
+    Ok(())
+}
+
+#[test]
+fn runs_over_real_files(rt: HostRuntime) -> Result<(), Fail> {
+    let alloc = rt.alloc();
+    let folder = env::temp_dir(&rt)?;
+    let id = process::id(rt.process());
+    let base = format!(in alloc; "{}/sig_tool_{id}", folder.display())?;
+    let program = format!(in alloc; "{base}.sig")?;
+    let flows = format!(in alloc; "{base}.flows")?;
+    let out_name = format!(in alloc; "{base}.out")?;
+    let err_name = format!(in alloc; "{base}.err")?;
+    fs::write(&rt, program.as_str(), SUM)?;
+    fs::write(&rt, flows.as_str(), b"A 1 2 3\nB 10 20\n")?;
+    let mut files = HostFiles::new(&rt);
+    let mut out = HostSink::new(alloc, fs::create(&rt, out_name.as_str())?)?;
+    let mut err = HostSink::new(alloc, fs::create(&rt, err_name.as_str())?)?;
+    let words: &[&str] = &["run", &program, &flows];
+    let status = answer(&rt, words, &mut files, &mut out, &mut err)?;
+    assert_eq!(rt; status, 0);
+    let text = fs::read_to_string(&rt, out_name.as_str())?;
+    assert_eq!(rt; text.as_str(), "Y 11\nY 22\n");
+    let line = fs::read_to_string(&rt, err_name.as_str())?;
+    assert_eq!(rt; line.as_str(), "end: input B exhausted after 2 instants\n");
+    for name in [&program, &flows, &out_name, &err_name] {
+        fs::remove_file(&rt, name.as_str())?;
+    }
+    Ok(())
 }

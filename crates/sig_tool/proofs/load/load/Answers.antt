@@ -1,7 +1,18 @@
+use Rattle.std.proofs.lemmas.Result.{err_from_is_err_and}
 use Rattle.sig_plan.specs.Small.{small_of}
+use Rattle.sig_tool.proofs.Loads.{owes_flows}
 use Rattle.sig_tool.proofs.ProgramFile.{inputs_differ}
 use Rattle.sig_tool.proofs.load.load.Goals as goal
 
 pub load_flows-requires : goal.load_flows-requires
 load_flows-requires g c =
-    record { differ = rw c.deref.ensures.value (inputs_differ (small_of c.in-Ok.program) c.in-Ok.ensures.small) }
+    record { differ = rw c.deref.ensures.value (inputs_differ (small_of c.in_ok-program.program) c.in_ok-program.ensures.small) }
+
+pub returns-in_err-flows-clause-owed : goal.returns-in_err-flows-clause-owed
+returns-in_err-flows-clause-owed g c =
+    let p = err_from_is_err_and c.from_residual-in_err-flows.result c.from_residual-in_err-flows.ensures.1 in
+    rw (p.1, p.2) (owes_flows (g.F.Files.contents c.args.files.now) (g.F.Files.contents c.load_program.new.files) (g.F.Files.at c.args.files.now) (g.F.Files.at c.load_flows.new.files)
+    (g.F.Files.faults c.args.files.now) (g.F.Files.faults c.load_program.new.files) (g.F.Files.faults c.load_flows.new.files)
+    c.args.program.now c.args.flows.now (small_of c.in_ok-program.program) c.in_err-flows.field-0.0
+    c.in_ok-program.ensures.read.contents_stay c.in_ok-program.ensures.read.faults_stay c.in_ok-program.ensures.program
+    (rw c.deref.ensures.value at c.in_err-flows.ensures.refused) c.in_err-flows.ensures.read.told)

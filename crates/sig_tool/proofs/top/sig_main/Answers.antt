@@ -1,29 +1,27 @@
-use Rattle.std.proofs.Common.{◌≡◌, ◌⊎◌}
-use Rattle.sig_tool.specs.TopCall.{AreRefusedFlows, IsFileMissing, IsRefusedProgram}
+use Rattle.std.proofs.Common.{sym}
+use Rattle.sig_text.specs.Counts.{Rose}
+use Rattle.sig_tool.specs.Commands.{Run}
+use Rattle.sig_tool.specs.TopCall.{MayAnswer, OfOutcome}
 use Rattle.sig_tool.specs.Words.{texts}
-use Rattle.sig_tool.proofs.Causes.{flows_come, missing_comes, of_run, program_comes}
+use Rattle.sig_tool.proofs.CommandWords.{of_run}
 use Rattle.sig_tool.proofs.top.sig_main.Goals as goal
 
-pub returns-in-Some-clause-program : goal.returns-in-Some-clause-program
-returns-in-Some-clause-program g c =
-    of_run (g.F.Files.contents c.args.files.now) (texts c.args.words.now) c.in-Some.names.program.now c.in-Some.names.flows.now
-    (λ held program _. IsRefusedProgram held program → (c.run_command.result ≡ 1) ⊎ ((c.run_command.result ≡ 5) ⊎ (c.run_command.result ≡ 7)))
-    c.in-Some.ensures
-    (program_comes (g.F.Files.contents c.args.files.now) _ _ _ _ c.run_command.result c.in-Some.names.program.now c.in-Some.names.flows.now _
-    c.run_command.ensures.numbers c.run_command.ensures.held c.run_command.ensures.refused)
+pub returns-in-Some-clause-no_command : goal.returns-in-Some-clause-no_command
+returns-in-Some-clause-no_command g c = λ none.
+    absurd (none (Run c.in-Some.names.program.now c.in-Some.names.flows.now) (sym c.in-Some.ensures))
 
-pub returns-in-Some-clause-flows : goal.returns-in-Some-clause-flows
-returns-in-Some-clause-flows g c =
-    of_run (g.F.Files.contents c.args.files.now) (texts c.args.words.now) c.in-Some.names.program.now c.in-Some.names.flows.now
-    (λ held program flows. AreRefusedFlows held program flows → (c.run_command.result ≡ 4) ⊎ ((c.run_command.result ≡ 5) ⊎ (c.run_command.result ≡ 7)))
-    c.in-Some.ensures
-    (flows_come (g.F.Files.contents c.args.files.now) _ _ _ _ c.run_command.result c.in-Some.names.program.now c.in-Some.names.flows.now _
-    c.run_command.ensures.numbers c.run_command.ensures.held c.run_command.ensures.refused)
+pub returns-in-Some-clause-status : goal.returns-in-Some-clause-status
+returns-in-Some-clause-status g c =
+    of_run (texts c.args.words.now) c.in-Some.names.program.now c.in-Some.names.flows.now
+    (λ command. OfOutcome (g.F.Files.contents c.args.files.now) command (λ o. MayAnswer o.status c.run_command.result
+    (Rose (g.F.Files.faults c.args.files.now) (g.F.Files.faults c.run_command.new.files))
+    (Rose (g.S.Sink.faults c.args.out.now) (g.S.Sink.faults c.run_command.new.out))))
+    c.in-Some.ensures c.run_command.ensures.status
 
-pub returns-in-Some-clause-missing : goal.returns-in-Some-clause-missing
-returns-in-Some-clause-missing g c =
-    of_run (g.F.Files.contents c.args.files.now) (texts c.args.words.now) c.in-Some.names.program.now c.in-Some.names.flows.now
-    (λ held program flows. IsFileMissing held program flows → (c.run_command.result ≡ 5) ⊎ (c.run_command.result ≡ 7))
-    c.in-Some.ensures
-    (missing_comes (g.F.Files.contents c.args.files.now) _ _ _ _ c.run_command.result c.in-Some.names.program.now c.in-Some.names.flows.now _
-    c.run_command.ensures.numbers c.run_command.ensures.held c.run_command.ensures.refused)
+pub returns-in-Some-clause-words_line : goal.returns-in-Some-clause-words_line
+returns-in-Some-clause-words_line g c = λ none.
+    absurd (none (Run c.in-Some.names.program.now c.in-Some.names.flows.now) (sym c.in-Some.ensures))
+
+pub returns-in-Some-clause-none_begun : goal.returns-in-Some-clause-none_begun
+returns-in-Some-clause-none_begun g c = λ none.
+    absurd (none (Run c.in-Some.names.program.now c.in-Some.names.flows.now) (sym c.in-Some.ensures))

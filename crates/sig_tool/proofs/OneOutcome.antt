@@ -1,0 +1,89 @@
+-- A command over told contents comes to one outcome at most.
+use Rattle.std.proofs.Common.{◌≡◌, ◌∙◌, ℕ, ℤ, List, Option, Some, None, map, sym, refl, ap, subst}
+use Rattle.std.specs.Str.Lines.{lines}
+use Rattle.sig_plan.specs.Small.{Small, IsSmallProgram}
+use Rattle.sig_plan.specs.Words.{signs}
+use Rattle.sig_parse.specs.Reading.{small_at}
+use Rattle.sig_parse.specs.Splitting.{words_of}
+use Rattle.sig_parse.specs.declared.answer.SmallAnswer.TheVariants.{NotBuilt}
+use Rattle.sig_parse.proofs.SmallLemmas.{only_one, refused as says_none}
+use Rattle.sig_text.specs.Files.{Contents}
+use Rattle.sig_tool.specs.Commands.{Command, Run}
+use Rattle.sig_tool.specs.FlowFile.{IsFlowFile, flow_in}
+use Rattle.sig_tool.specs.Outcomes.{AtFile, AtFlows, AtProgram, ComesTo, FindsFlows, FindsProgram, Found, Good, Outcome, RefusesFlows, RefusesProgram, RunsTo, ended, long_file, long_program}
+use Rattle.sig_tool.proofs.RunCauses.{one_end}
+use Rattle.sig_tool.proofs.Stages.{OneAtMost, at_file_ends, one_at_file, one_found}
+
+-- a text says one straight program at most
+one_program : (text : List ℕ) (s t : Small) → IsSmallProgram text s → IsSmallProgram text t → s ≡ t
+one_program text s t first second = at (small_at (signs text) (words_of text)) refl
+  where
+    at : (reading : Option Small) → small_at (signs text) (words_of text) ≡ reading → s ≡ t
+    at None is = absurd (says_none text (signs text) (words_of text) NotBuilt refl refl is refl s first)
+    at (Some u) is =
+        only_one text (signs text) (words_of text) u refl refl is s first
+        ∙ sym (only_one text (signs text) (words_of text) u refl refl is t second)
+
+-- so a program file gives one thing at most
+pub one_program_file : (held : Option (List ℕ)) (f g : Found Small) → FindsProgram held f → FindsProgram held g → f ≡ g
+one_program_file held f g =
+    one_found held 1048576 IsSmallProgram RefusesProgram one_program
+    (λ bytes l m x y. x.says ∙ sym y.says)
+    (λ bytes s l says refuses. refuses.none s says)
+    f g
+
+-- and so does a flow file
+pub one_flow_file : (held : Option (List ℕ)) (name : List ℕ) (inputs : List (List ℕ)) (f g : Found (List (List ℤ))) → FindsFlows held name inputs f → FindsFlows held name inputs g → f ≡ g
+one_flow_file held name inputs f g =
+    one_found held 67108864 (IsFlowFile inputs) (RefusesFlows name inputs)
+    (λ bytes a b x y. x.values ∙ sym y.values)
+    (λ bytes l m x y. x.says ∙ sym y.says)
+    (λ bytes values l says refuses. refuses.none values says)
+    f g
+
+-- a run has one end
+pub one_run : (s : Small) (values : List (List ℤ)) (file : List ℕ) → OneAtMost (RunsTo s values file)
+one_run s values file o p x y =
+    let same = one_end s values 1000000 x.instants y.instants x.cause y.cause x.long y.long x.ends y.ends in
+    x.is ∙ ap (λ n. ended s values file n x.cause) same.0 ∙ ap (ended s values file y.instants) same.1 ∙ sym y.is
+
+one_at_flows : (held : Contents) (name : List ℕ) (inputs : List (List ℕ)) (Next : List (List ℤ) → Outcome → Type 0) → ((values : List (List ℤ)) → OneAtMost (Next values)) → OneAtMost (AtFlows held name inputs Next)
+one_at_flows held name inputs Next one o p x y =
+    one_at_file 4 (long_file name) name x.0 Next one o p x.2
+    (subst (λ found. AtFile 4 (long_file name) name found Next p) (one_flow_file (held name) name inputs y.0 x.0 y.1 x.1) y.2)
+
+one_at_program : (held : Contents) (name : List ℕ) (Next : Small → Outcome → Type 0) → ((s : Small) → OneAtMost (Next s)) → OneAtMost (AtProgram held name Next)
+one_at_program held name Next one o p x y =
+    one_at_file 1 long_program name x.0 Next one o p x.2
+    (subst (λ found. AtFile 1 long_program name found Next p) (one_program_file (held name) y.0 x.0 y.1 x.1) y.2)
+
+pub one_outcome : (held : Contents) (c : Command) (one other : Outcome) → ComesTo held c one → ComesTo held c other → one ≡ other
+one_outcome held (Run program flows) one other =
+    one_at_program held program (λ s. AtFlows held flows s.inputs (λ values. RunsTo s values flows))
+    (λ s. one_at_flows held flows s.inputs (λ values. RunsTo s values flows) (λ values. one_run s values flows))
+    one other
+
+-- ---- what a run comes to
+
+-- a program file that gives nothing ends it
+pub program_refuses : (held : Contents) (program flows : List ℕ) (o : Outcome) → AtProgram held program (λ _ _. ⊥) o → ComesTo held (Run program flows) o
+program_refuses held program flows o x =
+    (x.0, x.1, at_file_ends 1 long_program program x.0 (λ s. AtFlows held flows s.inputs (λ values. RunsTo s values flows)) o x.2)
+
+-- and so does a flow file, behind a program that is good
+pub flows_refuse : (held : Contents) (program flows : List ℕ) (s : Small) (o : Outcome) → FindsProgram (held program) (Good s) → AtFlows held flows s.inputs (λ _ _. ⊥) o → ComesTo held (Run program flows) o
+flows_refuse held program flows s o good x =
+    (Good s, good, (x.0, x.1, at_file_ends 4 (long_file flows) flows x.0 (λ values. RunsTo s values flows) o x.2))
+
+-- else it comes to the run's end
+pub runs : (held : Contents) (program flows : List ℕ) (s : Small) (values : List (List ℤ)) (o : Outcome) → FindsProgram (held program) (Good s) → FindsFlows (held flows) flows s.inputs (Good values) → RunsTo s values flows o → ComesTo held (Run program flows) o
+runs held program flows s values o good read x = (Good s, good, (Good values, read, x))
+
+-- and to nothing else
+pub runs_only : (held : Contents) (program flows : List ℕ) (s : Small) (values : List (List ℤ)) (o : Outcome) → FindsProgram (held program) (Good s) → FindsFlows (held flows) flows s.inputs (Good values) → ComesTo held (Run program flows) o → RunsTo s values flows o
+runs_only held program flows s values o good read x =
+    let y : AtFlows held flows s.inputs (λ v. RunsTo s v flows) o =
+    subst (λ found. AtFile 1 long_program program found (λ t. AtFlows held flows t.inputs (λ v. RunsTo t v flows)) o)
+    (one_program_file (held program) x.0 (Good s) x.1 good) x.2 in
+    subst (λ found. AtFile 4 (long_file flows) flows found (λ v. RunsTo s v flows) o)
+    (one_flow_file (held flows) flows s.inputs y.0 (Good values) y.1 read) y.2

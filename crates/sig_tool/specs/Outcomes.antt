@@ -1,0 +1,124 @@
+-- What a command comes to over told contents: what it writes, its status, and the line that it says.
+-- The refusals of a command are tried in the order in which the equations below stand.
+use Rattle.std.specs.Prelude.{◌≡◌, ◌≤◌, ◌++◌, ℕ, ℤ, List, [], length, codes, Option, Some, None}
+use Rattle.sig_base.specs.Lines.{refusal}
+use Rattle.sig_plan.specs.Small.{Small, IsSmallProgram}
+use Rattle.sig_text.specs.Files.{Contents}
+use Rattle.sig_text.specs.Read.{IsLongerThan}
+use Rattle.sig_tool.specs.Commands.{Command, Run}
+use Rattle.sig_tool.specs.FlowFile.{IsFlowFile, IsNoFlowFile}
+use Rattle.sig_tool.specs.SmallRun.{IsLength, IsCause, text_of}
+use Rattle.sig_tool.specs.RunEnd.{end_line, end_status}
+use Rattle.sig_tool.specs.declared.run.Cause.{Cause}
+
+-- what a command comes to: the text that is due on its output, its status, its line on standard error,
+-- and the file that it asked for last, if it asked for any
+pub record Outcome : Type 0 where
+  pub text : List ℕ
+  pub status : ℕ
+  pub line : List ℕ
+  pub file : Option (List ℕ)
+
+-- a refusal: nothing is due, and a line says why
+abbrev pub refused : ℕ → List ℕ → Option (List ℕ) → Outcome
+refused status text file = record { text = []; status = status; line = text ++ codes "\n"; file = file }
+
+-- ---- lines, without their newlines
+
+abbrev pub not_found : List ℕ → List ℕ
+not_found name = refusal (name ++ codes ": not found")
+
+abbrev pub read_failed : List ℕ → List ℕ
+read_failed name = refusal (name ++ codes ": read failed")
+
+abbrev pub long_program : List ℕ
+long_program = refusal (codes "program longer than 1048576 bytes")
+
+abbrev pub not_built : List ℕ
+not_built = refusal (codes "not built yet")
+
+abbrev pub long_file : List ℕ → List ℕ
+long_file name = refusal (name ++ codes ": longer than 67108864 bytes")
+
+abbrev pub no_flows : List ℕ → List ℕ
+no_flows name = refusal (name ++ codes ": not a flow file")
+
+-- ---- what a file gives
+
+-- a file is there with no more than so many bytes, of which a fact holds
+pub record Holds (held : Option (List ℕ)) (limit : ℕ) (Fact : List ℕ → Type 0) : Type 0 where
+  pub bytes : List ℕ
+  pub there : held ≡ Some bytes
+  pub short : length bytes ≤ limit
+  pub good : Fact bytes
+
+-- what a file gives: it is not there, it is too long, its bytes are refused with a line, or they say
+-- what is wanted
+pub data Found (A : Type 0) : Type 0 where
+  Absent : Found A
+  Long : Found A
+  Bad : List ℕ → Found A
+  Good : A → Found A
+
+abbrev pub Finds : {A : Type 0} → Option (List ℕ) → ℕ → (List ℕ → A → Type 0) → (List ℕ → List ℕ → Type 0) → Found A → Type 0
+Finds held limit Says Refuses Absent = held ≡ None
+Finds held limit Says Refuses Long = IsLongerThan held limit
+Finds held limit Says Refuses (Bad line) = Holds held limit (λ bytes. Refuses bytes line)
+Finds held limit Says Refuses (Good what) = Holds held limit (λ bytes. Says bytes what)
+
+-- a file that gives nothing ends the command, with this status where its bytes do not serve; else comes
+-- what follows
+abbrev pub AtFile : {A : Type 0} → ℕ → List ℕ → List ℕ → Found A → (A → Outcome → Type 0) → Outcome → Type 0
+AtFile status long name Absent Next o = o ≡ refused 5 (not_found name) (Some name)
+AtFile status long name Long Next o = o ≡ refused status long (Some name)
+AtFile status long name (Bad line) Next o = o ≡ refused status line (Some name)
+AtFile status long name (Good what) Next o = Next what o
+
+-- ---- the program file
+
+-- the bytes are refused as a program, with this line
+pub record RefusesProgram (bytes line : List ℕ) : Type 0 where
+  pub none : (s : Small) → ¬ IsSmallProgram bytes s
+  pub says : line ≡ not_built
+
+abbrev pub FindsProgram : Option (List ℕ) → Found Small → Type 0
+FindsProgram held found = Finds held 1048576 IsSmallProgram RefusesProgram found
+
+abbrev pub AtProgram : Contents → List ℕ → (Small → Outcome → Type 0) → Outcome → Type 0
+AtProgram held name Next o =
+    (found : Found Small) × FindsProgram (held name) found × AtFile 1 long_program name found Next o
+
+-- ---- the flow file
+
+-- the bytes are refused as flows of these inputs, with this line
+pub record RefusesFlows (name : List ℕ) (inputs : List (List ℕ)) (bytes line : List ℕ) : Type 0 where
+  pub none : IsNoFlowFile inputs bytes
+  pub says : line ≡ no_flows name
+
+abbrev pub FindsFlows : Option (List ℕ) → List ℕ → List (List ℕ) → Found (List (List ℤ)) → Type 0
+FindsFlows held name inputs found = Finds held 67108864 (IsFlowFile inputs) (RefusesFlows name inputs) found
+
+abbrev pub AtFlows : Contents → List ℕ → List (List ℕ) → (List (List ℤ) → Outcome → Type 0) → Outcome → Type 0
+AtFlows held name inputs Next o =
+    (found : Found (List (List ℤ))) × FindsFlows (held name) name inputs found
+    × AtFile 4 (long_file name) name found Next o
+
+-- ---- the commands
+
+-- the outcome of a run of n instants with this end
+abbrev pub ended : Small → List (List ℤ) → List ℕ → ℕ → Cause → Outcome
+ended s values file n cause =
+    record { text = text_of s values n; status = end_status cause; line = end_line s n cause; file = Some file }
+
+-- the run of a program over flows, for at most 1,000,000 instants
+pub record RunsTo (s : Small) (values : List (List ℤ)) (file : List ℕ) (o : Outcome) : Type 0 where
+  pub instants : ℕ
+  pub long : IsLength s values 1000000 instants
+  pub cause : Cause
+  pub ends : IsCause s values 1000000 instants cause
+  pub is : o ≡ ended s values file instants cause
+
+-- a command over told contents comes to this
+abbrev pub ComesTo : Contents → Command → Outcome → Type 0
+ComesTo held (Run program flows) o =
+    AtProgram held program (λ s. AtFlows held flows s.inputs (λ values. RunsTo s values flows)) o

@@ -1,0 +1,99 @@
+-- The refusals of a command whose files give nothing: their statuses, their lines and their causes.
+use Rattle.std.specs.Prelude.{◌≡◌, ◌⊎◌, ⊤, ℕ, List, codes, Option, Some, None, IfSome}
+use Rattle.sig_base.specs.Lines.{refusal}
+use Rattle.sig_text.specs.Counts.{Rose, DidNotRise}
+use Rattle.sig_text.specs.Files.{Contents, name_where_there}
+use Rattle.sig_tool.specs.Commands.{Command, Run}
+use Rattle.sig_tool.specs.Outcomes.{Outcome, ComesTo, refused, not_found, read_failed, long_program, not_built, long_file, no_flows}
+use Rattle.sig_tool.specs.declared.refusal.Refusal.{Refusal}
+use Rattle.sig_tool.specs.declared.refusal.Refusal.TheVariants.{Missing, ReadFault, LongProgram, NotBuilt, LongFile, NoFlows, OutOfMemory}
+
+abbrev pub out_of_memory : List ℕ
+out_of_memory = refusal (codes "out of memory")
+
+-- the status of a refusal
+abbrev pub status_of : Refusal → ℕ
+status_of (Missing name) = 5
+status_of (ReadFault name) = 5
+status_of LongProgram = 1
+status_of NotBuilt = 1
+status_of (LongFile name) = 4
+status_of (NoFlows name) = 4
+status_of OutOfMemory = 7
+
+-- the line of a refusal, without its newline
+abbrev pub line_of : Refusal → List ℕ
+line_of (Missing name) = not_found name.now
+line_of (ReadFault name) = read_failed name.now
+line_of LongProgram = long_program
+line_of NotBuilt = not_built
+line_of (LongFile name) = long_file name.now
+line_of (NoFlows name) = no_flows name.now
+line_of OutOfMemory = out_of_memory
+
+-- the outcome that a refusal is, behind the file that was asked for last
+abbrev pub outcome_of : Refusal → Option (List ℕ) → Outcome
+outcome_of r file = refused (status_of r) (line_of r) file
+
+-- a refusal that the contents alone decide, where no call failed between two counts of faults
+abbrev pub IsOwn : Refusal → ℕ → ℕ → Type 0
+IsOwn (Missing name) faults faults' = DidNotRise faults faults'
+IsOwn (ReadFault name) faults faults' = ⊥
+IsOwn LongProgram faults faults' = ⊤
+IsOwn NotBuilt faults faults' = ⊤
+IsOwn (LongFile name) faults faults' = ⊤
+IsOwn (NoFlows name) faults faults' = ⊤
+IsOwn OutOfMemory faults faults' = ⊥
+
+-- a file of which a cause is known is the one that was begun last, where that is told
+pub record IsLast (contents : Option Contents) (at : Option (List ℕ)) (Cause : Type 0) (name : List ℕ) : Type 0 where
+  pub cause : Cause
+  pub named : IfSome at (λ told. told ≡ name)
+  pub told : IfSome contents (λ held. at ≡ name_where_there held name)
+
+-- the cause of a refusal in the counts: misses rose where a file was not there, and faults where one
+-- was not read; the line names the file that was begun last
+abbrev pub HasCount : Option Contents → Option (List ℕ) → ℕ → ℕ → ℕ → ℕ → Refusal → Type 0
+HasCount contents at misses misses' faults faults' (Missing name) = IsLast contents at (Rose misses misses') name.now
+HasCount contents at misses misses' faults faults' (ReadFault name) = IsLast contents at (Rose faults faults') name.now
+HasCount contents at misses misses' faults faults' LongProgram = ⊤
+HasCount contents at misses misses' faults faults' NotBuilt = ⊤
+HasCount contents at misses misses' faults faults' (LongFile name) = ⊤
+HasCount contents at misses misses' faults faults' (NoFlows name) = ⊤
+HasCount contents at misses misses' faults faults' OutOfMemory = ⊤
+
+-- a refusal may be one of the program file of this name
+abbrev pub IsAboutProgram : List ℕ → Refusal → Type 0
+IsAboutProgram program (Missing name) = name.now ≡ program
+IsAboutProgram program (ReadFault name) = name.now ≡ program
+IsAboutProgram program LongProgram = ⊤
+IsAboutProgram program NotBuilt = ⊤
+IsAboutProgram program (LongFile name) = ⊥
+IsAboutProgram program (NoFlows name) = ⊥
+IsAboutProgram program OutOfMemory = ⊤
+
+-- a refusal may be one of the flow file of this name
+abbrev pub IsAboutFlows : List ℕ → Refusal → Type 0
+IsAboutFlows flows (Missing name) = name.now ≡ flows
+IsAboutFlows flows (ReadFault name) = name.now ≡ flows
+IsAboutFlows flows LongProgram = ⊥
+IsAboutFlows flows NotBuilt = ⊥
+IsAboutFlows flows (LongFile name) = name.now ≡ flows
+IsAboutFlows flows (NoFlows name) = name.now ≡ flows
+IsAboutFlows flows OutOfMemory = ⊤
+
+-- a refusal may be one of a command
+abbrev pub IsAbout : Command → Refusal → Type 0
+IsAbout (Run program flows) r = IsAboutProgram program r ⊎ IsAboutFlows flows r
+
+-- what is told of the file that was begun last, once a command has asked for this file last, or for none
+abbrev pub begun_after : Contents → Option (List ℕ) → Option (List ℕ) → Option (List ℕ)
+begun_after held before None = before
+begun_after held before (Some name) = name_where_there held name
+
+-- over told contents a command comes to this refusal, and the file that it asked for last is the one that
+-- was begun last
+pub record Owes (held : Contents) (c : Command) (before at : Option (List ℕ)) (r : Refusal) : Type 0 where
+  pub file : Option (List ℕ)
+  pub comes : ComesTo held c (outcome_of r file)
+  pub last : at ≡ begun_after held before file

@@ -1,0 +1,58 @@
+//! Why a command is refused, with the line that says so.
+
+ghost use Rattle.std.specs.Prelude.{◌≡◌, Some};
+
+use std::fmt;
+
+/// Why a command's files give nothing. It is shown as its line on standard error, without a newline.
+#[derive(Clone, Copy, Debug, PartialEq, Eq)]
+pub enum Refusal<'a> {
+    /// The file of this name is not there.
+    Missing(&'a str),
+    /// The file of this name cannot be read, or could not be read to its end.
+    ReadFault(&'a str),
+    /// The program file has too many bytes.
+    LongProgram,
+    /// The program is not of the small form.
+    NotBuilt,
+    /// The flow file of this name has too many bytes.
+    LongFile(&'a str),
+    /// The file of this name is no flow file for the program's inputs.
+    NoFlows(&'a str),
+    /// There is no memory for what the files say, or for the line that refuses them.
+    OutOfMemory,
+}
+
+impl Refusal<'_> {
+    ghost use Rattle.sig_tool.specs.Refusals.{status_of};
+
+    /// The status with which a refused command ends.
+    pub fn status(self) -> u8
+        ensures { result ≡ status_of self.entry }
+    {
+        match self {
+            Refusal::LongProgram | Refusal::NotBuilt => 1,
+            Refusal::LongFile(_) | Refusal::NoFlows(_) => 4,
+            Refusal::Missing(_) | Refusal::ReadFault(_) => 5,
+            Refusal::OutOfMemory => 7,
+        }
+    }
+}
+
+impl fmt::Display for Refusal<'_> {
+    ghost use Rattle.sig_tool.specs.Refusals.{line_of};
+
+    ghost output = { λ refusal. Some (line_of refusal) };
+
+    fn fmt<W: fmt::Write>(&self, f: &mut fmt::Formatter<W>) -> fmt::Result {
+        match self {
+            Refusal::Missing(name) => write!(f, "error: {name}: not found"),
+            Refusal::ReadFault(name) => write!(f, "error: {name}: read failed"),
+            Refusal::LongProgram => f.write_str("error: program longer than 1048576 bytes"),
+            Refusal::NotBuilt => f.write_str("error: not built yet"),
+            Refusal::LongFile(name) => write!(f, "error: {name}: longer than 67108864 bytes"),
+            Refusal::NoFlows(name) => write!(f, "error: {name}: not a flow file"),
+            Refusal::OutOfMemory => f.write_str("error: out of memory"),
+        }
+    }
+}
