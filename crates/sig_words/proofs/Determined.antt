@@ -1,9 +1,9 @@
 -- What the words of a command are read as.
-use Rattle.std.proofs.Common.{◌≡◌, ℕ, ◌≤◌, Bool, true, false, List, [], ◌∷◌, length, sym, ap, ◌∙◌, arith, inl, inr, Some}
+use Rattle.std.proofs.Common.{refl, ◌≡◌, ℕ, ◌≤◌, Bool, true, false, List, [], ◌∷◌, length, sym, ap, ◌∙◌, arith, inl, inr, Some}
 use Rattle.std.proofs.lemmas.Option.{same_Some}
 use Rattle.sig_words.specs.Readings.{Word, Reading, values_of, paces}
-use Rattle.sig_words.specs.Commands.{AreSettings, Gift, HasPlainWords, IsCommand, IsFlag, IsSetting, gift_of, options_of, settings_of, spelling, verb_of}
-use Rattle.sig_words.specs.Steps.{IsMadeWith, Said, gift_said, nothing, run}
+use Rattle.sig_words.specs.Commands.{AreSettings, OptionValues, HasPlainWords, IsCommand, IsFlag, IsSetting, option_values, options_of, settings_of, spelling, verb_of}
+use Rattle.sig_words.specs.Steps.{IsMadeWith, Said, said_values, nothing, run}
 use Rattle.sig_words.specs.declared.given.Next.TheVariants.{Any}
 use Rattle.sig_words.specs.declared.option.OptionName.TheVariants.{Workers, Capacity, Instants}
 use Rattle.sig_words.specs.declared.verb.Options.{Options}
@@ -26,7 +26,7 @@ one_flag : (has : Bool) (times : ℕ) (given : Bool) → IsFlag has times given 
 one_flag has times given (inl is) = omega (arith, is.0)
 one_flag has times given (inr is) = omega (arith, is.1)
 
-fits_nothing : (has : Options) (r : Reading) (s : Settings) → AreSettings has (gift_of r) s → Fits nothing r
+fits_nothing : (has : Options) (r : Reading) (s : Settings) → AreSettings has (option_values r) s → Fits nothing r
 fits_nothing has r s are = record {
   workers = one_value _ _ _ _ (values_of Workers r) s.workers are.workers;
   capacity = one_value _ _ _ _ (values_of Capacity r) s.capacity are.capacity;
@@ -35,10 +35,10 @@ fits_nothing has r s are = record {
 }
 
 -- what is read gives as much as the reading
-pub same_gift : (r : Reading) (after : Said) → Adds nothing r after → gift_said after ≡ gift_of r
-same_gift r after adds =
-    let whole : (a b c : List Word) (d : ℕ) → Gift = λ a b c d. record { workers = a; capacity = b; instants = c; paces = d } in
-    let said = gift_said after in
+pub same_values : (r : Reading) (after : Said) → Adds nothing r after → said_values after ≡ option_values r
+same_values r after adds =
+    let whole : (a b c : List Word) (d : ℕ) → OptionValues = λ a b c d. record { workers = a; capacity = b; instants = c; paces = d } in
+    let said = said_values after in
     let p : said.paces ≡ paces r = omega (arith, adds.paces) in
     ap (λ (x : List Word). whole x said.capacity said.instants said.paces) adds.workers
     ∙ ap (λ (x : List Word). whole (values_of Workers r) x said.instants said.paces) adds.capacity
@@ -51,7 +51,7 @@ pub record Determines (v : Verb) (after : List Word) (c : Command) : Type 0 wher
   pub said : Said
   pub runs : run Any after nothing ≡ Some said
   pub plain : HasPlainWords c said.plain
-  pub settings : AreSettings (options_of v) (gift_said said) (settings_of c)
+  pub settings : AreSettings (options_of v) (said_values said) (settings_of c)
 
 pub determined : (v : Verb) (words after : List Word) (c : Command) → words ≡ spelling v ∷ after → IsCommand words c → Determines v after c
 determined v words after c named is =
@@ -65,34 +65,46 @@ determined v words after c named is =
       said = read.after;
       runs = rw (← back, is.reads.whole) read.runs;
       plain = rw read.adds.plain is.plain;
-      settings = rw (same_gift is.reading read.after read.adds, ← same) is.settings;
+      settings = rw (same_values is.reading read.after read.adds, ← same) is.settings;
     }
 
 -- ---- from the reading to the command
 
 -- the command that was made of a verb, plain words and settings is the command of the words
 pub makes : (v : Verb) (words after : List Word) (said : Said) (s : Settings) (c : Command) → words ≡ spelling v ∷ after
-    → run Any after nothing ≡ Some said → AreSettings (options_of v) (gift_said said) s
+    → run Any after nothing ≡ Some said → AreSettings (options_of v) (said_values said) s
     → verb_of c ≡ v → HasPlainWords c said.plain → IsMadeWith s c → IsCommand words c
 makes v words after said s c named runs are same plain made =
     let read = sound Any after nothing said runs in
-    let gift = same_gift read.reading said read.adds in
+    let values = same_values read.reading said read.adds in
     record {
       after = after;
       named = rw same named;
       reading = read.reading;
       reads = read.reads;
       plain = rw read.adds.plain at plain;
-      settings = rw (← gift) (kept c s (gift_said said) (rw same are) made);
+      settings = rw (← values) (kept c s (said_values said) (rw same are) made);
     }
 
 -- and the words have no other
-pub only : (v : Verb) (words after : List Word) (said : Said) (s : Settings) (c d : Command) → words ≡ spelling v ∷ after
-    → run Any after nothing ≡ Some said → AreSettings (options_of v) (gift_said said) s
-    → verb_of c ≡ v → HasPlainWords c said.plain → IsMadeWith s c → IsCommand words d → c ≡ d
-only v words after said s c d named runs are same plain made other =
+pub only : (v : Verb) (words after : List Word) (said : Said) (c d : Command) → words ≡ spelling v ∷ after
+    → run Any after nothing ≡ Some said → verb_of c ≡ v → HasPlainWords c said.plain → AreSettings (options_of v) (said_values said) (settings_of c)
+    → IsCommand words d → c ≡ d
+only v words after said c d named runs same plain are other =
     let det = determined v words after d named other in
     let back : det.said ≡ said = same_Some det.said said (sym det.runs ∙ runs) in
-    let kept_settings = kept c s (gift_said said) (rw same are) made in
     command_same c d said.plain (same ∙ sym det.same_verb) plain (rw back at det.plain)
-    (settings_same (options_of v) (gift_said said) (settings_of c) (settings_of d) (rw same at kept_settings) (rw back at det.settings))
+    (settings_same (options_of v) (said_values said) (settings_of c) (settings_of d) are (rw back at det.settings))
+
+pub only_made : (v : Verb) (words after : List Word) (said : Said) (s : Settings) (c d : Command) → words ≡ spelling v ∷ after
+    → run Any after nothing ≡ Some said → AreSettings (options_of v) (said_values said) s
+    → verb_of c ≡ v → HasPlainWords c said.plain → IsMadeWith s c → IsCommand words d → c ≡ d
+only_made v words after said s c d named runs are same plain made other =
+    let settings = kept c s (said_values said) (rw same are) made in
+    only v words after said c d named runs same plain (rw same at settings) other
+
+-- words are at most one command
+pub one : (words : List Word) (c d : Command) → IsCommand words c → IsCommand words d → c ≡ d
+one words c d is other =
+    let det = determined (verb_of c) words is.after c is.named is in
+    only (verb_of c) words is.after det.said c d is.named det.runs refl det.plain det.settings other

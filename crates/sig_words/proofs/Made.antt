@@ -5,7 +5,7 @@ use Rattle.std.specs.Str.Parse.{digits_value}
 use Rattle.std.proofs.lemmas.Bool.{false≢true}
 use Rattle.sig_words.specs.Numbers.{IsNumberWithin}
 use Rattle.sig_words.specs.Readings.{Word}
-use Rattle.sig_words.specs.Commands.{AreSettings, AreSeedAndStages, Gift, HasPlainWords, IsFlag, IsSetting, options_of, settings_of, spelling, verb_of}
+use Rattle.sig_words.specs.Commands.{AreSettings, AreSeedAndStages, OptionValues, HasPlainWords, IsFlag, IsSetting, options_of, settings_of, spelling, verb_of}
 use Rattle.sig_words.specs.Steps.{IsMadeWith}
 use Rattle.sig_words.specs.declared.verb.Options.{Options}
 use Rattle.sig_words.specs.declared.verb.Verb.{Verb}
@@ -40,8 +40,8 @@ parts_same s t w k i p =
     ∙ ap (λ (x : ℕ). whole t.workers t.capacity x s.pace) i
     ∙ ap (λ (x : Bool). whole t.workers t.capacity t.instants x) p
 
-pub settings_same : (has : Options) (gift : Gift) (s t : Settings) → AreSettings has gift s → AreSettings has gift t → s ≡ t
-settings_same has gift s t a b =
+pub settings_same : (has : Options) (values : OptionValues) (s t : Settings) → AreSettings has values s → AreSettings has values t → s ≡ t
+settings_same has values s t a b =
     parts_same s t
     (setting_same _ _ _ _ _ s.workers t.workers a.workers b.workers)
     (setting_same _ _ _ _ _ s.capacity t.capacity a.capacity b.capacity)
@@ -53,48 +53,48 @@ no_flag times given (inl x) = inl (x.0, refl)
 no_flag times given (inr x) = absurd (false≢true x.0)
 
 -- settings of a command that has the flag at most, as those of the defaults with the flag
-pub kept : (c : Command) (s : Settings) (gift : Gift) → AreSettings (options_of (verb_of c)) gift s → IsMadeWith s c
-    → AreSettings (options_of (verb_of c)) gift (settings_of c)
-kept (Check program pace) s gift are made = record {
+pub kept : (c : Command) (s : Settings) (values : OptionValues) → AreSettings (options_of (verb_of c)) values s → IsMadeWith s c
+    → AreSettings (options_of (verb_of c)) values (settings_of c)
+kept (Check program pace) s values are made = record {
   workers = (are.workers.0, refl);
   capacity = (are.capacity.0, refl);
   instants = (are.instants.0, refl);
   pace = rw made are.pace;
 }
-kept (Print program) s gift are made = record {
+kept (Print program) s values are made = record {
   workers = (are.workers.0, refl);
   capacity = (are.capacity.0, refl);
   instants = (are.instants.0, refl);
   pace = no_flag _ _ are.pace;
 }
-kept (Tree program pace) s gift are made = record {
+kept (Tree program pace) s values are made = record {
   workers = (are.workers.0, refl);
   capacity = (are.capacity.0, refl);
   instants = (are.instants.0, refl);
   pace = rw made are.pace;
 }
-kept (Code program pace) s gift are made = record {
+kept (Code program pace) s values are made = record {
   workers = (are.workers.0, refl);
   capacity = (are.capacity.0, refl);
   instants = (are.instants.0, refl);
   pace = rw made are.pace;
 }
-kept (Run program flows settings) s gift are made = rw made are
-kept (Play program flows events settings) s gift are made = rw made are
-kept (Load seed stages settings) s gift are made = rw made are
-kept (Judge program trace) s gift are made = record {
+kept (Run program flows settings) s values are made = rw made are
+kept (Play program flows events settings) s values are made = rw made are
+kept (Load seed stages settings) s values are made = rw made are
+kept (Judge program trace) s values are made = record {
   workers = (are.workers.0, refl);
   capacity = (are.capacity.0, refl);
   instants = (are.instants.0, refl);
   pace = no_flag _ _ are.pace;
 }
-kept (Build program) s gift are made = record {
+kept (Build program) s values are made = record {
   workers = (are.workers.0, refl);
   capacity = (are.capacity.0, refl);
   instants = (are.instants.0, refl);
   pace = no_flag _ _ are.pace;
 }
-kept (Exec image flows settings) s gift are made = rw made are
+kept (Exec image flows settings) s values are made = rw made are
 
 -- ---- the command of a verb, plain words and settings
 

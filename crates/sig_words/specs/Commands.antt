@@ -116,15 +116,15 @@ IsSetting false low high default values n = (values ≡ []) × (n ≡ default)
 abbrev pub IsFlag : Bool → ℕ → Bool → Type 0
 IsFlag has times given = ((times ≡ 0) × (given ≡ false)) ⊎ ((has ≡ true) × (times ≡ 1) × (given ≡ true))
 
--- what a reading gives: the values of each option, and how often the flag stands there
-pub record Gift : Type 0 where
+-- the values of each option, and how often the flag stands there
+pub record OptionValues : Type 0 where
   pub workers : List Word
   pub capacity : List Word
   pub instants : List Word
   pub paces : ℕ
 
-abbrev pub gift_of : Reading → Gift
-gift_of r = record {
+abbrev pub option_values : Reading → OptionValues
+option_values r = record {
   workers = values_of Workers r;
   capacity = values_of Capacity r;
   instants = values_of Instants r;
@@ -132,11 +132,11 @@ gift_of r = record {
 }
 
 -- the settings are those that this gives to a command with these options
-pub record AreSettings (has : Options) (gift : Gift) (s : Settings) : Type 0 where
-  pub workers : IsSetting has.workers 0 WORKERS_MAX WORKERS_DEFAULT gift.workers s.workers
-  pub capacity : IsSetting has.capacity 1 CAPACITY_MAX CAPACITY_DEFAULT gift.capacity s.capacity
-  pub instants : IsSetting has.instants 1 INSTANTS_MAX INSTANTS_DEFAULT gift.instants s.instants
-  pub pace : IsFlag has.pace gift.paces s.pace
+pub record AreSettings (has : Options) (values : OptionValues) (s : Settings) : Type 0 where
+  pub workers : IsSetting has.workers 0 WORKERS_MAX WORKERS_DEFAULT values.workers s.workers
+  pub capacity : IsSetting has.capacity 1 CAPACITY_MAX CAPACITY_DEFAULT values.capacity s.capacity
+  pub instants : IsSetting has.instants 1 INSTANTS_MAX INSTANTS_DEFAULT values.instants s.instants
+  pub pace : IsFlag has.pace values.paces s.pace
 
 -- The words are this command: its name, and then words with a reading that gives the command's plain
 -- words and its settings.
@@ -146,4 +146,4 @@ pub record IsCommand (words : List Word) (command : Command) : Type 0 where
   pub reading : Reading
   pub reads : IsReading after reading
   pub plain : HasPlainWords command (plain_words reading)
-  pub settings : AreSettings (options_of (verb_of command)) (gift_of reading) (settings_of command)
+  pub settings : AreSettings (options_of (verb_of command)) (option_values reading) (settings_of command)

@@ -1,8 +1,9 @@
--- How the words after a command's name are read, one after another.
+-- How the words after a command's name are read, one after another. No public clause speaks of it: the
+-- definition is that of `Commands`, and that both agree is proved.
 use Rattle.std.specs.Prelude.{◌≡◌, ◌==◌, ⊤, Bool, true, false, List, [], ◌∷◌, ◌++◌, Option, None, Some, option_map, option_and_then, option_to_list, is_some, codes, bytes_eq, if◌then◌else◌, String, string_bytes, map}
 use Rattle.std.specs.Borrow.{Bor}
 use Rattle.std.specs.declared.alloc.Global.{Global}
-use Rattle.sig_words.specs.Commands.{Gift}
+use Rattle.sig_words.specs.Commands.{OptionValues}
 use Rattle.sig_words.specs.Readings.{Word, is_plain, name_of}
 use Rattle.sig_words.specs.declared.command.Settings.{Settings}
 use Rattle.sig_words.specs.declared.command.Command.{Command}
@@ -14,8 +15,8 @@ use Rattle.sig_words.specs.declared.option.OptionName.{OptionName}
 use Rattle.sig_words.specs.declared.option.OptionName.TheVariants.{Workers, Capacity, Instants}
 
 -- the texts behind references, and those of strings
-abbrev pub behind : List (Bor Word) → List Word
-behind = map (λ s. s.now)
+abbrev pub referents : List (Bor Word) → List Word
+referents = map (λ s. s.now)
 
 abbrev pub texts : List (String Global) → List Word
 texts = map string_bytes
@@ -33,15 +34,15 @@ nothing = record { plain = []; workers = None; capacity = None; instants = None;
 
 abbrev pub said_by : Given → Said
 said_by g = record {
-  plain = behind g.plain.items;
+  plain = referents g.plain.items;
   workers = option_map (λ s. s.now) g.workers;
   capacity = option_map (λ s. s.now) g.capacity;
   instants = option_map (λ s. s.now) g.instants;
   pace = g.pace;
 }
 
-abbrev pub gift_said : Said → Gift
-gift_said s = record {
+abbrev pub said_values : Said → OptionValues
+said_values s = record {
   workers = option_to_list s.workers;
   capacity = option_to_list s.capacity;
   instants = option_to_list s.instants;

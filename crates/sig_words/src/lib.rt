@@ -6,6 +6,7 @@
 mod answer;
 mod command;
 mod given;
+mod laws;
 mod number;
 mod option;
 mod plain;
@@ -15,6 +16,7 @@ mod verb;
 
 pub use answer::WordsAnswer;
 pub use command::{Command, Settings};
+pub use laws::one_command;
 pub use read::read_words;
 
 #[cfg(test)]

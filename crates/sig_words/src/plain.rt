@@ -3,7 +3,7 @@
 ghost use Rattle.std.specs.Prelude.{◌≡◌, ◌≢◌, ◌⊎◌, ◌∷◌, [], ℕ, IfOk, IfErr};
 ghost use Rattle.sig_words.specs.Commands.{AreSeedAndStages, HasPlainWords, verb_of};
 ghost use Rattle.sig_words.specs.Readings.{Word};
-ghost use Rattle.sig_words.specs.Steps.{IsMadeWith, behind};
+ghost use Rattle.sig_words.specs.Steps.{IsMadeWith, referents};
 ghost use Rattle.sig_words.specs.declared.command.Command.{Command};
 
 use crate::answer::WordsAnswer;
@@ -18,9 +18,9 @@ const STAGES_MAX: u64 = 12;
 
 /// One word.
 fn one(alloc: Global, words: &[&str]) -> Result<Text, WordsAnswer>
-    ensures ok { IfOk result (λ text. behind words.now ≡ text ∷ []) }
+    ensures ok { IfOk result (λ text. referents words.now ≡ text ∷ []) }
     ensures err { IfErr result (λ answer. (answer ≡ WordsAnswer.OutOfMemory)
-        ⊎ ((a : Word) → behind words.now ≢ a ∷ [])) }
+        ⊎ ((a : Word) → referents words.now ≢ a ∷ [])) }
 {
     let [first] = words else {
         return Err(WordsAnswer::Refused);
@@ -30,9 +30,9 @@ fn one(alloc: Global, words: &[&str]) -> Result<Text, WordsAnswer>
 
 /// Two words.
 fn two(alloc: Global, words: &[&str]) -> Result<(Text, Text), WordsAnswer>
-    ensures ok { IfOk result (λ texts. behind words.now ≡ texts.0 ∷ texts.1 ∷ []) }
+    ensures ok { IfOk result (λ texts. referents words.now ≡ texts.0 ∷ texts.1 ∷ []) }
     ensures err { IfErr result (λ answer. (answer ≡ WordsAnswer.OutOfMemory)
-        ⊎ ((a b : Word) → behind words.now ≢ a ∷ b ∷ [])) }
+        ⊎ ((a b : Word) → referents words.now ≢ a ∷ b ∷ [])) }
 {
     let [first, second] = words else {
         return Err(WordsAnswer::Refused);
@@ -44,9 +44,9 @@ fn two(alloc: Global, words: &[&str]) -> Result<(Text, Text), WordsAnswer>
 
 /// Three words.
 fn three(alloc: Global, words: &[&str]) -> Result<(Text, Text, Text), WordsAnswer>
-    ensures ok { IfOk result (λ texts. behind words.now ≡ texts.0 ∷ texts.1 ∷ texts.2 ∷ []) }
+    ensures ok { IfOk result (λ texts. referents words.now ≡ texts.0 ∷ texts.1 ∷ texts.2 ∷ []) }
     ensures err { IfErr result (λ answer. (answer ≡ WordsAnswer.OutOfMemory)
-        ⊎ ((a b c : Word) → behind words.now ≢ a ∷ b ∷ c ∷ [])) }
+        ⊎ ((a b c : Word) → referents words.now ≢ a ∷ b ∷ c ∷ [])) }
 {
     let [first, second, third] = words else {
         return Err(WordsAnswer::Refused);
@@ -59,9 +59,9 @@ fn three(alloc: Global, words: &[&str]) -> Result<(Text, Text, Text), WordsAnswe
 
 /// A seed and a number of stages.
 fn seed_and_stages(words: &[&str]) -> Result<(u64, u32), WordsAnswer>
-    ensures ok { IfOk result (λ numbers. AreSeedAndStages (behind words.now) numbers.0 numbers.1) }
+    ensures ok { IfOk result (λ numbers. AreSeedAndStages (referents words.now) numbers.0 numbers.1) }
     ensures err { IfErr result (λ answer. (answer ≡ WordsAnswer.Refused)
-        × ((seed stages : ℕ) → ¬ AreSeedAndStages (behind words.now) seed stages)) }
+        × ((seed stages : ℕ) → ¬ AreSeedAndStages (referents words.now) seed stages)) }
 {
     let [first, second] = words else {
         return Err(WordsAnswer::Refused);
@@ -82,10 +82,10 @@ pub fn command(
     settings: Settings,
 ) -> Result<Command, WordsAnswer>
     ensures verb { IfOk result (λ command. verb_of command ≡ verb) }
-    ensures plain { IfOk result (λ command. HasPlainWords command (behind plain.now)) }
+    ensures plain { IfOk result (λ command. HasPlainWords command (referents plain.now)) }
     ensures settings { IfOk result (IsMadeWith settings) }
     ensures err { IfErr result (λ answer. (answer ≡ WordsAnswer.OutOfMemory)
-        ⊎ ((command : Command) → verb_of command ≡ verb → ¬ HasPlainWords command (behind plain.now))) }
+        ⊎ ((command : Command) → verb_of command ≡ verb → ¬ HasPlainWords command (referents plain.now))) }
 {
     match verb {
         Verb::Check => Ok(Command::Check(one(alloc, plain)?, settings.pace)),

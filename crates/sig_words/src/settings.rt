@@ -2,7 +2,7 @@
 
 ghost use Rattle.std.specs.Prelude.{◌≡◌, ◌≤◌, ◌^◌, ◌<◌, ℕ, MatchResult, option_map, option_to_list};
 ghost use Rattle.sig_words.specs.Commands.{AreSettings, IsFlag, IsSetting};
-ghost use Rattle.sig_words.specs.Steps.{gift_said, said_by};
+ghost use Rattle.sig_words.specs.Steps.{said_values, said_by};
 ghost use Rattle.sig_words.specs.declared.command.Settings.{Settings};
 
 use crate::answer::WordsAnswer;
@@ -43,8 +43,8 @@ fn setting(has: bool, value: Option<&str>, limits: Limits) -> Result<u32, WordsA
 /// The settings that were given to a command with these options.
 pub fn settings(has: Options, given: &Given<'_>) -> Result<Settings, WordsAnswer>
     ensures { MatchResult result
-        (λ s. AreSettings has (gift_said (said_by given.now)) s)
-        (λ answer. (answer ≡ WordsAnswer.Refused) × ((s : Settings) → ¬ AreSettings has (gift_said (said_by given.now)) s)) }
+        (λ s. AreSettings has (said_values (said_by given.now)) s)
+        (λ answer. (answer ≡ WordsAnswer.Refused) × ((s : Settings) → ¬ AreSettings has (said_values (said_by given.now)) s)) }
 {
     let workers = Limits {
         least: 0,

@@ -10,7 +10,7 @@ use Rattle.sig_words.specs.Steps.{said_by, texts}
 use Rattle.sig_words.specs.declared.answer.WordsAnswer.{WordsAnswer}
 use Rattle.sig_words.specs.declared.command.Command.{Command}
 use Rattle.sig_words.specs.declared.verb.Verb.{Verb}
-use Rattle.sig_words.proofs.Determined.{determined, makes, only}
+use Rattle.sig_words.proofs.Determined.{determined, makes, only_made}
 use Rattle.sig_words.proofs.read.read_words.Goals as goal
 
 -- what holds of the command in an `Ok`, from three clauses on it
@@ -69,6 +69,6 @@ returns-clause-given c = λ d is.
     let det = determined c.in-Some-named.verb (texts c.args.words.now) (texts c.in-Some.after.now) d named is in
     let back = same_Some det.said (said_by c.in_ok-given.given) (sym det.runs ∙ c.in_ok-given.ensures.given) in
     on_both c.command.result _ _ _ _ _ _ c.command.ensures.verb c.command.ensures.plain c.command.ensures.settings c.command.ensures.err
-    (λ e verb plain made. only c.in-Some-named.verb (texts c.args.words.now) (texts c.in-Some.after.now) (said_by c.in_ok-given.given)
+    (λ e verb plain made. only_made c.in-Some-named.verb (texts c.args.words.now) (texts c.in-Some.after.now) (said_by c.in_ok-given.given)
     c.in_ok-settings.settings e d named c.in_ok-given.ensures.given are verb (rw c.deref.ensures.value at plain) made is)
     (λ answer err. elim err [ inl memory ↦ memory | inr none ↦ absurd (none d det.same_verb (rw c.deref.ensures.value (rw back at det.plain))) ])

@@ -1,0 +1,5 @@
+use Rattle.sig_words.proofs.Determined.{one}
+use Rattle.sig_words.proofs.laws.one_command.Goals as goal
+
+pub returns : goal.returns
+returns c = one
