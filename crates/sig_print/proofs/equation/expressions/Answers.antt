@@ -1,0 +1,9 @@
+use Rattle.sig_tree.specs.Levels.{default_level}
+use Rattle.sig_tree.specs.Syntax.{expression_of}
+use Rattle.sig_print.specs.Canonical.{expression_words}
+use Rattle.sig_print.proofs.Spaces.{then_words}
+use Rattle.sig_print.proofs.equation.expressions.Goals as goal
+
+pub returns-in_ok-expression-in-Some : goal.returns-in_ok-expression-in-Some
+returns-in_ok-expression-in-Some c = rw c.in-Some.ensures.cases.0 (then_words _ c.expression.new.words _ _ (expression_words default_level (expression_of c.in-Some.first.now)) _
+    c.in_ok-expression-in-Some.ensures c.further_expressions.ensures)

@@ -1,0 +1,16 @@
+use Rattle.std.proofs.Common.{[], ◌∷◌, codes, ◌≡◌, length, List, ◌++◌, refl}
+use Rattle.sig_print.specs.Canonical.{left_words, names_words}
+use Rattle.sig_print.specs.Words.{mark}
+use Rattle.sig_print.proofs.Spaces.{then_word, then_words, last_word}
+use Rattle.sig_print.proofs.equation.left_side.Goals as goal
+use Rattle.sig_tree.specs.declared.expr.Name.{Name as TreeName}
+
+several : (names : List TreeName) → (length names ≡ 1 → ⊥) → left_words names ≡ mark (codes "(") ∷ (names_words names ++ mark (codes ")") ∷ [])
+several [] h = refl
+several (n ∷ []) h = absurd (h refl)
+several (n ∷ m ∷ ns) h = refl
+
+pub returns-in_ok-names : goal.returns-in_ok-names
+returns-in_ok-names c = rw (several c.args.left.now c.if-left-eq1.false) (then_word _ c.word.new.self _ _ (mark (codes "(")) _ c.in_ok-word.ensures
+    (then_words _ c.names-else-left-eq1.new.words _ _ (names_words c.args.left.now) _ c.in_ok-names.ensures
+    (last_word _ _ _ (mark (codes ")")) c.word-else-left-eq1.ensures)))

@@ -1,0 +1,4 @@
+pub mod Canonical
+pub mod Levels
+pub mod Prints
+pub mod Words
