@@ -4,11 +4,13 @@
 mod answer;
 mod equation;
 mod expression;
+mod laws;
 mod level;
 mod process;
 mod words;
 
 pub use answer::PrintAnswer;
+pub use laws::{words_are_spelled, words_are_tokens};
 pub use process::print;
 
 #[cfg(test)]

@@ -1,0 +1,6 @@
+use Rattle.std.specs.List.{flat_map}
+use Rattle.sig_print.specs.Canonical.{process_words}
+use Rattle.sig_print.proofs.laws.words_are_tokens.Goals as goal
+
+pub returns : goal.returns
+returns c = λ text processes is. c.tokens_of_words.ensures.printed (flat_map process_words processes) (c.words_are_spelled.ensures text processes is)

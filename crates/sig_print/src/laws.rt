@@ -1,0 +1,30 @@
+//! Laws of the canonical text.
+
+ghost use Rattle.std.specs.Prelude.{◌≡◌, ℕ, List, [], ◌∷◌, ◌++◌, map};
+ghost use Rattle.std.specs.List.{AllByRecursion, flat_map};
+ghost use Rattle.sig_lex.specs.declared.token.Token.{Token};
+ghost use Rattle.sig_lex.specs.Lexemes.{IsPrintable, lexemes, the_end, word_of};
+ghost use Rattle.sig_lex.specs.Tokens.{AreTokens};
+ghost use Rattle.sig_tree.specs.Grammar.{IsText};
+ghost use Rattle.sig_tree.specs.Syntax.{ProcessModel};
+ghost use Rattle.sig_print.specs.Canonical.{canonical_text, process_words};
+
+use sig_lex::{each_token, tokens_of_words};
+
+/// A law: where a text is that of a program, each canonical word of the program is a token by itself.
+pub fn words_are_spelled()
+    ensures { (text : List ℕ) (processes : List ProcessModel) → IsText text processes →
+        AllByRecursion IsPrintable (flat_map process_words processes) }
+{
+    each_token();
+}
+
+/// A law: the tokens of the canonical text of such a program are its canonical words.
+pub fn words_are_tokens()
+    ensures { (text : List ℕ) (processes : List ProcessModel) → IsText text processes →
+        (tokens : List Token) × AreTokens (canonical_text processes) tokens
+        × (lexemes (canonical_text processes) tokens ≡ map word_of (flat_map process_words processes) ++ the_end ∷ []) }
+{
+    words_are_spelled();
+    tokens_of_words();
+}
