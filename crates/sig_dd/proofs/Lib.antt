@@ -3,7 +3,10 @@ pub mod Listed
 pub mod Canonical
 pub mod Growth
 pub mod Sides
-pub mod Steps
+pub mod Operands
+pub mod Easier
+pub mod Pairs
+pub mod Splits
 pub mod Kept
 pub mod Counts
 pub mod SameQuestion

@@ -1,4 +1,6 @@
 pub mod Diagram
 pub mod Nodes
+pub mod Operand
 pub mod Question
+pub mod Meets
 pub mod Support

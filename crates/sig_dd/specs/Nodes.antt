@@ -84,6 +84,11 @@ allowance vs = 2 ^ length vs - 1
 abbrev pub Implies : List Node → Ref → Ref → Type 0
 Implies nodes f g = (truths : List Bool) → IsTrue (test nodes f truths) → IsTrue (test nodes g truths)
 
+-- some truths make both true
+abbrev pub Overlap : List Node → Ref → Ref → Type 0
+Overlap nodes f g =
+    (truths : List Bool) × IsTrue (test nodes f truths) × IsTrue (test nodes g truths)
+
 -- the store is full: it holds exactly the n nodes that it was made for
 abbrev pub IsFull : StoreView → ℕ → Type 0
 IsFull s n = (s.made_for ≡ n) × (length s.nodes ≡ n)

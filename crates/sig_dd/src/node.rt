@@ -1,6 +1,6 @@
 //! References to functions, and nodes.
 
-ghost use Rattle.std.specs.Prelude.{if◌then◌else◌, ◌≡◌, ◌+◌, ◌^◌, ◌<◌};
+ghost use Rattle.std.specs.Prelude.{if◌then◌else◌, ◌≡◌, ◌⊎◌, ◌+◌, ◌^◌, ◌<◌};
 
 /// A reference to a function of one store. Two references of one store are equal exactly where
 /// their functions are.
@@ -26,6 +26,20 @@ impl Ref {
     pub(crate) const FALSE: Ref = Ref { number: 0 };
 
     pub(crate) const TRUE: Ref = Ref { number: 1 };
+
+    /// The constant function of this truth.
+    pub(crate) fn constant(truth: bool) -> Ref
+        ensures { result.number ≡ (if truth then 1 else 0) }
+    {
+        if truth { Ref::TRUE } else { Ref::FALSE }
+    }
+
+    /// The reference, but another one where it is this one.
+    pub(crate) fn unless(self, this: Ref, other: Ref) -> Ref
+        ensures { ((self ≡ this) × (result ≡ other)) ⊎ (result ≡ self) }
+    {
+        if self == this { other } else { self }
+    }
 
     /// The reference to the node at a place.
     pub(crate) fn to_node(place: usize) -> Ref

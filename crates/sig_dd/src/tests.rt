@@ -1,9 +1,11 @@
 //! The calls at small stores.
 
-ghost use Rattle.std.specs.Prelude.{◌<◌, ◌+◌, ◌↔◌, length, All, IsTrue, IfOk};
+ghost use Rattle.std.specs.Prelude.{◌≡◌, ◌<◌, ◌+◌, ◌↔◌, length, All, IsTrue, IfOk};
 ghost use Rattle.sig_dd.specs.Nodes.{Holds, IsStore};
 
-use crate::{DdAnswer, Ref, Store};
+use crate::{DdAnswer, Ref, Steps, Store};
+use std::marker::Brand;
+use std::sync::ledger::{Blank, Ledger};
 use std::test::Fail;
 
 fn all_below(variables: &[u32], count: usize) -> bool
@@ -13,12 +15,21 @@ fn all_below(variables: &[u32], count: usize) -> bool
 }
 
 /// The function's value, where the truths tell each of its variables.
-fn value(store: &Store, f: Ref, truths: &[bool]) -> Result<Option<bool>, DdAnswer>
-    requires { Holds store.now.nodes f }
+fn value<L: Ledger>(
+    store: &Store,
+    f: Ref,
+    truths: &[bool],
+    blank: Blank,
+) -> Result<Option<bool>, DdAnswer>
+    requires held { Holds store.now.nodes f }
+    requires name { blank.name ≡ L.name }
+    requires parts { blank.parts ≡ L.parts }
+    requires some { 0 < L.parts }
 {
     let variables = store.support(f)?;
     if all_below(variables.as_slice(), truths.len()) {
-        Ok(Some(store.eval(f, truths)))
+        let mut steps = Steps::<L>::new(blank);
+        Ok(Some(store.eval(f, truths, &mut steps)))
     } else {
         Ok(None)
     }
@@ -35,7 +46,10 @@ fn a_full_store_refuses(rt: HostRuntime) -> Result<(), Fail> {
     assert_eq!(rt; store.conj(b, a)?, both);
     assert_eq!(rt; store.disj(a, b), Err(DdAnswer::Budget(3)));
     assert_eq!(rt; store.len(), 3);
-    assert_eq!(rt; value(&store, both, &[true, true])?, Some(true));
+    assert_eq!(rt;
+        value::<Brand>(&store, both, &[true, true], Blank::new(1))?,
+        Some(true)
+    );
     Ok(())
 }
 
@@ -45,7 +59,10 @@ fn operations_answer(rt: HostRuntime) -> Result<(), Fail> {
     let a = store.variable(0)?;
     let b = store.variable(1)?;
     let either = store.disj(a, b)?;
-    assert_eq!(rt; value(&store, either, &[false, true])?, Some(true));
+    assert_eq!(rt;
+        value::<Brand>(&store, either, &[false, true], Blank::new(1))?,
+        Some(true)
+    );
     let both = store.conj(a, b)?;
     let never = store.constant(false);
     assert_eq!(rt; store.ite(a, b, never)?, both);
@@ -65,5 +82,21 @@ fn quantifiers_answer(rt: HostRuntime) -> Result<(), Fail> {
     assert!(rt; store.implies(both, a)?);
     let variables = store.support(both)?;
     assert_eq!(rt; variables.as_slice(), [0, 1].as_slice());
+    Ok(())
+}
+
+#[test]
+fn two_truths_answer(rt: HostRuntime) -> Result<(), Fail> {
+    let mut store = Store::new(rt.alloc(), 100)?;
+    let a = store.variable(0)?;
+    let b = store.variable(1)?;
+    let both = store.conj(a, b)?;
+    let not_a = store.negate(a)?;
+    let count = store.len();
+    assert!(rt; store.within(both, a)?);
+    assert!(rt; !store.within(a, both)?);
+    assert!(rt; store.overlap(a, b)?);
+    assert!(rt; !store.overlap(both, not_a)?);
+    assert_eq!(rt; store.len(), count);
     Ok(())
 }
