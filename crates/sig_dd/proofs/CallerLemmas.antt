@@ -44,7 +44,7 @@ IsRefOf-kept old new kept f r is = record {
 pub Spans-of : (nodes : List Node) (f : List Bool → Bool) (r : Ref) → IsRefOf nodes f r → (vs : List ℕ) → ((v : ℕ) → Depends f v → Contains vs v) → Spans nodes r vs
 Spans-of nodes f r is vs only v (ts, ne) = only v (ts, λ e. ne (is.function _ ∙ e ∙ sym (is.function _)))
 
-same_truth : (x y : Bool) → (x ≡ y) ⊎ (x ≢ y)
+pub same_truth : (x y : Bool) → (x ≡ y) ⊎ (x ≢ y)
 same_truth true true = inl refl
 same_truth true false = inr true≢false
 same_truth false true = inr false≢true

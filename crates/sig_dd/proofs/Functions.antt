@@ -124,7 +124,7 @@ Spans-append old new kept r held vs spans v (ts, ne) =
 pub test-kept : (old new : StoreView) → Keeps old new → (r : Ref) → Holds old.nodes r → (ts : List Bool) → test new.nodes r ts ≡ test old.nodes r ts
 test-kept old new kept r held ts = ap (λ ns. test ns r ts) kept.nodes ∙ test-append old.nodes kept.added r held ts
 
-fixed_twice : (nodes : List Node) (f : Ref) (v : ℕ) (x : Bool) (ts : List Bool) (a b : Bool) → test nodes f (with_truth (with_truth ts v a) v x) ≡ test nodes f (with_truth (with_truth ts v b) v x)
+pub fixed_twice : (nodes : List Node) (f : Ref) (v : ℕ) (x : Bool) (ts : List Bool) (a b : Bool) → test nodes f (with_truth (with_truth ts v a) v x) ≡ test nodes f (with_truth (with_truth ts v b) v x)
 fixed_twice nodes f v x ts a b = value_at-same (diagram nodes f) _ _ (λ w. elim (cases_eq w v) [
   | inl e ↦ rw e (truth_of-with_same (with_truth ts v a) v x ∙ sym (truth_of-with_same (with_truth ts v b) v x))
   | inr ne ↦ (truth_of-with_other (with_truth ts v a) v x w ne ∙ truth_of-with_other ts v a w ne)

@@ -11,6 +11,8 @@ pub mod Kept
 pub mod Counts
 pub mod SameQuestion
 pub mod Functions
+pub mod Adding
 pub mod Variables
 pub mod CallerLemmas
+pub mod Dependence
 pub mod Rows

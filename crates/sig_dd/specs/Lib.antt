@@ -3,4 +3,5 @@ pub mod Nodes
 pub mod Operand
 pub mod Question
 pub mod Meets
+pub mod Shares
 pub mod Support

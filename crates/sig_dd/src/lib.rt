@@ -16,7 +16,11 @@ mod store;
 mod support;
 
 pub use answer::DdAnswer;
-pub use laws::equal_functions_have_one_ref;
+pub use laws::{
+    a_store_may_be_shared, calls_add_up, equal_functions_have_one_ref,
+    fixed_variables_make_no_difference, functions_depend_on_their_parts, older_references_stay,
+    references_depend_as_their_functions,
+};
 pub use node::Ref;
 pub use steps::Steps;
 pub use store::Store;
