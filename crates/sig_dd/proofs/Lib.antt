@@ -8,6 +8,7 @@ pub mod Easier
 pub mod Pairs
 pub mod Splits
 pub mod Kept
+pub mod Cached
 pub mod Counts
 pub mod SameQuestion
 pub mod Functions

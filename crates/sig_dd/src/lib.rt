@@ -1,8 +1,10 @@
 //! Reduced ordered binary decision diagrams: a store in which each function of truths has one
-//! reference. It stands on `indexmap`: the place of a node in an `IndexSet` is its number.
+//! reference. It stands on `indexmap`, in which the place of a node in an `IndexSet` is its number, and on
+//! `lru`, which keeps the last answers of choices over many calls.
 #![tactic(auto)]
 
 mod answer;
+mod cache;
 mod eval;
 mod laws;
 mod meets;
