@@ -10,10 +10,10 @@ pub mod Splits
 pub mod Kept
 pub mod Cached
 pub mod Counts
-pub mod SameQuestion
 pub mod Functions
 pub mod Adding
 pub mod Variables
 pub mod CallerLemmas
 pub mod Dependence
+pub mod Trails
 pub mod Rows

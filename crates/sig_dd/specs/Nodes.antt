@@ -65,6 +65,7 @@ pub record IsStore (s : StoreView) : Type 0 where
 pub record Keeps (old new : StoreView) : Type 0 where
   pub added : List Node
   pub nodes : new.nodes ≡ old.nodes ++ added
+  pub grows : length old.nodes ≤ length new.nodes
   pub made_for : new.made_for ≡ old.made_for
 
 -- r is a reference of the store, and its function is f

@@ -1,6 +1,6 @@
 -- What calls may do to a store: how many nodes they add, and why they are refused.
 use Rattle.std.specs.Prelude.{ℕ, ◌+◌, ◌*◌, ◌<◌, ◌≤◌, List, [], ◌∷◌, Option, None, Some, IfSome, Result, Ok, Err, length, Contains}
-use Rattle.sig_dd.specs.Nodes.{StoreView, Spans, IsFull, allowance}
+use Rattle.sig_dd.specs.Nodes.{StoreView, Holds, Keeps, Spans, IsFull, allowance}
 use Rattle.sig_dd.specs.declared.answer.DdAnswer.{DdAnswer}
 use Rattle.sig_dd.specs.declared.answer.DdAnswer.TheVariants.{Budget, OutOfMemory}
 use Rattle.sig_dd.specs.declared.node.Ref.{Ref}
@@ -34,3 +34,15 @@ HasAll vs (u ∷ us) = Contains vs u × HasAll vs us
 -- calls of the operands fs and the variables us keep to their share, over every list that has the variables on which they depend
 pub record Shares (calls : ℕ) (fs : List Ref) (us : List ℕ) (old new : StoreView) (why : Option DdAnswer) : Type 0 where
   pub over : (vs : List ℕ) → SpanAll old.nodes fs vs → HasAll vs us → Share calls vs old new why
+
+-- the references are of the store
+abbrev pub HoldAll : List Node → List Ref → Type 0
+HoldAll nodes [] = Unit {0}
+HoldAll nodes (f ∷ fs) = Holds nodes f × HoldAll nodes fs
+
+-- so many calls over the variables vs, none of them refused, have led from one store to another, in which the references fs depend on these variables alone
+pub record Trail (calls : ℕ) (vs : List ℕ) (old new : StoreView) (fs : List Ref) : Type 0 where
+  pub kept : Keeps old new
+  pub share : Share calls vs old new None
+  pub held : HoldAll new.nodes fs
+  pub spans : SpanAll new.nodes fs vs

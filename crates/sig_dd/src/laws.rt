@@ -1,10 +1,10 @@
 //! What holds of every store, for the proofs of the crates above. Each law is over what contracts
 //! see of a store, and its function does nothing when it runs.
 
-ghost use Rattle.std.specs.Prelude.{◌≡◌, ◌↔◌, ◌||◌, ◌⊎◌, ◌+◌, ◌*◌, ◌≤◌, ℕ, Bool, true, false, List, Option, None, IsTrue, Contains, length, if◌then◌else◌};
+ghost use Rattle.std.specs.Prelude.{◌≡◌, ◌↔◌, ◌||◌, ◌⊎◌, ◌+◌, ◌*◌, ◌≤◌, ℕ, Bool, true, false, List, ◌∷◌, Option, None, IsTrue, Contains, length, if◌then◌else◌};
 ghost use Rattle.sig_dd.specs.Diagram.{truth_of, with_truth, Agree, Depends};
 ghost use Rattle.sig_dd.specs.Nodes.{allowance, test, Holds, IsRefOf, IsStore, Keeps, Spans, StoreView};
-ghost use Rattle.sig_dd.specs.Shares.{Share};
+ghost use Rattle.sig_dd.specs.Shares.{HasAll, HoldAll, Share, Shares, SpanAll, Trail};
 ghost use Rattle.sig_dd.specs.declared.answer.DdAnswer.{DdAnswer};
 ghost use Rattle.sig_dd.specs.declared.node.Node.{Node};
 ghost use Rattle.sig_dd.specs.declared.node.Ref.{Ref};
@@ -38,6 +38,21 @@ pub fn calls_add_up()
     ensures wider { (m n : ℕ) (vs ws : List ℕ) (s t : StoreView) (why : Option DdAnswer)
         → m * allowance vs ≤ n * allowance ws → Share m vs s t why → Share n ws s t why }
     ensures rises { (vs ws : List ℕ) → length vs ≤ length ws → allowance vs ≤ allowance ws }
+{}
+
+/// A law: calls in a row over the same variables lead on, one after another, and what they made
+/// depends on these variables alone; where the last one is refused, their share still bounds it.
+pub fn calls_lead_on()
+    ensures begins { (vs : List ℕ) (s : StoreView) (fs : List Ref)
+        → HoldAll s.nodes fs → SpanAll s.nodes fs vs → Trail 0 vs s s fs }
+    ensures next { (m n : ℕ) (vs : List ℕ) (r s t : StoreView) (fs gs : List Ref) (us : List ℕ)
+        → Trail m vs r s fs → Keeps s t → Shares n gs us s t None
+        → SpanAll s.nodes gs vs → HasAll vs us
+        → (f : Ref) → Holds t.nodes f → Spans t.nodes f vs → Trail (m + n) vs r t (f ∷ fs) }
+    ensures fails { (m n : ℕ) (vs : List ℕ) (r s t : StoreView) (fs gs : List Ref) (us : List ℕ)
+        (why : Option DdAnswer)
+        → Trail m vs r s fs → Shares n gs us s t why
+        → SpanAll s.nodes gs vs → HasAll vs us → Share (m + n) vs r t why }
 {}
 
 /// A law: a reference depends on what its function depends on, and a list that has more variables

@@ -125,6 +125,7 @@ impl Store {
         match self.nodes.get_index_of(&node) {
             Some(place) => Ok(Ref::to_node(place)),
             None if count < NUMBERS => Err(DdAnswer::Budget(self.made_for)),
+            // No number is left for the node, though the store was made for more of them.
             None => Err(DdAnswer::OutOfMemory),
         }
     }
