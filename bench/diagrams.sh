@@ -1,7 +1,8 @@
 #!/bin/sh
 # Builds the constraints of eight queens and a parity of 64 variables with sig_dd, and with BuDDy
-# (Debian's libbdd-dev) where that is installed, and prints nodes and times. It works in a folder
-# of its own and leaves nothing here. Needs rt, and for BuDDy a C compiler.
+# (Debian's libbdd-dev) where that is installed, and prints nodes and times; and with sig_dd alone
+# many small guards on one growing store, as a clock solver makes them. It works in a folder of its
+# own and leaves nothing here. Needs rt, and for BuDDy a C compiler.
 set -eu
 here=$(cd "$(dirname "$0")" && pwd)
 work=$(mktemp -d)
@@ -11,9 +12,9 @@ for part in src specs proofs; do
     mkdir -p "$work/crates/sig_dd"
     cp -r "$here/../crates/sig_dd/$part" "$work/crates/sig_dd/$part"
 done
-printf 'sig_dd: indexmap thiserror\ndd_bench: sig_dd anyhow\n' >"$work/crates.txt"
+printf 'sig_dd: indexmap lru thiserror\ndd_bench: sig_dd anyhow\n' >"$work/crates.txt"
 cp "$here/diagrams/program.txt" "$work/crates/dd_bench/src/main.rt"
-for name in rules row_has_one queens parity; do
+for name in rules row_has_one queens parity path; do
     mkdir -p "$work/crates/dd_bench/proofs/$name"
     cp "$here/diagrams/$name.invariants.txt" "$work/crates/dd_bench/proofs/$name/Invariants.antt"
 done

@@ -1,5 +1,5 @@
 -- What a proof above this crate cites: what stays as a store grows, and on what made functions depend.
-use Rattle.std.proofs.Common.{◌≡◌, ◌≢◌, ℕ, Bool, true, false, List, [], ◌++◌, ◌⊎◌, inl, inr, refl, sym, ◌∙◌, ap, subst, append_assoc, true≢false, Contains}
+use Rattle.std.proofs.Common.{◌≡◌, ◌≢◌, ℕ, Bool, true, false, List, [], ◌++◌, ◌⊎◌, inl, inr, refl, sym, ◌∙◌, ap, subst, append_assoc, arith, true≢false, Contains}
 use Rattle.std.proofs.lemmas.Bool.{false≢true}
 use Rattle.std.proofs.lemmas.List.{append-nil}
 use Rattle.sig_dd.specs.Diagram.{with_truth, Depends, Agree}
@@ -15,14 +15,18 @@ pub one_reference : (s : StoreView) → IsStore s → (f g : Ref) → Holds s.no
 one_reference s store f g hf hg same = one_ref s.nodes store.reduced f g hf hg same
 
 pub Keeps-itself : (s : StoreView) → Keeps s s
-Keeps-itself s = record { added = []; nodes = sym (append-nil s.nodes); made_for = refl }
+Keeps-itself s = record { added = []; nodes = sym (append-nil s.nodes); grows = omega arith; made_for = refl }
 
 pub Keeps-trans : (r s t : StoreView) → Keeps r s → Keeps s t → Keeps r t
-Keeps-trans r s t p q = record {
-  added = p.added ++ q.added;
-  nodes = q.nodes ∙ ap (λ ns. ns ++ q.added) p.nodes ∙ append_assoc r.nodes p.added q.added;
-  made_for = q.made_for ∙ p.made_for;
-}
+Keeps-trans r s t p q =
+    let a = p.grows in
+    let b = q.grows in
+    record {
+      added = p.added ++ q.added;
+      grows = omega arith;
+      nodes = q.nodes ∙ ap (λ ns. ns ++ q.added) p.nodes ∙ append_assoc r.nodes p.added q.added;
+      made_for = q.made_for ∙ p.made_for;
+    }
 
 module _ (old new : StoreView) (kept : Keeps old new) (r : Ref) (held : Holds old.nodes r) where
   pub Holds-kept : Holds new.nodes r
@@ -44,7 +48,7 @@ IsRefOf-kept old new kept f r is = record {
 pub Spans-of : (nodes : List Node) (f : List Bool → Bool) (r : Ref) → IsRefOf nodes f r → (vs : List ℕ) → ((v : ℕ) → Depends f v → Contains vs v) → Spans nodes r vs
 Spans-of nodes f r is vs only v (ts, ne) = only v (ts, λ e. ne (is.function _ ∙ e ∙ sym (is.function _)))
 
-same_truth : (x y : Bool) → (x ≡ y) ⊎ (x ≢ y)
+pub same_truth : (x y : Bool) → (x ≡ y) ⊎ (x ≢ y)
 same_truth true true = inl refl
 same_truth true false = inr true≢false
 same_truth false true = inr false≢true

@@ -1,5 +1,5 @@
 -- From the questions of the recursion to the functions of the calls.
-use Rattle.std.proofs.Common.{◌≡◌, ℕ, Bool, true, false, not, ◌&&◌, ◌||◌, List, inl, inr, Result, Ok, Err, IfOk, refl, sym, ◌∙◌, ap, subst, arith, if◌then◌else◌, Contains, IsTrue, true≢false}
+use Rattle.std.proofs.Common.{◌≡◌, ℕ, Bool, true, false, not, ◌&&◌, ◌||◌, List, inl, inr, Result, Ok, Err, IfOk, refl, sym, ◌∙◌, ap, subst, arith, cond, if◌then◌else◌, Contains, IsTrue, true≢false}
 use Rattle.sig_dd.specs.Diagram.{value_at, truth_of, with_truth, StartsFrom, Tests, Agree}
 use Rattle.sig_dd.specs.Nodes.{Holds, diagram, test, IsReduced, Keeps, StoreView, IsRefOf, IsChoice, Spans, Implies}
 use Rattle.sig_dd.specs.Question.{HoldsAll, asked, IsAnswer, TestsOnly}
@@ -43,6 +43,11 @@ test-false nodes r e ts = ap (λ d. value_at d ts) (diagram-false nodes r e)
 pub test-true : (nodes : List Node) (r : Ref) → r.number ≡ 1 → (ts : List Bool) → test nodes r ts ≡ true
 unfolding value_at
 test-true nodes r e ts = ap (λ d. value_at d ts) (diagram-true nodes r e)
+
+-- the constant of a truth
+pub IsRefOf-constant : (nodes : List Node) (x : Bool) (r : Ref) → r.number ≡ cond x 1 0 → IsRefOf nodes (λ ts. x) r
+IsRefOf-constant nodes true r e = record { holds = omega arith; function = λ ts. test-true nodes r e ts }
+IsRefOf-constant nodes false r e = record { holds = omega arith; function = λ ts. test-false nodes r e ts }
 
 itself : (b : Bool) → (if b then true else false) ≡ b
 itself true = refl
@@ -119,7 +124,7 @@ Spans-append old new kept r held vs spans v (ts, ne) =
 pub test-kept : (old new : StoreView) → Keeps old new → (r : Ref) → Holds old.nodes r → (ts : List Bool) → test new.nodes r ts ≡ test old.nodes r ts
 test-kept old new kept r held ts = ap (λ ns. test ns r ts) kept.nodes ∙ test-append old.nodes kept.added r held ts
 
-fixed_twice : (nodes : List Node) (f : Ref) (v : ℕ) (x : Bool) (ts : List Bool) (a b : Bool) → test nodes f (with_truth (with_truth ts v a) v x) ≡ test nodes f (with_truth (with_truth ts v b) v x)
+pub fixed_twice : (nodes : List Node) (f : Ref) (v : ℕ) (x : Bool) (ts : List Bool) (a b : Bool) → test nodes f (with_truth (with_truth ts v a) v x) ≡ test nodes f (with_truth (with_truth ts v b) v x)
 fixed_twice nodes f v x ts a b = value_at-same (diagram nodes f) _ _ (λ w. elim (cases_eq w v) [
   | inl e ↦ rw e (truth_of-with_same (with_truth ts v a) v x ∙ sym (truth_of-with_same (with_truth ts v b) v x))
   | inr ne ↦ (truth_of-with_other (with_truth ts v a) v x w ne ∙ truth_of-with_other ts v a w ne)

@@ -1,5 +1,5 @@
 -- What holds of references stays as nodes are added.
-use Rattle.std.proofs.Common.{◌≡◌, ℕ, suc, Bool, true, false, List, [], ◌++◌, inl, inr, Option, None, Some, IfSome, refl, sym, ◌∙◌, ap, subst, cond, if◌then◌else◌}
+use Rattle.std.proofs.Common.{◌≡◌, ℕ, suc, Bool, true, false, List, [], ◌++◌, inl, inr, Option, None, Some, IfSome, refl, sym, ◌∙◌, ap, subst, if◌then◌else◌}
 use Rattle.std.specs.HashMap.{HashMap, get}
 use Rattle.sig_dd.specs.Diagram.{value_at, truth_of, with_truth, StartsFrom, Tests}
 use Rattle.sig_dd.specs.Nodes.{Holds, diagram, test, IsChoice}
@@ -132,13 +132,3 @@ module _ (old mid hi new m1 m2 m3 : List Node) (e1 : mid ≡ old ++ m1) (e2 : hi
       subst (λ ns. IsAnswer ns q r) (sym new_is)
       (IsAnswer-split old m1 m2 m3 q s held split low high r low_at high_at
       (subst (λ ns. IsChoice (old ++ m1 ++ m2) ns s.variable low high r) new_is (subst (λ ns. IsChoice ns new s.variable low high r) hi_is choice)))
-
--- the table with one more answer
-pub IsTable-insert : {S : Type 0} (eq : Question → Question → Bool) → ((p q : Question) → eq p q ≡ true → p ≡ q) → (nodes : List Node) (old new : HashMap Question Ref S) (q : Question) (r : Ref)
-    → IsTable eq nodes old → HoldsAll nodes q → IsAnswer nodes q r → ((p : Question) → get eq new p ≡ cond (eq q p) (Some r) (get eq old p)) → IsTable eq nodes new
-IsTable-insert eq exact nodes old new q r table held answer updates p = by (eq q p) refl
-  where
-    by : (b : Bool) → eq q p ≡ b → IfSome (get eq new p) (λ r. HoldsAll nodes p × IsAnswer nodes p r)
-    by true e = subst (λ o. IfSome o (λ r. HoldsAll nodes p × IsAnswer nodes p r)) (sym (updates p ∙ ap (λ b. cond b (Some r) (get eq old p)) e))
-        (subst (λ p. HoldsAll nodes p × IsAnswer nodes p r) (exact q p e) (held, answer))
-    by false e = subst (λ o. IfSome o (λ r. HoldsAll nodes p × IsAnswer nodes p r)) (sym (updates p ∙ ap (λ b. cond b (Some r) (get eq old p)) e)) (table p)

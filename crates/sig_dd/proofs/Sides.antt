@@ -77,6 +77,10 @@ module _ (nodes : List Node) (reduced : IsReduced nodes) (r : Ref) (held : Holds
     | inr (i, n, p) ↦ let no : None ≡ Some n = is ∙ p.node in cc
   ]
 
+  -- a node's number is above those of the constants
+  pub node_numbered_at : (n : Node) → Some n ≡ node_of nodes r → 2 ≤ r.number
+  node_numbered_at n is = let (i, p) = names_node n is in let e = p.number in omega arith
+
   pub HasVariable-node : (n : Node) → Some n ≡ node_of nodes r → HasVariable nodes r n.variable
   HasVariable-node n is = subst (λ o. IsSomeAnd o (λ m. m.variable ≡ n.variable)) is refl
 

@@ -1,10 +1,10 @@
 -- The variables that a node's diagram tests, and sets of them.
-use Rattle.std.proofs.Common.{◌≡◌, ℕ, ◌<◌, Bool, true, false, cond, List, ◌⊎◌, inl, inr, None, Some, refl, sym, ◌∙◌, ap, subst, arith, IsTrue, Ordering, true≢false, eqb}
+use Rattle.std.proofs.Common.{◌≡◌, ℕ, suc, ◌<◌, Bool, true, false, cond, List, ◌⊎◌, inl, inr, None, Some, refl, sym, ◌∙◌, ap, subst, arith, IsTrue, Ordering, true≢false, eqb}
 use Rattle.std.specs.Ordering.{nat_cmp, is_eq}
 use Rattle.std.specs.declared.cmp.Ordering.TheVariants.{Less, Equal, Greater}
 use Rattle.std.specs.BTreeSet.{BTreeSet, contains}
 use Rattle.std.proofs.lemmas.Map.Lookups.{exact_unsigned}
-use Rattle.sig_dd.specs.Diagram.{Tests, Depends, value_at}
+use Rattle.sig_dd.specs.Diagram.{Diagram, Choice, Tests, Depends, truth_of, value_at, visited}
 use Rattle.sig_dd.specs.Nodes.{Holds, node_of, diagram, test, IsReduced}
 use Rattle.sig_dd.specs.declared.node.Ref.{Ref}
 use Rattle.sig_dd.specs.declared.node.Node.{Node}
@@ -57,6 +57,30 @@ constant_value nodes reduced r held is ts = elim (shape nodes reduced r held) [
   | inl (b, p) ↦ ap (λ m. eqb m 1) p.number ∙ elim b as (λ b. eqb (cond b 1 0) 1 ≡ b) [ true ↦ refl | false ↦ refl ] ∙ sym (ap (λ d. value_at d ts) p.diagram_is)
   | inr (i, n, p) ↦ let no : None ≡ Some n = is ∙ p.node in cc
 ]
+
+-- a walk meets no choice at a constant
+pub visited_constant : (nodes : List Node) → IsReduced nodes → (r : Ref) → Holds nodes r → None ≡ node_of nodes r → (ts : List Bool) → visited (diagram nodes r) ts ≡ 0
+unfolding visited
+visited_constant nodes reduced r held is ts = elim (shape nodes reduced r held) [
+  | inl (b, p) ↦ ap (λ d. visited d ts) p.diagram_is
+  | inr (i, n, p) ↦ let no : None ≡ Some n = is ∙ p.node in cc
+]
+
+visited_choice : (v : ℕ) (low high : Diagram) (ts : List Bool) (x : Bool) → truth_of ts v ≡ x → visited (Choice v low high) ts ≡ suc (cond x (visited high ts) (visited low ts))
+unfolding visited
+visited_choice v low high ts x e = ap (λ b. suc (cond b (visited high ts) (visited low ts))) e
+
+visited_side : (x : Bool) (ts : List Bool) (nodes : List Node) (low high c : Ref) → c ≡ cond x high low → cond x (visited (diagram nodes high) ts) (visited (diagram nodes low) ts) ≡ visited (diagram nodes c) ts
+visited_side true ts nodes low high c e = ap (λ r. visited (diagram nodes r) ts) (sym e)
+visited_side false ts nodes low high c e = ap (λ r. visited (diagram nodes r) ts) (sym e)
+
+-- and at a node one more than from its child on
+pub visited_child : (nodes : List Node) → IsReduced nodes → (r : Ref) → Holds nodes r → (n : Node) → Some n ≡ node_of nodes r → (x : Bool) (c : Ref) → c ≡ cond x n.high n.low → (ts : List Bool) → truth_of ts n.variable ≡ x
+    → visited (diagram nodes r) ts ≡ suc (visited (diagram nodes c) ts)
+visited_child nodes reduced r held n is x c e ts at =
+    let (i, p) = names_node nodes reduced r held n is in
+    ap (λ d. visited d ts) p.diagram_is ∙ visited_choice n.variable (diagram nodes n.low) (diagram nodes n.high) ts x at
+    ∙ ap suc (visited_side x ts nodes n.low n.high c e)
 
 equal_of : (o : Ordering) → is_eq o ≡ true → o ≡ Equal
 equal_of Less e = absurd (true≢false (sym e))

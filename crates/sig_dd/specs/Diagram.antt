@@ -17,6 +17,12 @@ value_at (Constant b) truths = b
 value_at (Choice v low high) truths =
     if truth_of truths v then value_at high truths else value_at low truths
 
+-- how many choices the walk by a list of truths meets
+unfoldable pub visited : Diagram → List Bool → ℕ
+visited (Constant b) truths = 0
+visited (Choice v low high) truths =
+    suc (if truth_of truths v then visited high truths else visited low truths)
+
 -- d tests the variable v
 unfoldable pub Tests : Diagram → ℕ → Type 0
 Tests (Constant b) v = ⊥

@@ -65,6 +65,7 @@ pub record IsStore (s : StoreView) : Type 0 where
 pub record Keeps (old new : StoreView) : Type 0 where
   pub added : List Node
   pub nodes : new.nodes ≡ old.nodes ++ added
+  pub grows : length old.nodes ≤ length new.nodes
   pub made_for : new.made_for ≡ old.made_for
 
 -- r is a reference of the store, and its function is f
@@ -83,6 +84,11 @@ allowance vs = 2 ^ length vs - 1
 -- where f is true, g is true
 abbrev pub Implies : List Node → Ref → Ref → Type 0
 Implies nodes f g = (truths : List Bool) → IsTrue (test nodes f truths) → IsTrue (test nodes g truths)
+
+-- some truths make both true
+abbrev pub Overlap : List Node → Ref → Ref → Type 0
+Overlap nodes f g =
+    (truths : List Bool) × IsTrue (test nodes f truths) × IsTrue (test nodes g truths)
 
 -- the store is full: it holds exactly the n nodes that it was made for
 abbrev pub IsFull : StoreView → ℕ → Type 0

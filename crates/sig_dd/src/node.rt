@@ -1,12 +1,12 @@
 //! References to functions, and nodes.
 
-ghost use Rattle.std.specs.Prelude.{if◌then◌else◌, ◌≡◌, ◌+◌, ◌^◌, ◌<◌};
+ghost use Rattle.std.specs.Prelude.{if◌then◌else◌, ◌≡◌, ◌⊎◌, ◌+◌, ◌^◌, ◌<◌};
 
 /// A reference to a function of one store. Two references of one store are equal exactly where
 /// their functions are.
 // 0 is the constant false, 1 the constant true, and i + 2 the node at the place i: so a node
 // takes 12 bytes.
-#[derive(Clone, Copy, Debug, PartialEq, Eq, Hash)]
+#[derive(Clone, Copy, Debug, PartialEq, Eq, PartialOrd, Ord, Hash)]
 pub struct Ref {
     pub(crate) number: u32,
 }
@@ -26,6 +26,20 @@ impl Ref {
     pub(crate) const FALSE: Ref = Ref { number: 0 };
 
     pub(crate) const TRUE: Ref = Ref { number: 1 };
+
+    /// The constant function of this truth.
+    pub(crate) fn constant(truth: bool) -> Ref
+        ensures { result.number ≡ (if truth then 1 else 0) }
+    {
+        if truth { Ref::TRUE } else { Ref::FALSE }
+    }
+
+    /// The reference, but another one where it is this one.
+    pub(crate) fn unless(self, this: Ref, other: Ref) -> Ref
+        ensures { ((self ≡ this) × (result ≡ other)) ⊎ (result ≡ self) }
+    {
+        if self == this { other } else { self }
+    }
 
     /// The reference to the node at a place.
     pub(crate) fn to_node(place: usize) -> Ref

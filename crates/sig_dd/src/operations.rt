@@ -1,9 +1,10 @@
 //! The calls that make functions of others.
 
-ghost use Rattle.std.specs.Prelude.{◌≡◌, ◌+◌, ◌*◌, ◌<◌, ◌≤◌, ◌&&◌, ◌||◌, ◌↔◌, not, ℕ, List, length, IfOk, IsTrue, true, false, Err, Contains, if◌then◌else◌};
+ghost use Rattle.std.specs.Prelude.{◌&&◌, ◌||◌, ◌↔◌, not, ℕ, List, [], ◌∷◌, IfOk, IsTrue, true, false, if◌then◌else◌};
 ghost use Rattle.sig_dd.specs.Diagram.{truth_of, with_truth};
-ghost use Rattle.sig_dd.specs.Nodes.{Holds, IsStore, Keeps, IsFull, IsRefOf, Spans, Implies, allowance, test};
+ghost use Rattle.sig_dd.specs.Nodes.{Holds, IsStore, Keeps, IsRefOf, Implies, test};
 ghost use Rattle.sig_dd.specs.Question.{HoldsAll, TestsOnly, asked};
+ghost use Rattle.sig_dd.specs.Shares.{refusal, Share, Shares};
 
 use crate::answer::DdAnswer;
 use crate::node::Ref;
@@ -19,12 +20,8 @@ impl Store {
         ensures store { IsStore self.new }
         ensures kept { Keeps self.old self.new }
         ensures value { IfOk result (IsRefOf self.new.nodes (asked self.old.nodes question)) }
-        ensures added { (vs : List ℕ) → TestsOnly self.old.nodes question vs
-            → length self.new.nodes ≤ length self.old.nodes + allowance vs }
-        ensures full { (n : ℕ) → result ≡ Err (DdAnswer.Budget n) → IsFull self.new n }
-        ensures budget { (n : ℕ) → result ≡ Err (DdAnswer.Budget n)
-            → (vs : List ℕ)
-            → TestsOnly self.old.nodes question vs → n < length self.old.nodes + allowance vs }
+        ensures spends { (vs : List ℕ) → TestsOnly self.old.nodes question vs
+            → Share 1 vs self.old self.new (refusal result) }
     {
         let mut table = HashMap::new(self.allocator());
         self.answer_in(&mut table, question)
@@ -35,9 +32,7 @@ impl Store {
         ensures store { IsStore self.new }
         ensures kept { Keeps self.old self.new }
         ensures value { IfOk result (IsRefOf self.new.nodes (λ truths. truth_of truths v)) }
-        ensures added { length self.new.nodes ≤ length self.old.nodes + 1 }
-        ensures full { (n : ℕ) → result ≡ Err (DdAnswer.Budget n) → IsFull self.new n }
-        ensures budget { (n : ℕ) → result ≡ Err (DdAnswer.Budget n) → n < length self.old.nodes + 1 }
+        ensures spends { Shares 1 [] (v ∷ []) self.old self.new (refusal result) }
     {
         self.node_for(v, Ref::FALSE, Ref::TRUE)
     }
@@ -52,14 +47,7 @@ impl Store {
         ensures value { IfOk result (IsRefOf self.new.nodes (λ truths.
             if test self.old.nodes f truths then test self.old.nodes g truths
             else test self.old.nodes h truths)) }
-        ensures added { (vs : List ℕ) → Spans self.old.nodes f vs → Spans self.old.nodes g vs
-            → Spans self.old.nodes h vs
-            → length self.new.nodes ≤ length self.old.nodes + allowance vs }
-        ensures full { (n : ℕ) → result ≡ Err (DdAnswer.Budget n) → IsFull self.new n }
-        ensures budget { (n : ℕ) → result ≡ Err (DdAnswer.Budget n)
-            → (vs : List ℕ) → Spans self.old.nodes f vs
-            → Spans self.old.nodes g vs → Spans self.old.nodes h vs
-            → n < length self.old.nodes + allowance vs }
+        ensures spends { Shares 1 (f ∷ g ∷ h ∷ []) [] self.old self.new (refusal result) }
     {
         self.answer(Question::Pick(f, g, h))
     }
@@ -72,12 +60,7 @@ impl Store {
         ensures kept { Keeps self.old self.new }
         ensures value { IfOk result (IsRefOf self.new.nodes (λ truths.
             test self.old.nodes f truths && test self.old.nodes g truths)) }
-        ensures added { (vs : List ℕ) → Spans self.old.nodes f vs → Spans self.old.nodes g vs
-            → length self.new.nodes ≤ length self.old.nodes + allowance vs }
-        ensures full { (n : ℕ) → result ≡ Err (DdAnswer.Budget n) → IsFull self.new n }
-        ensures budget { (n : ℕ) → result ≡ Err (DdAnswer.Budget n)
-            → (vs : List ℕ) → Spans self.old.nodes f vs
-            → Spans self.old.nodes g vs → n < length self.old.nodes + allowance vs }
+        ensures spends { Shares 1 (f ∷ g ∷ []) [] self.old self.new (refusal result) }
     {
         self.ite(f, g, Ref::FALSE)
     }
@@ -90,12 +73,7 @@ impl Store {
         ensures kept { Keeps self.old self.new }
         ensures value { IfOk result (IsRefOf self.new.nodes (λ truths.
             test self.old.nodes f truths || test self.old.nodes g truths)) }
-        ensures added { (vs : List ℕ) → Spans self.old.nodes f vs → Spans self.old.nodes g vs
-            → length self.new.nodes ≤ length self.old.nodes + allowance vs }
-        ensures full { (n : ℕ) → result ≡ Err (DdAnswer.Budget n) → IsFull self.new n }
-        ensures budget { (n : ℕ) → result ≡ Err (DdAnswer.Budget n)
-            → (vs : List ℕ) → Spans self.old.nodes f vs
-            → Spans self.old.nodes g vs → n < length self.old.nodes + allowance vs }
+        ensures spends { Shares 1 (f ∷ g ∷ []) [] self.old self.new (refusal result) }
     {
         self.ite(f, Ref::TRUE, g)
     }
@@ -107,12 +85,7 @@ impl Store {
         ensures kept { Keeps self.old self.new }
         ensures value { IfOk result (IsRefOf self.new.nodes (λ truths.
             not (test self.old.nodes f truths))) }
-        ensures added { (vs : List ℕ) → Spans self.old.nodes f vs
-            → length self.new.nodes ≤ length self.old.nodes + allowance vs }
-        ensures full { (n : ℕ) → result ≡ Err (DdAnswer.Budget n) → IsFull self.new n }
-        ensures budget { (n : ℕ) → result ≡ Err (DdAnswer.Budget n)
-            → (vs : List ℕ) → Spans self.old.nodes f vs
-            → n < length self.old.nodes + allowance vs }
+        ensures spends { Shares 1 (f ∷ []) [] self.old self.new (refusal result) }
     {
         self.ite(f, Ref::FALSE, Ref::TRUE)
     }
@@ -124,12 +97,7 @@ impl Store {
         ensures kept { Keeps self.old self.new }
         ensures value { IfOk result (IsRefOf self.new.nodes (λ truths.
             test self.old.nodes f (with_truth truths v truth))) }
-        ensures added { (vs : List ℕ) → Spans self.old.nodes f vs → Contains vs v
-            → length self.new.nodes ≤ length self.old.nodes + allowance vs }
-        ensures full { (n : ℕ) → result ≡ Err (DdAnswer.Budget n) → IsFull self.new n }
-        ensures budget { (n : ℕ) → result ≡ Err (DdAnswer.Budget n)
-            → (vs : List ℕ) → Spans self.old.nodes f vs
-            → Contains vs v → n < length self.old.nodes + allowance vs }
+        ensures spends { Shares 1 (f ∷ []) (v ∷ []) self.old self.new (refusal result) }
     {
         self.answer(Question::Fix(f, v, truth))
     }
@@ -142,12 +110,7 @@ impl Store {
         ensures value { IfOk result (IsRefOf self.new.nodes (λ truths.
             test self.old.nodes f (with_truth truths v false)
             || test self.old.nodes f (with_truth truths v true))) }
-        ensures added { (vs : List ℕ) → Spans self.old.nodes f vs → Contains vs v
-            → length self.new.nodes ≤ length self.old.nodes + 3 * allowance vs }
-        ensures full { (n : ℕ) → result ≡ Err (DdAnswer.Budget n) → IsFull self.new n }
-        ensures budget { (n : ℕ) → result ≡ Err (DdAnswer.Budget n)
-            → (vs : List ℕ) → Spans self.old.nodes f vs
-            → Contains vs v → n < length self.old.nodes + 3 * allowance vs }
+        ensures spends { Shares 3 (f ∷ []) (v ∷ []) self.old self.new (refusal result) }
     {
         let low = self.restrict(f, v, false)?;
         let high = self.restrict(f, v, true)?;
@@ -161,12 +124,7 @@ impl Store {
         ensures store { IsStore self.new }
         ensures kept { Keeps self.old self.new }
         ensures value { IfOk result (λ holds. IsTrue holds ↔ Implies self.old.nodes f g) }
-        ensures added { (vs : List ℕ) → Spans self.old.nodes f vs → Spans self.old.nodes g vs
-            → length self.new.nodes ≤ length self.old.nodes + allowance vs }
-        ensures full { (n : ℕ) → result ≡ Err (DdAnswer.Budget n) → IsFull self.new n }
-        ensures budget { (n : ℕ) → result ≡ Err (DdAnswer.Budget n)
-            → (vs : List ℕ) → Spans self.old.nodes f vs
-            → Spans self.old.nodes g vs → n < length self.old.nodes + allowance vs }
+        ensures spends { Shares 1 (f ∷ g ∷ []) [] self.old self.new (refusal result) }
     {
         Ok(self.ite(f, g, Ref::TRUE)? == Ref::TRUE)
     }

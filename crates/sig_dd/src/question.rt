@@ -1,11 +1,12 @@
 //! What the recursion below the calls asks for, and one step of it.
 
-ghost use Rattle.std.specs.Prelude.{◌≡◌, ◌≤◌, ◌⊎◌, suc};
-ghost use Rattle.sig_dd.specs.Diagram.{StartsFrom};
-ghost use Rattle.sig_dd.specs.Nodes.{Holds, IsStore, diagram};
-ghost use Rattle.sig_dd.specs.Question.{HasVariable, IsSide, HoldsAll, AllStartFrom, SomeHas, IsHalf, IsStep};
+ghost use Rattle.std.specs.Prelude.{◌≡◌};
+ghost use Rattle.sig_dd.specs.Nodes.{IsStore};
+ghost use Rattle.sig_dd.specs.Operand.{side_of};
+ghost use Rattle.sig_dd.specs.Question.{HoldsAll, IsStep};
 
-use crate::node::{Node, Ref};
+use crate::node::Ref;
+use crate::operand::Operand;
 use crate::store::Store;
 
 /// A function that is asked for.
@@ -33,66 +34,53 @@ pub(crate) enum Step {
     Open(Split),
 }
 
+/// What a choice asks where the variable, the first one that it tests, has the truth.
+fn pick_side(
+    first: &Operand,
+    second: &Operand,
+    third: &Operand,
+    variable: u32,
+    truth: bool,
+) -> Question
+    ensures { result ≡ Question.Pick
+        (side_of first.now.node first.now.reference variable truth)
+        (side_of second.now.node second.now.reference variable truth)
+        (side_of third.now.node third.now.reference variable truth) }
+{
+    Question::Pick(
+        first.side(variable, truth),
+        second.side(variable, truth),
+        third.side(variable, truth),
+    )
+}
+
 impl Store {
-    /// The earlier one of a variable and the reference's own.
-    fn earlier(&self, variable: u32, r: Ref) -> u32
-        requires { Holds self.now.nodes r }
-        ensures at_most { result ≤ variable }
-        ensures starts { StartsFrom result (diagram self.now.nodes r) }
-        ensures one_of { (result ≡ variable) ⊎ HasVariable self.now.nodes r result }
-    {
-        match self.node(r) {
-            Some(n) if n.variable < variable => n.variable,
-            _ => variable,
-        }
-    }
-
-    /// The function where the variable, before which it tests none, has the truth.
-    fn side(&self, r: Ref, variable: u32, truth: bool) -> Ref
-        requires held { Holds self.now.nodes r }
-        requires starts { StartsFrom variable (diagram self.now.nodes r) }
-        ensures { IsSide self.now.nodes r variable truth result }
-    {
-        match self.node(r) {
-            Some(n) if n.variable == variable => n.child(truth),
-            _ => r,
-        }
-    }
-
-    /// What a choice asks where the variable, the first one that it tests, has the truth.
-    fn pick_side(&self, f: Ref, g: Ref, h: Ref, variable: u32, truth: bool) -> Question
-        requires held { HoldsAll self.now.nodes (Question.Pick f g h) }
-        requires starts { AllStartFrom self.now.nodes variable (Question.Pick f g h) }
-        requires has { SomeHas self.now.nodes (Question.Pick f g h) variable }
-        ensures { IsHalf self.now.nodes (Question.Pick f g h) variable truth result }
-    {
-        Question::Pick(
-            self.side(f, variable, truth),
-            self.side(g, variable, truth),
-            self.side(h, variable, truth),
-        )
-    }
-
-    /// One step of a choice.
+    /// One step of a choice. Where the second function is asked for the first is true, and where the
+    /// third is it is false: so the first itself is a constant there.
     fn pick_step(&self, f: Ref, g: Ref, h: Ref) -> Step
         requires { HoldsAll self.now.nodes (Question.Pick f g h) }
         ensures store { IsStore self.now }
         ensures step { IsStep self.now.nodes (Question.Pick f g h) result }
     {
-        let Some(top) = self.node(f) else {
+        let first = self.operand(f);
+        let Some(top) = first.node else {
             return Step::Known(if f == Ref::TRUE { g } else { h });
         };
+        let g = g.unless(f, Ref::TRUE);
+        let h = h.unless(f, Ref::FALSE);
         if g == h {
             return Step::Known(g);
         }
         if g == Ref::TRUE && h == Ref::FALSE {
             return Step::Known(f);
         }
-        let variable = self.earlier(self.earlier(top.variable, g), h);
+        let second = self.operand(g);
+        let third = self.operand(h);
+        let variable = third.earlier(second.earlier(top.variable));
         Step::Open(Split {
             variable,
-            low: self.pick_side(f, g, h, variable, false),
-            high: self.pick_side(f, g, h, variable, true),
+            low: pick_side(&first, &second, &third, variable, false),
+            high: pick_side(&first, &second, &third, variable, true),
         })
     }
 

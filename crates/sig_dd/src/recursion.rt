@@ -1,20 +1,17 @@
-//! The recursion below the calls: it goes down the variables, and answers each question once.
+//! The recursion below the calls: it goes down the variables, and asks first for what is kept.
 
 ghost use Rattle.std.specs.Prelude.{◌≡◌, ◌+◌, ◌^◌, ◌<◌, ℕ, List, length, IfOk, Err};
 ghost use Rattle.sig_dd.specs.Nodes.{IsStore, Keeps, IsFull};
 ghost use Rattle.sig_dd.specs.Question.{HoldsAll, IsAnswer, IsTable, TestsOnly};
 
 use crate::answer::DdAnswer;
+use crate::cache::Table;
 use crate::node::Ref;
 use crate::question::{Question, Step};
 use crate::store::Store;
-use std::collections::HashMap;
-
-/// The questions that were answered so far.
-pub(crate) type Table = HashMap<Question, Ref>;
 
 impl Store {
-    /// The reference that answers the question. Each question is split once while the table lives.
+    /// The reference that answers the question. A question is split once while its answer is kept.
     pub(crate) fn answer_in(
         &mut self,
         table: &mut Table,
@@ -40,13 +37,13 @@ impl Store {
             Step::Known(r) => return Ok(r),
             Step::Open(split) => split,
         };
-        if let Some(known) = table.get(&question) {
-            return Ok(*known);
+        if let Some(known) = self.recall(table, question) {
+            return Ok(known);
         }
         let low = self.answer_in(table, split.low)?;
         let high = self.answer_in(table, split.high)?;
         let r = self.node_for(split.variable, low, high)?;
-        table.insert(question, r)?;
+        self.keep(table, question, r)?;
         Ok(r)
     }
 }

@@ -5,10 +5,16 @@ ghost use Rattle.sig_dd.specs.Diagram.{value_at, truth_of, StartsFrom};
 ghost use Rattle.sig_dd.specs.Nodes.{StoreView, IsStore, IsRefOf, Holds, Keeps, node_of, diagram, test, IsFull, IsChoice};
 
 use crate::answer::DdAnswer;
+use crate::cache::Choice;
 use crate::node::{Node, Ref};
 use indexmap::IndexSet;
+use lru::LruCache;
 use std::alloc::Global;
 use std::marker::Model;
+use std::num::NonZeroUsize;
+
+/// How many answers of choices a store keeps.
+const KEPT: usize = 65_536;
 
 /// The most nodes whose references fit 32 bits beside the two constants.
 const NUMBERS: usize = 0xffff_fffe;
@@ -20,21 +26,23 @@ const NUMBERS: usize = 0xffff_fffe;
 pub struct Store {
     nodes: IndexSet<Node>,
     made_for: u32,
+    pub(crate) cache: LruCache<Choice, Ref>,
     alloc: Global,
 }
 
 impl Model for Store {
-    ghost use Rattle.sig_dd.specs.Nodes.{StoreView, IsStore};
+    ghost use Rattle.sig_dd.specs.Nodes.{StoreView};
+    ghost use Rattle.sig_dd.specs.Cache.{IsInside};
 
     ghost Value = { StoreView };
 
     ghost view = { λ s. record { nodes = s.nodes.keys; made_for = s.made_for } };
 
-    ghost invariant = { λ s. IsStore (record { nodes = s.nodes.keys; made_for = s.made_for }) };
+    ghost invariant = { λ s. IsInside (record { nodes = s.nodes.keys; made_for = s.made_for }) s.cache.entries };
 }
 
 impl Store {
-    /// An empty store for at most this many nodes.
+    /// An empty store for at most this many nodes. It takes the memory for its cache's table.
     pub fn new(alloc: Global, nodes: u32) -> Result<Store, DdAnswer>
         ensures store { IfOk result IsStore }
         ensures empty { IfOk result (λ s. s.nodes ≡ []) }
@@ -44,6 +52,7 @@ impl Store {
         Ok(Store {
             nodes: IndexSet::new(alloc),
             made_for: nodes,
+            cache: LruCache::new(alloc, NonZeroUsize::new(KEPT).unwrap())?,
             alloc,
         })
     }
@@ -61,8 +70,9 @@ impl Store {
         ensures store { IsStore self.now }
         ensures value { IsRefOf self.now.nodes (λ _. truth) result }
     {
-        let _store = &self.nodes;
-        if truth { Ref::TRUE } else { Ref::FALSE }
+        // What holds of every store is known where its fields are read.
+        let _nodes = &self.nodes;
+        Ref::constant(truth)
     }
 
     /// The allocator that the store was made with.
@@ -115,6 +125,7 @@ impl Store {
         match self.nodes.get_index_of(&node) {
             Some(place) => Ok(Ref::to_node(place)),
             None if count < NUMBERS => Err(DdAnswer::Budget(self.made_for)),
+            // No number is left for the node, though the store was made for more of them.
             None => Err(DdAnswer::OutOfMemory),
         }
     }

@@ -3,8 +3,5 @@ use Rattle.sig_dd.specs.Nodes.{test}
 use Rattle.sig_dd.proofs.Canonical.{one_ref}
 use Rattle.sig_dd.proofs.laws.equal_functions_have_one_ref.Goals as goal
 
-pub returns-clause-one : goal.returns-clause-one
-returns-clause-one c = (
-  λ same ts. ap (λ r. test c.args.store.now.nodes r ts) same,
-  λ agree. one_ref c.args.store.now.nodes c.len-count.ensures.store.reduced c.args.f c.args.g c.requires.f c.requires.g agree,
-)
+pub returns : goal.returns
+returns c s store f g hf hg = (λ same ts. ap (λ r. test s.nodes r ts) same, λ agree. one_ref s.nodes store.reduced f g hf hg agree)

@@ -1,13 +1,11 @@
 use Rattle.std.proofs.Common.{◌≡◌, length, Err, ap, sym, subst, arith, rules}
-use Rattle.std.specs.Map.{lookup}
-use Rattle.std.specs.Option.{IfSome}
 use Rattle.std.proofs.lemmas.List.{append-nil}
-use Rattle.sig_dd.specs.Question.{HoldsAll, IsAnswer, IsTable}
+use Rattle.sig_dd.specs.Nodes.{StoreView}
+use Rattle.sig_dd.specs.Question.{IsAnswer, IsTable}
 use Rattle.sig_dd.specs.declared.answer.DdAnswer.TheVariants.{Budget}
 use Rattle.sig_dd.specs.contracts.question.QuestionPartialEq.TheImpl.{eq-value}
-use Rattle.sig_dd.proofs.Kept.{low_starts, high_starts, question_held, question_answered, IsTable-append, IsTable-insert}
+use Rattle.sig_dd.proofs.Kept.{low_starts, high_starts, question_held, question_answered, IsTable-append}
 use Rattle.sig_dd.proofs.Counts.{half_tests, second_tests, halves_fit, both_fit, without}
-use Rattle.sig_dd.proofs.SameQuestion.{question_eq-same}
 use Rattle.sig_dd.proofs.store.Store.+answer_in.Goals as goal
 
 pub returns-in_err-high-clause-added : goal.returns-in_err-high-clause-added
@@ -61,35 +59,47 @@ returns-in_err-r-clause-budget t c n is vs only =
     let same = ap length c.in_err-r.ensures.refused in
     omega arith
 
-pub returns-in_err-insert-clause-added : goal.returns-in_err-insert-clause-added
-returns-in_err-insert-clause-added t c vs only =
+pub keep-requires-clause-held : goal.keep-requires-clause-held
+keep-requires-clause-held t c =
+    question_held c.args.self.now.nodes c.answer_in.new.self.nodes c.answer_in-2.new.self.nodes c.node_for.new.self.nodes _ _ _ c.in_ok-low.ensures.kept.nodes c.in_ok-high.ensures.kept.nodes c.in_ok-r.ensures.kept.nodes
+    c.args.question c.in-Open.split c.requires.held c.in-Open.ensures.step c.in_ok-low.low c.in_ok-high.high c.in_ok-r.r c.in_ok-low.ensures.value c.in_ok-high.ensures.value
+
+pub keep-requires-clause-answer : goal.keep-requires-clause-answer
+keep-requires-clause-answer t c =
+    question_answered c.args.self.now.nodes c.answer_in.new.self.nodes c.answer_in-2.new.self.nodes c.node_for.new.self.nodes _ _ _ c.in_ok-low.ensures.kept.nodes c.in_ok-high.ensures.kept.nodes c.in_ok-r.ensures.kept.nodes
+    c.args.question c.in-Open.split c.requires.held c.in-Open.ensures.step c.in_ok-low.low c.in_ok-high.high c.in_ok-r.r c.in_ok-low.ensures.value c.in_ok-high.ensures.value c.in_ok-r.ensures.value
+
+pub keep-requires-clause-table : goal.keep-requires-clause-table
+keep-requires-clause-table t c =
+    let table = IsTable-append c.answer_in-2.new.self.nodes _ _ c.answer_in-2.new.table c.in_ok-high.ensures.table in
+    subst (λ ns. IsTable eq-value.it ns c.answer_in-2.new.table) (sym c.in_ok-r.ensures.kept.nodes) table
+
+pub returns-in_err-keep-clause-added : goal.returns-in_err-keep-clause-added
+returns-in_err-keep-clause-added t c vs only =
     let room = both_fit c.args.self.now.nodes c.answer_in.new.self.nodes c.answer_in-2.new.self.nodes _ c.in_ok-low.ensures.kept.nodes c.step.ensures.store.reduced
     c.args.question c.in-Open.split c.in-Open.ensures.step c.in_ok-low.ensures.added c.in_ok-high.ensures.added vs only in
     let one = c.node_for.ensures.added in
+    let same = ap (λ (s : StoreView). length s.nodes) c.keep.ensures.same in
     omega arith
+
+pub returns-in_err-keep-clause-table : goal.returns-in_err-keep-clause-table
+returns-in_err-keep-clause-table t c =
+    subst (λ (s : StoreView). IsTable eq-value.it s.nodes c.keep.new.table) (sym c.keep.ensures.same) c.keep.ensures.table
 
 pub returns-clause-added : goal.returns-clause-added
 returns-clause-added t c vs only =
     let room = both_fit c.args.self.now.nodes c.answer_in.new.self.nodes c.answer_in-2.new.self.nodes _ c.in_ok-low.ensures.kept.nodes c.step.ensures.store.reduced
     c.args.question c.in-Open.split c.in-Open.ensures.step c.in_ok-low.ensures.added c.in_ok-high.ensures.added vs only in
     let one = c.node_for.ensures.added in
+    let same = ap (λ (s : StoreView). length s.nodes) c.keep.ensures.same in
     omega arith
 
-pub returns-in_err-insert-clause-table : goal.returns-in_err-insert-clause-table
-returns-in_err-insert-clause-table t c q =
-    let table = IsTable-append c.answer_in-2.new.self.nodes _ _ c.answer_in-2.new.table c.in_ok-high.ensures.table in
-    let now = subst (λ ns. IsTable eq-value.it ns c.answer_in-2.new.table) (sym c.in_ok-r.ensures.kept.nodes) table in
-    subst (λ es. IfSome (lookup (eq-value.it q) es) (λ r. HoldsAll c.node_for.new.self.nodes q × IsAnswer c.node_for.new.self.nodes q r)) (sym c.in_err-insert.ensures.err) (now q)
+pub returns-clause-table : goal.returns-clause-table
+returns-clause-table t c =
+    subst (λ (s : StoreView). IsTable eq-value.it s.nodes c.keep.new.table) (sym c.keep.ensures.same) c.keep.ensures.table
 
 pub returns-clause-value : goal.returns-clause-value
 returns-clause-value t c =
-    question_answered c.args.self.now.nodes c.answer_in.new.self.nodes c.answer_in-2.new.self.nodes c.node_for.new.self.nodes _ _ _ c.in_ok-low.ensures.kept.nodes c.in_ok-high.ensures.kept.nodes c.in_ok-r.ensures.kept.nodes
-    c.args.question c.in-Open.split c.requires.held c.in-Open.ensures.step c.in_ok-low.low c.in_ok-high.high c.in_ok-r.r c.in_ok-low.ensures.value c.in_ok-high.ensures.value c.in_ok-r.ensures.value
-
-pub returns-clause-table : goal.returns-clause-table
-returns-clause-table t c q =
-    let table = IsTable-append c.answer_in-2.new.self.nodes _ _ c.answer_in-2.new.table c.in_ok-high.ensures.table in
-    let now = subst (λ ns. IsTable eq-value.it ns c.answer_in-2.new.table) (sym c.in_ok-r.ensures.kept.nodes) table in
-    let held = question_held c.args.self.now.nodes c.answer_in.new.self.nodes c.answer_in-2.new.self.nodes c.node_for.new.self.nodes _ _ _ c.in_ok-low.ensures.kept.nodes c.in_ok-high.ensures.kept.nodes c.in_ok-r.ensures.kept.nodes
-    c.args.question c.in-Open.split c.requires.held c.in-Open.ensures.step c.in_ok-low.low c.in_ok-high.high c.in_ok-r.r c.in_ok-low.ensures.value c.in_ok-high.ensures.value in
-    IsTable-insert eq-value.it question_eq-same c.node_for.new.self.nodes c.answer_in-2.new.table c.insert.new.self c.args.question c.in_ok-r.r now held (returns-clause-value t c) c.in_ok-insert.ensures.updates.0 q
+    subst (λ (s : StoreView). IsAnswer s.nodes c.args.question c.in_ok-r.r) (sym c.keep.ensures.same)
+    (question_answered c.args.self.now.nodes c.answer_in.new.self.nodes c.answer_in-2.new.self.nodes c.node_for.new.self.nodes _ _ _ c.in_ok-low.ensures.kept.nodes c.in_ok-high.ensures.kept.nodes c.in_ok-r.ensures.kept.nodes
+    c.args.question c.in-Open.split c.requires.held c.in-Open.ensures.step c.in_ok-low.low c.in_ok-high.high c.in_ok-r.r c.in_ok-low.ensures.value c.in_ok-high.ensures.value c.in_ok-r.ensures.value)

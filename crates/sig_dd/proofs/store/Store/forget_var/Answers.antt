@@ -1,22 +1,11 @@
-use Rattle.std.proofs.Common.{◌≡◌, ℕ, Bool, true, false, List, Err, arith, rules, ◌∙◌, ap, ◌||◌}
+use Rattle.std.proofs.Common.{ℕ, true, false, List, arith, sym, ◌∙◌, ap, subst, ◌||◌}
 use Rattle.sig_dd.specs.Diagram.{with_truth}
 use Rattle.sig_dd.specs.Nodes.{test, Spans}
-use Rattle.sig_dd.specs.declared.answer.DdAnswer.TheVariants.{Budget}
+use Rattle.sig_dd.specs.Shares.{Share}
+use Rattle.std.proofs.Common.{Bool}
+use Rattle.sig_dd.proofs.Adding.{refusal_is, Share-then, Share-wider}
 use Rattle.sig_dd.proofs.Functions.{IfOk-weaker, IsRefOf-same, Spans-append, Spans-fixed, test-kept}
 use Rattle.sig_dd.proofs.store.Store.forget_var.Goals as goal
-
-pub returns-in_err-high-clause-added : goal.returns-in_err-high-clause-added
-returns-in_err-high-clause-added c vs sf among =
-    let low = c.in_ok-low.ensures.added vs sf among in
-    let high = c.in_err-high.ensures.added vs (Spans-append c.args.self.now c.restrict.new.self c.in_ok-low.ensures.kept c.args.f c.requires vs sf) among in
-    omega arith
-
-pub returns-in_err-high-clause-budget : goal.returns-in_err-high-clause-budget
-returns-in_err-high-clause-budget c n is vs sf among =
-    let low = c.in_ok-low.ensures.added vs sf among in
-    let refused : c.in_err-high.field-0.0 ≡ Budget n = search rules in
-    let high = c.in_err-high.ensures.budget n (ap Err refused) vs (Spans-append c.args.self.now c.restrict.new.self c.in_ok-low.ensures.kept c.args.f c.requires vs sf) among in
-    omega arith
 
 -- the disjunction is of the two restrictions
 pub returns-clause-value : goal.returns-clause-value
@@ -40,16 +29,25 @@ high_spans c vs sf =
     Spans-fixed c.restrict.new.self.nodes c.restrict-2.new.self.nodes c.args.f c.in_ok-high.high c.args.v true c.in_ok-high.ensures.value vs
     (Spans-append c.args.self.now c.restrict.new.self c.in_ok-low.ensures.kept c.args.f c.requires vs sf)
 
-pub returns-clause-added : goal.returns-clause-added
-returns-clause-added c vs sf among =
-    let low = c.in_ok-low.ensures.added vs sf among in
-    let high = c.in_ok-high.ensures.added vs (Spans-append c.args.self.now c.restrict.new.self c.in_ok-low.ensures.kept c.args.f c.requires vs sf) among in
-    let last = c.disj.ensures.added vs (low_spans c vs sf) (high_spans c vs sf) in
-    omega arith
+pub returns-in_err-low-clause-spends : goal.returns-in_err-low-clause-spends
+returns-in_err-low-clause-spends c = record {
+  over = λ vs s us. subst (Share 3 vs c.args.self.now c.restrict.new.self) (sym (refusal_is c.from_residual.result c.in_err-low.field-0.0 c.from_residual.ensures.1))
+      (Share-wider c.args.self.now c.restrict.new.self 1 3 vs vs _ (omega arith) (c.in_err-low.ensures.spends.over vs s us));
+}
 
-pub returns-clause-budget : goal.returns-clause-budget
-returns-clause-budget c n is vs sf among =
-    let low = c.in_ok-low.ensures.added vs sf among in
-    let high = c.in_ok-high.ensures.added vs (Spans-append c.args.self.now c.restrict.new.self c.in_ok-low.ensures.kept c.args.f c.requires vs sf) among in
-    let last = c.disj.ensures.budget n is vs (low_spans c vs sf) (high_spans c vs sf) in
-    omega arith
+pub returns-in_err-high-clause-spends : goal.returns-in_err-high-clause-spends
+returns-in_err-high-clause-spends c = record {
+  over = λ vs s us.
+      let spans = Spans-append c.args.self.now c.restrict.new.self c.in_ok-low.ensures.kept c.args.f c.requires vs s.0 in
+      subst (Share 3 vs c.args.self.now c.restrict-2.new.self) (sym (refusal_is c.from_residual-in_err-high.result c.in_err-high.field-0.0 c.from_residual-in_err-high.ensures.1))
+      (Share-wider c.args.self.now c.restrict-2.new.self 2 3 vs vs _ (omega arith)
+      (Share-then c.args.self.now c.restrict.new.self c.restrict-2.new.self 1 1 vs _ (c.in_ok-low.ensures.spends.over vs s us) (c.in_err-high.ensures.spends.over vs (spans, tt) us)));
+}
+
+pub returns-clause-spends : goal.returns-clause-spends
+returns-clause-spends c = record {
+  over = λ vs s us.
+      let spans = Spans-append c.args.self.now c.restrict.new.self c.in_ok-low.ensures.kept c.args.f c.requires vs s.0 in
+      let both = Share-then c.args.self.now c.restrict.new.self c.restrict-2.new.self 1 1 vs _ (c.in_ok-low.ensures.spends.over vs s us) (c.in_ok-high.ensures.spends.over vs (spans, tt) us) in
+      Share-then c.args.self.now c.restrict-2.new.self c.disj.new.self 2 1 vs _ both (c.disj.ensures.spends.over vs (low_spans c vs s.0, (high_spans c vs s.0, tt)) tt);
+}

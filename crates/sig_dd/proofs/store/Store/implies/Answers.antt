@@ -1,16 +1,9 @@
-use Rattle.std.proofs.Common.{◌≡◌, Err, refl, sym, ◌∙◌, ap, rules}
-use Rattle.sig_dd.specs.declared.answer.DdAnswer.TheVariants.{Budget}
+use Rattle.std.proofs.Common.{refl, sym, ◌∙◌, subst}
+use Rattle.sig_dd.specs.Shares.{Share}
+use Rattle.sig_dd.proofs.Adding.{refusal_is}
 use Rattle.std.proofs.lemmas.Bool.{eqb-true, eq-eqb}
 use Rattle.sig_dd.proofs.Functions.{Spans-true, implied, true_of_implied}
 use Rattle.sig_dd.proofs.store.Store.implies.Goals as goal
-
-pub returns-in_err-ite-clause-added : goal.returns-in_err-ite-clause-added
-returns-in_err-ite-clause-added c vs sf sg = c.in_err-ite.ensures.added vs sf sg (Spans-true c.args.self.now.nodes _ refl vs)
-
-pub returns-in_err-ite-clause-budget : goal.returns-in_err-ite-clause-budget
-returns-in_err-ite-clause-budget c n is vs sf sg =
-    let refused : c.in_err-ite.field-0.0 ≡ Budget n = search rules in
-    c.in_err-ite.ensures.budget n (ap Err refused) vs sf sg (Spans-true c.args.self.now.nodes _ refl vs)
 
 pub returns-clause-value : goal.returns-clause-value
 returns-clause-value c = (
@@ -18,5 +11,11 @@ returns-clause-value c = (
   λ h. c.eq.ensures ∙ eq-eqb _ _ (true_of_implied c.args.self.now.nodes c.ite.new.self.nodes c.in_ok-ite.ensures.store.reduced c.args.f c.args.g c.in_ok-ite.field-0 _ refl c.in_ok-ite.ensures.value h),
 )
 
-pub returns-clause-added : goal.returns-clause-added
-returns-clause-added c vs sf sg = c.in_ok-ite.ensures.added vs sf sg (Spans-true c.args.self.now.nodes _ refl vs)
+pub returns-in_err-ite-clause-spends : goal.returns-in_err-ite-clause-spends
+returns-in_err-ite-clause-spends c = record {
+  over = λ vs s us. subst (Share 1 vs c.args.self.now c.ite.new.self) (sym (refusal_is c.from_residual.result c.in_err-ite.field-0.0 c.from_residual.ensures.1))
+      (c.in_err-ite.ensures.spends.over vs (s.0, (s.1.0, (Spans-true c.args.self.now.nodes _ refl vs, tt))) us);
+}
+
+pub returns-clause-spends : goal.returns-clause-spends
+returns-clause-spends c = record { over = λ vs s us. c.in_ok-ite.ensures.spends.over vs (s.0, (s.1.0, (Spans-true c.args.self.now.nodes _ refl vs, tt))) us }

@@ -2,7 +2,9 @@ use Rattle.std.proofs.Common.{◌≡◌, ap, sym, ◌∙◌, subst, arith, Some,
 use Rattle.std.specs.List.{slice_get}
 use Rattle.std.proofs.lemmas.List.{append-nil}
 use Rattle.sig_dd.specs.Nodes.{IsStore, IsNodeAt, IsChoice, StoreView, IsReduced}
+use Rattle.sig_dd.specs.Cache.{IsCache}
 use Rattle.sig_dd.specs.declared.node.Node.{Node}
+use Rattle.sig_dd.proofs.Cached.{IsCache-append}
 use Rattle.sig_dd.proofs.Growth.{IsStore-insert, IsNodeAt-next, IsChoice-same, IsChoice-node, nodes-insert, ref_apart, ref_same, node_eq-same, stands_at_position}
 use Rattle.sig_dd.proofs.store.Store.node_for.Goals as goal
 use Rattle.sig_dd.proofs.store.Store.node_for.Goals.{in-Some, in-None, in-None-2}
@@ -16,7 +18,7 @@ asked : (c : goal.After-to_node) → Node
 asked c = record { variable = c.args.variable; low = c.args.low; high = c.args.high }
 
 old : (c : goal.After-to_node) → IsStore c.args.self.now
-old c = subst IsStore c.self.view_is c.self.invariant
+old c = subst IsStore c.self.view_is c.self.invariant.store
 
 nodes_are : (c : goal.After-to_node) → c.self.inside.nodes.keys ≡ c.args.self.now.nodes
 nodes_are c = ap (λ (s : StoreView). s.nodes) c.self.view_is
@@ -28,15 +30,26 @@ next c = subst (λ ns. IsNodeAt ns (length ns) (asked c)) (sym (nodes_are c))
     (IsNodeAt-next c.args.self.now.nodes (asked c) (old c).reduced c.requires.low c.requires.high (ref_apart c.args.low c.args.high c.if-eq.ensures) c.requires.low_later c.requires.high_later)
 
 -- the store stays one
-pub invariant_of-self-then-count-lt-NUMBERS : goal.invariant_of-self-then-count-lt-NUMBERS
+new : (c : goal.After-to_node) → IsStore (record { nodes = c.insert_full.new.self.keys; made_for = c.self.inside.made_for })
 unfolding asked
-invariant_of-self-then-count-lt-NUMBERS c =
+new c =
     let len = c.len-count.ensures.len in
     subst (λ ns. IsStore (record { nodes = ns; made_for = c.self.inside.made_for })) (sym c.in_ok-place.ensures.keys)
-    (IsStore-insert c.self.inside.nodes.keys c.self.inside.made_for (asked c) c.self.invariant (next c) (omega arith) (omega arith))
+    (IsStore-insert c.self.inside.nodes.keys c.self.inside.made_for (asked c) c.self.invariant.store (next c) (omega arith) (omega arith))
+
+-- and what it keeps stays right
+kept : (c : goal.After-to_node) → IsCache c.insert_full.new.self.keys c.self.inside.cache.entries
+unfolding asked
+kept c =
+    let (more, grown) = nodes-insert c.self.inside.nodes.keys (asked c) in
+    subst (λ ns. IsCache ns c.self.inside.cache.entries) (sym (c.in_ok-place.ensures.keys ∙ grown))
+    (IsCache-append c.self.inside.nodes.keys more c.self.inside.cache.entries c.self.invariant.cache)
+
+pub invariant_of-self-then-count-lt-NUMBERS : goal.invariant_of-self-then-count-lt-NUMBERS
+invariant_of-self-then-count-lt-NUMBERS c = record { store = new c; cache = kept c }
 
 pub returns-then-count-lt-NUMBERS-clause-store : goal.returns-then-count-lt-NUMBERS-clause-store
-returns-then-count-lt-NUMBERS-clause-store c = invariant_of-self-then-count-lt-NUMBERS c
+returns-then-count-lt-NUMBERS-clause-store c = new c
 
 pub returns-then-count-lt-NUMBERS-clause-value : goal.returns-then-count-lt-NUMBERS-clause-value
 unfolding asked
@@ -46,14 +59,13 @@ returns-then-count-lt-NUMBERS-clause-value c =
     let (k, here, equal) = c.in_ok-place.ensures.stored in
     let same : asked c ≡ k = node_eq-same (asked c) k equal in
     let at : slice_get (c.args.self.now.nodes ++ more) c.in_ok-place.place ≡ Some (asked c) = ap (λ ns. slice_get ns c.in_ok-place.place) (sym is) ∙ here ∙ ap Some (sym same) in
-    let new : IsStore (record { nodes = c.insert_full.new.self.keys; made_for = c.self.inside.made_for }) = invariant_of-self-then-count-lt-NUMBERS c in
     subst (λ ns. IsChoice c.args.self.now.nodes ns c.args.variable c.args.low c.args.high c.to_node.result) (sym is)
-    (IsChoice-node c.args.self.now.nodes more c.in_ok-place.place (asked c) c.to_node.result (subst IsReduced is new.reduced) c.requires.low c.requires.high at c.to_node.ensures)
+    (IsChoice-node c.args.self.now.nodes more c.in_ok-place.place (asked c) c.to_node.result (subst IsReduced is (new c).reduced) c.requires.low c.requires.high at c.to_node.ensures)
 
 pub returns-clause-value : goal.returns-clause-value
 returns-clause-value c = elim c.match-get_index_of.branch [
   | in-Some w ↦
-      let store : IsStore c.args.self.now = subst IsStore c.self.view_is c.self.invariant in
+      let store : IsStore c.args.self.now = subst IsStore c.self.view_is c.self.invariant.store in
       let node : Node = record { variable = c.args.variable; low = c.args.low; high = c.args.high } in
       let at : slice_get c.args.self.now.nodes w.in-Some.place ≡ Some node = ap (λ (s : StoreView). slice_get s.nodes w.in-Some.place) (sym c.self.view_is) ∙ stands_at_position c.self.inside.nodes.keys node w.in-Some.place (sym w.in-Some.ensures.index) in
       let nil = append-nil c.args.self.now.nodes in

@@ -1,4 +1,7 @@
-use Rattle.std.proofs.Common.{refl}
+use Rattle.std.proofs.Common.{◌≡◌, ◌^◌, ◌≤◌, length, refl, ap, arith}
+use Rattle.std.proofs.Math.Pow.{pow_mono}
+use Rattle.std.proofs.lemmas.Result.{IfErr-at_err}
+use Rattle.sig_dd.proofs.Adding.{share_of}
 use Rattle.sig_dd.proofs.Functions.{IfOk-weaker, IsRefOf-variable, starts_false, starts_true}
 use Rattle.sig_dd.proofs.store.Store.variable.Goals as goal
 
@@ -11,3 +14,16 @@ node_for-requires-clause-high_later c = starts_true _ _ refl _
 pub returns-clause-value : goal.returns-clause-value
 returns-clause-value c =
     IfOk-weaker _ _ c.node_for.result (λ r. IsRefOf-variable c.args.self.now.nodes c.node_for.new.self.nodes c.args.v _ _ r refl refl) c.node_for.ensures.value
+
+pub returns-clause-spends : goal.returns-clause-spends
+returns-clause-spends c = record {
+  over = λ vs s us.
+      let (k, lt, at) = us.0 in
+      let some_in : 1 ≤ length vs = omega arith in
+      let some : 2 ^ 1 ≤ 2 ^ length vs = pow_mono some_in in
+      let added = c.node_for.ensures.added in
+      share_of vs c.args.self.now c.node_for.new.self c.node_for.result (omega arith) c.node_for.ensures.full (λ n is.
+      let full = (c.node_for.ensures.full n is).1 in
+      let same = ap length (IfErr-at_err (λ e. c.node_for.new.self.nodes ≡ c.args.self.now.nodes) is c.node_for.ensures.refused) in
+      omega arith);
+}

@@ -101,6 +101,23 @@ module _ (nodes : List Node) (reduced : IsReduced nodes) (f g h : Ref) (held_f :
     ]
   ]
 
+  -- where the variable has a truth, the choice asks for the sides of the three
+  pub half_pick : (x : Bool) (a b c : Ref) → IsSide nodes f v x a → IsSide nodes g v x b → IsSide nodes h v x c → IsHalf nodes (Pick f g h) v x (Pick a b c)
+  half_pick x a b c sf sg sh = record {
+    holds = (sf.holds, sg.holds, sh.holds);
+    function = λ ts at.
+        ap (λ y. if y then test nodes b ts else test nodes c ts) (sf.function ts at)
+        ∙ ap (λ y. if test nodes f ts then y else test nodes c ts) (sg.function ts at)
+        ∙ ap (λ y. if test nodes f ts then test nodes g ts else y) (sh.function ts at);
+    later = (sf.later, sg.later, sh.later);
+    tests = λ u t. elim t [ inl i ↦ inl (sf.tests u i) | inr (inl j) ↦ inr (inl (sg.tests u j)) | inr (inr k) ↦ inr (inr (sh.tests u k)) ];
+    smaller = elim pick_has [
+      | inl i ↦ let l = sf.smaller i in let m = sg.at_most in let n = sh.at_most in omega arith
+      | inr (inl j) ↦ let l = sf.at_most in let m = sg.smaller j in let n = sh.at_most in omega arith
+      | inr (inr k) ↦ let l = sf.at_most in let m = sg.at_most in let n = sh.smaller k in omega arith
+    ];
+  }
+
   pub pick_tests : SomeTests nodes (Pick f g h) v
   pick_tests = elim pick_has [
     | inl x ↦ inl (tests_own nodes reduced f held_f v x)
@@ -115,9 +132,15 @@ module _ (nodes : List Node) (reduced : IsReduced nodes) (f g h : Ref) (held_f :
     | inr (inr z) ↦ own_first nodes reduced h held_h v z b s.2
   ]
 
-  -- so it splits the choice
-  pub pick_split : (low high : Question) → IsHalf nodes (Pick f g h) v false low → IsHalf nodes (Pick f g h) v true high → IsSplit nodes (Pick f g h) (record { variable = v; low = low; high = high })
-  pick_split low high is_low is_high = record { tested = pick_tests; first = pick_first; low = is_low; high = is_high }
+  -- the sides of the three split the choice
+  pub sides_split : (al bl cl ah bh ch : Ref) (low high : Question) → low ≡ Pick al bl cl → high ≡ Pick ah bh ch → IsSide nodes f v false al → IsSide nodes g v false bl → IsSide nodes h v false cl
+      → IsSide nodes f v true ah → IsSide nodes g v true bh → IsSide nodes h v true ch → IsSplit nodes (Pick f g h) (record { variable = v; low = low; high = high })
+  sides_split al bl cl ah bh ch low high low_is high_is fl gl hl fh gh hh = record {
+    tested = pick_tests;
+    first = pick_first;
+    low = subst (IsHalf nodes (Pick f g h) v false) (sym low_is) (half_pick false al bl cl fl gl hl);
+    high = subst (IsHalf nodes (Pick f g h) v true) (sym high_is) (half_pick true ah bh ch fh gh hh);
+  }
 
 module _ (nodes : List Node) (reduced : IsReduced nodes) (f : Ref) (held : Holds nodes f) (n : Node) (is : Some n ≡ node_of nodes f) (v : ℕ) (x : Bool) where
   -- the node's variable comes after v

@@ -1,0 +1,15 @@
+use Rattle.std.proofs.Common.{sym, subst}
+use Rattle.sig_dd.specs.Cache.{question_of}
+use Rattle.sig_dd.specs.Nodes.{StoreView}
+use Rattle.sig_dd.specs.Question.{HoldsAll, IsAnswer}
+use Rattle.sig_dd.proofs.Cached.{IsCache-after}
+use Rattle.sig_dd.proofs.store.Store.keep_choice.Goals as goal
+
+pub invariant_of-self : goal.invariant_of-self
+invariant_of-self c = record {
+  store = c.self.invariant.store;
+  cache = IsCache-after c.put-kept.result c.self.inside.nodes.keys c.self.inside.cache c.put-kept.new.self c.args.choice c.args.r c.self.invariant.cache
+      (subst (λ (s : StoreView). HoldsAll s.nodes (question_of c.args.choice)) (sym c.self.view_is) c.requires.held)
+      (subst (λ (s : StoreView). IsAnswer s.nodes (question_of c.args.choice) c.args.r) (sym c.self.view_is) c.requires.answer)
+      c.put-kept.ensures.entries c.put-kept.ensures.err;
+}

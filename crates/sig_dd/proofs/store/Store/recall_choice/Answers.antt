@@ -1,0 +1,11 @@
+use Rattle.std.proofs.Common.{◌∙◌, IfSome, subst}
+use Rattle.sig_dd.specs.Cache.{question_of}
+use Rattle.sig_dd.specs.Nodes.{StoreView}
+use Rattle.sig_dd.specs.Question.{IsAnswer}
+use Rattle.sig_dd.proofs.Cached.{recalled_if}
+use Rattle.sig_dd.proofs.store.Store.recall_choice.Goals as goal
+
+pub returns : goal.returns
+returns c =
+    subst (λ (s : StoreView). IfSome c.copied.result (IsAnswer s.nodes (question_of c.args.choice))) c.self.view_is
+    (recalled_if c.self.inside.nodes.keys c.self.inside.cache.entries c.self.invariant.cache c.args.choice c.copied.result (c.copied.ensures ∙ c.peek.ensures))
