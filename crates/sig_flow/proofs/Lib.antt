@@ -1,0 +1,6 @@
+mod EventLemmas
+mod FirstLemmas
+mod FirstLines
+mod LineWords
+mod Numerals
+mod TakenPieces

@@ -1,0 +1,12 @@
+-- Runs of decimal digits.
+use Rattle.std.specs.Prelude.{ℕ, Bool, ◌&&◌, nat_lt, nat_le, List, length, Option, None, Some, if◌then◌else◌}
+use Rattle.std.specs.Str.{all_ascii_digits}
+use Rattle.std.specs.Str.Parse.{digits_value}
+
+-- digits, at least one
+abbrev pub is_digits : List ℕ → Bool
+is_digits digits = nat_lt 0 (length digits) && all_ascii_digits digits
+
+-- the number that 1 to 9 digits write
+abbrev pub short_number : List ℕ → Option ℕ
+short_number digits = if is_digits digits && nat_le (length digits) 9 then Some (digits_value 10 digits) else None
