@@ -1,5 +1,5 @@
 -- The events of a file, read line by line.
-use Rattle.std.proofs.Common.{◌≡◌, ℕ, ◌+◌, List, [], ◌∷◌, ◌++◌, length, Option, None, Some, Result, Ok, Err, sym, ap, ◌∙◌, arith, length-append, append_assoc, inl, inr, ⊎_elim, ◌⊎◌}
+use Rattle.std.proofs.Common.{◌≡◌, ℕ, ◌+◌, List, [], ◌∷◌, ◌++◌, length, Option, None, Some, Result, Ok, Err, refl, sym, ap, ◌∙◌, arith, length-append, append_assoc, inl, inr, ⊎_elim, ◌⊎◌}
 use Rattle.std.proofs.lemmas.List.{append-nil}
 use Rattle.std.specs.Prelude.{IfOk, IfErr, MatchResult, IsErrAnd, option_to_list}
 use Rattle.std.specs.Str.Lines.{lines}
@@ -66,3 +66,8 @@ module _ {V : Type 0} (items : V → List FileEvent) (bytes : List ℕ) where
   pub refused : (result : Result V EventAnswer) → IfOk result (λ v. AreEvents bytes (items v)) → IfErr result (λ answer. (answer ≡ OutOfMemory) ⊎ IsFirstBadEvent bytes answer) → (fault : EventAnswer) → IsFirstBadEvent bytes fault → IsErrAnd result (λ answer. (answer ≡ OutOfMemory) ⊎ (answer ≡ fault))
   refused (Ok v) is begins fault first = not_both event_judge 0 (lines_of bytes) fault is.good first
   refused (Err answer) is begins fault first = ⊎_elim (λ memory. inl memory) (λ also. inr (one_first event_judge 0 (lines_of bytes) answer fault also first)) begins
+
+-- a file has events, or a first offending line
+pub events_or_fault : (bytes : List ℕ) (o : Option EventAnswer) → first_fault event_judge 0 (lines_of bytes) ≡ o → ((events : List FileEvent) × AreEvents bytes events) ⊎ ((fault : EventAnswer) × IsFirstBadEvent bytes fault)
+events_or_fault bytes None is = inl (events_among (lines_of bytes), record { good = good_from_none event_judge 0 (lines_of bytes) is; each = refl })
+events_or_fault bytes (Some fault) is = inr (fault, first_from_some event_judge 0 (lines_of bytes) fault is)

@@ -1,8 +1,12 @@
+pub mod Bodies
 pub mod Digits
 pub mod Events
 pub mod First
+pub mod Flows
+pub mod Inputs
 pub mod Lines
 pub mod NextWords
 pub mod Shown
 pub mod ValueLine
+pub mod Values
 pub mod Words

@@ -1,7 +1,8 @@
 //! Runs of decimal digits.
 
 ghost use Rattle.std.specs.Prelude.{◌≡◌, ◌<◌, ◌≤◌, IsTrue, MatchOption};
-ghost use Rattle.std.specs.Str.{all_ascii_digits};
+ghost use Rattle.std.specs.Char.{is_ascii_digit};
+ghost use Rattle.std.specs.List.{list_all};
 ghost use Rattle.std.specs.Str.Parse.{digits_value};
 ghost use Rattle.sig_flow.specs.Digits.{is_digits, short_number};
 
@@ -32,6 +33,19 @@ pub fn magnitude(digits: &[u8]) -> Option<u64>
     } else {
         Some(value)
     }
+}
+
+/// Whether there is a byte, and all are digits.
+pub fn is_digits(bytes: &[u8]) -> bool
+    ensures { result ≡ is_digits bytes.now }
+{
+    !bytes.is_empty() && are_digits(bytes)
+}
+
+fn are_digits(bytes: &[u8]) -> bool
+    ensures { result ≡ list_all is_ascii_digit bytes.now }
+{
+    bytes.iter().all(|byte| byte.is_ascii_digit())
 }
 
 /// The number that 1 to 9 digits write.

@@ -4,16 +4,26 @@
 #![tactic(auto)]
 
 mod answer;
+mod body;
 mod digits;
 mod event;
+mod flow;
+mod flow_line;
+mod laws;
 mod line;
+mod named;
 mod pieces;
 mod put;
+mod read;
+mod value;
+mod version;
 mod word;
 
 pub use answer::{EventAnswer, FlowAnswer};
 pub use event::{FileEvent, read_events};
+pub use laws::{one_event_reading, one_flow_reading};
 pub use put::put_value;
+pub use read::{read_flows, read_named};
 
 #[cfg(test)]
 mod tests;

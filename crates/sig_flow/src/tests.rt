@@ -1,7 +1,8 @@
 //! Files and lines, with what they say.
 
 use super::*;
-use sig_base::{Kind, Text};
+use sig_base::{Kind, Signal, Span, Text};
+use sig_kernel::Kernel;
 use sig_text::{MemSink, WriteFault};
 use std::alloc::Global;
 use std::test::Fail;
@@ -87,6 +88,161 @@ fn counts_events(rt: HostRuntime) -> Result<(), Fail> {
     assert_eq!(rt;
         refused(alloc, &bytes),
         Some(EventAnswer::TooMany(1_000_000))
+    );
+    bytes.extend_from_slice(b"look\n")?;
+    Ok(())
+}
+
+fn signal(alloc: Global, name: &[u8], kind: Kind) -> Result<Signal, Fail> {
+    Ok(Signal {
+        name: Text::from_bytes(alloc, name)?,
+        kind,
+        cluster: 0,
+        at: Span { line: 1, col: 1 },
+    })
+}
+
+// An integer A, a boolean B and an event C.
+fn signals(alloc: Global) -> Result<Vec<Signal>, Fail> {
+    let mut signals = Vec::new(alloc);
+    signals.push(signal(alloc, b"A", Kind::Integer)?)?;
+    signals.push(signal(alloc, b"B", Kind::Boolean)?)?;
+    signals.push(signal(alloc, b"C", Kind::Event)?)?;
+    Ok(signals)
+}
+
+#[test]
+fn reads_flows(rt: HostRuntime) -> Result<(), Fail> {
+    let alloc = rt.alloc();
+    let inputs = signals(alloc)?;
+    let files: [(&[u8], &[i64], &[i64], &[i64]); 8] = [
+        (b"", &[], &[], &[]),
+        (b" \t\n\r\n\n ", &[], &[], &[]),
+        (
+            b"A 1 -2\r\n B\ttrue false \nA 03\nC true",
+            &[1, -2, 3],
+            &[1, 0],
+            &[1],
+        ),
+        (
+            b"A -9223372036854775808 9223372036854775807 -0",
+            &[i64::MIN, i64::MAX, 0],
+            &[],
+            &[],
+        ),
+        (b"A", &[], &[], &[]),
+        (
+            b"\n flows  2\r\nA 1*3 -5*000000002\nB true*1 false*2",
+            &[1, 1, 1, -5, -5],
+            &[1, 0, 0],
+            &[],
+        ),
+        (b"flows 2", &[], &[], &[]),
+        (b"flows 2\nC true*2 true", &[], &[], &[1, 1, 1]),
+    ];
+    for (bytes, first, second, third) in files {
+        let flows = read_named(alloc, bytes, &inputs)?;
+        assert_eq!(rt; flows.as_slice().len(), 3);
+        assert_eq!(rt; flows.as_slice()[0].as_slice(), first);
+        assert_eq!(rt; flows.as_slice()[1].as_slice(), second);
+        assert_eq!(rt; flows.as_slice()[2].as_slice(), third);
+    }
+    Ok(())
+}
+
+fn refusal(alloc: Global, bytes: &[u8], inputs: &[Signal]) -> Option<FlowAnswer> {
+    read_named(alloc, bytes, inputs).err()
+}
+
+#[test]
+fn refuses_flows(rt: HostRuntime) -> Result<(), Fail> {
+    let alloc = rt.alloc();
+    let inputs = signals(alloc)?;
+    let files: [(&[u8], FlowAnswer); 37] = [
+        (b"\r", FlowAnswer::BadLine(1)),
+        (b"A 1\nA 1\r", FlowAnswer::BadLine(2)),
+        (b"A 1\r\r\n", FlowAnswer::BadLine(1)),
+        (b"D 1\0", FlowAnswer::BadLine(1)),
+        (b"A x \x80", FlowAnswer::BadLine(1)),
+        (b"_A 1", FlowAnswer::BadLine(1)),
+        (b"1 A", FlowAnswer::BadLine(1)),
+        (b"A* 1", FlowAnswer::BadLine(1)),
+        (b"\n\nprocess 1", FlowAnswer::NotAnInput(3)),
+        (b"a 1", FlowAnswer::NotAnInput(1)),
+        (b"D x", FlowAnswer::NotAnInput(1)),
+        (b"A 1 -", FlowAnswer::BadValue(1, 5)),
+        (b"A --1", FlowAnswer::BadValue(1, 3)),
+        (b"\tA \t +1", FlowAnswer::BadValue(1, 6)),
+        (b"A 1 x y", FlowAnswer::BadValue(1, 5)),
+        (b"A 1_000", FlowAnswer::BadValue(1, 3)),
+        (b"A true", FlowAnswer::BadValue(1, 3)),
+        (b"B 1", FlowAnswer::BadValue(1, 3)),
+        (b"B TRUE", FlowAnswer::BadValue(1, 3)),
+        (b"B 9223372036854775808", FlowAnswer::BadValue(1, 3)),
+        (b"C true false", FlowAnswer::BadValue(1, 8)),
+        (b"A 9223372036854775808", FlowAnswer::OutOfRange(1, 3)),
+        (b"A -9223372036854775809", FlowAnswer::OutOfRange(1, 3)),
+        (b"A 1 99999999999999999999 x", FlowAnswer::OutOfRange(1, 5)),
+        (b"A 99999999999999999999x", FlowAnswer::BadValue(1, 3)),
+        (b"A 1*3", FlowAnswer::BadValue(1, 3)),
+        (b"A 1\nflows 2", FlowAnswer::NotAnInput(2)),
+        (b"flows 2\nflows 2", FlowAnswer::NotAnInput(2)),
+        (b"flows 2 x", FlowAnswer::NotAnInput(1)),
+        (b"flows 02", FlowAnswer::NotAnInput(1)),
+        (b"flows 2\nA 1*0", FlowAnswer::BadValue(2, 3)),
+        (b"flows 2\nA 1*", FlowAnswer::BadValue(2, 3)),
+        (b"flows 2\nA *3", FlowAnswer::BadValue(2, 3)),
+        (b"flows 2\nA 1*1*2", FlowAnswer::BadValue(2, 3)),
+        (b"flows 2\nA 1*4000001", FlowAnswer::BadValue(2, 3)),
+        (b"flows 2\nA 1*0000000001", FlowAnswer::BadValue(2, 3)),
+        (
+            b"flows 2\nA 9223372036854775808*0",
+            FlowAnswer::BadValue(2, 3),
+        ),
+    ];
+    for (bytes, wanted) in files {
+        assert_eq!(rt; refusal(alloc, bytes, &inputs), Some(wanted));
+    }
+    let range = refusal(alloc, b"flows 2\nA 9223372036854775808*7", &inputs);
+    assert_eq!(rt; range, Some(FlowAnswer::OutOfRange(2, 3)));
+    Ok(())
+}
+
+#[test]
+fn counts_values(rt: HostRuntime) -> Result<(), Fail> {
+    let alloc = rt.alloc();
+    let inputs = signals(alloc)?;
+    let whole = read_named(alloc, b"flows 2\nA 7*3999999\nB true", &inputs)?;
+    assert_eq!(rt; whole.as_slice()[0].as_slice().len(), 3_999_999);
+    let many = Some(FlowAnswer::TooMany(4_000_000));
+    assert_eq!(rt;
+        refusal(alloc, b"flows 2\nA 7*3999999\nB true true x", &inputs),
+        many
+    );
+    assert_eq!(rt;
+        refusal(alloc, b"flows 2\nA 7*4000000\nB x", &inputs),
+        Some(FlowAnswer::BadValue(3, 3))
+    );
+    assert_eq!(rt; refusal(alloc, b"flows 2\nA 7*4000000 1", &inputs), many);
+    Ok(())
+}
+
+#[test]
+fn reads_a_kernels_flows(rt: HostRuntime) -> Result<(), Fail> {
+    let alloc = rt.alloc();
+    let kernel = Kernel {
+        signals: signals(alloc)?,
+        equations: Vec::new(alloc),
+        inputs: 2,
+        outputs: 1,
+        declared: 3,
+    };
+    let flows = read_flows(alloc, b"B true\nA 5", &kernel)?;
+    assert_eq!(rt; flows.as_slice().len(), 2);
+    assert_eq!(rt; flows.as_slice()[0].as_slice(), [5].as_slice());
+    assert_eq!(rt;
+        read_flows(alloc, b"C true", &kernel).err(),
+        Some(FlowAnswer::NotAnInput(1))
     );
     Ok(())
 }

@@ -1,0 +1,46 @@
+-- Inputs by their names.
+use Rattle.std.proofs.Common.{◌≡◌, ◌≢◌, ◌<◌, ℕ, zero, suc, List, [], ◌∷◌, length, get_or, map, None, Some, false, bytes_eq, sym, refl, ◌∙◌, ⊎_elim, arith}
+use Rattle.std.proofs.lemmas.Bool.{cases_Bool, cases_order}
+use Rattle.std.proofs.lemmas.Bool.Decides.{not_from_Decides}
+use Rattle.std.proofs.lemmas.List.{get_or-map, length-map}
+use Rattle.std.proofs.lemmas.Map.Keys.{apart_from_distinct}
+use Rattle.std.proofs.lemmas.Slice.Eq.{bytes_eq-Decides}
+use Rattle.std.specs.List.{IsDistinct}
+use Rattle.sig_base.specs.declared.signal.Signal.{Signal}
+use Rattle.sig_base.specs.declared.ids.Kind.TheVariants.{Integer}
+use Rattle.sig_flow.specs.Flows.{kind_named}
+
+-- some signal, for the places past the end of a list
+pub nobody : Signal
+nobody = record { name = []; kind = Integer; cluster = 0; at = record { line = 0; col = 0 } }
+
+-- texts that differ
+pub differ_eq : (xs ys : List ℕ) → xs ≢ ys → bytes_eq xs ys ≡ false
+differ_eq xs ys ne = ⊎_elim (λ same. absurd (ne ((bytes_eq-Decides xs ys).0 same))) (λ other. other) (cases_Bool (bytes_eq xs ys))
+
+-- no input has the name
+pub kind_absent : (inputs : List Signal) (name : List ℕ) → ((k : ℕ) (d : Signal) → k < length inputs → (get_or inputs k d).name ≡ name → ⊥) → kind_named inputs name ≡ None
+kind_absent [] name none = refl
+kind_absent (input ∷ inputs) name none =
+    rw (differ_eq input.name name (none 0 input (omega arith))) (kind_absent inputs name (λ k d lt. none (suc k) d (omega arith)))
+
+-- the first input of the name
+pub kind_at : (inputs : List Signal) (name : List ℕ) (i : ℕ) (d : Signal) → i < length inputs → ((k : ℕ) (e : Signal) → k < i → (get_or inputs k e).name ≡ name → ⊥) → (get_or inputs i d).name ≡ name → kind_named inputs name ≡ Some (get_or inputs i d).kind
+kind_at [] name i d lt none is = absurd (omega arith)
+kind_at (input ∷ inputs) name zero d lt none is = rw ((bytes_eq-Decides input.name name).1 is) refl
+kind_at (input ∷ inputs) name (suc i) d lt none is =
+    rw (differ_eq input.name name (none 0 d (omega arith))) (kind_at inputs name i d (omega arith) (λ k e below. none (suc k) e (omega arith)) is)
+
+-- two inputs have different names
+pub names_differ : (inputs : List Signal) (i k : ℕ) (d : Signal) → IsDistinct bytes_eq (map (λ input. input.name) inputs) → i < length inputs → k < length inputs → k ≢ i → (get_or inputs i d).name ≢ (get_or inputs k d).name
+names_differ inputs i k d distinct lt_i lt_k ne =
+    let names = map (λ (input : Signal). input.name) inputs in
+    let size = length-map inputs (λ (input : Signal). input.name) in
+    let at_i = get_or-map (λ (input : Signal). input.name) inputs i d [] lt_i in
+    let at_k = get_or-map (λ (input : Signal). input.name) inputs k d [] lt_k in
+    ⊎_elim
+    (λ e. absurd (ne e))
+    (⊎_elim
+    (λ lt. λ same. not_from_Decides _ (bytes_eq-Decides _ _) (apart_from_distinct bytes_eq names k i [] distinct lt (omega arith)) (at_k ∙ sym same ∙ sym at_i))
+    (λ lt. λ same. not_from_Decides _ (bytes_eq-Decides _ _) (apart_from_distinct bytes_eq names i k [] distinct lt (omega arith)) (at_i ∙ same ∙ sym at_k)))
+    (cases_order k i)

@@ -1,0 +1,17 @@
+use Rattle.std.proofs.Common.{◌∙◌, ◌++◌, ℤ, List, [], ap, get_or, arith}
+use Rattle.std.proofs.lemmas.List.{get_or_default}
+use Rattle.std.proofs.lemmas.Result.{on_ok_weaker}
+use Rattle.sig_flow.specs.Flows.{values_of}
+use Rattle.sig_flow.specs.NextWords.{word_of, words_behind}
+use Rattle.sig_flow.proofs.FlowLemmas.{after_line}
+use Rattle.sig_flow.proofs.flow_line.read_words.Goals as goal
+
+pub returns-in-Some-clause-flows : goal.returns-in-Some-clause-flows
+returns-in-Some-clause-flows c =
+    let input = c.in-Some.ensures.found in
+    on_ok_weaker c.read_values.result
+    (λ flow. after_line c.args.context.version c.args.inputs.now c.args.flows.now c.in-Some.i c.index-inputs-i.result (word_of c.args.name) (words_behind c.args.name) c.read_values.new.flow
+    c.requires.differ c.requires.same_length input.within (input.same c.index-inputs-i.result)
+    (flow
+    ∙ ap (λ (old : List ℤ). old ++ values_of c.args.context.version (get_or c.args.inputs.now c.in-Some.i c.index-inputs-i.result).kind (words_behind c.args.name)) (get_or_default c.args.flows.now c.in-Some.i c.index-flows-i.result [] (omega (arith, input.within)))))
+    c.read_values.ensures.flow

@@ -1,0 +1,28 @@
+//! Laws of the definitions of files.
+
+ghost use Rattle.std.specs.Prelude.{◌≡◌, ◌⊎◌, ℕ, ℤ, List};
+ghost use Rattle.sig_base.specs.declared.signal.Signal.{Signal};
+ghost use Rattle.sig_flow.specs.Events.{AreEvents, IsFirstBadEvent};
+ghost use Rattle.sig_flow.specs.Flows.{AreFlows, IsFirstBadPlace};
+ghost use Rattle.sig_flow.specs.declared.answer.EventAnswer.{EventAnswer};
+ghost use Rattle.sig_flow.specs.declared.answer.FlowAnswer.{FlowAnswer};
+ghost use Rattle.sig_flow.specs.declared.event.FileEvent.{FileEvent};
+
+/// A law: bytes have one list of flows for some inputs, or one first offending place, and not both.
+pub fn one_flow_reading()
+    ensures some { (inputs : List Signal) (bytes : List ℕ) →
+        ((flows : List (List ℤ)) × AreFlows inputs bytes flows) ⊎ ((fault : FlowAnswer) × IsFirstBadPlace inputs bytes fault) }
+    ensures flows { (inputs : List Signal) (bytes : List ℕ) (a b : List (List ℤ)) → AreFlows inputs bytes a → AreFlows inputs bytes b → a ≡ b }
+    ensures fault { (inputs : List Signal) (bytes : List ℕ) (a b : FlowAnswer) → IsFirstBadPlace inputs bytes a → IsFirstBadPlace inputs bytes b → a ≡ b }
+    ensures apart { (inputs : List Signal) (bytes : List ℕ) (flows : List (List ℤ)) (fault : FlowAnswer) →
+        AreFlows inputs bytes flows → IsFirstBadPlace inputs bytes fault → ⊥ }
+{}
+
+/// A law: bytes have one list of events, or one first offending line, and not both.
+pub fn one_event_reading()
+    ensures some { (bytes : List ℕ) →
+        ((events : List FileEvent) × AreEvents bytes events) ⊎ ((fault : EventAnswer) × IsFirstBadEvent bytes fault) }
+    ensures events { (bytes : List ℕ) (a b : List FileEvent) → AreEvents bytes a → AreEvents bytes b → a ≡ b }
+    ensures fault { (bytes : List ℕ) (a b : EventAnswer) → IsFirstBadEvent bytes a → IsFirstBadEvent bytes b → a ≡ b }
+    ensures apart { (bytes : List ℕ) (events : List FileEvent) (fault : EventAnswer) → AreEvents bytes events → IsFirstBadEvent bytes fault → ⊥ }
+{}
