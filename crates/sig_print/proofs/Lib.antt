@@ -1,5 +1,8 @@
 pub mod Printable
 pub mod Processes
+pub mod ReadEquations
+pub mod ReadExpressions
+pub mod ReadProcesses
 pub mod Rows
 pub mod Spaces
 pub mod SpelledEquations

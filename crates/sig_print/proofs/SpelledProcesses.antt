@@ -154,7 +154,7 @@ module _ (limits : Limits) where
         )
 
 -- a label without its quotes
-inside_label : (inside : List ℕ) → slice_range (34 ∷ inside ++ 34 ∷ []) 1 (length (34 ∷ inside ++ 34 ∷ []) - 1) ≡ inside
+pub inside_label : (inside : List ℕ) → slice_range (34 ∷ inside ++ 34 ∷ []) 1 (length (34 ∷ inside ++ 34 ∷ []) - 1) ≡ inside
 inside_label inside =
     let e : length (34 ∷ inside ++ 34 ∷ []) - 1 - 1 ≡ length inside = omega (arith, length-append inside (34 ∷ [])) in
     ap (λ n. take n (inside ++ 34 ∷ [])) e ∙ take_at inside (34 ∷ []) (length inside) refl

@@ -5,8 +5,10 @@ ghost use Rattle.std.specs.List.{AllByRecursion, flat_map};
 ghost use Rattle.sig_lex.specs.declared.token.Token.{Token};
 ghost use Rattle.sig_lex.specs.Lexemes.{IsPrintable, lexemes, the_end, word_of};
 ghost use Rattle.sig_lex.specs.Tokens.{AreTokens};
-ghost use Rattle.sig_tree.specs.Grammar.{IsText};
+ghost use Rattle.sig_tree.specs.Grammar.{HasTree, IsText};
+ghost use Rattle.sig_tree.specs.Leaves.{leaves_of};
 ghost use Rattle.sig_tree.specs.Syntax.{ProcessModel};
+ghost use Rattle.sig_tree.specs.Unplaced.{unplaced, unplaced_leaves};
 ghost use Rattle.sig_print.specs.Canonical.{canonical_text, process_words};
 
 use sig_lex::{each_token, tokens_of_words};
@@ -27,4 +29,14 @@ pub fn words_are_tokens()
 {
     words_are_spelled();
     tokens_of_words();
+}
+
+/// A law: the leaves of the canonical text of such a program, their places left out, are those of
+/// the program, its places left out.
+pub fn canonical_leaves()
+    ensures { (text : List ℕ) (processes : List ProcessModel) → IsText text processes →
+        (tokens : List Token) × AreTokens (canonical_text processes) tokens
+        × HasTree (unplaced_leaves (leaves_of (canonical_text processes) tokens)) (unplaced processes) }
+{
+    words_are_tokens();
 }

@@ -8,3 +8,4 @@ pub mod Processes
 pub mod Repeated
 pub mod Syntax
 pub mod Terminals
+pub mod Unplaced
