@@ -9,7 +9,7 @@ use thiserror::Error;
 /// Why a call on a store is refused.
 #[derive(Clone, Copy, Debug, PartialEq, Eq, Error)]
 pub enum DdAnswer {
-    /// The store holds the nodes that it was made for, and another one is needed.
+    /// The store holds the nodes that it was made for, and the call may need another one.
     #[error("{0} diagram nodes")]
     Budget(u32),
     #[error("out of memory")]

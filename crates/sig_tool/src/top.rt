@@ -72,7 +72,7 @@ pub fn sig_main<R: Threads + Wait + Sync, F: Files, S: Sink, E: Sink, G: Gate + 
         SaysLine E.took (E.faults err.old) (E.faults err.new) err.old err.new write_line }
     ensures untouched { IsRefused result → out.new ≡ out.old }
 
-    // No file is begun but those of the command.
+    // The file that was begun last, if it is there, is one of the command's.
     ensures begun { OfCommand (texts words.now) (λ c. IfSome (F.contents files.old) (λ held.
         HasBegun held c (F.at files.old) (F.at files.new))) }
     ensures none_begun { AreNoCommand (texts words.now) → files.new ≡ files.old }
