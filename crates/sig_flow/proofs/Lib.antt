@@ -8,3 +8,4 @@ mod LineWords
 mod Numerals
 mod StarLemmas
 mod TakenPieces
+pub mod ThreeNames

@@ -1,9 +1,13 @@
 //! Laws of the definitions of files.
 
-ghost use Rattle.std.specs.Prelude.{◌≡◌, ◌⊎◌, ℕ, ℤ, List};
+ghost use Rattle.std.specs.Prelude.{◌≡◌, ◌⊎◌, ◌↔◌, ℕ, ℤ, List, None, Some};
 ghost use Rattle.sig_base.specs.declared.signal.Signal.{Signal};
 ghost use Rattle.sig_flow.specs.Events.{AreEvents, IsFirstBadEvent};
-ghost use Rattle.sig_flow.specs.Flows.{AreFlows, IsFirstBadPlace};
+ghost use Rattle.sig_flow.specs.Flows.{AreFlows, IsFirstBadPlace, value_judge};
+ghost use Rattle.sig_flow.specs.First.{AllGood, IsFirst, first_fault};
+ghost use Rattle.sig_flow.specs.Words.{Word};
+ghost use Rattle.sig_base.specs.declared.ids.Kind.{Kind};
+ghost use Rattle.sig_flow.specs.declared.version.Version.{Version};
 ghost use Rattle.sig_flow.specs.declared.answer.EventAnswer.{EventAnswer};
 ghost use Rattle.sig_flow.specs.declared.answer.FlowAnswer.{FlowAnswer};
 ghost use Rattle.sig_flow.specs.declared.event.FileEvent.{FileEvent};
@@ -16,6 +20,15 @@ pub fn one_flow_reading()
     ensures fault { (inputs : List Signal) (bytes : List ℕ) (a b : FlowAnswer) → IsFirstBadPlace inputs bytes a → IsFirstBadPlace inputs bytes b → a ≡ b }
     ensures apart { (inputs : List Signal) (bytes : List ℕ) (flows : List (List ℤ)) (fault : FlowAnswer) →
         AreFlows inputs bytes flows → IsFirstBadPlace inputs bytes fault → ⊥ }
+{}
+
+/// A law: the place at which a line's values offend is that of the first word that does, and every word
+/// before it is good.
+pub fn first_wrong_word()
+    ensures fault { (version : Version) (kind : Kind) (number before : ℕ) (words : List Word) (fault : FlowAnswer) →
+        (first_fault (value_judge version kind number) before words ≡ Some fault) ↔ IsFirst (value_judge version kind number) before words fault }
+    ensures good { (version : Version) (kind : Kind) (number before : ℕ) (words : List Word) →
+        (first_fault (value_judge version kind number) before words ≡ None) ↔ AllGood (value_judge version kind number) before words }
 {}
 
 /// A law: bytes have one list of events, or one first offending line, and not both.

@@ -21,7 +21,7 @@ mod word;
 
 pub use answer::{EventAnswer, FlowAnswer};
 pub use event::{FileEvent, read_events};
-pub use laws::{one_event_reading, one_flow_reading};
+pub use laws::{first_wrong_word, one_event_reading, one_flow_reading};
 pub use put::put_value;
 pub use read::{read_flows, read_named};
 

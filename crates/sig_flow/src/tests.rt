@@ -1,5 +1,8 @@
 //! Files and lines, with what they say.
 
+ghost use Rattle.std.specs.Prelude.{◌≡◌, bytes_eq, map, vec_len, IfOk};
+ghost use Rattle.std.specs.List.{IsDistinct};
+
 use super::*;
 use sig_base::{Kind, Signal, Span, Text};
 use sig_kernel::Kernel;
@@ -79,21 +82,26 @@ fn shows_refusals(rt: HostRuntime) -> Result<(), Fail> {
     Ok(())
 }
 
+fn acts(alloc: Global, count: usize) -> Result<Vec<u8>, Fail> {
+    Ok(b"act 7\n".repeat(alloc, count)?)
+}
+
 #[test]
 fn counts_events(rt: HostRuntime) -> Result<(), Fail> {
     let alloc = rt.alloc();
-    let mut bytes = b"act 7\n".repeat(alloc, 1_000_000)?;
+    let mut bytes = acts(alloc, 1_000_000)?;
     assert_eq!(rt; read_events(alloc, &bytes)?.len(), 1_000_000);
     bytes.extend_from_slice(b"look 7\n")?;
     assert_eq!(rt;
         refused(alloc, &bytes),
         Some(EventAnswer::TooMany(1_000_000))
     );
-    bytes.extend_from_slice(b"look\n")?;
     Ok(())
 }
 
-fn signal(alloc: Global, name: &[u8], kind: Kind) -> Result<Signal, Fail> {
+fn signal(alloc: Global, name: &[u8], kind: Kind) -> Result<Signal, Fail>
+    ensures { IfOk result (λ signal. signal.name ≡ name.now) }
+{
     Ok(Signal {
         name: Text::from_bytes(alloc, name)?,
         kind,
@@ -103,12 +111,15 @@ fn signal(alloc: Global, name: &[u8], kind: Kind) -> Result<Signal, Fail> {
 }
 
 // An integer A, a boolean B and an event C.
-fn signals(alloc: Global) -> Result<Vec<Signal>, Fail> {
-    let mut signals = Vec::new(alloc);
-    signals.push(signal(alloc, b"A", Kind::Integer)?)?;
-    signals.push(signal(alloc, b"B", Kind::Boolean)?)?;
-    signals.push(signal(alloc, b"C", Kind::Event)?)?;
-    Ok(signals)
+#[tactic(auto, using(crate::proofs::ThreeNames::three_differ))]
+fn signals(alloc: Global) -> Result<Vec<Signal>, Fail>
+    ensures three { IfOk result (λ signals. vec_len signals ≡ 3) }
+    ensures differ { IfOk result (λ signals. IsDistinct bytes_eq (map (λ input. input.name) signals.items)) }
+{
+    let first = signal(alloc, b"A", Kind::Integer)?;
+    let second = signal(alloc, b"B", Kind::Boolean)?;
+    let third = signal(alloc, b"C", Kind::Event)?;
+    Ok(Vec::from_array(alloc, [first, second, third])?)
 }
 
 #[test]
@@ -150,7 +161,9 @@ fn reads_flows(rt: HostRuntime) -> Result<(), Fail> {
     Ok(())
 }
 
-fn refusal(alloc: Global, bytes: &[u8], inputs: &[Signal]) -> Option<FlowAnswer> {
+fn refusal(alloc: Global, bytes: &[u8], inputs: &[Signal]) -> Option<FlowAnswer>
+    requires { IsDistinct bytes_eq (map (λ input. input.name) inputs.now) }
+{
     read_named(alloc, bytes, inputs).err()
 }
 
@@ -228,20 +241,21 @@ fn counts_values(rt: HostRuntime) -> Result<(), Fail> {
 }
 
 #[test]
+#[tactic(auto, using(crate::proofs::ThreeNames::taken_differ))]
 fn reads_a_kernels_flows(rt: HostRuntime) -> Result<(), Fail> {
     let alloc = rt.alloc();
     let kernel = Kernel {
         signals: signals(alloc)?,
         equations: Vec::new(alloc),
-        inputs: 2,
-        outputs: 1,
+        inputs: 3,
+        outputs: 0,
         declared: 3,
     };
     let flows = read_flows(alloc, b"B true\nA 5", &kernel)?;
-    assert_eq!(rt; flows.as_slice().len(), 2);
+    assert_eq!(rt; flows.as_slice().len(), 3);
     assert_eq!(rt; flows.as_slice()[0].as_slice(), [5].as_slice());
     assert_eq!(rt;
-        read_flows(alloc, b"C true", &kernel).err(),
+        read_flows(alloc, b"D true", &kernel).err(),
         Some(FlowAnswer::NotAnInput(1))
     );
     Ok(())
