@@ -1,3 +1,6 @@
+pub mod PlaceEquations
+pub mod PlaceExpressions
+pub mod PlaceProcesses
 pub mod Printable
 pub mod Processes
 pub mod ReadEquations

@@ -33,10 +33,10 @@ operators_from : (es : List Expression) (n : ℕ) → fold (λ k e. k + operator
 operators_from [] n = refl
 operators_from (e ∷ es) n = operators_from es (n + operators (unplaced_expression e)) ∙ ap (λ k. fold (λ k e. k + operators e) (n + k) es) (operators_unplaced e)
 
-operators_all : (es : List Expression) → sum_by operators (map unplaced_expression es) ≡ sum_by operators es
+pub operators_all : (es : List Expression) → sum_by operators (map unplaced_expression es) ≡ sum_by operators es
 operators_all es = operators_from es 0
 
-right_operators_unplaced : (right : RightSide) → right_operators (unplaced_right right) ≡ right_operators right
+pub right_operators_unplaced : (right : RightSide) → right_operators (unplaced_right right) ≡ right_operators right
 right_operators_unplaced (Computed e) = operators_unplaced e
 right_operators_unplaced (Called n constants arguments) = operators_all arguments
 

@@ -40,3 +40,11 @@ pub fn canonical_leaves()
 {
     words_are_tokens();
 }
+
+/// A law: the canonical text of such a program is the text of the same program, places aside.
+pub fn round_trip()
+    ensures { (text : List ℕ) (processes : List ProcessModel) → IsText text processes →
+        (others : List ProcessModel) × IsText (canonical_text processes) others × (unplaced others ≡ unplaced processes) }
+{
+    canonical_leaves();
+}

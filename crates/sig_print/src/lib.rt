@@ -10,7 +10,7 @@ mod process;
 mod words;
 
 pub use answer::PrintAnswer;
-pub use laws::{canonical_leaves, words_are_spelled, words_are_tokens};
+pub use laws::{canonical_leaves, round_trip, words_are_spelled, words_are_tokens};
 pub use process::print;
 
 #[cfg(test)]
