@@ -1,11 +1,16 @@
+pub mod Candidates
+pub mod Declarations
 pub mod Equations
 pub mod Expressions
 pub mod Grammar
+pub mod Kinds
 pub mod Leaves
 pub mod Levels
 pub mod Limits
 pub mod Processes
 pub mod Repeated
+pub mod Rules
 pub mod Syntax
 pub mod Terminals
 pub mod Unplaced
+pub mod WellFormed

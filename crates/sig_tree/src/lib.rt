@@ -4,6 +4,8 @@
 
 mod expr;
 mod process;
+mod well_formed;
 
 pub use expr::{BinOp, Constant, Expr, Name, UnOp};
 pub use process::{Body, Group, Item, Process, Program, Right, RunOn};
+pub use well_formed::one_offence;
