@@ -1,3 +1,5 @@
+pub mod Beginning
+pub mod Continuing
 pub mod Equations
 pub mod Expressions
 pub mod Grammar
@@ -5,6 +7,7 @@ pub mod Leaves
 pub mod Levels
 pub mod Limits
 pub mod Processes
+pub mod Readings
 pub mod Repeated
 pub mod Syntax
 pub mod Terminals
