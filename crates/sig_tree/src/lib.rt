@@ -3,7 +3,9 @@
 #![tactic(auto)]
 
 mod expr;
+mod laws;
 mod process;
 
 pub use expr::{BinOp, Constant, Expr, Name, UnOp};
+pub use laws::one_expression;
 pub use process::{Body, Group, Item, Process, Program, Right, RunOn};

@@ -1,0 +1,5 @@
+pub mod Settling
+pub mod Stopping
+pub mod Operators
+pub mod Reader
+pub mod ReadExpressions
