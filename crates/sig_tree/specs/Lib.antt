@@ -1,5 +1,7 @@
 pub mod Candidates
 pub mod Declarations
+pub mod Beginning
+pub mod Continuing
 pub mod Equations
 pub mod Expressions
 pub mod Grammar
@@ -8,6 +10,7 @@ pub mod Leaves
 pub mod Levels
 pub mod Limits
 pub mod Processes
+pub mod Readings
 pub mod Repeated
 pub mod Rules
 pub mod Syntax

@@ -3,9 +3,11 @@
 #![tactic(auto)]
 
 mod expr;
+mod laws;
 mod process;
 mod well_formed;
 
 pub use expr::{BinOp, Constant, Expr, Name, UnOp};
+pub use laws::one_expression;
 pub use process::{Body, Group, Item, Process, Program, Right, RunOn};
 pub use well_formed::one_offence;
