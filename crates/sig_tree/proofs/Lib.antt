@@ -1,6 +1,6 @@
 mod CandidateLemmas
+pub mod Operators
+pub mod ReadExpressions
+pub mod Reader
 pub mod Settling
 pub mod Stopping
-pub mod Operators
-pub mod Reader
-pub mod ReadExpressions

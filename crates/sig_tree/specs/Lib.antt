@@ -1,7 +1,7 @@
-pub mod Candidates
-pub mod Declarations
 pub mod Beginning
+pub mod Candidates
 pub mod Continuing
+pub mod Declarations
 pub mod Equations
 pub mod Expressions
 pub mod Grammar
