@@ -1,11 +1,16 @@
 pub mod Equations
 pub mod Expressions
+pub mod FlatSyntax
 pub mod Grammar
 pub mod Leaves
 pub mod Levels
 pub mod Limits
+pub mod Meaning
+pub mod Operators
+pub mod ProcessTraces
 pub mod Processes
 pub mod Repeated
+pub mod Steps
 pub mod Syntax
 pub mod Terminals
 pub mod Unplaced

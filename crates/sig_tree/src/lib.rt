@@ -3,7 +3,11 @@
 #![tactic(auto)]
 
 mod expr;
+mod flat;
+mod meaning;
 mod process;
 
 pub use expr::{BinOp, Constant, Expr, Name, UnOp};
+pub use flat::{Flat, FlatEq, FlatExpr};
+pub use meaning::one_meaning;
 pub use process::{Body, Group, Item, Process, Program, Right, RunOn};

@@ -1,0 +1,3 @@
+pub mod OneMeaning
+pub mod Previous
+pub mod StepLaws
