@@ -1,6 +1,9 @@
 mod CandidateLemmas
+pub mod OneMeaning
 pub mod Operators
+pub mod Previous
 pub mod ReadExpressions
 pub mod Reader
 pub mod Settling
+pub mod StepLaws
 pub mod Stopping
