@@ -7,3 +7,4 @@ pub mod Reader
 pub mod Settling
 pub mod StepLaws
 pub mod Stopping
+mod OneExpansion

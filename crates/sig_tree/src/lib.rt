@@ -4,6 +4,7 @@
 //! (`specs/ProcessTraces.antt`). It stands on sig_base and sig_lex.
 #![tactic(auto)]
 
+mod expansion;
 mod expr;
 mod flat;
 mod laws;
@@ -11,6 +12,7 @@ mod meaning;
 mod process;
 mod well_formed;
 
+pub use expansion::one_flat_body;
 pub use expr::{BinOp, Constant, Expr, Name, UnOp};
 pub use flat::{Flat, FlatEq, FlatExpr};
 pub use laws::one_expression;
