@@ -7,5 +7,5 @@ mod laws;
 mod process;
 
 pub use expr::{BinOp, Constant, Expr, Name, UnOp};
-pub use laws::one_expression;
+pub use laws::{beginnings, one_expression, within_no_limits};
 pub use process::{Body, Group, Item, Process, Program, Right, RunOn};
