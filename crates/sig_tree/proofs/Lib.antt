@@ -8,3 +8,6 @@ pub mod Settling
 pub mod StepLaws
 pub mod Stopping
 mod OneExpansion
+pub mod Unlimited
+pub mod FirstLeaves
+pub mod Combining

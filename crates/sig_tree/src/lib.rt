@@ -17,5 +17,6 @@ pub use expr::{BinOp, Constant, Expr, Name, UnOp};
 pub use flat::{Flat, FlatEq, FlatExpr};
 pub use laws::one_expression;
 pub use meaning::one_meaning;
+pub use laws::{beginnings, one_expression, within_no_limits};
 pub use process::{Body, Group, Item, Process, Program, Right, RunOn};
 pub use well_formed::one_offence;
