@@ -57,7 +57,7 @@ module _ (limits : Limits) where
       → Enclosed limits (level_of e) (IsBare limits e) parentheses wanted depth front → StartsWith (BeginsExpression own) leaves
   behind_begins e bare own wanted depth parentheses tight leaves front back same is =
       starts_front (BeginsExpression own) leaves front back same
-          (starts_larger (BeginsExpression wanted) (BeginsExpression own) (looser_begins own wanted tight) front (enclosed_begins e bare parentheses wanted depth front is))
+      (starts_larger (BeginsExpression wanted) (BeginsExpression own) (looser_begins own wanted tight) front (enclosed_begins e bare parentheses wanted depth front is))
 
   bare_begins : (e : Expression) (depth : ℕ) (leaves : List Leaf) → IsBare limits e depth leaves → StartsWith (BeginsExpression (level_of e)) leaves
   bare_begins (Named n) depth leaves is = starts_at (BeginsExpression primary_level) leaves _ _ is (inr (inr (inr (n.text, refl))))

@@ -1,4 +1,7 @@
 mod CandidateLemmas
+pub mod Combining
+pub mod FirstLeaves
+mod OneExpansion
 pub mod OneMeaning
 pub mod Operators
 pub mod Previous
@@ -7,7 +10,4 @@ pub mod Reader
 pub mod Settling
 pub mod StepLaws
 pub mod Stopping
-mod OneExpansion
 pub mod Unlimited
-pub mod FirstLeaves
-pub mod Combining

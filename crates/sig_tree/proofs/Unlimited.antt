@@ -120,21 +120,21 @@ module _ (limits : Limits) where
     pub model_free : (model : ProcessModel) (depth other : ℕ) (leaves : List Leaf) → IsModel limits model depth leaves → IsModel no_limits model other leaves
     model_free (Modelled heading pragmas body locals inner) depth other leaves
         (begun, equals, ended, params, interface, placed, equations, others, e, are_params, is_interface, are_pragmas, is_body, is_where) = (
-      begun,
-      equals,
-      ended,
-      params,
-      interface,
-      placed,
-      equations,
-      others,
-      e,
-      are_params,
-      is_interface,
-      are_pragmas,
-      body_free body depth other equations is_body,
-      where_free locals inner (AreLocals limits inner depth locals) (AreLocals no_limits inner other locals) (locals_free inner depth other locals) others is_where,
-    )
+          begun,
+          equals,
+          ended,
+          params,
+          interface,
+          placed,
+          equations,
+          others,
+          e,
+          are_params,
+          is_interface,
+          are_pragmas,
+          body_free body depth other equations is_body,
+          where_free locals inner (AreLocals limits inner depth locals) (AreLocals no_limits inner other locals) (locals_free inner depth other locals) others is_where,
+        )
 
     pub locals_free : (inner : ProcessModels) (depth other : ℕ) (groups : List Declared) (leaves : List Leaf) → AreLocals limits inner depth groups leaves → AreLocals no_limits inner other groups leaves
     locals_free no_model depth other groups leaves are = are
