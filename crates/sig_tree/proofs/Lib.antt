@@ -6,3 +6,4 @@ pub mod ReadExpressions
 pub mod Unlimited
 pub mod FirstLeaves
 pub mod Combining
+pub mod ReadEquations
