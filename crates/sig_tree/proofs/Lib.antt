@@ -7,3 +7,4 @@ pub mod Unlimited
 pub mod FirstLeaves
 pub mod Combining
 pub mod ReadEquations
+pub mod ReadBodies

@@ -148,7 +148,7 @@ module _ (limits : Limits) (depth : ℕ) where
               (BeginsExpression default_level) (expression_begins limits default_level depth) (mark (codes ",")) (mark_apart (codes ",") refl default_level))
           (mark (codes "(")) (mark (codes ")")) arguments_apart
 
-  named_alone : (n : Name) → IsExpression limits depth (Named n) (name_leaf n ∷ [])
+  pub named_alone : (n : Name) → IsExpression limits depth (Named n) (name_leaf n ∷ [])
   named_alone n = (0, (omega arith, refl))
 
   -- the brackets of a call
