@@ -8,3 +8,4 @@ pub mod FirstLeaves
 pub mod Combining
 pub mod ReadEquations
 pub mod ReadBodies
+pub mod ReadDeclarations
