@@ -9,3 +9,4 @@ pub mod Combining
 pub mod ReadEquations
 pub mod ReadBodies
 pub mod ReadDeclarations
+pub mod ReadProcesses
