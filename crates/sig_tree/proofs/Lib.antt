@@ -11,3 +11,7 @@ pub mod Settling
 pub mod StepLaws
 pub mod Stopping
 pub mod Unlimited
+pub mod ReadEquations
+pub mod ReadBodies
+pub mod ReadDeclarations
+pub mod ReadProcesses

@@ -24,6 +24,10 @@ terminal_same (word a) (word b) e = ap word (bytes_same a b e)
 terminal_same (mark a) (mark b) e = ap mark (bytes_same a b e)
 terminal_same _ _ e = cc
 
+-- terminals that the test tells apart
+pub different : (t u : Terminal) → is_terminal t u ≡ false → is_terminal u u ≡ true → t ≡ u → ⊥
+different t u apart self e = let both : false ≡ true = sym apart ∙ ap (λ s. is_terminal s u) e ∙ self in cc
+
 some_same : {A : Type 0} (x y : A) → Some x ≡ Some y → x ≡ y
 some_same x y e = cc
 
