@@ -1,3 +1,4 @@
+pub mod Constants
 pub mod Equations
 pub mod Expressions
 pub mod FlatSyntax
