@@ -15,3 +15,10 @@ pub mod ReadEquations
 pub mod ReadBodies
 pub mod ReadDeclarations
 pub mod ReadProcesses
+pub mod EquationLaws
+pub mod OneMeaning
+pub mod PrefixLaws
+pub mod Previous
+pub mod Silence
+pub mod StepLaws
+pub mod UpTo

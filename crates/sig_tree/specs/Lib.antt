@@ -2,6 +2,7 @@ pub mod Beginning
 pub mod Candidates
 pub mod Continuing
 pub mod Declarations
+pub mod Constants
 pub mod Equations
 pub mod Expressions
 pub mod FlatBody

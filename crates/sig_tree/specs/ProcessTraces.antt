@@ -22,7 +22,11 @@ HoldsAt trace i (Equal operands prefix) = AllByRecursion (λ e. Means e trace i 
 abbrev pub IsTraceOf : List Signal → Trace → Type 0
 IsTraceOf signals trace = AllByRecursion (AreOfKinds Bounded (kinds_of signals)) trace
 
+-- equations hold at each instant of a trace
+abbrev pub HoldThroughout : List FlatEquation → Trace → Type 0
+HoldThroughout equations trace = (i : ℕ) → i < length trace → AllByRecursion (HoldsAt trace i) equations
+
 -- a trace of the process of a flat body
 pub record IsProcessTrace (flat : FlatBody) (trace : Trace) : Type 0 where
   pub kinds : IsTraceOf flat.signals trace
-  pub holds : (i : ℕ) → i < length trace → AllByRecursion (HoldsAt trace i) flat.equations
+  pub holds : HoldThroughout flat.equations trace

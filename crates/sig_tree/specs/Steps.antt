@@ -1,10 +1,11 @@
 -- Expressions and equations read one instant at a time: what they are at an instant, and the expression or
 -- equation that means behind it what they would mean there. Only the inits of delays and cells change.
-use Rattle.std.specs.Prelude.{◌≡◌, ◌⊎◌, ℤ, List, [], ◌∷◌, None, Some}
+use Rattle.std.specs.Prelude.{◌≡◌, ◌⊎◌, ◌+◌, ◌++◌, ℕ, ℤ, List, [], ◌∷◌, length, None, Some}
 use Rattle.std.specs.List.{AllZip}
 use Rattle.sig_base.specs.Traces.{Seen, Instant, Trace, seen_at}
 use Rattle.sig_tree.specs.FlatSyntax.{FlatExpression, Sig, Const, Unary, Binary, Delay, Cell, FlatEquation, Defines, Equal}
 use Rattle.sig_tree.specs.Operators.{Operand, Signal, Constant, Changes, Combines, delayed, held}
+use Rattle.sig_tree.specs.ProcessTraces.{HoldsAt}
 
 -- the value that is kept behind an instant: the one of this instant, or where there is none the one kept before
 abbrev pub kept : ℤ → Seen → ℤ
@@ -43,3 +44,10 @@ BodySteps now equations nexts = AllZip (EquationSteps now) equations nexts
 abbrev pub Leads : List FlatEquation → Trace → List FlatEquation → Type 0
 Leads equations [] nexts = nexts ≡ equations
 Leads equations (now ∷ trace) nexts = (behind : List FlatEquation) × BodySteps now equations behind × Leads behind trace nexts
+
+-- an equation holds over a trace and what follows it, from the end of the trace on, where another one holds
+-- over what follows
+abbrev pub HoldsBehind : Trace → Trace → FlatEquation → FlatEquation → Type 0
+HoldsBehind front rest equation next = (i : ℕ)
+    → (HoldsAt (front ++ rest) (length front + i) equation → HoldsAt rest i next)
+    × (HoldsAt rest i next → HoldsAt (front ++ rest) (length front + i) equation)
