@@ -1,24 +1,21 @@
 mod CandidateLemmas
 pub mod Combining
+pub mod EquationLaws
 pub mod FirstLeaves
 mod OneExpansion
 pub mod OneMeaning
 pub mod Operators
+pub mod PrefixLaws
 pub mod Previous
+pub mod ReadBodies
+pub mod ReadDeclarations
+pub mod ReadEquations
 pub mod ReadExpressions
+pub mod ReadProcesses
 pub mod Reader
 pub mod Settling
+pub mod Silence
 pub mod StepLaws
 pub mod Stopping
 pub mod Unlimited
-pub mod ReadEquations
-pub mod ReadBodies
-pub mod ReadDeclarations
-pub mod ReadProcesses
-pub mod EquationLaws
-pub mod OneMeaning
-pub mod PrefixLaws
-pub mod Previous
-pub mod Silence
-pub mod StepLaws
 pub mod UpTo

@@ -1,8 +1,8 @@
 pub mod Beginning
 pub mod Candidates
+pub mod Constants
 pub mod Continuing
 pub mod Declarations
-pub mod Constants
 pub mod Equations
 pub mod Expressions
 pub mod FlatBody
