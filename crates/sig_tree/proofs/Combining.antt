@@ -1,14 +1,12 @@
 -- One reading of what is put together of parts with one reading.
-use Rattle.std.proofs.Common.{◌≡◌, ◌++◌, List, [], ◌∷◌, refl, sym, ap, ◌∙◌, subst, inl, inr, ◌⊎◌, append_assoc}
+use Rattle.std.proofs.Common.{◌≡◌, ◌++◌, List, [], ◌∷◌, refl, sym, ap, ◌∙◌, subst, inl, inr, append_assoc}
 use Rattle.std.proofs.lemmas.List.{append_cancel_left}
-use Rattle.sig_base.specs.declared.span.Span.{Span}
 use Rattle.sig_tree.specs.Terminals.{Terminal, Leaf, leaf}
 use Rattle.sig_tree.specs.Repeated.{Between, Each, Further, Separated, Listed}
 use Rattle.sig_tree.specs.Readings.{StopsBefore, OneReading}
 use Rattle.sig_tree.specs.Beginning.{StartsWith}
 use Rattle.sig_tree.specs.Continuing.{ContinuesNothing, ContinuesList, ContinuesEach}
 use Rattle.sig_tree.proofs.Stopping.{stops_smaller}
-use Rattle.sig_tree.proofs.FirstLeaves.{starts_longer}
 
 -- one reading, of one tree
 abbrev pub OneAt : {A : Type 0} → (A → List Leaf → Type 0) → (Terminal → Type 0) → A → Type 0
@@ -57,8 +55,8 @@ module _ {A : Type 0} (Is : A → List Leaf → Type 0) (Continues : Terminal �
         let close = leaf closing closed in
         let other_close = leaf closing other_closed in
         let first : leaf opening opened ∷ (inside ++ close ∷ back) ≡ leaf opening other_opened ∷ (other_inside ++ other_close ∷ other_back) =
-            sym (append_to front (leaf opening opened ∷ inside) (close ∷ []) back f) ∙ e
-                ∙ append_to other_front (leaf opening other_opened ∷ other_inside) (other_close ∷ []) other_back g in
+        sym (append_to front (leaf opening opened ∷ inside) (close ∷ []) back f) ∙ e
+        ∙ append_to other_front (leaf opening other_opened ∷ other_inside) (other_close ∷ []) other_back g in
         let heads = cons_same _ _ _ _ first in
         let part = part_at x once y inside other_inside (close ∷ back) (other_close ∷ other_back) heads.1 is other_is apart apart in
         let lasts = cons_same _ _ _ _ part.2 in
@@ -91,10 +89,10 @@ module _ {A : Type 0} (Is : A → List Leaf → Type 0) (Continues : Terminal �
           absurd (no_further x xs front back other_back (ap (λ l. l ++ other_back) (sym other_are) ∙ sym e) are other_stops)
       further_once (x ∷ xs) (y ∷ ys) front other_front back other_back e (at, first, rest, f, is, are) (other_at, other_first, other_rest, g, other_is, other_are) stops other_stops =
           let begin : leaf separator at ∷ (first ++ (rest ++ back)) ≡ leaf separator other_at ∷ (other_first ++ (other_rest ++ other_back)) =
-              sym (append_to front (leaf separator at ∷ first) rest back f) ∙ e ∙ append_to other_front (leaf separator other_at ∷ other_first) other_rest other_back g in
+          sym (append_to front (leaf separator at ∷ first) rest back f) ∙ e ∙ append_to other_front (leaf separator other_at ∷ other_first) other_rest other_back g in
           let heads = cons_same _ _ _ _ begin in
           let part = part_at x (once x) y first other_first (rest ++ back) (other_rest ++ other_back) heads.1 is other_is
-              (further_stops xs rest back are (list_stops back stops)) (further_stops ys other_rest other_back other_are (list_stops other_back other_stops)) in
+          (further_stops xs rest back are (list_stops back stops)) (further_stops ys other_rest other_back other_are (list_stops other_back other_stops)) in
           let others = further_once xs ys rest other_rest back other_back part.2 are other_are stops other_stops in
           let trees : x ∷ xs ≡ y ∷ ys = cc (part.0, others.0) in
           let whole : front ≡ other_front = cc (f, g, heads.0, part.1, others.1) in
@@ -106,9 +104,9 @@ module _ {A : Type 0} (Is : A → List Leaf → Type 0) (Continues : Terminal �
       separated_once (x ∷ xs) [] front other_front back other_back e are other_are stops other_stops = absurd other_are
       separated_once (x ∷ xs) (y ∷ ys) front other_front back other_back e (first, rest, f, is, are) (other_first, other_rest, g, other_is, other_are) stops other_stops =
           let begin : first ++ (rest ++ back) ≡ other_first ++ (other_rest ++ other_back) =
-              sym (append_to front first rest back f) ∙ e ∙ append_to other_front other_first other_rest other_back g in
+          sym (append_to front first rest back f) ∙ e ∙ append_to other_front other_first other_rest other_back g in
           let part = part_at x (once x) y first other_first (rest ++ back) (other_rest ++ other_back) begin is other_is
-              (further_stops xs rest back are (list_stops back stops)) (further_stops ys other_rest other_back other_are (list_stops other_back other_stops)) in
+          (further_stops xs rest back are (list_stops back stops)) (further_stops ys other_rest other_back other_are (list_stops other_back other_stops)) in
           let others = further_once xs ys rest other_rest back other_back part.2 are other_are stops other_stops in
           let trees : x ∷ xs ≡ y ∷ ys = cc (part.0, others.0) in
           let whole : front ≡ other_front = cc (f, g, part.1, others.1) in
@@ -122,7 +120,7 @@ module _ {A : Type 0} (Is : A → List Leaf → Type 0) (Continues : Terminal �
             → StopsBefore (ContinuesEach Begins (ContinuesList separator Continues)) leaves → ⊥
         no_listed y ys front back leaves e (first, rest, f, is, are) stops =
             starts_stops Begins (ContinuesEach Begins (ContinuesList separator Continues)) first (rest ++ back) (λ t starts. inl starts) (begins y first is)
-                (subst (λ (l : List Leaf). StopsBefore (ContinuesEach Begins (ContinuesList separator Continues)) l) (e ∙ append_to front first rest back f) stops)
+            (subst (λ (l : List Leaf). StopsBefore (ContinuesEach Begins (ContinuesList separator Continues)) l) (e ∙ append_to front first rest back f) stops)
 
         each_stops : (back : List Leaf) → StopsBefore (ContinuesEach Begins (ContinuesList separator Continues)) back → StopsBefore (ContinuesList separator Continues) back
         each_stops back stops = stops_smaller (ContinuesEach Begins (ContinuesList separator Continues)) (ContinuesList separator Continues) (λ t continues. inr continues) back stops
@@ -149,7 +147,7 @@ module _ {A : Type 0} (Is : A → List Leaf → Type 0) (Continues : Terminal �
         no_each : (y : A) (ys : List A) (front back leaves : List Leaf) → leaves ≡ front ++ back → Each Is (y ∷ ys) front → StopsBefore (ContinuesEach Begins Continues) leaves → ⊥
         no_each y ys front back leaves e (first, rest, f, is, are) stops =
             starts_stops Begins (ContinuesEach Begins Continues) first (rest ++ back) (λ t starts. inl starts) (begins y first is)
-                (subst (λ (l : List Leaf). StopsBefore (ContinuesEach Begins Continues) l) (e ∙ append_to front first rest back f) stops)
+            (subst (λ (l : List Leaf). StopsBefore (ContinuesEach Begins Continues) l) (e ∙ append_to front first rest back f) stops)
 
         pub each_once : OneReading (Each Is) (ContinuesEach Begins Continues)
         each_once [] [] front other_front back other_back e are other_are stops other_stops = (refl, are ∙ sym other_are)
@@ -159,9 +157,9 @@ module _ {A : Type 0} (Is : A → List Leaf → Type 0) (Continues : Terminal �
             absurd (no_each x xs front back other_back (ap (λ l. l ++ other_back) (sym other_are) ∙ sym e) are other_stops)
         each_once (x ∷ xs) (y ∷ ys) front other_front back other_back e (first, rest, f, is, are) (other_first, other_rest, g, other_is, other_are) stops other_stops =
             let begin : first ++ (rest ++ back) ≡ other_first ++ (other_rest ++ other_back) =
-                sym (append_to front first rest back f) ∙ e ∙ append_to other_front other_first other_rest other_back g in
+            sym (append_to front first rest back f) ∙ e ∙ append_to other_front other_first other_rest other_back g in
             let part = part_at x (once x) y first other_first (rest ++ back) (other_rest ++ other_back) begin is other_is
-                (each_then_stops xs rest back are (part_stops back stops)) (each_then_stops ys other_rest other_back other_are (part_stops other_back other_stops)) in
+            (each_then_stops xs rest back are (part_stops back stops)) (each_then_stops ys other_rest other_back other_are (part_stops other_back other_stops)) in
             let others = each_once xs ys rest other_rest back other_back part.2 are other_are stops other_stops in
             let trees : x ∷ xs ≡ y ∷ ys = cc (part.0, others.0) in
             let whole : front ≡ other_front = cc (f, g, part.1, others.1) in

@@ -1,13 +1,12 @@
 -- One reading of declarations, interfaces and pragmas.
-use Rattle.std.proofs.Common.{◌≡◌, ◌≢◌, ℕ, zero, suc, ◌++◌, List, [], ◌∷◌, refl, sym, ap, ◌∙◌, subst, codes, None, inl, inr, ◌⊎◌, append_assoc}
+use Rattle.std.proofs.Common.{◌≡◌, ℕ, ◌++◌, List, [], ◌∷◌, refl, sym, ap, ◌∙◌, subst, codes, inl, inr, ◌⊎◌}
 use Rattle.sig_base.specs.declared.span.Span.{Span}
 use Rattle.sig_base.specs.declared.ids.Kind.{Kind}
 use Rattle.sig_base.specs.declared.ids.Kind.TheVariants.{Integer, Boolean, Event}
 use Rattle.sig_tree.specs.declared.process.Item.{Item}
-use Rattle.sig_tree.specs.Syntax.{Declared, Placement}
+use Rattle.sig_tree.specs.Syntax.{Declared}
 use Rattle.sig_tree.specs.Terminals.{Terminal, Leaf, leaf, name, word, label, mark, name_leaf, kind_word}
 use Rattle.sig_tree.specs.Repeated.{Between, Each, Further, Separated}
-use Rattle.sig_tree.specs.Expressions.{IsOptionalInit}
 use Rattle.sig_tree.specs.Equations.{IsName}
 use Rattle.sig_tree.specs.Processes.{IsPlainItem, IsItem, IsGroup, IsParam, AreGroups, AreParams, IsInterface, IsPlacement, ArePragmas, IsLocalGroup}
 use Rattle.sig_tree.specs.Beginning.{StartsWith, BeginsGroup, BeginsPlacement}
@@ -17,8 +16,8 @@ use Rattle.sig_tree.proofs.Stopping.{stops_smaller}
 use Rattle.sig_tree.proofs.Operators.{different}
 use Rattle.sig_tree.proofs.ReadExpressions.{optional_init_once}
 use Rattle.sig_tree.proofs.FirstLeaves.{group_begins, placement_begins}
-use Rattle.sig_tree.proofs.Combining.{cons_same, append_to, starts_stops, starts_apart, part_at, between_once, further_stops, separated_once, each_once}
-use Rattle.sig_tree.proofs.ReadEquations.{stops_nothing, name_same, name_once, names_once, optional_between}
+use Rattle.sig_tree.proofs.Combining.{cons_same, append_to, starts_stops, part_at, between_once, further_stops, separated_once, each_once}
+use Rattle.sig_tree.proofs.ReadEquations.{name_same, name_once, names_once, optional_between}
 
 -- in a larger set too
 pub once_larger : {A : Type 0} (Is : A → List Leaf → Type 0) (Small Large : Terminal → Type 0) → ((t : Terminal) → Small t → Large t) → OneReading Is Small → OneReading Is Large
@@ -58,7 +57,7 @@ module _ (Is : Item → List Leaf → Type 0) (Continues : Terminal → Type 0) 
   group_once : OneReading (IsGroup Is) (ContinuesList (mark (codes ",")) Continues)
   group_once x y front other_front back other_back e (at, rest, f, are) (other_at, other_rest, g, other_are) stops other_stops =
       let begin : leaf (kind_word x.kind) at ∷ (rest ++ back) ≡ leaf (kind_word y.kind) other_at ∷ (other_rest ++ other_back) =
-          ap (λ l. l ++ back) (sym f) ∙ e ∙ ap (λ l. l ++ other_back) g in
+      ap (λ l. l ++ back) (sym f) ∙ e ∙ ap (λ l. l ++ other_back) g in
       let heads = cons_same _ _ _ _ begin in
       let kinds : x.kind ≡ y.kind = kind_same x.kind y.kind (ap (λ l. l.terminal) heads.0) in
       let last = separated_once Is Continues once (mark (codes ",")) apart x.items y.items rest other_rest back other_back heads.1 are other_are stops other_stops in
@@ -113,9 +112,9 @@ module _ (Is : Declared → List Leaf → Type 0) (Continues : Terminal → Type
       no_semicolon back at ((first ++ rest) ++ more) (ap (λ l. l ++ back) (sym e) ∙ same ∙ ap (λ l. l ++ more) f) stops
   last_group y ys tail further back more leaves (inr (ended, e)) same (at, first, rest, f, is, are) stops =
       let heads = cons_same (leaf (mark (codes ";")) ended) (leaf (mark (codes ";")) at) back (first ++ (rest ++ more))
-          (ap (λ l. l ++ back) (sym e) ∙ same ∙ append_to further (leaf (mark (codes ";")) at ∷ first) rest more f) in
+      (ap (λ l. l ++ back) (sym e) ∙ same ∙ append_to further (leaf (mark (codes ";")) at ∷ first) rest more f) in
       starts_stops BeginsGroup (ContinuesGroups Continues) first (rest ++ more) (λ t starts. inl starts) (begins y first is)
-          (subst (λ (l : List Leaf). StopsBefore (ContinuesGroups Continues) l) heads.1 stops)
+      (subst (λ (l : List Leaf). StopsBefore (ContinuesGroups Continues) l) heads.1 stops)
 
   further_groups : (xs ys : List Declared) (front other_front tail other_tail back other_back : List Leaf) → front ++ (tail ++ back) ≡ other_front ++ (other_tail ++ other_back)
       → Further Is (mark (codes ";")) xs front → Further Is (mark (codes ";")) ys other_front → MayEnd tail → MayEnd other_tail
@@ -132,11 +131,11 @@ module _ (Is : Declared → List Leaf → Type 0) (Continues : Terminal → Type
       let sign = leaf (mark (codes ";")) at in
       let other_sign = leaf (mark (codes ";")) other_at in
       let begin : sign ∷ (first ++ (rest ++ (tail ++ back))) ≡ other_sign ∷ (other_first ++ (other_rest ++ (other_tail ++ other_back))) =
-          sym (append_to front (sign ∷ first) rest (tail ++ back) f) ∙ e ∙ append_to other_front (other_sign ∷ other_first) other_rest (other_tail ++ other_back) g in
+      sym (append_to front (sign ∷ first) rest (tail ++ back) f) ∙ e ∙ append_to other_front (other_sign ∷ other_first) other_rest (other_tail ++ other_back) g in
       let heads = cons_same _ _ _ _ begin in
       let part = part_at Is Continues x (once x) y first other_first (rest ++ (tail ++ back)) (other_rest ++ (other_tail ++ other_back)) heads.1 is other_is
-          (further_stops Is Continues once (mark (codes ";")) apart xs rest (tail ++ back) are (end_stops tail back ends (inner_stops back stops)))
-          (further_stops Is Continues once (mark (codes ";")) apart ys other_rest (other_tail ++ other_back) other_are (end_stops other_tail other_back other_ends (inner_stops other_back other_stops))) in
+      (further_stops Is Continues once (mark (codes ";")) apart xs rest (tail ++ back) are (end_stops tail back ends (inner_stops back stops)))
+      (further_stops Is Continues once (mark (codes ";")) apart ys other_rest (other_tail ++ other_back) other_are (end_stops other_tail other_back other_ends (inner_stops other_back other_stops))) in
       let last = further_groups xs ys rest other_rest tail other_tail back other_back part.2 are other_are ends other_ends stops other_stops in
       let trees : x ∷ xs ≡ y ∷ ys = cc (part.0, last.0) in
       (trees, append_to front (sign ∷ first) rest tail f ∙ whole sign other_sign first other_first (rest ++ tail) (other_rest ++ other_tail) heads.0 part.1 last.1 ∙ sym (append_to other_front (other_sign ∷ other_first) other_rest other_tail g))
@@ -147,7 +146,7 @@ module _ (Is : Declared → List Leaf → Type 0) (Continues : Terminal → Type
   no_groups : (y : Declared) (ys : List Declared) (front back leaves : List Leaf) → leaves ≡ front ++ back → AreGroups Is (y ∷ ys) front → StopsBefore (ContinuesGroups Continues) leaves → ⊥
   no_groups y ys front back leaves e (listed, tail, f, (first, rest, g, is, are), ends) stops =
       starts_stops BeginsGroup (ContinuesGroups Continues) first (rest ++ (tail ++ back)) (λ t starts. inl starts) (begins y first is)
-          (subst (λ (l : List Leaf). StopsBefore (ContinuesGroups Continues) l) (e ∙ append_to front listed tail back f ∙ append_to listed first rest (tail ++ back) g) stops)
+      (subst (λ (l : List Leaf). StopsBefore (ContinuesGroups Continues) l) (e ∙ append_to front listed tail back f ∙ append_to listed first rest (tail ++ back) g) stops)
 
   groups_once : OneReading (AreGroups Is) (ContinuesGroups Continues)
   groups_once [] [] front other_front back other_back e are other_are stops other_stops = (refl, are ∙ sym other_are)
@@ -157,11 +156,11 @@ module _ (Is : Declared → List Leaf → Type 0) (Continues : Terminal → Type
       absurd (no_groups x xs front back other_back (ap (λ l. l ++ other_back) (sym other_are) ∙ sym e) are other_stops)
   groups_once (x ∷ xs) (y ∷ ys) front other_front back other_back e (listed, tail, f, (first, rest, g, is, are), ends) (other_listed, other_tail, other_f, (other_first, other_rest, other_g, other_is, other_are), other_ends) stops other_stops =
       let begin : first ++ (rest ++ (tail ++ back)) ≡ other_first ++ (other_rest ++ (other_tail ++ other_back)) =
-          sym (append_to front listed tail back f ∙ append_to listed first rest (tail ++ back) g) ∙ e
-              ∙ append_to other_front other_listed other_tail other_back other_f ∙ append_to other_listed other_first other_rest (other_tail ++ other_back) other_g in
+      sym (append_to front listed tail back f ∙ append_to listed first rest (tail ++ back) g) ∙ e
+      ∙ append_to other_front other_listed other_tail other_back other_f ∙ append_to other_listed other_first other_rest (other_tail ++ other_back) other_g in
       let part = part_at Is Continues x (once x) y first other_first (rest ++ (tail ++ back)) (other_rest ++ (other_tail ++ other_back)) begin is other_is
-          (further_stops Is Continues once (mark (codes ";")) apart xs rest (tail ++ back) are (end_stops tail back ends (inner_stops back stops)))
-          (further_stops Is Continues once (mark (codes ";")) apart ys other_rest (other_tail ++ other_back) other_are (end_stops other_tail other_back other_ends (inner_stops other_back other_stops))) in
+      (further_stops Is Continues once (mark (codes ";")) apart xs rest (tail ++ back) are (end_stops tail back ends (inner_stops back stops)))
+      (further_stops Is Continues once (mark (codes ";")) apart ys other_rest (other_tail ++ other_back) other_are (end_stops other_tail other_back other_ends (inner_stops other_back other_stops))) in
       let last = further_groups xs ys rest other_rest tail other_tail back other_back part.2 are other_are ends other_ends stops other_stops in
       let trees : x ∷ xs ≡ y ∷ ys = cc (part.0, last.0) in
       let middle : first ++ (rest ++ tail) ≡ other_first ++ (other_rest ++ other_tail) = cc (part.1, last.1) in
@@ -209,7 +208,7 @@ groups_end text a b (inr (inr (inr e))) = cc
 pub params_once : OneReading AreParams (ContinuesOptional (mark (codes "{")))
 params_once = optional_between [] (AreGroups IsParam) (mark (codes "{")) (mark (codes "}"))
     (between_once (AreGroups IsParam) (ContinuesGroups ContinuesParam) param_groups_once (mark (codes "{")) (mark (codes "}"))
-        (params_end (codes "}") (different (mark (codes "}")) (mark (codes ";")) refl refl) (different (mark (codes "}")) (mark (codes ",")) refl refl)))
+    (params_end (codes "}") (different (mark (codes "}")) (mark (codes ";")) refl refl) (different (mark (codes "}")) (mark (codes ",")) refl refl)))
 
 -- "?" inputs "!" outputs
 abbrev AreSides : List Declared × List Declared → List Leaf → Type 0
@@ -224,11 +223,11 @@ sides_once x y front other_front back other_back e (asked, answered, first, rest
     let answer = leaf (mark (codes "!")) answered in
     let other_answer = leaf (mark (codes "!")) other_answered in
     let begin : ask ∷ (first ++ (answer ∷ (rest ++ back))) ≡ other_ask ∷ (other_first ++ (other_answer ∷ (other_rest ++ other_back))) =
-        sym (append_to front (ask ∷ first) (answer ∷ rest) back f) ∙ e ∙ append_to other_front (other_ask ∷ other_first) (other_answer ∷ other_rest) other_back g in
+    sym (append_to front (ask ∷ first) (answer ∷ rest) back f) ∙ e ∙ append_to other_front (other_ask ∷ other_first) (other_answer ∷ other_rest) other_back g in
     let heads = cons_same _ _ _ _ begin in
     let ends = params_end (codes "!") (different (mark (codes "!")) (mark (codes ";")) refl refl) (different (mark (codes "!")) (mark (codes ",")) refl refl) in
     let part = part_at (AreGroups (IsGroup IsPlainItem)) (ContinuesGroups ContinuesParam) x.0 (plain_groups_once x.0) y.0 first other_first (answer ∷ (rest ++ back)) (other_answer ∷ (other_rest ++ other_back)) heads.1
-        are_inputs other_inputs ends ends in
+    are_inputs other_inputs ends ends in
     let next = cons_same _ _ _ _ part.2 in
     let last = item_groups_once x.1 y.1 rest other_rest back other_back next.1 are_outputs other_outputs stops other_stops in
     let whole : front ≡ other_front = cc (f, g, heads.0, part.1, next.0, last.1) in
@@ -255,11 +254,11 @@ placement_once x y front other_front back other_back e (labelled, names, f, are)
     let tag = leaf (label x.label) labelled in
     let other_tag = leaf (label y.label) other_labelled in
     let begin : run ∷ (names ++ (tag ∷ back)) ≡ other_run ∷ (other_names ++ (other_tag ∷ other_back)) =
-        sym (append_to front (run ∷ names) (tag ∷ []) back f) ∙ e ∙ append_to other_front (other_run ∷ other_names) (other_tag ∷ []) other_back g in
+    sym (append_to front (run ∷ names) (tag ∷ []) back f) ∙ e ∙ append_to other_front (other_run ∷ other_names) (other_tag ∷ []) other_back g in
     let heads = cons_same _ _ _ _ begin in
     let part = part_at (λ items leaves. Between (mark (codes "{")) (mark (codes "}")) (Separated IsName (mark (codes ",")) items) leaves) ContinuesNothing x.names
-        (between_once (Separated IsName (mark (codes ","))) (ContinuesList (mark (codes ",")) ContinuesNothing) names_once (mark (codes "{")) (mark (codes "}")) braces_names x.names)
-        y.names names other_names (tag ∷ back) (other_tag ∷ other_back) heads.1 are other_are (λ none. none) (λ none. none) in
+    (between_once (Separated IsName (mark (codes ","))) (ContinuesList (mark (codes ",")) ContinuesNothing) names_once (mark (codes "{")) (mark (codes "}")) braces_names x.names)
+    y.names names other_names (tag ∷ back) (other_tag ∷ other_back) heads.1 are other_are (λ none. none) (λ none. none) in
     let last = cons_same _ _ _ _ part.2 in
     let whole : front ≡ other_front = cc (f, g, heads.0, part.1, last.0) in
     ((λ i. record { names = part.0 i; label = text_of_label (last.0 i).terminal; at = (heads.0 i).at }), whole)
@@ -292,7 +291,7 @@ pragmas_once x y front other_front back other_back e (inr (begun, ended, last, i
     let close = leaf (word (codes "pragmas")) last in
     let other_close = leaf (word (codes "pragmas")) other_last in
     let begin : start ∷ (inside ++ (end ∷ close ∷ back)) ≡ other_start ∷ (other_inside ++ (other_end ∷ other_close ∷ other_back)) =
-        sym (append_to front (start ∷ inside) (end ∷ close ∷ []) back f) ∙ e ∙ append_to other_front (other_start ∷ other_inside) (other_end ∷ other_close ∷ []) other_back g in
+    sym (append_to front (start ∷ inside) (end ∷ close ∷ []) back f) ∙ e ∙ append_to other_front (other_start ∷ other_inside) (other_end ∷ other_close ∷ []) other_back g in
     let heads = cons_same _ _ _ _ begin in
     let part = part_at (Each IsPlacement) ContinuesPlacements x (pragma_list_once x) y inside other_inside (end ∷ close ∷ back) (other_end ∷ other_close ∷ other_back) heads.1 are other_are end_no_pragma end_no_pragma in
     let next = cons_same _ _ _ _ part.2 in
@@ -306,7 +305,7 @@ local_group_once x y front other_front back other_back e (at, group, f, is) (oth
     let sign = leaf (mark (codes ";")) at in
     let other_sign = leaf (mark (codes ";")) other_at in
     let begin : group ++ (sign ∷ back) ≡ other_group ++ (other_sign ∷ other_back) =
-        sym (append_to front group (sign ∷ []) back f) ∙ e ∙ append_to other_front other_group (other_sign ∷ []) other_back g in
+    sym (append_to front group (sign ∷ []) back f) ∙ e ∙ append_to other_front other_group (other_sign ∷ []) other_back g in
     let part = part_at (IsGroup IsItem) ContinuesGroup x (item_group_once x) y group other_group (sign ∷ back) (other_sign ∷ other_back) begin is other_is semicolon_group semicolon_group in
     let last = cons_same _ _ _ _ part.2 in
     let whole : front ≡ other_front = cc (f, g, part.1, last.0) in

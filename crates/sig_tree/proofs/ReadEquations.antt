@@ -1,26 +1,25 @@
 -- One reading of names, left and right sides, definitions, clock equations and bodies.
-use Rattle.std.proofs.Common.{◌≡◌, ℕ, zero, suc, ◌≤◌, ◌++◌, List, [], ◌∷◌, Bool, true, false, refl, sym, ap, ◌∙◌, subst, codes, Option, None, Some, inl, inr, ◌⊎◌, arith, append_assoc}
+use Rattle.std.proofs.Common.{◌≡◌, ℕ, ◌++◌, List, [], ◌∷◌, true, false, refl, sym, ap, ◌∙◌, subst, codes, None, inl, inr, ◌⊎◌, arith}
 use Rattle.sig_base.specs.declared.span.Span.{Span}
 use Rattle.sig_tree.specs.declared.expr.Name.{Name}
 use Rattle.sig_tree.specs.declared.expr.Constant.{Constant}
 use Rattle.sig_tree.specs.declared.expr.UnOp.TheVariants.{Not, Neg, When as UnaryWhen, Clock}
-use Rattle.sig_tree.specs.Syntax.{Expression, Named, RightSide, Computed, Called, Equations, Together, Defines, Equal, Bodies, no_body, more_bodies}
-use Rattle.sig_tree.specs.Terminals.{Terminal, Leaf, leaf, name, word, number, mark, name_leaf}
+use Rattle.sig_tree.specs.Syntax.{Expression, Named, Computed, Called}
+use Rattle.sig_tree.specs.Terminals.{Terminal, Leaf, leaf, name, mark, name_leaf}
 use Rattle.sig_tree.specs.Levels.{default_level}
 use Rattle.sig_tree.specs.Limits.{Limits}
-use Rattle.sig_tree.specs.Repeated.{Between, Separated, Further, Listed}
+use Rattle.sig_tree.specs.Repeated.{Between, Separated, Listed}
 use Rattle.sig_tree.specs.Expressions.{IsConstant, IsExpression}
-use Rattle.sig_tree.specs.Equations.{IsName, IsLeft, AreConstants, AreArguments, IsRight, IsDefinition, IsClockEquation, IsBody, AreBodies, AreFurtherBodies}
-use Rattle.sig_tree.specs.Beginning.{StartsWith, BeginsConstant, BeginsExpression, BeginsLeft, BeginsBody}
+use Rattle.sig_tree.specs.Equations.{IsName, IsLeft, AreConstants, AreArguments, IsRight}
+use Rattle.sig_tree.specs.Beginning.{StartsWith, BeginsConstant, BeginsExpression}
 use Rattle.sig_tree.specs.Readings.{StopsBefore, OneReading}
-use Rattle.sig_tree.specs.Continuing.{ContinuesNothing, ContinuesOptional, ContinuesExpression, ContinuesList, ContinuesEach, ContinuesDefinition, ContinuesClockEquation, ContinuesBody, ContinuesFurtherBodies, ContinuesBodies}
-use Rattle.sig_tree.proofs.Settling.{◌>>=◌, Settles, settles_now, settles_next, settles_bind, settles_once}
+use Rattle.sig_tree.specs.Continuing.{ContinuesNothing, ContinuesOptional, ContinuesExpression, ContinuesList, ContinuesEach, ContinuesDefinition}
 use Rattle.sig_tree.proofs.Stopping.{stops_smaller}
 use Rattle.sig_tree.proofs.Operators.{different, infix_of, no_infix}
-use Rattle.sig_tree.proofs.Reader.{Found, From, Behind, run, closed}
-use Rattle.sig_tree.proofs.ReadExpressions.{constant_once, expression_read, expression_once}
-use Rattle.sig_tree.proofs.FirstLeaves.{constant_begins, expression_begins, left_begins, definition_begins, clock_equation_begins, body_begins}
-use Rattle.sig_tree.proofs.Combining.{OneAt, cons_same, append_to, starts_stops, starts_apart, part_at, between_at, between_once, separated_once, listed_once}
+use Rattle.sig_tree.proofs.Reader.{closed}
+use Rattle.sig_tree.proofs.ReadExpressions.{constant_once, expression_once}
+use Rattle.sig_tree.proofs.FirstLeaves.{constant_begins, expression_begins}
+use Rattle.sig_tree.proofs.Combining.{cons_same, append_to, starts_stops, starts_apart, part_at, between_once, separated_once, listed_once}
 
 -- a mark that is no operator behind an operand continues no expression
 pub mark_apart : (text : List ℕ) → infix_of (mark text) ≡ None → (level : ℕ) → ContinuesExpression level (mark text) → ⊥
@@ -87,7 +86,7 @@ brace_apart (inr continues) = closing_names (codes "}") (different (mark (codes 
 constants_in_braces : OneReading (λ constants leaves. Between (mark (codes "{")) (mark (codes "}")) (Listed IsConstant (mark (codes ",")) constants) leaves) ContinuesNothing
 constants_in_braces =
     between_once (Listed IsConstant (mark (codes ","))) (ContinuesEach BeginsConstant (ContinuesList (mark (codes ",")) ContinuesNothing))
-        (listed_once IsConstant ContinuesNothing constant_once BeginsConstant constant_begins (mark (codes ",")) (λ none. none)) (mark (codes "{")) (mark (codes "}")) brace_apart
+    (listed_once IsConstant ContinuesNothing constant_once BeginsConstant constant_begins (mark (codes ",")) (λ none. none)) (mark (codes "{")) (mark (codes "}")) brace_apart
 
 -- an optional part in brackets, or nothing
 pub optional_between : {A : Type 0} (none : A) (Is : A → List Leaf → Type 0) (opening closing : Terminal)
@@ -144,9 +143,9 @@ module _ (limits : Limits) (depth : ℕ) where
   pub arguments_once : OneReading (AreArguments limits depth) ContinuesNothing
   arguments_once =
       between_once (Listed (IsExpression limits depth) (mark (codes ","))) (ContinuesEach (BeginsExpression default_level) (ContinuesList (mark (codes ",")) (ContinuesExpression default_level)))
-          (listed_once (IsExpression limits depth) (ContinuesExpression default_level) (expression_once limits default_level depth)
-              (BeginsExpression default_level) (expression_begins limits default_level depth) (mark (codes ",")) (mark_apart (codes ",") refl default_level))
-          (mark (codes "(")) (mark (codes ")")) arguments_apart
+      (listed_once (IsExpression limits depth) (ContinuesExpression default_level) (expression_once limits default_level depth)
+      (BeginsExpression default_level) (expression_begins limits default_level depth) (mark (codes ",")) (mark_apart (codes ",") refl default_level))
+      (mark (codes "(")) (mark (codes ")")) arguments_apart
 
   pub named_alone : (n : Name) → IsExpression limits depth (Named n) (name_leaf n ∷ [])
   named_alone n = (0, (omega arith, refl))
@@ -162,15 +161,15 @@ module _ (limits : Limits) (depth : ℕ) where
       → StopsBefore ContinuesDefinition back → StartsWith Opens rest → ⊥
   call_or_expression e n front back rest more same is stops opens =
       let part = part_at (IsExpression limits depth) (ContinuesExpression default_level) e (expression_once limits default_level depth e) (Named n) front (name_leaf n ∷ []) back (rest ++ more) same is (named_alone n)
-          (stops_smaller ContinuesDefinition (ContinuesExpression default_level) (λ t continues. inr continues) back stops)
-          (starts_apart Opens (ContinuesExpression default_level) rest more opens_apart opens) in
+      (stops_smaller ContinuesDefinition (ContinuesExpression default_level) (λ t continues. inr continues) back stops)
+      (starts_apart Opens (ContinuesExpression default_level) rest more opens_apart opens) in
       starts_stops Opens ContinuesDefinition rest more (λ t begins. inl begins) opens (subst (λ (l : List Leaf). StopsBefore ContinuesDefinition l) part.2 stops)
 
   pub right_once : OneReading (IsRight limits depth) ContinuesDefinition
   right_once (Computed x) (Computed y) front other_front back other_back e is other_is stops other_stops =
       let same = expression_once limits default_level depth x y front other_front back other_back e is other_is
-          (stops_smaller ContinuesDefinition (ContinuesExpression default_level) (λ t continues. inr continues) back stops)
-          (stops_smaller ContinuesDefinition (ContinuesExpression default_level) (λ t continues. inr continues) other_back other_stops) in
+      (stops_smaller ContinuesDefinition (ContinuesExpression default_level) (λ t continues. inr continues) back stops)
+      (stops_smaller ContinuesDefinition (ContinuesExpression default_level) (λ t continues. inr continues) other_back other_stops) in
       (ap Computed same.0, same.1)
   right_once (Computed x) (Called n constants arguments) front other_front back other_back e is (first, rest, f, are_constants, are_arguments) stops other_stops =
       absurd (call_or_expression x n front back (first ++ rest) other_back (e ∙ ap (λ l. l ++ other_back) f) is stops (call_opens constants arguments first rest are_constants are_arguments))
@@ -179,11 +178,11 @@ module _ (limits : Limits) (depth : ℕ) where
   right_once (Called n constants arguments) (Called m others other_arguments) front other_front back other_back e
       (first, rest, f, are_constants, are_arguments) (other_first, other_rest, g, are_others, are_other_arguments) stops other_stops =
       let begin : name_leaf n ∷ (first ++ (rest ++ back)) ≡ name_leaf m ∷ (other_first ++ (other_rest ++ other_back)) =
-          sym (append_to front (name_leaf n ∷ first) rest back f) ∙ e ∙ append_to other_front (name_leaf m ∷ other_first) other_rest other_back g in
+      sym (append_to front (name_leaf n ∷ first) rest back f) ∙ e ∙ append_to other_front (name_leaf m ∷ other_first) other_rest other_back g in
       let heads = cons_same _ _ _ _ begin in
       let names : n ≡ m = name_same n m heads.0 in
       let part = part_at AreConstants (ContinuesOptional (mark (codes "{"))) constants (constants_once constants) others first other_first (rest ++ back) (other_rest ++ other_back) heads.1 are_constants are_others
-          (arguments_stop arguments rest back are_arguments) (arguments_stop other_arguments other_rest other_back are_other_arguments) in
+      (arguments_stop arguments rest back are_arguments) (arguments_stop other_arguments other_rest other_back are_other_arguments) in
       let last = part_at (AreArguments limits depth) ContinuesNothing arguments (arguments_once arguments) other_arguments rest other_rest back other_back part.2 are_arguments are_other_arguments (stops_nothing back) (stops_nothing other_back) in
       let trees : Called n constants arguments ≡ Called m others other_arguments = cc (names, part.0, last.0) in
       let whole : front ≡ other_front = cc (f, g, heads.0, part.1, last.1) in

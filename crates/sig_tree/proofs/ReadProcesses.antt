@@ -1,20 +1,20 @@
 -- One reading of processes and programs.
-use Rattle.std.proofs.Common.{◌≡◌, ◌≢◌, ℕ, zero, suc, ◌++◌, List, [], ◌∷◌, Bool, true, false, refl, sym, ap, ◌∙◌, subst, codes, None, inl, inr, ◌⊎◌, append_assoc}
+use Rattle.std.proofs.Common.{◌≡◌, ℕ, suc, ◌++◌, List, [], ◌∷◌, true, false, refl, sym, ap, ◌∙◌, subst, codes, None, inl, inr, append_assoc}
 use Rattle.std.proofs.lemmas.List.{append_cancel_left}
 use Rattle.sig_base.specs.declared.span.Span.{Span}
 use Rattle.sig_base.specs.declared.ids.Kind.TheVariants.{Integer, Boolean, Event}
 use Rattle.sig_tree.specs.declared.expr.UnOp.TheVariants.{Not, Neg, When as UnaryWhen, Clock}
-use Rattle.sig_tree.specs.Syntax.{Declared, Placement, Equations, Heading, ProcessModel, Modelled, ProcessModels, no_model, more_models}
+use Rattle.sig_tree.specs.Syntax.{Declared, Heading, ProcessModel, Modelled, ProcessModels, no_model, more_models}
 use Rattle.sig_tree.specs.Terminals.{Terminal, Leaf, leaf, word, mark, number, name_leaf}
 use Rattle.sig_tree.specs.Levels.{default_level}
 use Rattle.sig_tree.specs.Limits.{Limits}
-use Rattle.sig_tree.specs.Repeated.{Between, Each}
+use Rattle.sig_tree.specs.Repeated.{Each}
 use Rattle.sig_tree.specs.Equations.{IsBody}
-use Rattle.sig_tree.specs.Processes.{AreParams, IsInterface, ArePragmas, IsLocalGroup, IsWhere, IsProcess, IsModel, AreLocals}
+use Rattle.sig_tree.specs.Processes.{AreParams, IsInterface, ArePragmas, IsLocalGroup, IsWhere, IsModel, AreLocals}
 use Rattle.sig_tree.specs.Grammar.{IsProgram}
-use Rattle.sig_tree.specs.Beginning.{StartsWith, BeginsBody, BeginsGroup, BeginsProcess}
+use Rattle.sig_tree.specs.Beginning.{BeginsBody, BeginsGroup, BeginsProcess}
 use Rattle.sig_tree.specs.Readings.{StopsBefore, OneReading}
-use Rattle.sig_tree.specs.Continuing.{ContinuesNothing, ContinuesOptional, ContinuesExpression, ContinuesEach, ContinuesBody, ContinuesLocals, ContinuesProgram}
+use Rattle.sig_tree.specs.Continuing.{ContinuesNothing, ContinuesOptional, ContinuesEach, ContinuesBody, ContinuesLocals, ContinuesProgram}
 use Rattle.sig_tree.proofs.Stopping.{stops_smaller}
 use Rattle.sig_tree.proofs.Operators.{different, infix_of, no_infix}
 use Rattle.sig_tree.proofs.FirstLeaves.{local_group_begins, body_begins, model_begins}
@@ -96,7 +96,7 @@ module _ (limits : Limits) where
       → Each IsLocalGroup groups front → Each IsLocalGroup others before → IsModel limits model depth middle → StopsBefore ContinuesLocals back → ⊥
   groups_or_process model depth groups others front before middle back other_back e are other_are is stops =
       let part = part_at (Each IsLocalGroup) (ContinuesEach BeginsGroup ContinuesNothing) groups (local_groups_once groups) others front before back (middle ++ other_back) e are other_are
-          (groups_stop back stops) (starts_apart BeginsProcess (ContinuesEach BeginsGroup ContinuesNothing) middle other_back group_no_process (model_begins limits model depth middle is)) in
+      (groups_stop back stops) (starts_apart BeginsProcess (ContinuesEach BeginsGroup ContinuesNothing) middle other_back group_no_process (model_begins limits model depth middle is)) in
       starts_stops BeginsProcess ContinuesLocals middle other_back (λ t begins. inr begins) (model_begins limits model depth middle is) (subst (λ (l : List Leaf). StopsBefore ContinuesLocals l) part.2 stops)
 
   -- [ "where" locals "end" ]
@@ -117,7 +117,7 @@ module _ (limits : Limits) where
       let end = leaf (word (codes "end")) ended in
       let other_end = leaf (word (codes "end")) other_ended in
       let begin : start ∷ (inside ++ (end ∷ back)) ≡ other_start ∷ (other_inside ++ (other_end ∷ other_back)) =
-          sym (append_to front (start ∷ inside) (end ∷ []) back k) ∙ e ∙ append_to other_front (other_start ∷ other_inside) (other_end ∷ []) other_back m in
+      sym (append_to front (start ∷ inside) (end ∷ []) back k) ∙ e ∙ append_to other_front (other_start ∷ other_inside) (other_end ∷ []) other_back m in
       let heads = cons_same _ _ _ _ begin in
       let part = once locals other_inner other_locals inside other_inside (end ∷ back) (other_end ∷ other_back) heads.1 are other_are end_no_local end_no_local in
       let rest : end ∷ back ≡ other_end ∷ other_back = behind inside other_inside (end ∷ back) (other_end ∷ other_back) heads.1 part.2 in
@@ -148,24 +148,24 @@ module _ (limits : Limits) where
         let last = leaf (mark (codes ";")) ended in
         let other_last = leaf (mark (codes ";")) other_ended in
         let begin : start ∷ name_leaf heading.name ∷ sign ∷ (a ++ (b ++ (c ++ (d ++ (w ++ last ∷ back)))))
-            ≡ other_start ∷ name_leaf other_heading.name ∷ other_sign ∷ (other_a ++ (other_b ++ (other_c ++ (other_d ++ (other_w ++ other_last ∷ other_back))))) =
-            sym (ap (λ l. l ++ back) f ∙ ap (λ l. start ∷ name_leaf heading.name ∷ sign ∷ l) (process_leaves a b c d w back last)) ∙ e
-                ∙ ap (λ l. l ++ other_back) g ∙ ap (λ l. other_start ∷ name_leaf other_heading.name ∷ other_sign ∷ l) (process_leaves other_a other_b other_c other_d other_w other_back other_last) in
+        ≡ other_start ∷ name_leaf other_heading.name ∷ other_sign ∷ (other_a ++ (other_b ++ (other_c ++ (other_d ++ (other_w ++ other_last ∷ other_back))))) =
+        sym (ap (λ l. l ++ back) f ∙ ap (λ l. start ∷ name_leaf heading.name ∷ sign ∷ l) (process_leaves a b c d w back last)) ∙ e
+        ∙ ap (λ l. l ++ other_back) g ∙ ap (λ l. other_start ∷ name_leaf other_heading.name ∷ other_sign ∷ l) (process_leaves other_a other_b other_c other_d other_w other_back other_last) in
         let first = cons_same _ _ _ _ begin in
         let second = cons_same _ _ _ _ first.1 in
         let third = cons_same _ _ _ _ second.1 in
         let params = part_at AreParams (ContinuesOptional (mark (codes "{"))) heading.params (params_once heading.params) other_heading.params a other_a
-            (b ++ (c ++ (d ++ (w ++ last ∷ back)))) (other_b ++ (other_c ++ (other_d ++ (other_w ++ other_last ∷ other_back)))) third.1 are_params other_params
-            (interface_stops heading.inputs heading.outputs b _ is_interface) (interface_stops other_heading.inputs other_heading.outputs other_b _ other_interface) in
+        (b ++ (c ++ (d ++ (w ++ last ∷ back)))) (other_b ++ (other_c ++ (other_d ++ (other_w ++ other_last ∷ other_back)))) third.1 are_params other_params
+        (interface_stops heading.inputs heading.outputs b _ is_interface) (interface_stops other_heading.inputs other_heading.outputs other_b _ other_interface) in
         let faces = part_at (λ (sides : List Declared × List Declared) leaves. IsInterface sides.0 sides.1 leaves) ContinuesNothing (heading.inputs, heading.outputs) (interface_once (heading.inputs, heading.outputs))
-            (other_heading.inputs, other_heading.outputs) b other_b (c ++ (d ++ (w ++ last ∷ back))) (other_c ++ (other_d ++ (other_w ++ other_last ∷ other_back))) params.2 is_interface other_interface
-            (stops_nothing _) (stops_nothing _) in
+        (other_heading.inputs, other_heading.outputs) b other_b (c ++ (d ++ (w ++ last ∷ back))) (other_c ++ (other_d ++ (other_w ++ other_last ∷ other_back))) params.2 is_interface other_interface
+        (stops_nothing _) (stops_nothing _) in
         let placed = part_at ArePragmas (ContinuesOptional (word (codes "pragmas"))) pragmas (pragmas_once pragmas) other_pragmas c other_c (d ++ (w ++ last ∷ back)) (other_d ++ (other_w ++ other_last ∷ other_back)) faces.2
-            are_pragmas other_are_pragmas
-            (starts_apart BeginsBody (ContinuesOptional (word (codes "pragmas"))) d _ pragmas_no_body (body_begins limits body depth d is_body))
-            (starts_apart BeginsBody (ContinuesOptional (word (codes "pragmas"))) other_d _ pragmas_no_body (body_begins limits other_body depth other_d other_is_body)) in
+        are_pragmas other_are_pragmas
+        (starts_apart BeginsBody (ContinuesOptional (word (codes "pragmas"))) d _ pragmas_no_body (body_begins limits body depth d is_body))
+        (starts_apart BeginsBody (ContinuesOptional (word (codes "pragmas"))) other_d _ pragmas_no_body (body_begins limits other_body depth other_d other_is_body)) in
         let said = part_at (λ e leaves. IsBody limits e depth leaves) ContinuesBody body (body_once limits depth body) other_body d other_d (w ++ last ∷ back) (other_w ++ other_last ∷ other_back) placed.2 is_body other_is_body
-            (where_stops locals inner _ w back ended is_where) (where_stops other_locals other_inner _ other_w other_back other_ended other_where) in
+        (where_stops locals inner _ w back ended is_where) (where_stops other_locals other_inner _ other_w other_back other_ended other_where) in
         let declared = where_at locals inner depth (locals_at inner depth) other_locals other_inner w other_w (last ∷ back) (other_last ∷ other_back) said.2 is_where other_where (λ e. cc) (λ e. cc) in
         let rest : last ∷ back ≡ other_last ∷ other_back = append_cancel_left other_w (last ∷ back) (other_last ∷ other_back) (ap (λ l. l ++ last ∷ back) (sym declared.2) ∙ said.2) in
         let final = cons_same _ _ _ _ rest in
@@ -180,20 +180,20 @@ module _ (limits : Limits) where
         (same.0, refl, same.1)
     locals_at no_model depth groups (more_models model rest) others front other_front back other_back e are (before, after, first, middle, last, f, g, each, (may, is), others_are) stops other_stops =
         absurd (groups_or_process model (suc depth) groups before front first middle back (last ++ other_back)
-            (e ∙ append_to other_front first (middle ++ last) other_back g ∙ ap (λ l. first ++ l) (append_assoc middle last other_back)) are each is stops)
+        (e ∙ append_to other_front first (middle ++ last) other_back g ∙ ap (λ l. first ++ l) (append_assoc middle last other_back)) are each is stops)
     locals_at (more_models model rest) depth groups no_model others front other_front back other_back e (before, after, first, middle, last, f, g, each, (may, is), others_are) are stops other_stops =
         absurd (groups_or_process model (suc depth) others before other_front first middle other_back (last ++ back)
-            (sym e ∙ append_to front first (middle ++ last) back g ∙ ap (λ l. first ++ l) (append_assoc middle last back)) are each is other_stops)
+        (sym e ∙ append_to front first (middle ++ last) back g ∙ ap (λ l. first ++ l) (append_assoc middle last back)) are each is other_stops)
     locals_at (more_models model rest) depth groups (more_models other_model other_rest) others front other_front back other_back e
         (before, after, first, middle, last, f, g, each, (may, is), are) (other_before, other_after, other_first, other_middle, other_last, other_f, other_g, other_each, (other_may, other_is), other_are) stops other_stops =
         let begin : first ++ (middle ++ (last ++ back)) ≡ other_first ++ (other_middle ++ (other_last ++ other_back)) =
-            sym (append_to front first (middle ++ last) back g ∙ ap (λ l. first ++ l) (append_assoc middle last back)) ∙ e
-                ∙ append_to other_front other_first (other_middle ++ other_last) other_back other_g ∙ ap (λ l. other_first ++ l) (append_assoc other_middle other_last other_back) in
+        sym (append_to front first (middle ++ last) back g ∙ ap (λ l. first ++ l) (append_assoc middle last back)) ∙ e
+        ∙ append_to other_front other_first (other_middle ++ other_last) other_back other_g ∙ ap (λ l. other_first ++ l) (append_assoc other_middle other_last other_back) in
         let starts = model_begins limits model (suc depth) middle is in
         let other_starts = model_begins limits other_model (suc depth) other_middle other_is in
         let groups_part = part_at (Each IsLocalGroup) (ContinuesEach BeginsGroup ContinuesNothing) before (local_groups_once before) other_before first other_first (middle ++ (last ++ back)) (other_middle ++ (other_last ++ other_back)) begin each other_each
-            (starts_apart BeginsProcess (ContinuesEach BeginsGroup ContinuesNothing) middle (last ++ back) group_no_process starts)
-            (starts_apart BeginsProcess (ContinuesEach BeginsGroup ContinuesNothing) other_middle (other_last ++ other_back) group_no_process other_starts) in
+        (starts_apart BeginsProcess (ContinuesEach BeginsGroup ContinuesNothing) middle (last ++ back) group_no_process starts)
+        (starts_apart BeginsProcess (ContinuesEach BeginsGroup ContinuesNothing) other_middle (other_last ++ other_back) group_no_process other_starts) in
         let model_part = part_at (λ m leaves. IsModel limits m (suc depth) leaves) ContinuesNothing model (model_at model (suc depth)) other_model middle other_middle (last ++ back) (other_last ++ other_back) groups_part.2 is other_is (stops_nothing _) (stops_nothing _) in
         let rest_part = locals_at rest depth after other_rest other_after last other_last back other_back model_part.2 are other_are stops other_stops in
         let all_groups : groups ≡ others = cc (f, other_f, groups_part.0, rest_part.0) in
@@ -208,9 +208,13 @@ module _ (limits : Limits) where
   pub program_once : OneReading (IsProgram limits) ContinuesProgram
   program_once x y front other_front back other_back e (some, each) (other_some, other_each) stops other_stops =
       once_larger (Each (λ m leaves. IsModel limits m 0 leaves)) (ContinuesEach BeginsProcess ContinuesNothing) ContinuesProgram within
-          (each_once (λ m leaves. IsModel limits m 0 leaves) ContinuesNothing (model_once 0) BeginsProcess (λ m leaves is. model_begins limits m 0 leaves is) (λ t begins none. none))
-          x y front other_front back other_back e each other_each stops other_stops
+      (each_once (λ m leaves. IsModel limits m 0 leaves) ContinuesNothing (model_once 0) BeginsProcess (λ m leaves is. model_begins limits m 0 leaves is) (λ t begins none. none))
+      x y front other_front back other_back e each other_each stops other_stops
     where
       within : (t : Terminal) → ContinuesEach BeginsProcess ContinuesNothing t → ContinuesProgram t
       within t (inl begins) = begins
       within t (inr none) = absurd none
+
+  -- leaves have at most one tree
+  pub tree_once : (leaves : List Leaf) (x y : List ProcessModel) → IsProgram limits x leaves → IsProgram limits y leaves → x ≡ y
+  tree_once leaves x y is other_is = (program_once x y leaves leaves [] [] refl is other_is tt tt).0

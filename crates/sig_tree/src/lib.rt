@@ -7,5 +7,8 @@ mod laws;
 mod process;
 
 pub use expr::{BinOp, Constant, Expr, Name, UnOp};
-pub use laws::{beginnings, one_expression, within_no_limits};
+pub use laws::{
+    beginnings, one_declaration, one_equation, one_expression, one_process, one_program, one_tree,
+    within_no_limits,
+};
 pub use process::{Body, Group, Item, Process, Program, Right, RunOn};
