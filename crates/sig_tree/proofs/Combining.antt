@@ -1,14 +1,12 @@
 -- One reading of what is put together of parts with one reading.
-use Rattle.std.proofs.Common.{◌≡◌, ◌++◌, List, [], ◌∷◌, refl, sym, ap, ◌∙◌, subst, inl, inr, ◌⊎◌, append_assoc}
+use Rattle.std.proofs.Common.{◌≡◌, ◌++◌, List, [], ◌∷◌, refl, sym, ap, ◌∙◌, subst, inl, inr, append_assoc}
 use Rattle.std.proofs.lemmas.List.{append_cancel_left}
-use Rattle.sig_base.specs.declared.span.Span.{Span}
 use Rattle.sig_tree.specs.Terminals.{Terminal, Leaf, leaf}
 use Rattle.sig_tree.specs.Repeated.{Between, Each, Further, Separated, Listed}
 use Rattle.sig_tree.specs.Readings.{StopsBefore, OneReading}
 use Rattle.sig_tree.specs.Beginning.{StartsWith}
 use Rattle.sig_tree.specs.Continuing.{ContinuesNothing, ContinuesList, ContinuesEach}
 use Rattle.sig_tree.proofs.Stopping.{stops_smaller}
-use Rattle.sig_tree.proofs.FirstLeaves.{starts_longer}
 
 -- one reading, of one tree
 abbrev pub OneAt : {A : Type 0} → (A → List Leaf → Type 0) → (Terminal → Type 0) → A → Type 0

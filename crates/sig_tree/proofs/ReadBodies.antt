@@ -1,5 +1,5 @@
 -- One reading of definitions, clock equations and bodies.
-use Rattle.std.proofs.Common.{◌≡◌, ℕ, zero, suc, ◌≤◌, ◌++◌, List, [], ◌∷◌, Bool, true, false, refl, sym, ap, ◌∙◌, subst, codes, Option, None, Some, inl, inr, ◌⊎◌, arith, append_assoc}
+use Rattle.std.proofs.Common.{◌≡◌, ℕ, suc, ◌++◌, List, [], ◌∷◌, true, false, refl, sym, ap, ◌∙◌, subst, codes, None, Some, inl, inr, arith}
 use Rattle.sig_base.specs.declared.span.Span.{Span}
 use Rattle.sig_tree.specs.declared.expr.Name.{Name}
 use Rattle.sig_tree.specs.declared.expr.UnOp.TheVariants.{Not, Neg, When as UnaryWhen, Clock}
@@ -7,18 +7,18 @@ use Rattle.sig_tree.specs.Syntax.{Expression, Named, RightSide, Equations, Toget
 use Rattle.sig_tree.specs.Terminals.{Terminal, Leaf, leaf, mark, name_leaf}
 use Rattle.sig_tree.specs.Levels.{default_level}
 use Rattle.sig_tree.specs.Limits.{Limits}
-use Rattle.sig_tree.specs.Repeated.{Between, Separated, Further}
+use Rattle.sig_tree.specs.Repeated.{Separated}
 use Rattle.sig_tree.specs.Expressions.{IsExpression}
-use Rattle.sig_tree.specs.Equations.{IsName, IsLeft, IsRight, IsDefinition, IsClockEquation, IsBody, AreBodies, AreFurtherBodies}
+use Rattle.sig_tree.specs.Equations.{IsLeft, IsDefinition, IsClockEquation, IsBody, AreBodies, AreFurtherBodies}
 use Rattle.sig_tree.specs.Beginning.{StartsWith, BeginsExpression, BeginsLeft, BeginsBody}
 use Rattle.sig_tree.specs.Readings.{StopsBefore, OneReading}
-use Rattle.sig_tree.specs.Continuing.{ContinuesNothing, ContinuesExpression, ContinuesList, ContinuesEach, ContinuesDefinition, ContinuesClockEquation, ContinuesBody, ContinuesFurtherBodies, ContinuesBodies}
+use Rattle.sig_tree.specs.Continuing.{ContinuesNothing, ContinuesExpression, ContinuesDefinition, ContinuesClockEquation, ContinuesBody, ContinuesFurtherBodies, ContinuesBodies}
 use Rattle.sig_tree.proofs.Settling.{◌>>=◌, Settles, settles_now, settles_next, settles_bind, settles_once}
 use Rattle.sig_tree.proofs.Stopping.{stops_smaller}
 use Rattle.sig_tree.proofs.Operators.{different}
-use Rattle.sig_tree.proofs.Reader.{Found, From, Behind, run, closed}
+use Rattle.sig_tree.proofs.Reader.{From, Behind, run, closed}
 use Rattle.sig_tree.proofs.ReadExpressions.{expression_read, expression_once}
-use Rattle.sig_tree.proofs.FirstLeaves.{expression_begins, definition_begins, clock_equation_begins, body_begins}
+use Rattle.sig_tree.proofs.FirstLeaves.{definition_begins, clock_equation_begins, body_begins}
 use Rattle.sig_tree.proofs.Combining.{OneAt, cons_same, append_to, starts_stops, part_at, between_at, separated_once}
 use Rattle.sig_tree.proofs.ReadEquations.{mark_apart, stops_nothing, starts_conflict, left_once, right_once, named_alone}
 

@@ -1,13 +1,12 @@
 -- One reading of declarations, interfaces and pragmas.
-use Rattle.std.proofs.Common.{◌≡◌, ◌≢◌, ℕ, zero, suc, ◌++◌, List, [], ◌∷◌, refl, sym, ap, ◌∙◌, subst, codes, None, inl, inr, ◌⊎◌, append_assoc}
+use Rattle.std.proofs.Common.{◌≡◌, ℕ, ◌++◌, List, [], ◌∷◌, refl, sym, ap, ◌∙◌, subst, codes, inl, inr, ◌⊎◌}
 use Rattle.sig_base.specs.declared.span.Span.{Span}
 use Rattle.sig_base.specs.declared.ids.Kind.{Kind}
 use Rattle.sig_base.specs.declared.ids.Kind.TheVariants.{Integer, Boolean, Event}
 use Rattle.sig_tree.specs.declared.process.Item.{Item}
-use Rattle.sig_tree.specs.Syntax.{Declared, Placement}
+use Rattle.sig_tree.specs.Syntax.{Declared}
 use Rattle.sig_tree.specs.Terminals.{Terminal, Leaf, leaf, name, word, label, mark, name_leaf, kind_word}
 use Rattle.sig_tree.specs.Repeated.{Between, Each, Further, Separated}
-use Rattle.sig_tree.specs.Expressions.{IsOptionalInit}
 use Rattle.sig_tree.specs.Equations.{IsName}
 use Rattle.sig_tree.specs.Processes.{IsPlainItem, IsItem, IsGroup, IsParam, AreGroups, AreParams, IsInterface, IsPlacement, ArePragmas, IsLocalGroup}
 use Rattle.sig_tree.specs.Beginning.{StartsWith, BeginsGroup, BeginsPlacement}
@@ -17,8 +16,8 @@ use Rattle.sig_tree.proofs.Stopping.{stops_smaller}
 use Rattle.sig_tree.proofs.Operators.{different}
 use Rattle.sig_tree.proofs.ReadExpressions.{optional_init_once}
 use Rattle.sig_tree.proofs.FirstLeaves.{group_begins, placement_begins}
-use Rattle.sig_tree.proofs.Combining.{cons_same, append_to, starts_stops, starts_apart, part_at, between_once, further_stops, separated_once, each_once}
-use Rattle.sig_tree.proofs.ReadEquations.{stops_nothing, name_same, name_once, names_once, optional_between}
+use Rattle.sig_tree.proofs.Combining.{cons_same, append_to, starts_stops, part_at, between_once, further_stops, separated_once, each_once}
+use Rattle.sig_tree.proofs.ReadEquations.{name_same, name_once, names_once, optional_between}
 
 -- in a larger set too
 pub once_larger : {A : Type 0} (Is : A → List Leaf → Type 0) (Small Large : Terminal → Type 0) → ((t : Terminal) → Small t → Large t) → OneReading Is Small → OneReading Is Large

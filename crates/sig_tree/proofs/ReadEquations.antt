@@ -1,26 +1,25 @@
 -- One reading of names, left and right sides, definitions, clock equations and bodies.
-use Rattle.std.proofs.Common.{◌≡◌, ℕ, zero, suc, ◌≤◌, ◌++◌, List, [], ◌∷◌, Bool, true, false, refl, sym, ap, ◌∙◌, subst, codes, Option, None, Some, inl, inr, ◌⊎◌, arith, append_assoc}
+use Rattle.std.proofs.Common.{◌≡◌, ℕ, ◌++◌, List, [], ◌∷◌, true, false, refl, sym, ap, ◌∙◌, subst, codes, None, inl, inr, ◌⊎◌, arith}
 use Rattle.sig_base.specs.declared.span.Span.{Span}
 use Rattle.sig_tree.specs.declared.expr.Name.{Name}
 use Rattle.sig_tree.specs.declared.expr.Constant.{Constant}
 use Rattle.sig_tree.specs.declared.expr.UnOp.TheVariants.{Not, Neg, When as UnaryWhen, Clock}
-use Rattle.sig_tree.specs.Syntax.{Expression, Named, RightSide, Computed, Called, Equations, Together, Defines, Equal, Bodies, no_body, more_bodies}
-use Rattle.sig_tree.specs.Terminals.{Terminal, Leaf, leaf, name, word, number, mark, name_leaf}
+use Rattle.sig_tree.specs.Syntax.{Expression, Named, Computed, Called}
+use Rattle.sig_tree.specs.Terminals.{Terminal, Leaf, leaf, name, mark, name_leaf}
 use Rattle.sig_tree.specs.Levels.{default_level}
 use Rattle.sig_tree.specs.Limits.{Limits}
-use Rattle.sig_tree.specs.Repeated.{Between, Separated, Further, Listed}
+use Rattle.sig_tree.specs.Repeated.{Between, Separated, Listed}
 use Rattle.sig_tree.specs.Expressions.{IsConstant, IsExpression}
-use Rattle.sig_tree.specs.Equations.{IsName, IsLeft, AreConstants, AreArguments, IsRight, IsDefinition, IsClockEquation, IsBody, AreBodies, AreFurtherBodies}
-use Rattle.sig_tree.specs.Beginning.{StartsWith, BeginsConstant, BeginsExpression, BeginsLeft, BeginsBody}
+use Rattle.sig_tree.specs.Equations.{IsName, IsLeft, AreConstants, AreArguments, IsRight}
+use Rattle.sig_tree.specs.Beginning.{StartsWith, BeginsConstant, BeginsExpression}
 use Rattle.sig_tree.specs.Readings.{StopsBefore, OneReading}
-use Rattle.sig_tree.specs.Continuing.{ContinuesNothing, ContinuesOptional, ContinuesExpression, ContinuesList, ContinuesEach, ContinuesDefinition, ContinuesClockEquation, ContinuesBody, ContinuesFurtherBodies, ContinuesBodies}
-use Rattle.sig_tree.proofs.Settling.{◌>>=◌, Settles, settles_now, settles_next, settles_bind, settles_once}
+use Rattle.sig_tree.specs.Continuing.{ContinuesNothing, ContinuesOptional, ContinuesExpression, ContinuesList, ContinuesEach, ContinuesDefinition}
 use Rattle.sig_tree.proofs.Stopping.{stops_smaller}
 use Rattle.sig_tree.proofs.Operators.{different, infix_of, no_infix}
-use Rattle.sig_tree.proofs.Reader.{Found, From, Behind, run, closed}
-use Rattle.sig_tree.proofs.ReadExpressions.{constant_once, expression_read, expression_once}
-use Rattle.sig_tree.proofs.FirstLeaves.{constant_begins, expression_begins, left_begins, definition_begins, clock_equation_begins, body_begins}
-use Rattle.sig_tree.proofs.Combining.{OneAt, cons_same, append_to, starts_stops, starts_apart, part_at, between_at, between_once, separated_once, listed_once}
+use Rattle.sig_tree.proofs.Reader.{closed}
+use Rattle.sig_tree.proofs.ReadExpressions.{constant_once, expression_once}
+use Rattle.sig_tree.proofs.FirstLeaves.{constant_begins, expression_begins}
+use Rattle.sig_tree.proofs.Combining.{cons_same, append_to, starts_stops, starts_apart, part_at, between_once, separated_once, listed_once}
 
 -- a mark that is no operator behind an operand continues no expression
 pub mark_apart : (text : List ℕ) → infix_of (mark text) ≡ None → (level : ℕ) → ContinuesExpression level (mark text) → ⊥

@@ -1,20 +1,20 @@
 -- One reading of processes and programs.
-use Rattle.std.proofs.Common.{◌≡◌, ◌≢◌, ℕ, zero, suc, ◌++◌, List, [], ◌∷◌, Bool, true, false, refl, sym, ap, ◌∙◌, subst, codes, None, inl, inr, ◌⊎◌, append_assoc}
+use Rattle.std.proofs.Common.{◌≡◌, ℕ, suc, ◌++◌, List, [], ◌∷◌, true, false, refl, sym, ap, ◌∙◌, subst, codes, None, inl, inr, append_assoc}
 use Rattle.std.proofs.lemmas.List.{append_cancel_left}
 use Rattle.sig_base.specs.declared.span.Span.{Span}
 use Rattle.sig_base.specs.declared.ids.Kind.TheVariants.{Integer, Boolean, Event}
 use Rattle.sig_tree.specs.declared.expr.UnOp.TheVariants.{Not, Neg, When as UnaryWhen, Clock}
-use Rattle.sig_tree.specs.Syntax.{Declared, Placement, Equations, Heading, ProcessModel, Modelled, ProcessModels, no_model, more_models}
+use Rattle.sig_tree.specs.Syntax.{Declared, Heading, ProcessModel, Modelled, ProcessModels, no_model, more_models}
 use Rattle.sig_tree.specs.Terminals.{Terminal, Leaf, leaf, word, mark, number, name_leaf}
 use Rattle.sig_tree.specs.Levels.{default_level}
 use Rattle.sig_tree.specs.Limits.{Limits}
-use Rattle.sig_tree.specs.Repeated.{Between, Each}
+use Rattle.sig_tree.specs.Repeated.{Each}
 use Rattle.sig_tree.specs.Equations.{IsBody}
-use Rattle.sig_tree.specs.Processes.{AreParams, IsInterface, ArePragmas, IsLocalGroup, IsWhere, IsProcess, IsModel, AreLocals}
+use Rattle.sig_tree.specs.Processes.{AreParams, IsInterface, ArePragmas, IsLocalGroup, IsWhere, IsModel, AreLocals}
 use Rattle.sig_tree.specs.Grammar.{IsProgram}
-use Rattle.sig_tree.specs.Beginning.{StartsWith, BeginsBody, BeginsGroup, BeginsProcess}
+use Rattle.sig_tree.specs.Beginning.{BeginsBody, BeginsGroup, BeginsProcess}
 use Rattle.sig_tree.specs.Readings.{StopsBefore, OneReading}
-use Rattle.sig_tree.specs.Continuing.{ContinuesNothing, ContinuesOptional, ContinuesExpression, ContinuesEach, ContinuesBody, ContinuesLocals, ContinuesProgram}
+use Rattle.sig_tree.specs.Continuing.{ContinuesNothing, ContinuesOptional, ContinuesEach, ContinuesBody, ContinuesLocals, ContinuesProgram}
 use Rattle.sig_tree.proofs.Stopping.{stops_smaller}
 use Rattle.sig_tree.proofs.Operators.{different, infix_of, no_infix}
 use Rattle.sig_tree.proofs.FirstLeaves.{local_group_begins, body_begins, model_begins}
@@ -214,3 +214,7 @@ module _ (limits : Limits) where
       within : (t : Terminal) → ContinuesEach BeginsProcess ContinuesNothing t → ContinuesProgram t
       within t (inl begins) = begins
       within t (inr none) = absurd none
+
+  -- leaves have at most one tree
+  pub tree_once : (leaves : List Leaf) (x y : List ProcessModel) → IsProgram limits x leaves → IsProgram limits y leaves → x ≡ y
+  tree_once leaves x y is other_is = (program_once x y leaves leaves [] [] refl is other_is tt tt).0

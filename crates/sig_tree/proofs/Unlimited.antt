@@ -1,5 +1,5 @@
 -- What is in the grammar within limits is in it without them, at any depth.
-use Rattle.std.proofs.Common.{◌≡◌, ℕ, zero, suc, ◌≤◌, ◌<◌, ◌++◌, List, [], ◌∷◌, Bool, true, false, inl, inr, ◌⊎◌, codes}
+use Rattle.std.proofs.Common.{ℕ, zero, suc, List, [], ◌∷◌, inl, inr, codes}
 use Rattle.sig_tree.specs.declared.expr.Name.{Name}
 use Rattle.sig_tree.specs.Syntax.{Expression, Named, Number, Truth, Unary, Binary, Delay, Cell, Declared, RightSide, Computed, Called, Equations, Together, Defines, Equal, Bodies, no_body, more_bodies, ProcessModel, Modelled, ProcessModels, no_model, more_models}
 use Rattle.sig_tree.specs.Terminals.{Terminal, Leaf, mark}
@@ -7,7 +7,7 @@ use Rattle.sig_tree.specs.Levels.{default_level, mixed_level, delay_level, prima
 use Rattle.sig_tree.specs.Limits.{Limits, no_limits, MayStandInside, MayHave}
 use Rattle.sig_tree.specs.Repeated.{Each, Further, Separated, Listed}
 use Rattle.sig_tree.specs.Expressions.{Enclosed, IsBare, IsAtLevel, IsExpression}
-use Rattle.sig_tree.specs.Equations.{IsLeft, AreArguments, IsRight, IsDefinition, IsClockEquation, IsBody, AreBodies, AreFurtherBodies}
+use Rattle.sig_tree.specs.Equations.{IsLeft, IsRight, IsDefinition, IsClockEquation, IsBody, AreBodies, AreFurtherBodies}
 use Rattle.sig_tree.specs.Processes.{IsModel, AreLocals, IsWhere}
 use Rattle.sig_tree.specs.Grammar.{IsProgram}
 

@@ -1,19 +1,21 @@
 //! Laws of the grammar: what a part of it begins with, and that its leaves have one reading.
 
-ghost use Rattle.std.specs.Prelude.{ℕ, List};
+ghost use Rattle.std.specs.Prelude.{◌≡◌, ℕ, List, codes};
 ghost use Rattle.sig_tree.specs.declared.expr.Name.{Name};
 ghost use Rattle.sig_tree.specs.declared.expr.Constant.{Constant};
 ghost use Rattle.sig_tree.specs.Syntax.{Expression, Declared, Placement, RightSide, Equations, ProcessModel};
-ghost use Rattle.sig_tree.specs.Terminals.{Leaf};
+ghost use Rattle.sig_tree.specs.Terminals.{Leaf, word, mark};
 ghost use Rattle.sig_tree.specs.Levels.{default_level};
 ghost use Rattle.sig_tree.specs.Limits.{Limits, no_limits};
 ghost use Rattle.sig_tree.specs.Expressions.{IsConstant, IsInit, IsOptionalInit, IsAtLevel};
-ghost use Rattle.sig_tree.specs.Equations.{IsLeft, IsRight, IsDefinition, IsClockEquation, IsBody};
-ghost use Rattle.sig_tree.specs.Processes.{IsPlainItem, IsItem, IsGroup, IsPlacement, IsModel};
-ghost use Rattle.sig_tree.specs.Grammar.{IsProgram};
+ghost use Rattle.sig_tree.specs.Equations.{IsName, IsLeft, AreConstants, AreArguments, IsRight, IsDefinition, IsClockEquation, IsBody, AreBodies, AreFurtherBodies};
+ghost use Rattle.sig_tree.specs.Processes.{IsPlainItem, IsItem, IsGroup, IsParam, AreGroups, AreParams, IsInterface, IsPlacement, ArePragmas, IsLocalGroup, IsModel};
+ghost use Rattle.sig_tree.specs.Grammar.{IsProgram, HasTree, IsText};
 ghost use Rattle.sig_tree.specs.Beginning.{StartsWith, BeginsConstant, BeginsExpression, BeginsLeft, BeginsBody, BeginsGroup, BeginsPlacement, BeginsProcess};
 ghost use Rattle.sig_tree.specs.Readings.{OneReading};
-ghost use Rattle.sig_tree.specs.Continuing.{ContinuesNothing, ContinuesInit, ContinuesExpression};
+ghost use Rattle.sig_tree.specs.Continuing.{ContinuesNothing, ContinuesOptional, ContinuesInit, ContinuesExpression, ContinuesDefinition, ContinuesClockEquation, ContinuesBody, ContinuesFurtherBodies, ContinuesBodies, ContinuesParam, ContinuesGroup, ContinuesGroups, ContinuesProgram};
+
+use sig_lex::one_reading;
 
 /// A law: what is in the grammar within limits is in it without them, inside however many constructs.
 pub fn within_no_limits()
@@ -54,3 +56,54 @@ pub fn one_expression()
     ensures optional_init { OneReading IsOptionalInit ContinuesInit }
     ensures expression { (limits : Limits) (level depth : ℕ) → OneReading (IsAtLevel limits level depth) (ContinuesExpression level) }
 {}
+
+/// A law: names, left and right sides, definitions, clock equations and bodies have one reading.
+pub fn one_equation()
+    ensures name { OneReading IsName ContinuesNothing }
+    ensures left { (limits : Limits) (depth : ℕ) → OneReading (IsLeft limits depth) ContinuesNothing }
+    ensures constants { OneReading AreConstants (ContinuesOptional (mark (codes "{"))) }
+    ensures arguments { (limits : Limits) (depth : ℕ) → OneReading (AreArguments limits depth) ContinuesNothing }
+    ensures right { (limits : Limits) (depth : ℕ) → OneReading (IsRight limits depth) ContinuesDefinition }
+    ensures definition { (limits : Limits) (depth : ℕ) →
+        OneReading (λ (p : List Name × RightSide) leaves. IsDefinition limits depth p.0 p.1 leaves) ContinuesDefinition }
+    ensures clock_equation { (limits : Limits) (depth : ℕ) → OneReading (IsClockEquation limits depth) ContinuesClockEquation }
+    ensures body { (limits : Limits) (depth : ℕ) → OneReading (λ body leaves. IsBody limits body depth leaves) ContinuesBody }
+    ensures bodies { (limits : Limits) (depth : ℕ) → OneReading (λ bodies leaves. AreBodies limits bodies depth leaves) ContinuesBodies }
+    ensures further_bodies { (limits : Limits) (depth : ℕ) →
+        OneReading (λ bodies leaves. AreFurtherBodies limits bodies depth leaves) ContinuesFurtherBodies }
+{}
+
+/// A law: declarations, the parameters, the interface and the pragmas have one reading.
+pub fn one_declaration()
+    ensures item { OneReading IsItem ContinuesInit }
+    ensures group { OneReading (IsGroup IsItem) ContinuesGroup }
+    ensures plain_group { OneReading (IsGroup IsPlainItem) ContinuesParam }
+    ensures groups { OneReading (AreGroups (IsGroup IsItem)) (ContinuesGroups ContinuesGroup) }
+    ensures plain_groups { OneReading (AreGroups (IsGroup IsPlainItem)) (ContinuesGroups ContinuesParam) }
+    ensures param_groups { OneReading (AreGroups IsParam) (ContinuesGroups ContinuesParam) }
+    ensures params { OneReading AreParams (ContinuesOptional (mark (codes "{"))) }
+    ensures interface { OneReading (λ (sides : List Declared × List Declared) leaves. IsInterface sides.0 sides.1 leaves) ContinuesNothing }
+    ensures pragma { OneReading IsPlacement ContinuesNothing }
+    ensures pragmas { OneReading ArePragmas (ContinuesOptional (word (codes "pragmas"))) }
+    ensures local_group { OneReading IsLocalGroup ContinuesNothing }
+{}
+
+/// A law: processes and programs have one reading.
+pub fn one_process()
+    ensures process { (limits : Limits) (depth : ℕ) → OneReading (λ model leaves. IsModel limits model depth leaves) ContinuesNothing }
+    ensures program { (limits : Limits) → OneReading (IsProgram limits) ContinuesProgram }
+{}
+
+/// A law: leaves have at most one tree, within the limits and without them.
+pub fn one_tree()
+    ensures tree { (leaves : List Leaf) (p q : List ProcessModel) → HasTree leaves p → HasTree leaves q → p ≡ q }
+    ensures sentence { (leaves : List Leaf) (p q : List ProcessModel) → IsProgram no_limits p leaves → IsProgram no_limits q leaves → p ≡ q }
+{}
+
+/// A law: a text is that of at most one program.
+pub fn one_program()
+    ensures { (text : List ℕ) (p q : List ProcessModel) → IsText text p → IsText text q → p ≡ q }
+{
+    one_reading();
+    one_tree();
+}

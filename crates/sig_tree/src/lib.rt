@@ -20,6 +20,9 @@ pub use flat::{Flat, FlatEq, FlatExpr};
 pub use laws::{beginnings, one_expression, within_no_limits};
 pub use meaning::{
     meaning_up_to_an_instant, one_longest_trace, one_meaning, prefixes_of_traces, silence_in_traces,
+pub use laws::{
+    beginnings, one_declaration, one_equation, one_expression, one_process, one_program, one_tree,
+    within_no_limits,
 };
 pub use process::{Body, Group, Item, Process, Program, Right, RunOn};
 pub use steps::{equations_step, expressions_step, traces_step};
