@@ -17,9 +17,13 @@ mod well_formed;
 pub use expansion::one_flat_body;
 pub use expr::{BinOp, Constant, Expr, Name, UnOp};
 pub use flat::{Flat, FlatEq, FlatExpr};
-pub use laws::{beginnings, one_expression, within_no_limits};
-pub use meaning::{meaning_up_to_an_instant, one_declaration, one_equation, one_expression, one_longest_trace, one_meaning, one_process, one_program, one_tree, prefixes_of_traces, pub use laws::{
-    beginnings, silence_in_traces, within_no_limits};
+pub use laws::{
+    beginnings, one_declaration, one_equation, one_expression, one_process, one_program, one_tree,
+    within_no_limits,
+};
+pub use meaning::{
+    meaning_up_to_an_instant, one_longest_trace, one_meaning, prefixes_of_traces, silence_in_traces,
+};
 pub use process::{Body, Group, Item, Process, Program, Right, RunOn};
 pub use steps::{equations_step, expressions_step, traces_step};
 pub use well_formed::one_offence;
