@@ -10,3 +10,4 @@ pub mod ReadEquations
 pub mod ReadBodies
 pub mod ReadDeclarations
 pub mod ReadProcesses
+pub mod Spines

@@ -9,6 +9,7 @@ pub mod Limits
 pub mod Processes
 pub mod Readings
 pub mod Repeated
+pub mod Spines
 pub mod Syntax
 pub mod Terminals
 pub mod Unplaced
