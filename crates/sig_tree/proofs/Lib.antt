@@ -19,3 +19,4 @@ pub mod StepLaws
 pub mod Stopping
 pub mod Unlimited
 pub mod UpTo
+pub mod Spines

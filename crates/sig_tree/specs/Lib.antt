@@ -20,6 +20,7 @@ pub mod Readings
 pub mod Repeated
 pub mod Rules
 pub mod Steps
+pub mod Spines
 pub mod Syntax
 pub mod Terminals
 pub mod Unplaced
