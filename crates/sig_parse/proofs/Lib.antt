@@ -6,3 +6,4 @@ pub mod RuleLemmas
 pub mod SmallLemmas
 pub mod SpellingLemmas
 pub mod SplittingLemmas
+pub mod Refusing
