@@ -9,6 +9,6 @@ mod process;
 pub use expr::{BinOp, Constant, Expr, Name, UnOp};
 pub use laws::{
     beginnings, one_declaration, one_equation, one_expression, one_process, one_program, one_tree,
-    spine, within_no_limits,
+    spine, within_both_limits, within_no_limits,
 };
 pub use process::{Body, Group, Item, Process, Program, Right, RunOn};
