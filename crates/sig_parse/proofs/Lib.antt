@@ -18,3 +18,4 @@ pub mod SplittingLemmas
 pub mod Standing
 pub mod Steps
 pub mod Tables
+pub mod Refusing

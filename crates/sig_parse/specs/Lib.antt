@@ -5,6 +5,7 @@ pub mod Lines
 pub mod Operators
 pub mod Reading
 pub mod Reads
+pub mod Refusals
 pub mod Rules
 pub mod Seen
 pub mod Splitting

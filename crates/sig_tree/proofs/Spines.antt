@@ -129,3 +129,106 @@ module _ (limits : Limits) where
 
   pub spine_of : (level depth : ℕ) (e : Expression) (leaves : List Leaf) → level ≤ primary_level → IsAtLevel limits level depth e leaves → IsSpine limits level depth e leaves
   spine_of level depth e leaves within (p, is) = enclosed_spine e (bare_spine e) p level depth leaves within is
+
+  -- the other way
+  looser : (v w depth : ℕ) (e : Expression) (leaves : List Leaf) → v ≤ w → IsAtLevel limits w depth e leaves → IsAtLevel limits v depth e leaves
+  looser v w depth e leaves within (zero, (tight, is)) = (0, (omega arith, is))
+  looser v w depth e leaves within (suc p, is) = (suc p, is)
+
+  atom_at : (level depth : ℕ) (e : Expression) (leaves : List Leaf) → level ≤ primary_level → IsAtom e leaves → IsAtLevel limits level depth e leaves
+  atom_at level depth (Named n) leaves within is = (0, (within, is))
+  atom_at level depth (Number v at) leaves within is = (0, (within, is))
+  atom_at level depth (Truth t at) leaves within is = (0, (within, is))
+  atom_at level depth (Unary op operand at) leaves within is = absurd is
+  atom_at level depth (Binary op left right at) leaves within is = absurd is
+  atom_at level depth (Delay operand init at) leaves within is = absurd is
+  atom_at level depth (Cell operand held init at) leaves within is = absurd is
+
+  pub operand_at : (level depth : ℕ) (e : Expression) (leaves : List Leaf) → level ≤ primary_level → IsOperand limits level depth e leaves → IsAtLevel limits level depth e leaves
+  operand_at level depth e leaves within (inl (op, operand, at, rest, own, same, f, may, is)) =
+      subst (λ (x : Expression). IsAtLevel limits level depth x leaves) (sym same) (0, (omega (arith, own), (may, rest, f, is)))
+  operand_at level depth e leaves within (inr (inl (tighter, is))) = looser level (suc level) depth e leaves (omega arith) is
+  operand_at level depth e leaves within (inr (inr (own, inl atom))) = atom_at level depth e leaves within atom
+  operand_at level depth e leaves within (inr (inr (own, inr (may, (opened, closed, inside, f, (p, is)))))) = (suc p, (may, (opened, closed, inside, f, is)))
+
+  -- the level of what stands left of an operator
+  abbrev left_of : Step → ℕ
+  left_of (WithOperand op right at) = left_level op
+  left_of (WithCell held init at) = mixed_level
+  left_of (WithDelay init at) = delay_level
+
+  step_at : (level depth : ℕ) (left : Expression) (step : Step) (front back : List Leaf) → IsAtLevel limits (left_of step) depth left front → IsStep limits level depth step back
+      → IsAtLevel limits level depth (stepped left step) (front ++ back)
+  step_at level depth left (WithOperand op right at) front back is_left (rest, own, f, is) = (0, (omega (arith, own), (front, rest, ap (λ l. front ++ l) f, is_left, is)))
+  step_at level depth left (WithCell held init at) front back is_left (middle, rest, own, f, is_held, is_init) = (0, (omega (arith, own), (front, middle, rest, ap (λ l. front ++ l) f, is_left, is_held, is_init)))
+  step_at level depth left (WithDelay init at) front back is_left (one, rest, own, f, is_one, is_init) = (0, (omega (arith, own), (front, one, rest, ap (λ l. front ++ l) f, is_left, is_one, is_init)))
+
+  left_same : (level depth : ℕ) (step : Step) (back : List Leaf) → (level ≡ relation_level → ⊥) → IsStep limits level depth step back → left_of step ≡ level
+  left_same level depth (WithOperand op right at) back several (rest, own, f, is) = ⊎_elim
+      (λ (relation : (binary_level op ≡ relation_level) × (left_level op ≡ suc (binary_level op))). absurd (several (sym own ∙ relation.0)))
+      (λ (other : (binary_level op ≡ relation_level → ⊥) × (left_level op ≡ binary_level op)). other.1 ∙ own)
+      (left_cases op)
+  left_same level depth (WithCell held init at) back several (middle, rest, own, f, is, is_init) = own
+  left_same level depth (WithDelay init at) back several (one, rest, own, f, is, is_init) = own
+
+  steps_at : (level depth : ℕ) → (level ≡ relation_level → ⊥) → (left : Expression) (steps : List Step) (front back : List Leaf)
+      → IsAtLevel limits level depth left front → Each (IsStep limits level depth) steps back → IsAtLevel limits level depth (stepped_all left steps) (front ++ back)
+  steps_at level depth several left [] front back is e = subst (λ (l : List Leaf). IsAtLevel limits level depth left l) (sym (ap (λ l. front ++ l) e ∙ append-nil front)) is
+  steps_at level depth several left (s ∷ steps) front back is (first, rest, e, is_step, are) =
+      subst (λ (l : List Leaf). IsAtLevel limits level depth (stepped_all (stepped left s) steps) l) (append_assoc front first rest ∙ ap (λ l. front ++ l) (sym e))
+          (steps_at level depth several (stepped left s) steps (front ++ first) rest
+              (step_at level depth left s front first (subst (λ (w : ℕ). IsAtLevel limits w depth left front) (sym (left_same level depth s first several is_step)) is) is_step) are)
+
+  unary_no_relation : (op : UnOp) → unary_level op ≡ relation_level → ⊥
+  unary_no_relation Not e = omega arith
+  unary_no_relation _ e = omega arith
+
+  inner_at : (depth : ℕ) (e : Expression) (leaves : List Leaf) → IsOperand limits relation_level depth e leaves → IsAtLevel limits sum_level depth e leaves
+  inner_at depth e leaves (inl (op, operand, at, rest, own, same, f, may, is)) = absurd (unary_no_relation op own)
+  inner_at depth e leaves (inr (inl (tighter, is))) = is
+  inner_at depth e leaves (inr (inr (own, is))) = absurd (omega (arith, own))
+
+  relation_left : (depth : ℕ) (step : Step) (back : List Leaf) → IsStep limits relation_level depth step back → left_of step ≡ sum_level
+  relation_left depth (WithOperand op right at) back (rest, own, f, is) = ⊎_elim
+      (λ (relation : (binary_level op ≡ relation_level) × (left_level op ≡ suc (binary_level op))). relation.1 ∙ ap suc own)
+      (λ (other : (binary_level op ≡ relation_level → ⊥) × (left_level op ≡ binary_level op)). absurd (other.0 own))
+      (left_cases op)
+  relation_left depth (WithCell held init at) back (middle, rest, own, f, is, is_init) = absurd (omega (arith, own))
+  relation_left depth (WithDelay init at) back (one, rest, own, f, is, is_init) = absurd (omega (arith, own))
+
+  relation_at : (depth : ℕ) (first : Expression) (steps : List Step) (front back : List Leaf) → IsOperand limits relation_level depth first front → Each (IsStep limits relation_level depth) steps back
+      → length steps ≤ 1 → IsAtLevel limits relation_level depth (stepped_all first steps) (front ++ back)
+  relation_at depth first [] front back is e many =
+      subst (λ (l : List Leaf). IsAtLevel limits relation_level depth first l) (sym (ap (λ l. front ++ l) e ∙ append-nil front)) (operand_at relation_level depth first front (omega arith) is)
+  relation_at depth first (s ∷ []) front back is (begin, rest, e, is_step, f) many =
+      let whole : begin ≡ back = sym (append-nil begin) ∙ ap (λ l. begin ++ l) (sym f) ∙ sym e in
+      subst (λ (l : List Leaf). IsAtLevel limits relation_level depth (stepped first s) (front ++ l)) whole
+          (step_at relation_level depth first s front begin (subst (λ (w : ℕ). IsAtLevel limits w depth first front) (sym (relation_left depth s begin is_step)) (inner_at depth first front is)) is_step)
+  relation_at depth first (s ∷ t ∷ steps) front back is are many = absurd (omega arith)
+
+  spine_parts : (level depth : ℕ) (first : Expression) (steps : List Step) (front back : List Leaf) → level ≤ primary_level → IsOperand limits level depth first front
+      → Each (IsStep limits level depth) steps back → AreSoMany level (length steps) → (level ≡ relation_level) ⊎ (level ≡ relation_level → ⊥) → IsAtLevel limits level depth (stepped_all first steps) (front ++ back)
+  spine_parts level depth first steps front back within is are many (inl relation) =
+      subst (λ (w : ℕ). IsAtLevel limits w depth (stepped_all first steps) (front ++ back)) (sym relation)
+          (relation_at depth first steps front back (subst (λ (w : ℕ). IsOperand limits w depth first front) relation is)
+              (subst (λ (w : ℕ). Each (IsStep limits w depth) steps back) relation are) (many relation))
+  spine_parts level depth first steps front back within is are many (inr several) =
+      steps_at level depth several first steps front back (operand_at level depth first front within is) are
+
+  is_relation : (level : ℕ) → (level ≡ relation_level) ⊎ (level ≡ relation_level → ⊥)
+  is_relation level = ⊎_elim
+      (λ (below : level < relation_level). inr (λ (e : level ≡ relation_level). omega arith))
+      (λ (at_least : relation_level ≤ level). ⊎_elim
+          (λ (above : relation_level < level). inr (λ (e : level ≡ relation_level). omega arith))
+          (λ (at_most : level ≤ relation_level). inl (omega arith))
+          (cases_lt relation_level level))
+      (cases_lt level relation_level)
+
+  pub spine_at : (level depth : ℕ) (first : Expression) (steps : List Step) (front back : List Leaf) → level ≤ primary_level → IsOperand limits level depth first front
+      → Each (IsStep limits level depth) steps back → AreSoMany level (length steps) → IsAtLevel limits level depth (stepped_all first steps) (front ++ back)
+  spine_at level depth first steps front back within is are many = spine_parts level depth first steps front back within is are many (is_relation level)
+
+  pub of_spine : (level depth : ℕ) (e : Expression) (leaves : List Leaf) → level ≤ primary_level → IsSpine limits level depth e leaves → IsAtLevel limits level depth e leaves
+  of_spine level depth e leaves within (first, steps, front, back, f, g, is, are, many) =
+      subst (λ (l : List Leaf). IsAtLevel limits level depth e l) (sym f)
+          (subst (λ (x : Expression). IsAtLevel limits level depth x (front ++ back)) (sym g) (spine_at level depth first steps front back within is are many))

@@ -1,18 +1,19 @@
 //! Laws of the grammar: what a part of it begins with, and that its leaves have one reading.
 
-ghost use Rattle.std.specs.Prelude.{◌≡◌, ℕ, List, codes};
+ghost use Rattle.std.specs.Prelude.{◌≡◌, ◌≤◌, ℕ, List, codes};
 ghost use Rattle.sig_tree.specs.declared.expr.Name.{Name};
 ghost use Rattle.sig_tree.specs.declared.expr.Constant.{Constant};
-ghost use Rattle.sig_tree.specs.Syntax.{Expression, Declared, Placement, RightSide, Equations, ProcessModel};
+ghost use Rattle.sig_tree.specs.Syntax.{Expression, Declared, Placement, RightSide, Equations, Bodies, ProcessModel};
 ghost use Rattle.sig_tree.specs.Terminals.{Leaf, word, mark};
-ghost use Rattle.sig_tree.specs.Levels.{default_level};
-ghost use Rattle.sig_tree.specs.Limits.{Limits, no_limits};
+ghost use Rattle.sig_tree.specs.Levels.{default_level, primary_level};
+ghost use Rattle.sig_tree.specs.Limits.{Limits, both_limits, no_limits};
 ghost use Rattle.sig_tree.specs.Expressions.{IsConstant, IsInit, IsOptionalInit, IsAtLevel};
 ghost use Rattle.sig_tree.specs.Equations.{IsName, IsLeft, AreConstants, AreArguments, IsRight, IsDefinition, IsClockEquation, IsBody, AreBodies, AreFurtherBodies};
 ghost use Rattle.sig_tree.specs.Processes.{IsPlainItem, IsItem, IsGroup, IsParam, AreGroups, AreParams, IsInterface, IsPlacement, ArePragmas, IsLocalGroup, IsModel};
 ghost use Rattle.sig_tree.specs.Grammar.{IsProgram, HasTree, IsText};
 ghost use Rattle.sig_tree.specs.Beginning.{StartsWith, BeginsConstant, BeginsExpression, BeginsLeft, BeginsBody, BeginsGroup, BeginsPlacement, BeginsProcess};
 ghost use Rattle.sig_tree.specs.Readings.{OneReading};
+ghost use Rattle.sig_tree.specs.Spines.{IsSpine};
 ghost use Rattle.sig_tree.specs.Continuing.{ContinuesNothing, ContinuesOptional, ContinuesInit, ContinuesExpression, ContinuesDefinition, ContinuesClockEquation, ContinuesBody, ContinuesFurtherBodies, ContinuesBodies, ContinuesParam, ContinuesGroup, ContinuesGroups, ContinuesProgram};
 
 use sig_lex::one_reading;
@@ -29,6 +30,20 @@ pub fn within_no_limits()
     ensures body { (limits : Limits) (body : Equations) (depth other : ℕ) (leaves : List Leaf) → IsBody limits body depth leaves → IsBody no_limits body other leaves }
     ensures process { (limits : Limits) (model : ProcessModel) (depth other : ℕ) (leaves : List Leaf) → IsModel limits model depth leaves → IsModel no_limits model other leaves }
     ensures program { (limits : Limits) (processes : List ProcessModel) (leaves : List Leaf) → IsProgram limits processes leaves → IsProgram no_limits processes leaves }
+{}
+
+/// A law: what is in the grammar within both limits is in it within any.
+pub fn within_both_limits()
+    ensures expression { (limits : Limits) (level depth : ℕ) (e : Expression) (leaves : List Leaf) → IsAtLevel both_limits level depth e leaves → IsAtLevel limits level depth e leaves }
+    ensures left { (limits : Limits) (depth : ℕ) (names : List Name) (leaves : List Leaf) → IsLeft both_limits depth names leaves → IsLeft limits depth names leaves }
+    ensures right { (limits : Limits) (depth : ℕ) (right : RightSide) (leaves : List Leaf) → IsRight both_limits depth right leaves → IsRight limits depth right leaves }
+    ensures definition { (limits : Limits) (depth : ℕ) (names : List Name) (right : RightSide) (leaves : List Leaf) → IsDefinition both_limits depth names right leaves → IsDefinition limits depth names right leaves }
+    ensures clock_equation { (limits : Limits) (depth : ℕ) (operands : List Expression) (leaves : List Leaf) → IsClockEquation both_limits depth operands leaves → IsClockEquation limits depth operands leaves }
+    ensures body { (limits : Limits) (body : Equations) (depth : ℕ) (leaves : List Leaf) → IsBody both_limits body depth leaves → IsBody limits body depth leaves }
+    ensures bodies { (limits : Limits) (bodies : Bodies) (depth : ℕ) (leaves : List Leaf) → AreBodies both_limits bodies depth leaves → AreBodies limits bodies depth leaves }
+    ensures further_bodies { (limits : Limits) (bodies : Bodies) (depth : ℕ) (leaves : List Leaf) → AreFurtherBodies both_limits bodies depth leaves → AreFurtherBodies limits bodies depth leaves }
+    ensures process { (limits : Limits) (model : ProcessModel) (depth : ℕ) (leaves : List Leaf) → IsModel both_limits model depth leaves → IsModel limits model depth leaves }
+    ensures program { (limits : Limits) (processes : List ProcessModel) (leaves : List Leaf) → IsProgram both_limits processes leaves → IsProgram limits processes leaves }
 {}
 
 /// A law: what a part of the grammar begins with, and that it is not empty.
@@ -55,6 +70,12 @@ pub fn one_expression()
     ensures init { OneReading IsInit ContinuesNothing }
     ensures optional_init { OneReading IsOptionalInit ContinuesInit }
     ensures expression { (limits : Limits) (level depth : ℕ) → OneReading (IsAtLevel limits level depth) (ContinuesExpression level) }
+{}
+
+/// A law: an expression of a level is a first operand, and behind it the operators of the level.
+pub fn spine()
+    ensures reads { (limits : Limits) (level depth : ℕ) (e : Expression) (leaves : List Leaf) → level ≤ primary_level → IsAtLevel limits level depth e leaves → IsSpine limits level depth e leaves }
+    ensures stands { (limits : Limits) (level depth : ℕ) (e : Expression) (leaves : List Leaf) → level ≤ primary_level → IsSpine limits level depth e leaves → IsAtLevel limits level depth e leaves }
 {}
 
 /// A law: names, left and right sides, definitions, clock equations and bodies have one reading.

@@ -19,7 +19,7 @@ pub use expr::{BinOp, Constant, Expr, Name, UnOp};
 pub use flat::{Flat, FlatEq, FlatExpr};
 pub use laws::{
     beginnings, one_declaration, one_equation, one_expression, one_process, one_program, one_tree,
-    within_no_limits,
+    spine, within_both_limits, within_no_limits,
 };
 pub use meaning::{
     meaning_up_to_an_instant, one_longest_trace, one_meaning, prefixes_of_traces, silence_in_traces,
