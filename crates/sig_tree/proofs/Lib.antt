@@ -15,8 +15,8 @@ pub mod ReadProcesses
 pub mod Reader
 pub mod Settling
 pub mod Silence
+pub mod Spines
 pub mod StepLaws
 pub mod Stopping
 pub mod Unlimited
 pub mod UpTo
-pub mod Spines

@@ -19,8 +19,8 @@ pub mod Processes
 pub mod Readings
 pub mod Repeated
 pub mod Rules
-pub mod Steps
 pub mod Spines
+pub mod Steps
 pub mod Syntax
 pub mod Terminals
 pub mod Unplaced
