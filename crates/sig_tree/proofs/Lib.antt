@@ -11,3 +11,4 @@ pub mod ReadBodies
 pub mod ReadDeclarations
 pub mod ReadProcesses
 pub mod Spines
+pub mod ReadSpines
