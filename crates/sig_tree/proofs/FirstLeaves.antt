@@ -23,10 +23,10 @@ pub starts_larger : (Small Large : Terminal → Type 0) → ((t : Terminal) → 
 starts_larger Small Large within [] starts = starts
 starts_larger Small Large within (l ∷ leaves) starts = within l.terminal starts
 
-starts_at : (Begins : Terminal → Type 0) (leaves : List Leaf) (l : Leaf) (rest : List Leaf) → leaves ≡ l ∷ rest → Begins l.terminal → StartsWith Begins leaves
+pub starts_at : (Begins : Terminal → Type 0) (leaves : List Leaf) (l : Leaf) (rest : List Leaf) → leaves ≡ l ∷ rest → Begins l.terminal → StartsWith Begins leaves
 starts_at Begins leaves l rest e begins = subst (λ (ls : List Leaf). StartsWith Begins ls) (sym e) begins
 
-starts_front : (Begins : Terminal → Type 0) (leaves front back : List Leaf) → leaves ≡ front ++ back → StartsWith Begins front → StartsWith Begins leaves
+pub starts_front : (Begins : Terminal → Type 0) (leaves front back : List Leaf) → leaves ≡ front ++ back → StartsWith Begins front → StartsWith Begins leaves
 starts_front Begins leaves front back e starts = subst (λ (ls : List Leaf). StartsWith Begins ls) (sym e) (starts_longer Begins front back starts)
 
 -- an expression of a level may stand where a looser one is asked for

@@ -20,3 +20,4 @@ pub mod StepLaws
 pub mod Stopping
 pub mod Unlimited
 pub mod UpTo
+pub mod ReadSpines

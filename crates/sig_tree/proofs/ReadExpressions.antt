@@ -39,11 +39,11 @@ taken self e level i at rest within =
     ap (λ o. continued self level e o (leaf (infix_terminal i) at) rest) (infix_found i)
     ∙ ap (λ b. cond b (completed self level e i at rest) (Some (e, leaf (infix_terminal i) at ∷ rest))) (le-leb level (infix_level i) within)
 
-prefix_first : (op : UnOp) → first_of (unary_terminal op) ≡ AtPrefix op
+pub prefix_first : (op : UnOp) → first_of (unary_terminal op) ≡ AtPrefix op
 prefix_first Not = refl
 prefix_first _ = refl
 
-truth_first : (truth : Bool) → first_of (truth_word truth) ≡ AtTruth truth
+pub truth_first : (truth : Bool) → first_of (truth_word truth) ≡ AtTruth truth
 truth_first true = refl
 truth_first false = refl
 
@@ -63,11 +63,11 @@ closing_looser : (level : ℕ) (t : Terminal) → t ≡ mark (codes ")") → Tig
 closing_looser level t e is = closing_stops level t e (tighter_continues level t is)
 
 -- nor does the `init` of a cell behind what holds it
-init_looser : (t : Terminal) → t ≡ word (codes "init") → ContinuesExpression primary_level t → ⊥
+pub init_looser : (t : Terminal) → t ≡ word (codes "init") → ContinuesExpression primary_level t → ⊥
 init_looser t e (inl is) = no_infix t (ap infix_of e) primary_level is
 init_looser t e (inr (low, delays)) = omega arith
 
-init_stops : (c : Constant) (front back : List Leaf) → IsInit c front → (Continues : Terminal → Type 0) → ((t : Terminal) → t ≡ word (codes "init") → Continues t → ⊥) → StopsBefore Continues (front ++ back)
+pub init_stops : (c : Constant) (front back : List Leaf) → IsInit c front → (Continues : Terminal → Type 0) → ((t : Terminal) → t ≡ word (codes "init") → Continues t → ⊥) → StopsBefore Continues (front ++ back)
 init_stops c front back (at, rest, e, is) Continues looser = subst (λ (l : List Leaf). StopsBefore Continues (l ++ back)) (sym e) (looser (word (codes "init")) refl)
 
 module _ (limits : Limits) where
