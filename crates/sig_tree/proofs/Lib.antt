@@ -12,6 +12,7 @@ pub mod ReadDeclarations
 pub mod ReadEquations
 pub mod ReadExpressions
 pub mod ReadProcesses
+pub mod ReadSpines
 pub mod Reader
 pub mod Settling
 pub mod Silence
@@ -20,4 +21,3 @@ pub mod StepLaws
 pub mod Stopping
 pub mod Unlimited
 pub mod UpTo
-pub mod ReadSpines
