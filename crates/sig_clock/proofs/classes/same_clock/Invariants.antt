@@ -1,0 +1,5 @@
+use Rattle.sig_clock.proofs.SameClockLemmas.{ArePartition}
+use Rattle.sig_clock.proofs.classes.same_clock.Given as goal
+
+abbrev pub invariant-loop-equation : goal.invariant-loop-equation
+invariant-loop-equation l = ArePartition l.kernel l.equation-index l.least.items

@@ -1,0 +1,5 @@
+use Rattle.sig_clock.proofs.ReactionLemmas.{silence}
+use Rattle.sig_clock.proofs.laws.silence_is_a_reaction.Goals as goal
+
+pub returns : goal.returns
+returns c = silence

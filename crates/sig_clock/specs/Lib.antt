@@ -1,0 +1,9 @@
+pub mod ClockFunctions
+pub mod ClockRefusals
+pub mod Clocks
+pub mod Conditions
+pub mod Layers
+pub mod Links
+pub mod Pinned
+pub mod Reactions
+pub mod SameClocks
