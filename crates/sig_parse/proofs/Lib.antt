@@ -7,3 +7,8 @@ pub mod SmallLemmas
 pub mod SpellingLemmas
 pub mod SplittingLemmas
 pub mod Refusing
+pub mod RefusedConstants
+pub mod RefusedLevels
+pub mod RefusedOperands
+pub mod RefusedSteps
+pub mod RefusedPrimaries

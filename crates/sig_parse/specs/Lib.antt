@@ -1,4 +1,5 @@
 pub mod Answers
+pub mod Languages
 pub mod Reading
 pub mod Refusals
 pub mod Rules

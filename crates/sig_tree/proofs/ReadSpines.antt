@@ -26,7 +26,7 @@ use Rattle.sig_tree.proofs.ReadEquations.{starts_conflict, stops_nothing}
 use Rattle.sig_tree.proofs.Spines.{operand_at}
 
 -- the operators before an operand are told apart by their terminals
-unary_same : (op other : UnOp) → unary_terminal op ≡ unary_terminal other → op ≡ other
+pub unary_same : (op other : UnOp) → unary_terminal op ≡ unary_terminal other → op ≡ other
 unary_same op other e = let same : AtPrefix op ≡ AtPrefix other = sym (prefix_first op) ∙ ap first_of e ∙ prefix_first other in cc
 
 pub prefix_no_inner : (op : UnOp) (level : ℕ) → unary_level op ≡ level → (t : Terminal) → t ≡ unary_terminal op → BeginsExpression (suc level) t → ⊥
@@ -44,7 +44,7 @@ not_before_delay : (op : UnOp) → unary_level op ≤ delay_level → suc (unary
 not_before_delay Not low = omega arith
 not_before_delay _ low = omega arith
 
-operand_tighter : (op : UnOp) (level : ℕ) → unary_level op ≡ level → (t : Terminal) → ContinuesExpression (operand_level op) t → ContinuesExpression (suc level) t
+pub operand_tighter : (op : UnOp) (level : ℕ) → unary_level op ≡ level → (t : Terminal) → ContinuesExpression (operand_level op) t → ContinuesExpression (suc level) t
 operand_tighter op level own t continues = subst (λ (l : ℕ). ContinuesExpression (suc l) t) own (go (operand_continues op t continues)) where
   go : Tighter (unary_level op) t → ContinuesExpression (suc (unary_level op)) t
   go (inl is) = inl is
@@ -138,7 +138,7 @@ place_of_step (WithOperand op right at) = at
 place_of_step (WithCell held init at) = at
 place_of_step (WithDelay init at) = at
 
-infix_same : (i j : Infix) → infix_terminal i ≡ infix_terminal j → i ≡ j
+pub infix_same : (i j : Infix) → infix_terminal i ≡ infix_terminal j → i ≡ j
 infix_same i j e = let same : Some i ≡ Some j = sym (infix_found i) ∙ ap infix_of e ∙ infix_found j in cc
 
 module _ (limits : Limits) (level depth : ℕ) where

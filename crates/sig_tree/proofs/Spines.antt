@@ -10,9 +10,10 @@ use Rattle.sig_tree.specs.declared.expr.BinOp.TheVariants.{Default, When, Plus, 
 use Rattle.sig_tree.specs.Syntax.{Expression, Named, Number, Truth, Unary, Binary, Delay, Cell}
 use Rattle.sig_tree.specs.Terminals.{Leaf, leaf, word, mark, binary_terminal}
 use Rattle.sig_tree.specs.Levels.{default_level, mixed_level, relation_level, sum_level, delay_level, primary_level, unary_level, operand_level, binary_level, left_level, right_level, level_of}
-use Rattle.sig_tree.specs.Limits.{Limits}
+use Rattle.sig_tree.specs.Limits.{Limits, both_limits, no_limits, MayStandInside}
 use Rattle.sig_tree.specs.Repeated.{Each}
 use Rattle.sig_tree.specs.Expressions.{Enclosed, IsBare, IsAtLevel}
+use Rattle.sig_tree.proofs.Unlimited.{expression_unlimited, expression_within}
 use Rattle.sig_tree.specs.Spines.{IsAtom, IsOperand, IsInner, Step, WithOperand, WithCell, WithDelay, stepped, stepped_all, IsStep, AreSoMany, IsSpine}
 
 -- a relation's left operand is tighter, and no other's
@@ -232,3 +233,32 @@ module _ (limits : Limits) where
   of_spine level depth e leaves within (first, steps, front, back, f, g, is, are, many) =
       subst (λ (l : List Leaf). IsAtLevel limits level depth e l) (sym f)
           (subst (λ (x : Expression). IsAtLevel limits level depth x (front ++ back)) (sym g) (spine_at level depth first steps front back within is are many))
+
+-- from limits to others
+module _ (limits target : Limits) (may : (depth : ℕ) → MayStandInside limits depth → MayStandInside target depth)
+    (same : (level depth : ℕ) (e : Expression) (leaves : List Leaf) → IsAtLevel limits level depth e leaves → IsAtLevel target level depth e leaves) where
+  operand_target : (level depth : ℕ) (e : Expression) (leaves : List Leaf) → IsOperand limits level depth e leaves → IsOperand target level depth e leaves
+  operand_target level depth e leaves (inl (op, operand, at, rest, own, f, g, allowed, is)) =
+      inl (op, operand, at, rest, own, f, g, may depth allowed, same (operand_level op) (suc depth) operand rest is)
+  operand_target level depth e leaves (inr (inl (tighter, is))) = inr (inl (tighter, same (suc level) depth e leaves is))
+  operand_target level depth e leaves (inr (inr (own, inl atom))) = inr (inr (own, inl atom))
+  operand_target level depth e leaves (inr (inr (own, inr (allowed, (opened, closed, inside, f, is))))) =
+      inr (inr (own, inr (may depth allowed, (opened, closed, inside, f, same default_level (suc depth) e inside is))))
+
+  step_target : (level depth : ℕ) (s : Step) (leaves : List Leaf) → IsStep limits level depth s leaves → IsStep target level depth s leaves
+  step_target level depth (WithOperand op right at) leaves (rest, own, f, is) = (rest, own, f, same (right_level op) depth right rest is)
+  step_target level depth (WithCell held init at) leaves (middle, back, own, f, is, is_init) = (middle, back, own, f, same primary_level depth held middle is, is_init)
+  step_target level depth (WithDelay init at) leaves (one, back, own, f, is_one, is_init) = (one, back, own, f, is_one, is_init)
+
+module _ (limits : Limits) where
+  pub operand_unlimited : (level depth : ℕ) (e : Expression) (leaves : List Leaf) → IsOperand limits level depth e leaves → IsOperand no_limits level depth e leaves
+  operand_unlimited = operand_target limits no_limits (λ depth allowed kept. cc) (λ level depth e leaves is. expression_unlimited limits level depth depth e leaves is)
+
+  pub step_unlimited : (level depth : ℕ) (s : Step) (leaves : List Leaf) → IsStep limits level depth s leaves → IsStep no_limits level depth s leaves
+  step_unlimited = step_target limits no_limits (λ depth allowed kept. cc) (λ level depth e leaves is. expression_unlimited limits level depth depth e leaves is)
+
+  pub operand_within : (level depth : ℕ) (e : Expression) (leaves : List Leaf) → IsOperand both_limits level depth e leaves → IsOperand limits level depth e leaves
+  operand_within = operand_target both_limits limits (λ depth allowed kept. allowed refl) (expression_within limits)
+
+  pub step_within : (level depth : ℕ) (s : Step) (leaves : List Leaf) → IsStep both_limits level depth s leaves → IsStep limits level depth s leaves
+  step_within = step_target both_limits limits (λ depth allowed kept. allowed refl) (expression_within limits)

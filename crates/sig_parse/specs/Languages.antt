@@ -1,0 +1,46 @@
+-- The languages of the parts of the parser: leaves that are something of the grammar within limits, in
+-- an equation that has so many operators before them.
+use Rattle.std.specs.Prelude.{◌≡◌, ◌+◌, ℕ, suc, List, [], ◌∷◌, length, Option}
+use Rattle.sig_tree.specs.declared.expr.Constant.{Constant}
+use Rattle.sig_tree.specs.Syntax.{Expression}
+use Rattle.sig_tree.specs.Terminals.{Leaf}
+use Rattle.sig_tree.specs.Limits.{Limits, MayHave, operators}
+use Rattle.sig_tree.specs.Repeated.{Each}
+use Rattle.sig_tree.specs.Expressions.{IsConstant, IsInit, IsOptionalInit, IsAtLevel}
+use Rattle.sig_tree.specs.Spines.{Step, WithOperand, WithCell, WithDelay, IsOperand, IsStep, AreSoMany}
+
+abbrev pub InConstant : Limits → List Leaf → Type 0
+InConstant limits leaves = (constant : Constant) × IsConstant constant leaves
+
+abbrev pub InInit : Limits → List Leaf → Type 0
+InInit limits leaves = (constant : Constant) × IsInit constant leaves
+
+abbrev pub InOptionalInit : Limits → List Leaf → Type 0
+InOptionalInit limits leaves = (constant : Option Constant) × IsOptionalInit constant leaves
+
+-- an expression where one of a level is asked for
+abbrev pub InLevel : (level depth used : ℕ) → Limits → List Leaf → Type 0
+InLevel level depth used limits leaves = (e : Expression) × IsAtLevel limits level depth e leaves × MayHave limits (used + operators e)
+
+-- what stands left of the operators of a level
+abbrev pub InOperand : (level depth used : ℕ) → Limits → List Leaf → Type 0
+InOperand level depth used limits leaves = (e : Expression) × IsOperand limits level depth e leaves × MayHave limits (used + operators e)
+
+-- the operators of steps
+abbrev pub step_operators : Step → ℕ
+step_operators (WithOperand op right at) = suc (operators right)
+step_operators (WithCell held init at) = suc (operators held)
+step_operators (WithDelay init at) = 1
+
+abbrev pub steps_operators : List Step → ℕ
+steps_operators [] = 0
+steps_operators (step ∷ steps) = step_operators step + steps_operators steps
+
+-- an operator behind an operand, with what it takes
+abbrev pub InStep : (level depth used : ℕ) → Limits → List Leaf → Type 0
+InStep level depth used limits leaves = (step : Step) × IsStep limits level depth step leaves × MayHave limits (used + step_operators step)
+
+-- any number of them, behind so many
+abbrev pub InSteps : (level depth taken used : ℕ) → Limits → List Leaf → Type 0
+InSteps level depth taken used limits leaves = (steps : List Step) × Each (IsStep limits level depth) steps leaves
+    × AreSoMany level (taken + length steps) × MayHave limits (used + steps_operators steps)
