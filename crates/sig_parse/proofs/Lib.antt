@@ -24,3 +24,4 @@ pub mod RefusedLevels
 pub mod RefusedOperands
 pub mod RefusedSteps
 pub mod RefusedPrimaries
+pub mod RefusedLists

@@ -9,6 +9,15 @@ use Rattle.sig_tree.specs.Repeated.{Each}
 use Rattle.sig_tree.specs.Expressions.{IsConstant, IsInit, IsOptionalInit, IsAtLevel}
 use Rattle.sig_tree.specs.Spines.{Step, WithOperand, WithCell, WithDelay, IsOperand, IsStep, AreSoMany}
 
+-- something of these, with its operators
+abbrev pub InOne : {A : Type 0} → (Limits → A → List Leaf → Type 0) → (A → ℕ) → (used : ℕ) → Limits → List Leaf → Type 0
+InOne {A = A} Is count used limits leaves = (x : A) × Is limits x leaves × MayHave limits (used + count x)
+
+-- the operators of all of them
+abbrev pub counted : {A : Type 0} → (A → ℕ) → List A → ℕ
+counted count [] = 0
+counted count (x ∷ xs) = count x + counted count xs
+
 abbrev pub InConstant : Limits → List Leaf → Type 0
 InConstant limits leaves = (constant : Constant) × IsConstant constant leaves
 
