@@ -25,3 +25,5 @@ pub mod RefusedOperands
 pub mod RefusedSteps
 pub mod RefusedPrimaries
 pub mod RefusedLists
+pub mod RefusedSides
+pub mod RefusedEquations

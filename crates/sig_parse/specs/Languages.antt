@@ -2,11 +2,13 @@
 -- an equation that has so many operators before them.
 use Rattle.std.specs.Prelude.{◌≡◌, ◌+◌, ℕ, suc, List, [], ◌∷◌, length, Option}
 use Rattle.sig_tree.specs.declared.expr.Constant.{Constant}
-use Rattle.sig_tree.specs.Syntax.{Expression}
+use Rattle.sig_tree.specs.declared.expr.Name.{Name}
+use Rattle.sig_tree.specs.Syntax.{Expression, RightSide}
 use Rattle.sig_tree.specs.Terminals.{Leaf}
-use Rattle.sig_tree.specs.Limits.{Limits, MayHave, operators}
+use Rattle.sig_tree.specs.Limits.{Limits, MayHave, operators, right_operators}
 use Rattle.sig_tree.specs.Repeated.{Each}
 use Rattle.sig_tree.specs.Expressions.{IsConstant, IsInit, IsOptionalInit, IsAtLevel}
+use Rattle.sig_tree.specs.Equations.{IsLeft, AreConstants, AreArguments, IsRight, IsDefinition, IsClockEquation}
 use Rattle.sig_tree.specs.Spines.{Step, WithOperand, WithCell, WithDelay, IsOperand, IsStep, AreSoMany}
 
 -- something of these, with its operators
@@ -53,3 +55,27 @@ InStep level depth used limits leaves = (step : Step) × IsStep limits level dep
 abbrev pub InSteps : (level depth taken used : ℕ) → Limits → List Leaf → Type 0
 InSteps level depth taken used limits leaves = (steps : List Step) × Each (IsStep limits level depth) steps leaves
     × AreSoMany level (taken + length steps) × MayHave limits (used + steps_operators steps)
+
+-- a left side
+abbrev pub InLeft : (depth : ℕ) → Limits → List Leaf → Type 0
+InLeft depth limits leaves = (names : List Name) × IsLeft limits depth names leaves
+
+-- the constants of a call, where it has any
+abbrev pub InConstants : Limits → List Leaf → Type 0
+InConstants limits leaves = (constants : List Constant) × AreConstants constants leaves
+
+-- the arguments of a call
+abbrev pub InArguments : (depth used : ℕ) → Limits → List Leaf → Type 0
+InArguments depth used limits leaves = (arguments : List Expression) × AreArguments limits depth arguments leaves × MayHave limits (used + counted operators arguments)
+
+-- a right side
+abbrev pub InRight : (depth used : ℕ) → Limits → List Leaf → Type 0
+InRight depth used limits leaves = (right : RightSide) × IsRight limits depth right leaves × MayHave limits (used + right_operators right)
+
+-- a definition
+abbrev pub InDefinition : (depth : ℕ) → Limits → List Leaf → Type 0
+InDefinition depth limits leaves = (names : List Name) × (right : RightSide) × IsDefinition limits depth names right leaves
+
+-- a clock equation
+abbrev pub InClockEquation : (depth : ℕ) → Limits → List Leaf → Type 0
+InClockEquation depth limits leaves = (operands : List Expression) × IsClockEquation limits depth operands leaves
