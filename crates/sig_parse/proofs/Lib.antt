@@ -19,3 +19,11 @@ pub mod Standing
 pub mod Steps
 pub mod Tables
 pub mod Refusing
+pub mod RefusedConstants
+pub mod RefusedLevels
+pub mod RefusedOperands
+pub mod RefusedSteps
+pub mod RefusedPrimaries
+pub mod RefusedLists
+pub mod RefusedSides
+pub mod RefusedEquations

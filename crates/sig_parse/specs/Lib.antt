@@ -1,4 +1,5 @@
 pub mod Answers
+pub mod Languages
 pub mod Declarations
 pub mod Keywords
 pub mod Lines

@@ -17,6 +17,7 @@ pub mod Reader
 pub mod Settling
 pub mod Silence
 pub mod Spines
+pub mod ReadSpines
 pub mod StepLaws
 pub mod Stopping
 pub mod Unlimited

@@ -47,7 +47,7 @@ text_of_name t = []
 pub name_same : (n m : Name) → name_leaf n ≡ name_leaf m → n ≡ m
 name_same n m e = λ i. record { text = text_of_name (e i).terminal; at = (e i).at }
 
-name_no_mark : (n : Name) (text : List ℕ) (at : Span) (a b : List Leaf) → name_leaf n ∷ a ≡ leaf (mark text) at ∷ b → ⊥
+pub name_no_mark : (n : Name) (text : List ℕ) (at : Span) (a b : List Leaf) → name_leaf n ∷ a ≡ leaf (mark text) at ∷ b → ⊥
 name_no_mark n text at a b e =
     let heads = cons_same _ _ _ _ e in
     let terminals : name n.text ≡ mark text = ap (λ l. l.terminal) heads.0 in
@@ -105,10 +105,10 @@ pub constants_once : OneReading AreConstants (ContinuesOptional (mark (codes "{"
 constants_once = optional_between [] (Listed IsConstant (mark (codes ","))) (mark (codes "{")) (mark (codes "}")) constants_in_braces
 
 -- what begins the brackets of a call
-abbrev Opens : Terminal → Type 0
+abbrev pub Opens : Terminal → Type 0
 Opens t = (t ≡ mark (codes "(")) ⊎ (t ≡ mark (codes "{"))
 
-opens_apart : (t : Terminal) → Opens t → ContinuesExpression default_level t → ⊥
+pub opens_apart : (t : Terminal) → Opens t → ContinuesExpression default_level t → ⊥
 opens_apart t (inl e) continues = mark_apart (codes "(") refl default_level (subst (ContinuesExpression default_level) e continues)
 opens_apart t (inr e) continues = mark_apart (codes "{") refl default_level (subst (ContinuesExpression default_level) e continues)
 
@@ -151,13 +151,13 @@ module _ (limits : Limits) (depth : ℕ) where
   named_alone n = (0, (omega arith, refl))
 
   -- the brackets of a call
-  call_opens : (constants : List Constant) (arguments : List Expression) (front back : List Leaf) → AreConstants constants front → AreArguments limits depth arguments back → StartsWith Opens (front ++ back)
+  pub call_opens : (constants : List Constant) (arguments : List Expression) (front back : List Leaf) → AreConstants constants front → AreArguments limits depth arguments back → StartsWith Opens (front ++ back)
   call_opens constants arguments front back (inl (none, e)) (opened, closed, inside, f, are) =
       subst (λ (l : List Leaf). StartsWith Opens l) (sym (ap (λ l. l ++ back) e ∙ f)) (inl refl)
   call_opens constants arguments front back (inr (opened, closed, inside, e, are)) others =
       subst (λ (l : List Leaf). StartsWith Opens l) (sym (ap (λ l. l ++ back) e)) (inr refl)
 
-  call_or_expression : (e : Expression) (n : Name) (front back rest more : List Leaf) → front ++ back ≡ name_leaf n ∷ (rest ++ more) → IsExpression limits depth e front
+  pub call_or_expression : (e : Expression) (n : Name) (front back rest more : List Leaf) → front ++ back ≡ name_leaf n ∷ (rest ++ more) → IsExpression limits depth e front
       → StopsBefore ContinuesDefinition back → StartsWith Opens rest → ⊥
   call_or_expression e n front back rest more same is stops opens =
       let part = part_at (IsExpression limits depth) (ContinuesExpression default_level) e (expression_once limits default_level depth e) (Named n) front (name_leaf n ∷ []) back (rest ++ more) same is (named_alone n)

@@ -1,24 +1,23 @@
 -- One reading of operands and of the operators behind them.
-use Rattle.std.proofs.Common.{◌≡◌, ℕ, zero, suc, ◌≤◌, ◌<◌, ◌++◌, List, [], ◌∷◌, Bool, true, false, Option, None, Some, refl, sym, ap, ◌∙◌, subst, codes, inl, inr, ◌⊎◌, arith, append_assoc}
-use Rattle.std.proofs.lemmas.List.{append_cancel_right, append_cancel_left}
+use Rattle.std.proofs.Common.{◌≡◌, ℕ, suc, ◌≤◌, ◌++◌, List, [], ◌∷◌, Some, refl, sym, ap, ◌∙◌, subst, codes, inl, inr, arith}
+use Rattle.std.proofs.lemmas.List.{append_cancel_right}
 use Rattle.sig_base.specs.declared.span.Span.{Span}
-use Rattle.sig_tree.specs.declared.expr.Constant.{Constant}
 use Rattle.sig_tree.specs.declared.expr.UnOp.{UnOp}
-use Rattle.sig_tree.specs.declared.expr.UnOp.TheVariants.{Not, Neg, When as UnaryWhen, Clock}
+use Rattle.sig_tree.specs.declared.expr.UnOp.TheVariants.{Not}
 use Rattle.sig_tree.specs.declared.expr.BinOp.{BinOp}
 use Rattle.sig_tree.specs.Syntax.{Expression, Named, Number, Truth, Unary, Binary, Delay, Cell}
-use Rattle.sig_tree.specs.Terminals.{Terminal, Leaf, leaf, name, number, word, mark, truth_word, unary_terminal, binary_terminal}
-use Rattle.sig_tree.specs.Levels.{mixed_level, delay_level, primary_level, unary_level, operand_level, binary_level, right_level}
+use Rattle.sig_tree.specs.Terminals.{Terminal, Leaf, leaf, word, mark, unary_terminal, binary_terminal}
+use Rattle.sig_tree.specs.Levels.{delay_level, primary_level, unary_level, operand_level, binary_level, right_level}
 use Rattle.sig_tree.specs.Limits.{Limits}
 use Rattle.sig_tree.specs.Repeated.{Each}
 use Rattle.sig_tree.specs.Expressions.{IsAtLevel}
 use Rattle.sig_tree.specs.Beginning.{StartsWith, BeginsExpression}
 use Rattle.sig_tree.specs.Readings.{StopsBefore, OneReading}
-use Rattle.sig_tree.specs.Continuing.{IsInfix, ContinuesDelay, ContinuesExpression}
-use Rattle.sig_tree.specs.Spines.{IsAtom, IsParenthesised, IsPrefixed, IsInner, IsOperand, Step, WithOperand, WithCell, WithDelay, IsStep}
+use Rattle.sig_tree.specs.Continuing.{ContinuesDelay, ContinuesExpression}
+use Rattle.sig_tree.specs.Spines.{IsAtom, IsInner, IsOperand, Step, WithOperand, WithCell, WithDelay, IsStep}
 use Rattle.sig_tree.proofs.Stopping.{stops_smaller, pair_same}
-use Rattle.sig_tree.proofs.Operators.{Infix, OfTwo, OfCell, OfDelay, infix_terminal, infix_level, infix_of, infix_found, infix_seen, infix_stands, Tighter, not_tighter, continues_tighter, tighter_continues, two_levels, operand_continues}
-use Rattle.sig_tree.proofs.Reader.{First, AtName, AtNumber, AtTruth, AtOpening, AtPrefix, first_of, delay_read, optional_init_at, skip_one}
+use Rattle.sig_tree.proofs.Operators.{Infix, OfTwo, OfCell, OfDelay, infix_terminal, infix_level, infix_of, infix_found, infix_seen, Tighter, not_tighter, continues_tighter, tighter_continues, two_levels, operand_continues}
+use Rattle.sig_tree.proofs.Reader.{AtName, AtNumber, AtTruth, AtOpening, AtPrefix, first_of, delay_read, optional_init_at, skip_one}
 use Rattle.sig_tree.proofs.ReadExpressions.{prefix_first, truth_first, init_stops, init_looser, init_once, expression_once}
 use Rattle.sig_tree.proofs.FirstLeaves.{expression_begins, starts_at}
 use Rattle.sig_tree.proofs.Combining.{cons_same, append_to, part_at}
@@ -26,7 +25,7 @@ use Rattle.sig_tree.proofs.ReadEquations.{starts_conflict, stops_nothing}
 use Rattle.sig_tree.proofs.Spines.{operand_at}
 
 -- the operators before an operand are told apart by their terminals
-unary_same : (op other : UnOp) → unary_terminal op ≡ unary_terminal other → op ≡ other
+pub unary_same : (op other : UnOp) → unary_terminal op ≡ unary_terminal other → op ≡ other
 unary_same op other e = let same : AtPrefix op ≡ AtPrefix other = sym (prefix_first op) ∙ ap first_of e ∙ prefix_first other in cc
 
 pub prefix_no_inner : (op : UnOp) (level : ℕ) → unary_level op ≡ level → (t : Terminal) → t ≡ unary_terminal op → BeginsExpression (suc level) t → ⊥
@@ -44,7 +43,7 @@ not_before_delay : (op : UnOp) → unary_level op ≤ delay_level → suc (unary
 not_before_delay Not low = omega arith
 not_before_delay _ low = omega arith
 
-operand_tighter : (op : UnOp) (level : ℕ) → unary_level op ≡ level → (t : Terminal) → ContinuesExpression (operand_level op) t → ContinuesExpression (suc level) t
+pub operand_tighter : (op : UnOp) (level : ℕ) → unary_level op ≡ level → (t : Terminal) → ContinuesExpression (operand_level op) t → ContinuesExpression (suc level) t
 operand_tighter op level own t continues = subst (λ (l : ℕ). ContinuesExpression (suc l) t) own (go (operand_continues op t continues)) where
   go : Tighter (unary_level op) t → ContinuesExpression (suc (unary_level op)) t
   go (inl is) = inl is
@@ -99,9 +98,9 @@ module _ (limits : Limits) (level depth : ℕ) where
       let ops : op ≡ other = unary_same op other (ap (λ l. l.terminal) heads.0) in
       let places : at ≡ other_at = ap (λ l. l.at) heads.0 in
       let part = expression_once limits (operand_level op) (suc depth) operand other_operand rest other_rest back other_back heads.1 is
-          (subst (λ (o : UnOp). IsAtLevel limits (operand_level o) (suc depth) other_operand other_rest) (sym ops) other_is)
-          (stops_smaller (ContinuesExpression (suc level)) (ContinuesExpression (operand_level op)) (operand_tighter op level own) back stops)
-          (stops_smaller (ContinuesExpression (suc level)) (ContinuesExpression (operand_level op)) (operand_tighter op level own) other_back other_stops) in
+      (subst (λ (o : UnOp). IsAtLevel limits (operand_level o) (suc depth) other_operand other_rest) (sym ops) other_is)
+      (stops_smaller (ContinuesExpression (suc level)) (ContinuesExpression (operand_level op)) (operand_tighter op level own) back stops)
+      (stops_smaller (ContinuesExpression (suc level)) (ContinuesExpression (operand_level op)) (operand_tighter op level own) other_back other_stops) in
       let trees : Unary op operand at ≡ Unary other other_operand other_at = cc (ops, places, part.0) in
       let whole : leaf (unary_terminal op) at ∷ rest ≡ leaf (unary_terminal other) other_at ∷ other_rest = cc (heads.0, part.1) in
       (trees, whole)
@@ -120,8 +119,8 @@ module _ (limits : Limits) (level depth : ℕ) where
   operand_once x y front other_front back other_back e (inr (inr (own, is))) (inr (inl (tighter, other_is))) stops other_stops = absurd (omega arith)
   operand_once x y front other_front back other_back e (inr (inr (own, is))) (inr (inr (other_own, other_is))) stops other_stops =
       expression_once limits primary_level depth x y front other_front back other_back e
-          (operand_at limits primary_level depth x front (omega arith) (inr (inr (refl, is)))) (operand_at limits primary_level depth y other_front (omega arith) (inr (inr (refl, other_is))))
-          (no_more back) (no_more other_back)
+      (operand_at limits primary_level depth x front (omega arith) (inr (inr (refl, is)))) (operand_at limits primary_level depth y other_front (omega arith) (inr (inr (refl, other_is))))
+      (no_more back) (no_more other_back)
     where
       no_more : (back : List Leaf) → StopsBefore (ContinuesExpression primary_level) back
       no_more [] = tt
@@ -138,7 +137,7 @@ place_of_step (WithOperand op right at) = at
 place_of_step (WithCell held init at) = at
 place_of_step (WithDelay init at) = at
 
-infix_same : (i j : Infix) → infix_terminal i ≡ infix_terminal j → i ≡ j
+pub infix_same : (i j : Infix) → infix_terminal i ≡ infix_terminal j → i ≡ j
 infix_same i j e = let same : Some i ≡ Some j = sym (infix_found i) ∙ ap infix_of e ∙ infix_found j in cc
 
 module _ (limits : Limits) (level depth : ℕ) where
@@ -164,10 +163,10 @@ module _ (limits : Limits) (level depth : ℕ) where
       let places : at ≡ other_at = heads.1 in
       let next = cons_same (leaf (binary_terminal op) at) (leaf (binary_terminal other) other_at) (rest ++ back) (other_rest ++ other_back) (ap (λ l. l ++ back) (sym f) ∙ e ∙ ap (λ l. l ++ other_back) g) in
       let smaller : (t : Terminal) → ContinuesExpression (right_level op) t → Tighter level t =
-          λ t continues. continues_tighter level (right_level op) (let levels = two_levels op in omega arith) t continues in
+      λ t continues. continues_tighter level (right_level op) (let levels = two_levels op in omega arith) t continues in
       let part = expression_once limits (right_level op) depth right other_right rest other_rest back other_back next.1 is
-          (subst (λ (o : BinOp). IsAtLevel limits (right_level o) depth other_right other_rest) (sym ops) other_is)
-          (stops_smaller (Tighter level) (ContinuesExpression (right_level op)) smaller back stops) (stops_smaller (Tighter level) (ContinuesExpression (right_level op)) smaller other_back other_stops) in
+      (subst (λ (o : BinOp). IsAtLevel limits (right_level o) depth other_right other_rest) (sym ops) other_is)
+      (stops_smaller (Tighter level) (ContinuesExpression (right_level op)) smaller back stops) (stops_smaller (Tighter level) (ContinuesExpression (right_level op)) smaller other_back other_stops) in
       let trees : WithOperand op right at ≡ WithOperand other other_right other_at = cc (ops, places, part.0) in
       let whole : front ≡ other_front = cc (f, g, next.0, part.1) in
       (trees, whole)
@@ -177,9 +176,9 @@ module _ (limits : Limits) (level depth : ℕ) where
       let cell = leaf (word (codes "cell")) at in
       let other_cell = leaf (word (codes "cell")) other_at in
       let next = cons_same cell other_cell (middle ++ (last ++ back)) (other_middle ++ (other_last ++ other_back))
-          (sym (append_to front (cell ∷ middle) last back f) ∙ e ∙ append_to other_front (other_cell ∷ other_middle) other_last other_back g) in
+      (sym (append_to front (cell ∷ middle) last back f) ∙ e ∙ append_to other_front (other_cell ∷ other_middle) other_last other_back g) in
       let part = part_at (IsAtLevel limits primary_level depth) (ContinuesExpression primary_level) held (expression_once limits primary_level depth held) other_held middle other_middle (last ++ back) (other_last ++ other_back) next.1 is other_is
-          (init_stops init last back is_init (ContinuesExpression primary_level) init_looser) (init_stops other_init other_last other_back other_is_init (ContinuesExpression primary_level) init_looser) in
+      (init_stops init last back is_init (ContinuesExpression primary_level) init_looser) (init_stops other_init other_last other_back other_is_init (ContinuesExpression primary_level) init_looser) in
       let inits = init_once init other_init last other_last back other_back part.2 is_init other_is_init (stops_nothing back) (stops_nothing other_back) in
       let trees : WithCell held init at ≡ WithCell other_held other_init other_at = cc (places, part.0, inits.0) in
       let whole : front ≡ other_front = cc (f, g, next.0, part.1, inits.1) in
@@ -192,9 +191,9 @@ module _ (limits : Limits) (level depth : ℕ) where
       let next = cons_same sign other_sign ((one ++ last) ++ back) ((other_one ++ other_last) ++ other_back) (ap (λ l. l ++ back) (sym f) ∙ e ∙ ap (λ l. l ++ other_back) g) in
       let smaller : (t : Terminal) → ContinuesDelay t → Tighter level t = λ t continues. inr (omega arith, continues) in
       let same = pair_same init other_init back other_back
-          (sym (delay_read init one last back is_one is_init (stops_smaller (Tighter level) ContinuesDelay smaller back stops))
-              ∙ ap (λ l. optional_init_at (skip_one l)) next.1
-              ∙ delay_read other_init other_one other_last other_back other_is_one other_is_init (stops_smaller (Tighter level) ContinuesDelay smaller other_back other_stops)) in
+      (sym (delay_read init one last back is_one is_init (stops_smaller (Tighter level) ContinuesDelay smaller back stops))
+      ∙ ap (λ l. optional_init_at (skip_one l)) next.1
+      ∙ delay_read other_init other_one other_last other_back other_is_one other_is_init (stops_smaller (Tighter level) ContinuesDelay smaller other_back other_stops)) in
       let trees : WithDelay init at ≡ WithDelay other_init other_at = cc (places, same.0) in
       (trees, append_cancel_right front other_front back (e ∙ ap (λ l. other_front ++ l) (sym same.1)))
   step_once (WithOperand op right at) (WithCell held init place) front other_front back other_back e is other_is stops other_stops =
@@ -232,11 +231,11 @@ module _ (limits : Limits) (level depth : ℕ) where
   pub operand_stops : (steps : List Step) (front back : List Leaf) → Each (IsStep limits level depth) steps front → StopsBefore (ContinuesExpression level) back → StopsBefore (ContinuesExpression (suc level)) (front ++ back)
   operand_stops [] front back e stops =
       subst (λ (l : List Leaf). StopsBefore (ContinuesExpression (suc level)) (l ++ back)) (sym e)
-          (stops_smaller (ContinuesExpression level) (ContinuesExpression (suc level)) (λ t continues. tighter_continues level t (continues_tighter level (suc level) (omega arith) t continues)) back stops)
+      (stops_smaller (ContinuesExpression level) (ContinuesExpression (suc level)) (λ t continues. tighter_continues level t (continues_tighter level (suc level) (omega arith) t continues)) back stops)
   operand_stops (s ∷ steps) front back (first, rest, e, is, are) stops =
       let seen = step_seen s first is in
       subst (λ (l : List Leaf). StopsBefore (ContinuesExpression (suc level)) l) (sym (append_to front first rest back e ∙ ap (λ l. l ++ (rest ++ back)) seen.2))
-          (λ continues. not_tighter (infix_of_step s) level (omega (arith, seen.1)) (continues_tighter level (suc level) (omega arith) _ continues))
+      (λ continues. not_tighter (infix_of_step s) level (omega (arith, seen.1)) (continues_tighter level (suc level) (omega arith) _ continues))
 
   pub step_stops : (steps : List Step) (front back : List Leaf) → Each (IsStep limits level depth) steps front → StopsBefore (ContinuesExpression level) back → StopsBefore (Tighter level) (front ++ back)
   step_stops [] front back e stops =
@@ -244,4 +243,4 @@ module _ (limits : Limits) (level depth : ℕ) where
   step_stops (s ∷ steps) front back (first, rest, e, is, are) stops =
       let seen = step_seen s first is in
       subst (λ (l : List Leaf). StopsBefore (Tighter level) l) (sym (append_to front first rest back e ∙ ap (λ l. l ++ (rest ++ back)) seen.2))
-          (not_tighter (infix_of_step s) level (omega (arith, seen.1)))
+      (not_tighter (infix_of_step s) level (omega (arith, seen.1)))

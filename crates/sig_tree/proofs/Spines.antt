@@ -1,19 +1,19 @@
 -- An expression of a level is a first operand and the operators of the level behind it.
-use Rattle.std.proofs.Common.{◌≡◌, ℕ, zero, suc, ◌≤◌, ◌<◌, ◌+◌, ◌++◌, List, [], ◌∷◌, length, refl, sym, ap, ◌∙◌, subst, codes, inl, inr, ◌⊎◌, ⊎_elim, arith, append_assoc}
+use Rattle.std.proofs.Common.{◌≡◌, ℕ, zero, suc, ◌≤◌, ◌<◌, ◌++◌, List, [], ◌∷◌, length, refl, sym, ap, ◌∙◌, subst, codes, inl, inr, ◌⊎◌, ⊎_elim, arith, append_assoc}
 use Rattle.std.proofs.lemmas.Bool.{cases_lt}
 use Rattle.std.proofs.lemmas.List.{append-nil}
-use Rattle.sig_base.specs.declared.span.Span.{Span}
 use Rattle.sig_tree.specs.declared.expr.UnOp.{UnOp}
-use Rattle.sig_tree.specs.declared.expr.UnOp.TheVariants.{Not, Neg, When as UnaryWhen, Clock}
+use Rattle.sig_tree.specs.declared.expr.UnOp.TheVariants.{Not}
 use Rattle.sig_tree.specs.declared.expr.BinOp.{BinOp}
-use Rattle.sig_tree.specs.declared.expr.BinOp.TheVariants.{Default, When, Plus, Meet, Less, Or, Xor, And, Eq, Ne, Lt, Le, Gt, Ge, Add, Sub, Mul, Div, Mod}
+use Rattle.sig_tree.specs.declared.expr.BinOp.TheVariants.{Default, When, Plus, Meet, Less, Or, Xor, And, Add, Sub, Mul, Div, Mod}
 use Rattle.sig_tree.specs.Syntax.{Expression, Named, Number, Truth, Unary, Binary, Delay, Cell}
 use Rattle.sig_tree.specs.Terminals.{Leaf, leaf, word, mark, binary_terminal}
 use Rattle.sig_tree.specs.Levels.{default_level, mixed_level, relation_level, sum_level, delay_level, primary_level, unary_level, operand_level, binary_level, left_level, right_level, level_of}
-use Rattle.sig_tree.specs.Limits.{Limits}
+use Rattle.sig_tree.specs.Limits.{Limits, both_limits, no_limits, MayStandInside}
 use Rattle.sig_tree.specs.Repeated.{Each}
 use Rattle.sig_tree.specs.Expressions.{Enclosed, IsBare, IsAtLevel}
-use Rattle.sig_tree.specs.Spines.{IsAtom, IsOperand, IsInner, Step, WithOperand, WithCell, WithDelay, stepped, stepped_all, IsStep, AreSoMany, IsSpine}
+use Rattle.sig_tree.proofs.Unlimited.{expression_unlimited, expression_within}
+use Rattle.sig_tree.specs.Spines.{IsAtom, IsOperand, Step, WithOperand, WithCell, WithDelay, stepped, stepped_all, IsStep, AreSoMany, IsSpine}
 
 -- a relation's left operand is tighter, and no other's
 left_cases : (op : BinOp) → ((binary_level op ≡ relation_level) × (left_level op ≡ suc (binary_level op))) ⊎ ((binary_level op ≡ relation_level → ⊥) × (left_level op ≡ binary_level op))
@@ -86,9 +86,6 @@ module _ (limits : Limits) where
   with_only level depth left step front back leaves e is last =
       (left, step ∷ [], front, back, e, refl, is, (back, [], sym (append-nil back), last, refl), λ relation. omega arith)
 
-
-
-
   enclosed_spine : (e : Expression) → ((level depth : ℕ) (leaves : List Leaf) → level_of e ≡ level → IsBare limits e depth leaves → IsSpine limits level depth e leaves)
       → (parentheses level depth : ℕ) (leaves : List Leaf) → level ≤ primary_level → Enclosed limits (level_of e) (IsBare limits e) parentheses level depth leaves → IsSpine limits level depth e leaves
   enclosed_spine e bare zero level depth leaves within (tight, is) = ⊎_elim
@@ -108,24 +105,24 @@ module _ (limits : Limits) where
       alone level depth (Unary op operand at) leaves (inl (op, operand, at, rest, own, refl, e, may, is))
   bare_spine (Binary op left right at) level depth leaves own (front, back, e, (p, is_left), is_right) = ⊎_elim
       (λ (relation : (binary_level op ≡ relation_level) × (left_level op ≡ suc (binary_level op))).
-          let tighter : left_level op ≡ suc level = relation.1 ∙ ap suc own in
-          let small : suc level ≤ primary_level = omega (arith, relation.0) in
-          with_only level depth left (WithOperand op right at) front (leaf (binary_terminal op) at ∷ back) leaves e
-              (inr (inl (small, subst (λ (w : ℕ). IsAtLevel limits w depth left front) tighter (p, is_left)))) (back, own, refl, is_right))
+      let tighter : left_level op ≡ suc level = relation.1 ∙ ap suc own in
+      let small : suc level ≤ primary_level = omega (arith, relation.0) in
+      with_only level depth left (WithOperand op right at) front (leaf (binary_terminal op) at ∷ back) leaves e
+      (inr (inl (small, subst (λ (w : ℕ). IsAtLevel limits w depth left front) tighter (p, is_left)))) (back, own, refl, is_right))
       (λ (other : (binary_level op ≡ relation_level → ⊥) × (left_level op ≡ binary_level op)).
-          let same : left_level op ≡ level = other.1 ∙ own in
-          let within : level ≤ primary_level = let most = level_within (Binary op left right at) in omega arith in
-          with_step level depth (λ relation. other.0 (own ∙ relation)) left (WithOperand op right at) front (leaf (binary_terminal op) at ∷ back) leaves e
-              (enclosed_spine left (bare_spine left) p level depth front within (subst (λ (w : ℕ). Enclosed limits (level_of left) (IsBare limits left) p w depth front) same is_left)) (back, own, refl, is_right))
+      let same : left_level op ≡ level = other.1 ∙ own in
+      let within : level ≤ primary_level = let most = level_within (Binary op left right at) in omega arith in
+      with_step level depth (λ relation. other.0 (own ∙ relation)) left (WithOperand op right at) front (leaf (binary_terminal op) at ∷ back) leaves e
+      (enclosed_spine left (bare_spine left) p level depth front within (subst (λ (w : ℕ). Enclosed limits (level_of left) (IsBare limits left) p w depth front) same is_left)) (back, own, refl, is_right))
       (left_cases op)
   bare_spine (Delay operand init at) level depth leaves own (front, one, back, e, (p, is), is_one, is_init) =
       with_step level depth (λ relation. omega arith) operand (WithDelay init at) front (leaf (mark (codes "$")) at ∷ (one ++ back)) leaves e
-          (enclosed_spine operand (bare_spine operand) p level depth front (omega arith) (subst (λ (w : ℕ). Enclosed limits (level_of operand) (IsBare limits operand) p w depth front) own is))
-          (one, back, own, refl, is_one, is_init)
+      (enclosed_spine operand (bare_spine operand) p level depth front (omega arith) (subst (λ (w : ℕ). Enclosed limits (level_of operand) (IsBare limits operand) p w depth front) own is))
+      (one, back, own, refl, is_one, is_init)
   bare_spine (Cell operand held init at) level depth leaves own (front, middle, back, e, (p, is), is_held, is_init) =
       with_step level depth (λ relation. omega arith) operand (WithCell held init at) front (leaf (word (codes "cell")) at ∷ (middle ++ back)) leaves e
-          (enclosed_spine operand (bare_spine operand) p level depth front (omega arith) (subst (λ (w : ℕ). Enclosed limits (level_of operand) (IsBare limits operand) p w depth front) own is))
-          (middle, back, own, refl, is_held, is_init)
+      (enclosed_spine operand (bare_spine operand) p level depth front (omega arith) (subst (λ (w : ℕ). Enclosed limits (level_of operand) (IsBare limits operand) p w depth front) own is))
+      (middle, back, own, refl, is_held, is_init)
 
   pub spine_of : (level depth : ℕ) (e : Expression) (leaves : List Leaf) → level ≤ primary_level → IsAtLevel limits level depth e leaves → IsSpine limits level depth e leaves
   spine_of level depth e leaves within (p, is) = enclosed_spine e (bare_spine e) p level depth leaves within is
@@ -176,8 +173,8 @@ module _ (limits : Limits) where
   steps_at level depth several left [] front back is e = subst (λ (l : List Leaf). IsAtLevel limits level depth left l) (sym (ap (λ l. front ++ l) e ∙ append-nil front)) is
   steps_at level depth several left (s ∷ steps) front back is (first, rest, e, is_step, are) =
       subst (λ (l : List Leaf). IsAtLevel limits level depth (stepped_all (stepped left s) steps) l) (append_assoc front first rest ∙ ap (λ l. front ++ l) (sym e))
-          (steps_at level depth several (stepped left s) steps (front ++ first) rest
-              (step_at level depth left s front first (subst (λ (w : ℕ). IsAtLevel limits w depth left front) (sym (left_same level depth s first several is_step)) is) is_step) are)
+      (steps_at level depth several (stepped left s) steps (front ++ first) rest
+      (step_at level depth left s front first (subst (λ (w : ℕ). IsAtLevel limits w depth left front) (sym (left_same level depth s first several is_step)) is) is_step) are)
 
   unary_no_relation : (op : UnOp) → unary_level op ≡ relation_level → ⊥
   unary_no_relation Not e = omega arith
@@ -203,15 +200,15 @@ module _ (limits : Limits) where
   relation_at depth first (s ∷ []) front back is (begin, rest, e, is_step, f) many =
       let whole : begin ≡ back = sym (append-nil begin) ∙ ap (λ l. begin ++ l) (sym f) ∙ sym e in
       subst (λ (l : List Leaf). IsAtLevel limits relation_level depth (stepped first s) (front ++ l)) whole
-          (step_at relation_level depth first s front begin (subst (λ (w : ℕ). IsAtLevel limits w depth first front) (sym (relation_left depth s begin is_step)) (inner_at depth first front is)) is_step)
+      (step_at relation_level depth first s front begin (subst (λ (w : ℕ). IsAtLevel limits w depth first front) (sym (relation_left depth s begin is_step)) (inner_at depth first front is)) is_step)
   relation_at depth first (s ∷ t ∷ steps) front back is are many = absurd (omega arith)
 
   spine_parts : (level depth : ℕ) (first : Expression) (steps : List Step) (front back : List Leaf) → level ≤ primary_level → IsOperand limits level depth first front
       → Each (IsStep limits level depth) steps back → AreSoMany level (length steps) → (level ≡ relation_level) ⊎ (level ≡ relation_level → ⊥) → IsAtLevel limits level depth (stepped_all first steps) (front ++ back)
   spine_parts level depth first steps front back within is are many (inl relation) =
       subst (λ (w : ℕ). IsAtLevel limits w depth (stepped_all first steps) (front ++ back)) (sym relation)
-          (relation_at depth first steps front back (subst (λ (w : ℕ). IsOperand limits w depth first front) relation is)
-              (subst (λ (w : ℕ). Each (IsStep limits w depth) steps back) relation are) (many relation))
+      (relation_at depth first steps front back (subst (λ (w : ℕ). IsOperand limits w depth first front) relation is)
+      (subst (λ (w : ℕ). Each (IsStep limits w depth) steps back) relation are) (many relation))
   spine_parts level depth first steps front back within is are many (inr several) =
       steps_at level depth several first steps front back (operand_at level depth first front within is) are
 
@@ -219,9 +216,9 @@ module _ (limits : Limits) where
   is_relation level = ⊎_elim
       (λ (below : level < relation_level). inr (λ (e : level ≡ relation_level). omega arith))
       (λ (at_least : relation_level ≤ level). ⊎_elim
-          (λ (above : relation_level < level). inr (λ (e : level ≡ relation_level). omega arith))
-          (λ (at_most : level ≤ relation_level). inl (omega arith))
-          (cases_lt relation_level level))
+      (λ (above : relation_level < level). inr (λ (e : level ≡ relation_level). omega arith))
+      (λ (at_most : level ≤ relation_level). inl (omega arith))
+      (cases_lt relation_level level))
       (cases_lt level relation_level)
 
   pub spine_at : (level depth : ℕ) (first : Expression) (steps : List Step) (front back : List Leaf) → level ≤ primary_level → IsOperand limits level depth first front
@@ -231,4 +228,33 @@ module _ (limits : Limits) where
   pub of_spine : (level depth : ℕ) (e : Expression) (leaves : List Leaf) → level ≤ primary_level → IsSpine limits level depth e leaves → IsAtLevel limits level depth e leaves
   of_spine level depth e leaves within (first, steps, front, back, f, g, is, are, many) =
       subst (λ (l : List Leaf). IsAtLevel limits level depth e l) (sym f)
-          (subst (λ (x : Expression). IsAtLevel limits level depth x (front ++ back)) (sym g) (spine_at level depth first steps front back within is are many))
+      (subst (λ (x : Expression). IsAtLevel limits level depth x (front ++ back)) (sym g) (spine_at level depth first steps front back within is are many))
+
+-- from limits to others
+module _ (limits target : Limits) (may : (depth : ℕ) → MayStandInside limits depth → MayStandInside target depth)
+    (same : (level depth : ℕ) (e : Expression) (leaves : List Leaf) → IsAtLevel limits level depth e leaves → IsAtLevel target level depth e leaves) where
+  operand_target : (level depth : ℕ) (e : Expression) (leaves : List Leaf) → IsOperand limits level depth e leaves → IsOperand target level depth e leaves
+  operand_target level depth e leaves (inl (op, operand, at, rest, own, f, g, allowed, is)) =
+      inl (op, operand, at, rest, own, f, g, may depth allowed, same (operand_level op) (suc depth) operand rest is)
+  operand_target level depth e leaves (inr (inl (tighter, is))) = inr (inl (tighter, same (suc level) depth e leaves is))
+  operand_target level depth e leaves (inr (inr (own, inl atom))) = inr (inr (own, inl atom))
+  operand_target level depth e leaves (inr (inr (own, inr (allowed, (opened, closed, inside, f, is))))) =
+      inr (inr (own, inr (may depth allowed, (opened, closed, inside, f, same default_level (suc depth) e inside is))))
+
+  step_target : (level depth : ℕ) (s : Step) (leaves : List Leaf) → IsStep limits level depth s leaves → IsStep target level depth s leaves
+  step_target level depth (WithOperand op right at) leaves (rest, own, f, is) = (rest, own, f, same (right_level op) depth right rest is)
+  step_target level depth (WithCell held init at) leaves (middle, back, own, f, is, is_init) = (middle, back, own, f, same primary_level depth held middle is, is_init)
+  step_target level depth (WithDelay init at) leaves (one, back, own, f, is_one, is_init) = (one, back, own, f, is_one, is_init)
+
+module _ (limits : Limits) where
+  pub operand_unlimited : (level depth : ℕ) (e : Expression) (leaves : List Leaf) → IsOperand limits level depth e leaves → IsOperand no_limits level depth e leaves
+  operand_unlimited = operand_target limits no_limits (λ depth allowed kept. cc) (λ level depth e leaves is. expression_unlimited limits level depth depth e leaves is)
+
+  pub step_unlimited : (level depth : ℕ) (s : Step) (leaves : List Leaf) → IsStep limits level depth s leaves → IsStep no_limits level depth s leaves
+  step_unlimited = step_target limits no_limits (λ depth allowed kept. cc) (λ level depth e leaves is. expression_unlimited limits level depth depth e leaves is)
+
+  pub operand_within : (level depth : ℕ) (e : Expression) (leaves : List Leaf) → IsOperand both_limits level depth e leaves → IsOperand limits level depth e leaves
+  operand_within = operand_target both_limits limits (λ depth allowed kept. allowed refl) (expression_within limits)
+
+  pub step_within : (level depth : ℕ) (s : Step) (leaves : List Leaf) → IsStep both_limits level depth s leaves → IsStep limits level depth s leaves
+  step_within = step_target both_limits limits (λ depth allowed kept. allowed refl) (expression_within limits)

@@ -1,6 +1,6 @@
 //! Laws of the grammar: what a part of it begins with, and that its leaves have one reading.
 
-ghost use Rattle.std.specs.Prelude.{◌≡◌, ◌≤◌, ℕ, List, codes};
+ghost use Rattle.std.specs.Prelude.{◌≡◌, ◌≤◌, ℕ, suc, List, codes};
 ghost use Rattle.sig_tree.specs.declared.expr.Name.{Name};
 ghost use Rattle.sig_tree.specs.declared.expr.Constant.{Constant};
 ghost use Rattle.sig_tree.specs.Syntax.{Expression, Declared, Placement, RightSide, Equations, Bodies, ProcessModel};
@@ -13,7 +13,7 @@ ghost use Rattle.sig_tree.specs.Processes.{IsPlainItem, IsItem, IsGroup, IsParam
 ghost use Rattle.sig_tree.specs.Grammar.{IsProgram, HasTree, IsText};
 ghost use Rattle.sig_tree.specs.Beginning.{StartsWith, BeginsConstant, BeginsExpression, BeginsLeft, BeginsBody, BeginsGroup, BeginsPlacement, BeginsProcess};
 ghost use Rattle.sig_tree.specs.Readings.{OneReading};
-ghost use Rattle.sig_tree.specs.Spines.{IsSpine};
+ghost use Rattle.sig_tree.specs.Spines.{IsOperand, IsSpine};
 ghost use Rattle.sig_tree.specs.Continuing.{ContinuesNothing, ContinuesOptional, ContinuesInit, ContinuesExpression, ContinuesDefinition, ContinuesClockEquation, ContinuesBody, ContinuesFurtherBodies, ContinuesBodies, ContinuesParam, ContinuesGroup, ContinuesGroups, ContinuesProgram};
 
 use sig_lex::one_reading;
@@ -72,10 +72,12 @@ pub fn one_expression()
     ensures expression { (limits : Limits) (level depth : ℕ) → OneReading (IsAtLevel limits level depth) (ContinuesExpression level) }
 {}
 
-/// A law: an expression of a level is a first operand, and behind it the operators of the level.
+/// A law: an expression of a level is a first operand, and behind it the operators of the level. The
+/// operand has one reading.
 pub fn spine()
     ensures reads { (limits : Limits) (level depth : ℕ) (e : Expression) (leaves : List Leaf) → level ≤ primary_level → IsAtLevel limits level depth e leaves → IsSpine limits level depth e leaves }
     ensures stands { (limits : Limits) (level depth : ℕ) (e : Expression) (leaves : List Leaf) → level ≤ primary_level → IsSpine limits level depth e leaves → IsAtLevel limits level depth e leaves }
+    ensures operand { (limits : Limits) (level depth : ℕ) → OneReading (IsOperand limits level depth) (ContinuesExpression (suc level)) }
 {}
 
 /// A law: names, left and right sides, definitions, clock equations and bodies have one reading.

@@ -1,4 +1,5 @@
 use Rattle.sig_tree.proofs.Spines.{spine_of, of_spine}
+use Rattle.sig_tree.proofs.ReadSpines.{operand_once}
 use Rattle.sig_tree.proofs.laws.spine.Goals as goal
 
 pub returns-clause-reads : goal.returns-clause-reads
@@ -6,3 +7,6 @@ returns-clause-reads c = spine_of
 
 pub returns-clause-stands : goal.returns-clause-stands
 returns-clause-stands c = of_spine
+
+pub returns-clause-operand : goal.returns-clause-operand
+returns-clause-operand c = operand_once

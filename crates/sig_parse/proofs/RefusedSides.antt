@@ -1,0 +1,176 @@
+-- What is refused of left and right sides, from what is refused of their parts.
+use Rattle.std.proofs.Common.{◌≡◌, ◌++◌, ◌+◌, ◌≤◌, ◌<◌, ℕ, zero, suc, List, [], ◌∷◌, codes, inl, inr, ◌⊎◌, refl, sym, ap, ◌∙◌, subst, append_assoc, arith}
+use Rattle.std.proofs.lemmas.List.{append-nil}
+use Rattle.std.proofs.lemmas.List.Sums.{sum_by-cons}
+use Rattle.std.specs.Prelude.{sum_by}
+use Rattle.sig_base.specs.declared.span.Span.{Span}
+use Rattle.sig_tree.specs.declared.expr.Name.{Name}
+use Rattle.sig_tree.specs.declared.expr.Constant.{Constant}
+use Rattle.sig_tree.specs.Syntax.{Expression, Named, RightSide, Computed, Called}
+use Rattle.sig_tree.specs.Terminals.{Terminal, Leaf, leaf, name, mark, name_leaf}
+use Rattle.sig_tree.specs.Levels.{default_level}
+use Rattle.sig_tree.specs.Limits.{Limits, both_limits, nesting_limit, no_limits, MayStandInside, MayHave, operators, right_operators}
+use Rattle.sig_tree.specs.Repeated.{Separated, Listed}
+use Rattle.sig_tree.specs.Expressions.{IsConstant, IsExpression, IsAtLevel}
+use Rattle.sig_tree.specs.Equations.{IsName, IsLeft, AreConstants, AreArguments, IsRight}
+use Rattle.sig_tree.specs.Readings.{StopsBefore}
+use Rattle.sig_tree.specs.Beginning.{StartsWith, BeginsLeft}
+use Rattle.sig_tree.specs.Continuing.{ContinuesNothing, ContinuesOptional, ContinuesExpression, ContinuesDefinition}
+use Rattle.sig_tree.specs.Unplaced.{no_place}
+use Rattle.sig_tree.proofs.Stopping.{stops_smaller}
+use Rattle.sig_tree.proofs.Operators.{different}
+use Rattle.sig_tree.proofs.FirstLeaves.{left_begins}
+use Rattle.sig_tree.proofs.Combining.{cons_same, append_to, part_at, starts_apart}
+use Rattle.sig_tree.proofs.ReadEquations.{stops_nothing, name_no_mark, constants_once, call_or_expression, call_opens, Opens, opens_apart, named_alone}
+use Rattle.sig_parse.specs.Refusals.{Cause, Wrong, TooDeep, Refuses}
+use Rattle.sig_parse.specs.Languages.{InOne, counted, InLevel, InLeft, InConstants, InArguments, InRight}
+use Rattle.sig_parse.proofs.Refusing.{SameFirst, first_stops, refuses_inside, refuses_first, refuses_at_once}
+use Rattle.sig_parse.proofs.RefusedConstants.{some_name, some_leaf}
+use Rattle.sig_parse.proofs.RefusedLevels.{fewer}
+use Rattle.sig_parse.proofs.RefusedLists.{Closed, List_of, Any_of}
+
+-- the sum of the grammar is that of the parser
+pub counted_sum : (xs : List Expression) → sum_by operators xs ≡ counted operators xs
+counted_sum [] = refl
+counted_sum (x ∷ xs) = sum_by-cons operators x xs ∙ ap (λ n. operators x + n) (counted_sum xs)
+
+-- names, whatever the limits
+abbrev pub Name_of : Limits → Name → List Leaf → Type 0
+Name_of limits n leaves = IsName n leaves
+
+abbrev pub none_of : {A : Type 0} → A → ℕ
+none_of x = 0
+
+abbrev pub Constant_of : Limits → Constant → List Leaf → Type 0
+Constant_of limits c leaves = IsConstant c leaves
+
+module _ (depth : ℕ) where
+  pub left_refused : (here : List Leaf) → StopsBefore BeginsLeft here → Refuses (InLeft depth) ContinuesNothing Wrong here here
+  left_refused here stops =
+      refuses_at_once (InLeft depth) ContinuesNothing BeginsLeft (some_leaf ∷ []) (some_name ∷ [], inl (some_name, refl, refl)) (λ leaves is. left_begins no_limits depth is.0 leaves is.1) here stops
+
+  left_part : (opened : Span) (limits : Limits) (names : List Name) (rest whole back : List Leaf) → leaf (mark (codes "(")) opened ∷ rest ≡ whole ++ back → IsLeft limits depth names whole
+      → (closed : Span) × (inside : List Leaf) × (rest ≡ inside ++ leaf (mark (codes ")")) closed ∷ back) × MayStandInside limits depth × Separated IsName (mark (codes ",")) names inside
+  left_part opened limits names rest whole back e (inl (n, one, f)) = absurd (name_no_mark n (codes "(") opened back rest (sym (e ∙ ap (λ l. l ++ back) f)))
+  left_part opened limits names rest whole back e (inr (may, (begun, closed, inside, f, are))) =
+      let heads = cons_same (leaf (mark (codes "(")) opened) (leaf (mark (codes "(")) begun) rest (inside ++ leaf (mark (codes ")")) closed ∷ back)
+          (e ∙ append_to whole (leaf (mark (codes "(")) begun ∷ inside) (leaf (mark (codes ")")) closed ∷ []) back f) in
+      (closed, inside, heads.1, may, are)
+
+  pub left_too_deep : 64 ≤ depth → (opened : Span) (more : List Leaf) → Refuses (InLeft depth) ContinuesNothing TooDeep (leaf (mark (codes "(")) opened ∷ more) (leaf (mark (codes "(")) opened ∷ more)
+  left_too_deep deep opened more = record {
+    passed = [];
+    split = refl;
+    viable = (some_leaf ∷ [], (some_name ∷ [], inl (some_name, refl, refl)));
+    allowed = (some_leaf ∷ leaf (mark (codes ")")) no_place ∷ [], (some_name ∷ [], inr ((λ kept. cc), (opened, no_place, some_leaf ∷ [], refl, (some_leaf ∷ [], [], refl, refl, refl)))));
+    excluded = λ leaves front back agrees e is stops.
+        let part = left_part opened nesting_limit is.0 agrees.0 front back (sym agrees.1 ∙ e) is.1 in
+        let shallow : depth < 64 = part.3 refl in
+        omega arith;
+  }
+
+  pub left_from_names : depth < 64 → (opened : Span) (cause : Cause) (here after : List Leaf) → Refuses (InOne (Closed (List_of Name_of (mark (codes ","))) (mark (codes ")"))) (counted none_of) 0) ContinuesNothing cause here after
+      → Refuses (InLeft depth) ContinuesNothing cause (leaf (mark (codes "(")) opened ∷ here) after
+  left_from_names shallow opened cause here after r =
+      refuses_inside (InOne (Closed (List_of Name_of (mark (codes ","))) (mark (codes ")"))) (counted none_of) 0) (InLeft depth) (leaf (mark (codes "(")) opened ∷ []) []
+          (λ limits leaves is. (is.0, inr ((λ kept. shallow), (opened, is.1.0, is.1.1, ap (λ l. leaf (mark (codes "(")) opened ∷ l) (append-nil leaves ∙ is.1.2), is.1.3))))
+          ContinuesNothing ContinuesNothing cause here after
+          (λ limits rest whole back e is stops same.
+              let part = left_part opened limits is.0 rest whole back e is.1 in
+              (part.1 ++ leaf (mark (codes ")")) part.0 ∷ [], back, part.2 ∙ sym (append_assoc part.1 (leaf (mark (codes ")")) part.0 ∷ []) back),
+                  (is.0, (part.0, part.1, refl, part.4), λ kept. no_names is.0), stops_nothing back)) r
+    where
+      no_names : (names : List Name) → 0 + counted none_of names ≤ 512
+      no_names names = let e = zero_names names in omega arith
+        where
+          zero_names : (names : List Name) → counted {A = Name} none_of names ≡ 0
+          zero_names [] = refl
+          zero_names (n ∷ names) = omega (arith, zero_names names)
+
+-- the constants of a call
+constants_part : (opened : Span) (cs : List Constant) (rest whole back : List Leaf) → leaf (mark (codes "{")) opened ∷ rest ≡ whole ++ back → AreConstants cs whole → StopsBefore (ContinuesOptional (mark (codes "{"))) back
+    → (closed : Span) × (inside : List Leaf) × (rest ≡ inside ++ leaf (mark (codes "}")) closed ∷ back) × Listed IsConstant (mark (codes ",")) cs inside
+constants_part opened cs rest whole back e (inl (none, f)) stops =
+    absurd ((subst (λ (l : List Leaf). StopsBefore (ContinuesOptional (mark (codes "{"))) l) (sym (e ∙ ap (λ l. l ++ back) f)) stops) refl)
+constants_part opened cs rest whole back e (inr (begun, closed, inside, f, are)) stops =
+    let heads = cons_same (leaf (mark (codes "{")) opened) (leaf (mark (codes "{")) begun) rest (inside ++ leaf (mark (codes "}")) closed ∷ back)
+        (e ∙ append_to whole (leaf (mark (codes "{")) begun ∷ inside) (leaf (mark (codes "}")) closed ∷ []) back f) in
+    (closed, inside, heads.1, are)
+
+no_operators : {A : Type 0} (xs : List A) → counted {A = A} none_of xs ≡ 0
+no_operators [] = refl
+no_operators (x ∷ xs) = omega (arith, no_operators xs)
+
+pub constants_from_list : (opened : Span) (cause : Cause) (here after : List Leaf) → Refuses (InOne (Closed (Any_of Constant_of (mark (codes ","))) (mark (codes "}"))) (counted none_of) 0) ContinuesNothing cause here after
+    → Refuses InConstants (ContinuesOptional (mark (codes "{"))) cause (leaf (mark (codes "{")) opened ∷ here) after
+constants_from_list opened cause here after r =
+    refuses_inside (InOne (Closed (Any_of Constant_of (mark (codes ","))) (mark (codes "}"))) (counted none_of) 0) InConstants (leaf (mark (codes "{")) opened ∷ []) []
+        (λ limits leaves is. (is.0, inr (opened, is.1.0, is.1.1, ap (λ l. leaf (mark (codes "{")) opened ∷ l) (append-nil leaves ∙ is.1.2), is.1.3)))
+        ContinuesNothing (ContinuesOptional (mark (codes "{"))) cause here after
+        (λ limits rest whole back e is stops same.
+            let part = constants_part opened is.0 rest whole back e is.1 stops in
+            (part.1 ++ leaf (mark (codes "}")) part.0 ∷ [], back, part.2 ∙ sym (append_assoc part.1 (leaf (mark (codes "}")) part.0 ∷ []) back),
+                (is.0, (part.0, part.1, refl, part.3), λ kept. let e = no_operators is.0 in omega arith), stops_nothing back)) r
+
+module _ (depth used : ℕ) where
+  -- an expression on the right
+  pub right_from_expression : (cause : Cause) (here after : List Leaf) → Refuses (InLevel default_level depth used) (ContinuesExpression default_level) cause here after
+      → Refuses (InRight depth used) ContinuesDefinition cause here after
+  right_from_expression cause here after r =
+      refuses_first (InLevel default_level depth used) (InRight depth used) []
+          (λ limits leaves is. (Computed is.0, subst (λ (l : List Leaf). IsExpression limits depth is.0 l) (sym (append-nil leaves)) is.1, is.2))
+          (ContinuesExpression default_level) ContinuesDefinition cause here after
+          (λ limits whole back is stops same. go limits whole back is.0 is.1 is.2 stops) r
+    where
+      go : (limits : Limits) (whole back : List Leaf) (right : RightSide) → IsRight limits depth right whole → MayHave limits (used + right_operators right) → StopsBefore ContinuesDefinition back
+          → (part other : List Leaf) × (whole ++ back ≡ part ++ other) × InLevel default_level depth used limits part × StopsBefore (ContinuesExpression default_level) other
+      go limits whole back (Computed e) is fits stops = (whole, back, refl, (e, is, fits), stops_smaller ContinuesDefinition (ContinuesExpression default_level) (λ t continues. inr continues) back stops)
+      go limits whole back (Called n constants arguments) (front, rest, f, are_constants, are_arguments) fits stops =
+          (name_leaf n ∷ [], (front ++ rest) ++ back, ap (λ l. l ++ back) f, (Named n, named_alone limits depth n, fewer limits (used + 0) (used + sum_by operators arguments) (omega arith) fits),
+              starts_apart Opens (ContinuesExpression default_level) (front ++ rest) back opens_apart (call_opens limits depth constants arguments front rest are_constants are_arguments))
+
+  some_arguments : (limits : Limits) → AreArguments limits depth [] (leaf (mark (codes "(")) no_place ∷ leaf (mark (codes ")")) no_place ∷ [])
+  some_arguments limits = (no_place, no_place, [], refl, refl)
+
+  -- the constants of a call
+  pub right_from_constants : (n : Name) → used ≤ 512 → (opened : Span) (cause : Cause) (more after : List Leaf) → Refuses InConstants (ContinuesOptional (mark (codes "{"))) cause (leaf (mark (codes "{")) opened ∷ more) after
+      → Refuses (InRight depth used) ContinuesDefinition cause (name_leaf n ∷ leaf (mark (codes "{")) opened ∷ more) after
+  right_from_constants n few opened cause more after r =
+      refuses_inside InConstants (InRight depth used) (name_leaf n ∷ []) (leaf (mark (codes "(")) no_place ∷ leaf (mark (codes ")")) no_place ∷ [])
+          (λ limits leaves is. (Called n is.0 [], (leaves, leaf (mark (codes "(")) no_place ∷ leaf (mark (codes ")")) no_place ∷ [], refl, is.1, some_arguments limits), λ kept. omega arith))
+          (ContinuesOptional (mark (codes "{"))) ContinuesDefinition cause (leaf (mark (codes "{")) opened ∷ more) after
+          (λ limits rest whole back e is stops same. go limits rest whole back e is.0 is.1 stops same) r
+    where
+      opens : (rest : List Leaf) → SameFirst (leaf (mark (codes "{")) opened ∷ more) rest → StartsWith Opens rest
+      opens [] same = same
+      opens (l ∷ rest) same = inr (ap (λ m. m.terminal) (sym same))
+
+      go : (limits : Limits) (rest whole back : List Leaf) → name_leaf n ∷ rest ≡ whole ++ back → (right : RightSide) → IsRight limits depth right whole → StopsBefore ContinuesDefinition back
+          → SameFirst (leaf (mark (codes "{")) opened ∷ more) rest → (part other : List Leaf) × (rest ≡ part ++ other) × InConstants limits part × StopsBefore (ContinuesOptional (mark (codes "{"))) other
+      go limits rest whole back e (Computed x) is stops same =
+          absurd (call_or_expression limits depth x n whole back rest [] (sym e ∙ ap (λ l. name_leaf n ∷ l) (sym (append-nil rest))) is stops (opens rest same))
+      go limits rest whole back e (Called m constants arguments) (front, last, f, are_constants, (begun, closed, inside, g, are)) stops same =
+          let heads = cons_same (name_leaf n) (name_leaf m) rest (front ++ (last ++ back)) (e ∙ append_to whole (name_leaf m ∷ front) last back f) in
+          (front, last ++ back, heads.1, (constants, are_constants), subst (λ (l : List Leaf). StopsBefore (ContinuesOptional (mark (codes "{"))) (l ++ back)) (sym g) (different (mark (codes "(")) (mark (codes "{")) refl refl))
+
+  -- its arguments
+  pub right_from_arguments : (n : Name) (constants : List Constant) (front : List Leaf) → AreConstants constants front → (cause : Cause) (here after : List Leaf) → StopsBefore (ContinuesOptional (mark (codes "{"))) here
+      → ((rest : List Leaf) → SameFirst here rest → StartsWith Opens (front ++ rest)) → Refuses (InArguments depth used) ContinuesNothing cause here after
+      → Refuses (InRight depth used) ContinuesDefinition cause ((name_leaf n ∷ front) ++ here) after
+  right_from_arguments n constants front are cause here after stopped opens r =
+      refuses_inside (InArguments depth used) (InRight depth used) (name_leaf n ∷ front) []
+          (λ limits leaves is. (Called n constants is.0, (front, leaves ++ [], refl, are, subst (λ (l : List Leaf). AreArguments limits depth is.0 l) (sym (append-nil leaves)) is.1),
+              fewer limits (used + sum_by operators is.0) (used + counted operators is.0) (omega (arith, counted_sum is.0)) is.2))
+          ContinuesNothing ContinuesDefinition cause here after
+          (λ limits rest whole back e is stops same. go limits rest whole back e is.0 is.1 is.2 stops same) r
+    where
+      go : (limits : Limits) (rest whole back : List Leaf) → (name_leaf n ∷ front) ++ rest ≡ whole ++ back → (right : RightSide) → IsRight limits depth right whole → MayHave limits (used + right_operators right) → StopsBefore ContinuesDefinition back
+          → SameFirst here rest → (part other : List Leaf) × (rest ≡ part ++ other) × InArguments depth used limits part × StopsBefore ContinuesNothing other
+      go limits rest whole back e (Computed x) is fits stops same =
+          absurd (call_or_expression limits depth x n whole back (front ++ rest) [] (sym e ∙ ap (λ l. name_leaf n ∷ l) (sym (append-nil (front ++ rest)))) is stops (opens rest same))
+      go limits rest whole back e (Called m others arguments) (first, last, f, are_others, (begun, closed, inside, g, are_arguments)) fits stops same =
+          let heads = cons_same (name_leaf n) (name_leaf m) (front ++ rest) (first ++ (last ++ back)) (e ∙ append_to whole (name_leaf m ∷ first) last back f) in
+          let part = part_at AreConstants (ContinuesOptional (mark (codes "{"))) constants (constants_once constants) others front first rest (last ++ back) heads.1 are are_others
+              (first_stops (ContinuesOptional (mark (codes "{"))) here rest same stopped)
+              (subst (λ (l : List Leaf). StopsBefore (ContinuesOptional (mark (codes "{"))) (l ++ back)) (sym g) (different (mark (codes "(")) (mark (codes "{")) refl refl)) in
+          (last, back, part.2, (arguments, (begun, closed, inside, g, are_arguments), fewer limits (used + counted operators arguments) (used + sum_by operators arguments) (omega (arith, counted_sum arguments)) fits), stops_nothing back)
