@@ -1,5 +1,6 @@
 pub mod AgreeAnswers
 pub mod BreakLemmas
 pub mod FunctionRows
+pub mod KindLemmas
 pub mod VerdictLemmas
 pub mod ZipLemmas

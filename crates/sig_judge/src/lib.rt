@@ -16,3 +16,6 @@ mod verdict;
 pub use answer::JudgeAnswer;
 pub use trace::{Row, Seen, Trace};
 pub use verdict::{Verdict, judge};
+
+#[cfg(test)]
+mod tests;

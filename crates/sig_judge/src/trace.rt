@@ -1,10 +1,11 @@
 //! Traces, instant by instant.
 
-ghost use Rattle.std.specs.Prelude.{◌≡◌, List, map};
-ghost use Rattle.sig_base.specs.Traces.{Instant, seen_at};
+ghost use Rattle.std.specs.Prelude.{◌≡◌, ◌↔◌, IsTrue, map};
+ghost use Rattle.sig_base.specs.Traces.{AreOfKinds, Bounded, Instant, IsOfKind, seen_at};
+ghost use Rattle.sig_tree.specs.ProcessTraces.{IsTraceOf, kinds_of};
 ghost use Rattle.sig_judge.specs.Rows.{seen_of};
 
-use sig_base::SigId;
+use sig_base::{Kind, SigId, Signal};
 use std::marker::Model;
 
 /// What a signal is at an instant: absent, or present with an integer, or a truth as 0 or 1.
@@ -34,6 +35,13 @@ impl Row {
         self.seen.as_slice()
     }
 
+    /// Whether there is one entry for each signal, absent or a value of the signal's kind.
+    pub fn is_of(&self, signals: &[Signal]) -> bool
+        ensures { IsTrue result ↔ AreOfKinds Bounded (kinds_of signals.now) self.now }
+    {
+        are_of_kinds(self.seen.as_slice(), signals)
+    }
+
     /// What the signal of a number is. Past the last signal nothing is present.
     pub fn at(&self, signal: SigId) -> Seen
         ensures { seen_of result ≡ seen_at self.now signal.0 }
@@ -55,8 +63,51 @@ impl From<Vec<Seen>> for Row {
     }
 }
 
+/// Whether there is one of these for each signal, of its kind.
+fn are_of_kinds(seen: &[Seen], signals: &[Signal]) -> bool
+    ensures { IsTrue result ↔ AreOfKinds Bounded (kinds_of signals.now) (map seen_of seen.now) }
+{
+    if seen.len() != signals.len() {
+        return false;
+    }
+    for (i, signal) in signals.iter().enumerate() {
+        if !is_of_kind(seen[i], signal.kind) {
+            return false;
+        }
+    }
+    true
+}
+
+/// Whether a signal of this kind may be this.
+fn is_of_kind(seen: Seen, kind: Kind) -> bool
+    ensures { IsTrue result ↔ IsOfKind Bounded kind (seen_of seen) }
+{
+    match seen {
+        Seen::Absent => true,
+        Seen::Value(value) => match kind {
+            Kind::Integer => true,
+            Kind::Boolean => value == 0 || value == 1,
+            Kind::Event => value == 1,
+        },
+    }
+}
+
 /// A trace: its instants, in order.
 #[derive(Debug, Drop)]
 pub struct Trace {
     pub rows: Vec<Row>,
+}
+
+impl Trace {
+    /// Whether each instant has one entry for each signal, absent or a value of the signal's kind.
+    pub fn is_of(&self, signals: &[Signal]) -> bool
+        ensures { IsTrue result ↔ IsTraceOf signals.now self.now.rows.items }
+    {
+        for row in &self.rows {
+            if !row.is_of(signals) {
+                return false;
+            }
+        }
+        true
+    }
 }

@@ -1,0 +1,7 @@
+-- those so far are of the signals' kinds
+use Rattle.std.proofs.Common.{take}
+use Rattle.sig_tree.specs.ProcessTraces.{IsTraceOf}
+use Rattle.sig_judge.proofs.trace.Trace.is_of.Given as goal
+
+abbrev pub invariant-loop-row : goal.invariant-loop-row
+invariant-loop-row l = IsTraceOf l.signals (take l.row-index l.self.rows.items)
