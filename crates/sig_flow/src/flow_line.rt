@@ -173,6 +173,10 @@ fn read_value(
 fn append(flow: &mut Flow, run: Run) -> Result<(), AllocError>
     ensures { OnOk result (flow.new ≡ flow.old ++ run_values (Ok run)) }
 {
+    if run.times == 1 {
+        flow.values.push(run.value)?;
+        return Ok(());
+    }
     let length = flow.values.len() + run.times as usize;
     flow.values.resize(length, run.value)
 }

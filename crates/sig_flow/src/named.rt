@@ -48,11 +48,16 @@ fn is_name_byte(byte: u8) -> bool
     byte.is_ascii_alphanumeric() || byte == b'_'
 }
 
-/// Whether a line holds tabs and printable ASCII alone.
+/// Whether a line holds tabs and printable ASCII alone. It looks at each byte, so that a compiler can
+/// look at many at once.
 pub fn is_clean(line: &[u8]) -> bool
     ensures { result ≡ list_all is_line_byte line.now }
 {
-    line.iter().all(|b| is_line_byte(*b))
+    let mut clean = true;
+    for byte in line {
+        clean = clean & is_line_byte(*byte);
+    }
+    clean
 }
 
 fn is_line_byte(byte: u8) -> bool

@@ -260,3 +260,40 @@ fn reads_a_kernels_flows(rt: HostRuntime) -> Result<(), Fail> {
     );
     Ok(())
 }
+
+// Two integers A and B.
+#[tactic(auto, using(crate::proofs::ThreeNames::two_differ))]
+fn operands(alloc: Global) -> Result<Vec<Signal>, Fail>
+    ensures two { IfOk result (λ signals. vec_len signals ≡ 2) }
+    ensures differ { IfOk result (λ signals. IsDistinct bytes_eq (map (λ input. input.name) signals.items)) }
+{
+    let first = signal(alloc, b"A", Kind::Integer)?;
+    let second = signal(alloc, b"B", Kind::Integer)?;
+    Ok(Vec::from_array(alloc, [first, second])?)
+}
+
+#[test]
+fn reads_the_operands_of_a_sum(rt: HostRuntime) -> Result<(), Fail> {
+    let alloc = rt.alloc();
+    let inputs = operands(alloc)?;
+    let flows = read_named(alloc, b"flows 2\nA 1*3\nB 10 20*2\n", &inputs)?;
+    assert_eq!(rt; flows.as_slice().len(), 2);
+    assert_eq!(rt; flows.as_slice()[0].as_slice(), [1, 1, 1].as_slice());
+    assert_eq!(rt; flows.as_slice()[1].as_slice(), [10, 20, 20].as_slice());
+    let refusals: [(&[u8], &str); 6] = [
+        (b"A 9223372036854775808", "1:3: out of range"),
+        (b"C 1", "1: not an input"),
+        (b"A 1x", "1:3: bad value"),
+        (b"flows 2\nA 1*0\n", "2:3: bad value"),
+        (b"A 1*3\n", "1:3: bad value"),
+        (b"flows 2\nA 0*4000000\nB 1\n", " more than 4000000 values"),
+    ];
+    for (bytes, wanted) in refusals {
+        let Some(answer) = refusal(alloc, bytes, &inputs) else {
+            return Err(Fail::from("it was read"));
+        };
+        let shown = format!(in alloc; "{answer}")?;
+        assert_eq!(rt; shown.as_str(), wanted);
+    }
+    Ok(())
+}

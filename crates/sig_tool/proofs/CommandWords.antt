@@ -1,13 +1,29 @@
--- Words that are one command are no other.
-use Rattle.std.proofs.Common.{◌≡◌, ◌∙◌, ℕ, List, Some, subst}
-use Rattle.sig_tool.specs.Commands.{Command, Run}
-use Rattle.sig_tool.specs.TopCall.{OfCommand}
-use Rattle.sig_tool.specs.Words.{run_files}
+-- Facts of the command that words are.
+use Rattle.std.proofs.Common.{◌≡◌, ℕ, List, Option, inl, refl, sym, subst}
+use Rattle.sig_text.specs.Files.{Contents}
+use Rattle.sig_words.specs.Readings.{Word}
+use Rattle.sig_words.specs.declared.command.Command.{Command}
+use Rattle.sig_words.specs.declared.command.Command.TheVariants.{Run}
+use Rattle.sig_tool.specs.Commands.{IsBuilt}
+use Rattle.sig_tool.specs.Refusals.{IsAbout}
+use Rattle.sig_tool.specs.declared.refusal.Refusal.TheVariants.{OutOfMemory}
+use Rattle.sig_tool.specs.TopCall.{IsRefusedBy, OfCommand, memory_line}
 
-same_pair : (one other : List ℕ × List ℕ) → Some one ≡ Some other → one ≡ other
-same_pair one other e = cc
+-- what holds of the one command that the words are holds of each
+pub of_one : (words : List Word) (command : Command) (Fact : Command → Type 0) → OfCommand words (λ c. c ≡ command) → Fact command → OfCommand words Fact
+of_one words command Fact only fact = λ c is built. subst Fact (sym (only c is built)) fact
 
-pub of_run : (words : List (List ℕ)) (program flows : List ℕ) (Fact : Command → Type 0) → Some (program, flows) ≡ run_files words → Fact (Run program flows) → OfCommand words Fact
-of_run words program flows Fact is fact (Run other more) same =
-    let pair = same_pair (program, flows) (other, more) (is ∙ same) in
-    subst (λ p. Fact (Run p.0 p.1)) pair fact
+-- a command for whose words there was no memory was refused for that
+about_none : (c : Command) → IsBuilt c → IsAbout c OutOfMemory
+about_none (Run program flows settings) built = inl tt
+about_none _ built = absurd built
+
+pub refused_unread : (contents : Option Contents) (c : Command) (before at : Option (List ℕ)) (misses misses' faults faults' : ℕ) (Said : List ℕ → Type 0) → IsBuilt c → Said memory_line → IsRefusedBy c contents before at misses misses' faults faults' 7 Said
+refused_unread contents c before at misses misses' faults faults' Said built line = record {
+  refusal = OutOfMemory;
+  numbered = refl;
+  line = line;
+  about = about_none c built;
+  count = tt;
+  owed = λ own. absurd own;
+}

@@ -2,7 +2,8 @@
 use Rattle.std.proofs.Common.{◌≡◌, ◌≤◌, ℕ, List, Option, Some, None, IfSome, sym, subst, arith}
 use Rattle.sig_plan.specs.Small.{Small}
 use Rattle.sig_text.specs.Files.{Contents, name_where_there}
-use Rattle.sig_tool.specs.Commands.{Run}
+use Rattle.sig_words.specs.declared.command.Command.TheVariants.{Run}
+use Rattle.sig_words.specs.declared.command.Settings.{Settings}
 use Rattle.sig_tool.specs.Outcomes.{AtFlows, FindsProgram, Good}
 use Rattle.sig_tool.specs.Refusals.{IsOwn, Owes, outcome_of}
 use Rattle.sig_tool.specs.declared.refusal.Refusal.{Refusal}
@@ -19,12 +20,12 @@ later_own (LongFile name) first middle last le own = own
 later_own (NoFlows name) first middle last le own = own
 later_own OutOfMemory first middle last le own = own
 
-pub owes_flows : (contents middle : Option Contents) (before at : Option (List ℕ)) (f0 f1 f2 : ℕ) (program flows : List ℕ) (s : Small) (r : Refusal) → middle ≡ contents → f0 ≤ f1 → IfSome contents (λ held. FindsProgram (held program) (Good s)) → IfSome middle (λ held. IsOwn r f1 f2 → AtFlows held flows s.inputs (λ _ _. ⊥) (outcome_of r (Some flows))) → IfSome middle (λ held. at ≡ name_where_there held flows) → IfSome contents (λ held. IsOwn r f0 f2 → Owes held (Run program flows) before at r)
-owes_flows None middle before at f0 f1 f2 program flows s r stays le good refuses last = tt
-owes_flows (Some held) middle before at f0 f1 f2 program flows s r stays le good refuses last = λ own.
+pub owes_flows : (contents middle : Option Contents) (before at : Option (List ℕ)) (f0 f1 f2 : ℕ) (program flows : List ℕ) (settings : Settings) (s : Small) (r : Refusal) → middle ≡ contents → f0 ≤ f1 → IfSome contents (λ held. FindsProgram (held program) (Good s)) → IfSome middle (λ held. IsOwn r f1 f2 → AtFlows held flows s.inputs (λ _ _. ⊥) (outcome_of r (Some flows))) → IfSome middle (λ held. at ≡ name_where_there held flows) → IfSome contents (λ held. IsOwn r f0 f2 → Owes held (Run program flows settings) before at r)
+owes_flows None middle before at f0 f1 f2 program flows settings s r stays le good refuses last = tt
+owes_flows (Some held) middle before at f0 f1 f2 program flows settings s r stays le good refuses last = λ own.
     let refused = subst (λ o. IfSome o (λ h. IsOwn r f1 f2 → AtFlows h flows s.inputs (λ _ _. ⊥) (outcome_of r (Some flows)))) stays refuses in
     record {
       file = Some flows;
-      comes = flows_refuse held program flows s (outcome_of r (Some flows)) good (refused (later_own r f0 f1 f2 le own));
+      comes = flows_refuse held program flows settings s (outcome_of r (Some flows)) good (refused (later_own r f0 f1 f2 le own));
       last = subst (λ o. IfSome o (λ h. at ≡ name_where_there h flows)) stays last;
     }

@@ -8,9 +8,11 @@ use Rattle.sig_parse.specs.Splitting.{words_of}
 use Rattle.sig_parse.specs.declared.answer.SmallAnswer.TheVariants.{NotBuilt}
 use Rattle.sig_parse.proofs.SmallLemmas.{only_one, refused as says_none}
 use Rattle.sig_text.specs.Files.{Contents}
-use Rattle.sig_tool.specs.Commands.{Command, Run}
+use Rattle.sig_words.specs.declared.command.Command.{Command}
+use Rattle.sig_words.specs.declared.command.Command.TheVariants.{Run}
+use Rattle.sig_words.specs.declared.command.Settings.{Settings}
 use Rattle.sig_tool.specs.FlowFile.{IsFlowFile, flow_in}
-use Rattle.sig_tool.specs.Outcomes.{AtFile, AtFlows, AtProgram, ComesTo, FindsFlows, FindsProgram, Found, Good, Outcome, RefusesFlows, RefusesProgram, RunsTo, ended, long_file, long_program}
+use Rattle.sig_tool.specs.Outcomes.{AtFile, AtFlows, AtProgram, ComesTo, FindsFlows, FindsProgram, Found, Good, Outcome, RefusesFlows, RefusesProgram, RunComesTo, RunsTo, ended, long_file, long_program}
 use Rattle.sig_tool.proofs.RunCauses.{one_end}
 use Rattle.sig_tool.proofs.Stages.{OneAtMost, at_file_ends, one_at_file, one_found}
 
@@ -42,9 +44,9 @@ one_flow_file held name inputs f g =
     f g
 
 -- a run has one end
-pub one_run : (s : Small) (values : List (List ℤ)) (file : List ℕ) → OneAtMost (RunsTo s values file)
-one_run s values file o p x y =
-    let same = one_end s values 1000000 x.instants y.instants x.cause y.cause x.long y.long x.ends y.ends in
+pub one_run : (s : Small) (values : List (List ℤ)) (limit : ℕ) (file : List ℕ) → OneAtMost (RunsTo s values limit file)
+one_run s values limit file o p x y =
+    let same = one_end s values limit x.instants y.instants x.cause y.cause x.long y.long x.ends y.ends in
     x.is ∙ ap (λ n. ended s values file n x.cause) same.0 ∙ ap (ended s values file y.instants) same.1 ∙ sym y.is
 
 one_at_flows : (held : Contents) (name : List ℕ) (inputs : List (List ℕ)) (Next : List (List ℤ) → Outcome → Type 0) → ((values : List (List ℤ)) → OneAtMost (Next values)) → OneAtMost (AtFlows held name inputs Next)
@@ -57,33 +59,37 @@ one_at_program held name Next one o p x y =
     one_at_file 1 long_program name x.0 Next one o p x.2
     (subst (λ found. AtFile 1 long_program name found Next p) (one_program_file (held name) y.0 x.0 y.1 x.1) y.2)
 
-pub one_outcome : (held : Contents) (c : Command) (one other : Outcome) → ComesTo held c one → ComesTo held c other → one ≡ other
-one_outcome held (Run program flows) one other =
-    one_at_program held program (λ s. AtFlows held flows s.inputs (λ values. RunsTo s values flows))
-    (λ s. one_at_flows held flows s.inputs (λ values. RunsTo s values flows) (λ values. one_run s values flows))
+one_run_outcome : (held : Contents) (program flows : List ℕ) (limit : ℕ) (one other : Outcome) → RunComesTo held program flows limit one → RunComesTo held program flows limit other → one ≡ other
+one_run_outcome held program flows limit one other =
+    one_at_program held program (λ s. AtFlows held flows s.inputs (λ values. RunsTo s values limit flows))
+    (λ s. one_at_flows held flows s.inputs (λ values. RunsTo s values limit flows) (λ values. one_run s values limit flows))
     one other
+
+pub one_outcome : (held : Contents) (c : Command) (one other : Outcome) → ComesTo held c one → ComesTo held c other → one ≡ other
+one_outcome held (Run program flows settings) one other = one_run_outcome held program flows settings.instants one other
+one_outcome held _ one other = λ x y. absurd x
 
 -- ---- what a run comes to
 
 -- a program file that gives nothing ends it
-pub program_refuses : (held : Contents) (program flows : List ℕ) (o : Outcome) → AtProgram held program (λ _ _. ⊥) o → ComesTo held (Run program flows) o
-program_refuses held program flows o x =
-    (x.0, x.1, at_file_ends 1 long_program program x.0 (λ s. AtFlows held flows s.inputs (λ values. RunsTo s values flows)) o x.2)
+pub program_refuses : (held : Contents) (program flows : List ℕ) (settings : Settings) (o : Outcome) → AtProgram held program (λ _ _. ⊥) o → ComesTo held (Run program flows settings) o
+program_refuses held program flows settings o x =
+    (x.0, x.1, at_file_ends 1 long_program program x.0 (λ s. AtFlows held flows s.inputs (λ values. RunsTo s values settings.instants flows)) o x.2)
 
 -- and so does a flow file, behind a program that is good
-pub flows_refuse : (held : Contents) (program flows : List ℕ) (s : Small) (o : Outcome) → FindsProgram (held program) (Good s) → AtFlows held flows s.inputs (λ _ _. ⊥) o → ComesTo held (Run program flows) o
-flows_refuse held program flows s o good x =
-    (Good s, good, (x.0, x.1, at_file_ends 4 (long_file flows) flows x.0 (λ values. RunsTo s values flows) o x.2))
+pub flows_refuse : (held : Contents) (program flows : List ℕ) (settings : Settings) (s : Small) (o : Outcome) → FindsProgram (held program) (Good s) → AtFlows held flows s.inputs (λ _ _. ⊥) o → ComesTo held (Run program flows settings) o
+flows_refuse held program flows settings s o good x =
+    (Good s, good, (x.0, x.1, at_file_ends 4 (long_file flows) flows x.0 (λ values. RunsTo s values settings.instants flows) o x.2))
 
 -- else it comes to the run's end
-pub runs : (held : Contents) (program flows : List ℕ) (s : Small) (values : List (List ℤ)) (o : Outcome) → FindsProgram (held program) (Good s) → FindsFlows (held flows) flows s.inputs (Good values) → RunsTo s values flows o → ComesTo held (Run program flows) o
-runs held program flows s values o good read x = (Good s, good, (Good values, read, x))
+pub runs : (held : Contents) (program flows : List ℕ) (settings : Settings) (s : Small) (values : List (List ℤ)) (o : Outcome) → FindsProgram (held program) (Good s) → FindsFlows (held flows) flows s.inputs (Good values) → RunsTo s values settings.instants flows o → ComesTo held (Run program flows settings) o
+runs held program flows settings s values o good read x = (Good s, good, (Good values, read, x))
 
 -- and to nothing else
-pub runs_only : (held : Contents) (program flows : List ℕ) (s : Small) (values : List (List ℤ)) (o : Outcome) → FindsProgram (held program) (Good s) → FindsFlows (held flows) flows s.inputs (Good values) → ComesTo held (Run program flows) o → RunsTo s values flows o
-runs_only held program flows s values o good read x =
-    let y : AtFlows held flows s.inputs (λ v. RunsTo s v flows) o =
-    subst (λ found. AtFile 1 long_program program found (λ t. AtFlows held flows t.inputs (λ v. RunsTo t v flows)) o)
+pub runs_only : (held : Contents) (program flows : List ℕ) (settings : Settings) (s : Small) (values : List (List ℤ)) (o : Outcome) → FindsProgram (held program) (Good s) → FindsFlows (held flows) flows s.inputs (Good values) → ComesTo held (Run program flows settings) o → RunsTo s values settings.instants flows o
+runs_only held program flows settings s values o good read x =
+    let y : AtFlows held flows s.inputs (λ v. RunsTo s v settings.instants flows) o =
+    subst (λ found. AtFile 1 long_program program found (λ t. AtFlows held flows t.inputs (λ v. RunsTo t v settings.instants flows)) o)
     (one_program_file (held program) x.0 (Good s) x.1 good) x.2 in
-    subst (λ found. AtFile 4 (long_file flows) flows found (λ v. RunsTo s v flows) o)
+    subst (λ found. AtFile 4 (long_file flows) flows found (λ v. RunsTo s v settings.instants flows) o)
     (one_flow_file (held flows) flows s.inputs y.0 (Good values) y.1 read) y.2

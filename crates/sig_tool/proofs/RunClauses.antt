@@ -6,12 +6,14 @@ use Rattle.sig_plan.specs.Small.{Small}
 use Rattle.sig_text.specs.Counts.{Rose, raised}
 use Rattle.sig_text.specs.Files.{Contents, name_where_there}
 use Rattle.sig_text.specs.Sink.{TookPrefix}
-use Rattle.sig_tool.specs.Commands.{Command, Run}
+use Rattle.sig_words.specs.declared.command.Command.{Command}
+use Rattle.sig_words.specs.declared.command.Command.TheVariants.{Run}
+use Rattle.sig_words.specs.declared.command.Settings.{Settings}
 use Rattle.sig_tool.specs.Outcomes.{ComesTo, FindsFlows, FindsProgram, Good, Outcome, RunsTo, ended}
 use Rattle.sig_tool.specs.Refusals.{HasCount, IsAbout, IsOwn, Owes, line_of, outcome_of, status_of}
 use Rattle.sig_tool.specs.RunEnd.{end_status}
 use Rattle.sig_tool.specs.SmallRun.{IsLength, text_of}
-use Rattle.sig_tool.specs.TopCall.{IsDone, IsDue, IsRefusedBy, MayAnswer, OfOutcome, RunsWhole}
+use Rattle.sig_tool.specs.TopCall.{IsDone, IsDue, IsRefusedBy, MayAnswer, OfOutcome, RunsWhole, memory_line}
 use Rattle.sig_tool.specs.declared.refusal.Refusal.{Refusal}
 use Rattle.sig_tool.specs.declared.refusal.Refusal.TheVariants.{Missing, ReadFault, LongProgram, NotBuilt, LongFile, NoFlows, OutOfMemory}
 use Rattle.sig_tool.specs.declared.run.Cause.{Cause}
@@ -20,23 +22,23 @@ use Rattle.sig_tool.proofs.OneOutcome.{one_outcome, one_run, runs, runs_only}
 
 -- ---- files that are good
 
-pub prefix_of_run : {S : Type 0} (took : S → List ℕ → S → Type 0) (before after : S) (contents : Option Contents) (program flows : List ℕ) (s : Small) (values : List (List ℤ)) → IfSome contents (λ held. FindsProgram (held program) (Good s)) → IfSome contents (λ held. FindsFlows (held flows) flows s.inputs (Good values)) → ((n : ℕ) → IsLength s values 1000000 n → TookPrefix took before (text_of s values n) after) → OfOutcome contents (Run program flows) (λ o. TookPrefix took before o.text after)
-prefix_of_run took before after None program flows s values good read prefix = tt
-prefix_of_run took before after (Some held) program flows s values good read prefix = λ o comes.
-    let x = runs_only held program flows s values o good read comes in
+pub prefix_of_run : {S : Type 0} (took : S → List ℕ → S → Type 0) (before after : S) (contents : Option Contents) (program flows : List ℕ) (settings : Settings) (s : Small) (values : List (List ℤ)) → IfSome contents (λ held. FindsProgram (held program) (Good s)) → IfSome contents (λ held. FindsFlows (held flows) flows s.inputs (Good values)) → ((n : ℕ) → IsLength s values settings.instants n → TookPrefix took before (text_of s values n) after) → OfOutcome contents (Run program flows settings) (λ o. TookPrefix took before o.text after)
+prefix_of_run took before after None program flows settings s values good read prefix = tt
+prefix_of_run took before after (Some held) program flows settings s values good read prefix = λ o comes.
+    let x = runs_only held program flows settings s values o good read comes in
     subst (λ q. TookPrefix took before q.text after) (sym x.is) (prefix x.instants x.long)
 
 -- the run that was made is one to which the command comes
-run_made : (s : Small) (values : List (List ℤ)) (file : List ℕ) (status : ℕ) (Took Said : List ℕ → Type 0) (whole : RunsWhole s values status Took Said) → RunsTo s values file (ended s values file whole.instants whole.cause)
-run_made s values file status Took Said whole =
+run_made : (s : Small) (values : List (List ℤ)) (limit : ℕ) (file : List ℕ) (status : ℕ) (Took Said : List ℕ → Type 0) (whole : RunsWhole s values limit status Took Said) → RunsTo s values limit file (ended s values file whole.instants whole.cause)
+run_made s values limit file status Took Said whole =
     record { instants = whole.instants; long = whole.long; cause = whole.cause; ends = whole.ends; is = refl }
 
-pub whole_of_run : (contents : Option Contents) (program flows : List ℕ) (s : Small) (values : List (List ℤ)) (before at : Option (List ℕ)) (status : ℕ) (Took Said : List ℕ → Type 0) → IfSome contents (λ held. FindsProgram (held program) (Good s)) → IfSome contents (λ held. FindsFlows (held flows) flows s.inputs (Good values)) → IfSome contents (λ held. at ≡ name_where_there held flows) → RunsWhole s values status Took Said → IfSome contents (λ held. IsDue held (Run program flows) before at status (λ text line. Took text × Said line))
-whole_of_run None program flows s values before at status Took Said good read last whole = tt
-whole_of_run (Some held) program flows s values before at status Took Said good read last whole =
+pub whole_of_run : (contents : Option Contents) (program flows : List ℕ) (settings : Settings) (s : Small) (values : List (List ℤ)) (before at : Option (List ℕ)) (status : ℕ) (Took Said : List ℕ → Type 0) → IfSome contents (λ held. FindsProgram (held program) (Good s)) → IfSome contents (λ held. FindsFlows (held flows) flows s.inputs (Good values)) → IfSome contents (λ held. at ≡ name_where_there held flows) → RunsWhole s values settings.instants status Took Said → IfSome contents (λ held. IsDue held (Run program flows settings) before at status (λ text line. Took text × Said line))
+whole_of_run None program flows settings s values before at status Took Said good read last whole = tt
+whole_of_run (Some held) program flows settings s values before at status Took Said good read last whole =
     record {
       outcome = ended s values flows whole.instants whole.cause;
-      comes = runs held program flows s values (ended s values flows whole.instants whole.cause) good read (run_made s values flows status Took Said whole);
+      comes = runs held program flows settings s values (ended s values flows whole.instants whole.cause) good read (run_made s values settings.instants flows status Took Said whole);
       numbered = whole.numbered;
       last = last;
       fact = (whole.text, whole.line);
@@ -47,13 +49,13 @@ done Limit = inl refl
 done (Exhausted input) = inl refl
 done (Overflow operator) = inr refl
 
-pub status_of_run : (contents : Option Contents) (program flows : List ℕ) (s : Small) (values : List (List ℤ)) (status : ℕ) (Took Said : List ℕ → Type 0) (ReadFailed WriteFailed : Type 0) → IfSome contents (λ held. FindsProgram (held program) (Good s)) → IfSome contents (λ held. FindsFlows (held flows) flows s.inputs (Good values)) → IsDone status ⊎ (status ≡ 6) → (IsDone status → RunsWhole s values status Took Said) → (status ≡ 6 → WriteFailed) → OfOutcome contents (Run program flows) (λ o. MayAnswer o.status status ReadFailed WriteFailed)
-status_of_run None program flows s values status Took Said ReadFailed WriteFailed good read numbers whole failed = tt
-status_of_run (Some held) program flows s values status Took Said ReadFailed WriteFailed good read numbers whole failed = λ o comes.
-    let x = runs_only held program flows s values o good read comes in
+pub status_of_run : (contents : Option Contents) (program flows : List ℕ) (settings : Settings) (s : Small) (values : List (List ℤ)) (status : ℕ) (Took Said : List ℕ → Type 0) (ReadFailed WriteFailed : Type 0) → IfSome contents (λ held. FindsProgram (held program) (Good s)) → IfSome contents (λ held. FindsFlows (held flows) flows s.inputs (Good values)) → IsDone status ⊎ (status ≡ 6) → (IsDone status → RunsWhole s values settings.instants status Took Said) → (status ≡ 6 → WriteFailed) → OfOutcome contents (Run program flows settings) (λ o. MayAnswer o.status status ReadFailed WriteFailed)
+status_of_run None program flows settings s values status Took Said ReadFailed WriteFailed good read numbers whole failed = tt
+status_of_run (Some held) program flows settings s values status Took Said ReadFailed WriteFailed good read numbers whole failed = λ o comes.
+    let x = runs_only held program flows settings s values o good read comes in
     ⊎_elim
     (λ ends. let w = whole ends in
-    inl (w.numbered ∙ ap (λ q. q.status) (one_run s values flows (ended s values flows w.instants w.cause) o (run_made s values flows status Took Said w) x)))
+    inl (w.numbered ∙ ap (λ q. q.status) (one_run s values settings.instants flows (ended s values flows w.instants w.cause) o (run_made s values settings.instants flows status Took Said w) x)))
     (λ six. inr (inr (inl (six, subst (λ q. IsDone q.status) (sym x.is) (done x.cause), failed six))))
     numbers
 
@@ -93,11 +95,8 @@ owed_where_told : (contents : Option Contents) (c : Command) (before at : Option
 owed_where_told None c before at faults faults' r owes own = tt
 owed_where_told (Some held) c before at faults faults' r owes own = owes own
 
-about_none : (c : Command) → IsAbout c OutOfMemory
-about_none (Run program flows) = inl tt
-
-pub refused_by : (contents : Option Contents) (c : Command) (before at : Option (List ℕ)) (misses misses' faults faults' : ℕ) (r said : Refusal) (status : ℕ) (Said : List ℕ → Type 0) → status ≡ status_of said → (said ≡ r) ⊎ (said ≡ OutOfMemory) → Said (line_of said ++ codes "\n") → IsAbout c r → HasCount contents at misses misses' faults faults' r → IfSome contents (λ held. IsOwn r faults faults' → Owes held c before at r) → IsRefusedBy c contents before at misses misses' faults faults' status Said
-refused_by contents c before at misses misses' faults faults' r said status Said is same line about count owes =
+pub refused_by : (contents : Option Contents) (c : Command) (before at : Option (List ℕ)) (misses misses' faults faults' : ℕ) (r said : Refusal) (status : ℕ) (Said : List ℕ → Type 0) → status ≡ status_of said → (said ≡ r) ⊎ (said ≡ OutOfMemory) → Said (line_of said ++ codes "\n") → IsAbout c OutOfMemory → IsAbout c r → HasCount contents at misses misses' faults faults' r → IfSome contents (λ held. IsOwn r faults faults' → Owes held c before at r) → IsRefusedBy c contents before at misses misses' faults faults' status Said
+refused_by contents c before at misses misses' faults faults' r said status Said is same line wanting about count owes =
     ⊎_elim
     (λ it. record {
       refusal = r;
@@ -111,8 +110,21 @@ refused_by contents c before at misses misses' faults faults' r said status Said
       refusal = OutOfMemory;
       numbered = is ∙ ap status_of none;
       line = subst (λ x. Said (line_of x ++ codes "\n")) none line;
-      about = about_none c;
+      about = wanting;
       count = tt;
       owed = λ own. absurd own;
     })
     same
+
+-- a command that was refused for want of memory said so
+pub memory_said : (c : Command) (contents : Option Contents) (before at : Option (List ℕ)) (misses misses' faults faults' status : ℕ) (Said : List ℕ → Type 0) → IsRefusedBy c contents before at misses misses' faults faults' status Said → status ≡ 7 → Said memory_line
+memory_said c contents before at misses misses' faults faults' status Said by seven = said_at by.refusal (sym by.numbered ∙ seven) by.line
+  where
+    said_at : (r : Refusal) → status_of r ≡ 7 → Said (line_of r ++ codes "\n") → Said memory_line
+    said_at (Missing name) is line = absurd (omega (arith, is))
+    said_at (ReadFault name) is line = absurd (omega (arith, is))
+    said_at LongProgram is line = absurd (omega (arith, is))
+    said_at NotBuilt is line = absurd (omega (arith, is))
+    said_at (LongFile name) is line = absurd (omega (arith, is))
+    said_at (NoFlows name) is line = absurd (omega (arith, is))
+    said_at OutOfMemory is line = line

@@ -1,15 +1,9 @@
--- The commands that are built, and the words that are one.
-use Rattle.std.specs.Prelude.{◌≡◌, ℕ, List, [], ◌∷◌, Some}
-use Rattle.sig_tool.specs.Words.{run_files}
+-- The commands that are built so far, among those of a command line.
+use Rattle.std.specs.Prelude.{◌≡◌, false}
+use Rattle.sig_words.specs.declared.command.Command.{Command}
+use Rattle.sig_words.specs.declared.command.Command.TheVariants.{Run}
 
--- a command, with the names of its files
-pub data Command : Type 0 where
-  Run : List ℕ → List ℕ → Command
-
--- the words of a command line are this command
-abbrev pub IsCommand : List (List ℕ) → Command → Type 0
-IsCommand words (Run program flows) = run_files words ≡ Some (program, flows)
-
--- the files of a command, in the order in which it asks for them
-abbrev pub files_of : Command → List (List ℕ)
-files_of (Run program flows) = program ∷ flows ∷ []
+-- a command is built: a run without pacing
+abbrev pub IsBuilt : Command → Type 0
+IsBuilt (Run program flows settings) = settings.pace ≡ false
+IsBuilt _ = ⊥

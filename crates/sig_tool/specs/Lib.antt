@@ -6,7 +6,6 @@ pub mod Refusals
 pub mod RunEnd
 pub mod SmallRun
 pub mod TopCall
-pub mod Words
 pub use Rattle.sig_plan.specs.Small
 pub use Rattle.sig_text.specs.Counts
 pub use Rattle.sig_text.specs.Files

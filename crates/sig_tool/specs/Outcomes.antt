@@ -5,11 +5,12 @@ use Rattle.sig_base.specs.Lines.{refusal}
 use Rattle.sig_plan.specs.Small.{Small, IsSmallProgram}
 use Rattle.sig_text.specs.Files.{Contents}
 use Rattle.sig_text.specs.Read.{IsLongerThan}
-use Rattle.sig_tool.specs.Commands.{Command, Run}
 use Rattle.sig_tool.specs.FlowFile.{IsFlowFile, IsNoFlowFile}
 use Rattle.sig_tool.specs.SmallRun.{IsLength, IsCause, text_of}
 use Rattle.sig_tool.specs.RunEnd.{end_line, end_status}
 use Rattle.sig_tool.specs.declared.run.Cause.{Cause}
+use Rattle.sig_words.specs.declared.command.Command.{Command}
+use Rattle.sig_words.specs.declared.command.Command.TheVariants.{Run}
 
 -- what a command comes to: the text that is due on its output, its status, its line on standard error,
 -- and the file that it asked for last, if it asked for any
@@ -110,15 +111,20 @@ abbrev pub ended : Small → List (List ℤ) → List ℕ → ℕ → Cause → 
 ended s values file n cause =
     record { text = text_of s values n; status = end_status cause; line = end_line s n cause; file = Some file }
 
--- the run of a program over flows, for at most 1,000,000 instants
-pub record RunsTo (s : Small) (values : List (List ℤ)) (file : List ℕ) (o : Outcome) : Type 0 where
+-- the run of a program over flows, for at most so many instants
+pub record RunsTo (s : Small) (values : List (List ℤ)) (limit : ℕ) (file : List ℕ) (o : Outcome) : Type 0 where
   pub instants : ℕ
-  pub long : IsLength s values 1000000 instants
+  pub long : IsLength s values limit instants
   pub cause : Cause
-  pub ends : IsCause s values 1000000 instants cause
+  pub ends : IsCause s values limit instants cause
   pub is : o ≡ ended s values file instants cause
 
--- a command over told contents comes to this
+-- a run over told contents comes to this
+abbrev pub RunComesTo : Contents → List ℕ → List ℕ → ℕ → Outcome → Type 0
+RunComesTo held program flows limit o =
+    AtProgram held program (λ s. AtFlows held flows s.inputs (λ values. RunsTo s values limit flows)) o
+
+-- a command over told contents comes to this; one that is not built comes to nothing
 abbrev pub ComesTo : Contents → Command → Outcome → Type 0
-ComesTo held (Run program flows) o =
-    AtProgram held program (λ s. AtFlows held flows s.inputs (λ values. RunsTo s values flows)) o
+ComesTo held (Run program flows settings) o = RunComesTo held program flows settings.instants o
+ComesTo held _ o = ⊥

@@ -3,8 +3,9 @@ use Rattle.std.specs.Prelude.{◌≡◌, ◌⊎◌, ⊤, ℕ, List, codes, Optio
 use Rattle.sig_base.specs.Lines.{refusal}
 use Rattle.sig_text.specs.Counts.{Rose, DidNotRise}
 use Rattle.sig_text.specs.Files.{Contents, name_where_there}
-use Rattle.sig_tool.specs.Commands.{Command, Run}
 use Rattle.sig_tool.specs.Outcomes.{Outcome, ComesTo, refused, not_found, read_failed, long_program, not_built, long_file, no_flows}
+use Rattle.sig_words.specs.declared.command.Command.{Command}
+use Rattle.sig_words.specs.declared.command.Command.TheVariants.{Run}
 use Rattle.sig_tool.specs.declared.refusal.Refusal.{Refusal}
 use Rattle.sig_tool.specs.declared.refusal.Refusal.TheVariants.{Missing, ReadFault, LongProgram, NotBuilt, LongFile, NoFlows, OutOfMemory}
 
@@ -84,7 +85,8 @@ IsAboutFlows flows OutOfMemory = ⊤
 
 -- a refusal may be one of a command
 abbrev pub IsAbout : Command → Refusal → Type 0
-IsAbout (Run program flows) r = IsAboutProgram program r ⊎ IsAboutFlows flows r
+IsAbout (Run program flows settings) r = IsAboutProgram program r ⊎ IsAboutFlows flows r
+IsAbout _ r = ⊥
 
 -- what is told of the file that was begun last, once a command has asked for this file last, or for none
 abbrev pub begun_after : Contents → Option (List ℕ) → Option (List ℕ) → Option (List ℕ)

@@ -4,21 +4,25 @@ use Rattle.sig_base.specs.Lines.{refusal}
 use Rattle.sig_plan.specs.Small.{Small}
 use Rattle.sig_text.specs.Counts.{DidNotRise}
 use Rattle.sig_text.specs.Files.{Contents, name_where_there}
-use Rattle.sig_tool.specs.Commands.{Command, Run, IsCommand}
+use Rattle.sig_tool.specs.Commands.{IsBuilt}
 use Rattle.sig_tool.specs.Outcomes.{Outcome, ComesTo}
-use Rattle.sig_tool.specs.Refusals.{IsOwn, HasCount, IsAbout, Owes, begun_after, line_of, status_of}
+use Rattle.sig_tool.specs.Refusals.{IsOwn, HasCount, IsAbout, Owes, begun_after, line_of, out_of_memory, status_of}
 use Rattle.sig_tool.specs.RunEnd.{end_line, end_status}
 use Rattle.sig_tool.specs.SmallRun.{IsCause, IsLength, text_of}
+use Rattle.sig_words.specs.Commands.{IsCommand}
+use Rattle.sig_words.specs.Readings.{Word}
+use Rattle.sig_words.specs.declared.command.Command.{Command}
+use Rattle.sig_words.specs.declared.command.Command.TheVariants.{Run}
 use Rattle.sig_tool.specs.declared.run.Cause.{Cause}
 use Rattle.sig_tool.specs.declared.refusal.Refusal.{Refusal}
 
--- the words are no command
-abbrev pub AreNoCommand : List (List ℕ) → Type 0
-AreNoCommand words = (c : Command) → ¬ IsCommand words c
+-- the words are no command that is built
+abbrev pub AreNoCommand : List Word → Type 0
+AreNoCommand words = (c : Command) → IsCommand words c → ¬ IsBuilt c
 
--- a fact of the command that the words are
-abbrev pub OfCommand : List (List ℕ) → (Command → Type 0) → Type 0
-OfCommand words Fact = (c : Command) → IsCommand words c → Fact c
+-- a fact of the command that the words are, if it is built
+abbrev pub OfCommand : List Word → (Command → Type 0) → Type 0
+OfCommand words Fact = (c : Command) → IsCommand words c → IsBuilt c → Fact c
 
 -- a fact of what a command with told contents comes to
 abbrev pub OfOutcome : Option Contents → Command → (Outcome → Type 0) → Type 0
@@ -37,8 +41,9 @@ abbrev pub IsStatus : ℕ → Type 0
 IsStatus status = IsDone status ⊎ (IsRefused status ⊎ (status ≡ 6))
 
 abbrev pub IsStatusOf : Command → ℕ → Type 0
-IsStatusOf (Run program flows) status =
+IsStatusOf (Run program flows settings) status =
     IsDone status ⊎ ((status ≡ 6) ⊎ ((status ≡ 1) ⊎ ((status ≡ 4) ⊎ ((status ≡ 5) ⊎ (status ≡ 7)))))
+IsStatusOf _ status = ⊥
 
 -- the status that is answered where another is owed: that one; or 5, where a call of the files failed;
 -- or 6, where a write failed of a command that was to be done; or 7
@@ -49,8 +54,9 @@ MayAnswer owed status ReadFailed WriteFailed =
 
 -- the file that was begun last is one of the command's
 abbrev pub HasBegun : Contents → Command → Option (List ℕ) → Option (List ℕ) → Type 0
-HasBegun held (Run program flows) before at =
+HasBegun held (Run program flows settings) before at =
     (at ≡ name_where_there held program) ⊎ (at ≡ name_where_there held flows)
+HasBegun held _ before at = ⊥
 
 -- ---- the line on standard error
 
@@ -64,6 +70,9 @@ words_line = refusal (codes "these words are not a command") ++ codes "\n"
 abbrev pub write_line : List ℕ
 write_line = refusal (codes "write failed") ++ codes "\n"
 
+abbrev pub memory_line : List ℕ
+memory_line = out_of_memory ++ codes "\n"
+
 -- ---- a command that is done, and one that is refused
 
 -- over told contents a command comes to an outcome of this status, of which a fact of its text and its
@@ -76,11 +85,11 @@ pub record IsDue (held : Contents) (c : Command) (before at : Option (List ℕ))
   pub fact : Fact outcome.text outcome.line
 
 -- a run of a program over flows that came to its end: the whole text was taken, and the line was said
-pub record RunsWhole (s : Small) (values : List (List ℤ)) (status : ℕ) (Took Said : List ℕ → Type 0) : Type 0 where
+pub record RunsWhole (s : Small) (values : List (List ℤ)) (limit status : ℕ) (Took Said : List ℕ → Type 0) : Type 0 where
   pub instants : ℕ
-  pub long : IsLength s values 1000000 instants
+  pub long : IsLength s values limit instants
   pub cause : Cause
-  pub ends : IsCause s values 1000000 instants cause
+  pub ends : IsCause s values limit instants cause
   pub numbered : status ≡ end_status cause
   pub text : Took (text_of s values instants)
   pub line : Said (end_line s instants cause)

@@ -6,6 +6,7 @@
 mod command;
 mod flows;
 mod load;
+mod perform;
 mod pieces;
 mod refusal;
 mod report;

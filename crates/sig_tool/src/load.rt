@@ -4,7 +4,8 @@ ghost use Rattle.std.specs.Prelude.{◌≡◌, Some, IfSome, IfOk, IfErr, length
 ghost use Rattle.std.specs.List.{IsDistinct};
 ghost use Rattle.sig_plan.specs.Small.{IsSmall, small_of};
 ghost use Rattle.sig_text.specs.Files.{name_where_there};
-ghost use Rattle.sig_tool.specs.Commands.{Run};
+ghost use Rattle.sig_words.specs.declared.command.Settings.{Settings};
+ghost use Rattle.sig_words.specs.declared.command.Command.TheVariants.{Run};
 ghost use Rattle.sig_tool.specs.Outcomes.{AtFlows, AtProgram, FindsFlows, FindsProgram, Good};
 ghost use Rattle.sig_tool.specs.Reading.{Reads};
 ghost use Rattle.sig_tool.specs.Refusals.{HasCount, IsAbout, IsAboutFlows, IsAboutProgram, IsOwn, Owes, outcome_of};
@@ -42,15 +43,15 @@ pub fn load<'a, F: Files>(
     ensures last { IfSome (F.contents files.old) (λ held. IfOk result (λ _.
         F.at files.new ≡ name_where_there held flows.now)) }
 
-    // A refusal is the one that told contents call for, if they alone decide it.
-    ensures owed { IfSome (F.contents files.old) (λ held. IfErr result (λ refusal.
+    // A refusal is the one that told contents call for, if they alone decide it, whatever the settings.
+    ensures owed { (settings : Settings) → IfSome (F.contents files.old) (λ held. IfErr result (λ refusal.
         IsOwn refusal (F.faults files.old) (F.faults files.new) →
-        Owes held (Run program.now flows.now) (F.at files.old) (F.at files.new) refusal)) }
-    ensures about { IfErr result (IsAbout (Run program.now flows.now)) }
+        Owes held (Run program.now flows.now settings) (F.at files.old) (F.at files.new) refusal)) }
+    ensures about { (settings : Settings) → IfErr result (IsAbout (Run program.now flows.now settings)) }
     ensures counted { IfErr result (HasCount (F.contents files.old) (F.at files.new)
         (F.misses files.old) (F.misses files.new) (F.faults files.old) (F.faults files.new)) }
-    ensures begun { IfSome (F.contents files.old) (λ held.
-        HasBegun held (Run program.now flows.now) (F.at files.old) (F.at files.new)) }
+    ensures begun { (settings : Settings) → IfSome (F.contents files.old) (λ held.
+        HasBegun held (Run program.now flows.now settings) (F.at files.old) (F.at files.new)) }
 {
     let program = load_program(alloc, files, program)?;
     let flows = load_flows(alloc, files, flows, &program.inputs)?;

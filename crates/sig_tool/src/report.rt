@@ -4,7 +4,7 @@ ghost use Rattle.std.specs.Prelude.{◌≡◌, ◌<◌, ◌⊎◌, ◌++◌, [],
 ghost use Rattle.sig_plan.specs.Small.{small_of};
 ghost use Rattle.sig_tool.specs.Refusals.{line_of};
 ghost use Rattle.sig_tool.specs.RunEnd.{IsOfProgram, end_line, operator_col, operator_line};
-ghost use Rattle.sig_tool.specs.TopCall.{SaysLine, words_line, write_line};
+ghost use Rattle.sig_tool.specs.TopCall.{SaysLine, memory_line, words_line, write_line};
 
 use crate::pieces::put_pieces;
 use crate::refusal::Refusal;
@@ -98,6 +98,13 @@ pub fn say_fault<E: Sink>(err: &mut E, fault: WriteFault)
     say(err, &[b"error: write failed\n"]);
 }
 
+/// Appends the line of memory that was wanting.
+pub fn say_no_memory<E: Sink>(err: &mut E)
+    ensures { SaysLine E.took (E.faults err.old) (E.faults err.new) err.old err.new memory_line }
+{
+    say(err, &[b"error: out of memory\n"]);
+}
+
 /// Appends the line of words that are no command.
 pub fn say_words<E: Sink>(err: &mut E)
     ensures { SaysLine E.took (E.faults err.old) (E.faults err.new) err.old err.new words_line }
@@ -118,7 +125,7 @@ pub fn say_refusal<'a, E: Sink>(alloc: Global, err: &mut E, refusal: Refusal<'a>
             refusal
         }
         Err(AllocError) => {
-            say(err, &[b"error: out of memory\n"]);
+            say_no_memory(err);
             Refusal::OutOfMemory
         }
     }

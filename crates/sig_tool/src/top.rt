@@ -1,31 +1,33 @@
 //! The top call: from the words of a command line, files and sinks to a status.
 
-ghost use Rattle.std.specs.Prelude.{◌≡◌, IfSome, IsTrue};
+ghost use Rattle.std.specs.Prelude.{◌≡◌, ◌⊎◌, IfSome, IsTrue};
 ghost use Rattle.sig_text.specs.Counts.{Rose};
 ghost use Rattle.sig_text.specs.Files.{Contents};
 ghost use Rattle.sig_text.specs.Sink.{TookPrefix};
-ghost use Rattle.sig_tool.specs.Commands.{Command};
+ghost use Rattle.sig_words.specs.Readings.{texts};
+ghost use Rattle.sig_words.specs.declared.command.Command.{Command};
 ghost use Rattle.sig_tool.specs.Outcomes.{ComesTo, Outcome};
-ghost use Rattle.sig_tool.specs.TopCall.{AreNoCommand, HasBegun, IsDone, IsDue, IsRefused, IsRefusedBy, IsStatus, IsStatusOf, MayAnswer, OfCommand, OfOutcome, SaysLine, words_line, write_line};
-ghost use Rattle.sig_tool.specs.Words.{texts};
+ghost use Rattle.sig_tool.specs.TopCall.{AreNoCommand, HasBegun, IsDone, IsDue, IsRefused, IsRefusedBy, IsStatus, IsStatusOf, MayAnswer, OfCommand, OfOutcome, SaysLine, memory_line, words_line, write_line};
 
-use crate::command::run_command;
-use crate::report::say_words;
-use crate::words::run_files;
+use crate::perform::perform;
+use crate::report::{say_no_memory, say_words};
+use crate::words::built_command;
 use sig_text::{Files, Gate, Sink};
+use sig_words::WordsAnswer;
 use std::alloc::Global;
 use std::sync::Wait;
 use std::thread::Threads;
 
 /// Does what the words of a command line ask for, and answers the status with which the program ends.
-/// `words` are the command line without the program's name. So far the one command is
-/// `run PROGRAM FLOWS`, for a program of the small form.
+/// `words` are the command line without the program's name. So far the one command that is built is
+/// `run PROGRAM FLOWS` with its options, for a program of the small form; the number of workers and
+/// the capacity of a link are read, and have no effect yet.
 ///
 /// | Status | Comes |
 /// |---|---|
-/// | 0 | the run ended because an input had no further value, or at 1,000,000 instants |
+/// | 0 | the run ended because an input had no further value, or at the limit of instants |
 /// | 1 | the program is longer than 1,048,576 bytes or not of the small form |
-/// | 2 | the words are no command |
+/// | 2 | the words are no command, or one that is not built |
 /// | 3 | the run ended at a sum outside 64 bits |
 /// | 4 | the flow file is longer than 67,108,864 bytes or no flow file for the inputs |
 /// | 5 | a file is missing or was not read |
@@ -40,10 +42,11 @@ pub fn sig_main<R: Threads + Wait + Sync, F: Files, S: Sink, E: Sink, G: Gate + 
     err: &mut E,
     _gate: &G,
 ) -> u8
-    // The statuses, and those of each command. 2 comes where the words are no command.
+    // The statuses, and those of each command that is built. 2 comes where the words are none of
+    // these, unless memory was wanting to read them.
     ensures numbers { IsStatus result }
     ensures numbers_of { OfCommand (texts words.now) (λ c. IsStatusOf c result) }
-    ensures no_command { AreNoCommand (texts words.now) → result ≡ 2 }
+    ensures no_command { AreNoCommand (texts words.now) → (result ≡ 2) ⊎ (result ≡ 7) }
 
     // Whatever the status, a prefix of the text that is due was appended.
     ensures prefix { OfCommand (texts words.now) (λ c. OfOutcome (F.contents files.old) c (λ o.
@@ -66,22 +69,30 @@ pub fn sig_main<R: Threads + Wait + Sync, F: Files, S: Sink, E: Sink, G: Gate + 
         IsRefusedBy c (F.contents files.old) (F.at files.old) (F.at files.new)
         (F.misses files.old) (F.misses files.new) (F.faults files.old) (F.faults files.new) result
         (SaysLine E.took (E.faults err.old) (E.faults err.new) err.old err.new)) }
-    ensures words_line { AreNoCommand (texts words.now) →
+    ensures words_line { result ≡ 2 →
         SaysLine E.took (E.faults err.old) (E.faults err.new) err.old err.new words_line }
+    ensures memory_line { result ≡ 7 →
+        SaysLine E.took (E.faults err.old) (E.faults err.new) err.old err.new memory_line }
     ensures fault_line { result ≡ 6 →
         SaysLine E.took (E.faults err.old) (E.faults err.new) err.old err.new write_line }
     ensures untouched { IsRefused result → out.new ≡ out.old }
 
-    // The file that was begun last, if it is there, is one of the command's.
-    ensures begun { OfCommand (texts words.now) (λ c. IfSome (F.contents files.old) (λ held.
-        HasBegun held c (F.at files.old) (F.at files.new))) }
+    // The file that was begun last, if it is there, is one of the command's; or none was begun, since
+    // memory was wanting to read the words.
+    ensures begun { OfCommand (texts words.now) (λ c.
+        IfSome (F.contents files.old) (λ held. HasBegun held c (F.at files.old) (F.at files.new))
+        ⊎ ((result ≡ 7) × (files.new ≡ files.old))) }
     ensures none_begun { AreNoCommand (texts words.now) → files.new ≡ files.old }
 {
-    match run_files(words) {
-        Some(names) => run_command(alloc, names.program, names.flows, files, out, err),
-        None => {
+    match built_command(alloc, words) {
+        Ok(command) => perform(alloc, &command, files, out, err),
+        Err(WordsAnswer::Refused) => {
             say_words(err);
             2
+        }
+        Err(WordsAnswer::OutOfMemory) => {
+            say_no_memory(err);
+            7
         }
     }
 }

@@ -1,34 +1,46 @@
-//! The words of a command line.
+//! The command that the words of a command line are.
 
-ghost use Rattle.std.specs.Prelude.{◌≡◌, option_map};
-ghost use Rattle.sig_tool.specs.Words.{is_plain, run_files, texts};
+ghost use Rattle.std.specs.Prelude.{◌≡◌, ◌⊎◌, ◌↔◌, IfErr, IfOk, IsTrue};
+ghost use Rattle.std.specs.List.{AllByRecursion};
+ghost use Rattle.std.specs.Str.{IsUtf8};
+ghost use Rattle.sig_words.specs.Commands.{IsCommand, files_of};
+ghost use Rattle.sig_words.specs.Readings.{texts};
+ghost use Rattle.sig_tool.specs.Commands.{IsBuilt};
+ghost use Rattle.sig_tool.specs.TopCall.{AreNoCommand, OfCommand};
 
-/// The two files of a `run`: the program's name and the flows'.
-#[derive(Clone, Copy, Debug)]
-pub struct RunFiles<'a> {
-    pub program: &'a str,
-    pub flows: &'a str,
-}
+use sig_words::{Command, WordsAnswer, read_words};
+use std::alloc::Global;
 
-/// The files that the words name, where they are `run` and two plain words.
-pub fn run_files(words: &[String]) -> Option<RunFiles<'_>>
-    ensures { option_map (λ files. (files.program.now, files.flows.now)) result ≡ run_files (texts words.now) }
+/// The command that the words are, where it is built.
+pub fn built_command(alloc: Global, words: &[String]) -> Result<Command, WordsAnswer>
+    ensures built { IfOk result IsBuilt }
+    ensures command { IfOk result (IsCommand (texts words.now)) }
+    ensures only { IfOk result (λ command. OfCommand (texts words.now) (λ c. c ≡ command)) }
+    ensures names { IfOk result (λ command. AllByRecursion IsUtf8 (files_of command)) }
+    ensures refused { IfErr result (λ answer. (answer ≡ WordsAnswer.OutOfMemory) ⊎ AreNoCommand (texts words.now)) }
 {
-    let [command, program, flows] = words else {
-        return None;
-    };
-    let (program, flows) = (program.as_str(), flows.as_str());
-    if command.as_str() == "run" && is_plain(program) && is_plain(flows) {
-        Some(RunFiles { program, flows })
+    let command = read_words(alloc, words)?;
+    if is_built(&command) {
+        Ok(command)
     } else {
-        None
+        Err(WordsAnswer::Refused)
     }
 }
 
-/// Whether a word does not begin with `-`, or is `-` alone.
-fn is_plain(word: &str) -> bool
-    ensures { result ≡ is_plain word.now }
+/// Whether a command is built.
+fn is_built(command: &Command) -> bool
+    ensures { IsTrue result ↔ IsBuilt command.now }
 {
-    let bytes = word.as_bytes();
-    bytes.first() != Some(&b'-') || bytes.len() == 1
+    match command {
+        Command::Run(_, _, settings) => !settings.pace,
+        Command::Check(_, _)
+        | Command::Print(_)
+        | Command::Tree(_, _)
+        | Command::Code(_, _)
+        | Command::Play(_, _, _, _)
+        | Command::Load(_, _, _)
+        | Command::Judge(_, _)
+        | Command::Build(_)
+        | Command::Exec(_, _, _) => false,
+    }
 }

@@ -3,6 +3,7 @@ pub mod Digits
 pub mod Complete
 pub mod Fronts
 pub mod Made
+pub mod Names
 pub mod Runs
 pub mod Sound
 pub mod Summary

@@ -3,7 +3,8 @@ use Rattle.std.proofs.Common.{◌≡◌, ℕ, ◌+◌, ◌<◌, ◌≤◌, List,
 use Rattle.std.specs.Prelude.{String, string_bytes}
 use Rattle.std.specs.declared.alloc.Global.{Global}
 use Rattle.std.proofs.lemmas.List.{at_drop_all, at_drop_more}
-use Rattle.sig_words.specs.Steps.{Said, State, run, step, ended, texts}
+use Rattle.sig_words.specs.Readings.{texts}
+use Rattle.sig_words.specs.Steps.{Said, State, run, step, ended}
 use Rattle.sig_words.specs.declared.given.Next.{Next}
 
 -- what a list of words says from a state on

@@ -36,6 +36,19 @@ spelling verb.Judge = codes "judge"
 spelling verb.Build = codes "build"
 spelling verb.Exec = codes "exec"
 
+-- the files that a command names, in their order
+abbrev pub files_of : Command → List Word
+files_of (Check program pace) = program ∷ []
+files_of (Print program) = program ∷ []
+files_of (Tree program pace) = program ∷ []
+files_of (Code program pace) = program ∷ []
+files_of (Run program flows settings) = program ∷ flows ∷ []
+files_of (Play program flows events settings) = program ∷ flows ∷ events ∷ []
+files_of (Load seed stages settings) = []
+files_of (Judge program trace) = program ∷ trace ∷ []
+files_of (Build program) = program ∷ []
+files_of (Exec image flows settings) = image ∷ flows ∷ []
+
 abbrev pub no_options : Options
 no_options = record { workers = false; capacity = false; instants = false; pace = false }
 

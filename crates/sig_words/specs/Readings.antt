@@ -1,11 +1,16 @@
 -- What the words after a command's name say, whatever the command is.
-use Rattle.std.specs.Prelude.{◌≡◌, ◌==◌, ◌||◌, not, ℕ, Bool, true, false, List, [], ◌∷◌, ◌++◌, ⊤, length, Option, None, Some, unwrap_or, codes, filter, if◌then◌else◌}
+use Rattle.std.specs.Prelude.{◌≡◌, ◌==◌, ◌||◌, not, ℕ, Bool, true, false, List, [], ◌∷◌, ◌++◌, ⊤, length, Option, None, Some, unwrap_or, codes, filter, if◌then◌else◌, map, String, string_bytes}
 use Rattle.std.specs.List.{AllByRecursion, flat_map}
+use Rattle.std.specs.declared.alloc.Global.{Global}
 use Rattle.sig_words.specs.declared.option.OptionName.{OptionName}
 use Rattle.sig_words.specs.declared.option.OptionName.TheVariants.{Workers, Capacity, Instants}
 
 abbrev pub Word : Type 0
 Word = List ℕ
+
+-- the bytes of each word of a command line
+abbrev pub texts : List (String Global) → List Word
+texts = map string_bytes
 
 -- an option's name, as it stands behind `--`
 abbrev pub name_of : OptionName → Word

@@ -1,8 +1,7 @@
 -- How the words after a command's name are read, one after another. No public clause speaks of it: the
 -- definition is that of `Commands`, and that both agree is proved.
-use Rattle.std.specs.Prelude.{◌≡◌, ◌==◌, ⊤, Bool, true, false, List, [], ◌∷◌, ◌++◌, Option, None, Some, option_map, option_and_then, option_to_list, is_some, codes, bytes_eq, if◌then◌else◌, String, string_bytes, map}
+use Rattle.std.specs.Prelude.{◌≡◌, ◌==◌, ⊤, Bool, true, false, List, [], ◌∷◌, ◌++◌, Option, None, Some, option_map, option_and_then, option_to_list, is_some, codes, bytes_eq, if◌then◌else◌, map}
 use Rattle.std.specs.Borrow.{Bor}
-use Rattle.std.specs.declared.alloc.Global.{Global}
 use Rattle.sig_words.specs.Commands.{OptionValues}
 use Rattle.sig_words.specs.Readings.{Word, is_plain, name_of}
 use Rattle.sig_words.specs.declared.command.Settings.{Settings}
@@ -14,12 +13,9 @@ use Rattle.sig_words.specs.declared.given.Next.TheVariants.{Any, Value, Plain}
 use Rattle.sig_words.specs.declared.option.OptionName.{OptionName}
 use Rattle.sig_words.specs.declared.option.OptionName.TheVariants.{Workers, Capacity, Instants}
 
--- the texts behind references, and those of strings
+-- the texts behind references
 abbrev pub referents : List (Bor Word) → List Word
 referents = map (λ s. s.now)
-
-abbrev pub texts : List (String Global) → List Word
-texts = map string_bytes
 
 -- what the words so far say
 pub record Said : Type 0 where

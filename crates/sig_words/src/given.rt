@@ -1,8 +1,8 @@
 //! What the words after a command's name give, whatever the command is.
 
 ghost use Rattle.std.specs.Prelude.{◌≡◌, ◌⊎◌, None, Some, IfOk, IfErr, IsSome, MatchResult};
-ghost use Rattle.sig_words.specs.Readings.{is_plain};
-ghost use Rattle.sig_words.specs.Steps.{any_step, nothing, run, said_by, step, texts, with_pace, with_value};
+ghost use Rattle.sig_words.specs.Readings.{is_plain, texts};
+ghost use Rattle.sig_words.specs.Steps.{any_step, nothing, run, said_by, step, with_pace, with_value};
 
 use crate::answer::WordsAnswer;
 use crate::option::{OptionName, option_of};

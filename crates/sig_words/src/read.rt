@@ -1,8 +1,10 @@
 //! The reading of a command line.
 
 ghost use Rattle.std.specs.Prelude.{◌≡◌, IfOk, MatchResult};
-ghost use Rattle.sig_words.specs.Commands.{IsCommand};
-ghost use Rattle.sig_words.specs.Steps.{texts};
+ghost use Rattle.std.specs.List.{AllByRecursion};
+ghost use Rattle.std.specs.Str.{IsUtf8};
+ghost use Rattle.sig_words.specs.Commands.{IsCommand, files_of};
+ghost use Rattle.sig_words.specs.Readings.{texts};
 ghost use Rattle.sig_words.specs.declared.command.Command.{Command};
 
 use crate::answer::WordsAnswer;
@@ -20,6 +22,9 @@ pub fn read_words(alloc: Global, words: &[String]) -> Result<Command, WordsAnswe
     ensures command { IfOk result (λ command. IsCommand (texts words.now) command) }
     ensures given { (command : Command) → IsCommand (texts words.now) command →
         MatchResult result (λ given. given ≡ command) (λ answer. answer ≡ WordsAnswer.OutOfMemory) }
+
+    // The files that it names have names in UTF-8.
+    ensures names { IfOk result (λ command. AllByRecursion IsUtf8 (files_of command)) }
 {
     let Some((name, after)) = words.split_first() else {
         return Err(WordsAnswer::Refused);

@@ -5,7 +5,7 @@ use Rattle.sig_tool.proofs.command.run_out.Goals as goal
 
 pub returns-in_err-flush-clause-prefix : goal.returns-in_err-flush-clause-prefix
 returns-in_err-flush-clause-prefix g c = λ n long.
-    prefix_whole g.S.Sink.took (small_of c.args.program.now) c.args.flows.now 1000000 c.in_ok-ended.ended.instants n c.args.out.now c.flush.new.self c.in_ok-ended.ensures.length long
+    prefix_whole g.S.Sink.took (small_of c.args.program.now) c.args.flows.now c.args.limit c.in_ok-ended.ended.instants n c.args.out.now c.flush.new.self c.in_ok-ended.ensures.length long
     (flushed g.S.Sink.took g.met.S.Sink.took_both (text_of (small_of c.args.program.now) c.args.flows.now c.in_ok-ended.ended.instants) c.args.out.now c.run.new.out c.flush.new.self c.in_ok-ended.ensures.text c.flush.ensures.bytes)
 
 pub returns-clause-text : goal.returns-clause-text
@@ -14,5 +14,5 @@ returns-clause-text g c =
 
 pub returns-clause-prefix : goal.returns-clause-prefix
 returns-clause-prefix g c = λ n long.
-    prefix_whole g.S.Sink.took (small_of c.args.program.now) c.args.flows.now 1000000 c.in_ok-ended.ended.instants n c.args.out.now c.flush.new.self c.in_ok-ended.ensures.length long
+    prefix_whole g.S.Sink.took (small_of c.args.program.now) c.args.flows.now c.args.limit c.in_ok-ended.ended.instants n c.args.out.now c.flush.new.self c.in_ok-ended.ensures.length long
     (flushed g.S.Sink.took g.met.S.Sink.took_both (text_of (small_of c.args.program.now) c.args.flows.now c.in_ok-ended.ended.instants) c.args.out.now c.run.new.out c.flush.new.self c.in_ok-ended.ensures.text c.flush.ensures.bytes)

@@ -9,10 +9,10 @@ load_flows-requires g c =
     record { differ = rw c.deref.ensures.value (inputs_differ (small_of c.in_ok-program.program) c.in_ok-program.ensures.small) }
 
 pub returns-in_err-flows-clause-owed : goal.returns-in_err-flows-clause-owed
-returns-in_err-flows-clause-owed g c =
+returns-in_err-flows-clause-owed g c = λ settings.
     let p = err_from_is_err_and c.from_residual-in_err-flows.result c.from_residual-in_err-flows.ensures.1 in
     rw (p.1, p.2) (owes_flows (g.F.Files.contents c.args.files.now) (g.F.Files.contents c.load_program.new.files) (g.F.Files.at c.args.files.now) (g.F.Files.at c.load_flows.new.files)
     (g.F.Files.faults c.args.files.now) (g.F.Files.faults c.load_program.new.files) (g.F.Files.faults c.load_flows.new.files)
-    c.args.program.now c.args.flows.now (small_of c.in_ok-program.program) c.in_err-flows.field-0.0
+    c.args.program.now c.args.flows.now settings (small_of c.in_ok-program.program) c.in_err-flows.field-0.0
     c.in_ok-program.ensures.read.contents_stay c.in_ok-program.ensures.read.faults_stay c.in_ok-program.ensures.program
     (rw c.deref.ensures.value at c.in_err-flows.ensures.refused) c.in_err-flows.ensures.read.told)

@@ -1,27 +1,18 @@
-use Rattle.std.proofs.Common.{sym}
 use Rattle.sig_text.specs.Counts.{Rose}
-use Rattle.sig_tool.specs.Commands.{Run}
+use Rattle.sig_words.specs.Readings.{texts}
 use Rattle.sig_tool.specs.TopCall.{MayAnswer, OfOutcome}
-use Rattle.sig_tool.specs.Words.{texts}
-use Rattle.sig_tool.proofs.CommandWords.{of_run}
+use Rattle.sig_tool.proofs.CommandWords.{of_one, refused_unread}
 use Rattle.sig_tool.proofs.top.sig_main.Goals as goal
 
-pub returns-in-Some-clause-no_command : goal.returns-in-Some-clause-no_command
-returns-in-Some-clause-no_command g c = λ none.
-    absurd (none (Run c.in-Some.names.program.now c.in-Some.names.flows.now) (sym c.in-Some.ensures))
+pub returns-in-Ok-clause-status : goal.returns-in-Ok-clause-status
+returns-in-Ok-clause-status g c =
+    of_one (texts c.args.words.now) c.in-Ok.command
+    (λ command. OfOutcome (g.F.Files.contents c.args.files.now) command (λ o. MayAnswer o.status c.perform.result
+    (Rose (g.F.Files.faults c.args.files.now) (g.F.Files.faults c.perform.new.files))
+    (Rose (g.S.Sink.faults c.args.out.now) (g.S.Sink.faults c.perform.new.out))))
+    c.in-Ok.ensures.only c.perform.ensures.status
 
-pub returns-in-Some-clause-status : goal.returns-in-Some-clause-status
-returns-in-Some-clause-status g c =
-    of_run (texts c.args.words.now) c.in-Some.names.program.now c.in-Some.names.flows.now
-    (λ command. OfOutcome (g.F.Files.contents c.args.files.now) command (λ o. MayAnswer o.status c.run_command.result
-    (Rose (g.F.Files.faults c.args.files.now) (g.F.Files.faults c.run_command.new.files))
-    (Rose (g.S.Sink.faults c.args.out.now) (g.S.Sink.faults c.run_command.new.out))))
-    c.in-Some.ensures c.run_command.ensures.status
-
-pub returns-in-Some-clause-words_line : goal.returns-in-Some-clause-words_line
-returns-in-Some-clause-words_line g c = λ none.
-    absurd (none (Run c.in-Some.names.program.now c.in-Some.names.flows.now) (sym c.in-Some.ensures))
-
-pub returns-in-Some-clause-none_begun : goal.returns-in-Some-clause-none_begun
-returns-in-Some-clause-none_begun g c = λ none.
-    absurd (none (Run c.in-Some.names.program.now c.in-Some.names.flows.now) (sym c.in-Some.ensures))
+-- memory was wanting to read the words
+pub returns-in-Err-OutOfMemory-clause-refused : goal.returns-in-Err-OutOfMemory-clause-refused
+returns-in-Err-OutOfMemory-clause-refused g c = λ refuses d is built.
+    refused_unread _ d _ _ _ _ _ _ _ built c.say_no_memory.ensures

@@ -4,13 +4,16 @@ use Rattle.std.proofs.lemmas.Result.{err_from_is_err_and}
 use Rattle.std.proofs.lemmas.Option.{none-some, same_Some}
 use Rattle.std.specs.Prelude.{String}
 use Rattle.std.specs.declared.alloc.Global.{Global}
-use Rattle.sig_words.specs.Readings.{Word}
+use Rattle.sig_words.specs.Readings.{Word, texts}
 use Rattle.sig_words.specs.Commands.{settings_of, spelling}
-use Rattle.sig_words.specs.Steps.{said_by, texts}
+use Rattle.sig_words.specs.Steps.{said_by}
 use Rattle.sig_words.specs.declared.answer.WordsAnswer.{WordsAnswer}
 use Rattle.sig_words.specs.declared.command.Command.{Command}
 use Rattle.sig_words.specs.declared.verb.Verb.{Verb}
+use Rattle.std.specs.List.{AllByRecursion}
+use Rattle.std.specs.Str.{IsUtf8}
 use Rattle.sig_words.proofs.Determined.{determined, makes, only_made}
+use Rattle.sig_words.proofs.Names.{of_command, strings}
 use Rattle.sig_words.proofs.read.read_words.Goals as goal
 
 -- what holds of the command in an `Ok`, from three clauses on it
@@ -72,3 +75,15 @@ returns-clause-given c = λ d is.
     (λ e verb plain made. only_made c.in-Some-named.verb (texts c.args.words.now) (texts c.in-Some.after.now) (said_by c.in_ok-given.given)
     c.in_ok-settings.settings e d named c.in_ok-given.ensures.given are verb (rw c.deref.ensures.value at plain) made is)
     (λ answer err. elim err [ inl memory ↦ memory | inr none ↦ absurd (none d det.same_verb (rw c.deref.ensures.value (rw back at det.plain))) ])
+
+-- the files are among the words, which are text
+pub returns-clause-names : goal.returns-clause-names
+returns-clause-names c =
+    let named = named_by c.args.words.now c.in-Some.name.now c.in-Some.after.now c.in-Some-named.verb c.as_str.result.now
+    c.in-Some.ensures.cases.0 c.as_str.ensures.value c.in-Some-named.ensures in
+    let are = rw c.options.ensures at c.in_ok-settings.ensures in
+    on_ok c.command.result _ _ _ _ c.command.ensures.verb c.command.ensures.plain c.command.ensures.settings
+    (λ d verb plain made. of_command IsUtf8 (texts c.args.words.now) d
+    (makes c.in-Some-named.verb (texts c.args.words.now) (texts c.in-Some.after.now) (said_by c.in_ok-given.given)
+    c.in_ok-settings.settings d named c.in_ok-given.ensures.given are verb (rw c.deref.ensures.value at plain) made)
+    (strings c.args.words.now))

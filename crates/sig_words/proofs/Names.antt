@@ -1,0 +1,62 @@
+-- What holds of all words holds of the files that they name.
+use Rattle.std.proofs.Common.{◌≡◌, List, [], ◌∷◌, ◌++◌, Option, Some, None, subst}
+use Rattle.std.specs.Prelude.{String, map, string_bytes}
+use Rattle.std.specs.declared.alloc.Global.{Global}
+use Rattle.std.specs.List.{AllByRecursion, flat_map}
+use Rattle.std.specs.Str.{IsUtf8}
+use Rattle.std.proofs.lemmas.Str.{IsUtf8-string_bytes}
+use Rattle.sig_words.specs.Readings.{Word, Item, Plain, Joined, Apart, Pace, plain_in, plain_words, texts, written, written_behind}
+use Rattle.sig_words.specs.Commands.{HasPlainWords, IsCommand, files_of}
+use Rattle.sig_words.specs.declared.command.Command.{Command}
+use Rattle.sig_words.specs.declared.command.Command.TheVariants.{Check, Print, Tree, Code, Run, Play, Load, Judge, Build, Exec}
+
+first_all : (P : Word → Type 0) (xs ys : List Word) → AllByRecursion P (xs ++ ys) → AllByRecursion P xs
+first_all P [] ys all = tt
+first_all P (x ∷ xs) ys all = (all.0, first_all P xs ys all.1)
+
+rest_all : (P : Word → Type 0) (xs ys : List Word) → AllByRecursion P (xs ++ ys) → AllByRecursion P ys
+rest_all P [] ys all = all
+rest_all P (x ∷ xs) ys all = rest_all P xs ys all.1
+
+joined_all : (P : Word → Type 0) (xs ys : List Word) → AllByRecursion P xs → AllByRecursion P ys → AllByRecursion P (xs ++ ys)
+joined_all P [] ys all more = more
+joined_all P (x ∷ xs) ys all more = (all.0, joined_all P xs ys all.1 more)
+
+in_items : (P : Word → Type 0) (items : List Item) → AllByRecursion P (flat_map written items) → AllByRecursion P (flat_map plain_in items)
+in_items P [] all = tt
+in_items P (Plain word ∷ items) all = (all.0, in_items P items all.1)
+in_items P (Joined option value ∷ items) all = in_items P items all.1
+in_items P (Apart option value ∷ items) all = in_items P items all.1.1
+in_items P (Pace ∷ items) all = in_items P items all.1
+
+-- the words of a reading that are plain
+in_reading : (P : Word → Type 0) (items : List Item) (behind : Option (List Word)) → AllByRecursion P (flat_map written items ++ written_behind behind)
+    → AllByRecursion P (plain_words (record { items = items; behind = behind }))
+in_reading P items None all = joined_all P (flat_map plain_in items) [] (in_items P items (first_all P (flat_map written items) [] all)) tt
+in_reading P items (Some words) all =
+    joined_all P (flat_map plain_in items) words
+    (in_items P items (first_all P (flat_map written items) (written_behind (Some words)) all))
+    (rest_all P (flat_map written items) (written_behind (Some words)) all).1
+
+of_plain : (P : Word → Type 0) (c : Command) (words : List Word) → HasPlainWords c words → AllByRecursion P words → AllByRecursion P (files_of c)
+of_plain P (Check program pace) words is all = subst (AllByRecursion P) is all
+of_plain P (Print program) words is all = subst (AllByRecursion P) is all
+of_plain P (Tree program pace) words is all = subst (AllByRecursion P) is all
+of_plain P (Code program pace) words is all = subst (AllByRecursion P) is all
+of_plain P (Run program flows settings) words is all = subst (AllByRecursion P) is all
+of_plain P (Play program flows events settings) words is all = subst (AllByRecursion P) is all
+of_plain P (Load seed stages settings) words is all = tt
+of_plain P (Judge program trace) words is all = subst (AllByRecursion P) is all
+of_plain P (Build program) words is all = subst (AllByRecursion P) is all
+of_plain P (Exec image flows settings) words is all = subst (AllByRecursion P) is all
+
+pub of_command : (P : Word → Type 0) (words : List Word) (c : Command) → IsCommand words c → AllByRecursion P words → AllByRecursion P (files_of c)
+of_command P words c is all =
+    let behind = subst (AllByRecursion P) is.named all in
+    of_plain P c (plain_words is.reading) is.plain
+    (in_reading P is.reading.items is.reading.behind (subst (AllByRecursion P) is.reads.whole behind.1))
+
+-- strings are text
+pub strings : (words : List (String Global)) → AllByRecursion IsUtf8 (texts words)
+strings [] = tt
+strings (word ∷ words) = (IsUtf8-string_bytes word, strings words)
