@@ -5,3 +5,4 @@ pub mod ConditionLemmas
 pub mod LayerLemmas
 pub mod ReactionLemmas
 pub mod ProposalLemmas
+pub mod AbstractLemmas

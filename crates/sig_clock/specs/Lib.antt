@@ -1,3 +1,4 @@
+pub mod Abstractions
 pub mod ClockFunctions
 pub mod ClockRefusals
 pub mod Clocks

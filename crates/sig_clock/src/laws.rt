@@ -2,6 +2,8 @@
 
 ghost use Rattle.std.specs.Prelude.{◌≡◌, ◌+◌, ◌<◌, ℕ, Bool, true, false, List, length, slice_get, None, Some};
 ghost use Rattle.sig_base.specs.declared.ids.SigId.{SigId};
+ghost use Rattle.sig_base.specs.Traces.{Instant, Range};
+ghost use Rattle.sig_clock.specs.Abstractions.{abstraction_of};
 ghost use Rattle.sig_clock.specs.ClockFunctions.{IsClockFunction, KeepsTo};
 ghost use Rattle.sig_clock.specs.ClockRefusals.{HasClocks, IsFirstPinned, IsMissingRoot, IsUnsolved};
 ghost use Rattle.sig_clock.specs.Clocks.{AreInOrder};
@@ -9,7 +11,16 @@ ghost use Rattle.sig_clock.specs.Layers.{EntersBy, HasLayer, IsDead};
 ghost use Rattle.sig_clock.specs.Reactions.{IsReaction, Reaction, Speaks, is_present, is_silent, status_at};
 ghost use Rattle.sig_clock.specs.SameClocks.{SameClock};
 ghost use Rattle.sig_dd.specs.Diagram.{truth_of, with_truth};
+ghost use Rattle.sig_kernel.specs.KernelTraces.{IsReaction as IsInstant, Memory};
+ghost use Rattle.sig_kernel.specs.Validity.{IsValid};
 ghost use Rattle.sig_kernel.specs.declared.kernel.Kernel.{Kernel};
+
+/// A law: an instant of a valid kernel, whichever whole numbers are its integers and whatever its
+/// delays remember, is an abstract reaction once the values of integers are left out.
+pub fn instants_leave_abstract_reactions()
+    ensures { (range : Range) (kernel : Kernel) (memory : Memory) (instant : Instant) → IsValid kernel
+        → IsInstant range kernel memory instant → IsReaction kernel (abstraction_of kernel.signals instant) }
+{}
 
 /// A law: signals of one clock class are present together in every abstract reaction.
 pub fn signals_of_one_clock_are_present_together()
