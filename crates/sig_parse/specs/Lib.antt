@@ -5,7 +5,9 @@ pub mod Lines
 pub mod Operators
 pub mod Reading
 pub mod Reads
+pub mod Refused
 pub mod Rules
 pub mod Seen
 pub mod Splitting
+pub mod Stalls
 pub mod State
