@@ -32,7 +32,7 @@ definition names right depth at begun {s} {t} {u} {v} fresh r q p =
     }
 
 -- two or more operands
-clock_equation_of : (depth : ℕ) (operands : List Expression) (leaves : List Leaf) → 2 ≤ length operands
+pub clock_equation_of : (depth : ℕ) (operands : List Expression) (leaves : List Leaf) → 2 ≤ length operands
     → Separated (IsExpression both_limits depth) (mark (codes "^=")) operands leaves → sum_by operators operands ≤ 512
     → IsClockEquation both_limits depth operands leaves
 clock_equation_of depth [] leaves two h few = absurd (omega arith)

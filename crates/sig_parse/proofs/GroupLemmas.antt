@@ -48,7 +48,7 @@ group_of Inputs kind items at apart r q = any_group IsPlainItem kind items at r 
 group_of Signals kind items at apart r q = any_group IsItem kind items at r q
 
 -- groups with `;` between them
-ends_plain : (Is : Declared → List Leaf → Type 0) (groups : List Declared) (front : List Leaf) → Separated Is (mark (codes ";")) groups front → AreGroups Is groups front
+pub ends_plain : (Is : Declared → List Leaf → Type 0) (groups : List Declared) (front : List Leaf) → Separated Is (mark (codes ";")) groups front → AreGroups Is groups front
 ends_plain Is [] front h = absurd h
 ends_plain Is (g ∷ gs) front h = (front, [], sym (append-nil front), h, inl refl)
 

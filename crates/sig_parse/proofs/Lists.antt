@@ -95,7 +95,7 @@ pub more_items : {B : Type 0} (n : ℕ) (a b : List B) (y : B) → b ≡ a ++ y 
 more_items n a b y f le = omega (arith, ap length f, length-append a (y ∷ []))
 
 -- things one behind another
-each_more : {A : Type 0} (Is : A → List Leaf → Type 0) (xs : List A) (x : A) (front back : List Leaf) → Each Is xs front → Is x back → Each Is (xs ++ x ∷ []) (front ++ back)
+pub each_more : {A : Type 0} (Is : A → List Leaf → Type 0) (xs : List A) (x : A) (front back : List Leaf) → Each Is xs front → Is x back → Each Is (xs ++ x ∷ []) (front ++ back)
 each_more Is [] x front back e is = (back, [], ap (λ ls. ls ++ back) e ∙ sym (append-nil back), is, refl)
 each_more Is (y ∷ ys) x front back h is = (h.0, h.1 ++ back, ap (λ ls. ls ++ back) h.2 ∙ append_assoc h.0 h.1 back, h.3, each_more Is ys x h.1 back h.4 is)
 
@@ -110,3 +110,8 @@ pub subst_more : {A : Type 0} (Is : A → List Leaf → Type 0) (separator : Ter
     → Reads (Separated Is separator old) 0 s t → Reads (IsLeaf separator at) 0 t u → Reads (Is x) 0 u v → Reads (Separated Is separator new) 0 s v
 subst_more Is separator old new x at {s} {v = v} e r q p =
     subst (λ xs. Reads (Separated Is separator xs) 0 s v) (sym e) (reads_more Is separator old x 0 0 0 at refl r q p)
+
+-- a list of two has one
+pub some_mapped : {A B : Type 0} (f : B → A) (xs : List B) → 2 ≤ length xs → 1 ≤ length (map f xs)
+some_mapped f [] le = absurd (omega arith)
+some_mapped f (x ∷ xs) le = omega arith

@@ -21,7 +21,7 @@ use Rattle.sig_parse.specs.Reads.{Covers, IsLeaf}
 use Rattle.sig_parse.proofs.Covering.{Both, and_then, seen_as, between_marks}
 
 -- declarations, whose first is a group or a process
-group_first : (depth : ℕ) (models : List ProcessModel) (g : Declared) (groups : List Declared) (front back : List Leaf)
+pub group_first : (depth : ℕ) (models : List ProcessModel) (g : Declared) (groups : List Declared) (front back : List Leaf)
     → IsLocalGroup g front → AreDeclared depth models groups back → AreDeclared depth models (g ∷ groups) (front ++ back)
 group_first depth [] g groups front back is h = (front, back, refl, is, h)
 group_first depth (m ∷ ms) g groups front back is (before, after, first, middle, last, eg, el, each, inner, rest) = (
@@ -37,7 +37,7 @@ group_first depth (m ∷ ms) g groups front back is (before, after, first, middl
   rest,
 )
 
-process_first : (depth : ℕ) (m : ProcessModel) (models : List ProcessModel) (groups : List Declared) (front back : List Leaf)
+pub process_first : (depth : ℕ) (m : ProcessModel) (models : List ProcessModel) (groups : List Declared) (front back : List Leaf)
     → IsInnerProcess depth m front → AreDeclared depth models groups back → AreDeclared depth (m ∷ models) groups (front ++ back)
 process_first depth m models groups front back is h = ([], groups, [], front, back, refl, refl, refl, is, h)
 

@@ -7,7 +7,7 @@ use Rattle.sig_base.specs.declared.span.Span.{Span}
 use Rattle.sig_tree.specs.declared.expr.Name.{Name}
 use Rattle.sig_tree.specs.Limits.{both_limits, MayStandInside}
 use Rattle.sig_tree.specs.Repeated.{Between, Each}
-use Rattle.sig_tree.specs.Processes.{IsPlainItem, IsItem, IsGroup, IsParam, IsLocalGroup, IsModel}
+use Rattle.sig_tree.specs.Processes.{IsPlainItem, IsItem, IsGroup, IsParam, IsInterface, IsLocalGroup, IsModel}
 use Rattle.sig_parse.specs.declared.declaration.Declares.{Declares}
 use Rattle.sig_parse.specs.declared.declaration.Declares.TheVariants.{Parameters, Inputs, Signals}
 
@@ -43,3 +43,13 @@ AreDeclared depth (model ∷ models) groups leaves = (before after : List Declar
 abbrev pub AreBehindWhere : ℕ → List ProcessModel → List Declared → List Leaf → Type 0
 AreBehindWhere depth models groups leaves = ((groups ≡ []) × (models ≡ []) × (leaves ≡ []))
     ⊎ Between (word (codes "where")) (word (codes "end")) (AreDeclared depth models groups) leaves
+
+-- inputs and outputs, and inner processes and groups, as pairs
+abbrev pub HasSides : List Declared × List Declared → List Leaf → Type 0
+HasSides sides = IsInterface sides.0 sides.1
+
+abbrev pub HasDeclared : ℕ → List ProcessModel × List Declared → List Leaf → Type 0
+HasDeclared depth declared = AreDeclared depth declared.0 declared.1
+
+abbrev pub HasBehindWhere : ℕ → List ProcessModel × List Declared → List Leaf → Type 0
+HasBehindWhere depth declared = AreBehindWhere depth declared.0 declared.1

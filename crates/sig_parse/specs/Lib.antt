@@ -7,7 +7,9 @@ pub mod Operators
 pub mod Reading
 pub mod Reads
 pub mod Refusals
+pub mod Refused
 pub mod Rules
 pub mod Seen
 pub mod Splitting
+pub mod Stalls
 pub mod State

@@ -2,8 +2,8 @@
 use Rattle.std.specs.Prelude.{ℕ, ◌++◌, ◌==◌, List, codes, if◌then◌else◌}
 use Rattle.std.specs.Fmt.{decimal}
 use Rattle.sig_base.specs.Lines.{refusal_at, refusal}
-use Rattle.sig_parse.specs.declared.refusal.ParseAnswer.{ParseAnswer}
-use Rattle.sig_parse.specs.declared.refusal.ParseAnswer.TheVariants.{Syntax, Nesting, OutOfMemory}
+use Rattle.sig_parse.specs.declared.parse_answer.ParseAnswer.{ParseAnswer}
+use Rattle.sig_parse.specs.declared.parse_answer.ParseAnswer.TheVariants.{Syntax, Nesting, OutOfMemory}
 
 abbrev pub answer_line : ParseAnswer → List ℕ
 answer_line (Syntax at) = refusal_at at (codes "syntax")

@@ -1,25 +1,27 @@
 //! Definitions, clock equations and bodies.
 
-ghost use Rattle.std.specs.Prelude.{◌≡◌, codes, map, IfOk};
+ghost use Rattle.std.specs.Prelude.{◌≡◌, codes, map, IfOk, IfErr};
 ghost use Rattle.sig_tree.specs.Syntax.{expression_of, equations_of};
 ghost use Rattle.sig_tree.specs.Terminals.{mark};
 ghost use Rattle.sig_tree.specs.Limits.{both_limits};
 ghost use Rattle.sig_tree.specs.Repeated.{Listed};
 ghost use Rattle.sig_tree.specs.Equations.{IsClockEquation, IsBody};
 ghost use Rattle.sig_parse.specs.Reads.{Covers};
+ghost use Rattle.sig_parse.specs.Stalls.{IsOfText, Some, Halts};
 
 use crate::ahead::begins_definition;
 use crate::expression::expression;
 use crate::keyword::Keyword;
 use crate::parser::{Parser, inside};
-use crate::refusal::ParseAnswer;
+use crate::refusal::Refusal;
 use crate::sides::{left_side, right_side};
 use sig_tree::{Body, Expr};
 use std::alloc::Global;
 
 /// A definition: a left side, `:=` and a right side.
-fn definition(alloc: Global, parser: &mut Parser, depth: u32) -> Result<Body, ParseAnswer>
-    ensures { IfOk result (λ body. Covers (IsBody both_limits (equations_of body) depth) parser.old parser.new) }
+fn definition(alloc: Global, parser: &mut Parser, depth: u32) -> Result<Body, Refusal>
+    ensures reads { IfOk result (λ body. Covers (IsBody both_limits (equations_of body) depth) parser.old parser.new) }
+    ensures viable { IfErr result (λ why. IsOfText why → Halts (Some (λ body leaves. IsBody both_limits body depth leaves)) parser.old parser.new) }
 {
     parser.begin_equation();
     let names = left_side(alloc, parser, depth)?;
@@ -29,17 +31,19 @@ fn definition(alloc: Global, parser: &mut Parser, depth: u32) -> Result<Body, Pa
 }
 
 /// A clock equation: two or more expressions with `^=` between them.
-fn clock_equation(alloc: Global, parser: &mut Parser, depth: u32) -> Result<Body, ParseAnswer>
-    ensures { IfOk result (λ body. Covers (IsBody both_limits (equations_of body) depth) parser.old parser.new) }
+fn clock_equation(alloc: Global, parser: &mut Parser, depth: u32) -> Result<Body, Refusal>
+    ensures reads { IfOk result (λ body. Covers (IsBody both_limits (equations_of body) depth) parser.old parser.new) }
+    ensures viable { IfErr result (λ why. IsOfText why → Halts (Some (λ body leaves. IsBody both_limits body depth leaves)) parser.old parser.new) }
 {
     parser.begin_equation();
     Ok(Body::Same(operands(alloc, parser, depth)?))
 }
 
 /// The operands of a clock equation.
-fn operands(alloc: Global, parser: &mut Parser, depth: u32) -> Result<Vec<Expr>, ParseAnswer>
+fn operands(alloc: Global, parser: &mut Parser, depth: u32) -> Result<Vec<Expr>, Refusal>
     requires { parser.old.operators ≡ 0 }
-    ensures { IfOk result (λ operands. Covers (IsClockEquation both_limits depth (map expression_of operands.items)) parser.old parser.new) }
+    ensures reads { IfOk result (λ operands. Covers (IsClockEquation both_limits depth (map expression_of operands.items)) parser.old parser.new) }
+    ensures viable { IfErr result (λ why. IsOfText why → Halts (Some (IsClockEquation both_limits depth)) parser.old parser.new) }
 {
     let mut all = Vec::new(alloc);
     all.push(expression(alloc, parser, depth)?)?;
@@ -55,8 +59,9 @@ fn operands(alloc: Global, parser: &mut Parser, depth: u32) -> Result<Vec<Expr>,
 
 /// A body, inside so many constructs.
 #[cycle(body)]
-pub fn body(alloc: Global, parser: &mut Parser, depth: u32) -> Result<Body, ParseAnswer>
-    ensures { IfOk result (λ body. Covers (IsBody both_limits (equations_of body) depth) parser.old parser.new) }
+pub fn body(alloc: Global, parser: &mut Parser, depth: u32) -> Result<Body, Refusal>
+    ensures reads { IfOk result (λ body. Covers (IsBody both_limits (equations_of body) depth) parser.old parser.new) }
+    ensures viable { IfErr result (λ why. IsOfText why → Halts (Some (λ body leaves. IsBody both_limits body depth leaves)) parser.old parser.new) }
 {
     if parser.is(Keyword::BodyOpen) {
         together(alloc, parser, depth)
@@ -69,8 +74,9 @@ pub fn body(alloc: Global, parser: &mut Parser, depth: u32) -> Result<Body, Pars
 
 /// Bodies between `(|` and `|)`.
 #[cycle(body)]
-fn together(alloc: Global, parser: &mut Parser, depth: u32) -> Result<Body, ParseAnswer>
-    ensures { IfOk result (λ body. Covers (IsBody both_limits (equations_of body) depth) parser.old parser.new) }
+fn together(alloc: Global, parser: &mut Parser, depth: u32) -> Result<Body, Refusal>
+    ensures reads { IfOk result (λ body. Covers (IsBody both_limits (equations_of body) depth) parser.old parser.new) }
+    ensures viable { IfErr result (λ why. IsOfText why → Halts (Some (λ body leaves. IsBody both_limits body depth leaves)) parser.old parser.new) }
 {
     let inner = inside(parser, depth)?;
     let _opened = parser.expect(Keyword::BodyOpen)?;
@@ -81,8 +87,9 @@ fn together(alloc: Global, parser: &mut Parser, depth: u32) -> Result<Body, Pars
 
 /// Bodies with `|` between them, up to `|)`.
 #[cycle(body)]
-fn bodies(alloc: Global, parser: &mut Parser, depth: u32) -> Result<Vec<Body>, ParseAnswer>
-    ensures { IfOk result (λ bodies. Covers (Listed (λ body leaves. IsBody both_limits body depth leaves) (mark (codes "|")) (map equations_of bodies.items)) parser.old parser.new) }
+fn bodies(alloc: Global, parser: &mut Parser, depth: u32) -> Result<Vec<Body>, Refusal>
+    ensures reads { IfOk result (λ bodies. Covers (Listed (λ body leaves. IsBody both_limits body depth leaves) (mark (codes "|")) (map equations_of bodies.items)) parser.old parser.new) }
+    ensures viable { IfErr result (λ why. IsOfText why → Halts (Some (Listed (λ body leaves. IsBody both_limits body depth leaves) (mark (codes "|")))) parser.old parser.new) }
 {
     let mut all = Vec::new(alloc);
     if parser.is(Keyword::BodyClose) {

@@ -1,6 +1,6 @@
 //! Declarations.
 
-ghost use Rattle.std.specs.Prelude.{◌≡◌, ◌≢◌, codes, map, IfOk, OnOk};
+ghost use Rattle.std.specs.Prelude.{◌≡◌, ◌≢◌, codes, map, IfOk, OnOk, IfErr, OnErr};
 ghost use Rattle.sig_base.specs.declared.ids.Kind.TheVariants.{Event};
 ghost use Rattle.sig_tree.specs.Syntax.{declared_of};
 ghost use Rattle.sig_tree.specs.Terminals.{kind_word, mark};
@@ -8,11 +8,12 @@ ghost use Rattle.sig_tree.specs.Repeated.{Separated};
 ghost use Rattle.sig_tree.specs.Processes.{AreGroups};
 ghost use Rattle.sig_parse.specs.Declarations.{IsItemOf, IsGroupOf};
 ghost use Rattle.sig_parse.specs.Reads.{Reads, Shorter, IsLeaf};
+ghost use Rattle.sig_parse.specs.Stalls.{IsOfText, Plain, Stalls};
 
 use crate::constant::optional_init;
 use crate::keyword::Keyword;
 use crate::parser::Parser;
-use crate::refusal::ParseAnswer;
+use crate::refusal::Refusal;
 use sig_base::{Kind, Span};
 use sig_tree::{Group, Item};
 use std::alloc::Global;
@@ -26,10 +27,11 @@ pub enum Declares {
 }
 
 /// The kind with which a group begins.
-fn kind(parser: &mut Parser, declares: Declares) -> Result<(Kind, Span), ParseAnswer>
+fn kind(parser: &mut Parser, declares: Declares) -> Result<(Kind, Span), Refusal>
     ensures reads { IfOk result (λ found. Reads (IsLeaf (kind_word found.0) found.1) 0 parser.old parser.new) }
     ensures no_event { IfOk result (λ found. declares ≡ Declares.Parameters → found.0 ≢ Event) }
     ensures shorter { OnOk result (Shorter parser.old parser.new) }
+    ensures stays { OnErr result (parser.new ≡ parser.old) }
 {
     if let Some(at) = parser.take(Keyword::Integer) {
         return Ok((Kind::Integer, at));
@@ -38,14 +40,15 @@ fn kind(parser: &mut Parser, declares: Declares) -> Result<(Kind, Span), ParseAn
         return Ok((Kind::Boolean, at));
     }
     if declares == Declares::Parameters {
-        return Err(parser.syntax());
+        return Err(Refusal::Syntax);
     }
     Ok((Kind::Event, parser.expect(Keyword::Event)?))
 }
 
 /// A name, with its init where it may have one and has.
-fn item(alloc: Global, parser: &mut Parser, declares: Declares) -> Result<Item, ParseAnswer>
-    ensures { IfOk result (λ item. Reads (IsItemOf declares item) 0 parser.old parser.new) }
+fn item(alloc: Global, parser: &mut Parser, declares: Declares) -> Result<Item, Refusal>
+    ensures reads { IfOk result (λ item. Reads (IsItemOf declares item) 0 parser.old parser.new) }
+    ensures viable { IfErr result (λ why. IsOfText why → Stalls (Plain (IsItemOf declares)) parser.old parser.new) }
 {
     let name = parser.name(alloc)?;
     if declares == Declares::Signals {
@@ -57,8 +60,9 @@ fn item(alloc: Global, parser: &mut Parser, declares: Declares) -> Result<Item, 
 }
 
 /// Items with `,` between them.
-fn items(alloc: Global, parser: &mut Parser, declares: Declares) -> Result<Vec<Item>, ParseAnswer>
-    ensures { IfOk result (λ items. Reads (Separated (IsItemOf declares) (mark (codes ",")) items.items) 0 parser.old parser.new) }
+fn items(alloc: Global, parser: &mut Parser, declares: Declares) -> Result<Vec<Item>, Refusal>
+    ensures reads { IfOk result (λ items. Reads (Separated (IsItemOf declares) (mark (codes ",")) items.items) 0 parser.old parser.new) }
+    ensures viable { IfErr result (λ why. IsOfText why → Stalls (Plain (Separated (IsItemOf declares) (mark (codes ",")))) parser.old parser.new) }
 {
     let mut all = Vec::new(alloc);
     all.push(item(alloc, parser, declares)?)?;
@@ -71,9 +75,10 @@ fn items(alloc: Global, parser: &mut Parser, declares: Declares) -> Result<Vec<I
 }
 
 /// A group: its kind and its items.
-pub fn group(alloc: Global, parser: &mut Parser, declares: Declares) -> Result<Group, ParseAnswer>
+pub fn group(alloc: Global, parser: &mut Parser, declares: Declares) -> Result<Group, Refusal>
     ensures reads { IfOk result (λ group. Reads (IsGroupOf declares (declared_of group)) 0 parser.old parser.new) }
     ensures shorter { OnOk result (Shorter parser.old parser.new) }
+    ensures viable { IfErr result (λ why. IsOfText why → Stalls (Plain (IsGroupOf declares)) parser.old parser.new) }
 {
     let (kind, _at) = kind(parser, declares)?;
     let items = items(alloc, parser, declares)?;
@@ -86,8 +91,9 @@ pub fn groups(
     parser: &mut Parser,
     declares: Declares,
     closing: Keyword,
-) -> Result<Vec<Group>, ParseAnswer>
-    ensures { IfOk result (λ groups. Reads (AreGroups (IsGroupOf declares) (map declared_of groups.items)) 0 parser.old parser.new) }
+) -> Result<Vec<Group>, Refusal>
+    ensures reads { IfOk result (λ groups. Reads (AreGroups (IsGroupOf declares) (map declared_of groups.items)) 0 parser.old parser.new) }
+    ensures viable { IfErr result (λ why. IsOfText why → Stalls (Plain (AreGroups (IsGroupOf declares))) parser.old parser.new) }
 {
     let mut all = Vec::new(alloc);
     if parser.is(closing) {

@@ -1,6 +1,6 @@
 //! Expressions, by the levels of their operators.
 
-ghost use Rattle.std.specs.Prelude.{◌≡◌, ◌<◌, ℕ, suc, IfOk, OnOk, MatchOption, IfSome};
+ghost use Rattle.std.specs.Prelude.{◌≡◌, ◌<◌, ℕ, suc, IfOk, OnOk, MatchOption, IfSome, IfErr, OnErr};
 ghost use Rattle.sig_tree.specs.Syntax.{expression_of};
 ghost use Rattle.sig_tree.specs.Terminals.{unary_terminal};
 ghost use Rattle.sig_tree.specs.Levels.{default_level, primary_level, unary_level};
@@ -8,34 +8,32 @@ ghost use Rattle.sig_tree.specs.Limits.{both_limits, operators};
 ghost use Rattle.sig_tree.specs.Expressions.{IsAtLevel, IsExpression};
 ghost use Rattle.sig_parse.specs.Operators.{level_number, first_level, infix_terminal, IsInfix, Completes};
 ghost use Rattle.sig_parse.specs.Reads.{Reads, Shorter, IsLeaf};
+ghost use Rattle.sig_parse.specs.Stalls.{IsOfText, Counted, Stalls, StallsBehind};
 
 use crate::constant::{init, optional_init};
 use crate::keyword::Keyword;
 use crate::operator::{Infix, Level, infix_of, operand_level, prefix_of, right_level, tighter};
 use crate::parser::{Parser, inside};
-use crate::refusal::ParseAnswer;
+use crate::refusal::Refusal;
 use sig_base::Span;
 use sig_tree::{Expr, UnOp};
 use std::alloc::Global;
 
 /// An expression, inside so many constructs.
-pub fn expression(alloc: Global, parser: &mut Parser, depth: u32) -> Result<Expr, ParseAnswer>
+pub fn expression(alloc: Global, parser: &mut Parser, depth: u32) -> Result<Expr, Refusal>
     ensures reads { IfOk result (λ e. Reads (IsExpression both_limits depth (expression_of e)) (operators (expression_of e)) parser.old parser.new) }
     ensures shorter { OnOk result (Shorter parser.old parser.new) }
+    ensures viable { IfErr result (λ why. IsOfText why → Stalls (Counted (λ e. IsExpression both_limits depth e) operators) parser.old parser.new) }
 {
     at_level(alloc, parser, Level::Default, depth)
 }
 
 /// An expression of a level: its first operand, and operators of the level with what they take.
 #[cycle(expression)]
-fn at_level(
-    alloc: Global,
-    parser: &mut Parser,
-    level: Level,
-    depth: u32,
-) -> Result<Expr, ParseAnswer>
+fn at_level(alloc: Global, parser: &mut Parser, level: Level, depth: u32) -> Result<Expr, Refusal>
     ensures reads { IfOk result (λ e. Reads (IsAtLevel both_limits (level_number level) depth (expression_of e)) (operators (expression_of e)) parser.old parser.new) }
     ensures shorter { OnOk result (Shorter parser.old parser.new) }
+    ensures viable { IfErr result (λ why. IsOfText why → Stalls (Counted (λ e. IsAtLevel both_limits (level_number level) depth e) operators) parser.old parser.new) }
 {
     let mut left = operand(alloc, parser, level, depth)?;
     loop {
@@ -51,17 +49,18 @@ fn at_level(
 }
 
 /// Behind a relation stands no relation.
-fn no_relation(parser: &Parser) -> Result<(), ParseAnswer> {
+fn no_relation(parser: &Parser) -> Result<(), Refusal> {
     match parser.keyword() {
-        Some(keyword) if infix_of(Level::Relation, keyword).is_some() => Err(parser.syntax()),
+        Some(keyword) if infix_of(Level::Relation, keyword).is_some() => Err(Refusal::Syntax),
         _ => Ok(()),
     }
 }
 
 /// The operator of a level that is next, behind an operand.
-fn infix(parser: &mut Parser, level: Level) -> Result<Option<(Infix, Span)>, ParseAnswer>
-    ensures { IfOk result (λ found. MatchOption found (parser.new ≡ parser.old) (λ f. IsInfix f.0 level (infix_terminal f.0)
+fn infix(parser: &mut Parser, level: Level) -> Result<Option<(Infix, Span)>, Refusal>
+    ensures reads { IfOk result (λ found. MatchOption found (parser.new ≡ parser.old) (λ f. IsInfix f.0 level (infix_terminal f.0)
         × Reads (IsLeaf (infix_terminal f.0) f.1) 1 parser.old parser.new × Shorter parser.old parser.new)) }
+    ensures stays { OnErr result (parser.new ≡ parser.old) }
 {
     let Some(keyword) = parser.keyword() else {
         return Ok(None);
@@ -77,9 +76,10 @@ fn prefix(
     parser: &mut Parser,
     level: Level,
     depth: u32,
-) -> Result<Option<(UnOp, Span, u32)>, ParseAnswer>
-    ensures { IfOk result (λ found. MatchOption found (parser.new ≡ parser.old) (λ f. (unary_level f.0 ≡ level_number level) × (depth < 64) × (f.2 ≡ suc depth)
+) -> Result<Option<(UnOp, Span, u32)>, Refusal>
+    ensures reads { IfOk result (λ found. MatchOption found (parser.new ≡ parser.old) (λ f. (unary_level f.0 ≡ level_number level) × (depth < 64) × (f.2 ≡ suc depth)
         × Reads (IsLeaf (unary_terminal f.0) f.1) 1 parser.old parser.new × Shorter parser.old parser.new)) }
+    ensures stays { OnErr result (parser.new ≡ parser.old) }
 {
     let Some(keyword) = parser.keyword() else {
         return Ok(None);
@@ -95,14 +95,10 @@ fn prefix(
 
 /// What stands left of the operators of a level.
 #[cycle(expression)]
-fn operand(
-    alloc: Global,
-    parser: &mut Parser,
-    level: Level,
-    depth: u32,
-) -> Result<Expr, ParseAnswer>
+fn operand(alloc: Global, parser: &mut Parser, level: Level, depth: u32) -> Result<Expr, Refusal>
     ensures reads { IfOk result (λ e. Reads (IsAtLevel both_limits (first_level level) depth (expression_of e)) (operators (expression_of e)) parser.old parser.new) }
     ensures shorter { OnOk result (Shorter parser.old parser.new) }
+    ensures viable { IfErr result (λ why. IsOfText why → Stalls (Counted (λ e. IsAtLevel both_limits (first_level level) depth e) operators) parser.old parser.new) }
 {
     if let Some((op, at, inner)) = prefix(parser, level, depth)? {
         let e = at_level(alloc, parser, operand_level(op), inner)?;
@@ -123,8 +119,9 @@ fn completed(
     op: Infix,
     at: Span,
     depth: u32,
-) -> Result<Expr, ParseAnswer>
+) -> Result<Expr, Refusal>
     ensures completes { IfOk result (λ e. Completes depth (expression_of left) op at (expression_of e) parser.old parser.new) }
+    ensures viable { IfErr result (λ why. IsOfText why → StallsBehind depth (expression_of left) op at parser.old parser.new) }
 {
     match op {
         Infix::Binary(op) => {
@@ -148,9 +145,10 @@ fn completed(
 
 /// A name, a number, a truth, or an expression in parentheses.
 #[cycle(expression)]
-fn primary(alloc: Global, parser: &mut Parser, depth: u32) -> Result<Expr, ParseAnswer>
+fn primary(alloc: Global, parser: &mut Parser, depth: u32) -> Result<Expr, Refusal>
     ensures reads { IfOk result (λ e. Reads (IsAtLevel both_limits primary_level depth (expression_of e)) (operators (expression_of e)) parser.old parser.new) }
     ensures shorter { OnOk result (Shorter parser.old parser.new) }
+    ensures viable { IfErr result (λ why. IsOfText why → Stalls (Counted (λ e. IsAtLevel both_limits primary_level depth e) operators) parser.old parser.new) }
 {
     if parser.is(Keyword::Open) {
         enclosed(alloc, parser, depth)
@@ -161,9 +159,10 @@ fn primary(alloc: Global, parser: &mut Parser, depth: u32) -> Result<Expr, Parse
 
 /// An expression in parentheses.
 #[cycle(expression)]
-fn enclosed(alloc: Global, parser: &mut Parser, depth: u32) -> Result<Expr, ParseAnswer>
+fn enclosed(alloc: Global, parser: &mut Parser, depth: u32) -> Result<Expr, Refusal>
     ensures reads { IfOk result (λ e. Reads (IsAtLevel both_limits primary_level depth (expression_of e)) (operators (expression_of e)) parser.old parser.new) }
     ensures shorter { OnOk result (Shorter parser.old parser.new) }
+    ensures viable { IfErr result (λ why. IsOfText why → Stalls (Counted (λ e. IsAtLevel both_limits primary_level depth e) operators) parser.old parser.new) }
 {
     let inner = inside(parser, depth)?;
     parser.expect(Keyword::Open)?;
@@ -173,9 +172,10 @@ fn enclosed(alloc: Global, parser: &mut Parser, depth: u32) -> Result<Expr, Pars
 }
 
 /// A name, a number or a truth.
-fn atom(alloc: Global, parser: &mut Parser) -> Result<Expr, ParseAnswer>
+fn atom(alloc: Global, parser: &mut Parser) -> Result<Expr, Refusal>
     ensures reads { IfOk result (λ e. (depth : ℕ) → Reads (IsAtLevel both_limits primary_level depth (expression_of e)) (operators (expression_of e)) parser.old parser.new) }
     ensures shorter { OnOk result (Shorter parser.old parser.new) }
+    ensures stays { IfErr result (λ why. IsOfText why → parser.new ≡ parser.old) }
 {
     if let Some((number, at)) = parser.take_number() {
         return Ok(Expr::Int(number.value, at));

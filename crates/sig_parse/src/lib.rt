@@ -19,6 +19,7 @@ mod leaf;
 mod names;
 mod natural;
 mod operator;
+mod parse_answer;
 mod parser;
 mod places;
 mod pragma;
@@ -30,8 +31,8 @@ mod sides;
 mod words;
 
 pub use answer::SmallAnswer;
+pub use parse_answer::ParseAnswer;
 pub use program::parse;
-pub use refusal::ParseAnswer;
 use sig_base::limits::PROGRAM_BYTES;
 use sig_plan::Straight;
 use std::alloc::Global;

@@ -1,30 +1,29 @@
 //! Where the parser stands in the leaves of a text.
 
-ghost use Rattle.std.specs.Prelude.{◌≡◌, ◌<◌, suc, true, [], ◌∷◌, codes, map, IfOk, OnOk, MatchOption};
+ghost use Rattle.std.specs.Prelude.{◌≡◌, ◌<◌, suc, true, [], ◌∷◌, codes, map, IfOk, IfErr, OnOk, MatchOption, OnErr, length};
 ghost use Rattle.sig_tree.specs.Terminals.{name, number, label};
 ghost use Rattle.sig_tree.specs.Equations.{IsName};
 ghost use Rattle.sig_tree.specs.Expressions.{IsOptionalOne};
 ghost use Rattle.sig_parse.specs.Keywords.{terminal_of};
 ghost use Rattle.sig_parse.specs.Seen.{leaf_seen};
 ghost use Rattle.sig_parse.specs.Reads.{Reads, Shorter, IsLeaf};
+ghost use Rattle.sig_parse.specs.Stalls.{IsOfText};
 
 use crate::keyword::{Keyword, is_same};
 use crate::leaf::{Leaf, Terminal};
 use crate::natural::Natural;
-use crate::refusal::ParseAnswer;
+use crate::refusal::Refusal;
 use sig_base::limits::{NESTING, OPERATORS};
 use sig_base::{Span, Text};
 use sig_tree::Name;
 use std::alloc::Global;
 use std::marker::Model;
 
-/// The leaves, the index of the next one, the place of the text's last token, and the operators of
-/// the equation so far.
+/// The leaves, the index of the next one, and the operators of the equation so far.
 #[derive(Drop)]
 pub struct Parser<'l, 'a> {
     leaves: &'l [Leaf<'a>],
     next: usize,
-    last: Span,
     operators: u32,
 }
 
@@ -40,25 +39,24 @@ impl<'l, 'a> Model for Parser<'l, 'a> {
 
 /// The construct that begins with the next token stands inside so many others: how deep its inside
 /// stands, or its refusal.
-pub fn inside(parser: &Parser, depth: u32) -> Result<u32, ParseAnswer>
+pub fn inside(parser: &Parser, depth: u32) -> Result<u32, Refusal>
     ensures { IfOk result (λ inner. (depth < 64) × (inner ≡ suc depth)) }
 {
     if depth < NESTING {
         Ok(depth + 1)
     } else {
-        Err(ParseAnswer::Nesting(NESTING, parser.place()))
+        Err(Refusal::Nesting)
     }
 }
 
 impl<'l, 'a> Parser<'l, 'a> {
-    /// Before the first of these leaves, of a text whose last token stands at `last`.
-    pub fn new(leaves: &'l [Leaf<'a>], last: Span) -> Parser<'l, 'a>
+    /// Before the first of these leaves.
+    pub fn new(leaves: &'l [Leaf<'a>]) -> Parser<'l, 'a>
         ensures { result ≡ record { leaves = map leaf_seen leaves.now; operators = 0 } }
     {
         Parser {
             leaves,
             next: 0,
-            last,
             operators: 0,
         }
     }
@@ -70,21 +68,17 @@ impl<'l, 'a> Parser<'l, 'a> {
         self.leaves.len() <= self.next
     }
 
-    /// The place of the next token.
-    pub fn place(&self) -> Span {
-        match self.leaves.get(self.next) {
-            Some(leaf) => leaf.at,
-            None => self.last,
-        }
-    }
-
-    /// The refusal of the next token.
-    pub fn syntax(&self) -> ParseAnswer {
-        ParseAnswer::Syntax(self.place())
+    /// How many tokens are left.
+    pub fn left(&self) -> usize
+        ensures { result ≡ length self.now.leaves }
+    {
+        self.ahead().len()
     }
 
     /// The next terminals.
-    pub fn ahead(&self) -> &[Leaf<'a>] {
+    pub fn ahead(&self) -> &[Leaf<'a>]
+        ensures { map leaf_seen result.now ≡ self.now.leaves }
+    {
         if self.next <= self.leaves.len() {
             &self.leaves[self.next..]
         } else {
@@ -137,13 +131,14 @@ impl<'l, 'a> Parser<'l, 'a> {
     }
 
     /// Passes the name `RunOn`, which must be next.
-    pub fn run_on(&mut self) -> Result<Span, ParseAnswer>
+    pub fn run_on(&mut self) -> Result<Span, Refusal>
         ensures reads { IfOk result (λ at. Reads (IsLeaf (name (codes "RunOn")) at) 0 self.old self.new) }
         ensures shorter { OnOk result (Shorter self.old self.new) }
+        ensures stays { OnErr result (self.new ≡ self.old) }
     {
         match self.take_run_on() {
             Some(at) => Ok(at),
-            None => Err(self.syntax()),
+            None => Err(Refusal::Syntax),
         }
     }
 
@@ -207,52 +202,56 @@ impl<'l, 'a> Parser<'l, 'a> {
     }
 
     /// Passes this keyword, which must be next.
-    pub fn expect(&mut self, keyword: Keyword) -> Result<Span, ParseAnswer>
+    pub fn expect(&mut self, keyword: Keyword) -> Result<Span, Refusal>
         ensures reads { IfOk result (λ at. Reads (IsLeaf (terminal_of keyword) at) 0 self.old self.new) }
         ensures shorter { OnOk result (Shorter self.old self.new) }
+        ensures stays { OnErr result (self.new ≡ self.old) }
     {
         match self.take(keyword) {
             Some(at) => Ok(at),
-            None => Err(self.syntax()),
+            None => Err(Refusal::Syntax),
         }
     }
 
     /// Passes a name, which must be next.
-    pub fn name(&mut self, alloc: Global) -> Result<Name, ParseAnswer>
+    pub fn name(&mut self, alloc: Global) -> Result<Name, Refusal>
         ensures reads { IfOk result (λ name. Reads (IsName name) 0 self.old self.new) }
         ensures shorter { OnOk result (Shorter self.old self.new) }
+        ensures stays { IfErr result (λ why. IsOfText why → self.new ≡ self.old) }
     {
         match self.take_name() {
             Some((text, at)) => Ok(Name {
                 text: Text::from_bytes(alloc, text)?,
                 at,
             }),
-            None => Err(self.syntax()),
+            None => Err(Refusal::Syntax),
         }
     }
 
     /// Passes a label, which must be next.
-    pub fn label(&mut self, alloc: Global) -> Result<(Text, Span), ParseAnswer>
+    pub fn label(&mut self, alloc: Global) -> Result<(Text, Span), Refusal>
         ensures reads { IfOk result (λ found. Reads (IsLeaf (label found.0) found.1) 0 self.old self.new) }
         ensures shorter { OnOk result (Shorter self.old self.new) }
+        ensures stays { IfErr result (λ why. IsOfText why → self.new ≡ self.old) }
     {
         match self.take_label() {
             Some((text, at)) => Ok((Text::from_bytes(alloc, text)?, at)),
-            None => Err(self.syntax()),
+            None => Err(Refusal::Syntax),
         }
     }
 
     /// Passes this keyword, which is next and an operator.
-    pub fn operator(&mut self, keyword: Keyword) -> Result<Span, ParseAnswer>
+    pub fn operator(&mut self, keyword: Keyword) -> Result<Span, Refusal>
         ensures reads { IfOk result (λ at. Reads (IsLeaf (terminal_of keyword) at) 1 self.old self.new) }
         ensures shorter { OnOk result (Shorter self.old self.new) }
+        ensures stays { OnErr result (self.new ≡ self.old) }
     {
-        if self.operators < OPERATORS {
-            self.operators += 1;
-            self.expect(keyword)
-        } else {
-            Err(ParseAnswer::Nesting(OPERATORS, self.place()))
+        if self.operators >= OPERATORS {
+            return Err(Refusal::Operators);
         }
+        let at = self.expect(keyword)?;
+        self.operators += 1;
+        Ok(at)
     }
 
     /// The same place, before an equation.

@@ -1,26 +1,28 @@
 //! Processes.
 
-ghost use Rattle.std.specs.Prelude.{◌≡◌, ◌∷◌, [], codes, map, IfOk, OnOk};
+ghost use Rattle.std.specs.Prelude.{◌≡◌, ◌∷◌, [], codes, map, IfOk, OnOk, IfErr};
 ghost use Rattle.sig_base.specs.declared.span.Span.{Span};
 ghost use Rattle.sig_tree.specs.Syntax.{declared_of, model_of};
 ghost use Rattle.sig_tree.specs.Terminals.{leaf, name_leaf, word, mark};
 ghost use Rattle.sig_tree.specs.Limits.{both_limits};
 ghost use Rattle.sig_tree.specs.Processes.{AreParams, IsInterface, IsLocalGroup, IsModel};
-ghost use Rattle.sig_parse.specs.Declarations.{IsTitle, AreDeclared, AreBehindWhere, IsInnerProcess};
+ghost use Rattle.sig_parse.specs.Declarations.{IsTitle, HasSides, HasDeclared, HasBehindWhere, AreDeclared, AreBehindWhere, IsInnerProcess};
 ghost use Rattle.sig_parse.specs.Reads.{Reads, Covers, Shorter};
+ghost use Rattle.sig_parse.specs.Stalls.{IsOfText, Plain, Some, Stalls, Halts};
 
 use crate::bodies::body;
 use crate::declaration::{Declares, group, groups};
 use crate::keyword::Keyword;
 use crate::parser::{Parser, inside};
 use crate::pragma::pragmas;
-use crate::refusal::ParseAnswer;
+use crate::refusal::Refusal;
 use sig_tree::{Group, Name, Process};
 use std::alloc::Global;
 
 /// Parameters in braces, where `{` is next.
-fn params(alloc: Global, parser: &mut Parser) -> Result<Vec<Group>, ParseAnswer>
-    ensures { IfOk result (λ params. Reads (AreParams (map declared_of params.items)) 0 parser.old parser.new) }
+fn params(alloc: Global, parser: &mut Parser) -> Result<Vec<Group>, Refusal>
+    ensures reads { IfOk result (λ params. Reads (AreParams (map declared_of params.items)) 0 parser.old parser.new) }
+    ensures viable { IfErr result (λ why. IsOfText why → Stalls (Plain AreParams) parser.old parser.new) }
 {
     let Some(_opened) = parser.take(Keyword::BraceOpen) else {
         return Ok(Vec::new(alloc));
@@ -38,8 +40,9 @@ struct Interface {
 }
 
 /// Inputs behind `?` and outputs behind `!`, in parentheses.
-fn inputs_and_outputs(alloc: Global, parser: &mut Parser) -> Result<Interface, ParseAnswer>
-    ensures { IfOk result (λ interface. Reads (IsInterface (map declared_of interface.inputs.items) (map declared_of interface.outputs.items)) 0 parser.old parser.new) }
+fn inputs_and_outputs(alloc: Global, parser: &mut Parser) -> Result<Interface, Refusal>
+    ensures reads { IfOk result (λ interface. Reads (IsInterface (map declared_of interface.inputs.items) (map declared_of interface.outputs.items)) 0 parser.old parser.new) }
+    ensures viable { IfErr result (λ why. IsOfText why → Stalls (Plain HasSides) parser.old parser.new) }
 {
     let _opened = parser.expect(Keyword::Open)?;
     let _asked = parser.expect(Keyword::Question)?;
@@ -51,9 +54,10 @@ fn inputs_and_outputs(alloc: Global, parser: &mut Parser) -> Result<Interface, P
 }
 
 /// `process`, a name and `=`.
-fn title(alloc: Global, parser: &mut Parser) -> Result<Name, ParseAnswer>
+fn title(alloc: Global, parser: &mut Parser) -> Result<Name, Refusal>
     ensures reads { IfOk result (λ name. Reads (IsTitle name) 0 parser.old parser.new) }
     ensures shorter { OnOk result (Shorter parser.old parser.new) }
+    ensures viable { IfErr result (λ why. IsOfText why → Stalls (Plain IsTitle) parser.old parser.new) }
 {
     let _begun = parser.expect(Keyword::Process)?;
     let name = parser.name(alloc)?;
@@ -63,9 +67,10 @@ fn title(alloc: Global, parser: &mut Parser) -> Result<Name, ParseAnswer>
 
 /// A process, whose contents stand inside so many constructs.
 #[cycle(process)]
-pub fn process(alloc: Global, parser: &mut Parser, depth: u32) -> Result<Process, ParseAnswer>
+pub fn process(alloc: Global, parser: &mut Parser, depth: u32) -> Result<Process, Refusal>
     ensures reads { IfOk result (λ process. Covers (IsModel both_limits (model_of process) depth) parser.old parser.new) }
     ensures shorter { OnOk result (Shorter parser.old parser.new) }
+    ensures viable { IfErr result (λ why. IsOfText why → Halts (Some (λ model leaves. IsModel both_limits model depth leaves)) parser.old parser.new) }
 {
     let name = title(alloc, parser)?;
     let params = params(alloc, parser)?;
@@ -95,8 +100,9 @@ struct Locals {
 
 /// What is declared after `where`, where that is next.
 #[cycle(process)]
-fn where_part(alloc: Global, parser: &mut Parser, depth: u32) -> Result<Locals, ParseAnswer>
-    ensures { IfOk result (λ declared. Covers (AreBehindWhere depth (map model_of declared.processes.items) (map declared_of declared.groups.items)) parser.old parser.new) }
+fn where_part(alloc: Global, parser: &mut Parser, depth: u32) -> Result<Locals, Refusal>
+    ensures reads { IfOk result (λ declared. Covers (AreBehindWhere depth (map model_of declared.processes.items) (map declared_of declared.groups.items)) parser.old parser.new) }
+    ensures viable { IfErr result (λ why. IsOfText why → Halts (Some (HasBehindWhere depth)) parser.old parser.new) }
 {
     let Some(_opened) = parser.take(Keyword::Where) else {
         return Ok(Locals {
@@ -111,8 +117,9 @@ fn where_part(alloc: Global, parser: &mut Parser, depth: u32) -> Result<Locals, 
 
 /// Groups and inner processes, up to `end`.
 #[cycle(process)]
-fn entries(alloc: Global, parser: &mut Parser, depth: u32) -> Result<Locals, ParseAnswer>
-    ensures { IfOk result (λ declared. Covers (AreDeclared depth (map model_of declared.processes.items) (map declared_of declared.groups.items)) parser.old parser.new) }
+fn entries(alloc: Global, parser: &mut Parser, depth: u32) -> Result<Locals, Refusal>
+    ensures reads { IfOk result (λ declared. Covers (AreDeclared depth (map model_of declared.processes.items) (map declared_of declared.groups.items)) parser.old parser.new) }
+    ensures viable { IfErr result (λ why. IsOfText why → Halts (Some (HasDeclared depth)) parser.old parser.new) }
 {
     let mut groups = Vec::new(alloc);
     let mut processes = Vec::new(alloc);
@@ -130,18 +137,20 @@ fn entries(alloc: Global, parser: &mut Parser, depth: u32) -> Result<Locals, Par
 
 /// A process inside one whose contents stand inside so many constructs.
 #[cycle(process)]
-fn inner_process(alloc: Global, parser: &mut Parser, depth: u32) -> Result<Process, ParseAnswer>
+fn inner_process(alloc: Global, parser: &mut Parser, depth: u32) -> Result<Process, Refusal>
     ensures reads { IfOk result (λ process. Covers (IsInnerProcess depth (model_of process)) parser.old parser.new) }
     ensures shorter { OnOk result (Shorter parser.old parser.new) }
+    ensures viable { IfErr result (λ why. IsOfText why → Halts (Some (HasDeclared depth)) parser.old parser.new) }
 {
     let inner = inside(parser, depth)?;
     process(alloc, parser, inner)
 }
 
 /// A group and `;`.
-fn local_group(alloc: Global, parser: &mut Parser) -> Result<Group, ParseAnswer>
+fn local_group(alloc: Global, parser: &mut Parser) -> Result<Group, Refusal>
     ensures reads { IfOk result (λ group. Reads (IsLocalGroup (declared_of group)) 0 parser.old parser.new) }
     ensures shorter { OnOk result (Shorter parser.old parser.new) }
+    ensures viable { IfErr result (λ why. IsOfText why → Stalls (Plain IsLocalGroup) parser.old parser.new) }
 {
     let one = group(alloc, parser, Declares::Signals)?;
     let _ended = parser.expect(Keyword::Semicolon)?;

@@ -1,33 +1,67 @@
 //! Programs.
 
-ghost use Rattle.std.specs.Prelude.{◌≡◌, ◌≢◌, [], map, IfOk};
-ghost use Rattle.sig_tree.specs.Syntax.{model_of, program_of};
+ghost use Rattle.std.specs.Prelude.{◌≡◌, List, map, IfOk, IfErr};
+ghost use Rattle.sig_tree.specs.Syntax.{ProcessModel, model_of, program_of};
 ghost use Rattle.sig_tree.specs.Leaves.{leaves_of};
 ghost use Rattle.sig_tree.specs.Grammar.{HasTree};
+ghost use Rattle.sig_parse.specs.Refused.{end_of, place_of, answer_of, IsRefusal};
+ghost use Rattle.sig_parse.specs.Stalls.{IsOfText, Some, Halts};
 ghost use Rattle.sig_lex.specs.Tokens.{AreTokens};
 
 use crate::leaf::leaves;
+use crate::parse_answer::ParseAnswer;
 use crate::parser::Parser;
 use crate::process::process;
-use crate::refusal::ParseAnswer;
+use crate::refusal::Refusal;
 use sig_base::Span;
+use sig_base::limits::{NESTING, OPERATORS};
 use sig_lex::Token;
-use sig_tree::{Process, Program};
+use sig_tree::{Process, Program, one_tree};
 use std::alloc::Global;
 
-/// The tree of a program, from the tokens of its text.
+/// The tree of a program, from the tokens of its text, which has no other tree.
 pub fn parse(alloc: Global, bytes: &[u8], tokens: &[Token]) -> Result<Program, ParseAnswer>
     requires { AreTokens bytes.now tokens.now }
-    ensures { IfOk result (λ program. HasTree (leaves_of bytes.now tokens.now) (program_of program)) }
+    ensures tree { IfOk result (λ program. HasTree (leaves_of bytes.now tokens.now) (program_of program)) }
+    ensures only { IfOk result (λ program. (other : List ProcessModel) → HasTree (leaves_of bytes.now tokens.now) other → other ≡ program_of program) }
+    // Some program that keeps both limits begins with the tokens before the refused one.
+    ensures viable { IfErr result (λ answer. IsRefusal (leaves_of bytes.now tokens.now) (end_of tokens.now) answer) }
 {
+    one_tree();
     let leaves = leaves(alloc, bytes, tokens)?;
-    let mut parser = Parser::new(&leaves, end(tokens));
-    let processes = processes(alloc, &mut parser)?;
-    Ok(Program { processes })
+    let mut parser = Parser::new(&leaves);
+    match processes(alloc, &mut parser) {
+        Ok(processes) => Ok(Program { processes }),
+        Err(refusal) => Err(answer(refusal, place(&parser, tokens))),
+    }
+}
+
+/// The answer for a refusal of the token at this place.
+fn answer(refusal: Refusal, at: Span) -> ParseAnswer
+    ensures { result ≡ answer_of refusal at }
+{
+    match refusal {
+        Refusal::Syntax => ParseAnswer::Syntax(at),
+        Refusal::Nesting => ParseAnswer::Nesting(NESTING, at),
+        Refusal::Operators => ParseAnswer::Nesting(OPERATORS, at),
+        Refusal::OutOfMemory => ParseAnswer::OutOfMemory,
+    }
+}
+
+/// The place of the next token.
+fn place(parser: &Parser, tokens: &[Token]) -> Span
+    ensures { result ≡ place_of parser.now.leaves (end_of tokens.now) }
+{
+    match parser.ahead().first() {
+        Some(leaf) => leaf.at,
+        None => end(tokens),
+    }
 }
 
 /// The place of the last token.
-fn end(tokens: &[Token]) -> Span {
+fn end(tokens: &[Token]) -> Span
+    ensures { result ≡ end_of tokens.now }
+{
     match tokens.last() {
         Some(token) => token.at,
         None => Span { line: 1, col: 1 },
@@ -35,8 +69,9 @@ fn end(tokens: &[Token]) -> Span {
 }
 
 /// Processes, up to the end.
-fn processes(alloc: Global, parser: &mut Parser) -> Result<Vec<Process>, ParseAnswer>
-    ensures { IfOk result (λ processes. HasTree parser.old.leaves (map model_of processes.items)) }
+fn processes(alloc: Global, parser: &mut Parser) -> Result<Vec<Process>, Refusal>
+    ensures reads { IfOk result (λ processes. HasTree parser.old.leaves (map model_of processes.items)) }
+    ensures viable { IfErr result (λ why. IsOfText why → Halts (Some (λ processes leaves. HasTree leaves processes)) parser.old parser.new) }
 {
     let mut all = Vec::new(alloc);
     all.push(process(alloc, parser, 0)?)?;

@@ -1,6 +1,6 @@
 //! The sides of definitions.
 
-ghost use Rattle.std.specs.Prelude.{codes, map, sum_by, IfOk};
+ghost use Rattle.std.specs.Prelude.{codes, map, sum_by, IfOk, IfErr};
 ghost use Rattle.sig_tree.specs.Syntax.{expression_of, right_side_of};
 ghost use Rattle.sig_tree.specs.Terminals.{mark};
 ghost use Rattle.sig_tree.specs.Limits.{both_limits, operators, right_operators};
@@ -8,19 +8,21 @@ ghost use Rattle.sig_tree.specs.Repeated.{Separated, Listed};
 ghost use Rattle.sig_tree.specs.Expressions.{IsConstant, IsExpression};
 ghost use Rattle.sig_tree.specs.Equations.{IsName, IsLeft, AreConstants, AreArguments, IsRight};
 ghost use Rattle.sig_parse.specs.Reads.{Reads};
+ghost use Rattle.sig_parse.specs.Stalls.{IsOfText, Counted, Plain, Stalls};
 
 use crate::ahead::begins_call;
 use crate::constant::constant;
 use crate::expression::expression;
 use crate::keyword::Keyword;
 use crate::parser::{Parser, inside};
-use crate::refusal::ParseAnswer;
+use crate::refusal::Refusal;
 use sig_tree::{Constant, Expr, Name, Right};
 use std::alloc::Global;
 
 /// Names with `,` between them.
-pub fn names(alloc: Global, parser: &mut Parser) -> Result<Vec<Name>, ParseAnswer>
-    ensures { IfOk result (λ names. Reads (Separated IsName (mark (codes ",")) names.items) 0 parser.old parser.new) }
+pub fn names(alloc: Global, parser: &mut Parser) -> Result<Vec<Name>, Refusal>
+    ensures reads { IfOk result (λ names. Reads (Separated IsName (mark (codes ",")) names.items) 0 parser.old parser.new) }
+    ensures viable { IfErr result (λ why. IsOfText why → Stalls (Plain (Separated IsName (mark (codes ",")))) parser.old parser.new) }
 {
     let mut all = Vec::new(alloc);
     all.push(parser.name(alloc)?)?;
@@ -33,8 +35,9 @@ pub fn names(alloc: Global, parser: &mut Parser) -> Result<Vec<Name>, ParseAnswe
 }
 
 /// A name, or names in parentheses.
-pub fn left_side(alloc: Global, parser: &mut Parser, depth: u32) -> Result<Vec<Name>, ParseAnswer>
-    ensures { IfOk result (λ names. Reads (IsLeft both_limits depth names.items) 0 parser.old parser.new) }
+pub fn left_side(alloc: Global, parser: &mut Parser, depth: u32) -> Result<Vec<Name>, Refusal>
+    ensures reads { IfOk result (λ names. Reads (IsLeft both_limits depth names.items) 0 parser.old parser.new) }
+    ensures viable { IfErr result (λ why. IsOfText why → Stalls (Plain (IsLeft both_limits depth)) parser.old parser.new) }
 {
     if parser.is(Keyword::Open) {
         inside(parser, depth)?;
@@ -50,8 +53,9 @@ pub fn left_side(alloc: Global, parser: &mut Parser, depth: u32) -> Result<Vec<N
 }
 
 /// Constants with `,` between them, up to `}`.
-fn constant_list(alloc: Global, parser: &mut Parser) -> Result<Vec<Constant>, ParseAnswer>
-    ensures { IfOk result (λ constants. Reads (Listed IsConstant (mark (codes ",")) constants.items) 0 parser.old parser.new) }
+fn constant_list(alloc: Global, parser: &mut Parser) -> Result<Vec<Constant>, Refusal>
+    ensures reads { IfOk result (λ constants. Reads (Listed IsConstant (mark (codes ",")) constants.items) 0 parser.old parser.new) }
+    ensures viable { IfErr result (λ why. IsOfText why → Stalls (Plain (Listed IsConstant (mark (codes ",")))) parser.old parser.new) }
 {
     let mut all = Vec::new(alloc);
     if parser.is(Keyword::BraceClose) {
@@ -67,8 +71,9 @@ fn constant_list(alloc: Global, parser: &mut Parser) -> Result<Vec<Constant>, Pa
 }
 
 /// Constants in braces, where `{` is next.
-fn constants(alloc: Global, parser: &mut Parser) -> Result<Vec<Constant>, ParseAnswer>
-    ensures { IfOk result (λ constants. Reads (AreConstants constants.items) 0 parser.old parser.new) }
+fn constants(alloc: Global, parser: &mut Parser) -> Result<Vec<Constant>, Refusal>
+    ensures reads { IfOk result (λ constants. Reads (AreConstants constants.items) 0 parser.old parser.new) }
+    ensures viable { IfErr result (λ why. IsOfText why → Stalls (Plain AreConstants) parser.old parser.new) }
 {
     let Some(_opened) = parser.take(Keyword::BraceOpen) else {
         return Ok(Vec::new(alloc));
@@ -79,9 +84,10 @@ fn constants(alloc: Global, parser: &mut Parser) -> Result<Vec<Constant>, ParseA
 }
 
 /// Expressions with `,` between them, up to `)`.
-fn argument_list(alloc: Global, parser: &mut Parser, depth: u32) -> Result<Vec<Expr>, ParseAnswer>
-    ensures { IfOk result (λ arguments. Reads (Listed (IsExpression both_limits depth) (mark (codes ",")) (map expression_of arguments.items))
+fn argument_list(alloc: Global, parser: &mut Parser, depth: u32) -> Result<Vec<Expr>, Refusal>
+    ensures reads { IfOk result (λ arguments. Reads (Listed (IsExpression both_limits depth) (mark (codes ",")) (map expression_of arguments.items))
         (sum_by operators (map expression_of arguments.items)) parser.old parser.new) }
+    ensures viable { IfErr result (λ why. IsOfText why → Stalls (Counted (Listed (IsExpression both_limits depth) (mark (codes ","))) (sum_by operators)) parser.old parser.new) }
 {
     let mut all = Vec::new(alloc);
     if parser.is(Keyword::Close) {
@@ -97,9 +103,10 @@ fn argument_list(alloc: Global, parser: &mut Parser, depth: u32) -> Result<Vec<E
 }
 
 /// Expressions in parentheses.
-fn arguments(alloc: Global, parser: &mut Parser, depth: u32) -> Result<Vec<Expr>, ParseAnswer>
-    ensures { IfOk result (λ arguments. Reads (AreArguments both_limits depth (map expression_of arguments.items))
+fn arguments(alloc: Global, parser: &mut Parser, depth: u32) -> Result<Vec<Expr>, Refusal>
+    ensures reads { IfOk result (λ arguments. Reads (AreArguments both_limits depth (map expression_of arguments.items))
         (sum_by operators (map expression_of arguments.items)) parser.old parser.new) }
+    ensures viable { IfErr result (λ why. IsOfText why → Stalls (Counted (AreArguments both_limits depth) (sum_by operators)) parser.old parser.new) }
 {
     let _opened = parser.expect(Keyword::Open)?;
     let all = argument_list(alloc, parser, depth)?;
@@ -108,8 +115,9 @@ fn arguments(alloc: Global, parser: &mut Parser, depth: u32) -> Result<Vec<Expr>
 }
 
 /// A call or an expression.
-pub fn right_side(alloc: Global, parser: &mut Parser, depth: u32) -> Result<Right, ParseAnswer>
-    ensures { IfOk result (λ right. Reads (IsRight both_limits depth (right_side_of right)) (right_operators (right_side_of right)) parser.old parser.new) }
+pub fn right_side(alloc: Global, parser: &mut Parser, depth: u32) -> Result<Right, Refusal>
+    ensures reads { IfOk result (λ right. Reads (IsRight both_limits depth (right_side_of right)) (right_operators (right_side_of right)) parser.old parser.new) }
+    ensures viable { IfErr result (λ why. IsOfText why → Stalls (Counted (IsRight both_limits depth) right_operators) parser.old parser.new) }
 {
     if begins_call(parser) {
         call(alloc, parser, depth)
@@ -119,8 +127,9 @@ pub fn right_side(alloc: Global, parser: &mut Parser, depth: u32) -> Result<Righ
 }
 
 /// A name, constants where there are any, and arguments.
-fn call(alloc: Global, parser: &mut Parser, depth: u32) -> Result<Right, ParseAnswer>
-    ensures { IfOk result (λ right. Reads (IsRight both_limits depth (right_side_of right)) (right_operators (right_side_of right)) parser.old parser.new) }
+fn call(alloc: Global, parser: &mut Parser, depth: u32) -> Result<Right, Refusal>
+    ensures reads { IfOk result (λ right. Reads (IsRight both_limits depth (right_side_of right)) (right_operators (right_side_of right)) parser.old parser.new) }
+    ensures viable { IfErr result (λ why. IsOfText why → Stalls (Counted (IsRight both_limits depth) right_operators) parser.old parser.new) }
 {
     let name = parser.name(alloc)?;
     let values = constants(alloc, parser)?;

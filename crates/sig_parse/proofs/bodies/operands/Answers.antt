@@ -1,9 +1,11 @@
-use Rattle.std.proofs.Common.{codes}
+use Rattle.std.proofs.Common.{codes, map}
 use Rattle.sig_tree.specs.Terminals.{mark}
 use Rattle.sig_tree.specs.Syntax.{expression_of}
 use Rattle.sig_tree.specs.Limits.{both_limits, operators}
 use Rattle.sig_tree.specs.Expressions.{IsExpression}
-use Rattle.sig_parse.proofs.Lists.{first_pushed, counted_one, counted_more, two_items, more_items}
+use Rattle.sig_parse.proofs.Lists.{first_pushed, counted_one, counted_more, two_items, more_items, some_mapped}
+use Rattle.sig_parse.proofs.Relaying.{relayed, whatever}
+use Rattle.sig_parse.proofs.StallBodies.{in_first_operand, at_same, in_next_operand, in_second_operand}
 use Rattle.sig_parse.proofs.bodies.operands.Goals as goal
 
 pub loop-all-init : goal.loop-all-init
@@ -20,3 +22,15 @@ loop-all-preserved c = (
       c.loop-all.invariant.0 c.in-Some.ensures.0 c.in_ok-expression-3.ensures.reads,
   more_items 2 c.loop-all.all.items _ c.in_ok-expression-3.field-0 c.in_ok-push-3.ensures.items c.loop-all.invariant.1,
 )
+
+pub returns-in_err-expression-clause-viable : goal.returns-in_err-expression-clause-viable
+returns-in_err-expression-clause-viable c = relayed _ _ c.from_residual.ensures (λ text. in_first_operand c.args.depth c.requires (c.in_err-expression.ensures.viable text))
+
+pub returns-in_err-_same-clause-viable : goal.returns-in_err-_same-clause-viable
+returns-in_err-_same-clause-viable c = whatever _ (at_same c.args.depth (expression_of c.in_ok-expression.field-0) c.requires c.in_ok-expression.ensures.reads c.in_err-_same.ensures.stays)
+
+pub returns-in_err-expression-2-clause-viable : goal.returns-in_err-expression-2-clause-viable
+returns-in_err-expression-2-clause-viable c = relayed _ _ c.from_residual-in_err-expression-2.ensures (λ text. in_second_operand c.args.depth (expression_of c.in_ok-expression.field-0) c.in_ok-_same._same c.requires c.in_ok-expression.ensures.reads c.in_ok-_same.ensures.reads (c.in_err-expression-2.ensures.viable text))
+
+pub returns-in_err-expression-3-clause-viable : goal.returns-in_err-expression-3-clause-viable
+returns-in_err-expression-3-clause-viable c = relayed _ _ c.from_residual-in_err-expression-3.ensures (λ text. let two = c.loop-all.invariant.1 in in_next_operand c.args.depth (map expression_of c.loop-all.all.items) c.in-Some.field-0 c.requires (some_mapped expression_of c.loop-all.all.items two) c.loop-all.invariant.0 c.in-Some.ensures.0 (c.in_err-expression-3.ensures.viable text))

@@ -1,7 +1,13 @@
 use Rattle.sig_tree.specs.Syntax.{placement_of}
 use Rattle.sig_tree.specs.Processes.{IsPlacement}
 use Rattle.sig_parse.proofs.Lists.{reads_each_more}
+use Rattle.std.proofs.Common.{map}
+use Rattle.sig_parse.proofs.Relaying.{relayed}
+use Rattle.sig_parse.proofs.StallLists.{plain_each}
 use Rattle.sig_parse.proofs.pragma.pragma_list.Goals as goal
 
 pub loop-alloc-preserved : goal.loop-alloc-preserved
 loop-alloc-preserved c = reads_each_more placement_of IsPlacement c.loop-alloc.all.items _ c.in_ok-pragma.field-0 c.in_ok-push.ensures.items c.loop-alloc.invariant c.in_ok-pragma.ensures.reads
+
+pub returns-in_err-pragma-clause-viable : goal.returns-in_err-pragma-clause-viable
+returns-in_err-pragma-clause-viable c = relayed _ _ c.from_residual.ensures (λ text. plain_each IsPlacement (map placement_of c.loop-alloc.all.items) c.loop-alloc.invariant (c.in_err-pragma.ensures.viable text))

@@ -6,8 +6,16 @@ use Rattle.sig_tree.specs.Limits.{both_limits, operators}
 use Rattle.sig_tree.specs.Expressions.{IsConstant, IsExpression}
 use Rattle.sig_tree.specs.Equations.{IsName}
 use Rattle.sig_parse.proofs.Lists.{sum_more, views_more}
+use Rattle.sig_parse.proofs.Relaying.{relayed}
+use Rattle.sig_parse.proofs.StallLists.{counted_first, counted_next, counted_listed}
 use Rattle.sig_parse.proofs.sides.argument_list.Goals as goal
 
 pub loop-all-preserved : goal.loop-all-preserved
 loop-all-preserved c = views_more expression_of (IsExpression both_limits c.args.depth) (mark (codes ",")) c.loop-all.all.items _ c.in_ok-expression-2.field-0 _ _ _ c.in-Some.field-0 c.in_ok-push-2.ensures.items (sum_more expression_of operators c.loop-all.all.items _ c.in_ok-expression-2.field-0 c.in_ok-push-2.ensures.items)
     c.loop-all.invariant c.in-Some.ensures.0 c.in_ok-expression-2.ensures.reads
+
+pub returns-in_err-expression-clause-viable : goal.returns-in_err-expression-clause-viable
+returns-in_err-expression-clause-viable c = relayed _ _ c.from_residual.ensures (λ text. counted_listed (IsExpression both_limits c.args.depth) (mark (codes ",")) operators (counted_first (IsExpression both_limits c.args.depth) (mark (codes ",")) operators (c.in_err-expression.ensures.viable text)))
+
+pub returns-in_err-expression-2-clause-viable : goal.returns-in_err-expression-2-clause-viable
+returns-in_err-expression-2-clause-viable c = relayed _ _ c.from_residual-in_err-expression-2.ensures (λ text. counted_listed (IsExpression both_limits c.args.depth) (mark (codes ",")) operators (counted_next (IsExpression both_limits c.args.depth) (mark (codes ",")) operators (map expression_of c.loop-all.all.items) c.in-Some.field-0 c.loop-all.invariant c.in-Some.ensures.0 (c.in_err-expression-2.ensures.viable text)))

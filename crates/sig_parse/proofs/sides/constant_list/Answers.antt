@@ -6,8 +6,16 @@ use Rattle.sig_tree.specs.Limits.{both_limits, operators}
 use Rattle.sig_tree.specs.Expressions.{IsConstant, IsExpression}
 use Rattle.sig_tree.specs.Equations.{IsName}
 use Rattle.sig_parse.proofs.Lists.{reads_one, reads_more, subst_more, views_one, views_more}
+use Rattle.sig_parse.proofs.Relaying.{relayed}
+use Rattle.sig_parse.proofs.StallLists.{plain_first, plain_next, plain_listed}
 use Rattle.sig_parse.proofs.sides.constant_list.Goals as goal
 
 pub loop-all-preserved : goal.loop-all-preserved
 loop-all-preserved c = subst_more IsConstant (mark (codes ",")) c.loop-all.all.items _ c.in_ok-constant-2.field-0 c.in-Some.field-0 c.in_ok-push-2.ensures.items
     c.loop-all.invariant c.in-Some.ensures.0 c.in_ok-constant-2.ensures.reads
+
+pub returns-in_err-constant-clause-viable : goal.returns-in_err-constant-clause-viable
+returns-in_err-constant-clause-viable c = relayed _ _ c.from_residual.ensures (λ text. plain_listed IsConstant (mark (codes ",")) (plain_first IsConstant (mark (codes ",")) (c.in_err-constant.ensures.viable text)))
+
+pub returns-in_err-constant-2-clause-viable : goal.returns-in_err-constant-2-clause-viable
+returns-in_err-constant-2-clause-viable c = relayed _ _ c.from_residual-in_err-constant-2.ensures (λ text. plain_listed IsConstant (mark (codes ",")) (plain_next IsConstant (mark (codes ",")) c.loop-all.all.items c.in-Some.field-0 c.loop-all.invariant c.in-Some.ensures.0 (c.in_err-constant-2.ensures.viable text)))

@@ -5,9 +5,17 @@ use Rattle.sig_tree.specs.Expressions.{IsConstant}
 use Rattle.sig_tree.specs.Equations.{AreConstants}
 use Rattle.sig_parse.proofs.Joins.{viewed}
 use Rattle.sig_parse.proofs.Enclosing.{between}
+use Rattle.sig_parse.proofs.Relaying.{relayed, whatever}
+use Rattle.sig_parse.proofs.StallParts.{plain_inside, plain_closing, constants_in}
 use Rattle.sig_parse.proofs.sides.constants.Goals as goal
 
-pub returns : goal.returns
-returns c = viewed (AreConstants c.in_ok-all.all.items) (λ front is. inr is)
+pub returns-clause-reads : goal.returns-clause-reads
+returns-clause-reads c = viewed (AreConstants c.in_ok-all.all.items) (λ front is. inr is)
     (between (mark (codes "{")) (mark (codes "}")) (Listed IsConstant (mark (codes ",")) c.in_ok-all.all.items) 0 c.in-Some._opened c.in_ok-_closed._closed
-    c.in-Some.ensures.0 c.in_ok-all.ensures c.in_ok-_closed.ensures.reads)
+    c.in-Some.ensures.0 c.in_ok-all.ensures.reads c.in_ok-_closed.ensures.reads)
+
+pub returns-in_err-all-clause-viable : goal.returns-in_err-all-clause-viable
+returns-in_err-all-clause-viable c = relayed _ _ c.from_residual.ensures (λ text. constants_in (plain_inside (Listed IsConstant (mark (codes ","))) (mark (codes "{")) (mark (codes "}")) c.in-Some._opened c.in-Some.ensures.0 (c.in_err-all.ensures.viable text)))
+
+pub returns-in_err-_closed-clause-viable : goal.returns-in_err-_closed-clause-viable
+returns-in_err-_closed-clause-viable c = whatever _ (constants_in (plain_closing (Listed IsConstant (mark (codes ","))) (mark (codes "{")) (mark (codes "}")) c.in-Some._opened c.in_ok-all.all.items c.in-Some.ensures.0 c.in_ok-all.ensures.reads c.in_err-_closed.ensures.stays))

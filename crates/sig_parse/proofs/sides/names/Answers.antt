@@ -6,8 +6,17 @@ use Rattle.sig_tree.specs.Limits.{both_limits, operators}
 use Rattle.sig_tree.specs.Expressions.{IsConstant, IsExpression}
 use Rattle.sig_tree.specs.Equations.{IsName}
 use Rattle.sig_parse.proofs.Lists.{reads_one, reads_more, subst_more, views_one, views_more}
+use Rattle.sig_parse.proofs.Relaying.{relayed}
+use Rattle.sig_parse.proofs.StallLists.{plain_first, plain_next}
+use Rattle.sig_parse.proofs.StallParts.{name_at_once}
 use Rattle.sig_parse.proofs.sides.names.Goals as goal
 
 pub loop-all-preserved : goal.loop-all-preserved
 loop-all-preserved c = subst_more IsName (mark (codes ",")) c.loop-all.all.items _ c.in_ok-name-2.field-0 c.in-Some.field-0 c.in_ok-push-2.ensures.items
     c.loop-all.invariant c.in-Some.ensures.0 c.in_ok-name-2.ensures.reads
+
+pub returns-in_err-name-clause-viable : goal.returns-in_err-name-clause-viable
+returns-in_err-name-clause-viable c = relayed _ _ c.from_residual.ensures (λ text. plain_first IsName (mark (codes ",")) (name_at_once (c.in_err-name.ensures.stays text)))
+
+pub returns-in_err-name-2-clause-viable : goal.returns-in_err-name-2-clause-viable
+returns-in_err-name-2-clause-viable c = relayed _ _ c.from_residual-in_err-name-2.ensures (λ text. plain_next IsName (mark (codes ",")) c.loop-all.all.items c.in-Some.field-0 c.loop-all.invariant c.in-Some.ensures.0 (name_at_once (c.in_err-name-2.ensures.stays text)))

@@ -4,9 +4,9 @@ use Rattle.std.specs.Fmt.{decimal}
 use Rattle.std.proofs.lemmas.Bool.{ne_eqb}
 use Rattle.sig_base.specs.Lines.{refusal_at}
 use Rattle.sig_base.specs.declared.span.Span.{Span}
-use Rattle.sig_parse.specs.declared.refusal.ParseAnswer.TheVariants.{Nesting}
+use Rattle.sig_parse.specs.declared.parse_answer.ParseAnswer.TheVariants.{Nesting}
 use Rattle.sig_parse.specs.Lines.{answer_line}
-use Rattle.sig_parse.proofs.refusal.ParseAnswerDisplay.fmt.Goals as goal
+use Rattle.sig_parse.proofs.parse_answer.ParseAnswerDisplay.fmt.Goals as goal
 
 -- the line of a limit of nesting
 nesting_line : (limit : ℕ) (at : Span) → (limit ≡ 512 → ⊥) → answer_line (Nesting limit at) ≡ refusal_at at (codes "nesting deeper than " ++ decimal limit)
