@@ -77,13 +77,25 @@ module _ (level depth used : ℕ) where
       → Refuses (InOperand level depth used) (ContinuesExpression (suc level)) cause (leaf (unary_terminal op) at ∷ here) after
   prefix_operand op at own shallow cause here after r =
       refuses_inside (InLevel (operand_level op) (suc depth) (suc used)) (InOperand level depth used) (leaf (unary_terminal op) at ∷ []) []
-          (λ limits leaves is. (Unary op is.0 at, inl (op, is.0, at, leaves ++ [], own, refl, refl, (λ kept. shallow),
-              subst (λ (l : List Leaf). IsAtLevel limits (operand_level op) (suc depth) is.0 l) (sym (append-nil leaves)) is.1),
-              fewer limits (used + (1 + operators is.0)) (suc used + operators is.0) (omega arith) is.2))
-          (ContinuesExpression (operand_level op)) (ContinuesExpression (suc level)) cause here after
-          (λ limits rest whole back e is stops same.
-              let part = prefix_part op at own limits rest whole back e is.0 is.1 is.2 in
-              (part.0, back, part.1, part.2, stops_smaller (ContinuesExpression (suc level)) (ContinuesExpression (operand_level op)) (operand_tighter op level own) back stops)) r
+      (λ limits leaves is. (
+        Unary op is.0 at,
+        inl (
+          op,
+          is.0,
+          at,
+          leaves ++ [],
+          own,
+          refl,
+          refl,
+          (λ kept. shallow),
+          subst (λ (l : List Leaf). IsAtLevel limits (operand_level op) (suc depth) is.0 l) (sym (append-nil leaves)) is.1,
+        ),
+        fewer limits (used + (1 + operators is.0)) (suc used + operators is.0) (omega arith) is.2,
+      ))
+      (ContinuesExpression (operand_level op)) (ContinuesExpression (suc level)) cause here after
+      (λ limits rest whole back e is stops same.
+      let part = prefix_part op at own limits rest whole back e is.0 is.1 is.2 in
+      (part.0, back, part.1, part.2, stops_smaller (ContinuesExpression (suc level)) (ContinuesExpression (operand_level op)) (operand_tighter op level own) back stops)) r
 
   prefixed_name : (limits : Limits) (op : UnOp) (at : Span) → unary_level op ≡ level → MayStandInside limits depth → IsOperand limits level depth (Unary op (Named some_name) at) (leaf (unary_terminal op) at ∷ some_leaf ∷ [])
   prefixed_name limits op at own may = inl (op, Named some_name, at, some_leaf ∷ [], own, refl, refl, may, (0, (operand_within_levels op, refl)))
@@ -121,9 +133,9 @@ module _ (level depth used : ℕ) where
       → Refuses (InLevel (suc level) depth used) (ContinuesExpression (suc level)) cause here after → Refuses (InOperand level depth used) (ContinuesExpression (suc level)) cause here after
   tighter_operand tighter cause here after no_prefix r =
       refuses_first (InLevel (suc level) depth used) (InOperand level depth used) []
-          (λ limits leaves is. (is.0, inr (inl (tighter, subst (λ (l : List Leaf). IsAtLevel limits (suc level) depth is.0 l) (sym (append-nil leaves)) is.1)), is.2))
-          (ContinuesExpression (suc level)) (ContinuesExpression (suc level)) cause here after
-          (λ limits whole back is stops same. (whole, back, refl, inner limits whole back is.0 is.1 is.2 same, stops)) r
+      (λ limits leaves is. (is.0, inr (inl (tighter, subst (λ (l : List Leaf). IsAtLevel limits (suc level) depth is.0 l) (sym (append-nil leaves)) is.1)), is.2))
+      (ContinuesExpression (suc level)) (ContinuesExpression (suc level)) cause here after
+      (λ limits whole back is stops same. (whole, back, refl, inner limits whole back is.0 is.1 is.2 same, stops)) r
     where
       prefixed_not : (here : List Leaf) (op : UnOp) (at : Span) (more : List Leaf) → StopsBefore (λ t. t ≡ unary_terminal op) here → SameFirst here (leaf (unary_terminal op) at ∷ more) → ⊥
       prefixed_not [] op at more stops same = same

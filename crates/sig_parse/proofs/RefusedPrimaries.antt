@@ -30,8 +30,8 @@ module _ (depth used : ℕ) where
   pub atom_refused : used ≤ 512 → (here : List Leaf) → StopsBefore (BeginsExpression primary_level) here → Refuses (InOperand primary_level depth used) (ContinuesExpression (suc primary_level)) Wrong here here
   atom_refused few here stops =
       refuses_at_once (InOperand primary_level depth used) (ContinuesExpression (suc primary_level)) (BeginsExpression primary_level) (some_leaf ∷ [])
-          (Named some_name, named_operand both_limits primary_level depth (omega arith), λ kept. omega arith)
-          (λ leaves is. expression_begins no_limits primary_level depth is.0 leaves (operand_at no_limits primary_level depth is.0 leaves (omega arith) is.1)) here stops
+      (Named some_name, named_operand both_limits primary_level depth (omega arith), λ kept. omega arith)
+      (λ leaves is. expression_begins no_limits primary_level depth is.0 leaves (operand_at no_limits primary_level depth is.0 leaves (omega arith) is.1)) here stops
 
   -- what stands in parentheses
   prefix_no_opening : (op : UnOp) (opened at : Span) (rest more : List Leaf) → leaf (mark (codes "(")) opened ∷ rest ≡ leaf (unary_terminal op) at ∷ more → ⊥
@@ -67,7 +67,7 @@ module _ (depth used : ℕ) where
   parentheses_part opened limits rest whole back e x (inr (inr (own, inl atom))) = absurd (atom_no_opening x opened rest whole back e atom)
   parentheses_part opened limits rest whole back e x (inr (inr (own, inr (may, (begun, closed, inside, f, is))))) =
       let heads = cons_same (leaf (mark (codes "(")) opened) (leaf (mark (codes "(")) begun) rest (inside ++ leaf (mark (codes ")")) closed ∷ back)
-          (e ∙ append_to whole (leaf (mark (codes "(")) begun ∷ inside) (leaf (mark (codes ")")) closed ∷ []) back f) in
+      (e ∙ append_to whole (leaf (mark (codes "(")) begun ∷ inside) (leaf (mark (codes ")")) closed ∷ []) back f) in
       (closed, inside, heads.1, may, is)
 
   in_parentheses : (limits : Limits) (x : Expression) (opened closed : Span) (inside : List Leaf) → MayStandInside limits depth → IsAtLevel limits default_level (suc depth) x inside
@@ -91,23 +91,27 @@ module _ (depth used : ℕ) where
       → Refuses (InOperand primary_level depth used) (ContinuesExpression (suc primary_level)) cause (leaf (mark (codes "(")) opened ∷ here) after
   parentheses_inside shallow opened cause here after r =
       refuses_inside (InLevel default_level (suc depth) used) (InOperand primary_level depth used) (leaf (mark (codes "(")) opened ∷ []) (leaf (mark (codes ")")) no_place ∷ [])
-          (λ limits leaves is. (is.0, in_parentheses limits is.0 opened no_place leaves (λ kept. shallow) is.1, is.2))
-          (ContinuesExpression default_level) (ContinuesExpression (suc primary_level)) cause here after
-          (λ limits rest whole back e is stops same.
-              let part = parentheses_part opened limits rest whole back e is.0 is.1 in
-              (part.1, leaf (mark (codes ")")) part.0 ∷ back, part.2, (is.0, part.4, is.2), mark_apart (codes ")") refl default_level)) r
+      (λ limits leaves is. (is.0, in_parentheses limits is.0 opened no_place leaves (λ kept. shallow) is.1, is.2))
+      (ContinuesExpression default_level) (ContinuesExpression (suc primary_level)) cause here after
+      (λ limits rest whole back e is stops same.
+      let part = parentheses_part opened limits rest whole back e is.0 is.1 in
+      (part.1, leaf (mark (codes ")")) part.0 ∷ back, part.2, (is.0, part.4, is.2), mark_apart (codes ")") refl default_level)) r
 
   pub parentheses_end : depth < 64 → (opened : Span) (x : Expression) (front : List Leaf) → IsAtLevel both_limits default_level (suc depth) x front → used + operators x ≤ 512 → (cause : Cause) (here after : List Leaf)
       → StopsBefore (ContinuesExpression default_level) here → Refuses (InLeaf (mark (codes ")"))) ContinuesNothing cause here after
       → Refuses (InOperand primary_level depth used) (ContinuesExpression (suc primary_level)) cause ((leaf (mark (codes "(")) opened ∷ front) ++ here) after
   parentheses_end shallow opened x front is_x few cause here after stopped r =
       refuses_inside (InLeaf (mark (codes ")"))) (InOperand primary_level depth used) (leaf (mark (codes "(")) opened ∷ front) []
-          (λ limits leaves is. (x, subst (λ (l : List Leaf). IsOperand limits primary_level depth x (leaf (mark (codes "(")) opened ∷ (front ++ l))) (sym (append-nil leaves ∙ is.1))
-              (in_parentheses limits x opened is.0 front (λ kept. shallow) (expression_within limits default_level (suc depth) x front is_x)), λ kept. few))
-          ContinuesNothing (ContinuesExpression (suc primary_level)) cause here after
-          (λ limits rest whole back e is stops same.
-              let part = parentheses_part opened limits (front ++ rest) whole back e is.0 is.1 in
-              let one = part_at (IsAtLevel no_limits default_level (suc depth)) (ContinuesExpression default_level) x (expression_once no_limits default_level (suc depth) x) is.0 front part.1 rest (leaf (mark (codes ")")) part.0 ∷ back) part.2
-                  (expression_unlimited both_limits default_level (suc depth) (suc depth) x front is_x) (expression_unlimited limits default_level (suc depth) (suc depth) is.0 part.1 part.4)
-                  (first_stops (ContinuesExpression default_level) here rest same stopped) (mark_apart (codes ")") refl default_level) in
-              (leaf (mark (codes ")")) part.0 ∷ [], back, one.2, (part.0, refl), stops_nothing back)) r
+      (λ limits leaves is. (
+        x,
+        subst (λ (l : List Leaf). IsOperand limits primary_level depth x (leaf (mark (codes "(")) opened ∷ (front ++ l))) (sym (append-nil leaves ∙ is.1))
+            (in_parentheses limits x opened is.0 front (λ kept. shallow) (expression_within limits default_level (suc depth) x front is_x)),
+        λ kept. few,
+      ))
+      ContinuesNothing (ContinuesExpression (suc primary_level)) cause here after
+      (λ limits rest whole back e is stops same.
+      let part = parentheses_part opened limits (front ++ rest) whole back e is.0 is.1 in
+      let one = part_at (IsAtLevel no_limits default_level (suc depth)) (ContinuesExpression default_level) x (expression_once no_limits default_level (suc depth) x) is.0 front part.1 rest (leaf (mark (codes ")")) part.0 ∷ back) part.2
+      (expression_unlimited both_limits default_level (suc depth) (suc depth) x front is_x) (expression_unlimited limits default_level (suc depth) (suc depth) is.0 part.1 part.4)
+      (first_stops (ContinuesExpression default_level) here rest same stopped) (mark_apart (codes ")") refl default_level) in
+      (leaf (mark (codes ")")) part.0 ∷ [], back, one.2, (part.0, refl), stops_nothing back)) r

@@ -17,7 +17,6 @@ pub mod Reader
 pub mod Settling
 pub mod Silence
 pub mod Spines
-pub mod ReadSpines
 pub mod StepLaws
 pub mod Stopping
 pub mod Unlimited
