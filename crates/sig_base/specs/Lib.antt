@@ -1,2 +1,4 @@
+pub mod Functions
 pub mod Lines
 pub mod Places
+pub mod Traces

@@ -7,6 +7,5 @@ pub mod Inputs
 pub mod Lines
 pub mod NextWords
 pub mod Shown
-pub mod ValueLine
 pub mod Values
 pub mod Words

@@ -3,7 +3,7 @@
 ghost use Rattle.std.specs.Prelude.{◌≡◌, ◌≤◌, OnOk, OnErr};
 ghost use Rattle.sig_text.specs.Counts.{Rose};
 ghost use Rattle.sig_text.specs.Sink.{TookPrefix};
-ghost use Rattle.sig_flow.specs.ValueLine.{line_of, line_with, truth_text};
+ghost use Rattle.sig_kernel.specs.OutputText.{line_of, line_with, truth_text};
 
 use crate::pieces::put_pieces;
 use itoa::Buffer;

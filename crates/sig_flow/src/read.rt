@@ -1,7 +1,8 @@
 //! Flow files.
 
-ghost use Rattle.std.specs.Prelude.{◌≡◌, ◌≤◌, ◌⊎◌, ℤ, List, bytes_eq, length, map, take, IfOk, IfErr, IsErrAnd, MatchResult};
+ghost use Rattle.std.specs.Prelude.{◌≡◌, ◌⊎◌, ℤ, List, bytes_eq, map, IfOk, IfErr, IsErrAnd, MatchResult};
 ghost use Rattle.std.specs.List.{IsDistinct};
+ghost use Rattle.sig_kernel.specs.Validity.{inputs_of};
 ghost use Rattle.sig_flow.specs.Flows.{AreFlows, IsFirstBadPlace};
 ghost use Rattle.sig_flow.specs.declared.answer.FlowAnswer.{FlowAnswer};
 
@@ -15,20 +16,19 @@ use std::alloc::Global;
 /// The flows of a flow file for a kernel's inputs, one per input and in their order, or the first
 /// offending place of the file. Only memory can be wanting besides.
 pub fn read_flows(alloc: Global, bytes: &[u8], kernel: &Kernel) -> Result<Inputs, FlowAnswer>
-    requires within { kernel.now.inputs ≤ length kernel.now.signals.items }
-    requires differ { IsDistinct bytes_eq (map (λ input. input.name) (take kernel.now.inputs kernel.now.signals.items)) }
-    ensures flows { IfOk result (λ flows. AreFlows (take kernel.now.inputs kernel.now.signals.items) bytes.now flows) }
+    requires differ { IsDistinct bytes_eq (map (λ input. input.name) (inputs_of kernel.now)) }
+    ensures flows { IfOk result (λ flows. AreFlows (inputs_of kernel.now) bytes.now flows) }
     ensures fault { IfErr result (λ answer. (answer ≡ FlowAnswer.OutOfMemory)
-        ⊎ IsFirstBadPlace (take kernel.now.inputs kernel.now.signals.items) bytes.now answer) }
+        ⊎ IsFirstBadPlace (inputs_of kernel.now) bytes.now answer) }
 
     // Where the bytes have flows, they are given, and where a place offends, the first is named,
     // unless memory runs out.
-    ensures given { (flows : List (List ℤ)) → AreFlows (take kernel.now.inputs kernel.now.signals.items) bytes.now flows →
+    ensures given { (flows : List (List ℤ)) → AreFlows (inputs_of kernel.now) bytes.now flows →
         MatchResult result (λ given. given ≡ flows) (λ answer. answer ≡ FlowAnswer.OutOfMemory) }
-    ensures refused { (fault : FlowAnswer) → IsFirstBadPlace (take kernel.now.inputs kernel.now.signals.items) bytes.now fault →
+    ensures refused { (fault : FlowAnswer) → IsFirstBadPlace (inputs_of kernel.now) bytes.now fault →
         IsErrAnd result (λ answer. (answer ≡ FlowAnswer.OutOfMemory) ⊎ (answer ≡ fault)) }
 {
-    read_named(alloc, bytes, &kernel.signals[..kernel.inputs as usize])
+    read_named(alloc, bytes, kernel.inputs())
 }
 
 /// The flows of a flow file for these inputs, one per input and in their order, or the first

@@ -5,7 +5,7 @@ ghost use Rattle.std.specs.List.{IsDistinct};
 
 use super::*;
 use sig_base::{Kind, Signal, Span, Text};
-use sig_kernel::Kernel;
+use sig_kernel::{Equations, Kernel, Signals};
 use sig_text::{MemSink, WriteFault};
 use std::alloc::Global;
 use std::test::Fail;
@@ -245,8 +245,8 @@ fn counts_values(rt: HostRuntime) -> Result<(), Fail> {
 fn reads_a_kernels_flows(rt: HostRuntime) -> Result<(), Fail> {
     let alloc = rt.alloc();
     let kernel = Kernel {
-        signals: signals(alloc)?,
-        equations: Vec::new(alloc),
+        signals: Signals::from(signals(alloc)?),
+        equations: Equations::from(Vec::new(alloc)),
         inputs: 3,
         outputs: 0,
         declared: 3,

@@ -1,0 +1,4 @@
+pub mod KernelTraces
+pub mod OutputText
+pub mod Table
+pub mod Validity

@@ -5,7 +5,18 @@
 mod equation;
 mod flow;
 mod kernel;
+mod laws;
+mod table;
+mod valid;
 
-pub use equation::{Equation, Form, FunOp, Operand};
+pub use equation::{Equation, Form, FunOp, Operand, Operands};
 pub use flow::{Flow, Inputs};
-pub use kernel::Kernel;
+pub use kernel::{Equations, Kernel, Signals};
+pub use laws::{
+    a_kernel_has_one_longest_trace, beginnings_are_traces, delays_give_the_previous_value,
+    silent_instants_make_no_difference, texts_grow_with_traces,
+};
+pub use table::Sort;
+
+#[cfg(test)]
+mod tests;

@@ -1,8 +1,21 @@
 -- Lemmas of this crate.
+pub mod BodyLemmas
+pub mod Covering
+pub mod Enclosing
 pub mod FormLemmas
+pub mod GroupLemmas
+pub mod Joins
+pub mod LeafLists
+pub mod Lists
+pub mod Passing
 pub mod PlaceLemmas
+pub mod ProcessLemmas
 pub mod ReadingLemmas
 pub mod RuleLemmas
 pub mod SmallLemmas
 pub mod SpellingLemmas
 pub mod SplittingLemmas
+pub mod Standing
+pub mod Steps
+pub mod Tables
+pub mod Refusing

@@ -1,4 +1,12 @@
 pub mod Answers
+pub mod Declarations
+pub mod Keywords
+pub mod Lines
+pub mod Operators
 pub mod Reading
+pub mod Reads
+pub mod Refusals
 pub mod Rules
+pub mod Seen
 pub mod Splitting
+pub mod State

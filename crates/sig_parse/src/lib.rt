@@ -1,18 +1,37 @@
-//! The parser. So far it reads the small form: one process with integer inputs, whose output is a
-//! chain of sums and differences of them. It stands on `sig_base` and `sig_plan`.
+//! The parser: the tree of a program from the tokens of its text, by one pass from the left with one
+//! function for each part of the grammar. Beside it stands the reader of the small form: one process
+//! with integer inputs, whose output is a chain of sums and differences of them. It stands on
+//! `sig_base`, `sig_lex`, `sig_tree` and `sig_plan`.
 #![tactic(auto)]
 
 ghost use Rattle.std.specs.Prelude.{◌≡◌, ◌≤◌, IfOk, IsErrOf, length};
 ghost use Rattle.sig_plan.specs.Small.{Small, small_of, IsSmallProgram};
 
+mod ahead;
 mod answer;
+mod bodies;
+mod constant;
+mod declaration;
+mod expression;
 mod form;
+mod keyword;
+mod leaf;
 mod names;
+mod natural;
+mod operator;
+mod parser;
 mod places;
+mod pragma;
+mod process;
+mod program;
+mod refusal;
 mod rules;
+mod sides;
 mod words;
 
 pub use answer::SmallAnswer;
+pub use program::parse;
+pub use refusal::ParseAnswer;
 use sig_base::limits::PROGRAM_BYTES;
 use sig_plan::Straight;
 use std::alloc::Global;

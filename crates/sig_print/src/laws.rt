@@ -12,6 +12,7 @@ ghost use Rattle.sig_tree.specs.Unplaced.{unplaced, unplaced_leaves};
 ghost use Rattle.sig_print.specs.Canonical.{canonical_text, process_words};
 
 use sig_lex::{each_token, tokens_of_words};
+use sig_tree::one_program;
 
 /// A law: where a text is that of a program, each canonical word of the program is a token by itself.
 pub fn words_are_spelled()
@@ -47,4 +48,13 @@ pub fn round_trip()
         (others : List ProcessModel) × IsText (canonical_text processes) others × (unplaced others ≡ unplaced processes) }
 {
     canonical_leaves();
+}
+
+/// A law: the canonical text of such a program is the text of no other program, places aside.
+pub fn no_other_program()
+    ensures { (text : List ℕ) (processes others : List ProcessModel) → IsText text processes →
+        IsText (canonical_text processes) others → unplaced others ≡ unplaced processes }
+{
+    round_trip();
+    one_program();
 }

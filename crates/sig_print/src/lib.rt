@@ -10,7 +10,9 @@ mod process;
 mod words;
 
 pub use answer::PrintAnswer;
-pub use laws::{canonical_leaves, round_trip, words_are_spelled, words_are_tokens};
+pub use laws::{
+    canonical_leaves, no_other_program, round_trip, words_are_spelled, words_are_tokens,
+};
 pub use process::print;
 
 #[cfg(test)]

@@ -1,0 +1,5 @@
+pub mod AgreeAnswers
+pub mod BreakLemmas
+pub mod FunctionRows
+pub mod VerdictLemmas
+pub mod ZipLemmas

@@ -1,0 +1,4 @@
+pub mod Decides
+pub mod Nodes
+pub mod Rows
+pub mod Verdicts

@@ -1,0 +1,9 @@
+-- What the code sees of a signal, as the definition of traces has it.
+use Rattle.std.specs.Prelude.{None, Some}
+use Rattle.sig_base.specs.Traces.{Seen as SeenAt}
+use Rattle.sig_judge.specs.declared.trace.Seen.{Seen}
+use Rattle.sig_judge.specs.declared.trace.Seen.TheVariants.{Absent, Value}
+
+abbrev pub seen_of : Seen → SeenAt
+seen_of Absent = None
+seen_of (Value v) = Some v

@@ -1,0 +1,18 @@
+//! The judge of traces: whether a trace is one of the process of a flat body. What that means is
+//! defined in sig_tree; the judge reads a trace once, instant by instant. It stands on sig_base and
+//! sig_tree.
+#![tactic(auto)]
+
+mod answer;
+mod body;
+mod equation;
+mod function;
+mod node;
+mod operator;
+mod presence;
+mod trace;
+mod verdict;
+
+pub use answer::JudgeAnswer;
+pub use trace::{Row, Seen, Trace};
+pub use verdict::{Verdict, judge};

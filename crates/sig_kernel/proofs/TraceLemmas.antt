@@ -1,0 +1,134 @@
+-- Lemmas on the traces of a kernel.
+use Rattle.std.proofs.Common.{◌≡◌, ◌≤◌, ◌+◌, ◌++◌, ℕ, ℤ, pos, Bool, true, false, not, List, [], ◌∷◌, length, take, map, get_or, refl, ap, sym, subst, ◌∙◌, arith, append_assoc, ◌<◌}
+use Rattle.std.specs.Prelude.{Option, None, Some, option_to_list, flat_map, Contains, ⊤, slice_index_or, suc, zero}
+use Rattle.std.specs.List.{AllByRecursion}
+use Rattle.std.proofs.lemmas.List.{append-nil}
+use Rattle.sig_base.specs.Traces.{Trace, Instant, Seen, Range, is_silent, seen_at, flow_of, reduce, IsPrefixOf, AreOfKinds}
+use Rattle.sig_base.specs.declared.ids.Kind.{Kind}
+use Rattle.sig_base.specs.declared.ids.SigId.{SigId}
+use Rattle.sig_base.specs.declared.signal.Signal.{Signal}
+use Rattle.sig_base.specs.declared.span.Span.{Span}
+use Rattle.sig_kernel.specs.KernelTraces.{Memory, last_of, remembered, where_present, AreAbsent, IsReaction, IsTraceIn, Meets}
+use Rattle.sig_kernel.specs.declared.equation.Equation.{Equation}
+use Rattle.sig_kernel.specs.declared.equation.Form.{Form}
+use Rattle.sig_kernel.specs.declared.equation.Form.TheVariants.{Fun, Delay, When, WhenConst, Default, Sync, Event}
+use Rattle.sig_kernel.specs.declared.equation.Operand.{Operand}
+use Rattle.sig_kernel.specs.declared.equation.Operand.TheVariants.{Sig, Const}
+use Rattle.sig_kernel.specs.declared.kernel.Kernel.{Kernel}
+
+-- the instants of a trace are instants of a kernel, behind others
+abbrev pub Runs : Range → Kernel → Trace → Trace → Type 0
+Runs range kernel past [] = ⊤
+Runs range kernel past (instant ∷ trace) = IsReaction range kernel (remembered past) instant × Runs range kernel (past ++ instant ∷ []) trace
+
+pub runs_behind : (range : Range) (kernel : Kernel) (past trace : Trace) → IsTraceIn range kernel (past ++ trace) → Runs range kernel past trace
+runs_behind range kernel past [] is = tt
+runs_behind range kernel past (instant ∷ trace) is =
+    (is past instant trace refl, runs_behind range kernel (past ++ instant ∷ []) trace (rw append_assoc is))
+
+at_split : (range : Range) (kernel : Kernel) (past front : Trace) (instant : Instant) (back : Trace) → Runs range kernel past (front ++ instant ∷ back) → IsReaction range kernel (remembered (past ++ front)) instant
+at_split range kernel past [] instant back runs = rw append-nil runs.0
+at_split range kernel past (first ∷ front) instant back runs =
+    rw (← append_assoc past (first ∷ []) front) (at_split range kernel (past ++ first ∷ []) front instant back runs.1)
+
+pub trace_from_runs : (range : Range) (kernel : Kernel) (trace : Trace) → Runs range kernel [] trace → IsTraceIn range kernel trace
+trace_from_runs range kernel trace runs past instant back is = at_split range kernel [] past instant back (subst (λ t. Runs range kernel [] t) is runs)
+
+pub runs_from_trace : (range : Range) (kernel : Kernel) (trace : Trace) → IsTraceIn range kernel trace → Runs range kernel [] trace
+runs_from_trace range kernel trace is = runs_behind range kernel [] trace is
+
+-- two pasts that leave the same to be remembered
+abbrev pub SameFlows : Trace → Trace → Type 0
+SameFlows past other = (signal : ℕ) → flow_of signal past ≡ flow_of signal other
+
+same_memory : (past other : Trace) → SameFlows past other → remembered past ≡ remembered other
+same_memory past other same = λ i signal initial. last_of initial (same signal i)
+
+pub flow_append : (signal : ℕ) (t u : Trace) → flow_of signal (t ++ u) ≡ flow_of signal t ++ flow_of signal u
+flow_append signal [] u = refl
+flow_append signal (instant ∷ t) u =
+    ap (λ rest. option_to_list (seen_at instant signal) ++ rest) (flow_append signal t u) ∙ sym (append_assoc (option_to_list (seen_at instant signal)) (flow_of signal t) (flow_of signal u))
+
+-- an instant behind both
+same_more : (past other more : Trace) → SameFlows past other → SameFlows (past ++ more) (other ++ more)
+same_more past other more same signal =
+    flow_append signal past more ∙ ap (λ front. front ++ flow_of signal more) (same signal) ∙ sym (flow_append signal other more)
+
+pub silent_at : (instant : Instant) (signal : ℕ) → is_silent instant ≡ true → seen_at instant signal ≡ None
+silent_at [] signal silent = refl
+silent_at (None ∷ instant) zero silent = refl
+silent_at (None ∷ instant) (suc signal) silent = silent_at instant signal silent
+silent_at (Some v ∷ instant) signal silent = cc
+
+-- a silent instant leaves nothing to be remembered
+silent_more : (past : Trace) (instant : Instant) → is_silent instant ≡ true → SameFlows (past ++ instant ∷ []) past
+silent_more past instant silent signal =
+    flow_append signal past (instant ∷ []) ∙ ap (λ seen. flow_of signal past ++ (option_to_list seen ++ [])) (silent_at instant signal silent) ∙ append-nil (flow_of signal past)
+
+-- the same instants behind another past
+pub runs_same : (range : Range) (kernel : Kernel) (past other trace : Trace) → SameFlows past other → Runs range kernel past trace → Runs range kernel other trace
+runs_same range kernel past other [] same runs = tt
+runs_same range kernel past other (instant ∷ trace) same runs = (
+  subst (λ m. IsReaction range kernel m instant) (same_memory past other same) runs.0,
+  runs_same range kernel (past ++ instant ∷ []) (other ++ instant ∷ []) trace (same_more past other (instant ∷ []) same) runs.1,
+)
+
+runs_reduced : (range : Range) (kernel : Kernel) (past other trace : Trace) → SameFlows past other → Runs range kernel past trace → Runs range kernel other (reduce trace)
+runs_reduced range kernel past other [] same runs = tt
+runs_reduced range kernel past other (instant ∷ trace) same runs = one (is_silent instant) refl (λ q e. runs_reduced range kernel (past ++ instant ∷ []) q trace e runs.1) where
+  one : (silent : Bool) → is_silent instant ≡ silent → ((q : Trace) → SameFlows (past ++ instant ∷ []) q → Runs range kernel q (reduce trace)) → Runs range kernel other (reduce (instant ∷ trace))
+  one true is rest = rw is (rest other (λ signal. silent_more past instant is signal ∙ same signal))
+  one false is rest = rw is (subst (λ m. IsReaction range kernel m instant) (same_memory past other same) runs.0, rest (other ++ instant ∷ []) (same_more past other (instant ∷ []) same))
+
+pub reduced_trace : (range : Range) (kernel : Kernel) (trace : Trace) → IsTraceIn range kernel trace → IsTraceIn range kernel (reduce trace)
+reduced_trace range kernel trace is =
+    trace_from_runs range kernel (reduce trace) (runs_reduced range kernel [] [] trace (λ signal. refl) (runs_from_trace range kernel trace is))
+
+silent_operands : (instant : Instant) (operands : List Operand) → is_silent instant ≡ true → AreAbsent instant operands
+silent_operands instant [] silent = tt
+silent_operands instant (Sig x ∷ operands) silent = (silent_at instant x.0 silent, silent_operands instant operands silent)
+silent_operands instant (Const c ∷ operands) silent = silent_operands instant operands silent
+
+-- a silent instant meets each equation
+silent_meets : (range : Range) (memory : Memory) (instant : Instant) (form : Form) → is_silent instant ≡ true → Meets range memory instant form
+silent_meets range memory instant (Fun y op operands) silent = rw (silent_at instant y.0 silent) (silent_operands instant operands silent)
+silent_meets range memory instant (Delay y x initial) silent = rw (silent_at instant y.0 silent, silent_at instant x.0 silent) refl
+silent_meets range memory instant (When y x b) silent = rw (silent_at instant y.0 silent, silent_at instant b.0 silent) refl
+silent_meets range memory instant (WhenConst y c b) silent = rw (silent_at instant y.0 silent, silent_at instant b.0 silent) refl
+silent_meets range memory instant (Default y u v) silent = rw (silent_at instant y.0 silent, silent_at instant u.0 silent, silent_at instant v.0 silent) refl
+silent_meets range memory instant (Sync x y) silent = rw (silent_at instant x.0 silent, silent_at instant y.0 silent) refl
+silent_meets range memory instant (Event y x) silent = rw (silent_at instant y.0 silent, silent_at instant x.0 silent) refl
+
+silent_meets_all : (range : Range) (memory : Memory) (instant : Instant) (equations : List Equation) → is_silent instant ≡ true → AllByRecursion (λ equation. Meets range memory instant equation.form) equations
+silent_meets_all range memory instant [] silent = tt
+silent_meets_all range memory instant (equation ∷ equations) silent = (silent_meets range memory instant equation.form silent, silent_meets_all range memory instant equations silent)
+
+silent_kinds : (range : Range) (signals : List Signal) (instant : Instant) → is_silent instant ≡ true → length instant ≡ length signals → AreOfKinds range (map (λ signal. signal.kind) signals) instant
+silent_kinds range [] [] silent count = tt
+silent_kinds range [] (seen ∷ instant) silent count = absurd (omega (arith, count))
+silent_kinds range (signal ∷ signals) [] silent count = absurd (omega (arith, count))
+silent_kinds range (signal ∷ signals) (None ∷ instant) silent count = (tt, silent_kinds range signals instant silent (omega (arith, count)))
+silent_kinds range (signal ∷ signals) (Some v ∷ instant) silent count = cc
+
+runs_with : (range : Range) (kernel : Kernel) (past front back : Trace) (instant : Instant) → is_silent instant ≡ true → length instant ≡ length kernel.signals
+    → Runs range kernel past (front ++ back) → Runs range kernel past (front ++ instant ∷ back)
+runs_with range kernel past [] back instant silent count runs = (
+  record { kinds = silent_kinds range kernel.signals instant silent count; equations = silent_meets_all range (remembered past) instant kernel.equations silent },
+  runs_same range kernel past (past ++ instant ∷ []) back (λ signal. sym (silent_more past instant silent signal)) runs,
+)
+runs_with range kernel past (first ∷ front) back instant silent count runs = (runs.0, runs_with range kernel (past ++ first ∷ []) front back instant silent count runs.1)
+
+pub silent_put_in : (range : Range) (kernel : Kernel) (front back : Trace) (instant : Instant) → is_silent instant ≡ true → length instant ≡ length kernel.signals
+    → IsTraceIn range kernel (front ++ back) → IsTraceIn range kernel (front ++ instant ∷ back)
+silent_put_in range kernel front back instant silent count is =
+    trace_from_runs range kernel (front ++ instant ∷ back) (runs_with range kernel [] front back instant silent count (runs_from_trace range kernel (front ++ back) is))
+
+pub prefix_trace : (range : Range) (kernel : Kernel) (front trace : Trace) → IsPrefixOf front trace → IsTraceIn range kernel trace → IsTraceIn range kernel front
+prefix_trace range kernel front trace begins is past instant back split =
+    is past instant (back ++ begins.0) (begins.1 ∙ ap (λ t. t ++ begins.0) split ∙ append_assoc past (instant ∷ back) begins.0)
+
+pub no_instants : (range : Range) (kernel : Kernel) → IsTraceIn range kernel []
+no_instants range kernel past instant back split = absurd (never past instant back (ap length split)) where
+  never : (past : Trace) (instant : Instant) (back : Trace) → 0 ≡ length (past ++ instant ∷ back) → ⊥
+  never [] instant back e = omega (arith, e)
+  never (first ∷ past) instant back e = omega (arith, e)

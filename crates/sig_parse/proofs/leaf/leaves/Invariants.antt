@@ -1,0 +1,7 @@
+use Rattle.std.proofs.Common.{◌≡◌, map, take}
+use Rattle.sig_tree.specs.Leaves.{leaves_of}
+use Rattle.sig_parse.specs.Seen.{leaf_seen}
+use Rattle.sig_parse.proofs.leaf.leaves.Given as goal
+
+abbrev pub invariant-loop-token : goal.invariant-loop-token
+invariant-loop-token l = map leaf_seen l.leaves.items ≡ leaves_of l.bytes (take l.token-index l.tokens)

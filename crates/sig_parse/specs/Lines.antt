@@ -1,0 +1,13 @@
+-- The lines of the parser's answers, each without its newline.
+use Rattle.std.specs.Prelude.{ℕ, ◌++◌, ◌==◌, List, codes, if◌then◌else◌}
+use Rattle.std.specs.Fmt.{decimal}
+use Rattle.sig_base.specs.Lines.{refusal_at, refusal}
+use Rattle.sig_parse.specs.declared.refusal.ParseAnswer.{ParseAnswer}
+use Rattle.sig_parse.specs.declared.refusal.ParseAnswer.TheVariants.{Syntax, Nesting, OutOfMemory}
+
+abbrev pub answer_line : ParseAnswer → List ℕ
+answer_line (Syntax at) = refusal_at at (codes "syntax")
+answer_line (Nesting limit at) = refusal_at at (if limit == 512
+    then codes "more than " ++ decimal limit ++ codes " operators"
+    else codes "nesting deeper than " ++ decimal limit)
+answer_line OutOfMemory = refusal (codes "out of memory")

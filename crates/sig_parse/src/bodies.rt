@@ -1,0 +1,98 @@
+//! Definitions, clock equations and bodies.
+
+ghost use Rattle.std.specs.Prelude.{◌≡◌, codes, map, IfOk};
+ghost use Rattle.sig_tree.specs.Syntax.{expression_of, equations_of};
+ghost use Rattle.sig_tree.specs.Terminals.{mark};
+ghost use Rattle.sig_tree.specs.Limits.{both_limits};
+ghost use Rattle.sig_tree.specs.Repeated.{Listed};
+ghost use Rattle.sig_tree.specs.Equations.{IsClockEquation, IsBody};
+ghost use Rattle.sig_parse.specs.Reads.{Covers};
+
+use crate::ahead::begins_definition;
+use crate::expression::expression;
+use crate::keyword::Keyword;
+use crate::parser::{Parser, inside};
+use crate::refusal::ParseAnswer;
+use crate::sides::{left_side, right_side};
+use sig_tree::{Body, Expr};
+use std::alloc::Global;
+
+/// A definition: a left side, `:=` and a right side.
+fn definition(alloc: Global, parser: &mut Parser, depth: u32) -> Result<Body, ParseAnswer>
+    ensures { IfOk result (λ body. Covers (IsBody both_limits (equations_of body) depth) parser.old parser.new) }
+{
+    parser.begin_equation();
+    let names = left_side(alloc, parser, depth)?;
+    let _defines = parser.expect(Keyword::Define)?;
+    let right = right_side(alloc, parser, depth)?;
+    Ok(Body::Def(names, right))
+}
+
+/// A clock equation: two or more expressions with `^=` between them.
+fn clock_equation(alloc: Global, parser: &mut Parser, depth: u32) -> Result<Body, ParseAnswer>
+    ensures { IfOk result (λ body. Covers (IsBody both_limits (equations_of body) depth) parser.old parser.new) }
+{
+    parser.begin_equation();
+    Ok(Body::Same(operands(alloc, parser, depth)?))
+}
+
+/// The operands of a clock equation.
+fn operands(alloc: Global, parser: &mut Parser, depth: u32) -> Result<Vec<Expr>, ParseAnswer>
+    requires { parser.old.operators ≡ 0 }
+    ensures { IfOk result (λ operands. Covers (IsClockEquation both_limits depth (map expression_of operands.items)) parser.old parser.new) }
+{
+    let mut all = Vec::new(alloc);
+    all.push(expression(alloc, parser, depth)?)?;
+    let _same = parser.expect(Keyword::SameClock)?;
+    all.push(expression(alloc, parser, depth)?)?;
+    loop {
+        let Some(_) = parser.take(Keyword::SameClock) else {
+            return Ok(all);
+        };
+        all.push(expression(alloc, parser, depth)?)?;
+    }
+}
+
+/// A body, inside so many constructs.
+#[cycle(body)]
+pub fn body(alloc: Global, parser: &mut Parser, depth: u32) -> Result<Body, ParseAnswer>
+    ensures { IfOk result (λ body. Covers (IsBody both_limits (equations_of body) depth) parser.old parser.new) }
+{
+    if parser.is(Keyword::BodyOpen) {
+        together(alloc, parser, depth)
+    } else if begins_definition(parser) {
+        definition(alloc, parser, depth)
+    } else {
+        clock_equation(alloc, parser, depth)
+    }
+}
+
+/// Bodies between `(|` and `|)`.
+#[cycle(body)]
+fn together(alloc: Global, parser: &mut Parser, depth: u32) -> Result<Body, ParseAnswer>
+    ensures { IfOk result (λ body. Covers (IsBody both_limits (equations_of body) depth) parser.old parser.new) }
+{
+    let inner = inside(parser, depth)?;
+    let _opened = parser.expect(Keyword::BodyOpen)?;
+    let all = bodies(alloc, parser, inner)?;
+    let _closed = parser.expect(Keyword::BodyClose)?;
+    Ok(Body::All(all))
+}
+
+/// Bodies with `|` between them, up to `|)`.
+#[cycle(body)]
+fn bodies(alloc: Global, parser: &mut Parser, depth: u32) -> Result<Vec<Body>, ParseAnswer>
+    ensures { IfOk result (λ bodies. Covers (Listed (λ body leaves. IsBody both_limits body depth leaves) (mark (codes "|")) (map equations_of bodies.items)) parser.old parser.new) }
+{
+    let mut all = Vec::new(alloc);
+    if parser.is(Keyword::BodyClose) {
+        return Ok(all);
+    }
+    all.push(body(alloc, parser, depth)?)?;
+    loop {
+        let Some(_) = parser.take(Keyword::Bar) else {
+            return Ok(all);
+        };
+        all.push(body(alloc, parser, depth)?)?;
+    }
+}

@@ -1,0 +1,149 @@
+//! Processes.
+
+ghost use Rattle.std.specs.Prelude.{◌≡◌, ◌∷◌, [], codes, map, IfOk, OnOk};
+ghost use Rattle.sig_base.specs.declared.span.Span.{Span};
+ghost use Rattle.sig_tree.specs.Syntax.{declared_of, model_of};
+ghost use Rattle.sig_tree.specs.Terminals.{leaf, name_leaf, word, mark};
+ghost use Rattle.sig_tree.specs.Limits.{both_limits};
+ghost use Rattle.sig_tree.specs.Processes.{AreParams, IsInterface, IsLocalGroup, IsModel};
+ghost use Rattle.sig_parse.specs.Declarations.{IsTitle, AreDeclared, AreBehindWhere, IsInnerProcess};
+ghost use Rattle.sig_parse.specs.Reads.{Reads, Covers, Shorter};
+
+use crate::bodies::body;
+use crate::declaration::{Declares, group, groups};
+use crate::keyword::Keyword;
+use crate::parser::{Parser, inside};
+use crate::pragma::pragmas;
+use crate::refusal::ParseAnswer;
+use sig_tree::{Group, Name, Process};
+use std::alloc::Global;
+
+/// Parameters in braces, where `{` is next.
+fn params(alloc: Global, parser: &mut Parser) -> Result<Vec<Group>, ParseAnswer>
+    ensures { IfOk result (λ params. Reads (AreParams (map declared_of params.items)) 0 parser.old parser.new) }
+{
+    let Some(_opened) = parser.take(Keyword::BraceOpen) else {
+        return Ok(Vec::new(alloc));
+    };
+    let all = groups(alloc, parser, Declares::Parameters, Keyword::BraceClose)?;
+    let _closed = parser.expect(Keyword::BraceClose)?;
+    Ok(all)
+}
+
+/// The inputs and the outputs of a process.
+#[derive(Drop)]
+struct Interface {
+    inputs: Vec<Group>,
+    outputs: Vec<Group>,
+}
+
+/// Inputs behind `?` and outputs behind `!`, in parentheses.
+fn inputs_and_outputs(alloc: Global, parser: &mut Parser) -> Result<Interface, ParseAnswer>
+    ensures { IfOk result (λ interface. Reads (IsInterface (map declared_of interface.inputs.items) (map declared_of interface.outputs.items)) 0 parser.old parser.new) }
+{
+    let _opened = parser.expect(Keyword::Open)?;
+    let _asked = parser.expect(Keyword::Question)?;
+    let inputs = groups(alloc, parser, Declares::Inputs, Keyword::Exclamation)?;
+    let _answered = parser.expect(Keyword::Exclamation)?;
+    let outputs = groups(alloc, parser, Declares::Signals, Keyword::Close)?;
+    let _closed = parser.expect(Keyword::Close)?;
+    Ok(Interface { inputs, outputs })
+}
+
+/// `process`, a name and `=`.
+fn title(alloc: Global, parser: &mut Parser) -> Result<Name, ParseAnswer>
+    ensures reads { IfOk result (λ name. Reads (IsTitle name) 0 parser.old parser.new) }
+    ensures shorter { OnOk result (Shorter parser.old parser.new) }
+{
+    let _begun = parser.expect(Keyword::Process)?;
+    let name = parser.name(alloc)?;
+    let _equals = parser.expect(Keyword::Equal)?;
+    Ok(name)
+}
+
+/// A process, whose contents stand inside so many constructs.
+#[cycle(process)]
+pub fn process(alloc: Global, parser: &mut Parser, depth: u32) -> Result<Process, ParseAnswer>
+    ensures reads { IfOk result (λ process. Covers (IsModel both_limits (model_of process) depth) parser.old parser.new) }
+    ensures shorter { OnOk result (Shorter parser.old parser.new) }
+{
+    let name = title(alloc, parser)?;
+    let params = params(alloc, parser)?;
+    let interface = inputs_and_outputs(alloc, parser)?;
+    let run_on = pragmas(alloc, parser)?;
+    let body = body(alloc, parser, depth)?;
+    let declared = where_part(alloc, parser, depth)?;
+    let _ended = parser.expect(Keyword::Semicolon)?;
+    Ok(Process {
+        name,
+        params,
+        inputs: interface.inputs,
+        outputs: interface.outputs,
+        run_on,
+        body,
+        locals: declared.groups,
+        inner: declared.processes,
+    })
+}
+
+/// What a process declares after `where`.
+#[derive(Drop)]
+struct Locals {
+    groups: Vec<Group>,
+    processes: Vec<Process>,
+}
+
+/// What is declared after `where`, where that is next.
+#[cycle(process)]
+fn where_part(alloc: Global, parser: &mut Parser, depth: u32) -> Result<Locals, ParseAnswer>
+    ensures { IfOk result (λ declared. Covers (AreBehindWhere depth (map model_of declared.processes.items) (map declared_of declared.groups.items)) parser.old parser.new) }
+{
+    let Some(_opened) = parser.take(Keyword::Where) else {
+        return Ok(Locals {
+            groups: Vec::new(alloc),
+            processes: Vec::new(alloc),
+        });
+    };
+    let all = entries(alloc, parser, depth)?;
+    let _closed = parser.expect(Keyword::End)?;
+    Ok(all)
+}
+
+/// Groups and inner processes, up to `end`.
+#[cycle(process)]
+fn entries(alloc: Global, parser: &mut Parser, depth: u32) -> Result<Locals, ParseAnswer>
+    ensures { IfOk result (λ declared. Covers (AreDeclared depth (map model_of declared.processes.items) (map declared_of declared.groups.items)) parser.old parser.new) }
+{
+    let mut groups = Vec::new(alloc);
+    let mut processes = Vec::new(alloc);
+    loop {
+        if parser.is(Keyword::End) {
+            return Ok(Locals { groups, processes });
+        }
+        if parser.is(Keyword::Process) {
+            processes.push(inner_process(alloc, parser, depth)?)?;
+        } else {
+            groups.push(local_group(alloc, parser)?)?;
+        }
+    }
+}
+
+/// A process inside one whose contents stand inside so many constructs.
+#[cycle(process)]
+fn inner_process(alloc: Global, parser: &mut Parser, depth: u32) -> Result<Process, ParseAnswer>
+    ensures reads { IfOk result (λ process. Covers (IsInnerProcess depth (model_of process)) parser.old parser.new) }
+    ensures shorter { OnOk result (Shorter parser.old parser.new) }
+{
+    let inner = inside(parser, depth)?;
+    process(alloc, parser, inner)
+}
+
+/// A group and `;`.
+fn local_group(alloc: Global, parser: &mut Parser) -> Result<Group, ParseAnswer>
+    ensures reads { IfOk result (λ group. Reads (IsLocalGroup (declared_of group)) 0 parser.old parser.new) }
+    ensures shorter { OnOk result (Shorter parser.old parser.new) }
+{
+    let one = group(alloc, parser, Declares::Signals)?;
+    let _ended = parser.expect(Keyword::Semicolon)?;
+    Ok(one)
+}

@@ -1,0 +1,129 @@
+//! The sides of definitions.
+
+ghost use Rattle.std.specs.Prelude.{codes, map, sum_by, IfOk};
+ghost use Rattle.sig_tree.specs.Syntax.{expression_of, right_side_of};
+ghost use Rattle.sig_tree.specs.Terminals.{mark};
+ghost use Rattle.sig_tree.specs.Limits.{both_limits, operators, right_operators};
+ghost use Rattle.sig_tree.specs.Repeated.{Separated, Listed};
+ghost use Rattle.sig_tree.specs.Expressions.{IsConstant, IsExpression};
+ghost use Rattle.sig_tree.specs.Equations.{IsName, IsLeft, AreConstants, AreArguments, IsRight};
+ghost use Rattle.sig_parse.specs.Reads.{Reads};
+
+use crate::ahead::begins_call;
+use crate::constant::constant;
+use crate::expression::expression;
+use crate::keyword::Keyword;
+use crate::parser::{Parser, inside};
+use crate::refusal::ParseAnswer;
+use sig_tree::{Constant, Expr, Name, Right};
+use std::alloc::Global;
+
+/// Names with `,` between them.
+pub fn names(alloc: Global, parser: &mut Parser) -> Result<Vec<Name>, ParseAnswer>
+    ensures { IfOk result (λ names. Reads (Separated IsName (mark (codes ",")) names.items) 0 parser.old parser.new) }
+{
+    let mut all = Vec::new(alloc);
+    all.push(parser.name(alloc)?)?;
+    loop {
+        let Some(_) = parser.take(Keyword::Comma) else {
+            return Ok(all);
+        };
+        all.push(parser.name(alloc)?)?;
+    }
+}
+
+/// A name, or names in parentheses.
+pub fn left_side(alloc: Global, parser: &mut Parser, depth: u32) -> Result<Vec<Name>, ParseAnswer>
+    ensures { IfOk result (λ names. Reads (IsLeft both_limits depth names.items) 0 parser.old parser.new) }
+{
+    if parser.is(Keyword::Open) {
+        inside(parser, depth)?;
+        let _opened = parser.expect(Keyword::Open)?;
+        let all = names(alloc, parser)?;
+        let _closed = parser.expect(Keyword::Close)?;
+        Ok(all)
+    } else {
+        let mut all = Vec::new(alloc);
+        all.push(parser.name(alloc)?)?;
+        Ok(all)
+    }
+}
+
+/// Constants with `,` between them, up to `}`.
+fn constant_list(alloc: Global, parser: &mut Parser) -> Result<Vec<Constant>, ParseAnswer>
+    ensures { IfOk result (λ constants. Reads (Listed IsConstant (mark (codes ",")) constants.items) 0 parser.old parser.new) }
+{
+    let mut all = Vec::new(alloc);
+    if parser.is(Keyword::BraceClose) {
+        return Ok(all);
+    }
+    all.push(constant(alloc, parser)?)?;
+    loop {
+        let Some(_) = parser.take(Keyword::Comma) else {
+            return Ok(all);
+        };
+        all.push(constant(alloc, parser)?)?;
+    }
+}
+
+/// Constants in braces, where `{` is next.
+fn constants(alloc: Global, parser: &mut Parser) -> Result<Vec<Constant>, ParseAnswer>
+    ensures { IfOk result (λ constants. Reads (AreConstants constants.items) 0 parser.old parser.new) }
+{
+    let Some(_opened) = parser.take(Keyword::BraceOpen) else {
+        return Ok(Vec::new(alloc));
+    };
+    let all = constant_list(alloc, parser)?;
+    let _closed = parser.expect(Keyword::BraceClose)?;
+    Ok(all)
+}
+
+/// Expressions with `,` between them, up to `)`.
+fn argument_list(alloc: Global, parser: &mut Parser, depth: u32) -> Result<Vec<Expr>, ParseAnswer>
+    ensures { IfOk result (λ arguments. Reads (Listed (IsExpression both_limits depth) (mark (codes ",")) (map expression_of arguments.items))
+        (sum_by operators (map expression_of arguments.items)) parser.old parser.new) }
+{
+    let mut all = Vec::new(alloc);
+    if parser.is(Keyword::Close) {
+        return Ok(all);
+    }
+    all.push(expression(alloc, parser, depth)?)?;
+    loop {
+        let Some(_) = parser.take(Keyword::Comma) else {
+            return Ok(all);
+        };
+        all.push(expression(alloc, parser, depth)?)?;
+    }
+}
+
+/// Expressions in parentheses.
+fn arguments(alloc: Global, parser: &mut Parser, depth: u32) -> Result<Vec<Expr>, ParseAnswer>
+    ensures { IfOk result (λ arguments. Reads (AreArguments both_limits depth (map expression_of arguments.items))
+        (sum_by operators (map expression_of arguments.items)) parser.old parser.new) }
+{
+    let _opened = parser.expect(Keyword::Open)?;
+    let all = argument_list(alloc, parser, depth)?;
+    let _closed = parser.expect(Keyword::Close)?;
+    Ok(all)
+}
+
+/// A call or an expression.
+pub fn right_side(alloc: Global, parser: &mut Parser, depth: u32) -> Result<Right, ParseAnswer>
+    ensures { IfOk result (λ right. Reads (IsRight both_limits depth (right_side_of right)) (right_operators (right_side_of right)) parser.old parser.new) }
+{
+    if begins_call(parser) {
+        call(alloc, parser, depth)
+    } else {
+        Ok(Right::Value(expression(alloc, parser, depth)?))
+    }
+}
+
+/// A name, constants where there are any, and arguments.
+fn call(alloc: Global, parser: &mut Parser, depth: u32) -> Result<Right, ParseAnswer>
+    ensures { IfOk result (λ right. Reads (IsRight both_limits depth (right_side_of right)) (right_operators (right_side_of right)) parser.old parser.new) }
+{
+    let name = parser.name(alloc)?;
+    let values = constants(alloc, parser)?;
+    let arguments = arguments(alloc, parser, depth)?;
+    Ok(Right::Call(name, values, arguments))
+}

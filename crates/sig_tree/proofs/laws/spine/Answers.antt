@@ -1,0 +1,8 @@
+use Rattle.sig_tree.proofs.Spines.{spine_of, of_spine}
+use Rattle.sig_tree.proofs.laws.spine.Goals as goal
+
+pub returns-clause-reads : goal.returns-clause-reads
+returns-clause-reads c = spine_of
+
+pub returns-clause-stands : goal.returns-clause-stands
+returns-clause-stands c = of_spine
