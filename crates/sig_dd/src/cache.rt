@@ -21,27 +21,33 @@ pub(crate) struct Choice {
 pub(crate) type Table = HashMap<Question, Ref>;
 
 impl Store {
-    /// The answer of the question, where it is kept.
-    pub(crate) fn recall(&self, table: &Table, question: Question) -> Option<Ref>
+    /// The answer of the question, where it is kept. The cache is asked only for choices that last.
+    pub(crate) fn recall(&self, table: &Table, question: Question, lasts: bool) -> Option<Ref>
         requires { IsTable ⟦<Question as PartialEq>⟧.eq self.now.nodes table.now }
         ensures { IfSome result (IsAnswer self.now.nodes question) }
     {
         match question {
-            Question::Pick(first, second, third) => self.recall_choice(Choice {
-                first,
-                second,
-                third,
-            }),
+            Question::Pick(first, second, third) => {
+                if !lasts {
+                    return None;
+                }
+                self.recall_choice(Choice {
+                    first,
+                    second,
+                    third,
+                })
+            }
             Question::Fix(..) => table.get(&question).copied(),
         }
     }
 
-    /// Keeps the answer of the question.
+    /// Keeps the answer of the question, that of a choice only where it lasts.
     pub(crate) fn keep(
         &mut self,
         table: &mut Table,
         question: Question,
         r: Ref,
+        lasts: bool,
     ) -> Result<(), AllocError>
         requires held { HoldsAll self.old.nodes question }
         requires answer { IsAnswer self.old.nodes question r }
@@ -51,6 +57,9 @@ impl Store {
     {
         match question {
             Question::Pick(first, second, third) => {
+                if !lasts {
+                    return Ok(());
+                }
                 let choice = Choice {
                     first,
                     second,

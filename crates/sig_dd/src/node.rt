@@ -1,6 +1,6 @@
 //! References to functions, and nodes.
 
-ghost use Rattle.std.specs.Prelude.{if◌then◌else◌, ◌≡◌, ◌⊎◌, ◌+◌, ◌^◌, ◌<◌};
+ghost use Rattle.std.specs.Prelude.{if◌then◌else◌, ◌≡◌, ◌⊎◌, ◌↔◌, ◌+◌, ◌^◌, ◌<◌, IsTrue};
 
 /// A reference to a function of one store. Two references of one store are equal exactly where
 /// their functions are.
@@ -32,6 +32,13 @@ impl Ref {
         ensures { result.number ≡ (if truth then 1 else 0) }
     {
         if truth { Ref::TRUE } else { Ref::FALSE }
+    }
+
+    /// Whether the function is a constant.
+    pub(crate) fn is_constant(self) -> bool
+        ensures { IsTrue result ↔ self.number < 2 }
+    {
+        self.number < 2
     }
 
     /// The reference, but another one where it is this one.

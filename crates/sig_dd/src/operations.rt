@@ -24,7 +24,7 @@ impl Store {
             → Share 1 vs self.old self.new (refusal result) }
     {
         let mut table = HashMap::new(self.allocator());
-        self.answer_in(&mut table, question)
+        self.answer_in(&mut table, question, true)
     }
 
     /// The variable as a function: it is true exactly where the variable is.

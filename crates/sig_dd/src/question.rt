@@ -18,6 +18,19 @@ pub(crate) enum Question {
     Fix(Ref, u32, bool),
 }
 
+impl Question {
+    /// Whether the references alone do not answer the question. It decides only what is kept.
+    fn is_open(self) -> bool {
+        match self {
+            Question::Pick(f, g, h) => {
+                let (g, h) = (g.unless(f, Ref::TRUE), h.unless(f, Ref::FALSE));
+                !f.is_constant() && g != h && (g != Ref::TRUE || h != Ref::FALSE)
+            }
+            Question::Fix(f, ..) => !f.is_constant(),
+        }
+    }
+}
+
 /// A question, split by the first variable that it tests: what it asks where the variable is
 /// false, and where it is true.
 #[derive(Clone, Copy)]
@@ -25,6 +38,16 @@ pub(crate) struct Split {
     pub(crate) variable: u32,
     pub(crate) low: Question,
     pub(crate) high: Question,
+}
+
+impl Split {
+    /// Whether the answer of a choice is worth a place in the cache: of a call's first question where
+    /// one of the two below is open, and of another one where both are. Without such places a choice
+    /// would be answered once for each way to it; a row of other ones is soon gone down again.
+    pub(crate) fn lasts(self, first: bool) -> bool {
+        let (low, high) = (self.low.is_open(), self.high.is_open());
+        (low && high) || (first && (low || high))
+    }
 }
 
 /// What is known of a question at once: its answer, or the two questions below it.

@@ -11,11 +11,13 @@ use crate::question::{Question, Step};
 use crate::store::Store;
 
 impl Store {
-    /// The reference that answers the question. A question is split once while its answer is kept.
+    /// The reference that answers the question, which is a call's first one or one below it. A
+    /// question whose answer lasts is split once while that is kept.
     pub(crate) fn answer_in(
         &mut self,
         table: &mut Table,
         question: Question,
+        first: bool,
     ) -> Result<Ref, DdAnswer>
         requires held { HoldsAll self.old.nodes question }
         requires table { IsTable ⟦<Question as PartialEq>⟧.eq self.old.nodes table.old }
@@ -37,13 +39,14 @@ impl Store {
             Step::Known(r) => return Ok(r),
             Step::Open(split) => split,
         };
-        if let Some(known) = self.recall(table, question) {
+        let lasts = split.lasts(first);
+        if let Some(known) = self.recall(table, question, lasts) {
             return Ok(known);
         }
-        let low = self.answer_in(table, split.low)?;
-        let high = self.answer_in(table, split.high)?;
+        let low = self.answer_in(table, split.low, false)?;
+        let high = self.answer_in(table, split.high, false)?;
         let r = self.node_for(split.variable, low, high)?;
-        self.keep(table, question, r)?;
+        self.keep(table, question, r, lasts)?;
         Ok(r)
     }
 }

@@ -10,6 +10,7 @@ ghost use Rattle.sig_flow.specs.Digits.{is_digits, short_number};
 pub const GREATEST_MAGNITUDE: u64 = 9_223_372_036_854_775_808;
 
 /// The number that digits write, where it is at most the greatest magnitude.
+#[inline(always)]
 pub fn magnitude(digits: &[u8]) -> Option<u64>
     ensures { MatchOption result
         (IsTrue (is_digits digits.now) → GREATEST_MAGNITUDE < digits_value 10 digits.now)

@@ -140,6 +140,7 @@ fn make_room(flow: &mut Flow, bytes: usize, before: usize) -> Result<(), AllocEr
 }
 
 /// Appends the values that a word at this column stands for.
+#[inline(always)]
 fn read_value(
     word: &[u8],
     col: usize,
@@ -170,6 +171,7 @@ fn read_value(
 }
 
 /// Appends a value, so many times.
+#[inline(always)]
 fn append(flow: &mut Flow, run: Run) -> Result<(), AllocError>
     ensures { OnOk result (flow.new ≡ flow.old ++ run_values (Ok run)) }
 {

@@ -26,6 +26,7 @@ pub enum WordFault {
 }
 
 /// What a word stands for, in a file of this version and for an input of this kind.
+#[inline(always)]
 pub fn run_of(word: &[u8], version: Version, kind: Kind) -> Result<Run, WordFault>
     ensures { result ≡ run_said version kind word.now }
 {
@@ -36,6 +37,7 @@ pub fn run_of(word: &[u8], version: Version, kind: Kind) -> Result<Run, WordFaul
 }
 
 /// What a word stands for that may have a star.
+#[inline(never)]
 fn run_with_star(word: &[u8], kind: Kind) -> Result<Run, WordFault>
     ensures { result ≡ star_said kind word.now }
 {
@@ -49,6 +51,7 @@ fn run_with_star(word: &[u8], kind: Kind) -> Result<Run, WordFault>
 }
 
 /// A value, so many times.
+#[inline(always)]
 fn repeated(value: Result<i64, WordFault>, times: u32) -> Result<Run, WordFault>
     ensures { result ≡ repeated times value }
 {
@@ -79,6 +82,7 @@ fn times_of(digits: &[u8]) -> Option<u32>
 }
 
 /// The value of a word of an input of this kind.
+#[inline(always)]
 fn value_of(word: &[u8], kind: Kind) -> Result<i64, WordFault>
     ensures { result ≡ value_said kind word.now }
 {
@@ -108,6 +112,7 @@ fn event_of(word: &[u8]) -> Result<i64, WordFault>
     }
 }
 
+#[inline(always)]
 fn integer_of(word: &[u8]) -> Result<i64, WordFault>
     ensures { result ≡ integer_said word.now }
 {
@@ -124,6 +129,7 @@ fn integer_of(word: &[u8]) -> Result<i64, WordFault>
 }
 
 /// The integer below 0 with this magnitude.
+#[inline(always)]
 fn negative(magnitude: u64) -> i64
     requires { magnitude ≤ GREATEST_MAGNITUDE }
     ensures { result ≡ neg_ℤ (pos magnitude) }
@@ -136,6 +142,7 @@ fn negative(magnitude: u64) -> i64
 }
 
 /// What is wrong with digits that write no integer of 64 bits.
+#[cold]
 fn fault_of(digits: &[u8]) -> WordFault
     ensures { result ≡ (if is_digits digits.now then Outside else Bad) }
 {

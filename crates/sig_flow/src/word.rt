@@ -13,6 +13,7 @@ pub struct Next<'a> {
 }
 
 /// The first word of a line whose first byte stands at this column.
+#[inline(always)]
 pub fn next_word(line: &[u8], col: usize) -> Option<Next>
     requires { col + length line.now < 2 ^ 64 }
     ensures none { IfNone result (words_from col line.now ≡ []) }
@@ -34,6 +35,7 @@ pub fn next_word(line: &[u8], col: usize) -> Option<Next>
 }
 
 /// The number of blanks at the front.
+#[inline(always)]
 fn blanks_in_front(line: &[u8]) -> usize
     ensures within { result ≤ length line.now }
     ensures blank { (k : ℕ) → k < result → is_blank (slice_index line.now k) ≡ true }
@@ -48,6 +50,7 @@ fn blanks_in_front(line: &[u8]) -> usize
 }
 
 /// The number of bytes before the first blank.
+#[inline(always)]
 fn word_length(line: &[u8]) -> usize
     ensures within { result ≤ length line.now }
     ensures word { (k : ℕ) → k < result → is_blank (slice_index line.now k) ≡ false }
@@ -62,6 +65,7 @@ fn word_length(line: &[u8]) -> usize
 }
 
 /// Whether a byte is a space or a tab.
+#[inline(always)]
 fn is_blank(byte: u8) -> bool
     ensures { result ≡ is_blank byte }
 {
