@@ -1,5 +1,5 @@
 -- What the parts of the parser refuse: constants and inits.
-use Rattle.std.proofs.Common.{◌≡◌, ◌++◌, ◌+◌, ◌≤◌, ℕ, zero, suc, List, [], ◌∷◌, Bool, true, false, Option, None, Some, codes, inl, inr, ◌⊎◌, refl, sym, ap, ◌∙◌, subst, arith}
+use Rattle.std.proofs.Common.{◌≡◌, ◌++◌, ℕ, List, [], ◌∷◌, true, false, Option, None, Some, codes, inl, inr, refl, sym, ap, ◌∙◌, subst}
 use Rattle.std.specs.Prelude.{pos, neg_ℤ}
 use Rattle.std.proofs.lemmas.List.{append-nil}
 use Rattle.sig_base.specs.declared.span.Span.{Span}
@@ -7,7 +7,7 @@ use Rattle.sig_tree.specs.declared.expr.Name.{Name}
 use Rattle.sig_tree.specs.declared.expr.Constant.{Constant}
 use Rattle.sig_tree.specs.declared.expr.Constant.TheVariants.{Int, Bool as BoolConstant, Param}
 use Rattle.sig_tree.specs.Terminals.{Terminal, Leaf, leaf, name, number, word, mark, name_leaf}
-use Rattle.sig_tree.specs.Limits.{Limits, both_limits, no_limits}
+use Rattle.sig_tree.specs.Limits.{Limits, no_limits}
 use Rattle.sig_tree.specs.Expressions.{IsConstant, IsInit, IsOptionalInit}
 use Rattle.sig_tree.specs.Readings.{StopsBefore}
 use Rattle.sig_tree.specs.Beginning.{StartsWith, BeginsConstant}
@@ -86,11 +86,11 @@ pub negative_refused : (at : Span) (cause : Cause) (here after : List Leaf) → 
     → Refuses InConstant ContinuesNothing cause (leaf (mark (codes "-")) at ∷ here) after
 negative_refused at cause here after r =
     refuses_inside InNumber InConstant (leaf (mark (codes "-")) at ∷ []) []
-        (λ limits leaves is. (Int (neg_ℤ (pos is.0)) at, inr (is.0, is.1.0, refl, ap (λ l. leaf (mark (codes "-")) at ∷ (l ++ [])) is.1.1)))
-        ContinuesNothing ContinuesNothing cause here after
-        (λ limits rest whole back e is stops same.
-            let parts = negative_part at is.0 rest whole back e is.1 in
-            (parts.0, parts.1, parts.2, parts.3, stops_nothing parts.1)) r
+    (λ limits leaves is. (Int (neg_ℤ (pos is.0)) at, inr (is.0, is.1.0, refl, ap (λ l. leaf (mark (codes "-")) at ∷ (l ++ [])) is.1.1)))
+    ContinuesNothing ContinuesNothing cause here after
+    (λ limits rest whole back e is stops same.
+    let parts = negative_part at is.0 rest whole back e is.1 in
+    (parts.0, parts.1, parts.2, parts.3, stops_nothing parts.1)) r
 
 -- "init" and a constant
 init_part : (at : Span) (c : Constant) (rest whole back : List Leaf) → leaf (word (codes "init")) at ∷ rest ≡ whole ++ back → IsInit c whole
@@ -105,17 +105,17 @@ init_starts c leaves (at, rest, e, is) = subst (λ (l : List Leaf). StartsWith C
 pub no_init_refused : (here : List Leaf) → StopsBefore ContinuesInit here → Refuses InInit ContinuesNothing Wrong here here
 no_init_refused here stops =
     refuses_at_once InInit ContinuesNothing ContinuesInit (leaf (word (codes "init")) no_place ∷ some_leaf ∷ []) (Param some_name, (no_place, some_leaf ∷ [], refl, refl))
-        (λ leaves is. init_starts is.0 leaves is.1) here stops
+    (λ leaves is. init_starts is.0 leaves is.1) here stops
 
 pub init_refused : (at : Span) (cause : Cause) (here after : List Leaf) → Refuses InConstant ContinuesNothing cause here after
     → Refuses InInit ContinuesNothing cause (leaf (word (codes "init")) at ∷ here) after
 init_refused at cause here after r =
     refuses_inside InConstant InInit (leaf (word (codes "init")) at ∷ []) []
-        (λ limits leaves is. (is.0, (at, leaves, ap (λ l. leaf (word (codes "init")) at ∷ l) (append-nil leaves), is.1)))
-        ContinuesNothing ContinuesNothing cause here after
-        (λ limits rest whole back e is stops same.
-            let parts = init_part at is.0 rest whole back e is.1 in
-            (parts.0, back, parts.1, (is.0, parts.2), stops_nothing back)) r
+    (λ limits leaves is. (is.0, (at, leaves, ap (λ l. leaf (word (codes "init")) at ∷ l) (append-nil leaves), is.1)))
+    ContinuesNothing ContinuesNothing cause here after
+    (λ limits rest whole back e is stops same.
+    let parts = init_part at is.0 rest whole back e is.1 in
+    (parts.0, back, parts.1, (is.0, parts.2), stops_nothing back)) r
 
 -- an init that may be missing, where "init" is next
 optional_part : (at : Span) (more : List Leaf) (c : Option Constant) (whole back : List Leaf) → IsOptionalInit c whole → StopsBefore ContinuesInit back
@@ -131,5 +131,5 @@ pub optional_init_refused : (at : Span) (more : List Leaf) (cause : Cause) (afte
     → Refuses InOptionalInit ContinuesInit cause (leaf (word (codes "init")) at ∷ more) after
 optional_init_refused at more cause after r =
     refuses_first InInit InOptionalInit [] (λ limits leaves is. (Some is.0, subst (λ (l : List Leaf). IsInit is.0 l) (sym (append-nil leaves)) is.1))
-        ContinuesNothing ContinuesInit cause (leaf (word (codes "init")) at ∷ more) after
-        (λ limits whole back is stops same. (whole, back, refl, optional_part at more is.0 whole back is.1 stops same, stops_nothing back)) r
+    ContinuesNothing ContinuesInit cause (leaf (word (codes "init")) at ∷ more) after
+    (λ limits whole back is stops same. (whole, back, refl, optional_part at more is.0 whole back is.1 stops same, stops_nothing back)) r

@@ -1,26 +1,25 @@
 -- What the parts of the parser refuse: expressions of a level, from their first operand and the operators
 -- behind it.
-use Rattle.std.proofs.Common.{◌≡◌, ◌++◌, ◌+◌, ◌≤◌, ◌<◌, ℕ, zero, suc, List, [], ◌∷◌, length, codes, Option, None, Some, inl, inr, ◌⊎◌, refl, sym, ap, ◌∙◌, subst, append_assoc, arith}
+use Rattle.std.proofs.Common.{◌≡◌, ◌++◌, ◌+◌, ◌≤◌, ℕ, suc, List, [], ◌∷◌, length, codes, None, inl, inr, ◌⊎◌, refl, sym, ap, ◌∙◌, subst, arith}
 use Rattle.std.proofs.lemmas.List.{append-nil}
 use Rattle.sig_base.specs.declared.span.Span.{Span}
-use Rattle.sig_tree.specs.declared.expr.Constant.{Constant}
 use Rattle.sig_tree.specs.declared.expr.Constant.TheVariants.{Param}
 use Rattle.sig_tree.specs.declared.expr.BinOp.{BinOp}
 use Rattle.sig_tree.specs.Syntax.{Expression, Named}
-use Rattle.sig_tree.specs.Terminals.{Terminal, Leaf, leaf, word, mark, binary_terminal}
-use Rattle.sig_tree.specs.Levels.{mixed_level, relation_level, delay_level, primary_level, binary_level, right_level}
+use Rattle.sig_tree.specs.Terminals.{Terminal, Leaf, leaf, word}
+use Rattle.sig_tree.specs.Levels.{primary_level, right_level}
 use Rattle.sig_tree.specs.Limits.{Limits, both_limits, nesting_limit, no_limits, MayHave, operators}
 use Rattle.sig_tree.specs.Repeated.{Each}
-use Rattle.sig_tree.specs.Expressions.{IsInit, IsOptionalInit, IsOptionalOne, IsAtLevel}
+use Rattle.sig_tree.specs.Expressions.{IsAtLevel}
 use Rattle.sig_tree.specs.Readings.{StopsBefore}
-use Rattle.sig_tree.specs.Continuing.{ContinuesNothing, ContinuesInit, ContinuesExpression}
+use Rattle.sig_tree.specs.Continuing.{ContinuesExpression}
 use Rattle.sig_tree.specs.Spines.{IsOperand, Step, WithOperand, WithCell, WithDelay, stepped, stepped_all, IsStep, AreSoMany}
 use Rattle.sig_tree.specs.Unplaced.{no_place}
 use Rattle.sig_tree.proofs.Operators.{Infix, OfTwo, OfCell, OfDelay, infix_terminal, infix_level, infix_stands, Tighter}
-use Rattle.sig_tree.proofs.Combining.{cons_same, append_to, part_at}
+use Rattle.sig_tree.proofs.Combining.{append_to, part_at}
 use Rattle.sig_tree.proofs.Spines.{spine_of, spine_at, operand_at, operand_unlimited, operand_within, step_unlimited, step_within}
 use Rattle.sig_tree.proofs.ReadSpines.{infix_of_step, place_of_step, step_seen, operand_once, step_once, operand_stops, step_stops}
-use Rattle.sig_parse.specs.Refusals.{Cause, Wrong, TooMany, refused_within, Refuses}
+use Rattle.sig_parse.specs.Refusals.{Cause, Wrong, TooMany, Refuses}
 use Rattle.sig_parse.specs.Languages.{InLevel, InOperand, InStep, InSteps, step_operators, steps_operators}
 use Rattle.sig_parse.proofs.Refusing.{SameFirst, agrees_first, first_stops, refuses_inside, refuses_first, refuses_second}
 use Rattle.sig_parse.proofs.RefusedConstants.{some_name, some_leaf}
@@ -45,30 +44,47 @@ module _ (level depth used : ℕ) (within : level ≤ primary_level) where
       → Refuses (InLevel level depth used) (ContinuesExpression level) cause here after
   level_from_operand cause here after r =
       refuses_first (InOperand level depth used) (InLevel level depth used) []
-          (λ limits leaves is. (is.0, subst (λ (l : List Leaf). IsAtLevel limits level depth is.0 l) (sym (append-nil leaves)) (operand_at limits level depth is.0 leaves within is.1), is.2))
-          (ContinuesExpression (suc level)) (ContinuesExpression level) cause here after
-          (λ limits whole back is stops same.
-              let (first, steps, front, rest, f, g, is_first, are, many) = spine_of limits level depth is.0 whole within is.1 in
-              let count : operators is.0 ≡ operators first + steps_operators steps = ap operators g ∙ all_operators first steps in
-              (front, rest ++ back, append_to whole front rest back f, (first, is_first, fewer limits (used + operators first) (used + operators is.0) (omega arith) is.2),
-                  operand_stops limits level depth steps rest back are stops)) r
+      (λ limits leaves is. (is.0, subst (λ (l : List Leaf). IsAtLevel limits level depth is.0 l) (sym (append-nil leaves)) (operand_at limits level depth is.0 leaves within is.1), is.2))
+      (ContinuesExpression (suc level)) (ContinuesExpression level) cause here after
+      (λ limits whole back is stops same.
+      let (first, steps, front, rest, f, g, is_first, are, many) = spine_of limits level depth is.0 whole within is.1 in
+      let count : operators is.0 ≡ operators first + steps_operators steps = ap operators g ∙ all_operators first steps in (
+        front,
+        rest ++ back,
+        append_to whole front rest back f,
+        (first, is_first, fewer limits (used + operators first) (used + operators is.0) (omega arith) is.2),
+        operand_stops limits level depth steps rest back are stops,
+      )) r
 
   -- what stands behind it is refused
   pub level_from_steps : (x : Expression) (front : List Leaf) → IsOperand both_limits level depth x front → (cause : Cause) (here after : List Leaf) → StopsBefore (ContinuesExpression (suc level)) here
       → Refuses (InSteps level depth 0 (used + operators x)) (ContinuesExpression level) cause here after → Refuses (InLevel level depth used) (ContinuesExpression level) cause (front ++ here) after
   level_from_steps x front is_x cause here after stopped r =
       refuses_second (IsOperand no_limits level depth) (ContinuesExpression (suc level)) (operand_once no_limits level depth) (InSteps level depth 0 (used + operators x)) (InLevel level depth used)
-          x front (operand_unlimited both_limits level depth x front is_x)
-          (λ limits leaves is. (stepped_all x is.0, spine_at limits level depth x is.0 front leaves within (operand_within limits level depth x front is_x) is.1 (λ relation. let many = is.2 relation in omega arith),
-              fewer limits (used + operators (stepped_all x is.0)) (used + operators x + steps_operators is.0) (omega (arith, all_operators x is.0)) is.3))
-          (ContinuesExpression level) (ContinuesExpression level) cause here after stopped
-          (λ limits whole back is stops.
-              let (first, steps, begin, rest, f, g, is_first, are, many) = spine_of limits level depth is.0 whole within is.1 in
-              (first, begin, rest, f, operand_unlimited limits level depth first begin is_first, operand_stops limits level depth steps rest back are stops,
-                  (λ same. (steps, are, (λ relation. let count = many relation in omega arith),
-                      fewer limits (used + operators x + steps_operators steps) (used + operators is.0)
-                          (omega (arith, ap operators g, all_operators first steps, ap operators same)) is.2)),
-                  stops)) r
+      x front (operand_unlimited both_limits level depth x front is_x)
+      (λ limits leaves is. (
+        stepped_all x is.0,
+        spine_at limits level depth x is.0 front leaves within (operand_within limits level depth x front is_x) is.1 (λ relation. let many = is.2 relation in omega arith),
+        fewer limits (used + operators (stepped_all x is.0)) (used + operators x + steps_operators is.0) (omega (arith, all_operators x is.0)) is.3,
+      ))
+      (ContinuesExpression level) (ContinuesExpression level) cause here after stopped
+      (λ limits whole back is stops.
+      let (first, steps, begin, rest, f, g, is_first, are, many) = spine_of limits level depth is.0 whole within is.1 in (
+        first,
+        begin,
+        rest,
+        f,
+        operand_unlimited limits level depth first begin is_first,
+        operand_stops limits level depth steps rest back are stops,
+        (λ same. (
+          steps,
+          are,
+          (λ relation. let count = many relation in omega arith),
+          fewer limits (used + operators x + steps_operators steps) (used + operators is.0)
+              (omega (arith, ap operators g, all_operators first steps, ap operators same)) is.2,
+        )),
+        stops,
+      )) r
 
 -- the terminal is an operator of this level, behind an operand
 abbrev pub IsOfLevel : ℕ → Terminal → Type 0
@@ -88,10 +104,14 @@ module _ (level depth taken used : ℕ) where
       → Refuses (InStep level depth used) (Tighter level) cause (l ∷ more) after → Refuses (InSteps level depth taken used) (ContinuesExpression level) cause (l ∷ more) after
   steps_from_step l more of_level many cause after r =
       refuses_first (InStep level depth used) (InSteps level depth taken used) []
-          (λ limits leaves is. (is.0 ∷ [], (leaves, [], refl, is.1, refl), (λ relation. let most = many relation in omega arith),
-              fewer limits (used + steps_operators (is.0 ∷ [])) (used + step_operators is.0) (omega arith) is.2))
-          (Tighter level) (ContinuesExpression level) cause (l ∷ more) after
-          (λ limits whole back is stops same. go limits whole back is.0 is.1 is.3 stops same) r
+      (λ limits leaves is. (
+        is.0 ∷ [],
+        (leaves, [], refl, is.1, refl),
+        (λ relation. let most = many relation in omega arith),
+        fewer limits (used + steps_operators (is.0 ∷ [])) (used + step_operators is.0) (omega arith) is.2,
+      ))
+      (Tighter level) (ContinuesExpression level) cause (l ∷ more) after
+      (λ limits whole back is stops same. go limits whole back is.0 is.1 is.3 stops same) r
     where
       go : (limits : Limits) (whole back : List Leaf) (steps : List Step) → Each (IsStep limits level depth) steps whole → MayHave limits (used + steps_operators steps) → StopsBefore (ContinuesExpression level) back
           → SameFirst (l ∷ more) (whole ++ back) → (part other : List Leaf) × (whole ++ back ≡ part ++ other) × InStep level depth used limits part × StopsBefore (Tighter level) other
@@ -104,11 +124,14 @@ module _ (level depth taken used : ℕ) where
       → Refuses (InSteps level depth (suc taken) (used + step_operators s)) (ContinuesExpression level) cause here after → Refuses (InSteps level depth taken used) (ContinuesExpression level) cause (front ++ here) after
   steps_from_steps s front is_s cause here after stopped r =
       refuses_inside (InSteps level depth (suc taken) (used + step_operators s)) (InSteps level depth taken used) front []
-          (λ limits leaves is. (s ∷ is.0, (front, leaves ++ [], refl, step_within limits level depth s front is_s, subst (λ (l : List Leaf). Each (IsStep limits level depth) is.0 l) (sym (append-nil leaves)) is.1),
-              (λ relation. let most = is.2 relation in omega arith),
-              fewer limits (used + steps_operators (s ∷ is.0)) (used + step_operators s + steps_operators is.0) (omega arith) is.3))
-          (ContinuesExpression level) (ContinuesExpression level) cause here after
-          (λ limits rest whole back e is stops same. go limits rest whole back e is.0 is.1 is.2 is.3 stops same) r
+      (λ limits leaves is. (
+        s ∷ is.0,
+        (front, leaves ++ [], refl, step_within limits level depth s front is_s, subst (λ (l : List Leaf). Each (IsStep limits level depth) is.0 l) (sym (append-nil leaves)) is.1),
+        (λ relation. let most = is.2 relation in omega arith),
+        fewer limits (used + steps_operators (s ∷ is.0)) (used + step_operators s + steps_operators is.0) (omega arith) is.3,
+      ))
+      (ContinuesExpression level) (ContinuesExpression level) cause here after
+      (λ limits rest whole back e is stops same. go limits rest whole back e is.0 is.1 is.2 is.3 stops same) r
     where
       go : (limits : Limits) (rest whole back : List Leaf) → front ++ rest ≡ whole ++ back → (steps : List Step) → Each (IsStep limits level depth) steps whole → AreSoMany level (taken + length steps) → MayHave limits (used + steps_operators steps)
           → StopsBefore (ContinuesExpression level) back → SameFirst here rest
@@ -117,13 +140,22 @@ module _ (level depth taken used : ℕ) where
           let seen = step_seen both_limits level depth s front is_s in
           let begin : leaf (infix_terminal (infix_of_step s)) (place_of_step s) ∷ (seen.0 ++ rest) ≡ back = ap (λ l. l ++ rest) (sym seen.2) ∙ e ∙ ap (λ l. l ++ back) f in
           absurd (some_step level (leaf (infix_terminal (infix_of_step s)) (place_of_step s)) (seen.0 ++ rest) back (infix_of_step s, refl, seen.1)
-              (subst (λ (l : List Leaf). SameFirst (leaf (infix_terminal (infix_of_step s)) (place_of_step s) ∷ (seen.0 ++ rest)) l) begin refl) stops)
+          (subst (λ (l : List Leaf). SameFirst (leaf (infix_terminal (infix_of_step s)) (place_of_step s) ∷ (seen.0 ++ rest)) l) begin refl) stops)
       go limits rest whole back e (t ∷ steps) (first, others, f, is, are) many fits stops same =
           let part = part_at (IsStep no_limits level depth) (Tighter level) s (step_once no_limits level depth s) t front first rest (others ++ back) (e ∙ append_to whole first others back f)
-              (step_unlimited both_limits level depth s front is_s) (step_unlimited limits level depth t first is) (first_stops (Tighter level) here rest same stopped) (step_stops limits level depth steps others back are stops) in
-          let count : step_operators s ≡ step_operators t = ap step_operators part.0 in
-          (others, back, part.2, (steps, are, (λ relation. let most = many relation in omega arith),
-              fewer limits (used + step_operators s + steps_operators steps) (used + steps_operators (t ∷ steps)) (omega arith) fits), stops)
+          (step_unlimited both_limits level depth s front is_s) (step_unlimited limits level depth t first is) (first_stops (Tighter level) here rest same stopped) (step_stops limits level depth steps others back are stops) in
+          let count : step_operators s ≡ step_operators t = ap step_operators part.0 in (
+            others,
+            back,
+            part.2,
+            (
+              steps,
+              are,
+              (λ relation. let most = many relation in omega arith),
+              fewer limits (used + step_operators s + steps_operators steps) (used + steps_operators (t ∷ steps)) (omega arith) fits,
+            ),
+            stops,
+          )
 
   -- an operator that may not stand here
   pub steps_stop : used ≤ 512 → (l : Leaf) (more : List Leaf) → ContinuesExpression level l.terminal → ((IsOfLevel level l.terminal → ⊥) ⊎ (AreSoMany level (suc taken) → ⊥))
@@ -145,7 +177,7 @@ module _ (level depth taken used : ℕ) where
     go front back (s ∷ steps) (first, others, f, is, are) many stops same =
         let seen = step_seen no_limits level depth s first is in
         let heads : l ≡ leaf (infix_terminal (infix_of_step s)) (place_of_step s) =
-            subst (λ (w : List Leaf). SameFirst (l ∷ more) w) (append_to front first others back f ∙ ap (λ l. l ++ (others ++ back)) seen.2) same in
+        subst (λ (w : List Leaf). SameFirst (l ∷ more) w) (append_to front first others back f ∙ ap (λ l. l ++ (others ++ back)) seen.2) same in
         refused wrong (infix_of_step s, ap (λ l. l.terminal) heads, seen.1) (λ relation. let most = many relation in omega arith)
       where
         refused : (IsOfLevel level l.terminal → ⊥) ⊎ (AreSoMany level (suc taken) → ⊥) → IsOfLevel level l.terminal → AreSoMany level (suc taken) → ⊥
@@ -188,7 +220,13 @@ module _ (level depth taken used : ℕ) where
 
     completed : (i : Infix) → infix_level i ≡ level → (done : List Leaf) × InSteps level depth taken used nesting_limit (leaf (infix_terminal i) at ∷ done)
     completed (OfTwo op) own = (some_leaf ∷ [], (WithOperand op (Named some_name) at ∷ [], (_, [], refl, (some_leaf ∷ [], own, refl, named (right_level op) (right_low op)), refl), so, λ kept. cc))
-    completed OfCell own =
-        (some_leaf ∷ leaf (word (codes "init")) no_place ∷ some_leaf ∷ [], (WithCell (Named some_name) (Param some_name) at ∷ [],
-            (_, [], refl, (some_leaf ∷ [], leaf (word (codes "init")) no_place ∷ some_leaf ∷ [], own, refl, named primary_level (omega arith), (no_place, some_leaf ∷ [], refl, refl)), refl), so, λ kept. cc))
+    completed OfCell own = (
+      some_leaf ∷ leaf (word (codes "init")) no_place ∷ some_leaf ∷ [],
+      (
+        WithCell (Named some_name) (Param some_name) at ∷ [],
+        (_, [], refl, (some_leaf ∷ [], leaf (word (codes "init")) no_place ∷ some_leaf ∷ [], own, refl, named primary_level (omega arith), (no_place, some_leaf ∷ [], refl, refl)), refl),
+        so,
+        λ kept. cc,
+      ),
+    )
     completed OfDelay own = ([], (WithDelay None at ∷ [], (_, [], refl, ([], [], own, refl, inl refl, refl), refl), so, λ kept. cc))

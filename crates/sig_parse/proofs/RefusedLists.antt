@@ -1,6 +1,6 @@
 -- What is refused of lists with separators, and of what stands in brackets, from what is refused of their
 -- parts.
-use Rattle.std.proofs.Common.{◌≡◌, ◌++◌, ◌+◌, ◌≤◌, ℕ, zero, suc, List, [], ◌∷◌, inl, inr, ◌⊎◌, refl, sym, ap, ◌∙◌, subst, append_assoc, arith}
+use Rattle.std.proofs.Common.{◌≡◌, ◌++◌, ◌+◌, ◌≤◌, ℕ, List, [], ◌∷◌, inl, inr, refl, sym, ap, ◌∙◌, subst, append_assoc, arith}
 use Rattle.std.proofs.lemmas.List.{append-nil}
 use Rattle.sig_base.specs.declared.span.Span.{Span}
 use Rattle.sig_tree.specs.Terminals.{Terminal, Leaf, leaf}
@@ -10,7 +10,7 @@ use Rattle.sig_tree.specs.Readings.{StopsBefore, OneReading}
 use Rattle.sig_tree.specs.Continuing.{ContinuesNothing, ContinuesList}
 use Rattle.sig_tree.specs.Unplaced.{no_place}
 use Rattle.sig_tree.proofs.Stopping.{stops_smaller}
-use Rattle.sig_tree.proofs.Combining.{cons_same, append_to, part_at, further_stops}
+use Rattle.sig_tree.proofs.Combining.{cons_same, append_to, part_at}
 use Rattle.sig_tree.proofs.ReadEquations.{stops_nothing}
 use Rattle.sig_parse.specs.Refusals.{Cause, Refuses}
 use Rattle.sig_parse.specs.Languages.{InOne, counted}
@@ -31,20 +31,20 @@ module _ {A : Type 0} (Is : Limits → A → List Leaf → Type 0) (count : A �
       → Refuses (InOne (Bracketed Is opening closing) count used) ContinuesNothing cause (leaf opening opened ∷ here) after
   bracketed_from_closed opened cause here after r =
       refuses_inside (InOne (Closed Is closing) count used) (InOne (Bracketed Is opening closing) count used) (leaf opening opened ∷ []) []
-          (λ limits leaves is. (is.0, (opened, is.1.0, is.1.1, ap (λ l. leaf opening opened ∷ l) (append-nil leaves ∙ is.1.2), is.1.3), is.2))
-          ContinuesNothing ContinuesNothing cause here after
-          (λ limits rest whole back e is stops same.
-              let heads = cons_same (leaf opening opened) (leaf opening is.1.0) rest (is.1.2 ++ leaf closing is.1.1 ∷ back)
-                  (e ∙ append_to whole (leaf opening is.1.0 ∷ is.1.2) (leaf closing is.1.1 ∷ []) back is.1.3) in
-              (is.1.2 ++ leaf closing is.1.1 ∷ [], back, heads.1 ∙ sym (append_assoc is.1.2 (leaf closing is.1.1 ∷ []) back), (is.0, (is.1.1, is.1.2, refl, is.1.4), is.2), stops_nothing back)) r
+      (λ limits leaves is. (is.0, (opened, is.1.0, is.1.1, ap (λ l. leaf opening opened ∷ l) (append-nil leaves ∙ is.1.2), is.1.3), is.2))
+      ContinuesNothing ContinuesNothing cause here after
+      (λ limits rest whole back e is stops same.
+      let heads = cons_same (leaf opening opened) (leaf opening is.1.0) rest (is.1.2 ++ leaf closing is.1.1 ∷ back)
+      (e ∙ append_to whole (leaf opening is.1.0 ∷ is.1.2) (leaf closing is.1.1 ∷ []) back is.1.3) in
+      (is.1.2 ++ leaf closing is.1.1 ∷ [], back, heads.1 ∙ sym (append_assoc is.1.2 (leaf closing is.1.1 ∷ []) back), (is.0, (is.1.1, is.1.2, refl, is.1.4), is.2), stops_nothing back)) r
 
   module _ (Continues : Terminal → Type 0) (apart : Continues closing → ⊥) where
     -- what stands before the closing one is refused
     pub closed_from_inside : (cause : Cause) (here after : List Leaf) → Refuses (InOne Is count used) Continues cause here after → Refuses (InOne (Closed Is closing) count used) ContinuesNothing cause here after
     closed_from_inside cause here after r =
         refuses_first (InOne Is count used) (InOne (Closed Is closing) count used) (leaf closing no_place ∷ [])
-            (λ limits leaves is. (is.0, (no_place, leaves, refl, is.1), is.2)) Continues ContinuesNothing cause here after
-            (λ limits whole back is stops same. (is.1.1, leaf closing is.1.0 ∷ back, append_to whole is.1.1 (leaf closing is.1.0 ∷ []) back is.1.2, (is.0, is.1.3, is.2), apart)) r
+        (λ limits leaves is. (is.0, (no_place, leaves, refl, is.1), is.2)) Continues ContinuesNothing cause here after
+        (λ limits whole back is stops same. (is.1.1, leaf closing is.1.0 ∷ back, append_to whole is.1.1 (leaf closing is.1.0 ∷ []) back is.1.2, (is.0, is.1.3, is.2), apart)) r
 
     -- the closing one is refused
     module _ (once : OneReading (Is no_limits) Continues) (free : (limits : Limits) (x : A) (leaves : List Leaf) → Is limits x leaves → Is no_limits x leaves)
@@ -53,12 +53,12 @@ module _ {A : Type 0} (Is : Limits → A → List Leaf → Type 0) (count : A �
           → Refuses (InLeaf closing) ContinuesNothing cause here after → Refuses (InOne (Closed Is closing) count used) ContinuesNothing cause (front ++ here) after
       closed_from_end x front is_x few cause here after stopped r =
           refuses_inside (InLeaf closing) (InOne (Closed Is closing) count used) front []
-              (λ limits leaves is. (x, (is.0, front, ap (λ l. front ++ l) (append-nil leaves ∙ is.1), within limits x front is_x), λ kept. few))
-              ContinuesNothing ContinuesNothing cause here after
-              (λ limits rest whole back e is stops same.
-                  let part = part_at (Is no_limits) Continues x (once x) is.0 front is.1.1 rest (leaf closing is.1.0 ∷ back) (e ∙ append_to whole is.1.1 (leaf closing is.1.0 ∷ []) back is.1.2)
-                      (free both_limits x front is_x) (free limits is.0 is.1.1 is.1.3) (first_stops Continues here rest same stopped) apart in
-                  (leaf closing is.1.0 ∷ [], back, part.2, (is.1.0, refl), stops_nothing back)) r
+          (λ limits leaves is. (x, (is.0, front, ap (λ l. front ++ l) (append-nil leaves ∙ is.1), within limits x front is_x), λ kept. few))
+          ContinuesNothing ContinuesNothing cause here after
+          (λ limits rest whole back e is stops same.
+          let part = part_at (Is no_limits) Continues x (once x) is.0 front is.1.1 rest (leaf closing is.1.0 ∷ back) (e ∙ append_to whole is.1.1 (leaf closing is.1.0 ∷ []) back is.1.2)
+          (free both_limits x front is_x) (free limits is.0 is.1.1 is.1.3) (first_stops Continues here rest same stopped) apart in
+          (leaf closing is.1.0 ∷ [], back, part.2, (is.1.0, refl), stops_nothing back)) r
 
 -- lists with separators
 abbrev pub List_of : {A : Type 0} → (Limits → A → List Leaf → Type 0) → Terminal → Limits → List A → List Leaf → Type 0
@@ -85,9 +85,9 @@ module _ {A : Type 0} (Is : Limits → A → List Leaf → Type 0) (count : A �
       → Refuses (InOne (List_of Is separator) (counted count) used) (ContinuesList separator Continues) cause here after
   list_from_first cause here after r =
       refuses_first (InOne Is count used) (InOne (List_of Is separator) (counted count) used) []
-          (λ limits leaves is. (is.0 ∷ [], (leaves, [], refl, is.1, refl), fewer limits (used + counted count (is.0 ∷ [])) (used + count is.0) (omega arith) is.2))
-          Continues (ContinuesList separator Continues) cause here after
-          (λ limits whole back is stops same. go limits whole back is.0 is.1 is.2 stops) r
+      (λ limits leaves is. (is.0 ∷ [], (leaves, [], refl, is.1, refl), fewer limits (used + counted count (is.0 ∷ [])) (used + count is.0) (omega arith) is.2))
+      Continues (ContinuesList separator Continues) cause here after
+      (λ limits whole back is stops same. go limits whole back is.0 is.1 is.2 stops) r
     where
       go : (limits : Limits) (whole back : List Leaf) (xs : List A) → Separated (Is limits) separator xs whole → MayHave limits (used + counted count xs) → StopsBefore (ContinuesList separator Continues) back
           → (part other : List Leaf) × (whole ++ back ≡ part ++ other) × InOne Is count used limits part × StopsBefore Continues other
@@ -101,17 +101,20 @@ module _ {A : Type 0} (Is : Limits → A → List Leaf → Type 0) (count : A �
       → Refuses (InOne (List_of Is separator) (counted count) used) (ContinuesList separator Continues) cause (front ++ here) after
   list_from_more x front is_x cause here after stopped r =
       refuses_inside (InOne (More_of Is separator) (counted count) (used + count x)) (InOne (List_of Is separator) (counted count) used) front []
-          (λ limits leaves is. (x ∷ is.0, (front, leaves ++ [], refl, within limits x front is_x, subst (λ (l : List Leaf). Further (Is limits) separator is.0 l) (sym (append-nil leaves)) is.1),
-              fewer limits (used + counted count (x ∷ is.0)) (used + count x + counted count is.0) (omega arith) is.2))
-          (ContinuesList separator Continues) (ContinuesList separator Continues) cause here after
-          (λ limits rest whole back e is stops same. go limits rest whole back e is.0 is.1 is.2 stops same) r
+      (λ limits leaves is. (
+        x ∷ is.0,
+        (front, leaves ++ [], refl, within limits x front is_x, subst (λ (l : List Leaf). Further (Is limits) separator is.0 l) (sym (append-nil leaves)) is.1),
+        fewer limits (used + counted count (x ∷ is.0)) (used + count x + counted count is.0) (omega arith) is.2,
+      ))
+      (ContinuesList separator Continues) (ContinuesList separator Continues) cause here after
+      (λ limits rest whole back e is stops same. go limits rest whole back e is.0 is.1 is.2 stops same) r
     where
       go : (limits : Limits) (rest whole back : List Leaf) → front ++ rest ≡ whole ++ back → (xs : List A) → Separated (Is limits) separator xs whole → MayHave limits (used + counted count xs) → StopsBefore (ContinuesList separator Continues) back
           → SameFirst here rest → (part other : List Leaf) × (rest ≡ part ++ other) × InOne (More_of Is separator) (counted count) (used + count x) limits part × StopsBefore (ContinuesList separator Continues) other
       go limits rest whole back e [] are fits stops same = absurd are
       go limits rest whole back e (y ∷ ys) (first, others, f, is, are) fits stops same =
           let part = part_at (Is no_limits) Continues x (once x) y front first rest (others ++ back) (e ∙ append_to whole first others back f) (free both_limits x front is_x) (free limits y first is)
-              (first_stops Continues here rest same stopped) (more_stops limits ys others back are (item_stops back stops)) in
+          (first_stops Continues here rest same stopped) (more_stops limits ys others back are (item_stops back stops)) in
           (others, back, part.2, (ys, are, fewer limits (used + count x + counted count ys) (used + counted count (y ∷ ys)) (omega (arith, ap count part.0)) fits), stops)
 
   -- leaves that go on with a separator are no empty list of further items
@@ -123,9 +126,9 @@ module _ {A : Type 0} (Is : Limits → A → List Leaf → Type 0) (count : A �
       → Refuses (InOne (More_of Is separator) (counted count) used) (ContinuesList separator Continues) cause (leaf separator at ∷ here) after
   more_from_item at cause here after r =
       refuses_inside (InOne Is count used) (InOne (More_of Is separator) (counted count) used) (leaf separator at ∷ []) []
-          (λ limits leaves is. (is.0 ∷ [], (at, leaves, [], refl, is.1, refl), fewer limits (used + counted count (is.0 ∷ [])) (used + count is.0) (omega arith) is.2))
-          Continues (ContinuesList separator Continues) cause here after
-          (λ limits rest whole back e is stops same. go limits rest whole back e is.0 is.1 is.2 stops) r
+      (λ limits leaves is. (is.0 ∷ [], (at, leaves, [], refl, is.1, refl), fewer limits (used + counted count (is.0 ∷ [])) (used + count is.0) (omega arith) is.2))
+      Continues (ContinuesList separator Continues) cause here after
+      (λ limits rest whole back e is stops same. go limits rest whole back e is.0 is.1 is.2 stops) r
     where
       go : (limits : Limits) (rest whole back : List Leaf) → leaf separator at ∷ rest ≡ whole ++ back → (xs : List A) → Further (Is limits) separator xs whole → MayHave limits (used + counted count xs) → StopsBefore (ContinuesList separator Continues) back
           → (part other : List Leaf) × (rest ≡ part ++ other) × InOne Is count used limits part × StopsBefore Continues other
@@ -140,10 +143,13 @@ module _ {A : Type 0} (Is : Limits → A → List Leaf → Type 0) (count : A �
       → Refuses (InOne (More_of Is separator) (counted count) used) (ContinuesList separator Continues) cause ((leaf separator at ∷ front) ++ here) after
   more_from_more at x front is_x cause here after stopped r =
       refuses_inside (InOne (More_of Is separator) (counted count) (used + count x)) (InOne (More_of Is separator) (counted count) used) (leaf separator at ∷ front) []
-          (λ limits leaves is. (x ∷ is.0, (at, front, leaves ++ [], refl, within limits x front is_x, subst (λ (l : List Leaf). Further (Is limits) separator is.0 l) (sym (append-nil leaves)) is.1),
-              fewer limits (used + counted count (x ∷ is.0)) (used + count x + counted count is.0) (omega arith) is.2))
-          (ContinuesList separator Continues) (ContinuesList separator Continues) cause here after
-          (λ limits rest whole back e is stops same. go limits rest whole back e is.0 is.1 is.2 stops same) r
+      (λ limits leaves is. (
+        x ∷ is.0,
+        (at, front, leaves ++ [], refl, within limits x front is_x, subst (λ (l : List Leaf). Further (Is limits) separator is.0 l) (sym (append-nil leaves)) is.1),
+        fewer limits (used + counted count (x ∷ is.0)) (used + count x + counted count is.0) (omega arith) is.2,
+      ))
+      (ContinuesList separator Continues) (ContinuesList separator Continues) cause here after
+      (λ limits rest whole back e is stops same. go limits rest whole back e is.0 is.1 is.2 stops same) r
     where
       go : (limits : Limits) (rest whole back : List Leaf) → (leaf separator at ∷ front) ++ rest ≡ whole ++ back → (xs : List A) → Further (Is limits) separator xs whole → MayHave limits (used + counted count xs) → StopsBefore (ContinuesList separator Continues) back
           → SameFirst here rest → (part other : List Leaf) × (rest ≡ part ++ other) × InOne (More_of Is separator) (counted count) (used + count x) limits part × StopsBefore (ContinuesList separator Continues) other
@@ -151,7 +157,7 @@ module _ {A : Type 0} (Is : Limits → A → List Leaf → Type 0) (count : A �
       go limits rest whole back e (y ∷ ys) (place, first, others, f, is, are) fits stops same =
           let heads = cons_same (leaf separator at) (leaf separator place) (front ++ rest) (first ++ (others ++ back)) (e ∙ append_to whole (leaf separator place ∷ first) others back f) in
           let part = part_at (Is no_limits) Continues x (once x) y front first rest (others ++ back) heads.1 (free both_limits x front is_x) (free limits y first is)
-              (first_stops Continues here rest same stopped) (more_stops limits ys others back are (item_stops back stops)) in
+          (first_stops Continues here rest same stopped) (more_stops limits ys others back are (item_stops back stops)) in
           (others, back, part.2, (ys, are, fewer limits (used + count x + counted count ys) (used + counted count (y ∷ ys)) (omega (arith, ap count part.0)) fits), stops)
 
   -- A list that may be empty, up to what closes it, where that is not next.
@@ -160,9 +166,9 @@ module _ {A : Type 0} (Is : Limits → A → List Leaf → Type 0) (count : A �
         → Refuses (InOne (Closed (Any_of Is separator) closing) (counted count) used) ContinuesNothing cause here after
     any_from_list cause here after open_here r =
         refuses_first (InOne (Closed (List_of Is separator) closing) (counted count) used) (InOne (Closed (Any_of Is separator) closing) (counted count) used) []
-            (λ limits leaves is. (is.0, (is.1.0, is.1.1, append-nil leaves ∙ is.1.2, any is.0 limits is.1.1 is.1.3), is.2))
-            ContinuesNothing ContinuesNothing cause here after
-            (λ limits whole back is stops same. (whole, back, refl, (is.0, (is.1.0, is.1.1, is.1.2, some is.0 limits whole back is.1.0 is.1.1 is.1.2 is.1.3 same), is.2), stops)) r
+        (λ limits leaves is. (is.0, (is.1.0, is.1.1, append-nil leaves ∙ is.1.2, any is.0 limits is.1.1 is.1.3), is.2))
+        ContinuesNothing ContinuesNothing cause here after
+        (λ limits whole back is stops same. (whole, back, refl, (is.0, (is.1.0, is.1.1, is.1.2, some is.0 limits whole back is.1.0 is.1.1 is.1.2 is.1.3 same), is.2), stops)) r
       where
         any : (xs : List A) (limits : Limits) (leaves : List Leaf) → Separated (Is limits) separator xs leaves → Listed (Is limits) separator xs leaves
         any [] limits leaves are = absurd are

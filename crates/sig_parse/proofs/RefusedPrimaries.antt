@@ -1,28 +1,28 @@
 -- What the parts of the parser refuse: names, numbers, truths and parentheses.
-use Rattle.std.proofs.Common.{◌≡◌, ◌++◌, ◌+◌, ◌≤◌, ◌<◌, ℕ, zero, suc, List, [], ◌∷◌, codes, inl, inr, ◌⊎◌, refl, sym, ap, ◌∙◌, subst, append_assoc, arith}
+use Rattle.std.proofs.Common.{◌≡◌, ◌++◌, ◌+◌, ◌≤◌, ◌<◌, ℕ, suc, List, [], ◌∷◌, codes, inl, inr, refl, sym, ap, ◌∙◌, subst, arith}
 use Rattle.std.proofs.lemmas.List.{append-nil}
 use Rattle.sig_base.specs.declared.span.Span.{Span}
 use Rattle.sig_tree.specs.declared.expr.UnOp.{UnOp}
 use Rattle.sig_tree.specs.Syntax.{Expression, Named, Number, Truth, Unary, Binary, Delay, Cell}
-use Rattle.sig_tree.specs.Terminals.{Terminal, Leaf, leaf, name, number, mark, truth_word, unary_terminal}
-use Rattle.sig_tree.specs.Levels.{default_level, primary_level, unary_level, operand_level}
-use Rattle.sig_tree.specs.Limits.{Limits, both_limits, nesting_limit, no_limits, MayStandInside, MayHave, operators}
+use Rattle.sig_tree.specs.Terminals.{Leaf, leaf, name, number, mark, truth_word, unary_terminal}
+use Rattle.sig_tree.specs.Levels.{default_level, primary_level}
+use Rattle.sig_tree.specs.Limits.{Limits, both_limits, nesting_limit, no_limits, MayStandInside, operators}
 use Rattle.sig_tree.specs.Expressions.{IsAtLevel}
 use Rattle.sig_tree.specs.Readings.{StopsBefore}
-use Rattle.sig_tree.specs.Beginning.{StartsWith, BeginsExpression}
+use Rattle.sig_tree.specs.Beginning.{BeginsExpression}
 use Rattle.sig_tree.specs.Continuing.{ContinuesNothing, ContinuesExpression}
-use Rattle.sig_tree.specs.Spines.{IsAtom, IsParenthesised, IsOperand}
+use Rattle.sig_tree.specs.Spines.{IsAtom, IsOperand}
 use Rattle.sig_tree.specs.Unplaced.{no_place}
-use Rattle.sig_tree.proofs.Reader.{AtName, AtNumber, AtTruth, AtOpening, AtPrefix, first_of}
+use Rattle.sig_tree.proofs.Reader.{AtTruth, AtOpening, AtPrefix, first_of}
 use Rattle.sig_tree.proofs.Unlimited.{expression_unlimited, expression_within}
 use Rattle.sig_tree.proofs.ReadExpressions.{prefix_first, truth_first, expression_once}
 use Rattle.sig_tree.proofs.FirstLeaves.{expression_begins}
 use Rattle.sig_tree.proofs.Combining.{cons_same, append_to, part_at}
 use Rattle.sig_tree.proofs.ReadEquations.{mark_apart, stops_nothing}
 use Rattle.sig_tree.proofs.Spines.{operand_at}
-use Rattle.sig_parse.specs.Refusals.{Cause, Wrong, TooDeep, refused_within, Refuses}
+use Rattle.sig_parse.specs.Refusals.{Cause, Wrong, TooDeep, Refuses}
 use Rattle.sig_parse.specs.Languages.{InLevel, InOperand}
-use Rattle.sig_parse.proofs.Refusing.{SameFirst, first_stops, refuses_inside, refuses_at_once}
+use Rattle.sig_parse.proofs.Refusing.{first_stops, refuses_inside, refuses_at_once}
 use Rattle.sig_parse.proofs.RefusedConstants.{some_name, some_leaf, InLeaf}
 use Rattle.sig_parse.proofs.RefusedOperands.{named_operand}
 
@@ -30,8 +30,8 @@ module _ (depth used : ℕ) where
   pub atom_refused : used ≤ 512 → (here : List Leaf) → StopsBefore (BeginsExpression primary_level) here → Refuses (InOperand primary_level depth used) (ContinuesExpression (suc primary_level)) Wrong here here
   atom_refused few here stops =
       refuses_at_once (InOperand primary_level depth used) (ContinuesExpression (suc primary_level)) (BeginsExpression primary_level) (some_leaf ∷ [])
-          (Named some_name, named_operand both_limits primary_level depth (omega arith), λ kept. omega arith)
-          (λ leaves is. expression_begins no_limits primary_level depth is.0 leaves (operand_at no_limits primary_level depth is.0 leaves (omega arith) is.1)) here stops
+      (Named some_name, named_operand both_limits primary_level depth (omega arith), λ kept. omega arith)
+      (λ leaves is. expression_begins no_limits primary_level depth is.0 leaves (operand_at no_limits primary_level depth is.0 leaves (omega arith) is.1)) here stops
 
   -- what stands in parentheses
   prefix_no_opening : (op : UnOp) (opened at : Span) (rest more : List Leaf) → leaf (mark (codes "(")) opened ∷ rest ≡ leaf (unary_terminal op) at ∷ more → ⊥
@@ -67,7 +67,7 @@ module _ (depth used : ℕ) where
   parentheses_part opened limits rest whole back e x (inr (inr (own, inl atom))) = absurd (atom_no_opening x opened rest whole back e atom)
   parentheses_part opened limits rest whole back e x (inr (inr (own, inr (may, (begun, closed, inside, f, is))))) =
       let heads = cons_same (leaf (mark (codes "(")) opened) (leaf (mark (codes "(")) begun) rest (inside ++ leaf (mark (codes ")")) closed ∷ back)
-          (e ∙ append_to whole (leaf (mark (codes "(")) begun ∷ inside) (leaf (mark (codes ")")) closed ∷ []) back f) in
+      (e ∙ append_to whole (leaf (mark (codes "(")) begun ∷ inside) (leaf (mark (codes ")")) closed ∷ []) back f) in
       (closed, inside, heads.1, may, is)
 
   in_parentheses : (limits : Limits) (x : Expression) (opened closed : Span) (inside : List Leaf) → MayStandInside limits depth → IsAtLevel limits default_level (suc depth) x inside
@@ -91,23 +91,27 @@ module _ (depth used : ℕ) where
       → Refuses (InOperand primary_level depth used) (ContinuesExpression (suc primary_level)) cause (leaf (mark (codes "(")) opened ∷ here) after
   parentheses_inside shallow opened cause here after r =
       refuses_inside (InLevel default_level (suc depth) used) (InOperand primary_level depth used) (leaf (mark (codes "(")) opened ∷ []) (leaf (mark (codes ")")) no_place ∷ [])
-          (λ limits leaves is. (is.0, in_parentheses limits is.0 opened no_place leaves (λ kept. shallow) is.1, is.2))
-          (ContinuesExpression default_level) (ContinuesExpression (suc primary_level)) cause here after
-          (λ limits rest whole back e is stops same.
-              let part = parentheses_part opened limits rest whole back e is.0 is.1 in
-              (part.1, leaf (mark (codes ")")) part.0 ∷ back, part.2, (is.0, part.4, is.2), mark_apart (codes ")") refl default_level)) r
+      (λ limits leaves is. (is.0, in_parentheses limits is.0 opened no_place leaves (λ kept. shallow) is.1, is.2))
+      (ContinuesExpression default_level) (ContinuesExpression (suc primary_level)) cause here after
+      (λ limits rest whole back e is stops same.
+      let part = parentheses_part opened limits rest whole back e is.0 is.1 in
+      (part.1, leaf (mark (codes ")")) part.0 ∷ back, part.2, (is.0, part.4, is.2), mark_apart (codes ")") refl default_level)) r
 
   pub parentheses_end : depth < 64 → (opened : Span) (x : Expression) (front : List Leaf) → IsAtLevel both_limits default_level (suc depth) x front → used + operators x ≤ 512 → (cause : Cause) (here after : List Leaf)
       → StopsBefore (ContinuesExpression default_level) here → Refuses (InLeaf (mark (codes ")"))) ContinuesNothing cause here after
       → Refuses (InOperand primary_level depth used) (ContinuesExpression (suc primary_level)) cause ((leaf (mark (codes "(")) opened ∷ front) ++ here) after
   parentheses_end shallow opened x front is_x few cause here after stopped r =
       refuses_inside (InLeaf (mark (codes ")"))) (InOperand primary_level depth used) (leaf (mark (codes "(")) opened ∷ front) []
-          (λ limits leaves is. (x, subst (λ (l : List Leaf). IsOperand limits primary_level depth x (leaf (mark (codes "(")) opened ∷ (front ++ l))) (sym (append-nil leaves ∙ is.1))
-              (in_parentheses limits x opened is.0 front (λ kept. shallow) (expression_within limits default_level (suc depth) x front is_x)), λ kept. few))
-          ContinuesNothing (ContinuesExpression (suc primary_level)) cause here after
-          (λ limits rest whole back e is stops same.
-              let part = parentheses_part opened limits (front ++ rest) whole back e is.0 is.1 in
-              let one = part_at (IsAtLevel no_limits default_level (suc depth)) (ContinuesExpression default_level) x (expression_once no_limits default_level (suc depth) x) is.0 front part.1 rest (leaf (mark (codes ")")) part.0 ∷ back) part.2
-                  (expression_unlimited both_limits default_level (suc depth) (suc depth) x front is_x) (expression_unlimited limits default_level (suc depth) (suc depth) is.0 part.1 part.4)
-                  (first_stops (ContinuesExpression default_level) here rest same stopped) (mark_apart (codes ")") refl default_level) in
-              (leaf (mark (codes ")")) part.0 ∷ [], back, one.2, (part.0, refl), stops_nothing back)) r
+      (λ limits leaves is. (
+        x,
+        subst (λ (l : List Leaf). IsOperand limits primary_level depth x (leaf (mark (codes "(")) opened ∷ (front ++ l))) (sym (append-nil leaves ∙ is.1))
+            (in_parentheses limits x opened is.0 front (λ kept. shallow) (expression_within limits default_level (suc depth) x front is_x)),
+        λ kept. few,
+      ))
+      ContinuesNothing (ContinuesExpression (suc primary_level)) cause here after
+      (λ limits rest whole back e is stops same.
+      let part = parentheses_part opened limits (front ++ rest) whole back e is.0 is.1 in
+      let one = part_at (IsAtLevel no_limits default_level (suc depth)) (ContinuesExpression default_level) x (expression_once no_limits default_level (suc depth) x) is.0 front part.1 rest (leaf (mark (codes ")")) part.0 ∷ back) part.2
+      (expression_unlimited both_limits default_level (suc depth) (suc depth) x front is_x) (expression_unlimited limits default_level (suc depth) (suc depth) is.0 part.1 part.4)
+      (first_stops (ContinuesExpression default_level) here rest same stopped) (mark_apart (codes ")") refl default_level) in
+      (leaf (mark (codes ")")) part.0 ∷ [], back, one.2, (part.0, refl), stops_nothing back)) r

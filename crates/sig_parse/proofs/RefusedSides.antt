@@ -1,5 +1,5 @@
 -- What is refused of left and right sides, from what is refused of their parts.
-use Rattle.std.proofs.Common.{◌≡◌, ◌++◌, ◌+◌, ◌≤◌, ◌<◌, ℕ, zero, suc, List, [], ◌∷◌, codes, inl, inr, ◌⊎◌, refl, sym, ap, ◌∙◌, subst, append_assoc, arith}
+use Rattle.std.proofs.Common.{◌≡◌, ◌++◌, ◌+◌, ◌≤◌, ◌<◌, ℕ, List, [], ◌∷◌, codes, inl, inr, refl, sym, ap, ◌∙◌, subst, append_assoc, arith}
 use Rattle.std.proofs.lemmas.List.{append-nil}
 use Rattle.std.proofs.lemmas.List.Sums.{sum_by-cons}
 use Rattle.std.specs.Prelude.{sum_by}
@@ -7,11 +7,11 @@ use Rattle.sig_base.specs.declared.span.Span.{Span}
 use Rattle.sig_tree.specs.declared.expr.Name.{Name}
 use Rattle.sig_tree.specs.declared.expr.Constant.{Constant}
 use Rattle.sig_tree.specs.Syntax.{Expression, Named, RightSide, Computed, Called}
-use Rattle.sig_tree.specs.Terminals.{Terminal, Leaf, leaf, name, mark, name_leaf}
+use Rattle.sig_tree.specs.Terminals.{Leaf, leaf, mark, name_leaf}
 use Rattle.sig_tree.specs.Levels.{default_level}
-use Rattle.sig_tree.specs.Limits.{Limits, both_limits, nesting_limit, no_limits, MayStandInside, MayHave, operators, right_operators}
+use Rattle.sig_tree.specs.Limits.{Limits, nesting_limit, no_limits, MayStandInside, MayHave, operators, right_operators}
 use Rattle.sig_tree.specs.Repeated.{Separated, Listed}
-use Rattle.sig_tree.specs.Expressions.{IsConstant, IsExpression, IsAtLevel}
+use Rattle.sig_tree.specs.Expressions.{IsConstant, IsExpression}
 use Rattle.sig_tree.specs.Equations.{IsName, IsLeft, AreConstants, AreArguments, IsRight}
 use Rattle.sig_tree.specs.Readings.{StopsBefore}
 use Rattle.sig_tree.specs.Beginning.{StartsWith, BeginsLeft}
@@ -54,7 +54,7 @@ module _ (depth : ℕ) where
   left_part opened limits names rest whole back e (inl (n, one, f)) = absurd (name_no_mark n (codes "(") opened back rest (sym (e ∙ ap (λ l. l ++ back) f)))
   left_part opened limits names rest whole back e (inr (may, (begun, closed, inside, f, are))) =
       let heads = cons_same (leaf (mark (codes "(")) opened) (leaf (mark (codes "(")) begun) rest (inside ++ leaf (mark (codes ")")) closed ∷ back)
-          (e ∙ append_to whole (leaf (mark (codes "(")) begun ∷ inside) (leaf (mark (codes ")")) closed ∷ []) back f) in
+      (e ∙ append_to whole (leaf (mark (codes "(")) begun ∷ inside) (leaf (mark (codes ")")) closed ∷ []) back f) in
       (closed, inside, heads.1, may, are)
 
   pub left_too_deep : 64 ≤ depth → (opened : Span) (more : List Leaf) → Refuses (InLeft depth) ContinuesNothing TooDeep (leaf (mark (codes "(")) opened ∷ more) (leaf (mark (codes "(")) opened ∷ more)
@@ -73,12 +73,16 @@ module _ (depth : ℕ) where
       → Refuses (InLeft depth) ContinuesNothing cause (leaf (mark (codes "(")) opened ∷ here) after
   left_from_names shallow opened cause here after r =
       refuses_inside (InOne (Closed (List_of Name_of (mark (codes ","))) (mark (codes ")"))) (counted none_of) 0) (InLeft depth) (leaf (mark (codes "(")) opened ∷ []) []
-          (λ limits leaves is. (is.0, inr ((λ kept. shallow), (opened, is.1.0, is.1.1, ap (λ l. leaf (mark (codes "(")) opened ∷ l) (append-nil leaves ∙ is.1.2), is.1.3))))
-          ContinuesNothing ContinuesNothing cause here after
-          (λ limits rest whole back e is stops same.
-              let part = left_part opened limits is.0 rest whole back e is.1 in
-              (part.1 ++ leaf (mark (codes ")")) part.0 ∷ [], back, part.2 ∙ sym (append_assoc part.1 (leaf (mark (codes ")")) part.0 ∷ []) back),
-                  (is.0, (part.0, part.1, refl, part.4), λ kept. no_names is.0), stops_nothing back)) r
+      (λ limits leaves is. (is.0, inr ((λ kept. shallow), (opened, is.1.0, is.1.1, ap (λ l. leaf (mark (codes "(")) opened ∷ l) (append-nil leaves ∙ is.1.2), is.1.3))))
+      ContinuesNothing ContinuesNothing cause here after
+      (λ limits rest whole back e is stops same.
+      let part = left_part opened limits is.0 rest whole back e is.1 in (
+        part.1 ++ leaf (mark (codes ")")) part.0 ∷ [],
+        back,
+        part.2 ∙ sym (append_assoc part.1 (leaf (mark (codes ")")) part.0 ∷ []) back),
+        (is.0, (part.0, part.1, refl, part.4), λ kept. no_names is.0),
+        stops_nothing back,
+      )) r
     where
       no_names : (names : List Name) → 0 + counted none_of names ≤ 512
       no_names names = let e = zero_names names in omega arith
@@ -94,10 +98,10 @@ constants_part opened cs rest whole back e (inl (none, f)) stops =
     absurd ((subst (λ (l : List Leaf). StopsBefore (ContinuesOptional (mark (codes "{"))) l) (sym (e ∙ ap (λ l. l ++ back) f)) stops) refl)
 constants_part opened cs rest whole back e (inr (begun, closed, inside, f, are)) stops =
     let heads = cons_same (leaf (mark (codes "{")) opened) (leaf (mark (codes "{")) begun) rest (inside ++ leaf (mark (codes "}")) closed ∷ back)
-        (e ∙ append_to whole (leaf (mark (codes "{")) begun ∷ inside) (leaf (mark (codes "}")) closed ∷ []) back f) in
+    (e ∙ append_to whole (leaf (mark (codes "{")) begun ∷ inside) (leaf (mark (codes "}")) closed ∷ []) back f) in
     (closed, inside, heads.1, are)
 
-no_operators : {A : Type 0} (xs : List A) → counted {A = A} none_of xs ≡ 0
+pub no_operators : {A : Type 0} (xs : List A) → counted {A = A} none_of xs ≡ 0
 no_operators [] = refl
 no_operators (x ∷ xs) = omega (arith, no_operators xs)
 
@@ -105,12 +109,16 @@ pub constants_from_list : (opened : Span) (cause : Cause) (here after : List Lea
     → Refuses InConstants (ContinuesOptional (mark (codes "{"))) cause (leaf (mark (codes "{")) opened ∷ here) after
 constants_from_list opened cause here after r =
     refuses_inside (InOne (Closed (Any_of Constant_of (mark (codes ","))) (mark (codes "}"))) (counted none_of) 0) InConstants (leaf (mark (codes "{")) opened ∷ []) []
-        (λ limits leaves is. (is.0, inr (opened, is.1.0, is.1.1, ap (λ l. leaf (mark (codes "{")) opened ∷ l) (append-nil leaves ∙ is.1.2), is.1.3)))
-        ContinuesNothing (ContinuesOptional (mark (codes "{"))) cause here after
-        (λ limits rest whole back e is stops same.
-            let part = constants_part opened is.0 rest whole back e is.1 stops in
-            (part.1 ++ leaf (mark (codes "}")) part.0 ∷ [], back, part.2 ∙ sym (append_assoc part.1 (leaf (mark (codes "}")) part.0 ∷ []) back),
-                (is.0, (part.0, part.1, refl, part.3), λ kept. let e = no_operators is.0 in omega arith), stops_nothing back)) r
+    (λ limits leaves is. (is.0, inr (opened, is.1.0, is.1.1, ap (λ l. leaf (mark (codes "{")) opened ∷ l) (append-nil leaves ∙ is.1.2), is.1.3)))
+    ContinuesNothing (ContinuesOptional (mark (codes "{"))) cause here after
+    (λ limits rest whole back e is stops same.
+    let part = constants_part opened is.0 rest whole back e is.1 stops in (
+      part.1 ++ leaf (mark (codes "}")) part.0 ∷ [],
+      back,
+      part.2 ∙ sym (append_assoc part.1 (leaf (mark (codes "}")) part.0 ∷ []) back),
+      (is.0, (part.0, part.1, refl, part.3), λ kept. let e = no_operators is.0 in omega arith),
+      stops_nothing back,
+    )) r
 
 module _ (depth used : ℕ) where
   -- an expression on the right
@@ -118,16 +126,20 @@ module _ (depth used : ℕ) where
       → Refuses (InRight depth used) ContinuesDefinition cause here after
   right_from_expression cause here after r =
       refuses_first (InLevel default_level depth used) (InRight depth used) []
-          (λ limits leaves is. (Computed is.0, subst (λ (l : List Leaf). IsExpression limits depth is.0 l) (sym (append-nil leaves)) is.1, is.2))
-          (ContinuesExpression default_level) ContinuesDefinition cause here after
-          (λ limits whole back is stops same. go limits whole back is.0 is.1 is.2 stops) r
+      (λ limits leaves is. (Computed is.0, subst (λ (l : List Leaf). IsExpression limits depth is.0 l) (sym (append-nil leaves)) is.1, is.2))
+      (ContinuesExpression default_level) ContinuesDefinition cause here after
+      (λ limits whole back is stops same. go limits whole back is.0 is.1 is.2 stops) r
     where
       go : (limits : Limits) (whole back : List Leaf) (right : RightSide) → IsRight limits depth right whole → MayHave limits (used + right_operators right) → StopsBefore ContinuesDefinition back
           → (part other : List Leaf) × (whole ++ back ≡ part ++ other) × InLevel default_level depth used limits part × StopsBefore (ContinuesExpression default_level) other
       go limits whole back (Computed e) is fits stops = (whole, back, refl, (e, is, fits), stops_smaller ContinuesDefinition (ContinuesExpression default_level) (λ t continues. inr continues) back stops)
-      go limits whole back (Called n constants arguments) (front, rest, f, are_constants, are_arguments) fits stops =
-          (name_leaf n ∷ [], (front ++ rest) ++ back, ap (λ l. l ++ back) f, (Named n, named_alone limits depth n, fewer limits (used + 0) (used + sum_by operators arguments) (omega arith) fits),
-              starts_apart Opens (ContinuesExpression default_level) (front ++ rest) back opens_apart (call_opens limits depth constants arguments front rest are_constants are_arguments))
+      go limits whole back (Called n constants arguments) (front, rest, f, are_constants, are_arguments) fits stops = (
+        name_leaf n ∷ [],
+        (front ++ rest) ++ back,
+        ap (λ l. l ++ back) f,
+        (Named n, named_alone limits depth n, fewer limits (used + 0) (used + sum_by operators arguments) (omega arith) fits),
+        starts_apart Opens (ContinuesExpression default_level) (front ++ rest) back opens_apart (call_opens limits depth constants arguments front rest are_constants are_arguments),
+      )
 
   some_arguments : (limits : Limits) → AreArguments limits depth [] (leaf (mark (codes "(")) no_place ∷ leaf (mark (codes ")")) no_place ∷ [])
   some_arguments limits = (no_place, no_place, [], refl, refl)
@@ -137,9 +149,9 @@ module _ (depth used : ℕ) where
       → Refuses (InRight depth used) ContinuesDefinition cause (name_leaf n ∷ leaf (mark (codes "{")) opened ∷ more) after
   right_from_constants n few opened cause more after r =
       refuses_inside InConstants (InRight depth used) (name_leaf n ∷ []) (leaf (mark (codes "(")) no_place ∷ leaf (mark (codes ")")) no_place ∷ [])
-          (λ limits leaves is. (Called n is.0 [], (leaves, leaf (mark (codes "(")) no_place ∷ leaf (mark (codes ")")) no_place ∷ [], refl, is.1, some_arguments limits), λ kept. omega arith))
-          (ContinuesOptional (mark (codes "{"))) ContinuesDefinition cause (leaf (mark (codes "{")) opened ∷ more) after
-          (λ limits rest whole back e is stops same. go limits rest whole back e is.0 is.1 stops same) r
+      (λ limits leaves is. (Called n is.0 [], (leaves, leaf (mark (codes "(")) no_place ∷ leaf (mark (codes ")")) no_place ∷ [], refl, is.1, some_arguments limits), λ kept. omega arith))
+      (ContinuesOptional (mark (codes "{"))) ContinuesDefinition cause (leaf (mark (codes "{")) opened ∷ more) after
+      (λ limits rest whole back e is stops same. go limits rest whole back e is.0 is.1 stops same) r
     where
       opens : (rest : List Leaf) → SameFirst (leaf (mark (codes "{")) opened ∷ more) rest → StartsWith Opens rest
       opens [] same = same
@@ -159,10 +171,13 @@ module _ (depth used : ℕ) where
       → Refuses (InRight depth used) ContinuesDefinition cause ((name_leaf n ∷ front) ++ here) after
   right_from_arguments n constants front are cause here after stopped opens r =
       refuses_inside (InArguments depth used) (InRight depth used) (name_leaf n ∷ front) []
-          (λ limits leaves is. (Called n constants is.0, (front, leaves ++ [], refl, are, subst (λ (l : List Leaf). AreArguments limits depth is.0 l) (sym (append-nil leaves)) is.1),
-              fewer limits (used + sum_by operators is.0) (used + counted operators is.0) (omega (arith, counted_sum is.0)) is.2))
-          ContinuesNothing ContinuesDefinition cause here after
-          (λ limits rest whole back e is stops same. go limits rest whole back e is.0 is.1 is.2 stops same) r
+      (λ limits leaves is. (
+        Called n constants is.0,
+        (front, leaves ++ [], refl, are, subst (λ (l : List Leaf). AreArguments limits depth is.0 l) (sym (append-nil leaves)) is.1),
+        fewer limits (used + sum_by operators is.0) (used + counted operators is.0) (omega (arith, counted_sum is.0)) is.2,
+      ))
+      ContinuesNothing ContinuesDefinition cause here after
+      (λ limits rest whole back e is stops same. go limits rest whole back e is.0 is.1 is.2 stops same) r
     where
       go : (limits : Limits) (rest whole back : List Leaf) → (name_leaf n ∷ front) ++ rest ≡ whole ++ back → (right : RightSide) → IsRight limits depth right whole → MayHave limits (used + right_operators right) → StopsBefore ContinuesDefinition back
           → SameFirst here rest → (part other : List Leaf) × (rest ≡ part ++ other) × InArguments depth used limits part × StopsBefore ContinuesNothing other
@@ -171,6 +186,6 @@ module _ (depth used : ℕ) where
       go limits rest whole back e (Called m others arguments) (first, last, f, are_others, (begun, closed, inside, g, are_arguments)) fits stops same =
           let heads = cons_same (name_leaf n) (name_leaf m) (front ++ rest) (first ++ (last ++ back)) (e ∙ append_to whole (name_leaf m ∷ first) last back f) in
           let part = part_at AreConstants (ContinuesOptional (mark (codes "{"))) constants (constants_once constants) others front first rest (last ++ back) heads.1 are are_others
-              (first_stops (ContinuesOptional (mark (codes "{"))) here rest same stopped)
-              (subst (λ (l : List Leaf). StopsBefore (ContinuesOptional (mark (codes "{"))) (l ++ back)) (sym g) (different (mark (codes "(")) (mark (codes "{")) refl refl)) in
+          (first_stops (ContinuesOptional (mark (codes "{"))) here rest same stopped)
+          (subst (λ (l : List Leaf). StopsBefore (ContinuesOptional (mark (codes "{"))) (l ++ back)) (sym g) (different (mark (codes "(")) (mark (codes "{")) refl refl)) in
           (last, back, part.2, (arguments, (begun, closed, inside, g, are_arguments), fewer limits (used + counted operators arguments) (used + sum_by operators arguments) (omega (arith, counted_sum arguments)) fits), stops_nothing back)

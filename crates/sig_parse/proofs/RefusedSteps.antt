@@ -1,5 +1,5 @@
 -- What the parts of the parser refuse: what an operator behind an operand takes.
-use Rattle.std.proofs.Common.{◌≡◌, ◌++◌, ◌+◌, ◌≤◌, ℕ, zero, suc, List, [], ◌∷◌, codes, Option, None, Some, inl, inr, ◌⊎◌, refl, sym, ap, ◌∙◌, subst, append_assoc, arith}
+use Rattle.std.proofs.Common.{◌≡◌, ◌++◌, ◌+◌, ◌≤◌, ℕ, suc, List, [], ◌∷◌, codes, Option, None, Some, inl, inr, refl, sym, ap, ◌∙◌, subst, arith}
 use Rattle.std.proofs.lemmas.List.{append-nil}
 use Rattle.sig_base.specs.declared.span.Span.{Span}
 use Rattle.sig_tree.specs.declared.expr.Constant.{Constant}
@@ -15,15 +15,15 @@ use Rattle.sig_tree.specs.Continuing.{ContinuesNothing, ContinuesInit, Continues
 use Rattle.sig_tree.specs.Spines.{Step, WithOperand, WithCell, WithDelay, IsStep}
 use Rattle.sig_tree.specs.Unplaced.{no_place}
 use Rattle.sig_tree.proofs.Stopping.{stops_smaller}
-use Rattle.sig_tree.proofs.Operators.{Infix, OfTwo, OfCell, OfDelay, infix_terminal, infix_level, Tighter, two_levels, continues_tighter}
+use Rattle.sig_tree.proofs.Operators.{Infix, OfTwo, OfCell, OfDelay, infix_terminal, Tighter, two_levels, continues_tighter}
 use Rattle.sig_tree.proofs.Unlimited.{expression_unlimited, expression_within}
-use Rattle.sig_tree.proofs.ReadExpressions.{init_stops, init_looser, expression_once}
+use Rattle.sig_tree.proofs.ReadExpressions.{expression_once}
 use Rattle.sig_tree.proofs.Combining.{cons_same, append_to, part_at}
 use Rattle.sig_tree.proofs.ReadEquations.{stops_nothing}
-use Rattle.sig_tree.proofs.ReadSpines.{infix_same, infix_of_step, place_of_step, step_seen, primary_ends}
+use Rattle.sig_tree.proofs.ReadSpines.{infix_same, infix_of_step, step_seen, primary_ends}
 use Rattle.sig_parse.specs.Refusals.{Cause, Refuses}
 use Rattle.sig_parse.specs.Languages.{InInit, InOptionalInit, InLevel, InStep, step_operators}
-use Rattle.sig_parse.proofs.Refusing.{SameFirst, first_stops, refuses_inside}
+use Rattle.sig_parse.proofs.Refusing.{SameFirst, refuses_inside}
 use Rattle.sig_parse.proofs.RefusedConstants.{some_name, some_leaf}
 use Rattle.sig_parse.proofs.RefusedLevels.{fewer}
 
@@ -54,10 +54,13 @@ module _ (level depth used : ℕ) where
       → Refuses (InStep level depth used) (Tighter level) cause (leaf (binary_terminal op) at ∷ here) after
   step_operand op at own cause here after r =
       refuses_inside (InLevel (right_level op) depth (suc used)) (InStep level depth used) (leaf (binary_terminal op) at ∷ []) []
-          (λ limits leaves is. (WithOperand op is.0 at, (leaves ++ [], own, refl, subst (λ (l : List Leaf). IsAtLevel limits (right_level op) depth is.0 l) (sym (append-nil leaves)) is.1),
-              fewer limits (used + suc (operators is.0)) (suc used + operators is.0) (omega arith) is.2))
-          (ContinuesExpression (right_level op)) (Tighter level) cause here after
-          (λ limits rest whole back e is stops same. go limits rest whole back e is.0 is.1 is.2 stops) r
+      (λ limits leaves is. (
+        WithOperand op is.0 at,
+        (leaves ++ [], own, refl, subst (λ (l : List Leaf). IsAtLevel limits (right_level op) depth is.0 l) (sym (append-nil leaves)) is.1),
+        fewer limits (used + suc (operators is.0)) (suc used + operators is.0) (omega arith) is.2,
+      ))
+      (ContinuesExpression (right_level op)) (Tighter level) cause here after
+      (λ limits rest whole back e is stops same. go limits rest whole back e is.0 is.1 is.2 stops) r
     where
       smaller : (t : Terminal) → ContinuesExpression (right_level op) t → Tighter level t
       smaller t continues = continues_tighter level (right_level op) (omega (arith, two_levels op)) t continues
@@ -67,9 +70,13 @@ module _ (level depth used : ℕ) where
       go limits rest whole back e (WithOperand other right place) (part, other_own, f, is) fits stops =
           let tags : OfTwo op ≡ OfTwo other = step_operator (OfTwo op) at limits rest whole back e (WithOperand other right place) (part, other_own, f, is) in
           let ops : op ≡ other = cc in
-          let heads = cons_same _ _ _ _ (e ∙ ap (λ l. l ++ back) f) in
-          (part, back, heads.1, (right, subst (λ (o : BinOp). IsAtLevel limits (right_level o) depth right part) (sym ops) is, fewer limits (suc used + operators right) (used + suc (operators right)) (omega arith) fits),
-              stops_smaller (Tighter level) (ContinuesExpression (right_level op)) smaller back stops)
+          let heads = cons_same _ _ _ _ (e ∙ ap (λ l. l ++ back) f) in (
+            part,
+            back,
+            heads.1,
+            (right, subst (λ (o : BinOp). IsAtLevel limits (right_level o) depth right part) (sym ops) is, fewer limits (suc used + operators right) (used + suc (operators right)) (omega arith) fits),
+            stops_smaller (Tighter level) (ContinuesExpression (right_level op)) smaller back stops,
+          )
       go limits rest whole back e (WithCell held init place) is fits stops = absurd (two_no_cell op (step_operator (OfTwo op) at limits rest whole back e (WithCell held init place) is))
       go limits rest whole back e (WithDelay init place) is fits stops = absurd (two_no_delay op (step_operator (OfTwo op) at limits rest whole back e (WithDelay init place) is))
 
@@ -78,10 +85,13 @@ module _ (level depth used : ℕ) where
       → Refuses (InStep level depth used) (Tighter level) cause (leaf (word (codes "cell")) at ∷ here) after
   step_held at own cause here after r =
       refuses_inside (InLevel primary_level depth (suc used)) (InStep level depth used) (leaf (word (codes "cell")) at ∷ []) (leaf (word (codes "init")) no_place ∷ some_leaf ∷ [])
-          (λ limits leaves is. (WithCell is.0 (Param some_name) at, (leaves, leaf (word (codes "init")) no_place ∷ some_leaf ∷ [], own, refl, is.1, (no_place, some_leaf ∷ [], refl, refl)),
-              fewer limits (used + suc (operators is.0)) (suc used + operators is.0) (omega arith) is.2))
-          (ContinuesExpression primary_level) (Tighter level) cause here after
-          (λ limits rest whole back e is stops same. go limits rest whole back e is.0 is.1 is.2) r
+      (λ limits leaves is. (
+        WithCell is.0 (Param some_name) at,
+        (leaves, leaf (word (codes "init")) no_place ∷ some_leaf ∷ [], own, refl, is.1, (no_place, some_leaf ∷ [], refl, refl)),
+        fewer limits (used + suc (operators is.0)) (suc used + operators is.0) (omega arith) is.2,
+      ))
+      (ContinuesExpression primary_level) (Tighter level) cause here after
+      (λ limits rest whole back e is stops same. go limits rest whole back e is.0 is.1 is.2) r
     where
       go : (limits : Limits) (rest whole back : List Leaf) → leaf (word (codes "cell")) at ∷ rest ≡ whole ++ back → (s : Step) → IsStep limits level depth s whole → MayHave limits (used + step_operators s)
           → (part other : List Leaf) × (rest ≡ part ++ other) × InLevel primary_level depth (suc used) limits part × StopsBefore (ContinuesExpression primary_level) other
@@ -96,17 +106,20 @@ module _ (level depth used : ℕ) where
       → Refuses InInit ContinuesNothing cause here after → Refuses (InStep level depth used) (Tighter level) cause ((leaf (word (codes "cell")) at ∷ front) ++ here) after
   step_init at own held front is_held few cause here after r =
       refuses_inside InInit (InStep level depth used) (leaf (word (codes "cell")) at ∷ front) []
-          (λ limits leaves is. (WithCell held is.0 at, (front, leaves ++ [], own, refl, expression_within limits primary_level depth held front is_held, subst (λ (l : List Leaf). IsInit is.0 l) (sym (append-nil leaves)) is.1),
-              λ kept. omega arith))
-          ContinuesNothing (Tighter level) cause here after
-          (λ limits rest whole back e is stops same. go limits rest whole back e is.0 is.1) r
+      (λ limits leaves is. (
+        WithCell held is.0 at,
+        (front, leaves ++ [], own, refl, expression_within limits primary_level depth held front is_held, subst (λ (l : List Leaf). IsInit is.0 l) (sym (append-nil leaves)) is.1),
+        λ kept. omega arith,
+      ))
+      ContinuesNothing (Tighter level) cause here after
+      (λ limits rest whole back e is stops same. go limits rest whole back e is.0 is.1) r
     where
       go : (limits : Limits) (rest whole back : List Leaf) → (leaf (word (codes "cell")) at ∷ front) ++ rest ≡ whole ++ back → (s : Step) → IsStep limits level depth s whole
           → (part other : List Leaf) × (rest ≡ part ++ other) × InInit limits part × StopsBefore ContinuesNothing other
       go limits rest whole back e (WithCell other init place) (middle, last, other_own, f, is, is_init) =
           let heads = cons_same (leaf (word (codes "cell")) at) (leaf (word (codes "cell")) place) (front ++ rest) (middle ++ (last ++ back)) (e ∙ append_to whole (leaf (word (codes "cell")) place ∷ middle) last back f) in
           let part = part_at (IsAtLevel no_limits primary_level depth) (ContinuesExpression primary_level) held (expression_once no_limits primary_level depth held) other front middle rest (last ++ back) heads.1
-              (expression_unlimited both_limits primary_level depth depth held front is_held) (expression_unlimited limits primary_level depth depth other middle is) (no_primary rest) (no_primary (last ++ back)) in
+          (expression_unlimited both_limits primary_level depth depth held front is_held) (expression_unlimited limits primary_level depth depth other middle is) (no_primary rest) (no_primary (last ++ back)) in
           (last, back, part.2, (init, is_init), stops_nothing back)
       go limits rest whole back e (WithOperand other right place) is = absurd (two_no_cell other (sym (step_operator OfCell at limits (front ++ rest) whole back e (WithOperand other right place) is)))
       go limits rest whole back e (WithDelay init place) is = absurd (cell_no_delay (step_operator OfCell at limits (front ++ rest) whole back e (WithDelay init place) is))
@@ -117,9 +130,9 @@ module _ (level depth used : ℕ) where
       → Refuses (InStep level depth used) (Tighter level) cause ((leaf (mark (codes "$")) at ∷ one) ++ leaf (word (codes "init")) place ∷ more) after
   step_delay at place own one is_one few cause more after r =
       refuses_inside InOptionalInit (InStep level depth used) (leaf (mark (codes "$")) at ∷ one) []
-          (λ limits leaves is. (WithDelay is.0 at, (one, leaves ++ [], own, refl, is_one, subst (λ (l : List Leaf). IsOptionalInit is.0 l) (sym (append-nil leaves)) is.1), λ kept. omega arith))
-          ContinuesInit (Tighter level) cause (leaf (word (codes "init")) place ∷ more) after
-          (λ limits rest whole back e is stops same. go limits rest whole back e is.0 is.1 stops same) r
+      (λ limits leaves is. (WithDelay is.0 at, (one, leaves ++ [], own, refl, is_one, subst (λ (l : List Leaf). IsOptionalInit is.0 l) (sym (append-nil leaves)) is.1), λ kept. omega arith))
+      ContinuesInit (Tighter level) cause (leaf (word (codes "init")) place ∷ more) after
+      (λ limits rest whole back e is stops same. go limits rest whole back e is.0 is.1 stops same) r
     where
       init_first : (rest : List Leaf) (n : ℕ) (where_one : Span) (behind : List Leaf) → SameFirst (leaf (word (codes "init")) place ∷ more) rest → rest ≡ leaf (number n) where_one ∷ behind → ⊥
       init_first rest n where_one behind same e =

@@ -5,7 +5,7 @@ use Rattle.sig_tree.specs.Terminals.{Terminal, Leaf}
 use Rattle.sig_tree.specs.Limits.{Limits, both_limits, nesting_limit, no_limits}
 use Rattle.sig_tree.specs.Readings.{StopsBefore, OneReading}
 use Rattle.sig_tree.specs.Beginning.{StartsWith}
-use Rattle.sig_tree.proofs.Combining.{cons_same, part_at}
+use Rattle.sig_tree.proofs.Combining.{part_at}
 use Rattle.sig_parse.specs.Refusals.{Cause, Wrong, TooDeep, TooMany, refused_within, Reaches, ReachesNext, IsAllowed, Agrees, Refuses}
 
 -- both lists are empty, or both begin with the same leaf
@@ -73,13 +73,13 @@ module _ (Is Whole : Limits → List Leaf → Type 0) (front behind : List Leaf)
 pub refuses_first : (Is Whole : Limits → List Leaf → Type 0) (behind : List Leaf) → ((limits : Limits) (leaves : List Leaf) → Is limits leaves → Whole limits (leaves ++ behind))
     → (Continues WholeContinues : Terminal → Type 0) (cause : Cause) (here after : List Leaf)
     → ((limits : Limits) (whole back : List Leaf) → Whole limits whole → StopsBefore WholeContinues back → SameFirst here (whole ++ back)
-        → (part other : List Leaf) × (whole ++ back ≡ part ++ other) × Is limits part × StopsBefore Continues other)
+    → (part other : List Leaf) × (whole ++ back ≡ part ++ other) × Is limits part × StopsBefore Continues other)
     → Refuses Is Continues cause here after → Refuses Whole WholeContinues cause here after
 refuses_first Is Whole behind extend Continues WholeContinues cause here after has r =
     refuses_inside Is Whole [] behind extend Continues WholeContinues cause here after
-        (λ limits rest whole back e is stops same.
-            let parts = has limits whole back is stops (subst (λ (l : List Leaf). SameFirst here l) e same) in
-            (parts.0, parts.1, e ∙ parts.2, parts.3, parts.4)) r
+    (λ limits rest whole back e is stops same.
+    let parts = has limits whole back is stops (subst (λ (l : List Leaf). SameFirst here l) e same) in
+    (parts.0, parts.1, e ∙ parts.2, parts.3, parts.4)) r
 
 -- A part behind one that was read: the other has one reading.
 module _ {A : Type 0} (IsFirst : A → List Leaf → Type 0) (FirstContinues : Terminal → Type 0) (once : OneReading IsFirst FirstContinues)
@@ -93,11 +93,11 @@ module _ {A : Type 0} (IsFirst : A → List Leaf → Type 0) (FirstContinues : T
       → Refuses Is Continues cause here after → Refuses Whole WholeContinues cause (front ++ here) after
   refuses_second Continues WholeContinues cause here after stopped splits r =
       refuses_inside Is Whole front [] (λ limits leaves is. subst (λ (l : List Leaf). Whole limits (front ++ l)) (sym (append-nil leaves)) (extend limits leaves is)) Continues WholeContinues cause here after
-          (λ limits rest whole back e is stops same.
-              let s = splits limits whole back is stops in
-              let one = part_at IsFirst FirstContinues x (once x) s.0 front s.1 rest (s.2 ++ back) (e ∙ ap (λ l. l ++ back) s.3 ∙ append_assoc s.1 s.2 back) is_first s.4
-                  (first_stops FirstContinues here rest same stopped) s.5 in
-              (s.2, back, one.2, s.6 (sym one.0), s.7)) r
+      (λ limits rest whole back e is stops same.
+      let s = splits limits whole back is stops in
+      let one = part_at IsFirst FirstContinues x (once x) s.0 front s.1 rest (s.2 ++ back) (e ∙ ap (λ l. l ++ back) s.3 ∙ append_assoc s.1 s.2 back) is_first s.4
+      (first_stops FirstContinues here rest same stopped) s.5 in
+      (s.2, back, one.2, s.6 (sym one.0), s.7)) r
 
 -- the first leaf begins nothing of the language, which is not empty
 starts_first : (Begins : Terminal → Type 0) (here whole back : List Leaf) → SameFirst here (whole ++ back) → StartsWith Begins whole → StopsBefore Begins here → ⊥
