@@ -36,3 +36,4 @@ pub mod RefusedPrimaries
 pub mod RefusedLists
 pub mod RefusedSides
 pub mod RefusedEquations
+pub mod RefusedBodies

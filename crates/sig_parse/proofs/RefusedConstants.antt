@@ -1,5 +1,5 @@
 -- What the parts of the parser refuse: constants and inits.
-use Rattle.std.proofs.Common.{◌≡◌, ◌++◌, ◌+◌, ◌≤◌, ℕ, zero, suc, List, [], ◌∷◌, Bool, true, false, Option, None, Some, codes, inl, inr, ◌⊎◌, refl, sym, ap, ◌∙◌, subst, arith}
+use Rattle.std.proofs.Common.{◌≡◌, ◌++◌, ℕ, List, [], ◌∷◌, true, false, Option, None, Some, codes, inl, inr, refl, sym, ap, ◌∙◌, subst}
 use Rattle.std.specs.Prelude.{pos, neg_ℤ}
 use Rattle.std.proofs.lemmas.List.{append-nil}
 use Rattle.sig_base.specs.declared.span.Span.{Span}
@@ -7,7 +7,7 @@ use Rattle.sig_tree.specs.declared.expr.Name.{Name}
 use Rattle.sig_tree.specs.declared.expr.Constant.{Constant}
 use Rattle.sig_tree.specs.declared.expr.Constant.TheVariants.{Int, Bool as BoolConstant, Param}
 use Rattle.sig_tree.specs.Terminals.{Terminal, Leaf, leaf, name, number, word, mark, name_leaf}
-use Rattle.sig_tree.specs.Limits.{Limits, both_limits, no_limits}
+use Rattle.sig_tree.specs.Limits.{Limits, no_limits}
 use Rattle.sig_tree.specs.Expressions.{IsConstant, IsInit, IsOptionalInit}
 use Rattle.sig_tree.specs.Readings.{StopsBefore}
 use Rattle.sig_tree.specs.Beginning.{StartsWith, BeginsConstant}

@@ -1,16 +1,16 @@
 -- What is refused of definitions and clock equations, from what is refused of their parts.
-use Rattle.std.proofs.Common.{◌≡◌, ◌++◌, ◌+◌, ◌≤◌, ℕ, zero, suc, List, [], ◌∷◌, codes, inl, inr, ◌⊎◌, refl, sym, ap, ◌∙◌, subst, append_assoc, arith}
+use Rattle.std.proofs.Common.{◌≡◌, ◌++◌, ◌+◌, ◌≤◌, ℕ, List, [], ◌∷◌, codes, inr, refl, sym, ap, ◌∙◌, subst, append_assoc, arith}
 use Rattle.std.proofs.lemmas.List.{append-nil}
 use Rattle.std.specs.Prelude.{sum_by}
 use Rattle.sig_base.specs.declared.span.Span.{Span}
 use Rattle.sig_tree.specs.declared.expr.Name.{Name}
-use Rattle.sig_tree.specs.Syntax.{Expression, Named, RightSide, Computed}
-use Rattle.sig_tree.specs.Terminals.{Terminal, Leaf, leaf, mark}
+use Rattle.sig_tree.specs.Syntax.{Expression, Named, Computed}
+use Rattle.sig_tree.specs.Terminals.{Leaf, leaf, mark}
 use Rattle.sig_tree.specs.Levels.{default_level}
 use Rattle.sig_tree.specs.Limits.{Limits, both_limits, no_limits, MayHave, operators, right_operators}
-use Rattle.sig_tree.specs.Repeated.{Separated, Further}
-use Rattle.sig_tree.specs.Expressions.{IsExpression, IsAtLevel}
-use Rattle.sig_tree.specs.Equations.{IsLeft, IsRight, IsDefinition, IsClockEquation}
+use Rattle.sig_tree.specs.Repeated.{Further}
+use Rattle.sig_tree.specs.Expressions.{IsExpression}
+use Rattle.sig_tree.specs.Equations.{IsLeft, IsRight, IsClockEquation}
 use Rattle.sig_tree.specs.Readings.{StopsBefore}
 use Rattle.sig_tree.specs.Continuing.{ContinuesNothing, ContinuesExpression, ContinuesDefinition, ContinuesClockEquation}
 use Rattle.sig_tree.specs.Unplaced.{no_place}
@@ -21,7 +21,7 @@ use Rattle.sig_tree.proofs.Combining.{cons_same, append_to, part_at, further_sto
 use Rattle.sig_tree.proofs.ReadEquations.{mark_apart, stops_nothing, left_once}
 use Rattle.sig_parse.specs.Refusals.{Cause, Refuses}
 use Rattle.sig_parse.specs.Languages.{InOne, counted, InLevel, InLeft, InRight, InDefinition, InClockEquation}
-use Rattle.sig_parse.proofs.Refusing.{SameFirst, first_stops, refuses_inside, refuses_first}
+use Rattle.sig_parse.proofs.Refusing.{first_stops, refuses_inside, refuses_first}
 use Rattle.sig_parse.proofs.RefusedConstants.{some_name, some_leaf, InLeaf}
 use Rattle.sig_parse.proofs.RefusedLevels.{fewer}
 use Rattle.sig_parse.proofs.RefusedLists.{More_of}

@@ -1,36 +1,25 @@
 -- What the parts of the parser refuse: operands, and what an operator takes.
-use Rattle.std.proofs.Common.{◌≡◌, ◌++◌, ◌+◌, ◌≤◌, ◌<◌, ℕ, zero, suc, List, [], ◌∷◌, codes, Option, None, Some, inl, inr, ◌⊎◌, refl, sym, ap, ◌∙◌, subst, append_assoc, arith}
+use Rattle.std.proofs.Common.{◌≡◌, ◌++◌, ◌+◌, ◌≤◌, ◌<◌, ℕ, suc, List, [], ◌∷◌, inl, inr, ◌⊎◌, refl, sym, ap, ◌∙◌, subst, arith}
 use Rattle.std.proofs.lemmas.List.{append-nil}
 use Rattle.sig_base.specs.declared.span.Span.{Span}
-use Rattle.sig_tree.specs.declared.expr.Constant.{Constant}
-use Rattle.sig_tree.specs.declared.expr.Constant.TheVariants.{Param}
 use Rattle.sig_tree.specs.declared.expr.UnOp.{UnOp}
-use Rattle.sig_tree.specs.declared.expr.UnOp.TheVariants.{Not, Neg, When as UnaryWhen, Clock}
-use Rattle.sig_tree.specs.declared.expr.BinOp.{BinOp}
+use Rattle.sig_tree.specs.declared.expr.UnOp.TheVariants.{Not}
 use Rattle.sig_tree.specs.Syntax.{Expression, Named, Unary}
-use Rattle.sig_tree.specs.Terminals.{Terminal, Leaf, leaf, word, mark, unary_terminal, binary_terminal}
-use Rattle.sig_tree.specs.Levels.{default_level, mixed_level, delay_level, primary_level, unary_level, operand_level, binary_level, right_level}
+use Rattle.sig_tree.specs.Terminals.{Leaf, leaf, unary_terminal}
+use Rattle.sig_tree.specs.Levels.{primary_level, unary_level, operand_level}
 use Rattle.sig_tree.specs.Limits.{Limits, both_limits, nesting_limit, no_limits, MayStandInside, MayHave, operators}
-use Rattle.sig_tree.specs.Repeated.{Between}
-use Rattle.sig_tree.specs.Expressions.{IsInit, IsOptionalInit, IsOptionalOne, IsAtLevel}
+use Rattle.sig_tree.specs.Expressions.{IsAtLevel}
 use Rattle.sig_tree.specs.Readings.{StopsBefore}
 use Rattle.sig_tree.specs.Beginning.{StartsWith, BeginsExpression}
-use Rattle.sig_tree.specs.Continuing.{ContinuesNothing, ContinuesInit, ContinuesDelay, ContinuesExpression}
-use Rattle.sig_tree.specs.Spines.{IsAtom, IsParenthesised, IsPrefixed, IsInner, IsOperand, Step, WithOperand, WithCell, WithDelay, IsStep}
-use Rattle.sig_tree.specs.Unplaced.{no_place}
+use Rattle.sig_tree.specs.Continuing.{ContinuesExpression}
+use Rattle.sig_tree.specs.Spines.{IsOperand}
 use Rattle.sig_tree.proofs.Stopping.{stops_smaller}
-use Rattle.sig_tree.proofs.Operators.{Infix, OfTwo, OfCell, OfDelay, infix_terminal, infix_level, infix_of, infix_found, Tighter, two_levels, continues_tighter, different}
-use Rattle.sig_tree.proofs.Reader.{AtName, AtNumber, AtTruth, AtOpening, AtPrefix, first_of}
-use Rattle.sig_tree.proofs.Unlimited.{expression_unlimited, expression_within}
-use Rattle.sig_tree.proofs.ReadExpressions.{prefix_first, init_stops, init_looser, expression_once}
-use Rattle.sig_tree.proofs.FirstLeaves.{starts_larger}
-use Rattle.sig_tree.proofs.Combining.{cons_same, append_to, part_at}
-use Rattle.sig_tree.proofs.ReadEquations.{mark_apart, stops_nothing}
-use Rattle.sig_tree.proofs.ReadSpines.{unary_same, prefix_no_inner, operand_tighter, inner_begins, infix_same, infix_of_step, place_of_step, step_seen}
-use Rattle.sig_parse.specs.Refusals.{Cause, Wrong, TooDeep, TooMany, refused_within, Refuses}
-use Rattle.sig_parse.specs.Languages.{InInit, InOptionalInit, InLevel, InOperand, InStep, step_operators}
-use Rattle.sig_parse.proofs.Refusing.{SameFirst, agrees_first, first_stops, refuses_inside, refuses_first, refuses_at_once}
-use Rattle.sig_parse.proofs.RefusedConstants.{some_name, some_leaf, InLeaf}
+use Rattle.sig_tree.proofs.Combining.{cons_same}
+use Rattle.sig_tree.proofs.ReadSpines.{unary_same, prefix_no_inner, operand_tighter, inner_begins}
+use Rattle.sig_parse.specs.Refusals.{Cause, TooDeep, TooMany, Refuses}
+use Rattle.sig_parse.specs.Languages.{InLevel, InOperand}
+use Rattle.sig_parse.proofs.Refusing.{SameFirst, refuses_inside, refuses_first}
+use Rattle.sig_parse.proofs.RefusedConstants.{some_name, some_leaf}
 use Rattle.sig_parse.proofs.RefusedLevels.{fewer}
 
 -- an operand of any level: a name

@@ -1,5 +1,5 @@
 -- What is refused of left and right sides, from what is refused of their parts.
-use Rattle.std.proofs.Common.{◌≡◌, ◌++◌, ◌+◌, ◌≤◌, ◌<◌, ℕ, zero, suc, List, [], ◌∷◌, codes, inl, inr, ◌⊎◌, refl, sym, ap, ◌∙◌, subst, append_assoc, arith}
+use Rattle.std.proofs.Common.{◌≡◌, ◌++◌, ◌+◌, ◌≤◌, ◌<◌, ℕ, List, [], ◌∷◌, codes, inl, inr, refl, sym, ap, ◌∙◌, subst, append_assoc, arith}
 use Rattle.std.proofs.lemmas.List.{append-nil}
 use Rattle.std.proofs.lemmas.List.Sums.{sum_by-cons}
 use Rattle.std.specs.Prelude.{sum_by}
@@ -7,11 +7,11 @@ use Rattle.sig_base.specs.declared.span.Span.{Span}
 use Rattle.sig_tree.specs.declared.expr.Name.{Name}
 use Rattle.sig_tree.specs.declared.expr.Constant.{Constant}
 use Rattle.sig_tree.specs.Syntax.{Expression, Named, RightSide, Computed, Called}
-use Rattle.sig_tree.specs.Terminals.{Terminal, Leaf, leaf, name, mark, name_leaf}
+use Rattle.sig_tree.specs.Terminals.{Leaf, leaf, mark, name_leaf}
 use Rattle.sig_tree.specs.Levels.{default_level}
-use Rattle.sig_tree.specs.Limits.{Limits, both_limits, nesting_limit, no_limits, MayStandInside, MayHave, operators, right_operators}
+use Rattle.sig_tree.specs.Limits.{Limits, nesting_limit, no_limits, MayStandInside, MayHave, operators, right_operators}
 use Rattle.sig_tree.specs.Repeated.{Separated, Listed}
-use Rattle.sig_tree.specs.Expressions.{IsConstant, IsExpression, IsAtLevel}
+use Rattle.sig_tree.specs.Expressions.{IsConstant, IsExpression}
 use Rattle.sig_tree.specs.Equations.{IsName, IsLeft, AreConstants, AreArguments, IsRight}
 use Rattle.sig_tree.specs.Readings.{StopsBefore}
 use Rattle.sig_tree.specs.Beginning.{StartsWith, BeginsLeft}
@@ -101,7 +101,7 @@ constants_part opened cs rest whole back e (inr (begun, closed, inside, f, are))
     (e ∙ append_to whole (leaf (mark (codes "{")) begun ∷ inside) (leaf (mark (codes "}")) closed ∷ []) back f) in
     (closed, inside, heads.1, are)
 
-no_operators : {A : Type 0} (xs : List A) → counted {A = A} none_of xs ≡ 0
+pub no_operators : {A : Type 0} (xs : List A) → counted {A = A} none_of xs ≡ 0
 no_operators [] = refl
 no_operators (x ∷ xs) = omega (arith, no_operators xs)
 

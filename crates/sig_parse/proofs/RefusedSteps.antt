@@ -1,5 +1,5 @@
 -- What the parts of the parser refuse: what an operator behind an operand takes.
-use Rattle.std.proofs.Common.{◌≡◌, ◌++◌, ◌+◌, ◌≤◌, ℕ, zero, suc, List, [], ◌∷◌, codes, Option, None, Some, inl, inr, ◌⊎◌, refl, sym, ap, ◌∙◌, subst, append_assoc, arith}
+use Rattle.std.proofs.Common.{◌≡◌, ◌++◌, ◌+◌, ◌≤◌, ℕ, suc, List, [], ◌∷◌, codes, Option, None, Some, inl, inr, refl, sym, ap, ◌∙◌, subst, arith}
 use Rattle.std.proofs.lemmas.List.{append-nil}
 use Rattle.sig_base.specs.declared.span.Span.{Span}
 use Rattle.sig_tree.specs.declared.expr.Constant.{Constant}
@@ -15,15 +15,15 @@ use Rattle.sig_tree.specs.Continuing.{ContinuesNothing, ContinuesInit, Continues
 use Rattle.sig_tree.specs.Spines.{Step, WithOperand, WithCell, WithDelay, IsStep}
 use Rattle.sig_tree.specs.Unplaced.{no_place}
 use Rattle.sig_tree.proofs.Stopping.{stops_smaller}
-use Rattle.sig_tree.proofs.Operators.{Infix, OfTwo, OfCell, OfDelay, infix_terminal, infix_level, Tighter, two_levels, continues_tighter}
+use Rattle.sig_tree.proofs.Operators.{Infix, OfTwo, OfCell, OfDelay, infix_terminal, Tighter, two_levels, continues_tighter}
 use Rattle.sig_tree.proofs.Unlimited.{expression_unlimited, expression_within}
-use Rattle.sig_tree.proofs.ReadExpressions.{init_stops, init_looser, expression_once}
+use Rattle.sig_tree.proofs.ReadExpressions.{expression_once}
 use Rattle.sig_tree.proofs.Combining.{cons_same, append_to, part_at}
 use Rattle.sig_tree.proofs.ReadEquations.{stops_nothing}
-use Rattle.sig_tree.proofs.ReadSpines.{infix_same, infix_of_step, place_of_step, step_seen, primary_ends}
+use Rattle.sig_tree.proofs.ReadSpines.{infix_same, infix_of_step, step_seen, primary_ends}
 use Rattle.sig_parse.specs.Refusals.{Cause, Refuses}
 use Rattle.sig_parse.specs.Languages.{InInit, InOptionalInit, InLevel, InStep, step_operators}
-use Rattle.sig_parse.proofs.Refusing.{SameFirst, first_stops, refuses_inside}
+use Rattle.sig_parse.proofs.Refusing.{SameFirst, refuses_inside}
 use Rattle.sig_parse.proofs.RefusedConstants.{some_name, some_leaf}
 use Rattle.sig_parse.proofs.RefusedLevels.{fewer}
 

@@ -5,7 +5,7 @@ use Rattle.sig_tree.specs.Terminals.{Terminal, Leaf}
 use Rattle.sig_tree.specs.Limits.{Limits, both_limits, nesting_limit, no_limits}
 use Rattle.sig_tree.specs.Readings.{StopsBefore, OneReading}
 use Rattle.sig_tree.specs.Beginning.{StartsWith}
-use Rattle.sig_tree.proofs.Combining.{cons_same, part_at}
+use Rattle.sig_tree.proofs.Combining.{part_at}
 use Rattle.sig_parse.specs.Refusals.{Cause, Wrong, TooDeep, TooMany, refused_within, Reaches, ReachesNext, IsAllowed, Agrees, Refuses}
 
 -- both lists are empty, or both begin with the same leaf

@@ -41,7 +41,7 @@ left_is_expression : (t : Terminal) → BeginsLeft t → BeginsExpression defaul
 left_is_expression t (inl e) = inl (inr e)
 left_is_expression t (inr begins) = inr (inr (inr begins))
 
-together_apart : (t : Terminal) → t ≡ mark (codes "(|") → BeginsExpression default_level t → ⊥
+pub together_apart : (t : Terminal) → t ≡ mark (codes "(|") → BeginsExpression default_level t → ⊥
 together_apart t e begins = opening_begins_none default_level (subst (BeginsExpression default_level) e begins)
 
 module _ (limits : Limits) (depth : ℕ) where
@@ -180,7 +180,7 @@ module _ (limits : Limits) where
       starts_conflict (λ t. t ≡ mark (codes "(|")) (BeginsExpression default_level) together_apart front other_front back other_back e
       (subst (λ (l : List Leaf). StartsWith (λ t. t ≡ mark (codes "(|")) l) (sym f) refl) starts
 
-  definition_starts : (names : List Name) (right : RightSide) (depth : ℕ) (leaves : List Leaf) → IsDefinition limits depth names right leaves → StartsWith (BeginsExpression default_level) leaves
+  pub definition_starts : (names : List Name) (right : RightSide) (depth : ℕ) (leaves : List Leaf) → IsDefinition limits depth names right leaves → StartsWith (BeginsExpression default_level) leaves
   definition_starts names right depth leaves is = go leaves (definition_begins limits depth names right leaves is) where
     go : (leaves : List Leaf) → StartsWith BeginsLeft leaves → StartsWith (BeginsExpression default_level) leaves
     go [] starts = absurd starts
