@@ -1,0 +1,7 @@
+pub mod Answers
+pub mod Declarations
+pub mod Findings
+pub mod Forms
+pub mod Places
+pub mod Unknown
+pub mod Walked
