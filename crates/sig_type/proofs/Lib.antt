@@ -1,3 +1,4 @@
+pub mod Earlier
 pub mod Growing
 pub mod Placing
 pub mod Scopes

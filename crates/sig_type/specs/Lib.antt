@@ -1,4 +1,5 @@
 pub mod Answers
+pub mod Asked
 pub mod Declarations
 pub mod Findings
 pub mod Forms
