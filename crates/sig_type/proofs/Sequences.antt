@@ -1,0 +1,127 @@
+-- What is found of candidates that are asked for in a row.
+use Rattle.std.proofs.Common.{◌≡◌, ◌++◌, ℕ, List, [], ◌∷◌, refl, ap, sym, ◌∙◌, subst, inl, inr, Bool, IsTrue, Option, None, Some, map, take, length, get_or, ◌+◌, ◌<◌, ◌≤◌, append_assoc, ◌↔◌}
+use Rattle.std.proofs.lemmas.List.{append-nil, take_more, take_all, get_or_default}
+use Rattle.std.specs.List.{flat_map}
+use Rattle.sig_tree.specs.Candidates.{Candidate, candidate, Offence, each, NoneHolds, IsFirst}
+use Rattle.sig_type.specs.declared.finding.Finding.{Finding}
+use Rattle.sig_type.specs.declared.finding.First.{First}
+use Rattle.sig_type.specs.Findings.{offence_in, IsFoundOf, IsKept, Finds, sooner}
+
+none_append : (ps qs : List Candidate) → NoneHolds ps → NoneHolds qs → NoneHolds (ps ++ qs)
+none_append [] qs n m = m
+none_append (c ∷ cs) qs n m = (n.0, none_append cs qs n.1 m)
+
+first_left : (ps qs : List Candidate) (o : Offence) → IsFirst ps o → IsFirst (ps ++ qs) o
+first_left [] qs o f = elim f [ ]
+first_left (c ∷ cs) qs o (inl f) = inl f
+first_left (c ∷ cs) qs o (inr f) = inr (f.0, first_left cs qs o f.1)
+
+first_right : (ps qs : List Candidate) (o : Offence) → NoneHolds ps → IsFirst qs o → IsFirst (ps ++ qs) o
+first_right [] qs o n f = f
+first_right (c ∷ cs) qs o n f = inr (n.0, first_right cs qs o n.1 f)
+
+kept_then : (a b c : Option Finding) (ps qs : List Candidate) → IsKept a b ps → IsKept b c qs → IsKept a c (ps ++ qs)
+kept_then (Some f) b c ps qs h k = let P : Option Finding → Type 0 = λ v. IsKept v c qs in subst P h k
+kept_then None None None ps qs h k = none_append ps qs h k
+kept_then None None (Some g) ps qs h k = first_right ps qs (offence_in g) h k
+kept_then None (Some f) c ps qs h k = let P : Option Finding → Type 0 = λ v. IsFoundOf (ps ++ qs) v in subst P (sym k) (first_left ps qs (offence_in f) h)
+
+-- candidates, and then others
+pub finds_then : {a b c : First} {ps qs : List Candidate} → Finds a b ps → Finds b c qs → Finds a c (ps ++ qs)
+finds_then {a} {b} {c} {ps} {qs} h k = record { kept = kept_then a.found b.found c.found ps qs h.kept k.kept }
+
+kept_nothing : (a : Option Finding) → IsKept a a []
+kept_nothing None = tt
+kept_nothing (Some f) = refl
+
+-- no candidates
+pub finds_nothing : (a : First) → Finds a a []
+finds_nothing a = record { kept = kept_nothing a.found }
+
+kept_later : (b l : Option Finding) (qs : List Candidate) → IsKept None l qs → IsKept b (sooner b l) qs
+kept_later None l qs h = h
+kept_later (Some f) l qs h = refl
+
+-- what was asked for elsewhere
+pub finds_later : {fresh l b c : First} {qs : List Candidate} → fresh.found ≡ None → Finds fresh l qs → c.found ≡ sooner b.found l.found → Finds b c qs
+finds_later {fresh} {l} {b} {c} {qs} new h e = record {
+  kept = let P : Option Finding → Type 0 = λ v. IsKept v l.found qs in
+      let Q : Option Finding → Type 0 = λ v. IsKept b.found v qs in
+      subst Q (sym e) (kept_later b.found l.found qs (subst P new h.kept));
+}
+
+none_same : (o : Offence) (P Q : Type 0) → (Q → P) → NoneHolds (candidate o P ∷ []) → NoneHolds (candidate o Q ∷ [])
+none_same o P Q back n = (λ q. n.0 (back q), tt)
+
+first_same : (o other : Offence) (P Q : Type 0) → (P → Q) → IsFirst (candidate o P ∷ []) other → IsFirst (candidate o Q ∷ []) other
+first_same o other P Q there (inl f) = inl (there f.0, f.1)
+first_same o other P Q there (inr f) = elim f.1 [ ]
+
+kept_same : (a b : Option Finding) (o : Offence) (P Q : Type 0) → (P ↔ Q) → IsKept a b (candidate o P ∷ []) → IsKept a b (candidate o Q ∷ [])
+kept_same None None o P Q e h = none_same o P Q e.1 h
+kept_same None (Some f) o P Q e h = first_same o (offence_in f) P Q e.0 h
+kept_same (Some f) b o P Q e h = h
+
+-- a candidate that holds where another one does
+pub finds_same : {a b : First} {o : Offence} {P : Type 0} (Q : Type 0) → (P ↔ Q) → Finds a b (candidate o P ∷ []) → Finds a b (candidate o Q ∷ [])
+finds_same {a} {b} {o} {P} Q e h = record { kept = kept_same a.found b.found o P Q e h.kept }
+
+pub each_append : {A : Type 0} (of : A → List Candidate) (xs ys : List A) → each of (xs ++ ys) ≡ each of xs ++ each of ys
+each_append of [] ys = refl
+each_append of (x ∷ xs) ys = ap (λ cs. of x ++ cs) (each_append of xs ys) ∙ sym (append_assoc (of x) (each of xs) (each of ys))
+
+pub each_map : {A B : Type 0} (of : B → List Candidate) (f : A → B) (xs : List A) → each of (map f xs) ≡ each (λ x. of (f x)) xs
+each_map of f [] = refl
+each_map of f (x ∷ xs) = ap (λ cs. of (f x) ++ cs) (each_map of f xs)
+
+pub each_flat : {A B : Type 0} (of : B → List Candidate) (f : A → List B) (xs : List A) → each of (flat_map f xs) ≡ each (λ x. each of (f x)) xs
+each_flat of f [] = refl
+each_flat of f (x ∷ xs) = each_append of (f x) (flat_map f xs) ∙ ap (λ cs. each of (f x) ++ cs) (each_flat of f xs)
+
+each_more : {A : Type 0} (of : A → List Candidate) (xs : List A) (i : ℕ) (x : A) → x ≡ get_or xs i x → i < length xs → each of (take (i + 1) xs) ≡ each of (take i xs) ++ of x
+each_more of xs i x is h = ap (each of) (take_more xs i x h) ∙ each_append of (take i xs) (get_or xs i x ∷ [])
+    ∙ ap (λ cs. each of (take i xs) ++ cs) (append-nil (of (get_or xs i x)) ∙ ap of (sym is))
+
+pub finds_as : {a b : First} {ps qs : List Candidate} → ps ≡ qs → Finds a b ps → Finds a b qs
+finds_as {a} {b} {ps} {qs} e h = let P : List Candidate → Type 0 = λ cs. Finds a b cs in subst P e h
+
+-- a loop over things, each with its candidates: one turn
+pub finds_more : {A : Type 0} (of : A → List Candidate) {a b c : First} (xs : List A) (i : ℕ) (x : A) → x ≡ get_or xs i x → i < length xs
+    → Finds a b (each of (take i xs)) → Finds b c (of x) → Finds a c (each of (take (i + 1) xs))
+finds_more of xs i x is h e f = finds_as (sym (each_more of xs i x is h)) (finds_then e f)
+
+-- the same where the thing is read with a default
+pub finds_next : {A : Type 0} (of : A → List Candidate) {a b c : First} (xs : List A) (i : ℕ) (d : A) → i < length xs
+    → Finds a b (each of (take i xs)) → Finds b c (of (get_or xs i d)) → Finds a c (each of (take (i + 1) xs))
+finds_next of xs i d h e f = finds_more of xs i (get_or xs i d) (get_or_default xs i d (get_or xs i d) h) h e f
+
+-- its end
+pub finds_all : {A : Type 0} (of : A → List Candidate) {a b : First} (xs : List A) (i : ℕ) → length xs ≤ i → Finds a b (each of (take i xs)) → Finds a b (each of xs)
+finds_all of xs i h e = finds_as (ap (each of) (take_all i xs h)) e
+
+-- its end, where the candidates are those of what the things stand for
+pub finds_mapped : {A B : Type 0} (of : B → List Candidate) (f : A → B) {a b : First} (xs : List A) (i : ℕ) → length xs ≤ i
+    → Finds a b (each (λ x. of (f x)) (take i xs)) → Finds a b (each of (map f xs))
+finds_mapped of f xs i h e = finds_as (sym (each_map of f xs)) (finds_all (λ x. of (f x)) xs i h e)
+
+-- its end, where each thing has several that have candidates
+pub finds_flat : {A B C : Type 0} (of : C → List Candidate) (g : B → List C) (f : A → B) {a b : First} (xs : List A) (i : ℕ) → length xs ≤ i
+    → Finds a b (each (λ x. each of (g (f x))) (take i xs)) → Finds a b (each of (flat_map g (map f xs)))
+finds_flat of g f xs i h e = finds_as (sym (each_flat of g (map f xs))) (finds_mapped (λ y. each of (g y)) f xs i h e)
+
+-- candidates of some things, and then of others
+pub finds_both : {A : Type 0} (of : A → List Candidate) {a b c : First} (xs ys : List A) → Finds a b (each of xs) → Finds b c (each of ys) → Finds a c (each of (xs ++ ys))
+finds_both of xs ys h k = finds_as (sym (each_append of xs ys)) (finds_then h k)
+
+kept_false : (a : Option Finding) (o : Offence) (P : Type 0) → (P → ⊥) → IsKept a a (candidate o P ∷ [])
+kept_false None o P f = (f, tt)
+kept_false (Some g) o P f = refl
+
+-- a candidate that does not hold
+pub finds_false : (a : First) (o : Offence) (P : Type 0) → (P → ⊥) → Finds a a (candidate o P ∷ [])
+finds_false a o P f = record { kept = kept_false a.found o P f }
+
+-- the end of a loop over things of which each has several that have candidates
+pub finds_spread : {A C : Type 0} (of : C → List Candidate) (g : A → List C) {a b : First} (xs : List A) (i : ℕ) → length xs ≤ i
+    → Finds a b (each (λ x. each of (g x)) (take i xs)) → Finds a b (each of (flat_map g xs))
+finds_spread of g xs i h e = finds_as (sym (each_flat of g xs)) (finds_all (λ x. each of (g x)) xs i h e)

@@ -1,0 +1,11 @@
+use Rattle.sig_tree.specs.Declarations.{names_of_expression}
+use Rattle.sig_tree.specs.Syntax.{expression_of}
+use Rattle.sig_type.proofs.Sequences.{finds_more, finds_flat}
+use Rattle.sig_type.proofs.Uses.{unknown_one}
+use Rattle.sig_type.proofs.names.expressions.Goals as goal
+
+pub loop-one-preserved : goal.loop-one-preserved
+loop-one-preserved c = finds_more _ c.args.all.now c.loop-one.one-index c.one-item.result c.one-item.is c.loop-one-test.true c.loop-one.invariant c.expression.ensures
+
+pub returns : goal.returns
+returns c = finds_flat (unknown_one c.args.scope.now) names_of_expression expression_of c.args.all.now _ c.loop-one-test.false c.loop-one.invariant

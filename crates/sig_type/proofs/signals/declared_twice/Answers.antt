@@ -1,0 +1,22 @@
+use Rattle.sig_tree.specs.Candidates.{DeclaredTwice}
+use Rattle.sig_tree.specs.Declarations.{Declaration}
+use Rattle.sig_type.proofs.Earlier.{repeats, texts_more}
+use Rattle.sig_type.proofs.Sequences.{finds_as}
+use Rattle.sig_type.specs.Asked.{repeated}
+use Rattle.sig_type.specs.Declarations.{declaration_in, declarations_in}
+use Rattle.sig_type.specs.declared.declared.Declared.{Declared}
+use Rattle.std.proofs.Common.{map, ap, sym, take, ◌≡◌, ◌∙◌}
+use Rattle.std.proofs.lemmas.List.{take_all}
+use Rattle.std.proofs.lemmas.Simd.{map-map}
+use Rattle.sig_type.proofs.signals.declared_twice.Goals as goal
+
+pub loop-one-preserved : goal.loop-one-preserved
+loop-one-preserved c = (
+  texts_more (λ (d : Declared). d.name.now) c.args.declared.now c.loop-one.one-index c.one-item.result c.loop-one.earlier c.add.new.self c.one-item.is c.loop-one-test.true c.loop-one.invariant.0 (rw c.as_bytes.ensures at c.in_ok-again.ensures.added),
+  repeats DeclaredTwice (λ (d : Declared). d.name.now) c.args.declared.now c.loop-one.one-index c.one-item.result c.in_ok-again.again c.loop-one.earlier c.one-item.is c.loop-one-test.true c.loop-one.invariant.0 (rw c.as_bytes.ensures at c.in_ok-again.ensures.before) c.loop-one.invariant.1 c.ask.ensures,
+)
+
+pub returns : goal.returns
+returns c =
+    let names : map (λ (d : Declared). d.name.now) (take c.loop-one.one-index c.args.declared.now) ≡ map (λ (d : Declaration). d.name) (declarations_in c.args.declared.now) = ap (map (λ (d : Declared). d.name.now)) (take_all _ c.args.declared.now c.loop-one-test.false) ∙ sym (map-map (λ (d : Declaration). d.name) declaration_in c.args.declared.now) in
+    finds_as (ap (repeated DeclaredTwice) names) c.loop-one.invariant.1

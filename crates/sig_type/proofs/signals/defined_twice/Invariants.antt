@@ -1,0 +1,9 @@
+use Rattle.sig_tree.specs.Candidates.{DeclaredTwice, DefinedTwice}
+use Rattle.sig_tree.specs.Declarations.{texts}
+use Rattle.sig_type.specs.Asked.{repeated}
+use Rattle.sig_type.specs.Findings.{Finds}
+use Rattle.std.proofs.Common.{map, take, ◌≡◌}
+use Rattle.sig_type.proofs.signals.defined_twice.Given as goal
+
+abbrev pub invariant-loop-name : goal.invariant-loop-name
+invariant-loop-name l = (l.earlier ≡ texts (map (λ n. n.now) (take l.name-index l.left_sides))) × (Finds l.initial.first l.first (repeated DefinedTwice (map (λ n. n.now) (take l.name-index l.left_sides))))

@@ -1,0 +1,14 @@
+use Rattle.sig_type.specs.declared.declared.Declared.{Declared}
+use Rattle.sig_tree.specs.Declarations.{Declaration}
+use Rattle.sig_type.proofs.Sequences.{finds_same, finds_more, finds_mapped}
+use Rattle.sig_type.proofs.Small.{not_is}
+use Rattle.sig_type.specs.Asked.{undefined_in}
+use Rattle.sig_type.specs.Declarations.{declaration_in}
+use Rattle.std.proofs.Common.{◌∷◌, []}
+use Rattle.sig_type.proofs.signals.undefined.Goals as goal
+
+pub loop-one-preserved : goal.loop-one-preserved
+loop-one-preserved c = finds_more (λ (d : Declared). undefined_in c.args.left_sides.now (declaration_in d ∷ [])) c.args.declared.now c.loop-one.one-index c.one-item.result c.one-item.is c.loop-one-test.true c.loop-one.invariant (finds_same _ (not_is _ (rw c.as_bytes.ensures at c.has.ensures)) c.ask.ensures)
+
+pub returns : goal.returns
+returns c = finds_mapped (λ (d : Declaration). undefined_in c.args.left_sides.now (d ∷ [])) declaration_in c.args.declared.now _ c.loop-one-test.false c.loop-one.invariant
