@@ -21,6 +21,8 @@ mod names;
 mod processes;
 mod scope;
 mod signals;
+#[cfg(test)]
+mod tests;
 mod texts;
 
 pub use answer::TypeAnswer;
