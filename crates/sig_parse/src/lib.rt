@@ -160,3 +160,8 @@ mod tests {
         Ok(())
     }
 }
+
+#[cfg(test)]
+mod expression_tests;
+#[cfg(test)]
+mod program_tests;
