@@ -1,9 +1,9 @@
 mod BodyLemmas
 mod EventLemmas
-mod FirstLemmas
+pub mod FirstLemmas
 mod FirstLines
 mod FlowLemmas
-mod InputLemmas
+pub mod InputLemmas
 mod LineWords
 mod Numerals
 mod StarLemmas

@@ -22,8 +22,12 @@ mod word;
 pub use answer::{EventAnswer, FlowAnswer};
 pub use event::{FileEvent, read_events};
 pub use laws::{first_wrong_word, one_event_reading, one_flow_reading};
+pub use line::next_line;
+pub use named::{input_named, is_clean};
 pub use put::put_value;
 pub use read::{read_flows, read_named};
+pub use value::{WordFault, value_of};
+pub use word::{Next, next_word};
 
 #[cfg(test)]
 mod tests;

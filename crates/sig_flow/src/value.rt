@@ -83,7 +83,7 @@ fn times_of(digits: &[u8]) -> Option<u32>
 
 /// The value of a word of an input of this kind.
 #[inline(always)]
-fn value_of(word: &[u8], kind: Kind) -> Result<i64, WordFault>
+pub fn value_of(word: &[u8], kind: Kind) -> Result<i64, WordFault>
     ensures { result ≡ value_said kind word.now }
 {
     match kind {

@@ -1,6 +1,12 @@
 pub mod AgreeAnswers
 pub mod BreakLemmas
 pub mod FunctionRows
+pub mod HeaderFaults
+pub mod HeaderLines
+pub mod HeaderNames
 pub mod KindLemmas
+pub mod ReadLemmas
+pub mod RowLemmas
+pub mod ValueKinds
 pub mod VerdictLemmas
 pub mod ZipLemmas

@@ -7,14 +7,20 @@ mod answer;
 mod body;
 mod equation;
 mod function;
+mod header;
 mod node;
 mod operator;
 mod presence;
+mod read;
+mod row;
 mod trace;
+mod trace_answer;
 mod verdict;
 
 pub use answer::JudgeAnswer;
+pub use read::read_trace;
 pub use trace::{Row, Seen, Trace};
+pub use trace_answer::TraceAnswer;
 pub use verdict::{Verdict, judge};
 
 #[cfg(test)]

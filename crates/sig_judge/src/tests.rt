@@ -1,4 +1,7 @@
-use crate::{Row, Seen, Trace, Verdict, judge};
+ghost use Rattle.std.specs.Prelude.{◌≡◌, bytes_eq, map, IfOk};
+ghost use Rattle.std.specs.List.{IsDistinct};
+
+use crate::{Row, Seen, Trace, TraceAnswer, Verdict, judge, read_trace};
 use sig_base::{Kind, SigId, Signal, Span, Text};
 use sig_tree::{BinOp, Flat, FlatEq, FlatExpr, UnOp};
 use std::alloc::Global;
@@ -136,5 +139,113 @@ fn judges_a_countdown(rt: HostRuntime) -> Result<(), Fail> {
         [is(5), is(5), is(0)],
     ];
     assert_eq!(rt; verdict(alloc, &down, &good)?, Some(Verdict::Accepted));
+    Ok(())
+}
+
+fn named(alloc: Global, name: &[u8], kind: Kind) -> Result<Signal, Fail>
+    ensures { IfOk result (λ signal. signal.name ≡ name.now) }
+{
+    Ok(Signal {
+        name: Text::from_bytes(alloc, name)?,
+        kind,
+        cluster: 0,
+        at: AT,
+    })
+}
+
+// A body without equations, of an integer A, a boolean B and an event C.
+#[tactic(auto, using(sig_flow::proofs::ThreeNames::three_differ))]
+fn three_kinds(alloc: Global) -> Result<Flat, Fail>
+    ensures { IfOk result (λ flat. IsDistinct bytes_eq (map (λ signal. signal.name) flat.signals.items)) }
+{
+    let first = named(alloc, b"A", Kind::Integer)?;
+    let second = named(alloc, b"B", Kind::Boolean)?;
+    let third = named(alloc, b"C", Kind::Event)?;
+    Ok(Flat {
+        signals: Vec::from_array(alloc, [first, second, third])?,
+        inputs: 3,
+        outputs: 0,
+        body: Vec::new(alloc),
+    })
+}
+
+#[test]
+fn reads_traces(rt: HostRuntime) -> Result<(), Fail> {
+    let alloc = rt.alloc();
+    let flat = three_kinds(alloc)?;
+    let file = b"\n B  C\tA\r\n true . -9223372036854775808\n\n. . .\nfalse true 07";
+    let trace = read_trace(alloc, file, &flat)?;
+    assert_eq!(rt; trace.rows.len(), 3);
+    if let [first, second, third] = trace.rows.as_slice() {
+        assert_eq!(rt; first.as_slice(), [is(i64::MIN), is(1), NO].as_slice());
+        assert_eq!(rt; second.as_slice(), [NO, NO, NO].as_slice());
+        assert_eq!(rt; third.as_slice(), [is(7), is(0), is(1)].as_slice());
+    }
+    Ok(())
+}
+
+#[test]
+fn refuses_traces(rt: HostRuntime) -> Result<(), Fail> {
+    let alloc = rt.alloc();
+    let flat = three_kinds(alloc)?;
+    let files: [(&[u8], TraceAnswer); 17] = [
+        (b"", TraceAnswer::BadHeader(1)),
+        (b"\n \n\t\r\n", TraceAnswer::BadHeader(1)),
+        (b"\nA B\n", TraceAnswer::BadHeader(2)),
+        (b"A B C A\n", TraceAnswer::BadHeader(1)),
+        (b"A B C D\n", TraceAnswer::BadHeader(1)),
+        (b"A B C\r", TraceAnswer::BadLine(1)),
+        (b"A B\xc3\n", TraceAnswer::BadLine(1)),
+        (b"A B C\n\n1 true\n", TraceAnswer::BadWidth(3)),
+        (b"A B C\n1 true . .\n", TraceAnswer::BadWidth(2)),
+        (b"A B C\n1 true \0\n", TraceAnswer::BadLine(2)),
+        (b"A B C\n+1 true .\n", TraceAnswer::BadValue(2, 1)),
+        (b"A B C\n. 1 .\n", TraceAnswer::BadValue(2, 3)),
+        (b"A B C\n. . false\n", TraceAnswer::BadValue(2, 5)),
+        (b"A B C\n. .. .\n", TraceAnswer::BadValue(2, 3)),
+        (
+            b"A B C\n9223372036854775808 x .\n",
+            TraceAnswer::OutOfRange(2, 1),
+        ),
+        (
+            b"C A B\n. -9223372036854775809 .",
+            TraceAnswer::OutOfRange(2, 3),
+        ),
+        (b"A B C\n1 true true\nx", TraceAnswer::BadWidth(3)),
+    ];
+    for (bytes, answer) in files {
+        assert_eq!(rt; read_trace(alloc, bytes, &flat).err(), Some(answer));
+    }
+    Ok(())
+}
+
+#[test]
+fn shows_refusals_of_traces(rt: HostRuntime) -> Result<(), Fail> {
+    let alloc = rt.alloc();
+    let header = TraceAnswer::BadHeader(1).to_string(alloc)?;
+    assert_eq!(rt; header.as_str(), "1: bad header");
+    let many = TraceAnswer::TooMany(4_000_000).to_string(alloc)?;
+    assert_eq!(rt; many.as_str(), " more than 4000000 cells");
+    Ok(())
+}
+
+// A file of so many silent instants.
+fn silent_file(alloc: Global, count: usize) -> Result<Vec<u8>, Fail> {
+    let mut bytes = b"A B C\n".to_vec(alloc)?;
+    bytes.extend_from_slice(&b". . .\n".repeat(alloc, count)?)?;
+    Ok(bytes)
+}
+
+#[test]
+fn counts_cells(rt: HostRuntime) -> Result<(), Fail> {
+    let alloc = rt.alloc();
+    let flat = three_kinds(alloc)?;
+    let most = silent_file(alloc, 1_333_333)?;
+    assert_eq!(rt; read_trace(alloc, &most, &flat)?.rows.len(), 1_333_333);
+    let more = silent_file(alloc, 1_333_334)?;
+    assert_eq!(rt;
+        read_trace(alloc, &more, &flat).err(),
+        Some(TraceAnswer::TooMany(4_000_000))
+    );
     Ok(())
 }
