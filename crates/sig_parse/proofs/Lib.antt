@@ -8,6 +8,7 @@ pub mod Joins
 pub mod LeafLists
 pub mod Lists
 pub mod Passing
+pub mod OneRefusal
 pub mod PlaceLemmas
 pub mod ProcessLemmas
 pub mod ReadingLemmas

@@ -2,6 +2,7 @@ pub mod Answers
 pub mod Languages
 pub mod Declarations
 pub mod Keywords
+pub mod FirstRefusal
 pub mod Lines
 pub mod Operators
 pub mod Reading

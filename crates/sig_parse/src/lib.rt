@@ -15,6 +15,7 @@ mod declaration;
 mod expression;
 mod form;
 mod keyword;
+mod laws;
 mod leaf;
 mod names;
 mod natural;
@@ -31,6 +32,7 @@ mod sides;
 mod words;
 
 pub use answer::SmallAnswer;
+pub use laws::one_refusal;
 pub use parse_answer::ParseAnswer;
 pub use program::parse;
 use sig_base::limits::PROGRAM_BYTES;

@@ -1,0 +1,15 @@
+//! Laws of refusals.
+
+ghost use Rattle.std.specs.Prelude.{◌≡◌, List};
+ghost use Rattle.sig_base.specs.declared.span.Span.{Span};
+ghost use Rattle.sig_tree.specs.Grammar.{HasTree};
+ghost use Rattle.sig_tree.specs.Syntax.{ProcessModel};
+ghost use Rattle.sig_tree.specs.Terminals.{Leaf};
+ghost use Rattle.sig_parse.specs.FirstRefusal.{IsFirstRefusal};
+ghost use Rattle.sig_parse.specs.declared.parse_answer.ParseAnswer.{ParseAnswer};
+
+/// A law: leaves have at most one first refusal, and none where they have a tree within both limits.
+pub fn one_refusal()
+    ensures one { (leaves : List Leaf) (end : Span) (a b : ParseAnswer) → IsFirstRefusal leaves end a → IsFirstRefusal leaves end b → a ≡ b }
+    ensures apart { (leaves : List Leaf) (end : Span) (processes : List ProcessModel) (a : ParseAnswer) → HasTree leaves processes → IsFirstRefusal leaves end a → ⊥ }
+{}
