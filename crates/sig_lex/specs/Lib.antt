@@ -1,6 +1,7 @@
 pub mod Bytes
 pub mod Lexemes
 pub mod Places
+pub mod Shown
 pub mod Slices
 pub mod Tables
 pub mod Tokens

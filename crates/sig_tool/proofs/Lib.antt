@@ -11,4 +11,6 @@ mod Stages
 mod OneOutcome
 mod Loads
 mod RunClauses
+mod TextFile
+mod TextClauses
 mod CommandWords

@@ -9,10 +9,15 @@ use Rattle.sig_parse.specs.declared.answer.SmallAnswer.TheVariants.{NotBuilt}
 use Rattle.sig_parse.proofs.SmallLemmas.{only_one, refused as says_none}
 use Rattle.sig_text.specs.Files.{Contents}
 use Rattle.sig_words.specs.declared.command.Command.{Command}
-use Rattle.sig_words.specs.declared.command.Command.TheVariants.{Run}
+use Rattle.sig_words.specs.declared.command.Command.TheVariants.{Print, Run}
 use Rattle.sig_words.specs.declared.command.Settings.{Settings}
+use Rattle.sig_tree.specs.Grammar.{IsText}
+use Rattle.sig_tree.specs.Syntax.{ProcessModel}
+use Rattle.sig_print.specs.Canonical.{canonical_text}
+use Rattle.sig_front.specs.Shown.{front_line}
+use Rattle.sig_front.proofs.OneText.{tree_once, refusal_once, tree_or_refusal}
 use Rattle.sig_tool.specs.FlowFile.{IsFlowFile, flow_in}
-use Rattle.sig_tool.specs.Outcomes.{AtFile, AtFlows, AtProgram, ComesTo, FindsFlows, FindsProgram, Found, Good, Outcome, RefusesFlows, RefusesProgram, RunComesTo, RunsTo, ended, long_file, long_program}
+use Rattle.sig_tool.specs.Outcomes.{AtFile, AtFlows, AtProgram, AtText, ComesTo, FindsFlows, FindsProgram, FindsText, PrintComesTo, RefusesText, done, Found, Good, Outcome, RefusesFlows, RefusesProgram, RunComesTo, RunsTo, ended, long_file, long_program}
 use Rattle.sig_tool.proofs.RunCauses.{one_end}
 use Rattle.sig_tool.proofs.Stages.{OneAtMost, at_file_ends, one_at_file, one_found}
 
@@ -65,9 +70,35 @@ one_run_outcome held program flows limit one other =
     (λ s. one_at_flows held flows s.inputs (λ values. RunsTo s values limit flows) (λ values. one_run s values limit flows))
     one other
 
+-- a program file gives one tree or one refusal at most
+refusal_of_none : (bytes l m : List ℕ) → RefusesText bytes l → RefusesText bytes m → l ≡ m
+refusal_of_none bytes l m x y = x.says ∙ ap front_line (refusal_once bytes x.answer y.answer x.none y.none) ∙ sym y.says
+
+pub one_text_file : (held : Option (List ℕ)) (f g : Found (List ProcessModel)) → FindsText held f → FindsText held g → f ≡ g
+one_text_file held f g =
+    one_found held 1048576 IsText RefusesText tree_once refusal_of_none
+    (λ bytes tree l says refuses. tree_or_refusal bytes tree refuses.answer says refuses.none)
+    f g
+
+one_at_text : (held : Contents) (name : List ℕ) (Next : List ProcessModel → Outcome → Type 0) → ((tree : List ProcessModel) → OneAtMost (Next tree)) → OneAtMost (AtText held name Next)
+one_at_text held name Next one o p x y =
+    one_at_file 1 long_program name x.0 Next one o p x.2
+    (subst (λ found. AtFile 1 long_program name found Next p) (one_text_file (held name) y.0 x.0 y.1 x.1) y.2)
+
+one_print_outcome : (held : Contents) (program : List ℕ) (one other : Outcome) → PrintComesTo held program one → PrintComesTo held program other → one ≡ other
+one_print_outcome held program one other =
+    one_at_text held program (λ tree o. o ≡ done (canonical_text tree) program) (λ tree o p x y. x ∙ sym y) one other
+
 pub one_outcome : (held : Contents) (c : Command) (one other : Outcome) → ComesTo held c one → ComesTo held c other → one ≡ other
 one_outcome held (Run program flows settings) one other = one_run_outcome held program flows settings.instants one other
+one_outcome held (Print program) one other = one_print_outcome held program one other
 one_outcome held _ one other = λ x y. absurd x
+
+-- ---- what the printing of a program comes to
+
+-- a text that is refused ends it
+pub text_refuses : (held : Contents) (program : List ℕ) (o : Outcome) → AtText held program (λ _ _. ⊥) o → ComesTo held (Print program) o
+text_refuses held program o x = (x.0, x.1, at_file_ends 1 long_program program x.0 (λ tree o. o ≡ done (canonical_text tree) program) o x.2)
 
 -- ---- what a run comes to
 

@@ -15,7 +15,7 @@ use Rattle.sig_tool.specs.RunEnd.{end_status}
 use Rattle.sig_tool.specs.SmallRun.{IsLength, text_of}
 use Rattle.sig_tool.specs.TopCall.{IsDone, IsDue, IsRefusedBy, MayAnswer, OfOutcome, RunsWhole, memory_line}
 use Rattle.sig_tool.specs.declared.refusal.Refusal.{Refusal}
-use Rattle.sig_tool.specs.declared.refusal.Refusal.TheVariants.{Missing, ReadFault, LongProgram, NotBuilt, LongFile, NoFlows, OutOfMemory}
+use Rattle.sig_tool.specs.declared.refusal.Refusal.TheVariants.{Missing, ReadFault, LongProgram, Front, NotBuilt, LongFile, NoFlows, OutOfMemory}
 use Rattle.sig_tool.specs.declared.run.Cause.{Cause}
 use Rattle.sig_tool.specs.declared.run.Cause.TheVariants.{Limit, Exhausted, Overflow}
 use Rattle.sig_tool.proofs.OneOutcome.{one_outcome, one_run, runs, runs_only}
@@ -77,6 +77,7 @@ own_status held c before at misses misses' faults faults' WriteFailed (Missing n
     (cases_lt faults' (raised faults))
 own_status held c before at misses misses' faults faults' WriteFailed (ReadFault name) o count owes comes = inr (inl (refl, count.cause))
 own_status held c before at misses misses' faults faults' WriteFailed LongProgram o count owes comes = inl (by_owed held c before at LongProgram o (owes tt) comes)
+own_status held c before at misses misses' faults faults' WriteFailed (Front answer) o count owes comes = inl (by_owed held c before at (Front answer) o (owes tt) comes)
 own_status held c before at misses misses' faults faults' WriteFailed NotBuilt o count owes comes = inl (by_owed held c before at NotBuilt o (owes tt) comes)
 own_status held c before at misses misses' faults faults' WriteFailed (LongFile name) o count owes comes = inl (by_owed held c before at (LongFile name) o (owes tt) comes)
 own_status held c before at misses misses' faults faults' WriteFailed (NoFlows name) o count owes comes = inl (by_owed held c before at (NoFlows name) o (owes tt) comes)
@@ -124,6 +125,7 @@ memory_said c contents before at misses misses' faults faults' status Said by se
     said_at (Missing name) is line = absurd (omega (arith, is))
     said_at (ReadFault name) is line = absurd (omega (arith, is))
     said_at LongProgram is line = absurd (omega (arith, is))
+    said_at (Front answer) is line = absurd (omega (arith, is))
     said_at NotBuilt is line = absurd (omega (arith, is))
     said_at (LongFile name) is line = absurd (omega (arith, is))
     said_at (NoFlows name) is line = absurd (omega (arith, is))

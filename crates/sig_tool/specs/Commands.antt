@@ -1,9 +1,10 @@
 -- The commands that are built so far, among those of a command line.
-use Rattle.std.specs.Prelude.{◌≡◌, false}
+use Rattle.std.specs.Prelude.{◌≡◌, false, ⊤}
 use Rattle.sig_words.specs.declared.command.Command.{Command}
-use Rattle.sig_words.specs.declared.command.Command.TheVariants.{Run}
+use Rattle.sig_words.specs.declared.command.Command.TheVariants.{Print, Run}
 
--- a command is built: a run without pacing
+-- a command is built: a run without pacing, and the printing of a program
 abbrev pub IsBuilt : Command → Type 0
 IsBuilt (Run program flows settings) = settings.pace ≡ false
+IsBuilt (Print program) = ⊤
 IsBuilt _ = ⊥

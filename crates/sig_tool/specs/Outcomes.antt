@@ -5,12 +5,18 @@ use Rattle.sig_base.specs.Lines.{refusal}
 use Rattle.sig_plan.specs.Small.{Small, IsSmallProgram}
 use Rattle.sig_text.specs.Files.{Contents}
 use Rattle.sig_text.specs.Read.{IsLongerThan}
+use Rattle.sig_tree.specs.Grammar.{IsText}
+use Rattle.sig_tree.specs.Syntax.{ProcessModel}
+use Rattle.sig_print.specs.Canonical.{canonical_text}
+use Rattle.sig_front.specs.Shown.{front_line}
+use Rattle.sig_front.specs.Texts.{IsNoText}
+use Rattle.sig_front.specs.declared.answer.FrontAnswer.{FrontAnswer}
 use Rattle.sig_tool.specs.FlowFile.{IsFlowFile, IsNoFlowFile}
 use Rattle.sig_tool.specs.SmallRun.{IsLength, IsCause, text_of}
 use Rattle.sig_tool.specs.RunEnd.{end_line, end_status}
 use Rattle.sig_tool.specs.declared.run.Cause.{Cause}
 use Rattle.sig_words.specs.declared.command.Command.{Command}
-use Rattle.sig_words.specs.declared.command.Command.TheVariants.{Run}
+use Rattle.sig_words.specs.declared.command.Command.TheVariants.{Print, Run}
 
 -- what a command comes to: the text that is due on its output, its status, its line on standard error,
 -- and the file that it asked for last, if it asked for any
@@ -19,6 +25,10 @@ pub record Outcome : Type 0 where
   pub status : ℕ
   pub line : List ℕ
   pub file : Option (List ℕ)
+
+-- a command that is done with a text, behind a file
+abbrev pub done : (text file : List ℕ) → Outcome
+done text file = record { text = text; status = 0; line = []; file = Some file }
 
 -- a refusal: nothing is due, and a line says why
 abbrev pub refused : ℕ → List ℕ → Option (List ℕ) → Outcome
@@ -89,6 +99,21 @@ abbrev pub AtProgram : Contents → List ℕ → (Small → Outcome → Type 0) 
 AtProgram held name Next o =
     (found : Found Small) × FindsProgram (held name) found × AtFile 1 long_program name found Next o
 
+-- ---- the program file, for its text alone
+
+-- the bytes are refused as the text of a program, with this line
+pub record RefusesText (bytes line : List ℕ) : Type 0 where
+  pub answer : FrontAnswer
+  pub none : IsNoText bytes answer
+  pub says : line ≡ front_line answer
+
+abbrev pub FindsText : Option (List ℕ) → Found (List ProcessModel) → Type 0
+FindsText held found = Finds held 1048576 IsText RefusesText found
+
+abbrev pub AtText : Contents → List ℕ → (List ProcessModel → Outcome → Type 0) → Outcome → Type 0
+AtText held name Next o =
+    (found : Found (List ProcessModel)) × FindsText (held name) found × AtFile 1 long_program name found Next o
+
 -- ---- the flow file
 
 -- the bytes are refused as flows of these inputs, with this line
@@ -124,7 +149,12 @@ abbrev pub RunComesTo : Contents → List ℕ → List ℕ → ℕ → Outcome �
 RunComesTo held program flows limit o =
     AtProgram held program (λ s. AtFlows held flows s.inputs (λ values. RunsTo s values limit flows)) o
 
+-- the canonical text of a program over told contents comes to this
+abbrev pub PrintComesTo : Contents → List ℕ → Outcome → Type 0
+PrintComesTo held program o = AtText held program (λ tree o. o ≡ done (canonical_text tree) program) o
+
 -- a command over told contents comes to this; one that is not built comes to nothing
 abbrev pub ComesTo : Contents → Command → Outcome → Type 0
 ComesTo held (Run program flows settings) o = RunComesTo held program flows settings.instants o
+ComesTo held (Print program) o = PrintComesTo held program o
 ComesTo held _ o = ⊥

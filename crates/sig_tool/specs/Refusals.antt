@@ -1,22 +1,32 @@
 -- The refusals of a command whose files give nothing: their statuses, their lines and their causes.
 use Rattle.std.specs.Prelude.{◌≡◌, ◌⊎◌, ⊤, ℕ, List, codes, Option, Some, None, IfSome}
 use Rattle.sig_base.specs.Lines.{refusal}
+use Rattle.sig_front.specs.Shown.{front_line}
+use Rattle.sig_front.specs.declared.answer.FrontAnswer.{FrontAnswer}
+use Rattle.sig_front.specs.declared.answer.FrontAnswer.TheVariants.{Lex, Parse, OutOfMemory as FrontMemory}
 use Rattle.sig_text.specs.Counts.{Rose, DidNotRise}
 use Rattle.sig_text.specs.Files.{Contents, name_where_there}
 use Rattle.sig_tool.specs.Outcomes.{Outcome, ComesTo, refused, not_found, read_failed, long_program, not_built, long_file, no_flows}
 use Rattle.sig_words.specs.declared.command.Command.{Command}
-use Rattle.sig_words.specs.declared.command.Command.TheVariants.{Run}
+use Rattle.sig_words.specs.declared.command.Command.TheVariants.{Print, Run}
 use Rattle.sig_tool.specs.declared.refusal.Refusal.{Refusal}
-use Rattle.sig_tool.specs.declared.refusal.Refusal.TheVariants.{Missing, ReadFault, LongProgram, NotBuilt, LongFile, NoFlows, OutOfMemory}
+use Rattle.sig_tool.specs.declared.refusal.Refusal.TheVariants.{Missing, ReadFault, LongProgram, Front, NotBuilt, LongFile, NoFlows, OutOfMemory}
 
 abbrev pub out_of_memory : List ℕ
 out_of_memory = refusal (codes "out of memory")
+
+-- the refusal that an answer of the passes is
+abbrev pub front_refusal : FrontAnswer → Refusal
+front_refusal FrontMemory = OutOfMemory
+front_refusal (Lex answer) = Front (Lex answer)
+front_refusal (Parse answer) = Front (Parse answer)
 
 -- the status of a refusal
 abbrev pub status_of : Refusal → ℕ
 status_of (Missing name) = 5
 status_of (ReadFault name) = 5
 status_of LongProgram = 1
+status_of (Front answer) = 1
 status_of NotBuilt = 1
 status_of (LongFile name) = 4
 status_of (NoFlows name) = 4
@@ -27,6 +37,7 @@ abbrev pub line_of : Refusal → List ℕ
 line_of (Missing name) = not_found name.now
 line_of (ReadFault name) = read_failed name.now
 line_of LongProgram = long_program
+line_of (Front answer) = front_line answer
 line_of NotBuilt = not_built
 line_of (LongFile name) = long_file name.now
 line_of (NoFlows name) = no_flows name.now
@@ -41,6 +52,7 @@ abbrev pub IsOwn : Refusal → ℕ → ℕ → Type 0
 IsOwn (Missing name) faults faults' = DidNotRise faults faults'
 IsOwn (ReadFault name) faults faults' = ⊥
 IsOwn LongProgram faults faults' = ⊤
+IsOwn (Front answer) faults faults' = ⊤
 IsOwn NotBuilt faults faults' = ⊤
 IsOwn (LongFile name) faults faults' = ⊤
 IsOwn (NoFlows name) faults faults' = ⊤
@@ -58,6 +70,7 @@ abbrev pub HasCount : Option Contents → Option (List ℕ) → ℕ → ℕ → 
 HasCount contents at misses misses' faults faults' (Missing name) = IsLast contents at (Rose misses misses') name.now
 HasCount contents at misses misses' faults faults' (ReadFault name) = IsLast contents at (Rose faults faults') name.now
 HasCount contents at misses misses' faults faults' LongProgram = ⊤
+HasCount contents at misses misses' faults faults' (Front answer) = ⊤
 HasCount contents at misses misses' faults faults' NotBuilt = ⊤
 HasCount contents at misses misses' faults faults' (LongFile name) = ⊤
 HasCount contents at misses misses' faults faults' (NoFlows name) = ⊤
@@ -68,16 +81,29 @@ abbrev pub IsAboutProgram : List ℕ → Refusal → Type 0
 IsAboutProgram program (Missing name) = name.now ≡ program
 IsAboutProgram program (ReadFault name) = name.now ≡ program
 IsAboutProgram program LongProgram = ⊤
+IsAboutProgram program (Front answer) = ⊥
 IsAboutProgram program NotBuilt = ⊤
 IsAboutProgram program (LongFile name) = ⊥
 IsAboutProgram program (NoFlows name) = ⊥
 IsAboutProgram program OutOfMemory = ⊤
+
+-- a refusal may be one of the text of the program file of this name
+abbrev pub IsAboutText : List ℕ → Refusal → Type 0
+IsAboutText program (Missing name) = name.now ≡ program
+IsAboutText program (ReadFault name) = name.now ≡ program
+IsAboutText program LongProgram = ⊤
+IsAboutText program (Front answer) = ⊤
+IsAboutText program NotBuilt = ⊥
+IsAboutText program (LongFile name) = ⊥
+IsAboutText program (NoFlows name) = ⊥
+IsAboutText program OutOfMemory = ⊤
 
 -- a refusal may be one of the flow file of this name
 abbrev pub IsAboutFlows : List ℕ → Refusal → Type 0
 IsAboutFlows flows (Missing name) = name.now ≡ flows
 IsAboutFlows flows (ReadFault name) = name.now ≡ flows
 IsAboutFlows flows LongProgram = ⊥
+IsAboutFlows flows (Front answer) = ⊥
 IsAboutFlows flows NotBuilt = ⊥
 IsAboutFlows flows (LongFile name) = name.now ≡ flows
 IsAboutFlows flows (NoFlows name) = name.now ≡ flows
@@ -86,6 +112,7 @@ IsAboutFlows flows OutOfMemory = ⊤
 -- a refusal may be one of a command
 abbrev pub IsAbout : Command → Refusal → Type 0
 IsAbout (Run program flows settings) r = IsAboutProgram program r ⊎ IsAboutFlows flows r
+IsAbout (Print program) r = IsAboutText program r
 IsAbout _ r = ⊥
 
 -- what is told of the file that was begun last, once a command has asked for this file last, or for none

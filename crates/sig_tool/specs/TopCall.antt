@@ -12,7 +12,7 @@ use Rattle.sig_tool.specs.SmallRun.{IsCause, IsLength, text_of}
 use Rattle.sig_words.specs.Commands.{IsCommand}
 use Rattle.sig_words.specs.Readings.{Word}
 use Rattle.sig_words.specs.declared.command.Command.{Command}
-use Rattle.sig_words.specs.declared.command.Command.TheVariants.{Run}
+use Rattle.sig_words.specs.declared.command.Command.TheVariants.{Print, Run}
 use Rattle.sig_tool.specs.declared.run.Cause.{Cause}
 use Rattle.sig_tool.specs.declared.refusal.Refusal.{Refusal}
 
@@ -43,6 +43,8 @@ IsStatus status = IsDone status ⊎ (IsRefused status ⊎ (status ≡ 6))
 abbrev pub IsStatusOf : Command → ℕ → Type 0
 IsStatusOf (Run program flows settings) status =
     IsDone status ⊎ ((status ≡ 6) ⊎ ((status ≡ 1) ⊎ ((status ≡ 4) ⊎ ((status ≡ 5) ⊎ (status ≡ 7)))))
+IsStatusOf (Print program) status =
+    (status ≡ 0) ⊎ ((status ≡ 6) ⊎ ((status ≡ 1) ⊎ ((status ≡ 5) ⊎ (status ≡ 7))))
 IsStatusOf _ status = ⊥
 
 -- the status that is answered where another is owed: that one; or 5, where a call of the files failed;
@@ -56,6 +58,7 @@ MayAnswer owed status ReadFailed WriteFailed =
 abbrev pub HasBegun : Contents → Command → Option (List ℕ) → Option (List ℕ) → Type 0
 HasBegun held (Run program flows settings) before at =
     (at ≡ name_where_there held program) ⊎ (at ≡ name_where_there held flows)
+HasBegun held (Print program) before at = at ≡ name_where_there held program
 HasBegun held _ before at = ⊥
 
 -- ---- the line on standard error

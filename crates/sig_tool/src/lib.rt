@@ -4,10 +4,12 @@
 #![tactic(auto)]
 
 mod command;
+mod due;
 mod flows;
 mod load;
 mod perform;
 mod pieces;
+mod print;
 mod refusal;
 mod report;
 mod run;

@@ -2,10 +2,11 @@
 
 ghost use Rattle.std.specs.Prelude.{◌≡◌, Some};
 
+use sig_front::FrontAnswer;
 use std::fmt;
 
 /// Why a command's files give nothing. It is shown as its line on standard error, without a newline.
-#[derive(Clone, Copy, Debug, PartialEq, Eq)]
+#[derive(Debug, Drop)]
 pub enum Refusal<'a> {
     /// The file of this name is not there.
     Missing(&'a str),
@@ -13,6 +14,8 @@ pub enum Refusal<'a> {
     ReadFault(&'a str),
     /// The program file has too many bytes.
     LongProgram,
+    /// The text of the program file is refused.
+    Front(FrontAnswer),
     /// The program is not of the small form.
     NotBuilt,
     /// The flow file of this name has too many bytes.
@@ -27,14 +30,27 @@ impl Refusal<'_> {
     ghost use Rattle.sig_tool.specs.Refusals.{status_of};
 
     /// The status with which a refused command ends.
-    pub fn status(self) -> u8
-        ensures { result ≡ status_of self.entry }
+    pub fn status(&self) -> u8
+        ensures { result ≡ status_of self.now }
     {
         match self {
-            Refusal::LongProgram | Refusal::NotBuilt => 1,
+            Refusal::LongProgram | Refusal::Front(_) | Refusal::NotBuilt => 1,
             Refusal::LongFile(_) | Refusal::NoFlows(_) => 4,
             Refusal::Missing(_) | Refusal::ReadFault(_) => 5,
             Refusal::OutOfMemory => 7,
+        }
+    }
+}
+
+impl From<FrontAnswer> for Refusal<'_> {
+    ghost use Rattle.sig_tool.specs.Refusals.{front_refusal};
+
+    ghost from_gives = { λ answer refusal. refusal ≡ front_refusal answer };
+
+    fn from(answer: FrontAnswer) -> Self {
+        match answer {
+            FrontAnswer::OutOfMemory => Refusal::OutOfMemory,
+            _ => Refusal::Front(answer),
         }
     }
 }
@@ -49,6 +65,7 @@ impl fmt::Display for Refusal<'_> {
             Refusal::Missing(name) => write!(f, "error: {name}: not found"),
             Refusal::ReadFault(name) => write!(f, "error: {name}: read failed"),
             Refusal::LongProgram => f.write_str("error: program longer than 1048576 bytes"),
+            Refusal::Front(answer) => write!(f, "{answer}"),
             Refusal::NotBuilt => f.write_str("error: not built yet"),
             Refusal::LongFile(name) => write!(f, "error: {name}: longer than 67108864 bytes"),
             Refusal::NoFlows(name) => write!(f, "error: {name}: not a flow file"),

@@ -33,8 +33,8 @@ fn is_built(command: &Command) -> bool
 {
     match command {
         Command::Run(_, _, settings) => !settings.pace,
+        Command::Print(_) => true,
         Command::Check(_, _)
-        | Command::Print(_)
         | Command::Tree(_, _)
         | Command::Code(_, _)
         | Command::Play(_, _, _, _)

@@ -1,5 +1,9 @@
 use Rattle.sig_tool.proofs.perform.perform.Goals as goal
 
-pub returns-clause-status : goal.returns-clause-status
-returns-clause-status g c =
+pub returns-in-Run-clause-status : goal.returns-in-Run-clause-status
+returns-in-Run-clause-status g c =
     rw c.in-Run.is (rw (c.name_of-program.ensures, c.name_of-flows.ensures) at c.run_command.ensures.status)
+
+pub returns-in-Print-clause-status : goal.returns-in-Print-clause-status
+returns-in-Print-clause-status g c =
+    rw c.in-Print.is (rw c.name_of.ensures at c.print_command.ensures.status)

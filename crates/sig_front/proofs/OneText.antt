@@ -1,0 +1,39 @@
+-- A text is that of one program or has one refusal, at most, and not both.
+use Rattle.std.proofs.Common.{◌≡◌, ℕ, List, ap, subst}
+use Rattle.sig_lex.proofs.Unique.{one_list, one_first_fault, list_or_fault}
+use Rattle.sig_lex.specs.declared.token.Token.{Token}
+use Rattle.sig_parse.proofs.OneRefusal.{one_refusal, no_refusal}
+use Rattle.sig_parse.specs.FirstRefusal.{IsFirstRefusal}
+use Rattle.sig_parse.specs.Refused.{end_of}
+use Rattle.sig_tree.proofs.ReadProcesses.{tree_once as one_tree}
+use Rattle.sig_tree.specs.Grammar.{HasTree, IsText}
+use Rattle.sig_tree.specs.Leaves.{leaves_of}
+use Rattle.sig_tree.specs.Limits.{both_limits}
+use Rattle.sig_tree.specs.Syntax.{ProcessModel}
+use Rattle.sig_front.specs.Texts.{IsNoText}
+use Rattle.sig_front.specs.declared.answer.FrontAnswer.{FrontAnswer}
+use Rattle.sig_front.specs.declared.answer.FrontAnswer.TheVariants.{Lex, Parse, OutOfMemory}
+
+pub tree_once : (text : List ℕ) (a b : List ProcessModel) → IsText text a → IsText text b → a ≡ b
+tree_once text a b (tokens, are, has) (others, also, has_other) =
+    one_tree both_limits (leaves_of text tokens) a b has
+    (subst (λ (ts : List Token). HasTree (leaves_of text ts) b) (one_list text others tokens also are) has_other)
+
+pub refusal_once : (text : List ℕ) (a b : FrontAnswer) → IsNoText text a → IsNoText text b → a ≡ b
+refusal_once text (Lex a) (Lex b) x y = ap (λ f. let answer : FrontAnswer = Lex f in answer) (one_first_fault text a b x y)
+refusal_once text (Lex a) (Parse b) x (tokens, are, is) = absurd (list_or_fault text tokens a are x)
+refusal_once text (Lex a) OutOfMemory x y = absurd y
+refusal_once text (Parse a) (Lex b) (tokens, are, is) y = absurd (list_or_fault text tokens b are y)
+refusal_once text (Parse a) (Parse b) (tokens, are, is) (others, also, second) =
+    ap (λ f. let answer : FrontAnswer = Parse f in answer)
+    (one_refusal (leaves_of text tokens) (end_of tokens) a b is
+    (subst (λ ts. IsFirstRefusal (leaves_of text ts) (end_of ts) b) (one_list text others tokens also are) second))
+refusal_once text (Parse a) OutOfMemory x y = absurd y
+refusal_once text OutOfMemory b x y = absurd x
+
+pub tree_or_refusal : (text : List ℕ) (tree : List ProcessModel) (answer : FrontAnswer) → IsText text tree → IsNoText text answer → ⊥
+tree_or_refusal text tree (Lex fault) (tokens, are, has) x = list_or_fault text tokens fault are x
+tree_or_refusal text tree (Parse fault) (tokens, are, has) (others, also, is) =
+    no_refusal (leaves_of text tokens) (end_of tokens) tree fault has
+    (subst (λ ts. IsFirstRefusal (leaves_of text ts) (end_of ts) fault) (one_list text others tokens also are) is)
+tree_or_refusal text tree OutOfMemory is x = x

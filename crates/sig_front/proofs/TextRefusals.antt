@@ -1,0 +1,24 @@
+-- The refusals of the lexer and of the parser, as those of a text.
+use Rattle.std.proofs.Common.{◌≡◌, ◌⊎◌, ℕ, List, ⊎_elim, inl, inr, refl}
+use Rattle.sig_lex.specs.declared.answer.LexAnswer.{LexAnswer}
+use Rattle.sig_lex.specs.declared.answer.LexAnswer.TheVariants.{BadByte, OpenComment, LongNumber, OutOfMemory as LexMemory}
+use Rattle.sig_lex.specs.declared.token.Token.{Token}
+use Rattle.sig_lex.specs.Tokens.{AreTokens, IsFirstFault}
+use Rattle.sig_parse.specs.declared.parse_answer.ParseAnswer.{ParseAnswer}
+use Rattle.sig_parse.specs.declared.parse_answer.ParseAnswer.TheVariants.{Syntax, Nesting, OutOfMemory as ParseMemory}
+use Rattle.sig_parse.specs.FirstRefusal.{IsFirstRefusal}
+use Rattle.sig_parse.specs.Refused.{end_of}
+use Rattle.sig_tree.specs.Leaves.{leaves_of}
+use Rattle.sig_front.specs.Texts.{IsNoText, of_lex, of_parse}
+use Rattle.sig_front.specs.declared.answer.FrontAnswer.TheVariants.{OutOfMemory}
+
+pub lex_refuses : (text : List ℕ) (a : LexAnswer) → (a ≡ LexMemory) ⊎ IsFirstFault text a → (of_lex a ≡ OutOfMemory) ⊎ IsNoText text (of_lex a)
+lex_refuses text (BadByte at) why = ⊎_elim (λ memory. cc) (λ fault. inr fault) why
+lex_refuses text (OpenComment at) why = ⊎_elim (λ memory. cc) (λ fault. inr fault) why
+lex_refuses text (LongNumber at) why = ⊎_elim (λ memory. cc) (λ fault. inr fault) why
+lex_refuses text LexMemory why = inl refl
+
+pub parse_refuses : (text : List ℕ) (tokens : List Token) (a : ParseAnswer) → AreTokens text tokens → (a ≡ ParseMemory) ⊎ IsFirstRefusal (leaves_of text tokens) (end_of tokens) a → (of_parse a ≡ OutOfMemory) ⊎ IsNoText text (of_parse a)
+parse_refuses text tokens (Syntax at) are why = ⊎_elim (λ memory. cc) (λ refusal. inr (tokens, are, refusal)) why
+parse_refuses text tokens (Nesting limit at) are why = ⊎_elim (λ memory. cc) (λ refusal. inr (tokens, are, refusal)) why
+parse_refuses text tokens ParseMemory are why = inl refl

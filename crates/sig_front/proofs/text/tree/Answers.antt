@@ -1,0 +1,14 @@
+use Rattle.sig_tree.specs.Grammar.{IsText}
+use Rattle.sig_tree.specs.Syntax.{program_of}
+use Rattle.sig_front.specs.Texts.{IsNoText}
+use Rattle.sig_front.proofs.Given.{given, refused}
+use Rattle.sig_front.proofs.OneText.{tree_once, refusal_once, tree_or_refusal}
+use Rattle.sig_front.proofs.text.tree.Goals as goal
+
+pub returns-clause-given : goal.returns-clause-given
+returns-clause-given c =
+    given program_of (IsText c.args.bytes.now) (IsNoText c.args.bytes.now) (tree_once c.args.bytes.now) (tree_or_refusal c.args.bytes.now) c.tree_of.result c.tree_of.ensures.tree c.tree_of.ensures.fault
+
+pub returns-clause-refused : goal.returns-clause-refused
+returns-clause-refused c =
+    refused program_of (IsText c.args.bytes.now) (IsNoText c.args.bytes.now) (refusal_once c.args.bytes.now) (tree_or_refusal c.args.bytes.now) c.tree_of.result c.tree_of.ensures.tree c.tree_of.ensures.fault

@@ -1,0 +1,14 @@
+//! Laws of texts.
+
+ghost use Rattle.std.specs.Prelude.{◌≡◌, ℕ, List};
+ghost use Rattle.sig_tree.specs.Grammar.{IsText};
+ghost use Rattle.sig_tree.specs.Syntax.{ProcessModel};
+ghost use Rattle.sig_front.specs.Texts.{IsNoText};
+ghost use Rattle.sig_front.specs.declared.answer.FrontAnswer.{FrontAnswer};
+
+/// A law: a text is that of one program or has one refusal, at most, and not both.
+pub fn one_text()
+    ensures tree { (text : List ℕ) (a b : List ProcessModel) → IsText text a → IsText text b → a ≡ b }
+    ensures refusal { (text : List ℕ) (a b : FrontAnswer) → IsNoText text a → IsNoText text b → a ≡ b }
+    ensures apart { (text : List ℕ) (tree : List ProcessModel) (answer : FrontAnswer) → IsText text tree → IsNoText text answer → ⊥ }
+{}

@@ -1,0 +1,22 @@
+use Rattle.sig_words.specs.declared.command.Command.TheVariants.{Print}
+use Rattle.sig_tool.proofs.RunClauses.{prefix_of_none, status_of_refusal}
+use Rattle.sig_tool.proofs.TextClauses.{prefix_of_text, status_of_text}
+use Rattle.sig_tool.proofs.print.print_command.Goals as goal
+
+pub returns-in-Ok-clause-prefix : goal.returns-in-Ok-clause-prefix
+returns-in-Ok-clause-prefix g c =
+    prefix_of_text (Print c.args.program.now) c.in-Ok.text.items c.args.program.now g.S.Sink.took c.args.out.now c.put_due.new.out (g.F.Files.contents c.args.files.now) c.in-Ok.ensures.text (rw c.deref.ensures.value at c.put_due.ensures.prefix)
+
+pub returns-in-Ok-clause-status : goal.returns-in-Ok-clause-status
+returns-in-Ok-clause-status g c =
+    status_of_text (Print c.args.program.now) c.in-Ok.text.items c.args.program.now (g.F.Files.contents c.args.files.now) c.put_due.result _ _ c.in-Ok.ensures.text c.put_due.ensures.numbers c.put_due.ensures.failed
+
+pub returns-in-Err-clause-prefix : goal.returns-in-Err-clause-prefix
+returns-in-Err-clause-prefix g c =
+    prefix_of_none g.S.Sink.took c.args.out.now (g.F.Files.contents c.args.files.now) (Print c.args.program.now) (g.met.S.Sink.took_nothing c.args.out.now)
+
+pub returns-in-Err-clause-status : goal.returns-in-Err-clause-status
+returns-in-Err-clause-status g c =
+    status_of_refusal (g.F.Files.contents c.args.files.now) (Print c.args.program.now) (g.F.Files.at c.args.files.now) (g.F.Files.at c.canonical.new.files)
+    (g.F.Files.misses c.args.files.now) (g.F.Files.misses c.canonical.new.files) (g.F.Files.faults c.args.files.now) (g.F.Files.faults c.canonical.new.files) _
+    c.in-Err.refusal c.say_refusal.result c.status.result c.status.ensures c.say_refusal.ensures.same c.in-Err.ensures.counted c.in-Err.ensures.owed
