@@ -1,9 +1,11 @@
 -- Lists that a loop makes longer.
-use Rattle.std.proofs.Common.{◌≡◌, ◌++◌, ℕ, List, [], ◌∷◌, refl, ap, sym, ◌∙◌, map, take, length, get_or, ◌+◌, ◌<◌, ◌≤◌, append_assoc}
+use Rattle.std.proofs.Common.{◌≡◌, ◌++◌, ℕ, List, [], ◌∷◌, ap, sym, ◌∙◌, map, take, length, get_or, ◌+◌, ◌<◌, ◌≤◌, append_assoc}
 use Rattle.std.proofs.lemmas.List.{append-nil, take_more, take_all, get_or_default, map-append}
 use Rattle.std.proofs.lemmas.List.Concat.{flat_map-append}
 use Rattle.std.proofs.lemmas.List.Folds.{flat_map-map}
 use Rattle.std.specs.List.{flat_map}
+use Rattle.std.specs.Char.{encode_utf8}
+use Rattle.sig_type.specs.Answers.{shown}
 
 -- one turn, which adds what the thing stands for
 pub grows : {A B : Type 0} (of : A → List B) (before old new : List B) (xs : List A) (i : ℕ) (x : A) → x ≡ get_or xs i x → i < length xs
@@ -44,3 +46,7 @@ pub appends : {A B : Type 0} (of : A → B) (old new : List B) (made : B) (xs : 
 appends of old new made xs i x is h e more f =
     more ∙ ap (λ l. l ++ made ∷ []) e ∙ ap (λ y. map of (take i xs) ++ y ∷ []) (f ∙ ap of is)
     ∙ sym (ap (map of) (take_more xs i x h) ∙ map-append of (take i xs) (get_or xs i x ∷ []))
+
+-- a text that is shown byte by byte: one byte more
+pub shown_more : (bytes : List ℕ) (i d : ℕ) → i < length bytes → shown (take i bytes) ++ encode_utf8 (get_or bytes i d) ≡ shown (take (i + 1) bytes)
+shown_more bytes i d h = sym (ap shown (take_more bytes i d h) ∙ flat_map-append encode_utf8 (take i bytes) (get_or bytes i d ∷ []) ∙ ap (λ l. shown (take i bytes) ++ l) (append-nil (encode_utf8 (get_or bytes i d))))

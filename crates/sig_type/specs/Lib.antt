@@ -1,5 +1,6 @@
 pub mod Answers
 pub mod Asked
+pub mod Calls
 pub mod Declarations
 pub mod Findings
 pub mod Forms
