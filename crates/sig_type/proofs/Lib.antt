@@ -9,5 +9,6 @@ pub mod Earlier
 pub mod Zipping
 pub mod Whole
 pub mod Scopes
+pub mod Typing
 pub mod Uses
 pub mod Small

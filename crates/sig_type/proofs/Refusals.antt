@@ -1,7 +1,7 @@
 -- Operands that a form refuses.
 use Rattle.std.proofs.Common.{◌≡◌, ◌↔◌, refl, ap, sym, ◌∙◌, subst, Bool, true, false, not, IsTrue, Option, None, Some}
 use Rattle.sig_base.specs.declared.ids.Kind.{Kind}
-use Rattle.sig_tree.specs.Kinds.{FormRow, accepts}
+use Rattle.sig_tree.specs.Kinds.{FormRow, accepts, binary_kind}
 use Rattle.sig_tree.specs.Rules.{RefusesOne, RefusesTwo}
 use Rattle.sig_type.specs.Forms.{unary_refused, binary_refused}
 
@@ -37,3 +37,7 @@ pub refused_two : (b : Bool) (form row : FormRow) (given kind other second : Opt
 refused_two b form row given kind other second e f k l =
     let is : b ≡ binary_refused row kind second = e ∙ ap (λ x. binary_refused x given other) f ∙ ap (λ x. binary_refused row x other) k ∙ ap (binary_refused row kind) l in
     let P : Bool → Type 0 = λ x. IsTrue x ↔ RefusesTwo row kind second in subst P (sym is) (refuses_two row kind second)
+
+-- the kind of a form whose parts are worked out
+pub kind_of_both : (result : Option Kind) (form row : FormRow) (o p k l : Option Kind) → result ≡ binary_kind form o p → form ≡ row → o ≡ k → p ≡ l → result ≡ binary_kind row k l
+kind_of_both result form row o p k l e f a b = e ∙ ap (λ x. binary_kind x o p) f ∙ ap (λ x. binary_kind row x p) a ∙ ap (binary_kind row k) b

@@ -11,6 +11,7 @@ mod equations;
 mod finding;
 mod forms;
 mod inits;
+mod kinds;
 mod names;
 mod pragmas;
 mod processes;
@@ -20,7 +21,9 @@ mod signals;
 #[cfg(test)]
 mod tests;
 mod texts;
+mod typed;
 mod well_formed;
 
 pub use answer::TypeAnswer;
+pub use typed::{Typed, check_owned};
 pub use well_formed::check;
