@@ -1,0 +1,7 @@
+pub mod Bound
+pub mod Expandable
+pub mod Labels
+pub mod Leading
+pub mod Lists
+pub mod Readiness
+pub mod Whole
