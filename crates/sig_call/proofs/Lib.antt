@@ -1,4 +1,5 @@
 pub mod Bound
+pub mod Existence
 pub mod Expandable
 pub mod Labels
 pub mod Leading

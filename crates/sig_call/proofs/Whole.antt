@@ -50,25 +50,26 @@ first_found p ps =
     ap (λ qs. process_of qs (name_of p).text) here.1 ∙ ap (λ b. cond b (Some p) (process_of here.0 (name_of p).text)) same
 
 -- a first process that has too many signals
-too_many : (p : ProcessModel) (ps : List ProcessModel)
+too_many : (p : ProcessModel) (ps : List ProcessModel) → (flat : FlatBody) × IsFlatBody (p ∷ ps) flat
     → ((after : Progress) (equations : List FlatEquation) → Expands (all_processes (p ∷ ps)) (first_copy p) (equations_of_model p) (first_progress p) after equations → 512 < length after.signals)
     → NeedsTooMany (p ∷ ps)
-too_many p ps more = record {
+too_many p ps some more = record {
+  some = some;
   each = λ flat is.
       let many : 512 < length is.0.signals = more is.0 is.1 is.2 in
       let same : length flat.signals ≡ length is.0.signals = ap (λ (f : FlatBody). length f.signals) is.3 in
       omega arith;
 }
 
-pub too_many_declared : (program : List ProcessModel) (p : ProcessModel) (ps : List ProcessModel) → program ≡ p ∷ ps → 512 < length (copied_signals [] 0 p) → NeedsTooMany program
-too_many_declared program p ps is more = subst (λ (qs : List ProcessModel). NeedsTooMany qs) (sym is) (too_many p ps (λ after equations e.
+pub too_many_declared : (program : List ProcessModel) (p : ProcessModel) (ps : List ProcessModel) → (flat : FlatBody) × IsFlatBody program flat → program ≡ p ∷ ps → 512 < length (copied_signals [] 0 p) → NeedsTooMany program
+too_many_declared program p ps some is more = subst (λ (qs : List ProcessModel). NeedsTooMany qs) (sym is) (too_many p ps (subst (λ (qs : List ProcessModel). (flat : FlatBody) × IsFlatBody qs flat) is some) (λ after equations e.
     let grows : length (copied_signals [] 0 p) ≤ length after.signals = grows_along e in
     omega (arith, more)))
 
-pub too_many_inside : (program all : List ProcessModel) (p : ProcessModel) (ps : List ProcessModel) (copy : Copy) (equations : List Equations) (from : Progress) → program ≡ p ∷ ps → all ≡ all_processes program
+pub too_many_inside : (program all : List ProcessModel) (p : ProcessModel) (ps : List ProcessModel) (copy : Copy) (equations : List Equations) (from : Progress) → (flat : FlatBody) × IsFlatBody program flat → program ≡ p ∷ ps → all ≡ all_processes program
     → copy ≡ first_copy p → equations ≡ equations_of_model p → from ≡ first_progress p → NeedsMore all copy equations from → NeedsTooMany program
-too_many_inside program all p ps copy equations from is all_is copy_is equations_is from_is more =
-    subst (λ (qs : List ProcessModel). NeedsTooMany qs) (sym is) (too_many p ps (λ after flat e.
+too_many_inside program all p ps copy equations from some is all_is copy_is equations_is from_is more =
+    subst (λ (qs : List ProcessModel). NeedsTooMany qs) (sym is) (too_many p ps (subst (λ (qs : List ProcessModel). (flat : FlatBody) × IsFlatBody qs flat) is some) (λ after flat e.
     more [] after flat
     (subst (λ es. Expands all copy es from after flat) (sym (append-nil equations))
     (subst (λ qs. Expands qs copy equations from after flat) (sym (all_is ∙ ap all_processes is))

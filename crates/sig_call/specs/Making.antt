@@ -62,6 +62,7 @@ abbrev pub IsRefused : {A : Type 0} → Result A CallAnswer → Type 0 → Type 
 IsRefused (Ok value) Cause = ⊤
 IsRefused (Err answer) Cause = IsRefusedBy answer Cause
 
--- a program's flat body needs more than 512 signals
+-- a program has a flat body, which has more than 512 signals
 pub record NeedsTooMany (program : List ProcessModel) : Type 0 where
+  pub some : (flat : FlatBody) × IsFlatBody program flat
   pub each : (flat : FlatBody) → IsFlatBody program flat → 512 < length flat.signals

@@ -12,6 +12,8 @@ mod copy;
 mod expansion;
 mod expression;
 mod flat_body;
+mod laws;
 
 pub use answer::CallAnswer;
 pub use flat_body::inline;
+pub use laws::some_flat_body;

@@ -13,6 +13,7 @@ use Rattle.sig_call.specs.Copies.{copy_in}
 use Rattle.sig_call.specs.MadeOf.{made_of}
 use Rattle.sig_call.specs.Making.{Made, with_signals}
 use Rattle.sig_call.specs.Sound.{IsReady, AreExpandable}
+use Rattle.sig_call.proofs.Existence.{some_body}
 use Rattle.sig_call.proofs.Expandable.{expandable}
 use Rattle.sig_call.proofs.Readiness.{refused_by, copied_length}
 use Rattle.sig_call.proofs.Whole.{head_is, some_interface, first_found, too_many_declared, too_many_inside, whole_body}
@@ -40,7 +41,7 @@ returns-in_err-add_signals-clause-refused c =
     let head = head_is (program_of c.args.program.now) c.as_slice.result.now c.in-Some.first.now all item.3.0 item.1 in
     let none : length c.new-expansion.result.signals.items ≡ 0 = ap (λ (m : Made). length m.progress.signals) c.new-expansion.ensures in
     refused_by c.from_residual-in_err-add_signals.result _ c.in_err-add_signals.field-0.0 p.1 p.2 c.in_err-add_signals.ensures.refused
-    (λ more. too_many_declared (program_of c.args.program.now) (model_of c.in-Some.first.now.process.now) head.0 head.1 (omega (arith, more)))
+    (λ more. too_many_declared (program_of c.args.program.now) (model_of c.in-Some.first.now.process.now) head.0 (some_body (program_of c.args.program.now) c.requires.tree c.requires.well_formed) head.1 (omega (arith, more)))
 
 pub expand-requires-clause-every : goal.expand-requires-clause-every
 expand-requires-clause-every c = subst (λ (qs : List ProcessModel). AreExpandable qs) (sym c.in_ok-processes.ensures) (expandable (program_of c.args.program.now) c.requires.tree c.requires.well_formed)
@@ -66,7 +67,7 @@ returns-in_err-expand-clause-refused c =
     let progress : (made_of c.add_signals.new.self).progress ≡ first_progress (model_of c.in-Some.first.now.process.now) = ap (λ (m : Made). m.progress) (c.in_ok-add_signals.ensures.added ∙ ap (λ (m : Made). with_signals m (copied_signals [] 0 (model_of c.in-Some.first.now.process.now))) c.new-expansion.ensures) in
     let copy : copy_in c.in_ok-copy.copy ≡ first_copy (model_of c.in-Some.first.now.process.now) = c.in_ok-copy.ensures ∙ ap (λ prefix. copy_of prefix 0 [] (model_of c.in-Some.first.now.process.now)) c.in_ok-from_bytes.ensures in
     refused_by c.from_residual-in_err-expand.result _ c.in_err-expand.field-0.0 p.1 p.2 c.in_err-expand.ensures.refused
-    (λ more. too_many_inside (program_of c.args.program.now) (interface_models c.in_ok-processes.processes.interfaces.items) (model_of c.in-Some.first.now.process.now) head.0 (copy_in c.in_ok-copy.copy) (bodies_in c.deref.result.now) (made_of c.add_signals.new.self).progress head.1 c.in_ok-processes.ensures copy body progress more)
+    (λ more. too_many_inside (program_of c.args.program.now) (interface_models c.in_ok-processes.processes.interfaces.items) (model_of c.in-Some.first.now.process.now) head.0 (copy_in c.in_ok-copy.copy) (bodies_in c.deref.result.now) (made_of c.add_signals.new.self).progress (some_body (program_of c.args.program.now) c.requires.tree c.requires.well_formed) head.1 c.in_ok-processes.ensures copy body progress more)
 
 pub overflow_cast-len : goal.overflow_cast-len
 overflow_cast-len c =
