@@ -1,7 +1,7 @@
 -- What the names of a copy are bound to.
-use Rattle.std.proofs.Common.{◌≡◌, ◌+◌, ◌<◌, ◌≤◌, ◌++◌, ℕ, ℤ, zero, suc, min, List, [], ◌∷◌, drop, map, length, get_or, arith, sym, ap, ◌∙◌, refl, append_assoc, add-zero, ◌⊎◌, inl, inr}
+use Rattle.std.proofs.Common.{◌≡◌, ◌+◌, ◌≤◌, ◌++◌, ℕ, ℤ, suc, min, List, [], ◌∷◌, drop, length, arith, sym, ap, ◌∙◌, refl, append_assoc, add-zero, ◌⊎◌, inl, inr}
 use Rattle.std.proofs.lemmas.Bool.{cases_lt}
-use Rattle.std.proofs.lemmas.List.{drop_more, drop_all, append-nil, map-append, length-map}
+use Rattle.std.proofs.lemmas.List.{drop_all, append-nil}
 use Rattle.sig_tree.specs.Syntax.{ProcessModel}
 use Rattle.sig_tree.specs.Declarations.{Declaration, params_of, inputs_of, outputs_of, locals_of}
 use Rattle.sig_tree.specs.FlatBody.{Binding as BoundTo, BoundSignal, bound_constants, bound_from, signals_declared}

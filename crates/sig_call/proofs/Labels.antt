@@ -1,5 +1,4 @@
 -- The numbers that labels write, and the clusters that pragmas give.
-use denote.Hole.Carrier.{out}
 use Rattle.std.proofs.Common.{◌≡◌, ◌+◌, ◌-◌, ◌*◌, ◌≤◌, ◌<◌, ℕ, zero, suc, List, [], ◌∷◌, fold, drop, map, length, get_or, arith, subst, sym, ap, ◌∙◌, refl}
 use Rattle.std.proofs.lemmas.List.{at_drop_more}
 use Rattle.std.specs.List.{AllByRecursion}

@@ -5,4 +5,6 @@ pub mod Labels
 pub mod Leading
 pub mod Lists
 pub mod Readiness
+pub mod Size
+pub mod Texts
 pub mod Whole

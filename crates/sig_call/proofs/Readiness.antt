@@ -1,7 +1,6 @@
 -- What holds of equations that can be expanded.
-use Rattle.std.proofs.Common.{◌≡◌, ◌++◌, ◌+◌, ◌<◌, ◌≤◌, ℕ, suc, List, [], ◌∷◌, None, Some, length, map, get_or, refl, sym, ap, subst, ◌∙◌, arith, Option, Result, Err}
+use Rattle.std.proofs.Common.{◌≡◌, ◌++◌, ◌+◌, ◌<◌, ◌≤◌, ℕ, suc, List, [], ◌∷◌, None, Some, length, get_or, sym, ap, subst, ◌∙◌, arith, Option, Result, Err}
 use Rattle.std.proofs.lemmas.List.{length-append, length-map}
-use Rattle.std.specs.List.{AllByRecursion}
 use Rattle.sig_tree.specs.declared.expr.Name.{Name}
 use Rattle.sig_tree.specs.declared.expr.Constant.{Constant}
 use Rattle.sig_tree.specs.Syntax.{Expression, Equations, Defines, Computed, Called, ProcessModel}
@@ -9,7 +8,7 @@ use Rattle.sig_tree.specs.FlatSyntax.{Defines as DefinesFlat}
 use Rattle.sig_tree.specs.Declarations.{inputs_of, outputs_of, locals_of, process_of}
 use Rattle.sig_tree.specs.FlatBody.{Copy, Progress, signal_of, flat_right, with_copy, copied_signals, copy_prefix, cluster_of_call, signals_declared}
 use Rattle.sig_call.specs.Making.{Made, with_equations, Advances, IsRefused, IsRefusedBy}
-use Rattle.sig_call.specs.Sound.{IsReady, IsSmall, Fits}
+use Rattle.sig_call.specs.Sound.{IsReady, Fits}
 use Rattle.sig_call.specs.declared.answer.CallAnswer.{CallAnswer}
 use Rattle.sig_call.specs.declared.answer.CallAnswer.TheVariants.{TooManySignals, OutOfMemory}
 use Rattle.sig_call.proofs.Leading.{leads_defined, advances_by}

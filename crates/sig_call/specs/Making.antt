@@ -1,5 +1,5 @@
 -- A flat body as it is made.
-use Rattle.std.specs.Prelude.{◌≡◌, ◌+◌, ◌++◌, ◌<◌, ◌≤◌, ℕ, List, map, length, Result, Ok, Err, ⊤}
+use Rattle.std.specs.Prelude.{◌≡◌, ◌++◌, ◌<◌, ◌≤◌, ℕ, List, map, length, Result, Ok, Err, ⊤}
 use Rattle.sig_base.specs.declared.signal.Signal.{Signal}
 use Rattle.sig_tree.specs.Syntax.{Equations, ProcessModel}
 use Rattle.sig_tree.specs.FlatSyntax.{FlatEquation, FlatBody}

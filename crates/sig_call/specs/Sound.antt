@@ -1,6 +1,6 @@
 -- What is asked of a program whose calls are expanded, beyond the rules on well-formed programs: what holds
 -- of each tree that was read from a text.
-use Rattle.std.specs.Prelude.{◌≡◌, ◌≢◌, ◌<◌, ◌≤◌, ◌^◌, ℕ, List, [], ◌∷◌, length, Option, None, Some, ⊤}
+use Rattle.std.specs.Prelude.{◌≡◌, ◌≢◌, ◌+◌, ◌<◌, ◌≤◌, ◌^◌, ℕ, List, [], ◌∷◌, length, Option, None, Some, ⊤}
 use Rattle.std.specs.List.{AllByRecursion}
 use Rattle.sig_tree.specs.declared.expr.Name.{Name}
 use Rattle.sig_tree.specs.Syntax.{Expression, Named, Number, Truth, Unary, Binary, Delay, Cell, Placement, RightSide, Computed, Called, Equations, Together, Defines, Equal, ProcessModel}
@@ -56,3 +56,10 @@ pub record IsExpandable (all : List ProcessModel) (p : ProcessModel) : Type 0 wh
 -- so is every process that a name finds
 abbrev pub AreExpandable : List ProcessModel → Type 0
 AreExpandable all = (text : List ℕ) (p : ProcessModel) → process_of all text ≡ Some p → IsExpandable all p
+
+-- the equations, inputs and outputs of each process are at most so many
+abbrev pub size_of : ProcessModel → ℕ
+size_of p = length (equations_of_model p) + (length (inputs_of p) + length (outputs_of p))
+
+abbrev pub IsSized : ℕ → List ProcessModel → Type 0
+IsSized size program = AllByRecursion (λ p. size_of p ≤ size) (all_processes program)

@@ -16,4 +16,4 @@ mod laws;
 
 pub use answer::CallAnswer;
 pub use flat_body::inline;
-pub use laws::some_flat_body;
+pub use laws::{size_of_flat_bodies, some_flat_body, trees_of_texts};

@@ -1,4 +1,4 @@
-use Rattle.std.proofs.Common.{◌≡◌, ◌∙◌, ap, sym, length}
+use Rattle.std.proofs.Common.{length}
 use Rattle.std.proofs.lemmas.Slice.Zip.{zip_end}
 use Rattle.sig_call.specs.Bindings.{bindings_in}
 use Rattle.sig_call.proofs.Bound.{constants_end}

@@ -1,19 +1,18 @@
-use Rattle.std.proofs.Common.{◌≡◌, ◌+◌, ◌*◌, ◌-◌, ◌<◌, ◌≤◌, ◌++◌, ◌∷◌, [], ℕ, length, map, drop, take, sym, ap, subst, ◌∙◌, arith, Some, Bor, suc}
+use Rattle.std.proofs.Common.{◌≡◌, ◌+◌, ◌*◌, ◌-◌, ◌<◌, ◌≤◌, ◌++◌, ◌∷◌, [], length, map, drop, take, sym, ap, subst, ◌∙◌, arith, Some, Bor, suc}
 use Rattle.std.specs.List.{AllByRecursion}
 use Rattle.std.proofs.lemmas.List.{length-map}
 use Rattle.std.proofs.lemmas.Result.{err_from_is_err_and}
 use Rattle.sig_tree.specs.declared.process.Body.{Body}
 use Rattle.sig_tree.specs.Syntax.{model_of, expression_of, equations_of, right_side_of, Equations, Defines, Equal}
-use Rattle.sig_tree.specs.Declarations.{pragmas_of_model, inputs_of, process_of, equations_of_model}
+use Rattle.sig_tree.specs.Declarations.{inputs_of, process_of, equations_of_model}
 use Rattle.sig_tree.specs.FlatBody.{with_copy}
 use Rattle.sig_type.specs.Declarations.{declaration_in}
 use Rattle.sig_type.specs.Walked.{interface_models, bodies_in}
 use Rattle.sig_type.proofs.Trees.{body_is}
-use Rattle.sig_call.specs.Calling.{call_of}
 use Rattle.sig_call.specs.Copies.{copy_in}
 use Rattle.sig_call.specs.MadeOf.{made_of}
-use Rattle.sig_call.specs.Making.{Made, IsRefused, Advances, NeedsMore}
-use Rattle.sig_call.specs.Sound.{IsLow, IsReady}
+use Rattle.sig_call.specs.Making.{Made, Advances, NeedsMore}
+use Rattle.sig_call.specs.Sound.{IsReady}
 use Rattle.sig_call.proofs.Leading.{needs_entering, needs_inside, needs_later, advances_called, advances_by, leads_equated}
 use Rattle.sig_call.proofs.Readiness.{advances_defined, call_adds, call_numbers, call_room, refused_by}
 use Rattle.sig_call.proofs.Lists.{all_mapped, split_at}

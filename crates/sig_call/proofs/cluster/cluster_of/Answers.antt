@@ -1,4 +1,4 @@
-use Rattle.std.proofs.Common.{◌≡◌, ◌∙◌, ◌≤◌, ap, sym, map, arith}
+use Rattle.std.proofs.Common.{◌∙◌, ◌≤◌, ap, sym, map, arith}
 use Rattle.sig_tree.specs.FlatBody.{cluster_of}
 use Rattle.sig_tree.specs.Rules.{number_of}
 use Rattle.sig_tree.specs.Syntax.{placement_of}

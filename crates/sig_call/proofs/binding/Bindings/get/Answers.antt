@@ -1,4 +1,4 @@
-use Rattle.std.proofs.Common.{◌≡◌, ◌∙◌, ap, sym, ℕ, List, length, ◌<◌, arith, option_map}
+use Rattle.std.proofs.Common.{◌≡◌, ◌∙◌, ap, ℕ, List, length, ◌<◌, arith, option_map}
 use Rattle.std.proofs.lemmas.List.{length-map}
 use Rattle.sig_tree.specs.FlatBody.{Binding as BoundTo}
 use Rattle.sig_type.proofs.Placing.{within, is_found, is_missing}
