@@ -13,6 +13,8 @@ mod expansion;
 mod expression;
 mod flat_body;
 mod laws;
+#[cfg(test)]
+mod tests;
 
 pub use answer::CallAnswer;
 pub use flat_body::inline;
