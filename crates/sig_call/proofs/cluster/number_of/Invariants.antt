@@ -1,0 +1,8 @@
+-- the digits that are left end in the whole number
+use Rattle.std.proofs.Common.{◌≡◌, drop}
+use Rattle.sig_tree.specs.Rules.{number_of}
+use Rattle.sig_call.proofs.Labels.{number_from}
+use Rattle.sig_call.proofs.cluster.number_of.Given as goal
+
+abbrev pub invariant-loop-digit : goal.invariant-loop-digit
+invariant-loop-digit l = number_from l.number (drop l.digit-index l.label) ≡ number_of l.label

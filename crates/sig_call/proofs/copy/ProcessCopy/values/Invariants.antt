@@ -1,0 +1,7 @@
+use Rattle.std.proofs.Common.{◌≡◌, map, take}
+use Rattle.sig_tree.specs.FlatBody.{value_of}
+use Rattle.sig_call.specs.Copies.{copy_in}
+use Rattle.sig_call.proofs.copy.ProcessCopy.values.Given as goal
+
+abbrev pub invariant-loop-constant : goal.invariant-loop-constant
+invariant-loop-constant l = l.values.items ≡ map (value_of (copy_in l.self)) (take l.constant-index l.constants)

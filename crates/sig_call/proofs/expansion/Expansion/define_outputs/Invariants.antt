@@ -1,0 +1,13 @@
+-- those so far are defined, and the others are left
+use Rattle.std.proofs.Common.{◌≡◌, ◌+◌, drop}
+use Rattle.sig_tree.specs.FlatBody.{outputs_defined}
+use Rattle.sig_call.specs.Copies.{copy_in}
+use Rattle.sig_call.specs.MadeOf.{made_of}
+use Rattle.sig_call.specs.Making.{with_equations}
+use Rattle.sig_call.proofs.expansion.Expansion.define_outputs.Given as goal
+
+abbrev pub invariant-loop-name : goal.invariant-loop-name
+invariant-loop-name l = record {
+  number : l.number ≡ l.first + l.name-index;
+  made : with_equations (made_of l.self) (outputs_defined (copy_in l.copy) (drop l.name-index l.names) l.number) ≡ with_equations (made_of l.initial.self) (outputs_defined (copy_in l.copy) l.names l.first);
+}

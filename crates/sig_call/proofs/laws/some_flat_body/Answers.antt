@@ -1,0 +1,5 @@
+use Rattle.sig_call.proofs.Existence.{some_body}
+use Rattle.sig_call.proofs.laws.some_flat_body.Goals as goal
+
+pub returns : goal.returns
+returns c = some_body

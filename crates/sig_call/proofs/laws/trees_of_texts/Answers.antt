@@ -1,0 +1,12 @@
+use Rattle.sig_call.proofs.Texts.{tree_of_text}
+use Rattle.sig_call.proofs.laws.trees_of_texts.Goals as goal
+
+pub returns-clause-tree : goal.returns-clause-tree
+returns-clause-tree c = λ text program is.
+    let words = c.each_token.ensures.words text is.0 is.1 in
+    (tree_of_text text is.0 words.0 program words.1 words.2 (c.slices_in_order.ensures.order text is.0 is.1) (c.slices_in_order.ensures.last text is.0 is.1) is.2).0
+
+pub returns-clause-sized : goal.returns-clause-sized
+returns-clause-sized c = λ text program is.
+    let words = c.each_token.ensures.words text is.0 is.1 in
+    (tree_of_text text is.0 words.0 program words.1 words.2 (c.slices_in_order.ensures.order text is.0 is.1) (c.slices_in_order.ensures.last text is.0 is.1) is.2).1

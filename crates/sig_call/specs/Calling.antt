@@ -1,0 +1,7 @@
+-- Calls of the code, as the definitions see them.
+use Rattle.std.specs.Prelude.{map}
+use Rattle.sig_tree.specs.Syntax.{Equations, Defines, Called, expression_of}
+use Rattle.sig_call.specs.declared.calls.Call.{Call}
+
+abbrev pub call_of : Call → Equations
+call_of call = Defines call.names.now (Called call.process.now call.constants.now (map expression_of call.arguments.now))

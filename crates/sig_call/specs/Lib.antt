@@ -1,0 +1,6 @@
+pub mod Bindings
+pub mod Calling
+pub mod Copies
+pub mod MadeOf
+pub mod Making
+pub mod Sound

@@ -1,0 +1,39 @@
+//! The flat body of a program.
+
+ghost use Rattle.std.specs.Prelude.{◌≡◌, ◌≤◌, length, IfOk};
+ghost use Rattle.sig_tree.specs.Syntax.{program_of};
+ghost use Rattle.sig_tree.specs.FlatSyntax.{flat_body_of};
+ghost use Rattle.sig_tree.specs.FlatBody.{IsFlatBody};
+ghost use Rattle.sig_tree.specs.WellFormed.{IsWellFormed};
+ghost use Rattle.sig_call.specs.Making.{IsRefused, NeedsTooMany};
+ghost use Rattle.sig_call.specs.Sound.{IsTree};
+
+use crate::answer::CallAnswer;
+use crate::calls::expand;
+use crate::copy::ProcessCopy;
+use crate::expansion::Expansion;
+use sig_base::Text;
+use sig_tree::{Flat, Program};
+use sig_type::{Processes, flat_equations};
+use std::alloc::Global;
+
+/// The flat body of a well-formed program. `TooManySignals` is answered where it needs more than 512
+/// signals, those of copies included.
+pub fn inline(alloc: Global, program: &Program) -> Result<Flat, CallAnswer>
+    requires tree { IsTree (program_of program.now) }
+    requires well_formed { IsWellFormed (program_of program.now) }
+    ensures flat { IfOk result (λ flat. IsFlatBody (program_of program.now) (flat_body_of flat)) }
+    ensures few { IfOk result (λ flat. length flat.signals.items ≤ 512) }
+    ensures refused { IsRefused result (NeedsTooMany (program_of program.now)) }
+{
+    let processes = Processes::new(alloc, program)?;
+    let Some(first) = processes.as_slice().first() else {
+        unreachable!()
+    };
+    let mut expansion = Expansion::new(alloc);
+    expansion.add_signals(alloc, b"", 0, first)?;
+    let copy = ProcessCopy::new(alloc, Text::from_bytes(alloc, b"")?, 0, &[], first)?;
+    let equations = flat_equations(alloc, &first.process.body)?;
+    expand(&mut expansion, alloc, &processes, &copy, &equations)?;
+    Ok(expansion.finish(first.inputs.len() as u32, first.outputs.len() as u32))
+}

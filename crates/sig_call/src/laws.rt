@@ -1,0 +1,33 @@
+//! What holds of trees that were read from texts, and of flat bodies of well-formed programs.
+
+ghost use Rattle.std.specs.Prelude.{◌+◌, ◌*◌, ◌≤◌, ℕ, List, length};
+ghost use Rattle.sig_tree.specs.Syntax.{ProcessModel};
+ghost use Rattle.sig_tree.specs.FlatSyntax.{FlatBody};
+ghost use Rattle.sig_tree.specs.FlatBody.{IsFlatBody};
+ghost use Rattle.sig_tree.specs.Grammar.{IsText};
+ghost use Rattle.sig_tree.specs.WellFormed.{IsWellFormed};
+ghost use Rattle.sig_call.specs.Sound.{IsTree, IsSized};
+
+use sig_lex::{each_token, slices_in_order};
+
+/// A law: a well-formed program has a flat body, since no call leads back to its caller.
+pub fn some_flat_body()
+    ensures { (program : List ProcessModel) → IsTree program → IsWellFormed program → (flat : FlatBody) × IsFlatBody program flat }
+{}
+
+/// A law: of the tree of a text, numbers are small and each definition has a left side, and the
+/// equations, inputs and outputs of a process are no more than the bytes of the text.
+pub fn trees_of_texts()
+    ensures tree { (text : List ℕ) (program : List ProcessModel) → IsText text program → IsTree program }
+    ensures sized { (text : List ℕ) (program : List ProcessModel) → IsText text program → IsSized (length text) program }
+{
+    each_token();
+    slices_in_order();
+}
+
+/// A law: a flat body has at most as many equations as the equations, inputs and outputs of its
+/// program's greatest process, for the first process and for each signal.
+pub fn size_of_flat_bodies()
+    ensures { (program : List ProcessModel) (flat : FlatBody) (size : ℕ) → IsTree program → IsWellFormed program → IsSized size program
+        → IsFlatBody program flat → length flat.equations ≤ size * (length flat.signals + 1) }
+{}

@@ -1,0 +1,21 @@
+//! The expansion of calls: the flat body of a well-formed program, in which each call is replaced by a
+//! copy of the body of the process that is called. What a flat body is, is defined in sig_tree; `inline`
+//! makes it, or refuses a program whose flat body has more than 512 signals. It stops as soon as there
+//! are more, however long the flat body would be. It stands on sig_base, sig_tree and sig_type.
+#![tactic(auto)]
+
+mod answer;
+mod binding;
+mod calls;
+mod cluster;
+mod copy;
+mod expansion;
+mod expression;
+mod flat_body;
+mod laws;
+#[cfg(test)]
+mod tests;
+
+pub use answer::CallAnswer;
+pub use flat_body::inline;
+pub use laws::{size_of_flat_bodies, some_flat_body, trees_of_texts};
