@@ -1,3 +1,4 @@
 pub mod Given
+pub mod OneFlat
 pub mod OneText
 pub mod TextRefusals

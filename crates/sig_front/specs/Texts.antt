@@ -29,4 +29,4 @@ of_parse ParseMemory = OutOfMemory
 abbrev pub IsNoText : List ℕ → FrontAnswer → Type 0
 IsNoText text (Lex fault) = IsFirstFault text fault
 IsNoText text (Parse refusal) = (tokens : List Token) × AreTokens text tokens × IsFirstRefusal (leaves_of text tokens) (end_of tokens) refusal
-IsNoText text OutOfMemory = ⊥
+IsNoText text _ = ⊥

@@ -3,18 +3,23 @@
 ghost use Rattle.std.specs.Prelude.{◌≡◌};
 ghost use Rattle.sig_front.specs.declared.answer.FrontAnswer.TheVariants.{OutOfMemory};
 
+use sig_call::CallAnswer;
 use sig_lex::LexAnswer;
 use sig_parse::ParseAnswer;
+use sig_type::TypeAnswer;
 use std::error::Error;
 use std::fmt;
 
 /// The first refusal of a text by the passes, in their order, or want of memory. It displays as the
 /// line, without its newline, that the program writes on standard error. Want of memory inside a pass
 /// is `OutOfMemory` here, and never stands inside another variant.
-#[derive(Clone, Copy, Debug, PartialEq, Eq)]
+#[derive(Debug, Drop)]
 pub enum FrontAnswer {
     Lex(LexAnswer),
     Parse(ParseAnswer),
+    Type(TypeAnswer),
+    /// More than this many signals are needed, those of copies included.
+    TooManySignals(u32),
     OutOfMemory,
 }
 
@@ -28,6 +33,8 @@ impl fmt::Display for FrontAnswer {
         match self {
             FrontAnswer::Lex(answer) => write!(f, "{answer}"),
             FrontAnswer::Parse(answer) => write!(f, "{answer}"),
+            FrontAnswer::Type(answer) => write!(f, "{answer}"),
+            FrontAnswer::TooManySignals(limit) => write!(f, "error: more than {limit} signals"),
             FrontAnswer::OutOfMemory => f.write_str("error: out of memory"),
         }
     }
@@ -57,6 +64,32 @@ impl From<ParseAnswer> for FrontAnswer {
         match answer {
             ParseAnswer::OutOfMemory => FrontAnswer::OutOfMemory,
             _ => FrontAnswer::Parse(answer),
+        }
+    }
+}
+
+impl From<TypeAnswer> for FrontAnswer {
+    ghost use Rattle.sig_front.specs.Flats.{of_type};
+
+    ghost from_gives = { λ answer front. front ≡ of_type answer };
+
+    fn from(answer: TypeAnswer) -> FrontAnswer {
+        match answer {
+            TypeAnswer::OutOfMemory => FrontAnswer::OutOfMemory,
+            _ => FrontAnswer::Type(answer),
+        }
+    }
+}
+
+impl From<CallAnswer> for FrontAnswer {
+    ghost use Rattle.sig_front.specs.Flats.{of_call};
+
+    ghost from_gives = { λ answer front. front ≡ of_call answer };
+
+    fn from(answer: CallAnswer) -> FrontAnswer {
+        match answer {
+            CallAnswer::TooManySignals(limit) => FrontAnswer::TooManySignals(limit),
+            CallAnswer::OutOfMemory => FrontAnswer::OutOfMemory,
         }
     }
 }

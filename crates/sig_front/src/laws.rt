@@ -3,6 +3,8 @@
 ghost use Rattle.std.specs.Prelude.{◌≡◌, ℕ, List};
 ghost use Rattle.sig_tree.specs.Grammar.{IsText};
 ghost use Rattle.sig_tree.specs.Syntax.{ProcessModel};
+ghost use Rattle.sig_tree.specs.FlatSyntax.{FlatBody};
+ghost use Rattle.sig_front.specs.Flats.{IsFlatText, IsNoFlatText};
 ghost use Rattle.sig_front.specs.Texts.{IsNoText};
 ghost use Rattle.sig_front.specs.declared.answer.FrontAnswer.{FrontAnswer};
 
@@ -11,4 +13,11 @@ pub fn one_text()
     ensures tree { (text : List ℕ) (a b : List ProcessModel) → IsText text a → IsText text b → a ≡ b }
     ensures refusal { (text : List ℕ) (a b : FrontAnswer) → IsNoText text a → IsNoText text b → a ≡ b }
     ensures apart { (text : List ℕ) (tree : List ProcessModel) (answer : FrontAnswer) → IsText text tree → IsNoText text answer → ⊥ }
+{}
+
+/// A law: a text has one flat body that is kept or one refusal, at most, and not both.
+pub fn one_flat_text()
+    ensures flat { (text : List ℕ) (a b : FlatBody) → IsFlatText text a → IsFlatText text b → a ≡ b }
+    ensures refusal { (text : List ℕ) (a b : FrontAnswer) → IsNoFlatText text a → IsNoFlatText text b → a ≡ b }
+    ensures apart { (text : List ℕ) (flat : FlatBody) (answer : FrontAnswer) → IsFlatText text flat → IsNoFlatText text answer → ⊥ }
 {}
