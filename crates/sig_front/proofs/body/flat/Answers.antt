@@ -1,0 +1,13 @@
+use Rattle.sig_tree.specs.FlatSyntax.{flat_body_of}
+use Rattle.sig_front.specs.Flats.{IsFlatText, IsNoFlatText}
+use Rattle.sig_front.proofs.Given.{given, refused}
+use Rattle.sig_front.proofs.OneFlat.{flat_once, no_flat_once, flat_or_refusal}
+use Rattle.sig_front.proofs.body.flat.Goals as goal
+
+pub returns-clause-given : goal.returns-clause-given
+returns-clause-given c =
+    given flat_body_of (IsFlatText c.args.bytes.now) (IsNoFlatText c.args.bytes.now) (flat_once c.args.bytes.now) (flat_or_refusal c.args.bytes.now) c.flat_of.result c.flat_of.ensures.flat c.flat_of.ensures.fault
+
+pub returns-clause-refused : goal.returns-clause-refused
+returns-clause-refused c =
+    refused flat_body_of (IsFlatText c.args.bytes.now) (IsNoFlatText c.args.bytes.now) (no_flat_once c.args.bytes.now) (flat_or_refusal c.args.bytes.now) c.flat_of.result c.flat_of.ensures.flat c.flat_of.ensures.fault
