@@ -1,10 +1,13 @@
 -- Names that are named before.
-use Rattle.std.proofs.Common.{◌≡◌, ◌≢◌, ◌++◌, ◌⊎◌, ℕ, List, [], ◌∷◌, refl, ap, sym, ◌∙◌, subst, map, take, length, get_or, ◌+◌, ◌<◌, ◌≤◌, append_assoc, Contains, IsTrue, ◌↔◌, Bool, inl, inr, true, false}
-use Rattle.std.proofs.lemmas.List.{append-nil, take_more, take_all, map-append}
+use Rattle.std.proofs.Common.{◌≡◌, ◌++◌, ◌⊎◌, ℕ, List, [], ◌∷◌, refl, ap, sym, ◌∙◌, subst, map, take, length, get_or, ◌+◌, ◌<◌, append_assoc, Contains, IsTrue, ◌↔◌, Bool, inl, inr}
+use Rattle.std.proofs.lemmas.List.{append-nil, take_more, map-append}
+use Rattle.std.proofs.lemmas.List.Concat.{flat_map-append}
+use Rattle.std.specs.List.{flat_map}
 use Rattle.sig_tree.specs.declared.expr.Name.{Name}
 use Rattle.sig_tree.specs.Candidates.{Candidate, candidate, Offence, BadPragma, each}
-use Rattle.sig_tree.specs.Declarations.{Declaration, declaration_of, texts, behind, with_earlier}
-use Rattle.sig_tree.specs.Rules.{IsSignal}
+use Rattle.sig_tree.specs.Declarations.{Declaration, declaration_of, texts, behind}
+use Rattle.sig_tree.specs.Syntax.{Placement}
+use Rattle.sig_tree.specs.Rules.{IsSignal, IsCluster, bad_pragmas_of}
 use Rattle.sig_type.specs.declared.finding.First.{First}
 use Rattle.sig_type.specs.Findings.{Finds}
 use Rattle.sig_type.specs.Asked.{repeated, placed_twice}
@@ -63,3 +66,56 @@ placed_more scope earlier (n ∷ names) x =
     ap (λ cs. candidate (BadPragma n.at) ((IsSignal (declaration_of scope n.text) → ⊥) ⊎ Contains earlier n.text) ∷ cs)
     (placed_more scope (earlier ++ n.text ∷ []) names x
     ∙ ap (λ e. placed_twice scope (earlier ++ n.text ∷ []) names ++ candidate (BadPragma x.at) ((IsSignal (declaration_of scope x.text) → ⊥) ⊎ Contains e x.text) ∷ []) (append_assoc earlier (n.text ∷ []) (texts names)))
+
+-- the names of a pragma: one turn
+pub placed_turn : {a b c : First} (scope : List Declaration) (start earlier : List (List ℕ)) (names : List Name) (i : ℕ) (x : Name) (again wrong : Bool) → x ≡ get_or names i x → i < length names
+    → earlier ≡ start ++ texts (take i names) → (IsTrue again ↔ Contains earlier x.text) → (IsTrue wrong ↔ ((IsSignal (declaration_of scope x.text) → ⊥) ⊎ IsTrue again))
+    → Finds a b (placed_twice scope start (take i names)) → Finds b c (candidate (BadPragma x.at) (IsTrue wrong) ∷ []) → Finds a c (placed_twice scope start (take (i + 1) names))
+placed_turn scope start earlier names i x again wrong is h e seen bad before here =
+    let P : List (List ℕ) → Type 0 = λ l. IsTrue again ↔ Contains l x.text in
+    let now : IsTrue again ↔ Contains (start ++ texts (take i names)) x.text = subst P e seen in
+    finds_as (sym (ap (placed_twice scope start) (take_more names i x h ∙ ap (λ y. take i names ++ y ∷ []) (sym is)) ∙ placed_more scope start (take i names) x))
+    (finds_then before (finds_same ((IsSignal (declaration_of scope x.text) → ⊥) ⊎ Contains (start ++ texts (take i names)) x.text) (
+      λ w. elim (bad.0 w) [ inl n ↦ inl n | inr t ↦ inr (now.0 t) ],
+      λ w. bad.1 (elim w [ inl n ↦ inl n | inr t ↦ inr (now.1 t) ]),
+    ) here))
+
+-- its texts after the turn
+pub placed_texts : (start earlier now : List (List ℕ)) (names : List Name) (i : ℕ) (x : Name) → x ≡ get_or names i x → i < length names
+    → earlier ≡ start ++ texts (take i names) → now ≡ earlier ++ x.text ∷ [] → now ≡ start ++ texts (take (i + 1) names)
+placed_texts start earlier now names i x is h e more = more ∙ ap (λ l. l ++ x.text ∷ []) e ∙ append_assoc start (texts (take i names)) (x.text ∷ [])
+    ∙ ap (λ l. start ++ l) (sym (ap texts (take_more names i x h ∙ ap (λ y. take i names ++ y ∷ []) (sym is)) ∙ map-append (λ (n : Name). n.text) (take i names) (x ∷ [])))
+
+-- what is asked for of one pragma, behind the names of earlier ones
+abbrev pub pragma_at : List Declaration → List Name → Placement → List Candidate
+pragma_at scope earlier p = candidate (BadPragma p.at) (IsCluster p.label → ⊥)
+    ∷ each (λ name. candidate (BadPragma name.1.at) ((IsSignal (declaration_of scope name.1.text) → ⊥) ⊎ Contains (texts name.0) name.1.text) ∷ []) (behind earlier p.names)
+
+-- the names of pragmas
+abbrev pub names_placed : List Placement → List Name
+names_placed ps = flat_map (λ p. p.names) ps
+
+pragmas_append : (scope : List Declaration) (earlier : List Name) (ps : List Placement) (p : Placement)
+    → bad_pragmas_of scope earlier (ps ++ p ∷ []) ≡ bad_pragmas_of scope earlier ps ++ pragma_at scope (earlier ++ names_placed ps) p
+pragmas_append scope earlier [] p = ap (λ cs. candidate (BadPragma p.at) (IsCluster p.label → ⊥) ∷ cs) (append-nil _) ∙ ap (λ e. pragma_at scope e p) (sym (append-nil earlier))
+pragmas_append scope earlier (q ∷ qs) p =
+    ap (λ cs. pragma_at scope earlier q ++ cs) (pragmas_append scope (earlier ++ q.names) qs p ∙ ap (λ e. bad_pragmas_of scope (earlier ++ q.names) qs ++ pragma_at scope e p) (append_assoc earlier q.names (names_placed qs)))
+    ∙ sym (append_assoc (pragma_at scope earlier q) (bad_pragmas_of scope (earlier ++ q.names) qs) (pragma_at scope (earlier ++ names_placed (q ∷ qs)) p))
+
+-- pragmas: one turn
+pub pragmas_turn : {A : Type 0} {a b m c : First} (scope : List Declaration) (see : A → Placement) (rs : List A) (i : ℕ) (x : A) (earlier : List (List ℕ)) → x ≡ get_or rs i x → i < length rs
+    → earlier ≡ texts (names_placed (map see (take i rs))) → Finds a b (bad_pragmas_of scope [] (map see (take i rs)))
+    → Finds b m (candidate (BadPragma (see x).at) (IsCluster (see x).label → ⊥) ∷ []) → Finds m c (placed_twice scope earlier (see x).names)
+    → Finds a c (bad_pragmas_of scope [] (map see (take (i + 1) rs)))
+pragmas_turn scope see rs i x earlier is h e before label named =
+    finds_as (sym (ap (bad_pragmas_of scope []) (ap (map see) (take_more rs i x h ∙ ap (λ y. take i rs ++ y ∷ []) (sym is)) ∙ map-append see (take i rs) (x ∷ []))
+    ∙ pragmas_append scope [] (map see (take i rs)) (see x)))
+    (finds_then before (finds_then label (finds_as (ap (λ t. placed_twice scope t (see x).names) e ∙ sym (placed_is scope (names_placed (map see (take i rs))) (see x).names)) named)))
+
+-- their texts after the turn
+pub pragmas_texts : {A : Type 0} (see : A → Placement) (rs : List A) (i : ℕ) (x : A) (earlier now : List (List ℕ)) → x ≡ get_or rs i x → i < length rs
+    → earlier ≡ texts (names_placed (map see (take i rs))) → now ≡ earlier ++ texts (see x).names → now ≡ texts (names_placed (map see (take (i + 1) rs)))
+pragmas_texts see rs i x earlier now is h e more = more ∙ ap (λ l. l ++ texts (see x).names) e
+    ∙ sym (map-append (λ (n : Name). n.text) (names_placed (map see (take i rs))) (see x).names)
+    ∙ ap texts (sym (ap names_placed (ap (map see) (take_more rs i x h ∙ ap (λ y. take i rs ++ y ∷ []) (sym is)) ∙ map-append see (take i rs) (x ∷ []))
+    ∙ flat_map-append (λ (p : Placement). p.names) (map see (take i rs)) (see x ∷ []) ∙ ap (λ l. names_placed (map see (take i rs)) ++ l) (append-nil (see x).names)))

@@ -1,5 +1,5 @@
 -- Lemmas on the first place of a text.
-use Rattle.std.proofs.Common.{◌≡◌, ◌≢◌, ◌++◌, ◌+◌, ◌<◌, ℕ, suc, zero, List, [], ◌∷◌, refl, ap, sym, ◌∙◌, subst, inl, inr, ◌⊎◌, Bool, true, false, cond, IsTrue, Option, None, Some, option_map, map, length, get_or, ◌↔◌, arith, is_some, Contains, find}
+use Rattle.std.proofs.Common.{◌≡◌, ◌++◌, ◌<◌, ℕ, suc, zero, List, [], ◌∷◌, refl, ap, sym, ◌∙◌, inl, inr, ◌⊎◌, Bool, true, false, cond, IsTrue, Option, None, Some, option_map, map, length, get_or, ◌↔◌, arith, is_some, Contains, find}
 use Rattle.std.specs.Str.{bytes_eq}
 use Rattle.std.proofs.lemmas.Slice.Eq.{bytes_eq-Decides}
 use Rattle.sig_type.specs.Places.{place_of}

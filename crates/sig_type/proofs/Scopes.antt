@@ -1,6 +1,6 @@
 -- Declarations that are found by their names.
-use Rattle.std.proofs.Common.{◌≡◌, ◌∙◌, ap, sym, subst, ℕ, List, [], ◌∷◌, map, Some, length, get_or, ◌<◌, arith, zero, suc, refl}
-use Rattle.std.proofs.lemmas.List.{length-map, get_or_default}
+use Rattle.std.proofs.Common.{◌≡◌, ap, ℕ, List, [], ◌∷◌, map, Some, length, get_or, ◌<◌, arith, zero, suc}
+use Rattle.std.proofs.lemmas.List.{length-map}
 use Rattle.sig_type.specs.declared.declared.Declared.{Declared}
 use Rattle.sig_type.specs.Places.{place_of}
 use Rattle.sig_type.specs.Declarations.{declaration_in, declarations_in, texts_in}

@@ -1,6 +1,6 @@
 -- What is found of candidates that are asked for in a row.
-use Rattle.std.proofs.Common.{◌≡◌, ◌++◌, ℕ, List, [], ◌∷◌, refl, ap, sym, ◌∙◌, subst, inl, inr, Bool, IsTrue, Option, None, Some, map, take, length, get_or, ◌+◌, ◌<◌, ◌≤◌, append_assoc, ◌↔◌}
-use Rattle.std.proofs.lemmas.List.{append-nil, take_more, take_all, get_or_default}
+use Rattle.std.proofs.Common.{◌≡◌, ◌++◌, ℕ, List, [], ◌∷◌, refl, ap, sym, ◌∙◌, subst, inl, inr, Option, None, Some, map, take, drop, length, get_or, ◌+◌, ◌<◌, ◌≤◌, append_assoc, ◌↔◌}
+use Rattle.std.proofs.lemmas.List.{append-nil, take_more, take_all, take-append-drop, get_or_default}
 use Rattle.std.specs.List.{flat_map}
 use Rattle.sig_tree.specs.Candidates.{Candidate, candidate, Offence, each, NoneHolds, IsFirst}
 use Rattle.sig_type.specs.declared.finding.Finding.{Finding}
@@ -125,3 +125,26 @@ finds_false a o P f = record { kept = kept_false a.found o P f }
 pub finds_spread : {A C : Type 0} (of : C → List Candidate) (g : A → List C) {a b : First} (xs : List A) (i : ℕ) → length xs ≤ i
     → Finds a b (each (λ x. each of (g x)) (take i xs)) → Finds a b (each of (flat_map g xs))
 finds_spread of g xs i h e = finds_as (sym (each_flat of g xs)) (finds_all (λ x. each of (g x)) xs i h e)
+
+kept_stop : (a b : Option Finding) (ps qs : List Candidate) → (b ≡ None → ⊥) → IsKept a b ps → IsKept a b (ps ++ qs)
+kept_stop None None ps qs f h = absurd (f refl)
+kept_stop None (Some g) ps qs f h = first_left ps qs (offence_in g) h
+kept_stop (Some g) b ps qs f h = h
+
+-- where something was found, what comes later does not matter
+pub finds_stop : {a b : First} {ps : List Candidate} (qs : List Candidate) → (b.found ≡ None → ⊥) → Finds a b ps → Finds a b (ps ++ qs)
+finds_stop {a} {b} {ps} qs f h = record { kept = kept_stop a.found b.found ps qs f h.kept }
+
+asked_kept : (a b : Option Finding) (o : Offence) (P : Type 0) → P → IsKept a b (candidate o P ∷ []) → b ≡ None → ⊥
+asked_kept None None o P p h e = h.0 p
+asked_kept None (Some g) o P p h e = absurd cc
+asked_kept (Some g) b o P p h e = let s : Some g ≡ None = sym h ∙ e in absurd cc
+
+-- what is asked for and holds is found
+pub asked_found : {a b : First} {o : Offence} {P : Type 0} → P → Finds a b (candidate o P ∷ []) → b.found ≡ None → ⊥
+asked_found {a} {b} {o} {P} p h = asked_kept a.found b.found o P p h.kept
+
+-- a loop that ends early, since something was found
+pub finds_early : {A B : Type 0} (of : B → List Candidate) (f : A → B) {a b : First} (xs : List A) (k : ℕ) → (b.found ≡ None → ⊥)
+    → Finds a b (each (λ x. of (f x)) (take k xs)) → Finds a b (each of (map f xs))
+finds_early of f xs k some h = finds_as (sym (each_append (λ x. of (f x)) (take k xs) (drop k xs)) ∙ ap (each (λ x. of (f x))) (take-append-drop k xs) ∙ sym (each_map of f xs)) (finds_stop (each (λ x. of (f x)) (drop k xs)) some h)

@@ -3,7 +3,7 @@ use Rattle.std.specs.Prelude.{◌≡◌, ◌≢◌, ◌⊎◌, ℕ, ◌++◌, Li
 use Rattle.sig_base.specs.declared.ids.Kind.{Kind}
 use Rattle.sig_tree.specs.declared.expr.Name.{Name}
 use Rattle.sig_tree.specs.Syntax.{Equations, ProcessModel}
-use Rattle.sig_tree.specs.Declarations.{Declaration, declaration_of, texts, behind, with_earlier, left_sides, called_in, name_of, params_of}
+use Rattle.sig_tree.specs.Declarations.{Declaration, declaration_of, texts, with_earlier, left_sides, called_in, name_of, params_of}
 use Rattle.sig_tree.specs.Candidates.{Offence, InputDefined, DefinedTwice, Undefined, BadCall, Recursive, BadPragma, Candidate, candidate, each}
 use Rattle.sig_tree.specs.Rules.{IsGiven, IsSignal, clash_of_left, clashes_of_inits, clashes_of_equation, bad_calls_of, Reaches}
 

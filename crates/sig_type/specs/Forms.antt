@@ -1,5 +1,5 @@
 -- The forms of the code, as the definitions see them.
-use Rattle.std.specs.Prelude.{Bool, true, false, Option, None, Some, not}
+use Rattle.std.specs.Prelude.{Bool, false, Option, None, Some, not}
 use Rattle.sig_base.specs.declared.ids.Kind.{Kind}
 use Rattle.sig_tree.specs.Kinds.{FormRow, row, OperandRule, Integers as MustBeIntegers, Truths as MustBeTruths, Alike as MustBeAlike, AnyThenTruth as MustHaveTruth, Any as MayBeAny, ResultRule, Always as IsAlways, OfFirst as IsOfFirst, Stored as IsStored, Merged as IsMerged, ConstantRule, NoConstant as TakesNone, OneConstant as TakesOne, FirstConstant as TakesFirst, accepts}
 use Rattle.sig_type.specs.declared.forms.OperandRule.{OperandRule as CodeOperandRule}

@@ -1,4 +1,4 @@
-use Rattle.sig_tree.specs.Candidates.{DeclaredTwice, DefinedTwice}
+use Rattle.sig_tree.specs.Candidates.{DeclaredTwice}
 use Rattle.sig_tree.specs.Declarations.{texts}
 use Rattle.sig_type.specs.Asked.{repeated}
 use Rattle.sig_type.specs.Findings.{Finds}

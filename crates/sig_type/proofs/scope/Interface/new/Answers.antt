@@ -1,5 +1,3 @@
-use Rattle.std.proofs.Common.{◌∙◌, ap, sym}
-use Rattle.sig_tree.specs.Syntax.{declared_of}
 use Rattle.sig_type.proofs.Trees.{params_are, inputs_are, outputs_are, locals_are}
 use Rattle.sig_type.proofs.scope.Interface.new.Goals as goal
 

@@ -1,8 +1,7 @@
-use Rattle.std.proofs.Common.{◌≡◌, ◌∙◌, ap, sym, ℕ, List, map, Option, Some, None, length, option_map, get_or, ◌<◌, arith}
-use Rattle.std.proofs.lemmas.List.{length-map}
+use Rattle.std.proofs.Common.{◌≡◌, ◌∙◌, ap, length, ◌<◌, arith}
 use Rattle.sig_tree.specs.Declarations.{Declaration, declaration_of}
 use Rattle.sig_type.specs.Declarations.{declaration_in, declarations_in}
-use Rattle.sig_type.proofs.Placing.{within, is_found, is_missing}
+use Rattle.sig_type.proofs.Placing.{is_found, is_missing}
 use Rattle.sig_type.proofs.Scopes.{read_declared, within_declared}
 use Rattle.sig_type.proofs.scope.Scope.get.Goals as goal
 

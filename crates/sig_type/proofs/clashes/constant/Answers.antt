@@ -1,0 +1,5 @@
+use Rattle.sig_type.proofs.Sequences.{finds_same}
+use Rattle.sig_type.proofs.clashes.constant.Goals as goal
+
+pub returns : goal.returns
+returns c = rw (← c.place_of_constant.ensures) (finds_same _ c.is_unfit.ensures c.ask.ensures)

@@ -1,0 +1,11 @@
+use Rattle.sig_tree.specs.Declarations.{texts}
+use Rattle.sig_type.specs.Asked.{placed_twice}
+use Rattle.sig_type.specs.Findings.{Finds}
+use Rattle.std.proofs.Common.{take, ◌++◌, ◌≡◌}
+use Rattle.sig_type.proofs.pragmas.names.Given as goal
+
+abbrev pub invariant-loop-name : goal.invariant-loop-name
+invariant-loop-name l = record {
+  named : l.earlier ≡ l.initial.earlier ++ texts (take l.name-index l.names);
+  finds : Finds l.initial.first l.first (placed_twice l.scope l.initial.earlier (take l.name-index l.names));
+}

@@ -1,0 +1,14 @@
+use Rattle.sig_tree.specs.Candidates.{Recursive, candidate, each}
+use Rattle.sig_tree.specs.Rules.{Reaches}
+use Rattle.sig_type.specs.Calls.{IsCovered, graph_in}
+use Rattle.sig_type.specs.Findings.{Finds}
+use Rattle.sig_type.specs.Walked.{interface_models}
+use Rattle.std.proofs.Common.{take, length, ◌≡◌, ◌∷◌, []}
+use Rattle.sig_type.proofs.recursion.recursive_calls.Given as goal
+
+abbrev pub invariant-loop-name : goal.invariant-loop-name
+invariant-loop-name l = record {
+  finds : Finds l.initial.first l.first (each (λ n. candidate (Recursive n.now) (Reaches (interface_models l.processes.interfaces.items) n.now.text l.back.text) ∷ []) (take l.name-index l.names));
+  covered : IsCovered (graph_in l.calls.callees.items) l.target l.visited.items [];
+  sizes : length l.visited.items ≡ length l.calls.callees.items;
+}

@@ -1,0 +1,14 @@
+-- That a program is well formed is a fact: there is at most one proof of it.
+use mathlib.Core.HLevel.{×_prop, Unit-prop, ¬_prop}
+use Rattle.std.specs.Prelude.{List, [], ◌∷◌}
+use Rattle.sig_tree.specs.Syntax.{ProcessModel}
+use Rattle.sig_tree.specs.Declarations.{all_processes}
+use Rattle.sig_tree.specs.Candidates.{Candidate, NoneHolds}
+use Rattle.sig_tree.specs.WellFormed.{IsWellFormed, rules_of}
+
+pub NoneHolds-prop : (cs : List Candidate) → IsProp (NoneHolds cs)
+NoneHolds-prop [] = Unit-prop
+NoneHolds-prop (c ∷ cs) = ×_prop ¬_prop (NoneHolds-prop cs)
+
+pub IsWellFormed-prop : (program : List ProcessModel) → IsProp (IsWellFormed program)
+IsWellFormed-prop program = NoneHolds-prop (rules_of (all_processes program))

@@ -1,0 +1,175 @@
+//! Calls that lead back to the process in which they stand.
+
+ghost use Rattle.std.specs.Prelude.{◌≡◌, ◌<◌, ◌↔◌, ◌⊎◌, ◌++◌, [], IfOk, OnOk, IsTrue, length, map, flat_map, Some, Contains};
+ghost use Rattle.std.specs.List.{All};
+ghost use Rattle.sig_tree.specs.Declarations.{called_in, name_of};
+ghost use Rattle.sig_tree.specs.Syntax.{equations_of};
+ghost use Rattle.sig_tree.specs.Rules.{Reaches};
+ghost use Rattle.sig_type.specs.Asked.{recursive_in};
+ghost use Rattle.sig_type.specs.Calls.{graph_of, graph_in, places_called, Path, IsGraph, IsCovered, Visits};
+ghost use Rattle.sig_type.specs.Findings.{Finds};
+ghost use Rattle.sig_type.specs.Places.{place_of};
+ghost use Rattle.sig_type.specs.Walked.{bodies_in, names_in, interface_models, process_texts};
+
+use crate::equations::flat_equations;
+use crate::finding::{Finding, First};
+use crate::processes::Processes;
+use sig_tree::{Body, Name, Right};
+use std::alloc::{AllocError, Global};
+
+/// Adds the name of the process that an equation calls.
+fn add_called<'a>(all: &mut Vec<&'a Name>, body: &'a Body) -> Result<(), AllocError>
+    ensures { OnOk result (names_in all.new.items ≡ names_in all.old.items ++ called_in (equations_of body.now)) }
+{
+    match body {
+        Body::Def(_, Right::Call(name, _, _)) => Ok(all.push(name)?),
+        Body::Def(_, Right::Value(_)) | Body::All(_) | Body::Same(_) => Ok(()),
+    }
+}
+
+/// The names of the processes that equations call.
+pub fn called_names<'a>(alloc: Global, equations: &[&'a Body]) -> Result<Vec<&'a Name>, AllocError>
+    ensures { IfOk result (λ all. names_in all.items ≡ flat_map called_in (bodies_in equations.now)) }
+{
+    let mut all = Vec::new(alloc);
+    for equation in equations {
+        add_called(&mut all, *equation)?;
+    }
+    Ok(all)
+}
+
+/// The places of the processes of these names, of those that are there.
+fn places_of(
+    alloc: Global,
+    processes: &Processes,
+    names: &[&Name],
+) -> Result<Vec<usize>, AllocError>
+    ensures { IfOk result (λ all. all.items ≡ places_called (process_texts (interface_models processes.now.interfaces.items)) (names_in names.now)) }
+{
+    let mut all = Vec::new(alloc);
+    for name in names {
+        let name: &Name = *name;
+        if let Some(place) = processes.place(name.text.as_bytes()) {
+            all.push(place)?;
+        }
+    }
+    Ok(all)
+}
+
+/// The places of the processes that each process calls.
+#[derive(Drop)]
+pub struct Calls {
+    pub callees: Vec<Vec<usize>>,
+}
+
+impl Calls {
+    /// The calls of all processes.
+    pub fn new(alloc: Global, processes: &Processes) -> Result<Calls, AllocError>
+        ensures { IfOk result (λ calls. graph_in calls.callees.items ≡ graph_of (interface_models processes.now.interfaces.items)) }
+    {
+        let mut callees = Vec::new(alloc);
+        for interface in processes.as_slice() {
+            let body = flat_equations(alloc, &interface.process.body)?;
+            let names = called_names(alloc, &body)?;
+            let places = places_of(alloc, processes, &names)?;
+            callees.push(places)?;
+        }
+        Ok(Calls { callees })
+    }
+}
+
+/// Visits places. Those that were not visited before wait.
+fn visit(places: &[usize], visited: &mut [bool], waiting: &mut Vec<usize>) -> Result<(), AllocError>
+    requires { All (λ place. place < length visited.old) places.now }
+    ensures { OnOk result (Visits visited.old waiting.old.items visited.new waiting.new.items places.now) }
+{
+    for place in places {
+        let place = *place;
+        if !visited[place] {
+            visited[place] = true;
+            waiting.push(place)?;
+        }
+    }
+    Ok(())
+}
+
+/// Whether the start leads to the target by calls. What is visited already does not, and where the
+/// start does not, nothing that is visited then does.
+fn reaches(
+    alloc: Global,
+    calls: &Calls,
+    start: usize,
+    target: usize,
+    visited: &mut [bool],
+) -> Result<bool, AllocError>
+    requires graph { IsGraph (graph_in calls.now.callees.items) }
+    requires sizes { length visited.old ≡ length calls.now.callees.items }
+    requires start { start < length calls.now.callees.items }
+    requires covered { IsCovered (graph_in calls.now.callees.items) target visited.old [] }
+    ensures found { IfOk result (λ found. IsTrue found ↔ Path (graph_in calls.now.callees.items) start target) }
+    ensures covered { IfOk result (λ found. IsTrue found ⊎ IsCovered (graph_in calls.now.callees.items) target visited.new []) }
+{
+    let mut waiting = Vec::new(alloc);
+    let first = [start];
+    visit(first.as_slice(), visited, &mut waiting)?;
+    while let Some(next) = waiting.pop() {
+        if next == target {
+            return Ok(true);
+        }
+        visit(&calls.callees[next], visited, &mut waiting)?;
+    }
+    Ok(false)
+}
+
+/// Whether the process of a name leads to the target by calls.
+fn is_recursive(
+    alloc: Global,
+    processes: &Processes,
+    calls: &Calls,
+    name: &Name,
+    back: &Name,
+    target: usize,
+    visited: &mut [bool],
+) -> Result<bool, AllocError>
+    requires calls { graph_in calls.now.callees.items ≡ graph_of (interface_models processes.now.interfaces.items) }
+    requires target { Some target ≡ place_of (process_texts (interface_models processes.now.interfaces.items)) back.now.text }
+    requires sizes { length visited.old ≡ length calls.now.callees.items }
+    requires covered { IsCovered (graph_in calls.now.callees.items) target visited.old [] }
+    ensures found { IfOk result (λ found. IsTrue found ↔ Reaches (interface_models processes.now.interfaces.items) name.now.text back.now.text) }
+    ensures covered { IfOk result (λ found. IsTrue found ⊎ IsCovered (graph_in calls.now.callees.items) target visited.new []) }
+{
+    match processes.place(name.text.as_bytes()) {
+        Some(start) => {
+            let found = reaches(alloc, calls, start, target, visited)?;
+            Ok(found)
+        }
+        None => Ok(false),
+    }
+}
+
+/// The calls of a process that lead back to it. Its own place is the target: that of the first
+/// process of its name.
+pub fn recursive_calls<'a>(
+    alloc: Global,
+    processes: &Processes,
+    calls: &Calls,
+    back: &Name,
+    target: usize,
+    names: &[&'a Name],
+    first: &mut First<'a>,
+) -> Result<(), AllocError>
+    requires calls { graph_in calls.now.callees.items ≡ graph_of (interface_models processes.now.interfaces.items) }
+    requires target { Some target ≡ place_of (process_texts (interface_models processes.now.interfaces.items)) back.now.text }
+    ensures { OnOk result (Finds first.old first.new (recursive_in (interface_models processes.now.interfaces.items) back.now.text (names_in names.now))) }
+{
+    let mut visited = vec![in alloc; false; calls.callees.len()]?;
+    for name in names {
+        let name: &'a Name = *name;
+        let found = is_recursive(alloc, processes, calls, name, back, target, &mut visited)?;
+        first.ask(found, Finding::Recursive(name));
+        if found {
+            return Ok(());
+        }
+    }
+    Ok(())
+}
