@@ -14,12 +14,22 @@ use crate::copy::ProcessCopy;
 use crate::expansion::Expansion;
 use sig_base::Text;
 use sig_tree::{Flat, Program};
-use sig_type::{Processes, flat_equations};
+use sig_type::{Processes, Typed, flat_equations};
 use std::alloc::Global;
 
 /// The flat body of a well-formed program. `TooManySignals` is answered where it needs more than 512
 /// signals, those of copies included.
-pub fn inline(alloc: Global, program: &Program) -> Result<Flat, CallAnswer>
+pub fn inline(alloc: Global, typed: &Typed) -> Result<Flat, CallAnswer>
+    requires { IsTree (program_of typed.now.program) }
+    ensures flat { IfOk result (λ flat. IsFlatBody (program_of typed.now.program) (flat_body_of flat)) }
+    ensures few { IfOk result (λ flat. length flat.signals.items ≤ 512) }
+    ensures refused { IsRefused result (NeedsTooMany (program_of typed.now.program)) }
+{
+    inline_program(alloc, &typed.program)
+}
+
+/// The same of a program by itself.
+fn inline_program(alloc: Global, program: &Program) -> Result<Flat, CallAnswer>
     requires tree { IsTree (program_of program.now) }
     requires well_formed { IsWellFormed (program_of program.now) }
     ensures flat { IfOk result (λ flat. IsFlatBody (program_of program.now) (flat_body_of flat)) }

@@ -25,5 +25,10 @@ mod typed;
 mod well_formed;
 
 pub use answer::TypeAnswer;
+pub use declared::{Declared, Role};
+pub use equations::flat_equations;
+pub use processes::Processes;
+pub use scope::{Interface, Scope};
+pub use texts::Texts;
 pub use typed::{Typed, check_owned};
 pub use well_formed::check;

@@ -17,7 +17,7 @@ use Rattle.sig_call.proofs.Existence.{some_body}
 use Rattle.sig_call.proofs.Expandable.{expandable}
 use Rattle.sig_call.proofs.Readiness.{refused_by, copied_length}
 use Rattle.sig_call.proofs.Whole.{head_is, some_interface, first_found, too_many_declared, too_many_inside, whole_body}
-use Rattle.sig_call.proofs.flat_body.inline.Goals as goal
+use Rattle.sig_call.proofs.flat_body.inline_program.Goals as goal
 
 pub unreachable-requires : goal.unreachable-requires
 unreachable-requires c =
