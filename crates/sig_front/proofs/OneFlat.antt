@@ -1,5 +1,5 @@
 -- A text has one flat body that is kept or one refusal, at most, and not both.
-use Rattle.std.proofs.Common.{◌≡◌, ◌≢◌, ◌∙◌, ◌⊎◌, ℕ, List, length, sym, ap, subst, refl, arith, ⊎_elim, inl, inr}
+use Rattle.std.proofs.Common.{◌≡◌, ◌<◌, ◌∙◌, ◌⊎◌, ℕ, List, length, sym, ap, subst, refl, arith, ⊎_elim, inl, inr}
 use Rattle.std.specs.Prelude.{MatchOption, ⊤}
 use Rattle.sig_tree.specs.Candidates.{Offence}
 use Rattle.sig_tree.specs.Declarations.{all_processes}
@@ -19,7 +19,7 @@ use Rattle.sig_call.specs.declared.answer.CallAnswer.TheVariants.{TooManySignals
 use Rattle.sig_front.specs.Flats.{IsFlatText, IsGood, IsNoFlatText, IsTooLarge, Offends, answer_for, of_call, of_type}
 use Rattle.sig_front.specs.Texts.{IsNoText}
 use Rattle.sig_front.specs.declared.answer.FrontAnswer.{FrontAnswer}
-use Rattle.sig_front.specs.declared.answer.FrontAnswer.TheVariants.{Lex, Parse, Type' as TypeRefused, TooManySignals, OutOfMemory}
+use Rattle.sig_front.specs.declared.answer.FrontAnswer.TheVariants.{Lex, Parse, «Type» as TypeRefused, TooManySignals, OutOfMemory}
 use Rattle.sig_front.proofs.OneText.{tree_once, refusal_once, tree_or_refusal}
 
 -- ---- a flat body

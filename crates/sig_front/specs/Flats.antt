@@ -12,7 +12,7 @@ use Rattle.sig_call.specs.declared.answer.CallAnswer.{CallAnswer}
 use Rattle.sig_call.specs.declared.answer.CallAnswer.TheVariants.{TooManySignals as TooMany, OutOfMemory as CallMemory}
 use Rattle.sig_front.specs.Texts.{IsNoText}
 use Rattle.sig_front.specs.declared.answer.FrontAnswer.{FrontAnswer}
-use Rattle.sig_front.specs.declared.answer.FrontAnswer.TheVariants.{Lex, Parse, Type' as TypeRefused, TooManySignals, OutOfMemory}
+use Rattle.sig_front.specs.declared.answer.FrontAnswer.TheVariants.{Lex, Parse, «Type» as TypeRefused, TooManySignals, OutOfMemory}
 
 -- what the passes' answers are here
 abbrev pub of_type : TypeAnswer → FrontAnswer

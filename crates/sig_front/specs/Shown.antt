@@ -6,7 +6,7 @@ use Rattle.sig_lex.specs.Shown.{fault_line}
 use Rattle.sig_parse.specs.Lines.{answer_line}
 use Rattle.sig_type.specs.Answers.{answer_line as type_line}
 use Rattle.sig_front.specs.declared.answer.FrontAnswer.{FrontAnswer}
-use Rattle.sig_front.specs.declared.answer.FrontAnswer.TheVariants.{Lex, Parse, Type' as TypeRefused, TooManySignals, OutOfMemory}
+use Rattle.sig_front.specs.declared.answer.FrontAnswer.TheVariants.{Lex, Parse, «Type» as TypeRefused, TooManySignals, OutOfMemory}
 
 abbrev pub front_line : FrontAnswer → List ℕ
 front_line (Lex answer) = fault_line answer

@@ -1,8 +1,8 @@
-mod CandidateLemmas
+pub mod CandidateLemmas
 pub mod Combining
 pub mod EquationLaws
 pub mod FirstLeaves
-mod OneExpansion
+pub mod OneExpansion
 pub mod OneMeaning
 pub mod Operators
 pub mod PrefixLaws

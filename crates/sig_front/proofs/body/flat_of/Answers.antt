@@ -1,0 +1,17 @@
+use Rattle.std.proofs.Common.{◌≡◌, ◌⊎◌, sym, subst}
+use Rattle.std.proofs.lemmas.Result.{err_from_is_err_and}
+use Rattle.sig_tree.specs.Syntax.{program_of}
+use Rattle.sig_front.specs.Flats.{IsNoFlatText}
+use Rattle.sig_front.specs.declared.answer.FrontAnswer.{FrontAnswer}
+use Rattle.sig_front.specs.declared.answer.FrontAnswer.TheVariants.{OutOfMemory}
+use Rattle.sig_front.proofs.body.flat_of.Goals as goal
+
+pub returns-in_err-typed-clause-fault : goal.returns-in_err-typed-clause-fault
+returns-in_err-typed-clause-fault c =
+    let p = err_from_is_err_and c.from_residual-in_err-typed.result c.from_residual-in_err-typed.ensures.1 in
+    let why = c.in_err-typed.ensures.refused c.args.bytes.now c.in_ok-program.ensures.tree in
+    rw p.1 (subst (λ (e : FrontAnswer). (e ≡ OutOfMemory) ⊎ IsNoFlatText c.args.bytes.now e) (sym p.2) why)
+
+pub inline-requires : goal.inline-requires
+inline-requires c =
+    rw c.in_ok-typed.ensures.same (c.trees_of_texts.ensures.tree c.args.bytes.now (program_of c.in_ok-program.program) c.in_ok-program.ensures.tree)
