@@ -37,3 +37,8 @@ pub mod RefusedLists
 pub mod RefusedSides
 pub mod RefusedEquations
 pub mod RefusedBodies
+pub mod Leading
+pub mod Rows
+pub mod AheadLemmas
+pub mod RefusedChoice
+pub mod RefusedDeclarations

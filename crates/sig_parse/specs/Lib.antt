@@ -13,3 +13,6 @@ pub mod Seen
 pub mod Splitting
 pub mod Stalls
 pub mod State
+pub mod Parts
+pub mod Settling
+pub mod Ahead

@@ -1,0 +1,16 @@
+-- What begins with the next leaves, where one of them does not tell.
+use Rattle.std.specs.Prelude.{◌≡◌, ◌⊎◌, List, [], ◌∷◌, codes}
+use Rattle.sig_tree.specs.Terminals.{Terminal, Leaf, mark}
+use Rattle.sig_tree.specs.Beginning.{StartsWith, BeginsName}
+
+-- the first leaf is in the set, and those behind it are so
+abbrev pub StartsThen : (Terminal → Type 0) → (List Leaf → Type 0) → List Leaf → Type 0
+StartsThen Begins Behind [] = ⊥
+StartsThen Begins Behind (l ∷ leaves) = Begins l.terminal × Behind leaves
+
+-- NAME ":=", or "(" NAME ",", or "(" NAME ")" ":="
+abbrev pub BeginsDefinition : List Leaf → Type 0
+BeginsDefinition leaves = StartsThen BeginsName (StartsWith (λ t. t ≡ mark (codes ":="))) leaves
+    ⊎ StartsThen (λ t. t ≡ mark (codes "(")) (StartsThen BeginsName (λ rest.
+    StartsWith (λ t. t ≡ mark (codes ",")) rest
+    ⊎ StartsThen (λ t. t ≡ mark (codes ")")) (StartsWith (λ t. t ≡ mark (codes ":="))) rest)) leaves
