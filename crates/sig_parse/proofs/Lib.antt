@@ -5,6 +5,7 @@ pub mod Enclosing
 pub mod FormLemmas
 pub mod GroupLemmas
 pub mod Joins
+pub mod KeywordLemmas
 pub mod LeafLists
 pub mod Lists
 pub mod Passing
@@ -12,6 +13,7 @@ pub mod PlaceLemmas
 pub mod ProcessLemmas
 pub mod ReadingLemmas
 pub mod RefusedTexts
+pub mod RefusedTokens
 pub mod Relaying
 pub mod RuleLemmas
 pub mod SmallLemmas

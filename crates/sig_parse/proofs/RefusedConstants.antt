@@ -18,7 +18,7 @@ use Rattle.sig_tree.proofs.Combining.{cons_same}
 use Rattle.sig_tree.proofs.FirstLeaves.{constant_begins}
 use Rattle.sig_tree.proofs.ReadEquations.{stops_nothing}
 use Rattle.sig_parse.specs.Refusals.{Cause, Wrong, Refuses}
-use Rattle.sig_parse.specs.Languages.{InConstant, InInit, InOptionalInit}
+use Rattle.sig_parse.specs.Languages.{InLeaf, InNumber, InConstant, InInit, InOptionalInit}
 use Rattle.sig_parse.proofs.Refusing.{SameFirst, refuses_inside, refuses_first, refuses_at_once}
 
 -- some name
@@ -28,19 +28,11 @@ some_name = record { text = codes "x"; at = no_place }
 abbrev pub some_leaf : Leaf
 some_leaf = name_leaf some_name
 
--- one leaf with a terminal
-abbrev pub InLeaf : Terminal → Limits → List Leaf → Type 0
-InLeaf t limits leaves = (at : Span) × (leaves ≡ leaf t at ∷ [])
-
 leaf_starts : (t : Terminal) (leaves : List Leaf) → InLeaf t no_limits leaves → StartsWith (λ s. s ≡ t) leaves
 leaf_starts t leaves (at, e) = subst (λ (l : List Leaf). StartsWith (λ s. s ≡ t) l) (sym e) refl
 
 pub leaf_refused : (t : Terminal) (here : List Leaf) → StopsBefore (λ s. s ≡ t) here → Refuses (InLeaf t) ContinuesNothing Wrong here here
 leaf_refused t here stops = refuses_at_once (InLeaf t) ContinuesNothing (λ s. s ≡ t) (leaf t no_place ∷ []) (no_place, refl) (leaf_starts t) here stops
-
--- a number
-abbrev pub InNumber : Limits → List Leaf → Type 0
-InNumber limits leaves = (n : ℕ) × InLeaf (number n) limits leaves
 
 number_starts : (leaves : List Leaf) → InNumber no_limits leaves → StartsWith (λ s. (n : ℕ) × (s ≡ number n)) leaves
 number_starts leaves (n, (at, e)) = subst (λ (l : List Leaf). StartsWith (λ s. (n : ℕ) × (s ≡ number n)) l) (sym e) (n, refl)

@@ -20,9 +20,9 @@ use Rattle.sig_tree.proofs.ReadExpressions.{expression_once}
 use Rattle.sig_tree.proofs.Combining.{cons_same, append_to, part_at, further_stops}
 use Rattle.sig_tree.proofs.ReadEquations.{mark_apart, stops_nothing, left_once}
 use Rattle.sig_parse.specs.Refusals.{Cause, Refuses}
-use Rattle.sig_parse.specs.Languages.{InOne, counted, InLevel, InLeft, InRight, InDefinition, InClockEquation}
+use Rattle.sig_parse.specs.Languages.{InLeaf, InOne, counted, InLevel, InLeft, InRight, InDefinition, InClockEquation}
 use Rattle.sig_parse.proofs.Refusing.{first_stops, refuses_inside, refuses_first}
-use Rattle.sig_parse.proofs.RefusedConstants.{some_name, some_leaf, InLeaf}
+use Rattle.sig_parse.proofs.RefusedConstants.{some_name, some_leaf}
 use Rattle.sig_parse.proofs.RefusedLevels.{fewer}
 use Rattle.sig_parse.proofs.RefusedLists.{More_of}
 use Rattle.sig_parse.proofs.RefusedSides.{counted_sum}

@@ -1,14 +1,15 @@
 -- The languages of the parts of the parser: leaves that are something of the grammar within limits, in
 -- an equation that has so many operators before them.
-use Rattle.std.specs.Prelude.{◌+◌, ℕ, suc, List, [], ◌∷◌, length, Option}
+use Rattle.std.specs.Prelude.{◌≡◌, ◌+◌, ℕ, suc, List, [], ◌∷◌, length, Option}
 use Rattle.sig_tree.specs.declared.expr.Constant.{Constant}
 use Rattle.sig_tree.specs.declared.expr.Name.{Name}
 use Rattle.sig_tree.specs.Syntax.{Expression, RightSide}
-use Rattle.sig_tree.specs.Terminals.{Leaf}
+use Rattle.sig_base.specs.declared.span.Span.{Span}
+use Rattle.sig_tree.specs.Terminals.{Terminal, Leaf, leaf, number, label}
 use Rattle.sig_tree.specs.Limits.{Limits, MayHave, operators, right_operators}
 use Rattle.sig_tree.specs.Repeated.{Each}
 use Rattle.sig_tree.specs.Expressions.{IsConstant, IsInit, IsOptionalInit, IsAtLevel}
-use Rattle.sig_tree.specs.Equations.{IsLeft, AreConstants, AreArguments, IsRight, IsDefinition, IsClockEquation}
+use Rattle.sig_tree.specs.Equations.{IsName, IsLeft, AreConstants, AreArguments, IsRight, IsDefinition, IsClockEquation}
 use Rattle.sig_tree.specs.Spines.{Step, WithOperand, WithCell, WithDelay, IsOperand, IsStep, AreSoMany}
 
 -- something of these, with its operators
@@ -19,6 +20,20 @@ InOne {A = A} Is count used limits leaves = (x : A) × Is limits x leaves × May
 abbrev pub counted : {A : Type 0} → (A → ℕ) → List A → ℕ
 counted count [] = 0
 counted count (x ∷ xs) = count x + counted count xs
+
+-- one leaf with a terminal
+abbrev pub InLeaf : Terminal → Limits → List Leaf → Type 0
+InLeaf t limits leaves = (at : Span) × (leaves ≡ leaf t at ∷ [])
+
+-- a number, a label, a name
+abbrev pub InNumber : Limits → List Leaf → Type 0
+InNumber limits leaves = (n : ℕ) × InLeaf (number n) limits leaves
+
+abbrev pub InLabel : Limits → List Leaf → Type 0
+InLabel limits leaves = (text : List ℕ) × InLeaf (label text) limits leaves
+
+abbrev pub InName : Limits → List Leaf → Type 0
+InName limits leaves = (name : Name) × IsName name leaves
 
 abbrev pub InConstant : Limits → List Leaf → Type 0
 InConstant limits leaves = (constant : Constant) × IsConstant constant leaves

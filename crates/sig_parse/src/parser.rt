@@ -1,10 +1,15 @@
 //! Where the parser stands in the leaves of a text.
 
-ghost use Rattle.std.specs.Prelude.{◌≡◌, ◌<◌, suc, true, [], ◌∷◌, codes, map, IfOk, IfErr, OnOk, MatchOption, OnErr, length};
+ghost use Rattle.std.specs.Prelude.{◌≡◌, ◌≤◌, ◌<◌, ℕ, List, suc, true, [], ◌∷◌, codes, map, IfOk, IfErr, OnOk, MatchOption, MatchBool, OnErr, length};
 ghost use Rattle.sig_tree.specs.Terminals.{name, number, label};
+ghost use Rattle.sig_tree.specs.Readings.{StopsBefore};
+ghost use Rattle.sig_tree.specs.Beginning.{StartsWith, BeginsName};
+ghost use Rattle.sig_tree.specs.Continuing.{ContinuesNothing};
 ghost use Rattle.sig_tree.specs.Equations.{IsName};
 ghost use Rattle.sig_tree.specs.Expressions.{IsOptionalOne};
-ghost use Rattle.sig_parse.specs.Keywords.{terminal_of};
+ghost use Rattle.sig_parse.specs.Keywords.{terminal_of, IsKeyword};
+ghost use Rattle.sig_parse.specs.Languages.{InLeaf, InLabel, InName};
+ghost use Rattle.sig_parse.specs.Refusals.{RefusedBy};
 ghost use Rattle.sig_parse.specs.Seen.{leaf_seen};
 ghost use Rattle.sig_parse.specs.Reads.{Reads, Shorter, IsLeaf};
 ghost use Rattle.sig_parse.specs.Stalls.{IsOfText};
@@ -40,7 +45,8 @@ impl<'l, 'a> Model for Parser<'l, 'a> {
 /// The construct that begins with the next token stands inside so many others: how deep its inside
 /// stands, or its refusal.
 pub fn inside(parser: &Parser, depth: u32) -> Result<u32, Refusal>
-    ensures { IfOk result (λ inner. (depth < 64) × (inner ≡ suc depth)) }
+    ensures deeper { IfOk result (λ inner. (depth < 64) × (inner ≡ suc depth)) }
+    ensures too_deep { IfErr result (λ why. (why ≡ Refusal.Nesting) × (64 ≤ depth)) }
 {
     if depth < NESTING {
         Ok(depth + 1)
@@ -87,7 +93,9 @@ impl<'l, 'a> Parser<'l, 'a> {
     }
 
     /// The next token, where it is a reserved word or a mark.
-    pub fn keyword(&self) -> Option<Keyword> {
+    pub fn keyword(&self) -> Option<Keyword>
+        ensures { MatchOption result (StopsBefore IsKeyword self.now.leaves) (λ keyword. StartsWith (λ t. t ≡ terminal_of keyword) self.now.leaves) }
+    {
         match self.leaves.get(self.next)?.terminal {
             Terminal::Keyword(keyword) => Some(keyword),
             _ => None,
@@ -95,13 +103,18 @@ impl<'l, 'a> Parser<'l, 'a> {
     }
 
     /// Whether the next token is this keyword.
-    pub fn is(&self, keyword: Keyword) -> bool {
-        self.keyword() == Some(keyword)
+    pub fn is(&self, keyword: Keyword) -> bool
+        ensures { MatchBool result (StartsWith (λ t. t ≡ terminal_of keyword) self.now.leaves) (StopsBefore (λ t. t ≡ terminal_of keyword) self.now.leaves) }
+    {
+        match self.keyword() {
+            Some(found) => is_same(found, keyword),
+            None => false,
+        }
     }
 
     /// Passes this keyword, where it is next.
     pub fn take(&mut self, keyword: Keyword) -> Option<Span>
-        ensures { MatchOption result (self.new ≡ self.old)
+        ensures { MatchOption result ((self.new ≡ self.old) × StopsBefore (λ t. t ≡ terminal_of keyword) self.old.leaves)
             (λ at. Reads (IsLeaf (terminal_of keyword) at) 0 self.old self.new × Shorter self.old self.new) }
     {
         let first = self.leaves.get(self.next)?;
@@ -117,7 +130,7 @@ impl<'l, 'a> Parser<'l, 'a> {
 
     /// Passes a name, where one is next.
     fn take_name(&mut self) -> Option<(&'a [u8], Span)>
-        ensures { MatchOption result (self.new ≡ self.old)
+        ensures { MatchOption result ((self.new ≡ self.old) × StopsBefore BeginsName self.old.leaves)
             (λ found. Reads (IsLeaf (name found.0.now) found.1) 0 self.old self.new × Shorter self.old self.new) }
     {
         let first = self.leaves.get(self.next)?;
@@ -135,6 +148,7 @@ impl<'l, 'a> Parser<'l, 'a> {
         ensures reads { IfOk result (λ at. Reads (IsLeaf (name (codes "RunOn")) at) 0 self.old self.new) }
         ensures shorter { OnOk result (Shorter self.old self.new) }
         ensures stays { OnErr result (self.new ≡ self.old) }
+        ensures refuses { IfErr result (RefusedBy (InLeaf (name (codes "RunOn"))) ContinuesNothing self.old self.new) }
     {
         match self.take_run_on() {
             Some(at) => Ok(at),
@@ -144,7 +158,7 @@ impl<'l, 'a> Parser<'l, 'a> {
 
     /// Passes the name `RunOn`, where it is next.
     fn take_run_on(&mut self) -> Option<Span>
-        ensures { MatchOption result (self.new ≡ self.old)
+        ensures { MatchOption result ((self.new ≡ self.old) × StopsBefore (λ t. t ≡ name (codes "RunOn")) self.old.leaves)
             (λ at. Reads (IsLeaf (name (codes "RunOn")) at) 0 self.old self.new × Shorter self.old self.new) }
     {
         let first = self.leaves.get(self.next)?;
@@ -160,7 +174,7 @@ impl<'l, 'a> Parser<'l, 'a> {
 
     /// Passes a number, where one is next.
     pub fn take_number(&mut self) -> Option<(Natural, Span)>
-        ensures { MatchOption result (self.new ≡ self.old)
+        ensures { MatchOption result ((self.new ≡ self.old) × StopsBefore (λ t. (n : ℕ) × (t ≡ number n)) self.old.leaves)
             (λ found. Reads (IsLeaf (number found.0.value) found.1) 0 self.old self.new × Shorter self.old self.new) }
     {
         let first = self.leaves.get(self.next)?;
@@ -188,7 +202,7 @@ impl<'l, 'a> Parser<'l, 'a> {
 
     /// Passes a label, where one is next.
     fn take_label(&mut self) -> Option<(&'a [u8], Span)>
-        ensures { MatchOption result (self.new ≡ self.old)
+        ensures { MatchOption result ((self.new ≡ self.old) × StopsBefore (λ t. (text : List ℕ) × (t ≡ label text)) self.old.leaves)
             (λ found. Reads (IsLeaf (label found.0.now) found.1) 0 self.old self.new × Shorter self.old self.new) }
     {
         let first = self.leaves.get(self.next)?;
@@ -206,6 +220,7 @@ impl<'l, 'a> Parser<'l, 'a> {
         ensures reads { IfOk result (λ at. Reads (IsLeaf (terminal_of keyword) at) 0 self.old self.new) }
         ensures shorter { OnOk result (Shorter self.old self.new) }
         ensures stays { OnErr result (self.new ≡ self.old) }
+        ensures refuses { IfErr result (RefusedBy (InLeaf (terminal_of keyword)) ContinuesNothing self.old self.new) }
     {
         match self.take(keyword) {
             Some(at) => Ok(at),
@@ -218,6 +233,7 @@ impl<'l, 'a> Parser<'l, 'a> {
         ensures reads { IfOk result (λ name. Reads (IsName name) 0 self.old self.new) }
         ensures shorter { OnOk result (Shorter self.old self.new) }
         ensures stays { IfErr result (λ why. IsOfText why → self.new ≡ self.old) }
+        ensures refuses { IfErr result (RefusedBy InName ContinuesNothing self.old self.new) }
     {
         match self.take_name() {
             Some((text, at)) => Ok(Name {
@@ -233,6 +249,7 @@ impl<'l, 'a> Parser<'l, 'a> {
         ensures reads { IfOk result (λ found. Reads (IsLeaf (label found.0) found.1) 0 self.old self.new) }
         ensures shorter { OnOk result (Shorter self.old self.new) }
         ensures stays { IfErr result (λ why. IsOfText why → self.new ≡ self.old) }
+        ensures refuses { IfErr result (RefusedBy InLabel ContinuesNothing self.old self.new) }
     {
         match self.take_label() {
             Some((text, at)) => Ok((Text::from_bytes(alloc, text)?, at)),
@@ -245,11 +262,14 @@ impl<'l, 'a> Parser<'l, 'a> {
         ensures reads { IfOk result (λ at. Reads (IsLeaf (terminal_of keyword) at) 1 self.old self.new) }
         ensures shorter { OnOk result (Shorter self.old self.new) }
         ensures stays { OnErr result (self.new ≡ self.old) }
+        ensures full { IfErr result (λ why. StartsWith (λ t. t ≡ terminal_of keyword) self.old.leaves → (why ≡ Refusal.Operators) × (512 ≤ self.old.operators)) }
     {
         if self.operators >= OPERATORS {
             return Err(Refusal::Operators);
         }
-        let at = self.expect(keyword)?;
+        let Some(at) = self.take(keyword) else {
+            return Err(Refusal::Syntax);
+        };
         self.operators += 1;
         Ok(at)
     }

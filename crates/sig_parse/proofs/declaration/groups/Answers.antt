@@ -15,7 +15,8 @@ loop-all-preserved c = views_more declared_of (IsGroupOf c.args.declares) (mark 
     c.loop-all.invariant c.in-Some.ensures.0 c.in_ok-group-2.ensures.reads
 
 pub returns-in_default-clause-reads : goal.returns-in_default-clause-reads
-returns-in_default-clause-reads c = groups_plain (IsGroupOf c.args.declares) (map declared_of c.loop-all.all.items) (ends_at (rw c.in_default.is at c.take.ensures) c.loop-all.invariant)
+returns-in_default-clause-reads c = let none = rw c.in_default.is at c.take.ensures in
+    groups_plain (IsGroupOf c.args.declares) (map declared_of c.loop-all.all.items) (ends_at none.0 c.loop-all.invariant)
 
 pub returns-then-is-2-clause-reads : goal.returns-then-is-2-clause-reads
 returns-then-is-2-clause-reads c = groups_marked (IsGroupOf c.args.declares) (map declared_of c.loop-all.all.items) c.in-Some.field-0 c.loop-all.invariant c.in-Some.ensures.0

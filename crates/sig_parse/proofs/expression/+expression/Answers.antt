@@ -40,7 +40,7 @@ completed-returns-in_ok-new-in-Delay-clause-completes t c = at_delay c.args.op (
     c.in-Delay.is (ap expression_of c.in_ok-new-in-Delay.ensures.ok) c.take_one.ensures c.in_ok-constant-in-Delay.ensures.reads
 
 pub enclosed-returns-clause-reads : goal.enclosed-returns-clause-reads
-enclosed-returns-clause-reads t c = enclosed (expression_of c.in_ok-e.e) _ c.args.depth c.in_ok-inner.inner _ _ _ c.in_ok-inner.ensures.0 c.in_ok-inner.ensures.1
+enclosed-returns-clause-reads t c = enclosed (expression_of c.in_ok-e.e) _ c.args.depth c.in_ok-inner.inner _ _ _ c.in_ok-inner.ensures.deeper.0 c.in_ok-inner.ensures.deeper.1
     c.in_ok-expect.ensures.reads c.in_ok-e.ensures.reads c.in_ok-expect-2.ensures.reads
 
 pub operand-returns-in-Some-clause-reads : goal.operand-returns-in-Some-clause-reads
@@ -100,10 +100,10 @@ pub enclosed-returns-in_err-expect-clause-viable : goal.enclosed-returns-in_err-
 enclosed-returns-in_err-expect-clause-viable t c = whatever _ (level_at_once primary_level c.args.depth (omega arith) c.in_err-expect.ensures.stays)
 
 pub enclosed-returns-in_err-e-clause-viable : goal.enclosed-returns-in_err-e-clause-viable
-enclosed-returns-in_err-e-clause-viable t c = relayed _ _ c.from_residual-in_err-e.ensures (λ text. in_parentheses primary_level c.args.depth c.in_ok-inner.inner _ c.in_ok-inner.ensures.0 c.in_ok-inner.ensures.1 c.in_ok-expect.ensures.reads (c.in_err-e.ensures.viable text))
+enclosed-returns-in_err-e-clause-viable t c = relayed _ _ c.from_residual-in_err-e.ensures (λ text. in_parentheses primary_level c.args.depth c.in_ok-inner.inner _ c.in_ok-inner.ensures.deeper.0 c.in_ok-inner.ensures.deeper.1 c.in_ok-expect.ensures.reads (c.in_err-e.ensures.viable text))
 
 pub enclosed-returns-in_err-expect-2-clause-viable : goal.enclosed-returns-in_err-expect-2-clause-viable
-enclosed-returns-in_err-expect-2-clause-viable t c = whatever _ (not_closed primary_level c.args.depth c.in_ok-inner.inner (expression_of c.in_ok-e.e) _ c.in_ok-inner.ensures.0 c.in_ok-inner.ensures.1 c.in_ok-expect.ensures.reads c.in_ok-e.ensures.reads c.in_err-expect-2.ensures.stays)
+enclosed-returns-in_err-expect-2-clause-viable t c = whatever _ (not_closed primary_level c.args.depth c.in_ok-inner.inner (expression_of c.in_ok-e.e) _ c.in_ok-inner.ensures.deeper.0 c.in_ok-inner.ensures.deeper.1 c.in_ok-expect.ensures.reads c.in_ok-e.ensures.reads c.in_err-expect-2.ensures.stays)
 
 pub primary-returns-else-is-clause-viable : goal.primary-returns-else-is-clause-viable
 primary-returns-else-is-clause-viable t c = since c.atom.result c.atom.ensures.stays (λ same. level_at_once primary_level c.args.depth (omega arith) same)

@@ -73,4 +73,4 @@ pub inner_process-returns-in_err-inner-clause-viable : goal.inner_process-return
 inner_process-returns-in_err-inner-clause-viable t c = whatever _ (declarations_at_once c.args.depth refl)
 
 pub inner_process-returns-clause-viable : goal.inner_process-returns-clause-viable
-inner_process-returns-clause-viable t c = since c.process.result c.process.ensures.viable (λ v. in_process c.args.depth c.in_ok-inner.inner c.in_ok-inner.ensures.0 c.in_ok-inner.ensures.1 v)
+inner_process-returns-clause-viable t c = since c.process.result c.process.ensures.viable (λ v. in_process c.args.depth c.in_ok-inner.inner c.in_ok-inner.ensures.deeper.0 c.in_ok-inner.ensures.deeper.1 v)
