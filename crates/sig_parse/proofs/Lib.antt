@@ -44,3 +44,4 @@ pub mod Rows
 pub mod AheadLemmas
 pub mod RefusedChoice
 pub mod RefusedDeclarations
+pub mod RefusedGroups

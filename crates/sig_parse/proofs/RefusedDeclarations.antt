@@ -26,10 +26,10 @@ use Rattle.sig_parse.specs.State.{State}
 use Rattle.sig_parse.specs.Reads.{Covers, IsLeaf}
 use Rattle.sig_parse.specs.Refusals.{Cause, Wrong, Refuses}
 use Rattle.sig_parse.specs.Settling.{Settles}
-use Rattle.sig_parse.specs.Languages.{InOptionalInit}
+use Rattle.sig_parse.specs.Languages.{InLeaf, InOptionalInit}
 use Rattle.sig_parse.specs.Parts.{InAny, InSome, IsKindOf, InKind, InItem, InItems, InGroup, ContinuesItem, ContinuesItems}
 use Rattle.sig_parse.proofs.Refusing.{SameFirst, refuses_at_once}
-use Rattle.sig_parse.proofs.RefusedConstants.{some_name, some_leaf, InLeaf}
+use Rattle.sig_parse.proofs.RefusedConstants.{some_name, some_leaf}
 use Rattle.sig_parse.proofs.Leading.{Leads, Then, Apart, leads_refuses, settles_on, refuses_where, leads_where, settles_where, apart_nothing, then_first, leads_alone, settled_once, starts_or_stops}
 use Rattle.sig_parse.proofs.Rows.{Row, RowRest, ContinuesRow, row_refused, row_item, row_separated, row_ends}
 

@@ -1,5 +1,5 @@
 -- Languages of declarations, pragmas, processes and programs.
-use Rattle.std.specs.Prelude.{◌≡◌, ◌≢◌, ◌++◌, ℕ, suc, List, [], ◌∷◌, codes}
+use Rattle.std.specs.Prelude.{◌≡◌, ◌≢◌, ◌++◌, ◌⊎◌, ℕ, suc, List, [], ◌∷◌, codes}
 use Rattle.sig_base.specs.declared.span.Span.{Span}
 use Rattle.sig_base.specs.declared.ids.Kind.{Kind}
 use Rattle.sig_base.specs.declared.ids.Kind.TheVariants.{Event}
@@ -101,3 +101,7 @@ InWhere depth limits leaves = (groups : List Declared) × (inner : ProcessModels
 
 abbrev pub InProgram : Limits → List Leaf → Type 0
 InProgram limits leaves = (processes : List ProcessModel) × IsProgram limits processes leaves
+
+-- a mark that ends groups
+abbrev pub EndsGroups : Terminal → Type 0
+EndsGroups t = (t ≡ mark (codes "}")) ⊎ ((t ≡ mark (codes "!")) ⊎ (t ≡ mark (codes ")")))
