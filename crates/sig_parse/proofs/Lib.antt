@@ -7,6 +7,7 @@ pub mod GroupLemmas
 pub mod Joins
 pub mod KeywordLemmas
 pub mod LeafLists
+pub mod Lifting
 pub mod Lists
 pub mod Passing
 pub mod PlaceLemmas

@@ -233,6 +233,7 @@ impl<'l, 'a> Parser<'l, 'a> {
         ensures reads { IfOk result (λ name. Reads (IsName name) 0 self.old self.new) }
         ensures shorter { OnOk result (Shorter self.old self.new) }
         ensures stays { IfErr result (λ why. IsOfText why → self.new ≡ self.old) }
+        ensures missing { IfErr result (λ why. IsOfText why → (why ≡ Refusal.Syntax) × StopsBefore BeginsName self.old.leaves) }
         ensures refuses { IfErr result (RefusedBy InName ContinuesNothing self.old self.new) }
     {
         match self.take_name() {
