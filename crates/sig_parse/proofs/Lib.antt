@@ -46,3 +46,5 @@ pub mod AheadLemmas
 pub mod RefusedChoice
 pub mod RefusedDeclarations
 pub mod RefusedGroups
+pub mod Enclosures
+pub mod RefusedPragmas

@@ -206,17 +206,18 @@ group_starts Parameters g leaves (kind, is) = group_begins IsPlainItem g leaves 
 group_starts Inputs g leaves is = group_begins IsPlainItem g leaves is
 group_starts Signals g leaves is = group_begins IsItem g leaves is
 
-module _ (declares : Declares) (closing : Terminal) (ends : EndsGroups closing) where
-  abbrev pub LeadsGroups : (before after : List Leaf) → Type 0
-  LeadsGroups before after = Leads (InGroups declares closing) ContinuesNothing (BehindGroup (IsGroupOf declares) (ContinuesItems declares) closing) ContinuesNothing before after
+-- where groups were begun, up to a group
+abbrev pub LeadsGroups : Declares → Terminal → (before after : List Leaf) → Type 0
+LeadsGroups declares closing before after = Leads (InGroups declares closing) ContinuesNothing (BehindGroup (IsGroupOf declares) (ContinuesItems declares) closing) ContinuesNothing before after
 
+module _ (declares : Declares) (closing : Terminal) (ends : EndsGroups closing) where
   pub groups_first : {cause : Cause} {here after : List Leaf} → StopsBefore (λ t. t ≡ closing) here → Refuses (InGroup declares) (ContinuesItems declares) cause here after → Refuses (InGroups declares closing) ContinuesNothing cause here after
   groups_first stopped r = group_refused (IsGroupOf declares) (ContinuesItems declares) closing (semicolon_continues declares) (ending_continues declares closing ends) stopped r
 
-  pub groups_begun : (g : Declared) {s t : State} → StopsBefore (λ u. u ≡ closing) s.leaves → Covers (IsGroupOf declares g) s t → Settles (InGroup declares) (ContinuesItems declares) s.leaves t.leaves → LeadsGroups s.leaves t.leaves
+  pub groups_begun : (g : Declared) {s t : State} → StopsBefore (λ u. u ≡ closing) s.leaves → Covers (IsGroupOf declares g) s t → Settles (InGroup declares) (ContinuesItems declares) s.leaves t.leaves → LeadsGroups declares closing s.leaves t.leaves
   groups_begun g stopped c k = group_read (IsGroupOf declares) (ContinuesItems declares) closing (semicolon_continues declares) (ending_continues declares closing ends) g stopped c k
 
-  pub groups_next : (at : Span) {before : List Leaf} {s t : State} → LeadsGroups before s.leaves → Covers (IsLeaf (mark (codes ";")) at) s t → Leads (InGroups declares closing) ContinuesNothing (InGroups declares closing) ContinuesNothing before t.leaves
+  pub groups_next : (at : Span) {before : List Leaf} {s t : State} → LeadsGroups declares closing before s.leaves → Covers (IsLeaf (mark (codes ";")) at) s t → Leads (InGroups declares closing) ContinuesNothing (InGroups declares closing) ContinuesNothing before t.leaves
   groups_next at l c = leads_on l (semicolon_read (IsGroupOf declares) (ContinuesItems declares) closing (ending_semicolon closing ends) at c)
 
   -- the mark that ends them is next
@@ -224,5 +225,5 @@ module _ (declares : Declares) (closing : Terminal) (ends : EndsGroups closing) 
   groups_end next = λ cause stopped r. ending_refused (IsGroupOf declares) (ContinuesItems declares) closing BeginsGroup (group_starts declares) (ending_mark closing ends) next r
 
   -- no ";" is next
-  pub groups_over : {before here : List Leaf} → LeadsGroups before here → StopsBefore (λ t. t ≡ mark (codes ";")) here → Closes (InGroups declares closing) closing before here
+  pub groups_over : {before here : List Leaf} → LeadsGroups declares closing before here → StopsBefore (λ t. t ≡ mark (codes ";")) here → Closes (InGroups declares closing) closing before here
   groups_over l stopped' = λ cause stopped r. leads_refuses l (behind_refused (IsGroupOf declares) (ContinuesItems declares) closing stopped' r)
