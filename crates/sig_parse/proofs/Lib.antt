@@ -48,3 +48,4 @@ pub mod RefusedDeclarations
 pub mod RefusedGroups
 pub mod Enclosures
 pub mod RefusedPragmas
+pub mod SettledBodies
