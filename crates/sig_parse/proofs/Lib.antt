@@ -49,3 +49,4 @@ pub mod RefusedGroups
 pub mod Enclosures
 pub mod RefusedPragmas
 pub mod SettledBodies
+pub mod RefusedNames

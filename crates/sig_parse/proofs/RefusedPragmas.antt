@@ -1,5 +1,5 @@
 -- What is refused of pragmas, and what was read of them, from their parts.
-use Rattle.std.proofs.Common.{◌≡◌, ◌++◌, ◌⊎◌, ◌+◌, ◌≤◌, ℕ, List, [], ◌∷◌, codes, inl, inr, refl, sym, ap, ◌∙◌, subst, append_assoc, arith}
+use Rattle.std.proofs.Common.{◌≡◌, ◌++◌, ◌⊎◌, List, [], ◌∷◌, codes, inl, inr, refl, sym, ap, ◌∙◌, subst, append_assoc}
 use Rattle.sig_base.specs.declared.span.Span.{Span}
 use Rattle.sig_tree.specs.declared.expr.Name.{Name}
 use Rattle.sig_tree.specs.Syntax.{Placement}
@@ -21,11 +21,9 @@ use Rattle.sig_parse.specs.State.{State}
 use Rattle.sig_parse.specs.Reads.{Covers, IsLeaf}
 use Rattle.sig_parse.specs.Refusals.{Cause, Refuses}
 use Rattle.sig_parse.specs.Settling.{Settles, Closes}
-use Rattle.sig_parse.specs.Languages.{InLeaf, InLabel, InOne, counted}
-use Rattle.sig_parse.specs.Parts.{InSome, UpTo, IsBraced, InBraced, InPragma, InPragmaList, InPragmas}
+use Rattle.sig_parse.specs.Languages.{InLeaf, InLabel}
+use Rattle.sig_parse.specs.Parts.{InSome, UpTo, InNames, IsBraced, InBraced, InPragma, InPragmaList, InPragmas}
 use Rattle.sig_parse.proofs.RefusedConstants.{some_name, some_leaf}
-use Rattle.sig_parse.proofs.RefusedLists.{List_of}
-use Rattle.sig_parse.proofs.RefusedSides.{Name_of, none_of, no_operators}
 use Rattle.sig_parse.proofs.Leading.{Leads, Then, leads_refuses, leads_on, settles_on, refuses_where, settles_where, apart_nothing, then_first, leads_stopped, leads_alone, settled_once, Leaf_of, leaf_once, leads_leaf}
 use Rattle.sig_parse.proofs.RefusedDeclarations.{Always}
 use Rattle.sig_parse.proofs.Enclosures.{up_to_once, up_to_covered, each_refused, each_read, each_ends, optional_refused, optional_settled, optional_missing, leaf_next}
@@ -61,18 +59,14 @@ NamesThen limits leaves = Then (Always NameList) (InLeaf (mark (codes "}"))) lim
 as_braced : {cause : Cause} {here after : List Leaf} → Refuses Braces ContinuesNothing cause here after → Refuses InBraced ContinuesNothing cause here after
 as_braced {here = here} r = refuses_where Braces InBraced ContinuesNothing ContinuesNothing braced_of (λ back stops. stops) here (λ limits whole back is stops same. of_braced limits whole is) r
 
-plain_names : {cause : Cause} {here after : List Leaf} → Refuses (InOne (List_of Name_of (mark (codes ","))) (counted none_of) 0) ContinuesNames cause here after → Refuses (InSome NameList) ContinuesNames cause here after
-plain_names {here = here} r = refuses_where (InOne (List_of Name_of (mark (codes ","))) (counted none_of) 0) (InSome NameList) ContinuesNames ContinuesNames (λ limits leaves is. (is.0, is.1)) (λ back stops. stops) here
-    (λ limits whole back is stops same. (is.0, is.1, λ kept. let none = no_operators is.0 in omega arith)) r
-
 pub braced_open : {cause : Cause} {here after : List Leaf} → Refuses (InLeaf (mark (codes "{"))) ContinuesNothing cause here after → Refuses InBraced ContinuesNothing cause here after
 braced_open r = as_braced (then_first (Leaf_of (mark (codes "{"))) ContinuesNothing NamesThen ContinuesNothing (apart_nothing NamesThen ContinuesNothing) (some_leaf ∷ leaf (mark (codes "}")) no_place ∷ [])
     (λ limits. (some_name ∷ [], some_leaf ∷ [], leaf (mark (codes "}")) no_place ∷ [], refl, (some_leaf ∷ [], [], refl, refl, refl), (no_place, refl))) r)
 
 pub braced_inside : (opened : Span) {cause : Cause} {s t : State} {after : List Leaf} → Covers (IsLeaf (mark (codes "{")) opened) s t
-    → Refuses (InOne (List_of Name_of (mark (codes ","))) (counted none_of) 0) ContinuesNames cause t.leaves after → Refuses InBraced ContinuesNothing cause s.leaves after
+    → Refuses InNames ContinuesNames cause t.leaves after → Refuses InBraced ContinuesNothing cause s.leaves after
 braced_inside opened c r = as_braced (leads_refuses (leads_leaf (mark (codes "{")) NamesThen ContinuesNothing opened c)
-    (then_first (Always NameList) ContinuesNames (InLeaf (mark (codes "}"))) ContinuesNothing closing_apart (leaf (mark (codes "}")) no_place ∷ []) (λ limits. (no_place, refl)) (plain_names r)))
+    (then_first (Always NameList) ContinuesNames (InLeaf (mark (codes "}"))) ContinuesNothing closing_apart (leaf (mark (codes "}")) no_place ∷ []) (λ limits. (no_place, refl)) r))
 
 pub braced_close : (opened : Span) (names : List Name) {cause : Cause} {s t u : State} {after : List Leaf} → Covers (IsLeaf (mark (codes "{")) opened) s t → Covers (NameList names) t u → StopsBefore ContinuesNames u.leaves
     → Refuses (InLeaf (mark (codes "}"))) ContinuesNothing cause u.leaves after → Refuses InBraced ContinuesNothing cause s.leaves after

@@ -66,6 +66,10 @@ InInterface limits leaves = (inputs outputs : List Declared) × IsInterface inpu
 abbrev pub InTitle : Limits → List Leaf → Type 0
 InTitle limits leaves = InSome IsTitle limits leaves
 
+-- names with commas between them
+abbrev pub InNames : Limits → List Leaf → Type 0
+InNames limits leaves = InSome (Separated IsName (mark (codes ","))) limits leaves
+
 abbrev pub IsBraced : List Name → List Leaf → Type 0
 IsBraced names leaves = Between (mark (codes "{")) (mark (codes "}")) (Separated IsName (mark (codes ",")) names) leaves
 
