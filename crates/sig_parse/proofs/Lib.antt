@@ -50,3 +50,5 @@ pub mod Enclosures
 pub mod RefusedPragmas
 pub mod SettledBodies
 pub mod RefusedNames
+pub mod RefusedHeadings
+pub mod RefusedProcesses

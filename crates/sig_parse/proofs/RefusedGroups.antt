@@ -174,12 +174,12 @@ mark_begins_none text (Integer, e) = cc
 mark_begins_none text (Boolean, e) = cc
 mark_begins_none text (Event, e) = cc
 
-ending_mark : (t : Terminal) → EndsGroups t → BeginsGroup t → ⊥
+pub ending_mark : (t : Terminal) → EndsGroups t → BeginsGroup t → ⊥
 ending_mark t (inl e) begins = mark_begins_none (codes "}") (subst BeginsGroup e begins)
 ending_mark t (inr (inl e)) begins = mark_begins_none (codes "!") (subst BeginsGroup e begins)
 ending_mark t (inr (inr e)) begins = mark_begins_none (codes ")") (subst BeginsGroup e begins)
 
-ending_semicolon : (t : Terminal) → EndsGroups t → t ≡ mark (codes ";") → ⊥
+pub ending_semicolon : (t : Terminal) → EndsGroups t → t ≡ mark (codes ";") → ⊥
 ending_semicolon t (inl e) f = different (mark (codes "}")) (mark (codes ";")) refl refl (sym e ∙ f)
 ending_semicolon t (inr (inl e)) f = different (mark (codes "!")) (mark (codes ";")) refl refl (sym e ∙ f)
 ending_semicolon t (inr (inr e)) f = different (mark (codes ")")) (mark (codes ";")) refl refl (sym e ∙ f)
@@ -189,7 +189,7 @@ mark_no_item Parameters text none = none
 mark_no_item Inputs text none = none
 mark_no_item Signals text e = let both : mark text ≡ word (codes "init") = e in cc
 
-ending_continues : (declares : Declares) (t : Terminal) → EndsGroups t → ContinuesItems declares t → ⊥
+pub ending_continues : (declares : Declares) (t : Terminal) → EndsGroups t → ContinuesItems declares t → ⊥
 ending_continues declares t (inl e) (inl f) = different (mark (codes "}")) (mark (codes ",")) refl refl (sym e ∙ f)
 ending_continues declares t (inr (inl e)) (inl f) = different (mark (codes "!")) (mark (codes ",")) refl refl (sym e ∙ f)
 ending_continues declares t (inr (inr e)) (inl f) = different (mark (codes ")")) (mark (codes ",")) refl refl (sym e ∙ f)
@@ -197,7 +197,7 @@ ending_continues declares t (inl e) (inr continues) = mark_no_item declares (cod
 ending_continues declares t (inr (inl e)) (inr continues) = mark_no_item declares (codes "!") (subst (ContinuesItem declares) e continues)
 ending_continues declares t (inr (inr e)) (inr continues) = mark_no_item declares (codes ")") (subst (ContinuesItem declares) e continues)
 
-semicolon_continues : (declares : Declares) → ContinuesItems declares (mark (codes ";")) → ⊥
+pub semicolon_continues : (declares : Declares) → ContinuesItems declares (mark (codes ";")) → ⊥
 semicolon_continues declares (inl f) = different (mark (codes ";")) (mark (codes ",")) refl refl f
 semicolon_continues declares (inr continues) = mark_no_item declares (codes ";") continues
 
