@@ -52,3 +52,4 @@ pub mod SettledBodies
 pub mod RefusedNames
 pub mod RefusedHeadings
 pub mod RefusedProcesses
+pub mod RefusedModels

@@ -46,16 +46,16 @@ word_no_body text none apart (inr (inr (inl is))) = no_infix (word text) none de
 word_no_body text none apart (inr (inr (inr (low, inl e)))) = cc
 word_no_body text none apart (inr (inr (inr (low, inr e)))) = apart e
 
-where_no_body : ContinuesBody (word (codes "where")) → ⊥
+pub where_no_body : ContinuesBody (word (codes "where")) → ⊥
 where_no_body continues = word_no_body (codes "where") refl (different (word (codes "where")) (word (codes "init")) refl refl) continues
 
-semicolon_no_body : ContinuesBody (mark (codes ";")) → ⊥
+pub semicolon_no_body : ContinuesBody (mark (codes ";")) → ⊥
 semicolon_no_body (inl e) = different (mark (codes ";")) (mark (codes "^=")) refl refl e
 semicolon_no_body (inr (inl (inl e))) = different (mark (codes ";")) (mark (codes "(")) refl refl e
 semicolon_no_body (inr (inl (inr e))) = different (mark (codes ";")) (mark (codes "{")) refl refl e
 semicolon_no_body (inr (inr continues)) = mark_apart (codes ";") refl default_level continues
 
-pragmas_no_body : (t : Terminal) → BeginsBody t → ContinuesOptional (word (codes "pragmas")) t → ⊥
+pub pragmas_no_body : (t : Terminal) → BeginsBody t → ContinuesOptional (word (codes "pragmas")) t → ⊥
 pragmas_no_body t (inl e) same = let both : mark (codes "(|") ≡ word (codes "pragmas") = sym e ∙ same in cc
 pragmas_no_body t (inr (inl (inl (Not, e, tight)))) same = different (word (codes "not")) (word (codes "pragmas")) refl refl (sym e ∙ same)
 pragmas_no_body t (inr (inl (inl (Neg, e, tight)))) same = let both : mark (codes "-") ≡ word (codes "pragmas") = sym e ∙ same in cc
@@ -82,7 +82,7 @@ end_no_process : (t : Terminal) → BeginsProcess t → t ≡ word (codes "end")
 end_no_process t e f = different (word (codes "process")) (word (codes "end")) refl refl (sym e ∙ f)
 
 -- `process` NAME `=`
-title_once : OneReading IsTitle ContinuesNothing
+pub title_once : OneReading IsTitle ContinuesNothing
 title_once x y front other_front back other_back e (begun, equals, f) (other_begun, other_equals, g) stops other_stops =
     let first = cons_same _ _ _ _ (ap (λ ls. ls ++ back) (sym f) ∙ e ∙ ap (λ ls. ls ++ other_back) g) in
     let second = cons_same _ _ _ _ first.1 in
@@ -91,12 +91,12 @@ title_once x y front other_front back other_back e (begun, equals, f) (other_beg
     (name_same x y second.0, whole)
 
 -- within limits
-locals_within : (limits : Limits) (inner : ProcessModels) (depth : ℕ) (groups : List Declared) (leaves : List Leaf) → AreLocals both_limits inner depth groups leaves → AreLocals limits inner depth groups leaves
+pub locals_within : (limits : Limits) (inner : ProcessModels) (depth : ℕ) (groups : List Declared) (leaves : List Leaf) → AreLocals both_limits inner depth groups leaves → AreLocals limits inner depth groups leaves
 locals_within limits no_model depth groups leaves are = are
 locals_within limits (more_models model rest) depth groups leaves (before, after, front, middle, back, f, g, each, (may, is), are) =
     (before, after, front, middle, back, f, g, each, ((λ kept. may refl), model_within limits model (suc depth) middle is), locals_within limits rest depth after back are)
 
-locals_unlimited : (limits : Limits) (inner : ProcessModels) (depth : ℕ) (groups : List Declared) (leaves : List Leaf) → AreLocals limits inner depth groups leaves → AreLocals no_limits inner depth groups leaves
+pub locals_unlimited : (limits : Limits) (inner : ProcessModels) (depth : ℕ) (groups : List Declared) (leaves : List Leaf) → AreLocals limits inner depth groups leaves → AreLocals no_limits inner depth groups leaves
 locals_unlimited limits no_model depth groups leaves are = are
 locals_unlimited limits (more_models model rest) depth groups leaves (before, after, front, middle, back, f, g, each, (may, is), are) =
     (before, after, front, middle, back, f, g, each, ((λ kept. cc), model_unlimited limits model (suc depth) (suc depth) middle is), locals_unlimited limits rest depth after back are)
@@ -208,7 +208,7 @@ module _ (depth : ℕ) where
     (ended, front ++ inside, e ∙ ap (λ ls. front ++ ls) f ∙ sym (append_assoc front inside (leaf (word (codes "end")) ended ∷ [])), ([], groups, [], front, inside, refl, refl, refl, is, are)),
   )
 
-  process_from : (here : List Leaf) → StartsWith BeginsProcess here → (limits : Limits) (whole back : List Leaf) → InDeclared depth limits whole → SameFirst here (whole ++ back) → ProcessFirst limits whole
+  pub process_from : (here : List Leaf) → StartsWith BeginsProcess here → (limits : Limits) (whole back : List Leaf) → InDeclared depth limits whole → SameFirst here (whole ++ back) → ProcessFirst limits whole
   process_from here next limits whole back (([], no_model), (ended, inside, e, none)) same =
       absurd (both_begin BeginsProcess (λ t. t ≡ word (codes "end")) end_no_process (leaf (word (codes "end")) ended ∷ back)
       (starts_same BeginsProcess here (leaf (word (codes "end")) ended ∷ back) (subst (λ (ls : List Leaf). SameFirst here (ls ++ back)) (e ∙ ap (λ ls. ls ++ leaf (word (codes "end")) ended ∷ []) none) same) next) refl)
