@@ -30,8 +30,8 @@ use Rattle.sig_parse.specs.Ahead.{StartsThen, BeginsCall, BeginsDefinition}
 use Rattle.sig_parse.specs.Refusals.{Agrees}
 use Rattle.sig_parse.specs.Settling.{Settles}
 use Rattle.sig_parse.specs.Languages.{InLeft, InRight, InDefinition, InClockEquation}
+use Rattle.sig_parse.specs.Parts.{InBody}
 use Rattle.sig_parse.proofs.Refusing.{SameFirst, first_stops}
-use Rattle.sig_parse.proofs.RefusedBodies.{InBody}
 use Rattle.sig_parse.proofs.RefusedLevels.{fewer}
 use Rattle.sig_parse.proofs.Leading.{Leads, Then, leads_on, settles_on, settles_where, leads_where, leads_alone, leads_leaf, Leaf_of, behind_agrees, same_behind, settled_once, starts_same, starts_or_stops}
 use Rattle.sig_parse.proofs.Enclosures.{both_begin}

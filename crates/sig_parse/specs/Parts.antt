@@ -89,6 +89,10 @@ InPragmas limits leaves = InSome ArePragmas limits leaves
 abbrev pub InLocalGroup : Limits → List Leaf → Type 0
 InLocalGroup limits leaves = InSome IsLocalGroup limits leaves
 
+-- a body inside so many constructs
+abbrev pub InBody : ℕ → Limits → List Leaf → Type 0
+InBody depth limits leaves = (body : Equations) × IsBody limits body depth leaves
+
 -- a process whose contents stand inside so many constructs, and one inside such a process
 abbrev pub InProcess : ℕ → Limits → List Leaf → Type 0
 InProcess depth limits leaves = (model : ProcessModel) × IsModel limits model depth leaves
