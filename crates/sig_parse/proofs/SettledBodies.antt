@@ -99,13 +99,13 @@ module _ (depth used : ℕ) where
         whole
 
 -- "|)" continues no bodies
-mark_no_body : (text : List ℕ) → (mark text ≡ mark (codes "^=") → ⊥) → (mark text ≡ mark (codes "(") → ⊥) → (mark text ≡ mark (codes "{") → ⊥) → (ContinuesExpression default_level (mark text) → ⊥) → ContinuesBody (mark text) → ⊥
+pub mark_no_body : (text : List ℕ) → (mark text ≡ mark (codes "^=") → ⊥) → (mark text ≡ mark (codes "(") → ⊥) → (mark text ≡ mark (codes "{") → ⊥) → (ContinuesExpression default_level (mark text) → ⊥) → ContinuesBody (mark text) → ⊥
 mark_no_body text a b c d (inl e) = a e
 mark_no_body text a b c d (inr (inl (inl e))) = b e
 mark_no_body text a b c d (inr (inl (inr e))) = c e
 mark_no_body text a b c d (inr (inr e)) = d e
 
-ending_begins_none : BeginsBody (mark (codes "|)")) → ⊥
+pub ending_begins_none : BeginsBody (mark (codes "|)")) → ⊥
 ending_begins_none (inl e) = different (mark (codes "|)")) (mark (codes "(|")) refl refl e
 ending_begins_none (inr (inl (inl (Not, e, tight)))) = cc
 ending_begins_none (inr (inl (inl (Neg, e, tight)))) = different (mark (codes "|)")) (mark (codes "-")) refl refl e
