@@ -54,3 +54,4 @@ pub mod RefusedHeadings
 pub mod RefusedProcesses
 pub mod RefusedModels
 pub mod RefusedTogether
+pub mod RefusedDefinitions

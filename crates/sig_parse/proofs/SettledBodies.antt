@@ -125,20 +125,20 @@ bodies_apart (inr (inr continues)) = mark_no_body (codes "|)") (different (mark 
 
 module _ (depth : ℕ) where
   -- a definition, from its right side
-  abbrev Left_of : Limits → List Name → List Leaf → Type 0
+  abbrev pub Left_of : Limits → List Name → List Leaf → Type 0
   Left_of limits names leaves = IsLeft limits depth names leaves
 
-  abbrev SignThen : Limits → List Leaf → Type 0
+  abbrev pub SignThen : Limits → List Leaf → Type 0
   SignThen limits leaves = Then (Leaf_of (mark (codes ":="))) (InRight depth 0) limits leaves
 
-  abbrev Defining : Limits → List Leaf → Type 0
+  abbrev pub Defining : Limits → List Leaf → Type 0
   Defining limits leaves = Then Left_of SignThen limits leaves
 
-  defining : (limits : Limits) (leaves : List Leaf) → InDefinition depth limits leaves → Defining limits leaves
+  pub defining : (limits : Limits) (leaves : List Leaf) → InDefinition depth limits leaves → Defining limits leaves
   defining limits leaves (names, right, (at, front, back, e, is_left, is_right, few)) =
       (names, front, leaf (mark (codes ":=")) at ∷ back, e, is_left, (at, leaf (mark (codes ":=")) at ∷ [], back, refl, refl, (right, is_right, fewer limits (0 + right_operators right) (right_operators right) (omega arith) few)))
 
-  defined : (limits : Limits) (leaves : List Leaf) → Defining limits leaves → InDefinition depth limits leaves
+  pub defined : (limits : Limits) (leaves : List Leaf) → Defining limits leaves → InDefinition depth limits leaves
   defined limits leaves (names, front, back, e, is_left, (at, sign, rest, f, g, (right, is_right, few))) =
       (names, right, (at, front, rest, e ∙ ap (λ ls. front ++ ls) (f ∙ ap (λ ls. ls ++ rest) g), is_left, is_right, fewer limits (right_operators right) (0 + right_operators right) (omega arith) few))
 
