@@ -195,3 +195,12 @@ Leaf_of t limits at leaves = IsLeaf t at leaves
 
 pub leads_leaf : (t : Terminal) (Rest : Limits → List Leaf → Type 0) (Continues : Terminal → Type 0) (at : Span) {s u : State} → Covers (IsLeaf t at) s u → Leads (Then (Leaf_of t) Rest) Continues Rest Continues s.leaves u.leaves
 leads_leaf t Rest Continues at c = leads_alone (Leaf_of t) Rest Continues (leaf_once t) (λ limits x leaves is. is) (λ limits x leaves is. is) at c
+
+-- nothing was passed
+pub leads_nowhere : (Is : Limits → List Leaf → Type 0) (Continues : Terminal → Type 0) (here : List Leaf) → Leads Is Continues Is Continues here here
+leads_nowhere Is Continues here = record {
+  front = [];
+  split = refl;
+  extend = λ limits leaves is. is;
+  left = λ limits rest whole back e is stops same. (whole, e, is, stops);
+}

@@ -48,3 +48,11 @@ pub mod Rows
 pub mod AheadLemmas
 pub mod RefusedChoice
 pub mod RefusedDeclarations
+pub mod RefusedGroups
+pub mod Enclosures
+pub mod RefusedPragmas
+pub mod SettledBodies
+pub mod RefusedNames
+pub mod RefusedHeadings
+pub mod RefusedProcesses
+pub mod RefusedModels

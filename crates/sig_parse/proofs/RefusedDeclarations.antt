@@ -22,14 +22,16 @@ use Rattle.sig_tree.proofs.ReadDeclarations.{plain_item_once}
 use Rattle.sig_parse.specs.declared.declaration.Declares.{Declares}
 use Rattle.sig_parse.specs.declared.declaration.Declares.TheVariants.{Parameters, Inputs, Signals}
 use Rattle.sig_parse.specs.Declarations.{IsItemOf, IsGroupOf}
+use Rattle.sig_parse.specs.declared.refusal.Refusal.{Refusal}
+use Rattle.sig_parse.specs.declared.refusal.Refusal.TheVariants.{Syntax}
 use Rattle.sig_parse.specs.State.{State}
 use Rattle.sig_parse.specs.Reads.{Covers, IsLeaf}
-use Rattle.sig_parse.specs.Refusals.{Cause, Wrong, Refuses}
+use Rattle.sig_parse.specs.Refusals.{Cause, Wrong, cause_of, Refuses, RefusedBy}
 use Rattle.sig_parse.specs.Settling.{Settles}
-use Rattle.sig_parse.specs.Languages.{InOptionalInit}
+use Rattle.sig_parse.specs.Languages.{InLeaf, InOptionalInit}
 use Rattle.sig_parse.specs.Parts.{InAny, InSome, IsKindOf, InKind, InItem, InItems, InGroup, ContinuesItem, ContinuesItems}
 use Rattle.sig_parse.proofs.Refusing.{SameFirst, refuses_at_once}
-use Rattle.sig_parse.proofs.RefusedConstants.{some_name, some_leaf, InLeaf}
+use Rattle.sig_parse.proofs.RefusedConstants.{some_name, some_leaf}
 use Rattle.sig_parse.proofs.Leading.{Leads, Then, Apart, leads_refuses, settles_on, refuses_where, leads_where, settles_where, apart_nothing, then_first, leads_alone, settled_once, starts_or_stops}
 use Rattle.sig_parse.proofs.Rows.{Row, RowRest, ContinuesRow, row_refused, row_item, row_separated, row_ends}
 
@@ -201,3 +203,20 @@ pub group_settled : (declares : Declares) (kind : Kind) (at : Span) → (declare
     → Settles (InItems declares) (ContinuesItems declares) t.leaves after → Settles (InGroup declares) (ContinuesItems declares) s.leaves after
 group_settled declares kind at may {s = s} c k = settles_where (KindThen declares) (InGroup declares) (ContinuesItems declares) (ContinuesItems declares) (group_of declares) (λ back stops. stops) s.leaves (λ limits whole back is stops same. of_group declares limits whole is)
     (settles_on (kind_leads declares kind at may c) k)
+
+-- the same of where the parser stands
+no_kind_before : {s t u : State} → (t ≡ s) × StopsBefore (λ k. k ≡ word (codes "integer")) s.leaves → (u ≡ t) × StopsBefore (λ k. k ≡ word (codes "boolean")) t.leaves
+    → (u ≡ s) × StopsBefore (λ k. k ≡ word (codes "boolean")) s.leaves
+no_kind_before {s} {t} {u} h k = (k.0 ∙ h.0, subst (λ (x : State). StopsBefore (λ k. k ≡ word (codes "boolean")) x.leaves) h.0 k.1)
+
+pub no_parameter : (declares : Declares) → declares ≡ Parameters → {s t u : State} → (t ≡ s) × StopsBefore (λ k. k ≡ word (codes "integer")) s.leaves → (u ≡ t) × StopsBefore (λ k. k ≡ word (codes "boolean")) t.leaves
+    → RefusedBy (InKind declares) ContinuesNothing s u Syntax
+no_parameter declares is {s} {t} {u} h k =
+    let none = no_kind_before h k in
+    λ text. subst (λ (x : State). Refuses (InKind declares) ContinuesNothing Wrong s.leaves x.leaves) (sym none.0) (kind_of_parameter declares is s.leaves h.1 none.1)
+
+pub no_event : (declares : Declares) → (declares ≡ Parameters → ⊥) → (why : Refusal) (v : State) {s t u : State} → (t ≡ s) × StopsBefore (λ k. k ≡ word (codes "integer")) s.leaves → (u ≡ t) × StopsBefore (λ k. k ≡ word (codes "boolean")) t.leaves
+    → RefusedBy (InLeaf (word (codes "event"))) ContinuesNothing u v why → RefusedBy (InKind declares) ContinuesNothing s v why
+no_event declares other why v {s} {t} {u} h k r =
+    let none = no_kind_before h k in
+    λ text. kind_of_event declares other h.1 none.1 (subst (λ (x : State). Refuses (InLeaf (word (codes "event"))) ContinuesNothing (cause_of why) x.leaves v.leaves) none.0 (r text))

@@ -14,3 +14,7 @@ BeginsDefinition leaves = StartsThen BeginsName (StartsWith (λ t. t ≡ mark (c
     ⊎ StartsThen (λ t. t ≡ mark (codes "(")) (StartsThen BeginsName (λ rest.
     StartsWith (λ t. t ≡ mark (codes ",")) rest
     ⊎ StartsThen (λ t. t ≡ mark (codes ")")) (StartsWith (λ t. t ≡ mark (codes ":="))) rest)) leaves
+
+-- NAME "(", or NAME "{"
+abbrev pub BeginsCall : List Leaf → Type 0
+BeginsCall leaves = StartsThen BeginsName (StartsWith (λ t. (t ≡ mark (codes "(")) ⊎ (t ≡ mark (codes "{")))) leaves

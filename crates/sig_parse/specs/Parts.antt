@@ -1,5 +1,5 @@
 -- Languages of declarations, pragmas, processes and programs.
-use Rattle.std.specs.Prelude.{◌≡◌, ◌≢◌, ◌++◌, ℕ, suc, List, [], ◌∷◌, codes}
+use Rattle.std.specs.Prelude.{◌≡◌, ◌≢◌, ◌++◌, ◌⊎◌, ℕ, suc, List, [], ◌∷◌, codes}
 use Rattle.sig_base.specs.declared.span.Span.{Span}
 use Rattle.sig_base.specs.declared.ids.Kind.{Kind}
 use Rattle.sig_base.specs.declared.ids.Kind.TheVariants.{Event}
@@ -9,12 +9,12 @@ use Rattle.sig_tree.specs.Terminals.{Terminal, Leaf, leaf, kind_word, word, mark
 use Rattle.sig_tree.specs.Limits.{Limits, MayStandInside}
 use Rattle.sig_tree.specs.Repeated.{Between, Each, Separated}
 use Rattle.sig_tree.specs.Equations.{IsName, IsBody}
-use Rattle.sig_tree.specs.Processes.{IsInterface, AreParams, AreGroups, IsPlacement, ArePragmas, IsLocalGroup, IsModel, AreLocals, IsWhere}
+use Rattle.sig_tree.specs.Processes.{AreParams, AreGroups, IsPlacement, ArePragmas, IsLocalGroup, IsModel, AreLocals, IsWhere}
 use Rattle.sig_tree.specs.Grammar.{IsProgram}
 use Rattle.sig_tree.specs.Continuing.{ContinuesNothing, ContinuesInit, ContinuesList}
 use Rattle.sig_parse.specs.declared.declaration.Declares.{Declares}
 use Rattle.sig_parse.specs.declared.declaration.Declares.TheVariants.{Parameters, Inputs, Signals}
-use Rattle.sig_parse.specs.Declarations.{IsItemOf, IsGroupOf, IsTitle}
+use Rattle.sig_parse.specs.Declarations.{IsItemOf, IsGroupOf, IsTitle, HasSides}
 
 -- something of these
 abbrev pub InAny : {A : Type 0} → (Limits → A → List Leaf → Type 0) → Limits → List Leaf → Type 0
@@ -61,10 +61,14 @@ abbrev pub InParams : Limits → List Leaf → Type 0
 InParams limits leaves = InSome AreParams limits leaves
 
 abbrev pub InInterface : Limits → List Leaf → Type 0
-InInterface limits leaves = (inputs outputs : List Declared) × IsInterface inputs outputs leaves
+InInterface limits leaves = InSome HasSides limits leaves
 
 abbrev pub InTitle : Limits → List Leaf → Type 0
 InTitle limits leaves = InSome IsTitle limits leaves
+
+-- names with commas between them
+abbrev pub InNames : Limits → List Leaf → Type 0
+InNames limits leaves = InSome (Separated IsName (mark (codes ","))) limits leaves
 
 abbrev pub IsBraced : List Name → List Leaf → Type 0
 IsBraced names leaves = Between (mark (codes "{")) (mark (codes "}")) (Separated IsName (mark (codes ",")) names) leaves
@@ -92,12 +96,22 @@ InProcess depth limits leaves = (model : ProcessModel) × IsModel limits model d
 abbrev pub InInner : ℕ → Limits → List Leaf → Type 0
 InInner depth limits leaves = MayStandInside limits depth × InProcess (suc depth) limits leaves
 
--- what is declared behind `where`, up to `end`, and from `where` on
+-- groups and inner processes in any order, these up to `end`, and these from `where` on
+abbrev pub IsDeclared : ℕ → Limits → List Declared × ProcessModels → List Leaf → Type 0
+IsDeclared depth limits declared leaves = AreLocals limits declared.1 depth declared.0 leaves
+
 abbrev pub InDeclared : ℕ → Limits → List Leaf → Type 0
-InDeclared depth limits leaves = (groups : List Declared) × (inner : ProcessModels) × UpTo (word (codes "end")) (AreLocals limits inner depth) groups leaves
+InDeclared depth limits leaves = InSome (UpTo (word (codes "end")) (IsDeclared depth limits)) limits leaves
+
+abbrev pub IsWherePart : ℕ → Limits → List Declared × ProcessModels → List Leaf → Type 0
+IsWherePart depth limits declared leaves = IsWhere declared.0 declared.1 (IsDeclared depth limits declared) leaves
 
 abbrev pub InWhere : ℕ → Limits → List Leaf → Type 0
-InWhere depth limits leaves = (groups : List Declared) × (inner : ProcessModels) × IsWhere groups inner (AreLocals limits inner depth groups) leaves
+InWhere depth limits leaves = InAny (IsWherePart depth) limits leaves
 
 abbrev pub InProgram : Limits → List Leaf → Type 0
 InProgram limits leaves = (processes : List ProcessModel) × IsProgram limits processes leaves
+
+-- a mark that ends groups
+abbrev pub EndsGroups : Terminal → Type 0
+EndsGroups t = (t ≡ mark (codes "}")) ⊎ ((t ≡ mark (codes "!")) ⊎ (t ≡ mark (codes ")")))

@@ -1,12 +1,16 @@
 //! The sides of definitions.
 
-ghost use Rattle.std.specs.Prelude.{codes, map, sum_by, IfOk, IfErr};
+ghost use Rattle.std.specs.Prelude.{codes, map, sum_by, IfOk, OnOk, IfErr};
 ghost use Rattle.sig_tree.specs.Syntax.{expression_of, right_side_of};
 ghost use Rattle.sig_tree.specs.Terminals.{mark};
 ghost use Rattle.sig_tree.specs.Limits.{both_limits, operators, right_operators};
 ghost use Rattle.sig_tree.specs.Repeated.{Separated, Listed};
 ghost use Rattle.sig_tree.specs.Expressions.{IsConstant, IsExpression};
 ghost use Rattle.sig_tree.specs.Equations.{IsName, IsLeft, AreConstants, AreArguments, IsRight};
+ghost use Rattle.sig_tree.specs.Readings.{StopsBefore};
+ghost use Rattle.sig_tree.specs.Continuing.{ContinuesNothing, ContinuesList};
+ghost use Rattle.sig_parse.specs.Parts.{InNames};
+ghost use Rattle.sig_parse.specs.Refusals.{RefusedBy};
 ghost use Rattle.sig_parse.specs.Reads.{Reads};
 ghost use Rattle.sig_parse.specs.Stalls.{IsOfText, Counted, Plain, Stalls};
 
@@ -23,6 +27,8 @@ use std::alloc::Global;
 pub fn names(alloc: Global, parser: &mut Parser) -> Result<Vec<Name>, Refusal>
     ensures reads { IfOk result (λ names. Reads (Separated IsName (mark (codes ",")) names.items) 0 parser.old parser.new) }
     ensures viable { IfErr result (λ why. IsOfText why → Stalls (Plain (Separated IsName (mark (codes ",")))) parser.old parser.new) }
+    ensures stops { OnOk result (StopsBefore (ContinuesList (mark (codes ",")) ContinuesNothing) parser.new.leaves) }
+    ensures refuses { IfErr result (RefusedBy InNames (ContinuesList (mark (codes ",")) ContinuesNothing) parser.old parser.new) }
 {
     let mut all = Vec::new(alloc);
     all.push(parser.name(alloc)?)?;
