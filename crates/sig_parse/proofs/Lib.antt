@@ -40,6 +40,7 @@ pub mod RefusedOperands
 pub mod RefusedSteps
 pub mod RefusedPrimaries
 pub mod RefusedLists
+pub mod RefusedRows
 pub mod RefusedSides
 pub mod RefusedEquations
 pub mod RefusedBodies
