@@ -57,3 +57,4 @@ pub mod RefusedNames
 pub mod RefusedHeadings
 pub mod RefusedProcesses
 pub mod RefusedModels
+pub mod RefusedTogether

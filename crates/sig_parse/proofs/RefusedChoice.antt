@@ -27,10 +27,10 @@ use Rattle.sig_tree.proofs.ReadBodies.{together_apart, definition_starts}
 use Rattle.sig_parse.specs.Ahead.{StartsThen, BeginsDefinition}
 use Rattle.sig_parse.specs.Refusals.{Cause, Wrong, TooDeep, TooMany, refused_within, Reaches, ReachesNext, IsAllowed, Agrees, Refuses}
 use Rattle.sig_parse.specs.Languages.{InDefinition, InClockEquation}
+use Rattle.sig_parse.specs.Parts.{InBody}
 use Rattle.sig_parse.proofs.Refusing.{SameFirst, agrees_first}
 use Rattle.sig_parse.proofs.RefusedConstants.{some_name, some_leaf}
 use Rattle.sig_parse.proofs.RefusedSides.{counted_sum}
-use Rattle.sig_parse.proofs.RefusedBodies.{InBody}
 use Rattle.sig_parse.proofs.Leading.{starts_or_stops, starts_same}
 use Rattle.sig_parse.proofs.AheadLemmas.{names_read, name_of_leaf, leaf_is, clock_opens, definition_opens, definition_ahead}
 

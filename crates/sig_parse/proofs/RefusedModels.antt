@@ -19,19 +19,20 @@ use Rattle.sig_tree.proofs.Combining.{append_to, starts_apart}
 use Rattle.sig_tree.proofs.ReadEquations.{named_alone}
 use Rattle.sig_tree.proofs.ReadDeclarations.{interface_once}
 use Rattle.sig_parse.specs.Declarations.{IsTitle, HasSides, AreBehindWhere}
+use Rattle.sig_parse.specs.declared.refusal.Refusal.{Refusal}
+use Rattle.sig_parse.specs.declared.refusal.Refusal.TheVariants.{Nesting}
 use Rattle.sig_parse.specs.State.{State}
 use Rattle.sig_parse.specs.Reads.{Covers, IsLeaf}
-use Rattle.sig_parse.specs.Refusals.{Cause, TooDeep, Refuses}
+use Rattle.sig_parse.specs.Refusals.{Cause, TooDeep, cause_of, Refuses, RefusedBy}
 use Rattle.sig_parse.specs.Settling.{Settles}
 use Rattle.sig_parse.specs.Languages.{InLeaf}
-use Rattle.sig_parse.specs.Parts.{InTitle, InParams, InInterface, InPragmas, InProcess, IsDeclared, InDeclared, IsWherePart, InWhere}
+use Rattle.sig_parse.specs.Parts.{InBody, InTitle, InParams, InInterface, InPragmas, InProcess, IsDeclared, InDeclared, IsWherePart, InWhere}
 use Rattle.sig_parse.proofs.Refusing.{SameFirst, agrees_first}
 use Rattle.sig_parse.proofs.RefusedConstants.{some_name, some_leaf}
-use Rattle.sig_parse.proofs.RefusedBodies.{InBody}
 use Rattle.sig_parse.proofs.Leading.{Leads, Then, Apart, leads_refuses, leads_on, refuses_where, apart_nothing, then_first, leads_settled, leads_alone, starts_same}
 use Rattle.sig_parse.proofs.RefusedDeclarations.{Always}
 use Rattle.sig_parse.proofs.AheadLemmas.{leaf_is}
-use Rattle.sig_parse.proofs.RefusedProcesses.{where_no_body, semicolon_no_body, pragmas_no_body, title_once, locals_within, locals_unlimited, chained, chained_locals, process_from}
+use Rattle.sig_parse.proofs.RefusedProcesses.{where_no_body, semicolon_no_body, pragmas_no_body, title_once, locals_within, locals_unlimited, chained, chained_locals, process_from, declared_process}
 
 module _ (depth : ℕ) where
   -- the parts of a process, each with those behind it
@@ -244,3 +245,10 @@ declared_too_deep depth deep (l ∷ more) next = record {
       let shallow : depth < 64 = first.4.0 refl in
       omega arith;
 }
+
+pub inner_too_deep : (depth : ℕ) (why : Refusal) (s : State) → (why ≡ Nesting) × (64 ≤ depth) → StartsWith BeginsProcess s.leaves → RefusedBy (InDeclared depth) ContinuesNothing s s why
+inner_too_deep depth why s deep next = λ text. subst (λ (w : Refusal). Refuses (InDeclared depth) ContinuesNothing (cause_of w) s.leaves s.leaves) (sym deep.0) (declared_too_deep depth deep.1 s.leaves next)
+
+pub inner_refused : (depth inner : ℕ) → (depth < 64) × (inner ≡ suc depth) → {cause : Cause} {here after : List Leaf} → StartsWith BeginsProcess here → Refuses (InProcess inner) ContinuesNothing cause here after
+    → Refuses (InDeclared depth) ContinuesNothing cause here after
+inner_refused depth inner deeper {cause} {here} {after} next r = declared_process depth deeper.0 next (subst (λ (d : ℕ). Refuses (InProcess d) ContinuesNothing cause here after) deeper.1 r)

@@ -29,10 +29,9 @@ use Rattle.sig_parse.specs.Reads.{Covers, IsLeaf}
 use Rattle.sig_parse.specs.Refusals.{Cause, TooDeep, Refuses}
 use Rattle.sig_parse.specs.Settling.{Settles, Closes}
 use Rattle.sig_parse.specs.Languages.{InLeaf}
-use Rattle.sig_parse.specs.Parts.{InAny, InSome, UpTo, InTitle, InParams, InInterface, InPragmas, InLocalGroup, InProcess, IsDeclared, InDeclared, IsWherePart, InWhere}
+use Rattle.sig_parse.specs.Parts.{InBody, InAny, InSome, UpTo, InTitle, InParams, InInterface, InPragmas, InLocalGroup, InProcess, IsDeclared, InDeclared, IsWherePart, InWhere}
 use Rattle.sig_parse.proofs.Refusing.{SameFirst, agrees_first}
 use Rattle.sig_parse.proofs.RefusedConstants.{some_name, some_leaf}
-use Rattle.sig_parse.proofs.RefusedBodies.{InBody}
 use Rattle.sig_parse.proofs.Leading.{Leads, Then, Apart, leads_refuses, leads_on, settles_on, refuses_where, leads_where, apart_nothing, then_first, leads_settled, leads_alone, settled_once, Leaf_of, leaf_once, leads_leaf, starts_or_stops, starts_same}
 use Rattle.sig_parse.proofs.RefusedDeclarations.{Always}
 use Rattle.sig_parse.proofs.Enclosures.{both_begin, starts_as, up_to_once, up_to_covered, optional_refused, optional_settled, optional_missing, leaf_next}

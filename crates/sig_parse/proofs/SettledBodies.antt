@@ -30,8 +30,8 @@ use Rattle.sig_parse.specs.Ahead.{StartsThen, BeginsCall, BeginsDefinition}
 use Rattle.sig_parse.specs.Refusals.{Agrees}
 use Rattle.sig_parse.specs.Settling.{Settles}
 use Rattle.sig_parse.specs.Languages.{InLeft, InRight, InDefinition, InClockEquation}
+use Rattle.sig_parse.specs.Parts.{InBody}
 use Rattle.sig_parse.proofs.Refusing.{SameFirst, first_stops}
-use Rattle.sig_parse.proofs.RefusedBodies.{InBody}
 use Rattle.sig_parse.proofs.RefusedLevels.{fewer}
 use Rattle.sig_parse.proofs.Leading.{Leads, Then, leads_on, settles_on, settles_where, leads_where, leads_alone, leads_leaf, Leaf_of, behind_agrees, same_behind, settled_once, starts_same, starts_or_stops}
 use Rattle.sig_parse.proofs.Enclosures.{both_begin}
@@ -99,13 +99,13 @@ module _ (depth used : ℕ) where
         whole
 
 -- "|)" continues no bodies
-mark_no_body : (text : List ℕ) → (mark text ≡ mark (codes "^=") → ⊥) → (mark text ≡ mark (codes "(") → ⊥) → (mark text ≡ mark (codes "{") → ⊥) → (ContinuesExpression default_level (mark text) → ⊥) → ContinuesBody (mark text) → ⊥
+pub mark_no_body : (text : List ℕ) → (mark text ≡ mark (codes "^=") → ⊥) → (mark text ≡ mark (codes "(") → ⊥) → (mark text ≡ mark (codes "{") → ⊥) → (ContinuesExpression default_level (mark text) → ⊥) → ContinuesBody (mark text) → ⊥
 mark_no_body text a b c d (inl e) = a e
 mark_no_body text a b c d (inr (inl (inl e))) = b e
 mark_no_body text a b c d (inr (inl (inr e))) = c e
 mark_no_body text a b c d (inr (inr e)) = d e
 
-ending_begins_none : BeginsBody (mark (codes "|)")) → ⊥
+pub ending_begins_none : BeginsBody (mark (codes "|)")) → ⊥
 ending_begins_none (inl e) = different (mark (codes "|)")) (mark (codes "(|")) refl refl e
 ending_begins_none (inr (inl (inl (Not, e, tight)))) = cc
 ending_begins_none (inr (inl (inl (Neg, e, tight)))) = different (mark (codes "|)")) (mark (codes "-")) refl refl e

@@ -1,5 +1,6 @@
 -- What begins with the next leaves, where one of them does not tell.
-use Rattle.std.specs.Prelude.{◌≡◌, ◌⊎◌, List, [], ◌∷◌, codes}
+use Rattle.std.specs.Prelude.{◌≡◌, ◌⊎◌, ℕ, List, [], ◌∷◌, codes, MatchOption}
+use Rattle.std.specs.List.{slice_get}
 use Rattle.sig_tree.specs.Terminals.{Terminal, Leaf, mark}
 use Rattle.sig_tree.specs.Beginning.{StartsWith, BeginsName}
 
@@ -7,6 +8,10 @@ use Rattle.sig_tree.specs.Beginning.{StartsWith, BeginsName}
 abbrev pub StartsThen : (Terminal → Type 0) → (List Leaf → Type 0) → List Leaf → Type 0
 StartsThen Begins Behind [] = ⊥
 StartsThen Begins Behind (l ∷ leaves) = Begins l.terminal × Behind leaves
+
+-- the leaf at an index is there and in the set
+abbrev pub StandsAt : (Terminal → Type 0) → ℕ → List Leaf → Type 0
+StandsAt Is index leaves = MatchOption (slice_get leaves index) ⊥ (λ l. Is l.terminal)
 
 -- NAME ":=", or "(" NAME ",", or "(" NAME ")" ":="
 abbrev pub BeginsDefinition : List Leaf → Type 0

@@ -7,7 +7,7 @@ use Rattle.sig_tree.specs.declared.expr.Name.{Name}
 use Rattle.sig_tree.specs.Syntax.{Declared, Placement, Equations, ProcessModel, ProcessModels}
 use Rattle.sig_tree.specs.Terminals.{Terminal, Leaf, leaf, kind_word, word, mark}
 use Rattle.sig_tree.specs.Limits.{Limits, MayStandInside}
-use Rattle.sig_tree.specs.Repeated.{Between, Each, Separated}
+use Rattle.sig_tree.specs.Repeated.{Between, Each, Separated, Listed}
 use Rattle.sig_tree.specs.Equations.{IsName, IsBody}
 use Rattle.sig_tree.specs.Processes.{AreParams, AreGroups, IsPlacement, ArePragmas, IsLocalGroup, IsModel, AreLocals, IsWhere}
 use Rattle.sig_tree.specs.Grammar.{IsProgram}
@@ -88,6 +88,17 @@ InPragmas limits leaves = InSome ArePragmas limits leaves
 
 abbrev pub InLocalGroup : Limits → List Leaf → Type 0
 InLocalGroup limits leaves = InSome IsLocalGroup limits leaves
+
+-- a body inside so many constructs
+abbrev pub InBody : ℕ → Limits → List Leaf → Type 0
+InBody depth limits leaves = (body : Equations) × IsBody limits body depth leaves
+
+-- bodies up to "|)"
+abbrev pub Body_at : ℕ → Limits → Equations → List Leaf → Type 0
+Body_at depth limits body leaves = IsBody limits body depth leaves
+
+abbrev pub InBodies : ℕ → Limits → List Leaf → Type 0
+InBodies depth limits leaves = InSome (UpTo (mark (codes "|)")) (Listed (Body_at depth limits) (mark (codes "|")))) limits leaves
 
 -- a process whose contents stand inside so many constructs, and one inside such a process
 abbrev pub InProcess : ℕ → Limits → List Leaf → Type 0

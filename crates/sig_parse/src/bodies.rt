@@ -1,12 +1,16 @@
 //! Definitions, clock equations and bodies.
 
-ghost use Rattle.std.specs.Prelude.{◌≡◌, codes, map, IfOk, IfErr};
+ghost use Rattle.std.specs.Prelude.{◌≡◌, codes, map, IfOk, OnOk, IfErr};
 ghost use Rattle.sig_tree.specs.Syntax.{expression_of, equations_of};
 ghost use Rattle.sig_tree.specs.Terminals.{mark};
 ghost use Rattle.sig_tree.specs.Limits.{both_limits};
 ghost use Rattle.sig_tree.specs.Repeated.{Listed};
 ghost use Rattle.sig_tree.specs.Equations.{IsClockEquation, IsBody};
+ghost use Rattle.sig_tree.specs.Continuing.{ContinuesBody};
+ghost use Rattle.sig_parse.specs.Parts.{InBody};
 ghost use Rattle.sig_parse.specs.Reads.{Covers};
+ghost use Rattle.sig_parse.specs.Refusals.{RefusedBy};
+ghost use Rattle.sig_parse.specs.Settling.{Settles};
 ghost use Rattle.sig_parse.specs.Stalls.{IsOfText, Some, Halts};
 
 use crate::ahead::begins_definition;
@@ -62,6 +66,8 @@ fn operands(alloc: Global, parser: &mut Parser, depth: u32) -> Result<Vec<Expr>,
 pub fn body(alloc: Global, parser: &mut Parser, depth: u32) -> Result<Body, Refusal>
     ensures reads { IfOk result (λ body. Covers (IsBody both_limits (equations_of body) depth) parser.old parser.new) }
     ensures viable { IfErr result (λ why. IsOfText why → Halts (Some (λ body leaves. IsBody both_limits body depth leaves)) parser.old parser.new) }
+    ensures settles { OnOk result (Settles (InBody depth) ContinuesBody parser.old.leaves parser.new.leaves) }
+    ensures refuses { IfErr result (RefusedBy (InBody depth) ContinuesBody parser.old parser.new) }
 {
     if parser.is(Keyword::BodyOpen) {
         together(alloc, parser, depth)
