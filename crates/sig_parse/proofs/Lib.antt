@@ -10,6 +10,7 @@ pub mod LeafLists
 pub mod Lifting
 pub mod Lists
 pub mod Passing
+pub mod OperatorLemmas
 pub mod PlaceLemmas
 pub mod ProcessLemmas
 pub mod ReadingLemmas
@@ -32,11 +33,14 @@ pub mod Steps
 pub mod Tables
 pub mod Refusing
 pub mod RefusedConstants
+pub mod RefusedDelays
+pub mod RefusedExpressions
 pub mod RefusedLevels
 pub mod RefusedOperands
 pub mod RefusedSteps
 pub mod RefusedPrimaries
 pub mod RefusedLists
+pub mod RefusedRows
 pub mod RefusedSides
 pub mod RefusedEquations
 pub mod RefusedBodies

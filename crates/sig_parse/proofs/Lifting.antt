@@ -1,5 +1,5 @@
 -- A refusal of a part as one of what the part stands in, where the parser stands.
-use Rattle.std.proofs.Common.{◌≡◌, ◌++◌, ◌≤◌, ℕ, List, [], ◌∷◌, refl, sym, ap, ◌∙◌, subst, Result, Ok, Err, IfErr}
+use Rattle.std.proofs.Common.{◌≡◌, ◌++◌, ◌+◌, ◌≤◌, ℕ, suc, List, [], ◌∷◌, arith, refl, sym, ap, ◌∙◌, subst, Result, Ok, Err, IfErr}
 use Rattle.std.specs.Result.{IsErr, IsErrAnd}
 use Rattle.sig_base.specs.declared.span.Span.{Span}
 use Rattle.sig_tree.specs.Terminals.{Terminal, Leaf, leaf}
@@ -60,3 +60,21 @@ module _ {Is : Limits → List Leaf → Type 0} {Continues : Terminal → Type 0
   pub handed_on : {T : Type 0} {before after : List Leaf} (r : Result T Refusal) (e : Refusal) → IsErr r × IsErrAnd r (λ f. f ≡ e) → (IsOfText e → Refuses Is Continues (cause_of e) before after) → IfErr r (Refusing Is Continues before after)
   handed_on (Ok x) e h refused = tt
   handed_on {before = before} {after = after} (Err f) e h refused = subst (λ (why : Refusal). Refusing Is Continues before after why) (sym h.1) refused
+
+  -- with the cause of the refusal
+  pub wrong : {before after : List Leaf} (why : Refusal) → why ≡ Syntax → Refuses Is Continues Wrong before after → Refuses Is Continues (cause_of why) before after
+  wrong {before} {after} why is_syntax r = subst (λ (w : Refusal). Refuses Is Continues (cause_of w) before after) (sym is_syntax) r
+
+  pub too_many : {before after : List Leaf} (why : Refusal) → why ≡ Operators → Refuses Is Continues TooMany before after → Refuses Is Continues (cause_of why) before after
+  too_many {before} {after} why is_operators r = subst (λ (w : Refusal). Refuses Is Continues (cause_of w) before after) (sym is_operators) r
+
+  pub same_after : {cause : Cause} {before : List Leaf} {s t : State} → t ≡ s → Refuses Is Continues cause before s.leaves → Refuses Is Continues cause before t.leaves
+  same_after {cause} {before} {s} {t} same r = subst (λ (x : State). Refuses Is Continues cause before x.leaves) (sym same) r
+
+-- what stops where the parser stood
+pub stops_again : (Continues : Terminal → Type 0) {s t : State} → t ≡ s → StopsBefore Continues s.leaves → StopsBefore Continues t.leaves
+stops_again Continues same stops = subst (λ (x : State). StopsBefore Continues x.leaves) (sym same) stops
+
+-- an operator more
+pub one_more : {A : List Leaf → Type 0} {s t : State} → Reads A 1 s t → t.operators ≡ suc s.operators
+one_more r = omega (arith, r.counted)

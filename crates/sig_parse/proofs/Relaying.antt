@@ -21,6 +21,10 @@ pub since_refused : {T : Type 0} (P Q : Refusal → Type 0) (r : Result T Refusa
 since_refused P Q (Ok x) h f = tt
 since_refused P Q (Err e) h f = f e h
 
+pub since_both : {T : Type 0} (P O Q : Refusal → Type 0) (r : Result T Refusal) → IfErr r P → IfErr r O → ((why : Refusal) → P why → O why → Q why) → IfErr r Q
+since_both P O Q (Ok x) h g f = tt
+since_both P O Q (Err e) h g f = f e h g
+
 -- whatever the refusal
 pub whatever : {T P : Type 0} (r : Result T Refusal) → P → IfErr r (λ why. IsOfText why → P)
 whatever (Ok x) p = tt

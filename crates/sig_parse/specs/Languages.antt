@@ -8,7 +8,7 @@ use Rattle.sig_base.specs.declared.span.Span.{Span}
 use Rattle.sig_tree.specs.Terminals.{Terminal, Leaf, leaf, number, label}
 use Rattle.sig_tree.specs.Limits.{Limits, MayHave, operators, right_operators}
 use Rattle.sig_tree.specs.Repeated.{Each}
-use Rattle.sig_tree.specs.Expressions.{IsConstant, IsInit, IsOptionalInit, IsAtLevel}
+use Rattle.sig_tree.specs.Expressions.{IsConstant, IsInit, IsOptionalInit, IsOptionalOne, IsAtLevel}
 use Rattle.sig_tree.specs.Equations.{IsName, IsLeft, AreConstants, AreArguments, IsRight, IsDefinition, IsClockEquation}
 use Rattle.sig_tree.specs.Spines.{Step, WithOperand, WithCell, WithDelay, IsOperand, IsStep, AreSoMany}
 
@@ -43,6 +43,9 @@ InInit limits leaves = (constant : Constant) × IsInit constant leaves
 
 abbrev pub InOptionalInit : Limits → List Leaf → Type 0
 InOptionalInit limits leaves = (constant : Option Constant) × IsOptionalInit constant leaves
+
+abbrev pub InOptionalOne : Limits → List Leaf → Type 0
+InOptionalOne limits leaves = IsOptionalOne leaves
 
 -- an expression where one of a level is asked for
 abbrev pub InLevel : (level depth used : ℕ) → Limits → List Leaf → Type 0

@@ -8,8 +8,9 @@ ghost use Rattle.sig_tree.specs.Continuing.{ContinuesNothing};
 ghost use Rattle.sig_tree.specs.Equations.{IsName};
 ghost use Rattle.sig_tree.specs.Expressions.{IsOptionalOne};
 ghost use Rattle.sig_parse.specs.Keywords.{terminal_of, IsKeyword};
-ghost use Rattle.sig_parse.specs.Languages.{InLeaf, InLabel, InName};
+ghost use Rattle.sig_parse.specs.Languages.{InLeaf, InLabel, InName, InOptionalOne};
 ghost use Rattle.sig_parse.specs.Refusals.{RefusedBy};
+ghost use Rattle.sig_parse.specs.Settling.{Settles};
 ghost use Rattle.sig_parse.specs.Seen.{leaf_seen};
 ghost use Rattle.sig_parse.specs.Reads.{Reads, Shorter, IsLeaf};
 ghost use Rattle.sig_parse.specs.Stalls.{IsOfText};
@@ -112,6 +113,19 @@ impl<'l, 'a> Parser<'l, 'a> {
         }
     }
 
+    /// Whether the next token is a `1`.
+    pub fn is_one(&self) -> bool
+        ensures { MatchBool result (StartsWith (λ t. t ≡ number 1) self.now.leaves) (StopsBefore (λ t. t ≡ number 1) self.now.leaves) }
+    {
+        match self.leaves.get(self.next) {
+            Some(leaf) => match leaf.terminal {
+                Terminal::Number(number) => number.value == 1,
+                _ => false,
+            },
+            None => false,
+        }
+    }
+
     /// Passes this keyword, where it is next.
     pub fn take(&mut self, keyword: Keyword) -> Option<Span>
         ensures { MatchOption result ((self.new ≡ self.old) × StopsBefore (λ t. t ≡ terminal_of keyword) self.old.leaves)
@@ -189,14 +203,11 @@ impl<'l, 'a> Parser<'l, 'a> {
 
     /// Passes a `1`, where one is next.
     pub fn take_one(&mut self)
-        ensures { Reads IsOptionalOne 0 self.old self.new }
+        ensures reads { Reads IsOptionalOne 0 self.old self.new }
+        ensures settles { Settles InOptionalOne (λ t. t ≡ number 1) self.old.leaves self.new.leaves }
     {
-        if let Some(first) = self.leaves.get(self.next) {
-            if let Terminal::Number(number) = first.terminal {
-                if number.value == 1 {
-                    self.next += 1;
-                }
-            }
+        if self.is_one() {
+            let _one = self.take_number();
         }
     }
 
@@ -220,6 +231,7 @@ impl<'l, 'a> Parser<'l, 'a> {
         ensures reads { IfOk result (λ at. Reads (IsLeaf (terminal_of keyword) at) 0 self.old self.new) }
         ensures shorter { OnOk result (Shorter self.old self.new) }
         ensures stays { OnErr result (self.new ≡ self.old) }
+        ensures missing { IfErr result (λ why. (why ≡ Refusal.Syntax) × StopsBefore (λ t. t ≡ terminal_of keyword) self.old.leaves) }
         ensures refuses { IfErr result (RefusedBy (InLeaf (terminal_of keyword)) ContinuesNothing self.old self.new) }
     {
         match self.take(keyword) {
