@@ -59,3 +59,4 @@ pub mod RefusedProcesses
 pub mod RefusedModels
 pub mod RefusedTogether
 pub mod RefusedDefinitions
+pub mod Outcomes

@@ -1,5 +1,5 @@
 -- What is refused of definitions and clock equations, where the parser stands.
-use Rattle.std.proofs.Common.{◌≡◌, ◌++◌, ◌+◌, ◌≤◌, ◌⊎◌, ℕ, suc, List, [], ◌∷◌, codes, map, inl, inr, refl, sym, ap, ◌∙◌, subst, append_assoc, arith}
+use Rattle.std.proofs.Common.{◌≡◌, ◌++◌, ◌+◌, ◌≤◌, ◌⊎◌, ℕ, suc, List, [], ◌∷◌, length, codes, map, inl, inr, refl, sym, ap, ◌∙◌, subst, append_assoc, arith}
 use Rattle.std.proofs.lemmas.List.{append-nil}
 use Rattle.std.specs.Prelude.{sum_by}
 use Rattle.sig_base.specs.declared.span.Span.{Span}
@@ -182,3 +182,23 @@ module _ (depth : ℕ) where
     go : ContinuesClockEquation l.terminal → ⊥
     go (inl e) = no_sign e
     go (inr continues) = stops continues
+
+-- the same before the equation was begun
+pub fresh_refuses : {Is : Limits → List Leaf → Type 0} {Continues : Terminal → Type 0} {cause : Cause} {after : List Leaf} (begun : State) {s : State} → s ≡ record { leaves = begun.leaves; operators = 0 }
+    → Refuses Is Continues cause s.leaves after → Refuses Is Continues cause begun.leaves after
+fresh_refuses {Is} {Continues} {cause} {after} begun e r = subst (λ (ls : List Leaf). Refuses Is Continues cause ls after) (ap (λ (x : State). x.leaves) e) r
+
+pub fresh_settles : {Is : Limits → List Leaf → Type 0} {Continues : Terminal → Type 0} {after : List Leaf} (begun : State) {s : State} → s ≡ record { leaves = begun.leaves; operators = 0 }
+    → Settles Is Continues s.leaves after → Settles Is Continues begun.leaves after
+fresh_settles {Is} {Continues} {after} begun e k = subst (λ (ls : List Leaf). Settles Is Continues ls after) (ap (λ (x : State). x.leaves) e) k
+
+pub fresh_none : (begun : State) {s : State} → s ≡ record { leaves = begun.leaves; operators = 0 } → s.operators ≡ 0
+fresh_none begun e = ap (λ (x : State). x.operators) e
+
+pub summed : (depth m n : ℕ) {before after : List Leaf} → m ≡ n → LeadsClock depth m before after → LeadsClock depth n before after
+summed depth m n {before} {after} e l = subst (λ (k : ℕ). LeadsClock depth k before after) e l
+
+pub two_mapped : {A B : Type 0} (f : B → A) (xs : List B) → 2 ≤ length xs → 2 ≤ length (map f xs)
+two_mapped f [] two = absurd (omega arith)
+two_mapped f (x ∷ []) two = absurd (omega arith)
+two_mapped f (x ∷ y ∷ xs) two = omega arith
