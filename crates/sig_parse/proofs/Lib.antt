@@ -60,3 +60,4 @@ pub mod RefusedModels
 pub mod RefusedTogether
 pub mod RefusedDefinitions
 pub mod Outcomes
+pub mod RefusedPrograms

@@ -16,3 +16,4 @@ pub mod State
 pub mod Parts
 pub mod Settling
 pub mod Ahead
+pub mod Exact

@@ -126,3 +126,7 @@ InProgram limits leaves = (processes : List ProcessModel) × IsProgram limits pr
 -- a mark that ends groups
 abbrev pub EndsGroups : Terminal → Type 0
 EndsGroups t = (t ≡ mark (codes "}")) ⊎ ((t ≡ mark (codes "!")) ⊎ (t ≡ mark (codes ")")))
+
+-- everything: only the end of the leaves ends what is continued so
+abbrev pub IsAnything : Terminal → Type 0
+IsAnything t = Unit {0}
