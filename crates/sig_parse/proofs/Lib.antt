@@ -59,3 +59,5 @@ pub mod RefusedHeadings
 pub mod RefusedProcesses
 pub mod RefusedModels
 pub mod RefusedTogether
+pub mod RefusedDefinitions
+pub mod Outcomes

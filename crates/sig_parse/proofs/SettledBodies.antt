@@ -125,20 +125,20 @@ bodies_apart (inr (inr continues)) = mark_no_body (codes "|)") (different (mark 
 
 module _ (depth : ℕ) where
   -- a definition, from its right side
-  abbrev Left_of : Limits → List Name → List Leaf → Type 0
+  abbrev pub Left_of : Limits → List Name → List Leaf → Type 0
   Left_of limits names leaves = IsLeft limits depth names leaves
 
-  abbrev SignThen : Limits → List Leaf → Type 0
+  abbrev pub SignThen : Limits → List Leaf → Type 0
   SignThen limits leaves = Then (Leaf_of (mark (codes ":="))) (InRight depth 0) limits leaves
 
-  abbrev Defining : Limits → List Leaf → Type 0
+  abbrev pub Defining : Limits → List Leaf → Type 0
   Defining limits leaves = Then Left_of SignThen limits leaves
 
-  defining : (limits : Limits) (leaves : List Leaf) → InDefinition depth limits leaves → Defining limits leaves
+  pub defining : (limits : Limits) (leaves : List Leaf) → InDefinition depth limits leaves → Defining limits leaves
   defining limits leaves (names, right, (at, front, back, e, is_left, is_right, few)) =
       (names, front, leaf (mark (codes ":=")) at ∷ back, e, is_left, (at, leaf (mark (codes ":=")) at ∷ [], back, refl, refl, (right, is_right, fewer limits (0 + right_operators right) (right_operators right) (omega arith) few)))
 
-  defined : (limits : Limits) (leaves : List Leaf) → Defining limits leaves → InDefinition depth limits leaves
+  pub defined : (limits : Limits) (leaves : List Leaf) → Defining limits leaves → InDefinition depth limits leaves
   defined limits leaves (names, front, back, e, is_left, (at, sign, rest, f, g, (right, is_right, few))) =
       (names, right, (at, front, rest, e ∙ ap (λ ls. front ++ ls) (f ∙ ap (λ ls. ls ++ rest) g), is_left, is_right, fewer limits (right_operators right) (0 + right_operators right) (omega arith) few))
 
@@ -233,3 +233,40 @@ module _ (depth : ℕ) where
         c.front front rest back e is_free.1 is.1 (stops_nothing rest) (stops_nothing back)).1
     go front back rest e (Defines names right) is = absurd (together_or_definition bodies names right c.front front rest back e is_free is)
     go front back rest e (Equal xs) is = absurd (together_or_clock bodies xs c.front front rest back e is_free is)
+
+-- A body whose first leaves tell what it is.
+module _ (depth : ℕ) where
+  begins_with : {Was : List Leaf → Type 0} (Begins : List Leaf → Type 0) {s t : State} (c : Covers Was s t) → Begins s.leaves → Begins (c.front ++ t.leaves)
+  begins_with Begins c begins = subst Begins c.split begins
+
+  opening_no_definition : (leaves : List Leaf) → StartsWith (λ t. t ≡ mark (codes "(|")) leaves → BeginsDefinition leaves → ⊥
+  opening_no_definition [] opens begins = opens
+  opening_no_definition (l ∷ leaves) opens (inl ((text, named), behind)) = let both : mark (codes "(|") ≡ Rattle.sig_tree.specs.Terminals.name text = sym opens ∙ named in cc
+  opening_no_definition (l ∷ leaves) opens (inr (parenthesis, behind)) = different (mark (codes "(|")) (mark (codes "(")) refl refl (sym opens ∙ parenthesis)
+
+  pub body_defined : (body : Equations) {s t : State} → BeginsDefinition s.leaves → Covers (IsBody both_limits body depth) s t → Settles (InDefinition depth) ContinuesDefinition s.leaves t.leaves → Settles (InBody depth) ContinuesBody s.leaves t.leaves
+  body_defined (Defines names right) begins c k = body_settles_definition depth names right c k
+  body_defined (Together bodies) {s} {t} begins c k =
+      absurd (opening_no_definition (c.front ++ t.leaves) (starts_longer (λ u. u ≡ mark (codes "(|")) c.front t.leaves (opening_starts depth both_limits bodies c.front c.is)) (begins_with BeginsDefinition {s = s} {t = t} c begins))
+  body_defined (Equal xs) {s} {t} begins c k = absurd (clock_ahead depth xs c.front t.leaves (clock_equation_unlimited both_limits depth depth xs c.front c.is) (begins_with BeginsDefinition {s = s} {t = t} c begins))
+
+  pub body_equated : (body : Equations) {s t : State} → (BeginsDefinition s.leaves → ⊥) → StopsBefore (λ u. u ≡ mark (codes "(|")) s.leaves → Covers (IsBody both_limits body depth) s t → Settles (InClockEquation depth) ContinuesClockEquation s.leaves t.leaves
+      → Settles (InBody depth) ContinuesBody s.leaves t.leaves
+  body_equated (Equal xs) begins stopped c k = body_settles_clock_equation depth xs c k
+  body_equated (Defines names right) {s} {t} begins stopped c k = absurd (begins (subst BeginsDefinition (sym c.split) (definition_ahead both_limits depth names right c.front t.leaves c.is)))
+  body_equated (Together bodies) {s} {t} begins stopped c k =
+      absurd (both (c.front ++ t.leaves) (subst (λ (ls : List Leaf). StopsBefore (λ u. u ≡ mark (codes "(|")) ls) c.split stopped) (starts_longer (λ u. u ≡ mark (codes "(|")) c.front t.leaves (opening_starts depth both_limits bodies c.front c.is)))
+    where
+      both : (ls : List Leaf) → StopsBefore (λ u. u ≡ mark (codes "(|")) ls → StartsWith (λ u. u ≡ mark (codes "(|")) ls → ⊥
+      both [] stops starts = starts
+      both (l ∷ ls) stops starts = stops starts
+
+  pub body_together : (body : Equations) {s t : State} → StartsWith (λ u. u ≡ mark (codes "(|")) s.leaves → Covers (IsBody both_limits body depth) s t → Settles (InBody depth) ContinuesBody s.leaves t.leaves
+  body_together (Together bodies) opens c = together_settles depth bodies c
+  body_together (Defines names right) {s} {t} opens c = absurd (opening_no_definition (c.front ++ t.leaves) (begins_with (StartsWith (λ u. u ≡ mark (codes "(|"))) {s = s} {t = t} c opens) (definition_ahead both_limits depth names right c.front t.leaves c.is))
+  body_together (Equal xs) {s} {t} opens c =
+      absurd (both_begin (λ u. u ≡ mark (codes "(|")) (BeginsExpression default_level) together_apart (c.front ++ t.leaves) (begins_with (StartsWith (λ u. u ≡ mark (codes "(|"))) {s = s} {t = t} c opens)
+      (starts_longer (BeginsExpression default_level) c.front t.leaves (clock_equation_begins both_limits depth xs c.front c.is)))
+
+  pub operands_settled : (operands : List Expression) {s t : State} → Covers (IsClockEquation both_limits depth operands) s t → StopsBefore ContinuesClockEquation t.leaves → Settles (InClockEquation depth) ContinuesClockEquation s.leaves t.leaves
+  operands_settled operands c stops = clock_settles depth operands c stops
