@@ -32,6 +32,7 @@ pub mod Standing
 pub mod Steps
 pub mod Tables
 pub mod Refusing
+pub mod RefusedCalls
 pub mod RefusedConstants
 pub mod RefusedDelays
 pub mod RefusedExpressions

@@ -97,8 +97,16 @@ decided a (b ∷ []) t u (inr (opens, ((text, e), behind))) =
     inr (inr (a.at, inr (name_of_leaf b text, inl (ap (λ l. l ∷ b ∷ []) (leaf_is a _ opens) ∙ ap (λ l. open_at a.at ∷ l ∷ []) (leaf_is b _ e)))))
 decided a (b ∷ c ∷ p) t u (inr (opens, (named, inl comma))) = inl (inr (opens, (named, inl comma)))
 decided a (b ∷ c ∷ []) t u (inr (opens, ((text, e), inr (closes, behind)))) =
-    inr (inr (a.at, inr (name_of_leaf b text, inr (c.at,
-    ap (λ l. l ∷ b ∷ c ∷ []) (leaf_is a _ opens) ∙ ap (λ l. open_at a.at ∷ l ∷ c ∷ []) (leaf_is b _ e) ∙ ap (λ l. open_at a.at ∷ name_leaf (name_of_leaf b text) ∷ l ∷ []) (leaf_is c _ closes)))))
+    inr (inr (
+      a.at,
+      inr (
+        name_of_leaf b text,
+        inr (
+          c.at,
+          ap (λ l. l ∷ b ∷ c ∷ []) (leaf_is a _ opens) ∙ ap (λ l. open_at a.at ∷ l ∷ c ∷ []) (leaf_is b _ e) ∙ ap (λ l. open_at a.at ∷ name_leaf (name_of_leaf b text) ∷ l ∷ []) (leaf_is c _ closes),
+        ),
+      ),
+    ))
 decided a (b ∷ c ∷ d ∷ p) t u (inr (opens, (named, inr (closes, defines)))) = inl (inr (opens, (named, inr (closes, defines))))
 
 module _ (depth : ℕ) where

@@ -161,6 +161,6 @@ pub init_settles : (c : Constant) (passed after : List Leaf) → IsInit c passed
 init_settles c passed after is leaves front back agrees e is_front stops =
     let parts = behind_agrees passed after leaves agrees in
     let first : SameFirst (leaf (word (codes "init")) is.0 ∷ (is.1 ++ parts.0)) (front ++ back) = subst (λ (l : List Leaf). SameFirst (leaf (word (codes "init")) is.0 ∷ (is.1 ++ parts.0)) l)
-        (ap (λ l. l ++ parts.0) (sym is.2) ∙ sym parts.1 ∙ e) refl in
+    (ap (λ l. l ++ parts.0) (sym is.2) ∙ sym parts.1 ∙ e) refl in
     let other = optional_part is.0 (is.1 ++ parts.0) is_front.0 front back is_front.1 stops first in
     sym (init_once c other.0 passed front parts.0 back (sym parts.1 ∙ e) is other.1 (stops_nothing parts.0) (stops_nothing back)).1

@@ -180,8 +180,17 @@ pub prefixed_operand : (op : UnOp) (level : ℕ) (e x : Expression) (at : Span) 
     → Reads (IsOperand both_limits level depth (Unary op x at)) (1 + operators x) s u
 prefixed_operand op level e x at n depth inner own shallow is_inner same is_level q r =
     rw same (after_leaf (IsOperand both_limits level depth (Unary op e at)) (1 + operators e) refl
-    (λ back is. inl (op, e, at, back, own, refl, refl, (λ kept. shallow),
-    subst (λ (d : ℕ). IsAtLevel both_limits (operand_level op) d e back) is_inner (subst (λ (m : ℕ). IsAtLevel both_limits m inner e back) is_level is)))
+    (λ back is. inl (
+      op,
+      e,
+      at,
+      back,
+      own,
+      refl,
+      refl,
+      (λ kept. shallow),
+      subst (λ (d : ℕ). IsAtLevel both_limits (operand_level op) d e back) is_inner (subst (λ (m : ℕ). IsAtLevel both_limits m inner e back) is_level is),
+    ))
     q r)
 
 -- an operand that is an expression of the next level
@@ -208,7 +217,7 @@ pub primary_refuses : (level : Level) (depth : ℕ) (after : List Leaf) (why : R
     → s.operators ≤ 512 → IsOfText why → Refuses (InOperand (level_number level) depth s.operators) (ContinuesExpression (suc (level_number level))) (cause_of why) s.leaves after
 primary_refuses level depth after why {s} {t} same is_primary no_prefix refuses few text =
     let there = subst (λ (x : State). x.operators ≤ 512 → StopsBefore (λ u. u ≡ mark (codes "^")) x.leaves → IsOfText why
-        → Refuses (InOperand primary_level depth x.operators) (ContinuesExpression (suc primary_level)) (cause_of why) x.leaves after) same refuses in
+    → Refuses (InOperand primary_level depth x.operators) (ContinuesExpression (suc primary_level)) (cause_of why) x.leaves after) same refuses in
     let number : primary_level ≡ level_number level = ap level_number (sym is_primary) in
     subst (λ (n : ℕ). Refuses (InOperand n depth s.operators) (ContinuesExpression (suc n)) (cause_of why) s.leaves after) number (there few (no_prefix UnaryClock number) text)
 

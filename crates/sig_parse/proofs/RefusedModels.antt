@@ -90,8 +90,21 @@ module _ (depth : ℕ) where
         l2 ++ (l3 ++ (l4 ++ (l5 ++ (l6 ++ last)))),
         e,
         (begun, equals, refl),
-        (heading.params, l2, l3 ++ (l4 ++ (l5 ++ (l6 ++ last))), refl, are_params, ((heading.inputs, heading.outputs), l3, l4 ++ (l5 ++ (l6 ++ last)), refl, is_interface,
-        (pragmas, l4, l5 ++ (l6 ++ last), refl, are_pragmas, (body, l5, l6 ++ last, refl, is_body, ((locals, inner), l6, last, refl, is_where, (ended, refl)))))),
+        (
+          heading.params,
+          l2,
+          l3 ++ (l4 ++ (l5 ++ (l6 ++ last))),
+          refl,
+          are_params,
+          (
+            (heading.inputs, heading.outputs),
+            l3,
+            l4 ++ (l5 ++ (l6 ++ last)),
+            refl,
+            is_interface,
+            (pragmas, l4, l5 ++ (l6 ++ last), refl, are_pragmas, (body, l5, l6 ++ last, refl, is_body, ((locals, inner), l6, last, refl, is_where, (ended, refl)))),
+          ),
+        ),
       )
 
   as_process : {cause : Cause} {here after : List Leaf} → Refuses FromTitle ContinuesNothing cause here after → Refuses (InProcess depth) ContinuesNothing cause here after
@@ -234,11 +247,19 @@ declared_too_deep depth deep (l ∷ more) next = record {
   passed = [];
   split = refl;
   viable = (leaf (word (codes "end")) no_place ∷ [], (([], no_model), (no_place, [], refl, refl)));
-  allowed = (rest_leaves (suc depth) ++ leaf (word (codes "end")) no_place ∷ [],
-      let m = some_process (suc depth) no_limits l.at in
-      subst (λ (k : Leaf). InDeclared depth no_limits (k ∷ (rest_leaves (suc depth) ++ leaf (word (codes "end")) no_place ∷ []))) (sym (leaf_is l (word (codes "process")) next))
-      (([], more_models m.0 no_model), (no_place, leaf (word (codes "process")) l.at ∷ rest_leaves (suc depth), refl,
-      ([], [], [], leaf (word (codes "process")) l.at ∷ rest_leaves (suc depth), [], refl, sym (append-nil (leaf (word (codes "process")) l.at ∷ rest_leaves (suc depth))), refl, ((λ kept. cc), m.1), refl))));
+  allowed = (
+    rest_leaves (suc depth) ++ leaf (word (codes "end")) no_place ∷ [],
+    let m = some_process (suc depth) no_limits l.at in
+        subst (λ (k : Leaf). InDeclared depth no_limits (k ∷ (rest_leaves (suc depth) ++ leaf (word (codes "end")) no_place ∷ []))) (sym (leaf_is l (word (codes "process")) next)) (
+          ([], more_models m.0 no_model),
+          (
+            no_place,
+            leaf (word (codes "process")) l.at ∷ rest_leaves (suc depth),
+            refl,
+            ([], [], [], leaf (word (codes "process")) l.at ∷ rest_leaves (suc depth), [], refl, sym (append-nil (leaf (word (codes "process")) l.at ∷ rest_leaves (suc depth))), refl, ((λ kept. cc), m.1), refl),
+          ),
+        ),
+  );
   excluded = λ leaves front back agrees e is stops.
       let same : SameFirst (l ∷ more) (front ++ back) = subst (λ (ls : List Leaf). SameFirst (l ∷ more) ls) e (agrees_first [] (l ∷ more) leaves agrees) in
       let first = process_from depth (l ∷ more) next nesting_limit front back is same in

@@ -23,17 +23,17 @@ use Rattle.sig_parse.proofs.RefusedLevels.{fewer}
 use Rattle.sig_parse.proofs.Leading.{Leads, leads_on, leads_refuses, same_behind, starts_or_stops, starts_same}
 use Rattle.sig_parse.proofs.Lifting.{leaf_split}
 
+abbrev Excluded : Terminal → Cause → (passed stopped : List Leaf) → Type 0
+Excluded t cause passed stopped = (leaves front back : List Leaf) → Agrees passed stopped leaves → leaves ≡ front ++ back → InLeaf t (refused_within cause) front → StopsBefore ContinuesNothing back → ⊥
+
 -- a leaf that is next is not refused
 leaf_next : (t : Terminal) (here stopped : List Leaf) (cause : Cause) → StartsWith (λ u. u ≡ t) here → Refuses (InLeaf t) ContinuesNothing cause here stopped → ⊥
 leaf_next t here stopped cause starts r = go r.passed r.split r.viable.0 r.viable.1.0 r.viable.1.1 r.excluded where
-  abbrev Excluded : (passed stopped : List Leaf) → Type 0
-  Excluded passed stopped = (leaves front back : List Leaf) → Agrees passed stopped leaves → leaves ≡ front ++ back → InLeaf t (refused_within cause) front → StopsBefore ContinuesNothing back → ⊥
-
-  at_first : (here : List Leaf) → StartsWith (λ u. u ≡ t) here → Excluded [] here → ⊥
+  at_first : (here : List Leaf) → StartsWith (λ u. u ≡ t) here → Excluded t cause [] here → ⊥
   at_first [] starts excluded = starts
   at_first (l ∷ more) starts excluded = excluded (l ∷ more) (l ∷ []) more (more, refl) refl (l.at, ap (λ u. leaf u l.at ∷ []) starts) (stops_nothing more)
 
-  behind : (stopped : List Leaf) (at : Span) → Excluded (leaf t at ∷ []) stopped → ⊥
+  behind : (stopped : List Leaf) (at : Span) → Excluded t cause (leaf t at ∷ []) stopped → ⊥
   behind [] at excluded = excluded (leaf t at ∷ []) (leaf t at ∷ []) [] refl refl (at, refl) tt
   behind (l ∷ after) at excluded = excluded (leaf t at ∷ l ∷ []) (leaf t at ∷ []) (l ∷ []) ([], refl) refl (at, refl) (stops_nothing (l ∷ []))
 
@@ -41,11 +41,11 @@ leaf_next t here stopped cause starts r = go r.passed r.split r.viable.0 r.viabl
   nothing [] done e = refl
   nothing (p ∷ ps) done e = cc
 
-  go : (passed : List Leaf) → here ≡ passed ++ stopped → (done : List Leaf) (at : Span) → passed ++ done ≡ leaf t at ∷ [] → Excluded passed stopped → ⊥
-  go [] split done at e excluded = at_first here starts (subst (λ (ls : List Leaf). Excluded [] ls) (sym split) excluded)
+  go : (passed : List Leaf) → here ≡ passed ++ stopped → (done : List Leaf) (at : Span) → passed ++ done ≡ leaf t at ∷ [] → Excluded t cause passed stopped → ⊥
+  go [] split done at e excluded = at_first here starts (subst (λ (ls : List Leaf). Excluded t cause [] ls) (sym split) excluded)
   go (p ∷ ps) split done at e excluded =
       let heads = cons_same p (leaf t at) (ps ++ done) [] e in
-      behind stopped at (subst (λ (ls : List Leaf). Excluded ls stopped) (ap (λ m. m ∷ ps) heads.0 ∙ ap (λ ls. leaf t at ∷ ls) (nothing ps done heads.1)) excluded)
+      behind stopped at (subst (λ (ls : List Leaf). Excluded t cause ls stopped) (ap (λ m. m ∷ ps) heads.0 ∙ ap (λ ls. leaf t at ∷ ls) (nothing ps done heads.1)) excluded)
 
 module _ {A : Type 0} (Is : Limits → A → List Leaf → Type 0) (count : A → ℕ) (separator closing : Terminal) where
   -- a list, and what is left of it behind an item, up to what closes it
@@ -75,33 +75,33 @@ module _ {A : Type 0} (Is : Limits → A → List Leaf → Type 0) (count : A �
         )
 
     -- the first item was read
-    pub counts_first : (x : A) {s t : State} → Reads (Is both_limits x) (count x) s t → StopsBefore Continues t.leaves → StopsBefore (λ u. u ≡ closing) s.leaves
-        → Leads (Counts s.operators) ContinuesNothing (CountsRest t.operators) ContinuesNothing s.leaves t.leaves
-    counts_first x {s} {t} r stopped open_here = subst (λ (n : ℕ). Leads (Counts s.operators) ContinuesNothing (CountsRest n) ContinuesNothing s.leaves t.leaves) (sym r.counted) (record {
+    pub counts_first : (used : ℕ) (x : A) {n : ℕ} {s t : State} → Reads (Is both_limits x) n s t → StopsBefore Continues t.leaves → StopsBefore (λ u. u ≡ closing) s.leaves
+        → Leads (Counts used) ContinuesNothing (CountsRest (used + count x)) ContinuesNothing s.leaves t.leaves
+    counts_first used x {s = s} {t = t} r stopped open_here = record {
       front = r.front;
       split = r.split;
       extend = λ limits leaves is. (
         x ∷ is.0,
         (is.1.0, r.front ++ is.1.1, ap (λ l. r.front ++ l) is.1.2 ∙ sym (append_assoc r.front is.1.1 (leaf closing is.1.0 ∷ [])), (r.front, is.1.1, refl, within limits x r.front r.is, is.1.3)),
-        fewer limits (s.operators + counted count (x ∷ is.0)) (s.operators + count x + counted count is.0) (omega arith) is.2,
+        fewer limits (used + counted count (x ∷ is.0)) (used + count x + counted count is.0) (omega arith) is.2,
       );
       left = λ limits rest whole back e is stops same. go limits rest whole back e is.0 is.1 is.2 same;
-    }) where
-      go : (limits : Limits) (rest whole back : List Leaf) → r.front ++ rest ≡ whole ++ back → (xs : List A) → UpTo closing (Listed (Is limits) separator) xs whole → MayHave limits (s.operators + counted count xs) → SameFirst t.leaves rest
-          → (part : List Leaf) × (rest ≡ part ++ back) × CountsRest (s.operators + count x) limits part × StopsBefore ContinuesNothing back
+    } where
+      go : (limits : Limits) (rest whole back : List Leaf) → r.front ++ rest ≡ whole ++ back → (xs : List A) → UpTo closing (Listed (Is limits) separator) xs whole → MayHave limits (used + counted count xs) → SameFirst t.leaves rest
+          → (part : List Leaf) × (rest ≡ part ++ back) × CountsRest (used + count x) limits part × StopsBefore ContinuesNothing back
       go limits rest whole back e [] (at, inside, f, none) fits same =
           let begin : r.front ++ rest ≡ leaf closing at ∷ back = e ∙ ap (λ l. l ++ back) (f ∙ ap (λ l. l ++ leaf closing at ∷ []) none) in
           absurd (starts_or_stops (λ u. u ≡ closing) s.leaves (leaf closing at ∷ back)
           (subst (λ (l : List Leaf). SameFirst s.leaves l) begin (subst (λ (l : List Leaf). SameFirst l (r.front ++ rest)) (sym r.split) (same_behind r.front t.leaves rest same))) open_here refl)
       go limits rest whole back e (y ∷ ys) (at, inside, f, (first, others, g, is, are)) fits same =
           let begin : r.front ++ rest ≡ first ++ (others ++ leaf closing at ∷ back) = e ∙ append_to whole inside (leaf closing at ∷ []) back f ∙ append_to inside first others (leaf closing at ∷ back) g in
-          let found = behind_item x y s.operators r.front first rest limits ys others inside back at t.leaves begin r.is is are fits stopped same in
+          let found = behind_item x y used r.front first rest limits ys others inside back at t.leaves begin r.is is are fits stopped same in
           (others ++ leaf closing at ∷ [], found.0, found.1, stops_nothing back)
 
     -- a separator and an item were read
-    pub counts_next : (at : Span) (x : A) {s t u : State} → Reads (IsLeaf separator at) 0 s t → Reads (Is both_limits x) (count x) t u → StopsBefore Continues u.leaves → (separator ≡ closing → ⊥)
-        → Leads (CountsRest s.operators) ContinuesNothing (CountsRest u.operators) ContinuesNothing s.leaves u.leaves
-    counts_next place x {s} {t} {u} q r stopped differ = subst (λ (n : ℕ). Leads (CountsRest s.operators) ContinuesNothing (CountsRest n) ContinuesNothing s.leaves u.leaves) (sym operators_are) (record {
+    pub counts_next : (used : ℕ) (at : Span) (x : A) {n : ℕ} {s t u : State} → Reads (IsLeaf separator at) 0 s t → Reads (Is both_limits x) n t u → StopsBefore Continues u.leaves → (separator ≡ closing → ⊥)
+        → Leads (CountsRest used) ContinuesNothing (CountsRest (used + count x)) ContinuesNothing s.leaves u.leaves
+    counts_next used place x {s = s} {t = t} {u = u} q r stopped differ = record {
       front = leaf separator place ∷ r.front;
       split = leaf_split q ∙ ap (λ l. leaf separator place ∷ l) r.split;
       extend = λ limits leaves is. (
@@ -112,21 +112,18 @@ module _ {A : Type 0} (Is : Limits → A → List Leaf → Type 0) (count : A �
           ap (λ l. leaf separator place ∷ (r.front ++ l)) is.1.2 ∙ ap (λ l. leaf separator place ∷ l) (sym (append_assoc r.front is.1.1 (leaf closing is.1.0 ∷ []))),
           (place, r.front, is.1.1, refl, within limits x r.front r.is, is.1.3),
         ),
-        fewer limits (s.operators + counted count (x ∷ is.0)) (s.operators + count x + counted count is.0) (omega arith) is.2,
+        fewer limits (used + counted count (x ∷ is.0)) (used + count x + counted count is.0) (omega arith) is.2,
       );
       left = λ limits rest whole back e is stops same. go limits rest whole back e is.0 is.1 is.2 same;
-    }) where
-      operators_are : u.operators ≡ s.operators + count x
-      operators_are = omega (arith, q.counted, r.counted)
-
-      go : (limits : Limits) (rest whole back : List Leaf) → (leaf separator place ∷ r.front) ++ rest ≡ whole ++ back → (xs : List A) → UpTo closing (Further (Is limits) separator) xs whole → MayHave limits (s.operators + counted count xs) → SameFirst u.leaves rest
-          → (part : List Leaf) × (rest ≡ part ++ back) × CountsRest (s.operators + count x) limits part × StopsBefore ContinuesNothing back
+    } where
+      go : (limits : Limits) (rest whole back : List Leaf) → (leaf separator place ∷ r.front) ++ rest ≡ whole ++ back → (xs : List A) → UpTo closing (Further (Is limits) separator) xs whole → MayHave limits (used + counted count xs) → SameFirst u.leaves rest
+          → (part : List Leaf) × (rest ≡ part ++ back) × CountsRest (used + count x) limits part × StopsBefore ContinuesNothing back
       go limits rest whole back e [] (at, inside, f, none) fits same =
           let heads = cons_same (leaf separator place) (leaf closing at) (r.front ++ rest) back (e ∙ ap (λ l. l ++ back) (f ∙ ap (λ l. l ++ leaf closing at ∷ []) none)) in
           absurd (differ (ap (λ l. l.terminal) heads.0))
       go limits rest whole back e (y ∷ ys) (at, inside, f, (there, first, others, g, is, are)) fits same =
           let heads = cons_same (leaf separator place) (leaf separator there) (r.front ++ rest) ((first ++ others) ++ leaf closing at ∷ back) (e ∙ append_to whole inside (leaf closing at ∷ []) back f ∙ ap (λ l. l ++ leaf closing at ∷ back) g) in
-          let found = behind_item x y s.operators r.front first rest limits ys others inside back at u.leaves (heads.1 ∙ append_assoc first others (leaf closing at ∷ back)) r.is is are fits stopped same in
+          let found = behind_item x y used r.front first rest limits ys others inside back at u.leaves (heads.1 ∙ append_assoc first others (leaf closing at ∷ back)) r.is is are fits stopped same in
           (others ++ leaf closing at ∷ [], found.0, found.1, stops_nothing back)
 
     -- the first item is refused, where the list is not closed at once
@@ -141,32 +138,36 @@ module _ {A : Type 0} (Is : Limits → A → List Leaf → Type 0) (count : A �
             → (part other : List Leaf) × (whole ++ back ≡ part ++ other) × InOne Is count used limits part × StopsBefore Continues other
         go limits whole back [] (at, inside, f, none) fits same =
             absurd (starts_or_stops (λ u. u ≡ closing) here (leaf closing at ∷ back) (subst (λ (l : List Leaf). SameFirst here (l ++ back)) (f ∙ ap (λ l. l ++ leaf closing at ∷ []) none) same) open_here refl)
-        go limits whole back (y ∷ ys) (at, inside, f, (first, others, g, is, are)) fits same =
-            (first, others ++ leaf closing at ∷ back, append_to whole inside (leaf closing at ∷ []) back f ∙ append_to inside first others (leaf closing at ∷ back) g,
-            (y, is, fewer limits (used + count y) (used + counted count (y ∷ ys)) (omega arith) fits), rest_stops limits ys others at back are)
+        go limits whole back (y ∷ ys) (at, inside, f, (first, others, g, is, are)) fits same = (
+          first,
+          others ++ leaf closing at ∷ back,
+          append_to whole inside (leaf closing at ∷ []) back f ∙ append_to inside first others (leaf closing at ∷ back) g,
+          (y, is, fewer limits (used + count y) (used + counted count (y ∷ ys)) (omega arith) fits),
+          rest_stops limits ys others at back are,
+        )
 
     -- an item behind a separator is refused
-    pub counts_next_refused : (place : Span) {s t : State} → Reads (IsLeaf separator place) 0 s t → (separator ≡ closing → ⊥) → (cause : Cause) (after : List Leaf) → Refuses (InOne Is count t.operators) Continues cause t.leaves after
-        → Refuses (CountsRest s.operators) ContinuesNothing cause s.leaves after
-    counts_next_refused place {s} {t} q differ cause after r =
-        subst (λ (l : List Leaf). Refuses (CountsRest s.operators) ContinuesNothing cause l after) (sym (leaf_split q))
-        (refuses_inside (InOne Is count t.operators) (CountsRest s.operators) (leaf separator place ∷ []) (leaf closing no_place ∷ [])
+    pub counts_next_refused : (used : ℕ) (place : Span) {s t : State} → Reads (IsLeaf separator place) 0 s t → (separator ≡ closing → ⊥) → (cause : Cause) (after : List Leaf) → Refuses (InOne Is count used) Continues cause t.leaves after
+        → Refuses (CountsRest used) ContinuesNothing cause s.leaves after
+    counts_next_refused used place {s} {t} q differ cause after r =
+        subst (λ (l : List Leaf). Refuses (CountsRest used) ContinuesNothing cause l after) (sym (leaf_split q))
+        (refuses_inside (InOne Is count used) (CountsRest used) (leaf separator place ∷ []) (leaf closing no_place ∷ [])
         (λ limits leaves is. (
           is.0 ∷ [],
           (no_place, leaf separator place ∷ leaves, refl, (place, leaves, [], ap (λ l. leaf separator place ∷ l) (sym (append-nil leaves)), is.1, refl)),
-          fewer limits (s.operators + counted count (is.0 ∷ [])) (t.operators + count is.0) (omega (arith, q.counted)) is.2,
+          fewer limits (used + counted count (is.0 ∷ [])) (used + count is.0) (omega arith) is.2,
         ))
         Continues ContinuesNothing cause t.leaves after
         (λ limits rest whole back e is stops same. go limits rest whole back e is.0 is.1 is.2) r)
       where
-        go : (limits : Limits) (rest whole back : List Leaf) → leaf separator place ∷ rest ≡ whole ++ back → (xs : List A) → UpTo closing (Further (Is limits) separator) xs whole → MayHave limits (s.operators + counted count xs)
-            → (part other : List Leaf) × (rest ≡ part ++ other) × InOne Is count t.operators limits part × StopsBefore Continues other
+        go : (limits : Limits) (rest whole back : List Leaf) → leaf separator place ∷ rest ≡ whole ++ back → (xs : List A) → UpTo closing (Further (Is limits) separator) xs whole → MayHave limits (used + counted count xs)
+            → (part other : List Leaf) × (rest ≡ part ++ other) × InOne Is count used limits part × StopsBefore Continues other
         go limits rest whole back e [] (at, inside, f, none) fits =
             let heads = cons_same (leaf separator place) (leaf closing at) rest back (e ∙ ap (λ l. l ++ back) (f ∙ ap (λ l. l ++ leaf closing at ∷ []) none)) in
             absurd (differ (ap (λ l. l.terminal) heads.0))
         go limits rest whole back e (y ∷ ys) (at, inside, f, (there, first, others, g, is, are)) fits =
             let heads = cons_same (leaf separator place) (leaf separator there) rest ((first ++ others) ++ leaf closing at ∷ back) (e ∙ append_to whole inside (leaf closing at ∷ []) back f ∙ ap (λ l. l ++ leaf closing at ∷ back) g) in
-            (first, others ++ leaf closing at ∷ back, heads.1 ∙ append_assoc first others (leaf closing at ∷ back), (y, is, fewer limits (t.operators + count y) (s.operators + counted count (y ∷ ys)) (omega (arith, q.counted)) fits), rest_stops limits ys others at back are)
+            (first, others ++ leaf closing at ∷ back, heads.1 ∙ append_assoc first others (leaf closing at ∷ back), (y, is, fewer limits (used + count y) (used + counted count (y ∷ ys)) (omega arith) fits), rest_stops limits ys others at back are)
 
     -- what closes the list is refused behind an item
     pub counts_over : (used : ℕ) (here : List Leaf) → used ≤ 512 → StopsBefore (λ u. u ≡ separator) here → Closes (CountsRest used) closing here here

@@ -1,14 +1,14 @@
 -- The languages of the parts of the parser: leaves that are something of the grammar within limits, in
 -- an equation that has so many operators before them.
-use Rattle.std.specs.Prelude.{◌≡◌, ◌+◌, ℕ, suc, List, [], ◌∷◌, length, Option}
+use Rattle.std.specs.Prelude.{◌≡◌, ◌++◌, ◌+◌, ℕ, suc, List, [], ◌∷◌, length, codes, Option}
 use Rattle.sig_tree.specs.declared.expr.Constant.{Constant}
 use Rattle.sig_tree.specs.declared.expr.Name.{Name}
 use Rattle.sig_tree.specs.Syntax.{Expression, RightSide}
 use Rattle.sig_base.specs.declared.span.Span.{Span}
-use Rattle.sig_tree.specs.Terminals.{Terminal, Leaf, leaf, number, label}
+use Rattle.sig_tree.specs.Terminals.{Terminal, Leaf, leaf, number, label, mark}
 use Rattle.sig_tree.specs.Limits.{Limits, MayHave, operators, right_operators}
-use Rattle.sig_tree.specs.Repeated.{Each}
-use Rattle.sig_tree.specs.Expressions.{IsConstant, IsInit, IsOptionalInit, IsOptionalOne, IsAtLevel}
+use Rattle.sig_tree.specs.Repeated.{Each, Listed}
+use Rattle.sig_tree.specs.Expressions.{IsConstant, IsInit, IsOptionalInit, IsOptionalOne, IsAtLevel, IsExpression}
 use Rattle.sig_tree.specs.Equations.{IsName, IsLeft, AreConstants, AreArguments, IsRight, IsDefinition, IsClockEquation}
 use Rattle.sig_tree.specs.Spines.{Step, WithOperand, WithCell, WithDelay, IsOperand, IsStep, AreSoMany}
 
@@ -81,6 +81,16 @@ InLeft depth limits leaves = (names : List Name) × IsLeft limits depth names le
 -- the constants of a call, where it has any
 abbrev pub InConstants : Limits → List Leaf → Type 0
 InConstants limits leaves = (constants : List Constant) × AreConstants constants leaves
+
+-- the constants of a call up to the mark that closes them, and its arguments so
+abbrev pub InConstantList : Limits → List Leaf → Type 0
+InConstantList limits leaves = (constants : List Constant) × (closed : Span) × (inside : List Leaf)
+    × (leaves ≡ inside ++ leaf (mark (codes "}")) closed ∷ []) × Listed IsConstant (mark (codes ",")) constants inside
+
+abbrev pub InArgumentList : (depth used : ℕ) → Limits → List Leaf → Type 0
+InArgumentList depth used limits leaves = (arguments : List Expression)
+    × ((closed : Span) × (inside : List Leaf) × (leaves ≡ inside ++ leaf (mark (codes ")")) closed ∷ []) × Listed (IsExpression limits depth) (mark (codes ",")) arguments inside)
+    × MayHave limits (used + counted operators arguments)
 
 -- the arguments of a call
 abbrev pub InArguments : (depth used : ℕ) → Limits → List Leaf → Type 0

@@ -14,12 +14,6 @@ returns-in_err-kind-clause-viable c = whatever _ (group_at_once c.args.declares 
 pub returns-in_err-items-clause-viable : goal.returns-in_err-items-clause-viable
 returns-in_err-items-clause-viable c = relayed _ _ c.from_residual-in_err-items.ensures (λ text. in_items c.args.declares c.in_ok-kind.kind c.in_ok-kind._at c.in_ok-kind.ensures.no_event c.in_ok-kind.ensures.reads (c.in_err-items.ensures.viable text))
 
-
-
-
-
-
-
 pub returns-in_err-kind-clause-refuses : goal.returns-in_err-kind-clause-refuses
 returns-in_err-kind-clause-refuses c = handed _ _ _ c.from_residual.ensures (λ text. group_from_kind c.args.declares (c.in_err-kind.ensures.refuses text))
 

@@ -30,25 +30,6 @@ returns-in_err-group-clause-viable c = relayed _ _ c.from_residual.ensures (λ t
 pub returns-in_err-group-2-clause-viable : goal.returns-in_err-group-2-clause-viable
 returns-in_err-group-2-clause-viable c = relayed _ _ c.from_residual-in_err-group-2.ensures (λ text. in_groups c.args.declares (plain_next (IsGroupOf c.args.declares) (mark (codes ";")) (map declared_of c.loop-all.all.items) c.in-Some.field-0 c.loop-all.invariant.0 c.in-Some.ensures.0 (c.in_err-group-2.ensures.viable text)))
 
-
-
-
-
-
-
-
-
-
-
-
-
-
-
-
-
-
-
-
 pub loop-all-init : goal.loop-all-init
 loop-all-init c = (
   views_one declared_of (IsGroupOf c.args.declares) (mark (codes ";")) _ c.in_ok-group.field-0 0 (first_pushed c.new-all.ensures.items c.in_ok-push.ensures.items) c.in_ok-group.ensures.reads,

@@ -20,14 +20,6 @@ returns-in_err-name-clause-viable c = relayed _ _ c.from_residual.ensures (λ te
 pub returns-in_err-init-clause-viable : goal.returns-in_err-init-clause-viable
 returns-in_err-init-clause-viable c = relayed _ _ c.from_residual-in_err-init.ensures (λ text. in_item_init c.args.declares c.in_ok-name.name (same_true the_type (search rules) _ _ (sym c.eq.ensures ∙ c.if-eq.true)) c.in_ok-name.ensures.reads (c.in_err-init.ensures.viable text))
 
-
-
-
-
-
-
-
-
 pub returns-in_err-name-clause-refuses : goal.returns-in_err-name-clause-refuses
 returns-in_err-name-clause-refuses c = handed _ _ _ c.from_residual.ensures (λ text. item_from_name c.args.declares (c.in_err-name.ensures.refuses text))
 

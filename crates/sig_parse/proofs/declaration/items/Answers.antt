@@ -18,16 +18,6 @@ returns-in_err-item-clause-viable c = relayed _ _ c.from_residual.ensures (λ te
 pub returns-in_err-item-2-clause-viable : goal.returns-in_err-item-2-clause-viable
 returns-in_err-item-2-clause-viable c = relayed _ _ c.from_residual-in_err-item-2.ensures (λ text. plain_next (IsItemOf c.args.declares) (mark (codes ",")) c.loop-all.all.items c.in-Some.field-0 c.loop-all.invariant.0 c.in-Some.ensures.0 (c.in_err-item-2.ensures.viable text))
 
-
-
-
-
-
-
-
-
-
-
 pub loop-all-preserved : goal.loop-all-preserved
 loop-all-preserved c = (
   subst_more (IsItemOf c.args.declares) (mark (codes ",")) c.loop-all.all.items _ c.in_ok-item-2.field-0 c.in-Some.field-0 c.in_ok-push-2.ensures.items c.loop-all.invariant.0 c.in-Some.ensures.0 c.in_ok-item-2.ensures.reads,
@@ -37,11 +27,8 @@ loop-all-preserved c = (
 pub returns-in_err-item-clause-refuses : goal.returns-in_err-item-clause-refuses
 returns-in_err-item-clause-refuses c = handed _ _ _ c.from_residual.ensures (λ text. items_refused c.args.declares (c.in_err-item.ensures.refuses text))
 
-
 pub returns-in_err-item-2-clause-refuses : goal.returns-in_err-item-2-clause-refuses
 returns-in_err-item-2-clause-refuses c = handed _ _ _ c.from_residual-in_err-item-2.ensures (λ text. leads_refuses c.loop-all.invariant.1 (leads_refuses (items_next c.args.declares c.in-Some.field-0 (covered c.in-Some.ensures.0)) (items_refused c.args.declares (c.in_err-item-2.ensures.refuses text))))
-
-
 
 pub loop-all-init : goal.loop-all-init
 loop-all-init c = (

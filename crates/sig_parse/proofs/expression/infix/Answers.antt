@@ -12,5 +12,5 @@ pub returns-in_default-infix_of-clause-reads : goal.returns-in_default-infix_of-
 returns-in_default-infix_of-clause-reads c = (
   refl,
   other_level c.in-Some-infix_of.op (level_number c.args.level) c.args.parser.now.leaves (starts_operator c.in-Some.keyword c.in-Some-infix_of.op c.args.parser.now.leaves c.in-Some.ensures c.in-Some-infix_of.ensures)
-  (λ e. same_false the_type c.level_of.result c.args.level (sym c.eq.ensures ∙ c.if-eq.false) (one_level c.level_of.result c.args.level (c.level_of.ensures.own ∙ e))),
+      (λ e. same_false the_type c.level_of.result c.args.level (sym c.eq.ensures ∙ c.if-eq.false) (one_level c.level_of.result c.args.level (c.level_of.ensures.own ∙ e))),
 )

@@ -14,7 +14,6 @@ use Rattle.sig_parse.proofs.pragma.pragma_list.Goals as goal
 pub returns-in_err-pragma-clause-viable : goal.returns-in_err-pragma-clause-viable
 returns-in_err-pragma-clause-viable c = relayed _ _ c.from_residual.ensures (λ text. plain_each IsPlacement (map placement_of c.loop-alloc.all.items) c.loop-alloc.invariant.0 (c.in_err-pragma.ensures.viable text))
 
-
 pub loop-alloc-preserved : goal.loop-alloc-preserved
 loop-alloc-preserved c = (
   reads_each_more placement_of IsPlacement c.loop-alloc.all.items _ c.in_ok-pragma.field-0 c.in_ok-push.ensures.items c.loop-alloc.invariant.0 c.in_ok-pragma.ensures.reads,

@@ -29,8 +29,6 @@ where_part-returns-clause-reads t c =
 pub entries-returns-then-is-clause-reads : goal.entries-returns-then-is-clause-reads
 entries-returns-then-is-clause-reads t c = ended c.args.depth (map model_of c.loop-alloc.processes.items) (map declared_of c.loop-alloc.groups.items) c.loop-alloc.invariant.0
 
-
-
 pub process-returns-clause-reads : goal.process-returns-clause-reads
 process-returns-clause-reads t c = whole c.args.depth c.in_ok-name.name c.in_ok-params.params c.in_ok-interface.interface.inputs c.in_ok-interface.interface.outputs c.in_ok-run_on.run_on c.in_ok-body.body
     c.in_ok-declared.declared.groups c.in_ok-declared.declared.processes c.in_ok-_ended._ended
@@ -109,7 +107,6 @@ where_part-returns-in_err-_closed-clause-refuses t c = handed _ _ _ c.from_resid
 pub where_part-returns-clause-settles : goal.where_part-returns-clause-settles
 where_part-returns-clause-settles t c = where_settled c.args.depth c.in-Some._opened (map model_of c.in_ok-all.all.processes.items) (map declared_of c.in_ok-all.all.groups.items) c.in_ok-_closed._closed (covered c.in-Some.ensures.0) c.in_ok-all.ensures.reads (covered c.in_ok-_closed.ensures.reads)
 
-
 pub entries-loop-alloc-preserved-in_ok-push : goal.entries-loop-alloc-preserved-in_ok-push
 entries-loop-alloc-preserved-in_ok-push t c = (
   one_process_more c.args.depth (map declared_of c.loop-alloc.groups.items) c.loop-alloc.processes.items _ c.in_ok-inner_process.field-0 c.in_ok-push.ensures.items c.loop-alloc.invariant.0 c.in_ok-inner_process.ensures.reads,
@@ -130,9 +127,6 @@ entries-returns-in_err-inner_process-clause-refuses t c = handed _ _ _ c.from_re
 
 pub entries-returns-in_err-local_group-clause-refuses : goal.entries-returns-in_err-local_group-clause-refuses
 entries-returns-in_err-local_group-clause-refuses t c = handed _ _ _ c.from_residual-in_err-local_group.ensures (λ text. leads_refuses c.loop-alloc.invariant.1 (declared_group c.args.depth c.if-is.ensures c.if-is-2.ensures (c.in_err-local_group.ensures.refuses text)))
-
-
-
 
 pub entries-loop-alloc-init : goal.entries-loop-alloc-init
 entries-loop-alloc-init t c = (nothing_begun c.args.depth _ _ c.args.parser.now c.new-processes.ensures.items c.new-groups.ensures.items, leads_nowhere (InDeclared c.args.depth) ContinuesNothing c.args.parser.now.leaves)

@@ -30,8 +30,6 @@ returns-in_err-outputs-clause-viable c = relayed _ _ c.from_residual-in_err-outp
 pub returns-in_err-_closed-clause-viable : goal.returns-in_err-_closed-clause-viable
 returns-in_err-_closed-clause-viable c = whatever _ (at_interface_close c.in_ok-_opened._opened c.in_ok-_asked._asked c.in_ok-_answered._answered (map declared_of c.in_ok-inputs.inputs.items) (map declared_of c.in_ok-outputs.outputs.items) c.in_ok-_opened.ensures.reads c.in_ok-_asked.ensures.reads c.in_ok-inputs.ensures.reads c.in_ok-_answered.ensures.reads c.in_ok-outputs.ensures.reads c.in_err-_closed.ensures.stays)
 
-
-
 pub returns-in_err-_opened-clause-refuses : goal.returns-in_err-_opened-clause-refuses
 returns-in_err-_opened-clause-refuses c = handed _ _ _ c.from_residual.ensures (λ text. interface_open (c.in_err-_opened.ensures.refuses text))
 

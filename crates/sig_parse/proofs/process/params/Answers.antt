@@ -24,7 +24,6 @@ returns-in_err-_closed-clause-viable c = whatever _ (at_params_close c.in-Some._
 pub returns-in_default-clause-settles : goal.returns-in_default-clause-settles
 returns-in_default-clause-settles c = subst (λ (x : State). Settles InParams (ContinuesOptional (mark (codes "{"))) c.args.parser.now.leaves x.leaves) (sym c.in_default.ensures.0) (params_missing c.in_default.ensures.1)
 
-
 pub returns-in_err-all-clause-refuses : goal.returns-in_err-all-clause-refuses
 returns-in_err-all-clause-refuses c = handed _ _ _ c.from_residual.ensures (λ text. params_inside c.in-Some._opened (covered c.in-Some.ensures.0) (c.in_err-all.ensures.refuses text))
 

@@ -32,7 +32,7 @@ loop-all-init c = (
 pub loop-all-preserved : goal.loop-all-preserved
 loop-all-preserved c = (
   subst_more IsName (mark (codes ",")) c.loop-all.all.items _ c.in_ok-name-2.field-0 c.in-Some.field-0 c.in_ok-push-2.ensures.items
-    c.loop-all.invariant.0 c.in-Some.ensures.0 c.in_ok-name-2.ensures.reads,
+      c.loop-all.invariant.0 c.in-Some.ensures.0 c.in_ok-name-2.ensures.reads,
   leads_on c.loop-all.invariant.1 (leads_on (names_next c.in-Some.field-0 (covered c.in-Some.ensures.0)) (names_begun c.in_ok-name-2.field-0 (covered c.in_ok-name-2.ensures.reads))),
 )
 
