@@ -16,6 +16,7 @@ use Rattle.sig_tree.proofs.ReadProcesses.{model_once}
 use Rattle.sig_parse.specs.declared.refusal.Refusal.{Refusal}
 use Rattle.sig_parse.specs.declared.refusal.Refusal.TheVariants.{Syntax, Nesting, Operators, OutOfMemory}
 use Rattle.sig_parse.specs.declared.parse_answer.ParseAnswer.{ParseAnswer}
+use Rattle.sig_parse.specs.declared.parse_answer.ParseAnswer.TheVariants.{OutOfMemory as NoMemory}
 use Rattle.sig_parse.specs.State.{State}
 use Rattle.sig_parse.specs.Reads.{Covers}
 use Rattle.sig_parse.specs.Stalls.{IsOfText}
@@ -103,11 +104,11 @@ is_refused leaves end at cause {here} {stopped} whole place r = record {
   stops = none_goes_on (refused_within cause) r.passed stopped r.excluded;
 }
 
-pub answered : (leaves : List Leaf) (end at : Span) (why : Refusal) {s t : State} → s.leaves ≡ leaves → at ≡ place_of t.leaves end → RefusedBy InProgram IsAnything s t why → IsAnswerOf leaves end (answer_of why at)
-answered leaves end at Syntax whole place r = inr (Wrong, at, refl, is_refused leaves end at Wrong whole place (r (λ e. cc)))
-answered leaves end at Nesting whole place r = inr (TooDeep, at, refl, is_refused leaves end at TooDeep whole place (r (λ e. cc)))
-answered leaves end at Operators whole place r = inr (TooMany, at, refl, is_refused leaves end at TooMany whole place (r (λ e. cc)))
-answered leaves end at OutOfMemory whole place r = inl refl
+pub answered : (leaves : List Leaf) (end at : Span) (why : Refusal) (s t : State) → s.leaves ≡ leaves → at ≡ place_of t.leaves end → RefusedBy InProgram IsAnything s t why → IsAnswerOf leaves end (answer_of why at)
+answered leaves end at Syntax s t whole place r = inr (Wrong, at, refl, is_refused leaves end at Wrong whole place (r (λ e. cc)))
+answered leaves end at Nesting s t whole place r = inr (TooDeep, at, refl, is_refused leaves end at TooDeep whole place (r (λ e. cc)))
+answered leaves end at Operators s t whole place r = inr (TooMany, at, refl, is_refused leaves end at TooMany whole place (r (λ e. cc)))
+answered leaves end at OutOfMemory s t whole place r = inl refl
 
 -- A text with a tree is not refused.
 begins_within : (limits : Limits) (leaves : List Leaf) → Begins both_limits leaves → Begins limits leaves
@@ -179,3 +180,14 @@ one_refused leaves end c d at place r k = go (longer r.passed r.after k.passed k
     )
     go (inr (inl (l, more, rest, e, f))) = absurd (r.stops (went_on (refused_within c) r.passed r.after k.passed l more rest e f k.begins))
     go (inr (inr (l, more, rest, e, f))) = absurd (k.stops (went_on (refused_within d) k.passed k.after r.passed l more rest e f r.begins))
+
+-- the answers of the parser
+pub no_other : (leaves : List Leaf) (end : Span) (answer : ParseAnswer) → IsAnswerOf leaves end answer → (cause : Cause) (at : Span) → IsRefused leaves end cause at → (answer ≡ NoMemory) ⊎ (answer ≡ answer_for cause at)
+no_other leaves end answer (inl e) cause at r = inl e
+no_other leaves end answer (inr (c, place, e, k)) cause at r =
+    let same = one_refused leaves end c cause place at k r in
+    inr (e ∙ ap (λ (d : Cause). answer_for d place) same.0 ∙ ap (λ (p : Span). answer_for cause p) same.1)
+
+pub given_tree : (leaves : List Leaf) (end : Span) (answer : ParseAnswer) → IsAnswerOf leaves end answer → (processes : List ProcessModel) → IsProgram both_limits processes leaves → answer ≡ NoMemory
+given_tree leaves end answer (inl e) processes is = e
+given_tree leaves end answer (inr (c, place, e, k)) processes is = absurd (not_refused leaves end place c processes is k)

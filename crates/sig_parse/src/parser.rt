@@ -70,7 +70,7 @@ impl<'l, 'a> Parser<'l, 'a> {
 
     /// Whether nothing is left.
     pub fn is_done(&self) -> bool
-        ensures { result ≡ true → self.now.leaves ≡ [] }
+        ensures { MatchBool result (self.now.leaves ≡ []) (self.now.leaves ≡ [] → ⊥) }
     {
         self.leaves.len() <= self.next
     }
