@@ -2,8 +2,8 @@
 use Rattle.std.proofs.Common.{◌≡◌, ℕ, List, ap, subst}
 use Rattle.sig_lex.proofs.Unique.{one_list, one_first_fault, list_or_fault}
 use Rattle.sig_lex.specs.declared.token.Token.{Token}
-use Rattle.sig_parse.proofs.OneRefusal.{one_refusal, no_refusal}
-use Rattle.sig_parse.specs.FirstRefusal.{IsFirstRefusal}
+use Rattle.sig_parse.proofs.RefusedPrograms.{one_answer as one_refusal, no_answer as no_refusal}
+use Rattle.sig_parse.specs.Exact.{IsFirstRefusal}
 use Rattle.sig_parse.specs.Refused.{end_of}
 use Rattle.sig_tree.proofs.ReadProcesses.{tree_once as one_tree}
 use Rattle.sig_tree.specs.Grammar.{HasTree, IsText}

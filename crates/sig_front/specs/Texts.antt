@@ -6,7 +6,7 @@ use Rattle.sig_lex.specs.declared.token.Token.{Token}
 use Rattle.sig_lex.specs.Tokens.{AreTokens, IsFirstFault}
 use Rattle.sig_parse.specs.declared.parse_answer.ParseAnswer.{ParseAnswer}
 use Rattle.sig_parse.specs.declared.parse_answer.ParseAnswer.TheVariants.{Syntax, Nesting, OutOfMemory as ParseMemory}
-use Rattle.sig_parse.specs.FirstRefusal.{IsFirstRefusal}
+use Rattle.sig_parse.specs.Exact.{IsFirstRefusal}
 use Rattle.sig_parse.specs.Refused.{end_of}
 use Rattle.sig_tree.specs.Leaves.{leaves_of}
 use Rattle.sig_front.specs.declared.answer.FrontAnswer.{FrontAnswer}

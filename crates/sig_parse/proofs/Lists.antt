@@ -7,7 +7,7 @@ use Rattle.sig_tree.specs.Terminals.{Terminal, Leaf, leaf}
 use Rattle.sig_tree.specs.Repeated.{Each, Further, Separated, Listed}
 use Rattle.sig_parse.specs.State.{State}
 use Rattle.sig_parse.specs.Reads.{Reads, Covers, IsLeaf}
-use Rattle.sig_parse.proofs.Joins.{joined, viewed, after_leaf}
+use Rattle.sig_parse.proofs.Joins.{joined, viewed, nothing, after_leaf}
 
 module _ {A : Type 0} (Is : A → List Leaf → Type 0) (separator : Terminal) where
   pub separated_one : (x : A) (front : List Leaf) → Is x front → Separated Is separator (x ∷ []) front
@@ -115,3 +115,10 @@ subst_more Is separator old new x at {s} {v = v} e r q p =
 pub some_mapped : {A B : Type 0} (f : B → A) (xs : List B) → 2 ≤ length xs → 1 ≤ length (map f xs)
 some_mapped f [] le = absurd (omega arith)
 some_mapped f (x ∷ xs) le = omega arith
+
+pub subst_one : {A : Type 0} (Is : A → List Leaf → Type 0) (separator : Terminal) (all : List A) (x : A) {s t : State} → all ≡ [] ++ x ∷ [] → Reads (Is x) 0 s t → Reads (Separated Is separator all) 0 s t
+subst_one Is separator all x {s} {t} e r = subst (λ xs. Reads (Separated Is separator xs) 0 s t) (sym e) (reads_one Is separator x 0 r)
+
+-- none of them
+pub reads_none : {A B : Type 0} (f : B → A) (Is : A → List Leaf → Type 0) (all : List B) (s : State) → all ≡ [] → Reads (Each Is (map f all)) 0 s s
+reads_none {A} {B} f Is all s e = subst (λ (xs : List B). Reads (Each Is (map f xs)) 0 s s) (sym e) (nothing (Each Is []) s s refl refl)

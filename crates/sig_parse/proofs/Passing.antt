@@ -1,5 +1,9 @@
 -- Passing the next leaf.
-use Rattle.std.proofs.Common.{◌≡◌, ℕ, ◌+◌, ◌<◌, ◌≤◌, suc, List, [], ◌∷◌, length, map, get_or, drop, drop-cons, length-drop, refl, sym, ap, ◌∙◌, arith}
+use Rattle.std.proofs.Common.{◌≡◌, ℕ, ◌+◌, ◌<◌, ◌≤◌, suc, List, [], ◌∷◌, length, map, get_or, drop, drop-cons, length-drop, Bool, true, false, refl, sym, ap, ◌∙◌, arith}
+use Rattle.std.proofs.Math.Dec.{leb}
+use Rattle.std.proofs.lemmas.List.{length-map}
+use Rattle.std.proofs.lemmas.Bool.{leb-true, leb-false}
+use Rattle.std.specs.Prelude.{MatchBool}
 use Rattle.sig_base.specs.declared.span.Span.{Span}
 use Rattle.sig_tree.specs.Terminals.{Terminal, leaf}
 use Rattle.sig_parse.specs.declared.leaf.Leaf.{Leaf}
@@ -41,3 +45,13 @@ none (x ∷ xs) e = absurd (omega arith)
 pub nothing_left : (leaves : List Leaf) (i count : ℕ) (s : State) → state_at leaves i count ≡ s → length leaves ≤ i → s.leaves ≡ []
 nothing_left leaves i count s e beyond =
     ap (λ (x : State). x.leaves) (sym e) ∙ ap (map leaf_seen) (none (drop i leaves) (omega (arith, length-drop i leaves)))
+
+some_left : (leaves : List Leaf) (i count : ℕ) (s : State) → state_at leaves i count ≡ s → i < length leaves → s.leaves ≡ [] → ⊥
+some_left leaves i count s e before none =
+    let empty : map leaf_seen (drop i leaves) ≡ [] = ap (λ (x : State). x.leaves) e ∙ none in
+    absurd (omega (arith, length-drop i leaves, length-map (drop i leaves) leaf_seen, ap length empty))
+
+-- whether none is left
+pub whether_left : (leaves : List Leaf) (i count : ℕ) (s : State) → state_at leaves i count ≡ s → (done : Bool) → leb (length leaves) i ≡ done → MatchBool done (s.leaves ≡ []) (s.leaves ≡ [] → ⊥)
+whether_left leaves i count s e true is = nothing_left leaves i count s e (leb-true (length leaves) i is)
+whether_left leaves i count s e false is = some_left leaves i count s e (leb-false (length leaves) i is)

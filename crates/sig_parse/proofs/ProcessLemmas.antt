@@ -161,3 +161,8 @@ whole depth name params inputs outputs run_on body locals inner closed r =
     (λ front h. from_parts depth (heading_of name params.items inputs.items outputs.items) (map placement_of run_on.items) (equations_of body) (map declared_of locals.items) (row_in p).0 (row_in p).1 closed front
     (subst (λ (ps : List Process). Parts depth name (map declared_of params.items) (map declared_of inputs.items) (map declared_of outputs.items) (map placement_of run_on.items) (equations_of body) (map declared_of locals.items) (map model_of ps) closed front)
     (sym (items_hidden-the_row-Process-0 inner)) h)) r
+
+pub nothing_begun : (depth : ℕ) (processes : List Process) (groups : List Group) (s : State) → processes ≡ [] → groups ≡ [] → Begun depth (map model_of processes) (map declared_of groups) s s
+nothing_begun depth processes groups s e f =
+    subst (λ (ps : List Process). Begun depth (map model_of ps) (map declared_of groups) s s) (sym e)
+    (subst (λ (gs : List Group). Begun depth [] (map declared_of gs) s s) (sym f) (nothing_declared depth s))

@@ -18,14 +18,11 @@ use Rattle.sig_tree.proofs.ReadEquations.{starts_conflict, stops_nothing}
 use Rattle.sig_tree.proofs.ReadBodies.{together_apart, definition_starts}
 use Rattle.sig_parse.specs.Refusals.{Cause, Wrong, TooDeep, Refuses}
 use Rattle.sig_parse.specs.Languages.{InOne, counted}
+use Rattle.sig_parse.specs.Parts.{InBody}
 use Rattle.sig_parse.proofs.Refusing.{refuses_inside, refuses_at_once}
 use Rattle.sig_parse.proofs.RefusedConstants.{some_name, some_leaf}
 use Rattle.sig_parse.proofs.RefusedLists.{Closed, Any_of}
 use Rattle.sig_parse.proofs.RefusedSides.{none_of, no_operators}
-
--- a body, and one inside brackets
-abbrev pub InBody : (depth : ℕ) → Limits → List Leaf → Type 0
-InBody depth limits leaves = (body : Equations) × IsBody limits body depth leaves
 
 abbrev pub Body_of : (depth : ℕ) → Limits → Equations → List Leaf → Type 0
 Body_of depth limits body leaves = IsBody limits body depth leaves

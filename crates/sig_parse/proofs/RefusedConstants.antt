@@ -10,15 +10,17 @@ use Rattle.sig_tree.specs.Terminals.{Terminal, Leaf, leaf, name, number, word, m
 use Rattle.sig_tree.specs.Limits.{Limits, no_limits}
 use Rattle.sig_tree.specs.Expressions.{IsConstant, IsInit, IsOptionalInit}
 use Rattle.sig_tree.specs.Readings.{StopsBefore}
-use Rattle.sig_tree.specs.Beginning.{StartsWith, BeginsConstant}
+use Rattle.sig_tree.specs.Beginning.{StartsWith, BeginsConstant, BeginsName}
 use Rattle.sig_tree.specs.Continuing.{ContinuesNothing, ContinuesInit}
 use Rattle.sig_tree.specs.Unplaced.{no_place}
 use Rattle.sig_tree.proofs.Operators.{different}
 use Rattle.sig_tree.proofs.Combining.{cons_same}
 use Rattle.sig_tree.proofs.FirstLeaves.{constant_begins}
 use Rattle.sig_tree.proofs.ReadEquations.{stops_nothing}
-use Rattle.sig_parse.specs.Refusals.{Cause, Wrong, Refuses}
-use Rattle.sig_parse.specs.Languages.{InConstant, InInit, InOptionalInit}
+use Rattle.sig_tree.proofs.ReadExpressions.{init_once}
+use Rattle.sig_parse.specs.Refusals.{Cause, Wrong, Agrees, Refuses}
+use Rattle.sig_parse.specs.Languages.{InLeaf, InNumber, InConstant, InInit, InOptionalInit}
+use Rattle.sig_parse.proofs.Leading.{behind_agrees}
 use Rattle.sig_parse.proofs.Refusing.{SameFirst, refuses_inside, refuses_first, refuses_at_once}
 
 -- some name
@@ -28,19 +30,11 @@ some_name = record { text = codes "x"; at = no_place }
 abbrev pub some_leaf : Leaf
 some_leaf = name_leaf some_name
 
--- one leaf with a terminal
-abbrev pub InLeaf : Terminal → Limits → List Leaf → Type 0
-InLeaf t limits leaves = (at : Span) × (leaves ≡ leaf t at ∷ [])
-
 leaf_starts : (t : Terminal) (leaves : List Leaf) → InLeaf t no_limits leaves → StartsWith (λ s. s ≡ t) leaves
 leaf_starts t leaves (at, e) = subst (λ (l : List Leaf). StartsWith (λ s. s ≡ t) l) (sym e) refl
 
 pub leaf_refused : (t : Terminal) (here : List Leaf) → StopsBefore (λ s. s ≡ t) here → Refuses (InLeaf t) ContinuesNothing Wrong here here
 leaf_refused t here stops = refuses_at_once (InLeaf t) ContinuesNothing (λ s. s ≡ t) (leaf t no_place ∷ []) (no_place, refl) (leaf_starts t) here stops
-
--- a number
-abbrev pub InNumber : Limits → List Leaf → Type 0
-InNumber limits leaves = (n : ℕ) × InLeaf (number n) limits leaves
 
 number_starts : (leaves : List Leaf) → InNumber no_limits leaves → StartsWith (λ s. (n : ℕ) × (s ≡ number n)) leaves
 number_starts leaves (n, (at, e)) = subst (λ (l : List Leaf). StartsWith (λ s. (n : ℕ) × (s ≡ number n)) l) (sym e) (n, refl)
@@ -107,6 +101,13 @@ no_init_refused here stops =
     refuses_at_once InInit ContinuesNothing ContinuesInit (leaf (word (codes "init")) no_place ∷ some_leaf ∷ []) (Param some_name, (no_place, some_leaf ∷ [], refl, refl))
     (λ leaves is. init_starts is.0 leaves is.1) here stops
 
+pub init_sign : (cause : Cause) (here after : List Leaf) → Refuses (InLeaf (word (codes "init"))) ContinuesNothing cause here after → Refuses InInit ContinuesNothing cause here after
+init_sign cause here after r =
+    refuses_first (InLeaf (word (codes "init"))) InInit (some_leaf ∷ [])
+    (λ limits leaves is. (Param some_name, (is.0, some_leaf ∷ [], ap (λ l. l ++ some_leaf ∷ []) is.1, refl)))
+    ContinuesNothing ContinuesNothing cause here after
+    (λ limits whole back is stops same. (leaf (word (codes "init")) is.1.0 ∷ [], is.1.1 ++ back, ap (λ l. l ++ back) is.1.2, (is.1.0, refl), stops_nothing (is.1.1 ++ back))) r
+
 pub init_refused : (at : Span) (cause : Cause) (here after : List Leaf) → Refuses InConstant ContinuesNothing cause here after
     → Refuses InInit ContinuesNothing cause (leaf (word (codes "init")) at ∷ here) after
 init_refused at cause here after r =
@@ -133,3 +134,33 @@ optional_init_refused at more cause after r =
     refuses_first InInit InOptionalInit [] (λ limits leaves is. (Some is.0, subst (λ (l : List Leaf). IsInit is.0 l) (sym (append-nil leaves)) is.1))
     ContinuesNothing ContinuesInit cause (leaf (word (codes "init")) at ∷ more) after
     (λ limits whole back is stops same. (whole, back, refl, optional_part at more is.0 whole back is.1 stops same, stops_nothing back)) r
+
+pub optional_refused : (cause : Cause) (here after : List Leaf) → StartsWith ContinuesInit here → Refuses InInit ContinuesNothing cause here after → Refuses InOptionalInit ContinuesInit cause here after
+optional_refused cause [] after starts r = absurd starts
+optional_refused cause (l ∷ more) after starts r = subst (λ (m : Leaf). Refuses InOptionalInit ContinuesInit cause (m ∷ more) after) whole
+    (optional_init_refused l.at more cause after (subst (λ (m : Leaf). Refuses InInit ContinuesNothing cause (m ∷ more) after) (sym whole) r))
+  where
+    whole : leaf (word (codes "init")) l.at ≡ l
+    whole = ap (λ t. leaf t l.at) (sym starts)
+
+-- what begins no constant
+pub no_constant : (here : List Leaf) → StopsBefore (λ t. (n : ℕ) × (t ≡ number n)) here → StopsBefore (λ t. t ≡ word (codes "true")) here → StopsBefore (λ t. t ≡ word (codes "false")) here
+    → StopsBefore (λ t. t ≡ mark (codes "-")) here → StopsBefore BeginsName here → StopsBefore BeginsConstant here
+no_constant [] no_number no_true no_false no_minus no_name = tt
+no_constant (l ∷ here) no_number no_true no_false no_minus no_name = go where
+  go : BeginsConstant l.terminal → ⊥
+  go (inl (inl minus)) = no_minus minus
+  go (inl (inr digits)) = no_number digits
+  go (inr (inl (true, e))) = no_true e
+  go (inr (inl (false, e))) = no_false e
+  go (inr (inr is_name)) = no_name is_name
+
+-- an optional init that was read
+pub init_settles : (c : Constant) (passed after : List Leaf) → IsInit c passed → (leaves front back : List Leaf) → Agrees passed after leaves → leaves ≡ front ++ back
+    → InOptionalInit no_limits front → StopsBefore ContinuesInit back → front ≡ passed
+init_settles c passed after is leaves front back agrees e is_front stops =
+    let parts = behind_agrees passed after leaves agrees in
+    let first : SameFirst (leaf (word (codes "init")) is.0 ∷ (is.1 ++ parts.0)) (front ++ back) = subst (λ (l : List Leaf). SameFirst (leaf (word (codes "init")) is.0 ∷ (is.1 ++ parts.0)) l)
+    (ap (λ l. l ++ parts.0) (sym is.2) ∙ sym parts.1 ∙ e) refl in
+    let other = optional_part is.0 (is.1 ++ parts.0) is_front.0 front back is_front.1 stops first in
+    sym (init_once c other.0 passed front parts.0 back (sym parts.1 ∙ e) is other.1 (stops_nothing parts.0) (stops_nothing back)).1

@@ -20,9 +20,9 @@ use Rattle.sig_tree.proofs.ReadExpressions.{expression_once}
 use Rattle.sig_tree.proofs.Combining.{cons_same, append_to, part_at, further_stops}
 use Rattle.sig_tree.proofs.ReadEquations.{mark_apart, stops_nothing, left_once}
 use Rattle.sig_parse.specs.Refusals.{Cause, Refuses}
-use Rattle.sig_parse.specs.Languages.{InOne, counted, InLevel, InLeft, InRight, InDefinition, InClockEquation}
+use Rattle.sig_parse.specs.Languages.{InLeaf, InOne, counted, InLevel, InLeft, InRight, InDefinition, InClockEquation}
 use Rattle.sig_parse.proofs.Refusing.{first_stops, refuses_inside, refuses_first}
-use Rattle.sig_parse.proofs.RefusedConstants.{some_name, some_leaf, InLeaf}
+use Rattle.sig_parse.proofs.RefusedConstants.{some_name, some_leaf}
 use Rattle.sig_parse.proofs.RefusedLevels.{fewer}
 use Rattle.sig_parse.proofs.RefusedLists.{More_of}
 use Rattle.sig_parse.proofs.RefusedSides.{counted_sum}
@@ -32,7 +32,7 @@ abbrev pub Expression_of : (depth : ℕ) → Limits → Expression → List Leaf
 Expression_of depth limits e leaves = IsExpression limits depth e leaves
 
 module _ (depth : ℕ) where
-  some_expression : (limits : Limits) → IsExpression limits depth (Named some_name) (some_leaf ∷ [])
+  pub some_expression : (limits : Limits) → IsExpression limits depth (Named some_name) (some_leaf ∷ [])
   some_expression limits = (0, (omega arith, refl))
 
   abbrev define : Span → Leaf
@@ -88,16 +88,16 @@ module _ (depth : ℕ) where
       let heads = cons_same (define at) (define place) rest (right ++ back) part.2 in
       (right, back, heads.1, (is.1, is_right, fewer limits (0 + right_operators is.1) (right_operators is.1) (omega arith) few), stops)) r
 
-  abbrev same_clock : Span → Leaf
+  abbrev pub same_clock : Span → Leaf
   same_clock at = leaf (mark (codes "^=")) at
 
-  apart : ContinuesExpression default_level (mark (codes "^=")) → ⊥
+  pub apart : ContinuesExpression default_level (mark (codes "^=")) → ⊥
   apart continues = mark_apart (codes "^=") refl default_level continues
 
-  item_stops : (back : List Leaf) → StopsBefore ContinuesClockEquation back → StopsBefore (ContinuesExpression default_level) back
+  pub item_stops : (back : List Leaf) → StopsBefore ContinuesClockEquation back → StopsBefore (ContinuesExpression default_level) back
   item_stops back stops = stops_smaller ContinuesClockEquation (ContinuesExpression default_level) (λ t continues. inr continues) back stops
 
-  fits_both : (limits : Limits) (x y : Expression) (others : List Expression) (count : ℕ) → counted operators (x ∷ y ∷ others) ≤ count → MayHave limits count → MayHave limits (sum_by operators (x ∷ y ∷ others))
+  pub fits_both : (limits : Limits) (x y : Expression) (others : List Expression) (count : ℕ) → counted operators (x ∷ y ∷ others) ≤ count → MayHave limits count → MayHave limits (sum_by operators (x ∷ y ∷ others))
   fits_both limits x y others count within fits = fewer limits (sum_by operators (x ∷ y ∷ others)) count (omega (arith, counted_sum (x ∷ y ∷ others))) fits
 
   -- the first expression of a clock equation
@@ -128,7 +128,7 @@ module _ (depth : ℕ) where
       )
 
   -- What stands behind the first expression: "^=" and more.
-  behind_first : (x : Expression) (front : List Leaf) → IsExpression both_limits depth x front → (limits : Limits) (rest whole back : List Leaf) → front ++ rest ≡ whole ++ back → StopsBefore (ContinuesExpression default_level) rest
+  pub behind_first : (x : Expression) (front : List Leaf) → IsExpression both_limits depth x front → (limits : Limits) (rest whole back : List Leaf) → front ++ rest ≡ whole ++ back → StopsBefore (ContinuesExpression default_level) rest
       → (xs : List Expression) → IsClockEquation limits depth xs whole
       → (y : Expression) × (others : List Expression) × (at : Span) × (second last : List Leaf) × (rest ≡ same_clock at ∷ (second ++ (last ++ back))) × IsExpression limits depth y second
       × Further (IsExpression limits depth) (mark (codes "^=")) others last × MayHave limits (operators x + (operators y + counted operators others))

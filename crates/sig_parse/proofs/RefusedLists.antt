@@ -13,9 +13,8 @@ use Rattle.sig_tree.proofs.Stopping.{stops_smaller}
 use Rattle.sig_tree.proofs.Combining.{cons_same, append_to, part_at}
 use Rattle.sig_tree.proofs.ReadEquations.{stops_nothing}
 use Rattle.sig_parse.specs.Refusals.{Cause, Refuses}
-use Rattle.sig_parse.specs.Languages.{InOne, counted}
+use Rattle.sig_parse.specs.Languages.{InLeaf, InOne, counted}
 use Rattle.sig_parse.proofs.Refusing.{SameFirst, first_stops, refuses_inside, refuses_first}
-use Rattle.sig_parse.proofs.RefusedConstants.{InLeaf}
 use Rattle.sig_parse.proofs.RefusedLevels.{fewer}
 
 -- leaves and the one that closes them

@@ -21,9 +21,9 @@ use Rattle.sig_tree.proofs.Combining.{cons_same, append_to, part_at}
 use Rattle.sig_tree.proofs.ReadEquations.{mark_apart, stops_nothing}
 use Rattle.sig_tree.proofs.Spines.{operand_at}
 use Rattle.sig_parse.specs.Refusals.{Cause, Wrong, TooDeep, Refuses}
-use Rattle.sig_parse.specs.Languages.{InLevel, InOperand}
+use Rattle.sig_parse.specs.Languages.{InLeaf, InLevel, InOperand}
 use Rattle.sig_parse.proofs.Refusing.{first_stops, refuses_inside, refuses_at_once}
-use Rattle.sig_parse.proofs.RefusedConstants.{some_name, some_leaf, InLeaf}
+use Rattle.sig_parse.proofs.RefusedConstants.{some_name, some_leaf}
 use Rattle.sig_parse.proofs.RefusedOperands.{named_operand}
 
 module _ (depth used : ℕ) where

@@ -27,13 +27,13 @@ use Rattle.sig_parse.proofs.Refusing.{SameFirst, refuses_inside}
 use Rattle.sig_parse.proofs.RefusedConstants.{some_name, some_leaf}
 use Rattle.sig_parse.proofs.RefusedLevels.{fewer}
 
-two_no_cell : (op : BinOp) → OfTwo op ≡ OfCell → ⊥
+pub two_no_cell : (op : BinOp) → OfTwo op ≡ OfCell → ⊥
 two_no_cell op e = cc
 
-two_no_delay : (op : BinOp) → OfTwo op ≡ OfDelay → ⊥
+pub two_no_delay : (op : BinOp) → OfTwo op ≡ OfDelay → ⊥
 two_no_delay op e = cc
 
-cell_no_delay : OfCell ≡ OfDelay → ⊥
+pub cell_no_delay : OfCell ≡ OfDelay → ⊥
 cell_no_delay e = cc
 
 pub no_primary : (here : List Leaf) → StopsBefore (ContinuesExpression primary_level) here
@@ -42,7 +42,7 @@ no_primary (l ∷ here) = primary_ends l.terminal
 
 module _ (level depth used : ℕ) where
   -- the operator of a step is the one that stands first
-  step_operator : (i : Infix) (at : Span) (limits : Limits) (rest whole back : List Leaf) → leaf (infix_terminal i) at ∷ rest ≡ whole ++ back → (s : Step) → IsStep limits level depth s whole → i ≡ infix_of_step s
+  pub step_operator : (i : Infix) (at : Span) (limits : Limits) (rest whole back : List Leaf) → leaf (infix_terminal i) at ∷ rest ≡ whole ++ back → (s : Step) → IsStep limits level depth s whole → i ≡ infix_of_step s
   step_operator i at limits rest whole back e s is =
       let seen = step_seen limits level depth s whole is in
       let heads = cons_same _ _ _ _ (e ∙ ap (λ l. l ++ back) seen.2) in

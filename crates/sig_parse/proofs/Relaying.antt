@@ -1,5 +1,5 @@
 -- A refusal that is handed on.
-use Rattle.std.proofs.Common.{◌≡◌, ◌∙◌, sym, Result, Ok, Err, IfErr}
+use Rattle.std.proofs.Common.{◌≡◌, ◌∙◌, sym, subst, Result, Ok, Err, IfErr}
 use Rattle.std.specs.Prelude.{OnErr}
 use Rattle.std.specs.Result.{IsErr, IsErrAnd}
 use Rattle.sig_parse.specs.declared.refusal.Refusal.{Refusal}
@@ -10,6 +10,20 @@ use Rattle.sig_parse.specs.Stalls.{IsOfText}
 pub relayed : {T P : Type 0} (r : Result T Refusal) (e : Refusal) → IsErr r × IsErrAnd r (λ f. f ≡ e) → (IsOfText e → P) → IfErr r (λ why. IsOfText why → P)
 relayed (Ok x) e h p = tt
 relayed (Err f) e h p = λ text. p (λ same. text (h.1 ∙ same))
+
+-- and what is said of it
+pub handed : {T : Type 0} (P : Refusal → Type 0) (r : Result T Refusal) (e : Refusal) → IsErr r × IsErrAnd r (λ f. f ≡ e) → P e → IfErr r P
+handed P (Ok x) e h p = tt
+handed P (Err f) e h p = subst P (sym h.1) p
+
+-- what is said of each refusal
+pub since_refused : {T : Type 0} (P Q : Refusal → Type 0) (r : Result T Refusal) → IfErr r P → ((why : Refusal) → P why → Q why) → IfErr r Q
+since_refused P Q (Ok x) h f = tt
+since_refused P Q (Err e) h f = f e h
+
+pub since_both : {T : Type 0} (P O Q : Refusal → Type 0) (r : Result T Refusal) → IfErr r P → IfErr r O → ((why : Refusal) → P why → O why → Q why) → IfErr r Q
+since_both P O Q (Ok x) h g f = tt
+since_both P O Q (Err e) h g f = f e h g
 
 -- whatever the refusal
 pub whatever : {T P : Type 0} (r : Result T Refusal) → P → IfErr r (λ why. IsOfText why → P)

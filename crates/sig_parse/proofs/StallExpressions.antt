@@ -18,7 +18,7 @@ use Rattle.sig_parse.specs.declared.operator.Infix.{Infix}
 use Rattle.sig_parse.specs.declared.operator.Infix.TheVariants.{Binary as BinaryOp, Cell as CellOp, Delay as DelayOp}
 use Rattle.sig_parse.specs.State.{State}
 use Rattle.sig_parse.specs.Reads.{Reads, IsLeaf}
-use Rattle.sig_parse.specs.Operators.{level_number, first_level, infix_terminal, infix_level, infix_left, IsTighter, IsInfix}
+use Rattle.sig_parse.specs.Operators.{level_number, first_level, infix_terminal, infix_level, infix_left, IsTighter, IsInfix, Completes}
 use Rattle.sig_parse.specs.Stalls.{Counted, Plain, Stalls, StallsBehind}
 use Rattle.sig_parse.proofs.Standing.{looser, parenthesised, unary}
 use Rattle.sig_parse.proofs.Steps.{below_first, first_below, prefix_first}
@@ -239,3 +239,16 @@ in_tighter level next depth tight r = level_looser (first_level level) (level_nu
 pub first_within : (level : Level) → first_level level ≤ primary_level
 first_within Relation = omega arith
 first_within level = omega arith
+
+-- what is completed already
+pub behind_complete : (depth : ℕ) (left : Expression) (op : Infix) (at : Span) (e : Expression) {s t u : State} → u ≡ t → Completes depth left op at e s t → StallsBehind depth left op at s u
+behind_complete depth left op at e {s} {t} {u} same c = subst (λ (x : State). StallsBehind depth left op at s x) (sym same) (record {
+  passed = c.back;
+  split = c.split;
+  done = [];
+  tree = e;
+  stands = λ front l. subst (λ (ls : List Leaf). IsAtLevel both_limits (infix_level op) depth e (front ++ leaf (infix_terminal op) at ∷ ls)) (sym (append-nil c.back)) (c.stands front l);
+  count = c.count;
+  operators_are = c.operators_are;
+  few = λ h. let most = c.few h in omega (arith, c.counted);
+})

@@ -1,5 +1,5 @@
 -- The reserved words and the marks of the parser, as terminals.
-use Rattle.std.specs.Prelude.{ℕ, List, codes}
+use Rattle.std.specs.Prelude.{◌≡◌, ℕ, List, codes}
 use Rattle.sig_tree.specs.Terminals.{Terminal, word, mark}
 use Rattle.sig_parse.specs.declared.keyword.Keyword.{Keyword}
 use Rattle.sig_parse.specs.declared.keyword.Keyword.TheVariants.{Process, Where, End, Integer, Boolean, Event, Init, When, Default, Cell, Not, And, Or, Xor, Modulo, True, False, Pragmas, BodyOpen, BodyClose, Bar, Open, Close, BraceOpen, BraceClose, Comma, Semicolon, Question, Exclamation, Define, SameClock, ClockPlus, ClockMeet, ClockLess, Clock, Dollar, Equal, NotEqual, Less, LessEqual, Greater, GreaterEqual, Plus, Minus, Times, Divide}
@@ -52,6 +52,10 @@ terminal_of Plus = mark (codes "+")
 terminal_of Minus = mark (codes "-")
 terminal_of Times = mark (codes "*")
 terminal_of Divide = mark (codes "/")
+
+-- some keyword
+abbrev pub IsKeyword : Terminal → Type 0
+IsKeyword t = (keyword : Keyword) × (t ≡ terminal_of keyword)
 
 -- its bytes
 abbrev pub spelling_of : Keyword → List ℕ

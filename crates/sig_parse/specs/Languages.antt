@@ -1,14 +1,15 @@
 -- The languages of the parts of the parser: leaves that are something of the grammar within limits, in
 -- an equation that has so many operators before them.
-use Rattle.std.specs.Prelude.{◌+◌, ℕ, suc, List, [], ◌∷◌, length, Option}
+use Rattle.std.specs.Prelude.{◌≡◌, ◌++◌, ◌+◌, ℕ, suc, List, [], ◌∷◌, length, codes, Option}
 use Rattle.sig_tree.specs.declared.expr.Constant.{Constant}
 use Rattle.sig_tree.specs.declared.expr.Name.{Name}
 use Rattle.sig_tree.specs.Syntax.{Expression, RightSide}
-use Rattle.sig_tree.specs.Terminals.{Leaf}
+use Rattle.sig_base.specs.declared.span.Span.{Span}
+use Rattle.sig_tree.specs.Terminals.{Terminal, Leaf, leaf, number, label, mark}
 use Rattle.sig_tree.specs.Limits.{Limits, MayHave, operators, right_operators}
-use Rattle.sig_tree.specs.Repeated.{Each}
-use Rattle.sig_tree.specs.Expressions.{IsConstant, IsInit, IsOptionalInit, IsAtLevel}
-use Rattle.sig_tree.specs.Equations.{IsLeft, AreConstants, AreArguments, IsRight, IsDefinition, IsClockEquation}
+use Rattle.sig_tree.specs.Repeated.{Each, Listed}
+use Rattle.sig_tree.specs.Expressions.{IsConstant, IsInit, IsOptionalInit, IsOptionalOne, IsAtLevel, IsExpression}
+use Rattle.sig_tree.specs.Equations.{IsName, IsLeft, AreConstants, AreArguments, IsRight, IsDefinition, IsClockEquation}
 use Rattle.sig_tree.specs.Spines.{Step, WithOperand, WithCell, WithDelay, IsOperand, IsStep, AreSoMany}
 
 -- something of these, with its operators
@@ -20,6 +21,20 @@ abbrev pub counted : {A : Type 0} → (A → ℕ) → List A → ℕ
 counted count [] = 0
 counted count (x ∷ xs) = count x + counted count xs
 
+-- one leaf with a terminal
+abbrev pub InLeaf : Terminal → Limits → List Leaf → Type 0
+InLeaf t limits leaves = (at : Span) × (leaves ≡ leaf t at ∷ [])
+
+-- a number, a label, a name
+abbrev pub InNumber : Limits → List Leaf → Type 0
+InNumber limits leaves = (n : ℕ) × InLeaf (number n) limits leaves
+
+abbrev pub InLabel : Limits → List Leaf → Type 0
+InLabel limits leaves = (text : List ℕ) × InLeaf (label text) limits leaves
+
+abbrev pub InName : Limits → List Leaf → Type 0
+InName limits leaves = (name : Name) × IsName name leaves
+
 abbrev pub InConstant : Limits → List Leaf → Type 0
 InConstant limits leaves = (constant : Constant) × IsConstant constant leaves
 
@@ -28,6 +43,9 @@ InInit limits leaves = (constant : Constant) × IsInit constant leaves
 
 abbrev pub InOptionalInit : Limits → List Leaf → Type 0
 InOptionalInit limits leaves = (constant : Option Constant) × IsOptionalInit constant leaves
+
+abbrev pub InOptionalOne : Limits → List Leaf → Type 0
+InOptionalOne limits leaves = IsOptionalOne leaves
 
 -- an expression where one of a level is asked for
 abbrev pub InLevel : (level depth used : ℕ) → Limits → List Leaf → Type 0
@@ -63,6 +81,16 @@ InLeft depth limits leaves = (names : List Name) × IsLeft limits depth names le
 -- the constants of a call, where it has any
 abbrev pub InConstants : Limits → List Leaf → Type 0
 InConstants limits leaves = (constants : List Constant) × AreConstants constants leaves
+
+-- the constants of a call up to the mark that closes them, and its arguments so
+abbrev pub InConstantList : Limits → List Leaf → Type 0
+InConstantList limits leaves = (constants : List Constant) × (closed : Span) × (inside : List Leaf)
+    × (leaves ≡ inside ++ leaf (mark (codes "}")) closed ∷ []) × Listed IsConstant (mark (codes ",")) constants inside
+
+abbrev pub InArgumentList : (depth used : ℕ) → Limits → List Leaf → Type 0
+InArgumentList depth used limits leaves = (arguments : List Expression)
+    × ((closed : Span) × (inside : List Leaf) × (leaves ≡ inside ++ leaf (mark (codes ")")) closed ∷ []) × Listed (IsExpression limits depth) (mark (codes ",")) arguments inside)
+    × MayHave limits (used + counted operators arguments)
 
 -- the arguments of a call
 abbrev pub InArguments : (depth used : ℕ) → Limits → List Leaf → Type 0

@@ -2,7 +2,6 @@ pub mod Answers
 pub mod Languages
 pub mod Declarations
 pub mod Keywords
-pub mod FirstRefusal
 pub mod Lines
 pub mod Operators
 pub mod Reading
@@ -14,3 +13,7 @@ pub mod Seen
 pub mod Splitting
 pub mod Stalls
 pub mod State
+pub mod Parts
+pub mod Settling
+pub mod Ahead
+pub mod Exact

@@ -1,8 +1,11 @@
 -- The levels and the operators of expressions as the parser has them, in the terms of the grammar.
-use Rattle.std.specs.Prelude.{◌≡◌, ◌++◌, ◌+◌, ◌≤◌, ℕ, suc, List, [], ◌∷◌, codes}
+use Rattle.std.specs.Prelude.{◌≡◌, ◌++◌, ◌+◌, ◌≤◌, ◌⊎◌, ℕ, suc, Bool, List, [], ◌∷◌, codes}
 use Rattle.sig_base.specs.declared.span.Span.{Span}
 use Rattle.sig_tree.specs.declared.expr.BinOp.{BinOp}
-use Rattle.sig_tree.specs.Terminals.{Terminal, Leaf, leaf, word, mark, binary_terminal}
+use Rattle.sig_tree.specs.Terminals.{Terminal, Leaf, leaf, number, word, mark, truth_word, binary_terminal}
+use Rattle.sig_tree.specs.Beginning.{BeginsName}
+use Rattle.sig_tree.specs.Continuing.{IsInfix as StandsBehind, ContinuesDelay}
+use Rattle.sig_tree.specs.Spines.{Step, IsStep}
 use Rattle.sig_tree.specs.Syntax.{Expression}
 use Rattle.sig_tree.specs.Levels.{default_level, mixed_level, clock_level, or_level, and_level, not_level, relation_level, sum_level, product_level, minus_level, delay_level, primary_level, left_level, binary_level}
 use Rattle.sig_tree.specs.Limits.{both_limits, operators}
@@ -13,6 +16,7 @@ use Rattle.sig_parse.specs.declared.operator.Infix.{Infix}
 use Rattle.sig_parse.specs.declared.operator.Infix.TheVariants.{Binary, Cell, Delay as DelayOp}
 use Rattle.sig_parse.specs.State.{State}
 use Rattle.sig_parse.specs.Reads.{Reads}
+use Rattle.sig_parse.specs.Languages.{step_operators}
 
 abbrev pub level_number : Level → ℕ
 level_number Default = default_level
@@ -54,11 +58,34 @@ infix_left (Binary op) = left_level op
 infix_left Cell = mixed_level
 infix_left DelayOp = delay_level
 
+-- the terminal is an operator behind an operand, and one of this level
+abbrev pub IsOperator : Terminal → Type 0
+IsOperator t = (op : Infix) × (t ≡ infix_terminal op)
+
+abbrev pub IsOperatorOf : (level : ℕ) → Terminal → Type 0
+IsOperatorOf level t = (op : Infix) × (t ≡ infix_terminal op) × (infix_level op ≡ level)
+
+-- What may go on with what an operator of this level takes: a tighter operator, or what stands behind "$".
+abbrev pub ContinuesStep : (level : ℕ) → Terminal → Type 0
+ContinuesStep level t = StandsBehind (suc level) t ⊎ ((level ≤ delay_level) × ContinuesDelay t)
+
+-- a number, a truth or a name
+abbrev pub BeginsAtom : Terminal → Type 0
+BeginsAtom t = ((value : ℕ) × (t ≡ number value)) ⊎ (((truth : Bool) × (t ≡ truth_word truth)) ⊎ BeginsName t)
+
 -- an operator of this level, with this terminal
 pub record IsInfix (op : Infix) (level : Level) (terminal : Terminal) : Type 0 where
   pub terminal_is : infix_terminal op ≡ terminal
   pub level_is : infix_level op ≡ level_number level
   pub left_is : infix_left op ≡ first_level level
+
+-- The leaves that were read are what an operator takes, whose operators count.
+pub record ReadsStep (depth : ℕ) (op : Infix) (at : Span) (before after : State) : Type 0 where
+  pub step : Step
+  pub back : List Leaf
+  pub split : before.leaves ≡ back ++ after.leaves
+  pub is : IsStep both_limits (infix_level op) depth step (leaf (infix_terminal op) at ∷ back)
+  pub counted : suc after.operators ≡ before.operators + step_operators step
 
 -- The leaves that were read complete an expression, behind its left operand and its operator.
 pub record Completes (depth : ℕ) (left : Expression) (op : Infix) (at : Span) (e : Expression) (before after : State) : Type 0 where

@@ -3,6 +3,10 @@ use Rattle.std.specs.Prelude.{◌≡◌, ◌++◌, List, [], ◌∷◌}
 use Rattle.sig_tree.specs.Terminals.{Terminal, Leaf}
 use Rattle.sig_tree.specs.Limits.{Limits, both_limits, nesting_limit, no_limits}
 use Rattle.sig_tree.specs.Readings.{StopsBefore}
+use Rattle.sig_parse.specs.declared.refusal.Refusal.{Refusal}
+use Rattle.sig_parse.specs.declared.refusal.Refusal.TheVariants.{Syntax, Nesting, Operators, OutOfMemory}
+use Rattle.sig_parse.specs.State.{State}
+use Rattle.sig_parse.specs.Stalls.{IsOfText}
 
 -- The token is wrong, as nothing of the grammar begins with the tokens up to it, or it stands too deep,
 -- or it is one operator too many.
@@ -10,6 +14,12 @@ pub data Cause : Type 0 where
   Wrong : Cause
   TooDeep : Cause
   TooMany : Cause
+
+abbrev pub cause_of : Refusal → Cause
+cause_of Syntax = Wrong
+cause_of Nesting = TooDeep
+cause_of Operators = TooMany
+cause_of OutOfMemory = Wrong
 
 -- the limits within which nothing begins with the tokens up to it
 abbrev pub refused_within : Cause → Limits
@@ -47,3 +57,7 @@ pub record Refuses (Is : Limits → List Leaf → Type 0) (Continues : Terminal 
   pub allowed : IsAllowed Is cause passed after
   pub excluded : (leaves front back : List Leaf) → Agrees passed after leaves → leaves ≡ front ++ back
       → Is (refused_within cause) front → StopsBefore Continues back → ⊥
+
+-- the same of where the parser stands, for a refusal that is no want of memory
+abbrev pub RefusedBy : (Limits → List Leaf → Type 0) → (Terminal → Type 0) → (before after : State) → Refusal → Type 0
+RefusedBy Is Continues before after why = IsOfText why → Refuses Is Continues (cause_of why) before.leaves after.leaves

@@ -1,12 +1,19 @@
 //! Definitions, clock equations and bodies.
 
-ghost use Rattle.std.specs.Prelude.{◌≡◌, codes, map, IfOk, IfErr};
+ghost use Rattle.std.specs.Prelude.{◌≡◌, codes, map, IfOk, OnOk, IfErr};
 ghost use Rattle.sig_tree.specs.Syntax.{expression_of, equations_of};
 ghost use Rattle.sig_tree.specs.Terminals.{mark};
 ghost use Rattle.sig_tree.specs.Limits.{both_limits};
 ghost use Rattle.sig_tree.specs.Repeated.{Listed};
 ghost use Rattle.sig_tree.specs.Equations.{IsClockEquation, IsBody};
+ghost use Rattle.sig_tree.specs.Beginning.{StartsWith};
+ghost use Rattle.sig_tree.specs.Readings.{StopsBefore};
+ghost use Rattle.sig_tree.specs.Continuing.{ContinuesNothing, ContinuesDefinition, ContinuesClockEquation, ContinuesBody};
+ghost use Rattle.sig_parse.specs.Languages.{InDefinition, InClockEquation};
+ghost use Rattle.sig_parse.specs.Parts.{InBody, InBodies};
 ghost use Rattle.sig_parse.specs.Reads.{Covers};
+ghost use Rattle.sig_parse.specs.Refusals.{RefusedBy};
+ghost use Rattle.sig_parse.specs.Settling.{Settles, Closes};
 ghost use Rattle.sig_parse.specs.Stalls.{IsOfText, Some, Halts};
 
 use crate::ahead::begins_definition;
@@ -22,6 +29,8 @@ use std::alloc::Global;
 fn definition(alloc: Global, parser: &mut Parser, depth: u32) -> Result<Body, Refusal>
     ensures reads { IfOk result (λ body. Covers (IsBody both_limits (equations_of body) depth) parser.old parser.new) }
     ensures viable { IfErr result (λ why. IsOfText why → Halts (Some (λ body leaves. IsBody both_limits body depth leaves)) parser.old parser.new) }
+    ensures settles { OnOk result (Settles (InDefinition depth) ContinuesDefinition parser.old.leaves parser.new.leaves) }
+    ensures refuses { IfErr result (RefusedBy (InDefinition depth) ContinuesDefinition parser.old parser.new) }
 {
     parser.begin_equation();
     let names = left_side(alloc, parser, depth)?;
@@ -34,6 +43,8 @@ fn definition(alloc: Global, parser: &mut Parser, depth: u32) -> Result<Body, Re
 fn clock_equation(alloc: Global, parser: &mut Parser, depth: u32) -> Result<Body, Refusal>
     ensures reads { IfOk result (λ body. Covers (IsBody both_limits (equations_of body) depth) parser.old parser.new) }
     ensures viable { IfErr result (λ why. IsOfText why → Halts (Some (λ body leaves. IsBody both_limits body depth leaves)) parser.old parser.new) }
+    ensures settles { OnOk result (Settles (InClockEquation depth) ContinuesClockEquation parser.old.leaves parser.new.leaves) }
+    ensures refuses { IfErr result (RefusedBy (InClockEquation depth) ContinuesClockEquation parser.old parser.new) }
 {
     parser.begin_equation();
     Ok(Body::Same(operands(alloc, parser, depth)?))
@@ -44,6 +55,8 @@ fn operands(alloc: Global, parser: &mut Parser, depth: u32) -> Result<Vec<Expr>,
     requires { parser.old.operators ≡ 0 }
     ensures reads { IfOk result (λ operands. Covers (IsClockEquation both_limits depth (map expression_of operands.items)) parser.old parser.new) }
     ensures viable { IfErr result (λ why. IsOfText why → Halts (Some (IsClockEquation both_limits depth)) parser.old parser.new) }
+    ensures stops { OnOk result (StopsBefore ContinuesClockEquation parser.new.leaves) }
+    ensures refuses { IfErr result (RefusedBy (InClockEquation depth) ContinuesClockEquation parser.old parser.new) }
 {
     let mut all = Vec::new(alloc);
     all.push(expression(alloc, parser, depth)?)?;
@@ -62,6 +75,8 @@ fn operands(alloc: Global, parser: &mut Parser, depth: u32) -> Result<Vec<Expr>,
 pub fn body(alloc: Global, parser: &mut Parser, depth: u32) -> Result<Body, Refusal>
     ensures reads { IfOk result (λ body. Covers (IsBody both_limits (equations_of body) depth) parser.old parser.new) }
     ensures viable { IfErr result (λ why. IsOfText why → Halts (Some (λ body leaves. IsBody both_limits body depth leaves)) parser.old parser.new) }
+    ensures settles { OnOk result (Settles (InBody depth) ContinuesBody parser.old.leaves parser.new.leaves) }
+    ensures refuses { IfErr result (RefusedBy (InBody depth) ContinuesBody parser.old parser.new) }
 {
     if parser.is(Keyword::BodyOpen) {
         together(alloc, parser, depth)
@@ -75,8 +90,11 @@ pub fn body(alloc: Global, parser: &mut Parser, depth: u32) -> Result<Body, Refu
 /// Bodies between `(|` and `|)`.
 #[cycle(body)]
 fn together(alloc: Global, parser: &mut Parser, depth: u32) -> Result<Body, Refusal>
+    requires opens { StartsWith (λ t. t ≡ mark (codes "(|")) parser.old.leaves }
     ensures reads { IfOk result (λ body. Covers (IsBody both_limits (equations_of body) depth) parser.old parser.new) }
     ensures viable { IfErr result (λ why. IsOfText why → Halts (Some (λ body leaves. IsBody both_limits body depth leaves)) parser.old parser.new) }
+    ensures settles { OnOk result (Settles (InBody depth) ContinuesBody parser.old.leaves parser.new.leaves) }
+    ensures refuses { IfErr result (RefusedBy (InBody depth) ContinuesBody parser.old parser.new) }
 {
     let inner = inside(parser, depth)?;
     let _opened = parser.expect(Keyword::BodyOpen)?;
@@ -90,6 +108,9 @@ fn together(alloc: Global, parser: &mut Parser, depth: u32) -> Result<Body, Refu
 fn bodies(alloc: Global, parser: &mut Parser, depth: u32) -> Result<Vec<Body>, Refusal>
     ensures reads { IfOk result (λ bodies. Covers (Listed (λ body leaves. IsBody both_limits body depth leaves) (mark (codes "|")) (map equations_of bodies.items)) parser.old parser.new) }
     ensures viable { IfErr result (λ why. IsOfText why → Halts (Some (Listed (λ body leaves. IsBody both_limits body depth leaves) (mark (codes "|")))) parser.old parser.new) }
+    // Where "|)" is not next, the next token is refused.
+    ensures closes { OnOk result (Closes (InBodies depth) (mark (codes "|)")) parser.old.leaves parser.new.leaves) }
+    ensures refuses { IfErr result (RefusedBy (InBodies depth) ContinuesNothing parser.old parser.new) }
 {
     let mut all = Vec::new(alloc);
     if parser.is(Keyword::BodyClose) {

@@ -5,6 +5,10 @@ ghost use Rattle.sig_tree.specs.Terminals.{leaf, mark};
 ghost use Rattle.sig_tree.specs.Expressions.{IsConstant, IsInit, IsOptionalInit};
 ghost use Rattle.sig_parse.specs.Reads.{Reads, Shorter};
 ghost use Rattle.sig_parse.specs.Stalls.{IsOfText, Plain, Stalls};
+ghost use Rattle.sig_tree.specs.Continuing.{ContinuesNothing, ContinuesInit};
+ghost use Rattle.sig_parse.specs.Languages.{InNumber, InConstant, InInit, InOptionalInit};
+ghost use Rattle.sig_parse.specs.Refusals.{RefusedBy};
+ghost use Rattle.sig_parse.specs.Settling.{Settles};
 
 use crate::keyword::Keyword;
 use crate::parser::Parser;
@@ -18,6 +22,7 @@ pub fn constant(alloc: Global, parser: &mut Parser) -> Result<Constant, Refusal>
     ensures reads { IfOk result (λ constant. Reads (IsConstant constant) 0 parser.old parser.new) }
     ensures shorter { OnOk result (Shorter parser.old parser.new) }
     ensures viable { IfErr result (λ why. IsOfText why → Stalls (Plain IsConstant) parser.old parser.new) }
+    ensures refuses { IfErr result (RefusedBy InConstant ContinuesNothing parser.old parser.new) }
 {
     if let Some((number, at)) = parser.take_number() {
         return Ok(Constant::Int(number.value as i64, at));
@@ -38,6 +43,7 @@ pub fn constant(alloc: Global, parser: &mut Parser) -> Result<Constant, Refusal>
 fn negative(parser: &mut Parser, at: Span) -> Result<Constant, Refusal>
     ensures reads { IfOk result (λ constant. Reads (λ behind. IsConstant constant (leaf (mark (codes "-")) at ∷ behind)) 0 parser.old parser.new) }
     ensures stays { OnErr result (parser.new ≡ parser.old) }
+    ensures refuses { IfErr result (RefusedBy InNumber ContinuesNothing parser.old parser.new) }
 {
     match parser.take_number() {
         Some((number, _)) => Ok(Constant::Int(-(number.value as i64), at)),
@@ -50,6 +56,7 @@ pub fn init(alloc: Global, parser: &mut Parser) -> Result<Constant, Refusal>
     ensures reads { IfOk result (λ constant. Reads (IsInit constant) 0 parser.old parser.new) }
     ensures shorter { OnOk result (Shorter parser.old parser.new) }
     ensures viable { IfErr result (λ why. IsOfText why → Stalls (Plain IsInit) parser.old parser.new) }
+    ensures refuses { IfErr result (RefusedBy InInit ContinuesNothing parser.old parser.new) }
 {
     let _at = parser.expect(Keyword::Init)?;
     constant(alloc, parser)
@@ -59,6 +66,8 @@ pub fn init(alloc: Global, parser: &mut Parser) -> Result<Constant, Refusal>
 pub fn optional_init(alloc: Global, parser: &mut Parser) -> Result<Option<Constant>, Refusal>
     ensures reads { IfOk result (λ constant. Reads (IsOptionalInit constant) 0 parser.old parser.new) }
     ensures viable { IfErr result (λ why. IsOfText why → Stalls (Plain IsOptionalInit) parser.old parser.new) }
+    ensures settles { OnOk result (Settles InOptionalInit ContinuesInit parser.old.leaves parser.new.leaves) }
+    ensures refuses { IfErr result (RefusedBy InOptionalInit ContinuesInit parser.old parser.new) }
 {
     if parser.is(Keyword::Init) {
         Ok(Some(init(alloc, parser)?))

@@ -6,8 +6,13 @@ ghost use Rattle.sig_tree.specs.Syntax.{declared_of};
 ghost use Rattle.sig_tree.specs.Terminals.{kind_word, mark};
 ghost use Rattle.sig_tree.specs.Repeated.{Separated};
 ghost use Rattle.sig_tree.specs.Processes.{AreGroups};
+ghost use Rattle.sig_tree.specs.Continuing.{ContinuesNothing};
 ghost use Rattle.sig_parse.specs.Declarations.{IsItemOf, IsGroupOf};
+ghost use Rattle.sig_parse.specs.Keywords.{terminal_of};
+ghost use Rattle.sig_parse.specs.Parts.{InKind, InItem, InItems, InGroup, InGroups, ContinuesItem, ContinuesItems, EndsGroups};
 ghost use Rattle.sig_parse.specs.Reads.{Reads, Shorter, IsLeaf};
+ghost use Rattle.sig_parse.specs.Refusals.{RefusedBy};
+ghost use Rattle.sig_parse.specs.Settling.{Settles, Closes};
 ghost use Rattle.sig_parse.specs.Stalls.{IsOfText, Plain, Stalls};
 
 use crate::constant::optional_init;
@@ -32,6 +37,7 @@ fn kind(parser: &mut Parser, declares: Declares) -> Result<(Kind, Span), Refusal
     ensures no_event { IfOk result (λ found. declares ≡ Declares.Parameters → found.0 ≢ Event) }
     ensures shorter { OnOk result (Shorter parser.old parser.new) }
     ensures stays { OnErr result (parser.new ≡ parser.old) }
+    ensures refuses { IfErr result (RefusedBy (InKind declares) ContinuesNothing parser.old parser.new) }
 {
     if let Some(at) = parser.take(Keyword::Integer) {
         return Ok((Kind::Integer, at));
@@ -49,6 +55,8 @@ fn kind(parser: &mut Parser, declares: Declares) -> Result<(Kind, Span), Refusal
 fn item(alloc: Global, parser: &mut Parser, declares: Declares) -> Result<Item, Refusal>
     ensures reads { IfOk result (λ item. Reads (IsItemOf declares item) 0 parser.old parser.new) }
     ensures viable { IfErr result (λ why. IsOfText why → Stalls (Plain (IsItemOf declares)) parser.old parser.new) }
+    ensures settles { OnOk result (Settles (InItem declares) (ContinuesItem declares) parser.old.leaves parser.new.leaves) }
+    ensures refuses { IfErr result (RefusedBy (InItem declares) (ContinuesItem declares) parser.old parser.new) }
 {
     let name = parser.name(alloc)?;
     if declares == Declares::Signals {
@@ -63,6 +71,8 @@ fn item(alloc: Global, parser: &mut Parser, declares: Declares) -> Result<Item, 
 fn items(alloc: Global, parser: &mut Parser, declares: Declares) -> Result<Vec<Item>, Refusal>
     ensures reads { IfOk result (λ items. Reads (Separated (IsItemOf declares) (mark (codes ",")) items.items) 0 parser.old parser.new) }
     ensures viable { IfErr result (λ why. IsOfText why → Stalls (Plain (Separated (IsItemOf declares) (mark (codes ",")))) parser.old parser.new) }
+    ensures settles { OnOk result (Settles (InItems declares) (ContinuesItems declares) parser.old.leaves parser.new.leaves) }
+    ensures refuses { IfErr result (RefusedBy (InItems declares) (ContinuesItems declares) parser.old parser.new) }
 {
     let mut all = Vec::new(alloc);
     all.push(item(alloc, parser, declares)?)?;
@@ -79,6 +89,8 @@ pub fn group(alloc: Global, parser: &mut Parser, declares: Declares) -> Result<G
     ensures reads { IfOk result (λ group. Reads (IsGroupOf declares (declared_of group)) 0 parser.old parser.new) }
     ensures shorter { OnOk result (Shorter parser.old parser.new) }
     ensures viable { IfErr result (λ why. IsOfText why → Stalls (Plain (IsGroupOf declares)) parser.old parser.new) }
+    ensures settles { OnOk result (Settles (InGroup declares) (ContinuesItems declares) parser.old.leaves parser.new.leaves) }
+    ensures refuses { IfErr result (RefusedBy (InGroup declares) (ContinuesItems declares) parser.old parser.new) }
 {
     let (kind, _at) = kind(parser, declares)?;
     let items = items(alloc, parser, declares)?;
@@ -92,8 +104,12 @@ pub fn groups(
     declares: Declares,
     closing: Keyword,
 ) -> Result<Vec<Group>, Refusal>
+    requires ends { EndsGroups (terminal_of closing) }
     ensures reads { IfOk result (λ groups. Reads (AreGroups (IsGroupOf declares) (map declared_of groups.items)) 0 parser.old parser.new) }
     ensures viable { IfErr result (λ why. IsOfText why → Stalls (Plain (AreGroups (IsGroupOf declares))) parser.old parser.new) }
+    // Where the mark is not next, the next token is refused.
+    ensures closes { OnOk result (Closes (InGroups declares (terminal_of closing)) (terminal_of closing) parser.old.leaves parser.new.leaves) }
+    ensures refuses { IfErr result (RefusedBy (InGroups declares (terminal_of closing)) ContinuesNothing parser.old parser.new) }
 {
     let mut all = Vec::new(alloc);
     if parser.is(closing) {

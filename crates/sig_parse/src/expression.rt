@@ -1,18 +1,27 @@
 //! Expressions, by the levels of their operators.
 
-ghost use Rattle.std.specs.Prelude.{◌≡◌, ◌<◌, ℕ, suc, IfOk, OnOk, MatchOption, IfSome, IfErr, OnErr};
+ghost use Rattle.std.specs.Prelude.{◌≡◌, ◌<◌, ◌≤◌, ◌⊎◌, ◌∷◌, ℕ, suc, codes, IfOk, OnOk, MatchOption, MatchBool, IfSome, IfErr, OnErr};
+ghost use Rattle.sig_tree.specs.declared.expr.UnOp.{UnOp};
 ghost use Rattle.sig_tree.specs.Syntax.{expression_of};
-ghost use Rattle.sig_tree.specs.Terminals.{unary_terminal};
-ghost use Rattle.sig_tree.specs.Levels.{default_level, primary_level, unary_level};
+ghost use Rattle.sig_tree.specs.Terminals.{leaf, mark, unary_terminal};
+ghost use Rattle.sig_tree.specs.Levels.{default_level, relation_level, delay_level, primary_level, unary_level};
 ghost use Rattle.sig_tree.specs.Limits.{both_limits, operators};
 ghost use Rattle.sig_tree.specs.Expressions.{IsAtLevel, IsExpression};
-ghost use Rattle.sig_parse.specs.Operators.{level_number, first_level, infix_terminal, IsInfix, Completes};
+ghost use Rattle.sig_tree.specs.Readings.{StopsBefore};
+ghost use Rattle.sig_tree.specs.Beginning.{StartsWith};
+ghost use Rattle.sig_tree.specs.Continuing.{ContinuesDelay, ContinuesExpression};
+ghost use Rattle.sig_tree.specs.Spines.{IsAtom, IsOperand};
+ghost use Rattle.sig_parse.specs.Operators.{level_number, first_level, infix_terminal, infix_level, IsOperator, IsOperatorOf, IsInfix, ContinuesStep, BeginsAtom, Completes, ReadsStep};
 ghost use Rattle.sig_parse.specs.Reads.{Reads, Shorter, IsLeaf};
 ghost use Rattle.sig_parse.specs.Stalls.{IsOfText, Counted, Stalls, StallsBehind};
+ghost use Rattle.sig_parse.specs.Languages.{InLevel, InOperand, InStep};
+ghost use Rattle.sig_parse.specs.Refusals.{cause_of, Refuses, RefusedBy};
 
 use crate::constant::{init, optional_init};
 use crate::keyword::Keyword;
-use crate::operator::{Infix, Level, infix_of, operand_level, prefix_of, right_level, tighter};
+use crate::operator::{
+    Infix, Level, infix_of, level_of, operand_level, prefix_of, right_level, tighter, tightness,
+};
 use crate::parser::{Parser, inside};
 use crate::refusal::Refusal;
 use sig_base::Span;
@@ -24,6 +33,8 @@ pub fn expression(alloc: Global, parser: &mut Parser, depth: u32) -> Result<Expr
     ensures reads { IfOk result (λ e. Reads (IsExpression both_limits depth (expression_of e)) (operators (expression_of e)) parser.old parser.new) }
     ensures shorter { OnOk result (Shorter parser.old parser.new) }
     ensures viable { IfErr result (λ why. IsOfText why → Stalls (Counted (λ e. IsExpression both_limits depth e) operators) parser.old parser.new) }
+    ensures stops { OnOk result (StopsBefore (ContinuesExpression default_level) parser.new.leaves) }
+    ensures refuses { IfErr result (λ why. parser.old.operators ≤ 512 → RefusedBy (InLevel default_level depth parser.old.operators) (ContinuesExpression default_level) parser.old parser.new why) }
 {
     at_level(alloc, parser, Level::Default, depth)
 }
@@ -34,8 +45,11 @@ fn at_level(alloc: Global, parser: &mut Parser, level: Level, depth: u32) -> Res
     ensures reads { IfOk result (λ e. Reads (IsAtLevel both_limits (level_number level) depth (expression_of e)) (operators (expression_of e)) parser.old parser.new) }
     ensures shorter { OnOk result (Shorter parser.old parser.new) }
     ensures viable { IfErr result (λ why. IsOfText why → Stalls (Counted (λ e. IsAtLevel both_limits (level_number level) depth e) operators) parser.old parser.new) }
+    ensures stops { OnOk result (StopsBefore (ContinuesExpression (level_number level)) parser.new.leaves) }
+    ensures refuses { IfErr result (λ why. parser.old.operators ≤ 512 → RefusedBy (InLevel (level_number level) depth parser.old.operators) (ContinuesExpression (level_number level)) parser.old parser.new why) }
 {
     let mut left = operand(alloc, parser, level, depth)?;
+    nothing_tighter(parser, level)?;
     loop {
         let Some((op, at)) = infix(parser, level)? else {
             return Ok(left);
@@ -49,25 +63,68 @@ fn at_level(alloc: Global, parser: &mut Parser, level: Level, depth: u32) -> Res
 }
 
 /// Behind a relation stands no relation.
-fn no_relation(parser: &Parser) -> Result<(), Refusal> {
-    match parser.keyword() {
-        Some(keyword) if infix_of(Level::Relation, keyword).is_some() => Err(Refusal::Syntax),
+fn no_relation(parser: &Parser) -> Result<(), Refusal>
+    ensures stops { OnOk result (StopsBefore (IsOperatorOf relation_level) parser.now.leaves) }
+    ensures refused { IfErr result (λ why. (why ≡ Refusal.Syntax) × StartsWith (IsOperatorOf relation_level) parser.now.leaves) }
+{
+    match next_infix(parser) {
+        Some(op) if level_of(op) == Level::Relation => Err(Refusal::Syntax),
         _ => Ok(()),
+    }
+}
+
+/// Behind an operand of a level, and behind an operator of it and what it takes, stands no tighter
+/// operator, and nothing of a delay.
+fn nothing_tighter(parser: &Parser, level: Level) -> Result<(), Refusal>
+    ensures stops { OnOk result (StopsBefore (ContinuesStep (level_number level)) parser.now.leaves) }
+    ensures refused { IfErr result (λ why. (why ≡ Refusal.Syntax) × StartsWith (ContinuesStep (level_number level)) parser.now.leaves) }
+{
+    if continues_delay_of(parser, level) {
+        return Err(Refusal::Syntax);
+    }
+    match next_infix(parser) {
+        Some(op) if tightness(level) < tightness(level_of(op)) => Err(Refusal::Syntax),
+        _ => Ok(()),
+    }
+}
+
+/// Whether a `1` or an init is next, behind what could end with a delay.
+fn continues_delay_of(parser: &Parser, level: Level) -> bool
+    ensures { MatchBool result ((level_number level ≤ delay_level) × StartsWith ContinuesDelay parser.now.leaves) (level_number level ≤ delay_level → StopsBefore ContinuesDelay parser.now.leaves) }
+{
+    tightness(level) < tightness(Level::Primary) && continues_delay(parser)
+}
+
+/// Whether a `1` or an init is next.
+fn continues_delay(parser: &Parser) -> bool
+    ensures { MatchBool result (StartsWith ContinuesDelay parser.now.leaves) (StopsBefore ContinuesDelay parser.now.leaves) }
+{
+    parser.is_one() || parser.is(Keyword::Init)
+}
+
+/// The operator behind an operand that is next.
+fn next_infix(parser: &Parser) -> Option<Infix>
+    ensures { MatchOption result (StopsBefore IsOperator parser.now.leaves) (λ op. StartsWith (λ t. t ≡ infix_terminal op) parser.now.leaves) }
+{
+    match parser.keyword() {
+        Some(keyword) => infix_of(keyword),
+        None => None,
     }
 }
 
 /// The operator of a level that is next, behind an operand.
 fn infix(parser: &mut Parser, level: Level) -> Result<Option<(Infix, Span)>, Refusal>
-    ensures reads { IfOk result (λ found. MatchOption found (parser.new ≡ parser.old) (λ f. IsInfix f.0 level (infix_terminal f.0)
+    ensures reads { IfOk result (λ found. MatchOption found ((parser.new ≡ parser.old) × StopsBefore (IsOperatorOf (level_number level)) parser.old.leaves) (λ f. IsInfix f.0 level (infix_terminal f.0)
         × Reads (IsLeaf (infix_terminal f.0) f.1) 1 parser.old parser.new × Shorter parser.old parser.new)) }
     ensures stays { OnErr result (parser.new ≡ parser.old) }
+    ensures full { IfErr result (λ why. (why ≡ Refusal.Operators) × (512 ≤ parser.old.operators) × StartsWith (IsOperatorOf (level_number level)) parser.old.leaves) }
 {
     let Some(keyword) = parser.keyword() else {
         return Ok(None);
     };
-    match infix_of(level, keyword) {
-        Some(op) => Ok(Some((op, parser.operator(keyword)?))),
-        None => Ok(None),
+    match infix_of(keyword) {
+        Some(op) if level_of(op) == level => Ok(Some((op, parser.operator(keyword)?))),
+        _ => Ok(None),
     }
 }
 
@@ -77,9 +134,11 @@ fn prefix(
     level: Level,
     depth: u32,
 ) -> Result<Option<(UnOp, Span, u32)>, Refusal>
-    ensures reads { IfOk result (λ found. MatchOption found (parser.new ≡ parser.old) (λ f. (unary_level f.0 ≡ level_number level) × (depth < 64) × (f.2 ≡ suc depth)
+    ensures reads { IfOk result (λ found. MatchOption found ((parser.new ≡ parser.old) × ((op : UnOp) → unary_level op ≡ level_number level → StopsBefore (λ t. t ≡ unary_terminal op) parser.old.leaves)) (λ f. (unary_level f.0 ≡ level_number level) × (depth < 64) × (f.2 ≡ suc depth)
         × Reads (IsLeaf (unary_terminal f.0) f.1) 1 parser.old parser.new × Shorter parser.old parser.new)) }
     ensures stays { OnErr result (parser.new ≡ parser.old) }
+    ensures refused { IfErr result (λ why. (op : UnOp) × (unary_level op ≡ level_number level) × StartsWith (λ t. t ≡ unary_terminal op) parser.old.leaves
+        × (((why ≡ Refusal.Nesting) × (64 ≤ depth)) ⊎ ((why ≡ Refusal.Operators) × (depth < 64) × (512 ≤ parser.old.operators)))) }
 {
     let Some(keyword) = parser.keyword() else {
         return Ok(None);
@@ -99,6 +158,9 @@ fn operand(alloc: Global, parser: &mut Parser, level: Level, depth: u32) -> Resu
     ensures reads { IfOk result (λ e. Reads (IsAtLevel both_limits (first_level level) depth (expression_of e)) (operators (expression_of e)) parser.old parser.new) }
     ensures shorter { OnOk result (Shorter parser.old parser.new) }
     ensures viable { IfErr result (λ why. IsOfText why → Stalls (Counted (λ e. IsAtLevel both_limits (first_level level) depth e) operators) parser.old parser.new) }
+    ensures operand { IfOk result (λ e. Reads (IsOperand both_limits (level_number level) depth (expression_of e)) (operators (expression_of e)) parser.old parser.new) }
+    ensures stops { OnOk result (StopsBefore (ContinuesExpression (suc (level_number level))) parser.new.leaves) }
+    ensures refuses { IfErr result (λ why. parser.old.operators ≤ 512 → RefusedBy (InOperand (level_number level) depth parser.old.operators) (ContinuesExpression (suc (level_number level))) parser.old parser.new why) }
 {
     if let Some((op, at, inner)) = prefix(parser, level, depth)? {
         let e = at_level(alloc, parser, operand_level(op), inner)?;
@@ -122,6 +184,10 @@ fn completed(
 ) -> Result<Expr, Refusal>
     ensures completes { IfOk result (λ e. Completes depth (expression_of left) op at (expression_of e) parser.old parser.new) }
     ensures viable { IfErr result (λ why. IsOfText why → StallsBehind depth (expression_of left) op at parser.old parser.new) }
+    ensures step { OnOk result (ReadsStep depth op at parser.old parser.new) }
+    ensures stops { OnOk result (StopsBefore (ContinuesStep (infix_level op)) parser.new.leaves) }
+    ensures refuses { IfErr result (λ why. (used : ℕ) → parser.old.operators ≡ suc used → parser.old.operators ≤ 512 → IsOfText why
+        → Refuses (InStep (infix_level op) depth used) (ContinuesStep (infix_level op)) (cause_of why) (leaf (infix_terminal op) at ∷ parser.old.leaves) parser.new.leaves) }
 {
     match op {
         Infix::Binary(op) => {
@@ -132,12 +198,14 @@ fn completed(
         Infix::Cell => {
             let held = at_level(alloc, parser, Level::Primary, depth)?;
             let constant = init(alloc, parser)?;
+            nothing_tighter(parser, Level::Mixed)?;
             let left = Box::new(alloc, left)?;
             Ok(Expr::Cell(left, Box::new(alloc, held)?, constant, at))
         }
         Infix::Delay => {
             parser.take_one();
             let constant = optional_init(alloc, parser)?;
+            nothing_tighter(parser, Level::Delay)?;
             Ok(Expr::Delay(Box::new(alloc, left)?, constant, at))
         }
     }
@@ -149,6 +217,9 @@ fn primary(alloc: Global, parser: &mut Parser, depth: u32) -> Result<Expr, Refus
     ensures reads { IfOk result (λ e. Reads (IsAtLevel both_limits primary_level depth (expression_of e)) (operators (expression_of e)) parser.old parser.new) }
     ensures shorter { OnOk result (Shorter parser.old parser.new) }
     ensures viable { IfErr result (λ why. IsOfText why → Stalls (Counted (λ e. IsAtLevel both_limits primary_level depth e) operators) parser.old parser.new) }
+    ensures operand { IfOk result (λ e. Reads (IsOperand both_limits primary_level depth (expression_of e)) (operators (expression_of e)) parser.old parser.new) }
+    ensures refuses { IfErr result (λ why. parser.old.operators ≤ 512 → StopsBefore (λ t. t ≡ mark (codes "^")) parser.old.leaves
+        → RefusedBy (InOperand primary_level depth parser.old.operators) (ContinuesExpression (suc primary_level)) parser.old parser.new why) }
 {
     if parser.is(Keyword::Open) {
         enclosed(alloc, parser, depth)
@@ -163,6 +234,9 @@ fn enclosed(alloc: Global, parser: &mut Parser, depth: u32) -> Result<Expr, Refu
     ensures reads { IfOk result (λ e. Reads (IsAtLevel both_limits primary_level depth (expression_of e)) (operators (expression_of e)) parser.old parser.new) }
     ensures shorter { OnOk result (Shorter parser.old parser.new) }
     ensures viable { IfErr result (λ why. IsOfText why → Stalls (Counted (λ e. IsAtLevel both_limits primary_level depth e) operators) parser.old parser.new) }
+    ensures operand { IfOk result (λ e. Reads (IsOperand both_limits primary_level depth (expression_of e)) (operators (expression_of e)) parser.old parser.new) }
+    ensures refuses { IfErr result (λ why. parser.old.operators ≤ 512 → StartsWith (λ t. t ≡ mark (codes "(")) parser.old.leaves
+        → RefusedBy (InOperand primary_level depth parser.old.operators) (ContinuesExpression (suc primary_level)) parser.old parser.new why) }
 {
     let inner = inside(parser, depth)?;
     parser.expect(Keyword::Open)?;
@@ -176,6 +250,8 @@ fn atom(alloc: Global, parser: &mut Parser) -> Result<Expr, Refusal>
     ensures reads { IfOk result (λ e. (depth : ℕ) → Reads (IsAtLevel both_limits primary_level depth (expression_of e)) (operators (expression_of e)) parser.old parser.new) }
     ensures shorter { OnOk result (Shorter parser.old parser.new) }
     ensures stays { IfErr result (λ why. IsOfText why → parser.new ≡ parser.old) }
+    ensures atom { IfOk result (λ e. Reads (IsAtom (expression_of e)) (operators (expression_of e)) parser.old parser.new) }
+    ensures missing { IfErr result (λ why. IsOfText why → (why ≡ Refusal.Syntax) × StopsBefore BeginsAtom parser.old.leaves) }
 {
     if let Some((number, at)) = parser.take_number() {
         return Ok(Expr::Int(number.value, at));

@@ -1,6 +1,6 @@
 //! The reserved words and the marks.
 
-ghost use Rattle.std.specs.Prelude.{◌≡◌, true};
+ghost use Rattle.std.specs.Prelude.{◌≡◌, ◌↔◌, IsTrue};
 ghost use Rattle.sig_lex.specs.Tables.{IsWord, IsMark};
 ghost use Rattle.sig_tree.specs.Terminals.{word, mark};
 ghost use Rattle.sig_parse.specs.Keywords.{terminal_of, spelling_of};
@@ -112,7 +112,7 @@ const MARKS: [Keyword; 28] = [
 
 /// Whether two keywords are the same.
 pub fn is_same(a: Keyword, b: Keyword) -> bool
-    ensures { result ≡ true → a ≡ b }
+    ensures { IsTrue result ↔ a ≡ b }
 {
     a == b
 }

@@ -5,7 +5,7 @@ ghost use Rattle.sig_base.specs.declared.span.Span.{Span};
 ghost use Rattle.sig_tree.specs.Grammar.{HasTree};
 ghost use Rattle.sig_tree.specs.Syntax.{ProcessModel};
 ghost use Rattle.sig_tree.specs.Terminals.{Leaf};
-ghost use Rattle.sig_parse.specs.FirstRefusal.{IsFirstRefusal};
+ghost use Rattle.sig_parse.specs.Exact.{IsFirstRefusal};
 ghost use Rattle.sig_parse.specs.declared.parse_answer.ParseAnswer.{ParseAnswer};
 
 /// A law: leaves have at most one first refusal, and none where they have a tree within both limits.

@@ -1,10 +1,12 @@
 //! The levels and the operators of expressions.
 
-ghost use Rattle.std.specs.Prelude.{◌≡◌, IfSome, MatchOption};
+ghost use Rattle.std.specs.Prelude.{◌≡◌, IfSome, IfNone, MatchOption};
+ghost use Rattle.sig_tree.specs.declared.expr.UnOp.{UnOp};
 ghost use Rattle.sig_tree.specs.Levels.{unary_level, operand_level, right_level};
 ghost use Rattle.sig_tree.specs.Terminals.{unary_terminal};
+ghost use Rattle.sig_parse.specs.declared.operator.Infix.{Infix};
 ghost use Rattle.sig_parse.specs.Keywords.{terminal_of};
-ghost use Rattle.sig_parse.specs.Operators.{level_number, IsTighter, IsInfix};
+ghost use Rattle.sig_parse.specs.Operators.{level_number, first_level, infix_terminal, infix_level, infix_left, IsTighter};
 
 use crate::keyword::Keyword;
 use sig_tree::{BinOp, UnOp};
@@ -86,6 +88,7 @@ pub fn right_level(op: BinOp) -> Level
 pub fn prefix_of(level: Level, keyword: Keyword) -> Option<UnOp>
     ensures terminal { IfSome result (λ op. unary_terminal op ≡ terminal_of keyword) }
     ensures level { IfSome result (λ op. unary_level op ≡ level_number level) }
+    ensures none { IfNone result ((op : UnOp) → unary_level op ≡ level_number level → unary_terminal op ≡ terminal_of keyword → ⊥) }
 {
     match (level, keyword) {
         (Level::Mixed, Keyword::When) => Some(UnOp::When),
@@ -96,72 +99,75 @@ pub fn prefix_of(level: Level, keyword: Keyword) -> Option<UnOp>
     }
 }
 
-/// The operator of this level that a keyword is behind an operand.
-pub fn infix_of(level: Level, keyword: Keyword) -> Option<Infix>
-    ensures { IfSome result (λ op. IsInfix op level (terminal_of keyword)) }
-{
-    match level {
-        Level::Mixed => mixed_of(keyword),
-        Level::Relation => relation_of(keyword),
-        Level::Delay if keyword == Keyword::Dollar => Some(Infix::Delay),
-        Level::Default | Level::Clock | Level::Or | Level::And => looser_of(level, keyword),
-        Level::Sum | Level::Product => tighter_of(level, keyword),
-        _ => None,
-    }
-}
-
-/// The operator of clocks that hold.
-fn mixed_of(keyword: Keyword) -> Option<Infix>
-    ensures { IfSome result (λ op. IsInfix op Level.Mixed (terminal_of keyword)) }
+/// The operator that a keyword is behind an operand.
+pub fn infix_of(keyword: Keyword) -> Option<Infix>
+    ensures { MatchOption result ((op : Infix) → infix_terminal op ≡ terminal_of keyword → ⊥) (λ op. infix_terminal op ≡ terminal_of keyword) }
 {
     match keyword {
+        Keyword::Default => Some(Infix::Binary(BinOp::Default)),
         Keyword::When => Some(Infix::Binary(BinOp::When)),
         Keyword::Cell => Some(Infix::Cell),
-        _ => None,
-    }
-}
-
-/// The relation that a keyword is.
-fn relation_of(keyword: Keyword) -> Option<Infix>
-    ensures { IfSome result (λ op. IsInfix op Level.Relation (terminal_of keyword)) }
-{
-    match keyword {
+        Keyword::ClockPlus => Some(Infix::Binary(BinOp::Plus)),
+        Keyword::ClockMeet => Some(Infix::Binary(BinOp::Meet)),
+        Keyword::ClockLess => Some(Infix::Binary(BinOp::Less)),
+        Keyword::Or => Some(Infix::Binary(BinOp::Or)),
+        Keyword::Xor => Some(Infix::Binary(BinOp::Xor)),
+        Keyword::And => Some(Infix::Binary(BinOp::And)),
         Keyword::Equal => Some(Infix::Binary(BinOp::Eq)),
         Keyword::NotEqual => Some(Infix::Binary(BinOp::Ne)),
         Keyword::Less => Some(Infix::Binary(BinOp::Lt)),
         Keyword::LessEqual => Some(Infix::Binary(BinOp::Le)),
         Keyword::Greater => Some(Infix::Binary(BinOp::Gt)),
         Keyword::GreaterEqual => Some(Infix::Binary(BinOp::Ge)),
+        Keyword::Plus => Some(Infix::Binary(BinOp::Add)),
+        Keyword::Minus => Some(Infix::Binary(BinOp::Sub)),
+        Keyword::Times => Some(Infix::Binary(BinOp::Mul)),
+        Keyword::Divide => Some(Infix::Binary(BinOp::Div)),
+        Keyword::Modulo => Some(Infix::Binary(BinOp::Mod)),
+        Keyword::Dollar => Some(Infix::Delay),
         _ => None,
     }
 }
 
-/// The operator of `default`, of clocks or of truths that a keyword is.
-fn looser_of(level: Level, keyword: Keyword) -> Option<Infix>
-    ensures { IfSome result (λ op. IsInfix op level (terminal_of keyword)) }
+/// The level of an operator that stands behind its left operand.
+pub fn level_of(op: Infix) -> Level
+    ensures own { level_number result ≡ infix_level op }
+    ensures left { first_level result ≡ infix_left op }
 {
-    match (level, keyword) {
-        (Level::Default, Keyword::Default) => Some(Infix::Binary(BinOp::Default)),
-        (Level::Clock, Keyword::ClockPlus) => Some(Infix::Binary(BinOp::Plus)),
-        (Level::Clock, Keyword::ClockMeet) => Some(Infix::Binary(BinOp::Meet)),
-        (Level::Clock, Keyword::ClockLess) => Some(Infix::Binary(BinOp::Less)),
-        (Level::Or, Keyword::Or) => Some(Infix::Binary(BinOp::Or)),
-        (Level::Or, Keyword::Xor) => Some(Infix::Binary(BinOp::Xor)),
-        (Level::And, Keyword::And) => Some(Infix::Binary(BinOp::And)),
-        _ => None,
+    match op {
+        Infix::Binary(op) => match op {
+            BinOp::Default => Level::Default,
+            BinOp::When => Level::Mixed,
+            BinOp::Plus | BinOp::Meet | BinOp::Less => Level::Clock,
+            BinOp::Or | BinOp::Xor => Level::Or,
+            BinOp::And => Level::And,
+            BinOp::Eq | BinOp::Ne | BinOp::Lt | BinOp::Le | BinOp::Gt | BinOp::Ge => {
+                Level::Relation
+            }
+            BinOp::Add | BinOp::Sub => Level::Sum,
+            BinOp::Mul | BinOp::Div | BinOp::Mod => Level::Product,
+        },
+        Infix::Cell => Level::Mixed,
+        Infix::Delay => Level::Delay,
     }
 }
 
-/// The operator of sums or products that a keyword is.
-fn tighter_of(level: Level, keyword: Keyword) -> Option<Infix>
-    ensures { IfSome result (λ op. IsInfix op level (terminal_of keyword)) }
+/// How tight a level is.
+pub fn tightness(level: Level) -> u32
+    ensures { result ≡ level_number level }
 {
-    match (level, keyword) {
-        (Level::Sum, Keyword::Plus) => Some(Infix::Binary(BinOp::Add)),
-        (Level::Sum, Keyword::Minus) => Some(Infix::Binary(BinOp::Sub)),
-        (Level::Product, Keyword::Times) => Some(Infix::Binary(BinOp::Mul)),
-        (Level::Product, Keyword::Divide) => Some(Infix::Binary(BinOp::Div)),
-        (Level::Product, Keyword::Modulo) => Some(Infix::Binary(BinOp::Mod)),
-        _ => None,
+    match level {
+        Level::Default => 0,
+        Level::Mixed => 1,
+        Level::Clock => 2,
+        Level::Or => 3,
+        Level::And => 4,
+        Level::Not => 5,
+        Level::Relation => 6,
+        Level::Sum => 7,
+        Level::Product => 8,
+        Level::Minus => 9,
+        Level::Delay => 10,
+        Level::Primary => 11,
     }
 }

@@ -1,10 +1,16 @@
 //! Where the parser stands in the leaves of a text.
 
-ghost use Rattle.std.specs.Prelude.{◌≡◌, ◌<◌, suc, true, [], ◌∷◌, codes, map, IfOk, IfErr, OnOk, MatchOption, OnErr, length};
+ghost use Rattle.std.specs.Prelude.{◌≡◌, ◌≤◌, ◌<◌, ℕ, List, suc, true, [], ◌∷◌, codes, map, IfOk, IfErr, OnOk, MatchOption, MatchBool, OnErr, length};
 ghost use Rattle.sig_tree.specs.Terminals.{name, number, label};
+ghost use Rattle.sig_tree.specs.Readings.{StopsBefore};
+ghost use Rattle.sig_tree.specs.Beginning.{StartsWith, BeginsName};
+ghost use Rattle.sig_tree.specs.Continuing.{ContinuesNothing};
 ghost use Rattle.sig_tree.specs.Equations.{IsName};
 ghost use Rattle.sig_tree.specs.Expressions.{IsOptionalOne};
-ghost use Rattle.sig_parse.specs.Keywords.{terminal_of};
+ghost use Rattle.sig_parse.specs.Keywords.{terminal_of, IsKeyword};
+ghost use Rattle.sig_parse.specs.Languages.{InLeaf, InLabel, InName, InOptionalOne};
+ghost use Rattle.sig_parse.specs.Refusals.{RefusedBy};
+ghost use Rattle.sig_parse.specs.Settling.{Settles};
 ghost use Rattle.sig_parse.specs.Seen.{leaf_seen};
 ghost use Rattle.sig_parse.specs.Reads.{Reads, Shorter, IsLeaf};
 ghost use Rattle.sig_parse.specs.Stalls.{IsOfText};
@@ -40,7 +46,8 @@ impl<'l, 'a> Model for Parser<'l, 'a> {
 /// The construct that begins with the next token stands inside so many others: how deep its inside
 /// stands, or its refusal.
 pub fn inside(parser: &Parser, depth: u32) -> Result<u32, Refusal>
-    ensures { IfOk result (λ inner. (depth < 64) × (inner ≡ suc depth)) }
+    ensures deeper { IfOk result (λ inner. (depth < 64) × (inner ≡ suc depth)) }
+    ensures too_deep { IfErr result (λ why. (why ≡ Refusal.Nesting) × (64 ≤ depth)) }
 {
     if depth < NESTING {
         Ok(depth + 1)
@@ -63,7 +70,7 @@ impl<'l, 'a> Parser<'l, 'a> {
 
     /// Whether nothing is left.
     pub fn is_done(&self) -> bool
-        ensures { result ≡ true → self.now.leaves ≡ [] }
+        ensures { MatchBool result (self.now.leaves ≡ []) (self.now.leaves ≡ [] → ⊥) }
     {
         self.leaves.len() <= self.next
     }
@@ -87,7 +94,9 @@ impl<'l, 'a> Parser<'l, 'a> {
     }
 
     /// The next token, where it is a reserved word or a mark.
-    pub fn keyword(&self) -> Option<Keyword> {
+    pub fn keyword(&self) -> Option<Keyword>
+        ensures { MatchOption result (StopsBefore IsKeyword self.now.leaves) (λ keyword. StartsWith (λ t. t ≡ terminal_of keyword) self.now.leaves) }
+    {
         match self.leaves.get(self.next)?.terminal {
             Terminal::Keyword(keyword) => Some(keyword),
             _ => None,
@@ -95,13 +104,31 @@ impl<'l, 'a> Parser<'l, 'a> {
     }
 
     /// Whether the next token is this keyword.
-    pub fn is(&self, keyword: Keyword) -> bool {
-        self.keyword() == Some(keyword)
+    pub fn is(&self, keyword: Keyword) -> bool
+        ensures { MatchBool result (StartsWith (λ t. t ≡ terminal_of keyword) self.now.leaves) (StopsBefore (λ t. t ≡ terminal_of keyword) self.now.leaves) }
+    {
+        match self.keyword() {
+            Some(found) => is_same(found, keyword),
+            None => false,
+        }
+    }
+
+    /// Whether the next token is a `1`.
+    pub fn is_one(&self) -> bool
+        ensures { MatchBool result (StartsWith (λ t. t ≡ number 1) self.now.leaves) (StopsBefore (λ t. t ≡ number 1) self.now.leaves) }
+    {
+        match self.leaves.get(self.next) {
+            Some(leaf) => match leaf.terminal {
+                Terminal::Number(number) => number.value == 1,
+                _ => false,
+            },
+            None => false,
+        }
     }
 
     /// Passes this keyword, where it is next.
     pub fn take(&mut self, keyword: Keyword) -> Option<Span>
-        ensures { MatchOption result (self.new ≡ self.old)
+        ensures { MatchOption result ((self.new ≡ self.old) × StopsBefore (λ t. t ≡ terminal_of keyword) self.old.leaves)
             (λ at. Reads (IsLeaf (terminal_of keyword) at) 0 self.old self.new × Shorter self.old self.new) }
     {
         let first = self.leaves.get(self.next)?;
@@ -117,7 +144,7 @@ impl<'l, 'a> Parser<'l, 'a> {
 
     /// Passes a name, where one is next.
     fn take_name(&mut self) -> Option<(&'a [u8], Span)>
-        ensures { MatchOption result (self.new ≡ self.old)
+        ensures { MatchOption result ((self.new ≡ self.old) × StopsBefore BeginsName self.old.leaves)
             (λ found. Reads (IsLeaf (name found.0.now) found.1) 0 self.old self.new × Shorter self.old self.new) }
     {
         let first = self.leaves.get(self.next)?;
@@ -135,6 +162,7 @@ impl<'l, 'a> Parser<'l, 'a> {
         ensures reads { IfOk result (λ at. Reads (IsLeaf (name (codes "RunOn")) at) 0 self.old self.new) }
         ensures shorter { OnOk result (Shorter self.old self.new) }
         ensures stays { OnErr result (self.new ≡ self.old) }
+        ensures refuses { IfErr result (RefusedBy (InLeaf (name (codes "RunOn"))) ContinuesNothing self.old self.new) }
     {
         match self.take_run_on() {
             Some(at) => Ok(at),
@@ -144,7 +172,7 @@ impl<'l, 'a> Parser<'l, 'a> {
 
     /// Passes the name `RunOn`, where it is next.
     fn take_run_on(&mut self) -> Option<Span>
-        ensures { MatchOption result (self.new ≡ self.old)
+        ensures { MatchOption result ((self.new ≡ self.old) × StopsBefore (λ t. t ≡ name (codes "RunOn")) self.old.leaves)
             (λ at. Reads (IsLeaf (name (codes "RunOn")) at) 0 self.old self.new × Shorter self.old self.new) }
     {
         let first = self.leaves.get(self.next)?;
@@ -160,7 +188,7 @@ impl<'l, 'a> Parser<'l, 'a> {
 
     /// Passes a number, where one is next.
     pub fn take_number(&mut self) -> Option<(Natural, Span)>
-        ensures { MatchOption result (self.new ≡ self.old)
+        ensures { MatchOption result ((self.new ≡ self.old) × StopsBefore (λ t. (n : ℕ) × (t ≡ number n)) self.old.leaves)
             (λ found. Reads (IsLeaf (number found.0.value) found.1) 0 self.old self.new × Shorter self.old self.new) }
     {
         let first = self.leaves.get(self.next)?;
@@ -175,20 +203,17 @@ impl<'l, 'a> Parser<'l, 'a> {
 
     /// Passes a `1`, where one is next.
     pub fn take_one(&mut self)
-        ensures { Reads IsOptionalOne 0 self.old self.new }
+        ensures reads { Reads IsOptionalOne 0 self.old self.new }
+        ensures settles { Settles InOptionalOne (λ t. t ≡ number 1) self.old.leaves self.new.leaves }
     {
-        if let Some(first) = self.leaves.get(self.next) {
-            if let Terminal::Number(number) = first.terminal {
-                if number.value == 1 {
-                    self.next += 1;
-                }
-            }
+        if self.is_one() {
+            let _one = self.take_number();
         }
     }
 
     /// Passes a label, where one is next.
     fn take_label(&mut self) -> Option<(&'a [u8], Span)>
-        ensures { MatchOption result (self.new ≡ self.old)
+        ensures { MatchOption result ((self.new ≡ self.old) × StopsBefore (λ t. (text : List ℕ) × (t ≡ label text)) self.old.leaves)
             (λ found. Reads (IsLeaf (label found.0.now) found.1) 0 self.old self.new × Shorter self.old self.new) }
     {
         let first = self.leaves.get(self.next)?;
@@ -206,6 +231,8 @@ impl<'l, 'a> Parser<'l, 'a> {
         ensures reads { IfOk result (λ at. Reads (IsLeaf (terminal_of keyword) at) 0 self.old self.new) }
         ensures shorter { OnOk result (Shorter self.old self.new) }
         ensures stays { OnErr result (self.new ≡ self.old) }
+        ensures missing { IfErr result (λ why. (why ≡ Refusal.Syntax) × StopsBefore (λ t. t ≡ terminal_of keyword) self.old.leaves) }
+        ensures refuses { IfErr result (RefusedBy (InLeaf (terminal_of keyword)) ContinuesNothing self.old self.new) }
     {
         match self.take(keyword) {
             Some(at) => Ok(at),
@@ -218,6 +245,8 @@ impl<'l, 'a> Parser<'l, 'a> {
         ensures reads { IfOk result (λ name. Reads (IsName name) 0 self.old self.new) }
         ensures shorter { OnOk result (Shorter self.old self.new) }
         ensures stays { IfErr result (λ why. IsOfText why → self.new ≡ self.old) }
+        ensures missing { IfErr result (λ why. IsOfText why → (why ≡ Refusal.Syntax) × StopsBefore BeginsName self.old.leaves) }
+        ensures refuses { IfErr result (RefusedBy InName ContinuesNothing self.old self.new) }
     {
         match self.take_name() {
             Some((text, at)) => Ok(Name {
@@ -233,6 +262,7 @@ impl<'l, 'a> Parser<'l, 'a> {
         ensures reads { IfOk result (λ found. Reads (IsLeaf (label found.0) found.1) 0 self.old self.new) }
         ensures shorter { OnOk result (Shorter self.old self.new) }
         ensures stays { IfErr result (λ why. IsOfText why → self.new ≡ self.old) }
+        ensures refuses { IfErr result (RefusedBy InLabel ContinuesNothing self.old self.new) }
     {
         match self.take_label() {
             Some((text, at)) => Ok((Text::from_bytes(alloc, text)?, at)),
@@ -245,11 +275,14 @@ impl<'l, 'a> Parser<'l, 'a> {
         ensures reads { IfOk result (λ at. Reads (IsLeaf (terminal_of keyword) at) 1 self.old self.new) }
         ensures shorter { OnOk result (Shorter self.old self.new) }
         ensures stays { OnErr result (self.new ≡ self.old) }
+        ensures full { IfErr result (λ why. StartsWith (λ t. t ≡ terminal_of keyword) self.old.leaves → (why ≡ Refusal.Operators) × (512 ≤ self.old.operators)) }
     {
         if self.operators >= OPERATORS {
             return Err(Refusal::Operators);
         }
-        let at = self.expect(keyword)?;
+        let Some(at) = self.take(keyword) else {
+            return Err(Refusal::Syntax);
+        };
         self.operators += 1;
         Ok(at)
     }

@@ -2,11 +2,15 @@
 
 ghost use Rattle.std.specs.Prelude.{codes, map, IfOk, OnOk, IfErr};
 ghost use Rattle.sig_tree.specs.Syntax.{placement_of};
-ghost use Rattle.sig_tree.specs.Terminals.{mark};
+ghost use Rattle.sig_tree.specs.Terminals.{mark, word};
 ghost use Rattle.sig_tree.specs.Repeated.{Between, Each, Separated};
 ghost use Rattle.sig_tree.specs.Equations.{IsName};
 ghost use Rattle.sig_tree.specs.Processes.{IsPlacement, ArePragmas};
+ghost use Rattle.sig_tree.specs.Continuing.{ContinuesNothing, ContinuesOptional};
+ghost use Rattle.sig_parse.specs.Parts.{InBraced, InPragma, InPragmaList, InPragmas};
 ghost use Rattle.sig_parse.specs.Reads.{Reads, Shorter};
+ghost use Rattle.sig_parse.specs.Refusals.{RefusedBy};
+ghost use Rattle.sig_parse.specs.Settling.{Settles, Closes};
 ghost use Rattle.sig_parse.specs.Stalls.{IsOfText, Plain, Stalls};
 
 use crate::keyword::Keyword;
@@ -20,6 +24,7 @@ use std::alloc::Global;
 fn braced_names(alloc: Global, parser: &mut Parser) -> Result<Vec<Name>, Refusal>
     ensures reads { IfOk result (λ names. Reads (Between (mark (codes "{")) (mark (codes "}")) (Separated IsName (mark (codes ",")) names.items)) 0 parser.old parser.new) }
     ensures viable { IfErr result (λ why. IsOfText why → Stalls (Plain (λ names. Between (mark (codes "{")) (mark (codes "}")) (Separated IsName (mark (codes ",")) names))) parser.old parser.new) }
+    ensures refuses { IfErr result (RefusedBy InBraced ContinuesNothing parser.old parser.new) }
 {
     let _opened = parser.expect(Keyword::BraceOpen)?;
     let all = names(alloc, parser)?;
@@ -32,6 +37,7 @@ fn pragma(alloc: Global, parser: &mut Parser) -> Result<RunOn, Refusal>
     ensures reads { IfOk result (λ pragma. Reads (IsPlacement (placement_of pragma)) 0 parser.old parser.new) }
     ensures shorter { OnOk result (Shorter parser.old parser.new) }
     ensures viable { IfErr result (λ why. IsOfText why → Stalls (Plain IsPlacement) parser.old parser.new) }
+    ensures refuses { IfErr result (RefusedBy InPragma ContinuesNothing parser.old parser.new) }
 {
     let at = parser.run_on()?;
     let names = braced_names(alloc, parser)?;
@@ -43,6 +49,9 @@ fn pragma(alloc: Global, parser: &mut Parser) -> Result<RunOn, Refusal>
 fn pragma_list(alloc: Global, parser: &mut Parser) -> Result<Vec<RunOn>, Refusal>
     ensures reads { IfOk result (λ pragmas. Reads (Each IsPlacement (map placement_of pragmas.items)) 0 parser.old parser.new) }
     ensures viable { IfErr result (λ why. IsOfText why → Stalls (Plain (Each IsPlacement)) parser.old parser.new) }
+    // Where `end` is not next, the next token is refused.
+    ensures closes { OnOk result (Closes InPragmaList (word (codes "end")) parser.old.leaves parser.new.leaves) }
+    ensures refuses { IfErr result (RefusedBy InPragmaList ContinuesNothing parser.old parser.new) }
 {
     let mut all = Vec::new(alloc);
     loop {
@@ -57,6 +66,8 @@ fn pragma_list(alloc: Global, parser: &mut Parser) -> Result<Vec<RunOn>, Refusal
 pub fn pragmas(alloc: Global, parser: &mut Parser) -> Result<Vec<RunOn>, Refusal>
     ensures reads { IfOk result (λ pragmas. Reads (ArePragmas (map placement_of pragmas.items)) 0 parser.old parser.new) }
     ensures viable { IfErr result (λ why. IsOfText why → Stalls (Plain ArePragmas) parser.old parser.new) }
+    ensures settles { OnOk result (Settles InPragmas (ContinuesOptional (word (codes "pragmas"))) parser.old.leaves parser.new.leaves) }
+    ensures refuses { IfErr result (RefusedBy InPragmas (ContinuesOptional (word (codes "pragmas"))) parser.old parser.new) }
 {
     let Some(_first) = parser.take(Keyword::Pragmas) else {
         return Ok(Vec::new(alloc));

@@ -7,7 +7,12 @@ ghost use Rattle.sig_tree.specs.Terminals.{leaf, name_leaf, word, mark};
 ghost use Rattle.sig_tree.specs.Limits.{both_limits};
 ghost use Rattle.sig_tree.specs.Processes.{AreParams, IsInterface, IsLocalGroup, IsModel};
 ghost use Rattle.sig_parse.specs.Declarations.{IsTitle, HasSides, HasDeclared, HasBehindWhere, AreDeclared, AreBehindWhere, IsInnerProcess};
+ghost use Rattle.sig_tree.specs.Beginning.{StartsWith, BeginsProcess};
+ghost use Rattle.sig_tree.specs.Continuing.{ContinuesNothing, ContinuesOptional};
+ghost use Rattle.sig_parse.specs.Parts.{InParams, InInterface, InTitle, InLocalGroup, InProcess, InDeclared, InWhere};
 ghost use Rattle.sig_parse.specs.Reads.{Reads, Covers, Shorter};
+ghost use Rattle.sig_parse.specs.Refusals.{RefusedBy};
+ghost use Rattle.sig_parse.specs.Settling.{Settles, Closes};
 ghost use Rattle.sig_parse.specs.Stalls.{IsOfText, Plain, Some, Stalls, Halts};
 
 use crate::bodies::body;
@@ -23,6 +28,8 @@ use std::alloc::Global;
 fn params(alloc: Global, parser: &mut Parser) -> Result<Vec<Group>, Refusal>
     ensures reads { IfOk result (λ params. Reads (AreParams (map declared_of params.items)) 0 parser.old parser.new) }
     ensures viable { IfErr result (λ why. IsOfText why → Stalls (Plain AreParams) parser.old parser.new) }
+    ensures settles { OnOk result (Settles InParams (ContinuesOptional (mark (codes "{"))) parser.old.leaves parser.new.leaves) }
+    ensures refuses { IfErr result (RefusedBy InParams (ContinuesOptional (mark (codes "{"))) parser.old parser.new) }
 {
     let Some(_opened) = parser.take(Keyword::BraceOpen) else {
         return Ok(Vec::new(alloc));
@@ -43,6 +50,7 @@ struct Interface {
 fn inputs_and_outputs(alloc: Global, parser: &mut Parser) -> Result<Interface, Refusal>
     ensures reads { IfOk result (λ interface. Reads (IsInterface (map declared_of interface.inputs.items) (map declared_of interface.outputs.items)) 0 parser.old parser.new) }
     ensures viable { IfErr result (λ why. IsOfText why → Stalls (Plain HasSides) parser.old parser.new) }
+    ensures refuses { IfErr result (RefusedBy InInterface ContinuesNothing parser.old parser.new) }
 {
     let _opened = parser.expect(Keyword::Open)?;
     let _asked = parser.expect(Keyword::Question)?;
@@ -58,6 +66,7 @@ fn title(alloc: Global, parser: &mut Parser) -> Result<Name, Refusal>
     ensures reads { IfOk result (λ name. Reads (IsTitle name) 0 parser.old parser.new) }
     ensures shorter { OnOk result (Shorter parser.old parser.new) }
     ensures viable { IfErr result (λ why. IsOfText why → Stalls (Plain IsTitle) parser.old parser.new) }
+    ensures refuses { IfErr result (RefusedBy InTitle ContinuesNothing parser.old parser.new) }
 {
     let _begun = parser.expect(Keyword::Process)?;
     let name = parser.name(alloc)?;
@@ -71,6 +80,7 @@ pub fn process(alloc: Global, parser: &mut Parser, depth: u32) -> Result<Process
     ensures reads { IfOk result (λ process. Covers (IsModel both_limits (model_of process) depth) parser.old parser.new) }
     ensures shorter { OnOk result (Shorter parser.old parser.new) }
     ensures viable { IfErr result (λ why. IsOfText why → Halts (Some (λ model leaves. IsModel both_limits model depth leaves)) parser.old parser.new) }
+    ensures refuses { IfErr result (RefusedBy (InProcess depth) ContinuesNothing parser.old parser.new) }
 {
     let name = title(alloc, parser)?;
     let params = params(alloc, parser)?;
@@ -103,6 +113,8 @@ struct Locals {
 fn where_part(alloc: Global, parser: &mut Parser, depth: u32) -> Result<Locals, Refusal>
     ensures reads { IfOk result (λ declared. Covers (AreBehindWhere depth (map model_of declared.processes.items) (map declared_of declared.groups.items)) parser.old parser.new) }
     ensures viable { IfErr result (λ why. IsOfText why → Halts (Some (HasBehindWhere depth)) parser.old parser.new) }
+    ensures settles { OnOk result (Settles (InWhere depth) (ContinuesOptional (word (codes "where"))) parser.old.leaves parser.new.leaves) }
+    ensures refuses { IfErr result (RefusedBy (InWhere depth) (ContinuesOptional (word (codes "where"))) parser.old parser.new) }
 {
     let Some(_opened) = parser.take(Keyword::Where) else {
         return Ok(Locals {
@@ -120,6 +132,9 @@ fn where_part(alloc: Global, parser: &mut Parser, depth: u32) -> Result<Locals, 
 fn entries(alloc: Global, parser: &mut Parser, depth: u32) -> Result<Locals, Refusal>
     ensures reads { IfOk result (λ declared. Covers (AreDeclared depth (map model_of declared.processes.items) (map declared_of declared.groups.items)) parser.old parser.new) }
     ensures viable { IfErr result (λ why. IsOfText why → Halts (Some (HasDeclared depth)) parser.old parser.new) }
+    // Where `end` is not next, the next token is refused.
+    ensures closes { OnOk result (Closes (InDeclared depth) (word (codes "end")) parser.old.leaves parser.new.leaves) }
+    ensures refuses { IfErr result (RefusedBy (InDeclared depth) ContinuesNothing parser.old parser.new) }
 {
     let mut groups = Vec::new(alloc);
     let mut processes = Vec::new(alloc);
@@ -138,9 +153,11 @@ fn entries(alloc: Global, parser: &mut Parser, depth: u32) -> Result<Locals, Ref
 /// A process inside one whose contents stand inside so many constructs.
 #[cycle(process)]
 fn inner_process(alloc: Global, parser: &mut Parser, depth: u32) -> Result<Process, Refusal>
+    requires next { StartsWith BeginsProcess parser.old.leaves }
     ensures reads { IfOk result (λ process. Covers (IsInnerProcess depth (model_of process)) parser.old parser.new) }
     ensures shorter { OnOk result (Shorter parser.old parser.new) }
     ensures viable { IfErr result (λ why. IsOfText why → Halts (Some (HasDeclared depth)) parser.old parser.new) }
+    ensures refuses { IfErr result (RefusedBy (InDeclared depth) ContinuesNothing parser.old parser.new) }
 {
     let inner = inside(parser, depth)?;
     process(alloc, parser, inner)
@@ -151,6 +168,7 @@ fn local_group(alloc: Global, parser: &mut Parser) -> Result<Group, Refusal>
     ensures reads { IfOk result (λ group. Reads (IsLocalGroup (declared_of group)) 0 parser.old parser.new) }
     ensures shorter { OnOk result (Shorter parser.old parser.new) }
     ensures viable { IfErr result (λ why. IsOfText why → Stalls (Plain IsLocalGroup) parser.old parser.new) }
+    ensures refuses { IfErr result (RefusedBy InLocalGroup ContinuesNothing parser.old parser.new) }
 {
     let one = group(alloc, parser, Declares::Signals)?;
     let _ended = parser.expect(Keyword::Semicolon)?;

@@ -1,10 +1,14 @@
 //! Programs.
 
-ghost use Rattle.std.specs.Prelude.{◌≡◌, List, map, IfOk, IfErr};
+ghost use Rattle.std.specs.Prelude.{◌≡◌, ◌⊎◌, List, map, IfOk, IfErr};
+ghost use Rattle.sig_base.specs.declared.span.Span.{Span};
 ghost use Rattle.sig_tree.specs.Syntax.{ProcessModel, model_of, program_of};
 ghost use Rattle.sig_tree.specs.Leaves.{leaves_of};
 ghost use Rattle.sig_tree.specs.Grammar.{HasTree};
 ghost use Rattle.sig_parse.specs.Refused.{end_of, place_of, answer_of, IsRefusal};
+ghost use Rattle.sig_parse.specs.Refusals.{Cause, RefusedBy};
+ghost use Rattle.sig_parse.specs.Exact.{IsRefused, IsAnswerOf, answer_for};
+ghost use Rattle.sig_parse.specs.Parts.{InProgram, IsAnything};
 ghost use Rattle.sig_parse.specs.Stalls.{IsOfText, Some, Halts};
 ghost use Rattle.sig_lex.specs.Tokens.{AreTokens};
 
@@ -26,6 +30,15 @@ pub fn parse(alloc: Global, bytes: &[u8], tokens: &[Token]) -> Result<Program, P
     ensures only { IfOk result (λ program. (other : List ProcessModel) → HasTree (leaves_of bytes.now tokens.now) other → other ≡ program_of program) }
     // Some program that keeps both limits begins with the tokens before the refused one.
     ensures viable { IfErr result (λ answer. IsRefusal (leaves_of bytes.now tokens.now) (end_of tokens.now) answer) }
+    // The refused token is the first with which no program goes on. It is Syntax where none does
+    // whatever the limits, Nesting of 64 where none does that keeps the nesting, and else of 512.
+    ensures refused { IfErr result (λ answer. IsAnswerOf (leaves_of bytes.now tokens.now) (end_of tokens.now) answer) }
+    // It is so exactly there: no other token is the first, and none for another cause.
+    ensures no_other { IfErr result (λ answer. (cause : Cause) (at : Span) → IsRefused (leaves_of bytes.now tokens.now) (end_of tokens.now) cause at
+        → (answer ≡ ParseAnswer.OutOfMemory) ⊎ (answer ≡ answer_for cause at)) }
+    ensures accepted { IfOk result (λ program. (cause : Cause) (at : Span) → IsRefused (leaves_of bytes.now tokens.now) (end_of tokens.now) cause at → ⊥) }
+    // A text with a tree is refused for want of memory alone.
+    ensures given { IfErr result (λ answer. (processes : List ProcessModel) → HasTree (leaves_of bytes.now tokens.now) processes → answer ≡ ParseAnswer.OutOfMemory) }
 {
     one_tree();
     let leaves = leaves(alloc, bytes, tokens)?;
@@ -72,6 +85,7 @@ fn end(tokens: &[Token]) -> Span
 fn processes(alloc: Global, parser: &mut Parser) -> Result<Vec<Process>, Refusal>
     ensures reads { IfOk result (λ processes. HasTree parser.old.leaves (map model_of processes.items)) }
     ensures viable { IfErr result (λ why. IsOfText why → Halts (Some (λ processes leaves. HasTree leaves processes)) parser.old parser.new) }
+    ensures refuses { IfErr result (RefusedBy InProgram IsAnything parser.old parser.new) }
 {
     let mut all = Vec::new(alloc);
     all.push(process(alloc, parser, 0)?)?;

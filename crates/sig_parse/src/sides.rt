@@ -1,12 +1,19 @@
 //! The sides of definitions.
 
-ghost use Rattle.std.specs.Prelude.{codes, map, sum_by, IfOk, IfErr};
+ghost use Rattle.std.specs.Prelude.{◌≤◌, codes, map, sum_by, IfOk, OnOk, IfErr};
 ghost use Rattle.sig_tree.specs.Syntax.{expression_of, right_side_of};
 ghost use Rattle.sig_tree.specs.Terminals.{mark};
 ghost use Rattle.sig_tree.specs.Limits.{both_limits, operators, right_operators};
 ghost use Rattle.sig_tree.specs.Repeated.{Separated, Listed};
 ghost use Rattle.sig_tree.specs.Expressions.{IsConstant, IsExpression};
 ghost use Rattle.sig_tree.specs.Equations.{IsName, IsLeft, AreConstants, AreArguments, IsRight};
+ghost use Rattle.sig_tree.specs.Readings.{StopsBefore};
+ghost use Rattle.sig_tree.specs.Continuing.{ContinuesNothing, ContinuesOptional, ContinuesList, ContinuesDefinition};
+ghost use Rattle.sig_parse.specs.Ahead.{BeginsCall};
+ghost use Rattle.sig_parse.specs.Languages.{InLeft, InConstantList, InConstants, InArgumentList, InArguments, InRight};
+ghost use Rattle.sig_parse.specs.Parts.{InNames};
+ghost use Rattle.sig_parse.specs.Refusals.{RefusedBy};
+ghost use Rattle.sig_parse.specs.Settling.{Settles, Closes};
 ghost use Rattle.sig_parse.specs.Reads.{Reads};
 ghost use Rattle.sig_parse.specs.Stalls.{IsOfText, Counted, Plain, Stalls};
 
@@ -23,6 +30,8 @@ use std::alloc::Global;
 pub fn names(alloc: Global, parser: &mut Parser) -> Result<Vec<Name>, Refusal>
     ensures reads { IfOk result (λ names. Reads (Separated IsName (mark (codes ",")) names.items) 0 parser.old parser.new) }
     ensures viable { IfErr result (λ why. IsOfText why → Stalls (Plain (Separated IsName (mark (codes ",")))) parser.old parser.new) }
+    ensures stops { OnOk result (StopsBefore (ContinuesList (mark (codes ",")) ContinuesNothing) parser.new.leaves) }
+    ensures refuses { IfErr result (RefusedBy InNames (ContinuesList (mark (codes ",")) ContinuesNothing) parser.old parser.new) }
 {
     let mut all = Vec::new(alloc);
     all.push(parser.name(alloc)?)?;
@@ -38,6 +47,7 @@ pub fn names(alloc: Global, parser: &mut Parser) -> Result<Vec<Name>, Refusal>
 pub fn left_side(alloc: Global, parser: &mut Parser, depth: u32) -> Result<Vec<Name>, Refusal>
     ensures reads { IfOk result (λ names. Reads (IsLeft both_limits depth names.items) 0 parser.old parser.new) }
     ensures viable { IfErr result (λ why. IsOfText why → Stalls (Plain (IsLeft both_limits depth)) parser.old parser.new) }
+    ensures refuses { IfErr result (RefusedBy (InLeft depth) ContinuesNothing parser.old parser.new) }
 {
     if parser.is(Keyword::Open) {
         inside(parser, depth)?;
@@ -56,6 +66,8 @@ pub fn left_side(alloc: Global, parser: &mut Parser, depth: u32) -> Result<Vec<N
 fn constant_list(alloc: Global, parser: &mut Parser) -> Result<Vec<Constant>, Refusal>
     ensures reads { IfOk result (λ constants. Reads (Listed IsConstant (mark (codes ",")) constants.items) 0 parser.old parser.new) }
     ensures viable { IfErr result (λ why. IsOfText why → Stalls (Plain (Listed IsConstant (mark (codes ",")))) parser.old parser.new) }
+    ensures closes { OnOk result (Closes InConstantList (mark (codes "}")) parser.old.leaves parser.new.leaves) }
+    ensures refuses { IfErr result (RefusedBy InConstantList ContinuesNothing parser.old parser.new) }
 {
     let mut all = Vec::new(alloc);
     if parser.is(Keyword::BraceClose) {
@@ -74,6 +86,8 @@ fn constant_list(alloc: Global, parser: &mut Parser) -> Result<Vec<Constant>, Re
 fn constants(alloc: Global, parser: &mut Parser) -> Result<Vec<Constant>, Refusal>
     ensures reads { IfOk result (λ constants. Reads (AreConstants constants.items) 0 parser.old parser.new) }
     ensures viable { IfErr result (λ why. IsOfText why → Stalls (Plain AreConstants) parser.old parser.new) }
+    ensures settles { OnOk result (Settles InConstants (ContinuesOptional (mark (codes "{"))) parser.old.leaves parser.new.leaves) }
+    ensures refuses { IfErr result (RefusedBy InConstants (ContinuesOptional (mark (codes "{"))) parser.old parser.new) }
 {
     let Some(_opened) = parser.take(Keyword::BraceOpen) else {
         return Ok(Vec::new(alloc));
@@ -88,6 +102,8 @@ fn argument_list(alloc: Global, parser: &mut Parser, depth: u32) -> Result<Vec<E
     ensures reads { IfOk result (λ arguments. Reads (Listed (IsExpression both_limits depth) (mark (codes ",")) (map expression_of arguments.items))
         (sum_by operators (map expression_of arguments.items)) parser.old parser.new) }
     ensures viable { IfErr result (λ why. IsOfText why → Stalls (Counted (Listed (IsExpression both_limits depth) (mark (codes ","))) (sum_by operators)) parser.old parser.new) }
+    ensures closes { OnOk result (parser.old.operators ≤ 512 → Closes (InArgumentList depth parser.old.operators) (mark (codes ")")) parser.old.leaves parser.new.leaves) }
+    ensures refuses { IfErr result (λ why. parser.old.operators ≤ 512 → RefusedBy (InArgumentList depth parser.old.operators) ContinuesNothing parser.old parser.new why) }
 {
     let mut all = Vec::new(alloc);
     if parser.is(Keyword::Close) {
@@ -107,6 +123,7 @@ fn arguments(alloc: Global, parser: &mut Parser, depth: u32) -> Result<Vec<Expr>
     ensures reads { IfOk result (λ arguments. Reads (AreArguments both_limits depth (map expression_of arguments.items))
         (sum_by operators (map expression_of arguments.items)) parser.old parser.new) }
     ensures viable { IfErr result (λ why. IsOfText why → Stalls (Counted (AreArguments both_limits depth) (sum_by operators)) parser.old parser.new) }
+    ensures refuses { IfErr result (λ why. parser.old.operators ≤ 512 → RefusedBy (InArguments depth parser.old.operators) ContinuesNothing parser.old parser.new why) }
 {
     let _opened = parser.expect(Keyword::Open)?;
     let all = argument_list(alloc, parser, depth)?;
@@ -118,6 +135,8 @@ fn arguments(alloc: Global, parser: &mut Parser, depth: u32) -> Result<Vec<Expr>
 pub fn right_side(alloc: Global, parser: &mut Parser, depth: u32) -> Result<Right, Refusal>
     ensures reads { IfOk result (λ right. Reads (IsRight both_limits depth (right_side_of right)) (right_operators (right_side_of right)) parser.old parser.new) }
     ensures viable { IfErr result (λ why. IsOfText why → Stalls (Counted (IsRight both_limits depth) right_operators) parser.old parser.new) }
+    ensures settles { OnOk result (Settles (InRight depth parser.old.operators) ContinuesDefinition parser.old.leaves parser.new.leaves) }
+    ensures refuses { IfErr result (λ why. parser.old.operators ≤ 512 → RefusedBy (InRight depth parser.old.operators) ContinuesDefinition parser.old parser.new why) }
 {
     if begins_call(parser) {
         call(alloc, parser, depth)
@@ -130,6 +149,8 @@ pub fn right_side(alloc: Global, parser: &mut Parser, depth: u32) -> Result<Righ
 fn call(alloc: Global, parser: &mut Parser, depth: u32) -> Result<Right, Refusal>
     ensures reads { IfOk result (λ right. Reads (IsRight both_limits depth (right_side_of right)) (right_operators (right_side_of right)) parser.old parser.new) }
     ensures viable { IfErr result (λ why. IsOfText why → Stalls (Counted (IsRight both_limits depth) right_operators) parser.old parser.new) }
+    ensures settles { OnOk result (Settles (InRight depth parser.old.operators) ContinuesDefinition parser.old.leaves parser.new.leaves) }
+    ensures refuses { IfErr result (λ why. parser.old.operators ≤ 512 → BeginsCall parser.old.leaves → RefusedBy (InRight depth parser.old.operators) ContinuesDefinition parser.old parser.new why) }
 {
     let name = parser.name(alloc)?;
     let values = constants(alloc, parser)?;

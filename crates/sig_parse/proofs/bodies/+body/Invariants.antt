@@ -5,10 +5,8 @@ use Rattle.sig_tree.specs.Limits.{both_limits}
 use Rattle.sig_tree.specs.Repeated.{Separated}
 use Rattle.sig_tree.specs.Equations.{IsBody}
 use Rattle.sig_parse.specs.Reads.{Covers}
+use Rattle.sig_parse.proofs.RefusedTogether.{LeadsBodies}
 use Rattle.sig_parse.proofs.bodies.+body.Given as goal
-
-abbrev pub invariant-bodies-loop-all : goal.invariant-bodies-loop-all
-invariant-bodies-loop-all l = Covers (Separated (λ body leaves. IsBody both_limits body l.depth leaves) (mark (codes "|")) (map equations_of l.all.items)) l.fn.parser l.parser
 
 abbrev pub decreases-bodies-loop-all : goal.decreases-bodies-loop-all
 decreases-bodies-loop-all l = length l.parser.leaves
@@ -21,3 +19,6 @@ decreases-together l = (64 - l.depth) * 3 + 1
 
 abbrev pub decreases-bodies : goal.decreases-bodies
 decreases-bodies l = (64 - l.depth) * 3 + 3
+
+abbrev pub invariant-bodies-loop-all : goal.invariant-bodies-loop-all
+invariant-bodies-loop-all l = Covers (Separated (λ body leaves. IsBody both_limits body l.depth leaves) (mark (codes "|")) (map equations_of l.all.items)) l.fn.parser l.parser × LeadsBodies l.depth l.fn.parser.leaves l.parser.leaves

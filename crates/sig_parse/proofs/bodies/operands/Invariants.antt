@@ -5,11 +5,17 @@ use Rattle.sig_tree.specs.Limits.{both_limits, operators}
 use Rattle.sig_tree.specs.Repeated.{Separated}
 use Rattle.sig_tree.specs.Expressions.{IsExpression}
 use Rattle.sig_parse.specs.Reads.{Reads}
+use Rattle.sig_parse.proofs.RefusedDefinitions.{LeadsClock}
+use Rattle.sig_tree.specs.Readings.{StopsBefore}
+use Rattle.sig_tree.specs.Continuing.{ContinuesExpression}
+use Rattle.sig_tree.specs.Levels.{default_level}
 use Rattle.sig_parse.proofs.bodies.operands.Given as goal
+
+abbrev pub decreases-loop-all : goal.decreases-loop-all
+decreases-loop-all l = length l.parser.leaves
 
 abbrev pub invariant-loop-all : goal.invariant-loop-all
 invariant-loop-all l = Reads (Separated (IsExpression both_limits l.depth) (mark (codes "^=")) (map expression_of l.all.items)) (sum_by operators (map expression_of l.all.items)) l.fn.parser l.parser
     × (2 ≤ length l.all.items)
-
-abbrev pub decreases-loop-all : goal.decreases-loop-all
-decreases-loop-all l = length l.parser.leaves
+    × LeadsClock l.depth (sum_by operators (map expression_of l.all.items)) l.fn.parser.leaves l.parser.leaves
+    × StopsBefore (ContinuesExpression default_level) l.parser.leaves

@@ -1,7 +1,14 @@
-use Rattle.std.proofs.Common.{◌≡◌, ◌∙◌, rules}
+use Rattle.std.proofs.Common.{◌≡◌, ◌∙◌, rules, ap}
 use Rattle.sig_parse.proofs.Relaying.{relayed, since_stays}
 use Rattle.sig_parse.proofs.Steps.{begins_at}
 use Rattle.sig_parse.proofs.StallExpressions.{constant_at_once, constant_behind_minus}
+use Rattle.sig_tree.specs.Readings.{StopsBefore}
+use Rattle.sig_tree.specs.Beginning.{BeginsConstant}
+use Rattle.sig_tree.specs.Continuing.{ContinuesNothing}
+use Rattle.sig_parse.specs.Languages.{InConstant}
+use Rattle.sig_parse.proofs.Lifting.{raised_last, behind_one, leaf_split, wrong_here, handed_on}
+use Rattle.sig_parse.proofs.Lifting.{stops_same}
+use Rattle.sig_parse.proofs.RefusedConstants.{no_constant, constant_refused, negative_refused}
 use Rattle.sig_parse.proofs.constant.constant.Goals as goal
 
 pub returns-in-Some-take-3-clause-viable : goal.returns-in-Some-take-3-clause-viable
@@ -11,3 +18,18 @@ returns-in-Some-take-3-clause-viable c = let e : c.take-2.new.self ≡ c.args.pa
 pub returns-in_err-name-clause-viable : goal.returns-in_err-name-clause-viable
 returns-in_err-name-clause-viable c = let e : c.take-3.new.self ≡ c.args.parser.now = search rules in
     relayed _ _ c.from_residual.ensures (λ text. constant_at_once ((c.in_err-name.ensures.stays text) ∙ e))
+
+pub returns-in-Some-take-3-clause-refuses : goal.returns-in-Some-take-3-clause-refuses
+returns-in-Some-take-3-clause-refuses c = let e : c.take-2.new.self ≡ c.args.parser.now = search rules in
+    raised_last _ c.negative.result (behind_one (leaf_split (begins_at e c.in-Some-take-3.ensures.0)) (λ cause after r. negative_refused c.in-Some-take-3.at cause _ after r)) c.negative.ensures.refuses
+
+pub returns-in_err-name-clause-refuses : goal.returns-in_err-name-clause-refuses
+returns-in_err-name-clause-refuses c =
+    let here = c.args.parser.now.leaves in
+    let one = c.in_default.ensures.0 in
+    let two = c.in_default-take.ensures.0 ∙ one in
+    let three = c.in_default-take-2.ensures.0 ∙ two in
+    let four = c.in_default-take-3.ensures.0 ∙ three in
+    handed_on c.from_residual.result _ c.from_residual.ensures (λ text.
+    wrong_here c.in_err-name.field-0.0 (c.in_err-name.ensures.stays text ∙ four) (c.in_err-name.ensures.missing text).0 (constant_refused here
+    (no_constant here c.in_default.ensures.1 (stops_same _ one c.in_default-take.ensures.1) (stops_same _ two c.in_default-take-2.ensures.1) (stops_same _ three c.in_default-take-3.ensures.1) (stops_same _ four (c.in_err-name.ensures.missing text).1))))

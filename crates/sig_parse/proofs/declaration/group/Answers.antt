@@ -1,6 +1,8 @@
 use Rattle.sig_parse.proofs.GroupLemmas.{group_of}
-use Rattle.sig_parse.proofs.Relaying.{relayed, whatever}
+use Rattle.sig_parse.proofs.Relaying.{relayed, whatever, handed}
 use Rattle.sig_parse.proofs.StallDeclarations.{group_at_once, in_items}
+use Rattle.sig_parse.proofs.Covering.{covered}
+use Rattle.sig_parse.proofs.RefusedDeclarations.{group_from_kind, group_from_items, group_settled}
 use Rattle.sig_parse.proofs.declaration.group.Goals as goal
 
 pub returns-clause-reads : goal.returns-clause-reads
@@ -11,3 +13,12 @@ returns-in_err-kind-clause-viable c = whatever _ (group_at_once c.args.declares 
 
 pub returns-in_err-items-clause-viable : goal.returns-in_err-items-clause-viable
 returns-in_err-items-clause-viable c = relayed _ _ c.from_residual-in_err-items.ensures (λ text. in_items c.args.declares c.in_ok-kind.kind c.in_ok-kind._at c.in_ok-kind.ensures.no_event c.in_ok-kind.ensures.reads (c.in_err-items.ensures.viable text))
+
+pub returns-in_err-kind-clause-refuses : goal.returns-in_err-kind-clause-refuses
+returns-in_err-kind-clause-refuses c = handed _ _ _ c.from_residual.ensures (λ text. group_from_kind c.args.declares (c.in_err-kind.ensures.refuses text))
+
+pub returns-in_err-items-clause-refuses : goal.returns-in_err-items-clause-refuses
+returns-in_err-items-clause-refuses c = handed _ _ _ c.from_residual-in_err-items.ensures (λ text. group_from_items c.args.declares c.in_ok-kind.kind c.in_ok-kind._at c.in_ok-kind.ensures.no_event (covered c.in_ok-kind.ensures.reads) (c.in_err-items.ensures.refuses text))
+
+pub returns-clause-settles : goal.returns-clause-settles
+returns-clause-settles c = group_settled c.args.declares c.in_ok-kind.kind c.in_ok-kind._at c.in_ok-kind.ensures.no_event (covered c.in_ok-kind.ensures.reads) c.in_ok-items.ensures.settles

@@ -1,27 +1,58 @@
-use Rattle.std.proofs.Common.{codes, map, arith}
+use Rattle.std.proofs.Common.{codes, map, arith, subst, sym}
 use Rattle.sig_tree.specs.Terminals.{mark}
 use Rattle.sig_tree.specs.Syntax.{declared_of}
 use Rattle.sig_parse.specs.Declarations.{IsGroupOf}
-use Rattle.sig_parse.proofs.Lists.{views_more}
+use Rattle.sig_parse.proofs.Lists.{views_more, views_one, first_pushed}
 use Rattle.sig_parse.proofs.Steps.{ends_at}
 use Rattle.sig_parse.proofs.GroupLemmas.{groups_plain, groups_marked}
-use Rattle.sig_parse.proofs.Relaying.{relayed}
+use Rattle.sig_parse.proofs.Relaying.{relayed, handed}
 use Rattle.sig_parse.proofs.StallLists.{plain_first, plain_next}
 use Rattle.sig_parse.proofs.StallDeclarations.{in_groups}
+use Rattle.sig_parse.proofs.Covering.{covered}
+use Rattle.sig_parse.proofs.Leading.{leads_refuses, leads_on}
+use Rattle.sig_parse.proofs.RefusedGroups.{groups_first, groups_next, groups_end, groups_over, groups_begun}
+use Rattle.sig_parse.specs.Keywords.{terminal_of}
+use Rattle.sig_parse.specs.State.{State}
+use Rattle.sig_parse.specs.Settling.{Closes}
+use Rattle.sig_parse.specs.Parts.{InGroups}
 use Rattle.sig_parse.proofs.declaration.groups.Goals as goal
 
-pub loop-all-preserved : goal.loop-all-preserved
-loop-all-preserved c = views_more declared_of (IsGroupOf c.args.declares) (mark (codes ";")) c.loop-all.all.items _ c.in_ok-group-2.field-0 0 0 0 c.in-Some.field-0 c.in_ok-push-2.ensures.items (omega arith)
-    c.loop-all.invariant c.in-Some.ensures.0 c.in_ok-group-2.ensures.reads
-
 pub returns-in_default-clause-reads : goal.returns-in_default-clause-reads
-returns-in_default-clause-reads c = groups_plain (IsGroupOf c.args.declares) (map declared_of c.loop-all.all.items) (ends_at (rw c.in_default.is at c.take.ensures) c.loop-all.invariant)
+returns-in_default-clause-reads c = let none = rw c.in_default.is at c.take.ensures in
+    groups_plain (IsGroupOf c.args.declares) (map declared_of c.loop-all.all.items) (ends_at none.0 c.loop-all.invariant.0)
 
 pub returns-then-is-2-clause-reads : goal.returns-then-is-2-clause-reads
-returns-then-is-2-clause-reads c = groups_marked (IsGroupOf c.args.declares) (map declared_of c.loop-all.all.items) c.in-Some.field-0 c.loop-all.invariant c.in-Some.ensures.0
+returns-then-is-2-clause-reads c = groups_marked (IsGroupOf c.args.declares) (map declared_of c.loop-all.all.items) c.in-Some.field-0 c.loop-all.invariant.0 c.in-Some.ensures.0
 
 pub returns-in_err-group-clause-viable : goal.returns-in_err-group-clause-viable
 returns-in_err-group-clause-viable c = relayed _ _ c.from_residual.ensures (λ text. in_groups c.args.declares (plain_first (IsGroupOf c.args.declares) (mark (codes ";")) (c.in_err-group.ensures.viable text)))
 
 pub returns-in_err-group-2-clause-viable : goal.returns-in_err-group-2-clause-viable
-returns-in_err-group-2-clause-viable c = relayed _ _ c.from_residual-in_err-group-2.ensures (λ text. in_groups c.args.declares (plain_next (IsGroupOf c.args.declares) (mark (codes ";")) (map declared_of c.loop-all.all.items) c.in-Some.field-0 c.loop-all.invariant c.in-Some.ensures.0 (c.in_err-group-2.ensures.viable text)))
+returns-in_err-group-2-clause-viable c = relayed _ _ c.from_residual-in_err-group-2.ensures (λ text. in_groups c.args.declares (plain_next (IsGroupOf c.args.declares) (mark (codes ";")) (map declared_of c.loop-all.all.items) c.in-Some.field-0 c.loop-all.invariant.0 c.in-Some.ensures.0 (c.in_err-group-2.ensures.viable text)))
+
+pub loop-all-init : goal.loop-all-init
+loop-all-init c = (
+  views_one declared_of (IsGroupOf c.args.declares) (mark (codes ";")) _ c.in_ok-group.field-0 0 (first_pushed c.new-all.ensures.items c.in_ok-push.ensures.items) c.in_ok-group.ensures.reads,
+  groups_begun c.args.declares (terminal_of c.args.closing) c.requires.ends (declared_of c.in_ok-group.field-0) c.if-is.ensures (covered c.in_ok-group.ensures.reads) c.in_ok-group.ensures.settles,
+)
+
+pub loop-all-preserved : goal.loop-all-preserved
+loop-all-preserved c = (
+  views_more declared_of (IsGroupOf c.args.declares) (mark (codes ";")) c.loop-all.all.items _ c.in_ok-group-2.field-0 0 0 0 c.in-Some.field-0 c.in_ok-push-2.ensures.items (omega arith) c.loop-all.invariant.0 c.in-Some.ensures.0 c.in_ok-group-2.ensures.reads,
+  leads_on (groups_next c.args.declares (terminal_of c.args.closing) c.requires.ends c.in-Some.field-0 c.loop-all.invariant.1 (covered c.in-Some.ensures.0)) (groups_begun c.args.declares (terminal_of c.args.closing) c.requires.ends (declared_of c.in_ok-group-2.field-0) c.if-is-2.ensures (covered c.in_ok-group-2.ensures.reads) c.in_ok-group-2.ensures.settles),
+)
+
+pub returns-then-is-clause-closes : goal.returns-then-is-clause-closes
+returns-then-is-clause-closes c = groups_end c.args.declares (terminal_of c.args.closing) c.requires.ends c.if-is.ensures
+
+pub returns-in_err-group-clause-refuses : goal.returns-in_err-group-clause-refuses
+returns-in_err-group-clause-refuses c = handed _ _ _ c.from_residual.ensures (λ text. groups_first c.args.declares (terminal_of c.args.closing) c.requires.ends c.if-is.ensures (c.in_err-group.ensures.refuses text))
+
+pub returns-in_default-clause-closes : goal.returns-in_default-clause-closes
+returns-in_default-clause-closes c = subst (λ (x : State). (Closes (InGroups c.args.declares (terminal_of c.args.closing)) (terminal_of c.args.closing) c.args.parser.now.leaves x.leaves)) (sym c.in_default.ensures.0) (groups_over c.args.declares (terminal_of c.args.closing) c.requires.ends c.loop-all.invariant.1 c.in_default.ensures.1)
+
+pub returns-then-is-2-clause-closes : goal.returns-then-is-2-clause-closes
+returns-then-is-2-clause-closes c = λ cause stopped r. leads_refuses (groups_next c.args.declares (terminal_of c.args.closing) c.requires.ends c.in-Some.field-0 c.loop-all.invariant.1 (covered c.in-Some.ensures.0)) (groups_end c.args.declares (terminal_of c.args.closing) c.requires.ends c.if-is-2.ensures cause stopped r)
+
+pub returns-in_err-group-2-clause-refuses : goal.returns-in_err-group-2-clause-refuses
+returns-in_err-group-2-clause-refuses c = handed _ _ _ c.from_residual-in_err-group-2.ensures (λ text. leads_refuses (groups_next c.args.declares (terminal_of c.args.closing) c.requires.ends c.in-Some.field-0 c.loop-all.invariant.1 (covered c.in-Some.ensures.0)) (groups_first c.args.declares (terminal_of c.args.closing) c.requires.ends c.if-is-2.ensures (c.in_err-group-2.ensures.refuses text)))

@@ -4,10 +4,12 @@ use Rattle.sig_tree.specs.Terminals.{mark}
 use Rattle.sig_tree.specs.Repeated.{Separated}
 use Rattle.sig_parse.specs.Declarations.{IsGroupOf}
 use Rattle.sig_parse.specs.Reads.{Reads}
+use Rattle.sig_parse.proofs.RefusedGroups.{LeadsGroups}
+use Rattle.sig_parse.specs.Keywords.{terminal_of}
 use Rattle.sig_parse.proofs.declaration.groups.Given as goal
-
-abbrev pub invariant-loop-all : goal.invariant-loop-all
-invariant-loop-all l = Reads (Separated (IsGroupOf l.declares) (mark (codes ";")) (map declared_of l.all.items)) 0 l.fn.parser l.parser
 
 abbrev pub decreases-loop-all : goal.decreases-loop-all
 decreases-loop-all l = length l.parser.leaves
+
+abbrev pub invariant-loop-all : goal.invariant-loop-all
+invariant-loop-all l = Reads (Separated (IsGroupOf l.declares) (mark (codes ";")) (map declared_of l.all.items)) 0 l.fn.parser l.parser × LeadsGroups l.declares (terminal_of l.closing) l.fn.parser.leaves l.parser.leaves

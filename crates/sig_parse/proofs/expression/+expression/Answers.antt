@@ -1,31 +1,43 @@
-use Rattle.std.proofs.Common.{rules, refl, sym, ap, ◌∙◌, arith}
+use Rattle.std.proofs.Common.{◌≡◌, ℕ, suc, rules, refl, sym, ap, ◌∙◌, subst, arith}
 use Rattle.std.proofs.lemmas.Result.{IfOk-weaker}
-use denote.Enum.Bare.{same_false}
+use denote.Enum.Bare.{same_false, same_true}
 use Rattle.sig_tree.specs.Syntax.{expression_of}
 use Rattle.sig_parse.specs.contracts.operator.Level.{the_type}
 use Rattle.sig_parse.proofs.Steps.{whole, step, again, step_shorter, ends_at, begins_at, at_binary, at_cell, at_delay, enclosed, prefixed, of_tighter, below_first}
-use Rattle.sig_tree.specs.Levels.{primary_level}
-use Rattle.sig_parse.specs.Operators.{level_number, first_level}
-use Rattle.sig_parse.proofs.Relaying.{relayed, whatever, since}
+use Rattle.sig_tree.specs.Levels.{mixed_level, delay_level, primary_level}
+use Rattle.sig_parse.specs.Operators.{level_number, first_level, ContinuesStep, IsOperatorOf}
+use Rattle.sig_parse.proofs.Relaying.{relayed, whatever, since, handed, since_refused, since_both}
 use Rattle.sig_parse.proofs.Stalling.{stalls_from}
-use Rattle.sig_parse.proofs.StallExpressions.{level_at_once, level_looser, in_operand, whole_already, behind_step, behind_binary, behind_cell, behind_held, behind_delay, in_parentheses, not_closed, behind_prefix, in_tighter, first_within}
+use Rattle.sig_parse.proofs.StallExpressions.{behind_complete, level_at_once, level_looser, in_operand, whole_already, behind_step, behind_binary, behind_cell, behind_held, behind_delay, in_parentheses, not_closed, behind_prefix, in_tighter, first_within}
+use Rattle.sig_tree.specs.Readings.{StopsBefore}
+use Rattle.sig_parse.specs.declared.operator.Level.TheVariants.{Relation}
+use Rattle.sig_parse.specs.declared.operator.Infix.TheVariants.{Cell, Delay as DelayOp}
+use Rattle.sig_parse.proofs.Lifting.{wrong, wrong_here, deep_here, too_many, same_after, stops_again, one_more}
+use Rattle.sig_parse.proofs.OperatorLemmas.{level_ends}
+use Rattle.sig_parse.proofs.RefusedLevels.{level_from_operand}
+use Rattle.sig_parse.proofs.RefusedExpressions.{binary_stops, binary_reads, cell_reads, delay_reads, binary_lifts, held_lifts, init_lifts, cell_wrong, delay_lifts, delay_wrong, step_stops, prefix_here, prefix_lifts, prefix_stops, prefixed_operand, tighter_reads, tighter_refuses, primary_refuses, no_atom_here, opening_too_deep, starts_and_stops, inside_lifts, closing_lifts, parenthesised_operand, atom_operand, behind_operand, behind_more, behind_operator, tighter_wrong, relation_wrong, too_many_here, any_number, at_most_one, within_levels}
 use Rattle.sig_parse.proofs.expression.+expression.Goals as goal
 
 pub at_level-returns-in_default-clause-reads : goal.at_level-returns-in_default-clause-reads
-at_level-returns-in_default-clause-reads t c = whole c.args.level c.args.depth (expression_of c.loop-left.left) (ends_at (rw c.in_default.is at c.in_ok-op.ensures.reads) c.loop-left.invariant.0)
+at_level-returns-in_default-clause-reads t c = whole c.args.level c.args.depth (expression_of c.loop-left.left) (let none = rw c.in_default.is at c.in_ok-op.ensures.reads in ends_at none.0 c.loop-left.invariant.reads)
 
 pub at_level-returns-then-eq-clause-reads : goal.at_level-returns-then-eq-clause-reads
 at_level-returns-then-eq-clause-reads t c =
     let f = rw c.in-Some.is at c.in_ok-op.ensures.reads in
-    step c.args.level c.args.depth (expression_of c.loop-left.left) c.in-Some.op c.in-Some.at _ c.loop-left.invariant.0 f.0 f.1 c.in_ok-left-2.ensures.completes
+    step c.args.level c.args.depth (expression_of c.loop-left.left) c.in-Some.op c.in-Some.at _ c.loop-left.invariant.reads f.0 f.1 c.in_ok-left-2.ensures.completes
 
 pub at_level-loop-left-preserved : goal.at_level-loop-left-preserved
 at_level-loop-left-preserved t c =
-    let f = rw c.in-Some.is at c.in_ok-op.ensures.reads in (
-      again c.args.level c.args.depth (expression_of c.in_ok-left-2.left) (same_false the_type _ _ (sym c.eq.ensures ∙ c.if-eq.false))
-          (step c.args.level c.args.depth (expression_of c.loop-left.left) c.in-Some.op c.in-Some.at _ c.loop-left.invariant.0 f.0 f.1 c.in_ok-left-2.ensures.completes),
-      step_shorter c.args.parser.now c.loop-left.invariant.1 f.1 c.in_ok-left-2.ensures.completes,
-    )
+    let f = rw c.in-Some.is at c.in_ok-op.ensures.reads in
+    let other = same_false the_type _ _ (sym c.eq.ensures ∙ c.if-eq.false) in
+    let own = f.0.level_is in
+    let before = c.loop-left.invariant in
+    let reads = again c.args.level c.args.depth (expression_of c.in_ok-left-2.left) other
+    (step c.args.level c.args.depth (expression_of c.loop-left.left) c.in-Some.op c.in-Some.at _ before.reads f.0 f.1 c.in_ok-left-2.ensures.completes) in
+    let shorter = step_shorter c.args.parser.now before.shorter f.1 c.in_ok-left-2.ensures.completes in
+    let lifts = behind_more (level_number c.args.level) c.args.depth c.args.parser.now.operators before.taken c.in-Some.op c.in-Some.at c.args.parser.now.leaves own before.lifts f.1 c.in_ok-left-2.ensures.step c.in_ok-left-2.ensures.stops in
+    let stops = subst (λ (n : ℕ). StopsBefore (ContinuesStep n) c.completed.new.parser.leaves) own c.in_ok-left-2.ensures.stops in
+    record { reads = reads; shorter = shorter; taken = suc before.taken; many = any_number c.args.level (suc (suc before.taken)) other; lifts = lifts; stops = stops }
 
 pub completed-returns-in_ok-new-in-Binary-clause-completes : goal.completed-returns-in_ok-new-in-Binary-clause-completes
 completed-returns-in_ok-new-in-Binary-clause-completes t c = at_binary c.args.op c.in-Binary.op (expression_of c.args.left) _ (expression_of c.in_ok-right-in-Binary.right) _ c.args.at _ c.args.depth
@@ -37,10 +49,10 @@ completed-returns-in_ok-new-in-Cell-clause-completes t c = at_cell c.args.op (ex
 
 pub completed-returns-in_ok-new-in-Delay-clause-completes : goal.completed-returns-in_ok-new-in-Delay-clause-completes
 completed-returns-in_ok-new-in-Delay-clause-completes t c = at_delay c.args.op (expression_of c.args.left) _ c.in_ok-constant-in-Delay.constant c.args.at c.args.depth
-    c.in-Delay.is (ap expression_of c.in_ok-new-in-Delay.ensures.ok) c.take_one.ensures c.in_ok-constant-in-Delay.ensures.reads
+    c.in-Delay.is (ap expression_of c.in_ok-new-in-Delay.ensures.ok) c.take_one.ensures.reads c.in_ok-constant-in-Delay.ensures.reads
 
 pub enclosed-returns-clause-reads : goal.enclosed-returns-clause-reads
-enclosed-returns-clause-reads t c = enclosed (expression_of c.in_ok-e.e) _ c.args.depth c.in_ok-inner.inner _ _ _ c.in_ok-inner.ensures.0 c.in_ok-inner.ensures.1
+enclosed-returns-clause-reads t c = enclosed (expression_of c.in_ok-e.e) _ c.args.depth c.in_ok-inner.inner _ _ _ c.in_ok-inner.ensures.deeper.0 c.in_ok-inner.ensures.deeper.1
     c.in_ok-expect.ensures.reads c.in_ok-e.ensures.reads c.in_ok-expect-2.ensures.reads
 
 pub operand-returns-in-Some-clause-reads : goal.operand-returns-in-Some-clause-reads
@@ -49,22 +61,22 @@ operand-returns-in-Some-clause-reads t c = let f = rw c.in-Some.is at c.in_ok-op
 
 pub operand-returns-in-Some-tighter-clause-reads : goal.operand-returns-in-Some-tighter-clause-reads
 operand-returns-in-Some-tighter-clause-reads t c = IfOk-weaker c.at_level-in-Some-tighter.result _ _
-    (λ e r. begins_at (rw c.in_default.is at c.in_ok-op.ensures.reads) (of_tighter c.args.level c.in-Some-tighter.next c.args.depth (expression_of e) c.in-Some-tighter.ensures r)) c.at_level-in-Some-tighter.ensures.reads
+    (λ e r. let none = rw c.in_default.is at c.in_ok-op.ensures.reads in begins_at none.0 (of_tighter c.args.level c.in-Some-tighter.next c.args.depth (expression_of e) c.in-Some-tighter.ensures r)) c.at_level-in-Some-tighter.ensures.reads
 
 pub at_level-returns-in_err-left-clause-viable : goal.at_level-returns-in_err-left-clause-viable
 at_level-returns-in_err-left-clause-viable t c = relayed _ _ c.from_residual.ensures (λ text. in_operand c.args.level c.args.depth (c.in_err-left.ensures.viable text))
 
 pub at_level-returns-in_err-op-clause-viable : goal.at_level-returns-in_err-op-clause-viable
-at_level-returns-in_err-op-clause-viable t c = whatever _ (whole_already (level_number c.args.level) (first_level c.args.level) c.args.depth (expression_of c.loop-left.left) (below_first c.args.level) c.loop-left.invariant.0 c.in_err-op.ensures.stays)
+at_level-returns-in_err-op-clause-viable t c = whatever _ (whole_already (level_number c.args.level) (first_level c.args.level) c.args.depth (expression_of c.loop-left.left) (below_first c.args.level) c.loop-left.invariant.reads c.in_err-op.ensures.stays)
 
 pub at_level-returns-in_err-left-2-clause-viable : goal.at_level-returns-in_err-left-2-clause-viable
 at_level-returns-in_err-left-2-clause-viable t c = let f = rw c.in-Some.is at c.in_ok-op.ensures.reads in
-    relayed _ _ c.from_residual-in_err-left-2.ensures (λ text. behind_step c.args.level c.args.depth (expression_of c.loop-left.left) c.in-Some.op c.in-Some.at c.loop-left.invariant.0 f.0 f.1 (c.in_err-left-2.ensures.viable text))
+    relayed _ _ c.from_residual-in_err-left-2.ensures (λ text. behind_step c.args.level c.args.depth (expression_of c.loop-left.left) c.in-Some.op c.in-Some.at c.loop-left.invariant.reads f.0 f.1 (c.in_err-left-2.ensures.viable text))
 
 pub at_level-returns-in_err-no_relation-clause-viable : goal.at_level-returns-in_err-no_relation-clause-viable
 at_level-returns-in_err-no_relation-clause-viable t c = let f = rw c.in-Some.is at c.in_ok-op.ensures.reads in
     whatever _ (whole_already (level_number c.args.level) (level_number c.args.level) c.args.depth (expression_of c.in_ok-left-2.left) (omega arith)
-    (step c.args.level c.args.depth (expression_of c.loop-left.left) c.in-Some.op c.in-Some.at _ c.loop-left.invariant.0 f.0 f.1 c.in_ok-left-2.ensures.completes) refl)
+    (step c.args.level c.args.depth (expression_of c.loop-left.left) c.in-Some.op c.in-Some.at _ c.loop-left.invariant.reads f.0 f.1 c.in_ok-left-2.ensures.completes) refl)
 
 pub operand-returns-in_err-op-clause-viable : goal.operand-returns-in_err-op-clause-viable
 operand-returns-in_err-op-clause-viable t c = whatever _ (level_at_once (first_level c.args.level) c.args.depth (first_within c.args.level) c.in_err-op.ensures.stays)
@@ -75,11 +87,11 @@ operand-returns-in_err-e-clause-viable t c = let f = rw c.in-Some.is at c.in_ok-
 
 pub operand-returns-in-Some-tighter-clause-viable : goal.operand-returns-in-Some-tighter-clause-viable
 operand-returns-in-Some-tighter-clause-viable t c = since c.at_level-in-Some-tighter.result c.at_level-in-Some-tighter.ensures.viable
-    (λ v. stalls_from (rw c.in_default.is at c.in_ok-op.ensures.reads) (in_tighter c.args.level c.in-Some-tighter.next c.args.depth c.in-Some-tighter.ensures v))
+    (λ v. let none = rw c.in_default.is at c.in_ok-op.ensures.reads in stalls_from none.0 (in_tighter c.args.level c.in-Some-tighter.next c.args.depth c.in-Some-tighter.ensures v))
 
 pub operand-returns-in-None-clause-viable : goal.operand-returns-in-None-clause-viable
 operand-returns-in-None-clause-viable t c = since c.primary.result c.primary.ensures.viable
-    (λ v. stalls_from (rw c.in_default.is at c.in_ok-op.ensures.reads) (level_looser (first_level c.args.level) primary_level c.args.depth (first_within c.args.level) v))
+    (λ v. let none = rw c.in_default.is at c.in_ok-op.ensures.reads in stalls_from none.0 (level_looser (first_level c.args.level) primary_level c.args.depth (first_within c.args.level) v))
 
 pub completed-returns-in_err-right-in-Binary-clause-viable : goal.completed-returns-in_err-right-in-Binary-clause-viable
 completed-returns-in_err-right-in-Binary-clause-viable t c = relayed _ _ c.from_residual.ensures (λ text. behind_binary c.args.op c.in-Binary.op (expression_of c.args.left) c.args.at _ c.args.depth c.in-Binary.is c.right_level.ensures (c.in_err-right-in-Binary.ensures.viable text))
@@ -91,7 +103,7 @@ pub completed-returns-in_err-constant-in-Cell-clause-viable : goal.completed-ret
 completed-returns-in_err-constant-in-Cell-clause-viable t c = relayed _ _ c.from_residual-in_err-constant-in-Cell.ensures (λ text. behind_held c.args.op (expression_of c.args.left) (expression_of c.in_ok-held-in-Cell.held) c.args.at c.args.depth c.in-Cell.is c.in_ok-held-in-Cell.ensures.reads (c.in_err-constant-in-Cell.ensures.viable text))
 
 pub completed-returns-in_err-constant-in-Delay-clause-viable : goal.completed-returns-in_err-constant-in-Delay-clause-viable
-completed-returns-in_err-constant-in-Delay-clause-viable t c = relayed _ _ c.from_residual-in_err-constant-in-Delay.ensures (λ text. behind_delay c.args.op (expression_of c.args.left) c.args.at c.args.depth c.in-Delay.is c.take_one.ensures (c.in_err-constant-in-Delay.ensures.viable text))
+completed-returns-in_err-constant-in-Delay-clause-viable t c = relayed _ _ c.from_residual-in_err-constant-in-Delay.ensures (λ text. behind_delay c.args.op (expression_of c.args.left) c.args.at c.args.depth c.in-Delay.is c.take_one.ensures.reads (c.in_err-constant-in-Delay.ensures.viable text))
 
 pub enclosed-returns-in_err-inner-clause-viable : goal.enclosed-returns-in_err-inner-clause-viable
 enclosed-returns-in_err-inner-clause-viable t c = whatever _ (level_at_once primary_level c.args.depth (omega arith) refl)
@@ -100,10 +112,182 @@ pub enclosed-returns-in_err-expect-clause-viable : goal.enclosed-returns-in_err-
 enclosed-returns-in_err-expect-clause-viable t c = whatever _ (level_at_once primary_level c.args.depth (omega arith) c.in_err-expect.ensures.stays)
 
 pub enclosed-returns-in_err-e-clause-viable : goal.enclosed-returns-in_err-e-clause-viable
-enclosed-returns-in_err-e-clause-viable t c = relayed _ _ c.from_residual-in_err-e.ensures (λ text. in_parentheses primary_level c.args.depth c.in_ok-inner.inner _ c.in_ok-inner.ensures.0 c.in_ok-inner.ensures.1 c.in_ok-expect.ensures.reads (c.in_err-e.ensures.viable text))
+enclosed-returns-in_err-e-clause-viable t c = relayed _ _ c.from_residual-in_err-e.ensures (λ text. in_parentheses primary_level c.args.depth c.in_ok-inner.inner _ c.in_ok-inner.ensures.deeper.0 c.in_ok-inner.ensures.deeper.1 c.in_ok-expect.ensures.reads (c.in_err-e.ensures.viable text))
 
 pub enclosed-returns-in_err-expect-2-clause-viable : goal.enclosed-returns-in_err-expect-2-clause-viable
-enclosed-returns-in_err-expect-2-clause-viable t c = whatever _ (not_closed primary_level c.args.depth c.in_ok-inner.inner (expression_of c.in_ok-e.e) _ c.in_ok-inner.ensures.0 c.in_ok-inner.ensures.1 c.in_ok-expect.ensures.reads c.in_ok-e.ensures.reads c.in_err-expect-2.ensures.stays)
+enclosed-returns-in_err-expect-2-clause-viable t c = whatever _ (not_closed primary_level c.args.depth c.in_ok-inner.inner (expression_of c.in_ok-e.e) _ c.in_ok-inner.ensures.deeper.0 c.in_ok-inner.ensures.deeper.1 c.in_ok-expect.ensures.reads c.in_ok-e.ensures.reads c.in_err-expect-2.ensures.stays)
 
 pub primary-returns-else-is-clause-viable : goal.primary-returns-else-is-clause-viable
 primary-returns-else-is-clause-viable t c = since c.atom.result c.atom.ensures.stays (λ same. level_at_once primary_level c.args.depth (omega arith) same)
+
+pub at_level-returns-in_err-nothing_tighter-clause-viable : goal.at_level-returns-in_err-nothing_tighter-clause-viable
+at_level-returns-in_err-nothing_tighter-clause-viable t c = whatever _ (whole_already (level_number c.args.level) (first_level c.args.level) c.args.depth (expression_of c.in_ok-left.left) (below_first c.args.level) c.in_ok-left.ensures.reads refl)
+
+pub completed-returns-in_err-nothing_tighter-in-Cell-clause-viable : goal.completed-returns-in_err-nothing_tighter-in-Cell-clause-viable
+completed-returns-in_err-nothing_tighter-in-Cell-clause-viable t c = whatever _ (behind_complete c.args.depth (expression_of c.args.left) c.args.op c.args.at _ refl
+    (at_cell c.args.op (expression_of c.args.left) _ (expression_of c.in_ok-held-in-Cell.held) _ c.in_ok-constant-in-Cell.constant c.args.at c.args.depth c.in-Cell.is refl refl c.in_ok-held-in-Cell.ensures.reads c.in_ok-constant-in-Cell.ensures.reads))
+
+pub completed-returns-in_err-nothing_tighter-in-Delay-clause-viable : goal.completed-returns-in_err-nothing_tighter-in-Delay-clause-viable
+completed-returns-in_err-nothing_tighter-in-Delay-clause-viable t c = whatever _ (behind_complete c.args.depth (expression_of c.args.left) c.args.op c.args.at _ refl
+    (at_delay c.args.op (expression_of c.args.left) _ c.in_ok-constant-in-Delay.constant c.args.at c.args.depth c.in-Delay.is refl c.take_one.ensures.reads c.in_ok-constant-in-Delay.ensures.reads))
+
+pub completed-returns-in_ok-new-in-Binary-clause-step : goal.completed-returns-in_ok-new-in-Binary-clause-step
+completed-returns-in_ok-new-in-Binary-clause-step t c = binary_reads c.args.op c.in-Binary.op c.args.at _ c.args.depth (expression_of c.in_ok-right-in-Binary.right) c.in-Binary.is c.right_level.ensures c.in_ok-right-in-Binary.ensures.reads
+
+pub completed-returns-in_ok-new-in-Binary-clause-stops : goal.completed-returns-in_ok-new-in-Binary-clause-stops
+completed-returns-in_ok-new-in-Binary-clause-stops t c = binary_stops c.args.op c.in-Binary.op _ _ c.in-Binary.is c.right_level.ensures c.in_ok-right-in-Binary.ensures.stops
+
+pub completed-returns-in_ok-new-in-Cell-clause-step : goal.completed-returns-in_ok-new-in-Cell-clause-step
+completed-returns-in_ok-new-in-Cell-clause-step t c = cell_reads c.args.op c.args.at c.args.depth (expression_of c.in_ok-held-in-Cell.held) c.in_ok-constant-in-Cell.constant c.in-Cell.is c.in_ok-held-in-Cell.ensures.reads c.in_ok-constant-in-Cell.ensures.reads
+
+pub completed-returns-in_ok-new-in-Delay-clause-step : goal.completed-returns-in_ok-new-in-Delay-clause-step
+completed-returns-in_ok-new-in-Delay-clause-step t c = delay_reads c.args.op c.args.at c.args.depth c.in_ok-constant-in-Delay.constant c.in-Delay.is c.take_one.ensures.reads c.in_ok-constant-in-Delay.ensures.reads
+
+pub completed-returns-in_ok-new-in-Cell-clause-stops : goal.completed-returns-in_ok-new-in-Cell-clause-stops
+completed-returns-in_ok-new-in-Cell-clause-stops t c = step_stops c.args.op Cell mixed_level _ c.in-Cell.is refl c.in_ok-nothing_tighter-in-Cell.ensures.stops
+
+pub completed-returns-in_ok-new-in-Delay-clause-stops : goal.completed-returns-in_ok-new-in-Delay-clause-stops
+completed-returns-in_ok-new-in-Delay-clause-stops t c = step_stops c.args.op DelayOp delay_level _ c.in-Delay.is refl c.in_ok-nothing_tighter-in-Delay.ensures.stops
+
+pub completed-returns-in_err-right-in-Binary-clause-refuses : goal.completed-returns-in_err-right-in-Binary-clause-refuses
+completed-returns-in_err-right-in-Binary-clause-refuses t c = handed _ _ _ c.from_residual.ensures (λ used counts few text.
+    binary_lifts c.args.op c.in-Binary.op c.args.at _ c.args.depth used _ _ c.in-Binary.is c.right_level.ensures counts _ _ (c.in_err-right-in-Binary.ensures.refuses few text))
+
+pub completed-returns-in_err-held-in-Cell-clause-refuses : goal.completed-returns-in_err-held-in-Cell-clause-refuses
+completed-returns-in_err-held-in-Cell-clause-refuses t c = handed _ _ _ c.from_residual-in_err-held-in-Cell.ensures (λ used counts few text.
+    held_lifts c.args.op c.args.at c.args.depth used _ _ c.in-Cell.is counts _ _ (c.in_err-held-in-Cell.ensures.refuses few text))
+
+pub completed-returns-in_err-constant-in-Cell-clause-refuses : goal.completed-returns-in_err-constant-in-Cell-clause-refuses
+completed-returns-in_err-constant-in-Cell-clause-refuses t c = handed _ _ _ c.from_residual-in_err-constant-in-Cell.ensures (λ used counts few text.
+    init_lifts c.args.op c.args.at c.args.depth used (expression_of c.in_ok-held-in-Cell.held) c.in-Cell.is counts few c.in_ok-held-in-Cell.ensures.reads _ _ (c.in_err-constant-in-Cell.ensures.refuses text))
+
+pub completed-returns-in_err-constant-in-Delay-clause-refuses : goal.completed-returns-in_err-constant-in-Delay-clause-refuses
+completed-returns-in_err-constant-in-Delay-clause-refuses t c = handed _ _ _ c.from_residual-in_err-constant-in-Delay.ensures (λ used counts few text.
+    delay_lifts c.args.op c.args.at c.args.depth used c.in-Delay.is counts few c.take_one.ensures.reads c.take_one.ensures.settles _ _ (c.in_err-constant-in-Delay.ensures.refuses text))
+
+pub completed-returns-in_err-nothing_tighter-in-Cell-clause-refuses : goal.completed-returns-in_err-nothing_tighter-in-Cell-clause-refuses
+completed-returns-in_err-nothing_tighter-in-Cell-clause-refuses t c = handed _ _ _ c.from_residual-in_err-nothing_tighter-in-Cell.ensures (λ used counts few text.
+    wrong c.in_err-nothing_tighter-in-Cell.field-0.0 c.in_err-nothing_tighter-in-Cell.ensures.refused.0
+    (cell_wrong c.args.op c.args.at c.args.depth used (expression_of c.in_ok-held-in-Cell.held) c.in_ok-constant-in-Cell.constant c.in-Cell.is counts few c.in_ok-held-in-Cell.ensures.reads c.in_ok-constant-in-Cell.ensures.reads c.in_err-nothing_tighter-in-Cell.ensures.refused.1))
+
+pub completed-returns-in_err-nothing_tighter-in-Delay-clause-refuses : goal.completed-returns-in_err-nothing_tighter-in-Delay-clause-refuses
+completed-returns-in_err-nothing_tighter-in-Delay-clause-refuses t c = handed _ _ _ c.from_residual-in_err-nothing_tighter-in-Delay.ensures (λ used counts few text.
+    wrong c.in_err-nothing_tighter-in-Delay.field-0.0 c.in_err-nothing_tighter-in-Delay.ensures.refused.0
+    (delay_wrong c.args.op c.args.at c.args.depth used c.in_ok-constant-in-Delay.constant c.in-Delay.is counts few c.take_one.ensures.reads c.take_one.ensures.settles
+    c.in_ok-constant-in-Delay.ensures.reads c.in_ok-constant-in-Delay.ensures.settles c.in_err-nothing_tighter-in-Delay.ensures.refused.1))
+
+pub operand-returns-in_err-op-clause-refuses : goal.operand-returns-in_err-op-clause-refuses
+operand-returns-in_err-op-clause-refuses t c = handed _ _ _ c.from_residual.ensures (λ few text.
+    same_after c.in_err-op.ensures.stays (prefix_here (level_number c.args.level) c.args.depth c.args.parser.now.operators c.args.parser.now.leaves c.in_err-op.field-0.0 few c.in_err-op.ensures.refused))
+
+pub operand-returns-in_err-e-clause-refuses : goal.operand-returns-in_err-e-clause-refuses
+operand-returns-in_err-e-clause-refuses t c = let f = rw c.in-Some.is at c.in_ok-op.ensures.reads in
+    handed _ _ _ c.from_residual-in_err-e.ensures (λ few text.
+    prefix_lifts c.in-Some.op c.in-Some.at _ (level_number c.args.level) c.args.depth c.in-Some.inner f.0 f.1 f.2 c.operand_level.ensures f.3 _ _ (c.in_err-e.ensures.refuses (f.3.few few) text))
+
+pub operand-returns-in-Some-clause-operand : goal.operand-returns-in-Some-clause-operand
+operand-returns-in-Some-clause-operand t c = let f = rw c.in-Some.is at c.in_ok-op.ensures.reads in
+    prefixed_operand c.in-Some.op (level_number c.args.level) (expression_of c.in_ok-e.e) _ c.in-Some.at _ c.args.depth c.in-Some.inner f.0 f.1 f.2 (ap expression_of c.in_ok-new.ensures.ok) c.operand_level.ensures f.3 c.in_ok-e.ensures.reads
+
+pub operand-returns-in-Some-clause-stops : goal.operand-returns-in-Some-clause-stops
+operand-returns-in-Some-clause-stops t c = let f = rw c.in-Some.is at c.in_ok-op.ensures.reads in
+    prefix_stops c.in-Some.op _ (level_number c.args.level) _ f.0 c.operand_level.ensures c.in_ok-e.ensures.stops
+
+pub operand-returns-in-Some-tighter-clause-operand : goal.operand-returns-in-Some-tighter-clause-operand
+operand-returns-in-Some-tighter-clause-operand t c = IfOk-weaker c.at_level-in-Some-tighter.result _ _
+    (λ e r. let none = rw c.in_default.is at c.in_ok-op.ensures.reads in begins_at none.0 (tighter_reads c.args.level c.in-Some-tighter.next c.args.depth (expression_of e) c.in-Some-tighter.ensures r)) c.at_level-in-Some-tighter.ensures.reads
+
+pub operand-returns-in-Some-tighter-clause-refuses : goal.operand-returns-in-Some-tighter-clause-refuses
+operand-returns-in-Some-tighter-clause-refuses t c = let none = rw c.in_default.is at c.in_ok-op.ensures.reads in
+    since_refused _ _ c.at_level-in-Some-tighter.result c.at_level-in-Some-tighter.ensures.refuses (λ why refuses.
+    tighter_refuses c.args.level c.in-Some-tighter.next c.args.depth _ why none.0 c.in-Some-tighter.ensures none.1 refuses)
+
+pub operand-returns-in-None-clause-refuses : goal.operand-returns-in-None-clause-refuses
+operand-returns-in-None-clause-refuses t c = let none = rw c.in_default.is at c.in_ok-op.ensures.reads in
+    since_refused _ _ c.primary.result c.primary.ensures.refuses (λ why refuses. primary_refuses c.args.level c.args.depth _ why none.0 c.in-None.ensures none.1 refuses)
+
+pub primary-returns-then-is-clause-refuses : goal.primary-returns-then-is-clause-refuses
+primary-returns-then-is-clause-refuses t c = since_refused _ _ c.enclosed.result c.enclosed.ensures.refuses (λ why refuses few no_clock text. refuses few c.if-is.ensures text)
+
+pub primary-returns-else-is-clause-refuses : goal.primary-returns-else-is-clause-refuses
+primary-returns-else-is-clause-refuses t c = since_both _ _ _ c.atom.result c.atom.ensures.stays c.atom.ensures.missing (λ why stays missing few no_clock text.
+    wrong_here why (stays text) (missing text).0 (no_atom_here c.args.depth c.args.parser.now.operators c.args.parser.now.leaves few no_clock c.if-is.ensures (missing text).1))
+
+pub primary-returns-else-is-clause-operand : goal.primary-returns-else-is-clause-operand
+primary-returns-else-is-clause-operand t c = IfOk-weaker c.atom.result _ _ (λ e r. atom_operand c.args.depth (expression_of e) r) c.atom.ensures.atom
+
+pub enclosed-returns-in_err-inner-clause-refuses : goal.enclosed-returns-in_err-inner-clause-refuses
+enclosed-returns-in_err-inner-clause-refuses t c = handed _ _ _ c.from_residual.ensures (λ few starts text.
+    deep_here c.in_err-inner.field-0.0 c.in_err-inner.ensures.too_deep.0 (opening_too_deep c.args.depth c.args.parser.now.operators c.args.parser.now.leaves c.in_err-inner.ensures.too_deep.1 few starts))
+
+pub enclosed-returns-in_err-expect-clause-refuses : goal.enclosed-returns-in_err-expect-clause-refuses
+enclosed-returns-in_err-expect-clause-refuses t c = handed _ _ _ c.from_residual-in_err-expect.ensures (λ few starts text. absurd (starts_and_stops _ _ starts c.in_err-expect.ensures.missing.1))
+
+pub enclosed-returns-in_err-e-clause-refuses : goal.enclosed-returns-in_err-e-clause-refuses
+enclosed-returns-in_err-e-clause-refuses t c = let r = c.in_ok-expect.ensures.reads in
+    handed _ _ _ c.from_residual-in_err-e.ensures (λ few starts text.
+    inside_lifts c.args.depth c.in_ok-inner.inner _ c.in_ok-inner.ensures.deeper.0 c.in_ok-inner.ensures.deeper.1 r _ _ (c.in_err-e.ensures.refuses (r.few few) text))
+
+pub enclosed-returns-in_err-expect-2-clause-refuses : goal.enclosed-returns-in_err-expect-2-clause-refuses
+enclosed-returns-in_err-expect-2-clause-refuses t c = handed _ _ _ c.from_residual-in_err-expect-2.ensures (λ few starts text.
+    closing_lifts c.args.depth c.in_ok-inner.inner _ (expression_of c.in_ok-e.e) c.in_ok-inner.ensures.deeper.0 c.in_ok-inner.ensures.deeper.1 few c.in_ok-expect.ensures.reads c.in_ok-e.ensures.reads c.in_ok-e.ensures.stops _ _ (c.in_err-expect-2.ensures.refuses text))
+
+pub enclosed-returns-clause-operand : goal.enclosed-returns-clause-operand
+enclosed-returns-clause-operand t c = parenthesised_operand (expression_of c.in_ok-e.e) c.args.depth c.in_ok-inner.inner _ _ _ c.in_ok-inner.ensures.deeper.0 c.in_ok-inner.ensures.deeper.1
+    c.in_ok-expect.ensures.reads c.in_ok-e.ensures.reads c.in_ok-expect-2.ensures.reads
+
+pub at_level-loop-left-init : goal.at_level-loop-left-init
+at_level-loop-left-init t c =
+    let r = c.in_ok-left.ensures in
+    let lifts = behind_operand (level_number c.args.level) c.args.depth (expression_of c.in_ok-left.left) (within_levels c.args.level) r.operand r.stops in
+    record { reads = r.reads; shorter = r.shorter; taken = 0; many = at_most_one (level_number c.args.level); lifts = lifts; stops = c.in_ok-nothing_tighter.ensures.stops }
+
+pub at_level-returns-in_err-left-clause-refuses : goal.at_level-returns-in_err-left-clause-refuses
+at_level-returns-in_err-left-clause-refuses t c = handed _ _ _ c.from_residual.ensures (λ few text.
+    level_from_operand (level_number c.args.level) c.args.depth c.args.parser.now.operators (within_levels c.args.level) _ _ _ (c.in_err-left.ensures.refuses few text))
+
+pub at_level-returns-in_err-nothing_tighter-clause-refuses : goal.at_level-returns-in_err-nothing_tighter-clause-refuses
+at_level-returns-in_err-nothing_tighter-clause-refuses t c =
+    let r = c.in_ok-left.ensures.operand in
+    handed _ _ _ c.from_residual-in_err-nothing_tighter.ensures (λ few text.
+    wrong c.in_err-nothing_tighter.field-0.0 c.in_err-nothing_tighter.ensures.refused.0
+    (behind_operand (level_number c.args.level) c.args.depth (expression_of c.in_ok-left.left) (within_levels c.args.level) r c.in_ok-left.ensures.stops _ _
+    (tighter_wrong (level_number c.args.level) c.args.depth 0 _ _ (r.few few) (at_most_one (level_number c.args.level)) c.in_err-nothing_tighter.ensures.refused.1)))
+
+pub at_level-returns-in_err-op-clause-refuses : goal.at_level-returns-in_err-op-clause-refuses
+at_level-returns-in_err-op-clause-refuses t c =
+    let before = c.loop-left.invariant in
+    handed _ _ _ c.from_residual-in_err-op.ensures (λ few text.
+    same_after c.in_err-op.ensures.stays (too_many c.in_err-op.field-0.0 c.in_err-op.ensures.full.0
+    (before.lifts _ _ (too_many_here (level_number c.args.level) c.args.depth before.taken _ _ (before.reads.few few) c.in_err-op.ensures.full.1 before.many c.in_err-op.ensures.full.2))))
+
+pub at_level-returns-in_default-clause-stops : goal.at_level-returns-in_default-clause-stops
+at_level-returns-in_default-clause-stops t c = let none = rw c.in_default.is at c.in_ok-op.ensures.reads in
+    stops_again _ none.0 (level_ends (level_number c.args.level) _ c.loop-left.invariant.stops none.1)
+
+pub at_level-returns-in_err-left-2-clause-refuses : goal.at_level-returns-in_err-left-2-clause-refuses
+at_level-returns-in_err-left-2-clause-refuses t c =
+    let f = rw c.in-Some.is at c.in_ok-op.ensures.reads in
+    let before = c.loop-left.invariant in
+    handed _ _ _ c.from_residual-in_err-left-2.ensures (λ few text.
+    behind_operator (level_number c.args.level) c.args.depth c.args.parser.now.operators before.taken c.in-Some.op c.in-Some.at c.args.parser.now.leaves f.0.level_is before.many before.lifts f.1 _ _
+    (c.in_err-left-2.ensures.refuses _ (one_more f.1) (f.1.few (before.reads.few few)) text))
+
+pub at_level-returns-in_err-no_relation-clause-refuses : goal.at_level-returns-in_err-no_relation-clause-refuses
+at_level-returns-in_err-no_relation-clause-refuses t c =
+    let f = rw c.in-Some.is at c.in_ok-op.ensures.reads in
+    let before = c.loop-left.invariant in
+    let is_relation : c.args.level ≡ Relation = same_true the_type (search rules) _ _ (sym c.eq.ensures ∙ c.if-eq.true) in
+    let relation = ap level_number is_relation in
+    handed _ _ _ c.from_residual-in_err-no_relation.ensures (λ few text.
+    wrong c.in_err-no_relation.field-0.0 c.in_err-no_relation.ensures.refused.0
+    (behind_more (level_number c.args.level) c.args.depth c.args.parser.now.operators before.taken c.in-Some.op c.in-Some.at c.args.parser.now.leaves f.0.level_is before.lifts f.1 c.in_ok-left-2.ensures.step c.in_ok-left-2.ensures.stops _ _
+    (relation_wrong (level_number c.args.level) c.args.depth before.taken _ _ relation (c.in_ok-left-2.ensures.completes.few (f.1.few (before.reads.few few))) before.many c.in_err-no_relation.ensures.refused.1)))
+
+pub at_level-returns-then-eq-clause-stops : goal.at_level-returns-then-eq-clause-stops
+at_level-returns-then-eq-clause-stops t c =
+    let f = rw c.in-Some.is at c.in_ok-op.ensures.reads in
+    let is_relation : c.args.level ≡ Relation = same_true the_type (search rules) _ _ (sym c.eq.ensures ∙ c.if-eq.true) in
+    let relation = ap level_number is_relation in
+    level_ends (level_number c.args.level) _ (subst (λ (n : ℕ). StopsBefore (ContinuesStep n) c.completed.new.parser.leaves) f.0.level_is c.in_ok-left-2.ensures.stops)
+    (subst (λ (n : ℕ). StopsBefore (IsOperatorOf n) c.completed.new.parser.leaves) (sym relation) c.in_ok-no_relation.ensures.stops)

@@ -4,12 +4,11 @@ use Rattle.sig_tree.specs.Limits.{both_limits, operators}
 use Rattle.sig_tree.specs.Expressions.{IsAtLevel}
 use Rattle.sig_parse.specs.Reads.{Reads, Shorter}
 use Rattle.sig_parse.specs.Operators.{level_number, first_level}
+use Rattle.sig_parse.proofs.RefusedExpressions.{Climbs}
 use Rattle.sig_parse.proofs.expression.+expression.Given as goal
 
 abbrev pub invariant-at_level-loop-left : goal.invariant-at_level-loop-left
-invariant-at_level-loop-left l =
-    Reads (IsAtLevel both_limits (first_level l.level) l.depth (expression_of l.left)) (operators (expression_of l.left)) l.fn.parser l.parser
-    × Shorter l.fn.parser l.parser
+invariant-at_level-loop-left l = Climbs l.level l.depth (expression_of l.left) l.fn.parser l.parser
 
 abbrev pub decreases-at_level-loop-left : goal.decreases-at_level-loop-left
 decreases-at_level-loop-left l = length l.parser.leaves

@@ -1,6 +1,8 @@
 use Rattle.sig_parse.proofs.GroupLemmas.{placement}
-use Rattle.sig_parse.proofs.Relaying.{relayed, whatever}
+use Rattle.sig_parse.proofs.Relaying.{relayed, whatever, handed}
 use Rattle.sig_parse.proofs.StallDeclarations.{pragma_at_once, in_braced, at_label}
+use Rattle.sig_parse.proofs.Covering.{covered}
+use Rattle.sig_parse.proofs.RefusedPragmas.{pragma_first, pragma_names, pragma_label}
 use Rattle.sig_parse.proofs.pragma.pragma.Goals as goal
 
 pub returns-clause-reads : goal.returns-clause-reads
@@ -14,3 +16,12 @@ returns-in_err-names-clause-viable c = relayed _ _ c.from_residual-in_err-names.
 
 pub returns-in_err-label-clause-viable : goal.returns-in_err-label-clause-viable
 returns-in_err-label-clause-viable c = relayed _ _ c.from_residual-in_err-label.ensures (λ text. at_label c.in_ok-at.at c.in_ok-names.names.items c.in_ok-at.ensures.reads c.in_ok-names.ensures.reads (c.in_err-label.ensures.stays text))
+
+pub returns-in_err-at-clause-refuses : goal.returns-in_err-at-clause-refuses
+returns-in_err-at-clause-refuses c = handed _ _ _ c.from_residual.ensures (λ text. pragma_first (c.in_err-at.ensures.refuses text))
+
+pub returns-in_err-names-clause-refuses : goal.returns-in_err-names-clause-refuses
+returns-in_err-names-clause-refuses c = handed _ _ _ c.from_residual-in_err-names.ensures (λ text. pragma_names c.in_ok-at.at (covered c.in_ok-at.ensures.reads) (c.in_err-names.ensures.refuses text))
+
+pub returns-in_err-label-clause-refuses : goal.returns-in_err-label-clause-refuses
+returns-in_err-label-clause-refuses c = handed _ _ _ c.from_residual-in_err-label.ensures (λ text. pragma_label c.in_ok-at.at c.in_ok-names.names.items (covered c.in_ok-at.ensures.reads) (covered c.in_ok-names.ensures.reads) (c.in_err-label.ensures.refuses text))

@@ -1,13 +1,30 @@
 use Rattle.sig_tree.specs.Syntax.{placement_of}
 use Rattle.sig_tree.specs.Processes.{IsPlacement}
-use Rattle.sig_parse.proofs.Lists.{reads_each_more}
+use Rattle.sig_parse.proofs.Lists.{reads_each_more, reads_none}
 use Rattle.std.proofs.Common.{map}
-use Rattle.sig_parse.proofs.Relaying.{relayed}
+use Rattle.sig_parse.proofs.Relaying.{relayed, handed}
 use Rattle.sig_parse.proofs.StallLists.{plain_each}
+use Rattle.sig_parse.proofs.Covering.{covered}
+use Rattle.sig_parse.proofs.Leading.{leads_on, leads_refuses, leads_nowhere}
+use Rattle.sig_parse.proofs.RefusedPragmas.{pragma_list_more, pragma_list_ends, pragma_list_item}
+use Rattle.sig_parse.specs.Parts.{InPragmaList}
+use Rattle.sig_tree.specs.Continuing.{ContinuesNothing}
 use Rattle.sig_parse.proofs.pragma.pragma_list.Goals as goal
 
-pub loop-alloc-preserved : goal.loop-alloc-preserved
-loop-alloc-preserved c = reads_each_more placement_of IsPlacement c.loop-alloc.all.items _ c.in_ok-pragma.field-0 c.in_ok-push.ensures.items c.loop-alloc.invariant c.in_ok-pragma.ensures.reads
-
 pub returns-in_err-pragma-clause-viable : goal.returns-in_err-pragma-clause-viable
-returns-in_err-pragma-clause-viable c = relayed _ _ c.from_residual.ensures (λ text. plain_each IsPlacement (map placement_of c.loop-alloc.all.items) c.loop-alloc.invariant (c.in_err-pragma.ensures.viable text))
+returns-in_err-pragma-clause-viable c = relayed _ _ c.from_residual.ensures (λ text. plain_each IsPlacement (map placement_of c.loop-alloc.all.items) c.loop-alloc.invariant.0 (c.in_err-pragma.ensures.viable text))
+
+pub loop-alloc-preserved : goal.loop-alloc-preserved
+loop-alloc-preserved c = (
+  reads_each_more placement_of IsPlacement c.loop-alloc.all.items _ c.in_ok-pragma.field-0 c.in_ok-push.ensures.items c.loop-alloc.invariant.0 c.in_ok-pragma.ensures.reads,
+  leads_on c.loop-alloc.invariant.1 (pragma_list_more (placement_of c.in_ok-pragma.field-0) c.if-is.ensures (covered c.in_ok-pragma.ensures.reads)),
+)
+
+pub returns-then-is-clause-closes : goal.returns-then-is-clause-closes
+returns-then-is-clause-closes c = λ cause stopped r. leads_refuses c.loop-alloc.invariant.1 (pragma_list_ends c.if-is.ensures cause stopped r)
+
+pub returns-in_err-pragma-clause-refuses : goal.returns-in_err-pragma-clause-refuses
+returns-in_err-pragma-clause-refuses c = handed _ _ _ c.from_residual.ensures (λ text. leads_refuses c.loop-alloc.invariant.1 (pragma_list_item c.if-is.ensures (c.in_err-pragma.ensures.refuses text)))
+
+pub loop-alloc-init : goal.loop-alloc-init
+loop-alloc-init c = (reads_none placement_of IsPlacement _ c.args.parser.now c.new-all.ensures.items, leads_nowhere InPragmaList ContinuesNothing c.args.parser.now.leaves)

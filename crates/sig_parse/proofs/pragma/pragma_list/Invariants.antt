@@ -3,10 +3,11 @@ use Rattle.sig_tree.specs.Syntax.{placement_of}
 use Rattle.sig_tree.specs.Repeated.{Each}
 use Rattle.sig_tree.specs.Processes.{IsPlacement}
 use Rattle.sig_parse.specs.Reads.{Reads}
+use Rattle.sig_parse.proofs.RefusedPragmas.{LeadsPragmas}
 use Rattle.sig_parse.proofs.pragma.pragma_list.Given as goal
-
-abbrev pub invariant-loop-alloc : goal.invariant-loop-alloc
-invariant-loop-alloc l = Reads (Each IsPlacement (map placement_of l.all.items)) 0 l.fn.parser l.parser
 
 abbrev pub decreases-loop-alloc : goal.decreases-loop-alloc
 decreases-loop-alloc l = length l.parser.leaves
+
+abbrev pub invariant-loop-alloc : goal.invariant-loop-alloc
+invariant-loop-alloc l = Reads (Each IsPlacement (map placement_of l.all.items)) 0 l.fn.parser l.parser × LeadsPragmas l.fn.parser.leaves l.parser.leaves

@@ -1,14 +1,21 @@
-use Rattle.std.proofs.Common.{codes, map, refl, inl, inr}
+use Rattle.std.proofs.Common.{codes, map, refl, inl, inr, subst, sym}
 use Rattle.sig_tree.specs.Terminals.{word}
 use Rattle.sig_tree.specs.Syntax.{declared_of, model_of, equations_of, placement_of}
 use Rattle.sig_parse.specs.Declarations.{AreDeclared, AreBehindWhere, IsTitle}
 use Rattle.sig_parse.proofs.Covering.{covered, seen_as, between_marks, stays}
-use Rattle.sig_parse.proofs.ProcessLemmas.{ended, one_group_more, one_process_more, in_parts, whole}
+use Rattle.sig_parse.proofs.ProcessLemmas.{ended, one_group_more, one_process_more, in_parts, whole, nothing_begun}
 use Rattle.sig_tree.specs.Processes.{IsLocalGroup, AreParams, ArePragmas}
-use Rattle.sig_parse.proofs.Relaying.{relayed, whatever, since}
+use Rattle.sig_parse.proofs.Relaying.{relayed, whatever, since, handed, since_refused}
 use Rattle.sig_parse.proofs.StallParts.{plain_halts}
 use Rattle.sig_parse.proofs.StallProcesses.{in_group, in_process, declarations_at_once, in_next, in_where, at_where_end, in_title, in_process_params, in_process_interface, in_process_pragmas, in_process_body, in_process_where, at_process_end}
 use Rattle.sig_parse.proofs.StallDeclarations.{Interface}
+use Rattle.sig_parse.proofs.Leading.{leads_on, leads_refuses, leads_nowhere}
+use Rattle.sig_parse.specs.Parts.{InDeclared, InWhere}
+use Rattle.sig_tree.specs.Continuing.{ContinuesNothing, ContinuesOptional}
+use Rattle.sig_parse.proofs.RefusedModels.{process_title, process_params, process_interface, process_pragmas, process_body, process_where, process_end, declared_too_deep, inner_too_deep, inner_refused}
+use Rattle.sig_parse.proofs.RefusedProcesses.{declared_ends, declared_group, group_declared, declared_process, process_declared, where_missing, where_inside, where_settled}
+use Rattle.sig_parse.specs.State.{State}
+use Rattle.sig_parse.specs.Settling.{Settles}
 use Rattle.sig_parse.proofs.process.+process.Goals as goal
 
 pub where_part-returns-clause-reads : goal.where_part-returns-clause-reads
@@ -20,15 +27,7 @@ where_part-returns-clause-reads t c =
     (covered c.in-Some.ensures.0) c.in_ok-all.ensures.reads (covered c.in_ok-_closed.ensures.reads))
 
 pub entries-returns-then-is-clause-reads : goal.entries-returns-then-is-clause-reads
-entries-returns-then-is-clause-reads t c = ended c.args.depth (map model_of c.loop-alloc.processes.items) (map declared_of c.loop-alloc.groups.items) c.loop-alloc.invariant
-
-pub entries-loop-alloc-preserved-in_ok-push : goal.entries-loop-alloc-preserved-in_ok-push
-entries-loop-alloc-preserved-in_ok-push t c = one_process_more c.args.depth (map declared_of c.loop-alloc.groups.items) c.loop-alloc.processes.items _ c.in_ok-inner_process.field-0
-    c.in_ok-push.ensures.items c.loop-alloc.invariant c.in_ok-inner_process.ensures.reads
-
-pub entries-loop-alloc-preserved : goal.entries-loop-alloc-preserved
-entries-loop-alloc-preserved t c = one_group_more c.args.depth (map model_of c.loop-alloc.processes.items) c.loop-alloc.groups.items _ c.in_ok-local_group.field-0
-    c.in_ok-push-2.ensures.items c.loop-alloc.invariant (covered c.in_ok-local_group.ensures.reads)
+entries-returns-then-is-clause-reads t c = ended c.args.depth (map model_of c.loop-alloc.processes.items) (map declared_of c.loop-alloc.groups.items) c.loop-alloc.invariant.0
 
 pub process-returns-clause-reads : goal.process-returns-clause-reads
 process-returns-clause-reads t c = whole c.args.depth c.in_ok-name.name c.in_ok-params.params c.in_ok-interface.interface.inputs c.in_ok-interface.interface.outputs c.in_ok-run_on.run_on c.in_ok-body.body
@@ -64,13 +63,76 @@ pub where_part-returns-in_err-_closed-clause-viable : goal.where_part-returns-in
 where_part-returns-in_err-_closed-clause-viable t c = whatever _ (at_where_end c.args.depth c.in-Some._opened (map model_of c.in_ok-all.all.processes.items) (map declared_of c.in_ok-all.all.groups.items) (covered c.in-Some.ensures.0) c.in_ok-all.ensures.reads c.in_err-_closed.ensures.stays)
 
 pub entries-returns-in_err-inner_process-clause-viable : goal.entries-returns-in_err-inner_process-clause-viable
-entries-returns-in_err-inner_process-clause-viable t c = relayed _ _ c.from_residual.ensures (λ text. in_next c.args.depth (map model_of c.loop-alloc.processes.items) (map declared_of c.loop-alloc.groups.items) c.loop-alloc.invariant (c.in_err-inner_process.ensures.viable text))
+entries-returns-in_err-inner_process-clause-viable t c = relayed _ _ c.from_residual.ensures (λ text. in_next c.args.depth (map model_of c.loop-alloc.processes.items) (map declared_of c.loop-alloc.groups.items) c.loop-alloc.invariant.0 (c.in_err-inner_process.ensures.viable text))
 
 pub entries-returns-in_err-local_group-clause-viable : goal.entries-returns-in_err-local_group-clause-viable
-entries-returns-in_err-local_group-clause-viable t c = relayed _ _ c.from_residual-in_err-local_group.ensures (λ text. in_next c.args.depth (map model_of c.loop-alloc.processes.items) (map declared_of c.loop-alloc.groups.items) c.loop-alloc.invariant (in_group c.args.depth (plain_halts IsLocalGroup (c.in_err-local_group.ensures.viable text))))
+entries-returns-in_err-local_group-clause-viable t c = relayed _ _ c.from_residual-in_err-local_group.ensures (λ text. in_next c.args.depth (map model_of c.loop-alloc.processes.items) (map declared_of c.loop-alloc.groups.items) c.loop-alloc.invariant.0 (in_group c.args.depth (plain_halts IsLocalGroup (c.in_err-local_group.ensures.viable text))))
 
 pub inner_process-returns-in_err-inner-clause-viable : goal.inner_process-returns-in_err-inner-clause-viable
 inner_process-returns-in_err-inner-clause-viable t c = whatever _ (declarations_at_once c.args.depth refl)
 
 pub inner_process-returns-clause-viable : goal.inner_process-returns-clause-viable
-inner_process-returns-clause-viable t c = since c.process.result c.process.ensures.viable (λ v. in_process c.args.depth c.in_ok-inner.inner c.in_ok-inner.ensures.0 c.in_ok-inner.ensures.1 v)
+inner_process-returns-clause-viable t c = since c.process.result c.process.ensures.viable (λ v. in_process c.args.depth c.in_ok-inner.inner c.in_ok-inner.ensures.deeper.0 c.in_ok-inner.ensures.deeper.1 v)
+
+pub process-returns-in_err-name-clause-refuses : goal.process-returns-in_err-name-clause-refuses
+process-returns-in_err-name-clause-refuses t c = handed _ _ _ c.from_residual.ensures (λ text. process_title c.args.depth (c.in_err-name.ensures.refuses text))
+
+pub process-returns-in_err-params-clause-refuses : goal.process-returns-in_err-params-clause-refuses
+process-returns-in_err-params-clause-refuses t c = handed _ _ _ c.from_residual-in_err-params.ensures (λ text. process_params c.args.depth c.in_ok-name.name (covered c.in_ok-name.ensures.reads) (c.in_err-params.ensures.refuses text))
+
+pub process-returns-in_err-interface-clause-refuses : goal.process-returns-in_err-interface-clause-refuses
+process-returns-in_err-interface-clause-refuses t c = handed _ _ _ c.from_residual-in_err-interface.ensures (λ text. process_interface c.args.depth c.in_ok-name.name (covered c.in_ok-name.ensures.reads) (map declared_of c.in_ok-params.params.items) (covered c.in_ok-params.ensures.reads) c.in_ok-params.ensures.settles (c.in_err-interface.ensures.refuses text))
+
+pub process-returns-in_err-run_on-clause-refuses : goal.process-returns-in_err-run_on-clause-refuses
+process-returns-in_err-run_on-clause-refuses t c = handed _ _ _ c.from_residual-in_err-run_on.ensures (λ text. process_pragmas c.args.depth c.in_ok-name.name (covered c.in_ok-name.ensures.reads) (map declared_of c.in_ok-params.params.items) (covered c.in_ok-params.ensures.reads) c.in_ok-params.ensures.settles (map declared_of c.in_ok-interface.interface.inputs.items) (map declared_of c.in_ok-interface.interface.outputs.items) (covered c.in_ok-interface.ensures.reads) (c.in_err-run_on.ensures.refuses text))
+
+pub process-returns-in_err-body-clause-refuses : goal.process-returns-in_err-body-clause-refuses
+process-returns-in_err-body-clause-refuses t c = handed _ _ _ c.from_residual-in_err-body.ensures (λ text. process_body c.args.depth c.in_ok-name.name (covered c.in_ok-name.ensures.reads) (map declared_of c.in_ok-params.params.items) (covered c.in_ok-params.ensures.reads) c.in_ok-params.ensures.settles (map declared_of c.in_ok-interface.interface.inputs.items) (map declared_of c.in_ok-interface.interface.outputs.items) (covered c.in_ok-interface.ensures.reads) (map placement_of c.in_ok-run_on.run_on.items) (covered c.in_ok-run_on.ensures.reads) c.in_ok-run_on.ensures.settles (c.in_err-body.ensures.refuses text))
+
+pub process-returns-in_err-declared-clause-refuses : goal.process-returns-in_err-declared-clause-refuses
+process-returns-in_err-declared-clause-refuses t c = handed _ _ _ c.from_residual-in_err-declared.ensures (λ text. process_where c.args.depth c.in_ok-name.name (covered c.in_ok-name.ensures.reads) (map declared_of c.in_ok-params.params.items) (covered c.in_ok-params.ensures.reads) c.in_ok-params.ensures.settles (map declared_of c.in_ok-interface.interface.inputs.items) (map declared_of c.in_ok-interface.interface.outputs.items) (covered c.in_ok-interface.ensures.reads) (map placement_of c.in_ok-run_on.run_on.items) (covered c.in_ok-run_on.ensures.reads) c.in_ok-run_on.ensures.settles (equations_of c.in_ok-body.body) c.in_ok-body.ensures.reads c.in_ok-body.ensures.settles (c.in_err-declared.ensures.refuses text))
+
+pub process-returns-in_err-_ended-clause-refuses : goal.process-returns-in_err-_ended-clause-refuses
+process-returns-in_err-_ended-clause-refuses t c = handed _ _ _ c.from_residual-in_err-_ended.ensures (λ text. process_end c.args.depth c.in_ok-name.name (covered c.in_ok-name.ensures.reads) (map declared_of c.in_ok-params.params.items) (covered c.in_ok-params.ensures.reads) c.in_ok-params.ensures.settles (map declared_of c.in_ok-interface.interface.inputs.items) (map declared_of c.in_ok-interface.interface.outputs.items) (covered c.in_ok-interface.ensures.reads) (map placement_of c.in_ok-run_on.run_on.items) (covered c.in_ok-run_on.ensures.reads) c.in_ok-run_on.ensures.settles (equations_of c.in_ok-body.body) c.in_ok-body.ensures.reads c.in_ok-body.ensures.settles (map model_of c.in_ok-declared.declared.processes.items) (map declared_of c.in_ok-declared.declared.groups.items) c.in_ok-declared.ensures.reads c.in_ok-declared.ensures.settles (c.in_err-_ended.ensures.refuses text))
+
+pub where_part-returns-in_default-clause-settles : goal.where_part-returns-in_default-clause-settles
+where_part-returns-in_default-clause-settles t c = subst (λ (x : State). Settles (InWhere c.args.depth) (ContinuesOptional (word (codes "where"))) c.args.parser.now.leaves x.leaves) (sym c.in_default.ensures.0) (where_missing c.args.depth c.in_default.ensures.1)
+
+pub where_part-returns-in_err-all-clause-refuses : goal.where_part-returns-in_err-all-clause-refuses
+where_part-returns-in_err-all-clause-refuses t c = handed _ _ _ c.from_residual.ensures (λ text. where_inside c.args.depth c.in-Some._opened (covered c.in-Some.ensures.0) (c.in_err-all.ensures.refuses text))
+
+pub where_part-returns-in_err-_closed-clause-refuses : goal.where_part-returns-in_err-_closed-clause-refuses
+where_part-returns-in_err-_closed-clause-refuses t c = handed _ _ _ c.from_residual-in_err-_closed.ensures (λ text. where_inside c.args.depth c.in-Some._opened (covered c.in-Some.ensures.0) (c.in_ok-all.ensures.closes _ _ (c.in_err-_closed.ensures.refuses text)))
+
+pub where_part-returns-clause-settles : goal.where_part-returns-clause-settles
+where_part-returns-clause-settles t c = where_settled c.args.depth c.in-Some._opened (map model_of c.in_ok-all.all.processes.items) (map declared_of c.in_ok-all.all.groups.items) c.in_ok-_closed._closed (covered c.in-Some.ensures.0) c.in_ok-all.ensures.reads (covered c.in_ok-_closed.ensures.reads)
+
+pub entries-loop-alloc-preserved-in_ok-push : goal.entries-loop-alloc-preserved-in_ok-push
+entries-loop-alloc-preserved-in_ok-push t c = (
+  one_process_more c.args.depth (map declared_of c.loop-alloc.groups.items) c.loop-alloc.processes.items _ c.in_ok-inner_process.field-0 c.in_ok-push.ensures.items c.loop-alloc.invariant.0 c.in_ok-inner_process.ensures.reads,
+  leads_on c.loop-alloc.invariant.1 (process_declared c.args.depth (model_of c.in_ok-inner_process.field-0) c.if-is-2.ensures c.in_ok-inner_process.ensures.reads),
+)
+
+pub entries-loop-alloc-preserved : goal.entries-loop-alloc-preserved
+entries-loop-alloc-preserved t c = (
+  one_group_more c.args.depth (map model_of c.loop-alloc.processes.items) c.loop-alloc.groups.items _ c.in_ok-local_group.field-0 c.in_ok-push-2.ensures.items c.loop-alloc.invariant.0 (covered c.in_ok-local_group.ensures.reads),
+  leads_on c.loop-alloc.invariant.1 (group_declared c.args.depth (declared_of c.in_ok-local_group.field-0) c.if-is.ensures c.if-is-2.ensures (covered c.in_ok-local_group.ensures.reads)),
+)
+
+pub entries-returns-then-is-clause-closes : goal.entries-returns-then-is-clause-closes
+entries-returns-then-is-clause-closes t c = λ cause stopped r. leads_refuses c.loop-alloc.invariant.1 (declared_ends c.args.depth c.if-is.ensures cause stopped r)
+
+pub entries-returns-in_err-inner_process-clause-refuses : goal.entries-returns-in_err-inner_process-clause-refuses
+entries-returns-in_err-inner_process-clause-refuses t c = handed _ _ _ c.from_residual.ensures (λ text. leads_refuses c.loop-alloc.invariant.1 (c.in_err-inner_process.ensures.refuses text))
+
+pub entries-returns-in_err-local_group-clause-refuses : goal.entries-returns-in_err-local_group-clause-refuses
+entries-returns-in_err-local_group-clause-refuses t c = handed _ _ _ c.from_residual-in_err-local_group.ensures (λ text. leads_refuses c.loop-alloc.invariant.1 (declared_group c.args.depth c.if-is.ensures c.if-is-2.ensures (c.in_err-local_group.ensures.refuses text)))
+
+pub entries-loop-alloc-init : goal.entries-loop-alloc-init
+entries-loop-alloc-init t c = (nothing_begun c.args.depth _ _ c.args.parser.now c.new-processes.ensures.items c.new-groups.ensures.items, leads_nowhere (InDeclared c.args.depth) ContinuesNothing c.args.parser.now.leaves)
+
+pub inner_process-returns-in_err-inner-clause-refuses : goal.inner_process-returns-in_err-inner-clause-refuses
+inner_process-returns-in_err-inner-clause-refuses t c = handed _ _ _ c.from_residual.ensures (inner_too_deep c.args.depth _ c.args.parser.now c.in_err-inner.ensures.too_deep c.requires.next)
+
+pub inner_process-returns-clause-refuses : goal.inner_process-returns-clause-refuses
+inner_process-returns-clause-refuses t c = since_refused _ _ c.process.result c.process.ensures.refuses (λ why r text. inner_refused c.args.depth c.in_ok-inner.inner c.in_ok-inner.ensures.deeper c.requires.next (r text))

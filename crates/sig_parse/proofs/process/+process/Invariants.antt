@@ -1,10 +1,8 @@
 use Rattle.std.proofs.Common.{ℕ, ◌+◌, ◌*◌, ◌-◌, length, map}
 use Rattle.sig_tree.specs.Syntax.{declared_of, model_of}
 use Rattle.sig_parse.proofs.ProcessLemmas.{Begun}
+use Rattle.sig_parse.proofs.RefusedProcesses.{LeadsDeclared}
 use Rattle.sig_parse.proofs.process.+process.Given as goal
-
-abbrev pub invariant-entries-loop-alloc : goal.invariant-entries-loop-alloc
-invariant-entries-loop-alloc l = Begun l.depth (map model_of l.processes.items) (map declared_of l.groups.items) l.fn.parser l.parser
 
 abbrev pub decreases-entries-loop-alloc : goal.decreases-entries-loop-alloc
 decreases-entries-loop-alloc l = length l.parser.leaves
@@ -20,3 +18,6 @@ decreases-entries l = (64 - l.depth) * 4 + 1
 
 abbrev pub decreases-inner_process : goal.decreases-inner_process
 decreases-inner_process l = (64 - l.depth) * 4
+
+abbrev pub invariant-entries-loop-alloc : goal.invariant-entries-loop-alloc
+invariant-entries-loop-alloc l = Begun l.depth (map model_of l.processes.items) (map declared_of l.groups.items) l.fn.parser l.parser × LeadsDeclared l.depth l.fn.parser.leaves l.parser.leaves

@@ -1,7 +1,9 @@
 use Rattle.sig_tree.specs.Syntax.{declared_of}
 use Rattle.sig_parse.proofs.GroupLemmas.{local_group}
-use Rattle.sig_parse.proofs.Relaying.{relayed, whatever}
+use Rattle.sig_parse.proofs.Relaying.{relayed, whatever, handed}
 use Rattle.sig_parse.proofs.StallDeclarations.{in_local_group, at_local_end}
+use Rattle.sig_parse.proofs.Covering.{covered}
+use Rattle.sig_parse.proofs.RefusedHeadings.{local_group_inside, local_group_end}
 use Rattle.sig_parse.proofs.process.local_group.Goals as goal
 
 pub returns-clause-reads : goal.returns-clause-reads
@@ -12,3 +14,9 @@ returns-in_err-one-clause-viable c = relayed _ _ c.from_residual.ensures (λ tex
 
 pub returns-in_err-_ended-clause-viable : goal.returns-in_err-_ended-clause-viable
 returns-in_err-_ended-clause-viable c = whatever _ (at_local_end (declared_of c.in_ok-one.one) c.in_ok-one.ensures.reads c.in_err-_ended.ensures.stays)
+
+pub returns-in_err-one-clause-refuses : goal.returns-in_err-one-clause-refuses
+returns-in_err-one-clause-refuses c = handed _ _ _ c.from_residual.ensures (λ text. local_group_inside (c.in_err-one.ensures.refuses text))
+
+pub returns-in_err-_ended-clause-refuses : goal.returns-in_err-_ended-clause-refuses
+returns-in_err-_ended-clause-refuses c = handed _ _ _ c.from_residual-in_err-_ended.ensures (λ text. local_group_end (declared_of c.in_ok-one.one) (covered c.in_ok-one.ensures.reads) c.in_ok-one.ensures.settles (c.in_err-_ended.ensures.refuses text))

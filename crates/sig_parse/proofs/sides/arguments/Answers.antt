@@ -5,8 +5,9 @@ use Rattle.sig_tree.specs.Limits.{both_limits, operators}
 use Rattle.sig_tree.specs.Repeated.{Listed}
 use Rattle.sig_tree.specs.Expressions.{IsExpression}
 use Rattle.sig_parse.proofs.Enclosing.{between}
-use Rattle.sig_parse.proofs.Relaying.{relayed, whatever}
+use Rattle.sig_parse.proofs.Relaying.{relayed, whatever, handed}
 use Rattle.sig_parse.proofs.StallParts.{counted_opening, counted_inside, counted_closing}
+use Rattle.sig_parse.proofs.RefusedCalls.{arguments_opening, arguments_lift, arguments_close}
 use Rattle.sig_parse.proofs.sides.arguments.Goals as goal
 
 pub returns-clause-reads : goal.returns-clause-reads
@@ -22,3 +23,14 @@ returns-in_err-all-clause-viable c = relayed _ _ c.from_residual-in_err-all.ensu
 
 pub returns-in_err-_closed-clause-viable : goal.returns-in_err-_closed-clause-viable
 returns-in_err-_closed-clause-viable c = whatever _ (counted_closing (Listed (IsExpression both_limits c.args.depth) (mark (codes ","))) (mark (codes "(")) (mark (codes ")")) (sum_by operators) c.in_ok-_opened._opened (map expression_of c.in_ok-all.all.items) c.in_ok-_opened.ensures.reads c.in_ok-all.ensures.reads c.in_err-_closed.ensures.stays)
+
+pub returns-in_err-_opened-clause-refuses : goal.returns-in_err-_opened-clause-refuses
+returns-in_err-_opened-clause-refuses c = handed _ _ _ c.from_residual.ensures (λ few text. arguments_opening c.args.depth c.args.parser.now.operators _ few _ _ (c.in_err-_opened.ensures.refuses text))
+
+pub returns-in_err-all-clause-refuses : goal.returns-in_err-all-clause-refuses
+returns-in_err-all-clause-refuses c = let opened = c.in_ok-_opened.ensures.reads in
+    handed _ _ _ c.from_residual-in_err-all.ensures (λ few text. arguments_lift c.args.depth c.in_ok-_opened._opened opened _ _ (c.in_err-all.ensures.refuses (opened.few few) text))
+
+pub returns-in_err-_closed-clause-refuses : goal.returns-in_err-_closed-clause-refuses
+returns-in_err-_closed-clause-refuses c = let opened = c.in_ok-_opened.ensures.reads in
+    handed _ _ _ c.from_residual-in_err-_closed.ensures (λ few text. arguments_close c.args.depth c.in_ok-_opened._opened opened (c.in_ok-all.ensures.closes (opened.few few)) _ _ (c.in_err-_closed.ensures.refuses text))

@@ -1,0 +1,41 @@
+-- What is refused where one token is read.
+use Rattle.std.proofs.Common.{◌≡◌, ◌≤◌, ℕ, List, [], ◌∷◌, refl, sym, ap, ◌∙◌, subst}
+use Rattle.sig_base.specs.declared.span.Span.{Span}
+use Rattle.sig_tree.specs.declared.expr.Name.{Name}
+use Rattle.sig_tree.specs.Terminals.{Terminal, Leaf, leaf, label, name_leaf, name}
+use Rattle.sig_tree.specs.Limits.{Limits, no_limits}
+use Rattle.sig_tree.specs.Readings.{StopsBefore}
+use Rattle.sig_tree.specs.Beginning.{StartsWith, BeginsName}
+use Rattle.sig_tree.specs.Continuing.{ContinuesNothing}
+use Rattle.sig_tree.specs.Unplaced.{no_place}
+use Rattle.sig_parse.specs.declared.refusal.Refusal.TheVariants.{Syntax}
+use Rattle.sig_parse.specs.State.{State}
+use Rattle.sig_parse.specs.Languages.{InLeaf, InLabel, InName}
+use Rattle.sig_parse.specs.Refusals.{Cause, Wrong, Refuses, RefusedBy}
+use Rattle.sig_parse.proofs.Refusing.{refuses_at_once}
+use Rattle.sig_parse.proofs.RefusedConstants.{some_name, some_leaf, leaf_refused}
+
+label_starts : (leaves : List Leaf) → InLabel no_limits leaves → StartsWith (λ t. (text : List ℕ) × (t ≡ label text)) leaves
+label_starts leaves (text, (at, e)) = subst (λ (l : List Leaf). StartsWith (λ t. (text : List ℕ) × (t ≡ label text)) l) (sym e) (text, refl)
+
+pub label_refused : (here : List Leaf) → StopsBefore (λ t. (text : List ℕ) × (t ≡ label text)) here → Refuses InLabel ContinuesNothing Wrong here here
+label_refused here stops = refuses_at_once InLabel ContinuesNothing (λ t. (text : List ℕ) × (t ≡ label text)) (leaf (label []) no_place ∷ []) ([], (no_place, refl)) label_starts here stops
+
+name_starts : (leaves : List Leaf) → InName no_limits leaves → StartsWith BeginsName leaves
+name_starts leaves (n, e) = subst (λ (l : List Leaf). StartsWith BeginsName l) (sym e) (n.text, refl)
+
+pub name_refused : (here : List Leaf) → StopsBefore BeginsName here → Refuses InName ContinuesNothing Wrong here here
+name_refused here stops = refuses_at_once InName ContinuesNothing BeginsName (some_leaf ∷ []) (some_name, refl) name_starts here stops
+
+-- the parser stays before the token that it refuses
+pub refused_here : (Is : Limits → List Leaf → Type 0) (Continues : Terminal → Type 0) {s t : State} → t ≡ s → Refuses Is Continues Wrong s.leaves s.leaves → RefusedBy Is Continues s t Syntax
+refused_here Is Continues {s} {t} same r = λ text. subst (λ (x : State). Refuses Is Continues Wrong s.leaves x.leaves) (sym same) r
+
+pub leaf_missing : (terminal : Terminal) {s t : State} → (t ≡ s) × StopsBefore (λ u. u ≡ terminal) s.leaves → RefusedBy (InLeaf terminal) ContinuesNothing s t Syntax
+leaf_missing terminal {s} h = refused_here (InLeaf terminal) ContinuesNothing h.0 (leaf_refused terminal s.leaves h.1)
+
+pub label_missing : {s t : State} → (t ≡ s) × StopsBefore (λ u. (text : List ℕ) × (u ≡ label text)) s.leaves → RefusedBy InLabel ContinuesNothing s t Syntax
+label_missing {s} h = refused_here InLabel ContinuesNothing h.0 (label_refused s.leaves h.1)
+
+pub name_missing : {s t : State} → (t ≡ s) × StopsBefore BeginsName s.leaves → RefusedBy InName ContinuesNothing s t Syntax
+name_missing {s} h = refused_here InName ContinuesNothing h.0 (name_refused s.leaves h.1)
