@@ -7,7 +7,7 @@ use Rattle.sig_tree.specs.Terminals.{Terminal, Leaf}
 use Rattle.sig_tree.specs.Limits.{Limits, both_limits, nesting_limit, no_limits}
 use Rattle.sig_tree.specs.Repeated.{Each}
 use Rattle.sig_tree.specs.Processes.{IsModel}
-use Rattle.sig_tree.specs.Grammar.{IsProgram, Begins}
+use Rattle.sig_tree.specs.Grammar.{IsProgram, Begins, HasTree}
 use Rattle.sig_tree.specs.Readings.{StopsBefore, OneReading}
 use Rattle.sig_tree.specs.Continuing.{ContinuesNothing}
 use Rattle.sig_tree.proofs.Unlimited.{model_unlimited, model_within, program_unlimited, program_within}
