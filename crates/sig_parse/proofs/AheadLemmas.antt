@@ -1,24 +1,22 @@
 -- What begins a definition begins no clock equation.
-use Rattle.std.proofs.Common.{◌≡◌, ◌++◌, ◌⊎◌, ℕ, suc, zero, List, [], ◌∷◌, true, false, codes, None, Some, Option, inl, inr, refl, sym, ap, ◌∙◌, subst, append_assoc, arith}
+use Rattle.std.proofs.Common.{◌≡◌, ◌++◌, ℕ, suc, zero, List, [], ◌∷◌, true, false, codes, None, Some, inl, inr, refl, sym, ap, ◌∙◌, subst}
 use Rattle.sig_base.specs.declared.span.Span.{Span}
 use Rattle.sig_tree.specs.declared.expr.Name.{Name}
-use Rattle.sig_tree.specs.declared.expr.UnOp.TheVariants.{Not, Neg, When as UnaryWhen, Clock}
 use Rattle.sig_tree.specs.Syntax.{Expression, Named, Number, Truth, Unary, Binary, Delay, Cell, RightSide}
-use Rattle.sig_tree.specs.Terminals.{Terminal, Leaf, leaf, name_leaf, name, number, word, mark, unary_terminal, truth_word, binary_terminal}
+use Rattle.sig_tree.specs.Terminals.{Terminal, Leaf, leaf, name_leaf, name, number, word, mark}
 use Rattle.sig_tree.specs.Levels.{default_level, mixed_level, delay_level, level_of, left_level}
 use Rattle.sig_tree.specs.Limits.{Limits, no_limits, MayStandInside}
-use Rattle.sig_tree.specs.Expressions.{IsExpression, IsBare, Enclosed, IsAtLevel}
-use Rattle.sig_tree.specs.Equations.{IsLeft, IsRight, IsDefinition, IsClockEquation}
-use Rattle.sig_tree.specs.Beginning.{StartsWith, BeginsExpression, BeginsName}
-use Rattle.sig_tree.specs.Continuing.{ContinuesExpression}
-use Rattle.sig_tree.proofs.Settling.{◌>>=◌, Settles, settles_now, settles_next, settles_bind, settles_once}
+use Rattle.sig_tree.specs.Expressions.{IsBare, Enclosed}
+use Rattle.sig_tree.specs.Equations.{IsLeft, IsDefinition, IsClockEquation}
+use Rattle.sig_tree.specs.Beginning.{StartsWith, BeginsExpression}
+use Rattle.sig_tree.proofs.Settling.{◌>>=◌, Settles, settles_now, settles_next, settles_bind}
 use Rattle.sig_tree.proofs.Operators.{different}
 use Rattle.sig_tree.proofs.Reader.{From, Behind, run, closed}
-use Rattle.sig_tree.proofs.ReadExpressions.{expression_read, expression_once}
+use Rattle.sig_tree.proofs.ReadExpressions.{expression_read}
 use Rattle.sig_tree.proofs.FirstLeaves.{expression_begins}
-use Rattle.sig_tree.proofs.Combining.{cons_same, append_to, part_at}
+use Rattle.sig_tree.proofs.Combining.{append_to}
 use Rattle.sig_tree.proofs.ReadEquations.{mark_apart, named_alone}
-use Rattle.sig_parse.specs.Ahead.{StartsThen, BeginsDefinition}
+use Rattle.sig_parse.specs.Ahead.{BeginsDefinition}
 
 none_no_some : {A : Type 0} (x : A) → None ≡ Some x → ⊥
 none_no_some x e = cc

@@ -1,10 +1,10 @@
 -- What stands between two marks, from its parts.
-use Rattle.std.proofs.Common.{◌≡◌, ◌++◌, ◌+◌, codes, ℕ, List, [], ◌∷◌, refl, sym, ap, subst, arith}
+use Rattle.std.proofs.Common.{◌≡◌, ◌++◌, codes, ℕ, List, [], ◌∷◌, refl, ap, arith}
 use Rattle.sig_base.specs.declared.span.Span.{Span}
 use Rattle.sig_tree.specs.Terminals.{Terminal, Leaf, leaf, name_leaf, word, mark}
 use Rattle.sig_tree.specs.declared.expr.Name.{Name}
 use Rattle.sig_tree.specs.declared.expr.Constant.{Constant}
-use Rattle.sig_tree.specs.Syntax.{Expression, RightSide, Called}
+use Rattle.sig_tree.specs.Syntax.{Expression, Called}
 use Rattle.sig_tree.specs.Limits.{both_limits, right_operators}
 use Rattle.sig_tree.specs.Repeated.{Between}
 use Rattle.sig_tree.specs.Equations.{IsName, AreConstants, AreArguments, IsRight}

@@ -13,12 +13,12 @@ use Rattle.sig_tree.proofs.Combining.{cons_same, append_to, part_at}
 use Rattle.sig_tree.proofs.ReadEquations.{stops_nothing}
 use Rattle.sig_parse.specs.State.{State}
 use Rattle.sig_parse.specs.Reads.{Covers, IsLeaf}
-use Rattle.sig_parse.specs.Refusals.{Cause, Agrees, Refuses}
+use Rattle.sig_parse.specs.Refusals.{Cause, Refuses}
 use Rattle.sig_parse.specs.Settling.{Settles, Closes}
 use Rattle.sig_parse.specs.Languages.{InLeaf}
 use Rattle.sig_parse.specs.Parts.{InSome, UpTo}
 use Rattle.sig_parse.proofs.Refusing.{SameFirst, agrees_first}
-use Rattle.sig_parse.proofs.Leading.{Leads, Then, refuses_where, leads_where, settles_where, apart_nothing, then_first, leads_alone, starts_or_stops, starts_same, behind_agrees}
+use Rattle.sig_parse.proofs.Leading.{Leads, Then, refuses_where, leads_where, settles_where, apart_nothing, then_first, leads_alone, starts_or_stops, starts_same}
 use Rattle.sig_parse.proofs.RefusedDeclarations.{Always}
 
 -- the first leaf is in both sets

@@ -1,5 +1,5 @@
 -- Declarations and pragmas from their parts.
-use Rattle.std.proofs.Common.{◌≡◌, ◌≢◌, ◌++◌, ◌⊎◌, ℕ, List, [], ◌∷◌, codes, Option, None, refl, sym, ap, ◌∙◌, subst, inl, inr, append_assoc}
+use Rattle.std.proofs.Common.{◌≡◌, ◌≢◌, ◌++◌, ℕ, List, [], ◌∷◌, codes, Option, None, refl, sym, ap, subst, inl, inr}
 use Rattle.std.proofs.lemmas.List.{append-nil}
 use Rattle.sig_base.specs.declared.span.Span.{Span}
 use Rattle.sig_base.specs.declared.ids.Kind.{Kind}
@@ -8,7 +8,7 @@ use Rattle.sig_tree.specs.declared.expr.Name.{Name}
 use Rattle.sig_tree.specs.declared.expr.Constant.{Constant}
 use Rattle.sig_tree.specs.declared.process.Item.{Item}
 use Rattle.sig_tree.specs.Syntax.{Declared, Placement}
-use Rattle.sig_tree.specs.Terminals.{Leaf, leaf, name_leaf, kind_word, name, word, label, mark}
+use Rattle.sig_tree.specs.Terminals.{Leaf, leaf, kind_word, name, word, label, mark}
 use Rattle.sig_tree.specs.Repeated.{Between, Each, Separated}
 use Rattle.sig_tree.specs.Expressions.{IsOptionalInit}
 use Rattle.sig_tree.specs.Equations.{IsName}

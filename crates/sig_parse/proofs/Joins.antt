@@ -1,10 +1,9 @@
 -- Reading one thing after another.
-use Rattle.std.proofs.Common.{◌≡◌, ◌++◌, ◌+◌, ◌≤◌, ◌<◌, ℕ, zero, suc, List, [], ◌∷◌, length, refl, sym, ap, ◌∙◌, subst, append_assoc, length-append, arith, Result, Ok, Err, IfOk}
-use Rattle.std.proofs.lemmas.List.{append-nil}
+use Rattle.std.proofs.Common.{◌≡◌, ◌++◌, ◌+◌, ◌≤◌, ℕ, List, [], ◌∷◌, length, sym, ap, ◌∙◌, subst, append_assoc, length-append, arith}
 use Rattle.sig_base.specs.declared.span.Span.{Span}
 use Rattle.sig_tree.specs.Terminals.{Terminal, Leaf, leaf}
 use Rattle.sig_parse.specs.State.{State}
-use Rattle.sig_parse.specs.Reads.{Reads, Shorter, IsLeaf}
+use Rattle.sig_parse.specs.Reads.{Reads, IsLeaf}
 
 -- one thing, and then another
 pub joined : {A B : List Leaf → Type 0} {m n : ℕ} {s t u : State} (C : List Leaf → Type 0) (k : ℕ) → m + n ≡ k

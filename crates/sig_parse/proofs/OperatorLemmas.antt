@@ -5,12 +5,12 @@ use Rattle.sig_tree.specs.declared.expr.BinOp.{BinOp}
 use Rattle.sig_tree.specs.declared.expr.BinOp.TheVariants.{Default as OpDefault, When as OpWhen, Plus as OpPlus, Meet as OpMeet, Less as OpLess, Or as OpOr, Xor as OpXor, And as OpAnd, Eq, Ne, Lt, Le, Gt, Ge, Add, Sub, Mul, Div, Mod}
 use Rattle.sig_tree.specs.declared.expr.UnOp.{UnOp}
 use Rattle.sig_tree.specs.declared.expr.UnOp.TheVariants.{Not as UnaryNot, Neg, When as UnaryWhen, Clock as UnaryClock}
-use Rattle.sig_tree.specs.Terminals.{Terminal, Leaf, number, word, mark, unary_terminal}
-use Rattle.sig_tree.specs.Levels.{delay_level, primary_level, unary_level, operand_level}
+use Rattle.sig_tree.specs.Terminals.{Terminal, Leaf, number, word, unary_terminal}
+use Rattle.sig_tree.specs.Levels.{delay_level, unary_level, operand_level}
 use Rattle.sig_tree.specs.Readings.{StopsBefore}
 use Rattle.sig_tree.specs.Beginning.{StartsWith}
 use Rattle.sig_tree.specs.Continuing.{ContinuesDelay, ContinuesExpression}
-use Rattle.sig_tree.proofs.Operators.{Infix as TreeInfix, OfTwo, OfCell, OfDelay, infix_terminal as tree_terminal, infix_level as tree_level, infix_seen, infix_stands, tighter_continues, not_tighter}
+use Rattle.sig_tree.proofs.Operators.{Infix as TreeInfix, OfTwo, OfCell, OfDelay, infix_terminal as tree_terminal, infix_level as tree_level, infix_seen, infix_stands, not_tighter}
 use Rattle.sig_tree.proofs.ReadSpines.{infix_same}
 use Rattle.sig_parse.specs.declared.keyword.Keyword.{Keyword}
 use Rattle.sig_parse.specs.declared.keyword.Keyword.TheVariants as K

@@ -4,7 +4,6 @@ use Rattle.std.proofs.Math.Dec.{leb}
 use Rattle.std.proofs.lemmas.List.{length-map}
 use Rattle.std.proofs.lemmas.Bool.{leb-true, leb-false}
 use Rattle.std.specs.Prelude.{MatchBool}
-use Rattle.sig_base.specs.declared.span.Span.{Span}
 use Rattle.sig_tree.specs.Terminals.{Terminal, leaf}
 use Rattle.sig_parse.specs.declared.leaf.Leaf.{Leaf}
 use Rattle.sig_parse.specs.Seen.{leaf_seen, terminal_seen}

@@ -1,7 +1,7 @@
 -- Processes from their parts.
 use mathlib.Core.Former.{Count}
 use denote.Hole.Carrier.{roll}
-use Rattle.std.proofs.Common.{◌≡◌, ◌≢◌, ◌++◌, ◌+◌, ◌≤◌, ◌<◌, ◌⊎◌, ℕ, suc, List, [], ◌∷◌, codes, length, map, refl, sym, ap, ◌∙◌, subst, inl, inr, append_assoc, arith, Vec, Global}
+use Rattle.std.proofs.Common.{◌≡◌, ◌++◌, ℕ, List, [], ◌∷◌, codes, map, refl, sym, ap, ◌∙◌, subst, inl, inr, append_assoc, Vec, Global}
 use Rattle.std.proofs.lemmas.List.{append-nil, map-append}
 use Rattle.sig_base.specs.declared.span.Span.{Span}
 use Rattle.sig_tree.specs.declared.expr.Name.{Name}
@@ -9,16 +9,15 @@ use Rattle.sig_tree.specs.declared.process.Group.{Group}
 use Rattle.sig_tree.specs.declared.process.RunOn.{RunOn}
 use Rattle.sig_tree.specs.declared.process.Body.{Body}
 use Rattle.sig_tree.specs.declared.process.Process.{Process, Process', Row_of-Process, end_of-Process, more_of-Process, items-the_row-Process, items_hidden-the_row-Process-0, roll-Process}
-use Rattle.sig_tree.specs.Syntax.{Declared, Placement, Equations, Heading, ProcessModel, ProcessModels, declared_of, placement_of, equations_of, heading_of, model_of, models_of, no_model}
+use Rattle.sig_tree.specs.Syntax.{Declared, Placement, Equations, Heading, ProcessModel, declared_of, placement_of, equations_of, heading_of, model_of, models_of, no_model}
 use Rattle.sig_tree.specs.Terminals.{Leaf, leaf, name_leaf, word, mark}
 use Rattle.sig_tree.specs.Limits.{both_limits}
-use Rattle.sig_tree.specs.Repeated.{Between, Each}
 use Rattle.sig_tree.specs.Equations.{IsBody}
 use Rattle.sig_tree.specs.Processes.{IsLocalGroup, IsWhere, IsProcess, IsModel, AreLocals, AreParams, IsInterface, ArePragmas}
 use Rattle.sig_parse.specs.Declarations.{IsTitle, IsInnerProcess, AreDeclared, AreBehindWhere}
 use Rattle.sig_parse.specs.State.{State}
 use Rattle.sig_parse.specs.Reads.{Covers, IsLeaf}
-use Rattle.sig_parse.proofs.Covering.{Both, and_then, seen_as, between_marks}
+use Rattle.sig_parse.proofs.Covering.{Both, and_then, seen_as}
 
 -- declarations, whose first is a group or a process
 pub group_first : (depth : ℕ) (models : List ProcessModel) (g : Declared) (groups : List Declared) (front back : List Leaf)

@@ -1,16 +1,16 @@
 -- What is refused of calls, of their constants and of their arguments, where the parser stands.
-use Rattle.std.proofs.Common.{◌≡◌, ◌++◌, ◌+◌, ◌≤◌, ◌<◌, ℕ, suc, List, [], ◌∷◌, codes, map, sum_by, true, false, inl, inr, ◌⊎◌, refl, sym, ap, ◌∙◌, subst, append_assoc, arith}
+use Rattle.std.proofs.Common.{◌≡◌, ◌++◌, ◌+◌, ◌≤◌, ◌<◌, ℕ, List, [], ◌∷◌, codes, sum_by, true, false, inl, inr, ◌⊎◌, refl, sym, ap, ◌∙◌, subst, arith}
 use Rattle.std.proofs.lemmas.List.{append-nil}
 use Rattle.sig_base.specs.declared.span.Span.{Span}
 use Rattle.sig_tree.specs.declared.expr.Name.{Name}
 use Rattle.sig_tree.specs.declared.expr.Constant.{Constant}
 use Rattle.sig_tree.specs.Syntax.{Expression, RightSide, Computed, Called}
-use Rattle.sig_tree.specs.Terminals.{Terminal, Leaf, leaf, mark, name_leaf}
+use Rattle.sig_tree.specs.Terminals.{Leaf, leaf, mark, name_leaf}
 use Rattle.sig_tree.specs.Levels.{default_level}
 use Rattle.sig_tree.specs.Limits.{Limits, both_limits, no_limits, MayHave, operators, right_operators}
 use Rattle.sig_tree.specs.Repeated.{Between, Listed, Separated}
 use Rattle.sig_tree.specs.Expressions.{IsConstant, IsExpression}
-use Rattle.sig_tree.specs.Equations.{IsName, IsLeft, AreConstants, AreArguments, IsRight}
+use Rattle.sig_tree.specs.Equations.{IsName, AreConstants, IsRight}
 use Rattle.sig_tree.specs.Beginning.{StartsWith, BeginsName, BeginsConstant, BeginsLeft}
 use Rattle.sig_tree.specs.Readings.{StopsBefore, OneReading}
 use Rattle.sig_tree.specs.Continuing.{ContinuesNothing, ContinuesOptional, ContinuesEach, ContinuesList, ContinuesExpression, ContinuesDefinition}
@@ -18,17 +18,17 @@ use Rattle.sig_tree.specs.Unplaced.{no_place}
 use Rattle.sig_tree.proofs.Operators.{different}
 use Rattle.sig_tree.proofs.Unlimited.{expression_unlimited, expression_within}
 use Rattle.sig_tree.proofs.ReadExpressions.{constant_once, expression_once}
-use Rattle.sig_tree.proofs.Combining.{cons_same, append_to, between_once, listed_once}
+use Rattle.sig_tree.proofs.Combining.{cons_same, between_once, listed_once}
 use Rattle.sig_tree.proofs.FirstLeaves.{constant_begins}
 use Rattle.sig_tree.proofs.ReadEquations.{mark_apart, stops_nothing, names_once, call_or_expression, Opens}
 use Rattle.sig_parse.specs.State.{State}
-use Rattle.sig_parse.specs.Reads.{Reads, Covers, IsLeaf}
+use Rattle.sig_parse.specs.Reads.{Reads, IsLeaf}
 use Rattle.sig_parse.specs.Refusals.{Cause, Wrong, TooDeep, Refuses}
 use Rattle.sig_parse.specs.Settling.{Settles, Closes}
-use Rattle.sig_parse.specs.Ahead.{StartsThen, BeginsCall}
+use Rattle.sig_parse.specs.Ahead.{BeginsCall}
 use Rattle.sig_parse.specs.Languages.{InLeaf, InOne, counted, InConstant, InConstantList, InConstants, InLevel, InArgumentList, InArguments, InRight, InLeft}
-use Rattle.sig_parse.specs.Parts.{InAny, InNames}
-use Rattle.sig_parse.proofs.Refusing.{SameFirst, refuses_first, refuses_inside}
+use Rattle.sig_parse.specs.Parts.{InNames}
+use Rattle.sig_parse.proofs.Refusing.{SameFirst, refuses_first}
 use Rattle.sig_parse.proofs.Covering.{covered}
 use Rattle.sig_parse.proofs.Lifting.{Lifts, leaf_split}
 use Rattle.sig_parse.proofs.RefusedLevels.{fewer}

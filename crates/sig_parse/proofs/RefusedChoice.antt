@@ -1,37 +1,36 @@
 -- What is refused of a body, where its first leaves tell whether it is a definition or a clock equation.
-use Rattle.std.proofs.Common.{◌≡◌, ◌++◌, ◌⊎◌, ℕ, suc, List, [], ◌∷◌, codes, None, Some, inl, inr, refl, sym, ap, ◌∙◌, subst, append_assoc, arith}
+use Rattle.std.proofs.Common.{◌≡◌, ◌++◌, ◌⊎◌, ℕ, List, [], ◌∷◌, codes, None, Some, inl, inr, refl, sym, ap, ◌∙◌, subst, append_assoc, arith}
 use Rattle.std.proofs.lemmas.List.{append-nil}
-use Rattle.std.specs.Prelude.{sum_by}
 use Rattle.sig_base.specs.declared.span.Span.{Span}
 use Rattle.sig_tree.specs.declared.expr.Name.{Name}
 use Rattle.sig_tree.specs.Syntax.{Expression, Named, Computed, Equations, Together, Defines, Equal}
 use Rattle.sig_tree.specs.Terminals.{Terminal, Leaf, leaf, mark, name_leaf}
 use Rattle.sig_tree.specs.Levels.{default_level}
-use Rattle.sig_tree.specs.Limits.{Limits, both_limits, nesting_limit, no_limits, MayStandInside, operators}
+use Rattle.sig_tree.specs.Limits.{Limits, both_limits, nesting_limit, no_limits, MayStandInside}
 use Rattle.sig_tree.specs.Expressions.{IsExpression}
-use Rattle.sig_tree.specs.Equations.{IsDefinition, IsClockEquation, IsBody}
-use Rattle.sig_tree.specs.Beginning.{StartsWith, BeginsName, BeginsExpression}
+use Rattle.sig_tree.specs.Equations.{IsClockEquation, IsBody}
+use Rattle.sig_tree.specs.Beginning.{StartsWith, BeginsExpression}
 use Rattle.sig_tree.specs.Readings.{StopsBefore}
 use Rattle.sig_tree.specs.Continuing.{ContinuesExpression, ContinuesDefinition, ContinuesClockEquation, ContinuesBody}
 use Rattle.sig_tree.specs.Unplaced.{no_place}
 use Rattle.sig_tree.proofs.Stopping.{stops_smaller}
 use Rattle.sig_tree.proofs.Operators.{different}
-use Rattle.sig_tree.proofs.Unlimited.{definition_unlimited, clock_equation_unlimited}
+use Rattle.sig_tree.proofs.Unlimited.{clock_equation_unlimited}
 use Rattle.sig_tree.proofs.ReadExpressions.{expression_read, expression_once}
 use Rattle.sig_tree.proofs.Settling.{Settles as ReadSettles, settles_once}
 use Rattle.sig_tree.proofs.Reader.{From, run}
 use Rattle.sig_tree.proofs.FirstLeaves.{clock_equation_begins}
 use Rattle.sig_tree.proofs.Combining.{cons_same, append_to, part_at}
-use Rattle.sig_tree.proofs.ReadEquations.{mark_apart, named_alone, starts_conflict}
-use Rattle.sig_tree.proofs.ReadBodies.{together_apart, definition_starts}
-use Rattle.sig_parse.specs.Ahead.{StartsThen, BeginsDefinition}
-use Rattle.sig_parse.specs.Refusals.{Cause, Wrong, TooDeep, TooMany, refused_within, Reaches, ReachesNext, IsAllowed, Agrees, Refuses}
+use Rattle.sig_tree.proofs.ReadEquations.{mark_apart, named_alone}
+use Rattle.sig_tree.proofs.ReadBodies.{definition_starts}
+use Rattle.sig_parse.specs.Ahead.{BeginsDefinition}
+use Rattle.sig_parse.specs.Refusals.{Cause, Wrong, TooDeep, TooMany, refused_within, ReachesNext, IsAllowed, Agrees, Refuses}
 use Rattle.sig_parse.specs.Languages.{InDefinition, InClockEquation}
 use Rattle.sig_parse.specs.Parts.{InBody}
 use Rattle.sig_parse.proofs.Refusing.{SameFirst, agrees_first}
 use Rattle.sig_parse.proofs.RefusedConstants.{some_name, some_leaf}
 use Rattle.sig_parse.proofs.RefusedSides.{counted_sum}
-use Rattle.sig_parse.proofs.Leading.{starts_or_stops, starts_same}
+use Rattle.sig_parse.proofs.Leading.{starts_or_stops}
 use Rattle.sig_parse.proofs.AheadLemmas.{names_read, name_of_leaf, leaf_is, clock_opens, definition_opens, definition_ahead}
 
 -- A smaller language refuses, where the larger one has nothing else that the leaves could begin with.

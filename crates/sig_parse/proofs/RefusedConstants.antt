@@ -7,7 +7,7 @@ use Rattle.sig_tree.specs.declared.expr.Name.{Name}
 use Rattle.sig_tree.specs.declared.expr.Constant.{Constant}
 use Rattle.sig_tree.specs.declared.expr.Constant.TheVariants.{Int, Bool as BoolConstant, Param}
 use Rattle.sig_tree.specs.Terminals.{Terminal, Leaf, leaf, name, number, word, mark, name_leaf}
-use Rattle.sig_tree.specs.Limits.{Limits, no_limits}
+use Rattle.sig_tree.specs.Limits.{no_limits}
 use Rattle.sig_tree.specs.Expressions.{IsConstant, IsInit, IsOptionalInit}
 use Rattle.sig_tree.specs.Readings.{StopsBefore}
 use Rattle.sig_tree.specs.Beginning.{StartsWith, BeginsConstant, BeginsName}

@@ -1,16 +1,14 @@
 -- What is refused of definitions and clock equations, where the parser stands.
-use Rattle.std.proofs.Common.{◌≡◌, ◌++◌, ◌+◌, ◌≤◌, ◌⊎◌, ℕ, suc, List, [], ◌∷◌, length, codes, map, inl, inr, refl, sym, ap, ◌∙◌, subst, append_assoc, arith}
-use Rattle.std.proofs.lemmas.List.{append-nil}
-use Rattle.std.specs.Prelude.{sum_by}
+use Rattle.std.proofs.Common.{◌≡◌, ◌++◌, ◌+◌, ◌≤◌, ℕ, List, [], ◌∷◌, length, codes, map, inl, inr, refl, sym, ap, ◌∙◌, subst, append_assoc, arith}
 use Rattle.sig_base.specs.declared.span.Span.{Span}
 use Rattle.sig_tree.specs.declared.expr.Name.{Name}
-use Rattle.sig_tree.specs.Syntax.{Expression, Named, RightSide, Computed}
+use Rattle.sig_tree.specs.Syntax.{Expression, Named, Computed}
 use Rattle.sig_tree.specs.Terminals.{Terminal, Leaf, leaf, mark}
 use Rattle.sig_tree.specs.Levels.{default_level}
 use Rattle.sig_tree.specs.Limits.{Limits, both_limits, no_limits, MayHave, operators}
 use Rattle.sig_tree.specs.Repeated.{Further, Separated}
 use Rattle.sig_tree.specs.Expressions.{IsExpression}
-use Rattle.sig_tree.specs.Equations.{IsLeft, IsClockEquation}
+use Rattle.sig_tree.specs.Equations.{IsLeft}
 use Rattle.sig_tree.specs.Readings.{StopsBefore}
 use Rattle.sig_tree.specs.Continuing.{ContinuesNothing, ContinuesExpression, ContinuesDefinition, ContinuesClockEquation}
 use Rattle.sig_tree.specs.Unplaced.{no_place}
@@ -27,9 +25,8 @@ use Rattle.sig_parse.proofs.Refusing.{SameFirst, first_stops}
 use Rattle.sig_parse.proofs.RefusedConstants.{some_name, some_leaf}
 use Rattle.sig_parse.proofs.RefusedLevels.{fewer}
 use Rattle.sig_parse.proofs.RefusedLists.{List_of, More_of, list_from_first}
-use Rattle.sig_parse.proofs.RefusedSides.{counted_sum}
-use Rattle.sig_parse.proofs.RefusedEquations.{Expression_of, clock_from_first, clock_sign, clock_from_second, behind_first, fits_both, same_clock, apart, item_stops}
-use Rattle.sig_parse.proofs.Leading.{Leads, Then, leads_refuses, leads_on, refuses_where, leads_where, apart_nothing, then_first, leads_alone, Leaf_of, leads_leaf}
+use Rattle.sig_parse.proofs.RefusedEquations.{Expression_of, clock_from_first, clock_sign, clock_from_second, behind_first, fits_both, apart, item_stops}
+use Rattle.sig_parse.proofs.Leading.{Leads, leads_refuses, leads_on, refuses_where, apart_nothing, then_first, leads_alone, Leaf_of, leads_leaf}
 use Rattle.sig_parse.proofs.SettledBodies.{Left_of, SignThen, Defining, defining, defined, definition_settles}
 
 module _ (depth : ℕ) where
@@ -87,10 +84,10 @@ module _ (depth : ℕ) where
     front = c.front;
     split = c.split;
     extend = λ limits leaves is. (
-        x ∷ is.0,
-        (c.front, leaves, refl, expression_within limits default_level depth x c.front c.is, is.1),
-        fewer limits (used + counted operators (x ∷ is.0)) (used + operators x + counted operators is.0) (omega arith) is.2,
-      );
+      x ∷ is.0,
+      (c.front, leaves, refl, expression_within limits default_level depth x c.front c.is, is.1),
+      fewer limits (used + counted operators (x ∷ is.0)) (used + operators x + counted operators is.0) (omega arith) is.2,
+    );
     left = λ limits rest whole back e is stops same. go limits rest whole back e is.0 is.1 is.2 stops same;
   } where
     go : (limits : Limits) (rest whole back : List Leaf) → c.front ++ rest ≡ whole ++ back → (xs : List Expression) → Separated (IsExpression limits depth) Sign xs whole → MayHave limits (used + counted operators xs) → StopsBefore ContinuesClockEquation back
@@ -143,18 +140,18 @@ module _ (depth : ℕ) where
         front = c.front ++ leaf (mark (codes "^=")) at ∷ k.front;
         split = c.split ∙ ap (λ ls. c.front ++ ls) (d.split ∙ ap (λ ls. ls ++ u.leaves) d.is ∙ ap (λ ls. leaf (mark (codes "^=")) at ∷ ls) k.split) ∙ sym (append_assoc c.front (leaf (mark (codes "^=")) at ∷ k.front) v.leaves);
         extend = λ limits leaves is. (
-            x ∷ y ∷ is.0,
+          x ∷ y ∷ is.0,
+          (
             (
-              (
-                c.front,
-                leaf (mark (codes "^=")) at ∷ (k.front ++ leaves),
-                append_assoc c.front (leaf (mark (codes "^=")) at ∷ k.front) leaves,
-                expression_within limits default_level depth x c.front c.is,
-                (at, k.front, leaves, refl, expression_within limits default_level depth y k.front k.is, is.1),
-              ),
-              fits_both depth limits x y is.0 (operators x + operators y + counted operators is.0) (omega arith) is.2,
+              c.front,
+              leaf (mark (codes "^=")) at ∷ (k.front ++ leaves),
+              append_assoc c.front (leaf (mark (codes "^=")) at ∷ k.front) leaves,
+              expression_within limits default_level depth x c.front c.is,
+              (at, k.front, leaves, refl, expression_within limits default_level depth y k.front k.is, is.1),
             ),
-          );
+            fits_both depth limits x y is.0 (operators x + operators y + counted operators is.0) (omega arith) is.2,
+          ),
+        );
         left = λ limits rest whole back e is stops same.
             let b = behind_first depth x c.front c.is limits (leaf (mark (codes "^=")) at ∷ (k.front ++ rest)) whole back (sym (append_assoc c.front (leaf (mark (codes "^=")) at ∷ k.front) rest) ∙ e) (apart depth) is.0 is.1 in
             let heads = cons_same (leaf (mark (codes "^=")) at) (leaf (mark (codes "^=")) b.2) (k.front ++ rest) (b.3 ++ (b.4 ++ back)) b.5 in

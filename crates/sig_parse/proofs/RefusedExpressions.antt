@@ -1,5 +1,5 @@
 -- Refusals of the parts of expressions, where the parser stands.
-use Rattle.std.proofs.Common.{◌≡◌, ◌++◌, ◌+◌, ◌≤◌, ◌<◌, ℕ, suc, List, [], ◌∷◌, codes, Option, None, Some, true, false, inl, inr, ◌⊎◌, refl, sym, ap, ◌∙◌, subst, append_assoc, arith}
+use Rattle.std.proofs.Common.{◌≡◌, ◌++◌, ◌+◌, ◌≤◌, ◌<◌, ℕ, suc, List, [], ◌∷◌, codes, Option, true, false, inl, inr, ◌⊎◌, refl, sym, ap, ◌∙◌, subst, append_assoc, arith}
 use Rattle.std.proofs.lemmas.List.{append-nil, append_cancel_right}
 use Rattle.sig_base.specs.declared.span.Span.{Span}
 use Rattle.sig_tree.specs.declared.expr.Constant.{Constant}
@@ -8,34 +8,33 @@ use Rattle.sig_tree.specs.declared.expr.UnOp.TheVariants.{Not as UnaryNot, Neg, 
 use Rattle.sig_tree.specs.declared.expr.BinOp.{BinOp}
 use Rattle.sig_tree.specs.declared.expr.BinOp.TheVariants.{Default as OpDefault}
 use Rattle.sig_tree.specs.Syntax.{Expression, Unary}
-use Rattle.sig_tree.specs.Terminals.{Terminal, Leaf, leaf, number, word, mark, unary_terminal, binary_terminal}
+use Rattle.sig_tree.specs.Terminals.{Terminal, Leaf, leaf, number, word, mark, unary_terminal}
 use Rattle.sig_tree.specs.Levels.{default_level, mixed_level, relation_level, delay_level, primary_level, unary_level, operand_level, binary_level, right_level}
 use Rattle.sig_tree.specs.Limits.{Limits, both_limits, operators}
 use Rattle.sig_tree.specs.Expressions.{IsInit, IsOptionalInit, IsOptionalOne, IsAtLevel}
 use Rattle.sig_tree.specs.Readings.{StopsBefore}
 use Rattle.sig_tree.specs.Beginning.{StartsWith, BeginsName, BeginsExpression}
 use Rattle.sig_tree.specs.Continuing.{IsInfix as StandsBehind, ContinuesNothing, ContinuesInit, ContinuesExpression}
-use Rattle.sig_tree.specs.Spines.{IsAtom, IsOperand, Step, WithOperand, WithCell, WithDelay, IsStep, AreSoMany}
+use Rattle.sig_tree.specs.Spines.{IsAtom, IsOperand, WithOperand, WithCell, WithDelay, IsStep, AreSoMany}
 use Rattle.sig_tree.proofs.Stopping.{stops_smaller}
 use Rattle.sig_tree.proofs.Operators.{tighter_continues, not_tighter}
-use Rattle.sig_tree.proofs.ReadSpines.{operand_tighter}
 use Rattle.sig_parse.specs.declared.refusal.Refusal.{Refusal}
-use Rattle.sig_parse.specs.declared.refusal.Refusal.TheVariants.{Syntax, Nesting, Operators}
+use Rattle.sig_parse.specs.declared.refusal.Refusal.TheVariants.{Nesting, Operators}
 use Rattle.sig_parse.specs.declared.operator.Level.{Level}
 use Rattle.sig_parse.specs.declared.operator.Level.TheVariants.{Relation, Primary}
 use Rattle.sig_parse.specs.declared.operator.Infix.{Infix}
 use Rattle.sig_parse.specs.declared.operator.Infix.TheVariants.{Binary, Cell, Delay as DelayOp}
 use Rattle.sig_parse.specs.State.{State}
 use Rattle.sig_parse.specs.Reads.{Reads, Shorter, IsLeaf}
-use Rattle.sig_parse.specs.Refusals.{Cause, Wrong, TooDeep, TooMany, cause_of, Refuses}
+use Rattle.sig_parse.specs.Refusals.{Wrong, TooDeep, TooMany, cause_of, Refuses}
 use Rattle.sig_parse.specs.Stalls.{IsOfText}
 use Rattle.sig_parse.specs.Settling.{Settles}
-use Rattle.sig_parse.specs.Languages.{InLeaf, InInit, InOptionalInit, InOptionalOne, InLevel, InOperand, InStep, InSteps, step_operators}
+use Rattle.sig_parse.specs.Languages.{InLeaf, InInit, InOptionalInit, InOptionalOne, InLevel, InOperand, InStep, InSteps}
 use Rattle.sig_parse.specs.Operators.{level_number, first_level, infix_terminal, infix_level, IsOperatorOf, ContinuesStep, BeginsAtom, IsTighter, ReadsStep}
 use Rattle.sig_parse.proofs.Joins.{joined, viewed, after_leaf}
 use Rattle.sig_parse.proofs.Lifting.{Lifts, leaf_split}
 use Rattle.sig_parse.proofs.OperatorLemmas.{in_tree, same_terminal, same_level, of_level, one_level, operator_continues, operand_continues_more}
-use Rattle.sig_parse.proofs.RefusedLevels.{level_from_operand, level_from_steps, steps_from_step, steps_from_steps, steps_stop, steps_too_many, IsOfLevel}
+use Rattle.sig_parse.proofs.RefusedLevels.{level_from_steps, steps_from_step, steps_from_steps, steps_stop, steps_too_many}
 use Rattle.sig_parse.proofs.RefusedOperands.{prefix_operand, prefix_too_deep, prefix_too_many, tighter_operand}
 use Rattle.sig_parse.proofs.RefusedSteps.{step_operand, step_held, step_init}
 use Rattle.sig_parse.proofs.RefusedDelays.{settled_wrong, cell_settles, delay_settles, delay_init_refused}

@@ -5,7 +5,7 @@ use Rattle.sig_base.specs.declared.ids.Kind.TheVariants.{Integer, Boolean, Event
 use Rattle.sig_tree.specs.Syntax.{Declared}
 use Rattle.sig_tree.specs.Terminals.{Terminal, Leaf, leaf, word, mark}
 use Rattle.sig_tree.specs.Limits.{Limits}
-use Rattle.sig_tree.specs.Repeated.{Further, Separated}
+use Rattle.sig_tree.specs.Repeated.{Further}
 use Rattle.sig_tree.specs.Processes.{IsPlainItem, IsItem, AreGroups}
 use Rattle.sig_tree.specs.Beginning.{StartsWith, BeginsGroup}
 use Rattle.sig_tree.specs.Readings.{StopsBefore}
@@ -22,7 +22,7 @@ use Rattle.sig_parse.specs.Reads.{Covers, IsLeaf}
 use Rattle.sig_parse.specs.Refusals.{Cause, Refuses}
 use Rattle.sig_parse.specs.Settling.{Settles, Closes}
 use Rattle.sig_parse.specs.Languages.{InLeaf}
-use Rattle.sig_parse.specs.Parts.{InAny, InSome, UpTo, InGroup, InGroups, ContinuesItem, ContinuesItems, EndsGroups}
+use Rattle.sig_parse.specs.Parts.{InSome, UpTo, InGroup, InGroups, ContinuesItem, ContinuesItems, EndsGroups}
 use Rattle.sig_parse.proofs.Refusing.{SameFirst}
 use Rattle.sig_parse.proofs.Leading.{Leads, Then, Apart, leads_refuses, leads_on, refuses_where, leads_where, then_first, leads_settled, starts_or_stops, starts_same}
 use Rattle.sig_parse.proofs.RefusedDeclarations.{Always}

@@ -1,13 +1,13 @@
 -- What is refused of a whole process, from its parts.
-use Rattle.std.proofs.Common.{◌≡◌, ◌++◌, ◌⊎◌, ◌≤◌, ◌<◌, ℕ, suc, List, [], ◌∷◌, codes, inl, inr, refl, sym, ap, ◌∙◌, subst, append_assoc, arith}
+use Rattle.std.proofs.Common.{◌≡◌, ◌++◌, ◌≤◌, ◌<◌, ℕ, suc, List, [], ◌∷◌, codes, inl, inr, refl, sym, ap, ◌∙◌, subst, arith}
 use Rattle.std.proofs.lemmas.List.{append-nil}
 use Rattle.sig_base.specs.declared.span.Span.{Span}
 use Rattle.sig_tree.specs.declared.expr.Name.{Name}
 use Rattle.sig_tree.specs.Syntax.{Declared, Placement, Named, Computed, Equations, Defines, ProcessModel, Modelled, ProcessModels, no_model, more_models}
-use Rattle.sig_tree.specs.Terminals.{Terminal, Leaf, leaf, name_leaf, word, mark}
+use Rattle.sig_tree.specs.Terminals.{Leaf, leaf, name_leaf, word, mark}
 use Rattle.sig_tree.specs.Limits.{Limits, both_limits, nesting_limit, no_limits}
 use Rattle.sig_tree.specs.Equations.{IsBody}
-use Rattle.sig_tree.specs.Processes.{AreParams, ArePragmas, IsModel}
+use Rattle.sig_tree.specs.Processes.{AreParams, ArePragmas}
 use Rattle.sig_tree.specs.Beginning.{StartsWith, BeginsBody, BeginsProcess}
 use Rattle.sig_tree.specs.Readings.{StopsBefore}
 use Rattle.sig_tree.specs.Continuing.{ContinuesNothing, ContinuesOptional, ContinuesBody}
@@ -22,14 +22,14 @@ use Rattle.sig_parse.specs.Declarations.{IsTitle, HasSides, AreBehindWhere}
 use Rattle.sig_parse.specs.declared.refusal.Refusal.{Refusal}
 use Rattle.sig_parse.specs.declared.refusal.Refusal.TheVariants.{Nesting}
 use Rattle.sig_parse.specs.State.{State}
-use Rattle.sig_parse.specs.Reads.{Covers, IsLeaf}
+use Rattle.sig_parse.specs.Reads.{Covers}
 use Rattle.sig_parse.specs.Refusals.{Cause, TooDeep, cause_of, Refuses, RefusedBy}
 use Rattle.sig_parse.specs.Settling.{Settles}
 use Rattle.sig_parse.specs.Languages.{InLeaf}
-use Rattle.sig_parse.specs.Parts.{InBody, InTitle, InParams, InInterface, InPragmas, InProcess, IsDeclared, InDeclared, IsWherePart, InWhere}
+use Rattle.sig_parse.specs.Parts.{InBody, InTitle, InParams, InInterface, InPragmas, InProcess, InDeclared, IsWherePart, InWhere}
 use Rattle.sig_parse.proofs.Refusing.{SameFirst, agrees_first}
 use Rattle.sig_parse.proofs.RefusedConstants.{some_name, some_leaf}
-use Rattle.sig_parse.proofs.Leading.{Leads, Then, Apart, leads_refuses, leads_on, refuses_where, apart_nothing, then_first, leads_settled, leads_alone, starts_same}
+use Rattle.sig_parse.proofs.Leading.{Leads, Then, Apart, leads_refuses, leads_on, refuses_where, apart_nothing, then_first, leads_settled, leads_alone}
 use Rattle.sig_parse.proofs.RefusedDeclarations.{Always}
 use Rattle.sig_parse.proofs.AheadLemmas.{leaf_is}
 use Rattle.sig_parse.proofs.RefusedProcesses.{where_no_body, semicolon_no_body, pragmas_no_body, title_once, locals_within, locals_unlimited, chained, chained_locals, process_from, declared_process}

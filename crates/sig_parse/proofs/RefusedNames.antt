@@ -1,5 +1,5 @@
 -- What is refused of names with commas between them.
-use Rattle.std.proofs.Common.{◌≡◌, ◌+◌, ◌≤◌, ℕ, List, [], ◌∷◌, codes, inl, inr, arith}
+use Rattle.std.proofs.Common.{◌≡◌, List, codes, inl, inr, arith}
 use Rattle.sig_base.specs.declared.span.Span.{Span}
 use Rattle.sig_tree.specs.declared.expr.Name.{Name}
 use Rattle.sig_tree.specs.Terminals.{Terminal, Leaf, mark}

@@ -7,7 +7,7 @@ use Rattle.sig_tree.specs.Terminals.{Terminal, Leaf, leaf, name, word, mark, lab
 use Rattle.sig_tree.specs.Limits.{Limits}
 use Rattle.sig_tree.specs.Repeated.{Each, Separated}
 use Rattle.sig_tree.specs.Equations.{IsName}
-use Rattle.sig_tree.specs.Processes.{IsPlacement, ArePragmas}
+use Rattle.sig_tree.specs.Processes.{IsPlacement}
 use Rattle.sig_tree.specs.Beginning.{StartsWith, BeginsPlacement}
 use Rattle.sig_tree.specs.Readings.{StopsBefore, OneReading}
 use Rattle.sig_tree.specs.Continuing.{ContinuesNothing, ContinuesList, ContinuesOptional, ContinuesPlacements}
@@ -22,9 +22,9 @@ use Rattle.sig_parse.specs.Reads.{Covers, IsLeaf}
 use Rattle.sig_parse.specs.Refusals.{Cause, Refuses}
 use Rattle.sig_parse.specs.Settling.{Settles, Closes}
 use Rattle.sig_parse.specs.Languages.{InLeaf, InLabel}
-use Rattle.sig_parse.specs.Parts.{InSome, UpTo, InNames, IsBraced, InBraced, InPragma, InPragmaList, InPragmas}
+use Rattle.sig_parse.specs.Parts.{UpTo, InNames, IsBraced, InBraced, InPragma, InPragmaList, InPragmas}
 use Rattle.sig_parse.proofs.RefusedConstants.{some_name, some_leaf}
-use Rattle.sig_parse.proofs.Leading.{Leads, Then, leads_refuses, leads_on, settles_on, refuses_where, settles_where, apart_nothing, then_first, leads_stopped, leads_alone, settled_once, Leaf_of, leaf_once, leads_leaf}
+use Rattle.sig_parse.proofs.Leading.{Leads, Then, leads_refuses, settles_on, refuses_where, apart_nothing, then_first, leads_stopped, leads_alone, settled_once, Leaf_of, leaf_once, leads_leaf}
 use Rattle.sig_parse.proofs.RefusedDeclarations.{Always}
 use Rattle.sig_parse.proofs.Enclosures.{up_to_once, up_to_covered, each_refused, each_read, each_ends, optional_refused, optional_settled, optional_missing, leaf_next}
 

@@ -1,38 +1,33 @@
 -- What is refused of processes, from their parts.
-use Rattle.std.proofs.Common.{◌≡◌, ◌++◌, ◌⊎◌, ◌≤◌, ◌<◌, ℕ, suc, List, [], ◌∷◌, true, false, codes, None, inl, inr, refl, sym, ap, ◌∙◌, subst, append_assoc, arith}
-use Rattle.std.proofs.lemmas.List.{append-nil}
+use Rattle.std.proofs.Common.{◌≡◌, ◌++◌, ◌⊎◌, ◌<◌, ℕ, suc, List, [], ◌∷◌, true, false, codes, None, inl, inr, refl, sym, ap, ◌∙◌, subst, append_assoc}
 use Rattle.sig_base.specs.declared.span.Span.{Span}
 use Rattle.sig_base.specs.declared.ids.Kind.TheVariants.{Integer, Boolean, Event}
-use Rattle.sig_tree.specs.declared.expr.Name.{Name}
 use Rattle.sig_tree.specs.declared.expr.UnOp.TheVariants.{Not, Neg, When as UnaryWhen, Clock}
-use Rattle.sig_tree.specs.Syntax.{Declared, Placement, Named, Computed, Equations, Defines, Heading, ProcessModel, Modelled, ProcessModels, no_model, more_models}
+use Rattle.sig_tree.specs.Syntax.{Declared, ProcessModel, ProcessModels, no_model, more_models}
 use Rattle.sig_tree.specs.Terminals.{Terminal, Leaf, leaf, name_leaf, number, word, mark}
 use Rattle.sig_tree.specs.Levels.{default_level}
-use Rattle.sig_tree.specs.Limits.{Limits, both_limits, nesting_limit, no_limits, MayStandInside}
-use Rattle.sig_tree.specs.Repeated.{Each}
-use Rattle.sig_tree.specs.Equations.{IsBody}
-use Rattle.sig_tree.specs.Processes.{AreParams, IsInterface, ArePragmas, IsLocalGroup, IsWhere, IsModel, AreLocals}
+use Rattle.sig_tree.specs.Limits.{Limits, both_limits, no_limits, MayStandInside}
+use Rattle.sig_tree.specs.Processes.{IsLocalGroup, IsModel, AreLocals}
 use Rattle.sig_tree.specs.Beginning.{StartsWith, BeginsBody, BeginsGroup, BeginsProcess}
 use Rattle.sig_tree.specs.Readings.{StopsBefore, OneReading}
 use Rattle.sig_tree.specs.Continuing.{ContinuesNothing, ContinuesOptional, ContinuesBody, ContinuesLocals}
 use Rattle.sig_tree.specs.Unplaced.{no_place}
 use Rattle.sig_tree.proofs.Operators.{different, infix_of, no_infix}
-use Rattle.sig_tree.proofs.Unlimited.{body_unlimited, body_within, model_unlimited, model_within}
-use Rattle.sig_tree.proofs.FirstLeaves.{local_group_begins, body_begins, model_begins, starts_longer}
-use Rattle.sig_tree.proofs.Combining.{cons_same, append_to, starts_apart}
-use Rattle.sig_tree.proofs.ReadEquations.{mark_apart, stops_nothing, name_same, named_alone}
-use Rattle.sig_tree.proofs.ReadDeclarations.{interface_once, local_group_once}
+use Rattle.sig_tree.proofs.Unlimited.{model_unlimited, model_within}
+use Rattle.sig_tree.proofs.FirstLeaves.{local_group_begins, model_begins}
+use Rattle.sig_tree.proofs.Combining.{cons_same, append_to}
+use Rattle.sig_tree.proofs.ReadEquations.{mark_apart, stops_nothing, name_same}
+use Rattle.sig_tree.proofs.ReadDeclarations.{local_group_once}
 use Rattle.sig_tree.proofs.ReadProcesses.{model_once, locals_at}
-use Rattle.sig_parse.specs.Declarations.{IsTitle, HasSides, IsInnerProcess, AreDeclared, AreBehindWhere}
+use Rattle.sig_parse.specs.Declarations.{IsTitle, IsInnerProcess, AreDeclared}
 use Rattle.sig_parse.specs.State.{State}
 use Rattle.sig_parse.specs.Reads.{Covers, IsLeaf}
-use Rattle.sig_parse.specs.Refusals.{Cause, TooDeep, Refuses}
+use Rattle.sig_parse.specs.Refusals.{Cause, Refuses}
 use Rattle.sig_parse.specs.Settling.{Settles, Closes}
 use Rattle.sig_parse.specs.Languages.{InLeaf}
-use Rattle.sig_parse.specs.Parts.{InBody, InAny, InSome, UpTo, InTitle, InParams, InInterface, InPragmas, InLocalGroup, InProcess, IsDeclared, InDeclared, IsWherePart, InWhere}
-use Rattle.sig_parse.proofs.Refusing.{SameFirst, agrees_first}
-use Rattle.sig_parse.proofs.RefusedConstants.{some_name, some_leaf}
-use Rattle.sig_parse.proofs.Leading.{Leads, Then, Apart, leads_refuses, leads_on, settles_on, refuses_where, leads_where, apart_nothing, then_first, leads_settled, leads_alone, settled_once, Leaf_of, leaf_once, leads_leaf, starts_or_stops, starts_same}
+use Rattle.sig_parse.specs.Parts.{InAny, UpTo, InLocalGroup, InProcess, IsDeclared, InDeclared, InWhere}
+use Rattle.sig_parse.proofs.Refusing.{SameFirst}
+use Rattle.sig_parse.proofs.Leading.{Leads, Then, leads_refuses, settles_on, refuses_where, leads_where, apart_nothing, then_first, leads_alone, settled_once, Leaf_of, leads_leaf, starts_or_stops, starts_same}
 use Rattle.sig_parse.proofs.RefusedDeclarations.{Always}
 use Rattle.sig_parse.proofs.Enclosures.{both_begin, starts_as, up_to_once, up_to_covered, optional_refused, optional_settled, optional_missing, leaf_next}
 

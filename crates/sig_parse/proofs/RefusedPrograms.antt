@@ -1,17 +1,16 @@
 -- What is refused of programs, from what is refused of their processes.
-use Rattle.std.proofs.Common.{◌≡◌, ◌≢◌, ◌++◌, ◌⊎◌, ℕ, List, [], ◌∷◌, inl, inr, refl, sym, ap, ◌∙◌, subst, append_assoc}
+use Rattle.std.proofs.Common.{◌≡◌, ◌≢◌, ◌++◌, ◌⊎◌, List, [], ◌∷◌, inl, inr, refl, sym, ap, ◌∙◌, subst, append_assoc}
 use Rattle.std.proofs.lemmas.List.{append-nil}
 use Rattle.sig_base.specs.declared.span.Span.{Span}
 use Rattle.sig_tree.specs.Syntax.{ProcessModel}
-use Rattle.sig_tree.specs.Terminals.{Terminal, Leaf}
+use Rattle.sig_tree.specs.Terminals.{Leaf}
 use Rattle.sig_tree.specs.Limits.{Limits, both_limits, nesting_limit, no_limits}
 use Rattle.sig_tree.specs.Repeated.{Each}
 use Rattle.sig_tree.specs.Processes.{IsModel}
 use Rattle.sig_tree.specs.Grammar.{IsProgram, Begins, HasTree}
-use Rattle.sig_tree.specs.Readings.{StopsBefore, OneReading}
+use Rattle.sig_tree.specs.Readings.{StopsBefore}
 use Rattle.sig_tree.specs.Continuing.{ContinuesNothing}
 use Rattle.sig_tree.proofs.Unlimited.{model_unlimited, model_within, program_unlimited, program_within}
-use Rattle.sig_tree.proofs.ReadEquations.{stops_nothing}
 use Rattle.sig_tree.proofs.ReadProcesses.{model_once}
 use Rattle.sig_parse.specs.declared.refusal.Refusal.{Refusal}
 use Rattle.sig_parse.specs.declared.refusal.Refusal.TheVariants.{Syntax, Nesting, Operators, OutOfMemory}
@@ -19,11 +18,10 @@ use Rattle.sig_parse.specs.declared.parse_answer.ParseAnswer.{ParseAnswer}
 use Rattle.sig_parse.specs.declared.parse_answer.ParseAnswer.TheVariants.{OutOfMemory as NoMemory}
 use Rattle.sig_parse.specs.State.{State}
 use Rattle.sig_parse.specs.Reads.{Covers}
-use Rattle.sig_parse.specs.Stalls.{IsOfText}
-use Rattle.sig_parse.specs.Refusals.{Cause, Wrong, TooDeep, TooMany, cause_of, refused_within, Agrees, Reaches, ReachesNext, IsAllowed, Refuses, RefusedBy}
+use Rattle.sig_parse.specs.Refusals.{Cause, Wrong, TooDeep, TooMany, refused_within, Agrees, ReachesNext, IsAllowed, Refuses, RefusedBy}
 use Rattle.sig_parse.specs.Refused.{place_of, answer_of}
 use Rattle.sig_parse.specs.Exact.{GoesOn, GoesOnOtherwise, IsRefused, answer_for, IsAnswerOf, IsFirstRefusal}
-use Rattle.sig_parse.specs.Parts.{InAny, InProcess, InProgram, IsAnything}
+use Rattle.sig_parse.specs.Parts.{InProcess, InProgram, IsAnything}
 use Rattle.sig_parse.proofs.Refusing.{SameFirst}
 use Rattle.sig_parse.proofs.Leading.{Leads, Then, leads_refuses, leads_on, refuses_where, leads_where, apart_nothing, then_first, leads_alone}
 
@@ -162,9 +160,12 @@ longer (l ∷ p) a (m ∷ q) b e =
 
 -- what was passed further on went on with the token
 went_on : (limits : Limits) (p a q : List Leaf) (l : Leaf) (more rest : List Leaf) → q ≡ p ++ l ∷ more → a ≡ l ∷ rest → Begins both_limits q → GoesOn limits p a
-went_on limits p a q l more rest e f (done, processes, is) = subst (λ (ls : List Leaf). GoesOn limits p ls) (sym f)
-    (more ++ done, processes, program_within limits processes ((p ++ l ∷ []) ++ (more ++ done))
-    (subst (λ (ls : List Leaf). IsProgram both_limits processes ls) (ap (λ ls. ls ++ done) e ∙ append_assoc p (l ∷ more) done ∙ sym (append_assoc p (l ∷ []) (more ++ done))) is))
+went_on limits p a q l more rest e f (done, processes, is) = subst (λ (ls : List Leaf). GoesOn limits p ls) (sym f) (
+  more ++ done,
+  processes,
+  program_within limits processes ((p ++ l ∷ []) ++ (more ++ done))
+      (subst (λ (ls : List Leaf). IsProgram both_limits processes ls) (ap (λ ls. ls ++ done) e ∙ append_assoc p (l ∷ more) done ∙ sym (append_assoc p (l ∷ []) (more ++ done))) is),
+)
 
 pub one_refused : (leaves : List Leaf) (end : Span) (c d : Cause) (at place : Span) → IsRefused leaves end c at → IsRefused leaves end d place → (c ≡ d) × (at ≡ place)
 one_refused leaves end c d at place r k = go (longer r.passed r.after k.passed k.after (sym r.split ∙ k.split))

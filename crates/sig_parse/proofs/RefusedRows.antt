@@ -1,6 +1,6 @@
 -- What is refused of lists with separators up to what closes them, whose items have operators, as the
 -- leaves of them are passed one after another.
-use Rattle.std.proofs.Common.{◌≡◌, ◌++◌, ◌+◌, ◌≤◌, ℕ, List, [], ◌∷◌, inl, inr, refl, sym, ap, ◌∙◌, subst, append_assoc, arith}
+use Rattle.std.proofs.Common.{◌≡◌, ◌++◌, ◌+◌, ◌≤◌, ℕ, List, [], ◌∷◌, refl, sym, ap, ◌∙◌, subst, append_assoc, arith}
 use Rattle.std.proofs.lemmas.List.{append-nil}
 use Rattle.sig_base.specs.declared.span.Span.{Span}
 use Rattle.sig_tree.specs.Terminals.{Terminal, Leaf, leaf}
@@ -10,7 +10,7 @@ use Rattle.sig_tree.specs.Beginning.{StartsWith}
 use Rattle.sig_tree.specs.Readings.{StopsBefore, OneReading}
 use Rattle.sig_tree.specs.Continuing.{ContinuesNothing}
 use Rattle.sig_tree.specs.Unplaced.{no_place}
-use Rattle.sig_tree.proofs.Combining.{cons_same, append_to, part_at, further_stops}
+use Rattle.sig_tree.proofs.Combining.{cons_same, append_to, part_at}
 use Rattle.sig_tree.proofs.ReadEquations.{stops_nothing}
 use Rattle.sig_parse.specs.State.{State}
 use Rattle.sig_parse.specs.Reads.{Reads, IsLeaf}
@@ -20,7 +20,7 @@ use Rattle.sig_parse.specs.Settling.{Closes}
 use Rattle.sig_parse.specs.Parts.{UpTo}
 use Rattle.sig_parse.proofs.Refusing.{SameFirst, first_stops, refuses_inside, refuses_first}
 use Rattle.sig_parse.proofs.RefusedLevels.{fewer}
-use Rattle.sig_parse.proofs.Leading.{Leads, leads_on, leads_refuses, same_behind, starts_or_stops, starts_same}
+use Rattle.sig_parse.proofs.Leading.{Leads, same_behind, starts_or_stops}
 use Rattle.sig_parse.proofs.Lifting.{leaf_split}
 
 abbrev Excluded : Terminal → Cause → (passed stopped : List Leaf) → Type 0

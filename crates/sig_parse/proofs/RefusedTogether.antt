@@ -1,5 +1,5 @@
 -- What is refused of bodies one behind another, from their parts.
-use Rattle.std.proofs.Common.{◌≡◌, ◌++◌, ◌⊎◌, ◌≤◌, ◌<◌, ℕ, suc, List, [], ◌∷◌, codes, inl, inr, refl, sym, ap, ◌∙◌, subst, append_assoc}
+use Rattle.std.proofs.Common.{◌≡◌, ◌++◌, ◌≤◌, ◌<◌, ℕ, suc, List, [], ◌∷◌, codes, refl, sym, ap, ◌∙◌, subst, append_assoc}
 use Rattle.sig_base.specs.declared.span.Span.{Span}
 use Rattle.sig_tree.specs.Syntax.{Equations, Together, Defines, Equal}
 use Rattle.sig_tree.specs.Terminals.{Terminal, Leaf, leaf, mark}

@@ -1,8 +1,6 @@
 -- What is refused where one token is read.
-use Rattle.std.proofs.Common.{◌≡◌, ◌≤◌, ℕ, List, [], ◌∷◌, refl, sym, ap, ◌∙◌, subst}
-use Rattle.sig_base.specs.declared.span.Span.{Span}
-use Rattle.sig_tree.specs.declared.expr.Name.{Name}
-use Rattle.sig_tree.specs.Terminals.{Terminal, Leaf, leaf, label, name_leaf, name}
+use Rattle.std.proofs.Common.{◌≡◌, ℕ, List, [], ◌∷◌, refl, sym, subst}
+use Rattle.sig_tree.specs.Terminals.{Terminal, Leaf, leaf, label}
 use Rattle.sig_tree.specs.Limits.{Limits, no_limits}
 use Rattle.sig_tree.specs.Readings.{StopsBefore}
 use Rattle.sig_tree.specs.Beginning.{StartsWith, BeginsName}
@@ -11,7 +9,7 @@ use Rattle.sig_tree.specs.Unplaced.{no_place}
 use Rattle.sig_parse.specs.declared.refusal.Refusal.TheVariants.{Syntax}
 use Rattle.sig_parse.specs.State.{State}
 use Rattle.sig_parse.specs.Languages.{InLeaf, InLabel, InName}
-use Rattle.sig_parse.specs.Refusals.{Cause, Wrong, Refuses, RefusedBy}
+use Rattle.sig_parse.specs.Refusals.{Wrong, Refuses, RefusedBy}
 use Rattle.sig_parse.proofs.Refusing.{refuses_at_once}
 use Rattle.sig_parse.proofs.RefusedConstants.{some_name, some_leaf, leaf_refused}
 

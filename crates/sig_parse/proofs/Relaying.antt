@@ -3,7 +3,6 @@ use Rattle.std.proofs.Common.{◌≡◌, ◌∙◌, sym, subst, Result, Ok, Err,
 use Rattle.std.specs.Prelude.{OnErr}
 use Rattle.std.specs.Result.{IsErr, IsErrAnd}
 use Rattle.sig_parse.specs.declared.refusal.Refusal.{Refusal}
-use Rattle.sig_parse.specs.declared.refusal.Refusal.TheVariants.{OutOfMemory}
 use Rattle.sig_parse.specs.Stalls.{IsOfText}
 
 -- the same refusal

@@ -1,22 +1,20 @@
 -- Bodies that are completed.
-use Rattle.std.proofs.Common.{◌≡◌, ◌++◌, ◌+◌, ◌≤◌, ◌<◌, ℕ, zero, suc, true, List, [], ◌∷◌, codes, length, length-append, sum_by, refl, sym, ap, ◌∙◌, subst, inl, inr, append_assoc, arith}
-use Rattle.std.proofs.lemmas.List.{append-nil}
+use Rattle.std.proofs.Common.{◌≡◌, ◌++◌, ◌+◌, ◌≤◌, ◌<◌, ℕ, suc, List, [], ◌∷◌, codes, length, length-append, sum_by, refl, sym, ap, ◌∙◌, subst, inl, append_assoc, arith}
 use Rattle.std.proofs.lemmas.List.Sums.{sum_by_push}
 use Rattle.sig_base.specs.declared.span.Span.{Span}
 use Rattle.sig_tree.specs.declared.expr.Name.{Name}
-use Rattle.sig_tree.specs.Syntax.{Expression, Named, RightSide, Computed, Equations, Together, Defines, Equal, Bodies, no_body, more_bodies}
-use Rattle.sig_tree.specs.Terminals.{Terminal, Leaf, leaf, name_leaf, mark}
-use Rattle.sig_tree.specs.Levels.{default_level}
+use Rattle.sig_tree.specs.Syntax.{Expression, Named, Computed, Equations, Together, Defines, Bodies, no_body, more_bodies}
+use Rattle.sig_tree.specs.Terminals.{Leaf, leaf, name_leaf, mark}
 use Rattle.sig_tree.specs.Limits.{both_limits, operators, right_operators}
-use Rattle.sig_tree.specs.Repeated.{Further, Separated, Listed}
+use Rattle.sig_tree.specs.Repeated.{Further, Separated}
 use Rattle.sig_tree.specs.Expressions.{IsExpression}
-use Rattle.sig_tree.specs.Equations.{IsLeft, IsRight, IsDefinition, IsClockEquation, IsBody, AreBodies, AreFurtherBodies}
+use Rattle.sig_tree.specs.Equations.{IsLeft, IsRight, IsClockEquation, IsBody, AreBodies, AreFurtherBodies}
 use Rattle.sig_parse.specs.State.{State}
 use Rattle.sig_parse.specs.Reads.{Reads, Covers, IsLeaf}
 use Rattle.sig_parse.specs.Stalls.{Counted, Plain, Some, Stalls, Halts}
-use Rattle.sig_parse.proofs.Covering.{Both, covered, and_then, seen_as}
+use Rattle.sig_parse.proofs.Covering.{covered, and_then}
 use Rattle.sig_parse.proofs.BodyLemmas.{ListedBodies, clock_equation_of}
-use Rattle.sig_parse.proofs.Lists.{separated_one, separated_more}
+use Rattle.sig_parse.proofs.Lists.{separated_one}
 use Rattle.sig_parse.proofs.Stalling.{in_first, right_behind, in_second, GrowsTo, halts_at_once, halts_in_first, halts_right_behind, halts_in_second}
 use Rattle.sig_parse.proofs.StallExpressions.{some_place, some_name, named_is}
 use Rattle.sig_parse.proofs.StallLists.{pair, none_more, behind_separator}

@@ -1,5 +1,5 @@
 -- Declarations and pragmas that are completed.
-use Rattle.std.proofs.Common.{◌≡◌, ◌≢◌, ◌++◌, ◌+◌, ◌⊎◌, ℕ, List, [], ◌∷◌, codes, Option, None, refl, sym, ap, ◌∙◌, subst, inl, inr, append_assoc, arith}
+use Rattle.std.proofs.Common.{◌≡◌, ◌≢◌, ◌++◌, ℕ, List, [], ◌∷◌, codes, None, refl, sym, ap, ◌∙◌, subst, inr, append_assoc, arith}
 use Rattle.std.proofs.lemmas.List.{append-nil}
 use Rattle.sig_base.specs.declared.span.Span.{Span}
 use Rattle.sig_base.specs.declared.ids.Kind.{Kind}
@@ -7,7 +7,7 @@ use Rattle.sig_base.specs.declared.ids.Kind.TheVariants.{Integer, Event}
 use Rattle.sig_tree.specs.declared.expr.Name.{Name}
 use Rattle.sig_tree.specs.declared.process.Item.{Item}
 use Rattle.sig_tree.specs.Syntax.{Declared, Placement}
-use Rattle.sig_tree.specs.Terminals.{Terminal, Leaf, leaf, name_leaf, kind_word, name, word, label, mark}
+use Rattle.sig_tree.specs.Terminals.{Leaf, leaf, name_leaf, kind_word, name, word, label, mark}
 use Rattle.sig_tree.specs.Repeated.{Between, Each, Separated}
 use Rattle.sig_tree.specs.Expressions.{IsOptionalInit}
 use Rattle.sig_tree.specs.Equations.{IsName}
@@ -18,12 +18,11 @@ use Rattle.sig_parse.specs.Declarations.{IsItemOf, IsGroupOf, IsTitle}
 use Rattle.sig_parse.specs.State.{State}
 use Rattle.sig_parse.specs.Reads.{Reads, IsLeaf}
 use Rattle.sig_parse.specs.Stalls.{Plain, Stalls}
-use Rattle.sig_parse.proofs.Covering.{Both}
 use Rattle.sig_parse.proofs.Lists.{separated_one}
 use Rattle.sig_parse.proofs.GroupLemmas.{ends_plain}
 use Rattle.sig_parse.proofs.Stalling.{at_once, in_first, right_behind, in_second}
 use Rattle.sig_parse.proofs.StallExpressions.{some_place, some_name}
-use Rattle.sig_parse.proofs.StallLists.{pair, none_more, plain_first, plain_next}
+use Rattle.sig_parse.proofs.StallLists.{pair, none_more}
 use Rattle.sig_parse.proofs.StallParts.{plain_opening, plain_inside, plain_closing, plain_as}
 
 -- an item without an init

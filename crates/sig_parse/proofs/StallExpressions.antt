@@ -1,15 +1,15 @@
 -- Expressions and constants that are completed.
-use Rattle.std.proofs.Common.{◌≡◌, ◌++◌, ◌+◌, ◌≤◌, ◌<◌, ℕ, zero, suc, List, [], ◌∷◌, codes, pos, Option, None, Some, refl, sym, ap, ◌∙◌, subst, inl, inr, append_assoc, arith}
+use Rattle.std.proofs.Common.{◌≡◌, ◌++◌, ◌≤◌, ◌<◌, ℕ, zero, suc, List, [], ◌∷◌, codes, pos, Some, refl, sym, ap, ◌∙◌, subst, inr, append_assoc, arith}
 use Rattle.std.proofs.lemmas.List.{append-nil}
 use Rattle.sig_base.specs.declared.span.Span.{Span}
 use Rattle.sig_tree.specs.declared.expr.Name.{Name}
 use Rattle.sig_tree.specs.declared.expr.Constant.{Constant}
-use Rattle.sig_tree.specs.declared.expr.Constant.TheVariants.{Int, Bool, Param}
+use Rattle.sig_tree.specs.declared.expr.Constant.TheVariants.{Int, Param}
 use Rattle.sig_tree.specs.declared.expr.UnOp.{UnOp}
 use Rattle.sig_tree.specs.declared.expr.BinOp.{BinOp}
-use Rattle.sig_tree.specs.Syntax.{Expression, Named, Number, Truth, Unary, Binary, Delay, Cell}
-use Rattle.sig_tree.specs.Terminals.{Terminal, Leaf, leaf, name_leaf, number, word, mark, unary_terminal}
-use Rattle.sig_tree.specs.Levels.{default_level, mixed_level, delay_level, primary_level, unary_level, operand_level, right_level, level_of}
+use Rattle.sig_tree.specs.Syntax.{Expression, Named, Unary, Binary, Delay, Cell}
+use Rattle.sig_tree.specs.Terminals.{Leaf, leaf, name_leaf, number, word, mark, unary_terminal}
+use Rattle.sig_tree.specs.Levels.{default_level, primary_level, unary_level, operand_level, right_level}
 use Rattle.sig_tree.specs.Limits.{both_limits, operators}
 use Rattle.sig_tree.specs.Expressions.{IsConstant, IsInit, IsOptionalInit, IsOptionalOne, IsAtLevel, IsExpression}
 use Rattle.sig_parse.specs.declared.operator.Level.{Level}

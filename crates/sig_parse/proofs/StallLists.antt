@@ -1,9 +1,9 @@
 -- Lists with separators that are completed.
-use Rattle.std.proofs.Common.{◌≡◌, ◌++◌, ◌+◌, ◌≤◌, ℕ, List, [], ◌∷◌, sum_by, refl, sym, ap, ◌∙◌, subst, append_assoc, arith}
+use Rattle.std.proofs.Common.{◌++◌, ◌+◌, ℕ, List, [], ◌∷◌, sum_by, refl, sym, ap, ◌∙◌, subst, append_assoc, arith}
 use Rattle.std.proofs.lemmas.List.{append-nil}
 use Rattle.std.proofs.lemmas.List.Sums.{sum_by_push}
 use Rattle.sig_base.specs.declared.span.Span.{Span}
-use Rattle.sig_tree.specs.Terminals.{Terminal, Leaf, leaf}
+use Rattle.sig_tree.specs.Terminals.{Terminal, Leaf}
 use Rattle.sig_tree.specs.Repeated.{Each, Separated, Listed}
 use Rattle.sig_parse.specs.State.{State}
 use Rattle.sig_parse.specs.Reads.{Reads, Covers, IsLeaf}
@@ -11,7 +11,7 @@ use Rattle.sig_parse.specs.Stalls.{Counted, Plain, Some, Stalls, Halts}
 use Rattle.sig_parse.proofs.Joins.{joined}
 use Rattle.sig_parse.proofs.Covering.{Both, and_then}
 use Rattle.sig_parse.proofs.Lists.{separated_one, separated_more, listed, each_more}
-use Rattle.sig_parse.proofs.Stalling.{at_once, in_first, right_behind, in_second, halts_in_first, halts_in_second}
+use Rattle.sig_parse.proofs.Stalling.{in_first, in_second, halts_in_first, halts_in_second}
 
 -- two things that were read, as one
 pub pair : {A B : List Leaf → Type 0} {m n : ℕ} {s t u : State} → Reads A m s t → Reads B n t u → Reads (Both A B) (m + n) s u

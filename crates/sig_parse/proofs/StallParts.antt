@@ -1,31 +1,21 @@
 -- Sides, bodies, declarations and processes that are completed.
-use mathlib.Core.Former.{Count}
-use Rattle.std.proofs.Common.{◌≡◌, ◌++◌, ◌+◌, ◌≤◌, ◌<◌, ℕ, zero, suc, true, List, [], ◌∷◌, codes, sum_by, Option, None, refl, sym, ap, ◌∙◌, subst, inl, inr, append_assoc, arith}
+use Rattle.std.proofs.Common.{◌≡◌, ◌++◌, ◌<◌, ℕ, List, [], ◌∷◌, codes, sum_by, refl, sym, ap, ◌∙◌, subst, inl, inr, arith}
 use Rattle.std.proofs.lemmas.List.{append-nil}
 use Rattle.sig_base.specs.declared.span.Span.{Span}
-use Rattle.sig_base.specs.declared.ids.Kind.{Kind}
-use Rattle.sig_base.specs.declared.ids.Kind.TheVariants.{Integer, Event}
 use Rattle.sig_tree.specs.declared.expr.Name.{Name}
 use Rattle.sig_tree.specs.declared.expr.Constant.{Constant}
-use Rattle.sig_tree.specs.declared.process.Item.{Item}
-use Rattle.sig_tree.specs.Syntax.{Expression, Named, Declared, Placement, RightSide, Computed, Called, Equations, Together, Defines, Equal, Bodies, no_body, more_bodies}
-use Rattle.sig_tree.specs.Terminals.{Terminal, Leaf, leaf, name_leaf, kind_word, name, word, label, mark}
-use Rattle.sig_tree.specs.Levels.{default_level}
+use Rattle.sig_tree.specs.Syntax.{Called}
+use Rattle.sig_tree.specs.Terminals.{Terminal, Leaf, leaf, name_leaf, mark}
 use Rattle.sig_tree.specs.Limits.{both_limits, operators, right_operators}
-use Rattle.sig_tree.specs.Repeated.{Between, Each, Separated, Listed}
-use Rattle.sig_tree.specs.Expressions.{IsConstant, IsExpression, IsOptionalInit}
-use Rattle.sig_tree.specs.Equations.{IsName, IsLeft, AreConstants, AreArguments, IsRight, IsDefinition, IsClockEquation, IsBody}
-use Rattle.sig_tree.specs.Processes.{IsPlainItem, IsItem, IsGroup, IsParam, AreGroups, AreParams, IsInterface, IsPlacement, ArePragmas, IsLocalGroup}
-use Rattle.sig_parse.specs.declared.declaration.Declares.{Declares}
-use Rattle.sig_parse.specs.declared.declaration.Declares.TheVariants.{Parameters, Inputs, Signals}
-use Rattle.sig_parse.specs.Declarations.{IsItemOf, IsGroupOf, IsTitle}
+use Rattle.sig_tree.specs.Repeated.{Between, Separated, Listed}
+use Rattle.sig_tree.specs.Expressions.{IsConstant}
+use Rattle.sig_tree.specs.Equations.{IsName, IsLeft, AreConstants, AreArguments, IsRight}
 use Rattle.sig_parse.specs.State.{State}
-use Rattle.sig_parse.specs.Reads.{Reads, Covers, IsLeaf}
+use Rattle.sig_parse.specs.Reads.{Reads, IsLeaf}
 use Rattle.sig_parse.specs.Stalls.{Counted, Plain, Some, Stalls, Halts}
-use Rattle.sig_parse.proofs.Covering.{Both, covered, and_then, seen_as}
-use Rattle.sig_parse.proofs.Stalling.{at_once, in_first, right_behind, in_second, halts_at_once, halts_in_first, halts_right_behind, halts_in_second, halts_of}
-use Rattle.sig_parse.proofs.StallExpressions.{some_place, some_name, some_constant, AtLevel, named}
-use Rattle.sig_parse.proofs.StallLists.{pair, none_more, plain_first, plain_next}
+use Rattle.sig_parse.proofs.Stalling.{at_once, in_first, right_behind, in_second, halts_in_first, halts_of}
+use Rattle.sig_parse.proofs.StallExpressions.{some_place, some_name}
+use Rattle.sig_parse.proofs.StallLists.{pair, none_more}
 
 pub name_at_once : {s t : State} → t ≡ s → Stalls (Plain IsName) s t
 name_at_once e = at_once (Plain IsName) (name_leaf some_name ∷ []) e (some_name, refl, refl)

@@ -1,24 +1,23 @@
 -- Processes and programs that are completed.
-use Rattle.std.proofs.Common.{◌≡◌, ◌≢◌, ◌++◌, ◌+◌, ◌<◌, ◌⊎◌, ℕ, suc, List, [], ◌∷◌, codes, refl, sym, ap, ◌∙◌, subst, inl, inr, append_assoc, arith}
+use Rattle.std.proofs.Common.{◌≡◌, ◌≢◌, ◌++◌, ◌<◌, ℕ, suc, List, [], ◌∷◌, codes, refl, sym, ap, ◌∙◌, subst, inl, inr, append_assoc}
 use Rattle.std.proofs.lemmas.List.{append-nil}
 use Rattle.sig_base.specs.declared.span.Span.{Span}
 use Rattle.sig_tree.specs.declared.expr.Name.{Name}
-use Rattle.sig_tree.specs.Syntax.{Declared, Placement, Equations, Heading, ProcessModel, Modelled, ProcessModels, no_model, more_models}
+use Rattle.sig_tree.specs.Syntax.{Declared, Placement, Equations, ProcessModel, Modelled, ProcessModels, no_model, more_models}
 use Rattle.sig_tree.specs.Terminals.{Leaf, leaf, name_leaf, word, mark}
 use Rattle.sig_tree.specs.Limits.{both_limits}
-use Rattle.sig_tree.specs.Repeated.{Between, Each}
+use Rattle.sig_tree.specs.Repeated.{Each}
 use Rattle.sig_tree.specs.Equations.{IsBody}
-use Rattle.sig_tree.specs.Processes.{IsWhere, IsProcess, IsModel, AreLocals, AreParams, IsInterface, ArePragmas, IsLocalGroup}
+use Rattle.sig_tree.specs.Processes.{IsWhere, IsModel, AreLocals, AreParams, IsInterface, ArePragmas, IsLocalGroup}
 use Rattle.sig_tree.specs.Grammar.{HasTree}
-use Rattle.sig_parse.specs.Declarations.{IsTitle, IsInnerProcess, AreDeclared, AreBehindWhere}
+use Rattle.sig_parse.specs.Declarations.{IsTitle, AreDeclared, AreBehindWhere}
 use Rattle.sig_parse.specs.State.{State}
 use Rattle.sig_parse.specs.Reads.{Covers, IsLeaf}
 use Rattle.sig_parse.specs.Stalls.{Some, Halts}
-use Rattle.sig_parse.proofs.Covering.{Both}
 use Rattle.sig_parse.proofs.ProcessLemmas.{Begun, group_first, process_first}
 use Rattle.sig_parse.proofs.Stalling.{halts_at_once, halts_in_first, halts_right_behind, halts_in_second}
 use Rattle.sig_parse.proofs.StallExpressions.{some_place, some_name}
-use Rattle.sig_parse.proofs.StallLists.{none_more, some_each}
+use Rattle.sig_parse.proofs.StallLists.{none_more}
 use Rattle.sig_parse.proofs.Lists.{each_more}
 use Rattle.sig_parse.proofs.StallBodies.{SomeBody, some_definition}
 use Rattle.sig_parse.proofs.StallDeclarations.{Interface}

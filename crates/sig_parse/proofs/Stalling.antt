@@ -1,10 +1,9 @@
 -- A token that a part refuses is one that refuses what the part stands in.
-use Rattle.std.proofs.Common.{◌≡◌, ◌≢◌, ◌++◌, ◌+◌, ◌≤◌, ℕ, zero, suc, List, [], ◌∷◌, refl, sym, ap, ◌∙◌, subst, append_assoc, arith}
-use Rattle.std.proofs.lemmas.List.{append-nil}
+use Rattle.std.proofs.Common.{◌≡◌, ◌++◌, ◌+◌, ℕ, List, [], sym, ap, ◌∙◌, subst, append_assoc, arith}
 use Rattle.sig_tree.specs.Terminals.{Leaf}
 use Rattle.sig_parse.specs.State.{State}
 use Rattle.sig_parse.specs.Reads.{Reads, Covers}
-use Rattle.sig_parse.specs.Stalls.{Stalls, Halts, Some}
+use Rattle.sig_parse.specs.Stalls.{Stalls, Halts}
 
 -- these leaves and more of them are in a language, with so many operators
 abbrev pub Grows : (ℕ → List Leaf → Type 0) → ℕ → List Leaf → Type 0

@@ -1,12 +1,12 @@
 -- Expressions from their parts.
-use Rattle.std.proofs.Common.{◌≡◌, ◌++◌, ◌+◌, ◌≤◌, ◌<◌, ℕ, zero, suc, List, [], ◌∷◌, codes, Option, refl, sym, ap, ◌∙◌, append_assoc, arith}
+use Rattle.std.proofs.Common.{◌++◌, ◌≤◌, ◌<◌, ℕ, zero, suc, List, [], ◌∷◌, codes, Option, refl, sym, ap, ◌∙◌, append_assoc, arith}
 use Rattle.sig_base.specs.declared.span.Span.{Span}
 use Rattle.sig_tree.specs.declared.expr.Constant.{Constant}
 use Rattle.sig_tree.specs.declared.expr.UnOp.{UnOp}
 use Rattle.sig_tree.specs.declared.expr.BinOp.{BinOp}
-use Rattle.sig_tree.specs.Syntax.{Expression, Named, Number, Truth, Unary, Binary, Delay, Cell}
+use Rattle.sig_tree.specs.Syntax.{Expression, Unary, Binary, Delay, Cell}
 use Rattle.sig_tree.specs.Terminals.{Leaf, leaf, mark, unary_terminal}
-use Rattle.sig_tree.specs.Levels.{default_level, mixed_level, delay_level, primary_level, unary_level, operand_level, right_level, level_of}
+use Rattle.sig_tree.specs.Levels.{default_level, primary_level, unary_level, operand_level, right_level, level_of}
 use Rattle.sig_tree.specs.Limits.{both_limits, operators}
 use Rattle.sig_tree.specs.Expressions.{IsInit, IsOptionalInit, IsOptionalOne, Enclosed, IsBare, IsAtLevel}
 use Rattle.sig_parse.specs.declared.operator.Infix.{Infix}

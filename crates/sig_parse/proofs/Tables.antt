@@ -1,6 +1,6 @@
 -- The tables of keywords as those of reserved words and of marks.
 use Rattle.std.proofs.Common.{◌≡◌, ℕ, zero, suc, ◌<◌, List, [], ◌∷◌, length, map, get_or, refl, sym, ap, ◌∙◌, arith}
-use Rattle.sig_tree.specs.Terminals.{Terminal, word, mark}
+use Rattle.sig_tree.specs.Terminals.{word, mark}
 use Rattle.sig_lex.specs.Tables.{words, marks}
 use Rattle.sig_parse.specs.declared.keyword.Keyword.{Keyword}
 use Rattle.sig_parse.specs.declared.keyword.TheConstants.{WORDS, MARKS}

@@ -1,7 +1,6 @@
 -- The levels and the operators of expressions as the parser has them, in the terms of the grammar.
-use Rattle.std.specs.Prelude.{◌≡◌, ◌++◌, ◌+◌, ◌≤◌, ◌⊎◌, ℕ, suc, Bool, List, [], ◌∷◌, codes}
+use Rattle.std.specs.Prelude.{◌≡◌, ◌++◌, ◌+◌, ◌≤◌, ◌⊎◌, ℕ, suc, Bool, List, ◌∷◌, codes}
 use Rattle.sig_base.specs.declared.span.Span.{Span}
-use Rattle.sig_tree.specs.declared.expr.BinOp.{BinOp}
 use Rattle.sig_tree.specs.Terminals.{Terminal, Leaf, leaf, number, word, mark, truth_word, binary_terminal}
 use Rattle.sig_tree.specs.Beginning.{BeginsName}
 use Rattle.sig_tree.specs.Continuing.{IsInfix as StandsBehind, ContinuesDelay}
@@ -15,7 +14,6 @@ use Rattle.sig_parse.specs.declared.operator.Level.TheVariants.{Default, Mixed, 
 use Rattle.sig_parse.specs.declared.operator.Infix.{Infix}
 use Rattle.sig_parse.specs.declared.operator.Infix.TheVariants.{Binary, Cell, Delay as DelayOp}
 use Rattle.sig_parse.specs.State.{State}
-use Rattle.sig_parse.specs.Reads.{Reads}
 use Rattle.sig_parse.specs.Languages.{step_operators}
 
 abbrev pub level_number : Level → ℕ

@@ -4,7 +4,7 @@ use Rattle.sig_base.specs.declared.span.Span.{Span}
 use Rattle.sig_base.specs.declared.ids.Kind.{Kind}
 use Rattle.sig_base.specs.declared.ids.Kind.TheVariants.{Event}
 use Rattle.sig_tree.specs.declared.expr.Name.{Name}
-use Rattle.sig_tree.specs.Syntax.{Declared, Placement, Equations, ProcessModel, ProcessModels}
+use Rattle.sig_tree.specs.Syntax.{Declared, Equations, ProcessModel, ProcessModels}
 use Rattle.sig_tree.specs.Terminals.{Terminal, Leaf, leaf, kind_word, word, mark}
 use Rattle.sig_tree.specs.Limits.{Limits, MayStandInside}
 use Rattle.sig_tree.specs.Repeated.{Between, Each, Separated, Listed}

@@ -1,11 +1,7 @@
 -- What a part of the parser reads.
-use Rattle.std.specs.Prelude.{◌≡◌, ◌++◌, ◌+◌, ◌≤◌, ◌<◌, ℕ, suc, List, [], ◌∷◌, length}
+use Rattle.std.specs.Prelude.{◌≡◌, ◌++◌, ◌+◌, ◌≤◌, ◌<◌, ℕ, List, [], ◌∷◌, length}
 use Rattle.sig_base.specs.declared.span.Span.{Span}
 use Rattle.sig_tree.specs.Terminals.{Terminal, Leaf, leaf}
-use Rattle.sig_tree.specs.Syntax.{Expression}
-use Rattle.sig_tree.specs.Levels.{delay_level, mixed_level, left_level, binary_level}
-use Rattle.sig_tree.specs.Limits.{both_limits, operators}
-use Rattle.sig_tree.specs.Expressions.{IsAtLevel}
 use Rattle.sig_parse.specs.State.{State}
 
 -- The leaves that were read are in a language, with so many operators, of which there are not too many.

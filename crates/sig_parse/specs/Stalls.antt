@@ -1,7 +1,7 @@
 -- What a part of the parser has passed when it refuses a token.
-use Rattle.std.specs.Prelude.{◌≡◌, ◌≢◌, ◌++◌, ◌+◌, ◌≤◌, ℕ, suc, List, [], ◌∷◌}
+use Rattle.std.specs.Prelude.{◌≡◌, ◌≢◌, ◌++◌, ◌+◌, ◌≤◌, ℕ, suc, List, ◌∷◌}
 use Rattle.sig_base.specs.declared.span.Span.{Span}
-use Rattle.sig_tree.specs.Terminals.{Terminal, Leaf, leaf}
+use Rattle.sig_tree.specs.Terminals.{Leaf, leaf}
 use Rattle.sig_tree.specs.Syntax.{Expression}
 use Rattle.sig_tree.specs.Limits.{both_limits, operators}
 use Rattle.sig_tree.specs.Expressions.{IsAtLevel}
@@ -9,7 +9,6 @@ use Rattle.sig_parse.specs.declared.refusal.Refusal.{Refusal}
 use Rattle.sig_parse.specs.declared.refusal.Refusal.TheVariants.{OutOfMemory}
 use Rattle.sig_parse.specs.declared.operator.Infix.{Infix}
 use Rattle.sig_parse.specs.State.{State}
-use Rattle.sig_parse.specs.Reads.{IsLeaf}
 use Rattle.sig_parse.specs.Operators.{infix_terminal, infix_level, infix_left}
 
 -- it is no want of memory

@@ -41,23 +41,6 @@ bodies-returns-in_err-body-clause-viable t c = relayed _ _ c.from_residual.ensur
 pub bodies-returns-in_err-body-2-clause-viable : goal.bodies-returns-in_err-body-2-clause-viable
 bodies-returns-in_err-body-2-clause-viable t c = relayed _ _ c.from_residual-in_err-body-2.ensures (λ text. some_next (λ body leaves. IsBody both_limits body c.args.depth leaves) (mark (codes "|")) (map equations_of c.loop-all.all.items) c.in-Some.field-0 c.loop-all.invariant.0 (covered c.in-Some.ensures.0) (c.in_err-body-2.ensures.viable text))
 
-
-
-
-
-
-
-
-
-
-
-
-
-
-
-
-
-
 pub body-returns-then-is-clause-settles : goal.body-returns-then-is-clause-settles
 body-returns-then-is-clause-settles t c = c.together.ensures.settles
 
@@ -75,7 +58,6 @@ body-returns-else-begins_definition-clause-settles t c = on_ok _ c.clock_equatio
 
 pub body-returns-else-begins_definition-clause-refuses : goal.body-returns-else-begins_definition-clause-refuses
 body-returns-else-begins_definition-clause-refuses t c = since_refused _ _ c.clock_equation.result c.clock_equation.ensures.refuses (λ why r text. body_from_clock_equation c.args.depth c.if-begins_definition.ensures c.if-is.ensures (r text))
-
 
 pub together-returns-in_err-inner-clause-refuses : goal.together-returns-in_err-inner-clause-refuses
 together-returns-in_err-inner-clause-refuses t c = handed _ _ _ c.from_residual.ensures (together_deep c.args.depth _ c.args.parser.now c.in_err-inner.ensures.too_deep c.requires.opens)

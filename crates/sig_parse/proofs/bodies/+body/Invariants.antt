@@ -1,4 +1,4 @@
-use Rattle.std.proofs.Common.{ℕ, ◌+◌, ◌*◌, ◌-◌, codes, length, map}
+use Rattle.std.proofs.Common.{◌+◌, ◌*◌, ◌-◌, codes, length, map}
 use Rattle.sig_tree.specs.Syntax.{equations_of}
 use Rattle.sig_tree.specs.Terminals.{mark}
 use Rattle.sig_tree.specs.Limits.{both_limits}

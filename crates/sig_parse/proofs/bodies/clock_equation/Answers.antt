@@ -12,10 +12,6 @@ use Rattle.sig_parse.proofs.bodies.clock_equation.Goals as goal
 pub returns-in_err-operands-clause-viable : goal.returns-in_err-operands-clause-viable
 returns-in_err-operands-clause-viable c = relayed _ _ c.from_residual.ensures (λ text. halts_from (SomeBody c.args.depth) c.args.parser.now c.begin_equation.ensures (some_as (IsClockEquation both_limits c.args.depth) (λ body leaves. IsBody both_limits body c.args.depth leaves) Equal (λ xs leaves is. is) (c.in_err-operands.ensures.viable text)))
 
-
-
-
-
 pub returns-in_err-operands-clause-refuses : goal.returns-in_err-operands-clause-refuses
 returns-in_err-operands-clause-refuses c = handed _ _ _ c.from_residual.ensures (λ text. fresh_refuses c.args.parser.now c.begin_equation.ensures (c.in_err-operands.ensures.refuses text))
 

@@ -20,14 +20,6 @@ returns-in_err-_defines-clause-viable c = whatever _ (at_define c.args.depth c.i
 pub returns-in_err-right-clause-viable : goal.returns-in_err-right-clause-viable
 returns-in_err-right-clause-viable c = relayed _ _ c.from_residual-in_err-right.ensures (λ text. in_right_side c.args.depth c.in_ok-names.names.items c.in_ok-_defines._defines c.args.parser.now c.begin_equation.ensures c.in_ok-names.ensures.reads c.in_ok-_defines.ensures.reads (c.in_err-right.ensures.viable text))
 
-
-
-
-
-
-
-
-
 pub returns-in_err-names-clause-refuses : goal.returns-in_err-names-clause-refuses
 returns-in_err-names-clause-refuses c = handed _ _ _ c.from_residual.ensures (λ text. fresh_refuses c.args.parser.now c.begin_equation.ensures (definition_left c.args.depth (c.in_err-names.ensures.refuses text)))
 

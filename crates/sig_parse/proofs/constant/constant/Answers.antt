@@ -1,11 +1,7 @@
-use Rattle.std.proofs.Common.{◌≡◌, ◌∙◌, rules, ap}
+use Rattle.std.proofs.Common.{◌≡◌, ◌∙◌, rules}
 use Rattle.sig_parse.proofs.Relaying.{relayed, since_stays}
 use Rattle.sig_parse.proofs.Steps.{begins_at}
 use Rattle.sig_parse.proofs.StallExpressions.{constant_at_once, constant_behind_minus}
-use Rattle.sig_tree.specs.Readings.{StopsBefore}
-use Rattle.sig_tree.specs.Beginning.{BeginsConstant}
-use Rattle.sig_tree.specs.Continuing.{ContinuesNothing}
-use Rattle.sig_parse.specs.Languages.{InConstant}
 use Rattle.sig_parse.proofs.Lifting.{raised_last, behind_one, leaf_split, wrong_here, handed_on}
 use Rattle.sig_parse.proofs.Lifting.{stops_same}
 use Rattle.sig_parse.proofs.RefusedConstants.{no_constant, constant_refused, negative_refused}

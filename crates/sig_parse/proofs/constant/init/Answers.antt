@@ -4,8 +4,6 @@ use Rattle.sig_tree.specs.Expressions.{IsInit}
 use Rattle.sig_parse.proofs.Joins.{after_leaf}
 use Rattle.sig_parse.proofs.Relaying.{whatever, since}
 use Rattle.sig_parse.proofs.StallExpressions.{init_at_once, init_behind}
-use Rattle.sig_tree.specs.Continuing.{ContinuesNothing}
-use Rattle.sig_parse.specs.Languages.{InInit}
 use Rattle.sig_parse.proofs.Lifting.{raised, raised_last, behind_one, leaf_split}
 use Rattle.sig_parse.proofs.RefusedConstants.{init_refused, init_sign}
 use Rattle.sig_parse.proofs.constant.init.Goals as goal

@@ -1,4 +1,3 @@
-use Rattle.std.proofs.Common.{refl}
 use Rattle.sig_tree.specs.Continuing.{ContinuesNothing}
 use Rattle.sig_parse.specs.Languages.{InNumber}
 use Rattle.sig_parse.proofs.RefusedTokens.{refused_here}

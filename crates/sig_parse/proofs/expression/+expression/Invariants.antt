@@ -1,9 +1,6 @@
-use Rattle.std.proofs.Common.{◌≡◌, ℕ, ◌+◌, ◌*◌, ◌-◌, ◌<◌, length}
+use Rattle.std.proofs.Common.{◌+◌, ◌*◌, ◌-◌, length}
 use Rattle.sig_tree.specs.Syntax.{expression_of}
-use Rattle.sig_tree.specs.Limits.{both_limits, operators}
-use Rattle.sig_tree.specs.Expressions.{IsAtLevel}
-use Rattle.sig_parse.specs.Reads.{Reads, Shorter}
-use Rattle.sig_parse.specs.Operators.{level_number, first_level}
+use Rattle.sig_parse.specs.Operators.{level_number}
 use Rattle.sig_parse.proofs.RefusedExpressions.{Climbs}
 use Rattle.sig_parse.proofs.expression.+expression.Given as goal
 

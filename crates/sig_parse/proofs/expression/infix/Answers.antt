@@ -1,4 +1,4 @@
-use Rattle.std.proofs.Common.{refl, sym, ◌∙◌, rules}
+use Rattle.std.proofs.Common.{refl, sym, ◌∙◌}
 use denote.Enum.Bare.{same_false}
 use Rattle.sig_parse.specs.contracts.operator.Level.{the_type}
 use Rattle.sig_parse.specs.Operators.{level_number}

@@ -1,4 +1,4 @@
-use Rattle.std.proofs.Common.{below_more, ap, sym, ◌∙◌, arith, rules}
+use Rattle.std.proofs.Common.{below_more, ap, sym, ◌∙◌, arith}
 use lib.Pointwise.{bytes_decides}
 use Rattle.sig_tree.specs.Terminals.{mark}
 use Rattle.sig_parse.proofs.Tables.{mark_at, mark_said}

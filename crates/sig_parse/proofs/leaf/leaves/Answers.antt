@@ -1,4 +1,4 @@
-use Rattle.std.proofs.Common.{List, [], ◌∷◌, ◌++◌, ap, sym, ◌∙◌, Vec, Global}
+use Rattle.std.proofs.Common.{◌++◌, ap, sym, ◌∙◌, Vec, Global}
 use Rattle.std.specs.Prelude.{option_to_list}
 use Rattle.std.proofs.lemmas.List.{append-nil}
 use Rattle.sig_parse.specs.declared.leaf.Leaf.{Leaf}

@@ -1,8 +1,8 @@
-use Rattle.std.proofs.Common.{codes, map, refl, inl, inr, subst, sym}
+use Rattle.std.proofs.Common.{codes, map, refl, inr, subst, sym}
 use Rattle.sig_tree.specs.Terminals.{word}
 use Rattle.sig_tree.specs.Syntax.{declared_of, model_of, equations_of, placement_of}
 use Rattle.sig_parse.specs.Declarations.{AreDeclared, AreBehindWhere, IsTitle}
-use Rattle.sig_parse.proofs.Covering.{covered, seen_as, between_marks, stays}
+use Rattle.sig_parse.proofs.Covering.{covered, seen_as, between_marks}
 use Rattle.sig_parse.proofs.ProcessLemmas.{ended, one_group_more, one_process_more, in_parts, whole, nothing_begun}
 use Rattle.sig_tree.specs.Processes.{IsLocalGroup, AreParams, ArePragmas}
 use Rattle.sig_parse.proofs.Relaying.{relayed, whatever, since, handed, since_refused}
@@ -12,8 +12,8 @@ use Rattle.sig_parse.proofs.StallDeclarations.{Interface}
 use Rattle.sig_parse.proofs.Leading.{leads_on, leads_refuses, leads_nowhere}
 use Rattle.sig_parse.specs.Parts.{InDeclared, InWhere}
 use Rattle.sig_tree.specs.Continuing.{ContinuesNothing, ContinuesOptional}
-use Rattle.sig_parse.proofs.RefusedModels.{process_title, process_params, process_interface, process_pragmas, process_body, process_where, process_end, declared_too_deep, inner_too_deep, inner_refused}
-use Rattle.sig_parse.proofs.RefusedProcesses.{declared_ends, declared_group, group_declared, declared_process, process_declared, where_missing, where_inside, where_settled}
+use Rattle.sig_parse.proofs.RefusedModels.{process_title, process_params, process_interface, process_pragmas, process_body, process_where, process_end, inner_too_deep, inner_refused}
+use Rattle.sig_parse.proofs.RefusedProcesses.{declared_ends, declared_group, group_declared, process_declared, where_missing, where_inside, where_settled}
 use Rattle.sig_parse.specs.State.{State}
 use Rattle.sig_parse.specs.Settling.{Settles}
 use Rattle.sig_parse.proofs.process.+process.Goals as goal

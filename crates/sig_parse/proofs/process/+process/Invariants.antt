@@ -1,4 +1,4 @@
-use Rattle.std.proofs.Common.{ℕ, ◌+◌, ◌*◌, ◌-◌, length, map}
+use Rattle.std.proofs.Common.{◌+◌, ◌*◌, ◌-◌, length, map}
 use Rattle.sig_tree.specs.Syntax.{declared_of, model_of}
 use Rattle.sig_parse.proofs.ProcessLemmas.{Begun}
 use Rattle.sig_parse.proofs.RefusedProcesses.{LeadsDeclared}

@@ -1,4 +1,4 @@
-use Rattle.std.proofs.Common.{map, inl, inr, refl}
+use Rattle.std.proofs.Common.{map}
 use Rattle.sig_tree.specs.Syntax.{declared_of}
 use Rattle.sig_parse.proofs.GroupLemmas.{interface}
 use Rattle.sig_parse.proofs.Relaying.{relayed, whatever, handed}

@@ -1,4 +1,4 @@
-use Rattle.std.proofs.Common.{map, subst, sym, codes, inl, refl}
+use Rattle.std.proofs.Common.{map, subst, sym, codes}
 use Rattle.sig_tree.specs.Syntax.{declared_of}
 use Rattle.sig_parse.proofs.GroupLemmas.{params_between}
 use Rattle.sig_parse.proofs.Relaying.{relayed, whatever, handed}

@@ -19,10 +19,6 @@ returns-clause-viable c =
     subst (λ (a : ParseAnswer). IsRefusal (leaves_of c.args.bytes.now c.args.tokens.now) (end_of c.args.tokens.now) a) (sym c.answer.ensures)
     (refused (leaves_of c.args.bytes.now c.args.tokens.now) (end_of c.args.tokens.now) c.place.result c.in-Err.refusal whole c.place.ensures c.in-Err.ensures.viable)
 
-
-
-
-
 pub returns-clause-refused : goal.returns-clause-refused
 returns-clause-refused c = let whole : c.new-parser.result.leaves ≡ leaves_of c.args.bytes.now c.args.tokens.now = search rules in
     subst (λ (a : ParseAnswer). IsAnswerOf (leaves_of c.args.bytes.now c.args.tokens.now) (end_of c.args.tokens.now) a) (sym c.answer.ensures) (answered (leaves_of c.args.bytes.now c.args.tokens.now) (end_of c.args.tokens.now) c.place.result c.in-Err.refusal c.new-parser.result c.processes.new.parser whole c.place.ensures c.in-Err.ensures.refuses)

@@ -16,12 +16,6 @@ returns-in_err-process-clause-viable c = relayed _ _ c.from_residual.ensures (λ
 pub returns-in_err-process-2-clause-viable : goal.returns-in_err-process-2-clause-viable
 returns-in_err-process-2-clause-viable c = relayed _ _ c.from_residual-in_err-process-2.ensures (λ text. in_next_process (map model_of c.loop-alloc.all.items) c.loop-alloc.invariant.0 (c.in_err-process-2.ensures.viable text))
 
-
-
-
-
-
-
 pub loop-alloc-preserved : goal.loop-alloc-preserved
 loop-alloc-preserved c = (
   one_each_more model_of (λ process leaves. IsModel both_limits process 0 leaves) c.loop-alloc.all.items _ c.in_ok-process-2.field-0 c.in_ok-push-2.ensures.items c.loop-alloc.invariant.0 c.in_ok-process-2.ensures.reads,

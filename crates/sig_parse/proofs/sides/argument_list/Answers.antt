@@ -1,10 +1,8 @@
-use Rattle.std.proofs.Common.{refl, sym, ap, ◌∙◌, arith, map, codes, subst}
-use Rattle.std.proofs.lemmas.List.Sums.{sum_by_push}
+use Rattle.std.proofs.Common.{sym, map, codes, subst}
 use Rattle.sig_tree.specs.Terminals.{mark}
 use Rattle.sig_tree.specs.Syntax.{expression_of}
 use Rattle.sig_tree.specs.Limits.{both_limits, operators}
-use Rattle.sig_tree.specs.Expressions.{IsConstant, IsExpression}
-use Rattle.sig_tree.specs.Equations.{IsName}
+use Rattle.sig_tree.specs.Expressions.{IsExpression}
 use Rattle.sig_parse.proofs.Lists.{sum_more, views_more, counted_one, first_pushed}
 use Rattle.sig_parse.proofs.Relaying.{relayed, handed}
 use Rattle.sig_parse.proofs.StallLists.{counted_first, counted_next, counted_listed}

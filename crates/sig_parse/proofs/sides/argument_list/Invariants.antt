@@ -1,4 +1,4 @@
-use Rattle.std.proofs.Common.{◌≡◌, ◌<◌, codes, length, map, sum_by}
+use Rattle.std.proofs.Common.{codes, length, map, sum_by}
 use Rattle.sig_tree.specs.Syntax.{expression_of}
 use Rattle.sig_tree.specs.Terminals.{mark}
 use Rattle.sig_tree.specs.Limits.{both_limits, operators}

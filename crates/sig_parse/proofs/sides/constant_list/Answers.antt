@@ -1,11 +1,7 @@
-use Rattle.std.proofs.Common.{refl, sym, ap, ◌∙◌, arith, map, codes, subst}
-use Rattle.std.proofs.lemmas.List.Sums.{sum_by_push}
+use Rattle.std.proofs.Common.{sym, codes, subst}
 use Rattle.sig_tree.specs.Terminals.{mark}
-use Rattle.sig_tree.specs.Syntax.{expression_of}
-use Rattle.sig_tree.specs.Limits.{both_limits, operators}
-use Rattle.sig_tree.specs.Expressions.{IsConstant, IsExpression}
-use Rattle.sig_tree.specs.Equations.{IsName}
-use Rattle.sig_parse.proofs.Lists.{reads_one, reads_more, subst_more, views_one, views_more, subst_one, first_pushed}
+use Rattle.sig_tree.specs.Expressions.{IsConstant}
+use Rattle.sig_parse.proofs.Lists.{subst_more, subst_one, first_pushed}
 use Rattle.sig_parse.proofs.Relaying.{relayed, handed}
 use Rattle.sig_parse.proofs.StallLists.{plain_first, plain_next, plain_listed}
 use Rattle.sig_parse.specs.State.{State}

@@ -1,4 +1,4 @@
-use Rattle.std.proofs.Common.{◌≡◌, ◌<◌, codes, length}
+use Rattle.std.proofs.Common.{codes, length}
 use Rattle.sig_tree.specs.Terminals.{mark}
 use Rattle.sig_tree.specs.Repeated.{Separated}
 use Rattle.sig_tree.specs.Expressions.{IsConstant}

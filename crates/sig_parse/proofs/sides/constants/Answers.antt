@@ -7,7 +7,7 @@ use Rattle.sig_parse.proofs.Joins.{viewed}
 use Rattle.sig_parse.proofs.Enclosing.{between}
 use Rattle.sig_parse.proofs.Relaying.{relayed, whatever, handed}
 use Rattle.sig_parse.proofs.StallParts.{plain_inside, plain_closing, constants_in}
-use Rattle.sig_parse.proofs.RefusedCalls.{constants_lifts, constants_close, some_constants, no_constants}
+use Rattle.sig_parse.proofs.RefusedCalls.{constants_lifts, constants_close, some_constants}
 use Rattle.sig_parse.proofs.sides.constants.Goals as goal
 
 pub returns-clause-reads : goal.returns-clause-reads

@@ -1,4 +1,4 @@
-use Rattle.std.proofs.Common.{ap, ◌∙◌, sym}
+use Rattle.std.proofs.Common.{ap, ◌∙◌}
 use Rattle.sig_parse.specs.Keywords.{terminal_of}
 use Rattle.sig_parse.specs.Seen.{terminal_seen}
 use Rattle.sig_parse.proofs.Passing.{passed}
