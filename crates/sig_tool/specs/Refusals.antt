@@ -3,7 +3,7 @@ use Rattle.std.specs.Prelude.{◌≡◌, ◌⊎◌, ⊤, ℕ, List, codes, Optio
 use Rattle.sig_base.specs.Lines.{refusal}
 use Rattle.sig_front.specs.Shown.{front_line}
 use Rattle.sig_front.specs.declared.answer.FrontAnswer.{FrontAnswer}
-use Rattle.sig_front.specs.declared.answer.FrontAnswer.TheVariants.{Lex, Parse, OutOfMemory as FrontMemory}
+use Rattle.sig_front.specs.declared.answer.FrontAnswer.TheVariants.{Lex, Parse, «Type» as TypeRefused, TooManySignals, OutOfMemory as FrontMemory}
 use Rattle.sig_text.specs.Counts.{Rose, DidNotRise}
 use Rattle.sig_text.specs.Files.{Contents, name_where_there}
 use Rattle.sig_tool.specs.Outcomes.{Outcome, ComesTo, refused, not_found, read_failed, long_program, not_built, long_file, no_flows}
@@ -20,6 +20,8 @@ abbrev pub front_refusal : FrontAnswer → Refusal
 front_refusal FrontMemory = OutOfMemory
 front_refusal (Lex answer) = Front (Lex answer)
 front_refusal (Parse answer) = Front (Parse answer)
+front_refusal (TypeRefused answer) = Front (TypeRefused answer)
+front_refusal (TooManySignals limit) = Front (TooManySignals limit)
 
 -- the status of a refusal
 abbrev pub status_of : Refusal → ℕ
