@@ -1,5 +1,5 @@
 use Rattle.sig_words.specs.declared.command.Command.TheVariants.{Print}
-use Rattle.sig_tool.proofs.RunClauses.{prefix_of_none, status_of_refusal}
+use Rattle.sig_tool.proofs.RunClauses.{prefix_of_none, refused_by, status_of_refusal}
 use Rattle.sig_tool.proofs.TextClauses.{prefix_of_text, status_of_text}
 use Rattle.sig_tool.proofs.print.print_command.Goals as goal
 
@@ -20,3 +20,10 @@ returns-in-Err-clause-status g c =
     status_of_refusal (g.F.Files.contents c.args.files.now) (Print c.args.program.now) (g.F.Files.at c.args.files.now) (g.F.Files.at c.canonical.new.files)
     (g.F.Files.misses c.args.files.now) (g.F.Files.misses c.canonical.new.files) (g.F.Files.faults c.args.files.now) (g.F.Files.faults c.canonical.new.files) _
     c.in-Err.refusal c.say_refusal.result c.status.result c.status.ensures c.say_refusal.ensures.same c.in-Err.ensures.counted c.in-Err.ensures.owed
+
+pub returns-in-Err-clause-refused : goal.returns-in-Err-clause-refused
+returns-in-Err-clause-refused g c = λ refuses.
+    refused_by (g.F.Files.contents c.args.files.now) (Print c.args.program.now) (g.F.Files.at c.args.files.now) (g.F.Files.at c.canonical.new.files)
+    (g.F.Files.misses c.args.files.now) (g.F.Files.misses c.canonical.new.files) (g.F.Files.faults c.args.files.now) (g.F.Files.faults c.canonical.new.files)
+    c.in-Err.refusal c.say_refusal.result c.status.result _ c.status.ensures c.say_refusal.ensures.same c.say_refusal.ensures.said tt
+    c.in-Err.ensures.about c.in-Err.ensures.counted c.in-Err.ensures.owed
