@@ -1,19 +1,19 @@
 -- Ranks that fall along calls.
-use Rattle.std.proofs.Common.{◌≡◌, ◌++◌, ◌⊎◌, ℕ, List, [], ◌∷◌, refl, ap, sym, ◌∙◌, subst, inl, inr, Bool, true, false, IsTrue, Option, None, Some, map, take, length, get_or, ◌+◌, ◌<◌, ◌≤◌, arith, Contains, leb}
+use Rattle.std.proofs.Common.{◌≡◌, ◌⊎◌, ℕ, List, [], ◌∷◌, ◌∙◌, subst, inl, inr, false, Option, Some, length, get_or, ◌+◌, ◌<◌, ◌≤◌, arith, Contains, leb}
 use Rattle.std.specs.Global.{Vec}
 use Rattle.std.specs.List.{All, AllByRecursion}
-use Rattle.std.proofs.lemmas.List.{get_or-map, get_or_default, get_or_past, length-map}
+use Rattle.std.proofs.lemmas.List.{get_or_past, length-map}
 use Rattle.std.proofs.lemmas.List.Elements.{All-contains}
 use Rattle.std.proofs.lemmas.Bool.{cases_lt, leb-false}
 use Rattle.sig_tree.specs.Syntax.{ProcessModel}
 use Rattle.sig_tree.specs.declared.expr.Name.{Name}
 use Rattle.sig_tree.specs.Candidates.{NoneHolds}
 use Rattle.sig_tree.specs.Rules.{Reaches}
-use Rattle.sig_type.specs.Calls.{callees_at, graph_in, graph_of, rank_of, or_lowest, IsFalling, Path, Here, There}
+use Rattle.sig_type.specs.Calls.{callees_at, graph_in, graph_of, rank_of, IsFalling, Path, Here, There}
 use Rattle.sig_type.specs.Asked.{recursive_in}
 use Rattle.sig_type.specs.Places.{place_of}
 use Rattle.sig_type.specs.Walked.{process_texts}
-use Rattle.sig_type.proofs.Calling.{reaches_same, reaches_none}
+use Rattle.sig_type.proofs.Calling.{reaches_same}
 use Rattle.sig_type.proofs.Walking.{callees_are}
 
 -- no ranks at all
