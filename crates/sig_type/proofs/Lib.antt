@@ -2,6 +2,7 @@ pub mod Sequences
 pub mod Placing
 pub mod Walking
 pub mod Calling
+pub mod Ranking
 pub mod Refusals
 pub mod Growing
 pub mod Trees

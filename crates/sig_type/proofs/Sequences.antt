@@ -148,3 +148,11 @@ asked_found {a} {b} {o} {P} p h = asked_kept a.found b.found o P p h.kept
 pub finds_early : {A B : Type 0} (of : B → List Candidate) (f : A → B) {a b : First} (xs : List A) (k : ℕ) → (b.found ≡ None → ⊥)
     → Finds a b (each (λ x. of (f x)) (take k xs)) → Finds a b (each of (map f xs))
 finds_early of f xs k some h = finds_as (sym (each_append (λ x. of (f x)) (take k xs) (drop k xs)) ∙ ap (each (λ x. of (f x))) (take-append-drop k xs) ∙ sym (each_map of f xs)) (finds_stop (each (λ x. of (f x)) (drop k xs)) some h)
+
+kept_none : (a : Option Finding) (cs : List Candidate) → NoneHolds cs → IsKept a a cs
+kept_none None cs n = n
+kept_none (Some f) cs n = refl
+
+-- candidates of which none holds
+pub finds_none : (a : First) (cs : List Candidate) → NoneHolds cs → Finds a a cs
+finds_none a cs n = record { kept = kept_none a.found cs n }

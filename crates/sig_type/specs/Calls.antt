@@ -1,5 +1,5 @@
 -- The calls of processes by their places.
-use Rattle.std.specs.Prelude.{◌≡◌, ◌≢◌, ◌<◌, ◌+◌, ◌⊎◌, ℕ, Bool, true, false, not, List, [], ◌∷◌, map, flat_map, length, Option, None, Some, Contains, slice_index_or, count_by}
+use Rattle.std.specs.Prelude.{◌≡◌, ◌≢◌, ◌<◌, ◌≤◌, ◌+◌, ◌⊎◌, ℕ, Bool, true, false, not, List, [], ◌∷◌, map, flat_map, length, Option, None, Some, Contains, slice_index_or, count_by}
 use Rattle.std.specs.Global.{Vec}
 use Rattle.sig_tree.specs.declared.expr.Name.{Name}
 use Rattle.sig_tree.specs.Syntax.{ProcessModel}
@@ -65,3 +65,15 @@ pub record IsWalk (graph : List (List ℕ)) (start target : ℕ) (visited : List
   pub reached : (place : ℕ) → Contains waiting place → Path graph start place
   pub within : (place : ℕ) → Contains waiting place → place < length graph
   pub begun : IsVisited visited start
+
+-- the rank at a place; the lowest, where there is none
+abbrev pub or_lowest : Option ℕ → ℕ
+or_lowest (Some rank) = rank
+or_lowest None = 0
+
+abbrev pub rank_of : List (Option ℕ) → ℕ → ℕ
+rank_of ranks place = or_lowest (slice_index_or ranks place None)
+
+-- ranks that do not rise along calls
+pub record IsFalling (graph : List (List ℕ)) (ranks : List (Option ℕ)) : Type 0 where
+  pub falls : (place next : ℕ) → Contains (callees_at graph place) next → rank_of ranks next ≤ rank_of ranks place

@@ -15,6 +15,7 @@ mod kinds;
 mod names;
 mod pragmas;
 mod processes;
+mod ranks;
 mod recursion;
 mod scope;
 mod signals;

@@ -1,12 +1,12 @@
 //! Calls that lead back to the process in which they stand.
 
-ghost use Rattle.std.specs.Prelude.{◌≡◌, ◌<◌, ◌↔◌, ◌⊎◌, ◌++◌, [], IfOk, OnOk, IsTrue, length, map, flat_map, Some, Contains};
-ghost use Rattle.std.specs.List.{All};
+ghost use Rattle.std.specs.Prelude.{◌≡◌, ◌<◌, ◌↔◌, ◌⊎◌, ◌++◌, [], IfOk, OnOk, IsTrue, false, length, map, flat_map, Some, Contains};
+ghost use Rattle.std.specs.List.{All, AllByRecursion};
 ghost use Rattle.sig_tree.specs.Declarations.{called_in, name_of};
 ghost use Rattle.sig_tree.specs.Syntax.{equations_of};
 ghost use Rattle.sig_tree.specs.Rules.{Reaches};
 ghost use Rattle.sig_type.specs.Asked.{recursive_in};
-ghost use Rattle.sig_type.specs.Calls.{graph_of, graph_in, places_called, Path, IsGraph, IsCovered, Visits};
+ghost use Rattle.sig_type.specs.Calls.{graph_of, graph_in, places_called, Path, IsGraph, IsCovered, IsFalling, Visits};
 ghost use Rattle.sig_type.specs.Findings.{Finds};
 ghost use Rattle.sig_type.specs.Places.{place_of};
 ghost use Rattle.sig_type.specs.Walked.{bodies_in, names_in, interface_models, process_texts};
@@ -14,6 +14,7 @@ ghost use Rattle.sig_type.specs.Walked.{bodies_in, names_in, interface_models, p
 use crate::equations::flat_equations;
 use crate::finding::{Finding, First};
 use crate::processes::Processes;
+use crate::ranks::{rank_at, ranks_of};
 use sig_tree::{Body, Name, Right};
 use std::alloc::{AllocError, Global};
 
@@ -56,10 +57,13 @@ fn places_of(
     Ok(all)
 }
 
-/// The places of the processes that each process calls.
+/// The places of the processes that each process calls, and ranks of the processes that fall along
+/// calls.
 #[derive(Drop)]
 pub struct Calls {
     pub callees: Vec<Vec<usize>>,
+    ranks: Vec<Option<usize>>,
+    ghost falling: { IsFalling (graph_in callees.items) ranks.items },
 }
 
 impl Calls {
@@ -74,7 +78,8 @@ impl Calls {
             let places = places_of(alloc, processes, &names)?;
             callees.push(places)?;
         }
-        Ok(Calls { callees })
+        let ranks = ranks_of(alloc, &callees)?;
+        Ok(Calls { callees, ranks })
     }
 }
 
@@ -147,6 +152,44 @@ fn is_recursive(
     }
 }
 
+/// Whether the process of a name may lead to the target by calls, by their ranks.
+fn may_lead_back(
+    processes: &Processes,
+    calls: &Calls,
+    name: &Name,
+    back: &Name,
+    target: usize,
+) -> bool
+    requires calls { graph_in calls.now.callees.items ≡ graph_of (interface_models processes.now.interfaces.items) }
+    requires target { Some target ≡ place_of (process_texts (interface_models processes.now.interfaces.items)) back.now.text }
+    ensures { result ≡ false → Reaches (interface_models processes.now.interfaces.items) name.now.text back.now.text → ⊥ }
+{
+    match processes.place(name.text.as_bytes()) {
+        Some(start) => rank_at(&calls.ranks, target) <= rank_at(&calls.ranks, start),
+        None => false,
+    }
+}
+
+/// Whether none of the processes of these names leads to the target by calls, by their ranks.
+fn none_leads_back(
+    processes: &Processes,
+    calls: &Calls,
+    names: &[&Name],
+    back: &Name,
+    target: usize,
+) -> bool
+    requires calls { graph_in calls.now.callees.items ≡ graph_of (interface_models processes.now.interfaces.items) }
+    requires target { Some target ≡ place_of (process_texts (interface_models processes.now.interfaces.items)) back.now.text }
+    ensures { IsTrue result → AllByRecursion (λ name. Reaches (interface_models processes.now.interfaces.items) name.text back.now.text → ⊥) (names_in names.now) }
+{
+    for name in names {
+        if may_lead_back(processes, calls, *name, back, target) {
+            return false;
+        }
+    }
+    true
+}
+
 /// The calls of a process that lead back to it. Its own place is the target: that of the first
 /// process of its name.
 pub fn recursive_calls<'a>(
@@ -162,6 +205,9 @@ pub fn recursive_calls<'a>(
     requires target { Some target ≡ place_of (process_texts (interface_models processes.now.interfaces.items)) back.now.text }
     ensures { OnOk result (Finds first.old first.new (recursive_in (interface_models processes.now.interfaces.items) back.now.text (names_in names.now))) }
 {
+    if none_leads_back(processes, calls, names, back, target) {
+        return Ok(());
+    }
     let mut visited = vec![in alloc; false; calls.callees.len()]?;
     for name in names {
         let name: &'a Name = *name;

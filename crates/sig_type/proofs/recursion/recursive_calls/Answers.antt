@@ -1,7 +1,8 @@
 use Rattle.sig_tree.specs.Candidates.{Recursive, candidate}
 use Rattle.sig_tree.specs.Rules.{Reaches}
 use Rattle.sig_tree.specs.declared.expr.Name.{Name}
-use Rattle.sig_type.proofs.Sequences.{finds_more, finds_same, finds_mapped, finds_early, asked_found}
+use Rattle.sig_type.proofs.Sequences.{finds_more, finds_same, finds_mapped, finds_early, finds_none, asked_found}
+use Rattle.sig_type.proofs.Ranking.{none_recursive}
 use Rattle.sig_type.proofs.Walking.{written}
 use Rattle.sig_type.specs.Walked.{interface_models}
 use Rattle.std.proofs.Common.{Bor, ◌∷◌, [], ◌≡◌, ◌∙◌, length, ap, sym, inl, inr, true, false}
@@ -28,3 +29,6 @@ pub returns : goal.returns
 returns c =
     let all = interface_models c.args.processes.now.interfaces.items in
     finds_mapped (λ (n : Name). candidate (Recursive n) (Reaches all n.text c.args.back.now.text) ∷ []) (λ (n : Bor Name). n.now) c.args.names.now _ c.loop-name-test.false c.loop-name.invariant.finds
+
+pub returns-then-none_leads_back : goal.returns-then-none_leads_back
+returns-then-none_leads_back c = finds_none _ _ (none_recursive _ _ _ (c.none_leads_back.ensures c.if-none_leads_back.true))
