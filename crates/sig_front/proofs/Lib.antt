@@ -1,4 +1,5 @@
 pub mod Given
 pub mod OneFlat
 pub mod OneText
+pub mod SmallBodies
 pub mod TextRefusals

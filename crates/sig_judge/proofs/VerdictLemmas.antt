@@ -184,3 +184,7 @@ broken_exactly up_to flat trace (Broken j f) h i e = (
       subst (λ (n : ℕ). IsBroken flat trace n e) first (subst (λ (n : ℕ). IsBroken flat trace j n) second h)),
   (λ b. let one = one_broken up_to flat trace j f i e h b in ap (λ (n : ℕ). Broken n f) one.0 ∙ ap (λ (n : ℕ). Broken i n) one.1),
 )
+
+pub one_verdict : UpTo → (flat : FlatBody) (trace : Trace) (v w : Verdict) → IsVerdict flat trace v → IsVerdict flat trace w → v ≡ w
+one_verdict up_to flat trace v Accepted h is = (accepted_exactly flat trace v h).1 is
+one_verdict up_to flat trace v (Broken i e) h is = (broken_exactly up_to flat trace v h i e).1 is

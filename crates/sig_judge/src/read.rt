@@ -1,6 +1,6 @@
 //! Trace files.
 
-ghost use Rattle.std.specs.Prelude.{◌≡◌, ◌⊎◌, bytes_eq, map, IfOk, IfErr, IsErrAnd, MatchResult};
+ghost use Rattle.std.specs.Prelude.{◌≡◌, ◌≤◌, ◌⊎◌, bytes_eq, length, map, IfOk, IfErr, IsErrAnd, MatchResult};
 ghost use Rattle.std.specs.List.{IsDistinct};
 ghost use Rattle.sig_base.specs.Traces.{Trace as TraceSeen};
 ghost use Rattle.sig_tree.specs.ProcessTraces.{IsTraceOf};
@@ -12,6 +12,7 @@ use crate::row::rows_of;
 use crate::trace::Trace;
 use crate::trace_answer::TraceAnswer;
 use sig_base::Signal;
+use sig_base::limits::VALUES;
 use sig_tree::Flat;
 use std::alloc::Global;
 
@@ -23,6 +24,7 @@ pub fn read_trace(alloc: Global, bytes: &[u8], flat: &Flat) -> Result<Trace, Tra
     requires differ { IsDistinct bytes_eq (map (λ signal. signal.name) flat.now.signals.items) }
     ensures trace { IfOk result (λ trace. IsTraceFile flat.now.signals.items bytes.now trace.rows.items) }
     ensures kinds { IfOk result (λ trace. IsTraceOf flat.now.signals.items trace.rows.items) }
+    ensures few { IfOk result (λ trace. length trace.rows.items ≤ VALUES) }
     ensures fault { IfErr result (λ answer. (answer ≡ TraceAnswer.OutOfMemory)
         ⊎ IsFirstBadPlace flat.now.signals.items bytes.now answer) }
 
@@ -41,6 +43,7 @@ fn trace_of(alloc: Global, bytes: &[u8], signals: &[Signal]) -> Result<Trace, Tr
     requires differ { IsDistinct bytes_eq (map (λ signal. signal.name) signals.now) }
     ensures trace { IfOk result (λ trace. IsTraceFile signals.now bytes.now trace.rows.items) }
     ensures kinds { IfOk result (λ trace. IsTraceOf signals.now trace.rows.items) }
+    ensures few { IfOk result (λ trace. length trace.rows.items ≤ VALUES) }
     ensures fault { IfErr result (λ answer. (answer ≡ TraceAnswer.OutOfMemory)
         ⊎ IsFirstBadPlace signals.now bytes.now answer) }
 {

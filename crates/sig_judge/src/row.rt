@@ -29,6 +29,7 @@ pub fn rows_of(
     ensures good { OnOk result (AllGood (row_judge header.now.kinds.items) 0 (numbered number (lines bytes.now))) }
     ensures rows { IfOk result (λ rows. rows.items
         ≡ flat_map (λ line. instants_in header.now (words_of line.text)) (numbered number (lines bytes.now))) }
+    ensures few { IfOk result (λ rows. length rows.items ≤ VALUES) }
     ensures fault { IfErr result (λ answer. (answer ≡ OutOfMemory)
         ⊎ IsFirst (row_judge header.now.kinds.items) 0 (numbered number (lines bytes.now)) answer) }
 {
@@ -82,6 +83,7 @@ fn row_in(alloc: Global, line: &[u8], place: Place, header: &Header) -> Result<R
     ensures row { IfOk result (λ read. option_to_list read.row ≡ instants_in header.now (words_of line.now)) }
     ensures words { IfOk result (λ read. read.words ≡ length (words_of line.now)) }
     ensures few { IfOk result (λ read. place.before + read.words ≤ VALUES) }
+    ensures worded { IfOk result (λ read. length (option_to_list read.row) ≤ read.words) }
     ensures fault { IfErr result (λ answer. (answer ≡ OutOfMemory)
         ⊎ (text_fault place.number place.before header.now.kinds.items line.now ≡ Some answer)) }
 {

@@ -2,6 +2,7 @@ use Rattle.sig_tree.specs.FlatSyntax.{flat_body_of}
 use Rattle.sig_front.specs.Flats.{IsFlatText, IsNoFlatText}
 use Rattle.sig_front.proofs.Given.{given, refused}
 use Rattle.sig_front.proofs.OneFlat.{flat_once, no_flat_once, flat_or_refusal}
+use Rattle.sig_front.proofs.SmallBodies.{small}
 use Rattle.sig_front.proofs.body.flat.Goals as goal
 
 pub returns-clause-given : goal.returns-clause-given
@@ -11,3 +12,7 @@ returns-clause-given c =
 pub returns-clause-refused : goal.returns-clause-refused
 returns-clause-refused c =
     refused flat_body_of (IsFlatText c.args.bytes.now) (IsNoFlatText c.args.bytes.now) (no_flat_once c.args.bytes.now) (flat_or_refusal c.args.bytes.now) c.flat_of.result c.flat_of.ensures.flat c.flat_of.ensures.fault
+
+pub returns-clause-small : goal.returns-clause-small
+returns-clause-small c =
+    small c.trees_of_texts.ensures.tree c.trees_of_texts.ensures.sized c.size_of_flat_bodies.ensures c.args.bytes.now c.flat_of.result c.requires.short c.flat_of.ensures.flat

@@ -13,6 +13,7 @@ abbrev pub invariant-loop-rest : goal.invariant-loop-rest
 invariant-loop-rest l = record {
   within : l.line_number + length l.rest ≤ l.number + length l.bytes;
   few : l.before ≤ 4000000;
+  worded : length l.rows.items ≤ l.before;
   judged : first_fault (row_judge l.header.kinds.items) l.before (numbered l.line_number (lines l.rest)) ≡ first_fault (row_judge l.header.kinds.items) 0 (numbered l.number (lines l.bytes));
   read : l.rows.items ++ flat_map (λ line. instants_in l.header (words_of line.text)) (numbered l.line_number (lines l.rest)) ≡ flat_map (λ line. instants_in l.header (words_of line.text)) (numbered l.number (lines l.bytes));
 }
