@@ -19,7 +19,6 @@ module _ (held : Contents) (name bytes : List ℕ) (there : held name ≡ Some b
       (λ memory. absurd (let same : Parse refusal ≡ OutOfMemory = memory in cc))
       (λ none. (Bad (front_line (Parse refusal)), record { bytes = bytes; there = there; short = short; good = record { answer = Parse refusal; none = none; says = refl } }, refl))
       why
-
   refused_text (TypeRefused answer) faults faults' why own = ⊎_elim
       (λ memory. absurd (let same : TypeRefused answer ≡ OutOfMemory = memory in cc))
       (λ none. absurd none)
