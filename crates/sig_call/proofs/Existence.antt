@@ -27,7 +27,7 @@ name_step : (text : List ℕ) (x p : ProcessModel) (b : Bool) (later : Option Pr
 name_step text x p true later is rest found = ap (λ (q : ProcessModel). (name_of q).text) (sym (some_is found)) ∙ (bytes_eq-Decides (name_of x).text text).0 is
 name_step text x p false later is rest found = rest found
 
-found_name : (xs : List ProcessModel) (text : List ℕ) (p : ProcessModel) → process_of xs text ≡ Some p → (name_of p).text ≡ text
+pub found_name : (xs : List ProcessModel) (text : List ℕ) (p : ProcessModel) → process_of xs text ≡ Some p → (name_of p).text ≡ text
 found_name [] text p found = absurd cc
 found_name (x ∷ xs) text p found = name_step text x p (bytes_eq (name_of x).text text) (process_of xs text) refl (λ e. found_name xs text p e) found
 

@@ -1,10 +1,14 @@
+pub mod Apart
 pub mod Bound
 pub mod Existence
 pub mod Expandable
 pub mod Labels
 pub mod Leading
 pub mod Lists
+pub mod Named
+pub mod Numbered
 pub mod Readiness
 pub mod Size
+pub mod Spelled
 pub mod Texts
 pub mod Whole

@@ -9,7 +9,7 @@ use Rattle.sig_lex.specs.declared.token.TokenKind.{TokenKind}
 use Rattle.sig_lex.specs.declared.token.TokenKind.TheVariants.{Name as NameToken, Word, Number as NumberToken, Label, Mark, Last}
 use Rattle.sig_lex.specs.Tokens.{token_at}
 use Rattle.sig_lex.specs.Slices.{InOrder, EndsOnce}
-use Rattle.sig_lex.specs.Lexemes.{Lexeme, lexeme_of, lexemes, text_of, the_end, Spells, IsSpelled}
+use Rattle.sig_lex.specs.Lexemes.{Lexeme, lexeme_of, lexemes, text_of, the_end, IsNameText, Spells, IsSpelled}
 use Rattle.sig_tree.specs.declared.expr.Name.{Name}
 use Rattle.sig_tree.specs.declared.process.Item.{Item}
 use Rattle.sig_tree.specs.Syntax.{Expression, Named, Number, Truth, Unary, Binary, Delay, Cell, Declared, RightSide, Computed, Called, Equations, Together, Defines, Equal, Bodies, no_body, more_bodies, Heading, ProcessModel, Modelled, ProcessModels, no_model, more_models}
@@ -25,20 +25,20 @@ use Rattle.sig_tree.specs.Processes.{IsGroup, AreGroups, IsInterface, IsModel, I
 use Rattle.sig_tree.specs.Grammar.{HasTree}
 use Rattle.sig_call.specs.Sound.{IsSmall, IsSmallRight, IsRead, IsTree, IsSized, size_of}
 
--- a leaf's number is small
-abbrev SmallTerminal : Terminal → Type 0
-SmallTerminal (name text) = Unit {0}
+-- a leaf's number is small, and its name is spelled as one
+abbrev pub SmallTerminal : Terminal → Type 0
+SmallTerminal (name text) = IsNameText text
 SmallTerminal (word text) = Unit {0}
 SmallTerminal (number n) = n < 2 ^ 63
 SmallTerminal (label text) = Unit {0}
 SmallTerminal (mark text) = Unit {0}
 
-abbrev SmallLeaf : Leaf → Type 0
+abbrev pub SmallLeaf : Leaf → Type 0
 SmallLeaf l = SmallTerminal l.terminal
 
 -- so are those of leaves
-record Small (leaves : List Leaf) : Type 0 where
-  all : AllByRecursion SmallLeaf leaves
+pub record Small (leaves : List Leaf) : Type 0 where
+  pub all : AllByRecursion SmallLeaf leaves
 
 all_left : (xs ys : List Leaf) → AllByRecursion SmallLeaf (xs ++ ys) → AllByRecursion SmallLeaf xs
 all_left [] ys h = tt
@@ -48,16 +48,16 @@ all_right : (xs ys : List Leaf) → AllByRecursion SmallLeaf (xs ++ ys) → AllB
 all_right [] ys h = h
 all_right (x ∷ xs) ys h = all_right xs ys h.1
 
-small_left : {leaves : List Leaf} (xs ys : List Leaf) → leaves ≡ xs ++ ys → Small leaves → Small xs
+pub small_left : {leaves : List Leaf} (xs ys : List Leaf) → leaves ≡ xs ++ ys → Small leaves → Small xs
 small_left xs ys is h = record { all = all_left xs ys (subst (AllByRecursion SmallLeaf) is h.all) }
 
-small_right : {leaves : List Leaf} (xs ys : List Leaf) → leaves ≡ xs ++ ys → Small leaves → Small ys
+pub small_right : {leaves : List Leaf} (xs ys : List Leaf) → leaves ≡ xs ++ ys → Small leaves → Small ys
 small_right xs ys is h = record { all = all_right xs ys (subst (AllByRecursion SmallLeaf) is h.all) }
 
-small_tail : {leaves : List Leaf} (x : Leaf) (ys : List Leaf) → leaves ≡ x ∷ ys → Small leaves → Small ys
+pub small_tail : {leaves : List Leaf} (x : Leaf) (ys : List Leaf) → leaves ≡ x ∷ ys → Small leaves → Small ys
 small_tail x ys is h = record { all = (subst (AllByRecursion SmallLeaf) is h.all).1 }
 
-small_between : (opening closing : Terminal) (Is : List Leaf → Type 0) (leaves : List Leaf) (b : Between opening closing Is leaves) → Small leaves → Small b.2
+pub small_between : (opening closing : Terminal) (Is : List Leaf → Type 0) (leaves : List Leaf) (b : Between opening closing Is leaves) → Small leaves → Small b.2
 small_between opening closing Is leaves b h = small_left b.2 _ refl (small_tail _ _ b.3 h)
 
 length_between : (opening closing : Terminal) (Is : List Leaf → Type 0) (leaves : List Leaf) (b : Between opening closing Is leaves) → length b.2 ≤ length leaves
@@ -100,7 +100,7 @@ further_all Is separator Goal then (x ∷ xs) leaves h small =
     let rest = small_tail _ (h.1 ++ h.2) h.3 small in
     (then x h.1 h.4 (small_left h.1 h.2 refl rest), further_all Is separator Goal then xs h.2 h.5 (small_right h.1 h.2 refl rest))
 
-separated_all : {A : Type 0} (Is : A → List Leaf → Type 0) (separator : Terminal) (Goal : A → Type 0) → ((x : A) (leaves : List Leaf) → Is x leaves → Small leaves → Goal x)
+pub separated_all : {A : Type 0} (Is : A → List Leaf → Type 0) (separator : Terminal) (Goal : A → Type 0) → ((x : A) (leaves : List Leaf) → Is x leaves → Small leaves → Goal x)
     → (xs : List A) (leaves : List Leaf) → Separated Is separator xs leaves → Small leaves → AllByRecursion Goal xs
 separated_all Is separator Goal then [] leaves h small = tt
 separated_all Is separator Goal then (x ∷ xs) leaves h small = (then x h.0 h.3 (small_left h.0 h.1 h.2 small), further_all Is separator Goal then xs h.1 h.4 (small_right h.0 h.1 h.2 small))
@@ -164,7 +164,7 @@ clocks_read limits depth (e ∷ f ∷ others) leaves h small = record {
       omega arith;
 }
 
-all_both : {A : Type 0} (P : A → Type 0) (xs ys : List A) → AllByRecursion P xs → AllByRecursion P ys → AllByRecursion P (xs ++ ys)
+pub all_both : {A : Type 0} (P : A → Type 0) (xs ys : List A) → AllByRecursion P xs → AllByRecursion P ys → AllByRecursion P (xs ++ ys)
 all_both P [] ys h k = k
 all_both P (x ∷ xs) ys h k = (h.0, all_both P xs ys h.1 k)
 
@@ -295,7 +295,7 @@ each_fine limits (p ∷ ps) leaves size h small within =
 
 -- tokens
 terminal_small : (kind : TokenKind) (bytes : List ℕ) (at : Span) → Spells kind bytes → AllByRecursion SmallLeaf (option_to_list (option_map (λ terminal. leaf terminal at) (terminal_of kind bytes)))
-terminal_small NameToken bytes at spelled = (tt, tt)
+terminal_small NameToken bytes at spelled = (spelled.0, tt)
 terminal_small Word bytes at spelled = (tt, tt)
 terminal_small (NumberToken value) bytes at spelled = ((let low : value ≤ 9223372036854775807 = spelled.not_above in omega arith), tt)
 terminal_small Label bytes at spelled = (tt, tt)
@@ -312,7 +312,7 @@ none_small : (text : List ℕ) (ts : List Token) → lexemes text ts ≡ [] → 
 none_small text [] is = tt
 none_small text (t ∷ ts) is = absurd cc
 
-leaves_small : (text : List ℕ) (tokens : List Token) (words : List Lexeme) → lexemes text tokens ≡ words ++ the_end ∷ [] → AllByRecursion IsSpelled words → AllByRecursion SmallLeaf (leaves_of text tokens)
+pub leaves_small : (text : List ℕ) (tokens : List Token) (words : List Lexeme) → lexemes text tokens ≡ words ++ the_end ∷ [] → AllByRecursion IsSpelled words → AllByRecursion SmallLeaf (leaves_of text tokens)
 leaves_small text [] words is spelled = tt
 leaves_small text (t ∷ ts) [] is spelled =
     let same : the_end ≡ lexeme_of text t = cc in

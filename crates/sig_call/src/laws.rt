@@ -1,6 +1,8 @@
 //! What holds of trees that were read from texts, and of flat bodies of well-formed programs.
 
-ghost use Rattle.std.specs.Prelude.{◌+◌, ◌*◌, ◌≤◌, ℕ, List, length};
+ghost use Rattle.std.specs.Prelude.{◌+◌, ◌*◌, ◌^◌, ◌<◌, ◌≤◌, ℕ, List, map, length};
+ghost use Rattle.std.specs.List.{IsDistinct};
+ghost use Rattle.std.specs.Str.{bytes_eq};
 ghost use Rattle.sig_tree.specs.Syntax.{ProcessModel};
 ghost use Rattle.sig_tree.specs.FlatSyntax.{FlatBody};
 ghost use Rattle.sig_tree.specs.FlatBody.{IsFlatBody};
@@ -31,3 +33,13 @@ pub fn size_of_flat_bodies()
     ensures { (program : List ProcessModel) (flat : FlatBody) (size : ℕ) → IsTree program → IsWellFormed program → IsSized size program
         → IsFlatBody program flat → length flat.equations ≤ size * (length flat.signals + 1) }
 {}
+
+/// A law: the signals of a flat body have names that differ. There are fewer than 10 ^ 64 of them, so
+/// that the numbers of calls are told apart by the 64 digits that a number is written with at most.
+pub fn names_of_flat_bodies()
+    ensures differ { (text : List ℕ) (program : List ProcessModel) (flat : FlatBody) → IsText text program → IsWellFormed program → IsFlatBody program flat
+        → length flat.signals < 10 ^ 64 → IsDistinct bytes_eq (map (λ signal. signal.name) flat.signals) }
+{
+    each_token();
+    trees_of_texts();
+}
