@@ -1,5 +1,7 @@
 //! Names, kinds and calls of programs: `check` tells whether a program is well formed, and which of
-//! the eleven rules of `sig_tree` it breaks first. It stands on sig_base and sig_tree.
+//! the eleven rules of `sig_tree` it breaks first; `check_owned` gives a well-formed program back with
+//! the kinds of its expressions. What a program's processes declare and say is found by `Processes`,
+//! `Interface`, `Scope`, `Texts` and `flat_equations`. It stands on sig_base and sig_tree.
 #![tactic(auto)]
 
 mod answer;
