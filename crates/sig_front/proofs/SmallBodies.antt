@@ -1,7 +1,8 @@
--- A flat body of a text has few equations.
-use Rattle.std.proofs.Common.{◌≡◌, ◌<◌, ◌≤◌, ◌+◌, ◌*◌, ◌^◌, ℕ, List, length, arith, mul-le-mul}
+-- A flat body of a text has few equations, and signals of different names.
+use Rattle.std.proofs.Common.{◌≡◌, ◌<◌, ◌≤◌, ◌+◌, ◌*◌, ◌^◌, ℕ, List, length, map, bytes_eq, arith, mul-le-mul}
 use Rattle.sig_tree.specs.FlatBody.{IsFlatBody}
 use Rattle.std.proofs.lemmas.List.{length-map}
+use Rattle.std.specs.List.{IsDistinct}
 use Rattle.std.specs.Prelude.{Result, Ok, Err, IfOk}
 use Rattle.sig_tree.specs.declared.flat.Flat.{Flat}
 use Rattle.sig_front.specs.declared.answer.FrontAnswer.{FrontAnswer}
@@ -28,3 +29,10 @@ module _ (trees : (text : List ℕ) (program : List ProcessModel) → IsText tex
   pub small : (text : List ℕ) (result : Result Flat FrontAnswer) → length text ≤ 1048576 → IfOk result (λ flat. IsFlatText text (flat_body_of flat)) → IfOk result (λ flat. length flat.body.items < 2 ^ 30)
   small text (Ok flat) short is = omega (arith, few text (flat_body_of flat) short is, length-map flat.body.items flat_equation_of)
   small text (Err answer) short is = tt
+
+module _ (differ : (text : List ℕ) (program : List ProcessModel) (flat : FlatBody) → IsText text program → IsWellFormed program → IsFlatBody program flat
+    → length flat.signals < 10 ^ 64 → IsDistinct bytes_eq (map (λ signal. signal.name) flat.signals)) where
+  -- a flat body of a text has signals of different names
+  pub names : (text : List ℕ) (result : Result Flat FrontAnswer) → IfOk result (λ flat. IsFlatText text (flat_body_of flat)) → IfOk result (λ flat. IsDistinct bytes_eq (map (λ signal. signal.name) flat.signals.items))
+  names text (Ok flat) is = differ text is.tree (flat_body_of flat) is.good.reads is.good.formed is.expands (let few : length flat.signals.items ≤ 512 = is.few in omega (arith, few))
+  names text (Err answer) is = tt

@@ -1,6 +1,7 @@
 //! From a text to its flat body.
 
-ghost use Rattle.std.specs.Prelude.{◌≡◌, ◌<◌, ◌≤◌, ◌^◌, ◌⊎◌, ℕ, List, IfOk, IfErr, IsErrAnd, MatchResult, length};
+ghost use Rattle.std.specs.Prelude.{◌≡◌, ◌<◌, ◌≤◌, ◌^◌, ◌⊎◌, ℕ, List, IfOk, IfErr, IsErrAnd, MatchResult, bytes_eq, length, map};
+ghost use Rattle.std.specs.List.{IsDistinct};
 ghost use Rattle.sig_call.specs.Sound.{IsTree};
 ghost use Rattle.sig_tree.specs.FlatSyntax.{FlatBody, flat_body_of};
 ghost use Rattle.sig_tree.specs.Grammar.{IsText};
@@ -11,7 +12,7 @@ ghost use Rattle.sig_front.specs.declared.answer.FrontAnswer.{FrontAnswer};
 use crate::answer::FrontAnswer;
 use crate::text::tree;
 use sig_base::limits::PROGRAM_BYTES;
-use sig_call::{inline, size_of_flat_bodies, trees_of_texts};
+use sig_call::{inline, names_of_flat_bodies, size_of_flat_bodies, trees_of_texts};
 use sig_tree::{Flat, Program};
 use sig_type::{Typed, check_owned};
 use std::alloc::Global;
@@ -21,6 +22,7 @@ use std::alloc::Global;
 pub fn flat(alloc: Global, bytes: &[u8]) -> Result<Flat, FrontAnswer>
     requires short { length bytes.now ≤ PROGRAM_BYTES }
     ensures flat { IfOk result (λ flat. IsFlatText bytes.now (flat_body_of flat)) }
+    ensures names { IfOk result (λ flat. IsDistinct bytes_eq (map (λ signal. signal.name) flat.signals.items)) }
     ensures small { IfOk result (λ flat. length flat.body.items < 2 ^ 30) }
     ensures fault { IfErr result (λ answer. (answer ≡ FrontAnswer.OutOfMemory) ⊎ IsNoFlatText bytes.now answer) }
 
@@ -33,6 +35,7 @@ pub fn flat(alloc: Global, bytes: &[u8]) -> Result<Flat, FrontAnswer>
 {
     trees_of_texts();
     size_of_flat_bodies();
+    names_of_flat_bodies();
     flat_of(alloc, bytes)
 }
 

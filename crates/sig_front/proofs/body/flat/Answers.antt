@@ -2,7 +2,7 @@ use Rattle.sig_tree.specs.FlatSyntax.{flat_body_of}
 use Rattle.sig_front.specs.Flats.{IsFlatText, IsNoFlatText}
 use Rattle.sig_front.proofs.Given.{given, refused}
 use Rattle.sig_front.proofs.OneFlat.{flat_once, no_flat_once, flat_or_refusal}
-use Rattle.sig_front.proofs.SmallBodies.{small}
+use Rattle.sig_front.proofs.SmallBodies.{names, small}
 use Rattle.sig_front.proofs.body.flat.Goals as goal
 
 pub returns-clause-given : goal.returns-clause-given
@@ -16,3 +16,7 @@ returns-clause-refused c =
 pub returns-clause-small : goal.returns-clause-small
 returns-clause-small c =
     small c.trees_of_texts.ensures.tree c.trees_of_texts.ensures.sized c.size_of_flat_bodies.ensures c.args.bytes.now c.flat_of.result c.requires.short c.flat_of.ensures.flat
+
+pub returns-clause-names : goal.returns-clause-names
+returns-clause-names c =
+    names c.names_of_flat_bodies.ensures.differ c.args.bytes.now c.flat_of.result c.flat_of.ensures.flat
