@@ -27,7 +27,7 @@ use Rattle.sig_parse.specs.declared.operator.Infix.TheVariants.{Binary, Cell, De
 use Rattle.sig_parse.specs.State.{State}
 use Rattle.sig_parse.specs.Reads.{Reads, Shorter, IsLeaf}
 use Rattle.sig_parse.specs.Refusals.{Wrong, TooDeep, TooMany, cause_of, Refuses}
-use Rattle.sig_parse.specs.Stalls.{IsOfText}
+use Rattle.sig_parse.specs.Refusals.{IsOfText}
 use Rattle.sig_parse.specs.Settling.{Settles}
 use Rattle.sig_parse.specs.Languages.{InLeaf, InInit, InOptionalInit, InOptionalOne, InLevel, InOperand, InStep, InSteps}
 use Rattle.sig_parse.specs.Operators.{level_number, first_level, infix_terminal, infix_level, IsOperatorOf, ContinuesStep, BeginsAtom, IsTighter, ReadsStep}

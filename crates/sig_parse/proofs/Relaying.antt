@@ -3,7 +3,7 @@ use Rattle.std.proofs.Common.{◌≡◌, ◌∙◌, sym, subst, Result, Ok, Err,
 use Rattle.std.specs.Prelude.{OnErr}
 use Rattle.std.specs.Result.{IsErr, IsErrAnd}
 use Rattle.sig_parse.specs.declared.refusal.Refusal.{Refusal}
-use Rattle.sig_parse.specs.Stalls.{IsOfText}
+use Rattle.sig_parse.specs.Refusals.{IsOfText}
 
 -- the same refusal
 pub relayed : {T P : Type 0} (r : Result T Refusal) (e : Refusal) → IsErr r × IsErrAnd r (λ f. f ≡ e) → (IsOfText e → P) → IfErr r (λ why. IsOfText why → P)
