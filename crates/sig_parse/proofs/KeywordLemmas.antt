@@ -7,7 +7,7 @@ use Rattle.sig_tree.specs.Beginning.{StartsWith}
 use Rattle.sig_tree.proofs.Operators.{is_terminal}
 use Rattle.sig_parse.specs.declared.keyword.Keyword.{Keyword}
 use Rattle.sig_parse.specs.declared.keyword.Keyword.TheVariants.{Process, Where, End, Integer, Boolean, Event, Init, When, Default, Cell, Not, And, Or, Xor, Modulo, True, False, Pragmas, BodyOpen, BodyClose, Bar, Open, Close, BraceOpen, BraceClose, Comma, Semicolon, Question, Exclamation, Define, SameClock, ClockPlus, ClockMeet, ClockLess, Clock, Dollar, Equal, NotEqual, Less, LessEqual, Greater, GreaterEqual, Plus, Minus, Times, Divide}
-use Rattle.sig_parse.specs.Keywords.{terminal_of, IsKeyword}
+use Rattle.sig_parse.specs.Keywords.{terminal_of}
 
 keywords : List Keyword
 keywords = Process ∷ Where ∷ End ∷ Integer ∷ Boolean ∷ Event ∷ Init ∷ When ∷ Default ∷ Cell ∷ Not ∷ And ∷ Or ∷ Xor ∷ Modulo ∷ True ∷ False ∷ Pragmas
@@ -35,10 +35,6 @@ terminal_same a b e = let both : Some a ≡ Some b = sym (keyword_found a) ∙ a
 pub other_keyword : (found k : Keyword) (leaves : List Leaf) → StartsWith (λ t. t ≡ terminal_of found) leaves → (found ≡ k → ⊥) → StopsBefore (λ t. t ≡ terminal_of k) leaves
 other_keyword found k [] starts other = tt
 other_keyword found k (l ∷ leaves) starts other = λ e. other (terminal_same found k (sym starts ∙ e))
-
-pub no_keyword : (k : Keyword) (leaves : List Leaf) → StopsBefore IsKeyword leaves → StopsBefore (λ t. t ≡ terminal_of k) leaves
-no_keyword k [] stops = tt
-no_keyword k (l ∷ leaves) stops = λ e. stops (k, e)
 
 -- whether a keyword is next
 pub whether : (found k : Keyword) (same : Bool) (leaves : List Leaf) → (IsTrue same ↔ found ≡ k) → StartsWith (λ t. t ≡ terminal_of found) leaves

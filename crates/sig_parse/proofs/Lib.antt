@@ -21,13 +21,6 @@ pub mod RuleLemmas
 pub mod SmallLemmas
 pub mod SpellingLemmas
 pub mod SplittingLemmas
-pub mod StallBodies
-pub mod StallDeclarations
-pub mod StallExpressions
-pub mod StallLists
-pub mod StallParts
-pub mod StallProcesses
-pub mod Stalling
 pub mod Standing
 pub mod Steps
 pub mod Tables

@@ -9,7 +9,7 @@ use Rattle.sig_parse.specs.declared.refusal.Refusal.{Refusal}
 use Rattle.sig_parse.specs.declared.refusal.Refusal.TheVariants.{Syntax, Nesting, Operators}
 use Rattle.sig_parse.specs.State.{State}
 use Rattle.sig_parse.specs.Reads.{Reads, IsLeaf}
-use Rattle.sig_parse.specs.Stalls.{IsOfText}
+use Rattle.sig_parse.specs.Refusals.{IsOfText}
 use Rattle.sig_parse.specs.Refusals.{Cause, Wrong, TooDeep, TooMany, cause_of, Refuses}
 
 -- What is refused of the part here is refused of the whole, from before it on.

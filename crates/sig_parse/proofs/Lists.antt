@@ -111,11 +111,6 @@ pub subst_more : {A : Type 0} (Is : A → List Leaf → Type 0) (separator : Ter
 subst_more Is separator old new x at {s} {v = v} e r q p =
     subst (λ xs. Reads (Separated Is separator xs) 0 s v) (sym e) (reads_more Is separator old x 0 0 0 at refl r q p)
 
--- a list of two has one
-pub some_mapped : {A B : Type 0} (f : B → A) (xs : List B) → 2 ≤ length xs → 1 ≤ length (map f xs)
-some_mapped f [] le = absurd (omega arith)
-some_mapped f (x ∷ xs) le = omega arith
-
 pub subst_one : {A : Type 0} (Is : A → List Leaf → Type 0) (separator : Terminal) (all : List A) (x : A) {s t : State} → all ≡ [] ++ x ∷ [] → Reads (Is x) 0 s t → Reads (Separated Is separator all) 0 s t
 subst_one Is separator all x {s} {t} e r = subst (λ xs. Reads (Separated Is separator xs) 0 s t) (sym e) (reads_one Is separator x 0 r)
 

@@ -1,11 +1,10 @@
 -- The operators of the parser as those of the grammar, and what stands behind them.
-use Rattle.std.proofs.Common.{◌≡◌, ◌<◌, ◌≤◌, ℕ, suc, List, [], ◌∷◌, codes, Bool, true, false, cond, eqb, Option, None, Some, inl, inr, ◌⊎◌, refl, sym, ap, ◌∙◌, subst, arith}
-use Rattle.std.specs.Prelude.{MatchBool, MatchOption}
+use Rattle.std.proofs.Common.{◌≡◌, ◌≤◌, ℕ, suc, List, [], ◌∷◌, cond, eqb, inl, inr, ◌⊎◌, refl, sym, ap, ◌∙◌, subst, arith}
 use Rattle.sig_tree.specs.declared.expr.BinOp.{BinOp}
 use Rattle.sig_tree.specs.declared.expr.BinOp.TheVariants.{Default as OpDefault, When as OpWhen, Plus as OpPlus, Meet as OpMeet, Less as OpLess, Or as OpOr, Xor as OpXor, And as OpAnd, Eq, Ne, Lt, Le, Gt, Ge, Add, Sub, Mul, Div, Mod}
 use Rattle.sig_tree.specs.declared.expr.UnOp.{UnOp}
 use Rattle.sig_tree.specs.declared.expr.UnOp.TheVariants.{Not as UnaryNot, Neg, When as UnaryWhen, Clock as UnaryClock}
-use Rattle.sig_tree.specs.Terminals.{Terminal, Leaf, number, word, unary_terminal}
+use Rattle.sig_tree.specs.Terminals.{Terminal, Leaf, unary_terminal}
 use Rattle.sig_tree.specs.Levels.{delay_level, unary_level, operand_level}
 use Rattle.sig_tree.specs.Readings.{StopsBefore}
 use Rattle.sig_tree.specs.Beginning.{StartsWith}
@@ -95,10 +94,6 @@ pub no_operator : (leaves : List Leaf) → StopsBefore IsKeyword leaves → Stop
 no_operator [] stops = tt
 no_operator (l ∷ leaves) stops = λ (op, e). let one = operator_keyword op in stops (one.0, e ∙ one.1)
 
-pub not_operator : (k : Keyword) (leaves : List Leaf) → StartsWith (λ t. t ≡ terminal_of k) leaves → ((op : Infix) → infix_terminal op ≡ terminal_of k → ⊥) → StopsBefore IsOperator leaves
-not_operator k [] starts none = tt
-not_operator k (l ∷ leaves) starts none = λ (op, e). none op (sym e ∙ starts)
-
 -- the same of operators before an operand
 prefix_keyword : (op : UnOp) → IsKeyword (unary_terminal op)
 prefix_keyword UnaryWhen = (K.When, refl)
@@ -114,14 +109,6 @@ pub not_prefix : (op : UnOp) (k : Keyword) (leaves : List Leaf) → StartsWith (
 not_prefix op k [] starts none = tt
 not_prefix op k (l ∷ leaves) starts none = λ e. none (sym e ∙ starts)
 
--- the operator that is next
-pub next_operator : (k : Keyword) (found : Option Infix) (leaves : List Leaf) → StartsWith (λ t. t ≡ terminal_of k) leaves
-    → MatchOption found ((op : Infix) → infix_terminal op ≡ terminal_of k → ⊥) (λ op. infix_terminal op ≡ terminal_of k)
-    → MatchOption found (StopsBefore IsOperator leaves) (λ op. StartsWith (λ t. t ≡ infix_terminal op) leaves)
-next_operator k None leaves starts none = not_operator k leaves starts none
-next_operator k (Some op) [] starts is = absurd starts
-next_operator k (Some op) (l ∷ leaves) starts is = starts ∙ sym is
-
 pub starts_operator : (k : Keyword) (op : Infix) (leaves : List Leaf) → StartsWith (λ t. t ≡ terminal_of k) leaves → infix_terminal op ≡ terminal_of k → StartsWith (λ t. t ≡ infix_terminal op) leaves
 starts_operator k op [] starts is = starts
 starts_operator k op (l ∷ leaves) starts is = starts ∙ sym is
@@ -133,10 +120,6 @@ none_of_level level (l ∷ leaves) stops = λ (op, e, own). stops (op, e)
 pub other_level : (op : Infix) (level : ℕ) (leaves : List Leaf) → StartsWith (λ t. t ≡ infix_terminal op) leaves → (infix_level op ≡ level → ⊥) → StopsBefore (IsOperatorOf level) leaves
 other_level op level [] starts other = tt
 other_level op level (l ∷ leaves) starts other = λ (found, e, own). other (ap infix_level (one_operator op found (sym starts ∙ e)) ∙ own)
-
-pub this_level : (op : Infix) (level : ℕ) (leaves : List Leaf) → StartsWith (λ t. t ≡ infix_terminal op) leaves → infix_level op ≡ level → StartsWith (IsOperatorOf level) leaves
-this_level op level [] starts own = starts
-this_level op level (l ∷ leaves) starts own = (op, starts, own)
 
 -- the level of a number
 abbrev level_from : ℕ → Level
@@ -162,30 +145,6 @@ pub looser_behind : (op : Infix) (level : ℕ) (leaves : List Leaf) → StartsWi
 looser_behind op level [] starts within = tt
 looser_behind op level (l ∷ leaves) starts within = λ continues.
     not_tighter (in_tree op) level (let e = same_level op in omega arith) (subst (λ (t : Terminal). ContinuesStep level t) (starts ∙ same_terminal op) continues)
-
-pub tighter_behind : (op : Infix) (level : ℕ) (leaves : List Leaf) → StartsWith (λ t. t ≡ infix_terminal op) leaves → level < infix_level op → StartsWith (ContinuesStep level) leaves
-tighter_behind op level [] starts more = starts
-tighter_behind op level (l ∷ leaves) starts more = inl (infix_stands (suc level) l.terminal (in_tree op) (starts ∙ same_terminal op) (let e = same_level op in omega arith))
-
-pub delay_behind : (level : ℕ) (leaves : List Leaf) → StartsWith ContinuesDelay leaves → level ≤ delay_level → StartsWith (ContinuesStep level) leaves
-delay_behind level [] starts within = starts
-delay_behind level (l ∷ leaves) starts within = inr (within, starts)
-
--- a 1 or an init
-pub either_delay : (leaves : List Leaf) → StartsWith (λ t. t ≡ number 1) leaves → StartsWith ContinuesDelay leaves
-either_delay [] starts = starts
-either_delay (l ∷ leaves) starts = inl starts
-
-pub init_delay : (one : Bool) (leaves : List Leaf) → StopsBefore (λ t. t ≡ number 1) leaves
-    → MatchBool one (StartsWith (λ t. t ≡ word (codes "init")) leaves) (StopsBefore (λ t. t ≡ word (codes "init")) leaves)
-    → MatchBool one (StartsWith ContinuesDelay leaves) (StopsBefore ContinuesDelay leaves)
-init_delay true [] no_one starts = starts
-init_delay true (l ∷ leaves) no_one starts = inr starts
-init_delay false [] no_one stops = tt
-init_delay false (l ∷ leaves) no_one stops = go where
-  go : ContinuesDelay l.terminal → ⊥
-  go (inl e) = no_one e
-  go (inr e) = stops e
 
 -- Behind an expression of a level stands nothing that goes on with it, where nothing tighter stands there, and
 -- no operator of the level.

@@ -5,7 +5,3 @@ use Rattle.std.specs.Prelude.{OnOk}
 pub on_ok : {T E Q R : Type 0} (P : T → Type 0) (r : Result T E) → IfOk r P → OnOk r Q → ((x : T) → P x → Q → R) → OnOk r R
 on_ok P (Ok x) p q f = f x p q
 on_ok P (Err e) p q f = tt
-
-pub from_ok : {T E R : Type 0} (P : T → Type 0) (r : Result T E) → IfOk r P → ((x : T) → P x → R) → OnOk r R
-from_ok P (Ok x) p f = f x p
-from_ok P (Err e) p f = tt

@@ -1,28 +1,22 @@
 -- What is refused of bodies in brackets, from what is refused of their parts.
-use Rattle.std.proofs.Common.{◌≡◌, ◌++◌, ◌≤◌, ◌<◌, ℕ, suc, List, [], ◌∷◌, codes, inl, refl, sym, ap, ◌∙◌, append_assoc, arith}
-use Rattle.std.proofs.lemmas.List.{append-nil}
+use Rattle.std.proofs.Common.{◌≡◌, ◌++◌, ◌≤◌, ◌<◌, ℕ, suc, List, [], ◌∷◌, codes, inl, refl, sym, ◌∙◌, arith}
 use Rattle.sig_base.specs.declared.span.Span.{Span}
 use Rattle.sig_tree.specs.Syntax.{Named, Computed, Equations, Together, Defines, Equal, Bodies, no_body, more_bodies}
 use Rattle.sig_tree.specs.Terminals.{Leaf, leaf, mark}
 use Rattle.sig_tree.specs.Levels.{default_level}
-use Rattle.sig_tree.specs.Limits.{Limits, both_limits, nesting_limit, no_limits, MayStandInside}
+use Rattle.sig_tree.specs.Limits.{Limits, both_limits, nesting_limit, MayStandInside}
 use Rattle.sig_tree.specs.Repeated.{Further, Listed}
 use Rattle.sig_tree.specs.Equations.{IsBody, AreBodies, AreFurtherBodies}
-use Rattle.sig_tree.specs.Readings.{StopsBefore}
-use Rattle.sig_tree.specs.Beginning.{StartsWith, BeginsExpression, BeginsBody}
-use Rattle.sig_tree.specs.Continuing.{ContinuesNothing, ContinuesBody}
+use Rattle.sig_tree.specs.Beginning.{StartsWith, BeginsExpression}
+use Rattle.sig_tree.specs.Continuing.{ContinuesBody}
 use Rattle.sig_tree.specs.Unplaced.{no_place}
-use Rattle.sig_tree.proofs.FirstLeaves.{body_begins, clock_equation_begins}
+use Rattle.sig_tree.proofs.FirstLeaves.{clock_equation_begins}
 use Rattle.sig_tree.proofs.Combining.{cons_same, append_to}
-use Rattle.sig_tree.proofs.ReadEquations.{starts_conflict, stops_nothing}
+use Rattle.sig_tree.proofs.ReadEquations.{starts_conflict}
 use Rattle.sig_tree.proofs.ReadBodies.{together_apart, definition_starts}
-use Rattle.sig_parse.specs.Refusals.{Cause, Wrong, TooDeep, Refuses}
-use Rattle.sig_parse.specs.Languages.{InOne, counted}
+use Rattle.sig_parse.specs.Refusals.{TooDeep, Refuses}
 use Rattle.sig_parse.specs.Parts.{InBody}
-use Rattle.sig_parse.proofs.Refusing.{refuses_inside, refuses_at_once}
 use Rattle.sig_parse.proofs.RefusedConstants.{some_name, some_leaf}
-use Rattle.sig_parse.proofs.RefusedLists.{Closed, Any_of}
-use Rattle.sig_parse.proofs.RefusedSides.{none_of, no_operators}
 
 abbrev pub Body_of : (depth : ℕ) → Limits → Equations → List Leaf → Type 0
 Body_of depth limits body leaves = IsBody limits body depth leaves
@@ -57,12 +51,6 @@ module _ (depth : ℕ) where
   some_definition : (limits : Limits) → IsBody limits (Defines (some_name ∷ []) (Computed (Named some_name))) depth (some_leaf ∷ leaf (mark (codes ":=")) no_place ∷ some_leaf ∷ [])
   some_definition limits = (no_place, some_leaf ∷ [], some_leaf ∷ [], refl, inl (some_name, refl, refl), (0, (omega arith, refl)), λ kept. omega arith)
 
-  -- what begins no body
-  pub body_refused : (here : List Leaf) → StopsBefore BeginsBody here → Refuses (InBody depth) ContinuesBody Wrong here here
-  body_refused here stops =
-      refuses_at_once (InBody depth) ContinuesBody BeginsBody (some_leaf ∷ leaf (mark (codes ":=")) no_place ∷ some_leaf ∷ []) (Defines (some_name ∷ []) (Computed (Named some_name)), some_definition both_limits)
-      (λ leaves is. body_begins no_limits is.0 depth leaves is.1) here stops
-
   other_starts : (limits : Limits) (opened : Span) (rest whole back : List Leaf) → leaf (mark (codes "(|")) opened ∷ rest ≡ whole ++ back → StartsWith (BeginsExpression default_level) whole → ⊥
   other_starts limits opened rest whole back e starts =
       starts_conflict (λ t. t ≡ mark (codes "(|")) (BeginsExpression default_level) together_apart (leaf (mark (codes "(|")) opened ∷ []) whole rest back e refl starts
@@ -88,19 +76,3 @@ module _ (depth : ℕ) where
         let shallow : depth < 64 = part.4 refl in
         omega arith;
   }
-
-  -- what stands in them
-  pub together_from_list : depth < 64 → (opened : Span) (cause : Cause) (here after : List Leaf) → Refuses (InOne (Closed (Any_of (Body_of (suc depth)) (mark (codes "|"))) (mark (codes "|)"))) (counted none_of) 0) ContinuesNothing cause here after
-      → Refuses (InBody depth) ContinuesBody cause (leaf (mark (codes "(|")) opened ∷ here) after
-  together_from_list shallow opened cause here after r =
-      refuses_inside (InOne (Closed (Any_of (Body_of (suc depth)) (mark (codes "|"))) (mark (codes "|)"))) (counted none_of) 0) (InBody depth) (leaf (mark (codes "(|")) opened ∷ []) []
-      (λ limits leaves is. (Together (list_bodies is.0), ((λ kept. shallow), (opened, is.1.0, is.1.1, ap (λ l. leaf (mark (codes "(|")) opened ∷ l) (append-nil leaves ∙ is.1.2), from_list limits (suc depth) is.0 is.1.1 is.1.3))))
-      ContinuesNothing ContinuesBody cause here after
-      (λ limits rest whole back e is stops same.
-      let part = together_part limits opened rest whole back e is.0 is.1 in (
-        part.2 ++ leaf (mark (codes "|)")) part.1 ∷ [],
-        back,
-        part.3 ∙ sym (append_assoc part.2 (leaf (mark (codes "|)")) part.1 ∷ []) back),
-        (bodies_list part.0, (part.1, part.2, refl, to_list limits (suc depth) part.0 part.2 part.5), λ kept. let e = no_operators (bodies_list part.0) in omega arith),
-        stops_nothing back,
-      )) r

@@ -37,7 +37,7 @@ use Rattle.sig_parse.proofs.RefusedEquations.{Expression_of}
 use Rattle.sig_parse.proofs.RefusedSides.{Name_of, Constant_of, none_of, no_operators, counted_sum, left_refused, left_too_deep, left_from_names, constants_from_list, right_from_expression}
 use Rattle.sig_parse.proofs.RefusedNames.{ContinuesNames, counted_names}
 use Rattle.sig_parse.proofs.RefusedRows.{Counts, CountsRest, counts_first, counts_next, counts_refused, counts_next_refused, counts_over, counts_none}
-use Rattle.sig_parse.proofs.Enclosures.{optional_missing, optional_settled, leaf_next}
+use Rattle.sig_parse.proofs.Enclosures.{optional_settled, leaf_next}
 use Rattle.sig_parse.proofs.Enclosing.{between}
 use Rattle.sig_parse.proofs.Leading.{Leads, Then, Apart, settled_once, leads_on, leads_refuses, leads_settled, then_first, refuses_as, starts_same}
 
@@ -98,9 +98,6 @@ braced_or_none limits leaves (cs, inr is) = inr (cs, is)
 braced_begins : (limits : Limits) (leaves : List Leaf) → Braced limits leaves → StartsWith (λ t. t ≡ mark (codes "{")) leaves
 braced_begins limits leaves (cs, (opened, closed, inside, e, are)) = subst (λ (ls : List Leaf). StartsWith (λ t. t ≡ mark (codes "{")) ls) (sym e) refl
 
-pub no_constants : {here : List Leaf} → StopsBefore (λ t. t ≡ mark (codes "{")) here → Settles InConstants (ContinuesOptional (mark (codes "{"))) here here
-no_constants stops = optional_missing InConstants Braced (mark (codes "{")) braced_some braced_or_none braced_begins stops
-
 begins_no_constant : BeginsConstant (mark (codes "}")) → ⊥
 begins_no_constant (inl (inl e)) = different (mark (codes "}")) (mark (codes "-")) refl refl e
 begins_no_constant (inl (inr (value, e))) = cc
@@ -139,9 +136,6 @@ parenthesis_apart e = different (mark (codes ",")) (mark (codes ")")) refl refl 
 module _ (depth : ℕ) where
   abbrev Arguments : ℕ → Limits → List Leaf → Type 0
   Arguments used = Counts (Expression_of depth) operators (mark (codes ",")) (mark (codes ")")) used
-
-  abbrev ArgumentsRest : ℕ → Limits → List Leaf → Type 0
-  ArgumentsRest used = CountsRest (Expression_of depth) operators (mark (codes ",")) (mark (codes ")")) used
 
   abbrev pub ArgumentsSoFar : (used count : ℕ) (before after : List Leaf) → Type 0
   ArgumentsSoFar used count before after = Leads (Counts (Expression_of depth) operators (mark (codes ",")) (mark (codes ")")) used) ContinuesNothing

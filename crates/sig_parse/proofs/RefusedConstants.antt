@@ -93,14 +93,6 @@ init_part at c rest whole back e (place, part, f, is) =
     let heads = cons_same _ _ _ _ (e ∙ ap (λ l. l ++ back) f) in
     (part, heads.1, is)
 
-init_starts : (c : Constant) (leaves : List Leaf) → IsInit c leaves → StartsWith ContinuesInit leaves
-init_starts c leaves (at, rest, e, is) = subst (λ (l : List Leaf). StartsWith ContinuesInit l) (sym e) refl
-
-pub no_init_refused : (here : List Leaf) → StopsBefore ContinuesInit here → Refuses InInit ContinuesNothing Wrong here here
-no_init_refused here stops =
-    refuses_at_once InInit ContinuesNothing ContinuesInit (leaf (word (codes "init")) no_place ∷ some_leaf ∷ []) (Param some_name, (no_place, some_leaf ∷ [], refl, refl))
-    (λ leaves is. init_starts is.0 leaves is.1) here stops
-
 pub init_sign : (cause : Cause) (here after : List Leaf) → Refuses (InLeaf (word (codes "init"))) ContinuesNothing cause here after → Refuses InInit ContinuesNothing cause here after
 init_sign cause here after r =
     refuses_first (InLeaf (word (codes "init"))) InInit (some_leaf ∷ [])

@@ -69,24 +69,6 @@ one_taken {at} {s} {t} r = record {
       one_only r.front front parts.0 back at r.is (sym parts.1 ∙ e) is stops;
 }
 
-pub one_missing : (here : List Leaf) → StopsBefore (λ t. t ≡ number 1) here → Settles InOptionalOne (λ t. t ≡ number 1) here here
-one_missing here none = record {
-  passed = [];
-  split = refl;
-  alone = λ leaves front back agrees e is stops.
-      let parts = behind_agrees [] here leaves agrees in
-      go here parts.0 front back none parts.2 (sym parts.1 ∙ e) is;
-} where
-  first : (here rest more : List Leaf) (at : Span) → StopsBefore (λ t. t ≡ number 1) here → SameFirst here rest → rest ≡ leaf (number 1) at ∷ more → ⊥
-  first [] [] more at none same e = cc
-  first [] (m ∷ rest) more at none same e = same
-  first (l ∷ here) [] more at none same e = same
-  first (l ∷ here) (m ∷ rest) more at none same e = none (ap (λ n. n.terminal) (same ∙ (cons_same m (leaf (number 1) at) rest more e).0))
-
-  go : (here rest front back : List Leaf) → StopsBefore (λ t. t ≡ number 1) here → SameFirst here rest → rest ≡ front ++ back → IsOptionalOne front → front ≡ []
-  go here rest front back none same e (inl is) = is
-  go here rest front back none same e (inr (at, is)) = absurd (first here rest back at none same (e ∙ ap (λ l. l ++ back) is))
-
 module _ (level depth used : ℕ) where
   -- a cell with its init
   pub cell_settles : (at : Span) (held : Expression) (middle : List Leaf) (init : Constant) (last before after : List Leaf) → IsAtLevel both_limits primary_level depth held middle → IsInit init last

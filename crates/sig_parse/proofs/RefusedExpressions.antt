@@ -1,5 +1,5 @@
 -- Refusals of the parts of expressions, where the parser stands.
-use Rattle.std.proofs.Common.{◌≡◌, ◌++◌, ◌+◌, ◌≤◌, ◌<◌, ℕ, suc, List, [], ◌∷◌, codes, Option, true, false, inl, inr, ◌⊎◌, refl, sym, ap, ◌∙◌, subst, append_assoc, arith}
+use Rattle.std.proofs.Common.{◌≡◌, ◌++◌, ◌+◌, ◌≤◌, ◌<◌, ℕ, suc, List, [], ◌∷◌, codes, Option, inl, inr, ◌⊎◌, refl, sym, ap, ◌∙◌, subst, append_assoc, arith}
 use Rattle.std.proofs.lemmas.List.{append-nil, append_cancel_right}
 use Rattle.sig_base.specs.declared.span.Span.{Span}
 use Rattle.sig_tree.specs.declared.expr.Constant.{Constant}
@@ -13,7 +13,7 @@ use Rattle.sig_tree.specs.Levels.{default_level, mixed_level, relation_level, de
 use Rattle.sig_tree.specs.Limits.{Limits, both_limits, operators}
 use Rattle.sig_tree.specs.Expressions.{IsInit, IsOptionalInit, IsOptionalOne, IsAtLevel}
 use Rattle.sig_tree.specs.Readings.{StopsBefore}
-use Rattle.sig_tree.specs.Beginning.{StartsWith, BeginsName, BeginsExpression}
+use Rattle.sig_tree.specs.Beginning.{StartsWith, BeginsExpression}
 use Rattle.sig_tree.specs.Continuing.{IsInfix as StandsBehind, ContinuesNothing, ContinuesInit, ContinuesExpression}
 use Rattle.sig_tree.specs.Spines.{IsAtom, IsOperand, WithOperand, WithCell, WithDelay, IsStep, AreSoMany}
 use Rattle.sig_tree.proofs.Stopping.{stops_smaller}
@@ -27,7 +27,7 @@ use Rattle.sig_parse.specs.declared.operator.Infix.TheVariants.{Binary, Cell, De
 use Rattle.sig_parse.specs.State.{State}
 use Rattle.sig_parse.specs.Reads.{Reads, Shorter, IsLeaf}
 use Rattle.sig_parse.specs.Refusals.{Wrong, TooDeep, TooMany, cause_of, Refuses}
-use Rattle.sig_parse.specs.Stalls.{IsOfText}
+use Rattle.sig_parse.specs.Refusals.{IsOfText}
 use Rattle.sig_parse.specs.Settling.{Settles}
 use Rattle.sig_parse.specs.Languages.{InLeaf, InInit, InOptionalInit, InOptionalOne, InLevel, InOperand, InStep, InSteps}
 use Rattle.sig_parse.specs.Operators.{level_number, first_level, infix_terminal, infix_level, IsOperatorOf, ContinuesStep, BeginsAtom, IsTighter, ReadsStep}
@@ -239,16 +239,6 @@ no_beginning (l ∷ here) no_clock no_opening no_atom = go where
 pub no_atom_here : (depth used : ℕ) (here : List Leaf) → used ≤ 512 → StopsBefore (λ t. t ≡ mark (codes "^")) here → StopsBefore (λ t. t ≡ mark (codes "(")) here → StopsBefore BeginsAtom here
     → Refuses (InOperand primary_level depth used) (ContinuesExpression (suc primary_level)) Wrong here here
 no_atom_here depth used here few no_clock no_opening no_atom = atom_refused depth used few here (no_beginning here no_clock no_opening no_atom)
-
-pub no_atom_begins : (here : List Leaf) → StopsBefore (λ t. (n : ℕ) × (t ≡ number n)) here → StopsBefore (λ t. t ≡ word (codes "true")) here → StopsBefore (λ t. t ≡ word (codes "false")) here
-    → StopsBefore BeginsName here → StopsBefore BeginsAtom here
-no_atom_begins [] no_number no_true no_false no_name = tt
-no_atom_begins (l ∷ here) no_number no_true no_false no_name = go where
-  go : BeginsAtom l.terminal → ⊥
-  go (inl digits) = no_number digits
-  go (inr (inl (true, e))) = no_true e
-  go (inr (inl (false, e))) = no_false e
-  go (inr (inr is_name)) = no_name is_name
 
 pub opening_too_deep : (depth used : ℕ) (here : List Leaf) → 64 ≤ depth → used ≤ 512 → StartsWith (λ t. t ≡ mark (codes "(")) here
     → Refuses (InOperand primary_level depth used) (ContinuesExpression (suc primary_level)) TooDeep here here

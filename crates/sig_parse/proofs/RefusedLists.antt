@@ -1,6 +1,6 @@
 -- What is refused of lists with separators, and of what stands in brackets, from what is refused of their
 -- parts.
-use Rattle.std.proofs.Common.{◌≡◌, ◌++◌, ◌+◌, ◌≤◌, ℕ, List, [], ◌∷◌, inl, inr, refl, sym, ap, ◌∙◌, subst, append_assoc, arith}
+use Rattle.std.proofs.Common.{◌≡◌, ◌++◌, ◌+◌, ◌≤◌, ℕ, List, [], ◌∷◌, inr, refl, sym, ap, ◌∙◌, subst, append_assoc, arith}
 use Rattle.std.proofs.lemmas.List.{append-nil}
 use Rattle.sig_base.specs.declared.span.Span.{Span}
 use Rattle.sig_tree.specs.Terminals.{Terminal, Leaf, leaf}
@@ -14,7 +14,7 @@ use Rattle.sig_tree.proofs.Combining.{cons_same, append_to, part_at}
 use Rattle.sig_tree.proofs.ReadEquations.{stops_nothing}
 use Rattle.sig_parse.specs.Refusals.{Cause, Refuses}
 use Rattle.sig_parse.specs.Languages.{InLeaf, InOne, counted}
-use Rattle.sig_parse.proofs.Refusing.{SameFirst, first_stops, refuses_inside, refuses_first}
+use Rattle.sig_parse.proofs.Refusing.{first_stops, refuses_inside, refuses_first}
 use Rattle.sig_parse.proofs.RefusedLevels.{fewer}
 
 -- leaves and the one that closes them
@@ -93,91 +93,3 @@ module _ {A : Type 0} (Is : Limits → A → List Leaf → Type 0) (count : A �
       go limits whole back [] are fits stops = absurd are
       go limits whole back (x ∷ xs) (first, rest, e, is, are) fits stops =
           (first, rest ++ back, append_to whole first rest back e, (x, is, fewer limits (used + count x) (used + counted count (x ∷ xs)) (omega arith) fits), more_stops limits xs rest back are (item_stops back stops))
-
-  -- what stands behind it
-  pub list_from_more : (x : A) (front : List Leaf) → Is both_limits x front → (cause : Cause) (here after : List Leaf) → StopsBefore Continues here
-      → Refuses (InOne (More_of Is separator) (counted count) (used + count x)) (ContinuesList separator Continues) cause here after
-      → Refuses (InOne (List_of Is separator) (counted count) used) (ContinuesList separator Continues) cause (front ++ here) after
-  list_from_more x front is_x cause here after stopped r =
-      refuses_inside (InOne (More_of Is separator) (counted count) (used + count x)) (InOne (List_of Is separator) (counted count) used) front []
-      (λ limits leaves is. (
-        x ∷ is.0,
-        (front, leaves ++ [], refl, within limits x front is_x, subst (λ (l : List Leaf). Further (Is limits) separator is.0 l) (sym (append-nil leaves)) is.1),
-        fewer limits (used + counted count (x ∷ is.0)) (used + count x + counted count is.0) (omega arith) is.2,
-      ))
-      (ContinuesList separator Continues) (ContinuesList separator Continues) cause here after
-      (λ limits rest whole back e is stops same. go limits rest whole back e is.0 is.1 is.2 stops same) r
-    where
-      go : (limits : Limits) (rest whole back : List Leaf) → front ++ rest ≡ whole ++ back → (xs : List A) → Separated (Is limits) separator xs whole → MayHave limits (used + counted count xs) → StopsBefore (ContinuesList separator Continues) back
-          → SameFirst here rest → (part other : List Leaf) × (rest ≡ part ++ other) × InOne (More_of Is separator) (counted count) (used + count x) limits part × StopsBefore (ContinuesList separator Continues) other
-      go limits rest whole back e [] are fits stops same = absurd are
-      go limits rest whole back e (y ∷ ys) (first, others, f, is, are) fits stops same =
-          let part = part_at (Is no_limits) Continues x (once x) y front first rest (others ++ back) (e ∙ append_to whole first others back f) (free both_limits x front is_x) (free limits y first is)
-          (first_stops Continues here rest same stopped) (more_stops limits ys others back are (item_stops back stops)) in
-          (others, back, part.2, (ys, are, fewer limits (used + count x + counted count ys) (used + counted count (y ∷ ys)) (omega (arith, ap count part.0)) fits), stops)
-
-  -- leaves that go on with a separator are no empty list of further items
-  some_more : (at : Span) (more back : List Leaf) → leaf separator at ∷ more ≡ back → StopsBefore (ContinuesList separator Continues) back → ⊥
-  some_more at more back e stops = (subst (λ (l : List Leaf). StopsBefore (ContinuesList separator Continues) l) (sym e) stops) (inl refl)
-
-  -- an item behind a separator
-  pub more_from_item : (at : Span) (cause : Cause) (here after : List Leaf) → Refuses (InOne Is count used) Continues cause here after
-      → Refuses (InOne (More_of Is separator) (counted count) used) (ContinuesList separator Continues) cause (leaf separator at ∷ here) after
-  more_from_item at cause here after r =
-      refuses_inside (InOne Is count used) (InOne (More_of Is separator) (counted count) used) (leaf separator at ∷ []) []
-      (λ limits leaves is. (is.0 ∷ [], (at, leaves, [], refl, is.1, refl), fewer limits (used + counted count (is.0 ∷ [])) (used + count is.0) (omega arith) is.2))
-      Continues (ContinuesList separator Continues) cause here after
-      (λ limits rest whole back e is stops same. go limits rest whole back e is.0 is.1 is.2 stops) r
-    where
-      go : (limits : Limits) (rest whole back : List Leaf) → leaf separator at ∷ rest ≡ whole ++ back → (xs : List A) → Further (Is limits) separator xs whole → MayHave limits (used + counted count xs) → StopsBefore (ContinuesList separator Continues) back
-          → (part other : List Leaf) × (rest ≡ part ++ other) × InOne Is count used limits part × StopsBefore Continues other
-      go limits rest whole back e [] f fits stops = absurd (some_more at rest back (e ∙ ap (λ l. l ++ back) f) stops)
-      go limits rest whole back e (x ∷ xs) (place, first, others, f, is, are) fits stops =
-          let heads = cons_same (leaf separator at) (leaf separator place) rest (first ++ (others ++ back)) (e ∙ append_to whole (leaf separator place ∷ first) others back f) in
-          (first, others ++ back, heads.1, (x, is, fewer limits (used + count x) (used + counted count (x ∷ xs)) (omega arith) fits), more_stops limits xs others back are (item_stops back stops))
-
-  -- what stands behind it
-  pub more_from_more : (at : Span) (x : A) (front : List Leaf) → Is both_limits x front → (cause : Cause) (here after : List Leaf) → StopsBefore Continues here
-      → Refuses (InOne (More_of Is separator) (counted count) (used + count x)) (ContinuesList separator Continues) cause here after
-      → Refuses (InOne (More_of Is separator) (counted count) used) (ContinuesList separator Continues) cause ((leaf separator at ∷ front) ++ here) after
-  more_from_more at x front is_x cause here after stopped r =
-      refuses_inside (InOne (More_of Is separator) (counted count) (used + count x)) (InOne (More_of Is separator) (counted count) used) (leaf separator at ∷ front) []
-      (λ limits leaves is. (
-        x ∷ is.0,
-        (at, front, leaves ++ [], refl, within limits x front is_x, subst (λ (l : List Leaf). Further (Is limits) separator is.0 l) (sym (append-nil leaves)) is.1),
-        fewer limits (used + counted count (x ∷ is.0)) (used + count x + counted count is.0) (omega arith) is.2,
-      ))
-      (ContinuesList separator Continues) (ContinuesList separator Continues) cause here after
-      (λ limits rest whole back e is stops same. go limits rest whole back e is.0 is.1 is.2 stops same) r
-    where
-      go : (limits : Limits) (rest whole back : List Leaf) → (leaf separator at ∷ front) ++ rest ≡ whole ++ back → (xs : List A) → Further (Is limits) separator xs whole → MayHave limits (used + counted count xs) → StopsBefore (ContinuesList separator Continues) back
-          → SameFirst here rest → (part other : List Leaf) × (rest ≡ part ++ other) × InOne (More_of Is separator) (counted count) (used + count x) limits part × StopsBefore (ContinuesList separator Continues) other
-      go limits rest whole back e [] f fits stops same = absurd (some_more at (front ++ rest) back (e ∙ ap (λ l. l ++ back) f) stops)
-      go limits rest whole back e (y ∷ ys) (place, first, others, f, is, are) fits stops same =
-          let heads = cons_same (leaf separator at) (leaf separator place) (front ++ rest) (first ++ (others ++ back)) (e ∙ append_to whole (leaf separator place ∷ first) others back f) in
-          let part = part_at (Is no_limits) Continues x (once x) y front first rest (others ++ back) heads.1 (free both_limits x front is_x) (free limits y first is)
-          (first_stops Continues here rest same stopped) (more_stops limits ys others back are (item_stops back stops)) in
-          (others, back, part.2, (ys, are, fewer limits (used + count x + counted count ys) (used + counted count (y ∷ ys)) (omega (arith, ap count part.0)) fits), stops)
-
-  -- A list that may be empty, up to what closes it, where that is not next.
-  module _ (closing : Terminal) (ends : ContinuesList separator Continues closing → ⊥) where
-    pub any_from_list : (cause : Cause) (here after : List Leaf) → StopsBefore (λ t. t ≡ closing) here → Refuses (InOne (Closed (List_of Is separator) closing) (counted count) used) ContinuesNothing cause here after
-        → Refuses (InOne (Closed (Any_of Is separator) closing) (counted count) used) ContinuesNothing cause here after
-    any_from_list cause here after open_here r =
-        refuses_first (InOne (Closed (List_of Is separator) closing) (counted count) used) (InOne (Closed (Any_of Is separator) closing) (counted count) used) []
-        (λ limits leaves is. (is.0, (is.1.0, is.1.1, append-nil leaves ∙ is.1.2, any is.0 limits is.1.1 is.1.3), is.2))
-        ContinuesNothing ContinuesNothing cause here after
-        (λ limits whole back is stops same. (whole, back, refl, (is.0, (is.1.0, is.1.1, is.1.2, some is.0 limits whole back is.1.0 is.1.1 is.1.2 is.1.3 same), is.2), stops)) r
-      where
-        any : (xs : List A) (limits : Limits) (leaves : List Leaf) → Separated (Is limits) separator xs leaves → Listed (Is limits) separator xs leaves
-        any [] limits leaves are = absurd are
-        any (x ∷ xs) limits leaves are = are
-
-        closing_first : (here : List Leaf) (at : Span) (back : List Leaf) → StopsBefore (λ t. t ≡ closing) here → SameFirst here (leaf closing at ∷ back) → ⊥
-        closing_first [] at back stops same = same
-        closing_first (l ∷ here) at back stops same = stops (ap (λ m. m.terminal) same)
-
-        some : (xs : List A) (limits : Limits) (whole back : List Leaf) (at : Span) (inside : List Leaf) → whole ≡ inside ++ leaf closing at ∷ [] → Listed (Is limits) separator xs inside → SameFirst here (whole ++ back) → Separated (Is limits) separator xs inside
-        some [] limits whole back at inside e f same =
-            absurd (closing_first here at back open_here (subst (λ (l : List Leaf). SameFirst here l) (ap (λ l. l ++ back) e ∙ ap (λ l. (l ++ leaf closing at ∷ []) ++ back) f) same))
-        some (x ∷ xs) limits whole back at inside e are same = are

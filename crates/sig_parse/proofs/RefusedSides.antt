@@ -14,17 +14,16 @@ use Rattle.sig_tree.specs.Repeated.{Separated, Listed}
 use Rattle.sig_tree.specs.Expressions.{IsConstant, IsExpression}
 use Rattle.sig_tree.specs.Equations.{IsName, IsLeft, AreConstants, AreArguments, IsRight}
 use Rattle.sig_tree.specs.Readings.{StopsBefore}
-use Rattle.sig_tree.specs.Beginning.{StartsWith, BeginsLeft}
+use Rattle.sig_tree.specs.Beginning.{BeginsLeft}
 use Rattle.sig_tree.specs.Continuing.{ContinuesNothing, ContinuesOptional, ContinuesExpression, ContinuesDefinition}
 use Rattle.sig_tree.specs.Unplaced.{no_place}
 use Rattle.sig_tree.proofs.Stopping.{stops_smaller}
-use Rattle.sig_tree.proofs.Operators.{different}
 use Rattle.sig_tree.proofs.FirstLeaves.{left_begins}
-use Rattle.sig_tree.proofs.Combining.{cons_same, append_to, part_at, starts_apart}
-use Rattle.sig_tree.proofs.ReadEquations.{stops_nothing, name_no_mark, constants_once, call_or_expression, call_opens, Opens, opens_apart, named_alone}
+use Rattle.sig_tree.proofs.Combining.{cons_same, append_to, starts_apart}
+use Rattle.sig_tree.proofs.ReadEquations.{stops_nothing, name_no_mark, call_opens, Opens, opens_apart, named_alone}
 use Rattle.sig_parse.specs.Refusals.{Cause, Wrong, TooDeep, Refuses}
-use Rattle.sig_parse.specs.Languages.{InOne, counted, InLevel, InLeft, InConstants, InArguments, InRight}
-use Rattle.sig_parse.proofs.Refusing.{SameFirst, first_stops, refuses_inside, refuses_first, refuses_at_once}
+use Rattle.sig_parse.specs.Languages.{InOne, counted, InLevel, InLeft, InConstants, InRight}
+use Rattle.sig_parse.proofs.Refusing.{refuses_inside, refuses_first, refuses_at_once}
 use Rattle.sig_parse.proofs.RefusedConstants.{some_name, some_leaf}
 use Rattle.sig_parse.proofs.RefusedLevels.{fewer}
 use Rattle.sig_parse.proofs.RefusedLists.{Closed, List_of, Any_of}
@@ -143,49 +142,3 @@ module _ (depth used : ℕ) where
 
   some_arguments : (limits : Limits) → AreArguments limits depth [] (leaf (mark (codes "(")) no_place ∷ leaf (mark (codes ")")) no_place ∷ [])
   some_arguments limits = (no_place, no_place, [], refl, refl)
-
-  -- the constants of a call
-  pub right_from_constants : (n : Name) → used ≤ 512 → (opened : Span) (cause : Cause) (more after : List Leaf) → Refuses InConstants (ContinuesOptional (mark (codes "{"))) cause (leaf (mark (codes "{")) opened ∷ more) after
-      → Refuses (InRight depth used) ContinuesDefinition cause (name_leaf n ∷ leaf (mark (codes "{")) opened ∷ more) after
-  right_from_constants n few opened cause more after r =
-      refuses_inside InConstants (InRight depth used) (name_leaf n ∷ []) (leaf (mark (codes "(")) no_place ∷ leaf (mark (codes ")")) no_place ∷ [])
-      (λ limits leaves is. (Called n is.0 [], (leaves, leaf (mark (codes "(")) no_place ∷ leaf (mark (codes ")")) no_place ∷ [], refl, is.1, some_arguments limits), λ kept. omega arith))
-      (ContinuesOptional (mark (codes "{"))) ContinuesDefinition cause (leaf (mark (codes "{")) opened ∷ more) after
-      (λ limits rest whole back e is stops same. go limits rest whole back e is.0 is.1 stops same) r
-    where
-      opens : (rest : List Leaf) → SameFirst (leaf (mark (codes "{")) opened ∷ more) rest → StartsWith Opens rest
-      opens [] same = same
-      opens (l ∷ rest) same = inr (ap (λ m. m.terminal) (sym same))
-
-      go : (limits : Limits) (rest whole back : List Leaf) → name_leaf n ∷ rest ≡ whole ++ back → (right : RightSide) → IsRight limits depth right whole → StopsBefore ContinuesDefinition back
-          → SameFirst (leaf (mark (codes "{")) opened ∷ more) rest → (part other : List Leaf) × (rest ≡ part ++ other) × InConstants limits part × StopsBefore (ContinuesOptional (mark (codes "{"))) other
-      go limits rest whole back e (Computed x) is stops same =
-          absurd (call_or_expression limits depth x n whole back rest [] (sym e ∙ ap (λ l. name_leaf n ∷ l) (sym (append-nil rest))) is stops (opens rest same))
-      go limits rest whole back e (Called m constants arguments) (front, last, f, are_constants, (begun, closed, inside, g, are)) stops same =
-          let heads = cons_same (name_leaf n) (name_leaf m) rest (front ++ (last ++ back)) (e ∙ append_to whole (name_leaf m ∷ front) last back f) in
-          (front, last ++ back, heads.1, (constants, are_constants), subst (λ (l : List Leaf). StopsBefore (ContinuesOptional (mark (codes "{"))) (l ++ back)) (sym g) (different (mark (codes "(")) (mark (codes "{")) refl refl))
-
-  -- its arguments
-  pub right_from_arguments : (n : Name) (constants : List Constant) (front : List Leaf) → AreConstants constants front → (cause : Cause) (here after : List Leaf) → StopsBefore (ContinuesOptional (mark (codes "{"))) here
-      → ((rest : List Leaf) → SameFirst here rest → StartsWith Opens (front ++ rest)) → Refuses (InArguments depth used) ContinuesNothing cause here after
-      → Refuses (InRight depth used) ContinuesDefinition cause ((name_leaf n ∷ front) ++ here) after
-  right_from_arguments n constants front are cause here after stopped opens r =
-      refuses_inside (InArguments depth used) (InRight depth used) (name_leaf n ∷ front) []
-      (λ limits leaves is. (
-        Called n constants is.0,
-        (front, leaves ++ [], refl, are, subst (λ (l : List Leaf). AreArguments limits depth is.0 l) (sym (append-nil leaves)) is.1),
-        fewer limits (used + sum_by operators is.0) (used + counted operators is.0) (omega (arith, counted_sum is.0)) is.2,
-      ))
-      ContinuesNothing ContinuesDefinition cause here after
-      (λ limits rest whole back e is stops same. go limits rest whole back e is.0 is.1 is.2 stops same) r
-    where
-      go : (limits : Limits) (rest whole back : List Leaf) → (name_leaf n ∷ front) ++ rest ≡ whole ++ back → (right : RightSide) → IsRight limits depth right whole → MayHave limits (used + right_operators right) → StopsBefore ContinuesDefinition back
-          → SameFirst here rest → (part other : List Leaf) × (rest ≡ part ++ other) × InArguments depth used limits part × StopsBefore ContinuesNothing other
-      go limits rest whole back e (Computed x) is fits stops same =
-          absurd (call_or_expression limits depth x n whole back (front ++ rest) [] (sym e ∙ ap (λ l. name_leaf n ∷ l) (sym (append-nil (front ++ rest)))) is stops (opens rest same))
-      go limits rest whole back e (Called m others arguments) (first, last, f, are_others, (begun, closed, inside, g, are_arguments)) fits stops same =
-          let heads = cons_same (name_leaf n) (name_leaf m) (front ++ rest) (first ++ (last ++ back)) (e ∙ append_to whole (name_leaf m ∷ first) last back f) in
-          let part = part_at AreConstants (ContinuesOptional (mark (codes "{"))) constants (constants_once constants) others front first rest (last ++ back) heads.1 are are_others
-          (first_stops (ContinuesOptional (mark (codes "{"))) here rest same stopped)
-          (subst (λ (l : List Leaf). StopsBefore (ContinuesOptional (mark (codes "{"))) (l ++ back)) (sym g) (different (mark (codes "(")) (mark (codes "{")) refl refl)) in
-          (last, back, part.2, (arguments, (begun, closed, inside, g, are_arguments), fewer limits (used + counted operators arguments) (used + sum_by operators arguments) (omega (arith, counted_sum arguments)) fits), stops_nothing back)

@@ -1,17 +1,16 @@
 -- What the parts of the parser refuse: what an operator behind an operand takes.
-use Rattle.std.proofs.Common.{◌≡◌, ◌++◌, ◌+◌, ◌≤◌, ℕ, suc, List, [], ◌∷◌, codes, Option, None, Some, inl, inr, refl, sym, ap, ◌∙◌, subst, arith}
+use Rattle.std.proofs.Common.{◌≡◌, ◌++◌, ◌+◌, ◌≤◌, ℕ, suc, List, [], ◌∷◌, codes, refl, sym, ap, ◌∙◌, subst, arith}
 use Rattle.std.proofs.lemmas.List.{append-nil}
 use Rattle.sig_base.specs.declared.span.Span.{Span}
-use Rattle.sig_tree.specs.declared.expr.Constant.{Constant}
 use Rattle.sig_tree.specs.declared.expr.Constant.TheVariants.{Param}
 use Rattle.sig_tree.specs.declared.expr.BinOp.{BinOp}
 use Rattle.sig_tree.specs.Syntax.{Expression}
-use Rattle.sig_tree.specs.Terminals.{Terminal, Leaf, leaf, number, word, mark, binary_terminal}
-use Rattle.sig_tree.specs.Levels.{mixed_level, delay_level, primary_level, binary_level, right_level}
+use Rattle.sig_tree.specs.Terminals.{Terminal, Leaf, leaf, word, binary_terminal}
+use Rattle.sig_tree.specs.Levels.{mixed_level, primary_level, binary_level, right_level}
 use Rattle.sig_tree.specs.Limits.{Limits, both_limits, no_limits, MayHave, operators}
-use Rattle.sig_tree.specs.Expressions.{IsInit, IsOptionalInit, IsOptionalOne, IsAtLevel}
+use Rattle.sig_tree.specs.Expressions.{IsInit, IsAtLevel}
 use Rattle.sig_tree.specs.Readings.{StopsBefore}
-use Rattle.sig_tree.specs.Continuing.{ContinuesNothing, ContinuesInit, ContinuesExpression}
+use Rattle.sig_tree.specs.Continuing.{ContinuesNothing, ContinuesExpression}
 use Rattle.sig_tree.specs.Spines.{Step, WithOperand, WithCell, WithDelay, IsStep}
 use Rattle.sig_tree.specs.Unplaced.{no_place}
 use Rattle.sig_tree.proofs.Stopping.{stops_smaller}
@@ -22,8 +21,8 @@ use Rattle.sig_tree.proofs.Combining.{cons_same, append_to, part_at}
 use Rattle.sig_tree.proofs.ReadEquations.{stops_nothing}
 use Rattle.sig_tree.proofs.ReadSpines.{infix_same, infix_of_step, step_seen, primary_ends}
 use Rattle.sig_parse.specs.Refusals.{Cause, Refuses}
-use Rattle.sig_parse.specs.Languages.{InInit, InOptionalInit, InLevel, InStep, step_operators}
-use Rattle.sig_parse.proofs.Refusing.{SameFirst, refuses_inside}
+use Rattle.sig_parse.specs.Languages.{InInit, InLevel, InStep, step_operators}
+use Rattle.sig_parse.proofs.Refusing.{refuses_inside}
 use Rattle.sig_parse.proofs.RefusedConstants.{some_name, some_leaf}
 use Rattle.sig_parse.proofs.RefusedLevels.{fewer}
 
@@ -123,48 +122,3 @@ module _ (level depth used : ℕ) where
           (last, back, part.2, (init, is_init), stops_nothing back)
       go limits rest whole back e (WithOperand other right place) is = absurd (two_no_cell other (sym (step_operator OfCell at limits (front ++ rest) whole back e (WithOperand other right place) is)))
       go limits rest whole back e (WithDelay init place) is = absurd (cell_no_delay (step_operator OfCell at limits (front ++ rest) whole back e (WithDelay init place) is))
-
-  -- the init of a delay, where "init" is next
-  pub step_delay : (at place : Span) → delay_level ≡ level → (one : List Leaf) → IsOptionalOne one → suc used ≤ 512 → (cause : Cause) (more after : List Leaf)
-      → Refuses InOptionalInit ContinuesInit cause (leaf (word (codes "init")) place ∷ more) after
-      → Refuses (InStep level depth used) (Tighter level) cause ((leaf (mark (codes "$")) at ∷ one) ++ leaf (word (codes "init")) place ∷ more) after
-  step_delay at place own one is_one few cause more after r =
-      refuses_inside InOptionalInit (InStep level depth used) (leaf (mark (codes "$")) at ∷ one) []
-      (λ limits leaves is. (WithDelay is.0 at, (one, leaves ++ [], own, refl, is_one, subst (λ (l : List Leaf). IsOptionalInit is.0 l) (sym (append-nil leaves)) is.1), λ kept. omega arith))
-      ContinuesInit (Tighter level) cause (leaf (word (codes "init")) place ∷ more) after
-      (λ limits rest whole back e is stops same. go limits rest whole back e is.0 is.1 stops same) r
-    where
-      init_first : (rest : List Leaf) (n : ℕ) (where_one : Span) (behind : List Leaf) → SameFirst (leaf (word (codes "init")) place ∷ more) rest → rest ≡ leaf (number n) where_one ∷ behind → ⊥
-      init_first rest n where_one behind same e =
-          let heads : leaf (word (codes "init")) place ≡ leaf (number n) where_one = subst (λ (l : List Leaf). SameFirst (leaf (word (codes "init")) place ∷ more) l) e same in
-          let terminals : word (codes "init") ≡ number n = ap (λ l. l.terminal) heads in
-          cc
-
-      one_first : (init : Option Constant) (last back : List Leaf) (where_one : Span) (behind : List Leaf) → IsOptionalInit init last → leaf (number 1) where_one ∷ behind ≡ last ++ back → StopsBefore (Tighter level) back → ⊥
-      one_first None last back where_one behind f e stops =
-          (subst (λ (l : List Leaf). StopsBefore (Tighter level) l) (ap (λ l. l ++ back) (sym f) ∙ sym e) stops) (inr (omega arith, inl refl))
-      one_first (Some c) last back where_one behind (init_at, constant, f, is) e stops =
-          let heads = cons_same _ _ _ _ (e ∙ ap (λ l. l ++ back) f) in
-          let terminals : number 1 ≡ word (codes "init") = ap (λ l. l.terminal) heads.0 in
-          cc
-
-      looser : (back : List Leaf) → StopsBefore (Tighter level) back → StopsBefore ContinuesInit back
-      looser back stops = stops_smaller (Tighter level) ContinuesInit (λ t e. inr (omega arith, inr e)) back stops
-
-      behind_one : (rest one other_one last back : List Leaf) (init : Option Constant) → one ++ rest ≡ other_one ++ (last ++ back) → IsOptionalOne one → IsOptionalOne other_one → IsOptionalInit init last
-          → StopsBefore (Tighter level) back → SameFirst (leaf (word (codes "init")) place ∷ more) rest → rest ≡ last ++ back
-      behind_one rest one other_one last back init e (inl f) (inl g) is stops same = ap (λ l. l ++ rest) (sym f) ∙ e ∙ ap (λ l. l ++ (last ++ back)) g
-      behind_one rest one other_one last back init e (inl f) (inr (there, g)) is stops same =
-          absurd (init_first rest 1 there (last ++ back) same (ap (λ l. l ++ rest) (sym f) ∙ e ∙ ap (λ l. l ++ (last ++ back)) g))
-      behind_one rest one other_one last back init e (inr (there, f)) (inl g) is stops same =
-          absurd (one_first init last back there rest is (ap (λ l. l ++ rest) (sym f) ∙ e ∙ ap (λ l. l ++ (last ++ back)) g) stops)
-      behind_one rest one other_one last back init e (inr (there, f)) (inr (other_there, g)) is stops same =
-          (cons_same (leaf (number 1) there) (leaf (number 1) other_there) rest (last ++ back) (ap (λ l. l ++ rest) (sym f) ∙ e ∙ ap (λ l. l ++ (last ++ back)) g)).1
-
-      go : (limits : Limits) (rest whole back : List Leaf) → (leaf (mark (codes "$")) at ∷ one) ++ rest ≡ whole ++ back → (s : Step) → IsStep limits level depth s whole → StopsBefore (Tighter level) back
-          → SameFirst (leaf (word (codes "init")) place ∷ more) rest → (part other : List Leaf) × (rest ≡ part ++ other) × InOptionalInit limits part × StopsBefore ContinuesInit other
-      go limits rest whole back e (WithDelay init other_at) (other_one, last, other_own, f, is_other_one, is_init) stops same =
-          let heads = cons_same (leaf (mark (codes "$")) at) (leaf (mark (codes "$")) other_at) (one ++ rest) (other_one ++ (last ++ back)) (e ∙ append_to whole (leaf (mark (codes "$")) other_at ∷ other_one) last back f) in
-          (last, back, behind_one rest one other_one last back init heads.1 is_one is_other_one is_init stops same, (init, is_init), looser back stops)
-      go limits rest whole back e (WithOperand other right there) is stops same = absurd (two_no_delay other (sym (step_operator OfDelay at limits (one ++ rest) whole back e (WithOperand other right there) is)))
-      go limits rest whole back e (WithCell held init there) is stops same = absurd (cell_no_delay (sym (step_operator OfDelay at limits (one ++ rest) whole back e (WithCell held init there) is)))

@@ -1,26 +1,18 @@
--- The refusal of a text.
-use Rattle.std.proofs.Common.{◌≡◌, ◌∙◌, sym, List}
+-- The refusal of a text stands behind leaves with which some program begins.
+use Rattle.std.proofs.Common.{sym, subst, List, inl, inr}
 use Rattle.sig_base.specs.declared.span.Span.{Span}
 use Rattle.sig_tree.specs.Terminals.{Leaf}
-use Rattle.sig_tree.specs.Grammar.{HasTree}
-use Rattle.sig_parse.specs.declared.refusal.Refusal.{Refusal}
-use Rattle.sig_parse.specs.declared.refusal.Refusal.TheVariants.{Syntax, Nesting, Operators, OutOfMemory}
-use Rattle.sig_parse.specs.State.{State}
-use Rattle.sig_parse.specs.Stalls.{IsOfText, Some, Halts}
-use Rattle.sig_parse.specs.Refused.{place_of, answer_of, StandsBehind, IsRefusal}
+use Rattle.sig_parse.specs.declared.parse_answer.ParseAnswer.{ParseAnswer}
+use Rattle.sig_parse.specs.Refusals.{Cause, Wrong, TooDeep, TooMany}
+use Rattle.sig_parse.specs.Refused.{StandsBehind, IsRefusal}
+use Rattle.sig_parse.specs.Exact.{IsAnswerOf, answer_for}
 
-stands : (leaves : List Leaf) (end at : Span) {s t : State} → s.leaves ≡ leaves → at ≡ place_of t.leaves end → Halts (Some (λ processes ls. HasTree ls processes)) s t → StandsBehind leaves end at
-stands leaves end at {t = t} whole place h = record {
-  passed = h.passed;
-  after = t.leaves;
-  split = sym whole ∙ h.split;
-  place = place;
-  begins = (h.done, h.is.0, h.is.1);
-}
+behind : (leaves : List Leaf) (end : Span) (cause : Cause) (at : Span) → StandsBehind leaves end at → IsRefusal leaves end (answer_for cause at)
+behind leaves end Wrong at s = s
+behind leaves end TooDeep at s = s
+behind leaves end TooMany at s = s
 
-pub refused : (leaves : List Leaf) (end at : Span) (why : Refusal) {s t : State} → s.leaves ≡ leaves → at ≡ place_of t.leaves end
-    → (IsOfText why → Halts (Some (λ processes ls. HasTree ls processes)) s t) → IsRefusal leaves end (answer_of why at)
-refused leaves end at Syntax whole place h = stands leaves end at whole place (h (λ e. cc))
-refused leaves end at Nesting whole place h = stands leaves end at whole place (h (λ e. cc))
-refused leaves end at Operators whole place h = stands leaves end at whole place (h (λ e. cc))
-refused leaves end at OutOfMemory whole place h = tt
+pub stands_behind : (leaves : List Leaf) (end : Span) (answer : ParseAnswer) → IsAnswerOf leaves end answer → IsRefusal leaves end answer
+stands_behind leaves end answer (inl memory) = subst (λ (a : ParseAnswer). IsRefusal leaves end a) (sym memory) tt
+stands_behind leaves end answer (inr (cause, at, same, r)) = subst (λ (a : ParseAnswer). IsRefusal leaves end a) (sym same)
+    (behind leaves end cause at (record { passed = r.passed; after = r.after; split = r.split; place = r.place; begins = r.begins }))

@@ -1,14 +1,8 @@
 -- A refusal that is handed on.
-use Rattle.std.proofs.Common.{◌≡◌, ◌∙◌, sym, subst, Result, Ok, Err, IfErr}
-use Rattle.std.specs.Prelude.{OnErr}
+use Rattle.std.proofs.Common.{◌≡◌, sym, subst, Result, Ok, Err, IfErr}
 use Rattle.std.specs.Result.{IsErr, IsErrAnd}
 use Rattle.sig_parse.specs.declared.refusal.Refusal.{Refusal}
-use Rattle.sig_parse.specs.Stalls.{IsOfText}
-
--- the same refusal
-pub relayed : {T P : Type 0} (r : Result T Refusal) (e : Refusal) → IsErr r × IsErrAnd r (λ f. f ≡ e) → (IsOfText e → P) → IfErr r (λ why. IsOfText why → P)
-relayed (Ok x) e h p = tt
-relayed (Err f) e h p = λ text. p (λ same. text (h.1 ∙ same))
+use Rattle.sig_parse.specs.Refusals.{IsOfText}
 
 -- and what is said of it
 pub handed : {T : Type 0} (P : Refusal → Type 0) (r : Result T Refusal) (e : Refusal) → IsErr r × IsErrAnd r (λ f. f ≡ e) → P e → IfErr r P
@@ -28,12 +22,3 @@ since_both P O Q (Err e) h g f = f e h g
 pub whatever : {T P : Type 0} (r : Result T Refusal) → P → IfErr r (λ why. IsOfText why → P)
 whatever (Ok x) p = tt
 whatever (Err e) p = λ text. p
-
--- one thing and what follows from it
-pub since_stays : {T E P : Type 0} (r : Result T Refusal) → OnErr r E → (E → P) → IfErr r (λ why. IsOfText why → P)
-since_stays (Ok x) h p = tt
-since_stays (Err e) h p = λ text. p h
-
-pub since : {T E P : Type 0} (r : Result T Refusal) → IfErr r (λ why. IsOfText why → E) → (E → P) → IfErr r (λ why. IsOfText why → P)
-since (Ok x) h p = tt
-since (Err e) h p = λ text. p (h text)

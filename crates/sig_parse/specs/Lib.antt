@@ -11,7 +11,6 @@ pub mod Refused
 pub mod Rules
 pub mod Seen
 pub mod Splitting
-pub mod Stalls
 pub mod State
 pub mod Parts
 pub mod Settling

@@ -1,12 +1,11 @@
 -- Why a part of the parser refuses a token, in the terms of the grammar.
-use Rattle.std.specs.Prelude.{◌≡◌, ◌++◌, List, [], ◌∷◌}
+use Rattle.std.specs.Prelude.{◌≡◌, ◌≢◌, ◌++◌, List, [], ◌∷◌}
 use Rattle.sig_tree.specs.Terminals.{Terminal, Leaf}
 use Rattle.sig_tree.specs.Limits.{Limits, both_limits, nesting_limit, no_limits}
 use Rattle.sig_tree.specs.Readings.{StopsBefore}
 use Rattle.sig_parse.specs.declared.refusal.Refusal.{Refusal}
 use Rattle.sig_parse.specs.declared.refusal.Refusal.TheVariants.{Syntax, Nesting, Operators, OutOfMemory}
 use Rattle.sig_parse.specs.State.{State}
-use Rattle.sig_parse.specs.Stalls.{IsOfText}
 
 -- The token is wrong, as nothing of the grammar begins with the tokens up to it, or it stands too deep,
 -- or it is one operator too many.
@@ -15,6 +14,11 @@ pub data Cause : Type 0 where
   TooDeep : Cause
   TooMany : Cause
 
+-- it is no want of memory
+abbrev pub IsOfText : Refusal → Type 0
+IsOfText why = why ≢ OutOfMemory
+
+-- the cause of a refusal
 abbrev pub cause_of : Refusal → Cause
 cause_of Syntax = Wrong
 cause_of Nesting = TooDeep

@@ -14,7 +14,7 @@ ghost use Rattle.sig_parse.specs.Parts.{InBody, InBodies};
 ghost use Rattle.sig_parse.specs.Reads.{Covers};
 ghost use Rattle.sig_parse.specs.Refusals.{RefusedBy};
 ghost use Rattle.sig_parse.specs.Settling.{Settles, Closes};
-ghost use Rattle.sig_parse.specs.Stalls.{IsOfText, Some, Halts};
+ghost use Rattle.sig_parse.specs.Refusals.{IsOfText};
 
 use crate::ahead::begins_definition;
 use crate::expression::expression;
@@ -28,7 +28,6 @@ use std::alloc::Global;
 /// A definition: a left side, `:=` and a right side.
 fn definition(alloc: Global, parser: &mut Parser, depth: u32) -> Result<Body, Refusal>
     ensures reads { IfOk result (λ body. Covers (IsBody both_limits (equations_of body) depth) parser.old parser.new) }
-    ensures viable { IfErr result (λ why. IsOfText why → Halts (Some (λ body leaves. IsBody both_limits body depth leaves)) parser.old parser.new) }
     ensures settles { OnOk result (Settles (InDefinition depth) ContinuesDefinition parser.old.leaves parser.new.leaves) }
     ensures refuses { IfErr result (RefusedBy (InDefinition depth) ContinuesDefinition parser.old parser.new) }
 {
@@ -42,7 +41,6 @@ fn definition(alloc: Global, parser: &mut Parser, depth: u32) -> Result<Body, Re
 /// A clock equation: two or more expressions with `^=` between them.
 fn clock_equation(alloc: Global, parser: &mut Parser, depth: u32) -> Result<Body, Refusal>
     ensures reads { IfOk result (λ body. Covers (IsBody both_limits (equations_of body) depth) parser.old parser.new) }
-    ensures viable { IfErr result (λ why. IsOfText why → Halts (Some (λ body leaves. IsBody both_limits body depth leaves)) parser.old parser.new) }
     ensures settles { OnOk result (Settles (InClockEquation depth) ContinuesClockEquation parser.old.leaves parser.new.leaves) }
     ensures refuses { IfErr result (RefusedBy (InClockEquation depth) ContinuesClockEquation parser.old parser.new) }
 {
@@ -54,7 +52,6 @@ fn clock_equation(alloc: Global, parser: &mut Parser, depth: u32) -> Result<Body
 fn operands(alloc: Global, parser: &mut Parser, depth: u32) -> Result<Vec<Expr>, Refusal>
     requires { parser.old.operators ≡ 0 }
     ensures reads { IfOk result (λ operands. Covers (IsClockEquation both_limits depth (map expression_of operands.items)) parser.old parser.new) }
-    ensures viable { IfErr result (λ why. IsOfText why → Halts (Some (IsClockEquation both_limits depth)) parser.old parser.new) }
     ensures stops { OnOk result (StopsBefore ContinuesClockEquation parser.new.leaves) }
     ensures refuses { IfErr result (RefusedBy (InClockEquation depth) ContinuesClockEquation parser.old parser.new) }
 {
@@ -74,7 +71,6 @@ fn operands(alloc: Global, parser: &mut Parser, depth: u32) -> Result<Vec<Expr>,
 #[cycle(body)]
 pub fn body(alloc: Global, parser: &mut Parser, depth: u32) -> Result<Body, Refusal>
     ensures reads { IfOk result (λ body. Covers (IsBody both_limits (equations_of body) depth) parser.old parser.new) }
-    ensures viable { IfErr result (λ why. IsOfText why → Halts (Some (λ body leaves. IsBody both_limits body depth leaves)) parser.old parser.new) }
     ensures settles { OnOk result (Settles (InBody depth) ContinuesBody parser.old.leaves parser.new.leaves) }
     ensures refuses { IfErr result (RefusedBy (InBody depth) ContinuesBody parser.old parser.new) }
 {
@@ -92,7 +88,6 @@ pub fn body(alloc: Global, parser: &mut Parser, depth: u32) -> Result<Body, Refu
 fn together(alloc: Global, parser: &mut Parser, depth: u32) -> Result<Body, Refusal>
     requires opens { StartsWith (λ t. t ≡ mark (codes "(|")) parser.old.leaves }
     ensures reads { IfOk result (λ body. Covers (IsBody both_limits (equations_of body) depth) parser.old parser.new) }
-    ensures viable { IfErr result (λ why. IsOfText why → Halts (Some (λ body leaves. IsBody both_limits body depth leaves)) parser.old parser.new) }
     ensures settles { OnOk result (Settles (InBody depth) ContinuesBody parser.old.leaves parser.new.leaves) }
     ensures refuses { IfErr result (RefusedBy (InBody depth) ContinuesBody parser.old parser.new) }
 {
@@ -107,7 +102,6 @@ fn together(alloc: Global, parser: &mut Parser, depth: u32) -> Result<Body, Refu
 #[cycle(body)]
 fn bodies(alloc: Global, parser: &mut Parser, depth: u32) -> Result<Vec<Body>, Refusal>
     ensures reads { IfOk result (λ bodies. Covers (Listed (λ body leaves. IsBody both_limits body depth leaves) (mark (codes "|")) (map equations_of bodies.items)) parser.old parser.new) }
-    ensures viable { IfErr result (λ why. IsOfText why → Halts (Some (Listed (λ body leaves. IsBody both_limits body depth leaves) (mark (codes "|")))) parser.old parser.new) }
     // Where "|)" is not next, the next token is refused.
     ensures closes { OnOk result (Closes (InBodies depth) (mark (codes "|)")) parser.old.leaves parser.new.leaves) }
     ensures refuses { IfErr result (RefusedBy (InBodies depth) ContinuesNothing parser.old parser.new) }

@@ -4,7 +4,7 @@ ghost use Rattle.std.specs.Prelude.{◌∷◌, codes, IfOk, OnOk, ◌≡◌, IfE
 ghost use Rattle.sig_tree.specs.Terminals.{leaf, mark};
 ghost use Rattle.sig_tree.specs.Expressions.{IsConstant, IsInit, IsOptionalInit};
 ghost use Rattle.sig_parse.specs.Reads.{Reads, Shorter};
-ghost use Rattle.sig_parse.specs.Stalls.{IsOfText, Plain, Stalls};
+ghost use Rattle.sig_parse.specs.Refusals.{IsOfText};
 ghost use Rattle.sig_tree.specs.Continuing.{ContinuesNothing, ContinuesInit};
 ghost use Rattle.sig_parse.specs.Languages.{InNumber, InConstant, InInit, InOptionalInit};
 ghost use Rattle.sig_parse.specs.Refusals.{RefusedBy};
@@ -21,7 +21,6 @@ use std::alloc::Global;
 pub fn constant(alloc: Global, parser: &mut Parser) -> Result<Constant, Refusal>
     ensures reads { IfOk result (λ constant. Reads (IsConstant constant) 0 parser.old parser.new) }
     ensures shorter { OnOk result (Shorter parser.old parser.new) }
-    ensures viable { IfErr result (λ why. IsOfText why → Stalls (Plain IsConstant) parser.old parser.new) }
     ensures refuses { IfErr result (RefusedBy InConstant ContinuesNothing parser.old parser.new) }
 {
     if let Some((number, at)) = parser.take_number() {
@@ -55,7 +54,6 @@ fn negative(parser: &mut Parser, at: Span) -> Result<Constant, Refusal>
 pub fn init(alloc: Global, parser: &mut Parser) -> Result<Constant, Refusal>
     ensures reads { IfOk result (λ constant. Reads (IsInit constant) 0 parser.old parser.new) }
     ensures shorter { OnOk result (Shorter parser.old parser.new) }
-    ensures viable { IfErr result (λ why. IsOfText why → Stalls (Plain IsInit) parser.old parser.new) }
     ensures refuses { IfErr result (RefusedBy InInit ContinuesNothing parser.old parser.new) }
 {
     let _at = parser.expect(Keyword::Init)?;
@@ -65,7 +63,6 @@ pub fn init(alloc: Global, parser: &mut Parser) -> Result<Constant, Refusal>
 /// `init` and a constant, where `init` is next.
 pub fn optional_init(alloc: Global, parser: &mut Parser) -> Result<Option<Constant>, Refusal>
     ensures reads { IfOk result (λ constant. Reads (IsOptionalInit constant) 0 parser.old parser.new) }
-    ensures viable { IfErr result (λ why. IsOfText why → Stalls (Plain IsOptionalInit) parser.old parser.new) }
     ensures settles { OnOk result (Settles InOptionalInit ContinuesInit parser.old.leaves parser.new.leaves) }
     ensures refuses { IfErr result (RefusedBy InOptionalInit ContinuesInit parser.old parser.new) }
 {

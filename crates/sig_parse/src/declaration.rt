@@ -13,7 +13,7 @@ ghost use Rattle.sig_parse.specs.Parts.{InKind, InItem, InItems, InGroup, InGrou
 ghost use Rattle.sig_parse.specs.Reads.{Reads, Shorter, IsLeaf};
 ghost use Rattle.sig_parse.specs.Refusals.{RefusedBy};
 ghost use Rattle.sig_parse.specs.Settling.{Settles, Closes};
-ghost use Rattle.sig_parse.specs.Stalls.{IsOfText, Plain, Stalls};
+ghost use Rattle.sig_parse.specs.Refusals.{IsOfText};
 
 use crate::constant::optional_init;
 use crate::keyword::Keyword;
@@ -54,7 +54,6 @@ fn kind(parser: &mut Parser, declares: Declares) -> Result<(Kind, Span), Refusal
 /// A name, with its init where it may have one and has.
 fn item(alloc: Global, parser: &mut Parser, declares: Declares) -> Result<Item, Refusal>
     ensures reads { IfOk result (λ item. Reads (IsItemOf declares item) 0 parser.old parser.new) }
-    ensures viable { IfErr result (λ why. IsOfText why → Stalls (Plain (IsItemOf declares)) parser.old parser.new) }
     ensures settles { OnOk result (Settles (InItem declares) (ContinuesItem declares) parser.old.leaves parser.new.leaves) }
     ensures refuses { IfErr result (RefusedBy (InItem declares) (ContinuesItem declares) parser.old parser.new) }
 {
@@ -70,7 +69,6 @@ fn item(alloc: Global, parser: &mut Parser, declares: Declares) -> Result<Item, 
 /// Items with `,` between them.
 fn items(alloc: Global, parser: &mut Parser, declares: Declares) -> Result<Vec<Item>, Refusal>
     ensures reads { IfOk result (λ items. Reads (Separated (IsItemOf declares) (mark (codes ",")) items.items) 0 parser.old parser.new) }
-    ensures viable { IfErr result (λ why. IsOfText why → Stalls (Plain (Separated (IsItemOf declares) (mark (codes ",")))) parser.old parser.new) }
     ensures settles { OnOk result (Settles (InItems declares) (ContinuesItems declares) parser.old.leaves parser.new.leaves) }
     ensures refuses { IfErr result (RefusedBy (InItems declares) (ContinuesItems declares) parser.old parser.new) }
 {
@@ -88,7 +86,6 @@ fn items(alloc: Global, parser: &mut Parser, declares: Declares) -> Result<Vec<I
 pub fn group(alloc: Global, parser: &mut Parser, declares: Declares) -> Result<Group, Refusal>
     ensures reads { IfOk result (λ group. Reads (IsGroupOf declares (declared_of group)) 0 parser.old parser.new) }
     ensures shorter { OnOk result (Shorter parser.old parser.new) }
-    ensures viable { IfErr result (λ why. IsOfText why → Stalls (Plain (IsGroupOf declares)) parser.old parser.new) }
     ensures settles { OnOk result (Settles (InGroup declares) (ContinuesItems declares) parser.old.leaves parser.new.leaves) }
     ensures refuses { IfErr result (RefusedBy (InGroup declares) (ContinuesItems declares) parser.old parser.new) }
 {
@@ -106,7 +103,6 @@ pub fn groups(
 ) -> Result<Vec<Group>, Refusal>
     requires ends { EndsGroups (terminal_of closing) }
     ensures reads { IfOk result (λ groups. Reads (AreGroups (IsGroupOf declares) (map declared_of groups.items)) 0 parser.old parser.new) }
-    ensures viable { IfErr result (λ why. IsOfText why → Stalls (Plain (AreGroups (IsGroupOf declares))) parser.old parser.new) }
     // Where the mark is not next, the next token is refused.
     ensures closes { OnOk result (Closes (InGroups declares (terminal_of closing)) (terminal_of closing) parser.old.leaves parser.new.leaves) }
     ensures refuses { IfErr result (RefusedBy (InGroups declares (terminal_of closing)) ContinuesNothing parser.old parser.new) }

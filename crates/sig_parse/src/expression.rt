@@ -13,7 +13,7 @@ ghost use Rattle.sig_tree.specs.Continuing.{ContinuesDelay, ContinuesExpression}
 ghost use Rattle.sig_tree.specs.Spines.{IsAtom, IsOperand};
 ghost use Rattle.sig_parse.specs.Operators.{level_number, first_level, infix_terminal, infix_level, IsOperator, IsOperatorOf, IsInfix, ContinuesStep, BeginsAtom, Completes, ReadsStep};
 ghost use Rattle.sig_parse.specs.Reads.{Reads, Shorter, IsLeaf};
-ghost use Rattle.sig_parse.specs.Stalls.{IsOfText, Counted, Stalls, StallsBehind};
+ghost use Rattle.sig_parse.specs.Refusals.{IsOfText};
 ghost use Rattle.sig_parse.specs.Languages.{InLevel, InOperand, InStep};
 ghost use Rattle.sig_parse.specs.Refusals.{cause_of, Refuses, RefusedBy};
 
@@ -32,7 +32,6 @@ use std::alloc::Global;
 pub fn expression(alloc: Global, parser: &mut Parser, depth: u32) -> Result<Expr, Refusal>
     ensures reads { IfOk result (λ e. Reads (IsExpression both_limits depth (expression_of e)) (operators (expression_of e)) parser.old parser.new) }
     ensures shorter { OnOk result (Shorter parser.old parser.new) }
-    ensures viable { IfErr result (λ why. IsOfText why → Stalls (Counted (λ e. IsExpression both_limits depth e) operators) parser.old parser.new) }
     ensures stops { OnOk result (StopsBefore (ContinuesExpression default_level) parser.new.leaves) }
     ensures refuses { IfErr result (λ why. parser.old.operators ≤ 512 → RefusedBy (InLevel default_level depth parser.old.operators) (ContinuesExpression default_level) parser.old parser.new why) }
 {
@@ -44,7 +43,6 @@ pub fn expression(alloc: Global, parser: &mut Parser, depth: u32) -> Result<Expr
 fn at_level(alloc: Global, parser: &mut Parser, level: Level, depth: u32) -> Result<Expr, Refusal>
     ensures reads { IfOk result (λ e. Reads (IsAtLevel both_limits (level_number level) depth (expression_of e)) (operators (expression_of e)) parser.old parser.new) }
     ensures shorter { OnOk result (Shorter parser.old parser.new) }
-    ensures viable { IfErr result (λ why. IsOfText why → Stalls (Counted (λ e. IsAtLevel both_limits (level_number level) depth e) operators) parser.old parser.new) }
     ensures stops { OnOk result (StopsBefore (ContinuesExpression (level_number level)) parser.new.leaves) }
     ensures refuses { IfErr result (λ why. parser.old.operators ≤ 512 → RefusedBy (InLevel (level_number level) depth parser.old.operators) (ContinuesExpression (level_number level)) parser.old parser.new why) }
 {
@@ -157,7 +155,6 @@ fn prefix(
 fn operand(alloc: Global, parser: &mut Parser, level: Level, depth: u32) -> Result<Expr, Refusal>
     ensures reads { IfOk result (λ e. Reads (IsAtLevel both_limits (first_level level) depth (expression_of e)) (operators (expression_of e)) parser.old parser.new) }
     ensures shorter { OnOk result (Shorter parser.old parser.new) }
-    ensures viable { IfErr result (λ why. IsOfText why → Stalls (Counted (λ e. IsAtLevel both_limits (first_level level) depth e) operators) parser.old parser.new) }
     ensures operand { IfOk result (λ e. Reads (IsOperand both_limits (level_number level) depth (expression_of e)) (operators (expression_of e)) parser.old parser.new) }
     ensures stops { OnOk result (StopsBefore (ContinuesExpression (suc (level_number level))) parser.new.leaves) }
     ensures refuses { IfErr result (λ why. parser.old.operators ≤ 512 → RefusedBy (InOperand (level_number level) depth parser.old.operators) (ContinuesExpression (suc (level_number level))) parser.old parser.new why) }
@@ -183,7 +180,6 @@ fn completed(
     depth: u32,
 ) -> Result<Expr, Refusal>
     ensures completes { IfOk result (λ e. Completes depth (expression_of left) op at (expression_of e) parser.old parser.new) }
-    ensures viable { IfErr result (λ why. IsOfText why → StallsBehind depth (expression_of left) op at parser.old parser.new) }
     ensures step { OnOk result (ReadsStep depth op at parser.old parser.new) }
     ensures stops { OnOk result (StopsBefore (ContinuesStep (infix_level op)) parser.new.leaves) }
     ensures refuses { IfErr result (λ why. (used : ℕ) → parser.old.operators ≡ suc used → parser.old.operators ≤ 512 → IsOfText why
@@ -216,7 +212,6 @@ fn completed(
 fn primary(alloc: Global, parser: &mut Parser, depth: u32) -> Result<Expr, Refusal>
     ensures reads { IfOk result (λ e. Reads (IsAtLevel both_limits primary_level depth (expression_of e)) (operators (expression_of e)) parser.old parser.new) }
     ensures shorter { OnOk result (Shorter parser.old parser.new) }
-    ensures viable { IfErr result (λ why. IsOfText why → Stalls (Counted (λ e. IsAtLevel both_limits primary_level depth e) operators) parser.old parser.new) }
     ensures operand { IfOk result (λ e. Reads (IsOperand both_limits primary_level depth (expression_of e)) (operators (expression_of e)) parser.old parser.new) }
     ensures refuses { IfErr result (λ why. parser.old.operators ≤ 512 → StopsBefore (λ t. t ≡ mark (codes "^")) parser.old.leaves
         → RefusedBy (InOperand primary_level depth parser.old.operators) (ContinuesExpression (suc primary_level)) parser.old parser.new why) }
@@ -233,7 +228,6 @@ fn primary(alloc: Global, parser: &mut Parser, depth: u32) -> Result<Expr, Refus
 fn enclosed(alloc: Global, parser: &mut Parser, depth: u32) -> Result<Expr, Refusal>
     ensures reads { IfOk result (λ e. Reads (IsAtLevel both_limits primary_level depth (expression_of e)) (operators (expression_of e)) parser.old parser.new) }
     ensures shorter { OnOk result (Shorter parser.old parser.new) }
-    ensures viable { IfErr result (λ why. IsOfText why → Stalls (Counted (λ e. IsAtLevel both_limits primary_level depth e) operators) parser.old parser.new) }
     ensures operand { IfOk result (λ e. Reads (IsOperand both_limits primary_level depth (expression_of e)) (operators (expression_of e)) parser.old parser.new) }
     ensures refuses { IfErr result (λ why. parser.old.operators ≤ 512 → StartsWith (λ t. t ≡ mark (codes "(")) parser.old.leaves
         → RefusedBy (InOperand primary_level depth parser.old.operators) (ContinuesExpression (suc primary_level)) parser.old parser.new why) }

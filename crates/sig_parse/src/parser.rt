@@ -13,7 +13,7 @@ ghost use Rattle.sig_parse.specs.Refusals.{RefusedBy};
 ghost use Rattle.sig_parse.specs.Settling.{Settles};
 ghost use Rattle.sig_parse.specs.Seen.{leaf_seen};
 ghost use Rattle.sig_parse.specs.Reads.{Reads, Shorter, IsLeaf};
-ghost use Rattle.sig_parse.specs.Stalls.{IsOfText};
+ghost use Rattle.sig_parse.specs.Refusals.{IsOfText};
 
 use crate::keyword::{Keyword, is_same};
 use crate::leaf::{Leaf, Terminal};

@@ -11,7 +11,7 @@ ghost use Rattle.sig_parse.specs.Parts.{InBraced, InPragma, InPragmaList, InPrag
 ghost use Rattle.sig_parse.specs.Reads.{Reads, Shorter};
 ghost use Rattle.sig_parse.specs.Refusals.{RefusedBy};
 ghost use Rattle.sig_parse.specs.Settling.{Settles, Closes};
-ghost use Rattle.sig_parse.specs.Stalls.{IsOfText, Plain, Stalls};
+ghost use Rattle.sig_parse.specs.Refusals.{IsOfText};
 
 use crate::keyword::Keyword;
 use crate::parser::Parser;
@@ -23,7 +23,6 @@ use std::alloc::Global;
 /// Names in braces.
 fn braced_names(alloc: Global, parser: &mut Parser) -> Result<Vec<Name>, Refusal>
     ensures reads { IfOk result (λ names. Reads (Between (mark (codes "{")) (mark (codes "}")) (Separated IsName (mark (codes ",")) names.items)) 0 parser.old parser.new) }
-    ensures viable { IfErr result (λ why. IsOfText why → Stalls (Plain (λ names. Between (mark (codes "{")) (mark (codes "}")) (Separated IsName (mark (codes ",")) names))) parser.old parser.new) }
     ensures refuses { IfErr result (RefusedBy InBraced ContinuesNothing parser.old parser.new) }
 {
     let _opened = parser.expect(Keyword::BraceOpen)?;
@@ -36,7 +35,6 @@ fn braced_names(alloc: Global, parser: &mut Parser) -> Result<Vec<Name>, Refusal
 fn pragma(alloc: Global, parser: &mut Parser) -> Result<RunOn, Refusal>
     ensures reads { IfOk result (λ pragma. Reads (IsPlacement (placement_of pragma)) 0 parser.old parser.new) }
     ensures shorter { OnOk result (Shorter parser.old parser.new) }
-    ensures viable { IfErr result (λ why. IsOfText why → Stalls (Plain IsPlacement) parser.old parser.new) }
     ensures refuses { IfErr result (RefusedBy InPragma ContinuesNothing parser.old parser.new) }
 {
     let at = parser.run_on()?;
@@ -48,7 +46,6 @@ fn pragma(alloc: Global, parser: &mut Parser) -> Result<RunOn, Refusal>
 /// Pragmas, up to `end`.
 fn pragma_list(alloc: Global, parser: &mut Parser) -> Result<Vec<RunOn>, Refusal>
     ensures reads { IfOk result (λ pragmas. Reads (Each IsPlacement (map placement_of pragmas.items)) 0 parser.old parser.new) }
-    ensures viable { IfErr result (λ why. IsOfText why → Stalls (Plain (Each IsPlacement)) parser.old parser.new) }
     // Where `end` is not next, the next token is refused.
     ensures closes { OnOk result (Closes InPragmaList (word (codes "end")) parser.old.leaves parser.new.leaves) }
     ensures refuses { IfErr result (RefusedBy InPragmaList ContinuesNothing parser.old parser.new) }
@@ -65,7 +62,6 @@ fn pragma_list(alloc: Global, parser: &mut Parser) -> Result<Vec<RunOn>, Refusal
 /// Pragmas between `pragmas` and `end pragmas`, where the word is next.
 pub fn pragmas(alloc: Global, parser: &mut Parser) -> Result<Vec<RunOn>, Refusal>
     ensures reads { IfOk result (λ pragmas. Reads (ArePragmas (map placement_of pragmas.items)) 0 parser.old parser.new) }
-    ensures viable { IfErr result (λ why. IsOfText why → Stalls (Plain ArePragmas) parser.old parser.new) }
     ensures settles { OnOk result (Settles InPragmas (ContinuesOptional (word (codes "pragmas"))) parser.old.leaves parser.new.leaves) }
     ensures refuses { IfErr result (RefusedBy InPragmas (ContinuesOptional (word (codes "pragmas"))) parser.old parser.new) }
 {

@@ -13,7 +13,7 @@ ghost use Rattle.sig_parse.specs.Parts.{InParams, InInterface, InTitle, InLocalG
 ghost use Rattle.sig_parse.specs.Reads.{Reads, Covers, Shorter};
 ghost use Rattle.sig_parse.specs.Refusals.{RefusedBy};
 ghost use Rattle.sig_parse.specs.Settling.{Settles, Closes};
-ghost use Rattle.sig_parse.specs.Stalls.{IsOfText, Plain, Some, Stalls, Halts};
+ghost use Rattle.sig_parse.specs.Refusals.{IsOfText};
 
 use crate::bodies::body;
 use crate::declaration::{Declares, group, groups};
@@ -27,7 +27,6 @@ use std::alloc::Global;
 /// Parameters in braces, where `{` is next.
 fn params(alloc: Global, parser: &mut Parser) -> Result<Vec<Group>, Refusal>
     ensures reads { IfOk result (λ params. Reads (AreParams (map declared_of params.items)) 0 parser.old parser.new) }
-    ensures viable { IfErr result (λ why. IsOfText why → Stalls (Plain AreParams) parser.old parser.new) }
     ensures settles { OnOk result (Settles InParams (ContinuesOptional (mark (codes "{"))) parser.old.leaves parser.new.leaves) }
     ensures refuses { IfErr result (RefusedBy InParams (ContinuesOptional (mark (codes "{"))) parser.old parser.new) }
 {
@@ -49,7 +48,6 @@ struct Interface {
 /// Inputs behind `?` and outputs behind `!`, in parentheses.
 fn inputs_and_outputs(alloc: Global, parser: &mut Parser) -> Result<Interface, Refusal>
     ensures reads { IfOk result (λ interface. Reads (IsInterface (map declared_of interface.inputs.items) (map declared_of interface.outputs.items)) 0 parser.old parser.new) }
-    ensures viable { IfErr result (λ why. IsOfText why → Stalls (Plain HasSides) parser.old parser.new) }
     ensures refuses { IfErr result (RefusedBy InInterface ContinuesNothing parser.old parser.new) }
 {
     let _opened = parser.expect(Keyword::Open)?;
@@ -65,7 +63,6 @@ fn inputs_and_outputs(alloc: Global, parser: &mut Parser) -> Result<Interface, R
 fn title(alloc: Global, parser: &mut Parser) -> Result<Name, Refusal>
     ensures reads { IfOk result (λ name. Reads (IsTitle name) 0 parser.old parser.new) }
     ensures shorter { OnOk result (Shorter parser.old parser.new) }
-    ensures viable { IfErr result (λ why. IsOfText why → Stalls (Plain IsTitle) parser.old parser.new) }
     ensures refuses { IfErr result (RefusedBy InTitle ContinuesNothing parser.old parser.new) }
 {
     let _begun = parser.expect(Keyword::Process)?;
@@ -79,7 +76,6 @@ fn title(alloc: Global, parser: &mut Parser) -> Result<Name, Refusal>
 pub fn process(alloc: Global, parser: &mut Parser, depth: u32) -> Result<Process, Refusal>
     ensures reads { IfOk result (λ process. Covers (IsModel both_limits (model_of process) depth) parser.old parser.new) }
     ensures shorter { OnOk result (Shorter parser.old parser.new) }
-    ensures viable { IfErr result (λ why. IsOfText why → Halts (Some (λ model leaves. IsModel both_limits model depth leaves)) parser.old parser.new) }
     ensures refuses { IfErr result (RefusedBy (InProcess depth) ContinuesNothing parser.old parser.new) }
 {
     let name = title(alloc, parser)?;
@@ -112,7 +108,6 @@ struct Locals {
 #[cycle(process)]
 fn where_part(alloc: Global, parser: &mut Parser, depth: u32) -> Result<Locals, Refusal>
     ensures reads { IfOk result (λ declared. Covers (AreBehindWhere depth (map model_of declared.processes.items) (map declared_of declared.groups.items)) parser.old parser.new) }
-    ensures viable { IfErr result (λ why. IsOfText why → Halts (Some (HasBehindWhere depth)) parser.old parser.new) }
     ensures settles { OnOk result (Settles (InWhere depth) (ContinuesOptional (word (codes "where"))) parser.old.leaves parser.new.leaves) }
     ensures refuses { IfErr result (RefusedBy (InWhere depth) (ContinuesOptional (word (codes "where"))) parser.old parser.new) }
 {
@@ -131,7 +126,6 @@ fn where_part(alloc: Global, parser: &mut Parser, depth: u32) -> Result<Locals, 
 #[cycle(process)]
 fn entries(alloc: Global, parser: &mut Parser, depth: u32) -> Result<Locals, Refusal>
     ensures reads { IfOk result (λ declared. Covers (AreDeclared depth (map model_of declared.processes.items) (map declared_of declared.groups.items)) parser.old parser.new) }
-    ensures viable { IfErr result (λ why. IsOfText why → Halts (Some (HasDeclared depth)) parser.old parser.new) }
     // Where `end` is not next, the next token is refused.
     ensures closes { OnOk result (Closes (InDeclared depth) (word (codes "end")) parser.old.leaves parser.new.leaves) }
     ensures refuses { IfErr result (RefusedBy (InDeclared depth) ContinuesNothing parser.old parser.new) }
@@ -156,7 +150,6 @@ fn inner_process(alloc: Global, parser: &mut Parser, depth: u32) -> Result<Proce
     requires next { StartsWith BeginsProcess parser.old.leaves }
     ensures reads { IfOk result (λ process. Covers (IsInnerProcess depth (model_of process)) parser.old parser.new) }
     ensures shorter { OnOk result (Shorter parser.old parser.new) }
-    ensures viable { IfErr result (λ why. IsOfText why → Halts (Some (HasDeclared depth)) parser.old parser.new) }
     ensures refuses { IfErr result (RefusedBy (InDeclared depth) ContinuesNothing parser.old parser.new) }
 {
     let inner = inside(parser, depth)?;
@@ -167,7 +160,6 @@ fn inner_process(alloc: Global, parser: &mut Parser, depth: u32) -> Result<Proce
 fn local_group(alloc: Global, parser: &mut Parser) -> Result<Group, Refusal>
     ensures reads { IfOk result (λ group. Reads (IsLocalGroup (declared_of group)) 0 parser.old parser.new) }
     ensures shorter { OnOk result (Shorter parser.old parser.new) }
-    ensures viable { IfErr result (λ why. IsOfText why → Stalls (Plain IsLocalGroup) parser.old parser.new) }
     ensures refuses { IfErr result (RefusedBy InLocalGroup ContinuesNothing parser.old parser.new) }
 {
     let one = group(alloc, parser, Declares::Signals)?;

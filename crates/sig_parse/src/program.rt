@@ -9,7 +9,7 @@ ghost use Rattle.sig_parse.specs.Refused.{end_of, place_of, answer_of, IsRefusal
 ghost use Rattle.sig_parse.specs.Refusals.{Cause, RefusedBy};
 ghost use Rattle.sig_parse.specs.Exact.{IsRefused, IsAnswerOf, answer_for};
 ghost use Rattle.sig_parse.specs.Parts.{InProgram, IsAnything};
-ghost use Rattle.sig_parse.specs.Stalls.{IsOfText, Some, Halts};
+ghost use Rattle.sig_parse.specs.Refusals.{IsOfText};
 ghost use Rattle.sig_lex.specs.Tokens.{AreTokens};
 
 use crate::leaf::leaves;
@@ -84,7 +84,6 @@ fn end(tokens: &[Token]) -> Span
 /// Processes, up to the end.
 fn processes(alloc: Global, parser: &mut Parser) -> Result<Vec<Process>, Refusal>
     ensures reads { IfOk result (λ processes. HasTree parser.old.leaves (map model_of processes.items)) }
-    ensures viable { IfErr result (λ why. IsOfText why → Halts (Some (λ processes leaves. HasTree leaves processes)) parser.old parser.new) }
     ensures refuses { IfErr result (RefusedBy InProgram IsAnything parser.old parser.new) }
 {
     let mut all = Vec::new(alloc);

@@ -27,7 +27,7 @@ fn line(alloc: Global, text: &[u8]) -> Result<String, Fail> {
 
 #[test]
 fn refuses_at_the_first_wrong_token(rt: HostRuntime) -> Result<(), Fail> {
-    let rows: [(&[u8], &str); 22] = [
+    let rows: [(&[u8], &str); 31] = [
         (b"", "error 1:1: syntax"),
         (b"process SUM = (? integer A", "error 1:27: syntax"),
         (b"process P = ( ? ! ) (| |) ;", "read"),
@@ -62,6 +62,24 @@ fn refuses_at_the_first_wrong_token(rt: HostRuntime) -> Result<(), Fail> {
             "read",
         ),
         (b"process P = ( ? ! ) X := A $ 2 ;", "error 1:30: syntax"),
+        (b"process P = ( ? ! ) X := A 1 ;", "error 1:28: syntax"),
+        (b"process P = ( ? ! ) X := A $ 1 1 ;", "error 1:32: syntax"),
+        (b"process P = ( ? ! ) X := A init 0 ;", "error 1:28: syntax"),
+        (
+            b"process P = ( ? ! ) X := A cell B init C + D ;",
+            "error 1:42: syntax",
+        ),
+        (
+            b"process P = ( ? ! ) X := F { 1 } { 2 } ( A ) ;",
+            "error 1:34: syntax",
+        ),
+        (b"process P = ( ? ! ) X := A ( B ) ;", "read"),
+        (
+            b"process P = ( ? ! ) X := A + B ( C ) ;",
+            "error 1:32: syntax",
+        ),
+        (b"process P = ( ? ! ) A := B ^= C ;", "error 1:28: syntax"),
+        (b"process P = ( ? ! ) A ^= B := C ;", "error 1:28: syntax"),
         (
             b"process P = ( ? ! ) pragmas RunOff { A } \"1\" end pragmas (| |) ;",
             "error 1:29: syntax",

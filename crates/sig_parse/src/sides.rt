@@ -15,7 +15,7 @@ ghost use Rattle.sig_parse.specs.Parts.{InNames};
 ghost use Rattle.sig_parse.specs.Refusals.{RefusedBy};
 ghost use Rattle.sig_parse.specs.Settling.{Settles, Closes};
 ghost use Rattle.sig_parse.specs.Reads.{Reads};
-ghost use Rattle.sig_parse.specs.Stalls.{IsOfText, Counted, Plain, Stalls};
+ghost use Rattle.sig_parse.specs.Refusals.{IsOfText};
 
 use crate::ahead::begins_call;
 use crate::constant::constant;
@@ -29,7 +29,6 @@ use std::alloc::Global;
 /// Names with `,` between them.
 pub fn names(alloc: Global, parser: &mut Parser) -> Result<Vec<Name>, Refusal>
     ensures reads { IfOk result (λ names. Reads (Separated IsName (mark (codes ",")) names.items) 0 parser.old parser.new) }
-    ensures viable { IfErr result (λ why. IsOfText why → Stalls (Plain (Separated IsName (mark (codes ",")))) parser.old parser.new) }
     ensures stops { OnOk result (StopsBefore (ContinuesList (mark (codes ",")) ContinuesNothing) parser.new.leaves) }
     ensures refuses { IfErr result (RefusedBy InNames (ContinuesList (mark (codes ",")) ContinuesNothing) parser.old parser.new) }
 {
@@ -46,7 +45,6 @@ pub fn names(alloc: Global, parser: &mut Parser) -> Result<Vec<Name>, Refusal>
 /// A name, or names in parentheses.
 pub fn left_side(alloc: Global, parser: &mut Parser, depth: u32) -> Result<Vec<Name>, Refusal>
     ensures reads { IfOk result (λ names. Reads (IsLeft both_limits depth names.items) 0 parser.old parser.new) }
-    ensures viable { IfErr result (λ why. IsOfText why → Stalls (Plain (IsLeft both_limits depth)) parser.old parser.new) }
     ensures refuses { IfErr result (RefusedBy (InLeft depth) ContinuesNothing parser.old parser.new) }
 {
     if parser.is(Keyword::Open) {
@@ -65,7 +63,6 @@ pub fn left_side(alloc: Global, parser: &mut Parser, depth: u32) -> Result<Vec<N
 /// Constants with `,` between them, up to `}`.
 fn constant_list(alloc: Global, parser: &mut Parser) -> Result<Vec<Constant>, Refusal>
     ensures reads { IfOk result (λ constants. Reads (Listed IsConstant (mark (codes ",")) constants.items) 0 parser.old parser.new) }
-    ensures viable { IfErr result (λ why. IsOfText why → Stalls (Plain (Listed IsConstant (mark (codes ",")))) parser.old parser.new) }
     ensures closes { OnOk result (Closes InConstantList (mark (codes "}")) parser.old.leaves parser.new.leaves) }
     ensures refuses { IfErr result (RefusedBy InConstantList ContinuesNothing parser.old parser.new) }
 {
@@ -85,7 +82,6 @@ fn constant_list(alloc: Global, parser: &mut Parser) -> Result<Vec<Constant>, Re
 /// Constants in braces, where `{` is next.
 fn constants(alloc: Global, parser: &mut Parser) -> Result<Vec<Constant>, Refusal>
     ensures reads { IfOk result (λ constants. Reads (AreConstants constants.items) 0 parser.old parser.new) }
-    ensures viable { IfErr result (λ why. IsOfText why → Stalls (Plain AreConstants) parser.old parser.new) }
     ensures settles { OnOk result (Settles InConstants (ContinuesOptional (mark (codes "{"))) parser.old.leaves parser.new.leaves) }
     ensures refuses { IfErr result (RefusedBy InConstants (ContinuesOptional (mark (codes "{"))) parser.old parser.new) }
 {
@@ -101,7 +97,6 @@ fn constants(alloc: Global, parser: &mut Parser) -> Result<Vec<Constant>, Refusa
 fn argument_list(alloc: Global, parser: &mut Parser, depth: u32) -> Result<Vec<Expr>, Refusal>
     ensures reads { IfOk result (λ arguments. Reads (Listed (IsExpression both_limits depth) (mark (codes ",")) (map expression_of arguments.items))
         (sum_by operators (map expression_of arguments.items)) parser.old parser.new) }
-    ensures viable { IfErr result (λ why. IsOfText why → Stalls (Counted (Listed (IsExpression both_limits depth) (mark (codes ","))) (sum_by operators)) parser.old parser.new) }
     ensures closes { OnOk result (parser.old.operators ≤ 512 → Closes (InArgumentList depth parser.old.operators) (mark (codes ")")) parser.old.leaves parser.new.leaves) }
     ensures refuses { IfErr result (λ why. parser.old.operators ≤ 512 → RefusedBy (InArgumentList depth parser.old.operators) ContinuesNothing parser.old parser.new why) }
 {
@@ -122,7 +117,6 @@ fn argument_list(alloc: Global, parser: &mut Parser, depth: u32) -> Result<Vec<E
 fn arguments(alloc: Global, parser: &mut Parser, depth: u32) -> Result<Vec<Expr>, Refusal>
     ensures reads { IfOk result (λ arguments. Reads (AreArguments both_limits depth (map expression_of arguments.items))
         (sum_by operators (map expression_of arguments.items)) parser.old parser.new) }
-    ensures viable { IfErr result (λ why. IsOfText why → Stalls (Counted (AreArguments both_limits depth) (sum_by operators)) parser.old parser.new) }
     ensures refuses { IfErr result (λ why. parser.old.operators ≤ 512 → RefusedBy (InArguments depth parser.old.operators) ContinuesNothing parser.old parser.new why) }
 {
     let _opened = parser.expect(Keyword::Open)?;
@@ -134,7 +128,6 @@ fn arguments(alloc: Global, parser: &mut Parser, depth: u32) -> Result<Vec<Expr>
 /// A call or an expression.
 pub fn right_side(alloc: Global, parser: &mut Parser, depth: u32) -> Result<Right, Refusal>
     ensures reads { IfOk result (λ right. Reads (IsRight both_limits depth (right_side_of right)) (right_operators (right_side_of right)) parser.old parser.new) }
-    ensures viable { IfErr result (λ why. IsOfText why → Stalls (Counted (IsRight both_limits depth) right_operators) parser.old parser.new) }
     ensures settles { OnOk result (Settles (InRight depth parser.old.operators) ContinuesDefinition parser.old.leaves parser.new.leaves) }
     ensures refuses { IfErr result (λ why. parser.old.operators ≤ 512 → RefusedBy (InRight depth parser.old.operators) ContinuesDefinition parser.old parser.new why) }
 {
@@ -148,7 +141,6 @@ pub fn right_side(alloc: Global, parser: &mut Parser, depth: u32) -> Result<Righ
 /// A name, constants where there are any, and arguments.
 fn call(alloc: Global, parser: &mut Parser, depth: u32) -> Result<Right, Refusal>
     ensures reads { IfOk result (λ right. Reads (IsRight both_limits depth (right_side_of right)) (right_operators (right_side_of right)) parser.old parser.new) }
-    ensures viable { IfErr result (λ why. IsOfText why → Stalls (Counted (IsRight both_limits depth) right_operators) parser.old parser.new) }
     ensures settles { OnOk result (Settles (InRight depth parser.old.operators) ContinuesDefinition parser.old.leaves parser.new.leaves) }
     ensures refuses { IfErr result (λ why. parser.old.operators ≤ 512 → BeginsCall parser.old.leaves → RefusedBy (InRight depth parser.old.operators) ContinuesDefinition parser.old parser.new why) }
 {

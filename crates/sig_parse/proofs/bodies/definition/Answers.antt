@@ -1,7 +1,6 @@
 use Rattle.sig_tree.specs.Syntax.{right_side_of}
 use Rattle.sig_parse.proofs.BodyLemmas.{definition}
-use Rattle.sig_parse.proofs.Relaying.{relayed, whatever, handed}
-use Rattle.sig_parse.proofs.StallBodies.{in_left_side, at_define, in_right_side}
+use Rattle.sig_parse.proofs.Relaying.{handed}
 use Rattle.sig_parse.proofs.Covering.{covered}
 use Rattle.sig_parse.proofs.RefusedDefinitions.{definition_left, definition_define, definition_right, definition_settled, fresh_refuses, fresh_settles, fresh_none}
 use Rattle.std.proofs.Common.{arith, ◌≡◌}
@@ -10,15 +9,6 @@ use Rattle.sig_parse.proofs.bodies.definition.Goals as goal
 pub returns-clause-reads : goal.returns-clause-reads
 returns-clause-reads c = definition c.in_ok-names.names.items (right_side_of c.in_ok-right.right) c.args.depth c.in_ok-_defines._defines c.args.parser.now c.begin_equation.ensures
     c.in_ok-names.ensures.reads c.in_ok-_defines.ensures.reads c.in_ok-right.ensures.reads
-
-pub returns-in_err-names-clause-viable : goal.returns-in_err-names-clause-viable
-returns-in_err-names-clause-viable c = relayed _ _ c.from_residual.ensures (λ text. in_left_side c.args.depth c.args.parser.now c.begin_equation.ensures (c.in_err-names.ensures.viable text))
-
-pub returns-in_err-_defines-clause-viable : goal.returns-in_err-_defines-clause-viable
-returns-in_err-_defines-clause-viable c = whatever _ (at_define c.args.depth c.in_ok-names.names.items c.args.parser.now c.begin_equation.ensures c.in_ok-names.ensures.reads c.in_err-_defines.ensures.stays)
-
-pub returns-in_err-right-clause-viable : goal.returns-in_err-right-clause-viable
-returns-in_err-right-clause-viable c = relayed _ _ c.from_residual-in_err-right.ensures (λ text. in_right_side c.args.depth c.in_ok-names.names.items c.in_ok-_defines._defines c.args.parser.now c.begin_equation.ensures c.in_ok-names.ensures.reads c.in_ok-_defines.ensures.reads (c.in_err-right.ensures.viable text))
 
 pub returns-in_err-names-clause-refuses : goal.returns-in_err-names-clause-refuses
 returns-in_err-names-clause-refuses c = handed _ _ _ c.from_residual.ensures (λ text. fresh_refuses c.args.parser.now c.begin_equation.ensures (definition_left c.args.depth (c.in_err-names.ensures.refuses text)))

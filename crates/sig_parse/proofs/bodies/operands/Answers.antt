@@ -3,9 +3,8 @@ use Rattle.sig_tree.specs.Terminals.{mark}
 use Rattle.sig_tree.specs.Syntax.{expression_of}
 use Rattle.sig_tree.specs.Limits.{both_limits, operators}
 use Rattle.sig_tree.specs.Expressions.{IsExpression}
-use Rattle.sig_parse.proofs.Lists.{first_pushed, counted_one, counted_more, two_items, more_items, some_mapped, sum_one, sum_more}
-use Rattle.sig_parse.proofs.Relaying.{relayed, whatever, handed}
-use Rattle.sig_parse.proofs.StallBodies.{in_first_operand, at_same, in_next_operand, in_second_operand}
+use Rattle.sig_parse.proofs.Lists.{first_pushed, counted_one, counted_more, two_items, more_items, sum_one, sum_more}
+use Rattle.sig_parse.proofs.Relaying.{handed}
 use Rattle.sig_parse.proofs.Covering.{covered}
 use Rattle.sig_parse.proofs.RefusedDefinitions.{summed, clock_begun, clock_more, clock_first, clock_same, clock_second, clock_next, clock_stops, two_mapped}
 use Rattle.sig_parse.proofs.BodyLemmas.{clock_equation}
@@ -14,18 +13,6 @@ use Rattle.sig_parse.specs.State.{State}
 use Rattle.sig_tree.specs.Readings.{StopsBefore}
 use Rattle.sig_tree.specs.Continuing.{ContinuesClockEquation}
 use Rattle.sig_parse.proofs.bodies.operands.Goals as goal
-
-pub returns-in_err-expression-clause-viable : goal.returns-in_err-expression-clause-viable
-returns-in_err-expression-clause-viable c = relayed _ _ c.from_residual.ensures (λ text. in_first_operand c.args.depth c.requires (c.in_err-expression.ensures.viable text))
-
-pub returns-in_err-_same-clause-viable : goal.returns-in_err-_same-clause-viable
-returns-in_err-_same-clause-viable c = whatever _ (at_same c.args.depth (expression_of c.in_ok-expression.field-0) c.requires c.in_ok-expression.ensures.reads c.in_err-_same.ensures.stays)
-
-pub returns-in_err-expression-2-clause-viable : goal.returns-in_err-expression-2-clause-viable
-returns-in_err-expression-2-clause-viable c = relayed _ _ c.from_residual-in_err-expression-2.ensures (λ text. in_second_operand c.args.depth (expression_of c.in_ok-expression.field-0) c.in_ok-_same._same c.requires c.in_ok-expression.ensures.reads c.in_ok-_same.ensures.reads (c.in_err-expression-2.ensures.viable text))
-
-pub returns-in_err-expression-3-clause-viable : goal.returns-in_err-expression-3-clause-viable
-returns-in_err-expression-3-clause-viable c = relayed _ _ c.from_residual-in_err-expression-3.ensures (λ text. let two = c.loop-all.invariant.1 in in_next_operand c.args.depth (map expression_of c.loop-all.all.items) c.in-Some.field-0 c.requires (some_mapped expression_of c.loop-all.all.items two) c.loop-all.invariant.0 c.in-Some.ensures.0 (c.in_err-expression-3.ensures.viable text))
 
 pub loop-all-init : goal.loop-all-init
 loop-all-init c = (

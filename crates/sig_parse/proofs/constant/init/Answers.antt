@@ -2,20 +2,12 @@ use Rattle.std.proofs.Common.{refl}
 use Rattle.std.proofs.lemmas.Result.{IfOk-weaker}
 use Rattle.sig_tree.specs.Expressions.{IsInit}
 use Rattle.sig_parse.proofs.Joins.{after_leaf}
-use Rattle.sig_parse.proofs.Relaying.{whatever, since}
-use Rattle.sig_parse.proofs.StallExpressions.{init_at_once, init_behind}
 use Rattle.sig_parse.proofs.Lifting.{raised, raised_last, behind_one, leaf_split}
 use Rattle.sig_parse.proofs.RefusedConstants.{init_refused, init_sign}
 use Rattle.sig_parse.proofs.constant.init.Goals as goal
 
 pub returns-clause-reads : goal.returns-clause-reads
 returns-clause-reads c = IfOk-weaker c.constant.result _ _ (λ constant r. after_leaf (IsInit constant) 0 refl (λ back is. (c.in_ok-_at._at, back, refl, is)) c.in_ok-_at.ensures.reads r) c.constant.ensures.reads
-
-pub returns-in_err-_at-clause-viable : goal.returns-in_err-_at-clause-viable
-returns-in_err-_at-clause-viable c = whatever _ (init_at_once c.in_err-_at.ensures.stays)
-
-pub returns-clause-viable : goal.returns-clause-viable
-returns-clause-viable c = since c.constant.result c.constant.ensures.viable (λ v. init_behind c.in_ok-_at._at c.in_ok-_at.ensures.reads v)
 
 pub returns-in_err-_at-clause-refuses : goal.returns-in_err-_at-clause-refuses
 returns-in_err-_at-clause-refuses c = raised c.from_residual.result _ c.from_residual.ensures (λ cause after r. init_sign cause _ after r) c.in_err-_at.ensures.refuses

@@ -1,11 +1,6 @@
-use Rattle.sig_parse.proofs.Relaying.{relayed}
-use Rattle.sig_parse.proofs.StallExpressions.{optional_init_in}
 use Rattle.sig_parse.proofs.Lifting.{raised}
 use Rattle.sig_parse.proofs.RefusedConstants.{optional_refused, init_settles}
 use Rattle.sig_parse.proofs.constant.optional_init.Goals as goal
-
-pub returns-in_err-init-clause-viable : goal.returns-in_err-init-clause-viable
-returns-in_err-init-clause-viable c = relayed _ _ c.from_residual.ensures (λ text. optional_init_in (c.in_err-init.ensures.viable text))
 
 pub returns-in_err-init-clause-refuses : goal.returns-in_err-init-clause-refuses
 returns-in_err-init-clause-refuses c = raised c.from_residual.result _ c.from_residual.ensures (λ cause after r. optional_refused cause _ after (rw c.if-is.true at c.is.ensures) r) c.in_err-init.ensures.refuses

@@ -1,18 +1,11 @@
 use Rattle.sig_parse.proofs.GroupLemmas.{group_of}
-use Rattle.sig_parse.proofs.Relaying.{relayed, whatever, handed}
-use Rattle.sig_parse.proofs.StallDeclarations.{group_at_once, in_items}
+use Rattle.sig_parse.proofs.Relaying.{handed}
 use Rattle.sig_parse.proofs.Covering.{covered}
 use Rattle.sig_parse.proofs.RefusedDeclarations.{group_from_kind, group_from_items, group_settled}
 use Rattle.sig_parse.proofs.declaration.group.Goals as goal
 
 pub returns-clause-reads : goal.returns-clause-reads
 returns-clause-reads c = group_of c.args.declares c.in_ok-kind.kind c.in_ok-items.items.items c.in_ok-kind._at c.in_ok-kind.ensures.no_event c.in_ok-kind.ensures.reads c.in_ok-items.ensures.reads
-
-pub returns-in_err-kind-clause-viable : goal.returns-in_err-kind-clause-viable
-returns-in_err-kind-clause-viable c = whatever _ (group_at_once c.args.declares c.in_err-kind.ensures.stays)
-
-pub returns-in_err-items-clause-viable : goal.returns-in_err-items-clause-viable
-returns-in_err-items-clause-viable c = relayed _ _ c.from_residual-in_err-items.ensures (λ text. in_items c.args.declares c.in_ok-kind.kind c.in_ok-kind._at c.in_ok-kind.ensures.no_event c.in_ok-kind.ensures.reads (c.in_err-items.ensures.viable text))
 
 pub returns-in_err-kind-clause-refuses : goal.returns-in_err-kind-clause-refuses
 returns-in_err-kind-clause-refuses c = handed _ _ _ c.from_residual.ensures (λ text. group_from_kind c.args.declares (c.in_err-kind.ensures.refuses text))

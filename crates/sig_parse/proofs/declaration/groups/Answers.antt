@@ -5,9 +5,7 @@ use Rattle.sig_parse.specs.Declarations.{IsGroupOf}
 use Rattle.sig_parse.proofs.Lists.{views_more, views_one, first_pushed}
 use Rattle.sig_parse.proofs.Steps.{ends_at}
 use Rattle.sig_parse.proofs.GroupLemmas.{groups_plain, groups_marked}
-use Rattle.sig_parse.proofs.Relaying.{relayed, handed}
-use Rattle.sig_parse.proofs.StallLists.{plain_first, plain_next}
-use Rattle.sig_parse.proofs.StallDeclarations.{in_groups}
+use Rattle.sig_parse.proofs.Relaying.{handed}
 use Rattle.sig_parse.proofs.Covering.{covered}
 use Rattle.sig_parse.proofs.Leading.{leads_refuses, leads_on}
 use Rattle.sig_parse.proofs.RefusedGroups.{groups_first, groups_next, groups_end, groups_over, groups_begun}
@@ -23,12 +21,6 @@ returns-in_default-clause-reads c = let none = rw c.in_default.is at c.take.ensu
 
 pub returns-then-is-2-clause-reads : goal.returns-then-is-2-clause-reads
 returns-then-is-2-clause-reads c = groups_marked (IsGroupOf c.args.declares) (map declared_of c.loop-all.all.items) c.in-Some.field-0 c.loop-all.invariant.0 c.in-Some.ensures.0
-
-pub returns-in_err-group-clause-viable : goal.returns-in_err-group-clause-viable
-returns-in_err-group-clause-viable c = relayed _ _ c.from_residual.ensures (λ text. in_groups c.args.declares (plain_first (IsGroupOf c.args.declares) (mark (codes ";")) (c.in_err-group.ensures.viable text)))
-
-pub returns-in_err-group-2-clause-viable : goal.returns-in_err-group-2-clause-viable
-returns-in_err-group-2-clause-viable c = relayed _ _ c.from_residual-in_err-group-2.ensures (λ text. in_groups c.args.declares (plain_next (IsGroupOf c.args.declares) (mark (codes ";")) (map declared_of c.loop-all.all.items) c.in-Some.field-0 c.loop-all.invariant.0 c.in-Some.ensures.0 (c.in_err-group-2.ensures.viable text)))
 
 pub loop-all-init : goal.loop-all-init
 loop-all-init c = (

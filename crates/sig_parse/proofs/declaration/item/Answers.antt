@@ -2,8 +2,7 @@ use Rattle.std.proofs.Common.{rules, sym, ◌∙◌}
 use denote.Enum.Bare.{same_true, same_false}
 use Rattle.sig_parse.specs.contracts.declaration.Declares.{the_type}
 use Rattle.sig_parse.proofs.GroupLemmas.{item_with_init, plain_item}
-use Rattle.sig_parse.proofs.Relaying.{relayed, handed}
-use Rattle.sig_parse.proofs.StallDeclarations.{item_at_once, in_item_init}
+use Rattle.sig_parse.proofs.Relaying.{handed}
 use Rattle.sig_parse.proofs.Covering.{covered}
 use Rattle.sig_parse.proofs.RefusedDeclarations.{item_from_name, item_from_init, item_settled, plain_settled}
 use Rattle.sig_parse.proofs.declaration.item.Goals as goal
@@ -13,12 +12,6 @@ returns-in_ok-init-clause-reads c = item_with_init c.args.declares c.in_ok-name.
 
 pub returns-else-eq-clause-reads : goal.returns-else-eq-clause-reads
 returns-else-eq-clause-reads c = plain_item c.args.declares c.in_ok-name.name (same_false the_type _ _ (sym c.eq.ensures ∙ c.if-eq.false)) c.in_ok-name.ensures.reads
-
-pub returns-in_err-name-clause-viable : goal.returns-in_err-name-clause-viable
-returns-in_err-name-clause-viable c = relayed _ _ c.from_residual.ensures (λ text. item_at_once c.args.declares (c.in_err-name.ensures.stays text))
-
-pub returns-in_err-init-clause-viable : goal.returns-in_err-init-clause-viable
-returns-in_err-init-clause-viable c = relayed _ _ c.from_residual-in_err-init.ensures (λ text. in_item_init c.args.declares c.in_ok-name.name (same_true the_type (search rules) _ _ (sym c.eq.ensures ∙ c.if-eq.true)) c.in_ok-name.ensures.reads (c.in_err-init.ensures.viable text))
 
 pub returns-in_err-name-clause-refuses : goal.returns-in_err-name-clause-refuses
 returns-in_err-name-clause-refuses c = handed _ _ _ c.from_residual.ensures (λ text. item_from_name c.args.declares (c.in_err-name.ensures.refuses text))

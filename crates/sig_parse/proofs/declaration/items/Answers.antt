@@ -2,8 +2,7 @@ use Rattle.std.proofs.Common.{codes, subst, sym}
 use Rattle.sig_tree.specs.Terminals.{mark}
 use Rattle.sig_parse.specs.Declarations.{IsItemOf}
 use Rattle.sig_parse.proofs.Lists.{subst_more, subst_one, first_pushed}
-use Rattle.sig_parse.proofs.Relaying.{relayed, handed}
-use Rattle.sig_parse.proofs.StallLists.{plain_first, plain_next}
+use Rattle.sig_parse.proofs.Relaying.{handed}
 use Rattle.sig_parse.proofs.Covering.{covered}
 use Rattle.sig_parse.proofs.Leading.{leads_on, leads_refuses}
 use Rattle.sig_parse.proofs.RefusedDeclarations.{items_refused, items_next, items_begun, items_settled}
@@ -11,12 +10,6 @@ use Rattle.sig_parse.specs.State.{State}
 use Rattle.sig_parse.specs.Settling.{Settles}
 use Rattle.sig_parse.specs.Parts.{InItems, ContinuesItems}
 use Rattle.sig_parse.proofs.declaration.items.Goals as goal
-
-pub returns-in_err-item-clause-viable : goal.returns-in_err-item-clause-viable
-returns-in_err-item-clause-viable c = relayed _ _ c.from_residual.ensures (λ text. plain_first (IsItemOf c.args.declares) (mark (codes ",")) (c.in_err-item.ensures.viable text))
-
-pub returns-in_err-item-2-clause-viable : goal.returns-in_err-item-2-clause-viable
-returns-in_err-item-2-clause-viable c = relayed _ _ c.from_residual-in_err-item-2.ensures (λ text. plain_next (IsItemOf c.args.declares) (mark (codes ",")) c.loop-all.all.items c.in-Some.field-0 c.loop-all.invariant.0 c.in-Some.ensures.0 (c.in_err-item-2.ensures.viable text))
 
 pub loop-all-preserved : goal.loop-all-preserved
 loop-all-preserved c = (

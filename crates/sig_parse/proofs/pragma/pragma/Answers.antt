@@ -1,21 +1,11 @@
 use Rattle.sig_parse.proofs.GroupLemmas.{placement}
-use Rattle.sig_parse.proofs.Relaying.{relayed, whatever, handed}
-use Rattle.sig_parse.proofs.StallDeclarations.{pragma_at_once, in_braced, at_label}
+use Rattle.sig_parse.proofs.Relaying.{handed}
 use Rattle.sig_parse.proofs.Covering.{covered}
 use Rattle.sig_parse.proofs.RefusedPragmas.{pragma_first, pragma_names, pragma_label}
 use Rattle.sig_parse.proofs.pragma.pragma.Goals as goal
 
 pub returns-clause-reads : goal.returns-clause-reads
 returns-clause-reads c = placement c.in_ok-names.names.items c.in_ok-label.label c.in_ok-at.at c.in_ok-label._at c.in_ok-at.ensures.reads c.in_ok-names.ensures.reads c.in_ok-label.ensures.reads
-
-pub returns-in_err-at-clause-viable : goal.returns-in_err-at-clause-viable
-returns-in_err-at-clause-viable c = whatever _ (pragma_at_once c.in_err-at.ensures.stays)
-
-pub returns-in_err-names-clause-viable : goal.returns-in_err-names-clause-viable
-returns-in_err-names-clause-viable c = relayed _ _ c.from_residual-in_err-names.ensures (λ text. in_braced c.in_ok-at.at c.in_ok-at.ensures.reads (c.in_err-names.ensures.viable text))
-
-pub returns-in_err-label-clause-viable : goal.returns-in_err-label-clause-viable
-returns-in_err-label-clause-viable c = relayed _ _ c.from_residual-in_err-label.ensures (λ text. at_label c.in_ok-at.at c.in_ok-names.names.items c.in_ok-at.ensures.reads c.in_ok-names.ensures.reads (c.in_err-label.ensures.stays text))
 
 pub returns-in_err-at-clause-refuses : goal.returns-in_err-at-clause-refuses
 returns-in_err-at-clause-refuses c = handed _ _ _ c.from_residual.ensures (λ text. pragma_first (c.in_err-at.ensures.refuses text))

@@ -1,18 +1,13 @@
 use Rattle.sig_tree.specs.Syntax.{placement_of}
 use Rattle.sig_tree.specs.Processes.{IsPlacement}
 use Rattle.sig_parse.proofs.Lists.{reads_each_more, reads_none}
-use Rattle.std.proofs.Common.{map}
-use Rattle.sig_parse.proofs.Relaying.{relayed, handed}
-use Rattle.sig_parse.proofs.StallLists.{plain_each}
+use Rattle.sig_parse.proofs.Relaying.{handed}
 use Rattle.sig_parse.proofs.Covering.{covered}
 use Rattle.sig_parse.proofs.Leading.{leads_on, leads_refuses, leads_nowhere}
 use Rattle.sig_parse.proofs.RefusedPragmas.{pragma_list_more, pragma_list_ends, pragma_list_item}
 use Rattle.sig_parse.specs.Parts.{InPragmaList}
 use Rattle.sig_tree.specs.Continuing.{ContinuesNothing}
 use Rattle.sig_parse.proofs.pragma.pragma_list.Goals as goal
-
-pub returns-in_err-pragma-clause-viable : goal.returns-in_err-pragma-clause-viable
-returns-in_err-pragma-clause-viable c = relayed _ _ c.from_residual.ensures (λ text. plain_each IsPlacement (map placement_of c.loop-alloc.all.items) c.loop-alloc.invariant.0 (c.in_err-pragma.ensures.viable text))
 
 pub loop-alloc-preserved : goal.loop-alloc-preserved
 loop-alloc-preserved c = (

@@ -1,14 +1,10 @@
-use Rattle.std.proofs.Common.{codes, map, refl, inr, subst, sym}
+use Rattle.std.proofs.Common.{codes, map, inr, subst, sym}
 use Rattle.sig_tree.specs.Terminals.{word}
 use Rattle.sig_tree.specs.Syntax.{declared_of, model_of, equations_of, placement_of}
-use Rattle.sig_parse.specs.Declarations.{AreDeclared, AreBehindWhere, IsTitle}
+use Rattle.sig_parse.specs.Declarations.{AreDeclared, AreBehindWhere}
 use Rattle.sig_parse.proofs.Covering.{covered, seen_as, between_marks}
 use Rattle.sig_parse.proofs.ProcessLemmas.{ended, one_group_more, one_process_more, in_parts, whole, nothing_begun}
-use Rattle.sig_tree.specs.Processes.{IsLocalGroup, AreParams, ArePragmas}
-use Rattle.sig_parse.proofs.Relaying.{relayed, whatever, since, handed, since_refused}
-use Rattle.sig_parse.proofs.StallParts.{plain_halts}
-use Rattle.sig_parse.proofs.StallProcesses.{in_group, in_process, declarations_at_once, in_next, in_where, at_where_end, in_title, in_process_params, in_process_interface, in_process_pragmas, in_process_body, in_process_where, at_process_end}
-use Rattle.sig_parse.proofs.StallDeclarations.{Interface}
+use Rattle.sig_parse.proofs.Relaying.{handed, since_refused}
 use Rattle.sig_parse.proofs.Leading.{leads_on, leads_refuses, leads_nowhere}
 use Rattle.sig_parse.specs.Parts.{InDeclared, InWhere}
 use Rattle.sig_tree.specs.Continuing.{ContinuesNothing, ContinuesOptional}
@@ -34,45 +30,6 @@ process-returns-clause-reads t c = whole c.args.depth c.in_ok-name.name c.in_ok-
     c.in_ok-declared.declared.groups c.in_ok-declared.declared.processes c.in_ok-_ended._ended
     (in_parts c.args.depth c.in_ok-name.name _ _ _ _ _ _ _ c.in_ok-_ended._ended (covered c.in_ok-name.ensures.reads) (covered c.in_ok-params.ensures.reads) (covered c.in_ok-interface.ensures.reads)
     (covered c.in_ok-run_on.ensures.reads) c.in_ok-body.ensures.reads c.in_ok-declared.ensures.reads (covered c.in_ok-_ended.ensures.reads))
-
-pub process-returns-in_err-name-clause-viable : goal.process-returns-in_err-name-clause-viable
-process-returns-in_err-name-clause-viable t c = relayed _ _ c.from_residual.ensures (λ text. in_title c.args.depth (plain_halts IsTitle (c.in_err-name.ensures.viable text)))
-
-pub process-returns-in_err-params-clause-viable : goal.process-returns-in_err-params-clause-viable
-process-returns-in_err-params-clause-viable t c = relayed _ _ c.from_residual-in_err-params.ensures (λ text. in_process_params c.args.depth c.in_ok-name.name (covered c.in_ok-name.ensures.reads) (plain_halts AreParams (c.in_err-params.ensures.viable text)))
-
-pub process-returns-in_err-interface-clause-viable : goal.process-returns-in_err-interface-clause-viable
-process-returns-in_err-interface-clause-viable t c = relayed _ _ c.from_residual-in_err-interface.ensures (λ text. in_process_interface c.args.depth c.in_ok-name.name (covered c.in_ok-name.ensures.reads) (map declared_of c.in_ok-params.params.items) (covered c.in_ok-params.ensures.reads) (plain_halts Interface (c.in_err-interface.ensures.viable text)))
-
-pub process-returns-in_err-run_on-clause-viable : goal.process-returns-in_err-run_on-clause-viable
-process-returns-in_err-run_on-clause-viable t c = relayed _ _ c.from_residual-in_err-run_on.ensures (λ text. in_process_pragmas c.args.depth c.in_ok-name.name (covered c.in_ok-name.ensures.reads) (map declared_of c.in_ok-params.params.items) (covered c.in_ok-params.ensures.reads) (map declared_of c.in_ok-interface.interface.inputs.items) (map declared_of c.in_ok-interface.interface.outputs.items) (covered c.in_ok-interface.ensures.reads) (plain_halts ArePragmas (c.in_err-run_on.ensures.viable text)))
-
-pub process-returns-in_err-body-clause-viable : goal.process-returns-in_err-body-clause-viable
-process-returns-in_err-body-clause-viable t c = relayed _ _ c.from_residual-in_err-body.ensures (λ text. in_process_body c.args.depth c.in_ok-name.name (covered c.in_ok-name.ensures.reads) (map declared_of c.in_ok-params.params.items) (covered c.in_ok-params.ensures.reads) (map declared_of c.in_ok-interface.interface.inputs.items) (map declared_of c.in_ok-interface.interface.outputs.items) (covered c.in_ok-interface.ensures.reads) (map placement_of c.in_ok-run_on.run_on.items) (covered c.in_ok-run_on.ensures.reads) (c.in_err-body.ensures.viable text))
-
-pub process-returns-in_err-declared-clause-viable : goal.process-returns-in_err-declared-clause-viable
-process-returns-in_err-declared-clause-viable t c = relayed _ _ c.from_residual-in_err-declared.ensures (λ text. in_process_where c.args.depth c.in_ok-name.name (covered c.in_ok-name.ensures.reads) (map declared_of c.in_ok-params.params.items) (covered c.in_ok-params.ensures.reads) (map declared_of c.in_ok-interface.interface.inputs.items) (map declared_of c.in_ok-interface.interface.outputs.items) (covered c.in_ok-interface.ensures.reads) (map placement_of c.in_ok-run_on.run_on.items) (covered c.in_ok-run_on.ensures.reads) (equations_of c.in_ok-body.body) c.in_ok-body.ensures.reads (c.in_err-declared.ensures.viable text))
-
-pub process-returns-in_err-_ended-clause-viable : goal.process-returns-in_err-_ended-clause-viable
-process-returns-in_err-_ended-clause-viable t c = whatever _ (at_process_end c.args.depth c.in_ok-name.name (covered c.in_ok-name.ensures.reads) (map declared_of c.in_ok-params.params.items) (covered c.in_ok-params.ensures.reads) (map declared_of c.in_ok-interface.interface.inputs.items) (map declared_of c.in_ok-interface.interface.outputs.items) (covered c.in_ok-interface.ensures.reads) (map placement_of c.in_ok-run_on.run_on.items) (covered c.in_ok-run_on.ensures.reads) (equations_of c.in_ok-body.body) c.in_ok-body.ensures.reads (map model_of c.in_ok-declared.declared.processes.items) (map declared_of c.in_ok-declared.declared.groups.items) c.in_ok-declared.ensures.reads c.in_err-_ended.ensures.stays)
-
-pub where_part-returns-in_err-all-clause-viable : goal.where_part-returns-in_err-all-clause-viable
-where_part-returns-in_err-all-clause-viable t c = relayed _ _ c.from_residual.ensures (λ text. in_where c.args.depth c.in-Some._opened (covered c.in-Some.ensures.0) (c.in_err-all.ensures.viable text))
-
-pub where_part-returns-in_err-_closed-clause-viable : goal.where_part-returns-in_err-_closed-clause-viable
-where_part-returns-in_err-_closed-clause-viable t c = whatever _ (at_where_end c.args.depth c.in-Some._opened (map model_of c.in_ok-all.all.processes.items) (map declared_of c.in_ok-all.all.groups.items) (covered c.in-Some.ensures.0) c.in_ok-all.ensures.reads c.in_err-_closed.ensures.stays)
-
-pub entries-returns-in_err-inner_process-clause-viable : goal.entries-returns-in_err-inner_process-clause-viable
-entries-returns-in_err-inner_process-clause-viable t c = relayed _ _ c.from_residual.ensures (λ text. in_next c.args.depth (map model_of c.loop-alloc.processes.items) (map declared_of c.loop-alloc.groups.items) c.loop-alloc.invariant.0 (c.in_err-inner_process.ensures.viable text))
-
-pub entries-returns-in_err-local_group-clause-viable : goal.entries-returns-in_err-local_group-clause-viable
-entries-returns-in_err-local_group-clause-viable t c = relayed _ _ c.from_residual-in_err-local_group.ensures (λ text. in_next c.args.depth (map model_of c.loop-alloc.processes.items) (map declared_of c.loop-alloc.groups.items) c.loop-alloc.invariant.0 (in_group c.args.depth (plain_halts IsLocalGroup (c.in_err-local_group.ensures.viable text))))
-
-pub inner_process-returns-in_err-inner-clause-viable : goal.inner_process-returns-in_err-inner-clause-viable
-inner_process-returns-in_err-inner-clause-viable t c = whatever _ (declarations_at_once c.args.depth refl)
-
-pub inner_process-returns-clause-viable : goal.inner_process-returns-clause-viable
-inner_process-returns-clause-viable t c = since c.process.result c.process.ensures.viable (λ v. in_process c.args.depth c.in_ok-inner.inner c.in_ok-inner.ensures.deeper.0 c.in_ok-inner.ensures.deeper.1 v)
 
 pub process-returns-in_err-name-clause-refuses : goal.process-returns-in_err-name-clause-refuses
 process-returns-in_err-name-clause-refuses t c = handed _ _ _ c.from_residual.ensures (λ text. process_title c.args.depth (c.in_err-name.ensures.refuses text))

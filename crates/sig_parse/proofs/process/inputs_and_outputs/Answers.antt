@@ -1,8 +1,7 @@
 use Rattle.std.proofs.Common.{map}
 use Rattle.sig_tree.specs.Syntax.{declared_of}
 use Rattle.sig_parse.proofs.GroupLemmas.{interface}
-use Rattle.sig_parse.proofs.Relaying.{relayed, whatever, handed}
-use Rattle.sig_parse.proofs.StallDeclarations.{interface_at_once, at_asked, in_input_groups, at_answered, in_output_groups, at_interface_close}
+use Rattle.sig_parse.proofs.Relaying.{handed}
 use Rattle.sig_parse.proofs.Covering.{covered}
 use Rattle.sig_parse.proofs.RefusedHeadings.{interface_open, interface_asked, interface_inputs, interface_outputs}
 use Rattle.sig_parse.proofs.process.inputs_and_outputs.Goals as goal
@@ -11,24 +10,6 @@ pub returns-clause-reads : goal.returns-clause-reads
 returns-clause-reads c = interface (map declared_of c.in_ok-inputs.inputs.items) (map declared_of c.in_ok-outputs.outputs.items)
     c.in_ok-_opened._opened c.in_ok-_asked._asked c.in_ok-_answered._answered c.in_ok-_closed._closed
     c.in_ok-_opened.ensures.reads c.in_ok-_asked.ensures.reads c.in_ok-inputs.ensures.reads c.in_ok-_answered.ensures.reads c.in_ok-outputs.ensures.reads c.in_ok-_closed.ensures.reads
-
-pub returns-in_err-_opened-clause-viable : goal.returns-in_err-_opened-clause-viable
-returns-in_err-_opened-clause-viable c = whatever _ (interface_at_once c.in_err-_opened.ensures.stays)
-
-pub returns-in_err-_asked-clause-viable : goal.returns-in_err-_asked-clause-viable
-returns-in_err-_asked-clause-viable c = whatever _ (at_asked c.in_ok-_opened._opened c.in_ok-_opened.ensures.reads c.in_err-_asked.ensures.stays)
-
-pub returns-in_err-inputs-clause-viable : goal.returns-in_err-inputs-clause-viable
-returns-in_err-inputs-clause-viable c = relayed _ _ c.from_residual-in_err-inputs.ensures (λ text. in_input_groups c.in_ok-_opened._opened c.in_ok-_asked._asked c.in_ok-_opened.ensures.reads c.in_ok-_asked.ensures.reads (c.in_err-inputs.ensures.viable text))
-
-pub returns-in_err-_answered-clause-viable : goal.returns-in_err-_answered-clause-viable
-returns-in_err-_answered-clause-viable c = whatever _ (at_answered c.in_ok-_opened._opened c.in_ok-_asked._asked (map declared_of c.in_ok-inputs.inputs.items) c.in_ok-_opened.ensures.reads c.in_ok-_asked.ensures.reads c.in_ok-inputs.ensures.reads c.in_err-_answered.ensures.stays)
-
-pub returns-in_err-outputs-clause-viable : goal.returns-in_err-outputs-clause-viable
-returns-in_err-outputs-clause-viable c = relayed _ _ c.from_residual-in_err-outputs.ensures (λ text. in_output_groups c.in_ok-_opened._opened c.in_ok-_asked._asked c.in_ok-_answered._answered (map declared_of c.in_ok-inputs.inputs.items) c.in_ok-_opened.ensures.reads c.in_ok-_asked.ensures.reads c.in_ok-inputs.ensures.reads c.in_ok-_answered.ensures.reads (c.in_err-outputs.ensures.viable text))
-
-pub returns-in_err-_closed-clause-viable : goal.returns-in_err-_closed-clause-viable
-returns-in_err-_closed-clause-viable c = whatever _ (at_interface_close c.in_ok-_opened._opened c.in_ok-_asked._asked c.in_ok-_answered._answered (map declared_of c.in_ok-inputs.inputs.items) (map declared_of c.in_ok-outputs.outputs.items) c.in_ok-_opened.ensures.reads c.in_ok-_asked.ensures.reads c.in_ok-inputs.ensures.reads c.in_ok-_answered.ensures.reads c.in_ok-outputs.ensures.reads c.in_err-_closed.ensures.stays)
 
 pub returns-in_err-_opened-clause-refuses : goal.returns-in_err-_opened-clause-refuses
 returns-in_err-_opened-clause-refuses c = handed _ _ _ c.from_residual.ensures (λ text. interface_open (c.in_err-_opened.ensures.refuses text))

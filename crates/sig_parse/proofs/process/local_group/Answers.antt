@@ -1,19 +1,12 @@
 use Rattle.sig_tree.specs.Syntax.{declared_of}
 use Rattle.sig_parse.proofs.GroupLemmas.{local_group}
-use Rattle.sig_parse.proofs.Relaying.{relayed, whatever, handed}
-use Rattle.sig_parse.proofs.StallDeclarations.{in_local_group, at_local_end}
+use Rattle.sig_parse.proofs.Relaying.{handed}
 use Rattle.sig_parse.proofs.Covering.{covered}
 use Rattle.sig_parse.proofs.RefusedHeadings.{local_group_inside, local_group_end}
 use Rattle.sig_parse.proofs.process.local_group.Goals as goal
 
 pub returns-clause-reads : goal.returns-clause-reads
 returns-clause-reads c = local_group (declared_of c.in_ok-one.one) c.in_ok-_ended._ended c.in_ok-one.ensures.reads c.in_ok-_ended.ensures.reads
-
-pub returns-in_err-one-clause-viable : goal.returns-in_err-one-clause-viable
-returns-in_err-one-clause-viable c = relayed _ _ c.from_residual.ensures (λ text. in_local_group (c.in_err-one.ensures.viable text))
-
-pub returns-in_err-_ended-clause-viable : goal.returns-in_err-_ended-clause-viable
-returns-in_err-_ended-clause-viable c = whatever _ (at_local_end (declared_of c.in_ok-one.one) c.in_ok-one.ensures.reads c.in_err-_ended.ensures.stays)
 
 pub returns-in_err-one-clause-refuses : goal.returns-in_err-one-clause-refuses
 returns-in_err-one-clause-refuses c = handed _ _ _ c.from_residual.ensures (λ text. local_group_inside (c.in_err-one.ensures.refuses text))

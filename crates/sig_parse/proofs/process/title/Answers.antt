@@ -1,21 +1,11 @@
 use Rattle.sig_parse.proofs.Enclosing.{title}
-use Rattle.sig_parse.proofs.Relaying.{relayed, whatever, handed}
-use Rattle.sig_parse.proofs.StallDeclarations.{title_at_once, at_title_name, at_title_equals}
+use Rattle.sig_parse.proofs.Relaying.{handed}
 use Rattle.sig_parse.proofs.Covering.{covered}
 use Rattle.sig_parse.proofs.RefusedHeadings.{title_begun, title_name, title_equals}
 use Rattle.sig_parse.proofs.process.title.Goals as goal
 
 pub returns-clause-reads : goal.returns-clause-reads
 returns-clause-reads c = title c.in_ok-name.name c.in_ok-_begun._begun c.in_ok-_equals._equals c.in_ok-_begun.ensures.reads c.in_ok-name.ensures.reads c.in_ok-_equals.ensures.reads
-
-pub returns-in_err-_begun-clause-viable : goal.returns-in_err-_begun-clause-viable
-returns-in_err-_begun-clause-viable c = whatever _ (title_at_once c.in_err-_begun.ensures.stays)
-
-pub returns-in_err-name-clause-viable : goal.returns-in_err-name-clause-viable
-returns-in_err-name-clause-viable c = relayed _ _ c.from_residual-in_err-name.ensures (λ text. at_title_name c.in_ok-_begun._begun c.in_ok-_begun.ensures.reads (c.in_err-name.ensures.stays text))
-
-pub returns-in_err-_equals-clause-viable : goal.returns-in_err-_equals-clause-viable
-returns-in_err-_equals-clause-viable c = whatever _ (at_title_equals c.in_ok-_begun._begun c.in_ok-name.name c.in_ok-_begun.ensures.reads c.in_ok-name.ensures.reads c.in_err-_equals.ensures.stays)
 
 pub returns-in_err-_begun-clause-refuses : goal.returns-in_err-_begun-clause-refuses
 returns-in_err-_begun-clause-refuses c = handed _ _ _ c.from_residual.ensures (λ text. title_begun (c.in_err-_begun.ensures.refuses text))

@@ -3,18 +3,11 @@ use Rattle.sig_tree.specs.Limits.{both_limits}
 use Rattle.sig_tree.specs.Processes.{IsModel}
 use Rattle.sig_parse.proofs.Covering.{one_each_more, all_read, stays}
 use Rattle.sig_parse.proofs.Lists.{more_items, first_pushed}
-use Rattle.std.proofs.Common.{map, length, ap, refl, arith, []}
-use Rattle.sig_parse.proofs.Relaying.{relayed, handed}
-use Rattle.sig_parse.proofs.StallProcesses.{in_next_process, in_first_process}
+use Rattle.std.proofs.Common.{length, ap, refl, arith, []}
+use Rattle.sig_parse.proofs.Relaying.{handed}
 use Rattle.sig_parse.proofs.RefusedPrograms.{program_first, program_next, program_more, program_begun}
 use Rattle.sig_tree.specs.Repeated.{Each}
 use Rattle.sig_parse.proofs.program.processes.Goals as goal
-
-pub returns-in_err-process-clause-viable : goal.returns-in_err-process-clause-viable
-returns-in_err-process-clause-viable c = relayed _ _ c.from_residual.ensures (λ text. in_first_process (c.in_err-process.ensures.viable text))
-
-pub returns-in_err-process-2-clause-viable : goal.returns-in_err-process-2-clause-viable
-returns-in_err-process-2-clause-viable c = relayed _ _ c.from_residual-in_err-process-2.ensures (λ text. in_next_process (map model_of c.loop-alloc.all.items) c.loop-alloc.invariant.0 (c.in_err-process-2.ensures.viable text))
 
 pub loop-alloc-preserved : goal.loop-alloc-preserved
 loop-alloc-preserved c = (

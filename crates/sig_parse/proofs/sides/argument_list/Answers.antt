@@ -1,11 +1,10 @@
-use Rattle.std.proofs.Common.{sym, map, codes, subst}
+use Rattle.std.proofs.Common.{sym, codes, subst}
 use Rattle.sig_tree.specs.Terminals.{mark}
 use Rattle.sig_tree.specs.Syntax.{expression_of}
 use Rattle.sig_tree.specs.Limits.{both_limits, operators}
 use Rattle.sig_tree.specs.Expressions.{IsExpression}
 use Rattle.sig_parse.proofs.Lists.{sum_more, views_more, counted_one, first_pushed}
-use Rattle.sig_parse.proofs.Relaying.{relayed, handed}
-use Rattle.sig_parse.proofs.StallLists.{counted_first, counted_next, counted_listed}
+use Rattle.sig_parse.proofs.Relaying.{handed}
 use Rattle.sig_parse.specs.State.{State}
 use Rattle.sig_parse.specs.Settling.{Closes}
 use Rattle.sig_parse.specs.Languages.{InArgumentList}
@@ -18,12 +17,6 @@ loop-all-preserved c = (
       c.loop-all.invariant.0 c.in-Some.ensures.0 c.in_ok-expression-2.ensures.reads,
   arguments_more c.args.depth c.args.parser.now.operators c.in-Some.field-0 (expression_of c.in_ok-expression-2.field-0) c.loop-all.invariant.1 c.in-Some.ensures.0 c.in_ok-expression-2.ensures.reads c.in_ok-expression-2.ensures.stops,
 )
-
-pub returns-in_err-expression-clause-viable : goal.returns-in_err-expression-clause-viable
-returns-in_err-expression-clause-viable c = relayed _ _ c.from_residual.ensures (λ text. counted_listed (IsExpression both_limits c.args.depth) (mark (codes ",")) operators (counted_first (IsExpression both_limits c.args.depth) (mark (codes ",")) operators (c.in_err-expression.ensures.viable text)))
-
-pub returns-in_err-expression-2-clause-viable : goal.returns-in_err-expression-2-clause-viable
-returns-in_err-expression-2-clause-viable c = relayed _ _ c.from_residual-in_err-expression-2.ensures (λ text. counted_listed (IsExpression both_limits c.args.depth) (mark (codes ",")) operators (counted_next (IsExpression both_limits c.args.depth) (mark (codes ",")) operators (map expression_of c.loop-all.all.items) c.in-Some.field-0 c.loop-all.invariant.0 c.in-Some.ensures.0 (c.in_err-expression-2.ensures.viable text)))
 
 pub loop-all-init : goal.loop-all-init
 loop-all-init c = (

@@ -1,12 +1,11 @@
-use Rattle.std.proofs.Common.{codes, map, sum_by, refl, []}
+use Rattle.std.proofs.Common.{codes, map, sum_by}
 use Rattle.sig_tree.specs.Terminals.{mark}
 use Rattle.sig_tree.specs.Syntax.{expression_of}
 use Rattle.sig_tree.specs.Limits.{both_limits, operators}
 use Rattle.sig_tree.specs.Repeated.{Listed}
 use Rattle.sig_tree.specs.Expressions.{IsExpression}
 use Rattle.sig_parse.proofs.Enclosing.{between}
-use Rattle.sig_parse.proofs.Relaying.{relayed, whatever, handed}
-use Rattle.sig_parse.proofs.StallParts.{counted_opening, counted_inside, counted_closing}
+use Rattle.sig_parse.proofs.Relaying.{handed}
 use Rattle.sig_parse.proofs.RefusedCalls.{arguments_opening, arguments_lift, arguments_close}
 use Rattle.sig_parse.proofs.sides.arguments.Goals as goal
 
@@ -14,15 +13,6 @@ pub returns-clause-reads : goal.returns-clause-reads
 returns-clause-reads c = between (mark (codes "(")) (mark (codes ")")) (Listed (IsExpression both_limits c.args.depth) (mark (codes ",")) (map expression_of c.in_ok-all.all.items))
     (sum_by operators (map expression_of c.in_ok-all.all.items)) c.in_ok-_opened._opened c.in_ok-_closed._closed
     c.in_ok-_opened.ensures.reads c.in_ok-all.ensures.reads c.in_ok-_closed.ensures.reads
-
-pub returns-in_err-_opened-clause-viable : goal.returns-in_err-_opened-clause-viable
-returns-in_err-_opened-clause-viable c = whatever _ (counted_opening (Listed (IsExpression both_limits c.args.depth) (mark (codes ","))) (mark (codes "(")) (mark (codes ")")) (sum_by operators) [] [] refl refl c.in_err-_opened.ensures.stays)
-
-pub returns-in_err-all-clause-viable : goal.returns-in_err-all-clause-viable
-returns-in_err-all-clause-viable c = relayed _ _ c.from_residual-in_err-all.ensures (λ text. counted_inside (Listed (IsExpression both_limits c.args.depth) (mark (codes ","))) (mark (codes "(")) (mark (codes ")")) (sum_by operators) c.in_ok-_opened._opened c.in_ok-_opened.ensures.reads (c.in_err-all.ensures.viable text))
-
-pub returns-in_err-_closed-clause-viable : goal.returns-in_err-_closed-clause-viable
-returns-in_err-_closed-clause-viable c = whatever _ (counted_closing (Listed (IsExpression both_limits c.args.depth) (mark (codes ","))) (mark (codes "(")) (mark (codes ")")) (sum_by operators) c.in_ok-_opened._opened (map expression_of c.in_ok-all.all.items) c.in_ok-_opened.ensures.reads c.in_ok-all.ensures.reads c.in_err-_closed.ensures.stays)
 
 pub returns-in_err-_opened-clause-refuses : goal.returns-in_err-_opened-clause-refuses
 returns-in_err-_opened-clause-refuses c = handed _ _ _ c.from_residual.ensures (λ few text. arguments_opening c.args.depth c.args.parser.now.operators _ few _ _ (c.in_err-_opened.ensures.refuses text))

@@ -2,8 +2,7 @@ use Rattle.std.proofs.Common.{sym, codes, subst}
 use Rattle.sig_tree.specs.Terminals.{mark}
 use Rattle.sig_tree.specs.Expressions.{IsConstant}
 use Rattle.sig_parse.proofs.Lists.{subst_more, subst_one, first_pushed}
-use Rattle.sig_parse.proofs.Relaying.{relayed, handed}
-use Rattle.sig_parse.proofs.StallLists.{plain_first, plain_next, plain_listed}
+use Rattle.sig_parse.proofs.Relaying.{handed}
 use Rattle.sig_parse.specs.State.{State}
 use Rattle.sig_parse.specs.Settling.{Closes}
 use Rattle.sig_parse.specs.Languages.{InConstantList}
@@ -15,12 +14,6 @@ loop-all-preserved c = (
   subst_more IsConstant (mark (codes ",")) c.loop-all.all.items _ c.in_ok-constant-2.field-0 c.in-Some.field-0 c.in_ok-push-2.ensures.items c.loop-all.invariant.0 c.in-Some.ensures.0 c.in_ok-constant-2.ensures.reads,
   constants_more c.in-Some.field-0 c.in_ok-constant-2.field-0 c.loop-all.invariant.1 c.in-Some.ensures.0 c.in_ok-constant-2.ensures.reads,
 )
-
-pub returns-in_err-constant-clause-viable : goal.returns-in_err-constant-clause-viable
-returns-in_err-constant-clause-viable c = relayed _ _ c.from_residual.ensures (λ text. plain_listed IsConstant (mark (codes ",")) (plain_first IsConstant (mark (codes ",")) (c.in_err-constant.ensures.viable text)))
-
-pub returns-in_err-constant-2-clause-viable : goal.returns-in_err-constant-2-clause-viable
-returns-in_err-constant-2-clause-viable c = relayed _ _ c.from_residual-in_err-constant-2.ensures (λ text. plain_listed IsConstant (mark (codes ",")) (plain_next IsConstant (mark (codes ",")) c.loop-all.all.items c.in-Some.field-0 c.loop-all.invariant.0 c.in-Some.ensures.0 (c.in_err-constant-2.ensures.viable text)))
 
 pub loop-all-init : goal.loop-all-init
 loop-all-init c = (

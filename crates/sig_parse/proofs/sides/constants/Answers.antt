@@ -5,8 +5,7 @@ use Rattle.sig_tree.specs.Expressions.{IsConstant}
 use Rattle.sig_tree.specs.Equations.{AreConstants}
 use Rattle.sig_parse.proofs.Joins.{viewed}
 use Rattle.sig_parse.proofs.Enclosing.{between}
-use Rattle.sig_parse.proofs.Relaying.{relayed, whatever, handed}
-use Rattle.sig_parse.proofs.StallParts.{plain_inside, plain_closing, constants_in}
+use Rattle.sig_parse.proofs.Relaying.{handed}
 use Rattle.sig_parse.proofs.RefusedCalls.{constants_lifts, constants_close, some_constants}
 use Rattle.sig_parse.proofs.sides.constants.Goals as goal
 
@@ -14,12 +13,6 @@ pub returns-clause-reads : goal.returns-clause-reads
 returns-clause-reads c = viewed (AreConstants c.in_ok-all.all.items) (λ front is. inr is)
     (between (mark (codes "{")) (mark (codes "}")) (Listed IsConstant (mark (codes ",")) c.in_ok-all.all.items) 0 c.in-Some._opened c.in_ok-_closed._closed
     c.in-Some.ensures.0 c.in_ok-all.ensures.reads c.in_ok-_closed.ensures.reads)
-
-pub returns-in_err-all-clause-viable : goal.returns-in_err-all-clause-viable
-returns-in_err-all-clause-viable c = relayed _ _ c.from_residual.ensures (λ text. constants_in (plain_inside (Listed IsConstant (mark (codes ","))) (mark (codes "{")) (mark (codes "}")) c.in-Some._opened c.in-Some.ensures.0 (c.in_err-all.ensures.viable text)))
-
-pub returns-in_err-_closed-clause-viable : goal.returns-in_err-_closed-clause-viable
-returns-in_err-_closed-clause-viable c = whatever _ (constants_in (plain_closing (Listed IsConstant (mark (codes ","))) (mark (codes "{")) (mark (codes "}")) c.in-Some._opened c.in_ok-all.all.items c.in-Some.ensures.0 c.in_ok-all.ensures.reads c.in_err-_closed.ensures.stays))
 
 pub returns-in_err-all-clause-refuses : goal.returns-in_err-all-clause-refuses
 returns-in_err-all-clause-refuses c = handed _ _ _ c.from_residual.ensures (λ text. constants_lifts c.in-Some._opened c.in-Some.ensures.0 _ _ (c.in_err-all.ensures.refuses text))

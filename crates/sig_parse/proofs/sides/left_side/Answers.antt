@@ -1,12 +1,11 @@
-use Rattle.std.proofs.Common.{codes, inr, refl}
+use Rattle.std.proofs.Common.{codes, inr}
 use Rattle.sig_tree.specs.Terminals.{mark}
 use Rattle.sig_tree.specs.Limits.{both_limits}
 use Rattle.sig_tree.specs.Repeated.{Separated}
 use Rattle.sig_tree.specs.Equations.{IsName, IsLeft}
 use Rattle.sig_parse.proofs.Joins.{viewed}
 use Rattle.sig_parse.proofs.Enclosing.{between}
-use Rattle.sig_parse.proofs.Relaying.{relayed, whatever, handed}
-use Rattle.sig_parse.proofs.StallParts.{plain_inside, plain_closing, left_at_once, left_in}
+use Rattle.sig_parse.proofs.Relaying.{handed}
 use Rattle.sig_parse.proofs.Lifting.{deep_here, wrong_here}
 use Rattle.sig_parse.proofs.RefusedCalls.{left_deep, left_names_refused, left_close_refused, left_here}
 use Rattle.sig_parse.proofs.sides.left_side.Goals as goal
@@ -15,21 +14,6 @@ pub returns-in_ok-_closed-clause-reads : goal.returns-in_ok-_closed-clause-reads
 returns-in_ok-_closed-clause-reads c = viewed (IsLeft both_limits c.args.depth c.in_ok-all.all.items) (λ front is. inr ((λ _. c.in_ok-inside.ensures.deeper.0), is))
     (between (mark (codes "(")) (mark (codes ")")) (Separated IsName (mark (codes ",")) c.in_ok-all.all.items) 0 c.in_ok-_opened._opened c.in_ok-_closed._closed
     c.in_ok-_opened.ensures.reads c.in_ok-all.ensures.reads c.in_ok-_closed.ensures.reads)
-
-pub returns-in_err-inside-clause-viable : goal.returns-in_err-inside-clause-viable
-returns-in_err-inside-clause-viable c = whatever _ (left_at_once c.args.depth refl)
-
-pub returns-in_err-_opened-clause-viable : goal.returns-in_err-_opened-clause-viable
-returns-in_err-_opened-clause-viable c = whatever _ (left_at_once c.args.depth c.in_err-_opened.ensures.stays)
-
-pub returns-in_err-all-clause-viable : goal.returns-in_err-all-clause-viable
-returns-in_err-all-clause-viable c = relayed _ _ c.from_residual-in_err-all.ensures (λ text. left_in c.args.depth c.in_ok-inside.ensures.deeper.0 (plain_inside (Separated IsName (mark (codes ","))) (mark (codes "(")) (mark (codes ")")) c.in_ok-_opened._opened c.in_ok-_opened.ensures.reads (c.in_err-all.ensures.viable text)))
-
-pub returns-in_err-_closed-clause-viable : goal.returns-in_err-_closed-clause-viable
-returns-in_err-_closed-clause-viable c = whatever _ (left_in c.args.depth c.in_ok-inside.ensures.deeper.0 (plain_closing (Separated IsName (mark (codes ","))) (mark (codes "(")) (mark (codes ")")) c.in_ok-_opened._opened c.in_ok-all.all.items c.in_ok-_opened.ensures.reads c.in_ok-all.ensures.reads c.in_err-_closed.ensures.stays))
-
-pub returns-in_err-name-clause-viable : goal.returns-in_err-name-clause-viable
-returns-in_err-name-clause-viable c = relayed _ _ c.from_residual-in_err-name.ensures (λ text. left_at_once c.args.depth (c.in_err-name.ensures.stays text))
 
 pub returns-in_err-inside-clause-refuses : goal.returns-in_err-inside-clause-refuses
 returns-in_err-inside-clause-refuses c = handed _ _ _ c.from_residual.ensures (λ text.

@@ -2,9 +2,7 @@ use Rattle.std.proofs.Common.{sym, codes, subst}
 use Rattle.sig_tree.specs.Terminals.{mark}
 use Rattle.sig_tree.specs.Equations.{IsName}
 use Rattle.sig_parse.proofs.Lists.{subst_more, subst_one, first_pushed}
-use Rattle.sig_parse.proofs.Relaying.{relayed, handed}
-use Rattle.sig_parse.proofs.StallLists.{plain_first, plain_next}
-use Rattle.sig_parse.proofs.StallParts.{name_at_once}
+use Rattle.sig_parse.proofs.Relaying.{handed}
 use Rattle.sig_parse.proofs.Covering.{covered}
 use Rattle.sig_parse.proofs.Leading.{leads_on, leads_refuses}
 use Rattle.sig_parse.proofs.RefusedNames.{names_refused, names_begun, names_next, names_stop}
@@ -12,12 +10,6 @@ use Rattle.sig_parse.specs.State.{State}
 use Rattle.sig_tree.specs.Readings.{StopsBefore}
 use Rattle.sig_tree.specs.Continuing.{ContinuesList, ContinuesNothing}
 use Rattle.sig_parse.proofs.sides.names.Goals as goal
-
-pub returns-in_err-name-clause-viable : goal.returns-in_err-name-clause-viable
-returns-in_err-name-clause-viable c = relayed _ _ c.from_residual.ensures (λ text. plain_first IsName (mark (codes ",")) (name_at_once (c.in_err-name.ensures.stays text)))
-
-pub returns-in_err-name-2-clause-viable : goal.returns-in_err-name-2-clause-viable
-returns-in_err-name-2-clause-viable c = relayed _ _ c.from_residual-in_err-name-2.ensures (λ text. plain_next IsName (mark (codes ",")) c.loop-all.all.items c.in-Some.field-0 c.loop-all.invariant.0 c.in-Some.ensures.0 (name_at_once (c.in_err-name-2.ensures.stays text)))
 
 pub loop-all-init : goal.loop-all-init
 loop-all-init c = (

@@ -1,17 +1,9 @@
-use Rattle.std.proofs.Common.{refl}
-use Rattle.sig_tree.specs.Limits.{both_limits, operators, right_operators}
-use Rattle.sig_tree.specs.Syntax.{Computed, expression_of}
-use Rattle.sig_tree.specs.Expressions.{IsExpression}
-use Rattle.sig_tree.specs.Equations.{IsRight}
-use Rattle.sig_parse.proofs.Relaying.{relayed, handed, since_refused}
-use Rattle.sig_parse.proofs.StallParts.{counted_as}
+use Rattle.sig_tree.specs.Syntax.{expression_of}
+use Rattle.sig_parse.proofs.Relaying.{handed, since_refused}
 use Rattle.sig_parse.proofs.RefusedCalls.{right_lifts}
 use Rattle.sig_parse.proofs.SettledBodies.{right_settles_expression}
 use Rattle.sig_parse.proofs.Covering.{covered}
 use Rattle.sig_parse.proofs.sides.right_side.Goals as goal
-
-pub returns-in_err-expression-clause-viable : goal.returns-in_err-expression-clause-viable
-returns-in_err-expression-clause-viable c = relayed _ _ c.from_residual.ensures (λ text. counted_as (IsExpression both_limits c.args.depth) operators (IsRight both_limits c.args.depth) right_operators Computed (λ x. refl) (λ x leaves is. is) (c.in_err-expression.ensures.viable text))
 
 pub returns-in_err-expression-clause-refuses : goal.returns-in_err-expression-clause-refuses
 returns-in_err-expression-clause-refuses c = handed _ _ _ c.from_residual.ensures (λ few text. right_lifts c.args.depth c.args.parser.now.operators _ _ _ (c.in_err-expression.ensures.refuses few text))
