@@ -1,1 +1,5 @@
+mod Binaries
 mod Growing
+mod Reading
+mod Sizes
+mod Stepping
