@@ -16,4 +16,4 @@ mod term;
 
 pub use answer::FlatAnswer;
 pub use kernel::to_kernel;
-pub use laws::kernels_keep_signals;
+pub use laws::{derived_equations_mean_operators, equations_mean_operators, kernels_keep_signals};
