@@ -25,7 +25,7 @@ pub record Grows (before after : Made) : Type 0 where
 same : (made : Made) → Grows made made
 same made = record { more = []; is = sym (append-nil made.signals) }
 
-then : {a b c : Made} → Grows a b → Grows b c → Grows a c
+pub then : {a b c : Made} → Grows a b → Grows b c → Grows a c
 then {a} {b} {c} g h = record {
   more = g.more ++ h.more;
   is = h.is ∙ (ap (λ signals. signals ++ h.more) g.is ∙ append_assoc a.signals g.more h.more);
@@ -37,7 +37,7 @@ signal_grows site kind at made = record { more = _; is = refl }
 equation_adds_none : (made : Made) (at : Span) (form : Form) → Grows made (with_equation made at form)
 equation_adds_none made at form = record { more = []; is = sym (append-nil made.signals) }
 
-own_grows : (left : Option ℕ) (site : Site) (kind : Kind) (at : Span) (made : Made) → Grows made (with_own left site kind at made)
+pub own_grows : (left : Option ℕ) (site : Site) (kind : Kind) (at : Span) (made : Made) → Grows made (with_own left site kind at made)
 own_grows None site kind at made = signal_grows site kind at made
 own_grows (Some left) site kind at made = same made
 
@@ -45,7 +45,7 @@ own_grows (Some left) site kind at made = same made
 as_signals : {a b c : Made} → c.signals ≡ b.signals → Grows a b → Grows a c
 as_signals e g = record { more = g.more; is = e ∙ g.is }
 
-one_grows : (left : Option ℕ) (site : Site) (kind : Kind) (at : Span) (form : SigId → Form) (made : Made) → Grows made (by_one left site kind at form made).made
+pub one_grows : (left : Option ℕ) (site : Site) (kind : Kind) (at : Span) (form : SigId → Form) (made : Made) → Grows made (by_one left site kind at form made).made
 one_grows left site kind at form made = as_signals refl (own_grows left site kind at made)
 
 clocks_grow : (site : Site) (at : Span) (made : Made) → Grows made (with_clocks site at made)
@@ -68,7 +68,7 @@ less_grows left site at u v made =
 abbrev kind_of_row : BinOp → Translated → Translated → Kind
 kind_of_row op u v = kind_of_result (binary_row op).result u.kind (Some v.kind)
 
-binary_grows : (left : Option ℕ) (site : Site) (op : BinOp) (at : Span) (u v : Translated) → Grows v.made (binary left site op at u v).made
+pub binary_grows : (left : Option ℕ) (site : Site) (op : BinOp) (at : Span) (u v : Translated) → Grows v.made (binary left site op at u v).made
 binary_grows left site Plus at u v = plus_grows left site at u.operand v.operand v.made
 binary_grows left site Meet at u v = meet_grows left site at u.operand v.operand v.made
 binary_grows left site Less at u v = less_grows left site at u.operand v.operand v.made
@@ -89,7 +89,7 @@ binary_grows left site Mul at u v = one_grows left site (kind_of_row Mul u v) at
 binary_grows left site Div at u v = one_grows left site (kind_of_row Div u v) at (binary_form Div u.operand v.operand) v.made
 binary_grows left site Mod at u v = one_grows left site (kind_of_row Mod u v) at (binary_form Mod u.operand v.operand) v.made
 
-cell_grows : (left : Option ℕ) (site : Site) (init : ℤ) (at : Span) (x b : Translated) → Grows b.made (cell left site init at x b).made
+pub cell_grows : (left : Option ℕ) (site : Site) (init : ℤ) (at : Span) (x b : Translated) → Grows b.made (cell left site init at x b).made
 cell_grows left site init at x b =
     let kind : Kind = stored x.kind in
     let kept : Made = with_signal site kind at b.made in
@@ -121,24 +121,24 @@ translate_grows None site (Cell operand held init at) made = let x : Translated 
 translate_grows (Some left) site (Cell operand held init at) made = let x : Translated = translate None site operand made in let b : Translated = translate None site held x.made in
     then (translate_grows None site operand made) (then (translate_grows None site held x.made) (cell_grows (Some left) site init at x b))
 
-operands_grow : (site : Site) (es : List FlatExpression) (made : Made) → Grows made (operands_from site es made).made
+pub operands_grow : (site : Site) (es : List FlatExpression) (made : Made) → Grows made (operands_from site es made).made
 operands_grow site [] made = same made
 operands_grow site (e ∷ es) made = then (translate_grows None site e made) (operands_grow site es (translate None site e made).made)
 
-syncs_grow : (first : SigId) (others : List (SigId × Span)) (made : Made) → Grows made (with_syncs first others made)
+pub syncs_grow : (first : SigId) (others : List (SigId × Span)) (made : Made) → Grows made (with_syncs first others made)
 syncs_grow first [] made = same made
 syncs_grow first (second ∷ others) made = then (equation_adds_none made _ _) (syncs_grow second.0 others _)
 
-all_syncs_grow : (signals : List (SigId × Span)) (made : Made) → Grows made (with_all_syncs signals made)
+pub all_syncs_grow : (signals : List (SigId × Span)) (made : Made) → Grows made (with_all_syncs signals made)
 all_syncs_grow [] made = same made
 all_syncs_grow (first ∷ others) made = syncs_grow first.0 others made
 
-equation_grows : (equation : FlatEquation) (made : Made) → Grows made (with_flat_equation equation made)
+pub equation_grows : (equation : FlatEquation) (made : Made) → Grows made (with_flat_equation equation made)
 equation_grows (Defines left e prefix) made = translate_grows (Some left) _ e made
 equation_grows (Equal operands prefix) made = let site : Site = record { cluster = 0; prefix = prefix } in let together : Together = operands_from site operands made in
     then (operands_grow site operands made) (all_syncs_grow together.signals together.made)
 
-equations_grow : (equations : List FlatEquation) (made : Made) → Grows made (with_flat_equations equations made)
+pub equations_grow : (equations : List FlatEquation) (made : Made) → Grows made (with_flat_equations equations made)
 equations_grow [] made = same made
 equations_grow (equation ∷ equations) made = then (equation_grows equation made) (equations_grow equations (with_flat_equation equation made))
 

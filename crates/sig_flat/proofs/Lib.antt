@@ -1,1 +1,8 @@
+mod Applying
+mod Binaries
 mod Growing
+mod Meeting
+mod Operating
+mod Reading
+mod Sizes
+mod Stepping

@@ -1,1 +1,4 @@
+pub mod Answers
+pub mod Drafts
 pub mod KernelOf
+pub mod Rows

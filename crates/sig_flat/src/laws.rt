@@ -1,7 +1,20 @@
 //! What holds of the kernels of flat bodies.
 
-ghost use Rattle.std.specs.Prelude.{◌≡◌, length};
-ghost use Rattle.sig_base.specs.Traces.{IsPrefixOf};
+ghost use Rattle.std.specs.Prelude.{◌≡◌, ◌↔◌, ◌||◌, ℤ, pos, true, [], ◌∷◌, length};
+ghost use Rattle.sig_base.specs.Traces.{Bounded, Instant, IsOfKind, IsPrefixOf, seen_at};
+ghost use Rattle.sig_base.specs.declared.ids.Kind.TheVariants.{Integer};
+ghost use Rattle.sig_base.specs.declared.ids.SigId.{SigId};
+ghost use Rattle.sig_kernel.specs.KernelTraces.{Meets, Memory, function_of, where_present};
+ghost use Rattle.sig_kernel.specs.Validity.{is_signal};
+ghost use Rattle.sig_kernel.specs.declared.equation.Form.TheVariants.{Default, Delay, Event, Fun, Sync, When, WhenConst};
+ghost use Rattle.sig_kernel.specs.declared.equation.FunOp.{FunOp};
+ghost use Rattle.sig_kernel.specs.declared.equation.FunOp.TheVariants.{Not};
+ghost use Rattle.sig_kernel.specs.declared.equation.Operand.{Operand};
+ghost use Rattle.sig_kernel.specs.declared.equation.Operand.TheVariants.{Sig};
+ghost use Rattle.sig_tree.specs.declared.expr.BinOp.TheVariants.{Default as DefaultOf, Less, Meet, Plus, When as Sampled};
+ghost use Rattle.sig_tree.specs.declared.expr.UnOp.TheVariants.{Clock, When as WhenOf};
+ghost use Rattle.sig_tree.specs.Operators.{AppliesToBoth, AppliesToOne, Changes, Combines, Constant, Signal, clock_of, delayed, held, merged, sampled};
+ghost use Rattle.sig_flat.specs.Rows.{AreMet, found_at};
 ghost use Rattle.sig_tree.specs.FlatSyntax.{FlatBody};
 ghost use Rattle.sig_flat.specs.KernelOf.{kernel_of};
 
@@ -12,4 +25,53 @@ pub fn kernels_keep_signals()
     ensures declared { (flat : FlatBody) → (kernel_of flat).declared ≡ length flat.signals }
     ensures inputs { (flat : FlatBody) → (kernel_of flat).inputs ≡ flat.inputs }
     ensures outputs { (flat : FlatBody) → (kernel_of flat).outputs ≡ flat.outputs }
+{}
+
+/// A law: where an operator is one equation, an instant meets the equation exactly where the
+/// operator's signal is there what the operator makes of its operands.
+pub fn equations_mean_operators()
+    ensures one { (memory : Memory) (instant : Instant) (op : FunOp) (x y : SigId) → IsOfKind Bounded Integer (seen_at instant y.0)
+        → (Meets Bounded memory instant (Fun y op (Sig x ∷ [])) ↔ AppliesToOne (function_of op) (Signal (seen_at instant x.0)) (seen_at instant y.0)) }
+    ensures both { (memory : Memory) (instant : Instant) (op : FunOp) (u v : Operand) (y : SigId) → IsOfKind Bounded Integer (seen_at instant y.0)
+        → is_signal u || is_signal v ≡ true
+        → (Meets Bounded memory instant (Fun y op (u ∷ v ∷ [])) ↔ AppliesToBoth (function_of op) (found_at instant u) (found_at instant v) (seen_at instant y.0)) }
+    ensures delay { (memory : Memory) (instant : Instant) (x y : SigId) (init : ℤ)
+        → (Meets Bounded memory instant (Delay y x init) ↔ (seen_at instant y.0 ≡ delayed (memory x.0 init) (seen_at instant x.0))) }
+    ensures when { (memory : Memory) (instant : Instant) (x b y : SigId)
+        → (Meets Bounded memory instant (When y x b) ↔ Combines Sampled (Signal (seen_at instant x.0)) (Signal (seen_at instant b.0)) (seen_at instant y.0)) }
+    ensures constant_when { (memory : Memory) (instant : Instant) (constant : ℤ) (b y : SigId)
+        → (Meets Bounded memory instant (WhenConst y constant b) ↔ Combines Sampled (Constant constant) (Signal (seen_at instant b.0)) (seen_at instant y.0)) }
+    ensures unary_when { (memory : Memory) (instant : Instant) (b y : SigId)
+        → (Meets Bounded memory instant (WhenConst y (pos 1) b) ↔ Changes WhenOf (Signal (seen_at instant b.0)) (seen_at instant y.0)) }
+    ensures default { (memory : Memory) (instant : Instant) (u v y : SigId)
+        → (Meets Bounded memory instant (Default y u v) ↔ Combines DefaultOf (Signal (seen_at instant u.0)) (Signal (seen_at instant v.0)) (seen_at instant y.0)) }
+    ensures clock { (memory : Memory) (instant : Instant) (x y : SigId)
+        → (Meets Bounded memory instant (Event y x) ↔ Changes Clock (Signal (seen_at instant x.0)) (seen_at instant y.0)) }
+{}
+
+/// A law: where an operator is several equations, an instant meets them exactly where the operator's
+/// signal is there what the operator makes of its operands, and the intermediates are what their own
+/// equations say.
+pub fn derived_equations_mean_operators()
+    ensures plus { (memory : Memory) (instant : Instant) (u v e f y : SigId)
+        → (AreMet memory instant (Event e u ∷ Event f v ∷ Default y e f ∷ [])
+        ↔ ((seen_at instant e.0 ≡ clock_of (seen_at instant u.0)) × (seen_at instant f.0 ≡ clock_of (seen_at instant v.0))
+        × Combines Plus (Signal (seen_at instant u.0)) (Signal (seen_at instant v.0)) (seen_at instant y.0))) }
+    ensures meet { (memory : Memory) (instant : Instant) (u v e f y : SigId)
+        → (AreMet memory instant (Event e u ∷ Event f v ∷ When y e f ∷ [])
+        ↔ ((seen_at instant e.0 ≡ clock_of (seen_at instant u.0)) × (seen_at instant f.0 ≡ clock_of (seen_at instant v.0))
+        × Combines Meet (Signal (seen_at instant u.0)) (Signal (seen_at instant v.0)) (seen_at instant y.0))) }
+    ensures less { (memory : Memory) (instant : Instant) (u v e f z w y : SigId)
+        → (AreMet memory instant (Event e u ∷ Event f v ∷ Fun z Not (Sig f ∷ []) ∷ Default w z e ∷ WhenConst y (pos 1) w ∷ [])
+        ↔ ((seen_at instant e.0 ≡ clock_of (seen_at instant u.0)) × (seen_at instant f.0 ≡ clock_of (seen_at instant v.0))
+        × (seen_at instant z.0 ≡ where_present (seen_at instant v.0) (pos 0))
+        × (seen_at instant w.0 ≡ merged (seen_at instant z.0) (seen_at instant e.0))
+        × Combines Less (Signal (seen_at instant u.0)) (Signal (seen_at instant v.0)) (seen_at instant y.0))) }
+    ensures cell { (memory : Memory) (instant : Instant) (x b z e w d y : SigId) (init : ℤ)
+        → (AreMet memory instant (Delay z y init ∷ Default y x z ∷ Event e x ∷ WhenConst w (pos 1) b ∷ Default d e w ∷ Sync y d ∷ [])
+        ↔ ((seen_at instant z.0 ≡ delayed (memory y.0 init) (seen_at instant y.0))
+        × (seen_at instant e.0 ≡ clock_of (seen_at instant x.0))
+        × (seen_at instant w.0 ≡ sampled (Some (pos 1)) (seen_at instant b.0))
+        × (seen_at instant d.0 ≡ merged (seen_at instant e.0) (seen_at instant w.0))
+        × (seen_at instant y.0 ≡ held (memory y.0 init) (seen_at instant x.0) (seen_at instant b.0)))) }
 {}

@@ -1,7 +1,19 @@
-//! From flat bodies to kernels: the kernel of a flat body as a definition (`specs/KernelOf.antt`). It
+//! From flat bodies to kernels. The kernel of a flat body is a definition (`specs/KernelOf.antt`);
+//! `to_kernel` makes it, or refuses one of more than 512 signals, and stops as soon as there are more. It
 //! stands on sig_base, sig_tree and sig_kernel.
 #![tactic(auto)]
 
+mod answer;
+mod derived;
+mod draft;
+mod expression;
+mod flat_equation;
+mod kernel;
 mod laws;
+mod operator;
+mod site;
+mod term;
 
-pub use laws::kernels_keep_signals;
+pub use answer::FlatAnswer;
+pub use kernel::to_kernel;
+pub use laws::{derived_equations_mean_operators, equations_mean_operators, kernels_keep_signals};

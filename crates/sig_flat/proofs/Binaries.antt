@@ -1,0 +1,57 @@
+-- An operator of two operands, from what its operands are.
+use Rattle.std.proofs.Common.{◌≡◌, ℕ, Option, None, Some, Result, Ok, Err, IfOk, refl, ap, ◌∙◌}
+use Rattle.sig_base.specs.declared.span.Span.{Span}
+use Rattle.sig_tree.specs.declared.expr.BinOp.{BinOp}
+use Rattle.sig_tree.specs.declared.expr.BinOp.TheVariants.{Default, When, Plus, Meet, Less, Or, Xor, And, Eq, Ne, Lt, Le, Gt, Ge, Add, Sub, Mul, Div, Mod}
+use Rattle.sig_tree.specs.declared.flat.FlatExpr.{FlatExpr}
+use Rattle.sig_tree.specs.FlatSyntax.{FlatExpression, Binary, flat_expression_of}
+use Rattle.sig_flat.specs.KernelOf.{Site, Made, Translated, binary, translate}
+use Rattle.sig_flat.specs.Drafts.{translated}
+use Rattle.sig_flat.specs.declared.term.Term.{Term}
+
+-- what was made for the second operand is what the operator adds to
+first_made : (left : Option ℕ) (site : Site) (op : BinOp) (at : Span) (u : Term) (a b : Made) (v : Translated) → binary left site op at (translated u a) v ≡ binary left site op at (translated u b) v
+first_made left site Default at u a b v = refl
+first_made left site When at u a b v = refl
+first_made left site Plus at u a b v = refl
+first_made left site Meet at u a b v = refl
+first_made left site Less at u a b v = refl
+first_made left site Or at u a b v = refl
+first_made left site Xor at u a b v = refl
+first_made left site And at u a b v = refl
+first_made left site Eq at u a b v = refl
+first_made left site Ne at u a b v = refl
+first_made left site Lt at u a b v = refl
+first_made left site Le at u a b v = refl
+first_made left site Gt at u a b v = refl
+first_made left site Ge at u a b v = refl
+first_made left site Add at u a b v = refl
+first_made left site Sub at u a b v = refl
+first_made left site Mul at u a b v = refl
+first_made left site Div at u a b v = refl
+first_made left site Mod at u a b v = refl
+
+of_both : Option ℕ → Site → BinOp → Span → FlatExpression → Translated → Translated
+of_both left site op at second x = binary left site op at x (translate None site second x.made)
+
+whole : (left : Option ℕ) (site : Site) (op : BinOp) (first second : FlatExpression) (at : Span) (made : Made) → of_both left site op at second (translate None site first made) ≡ translate left site (Binary op first second at) made
+unfolding of_both
+whole None site op first second at made = refl
+whole (Some left) site op first second at made = refl
+
+pub binary_is : (left : Option ℕ) (site : Site) (op : BinOp) (first second x y : FlatExpr) (at : Span) (u v : Term) (made a b : Made) (result : Translated)
+    → x ≡ first → y ≡ second → translated u a ≡ translate None site (flat_expression_of x) made → translated v b ≡ translate None site (flat_expression_of y) a
+    → result ≡ binary left site op at (translated u b) (translated v b)
+    → result ≡ translate left site (Binary op (flat_expression_of first) (flat_expression_of second) at) made
+unfolding of_both
+binary_is left site op first second x y at u v made a b result x_is y_is first_is second_is is =
+    is ∙ first_made left site op at u b a (translated v b)
+    ∙ ap (λ w. binary left site op at (translated u a) w) second_is
+    ∙ ap (of_both left site op at (flat_expression_of y)) first_is
+    ∙ whole left site op (flat_expression_of x) (flat_expression_of y) at made
+    ∙ ap (λ e. translate left site (Binary op (flat_expression_of e) (flat_expression_of y) at) made) x_is
+    ∙ ap (λ e. translate left site (Binary op (flat_expression_of first) (flat_expression_of e) at) made) y_is
+
+pub ok_then : {A E : Type 0} (r : Result A E) (P Q : A → Type 0) → ((a : A) → P a → Q a) → IfOk r P → IfOk r Q
+ok_then (Ok a) P Q step h = step a h
+ok_then (Err e) P Q step h = h

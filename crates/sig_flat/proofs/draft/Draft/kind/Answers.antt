@@ -1,0 +1,16 @@
+use Rattle.std.proofs.Common.{◌≡◌, ◌∙◌, ap}
+use Rattle.sig_flat.specs.KernelOf.{Made, kind_at}
+use Rattle.sig_flat.proofs.Reading.{kind_here, kind_past}
+use Rattle.sig_flat.proofs.draft.Draft.kind.Goals as goal
+
+pub returns-in-Some : goal.returns-in-Some
+returns-in-Some c =
+    let found = c.in-Some.ensures.lookup in
+    let seen : kind_at c.deref.result.now c.args.signal.0 ≡ kind_at c.args.self.now.signals c.args.signal.0 = ap (λ l. kind_at l c.args.signal.0) c.deref.ensures.value ∙ ap (λ (m : Made). kind_at m.signals c.args.signal.0) c.self.view_is in
+    kind_here c.deref.result.now c.args.signal.0 c.in-Some.signal.now found.3.0 found.1 ∙ seen
+
+pub returns-in-None : goal.returns-in-None
+returns-in-None c =
+    let found = c.in-None.ensures.lookup in
+    let seen : kind_at c.deref.result.now c.args.signal.0 ≡ kind_at c.args.self.now.signals c.args.signal.0 = ap (λ l. kind_at l c.args.signal.0) c.deref.ensures.value ∙ ap (λ (m : Made). kind_at m.signals c.args.signal.0) c.self.view_is in
+    kind_past c.deref.result.now c.args.signal.0 found.3 ∙ seen

@@ -1,0 +1,8 @@
+-- those so far were added, and the others are left
+use Rattle.std.proofs.Common.{◌≡◌, drop}
+use Rattle.sig_flat.specs.KernelOf.{with_all_syncs}
+use Rattle.sig_flat.proofs.Stepping.{syncs_after}
+use Rattle.sig_flat.proofs.flat_equation.add_syncs.Given as goal
+
+abbrev pub invariant-loop-next : goal.invariant-loop-next
+invariant-loop-next l = syncs_after l.previous (drop l.next-index l.signals) l.draft ≡ with_all_syncs l.signals l.initial.draft
