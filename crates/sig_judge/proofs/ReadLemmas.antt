@@ -136,13 +136,13 @@ kinds_of_file signals bytes trace differ file =
 same_body : (bytes : List ℕ) (a b : Body) → body_of (lines_of bytes) ≡ Some a → body_of (lines_of bytes) ≡ Some b → a ≡ b
 same_body bytes a b first second = same_some a b (sym first ∙ second)
 
-one_trace : (signals : List Signal) (bytes : List ℕ) (a b : Trace) → IsTraceFile signals bytes a → IsTraceFile signals bytes b → a ≡ b
+pub one_trace : (signals : List Signal) (bytes : List ℕ) (a b : Trace) → IsTraceFile signals bytes a → IsTraceFile signals bytes b → a ≡ b
 one_trace signals bytes a b first second =
     first.each
     ∙ ap (λ (body : Body). flat_map (λ line. instants_said signals (names_in body.header) (words_of line.text)) body.rows) (same_body bytes first.body second.body first.body_is second.body_is)
     ∙ sym second.each
 
-not_both : (signals : List Signal) (bytes : List ℕ) (trace : Trace) (fault : TraceAnswer) → IsTraceFile signals bytes trace → IsFirstBadPlace signals bytes fault → ⊥
+pub not_both : (signals : List Signal) (bytes : List ℕ) (trace : Trace) (fault : TraceAnswer) → IsTraceFile signals bytes trace → IsFirstBadPlace signals bytes fault → ⊥
 not_both signals bytes trace fault file (no_header none is) = some_is_none file.body (sym file.body_is ∙ none)
 not_both signals bytes trace fault file (bad_header body body_is wrong) =
     let same = same_body bytes file.body body file.body_is body_is in
@@ -151,7 +151,7 @@ not_both signals bytes trace fault file (bad_row body body_is good first) =
     let same = same_body bytes file.body body file.body_is body_is in
     good_and_wrong (row_judge (kinds_named signals (names_in body.header))) 0 body.rows fault (subst (λ (b : Body). AllGood (row_judge (kinds_named signals (names_in b.header))) 0 b.rows) same file.rows) first
 
-one_fault : (signals : List Signal) (bytes : List ℕ) (a b : TraceAnswer) → IsFirstBadPlace signals bytes a → IsFirstBadPlace signals bytes b → a ≡ b
+pub one_fault : (signals : List Signal) (bytes : List ℕ) (a b : TraceAnswer) → IsFirstBadPlace signals bytes a → IsFirstBadPlace signals bytes b → a ≡ b
 one_fault signals bytes a b (no_header none is) (no_header none_b is_b) = is ∙ sym is_b
 one_fault signals bytes a b (no_header none is) (bad_header body body_is wrong) = absurd (some_is_none body (sym body_is ∙ none))
 one_fault signals bytes a b (no_header none is) (bad_row body body_is good first) = absurd (some_is_none body (sym body_is ∙ none))

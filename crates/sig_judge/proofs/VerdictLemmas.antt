@@ -10,6 +10,7 @@ use Rattle.sig_tree.specs.FlatSyntax.{FlatEquation, Defines, Equal, FlatBody}
 use Rattle.sig_tree.specs.Meaning.{instant_at}
 use Rattle.sig_tree.specs.ProcessTraces.{HoldsAt, HoldThroughout, IsTraceOf, IsProcessTrace, kinds_of}
 use Rattle.sig_tree.specs.Steps.{EquationSteps, Leads, HoldsBehind}
+use Rattle.sig_tree.proofs.UpTo.{holds_up_to}
 use Rattle.sig_judge.specs.Decides.{BreaksAt}
 use Rattle.sig_judge.specs.Nodes.{without_prefix}
 use Rattle.sig_judge.specs.Verdicts.{IsBroken, IsVerdict}
@@ -188,3 +189,7 @@ broken_exactly up_to flat trace (Broken j f) h i e = (
 pub one_verdict : UpTo → (flat : FlatBody) (trace : Trace) (v w : Verdict) → IsVerdict flat trace v → IsVerdict flat trace w → v ≡ w
 one_verdict up_to flat trace v Accepted h is = (accepted_exactly flat trace v h).1 is
 one_verdict up_to flat trace v (Broken i e) h is = (broken_exactly up_to flat trace v h i e).1 is
+
+-- a trace has one verdict
+pub one_verdict_of : (flat : FlatBody) (trace : Trace) (v w : Verdict) → IsVerdict flat trace v → IsVerdict flat trace w → v ≡ w
+one_verdict_of = one_verdict (λ equation t u i same a. holds_up_to t u equation i same a)

@@ -3,7 +3,7 @@ use Rattle.std.proofs.Common.{◌≡◌, ℕ, List, Option, inl, refl, sym, subs
 use Rattle.sig_text.specs.Files.{Contents}
 use Rattle.sig_words.specs.Readings.{Word}
 use Rattle.sig_words.specs.declared.command.Command.{Command}
-use Rattle.sig_words.specs.declared.command.Command.TheVariants.{Print, Run}
+use Rattle.sig_words.specs.declared.command.Command.TheVariants.{Judge, Print, Run}
 use Rattle.sig_tool.specs.Commands.{IsBuilt}
 use Rattle.sig_tool.specs.Refusals.{IsAbout}
 use Rattle.sig_tool.specs.declared.refusal.Refusal.TheVariants.{OutOfMemory}
@@ -17,6 +17,7 @@ of_one words command Fact only fact = λ c is built. subst Fact (sym (only c is 
 about_none : (c : Command) → IsBuilt c → IsAbout c OutOfMemory
 about_none (Run program flows settings) built = inl tt
 about_none (Print program) built = tt
+about_none (Judge program traces) built = inl tt
 about_none _ built = absurd built
 
 pub refused_unread : (contents : Option Contents) (c : Command) (before at : Option (List ℕ)) (misses misses' faults faults' : ℕ) (Said : List ℕ → Type 0) → IsBuilt c → Said memory_line → IsRefusedBy c contents before at misses misses' faults faults' 7 Said

@@ -13,4 +13,5 @@ mod Loads
 mod RunClauses
 mod TextFile
 mod TextClauses
+mod JudgeFiles
 mod CommandWords

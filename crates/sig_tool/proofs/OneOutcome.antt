@@ -9,15 +9,23 @@ use Rattle.sig_parse.specs.declared.answer.SmallAnswer.TheVariants.{NotBuilt}
 use Rattle.sig_parse.proofs.SmallLemmas.{only_one, refused as says_none}
 use Rattle.sig_text.specs.Files.{Contents}
 use Rattle.sig_words.specs.declared.command.Command.{Command}
-use Rattle.sig_words.specs.declared.command.Command.TheVariants.{Print, Run}
+use Rattle.sig_words.specs.declared.command.Command.TheVariants.{Judge, Print, Run}
 use Rattle.sig_words.specs.declared.command.Settings.{Settings}
+use Rattle.sig_base.specs.Traces.{Trace}
+use Rattle.sig_base.specs.declared.signal.Signal.{Signal}
+use Rattle.sig_tree.specs.FlatSyntax.{FlatBody}
 use Rattle.sig_tree.specs.Grammar.{IsText}
 use Rattle.sig_tree.specs.Syntax.{ProcessModel}
 use Rattle.sig_print.specs.Canonical.{canonical_text}
+use Rattle.sig_judge.specs.TraceFiles.{IsTraceFile}
+use Rattle.sig_judge.proofs.ReadLemmas.{one_trace, one_fault, not_both as trace_or_fault}
+use Rattle.sig_judge.proofs.VerdictLemmas.{one_verdict_of}
+use Rattle.sig_front.specs.Flats.{IsFlatText}
 use Rattle.sig_front.specs.Shown.{front_line}
+use Rattle.sig_front.proofs.OneFlat.{flat_once, no_flat_once, flat_or_refusal}
 use Rattle.sig_front.proofs.OneText.{tree_once, refusal_once, tree_or_refusal}
 use Rattle.sig_tool.specs.FlowFile.{IsFlowFile, flow_in}
-use Rattle.sig_tool.specs.Outcomes.{AtFile, AtFlows, AtProgram, AtText, ComesTo, FindsFlows, FindsProgram, FindsText, PrintComesTo, RefusesText, done, Found, Good, Outcome, RefusesFlows, RefusesProgram, RunComesTo, RunsTo, ended, long_file, long_program}
+use Rattle.sig_tool.specs.Outcomes.{AtFile, AtFlat, AtFlows, AtProgram, AtText, AtTrace, ComesTo, FindsFlat, FindsFlows, FindsProgram, FindsText, FindsTrace, JudgeComesTo, JudgesTo, RefusesFlat, RefusesTrace, bad_trace, judged, PrintComesTo, RefusesText, done, Found, Good, Outcome, RefusesFlows, RefusesProgram, RunComesTo, RunsTo, ended, long_file, long_program}
 use Rattle.sig_tool.proofs.RunCauses.{one_end}
 use Rattle.sig_tool.proofs.Stages.{OneAtMost, at_file_ends, one_at_file, one_found}
 
@@ -89,9 +97,49 @@ one_print_outcome : (held : Contents) (program : List ℕ) (one other : Outcome)
 one_print_outcome held program one other =
     one_at_text held program (λ tree o. o ≡ done (canonical_text tree) program) (λ tree o p x y. x ∙ sym y) one other
 
+-- a program file gives one flat body or one refusal at most, and a trace file one trace or one refusal
+no_flat_line : (bytes l m : List ℕ) → RefusesFlat bytes l → RefusesFlat bytes m → l ≡ m
+no_flat_line bytes l m x y = x.says ∙ ap front_line (no_flat_once bytes x.answer y.answer x.none y.none) ∙ sym y.says
+
+pub one_flat_file : (held : Option (List ℕ)) (f g : Found FlatBody) → FindsFlat held f → FindsFlat held g → f ≡ g
+one_flat_file held f g =
+    one_found held 1048576 IsFlatText RefusesFlat flat_once no_flat_line
+    (λ bytes flat l says refuses. flat_or_refusal bytes flat refuses.answer says refuses.none)
+    f g
+
+no_trace_line : (name : List ℕ) (signals : List Signal) (bytes l m : List ℕ) → RefusesTrace name signals bytes l → RefusesTrace name signals bytes m → l ≡ m
+no_trace_line name signals bytes l m x y = x.says ∙ ap (bad_trace name) (one_fault signals bytes x.answer y.answer x.none y.none) ∙ sym y.says
+
+pub one_trace_file : (held : Option (List ℕ)) (name : List ℕ) (signals : List Signal) (f g : Found Trace) → FindsTrace held name signals f → FindsTrace held name signals g → f ≡ g
+one_trace_file held name signals f g =
+    one_found held 67108864 (IsTraceFile signals) (RefusesTrace name signals) (one_trace signals) (no_trace_line name signals)
+    (λ bytes trace l says refuses. trace_or_fault signals bytes trace refuses.answer says refuses.none)
+    f g
+
+one_at_flat : (held : Contents) (name : List ℕ) (Next : FlatBody → Outcome → Type 0) → ((flat : FlatBody) → OneAtMost (Next flat)) → OneAtMost (AtFlat held name Next)
+one_at_flat held name Next one o p x y =
+    one_at_file 1 long_program name x.0 Next one o p x.2
+    (subst (λ found. AtFile 1 long_program name found Next p) (one_flat_file (held name) y.0 x.0 y.1 x.1) y.2)
+
+one_at_trace : (held : Contents) (name : List ℕ) (signals : List Signal) (Next : Trace → Outcome → Type 0) → ((trace : Trace) → OneAtMost (Next trace)) → OneAtMost (AtTrace held name signals Next)
+one_at_trace held name signals Next one o p x y =
+    one_at_file 4 (long_file name) name x.0 Next one o p x.2
+    (subst (λ found. AtFile 4 (long_file name) name found Next p) (one_trace_file (held name) name signals y.0 x.0 y.1 x.1) y.2)
+
+one_verdict_outcome : (flat : FlatBody) (trace : Trace) (file : List ℕ) → OneAtMost (JudgesTo flat trace file)
+one_verdict_outcome flat trace file o p x y =
+    x.is ∙ ap (λ v. judged v file) (one_verdict_of flat trace x.verdict y.verdict x.told y.told) ∙ sym y.is
+
+one_judge_outcome : (held : Contents) (program traces : List ℕ) (one other : Outcome) → JudgeComesTo held program traces one → JudgeComesTo held program traces other → one ≡ other
+one_judge_outcome held program traces one other =
+    one_at_flat held program (λ flat. AtTrace held traces flat.signals (λ trace. JudgesTo flat trace traces))
+    (λ flat. one_at_trace held traces flat.signals (λ trace. JudgesTo flat trace traces) (λ trace. one_verdict_outcome flat trace traces))
+    one other
+
 pub one_outcome : (held : Contents) (c : Command) (one other : Outcome) → ComesTo held c one → ComesTo held c other → one ≡ other
 one_outcome held (Run program flows settings) one other = one_run_outcome held program flows settings.instants one other
 one_outcome held (Print program) one other = one_print_outcome held program one other
+one_outcome held (Judge program traces) one other = one_judge_outcome held program traces one other
 one_outcome held _ one other = λ x y. absurd x
 
 -- ---- what the printing of a program comes to
@@ -99,6 +147,18 @@ one_outcome held _ one other = λ x y. absurd x
 -- a text that is refused ends it
 pub text_refuses : (held : Contents) (program : List ℕ) (o : Outcome) → AtText held program (λ _ _. ⊥) o → ComesTo held (Print program) o
 text_refuses held program o x = (x.0, x.1, at_file_ends 1 long_program program x.0 (λ tree o. o ≡ done (canonical_text tree) program) o x.2)
+
+-- ---- what the judging of a trace comes to
+
+-- a program file that gives no flat body ends it
+pub flat_refuses : (held : Contents) (program traces : List ℕ) (o : Outcome) → AtFlat held program (λ _ _. ⊥) o → ComesTo held (Judge program traces) o
+flat_refuses held program traces o x =
+    (x.0, x.1, at_file_ends 1 long_program program x.0 (λ flat. AtTrace held traces flat.signals (λ trace. JudgesTo flat trace traces)) o x.2)
+
+-- and so does a trace file, behind a flat body
+pub trace_refuses : (held : Contents) (program traces : List ℕ) (flat : FlatBody) (o : Outcome) → FindsFlat (held program) (Good flat) → AtTrace held traces flat.signals (λ _ _. ⊥) o → ComesTo held (Judge program traces) o
+trace_refuses held program traces flat o good x =
+    (Good flat, good, (x.0, x.1, at_file_ends 4 (long_file traces) traces x.0 (λ trace. JudgesTo flat trace traces) o x.2))
 
 -- ---- what a run comes to
 

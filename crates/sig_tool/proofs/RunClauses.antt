@@ -13,9 +13,9 @@ use Rattle.sig_tool.specs.Outcomes.{ComesTo, FindsFlows, FindsProgram, Good, Out
 use Rattle.sig_tool.specs.Refusals.{HasCount, IsAbout, IsOwn, Owes, line_of, outcome_of, status_of}
 use Rattle.sig_tool.specs.RunEnd.{end_status}
 use Rattle.sig_tool.specs.SmallRun.{IsLength, text_of}
-use Rattle.sig_tool.specs.TopCall.{IsDone, IsDue, IsRefusedBy, MayAnswer, OfOutcome, RunsWhole, memory_line}
+use Rattle.sig_tool.specs.TopCall.{IsDone, IsDue, IsEnded, IsRefusedBy, MayAnswer, OfOutcome, RunsWhole, memory_line}
 use Rattle.sig_tool.specs.declared.refusal.Refusal.{Refusal}
-use Rattle.sig_tool.specs.declared.refusal.Refusal.TheVariants.{Missing, ReadFault, LongProgram, Front, NotBuilt, LongFile, NoFlows, OutOfMemory}
+use Rattle.sig_tool.specs.declared.refusal.Refusal.TheVariants.{Missing, ReadFault, LongProgram, Front, NotBuilt, LongFile, NoFlows, Trace, OutOfMemory}
 use Rattle.sig_tool.specs.declared.run.Cause.{Cause}
 use Rattle.sig_tool.specs.declared.run.Cause.TheVariants.{Limit, Exhausted, Overflow}
 use Rattle.sig_tool.proofs.OneOutcome.{one_outcome, one_run, runs, runs_only}
@@ -45,16 +45,16 @@ whole_of_run (Some held) program flows settings s values before at status Took S
     }
 
 done : (cause : Cause) → IsDone (end_status cause)
-done Limit = inl refl
-done (Exhausted input) = inl refl
-done (Overflow operator) = inr refl
+done Limit = inl (inl refl)
+done (Exhausted input) = inl (inl refl)
+done (Overflow operator) = inl (inr refl)
 
-pub status_of_run : (contents : Option Contents) (program flows : List ℕ) (settings : Settings) (s : Small) (values : List (List ℤ)) (status : ℕ) (Took Said : List ℕ → Type 0) (ReadFailed WriteFailed : Type 0) → IfSome contents (λ held. FindsProgram (held program) (Good s)) → IfSome contents (λ held. FindsFlows (held flows) flows s.inputs (Good values)) → IsDone status ⊎ (status ≡ 6) → (IsDone status → RunsWhole s values settings.instants status Took Said) → (status ≡ 6 → WriteFailed) → OfOutcome contents (Run program flows settings) (λ o. MayAnswer o.status status ReadFailed WriteFailed)
+pub status_of_run : (contents : Option Contents) (program flows : List ℕ) (settings : Settings) (s : Small) (values : List (List ℤ)) (status : ℕ) (Took Said : List ℕ → Type 0) (ReadFailed WriteFailed : Type 0) → IfSome contents (λ held. FindsProgram (held program) (Good s)) → IfSome contents (λ held. FindsFlows (held flows) flows s.inputs (Good values)) → IsEnded status ⊎ (status ≡ 6) → (IsDone status → RunsWhole s values settings.instants status Took Said) → (status ≡ 6 → WriteFailed) → OfOutcome contents (Run program flows settings) (λ o. MayAnswer o.status status ReadFailed WriteFailed)
 status_of_run None program flows settings s values status Took Said ReadFailed WriteFailed good read numbers whole failed = tt
 status_of_run (Some held) program flows settings s values status Took Said ReadFailed WriteFailed good read numbers whole failed = λ o comes.
     let x = runs_only held program flows settings s values o good read comes in
     ⊎_elim
-    (λ ends. let w = whole ends in
+    (λ ends. let w = whole (inl ends) in
     inl (w.numbered ∙ ap (λ q. q.status) (one_run s values settings.instants flows (ended s values flows w.instants w.cause) o (run_made s values settings.instants flows status Took Said w) x)))
     (λ six. inr (inr (inl (six, subst (λ q. IsDone q.status) (sym x.is) (done x.cause), failed six))))
     numbers
@@ -81,6 +81,7 @@ own_status held c before at misses misses' faults faults' WriteFailed (Front ans
 own_status held c before at misses misses' faults faults' WriteFailed NotBuilt o count owes comes = inl (by_owed held c before at NotBuilt o (owes tt) comes)
 own_status held c before at misses misses' faults faults' WriteFailed (LongFile name) o count owes comes = inl (by_owed held c before at (LongFile name) o (owes tt) comes)
 own_status held c before at misses misses' faults faults' WriteFailed (NoFlows name) o count owes comes = inl (by_owed held c before at (NoFlows name) o (owes tt) comes)
+own_status held c before at misses misses' faults faults' WriteFailed (Trace name answer) o count owes comes = inl (by_owed held c before at (Trace name answer) o (owes tt) comes)
 own_status held c before at misses misses' faults faults' WriteFailed OutOfMemory o count owes comes = inr (inr (inr refl))
 
 pub status_of_refusal : (contents : Option Contents) (c : Command) (before at : Option (List ℕ)) (misses misses' faults faults' : ℕ) (WriteFailed : Type 0) (r said : Refusal) (status : ℕ) → status ≡ status_of said → (said ≡ r) ⊎ (said ≡ OutOfMemory) → HasCount contents at misses misses' faults faults' r → IfSome contents (λ held. IsOwn r faults faults' → Owes held c before at r) → OfOutcome contents c (λ o. MayAnswer o.status status (Rose faults faults') WriteFailed)
@@ -129,4 +130,5 @@ memory_said c contents before at misses misses' faults faults' status Said by se
     said_at NotBuilt is line = absurd (omega (arith, is))
     said_at (LongFile name) is line = absurd (omega (arith, is))
     said_at (NoFlows name) is line = absurd (omega (arith, is))
+    said_at (Trace name answer) is line = absurd (omega (arith, is))
     said_at OutOfMemory is line = line

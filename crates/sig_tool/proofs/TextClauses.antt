@@ -1,4 +1,4 @@
--- The clauses of a command that writes a text and no line, from what its files gave.
+-- The clauses of a command that is done without a run, from what its files gave.
 use Rattle.std.proofs.Common.{◌≡◌, ◌∙◌, ◌⊎◌, ℕ, List, [], Option, Some, None, IfSome, inl, inr, ⊎_elim, refl, sym, ap, subst, arith}
 use Rattle.sig_text.specs.Files.{Contents, name_where_there}
 use Rattle.sig_text.specs.Sink.{TookPrefix}
@@ -6,34 +6,34 @@ use Rattle.sig_tree.specs.Syntax.{ProcessModel}
 use Rattle.sig_print.specs.Canonical.{canonical_text}
 use Rattle.sig_words.specs.declared.command.Command.{Command}
 use Rattle.sig_words.specs.declared.command.Command.TheVariants.{Print}
-use Rattle.sig_tool.specs.Outcomes.{AtText, ComesTo, FindsText, Good, PrintComesTo, done}
-use Rattle.sig_tool.specs.Refusals.{IsOwn, Owes, outcome_of}
+use Rattle.sig_tool.specs.Outcomes.{AtText, ComesTo, FindsText, Good, Outcome, PrintComesTo, done}
+use Rattle.sig_tool.specs.Refusals.{IsOwn, Owes, begun_after, outcome_of}
 use Rattle.sig_tool.specs.TopCall.{IsDone, IsDue, MayAnswer, OfOutcome}
 use Rattle.sig_tool.specs.declared.refusal.Refusal.{Refusal}
 use Rattle.sig_tool.proofs.OneOutcome.{one_outcome, text_refuses}
 
 -- a status that says that the text was written
 pub done_is_0 : (status : ℕ) → (status ≡ 0) ⊎ (status ≡ 6) → IsDone status → status ≡ 0
-done_is_0 status numbers ends = ⊎_elim (λ nought. nought) (λ six. ⊎_elim (λ nought. nought) (λ three. absurd (omega (arith, six, three))) ends) numbers
+done_is_0 status numbers ends = ⊎_elim (λ nought. nought) (λ six. ⊎_elim (λ ended. ⊎_elim (λ nought. nought) (λ three. absurd (omega (arith, six, three))) ended) (λ nine. absurd (omega (arith, six, nine))) ends) numbers
 
-module _ (c : Command) (text file : List ℕ) where
-  pub prefix_of_text : {S : Type 0} (took : S → List ℕ → S → Type 0) (before after : S) (contents : Option Contents) → IfSome contents (λ held. ComesTo held c (done text file)) → TookPrefix took before text after → OfOutcome contents c (λ o. TookPrefix took before o.text after)
-  prefix_of_text took before after None comes prefix = tt
-  prefix_of_text took before after (Some held) comes prefix = λ o other.
-      subst (λ q. TookPrefix took before q.text after) (one_outcome held c (done text file) o comes other) prefix
+module _ (c : Command) (o : Outcome) where
+  pub prefix_of_outcome : {S : Type 0} (took : S → List ℕ → S → Type 0) (before after : S) (contents : Option Contents) → IfSome contents (λ held. ComesTo held c o) → TookPrefix took before o.text after → OfOutcome contents c (λ p. TookPrefix took before p.text after)
+  prefix_of_outcome took before after None comes prefix = tt
+  prefix_of_outcome took before after (Some held) comes prefix = λ p other.
+      subst (λ q. TookPrefix took before q.text after) (one_outcome held c o p comes other) prefix
 
-  pub whole_of_text : (contents : Option Contents) (before at : Option (List ℕ)) (status : ℕ) (Took Said : List ℕ → Type 0) → IfSome contents (λ held. ComesTo held c (done text file)) → IfSome contents (λ held. at ≡ name_where_there held file) → status ≡ 0 → Took text → Said [] → IfSome contents (λ held. IsDue held c before at status (λ text line. Took text × Said line))
-  whole_of_text None before at status Took Said comes last is took said = tt
-  whole_of_text (Some held) before at status Took Said comes last is took said =
-      record { outcome = done text file; comes = comes; numbered = is; last = last; fact = (took, said) }
+  pub whole_of_outcome : (contents : Option Contents) (before at : Option (List ℕ)) (status : ℕ) (Took Said : List ℕ → Type 0) → IfSome contents (λ held. ComesTo held c o) → IfSome contents (λ held. at ≡ begun_after held before o.file) → status ≡ o.status → Took o.text → Said o.line → IfSome contents (λ held. IsDue held c before at status (λ text line. Took text × Said line))
+  whole_of_outcome None before at status Took Said comes last is took said = tt
+  whole_of_outcome (Some held) before at status Took Said comes last is took said =
+      record { outcome = o; comes = comes; numbered = is; last = last; fact = (took, said) }
 
-  pub status_of_text : (contents : Option Contents) (status : ℕ) (ReadFailed WriteFailed : Type 0) → IfSome contents (λ held. ComesTo held c (done text file)) → (status ≡ 0) ⊎ (status ≡ 6) → (status ≡ 6 → WriteFailed) → OfOutcome contents c (λ o. MayAnswer o.status status ReadFailed WriteFailed)
-  status_of_text None status ReadFailed WriteFailed comes numbers failed = tt
-  status_of_text (Some held) status ReadFailed WriteFailed comes numbers failed = λ o other.
-      let same = one_outcome held c (done text file) o comes other in
+  pub status_of_outcome : (contents : Option Contents) (status : ℕ) (ReadFailed WriteFailed : Type 0) → IsDone o.status → IfSome contents (λ held. ComesTo held c o) → (status ≡ o.status) ⊎ (status ≡ 6) → (status ≡ 6 → WriteFailed) → OfOutcome contents c (λ p. MayAnswer p.status status ReadFailed WriteFailed)
+  status_of_outcome None status ReadFailed WriteFailed ends comes numbers failed = tt
+  status_of_outcome (Some held) status ReadFailed WriteFailed ends comes numbers failed = λ p other.
+      let same = one_outcome held c o p comes other in
       ⊎_elim
-      (λ nought. inl (nought ∙ ap (λ q. q.status) same))
-      (λ six. inr (inr (inl (six, subst (λ q. IsDone q.status) same (inl refl), failed six))))
+      (λ due. inl (due ∙ ap (λ q. q.status) same))
+      (λ six. inr (inr (inl (six, subst (λ q. IsDone q.status) same ends, failed six))))
       numbers
 
 -- ---- the printing of a program

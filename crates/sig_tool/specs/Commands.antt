@@ -1,10 +1,11 @@
 -- The commands that are built so far, among those of a command line.
 use Rattle.std.specs.Prelude.{◌≡◌, false, ⊤}
 use Rattle.sig_words.specs.declared.command.Command.{Command}
-use Rattle.sig_words.specs.declared.command.Command.TheVariants.{Print, Run}
+use Rattle.sig_words.specs.declared.command.Command.TheVariants.{Judge, Print, Run}
 
--- a command is built: a run without pacing, and the printing of a program
+-- a command is built: a run without pacing, the printing of a program, and the judging of a trace
 abbrev pub IsBuilt : Command → Type 0
 IsBuilt (Run program flows settings) = settings.pace ≡ false
 IsBuilt (Print program) = ⊤
+IsBuilt (Judge program traces) = ⊤
 IsBuilt _ = ⊥

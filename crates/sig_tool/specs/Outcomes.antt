@@ -1,13 +1,24 @@
 -- What a command comes to over told contents: what it writes, its status, and the line that it says.
 -- The refusals of a command are tried in the order in which the equations below stand.
+use Rattle.std.specs.Fmt.{decimal}
 use Rattle.std.specs.Prelude.{◌≡◌, ◌≤◌, ◌++◌, ℕ, ℤ, List, [], length, codes, Option, Some, None}
 use Rattle.sig_base.specs.Lines.{refusal}
 use Rattle.sig_plan.specs.Small.{Small, IsSmallProgram}
 use Rattle.sig_text.specs.Files.{Contents}
 use Rattle.sig_text.specs.Read.{IsLongerThan}
+use Rattle.sig_base.specs.Traces.{Trace}
+use Rattle.sig_base.specs.declared.signal.Signal.{Signal}
+use Rattle.sig_tree.specs.FlatSyntax.{FlatBody}
 use Rattle.sig_tree.specs.Grammar.{IsText}
 use Rattle.sig_tree.specs.Syntax.{ProcessModel}
 use Rattle.sig_print.specs.Canonical.{canonical_text}
+use Rattle.sig_judge.specs.Shown.{trace_text}
+use Rattle.sig_judge.specs.TraceFiles.{IsFirstBadPlace, IsTraceFile}
+use Rattle.sig_judge.specs.Verdicts.{IsVerdict}
+use Rattle.sig_judge.specs.declared.trace_answer.TraceAnswer.{TraceAnswer}
+use Rattle.sig_judge.specs.declared.verdict.Verdict.{Verdict}
+use Rattle.sig_judge.specs.declared.verdict.Verdict.TheVariants.{Accepted, Broken}
+use Rattle.sig_front.specs.Flats.{IsFlatText, IsNoFlatText}
 use Rattle.sig_front.specs.Shown.{front_line}
 use Rattle.sig_front.specs.Texts.{IsNoText}
 use Rattle.sig_front.specs.declared.answer.FrontAnswer.{FrontAnswer}
@@ -16,7 +27,7 @@ use Rattle.sig_tool.specs.SmallRun.{IsLength, IsCause, text_of}
 use Rattle.sig_tool.specs.RunEnd.{end_line, end_status}
 use Rattle.sig_tool.specs.declared.run.Cause.{Cause}
 use Rattle.sig_words.specs.declared.command.Command.{Command}
-use Rattle.sig_words.specs.declared.command.Command.TheVariants.{Print, Run}
+use Rattle.sig_words.specs.declared.command.Command.TheVariants.{Judge, Print, Run}
 
 -- what a command comes to: the text that is due on its output, its status, its line on standard error,
 -- and the file that it asked for last, if it asked for any
@@ -50,6 +61,12 @@ not_built = refusal (codes "not built yet")
 
 abbrev pub long_file : List ℕ → List ℕ
 long_file name = refusal (name ++ codes ": longer than 67108864 bytes")
+
+abbrev pub bad_trace : List ℕ → TraceAnswer → List ℕ
+bad_trace name answer = refusal (name ++ (codes ":" ++ trace_text answer))
+
+abbrev pub broken : (instant equation : ℕ) → List ℕ
+broken instant equation = refusal (codes "instant " ++ (decimal instant ++ (codes " breaks equation " ++ decimal equation)))
 
 abbrev pub no_flows : List ℕ → List ℕ
 no_flows name = refusal (name ++ codes ": not a flow file")
@@ -114,6 +131,37 @@ abbrev pub AtText : Contents → List ℕ → (List ProcessModel → Outcome →
 AtText held name Next o =
     (found : Found (List ProcessModel)) × FindsText (held name) found × AtFile 1 long_program name found Next o
 
+-- ---- the program file, for its flat body
+
+-- the bytes are refused as the text of a program with a flat body, with this line
+pub record RefusesFlat (bytes line : List ℕ) : Type 0 where
+  pub answer : FrontAnswer
+  pub none : IsNoFlatText bytes answer
+  pub says : line ≡ front_line answer
+
+abbrev pub FindsFlat : Option (List ℕ) → Found FlatBody → Type 0
+FindsFlat held found = Finds held 1048576 IsFlatText RefusesFlat found
+
+abbrev pub AtFlat : Contents → List ℕ → (FlatBody → Outcome → Type 0) → Outcome → Type 0
+AtFlat held name Next o =
+    (found : Found FlatBody) × FindsFlat (held name) found × AtFile 1 long_program name found Next o
+
+-- ---- the trace file
+
+-- the bytes are refused as a trace of these signals, with this line
+pub record RefusesTrace (name : List ℕ) (signals : List Signal) (bytes line : List ℕ) : Type 0 where
+  pub answer : TraceAnswer
+  pub none : IsFirstBadPlace signals bytes answer
+  pub says : line ≡ bad_trace name answer
+
+abbrev pub FindsTrace : Option (List ℕ) → List ℕ → List Signal → Found Trace → Type 0
+FindsTrace held name signals found = Finds held 67108864 (IsTraceFile signals) (RefusesTrace name signals) found
+
+abbrev pub AtTrace : Contents → List ℕ → List Signal → (Trace → Outcome → Type 0) → Outcome → Type 0
+AtTrace held name signals Next o =
+    (found : Found Trace) × FindsTrace (held name) name signals found
+    × AtFile 4 (long_file name) name found Next o
+
 -- ---- the flow file
 
 -- the bytes are refused as flows of these inputs, with this line
@@ -153,8 +201,38 @@ RunComesTo held program flows limit o =
 abbrev pub PrintComesTo : Contents → List ℕ → Outcome → Type 0
 PrintComesTo held program o = AtText held program (λ tree o. o ≡ done (canonical_text tree) program) o
 
+-- what is written of a verdict, with which status, and what is said of it
+abbrev pub verdict_text : Verdict → List ℕ
+verdict_text Accepted = codes "accepted\n"
+verdict_text (Broken instant equation) = []
+
+abbrev pub verdict_status : Verdict → ℕ
+verdict_status Accepted = 0
+verdict_status (Broken instant equation) = 9
+
+abbrev pub verdict_line : Verdict → List ℕ
+verdict_line Accepted = []
+verdict_line (Broken instant equation) = broken instant equation ++ codes "\n"
+
+-- what it comes to, behind the trace file
+abbrev pub judged : Verdict → List ℕ → Outcome
+judged verdict file =
+    record { text = verdict_text verdict; status = verdict_status verdict; line = verdict_line verdict; file = Some file }
+
+-- the verdict on a trace
+pub record JudgesTo (flat : FlatBody) (trace : Trace) (file : List ℕ) (o : Outcome) : Type 0 where
+  pub verdict : Verdict
+  pub told : IsVerdict flat trace verdict
+  pub is : o ≡ judged verdict file
+
+-- the judging of a trace over told contents comes to this
+abbrev pub JudgeComesTo : Contents → (program traces : List ℕ) → Outcome → Type 0
+JudgeComesTo held program traces o =
+    AtFlat held program (λ flat. AtTrace held traces flat.signals (λ trace. JudgesTo flat trace traces)) o
+
 -- a command over told contents comes to this; one that is not built comes to nothing
 abbrev pub ComesTo : Contents → Command → Outcome → Type 0
 ComesTo held (Run program flows settings) o = RunComesTo held program flows settings.instants o
 ComesTo held (Print program) o = PrintComesTo held program o
+ComesTo held (Judge program traces) o = JudgeComesTo held program traces o
 ComesTo held _ o = ⊥

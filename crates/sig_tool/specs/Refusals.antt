@@ -1,16 +1,18 @@
 -- The refusals of a command whose files give nothing: their statuses, their lines and their causes.
-use Rattle.std.specs.Prelude.{◌≡◌, ◌⊎◌, ⊤, ℕ, List, codes, Option, Some, None, IfSome}
+use Rattle.std.specs.Prelude.{◌≡◌, ◌≢◌, ◌⊎◌, ⊤, ℕ, List, codes, Option, Some, None, IfSome}
 use Rattle.sig_base.specs.Lines.{refusal}
 use Rattle.sig_front.specs.Shown.{front_line}
 use Rattle.sig_front.specs.declared.answer.FrontAnswer.{FrontAnswer}
 use Rattle.sig_front.specs.declared.answer.FrontAnswer.TheVariants.{Lex, Parse, «Type» as TypeRefused, TooManySignals, OutOfMemory as FrontMemory}
+use Rattle.sig_judge.specs.declared.trace_answer.TraceAnswer.{TraceAnswer}
+use Rattle.sig_judge.specs.declared.trace_answer.TraceAnswer.TheVariants.{OutOfMemory as TraceMemory}
 use Rattle.sig_text.specs.Counts.{Rose, DidNotRise}
 use Rattle.sig_text.specs.Files.{Contents, name_where_there}
-use Rattle.sig_tool.specs.Outcomes.{Outcome, ComesTo, refused, not_found, read_failed, long_program, not_built, long_file, no_flows}
+use Rattle.sig_tool.specs.Outcomes.{Outcome, ComesTo, refused, not_found, read_failed, long_program, not_built, long_file, no_flows, bad_trace}
 use Rattle.sig_words.specs.declared.command.Command.{Command}
-use Rattle.sig_words.specs.declared.command.Command.TheVariants.{Print, Run}
+use Rattle.sig_words.specs.declared.command.Command.TheVariants.{Judge, Print, Run}
 use Rattle.sig_tool.specs.declared.refusal.Refusal.{Refusal}
-use Rattle.sig_tool.specs.declared.refusal.Refusal.TheVariants.{Missing, ReadFault, LongProgram, Front, NotBuilt, LongFile, NoFlows, OutOfMemory}
+use Rattle.sig_tool.specs.declared.refusal.Refusal.TheVariants.{Missing, ReadFault, LongProgram, Front, NotBuilt, LongFile, NoFlows, Trace, OutOfMemory}
 
 abbrev pub out_of_memory : List ℕ
 out_of_memory = refusal (codes "out of memory")
@@ -23,6 +25,12 @@ front_refusal (Parse answer) = Front (Parse answer)
 front_refusal (TypeRefused answer) = Front (TypeRefused answer)
 front_refusal (TooManySignals limit) = Front (TooManySignals limit)
 
+-- the refusal that an answer of the reader of trace files is
+abbrev pub IsTraceRefusal : List ℕ → TraceAnswer → Refusal → Type 0
+IsTraceRefusal traces answer (Trace name told) = (name.now ≡ traces) × (told ≡ answer) × (answer ≢ TraceMemory)
+IsTraceRefusal traces answer OutOfMemory = answer ≡ TraceMemory
+IsTraceRefusal traces answer _ = ⊥
+
 -- the status of a refusal
 abbrev pub status_of : Refusal → ℕ
 status_of (Missing name) = 5
@@ -32,6 +40,7 @@ status_of (Front answer) = 1
 status_of NotBuilt = 1
 status_of (LongFile name) = 4
 status_of (NoFlows name) = 4
+status_of (Trace name answer) = 4
 status_of OutOfMemory = 7
 
 -- the line of a refusal, without its newline
@@ -43,6 +52,7 @@ line_of (Front answer) = front_line answer
 line_of NotBuilt = not_built
 line_of (LongFile name) = long_file name.now
 line_of (NoFlows name) = no_flows name.now
+line_of (Trace name answer) = bad_trace name.now answer
 line_of OutOfMemory = out_of_memory
 
 -- the outcome that a refusal is, behind the file that was asked for last
@@ -58,6 +68,7 @@ IsOwn (Front answer) faults faults' = ⊤
 IsOwn NotBuilt faults faults' = ⊤
 IsOwn (LongFile name) faults faults' = ⊤
 IsOwn (NoFlows name) faults faults' = ⊤
+IsOwn (Trace name answer) faults faults' = ⊤
 IsOwn OutOfMemory faults faults' = ⊥
 
 -- a file of which a cause is known is the one that was begun last, where that is told
@@ -76,6 +87,7 @@ HasCount contents at misses misses' faults faults' (Front answer) = ⊤
 HasCount contents at misses misses' faults faults' NotBuilt = ⊤
 HasCount contents at misses misses' faults faults' (LongFile name) = ⊤
 HasCount contents at misses misses' faults faults' (NoFlows name) = ⊤
+HasCount contents at misses misses' faults faults' (Trace name answer) = ⊤
 HasCount contents at misses misses' faults faults' OutOfMemory = ⊤
 
 -- a refusal may be one of the program file of this name
@@ -87,6 +99,7 @@ IsAboutProgram program (Front answer) = ⊥
 IsAboutProgram program NotBuilt = ⊤
 IsAboutProgram program (LongFile name) = ⊥
 IsAboutProgram program (NoFlows name) = ⊥
+IsAboutProgram program (Trace name answer) = ⊥
 IsAboutProgram program OutOfMemory = ⊤
 
 -- a refusal may be one of the text of the program file of this name
@@ -98,6 +111,7 @@ IsAboutText program (Front answer) = ⊤
 IsAboutText program NotBuilt = ⊥
 IsAboutText program (LongFile name) = ⊥
 IsAboutText program (NoFlows name) = ⊥
+IsAboutText program (Trace name answer) = ⊥
 IsAboutText program OutOfMemory = ⊤
 
 -- a refusal may be one of the flow file of this name
@@ -109,12 +123,26 @@ IsAboutFlows flows (Front answer) = ⊥
 IsAboutFlows flows NotBuilt = ⊥
 IsAboutFlows flows (LongFile name) = name.now ≡ flows
 IsAboutFlows flows (NoFlows name) = name.now ≡ flows
+IsAboutFlows flows (Trace name answer) = ⊥
 IsAboutFlows flows OutOfMemory = ⊤
+
+-- a refusal may be one of the trace file of this name
+abbrev pub IsAboutTrace : List ℕ → Refusal → Type 0
+IsAboutTrace traces (Missing name) = name.now ≡ traces
+IsAboutTrace traces (ReadFault name) = name.now ≡ traces
+IsAboutTrace traces LongProgram = ⊥
+IsAboutTrace traces (Front answer) = ⊥
+IsAboutTrace traces NotBuilt = ⊥
+IsAboutTrace traces (LongFile name) = name.now ≡ traces
+IsAboutTrace traces (NoFlows name) = ⊥
+IsAboutTrace traces (Trace name answer) = name.now ≡ traces
+IsAboutTrace traces OutOfMemory = ⊤
 
 -- a refusal may be one of a command
 abbrev pub IsAbout : Command → Refusal → Type 0
 IsAbout (Run program flows settings) r = IsAboutProgram program r ⊎ IsAboutFlows flows r
 IsAbout (Print program) r = IsAboutText program r
+IsAbout (Judge program traces) r = IsAboutText program r ⊎ IsAboutTrace traces r
 IsAbout _ r = ⊥
 
 -- what is told of the file that was begun last, once a command has asked for this file last, or for none

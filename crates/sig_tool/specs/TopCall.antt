@@ -12,7 +12,7 @@ use Rattle.sig_tool.specs.SmallRun.{IsCause, IsLength, text_of}
 use Rattle.sig_words.specs.Commands.{IsCommand}
 use Rattle.sig_words.specs.Readings.{Word}
 use Rattle.sig_words.specs.declared.command.Command.{Command}
-use Rattle.sig_words.specs.declared.command.Command.TheVariants.{Print, Run}
+use Rattle.sig_words.specs.declared.command.Command.TheVariants.{Judge, Print, Run}
 use Rattle.sig_tool.specs.declared.run.Cause.{Cause}
 use Rattle.sig_tool.specs.declared.refusal.Refusal.{Refusal}
 
@@ -28,9 +28,13 @@ OfCommand words Fact = (c : Command) → IsCommand words c → IsBuilt c → Fac
 abbrev pub OfOutcome : Option Contents → Command → (Outcome → Type 0) → Type 0
 OfOutcome contents c Fact = IfSome contents (λ held. (o : Outcome) → ComesTo held c o → Fact o)
 
+-- a run that came to its end
+abbrev pub IsEnded : ℕ → Type 0
+IsEnded status = (status ≡ 0) ⊎ (status ≡ 3)
+
 -- a command that is done: all that is due was written
 abbrev pub IsDone : ℕ → Type 0
-IsDone status = (status ≡ 0) ⊎ (status ≡ 3)
+IsDone status = IsEnded status ⊎ (status ≡ 9)
 
 -- a command that was refused: nothing was written
 abbrev pub IsRefused : ℕ → Type 0
@@ -42,9 +46,11 @@ IsStatus status = IsDone status ⊎ (IsRefused status ⊎ (status ≡ 6))
 
 abbrev pub IsStatusOf : Command → ℕ → Type 0
 IsStatusOf (Run program flows settings) status =
-    IsDone status ⊎ ((status ≡ 6) ⊎ ((status ≡ 1) ⊎ ((status ≡ 4) ⊎ ((status ≡ 5) ⊎ (status ≡ 7)))))
+    IsEnded status ⊎ ((status ≡ 6) ⊎ ((status ≡ 1) ⊎ ((status ≡ 4) ⊎ ((status ≡ 5) ⊎ (status ≡ 7)))))
 IsStatusOf (Print program) status =
     (status ≡ 0) ⊎ ((status ≡ 6) ⊎ ((status ≡ 1) ⊎ ((status ≡ 5) ⊎ (status ≡ 7))))
+IsStatusOf (Judge program traces) status =
+    ((status ≡ 0) ⊎ (status ≡ 9)) ⊎ ((status ≡ 6) ⊎ ((status ≡ 1) ⊎ ((status ≡ 4) ⊎ ((status ≡ 5) ⊎ (status ≡ 7)))))
 IsStatusOf _ status = ⊥
 
 -- the status that is answered where another is owed: that one; or 5, where a call of the files failed;
@@ -59,6 +65,8 @@ abbrev pub HasBegun : Contents → Command → Option (List ℕ) → Option (Lis
 HasBegun held (Run program flows settings) before at =
     (at ≡ name_where_there held program) ⊎ (at ≡ name_where_there held flows)
 HasBegun held (Print program) before at = at ≡ name_where_there held program
+HasBegun held (Judge program traces) before at =
+    (at ≡ name_where_there held program) ⊎ (at ≡ name_where_there held traces)
 HasBegun held _ before at = ⊥
 
 -- ---- the line on standard error

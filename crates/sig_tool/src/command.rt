@@ -7,7 +7,7 @@ ghost use Rattle.sig_text.specs.Sink.{TookPrefix};
 ghost use Rattle.sig_tool.specs.SmallRun.{IsCause, IsLength, text_of};
 ghost use Rattle.sig_tool.specs.RunEnd.{end_status};
 ghost use Rattle.sig_words.specs.declared.command.Command.TheVariants.{Run};
-ghost use Rattle.sig_tool.specs.TopCall.{HasBegun, IsDone, IsDue, IsRefusedBy, IsRefused, IsStatusOf, MayAnswer, OfOutcome, RunsWhole, SaysLine, memory_line, write_line};
+ghost use Rattle.sig_tool.specs.TopCall.{HasBegun, IsDone, IsDue, IsEnded, IsRefusedBy, IsRefused, IsStatusOf, MayAnswer, OfOutcome, RunsWhole, SaysLine, memory_line, write_line};
 
 use crate::flows::Flow;
 use crate::load::{Loaded, load};
@@ -47,7 +47,7 @@ fn run_out<S: Sink>(
 fn run_loaded<S: Sink, E: Sink>(loaded: &Loaded, limit: u32, out: &mut S, err: &mut E) -> u8
     requires small { IsSmall (small_of loaded.now.program) }
     requires count { vec_len loaded.now.flows ≡ vec_len loaded.now.program.inputs }
-    ensures numbers { IsDone result ⊎ (result ≡ 6) }
+    ensures numbers { IsEnded result ⊎ (result ≡ 6) }
     ensures whole { IsDone result → RunsWhole (small_of loaded.now.program) loaded.now.flows.items limit result
         (λ text. S.took out.old text out.new) (SaysLine E.took (E.faults err.old) (E.faults err.new) err.old err.new) }
     ensures flushed { IsDone result → IsTrue (S.clean out.new) }

@@ -6,6 +6,7 @@
 mod command;
 mod due;
 mod flows;
+mod judge;
 mod load;
 mod perform;
 mod pieces;

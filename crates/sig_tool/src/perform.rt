@@ -10,6 +10,7 @@ ghost use Rattle.sig_tool.specs.Commands.{IsBuilt};
 ghost use Rattle.sig_tool.specs.TopCall.{HasBegun, IsDone, IsDue, IsRefused, IsRefusedBy, IsStatusOf, MayAnswer, OfOutcome, SaysLine, memory_line, write_line};
 
 use crate::command::run_command;
+use crate::judge::judge_command;
 use crate::print::print_command;
 use sig_base::Text;
 use sig_text::{Files, Sink};
@@ -53,6 +54,10 @@ pub fn perform<F: Files, S: Sink, E: Sink>(
         Command::Run(program, flows, settings) => {
             let (program, flows) = (name_of(program), name_of(flows));
             run_command(alloc, program, flows, *settings, files, out, err)
+        }
+        Command::Judge(program, traces) => {
+            let (program, traces) = (name_of(program), name_of(traces));
+            judge_command(alloc, program, traces, files, out, err)
         }
         Command::Print(program) => print_command(alloc, name_of(program), files, out, err),
         _ => unreachable!(),

@@ -3,6 +3,7 @@
 ghost use Rattle.std.specs.Prelude.{◌≡◌, Some};
 
 use sig_front::FrontAnswer;
+use sig_judge::TraceAnswer;
 use std::fmt;
 
 /// Why a command's files give nothing. It is shown as its line on standard error, without a newline.
@@ -18,10 +19,12 @@ pub enum Refusal<'a> {
     Front(FrontAnswer),
     /// The program is not of the small form.
     NotBuilt,
-    /// The flow file of this name has too many bytes.
+    /// The flow file or trace file of this name has too many bytes.
     LongFile(&'a str),
     /// The file of this name is no flow file for the program's inputs.
     NoFlows(&'a str),
+    /// The file of this name is no trace file for the program's signals.
+    Trace(&'a str, TraceAnswer),
     /// There is no memory for what the files say, or for the line that refuses them.
     OutOfMemory,
 }
@@ -35,7 +38,7 @@ impl Refusal<'_> {
     {
         match self {
             Refusal::LongProgram | Refusal::Front(_) | Refusal::NotBuilt => 1,
-            Refusal::LongFile(_) | Refusal::NoFlows(_) => 4,
+            Refusal::LongFile(_) | Refusal::NoFlows(_) | Refusal::Trace(_, _) => 4,
             Refusal::Missing(_) | Refusal::ReadFault(_) => 5,
             Refusal::OutOfMemory => 7,
         }
@@ -69,6 +72,7 @@ impl fmt::Display for Refusal<'_> {
             Refusal::NotBuilt => f.write_str("error: not built yet"),
             Refusal::LongFile(name) => write!(f, "error: {name}: longer than 67108864 bytes"),
             Refusal::NoFlows(name) => write!(f, "error: {name}: not a flow file"),
+            Refusal::Trace(name, answer) => write!(f, "error: {name}:{answer}"),
             Refusal::OutOfMemory => f.write_str("error: out of memory"),
         }
     }

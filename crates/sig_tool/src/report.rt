@@ -2,6 +2,7 @@
 
 ghost use Rattle.std.specs.Prelude.{◌≡◌, ◌<◌, ◌⊎◌, ◌++◌, [], codes, flat_map, length, slice_index_or};
 ghost use Rattle.sig_plan.specs.Small.{small_of};
+ghost use Rattle.sig_tool.specs.Outcomes.{broken};
 ghost use Rattle.sig_tool.specs.Refusals.{line_of};
 ghost use Rattle.sig_tool.specs.RunEnd.{IsOfProgram, end_line, operator_col, operator_line};
 ghost use Rattle.sig_tool.specs.TopCall.{SaysLine, memory_line, words_line, write_line};
@@ -96,6 +97,27 @@ pub fn say_fault<E: Sink>(err: &mut E, fault: WriteFault)
 {
     let WriteFault = fault;
     say(err, &[b"error: write failed\n"]);
+}
+
+/// Appends the line of an instant that breaks an equation.
+pub fn say_broken<E: Sink>(err: &mut E, instant: u32, equation: u32)
+    ensures { SaysLine E.took (E.faults err.old) (E.faults err.new) err.old err.new
+        (broken instant equation ++ codes "\n") }
+{
+    let mut instant_buffer = Buffer::new();
+    let mut equation_buffer = Buffer::new();
+    let instant = instant_buffer.format(instant).as_bytes();
+    let equation = equation_buffer.format(equation).as_bytes();
+    say(
+        err,
+        &[
+            b"error: instant ",
+            instant,
+            b" breaks equation ",
+            equation,
+            b"\n",
+        ],
+    );
 }
 
 /// Appends the line of memory that was wanting.

@@ -33,13 +33,12 @@ fn is_built(command: &Command) -> bool
 {
     match command {
         Command::Run(_, _, settings) => !settings.pace,
-        Command::Print(_) => true,
+        Command::Print(_) | Command::Judge(_, _) => true,
         Command::Check(_, _)
         | Command::Tree(_, _)
         | Command::Code(_, _)
         | Command::Play(_, _, _, _)
         | Command::Load(_, _, _)
-        | Command::Judge(_, _)
         | Command::Build(_)
         | Command::Exec(_, _, _) => false,
     }

@@ -1,15 +1,17 @@
+use Rattle.std.proofs.Common.{inl, refl}
 use Rattle.sig_words.specs.declared.command.Command.TheVariants.{Print}
+use Rattle.sig_tool.specs.Outcomes.{done}
 use Rattle.sig_tool.proofs.RunClauses.{prefix_of_none, refused_by, status_of_refusal}
-use Rattle.sig_tool.proofs.TextClauses.{prefix_of_text, status_of_text}
+use Rattle.sig_tool.proofs.TextClauses.{prefix_of_outcome, status_of_outcome}
 use Rattle.sig_tool.proofs.print.print_command.Goals as goal
 
 pub returns-in-Ok-clause-prefix : goal.returns-in-Ok-clause-prefix
 returns-in-Ok-clause-prefix g c =
-    prefix_of_text (Print c.args.program.now) c.in-Ok.text.items c.args.program.now g.S.Sink.took c.args.out.now c.put_due.new.out (g.F.Files.contents c.args.files.now) c.in-Ok.ensures.text (rw c.deref.ensures.value at c.put_due.ensures.prefix)
+    prefix_of_outcome (Print c.args.program.now) (done c.in-Ok.text.items c.args.program.now) g.S.Sink.took c.args.out.now c.put_due.new.out (g.F.Files.contents c.args.files.now) c.in-Ok.ensures.text (rw c.deref.ensures.value at c.put_due.ensures.prefix)
 
 pub returns-in-Ok-clause-status : goal.returns-in-Ok-clause-status
 returns-in-Ok-clause-status g c =
-    status_of_text (Print c.args.program.now) c.in-Ok.text.items c.args.program.now (g.F.Files.contents c.args.files.now) c.put_due.result _ _ c.in-Ok.ensures.text c.put_due.ensures.numbers c.put_due.ensures.failed
+    status_of_outcome (Print c.args.program.now) (done c.in-Ok.text.items c.args.program.now) (g.F.Files.contents c.args.files.now) c.put_due.result _ _ (inl (inl refl)) c.in-Ok.ensures.text c.put_due.ensures.numbers c.put_due.ensures.failed
 
 pub returns-in-Err-clause-prefix : goal.returns-in-Err-clause-prefix
 returns-in-Err-clause-prefix g c =
