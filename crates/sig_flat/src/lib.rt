@@ -13,6 +13,8 @@ mod laws;
 mod operator;
 mod site;
 mod term;
+#[cfg(test)]
+mod tests;
 
 pub use answer::FlatAnswer;
 pub use kernel::to_kernel;
