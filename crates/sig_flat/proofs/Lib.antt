@@ -2,6 +2,7 @@ mod Applying
 mod Binaries
 mod Growing
 mod Meeting
+mod Naming
 mod Operating
 mod Reading
 mod Sizes
