@@ -4,6 +4,7 @@ mod Growing
 mod Meeting
 mod Naming
 mod Operating
+mod Parts
 mod Reading
 mod Sizes
 mod Stepping

@@ -1,12 +1,13 @@
 //! What holds of the kernels of flat bodies.
 
-ghost use Rattle.std.specs.Prelude.{◌≡◌, ◌↔◌, ◌||◌, ℤ, pos, true, [], ◌∷◌, length};
+ghost use Rattle.std.specs.Prelude.{◌≡◌, ◌↔◌, ◌||◌, ◌+◌, ◌^◌, ◌<◌, ◌≤◌, take, ℤ, pos, true, [], ◌∷◌, length};
 ghost use Rattle.std.specs.List.{AllPass};
 ghost use Rattle.sig_base.specs.Traces.{Bounded, Instant, IsOfKind, IsPrefixOf, seen_at};
 ghost use Rattle.sig_base.specs.declared.ids.Kind.TheVariants.{Integer};
+ghost use Rattle.sig_base.specs.declared.limits.TheConstants.{SIGNALS};
 ghost use Rattle.sig_base.specs.declared.ids.SigId.{SigId};
 ghost use Rattle.sig_kernel.specs.KernelTraces.{Meets, Memory, function_of, where_present};
-ghost use Rattle.sig_kernel.specs.Validity.{form_within, is_signal};
+ghost use Rattle.sig_kernel.specs.Validity.{HasParts, form_within, inputs_of, is_signal};
 ghost use Rattle.sig_kernel.specs.declared.equation.Equation.{Equation};
 ghost use Rattle.sig_kernel.specs.declared.equation.Form.TheVariants.{Default, Delay, Event, Fun, Sync, When, WhenConst};
 ghost use Rattle.sig_kernel.specs.declared.equation.FunOp.{FunOp};
@@ -84,4 +85,12 @@ pub fn derived_equations_mean_operators()
 pub fn kernels_name_their_signals()
     ensures { (flat : FlatBody) → NamesItsSignals flat
         → AllPass (λ (equation : Equation). form_within (length (kernel_of flat).signals) equation.form) (kernel_of flat).equations }
+{}
+
+/// A law: where the inputs and the outputs of a flat body are among its signals, the parts of its
+/// kernel are counted right, and the inputs are the same signals, unless a limit is passed.
+pub fn kernels_have_their_parts()
+    ensures parts { (flat : FlatBody) → flat.inputs + flat.outputs ≤ length flat.signals
+        → length (kernel_of flat).signals ≤ SIGNALS → length (kernel_of flat).equations < 2 ^ 32 → HasParts (kernel_of flat) }
+    ensures inputs { (flat : FlatBody) → flat.inputs ≤ length flat.signals → inputs_of (kernel_of flat) ≡ take flat.inputs flat.signals }
 {}
