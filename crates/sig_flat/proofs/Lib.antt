@@ -7,4 +7,5 @@ mod Operating
 mod Parts
 mod Reading
 mod Sizes
+mod Speaking
 mod Stepping

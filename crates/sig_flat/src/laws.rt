@@ -1,12 +1,13 @@
 //! What holds of the kernels of flat bodies.
 
 ghost use Rattle.std.specs.Prelude.{◌≡◌, ◌↔◌, ◌||◌, ◌+◌, ◌^◌, ◌<◌, ◌≤◌, take, ℤ, pos, true, [], ◌∷◌, length};
-ghost use Rattle.std.specs.List.{AllPass};
+ghost use Rattle.std.specs.List.{AllByRecursion, AllPass, list_any};
 ghost use Rattle.sig_base.specs.Traces.{Bounded, Instant, IsOfKind, IsPrefixOf, seen_at};
 ghost use Rattle.sig_base.specs.declared.ids.Kind.TheVariants.{Integer};
 ghost use Rattle.sig_base.specs.declared.limits.TheConstants.{SIGNALS};
 ghost use Rattle.sig_base.specs.declared.ids.SigId.{SigId};
 ghost use Rattle.sig_kernel.specs.KernelTraces.{Meets, Memory, function_of, where_present};
+ghost use Rattle.sig_kernel.specs.Table.{operands_of};
 ghost use Rattle.sig_kernel.specs.Validity.{HasParts, form_within, inputs_of, is_signal};
 ghost use Rattle.sig_kernel.specs.declared.equation.Equation.{Equation};
 ghost use Rattle.sig_kernel.specs.declared.equation.Form.TheVariants.{Default, Delay, Event, Fun, Sync, When, WhenConst};
@@ -19,7 +20,7 @@ ghost use Rattle.sig_tree.specs.declared.expr.UnOp.TheVariants.{Clock, When as W
 ghost use Rattle.sig_tree.specs.Operators.{AppliesToBoth, AppliesToOne, Changes, Combines, Constant, Signal, clock_of, delayed, held, merged, sampled};
 ghost use Rattle.sig_flat.specs.Rows.{AreMet, found_at};
 ghost use Rattle.sig_tree.specs.FlatSyntax.{FlatBody};
-ghost use Rattle.sig_flat.specs.Bodies.{NamesItsSignals};
+ghost use Rattle.sig_flat.specs.Bodies.{EquationSpeaks, NamesItsSignals};
 ghost use Rattle.sig_flat.specs.KernelOf.{kernel_of};
 
 /// A law: the signals of the kernel of a flat body begin with those of the flat body, which are the
@@ -81,10 +82,12 @@ pub fn derived_equations_mean_operators()
 {}
 
 /// A law: the equations of the kernel of a flat body whose equations name its signals name signals of
-/// the kernel.
+/// the kernel, and have one among their operands where each operator of the flat body has.
 pub fn kernels_name_their_signals()
-    ensures { (flat : FlatBody) → NamesItsSignals flat
+    ensures within { (flat : FlatBody) → NamesItsSignals flat
         → AllPass (λ (equation : Equation). form_within (length (kernel_of flat).signals) equation.form) (kernel_of flat).equations }
+    ensures speak { (flat : FlatBody) → AllByRecursion EquationSpeaks flat.equations
+        → AllPass (λ (equation : Equation). list_any is_signal (operands_of equation.form)) (kernel_of flat).equations }
 {}
 
 /// A law: where the inputs and the outputs of a flat body are among its signals, the parts of its
