@@ -2,7 +2,10 @@ mod Applying
 mod Binaries
 mod Growing
 mod Meeting
+mod Naming
 mod Operating
+mod Parts
 mod Reading
 mod Sizes
+mod Speaking
 mod Stepping

@@ -1,4 +1,5 @@
 pub mod Answers
+pub mod Bodies
 pub mod Drafts
 pub mod KernelOf
 pub mod Rows

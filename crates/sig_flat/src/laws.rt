@@ -1,11 +1,15 @@
 //! What holds of the kernels of flat bodies.
 
-ghost use Rattle.std.specs.Prelude.{◌≡◌, ◌↔◌, ◌||◌, ℤ, pos, true, [], ◌∷◌, length};
+ghost use Rattle.std.specs.Prelude.{◌≡◌, ◌↔◌, ◌||◌, ◌+◌, ◌^◌, ◌<◌, ◌≤◌, take, ℤ, pos, true, [], ◌∷◌, length};
+ghost use Rattle.std.specs.List.{AllByRecursion, AllPass, list_any};
 ghost use Rattle.sig_base.specs.Traces.{Bounded, Instant, IsOfKind, IsPrefixOf, seen_at};
 ghost use Rattle.sig_base.specs.declared.ids.Kind.TheVariants.{Integer};
+ghost use Rattle.sig_base.specs.declared.limits.TheConstants.{SIGNALS};
 ghost use Rattle.sig_base.specs.declared.ids.SigId.{SigId};
 ghost use Rattle.sig_kernel.specs.KernelTraces.{Meets, Memory, function_of, where_present};
-ghost use Rattle.sig_kernel.specs.Validity.{is_signal};
+ghost use Rattle.sig_kernel.specs.Table.{operands_of};
+ghost use Rattle.sig_kernel.specs.Validity.{HasParts, form_within, inputs_of, is_signal};
+ghost use Rattle.sig_kernel.specs.declared.equation.Equation.{Equation};
 ghost use Rattle.sig_kernel.specs.declared.equation.Form.TheVariants.{Default, Delay, Event, Fun, Sync, When, WhenConst};
 ghost use Rattle.sig_kernel.specs.declared.equation.FunOp.{FunOp};
 ghost use Rattle.sig_kernel.specs.declared.equation.FunOp.TheVariants.{Not};
@@ -16,6 +20,7 @@ ghost use Rattle.sig_tree.specs.declared.expr.UnOp.TheVariants.{Clock, When as W
 ghost use Rattle.sig_tree.specs.Operators.{AppliesToBoth, AppliesToOne, Changes, Combines, Constant, Signal, clock_of, delayed, held, merged, sampled};
 ghost use Rattle.sig_flat.specs.Rows.{AreMet, found_at};
 ghost use Rattle.sig_tree.specs.FlatSyntax.{FlatBody};
+ghost use Rattle.sig_flat.specs.Bodies.{EquationSpeaks, NamesItsSignals};
 ghost use Rattle.sig_flat.specs.KernelOf.{kernel_of};
 
 /// A law: the signals of the kernel of a flat body begin with those of the flat body, which are the
@@ -74,4 +79,21 @@ pub fn derived_equations_mean_operators()
         × (seen_at instant w.0 ≡ sampled (Some (pos 1)) (seen_at instant b.0))
         × (seen_at instant d.0 ≡ merged (seen_at instant e.0) (seen_at instant w.0))
         × (seen_at instant y.0 ≡ held (memory y.0 init) (seen_at instant x.0) (seen_at instant b.0)))) }
+{}
+
+/// A law: the equations of the kernel of a flat body whose equations name its signals name signals of
+/// the kernel, and have one among their operands where each operator of the flat body has.
+pub fn kernels_name_their_signals()
+    ensures within { (flat : FlatBody) → NamesItsSignals flat
+        → AllPass (λ (equation : Equation). form_within (length (kernel_of flat).signals) equation.form) (kernel_of flat).equations }
+    ensures speak { (flat : FlatBody) → AllByRecursion EquationSpeaks flat.equations
+        → AllPass (λ (equation : Equation). list_any is_signal (operands_of equation.form)) (kernel_of flat).equations }
+{}
+
+/// A law: where the inputs and the outputs of a flat body are among its signals, the parts of its
+/// kernel are counted right, and the inputs are the same signals, unless a limit is passed.
+pub fn kernels_have_their_parts()
+    ensures parts { (flat : FlatBody) → flat.inputs + flat.outputs ≤ length flat.signals
+        → length (kernel_of flat).signals ≤ SIGNALS → length (kernel_of flat).equations < 2 ^ 32 → HasParts (kernel_of flat) }
+    ensures inputs { (flat : FlatBody) → flat.inputs ≤ length flat.signals → inputs_of (kernel_of flat) ≡ take flat.inputs flat.signals }
 {}

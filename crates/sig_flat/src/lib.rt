@@ -13,7 +13,12 @@ mod laws;
 mod operator;
 mod site;
 mod term;
+#[cfg(test)]
+mod tests;
 
 pub use answer::FlatAnswer;
 pub use kernel::to_kernel;
-pub use laws::{derived_equations_mean_operators, equations_mean_operators, kernels_keep_signals};
+pub use laws::{
+    derived_equations_mean_operators, equations_mean_operators, kernels_have_their_parts,
+    kernels_keep_signals, kernels_name_their_signals,
+};
