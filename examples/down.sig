@@ -1,0 +1,7 @@
+% A countdown: it takes A where it has come to 0, and counts down at the other instants. %
+process DOWN = (? integer A ! integer Y)
+(| Y := A default (ZY - 1)
+ | ZY := Y $ init 0
+ | A ^= when (ZY <= 0)
+ |)
+where integer ZY; end;
