@@ -18,6 +18,4 @@ mod tests;
 
 pub use answer::CallAnswer;
 pub use flat_body::inline;
-pub use laws::{
-    names_of_flat_bodies, size_of_flat_bodies, some_flat_body, trees_of_texts,
-};
+pub use laws::{names_of_flat_bodies, size_of_flat_bodies, some_flat_body, trees_of_texts};
