@@ -4,3 +4,4 @@ pub mod Copies
 pub mod MadeOf
 pub mod Making
 pub mod Sound
+pub mod WellMade
