@@ -1,6 +1,6 @@
 //! From flat bodies to kernels. The kernel of a flat body is a definition (`specs/KernelOf.antt`);
 //! `to_kernel` makes it, or refuses one of more than 512 signals, and stops as soon as there are more. It
-//! stands on sig_base, sig_tree and sig_kernel.
+//! stands on sig_base, sig_tree, sig_call and sig_kernel.
 #![tactic(auto)]
 
 mod answer;
@@ -15,6 +15,7 @@ mod site;
 mod term;
 #[cfg(test)]
 mod tests;
+mod valid;
 
 pub use answer::FlatAnswer;
 pub use kernel::to_kernel;
@@ -22,3 +23,4 @@ pub use laws::{
     derived_equations_mean_operators, equations_mean_operators, kernels_have_their_parts,
     kernels_keep_signals, kernels_name_their_signals,
 };
+pub use valid::kernels_are_valid;

@@ -1,0 +1,16 @@
+//! That the kernels of well-made flat bodies are valid.
+
+ghost use Rattle.std.specs.Prelude.{◌≡◌, ◌<◌, ◌≤◌, ◌^◌, bytes_eq, length, map, take};
+ghost use Rattle.std.specs.List.{IsDistinct};
+ghost use Rattle.sig_base.specs.declared.limits.TheConstants.{SIGNALS};
+ghost use Rattle.sig_call.specs.WellMade.{IsWellMade};
+ghost use Rattle.sig_flat.specs.KernelOf.{kernel_of};
+ghost use Rattle.sig_kernel.specs.Validity.{IsValid};
+ghost use Rattle.sig_tree.specs.FlatSyntax.{FlatBody};
+
+/// A law: the kernel of a well-made flat body, whose inputs have names that differ, is valid, unless
+/// a limit is passed.
+pub fn kernels_are_valid()
+    ensures { (flat : FlatBody) → IsWellMade flat → IsDistinct bytes_eq (map (λ input. input.name) (take flat.inputs flat.signals))
+        → length (kernel_of flat).signals ≤ SIGNALS → length (kernel_of flat).equations < 2 ^ 32 → IsValid (kernel_of flat) }
+{}
