@@ -23,7 +23,7 @@ use Rattle.sig_tree.specs.Levels.{level_of}
 use Rattle.sig_tree.specs.Equations.{IsLeft, IsRight, IsDefinition, IsClockEquation, IsBody, AreBodies, AreFurtherBodies}
 use Rattle.sig_tree.specs.Processes.{IsGroup, AreGroups, IsInterface, IsModel, IsProcess, AreLocals, IsPlainItem, IsItem}
 use Rattle.sig_tree.specs.Grammar.{HasTree}
-use Rattle.sig_call.specs.Sound.{IsSmall, IsSmallRight, IsRead, IsTree, IsSized, size_of}
+use Rattle.sig_call.specs.Sound.{IsSmall, IsSmallRight, IsRead, IsTree, IsSized, size_of, weights}
 
 -- a leaf's number is small, and its name is spelled as one
 abbrev pub SmallTerminal : Terminal → Type 0
@@ -131,10 +131,21 @@ separated_long Is separator of then (x ∷ xs) leaves h =
     let whole : length leaves ≡ length h.0 + length h.1 = ap length h.2 ∙ length-append h.0 h.1 in
     omega arith
 
+further_count : {A : Type 0} (Is : A → List Leaf → Type 0) (separator : Terminal) (xs : List A) (leaves : List Leaf) → Further Is separator xs leaves → length xs ≤ length leaves
+further_count Is separator [] leaves h = omega arith
+further_count Is separator (x ∷ xs) leaves h =
+    let rest : length xs ≤ length h.2 = further_count Is separator xs h.2 h.5 in
+    let whole : length leaves ≡ suc (length h.1 + length h.2) = ap length h.3 ∙ ap suc (length-append h.1 h.2) in
+    omega arith
+
+pub weights_append : (xs ys : List Equations) → weights (xs ++ ys) ≡ weights xs + weights ys
+weights_append [] ys = omega arith
+weights_append (x ∷ xs) ys = let rest = weights_append xs ys in omega arith
+
 -- bodies: their equations are read, and no more than the leaves
 record ReadBody (equations : List Equations) (leaves : List Leaf) : Type 0 where
   read : AllByRecursion IsRead equations
-  few : length equations ≤ length leaves
+  few : weights equations ≤ length leaves
 
 left_some : (limits : Limits) (depth : ℕ) (names : List Name) (leaves : List Leaf) → IsLeft limits depth names leaves → names ≢ []
 left_some limits depth [] leaves (inl h) = λ e. (let no : [] ≡ h.0 ∷ [] = h.1 in absurd cc)
@@ -158,9 +169,8 @@ clocks_read limits depth [] leaves h small = elim h [ ]
 clocks_read limits depth (e ∷ []) leaves h small = elim h [ ]
 clocks_read limits depth (e ∷ f ∷ others) leaves h small = record {
   read = (separated_all (IsExpression limits depth) _ IsSmall (λ x l. expression_small limits depth x l) (e ∷ f ∷ others) leaves h.0 small, tt);
-  few = let behind = h.0.4 in
+  few = let others_few : length (f ∷ others) ≤ length h.0.1 = further_count (IsExpression limits depth) _ (f ∷ others) h.0.1 h.0.4 in
       let whole : length leaves ≡ length h.0.0 + length h.0.1 = ap length h.0.2 ∙ length-append h.0.0 h.0.1 in
-      let more : length h.0.1 ≡ suc (length (behind.1 ++ behind.2)) = ap length behind.3 in
       omega arith;
 }
 
@@ -171,14 +181,14 @@ all_both P (x ∷ xs) ys h k = (h.0, all_both P xs ys h.1 k)
 both_read : {xs ys : List Equations} {front back leaves : List Leaf} → ReadBody xs front → ReadBody ys back → length front + length back ≤ length leaves → ReadBody (xs ++ ys) leaves
 both_read {xs} {ys} {front} {back} {leaves} h k within = record {
   read = all_both IsRead xs ys h.read k.read;
-  few = let first : length xs ≤ length front = h.few in
-      let second : length ys ≤ length back = k.few in
-      let whole : length (xs ++ ys) ≡ length xs + length ys = length-append xs ys in
+  few = let first : weights xs ≤ length front = h.few in
+      let second : weights ys ≤ length back = k.few in
+      let whole : weights (xs ++ ys) ≡ weights xs + weights ys = weights_append xs ys in
       omega arith;
 }
 
 longer : {xs : List Equations} {inside leaves : List Leaf} → ReadBody xs inside → length inside ≤ length leaves → ReadBody xs leaves
-longer {xs} {inside} {leaves} h within = record { read = h.read; few = (let first : length xs ≤ length inside = h.few in omega arith) }
+longer {xs} {inside} {leaves} h within = record { read = h.read; few = (let first : weights xs ≤ length inside = h.few in omega arith) }
 
 mutual
   body_read : (limits : Limits) (body : Equations) (depth : ℕ) (leaves : List Leaf) → IsBody limits body depth leaves → Small leaves → ReadBody (equations_in body) leaves
@@ -201,13 +211,6 @@ mutual
       (let whole : length leaves ≡ suc (length h.1 + length h.2) = ap length h.3 ∙ ap suc (length-append h.1 h.2) in omega arith)
 
 -- interfaces: their names are no more than the leaves
-further_count : {A : Type 0} (Is : A → List Leaf → Type 0) (separator : Terminal) (xs : List A) (leaves : List Leaf) → Further Is separator xs leaves → length xs ≤ length leaves
-further_count Is separator [] leaves h = omega arith
-further_count Is separator (x ∷ xs) leaves h =
-    let rest : length xs ≤ length h.2 = further_count Is separator xs h.2 h.5 in
-    let whole : length leaves ≡ suc (length h.1 + length h.2) = ap length h.3 ∙ ap suc (length-append h.1 h.2) in
-    omega arith
-
 separated_count : {A : Type 0} (Is : A → List Leaf → Type 0) (separator : Terminal) (xs : List A) (leaves : List Leaf) → Separated Is separator xs leaves → length xs ≤ suc (length leaves)
 separated_count Is separator [] leaves h = omega arith
 separated_count Is separator (x ∷ xs) leaves h =
@@ -266,7 +269,7 @@ mutual
       let placed = small_right h.5 _ refl (small_right h.4 _ refl (small_right h.3 _ refl after)) in
       let equations = body_read limits body depth h.6 h.12 (small_left h.6 _ refl placed) in
       let where_part = small_left h.7 _ refl (small_right h.6 _ refl placed) in
-      let few : length (equations_in body) ≤ length h.6 = equations.few in
+      let few : weights (equations_in body) ≤ length h.6 = equations.few in
       let interface : length (declared_as Input heading.inputs) + length (declared_as Output heading.outputs) ≤ length h.4 = interface_count heading.inputs heading.outputs h.4 h.10 in (
         record { read = equations.read; few = omega arith },
         elim h.13 [

@@ -4,11 +4,11 @@ ghost use Rattle.std.specs.Prelude.{◌+◌, ◌*◌, ◌^◌, ◌<◌, ◌≤�
 ghost use Rattle.std.specs.List.{IsDistinct};
 ghost use Rattle.std.specs.Str.{bytes_eq};
 ghost use Rattle.sig_tree.specs.Syntax.{ProcessModel};
-ghost use Rattle.sig_tree.specs.FlatSyntax.{FlatBody};
+ghost use Rattle.sig_tree.specs.FlatSyntax.{FlatBody, FlatEquation};
 ghost use Rattle.sig_tree.specs.FlatBody.{IsFlatBody};
 ghost use Rattle.sig_tree.specs.Grammar.{IsText};
 ghost use Rattle.sig_tree.specs.WellFormed.{IsWellFormed};
-ghost use Rattle.sig_call.specs.Sound.{IsTree, IsSized};
+ghost use Rattle.sig_call.specs.Sound.{IsTree, IsSized, flat_weights};
 
 use sig_lex::{each_token, slices_in_order};
 
@@ -28,10 +28,12 @@ pub fn trees_of_texts()
 }
 
 /// A law: a flat body has at most as many equations as the equations, inputs and outputs of its
-/// program's greatest process, for the first process and for each signal.
+/// program's greatest process, for the first process and for each signal, where a clock equation
+/// counts one for each pair of operands that stand beside each other.
 pub fn size_of_flat_bodies()
-    ensures { (program : List ProcessModel) (flat : FlatBody) (size : ℕ) → IsTree program → IsWellFormed program → IsSized size program
-        → IsFlatBody program flat → length flat.equations ≤ size * (length flat.signals + 1) }
+    ensures weights { (program : List ProcessModel) (flat : FlatBody) (size : ℕ) → IsTree program → IsWellFormed program → IsSized size program
+        → IsFlatBody program flat → flat_weights flat.equations ≤ size * (length flat.signals + 1) }
+    ensures equations { (qs : List FlatEquation) → length qs ≤ flat_weights qs }
 {}
 
 /// A law: the signals of a flat body have names that differ. There are fewer than 10 ^ 64 of them, so

@@ -2,6 +2,7 @@ mod Applying
 mod Binaries
 mod Counting
 mod DefinedOnce
+mod FewEquations
 mod Fitting
 mod FittingForms
 mod FittingOperators

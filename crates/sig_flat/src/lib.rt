@@ -23,4 +23,4 @@ pub use laws::{
     derived_equations_mean_operators, equations_mean_operators, kernels_have_their_parts,
     kernels_keep_signals, kernels_name_their_signals,
 };
-pub use valid::kernels_are_valid;
+pub use valid::{kernels_are_valid, kernels_have_few_equations};
