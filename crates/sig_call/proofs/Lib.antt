@@ -1,12 +1,16 @@
 pub mod Apart
 pub mod Bound
+pub mod Counting
+pub mod DefinitionCounts
 pub mod Existence
 pub mod Expandable
 pub mod Labels
 pub mod Leading
+pub mod LeftSides
 pub mod Lists
 pub mod Named
 pub mod Numbered
+pub mod Obeying
 pub mod Readiness
 pub mod Size
 pub mod Spelled
