@@ -4,6 +4,9 @@ pub mod Counting
 pub mod DefinitionCounts
 pub mod Existence
 pub mod Expandable
+pub mod GoodCopies
+pub mod GoodExpressions
+pub mod KindRules
 pub mod Labels
 pub mod Leading
 pub mod LeftSides
