@@ -63,18 +63,21 @@ constant_fits signals copy good wanted kind is constant fit small =
     (constant_kind (kind_of_constant (declarations copy.process) constant) kind (subst (λ w. IsUnfit (declarations copy.process) w constant → ⊥) is fit)) small
 
 -- names
+pub numbered_within : (signals : List Signal) (number : ℕ) (kind : Kind) → kind_numbered signals number ≡ Some kind → number < length signals
+numbered_within signals number kind is = within (slice_get signals number) refl is where
+  within : (o : Option Signal) → slice_get signals number ≡ o → option_map (λ s. s.kind) o ≡ Some kind → number < length signals
+  within None found kinds = absurd cc
+  within (Some s) found kinds = slice_get_within signals number s found
+
 name_good : (signals : List Signal) (d : Option Declaration) (bound : Option BoundTo) (at : Span) → Suits signals d bound → (d ≡ None → ⊥)
     → IsGood signals (flat_name bound at) (option_map (λ x. x.kind) d) (is_parameter (parameter_kind d))
 name_good signals None bound at suits known = absurd (known refl)
 name_good signals (Some d) None at suits known = absurd suits
 name_good signals (Some d) (Some (BoundSignal number)) at suits known = record {
-  made = numbered (slice_get signals number) refl suits.1;
+  made = numbered_within signals number d.kind suits.1;
   same = ap is_parameter (sym suits.0);
   kinded = (d.kind, refl, suits.1);
-} where
-  numbered : (o : Option Signal) → slice_get signals number ≡ o → option_map (λ s. s.kind) o ≡ Some d.kind → number < length signals
-  numbered None is kinds = absurd cc
-  numbered (Some s) is kinds = slice_get_within signals number s is
+}
 name_good signals (Some d) (Some (BoundConstant value kind)) at suits known = record {
   made = suits.2;
   same = ap is_parameter (sym suits.0);
@@ -129,7 +132,7 @@ init_fits : (signals : List Signal) (copy : Copy) → IsGoodCopy signals copy �
 init_fits signals copy good flat kind same init fit small =
     (same.0, same.2, constant_fits signals copy good (unary_kind delay_row kind) (stored same.0) (ap (unary_kind delay_row) same.1) init fit small)
 
-delay_good : (signals : List Signal) (copy : Copy) (flat : FlatExpression) (kind : Option Kind) (constant : Bool) (value : ℤ) (at : Span) → IsGood signals flat kind constant
+pub delay_good : (signals : List Signal) (copy : Copy) (flat : FlatExpression) (kind : Option Kind) (constant : Bool) (value : ℤ) (at : Span) → IsGood signals flat kind constant
     → (constant ≡ true → ⊥) → MayBegin signals flat value → IsGood signals (Delay flat value at) (unary_kind delay_row kind) false
 delay_good signals copy flat kind constant value at good bare begins = record {
   made = (good.same ∙ not_constant constant bare, good.made, begins);

@@ -11,6 +11,8 @@ pub mod Labels
 pub mod Leading
 pub mod LeftSides
 pub mod Lists
+pub mod MadeBodies
+pub mod MadeEquations
 pub mod Named
 pub mod Numbered
 pub mod Obeying
@@ -18,4 +20,5 @@ pub mod Readiness
 pub mod Size
 pub mod Spelled
 pub mod Texts
+pub mod WellMadeBodies
 pub mod Whole

@@ -136,32 +136,32 @@ contained (x ∷ xs) t = here (bytes_eq x t) refl (contained xs t) where
 contained_if : (xs : List (List ℕ)) (t : List ℕ) → ((Contains xs t → ⊥) → ⊥) → Contains xs t
 contained_if xs t h = elim (contained xs t) [ inl there ↦ there | inr none ↦ absurd (h none) ]
 
--- the names of left sides are known
-known_lefts : (all : List ProcessModel) (declared : List Declaration) (names : List Name) → NoneHolds (each (unknown_at all declared) (signals_used names)) → AllByRecursion (λ name. declaration_of declared name.text ≡ None → ⊥) names
-known_lefts all declared [] none = tt
-known_lefts all declared (n ∷ ns) none = (none.0, known_lefts all declared ns none.1)
+-- names that are used are known, those of left sides too
+pub names_known : (all : List ProcessModel) (declared : List Declaration) (names : List Name) → NoneHolds (each (unknown_at all declared) (signals_used names)) → AllByRecursion (λ name. declaration_of declared name.text ≡ None → ⊥) names
+names_known all declared [] none = tt
+names_known all declared (n ∷ ns) none = (none.0, names_known all declared ns none.1)
 
 pub lefts_known : (all : List ProcessModel) (declared : List Declaration) (q : Equations) → NoneHolds (each (unknown_at all declared) (uses_of_equation q))
     → AllByRecursion (λ name. declaration_of declared name.text ≡ None → ⊥) (left_sides q)
 lefts_known all declared (Together bodies) none = tt
 lefts_known all declared (Defines names right) none =
-    known_lefts all declared names (none_parts (each (unknown_at all declared) (signals_used names)) (each (unknown_at all declared) (uses_of_right right))
+    names_known all declared names (none_parts (each (unknown_at all declared) (signals_used names)) (each (unknown_at all declared) (uses_of_right right))
     (subst NoneHolds (each_append (unknown_at all declared) (signals_used names) (uses_of_right right)) none)).0
 lefts_known all declared (Equal operands) none = tt
 
 -- the rules, one by one
-record Lawful (all before : List ProcessModel) (p : ProcessModel) : Type 0 where
-  unknown : NoneHolds (unknown_names all p)
-  twice : NoneHolds (declared_twice before p)
-  given : NoneHolds (inputs_defined p)
-  again : NoneHolds (defined_twice p)
-  missing : NoneHolds (undefined p)
-  kinds : NoneHolds (clashes all p)
-  bare : NoneHolds (bare_constants p)
-  calls : NoneHolds (bad_calls all before p)
-  inits : NoneHolds (missing_inits_in p)
+pub record Lawful (all before : List ProcessModel) (p : ProcessModel) : Type 0 where
+  pub unknown : NoneHolds (unknown_names all p)
+  pub twice : NoneHolds (declared_twice before p)
+  pub given : NoneHolds (inputs_defined p)
+  pub again : NoneHolds (defined_twice p)
+  pub missing : NoneHolds (undefined p)
+  pub kinds : NoneHolds (clashes all p)
+  pub bare : NoneHolds (bare_constants p)
+  pub calls : NoneHolds (bad_calls all before p)
+  pub inits : NoneHolds (missing_inits_in p)
 
-lawful : (all before : List ProcessModel) (p : ProcessModel) → NoneHolds (rules_on all before p) → Lawful all before p
+pub lawful : (all before : List ProcessModel) (p : ProcessModel) → NoneHolds (rules_on all before p) → Lawful all before p
 lawful all before p none =
     let r0 = none_parts (unknown_names all p) _ none in
     let r1 = none_parts (declared_twice before p) _ r0.1 in
