@@ -1,6 +1,5 @@
 -- Counting: elements that pass a test, and numbers below others.
-use Rattle.std.proofs.Common.{◌≡◌, ◌≢◌, ◌+◌, ◌-◌, ◌<◌, ◌≤◌, ◌==◌, ◌++◌, ◌∙◌, ℕ, zero, suc, Bool, true, false, cond, List, [], ◌∷◌, map, length, get_or, count_by, Contains, refl, sym, ap, subst, arith}
-use Rattle.std.proofs.lemmas.Bool.{cases_eq, cases_lt}
+use Rattle.std.proofs.Common.{◌≡◌, ◌≢◌, ◌+◌, ◌-◌, ◌<◌, ◌++◌, ◌∙◌, ℕ, zero, suc, Bool, true, false, cond, List, [], ◌∷◌, map, length, get_or, count_by, Contains, refl, sym, ap, subst, arith}
 use Rattle.std.proofs.lemmas.List.Sums.{sum_by-append, sum_by-cons}
 use Rattle.std.proofs.lemmas.Slice.Eq.{bytes_eq-Decides}
 use Rattle.std.specs.List.{AllByRecursion}
@@ -10,7 +9,6 @@ use Rattle.sig_call.proofs.Apart.{all_so, Apart}
 -- one where a number is below another, or else none
 abbrev pub below : ℕ → ℕ → ℕ
 below bound n = 1 - (suc n - bound)
-
 
 -- one where a test is passed
 abbrev pub tally : Bool → ℕ

@@ -1,19 +1,19 @@
 -- How often the equations of an expansion define each signal: as often as the left sides of the copy stand
 -- for it, and once where the signal was made on the way.
-use Rattle.std.proofs.Common.{◌≡◌, ◌+◌, ◌++◌, ◌==◌, ◌≤◌, ◌∙◌, ℕ, suc, inl, inr, List, [], ◌∷◌, Some, false, map, length, count_by, refl, ap, arith}
+use Rattle.std.proofs.Common.{◌≡◌, ◌+◌, ◌++◌, ◌==◌, ◌∙◌, ℕ, suc, inl, inr, List, [], ◌∷◌, Some, false, map, length, count_by, refl, ap, arith}
 use Rattle.std.proofs.lemmas.Bool.{cases_eq, eq-eqb}
 use Rattle.std.proofs.lemmas.List.{length-append, length-map}
 use Rattle.std.specs.List.{AllByRecursion, flat_map}
 use Rattle.sig_tree.specs.declared.expr.Name.{Name}
 use Rattle.sig_tree.specs.Syntax.{Expression, Equations, ProcessModel}
 use Rattle.sig_tree.specs.FlatSyntax.{Sig, FlatEquation, Defines, Equal}
-use Rattle.sig_tree.specs.Declarations.{inputs_of, outputs_of, locals_of, process_of, equations_of_model, left_sides, left_sides_of}
-use Rattle.sig_tree.specs.FlatBody.{Copy, Progress, Expands, Ended, Defined, Equated, Expanded, flat_of, flat_right, inputs_defined, outputs_defined, called_copy, with_copy, signal_of, signals_declared, copied_signals, copy_prefix, cluster_of_call}
+use Rattle.sig_tree.specs.Declarations.{inputs_of, process_of, equations_of_model, left_sides}
+use Rattle.sig_tree.specs.FlatBody.{Copy, Progress, Expands, Ended, Defined, Equated, Expanded, flat_of, flat_right, inputs_defined, outputs_defined, called_copy, with_copy, signal_of, signals_declared}
 use Rattle.sig_call.specs.Sound.{IsReady, AreExpandable}
 use Rattle.sig_call.specs.WellMade.{defines}
 use Rattle.sig_call.proofs.Counting.{below, tally, count_append, count_cons}
 use Rattle.sig_call.proofs.LeftSides.{DefinesOnce, left_count, no_number}
-use Rattle.sig_call.proofs.Readiness.{call_numbers, copied_length}
+use Rattle.sig_call.proofs.Readiness.{call_numbers}
 
 -- one more number below
 one_below : (base n : ℕ) → tally (base == n) + below base n ≡ below (suc base) n

@@ -1,5 +1,5 @@
 -- What the names of a copy are bound to, by their declarations.
-use Rattle.std.proofs.Common.{◌≡◌, ◌++◌, ◌∙◌, ℕ, zero, suc, ℤ, Bool, true, false, cond, List, [], ◌∷◌, map, find, length, Option, None, Some, option_map, refl, sym, ap, subst, arith}
+use Rattle.std.proofs.Common.{◌≡◌, ◌++◌, ℕ, suc, ℤ, Bool, true, false, cond, List, [], ◌∷◌, map, find, length, Option, None, Some, option_map, refl, sym, ap, subst}
 use Rattle.std.specs.List.{AllByRecursion}
 use Rattle.std.specs.Str.{bytes_eq}
 use Rattle.sig_base.specs.declared.ids.Kind.{Kind}

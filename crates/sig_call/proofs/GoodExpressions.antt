@@ -1,9 +1,9 @@
 -- Expressions of a copy: their constants, and their kinds.
-use Rattle.std.proofs.Common.{◌≡◌, ◌⊎◌, ◌++◌, ◌<◌, ◌∙◌, ℕ, ℤ, pos, Bool, true, false, List, [], ◌∷◌, length, Option, None, Some, option_map, option_and_then, refl, sym, ap, subst, inl, inr}
+use Rattle.std.proofs.Common.{◌≡◌, ◌⊎◌, ◌++◌, ◌<◌, ◌∙◌, ℕ, ℤ, Bool, true, false, List, length, Option, None, Some, option_map, refl, sym, ap, subst, inl, inr}
 use Rattle.std.proofs.lemmas.Option.{slice_get_within}
 use Rattle.std.specs.List.{AllByRecursion, slice_get}
 use Rattle.sig_base.specs.declared.ids.Kind.{Kind}
-use Rattle.sig_base.specs.declared.ids.Kind.TheVariants.{Integer, Boolean, Event}
+use Rattle.sig_base.specs.declared.ids.Kind.TheVariants.{Integer, Boolean}
 use Rattle.sig_base.specs.declared.signal.Signal.{Signal}
 use Rattle.sig_base.specs.declared.span.Span.{Span}
 use Rattle.sig_base.specs.Traces.{Bounded, IsValue}
@@ -11,15 +11,15 @@ use Rattle.sig_tree.specs.declared.expr.Name.{Name}
 use Rattle.sig_tree.specs.declared.expr.Constant.{Constant}
 use Rattle.sig_tree.specs.declared.expr.Constant.TheVariants.{Int, Bool as Truthful, Param}
 use Rattle.sig_tree.specs.declared.expr.UnOp.{UnOp}
-use Rattle.sig_tree.specs.declared.expr.UnOp.TheVariants.{Not, Neg, When as UnaryWhen, Clock}
+use Rattle.sig_tree.specs.declared.expr.UnOp.TheVariants.{Neg}
 use Rattle.sig_tree.specs.declared.expr.BinOp.{BinOp}
 use Rattle.sig_tree.specs.Syntax.{Expression, Named, Number, Truth, Unary as UnaryForm, Binary as BinaryForm, Delay as DelayForm, Cell as CellForm}
-use Rattle.sig_tree.specs.FlatSyntax.{FlatExpression, Sig, Const, Unary, Binary, Delay, Cell}
+use Rattle.sig_tree.specs.FlatSyntax.{FlatExpression, Unary, Binary, Delay, Cell}
 use Rattle.sig_tree.specs.Declarations.{Declaration, declarations, declaration_of, names_of_expression, names_of_init, names_of_constant}
-use Rattle.sig_tree.specs.Kinds.{NoConstant, unary_row, binary_row, delay_row, cell_row, unary_kind, binary_kind, stored, kind_of, kind_of_name, kind_of_constant, kind_of_parameter, parameter_kind, is_parameter, is_constant as is_constant_in}
-use Rattle.sig_tree.specs.Candidates.{Candidate, NoneHolds}
-use Rattle.sig_tree.specs.Rules.{IsUnfit, RefusesOne, RefusesTwo, clash_of_init, clashes_of_expression, bare_in_expression, missing_inits}
-use Rattle.sig_tree.specs.FlatBody.{Binding as BoundTo, BoundSignal, BoundConstant, Copy, binding_of, flat_name, flat_of, init_value, truth_value, value_bound, value_of}
+use Rattle.sig_tree.specs.Kinds.{NoConstant, unary_row, binary_row, delay_row, cell_row, unary_kind, binary_kind, stored, kind_of, kind_of_constant, kind_of_parameter, parameter_kind, is_parameter, is_constant as is_constant_in}
+use Rattle.sig_tree.specs.Candidates.{NoneHolds}
+use Rattle.sig_tree.specs.Rules.{IsUnfit, RefusesOne, RefusesTwo, clashes_of_expression, bare_in_expression, missing_inits}
+use Rattle.sig_tree.specs.FlatBody.{Binding as BoundTo, BoundSignal, BoundConstant, Copy, binding_of, flat_name, flat_of, truth_value, value_bound, value_of}
 use Rattle.sig_call.specs.Constants.{IsBoundedConstant, HasBoundedInits}
 use Rattle.sig_call.specs.Sound.{IsSmall}
 use Rattle.sig_call.specs.WellMade.{kind_numbered, flat_kind, is_constant, Allows, IsMade, MayBegin}

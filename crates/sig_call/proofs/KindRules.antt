@@ -1,10 +1,9 @@
 -- What follows where the rules on kinds do not refuse.
-use Rattle.std.proofs.Common.{◌≡◌, ◌≢◌, ◌⊎◌, ◌<◌, ◌≤◌, ◌^◌, ◌∙◌, ◌&&◌, ℕ, zero, suc, ℤ, pos, neg_ℤ, Bool, true, false, if◌then◌else◌, Option, None, Some, refl, sym, ap, subst, inl, inr, arith, FitsSigned, w64}
+use Rattle.std.proofs.Common.{◌≡◌, ◌≢◌, ◌⊎◌, ◌<◌, ◌^◌, ◌∙◌, ℕ, zero, suc, pos, neg_ℤ, Bool, true, false, if◌then◌else◌, Option, None, Some, refl, sym, ap, inl, inr, arith, FitsSigned, w64}
 use Rattle.sig_base.specs.declared.ids.Kind.{Kind}
 use Rattle.sig_base.specs.declared.ids.Kind.TheVariants.{Integer, Boolean, Event}
-use Rattle.sig_base.specs.Traces.{Bounded, IsValue}
 use Rattle.sig_tree.specs.Kinds.{FormRow, ConstantRule, NoConstant, OneConstant, FirstConstant, accepts, kind_of_result, unary_kind, binary_kind, stored, Takes}
-use Rattle.sig_tree.specs.Rules.{RefusesOne, RefusesTwo, DoesNotTake, MayNotBeFirst, MayNotBeSecond}
+use Rattle.sig_tree.specs.Rules.{RefusesOne, RefusesTwo, MayNotBeFirst, MayNotBeSecond}
 use Rattle.sig_call.specs.WellMade.{Allows}
 
 pub some_is : {A : Type 0} {a b : A} → Some a ≡ Some b → a ≡ b
@@ -80,8 +79,7 @@ pub binary_alike : (form : FormRow) (first second other_first other_second : Opt
     → Alike (binary_kind form first second) (binary_kind form other_first other_second)
 binary_alike form first second other_first other_second left right h =
     let accepted : accepts form.operands left.0 (Some right.0) ≡ true = unrefused (accepts form.operands left.0 (Some right.0)) (λ is. h (left.0, right.0, left.1, right.1, is)) in
-    let some = binary_some form left.0 right.0 accepted in
-    (
+    let some = binary_some form left.0 right.0 accepted in (
       kind_of_result form.result left.0 (Some right.0),
       ap (λ o. binary_kind form o second) left.1 ∙ ap (binary_kind form (Some left.0)) right.1 ∙ some,
       ap (λ o. binary_kind form o other_second) left.2 ∙ ap (binary_kind form (Some left.0)) right.2 ∙ some,

@@ -1,9 +1,8 @@
 -- The left sides of a process name its outputs and locals, each once: in a copy they stand for the numbers of
 -- the copy's signals that are no inputs.
-use Rattle.std.proofs.Common.{◌≡◌, ◌≢◌, ◌+◌, ◌-◌, ◌<◌, ◌≤◌, ◌==◌, ◌++◌, ◌∙◌, ℕ, ℤ, zero, suc, Bool, true, false, cond, List, [], ◌∷◌, map, find, length, get_or, count_by, Contains, Option, None, Some, option_map, refl, sym, ap, subst, inl, inr, arith, eq-eqb, eqb-true}
+use Rattle.std.proofs.Common.{◌≡◌, ◌≢◌, ◌+◌, ◌-◌, ◌<◌, ◌==◌, ◌++◌, ◌∙◌, ℕ, ℤ, zero, suc, Bool, true, false, cond, List, [], ◌∷◌, map, find, length, get_or, count_by, Contains, Some, option_map, refl, sym, ap, subst, inl, inr, arith, eq-eqb, eqb-true}
 use Rattle.std.proofs.lemmas.Bool.{cases_eq, cases_lt}
 use Rattle.std.proofs.lemmas.List.{length-append, length-map, get_or-append-add, get_or_default}
-use Rattle.std.proofs.lemmas.List.Elements.{Contains-get_or}
 use Rattle.std.proofs.lemmas.Slice.Eq.{bytes_eq-Decides}
 use Rattle.std.specs.List.{AllByRecursion}
 use Rattle.std.specs.Str.{bytes_eq}
@@ -105,13 +104,13 @@ test_at p copy base constants apart bound u j below_own is t here =
     let second : signal_bound (binding_of copy u) ≡ base + (length (inputs_of p) + j) = own_number p copy base constants apart bound u j below_own is in
     elim (cases_eq here.0 j) [
       | inl same ↦
-        (let same_text : t ≡ u = sym here.2 ∙ ap (λ n. get_or own n t) same ∙ get_or_default own j t u below_own ∙ is in
-        is_number (signal_bound (binding_of copy t)) (base + (length (inputs_of p) + here.0)) (base + (length (inputs_of p) + j)) first (ap (λ n. base + (length (inputs_of p) + n)) same)
-        ∙ sym ((bytes_eq-Decides t u).1 same_text))
+          (let same_text : t ≡ u = sym here.2 ∙ ap (λ n. get_or own n t) same ∙ get_or_default own j t u below_own ∙ is in
+          is_number (signal_bound (binding_of copy t)) (base + (length (inputs_of p) + here.0)) (base + (length (inputs_of p) + j)) first (ap (λ n. base + (length (inputs_of p) + n)) same)
+          ∙ sym ((bytes_eq-Decides t u).1 same_text))
       | inr other ↦
-        (let apart_number : here.0 ≢ j = other in
-        no_number (signal_bound (binding_of copy t)) (base + (length (inputs_of p) + j)) (λ same. apart_number (omega arith))
-        ∙ sym (not_it u t (λ same. (let equal : signal_bound (binding_of copy t) ≡ signal_bound (binding_of copy u) = ap (λ x. signal_bound (binding_of copy x)) same in apart_number (omega arith)))))
+          (let apart_number : here.0 ≢ j = other in
+          no_number (signal_bound (binding_of copy t)) (base + (length (inputs_of p) + j)) (λ same. apart_number (omega arith))
+          ∙ sym (not_it u t (λ same. (let equal : signal_bound (binding_of copy t) ≡ signal_bound (binding_of copy u) = ap (λ x. signal_bound (binding_of copy x)) same in apart_number (omega arith)))))
     ]
 
 test_outside : (p : ProcessModel) (copy : Copy) (base : ℕ) (constants : List ℤ) → Apart (declared_texts (declarations p)) → copy.bindings ≡ bindings_of base constants p
@@ -139,17 +138,17 @@ left_count p copy base constants once_each bound n =
       | inl before ↦ (let zero_count : count_by test lefts ≡ 0 = none (λ k h same. absurd (omega arith)) in omega arith)
       | inr behind ↦ elim (cases_lt n (base + (inputs + length own))) [
         | inl within ↦
-          (let j = n - (base + inputs) in
-          let u = get_or own j [] in
-          let place : j < length own = omega arith in
-          let here : get_or own j u ≡ u = get_or_default own j u [] place in
-          let number : base + (inputs + j) ≡ n = omega arith in
-          let as_texts : count_by test lefts ≡ count_by (λ t. bytes_eq t u) lefts =
-          count_same test (λ t. bytes_eq t u) lefts (all_so (Contains own) (λ t. test t ≡ bytes_eq t u)
-          (λ t in_own. ap (λ k. signal_bound (binding_of copy t) == k) (sym number) ∙ test_at p copy base constants once_each.declared bound u j place here t in_own) lefts once_each.inside) in
-          let there : Contains lefts u = holds_at (Contains lefts) own j [] once_each.each place in
-          let one : count_by (λ t. bytes_eq t u) lefts ≡ 1 = once lefts u once_each.apart there in
-          omega arith)
+            (let j = n - (base + inputs) in
+            let u = get_or own j [] in
+            let place : j < length own = omega arith in
+            let here : get_or own j u ≡ u = get_or_default own j u [] place in
+            let number : base + (inputs + j) ≡ n = omega arith in
+            let as_texts : count_by test lefts ≡ count_by (λ t. bytes_eq t u) lefts =
+            count_same test (λ t. bytes_eq t u) lefts (all_so (Contains own) (λ t. test t ≡ bytes_eq t u)
+            (λ t in_own. ap (λ k. signal_bound (binding_of copy t) == k) (sym number) ∙ test_at p copy base constants once_each.declared bound u j place here t in_own) lefts once_each.inside) in
+            let there : Contains lefts u = holds_at (Contains lefts) own j [] once_each.each place in
+            let one : count_by (λ t. bytes_eq t u) lefts ≡ 1 = once lefts u once_each.apart there in
+            omega arith)
         | inr after ↦ (let zero_count : count_by test lefts ≡ 0 = none (λ k h same. absurd (omega arith)) in omega arith)
       ]
     ]

@@ -1,27 +1,25 @@
 -- The equations of an expansion, and flat bodies.
-use Rattle.std.proofs.Common.{◌≡◌, ◌≢◌, ◌+◌, ◌++◌, ◌<◌, ◌≤◌, ◌==◌, ◌∙◌, ℕ, suc, List, [], ◌∷◌, map, length, count_by, None, Some, refl, sym, ap, subst, inl, inr, arith}
-use Rattle.std.proofs.lemmas.List.{append_assoc, append-nil, length-append, length-map}
+use Rattle.std.proofs.Common.{◌≡◌, ◌+◌, ◌++◌, ◌∙◌, ℕ, suc, List, [], ◌∷◌, map, length, Some, refl, sym, ap, subst, inl, inr, arith}
+use Rattle.std.proofs.lemmas.List.{append_assoc, append-nil}
 use Rattle.std.proofs.lemmas.Bool.{cases_eq}
 use Rattle.std.specs.List.{AllByRecursion, flat_map}
 use Rattle.sig_base.specs.declared.signal.Signal.{Signal}
 use Rattle.sig_tree.specs.declared.expr.Name.{Name}
 use Rattle.sig_tree.specs.declared.expr.Constant.{Constant}
-use Rattle.sig_tree.specs.Syntax.{Expression, Computed, Called, Equations, Defines as DefinesNames, Equal as EqualForms, ProcessModel, Modelled}
-use Rattle.sig_tree.specs.FlatSyntax.{FlatEquation, FlatBody}
-use Rattle.sig_tree.specs.Declarations.{Declaration, declarations, name_of, params_of, inputs_of, outputs_of, locals_of, process_of, all_processes, equations_of_model, names_of_expression, names_of_constant, signals_used, uses_of_right}
+use Rattle.sig_tree.specs.Syntax.{Expression, Called, Equations, Defines as DefinesNames, ProcessModel}
+use Rattle.sig_tree.specs.FlatSyntax.{FlatEquation}
+use Rattle.sig_tree.specs.Declarations.{Declaration, declarations, params_of, inputs_of, outputs_of, locals_of, process_of, names_of_expression, names_of_constant, signals_used, uses_of_right}
 use Rattle.sig_tree.specs.Candidates.{NoneHolds, each}
-use Rattle.sig_tree.specs.Rules.{DiffersFrom, bad_calls_of, clash_of_arguments, clashes_of_call, clashes_of_constants, clashes_of_expression, clashes_of_results, unknown_names}
-use Rattle.sig_tree.specs.WellFormed.{IsWellFormed, rules_on}
-use Rattle.sig_tree.specs.FlatBody.{Copy, Progress, Expands, Ended, Defined, Equated, Expanded, IsFlatBody, inputs_defined, outputs_defined, called_copy, with_copy, copied_signals, copy_prefix, cluster_of_call, first_copy, first_progress, signals_declared, value_of}
+use Rattle.sig_tree.specs.Rules.{DiffersFrom, bad_calls_of, clash_of_arguments, clashes_of_call, clashes_of_constants, clashes_of_expression, clashes_of_results}
+use Rattle.sig_tree.specs.FlatBody.{Copy, Progress, Expands, Ended, Defined, Equated, Expanded, inputs_defined, outputs_defined, called_copy, copied_signals, copy_prefix, cluster_of_call, signals_declared, value_of}
 use Rattle.sig_type.proofs.Sequences.{each_append}
-use Rattle.sig_call.specs.Constants.{IsBounded}
-use Rattle.sig_call.specs.Sound.{IsTree, IsReady, IsSmall}
-use Rattle.sig_call.specs.WellMade.{IsMadeEquation, IsWellMade, defines}
-use Rattle.sig_call.proofs.Expandable.{expandable, none_parts, unknown_at}
+use Rattle.sig_call.specs.Sound.{IsReady, IsSmall}
+use Rattle.sig_call.specs.WellMade.{IsMadeEquation}
+use Rattle.sig_call.proofs.Expandable.{none_parts, unknown_at}
 use Rattle.sig_call.proofs.GoodCopies.{AreNumbered, AreValues, IsGoodCopy, copied_numbered, good_copy}
 use Rattle.sig_call.proofs.GoodExpressions.{IsKnown}
 use Rattle.sig_call.proofs.MadeEquations.{AskedAll, constants_fit, defined_made, equated_made, inputs_made, outputs_made}
-use Rattle.sig_call.proofs.Obeying.{AreObeying, EquationObeys, InitObeys, all_parts, names_known, obeying}
+use Rattle.sig_call.proofs.Obeying.{AreObeying, EquationObeys, InitObeys, all_parts, names_known}
 use Rattle.sig_call.proofs.Readiness.{call_numbers}
 use Rattle.sig_call.proofs.Texts.{all_both}
 
@@ -103,8 +101,7 @@ pub made_along : {all : List ProcessModel} {copy : Copy} {equations : List Equat
 made_along obeys final rest is good_names inits asked Ended = tt
 made_along {all = all} {copy = copy} obeys final rest is good_names inits asked (Defined name e behind) =
     let here = asked.0 in
-    let declared = declarations copy.process in
-    (
+    let declared = declarations copy.process in (
       defined_made final copy good_names inits name e record {
         known = here.known.0;
         free = here.given.0;
@@ -123,8 +120,7 @@ made_along {all = all} {copy = copy} obeys final rest is good_names inits asked 
     )
 made_along {all = all} {copy = copy} obeys final rest is good_names inits asked (Equated operands behind) =
     let here = asked.0 in
-    let declared = declarations copy.process in
-    (
+    let declared = declarations copy.process in (
       equated_made final copy good_names operands record {
         known = names_known all declared (flat_map names_of_expression operands) here.known;
         kinds = here.kinds;

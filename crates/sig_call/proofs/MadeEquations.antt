@@ -1,5 +1,5 @@
 -- The equations of a copy, each by itself.
-use Rattle.std.proofs.Common.{◌≡◌, ◌≢◌, ◌⊎◌, ◌+◌, ◌++◌, ◌<◌, ◌≤◌, ◌∙◌, ℕ, zero, suc, ℤ, Bool, true, false, List, [], ◌∷◌, map, zip, length, get_or, Option, None, Some, IsSome, Any, option_map, option_and_then, refl, sym, ap, subst, inl, inr, arith}
+use Rattle.std.proofs.Common.{◌≡◌, ◌⊎◌, ◌++◌, ◌<◌, ◌∙◌, ℕ, suc, Bool, true, List, [], ◌∷◌, map, zip, length, Option, None, Some, IsSome, Any, option_map, option_and_then, refl, sym, ap, subst, inl, inr, arith}
 use Rattle.std.specs.List.{AllByRecursion, flat_map}
 use Rattle.std.specs.Str.{bytes_eq}
 use Rattle.sig_base.specs.declared.ids.Kind.{Kind}
@@ -7,12 +7,12 @@ use Rattle.sig_base.specs.declared.signal.Signal.{Signal}
 use Rattle.sig_base.specs.Traces.{Bounded, IsValue}
 use Rattle.sig_tree.specs.declared.expr.Name.{Name}
 use Rattle.sig_tree.specs.declared.expr.Constant.{Constant}
-use Rattle.sig_tree.specs.Syntax.{Expression, Named, Number, Truth, Unary as UnaryForm, Binary as BinaryForm, Delay as DelayForm, Cell as CellForm}
-use Rattle.sig_tree.specs.FlatSyntax.{FlatExpression, Sig, FlatEquation, Defines, Equal}
+use Rattle.sig_tree.specs.Syntax.{Expression, Delay as DelayForm}
+use Rattle.sig_tree.specs.FlatSyntax.{FlatExpression, Defines, Equal}
 use Rattle.sig_tree.specs.Declarations.{Role, Parameter, Input, Output, Local, Declaration, declarations, declaration_of, outputs_of, locals_of, names_of_expression}
-use Rattle.sig_tree.specs.Kinds.{delay_row, unary_kind, stored, kind_of, kind_of_name, kind_of_parameter, is_constant as is_constant_in, Takes}
+use Rattle.sig_tree.specs.Kinds.{delay_row, unary_kind, stored, kind_of, kind_of_name, is_constant as is_constant_in, Takes}
 use Rattle.sig_tree.specs.Candidates.{NoneHolds, each}
-use Rattle.sig_tree.specs.Rules.{IsGiven, HasInit, DoesNotTake, clash_of_constant, clash_of_init, clashes_of_constants, clashes_of_expression, clashes_of_results, bare_alone, bare_in_expression, missing_inits, missing_inits_of_right}
+use Rattle.sig_tree.specs.Rules.{IsGiven, HasInit, DoesNotTake, clash_of_init, clashes_of_constants, clashes_of_expression, clashes_of_results, bare_alone, bare_in_expression, missing_inits, missing_inits_of_right}
 use Rattle.sig_tree.specs.FlatBody.{Binding as BoundTo, BoundSignal, BoundConstant, Copy, binding_of, declared_init, flat_of, flat_right, init_value, inputs_defined, outputs_defined, signal_bound, signal_of, value_of}
 use Rattle.sig_call.specs.Constants.{IsBoundedConstant, IsBoundedInit, HasBoundedInits}
 use Rattle.sig_call.specs.Sound.{IsSmall}

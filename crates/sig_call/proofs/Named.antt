@@ -133,7 +133,7 @@ named_along {all = all} {copy = copy} {before = before} {after = after} sound fi
 -- the signals of the first process
 plain_texts : (ds : List Declaration) → AllByRecursion IsNamed ds → AllByRecursion (Numbered 0) (declared_texts ds)
 plain_texts [] h = tt
-plain_texts (d ∷ ds) h = (inl (name_lacks 35 refl d.name.text h.0.name_bytes), plain_texts ds h.1)
+plain_texts (d ∷ ds) h = (inl (name_lacks 35 refl d.name.text h.0.0.name_bytes), plain_texts ds h.1)
 
 first_named : (text : List ℕ) (p : ProcessModel) → Fine text p → Spelled p → Named (first_progress p)
 first_named text p fine spelled =

@@ -1,13 +1,12 @@
 -- What the rules say of the processes of a well-formed program.
-use Rattle.std.proofs.Common.{◌≡◌, ◌⊎◌, ◌++◌, ◌<◌, ◌∙◌, ℕ, zero, suc, Bool, true, false, cond, List, [], ◌∷◌, None, Some, Option, find, map, length, get_or, Contains, refl, sym, ap, subst, inl, inr, arith}
+use Rattle.std.proofs.Common.{◌≡◌, ◌⊎◌, ◌++◌, ◌<◌, ℕ, zero, suc, Bool, true, false, cond, List, [], ◌∷◌, None, Some, Option, map, length, get_or, Contains, refl, sym, subst, inl, inr, arith}
 use Rattle.std.proofs.lemmas.Slice.Eq.{bytes_eq-Decides}
-use Rattle.std.proofs.lemmas.List.{append_assoc}
 use Rattle.std.specs.List.{AllByRecursion, flat_map}
 use Rattle.std.specs.Str.{bytes_eq}
 use Rattle.sig_tree.specs.declared.expr.Name.{Name}
 use Rattle.sig_tree.specs.declared.process.Item.{Item}
-use Rattle.sig_tree.specs.Syntax.{Declared, Equations, Together, Defines, Equal, RightSide, ProcessModel}
-use Rattle.sig_tree.specs.Declarations.{Role, Parameter, Input, Output, Local, Declaration, declared_as, heading_of_model, declarations, declaration_of, params_of, inputs_of, outputs_of, locals_of, name_of, process_of, all_processes, texts, left_sides, left_sides_of, equations_of_model, uses_of_equation, uses_of_right, signals_used}
+use Rattle.sig_tree.specs.Syntax.{Declared, Equations, Together, Defines, Equal, ProcessModel}
+use Rattle.sig_tree.specs.Declarations.{Role, Parameter, Input, Declaration, declared_as, heading_of_model, declarations, declaration_of, params_of, inputs_of, outputs_of, locals_of, name_of, process_of, all_processes, texts, left_sides, left_sides_of, equations_of_model, uses_of_equation, uses_of_right, signals_used}
 use Rattle.sig_tree.specs.Candidates.{Candidate, NoneHolds, candidate, each, DefinedTwice, Undefined, InputDefined}
 use Rattle.sig_tree.specs.Rules.{IsGiven, unknown_names, declared_twice, inputs_defined, defined_twice, undefined, clashes, clashes_of_equation, clashes_of_inits, clash_of_init, bare_constants, bare_in_equation, bad_calls, bad_calls_of, recursive_calls, bad_pragmas, missing_inits_in, missing_inits_of_equation}
 use Rattle.sig_tree.specs.WellFormed.{IsWellFormed, rules_on}
@@ -125,6 +124,7 @@ contained (x ∷ xs) t = here (bytes_eq x t) refl (contained xs t) where
   later : (k : ℕ) → k < length (x ∷ xs) → get_or (x ∷ xs) k t ≡ t → (x ≡ t) ⊎ Contains xs t
   later zero h is = inl is
   later (suc k) h is = inr (k, (let m : suc k < suc (length xs) = h in omega arith), is)
+
   here : (b : Bool) → bytes_eq x t ≡ b → Contains xs t ⊎ (Contains xs t → ⊥) → Contains (x ∷ xs) t ⊎ (Contains (x ∷ xs) t → ⊥)
   here true is rest = inl (0, omega arith, (bytes_eq-Decides x t).0 is)
   here false is (inl h) = inl (suc h.0, (let m : h.0 < length xs = h.1 in omega arith), h.2)

@@ -1,11 +1,11 @@
--- The names that the processes of a text declare are spelled as names.
+-- The names that the processes of a text declare are spelled as names, and the inits beside them have 64 bits.
 use Rattle.std.proofs.Common.{◌≡◌, ◌++◌, ℕ, suc, List, [], ◌∷◌, map, refl, sym, subst, inl, inr}
 use Rattle.std.specs.List.{AllByRecursion, flat_map}
 use Rattle.sig_lex.specs.declared.token.Token.{Token}
 use Rattle.sig_lex.specs.Lexemes.{Lexeme, lexemes, the_end, IsNameText, IsSpelled}
 use Rattle.sig_tree.specs.declared.process.Item.{Item}
 use Rattle.sig_tree.specs.Syntax.{Declared, ProcessModel, Modelled, ProcessModels, no_model, more_models}
-use Rattle.sig_tree.specs.Declarations.{Declaration, Role, Input, Output, Local, declared_as, name_of, with_inner, those_inner, all_processes}
+use Rattle.sig_tree.specs.Declarations.{Declaration, Role, Input, Output, Local, declared_as, name_of, inputs_of, outputs_of, locals_of, with_inner, those_inner, all_processes}
 use Rattle.sig_tree.specs.FlatBody.{signals_declared}
 use Rattle.sig_tree.specs.Terminals.{Leaf}
 use Rattle.sig_tree.specs.Leaves.{leaves_of}
@@ -13,11 +13,12 @@ use Rattle.sig_tree.specs.Limits.{Limits}
 use Rattle.sig_tree.specs.Repeated.{Each}
 use Rattle.sig_tree.specs.Processes.{IsGroup, AreGroups, IsInterface, IsModel, IsLocalGroup, AreLocals, IsPlainItem, IsItem}
 use Rattle.sig_tree.specs.Grammar.{HasTree}
-use Rattle.sig_call.proofs.Texts.{SmallLeaf, Small, small_left, small_right, small_tail, small_between, separated_all, all_both, leaves_small}
+use Rattle.sig_call.specs.Constants.{IsBoundedInit, IsBoundedProcess}
+use Rattle.sig_call.proofs.Texts.{SmallLeaf, Small, small_left, small_right, small_tail, small_between, separated_all, all_both, leaves_small, optional_init_bounded, HasBoundedEquations}
 
--- the name of what is declared
+-- the name of what is declared, and its init
 abbrev pub IsNamed : Declaration → Type 0
-IsNamed d = IsNameText d.name.text
+IsNamed d = IsNameText d.name.text × IsBoundedInit d.init
 
 -- a process, and all signals that it declares
 pub record Spelled (p : ProcessModel) : Type 0 where
@@ -25,16 +26,16 @@ pub record Spelled (p : ProcessModel) : Type 0 where
   pub declared : AllByRecursion IsNamed (signals_declared p)
 
 abbrev IsNamedItem : Item → Type 0
-IsNamedItem item = IsNameText item.name.text
+IsNamedItem item = IsNameText item.name.text × IsBoundedInit item.init
 
 abbrev IsNamedGroup : Declared → Type 0
 IsNamedGroup group = AllByRecursion IsNamedItem group.items
 
 plain_named : (item : Item) (leaves : List Leaf) → IsPlainItem item leaves → Small leaves → IsNamedItem item
-plain_named item leaves h small = (subst (AllByRecursion SmallLeaf) h.1 small.all).0
+plain_named item leaves h small = ((subst (AllByRecursion SmallLeaf) h.1 small.all).0, subst IsBoundedInit (sym h.0) tt)
 
 item_named : (item : Item) (leaves : List Leaf) → IsItem item leaves → Small leaves → IsNamedItem item
-item_named item leaves h small = (subst (AllByRecursion SmallLeaf) h.1 small.all).0
+item_named item leaves h small = ((subst (AllByRecursion SmallLeaf) h.1 small.all).0, optional_init_bounded item.init h.0 h.2 (small_tail _ h.0 h.1 small))
 
 group_named : (IsOne : Item → List Leaf → Type 0) → ((item : Item) (leaves : List Leaf) → IsOne item leaves → Small leaves → IsNamedItem item)
     → (group : Declared) (leaves : List Leaf) → IsGroup IsOne group leaves → Small leaves → IsNamedGroup group
@@ -125,3 +126,19 @@ each_named limits (p ∷ ps) leaves h small =
 pub all_spelled : (text : List ℕ) (tokens : List Token) (words : List Lexeme) (program : List ProcessModel) → lexemes text tokens ≡ words ++ the_end ∷ [] → AllByRecursion IsSpelled words
     → HasTree (leaves_of text tokens) program → AllByRecursion Spelled (all_processes program)
 all_spelled text tokens words program is spelled tree = each_named _ program (leaves_of text tokens) tree.1 (record { all = leaves_small text tokens words is spelled })
+
+-- the constants of the processes of a text
+inits_bounded : (ds : List Declaration) → AllByRecursion IsNamed ds → AllByRecursion (λ (d : Declaration). IsBoundedInit d.init) ds
+inits_bounded [] h = tt
+inits_bounded (d ∷ ds) h = (h.0.1, inits_bounded ds h.1)
+
+behind_inputs : (inputs others : List Declaration) → AllByRecursion IsNamed (inputs ++ others) → AllByRecursion IsNamed others
+behind_inputs [] others h = h
+behind_inputs (d ∷ ds) others h = behind_inputs ds others h.1
+
+pub all_processes_bounded : (ps : List ProcessModel) → AllByRecursion HasBoundedEquations ps → AllByRecursion Spelled ps → AllByRecursion IsBoundedProcess ps
+all_processes_bounded [] h k = tt
+all_processes_bounded (p ∷ ps) h k = (
+  record { equations = h.0; declared = inits_bounded (outputs_of p ++ locals_of p) (behind_inputs (inputs_of p) (outputs_of p ++ locals_of p) k.0.declared) },
+  all_processes_bounded ps h.1 k.1,
+)

@@ -1,12 +1,11 @@
 -- The flat body of a well-formed program is well made.
-use Rattle.std.proofs.Common.{◌≡◌, ◌≢◌, ◌+◌, ◌++◌, ◌<◌, ◌≤◌, ◌==◌, ◌∙◌, ℕ, List, [], ◌∷◌, length, count_by, Some, refl, sym, ap, subst, arith}
+use Rattle.std.proofs.Common.{◌≡◌, ◌≢◌, ◌+◌, ◌++◌, ◌<◌, ◌≤◌, ◌∙◌, ℕ, List, [], ◌∷◌, length, count_by, Some, refl, sym, ap, subst, arith}
 use Rattle.std.proofs.lemmas.List.{append-nil, length-append, length-map}
 use Rattle.std.specs.List.{AllByRecursion}
 use Rattle.sig_base.specs.declared.signal.Signal.{Signal}
 use Rattle.sig_tree.specs.Syntax.{ProcessModel, Modelled}
 use Rattle.sig_tree.specs.FlatSyntax.{FlatEquation, FlatBody}
 use Rattle.sig_tree.specs.Declarations.{Declaration, name_of, params_of, inputs_of, outputs_of, locals_of, process_of, all_processes, equations_of_model}
-use Rattle.sig_tree.specs.Candidates.{NoneHolds}
 use Rattle.sig_tree.specs.WellFormed.{IsWellFormed, rules_on}
 use Rattle.sig_tree.specs.FlatBody.{IsFlatBody, Progress, copied_signals, first_copy, first_progress, signals_declared}
 use Rattle.sig_call.specs.Constants.{IsBounded}
@@ -18,7 +17,7 @@ use Rattle.sig_call.proofs.Expandable.{expandable, none_parts}
 use Rattle.sig_call.proofs.GoodCopies.{AreNumbered, AreValues, IsGoodCopy, copied_numbered, good_copy}
 use Rattle.sig_call.proofs.Leading.{grows_along}
 use Rattle.sig_call.proofs.LeftSides.{left_count}
-use Rattle.sig_call.proofs.MadeBodies.{Grown, grown, made_along}
+use Rattle.sig_call.proofs.MadeBodies.{grown, made_along}
 use Rattle.sig_call.proofs.Obeying.{AreObeying, lawful, obeying}
 use Rattle.sig_call.proofs.Whole.{first_found}
 
