@@ -1,5 +1,6 @@
 pub mod Bindings
 pub mod Calling
+pub mod Constants
 pub mod Copies
 pub mod MadeOf
 pub mod Making

@@ -8,6 +8,7 @@ ghost use Rattle.sig_tree.specs.FlatSyntax.{FlatBody, FlatEquation};
 ghost use Rattle.sig_tree.specs.FlatBody.{IsFlatBody};
 ghost use Rattle.sig_tree.specs.Grammar.{IsText};
 ghost use Rattle.sig_tree.specs.WellFormed.{IsWellFormed};
+ghost use Rattle.sig_call.specs.Constants.{IsBounded};
 ghost use Rattle.sig_call.specs.Sound.{IsTree, IsSized, flat_weights};
 
 use sig_lex::{each_token, slices_in_order};
@@ -17,10 +18,12 @@ pub fn some_flat_body()
     ensures { (program : List ProcessModel) → IsTree program → IsWellFormed program → (flat : FlatBody) × IsFlatBody program flat }
 {}
 
-/// A law: of the tree of a text, numbers are small and each definition has a left side, and the
-/// equations, inputs and outputs of a process are no more than the bytes of the text.
+/// A law: of the tree of a text, numbers are small, the integers among the constants have 64 bits and
+/// each definition has a left side, and the equations, inputs and outputs of a process are no more than
+/// the bytes of the text.
 pub fn trees_of_texts()
     ensures tree { (text : List ℕ) (program : List ProcessModel) → IsText text program → IsTree program }
+    ensures bounded { (text : List ℕ) (program : List ProcessModel) → IsText text program → IsBounded program }
     ensures sized { (text : List ℕ) (program : List ProcessModel) → IsText text program → IsSized (length text) program }
 {
     each_token();

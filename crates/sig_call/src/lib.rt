@@ -15,7 +15,9 @@ mod flat_body;
 mod laws;
 #[cfg(test)]
 mod tests;
+mod well_made;
 
 pub use answer::CallAnswer;
 pub use flat_body::inline;
 pub use laws::{names_of_flat_bodies, size_of_flat_bodies, some_flat_body, trees_of_texts};
+pub use well_made::flat_bodies_are_well_made;
