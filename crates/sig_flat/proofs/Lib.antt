@@ -1,3 +1,4 @@
+mod Agreeing
 mod Applying
 mod Binaries
 mod Counting
@@ -6,6 +7,7 @@ mod Fitting
 mod FittingForms
 mod FittingOperators
 mod Growing
+mod Instants
 mod Meeting
 mod Naming
 mod NumberedKinds
@@ -18,3 +20,4 @@ mod Stepping
 mod Targets
 mod Validating
 mod WellMadeNames
+mod Translating

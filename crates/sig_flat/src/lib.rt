@@ -16,6 +16,7 @@ mod term;
 #[cfg(test)]
 mod tests;
 mod valid;
+mod traces;
 
 pub use answer::FlatAnswer;
 pub use kernel::to_kernel;
@@ -24,3 +25,4 @@ pub use laws::{
     kernels_keep_signals, kernels_name_their_signals,
 };
 pub use valid::kernels_are_valid;
+pub use traces::kernel_traces_are_process_traces;
