@@ -14,6 +14,7 @@ mod NumberedKinds
 mod Operating
 mod Parts
 mod Reading
+mod Saying
 mod Sizes
 mod Speaking
 mod Stepping

@@ -46,14 +46,13 @@ translation left site (Cell operand held init at) made =
     let x : Translated = translation None site operand made in
     cell left site init at x (translation None site held x.made)
 
-after_first : Option ℕ → Site → BinOp → Span → FlatExpression → Translated → Translated
+abbrev pub after_first : Option ℕ → Site → BinOp → Span → FlatExpression → Translated → Translated
 after_first left site op at second u = binary left site op at u (translation None site second u.made)
 
-after_operand : Option ℕ → Site → ℤ → Span → FlatExpression → Translated → Translated
+abbrev pub after_operand : Option ℕ → Site → ℤ → Span → FlatExpression → Translated → Translated
 after_operand left site init at held x = cell left site init at x (translation None site held x.made)
 
 pub translation_is : (left : Option ℕ) (site : Site) (e : FlatExpression) (made : Made) → translate left site e made ≡ translation left site e made
-unfolding after_first after_operand
 translation_is None site (SigOf number at) made = refl
 translation_is (Some left) site (SigOf number at) made = refl
 translation_is None site (ConstOf value kind at) made = refl

@@ -1,4 +1,5 @@
 use Rattle.sig_flat.proofs.Agreeing.{fitting}
+use Rattle.sig_flat.proofs.Saying.{says}
 use Rattle.sig_flat.proofs.Translating.{translation}
 use Rattle.sig_flat.proofs.Instants.{runs_from}
 use Rattle.sig_flat.proofs.traces.kernel_traces_are_process_traces.Goals as goal
