@@ -8,6 +8,7 @@ mod FittingForms
 mod FittingOperators
 mod Growing
 mod Instants
+mod Kinded
 mod Meeting
 mod Naming
 mod NumberedKinds
