@@ -1,3 +1,4 @@
+mod Adding
 mod Agreeing
 mod Applying
 mod Binaries
