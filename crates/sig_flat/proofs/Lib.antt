@@ -7,6 +7,7 @@ mod DefinedOnce
 mod Fitting
 mod FittingForms
 mod FittingOperators
+mod Determining
 mod Growing
 mod Instants
 mod Kinded
