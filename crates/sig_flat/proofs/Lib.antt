@@ -8,6 +8,7 @@ mod Fitting
 mod FittingForms
 mod FittingOperators
 mod Determining
+mod Expressing
 mod Growing
 mod Instants
 mod Kinded
