@@ -8,6 +8,7 @@ mod Fitting
 mod FittingForms
 mod FittingOperators
 mod Determining
+mod Equating
 mod Expressing
 mod Growing
 mod Instants

@@ -1,4 +1,5 @@
 use Rattle.sig_flat.proofs.Agreeing.{fitting}
+use Rattle.sig_flat.proofs.Equating.{there_to}
 use Rattle.sig_flat.proofs.Expressing.{same_found}
 use Rattle.sig_flat.proofs.Determining.{binary_determined}
 use Rattle.sig_flat.proofs.Adding.{adds_own}
