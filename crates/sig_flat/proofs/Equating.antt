@@ -96,7 +96,7 @@ syncs_met now first (second ∷ others) made h =
       ),
     )
 
-all_syncs_met : (now : Instant) (signals : List (SigId × Span)) (made : Made) → Met now (with_all_syncs signals made) → Met now made × (present : Bool) × ArePresent now present signals
+pub all_syncs_met : (now : Instant) (signals : List (SigId × Span)) (made : Made) → Met now (with_all_syncs signals made) → Met now made × (present : Bool) × ArePresent now present signals
 all_syncs_met now [] made h = (h, true, tt)
 all_syncs_met now (first ∷ others) made h = let r = syncs_met now first.0 others made h in (r.0, is_some (seen_at now (number_in first)), (refl, r.1))
 
@@ -106,7 +106,7 @@ syncs_meet now present first [] made m e h = m
 syncs_meet now present first (second ∷ others) made m e h =
     syncs_meet now present second.0 others (with_equation made second.1 (Sync first second.0)) (equation_meets now second.1 (Sync first second.0) made m (e ∙ sym h.0)) h.0 h.1
 
-all_syncs_meet : (now : Instant) (present : Bool) (signals : List (SigId × Span)) (made : Made) → Met now made → ArePresent now present signals → Met now (with_all_syncs signals made)
+pub all_syncs_meet : (now : Instant) (present : Bool) (signals : List (SigId × Span)) (made : Made) → Met now made → ArePresent now present signals → Met now (with_all_syncs signals made)
 all_syncs_meet now present [] made m h = m
 all_syncs_meet now present (first ∷ others) made m h = syncs_meet now present first.0 others made m h.0 h.1
 
@@ -115,7 +115,7 @@ syncs_behind now first [] made = refl
 syncs_behind now first (second ∷ others) made =
     ap (with_syncs second.0 others) (sym (equation_behind now second.1 (Sync first second.0) made)) ∙ syncs_behind now second.0 others (with_equation made second.1 (Sync first second.0))
 
-all_syncs_behind : (now : Instant) (signals : List (SigId × Span)) (made : Made) → with_all_syncs signals (behind_made now made) ≡ behind_made now (with_all_syncs signals made)
+pub all_syncs_behind : (now : Instant) (signals : List (SigId × Span)) (made : Made) → with_all_syncs signals (behind_made now made) ≡ behind_made now (with_all_syncs signals made)
 all_syncs_behind now [] made = refl
 all_syncs_behind now (first ∷ others) made = syncs_behind now first.0 others made
 
@@ -123,7 +123,7 @@ syncs_add_none : (first : SigId) (others : List (SigId × Span)) (made : Made) �
 syncs_add_none first [] made = refl
 syncs_add_none first (second ∷ others) made = syncs_add_none second.0 others (with_equation made second.1 (Sync first second.0))
 
-all_syncs_add_none : (signals : List (SigId × Span)) (made : Made) → (with_all_syncs signals made).signals ≡ made.signals
+pub all_syncs_add_none : (signals : List (SigId × Span)) (made : Made) → (with_all_syncs signals made).signals ≡ made.signals
 all_syncs_add_none [] made = refl
 all_syncs_add_none (first ∷ others) made = syncs_add_none first.0 others made
 
@@ -139,17 +139,17 @@ some_of : (s : Seen) → is_some s ≡ true → (v : ℤ) × (s ≡ Some v)
 some_of None e = absurd cc
 some_of (Some v) e = (v, refl)
 
-zip_through : (P : FlatExpression → Type 0) (R S : FlatExpression → FlatExpression → Type 0) → ((e rest : FlatExpression) → P e → R e rest → S e rest)
+pub zip_through : (P : FlatExpression → Type 0) (R S : FlatExpression → FlatExpression → Type 0) → ((e rest : FlatExpression) → P e → R e rest → S e rest)
     → (es rests : List FlatExpression) → AllByRecursion P es → AllZip R es rests → AllZip S es rests
 zip_through P R S f [] [] h a = tt
 zip_through P R S f [] (r ∷ rests) h a = absurd a
 zip_through P R S f (e ∷ es) [] h a = absurd a
 zip_through P R S f (e ∷ es) (r ∷ rests) h a = (f e r h.0 a.0, zip_through P R S f es rests h.1 a.1)
 
-abbrev AreWhole : List Declared → List FlatExpression → Type 0
+abbrev pub AreWhole : List Declared → List FlatExpression → Type 0
 AreWhole signals es = AllByRecursion (λ e. (kind : Kind) × IsWhole signals e kind) es
 
-abbrev Whole : List Declared → FlatExpression → Type 0
+abbrev pub Whole : List Declared → FlatExpression → Type 0
 Whole signals e = (kind : Kind) × IsWhole signals e kind
 
 pub there_from : (signals : List Declared) (now : Instant) (es rests : List FlatExpression) → AreWhole signals es
@@ -168,7 +168,7 @@ there_to signals now true es rests h a = inr (zip_through (Whole signals) (λ e 
     (λ e rest. (v : ℤ) × Steps e now (Signal (Some v)) rest)
     (λ e rest w s. let v = some_of s.0 s.1 in (v.0, subst (λ (q : Seen). Steps e now (Signal q) rest) v.1 s.2)) es rests h a)
 
-there_at : (signals : List Declared) (now other : Instant) (present : Bool) (es rests : List FlatExpression) → AreWhole signals es → Agree (length signals) now other
+pub there_at : (signals : List Declared) (now other : Instant) (present : Bool) (es rests : List FlatExpression) → AreWhole signals es → Agree (length signals) now other
     → AreThere now present es rests → AreThere other present es rests
 there_at signals now other present es rests h agree a = zip_through (Whole signals) (λ e rest. (s : Seen) × (is_some s ≡ present) × Steps e now (Signal s) rest)
     (λ e rest. (s : Seen) × (is_some s ≡ present) × Steps e other (Signal s) rest)

@@ -117,7 +117,7 @@ named_determined (Some left) site signals number at made now o over h below left
     (λ other fits agree e. (one_row at_first other Id (signal_id number) (signal_id left) (fits left)).1
         (identity_of (seen_at other number) (seen_at other left) (e ∙ agree number here) (fits left))))
 
-made_fits : (signals : List Declared) (made : Made) (now : Instant) → Over signals made → AreOfKinds Bounded (kinds_of made.signals) now → Suits signals now
+pub made_fits : (signals : List Declared) (made : Made) (now : Instant) → Over signals made → AreOfKinds Bounded (kinds_of made.signals) now → Suits signals now
 made_fits signals made now over h = suits_over signals over.more now (subst (λ (xs : List Declared). AreOfKinds Bounded (kinds_of xs) now) over.is h)
 
 pub determined : OneStep → (left : Option ℕ) (site : Site) (signals : List Declared) (e : FlatExpression) (made : Made) (now : Instant) (o : Found) (after : FlatExpression) (kind : Kind)

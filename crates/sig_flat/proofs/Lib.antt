@@ -7,6 +7,7 @@ mod DefinedOnce
 mod Fitting
 mod FittingForms
 mod FittingOperators
+mod Bodying
 mod Determining
 mod Equating
 mod Expressing
@@ -26,4 +27,5 @@ mod Stepping
 mod Targets
 mod Validating
 mod WellMadeNames
+mod Tracing
 mod Translating
