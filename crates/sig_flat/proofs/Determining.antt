@@ -7,6 +7,7 @@ use Rattle.sig_base.specs.declared.span.Span.{Span}
 use Rattle.sig_base.specs.Traces.{Seen, Instant, Bounded, IsValue, IsOfKind, AreOfKinds, seen_at}
 use Rattle.sig_kernel.specs.KernelTraces.{Meets, where_present}
 use Rattle.sig_kernel.specs.declared.equation.Form.{Form}
+use Rattle.sig_kernel.specs.declared.equation.Form.TheVariants.{When, Default}
 use Rattle.sig_kernel.specs.declared.equation.Operand.{Operand}
 use Rattle.sig_tree.specs.declared.expr.BinOp.{BinOp}
 use Rattle.sig_tree.specs.declared.expr.BinOp.TheVariants.{Plus, Meet, Less}
@@ -16,12 +17,12 @@ use Rattle.sig_tree.specs.ProcessTraces.{kinds_of}
 use Rattle.sig_call.specs.WellMade.{Allows}
 use Rattle.sig_flat.specs.Rows.{found_at}
 use Rattle.sig_flat.specs.KernelOf.{Site, Made, Translated, with_signal, with_equation, with_own, with_clocks, own, next as next_signal, by_one, binary_form, signal_in, signal_id, plus, meet, less, binary, cell}
-use Rattle.sig_flat.proofs.Meeting.{plus_row, meet_row, less_row, cell_row}
+use Rattle.sig_flat.proofs.Meeting.{less_row, cell_row}
 use Rattle.sig_flat.proofs.Agreeing.{Agree, Fitting, one_longer}
 use Rattle.sig_flat.proofs.Instants.{at_first}
 use Rattle.sig_flat.proofs.Kinded.{clock_kind, or_kind, event_truth, sampled_kind, delayed_kind}
 use Rattle.sig_flat.proofs.Translating.{is_fixed, is_several, found_signal, Met, equation_met, equation_meets, forms_met, forms_meet, own_met}
-use Rattle.sig_flat.proofs.Saying.{binary_meets, plus_forms, meet_forms, less_forms, cell_forms, with_truths, cell_kept, cell_whole, cell_signals}
+use Rattle.sig_flat.proofs.Saying.{binary_meets, clock_forms, clocked, IsClocked, plus_clocked, meet_clocked, less_forms, cell_forms, with_truths, cell_kept, cell_whole, cell_signals}
 use Rattle.sig_flat.proofs.Adding.{Adds, next_is, adds_signal, LeftIs, left_later, same_seen, adds_own, adds_begins, Clocks, clocks_added, clocks_begin}
 
 -- an instant over the signals that were there goes on to one instant over those of a translation
@@ -69,11 +70,11 @@ IsSeen count now u s = (other : Instant) → Agree count now other → seen_at o
 same_combined : (op : BinOp) (s t w : Seen) (x y v : Seen) → x ≡ s → y ≡ t → v ≡ w → Combines op (Signal s) (Signal t) w → Combines op (Signal x) (Signal y) v
 same_combined op s t w x y v a b e h = rw (a, b, e) h
 
-plus_determined : (left : Option ℕ) (site : Site) (at : Span) (u v : Operand) (made : Made) (now : Instant) (s t w : Seen)
+clocked_determined : (op : BinOp) (last : SigId → SigId → SigId → Form) → IsClocked op last → (left : Option ℕ) (site : Site) (at : Span) (u v : Operand) (made : Made) (now : Instant) (s t w : Seen)
     → AreOfKinds Bounded (kinds_of made.signals) now → IsOfKind Bounded Event w → LeftIs left (next_signal made) now (Signal w)
-    → IsSeen (next_signal made) now u s → IsSeen (next_signal made) now v t → Combines Plus (Signal s) (Signal t) w
-    → Determined (plus left site at u v made) made now (Signal w)
-plus_determined left site at u v made now s t w h k left_is u_is v_is is =
+    → IsSeen (next_signal made) now u s → IsSeen (next_signal made) now v t → Combines op (Signal s) (Signal t) w
+    → Determined (clocked left site at last u v made) made now (Signal w)
+clocked_determined op last clocked_is left site at u v made now s t w h k left_is u_is v_is is =
     let clocks : Made = with_clocks site at made in
     let e : ℕ = next_signal made in
     let y : ℕ = own left clocks in
@@ -88,48 +89,16 @@ plus_determined left site at u v made now s t w h k left_is u_is v_is is =
       begins = λ other agree. (c.to other (a.to other agree).0).0;
       found = λ other agree. ap Signal (a.to other agree).1;
       met = λ other fits agree m.
-          let last = a.to other agree in
-          let first = c.to other last.0 in
+          let own_there = a.to other agree in
+          let first = c.to other own_there.0 in
           let uu : seen_at other (signal_in u).0 ≡ s = u_is other first.0 in
           let vv : seen_at other (signal_in v).0 ≡ t = v_is other first.0 in
-          forms_meet other at (plus_forms e y u v) (with_own left site Event at clocks) ((own_met left site Event at clocks other).1 m)
-              ((plus_row at_first other (signal_in u) (signal_in v) (signal_id e) (signal_id (suc e)) (signal_id y)).1
-              (first.1 ∙ ap clock_of (sym uu), first.2 ∙ ap clock_of (sym vv), same_combined Plus s t w (seen_at other (signal_in u).0) (seen_at other (signal_in v).0) (seen_at other y) uu vv last.1 is));
+          forms_meet other at (clock_forms last e y u v) (with_own left site Event at clocks) ((own_met left site Event at clocks other).1 m)
+              ((clocked_is.row at_first other (signal_in u) (signal_in v) (signal_id e) (signal_id (suc e)) (signal_id y)).1
+              (first.1 ∙ ap clock_of (sym uu), first.2 ∙ ap clock_of (sym vv), same_combined op s t w (seen_at other (signal_in u).0) (seen_at other (signal_in v).0) (seen_at other y) uu vv own_there.1 is));
       only = λ other fits agree m f.
-          let r = forms_met other at (plus_forms e y u v) (with_own left site Event at clocks) m in
-          let row = (plus_row at_first other (signal_in u) (signal_in v) (signal_id e) (signal_id (suc e)) (signal_id y)).0 r.1 in
-          a.from other (c.from other agree (row.0 ∙ ap clock_of (u_is other agree)) (row.1 ∙ ap clock_of (v_is other agree))) (same_seen (seen_at other y) w f);
-    }
-
-meet_determined : (left : Option ℕ) (site : Site) (at : Span) (u v : Operand) (made : Made) (now : Instant) (s t w : Seen)
-    → AreOfKinds Bounded (kinds_of made.signals) now → IsOfKind Bounded Event w → LeftIs left (next_signal made) now (Signal w)
-    → IsSeen (next_signal made) now u s → IsSeen (next_signal made) now v t → Combines Meet (Signal s) (Signal t) w
-    → Determined (meet left site at u v made) made now (Signal w)
-meet_determined left site at u v made now s t w h k left_is u_is v_is is =
-    let clocks : Made = with_clocks site at made in
-    let e : ℕ = next_signal made in
-    let y : ℕ = own left clocks in
-    let c : Clocks made clocks now s t = clocks_added site at made now s t h in
-    let one : suc (next_signal made) ≡ next_signal (with_signal site Event at made) = next_is site Event at made in
-    let two : suc (next_signal (with_signal site Event at made)) ≡ next_signal clocks = next_is site Event at (with_signal site Event at made) in
-    let a : Adds clocks (with_own left site Event at clocks) c.whole y w =
-    adds_own left site Event at clocks c.whole w c.kinds k (left_later left (next_signal made) (next_signal clocks) now c.whole (Signal w) (omega arith) (clocks_begin made clocks now s t c) left_is) in
-    record {
-      whole = a.whole;
-      kinds = a.kinds;
-      begins = λ other agree. (c.to other (a.to other agree).0).0;
-      found = λ other agree. ap Signal (a.to other agree).1;
-      met = λ other fits agree m.
-          let last = a.to other agree in
-          let first = c.to other last.0 in
-          let uu : seen_at other (signal_in u).0 ≡ s = u_is other first.0 in
-          let vv : seen_at other (signal_in v).0 ≡ t = v_is other first.0 in
-          forms_meet other at (meet_forms e y u v) (with_own left site Event at clocks) ((own_met left site Event at clocks other).1 m)
-              ((meet_row at_first other (signal_in u) (signal_in v) (signal_id e) (signal_id (suc e)) (signal_id y)).1
-              (first.1 ∙ ap clock_of (sym uu), first.2 ∙ ap clock_of (sym vv), same_combined Meet s t w (seen_at other (signal_in u).0) (seen_at other (signal_in v).0) (seen_at other y) uu vv last.1 is));
-      only = λ other fits agree m f.
-          let r = forms_met other at (meet_forms e y u v) (with_own left site Event at clocks) m in
-          let row = (meet_row at_first other (signal_in u) (signal_in v) (signal_id e) (signal_id (suc e)) (signal_id y)).0 r.1 in
+          let r = forms_met other at (clock_forms last e y u v) (with_own left site Event at clocks) m in
+          let row = (clocked_is.row at_first other (signal_in u) (signal_in v) (signal_id e) (signal_id (suc e)) (signal_id y)).0 r.1 in
           a.from other (c.from other agree (row.0 ∙ ap clock_of (u_is other agree)) (row.1 ∙ ap clock_of (v_is other agree))) (same_seen (seen_at other y) w f);
     }
 
@@ -213,13 +182,13 @@ binary_determined left site Plus at u v now x y w h k left_is allowed u_is v_is 
     let b = signal_found v.operand y now (next_signal v.made) allowed.1 v_is in
     let s : Seen = seen_at now (signal_in u.operand).0 in
     let t : Seen = seen_at now (signal_in v.operand).0 in
-    plus_determined left site at u.operand v.operand v.made now s t w h k left_is a.0 b.0 (two_found Plus x y s t w a.1 b.1 is)
+    clocked_determined Plus Default plus_clocked left site at u.operand v.operand v.made now s t w h k left_is a.0 b.0 (two_found Plus x y s t w a.1 b.1 is)
 binary_determined left site Meet at u v now x y w h k left_is allowed u_is v_is is =
     let a = signal_found u.operand x now (next_signal v.made) allowed.0 u_is in
     let b = signal_found v.operand y now (next_signal v.made) allowed.1 v_is in
     let s : Seen = seen_at now (signal_in u.operand).0 in
     let t : Seen = seen_at now (signal_in v.operand).0 in
-    meet_determined left site at u.operand v.operand v.made now s t w h k left_is a.0 b.0 (two_found Meet x y s t w a.1 b.1 is)
+    clocked_determined Meet When meet_clocked left site at u.operand v.operand v.made now s t w h k left_is a.0 b.0 (two_found Meet x y s t w a.1 b.1 is)
 binary_determined left site Less at u v now x y w h k left_is allowed u_is v_is is =
     let a = signal_found u.operand x now (next_signal v.made) allowed.0 u_is in
     let b = signal_found v.operand y now (next_signal v.made) allowed.1 v_is in

@@ -19,6 +19,7 @@ mod Naming
 mod NumberedKinds
 mod Operating
 mod Parts
+mod Reacting
 mod Reading
 mod Saying
 mod Sizes

@@ -7,7 +7,7 @@ use Rattle.sig_base.specs.declared.signal.Signal.{Signal as Declared}
 use Rattle.sig_base.specs.declared.span.Span.{Span}
 use Rattle.sig_base.specs.Functions.{Identity}
 use Rattle.sig_base.specs.Traces.{Seen, Instant, Bounded, seen_at}
-use Rattle.sig_kernel.specs.KernelTraces.{Meets}
+use Rattle.sig_kernel.specs.KernelTraces.{Memory, Meets}
 use Rattle.sig_kernel.specs.Validity.{is_signal}
 use Rattle.sig_kernel.specs.declared.equation.Form.{Form}
 use Rattle.sig_kernel.specs.declared.equation.Form.TheVariants.{Fun, Delay, When, WhenConst, Default, Sync, Event as EventOf}
@@ -20,7 +20,7 @@ use Rattle.sig_tree.specs.declared.expr.BinOp.{BinOp}
 use Rattle.sig_tree.specs.declared.expr.BinOp.TheVariants.{Default as DefaultOf, When as Sampled, Plus, Meet, Less, Or as OrOf, Xor as XorOf, And as AndOf, Eq as EqOf, Ne as NeOf, Lt as LtOf, Le as LeOf, Gt as GtOf, Ge as GeOf, Add as AddOf, Sub as SubOf, Mul as MulOf, Div as DivOf, Mod as ModOf}
 use Rattle.sig_tree.specs.FlatSyntax.{FlatExpression, Sig as SigOf, Const as ConstOf, Unary, Binary, Delay as DelayOf, Cell}
 use Rattle.sig_tree.specs.Kinds.{unary_row, binary_row, kind_of_result, stored}
-use Rattle.sig_tree.specs.Operators.{AppliesToOne, Changes, Combines, Signal, delayed, held as held_value}
+use Rattle.sig_tree.specs.Operators.{AppliesToOne, Changes, Combines, Signal, clock_of, delayed, held as held_value}
 use Rattle.sig_tree.specs.Steps.{Steps, kept}
 use Rattle.sig_call.specs.WellMade.{Allows, IsMade, is_constant}
 use Rattle.sig_flat.specs.Rows.{AreMet, found_at}
@@ -28,7 +28,7 @@ use Rattle.sig_flat.specs.KernelOf.{Site, Made, Translated, with_signal, with_eq
 use Rattle.sig_flat.proofs.Meeting.{one_row, both_row, delay_row, when_row, constant_row, default_row, clock_row, plus_row, meet_row, less_row, cell_row}
 use Rattle.sig_flat.proofs.Agreeing.{Fitting}
 use Rattle.sig_flat.proofs.Instants.{at_first, behind_form, behind_made, behind_translated}
-use Rattle.sig_flat.proofs.Translating.{named, unary_of, delay_of, translation, after_first, after_operand, is_fixed, is_several, found_signal, is_fixed_where, Met, equation_met, equation_behind, forms_met, forms_behind, own_met}
+use Rattle.sig_flat.proofs.Translating.{named, unary_of, delay_of, translation, after_first, after_operand, is_fixed, is_several, found_signal, is_fixed_where, Met, equation_met, equation_behind, with_forms, forms_met, forms_behind, own_met}
 
 -- one equation, and the operator that it is
 pub unary_meets : (op : UnOp) (x : Operand) (y : SigId) (now : Instant) → Fitting now → is_fixed x ≡ false
@@ -98,11 +98,8 @@ one_behind (Some left) site kind at form after made now e =
     ap (made_signal left kind) (ap (with_equation (behind_made now made) at) (sym e) ∙ sym (equation_behind now at (form (signal_id left)) made))
 
 -- the forms of the operators that are several equations
-abbrev pub plus_forms : ℕ → ℕ → Operand → Operand → List Form
-plus_forms e y u v = EventOf (signal_id e) (signal_in u) ∷ EventOf (signal_id (suc e)) (signal_in v) ∷ Default (signal_id y) (signal_id e) (signal_id (suc e)) ∷ []
-
-abbrev pub meet_forms : ℕ → ℕ → Operand → Operand → List Form
-meet_forms e y u v = EventOf (signal_id e) (signal_in u) ∷ EventOf (signal_id (suc e)) (signal_in v) ∷ When (signal_id y) (signal_id e) (signal_id (suc e)) ∷ []
+abbrev pub clock_forms : (SigId → SigId → SigId → Form) → ℕ → ℕ → Operand → Operand → List Form
+clock_forms last e y u v = EventOf (signal_id e) (signal_in u) ∷ EventOf (signal_id (suc e)) (signal_in v) ∷ last (signal_id y) (signal_id e) (signal_id (suc e)) ∷ []
 
 abbrev pub less_forms : ℕ → ℕ → ℕ → Operand → Operand → List Form
 less_forms e z y u v =
@@ -127,24 +124,33 @@ cell_whole left site at x b = with_own left site (stored x.kind) at (cell_kept s
 abbrev pub cell_signals : Option ℕ → Site → Span → Translated → Translated → Made
 cell_signals left site at x b = with_signal site Event at (with_signal site Event at (with_signal site Event at (cell_whole left site at x b)))
 
-plus_says : (left : Option ℕ) (site : Site) (at : Span) (u v : Operand) (made : Made) (now : Instant) → is_fixed u ≡ false → is_fixed v ≡ false
-    → Met now (plus left site at u v made).made → Met now made × Combines Plus (found_at now u) (found_at now v) (seen_at now (own left (with_clocks site at made)))
-plus_says left site at u v made now hu hv h =
-    let clocks : Made = with_clocks site at made in
-    let e : ℕ = next_signal made in
-    let y : ℕ = own left clocks in
-    let r = forms_met now at (plus_forms e y u v) (with_own left site Event at clocks) h in
-    let row = (plus_row at_first now (signal_in u) (signal_in v) (signal_id e) (signal_id (suc e)) (signal_id y)).0 r.1 in
-    ((own_met left site Event at clocks now).0 r.0, rw (found_signal now u hu, found_signal now v hv) row.2)
+-- an operator on clocks that is their two events and one equation more
+abbrev pub clocked : Option ℕ → Site → Span → (SigId → SigId → SigId → Form) → Operand → Operand → Made → Translated
+clocked left site at last u v made =
+    let y : ℕ = own left (with_clocks site at made) in
+    made_signal y Event (with_forms at (clock_forms last (next_signal made) y u v) (with_own left site Event at (with_clocks site at made)))
 
-meet_says : (left : Option ℕ) (site : Site) (at : Span) (u v : Operand) (made : Made) (now : Instant) → is_fixed u ≡ false → is_fixed v ≡ false
-    → Met now (meet left site at u v made).made → Met now made × Combines Meet (found_at now u) (found_at now v) (seen_at now (own left (with_clocks site at made)))
-meet_says left site at u v made now hu hv h =
+pub record IsClocked (op : BinOp) (last : SigId → SigId → SigId → Form) : Type 0 where
+  pub row : (memory : Memory) (instant : Instant) (u v e f y : SigId) → AreMet memory instant (EventOf e u ∷ EventOf f v ∷ last y e f ∷ [])
+      ↔ ((seen_at instant e.0 ≡ clock_of (seen_at instant u.0)) × (seen_at instant f.0 ≡ clock_of (seen_at instant v.0))
+      × Combines op (Signal (seen_at instant u.0)) (Signal (seen_at instant v.0)) (seen_at instant y.0))
+  pub stays : (now : Instant) (y e f : SigId) → behind_form now (last y e f) ≡ last y e f
+
+pub plus_clocked : IsClocked Plus Default
+plus_clocked = record { row = plus_row; stays = λ now y e f. refl }
+
+pub meet_clocked : IsClocked Meet When
+meet_clocked = record { row = meet_row; stays = λ now y e f. refl }
+
+clocked_says : (op : BinOp) (last : SigId → SigId → SigId → Form) → IsClocked op last → (left : Option ℕ) (site : Site) (at : Span) (u v : Operand) (made : Made) (now : Instant)
+    → is_fixed u ≡ false → is_fixed v ≡ false → Met now (clocked left site at last u v made).made
+    → Met now made × Combines op (found_at now u) (found_at now v) (seen_at now (own left (with_clocks site at made)))
+clocked_says op last is left site at u v made now hu hv h =
     let clocks : Made = with_clocks site at made in
     let e : ℕ = next_signal made in
     let y : ℕ = own left clocks in
-    let r = forms_met now at (meet_forms e y u v) (with_own left site Event at clocks) h in
-    let row = (meet_row at_first now (signal_in u) (signal_in v) (signal_id e) (signal_id (suc e)) (signal_id y)).0 r.1 in
+    let r = forms_met now at (clock_forms last e y u v) (with_own left site Event at clocks) h in
+    let row = (is.row at_first now (signal_in u) (signal_in v) (signal_id e) (signal_id (suc e)) (signal_id y)).0 r.1 in
     ((own_met left site Event at clocks now).0 r.0, rw (found_signal now u hu, found_signal now v hv) row.2)
 
 less_says : (left : Option ℕ) (site : Site) (at : Span) (u v : Operand) (made : Made) (now : Instant) → is_fixed u ≡ false → is_fixed v ≡ false
@@ -163,10 +169,10 @@ pub binary_says : (left : Option ℕ) (site : Site) (op : BinOp) (at : Span) (u 
     → Allows (binary_row op).constants (is_fixed u.operand) (is_fixed v.operand) → Met now (binary left site op at u v).made
     → Met now v.made × (w : Seen) × (found_at now (binary left site op at u v).operand ≡ Signal w) × Combines op (found_at now u.operand) (found_at now v.operand) w
 binary_says left site Plus at u v now fits h met =
-    let r = plus_says left site at u.operand v.operand v.made now h.0 h.1 met in
+    let r = clocked_says Plus Default plus_clocked left site at u.operand v.operand v.made now h.0 h.1 met in
     (r.0, seen_at now (own left (with_clocks site at v.made)), refl, r.1)
 binary_says left site Meet at u v now fits h met =
-    let r = meet_says left site at u.operand v.operand v.made now h.0 h.1 met in
+    let r = clocked_says Meet When meet_clocked left site at u.operand v.operand v.made now h.0 h.1 met in
     (r.0, seen_at now (own left (with_clocks site at v.made)), refl, r.1)
 binary_says left site Less at u v now fits h met =
     let r = less_says left site at u.operand v.operand v.made now h.0 h.1 met in
@@ -187,17 +193,23 @@ cell_says left site init at x b now h =
     let row = (cell_row at_first now (signal_in x.operand) (signal_in b.operand) (signal_id z) (signal_id e) (signal_id (suc e)) (signal_id (suc (suc e))) (signal_id y) init).0 r.1 in
     ((own_met left site (stored x.kind) at kept_made now).0 r.0, row.4)
 
-plus_behind : (left : Option ℕ) (site : Site) (at : Span) (u v : Operand) (made : Made) (now : Instant) → plus left site at u v (behind_made now made) ≡ behind_translated now (plus left site at u v made)
-plus_behind None site at u v made now = let clocks : Made = with_clocks site at made in
-    sym (ap (made_signal (own None clocks) Event) (forms_behind now at (plus_forms (next_signal made) (own None clocks) u v) (with_own None site Event at clocks)))
-plus_behind (Some left) site at u v made now = let clocks : Made = with_clocks site at made in
-    sym (ap (made_signal left Event) (forms_behind now at (plus_forms (next_signal made) left u v) clocks))
+clock_forms_stay : (op : BinOp) (last : SigId → SigId → SigId → Form) → IsClocked op last → (now : Instant) (e y : ℕ) (u v : Operand)
+    → map (behind_form now) (clock_forms last e y u v) ≡ clock_forms last e y u v
+clock_forms_stay op last is now e y u v =
+    ap (λ form. EventOf (signal_id e) (signal_in u) ∷ EventOf (signal_id (suc e)) (signal_in v) ∷ form ∷ []) (is.stays now (signal_id y) (signal_id e) (signal_id (suc e)))
 
-meet_behind : (left : Option ℕ) (site : Site) (at : Span) (u v : Operand) (made : Made) (now : Instant) → meet left site at u v (behind_made now made) ≡ behind_translated now (meet left site at u v made)
-meet_behind None site at u v made now = let clocks : Made = with_clocks site at made in
-    sym (ap (made_signal (own None clocks) Event) (forms_behind now at (meet_forms (next_signal made) (own None clocks) u v) (with_own None site Event at clocks)))
-meet_behind (Some left) site at u v made now = let clocks : Made = with_clocks site at made in
-    sym (ap (made_signal left Event) (forms_behind now at (meet_forms (next_signal made) left u v) clocks))
+clocked_behind : (op : BinOp) (last : SigId → SigId → SigId → Form) → IsClocked op last → (left : Option ℕ) (site : Site) (at : Span) (u v : Operand) (made : Made) (now : Instant)
+    → clocked left site at last u v (behind_made now made) ≡ behind_translated now (clocked left site at last u v made)
+clocked_behind op last is None site at u v made now =
+    let clocks : Made = with_clocks site at made in
+    let y : ℕ = own None clocks in
+    let whole : Made = with_own None site Event at clocks in
+    let forms : List Form = clock_forms last (next_signal made) y u v in
+    ap (made_signal y Event) (ap (λ (fs : List Form). with_forms at fs (behind_made now whole)) (sym (clock_forms_stay op last is now (next_signal made) y u v)) ∙ sym (forms_behind now at forms whole))
+clocked_behind op last is (Some left) site at u v made now =
+    let clocks : Made = with_clocks site at made in
+    let forms : List Form = clock_forms last (next_signal made) left u v in
+    ap (made_signal left Event) (ap (λ (fs : List Form). with_forms at fs (behind_made now clocks)) (sym (clock_forms_stay op last is now (next_signal made) left u v)) ∙ sym (forms_behind now at forms clocks))
 
 less_behind : (left : Option ℕ) (site : Site) (at : Span) (u v : Operand) (made : Made) (now : Instant) → less left site at u v (behind_made now made) ≡ behind_translated now (less left site at u v made)
 less_behind None site at u v made now = let truths : Made = with_truths site at made in
@@ -207,8 +219,8 @@ less_behind (Some left) site at u v made now = let truths : Made = with_truths s
 
 binary_behind : (left : Option ℕ) (site : Site) (op : BinOp) (at : Span) (u v : Translated) (now : Instant)
     → binary left site op at (behind_translated now u) (behind_translated now v) ≡ behind_translated now (binary left site op at u v)
-binary_behind left site Plus at u v now = plus_behind left site at u.operand v.operand v.made now
-binary_behind left site Meet at u v now = meet_behind left site at u.operand v.operand v.made now
+binary_behind left site Plus at u v now = clocked_behind Plus Default plus_clocked left site at u.operand v.operand v.made now
+binary_behind left site Meet at u v now = clocked_behind Meet When meet_clocked left site at u.operand v.operand v.made now
 binary_behind left site Less at u v now = less_behind left site at u.operand v.operand v.made now
 binary_behind left site op at u v now =
     one_behind left site (kind_of_result (binary_row op).result u.kind (Some v.kind)) at (binary_form op u.operand v.operand) (binary_form op u.operand v.operand) v.made now

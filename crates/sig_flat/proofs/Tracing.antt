@@ -18,7 +18,7 @@ use Rattle.sig_flat.proofs.Translating.{Met}
 use Rattle.sig_flat.proofs.Adding.{Over, over_then, over_size}
 use Rattle.sig_flat.proofs.Expressing.{OneStep, made_fits}
 use Rattle.sig_flat.proofs.Equating.{all_turned, all_turned_is}
-use Rattle.sig_flat.proofs.Bodying.{Goes, BodySays, AreMade, body_says, body_at, body_goes, body_stays}
+use Rattle.sig_flat.proofs.Reacting.{Goes, BodySays, AreMade, body_says, body_at, body_goes, body_stays}
 
 -- what is said of equations that are read one instant at a time
 pub record ReadByInstants : Type 0 where
@@ -51,6 +51,13 @@ hold_later read [] nexts now t i a h = tt
 hold_later read (q ∷ qs) [] now t i a h = absurd a
 hold_later read (q ∷ qs) (n ∷ nexts) now t i a h = (read.whole q n now t a.0 i h.0, hold_later read qs nexts now t i a.1 h.1)
 
+joined : (x y : Instant) (a b : Trace) → x ≡ y → a ≡ b → x ∷ a ≡ y ∷ b
+joined x y a b first rest = cc
+
+begins_by : (now whole : Instant) (count : ℕ) → length now ≡ count → count ≤ length whole → Agree count now whole → take count whole ≡ now
+begins_by now whole count size few agree =
+    ap (λ n. take n whole) (sym size) ∙ begins_with now whole (omega arith) (subst (λ n. Agree n now whole) (sym size) agree)
+
 -- before any equation
 abbrev start : List Declared → Made
 start signals = record { signals = signals; equations = [] }
@@ -64,6 +71,9 @@ over_all signals qs = over_then signals (start signals) (all_turned qs (start si
 
 abbrev RunsOf : Made → Trace → Type 0
 RunsOf made trace = Runs (kinds_of made.signals) made.equations trace
+
+runs_as : (a b : Made) (trace : Trace) → a ≡ b → RunsOf a trace → RunsOf b trace
+runs_as a b trace e h = subst (λ (m : Made). RunsOf m trace) e h
 
 -- from a trace of the kernel
 holds_in : ReadByInstants → (signals : List Declared) (qs : List FlatEquation) (trace : Trace) → AreMade signals qs → RunsOf (all_turned qs (start signals)) trace
@@ -109,12 +119,11 @@ goes_on read signals qs (now ∷ trace) h kinds holds =
     let size : length now ≡ length signals = kinds_length signals now kinds.0 in
     let longer : length g.whole ≡ length made.signals = kinds_length made.signals g.whole g.kinds in
     let few : length signals ≤ length made.signals = over_size signals made over in
-    let front : take (length signals) g.whole ≡ now =
-    ap (λ n. take n g.whole) (sym size) ∙ begins_with now g.whole (omega arith) (subst (λ n. Agree n now g.whole) (sym size) begins) in
+    let front : take (length signals) g.whole ≡ now = begins_by now g.whole (length signals) size (omega arith) begins in
     (
       g.whole ∷ r.0,
-      (record { kinds = g.kinds; equations = met }, subst (λ (m : Made). RunsOf m r.0) s.is r.1),
-      ap (λ (i : Instant). i ∷ restricted (length signals) r.0) front ∙ ap (λ (t : Trace). now ∷ t) r.2,
+      (record { kinds = g.kinds; equations = met }, runs_as (all_turned s.nexts (start signals)) (behind_made g.whole made) r.0 s.is r.1),
+      joined (take (length signals) g.whole) now (restricted (length signals) r.0) trace front r.2,
     )
 
 -- one trace of the kernel for each of the process
@@ -149,7 +158,7 @@ same_traces read signals qs (x ∷ a) (y ∷ b) h ra rb e =
     let runs_a : RunsOf (all_turned s.nexts (start signals)) a = subst (λ (m : Made). RunsOf m a) (sym s.is) ra.1 in
     let behind_x : RunsOf (behind_made x made) b = subst (λ (i : Instant). RunsOf (behind_made i made) b) (sym same) rb.1 in
     let runs_b : RunsOf (all_turned s.nexts (start signals)) b = subst (λ (m : Made). RunsOf m b) (sym s.is) behind_x in
-    ap (λ (i : Instant). i ∷ a) same ∙ ap (λ (t : Trace). y ∷ t) (same_traces read signals s.nexts a b next_made runs_a runs_b rests)
+    joined x y a b same (same_traces read signals s.nexts a b next_made runs_a runs_b rests)
 
 -- the kernel of a flat body
 kernel_runs : (flat : FlatBody) (trace : Trace) → IsKernelTrace (kernel_of flat) trace → RunsOf (all_turned flat.equations (start flat.signals)) trace
