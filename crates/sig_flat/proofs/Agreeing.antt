@@ -1,6 +1,6 @@
 -- Instants that agree on the signals with the first numbers, and instants of the kinds of signals.
 use Rattle.std.proofs.Common.{◌≡◌, ◌≤◌, ◌<◌, ◌++◌, ℕ, zero, suc, pos, List, [], ◌∷◌, None, Some, length, take, refl, sym, ap, subst, ◌∙◌, arith, inl, inr}
-use Rattle.std.specs.Prelude.{Option, FitsSigned, ℤ}
+use Rattle.std.specs.Prelude.{FitsSigned, ℤ}
 use Rattle.std.specs.Int.{w64}
 use Rattle.sig_base.specs.declared.ids.Kind.{Kind}
 use Rattle.sig_base.specs.declared.ids.Kind.TheVariants.{Integer, Boolean, Event}

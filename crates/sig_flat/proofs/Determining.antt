@@ -1,5 +1,5 @@
 -- What an operator's operands are, and what the operator makes of them, determines its intermediates.
-use Rattle.std.proofs.Common.{◌≡◌, ◌≤◌, ◌<◌, ℕ, suc, ℤ, pos, Bool, true, false, List, [], ◌∷◌, Option, None, Some, length, refl, sym, ap, subst, ◌∙◌, arith, inl}
+use Rattle.std.proofs.Common.{◌≡◌, ℕ, suc, ℤ, pos, false, Option, None, Some, refl, sym, ap, subst, ◌∙◌, arith, inl}
 use Rattle.sig_base.specs.declared.ids.Kind.{Kind}
 use Rattle.sig_base.specs.declared.ids.Kind.TheVariants.{Boolean, Event}
 use Rattle.sig_base.specs.declared.ids.SigId.{SigId}
@@ -16,12 +16,12 @@ use Rattle.sig_tree.specs.Operators.{Operand as Found, Signal, Combines, clock_o
 use Rattle.sig_tree.specs.ProcessTraces.{kinds_of}
 use Rattle.sig_call.specs.WellMade.{Allows}
 use Rattle.sig_flat.specs.Rows.{found_at}
-use Rattle.sig_flat.specs.KernelOf.{Site, Made, Translated, with_signal, with_equation, with_own, with_clocks, own, next as next_signal, by_one, binary_form, signal_in, signal_id, plus, meet, less, binary, cell}
+use Rattle.sig_flat.specs.KernelOf.{Site, Made, Translated, with_signal, with_own, with_clocks, own, next as next_signal, by_one, binary_form, signal_in, signal_id, less, binary, cell}
 use Rattle.sig_flat.proofs.Meeting.{less_row, cell_row}
-use Rattle.sig_flat.proofs.Agreeing.{Agree, Fitting, one_longer}
+use Rattle.sig_flat.proofs.Agreeing.{Agree, Fitting}
 use Rattle.sig_flat.proofs.Instants.{at_first}
 use Rattle.sig_flat.proofs.Kinded.{clock_kind, or_kind, event_truth, sampled_kind, delayed_kind}
-use Rattle.sig_flat.proofs.Translating.{is_fixed, is_several, found_signal, Met, equation_met, equation_meets, forms_met, forms_meet, own_met}
+use Rattle.sig_flat.proofs.Translating.{is_fixed, found_signal, Met, equation_meets, forms_met, forms_meet, own_met}
 use Rattle.sig_flat.proofs.Saying.{binary_meets, clock_forms, clocked, IsClocked, plus_clocked, meet_clocked, less_forms, cell_forms, with_truths, cell_kept, cell_whole, cell_signals}
 use Rattle.sig_flat.proofs.Adding.{Adds, next_is, adds_signal, LeftIs, left_later, same_seen, adds_own, adds_begins, Clocks, clocks_added, clocks_begin}
 
@@ -94,8 +94,8 @@ clocked_determined op last clocked_is left site at u v made now s t w h k left_i
           let uu : seen_at other (signal_in u).0 ≡ s = u_is other first.0 in
           let vv : seen_at other (signal_in v).0 ≡ t = v_is other first.0 in
           forms_meet other at (clock_forms last e y u v) (with_own left site Event at clocks) ((own_met left site Event at clocks other).1 m)
-              ((clocked_is.row at_first other (signal_in u) (signal_in v) (signal_id e) (signal_id (suc e)) (signal_id y)).1
-              (first.1 ∙ ap clock_of (sym uu), first.2 ∙ ap clock_of (sym vv), same_combined op s t w (seen_at other (signal_in u).0) (seen_at other (signal_in v).0) (seen_at other y) uu vv own_there.1 is));
+          ((clocked_is.row at_first other (signal_in u) (signal_in v) (signal_id e) (signal_id (suc e)) (signal_id y)).1
+          (first.1 ∙ ap clock_of (sym uu), first.2 ∙ ap clock_of (sym vv), same_combined op s t w (seen_at other (signal_in u).0) (seen_at other (signal_in v).0) (seen_at other y) uu vv own_there.1 is));
       only = λ other fits agree m f.
           let r = forms_met other at (clock_forms last e y u v) (with_own left site Event at clocks) m in
           let row = (clocked_is.row at_first other (signal_in u) (signal_in v) (signal_id e) (signal_id (suc e)) (signal_id y)).0 r.1 in
@@ -144,21 +144,20 @@ less_determined left site at u v made now s t w h k left_is u_is v_is is =
           let uu : seen_at other (signal_in u).0 ≡ s = u_is other first.0 in
           let vv : seen_at other (signal_in v).0 ≡ t = v_is other first.0 in
           forms_meet other at (less_forms e z y u v) (with_own left site Event at truths) ((own_met left site Event at truths other).1 m)
-              ((less_row at_first other (signal_in u) (signal_in v) (signal_id e) (signal_id (suc e)) (signal_id z) (signal_id (suc z)) (signal_id y)).1
-              (
-                first.1 ∙ ap clock_of (sym uu),
-                first.2 ∙ ap clock_of (sym vv),
-                second.1 ∙ ap (λ q. where_present q (pos 0)) (sym vv),
-                third.1 ∙ ap (λ q. merged q (clock_of s)) (sym second.1) ∙ ap (merged (seen_at other z)) (sym first.1),
-                same_combined Less s t w (seen_at other (signal_in u).0) (seen_at other (signal_in v).0) (seen_at other y) uu vv last.1 is,
-              ));
+          ((less_row at_first other (signal_in u) (signal_in v) (signal_id e) (signal_id (suc e)) (signal_id z) (signal_id (suc z)) (signal_id y)).1 (
+            first.1 ∙ ap clock_of (sym uu),
+            first.2 ∙ ap clock_of (sym vv),
+            second.1 ∙ ap (λ q. where_present q (pos 0)) (sym vv),
+            third.1 ∙ ap (λ q. merged q (clock_of s)) (sym second.1) ∙ ap (merged (seen_at other z)) (sym first.1),
+            same_combined Less s t w (seen_at other (signal_in u).0) (seen_at other (signal_in v).0) (seen_at other y) uu vv last.1 is,
+          ));
       only = λ other fits agree m f.
           let r = forms_met other at (less_forms e z y u v) (with_own left site Event at truths) m in
           let row = (less_row at_first other (signal_in u) (signal_in v) (signal_id e) (signal_id (suc e)) (signal_id z) (signal_id (suc z)) (signal_id y)).0 r.1 in
           let e_is : seen_at other e ≡ clock_of s = row.0 ∙ ap clock_of (u_is other agree) in
           let z_is : seen_at other z ≡ not_v = row.2 ∙ ap (λ q. where_present q (pos 0)) (v_is other agree) in
           a.from other (second_more.from other (first_more.from other (c.from other agree e_is (row.1 ∙ ap clock_of (v_is other agree))) z_is)
-              (row.3 ∙ ap (λ q. merged q (seen_at other e)) z_is ∙ ap (merged not_v) e_is)) (same_seen (seen_at other y) w f);
+          (row.3 ∙ ap (λ q. merged q (seen_at other e)) z_is ∙ ap (merged not_v) e_is)) (same_seen (seen_at other y) w f);
     }
 
 -- an operand that is a signal
@@ -244,14 +243,13 @@ cell_determined left site init at x b now s t h init_is k left_is x_is b_is =
           let xx : seen_at other (signal_in x.operand).0 ≡ s = x_is other first.0 in
           let bb : seen_at other (signal_in b.operand).0 ≡ t = b_is other first.0 in
           forms_meet other at (cell_forms z y e init x.operand b.operand) signals ((own_met left site kind at kept_made other).1 m)
-              ((cell_row at_first other (signal_in x.operand) (signal_in b.operand) (signal_id z) (signal_id e) (signal_id (suc e)) (signal_id (suc (suc e))) (signal_id y) init).1
-              (
-                first.1 ∙ ap (delayed init) (sym second.1),
-                third.1 ∙ ap clock_of (sym xx),
-                fourth.1 ∙ ap (sampled (Some (pos 1))) (sym bb),
-                fifth.1 ∙ ap (λ q. merged q true_at) (sym third.1) ∙ ap (merged (seen_at other e)) (sym fourth.1),
-                second.1 ∙ ap (λ q. held_value init q t) (sym xx) ∙ ap (held_value init (seen_at other (signal_in x.operand).0)) (sym bb),
-              ));
+          ((cell_row at_first other (signal_in x.operand) (signal_in b.operand) (signal_id z) (signal_id e) (signal_id (suc e)) (signal_id (suc (suc e))) (signal_id y) init).1 (
+            first.1 ∙ ap (delayed init) (sym second.1),
+            third.1 ∙ ap clock_of (sym xx),
+            fourth.1 ∙ ap (sampled (Some (pos 1))) (sym bb),
+            fifth.1 ∙ ap (λ q. merged q true_at) (sym third.1) ∙ ap (merged (seen_at other e)) (sym fourth.1),
+            second.1 ∙ ap (λ q. held_value init q t) (sym xx) ∙ ap (held_value init (seen_at other (signal_in x.operand).0)) (sym bb),
+          ));
       only = λ other fits agree m found_is.
           let r = forms_met other at (cell_forms z y e init x.operand b.operand) signals m in
           let row = (cell_row at_first other (signal_in x.operand) (signal_in b.operand) (signal_id z) (signal_id e) (signal_id (suc e)) (signal_id (suc (suc e))) (signal_id y) init).0 r.1 in
@@ -259,5 +257,5 @@ cell_determined left site init at x b now s t h init_is k left_is x_is b_is =
           let e_is : seen_at other e ≡ event = row.1 ∙ ap clock_of (x_is other agree) in
           let w_is : seen_at other (suc e) ≡ true_at = row.2 ∙ ap (sampled (Some (pos 1))) (b_is other agree) in
           g.from other (f.from other (d.from other (c.from other (a.from other agree (row.0 ∙ ap (delayed init) y_is)) y_is) e_is) w_is)
-              (row.3 ∙ ap (λ q. merged q (seen_at other (suc e))) e_is ∙ ap (merged event) w_is);
+          (row.3 ∙ ap (λ q. merged q (seen_at other (suc e))) e_is ∙ ap (merged event) w_is);
     }

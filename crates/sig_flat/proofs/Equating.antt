@@ -1,29 +1,23 @@
 -- Instants that meet the equations of a flat equation's translation.
-use Rattle.std.proofs.Common.{◌≡◌, ◌≤◌, ◌<◌, ℕ, zero, suc, ℤ, Bool, true, false, List, [], ◌∷◌, Option, None, Some, is_some, length, refl, sym, ap, subst, ◌∙◌, arith, inl, inr}
+use Rattle.std.proofs.Common.{◌≡◌, ℕ, ℤ, Bool, true, false, List, [], ◌∷◌, None, Some, is_some, length, refl, sym, ap, subst, ◌∙◌, inl, inr}
 use Rattle.std.specs.Prelude.{◌⊎◌}
 use Rattle.std.specs.List.{AllByRecursion, AllZip}
 use Rattle.sig_base.specs.declared.ids.Kind.{Kind}
 use Rattle.sig_base.specs.declared.ids.SigId.{SigId}
 use Rattle.sig_base.specs.declared.signal.Signal.{Signal as Declared}
 use Rattle.sig_base.specs.declared.span.Span.{Span}
-use Rattle.sig_base.specs.Traces.{Seen, Instant, Bounded, AreOfKinds, seen_at}
+use Rattle.sig_base.specs.Traces.{Seen, Instant, seen_at}
 use Rattle.sig_kernel.specs.declared.equation.Form.TheVariants.{Sync}
 use Rattle.sig_tree.specs.FlatSyntax.{FlatExpression, FlatEquation, Defines, Equal}
 use Rattle.sig_tree.specs.Operators.{Signal}
-use Rattle.sig_tree.specs.ProcessTraces.{kinds_of}
-use Rattle.sig_tree.specs.Steps.{Steps, EquationSteps, BodySteps}
-use Rattle.sig_call.specs.WellMade.{IsMade, IsWhole, IsMadeEquation, kind_numbered, is_constant}
-use Rattle.sig_flat.specs.Rows.{found_at}
-use Rattle.sig_flat.specs.KernelOf.{Site, Made, Translated, Together, with_equation, next as next_signal, signal_in, place_of, translate, operands_from, with_syncs, with_all_syncs, cluster_at, with_flat_equation, with_flat_equations}
-use Rattle.sig_flat.proofs.Agreeing.{Agree, agree_less, Fitting, Suits}
+use Rattle.sig_tree.specs.Steps.{Steps}
+use Rattle.sig_call.specs.WellMade.{IsWhole}
+use Rattle.sig_flat.specs.KernelOf.{Site, Made, Translated, Together, with_equation, signal_in, place_of, translate, operands_from, with_syncs, with_all_syncs, cluster_at, with_flat_equation, with_flat_equations}
+use Rattle.sig_flat.proofs.Agreeing.{Agree}
 use Rattle.sig_flat.proofs.Growing.{Grows, equation_grows}
 use Rattle.sig_flat.proofs.Instants.{behind_made}
-use Rattle.sig_flat.proofs.Kinded.{StaysMade, stays_made, steps_same}
-use Rattle.sig_flat.proofs.Translating.{translation, translation_is, is_fixed_where, is_fixed, found_signal, is_left, Met, equation_met, equation_meets, equation_behind}
-use Rattle.sig_flat.proofs.Saying.{says}
-use Rattle.sig_flat.proofs.Adding.{Over, over_size, over_then, same_seen}
-use Rattle.sig_flat.proofs.Determining.{Determined}
-use Rattle.sig_flat.proofs.Expressing.{translation_grows, OneStep, same_found, determined}
+use Rattle.sig_flat.proofs.Kinded.{steps_same}
+use Rattle.sig_flat.proofs.Translating.{translation, translation_is, Met, equation_met, equation_meets, equation_behind}
 
 -- equations, by the translations of expressions
 abbrev pub with_head : Site → FlatExpression → List FlatExpression → (List FlatExpression → Made → Together) → Translated → Together
@@ -86,8 +80,7 @@ syncs_met : (now : Instant) (first : SigId) (others : List (SigId × Span)) (mad
 syncs_met now first [] made h = (h, tt)
 syncs_met now first (second ∷ others) made h =
     let r = syncs_met now second.0 others (with_equation made second.1 (Sync first second.0)) h in
-    let q = equation_met now second.1 (Sync first second.0) made r.0 in
-    (
+    let q = equation_met now second.1 (Sync first second.0) made r.0 in (
       q.0,
       (
         sym q.1,
@@ -155,10 +148,16 @@ Whole signals e = (kind : Kind) × IsWhole signals e kind
 pub there_from : (signals : List Declared) (now : Instant) (es rests : List FlatExpression) → AreWhole signals es
     → (AllZip (λ e rest. Steps e now (Signal None) rest) es rests ⊎ AllZip (λ e rest. (v : ℤ) × Steps e now (Signal (Some v)) rest) es rests)
     → (present : Bool) × AreThere now present es rests
-there_from signals now es rests h (inl a) = (false, zip_through (Whole signals) (λ e rest. Steps e now (Signal None) rest)
-    (λ e rest. (s : Seen) × (is_some s ≡ false) × Steps e now (Signal s) rest) (λ e rest w s. (None, refl, s)) es rests h a)
-there_from signals now es rests h (inr a) = (true, zip_through (Whole signals) (λ e rest. (v : ℤ) × Steps e now (Signal (Some v)) rest)
-    (λ e rest. (s : Seen) × (is_some s ≡ true) × Steps e now (Signal s) rest) (λ e rest w s. (Some s.0, refl, s.1)) es rests h a)
+there_from signals now es rests h (inl a) = (
+  false,
+  zip_through (Whole signals) (λ e rest. Steps e now (Signal None) rest)
+      (λ e rest. (s : Seen) × (is_some s ≡ false) × Steps e now (Signal s) rest) (λ e rest w s. (None, refl, s)) es rests h a,
+)
+there_from signals now es rests h (inr a) = (
+  true,
+  zip_through (Whole signals) (λ e rest. (v : ℤ) × Steps e now (Signal (Some v)) rest)
+      (λ e rest. (s : Seen) × (is_some s ≡ true) × Steps e now (Signal s) rest) (λ e rest w s. (Some s.0, refl, s.1)) es rests h a,
+)
 
 pub there_to : (signals : List Declared) (now : Instant) (present : Bool) (es rests : List FlatExpression) → AreWhole signals es → AreThere now present es rests
     → AllZip (λ e rest. Steps e now (Signal None) rest) es rests ⊎ AllZip (λ e rest. (v : ℤ) × Steps e now (Signal (Some v)) rest) es rests

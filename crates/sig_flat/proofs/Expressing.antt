@@ -1,7 +1,5 @@
 -- What an expression is at an instant determines the intermediates of its translation.
-use Rattle.std.proofs.Common.{◌≡◌, ◌≤◌, ◌<◌, ℕ, zero, suc, ℤ, Bool, true, false, List, [], ◌∷◌, ◌++◌, Option, None, Some, length, refl, sym, ap, subst, ◌∙◌, arith}
-use Rattle.std.specs.Prelude.{FitsSigned}
-use Rattle.std.specs.Int.{w64}
+use Rattle.std.proofs.Common.{◌≡◌, ◌≤◌, ◌<◌, ℕ, zero, suc, false, List, [], ◌∷◌, ◌++◌, Option, None, Some, length, refl, sym, ap, subst, ◌∙◌, arith}
 use Rattle.sig_base.specs.declared.ids.Kind.{Kind}
 use Rattle.sig_base.specs.declared.ids.Kind.TheVariants.{Integer}
 use Rattle.sig_base.specs.declared.ids.SigId.{SigId}
@@ -17,21 +15,21 @@ use Rattle.sig_tree.specs.declared.expr.BinOp.{BinOp}
 use Rattle.sig_tree.specs.declared.expr.BinOp.TheVariants.{Plus, Meet, Less}
 use Rattle.sig_tree.specs.FlatSyntax.{FlatExpression, Sig as SigOf, Const as ConstOf, Unary, Binary, Delay as DelayOf, Cell}
 use Rattle.sig_tree.specs.Kinds.{unary_row, binary_row, delay_row, cell_row, kind_of_result, stored}
-use Rattle.sig_tree.specs.Operators.{Operand as Found, Signal, AppliesToOne, Changes, delayed, held as held_value}
+use Rattle.sig_tree.specs.Operators.{Operand as Found, Signal, AppliesToOne, delayed, held as held_value}
 use Rattle.sig_tree.specs.ProcessTraces.{kinds_of}
 use Rattle.sig_tree.specs.Steps.{Steps}
-use Rattle.sig_call.specs.WellMade.{Allows, IsMade, flat_kind, is_constant, kind_numbered}
+use Rattle.sig_call.specs.WellMade.{Allows, IsMade, flat_kind, kind_numbered}
 use Rattle.sig_flat.specs.Rows.{found_at}
-use Rattle.sig_flat.specs.KernelOf.{Site, Made, Translated, own, next as next_signal, unary_form, signal_in, signal_id, binary, kind_at, translate}
+use Rattle.sig_flat.specs.KernelOf.{Site, Made, Translated, own, next as next_signal, unary_form, signal_in, signal_id, binary, kind_at}
 use Rattle.sig_flat.proofs.Meeting.{one_row, delay_row as delay_equation}
 use Rattle.sig_flat.proofs.Agreeing.{Agree, agree_less, Fitting, Suits, suits as suits_over}
 use Rattle.sig_flat.proofs.Growing.{Grows, translate_grows}
 use Rattle.sig_flat.proofs.Instants.{at_first}
-use Rattle.sig_flat.proofs.Kinded.{HasKind, unary_kinds, binary_kinds, changes_kind, combines_kind, delayed_kind, held_kind, stored_kind, init_kind, has_kind, steps_same}
-use Rattle.sig_flat.proofs.Translating.{named, translation, translation_is, is_fixed, is_fixed_where, found_signal, Met}
+use Rattle.sig_flat.proofs.Kinded.{unary_kinds, binary_kinds, changes_kind, combines_kind, delayed_kind, held_kind, stored_kind, init_kind, has_kind, steps_same}
+use Rattle.sig_flat.proofs.Translating.{named, translation, translation_is, is_fixed, is_fixed_where, found_signal}
 use Rattle.sig_flat.proofs.Saying.{unary_meets, one_met, binary_says, cell_says, Says, says}
 use Rattle.sig_flat.proofs.Adding.{Over, over_size, over_then, grows_size, LeftIs, left_later, same_seen}
-use Rattle.sig_flat.proofs.Determining.{Determined, then_determined, one_determined, IsSeen, binary_determined, cell_determined}
+use Rattle.sig_flat.proofs.Determining.{Determined, then_determined, one_determined, binary_determined, cell_determined}
 
 pub translation_grows : (left : Option ℕ) (site : Site) (e : FlatExpression) (made : Made) → Grows made (translation left site e made).made
 translation_grows left site e made = subst (λ (t : Translated). Grows made t.made) (translation_is left site e made) (translate_grows left site e made)
@@ -115,7 +113,7 @@ named_determined (Some left) site signals number at made now o over h below left
     subst (λ p. Determined (named (Some left) site number at made) made now p) (sym is)
     (one_determined (Some left) site (named (Some left) site number at made).kind at (λ y. Fun y Id (Sig (signal_id number) ∷ [])) made now v h k (left_is.0, same)
     (λ other fits agree e. (one_row at_first other Id (signal_id number) (signal_id left) (fits left)).1
-        (identity_of (seen_at other number) (seen_at other left) (e ∙ agree number here) (fits left))))
+    (identity_of (seen_at other number) (seen_at other left) (e ∙ agree number here) (fits left))))
 
 pub made_fits : (signals : List Declared) (made : Made) (now : Instant) → Over signals made → AreOfKinds Bounded (kinds_of made.signals) now → Suits signals now
 made_fits signals made now over h = suits_over signals over.more now (subst (λ (xs : List Declared). AreOfKinds Bounded (kinds_of xs) now) over.is h)
@@ -149,8 +147,8 @@ determined one left site signals (Unary op operand at) made now o after kind ove
     subst (λ p. Determined (translation left site (Unary op operand at) made) made now p) (sym a.5)
     (then_determined x (translation left site (Unary op operand at) made) made now a.0 (Signal v) d g
     (λ other fits agree m.
-        let q = one_met left site result at (unary_form op x.operand) x.made other m in
-        (q.0, same_found one None site signals operand made now other a.0 a.1 over is_made.1 a.2 fits agree (says None site signals operand made other fits is_made.1 q.0))))
+    let q = one_met left site result at (unary_form op x.operand) x.made other m in
+    (q.0, same_found one None site signals operand made now other a.0 a.1 over is_made.1 a.2 fits agree (says None site signals operand made other fits is_made.1 q.0))))
 determined one left site signals (Binary op first second at) made now o after kind over h is_made kinded left_is a =
     let t : Translated = translation left site (Binary op first second at) made in
     let u : Translated = translation None site first made in
@@ -179,12 +177,12 @@ determined one left site signals (Binary op first second at) made now o after ki
     (then_determined u t made now a.0 (Signal w) du
     (then_determined v t u.made du.whole a.1 (Signal w) dv g
     (λ other fits agree m.
-        let q = binary_says left site op at u v other fits allowed m in
-        (q.0, same_found one None site signals second u.made du.whole other a.1 a.3 over_u is_made.2 second_steps fits agree (says None site signals second u.made other fits is_made.2 q.0))))
+    let q = binary_says left site op at u v other fits allowed m in
+    (q.0, same_found one None site signals second u.made du.whole other a.1 a.3 over_u is_made.2 second_steps fits agree (says None site signals second u.made other fits is_made.2 q.0))))
     (λ other fits agree m.
-        let q = binary_says left site op at u v other fits allowed m in
-        let s = says None site signals second u.made other fits is_made.2 q.0 in
-        (s.before, same_found one None site signals first made now other a.0 a.2 over is_made.1 a.4 fits agree (says None site signals first made other fits is_made.1 s.before))))
+    let q = binary_says left site op at u v other fits allowed m in
+    let s = says None site signals second u.made other fits is_made.2 q.0 in
+    (s.before, same_found one None site signals first made now other a.0 a.2 over is_made.1 a.4 fits agree (says None site signals first made other fits is_made.1 s.before))))
 determined one left site signals (DelayOf operand init at) made now o after kind over h is_made kinded left_is a =
     let t : Translated = translation left site (DelayOf operand init at) made in
     let x : Translated = translation None site operand made in
@@ -200,12 +198,12 @@ determined one left site signals (DelayOf operand init at) made now o after kind
     let g : Determined t x.made d.whole (Signal v) =
     one_determined left site (stored x.kind) at form x.made d.whole v d.kinds (delayed_kind (stored x.kind) init a.0 init_is) left_there
     (λ other fits agree e. (delay_equation at_first other (signal_in x.operand) (signal_id y) init).1
-        (e ∙ ap (delayed init) (sym (same_seen (seen_at other (signal_in x.operand).0) a.0 (sym (found_signal other x.operand shape) ∙ d.found other agree))))) in
+    (e ∙ ap (delayed init) (sym (same_seen (seen_at other (signal_in x.operand).0) a.0 (sym (found_signal other x.operand shape) ∙ d.found other agree))))) in
     subst (λ p. Determined t made now p) (sym a.3)
     (then_determined x t made now (Signal a.0) (Signal v) d g
     (λ other fits agree m.
-        let q = one_met left site (stored x.kind) at form x.made other m in
-        (q.0, same_found one None site signals operand made now other (Signal a.0) a.1 over is_made.1 a.2 fits agree (says None site signals operand made other fits is_made.1 q.0))))
+    let q = one_met left site (stored x.kind) at form x.made other m in
+    (q.0, same_found one None site signals operand made now other (Signal a.0) a.1 over is_made.1 a.2 fits agree (says None site signals operand made other fits is_made.1 q.0))))
 determined one left site signals (Cell operand held init at) made now o after kind over h is_made kinded left_is a =
     let t : Translated = translation left site (Cell operand held init at) made in
     let x : Translated = translation None site operand made in
@@ -238,9 +236,9 @@ determined one left site signals (Cell operand held init at) made now o after ki
     (then_determined x t made now (Signal a.0) (Signal v) dx
     (then_determined b t x.made dx.whole (Signal a.1) (Signal v) db g
     (λ other fits agree m.
-        let q = cell_says left site init at x b other m in
-        (q.0, same_found one None site signals held x.made dx.whole other (Signal a.1) a.3 over_x is_made.3 held_steps fits agree (says None site signals held x.made other fits is_made.3 q.0))))
+    let q = cell_says left site init at x b other m in
+    (q.0, same_found one None site signals held x.made dx.whole other (Signal a.1) a.3 over_x is_made.3 held_steps fits agree (says None site signals held x.made other fits is_made.3 q.0))))
     (λ other fits agree m.
-        let q = cell_says left site init at x b other m in
-        let s = says None site signals held x.made other fits is_made.3 q.0 in
-        (s.before, same_found one None site signals operand made now other (Signal a.0) a.2 over is_made.2 a.4 fits agree (says None site signals operand made other fits is_made.2 s.before))))
+    let q = cell_says left site init at x b other m in
+    let s = says None site signals held x.made other fits is_made.3 q.0 in
+    (s.before, same_found one None site signals operand made now other (Signal a.0) a.2 over is_made.2 a.4 fits agree (says None site signals operand made other fits is_made.2 s.before))))

@@ -1,11 +1,10 @@
 -- The traces of a kernel, one instant at a time: behind an instant, each delay begins with what it keeps there.
-use Rattle.std.proofs.Common.{◌≡◌, ◌↔◌, ◌++◌, ℕ, ℤ, List, [], ◌∷◌, None, Some, length, map, refl, sym, ap, subst, ◌∙◌}
+use Rattle.std.proofs.Common.{◌≡◌, ◌↔◌, ◌++◌, ℤ, List, [], ◌∷◌, None, Some, map, refl, sym, ap, subst, ◌∙◌}
 use Rattle.std.specs.Prelude.{option_to_list}
 use Rattle.std.specs.List.{AllByRecursion}
 use Rattle.sig_base.specs.declared.ids.Kind.{Kind}
-use Rattle.sig_base.specs.declared.span.Span.{Span}
 use Rattle.sig_base.specs.Traces.{Seen, Instant, Trace, Bounded, AreOfKinds, seen_at, flow_of}
-use Rattle.sig_kernel.specs.KernelTraces.{Memory, Meets, last_of, remembered, where_present, IsReaction, IsKernelTrace}
+use Rattle.sig_kernel.specs.KernelTraces.{Memory, Meets, last_of, remembered, where_present, IsKernelTrace}
 use Rattle.sig_kernel.specs.declared.equation.Equation.{Equation}
 use Rattle.sig_kernel.specs.declared.equation.Form.{Form}
 use Rattle.sig_kernel.specs.declared.equation.Form.TheVariants.{Fun, Delay, When, WhenConst, Default, Sync, Event as EventOf}

@@ -1,21 +1,21 @@
 -- What an expression is at an instant is of the expression's kind, and behind the instant it is as well made.
-use Rattle.std.proofs.Common.{◌≡◌, ◌&&◌, ◌||◌, ◌<◌, ℕ, zero, suc, ℤ, pos, Bool, true, false, List, [], ◌∷◌, Option, None, Some, length, if◌then◌else◌, refl, sym, ap, subst, ◌∙◌, inl, inr}
+use Rattle.std.proofs.Common.{◌≡◌, ℤ, pos, Bool, true, false, List, [], ◌∷◌, Option, None, Some, length, if◌then◌else◌, refl, sym, ap, subst, ◌∙◌, inl, inr}
 use Rattle.std.specs.Prelude.{FitsSigned}
 use Rattle.std.specs.Int.{w64}
 use Rattle.sig_base.specs.declared.ids.Kind.{Kind}
 use Rattle.sig_base.specs.declared.ids.Kind.TheVariants.{Integer, Boolean, Event}
 use Rattle.sig_base.specs.declared.signal.Signal.{Signal as Declared}
 use Rattle.sig_base.specs.Functions.{Function, Negative, Not as FunctionNot, And as FunctionAnd, Or as FunctionOr, Xor as FunctionXor, Equal, NotEqual, Less as FunctionLess, LessEqual, Greater, GreaterEqual, Sum, Difference, Product, Quotient, Remainder, Gives, Tells}
-use Rattle.sig_base.specs.Traces.{Seen, Instant, Bounded, IsValue, IsOfKind, seen_at}
+use Rattle.sig_base.specs.Traces.{Seen, Instant, Bounded, IsValue, IsOfKind}
 use Rattle.sig_tree.specs.declared.expr.UnOp.{UnOp}
 use Rattle.sig_tree.specs.declared.expr.UnOp.TheVariants.{Not as NotOf, Neg as NegOf, When as WhenOf, Clock}
 use Rattle.sig_tree.specs.declared.expr.BinOp.{BinOp}
 use Rattle.sig_tree.specs.declared.expr.BinOp.TheVariants.{Default as DefaultOf, When as Sampled, Plus, Meet, Less, Or as OrOf, Xor as XorOf, And as AndOf, Eq as EqOf, Ne as NeOf, Lt as LtOf, Le as LeOf, Gt as GtOf, Ge as GeOf, Add as AddOf, Sub as SubOf, Mul as MulOf, Div as DivOf, Mod as ModOf}
 use Rattle.sig_tree.specs.FlatSyntax.{FlatExpression, Sig as SigOf, Const as ConstOf, Unary, Binary, Delay as DelayOf, Cell}
 use Rattle.sig_tree.specs.Kinds.{FormRow, Alike, unary_row, binary_row, delay_row, cell_row, unary_kind, binary_kind, accepts, kind_of_result, stored, merged as merged_kind}
-use Rattle.sig_tree.specs.Operators.{Operand as Found, Signal, Constant, Yields, AppliesToOne, AppliesToBoth, Changes, Combines, sampled, merged, clock_of, either_of, both_of, without, delayed, held as held_value, is_true}
+use Rattle.sig_tree.specs.Operators.{Operand as Found, Signal, Constant, AppliesToOne, AppliesToBoth, Changes, Combines, sampled, merged, clock_of, both_of, without, delayed, held as held_value, is_true}
 use Rattle.sig_tree.specs.Steps.{Steps, kept}
-use Rattle.sig_call.specs.WellMade.{flat_kind, is_constant, IsMade, MayBegin, Allows}
+use Rattle.sig_call.specs.WellMade.{flat_kind, is_constant, IsMade, MayBegin}
 use Rattle.sig_flat.specs.KernelOf.{place_of}
 use Rattle.sig_flat.proofs.Agreeing.{Suits, Agree}
 
@@ -227,8 +227,12 @@ stays_made signals now suits (DelayOf operand init at) o after h a =
     let r = stays_made signals now suits operand (Signal a.0) a.1 h.1 a.2 in
     subst (λ n. StaysMade signals (DelayOf operand init at) n) (sym a.4)
     (record {
-      made = (r.constant ∙ h.0, r.made, may_begin_behind signals now suits operand a.1 init a.0 r.kind
-          (λ kind is. stored_kind kind a.0 (has_kind signals now suits operand (Signal a.0) a.1 kind h.1 is a.2)) h.2);
+      made = (
+        r.constant ∙ h.0,
+        r.made,
+        may_begin_behind signals now suits operand a.1 init a.0 r.kind
+            (λ kind is. stored_kind kind a.0 (has_kind signals now suits operand (Signal a.0) a.1 kind h.1 is a.2)) h.2,
+      );
       kind = ap (unary_kind delay_row) r.kind;
       constant = refl;
       place = refl;
@@ -238,9 +242,15 @@ stays_made signals now suits (Cell operand held init at) o after h a =
     let s = stays_made signals now suits held (Signal a.1) a.3 h.3 a.5 in
     subst (λ n. StaysMade signals (Cell operand held init at) n) (sym a.7)
     (record {
-      made = (r.constant ∙ h.0, s.constant ∙ h.1, r.made, s.made, may_begin_behind signals now suits operand a.2 init (held_value init a.0 a.1) r.kind
-          (λ kind is. held_kind (stored kind) init a.0 a.1 (init_kind signals operand kind init is h.4)
-              (stored_kind kind a.0 (has_kind signals now suits operand (Signal a.0) a.2 kind h.2 is a.4))) h.4);
+      made = (
+        r.constant ∙ h.0,
+        s.constant ∙ h.1,
+        r.made,
+        s.made,
+        may_begin_behind signals now suits operand a.2 init (held_value init a.0 a.1) r.kind
+            (λ kind is. held_kind (stored kind) init a.0 a.1 (init_kind signals operand kind init is h.4)
+            (stored_kind kind a.0 (has_kind signals now suits operand (Signal a.0) a.2 kind h.2 is a.4))) h.4,
+      );
       kind = ap (λ k. binary_kind cell_row k (flat_kind signals a.3)) r.kind ∙ ap (binary_kind cell_row (flat_kind signals operand)) s.kind;
       constant = refl;
       place = refl;

@@ -1,7 +1,6 @@
 -- Instants that meet the equations of a flat body's translation.
-use Rattle.std.proofs.Common.{◌≡◌, ◌≤◌, ◌<◌, ℕ, zero, suc, ℤ, Bool, true, false, List, [], ◌∷◌, Option, None, Some, is_some, length, refl, sym, ap, subst, ◌∙◌, arith}
-use Rattle.std.specs.Prelude.{◌⊎◌}
-use Rattle.std.specs.List.{AllByRecursion, AllZip}
+use Rattle.std.proofs.Common.{◌≡◌, ◌≤◌, ◌<◌, ℕ, zero, suc, Bool, false, List, [], ◌∷◌, None, Some, is_some, length, refl, sym, ap, subst, ◌∙◌, arith}
+use Rattle.std.specs.List.{AllByRecursion}
 use Rattle.sig_base.specs.declared.ids.Kind.{Kind}
 use Rattle.sig_base.specs.declared.ids.SigId.{SigId}
 use Rattle.sig_base.specs.declared.signal.Signal.{Signal as Declared}
@@ -11,18 +10,17 @@ use Rattle.sig_tree.specs.FlatSyntax.{FlatExpression, FlatEquation, Defines, Equ
 use Rattle.sig_tree.specs.Operators.{Operand as Found, Signal}
 use Rattle.sig_tree.specs.ProcessTraces.{kinds_of}
 use Rattle.sig_tree.specs.Steps.{Steps, EquationSteps, BodySteps}
-use Rattle.sig_call.specs.WellMade.{IsMade, IsWhole, IsMadeEquation, kind_numbered, is_constant}
+use Rattle.sig_call.specs.WellMade.{IsWhole, IsMadeEquation, kind_numbered}
 use Rattle.sig_flat.specs.Rows.{found_at}
 use Rattle.sig_flat.specs.KernelOf.{Site, Made, Translated, Together, next as next_signal, signal_in, place_of, with_all_syncs}
 use Rattle.sig_flat.proofs.Agreeing.{Agree, agree_less, Fitting, Suits}
 use Rattle.sig_flat.proofs.Instants.{behind_made}
-use Rattle.sig_flat.proofs.Kinded.{StaysMade, stays_made, steps_same}
+use Rattle.sig_flat.proofs.Kinded.{stays_made, steps_same}
 use Rattle.sig_flat.proofs.Translating.{translation, is_fixed_where, is_fixed, found_signal, is_left, Met}
-use Rattle.sig_flat.proofs.Saying.{Says, says}
+use Rattle.sig_flat.proofs.Saying.{says}
 use Rattle.sig_flat.proofs.Adding.{Over, over_size, over_then, same_seen}
-use Rattle.sig_flat.proofs.Determining.{Determined}
 use Rattle.sig_flat.proofs.Expressing.{translation_grows, OneStep, same_found, determined}
-use Rattle.sig_flat.proofs.Equating.{turned_operands, site_of, shared, turned, all_turned, turned_grows, number_in, ArePresent, with_head, all_syncs_met, all_syncs_meet, all_syncs_behind, all_syncs_add_none, AreThere, AreWhole, there_from, there_to, there_at, zip_through, Whole}
+use Rattle.sig_flat.proofs.Equating.{turned_operands, site_of, shared, turned, all_turned, turned_grows, ArePresent, all_syncs_met, all_syncs_meet, all_syncs_behind, all_syncs_add_none, AreThere, AreWhole, there_from, there_to, there_at}
 
 -- the operands of a clock equation
 record OperandsSay (site : Site) (es : List FlatExpression) (made : Made) (now : Instant) (present : Bool) : Type 0 where
@@ -91,7 +89,7 @@ operands_go one site signals (e ∷ es) (r ∷ nexts) made now present over k h 
     let d = determined one None site signals e made now (Signal s) r h.0.0 over k w.made w.kinded tt steps in
     let begins : Agree (next_signal made) now d.whole = d.begins d.whole (λ n below. refl) in
     let rest = operands_go one site signals es nexts x.made d.whole present over_x d.kinds h.1
-        (there_at signals now d.whole present es nexts h.1 (agree_less (length signals) (next_signal made) now d.whole (over_size signals made over) begins) a.1) in
+    (there_at signals now d.whole present es nexts h.1 (agree_less (length signals) (next_signal made) now d.whole (over_size signals made over) begins) a.1) in
     let g = rest.goes in
     let shape : is_fixed x.operand ≡ false = is_fixed_where None site e made ∙ w.signal in
     record {
@@ -103,7 +101,7 @@ operands_go one site signals (e ∷ es) (r ∷ nexts) made now present over k h 
         only = λ other fits agree m.
             let before : Met other x.made = operands_before site signals es x.made other fits h.1 m in
             g.only other fits (d.only other fits agree before
-                (same_found one None site signals e made now other (Signal s) r over w.made steps fits agree (says None site signals e made other fits w.made before))) m;
+            (same_found one None site signals e made now other (Signal s) r over w.made steps fits agree (says None site signals e made other fits w.made before))) m;
       };
       there = λ other agree. (
         ap is_some (same_seen (seen_at other (signal_in x.operand).0) s (sym (found_signal other x.operand shape) ∙ d.found other (g.begins other agree))) ∙ a.0.1,

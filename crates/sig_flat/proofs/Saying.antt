@@ -1,5 +1,5 @@
 -- What an instant that meets the equations of an expression makes of the expression.
-use Rattle.std.proofs.Common.{◌≡◌, ◌↔◌, ◌&&◌, ◌||◌, ℕ, suc, ℤ, pos, Bool, true, false, List, [], ◌∷◌, Option, None, Some, map, refl, sym, ap, subst, ◌∙◌}
+use Rattle.std.proofs.Common.{◌≡◌, ◌↔◌, ◌&&◌, ◌||◌, ℕ, suc, ℤ, pos, true, false, List, [], ◌∷◌, Option, None, Some, map, refl, sym, ap, subst, ◌∙◌}
 use Rattle.sig_base.specs.declared.ids.Kind.{Kind}
 use Rattle.sig_base.specs.declared.ids.Kind.TheVariants.{Boolean, Event}
 use Rattle.sig_base.specs.declared.ids.SigId.{SigId}
@@ -20,11 +20,11 @@ use Rattle.sig_tree.specs.declared.expr.BinOp.{BinOp}
 use Rattle.sig_tree.specs.declared.expr.BinOp.TheVariants.{Default as DefaultOf, When as Sampled, Plus, Meet, Less, Or as OrOf, Xor as XorOf, And as AndOf, Eq as EqOf, Ne as NeOf, Lt as LtOf, Le as LeOf, Gt as GtOf, Ge as GeOf, Add as AddOf, Sub as SubOf, Mul as MulOf, Div as DivOf, Mod as ModOf}
 use Rattle.sig_tree.specs.FlatSyntax.{FlatExpression, Sig as SigOf, Const as ConstOf, Unary, Binary, Delay as DelayOf, Cell}
 use Rattle.sig_tree.specs.Kinds.{unary_row, binary_row, kind_of_result, stored}
-use Rattle.sig_tree.specs.Operators.{AppliesToOne, Changes, Combines, Signal, clock_of, delayed, held as held_value}
+use Rattle.sig_tree.specs.Operators.{AppliesToOne, Changes, Combines, Signal, clock_of, held as held_value}
 use Rattle.sig_tree.specs.Steps.{Steps, kept}
-use Rattle.sig_call.specs.WellMade.{Allows, IsMade, is_constant}
+use Rattle.sig_call.specs.WellMade.{Allows, IsMade}
 use Rattle.sig_flat.specs.Rows.{AreMet, found_at}
-use Rattle.sig_flat.specs.KernelOf.{Site, Made, Translated, with_signal, with_equation, with_own, with_clocks, own, next as next_signal, by_one, unary_form, binary_form, signal_in, signal_id, made_signal, plus, meet, less, binary, cell}
+use Rattle.sig_flat.specs.KernelOf.{Site, Made, Translated, with_signal, with_equation, with_own, with_clocks, own, next as next_signal, by_one, unary_form, binary_form, signal_in, signal_id, made_signal, less, binary, cell}
 use Rattle.sig_flat.proofs.Meeting.{one_row, both_row, delay_row, when_row, constant_row, default_row, clock_row, plus_row, meet_row, less_row, cell_row}
 use Rattle.sig_flat.proofs.Agreeing.{Fitting}
 use Rattle.sig_flat.proofs.Instants.{at_first, behind_form, behind_made, behind_translated}

@@ -1,7 +1,7 @@
 -- The traces of a kernel and those of the flat body, one instant after another.
-use Rattle.std.proofs.Common.{◌≡◌, ◌≤◌, ◌<◌, ℕ, zero, suc, List, [], ◌∷◌, length, take, map, refl, sym, ap, subst, ◌∙◌, arith}
+use Rattle.std.proofs.Common.{◌≡◌, ◌≤◌, ◌<◌, ℕ, zero, suc, List, [], ◌∷◌, length, take, refl, sym, ap, subst, ◌∙◌, arith}
 use Rattle.std.proofs.lemmas.List.{append-nil}
-use Rattle.std.specs.List.{AllByRecursion, AllZip}
+use Rattle.std.specs.List.{AllByRecursion}
 use Rattle.sig_base.specs.declared.signal.Signal.{Signal as Declared}
 use Rattle.sig_base.specs.Traces.{Instant, Trace, Bounded, AreOfKinds}
 use Rattle.sig_kernel.specs.KernelTraces.{IsKernelTrace}
@@ -9,7 +9,7 @@ use Rattle.sig_tree.specs.FlatSyntax.{FlatEquation, FlatBody}
 use Rattle.sig_tree.specs.ProcessTraces.{kinds_of, HoldsAt, HoldThroughout, IsTraceOf, IsProcessTrace}
 use Rattle.sig_tree.specs.Steps.{EquationSteps, BodySteps}
 use Rattle.sig_call.specs.WellMade.{IsWellMade}
-use Rattle.sig_flat.specs.KernelOf.{Made, next as next_signal, made_of, kernel_of}
+use Rattle.sig_flat.specs.KernelOf.{Made, next as next_signal, kernel_of}
 use Rattle.sig_flat.specs.Restricted.{restricted}
 use Rattle.sig_flat.proofs.Agreeing.{Agree, agree_then, agree_back, Fitting, fitting, Suits, kinds_length, kinds_begin, take_agrees, begins_with, same_instant}
 use Rattle.sig_flat.proofs.Growing.{Grows, equations_grow}
@@ -88,8 +88,7 @@ holds_in read signals qs (now ∷ trace) h runs =
     let r = holds_in read signals s.nexts trace (body_stays signals now suits qs s.nexts h s.steps) (subst (λ (m : Made). RunsOf m trace) (sym s.is) runs.1) in
     let here : Instant = take (length signals) now in
     let rest : Trace = restricted (length signals) trace in
-    let steps : BodySteps here qs s.nexts = body_at signals qs s.nexts now here h (take_agrees (length signals) now) s.steps in
-    (
+    let steps : BodySteps here qs s.nexts = body_at signals qs s.nexts now here h (take_agrees (length signals) now) s.steps in (
       (kinds_begin signals over.more now (subst (λ (xs : List Declared). AreOfKinds Bounded (kinds_of xs) now) over.is runs.0.kinds), r.0),
       by_number (λ i. AllByRecursion (HoldsAt (here ∷ rest) i) qs) (length rest) (hold_now read qs s.nexts here rest steps)
           (λ i below. hold_later read qs s.nexts here rest i steps (r.1 i below)),
@@ -115,12 +114,11 @@ goes_on read signals qs (now ∷ trace) h kinds holds =
     let s : BodySays qs (start signals) g.whole = body_says signals qs (start signals) g.whole fits suits h met in
     let steps : BodySteps now qs s.nexts = body_at signals qs s.nexts g.whole now h (agree_back (length signals) now g.whole begins) s.steps in
     let r = goes_on read signals s.nexts trace (body_stays signals g.whole suits qs s.nexts h s.steps) kinds.1
-        (λ i below. hold_behind read qs s.nexts now trace i steps (holds (suc i) (omega arith))) in
+    (λ i below. hold_behind read qs s.nexts now trace i steps (holds (suc i) (omega arith))) in
     let size : length now ≡ length signals = kinds_length signals now kinds.0 in
     let longer : length g.whole ≡ length made.signals = kinds_length made.signals g.whole g.kinds in
     let few : length signals ≤ length made.signals = over_size signals made over in
-    let front : take (length signals) g.whole ≡ now = begins_by now g.whole (length signals) size (omega arith) begins in
-    (
+    let front : take (length signals) g.whole ≡ now = begins_by now g.whole (length signals) size (omega arith) begins in (
       g.whole ∷ r.0,
       (record { kinds = g.kinds; equations = met }, runs_as (all_turned s.nexts (start signals)) (behind_made g.whole made) r.0 s.is r.1),
       joined (take (length signals) g.whole) now (restricted (length signals) r.0) trace front r.2,

@@ -1,15 +1,13 @@
 -- Translations once more, by cases on the expression alone, and what a translation adds to what was made.
-use Rattle.std.proofs.Common.{◌≡◌, ◌↔◌, ◌++◌, ℕ, ℤ, Bool, true, false, List, [], ◌∷◌, Option, None, Some, map, refl, sym, ap, ◌∙◌}
+use Rattle.std.proofs.Common.{◌≡◌, ◌↔◌, ◌++◌, ℕ, ℤ, Bool, true, false, List, [], ◌∷◌, Option, None, Some, map, refl, ap, ◌∙◌}
 use Rattle.std.specs.List.{AllByRecursion}
 use Rattle.sig_base.specs.declared.ids.Kind.{Kind}
-use Rattle.sig_base.specs.declared.ids.Kind.TheVariants.{Event}
-use Rattle.sig_base.specs.declared.ids.SigId.{SigId}
 use Rattle.sig_base.specs.declared.span.Span.{Span}
 use Rattle.sig_base.specs.Traces.{Instant, Bounded, seen_at}
 use Rattle.sig_kernel.specs.KernelTraces.{Meets}
 use Rattle.sig_kernel.specs.declared.equation.Equation.{Equation}
 use Rattle.sig_kernel.specs.declared.equation.Form.{Form}
-use Rattle.sig_kernel.specs.declared.equation.Form.TheVariants.{Fun, Delay, When, WhenConst, Default, Sync, Event as EventOf}
+use Rattle.sig_kernel.specs.declared.equation.Form.TheVariants.{Fun, Delay}
 use Rattle.sig_kernel.specs.declared.equation.FunOp.TheVariants.{Id}
 use Rattle.sig_kernel.specs.declared.equation.Operand.{Operand}
 use Rattle.sig_kernel.specs.declared.equation.Operand.TheVariants.{Sig, Const}
@@ -22,7 +20,7 @@ use Rattle.sig_tree.specs.Operators.{Signal}
 use Rattle.sig_call.specs.WellMade.{is_constant}
 use Rattle.sig_flat.specs.Rows.{AreMet, found_at}
 use Rattle.sig_flat.specs.KernelOf.{Site, Made, Translated, with_equation, with_own, own, by_one, unary_form, kind_at, signal_in, signal_id, made_signal, binary, cell, translate}
-use Rattle.sig_flat.proofs.Instants.{at_first, behind_form, behind_equation, behind_equations, MeetAll, behind_made, behind_translated}
+use Rattle.sig_flat.proofs.Instants.{at_first, behind_form, behind_equation, behind_equations, MeetAll, behind_made}
 
 abbrev pub named : Option ℕ → Site → ℕ → Span → Made → Translated
 named None site number at made = made_signal number (kind_at made.signals number) made
