@@ -13,8 +13,7 @@ mod laws;
 mod operator;
 mod site;
 mod term;
-#[cfg(test)]
-mod tests;
+mod traces;
 mod valid;
 
 pub use answer::FlatAnswer;
@@ -23,4 +22,8 @@ pub use laws::{
     derived_equations_mean_operators, equations_mean_operators, kernels_have_their_parts,
     kernels_keep_signals, kernels_name_their_signals,
 };
+pub use traces::kernel_traces_are_process_traces;
 pub use valid::{kernels_are_valid, kernels_have_few_equations};
+
+#[cfg(test)]
+mod tests;
