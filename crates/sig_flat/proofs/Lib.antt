@@ -4,13 +4,12 @@ mod Applying
 mod Binaries
 mod Counting
 mod DefinedOnce
-mod Fitting
-mod FittingForms
-mod FittingOperators
-mod Bodying
 mod Determining
 mod Equating
 mod Expressing
+mod Fitting
+mod FittingForms
+mod FittingOperators
 mod Growing
 mod Instants
 mod Kinded
@@ -26,7 +25,7 @@ mod Sizes
 mod Speaking
 mod Stepping
 mod Targets
-mod Validating
-mod WellMadeNames
 mod Tracing
 mod Translating
+mod Validating
+mod WellMadeNames

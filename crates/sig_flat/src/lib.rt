@@ -15,8 +15,8 @@ mod site;
 mod term;
 #[cfg(test)]
 mod tests;
-mod valid;
 mod traces;
+mod valid;
 
 pub use answer::FlatAnswer;
 pub use kernel::to_kernel;
@@ -24,5 +24,5 @@ pub use laws::{
     derived_equations_mean_operators, equations_mean_operators, kernels_have_their_parts,
     kernels_keep_signals, kernels_name_their_signals,
 };
-pub use valid::kernels_are_valid;
 pub use traces::kernel_traces_are_process_traces;
+pub use valid::kernels_are_valid;
