@@ -4,14 +4,13 @@ mod Applying
 mod Binaries
 mod Counting
 mod DefinedOnce
+mod Determining
+mod Equating
+mod Expressing
 mod FewEquations
 mod Fitting
 mod FittingForms
 mod FittingOperators
-mod Bodying
-mod Determining
-mod Equating
-mod Expressing
 mod Growing
 mod Instants
 mod Kinded
@@ -27,7 +26,7 @@ mod Sizes
 mod Speaking
 mod Stepping
 mod Targets
-mod Validating
-mod WellMadeNames
 mod Tracing
 mod Translating
+mod Validating
+mod WellMadeNames
