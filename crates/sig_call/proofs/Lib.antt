@@ -20,5 +20,6 @@ pub mod Readiness
 pub mod Size
 pub mod Spelled
 pub mod Texts
+pub mod Weights
 pub mod WellMadeBodies
 pub mod Whole
