@@ -6,6 +6,7 @@ pub mod Existence
 pub mod Expandable
 pub mod GoodCopies
 pub mod GoodExpressions
+pub mod Graphic
 pub mod KindRules
 pub mod Labels
 pub mod Leading
@@ -16,6 +17,7 @@ pub mod MadeEquations
 pub mod Named
 pub mod Numbered
 pub mod Obeying
+pub mod Places
 pub mod Readiness
 pub mod Size
 pub mod Spelled
