@@ -1,9 +1,9 @@
 -- Bytes of names and numbers are printable and no blanks.
-use Rattle.std.proofs.Common.{◌≡◌, ◌⊎◌, ◌+◌, ◌<◌, ◌≤◌, ◌^◌, ◌&&◌, ◌||◌, ◌==◌, ℕ, zero, suc, Bool, true, false, List, [], ◌∷◌, length, decimal, refl, inl, inr, arith}
+use Rattle.std.proofs.Common.{◌≡◌, ◌⊎◌, ◌<◌, ◌≤◌, ◌^◌, ◌&&◌, ◌||◌, ◌==◌, ℕ, suc, Bool, true, false, List, [], ◌∷◌, length, decimal, refl, inl, inr, arith}
 use Rattle.std.proofs.lemmas.Bool.{eqb-true, leb-true}
 use Rattle.std.proofs.lemmas.Fmt.{decimal_is_IsNumeral_wide}
 use Rattle.std.proofs.lemmas.Str.Parse.{digit_from_value}
-use Rattle.std.specs.Char.{is_ascii_alphabetic}
+use Rattle.std.specs.Char.{is_ascii_alphabetic, is_ascii_alphanumeric}
 use Rattle.std.specs.Int.{is_in_range}
 use Rattle.std.specs.List.{AllByRecursion, AllPass}
 use Rattle.std.specs.Str.Parse.{AllDigits}
@@ -27,9 +27,9 @@ ranged low high c below above h =
     (omega arith, omega arith)
 
 name_byte_graphic : (c : ℕ) → is_name_byte c ≡ true → IsGraphic c
-name_byte_graphic c h = elim (or_true _ _ h) [
-  | inl wide ↦ elim (or_true _ _ wide) [
-    | inl some ↦ elim (or_true _ _ some) [ inl digit ↦ ranged 48 57 c (omega arith) (omega arith) digit | inr upper ↦ ranged 65 90 c (omega arith) (omega arith) upper ]
+name_byte_graphic c h = elim (or_true (is_ascii_alphanumeric c) (c == 95) h) [
+  | inl wide ↦ elim (or_true (is_in_range 48 57 c || is_in_range 65 90 c) (is_in_range 97 122 c) wide) [
+    | inl some ↦ elim (or_true (is_in_range 48 57 c) (is_in_range 65 90 c) some) [ inl digit ↦ ranged 48 57 c (omega arith) (omega arith) digit | inr upper ↦ ranged 65 90 c (omega arith) (omega arith) upper ]
     | inr lower ↦ ranged 97 122 c (omega arith) (omega arith) lower
   ]
   | inr under ↦ (let same : c ≡ 95 = eqb-true c 95 under in (omega arith, omega arith))

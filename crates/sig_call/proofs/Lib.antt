@@ -19,6 +19,7 @@ pub mod Numbered
 pub mod Obeying
 pub mod Places
 pub mod Readiness
+pub mod SignalNaming
 pub mod Size
 pub mod Spelled
 pub mod Texts

@@ -1,5 +1,5 @@
 -- The places of operators in the tree of a text.
-use Rattle.std.proofs.Common.{◌≡◌, ◌++◌, ◌+◌, ◌-◌, ◌<◌, ◌≤◌, ◌^◌, ◌==◌, ◌∙◌, ℕ, zero, suc, not, List, [], ◌∷◌, None, Some, Option, length, take, drop, count_by, codes, refl, sym, ap, subst, inl, inr, arith, length-take, length-drop}
+use Rattle.std.proofs.Common.{◌++◌, ◌+◌, ◌-◌, ◌≤◌, ◌==◌, ℕ, suc, not, List, [], ◌∷◌, None, Some, Option, length, take, count_by, refl, sym, subst, inl, inr, arith, length-take, length-drop}
 use Rattle.std.proofs.lemmas.List.Sums.{count_by-le-length}
 use Rattle.std.specs.List.{AllByRecursion, after_last, flat_map, suffix_len}
 use Rattle.std.specs.Option.{option_to_list, option_map}
@@ -8,10 +8,9 @@ use Rattle.sig_lex.specs.declared.token.Token.{Token}
 use Rattle.sig_lex.specs.Lexemes.{text_of}
 use Rattle.sig_lex.specs.Places.{place_after}
 use Rattle.sig_lex.specs.Slices.{InOrder}
-use Rattle.sig_tree.specs.declared.expr.Name.{Name}
 use Rattle.sig_tree.specs.Syntax.{Expression, Named, Number, Truth, Unary, Binary, Delay, Cell, Declared, RightSide, Computed, Called, Equations, Together, Defines, Equal, Bodies, no_body, more_bodies, ProcessModel, Modelled, ProcessModels, no_model, more_models}
 use Rattle.sig_tree.specs.Declarations.{equations_in, equations_inside, equations_of_model, with_inner, those_inner}
-use Rattle.sig_tree.specs.Terminals.{Terminal, Leaf, leaf, mark}
+use Rattle.sig_tree.specs.Terminals.{Terminal, Leaf, leaf}
 use Rattle.sig_tree.specs.Leaves.{terminal_of, leaf_of, leaves_of}
 use Rattle.sig_tree.specs.Levels.{level_of}
 use Rattle.sig_tree.specs.Limits.{Limits}

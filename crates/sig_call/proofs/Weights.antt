@@ -1,6 +1,6 @@
 -- How many bytes of a text the leaves of a tree are: no more than there are, and in each process more than its
 -- name, a declared name and 19 other bytes.
-use Rattle.std.proofs.Common.{◌≡◌, ◌++◌, ◌+◌, ◌-◌, ◌<◌, ◌≤◌, ◌∙◌, ℕ, zero, suc, List, [], ◌∷◌, None, Some, Option, length, take, drop, map, codes, refl, sym, ap, subst, inl, inr, arith, slice_range, length-take}
+use Rattle.std.proofs.Common.{◌≡◌, ◌++◌, ◌+◌, ◌-◌, ◌≤◌, ◌∙◌, ℕ, suc, List, [], ◌∷◌, length, drop, map, codes, sym, ap, subst, inl, inr, arith, slice_range, length-take}
 use Rattle.std.specs.List.{AllByRecursion, flat_map}
 use Rattle.std.specs.Option.{option_to_list, option_map}
 use Rattle.sig_base.specs.declared.span.Span.{Span}
@@ -15,7 +15,7 @@ use Rattle.sig_tree.specs.declared.process.Item.{Item}
 use Rattle.sig_tree.specs.Syntax.{Declared, Equations, Together, Defines, Equal, Heading, Placement, ProcessModel, Modelled, ProcessModels, no_model, more_models}
 use Rattle.sig_tree.specs.Declarations.{Declaration, Role, Input, Output, Local, declared_as, name_of, with_inner, those_inner}
 use Rattle.sig_tree.specs.FlatBody.{signals_declared}
-use Rattle.sig_tree.specs.Terminals.{Terminal, name, word, number, label, mark, Leaf, leaf, name_leaf, kind_word}
+use Rattle.sig_tree.specs.Terminals.{Terminal, name, word, number, label, mark, Leaf, leaf, kind_word}
 use Rattle.sig_tree.specs.Leaves.{terminal_of, leaf_of, leaves_of}
 use Rattle.sig_tree.specs.Limits.{Limits}
 use Rattle.sig_tree.specs.Repeated.{Each, Further, Separated, Between}
