@@ -10,6 +10,7 @@ pub mod Graphic
 pub mod KindRules
 pub mod Labels
 pub mod Leading
+pub mod LeafBytes
 pub mod LeftSides
 pub mod Lists
 pub mod MadeBodies
@@ -23,6 +24,5 @@ pub mod SignalNaming
 pub mod Size
 pub mod Spelled
 pub mod Texts
-pub mod Weights
 pub mod WellMadeBodies
 pub mod Whole

@@ -31,7 +31,7 @@ use Rattle.sig_call.proofs.Places.{AtOperatorsOf, ArePlaced, IsPlaced, IsWithin,
 use Rattle.sig_call.proofs.Readiness.{call_adds, call_numbers, some_names}
 use Rattle.sig_call.proofs.Spelled.{IsNamed, Spelled, all_spelled}
 use Rattle.sig_call.proofs.Texts.{all_both}
-use Rattle.sig_call.proofs.Weights.{Weighed, each_weighed, weight, weight_within}
+use Rattle.sig_call.proofs.LeafBytes.{IsRoomyProcess, each_roomy, leaf_bytes, leaf_bytes_within}
 use Rattle.sig_call.proofs.Whole.{first_found}
 
 -- places in a program
@@ -93,7 +93,7 @@ outputs_operators copy (n ∷ ns) output = (tt, outputs_operators copy ns (suc o
 -- what is known of the processes of a text
 pub record IsNameable (p : ProcessModel) : Type 0 where
   pub spelled : Spelled p
-  pub weighed : Weighed PROGRAM_BYTES p
+  pub roomy : IsRoomyProcess PROGRAM_BYTES p
   pub placed : ArePlaced IsPlace p
 
 abbrev AreNameable : List ProcessModel → Type 0
@@ -128,18 +128,18 @@ copy_named prefix graphic (d ∷ ds) named short =
 
 -- a process that is called has an output, whose name is a byte more
 first_output : (q : ℕ) (outputs locals : List Declaration) → 1 ≤ length outputs → AllByRecursion (λ (d : Declaration). q + (length d.name.text + 20) ≤ PROGRAM_BYTES) (outputs ++ locals) → AllByRecursion IsNamed (outputs ++ locals) → q + 21 ≤ PROGRAM_BYTES
-first_output q [] locals some weighed named = (let no : 1 ≤ 0 = some in absurd (omega arith))
-first_output q (d ∷ ds) locals some weighed named =
+first_output q [] locals some roomy named = (let no : 1 ≤ 0 = some in absurd (omega arith))
+first_output q (d ∷ ds) locals some roomy named =
     let byte = name_some d.name.text named.0.0 in
-    let room : q + (length d.name.text + 20) ≤ PROGRAM_BYTES = weighed.0 in
+    let room : q + (length d.name.text + 20) ≤ PROGRAM_BYTES = roomy.0 in
     omega arith
 
 call_prefix : (called : ProcessModel) (name : Name) (n : ℕ) → (name_of called).text ≡ name.text → IsNameable called → 1 ≤ length (outputs_of called) → n ≤ 512 → IsPrefix (copy_prefix name n)
 call_prefix called name n same nameable some few =
     let own = outputs_of called ++ locals_of called in
-    let weighed = (all_parts (λ (d : Declaration). length (name_of called).text + (length d.name.text + 20) ≤ PROGRAM_BYTES) (inputs_of called) own nameable.weighed.declared).1 in
+    let roomy = (all_parts (λ (d : Declaration). length (name_of called).text + (length d.name.text + 20) ≤ PROGRAM_BYTES) (inputs_of called) own nameable.roomy.declared).1 in
     let named = (all_parts IsNamed (inputs_of called) own nameable.spelled.declared).1 in
-    let room : length (name_of called).text + 21 ≤ PROGRAM_BYTES = first_output (length (name_of called).text) (outputs_of called) (locals_of called) some weighed named in
+    let room : length (name_of called).text + 21 ≤ PROGRAM_BYTES = first_output (length (name_of called).text) (outputs_of called) (locals_of called) some roomy named in
     let long : length (copy_prefix name n) ≤ length name.text + 5 = prefix_long name n few in
     let equal : length (name_of called).text ≡ length name.text = ap length same in
     record {
@@ -154,7 +154,7 @@ call_signals called name n cluster same nameable few =
     all_map (λ (signal : Signal). IsSignalName signal.name) _ (signals_declared called)
     (copy_named (copy_prefix name n) (prefix_graphic name n few (subst (AllByRecursion IsGraphic) same (name_graphic (name_of called).text nameable.spelled.name))) (signals_declared called) nameable.spelled.declared
     (all_so (λ (d : Declaration). length (name_of called).text + (length d.name.text + 20) ≤ PROGRAM_BYTES) (λ (d : Declaration). length (copy_prefix name n) + length d.name.text ≤ PROGRAM_BYTES)
-    (λ d r. (let room : length (name_of called).text + (length d.name.text + 20) ≤ PROGRAM_BYTES = r in omega arith)) (signals_declared called) nameable.weighed.declared))
+    (λ d r. (let room : length (name_of called).text + (length d.name.text + 20) ≤ PROGRAM_BYTES = r in omega arith)) (signals_declared called) nameable.roomy.declared))
 
 -- the names after an expansion, those of its operators, and the numbers of calls
 record Naming (after : Progress) (flat : List FlatEquation) : Type 0 where
@@ -215,7 +215,7 @@ first_signals p own =
     all_map (λ (signal : Signal). IsSignalName signal.name) _ (signals_declared p)
     (copy_named [] tt (signals_declared p) own.spelled.declared
     (all_so (λ (d : Declaration). length (name_of p).text + (length d.name.text + 20) ≤ PROGRAM_BYTES) (λ (d : Declaration). 0 + length d.name.text ≤ PROGRAM_BYTES)
-    (λ d r. (let room : length (name_of p).text + (length d.name.text + 20) ≤ PROGRAM_BYTES = r in omega arith)) (signals_declared p) own.weighed.declared))
+    (λ d r. (let room : length (name_of p).text + (length d.name.text + 20) ≤ PROGRAM_BYTES = r in omega arith)) (signals_declared p) own.roomy.declared))
 
 pub named_body : (program : List ProcessModel) (flat : FlatBody) → IsTree program → IsWellFormed program → AllByRecursion IsNameable (all_processes program) → IsFlatBody program flat → length flat.signals ≤ SIGNALS → NamedBody flat
 named_body [] flat tree well nameable is few = elim is [ ]
@@ -234,9 +234,9 @@ named_body (p ∷ ps) flat tree well nameable is few =
     named_parts after is.1 flat (length (inputs_of p)) (length (outputs_of p)) named is.3
 
 -- the processes of a text within the limit
-all_nameable : (ps : List ProcessModel) → AllByRecursion Spelled ps → AllByRecursion (Weighed PROGRAM_BYTES) ps → AllByRecursion (ArePlaced IsPlace) ps → AllByRecursion IsNameable ps
-all_nameable [] spelled weighed placed = tt
-all_nameable (p ∷ ps) spelled weighed placed = (record { spelled = spelled.0; weighed = weighed.0; placed = placed.0 }, all_nameable ps spelled.1 weighed.1 placed.1)
+all_nameable : (ps : List ProcessModel) → AllByRecursion Spelled ps → AllByRecursion (IsRoomyProcess PROGRAM_BYTES) ps → AllByRecursion (ArePlaced IsPlace) ps → AllByRecursion IsNameable ps
+all_nameable [] spelled roomy placed = tt
+all_nameable (p ∷ ps) spelled roomy placed = (record { spelled = spelled.0; roomy = roomy.0; placed = placed.0 }, all_nameable ps spelled.1 roomy.1 placed.1)
 
 place_more : (size : ℕ) → size ≤ PROGRAM_BYTES → (at : Span) → IsWithin size at → IsPlace at
 place_more size few at within =
@@ -248,8 +248,8 @@ pub nameable_text : (text : List ℕ) (tokens : List Token) (words : List Lexeme
     → InOrder text 0 tokens → HasTree (leaves_of text tokens) program → length text ≤ PROGRAM_BYTES → AllByRecursion IsNameable (all_processes program)
 nameable_text text tokens words program is spelled order tree few =
     let leaves = leaves_of text tokens in
-    let light : weight leaves ≤ length text = weight_within text tokens order in
-    let within : weight leaves ≤ PROGRAM_BYTES = omega arith in
+    let light : leaf_bytes leaves ≤ length text = leaf_bytes_within text tokens order in
+    let within : leaf_bytes leaves ≤ PROGRAM_BYTES = omega arith in
     let placed : AllByRecursion (StandsAt IsPlace) leaves =
     all_so (StandsAt (IsWithin (length text))) (StandsAt IsPlace) (λ l h. place_more (length text) few l.at h) leaves (leaves_placed text tokens 0 order) in
-    all_nameable (all_processes program) (all_spelled text tokens words program is spelled tree) (each_weighed _ program leaves PROGRAM_BYTES tree.1 within) (each_placed IsPlace _ program leaves tree.1 (record { all = placed }))
+    all_nameable (all_processes program) (all_spelled text tokens words program is spelled tree) (each_roomy _ program leaves PROGRAM_BYTES tree.1 within) (each_placed IsPlace _ program leaves tree.1 (record { all = placed }))
