@@ -6,9 +6,11 @@ pub mod Existence
 pub mod Expandable
 pub mod GoodCopies
 pub mod GoodExpressions
+pub mod Graphic
 pub mod KindRules
 pub mod Labels
 pub mod Leading
+pub mod LeafBytes
 pub mod LeftSides
 pub mod Lists
 pub mod MadeBodies
@@ -16,7 +18,9 @@ pub mod MadeEquations
 pub mod Named
 pub mod Numbered
 pub mod Obeying
+pub mod Places
 pub mod Readiness
+pub mod SignalNaming
 pub mod Size
 pub mod Spelled
 pub mod Texts

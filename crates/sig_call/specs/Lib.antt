@@ -4,5 +4,6 @@ pub mod Constants
 pub mod Copies
 pub mod MadeOf
 pub mod Making
+pub mod SignalNames
 pub mod Sound
 pub mod WellMade
