@@ -22,6 +22,7 @@ mod Parts
 mod Reacting
 mod Reading
 mod Saying
+mod SignalNames
 mod Sizes
 mod Speaking
 mod Stepping

@@ -23,7 +23,7 @@ pub use laws::{
     kernels_keep_signals, kernels_name_their_signals,
 };
 pub use traces::kernel_traces_are_process_traces;
-pub use valid::{kernels_are_valid, kernels_have_few_equations};
+pub use valid::{kernels_are_valid, kernels_have_few_equations, kernels_name_signals};
 
 #[cfg(test)]
 mod tests;

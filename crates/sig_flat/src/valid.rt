@@ -1,8 +1,9 @@
 //! That the kernels of well-made flat bodies are valid.
 
 ghost use Rattle.std.specs.Prelude.{◌≡◌, ◌<◌, ◌≤◌, ◌+◌, ◌*◌, ◌^◌, bytes_eq, length, map, take};
-ghost use Rattle.std.specs.List.{IsDistinct};
+ghost use Rattle.std.specs.List.{AllByRecursion, IsDistinct};
 ghost use Rattle.sig_base.specs.declared.limits.TheConstants.{SIGNALS};
+ghost use Rattle.sig_call.specs.SignalNames.{IsSignalName, NamesOperators};
 ghost use Rattle.sig_call.specs.Sound.{flat_weights};
 ghost use Rattle.sig_call.specs.WellMade.{IsWellMade};
 ghost use Rattle.sig_flat.specs.KernelOf.{kernel_of};
@@ -21,4 +22,11 @@ pub fn kernels_are_valid()
 pub fn kernels_have_few_equations()
     ensures { (flat : FlatBody)
         → length (kernel_of flat).equations + 2 * length flat.signals ≤ 2 * length (kernel_of flat).signals + flat_weights flat.equations }
+{}
+
+/// A law: the signals of a kernel have names of 1 to 1,048,576 bytes of printable ASCII without
+/// blanks where those of the flat body have, and the intermediates of its operators.
+pub fn kernels_name_signals()
+    ensures { (flat : FlatBody) → AllByRecursion (λ signal. IsSignalName signal.name) flat.signals → AllByRecursion NamesOperators flat.equations
+        → AllByRecursion (λ signal. IsSignalName signal.name) (kernel_of flat).signals }
 {}

@@ -1,6 +1,6 @@
 -- The kernel of a text is valid, has few equations and has the traces of the program.
 use Rattle.std.proofs.Common.{◌≡◌, ◌<◌, ◌≤◌, ◌+◌, ◌*◌, ◌^◌, ◌∙◌, ℕ, List, length, map, take, bytes_eq, sym, ap, subst, arith}
-use Rattle.std.specs.List.{IsDistinct}
+use Rattle.std.specs.List.{AllByRecursion, IsDistinct}
 use Rattle.sig_base.specs.declared.limits.TheConstants.{SIGNALS}
 use Rattle.sig_base.specs.declared.signal.Signal.{Signal}
 use Rattle.sig_base.specs.Traces.{Trace}
@@ -11,6 +11,7 @@ use Rattle.sig_tree.specs.ProcessTraces.{IsProcessTrace}
 use Rattle.sig_tree.specs.Syntax.{ProcessModel}
 use Rattle.sig_tree.specs.WellFormed.{IsWellFormed}
 use Rattle.sig_call.specs.Constants.{IsBounded}
+use Rattle.sig_call.specs.SignalNames.{IsSignalName, NamesOperators}
 use Rattle.sig_call.specs.Sound.{IsTree, IsSized, flat_weights}
 use Rattle.sig_call.specs.WellMade.{IsWellMade}
 use Rattle.sig_kernel.specs.KernelTraces.{IsKernelTrace}
@@ -75,3 +76,18 @@ module _ (trees : (text : List ℕ) (program : List ProcessModel) → IsText tex
       let kept : length (kernel_of flat).signals ≤ 512 = subst (λ (k : Kernel). length k.signals ≤ 512) is.made is.few in
       let bound = bounds flat in
       subst (λ (k : Kernel). length k.equations < 2 ^ 30) (sym is.made) (omega (arith, weights, most, kept, bound))
+
+-- names
+module _ (signals : (text : List ℕ) (program : List ProcessModel) (flat : FlatBody) → IsText text program → IsWellFormed program → IsFlatBody program flat
+    → length text ≤ 1048576 → length flat.signals ≤ 512 → AllByRecursion (λ (signal : Signal). IsSignalName signal.name) flat.signals)
+    (operators : (text : List ℕ) (program : List ProcessModel) (flat : FlatBody) → IsText text program → IsWellFormed program → IsFlatBody program flat
+    → length text ≤ 1048576 → length flat.signals ≤ 512 → AllByRecursion NamesOperators flat.equations)
+    (keeps : (flat : FlatBody) → AllByRecursion (λ (signal : Signal). IsSignalName signal.name) flat.signals → AllByRecursion NamesOperators flat.equations
+    → AllByRecursion (λ (signal : Signal). IsSignalName signal.name) (kernel_of flat).signals) where
+  pub names : (text : List ℕ) (kernel : Kernel) → length text ≤ 1048576 → IsKernelText text kernel → AllByRecursion (λ (signal : Signal). IsSignalName signal.name) kernel.signals
+  names text kernel short is =
+      let flat : FlatBody = is.flat in
+      let says = is.says in
+      subst (λ (k : Kernel). AllByRecursion (λ (signal : Signal). IsSignalName signal.name) k.signals) (sym is.made)
+      (keeps flat (signals text says.tree flat says.good.reads says.good.formed says.expands short says.few)
+      (operators text says.tree flat says.good.reads says.good.formed says.expands short says.few))

@@ -1,6 +1,8 @@
 //! From a text to its kernel.
 
 ghost use Rattle.std.specs.Prelude.{◌≡◌, ◌<◌, ◌≤◌, ◌^◌, ◌⊎◌, List, IfOk, IfErr, IsErrAnd, MatchResult, length};
+ghost use Rattle.std.specs.List.{AllByRecursion};
+ghost use Rattle.sig_call.specs.SignalNames.{IsSignalName};
 ghost use Rattle.sig_kernel.specs.Validity.{IsValid};
 ghost use Rattle.sig_kernel.specs.declared.kernel.Kernel.{Kernel};
 ghost use Rattle.sig_front.specs.Kernels.{HasTracesOf, IsKernelText, IsNoKernelText};
@@ -10,23 +12,27 @@ use crate::answer::FrontAnswer;
 use crate::body::flat;
 use sig_base::limits::PROGRAM_BYTES;
 use sig_call::{
-    flat_bodies_are_well_made, names_of_flat_bodies, size_of_flat_bodies, trees_of_texts,
+    flat_bodies_are_well_made, names_of_flat_bodies, signals_have_names, size_of_flat_bodies,
+    trees_of_texts,
 };
 use sig_flat::{
-    kernel_traces_are_process_traces, kernels_are_valid, kernels_have_few_equations, to_kernel,
+    kernel_traces_are_process_traces, kernels_are_valid, kernels_have_few_equations,
+    kernels_name_signals, to_kernel,
 };
 use sig_kernel::Kernel;
 use std::alloc::Global;
 
 /// The kernel of the program that a text is, or the first refusal by the lexer, the parser, the check,
 /// the expansion of calls and the limit of 512 signals. Only memory can be wanting besides. The
-/// kernel is valid, and its traces, restricted to the declared and copied signals, are exactly those of
+/// kernel is valid, its signals have names of 1 to 1,048,576 bytes of printable ASCII without blanks, and its
+/// traces, restricted to the declared and copied signals, are exactly those of
 /// the program, each from one trace of the kernel.
 pub fn front(alloc: Global, bytes: &[u8]) -> Result<Kernel, FrontAnswer>
     requires short { length bytes.now ≤ PROGRAM_BYTES }
     ensures kernel { IfOk result (IsKernelText bytes.now) }
     ensures valid { IfOk result IsValid }
     ensures traces { IfOk result (HasTracesOf bytes.now) }
+    ensures names { IfOk result (λ kernel. AllByRecursion (λ signal. IsSignalName signal.name) kernel.signals) }
     ensures small { IfOk result (λ kernel. length kernel.equations < 2 ^ 30) }
     ensures fault { IfErr result (λ answer. (answer ≡ FrontAnswer.OutOfMemory) ⊎ IsNoKernelText bytes.now answer) }
 
@@ -40,9 +46,11 @@ pub fn front(alloc: Global, bytes: &[u8]) -> Result<Kernel, FrontAnswer>
     trees_of_texts();
     size_of_flat_bodies();
     names_of_flat_bodies();
+    signals_have_names();
     flat_bodies_are_well_made();
     kernels_are_valid();
     kernels_have_few_equations();
+    kernels_name_signals();
     kernel_traces_are_process_traces();
     kernel_of(alloc, bytes)
 }

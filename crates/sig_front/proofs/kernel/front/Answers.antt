@@ -1,6 +1,6 @@
 use Rattle.sig_front.specs.Kernels.{IsKernelText, IsNoKernelText}
 use Rattle.sig_front.proofs.Given.{given, refused}
-use Rattle.sig_front.proofs.Kernels.{few_equations, is_valid, traces}
+use Rattle.sig_front.proofs.Kernels.{few_equations, is_valid, names, traces}
 use Rattle.sig_front.proofs.OneKernel.{kernel_once, kernel_or_refusal, no_kernel_once}
 use Rattle.sig_front.proofs.Results.{of_ok}
 use Rattle.sig_front.proofs.kernel.front.Goals as goal
@@ -22,6 +22,11 @@ pub returns-clause-small : goal.returns-clause-small
 returns-clause-small c =
     of_ok c.kernel_of.result (λ kernel is. few_equations c.trees_of_texts.ensures.tree c.trees_of_texts.ensures.sized c.size_of_flat_bodies.ensures.weights
     c.kernels_have_few_equations.ensures c.args.bytes.now kernel c.requires.short is) c.kernel_of.ensures.kernel
+
+pub returns-clause-names : goal.returns-clause-names
+returns-clause-names c =
+    of_ok c.kernel_of.result (λ kernel is. names c.signals_have_names.ensures.signals c.signals_have_names.ensures.operators c.kernels_name_signals.ensures
+    c.args.bytes.now kernel c.requires.short is) c.kernel_of.ensures.kernel
 
 pub returns-clause-given : goal.returns-clause-given
 returns-clause-given c =
