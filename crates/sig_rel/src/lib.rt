@@ -4,7 +4,9 @@
 #![tactic(auto)]
 
 mod answer;
-mod relation;
+mod numbering;
+mod relations;
+mod statuses;
 
 pub use answer::RelAnswer;
-pub use relation::Relation;
+pub use relations::Relation;

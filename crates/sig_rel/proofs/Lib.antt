@@ -1,0 +1,6 @@
+pub mod Places
+pub mod ClassLemmas
+pub mod NumberLemmas
+pub mod GivenLemmas
+pub mod UnknownLemmas
+pub mod SignalNumbers

@@ -1,0 +1,43 @@
+-- Statuses of signals as functions of the unknowns.
+use Rattle.std.specs.Prelude.{◌≡◌, ◌<◌, ℕ, Bool, List, [], ◌∷◌, length, Option, None, Some, slice_index_or, slice_get, if◌then◌else◌, Contains}
+use Rattle.std.specs.Ordering.{int_eq}
+use Rattle.std.specs.Prelude.{pos, not, ◌&&◌, ◌||◌}
+use Rattle.sig_clock.specs.Reactions.{Reaction, Status, same_truth}
+use Rattle.sig_dd.specs.Nodes.{test}
+use Rattle.sig_dd.specs.declared.node.Node.{Node}
+use Rattle.sig_dd.specs.declared.node.Ref.{Ref}
+use Rattle.sig_rel.specs.Relations.{IsUsed, reaction_in, truth_in}
+use Rattle.sig_rel.specs.declared.numbering.Unknowns.{Unknowns}
+use Rattle.sig_rel.specs.declared.statuses.Known.{Known}
+
+-- the status that two functions give
+abbrev pub status_by : List Node → Known → List Bool → Status
+status_by nodes known truths = if test nodes known.present truths then Some (test nodes known.truth truths) else None
+
+-- the functions give the status
+abbrev pub IsKnown : List Node → (List Bool → Status) → Known → Type 0
+IsKnown nodes status known = (truths : List Bool) → status_by nodes known truths ≡ status truths
+
+abbrev pub refs_of : Known → List Ref
+refs_of known = known.present ∷ known.truth ∷ []
+
+abbrev pub itself : Ref → List Ref
+itself r = r ∷ []
+
+-- the reaction that truths of the unknowns are
+abbrev pub reaction_by : Unknowns → List Bool → Reaction
+reaction_by unknowns truths = reaction_in truths unknowns.present.items unknowns.truth.items
+
+-- the list has each unknown
+abbrev pub HasUnknowns : Unknowns → List ℕ → Type 0
+HasUnknowns unknowns vs = (v : ℕ) → IsUsed unknowns.present.items unknowns.truth.items v → Contains vs v
+
+-- each signal of so many has its unknowns
+pub record Serves (unknowns : Unknowns) (count : ℕ) : Type 0 where
+  pub presences : length unknowns.present.items ≡ count
+  pub truths : length unknowns.truth.items ≡ count
+
+-- the variable of a truth, where it has one
+abbrev pub variables_of : Option ℕ → List ℕ
+variables_of None = []
+variables_of (Some v) = v ∷ []
