@@ -4,3 +4,5 @@ pub mod NumberLemmas
 pub mod GivenLemmas
 pub mod UnknownLemmas
 pub mod SignalNumbers
+pub mod Makings
+pub mod Functions
