@@ -5,4 +5,5 @@ pub mod GivenLemmas
 pub mod UnknownLemmas
 pub mod SignalNumbers
 pub mod Makings
-pub mod Functions
+pub mod Reactions
+pub mod Staying

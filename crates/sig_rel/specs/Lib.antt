@@ -3,3 +3,4 @@ pub mod Numberings
 pub mod Relations
 pub mod Shares
 pub mod Statuses
+pub mod TruthFunctions

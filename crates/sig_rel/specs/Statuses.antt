@@ -41,3 +41,6 @@ pub record Serves (unknowns : Unknowns) (count : ℕ) : Type 0 where
 abbrev pub variables_of : Option ℕ → List ℕ
 variables_of None = []
 variables_of (Some v) = v ∷ []
+
+abbrev pub pair_of : Ref × Ref → List Ref
+pair_of pair = pair.0 ∷ pair.1 ∷ []

@@ -4,7 +4,7 @@ use Rattle.sig_dd.specs.Nodes.{IsRefOf, test}
 use Rattle.sig_dd.specs.Shares.{SpanAll}
 use Rattle.sig_rel.specs.Statuses.{itself}
 use Rattle.sig_dd.proofs.CallerLemmas.{Spans-kept}
-use Rattle.sig_rel.proofs.Functions.{choice_is_same, test_kept}
+use Rattle.sig_rel.proofs.Staying.{choice_is_same, test_kept}
 use Rattle.sig_rel.proofs.Makings.{made_choice, made_one, makes_then}
 use Rattle.sig_rel.proofs.statuses.same_truth.Goals as goal
 

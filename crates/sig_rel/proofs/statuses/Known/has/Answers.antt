@@ -5,7 +5,7 @@ use Rattle.sig_dd.specs.Nodes.{test}
 use Rattle.sig_dd.specs.Shares.{SpanAll}
 use Rattle.sig_rel.specs.Statuses.{itself}
 use Rattle.sig_dd.proofs.CallerLemmas.{Spans-kept}
-use Rattle.sig_rel.proofs.Functions.{conj_is_choice, test_kept}
+use Rattle.sig_rel.proofs.Staying.{conj_is_choice, test_kept}
 use Rattle.sig_rel.proofs.Makings.{made_two, makes_then}
 use Rattle.sig_rel.proofs.statuses.Known.has.Goals as goal
 

@@ -4,7 +4,7 @@ use Rattle.sig_dd.specs.Nodes.{test}
 use Rattle.sig_dd.specs.Shares.{SpanAll}
 use Rattle.sig_rel.specs.Statuses.{itself}
 use Rattle.sig_dd.proofs.CallerLemmas.{Spans-kept}
-use Rattle.sig_rel.proofs.Functions.{test_kept}
+use Rattle.sig_rel.proofs.Staying.{test_kept}
 use Rattle.sig_rel.proofs.Makings.{constant_spans, made_choice, makes_then}
 use Rattle.sig_rel.proofs.statuses.Known.may_have.Goals as goal
 

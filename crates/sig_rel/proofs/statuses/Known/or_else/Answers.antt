@@ -3,7 +3,7 @@ use Rattle.sig_dd.specs.Nodes.{test}
 use Rattle.sig_dd.specs.Shares.{SpanAll}
 use Rattle.sig_rel.specs.Statuses.{itself, refs_of}
 use Rattle.sig_dd.proofs.CallerLemmas.{Holds-kept, Keeps-trans, Spans-kept}
-use Rattle.sig_rel.proofs.Functions.{or_else_is, status, test_kept}
+use Rattle.sig_rel.proofs.Staying.{or_else_is, status, test_kept}
 use Rattle.sig_rel.proofs.Makings.{made_choice, made_two, makes_err, makes_ok, makes_spans, makes_then}
 use Rattle.sig_rel.proofs.statuses.Known.or_else.Goals as goal
 

@@ -4,7 +4,7 @@ use Rattle.sig_dd.specs.Nodes.{test}
 use Rattle.sig_dd.specs.Shares.{SpanAll}
 use Rattle.sig_rel.specs.Statuses.{itself}
 use Rattle.sig_dd.proofs.CallerLemmas.{Keeps-trans, Spans-kept}
-use Rattle.sig_rel.proofs.Functions.{same_is, test_kept}
+use Rattle.sig_rel.proofs.Staying.{same_is, test_kept}
 use Rattle.sig_rel.proofs.Makings.{made_choice, made_one, makes_err, makes_spans, makes_then}
 use Rattle.sig_rel.proofs.statuses.Known.same.Goals as goal
 

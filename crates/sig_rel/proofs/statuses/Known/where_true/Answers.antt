@@ -3,7 +3,7 @@ use Rattle.sig_dd.specs.Nodes.{test}
 use Rattle.sig_dd.specs.Shares.{SpanAll}
 use Rattle.sig_rel.specs.Statuses.{itself, refs_of}
 use Rattle.sig_dd.proofs.CallerLemmas.{Holds-kept, Keeps-trans, Spans-kept}
-use Rattle.sig_rel.proofs.Functions.{status, test_kept, where_true_is}
+use Rattle.sig_rel.proofs.Staying.{status, test_kept, where_true_is}
 use Rattle.sig_rel.proofs.Makings.{made_two, makes_err, makes_ok, makes_then}
 use Rattle.sig_rel.proofs.statuses.Known.where_true.Goals as goal
 
