@@ -5,5 +5,6 @@ pub mod GivenLemmas
 pub mod UnknownLemmas
 pub mod SignalNumbers
 pub mod Makings
+pub mod OperandLemmas
 pub mod Reactions
 pub mod Staying

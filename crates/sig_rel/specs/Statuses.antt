@@ -44,3 +44,6 @@ variables_of (Some v) = v ∷ []
 
 abbrev pub pair_of : Ref × Ref → List Ref
 pair_of pair = pair.0 ∷ pair.1 ∷ []
+
+abbrev pub four_of : Known × Known → List Ref
+four_of pair = pair.0.present ∷ pair.0.truth ∷ pair.1.present ∷ pair.1.truth ∷ []

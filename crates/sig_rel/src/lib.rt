@@ -4,6 +4,7 @@
 #![tactic(auto)]
 
 mod answer;
+mod equations;
 mod functions;
 mod numbering;
 mod relations;
