@@ -5,6 +5,7 @@ pub mod GivenLemmas
 pub mod UnknownLemmas
 pub mod SignalNumbers
 pub mod Makings
+pub mod Meeting
 pub mod OperandLemmas
 pub mod Reactions
 pub mod Staying

@@ -1,6 +1,6 @@
 -- Functions of truths, and what stays of them as a store grows.
 use Rattle.std.proofs.Common.{◌≡◌, ℕ, Bool, true, false, not, ◌&&◌, ◌||◌, List, [], ◌∷◌, Option, None, Some, refl, sym, ap, ◌∙◌, if◌then◌else◌}
-use Rattle.sig_clock.specs.Reactions.{Status, or_else, same_status, same_truth, where_present, where_true}
+use Rattle.sig_clock.specs.Reactions.{Status, has_truth, or_else, same_status, same_truth, where_present, where_true}
 use Rattle.sig_dd.specs.Nodes.{StoreView, Holds, Keeps, Spans, test}
 use Rattle.sig_dd.specs.Shares.{HoldAll, SpanAll}
 use Rattle.sig_dd.specs.declared.node.Ref.{Ref}
@@ -61,3 +61,7 @@ same_is true at true bt = truths_turned at bt
 same_is true at false bt = refl
 same_is false at true bt = refl
 same_is false at false bt = refl
+
+pub has_truth_is : (p t b : Bool) → (if p then same_truth t b else true) ≡ has_truth (status p t) (Some b)
+has_truth_is true t b = refl
+has_truth_is false t b = refl
