@@ -102,40 +102,31 @@ module _ (u : Unknowns) (serves : Serves u (length u.present.items)) (truths : L
   -- a form of either kind
   pub fun_form_met : (signals : List Signal) (form : Form) (y : SigId) (op : FunOp) (operands : List Operand) → form ≡ Fun y op operands → form_within (length u.present.items) form ≡ true → SharePresence u.present.items (related form)
       → has_truth (status_at (reaction_by u truths) y.0) (truth_given signals op operands (operand_by u truths)) ≡ meets signals (reaction_by u truths) form
-  fun_form_met signals form y op operands is within share = subst Met (sym is) met within share where
-    Met : Form → Type 0
-    Met form = form_within (length u.present.items) form ≡ true → SharePresence u.present.items (related form)
-        → has_truth (status_at (reaction_by u truths) y.0) (truth_given signals op operands (operand_by u truths)) ≡ meets signals (reaction_by u truths) form
-
-    met : Met (Fun y op operands)
-    unfolding Met
-    met within share =
+  fun_form_met signals form y op operands is within share =
+      let Met : Form → Type 0 = λ form. form_within (length u.present.items) form ≡ true → SharePresence u.present.items (related form)
+        → has_truth (status_at (reaction_by u truths) y.0) (truth_given signals op operands (operand_by u truths)) ≡ meets signals (reaction_by u truths) form in
+      let met : Met (Fun y op operands) = λ within share.
         let parts = and_parts (is_below (length u.present.items) y) (list_all (operand_within (length u.present.items)) operands) within in
         function_met y.0 (ltb-true y.0 (length u.present.items) parts.0) signals op operands parts.1
-        (λ x there. share y.0 x (contains_head y.0 (signals_among operands)) (contains_later y.0 x (signals_among operands) there))
+        (λ x there. share y.0 x (contains_head y.0 (signals_among operands)) (contains_later y.0 x (signals_among operands) there)) in
+      subst Met (sym is) met within share
 
   pub delay_form_met : (signals : List Signal) (form : Form) (y x : SigId) (initial : ℤ) → form ≡ Delay y x initial → form_within (length u.present.items) form ≡ true → SharePresence u.present.items (related form)
       → true ≡ meets signals (reaction_by u truths) form
-  delay_form_met signals form y x initial is within share = subst Met (sym is) met within share where
-    Met : Form → Type 0
-    Met form = form_within (length u.present.items) form ≡ true → SharePresence u.present.items (related form) → true ≡ meets signals (reaction_by u truths) form
-
-    met : Met (Delay y x initial)
-    unfolding Met
-    met within share =
+  delay_form_met signals form y x initial is within share =
+      let Met : Form → Type 0 = λ form. form_within (length u.present.items) form ≡ true → SharePresence u.present.items (related form) → true ≡ meets signals (reaction_by u truths) form in
+      let met : Met (Delay y x initial) = λ within share.
         let parts = and_parts (is_below (length u.present.items) y) (is_below (length u.present.items) x && true) within in
         let later = and_parts (is_below (length u.present.items) x) true parts.1 in
-        two_met y.0 x.0 (ltb-true y.0 (length u.present.items) parts.0) (ltb-true x.0 (length u.present.items) later.0) share
+        two_met y.0 x.0 (ltb-true y.0 (length u.present.items) parts.0) (ltb-true x.0 (length u.present.items) later.0) share in
+      subst Met (sym is) met within share
 
   pub sync_form_met : (signals : List Signal) (form : Form) (y x : SigId) → form ≡ Sync y x → form_within (length u.present.items) form ≡ true → SharePresence u.present.items (related form)
       → true ≡ meets signals (reaction_by u truths) form
-  sync_form_met signals form y x is within share = subst Met (sym is) met within share where
-    Met : Form → Type 0
-    Met form = form_within (length u.present.items) form ≡ true → SharePresence u.present.items (related form) → true ≡ meets signals (reaction_by u truths) form
-
-    met : Met (Sync y x)
-    unfolding Met
-    met within share =
+  sync_form_met signals form y x is within share =
+      let Met : Form → Type 0 = λ form. form_within (length u.present.items) form ≡ true → SharePresence u.present.items (related form) → true ≡ meets signals (reaction_by u truths) form in
+      let met : Met (Sync y x) = λ within share.
         let parts = and_parts (is_below (length u.present.items) y) (is_below (length u.present.items) x && true) within in
         let later = and_parts (is_below (length u.present.items) x) true parts.1 in
-        two_met y.0 x.0 (ltb-true y.0 (length u.present.items) parts.0) (ltb-true x.0 (length u.present.items) later.0) share
+        two_met y.0 x.0 (ltb-true y.0 (length u.present.items) parts.0) (ltb-true x.0 (length u.present.items) later.0) share in
+      subst Met (sym is) met within share
