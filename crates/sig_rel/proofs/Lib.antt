@@ -5,6 +5,11 @@ pub mod GivenLemmas
 pub mod UnknownLemmas
 pub mod SignalNumbers
 pub mod Makings
+pub mod SharedClocks
+pub mod UsedLemmas
+pub mod ShareLemmas
+pub mod KindLemmas
+pub mod RelationLemmas
 pub mod Meeting
 pub mod OperandLemmas
 pub mod Reactions

@@ -6,7 +6,8 @@ use Rattle.sig_clock.specs.Reactions.{Reaction, Status, same_truth}
 use Rattle.sig_dd.specs.Nodes.{test}
 use Rattle.sig_dd.specs.declared.node.Node.{Node}
 use Rattle.sig_dd.specs.declared.node.Ref.{Ref}
-use Rattle.sig_rel.specs.Relations.{IsUsed, reaction_in, truth_in}
+use Rattle.sig_kernel.specs.declared.kernel.Kernel.{Kernel}
+use Rattle.sig_rel.specs.Relations.{AreUnknowns, IsUsed, reaction_in, truth_in}
 use Rattle.sig_rel.specs.declared.numbering.Unknowns.{Unknowns}
 use Rattle.sig_rel.specs.declared.statuses.Known.{Known}
 
@@ -47,3 +48,7 @@ pair_of pair = pair.0 ∷ pair.1 ∷ []
 
 abbrev pub four_of : Known × Known → List Ref
 four_of pair = pair.0.present ∷ pair.0.truth ∷ pair.1.present ∷ pair.1.truth ∷ []
+
+-- the unknowns of a kernel
+abbrev pub AreUnknownsOf : Kernel → Unknowns → Type 0
+AreUnknownsOf kernel unknowns = (count : ℕ) × AreUnknowns kernel count unknowns.present.items unknowns.truth.items

@@ -6,9 +6,11 @@
 mod answer;
 mod equations;
 mod functions;
+mod making;
 mod numbering;
 mod relations;
 mod statuses;
 
 pub use answer::RelAnswer;
+pub use making::relation;
 pub use relations::Relation;

@@ -6,9 +6,11 @@ ghost use Rattle.sig_clock.specs.SameClocks.{AreLeast};
 ghost use Rattle.sig_kernel.specs.Validity.{IsValid, form_within, operand_within};
 ghost use Rattle.std.specs.List.{list_all};
 ghost use Rattle.sig_rel.specs.Numberings.{AreGiven, HasNumbers, Retains, given_at, next_after, number_of};
-ghost use Rattle.sig_rel.specs.Relations.{AreUnknowns, is_boolean};
+ghost use Rattle.sig_rel.specs.Relations.{is_boolean};
+ghost use Rattle.sig_rel.specs.Statuses.{AreUnknownsOf};
 
-use sig_base::{Kind, SigId};
+use sig_base::Kind;
+use sig_clock::{ClockBase, condition_set, same_clock};
 use sig_kernel::{Form, Kernel, Operand};
 use std::alloc::{AllocError, Global};
 
@@ -28,10 +30,20 @@ struct Numbering {
     next: u32,
 }
 
+/// The unknowns of a kernel, numbered from the count of its conditions on.
+pub(crate) fn unknowns_of(alloc: Global, kernel: &Kernel) -> Result<Unknowns, ClockBase>
+    requires { IsValid kernel.now }
+    ensures { IfOk result (AreUnknownsOf kernel.now) }
+{
+    let least = same_clock(alloc, kernel)?;
+    let conditions = condition_set(alloc, kernel)?;
+    Ok(numbered(alloc, kernel, least.as_slice(), conditions.len() as u32)?)
+}
+
 /// The unknowns of a kernel, of which the least signals of the clock classes are given. They are
 /// numbered in the order in which the equations name them, so that related ones stand beside one
 /// another.
-pub(crate) fn unknowns_of(
+fn numbered(
     alloc: Global,
     kernel: &Kernel,
     least: &[u32],
@@ -40,7 +52,7 @@ pub(crate) fn unknowns_of(
     requires valid { IsValid kernel.now }
     requires least { AreLeast kernel.now least.now }
     requires first { first ≡ length (conditions_of kernel.now) }
-    ensures { IfOk result (λ u. (count : ℕ) × AreUnknowns kernel.now count u.present.items u.truth.items) }
+    ensures { IfOk result (AreUnknownsOf kernel.now) }
 {
     let mut numbering = Numbering::new(alloc, kernel.signals.as_slice().len(), first)?;
     numbering.number_equations(kernel, least);

@@ -1,14 +1,11 @@
-use Rattle.std.proofs.Common.{ap, length}
-use Rattle.std.proofs.Common.{subst, sym, ◌∙◌}
-use Rattle.sig_rel.specs.Numberings.{AreGiven}
-use Rattle.sig_rel.proofs.GivenLemmas.{none_given}
-use Rattle.sig_rel.proofs.UnknownLemmas.{are_unknowns}
+use Rattle.std.proofs.Common.{ap, length, arith}
+use Rattle.sig_rel.proofs.GivenLemmas.{conditions_within}
 use Rattle.sig_rel.proofs.numbering.unknowns_of.Goals as goal
 
-pub number_equations-requires-clause-given : goal.number_equations-requires-clause-given
-number_equations-requires-clause-given c =
-    let count = ap length c.as_slice.ensures in
-    none_given c.args.kernel.now c.args.least.now _ _ c.in_ok-numbering.numbering count c.in_ok-numbering.ensures.class c.in_ok-numbering.ensures.truth (c.in_ok-numbering.ensures.next ∙ c.requires.first)
-
-pub returns : goal.returns
-returns c = are_unknowns c.args.kernel.now c.args.least.now c.number_signals.new.self c.in_ok-present.present.items c.requires.least c.number_signals.ensures.given c.number_signals.ensures.each c.in_ok-present.ensures
+pub overflow_cast-len : goal.overflow_cast-len
+overflow_cast-len c =
+    let few = conditions_within c.args.kernel.now in
+    let limit = c.requires.parts.signals in
+    let are = ap length c.in_ok-conditions.ensures in
+    let len = c.len.ensures in
+    omega (arith, few, limit, are, len, c.in_ok-conditions.conditions.ok.0)
