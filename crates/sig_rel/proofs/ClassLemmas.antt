@@ -1,6 +1,5 @@
 -- The least signals of clock classes.
-use Rattle.std.proofs.Common.{◌≡◌, ◌<◌, ◌≤◌, ℕ, true, List, length, get_or, refl, sym, ap, ◌∙◌, subst, arith, eqb, count_by}
-use Rattle.std.specs.List.{range_with_len}
+use Rattle.std.proofs.Common.{◌≡◌, ◌<◌, ◌≤◌, ℕ, List, length, get_or, subst, arith}
 use Rattle.sig_kernel.specs.declared.kernel.Kernel.{Kernel}
 use Rattle.sig_clock.specs.SameClocks.{AreLeast, SameClock, itself, turned, joined}
 

@@ -1,12 +1,12 @@
 -- Only booleans are false in a reaction that truths of unknowns are.
-use Rattle.std.proofs.Common.{◌≡◌, ℕ, suc, Bool, true, false, List, [], ◌∷◌, length, Option, None, Some, refl, sym, ap, ◌∙◌, arith, if◌then◌else◌}
+use Rattle.std.proofs.Common.{◌≡◌, ℕ, suc, Bool, true, false, List, [], ◌∷◌, length, Option, None, Some, refl, ap, ◌∙◌, arith, if◌then◌else◌}
 use Rattle.std.specs.Prelude.{◌&&◌, slice_get}
 use Rattle.std.proofs.lemmas.Bool.{false≢true}
 use Rattle.sig_base.specs.declared.ids.Kind.{Kind}
 use Rattle.sig_base.specs.declared.ids.Kind.TheVariants.{Integer, Boolean, Event}
 use Rattle.sig_base.specs.declared.signal.Signal.{Signal}
 use Rattle.sig_kernel.specs.Table.{kind_of}
-use Rattle.sig_clock.specs.Reactions.{Status, are_statuses, is_boolean_kind, is_status_of}
+use Rattle.sig_clock.specs.Reactions.{are_statuses, is_boolean_kind, is_status_of}
 use Rattle.sig_dd.specs.Diagram.{truth_of}
 use Rattle.sig_rel.specs.Relations.{reaction_in, status_in}
 

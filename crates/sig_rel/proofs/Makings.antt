@@ -1,10 +1,10 @@
 -- Calls that made references, one after another.
-use Rattle.std.proofs.Common.{◌≡◌, ◌≤◌, ◌+◌, ◌*◌, ℕ, Bool, List, [], ◌∷◌, ◌++◌, ◌⊎◌, inl, inr, Option, None, Some, Result, Ok, Err, IfOk, refl, sym, ap, ◌∙◌, subst, arith, Contains, if◌then◌else◌}
+use Rattle.std.proofs.Common.{◌≡◌, ◌≤◌, ◌+◌, ℕ, Bool, List, [], ◌∷◌, inl, inr, None, Some, Result, Ok, Err, IfOk, refl, sym, subst, arith, Contains, if◌then◌else◌}
 use Rattle.std.specs.Result.{IsErrAnd}
 use Rattle.std.proofs.Math.Nat.{mul-le-mul_right}
 use Rattle.sig_dd.specs.Diagram.{Depends, truth_of}
-use Rattle.sig_dd.specs.Nodes.{StoreView, Holds, IsRefOf, IsStore, Keeps, Spans, allowance, test}
-use Rattle.sig_dd.specs.Shares.{HasAll, HoldAll, Share, Shares, SpanAll, Trail, refusal}
+use Rattle.sig_dd.specs.Nodes.{StoreView, IsRefOf, IsStore, Keeps, Spans, allowance, test}
+use Rattle.sig_dd.specs.Shares.{HasAll, HoldAll, Share, Shares, SpanAll, refusal}
 use Rattle.sig_dd.specs.declared.answer.DdAnswer.{DdAnswer}
 use Rattle.sig_dd.specs.declared.node.Node.{Node}
 use Rattle.sig_dd.specs.declared.node.Ref.{Ref}
@@ -21,7 +21,9 @@ module _ (fs : List Ref) (us : List ℕ) (g : List Bool → Bool) (IsWide : List
     (depends : (vs : List ℕ) → IsWide vs → (v : ℕ) → Depends g v → Contains vs v) where
   pub made_call : (result : Result Ref DdAnswer) → IfOk result (IsRefOf t.nodes g) → Shares 1 fs us s t (refusal result) → Makes 1 IsWide s t itself result
   made_call (Ok h) is call = record {
-    store = store; kept = kept; held = (is.holds, tt);
+    store = store;
+    kept = kept;
+    held = (is.holds, tt);
     leads = λ vs wide. Trail-next 0 1 vs s s t [] fs us (Trail-begins vs s [] tt tt) kept call (spans vs wide) (has vs wide) h is.holds (Spans-of t.nodes g h is vs (depends vs wide));
   }
   made_call (Err e) is call = record { store = store; kept = kept; held = tt; leads = λ vs wide. call.over vs (spans vs wide) (has vs wide) }
@@ -80,7 +82,9 @@ makes_spans m Wide r s refs x makes vs wide = let leads = makes.leads vs wide in
 pub makes_ok : {X Y : Type 0} (m : ℕ) (Wide : List ℕ → Type 0) (r s : StoreView) (refs : X → List Ref) (others : Y → List Ref) (x : X) (y : Y) → Makes m Wide r s refs (Ok x)
     → HoldAll s.nodes (others y) → ((vs : List ℕ) → Wide vs → SpanAll s.nodes (refs x) vs → SpanAll s.nodes (others y) vs) → Makes m Wide r s others (Ok y)
 makes_ok m Wide r s refs others x y makes held spans = record {
-  store = makes.store; kept = makes.kept; held = held;
+  store = makes.store;
+  kept = makes.kept;
+  held = held;
   leads = λ vs wide. let leads = makes.leads vs wide in record { kept = leads.kept; share = leads.share; held = held; spans = spans vs wide leads.spans };
 }
 
@@ -99,13 +103,17 @@ makes_err m n Wide First r s refs others e result makes le to_first is =
 pub makes_wider : {X : Type 0} (m n : ℕ) (Wide First : List ℕ → Type 0) (r s : StoreView) (refs : X → List Ref) (result : Result X DdAnswer)
     → Makes m First r s refs result → m ≤ n → ((vs : List ℕ) → Wide vs → First vs) → Makes n Wide r s refs result
 makes_wider m n Wide First r s refs (Ok x) makes le to_first = record {
-  store = makes.store; kept = makes.kept; held = makes.held;
+  store = makes.store;
+  kept = makes.kept;
+  held = makes.held;
   leads = λ vs wide.
       let leads = makes.leads vs (to_first vs wide) in
       record { kept = leads.kept; share = Share-wider r s m n vs vs None (mul-le-mul_right (allowance vs) le) leads.share; held = leads.held; spans = leads.spans };
 }
 makes_wider m n Wide First r s refs (Err e) makes le to_first = record {
-  store = makes.store; kept = makes.kept; held = tt;
+  store = makes.store;
+  kept = makes.kept;
+  held = tt;
   leads = λ vs wide. Share-wider r s m n vs vs (Some e) (mul-le-mul_right (allowance vs) le) (makes.leads vs (to_first vs wide));
 }
 

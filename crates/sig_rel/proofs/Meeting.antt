@@ -1,8 +1,8 @@
 -- Where a reaction meets an equation whose signals share the unknown of their presence.
-use Rattle.std.proofs.Common.{◌≡◌, ◌<◌, ℕ, ℤ, subst, Bool, true, false, List, [], ◌∷◌, length, get_or, map, Option, None, Some, refl, sym, ap, ◌∙◌, arith, if◌then◌else◌, Contains}
-use Rattle.std.specs.Prelude.{◌&&◌, is_some, slice_get}
+use Rattle.std.proofs.Common.{◌≡◌, ◌<◌, ℕ, ℤ, subst, Bool, true, false, List, [], ◌∷◌, length, get_or, map, None, Some, refl, sym, ap, ◌∙◌, arith, if◌then◌else◌, Contains}
+use Rattle.std.specs.Prelude.{◌&&◌, is_some}
 use Rattle.std.specs.List.{list_all}
-use Rattle.std.proofs.lemmas.Bool.{and_parts, false≢true, ltb-true}
+use Rattle.std.proofs.lemmas.Bool.{and_parts, ltb-true}
 use Rattle.std.proofs.lemmas.Option.{slice_get-get_or}
 use Rattle.sig_base.specs.declared.signal.Signal.{Signal}
 use Rattle.sig_base.specs.declared.ids.SigId.{SigId}
@@ -12,7 +12,7 @@ use Rattle.sig_kernel.specs.declared.equation.Form.TheVariants.{Fun, Delay, Sync
 use Rattle.sig_kernel.specs.declared.equation.FunOp.{FunOp}
 use Rattle.sig_kernel.specs.declared.equation.Operand.{Operand}
 use Rattle.sig_kernel.specs.declared.equation.Operand.TheVariants.{Sig, Const}
-use Rattle.sig_clock.specs.Reactions.{Reaction, Status, compares, function_truth, has_truth, is_present, is_with, meets, operand_truth, same_truth, status_at, truth_function, truth_of_status}
+use Rattle.sig_clock.specs.Reactions.{Status, compares, function_truth, has_truth, is_present, is_with, meets, operand_truth, same_truth, status_at, truth_function, truth_of_status}
 use Rattle.sig_clock.specs.SameClocks.{related, signals_among}
 use Rattle.sig_clock.proofs.Lists.{contains_head, contains_later}
 use Rattle.sig_dd.specs.Diagram.{truth_of}
@@ -104,11 +104,11 @@ module _ (u : Unknowns) (serves : Serves u (length u.present.items)) (truths : L
       → has_truth (status_at (reaction_by u truths) y.0) (truth_given signals op operands (operand_by u truths)) ≡ meets signals (reaction_by u truths) form
   fun_form_met signals form y op operands is within share =
       let Met : Form → Type 0 = λ form. form_within (length u.present.items) form ≡ true → SharePresence u.present.items (related form)
-        → has_truth (status_at (reaction_by u truths) y.0) (truth_given signals op operands (operand_by u truths)) ≡ meets signals (reaction_by u truths) form in
+      → has_truth (status_at (reaction_by u truths) y.0) (truth_given signals op operands (operand_by u truths)) ≡ meets signals (reaction_by u truths) form in
       let met : Met (Fun y op operands) = λ within share.
-        let parts = and_parts (is_below (length u.present.items) y) (list_all (operand_within (length u.present.items)) operands) within in
-        function_met y.0 (ltb-true y.0 (length u.present.items) parts.0) signals op operands parts.1
-        (λ x there. share y.0 x (contains_head y.0 (signals_among operands)) (contains_later y.0 x (signals_among operands) there)) in
+      let parts = and_parts (is_below (length u.present.items) y) (list_all (operand_within (length u.present.items)) operands) within in
+      function_met y.0 (ltb-true y.0 (length u.present.items) parts.0) signals op operands parts.1
+      (λ x there. share y.0 x (contains_head y.0 (signals_among operands)) (contains_later y.0 x (signals_among operands) there)) in
       subst Met (sym is) met within share
 
   pub delay_form_met : (signals : List Signal) (form : Form) (y x : SigId) (initial : ℤ) → form ≡ Delay y x initial → form_within (length u.present.items) form ≡ true → SharePresence u.present.items (related form)
@@ -116,9 +116,9 @@ module _ (u : Unknowns) (serves : Serves u (length u.present.items)) (truths : L
   delay_form_met signals form y x initial is within share =
       let Met : Form → Type 0 = λ form. form_within (length u.present.items) form ≡ true → SharePresence u.present.items (related form) → true ≡ meets signals (reaction_by u truths) form in
       let met : Met (Delay y x initial) = λ within share.
-        let parts = and_parts (is_below (length u.present.items) y) (is_below (length u.present.items) x && true) within in
-        let later = and_parts (is_below (length u.present.items) x) true parts.1 in
-        two_met y.0 x.0 (ltb-true y.0 (length u.present.items) parts.0) (ltb-true x.0 (length u.present.items) later.0) share in
+      let parts = and_parts (is_below (length u.present.items) y) (is_below (length u.present.items) x && true) within in
+      let later = and_parts (is_below (length u.present.items) x) true parts.1 in
+      two_met y.0 x.0 (ltb-true y.0 (length u.present.items) parts.0) (ltb-true x.0 (length u.present.items) later.0) share in
       subst Met (sym is) met within share
 
   pub sync_form_met : (signals : List Signal) (form : Form) (y x : SigId) → form ≡ Sync y x → form_within (length u.present.items) form ≡ true → SharePresence u.present.items (related form)
@@ -126,7 +126,7 @@ module _ (u : Unknowns) (serves : Serves u (length u.present.items)) (truths : L
   sync_form_met signals form y x is within share =
       let Met : Form → Type 0 = λ form. form_within (length u.present.items) form ≡ true → SharePresence u.present.items (related form) → true ≡ meets signals (reaction_by u truths) form in
       let met : Met (Sync y x) = λ within share.
-        let parts = and_parts (is_below (length u.present.items) y) (is_below (length u.present.items) x && true) within in
-        let later = and_parts (is_below (length u.present.items) x) true parts.1 in
-        two_met y.0 x.0 (ltb-true y.0 (length u.present.items) parts.0) (ltb-true x.0 (length u.present.items) later.0) share in
+      let parts = and_parts (is_below (length u.present.items) y) (is_below (length u.present.items) x && true) within in
+      let later = and_parts (is_below (length u.present.items) x) true parts.1 in
+      two_met y.0 x.0 (ltb-true y.0 (length u.present.items) parts.0) (ltb-true x.0 (length u.present.items) later.0) share in
       subst Met (sym is) met within share

@@ -1,8 +1,7 @@
 -- Lists of numbers of which some are given: what stands at a place, and how many are given.
-use Rattle.std.proofs.Common.{◌≡◌, ◌≢◌, ◌<◌, ◌≤◌, ◌+◌, ◌⊎◌, inl, inr, ℕ, suc, zero, Bool, true, false, List, [], ◌∷◌, length, get_or, set, cond, Option, None, Some, refl, sym, ap, ◌∙◌, subst, arith}
+use Rattle.std.proofs.Common.{◌≡◌, ◌<◌, ◌≤◌, ◌+◌, ◌⊎◌, inl, inr, ℕ, suc, zero, Bool, true, List, [], ◌∷◌, length, get_or, set, cond, Option, None, Some, refl, ap, subst, arith}
 use Rattle.std.specs.Prelude.{is_some, slice_get, count_by}
-use Rattle.std.specs.List.{range_with_len, sum_by}
-use Rattle.std.proofs.lemmas.List.{length-set}
+use Rattle.std.specs.List.{range_with_len}
 use Rattle.std.proofs.lemmas.List.Sums.{sum_by-cons, sum_by-set}
 
 -- what stands in a list after a number is set
@@ -58,5 +57,5 @@ count_given test (x ∷ numbers) a (suc n) count only =
     let left = sum_by-cons one_if x numbers in
     let right = sum_by-cons (λ m. one_where (test m)) a (range_with_len (a + 1) n) in
     let here = given_here x (test a) (count_by is_some numbers) (count_by test (range_with_len (a + 1) n))
-        (λ v is. let e : a + 0 ≡ a = omega arith in subst (λ m. test m ≡ true) e (only 0 v (ap Some is))) rest in
+    (λ v is. let e : a + 0 ≡ a = omega arith in subst (λ m. test m ≡ true) e (only 0 v (ap Some is))) rest in
     omega (arith, left, right, here)

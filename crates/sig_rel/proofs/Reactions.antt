@@ -1,5 +1,5 @@
 -- The reaction that truths of unknowns are, signal by signal.
-use Rattle.std.proofs.Common.{◌≡◌, ◌<◌, ℕ, zero, suc, Bool, List, [], ◌∷◌, length, get_or, Option, None, Some, inl, inr, refl, sym, ap, ◌∙◌, arith, Contains}
+use Rattle.std.proofs.Common.{◌≡◌, ℕ, zero, suc, Bool, List, [], ◌∷◌, Option, None, Some, inl, inr}
 use Rattle.std.specs.Prelude.{slice_get}
 use Rattle.sig_clock.specs.Reactions.{status_at}
 use Rattle.sig_dd.specs.Shares.{HasAll}

@@ -1,10 +1,10 @@
 -- The calls of a relation keep to its share.
-use Rattle.std.proofs.Common.{◌≡◌, ◌<◌, ◌≤◌, ◌+◌, ◌-◌, ◌*◌, ◌^◌, ℕ, List, Option, None, Some, Result, Ok, Err, IfErr, length, refl, sym, ap, ◌∙◌, subst, arith}
+use Rattle.std.proofs.Common.{◌≡◌, ◌≤◌, ◌+◌, ◌-◌, ◌*◌, ◌^◌, ℕ, None, Some, Result, Ok, Err, length, sym, subst, arith}
 use Rattle.std.specs.Result.{IsErrAnd}
 use Rattle.std.specs.List.{range_with_len}
 use Rattle.std.proofs.Math.Nat.{mul-le-mul_left, mul-le-mul_right}
 use Rattle.std.proofs.lemmas.List.FromFn.{length-range_with_len}
-use Rattle.sig_dd.specs.Nodes.{StoreView, IsFull, allowance}
+use Rattle.sig_dd.specs.Nodes.{StoreView, allowance}
 use Rattle.sig_dd.specs.Shares.{IsRefused, Share}
 use Rattle.sig_dd.specs.declared.answer.DdAnswer.{DdAnswer}
 use Rattle.sig_dd.specs.declared.answer.DdAnswer.TheVariants.{Budget as StoreBudget, OutOfMemory as NoMemory}
@@ -13,7 +13,6 @@ use Rattle.sig_rel.specs.Answers.{IsFromStore}
 use Rattle.sig_rel.specs.Relations.{IsUnknownCount}
 use Rattle.sig_rel.specs.Shares.{IsRefusedFor, KeepsToShare, share_of}
 use Rattle.sig_rel.specs.declared.answer.RelAnswer.{RelAnswer}
-use Rattle.sig_rel.specs.declared.answer.RelAnswer.TheVariants.{Budget, OutOfMemory}
 use Rattle.sig_rel.proofs.UsedLemmas.{one_count}
 
 fourteen : (q p c : ℕ) → 14 * q * (p - 1) ≤ p * 30 * (q + c)

@@ -1,5 +1,5 @@
 -- The signals that an equation relates share the unknown of their presence.
-use Rattle.std.proofs.Common.{◌≡◌, ◌<◌, ℕ, true, List, [], ◌∷◌, length, get_or, inl, inr, refl, sym, ap, ◌∙◌, subst, arith, Contains}
+use Rattle.std.proofs.Common.{◌≡◌, ◌<◌, ℕ, true, List, [], ◌∷◌, length, get_or, inl, inr, sym, subst, Contains}
 use Rattle.std.specs.Prelude.{◌&&◌, Option}
 use Rattle.std.specs.List.{list_all}
 use Rattle.std.proofs.lemmas.Bool.{and_parts, ltb-true}
@@ -61,7 +61,8 @@ module _ (kernel : Kernel) (valid : IsValid kernel) (count : ℕ) (present : Lis
   equation_shares x y left right =
       let within = subst (λ n. form_within n equation.form ≡ true) are.presences equation_within in
       let same : SameClock kernel x y = given x y (record {
-        number = k; within = lt;
+        number = k;
+        within = lt;
         left = λ d. subst (λ e. Contains (related e.form) x) (sym (is d)) left;
         right = λ d. subst (λ e. Contains (related e.form) y) (sym (is d)) right;
       }) in

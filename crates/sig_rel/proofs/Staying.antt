@@ -1,7 +1,7 @@
 -- Functions of truths, and what stays of them as a store grows.
-use Rattle.std.proofs.Common.{◌≡◌, ℕ, Bool, true, false, not, ◌&&◌, ◌||◌, List, [], ◌∷◌, Option, None, Some, refl, sym, ap, ◌∙◌, if◌then◌else◌}
+use Rattle.std.proofs.Common.{◌≡◌, ℕ, Bool, true, false, not, ◌&&◌, ◌||◌, List, [], ◌∷◌, None, Some, refl, if◌then◌else◌}
 use Rattle.sig_clock.specs.Reactions.{Status, has_truth, or_else, same_status, same_truth, where_present, where_true}
-use Rattle.sig_dd.specs.Nodes.{StoreView, Holds, Keeps, Spans, test}
+use Rattle.sig_dd.specs.Nodes.{StoreView, Holds, Keeps, test}
 use Rattle.sig_dd.specs.Shares.{HoldAll, SpanAll}
 use Rattle.sig_dd.specs.declared.node.Ref.{Ref}
 use Rattle.sig_dd.proofs.CallerLemmas.{Agree-kept, Holds-kept, Spans-kept}

@@ -1,6 +1,6 @@
 -- Numbers of all classes and booleans are unknowns.
-use Rattle.std.proofs.Common.{◌≡◌, ◌≢◌, ◌<◌, ◌≤◌, ◌+◌, ◌⊎◌, inl, inr, ℕ, suc, zero, Bool, true, false, List, [], ◌∷◌, length, get_or, map, Option, None, Some, refl, sym, ap, ◌∙◌, subst, arith, eqb, eq-eqb}
-use Rattle.std.specs.Prelude.{is_some, option_map, slice_get, slice_index, count_by, ◌==◌}
+use Rattle.std.proofs.Common.{◌≡◌, ◌<◌, ◌≤◌, ◌+◌, inl, inr, ℕ, true, List, length, get_or, map, Option, Some, refl, sym, ap, ◌∙◌, subst, arith, eq-eqb}
+use Rattle.std.specs.Prelude.{option_map, slice_get, slice_index, count_by, ◌==◌}
 use Rattle.std.specs.List.{range_with_len}
 use Rattle.std.proofs.lemmas.Bool.{false≢true, cases_lt}
 use Rattle.std.proofs.lemmas.List.{length-map}
@@ -56,35 +56,39 @@ module _ (kernel : Kernel) (least : List ℕ) (numbering : Numbering) (present :
   next_within : numbering.next ≤ length (conditions_of kernel) + counted kernel least
   next_within =
       let a = count_given (λ s. get_or least s 0 == s) numbering.class.items 0 (length kernel.signals) given.class_count
-          (λ k v at. let e : 0 + k ≡ k = omega arith in subst (λ m. (get_or least m 0 == m) ≡ true) (sym e) (eq-eqb (get_or least k 0) k (given.classes.wanted k v at))) in
+      (λ k v at. let e : 0 + k ≡ k = omega arith in subst (λ m. (get_or least m 0 == m) ≡ true) (sym e) (eq-eqb (get_or least k 0) k (given.classes.wanted k v at))) in
       let b = count_given (is_boolean kernel) numbering.truth.items 0 (length kernel.signals) given.truth_count
-          (λ k v at. let e : 0 + k ≡ k = omega arith in subst (λ m. is_boolean kernel m ≡ true) (sym e) (given.truths.wanted k v at)) in
+      (λ k v at. let e : 0 + k ≡ k = omega arith in subst (λ m. is_boolean kernel m ≡ true) (sym e) (given.truths.wanted k v at)) in
       let e = given.counted in
       omega (arith, a, b, e)
 
   pub are_unknowns : (count : ℕ) × AreUnknowns kernel count present numbering.truth.items
-  are_unknowns = (counted kernel least, record {
-    presences = all_present;
-    truths = given.truth_count;
-    counted = (least, are, refl);
-    classes = λ s t ls lt.
-        let a = presence_at s ls in
-        let b = presence_at t lt in
-        let ea = get_or_from_slice_get present s a.0 0 a.1 in
-        let eb = get_or_from_slice_get present t b.0 0 b.1 in
-        (λ same. class_of_least kernel least are s t ls lt
-            (given.classes.once (get_or least s 0) (get_or least t 0) a.0 a.2 (let e : b.0 ≡ a.0 = sym eb ∙ sym same ∙ ea in subst (λ w. slice_get numbering.class.items (get_or least t 0) ≡ Some (Some w)) e b.2)),
-        λ same.
-            let one = least_of_class kernel least are s t ls lt same in
-            let both : Some (let x : Option ℕ = Some a.0 in x) ≡ Some (Some b.0) = sym a.2 ∙ ap (λ k. slice_get numbering.class.items k) one ∙ b.2 in
-            let e : a.0 ≡ b.0 = cc in
-            ea ∙ e ∙ sym eb);
-    some = λ s boolean. (each s (boolean_within kernel s boolean)).truth boolean;
-    booleans = λ s v at. given.truths.wanted s v at;
-    apart = λ s t v at at'. given.truths.once s t v at at';
-    differ = λ s t v at at'. given.differ (get_or least s 0) t v (presence_of s v at).1 at';
-    within = λ v used. within_of v used;
-  }) where
+  are_unknowns = (
+    counted kernel least,
+    record {
+      presences = all_present;
+      truths = given.truth_count;
+      counted = (least, are, refl);
+      classes = λ s t ls lt.
+          let a = presence_at s ls in
+          let b = presence_at t lt in
+          let ea = get_or_from_slice_get present s a.0 0 a.1 in
+          let eb = get_or_from_slice_get present t b.0 0 b.1 in (
+            λ same. class_of_least kernel least are s t ls lt
+                (given.classes.once (get_or least s 0) (get_or least t 0) a.0 a.2 (let e : b.0 ≡ a.0 = sym eb ∙ sym same ∙ ea in subst (λ w. slice_get numbering.class.items (get_or least t 0) ≡ Some (Some w)) e b.2)),
+            λ same.
+                let one = least_of_class kernel least are s t ls lt same in
+                let both : Some (let x : Option ℕ = Some a.0 in x) ≡ Some (Some b.0) = sym a.2 ∙ ap (λ k. slice_get numbering.class.items k) one ∙ b.2 in
+                let e : a.0 ≡ b.0 = cc in
+                ea ∙ e ∙ sym eb,
+          );
+      some = λ s boolean. (each s (boolean_within kernel s boolean)).truth boolean;
+      booleans = λ s v at. given.truths.wanted s v at;
+      apart = λ s t v at at'. given.truths.once s t v at at';
+      differ = λ s t v at at'. given.differ (get_or least s 0) t v (presence_of s v at).1 at';
+      within = λ v used. within_of v used;
+    },
+  ) where
     within_of : (v : ℕ) → IsUsed present numbering.truth.items v → (length (conditions_of kernel) ≤ v) × (v < length (conditions_of kernel) + counted kernel least)
     within_of v (inl (s, at)) =
         let there = (presence_of s v at).1 in

@@ -1,5 +1,5 @@
 -- What the making of a relation may do to a store.
-use Rattle.std.specs.Prelude.{◌≡◌, ◌+◌, ◌*◌, ◌^◌, ◌<◌, ◌≤◌, ℕ, List, length, Result, Ok, Err, IfOk, IfErr}
+use Rattle.std.specs.Prelude.{◌+◌, ◌*◌, ◌^◌, ◌<◌, ◌≤◌, ℕ, List, length, Result, Ok, Err, IfOk, IfErr}
 use Rattle.sig_dd.specs.Nodes.{StoreView, IsFull, IsStore, Keeps}
 use Rattle.sig_dd.specs.Shares.{HoldAll, Share, Trail}
 use Rattle.sig_dd.specs.declared.answer.DdAnswer.{DdAnswer}

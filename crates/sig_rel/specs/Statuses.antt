@@ -1,13 +1,11 @@
 -- Statuses of signals as functions of the unknowns.
-use Rattle.std.specs.Prelude.{◌≡◌, ◌<◌, ℕ, Bool, List, [], ◌∷◌, length, Option, None, Some, slice_index_or, slice_get, if◌then◌else◌, Contains}
-use Rattle.std.specs.Ordering.{int_eq}
-use Rattle.std.specs.Prelude.{pos, not, ◌&&◌, ◌||◌}
-use Rattle.sig_clock.specs.Reactions.{Reaction, Status, same_truth}
+use Rattle.std.specs.Prelude.{◌≡◌, ℕ, Bool, List, [], ◌∷◌, length, Option, None, Some, if◌then◌else◌, Contains}
+use Rattle.sig_clock.specs.Reactions.{Reaction, Status}
 use Rattle.sig_dd.specs.Nodes.{test}
 use Rattle.sig_dd.specs.declared.node.Node.{Node}
 use Rattle.sig_dd.specs.declared.node.Ref.{Ref}
 use Rattle.sig_kernel.specs.declared.kernel.Kernel.{Kernel}
-use Rattle.sig_rel.specs.Relations.{AreUnknowns, IsUsed, reaction_in, truth_in}
+use Rattle.sig_rel.specs.Relations.{AreUnknowns, IsUsed, reaction_in}
 use Rattle.sig_rel.specs.declared.numbering.Unknowns.{Unknowns}
 use Rattle.sig_rel.specs.declared.statuses.Known.{Known}
 

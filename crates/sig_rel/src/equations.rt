@@ -91,12 +91,7 @@ fn gives_truth(
 }
 
 /// Where a signal is absent, or has this truth.
-fn may_have(
-    store: &mut Store,
-    unknowns: &Unknowns,
-    y: SigId,
-    truth: Ref,
-) -> Result<Ref, DdAnswer>
+fn may_have(store: &mut Store, unknowns: &Unknowns, y: SigId, truth: Ref) -> Result<Ref, DdAnswer>
     requires serves { Serves unknowns.now (length unknowns.now.present.items) }
     requires y { y.0 < length unknowns.now.present.items }
     requires truth { Holds store.old.nodes truth }
@@ -171,12 +166,7 @@ fn meets_default(
 }
 
 /// Where a signal is true exactly where another one is present.
-fn meets_event(
-    store: &mut Store,
-    unknowns: &Unknowns,
-    y: SigId,
-    x: SigId,
-) -> Result<Ref, DdAnswer>
+fn meets_event(store: &mut Store, unknowns: &Unknowns, y: SigId, x: SigId) -> Result<Ref, DdAnswer>
     requires serves { Serves unknowns.now (length unknowns.now.present.items) }
     requires y { y.0 < length unknowns.now.present.items }
     requires x { x.0 < length unknowns.now.present.items }
@@ -208,12 +198,7 @@ fn is_status(
 }
 
 /// A signal, where another one is present and true.
-fn where_true(
-    store: &mut Store,
-    unknowns: &Unknowns,
-    x: SigId,
-    b: SigId,
-) -> Result<Known, DdAnswer>
+fn where_true(store: &mut Store, unknowns: &Unknowns, x: SigId, b: SigId) -> Result<Known, DdAnswer>
     requires serves { Serves unknowns.now (length unknowns.now.present.items) }
     requires x { x.0 < length unknowns.now.present.items }
     requires b { b.0 < length unknowns.now.present.items }
@@ -244,12 +229,7 @@ fn constant_where_true(
 }
 
 /// A signal, and where it is absent, another one.
-fn or_else(
-    store: &mut Store,
-    unknowns: &Unknowns,
-    u: SigId,
-    v: SigId,
-) -> Result<Known, DdAnswer>
+fn or_else(store: &mut Store, unknowns: &Unknowns, u: SigId, v: SigId) -> Result<Known, DdAnswer>
     requires serves { Serves unknowns.now (length unknowns.now.present.items) }
     requires u { u.0 < length unknowns.now.present.items }
     requires v { v.0 < length unknowns.now.present.items }
@@ -262,11 +242,7 @@ fn or_else(
 }
 
 /// True where a signal is present.
-fn where_present(
-    store: &mut Store,
-    unknowns: &Unknowns,
-    x: SigId,
-) -> Result<Known, DdAnswer>
+fn where_present(store: &mut Store, unknowns: &Unknowns, x: SigId) -> Result<Known, DdAnswer>
     requires serves { Serves unknowns.now (length unknowns.now.present.items) }
     requires x { x.0 < length unknowns.now.present.items }
     ensures made { Makes 6 (HasUnknowns unknowns.now) store.old store.new refs_of result }

@@ -116,7 +116,10 @@ impl Numbering {
                 self.number(kernel, least, y.0 as usize);
                 self.number_operands(kernel, least, operands.as_slice());
             }
-            Form::Delay(y, x, _) | Form::WhenConst(y, _, x) | Form::Sync(y, x) | Form::Event(y, x) => {
+            Form::Delay(y, x, _)
+            | Form::WhenConst(y, _, x)
+            | Form::Sync(y, x)
+            | Form::Event(y, x) => {
                 self.number(kernel, least, y.0 as usize);
                 self.number(kernel, least, x.0 as usize);
             }
@@ -203,7 +206,10 @@ impl Numbering {
     fn presences(&self, alloc: Global, least: &[u32]) -> Result<Vec<u32>, AllocError>
         ensures { IfOk result (λ present. present.items ≡ map (λ class. number_of (slice_get self.now.class.items class)) least.now) }
     {
-        least.iter().map(|class| self.class_number(*class as usize)).collect(alloc)
+        least
+            .iter()
+            .map(|class| self.class_number(*class as usize))
+            .collect(alloc)
     }
 
     /// The number of a class.

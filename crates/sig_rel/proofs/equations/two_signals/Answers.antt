@@ -19,8 +19,8 @@ returns-clause-made c =
     makes_ok 4 (HasUnknowns u) r t refs_of four_of b (a, b) both
     (Holds-kept s t later a.present first.held.0, (Holds-kept s t later a.truth first.held.1.0, c.in_ok-second.ensures.made.held))
     (λ vs has spans.
-        let of_a = makes_spans 2 (HasUnknowns u) r s refs_of a first vs has in
-        (Spans-kept s t later a.present first.held.0 vs of_a.0, (Spans-kept s t later a.truth first.held.1.0 vs of_a.1.0, spans)))
+    let of_a = makes_spans 2 (HasUnknowns u) r s refs_of a first vs has in
+    (Spans-kept s t later a.present first.held.0 vs of_a.0, (Spans-kept s t later a.truth first.held.1.0 vs of_a.1.0, spans)))
 
 pub returns-clause-first : goal.returns-clause-first
 returns-clause-first c truths =

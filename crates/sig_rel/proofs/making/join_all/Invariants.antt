@@ -10,5 +10,5 @@ use Rattle.sig_rel.proofs.making.join_all.Given as goal
 abbrev pub invariant-loop-equation : goal.invariant-loop-equation
 invariant-loop-equation l = record {
   made : Makes (14 * l.equation-index) (HasUnknowns l.unknowns) l.initial.store l.store itself (Ok l.whole);
-  value : Agree (test l.store.nodes l.whole) (λ truths. list_all (λ equation. meets l.kernel.signals (reaction_by l.unknowns truths) equation.form) (take l.equation-index l.kernel.equations))
+  value : Agree (test l.store.nodes l.whole) (λ truths. list_all (λ equation. meets l.kernel.signals (reaction_by l.unknowns truths) equation.form) (take l.equation-index l.kernel.equations));
 }

@@ -1,6 +1,5 @@
 use Rattle.std.proofs.Common.{ap, length}
-use Rattle.std.proofs.Common.{subst, sym, ◌∙◌}
-use Rattle.sig_rel.specs.Numberings.{AreGiven}
+use Rattle.std.proofs.Common.{◌∙◌}
 use Rattle.sig_rel.proofs.GivenLemmas.{none_given}
 use Rattle.sig_rel.proofs.UnknownLemmas.{are_unknowns}
 use Rattle.sig_rel.proofs.numbering.numbered.Goals as goal

@@ -1,6 +1,6 @@
-use Rattle.std.proofs.Common.{[], ◌∷◌, not, Ok, IfOk, ◌∙◌, if◌then◌else◌}
+use Rattle.std.proofs.Common.{[], ◌∷◌, not, Ok, ◌∙◌, if◌then◌else◌}
 use Rattle.std.proofs.lemmas.Result.{IfOk-weaker}
-use Rattle.sig_dd.specs.Nodes.{IsRefOf, test}
+use Rattle.sig_dd.specs.Nodes.{test}
 use Rattle.sig_dd.specs.Shares.{SpanAll}
 use Rattle.sig_rel.specs.Statuses.{itself}
 use Rattle.sig_dd.proofs.CallerLemmas.{Spans-kept}

@@ -1,4 +1,4 @@
-use Rattle.std.proofs.Common.{List, ℕ, Option, Some, Ok, subst, sym}
+use Rattle.std.proofs.Common.{ℕ, Option, subst, sym}
 use Rattle.sig_dd.specs.Shares.{HasAll}
 use Rattle.sig_rel.specs.Shares.{Makes}
 use Rattle.sig_rel.specs.Statuses.{itself, variables_of}

@@ -1,4 +1,4 @@
-use Rattle.std.proofs.Common.{◌≡◌, [], ◌∷◌, ◌&&◌, Ok, ◌∙◌, if◌then◌else◌}
+use Rattle.std.proofs.Common.{[], ◌∷◌, ◌&&◌, ◌∙◌}
 use Rattle.std.proofs.lemmas.Result.{IfOk-weaker}
 use Rattle.sig_clock.specs.Reactions.{same_truth}
 use Rattle.sig_dd.specs.Nodes.{test}

@@ -1,4 +1,4 @@
-use Rattle.std.proofs.Common.{[], ◌∷◌, List, ℕ, Ok, Err, ◌≡◌, ◌<◌, Some, sym, ◌∙◌, arith, length}
+use Rattle.std.proofs.Common.{[], ◌∷◌, Ok, Err, ◌≡◌, Some, sym, ◌∙◌, arith}
 use Rattle.std.specs.Prelude.{slice_get}
 use Rattle.std.proofs.lemmas.Option.{slice_get_read}
 use Rattle.sig_dd.specs.Shares.{HasAll}
@@ -35,7 +35,7 @@ returns-in_err-truth-clause-made c =
     let at' : slice_get u.truth.items c.args.signal.0 ≡ Some o = slice_get_read u.truth.items _ c.args.signal.0 o (sym c.requires.serves.truths) c.requires.signal c.index-2.ensures in
     let first = made_variable r s c.in_ok-present.ensures.store c.in_ok-present.ensures.kept (Ok p) v c.in_ok-present.ensures.value c.in_ok-present.ensures.spends in
     let both = makes_then 1 1 (HasUnknowns u) (λ vs. HasAll vs (v ∷ [])) (λ vs. HasAll vs (variables_of o)) r s t itself itself p (Err e) first c.in_err-truth.ensures.made
-        (λ vs has. has_presence u vs has c.args.signal.0 v at) (λ vs has spans. has_truth_of u vs has c.args.signal.0 o at') in
+    (λ vs has. has_presence u vs has c.args.signal.0 v at) (λ vs has spans. has_truth_of u vs has c.args.signal.0 o at') in
     makes_err 2 2 (HasUnknowns u) (HasUnknowns u) r t itself refs_of e c.from_residual-in_err-truth.result both (omega arith) (λ vs has. has) c.from_residual-in_err-truth.ensures.1
 
 pub returns-clause-made : goal.returns-clause-made
@@ -53,12 +53,12 @@ returns-clause-made c =
     let at' : slice_get u.truth.items c.args.signal.0 ≡ Some o = slice_get_read u.truth.items _ c.args.signal.0 o (sym c.requires.serves.truths) c.requires.signal c.index-2.ensures in
     let first = made_variable r s c.in_ok-present.ensures.store c.in_ok-present.ensures.kept (Ok p) v c.in_ok-present.ensures.value c.in_ok-present.ensures.spends in
     let both = makes_then 1 1 (HasUnknowns u) (λ vs. HasAll vs (v ∷ [])) (λ vs. HasAll vs (variables_of o)) r s t itself itself p (Ok q) first c.in_ok-truth.ensures.made
-        (λ vs has. has_presence u vs has c.args.signal.0 v at) (λ vs has spans. has_truth_of u vs has c.args.signal.0 o at') in
+    (λ vs has. has_presence u vs has c.args.signal.0 v at) (λ vs has spans. has_truth_of u vs has c.args.signal.0 o at') in
     makes_ok 2 (HasUnknowns u) r t itself refs_of q (record { present = p; truth = q }) both
     (Holds-kept s t later p c.in_ok-present.ensures.value.holds, (c.in_ok-truth.ensures.made.held.0, tt))
     (λ vs has spans.
-        let of_p = makes_spans 1 (λ vs. HasAll vs (v ∷ [])) r s itself p first vs (has_presence u vs has c.args.signal.0 v at) in
-        (Spans-kept s t later p c.in_ok-present.ensures.value.holds vs of_p.0, spans))
+    let of_p = makes_spans 1 (λ vs. HasAll vs (v ∷ [])) r s itself p first vs (has_presence u vs has c.args.signal.0 v at) in
+    (Spans-kept s t later p c.in_ok-present.ensures.value.holds vs of_p.0, spans))
 
 pub returns-clause-status : goal.returns-clause-status
 returns-clause-status c truths =
