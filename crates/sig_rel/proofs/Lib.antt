@@ -5,6 +5,8 @@ pub mod GivenLemmas
 pub mod UnknownLemmas
 pub mod SignalNumbers
 pub mod Makings
+pub mod ChosenTruths
+pub mod SeenReactions
 pub mod SharedClocks
 pub mod UsedLemmas
 pub mod ShareLemmas
