@@ -38,7 +38,8 @@ fn names_the_first_refusal(rt: HostRuntime) -> Result<(), Fail> {
     Ok(())
 }
 
-const WATCH: &str = r#"process WATCH = (? event TICK; boolean REQ; integer V ! integer HELD; boolean ALARM)
+const WATCH: &str =
+    r#"process WATCH = (? event TICK; boolean REQ; integer V ! integer HELD; boolean ALARM)
 pragmas RunOn {AGE, ALARM} "1" end pragmas
 (| REQ ^= TICK
  | V ^= when REQ
@@ -72,8 +73,14 @@ fn watch_has_its_kernel(rt: HostRuntime) -> Result<(), Fail> {
     assert!(rt; found.is_some());
     if let Some(kernel) = found {
         let signals = kernel.signals.as_slice();
-        assert_eq!(rt; (kernel.inputs, kernel.outputs, kernel.declared), (3, 2, 11));
-        assert_eq!(rt; (signals.len(), kernel.equations.as_slice().len()), (22, 23));
+        assert_eq!(rt;
+            (kernel.inputs, kernel.outputs, kernel.declared),
+            (3, 2, 11)
+        );
+        assert_eq!(rt;
+            (signals.len(), kernel.equations.as_slice().len()),
+            (22, 23)
+        );
         let names: [&[u8]; 3] = [b"COUNT#1.R", b"COUNT#1.N", b"COUNT#1.ZN"];
         for (signal, name) in signals.iter().skip(8).zip(names) {
             assert_eq!(rt; signal.name.as_bytes(), name);
