@@ -5,6 +5,7 @@ use Rattle.sig_clock.specs.Clocks.{AreClocks, ClocksView}
 use Rattle.sig_dd.specs.Nodes.{Holds, Implies}
 use Rattle.sig_dd.specs.declared.node.Node.{Node}
 use Rattle.sig_dd.specs.declared.node.Ref.{Ref}
+use Rattle.sig_kernel.specs.Validity.{IsValid}
 use Rattle.sig_kernel.specs.declared.kernel.Kernel.{Kernel}
 
 -- guards are references of a store
@@ -47,6 +48,6 @@ pub record IsTree (nodes : List Node) (clocks : ClocksView) (tree : List (Option
   pub root : slice_get tree 0 ≡ Some None
   pub parents : (class : ℕ) → 0 < class → class < length clocks.guard → HasParent nodes clocks.guard tree class
 
--- these are the clocks of some kernel, which has clocks, with their guards among the nodes of a store
+-- these are the clocks of some valid kernel, which has clocks, with their guards among the nodes of a store
 abbrev pub HaveKernel : List Node → ClocksView → Type 0
-HaveKernel nodes clocks = (kernel : Kernel) × HasClocks kernel × AreClocks kernel nodes clocks
+HaveKernel nodes clocks = (kernel : Kernel) × IsValid kernel × HasClocks kernel × AreClocks kernel nodes clocks

@@ -14,14 +14,16 @@ pub fn tree(alloc: Global, clocks: &Clocks, store: &Store) -> Result<Tree, TreeA
     requires { HaveKernel store.now.nodes clocks.now }
     ensures { IfOk result (IsTree store.now.nodes clocks.now) }
 {
-    // Each class is that of some signal, so that its number is one of 32 bits.
-    let _classes = clocks.class_of.as_slice();
     let parent = parents(alloc, clocks.guard.as_slice(), store)?;
     Ok(Tree { parent })
 }
 
 /// The parent of each class, where it has one.
-pub(crate) fn parents(alloc: Global, guards: &[Ref], store: &Store) -> Result<Vec<Option<u32>>, TreeAnswer>
+pub(crate) fn parents(
+    alloc: Global,
+    guards: &[Ref],
+    store: &Store,
+) -> Result<Vec<Option<u32>>, TreeAnswer>
     requires fits { length guards.now ≤ 2 ^ 32 }
     requires held { AreHeld store.now.nodes guards.now }
     ensures { IfOk result (λ parents. AreParents store.now.nodes guards.now (length guards.now) parents.items) }

@@ -84,10 +84,16 @@ fn three_levels(rt: HostRuntime) -> Result<(), Fail> {
     let three = store.conj(two, c)?;
     let guards = [store.constant(true), a, two, three, c];
     let parent = parents(alloc, &guards, &store)?;
-    assert_eq!(rt; parent.as_slice(), [None, Some(0), Some(1), Some(2), Some(0)].as_slice());
+    assert_eq!(rt;
+        parent.as_slice(),
+        [None, Some(0), Some(1), Some(2), Some(0)].as_slice()
+    );
     let levels = kernel(alloc, &[b"R", b"A", b"T", b"C", b"A2", b"#1:1"], 5)?;
     let clocks = clocks(alloc, &[0, 1, 3, 4, 1, 2], &guards)?;
     let text = tree_text(alloc, &levels, &clocks, &Tree { parent })?;
-    assert_eq!(rt; text.as_slice(), b"R\n  A A2\n    -\n      T\n  C\n".as_slice());
+    assert_eq!(rt;
+        text.as_slice(),
+        b"R\n  A A2\n    -\n      T\n  C\n".as_slice()
+    );
     Ok(())
 }
