@@ -1,10 +1,10 @@
 -- Parents of classes, and why each class of a kernel but the root's has one.
-use Rattle.std.proofs.Common.{◌≡◌, ◌⊎◌, ◌↔◌, ℕ, ◌+◌, ◌-◌, ◌<◌, ◌≤◌, ◌^◌, Bool, true, false, cond, List, [], ◌∷◌, ◌++◌, length, None, Some, Option, refl, ap, sym, ◌∙◌, subst, inl, inr, arith, get_or, slice_get, slice_index_or, append_assoc, IsTrue}
-use Rattle.std.proofs.lemmas.Bool.{cases_lt, cases_order}
+use Rattle.std.proofs.Common.{◌≡◌, ℕ, ◌-◌, ◌<◌, ◌≤◌, ◌^◌, Bool, true, List, length, None, Some, Option, refl, ap, sym, ◌∙◌, subst, inl, inr, arith, get_or, slice_get, slice_index_or}
+use Rattle.std.proofs.lemmas.Bool.{cases_lt}
 use Rattle.std.proofs.lemmas.Option.{get_or_from_slice_get, slice_get-get_or}
 use Rattle.sig_clock.proofs.ProposalLemmas.{some_reaction}
 use Rattle.sig_clock.specs.ClockRefusals.{HasClocks}
-use Rattle.sig_clock.specs.Clocks.{AreClocks, ClocksView, IsLeastOf}
+use Rattle.sig_clock.specs.Clocks.{AreClocks, ClocksView}
 use Rattle.sig_dd.specs.Nodes.{Implies, test}
 use Rattle.sig_dd.specs.declared.node.Node.{Node}
 use Rattle.sig_dd.specs.declared.node.Ref.{Ref}

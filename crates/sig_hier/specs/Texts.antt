@@ -1,6 +1,6 @@
 -- The text of a clock hierarchy: a line for each class, in preorder, with two blanks for each level and the declared
 -- signals of the class.
-use Rattle.std.specs.Prelude.{ℕ, zero, suc, ◌+◌, ◌==◌, Bool, false, List, [], ◌∷◌, ◌++◌, length, map, filter, slice_get, slice_index, slice_index_or, Option, None, Some, codes}
+use Rattle.std.specs.Prelude.{ℕ, zero, suc, ◌+◌, ◌==◌, Bool, false, List, [], ◌∷◌, ◌++◌, length, filter, slice_get, slice_index, slice_index_or, Option, None, Some, codes}
 use Rattle.std.specs.List.{flat_map, range_with_len}
 use Rattle.sig_base.specs.declared.signal.Signal.{Signal}
 use Rattle.sig_clock.specs.Clocks.{ClocksView}
