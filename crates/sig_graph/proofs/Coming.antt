@@ -1,0 +1,104 @@
+-- Which operations come before which.
+use Rattle.std.proofs.Common.{◌≡◌, ◌<◌, ◌≤◌, ◌+◌, ◌⊎◌, inl, inr, ◌↔◌, ℕ, Bool, true, false, List, [], ◌∷◌, ◌++◌, length, map, get_or, refl, sym, ap, ◌∙◌, subst, arith, Contains, IsTrue, eqb, eq-eqb}
+use Rattle.std.specs.Prelude.{zero, suc, Option, None, Some, slice_get, slice_index_or, take, ◌||◌}
+use Rattle.std.specs.List.{filter_map, list_any}
+use Rattle.std.proofs.lemmas.Bool.{eqb-true, false≢true}
+use Rattle.sig_base.specs.declared.ids.EqId.{EqId}
+use Rattle.sig_base.specs.declared.ids.SigId.{SigId}
+use Rattle.sig_dd.specs.Diagram.{Depends}
+use Rattle.sig_dd.specs.Nodes.{Overlap, test}
+use Rattle.sig_dd.specs.declared.node.Node.{Node}
+use Rattle.sig_plan.specs.Operations.{Operation, operation_in}
+use Rattle.sig_plan.specs.Order.{ComesBefore, Decides, Feeds, Keeps, Needs}
+use Rattle.sig_plan.specs.declared.op.Op.{Op}
+use Rattle.sig_plan.specs.declared.op.OpKind.{OpKind}
+use Rattle.sig_plan.specs.declared.op.OpKind.TheVariants.{Read, Compute, Left, Right, DelayRead, Store}
+use Rattle.sig_graph.specs.Memories.{keeps_memory}
+use Rattle.sig_graph.proofs.Lists.{at_contained, chosen, chosen_from, contains_at}
+
+equation_same : (a b : EqId) → eqb a.0 b.0 ≡ true → a ≡ b
+equation_same a b is = let same : a.0 ≡ b.0 = eqb-true a.0 b.0 is in λ j. record { 0 = same j }
+
+signal_same : (a b : SigId) → eqb a.0 b.0 ≡ true → a ≡ b
+signal_same a b is = let same : a.0 ≡ b.0 = eqb-true a.0 b.0 is in λ j. record { 0 = same j }
+
+-- what the test of two kinds says
+kept_memory : (a : OpKind) (equation : Option EqId) (b : OpKind) → keeps_memory a equation b ≡ true → (e : EqId) × (a ≡ DelayRead) × (equation ≡ Some e) × (b ≡ Store e)
+kept_memory DelayRead (Some d) (Store e) is = (e, refl, ap Some (equation_same d e is), refl)
+kept_memory DelayRead None (Store e) is = absurd (false≢true is)
+kept_memory DelayRead equation (Read x) is = absurd (false≢true is)
+kept_memory DelayRead equation Compute is = absurd (false≢true is)
+kept_memory DelayRead equation Left is = absurd (false≢true is)
+kept_memory DelayRead equation Right is = absurd (false≢true is)
+kept_memory DelayRead equation DelayRead is = absurd (false≢true is)
+kept_memory (Read x) equation b is = absurd (false≢true is)
+kept_memory Compute equation b is = absurd (false≢true is)
+kept_memory Left equation b is = absurd (false≢true is)
+kept_memory Right equation b is = absurd (false≢true is)
+kept_memory (Store d) equation b is = absurd (false≢true is)
+
+keeps_same : (e : EqId) → keeps_memory DelayRead (Some e) (Store e) ≡ true
+keeps_same e = eq-eqb e.0 e.0 refl
+
+pub keeps_from : (nodes : List Node) (p q : Op) → keeps_memory p.kind p.eq q.kind ≡ true → Keeps (operation_in nodes p) (operation_in nodes q)
+keeps_from nodes p q is = let from = kept_memory p.kind p.eq q.kind is in record { delay = from.0; read = from.1; of = from.2; store = from.3 }
+
+pub keeps_to : (nodes : List Node) (p q : Op) → Keeps (operation_in nodes p) (operation_in nodes q) → keeps_memory p.kind p.eq q.kind ≡ true
+keeps_to nodes p q keeps = (λ j. keeps_memory (keeps.read j) (keeps.of j) (keeps.store j)) ∙ keeps_same keeps.delay
+
+-- a signal that a search of a list does not find
+pub not_found : (xs : List SigId) (x : SigId) → list_any (λ y. eqb y.0 x.0) xs ≡ false → Contains xs x → ⊥
+not_found [] x missing there = omega (arith, there.1)
+not_found (y ∷ xs) x missing there = at there.0 there.1 there.2 (not_found xs x) where
+  or_parts : (a b : Bool) → (a || b) ≡ false → (a ≡ false) × (b ≡ false)
+  or_parts true b is = cc
+  or_parts false b is = (refl, is)
+
+  at : (k : ℕ) → k < length (y ∷ xs) → get_or (y ∷ xs) k x ≡ x → (list_any (λ y. eqb y.0 x.0) xs ≡ false → Contains xs x → ⊥) → ⊥
+  at zero lt same rest = let here = (or_parts (eqb y.0 x.0) (list_any (λ y. eqb y.0 x.0) xs) missing).0 in false≢true (sym here ∙ eq-eqb y.0 x.0 (ap (λ (s : SigId). s.0) same))
+  at (suc k) lt same rest = rest (or_parts (eqb y.0 x.0) (list_any (λ y. eqb y.0 x.0) xs) missing).1 (k, omega (arith, lt), same)
+
+pub found : (xs : List SigId) (x : SigId) → list_any (λ y. eqb y.0 x.0) xs ≡ true → Contains xs x
+found [] x is = cc
+found (y ∷ xs) x is = at (eqb y.0 x.0) refl (found xs x) where
+  or_rest : (a b : Bool) → a ≡ false → (a || b) ≡ true → b ≡ true
+  or_rest true b out is = absurd (false≢true (sym out))
+  or_rest false b out is = is
+
+  at : (b : Bool) → eqb y.0 x.0 ≡ b → (list_any (λ y. eqb y.0 x.0) xs ≡ true → Contains xs x) → Contains (y ∷ xs) x
+  at true here rest = (0, omega arith, signal_same y x here)
+  at false here rest = let there = rest (or_rest (eqb y.0 x.0) (list_any (λ y. eqb y.0 x.0) xs) here is) in (suc there.0, omega (arith, there.1), there.2)
+
+module _ (nodes : List Node) (conditions : List SigId) (p q : Op) (x : SigId) (writes : p.writes ≡ Some x) where
+  -- neither of the first two reasons, and not the third
+  pub not_before : (keeps_memory p.kind p.eq q.kind ≡ false) → (Needs conditions (operation_in nodes q) x → ⊥) → (Contains q.reads x → Overlap nodes p.guard q.guard → ⊥)
+      → ComesBefore conditions (operation_in nodes p) (operation_in nodes q) → ⊥
+  not_before no_memory no_need no_feed (inl feeds) =
+      let same : feeds.signal ≡ x = (let e : Some feeds.signal ≡ Some x = sym feeds.writes ∙ writes in cc) in
+      no_feed (subst (Contains q.reads) same feeds.reads) feeds.together
+  not_before no_memory no_need no_feed (inr (inl decides)) =
+      let same : decides.condition ≡ x = (let e : Some decides.condition ≡ Some x = sym decides.writes ∙ writes in cc) in
+      no_need (subst (Needs conditions (operation_in nodes q)) same decides.needs)
+  not_before no_memory no_need no_feed (inr (inr keeps)) = false≢true (sym no_memory ∙ keeps_to nodes p q keeps)
+
+  pub feeds_before : Contains q.reads x → Overlap nodes p.guard q.guard → ComesBefore conditions (operation_in nodes p) (operation_in nodes q)
+  feeds_before reads together = inl (record { signal = x; writes = writes; reads = reads; together = together })
+
+  pub decides_before : Needs conditions (operation_in nodes q) x → ComesBefore conditions (operation_in nodes p) (operation_in nodes q)
+  decides_before needs = inr (inl (record { condition = x; writes = writes; needs = needs }))
+
+-- an operation that writes nothing comes before another one only as the read of its delay
+pub not_before_silent : (nodes : List Node) (conditions : List SigId) (p q : Op) → p.writes ≡ None → (keeps_memory p.kind p.eq q.kind ≡ false)
+    → ComesBefore conditions (operation_in nodes p) (operation_in nodes q) → ⊥
+not_before_silent nodes conditions p q silent no_memory (inl feeds) = let e : None ≡ Some feeds.signal = sym silent ∙ feeds.writes in cc
+not_before_silent nodes conditions p q silent no_memory (inr (inl decides)) = let e : None ≡ Some decides.condition = sym silent ∙ decides.writes in cc
+not_before_silent nodes conditions p q silent no_memory (inr (inr keeps)) = false≢true (sym no_memory ∙ keeps_to nodes p q keeps)
+
+-- the conditions that stand at the variables on which a guard depends
+pub needs_are : (nodes : List Node) (conditions : List SigId) (q : Op) (variables : List ℕ) (needs : List SigId) → ((v : ℕ) → Contains variables v ↔ Depends (test nodes q.guard) v)
+    → needs ≡ filter_map (slice_get conditions) variables → (x : SigId) → Contains needs x ↔ Needs conditions (operation_in nodes q) x
+needs_are nodes conditions q variables needs exact is x =
+    ( (λ there.
+        let from = chosen_from (slice_get conditions) variables x (subst (λ (xs : List SigId). Contains xs x) is there) in
+        record { variable = from.0; is = from.2; depends = (exact from.0).0 from.1 })
+    , (λ need. subst (λ (xs : List SigId). Contains xs x) (sym is) (chosen (slice_get conditions) variables need.variable x ((exact need.variable).1 need.depends) need.is)))
