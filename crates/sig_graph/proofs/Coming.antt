@@ -2,7 +2,9 @@
 use Rattle.std.proofs.Common.{◌≡◌, ◌<◌, ◌≤◌, ◌+◌, ◌⊎◌, inl, inr, ◌↔◌, ℕ, Bool, true, false, List, [], ◌∷◌, ◌++◌, length, map, get_or, refl, sym, ap, ◌∙◌, subst, arith, Contains, IsTrue, eqb, eq-eqb}
 use Rattle.std.specs.Prelude.{zero, suc, Option, None, Some, slice_get, slice_index_or, take, ◌||◌}
 use Rattle.std.specs.List.{filter_map, list_any}
-use Rattle.std.proofs.lemmas.Bool.{eqb-true, false≢true}
+use Rattle.std.proofs.lemmas.Bool.{cases_order, eqb-true, false≢true}
+use Rattle.std.proofs.lemmas.List.{get_or_append_left, get_or_push, length-take-le}
+use Rattle.std.proofs.lemmas.List.Elements.{Contains-append_left, Contains-push, Contains-push_cases}
 use Rattle.sig_base.specs.declared.ids.EqId.{EqId}
 use Rattle.sig_base.specs.declared.ids.SigId.{SigId}
 use Rattle.sig_dd.specs.Diagram.{Depends}
@@ -13,8 +15,9 @@ use Rattle.sig_plan.specs.Order.{ComesBefore, Decides, Feeds, Keeps, Needs}
 use Rattle.sig_plan.specs.declared.op.Op.{Op}
 use Rattle.sig_plan.specs.declared.op.OpKind.{OpKind}
 use Rattle.sig_plan.specs.declared.op.OpKind.TheVariants.{Read, Compute, Left, Right, DelayRead, Store}
+use Rattle.sig_graph.specs.Graphs.{IsBefore, added}
 use Rattle.sig_graph.specs.Memories.{keeps_memory}
-use Rattle.sig_graph.proofs.Lists.{at_contained, chosen, chosen_from, contains_at}
+use Rattle.sig_graph.proofs.Lists.{chosen, chosen_from, get_is, get_within, is_taken, taken_is}
 
 equation_same : (a b : EqId) → eqb a.0 b.0 ≡ true → a ≡ b
 equation_same a b is = let same : a.0 ≡ b.0 = eqb-true a.0 b.0 is in λ j. record { 0 = same j }
@@ -102,3 +105,78 @@ needs_are nodes conditions q variables needs exact is x =
         let from = chosen_from (slice_get conditions) variables x (subst (λ (xs : List SigId). Contains xs x) is there) in
         record { variable = from.0; is = from.2; depends = (exact from.0).0 from.1 })
     , (λ need. subst (λ (xs : List SigId). Contains xs x) (sym is) (chosen (slice_get conditions) variables need.variable x ((exact need.variable).1 need.depends) need.is)))
+
+-- where neither of the other reasons holds, the guards overlap
+pub before_overlaps : (nodes : List Node) (conditions : List SigId) (p q : Op) (x : SigId) → p.writes ≡ Some x → (keeps_memory p.kind p.eq q.kind ≡ false) → (Needs conditions (operation_in nodes q) x → ⊥)
+    → ComesBefore conditions (operation_in nodes p) (operation_in nodes q) → Overlap nodes p.guard q.guard
+before_overlaps nodes conditions p q x writes no_memory no_need (inl feeds) = feeds.together
+before_overlaps nodes conditions p q x writes no_memory no_need (inr (inl decides)) =
+    let same : decides.condition ≡ x = (let e : Some decides.condition ≡ Some x = sym decides.writes ∙ writes in cc) in
+    absurd (no_need (subst (Needs conditions (operation_in nodes q)) same decides.needs))
+before_overlaps nodes conditions p q x writes no_memory no_need (inr (inr keeps)) = absurd (false≢true (sym no_memory ∙ keeps_to nodes p q keeps))
+
+module _ (conditions : List SigId) (nodes : List Node) (ops : List Op) (q op : Op) (n : ℕ) (lt : n < length ops) (is : op ≡ get_or ops n op) where
+  -- one more operation was looked at
+  pub before_more : (list new : List ℕ) (holds : Bool) → IsBefore conditions nodes (take n ops) q list → (IsTrue holds ↔ ComesBefore conditions (operation_in nodes op) (operation_in nodes q)) → new ≡ added list n holds
+      → IsBefore conditions nodes (take (n + 1) ops) q new
+  before_more list new holds before exact same = subst (IsBefore conditions nodes (take (n + 1) ops) q) (sym same) (at holds exact) where
+    short : length (take n ops) ≡ n
+    short = length-take-le n ops (omega (arith, lt))
+
+    long : length (take (n + 1) ops) ≡ n + 1
+    long = length-take-le (n + 1) ops (omega (arith, lt))
+
+    below : (i : ℕ) → Contains list i → i < n
+    below i there = omega (arith, before.within i there, short)
+
+    own : (i : ℕ) (p : Op) → slice_get (take (n + 1) ops) i ≡ Some p → i ≡ n → p ≡ op
+    own i p get e =
+        let here : slice_get ops n ≡ Some p = subst (λ (k : ℕ). slice_get ops k ≡ Some p) e (taken_is ops (n + 1) i p get) in
+        sym (get_is ops n p op here) ∙ sym is
+
+    earlier : (i : ℕ) (p : Op) → slice_get (take (n + 1) ops) i ≡ Some p → i < n → Contains list i ↔ ComesBefore conditions (operation_in nodes p) (operation_in nodes q)
+    earlier i p get less = before.exact i p (is_taken ops n i p less (taken_is ops (n + 1) i p get))
+
+    place : (i : ℕ) (p : Op) → slice_get (take (n + 1) ops) i ≡ Some p → (i ≡ n) ⊎ (i < n)
+    place i p get = elim (cases_order i n) [ inl e ↦ inl e | inr (inl less) ↦ inr less | inr (inr more) ↦ absurd (omega (arith, more, long, get_within (take (n + 1) ops) i p get)) ]
+
+    with_none : (IsTrue false ↔ ComesBefore conditions (operation_in nodes op) (operation_in nodes q)) → (i : ℕ) (p : Op) → slice_get (take (n + 1) ops) i ≡ Some p → ((i ≡ n) ⊎ (i < n))
+        → Contains list i ↔ ComesBefore conditions (operation_in nodes p) (operation_in nodes q)
+    with_none tells i p get (inr less) = earlier i p get less
+    with_none tells i p get (inl e) =
+        ( (λ there. absurd (omega (arith, below i there, e)))
+        , (λ comes. absurd (false≢true (tells.1 (subst (λ (o : Op). ComesBefore conditions (operation_in nodes o) (operation_in nodes q)) (own i p get e) comes)))))
+
+    with_one : (IsTrue true ↔ ComesBefore conditions (operation_in nodes op) (operation_in nodes q)) → (i : ℕ) (p : Op) → slice_get (take (n + 1) ops) i ≡ Some p → ((i ≡ n) ⊎ (i < n))
+        → Contains (list ++ n ∷ []) i ↔ ComesBefore conditions (operation_in nodes p) (operation_in nodes q)
+    with_one tells i p get (inr less) =
+        ( (λ there. (earlier i p get less).0 (elim (Contains-push_cases list n i there) [ inl old ↦ old | inr e ↦ absurd (omega (arith, e, less)) ]))
+        , (λ comes. Contains-append_left list (n ∷ []) i ((earlier i p get less).1 comes)))
+    with_one tells i p get (inl e) =
+        ( (λ there. subst (λ (o : Op). ComesBefore conditions (operation_in nodes o) (operation_in nodes q)) (sym (own i p get e)) (tells.0 refl))
+        , (λ comes. subst (Contains (list ++ n ∷ [])) (sym e) (Contains-push list n)))
+
+    at : (holds : Bool) → (IsTrue holds ↔ ComesBefore conditions (operation_in nodes op) (operation_in nodes q)) → IsBefore conditions nodes (take (n + 1) ops) q (added list n holds)
+    at false tells = record {
+      within = λ i there. omega (arith, below i there, long);
+      exact = λ i p get. with_none tells i p get (place i p get);
+    }
+    at true tells = record {
+      within = λ i there. elim (Contains-push_cases list n i there) [ inl old ↦ omega (arith, below i old, long) | inr e ↦ omega (arith, e, long) ];
+      exact = λ i p get. with_one tells i p get (place i p get);
+    }
+
+-- the predecessors of so many operations
+abbrev pub AreBefore : List SigId → List Node → List Op → List (List ℕ) → ℕ → Type 0
+AreBefore conditions nodes ops graph n = (j : ℕ) (op : Op) → j < n → slice_get ops j ≡ Some op → IsBefore conditions nodes ops op (slice_index_or graph j [])
+
+pub graph_more : (conditions : List SigId) (nodes : List Node) (ops : List Op) (graph new : List (List ℕ)) (n : ℕ) (op : Op) (list : List ℕ) → length graph ≡ n → AreBefore conditions nodes ops graph n → n < length ops → op ≡ get_or ops n op
+    → IsBefore conditions nodes ops op list → new ≡ graph ++ list ∷ [] → AreBefore conditions nodes ops new (n + 1)
+graph_more conditions nodes ops graph new n op list count before lt is next same j other less get = subst (λ (g : List (List ℕ)). IsBefore conditions nodes ops other (get_or g j [])) (sym same) (at (cases_order j n)) where
+  at : ((j ≡ n) ⊎ ((j < n) ⊎ (n < j))) → IsBefore conditions nodes ops other (get_or (graph ++ list ∷ []) j [])
+  at (inl e) =
+      let own : op ≡ other = is ∙ get_is ops n other op (subst (λ (k : ℕ). slice_get ops k ≡ Some other) e get) in
+      let last : get_or (graph ++ list ∷ []) j [] ≡ list = get_or_push graph list [] j (omega (arith, count, e)) in
+      subst (IsBefore conditions nodes ops other) (sym last) (subst (λ (o : Op). IsBefore conditions nodes ops o list) own next)
+  at (inr (inl below)) = subst (IsBefore conditions nodes ops other) (sym (get_or_append_left graph (list ∷ []) [] j (omega (arith, below, count)))) (before j other below get)
+  at (inr (inr more)) = absurd (omega (arith, more, less))

@@ -1,14 +1,18 @@
 -- Walks over a graph against its edges.
 use Rattle.std.proofs.Common.{◌≡◌, ◌≢◌, ◌<◌, ◌≤◌, ◌+◌, ◌⊎◌, inl, inr, ◌↔◌, ℕ, Bool, true, false, List, [], ◌∷◌, ◌++◌, length, get_or, set, replicate, refl, sym, ap, ◌∙◌, subst, arith, Contains}
-use Rattle.std.specs.Prelude.{zero, suc}
+use Rattle.std.specs.Prelude.{zero, suc, Option, None, Some, slice_get, nat_lt, if◌then◌else◌}
+use Rattle.std.proofs.lemmas.Bool.{ltb-false, ltb-true}
+use Rattle.sig_base.specs.declared.ids.SigId.{SigId}
+use Rattle.sig_clock.specs.ClockRefusals.{IsLeast}
+use Rattle.sig_plan.specs.declared.op.Op.{Op}
 use Rattle.std.proofs.lemmas.Bool.{cases_order, false≢true}
 use Rattle.std.proofs.lemmas.List.{length-replicate, length-set, length_push}
 use Rattle.std.proofs.lemmas.List.Elements.{Contains-append_cases, Contains-append_left, Contains-append_right, Contains-push, Contains-push_cases}
 use Rattle.sig_plan.specs.Order.{Reaches, directly, onward}
 use Rattle.sig_graph.specs.Graphs.{Edge, mark_at, marked_count}
-use Rattle.sig_graph.specs.Marks.{AreReaching, Visits, Walks}
+use Rattle.sig_graph.specs.Marks.{AreReaching, IsLeastOnCycle, Visits, Walks, WritesOnCycle, lesser}
 use Rattle.sig_graph.proofs.Lists.{contains_none}
-use Rattle.sig_graph.proofs.Takings.{marked_more, no_mark, one_marked}
+use Rattle.sig_graph.proofs.Takings.{marked_more, marked_within, no_mark, one_marked}
 
 -- a list of one
 pub one_contains : (n : ℕ) → Contains (n ∷ []) n
@@ -129,3 +133,72 @@ walk_ends graph target marks walks = record {
       ( walks.sound k
       , (λ reaches. reaching_marked (Edge graph) marks k target reaches walks.first (λ j marked p edge. elim (walks.closed j marked) [ inl there ↦ absurd (contains_none j there) | inr done ↦ done p edge ])));
 }
+
+pub visits_as : (xs ys : List ℕ) (a b d : List Bool) (p q r : List ℕ) → xs ≡ ys → a ≡ b → p ≡ q → Visits xs a d p r → Visits ys b d q r
+visits_as xs ys a b d p q r same_list same_marks same_waiting visits =
+    subst (λ (waited : List ℕ). Visits ys b d waited r) same_waiting (subst (λ (marks : List Bool). Visits ys marks d p r) same_marks (subst (λ (list : List ℕ). Visits list a d p r) same_list visits))
+
+-- what waits is a number of the graph
+pub waiting_below : (graph : List (List ℕ)) (target : ℕ) (marks : List Bool) (waiting : List ℕ) (j : ℕ) → Walks graph target marks waiting → Contains waiting j → j < length graph
+waiting_below graph target marks waiting j walks there = let count = walks.count in omega (arith, marked_within marks j (walks.only j there), count)
+
+module _ (graph : List (List ℕ)) (ops : List Op) (n : ℕ) where
+  on_later : (signal : ℕ) → WritesOnCycle graph ops n signal → WritesOnCycle graph ops (n + 1) signal
+  on_later signal on =
+      let below = on.below in
+      record { number = on.number; below = omega (arith, below); op = on.op; writes = on.writes; is = on.is; target = on.target; named = on.named; cycle = on.cycle }
+
+  module _ (op : Op) (is : slice_get ops n ≡ Some op) where
+    on_here : (x : SigId) → op.writes ≡ Some x → Reaches (Edge graph) n n → WritesOnCycle graph ops (n + 1) x.0
+    on_here x writes cycle = record { number = n; below = omega arith; op = op; writes = x; is = is; target = writes; named = refl; cycle = cycle }
+
+    -- it is an earlier operation, or this one
+    on_before_or_here : (signal : ℕ) → WritesOnCycle graph ops (n + 1) signal → WritesOnCycle graph ops n signal ⊎ ((x : SigId) × (op.writes ≡ Some x) × (x.0 ≡ signal) × Reaches (Edge graph) n n)
+    on_before_or_here signal on = at (cases_order on.number n) where
+      at : ((on.number ≡ n) ⊎ ((on.number < n) ⊎ (n < on.number))) → WritesOnCycle graph ops n signal ⊎ ((x : SigId) × (op.writes ≡ Some x) × (x.0 ≡ signal) × Reaches (Edge graph) n n)
+      at (inl e) =
+          let here : Some on.op ≡ Some op = sym on.is ∙ ap (slice_get ops) e ∙ is in
+          let same : on.op ≡ op = cc in
+          inr (on.writes, ap (λ (o : Op). o.writes) (sym same) ∙ on.target, on.named, subst (λ (k : ℕ). Reaches (Edge graph) k k) e on.cycle)
+      at (inr (inl less)) = inl (record { number = on.number; below = less; op = on.op; writes = on.writes; is = on.is; target = on.target; named = on.named; cycle = on.cycle })
+      at (inr (inr more)) = let below = on.below in absurd (omega (arith, more, below))
+
+    pub least_not_here : (least : Option SigId) → IsLeastOnCycle graph ops n least → (Reaches (Edge graph) n n → ⊥) → IsLeastOnCycle graph ops (n + 1) least
+    least_not_here None none off = λ signal on. elim (on_before_or_here signal on) [ inl before ↦ none signal before | inr here ↦ off here.3 ]
+    least_not_here (Some x) is_least off = record {
+      holds = on_later x.0 is_least.holds;
+      least = λ other on. elim (on_before_or_here other on) [ inl before ↦ is_least.least other before | inr here ↦ absurd (off here.3) ];
+    }
+
+    named_same : (x y : SigId) (signal : ℕ) → op.writes ≡ Some x → op.writes ≡ Some y → y.0 ≡ signal → x.0 ≡ signal
+    named_same x y signal own other named = let e : Some x ≡ Some y = sym own ∙ other in let same : x ≡ y = cc in ap (λ (s : SigId). s.0) same ∙ named
+
+    least_of_two : (a b : SigId) (less : Bool) → nat_lt a.0 b.0 ≡ less → IsLeast (WritesOnCycle graph ops n) a.0 → op.writes ≡ Some b → Reaches (Edge graph) n n
+        → IsLeast (WritesOnCycle graph ops (n + 1)) (if less then a else b).0
+    least_of_two a b true is_less is_least writes cycle =
+        let lt : a.0 < b.0 = ltb-true a.0 b.0 is_less in
+        record {
+          holds = on_later a.0 is_least.holds;
+          least = λ other on. elim (on_before_or_here other on) [ inl before ↦ is_least.least other before | inr here ↦ omega (arith, lt, named_same b here.0 other writes here.1 here.2) ];
+        }
+    least_of_two a b false is_less is_least writes cycle =
+        let le : b.0 ≤ a.0 = ltb-false a.0 b.0 is_less in
+        record {
+          holds = on_here b writes cycle;
+          least = λ other on. elim (on_before_or_here other on) [ inl before ↦ omega (arith, le, is_least.least other before) | inr here ↦ omega (arith, named_same b here.0 other writes here.1 here.2) ];
+        }
+
+    pub least_with_here : (least writes : Option SigId) → op.writes ≡ writes → IsLeastOnCycle graph ops n least → Reaches (Edge graph) n n → IsLeastOnCycle graph ops (n + 1) (lesser least writes)
+    least_with_here None None is_writes none cycle = λ signal on. elim (on_before_or_here signal on) [ inl before ↦ none signal before | inr here ↦ (let e : None ≡ Some here.0 = sym is_writes ∙ here.1 in cc) ]
+    least_with_here None (Some b) is_writes none cycle = record {
+      holds = on_here b is_writes cycle;
+      least = λ other on. elim (on_before_or_here other on) [ inl before ↦ absurd (none other before) | inr here ↦ omega (arith, named_same b here.0 other is_writes here.1 here.2) ];
+    }
+    least_with_here (Some a) None is_writes is_least cycle = record {
+      holds = on_later a.0 is_least.holds;
+      least = λ other on. elim (on_before_or_here other on) [ inl before ↦ is_least.least other before | inr here ↦ absurd (let e : None ≡ Some here.0 = sym is_writes ∙ here.1 in cc) ];
+    }
+    least_with_here (Some a) (Some b) is_writes is_least cycle = least_of_two a b (nat_lt a.0 b.0) refl is_least is_writes cycle
+
+pub none_on_cycle : (graph : List (List ℕ)) (ops : List Op) → IsLeastOnCycle graph ops 0 None
+none_on_cycle graph ops signal on = let below = on.below in omega (arith, below)

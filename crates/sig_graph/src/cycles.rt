@@ -5,6 +5,7 @@ ghost use Rattle.sig_graph.specs.Graphs.{IsWithin};
 ghost use Rattle.sig_graph.specs.Marks.{AreReaching, IsLeastOnCycle, Visits, lesser};
 
 use crate::graph::Predecessors;
+use crate::marks::unmarked;
 use sig_base::SigId;
 use sig_plan::Op;
 use std::alloc::{AllocError, Global};
@@ -46,7 +47,7 @@ fn reaching(alloc: Global, graph: &[Predecessors], target: usize) -> Result<Vec<
     requires target { target < length graph.now }
     ensures { IfOk result (λ marks. AreReaching graph.now target marks.items) }
 {
-    let mut marks = vec![in alloc; false; graph.len()]?;
+    let mut marks = unmarked(alloc, graph.len())?;
     let mut waiting = Vec::new(alloc);
     visit(graph[target].as_slice(), &mut marks, &mut waiting)?;
     while let Some(number) = waiting.pop() {

@@ -5,6 +5,7 @@
 mod answer;
 mod cycles;
 mod graph;
+mod marks;
 mod orders;
 mod taking;
 

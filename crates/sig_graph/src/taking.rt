@@ -7,6 +7,7 @@ ghost use Rattle.sig_plan.specs.Order.{IsOrdered};
 ghost use Rattle.sig_plan.specs.Plans.{numbers_of};
 
 use crate::graph::Predecessors;
+use crate::marks::unmarked;
 use sig_base::OpId;
 use std::alloc::{AllocError, Global};
 
@@ -18,7 +19,7 @@ pub(crate) fn take_all(alloc: Global, graph: &[Predecessors]) -> Result<Vec<OpId
     requires acyclic { IsAcyclic graph.now }
     ensures { IfOk result (λ order. IsOrdered (Edge graph.now) (length graph.now) (numbers_of order.items)) }
 {
-    let mut taken = vec![in alloc; false; graph.len()]?;
+    let mut taken = unmarked(alloc, graph.len())?;
     let mut order = Vec::new(alloc);
     while let Some(number) = first_open(graph, taken.as_slice()) {
         taken[number] = true;
