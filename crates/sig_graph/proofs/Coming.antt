@@ -1,5 +1,5 @@
 -- Which operations come before which.
-use Rattle.std.proofs.Common.{◌≡◌, ◌<◌, ◌≤◌, ◌+◌, ◌⊎◌, inl, inr, ◌↔◌, ℕ, Bool, true, false, List, [], ◌∷◌, ◌++◌, length, map, get_or, refl, sym, ap, ◌∙◌, subst, arith, Contains, IsTrue, eqb, eq-eqb}
+use Rattle.std.proofs.Common.{◌≡◌, ◌<◌, ◌+◌, ◌⊎◌, inl, inr, ◌↔◌, ℕ, Bool, true, false, List, [], ◌∷◌, ◌++◌, length, get_or, refl, sym, ap, ◌∙◌, subst, arith, Contains, IsTrue, eqb, eq-eqb}
 use Rattle.std.specs.Prelude.{zero, suc, Option, None, Some, slice_get, slice_index_or, take, ◌||◌}
 use Rattle.std.specs.List.{filter_map, list_any}
 use Rattle.std.proofs.lemmas.Bool.{cases_order, eqb-true, false≢true}
@@ -10,8 +10,8 @@ use Rattle.sig_base.specs.declared.ids.SigId.{SigId}
 use Rattle.sig_dd.specs.Diagram.{Depends}
 use Rattle.sig_dd.specs.Nodes.{Overlap, test}
 use Rattle.sig_dd.specs.declared.node.Node.{Node}
-use Rattle.sig_plan.specs.Operations.{Operation, operation_in}
-use Rattle.sig_plan.specs.Order.{ComesBefore, Decides, Feeds, Keeps, Needs}
+use Rattle.sig_plan.specs.Operations.{operation_in}
+use Rattle.sig_plan.specs.Order.{ComesBefore, Keeps, Needs}
 use Rattle.sig_plan.specs.declared.op.Op.{Op}
 use Rattle.sig_plan.specs.declared.op.OpKind.{OpKind}
 use Rattle.sig_plan.specs.declared.op.OpKind.TheVariants.{Read, Compute, Left, Right, DelayRead, Store}
@@ -100,11 +100,12 @@ not_before_silent nodes conditions p q silent no_memory (inr (inr keeps)) = fals
 -- the conditions that stand at the variables on which a guard depends
 pub needs_are : (nodes : List Node) (conditions : List SigId) (q : Op) (variables : List ℕ) (needs : List SigId) → ((v : ℕ) → Contains variables v ↔ Depends (test nodes q.guard) v)
     → needs ≡ filter_map (slice_get conditions) variables → (x : SigId) → Contains needs x ↔ Needs conditions (operation_in nodes q) x
-needs_are nodes conditions q variables needs exact is x =
-    ( (λ there.
-        let from = chosen_from (slice_get conditions) variables x (subst (λ (xs : List SigId). Contains xs x) is there) in
-        record { variable = from.0; is = from.2; depends = (exact from.0).0 from.1 })
-    , (λ need. subst (λ (xs : List SigId). Contains xs x) (sym is) (chosen (slice_get conditions) variables need.variable x ((exact need.variable).1 need.depends) need.is)))
+needs_are nodes conditions q variables needs exact is x = (
+  (λ there.
+      let from = chosen_from (slice_get conditions) variables x (subst (λ (xs : List SigId). Contains xs x) is there) in
+      record { variable = from.0; is = from.2; depends = (exact from.0).0 from.1 }),
+  (λ need. subst (λ (xs : List SigId). Contains xs x) (sym is) (chosen (slice_get conditions) variables need.variable x ((exact need.variable).1 need.depends) need.is)),
+)
 
 -- where neither of the other reasons holds, the guards overlap
 pub before_overlaps : (nodes : List Node) (conditions : List SigId) (p q : Op) (x : SigId) → p.writes ≡ Some x → (keeps_memory p.kind p.eq q.kind ≡ false) → (Needs conditions (operation_in nodes q) x → ⊥)
@@ -143,18 +144,21 @@ module _ (conditions : List SigId) (nodes : List Node) (ops : List Op) (q op : O
     with_none : (IsTrue false ↔ ComesBefore conditions (operation_in nodes op) (operation_in nodes q)) → (i : ℕ) (p : Op) → slice_get (take (n + 1) ops) i ≡ Some p → ((i ≡ n) ⊎ (i < n))
         → Contains list i ↔ ComesBefore conditions (operation_in nodes p) (operation_in nodes q)
     with_none tells i p get (inr less) = earlier i p get less
-    with_none tells i p get (inl e) =
-        ( (λ there. absurd (omega (arith, below i there, e)))
-        , (λ comes. absurd (false≢true (tells.1 (subst (λ (o : Op). ComesBefore conditions (operation_in nodes o) (operation_in nodes q)) (own i p get e) comes)))))
+    with_none tells i p get (inl e) = (
+      (λ there. absurd (omega (arith, below i there, e))),
+      (λ comes. absurd (false≢true (tells.1 (subst (λ (o : Op). ComesBefore conditions (operation_in nodes o) (operation_in nodes q)) (own i p get e) comes)))),
+    )
 
     with_one : (IsTrue true ↔ ComesBefore conditions (operation_in nodes op) (operation_in nodes q)) → (i : ℕ) (p : Op) → slice_get (take (n + 1) ops) i ≡ Some p → ((i ≡ n) ⊎ (i < n))
         → Contains (list ++ n ∷ []) i ↔ ComesBefore conditions (operation_in nodes p) (operation_in nodes q)
-    with_one tells i p get (inr less) =
-        ( (λ there. (earlier i p get less).0 (elim (Contains-push_cases list n i there) [ inl old ↦ old | inr e ↦ absurd (omega (arith, e, less)) ]))
-        , (λ comes. Contains-append_left list (n ∷ []) i ((earlier i p get less).1 comes)))
-    with_one tells i p get (inl e) =
-        ( (λ there. subst (λ (o : Op). ComesBefore conditions (operation_in nodes o) (operation_in nodes q)) (sym (own i p get e)) (tells.0 refl))
-        , (λ comes. subst (Contains (list ++ n ∷ [])) (sym e) (Contains-push list n)))
+    with_one tells i p get (inr less) = (
+      (λ there. (earlier i p get less).0 (elim (Contains-push_cases list n i there) [ inl old ↦ old | inr e ↦ absurd (omega (arith, e, less)) ])),
+      (λ comes. Contains-append_left list (n ∷ []) i ((earlier i p get less).1 comes)),
+    )
+    with_one tells i p get (inl e) = (
+      (λ there. subst (λ (o : Op). ComesBefore conditions (operation_in nodes o) (operation_in nodes q)) (sym (own i p get e)) (tells.0 refl)),
+      (λ comes. subst (Contains (list ++ n ∷ [])) (sym e) (Contains-push list n)),
+    )
 
     at : (holds : Bool) → (IsTrue holds ↔ ComesBefore conditions (operation_in nodes op) (operation_in nodes q)) → IsBefore conditions nodes (take (n + 1) ops) q (added list n holds)
     at false tells = record {

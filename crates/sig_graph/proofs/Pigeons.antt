@@ -1,5 +1,5 @@
 -- Among more numbers below a count than it has, two are the same.
-use Rattle.std.proofs.Common.{◌≡◌, ◌≢◌, ◌<◌, ◌≤◌, ◌⊎◌, inl, inr, ℕ, refl, sym, ap, ◌∙◌, subst, arith}
+use Rattle.std.proofs.Common.{◌≡◌, ◌≢◌, ◌<◌, ◌⊎◌, inl, inr, ℕ, sym, ◌∙◌, subst, arith}
 use Rattle.std.specs.Prelude.{zero, suc}
 use Rattle.std.proofs.lemmas.Bool.{cases_order}
 

@@ -1,19 +1,18 @@
 -- What a graph of operations says of them.
-use Rattle.std.proofs.Common.{◌≡◌, ◌<◌, ◌≤◌, ◌+◌, ◌⊎◌, inl, inr, ◌↔◌, ℕ, List, [], ◌∷◌, ◌++◌, length, map, get_or, refl, sym, ap, ◌∙◌, subst, arith, Contains}
-use Rattle.std.specs.Prelude.{zero, suc, Option, None, Some, slice_get, slice_index_or, take}
+use Rattle.std.proofs.Common.{◌≡◌, ◌<◌, ◌≤◌, inl, inr, ℕ, List, [], length, get_or, refl, sym, ap, ◌∙◌, subst, arith, Contains}
+use Rattle.std.specs.Prelude.{None, Some, slice_get, take}
 use Rattle.std.proofs.lemmas.Bool.{cases_order}
 use Rattle.std.proofs.lemmas.List.{get_or_past, length-map}
 use Rattle.sig_base.specs.declared.ids.SigId.{SigId}
-use Rattle.sig_clock.specs.ClockRefusals.{IsLeast}
 use Rattle.sig_dd.specs.declared.node.Node.{Node}
 use Rattle.sig_plan.specs.Operations.{Operation, operation_in, operations_in}
-use Rattle.sig_plan.specs.Order.{ComesBefore, Decides, Feeds, HasNoCycle, IsCycle, IsOnCycle, IsOrdered, IsReady, Keeps, Precedes, Reaches, directly, onward}
+use Rattle.sig_plan.specs.Order.{ComesBefore, HasNoCycle, IsCycle, IsOnCycle, IsOrdered, IsReady, Precedes, Reaches, directly, onward}
 use Rattle.sig_plan.specs.declared.op.Op.{Op}
 use Rattle.sig_plan.specs.declared.op.OpKind.{OpKind}
 use Rattle.sig_plan.specs.declared.op.OpKind.TheVariants.{DelayRead, Store}
-use Rattle.sig_graph.specs.Graphs.{Edge, IsAcyclic, IsBefore, IsGraph, IsWithin}
+use Rattle.sig_graph.specs.Graphs.{Edge, IsAcyclic, IsGraph, IsWithin}
 use Rattle.sig_graph.specs.Marks.{IsLeastOnCycle, WritesOnCycle}
-use Rattle.sig_graph.proofs.Lists.{contains_none, get_is, get_map, get_some, get_within, map_get}
+use Rattle.sig_graph.proofs.Lists.{contains_none, get_map, get_some, get_within, map_get}
 
 -- a relation that holds where another one does
 pub reaches_as : (R S : ℕ → ℕ → Type 0) → ((p q : ℕ) → R p q → S p q) → (i j : ℕ) → Reaches R i j → Reaches S i j
@@ -42,10 +41,10 @@ module _ (R S : ℕ → ℕ → Type 0) (gives : (p q : ℕ) → R p q → S p q
 module _ (conditions : List SigId) (nodes : List Node) (ops : List Op) (graph : List (List ℕ)) (is : IsGraph conditions nodes ops graph) where
   edge_within : (p q : ℕ) → Edge graph p q → q < length graph
   edge_within p q edge = elim (cases_order q (length graph)) [
-      | inl e ↦ absurd (past (omega (arith, e)))
-      | inr (inl less) ↦ less
-      | inr (inr more) ↦ absurd (past (omega (arith, more)))
-    ] where
+    | inl e ↦ absurd (past (omega (arith, e)))
+    | inr (inl less) ↦ less
+    | inr (inr more) ↦ absurd (past (omega (arith, more)))
+  ] where
     past : length graph ≤ q → ⊥
     past le = contains_none p (subst (λ (xs : List ℕ). Contains xs p) (get_or_past graph q [] le) edge)
 
@@ -77,7 +76,7 @@ module _ (conditions : List SigId) (nodes : List Node) (ops : List Op) (graph : 
       let at_p = map_get (operation_in nodes) ops p precedes.p precedes.is in
       let at_q = map_get (operation_in nodes) ops q precedes.q precedes.other in
       let before : ComesBefore conditions (operation_in nodes at_p.0) (operation_in nodes at_q.0) =
-          subst (λ (a : Operation). ComesBefore conditions a (operation_in nodes at_q.0)) (sym at_p.2) (subst (ComesBefore conditions precedes.p) (sym at_q.2) precedes.before) in
+      subst (λ (a : Operation). ComesBefore conditions a (operation_in nodes at_q.0)) (sym at_p.2) (subst (ComesBefore conditions precedes.p) (sym at_q.2) precedes.before) in
       ((is.each q at_q.0 at_q.1).exact p at_p.0 at_p.1).1 before
 
   pub on_cycle_from : (n signal : ℕ) → WritesOnCycle graph ops n signal → IsOnCycle conditions (operations_in nodes ops) signal

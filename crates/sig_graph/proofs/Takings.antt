@@ -1,16 +1,16 @@
 -- Numbers that are taken one after another.
-use Rattle.std.proofs.Common.{◌≡◌, ◌≢◌, ◌<◌, ◌≤◌, ◌+◌, ◌⊎◌, inl, inr, ◌↔◌, ℕ, Bool, true, false, List, [], ◌∷◌, ◌++◌, length, get_or, set, replicate, map, refl, sym, ap, ◌∙◌, subst, arith, Contains, true≢false, get_or-set_same, get_or-set_other}
-use Rattle.std.specs.Prelude.{zero, suc, All, slice_index_or, take, count_by, sum_by, fold, Option, None, Some, if◌then◌else◌}
+use Rattle.std.proofs.Common.{◌≡◌, ◌≢◌, ◌<◌, ◌≤◌, ◌+◌, ◌⊎◌, inl, inr, ◌↔◌, ℕ, Bool, true, false, List, [], ◌∷◌, ◌++◌, length, get_or, set, replicate, refl, sym, ap, ◌∙◌, subst, arith, Contains, get_or-set_same, get_or-set_other}
+use Rattle.std.specs.Prelude.{zero, suc, All, take, sum_by, fold, if◌then◌else◌}
 use Rattle.std.specs.List.{list_all}
 use Rattle.std.proofs.lemmas.Bool.{cases_order, false≢true}
 use Rattle.std.proofs.lemmas.List.{get_or_append_left, get_or_push, get_or_read, length-replicate, length-set, length_push, take-append-le, take_at}
-use Rattle.std.proofs.lemmas.List.Elements.{All-contains, All-from_get_or, Contains-append_left, Contains-get_or, Contains-push, Contains-push_cases}
+use Rattle.std.proofs.lemmas.List.Elements.{All-contains, Contains-append_left, Contains-get_or, Contains-push, Contains-push_cases}
 use Rattle.std.proofs.lemmas.List.Sums.{AllPass-from_list_all, sum_by-set, count_by-le-length}
 use Rattle.sig_clock.specs.ClockRefusals.{IsLeast}
 use Rattle.sig_plan.specs.Order.{IsOrdered, IsReady, Reaches, directly, onward}
-use Rattle.sig_graph.specs.Graphs.{Edge, IsAcyclic, IsFirstOpen, IsOpen, IsTaken, IsWithin, mark_at, marked_count}
+use Rattle.sig_graph.specs.Graphs.{Edge, IsAcyclic, IsOpen, IsTaken, IsWithin, mark_at, marked_count}
 use Rattle.sig_graph.proofs.Lists.{contains_none, failing}
-use Rattle.sig_graph.proofs.Pigeons.{AreTwo, two_are_same}
+use Rattle.sig_graph.proofs.Pigeons.{two_are_same}
 
 pub no_mark : (n k : ℕ) → mark_at (replicate n false) k ≡ false
 no_mark zero k = refl
@@ -102,23 +102,24 @@ module _ (graph : List (List ℕ)) (marks : List Bool) (order : List ℕ) (is : 
       record {
         count = same ∙ count;
         taken = omega (arith, more, longer, taken);
-        marked = λ k.
-            ( (λ marked. elim ((marked_more marks q k lt).0 marked) [ inl before ↦ Contains-append_left order (q ∷ []) k ((is.marked k).0 before) | inr e ↦ subst (Contains (order ++ q ∷ [])) (sym e) (Contains-push order q) ])
-            , (λ there. (marked_more marks q k lt).1 (elim (Contains-push_cases order q k there) [ inl before ↦ inl ((is.marked k).1 before) | inr e ↦ inr (sym e) ])));
+        marked = λ k. (
+          (λ marked. elim ((marked_more marks q k lt).0 marked) [ inl before ↦ Contains-append_left order (q ∷ []) k ((is.marked k).0 before) | inr e ↦ subst (Contains (order ++ q ∷ [])) (sym e) (Contains-push order q) ]),
+          (λ there. (marked_more marks q k lt).1 (elim (Contains-push_cases order q k there) [ inl before ↦ inl ((is.marked k).1 before) | inr e ↦ inr (sym e) ])),
+        );
         each = λ k below. at k below (cases_order k (length order));
       } where
-    at : (k : ℕ) → k < length (order ++ q ∷ []) → ((k ≡ length order) ⊎ ((k < length order) ⊎ (length order < k)))
-        → IsLeast (IsReady (Edge graph) (length graph) (take k (order ++ q ∷ []))) (get_or (order ++ q ∷ []) k 0)
-    at k below (inl e) =
-        let front : take k (order ++ q ∷ []) ≡ order = take_at order (q ∷ []) k (sym e) in
-        let last : get_or (order ++ q ∷ []) k 0 ≡ q = get_or_push order q 0 k (sym e) in
-        let this : IsLeast (IsReady (Edge graph) (length graph) order) q = record { holds = open_is_ready q least.holds; least = λ other ready. least.least other (ready_is_open other ready) } in
-        (λ (taken : List ℕ) (number : ℕ) (a : order ≡ taken) (b : q ≡ number). subst (λ (xs : List ℕ). IsLeast (IsReady (Edge graph) (length graph) xs) number) a (subst (IsLeast (IsReady (Edge graph) (length graph) order)) b this)) _ _ (sym front) (sym last)
-    at k below (inr (inl less)) =
-        let front : take k (order ++ q ∷ []) ≡ take k order = take-append-le k order (q ∷ []) (omega (arith, less)) in
-        let same : get_or (order ++ q ∷ []) k 0 ≡ get_or order k 0 = get_or_append_left order (q ∷ []) 0 k less in
-        (λ (taken : List ℕ) (number : ℕ) (a : take k order ≡ taken) (b : get_or order k 0 ≡ number). subst (λ (xs : List ℕ). IsLeast (IsReady (Edge graph) (length graph) xs) number) a (subst (IsLeast (IsReady (Edge graph) (length graph) (take k order))) b (is.each k less))) _ _ (sym front) (sym same)
-    at k below (inr (inr more)) = absurd (omega (arith, below, more, length_push order q))
+        at : (k : ℕ) → k < length (order ++ q ∷ []) → ((k ≡ length order) ⊎ ((k < length order) ⊎ (length order < k)))
+            → IsLeast (IsReady (Edge graph) (length graph) (take k (order ++ q ∷ []))) (get_or (order ++ q ∷ []) k 0)
+        at k below (inl e) =
+            let front : take k (order ++ q ∷ []) ≡ order = take_at order (q ∷ []) k (sym e) in
+            let last : get_or (order ++ q ∷ []) k 0 ≡ q = get_or_push order q 0 k (sym e) in
+            let this : IsLeast (IsReady (Edge graph) (length graph) order) q = record { holds = open_is_ready q least.holds; least = λ other ready. least.least other (ready_is_open other ready) } in
+            (λ (taken : List ℕ) (number : ℕ) (a : order ≡ taken) (b : q ≡ number). subst (λ (xs : List ℕ). IsLeast (IsReady (Edge graph) (length graph) xs) number) a (subst (IsLeast (IsReady (Edge graph) (length graph) order)) b this)) _ _ (sym front) (sym last)
+        at k below (inr (inl less)) =
+            let front : take k (order ++ q ∷ []) ≡ take k order = take-append-le k order (q ∷ []) (omega (arith, less)) in
+            let same : get_or (order ++ q ∷ []) k 0 ≡ get_or order k 0 = get_or_append_left order (q ∷ []) 0 k less in
+            (λ (taken : List ℕ) (number : ℕ) (a : take k order ≡ taken) (b : get_or order k 0 ≡ number). subst (λ (xs : List ℕ). IsLeast (IsReady (Edge graph) (length graph) xs) number) a (subst (IsLeast (IsReady (Edge graph) (length graph) (take k order))) b (is.each k less))) _ _ (sym front) (sym same)
+        at k below (inr (inr more)) = absurd (omega (arith, below, more, length_push order q))
 
 -- a number that is not marked
 record Unmarked (graph : List (List ℕ)) (marks : List Bool) : Type 0 where
@@ -162,13 +163,13 @@ module _ (graph : List (List ℕ)) (marks : List Bool) (below : IsWithin graph) 
 
   pub all_marked : IsAcyclic graph → (q : ℕ) → q < length graph → mark_at marks q ≡ true
   all_marked acyclic q lt = elim (marked_or_not marks q) [
-      | inl marked ↦ marked
-      | inr unmarked ↦
+    | inl marked ↦ marked
+    | inr unmarked ↦
         let u : Unmarked graph marks = record { number = q; within = lt; left = unmarked } in
         let two = two_are_same (length graph) (number_at u) (λ k less. number_below u k) in
         let back : Reaches (Edge graph) (number_at u two.b) (number_at u two.a) = row_reaches u two.b two.a two.less in
         absurd (acyclic (number_at u two.b) (subst (Reaches (Edge graph) (number_at u two.b)) two.same back))
-    ]
+  ]
 
 all_counted : (marks : List Bool) (a : ℕ) → ((k : ℕ) → k < length marks → mark_at marks k ≡ true) → fold (λ (n : ℕ) (mark : Bool). n + (if mark then 1 else 0)) a marks ≡ a + length marks
 all_counted [] a all = omega arith

@@ -1,6 +1,6 @@
 -- Walks over a graph against its edges.
-use Rattle.std.proofs.Common.{◌≡◌, ◌≢◌, ◌<◌, ◌≤◌, ◌+◌, ◌⊎◌, inl, inr, ◌↔◌, ℕ, Bool, true, false, List, [], ◌∷◌, ◌++◌, length, get_or, set, replicate, refl, sym, ap, ◌∙◌, subst, arith, Contains}
-use Rattle.std.specs.Prelude.{zero, suc, Option, None, Some, slice_get, nat_lt, if◌then◌else◌}
+use Rattle.std.proofs.Common.{◌≡◌, ◌<◌, ◌≤◌, ◌+◌, ◌⊎◌, inl, inr, ℕ, Bool, true, false, List, [], ◌∷◌, ◌++◌, length, get_or, set, replicate, refl, sym, ap, ◌∙◌, subst, arith, Contains}
+use Rattle.std.specs.Prelude.{Option, None, Some, slice_get, nat_lt, if◌then◌else◌}
 use Rattle.std.proofs.lemmas.Bool.{ltb-false, ltb-true}
 use Rattle.sig_base.specs.declared.ids.SigId.{SigId}
 use Rattle.sig_clock.specs.ClockRefusals.{IsLeast}
@@ -9,7 +9,7 @@ use Rattle.std.proofs.lemmas.Bool.{cases_order, false≢true}
 use Rattle.std.proofs.lemmas.List.{length-replicate, length-set, length_push}
 use Rattle.std.proofs.lemmas.List.Elements.{Contains-append_cases, Contains-append_left, Contains-append_right, Contains-push, Contains-push_cases}
 use Rattle.sig_plan.specs.Order.{Reaches, directly, onward}
-use Rattle.sig_graph.specs.Graphs.{Edge, mark_at, marked_count}
+use Rattle.sig_graph.specs.Graphs.{Edge, mark_at}
 use Rattle.sig_graph.specs.Marks.{AreReaching, IsLeastOnCycle, Visits, Walks, WritesOnCycle, lesser}
 use Rattle.sig_graph.proofs.Lists.{contains_none}
 use Rattle.sig_graph.proofs.Takings.{marked_more, marked_within, no_mark, one_marked}
@@ -47,9 +47,10 @@ visits_new n marks waiting lt left =
     let longer = length_push waiting n in
     record {
       count = length-set marks n true;
-      marks = λ k.
-          ( (λ marked. elim ((marked_more marks n k lt).0 marked) [ inl before ↦ inl before | inr e ↦ inr (subst (Contains (n ∷ [])) (sym e) (one_contains n)) ])
-          , (λ cases. (marked_more marks n k lt).1 (elim cases [ inl before ↦ inl before | inr there ↦ inr (contained_in_one n k there) ])));
+      marks = λ k. (
+        (λ marked. elim ((marked_more marks n k lt).0 marked) [ inl before ↦ inl before | inr e ↦ inr (subst (Contains (n ∷ [])) (sym e) (one_contains n)) ]),
+        (λ cases. (marked_more marks n k lt).1 (elim cases [ inl before ↦ inl before | inr there ↦ inr (contained_in_one n k there) ])),
+      );
       waits = λ k marked. elim ((marked_more marks n k lt).0 marked) [ inl before ↦ inl before | inr e ↦ inr (subst (Contains (waiting ++ n ∷ [])) (sym e) (Contains-push waiting n)) ];
       kept = λ k there. Contains-append_left waiting (n ∷ []) k there;
       only = λ k there. Contains-append_cases waiting (n ∷ []) k there;
@@ -62,24 +63,25 @@ visits_then xs ys a b d p q r first second =
     let y = second.balance in
     record {
       count = second.count ∙ first.count;
-      marks = λ k.
-          ( (λ is. elim ((second.marks k).0 is) [
-              | inl before ↦ elim ((first.marks k).0 before) [ inl earlier ↦ inl earlier | inr there ↦ inr (Contains-append_left xs ys k there) ]
-              | inr there ↦ inr (Contains-append_right xs ys k there)
-            ])
-          , (λ cases. (second.marks k).1 (elim cases [
-              | inl earlier ↦ inl ((first.marks k).1 (inl earlier))
-              | inr there ↦ elim (Contains-append_cases xs ys k there) [ inl in_xs ↦ inl ((first.marks k).1 (inr in_xs)) | inr in_ys ↦ inr in_ys ]
-            ])));
+      marks = λ k. (
+        (λ is. elim ((second.marks k).0 is) [
+          | inl before ↦ elim ((first.marks k).0 before) [ inl earlier ↦ inl earlier | inr there ↦ inr (Contains-append_left xs ys k there) ]
+          | inr there ↦ inr (Contains-append_right xs ys k there)
+        ]),
+        (λ cases. (second.marks k).1 (elim cases [
+          | inl earlier ↦ inl ((first.marks k).1 (inl earlier))
+          | inr there ↦ elim (Contains-append_cases xs ys k there) [ inl in_xs ↦ inl ((first.marks k).1 (inr in_xs)) | inr in_ys ↦ inr in_ys ]
+        ])),
+      );
       waits = λ k is. elim (second.waits k is) [
-          | inl before ↦ elim (first.waits k before) [ inl earlier ↦ inl earlier | inr there ↦ inr (second.kept k there) ]
-          | inr there ↦ inr there
-        ];
+        | inl before ↦ elim (first.waits k before) [ inl earlier ↦ inl earlier | inr there ↦ inr (second.kept k there) ]
+        | inr there ↦ inr there
+      ];
       kept = λ k there. second.kept k (first.kept k there);
       only = λ k there. elim (second.only k there) [
-          | inl before ↦ elim (first.only k before) [ inl earlier ↦ inl earlier | inr in_xs ↦ inr (Contains-append_left xs ys k in_xs) ]
-          | inr in_ys ↦ inr (Contains-append_right xs ys k in_ys)
-        ];
+        | inl before ↦ elim (first.only k before) [ inl earlier ↦ inl earlier | inr in_xs ↦ inr (Contains-append_left xs ys k in_xs) ]
+        | inr in_ys ↦ inr (Contains-append_right xs ys k in_ys)
+      ];
       balance = omega (arith, x, y);
     }
 
@@ -105,19 +107,19 @@ module _ (graph : List (List ℕ)) (target : ℕ) where
         sound = λ k marked. elim ((visits.marks k).0 marked) [ inl before ↦ walks.sound k before | inr edge ↦ onward k j target edge at_j ];
         first = λ p edge. stays p (walks.first p edge);
         closed = λ k marked. elim (visits.waits k marked) [
-            | inl before ↦ elim (walks.closed k before) [
-                | inl waited ↦ elim (split k waited) [
-                    | inl in_rest ↦ inl (visits.kept k in_rest)
-                    | inr e ↦ inr (λ p edge. (visits.marks p).1 (inr (subst (λ (m : ℕ). Edge graph p m) (sym e) edge)))
-                  ]
-                | inr done ↦ inr (λ p edge. stays p (done p edge))
-              ]
-            | inr there ↦ inl there
-          ];
+          | inl before ↦ elim (walks.closed k before) [
+            | inl waited ↦ elim (split k waited) [
+              | inl in_rest ↦ inl (visits.kept k in_rest)
+              | inr e ↦ inr (λ p edge. (visits.marks p).1 (inr (subst (λ (m : ℕ). Edge graph p m) (sym e) edge)))
+            ]
+            | inr done ↦ inr (λ p edge. stays p (done p edge))
+          ]
+          | inr there ↦ inl there
+        ];
         only = λ k there. (visits.marks k).1 (elim (visits.only k there) [
-            | inl before ↦ inl (walks.only k (subst (λ (xs : List ℕ). Contains xs k) (sym is) (Contains-append_left rest (j ∷ []) k before)))
-            | inr edge ↦ inr edge
-          ]);
+          | inl before ↦ inl (walks.only k (subst (λ (xs : List ℕ). Contains xs k) (sym is) (Contains-append_left rest (j ∷ []) k before)))
+          | inr edge ↦ inr edge
+        ]);
       }
 
 -- what reaches the target is marked, where what precedes it and what precedes a marked number is
@@ -129,9 +131,10 @@ reaching_marked R marks _ _ (onward i j t edge rest) first closed = closed j (re
 pub walk_ends : (graph : List (List ℕ)) (target : ℕ) (marks : List Bool) → Walks graph target marks [] → AreReaching graph target marks
 walk_ends graph target marks walks = record {
   count = walks.count;
-  exact = λ k.
-      ( walks.sound k
-      , (λ reaches. reaching_marked (Edge graph) marks k target reaches walks.first (λ j marked p edge. elim (walks.closed j marked) [ inl there ↦ absurd (contains_none j there) | inr done ↦ done p edge ])));
+  exact = λ k. (
+    walks.sound k,
+    (λ reaches. reaching_marked (Edge graph) marks k target reaches walks.first (λ j marked p edge. elim (walks.closed j marked) [ inl there ↦ absurd (contains_none j there) | inr done ↦ done p edge ])),
+  );
 }
 
 pub visits_as : (xs ys : List ℕ) (a b d : List Bool) (p q r : List ℕ) → xs ≡ ys → a ≡ b → p ≡ q → Visits xs a d p r → Visits ys b d q r

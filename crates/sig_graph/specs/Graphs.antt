@@ -1,13 +1,10 @@
 -- Graphs on the numbers below a count: to each number the list of those that precede it.
-use Rattle.std.specs.Prelude.{◌≡◌, ◌<◌, ◌↔◌, ℕ, Bool, true, false, List, [], ◌∷◌, ◌++◌, length, map, slice_get, slice_index_or, slice_index, take, count_by, Option, None, Some, Contains}
-use Rattle.sig_base.specs.declared.ids.OpId.{OpId}
+use Rattle.std.specs.Prelude.{◌≡◌, ◌<◌, ◌↔◌, ℕ, Bool, true, false, List, [], ◌∷◌, ◌++◌, length, slice_get, slice_index_or, slice_index, take, count_by, Option, None, Some, Contains}
 use Rattle.sig_base.specs.declared.ids.SigId.{SigId}
 use Rattle.sig_clock.specs.ClockRefusals.{IsLeast}
-use Rattle.sig_dd.specs.Nodes.{Holds}
 use Rattle.sig_dd.specs.declared.node.Node.{Node}
 use Rattle.sig_plan.specs.Operations.{operation_in}
 use Rattle.sig_plan.specs.Order.{ComesBefore, IsReady, Reaches}
-use Rattle.sig_plan.specs.Plans.{numbers_of}
 use Rattle.sig_plan.specs.declared.op.Op.{Op}
 
 -- p precedes q

@@ -1,5 +1,5 @@
 -- What a walk over a graph marks.
-use Rattle.std.specs.Prelude.{◌≡◌, ◌<◌, ◌+◌, ◌⊎◌, ◌↔◌, ℕ, Bool, true, List, [], length, slice_get, slice_index_or, Option, None, Some, Contains, nat_lt, if◌then◌else◌}
+use Rattle.std.specs.Prelude.{◌≡◌, ◌<◌, ◌+◌, ◌⊎◌, ◌↔◌, ℕ, Bool, true, List, length, slice_get, Option, None, Some, Contains, nat_lt, if◌then◌else◌}
 use Rattle.sig_base.specs.declared.ids.SigId.{SigId}
 use Rattle.sig_clock.specs.ClockRefusals.{IsLeast}
 use Rattle.sig_graph.specs.Graphs.{Edge, mark_at, marked_count}

@@ -71,7 +71,11 @@ fn predecessors_of(
     let needs = needed_by(alloc, q, clocks, store)?;
     let mut list = Vec::new(alloc);
     for (number, p) in ops.iter().enumerate() {
-        add(&mut list, number, comes_before(p, q, needs.as_slice(), store)?)?;
+        add(
+            &mut list,
+            number,
+            comes_before(p, q, needs.as_slice(), store)?,
+        )?;
     }
     Ok(Predecessors { list })
 }
@@ -93,11 +97,7 @@ fn needed_by(alloc: Global, q: &Op, clocks: &Clocks, store: &Store) -> Result<Ve
         ↔ Needs clocks.now.conditions (operation_in store.now.nodes q.now) x) }
 {
     let variables = store.support(q.guard)?;
-    Ok(conditions_at(
-        alloc,
-        clocks.conditions.as_slice(),
-        variables.as_slice(),
-    )?)
+    Ok(conditions_at(alloc, clocks.conditions.as_slice(), variables.as_slice())?)
 }
 
 /// The conditions for which variables stand.

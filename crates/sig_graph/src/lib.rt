@@ -11,4 +11,3 @@ mod taking;
 
 pub use answer::GraphAnswer;
 pub use orders::order;
-

@@ -1,9 +1,9 @@
-use Rattle.std.proofs.Common.{◌≡◌, ◌<◌, ◌∷◌, [], ◌∙◌, ℕ, Bool, List, sym, ap, subst, length, refl, false, Contains}
+use Rattle.std.proofs.Common.{◌≡◌, ◌<◌, ◌∙◌, ℕ, Bool, List, sym, ap, subst, length, refl, false, Contains, rules}
 use Rattle.std.specs.Prelude.{All}
-use Rattle.std.proofs.lemmas.List.{length-replicate}
+use Rattle.std.proofs.lemmas.List.{length-replicate, nil_from_length}
 use Rattle.std.proofs.lemmas.List.Elements.{Contains-push}
 use Rattle.sig_clock.proofs.Lists.{written}
-use Rattle.sig_graph.specs.Marks.{AreReaching, Walks}
+use Rattle.sig_graph.specs.Marks.{Walks}
 use Rattle.sig_graph.proofs.Takings.{edges_below, edges_read}
 use Rattle.sig_graph.proofs.Walking.{visits_as, waiting_below, walk_begins, walk_ends, walk_goes_on}
 use Rattle.sig_graph.proofs.cycles.reaching.Goals as goal
@@ -31,7 +31,9 @@ pub bounds-graph-number : goal.bounds-graph-number
 bounds-graph-number c = waiting_below c.args.graph.now c.args.target c.loop-number.marks.items c.loop-number.waiting.items c.in-Some.number c.loop-number.invariant (waits c)
 
 pub offset_bounds-graph-number : goal.offset_bounds-graph-number
-offset_bounds-graph-number c = ?
+offset_bounds-graph-number c =
+    let lt : c.in-Some.number < length c.args.graph.now = waiting_below c.args.graph.now c.args.target c.loop-number.marks.items c.loop-number.waiting.items c.in-Some.number c.loop-number.invariant (waits c) in
+    search rules
 
 pub visit-requires-in-Some : goal.visit-requires-in-Some
 visit-requires-in-Some c =
@@ -53,4 +55,6 @@ loop-number-preserved c =
     (visits_as _ _ _ _ c.visit-in-Some.new.marks _ _ c.visit-in-Some.new.waiting.items (c.as_slice-in-Some.ensures ∙ edges_read graph c.in-Some.number c.index-graph-number.result lt c.index-graph-number.is) value refl visits))
 
 pub returns : goal.returns
-returns c = walk_ends c.args.graph.now c.args.target c.loop-number.marks.items (subst (Walks c.args.graph.now c.args.target c.loop-number.marks.items) ? c.loop-number.invariant)
+returns c =
+    let none = nil_from_length c.loop-number.waiting.items (sym c.loop-number.waiting.ok.0 ∙ c.in_default.ensures.cases.0) in
+    walk_ends c.args.graph.now c.args.target c.loop-number.marks.items (subst (Walks c.args.graph.now c.args.target c.loop-number.marks.items) none c.loop-number.invariant)

@@ -1,4 +1,4 @@
-use Rattle.std.proofs.Common.{◌≡◌, List, sym, subst, Contains, ◌↔◌}
+use Rattle.std.proofs.Common.{List, sym, subst, Contains, ◌↔◌}
 use Rattle.sig_base.specs.declared.ids.SigId.{SigId}
 use Rattle.sig_plan.specs.Operations.{operation_in}
 use Rattle.sig_plan.specs.Order.{Needs}

@@ -1,4 +1,4 @@
-use Rattle.std.proofs.Common.{below_more, sym, ◌∙◌, subst, ◌<◌, ℕ, length}
+use Rattle.std.proofs.Common.{below_more, sym, ◌∙◌, subst, ◌<◌, ℕ}
 use Rattle.std.specs.Prelude.{All}
 use Rattle.sig_graph.proofs.Takings.{edges_below, not_open_bound, not_open_taken}
 use Rattle.sig_graph.proofs.taking.first_open.Goals as goal

@@ -1,9 +1,9 @@
-use Rattle.std.proofs.Common.{◌≡◌, ◌<◌, ◌∷◌, [], ◌++◌, ◌∙◌, ℕ, Bool, List, sym, ap, subst, length, set, true, arith}
-use Rattle.std.specs.Prelude.{vec_len, Some}
+use Rattle.std.proofs.Common.{◌≡◌, ◌∷◌, [], ◌∙◌, ℕ, Bool, List, sym, ap, subst, length, set, true, arith, rules}
+use Rattle.std.specs.Prelude.{vec_len}
 use Rattle.std.proofs.lemmas.List.{length-map, map-append}
 use Rattle.sig_base.specs.declared.ids.OpId.{OpId}
 use Rattle.sig_clock.specs.ClockRefusals.{IsLeast}
-use Rattle.sig_graph.specs.Graphs.{IsFirstOpen, IsOpen, IsTaken}
+use Rattle.sig_graph.specs.Graphs.{IsOpen, IsTaken}
 use Rattle.sig_plan.specs.Plans.{numbers_of}
 use Rattle.sig_graph.proofs.Takings.{room_left, taking_ends, taking_goes_on}
 use Rattle.sig_graph.proofs.taking.take_all.Goals as goal
@@ -15,7 +15,7 @@ loop-number-smaller c =
     let room = room_left graph c.loop-number.taken.items (numbers_of c.loop-number.order.items) c.loop-number.invariant c.in-Some.number least in
     let count = length-map c.loop-number.order.items (λ (op : OpId). op.0) in
     let more = c.in_ok-push.ensures.len in
-    let whole : vec_len c.loop-number.order ≡ length c.loop-number.order.items = ? in
+    let whole : vec_len c.loop-number.order ≡ length c.loop-number.order.items = search rules in
     omega (arith, room, count, more, whole)
 
 pub loop-number-preserved : goal.loop-number-preserved
