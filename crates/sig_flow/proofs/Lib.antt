@@ -6,6 +6,7 @@ mod FlowLemmas
 pub mod InputLemmas
 mod LineWords
 mod Numerals
+mod ShortNumbers
 mod StarLemmas
 mod TakenPieces
 pub mod ThreeNames
