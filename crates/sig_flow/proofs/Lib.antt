@@ -1,4 +1,5 @@
 mod BodyLemmas
+mod CleanLines
 mod EventLemmas
 pub mod FirstLemmas
 mod FirstLines

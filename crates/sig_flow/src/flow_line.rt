@@ -29,6 +29,8 @@ pub struct Context {
 }
 
 /// Appends the values of a line to the flow of its input, and answers the number of all values so far.
+/// A line whose words are good holds no other bytes than a line may, so only one with a fault is
+/// looked at for them.
 pub fn read_line(
     line: &[u8],
     context: Context,
@@ -48,12 +50,13 @@ pub fn read_line(
     ensures fault { IfErr result (λ answer. (answer ≡ OutOfMemory)
         ⊎ (text_fault context.version inputs.now context.number context.before line.now ≡ Some answer)) }
 {
-    if !is_clean(line) {
-        return Err(FlowAnswer::BadLine(context.number));
-    }
-    match next_word(line, 1) {
-        Some(name) => read_words(name, context, inputs, flows),
-        None => Ok(context.before),
+    let Some(name) = next_word(line, 1) else {
+        return Ok(context.before);
+    };
+    match read_words(name, context, inputs, flows) {
+        Ok(count) => Ok(count),
+        Err(fault) if is_clean(line) => Err(fault),
+        Err(_) => Err(FlowAnswer::BadLine(context.number)),
     }
 }
 
