@@ -1,0 +1,6 @@
+//! The clocks of a kernel, or the first reason why it has none. It stands on sig_clock, whose
+//! definitions these are, on sig_rel, whose relation is one diagram of the abstract reactions, and
+//! on sig_dd.
+#![tactic(auto)]
+
+mod parts;
