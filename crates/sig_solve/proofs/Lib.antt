@@ -1,3 +1,4 @@
+pub mod ListLemmas
 pub mod TruthLemmas
 pub mod StoreLemmas
 pub mod PartLemmas

@@ -3,4 +3,5 @@
 //! on sig_dd.
 #![tactic(auto)]
 
+mod frame;
 mod parts;
