@@ -2,3 +2,4 @@ pub mod ListLemmas
 pub mod TruthLemmas
 pub mod StoreLemmas
 pub mod PartLemmas
+pub mod ReactionLemmas

@@ -1,7 +1,7 @@
 -- Lemmas on lists: what a filter keeps, and one more element.
 use Rattle.std.proofs.Common.{◌≡◌, ◌≢◌, ◌<◌, ◌≤◌, ◌+◌, ◌⊎◌, ◌↔◌, inl, inr, ℕ, Bool, true, false, cond, eqb, List, [], ◌∷◌, ◌++◌, length, map, get_or, take, refl, sym, ap, ◌∙◌, subst, arith, Contains}
-use Rattle.std.specs.Prelude.{zero, suc, filter, Option, None, Some, slice_get}
-use Rattle.std.specs.List.{range_with_len}
+use Rattle.std.specs.Prelude.{zero, suc, filter, Option, None, Some, slice_get, ◌||◌}
+use Rattle.std.specs.List.{list_any, range_with_len}
 use Rattle.std.proofs.lemmas.Bool.{cases_eq, eqb-true, false≢true}
 use Rattle.std.proofs.lemmas.List.{append-nil, map-append, take_more}
 use Rattle.std.proofs.lemmas.List.Elements.{filter-append}
@@ -131,3 +131,36 @@ apart-eqb a b apart = by (eqb a b) refl where
 pub is_none : {X : Type 0} (o : Option X) → ((x : X) → o ≡ Some x → ⊥) → o ≡ None
 is_none None not = refl
 is_none (Some x) not = absurd (not x refl)
+
+pub get_at : {X : Type 0} (xs : List X) (k : ℕ) (d : X) → k < length xs → slice_get xs k ≡ Some (get_or xs k d)
+get_at [] k d lt = absurd (omega (arith, lt))
+get_at (x ∷ xs) zero d lt = refl
+get_at (x ∷ xs) (suc k) d lt = get_at xs k d (omega (arith, lt))
+
+pub get_within : {X : Type 0} (xs : List X) (k : ℕ) (x : X) → slice_get xs k ≡ Some x → k < length xs
+get_within [] k x is = cc
+get_within (y ∷ xs) zero x is = omega arith
+get_within (y ∷ xs) (suc k) x is = omega (arith, get_within xs k x is)
+
+pub get_is : {X : Type 0} (xs : List X) (k : ℕ) (x d : X) → slice_get xs k ≡ Some x → get_or xs k d ≡ x
+get_is xs k x d is = let e : Some (get_or xs k d) ≡ Some x = sym (get_at xs k d (get_within xs k x is)) ∙ is in cc
+
+pub contains_get : {X : Type 0} (xs : List X) (k : ℕ) (x : X) → slice_get xs k ≡ Some x → Contains xs x
+contains_get xs k x is = (k, get_within xs k x is, get_is xs k x x is)
+
+pub any_is : {X : Type 0} (p : X → Bool) (xs : List X) → list_any p xs ≡ true → (x : X) × Contains xs x × (p x ≡ true)
+any_is p [] is = absurd (false≢true is)
+any_is p (x ∷ xs) is = by (p x) refl is (λ later. any_is p xs later) where
+  by : (b : Bool) → p x ≡ b → (b || list_any p xs) ≡ true → (list_any p xs ≡ true → (y : _) × Contains xs y × (p y ≡ true)) → (y : _) × Contains (x ∷ xs) y × (p y ≡ true)
+  by true e or rest = (x, contains_head x xs, e)
+  by false e or rest = let at = rest or in (at.0, contains_later x at.0 xs at.1, at.2)
+
+pub is_any : {X : Type 0} (p : X → Bool) (xs : List X) (x : X) → Contains xs x → p x ≡ true → list_any p xs ≡ true
+is_any p [] x there is = absurd (contains_none x there)
+is_any p (y ∷ xs) x there is = elim (contains_cons y x xs there) [
+  | inl e ↦ ap (λ b. b || list_any p xs) (ap p (sym e) ∙ is)
+  | inr later ↦ ap (λ b. p y || b) (is_any p xs x later is) ∙ or_true (p y)
+] where
+  or_true : (b : Bool) → (b || true) ≡ true
+  or_true true = refl
+  or_true false = refl

@@ -12,7 +12,7 @@ use Rattle.sig_dd.proofs.Adding.{Share-none, Share-then, Share-wider}
 use Rattle.sig_dd.proofs.CallerLemmas.{Agree-kept, Holds-kept, Spans-kept, Spans-of}
 use Rattle.sig_dd.proofs.Dependence.{forgotten, ref_depends, some_truth, truth_some, variable_depends}
 use Rattle.sig_dd.proofs.Trees.{value_at-same}
-use Rattle.sig_solve.specs.Parts.{AgreeOutside, Exceeds, IsForgotten, IsNarrowed, IsWhere}
+use Rattle.sig_solve.specs.Parts.{AgreeOutside, Exceeds, IsForgotten, IsNarrowed, IsShadow, IsWhere}
 use Rattle.sig_solve.proofs.StoreLemmas.{more_calls, older_test}
 use Rattle.sig_solve.proofs.TruthLemmas.{contains_end, outside_fewer, outside_more, outside_none}
 
@@ -85,3 +85,18 @@ forget_share old mid new f g xs vs k why lt so_far spans has before call =
     let sum : 3 * k + 3 ≡ 3 * (k + 1) = omega arith in
     subst (λ n. Share n vs old new why) sum
     (Share-then old mid new (3 * k) 3 vs why before (call.over vs ((λ v d. spans v (so_far.depends v d).0), tt) (has_at vs xs k has lt, tt)))
+
+module _ (old mid new : StoreView) (f g : Ref) (v : ℕ) (truth : Bool) (forgotten : List ℕ) (part : IsNarrowed old.nodes mid.nodes f v truth g) where
+  shaded : (r : Ref) → IsForgotten mid.nodes new.nodes g forgotten r → IsShadow old.nodes new.nodes f v truth forgotten r
+  shaded r left = record {
+    held = left.held;
+    function = λ ts. (
+      (λ t. let w = (left.function ts).0 t in let both = (part.function w.0).0 w.2 in (w.0, w.1, both.0, both.1)),
+      (λ w. (left.function ts).1 (w.0, w.1, (part.function w.0).1 (w.2, w.3))));
+    spans = λ vs spans has u d. part.spans vs spans has u (left.depends u d).0;
+    without = λ u d. (left.depends u d).1;
+  }
+
+  pub shaded_ok : (result : Result Ref DdAnswer) → IfOk result (IsForgotten mid.nodes new.nodes g forgotten) → IfOk result (IsShadow old.nodes new.nodes f v truth forgotten)
+  shaded_ok (Ok r) left = shaded r left
+  shaded_ok (Err e) left = tt

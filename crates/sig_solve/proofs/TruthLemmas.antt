@@ -48,3 +48,23 @@ outside_fewer xs v a b agree u out = by (cases_eq u v) where
   by : ((u ≡ v) ⊎ (u ≢ v)) → truth_of (with_truth a v (truth_of b v)) u ≡ truth_of b u
   by (inl e) = subst (λ w. truth_of (with_truth a v (truth_of b v)) w ≡ truth_of b w) (sym e) (truth_of-with_same a v (truth_of b v))
   by (inr ne) = truth_of-with_other a v (truth_of b v) u ne ∙ agree u (λ there. elim (contains_end xs v u there) [ inl in_xs ↦ out in_xs | inr e ↦ ne e ])
+
+-- truths that are those of one list at some variables, and of another one elsewhere
+pub mixed : List ℕ → List Bool → List Bool → List Bool
+mixed [] at a = a
+mixed (v ∷ vs) at a = with_truth (mixed vs at a) v (truth_of at v)
+
+pub mixed_at : (vs : List ℕ) (at a : List Bool) (u : ℕ) → Contains vs u → truth_of (mixed vs at a) u ≡ truth_of at u
+unfolding mixed
+mixed_at [] at a u there = absurd (contains_none u there)
+mixed_at (v ∷ vs) at a u there = elim (cases_eq u v) [
+  | inl e ↦ subst (λ w. truth_of (with_truth (mixed vs at a) v (truth_of at v)) w ≡ truth_of at w) (sym e) (truth_of-with_same (mixed vs at a) v (truth_of at v))
+  | inr ne ↦ truth_of-with_other (mixed vs at a) v (truth_of at v) u ne ∙ elim (contains_cons v u vs there) [ inl e ↦ absurd (ne e) | inr later ↦ mixed_at vs at a u later ]
+]
+
+pub mixed_outside : (vs : List ℕ) (at a : List Bool) → AgreeOutside vs a (mixed vs at a)
+unfolding mixed
+mixed_outside [] at a u out = refl
+mixed_outside (v ∷ vs) at a u out =
+    let ne : u ≢ v = λ e. out (subst (λ w. Contains (v ∷ vs) w) (sym e) (contains_head v vs)) in
+    mixed_outside vs at a u (λ there. out (contains_later v u vs there)) ∙ sym (truth_of-with_other (mixed vs at a) v (truth_of at v) u ne)

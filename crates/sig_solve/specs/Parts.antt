@@ -30,3 +30,11 @@ pub record IsForgotten (old new : List Node) (f : Ref) (forgotten : List ℕ) (r
 -- some truths make f true and g false
 abbrev pub Exceeds : List Node → Ref → Ref → Type 0
 Exceeds nodes f g = (truths : List Bool) × IsTrue (test nodes f truths) × (test nodes g truths ≡ false)
+
+-- r stands in the new nodes for f where the variable has the truth, with variables forgotten
+pub record IsShadow (old new : List Node) (f : Ref) (v : ℕ) (truth : Bool) (forgotten : List ℕ) (r : Ref) : Type 0 where
+  pub held : Holds new r
+  pub function : (truths : List Bool) → IsTrue (test new r truths)
+      ↔ ((other : List Bool) × AgreeOutside forgotten truths other × IsTrue (test old f other) × (truth_of other v ≡ truth))
+  pub spans : (vs : List ℕ) → Spans old f vs → Contains vs v → Spans new r vs
+  pub without : (u : ℕ) → Depends (test new r) u → Contains forgotten u → ⊥

@@ -4,4 +4,5 @@
 #![tactic(auto)]
 
 mod frame;
+mod known;
 mod parts;

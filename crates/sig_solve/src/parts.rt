@@ -1,10 +1,10 @@
 //! Parts of a function of unknowns: where a variable has a truth, where another function is false,
 //! and what is left where variables are forgotten.
 
-ghost use Rattle.std.specs.Prelude.{◌≡◌, ◌*◌, ◌↔◌, ℕ, List, [], ◌∷◌, length, IfOk, IsTrue, true, false, Contains};
+ghost use Rattle.std.specs.Prelude.{◌≡◌, ◌+◌, ◌*◌, ◌↔◌, ℕ, List, [], ◌∷◌, length, IfOk, IsTrue, true, false, Contains};
 ghost use Rattle.sig_dd.specs.Nodes.{Holds, IsStore, Keeps, Spans, test};
 ghost use Rattle.sig_dd.specs.Shares.{HasAll, Share, Shares, refusal};
-ghost use Rattle.sig_solve.specs.Parts.{Exceeds, IsForgotten, IsNarrowed, IsWhere};
+ghost use Rattle.sig_solve.specs.Parts.{Exceeds, IsForgotten, IsNarrowed, IsShadow, IsWhere};
 
 use sig_dd::{DdAnswer, Ref, Store};
 
@@ -67,4 +67,23 @@ pub(crate) fn exceeds(store: &mut Store, f: Ref, g: Ref) -> Result<bool, DdAnswe
 {
     let rest = store.negate(g)?;
     store.overlap(f, rest)
+}
+
+/// The part of a function where the variable has the truth, with variables forgotten.
+pub(crate) fn shadow(
+    store: &mut Store,
+    f: Ref,
+    v: u32,
+    truth: bool,
+    forgotten: &[u32],
+) -> Result<Ref, DdAnswer>
+    requires { Holds store.old.nodes f }
+    ensures store { IsStore store.new }
+    ensures kept { Keeps store.old store.new }
+    ensures value { IfOk result (IsShadow store.old.nodes store.new.nodes f v truth forgotten.now) }
+    ensures share { (vs : List ℕ) → Spans store.old.nodes f vs → Contains vs v → HasAll vs forgotten.now
+        → Share (2 + 3 * length forgotten.now) vs store.old store.new (refusal result) }
+{
+    let part = narrow(store, f, v, truth)?;
+    forget(store, part, forgotten)
 }
