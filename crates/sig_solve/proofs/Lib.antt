@@ -3,3 +3,5 @@ pub mod TruthLemmas
 pub mod StoreLemmas
 pub mod PartLemmas
 pub mod ReactionLemmas
+pub mod FrameLemmas
+pub mod SetLemmas

@@ -169,8 +169,8 @@ module _ (kernel : Kernel) (count : ℕ) (relation : RelationView) (unknowns : L
       truth_same (Some w) is there = same_truth_where s w lt is there
 
     -- some truths are the second reaction, and differ from the first truths in no unknown that is not forgotten
-    pub lift : (reaction_in (lifted a b) relation.present relation.truth ≡ reaction_in b relation.present relation.truth) × AgreeOutside (others_of relation unknowns known) a (lifted a b)
-    lift = (reaction_same (lifted a b) b relation.present relation.truth (λ s lt lt'. same_status_lifted s (omega (arith, lt, are.presences))), mixed_outside (others_of relation unknowns known) b a)
+    pub lift : (at : List Bool) × AgreeOutside (others_of relation unknowns known) a at × (reaction_in at relation.present relation.truth ≡ reaction_in b relation.present relation.truth)
+    lift = (lifted a b, mixed_outside (others_of relation unknowns known) b a, reaction_same (lifted a b) b relation.present relation.truth (λ s lt lt'. same_status_lifted s (omega (arith, lt, are.presences))))
 
   known_kept : (c v : ℕ) → c < length kernel.signals → Contains known (signal_id c) → Contains (others_of relation unknowns known) v → (get_or relation.present c 0 ≡ v) ⊎ (get_or relation.truth c None ≡ Some v) → ⊥
   known_kept c v lt there out is =

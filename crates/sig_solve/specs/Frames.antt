@@ -3,10 +3,11 @@ use Rattle.std.specs.Prelude.{◌≡◌, ◌==◌, ◌++◌, ◌||◌, ℕ, Bool
 use Rattle.std.specs.List.{list_any, range_with_len}
 use Rattle.sig_base.specs.declared.ids.SigId.{SigId}
 use Rattle.sig_clock.specs.Conditions.{signal_id}
+use Rattle.sig_clock.specs.Reactions.{Reaction, IsReaction}
 use Rattle.sig_clock.specs.SameClocks.{AreLeast}
 use Rattle.sig_dd.specs.declared.node.Node.{Node}
 use Rattle.sig_kernel.specs.Validity.{IsValid}
-use Rattle.sig_rel.specs.Relations.{IsRelation, RelationView}
+use Rattle.sig_rel.specs.Relations.{IsRelation, RelationView, reaction_in}
 use Rattle.sig_solve.specs.declared.frame.Frame.{Frame}
 
 -- the signals that are the least of their class
@@ -31,6 +32,9 @@ pub record IsFrameIn (nodes : List Node) (frame : Frame) : Type 0 where
   pub valid : IsValid frame.kernel.now
   pub count : ℕ
   pub relation : IsRelation frame.kernel.now count nodes frame.relation
+  -- each abstract reaction is that of some truths
+  pub every : (reaction : Reaction) → IsReaction frame.kernel.now reaction
+      → (truths : List Bool) × (reaction_in truths frame.relation.present frame.relation.truth ≡ reaction)
 
 abbrev pub is_variable : ℕ → Option ℕ → Bool
 is_variable v None = false

@@ -8,6 +8,7 @@ use Rattle.sig_dd.specs.declared.node.Node.{Node}
 use Rattle.sig_dd.specs.declared.node.Ref.{Ref}
 use Rattle.sig_rel.specs.Relations.{reaction_in}
 use Rattle.sig_solve.specs.Frames.{others_of}
+use Rattle.sig_solve.specs.Parts.{AgreeOutside}
 use Rattle.sig_solve.specs.declared.frame.Frame.{Frame}
 use Rattle.sig_solve.specs.declared.known.Known.{Known}
 
@@ -25,3 +26,9 @@ pub record IsPart (nodes : List Node) (frame : Frame) (P : Reaction → Type 0) 
 pub record AreKnown (frame : Frame) (known : Known) : Type 0 where
   pub conditions : (c : SigId) → Contains known.conditions.items c → is_condition frame.kernel.now c.0 ≡ true
   pub others : known.others.items ≡ others_of frame.relation frame.unknowns.items known.conditions.items
+
+-- a function of the unknowns is true exactly of the truths that agree, but in unknowns that tell nothing of known
+-- conditions, with those of some reaction of which a statement holds
+pub record IsImage (nodes : List Node) (frame : Frame) (known : Known) (P : Reaction → Type 0) (r : Ref) : Type 0 where
+  pub held : Holds nodes r
+  pub reactions : (truths : List Bool) → IsTrue (test nodes r truths) ↔ ((other : List Bool) × AgreeOutside known.others.items truths other × P (reaction_of frame other))
