@@ -5,3 +5,4 @@ pub mod PartLemmas
 pub mod ReactionLemmas
 pub mod FrameLemmas
 pub mod SetLemmas
+pub mod RootLemmas

@@ -3,11 +3,11 @@ use Rattle.std.specs.Prelude.{◌≡◌, ◌↔◌, Bool, true, List, IsTrue, Co
 use Rattle.sig_base.specs.declared.ids.SigId.{SigId}
 use Rattle.sig_clock.specs.Conditions.{is_condition}
 use Rattle.sig_clock.specs.Reactions.{Reaction, IsReaction}
-use Rattle.sig_dd.specs.Nodes.{Holds, Spans, test}
+use Rattle.sig_dd.specs.Nodes.{Holds, IsStore, Spans, StoreView, test}
 use Rattle.sig_dd.specs.declared.node.Node.{Node}
 use Rattle.sig_dd.specs.declared.node.Ref.{Ref}
 use Rattle.sig_rel.specs.Relations.{reaction_in}
-use Rattle.sig_solve.specs.Frames.{others_of}
+use Rattle.sig_solve.specs.Frames.{IsFrameIn, others_of}
 use Rattle.sig_solve.specs.Parts.{AgreeOutside}
 use Rattle.sig_solve.specs.declared.frame.Frame.{Frame}
 use Rattle.sig_solve.specs.declared.known.Known.{Known}
@@ -32,3 +32,8 @@ pub record AreKnown (frame : Frame) (known : Known) : Type 0 where
 pub record IsImage (nodes : List Node) (frame : Frame) (known : Known) (P : Reaction → Type 0) (r : Ref) : Type 0 where
   pub held : Holds nodes r
   pub reactions : (truths : List Bool) → IsTrue (test nodes r truths) ↔ ((other : List Bool) × AgreeOutside known.others.items truths other × P (reaction_of frame other))
+
+-- the store has the relation of a frame
+pub record IsReady (store : StoreView) (frame : Frame) : Type 0 where
+  pub has_store : IsStore store
+  pub has_frame : IsFrameIn store.nodes frame

@@ -5,6 +5,7 @@ ghost use Rattle.sig_kernel.specs.Validity.{IsValid};
 ghost use Rattle.sig_solve.specs.Frames.{IsFrame, leaders_of, truths_among};
 
 use sig_clock::{ClockBase, same_clock};
+use sig_dd::Ref;
 use sig_kernel::Kernel;
 use sig_rel::Relation;
 use std::alloc::{AllocError, Global};
@@ -18,6 +19,24 @@ pub(crate) struct Frame<'a> {
     pub(crate) least: Vec<u32>,
     pub(crate) leaders: Vec<u32>,
     pub(crate) unknowns: Vec<u32>,
+}
+
+impl Frame<'_> {
+    /// The relation.
+    pub(crate) fn whole(&self) -> Ref
+        ensures { result ≡ self.now.relation.whole }
+    {
+        self.relation.whole
+    }
+
+    /// The unknown of a signal's presence.
+    pub(crate) fn presence(&self, signal: u32) -> u32
+        requires { signal < length self.now.relation.present }
+        ensures { result ≡ slice_index self.now.relation.present signal }
+    {
+        let present = self.relation.present.as_slice();
+        present[signal as usize]
+    }
 }
 
 /// The frame of a kernel and its relation.

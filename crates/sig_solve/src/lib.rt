@@ -6,3 +6,4 @@
 mod frame;
 mod known;
 mod parts;
+mod roots;

@@ -22,7 +22,7 @@ pub(crate) fn narrow(store: &mut Store, f: Ref, v: u32, truth: bool) -> Result<R
 }
 
 /// The part of a function where another one has the truth.
-fn where_it_is(store: &mut Store, f: Ref, g: Ref, truth: bool) -> Result<Ref, DdAnswer>
+pub(crate) fn where_it_is(store: &mut Store, f: Ref, g: Ref, truth: bool) -> Result<Ref, DdAnswer>
     requires f { Holds store.old.nodes f }
     requires g { Holds store.old.nodes g }
     ensures store { IsStore store.new }
