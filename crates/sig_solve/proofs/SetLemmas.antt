@@ -1,26 +1,33 @@
 -- Lemmas on sets of abstract reactions: parts, and what agrees on known conditions.
-use Rattle.std.proofs.Common.{◌≡◌, ◌<◌, ◌≤◌, ◌⊎◌, ◌↔◌, inl, inr, ℕ, Bool, true, false, not, List, [], ◌∷◌, length, map, get_or, refl, sym, ap, ◌∙◌, subst, arith, Contains, IsTrue}
-use Rattle.std.specs.Prelude.{Option, None, Some, slice_get, is_some}
+use Rattle.std.proofs.Common.{◌≡◌, ◌<◌, ◌≤◌, ◌+◌, ◌*◌, ◌⊎◌, ◌↔◌, inl, inr, ℕ, Bool, true, false, not, List, [], ◌∷◌, length, map, get_or, refl, sym, ap, ◌∙◌, subst, arith, Contains, IsTrue, IfOk}
+use Rattle.std.specs.Prelude.{Option, None, Some, Result, Ok, Err, slice_get, is_some}
+use Rattle.std.specs.List.{list_any}
 use Rattle.std.proofs.lemmas.Bool.{false≢true}
+use Rattle.std.proofs.lemmas.List.Sums.{count_by-le-length, length-filter}
+use Rattle.sig_clock.proofs.Lists.{contains_head, contains_later}
 use Rattle.sig_base.specs.declared.ids.SigId.{SigId}
 use Rattle.sig_kernel.specs.declared.kernel.Kernel.{Kernel}
 use Rattle.sig_clock.specs.Conditions.{is_condition, signal_id}
 use Rattle.sig_clock.specs.Layers.{AgreeOn}
-use Rattle.sig_clock.specs.Reactions.{Reaction, IsReaction, is_present, status_at}
+use Rattle.sig_clock.specs.Reactions.{Reaction, IsReaction, Speaks, is_present, status_at}
 use Rattle.sig_dd.specs.Diagram.{truth_of}
 use Rattle.sig_dd.specs.Nodes.{StoreView, Holds, Keeps, Overlap, Spans, test}
+use Rattle.sig_dd.specs.Shares.{HasAll, Share}
+use Rattle.sig_dd.specs.declared.answer.DdAnswer.{DdAnswer}
 use Rattle.sig_dd.specs.declared.node.Ref.{Ref}
 use Rattle.sig_dd.specs.declared.node.Node.{Node}
 use Rattle.sig_dd.proofs.CallerLemmas.{Holds-kept, Spans-kept}
 use Rattle.sig_rel.specs.Relations.{AreUnknowns, IsUsed, RelationView, reaction_in}
-use Rattle.sig_solve.specs.Frames.{IsAmong, IsFrame, IsFrameIn, others_of}
+use Rattle.sig_solve.specs.Frames.{IsAmong, IsFrame, IsFrameIn, others_of, tells}
 use Rattle.sig_solve.specs.Parts.{AgreeOutside, Exceeds, IsNarrowed, IsShadow, IsWhere}
+use Rattle.sig_solve.specs.Rounds.{IsOpenAnswer}
 use Rattle.sig_solve.specs.Sets.{AreKnown, IsImage, IsPart, reaction_of}
 use Rattle.sig_solve.specs.declared.frame.Frame.{Frame}
 use Rattle.sig_solve.specs.declared.known.Known.{Known}
 use Rattle.sig_solve.proofs.FrameLemmas.{unknown_in}
 use Rattle.sig_solve.proofs.ReactionLemmas.{agree_known, lift, presence_read}
-use Rattle.sig_solve.proofs.StoreLemmas.{older_test}
+use Rattle.sig_solve.proofs.ListLemmas.{of_filter}
+use Rattle.sig_solve.proofs.StoreLemmas.{more_calls, older_test}
 use Rattle.sig_solve.proofs.TruthLemmas.{outside_none}
 
 pub part_stays : (old new : StoreView) (frame : Frame) (P : Reaction → Type 0) (f : Ref) → Keeps old new → IsPart old.nodes frame P f → IsPart new.nodes frame P f
@@ -124,3 +131,38 @@ image_present old new frame known P f r s b is lt part at =
       (λ t. let w = (at.function ts).0 t in (w.0, w.1, ((part.reactions w.0).0 w.2, presence_read w.0 frame.relation.present frame.relation.truth s lt' lt'' ∙ w.3))),
       (λ w. (at.function ts).1 (w.0, w.1, (part.reactions w.0).1 w.2.0, sym (presence_read w.0 frame.relation.present frame.relation.truth s lt' lt'') ∙ w.2.1)));
     }
+
+-- whether known conditions leave the presence of a signal open, by the overlap of two images
+pub open_ok : (nodes : List Node) (frame : Frame) (is : IsFrameIn nodes frame) (known : Known) (are : AreKnown frame known) (s : ℕ) (f g : Ref)
+    → IsImage nodes frame known (λ reaction. Speaks frame.kernel.now reaction × (is_present reaction s ≡ true)) f → IsImage nodes frame known (λ reaction. Speaks frame.kernel.now reaction × (is_present reaction s ≡ false)) g
+    → (result : Result Bool DdAnswer) → IfOk result (λ holds. IsTrue holds ↔ Overlap nodes f g) → IfOk result (IsOpenAnswer frame.kernel.now (IsAmong known.conditions.items) s)
+open_ok nodes frame is known are s f g first second (Err e) over = tt
+open_ok nodes frame is known are s f g first second (Ok true) over = λ determined.
+    let at = overlap_agree nodes frame is known are (λ reaction. Speaks frame.kernel.now reaction × (is_present reaction s ≡ true)) (λ reaction. Speaks frame.kernel.now reaction × (is_present reaction s ≡ false)) (λ r p. p.0.is) (λ r p. p.0.is) f g first second (over.0 refl) in
+    false≢true (sym at.3.1 ∙ sym (determined at.0 at.1 at.2.0 at.3.0 at.4) ∙ at.2.1)
+open_ok nodes frame is known are s f g first second (Ok false) over = λ a b speaks_a speaks_b agree. by a b speaks_a speaks_b agree (is_present a s) (is_present b s) refl refl where
+  apart : (a b : Reaction) → Speaks frame.kernel.now a → Speaks frame.kernel.now b → AgreeOn frame.kernel.now (IsAmong known.conditions.items) a b → is_present a s ≡ true → is_present b s ≡ false → ⊥
+  apart a b speaks_a speaks_b agree there gone =
+      false≢true (over.1 (agree_overlap nodes frame is known are (λ reaction. Speaks frame.kernel.now reaction × (is_present reaction s ≡ true)) (λ reaction. Speaks frame.kernel.now reaction × (is_present reaction s ≡ false)) (λ r p. p.0.is) (λ r p. p.0.is) f g first second a b (speaks_a, there) (speaks_b, gone) agree))
+
+  by : (a b : Reaction) → Speaks frame.kernel.now a → Speaks frame.kernel.now b → AgreeOn frame.kernel.now (IsAmong known.conditions.items) a b → (x y : Bool) → is_present a s ≡ x → is_present b s ≡ y → is_present a s ≡ is_present b s
+  by a b speaks_a speaks_b agree true true at_a at_b = at_a ∙ sym at_b
+  by a b speaks_a speaks_b agree false false at_a at_b = at_a ∙ sym at_b
+  by a b speaks_a speaks_b agree true false at_a at_b = absurd (apart a b speaks_a speaks_b agree at_a at_b)
+  by a b speaks_a speaks_b agree false true at_a at_b = absurd (apart b a speaks_b speaks_a (λ c is_c known_c. sym (agree c is_c known_c)) at_b at_a)
+
+has_all_of : (vs xs : List ℕ) → ((v : ℕ) → Contains xs v → Contains vs v) → HasAll vs xs
+has_all_of vs [] all = tt
+has_all_of vs (x ∷ xs) all = (all x (contains_head x xs), has_all_of vs xs (λ v there. all v (contains_later x v xs there)))
+
+-- the calls that make a shadow, of which all but the unknowns that tell of known conditions are forgotten
+pub shadow_share : (nodes : List Node) (old new : StoreView) (frame : Frame) (is : IsFrameIn nodes frame) (known : Known) (are : AreKnown frame known) (others : List ℕ) → others ≡ known.others.items
+    → (f : Ref) (p : ℕ) (why : Option DdAnswer) → Spans old.nodes f frame.unknowns.items → Contains frame.unknowns.items p
+    → ((vs : List ℕ) → Spans old.nodes f vs → Contains vs p → HasAll vs others → Share (2 + 3 * length others) vs old new why) → Share (2 + 3 * length frame.unknowns.items) frame.unknowns.items old new why
+shadow_share nodes old new frame is known are others same f p why spans there share =
+    let filtered : others ≡ others_of frame.relation frame.unknowns.items known.conditions.items = same ∙ are.others in
+    let fewer : length others ≤ length frame.unknowns.items =
+    subst (λ (xs : List ℕ). length xs ≤ length frame.unknowns.items) (sym filtered)
+    (omega (arith, length-filter (λ v. not (list_any (tells frame.relation v) known.conditions.items)) frame.unknowns.items, count_by-le-length (λ v. not (list_any (tells frame.relation v) known.conditions.items)) frame.unknowns.items)) in
+    more_calls (2 + 3 * length others) (2 + 3 * length frame.unknowns.items) frame.unknowns.items old new why (omega (arith, fewer))
+    (share frame.unknowns.items spans there (has_all_of frame.unknowns.items others (λ v at. (of_filter (λ u. not (list_any (tells frame.relation u) known.conditions.items)) frame.unknowns.items v (subst (λ (xs : List ℕ). Contains xs v) filtered at)).0)))

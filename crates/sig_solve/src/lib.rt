@@ -5,5 +5,6 @@
 
 mod frame;
 mod known;
+mod layers;
 mod parts;
 mod roots;
