@@ -6,3 +6,4 @@ pub mod ReactionLemmas
 pub mod FrameLemmas
 pub mod SetLemmas
 pub mod RootLemmas
+pub mod RoundLemmas

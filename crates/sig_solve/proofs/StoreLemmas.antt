@@ -42,3 +42,10 @@ asked n vs s t share (Err (Budget k)) not = absurd (not k refl)
 -- what holds of the first elements, and of the next one
 pub below_more_of : (P : ℕ → Type 0) (xs : List ℕ) (n : ℕ) → ((k : ℕ) → k < n → P (get_or xs k 0)) → P (get_or xs n 0) → (k : ℕ) → k < n + 1 → P (get_or xs k 0)
 below_more_of P xs n before here k lt = elim (cases_eq k n) [ inl e ↦ subst (λ j. P (get_or xs j 0)) (sym e) here | inr ne ↦ before k (omega (arith, lt, ne)) ]
+
+-- want of memory has no cause
+pub out_of_memory : (n : ℕ) (vs : List ℕ) (s t : StoreView) → Share n vs s t None → Share n vs s t (Some OutOfMemory)
+out_of_memory n vs s t share = record { added = share.added; refused = tt }
+
+pub no_turns : (m : ℕ) (vs : List ℕ) (s : StoreView) → Share (m * 0) vs s s None
+no_turns m vs s = let none : 0 ≡ m * 0 = omega arith in subst (λ n. Share n vs s s None) none (Share-none s vs)
