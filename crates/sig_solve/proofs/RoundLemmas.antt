@@ -1,14 +1,17 @@
 -- Lemmas on rounds.
-use Rattle.std.proofs.Common.{◌≡◌, ◌≢◌, ◌<◌, ◌≤◌, ◌+◌, ◌⊎◌, ◌↔◌, inl, inr, ℕ, Bool, true, false, List, [], ◌∷◌, ◌++◌, length, get_or, set, drop, drop-cons, refl, sym, ap, ◌∙◌, subst, arith, Contains, get_or-set_same, get_or-set_other}
+use Rattle.std.proofs.Common.{◌≡◌, ◌≢◌, ◌<◌, ◌≤◌, ◌+◌, ◌⊎◌, ◌↔◌, inl, inr, ℕ, Bool, true, false, eqb, count_by, List, [], ◌∷◌, ◌++◌, length, get_or, set, drop, drop-cons, replicate, filter, refl, sym, ap, ◌∙◌, subst, arith, Contains, get_or-set_same, get_or-set_other}
 use Rattle.std.specs.Prelude.{zero, suc, Option, None, Some}
 use Rattle.std.specs.List.{AllPairs}
 use Rattle.std.proofs.Math.ListN.{length-set}
-use Rattle.std.proofs.lemmas.Bool.{cases_eq, cases_lt}
-use Rattle.std.proofs.lemmas.List.{length_push}
+use Rattle.std.proofs.lemmas.Bool.{cases_eq, cases_lt, lt-ltb, ltb-true}
+use Rattle.std.specs.List.{range_with_len}
+use Rattle.std.proofs.lemmas.List.{get_or-replicate, length-replicate, length_push}
+use Rattle.std.proofs.lemmas.List.FromFn.{length-range_with_len}
+use Rattle.std.proofs.lemmas.List.Sums.{count_by-le-length, length-filter}
 use Rattle.std.proofs.lemmas.List.Quantifiers.{all_pairs_push}
 use Rattle.sig_base.specs.declared.ids.SigId.{SigId}
 use Rattle.sig_kernel.specs.declared.kernel.Kernel.{Kernel}
-use Rattle.sig_clock.specs.Conditions.{is_condition, signal_id}
+use Rattle.sig_clock.specs.Conditions.{conditions_of, is_condition, signal_id}
 use Rattle.sig_clock.specs.Layers.{AgreeOn, EntersBy, HasLayer, IsDetermined, NeverEnters}
 use Rattle.sig_clock.specs.Reactions.{Reaction, Speaks, is_present}
 use Rattle.sig_clock.specs.SameClocks.{SameClock, turned}
@@ -16,10 +19,13 @@ use Rattle.sig_clock.proofs.LayerLemmas.{enters_stays}
 use Rattle.sig_clock.proofs.ReactionLemmas.{present_together}
 use Rattle.sig_clock.proofs.Lists.{contains_cons, contains_head, contains_later, contains_none}
 use Rattle.sig_solve.specs.Frames.{IsAmong}
-use Rattle.sig_solve.specs.Rounds.{AreEntered, AreIncreasing, ArePassed, AreRounds}
+use Rattle.sig_solve.specs.Rounds.{AreEntered, AreIncreasing, ArePassed, AreRounds, AreSettled, has_entered}
 use Rattle.sig_solve.specs.declared.frame.Frame.{Frame}
 use Rattle.sig_solve.proofs.TruthLemmas.{contains_before, contains_end, contains_last}
-use Rattle.sig_solve.proofs.FrameLemmas.{leader_is}
+use Rattle.sig_solve.proofs.FrameLemmas.{leader_in, leader_is}
+use Rattle.sig_solve.proofs.ListLemmas.{in_filter, in_map, in_range, of_filter, of_map}
+use Rattle.sig_solve.proofs.ReactionLemmas.{condition_is_signal}
+use Rattle.sig_solve.proofs.RootLemmas.{ordered_leaders}
 use Rattle.sig_solve.specs.Frames.{IsFrame}
 
 -- signals of one clock enter together
@@ -172,3 +178,103 @@ stuck_more still still' waiting i same before full k lt =
       | inl e ↦ subst (λ j. Contains (still ++ get_or waiting i 0 ∷ []) (get_or waiting j 0)) (sym e) (contains_last still (get_or waiting i 0))
       | inr ne ↦ contains_before still (get_or waiting i 0) (get_or waiting k 0) (before count k (omega (arith, lt, ne)))
     ])
+
+-- the conditions of a kernel, in a list
+pub condition_listed : (kernel : Kernel) (c : SigId) → Contains (conditions_of kernel) c → is_condition kernel c.0 ≡ true
+condition_listed kernel c there =
+    let of = of_map signal_id (filter (is_condition kernel) (range_with_len 0 (length kernel.signals))) c there in
+    ap (is_condition kernel) (ap (λ (x : SigId). x.0) of.2) ∙ (of_filter (is_condition kernel) (range_with_len 0 (length kernel.signals)) of.0 of.1).1
+
+pub listed_condition : (kernel : Kernel) (c : ℕ) → is_condition kernel c ≡ true → Contains (conditions_of kernel) (signal_id c)
+listed_condition kernel c is =
+    in_map signal_id (filter (is_condition kernel) (range_with_len 0 (length kernel.signals))) c
+    (in_filter (is_condition kernel) (range_with_len 0 (length kernel.signals)) c (in_range (length kernel.signals) c (condition_is_signal kernel c is)) is)
+
+module _ (frame : Frame) (is : IsFrame frame) (round : ℕ) (layers waiting : List ℕ) (are : AreRounds frame round layers waiting) where
+  -- the classes that have entered, as signals
+  pub entered_signal : (s : ℕ) → s < length frame.kernel.now.signals → 0 < get_or layers (get_or frame.least.items s 0) 0 → EntersBy frame.kernel.now round s
+  entered_signal s lt pos =
+      let at = are.entered (get_or frame.least.items s 0) (leader_in frame is s lt) pos in
+      enters_same frame.kernel.now round (get_or frame.least.items s 0) s (turned s (get_or frame.least.items s 0) (is.least.same s lt))
+      (enters_later frame.kernel.now (get_or layers (get_or frame.least.items s 0) 0) round (get_or frame.least.items s 0) at.1 at.0.enters)
+
+  pub signal_entered : (s : ℕ) → s < length frame.kernel.now.signals → EntersBy frame.kernel.now round s → 0 < get_or layers (get_or frame.least.items s 0) 0
+  signal_entered s lt enters = elim (cases_lt 0 (get_or layers (get_or frame.least.items s 0) 0)) [
+    | inl pos ↦ pos
+    | inr le ↦
+        let none : get_or layers (get_or frame.least.items s 0) 0 ≡ 0 = omega (arith, le) in
+        absurd ((are.left (get_or frame.least.items s 0) (are.all (get_or frame.least.items s 0) (leader_in frame is s lt) none)).1
+        (enters_same frame.kernel.now round s (get_or frame.least.items s 0) (is.least.same s lt) enters))
+  ]
+
+  pub entered_conditions : (conditions known : List SigId) → conditions ≡ conditions_of frame.kernel.now → known ≡ filter (has_entered frame layers) conditions → AreEntered frame.kernel.now round known
+  entered_conditions conditions known same filtered c is_c =
+      let lt = condition_is_signal frame.kernel.now c is_c in (
+      (λ there.
+      let parts = of_filter (has_entered frame layers) conditions (signal_id c) (subst (λ (xs : List SigId). Contains xs (signal_id c)) filtered there) in
+      entered_signal c lt (ltb-true 0 (get_or layers (get_or frame.least.items c 0) 0) parts.1)),
+      (λ enters.
+      subst (λ (xs : List SigId). Contains xs (signal_id c)) (sym filtered)
+      (in_filter (has_entered frame layers) conditions (signal_id c) (subst (λ (xs : List SigId). Contains xs (signal_id c)) (sym same) (listed_condition frame.kernel.now c is_c))
+      (lt-ltb 0 (get_or layers (get_or frame.least.items c 0) 0) (signal_entered c lt enters)))))
+
+pub filtered_conditions : (kernel : Kernel) (p : SigId → Bool) (conditions known : List SigId) → conditions ≡ conditions_of kernel → known ≡ filter p conditions → (c : SigId) → Contains known c → is_condition kernel c.0 ≡ true
+filtered_conditions kernel p conditions known same filtered c there =
+    condition_listed kernel c (subst (λ (xs : List SigId). Contains xs c) same (of_filter p conditions c (subst (λ (xs : List SigId). Contains xs c) filtered there)).0)
+
+-- nothing has entered before the first round
+pub rounds_begin : (frame : Frame) (is : IsFrame frame) (layers waiting : List ℕ) (n : ℕ) → n ≡ length frame.least.items → layers ≡ replicate n 0 → waiting ≡ frame.leaders.items → AreRounds frame 0 layers waiting
+rounds_begin frame is layers waiting n count zeros same = record {
+  count = ap length zeros ∙ length-replicate n 0 ∙ count ∙ is.least.count;
+  increasing = ordered_leaders frame.least.items waiting (same ∙ is.leaders);
+  entered = λ s leads pos. absurd (let lt = (leader_is frame is s leads).0 in let none : get_or layers s 0 ≡ 0 = ap (λ (xs : List ℕ). get_or xs s 0) zeros ∙ get_or-replicate n s 0 0 (omega (arith, lt, count, is.least.count)) in omega (arith, pos, none));
+  left = λ s there. (subst (λ (xs : List ℕ). Contains xs s) same there, λ enters. enters);
+  all = λ s leads none. subst (λ (xs : List ℕ). Contains xs s) (sym same) leads;
+}
+
+-- where a round brings nothing new, none does
+module _ (kernel : Kernel) (round : ℕ) (stuck : (s : ℕ) → s < length kernel.signals → EntersBy kernel (suc round) s → EntersBy kernel round s) where
+  pub no_later : (r s : ℕ) → s < length kernel.signals → EntersBy kernel r s → EntersBy kernel round s
+  no_later zero s lt enters = absurd enters
+  no_later (suc r) s lt enters =
+      stuck s lt (λ a b speaks_a speaks_b agree. enters a b speaks_a speaks_b (λ c is_c known. agree c is_c (no_later r c (condition_is_signal kernel c is_c) known)))
+
+pub rounds_stick : (frame : Frame) (is : IsFrame frame) (round : ℕ) (layers waiting layers' still : List ℕ) → AreRounds frame round layers waiting → AreRounds frame (suc round) layers' still
+    → round < length frame.leaders.items → ((s : ℕ) → Contains waiting s → Contains still s) → AreSettled frame layers' still
+rounds_stick frame is round layers waiting layers' still before after few all = record {
+  count = after.count;
+  increasing = after.increasing;
+  entered = λ s leads pos. let at = after.entered s leads pos in (at.0, omega (arith, at.1, few));
+  left = λ s there. ((after.left s there).0, λ r enters.
+  let lt = (leader_is frame is s (after.left s there).0).0 in
+  (after.left s there).1 (enters_stays frame.kernel.now s round (no_later frame.kernel.now round stuck r s lt enters)));
+  all = after.all;
+} where
+  stuck_leader : (l : ℕ) → Contains frame.leaders.items l → EntersBy frame.kernel.now (suc round) l → EntersBy frame.kernel.now round l
+  stuck_leader l leads enters = elim (cases_lt 0 (get_or layers l 0)) [
+    | inl pos ↦ (let at = before.entered l leads pos in enters_later frame.kernel.now (get_or layers l 0) round l at.1 at.0.enters)
+    | inr le ↦ (let none : get_or layers l 0 ≡ 0 = omega (arith, le) in absurd ((after.left l (all l (before.all l leads none))).1 enters))
+  ]
+
+  stuck : (s : ℕ) → s < length frame.kernel.now.signals → EntersBy frame.kernel.now (suc round) s → EntersBy frame.kernel.now round s
+  stuck s lt enters =
+      let same = is.least.same s lt in
+      enters_same frame.kernel.now round (get_or frame.least.items s 0) s (turned s (get_or frame.least.items s 0) same)
+      (stuck_leader (get_or frame.least.items s 0) (leader_in frame is s lt) (enters_same frame.kernel.now (suc round) s (get_or frame.least.items s 0) same enters))
+
+pub rounds_end : (frame : Frame) (round : ℕ) (layers waiting : List ℕ) → AreRounds frame round layers waiting → round ≡ length frame.leaders.items → length waiting ≡ 0 → AreSettled frame layers waiting
+rounds_end frame round layers waiting are all none = record {
+  count = are.count;
+  increasing = are.increasing;
+  entered = λ s leads pos. let at = are.entered s leads pos in (at.0, omega (arith, at.1, all));
+  left = λ s there. absurd (omega (arith, there.1, none));
+  all = are.all;
+}
+
+pub leaders_fewer : (frame : Frame) (is : IsFrame frame) → length frame.leaders.items ≤ length frame.kernel.now.signals
+leaders_fewer frame is =
+    let p = λ (s : ℕ). eqb (get_or frame.least.items s 0) s in
+    let range = range_with_len 0 (length frame.least.items) in
+    let count : length frame.leaders.items ≡ count_by p range = ap length is.leaders ∙ length-filter p range in
+    let few = count_by-le-length p range in
+    omega (arith, count, few, length-range_with_len 0 (length frame.least.items), is.least.count)

@@ -40,12 +40,12 @@ pub(crate) fn layers_of(
     ensures kept { Keeps store.old store.new }
     ensures value { IfOk result (λ layers.
         AreSettled frame.now layers.numbers.items layers.waiting.items) }
-    ensures share { let classes = length frame.now.leaders.items in
-        Share (classes * (4 + 6 * length frame.now.unknowns.items) * classes)
+    ensures share { Share ((4 + 6 * length frame.now.unknowns.items)
+        * length frame.now.leaders.items * length frame.now.leaders.items)
         frame.now.unknowns.items store.old store.new (refusal result) }
 {
     let mut numbers = zeros(alloc, frame.least.len())?;
-    let mut waiting = frame.leaders.as_slice().to_vec(alloc)?;
+    let mut waiting = Vec::from_slice(alloc, frame.leaders.as_slice())?;
     for round in 0..frame.leaders.len() as u32 {
         let entered = entered(alloc, frame, numbers.as_slice(), conditions)?;
         let known = known_of(alloc, frame, entered)?;
