@@ -4,7 +4,15 @@
 #![tactic(auto)]
 
 mod answer;
-mod relation;
+mod equations;
+mod functions;
+mod laws;
+mod making;
+mod numbering;
+mod relations;
+mod statuses;
 
 pub use answer::RelAnswer;
-pub use relation::Relation;
+pub use laws::{reactions_are_truths, relations_see_reactions, statuses_are_those_of_unknowns};
+pub use making::relation;
+pub use relations::Relation;

@@ -1,0 +1,10 @@
+use Rattle.std.proofs.Common.{ℕ, ◌<◌, length}
+use Rattle.sig_clock.specs.Conditions.{conditions_of}
+use Rattle.sig_rel.specs.Numberings.{AreGiven, HasNumbers}
+use Rattle.sig_rel.proofs.numbering.Numbering.number_signals.Given as goal
+
+abbrev pub invariant-loop-signal : goal.invariant-loop-signal
+invariant-loop-signal l = record {
+  given : AreGiven l.kernel l.least (length (conditions_of l.kernel)) l.self;
+  each : (signal : ℕ) → signal < l.signal → HasNumbers l.kernel l.least l.self signal;
+}
