@@ -6,5 +6,7 @@
 mod frame;
 mod known;
 mod layers;
+mod order;
 mod parts;
+mod pinned;
 mod roots;
