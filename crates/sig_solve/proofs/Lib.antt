@@ -7,3 +7,4 @@ pub mod FrameLemmas
 pub mod SetLemmas
 pub mod RootLemmas
 pub mod RoundLemmas
+pub mod PinnedLemmas
