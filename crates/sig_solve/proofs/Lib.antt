@@ -8,3 +8,5 @@ pub mod SetLemmas
 pub mod RootLemmas
 pub mod RoundLemmas
 pub mod PinnedLemmas
+pub mod GuardLemmas
+pub mod ProposeLemmas

@@ -164,3 +164,25 @@ is_any p (y ∷ xs) x there is = elim (contains_cons y x xs there) [
   or_true : (b : Bool) → (b || true) ≡ true
   or_true true = refl
   or_true false = refl
+
+pub map_length : {X Y : Type 0} (f : X → Y) (xs : List X) → length (map f xs) ≡ length xs
+map_length f [] = refl
+map_length f (x ∷ xs) = ap suc (map_length f xs)
+
+pub take_next : {X : Type 0} (xs : List X) (k : ℕ) (x : X) → slice_get xs k ≡ Some x → take (k + 1) xs ≡ take k xs ++ x ∷ []
+take_next xs k x is = take_more xs k x (get_within xs k x is) ∙ ap (λ y. take k xs ++ y ∷ []) (get_is xs k x x is)
+
+pub get_first : {X : Type 0} (xs ys : List X) (k : ℕ) → k < length xs → slice_get (xs ++ ys) k ≡ slice_get xs k
+get_first [] ys k lt = absurd (omega (arith, lt))
+get_first (x ∷ xs) ys zero lt = refl
+get_first (x ∷ xs) ys (suc k) lt = get_first xs ys k (omega (arith, lt))
+
+pub get_last : {X : Type 0} (xs : List X) (x : X) → slice_get (xs ++ x ∷ []) (length xs) ≡ Some x
+get_last [] x = refl
+get_last (y ∷ xs) x = get_last xs x
+
+pub get_beyond : {X : Type 0} (xs : List X) (x y : X) (k : ℕ) → slice_get (xs ++ x ∷ []) k ≡ Some y → (k < length xs) ⊎ ((k ≡ length xs) × (x ≡ y))
+get_beyond [] x y zero is = inr (refl, cc)
+get_beyond [] x y (suc k) is = absurd (let e : None ≡ Some y = is in cc)
+get_beyond (z ∷ xs) x y zero is = inl (omega arith)
+get_beyond (z ∷ xs) x y (suc k) is = elim (get_beyond xs x y k is) [ inl lt ↦ inl (omega (arith, lt)) | inr last ↦ inr (ap suc last.0, last.1) ]

@@ -117,7 +117,7 @@ module _ (nodes : List Node) (frame : Frame) (is : IsFrameIn nodes frame) (known
         (at.0, at.1.0, at.2, at.1.1)
 
 -- the conditions before a place are the earlier ones
-not_both : (kernel : Kernel) (c d : ℕ) → IsEarlier kernel c d → IsEarlier kernel d c → ⊥
+pub not_both : (kernel : Kernel) (c d : ℕ) → IsEarlier kernel c d → IsEarlier kernel d c → ⊥
 not_both kernel c d a b =
     let first : a.layer ≡ b.later_layer = one_layer kernel c a.layer b.later_layer a.has b.later_has in
     let second : a.later_layer ≡ b.layer = one_layer kernel d a.later_layer b.layer a.later_has b.has in
@@ -126,14 +126,14 @@ not_both kernel c d a b =
       | inr equal ↦ elim b.before [ inl more ↦ omega (arith, equal.0, more, first, second) | inr same ↦ omega (arith, equal.1, same.1) ]
     ]
 
-module _ (kernel : Kernel) (conditions : List SigId) (order : AreInOrder kernel conditions) (place : ℕ) (b : SigId) (at : slice_get conditions place ≡ Some b) where
-  get_take : {X : Type 0} (xs : List X) (n k : ℕ) → k < n → slice_get (take n xs) k ≡ slice_get xs k
-  get_take [] zero k lt = absurd (omega (arith, lt))
-  get_take [] (suc n) k lt = refl
-  get_take (x ∷ xs) zero k lt = absurd (omega (arith, lt))
-  get_take (x ∷ xs) (suc n) zero lt = refl
-  get_take (x ∷ xs) (suc n) (suc k) lt = get_take xs n k (omega (arith, lt))
+pub get_take : {X : Type 0} (xs : List X) (n k : ℕ) → k < n → slice_get (take n xs) k ≡ slice_get xs k
+get_take [] zero k lt = absurd (omega (arith, lt))
+get_take [] (suc n) k lt = refl
+get_take (x ∷ xs) zero k lt = absurd (omega (arith, lt))
+get_take (x ∷ xs) (suc n) zero lt = refl
+get_take (x ∷ xs) (suc n) (suc k) lt = get_take xs n k (omega (arith, lt))
 
+module _ (kernel : Kernel) (conditions : List SigId) (order : AreInOrder kernel conditions) (place : ℕ) (b : SigId) (at : slice_get conditions place ≡ Some b) where
   length_take : {X : Type 0} (xs : List X) (n k : ℕ) → k < length (take n xs) → k < n
   length_take xs n k lt = omega (arith, length-take n xs, lt)
 

@@ -43,7 +43,8 @@ fn tells(frame: &Frame, condition: SigId, v: u32) -> bool
     is_variable(v, presence(frame, condition)) || is_variable(v, truth(frame, condition))
 }
 
-fn is_variable(v: u32, unknown: Option<u32>) -> bool
+/// Whether an unknown is this one.
+pub(crate) fn is_variable(v: u32, unknown: Option<u32>) -> bool
     ensures { result ≡ is_variable v unknown }
 {
     match unknown {

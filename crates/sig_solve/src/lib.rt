@@ -4,6 +4,7 @@
 #![tactic(auto)]
 
 mod frame;
+mod guards;
 mod known;
 mod layers;
 mod order;
