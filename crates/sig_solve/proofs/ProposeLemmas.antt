@@ -3,7 +3,7 @@ use Rattle.std.proofs.Common.{◌≡◌, ◌≢◌, ◌<◌, ◌≤◌, ◌+◌,
 use Rattle.std.specs.Prelude.{zero, suc, Option, None, Some, slice_get, if◌then◌else◌}
 use Rattle.std.proofs.Math.Nat.{mul-le-mul_left}
 use Rattle.std.proofs.lemmas.Bool.{cases_eq, false≢true, eq-eqb, eqb-true}
-use Rattle.std.proofs.lemmas.List.{map-append}
+use Rattle.std.proofs.lemmas.List.{length_push, map-append}
 use Rattle.sig_base.specs.declared.ids.SigId.{SigId}
 use Rattle.sig_kernel.specs.declared.kernel.Kernel.{Kernel}
 use Rattle.sig_clock.specs.ClockFunctions.{Allows, KeepsTo}
@@ -13,6 +13,10 @@ use Rattle.sig_clock.specs.Reactions.{Reaction, Status, Speaks, is_present, stat
 use Rattle.sig_clock.proofs.Lists.{contains_cons, contains_head, contains_later, contains_none}
 use Rattle.sig_dd.specs.Diagram.{Depends, truth_of, with_truth}
 use Rattle.sig_dd.specs.Nodes.{StoreView, Holds, Keeps, Spans, diagram, test}
+use Rattle.sig_dd.specs.Shares.{Share}
+use Rattle.sig_dd.specs.declared.answer.DdAnswer.{DdAnswer}
+use Rattle.sig_dd.proofs.Adding.{Share-wider}
+use Rattle.sig_dd.proofs.Dependence.{allowance_rises}
 use Rattle.sig_dd.specs.declared.node.Ref.{Ref}
 use Rattle.sig_dd.specs.declared.node.Node.{Node}
 use Rattle.sig_dd.proofs.Trees.{truth_of-with_same, truth_of-with_other, value_at-same}
@@ -154,3 +158,61 @@ module _ (s0 s1 : List Node) (frame : Frame) (is : IsFrameIn s0 frame) (conditio
 
     told : truths_told frame.relation (take j conditions ++ c ∷ []) ≡ truths_told frame.relation (take j conditions) ++ t ∷ []
     told = told_more frame.relation (take j conditions) c t truth
+
+  wide_next : (f r : Ref) (vs : List ℕ) → Holds s0 f → IsWide s0 frame (take j conditions) f vs → IsSubstituted s0 s1 f (get_or frame.relation.present c.0 0) t j r → IsWide s1 frame (take j conditions ++ c ∷ []) r (replaced t j vs)
+  wide_next f r vs held wide sub = record {
+    count = map_length (λ u. if eqb u t then j else u) vs ∙ wide.count;
+    spans = sub.spans vs wide.spans has_p has_t;
+    within = λ u there. let from = of_map (λ u. if eqb u t then j else u) vs u there in by_within u from.0 from.1 from.2 (cases_eq from.0 t);
+    has = λ u there out.
+    let ne : u ≢ t = λ e. out (subst (λ xs. Contains xs u) (sym told) (subst (λ w. Contains (truths_told frame.relation (take j conditions) ++ t ∷ []) w) (sym e) (contains_last (truths_told frame.relation (take j conditions)) t))) in
+    subst (λ w. Contains (replaced t j vs) w) (ap (λ b. cond b j u) (apart-eqb u t ne))
+    (in_map (λ u. if eqb u t then j else u) vs u (wide.has u there (λ before. out (subst (λ xs. Contains xs u) (sym told) (contains_before (truths_told frame.relation (take j conditions)) t u before)))));
+  } where
+    told : truths_told frame.relation (take j conditions ++ c ∷ []) ≡ truths_told frame.relation (take j conditions) ++ t ∷ []
+    told = told_more frame.relation (take j conditions) c t truth
+
+    has_p : Contains vs (get_or frame.relation.present c.0 0)
+    has_p = wide.has (get_or frame.relation.present c.0 0) (presence_unknown s0 frame is c.0 (get_or frame.relation.present c.0 0) c_within refl) p_untold
+
+    has_t : Contains vs t
+    has_t = wide.has t (truth_unknown s0 frame is c.0 t c_within truth) t_untold
+
+    more : length (take j conditions ++ c ∷ []) ≡ j + 1
+    more = length_push (take j conditions) c ∙ ap (λ n. n + 1) length_done
+
+    by_within : (u x : ℕ) → Contains vs x → u ≡ cond (eqb x t) j x → ((x ≡ t) ⊎ (x ≢ t)) → (u < length (take j conditions ++ c ∷ [])) ⊎ (Contains frame.unknowns.items u × (Contains (truths_told frame.relation (take j conditions ++ c ∷ [])) u → ⊥))
+    by_within u x there is_u (inl e) =
+        let own : u ≡ j = is_u ∙ ap (λ b. cond b j x) (eq-eqb x t e) in
+        inl (omega (arith, own, more))
+    by_within u x there is_u (inr ne) =
+        let own : u ≡ x = is_u ∙ ap (λ b. cond b j x) (apart-eqb x t ne) in
+        elim (wide.within x there) [
+          | inl lt ↦ inl (omega (arith, own, lt, more, length_done))
+          | inr both ↦ inr (subst (λ w. Contains frame.unknowns.items w) (sym own) both.0,
+            λ later. elim (contains_end (truths_told frame.relation (take j conditions)) t u (subst (λ xs. Contains xs u) told later)) [
+              | inl before ↦ both.1 (subst (λ w. Contains (truths_told frame.relation (take j conditions)) w) own before)
+              | inr same ↦ ne (sym own ∙ same)
+            ])
+        ]
+
+  pub has_both : (f : Ref) (vs : List ℕ) → IsWide s0 frame (take j conditions) f vs → Contains vs (get_or frame.relation.present c.0 0) × Contains vs t
+  has_both f vs wide =
+      (wide.has (get_or frame.relation.present c.0 0) (presence_unknown s0 frame is c.0 (get_or frame.relation.present c.0 0) c_within refl) p_untold, wide.has t (truth_unknown s0 frame is c.0 t c_within truth) t_untold)
+
+  pub propose_turn : (f r : Ref) (p : ℕ) → p ≡ get_or frame.relation.present c.0 0 → IsProposed s0 frame (take j conditions) f → IsSubstituted s0 s1 f p t j r → IsProposed s1 frame (take (j + 1) conditions) r
+  propose_turn f r p same proposed sub =
+      subst (λ xs. IsProposed s1 frame xs r) (sym (take_next conditions j c at)) (proposed_next f r proposed (subst (λ q. IsSubstituted s0 s1 f q t j r) same sub))
+
+  pub wide_turn : (f r : Ref) (p : ℕ) → p ≡ get_or frame.relation.present c.0 0 → Holds s0 f → (vs : List ℕ) × IsWide s0 frame (take j conditions) f vs → IsSubstituted s0 s1 f p t j r → (vs : List ℕ) × IsWide s1 frame (take (j + 1) conditions) r vs
+  wide_turn f r p same held (vs, wide) sub =
+      (replaced t j vs, subst (λ xs. IsWide s1 frame xs r (replaced t j vs)) (sym (take_next conditions j c at)) (wide_next f r vs held wide (subst (λ q. IsSubstituted s0 s1 f q t j r) same sub)))
+
+-- calls over as many variables
+pub as_many : (n : ℕ) (vs ws : List ℕ) (s t : StoreView) (why : Option DdAnswer) → length vs ≡ length ws → Share n vs s t why → Share n ws s t why
+as_many n vs ws s t why same share = Share-wider s t n n vs ws why (mul-le-mul_left n (allowance_rises vs ws (omega (arith, same)))) share
+
+pub substitute_share : (old new : StoreView) (frame : Frame) (conditions : List SigId) (f : Ref) (p q t : ℕ) (why : Option DdAnswer) (wide : (vs : List ℕ) × IsWide old.nodes frame conditions f vs) → p ≡ q → Contains wide.0 q × Contains wide.0 t
+    → ((vs : List ℕ) → Spans old.nodes f vs → Contains vs p → Contains vs t → Share 18 vs old new why) → Share 18 frame.unknowns.items old new why
+substitute_share old new frame conditions f p q t why wide same has share =
+    as_many 18 wide.0 frame.unknowns.items old new why wide.1.count (share wide.0 wide.1.spans (subst (λ v. Contains wide.0 v) (sym same) has.0) has.1)

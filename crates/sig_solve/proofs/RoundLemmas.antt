@@ -23,7 +23,7 @@ use Rattle.sig_solve.specs.Rounds.{AreEntered, AreIncreasing, ArePassed, AreRoun
 use Rattle.sig_solve.specs.declared.frame.Frame.{Frame}
 use Rattle.sig_solve.proofs.TruthLemmas.{contains_before, contains_end, contains_last}
 use Rattle.sig_solve.proofs.FrameLemmas.{leader_in, leader_is}
-use Rattle.sig_solve.proofs.ListLemmas.{in_filter, in_map, in_range, of_filter, of_map}
+use Rattle.sig_solve.proofs.ListLemmas.{in_filter, in_map, in_range, map_length, of_filter, of_map}
 use Rattle.sig_solve.proofs.ReactionLemmas.{condition_is_signal}
 use Rattle.sig_solve.proofs.RootLemmas.{ordered_leaders}
 use Rattle.sig_solve.specs.Frames.{IsFrame}
@@ -278,3 +278,8 @@ leaders_fewer frame is =
     let count : length frame.leaders.items ≡ count_by p range = ap length is.leaders ∙ length-filter p range in
     let few = count_by-le-length p range in
     omega (arith, count, few, length-range_with_len 0 (length frame.least.items), is.least.count)
+
+pub conditions_few : (kernel : Kernel) → length (conditions_of kernel) ≤ length kernel.signals
+conditions_few kernel =
+    omega (arith, map_length signal_id (filter (is_condition kernel) (range_with_len 0 (length kernel.signals))), length-filter (is_condition kernel) (range_with_len 0 (length kernel.signals)),
+    count_by-le-length (is_condition kernel) (range_with_len 0 (length kernel.signals)), length-range_with_len 0 (length kernel.signals))
