@@ -10,3 +10,4 @@ pub mod RoundLemmas
 pub mod PinnedLemmas
 pub mod GuardLemmas
 pub mod ProposeLemmas
+pub mod ClockLemmas

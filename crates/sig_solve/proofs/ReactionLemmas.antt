@@ -63,7 +63,7 @@ reaction_same a b (p ∷ present) (t ∷ truth) same =
     let rest = reaction_same a b present truth (λ s lt lt'. same (suc s) (omega (arith, lt)) (omega (arith, lt'))) in
     ap (λ x. x ∷ reaction_in a present truth) first ∙ ap (λ xs. status_in b p t ∷ xs) rest
 
-not_false : (b : Bool) → (not b ≡ true → ⊥) → b ≡ true
+pub not_false : (b : Bool) → (not b ≡ true → ⊥) → b ≡ true
 not_false true h = refl
 not_false false h = absurd (h refl)
 
@@ -75,7 +75,7 @@ or_true : (b : Bool) → (b || true) ≡ true
 or_true true = refl
 or_true false = refl
 
-is_the : (v : ℕ) (o : Option ℕ) → is_variable v o ≡ true → o ≡ Some v
+pub is_the : (v : ℕ) (o : Option ℕ) → is_variable v o ≡ true → o ≡ Some v
 is_the v None is = absurd (false≢true is)
 is_the v (Some w) is = ap Some (eqb-true w v is)
 

@@ -151,7 +151,7 @@ open_ok nodes frame is known are s f g first second (Ok false) over = λ a b spe
   by a b speaks_a speaks_b agree true false at_a at_b = absurd (apart a b speaks_a speaks_b agree at_a at_b)
   by a b speaks_a speaks_b agree false true at_a at_b = absurd (apart b a speaks_b speaks_a (λ c is_c known_c. sym (agree c is_c known_c)) at_b at_a)
 
-has_all_of : (vs xs : List ℕ) → ((v : ℕ) → Contains xs v → Contains vs v) → HasAll vs xs
+pub has_all_of : (vs xs : List ℕ) → ((v : ℕ) → Contains xs v → Contains vs v) → HasAll vs xs
 has_all_of vs [] all = tt
 has_all_of vs (x ∷ xs) all = (all x (contains_head x xs), has_all_of vs xs (λ v there. all v (contains_later x v xs there)))
 
