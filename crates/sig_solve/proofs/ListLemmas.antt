@@ -1,7 +1,8 @@
 -- Lemmas on lists: what a filter keeps, and one more element.
-use Rattle.std.proofs.Common.{◌≡◌, ◌≢◌, ◌<◌, ◌≤◌, ◌+◌, ◌⊎◌, ◌↔◌, inl, inr, ℕ, Bool, true, false, cond, eqb, List, [], ◌∷◌, ◌++◌, length, map, get_or, take, refl, sym, ap, ◌∙◌, subst, arith, Contains}
+use Rattle.std.proofs.Common.{◌≡◌, ◌≢◌, ◌<◌, ◌≤◌, ◌+◌, ◌⊎◌, ◌↔◌, inl, inr, ℕ, Bool, true, false, cond, eqb, List, [], ◌∷◌, ◌++◌, length, map, get_or, get_or-set_same, get_or-set_other, set, take, refl, sym, ap, ◌∙◌, subst, arith, Contains}
 use Rattle.std.specs.Prelude.{zero, suc, filter, Option, None, Some, slice_get, ◌||◌}
 use Rattle.std.specs.List.{list_any, range_with_len}
+use Rattle.std.proofs.Math.ListN.{length-set}
 use Rattle.std.proofs.lemmas.Bool.{cases_eq, eqb-true, false≢true}
 use Rattle.std.proofs.lemmas.List.{append-nil, map-append, take_more}
 use Rattle.std.proofs.lemmas.List.Elements.{filter-append}
@@ -186,3 +187,11 @@ get_beyond [] x y zero is = inr (refl, cc)
 get_beyond [] x y (suc k) is = absurd (let e : None ≡ Some y = is in cc)
 get_beyond (z ∷ xs) x y zero is = inl (omega arith)
 get_beyond (z ∷ xs) x y (suc k) is = elim (get_beyond xs x y k is) [ inl lt ↦ inl (omega (arith, lt)) | inr last ↦ inr (ap suc last.0, last.1) ]
+
+pub get_set_same : {X : Type 0} (xs : List X) (k : ℕ) (x : X) → k < length xs → slice_get (set xs k x) k ≡ Some x
+get_set_same xs k x lt = get_at (set xs k x) k x (omega (arith, lt, length-set xs k x)) ∙ ap Some (get_or-set_same xs k x x lt)
+
+pub get_set_other : {X : Type 0} (xs : List X) (k j : ℕ) (x y : X) → j ≢ k → slice_get xs j ≡ Some y → slice_get (set xs k x) j ≡ Some y
+get_set_other xs k j x y ne is =
+    let lt = get_within xs j y is in
+    get_at (set xs k x) j y (omega (arith, lt, length-set xs k x)) ∙ ap Some (get_or-set_other xs k j x y ne ∙ get_is xs j y y is)
