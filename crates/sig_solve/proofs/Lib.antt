@@ -11,3 +11,4 @@ pub mod PinnedLemmas
 pub mod GuardLemmas
 pub mod ProposeLemmas
 pub mod ClockLemmas
+pub mod FirstLemmas

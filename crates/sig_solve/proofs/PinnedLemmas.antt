@@ -126,6 +126,9 @@ not_both kernel c d a b =
       | inr equal ↦ elim b.before [ inl more ↦ omega (arith, equal.0, more, first, second) | inr same ↦ omega (arith, equal.1, same.1) ]
     ]
 
+pub taken_below : {X : Type 0} (xs : List X) (n k : ℕ) → k < length (take n xs) → k < n
+taken_below xs n k lt = omega (arith, length-take n xs, lt)
+
 pub get_take : {X : Type 0} (xs : List X) (n k : ℕ) → k < n → slice_get (take n xs) k ≡ slice_get xs k
 get_take [] zero k lt = absurd (omega (arith, lt))
 get_take [] (suc n) k lt = refl
@@ -134,12 +137,9 @@ get_take (x ∷ xs) (suc n) zero lt = refl
 get_take (x ∷ xs) (suc n) (suc k) lt = get_take xs n k (omega (arith, lt))
 
 module _ (kernel : Kernel) (conditions : List SigId) (order : AreInOrder kernel conditions) (place : ℕ) (b : SigId) (at : slice_get conditions place ≡ Some b) where
-  length_take : {X : Type 0} (xs : List X) (n k : ℕ) → k < length (take n xs) → k < n
-  length_take xs n k lt = omega (arith, length-take n xs, lt)
-
   among_earlier : (c : ℕ) → IsAmong (take place conditions) c → IsEarlier kernel c b.0
   among_earlier c there =
-      let lt = length_take conditions place there.0 there.1 in
+      let lt = taken_below conditions place there.0 there.1 in
       let is : slice_get conditions there.0 ≡ Some (signal_id c) = sym (get_take conditions place there.0 lt) ∙ get_at (take place conditions) there.0 (signal_id c) there.1 ∙ ap Some there.2 in
       order.order there.0 place (signal_id c) b lt is at
 

@@ -93,7 +93,7 @@ pub(crate) fn layer_in(frame: &Frame, layers: &[u32], signal: SigId) -> u32
 }
 
 /// The number at a place; 0 past the end.
-fn number_at(numbers: &[u32], place: u32) -> u32
+pub(crate) fn number_at(numbers: &[u32], place: u32) -> u32
     ensures { result ≡ slice_index numbers.now place }
 {
     match numbers.get(place as usize) {

@@ -3,6 +3,7 @@
 //! on sig_dd.
 #![tactic(auto)]
 
+mod classes;
 mod frame;
 mod guards;
 mod known;
