@@ -12,3 +12,4 @@ pub mod GuardLemmas
 pub mod ProposeLemmas
 pub mod ClockLemmas
 pub mod FirstLemmas
+pub mod OrderLemmas
