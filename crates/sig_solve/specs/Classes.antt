@@ -1,7 +1,11 @@
 -- Classes of signals with one guard, by their first signals.
-use Rattle.std.specs.Prelude.{◌≡◌, ◌<◌, ◌≤◌, ◌⊎◌, ℕ, List, length, Option, None, Some, slice_get, slice_index, Contains}
+use Rattle.std.specs.Prelude.{◌≡◌, ◌<◌, ◌≤◌, ◌⊎◌, ℕ, List, length, map, Option, None, Some, slice_get, slice_index, Contains}
+use Rattle.std.specs.List.{range_with_len}
 use Rattle.sig_base.specs.declared.ids.SigId.{SigId}
+use Rattle.sig_clock.specs.Clocks.{ClocksView}
+use Rattle.sig_clock.specs.Conditions.{signal_id}
 use Rattle.sig_dd.specs.declared.node.Ref.{Ref}
+use Rattle.sig_solve.specs.Orders.{by_layer}
 use Rattle.sig_solve.specs.Rounds.{layer_in}
 use Rattle.sig_solve.specs.declared.frame.Frame.{Frame}
 
@@ -35,3 +39,13 @@ pub record AreClasses (frame : Frame) (guards : List Ref) (firsts : List SigId) 
 pub record AreGuardsOf (frame : Frame) (guards : List Ref) (firsts : List SigId) (own : List Ref) : Type 0 where
   pub count : length own ≡ length firsts
   pub each : (i : ℕ) (c : SigId) → slice_get firsts i ≡ Some c → slice_get own i ≡ guard_at frame guards c.0
+
+-- the clocks are made of these layers and guards
+pub record AreMadeOf (frame : Frame) (layers : List ℕ) (guards : List Ref) (root : SigId) (conditions : List SigId) (clocks : ClocksView) : Type 0 where
+  pub firsts : List SigId
+  pub are : AreFirsts frame layers guards root (by_layer frame layers (map signal_id (range_with_len 0 (length frame.kernel.now.signals))) (length frame.leaders.items)) firsts
+  pub count : length clocks.class_of ≡ length frame.kernel.now.signals
+  pub classes : AreClasses frame guards firsts clocks.class_of
+  pub guard : AreGuardsOf frame guards firsts clocks.guard
+  pub layer : clocks.layer ≡ map (λ c. layer_in frame layers c.0) firsts
+  pub conditions_are : clocks.conditions ≡ conditions

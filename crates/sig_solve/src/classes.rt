@@ -1,14 +1,17 @@
 //! Classes of signals with one clock function.
 
-ghost use Rattle.std.specs.Prelude.{◌≡◌, ◌+◌, ◌^◌, ◌<◌, ◌≤◌, ℕ, length, map, Some, slice_get, IfOk};
+ghost use Rattle.std.specs.Prelude.{◌≡◌, ◌+◌, ◌^◌, ◌<◌, ◌≤◌, ℕ, [], length, map, Some, slice_get, IfOk};
 ghost use Rattle.sig_base.specs.declared.ids.SigId.{SigId};
 ghost use Rattle.sig_dd.specs.declared.node.Ref.{Ref};
-ghost use Rattle.sig_solve.specs.Classes.{AreClasses, AreFirsts, AreGuardsOf, IsPlace, Precedes, guard_at};
-ghost use Rattle.sig_solve.specs.Rounds.{layer_in};
+ghost use Rattle.sig_solve.specs.Classes.{AreClasses, AreFirsts, AreGuardsOf, AreMadeOf, IsPlace, Precedes, guard_at};
+ghost use Rattle.sig_solve.specs.Frames.{IsFrame};
+ghost use Rattle.sig_solve.specs.Rounds.{AreSettled, layer_in};
 
 use crate::frame::Frame;
 use crate::layers::{layer_in, number_at};
+use crate::order::{by_layer, first_signals};
 use sig_base::SigId;
+use sig_clock::Clocks;
 use sig_dd::Ref;
 use std::alloc::{AllocError, Global};
 
@@ -122,4 +125,33 @@ pub(crate) fn layers_at(
         own.push(layer_in(frame, layers, *first))?;
     }
     Ok(own)
+}
+
+/// The clocks of a kernel, from the layers and guards of its clock classes.
+pub(crate) fn clocks_of(
+    alloc: Global,
+    frame: &Frame,
+    layers: &[u32],
+    conditions: Vec<SigId>,
+    guards: &[Ref],
+    root: SigId,
+) -> Result<Clocks, AllocError>
+    requires frame { IsFrame frame.now }
+    requires few { length frame.now.kernel.now.signals ≤ 512 }
+    requires settled { AreSettled frame.now layers.now [] }
+    requires root { root.0 < length frame.now.kernel.now.signals }
+    requires guards { (s : ℕ) → s < length frame.now.kernel.now.signals
+        → (r : Ref) × (guard_at frame.now guards.now s ≡ Some r) }
+    ensures { IfOk result (AreMadeOf frame.now layers.now guards.now root conditions.items) }
+{
+    let signals = first_signals(alloc, frame.least.len() as u32)?;
+    let ordered = by_layer(alloc, frame, layers, signals.as_slice(), frame.leaders.len() as u32)?;
+    let firsts = firsts_of(alloc, frame, layers, guards, root, ordered.as_slice())?;
+    let firsts = firsts.as_slice();
+    Ok(Clocks {
+        class_of: classes_of(alloc, frame, guards, firsts)?,
+        guard: guards_at(alloc, frame, guards, firsts)?,
+        layer: layers_at(alloc, frame, layers, firsts)?,
+        conditions,
+    })
 }

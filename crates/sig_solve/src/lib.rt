@@ -3,6 +3,7 @@
 //! on sig_dd.
 #![tactic(auto)]
 
+mod answer;
 mod classes;
 mod frame;
 mod guards;
@@ -12,3 +13,6 @@ mod order;
 mod parts;
 mod pinned;
 mod roots;
+mod solve;
+
+pub use answer::ClockAnswer;

@@ -1,0 +1,119 @@
+//! The clocks of a kernel.
+
+ghost use Rattle.std.specs.Prelude.{◌≡◌, ◌≤◌, ◌+◌, ◌*◌, ℕ, true, [], length, IfErr, IfOk};
+ghost use Rattle.sig_clock.specs.ClockRefusals.{HasRoot, IsAlive};
+ghost use Rattle.sig_clock.specs.Clocks.{AreInOrder};
+ghost use Rattle.sig_clock.specs.Conditions.{conditions_of, is_condition};
+ghost use Rattle.sig_clock.specs.Layers.{IsRoot};
+ghost use Rattle.sig_clock.specs.Pinned.{IsFree};
+ghost use Rattle.sig_clock.specs.Reactions.{Speaks};
+ghost use Rattle.sig_dd.specs.Nodes.{IsStore, Keeps};
+ghost use Rattle.sig_dd.specs.Shares.{Share};
+ghost use Rattle.sig_solve.specs.Refusals.{IsRefusalOf, store_refusal};
+ghost use Rattle.sig_solve.specs.Rounds.{AreSettled};
+ghost use Rattle.sig_solve.specs.Sets.{IsPart, IsReady};
+
+use crate::answer::ClockAnswer;
+use crate::frame::Frame;
+use crate::layers::layers_of;
+use crate::order::by_layer;
+use crate::pinned::find_pinned;
+use crate::roots::{find_root, missing_root, speaking};
+use sig_base::SigId;
+use sig_dd::{Ref, Store};
+use std::alloc::Global;
+
+/// The reactions that are not silent, of a kernel that has some.
+fn some_speaking(frame: &Frame, store: &mut Store) -> Result<Ref, ClockAnswer>
+    requires { IsReady store.old frame.now }
+    ensures store { IsStore store.new }
+    ensures kept { Keeps store.old store.new }
+    ensures value { IfOk result (λ r. IsPart store.new.nodes frame.now (Speaks frame.now.kernel.now) r
+        × IsAlive frame.now.kernel.now) }
+    ensures refused { IfErr result (IsRefusalOf frame.now.kernel.now) }
+    ensures share { Share (2 * length frame.now.leaders.items + 1) frame.now.unknowns.items
+        store.old store.new (store_refusal result) }
+{
+    let speaking = speaking(frame, store)?;
+    if !store.overlap(speaking, speaking)? {
+        return Err(ClockAnswer::Dead);
+    }
+    Ok(speaking)
+}
+
+/// A root of a kernel that has one.
+fn some_root(frame: &Frame, speaking: Ref, store: &mut Store) -> Result<SigId, ClockAnswer>
+    requires ready { IsReady store.old frame.now }
+    requires speaking { IsPart store.old.nodes frame.now (Speaks frame.now.kernel.now) speaking }
+    requires alive { IsAlive frame.now.kernel.now }
+    ensures store { IsStore store.new }
+    ensures kept { Keeps store.old store.new }
+    ensures value { IfOk result (λ root. IsRoot frame.now.kernel.now root.0) }
+    ensures refused { IfErr result (IsRefusalOf frame.now.kernel.now) }
+    ensures share { Share (6 * length frame.now.leaders.items + 2) frame.now.unknowns.items
+        store.old store.new (store_refusal result) }
+{
+    match find_root(frame, speaking, store)? {
+        Some(root) => Ok(root),
+        None => {
+            let (x, y) = missing_root(frame, speaking, store)?;
+            Err(ClockAnswer::MissingRoot(x, y))
+        }
+    }
+}
+
+/// The layers of a kernel in which each signal enters.
+fn all_layers(
+    alloc: Global,
+    frame: &Frame,
+    speaking: Ref,
+    store: &mut Store,
+    conditions: &[SigId],
+) -> Result<Vec<u32>, ClockAnswer>
+    requires ready { IsReady store.old frame.now }
+    requires speaking { IsPart store.old.nodes frame.now (Speaks frame.now.kernel.now) speaking }
+    requires conditions { conditions.now ≡ conditions_of frame.now.kernel.now }
+    requires root { HasRoot frame.now.kernel.now }
+    ensures store { IsStore store.new }
+    ensures kept { Keeps store.old store.new }
+    ensures value { IfOk result (λ layers. AreSettled frame.now layers.items []) }
+    ensures refused { IfErr result (IsRefusalOf frame.now.kernel.now) }
+    ensures share { Share ((4 + 6 * length frame.now.unknowns.items)
+        * length frame.now.leaders.items * length frame.now.leaders.items)
+        frame.now.unknowns.items store.old store.new (store_refusal result) }
+{
+    let layers = layers_of(alloc, frame, speaking, store, conditions)?;
+    if let Some(signal) = layers.waiting.as_slice().first() {
+        return Err(ClockAnswer::Unsolved(SigId(*signal)));
+    }
+    Ok(layers.numbers)
+}
+
+/// The conditions in their order, where none is pinned.
+fn free_conditions(
+    alloc: Global,
+    frame: &Frame,
+    store: &mut Store,
+    layers: &[u32],
+    conditions: &[SigId],
+) -> Result<Vec<SigId>, ClockAnswer>
+    requires ready { IsReady store.old frame.now }
+    requires settled { AreSettled frame.now layers.now [] }
+    requires conditions { conditions.now ≡ conditions_of frame.now.kernel.now }
+    requires root { HasRoot frame.now.kernel.now }
+    ensures store { IsStore store.new }
+    ensures kept { Keeps store.old store.new }
+    ensures value { IfOk result (λ ordered. AreInOrder frame.now.kernel.now ordered.items
+        × (length ordered.items ≤ length (conditions_of frame.now.kernel.now))
+        × ((c : ℕ) → is_condition frame.now.kernel.now c ≡ true → IsFree frame.now.kernel.now c)) }
+    ensures refused { IfErr result (IsRefusalOf frame.now.kernel.now) }
+    ensures share { Share ((8 + 6 * length frame.now.unknowns.items)
+        * length (conditions_of frame.now.kernel.now))
+        frame.now.unknowns.items store.old store.new (store_refusal result) }
+{
+    let ordered = by_layer(alloc, frame, layers, conditions, frame.leaders.len() as u32)?;
+    match find_pinned(alloc, frame, store, ordered.as_slice())? {
+        Some(condition) => Err(ClockAnswer::Pinned(condition)),
+        None => Ok(ordered),
+    }
+}
