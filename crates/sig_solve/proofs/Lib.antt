@@ -13,3 +13,5 @@ pub mod ProposeLemmas
 pub mod ClockLemmas
 pub mod FirstLemmas
 pub mod OrderLemmas
+pub mod SolveLemmas
+pub mod ClassLemmas

@@ -1,0 +1,51 @@
+-- Lemmas on the steps of solving.
+use Rattle.std.proofs.Common.{◌≡◌, ◌<◌, ◌≤◌, ◌+◌, ◌*◌, inl, inr, ℕ, Bool, true, false, List, [], ◌∷◌, length, map, get_or, refl, sym, ap, ◌∙◌, subst, arith, Contains}
+use Rattle.std.specs.Prelude.{zero, suc, Option, None, Some, Result, Ok, Err, IsErrAnd, slice_get}
+use Rattle.std.specs.List.{range_with_len}
+use Rattle.sig_base.specs.declared.ids.SigId.{SigId}
+use Rattle.sig_kernel.specs.declared.kernel.Kernel.{Kernel}
+use Rattle.sig_clock.specs.ClockRefusals.{AreSolved, HasRoot, IsFirstPinned, IsUnsolved}
+use Rattle.sig_clock.specs.Clocks.{AreInOrder}
+use Rattle.sig_clock.specs.Conditions.{conditions_of, signal_id}
+use Rattle.sig_dd.specs.Nodes.{StoreView}
+use Rattle.sig_dd.specs.Shares.{Share}
+use Rattle.sig_dd.specs.declared.answer.DdAnswer.{DdAnswer}
+use Rattle.sig_dd.specs.declared.answer.DdAnswer.TheVariants.{Budget as StoreBudget, OutOfMemory as NoMemory}
+use Rattle.sig_solve.specs.Answers.{FindsPinned}
+use Rattle.sig_solve.specs.Frames.{IsFrame}
+use Rattle.sig_solve.specs.Orders.{by_layer}
+use Rattle.sig_solve.specs.Refusals.{IsFromStore, store_refusal}
+use Rattle.sig_solve.specs.Rounds.{AreSettled, layer_in}
+use Rattle.sig_solve.specs.declared.answer.ClockAnswer.{ClockAnswer}
+use Rattle.sig_solve.specs.declared.frame.Frame.{Frame}
+use Rattle.sig_solve.proofs.OrderLemmas.{signal_layer, unsolved_first}
+use Rattle.sig_solve.proofs.ReactionLemmas.{condition_is_signal}
+
+first_split : (xs : List ℕ) (x : ℕ) → slice_get xs 0 ≡ Some x → (rest : List ℕ) × (xs ≡ x ∷ rest)
+first_split [] x is = cc
+first_split (y ∷ xs) x is = let e : Some y ≡ Some x = is in let same : y ≡ x = cc in (xs, ap (λ z. z ∷ xs) same)
+
+pub unsolved_at : (frame : Frame) (is : IsFrame frame) (layers waiting : List ℕ) (x : ℕ) → AreSettled frame layers waiting → slice_get waiting 0 ≡ Some x → HasRoot frame.kernel.now → IsUnsolved frame.kernel.now x
+unsolved_at frame is layers waiting x settled at root = let split = first_split waiting x at in unsolved_first frame is layers waiting x split.0 settled split.1 root
+
+pub solved : (frame : Frame) (is : IsFrame frame) (layers : List ℕ) → AreSettled frame layers [] → AreSolved frame.kernel.now
+solved frame is layers settled s lt = (layer_in frame layers s, (signal_layer frame is layers settled s lt).0)
+
+pub pinned_at : (frame : Frame) (is : IsFrame frame) (layers : List ℕ) (conditions : List SigId) (b : SigId) → AreSettled frame layers [] → HasRoot frame.kernel.now → FindsPinned frame.kernel.now conditions (Some b) → IsFirstPinned frame.kernel.now b.0
+pinned_at frame is layers conditions b settled root found = record {
+  root = root;
+  solved = solved frame is layers settled;
+  layer = layer_in frame layers b.0;
+  has = (signal_layer frame is layers settled b.0 (condition_is_signal frame.kernel.now b.0 found.0.is)).0;
+  pinned = found.0;
+  first = found.1;
+}
+
+refusal_from : {T : Type 0} (result : Result T ClockAnswer) (e : DdAnswer) → IsErrAnd result (λ d. IsFromStore e d) → store_refusal result ≡ Some e
+refusal_from (Ok x) e h = absurd h
+refusal_from (Err d) (StoreBudget n) h = ap (λ a. store_refusal {T = Unit {0}} (Err a)) h
+refusal_from (Err d) NoMemory h = ap (λ a. store_refusal {T = Unit {0}} (Err a)) h
+
+-- what the store refused is refused
+pub refused_from : {T : Type 0} (n : ℕ) (vs : List ℕ) (s t : StoreView) (result : Result T ClockAnswer) (e : DdAnswer) → IsErrAnd result (λ d. IsFromStore e d) → Share n vs s t (Some e) → Share n vs s t (store_refusal result)
+refused_from n vs s t result e is share = subst (Share n vs s t) (sym (refusal_from result e is)) share
