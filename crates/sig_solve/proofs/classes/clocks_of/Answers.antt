@@ -1,10 +1,11 @@
-use Rattle.std.proofs.Common.{◌≡◌, ◌<◌, ◌≤◌, ◌+◌, ◌*◌, ℕ, List, length, map, get_or, sym, ap, ◌∙◌, subst, arith}
+use Rattle.std.proofs.Common.{◌≡◌, ◌<◌, ◌≤◌, ◌+◌, ◌*◌, ℕ, List, length, map, get_or, refl, sym, ap, ◌∙◌, subst, arith}
 use Rattle.std.specs.Prelude.{None, Some, slice_get}
 use Rattle.std.specs.List.{range_with_len}
 use Rattle.std.proofs.lemmas.List.FromFn.{length-range_with_len}
 use Rattle.sig_base.specs.declared.ids.SigId.{SigId}
 use Rattle.sig_clock.specs.Conditions.{signal_id}
-use Rattle.sig_solve.specs.Classes.{AreFirsts, guard_at}
+use Rattle.sig_solve.specs.Classes.{AreClasses, AreFirsts, AreGuardsOf, guard_at}
+use Rattle.sig_solve.specs.Rounds.{layer_in}
 use Rattle.sig_solve.specs.Orders.{by_layer}
 use Rattle.sig_solve.specs.declared.frame.Frame.{Frame}
 use Rattle.sig_solve.proofs.ListLemmas.{in_map, in_range, map_length}
@@ -59,4 +60,15 @@ guards_at-requires c i a at =
     (subst (λ xs. AreFirsts c.args.frame.now c.args.layers.now c.args.guards.now c.args.root xs c.in_ok-firsts.firsts.items) same c.in_ok-firsts.ensures.0) c.requires.root i a (ap (λ (xs : List SigId). slice_get xs i) (sym c.as_slice-firsts.ensures.value) ∙ at))
 
 pub returns : goal.returns
-returns c = ?
+returns c =
+    let same = c.as_slice-2.ensures.value ∙ ordered_is (goal.at.returns c).In_ok-ordered in
+    let own = c.as_slice-firsts.ensures.value in
+    record {
+      firsts = c.in_ok-firsts.firsts.items;
+      are = subst (λ xs. AreFirsts c.args.frame.now c.args.layers.now c.args.guards.now c.args.root xs c.in_ok-firsts.firsts.items) same c.in_ok-firsts.ensures.0;
+      count = c.in_ok-classes_of.ensures.0 ∙ c.requires.frame.least.count;
+      classes = subst (λ xs. AreClasses c.args.frame.now c.args.guards.now xs c.in_ok-classes_of.field-0.items) own c.in_ok-classes_of.ensures.1;
+      guard = subst (λ xs. AreGuardsOf c.args.frame.now c.args.guards.now xs c.in_ok-guards_at.field-0.items) own c.in_ok-guards_at.ensures;
+      layer = c.in_ok-layers_at.ensures ∙ ap (map (λ (x : SigId). layer_in c.args.frame.now c.args.layers.now x.0)) own;
+      conditions_are = refl;
+    }
