@@ -15,3 +15,4 @@ pub mod FirstLemmas
 pub mod OrderLemmas
 pub mod SolveLemmas
 pub mod ClassLemmas
+pub mod CountLemmas

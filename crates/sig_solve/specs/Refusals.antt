@@ -52,7 +52,19 @@ HasNoRoom old new room (Pinned b) = Unit {0}
 HasNoRoom old new room (Budget n) = IsFull new n × (n < length old.nodes + room)
 HasNoRoom old new room OutOfMemory = Unit {0}
 
+-- nodes were added within this room, or there was none
+pub record IsWithin {T : Type 0} (room : ℕ) (old new : StoreView) (result : Result T ClockAnswer) : Type 0 where
+  pub added : length new.nodes ≤ length old.nodes + room
+  pub refused : IfErr result (HasNoRoom old new room)
+
 -- solving a kernel keeps to its share
-pub record KeepsToShare {T : Type 0} (kernel : Kernel) (old new : StoreView) (result : Result T ClockAnswer) : Type 0 where
-  pub added : (u : ℕ) → IsUnknownCount kernel u → length new.nodes ≤ length old.nodes + share_of kernel u
-  pub refused : (u : ℕ) → IsUnknownCount kernel u → IfErr result (HasNoRoom old new (share_of kernel u))
+abbrev pub KeepsToShare : {T : Type 0} → Kernel → StoreView → StoreView → Result T ClockAnswer → Type 0
+KeepsToShare kernel old new result = (unknowns : ℕ) → IsUnknownCount kernel unknowns → IsWithin (share_of kernel unknowns) old new result
+
+-- the share that is left once the relation is made
+abbrev pub rest_of_share : Kernel → ℕ → ℕ
+rest_of_share kernel unknowns = 2 ^ unknowns * 30 * (length kernel.equations + unknowns * unknowns * unknowns)
+
+-- how many calls solve a kernel of so many classes, conditions and unknowns
+abbrev pub calls_of : ℕ → ℕ → ℕ → ℕ
+calls_of classes conditions unknowns = (2 * classes + 1) + (6 * classes + 2) + (4 + 6 * unknowns) * classes * classes + (8 + 6 * unknowns) * conditions + (18 * conditions + (2 + 3 * unknowns) * classes)

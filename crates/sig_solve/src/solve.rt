@@ -1,25 +1,28 @@
 //! The clocks of a kernel.
 
 ghost use Rattle.std.specs.Prelude.{◌≡◌, ◌≤◌, ◌+◌, ◌*◌, ℕ, true, [], length, IfErr, IfOk};
-ghost use Rattle.sig_clock.specs.ClockRefusals.{HasRoot, IsAlive};
-ghost use Rattle.sig_clock.specs.Clocks.{AreInOrder};
+ghost use Rattle.sig_clock.specs.ClockRefusals.{HasClocks, HasRoot, IsAlive};
+ghost use Rattle.sig_clock.specs.Clocks.{AreClocks, AreInOrder};
 ghost use Rattle.sig_clock.specs.Conditions.{conditions_of, is_condition};
 ghost use Rattle.sig_clock.specs.Layers.{IsRoot};
 ghost use Rattle.sig_clock.specs.Pinned.{IsFree};
 ghost use Rattle.sig_clock.specs.Reactions.{Speaks};
 ghost use Rattle.sig_dd.specs.Nodes.{IsStore, Keeps};
 ghost use Rattle.sig_dd.specs.Shares.{Share};
-ghost use Rattle.sig_solve.specs.Refusals.{IsRefusalOf, store_refusal};
+ghost use Rattle.sig_solve.specs.Refusals.{IsRefusalOf, calls_of, store_refusal};
 ghost use Rattle.sig_solve.specs.Rounds.{AreSettled};
 ghost use Rattle.sig_solve.specs.Sets.{IsPart, IsReady};
 
 use crate::answer::ClockAnswer;
+use crate::classes::clocks_of;
 use crate::frame::Frame;
+use crate::guards::guards_of;
 use crate::layers::layers_of;
 use crate::order::by_layer;
 use crate::pinned::find_pinned;
 use crate::roots::{find_root, missing_root, speaking};
 use sig_base::SigId;
+use sig_clock::Clocks;
 use sig_dd::{Ref, Store};
 use std::alloc::Global;
 
@@ -116,4 +119,58 @@ fn free_conditions(
         Some(condition) => Err(ClockAnswer::Pinned(condition)),
         None => Ok(ordered),
     }
+}
+
+/// The clocks of a kernel that has them, from its layers and its conditions in their order.
+fn clocks(
+    alloc: Global,
+    frame: &Frame,
+    speaking: Ref,
+    store: &mut Store,
+    layers: &[u32],
+    conditions: Vec<SigId>,
+    root: SigId,
+) -> Result<Clocks, ClockAnswer>
+    requires ready { IsReady store.old frame.now }
+    requires speaking { IsPart store.old.nodes frame.now (Speaks frame.now.kernel.now) speaking }
+    requires settled { AreSettled frame.now layers.now [] }
+    requires conditions { AreInOrder frame.now.kernel.now conditions.items }
+    requires few { length conditions.items ≤ length (conditions_of frame.now.kernel.now) }
+    requires root { IsRoot frame.now.kernel.now root.0 }
+    requires has { HasClocks frame.now.kernel.now }
+    ensures store { IsStore store.new }
+    ensures kept { Keeps store.old store.new }
+    ensures value { IfOk result (AreClocks frame.now.kernel.now store.new.nodes) }
+    ensures refused { IfErr result (IsRefusalOf frame.now.kernel.now) }
+    ensures share { Share (18 * length conditions.items
+        + (2 + 3 * length frame.now.unknowns.items) * length frame.now.leaders.items)
+        frame.now.unknowns.items store.old store.new (store_refusal result) }
+{
+    let guards = guards_of(alloc, frame, speaking, store, conditions.as_slice())?;
+    Ok(clocks_of(alloc, frame, layers, conditions, guards.as_slice(), root)?)
+}
+
+/// The clocks of a kernel whose relation stands in the store, and whose conditions are given.
+fn solve_in(
+    alloc: Global,
+    frame: &Frame,
+    store: &mut Store,
+    conditions: &[SigId],
+) -> Result<Clocks, ClockAnswer>
+    requires ready { IsReady store.old frame.now }
+    requires conditions { conditions.now ≡ conditions_of frame.now.kernel.now }
+    ensures store { IsStore store.new }
+    ensures kept { Keeps store.old store.new }
+    ensures clocks { IfOk result (λ clocks. HasClocks frame.now.kernel.now
+        × AreClocks frame.now.kernel.now store.new.nodes clocks) }
+    ensures refused { IfErr result (IsRefusalOf frame.now.kernel.now) }
+    ensures share { Share (calls_of (length frame.now.leaders.items)
+        (length (conditions_of frame.now.kernel.now)) (length frame.now.unknowns.items))
+        frame.now.unknowns.items store.old store.new (store_refusal result) }
+{
+    let speaking = some_speaking(frame, store)?;
+    let root = some_root(frame, speaking, store)?;
+    let layers = all_layers(alloc, frame, speaking, store, conditions)?;
+    let ordered = free_conditions(alloc, frame, store, layers.as_slice(), conditions)?;
+    clocks(alloc, frame, speaking, store, layers.as_slice(), ordered, root)
 }
