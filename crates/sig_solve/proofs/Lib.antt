@@ -13,6 +13,6 @@ pub mod ProposeLemmas
 pub mod ClockLemmas
 pub mod FirstLemmas
 pub mod OrderLemmas
-pub mod SolveLemmas
 pub mod ClassLemmas
 pub mod CountLemmas
+pub mod SolveLemmas

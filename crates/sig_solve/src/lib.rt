@@ -13,6 +13,7 @@ mod order;
 mod parts;
 mod pinned;
 mod roots;
-mod solve;
+mod solving;
 
 pub use answer::ClockAnswer;
+pub use solving::solve;

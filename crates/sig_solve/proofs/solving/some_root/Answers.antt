@@ -1,7 +1,7 @@
 use Rattle.sig_clock.specs.Reactions.{Speaks}
 use Rattle.sig_solve.proofs.FrameLemmas.{frame_stays}
 use Rattle.sig_solve.proofs.SetLemmas.{part_stays}
-use Rattle.sig_solve.proofs.solve.some_root.Goals as goal
+use Rattle.sig_solve.proofs.solving.some_root.Goals as goal
 
 pub missing_root-requires-clause-ready : goal.missing_root-requires-clause-ready
 missing_root-requires-clause-ready c = record {

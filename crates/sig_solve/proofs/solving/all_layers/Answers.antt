@@ -1,7 +1,7 @@
 use Rattle.std.proofs.Common.{◌≡◌, sym, ap, ◌∙◌}
 use Rattle.std.specs.Prelude.{slice_get}
 use Rattle.sig_solve.proofs.SolveLemmas.{unsolved_at}
-use Rattle.sig_solve.proofs.solve.all_layers.Goals as goal
+use Rattle.sig_solve.proofs.solving.all_layers.Goals as goal
 
 pub returns-in-Some-clause-refused : goal.returns-in-Some-clause-refused
 returns-in-Some-clause-refused c =

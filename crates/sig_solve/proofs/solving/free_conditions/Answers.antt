@@ -12,8 +12,8 @@ use Rattle.sig_solve.proofs.OrderLemmas.{by_fewer, conditions_in_order}
 use Rattle.sig_solve.proofs.RoundLemmas.{leaders_fewer}
 use Rattle.sig_solve.proofs.SolveLemmas.{pinned_at, refused_from}
 use Rattle.sig_solve.proofs.StoreLemmas.{more_calls}
-use Rattle.sig_solve.proofs.solve.free_conditions.Goals as goal
-use Rattle.sig_solve.proofs.solve.free_conditions.Goals.{In_ok-ordered}
+use Rattle.sig_solve.proofs.solving.free_conditions.Goals as goal
+use Rattle.sig_solve.proofs.solving.free_conditions.Goals.{In_ok-ordered}
 
 pub overflow_cast-len : goal.overflow_cast-len
 overflow_cast-len c =

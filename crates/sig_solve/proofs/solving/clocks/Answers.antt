@@ -4,7 +4,7 @@ use Rattle.sig_solve.specs.Guards.{AreGuards}
 use Rattle.sig_solve.specs.Classes.{AreMadeOf}
 use Rattle.sig_solve.proofs.ClassLemmas.{clocks_are}
 use Rattle.sig_solve.proofs.FrameLemmas.{leader_in}
-use Rattle.sig_solve.proofs.solve.clocks.Goals as goal
+use Rattle.sig_solve.proofs.solving.clocks.Goals as goal
 
 pub clocks_of-requires-clause-guards : goal.clocks_of-requires-clause-guards
 clocks_of-requires-clause-guards c s lt =

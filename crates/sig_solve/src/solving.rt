@@ -9,21 +9,25 @@ ghost use Rattle.sig_clock.specs.Pinned.{IsFree};
 ghost use Rattle.sig_clock.specs.Reactions.{Speaks};
 ghost use Rattle.sig_dd.specs.Nodes.{IsStore, Keeps};
 ghost use Rattle.sig_dd.specs.Shares.{Share};
-ghost use Rattle.sig_solve.specs.Refusals.{IsRefusalOf, calls_of, store_refusal};
+ghost use Rattle.sig_kernel.specs.Validity.{IsValid};
+ghost use Rattle.sig_rel.specs.Relations.{IsRelation, IsUnknownCount};
+ghost use Rattle.sig_solve.specs.Refusals.{IsRefusalOf, IsWithin, KeepsToShare, calls_of, rest_of_share, store_refusal};
 ghost use Rattle.sig_solve.specs.Rounds.{AreSettled};
 ghost use Rattle.sig_solve.specs.Sets.{IsPart, IsReady};
 
 use crate::answer::ClockAnswer;
 use crate::classes::clocks_of;
-use crate::frame::Frame;
+use crate::frame::{Frame, frame_of};
 use crate::guards::guards_of;
 use crate::layers::layers_of;
 use crate::order::by_layer;
 use crate::pinned::find_pinned;
 use crate::roots::{find_root, missing_root, speaking};
 use sig_base::SigId;
-use sig_clock::Clocks;
+use sig_clock::{Clocks, condition_set};
 use sig_dd::{Ref, Store};
+use sig_kernel::Kernel;
+use sig_rel::{Relation, relation};
 use std::alloc::Global;
 
 /// The reactions that are not silent, of a kernel that has some.
@@ -173,4 +177,47 @@ fn solve_in(
     let layers = all_layers(alloc, frame, speaking, store, conditions)?;
     let ordered = free_conditions(alloc, frame, store, layers.as_slice(), conditions)?;
     clocks(alloc, frame, speaking, store, layers.as_slice(), ordered, root)
+}
+
+/// The clocks of a kernel whose relation stands in the store.
+fn solve_relation(
+    alloc: Global,
+    kernel: &Kernel,
+    relation: Relation,
+    store: &mut Store,
+) -> Result<Clocks, ClockAnswer>
+    requires valid { IsValid kernel.now }
+    requires was_store { IsStore store.old }
+    requires relation { (count : ℕ) × IsRelation kernel.now count store.old.nodes relation }
+    ensures store { IsStore store.new }
+    ensures kept { Keeps store.old store.new }
+    ensures clocks { IfOk result (λ clocks. HasClocks kernel.now
+        × AreClocks kernel.now store.new.nodes clocks) }
+    ensures refused { IfErr result (IsRefusalOf kernel.now) }
+    ensures share { (unknowns : ℕ) → IsUnknownCount kernel.now unknowns
+        → IsWithin (rest_of_share kernel.now unknowns) store.old store.new result }
+{
+    let frame = frame_of(alloc, kernel, relation)?;
+    let conditions = condition_set(alloc, kernel)?;
+    solve_in(alloc, &frame, store, conditions.as_slice())
+}
+
+/// The clocks of a kernel, or the first reason why it has none: no reaction is possible but the
+/// silent one, there is no root, a clock is not determined, or a condition is forced. It is refused
+/// where the store has no room for the nodes that it needs; older references of the store stay.
+pub fn solve(
+    alloc: Global,
+    kernel: &Kernel,
+    store: &mut Store,
+) -> Result<Clocks, ClockAnswer>
+    requires valid { IsValid kernel.now }
+    ensures store { IsStore store.new }
+    ensures kept { Keeps store.old store.new }
+    ensures clocks { IfOk result (λ clocks. HasClocks kernel.now
+        × AreClocks kernel.now store.new.nodes clocks) }
+    ensures refused { IfErr result (IsRefusalOf kernel.now) }
+    ensures share { KeepsToShare kernel.now store.old store.new result }
+{
+    let relation = relation(alloc, kernel, store)?;
+    solve_relation(alloc, kernel, relation, store)
 }
