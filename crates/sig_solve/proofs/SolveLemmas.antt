@@ -1,0 +1,95 @@
+-- Lemmas on the steps of solving.
+use Rattle.std.proofs.Common.{◌≡◌, ◌<◌, ◌≤◌, ◌+◌, ◌*◌, ◌^◌, inl, inr, ℕ, Bool, true, false, List, [], ◌∷◌, length, map, get_or, refl, sym, ap, ◌∙◌, subst, arith, Contains}
+use Rattle.std.specs.Prelude.{zero, suc, Option, None, Some, Result, Ok, Err, IfOk, IsErrAnd, slice_get}
+use Rattle.std.specs.List.{range_with_len}
+use Rattle.sig_base.specs.declared.ids.SigId.{SigId}
+use Rattle.sig_kernel.specs.declared.kernel.Kernel.{Kernel}
+use Rattle.sig_clock.specs.ClockRefusals.{AreSolved, HasRoot, IsFirstPinned, IsUnsolved}
+use Rattle.sig_clock.specs.Clocks.{AreInOrder}
+use Rattle.sig_clock.specs.Conditions.{conditions_of, signal_id}
+use Rattle.sig_dd.specs.Nodes.{StoreView, IsStore, allowance}
+use Rattle.sig_dd.specs.declared.node.Node.{Node}
+use Rattle.sig_kernel.specs.Validity.{IsValid}
+use Rattle.sig_rel.specs.Relations.{IsRelation, IsUnknownCount, RelationView}
+use Rattle.sig_rel.proofs.ChosenTruths.{truths_of_reaction}
+use Rattle.sig_solve.specs.Sets.{IsReady}
+use Rattle.sig_solve.specs.declared.answer.ClockAnswer.TheVariants.{OutOfMemory}
+use Rattle.sig_solve.proofs.CountLemmas.{calls_fit, conditions_fewer, some_class, unknown_count, unknowns_sum, within_of_share}
+use Rattle.sig_dd.specs.Shares.{Share}
+use Rattle.sig_dd.specs.declared.answer.DdAnswer.{DdAnswer}
+use Rattle.sig_dd.specs.declared.answer.DdAnswer.TheVariants.{Budget as StoreBudget, OutOfMemory as NoMemory}
+use Rattle.sig_solve.specs.Answers.{FindsPinned}
+use Rattle.sig_solve.specs.Frames.{IsFrame, IsFrameIn}
+use Rattle.sig_solve.specs.Orders.{by_layer}
+use Rattle.sig_solve.specs.Refusals.{HasNoRoom, IsFromStore, IsWithin, calls_of, rest_of_share, store_refusal}
+use Rattle.sig_solve.specs.Rounds.{AreSettled, layer_in}
+use Rattle.sig_solve.specs.declared.answer.ClockAnswer.{ClockAnswer}
+use Rattle.sig_solve.specs.declared.frame.Frame.{Frame}
+use Rattle.sig_solve.proofs.OrderLemmas.{signal_layer, unsolved_first}
+use Rattle.sig_solve.proofs.ReactionLemmas.{condition_is_signal}
+
+first_split : (xs : List ℕ) (x : ℕ) → slice_get xs 0 ≡ Some x → (rest : List ℕ) × (xs ≡ x ∷ rest)
+first_split [] x is = cc
+first_split (y ∷ xs) x is = let e : Some y ≡ Some x = is in let same : y ≡ x = cc in (xs, ap (λ z. z ∷ xs) same)
+
+pub unsolved_at : (frame : Frame) (is : IsFrame frame) (layers waiting : List ℕ) (x : ℕ) → AreSettled frame layers waiting → slice_get waiting 0 ≡ Some x → HasRoot frame.kernel.now → IsUnsolved frame.kernel.now x
+unsolved_at frame is layers waiting x settled at root = let split = first_split waiting x at in unsolved_first frame is layers waiting x split.0 settled split.1 root
+
+pub solved : (frame : Frame) (is : IsFrame frame) (layers : List ℕ) → AreSettled frame layers [] → AreSolved frame.kernel.now
+solved frame is layers settled s lt = (layer_in frame layers s, (signal_layer frame is layers settled s lt).0)
+
+pub pinned_at : (frame : Frame) (is : IsFrame frame) (layers : List ℕ) (conditions : List SigId) (b : SigId) → AreSettled frame layers [] → HasRoot frame.kernel.now → FindsPinned frame.kernel.now conditions (Some b) → IsFirstPinned frame.kernel.now b.0
+pinned_at frame is layers conditions b settled root found = record {
+  root = root;
+  solved = solved frame is layers settled;
+  layer = layer_in frame layers b.0;
+  has = (signal_layer frame is layers settled b.0 (condition_is_signal frame.kernel.now b.0 found.0.is)).0;
+  pinned = found.0;
+  first = found.1;
+}
+
+refusal_from : {T : Type 0} (result : Result T ClockAnswer) (e : DdAnswer) → IsErrAnd result (λ d. IsFromStore e d) → store_refusal result ≡ Some e
+refusal_from (Ok x) e h = absurd h
+refusal_from (Err d) (StoreBudget n) h = ap (λ a. store_refusal {T = Unit {0}} (Err a)) h
+refusal_from (Err d) NoMemory h = ap (λ a. store_refusal {T = Unit {0}} (Err a)) h
+
+-- what the store refused is refused
+pub refused_from : {T : Type 0} (n : ℕ) (vs : List ℕ) (s t : StoreView) (result : Result T ClockAnswer) (e : DdAnswer) → IsErrAnd result (λ d. IsFromStore e d) → Share n vs s t (Some e) → Share n vs s t (store_refusal result)
+refused_from n vs s t result e is share = subst (Share n vs s t) (sym (refusal_from result e is)) share
+
+pub with_clocks : {T : Type 0} (H : Type 0) (P : T → Type 0) (result : Result T ClockAnswer) → H → IfOk result P → IfOk result (λ x. H × P x)
+with_clocks H P (Ok x) h is = (h, is)
+with_clocks H P (Err e) h is = tt
+
+-- a frame of a kernel whose relation is in the store
+pub ready_of : (store : StoreView) (kernel : Kernel) (count : ℕ) (relation : RelationView) (frame : Frame) → frame.kernel.now ≡ kernel → frame.relation ≡ relation → IsFrame frame → IsValid kernel → IsStore store → IsRelation kernel count store.nodes relation → IsReady store frame
+ready_of store kernel count relation frame same_kernel same_relation parts valid is_store is =
+    let own : IsRelation frame.kernel.now count store.nodes frame.relation = subst (λ k. IsRelation k count store.nodes frame.relation) (sym same_kernel) (subst (λ r. IsRelation kernel count store.nodes r) (sym same_relation) is) in
+    record {
+      has_store = is_store;
+      has_frame = record {
+        parts = parts;
+        valid = subst IsValid (sym same_kernel) valid;
+        count = count;
+        relation = own;
+        every = λ reaction possible. truths_of_reaction frame.kernel.now count frame.relation.present frame.relation.truth own.unknowns reaction possible;
+      };
+    }
+
+-- the calls keep to what is left of the share
+pub rest_within : {T : Type 0} (nodes : List Node) (frame : Frame) (is : IsFrameIn nodes frame) (u : ℕ) (old new : StoreView) (result : Result T ClockAnswer) → IsUnknownCount frame.kernel.now u
+    → Share (calls_of (length frame.leaders.items) (length (conditions_of frame.kernel.now)) (length frame.unknowns.items)) frame.unknowns.items old new (store_refusal result) → IsWithin (rest_of_share frame.kernel.now u) old new result
+rest_within nodes frame is u old new result counted share =
+    let c = length frame.leaders.items in
+    let k = length (conditions_of frame.kernel.now) in
+    let same : length frame.unknowns.items ≡ u = unknown_count nodes frame is u counted in
+    let sum = unknowns_sum nodes frame is in
+    let few = conditions_fewer nodes frame is in
+    let le : c + k ≤ u = omega (arith, sum, few, same) in
+    within_of_share (calls_of c k (length frame.unknowns.items)) frame.unknowns.items (rest_of_share frame.kernel.now u) old new result
+    (subst (λ n. calls_of c k n * allowance frame.unknowns.items ≤ 2 ^ u * 30 * (length frame.kernel.now.equations + u * u * u)) (sym same)
+    (calls_fit u c k (length frame.kernel.now.equations) frame.unknowns.items same le (elim (some_class nodes frame is) [ inl none ↦ inl (sym same ∙ none) | inr pos ↦ inr pos ]))) share
+
+pub within_nothing : {T : Type 0} (room : ℕ) (s : StoreView) (result : Result T ClockAnswer) → IsErrAnd result (λ e. e ≡ OutOfMemory) → IsWithin room s s result
+within_nothing room s (Ok x) is = absurd is
+within_nothing room s (Err e) is = record { added = omega arith; refused = subst (λ x. HasNoRoom s s room x) (sym is) tt }

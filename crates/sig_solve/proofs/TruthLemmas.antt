@@ -1,0 +1,70 @@
+-- Lemmas on truths and on lists of variables.
+use Rattle.std.proofs.Common.{◌≡◌, ◌≢◌, ◌<◌, ◌+◌, ◌⊎◌, inl, inr, ℕ, Bool, true, false, List, [], ◌∷◌, ◌++◌, length, get_or, take, refl, sym, ap, ◌∙◌, subst, arith, Contains, IsTrue}
+use Rattle.std.specs.Prelude.{zero, suc, if◌then◌else◌}
+use Rattle.std.proofs.lemmas.Bool.{cases_eq, false≢true}
+use Rattle.sig_clock.proofs.Lists.{contains_cons, contains_head, contains_later, contains_none}
+use Rattle.sig_dd.specs.Diagram.{truth_of, with_truth}
+use Rattle.sig_dd.proofs.Trees.{truth_of-with_same, truth_of-with_other}
+use Rattle.sig_solve.specs.Parts.{AgreeOutside}
+
+-- a variable is in a list, or not
+pub is_in : (xs : List ℕ) (v : ℕ) → Contains xs v ⊎ (Contains xs v → ⊥)
+is_in [] v = inr (contains_none v)
+is_in (x ∷ xs) v = by (cases_eq v x) (is_in xs v) where
+  by : ((v ≡ x) ⊎ (v ≢ x)) → (Contains xs v ⊎ (Contains xs v → ⊥)) → Contains (x ∷ xs) v ⊎ (Contains (x ∷ xs) v → ⊥)
+  by (inl e) rest = inl (subst (λ w. Contains (x ∷ xs) w) (sym e) (contains_head x xs))
+  by (inr ne) (inl later) = inl (contains_later x v xs later)
+  by (inr ne) (inr not) = inr (λ there. elim (contains_cons x v xs there) [ inl e ↦ ne e | inr later ↦ not later ])
+
+pub contains_end : {X : Type 0} (xs : List X) (x y : X) → Contains (xs ++ x ∷ []) y → Contains xs y ⊎ (y ≡ x)
+contains_end [] x y there = elim (contains_cons x y [] there) [ inl e ↦ inr e | inr later ↦ absurd (contains_none y later) ]
+contains_end (z ∷ xs) x y there = elim (contains_cons z y (xs ++ x ∷ []) there) [
+  | inl e ↦ inl (subst (λ w. Contains (z ∷ xs) w) (sym e) (contains_head z xs))
+  | inr later ↦ elim (contains_end xs x y later) [ inl in_xs ↦ inl (contains_later z y xs in_xs) | inr e ↦ inr e ]
+]
+
+pub contains_before : {X : Type 0} (xs : List X) (x y : X) → Contains xs y → Contains (xs ++ x ∷ []) y
+contains_before [] x y there = absurd (contains_none y there)
+contains_before (z ∷ xs) x y there = elim (contains_cons z y xs there) [
+  | inl e ↦ subst (λ w. Contains (z ∷ xs ++ x ∷ []) w) (sym e) (contains_head z (xs ++ x ∷ []))
+  | inr later ↦ contains_later z y (xs ++ x ∷ []) (contains_before xs x y later)
+]
+
+pub contains_last : {X : Type 0} (xs : List X) (x : X) → Contains (xs ++ x ∷ []) x
+contains_last [] x = contains_head x []
+contains_last (z ∷ xs) x = contains_later z x (xs ++ x ∷ []) (contains_last xs x)
+
+pub outside_none : (a : List Bool) → AgreeOutside [] a a
+outside_none a v out = refl
+
+-- one more variable is forgotten: some truth of it
+pub outside_more : (xs : List ℕ) (v : ℕ) (x : Bool) (a b : List Bool) → AgreeOutside xs (with_truth a v x) b → AgreeOutside (xs ++ v ∷ []) a b
+outside_more xs v x a b agree u out =
+    let ne : u ≢ v = λ e. out (subst (λ w. Contains (xs ++ v ∷ []) w) (sym e) (contains_last xs v)) in
+    sym (truth_of-with_other a v x u ne) ∙ agree u (λ there. out (contains_before xs v u there))
+
+pub outside_fewer : (xs : List ℕ) (v : ℕ) (a b : List Bool) → AgreeOutside (xs ++ v ∷ []) a b → AgreeOutside xs (with_truth a v (truth_of b v)) b
+outside_fewer xs v a b agree u out = by (cases_eq u v) where
+  by : ((u ≡ v) ⊎ (u ≢ v)) → truth_of (with_truth a v (truth_of b v)) u ≡ truth_of b u
+  by (inl e) = subst (λ w. truth_of (with_truth a v (truth_of b v)) w ≡ truth_of b w) (sym e) (truth_of-with_same a v (truth_of b v))
+  by (inr ne) = truth_of-with_other a v (truth_of b v) u ne ∙ agree u (λ there. elim (contains_end xs v u there) [ inl in_xs ↦ out in_xs | inr e ↦ ne e ])
+
+-- truths that are those of one list at some variables, and of another one elsewhere
+pub mixed : List ℕ → List Bool → List Bool → List Bool
+mixed [] at a = a
+mixed (v ∷ vs) at a = with_truth (mixed vs at a) v (truth_of at v)
+
+pub mixed_at : (vs : List ℕ) (at a : List Bool) (u : ℕ) → Contains vs u → truth_of (mixed vs at a) u ≡ truth_of at u
+unfolding mixed
+mixed_at [] at a u there = absurd (contains_none u there)
+mixed_at (v ∷ vs) at a u there = elim (cases_eq u v) [
+  | inl e ↦ subst (λ w. truth_of (with_truth (mixed vs at a) v (truth_of at v)) w ≡ truth_of at w) (sym e) (truth_of-with_same (mixed vs at a) v (truth_of at v))
+  | inr ne ↦ truth_of-with_other (mixed vs at a) v (truth_of at v) u ne ∙ elim (contains_cons v u vs there) [ inl e ↦ absurd (ne e) | inr later ↦ mixed_at vs at a u later ]
+]
+
+pub mixed_outside : (vs : List ℕ) (at a : List Bool) → AgreeOutside vs a (mixed vs at a)
+unfolding mixed
+mixed_outside [] at a u out = refl
+mixed_outside (v ∷ vs) at a u out =
+    let ne : u ≢ v = λ e. out (subst (λ w. Contains (v ∷ vs) w) (sym e) (contains_head v vs)) in
+    mixed_outside vs at a u (λ there. out (contains_later v u vs there)) ∙ sym (truth_of-with_other (mixed vs at a) v (truth_of at v) u ne)

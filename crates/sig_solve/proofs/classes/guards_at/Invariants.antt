@@ -1,0 +1,11 @@
+use Rattle.std.proofs.Common.{◌≡◌, ◌<◌, ℕ, length}
+use Rattle.std.specs.Prelude.{Some, slice_get}
+use Rattle.sig_base.specs.declared.ids.SigId.{SigId}
+use Rattle.sig_solve.specs.Classes.{guard_at}
+use Rattle.sig_solve.proofs.classes.guards_at.Given as goal
+
+abbrev pub invariant-loop-first : goal.invariant-loop-first
+invariant-loop-first l = record {
+  count : length l.own.items ≡ l.first-index;
+  each : (i : ℕ) (c : SigId) → i < l.first-index → slice_get l.firsts i ≡ Some c → slice_get l.own.items i ≡ guard_at l.frame l.guards c.0
+}

@@ -1,0 +1,18 @@
+use Rattle.std.proofs.Common.{◌≡◌, ◌<◌, ℕ, ◌==◌, eqb, List, length, refl, sym, ap, ◌∙◌, subst, get_or, slice_index, arith, Contains}
+use Rattle.std.specs.List.{range_with_len}
+use Rattle.sig_rel.specs.Relations.{RelationView}
+use Rattle.sig_solve.specs.Frames.{leaders_of}
+use Rattle.sig_solve.proofs.ListLemmas.{of_filter, of_range}
+use Rattle.sig_solve.proofs.frame.frame_of.Goals as goal
+
+leader_below : (least leaders : List ℕ) (n k : ℕ) → leaders ≡ leaders_of least → length least ≡ n → k < length leaders → get_or leaders k 0 < n
+leader_below least leaders n k is count lt =
+    let there : Contains leaders (get_or leaders k 0) = (k, lt, Rattle.std.proofs.lemmas.List.get_or_default leaders k (get_or leaders k 0) 0 lt) in
+    let in_range = of_range (length least) (get_or leaders k 0) (of_filter (λ s. eqb (get_or least s 0) s) (range_with_len 0 (length least)) (get_or leaders k 0) (subst (λ (xs : List ℕ). Contains xs (get_or leaders k 0)) is there)).0 in
+    omega (arith, in_range, count)
+
+pub presences-requires : goal.presences-requires
+presences-requires c k lt =
+    let present : c.relation.inside.present.items ≡ c.args.relation.present = ap (λ (r : RelationView). r.present) c.relation.view_is in
+    leader_below c.as_slice.result.now c.as_slice-3.result.now (length c.as_slice-2.result.now) k
+    (c.as_slice-3.ensures.value ∙ c.in_ok-leaders.ensures) (ap length c.as_slice.ensures.value ∙ c.in_ok-least.ensures.count ∙ sym c.requires.counts.0 ∙ sym (ap length (c.as_slice-2.ensures.value ∙ present))) lt

@@ -1,0 +1,168 @@
+//! Rounds: in which signals enter, as conditions become known.
+
+ghost use Rattle.std.specs.Prelude.{◌≡◌, ◌+◌, ◌*◌, ◌<◌, ◌≤◌, ℕ, suc, length, slice_index, filter, replicate, IfOk, Contains};
+ghost use Rattle.sig_clock.specs.Conditions.{conditions_of};
+ghost use Rattle.sig_clock.specs.Layers.{IsSignal};
+ghost use Rattle.sig_clock.specs.Reactions.{Speaks};
+ghost use Rattle.sig_dd.specs.Nodes.{IsStore, Keeps};
+ghost use Rattle.sig_dd.specs.Shares.{Share, refusal};
+ghost use Rattle.sig_solve.specs.Frames.{IsAmong};
+ghost use Rattle.sig_solve.specs.Rounds.{AreEntered, AreRounds, AreSettled, IsOpenAnswer, has_entered, layer_in};
+ghost use Rattle.sig_solve.specs.Sets.{AreKnown, IsPart, IsReady};
+
+use crate::frame::Frame;
+use crate::known::{Known, known_of};
+use crate::parts::shadow;
+use sig_base::SigId;
+use sig_dd::{DdAnswer, Ref, Store};
+use std::alloc::{AllocError, Global};
+
+/// The layer of each clock class, at its least signal, and the least signals of the classes that
+/// never enter; their layer is 0.
+#[derive(Drop)]
+pub(crate) struct Layers {
+    pub(crate) numbers: Vec<u32>,
+    pub(crate) waiting: Vec<u32>,
+}
+
+/// The layers of a kernel, of which the conditions are given.
+pub(crate) fn layers_of(
+    alloc: Global,
+    frame: &Frame,
+    speaking: Ref,
+    store: &mut Store,
+    conditions: &[SigId],
+) -> Result<Layers, DdAnswer>
+    requires ready { IsReady store.old frame.now }
+    requires speaking { IsPart store.old.nodes frame.now (Speaks frame.now.kernel.now) speaking }
+    requires conditions { conditions.now ≡ conditions_of frame.now.kernel.now }
+    ensures store { IsStore store.new }
+    ensures kept { Keeps store.old store.new }
+    ensures value { IfOk result (λ layers.
+        AreSettled frame.now layers.numbers.items layers.waiting.items) }
+    ensures share { Share ((4 + 6 * length frame.now.unknowns.items)
+        * length frame.now.leaders.items * length frame.now.leaders.items)
+        frame.now.unknowns.items store.old store.new (refusal result) }
+{
+    let mut numbers = zeros(alloc, frame.least.len())?;
+    let mut waiting = Vec::from_slice(alloc, frame.leaders.as_slice())?;
+    for round in 0..frame.leaders.len() as u32 {
+        let entered = entered(alloc, frame, numbers.as_slice(), conditions)?;
+        let known = known_of(alloc, frame, entered)?;
+        let still = pass(alloc, frame, speaking, store, &known, round, waiting.as_slice(), &mut numbers)?;
+        if still.len() == waiting.len() {
+            return Ok(Layers { numbers, waiting: still });
+        }
+        waiting = still;
+    }
+    Ok(Layers { numbers, waiting })
+}
+
+/// So many zeros.
+fn zeros(alloc: Global, count: usize) -> Result<Vec<u32>, AllocError>
+    ensures { IfOk result (λ zeros. zeros.items ≡ replicate count 0) }
+{
+    vec![in alloc; 0; count]
+}
+
+/// The conditions whose class has entered.
+fn entered(
+    alloc: Global,
+    frame: &Frame,
+    layers: &[u32],
+    conditions: &[SigId],
+) -> Result<Vec<SigId>, AllocError>
+    ensures { IfOk result (λ entered.
+        entered.items ≡ filter (has_entered frame.now layers.now) conditions.now) }
+{
+    let mut entered = Vec::new(alloc);
+    for condition in conditions {
+        if layer_in(frame, layers, *condition) > 0 {
+            entered.push(*condition)?;
+        }
+    }
+    Ok(entered)
+}
+
+/// The layer of a signal.
+pub(crate) fn layer_in(frame: &Frame, layers: &[u32], signal: SigId) -> u32
+    ensures { result ≡ layer_in frame.now layers.now signal.0 }
+{
+    let least = number_at(frame.least.as_slice(), signal.0);
+    number_at(layers, least)
+}
+
+/// The number at a place; 0 past the end.
+pub(crate) fn number_at(numbers: &[u32], place: u32) -> u32
+    ensures { result ≡ slice_index numbers.now place }
+{
+    match numbers.get(place as usize) {
+        Some(number) => *number,
+        None => 0,
+    }
+}
+
+/// One round: gives a layer to the classes that the known conditions determine, and gives those that
+/// are still open.
+fn pass(
+    alloc: Global,
+    frame: &Frame,
+    speaking: Ref,
+    store: &mut Store,
+    known: &Known,
+    round: u32,
+    waiting: &[u32],
+    layers: &mut [u32],
+) -> Result<Vec<u32>, DdAnswer>
+    requires ready { IsReady store.old frame.now }
+    requires speaking { IsPart store.old.nodes frame.now (Speaks frame.now.kernel.now) speaking }
+    requires known { AreKnown frame.now known.now }
+    requires entered { AreEntered frame.now.kernel.now round known.now.conditions.items }
+    requires rounds { AreRounds frame.now round layers.old waiting.now }
+    requires few { round < 512 }
+    ensures store { IsStore store.new }
+    ensures kept { Keeps store.old store.new }
+    ensures value { IfOk result (λ still. AreRounds frame.now (suc round) layers.new still.items
+        × (length still.items ≤ length waiting.now)
+        × (length still.items ≡ length waiting.now
+        → (s : ℕ) → Contains waiting.now s → Contains still.items s)) }
+    ensures share { Share ((4 + 6 * length frame.now.unknowns.items) * length waiting.now)
+        frame.now.unknowns.items store.old store.new (refusal result) }
+{
+    let mut still = Vec::new(alloc);
+    for class in waiting {
+        if is_open(frame, speaking, store, known, *class)? {
+            still.push(*class)?;
+        } else {
+            layers[*class as usize] = round + 1;
+        }
+    }
+    Ok(still)
+}
+
+/// Whether known conditions leave the presence of a signal open: two reactions agree on them, of
+/// which one has the signal.
+fn is_open(
+    frame: &Frame,
+    speaking: Ref,
+    store: &mut Store,
+    known: &Known,
+    signal: u32,
+) -> Result<bool, DdAnswer>
+    requires ready { IsReady store.old frame.now }
+    requires speaking { IsPart store.old.nodes frame.now (Speaks frame.now.kernel.now) speaking }
+    requires known { AreKnown frame.now known.now }
+    requires signal { IsSignal frame.now.kernel.now signal }
+    ensures store { IsStore store.new }
+    ensures kept { Keeps store.old store.new }
+    ensures value { IfOk result
+        (IsOpenAnswer frame.now.kernel.now (IsAmong known.now.conditions.items) signal) }
+    ensures share { Share (4 + 6 * length frame.now.unknowns.items) frame.now.unknowns.items
+        store.old store.new (refusal result) }
+{
+    let others = known.others.as_slice();
+    let present = frame.presence(signal);
+    let with = shadow(store, speaking, present, true, others)?;
+    let without = shadow(store, speaking, present, false, others)?;
+    store.overlap(with, without)
+}

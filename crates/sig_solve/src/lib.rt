@@ -1,0 +1,19 @@
+//! The clocks of a kernel, or the first reason why it has none. It stands on sig_clock, whose
+//! definitions these are, on sig_rel, whose relation is one diagram of the abstract reactions, and
+//! on sig_dd.
+#![tactic(auto)]
+
+mod answer;
+mod classes;
+mod frame;
+mod guards;
+mod known;
+mod layers;
+mod order;
+mod parts;
+mod pinned;
+mod roots;
+mod solving;
+
+pub use answer::ClockAnswer;
+pub use solving::solve;
