@@ -67,7 +67,7 @@ mutual
   plain_inside (more_bodies body rest) = all_both IsPlain (equations_in body) (equations_inside rest) (plain_in body) (plain_inside rest)
 
 -- candidates of a use
-abbrev unknown_at : List ProcessModel → List Declaration → Use → List Candidate
+abbrev pub unknown_at : List ProcessModel → List Declaration → Use → List Candidate
 unknown_at all declared used = unknown_use all declared used ∷ []
 
 no_rest : (names : List Name) → ((names ≢ []) → ⊥) → names ≡ []
@@ -136,7 +136,7 @@ key_rules all before p none =
     let r9 = none_parts (bad_pragmas p) (missing_inits_in p) r8.1 in
     record { known = r0.0; calls = r7.0; recursive = r8.0; pragmas = r9.0 }
 
-known_in_equations : (all : List ProcessModel) (p : ProcessModel) → NoneHolds (unknown_names all p) → NoneHolds (each (λ q. each (unknown_at all (declarations p)) (uses_of_equation q)) (equations_of_model p))
+pub known_in_equations : (all : List ProcessModel) (p : ProcessModel) → NoneHolds (unknown_names all p) → NoneHolds (each (λ q. each (unknown_at all (declarations p)) (uses_of_equation q)) (equations_of_model p))
 known_in_equations all p none =
     let of = unknown_at all (declarations p) in
     let first = none_parts (each of (uses_of_inits (outputs_of p))) (each of (flat_map uses_of_equation (equations_of_model p) ++ uses_of_inits (locals_of p)))

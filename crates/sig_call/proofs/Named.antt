@@ -10,7 +10,7 @@ use Rattle.sig_tree.specs.Syntax.{Equations, ProcessModel}
 use Rattle.sig_tree.specs.FlatSyntax.{FlatEquation, FlatBody}
 use Rattle.sig_tree.specs.Declarations.{Declaration, behind, declarations, params_of, name_of, process_of, texts, all_processes}
 use Rattle.sig_tree.specs.FlatBody.{Copy, Progress, Expands, Ended, Defined, Equated, Expanded, IsFlatBody, copied_signals, copy_prefix, cluster_of_call, first_progress, signals_declared, with_copy}
-use Rattle.sig_tree.specs.Candidates.{NoneHolds, DeclaredTwice, candidate, each}
+use Rattle.sig_tree.specs.Candidates.{Offence, NoneHolds, DeclaredTwice, candidate, each}
 use Rattle.sig_tree.specs.Rules.{unknown_names, declared_twice}
 use Rattle.sig_tree.specs.WellFormed.{IsWellFormed}
 use Rattle.sig_call.specs.Sound.{IsTree, IsReady, AreExpandable}
@@ -28,15 +28,15 @@ abbrev names_of : List Signal → List (List ℕ)
 names_of signals = map (λ signal. signal.name) signals
 
 -- the declared names of a process's signals
-abbrev declared_texts : List Declaration → List (List ℕ)
+abbrev pub declared_texts : List Declaration → List (List ℕ)
 declared_texts ds = texts (map (λ d. d.name) ds)
 
 -- names none of which is declared before
-apart_behind : (earlier names : List Name) → NoneHolds (each (λ d. candidate (DeclaredTwice d.1) (Contains (texts d.0) d.1.text) ∷ []) (behind earlier names))
+pub apart_behind : (said : Name → Offence) (earlier names : List Name) → NoneHolds (each (λ d. candidate (said d.1) (Contains (texts d.0) d.1.text) ∷ []) (behind earlier names))
     → AllByRecursion (λ t. Contains (texts earlier) t → ⊥) (texts names) × Apart (texts names)
-apart_behind earlier [] none = (tt, tt)
-apart_behind earlier (n ∷ ns) none =
-    let rest = apart_behind (earlier ++ n ∷ []) ns none.1 in
+apart_behind said earlier [] none = (tt, tt)
+apart_behind said earlier (n ∷ ns) none =
+    let rest = apart_behind said (earlier ++ n ∷ []) ns none.1 in
     let split : texts (earlier ++ n ∷ []) ≡ texts earlier ++ n.text ∷ [] = map-append (λ (name : Name). name.text) earlier (n ∷ []) in (
       (
         none.0,
@@ -50,13 +50,16 @@ apart_behind earlier (n ∷ ns) none =
       ),
     )
 
+pub all_apart : (before : List ProcessModel) (p : ProcessModel) → NoneHolds (declared_twice before p) → Apart (declared_texts (declarations p))
+all_apart before p none = (apart_behind DeclaredTwice [] (map (λ d. d.name) (declarations p)) none.1).1
+
+pub texts_append : (xs ys : List Declaration) → declared_texts (xs ++ ys) ≡ declared_texts xs ++ declared_texts ys
+texts_append xs ys =
+    ap texts (map-append (λ (d : Declaration). d.name) xs ys) ∙ map-append (λ (name : Name). name.text) (map (λ (d : Declaration). d.name) xs) (map (λ (d : Declaration). d.name) ys)
+
 apart_declared : (before : List ProcessModel) (p : ProcessModel) → NoneHolds (declared_twice before p) → Apart (declared_texts (signals_declared p))
 apart_declared before p none =
-    let all : Apart (declared_texts (declarations p)) = (apart_behind [] (map (λ d. d.name) (declarations p)) none.1).1 in
-    let names : map (λ (d : Declaration). d.name) (declarations p) ≡ map (λ (d : Declaration). d.name) (params_of p) ++ map (λ (d : Declaration). d.name) (signals_declared p) = map-append (λ (d : Declaration). d.name) (params_of p) (signals_declared p) in
-    let split : declared_texts (declarations p) ≡ declared_texts (params_of p) ++ declared_texts (signals_declared p) =
-    ap texts names ∙ map-append (λ (name : Name). name.text) (map (λ (d : Declaration). d.name) (params_of p)) (map (λ (d : Declaration). d.name) (signals_declared p)) in
-    apart_right (declared_texts (params_of p)) (declared_texts (signals_declared p)) (subst Apart split all)
+    apart_right (declared_texts (params_of p)) (declared_texts (signals_declared p)) (subst Apart (texts_append (params_of p) (signals_declared p)) (all_apart before p none))
 
 -- what is asked of a process whose signals are named
 record Fine (text : List ℕ) (p : ProcessModel) : Type 0 where
@@ -130,7 +133,7 @@ named_along {all = all} {copy = copy} {before = before} {after = after} sound fi
 -- the signals of the first process
 plain_texts : (ds : List Declaration) → AllByRecursion IsNamed ds → AllByRecursion (Numbered 0) (declared_texts ds)
 plain_texts [] h = tt
-plain_texts (d ∷ ds) h = (inl (name_lacks 35 refl d.name.text h.0.name_bytes), plain_texts ds h.1)
+plain_texts (d ∷ ds) h = (inl (name_lacks 35 refl d.name.text h.0.0.name_bytes), plain_texts ds h.1)
 
 first_named : (text : List ℕ) (p : ProcessModel) → Fine text p → Spelled p → Named (first_progress p)
 first_named text p fine spelled =

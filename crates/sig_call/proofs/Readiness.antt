@@ -64,7 +64,7 @@ refused_as OutOfMemory h f = tt
 pub refused_by : {A C D : Type 0} (r : Result A CallAnswer) (y e : CallAnswer) → r ≡ Err y → y ≡ e → IsRefusedBy e C → (C → D) → IsRefused r D
 refused_by {A} {C} {D} r y e is same h f = subst (λ (s : Result A CallAnswer). IsRefused s D) (sym (is ∙ ap (λ (z : CallAnswer). Err z) same)) (refused_as e h f)
 
-some_names : (all : List ProcessModel) (names : List Name) (name : Name) (constants : List Constant) (arguments : List Expression) → IsReady all (Defines names (Called name constants arguments)) → 1 ≤ length names
+pub some_names : (all : List ProcessModel) (names : List Name) (name : Name) (constants : List Constant) (arguments : List Expression) → IsReady all (Defines names (Called name constants arguments)) → 1 ≤ length names
 some_names all [] name constants arguments ready = elim ready [ ]
 some_names all (n ∷ names) name constants arguments ready = omega arith
 

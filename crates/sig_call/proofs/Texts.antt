@@ -1,9 +1,11 @@
--- The trees of texts: their numbers are small, definitions have left sides, and processes are no longer than the text.
+-- The trees of texts: their numbers are small, the integers among their constants have 64 bits, definitions have
+-- left sides, and processes are no longer than the text.
 use Rattle.std.proofs.Common.{◌≡◌, ◌≢◌, ◌++◌, ◌+◌, ◌<◌, ◌≤◌, ◌^◌, ℕ, zero, suc, List, [], ◌∷◌, None, Some, Option, length, map, refl, sym, ap, subst, ◌∙◌, inl, inr, arith, codes}
 use Rattle.std.proofs.lemmas.List.{length-append, length-map}
 use Rattle.std.specs.List.{AllByRecursion, flat_map}
 use Rattle.std.specs.Option.{option_to_list, option_map}
 use Rattle.sig_base.specs.declared.span.Span.{Span}
+use Rattle.sig_base.specs.Traces.{Bounded, IsInteger}
 use Rattle.sig_lex.specs.declared.token.Token.{Token}
 use Rattle.sig_lex.specs.declared.token.TokenKind.{TokenKind}
 use Rattle.sig_lex.specs.declared.token.TokenKind.TheVariants.{Name as NameToken, Word, Number as NumberToken, Label, Mark, Last}
@@ -11,6 +13,8 @@ use Rattle.sig_lex.specs.Tokens.{token_at}
 use Rattle.sig_lex.specs.Slices.{InOrder, EndsOnce}
 use Rattle.sig_lex.specs.Lexemes.{Lexeme, lexeme_of, lexemes, text_of, the_end, IsNameText, Spells, IsSpelled}
 use Rattle.sig_tree.specs.declared.expr.Name.{Name}
+use Rattle.sig_tree.specs.declared.expr.Constant.{Constant}
+use Rattle.sig_tree.specs.declared.expr.Constant.TheVariants.{Int, Bool as Truthful, Param}
 use Rattle.sig_tree.specs.declared.process.Item.{Item}
 use Rattle.sig_tree.specs.Syntax.{Expression, Named, Number, Truth, Unary, Binary, Delay, Cell, Declared, RightSide, Computed, Called, Equations, Together, Defines, Equal, Bodies, no_body, more_bodies, Heading, ProcessModel, Modelled, ProcessModels, no_model, more_models}
 use Rattle.sig_tree.specs.Declarations.{Declaration, Role, Input, Output, declared_as, equations_in, equations_inside, equations_of_model, with_inner, those_inner, all_processes}
@@ -18,12 +22,14 @@ use Rattle.sig_tree.specs.Terminals.{Terminal, name, word, number, label, mark, 
 use Rattle.sig_tree.specs.Leaves.{terminal_of, leaf_of, leaves_of}
 use Rattle.sig_tree.specs.Limits.{Limits}
 use Rattle.sig_tree.specs.Repeated.{Each, Further, Separated, Listed, Between}
-use Rattle.sig_tree.specs.Expressions.{Enclosed, IsBare, IsExpression}
+use Rattle.sig_tree.specs.Expressions.{Enclosed, IsBare, IsConstant, IsExpression, IsInit, IsOptionalInit}
 use Rattle.sig_tree.specs.Levels.{level_of}
-use Rattle.sig_tree.specs.Equations.{IsLeft, IsRight, IsDefinition, IsClockEquation, IsBody, AreBodies, AreFurtherBodies}
+use Rattle.sig_tree.specs.Equations.{AreConstants, IsLeft, IsRight, IsDefinition, IsClockEquation, IsBody, AreBodies, AreFurtherBodies}
 use Rattle.sig_tree.specs.Processes.{IsGroup, AreGroups, IsInterface, IsModel, IsProcess, AreLocals, IsPlainItem, IsItem}
 use Rattle.sig_tree.specs.Grammar.{HasTree}
-use Rattle.sig_call.specs.Sound.{IsSmall, IsSmallRight, IsRead, IsTree, IsSized, size_of}
+use Rattle.sig_call.specs.Constants.{IsBoundedConstant, IsBoundedEquation, IsBoundedInit, IsBoundedRight, HasBoundedInits}
+use Rattle.sig_call.specs.Sound.{IsSmall, IsSmallRight, IsRead, IsTree, IsSized, size_of, weights}
+use Rattle.sig_call.proofs.KindRules.{fits_neg, fits_pos}
 
 -- a leaf's number is small, and its name is spelled as one
 abbrev pub SmallTerminal : Terminal → Type 0
@@ -36,29 +42,32 @@ SmallTerminal (mark text) = Unit {0}
 abbrev pub SmallLeaf : Leaf → Type 0
 SmallLeaf l = SmallTerminal l.terminal
 
--- so are those of leaves
-pub record Small (leaves : List Leaf) : Type 0 where
-  pub all : AllByRecursion SmallLeaf leaves
+-- what holds of each of some leaves
+pub record AllLeaves (P : Leaf → Type 0) (leaves : List Leaf) : Type 0 where
+  pub all : AllByRecursion P leaves
 
-all_left : (xs ys : List Leaf) → AllByRecursion SmallLeaf (xs ++ ys) → AllByRecursion SmallLeaf xs
-all_left [] ys h = tt
-all_left (x ∷ xs) ys h = (h.0, all_left xs ys h.1)
+abbrev pub Small : List Leaf → Type 0
+Small leaves = AllLeaves SmallLeaf leaves
 
-all_right : (xs ys : List Leaf) → AllByRecursion SmallLeaf (xs ++ ys) → AllByRecursion SmallLeaf ys
-all_right [] ys h = h
-all_right (x ∷ xs) ys h = all_right xs ys h.1
+all_left : (P : Leaf → Type 0) (xs ys : List Leaf) → AllByRecursion P (xs ++ ys) → AllByRecursion P xs
+all_left P [] ys h = tt
+all_left P (x ∷ xs) ys h = (h.0, all_left P xs ys h.1)
 
-pub small_left : {leaves : List Leaf} (xs ys : List Leaf) → leaves ≡ xs ++ ys → Small leaves → Small xs
-small_left xs ys is h = record { all = all_left xs ys (subst (AllByRecursion SmallLeaf) is h.all) }
+all_right : (P : Leaf → Type 0) (xs ys : List Leaf) → AllByRecursion P (xs ++ ys) → AllByRecursion P ys
+all_right P [] ys h = h
+all_right P (x ∷ xs) ys h = all_right P xs ys h.1
 
-pub small_right : {leaves : List Leaf} (xs ys : List Leaf) → leaves ≡ xs ++ ys → Small leaves → Small ys
-small_right xs ys is h = record { all = all_right xs ys (subst (AllByRecursion SmallLeaf) is h.all) }
+pub leaves_left : {P : Leaf → Type 0} {leaves : List Leaf} (xs ys : List Leaf) → leaves ≡ xs ++ ys → AllLeaves P leaves → AllLeaves P xs
+leaves_left {P} xs ys is h = record { all = all_left P xs ys (subst (AllByRecursion P) is h.all) }
 
-pub small_tail : {leaves : List Leaf} (x : Leaf) (ys : List Leaf) → leaves ≡ x ∷ ys → Small leaves → Small ys
-small_tail x ys is h = record { all = (subst (AllByRecursion SmallLeaf) is h.all).1 }
+pub leaves_right : {P : Leaf → Type 0} {leaves : List Leaf} (xs ys : List Leaf) → leaves ≡ xs ++ ys → AllLeaves P leaves → AllLeaves P ys
+leaves_right {P} xs ys is h = record { all = all_right P xs ys (subst (AllByRecursion P) is h.all) }
 
-pub small_between : (opening closing : Terminal) (Is : List Leaf → Type 0) (leaves : List Leaf) (b : Between opening closing Is leaves) → Small leaves → Small b.2
-small_between opening closing Is leaves b h = small_left b.2 _ refl (small_tail _ _ b.3 h)
+pub leaves_behind : {P : Leaf → Type 0} {leaves : List Leaf} (x : Leaf) (ys : List Leaf) → leaves ≡ x ∷ ys → AllLeaves P leaves → AllLeaves P ys
+leaves_behind {P} x ys is h = record { all = (subst (AllByRecursion P) is h.all).1 }
+
+pub leaves_between : {P : Leaf → Type 0} (opening closing : Terminal) (Is : List Leaf → Type 0) (leaves : List Leaf) (b : Between opening closing Is leaves) → AllLeaves P leaves → AllLeaves P b.2
+leaves_between opening closing Is leaves b h = leaves_left b.2 _ refl (leaves_behind _ _ b.3 h)
 
 length_between : (opening closing : Terminal) (Is : List Leaf → Type 0) (leaves : List Leaf) (b : Between opening closing Is leaves) → length b.2 ≤ length leaves
 length_between opening closing Is leaves b =
@@ -66,47 +75,72 @@ length_between opening closing Is leaves b =
     omega arith
 
 -- expressions
-enclosed_small : {Goal : Type 0} (limits : Limits) (level : ℕ) (Bare : ℕ → List Leaf → Type 0) → ((depth : ℕ) (leaves : List Leaf) → Bare depth leaves → Small leaves → Goal)
-    → (parentheses wanted depth : ℕ) (leaves : List Leaf) → Enclosed limits level Bare parentheses wanted depth leaves → Small leaves → Goal
-enclosed_small limits level Bare then zero wanted depth leaves h small = then depth leaves h.1 small
-enclosed_small limits level Bare then (suc parentheses) wanted depth leaves h small =
-    enclosed_small limits level Bare then parentheses _ _ h.1.2 h.1.4 (small_between _ _ _ leaves h.1 small)
+pub leaves_enclosed : {P : Leaf → Type 0} {Goal : Type 0} (limits : Limits) (level : ℕ) (Bare : ℕ → List Leaf → Type 0) → ((depth : ℕ) (leaves : List Leaf) → Bare depth leaves → AllLeaves P leaves → Goal)
+    → (parentheses wanted depth : ℕ) (leaves : List Leaf) → Enclosed limits level Bare parentheses wanted depth leaves → AllLeaves P leaves → Goal
+leaves_enclosed limits level Bare then zero wanted depth leaves h small = then depth leaves h.1 small
+leaves_enclosed limits level Bare then (suc parentheses) wanted depth leaves h small =
+    leaves_enclosed limits level Bare then parentheses _ _ h.1.2 h.1.4 (leaves_between _ _ _ leaves h.1 small)
 
-bare_small : (limits : Limits) (e : Expression) (depth : ℕ) (leaves : List Leaf) → IsBare limits e depth leaves → Small leaves → IsSmall e
-bare_small limits (Named n) depth leaves h small = tt
-bare_small limits (Number value at) depth leaves h small = (subst (AllByRecursion SmallLeaf) h small.all).0
-bare_small limits (Truth truth at) depth leaves h small = tt
-bare_small limits (Unary op operand at) depth leaves h small =
-    enclosed_small limits (level_of operand) (IsBare limits operand) (bare_small limits operand) h.3.0 _ _ h.1 h.3.1 (small_tail _ h.1 h.2 small)
-bare_small limits (Binary op left right at) depth leaves h small = (
-  enclosed_small limits (level_of left) (IsBare limits left) (bare_small limits left) h.3.0 _ _ h.0 h.3.1 (small_left h.0 _ h.2 small),
-  enclosed_small limits (level_of right) (IsBare limits right) (bare_small limits right) h.4.0 _ _ h.1 h.4.1 (small_tail _ h.1 refl (small_right h.0 _ h.2 small)),
-)
-bare_small limits (Delay operand init at) depth leaves h small =
-    enclosed_small limits (level_of operand) (IsBare limits operand) (bare_small limits operand) h.4.0 _ _ h.0 h.4.1 (small_left h.0 _ h.3 small)
-bare_small limits (Cell operand held init at) depth leaves h small = (
-  enclosed_small limits (level_of operand) (IsBare limits operand) (bare_small limits operand) h.4.0 _ _ h.0 h.4.1 (small_left h.0 _ h.3 small),
-  enclosed_small limits (level_of held) (IsBare limits held) (bare_small limits held) h.5.0 _ _ h.1 h.5.1 (small_left h.1 h.2 refl (small_tail _ (h.1 ++ h.2) refl (small_right h.0 _ h.3 small))),
-)
+-- an integer that is written has 64 bits
+constant_bounded : (constant : Constant) (leaves : List Leaf) → IsConstant constant leaves → Small leaves → IsBoundedConstant constant
+constant_bounded (Int value at) leaves (inl h) small = subst (IsInteger Bounded) (sym h.1) (fits_pos h.0 (subst (AllByRecursion SmallLeaf) h.2 small.all).0)
+constant_bounded (Int value at) leaves (inr h) small = subst (IsInteger Bounded) (sym h.2) (fits_neg h.0 (subst (AllByRecursion SmallLeaf) h.3 small.all).1.0)
+constant_bounded (Truthful truth at) leaves h small = tt
+constant_bounded (Param n) leaves h small = tt
 
-expression_small : (limits : Limits) (depth : ℕ) (e : Expression) (leaves : List Leaf) → IsExpression limits depth e leaves → Small leaves → IsSmall e
-expression_small limits depth e leaves h small = enclosed_small limits (level_of e) (IsBare limits e) (bare_small limits e) h.0 _ _ leaves h.1 small
+init_bounded : (init : Constant) (leaves : List Leaf) → IsInit init leaves → Small leaves → IsBoundedConstant init
+init_bounded init leaves h small = constant_bounded init h.1 h.3 (leaves_behind _ h.1 h.2 small)
+
+pub optional_init_bounded : (init : Option Constant) (leaves : List Leaf) → IsOptionalInit init leaves → Small leaves → IsBoundedInit init
+optional_init_bounded None leaves h small = tt
+optional_init_bounded (Some init) leaves h small = init_bounded init leaves h small
+
+-- numbers are small, and inits have 64 bits
+abbrev IsFine : Expression → Type 0
+IsFine e = IsSmall e × HasBoundedInits e
+
+bare_fine : (limits : Limits) (e : Expression) (depth : ℕ) (leaves : List Leaf) → IsBare limits e depth leaves → Small leaves → IsFine e
+bare_fine limits (Named n) depth leaves h small = (tt, tt)
+bare_fine limits (Number value at) depth leaves h small = ((subst (AllByRecursion SmallLeaf) h small.all).0, tt)
+bare_fine limits (Truth truth at) depth leaves h small = (tt, tt)
+bare_fine limits (Unary op operand at) depth leaves h small =
+    leaves_enclosed limits (level_of operand) (IsBare limits operand) (bare_fine limits operand) h.3.0 _ _ h.1 h.3.1 (leaves_behind _ h.1 h.2 small)
+bare_fine limits (Binary op left right at) depth leaves h small =
+    let first = leaves_enclosed limits (level_of left) (IsBare limits left) (bare_fine limits left) h.3.0 _ _ h.0 h.3.1 (leaves_left h.0 _ h.2 small) in
+    let second = leaves_enclosed limits (level_of right) (IsBare limits right) (bare_fine limits right) h.4.0 _ _ h.1 h.4.1 (leaves_behind _ h.1 refl (leaves_right h.0 _ h.2 small)) in
+    ((first.0, second.0), (first.1, second.1))
+bare_fine limits (Delay operand init at) depth leaves h small =
+    let inner = leaves_enclosed limits (level_of operand) (IsBare limits operand) (bare_fine limits operand) h.4.0 _ _ h.0 h.4.1 (leaves_left h.0 _ h.3 small) in
+    (inner.0, (inner.1, optional_init_bounded init h.2 h.6 (leaves_right h.1 h.2 refl (leaves_behind _ (h.1 ++ h.2) refl (leaves_right h.0 _ h.3 small)))))
+bare_fine limits (Cell operand held init at) depth leaves h small =
+    let behind = leaves_behind _ (h.1 ++ h.2) refl (leaves_right h.0 _ h.3 small) in
+    let first = leaves_enclosed limits (level_of operand) (IsBare limits operand) (bare_fine limits operand) h.4.0 _ _ h.0 h.4.1 (leaves_left h.0 _ h.3 small) in
+    let second = leaves_enclosed limits (level_of held) (IsBare limits held) (bare_fine limits held) h.5.0 _ _ h.1 h.5.1 (leaves_left h.1 h.2 refl behind) in
+    ((first.0, second.0), (first.1, second.1, init_bounded init h.2 h.6 (leaves_right h.1 h.2 refl behind)))
+
+expression_fine : (limits : Limits) (depth : ℕ) (e : Expression) (leaves : List Leaf) → IsExpression limits depth e leaves → Small leaves → IsFine e
+expression_fine limits depth e leaves h small = leaves_enclosed limits (level_of e) (IsBare limits e) (bare_fine limits e) h.0 _ _ leaves h.1 small
+
+-- so they are in each of some expressions
+all_fine : (es : List Expression) → AllByRecursion IsFine es → AllByRecursion IsSmall es × AllByRecursion HasBoundedInits es
+all_fine [] h = (tt, tt)
+all_fine (e ∷ es) h = let rest = all_fine es h.1 in ((h.0.0, rest.0), (h.0.1, rest.1))
 
 -- what stands several times
-further_all : {A : Type 0} (Is : A → List Leaf → Type 0) (separator : Terminal) (Goal : A → Type 0) → ((x : A) (leaves : List Leaf) → Is x leaves → Small leaves → Goal x)
-    → (xs : List A) (leaves : List Leaf) → Further Is separator xs leaves → Small leaves → AllByRecursion Goal xs
+pub further_all : {P : Leaf → Type 0} {A : Type 0} (Is : A → List Leaf → Type 0) (separator : Terminal) (Goal : A → Type 0) → ((x : A) (leaves : List Leaf) → Is x leaves → AllLeaves P leaves → Goal x)
+    → (xs : List A) (leaves : List Leaf) → Further Is separator xs leaves → AllLeaves P leaves → AllByRecursion Goal xs
 further_all Is separator Goal then [] leaves h small = tt
 further_all Is separator Goal then (x ∷ xs) leaves h small =
-    let rest = small_tail _ (h.1 ++ h.2) h.3 small in
-    (then x h.1 h.4 (small_left h.1 h.2 refl rest), further_all Is separator Goal then xs h.2 h.5 (small_right h.1 h.2 refl rest))
+    let rest = leaves_behind _ (h.1 ++ h.2) h.3 small in
+    (then x h.1 h.4 (leaves_left h.1 h.2 refl rest), further_all Is separator Goal then xs h.2 h.5 (leaves_right h.1 h.2 refl rest))
 
-pub separated_all : {A : Type 0} (Is : A → List Leaf → Type 0) (separator : Terminal) (Goal : A → Type 0) → ((x : A) (leaves : List Leaf) → Is x leaves → Small leaves → Goal x)
-    → (xs : List A) (leaves : List Leaf) → Separated Is separator xs leaves → Small leaves → AllByRecursion Goal xs
+pub separated_all : {P : Leaf → Type 0} {A : Type 0} (Is : A → List Leaf → Type 0) (separator : Terminal) (Goal : A → Type 0) → ((x : A) (leaves : List Leaf) → Is x leaves → AllLeaves P leaves → Goal x)
+    → (xs : List A) (leaves : List Leaf) → Separated Is separator xs leaves → AllLeaves P leaves → AllByRecursion Goal xs
 separated_all Is separator Goal then [] leaves h small = tt
-separated_all Is separator Goal then (x ∷ xs) leaves h small = (then x h.0 h.3 (small_left h.0 h.1 h.2 small), further_all Is separator Goal then xs h.1 h.4 (small_right h.0 h.1 h.2 small))
+separated_all Is separator Goal then (x ∷ xs) leaves h small = (then x h.0 h.3 (leaves_left h.0 h.1 h.2 small), further_all Is separator Goal then xs h.1 h.4 (leaves_right h.0 h.1 h.2 small))
 
-listed_all : {A : Type 0} (Is : A → List Leaf → Type 0) (separator : Terminal) (Goal : A → Type 0) → ((x : A) (leaves : List Leaf) → Is x leaves → Small leaves → Goal x)
-    → (xs : List A) (leaves : List Leaf) → Listed Is separator xs leaves → Small leaves → AllByRecursion Goal xs
+pub listed_all : {P : Leaf → Type 0} {A : Type 0} (Is : A → List Leaf → Type 0) (separator : Terminal) (Goal : A → Type 0) → ((x : A) (leaves : List Leaf) → Is x leaves → AllLeaves P leaves → Goal x)
+    → (xs : List A) (leaves : List Leaf) → Listed Is separator xs leaves → AllLeaves P leaves → AllByRecursion Goal xs
 listed_all Is separator Goal then [] leaves h small = tt
 listed_all Is separator Goal then (x ∷ xs) leaves h small = separated_all Is separator Goal then (x ∷ xs) leaves h small
 
@@ -131,38 +165,60 @@ separated_long Is separator of then (x ∷ xs) leaves h =
     let whole : length leaves ≡ length h.0 + length h.1 = ap length h.2 ∙ length-append h.0 h.1 in
     omega arith
 
+further_count : {A : Type 0} (Is : A → List Leaf → Type 0) (separator : Terminal) (xs : List A) (leaves : List Leaf) → Further Is separator xs leaves → length xs ≤ length leaves
+further_count Is separator [] leaves h = omega arith
+further_count Is separator (x ∷ xs) leaves h =
+    let rest : length xs ≤ length h.2 = further_count Is separator xs h.2 h.5 in
+    let whole : length leaves ≡ suc (length h.1 + length h.2) = ap length h.3 ∙ ap suc (length-append h.1 h.2) in
+    omega arith
+
+pub weights_append : (xs ys : List Equations) → weights (xs ++ ys) ≡ weights xs + weights ys
+weights_append [] ys = omega arith
+weights_append (x ∷ xs) ys = let rest = weights_append xs ys in omega arith
+
 -- bodies: their equations are read, and no more than the leaves
 record ReadBody (equations : List Equations) (leaves : List Leaf) : Type 0 where
   read : AllByRecursion IsRead equations
-  few : length equations ≤ length leaves
+  bounded : AllByRecursion IsBoundedEquation equations
+  few : weights equations ≤ length leaves
 
 left_some : (limits : Limits) (depth : ℕ) (names : List Name) (leaves : List Leaf) → IsLeft limits depth names leaves → names ≢ []
 left_some limits depth [] leaves (inl h) = λ e. (let no : [] ≡ h.0 ∷ [] = h.1 in absurd cc)
 left_some limits depth [] leaves (inr h) = λ e. absurd h.1.4
 left_some limits depth (n ∷ ns) leaves h = λ e. absurd cc
 
-right_small : (limits : Limits) (depth : ℕ) (right : RightSide) (leaves : List Leaf) → IsRight limits depth right leaves → Small leaves → IsSmallRight right
-right_small limits depth (Computed e) leaves h small = expression_small limits depth e leaves h small
-right_small limits depth (Called n constants arguments) leaves h small =
-    let back = small_right h.0 h.1 refl (small_tail _ (h.0 ++ h.1) h.2 small) in
-    listed_all (IsExpression limits depth) _ IsSmall (λ e l. expression_small limits depth e l) arguments h.4.2 h.4.4 (small_between _ _ _ h.1 h.4 back)
+constants_bounded : (constants : List Constant) (leaves : List Leaf) → AreConstants constants leaves → Small leaves → AllByRecursion IsBoundedConstant constants
+constants_bounded constants leaves (inl none) small = subst (AllByRecursion IsBoundedConstant) (sym none.0) tt
+constants_bounded constants leaves (inr h) small = listed_all IsConstant _ IsBoundedConstant constant_bounded constants h.2 h.4 (leaves_between _ _ _ leaves h small)
+
+right_fine : (limits : Limits) (depth : ℕ) (right : RightSide) (leaves : List Leaf) → IsRight limits depth right leaves → Small leaves → IsSmallRight right × IsBoundedRight right
+right_fine limits depth (Computed e) leaves h small = expression_fine limits depth e leaves h small
+right_fine limits depth (Called n constants arguments) leaves h small =
+    let inside = leaves_behind _ (h.0 ++ h.1) h.2 small in
+    let fine = all_fine arguments (listed_all (IsExpression limits depth) _ IsFine (λ e l. expression_fine limits depth e l) arguments h.4.2 h.4.4 (leaves_between _ _ _ h.1 h.4 (leaves_right h.0 h.1 refl inside))) in
+    (fine.0, (constants_bounded constants h.0 h.3 (leaves_left h.0 h.1 refl inside), fine.1))
 
 definition_read : (limits : Limits) (depth : ℕ) (names : List Name) (right : RightSide) (leaves : List Leaf) → IsDefinition limits depth names right leaves → Small leaves → ReadBody (Defines names right ∷ []) leaves
-definition_read limits depth names right leaves h small = record {
-  read = ((left_some limits depth names h.1 h.4, right_small limits depth right h.2 h.5 (small_tail _ h.2 refl (small_right h.1 _ h.3 small))), tt);
-  few = let whole : length leaves ≡ length h.1 + suc (length h.2) = ap length h.3 ∙ length-append h.1 _ in omega arith;
-}
+definition_read limits depth names right leaves h small =
+    let fine = right_fine limits depth right h.2 h.5 (leaves_behind _ h.2 refl (leaves_right h.1 _ h.3 small)) in
+    record {
+      read = ((left_some limits depth names h.1 h.4, fine.0), tt);
+      bounded = (fine.1, tt);
+      few = let whole : length leaves ≡ length h.1 + suc (length h.2) = ap length h.3 ∙ length-append h.1 _ in omega arith;
+    }
 
 clocks_read : (limits : Limits) (depth : ℕ) (operands : List Expression) (leaves : List Leaf) → IsClockEquation limits depth operands leaves → Small leaves → ReadBody (Equal operands ∷ []) leaves
 clocks_read limits depth [] leaves h small = elim h [ ]
 clocks_read limits depth (e ∷ []) leaves h small = elim h [ ]
-clocks_read limits depth (e ∷ f ∷ others) leaves h small = record {
-  read = (separated_all (IsExpression limits depth) _ IsSmall (λ x l. expression_small limits depth x l) (e ∷ f ∷ others) leaves h.0 small, tt);
-  few = let behind = h.0.4 in
-      let whole : length leaves ≡ length h.0.0 + length h.0.1 = ap length h.0.2 ∙ length-append h.0.0 h.0.1 in
-      let more : length h.0.1 ≡ suc (length (behind.1 ++ behind.2)) = ap length behind.3 in
-      omega arith;
-}
+clocks_read limits depth (e ∷ f ∷ others) leaves h small =
+    let fine = all_fine (e ∷ f ∷ others) (separated_all (IsExpression limits depth) _ IsFine (λ x l. expression_fine limits depth x l) (e ∷ f ∷ others) leaves h.0 small) in
+    record {
+      read = (fine.0, tt);
+      bounded = (fine.1, tt);
+      few = let others_few : length (f ∷ others) ≤ length h.0.1 = further_count (IsExpression limits depth) _ (f ∷ others) h.0.1 h.0.4 in
+          let whole : length leaves ≡ length h.0.0 + length h.0.1 = ap length h.0.2 ∙ length-append h.0.0 h.0.1 in
+          omega arith;
+    }
 
 pub all_both : {A : Type 0} (P : A → Type 0) (xs ys : List A) → AllByRecursion P xs → AllByRecursion P ys → AllByRecursion P (xs ++ ys)
 all_both P [] ys h k = k
@@ -171,43 +227,37 @@ all_both P (x ∷ xs) ys h k = (h.0, all_both P xs ys h.1 k)
 both_read : {xs ys : List Equations} {front back leaves : List Leaf} → ReadBody xs front → ReadBody ys back → length front + length back ≤ length leaves → ReadBody (xs ++ ys) leaves
 both_read {xs} {ys} {front} {back} {leaves} h k within = record {
   read = all_both IsRead xs ys h.read k.read;
-  few = let first : length xs ≤ length front = h.few in
-      let second : length ys ≤ length back = k.few in
-      let whole : length (xs ++ ys) ≡ length xs + length ys = length-append xs ys in
+  bounded = all_both IsBoundedEquation xs ys h.bounded k.bounded;
+  few = let first : weights xs ≤ length front = h.few in
+      let second : weights ys ≤ length back = k.few in
+      let whole : weights (xs ++ ys) ≡ weights xs + weights ys = weights_append xs ys in
       omega arith;
 }
 
 longer : {xs : List Equations} {inside leaves : List Leaf} → ReadBody xs inside → length inside ≤ length leaves → ReadBody xs leaves
-longer {xs} {inside} {leaves} h within = record { read = h.read; few = (let first : length xs ≤ length inside = h.few in omega arith) }
+longer {xs} {inside} {leaves} h within = record { read = h.read; bounded = h.bounded; few = (let first : weights xs ≤ length inside = h.few in omega arith) }
 
 mutual
   body_read : (limits : Limits) (body : Equations) (depth : ℕ) (leaves : List Leaf) → IsBody limits body depth leaves → Small leaves → ReadBody (equations_in body) leaves
   body_read limits (Together bodies) depth leaves h small =
-      longer (bodies_read limits bodies (suc depth) h.1.2 h.1.4 (small_between _ _ _ leaves h.1 small)) (length_between _ _ _ leaves h.1)
+      longer (bodies_read limits bodies (suc depth) h.1.2 h.1.4 (leaves_between _ _ _ leaves h.1 small)) (length_between _ _ _ leaves h.1)
   body_read limits (Defines names right) depth leaves h small = definition_read limits depth names right leaves h small
   body_read limits (Equal operands) depth leaves h small = clocks_read limits depth operands leaves h small
 
   bodies_read : (limits : Limits) (bodies : Bodies) (depth : ℕ) (leaves : List Leaf) → AreBodies limits bodies depth leaves → Small leaves → ReadBody (equations_inside bodies) leaves
-  bodies_read limits no_body depth leaves h small = record { read = tt; few = omega arith }
+  bodies_read limits no_body depth leaves h small = record { read = tt; bounded = tt; few = omega arith }
   bodies_read limits (more_bodies body rest) depth leaves h small =
-      both_read (body_read limits body depth h.0 h.3 (small_left h.0 h.1 h.2 small)) (further_read limits rest depth h.1 h.4 (small_right h.0 h.1 h.2 small))
+      both_read (body_read limits body depth h.0 h.3 (leaves_left h.0 h.1 h.2 small)) (further_read limits rest depth h.1 h.4 (leaves_right h.0 h.1 h.2 small))
       (let whole : length leaves ≡ length h.0 + length h.1 = ap length h.2 ∙ length-append h.0 h.1 in omega arith)
 
   further_read : (limits : Limits) (bodies : Bodies) (depth : ℕ) (leaves : List Leaf) → AreFurtherBodies limits bodies depth leaves → Small leaves → ReadBody (equations_inside bodies) leaves
-  further_read limits no_body depth leaves h small = record { read = tt; few = omega arith }
+  further_read limits no_body depth leaves h small = record { read = tt; bounded = tt; few = omega arith }
   further_read limits (more_bodies body rest) depth leaves h small =
-      let inside = small_tail _ (h.1 ++ h.2) h.3 small in
-      both_read (body_read limits body depth h.1 h.4 (small_left h.1 h.2 refl inside)) (further_read limits rest depth h.2 h.5 (small_right h.1 h.2 refl inside))
+      let inside = leaves_behind _ (h.1 ++ h.2) h.3 small in
+      both_read (body_read limits body depth h.1 h.4 (leaves_left h.1 h.2 refl inside)) (further_read limits rest depth h.2 h.5 (leaves_right h.1 h.2 refl inside))
       (let whole : length leaves ≡ suc (length h.1 + length h.2) = ap length h.3 ∙ ap suc (length-append h.1 h.2) in omega arith)
 
 -- interfaces: their names are no more than the leaves
-further_count : {A : Type 0} (Is : A → List Leaf → Type 0) (separator : Terminal) (xs : List A) (leaves : List Leaf) → Further Is separator xs leaves → length xs ≤ length leaves
-further_count Is separator [] leaves h = omega arith
-further_count Is separator (x ∷ xs) leaves h =
-    let rest : length xs ≤ length h.2 = further_count Is separator xs h.2 h.5 in
-    let whole : length leaves ≡ suc (length h.1 + length h.2) = ap length h.3 ∙ ap suc (length-append h.1 h.2) in
-    omega arith
-
 separated_count : {A : Type 0} (Is : A → List Leaf → Type 0) (separator : Terminal) (xs : List A) (leaves : List Leaf) → Separated Is separator xs leaves → length xs ≤ suc (length leaves)
 separated_count Is separator [] leaves h = omega arith
 separated_count Is separator (x ∷ xs) leaves h =
@@ -241,8 +291,12 @@ interface_count inputs outputs leaves h =
     omega arith
 
 -- processes
+abbrev pub HasBoundedEquations : ProcessModel → Type 0
+HasBoundedEquations p = AllByRecursion IsBoundedEquation (equations_of_model p)
+
 record FineProcess (size : ℕ) (p : ProcessModel) : Type 0 where
   read : AllByRecursion IsRead (equations_of_model p)
+  bounded : AllByRecursion IsBoundedEquation (equations_of_model p)
   few : size_of p ≤ size
 
 -- the parts of a process are no longer than it
@@ -262,16 +316,16 @@ mutual
   model_fine : (limits : Limits) (model : ProcessModel) (depth : ℕ) (leaves : List Leaf) (size : ℕ) → IsModel limits model depth leaves → Small leaves → length leaves ≤ size → AllByRecursion (FineProcess size) (with_inner model)
   model_fine limits (Modelled heading pragmas body locals inner) depth leaves size h small within =
       let parts : length h.4 + (length h.6 + length h.7) ≤ length leaves = process_length limits depth heading body _ leaves h in
-      let after = small_tail _ _ refl (small_tail _ _ refl (small_tail _ _ h.8 small)) in
-      let placed = small_right h.5 _ refl (small_right h.4 _ refl (small_right h.3 _ refl after)) in
-      let equations = body_read limits body depth h.6 h.12 (small_left h.6 _ refl placed) in
-      let where_part = small_left h.7 _ refl (small_right h.6 _ refl placed) in
-      let few : length (equations_in body) ≤ length h.6 = equations.few in
+      let after = leaves_behind _ _ refl (leaves_behind _ _ refl (leaves_behind _ _ h.8 small)) in
+      let placed = leaves_right h.5 _ refl (leaves_right h.4 _ refl (leaves_right h.3 _ refl after)) in
+      let equations = body_read limits body depth h.6 h.12 (leaves_left h.6 _ refl placed) in
+      let where_part = leaves_left h.7 _ refl (leaves_right h.6 _ refl placed) in
+      let few : weights (equations_in body) ≤ length h.6 = equations.few in
       let interface : length (declared_as Input heading.inputs) + length (declared_as Output heading.outputs) ≤ length h.4 = interface_count heading.inputs heading.outputs h.4 h.10 in (
-        record { read = equations.read; few = omega arith },
+        record { read = equations.read; bounded = equations.bounded; few = omega arith },
         elim h.13 [
           | inl none ↦ subst (λ i. AllByRecursion (FineProcess size) (those_inner i)) (sym none.1) tt
-          | inr some ↦ those_fine limits inner depth locals some.2 size some.4 (small_between _ _ _ h.7 some where_part)
+          | inr some ↦ those_fine limits inner depth locals some.2 size some.4 (leaves_between _ _ _ h.7 some where_part)
               (let inside : length some.2 ≤ length h.7 = length_between _ _ _ h.7 some in omega arith)
         ],
       )
@@ -280,18 +334,18 @@ mutual
   those_fine limits no_model depth groups leaves size h small within = tt
   those_fine limits (more_models model rest) depth groups leaves size h small within =
       let whole : length leaves ≡ length h.2 + (length h.3 + length h.4) = ap length h.6 ∙ length-append h.2 (h.3 ++ h.4) ∙ ap (λ n. length h.2 + n) (length-append h.3 h.4) in
-      let behind = small_right h.2 (h.3 ++ h.4) h.6 small in
+      let behind = leaves_right h.2 (h.3 ++ h.4) h.6 small in
       all_both (FineProcess size) (with_inner model) (those_inner rest)
-      (model_fine limits model (suc depth) h.3 size h.8.1 (small_left h.3 h.4 refl behind) (omega arith))
-      (those_fine limits rest depth h.1 h.4 size h.9 (small_right h.3 h.4 refl behind) (omega arith))
+      (model_fine limits model (suc depth) h.3 size h.8.1 (leaves_left h.3 h.4 refl behind) (omega arith))
+      (those_fine limits rest depth h.1 h.4 size h.9 (leaves_right h.3 h.4 refl behind) (omega arith))
 
 each_fine : (limits : Limits) (ps : List ProcessModel) (leaves : List Leaf) (size : ℕ) → Each (λ p. IsModel limits p 0) ps leaves → Small leaves → length leaves ≤ size → AllByRecursion (FineProcess size) (flat_map with_inner ps)
 each_fine limits [] leaves size h small within = tt
 each_fine limits (p ∷ ps) leaves size h small within =
     let whole : length leaves ≡ length h.0 + length h.1 = ap length h.2 ∙ length-append h.0 h.1 in
     all_both (FineProcess size) (with_inner p) (flat_map with_inner ps)
-    (model_fine limits p 0 h.0 size h.3 (small_left h.0 h.1 h.2 small) (omega arith))
-    (each_fine limits ps h.1 size h.4 (small_right h.0 h.1 h.2 small) (omega arith))
+    (model_fine limits p 0 h.0 size h.3 (leaves_left h.0 h.1 h.2 small) (omega arith))
+    (each_fine limits ps h.1 size h.4 (leaves_right h.0 h.1 h.2 small) (omega arith))
 
 -- tokens
 terminal_small : (kind : TokenKind) (bytes : List ℕ) (at : Span) → Spells kind bytes → AllByRecursion SmallLeaf (option_to_list (option_map (λ terminal. leaf terminal at) (terminal_of kind bytes)))
@@ -354,13 +408,26 @@ all_read : (size : ℕ) (ps : List ProcessModel) → AllByRecursion (FineProcess
 all_read size [] h = tt
 all_read size (p ∷ ps) h = (h.0.read, all_read size ps h.1)
 
+all_bounded : (size : ℕ) (ps : List ProcessModel) → AllByRecursion (FineProcess size) ps → AllByRecursion HasBoundedEquations ps
+all_bounded size [] h = tt
+all_bounded size (p ∷ ps) h = (h.0.bounded, all_bounded size ps h.1)
+
 all_few : (size : ℕ) (ps : List ProcessModel) → AllByRecursion (FineProcess size) ps → AllByRecursion (λ p. size_of p ≤ size) ps
 all_few size [] h = tt
 all_few size (p ∷ ps) h = (h.0.few, all_few size ps h.1)
 
 -- the tree of a text
+pub record TextTree (text : List ℕ) (program : List ProcessModel) : Type 0 where
+  pub tree : IsTree program
+  pub bounded : AllByRecursion HasBoundedEquations (all_processes program)
+  pub sized : IsSized (length text) program
+
 pub tree_of_text : (text : List ℕ) (tokens : List Token) (words : List Lexeme) (program : List ProcessModel) → lexemes text tokens ≡ words ++ the_end ∷ [] → AllByRecursion IsSpelled words
-    → InOrder text 0 tokens → EndsOnce text tokens → HasTree (leaves_of text tokens) program → IsTree program × IsSized (length text) program
+    → InOrder text 0 tokens → EndsOnce text tokens → HasTree (leaves_of text tokens) program → TextTree text program
 tree_of_text text tokens words program is spelled order ends tree =
     let fine = each_fine _ program (leaves_of text tokens) (length text) tree.1 (record { all = leaves_small text tokens words is spelled }) (leaves_within text tokens order ends) in
-    (record { some = tree.0; equations = all_read (length text) (all_processes program) fine }, all_few (length text) (all_processes program) fine)
+    record {
+      tree = record { some = tree.0; equations = all_read (length text) (all_processes program) fine };
+      bounded = all_bounded (length text) (all_processes program) fine;
+      sized = all_few (length text) (all_processes program) fine;
+    }

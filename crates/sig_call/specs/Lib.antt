@@ -1,7 +1,9 @@
 pub mod Bindings
 pub mod Calling
+pub mod Constants
 pub mod Copies
 pub mod MadeOf
 pub mod Making
+pub mod SignalNames
 pub mod Sound
 pub mod WellMade

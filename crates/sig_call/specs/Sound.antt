@@ -1,9 +1,10 @@
 -- What is asked of a program whose calls are expanded, beyond the rules on well-formed programs: what holds
 -- of each tree that was read from a text.
-use Rattle.std.specs.Prelude.{◌≡◌, ◌≢◌, ◌+◌, ◌<◌, ◌≤◌, ◌^◌, ℕ, List, [], ◌∷◌, length, Option, None, Some, ⊤}
+use Rattle.std.specs.Prelude.{◌≡◌, ◌≢◌, ◌+◌, ◌<◌, ◌≤◌, ◌^◌, ℕ, suc, List, [], ◌∷◌, length, Option, None, Some, ⊤}
 use Rattle.std.specs.List.{AllByRecursion}
 use Rattle.sig_tree.specs.declared.expr.Name.{Name}
 use Rattle.sig_tree.specs.Syntax.{Expression, Named, Number, Truth, Unary, Binary, Delay, Cell, Placement, RightSide, Computed, Called, Equations, Together, Defines, Equal, ProcessModel}
+use Rattle.sig_tree.specs.FlatSyntax.{FlatEquation, Defines as DefinesFlat, Equal as EqualFlat}
 use Rattle.sig_tree.specs.Declarations.{all_processes, inputs_of, outputs_of, process_of, equations_of_model, pragmas_of_model}
 use Rattle.sig_tree.specs.Rules.{number_of}
 
@@ -57,9 +58,31 @@ pub record IsExpandable (all : List ProcessModel) (p : ProcessModel) : Type 0 wh
 abbrev pub AreExpandable : List ProcessModel → Type 0
 AreExpandable all = (text : List ℕ) (p : ProcessModel) → process_of all text ≡ Some p → IsExpandable all p
 
+-- how much an equation counts: one, and a clock equation one for each pair of operands that stand beside each other
+abbrev pub weight : Equations → ℕ
+weight (Together bodies) = 1
+weight (Defines names right) = 1
+weight (Equal []) = 1
+weight (Equal (e ∷ [])) = 1
+weight (Equal (e ∷ f ∷ operands)) = suc (length operands)
+
+abbrev pub weights : List Equations → ℕ
+weights [] = 0
+weights (q ∷ qs) = weight q + weights qs
+
+abbrev pub flat_weight : FlatEquation → ℕ
+flat_weight (DefinesFlat left e prefix) = 1
+flat_weight (EqualFlat [] prefix) = 1
+flat_weight (EqualFlat (e ∷ []) prefix) = 1
+flat_weight (EqualFlat (e ∷ f ∷ operands) prefix) = suc (length operands)
+
+abbrev pub flat_weights : List FlatEquation → ℕ
+flat_weights [] = 0
+flat_weights (q ∷ qs) = flat_weight q + flat_weights qs
+
 -- the equations, inputs and outputs of each process are at most so many
 abbrev pub size_of : ProcessModel → ℕ
-size_of p = length (equations_of_model p) + (length (inputs_of p) + length (outputs_of p))
+size_of p = weights (equations_of_model p) + (length (inputs_of p) + length (outputs_of p))
 
 abbrev pub IsSized : ℕ → List ProcessModel → Type 0
 IsSized size program = AllByRecursion (λ p. size_of p ≤ size) (all_processes program)

@@ -4,11 +4,12 @@ ghost use Rattle.std.specs.Prelude.{◌+◌, ◌*◌, ◌^◌, ◌<◌, ◌≤�
 ghost use Rattle.std.specs.List.{IsDistinct};
 ghost use Rattle.std.specs.Str.{bytes_eq};
 ghost use Rattle.sig_tree.specs.Syntax.{ProcessModel};
-ghost use Rattle.sig_tree.specs.FlatSyntax.{FlatBody};
+ghost use Rattle.sig_tree.specs.FlatSyntax.{FlatBody, FlatEquation};
 ghost use Rattle.sig_tree.specs.FlatBody.{IsFlatBody};
 ghost use Rattle.sig_tree.specs.Grammar.{IsText};
 ghost use Rattle.sig_tree.specs.WellFormed.{IsWellFormed};
-ghost use Rattle.sig_call.specs.Sound.{IsTree, IsSized};
+ghost use Rattle.sig_call.specs.Constants.{IsBounded};
+ghost use Rattle.sig_call.specs.Sound.{IsTree, IsSized, flat_weights};
 
 use sig_lex::{each_token, slices_in_order};
 
@@ -17,10 +18,12 @@ pub fn some_flat_body()
     ensures { (program : List ProcessModel) → IsTree program → IsWellFormed program → (flat : FlatBody) × IsFlatBody program flat }
 {}
 
-/// A law: of the tree of a text, numbers are small and each definition has a left side, and the
-/// equations, inputs and outputs of a process are no more than the bytes of the text.
+/// A law: of the tree of a text, numbers are small, the integers among the constants have 64 bits and
+/// each definition has a left side, and the equations, inputs and outputs of a process are no more than
+/// the bytes of the text.
 pub fn trees_of_texts()
     ensures tree { (text : List ℕ) (program : List ProcessModel) → IsText text program → IsTree program }
+    ensures bounded { (text : List ℕ) (program : List ProcessModel) → IsText text program → IsBounded program }
     ensures sized { (text : List ℕ) (program : List ProcessModel) → IsText text program → IsSized (length text) program }
 {
     each_token();
@@ -28,10 +31,12 @@ pub fn trees_of_texts()
 }
 
 /// A law: a flat body has at most as many equations as the equations, inputs and outputs of its
-/// program's greatest process, for the first process and for each signal.
+/// program's greatest process, for the first process and for each signal, where a clock equation
+/// counts one for each pair of operands that stand beside each other.
 pub fn size_of_flat_bodies()
-    ensures { (program : List ProcessModel) (flat : FlatBody) (size : ℕ) → IsTree program → IsWellFormed program → IsSized size program
-        → IsFlatBody program flat → length flat.equations ≤ size * (length flat.signals + 1) }
+    ensures weights { (program : List ProcessModel) (flat : FlatBody) (size : ℕ) → IsTree program → IsWellFormed program → IsSized size program
+        → IsFlatBody program flat → flat_weights flat.equations ≤ size * (length flat.signals + 1) }
+    ensures equations { (qs : List FlatEquation) → length qs ≤ flat_weights qs }
 {}
 
 /// A law: the signals of a flat body have names that differ. There are fewer than 10 ^ 64 of them, so

@@ -2,4 +2,5 @@ pub mod Answers
 pub mod Bodies
 pub mod Drafts
 pub mod KernelOf
+pub mod Restricted
 pub mod Rows

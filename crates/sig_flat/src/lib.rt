@@ -1,6 +1,6 @@
 //! From flat bodies to kernels. The kernel of a flat body is a definition (`specs/KernelOf.antt`);
 //! `to_kernel` makes it, or refuses one of more than 512 signals, and stops as soon as there are more. It
-//! stands on sig_base, sig_tree and sig_kernel.
+//! stands on sig_base, sig_tree, sig_call and sig_kernel.
 #![tactic(auto)]
 
 mod answer;
@@ -13,8 +13,8 @@ mod laws;
 mod operator;
 mod site;
 mod term;
-#[cfg(test)]
-mod tests;
+mod traces;
+mod valid;
 
 pub use answer::FlatAnswer;
 pub use kernel::to_kernel;
@@ -22,3 +22,8 @@ pub use laws::{
     derived_equations_mean_operators, equations_mean_operators, kernels_have_their_parts,
     kernels_keep_signals, kernels_name_their_signals,
 };
+pub use traces::kernel_traces_are_process_traces;
+pub use valid::{kernels_are_valid, kernels_have_few_equations, kernels_name_signals};
+
+#[cfg(test)]
+mod tests;

@@ -1,4 +1,5 @@
 mod BodyLemmas
+mod CleanLines
 mod EventLemmas
 pub mod FirstLemmas
 mod FirstLines
@@ -6,6 +7,7 @@ mod FlowLemmas
 pub mod InputLemmas
 mod LineWords
 mod Numerals
+mod ShortNumbers
 mod StarLemmas
 mod TakenPieces
 pub mod ThreeNames

@@ -32,7 +32,7 @@ abbrev word_at : ℕ → List ℕ → Word
 word_at col text = record { col = col; text = text }
 
 -- a piece that is not empty is a word
-kept : (col : ℕ) (w : List ℕ) (ws : List (List ℕ)) → 0 < length w → words_among col (w ∷ ws) ≡ word_at col w ∷ words_among (col + length w + 1) ws
+pub kept : (col : ℕ) (w : List ℕ) (ws : List (List ℕ)) → 0 < length w → words_among col (w ∷ ws) ≡ word_at col w ∷ words_among (col + length w + 1) ws
 kept col w ws some = rw (ne_eqb (length w) 0 (λ none. omega arith)) refl
 
 first_and_more : (col : ℕ) (xs : List ℕ) (n : ℕ) → 0 < n → n < length xs → position_or_len is_blank xs ≡ n → is_blank (get_or xs n 0) ≡ true → words_from col xs ≡ word_at col (take n xs) ∷ words_from (col + n) (drop n xs)

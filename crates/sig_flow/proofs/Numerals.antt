@@ -1,7 +1,8 @@
 -- Numerals of flow files: digits read from the left.
-use Rattle.std.proofs.Common.{None, Some, ◌≡◌, ◌≤◌, ◌<◌, ◌+◌, ◌-◌, ◌*◌, ℕ, List, length, take, get_or, true, IsTrue, arith, subst, rules}
+use Rattle.std.proofs.Common.{None, Some, ◌≡◌, ◌≤◌, ◌<◌, ◌+◌, ◌-◌, ◌*◌, ℕ, List, length, take, get_or, true, false, IsTrue, arith, subst, rules, ⊎_elim, length-take-le}
 use Rattle.std.proofs.lemmas.List.{take_all}
 use Rattle.std.proofs.lemmas.Grind.{common_steps}
+use Rattle.std.proofs.lemmas.Bool.{cases_lt}
 use Rattle.std.proofs.lemmas.Bool.Decides.{nat_tests}
 use Rattle.std.proofs.lemmas.Int.Digits.{digits_value_more, digits_more}
 use Rattle.std.proofs.lemmas.Str.Parse.{IsNumeralModel, numerals_by_value, tells_all_ascii_digits, digit_at, digits_value-take-le, digits_value_short}
@@ -9,7 +10,8 @@ use Rattle.std.specs.Int.{IsInRange}
 use Rattle.std.specs.Char.{digit_value}
 use Rattle.std.specs.Str.{all_ascii_digits}
 use Rattle.std.specs.Str.Parse.{AllDigits, digits_value}
-use Rattle.sig_flow.specs.Digits.{is_digits, short_number}
+use Rattle.sig_flow.specs.Digits.{IsShortNumber, is_digits, short_number}
+use Rattle.sig_flow.specs.Words.{is_blank}
 
 own : IsNumeralModel (λ ds. all_ascii_digits ds ≡ true) (digits_value 10)
 own = numerals_by_value _ tells_all_ascii_digits
@@ -57,3 +59,28 @@ long_is_none ds long = grind (arith, nat_tests)
 
 pub other_is_none : (ds : List ℕ) → (IsTrue (is_digits ds) → ⊥) → short_number ds ≡ None
 other_is_none ds other = grind (arith, nat_tests)
+
+-- a front of digits that is not empty
+pub some_digits : (ds : List ℕ) (i : ℕ) → 0 < i → i ≤ length ds → AllDigits 10 (take i ds) → IsTrue (is_digits (take i ds))
+some_digits ds i some le digits =
+    let size : length (take i ds) ≡ i = length-take-le i ds le in
+    let byte : 0 < length (take i ds) = omega (arith, size) in
+    let all = own.from (take i ds) digits in
+    grind (arith, common_steps)
+
+-- a short number at the front
+pub short_front : (ds : List ℕ) (i n : ℕ) → 0 < i → i ≤ length ds → AllDigits 10 (take i ds) → n ≡ digits_value 10 (take i ds) → n < 1000000000000000000 → IsShortNumber (take i ds) n
+short_front ds i n some le digits value small = record {
+  digits = some_digits ds i some le digits;
+  value = value;
+  small = small;
+}
+
+-- a digit is no blank
+pub digit_no_blank : (c : ℕ) → 48 ≤ c → c ≤ 57 → is_blank c ≡ false
+digit_no_blank c low high = grind (arith, nat_tests)
+
+-- nor are those before it
+pub no_blank_more : (xs : List ℕ) (i : ℕ) → ((k : ℕ) → k < i → is_blank (get_or xs k 0) ≡ false) → is_blank (get_or xs i 0) ≡ false → (k : ℕ) → k < i + 1 → is_blank (get_or xs k 0) ≡ false
+no_blank_more xs i before here k lt =
+    ⊎_elim (λ less. before k less) (λ ge. let same : i ≡ k = omega arith in subst (λ j. is_blank (get_or xs j 0) ≡ false) same here) (cases_lt k i)

@@ -1,5 +1,5 @@
 -- Runs of decimal digits.
-use Rattle.std.specs.Prelude.{ℕ, Bool, ◌&&◌, nat_lt, nat_le, List, length, Option, None, Some, if◌then◌else◌}
+use Rattle.std.specs.Prelude.{◌≡◌, ◌<◌, ℕ, Bool, ◌&&◌, nat_lt, nat_le, List, length, Option, None, Some, IsTrue, if◌then◌else◌}
 use Rattle.std.specs.Str.{all_ascii_digits}
 use Rattle.std.specs.Str.Parse.{digits_value}
 
@@ -10,3 +10,9 @@ is_digits digits = nat_lt 0 (length digits) && all_ascii_digits digits
 -- the number that 1 to 9 digits write
 abbrev pub short_number : List ℕ → Option ℕ
 short_number digits = if is_digits digits && nat_le (length digits) 9 then Some (digits_value 10 digits) else None
+
+-- the word is digits that write this number, and it is below 10^18
+pub record IsShortNumber (word : List ℕ) (n : ℕ) : Type 0 where
+  pub digits : IsTrue (is_digits word)
+  pub value : n ≡ digits_value 10 word
+  pub small : n < 1000000000000000000

@@ -1,6 +1,6 @@
 //! One line of a flow file: the name of an input, and its next values.
 
-ghost use Rattle.std.specs.Prelude.{◌≡◌, ◌≤◌, ◌<◌, ◌+◌, ◌++◌, ◌∷◌, ◌^◌, ◌⊎◌, ℕ, [], None, Some, bytes_eq, length, map, slice_index_or, sum_by, OnOk, IfOk, IfErr};
+ghost use Rattle.std.specs.Prelude.{◌≡◌, ◌≤◌, ◌<◌, ◌+◌, ◌++◌, ◌∷◌, ◌^◌, ◌⊎◌, ℕ, [], None, Some, bytes_eq, length, map, slice_index_or, sum_by, OnOk, IfOk, IfErr, IfSome, IfNone};
 ghost use Rattle.std.specs.List.{IsDistinct};
 ghost use Rattle.sig_base.specs.declared.signal.Signal.{Signal};
 ghost use Rattle.sig_flow.specs.First.{first_fault};
@@ -14,7 +14,7 @@ use crate::answer::FlowAnswer;
 use crate::named::{input_named, is_clean, is_name};
 use crate::value::{Run, WordFault, run_of};
 use crate::version::Version;
-use crate::word::{Next, next_word};
+use crate::word::{Next, next_number, next_word};
 use sig_base::limits::VALUES;
 use sig_base::{Kind, Signal};
 use sig_kernel::Flow;
@@ -29,6 +29,8 @@ pub struct Context {
 }
 
 /// Appends the values of a line to the flow of its input, and answers the number of all values so far.
+/// A line whose words are good holds no other bytes than a line may, so only one with a fault is
+/// looked at for them.
 pub fn read_line(
     line: &[u8],
     context: Context,
@@ -48,12 +50,13 @@ pub fn read_line(
     ensures fault { IfErr result (λ answer. (answer ≡ OutOfMemory)
         ⊎ (text_fault context.version inputs.now context.number context.before line.now ≡ Some answer)) }
 {
-    if !is_clean(line) {
-        return Err(FlowAnswer::BadLine(context.number));
-    }
-    match next_word(line, 1) {
-        Some(name) => read_words(name, context, inputs, flows),
-        None => Ok(context.before),
+    let Some(name) = next_word(line, 1) else {
+        return Ok(context.before);
+    };
+    match read_words(name, context, inputs, flows) {
+        Ok(count) => Ok(count),
+        Err(fault) if is_clean(line) => Err(fault),
+        Err(_) => Err(FlowAnswer::BadLine(context.number)),
     }
 }
 
@@ -117,14 +120,8 @@ fn read_values(
     let mut rest = line;
     let mut col = col;
     let mut before = context.before;
-    while let Some(next) = next_word(rest, col) {
-        before = read_value(
-            next.word,
-            next.col,
-            Context { before, ..context },
-            kind,
-            flow,
-        )?;
+    while let Some((next, run)) = next_run(rest, col, context.version, kind) {
+        before = add_run(run, next.col, Context { before, ..context }, flow)?;
         col = next.col + next.word.len();
         rest = next.rest;
     }
@@ -139,24 +136,54 @@ fn make_room(flow: &mut Flow, bytes: usize, before: usize) -> Result<(), AllocEr
     flow.values.reserve((bytes / 2).min(VALUES - before))
 }
 
+/// The first word of a line whose first byte stands at this column, and what it stands for. A short
+/// number is looked at once.
+#[inline(always)]
+fn next_run(
+    line: &[u8],
+    col: usize,
+    version: Version,
+    kind: Kind,
+) -> Option<(Next, Result<Run, WordFault>)>
+    requires { col + length line.now < 2 ^ 64 }
+    ensures none { IfNone result (words_from col line.now ≡ []) }
+    ensures word { IfSome result (λ p. words_from col line.now ≡ word_of p.0 ∷ words_behind p.0) }
+    ensures run { IfSome result (λ p. p.1 ≡ run_said version kind p.0.word.now) }
+    ensures shorter { IfSome result (λ p. length p.0.rest.now < length line.now) }
+    ensures within { IfSome result (λ p. p.0.col + length p.0.word.now + length p.0.rest.now ≤ col + length line.now) }
+{
+    if kind == Kind::Integer {
+        if let Some((next, number)) = next_number(line, col) {
+            let run = Run {
+                value: number as i64,
+                times: 1,
+            };
+            return Some((next, Ok(run)));
+        }
+    }
+    match next_word(line, col) {
+        Some(next) => Some((next, run_of(next.word, version, kind))),
+        None => None,
+    }
+}
+
 /// Appends the values that a word at this column stands for.
 #[inline(always)]
-fn read_value(
-    word: &[u8],
+fn add_run(
+    run: Result<Run, WordFault>,
     col: usize,
     context: Context,
-    kind: Kind,
     flow: &mut Flow,
 ) -> Result<usize, FlowAnswer>
     requires { context.before ≤ VALUES }
-    ensures good { OnOk result (word_fault context.number context.before col (run_said context.version kind word.now) ≡ None) }
-    ensures counted { IfOk result (λ n. n ≡ context.before + run_length (run_said context.version kind word.now)) }
+    ensures good { OnOk result (word_fault context.number context.before col run ≡ None) }
+    ensures counted { IfOk result (λ n. n ≡ context.before + run_length run) }
     ensures few { IfOk result (λ n. n ≤ VALUES) }
-    ensures flow { OnOk result (flow.new ≡ flow.old ++ run_values (run_said context.version kind word.now)) }
+    ensures flow { OnOk result (flow.new ≡ flow.old ++ run_values run) }
     ensures fault { IfErr result (λ answer. (answer ≡ OutOfMemory)
-        ⊎ (word_fault context.number context.before col (run_said context.version kind word.now) ≡ Some answer)) }
+        ⊎ (word_fault context.number context.before col run ≡ Some answer)) }
 {
-    match run_of(word, context.version, kind) {
+    match run {
         Ok(run) => {
             let count = context.before + run.times as usize;
             if count > VALUES {

@@ -1,8 +1,12 @@
 //! Words of a line.
 
-ghost use Rattle.std.specs.Prelude.{◌≡◌, ◌<◌, ◌≤◌, ◌+◌, ◌^◌, ◌∷◌, [], ◌==◌, ◌||◌, ℕ, true, false, length, slice_index, IfSome, IfNone};
+ghost use Rattle.std.specs.Prelude.{◌≡◌, ◌<◌, ◌≤◌, ◌+◌, ◌^◌, ◌∷◌, [], ◌==◌, ◌||◌, ℕ, true, false, length, slice_index, take, IfSome, IfNone};
+ghost use Rattle.sig_flow.specs.Digits.{IsShortNumber};
 ghost use Rattle.sig_flow.specs.NextWords.{word_of, words_behind};
 ghost use Rattle.sig_flow.specs.Words.{is_blank, words_from};
+
+/// Every short number is below this.
+const SHORT: u64 = 1_000_000_000_000_000_000;
 
 /// A word of a line, the column at which it begins, and the bytes behind it.
 #[derive(Clone, Copy)]
@@ -31,6 +35,70 @@ pub fn next_word(line: &[u8], col: usize) -> Option<Next>
         col: col + start,
         word,
         rest,
+    })
+}
+
+/// The first word of a line whose first byte stands at this column, and its number, where it is a
+/// short one. The word is looked at once.
+#[inline(always)]
+pub fn next_number(line: &[u8], col: usize) -> Option<(Next, u64)>
+    requires { col + length line.now < 2 ^ 64 }
+    ensures word { IfSome result (λ p. words_from col line.now ≡ word_of p.0 ∷ words_behind p.0) }
+    ensures number { IfSome result (λ p. IsShortNumber p.0.word.now p.1) }
+    ensures shorter { IfSome result (λ p. length p.0.rest.now < length line.now) }
+    ensures within { IfSome result (λ p. p.0.col + length p.0.word.now + length p.0.rest.now ≤ col + length line.now) }
+{
+    let start = blanks_in_front(line);
+    let (_, from_word) = line.split_at(start);
+    match short_number_in(from_word) {
+        Some(number) => {
+            let (word, rest) = from_word.split_at(number.length);
+            let next = Next {
+                col: col + start,
+                word,
+                rest,
+            };
+            Some((next, number.value))
+        }
+        None => None,
+    }
+}
+
+/// A number by its length and its value.
+#[derive(Clone, Copy)]
+struct Number {
+    length: usize,
+    value: u64,
+}
+
+/// The word at the front of a line, where it is a short number.
+#[inline(always)]
+fn short_number_in(line: &[u8]) -> Option<Number>
+    ensures some { IfSome result (λ n. 0 < n.length) }
+    ensures within { IfSome result (λ n. n.length ≤ length line.now) }
+    ensures word { IfSome result (λ n. (k : ℕ) → k < n.length → is_blank (slice_index line.now k) ≡ false) }
+    ensures stop { IfSome result (λ n. n.length < length line.now → is_blank (slice_index line.now n.length) ≡ true) }
+    ensures number { IfSome result (λ n. IsShortNumber (take n.length line.now) n.value) }
+{
+    let mut value: u64 = 0;
+    for (i, byte) in line.iter().enumerate() {
+        if !byte.is_ascii_digit() {
+            if i == 0 || !is_blank(*byte) {
+                return None;
+            }
+            return Some(Number { length: i, value });
+        }
+        if value >= SHORT / 10 {
+            return None;
+        }
+        value = value * 10 + u64::from(*byte - b'0');
+    }
+    if line.is_empty() {
+        return None;
+    }
+    Some(Number {
+        length: line.len(),
+        value,
     })
 }
 

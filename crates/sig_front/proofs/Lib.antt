@@ -1,5 +1,9 @@
+pub mod Distinct
 pub mod Given
+pub mod Kernels
 pub mod OneFlat
+pub mod OneKernel
 pub mod OneText
+pub mod Results
 pub mod SmallBodies
 pub mod TextRefusals

@@ -6,25 +6,26 @@ use Rattle.std.specs.List.{IsDistinct}
 use Rattle.std.specs.Prelude.{Result, Ok, Err, IfOk}
 use Rattle.sig_tree.specs.declared.flat.Flat.{Flat}
 use Rattle.sig_front.specs.declared.answer.FrontAnswer.{FrontAnswer}
-use Rattle.sig_tree.specs.FlatSyntax.{FlatBody, flat_body_of, flat_equation_of}
+use Rattle.sig_tree.specs.FlatSyntax.{FlatBody, FlatEquation, flat_body_of, flat_equation_of}
 use Rattle.sig_tree.specs.Grammar.{IsText}
 use Rattle.sig_tree.specs.Syntax.{ProcessModel}
 use Rattle.sig_tree.specs.WellFormed.{IsWellFormed}
-use Rattle.sig_call.specs.Sound.{IsTree, IsSized}
+use Rattle.sig_call.specs.Sound.{IsTree, IsSized, flat_weights}
 use Rattle.sig_front.specs.Flats.{IsFlatText}
 
 -- a product of bounded numbers
-product : (size signals bytes most : ℕ) → size ≤ bytes → signals ≤ most → size * signals ≤ bytes * most
+pub product : (size signals bytes most : ℕ) → size ≤ bytes → signals ≤ most → size * signals ≤ bytes * most
 product size signals bytes most first second = mul-le-mul first second
 
 module _ (trees : (text : List ℕ) (program : List ProcessModel) → IsText text program → IsTree program)
     (sized : (text : List ℕ) (program : List ProcessModel) → IsText text program → IsSized (length text) program)
-    (sizes : (program : List ProcessModel) (flat : FlatBody) (size : ℕ) → IsTree program → IsWellFormed program → IsSized size program → IsFlatBody program flat → length flat.equations ≤ size * (length flat.signals + 1)) where
+    (sizes : (program : List ProcessModel) (flat : FlatBody) (size : ℕ) → IsTree program → IsWellFormed program → IsSized size program → IsFlatBody program flat → flat_weights flat.equations ≤ size * (length flat.signals + 1))
+    (counted : (qs : List FlatEquation) → length qs ≤ flat_weights qs) where
   few : (text : List ℕ) (flat : FlatBody) → length text ≤ 1048576 → IsFlatText text flat → length flat.equations < 2 ^ 30
   few text flat short is =
-      let bound : length flat.equations ≤ length text * (length flat.signals + 1) = sizes is.tree flat (length text) (trees text is.tree is.good.reads) is.good.formed (sized text is.tree is.good.reads) is.expands in
+      let bound : flat_weights flat.equations ≤ length text * (length flat.signals + 1) = sizes is.tree flat (length text) (trees text is.tree is.good.reads) is.good.formed (sized text is.tree is.good.reads) is.expands in
       let most : length text * (length flat.signals + 1) ≤ 1048576 * 513 = product (length text) (length flat.signals + 1) 1048576 513 short (omega (arith, is.few)) in
-      omega (arith, bound, most)
+      omega (arith, bound, most, counted flat.equations)
 
   pub small : (text : List ℕ) (result : Result Flat FrontAnswer) → length text ≤ 1048576 → IfOk result (λ flat. IsFlatText text (flat_body_of flat)) → IfOk result (λ flat. length flat.body.items < 2 ^ 30)
   small text (Ok flat) short is = omega (arith, few text (flat_body_of flat) short is, length-map flat.body.items flat_equation_of)

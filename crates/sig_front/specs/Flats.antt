@@ -10,6 +10,8 @@ use Rattle.sig_type.specs.declared.answer.TypeAnswer.{TypeAnswer}
 use Rattle.sig_type.specs.declared.answer.TypeAnswer.TheVariants.{Unknown, DeclaredTwice, InputDefined, DefinedTwice, Undefined, Clash, BareConstant, BadCall, Recursive, BadPragma, NoInit, OutOfMemory as TypeMemory}
 use Rattle.sig_call.specs.declared.answer.CallAnswer.{CallAnswer}
 use Rattle.sig_call.specs.declared.answer.CallAnswer.TheVariants.{TooManySignals as TooMany, OutOfMemory as CallMemory}
+use Rattle.sig_flat.specs.declared.answer.FlatAnswer.{FlatAnswer}
+use Rattle.sig_flat.specs.declared.answer.FlatAnswer.TheVariants.{TooManySignals as TooManyMade, OutOfMemory as FlatMemory}
 use Rattle.sig_front.specs.Texts.{IsNoText}
 use Rattle.sig_front.specs.declared.answer.FrontAnswer.{FrontAnswer}
 use Rattle.sig_front.specs.declared.answer.FrontAnswer.TheVariants.{Lex, Parse, «Type» as TypeRefused, TooManySignals, OutOfMemory}
@@ -32,6 +34,10 @@ of_type (NoInit at) = TypeRefused (NoInit at)
 abbrev pub of_call : CallAnswer → FrontAnswer
 of_call (TooMany limit) = TooManySignals limit
 of_call CallMemory = OutOfMemory
+
+abbrev pub of_flat : FlatAnswer → FrontAnswer
+of_flat (TooManyMade limit) = TooManySignals limit
+of_flat FlatMemory = OutOfMemory
 
 -- the answer that names an offence
 abbrev pub answer_for : Offence → TypeAnswer

@@ -1,3 +1,4 @@
 pub mod Flats
+pub mod Kernels
 pub mod Shown
 pub mod Texts

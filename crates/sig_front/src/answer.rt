@@ -4,6 +4,7 @@ ghost use Rattle.std.specs.Prelude.{◌≡◌};
 ghost use Rattle.sig_front.specs.declared.answer.FrontAnswer.TheVariants.{OutOfMemory};
 
 use sig_call::CallAnswer;
+use sig_flat::FlatAnswer;
 use sig_lex::LexAnswer;
 use sig_parse::ParseAnswer;
 use sig_type::TypeAnswer;
@@ -90,6 +91,19 @@ impl From<CallAnswer> for FrontAnswer {
         match answer {
             CallAnswer::TooManySignals(limit) => FrontAnswer::TooManySignals(limit),
             CallAnswer::OutOfMemory => FrontAnswer::OutOfMemory,
+        }
+    }
+}
+
+impl From<FlatAnswer> for FrontAnswer {
+    ghost use Rattle.sig_front.specs.Flats.{of_flat};
+
+    ghost from_gives = { λ answer front. front ≡ of_flat answer };
+
+    fn from(answer: FlatAnswer) -> FrontAnswer {
+        match answer {
+            FlatAnswer::TooManySignals(limit) => FrontAnswer::TooManySignals(limit),
+            FlatAnswer::OutOfMemory => FrontAnswer::OutOfMemory,
         }
     }
 }

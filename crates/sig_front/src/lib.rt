@@ -1,16 +1,18 @@
 //! The passes from the text of a program on, joined: the first refusal of them, or what they give.
 //! What a text is, and its first refusal, is defined in `specs/`, over the bytes. It stands on
-//! sig_lex, sig_parse, sig_tree, sig_type and sig_call.
+//! sig_lex, sig_parse, sig_tree, sig_type, sig_call, sig_flat and sig_kernel.
 #![tactic(auto)]
 
 mod answer;
 mod body;
+mod kernel;
 mod laws;
 mod text;
 
 pub use answer::FrontAnswer;
 pub use body::flat;
-pub use laws::{one_flat_text, one_text};
+pub use kernel::front;
+pub use laws::{one_flat_text, one_kernel_text, one_text};
 pub use text::tree;
 
 #[cfg(test)]

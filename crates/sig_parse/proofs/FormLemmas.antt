@@ -5,9 +5,9 @@ use Rattle.std.specs.List.{IsDistinct, AllByRecursion}
 use Rattle.std.proofs.lemmas.Option.{cond_some}
 use Rattle.std.proofs.lemmas.Slice.Eq.{bytes_eq-Decides}
 use Rattle.sig_base.specs.declared.span.Span.{Span}
-use Rattle.sig_plan.specs.declared.straight.Term.{Term}
-use Rattle.sig_plan.specs.Names.{is_name, IsName}
-use Rattle.sig_plan.specs.Small.{Small, listed, sign, chain, small_form}
+use Rattle.sig_parse.specs.declared.straight.Term.{Term}
+use Rattle.sig_parse.specs.Names.{is_name, IsName}
+use Rattle.sig_parse.specs.Small.{Small, listed, sign, chain, small_form}
 use Rattle.sig_parse.specs.Answers.{◌>>=◌}
 use Rattle.sig_parse.proofs.ReadingLemmas.{names_at-more, names_at-end}
 use Rattle.sig_parse.specs.Reading.{after_word, name_at, with_front, names_at, index_of, operand_at, sign_at, term_at, chain_at, interface_at, ends, equation_at, small_at}

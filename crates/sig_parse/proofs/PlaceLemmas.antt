@@ -5,7 +5,7 @@ use Rattle.std.specs.List.{suffix_len}
 use Rattle.std.proofs.lemmas.List.{drop_more, drop_all, take_more}
 use Rattle.std.proofs.lemmas.List.Sums.{count_by_more_yes, count_by_more_no, suffix_len-take_yes, suffix_len-take_no}
 use Rattle.sig_base.specs.declared.span.Span.{Span}
-use Rattle.sig_plan.specs.Words.{is_sign, place_after, signs_after, signs}
+use Rattle.sig_parse.specs.Words.{is_sign, place_after, signs_after, signs}
 
 -- The signs among the first i bytes are found, and the next byte stands at place.
 pub record IsMarked (text : List ℕ) (i : ℕ) (places : List Span) (place : Span) : Type 0 where

@@ -4,8 +4,8 @@ use Rattle.std.specs.Prelude.{bytes_eq, codes}
 use Rattle.std.proofs.lemmas.List.{drop_more, drop_all}
 use Rattle.std.proofs.lemmas.Option.{cond_some}
 use Rattle.sig_base.specs.declared.span.Span.{Span}
-use Rattle.sig_plan.specs.declared.straight.Term.{Term}
-use Rattle.sig_plan.specs.Names.{is_name}
+use Rattle.sig_parse.specs.declared.straight.Term.{Term}
+use Rattle.sig_parse.specs.Names.{is_name}
 use Rattle.sig_parse.specs.declared.answer.SmallAnswer.{SmallAnswer}
 use Rattle.sig_parse.specs.declared.answer.SmallAnswer.TheVariants.{NotBuilt, OutOfMemory}
 use Rattle.sig_parse.specs.Answers.{Refuses}

@@ -2,7 +2,7 @@
 use Rattle.std.proofs.Common.{◌≡◌, ℕ, ◌<◌, subst, Bool, true, false, List, [], ◌∷◌, ◌++◌, length, get_or, map, refl, sym, ap, ◌∙◌, arith, rules, tests, ◌⊎◌, inl, inr, zero, suc}
 use Rattle.std.specs.Prelude.{◌==◌, ◌||◌, bytes_eq, Contains}
 use Rattle.std.specs.List.{IsDistinct, AllByRecursion, list_any}
-use Rattle.sig_plan.specs.Small.{Small, operands}
+use Rattle.sig_parse.specs.Small.{Small, operands}
 use Rattle.sig_parse.specs.Rules.{has_operand}
 
 -- a test of a list that passes at the head or in the rest

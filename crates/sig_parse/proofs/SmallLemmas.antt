@@ -3,10 +3,10 @@ use Rattle.std.proofs.Common.{◌≡◌, ℕ, ◌<◌, ◌≤◌, subst, Bool, t
 use Rattle.std.specs.List.{AllByRecursion}
 use Rattle.std.proofs.lemmas.List.Elements.{All-from_recursion, recursion_from_All}
 use Rattle.sig_base.specs.declared.span.Span.{Span}
-use Rattle.sig_plan.specs.declared.straight.Term.{Term}
-use Rattle.sig_plan.specs.Names.{is_letter, is_name_byte, IsName}
-use Rattle.sig_plan.specs.Words.{is_blank, Spells, signs}
-use Rattle.sig_plan.specs.Small.{Small, operands, declared_names, listed, sign, chain, small_form, IsSmallProgram}
+use Rattle.sig_parse.specs.declared.straight.Term.{Term}
+use Rattle.sig_parse.specs.Names.{is_letter, is_name_byte, IsName}
+use Rattle.sig_parse.specs.Words.{is_blank, Spells, signs}
+use Rattle.sig_parse.specs.Small.{Small, operands, declared_names, listed, sign, chain, small_form, IsSmallProgram}
 use Rattle.sig_parse.specs.declared.answer.SmallAnswer.{SmallAnswer}
 use Rattle.sig_parse.specs.declared.answer.SmallAnswer.TheVariants.{NotBuilt, OutOfMemory}
 use Rattle.sig_parse.specs.Answers.{Refuses}

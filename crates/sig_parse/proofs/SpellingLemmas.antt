@@ -4,8 +4,8 @@ use Rattle.std.specs.Prelude.{◌==◌, ◌||◌, ◌&&◌}
 use Rattle.std.specs.List.{AllPass, AllByRecursion, list_all}
 use Rattle.std.proofs.lemmas.Bool.{eqb-true}
 use Rattle.std.proofs.lemmas.List.Elements.{All-nil, All-cons, All-head, All-tail}
-use Rattle.sig_plan.specs.Names.{is_letter, is_name_byte, is_reserved, is_name}
-use Rattle.sig_plan.specs.Words.{is_blank, begins_name, Spells}
+use Rattle.sig_parse.specs.Names.{is_letter, is_name_byte, is_reserved, is_name}
+use Rattle.sig_parse.specs.Words.{is_blank, begins_name, Spells}
 use Rattle.sig_parse.specs.Splitting.{joins, closed, opened, words_after, words_of}
 use Rattle.sig_parse.proofs.RuleLemmas.{or_cases, or_false}
 

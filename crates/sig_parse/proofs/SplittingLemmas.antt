@@ -1,7 +1,7 @@
 -- Lemmas on the words of a text.
 use Rattle.std.proofs.Common.{◌≡◌, ℕ, ◌+◌, ◌<◌, ◌≤◌, true, false, cond, List, [], ◌∷◌, ◌++◌, length, get_or, drop, refl, sym, ap, ◌∙◌, append_assoc, arith, length-append}
 use Rattle.std.proofs.lemmas.List.{drop_more, drop_all}
-use Rattle.sig_plan.specs.Words.{is_blank}
+use Rattle.sig_parse.specs.Words.{is_blank}
 use Rattle.sig_parse.specs.Splitting.{joins, closed, opened, words_after, words_of}
 
 -- The first i bytes are split into words and an open word.

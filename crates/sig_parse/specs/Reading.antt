@@ -1,9 +1,9 @@
 -- The straight program of a list of words, as one pass from the left reads it.
 use Rattle.std.specs.Prelude.{ℕ, ◌+◌, Bool, true, false, cond, List, [], ◌∷◌, ◌++◌, Option, Some, None, option_map, codes, bytes_eq}
 use Rattle.sig_base.specs.declared.span.Span.{Span}
-use Rattle.sig_plan.specs.declared.straight.Term.{Term}
-use Rattle.sig_plan.specs.Names.{is_name}
-use Rattle.sig_plan.specs.Small.{Small}
+use Rattle.sig_parse.specs.declared.straight.Term.{Term}
+use Rattle.sig_parse.specs.Names.{is_name}
+use Rattle.sig_parse.specs.Small.{Small}
 use Rattle.sig_parse.specs.Answers.{◌>>=◌}
 
 -- the words after this one, where it stands first

@@ -1,7 +1,7 @@
 -- The rules of a straight program that its words and the number of its signs do not show.
 use Rattle.std.specs.Prelude.{ℕ, ◌==◌, ◌||◌, Bool, bytes_eq, Contains, EachIndex}
 use Rattle.std.specs.List.{IsDistinct, list_any}
-use Rattle.sig_plan.specs.Small.{Small, operands, declared_names}
+use Rattle.sig_parse.specs.Small.{Small, operands, declared_names}
 
 -- whether the input at this place is an operand
 abbrev pub has_operand : Small → ℕ → Bool

@@ -1,7 +1,7 @@
 -- The words of a text, as one pass from the left finds them.
 use Rattle.std.specs.Prelude.{ℕ, Bool, cond, ◌==◌, ◌&&◌, ◌||◌, List, [], ◌∷◌, ◌++◌}
-use Rattle.sig_plan.specs.Names.{is_name_byte}
-use Rattle.sig_plan.specs.Words.{is_blank}
+use Rattle.sig_parse.specs.Names.{is_name_byte}
+use Rattle.sig_parse.specs.Words.{is_blank}
 
 -- whether two bytes side by side stand in one word: both in a name, or `:=`
 unfoldable pub joins : ℕ → ℕ → Bool

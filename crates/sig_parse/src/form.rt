@@ -3,12 +3,12 @@
 ghost use Rattle.std.specs.Prelude.{◌≡◌, ◌≤◌, ◌<◌, ◌^◌, IfOk, IfSome, length, vec_len, option_copied};
 ghost use Rattle.sig_parse.specs.Answers.{Gives};
 ghost use Rattle.sig_parse.specs.Reading.{after_word, name_at, names_at, index_of, operand_at, sign_at, term_at, chain_at, interface_at, ends, equation_at, small_at};
-ghost use Rattle.sig_plan.specs.Small.{small_of};
+ghost use Rattle.sig_parse.specs.Small.{small_of};
 
 use crate::answer::SmallAnswer;
 use crate::names::is_name;
+use crate::straight::{Straight, Term};
 use sig_base::{Span, Text};
-use sig_plan::{Straight, Term};
 use std::alloc::Global;
 
 /// The words after this one, where it stands first.

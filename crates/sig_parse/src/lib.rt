@@ -1,11 +1,11 @@
 //! The parser: the tree of a program from the tokens of its text, by one pass from the left with one
 //! function for each part of the grammar. Beside it stands the reader of the small form: one process
 //! with integer inputs, whose output is a chain of sums and differences of them. It stands on
-//! `sig_base`, `sig_lex`, `sig_tree` and `sig_plan`.
+//! `sig_base`, `sig_lex` and `sig_tree`.
 #![tactic(auto)]
 
 ghost use Rattle.std.specs.Prelude.{◌≡◌, ◌≤◌, IfOk, IsErrOf, length};
-ghost use Rattle.sig_plan.specs.Small.{Small, small_of, IsSmallProgram};
+ghost use Rattle.sig_parse.specs.Small.{Small, small_of, IsSmallProgram};
 
 mod ahead;
 mod answer;
@@ -29,6 +29,7 @@ mod program;
 mod refusal;
 mod rules;
 mod sides;
+mod straight;
 mod words;
 
 pub use answer::SmallAnswer;
@@ -36,8 +37,8 @@ pub use laws::one_refusal;
 pub use parse_answer::ParseAnswer;
 pub use program::parse;
 use sig_base::limits::PROGRAM_BYTES;
-use sig_plan::Straight;
 use std::alloc::Global;
+pub use straight::{Straight, Term};
 
 /// The straight program that the text says. The text is of the small form: a process with integer
 /// inputs and one integer output, whose body is one definition of the output by 1 to 16 operators
@@ -65,8 +66,8 @@ pub fn small(alloc: Global, bytes: &[u8]) -> Result<Straight, SmallAnswer>
 #[cfg(test)]
 mod tests {
     use super::*;
+    use crate::Term;
     use sig_base::Span;
-    use sig_plan::Term;
     use std::test::Fail;
 
     const BUILT: [&[u8]; 11] = [

@@ -2,7 +2,7 @@
 
 ghost use Rattle.std.specs.Prelude.{◌≡◌};
 ghost use Rattle.std.specs.List.{list_all};
-ghost use Rattle.sig_plan.specs.Names.{is_letter, is_name_byte, is_reserved, is_name};
+ghost use Rattle.sig_parse.specs.Names.{is_letter, is_name_byte, is_reserved, is_name};
 
 /// The words that are no names.
 const RESERVED: [&[u8]; 18] = [
@@ -11,7 +11,7 @@ const RESERVED: [&[u8]; 18] = [
 ];
 
 /// Whether the byte is an ASCII letter.
-#[tactic(auto, unfolding(sig_plan::specs::Names::is_letter))]
+#[tactic(auto, unfolding(crate::specs::Names::is_letter))]
 fn is_letter(b: u8) -> bool
     ensures { result ≡ is_letter b }
 {
@@ -19,7 +19,7 @@ fn is_letter(b: u8) -> bool
 }
 
 /// Whether the byte may stand in a name.
-#[tactic(auto, unfolding(sig_plan::specs::Names::is_name_byte))]
+#[tactic(auto, unfolding(crate::specs::Names::is_name_byte))]
 pub(crate) fn is_name_byte(b: u8) -> bool
     ensures { result ≡ is_name_byte b }
 {
@@ -27,7 +27,7 @@ pub(crate) fn is_name_byte(b: u8) -> bool
 }
 
 /// Whether the word is reserved.
-#[tactic(auto, unfolding(sig_plan::specs::Names::is_reserved))]
+#[tactic(auto, unfolding(crate::specs::Names::is_reserved))]
 fn is_reserved(word: &[u8]) -> bool
     ensures { result ≡ is_reserved word.now }
 {
@@ -42,7 +42,7 @@ fn are_name_bytes(bytes: &[u8]) -> bool
 }
 
 /// Whether the word is a name.
-#[tactic(auto, unfolding(sig_plan::specs::Names::is_name))]
+#[tactic(auto, unfolding(crate::specs::Names::is_name))]
 pub(crate) fn is_name(word: &[u8]) -> bool
     ensures { result ≡ is_name word.now }
 {

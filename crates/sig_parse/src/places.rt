@@ -1,7 +1,7 @@
 //! Where the signs of a text stand.
 
 ghost use Rattle.std.specs.Prelude.{◌≡◌, ◌≤◌, ◌+◌, ◌==◌, ◌<◌, ◌^◌, IfOk, length, if◌then◌else◌};
-ghost use Rattle.sig_plan.specs.Words.{is_sign, signs};
+ghost use Rattle.sig_parse.specs.Words.{is_sign, signs};
 
 use sig_base::Span;
 use sig_base::limits::PROGRAM_BYTES;

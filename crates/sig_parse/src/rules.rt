@@ -2,11 +2,11 @@
 
 ghost use Rattle.std.specs.Prelude.{◌≡◌, ◌==◌, ◌≤◌, ◌<◌, ◌↔◌, ◌++◌, ◌∷◌, [], length, IsTrue, Contains, EachIndex, bytes_eq};
 ghost use Rattle.std.specs.List.{IsDistinct, list_any};
-ghost use Rattle.sig_plan.specs.Small.{small_of, operands};
+ghost use Rattle.sig_parse.specs.Small.{small_of, operands};
 ghost use Rattle.sig_parse.specs.Rules.{has_operand, KeepsRules};
 
+use crate::straight::{Straight, Term};
 use sig_base::Text;
-use sig_plan::{Straight, Term};
 
 /// The most operators of a straight program.
 const MOST_OPERATORS: usize = 16;

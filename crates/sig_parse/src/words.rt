@@ -1,7 +1,7 @@
 //! The words of a text.
 
 ghost use Rattle.std.specs.Prelude.{◌≡◌, ◌≤◌, ◌++◌, IfOk, OnOk, length, vec_len};
-ghost use Rattle.sig_plan.specs.Words.{is_blank};
+ghost use Rattle.sig_parse.specs.Words.{is_blank};
 ghost use Rattle.sig_parse.specs.Splitting.{joins, closed, opened, words_of};
 
 use crate::names::is_name_byte;
@@ -9,7 +9,7 @@ use sig_base::Text;
 use std::alloc::{AllocError, Global};
 
 /// Whether the byte is a blank.
-#[tactic(auto, unfolding(sig_plan::specs::Words::is_blank))]
+#[tactic(auto, unfolding(crate::specs::Words::is_blank))]
 fn is_blank(b: u8) -> bool
     ensures { result ≡ is_blank b }
 {

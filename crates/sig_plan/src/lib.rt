@@ -1,7 +1,23 @@
-//! What a compiled program is. So far only the straight program: sums and differences of integer
-//! inputs, all at one clock. It stands on `sig_base`.
+//! The plan of a kernel: its operations and the order in which they are done, the clusters that do
+//! them, the links between these, and the code of each cluster (`specs/`). It stands on sig_clock,
+//! whose clock functions are the guards of operations.
 #![tactic(auto)]
 
-mod straight;
+mod answer;
+mod code;
+mod ended;
+mod laws;
+mod making;
+mod op;
+mod parts;
+mod plan;
+mod source;
 
-pub use straight::{Straight, Term};
+pub use answer::PlanAnswer;
+pub use code::{Code, Slot, Step, StepKind};
+pub use ended::{Cause, Ended};
+pub use laws::clocks_stay;
+pub use making::operations;
+pub use op::{Op, OpKind, Reads};
+pub use parts::{Imports, LinkInfo, Parts};
+pub use plan::Plan;

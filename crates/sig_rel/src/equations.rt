@@ -32,7 +32,8 @@ pub(crate) fn meets(
     requires within { form_within (length unknowns.now.present.items) form.now ≡ true }
     requires share { SharePresence unknowns.now.present.items (related form.now) }
     ensures made { Makes 13 (HasUnknowns unknowns.now) store.old store.new itself result }
-    ensures value { IfOk result (λ r. Agree (test store.new.nodes r) (λ truths. meets signals.now (reaction_by unknowns.now truths) form.now)) }
+    ensures value { IfOk result (λ r. Agree (test store.new.nodes r) (λ truths.
+        meets signals.now (reaction_by unknowns.now truths) form.now)) }
 {
     match form {
         Form::Fun(y, op, operands) => {
@@ -61,10 +62,12 @@ fn meets_function(
 ) -> Result<Ref, DdAnswer>
     requires serves { Serves unknowns.now (length unknowns.now.present.items) }
     requires y { y.0 < length unknowns.now.present.items }
-    requires operands { list_all (operand_within (length unknowns.now.present.items)) operands.now ≡ true }
+    requires operands { list_all (operand_within (length unknowns.now.present.items)) operands.now
+        ≡ true }
     ensures made { Makes 10 (HasUnknowns unknowns.now) store.old store.new itself result }
     ensures value { IfOk result (λ r. Agree (test store.new.nodes r) (λ truths.
-        has_truth (status_at (reaction_by unknowns.now truths) y.0) (truth_given signals.now op operands.now (operand_by unknowns.now truths)))) }
+        has_truth (status_at (reaction_by unknowns.now truths) y.0)
+        (truth_given signals.now op operands.now (operand_by unknowns.now truths)))) }
 {
     match truth_function(signals, op, operands) {
         Some(function) => gives_truth(store, unknowns, y, function),
@@ -81,10 +84,12 @@ fn gives_truth(
 ) -> Result<Ref, DdAnswer>
     requires serves { Serves unknowns.now (length unknowns.now.present.items) }
     requires y { y.0 < length unknowns.now.present.items }
-    requires operands { list_all (operand_within (length unknowns.now.present.items)) (operands_in function) ≡ true }
+    requires operands { list_all (operand_within (length unknowns.now.present.items)) (operands_in function)
+        ≡ true }
     ensures made { Makes 10 (HasUnknowns unknowns.now) store.old store.new itself result }
     ensures value { IfOk result (λ r. Agree (test store.new.nodes r) (λ truths.
-        has_truth (status_at (reaction_by unknowns.now truths) y.0) (Some (truth_by (operand_by unknowns.now truths) function)))) }
+        has_truth (status_at (reaction_by unknowns.now truths) y.0)
+        (Some (truth_by (operand_by unknowns.now truths) function)))) }
 {
     let value = function.value(store, unknowns)?;
     may_have(store, unknowns, y, value)
@@ -95,9 +100,11 @@ fn may_have(store: &mut Store, unknowns: &Unknowns, y: SigId, truth: Ref) -> Res
     requires serves { Serves unknowns.now (length unknowns.now.present.items) }
     requires y { y.0 < length unknowns.now.present.items }
     requires truth { Holds store.old.nodes truth }
-    ensures made { Makes 5 (λ vs. HasUnknowns unknowns.now vs × SpanAll store.old.nodes (itself truth) vs) store.old store.new itself result }
+    ensures made { Makes 5 (λ vs. HasUnknowns unknowns.now vs × SpanAll store.old.nodes (itself truth) vs)
+        store.old store.new itself result }
     ensures value { IfOk result (λ r. Agree (test store.new.nodes r) (λ truths.
-        has_truth (status_at (reaction_by unknowns.now truths) y.0) (Some (test store.old.nodes truth truths)))) }
+        has_truth (status_at (reaction_by unknowns.now truths) y.0)
+        (Some (test store.old.nodes truth truths)))) }
 {
     let y = Known::of(store, unknowns, y)?;
     y.may_have(store, truth)
@@ -118,7 +125,8 @@ fn meets_when(
     ensures made { Makes 13 (HasUnknowns unknowns.now) store.old store.new itself result }
     ensures value { IfOk result (λ r. Agree (test store.new.nodes r) (λ truths.
         same_status (status_at (reaction_by unknowns.now truths) y.0)
-        (where_true (status_at (reaction_by unknowns.now truths) b.0) (status_at (reaction_by unknowns.now truths) x.0)))) }
+        (where_true (status_at (reaction_by unknowns.now truths) b.0)
+        (status_at (reaction_by unknowns.now truths) x.0)))) }
 {
     let value = where_true(store, unknowns, x, b)?;
     is_status(store, unknowns, y, value)
@@ -159,7 +167,8 @@ fn meets_default(
     ensures made { Makes 13 (HasUnknowns unknowns.now) store.old store.new itself result }
     ensures value { IfOk result (λ r. Agree (test store.new.nodes r) (λ truths.
         same_status (status_at (reaction_by unknowns.now truths) y.0)
-        (or_else (status_at (reaction_by unknowns.now truths) u.0) (status_at (reaction_by unknowns.now truths) v.0)))) }
+        (or_else (status_at (reaction_by unknowns.now truths) u.0)
+        (status_at (reaction_by unknowns.now truths) v.0)))) }
 {
     let value = or_else(store, unknowns, u, v)?;
     is_status(store, unknowns, y, value)
@@ -189,9 +198,11 @@ fn is_status(
     requires serves { Serves unknowns.now (length unknowns.now.present.items) }
     requires y { y.0 < length unknowns.now.present.items }
     requires value { HoldAll store.old.nodes (refs_of value) }
-    ensures made { Makes 7 (λ vs. HasUnknowns unknowns.now vs × SpanAll store.old.nodes (refs_of value) vs) store.old store.new itself result }
+    ensures made { Makes 7 (λ vs. HasUnknowns unknowns.now vs × SpanAll store.old.nodes (refs_of value) vs)
+        store.old store.new itself result }
     ensures value { IfOk result (λ r. Agree (test store.new.nodes r) (λ truths.
-        same_status (status_at (reaction_by unknowns.now truths) y.0) (status_by store.old.nodes value truths))) }
+        same_status (status_at (reaction_by unknowns.now truths) y.0)
+        (status_by store.old.nodes value truths))) }
 {
     let y = Known::of(store, unknowns, y)?;
     y.same(store, value)
@@ -204,7 +215,8 @@ fn where_true(store: &mut Store, unknowns: &Unknowns, x: SigId, b: SigId) -> Res
     requires b { b.0 < length unknowns.now.present.items }
     ensures made { Makes 6 (HasUnknowns unknowns.now) store.old store.new refs_of result }
     ensures status { IfOk result (IsKnown store.new.nodes (λ truths.
-        where_true (status_at (reaction_by unknowns.now truths) b.0) (status_at (reaction_by unknowns.now truths) x.0))) }
+        where_true (status_at (reaction_by unknowns.now truths) b.0)
+        (status_at (reaction_by unknowns.now truths) x.0))) }
 {
     let (x, b) = two_signals(store, unknowns, x, b)?;
     x.where_true(store, b)
@@ -235,7 +247,8 @@ fn or_else(store: &mut Store, unknowns: &Unknowns, u: SigId, v: SigId) -> Result
     requires v { v.0 < length unknowns.now.present.items }
     ensures made { Makes 6 (HasUnknowns unknowns.now) store.old store.new refs_of result }
     ensures status { IfOk result (IsKnown store.new.nodes (λ truths.
-        or_else (status_at (reaction_by unknowns.now truths) u.0) (status_at (reaction_by unknowns.now truths) v.0))) }
+        or_else (status_at (reaction_by unknowns.now truths) u.0)
+        (status_at (reaction_by unknowns.now truths) v.0))) }
 {
     let (u, v) = two_signals(store, unknowns, u, v)?;
     u.or_else(store, v)
@@ -264,8 +277,10 @@ fn two_signals(
     requires x { x.0 < length unknowns.now.present.items }
     requires y { y.0 < length unknowns.now.present.items }
     ensures made { Makes 4 (HasUnknowns unknowns.now) store.old store.new four_of result }
-    ensures first { IfOk result (λ p. IsKnown store.new.nodes (λ truths. status_at (reaction_by unknowns.now truths) x.0) p.0) }
-    ensures second { IfOk result (λ p. IsKnown store.new.nodes (λ truths. status_at (reaction_by unknowns.now truths) y.0) p.1) }
+    ensures first { IfOk result (λ p. IsKnown store.new.nodes (λ truths.
+        status_at (reaction_by unknowns.now truths) x.0) p.0) }
+    ensures second { IfOk result (λ p. IsKnown store.new.nodes (λ truths.
+        status_at (reaction_by unknowns.now truths) y.0) p.1) }
 {
     let first = Known::of(store, unknowns, x)?;
     let second = Known::of(store, unknowns, y)?;

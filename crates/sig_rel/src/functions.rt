@@ -35,8 +35,10 @@ pub(crate) fn truth_function(
     op: FunOp,
     operands: &[Operand],
 ) -> Option<TruthFunction>
-    ensures truth { (truth : Operand → Bool) → truth_given signals.now op operands.now truth ≡ truth_of_some truth result }
-    ensures within { (count : ℕ) → list_all (operand_within count) operands.now ≡ true → list_all (operand_within count) (operands_of_some result) ≡ true }
+    ensures truth { (truth : Operand → Bool) → truth_given signals.now op operands.now truth
+        ≡ truth_of_some truth result }
+    ensures within { (count : ℕ) → list_all (operand_within count) operands.now ≡ true
+        → list_all (operand_within count) (operands_of_some result) ≡ true }
 {
     match operands {
         [a] => of_one(op, *a),
@@ -47,8 +49,10 @@ pub(crate) fn truth_function(
 
 /// The function of truths that the function of one operand is.
 fn of_one(op: FunOp, a: Operand) -> Option<TruthFunction>
-    ensures truth { (signals : List Signal) (truth : Operand → Bool) → truth_given signals op (a ∷ []) truth ≡ truth_of_some truth result }
-    ensures within { (count : ℕ) → list_all (operand_within count) (a ∷ []) ≡ true → list_all (operand_within count) (operands_of_some result) ≡ true }
+    ensures truth { (signals : List Signal) (truth : Operand → Bool) → truth_given signals op (a ∷ []) truth
+        ≡ truth_of_some truth result }
+    ensures within { (count : ℕ) → list_all (operand_within count) (a ∷ []) ≡ true
+        → list_all (operand_within count) (operands_of_some result) ≡ true }
 {
     match op {
         FunOp::Id => Some(TruthFunction::Same(a)),
@@ -59,8 +63,10 @@ fn of_one(op: FunOp, a: Operand) -> Option<TruthFunction>
 
 /// The function of truths that the function of two operands is. Integers may be compared too.
 fn of_two(signals: &[Signal], op: FunOp, a: Operand, b: Operand) -> Option<TruthFunction>
-    ensures truth { (truth : Operand → Bool) → truth_given signals.now op (a ∷ b ∷ []) truth ≡ truth_of_some truth result }
-    ensures within { (count : ℕ) → list_all (operand_within count) (a ∷ b ∷ []) ≡ true → list_all (operand_within count) (operands_of_some result) ≡ true }
+    ensures truth { (truth : Operand → Bool) → truth_given signals.now op (a ∷ b ∷ []) truth
+        ≡ truth_of_some truth result }
+    ensures within { (count : ℕ) → list_all (operand_within count) (a ∷ b ∷ []) ≡ true
+        → list_all (operand_within count) (operands_of_some result) ≡ true }
 {
     match op {
         FunOp::And => Some(TruthFunction::And(a, b)),
@@ -79,7 +85,8 @@ fn unless_integers(
     b: Operand,
     function: TruthFunction,
 ) -> Option<TruthFunction>
-    ensures { result ≡ (if list_any (is_integer signals.now) (a ∷ b ∷ []) then None else Some function) }
+    ensures { result
+        ≡ (if list_any (is_integer signals.now) (a ∷ b ∷ []) then None else Some function) }
 {
     if is_integer(signals, a) || is_integer(signals, b) {
         None
@@ -105,9 +112,11 @@ impl TruthFunction {
     /// The truth that the function gives where its operands are present.
     pub(crate) fn value(self, store: &mut Store, unknowns: &Unknowns) -> Result<Ref, DdAnswer>
         requires serves { Serves unknowns.now (length unknowns.now.present.items) }
-        requires within { list_all (operand_within (length unknowns.now.present.items)) (operands_in self) ≡ true }
+        requires within { list_all (operand_within (length unknowns.now.present.items)) (operands_in self)
+            ≡ true }
         ensures made { Makes 5 (HasUnknowns unknowns.now) store.old store.new itself result }
-        ensures value { IfOk result (λ r. Agree (test store.new.nodes r) (λ truths. truth_by (operand_by unknowns.now truths) self)) }
+        ensures value { IfOk result (λ r. Agree (test store.new.nodes r) (λ truths.
+            truth_by (operand_by unknowns.now truths) self)) }
     {
         match self {
             TruthFunction::Same(a) => operand_truth(store, unknowns, a),
@@ -134,7 +143,8 @@ fn negated(store: &mut Store, unknowns: &Unknowns, a: Operand) -> Result<Ref, Dd
     requires serves { Serves unknowns.now (length unknowns.now.present.items) }
     requires within { operand_within (length unknowns.now.present.items) a ≡ true }
     ensures made { Makes 2 (HasUnknowns unknowns.now) store.old store.new itself result }
-    ensures value { IfOk result (λ r. Agree (test store.new.nodes r) (λ truths. not (operand_by unknowns.now truths a))) }
+    ensures value { IfOk result (λ r. Agree (test store.new.nodes r) (λ truths.
+        not (operand_by unknowns.now truths a))) }
 {
     let a = operand_truth(store, unknowns, a)?;
     store.negate(a)
@@ -164,8 +174,10 @@ fn operand_truths(
     requires a { operand_within (length unknowns.now.present.items) a ≡ true }
     requires b { operand_within (length unknowns.now.present.items) b ≡ true }
     ensures made { Makes 2 (HasUnknowns unknowns.now) store.old store.new pair_of result }
-    ensures first { IfOk result (λ p. Agree (test store.new.nodes p.0) (λ truths. operand_by unknowns.now truths a)) }
-    ensures second { IfOk result (λ p. Agree (test store.new.nodes p.1) (λ truths. operand_by unknowns.now truths b)) }
+    ensures first { IfOk result (λ p. Agree (test store.new.nodes p.0) (λ truths.
+        operand_by unknowns.now truths a)) }
+    ensures second { IfOk result (λ p. Agree (test store.new.nodes p.1) (λ truths.
+        operand_by unknowns.now truths b)) }
 {
     let first = operand_truth(store, unknowns, a)?;
     let second = operand_truth(store, unknowns, b)?;
@@ -177,7 +189,8 @@ fn operand_truth(store: &mut Store, unknowns: &Unknowns, operand: Operand) -> Re
     requires serves { Serves unknowns.now (length unknowns.now.present.items) }
     requires within { operand_within (length unknowns.now.present.items) operand ≡ true }
     ensures made { Makes 1 (HasUnknowns unknowns.now) store.old store.new itself result }
-    ensures value { IfOk result (λ r. Agree (test store.new.nodes r) (λ truths. operand_by unknowns.now truths operand)) }
+    ensures value { IfOk result (λ r. Agree (test store.new.nodes r) (λ truths.
+        operand_by unknowns.now truths operand)) }
 {
     match operand {
         Operand::Sig(x) => truth_of(store, unknowns.truth[x.0 as usize]),

@@ -10,7 +10,8 @@ ghost use Rattle.sig_rel.specs.Relations.{AreUnknowns, IsRelation, RelationView,
 
 /// A law: each abstract reaction of a kernel is one that truths of the unknowns are.
 pub fn reactions_are_truths()
-    ensures { (kernel : Kernel) (count : ℕ) (nodes : List Node) (relation : RelationView) → IsRelation kernel count nodes relation
+    ensures { (kernel : Kernel) (count : ℕ) (nodes : List Node) (relation : RelationView)
+        → IsRelation kernel count nodes relation
         → (reaction : Reaction) → IsReaction kernel reaction
         → (truths : List Bool) × (reaction_in truths relation.present relation.truth ≡ reaction) }
 {}
@@ -23,17 +24,21 @@ pub fn statuses_are_those_of_unknowns()
         ≡ status_in truths (slice_index present signal) (slice_index_or truth signal None) }
     ensures presence { (truths : List Bool) (present : List ℕ) (truth : List (Option ℕ)) (signal : ℕ)
         → signal < length present → signal < length truth
-        → is_present (reaction_in truths present truth) signal ≡ truth_of truths (slice_index present signal) }
+        → is_present (reaction_in truths present truth) signal
+        ≡ truth_of truths (slice_index present signal) }
 {}
 
 /// A law: a relation looks at the reaction alone that truths are, and so not at the truth of a signal
 /// that is absent.
 pub fn relations_see_reactions()
-    ensures same { (kernel : Kernel) (count : ℕ) (nodes : List Node) (relation : RelationView) → IsRelation kernel count nodes relation
+    ensures same { (kernel : Kernel) (count : ℕ) (nodes : List Node) (relation : RelationView)
+        → IsRelation kernel count nodes relation
         → (truths others : List Bool)
-        → reaction_in truths relation.present relation.truth ≡ reaction_in others relation.present relation.truth
+        → reaction_in truths relation.present relation.truth
+        ≡ reaction_in others relation.present relation.truth
         → test nodes relation.whole truths ≡ test nodes relation.whole others }
-    ensures absent { (kernel : Kernel) (count : ℕ) (present : List ℕ) (truth : List (Option ℕ)) → AreUnknowns kernel count present truth
+    ensures absent { (kernel : Kernel) (count : ℕ) (present : List ℕ) (truth : List (Option ℕ))
+        → AreUnknowns kernel count present truth
         → (truths : List Bool) (signal v : ℕ) (b : Bool)
         → slice_get truth signal ≡ Some (Some v) → truth_of truths (slice_index present signal) ≡ false
         → reaction_in (with_truth truths v b) present truth ≡ reaction_in truths present truth }

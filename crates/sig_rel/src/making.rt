@@ -52,9 +52,11 @@ fn join_all(
     requires store { IsStore store.old }
     requires unknowns { AreUnknownsOf kernel.now unknowns.now }
     requires always { IsRefOf store.old.nodes (λ _. true) always }
-    ensures made { Makes (14 * length kernel.now.equations) (HasUnknowns unknowns.now) store.old store.new itself result }
+    ensures made { Makes (14 * length kernel.now.equations) (HasUnknowns unknowns.now)
+        store.old store.new itself result }
     ensures value { IfOk result (λ r. Agree (test store.new.nodes r) (λ truths.
-        list_all (λ equation. meets kernel.now.signals (reaction_by unknowns.now truths) equation.form) kernel.now.equations)) }
+        list_all (λ equation. meets kernel.now.signals (reaction_by unknowns.now truths) equation.form)
+        kernel.now.equations)) }
 {
     let signals = kernel.signals.as_slice();
     let mut whole = always;
@@ -76,9 +78,11 @@ fn join(
     requires within { form_within (length unknowns.now.present.items) form.now ≡ true }
     requires share { SharePresence unknowns.now.present.items (related form.now) }
     requires whole { Holds store.old.nodes whole }
-    ensures made { Makes 14 (λ vs. HasUnknowns unknowns.now vs × SpanAll store.old.nodes (itself whole) vs) store.old store.new itself result }
+    ensures made { Makes 14 (λ vs. HasUnknowns unknowns.now vs × SpanAll store.old.nodes (itself whole) vs)
+        store.old store.new itself result }
     ensures value { IfOk result (λ r. Agree (test store.new.nodes r) (λ truths.
-        test store.old.nodes whole truths && meets signals.now (reaction_by unknowns.now truths) form.now)) }
+        test store.old.nodes whole truths
+        && meets signals.now (reaction_by unknowns.now truths) form.now)) }
 {
     let met = meets(store, signals, unknowns, form)?;
     store.conj(whole, met)

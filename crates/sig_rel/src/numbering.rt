@@ -96,7 +96,8 @@ impl Numbering {
         requires least { AreLeast kernel.now least.now }
         requires given { AreGiven kernel.now least.now (length (conditions_of kernel.now)) self.old }
         ensures given { AreGiven kernel.now least.now (length (conditions_of kernel.now)) self.new }
-        ensures each { (signal : ℕ) → signal < length kernel.now.signals → HasNumbers kernel.now least.now self.new signal }
+        ensures each { (signal : ℕ) → signal < length kernel.now.signals
+            → HasNumbers kernel.now least.now self.new signal }
     {
         for signal in 0..least.len() {
             self.number(kernel, least, signal);
@@ -178,9 +179,11 @@ impl Numbering {
     fn number_class(&mut self, class: usize)
         requires class { class < vec_len self.old.class }
         requires room { self.old.next + 1 < 2 ^ 32 }
-        ensures class { self.new.class.items ≡ given_at (slice_index_or self.old.class.items class None) self.old.class.items class self.old.next }
+        ensures class { self.new.class.items
+            ≡ given_at (slice_index_or self.old.class.items class None) self.old.class.items class self.old.next }
         ensures truth { self.new.truth ≡ self.old.truth }
-        ensures next { self.new.next ≡ next_after (slice_index_or self.old.class.items class None) self.old.next }
+        ensures next { self.new.next
+            ≡ next_after (slice_index_or self.old.class.items class None) self.old.next }
     {
         if self.class[class].is_none() {
             self.class[class] = Some(self.next);
@@ -193,8 +196,10 @@ impl Numbering {
         requires signal { signal < vec_len self.old.truth }
         requires room { self.old.next + 1 < 2 ^ 32 }
         ensures class { self.new.class ≡ self.old.class }
-        ensures truth { self.new.truth.items ≡ given_at (slice_index_or self.old.truth.items signal None) self.old.truth.items signal self.old.next }
-        ensures next { self.new.next ≡ next_after (slice_index_or self.old.truth.items signal None) self.old.next }
+        ensures truth { self.new.truth.items
+            ≡ given_at (slice_index_or self.old.truth.items signal None) self.old.truth.items signal self.old.next }
+        ensures next { self.new.next
+            ≡ next_after (slice_index_or self.old.truth.items signal None) self.old.next }
     {
         if self.truth[signal].is_none() {
             self.truth[signal] = Some(self.next);
@@ -204,7 +209,8 @@ impl Numbering {
 
     /// To each signal the number of its class.
     fn presences(&self, alloc: Global, least: &[u32]) -> Result<Vec<u32>, AllocError>
-        ensures { IfOk result (λ present. present.items ≡ map (λ class. number_of (slice_get self.now.class.items class)) least.now) }
+        ensures { IfOk result (λ present. present.items
+            ≡ map (λ class. number_of (slice_get self.now.class.items class)) least.now) }
     {
         least
             .iter()

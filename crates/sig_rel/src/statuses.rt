@@ -30,7 +30,8 @@ impl Known {
         requires serves { Serves unknowns.now (length unknowns.now.present.items) }
         requires signal { signal.0 < length unknowns.now.present.items }
         ensures made { Makes 2 (HasUnknowns unknowns.now) store.old store.new refs_of result }
-        ensures status { IfOk result (IsKnown store.new.nodes (λ truths. status_at (reaction_by unknowns.now truths) signal.0)) }
+        ensures status { IfOk result (IsKnown store.new.nodes (λ truths.
+            status_at (reaction_by unknowns.now truths) signal.0)) }
     {
         let present = store.variable(unknowns.present[signal.0 as usize])?;
         let truth = truth_of(store, unknowns.truth[signal.0 as usize])?;
@@ -53,8 +54,10 @@ impl Known {
     pub(crate) fn where_present(self, store: &Store, truth: bool) -> Known
         requires { HoldAll store.now.nodes (refs_of self) }
         ensures held { HoldAll store.now.nodes (refs_of result) }
-        ensures spans { (vs : List ℕ) → SpanAll store.now.nodes (refs_of self) vs → SpanAll store.now.nodes (refs_of result) vs }
-        ensures status { IsKnown store.now.nodes (λ truths. where_present (status_by store.now.nodes self truths) truth) result }
+        ensures spans { (vs : List ℕ) → SpanAll store.now.nodes (refs_of self) vs
+            → SpanAll store.now.nodes (refs_of result) vs }
+        ensures status { IsKnown store.now.nodes (λ truths.
+            where_present (status_by store.now.nodes self truths) truth) result }
     {
         Known {
             present: self.present,
@@ -66,7 +69,8 @@ impl Known {
     pub(crate) fn where_true(self, store: &mut Store, b: Known) -> Result<Known, DdAnswer>
         requires held { HoldAll store.old.nodes (refs_of self) }
         requires other { HoldAll store.old.nodes (refs_of b) }
-        ensures made { Makes 2 (SpanAll store.old.nodes (self.present ∷ self.truth ∷ b.present ∷ b.truth ∷ [])) store.old store.new refs_of result }
+        ensures made { Makes 2 (SpanAll store.old.nodes (self.present ∷ self.truth ∷ b.present ∷ b.truth ∷ []))
+            store.old store.new refs_of result }
         ensures status { IfOk result (IsKnown store.new.nodes (λ truths.
             where_true (status_by store.old.nodes b truths) (status_by store.old.nodes self truths))) }
     {
@@ -82,7 +86,8 @@ impl Known {
     pub(crate) fn or_else(self, store: &mut Store, v: Known) -> Result<Known, DdAnswer>
         requires held { HoldAll store.old.nodes (refs_of self) }
         requires other { HoldAll store.old.nodes (refs_of v) }
-        ensures made { Makes 2 (SpanAll store.old.nodes (self.present ∷ self.truth ∷ v.present ∷ v.truth ∷ [])) store.old store.new refs_of result }
+        ensures made { Makes 2 (SpanAll store.old.nodes (self.present ∷ self.truth ∷ v.present ∷ v.truth ∷ []))
+            store.old store.new refs_of result }
         ensures status { IfOk result (IsKnown store.new.nodes (λ truths.
             or_else (status_by store.old.nodes self truths) (status_by store.old.nodes v truths))) }
     {
@@ -95,9 +100,11 @@ impl Known {
     pub(crate) fn same(self, store: &mut Store, other: Known) -> Result<Ref, DdAnswer>
         requires held { HoldAll store.old.nodes (refs_of self) }
         requires other { HoldAll store.old.nodes (refs_of other) }
-        ensures made { Makes 5 (SpanAll store.old.nodes (self.present ∷ self.truth ∷ other.present ∷ other.truth ∷ [])) store.old store.new itself result }
+        ensures made { Makes 5 (SpanAll store.old.nodes (self.present ∷ self.truth ∷ other.present ∷ other.truth ∷ []))
+            store.old store.new itself result }
         ensures value { IfOk result (λ r. Agree (test store.new.nodes r) (λ truths.
-            same_status (status_by store.old.nodes self truths) (status_by store.old.nodes other truths))) }
+            same_status
+            (status_by store.old.nodes self truths) (status_by store.old.nodes other truths))) }
     {
         let both = other.has(store, self.truth)?;
         let neither = store.negate(other.present)?;
@@ -108,7 +115,8 @@ impl Known {
     fn has(self, store: &mut Store, truth: Ref) -> Result<Ref, DdAnswer>
         requires held { HoldAll store.old.nodes (refs_of self) }
         requires truth { Holds store.old.nodes truth }
-        ensures made { Makes 3 (SpanAll store.old.nodes (self.present ∷ self.truth ∷ truth ∷ [])) store.old store.new itself result }
+        ensures made { Makes 3 (SpanAll store.old.nodes (self.present ∷ self.truth ∷ truth ∷ []))
+            store.old store.new itself result }
         ensures value { IfOk result (λ r. Agree (test store.new.nodes r) (λ truths.
             if test store.old.nodes self.present truths
             then same_truth (test store.old.nodes self.truth truths) (test store.old.nodes truth truths)
@@ -122,7 +130,8 @@ impl Known {
     pub(crate) fn may_have(self, store: &mut Store, truth: Ref) -> Result<Ref, DdAnswer>
         requires held { HoldAll store.old.nodes (refs_of self) }
         requires truth { Holds store.old.nodes truth }
-        ensures made { Makes 3 (SpanAll store.old.nodes (self.present ∷ self.truth ∷ truth ∷ [])) store.old store.new itself result }
+        ensures made { Makes 3 (SpanAll store.old.nodes (self.present ∷ self.truth ∷ truth ∷ []))
+            store.old store.new itself result }
         ensures value { IfOk result (λ r. Agree (test store.new.nodes r) (λ truths.
             if test store.old.nodes self.present truths
             then same_truth (test store.old.nodes self.truth truths) (test store.old.nodes truth truths)
@@ -137,7 +146,8 @@ impl Known {
 /// The truth of a signal, where it is present: that of its unknown, and true where it has none.
 pub(crate) fn truth_of(store: &mut Store, unknown: Option<u32>) -> Result<Ref, DdAnswer>
     ensures made { Makes 1 (λ vs. HasAll vs (variables_of unknown)) store.old store.new itself result }
-    ensures value { IfOk result (λ r. Agree (test store.new.nodes r) (λ truths. truth_in truths unknown)) }
+    ensures value { IfOk result (λ r. Agree (test store.new.nodes r) (λ truths.
+        truth_in truths unknown)) }
 {
     match unknown {
         Some(v) => store.variable(v),

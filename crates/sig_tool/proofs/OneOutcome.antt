@@ -1,8 +1,8 @@
 -- A command over told contents comes to one outcome at most.
 use Rattle.std.proofs.Common.{◌≡◌, ◌∙◌, ℕ, ℤ, List, Option, Some, None, map, sym, refl, ap, subst}
 use Rattle.std.specs.Str.Lines.{lines}
-use Rattle.sig_plan.specs.Small.{Small, IsSmallProgram}
-use Rattle.sig_plan.specs.Words.{signs}
+use Rattle.sig_parse.specs.Small.{Small, IsSmallProgram}
+use Rattle.sig_parse.specs.Words.{signs}
 use Rattle.sig_parse.specs.Reading.{small_at}
 use Rattle.sig_parse.specs.Splitting.{words_of}
 use Rattle.sig_parse.specs.declared.answer.SmallAnswer.TheVariants.{NotBuilt}

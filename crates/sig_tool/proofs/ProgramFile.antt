@@ -3,7 +3,7 @@ use Rattle.std.proofs.Common.{◌≡◌, ◌≤◌, ◌++◌, ◌∷◌, [], ℕ
 use Rattle.std.proofs.lemmas.List.{get_or_append_left}
 use Rattle.std.proofs.lemmas.Map.Keys.{apart_from_distinct, IsDistinct-from_apart}
 use Rattle.std.specs.List.{IsDistinct}
-use Rattle.sig_plan.specs.Small.{Small, IsSmall, IsSmallProgram}
+use Rattle.sig_parse.specs.Small.{Small, IsSmall, IsSmallProgram}
 
 -- the inputs of a straight program have different names
 pub inputs_differ : (s : Small) → IsSmall s → IsDistinct bytes_eq s.inputs

@@ -1,7 +1,7 @@
 -- A run has one end.
 use Rattle.std.proofs.Common.{◌≡◌, ℕ, ℤ, List, [], refl, ap, subst, ⊎_elim}
 use Rattle.std.proofs.lemmas.Bool.{cases_order}
-use Rattle.sig_plan.specs.Small.{Small}
+use Rattle.sig_parse.specs.Small.{Small}
 use Rattle.sig_tool.specs.SmallRun.{IsCause, IsExhausted, IsLength, Overflows}
 use Rattle.sig_tool.specs.declared.run.Cause.{Cause}
 use Rattle.sig_tool.specs.declared.run.Cause.TheVariants.{Limit, Exhausted, Overflow}

@@ -2,7 +2,7 @@
 use Rattle.std.proofs.Common.{◌≡◌, ◌∙◌, ◌⊎◌, ◌++◌, ◌<◌, ◌≤◌, ℕ, ℤ, List, [], Option, Some, None, IfSome, inl, inr, ⊎_elim, refl, sym, ap, subst, arith}
 use Rattle.std.proofs.lemmas.Bool.{cases_lt}
 use Rattle.std.specs.Prelude.{codes}
-use Rattle.sig_plan.specs.Small.{Small}
+use Rattle.sig_parse.specs.Small.{Small}
 use Rattle.sig_text.specs.Counts.{Rose, raised}
 use Rattle.sig_text.specs.Files.{Contents, name_where_there}
 use Rattle.sig_text.specs.Sink.{TookPrefix}

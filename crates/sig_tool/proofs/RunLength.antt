@@ -2,7 +2,7 @@
 use Rattle.std.proofs.Common.{◌≡◌, ◌<◌, ◌≤◌, ◌+◌, ℕ, ℤ, pos, zero, suc, List, [], ◌++◌, length, get_or, arith, sym, refl, ◌∙◌, ap, subst, append_assoc, add-one, ⊎_elim}
 use Rattle.std.proofs.lemmas.Bool.{cases_lt}
 use Rattle.std.proofs.lemmas.List.{append-nil}
-use Rattle.sig_plan.specs.Small.{Small}
+use Rattle.sig_parse.specs.Small.{Small}
 use Rattle.sig_text.specs.Sink.{Joins, TookPrefix, TookPrefix-longer, TookPrefix-then, TookPrefix-whole}
 use Rattle.sig_tool.specs.SmallRun.{HasInstant, IsLength, Overflows, line_of, output_at, text_of, value_at}
 use Rattle.sig_tool.proofs.Sums.{length-sums_from}

@@ -3,8 +3,8 @@ use Rattle.std.proofs.Common.{◌≡◌, ◌<◌, ◌+◌, ◌-◌, ℕ, zero, s
 use Rattle.std.specs.Int.{w64}
 use Rattle.std.proofs.Math.Facts.{to_z-of_z}
 use Rattle.std.proofs.lemmas.List.{drop_more, get_or-map, get_or-drop, get_or_default, length-map}
-use Rattle.sig_plan.specs.Small.{Small, IsSmall}
-use Rattle.sig_plan.specs.declared.straight.Term.{Term}
+use Rattle.sig_parse.specs.Small.{Small, IsSmall}
+use Rattle.sig_parse.specs.declared.straight.Term.{Term}
 use Rattle.sig_tool.specs.SmallRun.{next_sum, output_at, sums_from, partial_sums, value_at}
 
 -- there is one sum for each operator

@@ -6,7 +6,7 @@ pub mod Refusals
 pub mod RunEnd
 pub mod SmallRun
 pub mod TopCall
-pub use Rattle.sig_plan.specs.Small
+pub use Rattle.sig_parse.specs.Small
 pub use Rattle.sig_text.specs.Counts
 pub use Rattle.sig_text.specs.Files
 pub use Rattle.sig_text.specs.Sink

@@ -3,7 +3,7 @@
 use Rattle.std.specs.Fmt.{decimal}
 use Rattle.std.specs.Prelude.{◌≡◌, ◌≤◌, ◌++◌, ℕ, ℤ, List, [], length, codes, Option, Some, None}
 use Rattle.sig_base.specs.Lines.{refusal}
-use Rattle.sig_plan.specs.Small.{Small, IsSmallProgram}
+use Rattle.sig_parse.specs.Small.{Small, IsSmallProgram}
 use Rattle.sig_text.specs.Files.{Contents}
 use Rattle.sig_text.specs.Read.{IsLongerThan}
 use Rattle.sig_base.specs.Traces.{Trace}

@@ -1,7 +1,7 @@
 -- What ends a run, as its line on standard error and its status say it.
 use Rattle.std.specs.Prelude.{◌<◌, ⊤, ℕ, List, [], ◌∷◌, length, map, flat_map, codes, slice_index_or}
 use Rattle.std.specs.Fmt.{decimal}
-use Rattle.sig_plan.specs.Small.{Small}
+use Rattle.sig_parse.specs.Small.{Small}
 use Rattle.sig_tool.specs.declared.run.Cause.{Cause}
 use Rattle.sig_tool.specs.declared.run.Cause.TheVariants.{Limit, Exhausted, Overflow}
 

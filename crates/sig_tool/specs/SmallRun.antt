@@ -2,8 +2,8 @@
 use Rattle.std.specs.Prelude.{◌≡◌, ◌≢◌, ◌<◌, ◌≤◌, ◌-◌, ◌++◌, ℕ, zero, suc, ℤ, pos, ◌+ℤ◌, ◌-ℤ◌, List, [], ◌∷◌, length, slice_index_or, All, if◌then◌else◌, FitsSigned, codes, flat_map}
 use Rattle.std.specs.Int.{w64}
 use Rattle.std.specs.Fmt.{signed_decimal}
-use Rattle.sig_plan.specs.Small.{Small}
-use Rattle.sig_plan.specs.declared.straight.Term.{Term}
+use Rattle.sig_parse.specs.Small.{Small}
+use Rattle.sig_parse.specs.declared.straight.Term.{Term}
 use Rattle.sig_tool.specs.declared.run.Cause.{Cause}
 use Rattle.sig_tool.specs.declared.run.Cause.TheVariants.{Limit, Exhausted, Overflow}
 

@@ -1,7 +1,7 @@
 -- What is said of a call of the top, for every command.
 use Rattle.std.specs.Prelude.{◌≡◌, ◌⊎◌, ◌++◌, ℕ, ℤ, List, codes, Option, IfSome}
 use Rattle.sig_base.specs.Lines.{refusal}
-use Rattle.sig_plan.specs.Small.{Small}
+use Rattle.sig_parse.specs.Small.{Small}
 use Rattle.sig_text.specs.Counts.{DidNotRise}
 use Rattle.sig_text.specs.Files.{Contents, name_where_there}
 use Rattle.sig_tool.specs.Commands.{IsBuilt}

@@ -1,7 +1,7 @@
 //! The command `run`: from the names of two files to a status.
 
 ghost use Rattle.std.specs.Prelude.{◌≡◌, ◌⊎◌, ℕ, IfOk, OnOk, OnErr, IfSome, IsTrue, length, vec_len};
-ghost use Rattle.sig_plan.specs.Small.{IsSmall, small_of};
+ghost use Rattle.sig_parse.specs.Small.{IsSmall, small_of};
 ghost use Rattle.sig_text.specs.Counts.{Rose};
 ghost use Rattle.sig_text.specs.Sink.{TookPrefix};
 ghost use Rattle.sig_tool.specs.SmallRun.{IsCause, IsLength, text_of};
@@ -13,7 +13,7 @@ use crate::flows::Flow;
 use crate::load::{Loaded, load};
 use crate::report::{say_end, say_fault, say_refusal};
 use crate::run::{Cause, Ended, run};
-use sig_plan::Straight;
+use sig_parse::Straight;
 use sig_text::{Files, Sink, WriteFault};
 use sig_words::Settings;
 use std::alloc::Global;

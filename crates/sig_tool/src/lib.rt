@@ -1,6 +1,6 @@
 //! The top call of sigc: from the words of a command line, files and sinks to a status. It joins the
-//! parser of `sig_parse`, which gives the types of `sig_plan`, with a reader of flow files and a loop
-//! over instants, and reads and writes by `sig_text`.
+//! parser of `sig_parse` with a reader of flow files and a loop over instants, and reads and writes by
+//! `sig_text`.
 #![tactic(auto)]
 
 mod command;

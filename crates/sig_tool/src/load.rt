@@ -2,7 +2,7 @@
 
 ghost use Rattle.std.specs.Prelude.{◌≡◌, Some, IfSome, IfOk, IfErr, length, vec_len, bytes_eq};
 ghost use Rattle.std.specs.List.{IsDistinct};
-ghost use Rattle.sig_plan.specs.Small.{IsSmall, small_of};
+ghost use Rattle.sig_parse.specs.Small.{IsSmall, small_of};
 ghost use Rattle.sig_text.specs.Files.{name_where_there};
 ghost use Rattle.sig_words.specs.declared.command.Settings.{Settings};
 ghost use Rattle.sig_words.specs.declared.command.Command.TheVariants.{Run};
@@ -15,8 +15,7 @@ use crate::flows::{Flow, FlowsAnswer, read_flows};
 use crate::refusal::Refusal;
 use sig_base::Text;
 use sig_base::limits::{FLOW_BYTES, PROGRAM_BYTES};
-use sig_parse::{SmallAnswer, small};
-use sig_plan::Straight;
+use sig_parse::{SmallAnswer, Straight, small};
 use sig_text::{Files, ReadAnswer, read_all};
 use std::alloc::Global;
 

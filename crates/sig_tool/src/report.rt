@@ -1,7 +1,7 @@
 //! The one line on `err` that says how a command ended.
 
 ghost use Rattle.std.specs.Prelude.{◌≡◌, ◌<◌, ◌⊎◌, ◌++◌, [], codes, flat_map, length, slice_index_or};
-ghost use Rattle.sig_plan.specs.Small.{small_of};
+ghost use Rattle.sig_parse.specs.Small.{small_of};
 ghost use Rattle.sig_tool.specs.Outcomes.{broken};
 ghost use Rattle.sig_tool.specs.Refusals.{line_of};
 ghost use Rattle.sig_tool.specs.RunEnd.{IsOfProgram, end_line, operator_col, operator_line};
@@ -12,7 +12,7 @@ use crate::refusal::Refusal;
 use crate::run::{Cause, Ended};
 use itoa::Buffer;
 use sig_base::Span;
-use sig_plan::Straight;
+use sig_parse::Straight;
 use sig_text::{Sink, WriteFault};
 use std::alloc::{AllocError, Global};
 

@@ -1,7 +1,7 @@
 //! The run of a straight program over flows.
 
 ghost use Rattle.std.specs.Prelude.{◌≡◌, ◌≤◌, ◌<◌, ℕ, ℤ, List, [], length, All, IfOk, OnErr, slice_index_or};
-ghost use Rattle.sig_plan.specs.Small.{IsSmall, Small, small_of};
+ghost use Rattle.sig_parse.specs.Small.{IsSmall, Small, small_of};
 ghost use Rattle.sig_text.specs.Counts.{Rose};
 ghost use Rattle.sig_text.specs.Sink.{TookPrefix};
 ghost use Rattle.sig_tool.specs.SmallRun.{IsCause, IsExhausted, IsLength, text_of};
@@ -11,7 +11,7 @@ mod sum;
 
 use crate::flows::Flow;
 use line::put_line;
-use sig_plan::Straight;
+use sig_parse::Straight;
 use sig_text::{Sink, WriteFault};
 use sum::sum_at;
 

@@ -2,11 +2,11 @@
 
 ghost use Rattle.std.specs.Prelude.{◌≡◌, ◌<◌, [], length, MatchOption, MatchResult, All, FitsSigned, slice_index_or};
 ghost use Rattle.std.specs.Int.{w64};
-ghost use Rattle.sig_plan.specs.Small.{IsSmall, small_of};
+ghost use Rattle.sig_parse.specs.Small.{IsSmall, small_of};
 ghost use Rattle.sig_tool.specs.SmallRun.{EachHasValue, Overflows, next_sum, output_at, partial_sums, value_at};
 
 use crate::flows::Flow;
-use sig_plan::{Straight, Term};
+use sig_parse::{Straight, Term};
 
 /// The value of the output at an instant, or else the leftmost operator whose sum is outside 64 bits.
 /// Instants are counted from 0, and so are operators, from the left.

@@ -15,7 +15,7 @@ returns-clause-refused c =
 
 pub returns-clause-small : goal.returns-clause-small
 returns-clause-small c =
-    small c.trees_of_texts.ensures.tree c.trees_of_texts.ensures.sized c.size_of_flat_bodies.ensures c.args.bytes.now c.flat_of.result c.requires.short c.flat_of.ensures.flat
+    small c.trees_of_texts.ensures.tree c.trees_of_texts.ensures.sized c.size_of_flat_bodies.ensures.weights c.size_of_flat_bodies.ensures.equations c.args.bytes.now c.flat_of.result c.requires.short c.flat_of.ensures.flat
 
 pub returns-clause-names : goal.returns-clause-names
 returns-clause-names c =

@@ -1,7 +1,7 @@
 use Rattle.std.proofs.Common.{rules, tests, ℕ, List, bytes_eq, Bor}
 use Rattle.std.proofs.lemmas.Iterator.{YieldsList-from_slice}
 use Rattle.std.proofs.lemmas.Iterator.Search.{any_from_yields_List}
-use Rattle.sig_plan.specs.Names.{is_reserved}
+use Rattle.sig_parse.specs.Names.{is_reserved}
 use Rattle.sig_parse.proofs.names.is_reserved.Goals as goal
 
 pub returns : goal.returns

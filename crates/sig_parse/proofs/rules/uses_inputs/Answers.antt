@@ -1,5 +1,5 @@
 use Rattle.std.proofs.Common.{arith, below_more, refl}
-use Rattle.sig_plan.specs.Small.{small_of}
+use Rattle.sig_parse.specs.Small.{small_of}
 use Rattle.sig_parse.proofs.RuleLemmas.{operand_found, operand_missed}
 use Rattle.sig_parse.proofs.rules.uses_inputs.Goals as goal
 

@@ -1,6 +1,6 @@
 use Rattle.std.proofs.Common.{ℕ, ◌<◌}
 use Rattle.std.specs.Prelude.{Contains}
-use Rattle.sig_plan.specs.Small.{small_of, operands}
+use Rattle.sig_parse.specs.Small.{small_of, operands}
 use Rattle.sig_parse.proofs.rules.uses_inputs.Given as goal
 
 -- The inputs so far are operands.

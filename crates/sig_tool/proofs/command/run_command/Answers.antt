@@ -1,5 +1,5 @@
 use Rattle.std.proofs.Common.{inl}
-use Rattle.sig_plan.specs.Small.{small_of}
+use Rattle.sig_parse.specs.Small.{small_of}
 use Rattle.sig_words.specs.declared.command.Command.TheVariants.{Run}
 use Rattle.sig_tool.proofs.RunClauses.{prefix_of_none, prefix_of_run, refused_by, status_of_refusal, status_of_run, whole_of_run}
 use Rattle.sig_tool.proofs.command.run_command.Goals as goal

@@ -1,4 +1,4 @@
-use Rattle.sig_plan.specs.Small.{small_of}
+use Rattle.sig_parse.specs.Small.{small_of}
 use Rattle.sig_tool.specs.SmallRun.{text_of}
 use Rattle.sig_tool.proofs.RunLength.{flushed, prefix_whole}
 use Rattle.sig_tool.proofs.command.run_out.Goals as goal

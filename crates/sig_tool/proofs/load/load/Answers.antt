@@ -1,5 +1,5 @@
 use Rattle.std.proofs.lemmas.Result.{err_from_is_err_and}
-use Rattle.sig_plan.specs.Small.{small_of}
+use Rattle.sig_parse.specs.Small.{small_of}
 use Rattle.sig_tool.proofs.Loads.{owes_flows}
 use Rattle.sig_tool.proofs.ProgramFile.{inputs_differ}
 use Rattle.sig_tool.proofs.load.load.Goals as goal

@@ -1,6 +1,6 @@
 use Rattle.std.proofs.Common.{Err, ap, arith, length, refl, sym, subst}
 use Rattle.std.proofs.lemmas.Option.{IfSome_then}
-use Rattle.sig_plan.specs.Small.{IsSmallProgram}
+use Rattle.sig_parse.specs.Small.{IsSmallProgram}
 use Rattle.sig_tool.specs.Outcomes.{Bad, not_built}
 use Rattle.sig_tool.proofs.load.load_program.Goals as goal
 

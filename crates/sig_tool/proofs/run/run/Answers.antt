@@ -1,7 +1,7 @@
 use Rattle.std.proofs.Common.{◌+◌, ◌∙◌, [], length, arith, subst, ap}
 use Rattle.std.proofs.lemmas.List.{get_or_default}
 use Rattle.std.proofs.lemmas.Result.{err_from_is_err_and}
-use Rattle.sig_plan.specs.Small.{small_of}
+use Rattle.sig_parse.specs.Small.{small_of}
 use Rattle.sig_text.specs.Sink.{TookPrefix}
 use Rattle.sig_tool.specs.SmallRun.{HasInstant, line_of}
 use Rattle.sig_tool.proofs.RunLength.{ends_at_flow, ends_at_limit, ends_at_operator, each_and, prefix_of_text, text_with}

@@ -1,6 +1,6 @@
 -- the text of the instants so far was taken
 use Rattle.std.proofs.Common.{◌<◌, ◌≤◌, ℕ}
-use Rattle.sig_plan.specs.Small.{small_of}
+use Rattle.sig_parse.specs.Small.{small_of}
 use Rattle.sig_tool.specs.SmallRun.{HasInstant, text_of}
 use Rattle.sig_tool.proofs.run.run.Given as goal
 

@@ -1,8 +1,8 @@
 use Rattle.std.proofs.Common.{◌≡◌, ◌+◌, ◌-◌, drop, [], false, length, arith, ap, ◌∙◌, sym, to_z, below_more, subst, FitsSigned, get_or, pos}
 use Rattle.std.specs.Int.{w64}
 use Rattle.std.proofs.Math.Facts.{to_z-of_z}
-use Rattle.sig_plan.specs.Small.{small_of}
-use Rattle.sig_plan.specs.declared.straight.Term.{Term}
+use Rattle.sig_parse.specs.Small.{small_of}
+use Rattle.sig_parse.specs.declared.straight.Term.{Term}
 use Rattle.sig_tool.proofs.Sums.{at_term, all_fit}
 use Rattle.sig_tool.specs.SmallRun.{partial_sums, value_at, sums_from}
 use Rattle.sig_tool.proofs.run.sum.sum_at.Goals as goal

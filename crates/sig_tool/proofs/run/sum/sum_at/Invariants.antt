@@ -1,7 +1,7 @@
 -- the sums from here on are those of the terms that are left; those before are within 64 bits
 use Rattle.std.proofs.Common.{◌≡◌, ◌<◌, ◌-◌, ℕ, pos, drop, get_or, FitsSigned}
 use Rattle.std.specs.Int.{w64}
-use Rattle.sig_plan.specs.Small.{small_of}
+use Rattle.sig_parse.specs.Small.{small_of}
 use Rattle.sig_tool.specs.SmallRun.{partial_sums, sums_from, value_at}
 use Rattle.sig_tool.proofs.run.sum.sum_at.Given as goal
 

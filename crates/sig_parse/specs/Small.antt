@@ -3,10 +3,10 @@
 -- and the one straight program that each of them says.
 use Rattle.std.specs.Prelude.{◌≡◌, ℕ, ◌<◌, ◌≤◌, Bool, true, false, List, [], ◌∷◌, ◌++◌, map, length, codes, bytes_eq, All, Contains, EachIndex}
 use Rattle.std.specs.List.{slice_index_or, IsDistinct}
-use Rattle.sig_plan.specs.declared.straight.Straight.{Straight}
-use Rattle.sig_plan.specs.declared.straight.Term.{Term}
-use Rattle.sig_plan.specs.Names.{IsName}
-use Rattle.sig_plan.specs.Words.{Spells, signs}
+use Rattle.sig_parse.specs.declared.straight.Straight.{Straight}
+use Rattle.sig_parse.specs.declared.straight.Term.{Term}
+use Rattle.sig_parse.specs.Names.{IsName}
+use Rattle.sig_parse.specs.Words.{Spells, signs}
 
 -- a straight program, without where it lies in memory
 pub record Small : Type 0 where

@@ -2,7 +2,7 @@
 use Rattle.std.specs.Prelude.{◌≡◌, ℕ, ◌+◌, Bool, false, cond, ◌==◌, ◌&&◌, ◌||◌, not, List, [], ◌∷◌, ◌++◌, count_by}
 use Rattle.std.specs.List.{AllPass, suffix_len}
 use Rattle.sig_base.specs.declared.span.Span.{Span}
-use Rattle.sig_plan.specs.Names.{is_name_byte}
+use Rattle.sig_parse.specs.Names.{is_name_byte}
 
 -- a space, a tab, a carriage return or a newline
 unfoldable pub is_blank : ℕ → Bool

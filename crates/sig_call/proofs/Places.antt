@@ -1,0 +1,153 @@
+-- The places of operators in the tree of a text.
+use Rattle.std.proofs.Common.{◌++◌, ◌+◌, ◌-◌, ◌≤◌, ◌==◌, ℕ, suc, not, List, [], ◌∷◌, None, Some, Option, length, take, count_by, refl, sym, subst, inl, inr, arith, length-take, length-drop}
+use Rattle.std.proofs.lemmas.List.Sums.{count_by-le-length}
+use Rattle.std.specs.List.{AllByRecursion, after_last, flat_map, suffix_len}
+use Rattle.std.specs.Option.{option_to_list, option_map}
+use Rattle.sig_base.specs.declared.span.Span.{Span}
+use Rattle.sig_lex.specs.declared.token.Token.{Token}
+use Rattle.sig_lex.specs.Lexemes.{text_of}
+use Rattle.sig_lex.specs.Places.{place_after}
+use Rattle.sig_lex.specs.Slices.{InOrder}
+use Rattle.sig_tree.specs.Syntax.{Expression, Named, Number, Truth, Unary, Binary, Delay, Cell, Declared, RightSide, Computed, Called, Equations, Together, Defines, Equal, Bodies, no_body, more_bodies, ProcessModel, Modelled, ProcessModels, no_model, more_models}
+use Rattle.sig_tree.specs.Declarations.{equations_in, equations_inside, equations_of_model, with_inner, those_inner}
+use Rattle.sig_tree.specs.Terminals.{Terminal, Leaf, leaf}
+use Rattle.sig_tree.specs.Leaves.{terminal_of, leaf_of, leaves_of}
+use Rattle.sig_tree.specs.Levels.{level_of}
+use Rattle.sig_tree.specs.Limits.{Limits}
+use Rattle.sig_tree.specs.Repeated.{Each}
+use Rattle.sig_tree.specs.Expressions.{IsBare, IsExpression}
+use Rattle.sig_tree.specs.Equations.{IsRight, IsClockEquation, IsBody, AreBodies, AreFurtherBodies}
+use Rattle.sig_tree.specs.Processes.{IsModel, AreLocals}
+use Rattle.sig_call.proofs.Texts.{AllLeaves, leaves_left, leaves_right, leaves_behind, leaves_between, leaves_enclosed, separated_all, listed_all, all_both}
+
+-- what holds at the place of each operator of an expression
+abbrev pub AtOperatorsOf : (Span → Type 0) → Expression → Type 0
+AtOperatorsOf Holds (Named name) = Unit {0}
+AtOperatorsOf Holds (Number value at) = Unit {0}
+AtOperatorsOf Holds (Truth truth at) = Unit {0}
+AtOperatorsOf Holds (Unary op operand at) = Holds at × AtOperatorsOf Holds operand
+AtOperatorsOf Holds (Binary op left right at) = Holds at × AtOperatorsOf Holds left × AtOperatorsOf Holds right
+AtOperatorsOf Holds (Delay operand init at) = Holds at × AtOperatorsOf Holds operand
+AtOperatorsOf Holds (Cell operand held init at) = Holds at × AtOperatorsOf Holds operand × AtOperatorsOf Holds held
+
+abbrev pub IsPlacedRight : (Span → Type 0) → RightSide → Type 0
+IsPlacedRight Holds (Computed e) = AtOperatorsOf Holds e
+IsPlacedRight Holds (Called name constants arguments) = AllByRecursion (AtOperatorsOf Holds) arguments
+
+abbrev pub IsPlaced : (Span → Type 0) → Equations → Type 0
+IsPlaced Holds (Together bodies) = Unit {0}
+IsPlaced Holds (Defines names right) = IsPlacedRight Holds right
+IsPlaced Holds (Equal operands) = AllByRecursion (AtOperatorsOf Holds) operands
+
+abbrev pub ArePlaced : (Span → Type 0) → ProcessModel → Type 0
+ArePlaced Holds p = AllByRecursion (IsPlaced Holds) (equations_of_model p)
+
+-- so it holds at leaves
+abbrev pub StandsAt : (Span → Type 0) → Leaf → Type 0
+StandsAt Holds l = Holds l.at
+
+bare_placed : (Holds : Span → Type 0) (limits : Limits) (e : Expression) (depth : ℕ) (leaves : List Leaf) → IsBare limits e depth leaves → AllLeaves (StandsAt Holds) leaves → AtOperatorsOf Holds e
+bare_placed Holds limits (Named n) depth leaves h placed = tt
+bare_placed Holds limits (Number value at) depth leaves h placed = tt
+bare_placed Holds limits (Truth truth at) depth leaves h placed = tt
+bare_placed Holds limits (Unary op operand at) depth leaves h placed = (
+  (subst (AllByRecursion (StandsAt Holds)) h.2 placed.all).0,
+  leaves_enclosed limits (level_of operand) (IsBare limits operand) (bare_placed Holds limits operand) h.3.0 _ _ h.1 h.3.1 (leaves_behind _ h.1 h.2 placed),
+)
+bare_placed Holds limits (Binary op left right at) depth leaves h placed =
+    let behind = leaves_right h.0 _ h.2 placed in (
+      behind.all.0,
+      leaves_enclosed limits (level_of left) (IsBare limits left) (bare_placed Holds limits left) h.3.0 _ _ h.0 h.3.1 (leaves_left h.0 _ h.2 placed),
+      leaves_enclosed limits (level_of right) (IsBare limits right) (bare_placed Holds limits right) h.4.0 _ _ h.1 h.4.1 (leaves_behind _ h.1 refl behind),
+    )
+bare_placed Holds limits (Delay operand init at) depth leaves h placed = (
+  (leaves_right h.0 _ h.3 placed).all.0,
+  leaves_enclosed limits (level_of operand) (IsBare limits operand) (bare_placed Holds limits operand) h.4.0 _ _ h.0 h.4.1 (leaves_left h.0 _ h.3 placed),
+)
+bare_placed Holds limits (Cell operand held init at) depth leaves h placed =
+    let behind = leaves_right h.0 _ h.3 placed in (
+      behind.all.0,
+      leaves_enclosed limits (level_of operand) (IsBare limits operand) (bare_placed Holds limits operand) h.4.0 _ _ h.0 h.4.1 (leaves_left h.0 _ h.3 placed),
+      leaves_enclosed limits (level_of held) (IsBare limits held) (bare_placed Holds limits held) h.5.0 _ _ h.1 h.5.1 (leaves_left h.1 h.2 refl (leaves_behind _ (h.1 ++ h.2) refl behind)),
+    )
+
+expression_placed : (Holds : Span → Type 0) (limits : Limits) (depth : ℕ) (e : Expression) (leaves : List Leaf) → IsExpression limits depth e leaves → AllLeaves (StandsAt Holds) leaves → AtOperatorsOf Holds e
+expression_placed Holds limits depth e leaves h placed = leaves_enclosed limits (level_of e) (IsBare limits e) (bare_placed Holds limits e) h.0 _ _ leaves h.1 placed
+
+right_placed : (Holds : Span → Type 0) (limits : Limits) (depth : ℕ) (right : RightSide) (leaves : List Leaf) → IsRight limits depth right leaves → AllLeaves (StandsAt Holds) leaves → IsPlacedRight Holds right
+right_placed Holds limits depth (Computed e) leaves h placed = expression_placed Holds limits depth e leaves h placed
+right_placed Holds limits depth (Called n constants arguments) leaves h placed =
+    let back = leaves_right h.0 h.1 refl (leaves_behind _ (h.0 ++ h.1) h.2 placed) in
+    listed_all (IsExpression limits depth) _ (AtOperatorsOf Holds) (λ e l. expression_placed Holds limits depth e l) arguments h.4.2 h.4.4 (leaves_between _ _ _ h.1 h.4 back)
+
+clocks_placed : (Holds : Span → Type 0) (limits : Limits) (depth : ℕ) (operands : List Expression) (leaves : List Leaf) → IsClockEquation limits depth operands leaves → AllLeaves (StandsAt Holds) leaves → AllByRecursion (AtOperatorsOf Holds) operands
+clocks_placed Holds limits depth [] leaves h placed = elim h [ ]
+clocks_placed Holds limits depth (e ∷ []) leaves h placed = elim h [ ]
+clocks_placed Holds limits depth (e ∷ f ∷ others) leaves h placed = separated_all (IsExpression limits depth) _ (AtOperatorsOf Holds) (λ x l. expression_placed Holds limits depth x l) (e ∷ f ∷ others) leaves h.0 placed
+
+mutual
+  body_placed : (Holds : Span → Type 0) (limits : Limits) (body : Equations) (depth : ℕ) (leaves : List Leaf) → IsBody limits body depth leaves → AllLeaves (StandsAt Holds) leaves → AllByRecursion (IsPlaced Holds) (equations_in body)
+  body_placed Holds limits (Together bodies) depth leaves h placed = bodies_placed Holds limits bodies (suc depth) h.1.2 h.1.4 (leaves_between _ _ _ leaves h.1 placed)
+  body_placed Holds limits (Defines names right) depth leaves h placed = (right_placed Holds limits depth right h.2 h.5 (leaves_behind _ h.2 refl (leaves_right h.1 _ h.3 placed)), tt)
+  body_placed Holds limits (Equal operands) depth leaves h placed = (clocks_placed Holds limits depth operands leaves h placed, tt)
+
+  bodies_placed : (Holds : Span → Type 0) (limits : Limits) (bodies : Bodies) (depth : ℕ) (leaves : List Leaf) → AreBodies limits bodies depth leaves → AllLeaves (StandsAt Holds) leaves → AllByRecursion (IsPlaced Holds) (equations_inside bodies)
+  bodies_placed Holds limits no_body depth leaves h placed = tt
+  bodies_placed Holds limits (more_bodies body rest) depth leaves h placed =
+      all_both (IsPlaced Holds) (equations_in body) (equations_inside rest) (body_placed Holds limits body depth h.0 h.3 (leaves_left h.0 h.1 h.2 placed)) (further_placed Holds limits rest depth h.1 h.4 (leaves_right h.0 h.1 h.2 placed))
+
+  further_placed : (Holds : Span → Type 0) (limits : Limits) (bodies : Bodies) (depth : ℕ) (leaves : List Leaf) → AreFurtherBodies limits bodies depth leaves → AllLeaves (StandsAt Holds) leaves → AllByRecursion (IsPlaced Holds) (equations_inside bodies)
+  further_placed Holds limits no_body depth leaves h placed = tt
+  further_placed Holds limits (more_bodies body rest) depth leaves h placed =
+      let inside = leaves_behind _ (h.1 ++ h.2) h.3 placed in
+      all_both (IsPlaced Holds) (equations_in body) (equations_inside rest) (body_placed Holds limits body depth h.1 h.4 (leaves_left h.1 h.2 refl inside)) (further_placed Holds limits rest depth h.2 h.5 (leaves_right h.1 h.2 refl inside))
+
+mutual
+  model_placed : (Holds : Span → Type 0) (limits : Limits) (model : ProcessModel) (depth : ℕ) (leaves : List Leaf) → IsModel limits model depth leaves → AllLeaves (StandsAt Holds) leaves → AllByRecursion (ArePlaced Holds) (with_inner model)
+  model_placed Holds limits (Modelled heading pragmas body locals inner) depth leaves h placed =
+      let after = leaves_behind _ _ refl (leaves_behind _ _ refl (leaves_behind _ _ h.8 placed)) in
+      let behind = leaves_right h.5 _ refl (leaves_right h.4 _ refl (leaves_right h.3 _ refl after)) in
+      let where_part = leaves_left h.7 _ refl (leaves_right h.6 _ refl behind) in (
+        body_placed Holds limits body depth h.6 h.12 (leaves_left h.6 _ refl behind),
+        elim h.13 [
+          | inl none ↦ subst (λ i. AllByRecursion (ArePlaced Holds) (those_inner i)) (sym none.1) tt
+          | inr some ↦ those_placed Holds limits inner depth locals some.2 some.4 (leaves_between _ _ _ h.7 some where_part)
+        ],
+      )
+
+  those_placed : (Holds : Span → Type 0) (limits : Limits) (inner : ProcessModels) (depth : ℕ) (groups : List Declared) (leaves : List Leaf) → AreLocals limits inner depth groups leaves → AllLeaves (StandsAt Holds) leaves → AllByRecursion (ArePlaced Holds) (those_inner inner)
+  those_placed Holds limits no_model depth groups leaves h placed = tt
+  those_placed Holds limits (more_models model rest) depth groups leaves h placed =
+      let behind = leaves_right h.2 (h.3 ++ h.4) h.6 placed in
+      all_both (ArePlaced Holds) (with_inner model) (those_inner rest)
+      (model_placed Holds limits model (suc depth) h.3 h.8.1 (leaves_left h.3 h.4 refl behind))
+      (those_placed Holds limits rest depth h.1 h.4 h.9 (leaves_right h.3 h.4 refl behind))
+
+pub each_placed : (Holds : Span → Type 0) (limits : Limits) (ps : List ProcessModel) (leaves : List Leaf) → Each (λ p. IsModel limits p 0) ps leaves → AllLeaves (StandsAt Holds) leaves → AllByRecursion (ArePlaced Holds) (flat_map with_inner ps)
+each_placed Holds limits [] leaves h placed = tt
+each_placed Holds limits (p ∷ ps) leaves h placed =
+    all_both (ArePlaced Holds) (with_inner p) (flat_map with_inner ps) (model_placed Holds limits p 0 h.0 h.3 (leaves_left h.0 h.1 h.2 placed)) (each_placed Holds limits ps h.1 h.4 (leaves_right h.0 h.1 h.2 placed))
+
+-- a place in a text, whose line and column are at most one more than its bytes
+pub record IsWithin (size : ℕ) (at : Span) : Type 0 where
+  pub line : at.line ≤ size + 1
+  pub col : at.col ≤ size + 1
+
+after_within : (text : List ℕ) (n : ℕ) → IsWithin (length text) (place_after (take n text))
+after_within text n =
+    let front = take n text in
+    let few : length front ≤ length text = omega (arith, length-take n text) in
+    let lines : count_by (λ b. b == 10) front ≤ length front = count_by-le-length (λ b. b == 10) front in
+    let cols : length (after_last (λ b. b == 10) front) ≤ length front = omega (arith, length-drop (length front - suffix_len (λ x. not (x == 10)) front) front) in
+    record { line = omega arith; col = omega arith }
+
+leaf_within : (size : ℕ) (at : Span) (o : Option Terminal) → IsWithin size at → AllByRecursion (StandsAt (IsWithin size)) (option_to_list (option_map (λ terminal. leaf terminal at) o))
+leaf_within size at None h = tt
+leaf_within size at (Some terminal) h = (h, tt)
+
+pub leaves_placed : (text : List ℕ) (tokens : List Token) (i : ℕ) → InOrder text i tokens → AllByRecursion (StandsAt (IsWithin (length text))) (leaves_of text tokens)
+leaves_placed text [] i order = tt
+leaves_placed text (t ∷ ts) i order =
+    all_both (StandsAt (IsWithin (length text))) (option_to_list (leaf_of text t)) (leaves_of text ts)
+    (leaf_within (length text) t.at (terminal_of t.kind (text_of text t)) (subst (IsWithin (length text)) (sym order.2) (after_within text t.start)))
+    (leaves_placed text ts t.stop order.3)

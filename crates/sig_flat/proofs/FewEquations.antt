@@ -1,0 +1,274 @@
+-- A kernel has few equations beside its signals.
+use Rattle.std.proofs.Common.{◌≡◌, ◌++◌, ◌+◌, ◌*◌, ◌≤◌, ℕ, suc, ℤ, pos, List, [], ◌∷◌, length, Option, None, Some, refl, ap, arith}
+use Rattle.std.proofs.lemmas.List.{length-append}
+use Rattle.sig_base.specs.declared.ids.Kind.{Kind}
+use Rattle.sig_base.specs.declared.ids.Kind.TheVariants.{Boolean, Event}
+use Rattle.sig_base.specs.declared.ids.SigId.{SigId}
+use Rattle.sig_base.specs.declared.span.Span.{Span}
+use Rattle.sig_call.specs.Sound.{flat_weight, flat_weights}
+use Rattle.sig_tree.specs.declared.expr.BinOp.{BinOp}
+use Rattle.sig_tree.specs.declared.expr.BinOp.TheVariants.{Default as DefaultOf, When as Sampled, Plus, Meet, Less, Or as OrOf, Xor as XorOf, And as AndOf, Eq as EqOf, Ne as NeOf, Lt as LtOf, Le as LeOf, Gt as GtOf, Ge as GeOf, Add as AddOf, Sub as SubOf, Mul as MulOf, Div as DivOf, Mod as ModOf}
+use Rattle.sig_tree.specs.FlatSyntax.{FlatExpression, Sig as SigOf, Const as ConstOf, Unary, Binary, Delay as DelayOf, Cell, FlatEquation, Defines, Equal, FlatBody}
+use Rattle.sig_tree.specs.Kinds.{unary_row, binary_row, kind_of_result, stored}
+use Rattle.sig_kernel.specs.declared.equation.FunOp.TheVariants.{Id, Not}
+use Rattle.sig_kernel.specs.declared.equation.Operand.{Operand}
+use Rattle.sig_kernel.specs.declared.equation.Operand.TheVariants.{Sig}
+use Rattle.sig_kernel.specs.declared.equation.Form.{Form}
+use Rattle.sig_kernel.specs.declared.equation.Form.TheVariants.{Fun, Delay, When, WhenConst, Default, Sync, Event as EventOf}
+use Rattle.sig_flat.specs.KernelOf.{Site, Made, Translated, Together, signal_id, signal_in, with_equation, with_signal, with_own, with_clocks, with_clock_equations, by_one, own, next, unary_form, binary_form, kind_at, cluster_at, plus, meet, less, binary, cell, translate, operands_from, with_syncs, with_all_syncs, with_flat_equation, with_flat_equations, made_of, kernel_of}
+
+-- at most two equations for each signal that was made, and so many more
+record Few (extra : ℕ) (a b : Made) : Type 0 where
+  bound : length b.equations + 2 * length a.signals ≤ length a.equations + 2 * length b.signals + extra
+
+same : (made : Made) → Few 0 made made
+same made = record { bound = omega arith }
+
+then : {x y : ℕ} {a b c : Made} → Few x a b → Few y b c → Few (x + y) a c
+then f g = let first = f.bound in let second = g.bound in record { bound = omega arith }
+
+after : {y : ℕ} {a b c : Made} → Few 0 a b → Few y b c → Few y a c
+after f g = let first = f.bound in let second = g.bound in record { bound = omega arith }
+
+less_than : {x y : ℕ} {a b : Made} → x ≤ y → Few x a b → Few y a b
+less_than within f = let bound = f.bound in record { bound = omega arith }
+
+signal_more : (site : Site) (kind : Kind) (at : Span) (made : Made) → length (with_signal site kind at made).signals ≡ length made.signals + 1
+signal_more site kind at made = length-append made.signals _
+
+equation_more : (made : Made) (at : Span) (form : Form) → length (with_equation made at form).equations ≡ length made.equations + 1
+equation_more made at form = length-append made.equations _
+
+-- the signal of an operator, where it defines none
+own_adds : (site : Site) (kind : Kind) (at : Span) (made : Made) → length (with_own None site kind at made).signals ≡ length made.signals + 1
+own_adds site kind at made = signal_more site kind at made
+
+one_few : (site : Site) (kind : Kind) (at : Span) (form : SigId → Form) (made : Made) → Few 0 made (by_one None site kind at form made).made
+one_few site kind at form made =
+    let signals = signal_more site kind at made in
+    let equations = equation_more (with_signal site kind at made) at (form (signal_id (next made))) in
+    record { bound = omega arith }
+
+left_few : (left : ℕ) (site : Site) (kind : Kind) (at : Span) (form : SigId → Form) (made : Made) → Few 1 made (by_one (Some left) site kind at form made).made
+left_few left site kind at form made = let equations = equation_more made at (form (signal_id left)) in record { bound = omega arith }
+
+-- so many more signals, and at most twice as many more equations
+by_counts : (s e : ℕ) (a b : Made) → length b.signals ≡ length a.signals + s → length b.equations ≡ length a.equations + e → e ≤ 2 * s → Few 0 a b
+by_counts s e a b signals equations within = record { bound = omega arith }
+
+clocks_more : (site : Site) (at : Span) (made : Made) → length (with_clocks site at made).signals ≡ length made.signals + 2
+clocks_more site at made =
+    let one = signal_more site Event at made in
+    let two = signal_more site Event at (with_signal site Event at made) in
+    omega arith
+
+clock_equations_more : (at : Span) (e : ℕ) (u v : Operand) (made : Made) → length (with_clock_equations at e u v made).equations ≡ length made.equations + 2
+clock_equations_more at e u v made =
+    let one = equation_more made at (EventOf (signal_id e) (signal_in u)) in
+    let two = equation_more (with_equation made at (EventOf (signal_id e) (signal_in u))) at (EventOf (signal_id (suc e)) (signal_in v)) in
+    omega arith
+
+own_equations : (left : Option ℕ) (site : Site) (kind : Kind) (at : Span) (made : Made) → length (with_own left site kind at made).equations ≡ length made.equations
+own_equations None site kind at made = refl
+own_equations (Some left) site kind at made = refl
+
+own_at_least : (left : Option ℕ) (site : Site) (kind : Kind) (at : Span) (made : Made) → length made.signals ≤ length (with_own left site kind at made).signals
+own_at_least None site kind at made = let one = signal_more site kind at made in omega arith
+own_at_least (Some left) site kind at made = omega arith
+
+plus_few : (left : Option ℕ) (site : Site) (at : Span) (u v : Operand) (made : Made) → Few 0 made (plus left site at u v made).made
+plus_few left site at u v made =
+    let clocks : Made = with_clocks site at made in
+    let owned : Made = with_own left site Event at clocks in
+    let a = clocks_more site at made in
+    let b = own_at_least left site Event at clocks in
+    let c = own_equations left site Event at clocks in
+    let d = clock_equations_more at (next made) u v owned in
+    let e = equation_more (with_clock_equations at (next made) u v owned) at (Default (signal_id (own left clocks)) (signal_id (next made)) (signal_id (suc (next made)))) in
+    record { bound = omega arith }
+
+meet_few : (left : Option ℕ) (site : Site) (at : Span) (u v : Operand) (made : Made) → Few 0 made (meet left site at u v made).made
+meet_few left site at u v made =
+    let clocks : Made = with_clocks site at made in
+    let owned : Made = with_own left site Event at clocks in
+    let a = clocks_more site at made in
+    let b = own_at_least left site Event at clocks in
+    let c = own_equations left site Event at clocks in
+    let d = clock_equations_more at (next made) u v owned in
+    let e = equation_more (with_clock_equations at (next made) u v owned) at (When (signal_id (own left clocks)) (signal_id (next made)) (signal_id (suc (next made)))) in
+    record { bound = omega arith }
+
+less_few : (left : Option ℕ) (site : Site) (at : Span) (u v : Operand) (made : Made) → Few 0 made (less left site at u v made).made
+less_few left site at u v made =
+    let clocks : Made = with_clocks site at made in
+    let z : ℕ = next clocks in
+    let first : Made = with_signal site Boolean at clocks in
+    let truths : Made = with_signal site Boolean at first in
+    let owned : Made = with_own left site Event at truths in
+    let q2 : Made = with_clock_equations at (next made) u v owned in
+    let q3 : Made = with_equation q2 at (Fun (signal_id z) Not (Sig (signal_id (suc (next made))) ∷ [])) in
+    let q4 : Made = with_equation q3 at (Default (signal_id (suc z)) (signal_id z) (signal_id (next made))) in
+    let a = clocks_more site at made in
+    let t = signal_more site Boolean at clocks in
+    let s = signal_more site Boolean at first in
+    let b = own_at_least left site Event at truths in
+    let c = own_equations left site Event at truths in
+    let d = clock_equations_more at (next made) u v owned in
+    let e = equation_more q2 at (Fun (signal_id z) Not (Sig (signal_id (suc (next made))) ∷ [])) in
+    let f = equation_more q3 at (Default (signal_id (suc z)) (signal_id z) (signal_id (next made))) in
+    let g = equation_more q4 at (WhenConst (signal_id (own left truths)) (pos 1) (signal_id (suc z))) in
+    record { bound = omega arith }
+
+cell_few : (left : Option ℕ) (site : Site) (init : ℤ) (at : Span) (x b : Translated) → Few 0 b.made (cell left site init at x b).made
+cell_few left site init at x b =
+    let kind : Kind = stored x.kind in
+    let kept : Made = with_signal site kind at b.made in
+    let z : SigId = signal_id (next b.made) in
+    let y : SigId = signal_id (own left kept) in
+    let owned : Made = with_own left site kind at kept in
+    let e : SigId = signal_id (next owned) in
+    let w : SigId = signal_id (suc (next owned)) in
+    let d : SigId = signal_id (suc (suc (next owned))) in
+    let one : Made = with_signal site Event at owned in
+    let two : Made = with_signal site Event at one in
+    let signals : Made = with_signal site Event at two in
+    let q1 : Made = with_equation signals at (Delay z y init) in
+    let q2 : Made = with_equation q1 at (Default y (signal_in x.operand) z) in
+    let q3 : Made = with_equation q2 at (EventOf e (signal_in x.operand)) in
+    let q4 : Made = with_equation q3 at (WhenConst w (pos 1) (signal_in b.operand)) in
+    let q5 : Made = with_equation q4 at (Default d e w) in
+    let s1 = signal_more site kind at b.made in
+    let s2 = own_at_least left site kind at kept in
+    let s3 = own_equations left site kind at kept in
+    let s4 = signal_more site Event at owned in
+    let s5 = signal_more site Event at one in
+    let s6 = signal_more site Event at two in
+    let e1 = equation_more signals at (Delay z y init) in
+    let e2 = equation_more q1 at (Default y (signal_in x.operand) z) in
+    let e3 = equation_more q2 at (EventOf e (signal_in x.operand)) in
+    let e4 = equation_more q3 at (WhenConst w (pos 1) (signal_in b.operand)) in
+    let e5 = equation_more q4 at (Default d e w) in
+    let e6 = equation_more q5 at (Sync y d) in
+    record { bound = omega arith }
+
+abbrev result_of : BinOp → Translated → Translated → Kind
+result_of op u v = kind_of_result (binary_row op).result u.kind (Some v.kind)
+
+binary_few : (site : Site) (op : BinOp) (at : Span) (u v : Translated) → Few 0 v.made (binary None site op at u v).made
+binary_few site Plus at u v = plus_few None site at u.operand v.operand v.made
+binary_few site Meet at u v = meet_few None site at u.operand v.operand v.made
+binary_few site Less at u v = less_few None site at u.operand v.operand v.made
+binary_few site DefaultOf at u v = one_few site (result_of DefaultOf u v) at (binary_form DefaultOf u.operand v.operand) v.made
+binary_few site Sampled at u v = one_few site (result_of Sampled u v) at (binary_form Sampled u.operand v.operand) v.made
+binary_few site OrOf at u v = one_few site (result_of OrOf u v) at (binary_form OrOf u.operand v.operand) v.made
+binary_few site XorOf at u v = one_few site (result_of XorOf u v) at (binary_form XorOf u.operand v.operand) v.made
+binary_few site AndOf at u v = one_few site (result_of AndOf u v) at (binary_form AndOf u.operand v.operand) v.made
+binary_few site EqOf at u v = one_few site (result_of EqOf u v) at (binary_form EqOf u.operand v.operand) v.made
+binary_few site NeOf at u v = one_few site (result_of NeOf u v) at (binary_form NeOf u.operand v.operand) v.made
+binary_few site LtOf at u v = one_few site (result_of LtOf u v) at (binary_form LtOf u.operand v.operand) v.made
+binary_few site LeOf at u v = one_few site (result_of LeOf u v) at (binary_form LeOf u.operand v.operand) v.made
+binary_few site GtOf at u v = one_few site (result_of GtOf u v) at (binary_form GtOf u.operand v.operand) v.made
+binary_few site GeOf at u v = one_few site (result_of GeOf u v) at (binary_form GeOf u.operand v.operand) v.made
+binary_few site AddOf at u v = one_few site (result_of AddOf u v) at (binary_form AddOf u.operand v.operand) v.made
+binary_few site SubOf at u v = one_few site (result_of SubOf u v) at (binary_form SubOf u.operand v.operand) v.made
+binary_few site MulOf at u v = one_few site (result_of MulOf u v) at (binary_form MulOf u.operand v.operand) v.made
+binary_few site DivOf at u v = one_few site (result_of DivOf u v) at (binary_form DivOf u.operand v.operand) v.made
+binary_few site ModOf at u v = one_few site (result_of ModOf u v) at (binary_form ModOf u.operand v.operand) v.made
+
+whole_few : (left : ℕ) (site : Site) (op : BinOp) (at : Span) (u v : Translated) → Few 1 v.made (binary (Some left) site op at u v).made
+whole_few left site Plus at u v = less_than (omega arith) (plus_few (Some left) site at u.operand v.operand v.made)
+whole_few left site Meet at u v = less_than (omega arith) (meet_few (Some left) site at u.operand v.operand v.made)
+whole_few left site Less at u v = less_than (omega arith) (less_few (Some left) site at u.operand v.operand v.made)
+whole_few left site DefaultOf at u v = left_few left site (result_of DefaultOf u v) at (binary_form DefaultOf u.operand v.operand) v.made
+whole_few left site Sampled at u v = left_few left site (result_of Sampled u v) at (binary_form Sampled u.operand v.operand) v.made
+whole_few left site OrOf at u v = left_few left site (result_of OrOf u v) at (binary_form OrOf u.operand v.operand) v.made
+whole_few left site XorOf at u v = left_few left site (result_of XorOf u v) at (binary_form XorOf u.operand v.operand) v.made
+whole_few left site AndOf at u v = left_few left site (result_of AndOf u v) at (binary_form AndOf u.operand v.operand) v.made
+whole_few left site EqOf at u v = left_few left site (result_of EqOf u v) at (binary_form EqOf u.operand v.operand) v.made
+whole_few left site NeOf at u v = left_few left site (result_of NeOf u v) at (binary_form NeOf u.operand v.operand) v.made
+whole_few left site LtOf at u v = left_few left site (result_of LtOf u v) at (binary_form LtOf u.operand v.operand) v.made
+whole_few left site LeOf at u v = left_few left site (result_of LeOf u v) at (binary_form LeOf u.operand v.operand) v.made
+whole_few left site GtOf at u v = left_few left site (result_of GtOf u v) at (binary_form GtOf u.operand v.operand) v.made
+whole_few left site GeOf at u v = left_few left site (result_of GeOf u v) at (binary_form GeOf u.operand v.operand) v.made
+whole_few left site AddOf at u v = left_few left site (result_of AddOf u v) at (binary_form AddOf u.operand v.operand) v.made
+whole_few left site SubOf at u v = left_few left site (result_of SubOf u v) at (binary_form SubOf u.operand v.operand) v.made
+whole_few left site MulOf at u v = left_few left site (result_of MulOf u v) at (binary_form MulOf u.operand v.operand) v.made
+whole_few left site DivOf at u v = left_few left site (result_of DivOf u v) at (binary_form DivOf u.operand v.operand) v.made
+whole_few left site ModOf at u v = left_few left site (result_of ModOf u v) at (binary_form ModOf u.operand v.operand) v.made
+
+translate_few : (site : Site) (e : FlatExpression) (made : Made) → Few 0 made (translate None site e made).made
+translate_few site (SigOf number at) made = same made
+translate_few site (ConstOf value kind at) made = same made
+translate_few site (Unary op operand at) made =
+    let x : Translated = translate None site operand made in
+    then (translate_few site operand made) (one_few site (kind_of_result (unary_row op).result x.kind None) at (unary_form op x.operand) x.made)
+translate_few site (DelayOf operand init at) made =
+    let x : Translated = translate None site operand made in
+    then (translate_few site operand made) (one_few site (stored x.kind) at (λ y. Delay y (signal_in x.operand) init) x.made)
+translate_few site (Binary op first second at) made =
+    let u : Translated = translate None site first made in
+    let v : Translated = translate None site second u.made in
+    then (translate_few site first made) (then (translate_few site second u.made) (binary_few site op at u v))
+translate_few site (Cell operand held init at) made =
+    let x : Translated = translate None site operand made in
+    let b : Translated = translate None site held x.made in
+    then (translate_few site operand made) (then (translate_few site held x.made) (cell_few None site init at x b))
+
+definition_few : (left : ℕ) (site : Site) (e : FlatExpression) (made : Made) → Few 1 made (translate (Some left) site e made).made
+definition_few left site (SigOf number at) made = left_few left site (kind_at made.signals left) at (λ y. Fun y Id (Sig (signal_id number) ∷ [])) made
+definition_few left site (ConstOf value kind at) made = less_than (omega arith) (same made)
+definition_few left site (Unary op operand at) made =
+    let x : Translated = translate None site operand made in
+    after (translate_few site operand made) (left_few left site (kind_of_result (unary_row op).result x.kind None) at (unary_form op x.operand) x.made)
+definition_few left site (DelayOf operand init at) made =
+    let x : Translated = translate None site operand made in
+    after (translate_few site operand made) (left_few left site (stored x.kind) at (λ y. Delay y (signal_in x.operand) init) x.made)
+definition_few left site (Binary op first second at) made =
+    let u : Translated = translate None site first made in
+    let v : Translated = translate None site second u.made in
+    after (translate_few site first made) (after (translate_few site second u.made) (whole_few left site op at u v))
+definition_few left site (Cell operand held init at) made =
+    let x : Translated = translate None site operand made in
+    let b : Translated = translate None site held x.made in
+    after (translate_few site operand made) (after (translate_few site held x.made) (less_than {x = 0} {y = 1} (omega arith) (cell_few (Some left) site init at x b)))
+
+operands_few : (site : Site) (es : List FlatExpression) (made : Made) → Few 0 made (operands_from site es made).made
+operands_few site [] made = same made
+operands_few site (e ∷ es) made = after (translate_few site e made) (operands_few site es (translate None site e made).made)
+
+operands_as_many : (site : Site) (es : List FlatExpression) (made : Made) → length (operands_from site es made).signals ≡ length es
+operands_as_many site [] made = refl
+operands_as_many site (e ∷ es) made = ap suc (operands_as_many site es (translate None site e made).made)
+
+syncs_few : (first : SigId) (others : List (SigId × Span)) (made : Made) → Few (length others) made (with_syncs first others made)
+syncs_few first [] made = same made
+syncs_few first (second ∷ others) made =
+    let one = equation_more made second.1 (Sync first second.0) in
+    let rest = (syncs_few second.0 others (with_equation made second.1 (Sync first second.0))).bound in
+    record { bound = omega arith }
+
+all_syncs_few : (n : ℕ) (signals : List (SigId × Span)) (made : Made) → length signals ≤ suc n → Few n made (with_all_syncs signals made)
+all_syncs_few n [] made within = less_than (omega arith) (same made)
+all_syncs_few n (first ∷ others) made within = less_than (omega arith) (syncs_few first.0 others made)
+
+counted_operands : (es : List FlatExpression) (prefix : List ℕ) → length es ≤ suc (flat_weight (Equal es prefix))
+counted_operands [] prefix = omega arith
+counted_operands (e ∷ []) prefix = omega arith
+counted_operands (e ∷ f ∷ es) prefix = omega arith
+
+equation_few : (q : FlatEquation) (made : Made) → Few (flat_weight q) made (with_flat_equation q made)
+equation_few (Defines left e prefix) made = definition_few left (record { cluster = cluster_at made.signals left; prefix = prefix }) e made
+equation_few (Equal operands prefix) made =
+    let site : Site = record { cluster = 0; prefix = prefix } in
+    let together : Together = operands_from site operands made in
+    let as_many = operands_as_many site operands made in
+    let few = counted_operands operands prefix in
+    after (operands_few site operands made) (all_syncs_few (flat_weight (Equal operands prefix)) together.signals together.made (omega arith))
+
+equations_few : (qs : List FlatEquation) (made : Made) → Few (flat_weights qs) made (with_flat_equations qs made)
+equations_few [] made = same made
+equations_few (q ∷ qs) made = then (equation_few q made) (equations_few qs (with_flat_equation q made))
+
+pub few_equations : (flat : FlatBody)
+    → length (kernel_of flat).equations + 2 * length flat.signals ≤ 2 * length (kernel_of flat).signals + flat_weights flat.equations
+few_equations flat = let whole = (equations_few flat.equations (record { signals = flat.signals; equations = [] })).bound in omega (arith, whole)

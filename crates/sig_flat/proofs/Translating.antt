@@ -1,0 +1,175 @@
+-- Translations once more, by cases on the expression alone, and what a translation adds to what was made.
+use Rattle.std.proofs.Common.{◌≡◌, ◌↔◌, ◌++◌, ℕ, ℤ, Bool, true, false, List, [], ◌∷◌, Option, None, Some, map, refl, ap, ◌∙◌}
+use Rattle.std.specs.List.{AllByRecursion}
+use Rattle.sig_base.specs.declared.ids.Kind.{Kind}
+use Rattle.sig_base.specs.declared.span.Span.{Span}
+use Rattle.sig_base.specs.Traces.{Instant, Bounded, seen_at}
+use Rattle.sig_kernel.specs.KernelTraces.{Meets}
+use Rattle.sig_kernel.specs.declared.equation.Equation.{Equation}
+use Rattle.sig_kernel.specs.declared.equation.Form.{Form}
+use Rattle.sig_kernel.specs.declared.equation.Form.TheVariants.{Fun, Delay}
+use Rattle.sig_kernel.specs.declared.equation.FunOp.TheVariants.{Id}
+use Rattle.sig_kernel.specs.declared.equation.Operand.{Operand}
+use Rattle.sig_kernel.specs.declared.equation.Operand.TheVariants.{Sig, Const}
+use Rattle.sig_tree.specs.declared.expr.UnOp.{UnOp}
+use Rattle.sig_tree.specs.declared.expr.BinOp.{BinOp}
+use Rattle.sig_tree.specs.declared.expr.BinOp.TheVariants.{Plus, Meet, Less}
+use Rattle.sig_tree.specs.FlatSyntax.{FlatExpression, Sig as SigOf, Const as ConstOf, Unary, Binary, Delay as DelayOf, Cell}
+use Rattle.sig_tree.specs.Kinds.{unary_row, kind_of_result, stored}
+use Rattle.sig_tree.specs.Operators.{Signal}
+use Rattle.sig_call.specs.WellMade.{is_constant}
+use Rattle.sig_flat.specs.Rows.{AreMet, found_at}
+use Rattle.sig_flat.specs.KernelOf.{Site, Made, Translated, with_equation, with_own, own, by_one, unary_form, kind_at, signal_in, signal_id, made_signal, binary, cell, translate}
+use Rattle.sig_flat.proofs.Instants.{at_first, behind_form, behind_equation, behind_equations, MeetAll, behind_made}
+
+abbrev pub named : Option ℕ → Site → ℕ → Span → Made → Translated
+named None site number at made = made_signal number (kind_at made.signals number) made
+named (Some left) site number at made = by_one (Some left) site (kind_at made.signals left) at (λ y. Fun y Id (Sig (signal_id number) ∷ [])) made
+
+abbrev pub unary_of : Option ℕ → Site → UnOp → Span → Translated → Translated
+unary_of left site op at x = by_one left site (kind_of_result (unary_row op).result x.kind None) at (unary_form op x.operand) x.made
+
+abbrev pub delay_of : Option ℕ → Site → ℤ → Span → Translated → Translated
+delay_of left site init at x = by_one left site (stored x.kind) at (λ y. Delay y (signal_in x.operand) init) x.made
+
+abbrev pub translation : Option ℕ → Site → FlatExpression → Made → Translated
+translation left site (SigOf number at) made = named left site number at made
+translation left site (ConstOf value kind at) made = record { operand = Const value; kind = kind; made = made }
+translation left site (Unary op operand at) made = unary_of left site op at (translation None site operand made)
+translation left site (Binary op first second at) made =
+    let u : Translated = translation None site first made in
+    binary left site op at u (translation None site second u.made)
+translation left site (DelayOf operand init at) made = delay_of left site init at (translation None site operand made)
+translation left site (Cell operand held init at) made =
+    let x : Translated = translation None site operand made in
+    cell left site init at x (translation None site held x.made)
+
+abbrev pub after_first : Option ℕ → Site → BinOp → Span → FlatExpression → Translated → Translated
+after_first left site op at second u = binary left site op at u (translation None site second u.made)
+
+abbrev pub after_operand : Option ℕ → Site → ℤ → Span → FlatExpression → Translated → Translated
+after_operand left site init at held x = cell left site init at x (translation None site held x.made)
+
+pub translation_is : (left : Option ℕ) (site : Site) (e : FlatExpression) (made : Made) → translate left site e made ≡ translation left site e made
+translation_is None site (SigOf number at) made = refl
+translation_is (Some left) site (SigOf number at) made = refl
+translation_is None site (ConstOf value kind at) made = refl
+translation_is (Some left) site (ConstOf value kind at) made = refl
+translation_is None site (Unary op operand at) made = ap (unary_of None site op at) (translation_is None site operand made)
+translation_is (Some left) site (Unary op operand at) made = ap (unary_of (Some left) site op at) (translation_is None site operand made)
+translation_is None site (Binary op first second at) made = let u : Translated = translate None site first made in
+    ap (binary None site op at u) (translation_is None site second u.made) ∙ ap (after_first None site op at second) (translation_is None site first made)
+translation_is (Some left) site (Binary op first second at) made = let u : Translated = translate None site first made in
+    ap (binary (Some left) site op at u) (translation_is None site second u.made) ∙ ap (after_first (Some left) site op at second) (translation_is None site first made)
+translation_is None site (DelayOf operand init at) made = ap (delay_of None site init at) (translation_is None site operand made)
+translation_is (Some left) site (DelayOf operand init at) made = ap (delay_of (Some left) site init at) (translation_is None site operand made)
+translation_is None site (Cell operand held init at) made = let x : Translated = translate None site operand made in
+    ap (cell None site init at x) (translation_is None site held x.made) ∙ ap (after_operand None site init at held) (translation_is None site operand made)
+translation_is (Some left) site (Cell operand held init at) made = let x : Translated = translate None site operand made in
+    ap (cell (Some left) site init at x) (translation_is None site held x.made) ∙ ap (after_operand (Some left) site init at held) (translation_is None site operand made)
+
+-- operands that are constants, and operators that are several equations
+abbrev pub is_fixed : Operand → Bool
+is_fixed (Sig x) = false
+is_fixed (Const c) = true
+
+abbrev pub is_several : BinOp → Bool
+is_several Plus = true
+is_several Meet = true
+is_several Less = true
+is_several _ = false
+
+pub found_signal : (now : Instant) (o : Operand) → is_fixed o ≡ false → found_at now o ≡ Signal (seen_at now (signal_in o).0)
+found_signal now (Sig x) h = refl
+found_signal now (Const c) h = absurd cc
+
+binary_is_signal : (left : Option ℕ) (site : Site) (op : BinOp) (at : Span) (u v : Translated) → is_fixed (binary left site op at u v).operand ≡ false
+binary_is_signal left site Plus at u v = refl
+binary_is_signal left site Meet at u v = refl
+binary_is_signal left site Less at u v = refl
+binary_is_signal left site _ at u v = refl
+
+pub is_fixed_where : (left : Option ℕ) (site : Site) (e : FlatExpression) (made : Made) → is_fixed (translation left site e made).operand ≡ is_constant e
+is_fixed_where None site (SigOf number at) made = refl
+is_fixed_where (Some left) site (SigOf number at) made = refl
+is_fixed_where left site (ConstOf value kind at) made = refl
+is_fixed_where left site (Unary op operand at) made = refl
+is_fixed_where left site (Binary op first second at) made = let u : Translated = translation None site first made in
+    binary_is_signal left site op at u (translation None site second u.made)
+is_fixed_where left site (DelayOf operand init at) made = refl
+is_fixed_where left site (Cell operand held init at) made = refl
+
+-- the signal that a definition defines
+binary_is_left : (left : ℕ) (site : Site) (op : BinOp) (at : Span) (u v : Translated) → (binary (Some left) site op at u v).operand ≡ Sig (signal_id left)
+binary_is_left left site Plus at u v = refl
+binary_is_left left site Meet at u v = refl
+binary_is_left left site Less at u v = refl
+binary_is_left left site _ at u v = refl
+
+pub is_left : (left : ℕ) (site : Site) (e : FlatExpression) (made : Made) → is_constant e ≡ false → (translation (Some left) site e made).operand ≡ Sig (signal_id left)
+is_left left site (SigOf number at) made h = refl
+is_left left site (ConstOf value kind at) made h = absurd cc
+is_left left site (Unary op operand at) made h = refl
+is_left left site (Binary op first second at) made h = let u : Translated = translation None site first made in
+    binary_is_left left site op at u (translation None site second u.made)
+is_left left site (DelayOf operand init at) made h = refl
+is_left left site (Cell operand held init at) made h = refl
+
+-- an instant meets all equations that were made
+abbrev pub Met : Instant → Made → Type 0
+Met now made = MeetAll at_first now made.equations
+
+-- equations of these forms
+abbrev pub with_forms : Span → List Form → Made → Made
+with_forms at [] made = made
+with_forms at (form ∷ forms) made = with_forms at forms (with_equation made at form)
+
+all_and_last : {A : Type 0} (P : A → Type 0) (xs : List A) (y : A) → AllByRecursion P (xs ++ y ∷ []) → AllByRecursion P xs × P y
+all_and_last P [] y h = (tt, h.0)
+all_and_last P (x ∷ xs) y h = let rest = all_and_last P xs y h.1 in ((h.0, rest.0), rest.1)
+
+all_with_last : {A : Type 0} (P : A → Type 0) (xs : List A) (y : A) → AllByRecursion P xs → P y → AllByRecursion P (xs ++ y ∷ [])
+all_with_last P [] y h k = (k, tt)
+all_with_last P (x ∷ xs) y h k = (h.0, all_with_last P xs y h.1 k)
+
+pub equation_met : (now : Instant) (at : Span) (form : Form) (made : Made) → Met now (with_equation made at form) → Met now made × Meets Bounded at_first now form
+equation_met now at form made h = all_and_last (λ (q : Equation). Meets Bounded at_first now q.form) made.equations (record { form = form; at = at }) h
+
+pub equation_meets : (now : Instant) (at : Span) (form : Form) (made : Made) → Met now made → Meets Bounded at_first now form → Met now (with_equation made at form)
+equation_meets now at form made h k = all_with_last (λ (q : Equation). Meets Bounded at_first now q.form) made.equations (record { form = form; at = at }) h k
+
+pub forms_met : (now : Instant) (at : Span) (forms : List Form) (made : Made) → Met now (with_forms at forms made) → Met now made × AreMet at_first now forms
+forms_met now at [] made h = (h, tt)
+forms_met now at (form ∷ forms) made h =
+    let rest = forms_met now at forms (with_equation made at form) h in
+    let here = equation_met now at form made rest.0 in
+    (here.0, (here.1, rest.1))
+
+pub forms_meet : (now : Instant) (at : Span) (forms : List Form) (made : Made) → Met now made → AreMet at_first now forms → Met now (with_forms at forms made)
+forms_meet now at [] made h k = h
+forms_meet now at (form ∷ forms) made h k = forms_meet now at forms (with_equation made at form) (equation_meets now at form made h k.0) k.1
+
+equations_behind : (now : Instant) (qs : List Equation) (q : Equation) → behind_equations now (qs ++ q ∷ []) ≡ behind_equations now qs ++ behind_equation now q ∷ []
+equations_behind now [] q = refl
+equations_behind now (p ∷ qs) q = ap (λ (rest : List Equation). behind_equation now p ∷ rest) (equations_behind now qs q)
+
+pub equation_behind : (now : Instant) (at : Span) (form : Form) (made : Made) → behind_made now (with_equation made at form) ≡ with_equation (behind_made now made) at (behind_form now form)
+equation_behind now at form made = ap (λ (qs : List Equation). record { signals = made.signals; equations = qs }) (equations_behind now made.equations (record { form = form; at = at }))
+
+pub forms_behind : (now : Instant) (at : Span) (forms : List Form) (made : Made) → behind_made now (with_forms at forms made) ≡ with_forms at (map (behind_form now) forms) (behind_made now made)
+forms_behind now at [] made = refl
+forms_behind now at (form ∷ forms) made =
+    forms_behind now at forms (with_equation made at form) ∙ ap (with_forms at (map (behind_form now) forms)) (equation_behind now at form made)
+
+-- the signal that an operator defines adds no equation
+pub own_met : (left : Option ℕ) (site : Site) (kind : Kind) (at : Span) (made : Made) (now : Instant) → Met now (with_own left site kind at made) ↔ Met now made
+own_met None site kind at made now = (λ h. h, λ h. h)
+own_met (Some left) site kind at made now = (λ h. h, λ h. h)
+
+pub own_behind : (left : Option ℕ) (site : Site) (kind : Kind) (at : Span) (made : Made) (now : Instant) → with_own left site kind at (behind_made now made) ≡ behind_made now (with_own left site kind at made)
+own_behind None site kind at made now = refl
+own_behind (Some left) site kind at made now = refl
+
+pub own_is : (left : Option ℕ) (made : Made) (now : Instant) → own left (behind_made now made) ≡ own left made
+own_is None made now = refl
+own_is (Some left) made now = refl

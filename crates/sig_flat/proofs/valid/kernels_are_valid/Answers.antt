@@ -1,0 +1,5 @@
+use Rattle.sig_flat.proofs.Validating.{valid}
+use Rattle.sig_flat.proofs.valid.kernels_are_valid.Goals as goal
+
+pub returns : goal.returns
+returns c = valid

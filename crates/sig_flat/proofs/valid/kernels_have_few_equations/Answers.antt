@@ -1,0 +1,5 @@
+use Rattle.sig_flat.proofs.FewEquations.{few_equations}
+use Rattle.sig_flat.proofs.valid.kernels_have_few_equations.Goals as goal
+
+pub returns : goal.returns
+returns c = few_equations

@@ -1,0 +1,6 @@
+pub mod Lists
+pub mod Pigeons
+pub mod Coming
+pub mod Takings
+pub mod Walking
+pub mod Relating

@@ -1,0 +1,6 @@
+use Rattle.std.proofs.Common.{take}
+use Rattle.sig_graph.specs.Marks.{Visits}
+use Rattle.sig_graph.proofs.cycles.visit.Given as goal
+
+abbrev pub invariant-loop-number : goal.invariant-loop-number
+invariant-loop-number l = Visits (take l.number-index l.numbers) l.initial.marks l.marks l.initial.waiting.items l.waiting.items

@@ -1,0 +1,4 @@
+pub mod Answers
+pub mod Graphs
+pub mod Marks
+pub mod Memories

@@ -1,0 +1,166 @@
+//! Which operations precede which.
+
+ghost use Rattle.std.specs.Prelude.{◌≡◌, ◌↔◌, IfOk, OnOk, IsTrue, All, Contains, List, slice_get};
+ghost use Rattle.std.specs.List.{filter_map};
+ghost use Rattle.sig_base.specs.declared.ids.SigId.{SigId};
+ghost use Rattle.sig_dd.specs.Nodes.{Holds};
+ghost use Rattle.sig_graph.specs.Graphs.{IsBefore, IsGraph, added};
+ghost use Rattle.sig_graph.specs.Memories.{is_equation, keeps_memory};
+ghost use Rattle.sig_plan.specs.Operations.{operation_in};
+ghost use Rattle.sig_plan.specs.Order.{ComesBefore, Needs};
+
+use sig_base::{EqId, SigId};
+use sig_clock::Clocks;
+use sig_dd::{DdAnswer, Store};
+use sig_plan::{Op, OpKind};
+use std::alloc::{AllocError, Global};
+use std::marker::Model;
+
+/// The numbers that precede a number. Contracts see the list.
+#[derive(Drop)]
+pub(crate) struct Predecessors {
+    list: Vec<usize>,
+}
+
+impl Model for Predecessors {
+    ghost use Rattle.std.specs.Prelude.{List, ℕ};
+
+    ghost Value = { List ℕ };
+
+    ghost view = { λ predecessors. predecessors.list.items };
+}
+
+impl Predecessors {
+    /// The numbers.
+    pub(crate) fn as_slice(&self) -> &[usize]
+        ensures { result.now ≡ self.now }
+    {
+        self.list.as_slice()
+    }
+}
+
+/// To each operation the numbers of those that precede it.
+pub(crate) fn graph_of(
+    alloc: Global,
+    ops: &[Op],
+    clocks: &Clocks,
+    store: &Store,
+) -> Result<Vec<Predecessors>, DdAnswer>
+    requires { All (λ op. Holds store.now.nodes op.guard) ops.now }
+    ensures { IfOk result (λ graph. IsGraph clocks.now.conditions store.now.nodes ops.now graph.items) }
+{
+    let mut graph = Vec::new(alloc);
+    for q in ops {
+        graph.push(predecessors_of(alloc, ops, q, clocks, store)?)?;
+    }
+    Ok(graph)
+}
+
+/// The numbers of the operations that precede an operation.
+fn predecessors_of(
+    alloc: Global,
+    ops: &[Op],
+    q: &Op,
+    clocks: &Clocks,
+    store: &Store,
+) -> Result<Predecessors, DdAnswer>
+    requires ops { All (λ op. Holds store.now.nodes op.guard) ops.now }
+    requires q { Holds store.now.nodes q.now.guard }
+    ensures { IfOk result (IsBefore clocks.now.conditions store.now.nodes ops.now q.now) }
+{
+    let needs = needed_by(alloc, q, clocks, store)?;
+    let mut list = Vec::new(alloc);
+    for (number, p) in ops.iter().enumerate() {
+        add(
+            &mut list,
+            number,
+            comes_before(p, q, needs.as_slice(), store)?,
+        )?;
+    }
+    Ok(Predecessors { list })
+}
+
+/// Adds a number, where it is chosen.
+fn add(list: &mut Vec<usize>, number: usize, chosen: bool) -> Result<(), AllocError>
+    ensures { OnOk result (list.new.items ≡ added list.old.items number chosen) }
+{
+    if chosen {
+        list.push(number)?;
+    }
+    Ok(())
+}
+
+/// The conditions that the guard of an operation needs.
+fn needed_by(alloc: Global, q: &Op, clocks: &Clocks, store: &Store) -> Result<Vec<SigId>, DdAnswer>
+    requires { Holds store.now.nodes q.now.guard }
+    ensures { IfOk result (λ needs. (x : SigId) → Contains needs.items x
+        ↔ Needs clocks.now.conditions (operation_in store.now.nodes q.now) x) }
+{
+    let variables = store.support(q.guard)?;
+    Ok(conditions_at(alloc, clocks.conditions.as_slice(), variables.as_slice())?)
+}
+
+/// The conditions for which variables stand.
+fn conditions_at(
+    alloc: Global,
+    conditions: &[SigId],
+    variables: &[u32],
+) -> Result<Vec<SigId>, AllocError>
+    ensures { IfOk result (λ chosen. chosen.items ≡ filter_map (slice_get conditions.now) variables.now) }
+{
+    variables
+        .iter()
+        .filter_map(|v| condition_at(conditions, *v))
+        .collect(alloc)
+}
+
+/// The condition for which a variable stands.
+fn condition_at(conditions: &[SigId], v: u32) -> Option<SigId>
+    ensures { result ≡ slice_get conditions.now v }
+{
+    conditions.get(v as usize).copied()
+}
+
+/// Whether an operation precedes another one, whose guard needs these conditions. Whether the guards
+/// overlap is asked only where the second one reads what the first one writes.
+fn comes_before(p: &Op, q: &Op, needs: &[SigId], store: &Store) -> Result<bool, DdAnswer>
+    requires p { Holds store.now.nodes p.now.guard }
+    requires q { Holds store.now.nodes q.now.guard }
+    ensures { IfOk result (λ holds. (conditions : List SigId)
+        → ((x : SigId) → Contains needs.now x ↔ Needs conditions (operation_in store.now.nodes q.now) x)
+        → IsTrue holds ↔ ComesBefore conditions (operation_in store.now.nodes p.now) (operation_in store.now.nodes q.now)) }
+{
+    if keeps_memory(p, q) {
+        return Ok(true);
+    }
+    let Some(x) = p.writes else {
+        return Ok(false);
+    };
+    if needs.contains(&x) {
+        return Ok(true);
+    }
+    if !q.reads.as_slice().contains(&x) {
+        return Ok(false);
+    }
+    store.overlap(p.guard, q.guard)
+}
+
+/// Whether the second operation stores into the memory that the first one reads.
+fn keeps_memory(p: &Op, q: &Op) -> bool
+    ensures { result ≡ keeps_memory p.now.kind p.now.eq q.now.kind }
+{
+    match q.kind {
+        OpKind::Store(e) => matches!(p.kind, OpKind::DelayRead) && is_equation(p.eq, e),
+        _ => false,
+    }
+}
+
+/// Whether there is an equation, and it is this one.
+fn is_equation(equation: Option<EqId>, e: EqId) -> bool
+    ensures { result ≡ is_equation equation e }
+{
+    match equation {
+        Some(d) => d.0 == e.0,
+        None => false,
+    }
+}

@@ -1,0 +1,4 @@
+pub mod CountLemmas
+pub mod PreorderLemmas
+pub mod TextLemmas
+pub mod TreeLemmas

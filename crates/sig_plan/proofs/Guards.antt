@@ -1,0 +1,71 @@
+-- The guards of clocks, and what stays of them as a store grows.
+use Rattle.std.proofs.Common.{◌≡◌, ◌<◌, ℕ, Bool, List, [], ◌∷◌, length, get_or, refl, sym, ap, ◌∙◌, subst, arith, Contains}
+use Rattle.std.specs.Prelude.{zero, suc, Option, None, Some, slice_get}
+use Rattle.sig_clock.specs.Clocks.{AreClocks, ClocksView, guard_of}
+use Rattle.sig_dd.specs.Diagram.{Depends}
+use Rattle.sig_dd.specs.Nodes.{Holds, Keeps, StoreView, test}
+use Rattle.sig_dd.specs.declared.node.Node.{Node}
+use Rattle.sig_dd.specs.declared.node.Ref.{Ref}
+use Rattle.sig_dd.proofs.CallerLemmas.{Agree-kept, Holds-kept, Spans-kept}
+use Rattle.sig_kernel.specs.declared.kernel.Kernel.{Kernel}
+use Rattle.sig_plan.specs.Making.{AreOver, HaveGuards, HoldGuards}
+use Rattle.sig_plan.specs.Operations.{function_in, presence_in}
+
+pub get_at : {X : Type 0} (xs : List X) (k : ℕ) (d : X) → k < length xs → slice_get xs k ≡ Some (get_or xs k d)
+get_at [] k d lt = absurd (omega (arith, lt))
+get_at (x ∷ xs) zero d lt = refl
+get_at (x ∷ xs) (suc k) d lt = get_at xs k d (omega (arith, lt))
+
+pub get_within : {X : Type 0} (xs : List X) (k : ℕ) (x : X) → slice_get xs k ≡ Some x → k < length xs
+get_within [] k x is = cc
+get_within (y ∷ xs) zero x is = omega arith
+get_within (y ∷ xs) (suc k) x is = omega (arith, get_within xs k x is)
+
+pub contains_at : {X : Type 0} (xs : List X) (k : ℕ) (x : X) → slice_get xs k ≡ Some x → Contains xs x
+contains_at xs k x is = let e : Some (get_or xs k x) ≡ Some x = sym (get_at xs k x (get_within xs k x is)) ∙ is in (k, get_within xs k x is, cc)
+
+pub at_contained : {X : Type 0} (xs : List X) (x : X) (there : Contains xs x) → slice_get xs there.0 ≡ Some x
+at_contained xs x there = get_at xs there.0 x there.1 ∙ ap Some there.2
+
+module _ (kernel : Kernel) (nodes : List Node) (clocks : ClocksView) (are : AreClocks kernel nodes clocks) where
+  pub guards_there : HaveGuards clocks (length kernel.signals)
+  guards_there = record { count = are.count; classes = are.classes }
+
+  pub guards_held : HoldGuards nodes clocks
+  guards_held guard there = are.held there.0 guard (at_contained clocks.guard guard there)
+
+module _ (old new : StoreView) (kept : Keeps old new) (clocks : ClocksView) (held : HoldGuards old.nodes clocks) where
+  pub guards_kept : HoldGuards new.nodes clocks
+  guards_kept guard there = Holds-kept old new kept guard (held guard there)
+
+  pub over_kept : (vs : List ℕ) → AreOver old.nodes vs clocks → AreOver new.nodes vs clocks
+  over_kept vs over guard there = Spans-kept old new kept guard (held guard there) vs (over guard there)
+
+  pub test_stays : (class : ℕ) (guard : Ref) → slice_get clocks.guard class ≡ Some guard → test new.nodes guard ≡ test old.nodes guard
+  test_stays class guard is = let there : Holds old.nodes guard = held guard (contains_at clocks.guard class guard is) in λ j truths. Agree-kept old new kept guard there truths j
+
+  function_stays : (class : ℕ) (guard : Option Ref) → slice_get clocks.guard class ≡ guard → function_in new.nodes guard ≡ function_in old.nodes guard
+  function_stays class None is = refl
+  function_stays class (Some guard) is = let same = test_stays class guard is in λ j truths. same j truths
+
+  pub presence_stays : presence_in new.nodes clocks ≡ presence_in old.nodes clocks
+  presence_stays = λ j x. function_stays (get_or clocks.class_of x.0 0) (guard_of clocks x.0) refl j
+
+pub clocks_kept : (kernel : Kernel) (old new : StoreView) (clocks : ClocksView) → Keeps old new → AreClocks kernel old.nodes clocks → AreClocks kernel new.nodes clocks
+clocks_kept kernel old new clocks kept are =
+    let held = guards_held kernel old.nodes clocks are in
+    let same = test_stays old new kept clocks held in
+    record {
+      count = are.count;
+      layers = are.layers;
+      conditions = are.conditions;
+      classes = are.classes;
+      members = are.members;
+      held = λ class guard is. Holds-kept old new kept guard (are.held class guard is);
+      variables = λ class guard is v depends. are.variables class guard is v (let D : (List Bool → Bool) → Type 0 = λ f. Depends f v in subst D (same class guard is) depends);
+      functions = λ signal guard there is proposal reaction speaks keeps. are.functions signal guard there is proposal reaction speaks keeps ∙ sym (ap (λ (f : List Bool → Bool). f proposal) (same (get_or clocks.class_of signal 0) guard is));
+      differ = λ c d f g is_f is_g agree. are.differ c d f g is_f is_g (λ truths. sym (ap (λ (h : List Bool → Bool). h truths) (same c f is_f)) ∙ agree truths ∙ ap (λ (h : List Bool → Bool). h truths) (same d g is_g));
+      layer = are.layer;
+      roots = are.roots;
+      numbers = are.numbers;
+    }

@@ -1,0 +1,4 @@
+pub mod Guards
+pub mod Adding
+pub mod Spending
+pub mod Operating
