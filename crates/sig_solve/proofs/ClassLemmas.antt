@@ -1,31 +1,29 @@
 -- Lemmas on the classes of clocks.
-use Rattle.std.proofs.Common.{◌≡◌, ◌≢◌, ◌<◌, ◌≤◌, ◌+◌, ◌⊎◌, ◌↔◌, inl, inr, ℕ, Bool, true, false, not, eqb, List, [], ◌∷◌, length, map, get_or, refl, sym, ap, ◌∙◌, subst, arith, Contains, IsTrue}
-use Rattle.std.specs.Prelude.{zero, suc, Option, None, Some, slice_get, is_some}
+use Rattle.std.proofs.Common.{◌≡◌, ◌<◌, ◌≤◌, ◌⊎◌, inl, inr, ℕ, Bool, true, false, eqb, List, [], ◌∷◌, length, map, get_or, refl, sym, ap, ◌∙◌, subst, arith}
+use Rattle.std.specs.Prelude.{zero, suc, None, Some, slice_get}
 use Rattle.std.specs.List.{range_with_len}
-use Rattle.std.proofs.lemmas.Bool.{cases_eq, cases_lt, cases_order, eq-eqb, eqb-true, false≢true}
+use Rattle.std.proofs.lemmas.Bool.{cases_eq, cases_lt, eq-eqb, eqb-true, false≢true}
 use Rattle.sig_base.specs.declared.ids.SigId.{SigId}
 use Rattle.sig_kernel.specs.declared.kernel.Kernel.{Kernel}
 use Rattle.sig_clock.specs.ClockFunctions.{Allows, IsClockFunction, KeepsTo}
 use Rattle.sig_clock.specs.ClockRefusals.{HasClocks}
 use Rattle.sig_clock.specs.Clocks.{AreClocks, AreInOrder, ClocksView, IsLeastOf}
-use Rattle.sig_clock.specs.Conditions.{is_condition, signal_id}
-use Rattle.sig_clock.specs.Layers.{EntersBy, HasLayer, IsRoot, IsSignal}
+use Rattle.sig_clock.specs.Conditions.{signal_id}
+use Rattle.sig_clock.specs.Layers.{EntersBy, HasLayer, IsRoot}
 use Rattle.sig_clock.specs.Reactions.{Reaction, Status, Speaks, is_present, status_at, truth_of_status}
 use Rattle.sig_clock.proofs.LayerLemmas.{one_layer}
 use Rattle.sig_clock.proofs.ProposalLemmas.{one_presence, some_reaction}
 use Rattle.sig_clock.proofs.ReactionLemmas.{present_together}
-use Rattle.sig_dd.specs.Diagram.{Agree, truth_of}
-use Rattle.sig_dd.specs.Nodes.{StoreView, Holds, IsStore, test}
+use Rattle.sig_dd.specs.Nodes.{StoreView, IsStore, test}
 use Rattle.sig_dd.specs.declared.node.Ref.{Ref}
-use Rattle.sig_dd.specs.declared.node.Node.{Node}
 use Rattle.sig_dd.proofs.CallerLemmas.{one_reference}
-use Rattle.sig_solve.specs.Classes.{AreClasses, AreFirsts, AreGuardsOf, AreMadeOf, Precedes, guard_at}
+use Rattle.sig_solve.specs.Classes.{AreFirsts, AreMadeOf, guard_at}
 use Rattle.sig_solve.specs.Frames.{IsFrame}
 use Rattle.sig_solve.specs.Guards.{AreGuards, IsGuard}
 use Rattle.sig_solve.specs.Orders.{by_layer}
 use Rattle.sig_solve.specs.Rounds.{AreSettled, layer_in}
 use Rattle.sig_solve.specs.declared.frame.Frame.{Frame}
-use Rattle.sig_solve.proofs.FrameLemmas.{leader_in, least_below}
+use Rattle.sig_solve.proofs.FrameLemmas.{leader_in}
 use Rattle.sig_solve.proofs.ListLemmas.{get_at, get_is, get_within, map_length}
 use Rattle.sig_solve.proofs.OrderLemmas.{listed_signal, listed_within, signal_layer}
 
@@ -83,11 +81,14 @@ pub least_member : (class_of : List ℕ) (class s : ℕ) → s < length class_of
 least_member class_of class s lt is = by (least_from (λ k. eqb (get_or class_of k 0) class) (suc s)) where
   by : (((m : ℕ) → m < suc s → eqb (get_or class_of m 0) class ≡ false) ⊎ ((m : ℕ) × (m < suc s) × (eqb (get_or class_of m 0) class ≡ true) × ((k : ℕ) → k < m → eqb (get_or class_of k 0) class ≡ false))) → (signal : ℕ) × IsLeastOf class_of class signal
   by (inl none) = absurd (false≢true (sym (none s (omega arith)) ∙ eq-eqb (get_or class_of s 0) class is))
-  by (inr found) = (found.0, record {
-    within = omega (arith, found.1, lt);
-    is = eqb-true (get_or class_of found.0 0) class found.2;
-    least = λ other within own. elim (cases_lt other found.0) [ inl less ↦ absurd (false≢true (sym (found.3 other less) ∙ eq-eqb (get_or class_of other 0) class own)) | inr le ↦ le ];
-  })
+  by (inr found) = (
+    found.0,
+    record {
+      within = omega (arith, found.1, lt);
+      is = eqb-true (get_or class_of found.0 0) class found.2;
+      least = λ other within own. elim (cases_lt other found.0) [ inl less ↦ absurd (false≢true (sym (found.3 other less) ∙ eq-eqb (get_or class_of other 0) class own)) | inr le ↦ le ];
+    },
+  )
 
 get_map : {X Y : Type 0} (f : X → Y) (xs : List X) (i : ℕ) (x : X) → slice_get xs i ≡ Some x → slice_get (map f xs) i ≡ Some (f x)
 get_map f [] i x is = cc
@@ -95,19 +96,23 @@ get_map f (y ∷ xs) zero x is = let e : Some y ≡ Some x = is in let same : y 
 get_map f (y ∷ xs) (suc i) x is = get_map f xs i x is
 
 module _ (s : StoreView) (store : IsStore s) (frame : Frame) (is : IsFrame frame) (layers : List ℕ) (settled : AreSettled frame layers []) (guards : List Ref) (conditions : List SigId) (has : HasClocks frame.kernel.now)
-  (order : AreInOrder frame.kernel.now conditions) (are_guards : AreGuards s.nodes frame conditions guards) where
+    (order : AreInOrder frame.kernel.now conditions) (are_guards : AreGuards s.nodes frame conditions guards) where
   pub guard_for : (x : ℕ) → x < length frame.kernel.now.signals → (r : Ref) × (guard_at frame guards x ≡ Some r) × IsGuard s.nodes frame conditions x r
   guard_for x lt =
       let l = get_or frame.least.items x 0 in
       let at = are_guards.each l (leader_in frame is x lt) in
-      let same = λ (reaction : Reaction) (speaks : Speaks frame.kernel.now reaction). present_together frame.kernel.now reaction x l speaks.is (is.least.same x lt) in
-      (at.0, at.1, record {
-        held = at.2.held;
-        function = λ proposal. (
-        (λ t. let w = (at.2.function proposal).0 t in (w.0, w.1, w.2, same w.0 w.1 ∙ w.3)),
-        (λ w. (at.2.function proposal).1 (w.0, w.1, w.2, sym (same w.0 w.1) ∙ w.3)));
-        variables = at.2.variables;
-      })
+      let same = λ (reaction : Reaction) (speaks : Speaks frame.kernel.now reaction). present_together frame.kernel.now reaction x l speaks.is (is.least.same x lt) in (
+        at.0,
+        at.1,
+        record {
+          held = at.2.held;
+          function = λ proposal. (
+            (λ t. let w = (at.2.function proposal).0 t in (w.0, w.1, w.2, same w.0 w.1 ∙ w.3)),
+            (λ w. (at.2.function proposal).1 (w.0, w.1, w.2, sym (same w.0 w.1) ∙ w.3)),
+          );
+          variables = at.2.variables;
+        },
+      )
 
   is_clock : (x : ℕ) (r : Ref) → x < length frame.kernel.now.signals → IsGuard s.nodes frame conditions x r → IsClockFunction frame.kernel.now conditions x (test s.nodes r)
   is_clock x r lt guard proposal reaction speaks keeps = by (is_present reaction x) (test s.nodes r proposal) refl refl where
@@ -230,16 +235,16 @@ module _ (s : StoreView) (store : IsStore s) (frame : Frame) (is : IsFrame frame
       held = λ class g at. (ref_at class g at).3.held;
       variables = λ class g at v d. let lt = (ref_at class g at).3.variables v d in omega (arith, lt, ap length made.conditions_are);
       functions = λ x g lt at.
-      let own = guard_for x lt in
-      let p = place x lt in
-      let same : Some own.0 ≡ Some g = sym own.1 ∙ sym p.2 ∙ sym (made.guard.each (get_or clocks.class_of x 0) p.0 p.1) ∙ at in
-      let refs : own.0 ≡ g = cc in
-      subst (λ xs. IsClockFunction frame.kernel.now xs x (test s.nodes g)) (sym made.conditions_are) (is_clock x g lt (subst (λ r. IsGuard s.nodes frame conditions x r) refs own.2));
+          let own = guard_for x lt in
+          let p = place x lt in
+          let same : Some own.0 ≡ Some g = sym own.1 ∙ sym p.2 ∙ sym (made.guard.each (get_or clocks.class_of x 0) p.0 p.1) ∙ at in
+          let refs : own.0 ≡ g = cc in
+          subst (λ xs. IsClockFunction frame.kernel.now xs x (test s.nodes g)) (sym made.conditions_are) (is_clock x g lt (subst (λ r. IsGuard s.nodes frame conditions x r) refs own.2));
       differ = λ c d f g at_c at_d agree.
-      let a = ref_at c f at_c in
-      let b = ref_at d g at_d in
-      let refs = one_reference s store f g a.3.held b.3.held agree in
-      made.are.differ c d a.0 b.0 a.1 b.1 (a.2 ∙ ap Some refs ∙ sym b.2);
+          let a = ref_at c f at_c in
+          let b = ref_at d g at_d in
+          let refs = one_reference s store f g a.3.held b.3.held agree in
+          made.are.differ c d a.0 b.0 a.1 b.1 (a.2 ∙ ap Some refs ∙ sym b.2);
       layer = has_layer;
       roots = λ x lt. (class_root x lt, root_class x);
       numbers = numbers_at;

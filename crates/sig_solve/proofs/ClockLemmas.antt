@@ -1,18 +1,15 @@
 -- Lemmas on guards as functions of proposals.
-use Rattle.std.proofs.Common.{◌≡◌, ◌≢◌, ◌<◌, ◌≤◌, ◌+◌, ◌*◌, ◌⊎◌, ◌↔◌, inl, inr, ℕ, Bool, true, false, not, List, [], ◌∷◌, ◌++◌, length, map, get_or, set, refl, sym, ap, ◌∙◌, subst, arith, Contains, IsTrue, get_or-set_same, get_or-set_other}
-use Rattle.std.specs.Prelude.{zero, suc, Option, None, Some, slice_get}
-use Rattle.std.specs.List.{AllPairs, list_any}
-use Rattle.std.proofs.lemmas.Bool.{cases_eq, cases_order, false≢true, eq-eqb}
-use Rattle.std.proofs.lemmas.List.{get_or_default}
+use Rattle.std.proofs.Common.{◌≡◌, ◌<◌, ◌≤◌, ◌+◌, ◌*◌, inl, inr, ℕ, Bool, true, false, not, List, [], ◌∷◌, length, map, get_or, refl, sym, ap, ◌∙◌, subst, arith, Contains, IsTrue}
+use Rattle.std.specs.Prelude.{Option, None, Some}
+use Rattle.std.specs.List.{list_any}
+use Rattle.std.proofs.lemmas.Bool.{false≢true, eq-eqb}
 use Rattle.std.proofs.lemmas.List.Sums.{count_by-le-length, length-filter}
 use Rattle.sig_base.specs.declared.ids.SigId.{SigId}
-use Rattle.sig_kernel.specs.declared.kernel.Kernel.{Kernel}
 use Rattle.sig_clock.specs.ClockFunctions.{Allows, KeepsTo}
 use Rattle.sig_clock.specs.Clocks.{AreInOrder}
-use Rattle.sig_clock.specs.Conditions.{conditions_of, is_condition, signal_id}
+use Rattle.sig_clock.specs.Conditions.{conditions_of, signal_id}
 use Rattle.sig_clock.specs.Reactions.{Reaction, Speaks, is_present, status_at}
 use Rattle.sig_clock.proofs.Lists.{contains_cons, contains_head, contains_later, contains_none}
-use Rattle.sig_dd.specs.Diagram.{Depends, truth_of}
 use Rattle.sig_dd.specs.Nodes.{StoreView, Holds, Keeps, Spans, test}
 use Rattle.sig_dd.specs.Shares.{HasAll, Share}
 use Rattle.sig_dd.specs.declared.answer.DdAnswer.{DdAnswer}
@@ -20,15 +17,15 @@ use Rattle.sig_dd.specs.declared.node.Ref.{Ref}
 use Rattle.sig_dd.specs.declared.node.Node.{Node}
 use Rattle.sig_dd.proofs.CallerLemmas.{Holds-kept, Spans-kept}
 use Rattle.sig_rel.specs.Relations.{RelationView}
-use Rattle.sig_solve.specs.Frames.{IsAmong, IsFrameIn, is_variable, others_of, tells, truths_among}
+use Rattle.sig_solve.specs.Frames.{IsFrameIn, is_variable, tells, truths_among}
 use Rattle.sig_solve.specs.Guards.{IsGuard, IsProposed, IsWide, rest_of, truths_told}
 use Rattle.sig_solve.specs.Parts.{AgreeOutside, IsShadow}
 use Rattle.sig_solve.specs.Sets.{reaction_of}
 use Rattle.sig_solve.specs.declared.frame.Frame.{Frame}
 use Rattle.sig_solve.proofs.FrameLemmas.{unknown_in, unknown_used}
-use Rattle.sig_solve.proofs.ListLemmas.{any_is, contains_get, get_at, get_within, in_filter, is_any, of_filter}
+use Rattle.sig_solve.proofs.ListLemmas.{any_is, get_at, get_within, in_filter, is_any, of_filter}
 use Rattle.sig_solve.proofs.ProposeLemmas.{as_many, told_of}
-use Rattle.sig_solve.proofs.ReactionLemmas.{condition_is_signal, is_the, lift, not_false}
+use Rattle.sig_solve.proofs.ReactionLemmas.{condition_is_signal, is_the, lift}
 use Rattle.sig_solve.proofs.RootLemmas.{in_present, in_truth, presence_of, presence_unknown}
 use Rattle.sig_solve.proofs.SetLemmas.{has_all_of}
 use Rattle.sig_solve.proofs.StoreLemmas.{more_calls, older_test}
@@ -56,23 +53,25 @@ module _ (relation : RelationView) (unknowns : List ℕ) (conditions : List SigI
   pub in_rest : (u : ℕ) → Contains unknowns u → (Contains (truths_told relation conditions) u → ⊥) → Contains (rest_of relation unknowns conditions) u
   in_rest u there out =
       in_filter (λ v. not (list_any (λ (c : SigId). is_variable v (get_or relation.truth c.0 None)) conditions)) unknowns u there (by (list_any (λ (c : SigId). is_variable u (get_or relation.truth c.0 None)) conditions) refl) where
-    by : (b : Bool) → list_any (λ (c : SigId). is_variable u (get_or relation.truth c.0 None)) conditions ≡ b → not b ≡ true
-    by true e = let c = any_is (λ (c : SigId). is_variable u (get_or relation.truth c.0 None)) conditions e in absurd (out (told_in relation conditions c.0 u c.1 (is_the u (get_or relation.truth c.0.0 None) c.2)))
-    by false e = refl
+        by : (b : Bool) → list_any (λ (c : SigId). is_variable u (get_or relation.truth c.0 None)) conditions ≡ b → not b ≡ true
+        by true e = let c = any_is (λ (c : SigId). is_variable u (get_or relation.truth c.0 None)) conditions e in absurd (out (told_in relation conditions c.0 u c.1 (is_the u (get_or relation.truth c.0.0 None) c.2)))
+        by false e = refl
 
   pub of_rest : (u : ℕ) → Contains (rest_of relation unknowns conditions) u → Contains unknowns u × (Contains (truths_told relation conditions) u → ⊥)
   of_rest u there =
-      let parts = of_filter (λ v. not (list_any (λ (c : SigId). is_variable v (get_or relation.truth c.0 None)) conditions)) unknowns u there in
-      (parts.0, λ told.
-      let c = told_of relation conditions u told in
-      false≢true (sym (ap not (is_any (λ (c : SigId). is_variable u (get_or relation.truth c.0 None)) conditions c.0 c.1 (is_own u (get_or relation.truth c.0.0 None) c.2))) ∙ parts.1))
+      let parts = of_filter (λ v. not (list_any (λ (c : SigId). is_variable v (get_or relation.truth c.0 None)) conditions)) unknowns u there in (
+        parts.0,
+        λ told.
+            let c = told_of relation conditions u told in
+            false≢true (sym (ap not (is_any (λ (c : SigId). is_variable u (get_or relation.truth c.0 None)) conditions c.0 c.1 (is_own u (get_or relation.truth c.0.0 None) c.2))) ∙ parts.1),
+      )
 
   pub rest_fewer : length (rest_of relation unknowns conditions) ≤ length unknowns
   rest_fewer =
       omega (arith, length-filter (λ v. not (list_any (λ (c : SigId). is_variable v (get_or relation.truth c.0 None)) conditions)) unknowns, count_by-le-length (λ v. not (list_any (λ (c : SigId). is_variable v (get_or relation.truth c.0 None)) conditions)) unknowns)
 
 module _ (s0 s1 : List Node) (frame : Frame) (is : IsFrameIn s0 frame) (conditions : List SigId) (order : AreInOrder frame.kernel.now conditions) (few : length conditions ≤ length (conditions_of frame.kernel.now))
-  (s : ℕ) (within : s < length frame.kernel.now.signals) where
+    (s : ℕ) (within : s < length frame.kernel.now.signals) where
   p_untold' : Contains (truths_told frame.relation conditions) (get_or frame.relation.present s 0) → ⊥
   p_untold' there =
       let d = told_of frame.relation conditions (get_or frame.relation.present s 0) there in
@@ -97,12 +96,16 @@ module _ (s0 s1 : List Node) (frame : Frame) (is : IsFrameIn s0 frame) (conditio
   guard_is f r vs proposed wide at = record {
     held = at.held;
     function = λ ts. (
-    (λ u.
-    let w = (at.function ts).0 u in
-    let o = (proposed.function w.0).0 w.2 in
-    (reaction_of frame o.0, o.2, same_keeps w.0 ts (reaction_of frame o.0) (λ v out. sym (w.1 v out)) o.3,
-    presence_of s0 frame is o.0 s within ∙ sym (o.1 p p_untold') ∙ w.3)),
-    (λ reaction. back ts reaction.0 reaction.1 reaction.2 reaction.3));
+      (λ u.
+          let w = (at.function ts).0 u in
+          let o = (proposed.function w.0).0 w.2 in (
+            reaction_of frame o.0,
+            o.2,
+            same_keeps w.0 ts (reaction_of frame o.0) (λ v out. sym (w.1 v out)) o.3,
+            presence_of s0 frame is o.0 s within ∙ sym (o.1 p p_untold') ∙ w.3,
+          )),
+      (λ reaction. back ts reaction.0 reaction.1 reaction.2 reaction.3),
+    );
     variables = λ v d. elim (wide.within v (at.spans vs wide.spans (wide.has p p_known p_untold') v d)) [
       | inl lt ↦ lt
       | inr both ↦ absurd (at.without v d (in_rest frame.relation frame.unknowns.items conditions v both.0 both.1))
@@ -120,15 +123,20 @@ module _ (s0 s1 : List Node) (frame : Frame) (is : IsFrameIn s0 frame) (conditio
         let own : reaction_of frame b.0 ≡ reaction = b.2 ∙ tb.1 in
         let o = mixed rest b.0 ts in
         let out = mixed_outside rest b.0 ts in
-        (at.function ts).1 (o, out,
-        (proposed.function o).1 (b.0,
-        (λ u untold. elim (is_in rest u) [
-          | inl there ↦ mixed_at rest b.0 ts u there
-          | inr gone ↦ sym (out u gone) ∙ b.1 u (λ other. gone (in_rest frame.relation frame.unknowns.items conditions u (of_filter (λ v. not (list_any (tells frame.relation v) [])) frame.unknowns.items u other).0 untold))
-        ]),
-        subst (λ x. Speaks frame.kernel.now x) (sym own) speaks,
-        subst (λ x. KeepsTo conditions o x) (sym own) (same_keeps ts o reaction out keeps)),
-        mixed_at rest b.0 ts p (in_rest frame.relation frame.unknowns.items conditions p p_known p_untold') ∙ sym (presence_of s0 frame is b.0 s within) ∙ ap (λ x. is_present x s) own ∙ present)
+        (at.function ts).1 (
+          o,
+          out,
+          (proposed.function o).1 (
+            b.0,
+            (λ u untold. elim (is_in rest u) [
+              | inl there ↦ mixed_at rest b.0 ts u there
+              | inr gone ↦ sym (out u gone) ∙ b.1 u (λ other. gone (in_rest frame.relation frame.unknowns.items conditions u (of_filter (λ v. not (list_any (tells frame.relation v) [])) frame.unknowns.items u other).0 untold))
+            ]),
+            subst (λ x. Speaks frame.kernel.now x) (sym own) speaks,
+            subst (λ x. KeepsTo conditions o x) (sym own) (same_keeps ts o reaction out keeps),
+          ),
+          mixed_at rest b.0 ts p (in_rest frame.relation frame.unknowns.items conditions p p_known p_untold') ∙ sym (presence_of s0 frame is b.0 s within) ∙ ap (λ x. is_present x s) own ∙ present,
+        )
 
   pub guard_share : (old new : StoreView) (f : Ref) (q : ℕ) (rest vs : List ℕ) (why : Option DdAnswer) → q ≡ get_or frame.relation.present s 0 → rest ≡ rest_of frame.relation frame.unknowns.items conditions → IsWide old.nodes frame conditions f vs
       → ((vs : List ℕ) → Spans old.nodes f vs → Contains vs q → HasAll vs rest → Share (2 + 3 * length rest) vs old new why) → Share (2 + 3 * length frame.unknowns.items) frame.unknowns.items old new why

@@ -1,31 +1,27 @@
 -- Lemmas on the share of solving.
-use Rattle.std.proofs.Common.{◌≡◌, ◌<◌, ◌≤◌, ◌+◌, ◌-◌, ◌*◌, ◌^◌, ◌⊎◌, inl, inr, ℕ, Bool, true, false, cond, eqb, count_by, List, [], ◌∷◌, ◌++◌, length, map, filter, get_or, refl, sym, ap, ◌∙◌, subst, arith, Contains, length-append}
-use Rattle.std.specs.Prelude.{zero, suc, Option, None, Some, Result, Ok, Err, IfErr, IfSome, IsErrAnd, is_some, slice_get}
+use Rattle.std.proofs.Common.{◌≡◌, ◌<◌, ◌≤◌, ◌+◌, ◌-◌, ◌*◌, ◌^◌, ◌⊎◌, inl, inr, ℕ, Bool, true, false, cond, eqb, count_by, List, [], ◌∷◌, length, map, filter, get_or, refl, sym, ap, ◌∙◌, subst, arith, Contains, length-append}
+use Rattle.std.specs.Prelude.{zero, suc, Option, None, Some, Result, Ok, Err, IfErr, IsErrAnd, is_some}
 use Rattle.std.specs.List.{range_with_len}
 use Rattle.std.proofs.Math.Nat.{mul-le-mul_left, mul-le-mul_right}
 use Rattle.std.proofs.lemmas.Bool.{cases_lt, false≢true}
 use Rattle.std.proofs.lemmas.List.Sums.{length-filter}
-use Rattle.std.proofs.lemmas.List.FromFn.{length-range_with_len}
-use Rattle.sig_base.specs.declared.ids.SigId.{SigId}
 use Rattle.sig_kernel.specs.declared.kernel.Kernel.{Kernel}
-use Rattle.sig_clock.specs.Conditions.{conditions_of, is_condition, is_free, signal_id}
-use Rattle.sig_clock.specs.SameClocks.{AreLeast, itself}
-use Rattle.sig_dd.specs.Nodes.{StoreView, allowance, IsFull}
-use Rattle.sig_dd.specs.Shares.{IsRefused, Share}
+use Rattle.sig_clock.specs.Conditions.{conditions_of, is_condition, signal_id}
+use Rattle.sig_clock.specs.SameClocks.{AreLeast}
+use Rattle.sig_dd.specs.Nodes.{StoreView, allowance}
+use Rattle.sig_dd.specs.Shares.{Share}
 use Rattle.sig_dd.specs.declared.node.Node.{Node}
-use Rattle.sig_dd.specs.declared.answer.DdAnswer.{DdAnswer}
 use Rattle.sig_clock.proofs.Lists.{contains_head, contains_later}
-use Rattle.sig_dd.specs.declared.answer.DdAnswer.TheVariants.{Budget as StoreBudget, OutOfMemory as NoMemory}
 use Rattle.sig_rel.specs.Relations.{IsUnknownCount, is_boolean}
 use Rattle.sig_rel.specs.Shares.{IsRefusedFor}
 use Rattle.sig_rel.specs.declared.answer.RelAnswer.{RelAnswer}
 use Rattle.sig_rel.specs.declared.answer.RelAnswer.TheVariants.{Budget as RelationBudget, OutOfMemory as NoRelation}
-use Rattle.sig_solve.specs.Frames.{IsFrame, IsFrameIn, leaders_of, truths_among}
+use Rattle.sig_solve.specs.Frames.{IsFrameIn, truths_among}
 use Rattle.sig_solve.specs.Refusals.{HasNoRoom, IsFromRelation, IsWithin, calls_of, rest_of_share, share_of, store_refusal}
 use Rattle.sig_solve.specs.declared.answer.ClockAnswer.{ClockAnswer}
 use Rattle.sig_solve.specs.declared.answer.ClockAnswer.TheVariants.{Dead, MissingRoot, Unsolved, Pinned, Budget, OutOfMemory}
 use Rattle.sig_solve.specs.declared.frame.Frame.{Frame}
-use Rattle.sig_solve.proofs.ListLemmas.{contains_get, get_at, get_is, get_within, map_length, of_range}
+use Rattle.sig_solve.proofs.ListLemmas.{get_at, get_is, map_length, of_range}
 use Rattle.sig_solve.proofs.FrameLemmas.{leader_in}
 use Rattle.sig_solve.proofs.ReactionLemmas.{condition_is_boolean}
 
@@ -87,7 +83,7 @@ few_calls m c k le_c le_k =
     let e : (8 + 6 * suc m) * k ≤ (8 + 6 * suc m) * m = mul-le-mul_left (8 + 6 * suc m) le_k in
     let f : (2 + 3 * suc m) * c ≤ (2 + 3 * suc m) * suc m = mul-le-mul_left (2 + 3 * suc m) le_c in
     let total : (2 * c + 1) + (6 * c + 2) + (4 + 6 * suc m) * c * c + (8 + 6 * suc m) * k + (18 * k + (2 + 3 * suc m) * c)
-        ≤ (2 * suc m + 1) + (6 * suc m + 2) + (4 + 6 * suc m) * suc m * suc m + (8 + 6 * suc m) * m + (18 * m + (2 + 3 * suc m) * suc m) = sums le_c le_k b d e f in
+    ≤ (2 * suc m + 1) + (6 * suc m + 2) + (4 + 6 * suc m) * suc m * suc m + (8 + 6 * suc m) * m + (18 * m + (2 + 3 * suc m) * suc m) = sums le_c le_k b d e f in
     let bound = polynomial m in
     omega (arith, total, bound)
   where

@@ -1,18 +1,14 @@
 -- Lemmas on frames: their unknowns, leaders, and what stays as a store grows.
-use Rattle.std.proofs.Common.{◌≡◌, ◌<◌, ◌≤◌, ◌⊎◌, ◌↔◌, inl, inr, ℕ, Bool, true, false, eqb, List, [], ◌∷◌, ◌++◌, length, map, get_or, refl, sym, ap, ◌∙◌, subst, arith, Contains, IsTrue}
-use Rattle.std.specs.Prelude.{zero, suc, Option, None, Some, slice_get, filter}
+use Rattle.std.proofs.Common.{◌≡◌, ◌<◌, inl, inr, ℕ, eqb, List, length, map, get_or, sym, ap, ◌∙◌, subst, arith, Contains}
+use Rattle.std.specs.Prelude.{Some}
 use Rattle.std.specs.List.{range_with_len}
 use Rattle.std.proofs.lemmas.Bool.{eq-eqb, eqb-true}
-use Rattle.std.proofs.lemmas.List.{get_or_default}
 use Rattle.sig_kernel.specs.declared.kernel.Kernel.{Kernel}
-use Rattle.sig_clock.specs.SameClocks.{AreLeast, Equivalence, SameClock, given, itself, turned, joined}
-use Rattle.sig_dd.specs.Diagram.{Depends}
-use Rattle.sig_dd.specs.Nodes.{StoreView, Holds, Keeps, Spans, test}
-use Rattle.sig_dd.specs.declared.node.Ref.{Ref}
-use Rattle.sig_dd.specs.declared.node.Node.{Node}
-use Rattle.sig_dd.proofs.CallerLemmas.{Holds-kept, Spans-kept}
-use Rattle.sig_rel.specs.Relations.{AreUnknowns, IsRelation, IsUsed, RelationView}
-use Rattle.sig_solve.specs.Frames.{IsFrame, IsFrameIn, leaders_of, truths_among}
+use Rattle.sig_clock.specs.SameClocks.{AreLeast, itself, joined}
+use Rattle.sig_dd.specs.Nodes.{StoreView, Keeps}
+use Rattle.sig_dd.proofs.CallerLemmas.{Holds-kept}
+use Rattle.sig_rel.specs.Relations.{AreUnknowns, IsUsed}
+use Rattle.sig_solve.specs.Frames.{IsFrame, IsFrameIn, truths_among}
 use Rattle.sig_solve.specs.declared.frame.Frame.{Frame}
 use Rattle.sig_solve.proofs.ListLemmas.{get_at, get_is, in_append_left, in_append_right, in_filter, in_map, in_range, in_truths, of_append, of_filter, of_map, of_range, of_truths}
 use Rattle.sig_solve.proofs.StoreLemmas.{older_test}
@@ -85,6 +81,7 @@ frame_stays old new frame kept is = record {
     spans = λ v d. is.relation.spans v (d.0, λ e. d.1 (older_test old new kept frame.relation.whole is.relation.held _ ∙ e ∙ sym (older_test old new kept frame.relation.whole is.relation.held _)));
     reactions = λ ts. (
       (λ t. (is.relation.reactions ts).0 (sym (older_test old new kept frame.relation.whole is.relation.held ts) ∙ t)),
-      (λ r. older_test old new kept frame.relation.whole is.relation.held ts ∙ (is.relation.reactions ts).1 r));
+      (λ r. older_test old new kept frame.relation.whole is.relation.held ts ∙ (is.relation.reactions ts).1 r),
+    );
   };
 }

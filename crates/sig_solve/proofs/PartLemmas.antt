@@ -1,19 +1,18 @@
 -- Lemmas on parts of functions and on forgotten variables.
-use Rattle.std.proofs.Common.{◌≡◌, ◌<◌, ◌≤◌, ◌+◌, ◌*◌, ◌⊎◌, ◌||◌, ◌&&◌, ◌↔◌, inl, inr, ℕ, Bool, true, false, not, List, [], ◌∷◌, ◌++◌, length, take, get_or, refl, sym, ap, ◌∙◌, subst, arith, Contains, IsTrue, IfOk}
-use Rattle.std.specs.Prelude.{zero, suc, Option, None, Some, Result, Ok, Err}
+use Rattle.std.proofs.Common.{◌≡◌, ◌<◌, ◌+◌, ◌*◌, ◌||◌, ◌↔◌, inl, inr, ℕ, Bool, true, false, not, List, [], ◌∷◌, ◌++◌, length, take, get_or, refl, sym, ap, ◌∙◌, subst, arith, Contains, IsTrue, IfOk}
+use Rattle.std.specs.Prelude.{zero, suc, Option, None, Result, Ok, Err}
 use Rattle.std.proofs.lemmas.Bool.{false≢true}
-use Rattle.sig_dd.specs.Diagram.{truth_of, with_truth, Depends}
-use Rattle.sig_dd.specs.Nodes.{StoreView, Holds, IsRefOf, Keeps, Overlap, Spans, allowance, diagram, test}
-use Rattle.sig_dd.specs.Shares.{Share, Shares, SpanAll, HasAll, refusal}
+use Rattle.sig_dd.specs.Diagram.{truth_of, with_truth}
+use Rattle.sig_dd.specs.Nodes.{StoreView, Holds, IsRefOf, Keeps, Overlap, Spans, diagram, test}
+use Rattle.sig_dd.specs.Shares.{Share, Shares, HasAll}
 use Rattle.sig_dd.specs.declared.answer.DdAnswer.{DdAnswer}
 use Rattle.sig_dd.specs.declared.node.Ref.{Ref}
-use Rattle.sig_dd.specs.declared.node.Node.{Node}
-use Rattle.sig_dd.proofs.Adding.{Share-none, Share-then, Share-wider}
-use Rattle.sig_dd.proofs.CallerLemmas.{Agree-kept, Holds-kept, Spans-kept, Spans-of}
+use Rattle.sig_dd.proofs.Adding.{Share-then}
+use Rattle.sig_dd.proofs.CallerLemmas.{Spans-kept, Spans-of}
 use Rattle.sig_dd.proofs.Dependence.{forgotten, ref_depends, some_truth, truth_some, variable_depends}
 use Rattle.sig_dd.proofs.Trees.{value_at-same}
-use Rattle.sig_solve.specs.Parts.{AgreeOutside, Exceeds, IsForgotten, IsNarrowed, IsShadow, IsWhere}
-use Rattle.sig_solve.proofs.StoreLemmas.{more_calls, older_test}
+use Rattle.sig_solve.specs.Parts.{Exceeds, IsForgotten, IsNarrowed, IsShadow, IsWhere}
+use Rattle.sig_solve.proofs.StoreLemmas.{older_test}
 use Rattle.sig_solve.proofs.TruthLemmas.{contains_end, outside_fewer, outside_more, outside_none}
 
 module _ (old mid new : StoreView) (kept : Keeps old mid) (f g : Ref) (v : ℕ) (truth : Bool) (held : Holds old.nodes f) (is : IsRefOf mid.nodes (λ ts. truth_of ts v) g) where
@@ -22,9 +21,10 @@ module _ (old mid new : StoreView) (kept : Keeps old mid) (f g : Ref) (v : ℕ) 
     held = at.held;
     function = λ ts. (
       (λ t. let both = (at.function ts).0 t in (sym (older_test old mid kept f held ts) ∙ both.0, sym (is.function ts) ∙ both.1)),
-      (λ both. (at.function ts).1 (older_test old mid kept f held ts ∙ both.0, is.function ts ∙ both.1)));
+      (λ both. (at.function ts).1 (older_test old mid kept f held ts ∙ both.0, is.function ts ∙ both.1)),
+    );
     spans = λ vs spans has. at.spans vs (Spans-kept old mid kept f held vs spans)
-    (Spans-of mid.nodes (λ ts. truth_of ts v) g is vs (λ u d. subst (λ w. Contains vs w) (sym (variable_depends v u d)) has));
+        (Spans-of mid.nodes (λ ts. truth_of ts v) g is vs (λ u d. subst (λ w. Contains vs w) (sym (variable_depends v u d)) has));
   }
 
   pub narrowed_ok : (result : Result Ref DdAnswer) → IfOk result (IsWhere mid.nodes new.nodes f g truth) → IfOk result (IsNarrowed old.nodes new.nodes f v truth)
@@ -40,9 +40,10 @@ module _ (old mid new : StoreView) (kept : Keeps old mid) (f g : Ref) (v : ℕ) 
 pub exceeds_ok : (old mid : StoreView) → Keeps old mid → (f g rest : Ref) → Holds old.nodes f → IsRefOf mid.nodes (λ ts. not (test old.nodes g ts)) rest
     → (result : Result Bool DdAnswer) → IfOk result (λ holds. IsTrue holds ↔ Overlap mid.nodes f rest) → IfOk result (λ holds. IsTrue holds ↔ Exceeds old.nodes f g)
 exceeds_ok old mid kept f g rest held is (Err e) over = tt
-exceeds_ok old mid kept f g rest held is (Ok holds) over =
-    ((λ t. let w = over.0 t in (w.0, sym (older_test old mid kept f held w.0) ∙ w.1, not_true (test old.nodes g w.0) (sym (is.function w.0) ∙ w.2))),
-    (λ w. over.1 (w.0, older_test old mid kept f held w.0 ∙ w.1, is.function w.0 ∙ ap not w.2))) where
+exceeds_ok old mid kept f g rest held is (Ok holds) over = (
+  (λ t. let w = over.0 t in (w.0, sym (older_test old mid kept f held w.0) ∙ w.1, not_true (test old.nodes g w.0) (sym (is.function w.0) ∙ w.2))),
+  (λ w. over.1 (w.0, older_test old mid kept f held w.0 ∙ w.1, is.function w.0 ∙ ap not w.2)),
+) where
   not_true : (b : Bool) → not b ≡ true → b ≡ false
   not_true true e = absurd (false≢true e)
   not_true false e = refl
@@ -64,13 +65,14 @@ forgotten_more old mid new f g r xs v so_far is = record {
   held = is.holds;
   function = λ ts. (
     (λ t. let some = some_truth mid.nodes g v ts (sym (is.function ts) ∙ t) in
-    let w = (so_far.function (with_truth ts v some.0)).0 some.1 in
-    (w.0, outside_more xs v some.0 ts w.0 w.1, w.2)),
-    (λ w. is.function ts ∙ truth_some mid.nodes g v ts (truth_of w.0 v, (so_far.function (with_truth ts v (truth_of w.0 v))).1 (w.0, outside_fewer xs v ts w.0 w.1, w.2))));
+        let w = (so_far.function (with_truth ts v some.0)).0 some.1 in
+        (w.0, outside_more xs v some.0 ts w.0 w.1, w.2)),
+    (λ w. is.function ts ∙ truth_some mid.nodes g v ts (truth_of w.0 v, (so_far.function (with_truth ts v (truth_of w.0 v))).1 (w.0, outside_fewer xs v ts w.0 w.1, w.2))),
+  );
   depends = λ u d.
-  let parts = forgotten mid.nodes g v u (ref_depends new.nodes _ r is u d) in
-  let before = so_far.depends u parts.0 in
-  (before.0, λ there. elim (contains_end xs v u there) [ inl in_xs ↦ before.1 in_xs | inr e ↦ parts.1 e ]);
+      let parts = forgotten mid.nodes g v u (ref_depends new.nodes _ r is u d) in
+      let before = so_far.depends u parts.0 in
+      (before.0, λ there. elim (contains_end xs v u there) [ inl in_xs ↦ before.1 in_xs | inr e ↦ parts.1 e ]);
 }
 
 pub has_at : (vs xs : List ℕ) (k : ℕ) → HasAll vs xs → k < length xs → Contains vs (get_or xs k 0)
@@ -92,7 +94,8 @@ module _ (old mid new : StoreView) (f g : Ref) (v : ℕ) (truth : Bool) (forgott
     held = left.held;
     function = λ ts. (
       (λ t. let w = (left.function ts).0 t in let both = (part.function w.0).0 w.2 in (w.0, w.1, both.0, both.1)),
-      (λ w. (left.function ts).1 (w.0, w.1, (part.function w.0).1 (w.2, w.3))));
+      (λ w. (left.function ts).1 (w.0, w.1, (part.function w.0).1 (w.2, w.3))),
+    );
     spans = λ vs spans has u d. part.spans vs spans has u (left.depends u d).0;
     without = λ u d. (left.depends u d).1;
   }

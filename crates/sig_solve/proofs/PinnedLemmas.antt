@@ -1,34 +1,34 @@
 -- Lemmas on pinned conditions.
-use Rattle.std.proofs.Common.{◌≡◌, ◌≢◌, ◌<◌, ◌≤◌, ◌+◌, ◌*◌, ◌⊎◌, ◌↔◌, inl, inr, ℕ, Bool, true, false, not, List, [], ◌∷◌, length, length-take, get_or, take, refl, sym, ap, ◌∙◌, subst, arith, Contains, IsTrue, IfOk}
-use Rattle.std.specs.Prelude.{zero, suc, Option, None, Some, Result, Ok, Err, slice_get, is_some, if◌then◌else◌}
+use Rattle.std.proofs.Common.{◌≡◌, ◌<◌, ◌⊎◌, ◌↔◌, inl, inr, ℕ, Bool, true, false, List, [], ◌∷◌, length, length-take, get_or, take, refl, sym, ap, ◌∙◌, subst, arith, Contains, IsTrue, IfOk}
+use Rattle.std.specs.Prelude.{zero, suc, Option, None, Some, Result, Ok, Err, slice_get, if◌then◌else◌}
 use Rattle.std.proofs.lemmas.Bool.{cases_order, false≢true}
 use Rattle.sig_base.specs.declared.ids.SigId.{SigId}
 use Rattle.sig_kernel.specs.declared.kernel.Kernel.{Kernel}
 use Rattle.sig_clock.specs.Clocks.{AreInOrder}
 use Rattle.sig_clock.specs.Conditions.{is_condition, signal_id}
-use Rattle.sig_clock.specs.Layers.{AgreeOn, HasLayer, IsEarlier}
+use Rattle.sig_clock.specs.Layers.{IsEarlier}
 use Rattle.sig_clock.specs.Pinned.{IsFree, IsPinned}
 use Rattle.sig_clock.specs.Reactions.{Reaction, IsReaction, is_present, status_at}
 use Rattle.sig_clock.proofs.LayerLemmas.{one_layer}
 use Rattle.sig_dd.specs.Diagram.{truth_of}
-use Rattle.sig_dd.specs.Nodes.{StoreView, Holds, Keeps, Spans, test}
-use Rattle.sig_dd.specs.Shares.{Share, Shares, refusal}
+use Rattle.sig_dd.specs.Nodes.{StoreView, Holds, Keeps}
+use Rattle.sig_dd.specs.Shares.{Shares}
 use Rattle.sig_dd.specs.declared.answer.DdAnswer.{DdAnswer}
 use Rattle.sig_dd.specs.declared.node.Ref.{Ref}
 use Rattle.sig_dd.specs.declared.node.Node.{Node}
 use Rattle.sig_dd.proofs.Adding.{Share-then}
-use Rattle.sig_dd.proofs.CallerLemmas.{Holds-kept, Spans-kept}
+use Rattle.sig_dd.proofs.CallerLemmas.{Spans-kept}
 use Rattle.sig_rel.specs.Relations.{status_in}
 use Rattle.sig_solve.specs.Answers.{AreHalves, FindsPinned}
 use Rattle.sig_solve.specs.Frames.{IsAmong, IsFrameIn}
 use Rattle.sig_solve.specs.Orders.{IsFreeBy, IsPinnedAnswer, IsPinnedBy}
-use Rattle.sig_solve.specs.Parts.{Exceeds, IsNarrowed, IsShadow}
+use Rattle.sig_solve.specs.Parts.{Exceeds, IsShadow}
 use Rattle.sig_solve.specs.Sets.{AreKnown, IsImage, IsPart, reaction_of}
 use Rattle.sig_solve.specs.declared.frame.Frame.{Frame}
 use Rattle.sig_solve.specs.declared.known.Known.{Known}
 use Rattle.sig_solve.proofs.FrameLemmas.{unknown_in}
-use Rattle.sig_solve.proofs.ListLemmas.{contains_get, get_at, get_is, get_within}
-use Rattle.sig_solve.proofs.ReactionLemmas.{condition_is_signal, status_read}
+use Rattle.sig_solve.proofs.ListLemmas.{contains_get, get_at}
+use Rattle.sig_solve.proofs.ReactionLemmas.{status_read}
 use Rattle.sig_solve.proofs.RootLemmas.{in_present, in_truth, presence_of}
 use Rattle.sig_solve.proofs.SetLemmas.{exceeds_none, none_exceeds}
 use Rattle.sig_solve.proofs.StoreLemmas.{older_test}
@@ -44,8 +44,9 @@ pub differ_ok : (old mid : StoreView) (f g : Ref) → Keeps old mid → Holds ol
     → (result : Result Bool DdAnswer) → IfOk result (λ holds. IsTrue holds ↔ Exceeds mid.nodes g f) → IfOk result (λ holds. IsTrue holds ↔ (Exceeds old.nodes f g ⊎ Exceeds old.nodes g f))
 differ_ok old mid f g kept hf hg first none over (Err e) next = tt
 differ_ok old mid f g kept hf hg first none over (Ok holds) next = (
-    (λ t. inr (exceeds_before old mid g f kept hg hf (next.0 t))),
-    (λ either. elim either [ inl e ↦ absurd (false≢true (sym none ∙ over.1 e)) | inr e ↦ next.1 (exceeds_after old mid g f kept hg hf e) ]))
+  (λ t. inr (exceeds_before old mid g f kept hg hf (next.0 t))),
+  (λ either. elim either [ inl e ↦ absurd (false≢true (sym none ∙ over.1 e)) | inr e ↦ next.1 (exceeds_after old mid g f kept hg hf e) ]),
+)
 
 pub differ_first : (E F : Type 0) (first : Bool) → first ≡ true → IsTrue first ↔ E → (IsTrue true ↔ (E ⊎ F))
 differ_first E F first some over = ((λ t. inl (over.0 some)), (λ either. refl))
@@ -78,11 +79,12 @@ pub image_truth : (old new : List Node) (frame : Frame) (known : Known) (f r : R
 image_truth old new frame known f r s w t is lt truth part at = record {
   held = at.held;
   reactions = λ ts. (
-  (λ u. let a = (at.function ts).0 u in
-  let p = (part.reactions a.0).0 a.2 in
-  (a.0, a.1, (p.0, read a.0 ∙ some_status (truth_of a.0 (get_or frame.relation.present s 0)) (truth_of a.0 w) t (sym (presence_of old frame is a.0 s lt) ∙ p.1) a.3))),
-  (λ a. let both = status_some (truth_of a.0 (get_or frame.relation.present s 0)) (truth_of a.0 w) t (sym (read a.0) ∙ a.2.1) in
-  (at.function ts).1 (a.0, a.1, (part.reactions a.0).1 (a.2.0, presence_of old frame is a.0 s lt ∙ both.0), both.1)));
+    (λ u. let a = (at.function ts).0 u in
+        let p = (part.reactions a.0).0 a.2 in
+        (a.0, a.1, (p.0, read a.0 ∙ some_status (truth_of a.0 (get_or frame.relation.present s 0)) (truth_of a.0 w) t (sym (presence_of old frame is a.0 s lt) ∙ p.1) a.3))),
+    (λ a. let both = status_some (truth_of a.0 (get_or frame.relation.present s 0)) (truth_of a.0 w) t (sym (read a.0) ∙ a.2.1) in
+        (at.function ts).1 (a.0, a.1, (part.reactions a.0).1 (a.2.0, presence_of old frame is a.0 s lt ∙ both.0), both.1)),
+  );
 } where
   read : (ts : List Bool) → status_at (reaction_of frame ts) s ≡ (if truth_of ts (get_or frame.relation.present s 0) then Some (truth_of ts w) else None)
   read ts = status_read ts frame.relation.present frame.relation.truth s (in_present old frame is s lt) (in_truth old frame is s lt) ∙ ap (status_in ts (get_or frame.relation.present s 0)) truth
@@ -181,9 +183,10 @@ free_not_pinned kernel c free pinned = let at = free pinned.reaction pinned.trut
 
 pub first_pinned : (kernel : Kernel) (conditions : List SigId) (order : AreInOrder kernel conditions) (place : ℕ) (b : SigId) → slice_get conditions place ≡ Some b
     → ((k : ℕ) (c : SigId) → k < place → slice_get conditions k ≡ Some c → IsFree kernel c.0) → IsPinnedBy kernel (IsAmong (take place conditions)) b.0 → FindsPinned kernel conditions (Some b)
-first_pinned kernel conditions order place b at free by =
-    (pinned_is kernel conditions order place b at by,
-    λ other earlier pinned. let found = earlier_among kernel conditions order place b at other earlier in free_not_pinned kernel other (free found.0 (signal_id other) found.1 found.2) pinned)
+first_pinned kernel conditions order place b at free by = (
+  pinned_is kernel conditions order place b at by,
+  λ other earlier pinned. let found = earlier_among kernel conditions order place b at other earlier in free_not_pinned kernel other (free found.0 (signal_id other) found.1 found.2) pinned,
+)
 
 pub all_free : (kernel : Kernel) (conditions : List SigId) (order : AreInOrder kernel conditions) → ((k : ℕ) (c : SigId) → k < length conditions → slice_get conditions k ≡ Some c → IsFree kernel c.0) → FindsPinned kernel conditions None
 all_free kernel conditions order free c is =

@@ -1,18 +1,17 @@
 -- Lemmas on the reactions that keep to a proposal.
-use Rattle.std.proofs.Common.{◌≡◌, ◌≢◌, ◌<◌, ◌≤◌, ◌+◌, ◌*◌, ◌⊎◌, ◌↔◌, inl, inr, ℕ, Bool, true, false, not, cond, eqb, List, [], ◌∷◌, ◌++◌, length, length-take, map, get_or, take, refl, sym, ap, ◌∙◌, subst, arith, Contains, IsTrue}
-use Rattle.std.specs.Prelude.{zero, suc, Option, None, Some, slice_get, if◌then◌else◌}
+use Rattle.std.proofs.Common.{◌≡◌, ◌≢◌, ◌<◌, ◌≤◌, ◌+◌, ◌⊎◌, inl, inr, ℕ, Bool, true, cond, eqb, List, [], ◌∷◌, ◌++◌, length, length-take, map, get_or, take, refl, sym, ap, ◌∙◌, subst, arith, Contains}
+use Rattle.std.specs.Prelude.{Option, None, Some, slice_get, if◌then◌else◌}
 use Rattle.std.proofs.Math.Nat.{mul-le-mul_left}
-use Rattle.std.proofs.lemmas.Bool.{cases_eq, false≢true, eq-eqb, eqb-true}
+use Rattle.std.proofs.lemmas.Bool.{cases_eq, eq-eqb}
 use Rattle.std.proofs.lemmas.List.{length_push, map-append}
 use Rattle.sig_base.specs.declared.ids.SigId.{SigId}
-use Rattle.sig_kernel.specs.declared.kernel.Kernel.{Kernel}
 use Rattle.sig_clock.specs.ClockFunctions.{Allows, KeepsTo}
 use Rattle.sig_clock.specs.Clocks.{AreInOrder}
-use Rattle.sig_clock.specs.Conditions.{conditions_of, is_condition, signal_id}
-use Rattle.sig_clock.specs.Reactions.{Reaction, Status, Speaks, is_present, status_at}
+use Rattle.sig_clock.specs.Conditions.{conditions_of, is_condition}
+use Rattle.sig_clock.specs.Reactions.{Reaction, Speaks, status_at}
 use Rattle.sig_clock.proofs.Lists.{contains_cons, contains_head, contains_later, contains_none}
-use Rattle.sig_dd.specs.Diagram.{Depends, truth_of, with_truth}
-use Rattle.sig_dd.specs.Nodes.{StoreView, Holds, Keeps, Spans, diagram, test}
+use Rattle.sig_dd.specs.Diagram.{truth_of, with_truth}
+use Rattle.sig_dd.specs.Nodes.{StoreView, Holds, Spans, diagram}
 use Rattle.sig_dd.specs.Shares.{Share}
 use Rattle.sig_dd.specs.declared.answer.DdAnswer.{DdAnswer}
 use Rattle.sig_dd.proofs.Adding.{Share-wider}
@@ -26,8 +25,7 @@ use Rattle.sig_solve.specs.Guards.{IsProposed, IsSubstituted, IsWide, replaced, 
 use Rattle.sig_solve.specs.Parts.{AgreeOutside}
 use Rattle.sig_solve.specs.Sets.{IsPart, reaction_of}
 use Rattle.sig_solve.specs.declared.frame.Frame.{Frame}
-use Rattle.sig_solve.proofs.FrameLemmas.{unknown_in, unknown_used}
-use Rattle.sig_solve.proofs.ListLemmas.{apart-eqb, contains_get, get_at, get_beyond, get_first, get_is, get_last, get_within, in_map, map_length, of_map, take_next, truths_more}
+use Rattle.sig_solve.proofs.ListLemmas.{apart-eqb, contains_get, get_at, get_beyond, get_first, get_last, get_within, in_map, map_length, of_map, take_next, truths_more}
 use Rattle.sig_solve.proofs.PinnedLemmas.{get_take, not_both, truth_unknown}
 use Rattle.sig_solve.proofs.ReactionLemmas.{condition_is_signal, status_read}
 use Rattle.sig_solve.proofs.RootLemmas.{in_present, in_truth, presence_unknown}
@@ -55,15 +53,16 @@ pub proposed_none : (nodes : List Node) (frame : Frame) (f : Ref) → IsPart nod
 proposed_none nodes frame f part = record {
   held = part.held;
   function = λ ts. (
-  (λ t. (ts, (λ v out. refl), (part.reactions ts).0 t, (λ v c is. absurd (let e : None ≡ Some c = is in cc)))),
-  (λ w. value_at-same (diagram nodes f) ts w.0 (λ u. w.1 u (λ none. contains_none u none)) ∙ (part.reactions w.0).1 w.2));
+    (λ t. (ts, (λ v out. refl), (part.reactions ts).0 t, (λ v c is. absurd (let e : None ≡ Some c = is in cc)))),
+    (λ w. value_at-same (diagram nodes f) ts w.0 (λ u. w.1 u (λ none. contains_none u none)) ∙ (part.reactions w.0).1 w.2),
+  );
 }
 
 pub wide_none : (nodes : List Node) (frame : Frame) (f : Ref) → Spans nodes f frame.unknowns.items → IsWide nodes frame [] f frame.unknowns.items
 wide_none nodes frame f spans = record { count = refl; spans = spans; within = λ u there. inr (there, contains_none u); has = λ u there out. there }
 
 module _ (s0 s1 : List Node) (frame : Frame) (is : IsFrameIn s0 frame) (conditions : List SigId) (order : AreInOrder frame.kernel.now conditions) (few : length conditions ≤ length (conditions_of frame.kernel.now))
-  (j : ℕ) (c : SigId) (t : ℕ) (at : slice_get conditions j ≡ Some c) (truth : get_or frame.relation.truth c.0 None ≡ Some t) where
+    (j : ℕ) (c : SigId) (t : ℕ) (at : slice_get conditions j ≡ Some c) (truth : get_or frame.relation.truth c.0 None ≡ Some t) where
   is_c : is_condition frame.kernel.now c.0 ≡ true
   is_c = (order.all c).0 (contains_get conditions j c at)
 
@@ -125,33 +124,41 @@ module _ (s0 s1 : List Node) (frame : Frame) (is : IsFrameIn s0 frame) (conditio
   ]
 
   keeps_fewer : (ts : List Bool) (own : Bool) (reaction : Reaction) → KeepsTo (take j conditions ++ c ∷ []) ts reaction → KeepsTo (take j conditions) (with_truth ts t own) reaction × Allows (status_at reaction c.0) (truth_of ts j)
-  keeps_fewer ts own reaction keeps =
-      ((λ v d get.
-      let lt = get_within (take j conditions) v d get in
-      let below : v < length conditions = (let within = j_within in omega (arith, lt, length_done, within)) in
-      subst (λ b. Allows (status_at reaction d.0) b) (sym (truth_of-with_other ts t own v (variable_apart v below))) (keeps v d (get_first (take j conditions) (c ∷ []) v lt ∙ get))),
-      subst (λ k. Allows (status_at reaction c.0) (truth_of ts k)) length_done (keeps (length (take j conditions)) c (get_last (take j conditions) c)))
+  keeps_fewer ts own reaction keeps = (
+    (λ v d get.
+        let lt = get_within (take j conditions) v d get in
+        let below : v < length conditions = (let within = j_within in omega (arith, lt, length_done, within)) in
+        subst (λ b. Allows (status_at reaction d.0) b) (sym (truth_of-with_other ts t own v (variable_apart v below))) (keeps v d (get_first (take j conditions) (c ∷ []) v lt ∙ get))),
+    subst (λ k. Allows (status_at reaction c.0) (truth_of ts k)) length_done (keeps (length (take j conditions)) c (get_last (take j conditions) c)),
+  )
 
   proposed_next : (f r : Ref) → IsProposed s0 frame (take j conditions) f → IsSubstituted s0 s1 f (get_or frame.relation.present c.0 0) t j r → IsProposed s1 frame (take j conditions ++ c ∷ []) r
   proposed_next f r proposed sub = record {
     held = sub.held;
     function = λ ts. (
-    (λ u.
-    let w = (sub.function ts).0 u in
-    let o = (proposed.function (with_truth ts t w.0)).0 w.1 in
-    let same_p = sym (truth_of-with_other ts t w.0 p p_apart) ∙ o.1 p p_untold in
-    let same_t = sym (truth_of-with_same ts t w.0) ∙ o.1 t t_untold in
-    (o.0, subst (λ xs. AgreeOutside xs ts o.0) (sym told) (outside_more (truths_told frame.relation (take j conditions)) t w.0 ts o.0 o.1), o.2,
-    keeps_more ts w.0 (reaction_of frame o.0) o.3
-    (subst (λ s. Allows s (truth_of ts j)) (ap (λ b. if b then Some w.0 else None) same_p ∙ ap (λ b. if truth_of o.0 p then Some b else None) same_t ∙ sym (status_of_c o.0)) w.2))),
-    (λ o.
-    let out = subst (λ xs. AgreeOutside xs ts o.0) told o.1 in
-    let own = truth_of o.0 t in
-    let both = keeps_fewer ts own (reaction_of frame o.0) o.3 in
-    let fewer = outside_fewer (truths_told frame.relation (take j conditions)) t ts o.0 out in
-    let same_p = sym (truth_of-with_other ts t own p p_apart) ∙ fewer p p_untold in
-    (sub.function ts).1 (own, (proposed.function (with_truth ts t own)).1 (o.0, fewer, o.2, both.0),
-    subst (λ s. Allows s (truth_of ts j)) (status_of_c o.0 ∙ sym (ap (λ b. if b then Some own else None) same_p)) both.1)));
+      (λ u.
+          let w = (sub.function ts).0 u in
+          let o = (proposed.function (with_truth ts t w.0)).0 w.1 in
+          let same_p = sym (truth_of-with_other ts t w.0 p p_apart) ∙ o.1 p p_untold in
+          let same_t = sym (truth_of-with_same ts t w.0) ∙ o.1 t t_untold in (
+            o.0,
+            subst (λ xs. AgreeOutside xs ts o.0) (sym told) (outside_more (truths_told frame.relation (take j conditions)) t w.0 ts o.0 o.1),
+            o.2,
+            keeps_more ts w.0 (reaction_of frame o.0) o.3
+                (subst (λ s. Allows s (truth_of ts j)) (ap (λ b. if b then Some w.0 else None) same_p ∙ ap (λ b. if truth_of o.0 p then Some b else None) same_t ∙ sym (status_of_c o.0)) w.2),
+          )),
+      (λ o.
+          let out = subst (λ xs. AgreeOutside xs ts o.0) told o.1 in
+          let own = truth_of o.0 t in
+          let both = keeps_fewer ts own (reaction_of frame o.0) o.3 in
+          let fewer = outside_fewer (truths_told frame.relation (take j conditions)) t ts o.0 out in
+          let same_p = sym (truth_of-with_other ts t own p p_apart) ∙ fewer p p_untold in
+          (sub.function ts).1 (
+            own,
+            (proposed.function (with_truth ts t own)).1 (o.0, fewer, o.2, both.0),
+            subst (λ s. Allows s (truth_of ts j)) (status_of_c o.0 ∙ sym (ap (λ b. if b then Some own else None) same_p)) both.1,
+          )),
+    );
   } where
     p : ℕ
     p = get_or frame.relation.present c.0 0
@@ -165,9 +172,9 @@ module _ (s0 s1 : List Node) (frame : Frame) (is : IsFrameIn s0 frame) (conditio
     spans = sub.spans vs wide.spans has_p has_t;
     within = λ u there. let from = of_map (λ u. if eqb u t then j else u) vs u there in by_within u from.0 from.1 from.2 (cases_eq from.0 t);
     has = λ u there out.
-    let ne : u ≢ t = λ e. out (subst (λ xs. Contains xs u) (sym told) (subst (λ w. Contains (truths_told frame.relation (take j conditions) ++ t ∷ []) w) (sym e) (contains_last (truths_told frame.relation (take j conditions)) t))) in
-    subst (λ w. Contains (replaced t j vs) w) (ap (λ b. cond b j u) (apart-eqb u t ne))
-    (in_map (λ u. if eqb u t then j else u) vs u (wide.has u there (λ before. out (subst (λ xs. Contains xs u) (sym told) (contains_before (truths_told frame.relation (take j conditions)) t u before)))));
+        let ne : u ≢ t = λ e. out (subst (λ xs. Contains xs u) (sym told) (subst (λ w. Contains (truths_told frame.relation (take j conditions) ++ t ∷ []) w) (sym e) (contains_last (truths_told frame.relation (take j conditions)) t))) in
+        subst (λ w. Contains (replaced t j vs) w) (ap (λ b. cond b j u) (apart-eqb u t ne))
+        (in_map (λ u. if eqb u t then j else u) vs u (wide.has u there (λ before. out (subst (λ xs. Contains xs u) (sym told) (contains_before (truths_told frame.relation (take j conditions)) t u before)))));
   } where
     told : truths_told frame.relation (take j conditions ++ c ∷ []) ≡ truths_told frame.relation (take j conditions) ++ t ∷ []
     told = told_more frame.relation (take j conditions) c t truth
@@ -189,11 +196,13 @@ module _ (s0 s1 : List Node) (frame : Frame) (is : IsFrameIn s0 frame) (conditio
         let own : u ≡ x = is_u ∙ ap (λ b. cond b j x) (apart-eqb x t ne) in
         elim (wide.within x there) [
           | inl lt ↦ inl (omega (arith, own, lt, more, length_done))
-          | inr both ↦ inr (subst (λ w. Contains frame.unknowns.items w) (sym own) both.0,
+          | inr both ↦ inr (
+            subst (λ w. Contains frame.unknowns.items w) (sym own) both.0,
             λ later. elim (contains_end (truths_told frame.relation (take j conditions)) t u (subst (λ xs. Contains xs u) told later)) [
               | inl before ↦ both.1 (subst (λ w. Contains (truths_told frame.relation (take j conditions)) w) own before)
               | inr same ↦ ne (sym own ∙ same)
-            ])
+            ],
+          )
         ]
 
   pub has_both : (f : Ref) (vs : List ℕ) → IsWide s0 frame (take j conditions) f vs → Contains vs (get_or frame.relation.present c.0 0) × Contains vs t

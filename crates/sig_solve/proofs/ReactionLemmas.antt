@@ -1,6 +1,6 @@
 -- Lemmas on the reactions that truths of the unknowns are.
-use Rattle.std.proofs.Common.{◌≡◌, ◌≢◌, ◌<◌, ◌≤◌, ◌+◌, ◌⊎◌, ◌↔◌, inl, inr, ℕ, Bool, true, false, not, cond, eqb, List, [], ◌∷◌, length, get_or, refl, sym, ap, ◌∙◌, subst, arith, Contains, IsTrue}
-use Rattle.std.specs.Prelude.{zero, suc, Option, None, Some, is_some, slice_get, ◌||◌, ◌&&◌, if◌then◌else◌}
+use Rattle.std.proofs.Common.{◌≡◌, ◌<◌, ◌⊎◌, inl, inr, ℕ, Bool, true, false, not, List, [], ◌∷◌, length, get_or, refl, sym, ap, ◌∙◌, subst, arith, Contains}
+use Rattle.std.specs.Prelude.{zero, suc, Option, None, Some, is_some, slice_get, ◌||◌, if◌then◌else◌}
 use Rattle.std.specs.List.{list_any}
 use Rattle.std.proofs.lemmas.Bool.{and_parts, eq-eqb, eqb-true, false≢true}
 use Rattle.sig_base.specs.declared.ids.SigId.{SigId}
@@ -9,7 +9,7 @@ use Rattle.sig_kernel.specs.Table.{kind_at, kind_of}
 use Rattle.sig_kernel.specs.declared.kernel.Kernel.{Kernel}
 use Rattle.sig_clock.specs.Conditions.{is_condition, is_free, signal_id}
 use Rattle.sig_clock.specs.Layers.{AgreeOn}
-use Rattle.sig_clock.specs.Reactions.{Reaction, Status, IsReaction, is_boolean_kind, is_present, is_silent, status_at}
+use Rattle.sig_clock.specs.Reactions.{is_boolean_kind, is_present, status_at}
 use Rattle.sig_dd.specs.Diagram.{truth_of}
 use Rattle.sig_rel.specs.Relations.{AreUnknowns, IsUsed, RelationView, reaction_in, status_in, truth_in}
 use Rattle.sig_solve.specs.Frames.{IsAmong, is_variable, others_of, tells}
@@ -91,7 +91,7 @@ where_same true false x y same value = absurd (false≢true (sym same))
 where_same false true x y same value = absurd (false≢true same)
 
 module _ (kernel : Kernel) (count : ℕ) (relation : RelationView) (unknowns : List ℕ) (known : List SigId) (are : AreUnknowns kernel count relation.present relation.truth)
-  (all : (v : ℕ) → IsUsed relation.present relation.truth v → Contains unknowns v) (conditions : (c : SigId) → Contains known c → is_condition kernel c.0 ≡ true) where
+    (all : (v : ℕ) → IsUsed relation.present relation.truth v → Contains unknowns v) (conditions : (c : SigId) → Contains known c → is_condition kernel c.0 ≡ true) where
   in_present : (s : ℕ) → s < length kernel.signals → s < length relation.present
   in_present s lt = omega (arith, lt, are.presences)
 
@@ -164,9 +164,9 @@ module _ (kernel : Kernel) (count : ℕ) (relation : RelationView) (unknowns : L
     same_status_lifted s lt =
         where_same (truth_of (lifted a b) (get_or relation.present s 0)) (truth_of b (get_or relation.present s 0)) (truth_in (lifted a b) (get_or relation.truth s None)) (truth_in b (get_or relation.truth s None))
         (same_presence s (get_or relation.present s 0) lt refl) (λ there. truth_same (get_or relation.truth s None) refl there) where
-      truth_same : (t : Option ℕ) → get_or relation.truth s None ≡ t → truth_of b (get_or relation.present s 0) ≡ true → truth_in (mixed (others_of relation unknowns known) b a) t ≡ truth_in b t
-      truth_same None is there = refl
-      truth_same (Some w) is there = same_truth_where s w lt is there
+          truth_same : (t : Option ℕ) → get_or relation.truth s None ≡ t → truth_of b (get_or relation.present s 0) ≡ true → truth_in (mixed (others_of relation unknowns known) b a) t ≡ truth_in b t
+          truth_same None is there = refl
+          truth_same (Some w) is there = same_truth_where s w lt is there
 
     -- some truths are the second reaction, and differ from the first truths in no unknown that is not forgotten
     pub lift : (at : List Bool) × AgreeOutside (others_of relation unknowns known) a at × (reaction_in at relation.present relation.truth ≡ reaction_in b relation.present relation.truth)
@@ -177,9 +177,9 @@ module _ (kernel : Kernel) (count : ℕ) (relation : RelationView) (unknowns : L
       let fails = (of_filter (λ u. not (list_any (tells relation u) known)) unknowns v out).1 in
       let holds = is_any (tells relation v) known (signal_id c) there (by is) in
       false≢true (sym (ap not holds) ∙ fails) where
-    by : (get_or relation.present c 0 ≡ v) ⊎ (get_or relation.truth c None ≡ Some v) → tells relation v (signal_id c) ≡ true
-    by (inl e) = ap (λ o. is_variable v o || is_variable v (get_or relation.truth c None)) (present_is c lt ∙ ap Some e) ∙ ap (λ b. b || is_variable v (get_or relation.truth c None)) (eq-eqb v v refl)
-    by (inr e) = ap (λ o. is_variable v (slice_get relation.present c) || is_variable v o) e ∙ ap (λ b. is_variable v (slice_get relation.present c) || b) (eq-eqb v v refl) ∙ or_true (is_variable v (slice_get relation.present c))
+        by : (get_or relation.present c 0 ≡ v) ⊎ (get_or relation.truth c None ≡ Some v) → tells relation v (signal_id c) ≡ true
+        by (inl e) = ap (λ o. is_variable v o || is_variable v (get_or relation.truth c None)) (present_is c lt ∙ ap Some e) ∙ ap (λ b. b || is_variable v (get_or relation.truth c None)) (eq-eqb v v refl)
+        by (inr e) = ap (λ o. is_variable v (slice_get relation.present c) || is_variable v o) e ∙ ap (λ b. is_variable v (slice_get relation.present c) || b) (eq-eqb v v refl) ∙ or_true (is_variable v (slice_get relation.present c))
 
   -- truths that differ in no unknown that is not forgotten agree on the conditions
   pub agree_known : (a b : List Bool) → AgreeOutside (others_of relation unknowns known) a b → AgreeOn kernel (IsAmong known) (reaction_in a relation.present relation.truth) (reaction_in b relation.present relation.truth)
@@ -189,6 +189,6 @@ module _ (kernel : Kernel) (count : ℕ) (relation : RelationView) (unknowns : L
       ∙ where_same (truth_of a (get_or relation.present c 0)) (truth_of b (get_or relation.present c 0)) (truth_in a (get_or relation.truth c None)) (truth_in b (get_or relation.truth c None))
       (agree (get_or relation.present c 0) (λ out. known_kept c (get_or relation.present c 0) lt there out (inl refl))) (λ here. truth_same (get_or relation.truth c None) refl)
       ∙ sym (status_read b relation.present relation.truth c (in_present c lt) (in_truth c lt)) where
-    truth_same : (t : Option ℕ) → get_or relation.truth c None ≡ t → truth_in a t ≡ truth_in b t
-    truth_same None e = refl
-    truth_same (Some w) e = agree w (λ out. known_kept c w (condition_is_signal kernel c is) there out (inr e))
+        truth_same : (t : Option ℕ) → get_or relation.truth c None ≡ t → truth_in a t ≡ truth_in b t
+        truth_same None e = refl
+        truth_same (Some w) e = agree w (λ out. known_kept c w (condition_is_signal kernel c is) there out (inr e))

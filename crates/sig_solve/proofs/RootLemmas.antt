@@ -1,16 +1,16 @@
 -- Lemmas on silent reactions, roots, and signals that are met in a part.
-use Rattle.std.proofs.Common.{◌≡◌, ◌≢◌, ◌<◌, ◌≤◌, ◌+◌, ◌⊎◌, ◌↔◌, inl, inr, ℕ, Bool, true, false, not, eqb, List, [], ◌∷◌, ◌++◌, length, map, get_or, take, refl, sym, ap, ◌∙◌, subst, arith, Contains, IsTrue, IfOk}
-use Rattle.std.specs.Prelude.{zero, suc, Option, None, Some, Result, Ok, Err, slice_get, is_some, ◌&&◌, filter}
-use Rattle.std.specs.List.{AllPairs, list_all, range_with_len}
+use Rattle.std.proofs.Common.{◌≡◌, ◌<◌, ◌≤◌, ◌+◌, ◌⊎◌, ◌↔◌, inl, inr, ℕ, Bool, true, false, not, eqb, List, [], ◌∷◌, ◌++◌, length, get_or, take, refl, sym, ap, ◌∙◌, subst, arith, Contains, IsTrue, IfOk}
+use Rattle.std.specs.Prelude.{zero, suc, None, Some, Result, Ok, Err, is_some, ◌&&◌}
+use Rattle.std.specs.List.{AllPairs, range_with_len}
 use Rattle.std.proofs.lemmas.Bool.{cases_eq, cases_lt, false≢true}
 use Rattle.std.proofs.lemmas.List.{get_or_default, take_more}
 use Rattle.std.proofs.lemmas.List.Kept.{AllPairs-filter}
 use Rattle.std.proofs.lemmas.List.FromFn.{get_or-range_with_len, length-range_with_len}
 use Rattle.sig_kernel.specs.declared.kernel.Kernel.{Kernel}
 use Rattle.sig_clock.specs.SameClocks.{itself}
-use Rattle.sig_clock.specs.ClockRefusals.{IsAlive, IsLeast, IsMissingRoot, IsPossible, IsPossibleWithout}
-use Rattle.sig_clock.specs.Layers.{IsRoot, IsSignal}
-use Rattle.sig_clock.specs.Reactions.{Reaction, IsReaction, Speaks, is_present, is_silent, status_at}
+use Rattle.sig_clock.specs.ClockRefusals.{IsLeast, IsMissingRoot}
+use Rattle.sig_clock.specs.Layers.{IsRoot}
+use Rattle.sig_clock.specs.Reactions.{Reaction, IsReaction, Speaks, is_present, is_silent}
 use Rattle.sig_clock.proofs.ReactionLemmas.{absent_in_silence}
 use Rattle.sig_dd.specs.Diagram.{truth_of}
 use Rattle.sig_dd.specs.Nodes.{StoreView, Holds, Keeps, Overlap, Spans, test}
@@ -18,13 +18,13 @@ use Rattle.sig_dd.specs.declared.answer.DdAnswer.{DdAnswer}
 use Rattle.sig_dd.specs.declared.node.Ref.{Ref}
 use Rattle.sig_dd.specs.declared.node.Node.{Node}
 use Rattle.sig_solve.specs.Absences.{LacksAll}
-use Rattle.sig_solve.specs.Answers.{FindsRoot, IsMet, IsMetAnswer, IsSomewhereAbsent, SomeIsMet}
+use Rattle.sig_solve.specs.Answers.{IsMet, IsMetAnswer, IsSomewhereAbsent, SomeIsMet}
 use Rattle.sig_solve.specs.Frames.{IsFrameIn, leaders_of}
 use Rattle.sig_solve.specs.Parts.{IsNarrowed, IsWhere}
-use Rattle.sig_solve.specs.Sets.{IsPart, IsReady, reaction_of}
+use Rattle.sig_solve.specs.Sets.{IsPart, reaction_of}
 use Rattle.sig_solve.specs.declared.frame.Frame.{Frame}
 use Rattle.sig_solve.proofs.FrameLemmas.{leader_in, leader_is, leader_present, least_below, unknown_in}
-use Rattle.sig_solve.proofs.ListLemmas.{get_at, get_is}
+use Rattle.sig_solve.proofs.ListLemmas.{get_at}
 use Rattle.sig_solve.proofs.ReactionLemmas.{presence_read, reaction_length}
 use Rattle.sig_solve.proofs.SetLemmas.{part_present, part_same}
 use Rattle.sig_solve.proofs.StoreLemmas.{older_test}
@@ -103,7 +103,8 @@ module _ (nodes : List Node) (frame : Frame) (is : IsFrameIn nodes frame) where
   lacks_more : (xs : List ℕ) (s : ℕ) (reaction : Reaction) → (LacksAll frame.kernel.now xs reaction × (is_present reaction s ≡ false)) ↔ LacksAll frame.kernel.now (xs ++ s ∷ []) reaction
   lacks_more xs s reaction = (
     (λ both. record { is = both.0.is; lacks = λ k there. elim (contains_end xs s k there) [ inl before ↦ both.0.lacks k before | inr e ↦ ap (is_present reaction) e ∙ both.1 ] }),
-    (λ all. (record { is = all.is; lacks = λ k there. all.lacks k (contains_before xs s k there) }, all.lacks s (contains_last xs s))))
+    (λ all. (record { is = all.is; lacks = λ k there. all.lacks k (contains_before xs s k there) }, all.lacks s (contains_last xs s))),
+  )
 
   pub one_more_lacks : (new : List Node) (leaders : List ℕ) (k p : ℕ) (f r : Ref) → leaders ≡ frame.leaders.items → k < length leaders → p ≡ get_or frame.relation.present (get_or leaders k 0) 0
       → IsPart nodes frame (LacksAll frame.kernel.now (take k leaders)) f → IsNarrowed nodes new f p false r → IsPart new frame (LacksAll frame.kernel.now (take (k + 1) leaders)) r
@@ -118,12 +119,16 @@ module _ (nodes : List Node) (frame : Frame) (is : IsFrameIn nodes frame) where
   -- a reaction that lacks all leaders is silent
   lacks_silent : (ts : List Bool) → LacksAll frame.kernel.now frame.leaders.items (reaction_of frame ts) ↔ (IsReaction frame.kernel.now (reaction_of frame ts) × (is_silent (reaction_of frame ts) ≡ true))
   lacks_silent ts = (
-    (λ all. (all.is, all_absent (reaction_of frame ts) (λ s lt.
-    let below : s < length frame.kernel.now.signals = omega (arith, lt, reaction_count ts) in
-    let lead = get_or frame.least.items s 0 in
-    let lead_below = least_below frame.kernel.now frame.least.items is.parts.least s below in
-    presence_of nodes frame is ts s below ∙ sym (presence_of_leader nodes frame is ts s below) ∙ sym (presence_of nodes frame is ts lead lead_below) ∙ all.lacks lead (leader_in frame is.parts s below)))),
-    (λ both. record { is = both.0; lacks = λ s there. ap is_some (absent_in_silence (reaction_of frame ts) s both.1) }))
+    (λ all. (
+      all.is,
+      all_absent (reaction_of frame ts) (λ s lt.
+          let below : s < length frame.kernel.now.signals = omega (arith, lt, reaction_count ts) in
+          let lead = get_or frame.least.items s 0 in
+          let lead_below = least_below frame.kernel.now frame.least.items is.parts.least s below in
+          presence_of nodes frame is ts s below ∙ sym (presence_of_leader nodes frame is ts s below) ∙ sym (presence_of nodes frame is ts lead lead_below) ∙ all.lacks lead (leader_in frame is.parts s below)),
+    )),
+    (λ both. record { is = both.0; lacks = λ s there. ap is_some (absent_in_silence (reaction_of frame ts) s both.1) }),
+  )
 
   pub silent_part : (leaders : List ℕ) (f : Ref) → leaders ≡ frame.leaders.items → IsPart nodes frame (LacksAll frame.kernel.now leaders) f
       → IsPart nodes frame (λ reaction. IsReaction frame.kernel.now reaction × (is_silent reaction ≡ true)) f
@@ -138,9 +143,10 @@ module _ (nodes : List Node) (frame : Frame) (is : IsFrameIn nodes frame) where
     spans = at.spans frame.unknowns.items (λ v d. unknown_in frame is.parts is.count is.relation.unknowns v (is.relation.spans v d)) part.spans;
     reactions = λ ts. (
       (λ t. let both = (at.function ts).0 t in
-      let possible = (is.relation.reactions ts).0 both.0 in
-      record { is = possible; some = loud ts possible both.1 (bool_cases (is_silent (reaction_of frame ts))) }),
-      (λ speaks. (at.function ts).1 ((is.relation.reactions ts).1 speaks.is, quiet ts speaks (bool_cases (test nodes silent ts)))));
+          let possible = (is.relation.reactions ts).0 both.0 in
+          record { is = possible; some = loud ts possible both.1 (bool_cases (is_silent (reaction_of frame ts))) }),
+      (λ speaks. (at.function ts).1 ((is.relation.reactions ts).1 speaks.is, quiet ts speaks (bool_cases (test nodes silent ts)))),
+    );
   } where
     loud : (ts : List Bool) → IsReaction frame.kernel.now (reaction_of frame ts) → test nodes silent ts ≡ false → ((is_silent (reaction_of frame ts) ≡ true) ⊎ (is_silent (reaction_of frame ts) ≡ false)) → is_silent (reaction_of frame ts) ≡ false
     loud ts possible not (inl e) = absurd (false≢true (sym not ∙ (part.reactions ts).1 (possible, e)))
@@ -161,8 +167,12 @@ module _ (nodes : List Node) (frame : Frame) (is : IsFrameIn nodes frame) where
       by reaction speaks (inl e) = e
       by reaction speaks (inr e) =
           let ts = is.every reaction speaks.is in
-          absurd (not (record { is = lt; truths = ts.0; within = (part.reactions ts.0).1 (subst (λ r. Speaks frame.kernel.now r) (sym ts.1) speaks);
-            at = sym (presence_of nodes frame is ts.0 s lt) ∙ ap (λ r. is_present r s) ts.1 ∙ e }))
+          absurd (not (record {
+            is = lt;
+            truths = ts.0;
+            within = (part.reactions ts.0).1 (subst (λ r. Speaks frame.kernel.now r) (sym ts.1) speaks);
+            at = sym (presence_of nodes frame is ts.0 s lt) ∙ ap (λ r. is_present r s) ts.1 ∙ e;
+          }))
 
   -- a signal is met where its leader is
   pub met_leader : (part : Ref) (present : Bool) (s : ℕ) → IsMet nodes frame part present s → IsMet nodes frame part present (get_or frame.least.items s 0)
@@ -206,9 +216,12 @@ none_root nodes frame is leaders same none s lt =
     let at = subst (λ (xs : List ℕ). Contains xs (get_or frame.least.items s 0)) (sym same) (leader_in frame is.parts s lt) in
     let lead : get_or leaders at.0 0 ≡ get_or frame.least.items s 0 = sym (get_or_default leaders at.0 (get_or frame.least.items s 0) 0 at.1) ∙ at.2 in
     let absent = subst (λ k. IsSomewhereAbsent frame.kernel.now k) lead (none at.0 at.1) in
-    let ts = is.every absent.0 absent.1.is in
-    (absent.0, absent.1, ap (λ r. is_present r s) (sym ts.1) ∙ presence_of nodes frame is ts.0 s lt ∙ sym (presence_of_leader nodes frame is ts.0 s lt)
-    ∙ sym (presence_of nodes frame is ts.0 (get_or frame.least.items s 0) (least_below frame.kernel.now frame.least.items is.parts.least s lt)) ∙ ap (λ r. is_present r (get_or frame.least.items s 0)) ts.1 ∙ absent.2)
+    let ts = is.every absent.0 absent.1.is in (
+      absent.0,
+      absent.1,
+      ap (λ r. is_present r s) (sym ts.1) ∙ presence_of nodes frame is ts.0 s lt ∙ sym (presence_of_leader nodes frame is ts.0 s lt)
+          ∙ sym (presence_of nodes frame is ts.0 (get_or frame.least.items s 0) (least_below frame.kernel.now frame.least.items is.parts.least s lt)) ∙ ap (λ r. is_present r (get_or frame.least.items s 0)) ts.1 ∙ absent.2,
+    )
 
 -- the first leader that is met is the first signal
 pub first_is_least : (nodes : List Node) (frame : Frame) (is : IsFrameIn nodes frame) (part : Ref) (leaders : List ℕ) (k : ℕ) → leaders ≡ frame.leaders.items → k < length leaders

@@ -1,7 +1,6 @@
 -- Lemmas on rounds.
-use Rattle.std.proofs.Common.{◌≡◌, ◌≢◌, ◌<◌, ◌≤◌, ◌+◌, ◌⊎◌, ◌↔◌, inl, inr, ℕ, Bool, true, false, eqb, count_by, List, [], ◌∷◌, ◌++◌, length, get_or, set, drop, drop-cons, replicate, filter, refl, sym, ap, ◌∙◌, subst, arith, Contains, get_or-set_same, get_or-set_other}
-use Rattle.std.specs.Prelude.{zero, suc, Option, None, Some}
-use Rattle.std.specs.List.{AllPairs}
+use Rattle.std.proofs.Common.{◌≡◌, ◌≢◌, ◌<◌, ◌≤◌, ◌+◌, ◌⊎◌, inl, inr, ℕ, Bool, true, eqb, count_by, List, [], ◌∷◌, ◌++◌, length, get_or, set, drop, drop-cons, replicate, filter, sym, ap, ◌∙◌, subst, arith, Contains, get_or-set_same, get_or-set_other}
+use Rattle.std.specs.Prelude.{zero, suc}
 use Rattle.std.proofs.Math.ListN.{length-set}
 use Rattle.std.proofs.lemmas.Bool.{cases_eq, cases_lt, lt-ltb, ltb-true}
 use Rattle.std.specs.List.{range_with_len}
@@ -12,8 +11,7 @@ use Rattle.std.proofs.lemmas.List.Quantifiers.{all_pairs_push}
 use Rattle.sig_base.specs.declared.ids.SigId.{SigId}
 use Rattle.sig_kernel.specs.declared.kernel.Kernel.{Kernel}
 use Rattle.sig_clock.specs.Conditions.{conditions_of, is_condition, signal_id}
-use Rattle.sig_clock.specs.Layers.{AgreeOn, EntersBy, HasLayer, IsDetermined, NeverEnters}
-use Rattle.sig_clock.specs.Reactions.{Reaction, Speaks, is_present}
+use Rattle.sig_clock.specs.Layers.{EntersBy, HasLayer, IsDetermined}
 use Rattle.sig_clock.specs.SameClocks.{SameClock, turned}
 use Rattle.sig_clock.proofs.LayerLemmas.{enters_stays}
 use Rattle.sig_clock.proofs.ReactionLemmas.{present_together}
@@ -117,10 +115,10 @@ module _ (frame : Frame) (is : IsFrame frame) (round : ℕ) where
     entered = λ s leads pos. by_entered s leads pos (cases_eq s x);
     left = are.left;
     unknown = λ s in_rest.
-    let at = are.unknown s (contains_later x s rest in_rest) in
-    let less = increasing_head x rest are.later s in_rest in
-    let ne : s ≢ x = omega (arith, less) in
-    (at.0, other s ne ∙ at.1, at.2);
+        let at = are.unknown s (contains_later x s rest in_rest) in
+        let less = increasing_head x rest are.later s in_rest in
+        let ne : s ≢ x = omega (arith, less) in
+        (at.0, other s ne ∙ at.1, at.2);
     all = λ s leads none. by_all s leads none (cases_eq s x);
   } where
     x_within : x < length layers
@@ -210,13 +208,14 @@ module _ (frame : Frame) (is : IsFrame frame) (round : ℕ) (layers waiting : Li
   pub entered_conditions : (conditions known : List SigId) → conditions ≡ conditions_of frame.kernel.now → known ≡ filter (has_entered frame layers) conditions → AreEntered frame.kernel.now round known
   entered_conditions conditions known same filtered c is_c =
       let lt = condition_is_signal frame.kernel.now c is_c in (
-      (λ there.
-      let parts = of_filter (has_entered frame layers) conditions (signal_id c) (subst (λ (xs : List SigId). Contains xs (signal_id c)) filtered there) in
-      entered_signal c lt (ltb-true 0 (get_or layers (get_or frame.least.items c 0) 0) parts.1)),
-      (λ enters.
-      subst (λ (xs : List SigId). Contains xs (signal_id c)) (sym filtered)
-      (in_filter (has_entered frame layers) conditions (signal_id c) (subst (λ (xs : List SigId). Contains xs (signal_id c)) (sym same) (listed_condition frame.kernel.now c is_c))
-      (lt-ltb 0 (get_or layers (get_or frame.least.items c 0) 0) (signal_entered c lt enters)))))
+        (λ there.
+            let parts = of_filter (has_entered frame layers) conditions (signal_id c) (subst (λ (xs : List SigId). Contains xs (signal_id c)) filtered there) in
+            entered_signal c lt (ltb-true 0 (get_or layers (get_or frame.least.items c 0) 0) parts.1)),
+        (λ enters.
+            subst (λ (xs : List SigId). Contains xs (signal_id c)) (sym filtered)
+            (in_filter (has_entered frame layers) conditions (signal_id c) (subst (λ (xs : List SigId). Contains xs (signal_id c)) (sym same) (listed_condition frame.kernel.now c is_c))
+            (lt-ltb 0 (get_or layers (get_or frame.least.items c 0) 0) (signal_entered c lt enters)))),
+      )
 
 pub filtered_conditions : (kernel : Kernel) (p : SigId → Bool) (conditions known : List SigId) → conditions ≡ conditions_of kernel → known ≡ filter p conditions → (c : SigId) → Contains known c → is_condition kernel c.0 ≡ true
 filtered_conditions kernel p conditions known same filtered c there =
@@ -245,9 +244,12 @@ rounds_stick frame is round layers waiting layers' still before after few all = 
   count = after.count;
   increasing = after.increasing;
   entered = λ s leads pos. let at = after.entered s leads pos in (at.0, omega (arith, at.1, few));
-  left = λ s there. ((after.left s there).0, λ r enters.
-  let lt = (leader_is frame is s (after.left s there).0).0 in
-  (after.left s there).1 (enters_stays frame.kernel.now s round (no_later frame.kernel.now round stuck r s lt enters)));
+  left = λ s there. (
+    (after.left s there).0,
+    λ r enters.
+        let lt = (leader_is frame is s (after.left s there).0).0 in
+        (after.left s there).1 (enters_stays frame.kernel.now s round (no_later frame.kernel.now round stuck r s lt enters)),
+  );
   all = after.all;
 } where
   stuck_leader : (l : ℕ) → Contains frame.leaders.items l → EntersBy frame.kernel.now (suc round) l → EntersBy frame.kernel.now round l
@@ -281,5 +283,10 @@ leaders_fewer frame is =
 
 pub conditions_few : (kernel : Kernel) → length (conditions_of kernel) ≤ length kernel.signals
 conditions_few kernel =
-    omega (arith, map_length signal_id (filter (is_condition kernel) (range_with_len 0 (length kernel.signals))), length-filter (is_condition kernel) (range_with_len 0 (length kernel.signals)),
-    count_by-le-length (is_condition kernel) (range_with_len 0 (length kernel.signals)), length-range_with_len 0 (length kernel.signals))
+    omega (
+      arith,
+      map_length signal_id (filter (is_condition kernel) (range_with_len 0 (length kernel.signals))),
+      length-filter (is_condition kernel) (range_with_len 0 (length kernel.signals)),
+      count_by-le-length (is_condition kernel) (range_with_len 0 (length kernel.signals)),
+      length-range_with_len 0 (length kernel.signals),
+    )

@@ -1,25 +1,20 @@
 -- Lemmas on sets of abstract reactions: parts, and what agrees on known conditions.
-use Rattle.std.proofs.Common.{◌≡◌, ◌<◌, ◌≤◌, ◌+◌, ◌*◌, ◌⊎◌, ◌↔◌, inl, inr, ℕ, Bool, true, false, not, List, [], ◌∷◌, length, map, get_or, refl, sym, ap, ◌∙◌, subst, arith, Contains, IsTrue, IfOk}
-use Rattle.std.specs.Prelude.{Option, None, Some, Result, Ok, Err, slice_get, is_some}
+use Rattle.std.proofs.Common.{◌≡◌, ◌<◌, ◌≤◌, ◌+◌, ◌*◌, ◌↔◌, inl, ℕ, Bool, true, false, not, List, [], ◌∷◌, length, get_or, refl, sym, ◌∙◌, subst, arith, Contains, IsTrue, IfOk}
+use Rattle.std.specs.Prelude.{Option, Result, Ok, Err}
 use Rattle.std.specs.List.{list_any}
 use Rattle.std.proofs.lemmas.Bool.{false≢true}
 use Rattle.std.proofs.lemmas.List.Sums.{count_by-le-length, length-filter}
 use Rattle.sig_clock.proofs.Lists.{contains_head, contains_later}
-use Rattle.sig_base.specs.declared.ids.SigId.{SigId}
-use Rattle.sig_kernel.specs.declared.kernel.Kernel.{Kernel}
-use Rattle.sig_clock.specs.Conditions.{is_condition, signal_id}
 use Rattle.sig_clock.specs.Layers.{AgreeOn}
-use Rattle.sig_clock.specs.Reactions.{Reaction, IsReaction, Speaks, is_present, status_at}
-use Rattle.sig_dd.specs.Diagram.{truth_of}
-use Rattle.sig_dd.specs.Nodes.{StoreView, Holds, Keeps, Overlap, Spans, test}
+use Rattle.sig_clock.specs.Reactions.{Reaction, IsReaction, Speaks, is_present}
+use Rattle.sig_dd.specs.Nodes.{StoreView, Keeps, Overlap, Spans, test}
 use Rattle.sig_dd.specs.Shares.{HasAll, Share}
 use Rattle.sig_dd.specs.declared.answer.DdAnswer.{DdAnswer}
 use Rattle.sig_dd.specs.declared.node.Ref.{Ref}
 use Rattle.sig_dd.specs.declared.node.Node.{Node}
 use Rattle.sig_dd.proofs.CallerLemmas.{Holds-kept, Spans-kept}
-use Rattle.sig_rel.specs.Relations.{AreUnknowns, IsUsed, RelationView, reaction_in}
-use Rattle.sig_solve.specs.Frames.{IsAmong, IsFrame, IsFrameIn, others_of, tells}
-use Rattle.sig_solve.specs.Parts.{AgreeOutside, Exceeds, IsNarrowed, IsShadow, IsWhere}
+use Rattle.sig_solve.specs.Frames.{IsAmong, IsFrameIn, others_of, tells}
+use Rattle.sig_solve.specs.Parts.{AgreeOutside, Exceeds, IsNarrowed, IsShadow}
 use Rattle.sig_solve.specs.Rounds.{IsOpenAnswer}
 use Rattle.sig_solve.specs.Sets.{AreKnown, IsImage, IsPart, reaction_of}
 use Rattle.sig_solve.specs.declared.frame.Frame.{Frame}
@@ -28,7 +23,6 @@ use Rattle.sig_solve.proofs.FrameLemmas.{unknown_in}
 use Rattle.sig_solve.proofs.ReactionLemmas.{agree_known, lift, presence_read}
 use Rattle.sig_solve.proofs.ListLemmas.{of_filter}
 use Rattle.sig_solve.proofs.StoreLemmas.{more_calls, older_test}
-use Rattle.sig_solve.proofs.TruthLemmas.{outside_none}
 
 pub part_stays : (old new : StoreView) (frame : Frame) (P : Reaction → Type 0) (f : Ref) → Keeps old new → IsPart old.nodes frame P f → IsPart new.nodes frame P f
 part_stays old new frame P f kept is = record {
@@ -53,11 +47,12 @@ part_present old new frame P f r s b is lt part at =
     record {
       held = at.held;
       spans = at.spans frame.unknowns.items part.spans
-      (unknown_in frame is.parts is.count is.relation.unknowns (get_or frame.relation.present s 0) (inl (s, Rattle.sig_solve.proofs.ListLemmas.get_at frame.relation.present s 0 lt')));
+          (unknown_in frame is.parts is.count is.relation.unknowns (get_or frame.relation.present s 0) (inl (s, Rattle.sig_solve.proofs.ListLemmas.get_at frame.relation.present s 0 lt')));
       reactions = λ ts.
-      let read = presence_read ts frame.relation.present frame.relation.truth s lt' lt'' in (
-        (λ t. let both = (at.function ts).0 t in ((part.reactions ts).0 both.0, read ∙ both.1)),
-        (λ p. (at.function ts).1 ((part.reactions ts).1 p.0, sym read ∙ p.1)));
+          let read = presence_read ts frame.relation.present frame.relation.truth s lt' lt'' in (
+            (λ t. let both = (at.function ts).0 t in ((part.reactions ts).0 both.0, read ∙ both.1)),
+            (λ p. (at.function ts).1 ((part.reactions ts).1 p.0, sym read ∙ p.1)),
+          );
     }
 
 module _ (nodes : List Node) (frame : Frame) (is : IsFrameIn nodes frame) (known : Known) (are : AreKnown frame known) where
@@ -79,7 +74,7 @@ module _ (nodes : List Node) (frame : Frame) (is : IsFrameIn nodes frame) (known
       (at.0, subst (λ xs. AgreeOutside xs a at.0) (sym are.others) at.1, at.2 ∙ b.1)
 
   module _ (P Q : Reaction → Type 0) (P_is : (r : Reaction) → P r → IsReaction frame.kernel.now r) (Q_is : (r : Reaction) → Q r → IsReaction frame.kernel.now r) (f g : Ref)
-    (first : IsImage nodes frame known P f) (second : IsImage nodes frame known Q g) where
+      (first : IsImage nodes frame known P f) (second : IsImage nodes frame known Q g) where
     -- images that overlap come of reactions that agree
     pub overlap_agree : Overlap nodes f g → (a b : Reaction) × P a × Q b × AgreeOn frame.kernel.now (IsAmong known.conditions.items) a b
     overlap_agree (ts, t, u) =
@@ -99,10 +94,13 @@ module _ (nodes : List Node) (frame : Frame) (is : IsFrameIn nodes frame) (known
     -- where an image exceeds another one, some reaction agrees with none of the other's
     pub exceeds_none : Exceeds nodes f g → (a : Reaction) × P a × ((b : Reaction) → Q b → AgreeOn frame.kernel.now (IsAmong known.conditions.items) a b → ⊥)
     exceeds_none (ts, t, u) =
-        let a = (first.reactions ts).0 t in
-        (reaction_of frame a.0, a.2, λ b q agree.
-        let tb = lift_to a.0 b (Q_is b q) agree in
-        false≢true (sym u ∙ (second.reactions ts).1 (tb.0, (λ v out. a.1 v out ∙ tb.1 v out), subst Q (sym tb.2) q)))
+        let a = (first.reactions ts).0 t in (
+          reaction_of frame a.0,
+          a.2,
+          λ b q agree.
+              let tb = lift_to a.0 b (Q_is b q) agree in
+              false≢true (sym u ∙ (second.reactions ts).1 (tb.0, (λ v out. a.1 v out ∙ tb.1 v out), subst Q (sym tb.2) q)),
+        )
 
     pub none_exceeds : (Exceeds nodes f g → ⊥) → (a : Reaction) → P a → (b : Reaction) × Q b × AgreeOn frame.kernel.now (IsAmong known.conditions.items) a b
     none_exceeds not a p = by (test nodes g ta.0) refl where
@@ -128,8 +126,9 @@ image_present old new frame known P f r s b is lt part at =
     record {
       held = at.held;
       reactions = λ ts. (
-      (λ t. let w = (at.function ts).0 t in (w.0, w.1, ((part.reactions w.0).0 w.2, presence_read w.0 frame.relation.present frame.relation.truth s lt' lt'' ∙ w.3))),
-      (λ w. (at.function ts).1 (w.0, w.1, (part.reactions w.0).1 w.2.0, sym (presence_read w.0 frame.relation.present frame.relation.truth s lt' lt'') ∙ w.2.1)));
+        (λ t. let w = (at.function ts).0 t in (w.0, w.1, ((part.reactions w.0).0 w.2, presence_read w.0 frame.relation.present frame.relation.truth s lt' lt'' ∙ w.3))),
+        (λ w. (at.function ts).1 (w.0, w.1, (part.reactions w.0).1 w.2.0, sym (presence_read w.0 frame.relation.present frame.relation.truth s lt' lt'') ∙ w.2.1)),
+      );
     }
 
 -- whether known conditions leave the presence of a signal open, by the overlap of two images

@@ -1,12 +1,10 @@
 -- Lemmas on the steps of solving.
-use Rattle.std.proofs.Common.{◌≡◌, ◌<◌, ◌≤◌, ◌+◌, ◌*◌, ◌^◌, inl, inr, ℕ, Bool, true, false, List, [], ◌∷◌, length, map, get_or, refl, sym, ap, ◌∙◌, subst, arith, Contains}
-use Rattle.std.specs.Prelude.{zero, suc, Option, None, Some, Result, Ok, Err, IfOk, IsErrAnd, slice_get}
-use Rattle.std.specs.List.{range_with_len}
+use Rattle.std.proofs.Common.{◌≡◌, ◌≤◌, ◌+◌, ◌*◌, ◌^◌, inl, inr, ℕ, List, [], ◌∷◌, length, sym, ap, ◌∙◌, subst, arith}
+use Rattle.std.specs.Prelude.{Some, Result, Ok, Err, IfOk, IsErrAnd, slice_get}
 use Rattle.sig_base.specs.declared.ids.SigId.{SigId}
 use Rattle.sig_kernel.specs.declared.kernel.Kernel.{Kernel}
 use Rattle.sig_clock.specs.ClockRefusals.{AreSolved, HasRoot, IsFirstPinned, IsUnsolved}
-use Rattle.sig_clock.specs.Clocks.{AreInOrder}
-use Rattle.sig_clock.specs.Conditions.{conditions_of, signal_id}
+use Rattle.sig_clock.specs.Conditions.{conditions_of}
 use Rattle.sig_dd.specs.Nodes.{StoreView, IsStore, allowance}
 use Rattle.sig_dd.specs.declared.node.Node.{Node}
 use Rattle.sig_kernel.specs.Validity.{IsValid}
@@ -20,7 +18,6 @@ use Rattle.sig_dd.specs.declared.answer.DdAnswer.{DdAnswer}
 use Rattle.sig_dd.specs.declared.answer.DdAnswer.TheVariants.{Budget as StoreBudget, OutOfMemory as NoMemory}
 use Rattle.sig_solve.specs.Answers.{FindsPinned}
 use Rattle.sig_solve.specs.Frames.{IsFrame, IsFrameIn}
-use Rattle.sig_solve.specs.Orders.{by_layer}
 use Rattle.sig_solve.specs.Refusals.{HasNoRoom, IsFromStore, IsWithin, calls_of, rest_of_share, store_refusal}
 use Rattle.sig_solve.specs.Rounds.{AreSettled, layer_in}
 use Rattle.sig_solve.specs.declared.answer.ClockAnswer.{ClockAnswer}

@@ -1,16 +1,15 @@
 -- Lemmas on calls of a store, one after another.
-use Rattle.std.proofs.Common.{◌≡◌, ◌<◌, ◌≤◌, ◌+◌, ◌*◌, ℕ, Bool, true, false, List, [], ◌∷◌, length, get_or, inl, inr, refl, sym, ap, ◌∙◌, subst, arith, Contains, IsTrue}
+use Rattle.std.proofs.Common.{◌≡◌, ◌<◌, ◌≤◌, ◌+◌, ◌*◌, ℕ, Bool, List, get_or, inl, inr, refl, sym, subst, arith}
 use Rattle.std.specs.Prelude.{Option, None, Some, Result, Ok, Err, IsErrAnd}
 use Rattle.std.proofs.lemmas.Bool.{cases_eq}
 use Rattle.std.proofs.Math.Nat.{mul-le-mul_left, mul-le-mul_right}
-use Rattle.sig_dd.specs.Nodes.{StoreView, Holds, Keeps, Spans, IsRefOf, allowance, test}
-use Rattle.sig_dd.specs.Shares.{Share, Shares, SpanAll, HasAll, refusal}
+use Rattle.sig_dd.specs.Nodes.{StoreView, Holds, Keeps, allowance, test}
+use Rattle.sig_dd.specs.Shares.{Share, refusal}
 use Rattle.sig_dd.specs.declared.answer.DdAnswer.{DdAnswer}
 use Rattle.sig_dd.specs.declared.answer.DdAnswer.TheVariants.{Budget, OutOfMemory}
 use Rattle.sig_dd.specs.declared.node.Ref.{Ref}
-use Rattle.sig_dd.specs.declared.node.Node.{Node}
 use Rattle.sig_dd.proofs.Adding.{Share-none, Share-then, Share-wider, refusal_is}
-use Rattle.sig_dd.proofs.CallerLemmas.{Agree-kept, Holds-kept, Spans-kept}
+use Rattle.sig_dd.proofs.CallerLemmas.{Agree-kept}
 
 -- older truths stay
 pub older_test : (old new : StoreView) → Keeps old new → (f : Ref) → Holds old.nodes f → (truths : List Bool) → test new.nodes f truths ≡ test old.nodes f truths

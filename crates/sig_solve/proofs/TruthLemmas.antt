@@ -1,7 +1,6 @@
 -- Lemmas on truths and on lists of variables.
-use Rattle.std.proofs.Common.{◌≡◌, ◌≢◌, ◌<◌, ◌+◌, ◌⊎◌, inl, inr, ℕ, Bool, true, false, List, [], ◌∷◌, ◌++◌, length, get_or, take, refl, sym, ap, ◌∙◌, subst, arith, Contains, IsTrue}
-use Rattle.std.specs.Prelude.{zero, suc, if◌then◌else◌}
-use Rattle.std.proofs.lemmas.Bool.{cases_eq, false≢true}
+use Rattle.std.proofs.Common.{◌≡◌, ◌≢◌, ◌⊎◌, inl, inr, ℕ, Bool, List, [], ◌∷◌, ◌++◌, refl, sym, ◌∙◌, subst, Contains}
+use Rattle.std.proofs.lemmas.Bool.{cases_eq}
 use Rattle.sig_clock.proofs.Lists.{contains_cons, contains_head, contains_later, contains_none}
 use Rattle.sig_dd.specs.Diagram.{truth_of, with_truth}
 use Rattle.sig_dd.proofs.Trees.{truth_of-with_same, truth_of-with_other}

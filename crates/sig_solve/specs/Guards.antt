@@ -1,9 +1,9 @@
 -- Guards: functions of proposals that tell where a signal is present.
-use Rattle.std.specs.Prelude.{◌≡◌, ◌==◌, ◌<◌, ◌⊎◌, ◌↔◌, ℕ, Bool, true, not, List, length, map, filter, slice_get, slice_index, slice_index_or, Option, None, Some, IsTrue, Contains, if◌then◌else◌}
+use Rattle.std.specs.Prelude.{◌≡◌, ◌==◌, ◌<◌, ◌⊎◌, ◌↔◌, ℕ, Bool, true, not, List, length, map, filter, slice_get, slice_index_or, None, Some, IsTrue, Contains, if◌then◌else◌}
 use Rattle.std.specs.List.{list_any}
 use Rattle.sig_base.specs.declared.ids.SigId.{SigId}
 use Rattle.sig_clock.specs.ClockFunctions.{Allows, KeepsTo}
-use Rattle.sig_clock.specs.Reactions.{Reaction, Speaks, is_present, status_at}
+use Rattle.sig_clock.specs.Reactions.{Reaction, Speaks, is_present}
 use Rattle.sig_dd.specs.Diagram.{Depends, truth_of, with_truth}
 use Rattle.sig_dd.specs.Nodes.{Holds, Spans, test}
 use Rattle.sig_dd.specs.declared.node.Node.{Node}

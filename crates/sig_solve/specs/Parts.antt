@@ -1,5 +1,5 @@
 -- Parts of a function of truths, and functions with variables forgotten.
-use Rattle.std.specs.Prelude.{◌≡◌, ◌↔◌, ℕ, Bool, true, false, List, IsTrue, Contains}
+use Rattle.std.specs.Prelude.{◌≡◌, ◌↔◌, ℕ, Bool, false, List, IsTrue, Contains}
 use Rattle.sig_dd.specs.Diagram.{Depends, truth_of}
 use Rattle.sig_dd.specs.Nodes.{Holds, Spans, test}
 use Rattle.sig_dd.specs.declared.node.Node.{Node}

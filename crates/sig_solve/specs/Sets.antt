@@ -2,7 +2,7 @@
 use Rattle.std.specs.Prelude.{◌≡◌, ◌↔◌, Bool, true, List, IsTrue, Contains}
 use Rattle.sig_base.specs.declared.ids.SigId.{SigId}
 use Rattle.sig_clock.specs.Conditions.{is_condition}
-use Rattle.sig_clock.specs.Reactions.{Reaction, IsReaction}
+use Rattle.sig_clock.specs.Reactions.{Reaction}
 use Rattle.sig_dd.specs.Nodes.{Holds, IsStore, Spans, StoreView, test}
 use Rattle.sig_dd.specs.declared.node.Node.{Node}
 use Rattle.sig_dd.specs.declared.node.Ref.{Ref}

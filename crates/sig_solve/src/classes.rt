@@ -145,7 +145,13 @@ pub(crate) fn clocks_of(
     ensures { IfOk result (AreMadeOf frame.now layers.now guards.now root conditions.items) }
 {
     let signals = first_signals(alloc, frame.least.len() as u32)?;
-    let ordered = by_layer(alloc, frame, layers, signals.as_slice(), frame.leaders.len() as u32)?;
+    let ordered = by_layer(
+        alloc,
+        frame,
+        layers,
+        signals.as_slice(),
+        frame.leaders.len() as u32,
+    )?;
     let firsts = firsts_of(alloc, frame, layers, guards, root, ordered.as_slice())?;
     let firsts = firsts.as_slice();
     Ok(Clocks {

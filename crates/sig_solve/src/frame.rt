@@ -40,7 +40,11 @@ impl Frame<'_> {
 }
 
 /// The frame of a kernel and its relation.
-pub(crate) fn frame_of<'a>(alloc: Global, kernel: &'a Kernel, relation: Relation) -> Result<Frame<'a>, ClockBase>
+pub(crate) fn frame_of<'a>(
+    alloc: Global,
+    kernel: &'a Kernel,
+    relation: Relation,
+) -> Result<Frame<'a>, ClockBase>
     requires valid { IsValid kernel.now }
     requires counts { (length relation.present ≡ length kernel.now.signals)
         × (length relation.truth ≡ length kernel.now.signals) }

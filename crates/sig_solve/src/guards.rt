@@ -44,13 +44,7 @@ fn keep(
 
 /// The function that is left of f where the condition, if it is present, has the truth of a
 /// variable.
-fn substitute(
-    store: &mut Store,
-    f: Ref,
-    present: u32,
-    truth: u32,
-    v: u32,
-) -> Result<Ref, DdAnswer>
+fn substitute(store: &mut Store, f: Ref, present: u32, truth: u32, v: u32) -> Result<Ref, DdAnswer>
     requires held { Holds store.old.nodes f }
     requires apart { present ≢ truth }
     ensures store { IsStore store.new }
@@ -157,7 +151,13 @@ pub(crate) fn guards_of(
     let rest = rest_of(alloc, frame, conditions)?;
     let mut guards = vec![in alloc; store.constant(false); frame.least.len()]?;
     for leader in frame.leaders.as_slice() {
-        let guard = shadow(store, proposed, frame.presence(*leader), true, rest.as_slice())?;
+        let guard = shadow(
+            store,
+            proposed,
+            frame.presence(*leader),
+            true,
+            rest.as_slice(),
+        )?;
         guards[*leader as usize] = guard;
     }
     Ok(guards)

@@ -16,7 +16,11 @@ pub(crate) struct Known {
 }
 
 /// These conditions as known ones.
-pub(crate) fn known_of(alloc: Global, frame: &Frame, conditions: Vec<SigId>) -> Result<Known, AllocError>
+pub(crate) fn known_of(
+    alloc: Global,
+    frame: &Frame,
+    conditions: Vec<SigId>,
+) -> Result<Known, AllocError>
     ensures { IfOk result (λ known. (known.conditions.items ≡ conditions.items)
         × (known.others.items ≡ others_of frame.now.relation frame.now.unknowns.items conditions.items)) }
 {
@@ -33,7 +37,9 @@ pub(crate) fn known_of(alloc: Global, frame: &Frame, conditions: Vec<SigId>) -> 
 fn is_told(frame: &Frame, conditions: &[SigId], v: u32) -> bool
     ensures { result ≡ list_any (tells frame.now.relation v) conditions.now }
 {
-    conditions.iter().any(|condition| tells(frame, *condition, v))
+    conditions
+        .iter()
+        .any(|condition| tells(frame, *condition, v))
 }
 
 /// Whether the unknown tells the presence or the truth of a condition.

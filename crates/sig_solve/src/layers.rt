@@ -49,9 +49,21 @@ pub(crate) fn layers_of(
     for round in 0..frame.leaders.len() as u32 {
         let entered = entered(alloc, frame, numbers.as_slice(), conditions)?;
         let known = known_of(alloc, frame, entered)?;
-        let still = pass(alloc, frame, speaking, store, &known, round, waiting.as_slice(), &mut numbers)?;
+        let still = pass(
+            alloc,
+            frame,
+            speaking,
+            store,
+            &known,
+            round,
+            waiting.as_slice(),
+            &mut numbers,
+        )?;
         if still.len() == waiting.len() {
-            return Ok(Layers { numbers, waiting: still });
+            return Ok(Layers {
+                numbers,
+                waiting: still,
+            });
         }
         waiting = still;
     }

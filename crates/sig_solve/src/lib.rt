@@ -17,3 +17,6 @@ mod solving;
 
 pub use answer::ClockAnswer;
 pub use solving::solve;
+
+#[cfg(test)]
+mod tests;

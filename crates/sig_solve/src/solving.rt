@@ -176,7 +176,15 @@ fn solve_in(
     let root = some_root(frame, speaking, store)?;
     let layers = all_layers(alloc, frame, speaking, store, conditions)?;
     let ordered = free_conditions(alloc, frame, store, layers.as_slice(), conditions)?;
-    clocks(alloc, frame, speaking, store, layers.as_slice(), ordered, root)
+    clocks(
+        alloc,
+        frame,
+        speaking,
+        store,
+        layers.as_slice(),
+        ordered,
+        root,
+    )
 }
 
 /// The clocks of a kernel whose relation stands in the store.
@@ -205,11 +213,7 @@ fn solve_relation(
 /// The clocks of a kernel, or the first reason why it has none: no reaction is possible but the
 /// silent one, there is no root, a clock is not determined, or a condition is forced. It is refused
 /// where the store has no room for the nodes that it needs; older references of the store stay.
-pub fn solve(
-    alloc: Global,
-    kernel: &Kernel,
-    store: &mut Store,
-) -> Result<Clocks, ClockAnswer>
+pub fn solve(alloc: Global, kernel: &Kernel, store: &mut Store) -> Result<Clocks, ClockAnswer>
     requires valid { IsValid kernel.now }
     ensures store { IsStore store.new }
     ensures kept { Keeps store.old store.new }

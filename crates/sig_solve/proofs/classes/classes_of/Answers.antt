@@ -1,4 +1,4 @@
-use Rattle.std.proofs.Common.{◌≡◌, ◌<◌, ◌≤◌, ◌+◌, List, length, take, sym, ap, ◌∙◌, subst, get_or, arith}
+use Rattle.std.proofs.Common.{◌+◌, length, sym, ap, ◌∙◌, subst, arith}
 use Rattle.std.proofs.lemmas.List.{length_push}
 use Rattle.std.specs.Prelude.{Some}
 use Rattle.sig_solve.specs.Classes.{IsPlace}
@@ -14,5 +14,5 @@ pub loop-signal-preserved : goal.loop-signal-preserved
 loop-signal-preserved c = record {
   count = ap length c.in_ok-push.ensures.items ∙ length_push c.loop-signal.classes.items c.in-Some.place ∙ ap (λ n. n + 1) c.loop-signal.invariant.count;
   classes = classes_more c.args.frame.now c.args.guards.now c.args.firsts.now c.loop-signal.classes.items c.push.new.self.items c.in-Some.place c.in_ok-push.ensures.items c.loop-signal.invariant.classes
-  (subst (λ k. IsPlace c.args.frame.now c.args.guards.now c.args.firsts.now k (Some c.in-Some.place)) (sym c.loop-signal.invariant.count) c.in-Some.ensures);
+      (subst (λ k. IsPlace c.args.frame.now c.args.guards.now c.args.firsts.now k (Some c.in-Some.place)) (sym c.loop-signal.invariant.count) c.in-Some.ensures);
 }

@@ -1,15 +1,14 @@
 use Rattle.std.proofs.Common.{◌≡◌, ◌<◌, ◌≤◌, ◌+◌, ◌*◌, ℕ, List, length, map, get_or, refl, sym, ap, ◌∙◌, subst, arith}
-use Rattle.std.specs.Prelude.{None, Some, slice_get}
+use Rattle.std.specs.Prelude.{slice_get}
 use Rattle.std.specs.List.{range_with_len}
 use Rattle.std.proofs.lemmas.List.FromFn.{length-range_with_len}
 use Rattle.sig_base.specs.declared.ids.SigId.{SigId}
 use Rattle.sig_clock.specs.Conditions.{signal_id}
-use Rattle.sig_solve.specs.Classes.{AreClasses, AreFirsts, AreGuardsOf, guard_at}
+use Rattle.sig_solve.specs.Classes.{AreClasses, AreFirsts, AreGuardsOf}
 use Rattle.sig_solve.specs.Rounds.{layer_in}
 use Rattle.sig_solve.specs.Orders.{by_layer}
-use Rattle.sig_solve.specs.declared.frame.Frame.{Frame}
-use Rattle.sig_solve.proofs.ListLemmas.{in_map, in_range, map_length}
-use Rattle.sig_solve.proofs.OrderLemmas.{by_fewer, by_order, listed_by, listed_signal, signal_layer, sorted_signals}
+use Rattle.sig_solve.proofs.ListLemmas.{map_length}
+use Rattle.sig_solve.proofs.OrderLemmas.{by_fewer, by_order, listed_signal, sorted_signals}
 use Rattle.sig_solve.proofs.ClassLemmas.{first_within}
 use Rattle.sig_solve.proofs.RoundLemmas.{leaders_fewer}
 use Rattle.sig_solve.proofs.classes.clocks_of.Goals as goal
@@ -30,8 +29,13 @@ ordered_is c =
 
 ordered_few : (c : In_ok-ordered) → length c.in_ok-ordered.ordered.items ≤ length c.args.frame.now.kernel.now.signals
 ordered_few c =
-    omega (arith, ap length (ordered_is c), by_fewer c.args.frame.now c.args.layers.now (map signal_id (range_with_len 0 (length c.args.frame.now.kernel.now.signals))) (length c.args.frame.now.leaders.items),
-    map_length signal_id (range_with_len 0 (length c.args.frame.now.kernel.now.signals)), length-range_with_len 0 (length c.args.frame.now.kernel.now.signals))
+    omega (
+      arith,
+      ap length (ordered_is c),
+      by_fewer c.args.frame.now c.args.layers.now (map signal_id (range_with_len 0 (length c.args.frame.now.kernel.now.signals))) (length c.args.frame.now.leaders.items),
+      map_length signal_id (range_with_len 0 (length c.args.frame.now.kernel.now.signals)),
+      length-range_with_len 0 (length c.args.frame.now.kernel.now.signals),
+    )
 
 pub firsts_of-requires-clause-order : goal.firsts_of-requires-clause-order
 firsts_of-requires-clause-order c i j a d lt at_i at_j =

@@ -1,4 +1,4 @@
-use Rattle.std.proofs.Common.{◌≡◌, ◌<◌, ◌≤◌, ◌+◌, List, [], ◌∷◌, ◌++◌, length, take, sym, ap, ◌∙◌, subst, get_or, arith}
+use Rattle.std.proofs.Common.{◌≡◌, List, [], ◌∷◌, ◌++◌, length, take, sym, ap, ◌∙◌, subst, get_or, arith}
 use Rattle.std.proofs.lemmas.List.{length_push, take_all}
 use Rattle.std.specs.Prelude.{slice_get}
 use Rattle.sig_base.specs.declared.ids.SigId.{SigId}
@@ -32,21 +32,23 @@ loop-signal-preserved c =
           let same = ap (λ v. v.items) w.firsts-is in
           record {
             firsts = subst (λ xs. AreFirsts c.args.frame.now c.args.layers.now c.args.guards.now c.args.root xs c.match-place_of.firsts.items) next
-            (subst (λ xs. AreFirsts c.args.frame.now c.args.layers.now c.args.guards.now c.args.root (done ++ x ∷ []) xs) (sym same)
-            (firsts_stay c.args.frame.now c.args.layers.now c.args.guards.now c.args.root done c.loop-signal.firsts.items x c.loop-signal.invariant.firsts order w.in-Some._place w.in-Some.ensures.0
-            (ap (λ (xs : List SigId). slice_get xs w.in-Some._place) (sym c.as_slice.ensures.value) ∙ w.in-Some.ensures.1) w.in-Some.ensures.2));
+                (subst (λ xs. AreFirsts c.args.frame.now c.args.layers.now c.args.guards.now c.args.root (done ++ x ∷ []) xs) (sym same)
+                (firsts_stay c.args.frame.now c.args.layers.now c.args.guards.now c.args.root done c.loop-signal.firsts.items x c.loop-signal.invariant.firsts order w.in-Some._place w.in-Some.ensures.0
+                (ap (λ (xs : List SigId). slice_get xs w.in-Some._place) (sym c.as_slice.ensures.value) ∙ w.in-Some.ensures.1) w.in-Some.ensures.2));
             few = omega (arith, ap length same, c.loop-signal.invariant.few);
           }
       | in-None+in_ok-push-in-None w ↦
           let same = ap (λ v. v.items) w.firsts-is ∙ w.in_ok-push-in-None.ensures.items in
           record {
             firsts = subst (λ xs. AreFirsts c.args.frame.now c.args.layers.now c.args.guards.now c.args.root xs c.match-place_of.firsts.items) next
-            (firsts_more c.args.frame.now c.args.layers.now c.args.guards.now c.args.root done c.loop-signal.firsts.items x c.loop-signal.invariant.firsts order c.match-place_of.firsts.items same
-            (λ i e at_i. w.in-None.ensures i e (ap (λ (xs : List SigId). slice_get xs i) c.as_slice.ensures.value ∙ at_i)));
+                (firsts_more c.args.frame.now c.args.layers.now c.args.guards.now c.args.root done c.loop-signal.firsts.items x c.loop-signal.invariant.firsts order c.match-place_of.firsts.items same
+                (λ i e at_i. w.in-None.ensures i e (ap (λ (xs : List SigId). slice_get xs i) c.as_slice.ensures.value ∙ at_i)));
             few = omega (arith, ap length same, length_push c.loop-signal.firsts.items x, c.loop-signal.invariant.few);
           }
     ]
 
 pub returns : goal.returns
-returns c = (subst (λ xs. AreFirsts c.args.frame.now c.args.layers.now c.args.guards.now c.args.root xs c.loop-signal.firsts.items) (take_all c.loop-signal.signal-index c.args.ordered.now (omega arith)) c.loop-signal.invariant.firsts,
-    omega (arith, c.loop-signal.invariant.few))
+returns c = (
+  subst (λ xs. AreFirsts c.args.frame.now c.args.layers.now c.args.guards.now c.args.root xs c.loop-signal.firsts.items) (take_all c.loop-signal.signal-index c.args.ordered.now (omega arith)) c.loop-signal.invariant.firsts,
+  omega (arith, c.loop-signal.invariant.few),
+)

@@ -1,4 +1,4 @@
-use Rattle.std.proofs.Common.{◌≡◌, ◌<◌, ℕ, ◌==◌, eqb, List, length, refl, sym, ap, ◌∙◌, subst, get_or, slice_index, arith, Contains}
+use Rattle.std.proofs.Common.{◌≡◌, ◌<◌, ℕ, eqb, List, length, sym, ap, ◌∙◌, subst, get_or, arith, Contains}
 use Rattle.std.specs.List.{range_with_len}
 use Rattle.sig_rel.specs.Relations.{RelationView}
 use Rattle.sig_solve.specs.Frames.{leaders_of}

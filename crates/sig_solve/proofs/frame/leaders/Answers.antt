@@ -1,4 +1,4 @@
-use Rattle.std.proofs.Common.{◌≡◌, ℕ, eqb, [], ◌∷◌, ◌++◌, sym, ap, ◌∙◌, get_or, eq-eqb, filter}
+use Rattle.std.proofs.Common.{ℕ, eqb, [], ◌∷◌, ◌++◌, sym, ap, ◌∙◌, get_or, eq-eqb, filter}
 use Rattle.std.specs.List.{range_with_len}
 use Rattle.sig_solve.proofs.ListLemmas.{apart-eqb}
 use Rattle.sig_solve.proofs.ListLemmas.{range_drops, range_keeps}

@@ -1,4 +1,4 @@
-use Rattle.std.proofs.Common.{◌≡◌, ◌≢◌, ◌<◌, ◌≤◌, ◌+◌, ◌*◌, inl, inr, ℕ, Bool, List, length, true, false, get_or, set, sym, ap, ◌∙◌, subst, arith, Contains}
+use Rattle.std.proofs.Common.{◌≡◌, ◌≢◌, ◌<◌, ◌≤◌, ◌+◌, ◌*◌, inl, inr, ℕ, List, length, true, get_or, set, sym, ap, ◌∙◌, subst, arith, Contains}
 use Rattle.std.specs.Prelude.{None, Some, slice_get}
 use Rattle.std.proofs.Math.ListN.{length-set}
 use Rattle.std.proofs.Math.Nat.{mul-le-mul_left}
@@ -10,7 +10,7 @@ use Rattle.sig_dd.specs.Shares.{Share}
 use Rattle.sig_dd.specs.declared.node.Ref.{Ref}
 use Rattle.sig_dd.specs.declared.node.Node.{Node}
 use Rattle.sig_dd.proofs.Adding.{Share-then}
-use Rattle.sig_dd.proofs.CallerLemmas.{Keeps-itself, Keeps-trans}
+use Rattle.sig_dd.proofs.CallerLemmas.{Keeps-trans}
 use Rattle.sig_solve.specs.Frames.{leaders_of}
 use Rattle.sig_solve.specs.Guards.{IsGuard}
 use Rattle.sig_solve.specs.Parts.{IsShadow}
@@ -62,7 +62,7 @@ one_more_guard : (old new : StoreView) (frame : Frame) (conditions : List SigId)
     → (k : ℕ) → k < i + 1 → (r : Ref) × (slice_get (set guards (get_or leaders i 0) guard) (get_or leaders k 0) ≡ Some r) × IsGuard new.nodes frame conditions (get_or leaders k 0) r
 one_more_guard old new frame conditions guards leaders i guard same within below kept before here k lt = elim (cases_eq k i) [
   | inl e ↦ subst (λ j. (r : Ref) × (slice_get (set guards (get_or leaders i 0) guard) (get_or leaders j 0) ≡ Some r) × IsGuard new.nodes frame conditions (get_or leaders j 0) r) (sym e)
-    (guard, get_set_same guards (get_or leaders i 0) guard below, here)
+      (guard, get_set_same guards (get_or leaders i 0) guard below, here)
   | inr ne ↦
       let less : k < i = omega (arith, lt, ne) in
       let at = before k less in
@@ -86,14 +86,14 @@ loop-leader-preserved c =
       later = Keeps-trans c.propose.new.store c.loop-leader.store c.shadow.new.store c.loop-leader.invariant.later c.in_ok-guard.ensures.kept;
       count = length-set c.loop-leader.guards.items s c.in_ok-guard.guard ∙ c.loop-leader.invariant.count;
       each = one_more_guard c.loop-leader.store c.shadow.new.store c.args.frame.now c.args.conditions.now c.loop-leader.guards.items c.as_slice-leader-items.result.now c.loop-leader.leader-index c.in_ok-guard.guard
-      (c.as_slice-leader-items.ensures.value ∙ c.requires.ready.has_frame.parts.leaders) c.loop-leader-test.true (omega (arith, below, c.loop-leader.invariant.count)) c.in_ok-guard.ensures.kept c.loop-leader.invariant.each
-      (guard_is c.loop-leader.store.nodes c.shadow.new.store.nodes c.args.frame.now is c.args.conditions.now c.requires.conditions c.requires.few s below c.in_ok-proposed.proposed c.in_ok-guard.guard wide.0
-      (proposed_stays c.propose.new.store c.loop-leader.store c.args.frame.now c.args.conditions.now c.in_ok-proposed.proposed c.loop-leader.invariant.later c.in_ok-proposed.ensures.value) here
-      (subst (λ xs. IsShadow c.loop-leader.store.nodes c.shadow.new.store.nodes c.in_ok-proposed.proposed (get_or c.args.frame.now.relation.present s 0) true xs c.in_ok-guard.guard) rest
-      (subst (λ p. IsShadow c.loop-leader.store.nodes c.shadow.new.store.nodes c.in_ok-proposed.proposed p true c.as_slice.result.now c.in_ok-guard.guard) c.presence.ensures c.in_ok-guard.ensures.value)));
+          (c.as_slice-leader-items.ensures.value ∙ c.requires.ready.has_frame.parts.leaders) c.loop-leader-test.true (omega (arith, below, c.loop-leader.invariant.count)) c.in_ok-guard.ensures.kept c.loop-leader.invariant.each
+          (guard_is c.loop-leader.store.nodes c.shadow.new.store.nodes c.args.frame.now is c.args.conditions.now c.requires.conditions c.requires.few s below c.in_ok-proposed.proposed c.in_ok-guard.guard wide.0
+          (proposed_stays c.propose.new.store c.loop-leader.store c.args.frame.now c.args.conditions.now c.in_ok-proposed.proposed c.loop-leader.invariant.later c.in_ok-proposed.ensures.value) here
+          (subst (λ xs. IsShadow c.loop-leader.store.nodes c.shadow.new.store.nodes c.in_ok-proposed.proposed (get_or c.args.frame.now.relation.present s 0) true xs c.in_ok-guard.guard) rest
+          (subst (λ p. IsShadow c.loop-leader.store.nodes c.shadow.new.store.nodes c.in_ok-proposed.proposed p true c.as_slice.result.now c.in_ok-guard.guard) c.presence.ensures c.in_ok-guard.ensures.value)));
       share = guard_turn u k c.loop-leader.leader-index c.args.frame.now.unknowns.items c.args.store.now c.loop-leader.store c.shadow.new.store None c.loop-leader.invariant.share
-      (guard_share c.loop-leader.store.nodes c.loop-leader.store.nodes c.args.frame.now is c.args.conditions.now c.requires.conditions c.requires.few s below c.loop-leader.store c.shadow.new.store c.in_ok-proposed.proposed c.presence.result
-      c.as_slice.result.now wide.0 None c.presence.ensures rest here c.in_ok-guard.ensures.share);
+          (guard_share c.loop-leader.store.nodes c.loop-leader.store.nodes c.args.frame.now is c.args.conditions.now c.requires.conditions c.requires.few s below c.loop-leader.store c.shadow.new.store c.in_ok-proposed.proposed c.presence.result
+          c.as_slice.result.now wide.0 None c.presence.ensures rest here c.in_ok-guard.ensures.share);
     }
 
 at_place : (nodes : List Node) (frame : Frame) (conditions : List SigId) (guards : List Ref) (leaders : List ℕ) → leaders ≡ frame.leaders.items

@@ -1,9 +1,9 @@
-use Rattle.std.proofs.Common.{◌+◌, arith}
+use Rattle.std.proofs.Common.{arith}
 use Rattle.std.specs.Prelude.{None}
 use Rattle.sig_dd.specs.Shares.{refusal}
 use Rattle.sig_dd.proofs.Adding.{Share-then}
 use Rattle.sig_dd.proofs.CallerLemmas.{Holds-kept, Spans-kept}
-use Rattle.sig_solve.proofs.GuardLemmas.{kept_ok, kept_spans}
+use Rattle.sig_solve.proofs.GuardLemmas.{kept_ok}
 use Rattle.sig_solve.proofs.StoreLemmas.{more_calls, refused}
 use Rattle.sig_solve.proofs.guards.keep.Goals as goal
 

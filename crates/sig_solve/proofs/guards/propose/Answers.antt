@@ -1,11 +1,11 @@
-use Rattle.std.proofs.Common.{◌≡◌, ◌≢◌, ◌<◌, ◌≤◌, ◌+◌, ◌*◌, ℕ, Bool, List, length, true, false, get_or, take, sym, ap, ◌∙◌, subst, arith}
-use Rattle.std.specs.Prelude.{None, Some, slice_get}
+use Rattle.std.proofs.Common.{◌*◌, length, get_or, take, sym, ◌∙◌, arith}
+use Rattle.std.specs.Prelude.{None, Some}
 use Rattle.sig_base.specs.declared.ids.SigId.{SigId}
 use Rattle.sig_dd.proofs.Adding.{Share-none}
 use Rattle.sig_dd.proofs.CallerLemmas.{Keeps-itself, Keeps-trans}
 use Rattle.sig_solve.proofs.FrameLemmas.{frame_stays}
 use Rattle.sig_solve.proofs.ListLemmas.{contains_get, get_at, get_is}
-use Rattle.sig_solve.proofs.ProposeLemmas.{as_many, has_both, p_apart, propose_turn, proposed_none, substitute_share, wide_none, wide_turn}
+use Rattle.sig_solve.proofs.ProposeLemmas.{has_both, p_apart, propose_turn, proposed_none, substitute_share, wide_none, wide_turn}
 use Rattle.sig_solve.proofs.ReactionLemmas.{condition_is_boolean}
 use Rattle.sig_solve.proofs.RoundLemmas.{conditions_few}
 use Rattle.sig_solve.proofs.StoreLemmas.{next_turn, refused, turn_within}
@@ -68,12 +68,12 @@ loop-place-preserved c =
       store = c.in_ok-proposed.ensures.store;
       kept = Keeps-trans c.args.store.now c.loop-place.store c.substitute.new.store c.loop-place.invariant.kept c.in_ok-proposed.ensures.kept;
       value = propose_turn c.loop-place.store.nodes c.substitute.new.store.nodes c.args.frame.now frame c.args.conditions.now c.requires.conditions c.requires.few c.loop-place.place b c.in-Some.v at truth
-      c.loop-place.proposed c.in_ok-proposed.proposed c.presence-present.result c.presence-present.ensures c.loop-place.invariant.value c.in_ok-proposed.ensures.value;
+          c.loop-place.proposed c.in_ok-proposed.proposed c.presence-present.result c.presence-present.ensures c.loop-place.invariant.value c.in_ok-proposed.ensures.value;
       wide = wide_turn c.loop-place.store.nodes c.substitute.new.store.nodes c.args.frame.now frame c.args.conditions.now c.requires.conditions c.requires.few c.loop-place.place b c.in-Some.v at truth
-      c.loop-place.proposed c.in_ok-proposed.proposed c.presence-present.result c.presence-present.ensures c.loop-place.invariant.value.held c.loop-place.invariant.wide c.in_ok-proposed.ensures.value;
+          c.loop-place.proposed c.in_ok-proposed.proposed c.presence-present.result c.presence-present.ensures c.loop-place.invariant.value.held c.loop-place.invariant.wide c.in_ok-proposed.ensures.value;
       share = next_turn 18 c.loop-place.place c.args.frame.now.unknowns.items c.args.store.now c.loop-place.store c.substitute.new.store None c.loop-place.invariant.share
-      (substitute_share c.loop-place.store c.substitute.new.store c.args.frame.now (take c.loop-place.place c.args.conditions.now) c.loop-place.proposed c.presence-present.result (get_or c.args.frame.now.relation.present b.0 0) c.in-Some.v None
-      c.loop-place.invariant.wide c.presence-present.ensures
-      (has_both c.loop-place.store.nodes c.loop-place.store.nodes c.args.frame.now frame c.args.conditions.now c.requires.conditions c.requires.few c.loop-place.place b c.in-Some.v at truth c.loop-place.proposed c.loop-place.invariant.wide.0 c.loop-place.invariant.wide.1)
-      c.in_ok-proposed.ensures.share);
+          (substitute_share c.loop-place.store c.substitute.new.store c.args.frame.now (take c.loop-place.place c.args.conditions.now) c.loop-place.proposed c.presence-present.result (get_or c.args.frame.now.relation.present b.0 0) c.in-Some.v None
+          c.loop-place.invariant.wide c.presence-present.ensures
+          (has_both c.loop-place.store.nodes c.loop-place.store.nodes c.args.frame.now frame c.args.conditions.now c.requires.conditions c.requires.few c.loop-place.place b c.in-Some.v at truth c.loop-place.proposed c.loop-place.invariant.wide.0 c.loop-place.invariant.wide.1)
+          c.in_ok-proposed.ensures.share);
     }

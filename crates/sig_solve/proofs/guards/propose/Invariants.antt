@@ -11,5 +11,5 @@ invariant-loop-place l = record {
   kept : Keeps l.initial.store l.store;
   value : IsProposed l.store.nodes l.frame (take l.place l.conditions) l.proposed;
   wide : (vs : List ℕ) × IsWide l.store.nodes l.frame (take l.place l.conditions) l.proposed vs;
-  share : Share (18 * l.place) l.frame.unknowns.items l.initial.store l.store None
+  share : Share (18 * l.place) l.frame.unknowns.items l.initial.store l.store None;
 }

@@ -1,4 +1,4 @@
-use Rattle.std.proofs.Common.{◌+◌, arith}
+use Rattle.std.proofs.Common.{arith}
 use Rattle.std.specs.Prelude.{None}
 use Rattle.sig_dd.specs.Shares.{refusal}
 use Rattle.sig_dd.proofs.Adding.{Share-then}

@@ -1,12 +1,12 @@
-use Rattle.std.proofs.Common.{◌≡◌, ◌<◌, ◌≤◌, ◌+◌, ◌*◌, ℕ, Bool, length, true, false, get_or, sym, ap, subst, arith}
-use Rattle.std.specs.Prelude.{None, Option}
-use Rattle.sig_clock.specs.Reactions.{Reaction, Speaks, is_present}
-use Rattle.sig_dd.specs.Nodes.{StoreView, Keeps}
+use Rattle.std.proofs.Common.{◌≡◌, ◌<◌, ◌+◌, ◌*◌, ℕ, Bool, length, true, false, get_or, subst, arith}
+use Rattle.std.specs.Prelude.{None}
+use Rattle.sig_clock.specs.Reactions.{Speaks, is_present}
+use Rattle.sig_dd.specs.Nodes.{StoreView}
 use Rattle.sig_dd.specs.declared.node.Ref.{Ref}
 use Rattle.sig_dd.proofs.Adding.{Share-then}
 use Rattle.sig_solve.specs.Frames.{IsFrameIn}
 use Rattle.sig_solve.specs.Parts.{IsShadow}
-use Rattle.sig_solve.specs.Sets.{AreKnown, IsImage, IsPart, IsReady}
+use Rattle.sig_solve.specs.Sets.{IsImage, IsPart}
 use Rattle.sig_solve.specs.declared.frame.Frame.{Frame}
 use Rattle.sig_solve.specs.declared.known.Known.{Known}
 use Rattle.sig_solve.proofs.FrameLemmas.{frame_stays}

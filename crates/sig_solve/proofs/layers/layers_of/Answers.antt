@@ -1,5 +1,5 @@
 use Rattle.std.proofs.Common.{◌≡◌, ◌<◌, ◌≤◌, ◌+◌, ◌*◌, ℕ, Bool, List, [], ◌∷◌, ◌++◌, length, true, false, get_or, drop, take, refl, sym, ap, ◌∙◌, subst, arith, Contains}
-use Rattle.std.specs.Prelude.{None, Option, suc}
+use Rattle.std.specs.Prelude.{None, suc}
 use Rattle.std.proofs.Math.Nat.{mul-le-mul_left}
 use Rattle.sig_clock.proofs.Lists.{written}
 use Rattle.sig_clock.specs.Reactions.{Speaks}
@@ -9,9 +9,9 @@ use Rattle.sig_dd.proofs.CallerLemmas.{Keeps-itself, Keeps-trans}
 use Rattle.sig_solve.specs.Frames.{others_of}
 use Rattle.sig_solve.specs.Rounds.{AreRounds, AreSettled, has_entered}
 use Rattle.sig_solve.proofs.FrameLemmas.{frame_stays}
-use Rattle.sig_solve.proofs.RoundLemmas.{entered_conditions, filtered_conditions, leaders_fewer, rounds_begin, rounds_end, rounds_stick}
+use Rattle.sig_solve.proofs.RoundLemmas.{entered_conditions, filtered_conditions, leaders_fewer, rounds_begin, rounds_stick}
 use Rattle.sig_solve.proofs.SetLemmas.{part_stays}
-use Rattle.sig_solve.proofs.StoreLemmas.{more_calls, next_turn, no_turns, out_of_memory, refused, turn_within}
+use Rattle.sig_solve.proofs.StoreLemmas.{more_calls, next_turn, no_turns, out_of_memory, refused}
 use Rattle.sig_solve.proofs.layers.layers_of.Goals as goal
 
 pub overflow_cast-round-end : goal.overflow_cast-round-end
@@ -132,5 +132,5 @@ loop-round-preserved c =
       rounds = subst (λ xs. AreRounds c.args.frame.now (c.loop-round.round + 1) xs c.in_ok-still.still.items) (sym numbers) (subst (λ k. AreRounds c.args.frame.now k c.pass.new.layers c.in_ok-still.still.items) next is.0);
       few = omega (arith, is.1, c.if-len.false, still, before, c.loop-round.invariant.few, ap length c.as_slice-in-loop-round-2.ensures.value);
       share = one_round u n c.loop-round.round (length c.as_slice-in-loop-round-2.result.now) vs c.args.store.now c.loop-round.store c.pass.new.store None (omega (arith, c.loop-round.invariant.few, ap length c.as_slice-in-loop-round-2.ensures.value))
-      c.loop-round.invariant.share c.in_ok-still.ensures.share;
+          c.loop-round.invariant.share c.in_ok-still.ensures.share;
     }

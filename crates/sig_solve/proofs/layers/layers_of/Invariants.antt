@@ -11,5 +11,5 @@ invariant-loop-round l = record {
   kept : Keeps l.initial.store l.store;
   rounds : AreRounds l.frame l.round l.numbers.items l.waiting.items;
   few : length l.waiting.items + l.round ≤ length l.frame.leaders.items;
-  share : Share ((4 + 6 * length l.frame.unknowns.items) * length l.frame.leaders.items * l.round) l.frame.unknowns.items l.initial.store l.store None
+  share : Share ((4 + 6 * length l.frame.unknowns.items) * length l.frame.leaders.items * l.round) l.frame.unknowns.items l.initial.store l.store None;
 }

@@ -1,15 +1,12 @@
-use Rattle.std.proofs.Common.{◌≡◌, ◌<◌, ◌≤◌, ◌+◌, ◌*◌, ℕ, Bool, List, [], ◌∷◌, ◌++◌, length, true, false, get_or, set, drop, take, refl, sym, ap, ◌∙◌, subst, arith, Contains, drop-cons, add-one}
-use Rattle.std.specs.Prelude.{None, Option, suc}
+use Rattle.std.proofs.Common.{◌≡◌, ◌<◌, ◌+◌, ◌*◌, ℕ, List, [], length, get_or, drop, sym, ap, ◌∙◌, subst, arith, Contains}
+use Rattle.std.specs.Prelude.{None}
 use Rattle.std.proofs.lemmas.List.{get_or_default, length_push}
 use Rattle.std.proofs.Math.Seq.{drop-length}
 use Rattle.sig_clock.specs.Reactions.{Speaks}
-use Rattle.sig_clock.specs.Layers.{IsDetermined}
 use Rattle.sig_dd.specs.declared.answer.DdAnswer.TheVariants.{OutOfMemory}
-use Rattle.sig_dd.specs.Shares.{Share}
-use Rattle.sig_dd.proofs.Adding.{Share-none}
 use Rattle.sig_dd.proofs.CallerLemmas.{Keeps-itself, Keeps-trans}
 use Rattle.sig_solve.specs.Frames.{IsAmong}
-use Rattle.sig_solve.specs.Rounds.{ArePassed, AreRounds, IsOpenAnswer}
+use Rattle.sig_solve.specs.Rounds.{ArePassed, IsOpenAnswer}
 use Rattle.sig_solve.proofs.FrameLemmas.{frame_stays, leader_is}
 use Rattle.sig_solve.proofs.RoundLemmas.{determined_enters, enters_determined, pass_begins, pass_ends, stuck_more, turn_enters, turn_stays}
 use Rattle.sig_solve.proofs.SetLemmas.{part_stays}
@@ -22,7 +19,7 @@ loop-class-init c = record {
   store = c.requires.ready.has_store;
   kept = Keeps-itself c.args.store.now;
   passed = subst (λ xs. ArePassed c.args.frame.now c.args.round c.args.layers.now xs c.args.waiting.now) (sym c.new-still.ensures.items)
-  (pass_begins c.args.frame.now c.requires.ready.has_frame.parts c.args.round c.args.layers.now c.args.waiting.now c.requires.rounds);
+      (pass_begins c.args.frame.now c.requires.ready.has_frame.parts c.args.round c.args.layers.now c.args.waiting.now c.requires.rounds);
   few = omega (arith, ap length c.new-still.ensures.items);
   stuck = λ e k lt. absurd (omega (arith, lt));
   share = no_turns (4 + 6 * length c.args.frame.now.unknowns.items) c.args.frame.now.unknowns.items c.args.store.now;
@@ -77,7 +74,7 @@ loop-class-preserved c =
             store = c.in_ok-is_open.ensures.store;
             kept = kept;
             passed = turn_stays c.args.frame.now c.requires.ready.has_frame.parts c.args.round c.loop-class.layers c.loop-class.still.items c.args.waiting.now c.loop-class.class-index c.loop-class-test.true c.loop-class.invariant.passed
-            c.if-branch.layers c.if-branch.still.items w.layers-is same (λ enters. not (enters_determined c.args.frame.now.kernel.now c.args.round c.args.known.now.conditions.items c.requires.entered x enters));
+                c.if-branch.layers c.if-branch.still.items w.layers-is same (λ enters. not (enters_determined c.args.frame.now.kernel.now c.args.round c.args.known.now.conditions.items c.requires.entered x enters));
             few = omega (arith, ap length same, length_push c.loop-class.still.items x, c.loop-class.invariant.few);
             stuck = stuck_more c.loop-class.still.items c.if-branch.still.items c.args.waiting.now c.loop-class.class-index same c.loop-class.invariant.stuck;
             share = share;
@@ -89,7 +86,7 @@ loop-class-preserved c =
             store = c.in_ok-is_open.ensures.store;
             kept = kept;
             passed = turn_enters c.args.frame.now c.requires.ready.has_frame.parts c.args.round c.loop-class.layers c.loop-class.still.items c.args.waiting.now c.loop-class.class-index c.loop-class-test.true c.loop-class.invariant.passed
-            c.if-branch.layers c.if-branch.still.items w.layers-is same (determined_enters c.args.frame.now.kernel.now c.args.round c.args.known.now.conditions.items c.requires.entered x is);
+                c.if-branch.layers c.if-branch.still.items w.layers-is same (determined_enters c.args.frame.now.kernel.now c.args.round c.args.known.now.conditions.items c.requires.entered x is);
             few = omega (arith, ap length same, c.loop-class.invariant.few);
             stuck = λ full k lt. absurd (omega (arith, ap length same, full, c.loop-class.invariant.few));
             share = share;
@@ -99,10 +96,11 @@ loop-class-preserved c =
 pub returns-clause-value : goal.returns-clause-value
 returns-clause-value c =
     let all : c.loop-class.class-index ≡ length c.args.waiting.now = omega arith in
-    let none : drop c.loop-class.class-index c.args.waiting.now ≡ [] = ap (λ n. drop n c.args.waiting.now) all ∙ drop-length c.args.waiting.now in
-    (pass_ends c.args.frame.now c.requires.ready.has_frame.parts c.args.round c.loop-class.layers c.loop-class.still.items
-    (subst (λ xs. ArePassed c.args.frame.now c.args.round c.loop-class.layers c.loop-class.still.items xs) none c.loop-class.invariant.passed),
-    omega (arith, c.loop-class.invariant.few, all),
-    λ same s there.
-    let at = c.loop-class.invariant.stuck (same ∙ sym all) there.0 (omega (arith, there.1, all)) in
-    subst (λ w. Contains c.loop-class.still.items w) (sym (get_or_default c.args.waiting.now there.0 s 0 there.1) ∙ there.2) at)
+    let none : drop c.loop-class.class-index c.args.waiting.now ≡ [] = ap (λ n. drop n c.args.waiting.now) all ∙ drop-length c.args.waiting.now in (
+      pass_ends c.args.frame.now c.requires.ready.has_frame.parts c.args.round c.loop-class.layers c.loop-class.still.items
+          (subst (λ xs. ArePassed c.args.frame.now c.args.round c.loop-class.layers c.loop-class.still.items xs) none c.loop-class.invariant.passed),
+      omega (arith, c.loop-class.invariant.few, all),
+      λ same s there.
+          let at = c.loop-class.invariant.stuck (same ∙ sym all) there.0 (omega (arith, there.1, all)) in
+          subst (λ w. Contains c.loop-class.still.items w) (sym (get_or_default c.args.waiting.now there.0 s 0 there.1) ∙ there.2) at,
+    )

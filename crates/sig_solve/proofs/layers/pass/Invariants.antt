@@ -12,5 +12,5 @@ invariant-loop-class l = record {
   passed : ArePassed l.frame l.round l.layers l.still.items (drop l.class-index l.waiting);
   few : length l.still.items ≤ l.class-index;
   stuck : length l.still.items ≡ l.class-index → (k : ℕ) → k < l.class-index → Contains l.still.items (get_or l.waiting k 0);
-  share : Share ((4 + 6 * length l.frame.unknowns.items) * l.class-index) l.frame.unknowns.items l.initial.store l.store None
+  share : Share ((4 + 6 * length l.frame.unknowns.items) * l.class-index) l.frame.unknowns.items l.initial.store l.store None;
 }

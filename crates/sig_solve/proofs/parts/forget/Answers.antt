@@ -1,4 +1,4 @@
-use Rattle.std.proofs.Common.{ℕ, List, ◌+◌, ◌*◌, ◌≤◌, ◌≡◌, length, take, sym, subst, arith}
+use Rattle.std.proofs.Common.{◌+◌, ◌*◌, ◌≡◌, length, take, sym, subst, arith}
 use Rattle.std.proofs.lemmas.List.{take_all, take_more}
 use Rattle.std.specs.Prelude.{None}
 use Rattle.sig_dd.specs.Shares.{Share}
@@ -32,9 +32,9 @@ loop-v-preserved c = record {
   store = c.in_ok-left.ensures.store;
   kept = Keeps-trans c.args.store.now c.loop-v.store c.forget_var.new.self c.loop-v.invariant.kept c.in_ok-left.ensures.kept;
   value = subst (λ xs. IsForgotten c.args.store.now.nodes c.forget_var.new.self.nodes c.args.f xs c.in_ok-left.left) (sym (take_more c.args.variables.now c.loop-v.v-index 0 (omega arith)))
-  (forgotten_more c.args.store.now c.loop-v.store c.forget_var.new.self c.args.f c.loop-v.left c.in_ok-left.left (take c.loop-v.v-index c.args.variables.now) _ c.loop-v.invariant.value c.in_ok-left.ensures.value);
+      (forgotten_more c.args.store.now c.loop-v.store c.forget_var.new.self c.args.f c.loop-v.left c.in_ok-left.left (take c.loop-v.v-index c.args.variables.now) _ c.loop-v.invariant.value c.in_ok-left.ensures.value);
   share = λ vs spans has. forget_share c.args.store.now c.loop-v.store c.forget_var.new.self c.args.f c.loop-v.left c.args.variables.now vs c.loop-v.v-index None (omega arith)
-  c.loop-v.invariant.value spans has (c.loop-v.invariant.share vs spans has) c.in_ok-left.ensures.spends;
+      c.loop-v.invariant.value spans has (c.loop-v.invariant.share vs spans has) c.in_ok-left.ensures.spends;
 }
 
 pub returns : goal.returns

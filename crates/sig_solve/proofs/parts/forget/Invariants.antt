@@ -10,5 +10,5 @@ invariant-loop-v l = record {
   store : IsStore l.store;
   kept : Keeps l.initial.store l.store;
   value : IsForgotten l.initial.store.nodes l.store.nodes l.fn.f (take l.v-index l.variables) l.left;
-  share : (vs : List ℕ) → Spans l.initial.store.nodes l.fn.f vs → HasAll vs l.variables → Share (3 * l.v-index) vs l.initial.store l.store None
+  share : (vs : List ℕ) → Spans l.initial.store.nodes l.fn.f vs → HasAll vs l.variables → Share (3 * l.v-index) vs l.initial.store l.store None;
 }

@@ -1,13 +1,12 @@
-use Rattle.std.proofs.Common.{◌≡◌, ◌<◌, ◌≤◌, ◌+◌, ◌*◌, ⊎_elim, inl, inr, ℕ, Bool, List, length, true, false, get_or, take, sym, ap, ◌∙◌, subst, arith}
+use Rattle.std.proofs.Common.{◌≡◌, ◌<◌, ◌+◌, ◌*◌, inl, inr, ℕ, List, length, true, false, get_or, take, sym, ap, ◌∙◌, subst, arith}
 use Rattle.std.specs.Prelude.{None, Some, slice_get}
 use Rattle.std.proofs.lemmas.Bool.{cases_eq}
 use Rattle.sig_base.specs.declared.ids.SigId.{SigId}
 use Rattle.sig_kernel.specs.declared.kernel.Kernel.{Kernel}
-use Rattle.sig_clock.specs.Clocks.{AreInOrder}
 use Rattle.sig_clock.specs.Pinned.{IsFree}
 use Rattle.sig_dd.proofs.CallerLemmas.{Keeps-trans}
 use Rattle.sig_solve.specs.Frames.{IsAmong}
-use Rattle.sig_solve.specs.Orders.{IsFreeBy, IsPinnedAnswer}
+use Rattle.sig_solve.specs.Orders.{IsPinnedAnswer}
 use Rattle.sig_solve.proofs.FrameLemmas.{frame_stays}
 use Rattle.sig_solve.proofs.ListLemmas.{get_at}
 use Rattle.sig_solve.proofs.PinnedLemmas.{all_free, first_pinned, free_is}
@@ -54,8 +53,8 @@ loop-place-preserved c =
       store = c.in_ok-is_pinned.ensures.store;
       kept = Keeps-trans c.args.store.now c.loop-place.store c.is_pinned.new.store c.loop-place.invariant.kept c.in_ok-is_pinned.ensures.kept;
       free = one_more_free c.args.frame.now.kernel.now c.args.conditions.now c.loop-place.place d c.loop-place-test.true c.loop-place.invariant.free
-      (free_is c.args.frame.now.kernel.now c.args.conditions.now c.requires.conditions c.loop-place.place b (get_at c.args.conditions.now c.loop-place.place d c.loop-place-test.true)
-      (subst (λ xs. IsPinnedAnswer c.args.frame.now.kernel.now (IsAmong xs) b.0 false) same (subst (IsPinnedAnswer c.args.frame.now.kernel.now (IsAmong c.in_ok-known.known.conditions.items) b.0) c.if-branch.false c.in_ok-is_pinned.ensures.value)));
+          (free_is c.args.frame.now.kernel.now c.args.conditions.now c.requires.conditions c.loop-place.place b (get_at c.args.conditions.now c.loop-place.place d c.loop-place-test.true)
+          (subst (λ xs. IsPinnedAnswer c.args.frame.now.kernel.now (IsAmong xs) b.0 false) same (subst (IsPinnedAnswer c.args.frame.now.kernel.now (IsAmong c.in_ok-known.known.conditions.items) b.0) c.if-branch.false c.in_ok-is_pinned.ensures.value)));
       share = next_turn m c.loop-place.place c.args.frame.now.unknowns.items c.args.store.now c.loop-place.store c.is_pinned.new.store None c.loop-place.invariant.share c.in_ok-is_pinned.ensures.share;
     }
 

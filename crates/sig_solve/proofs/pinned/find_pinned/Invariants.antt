@@ -11,5 +11,5 @@ invariant-loop-place l = record {
   store : IsStore l.store;
   kept : Keeps l.initial.store l.store;
   free : (k : ℕ) (c : SigId) → k < l.place → slice_get l.conditions k ≡ Some c → IsFree l.frame.kernel.now c.0;
-  share : Share ((8 + 6 * length l.frame.unknowns.items) * l.place) l.frame.unknowns.items l.initial.store l.store None
+  share : Share ((8 + 6 * length l.frame.unknowns.items) * l.place) l.frame.unknowns.items l.initial.store l.store None;
 }

@@ -1,14 +1,14 @@
 use Rattle.std.proofs.Common.{◌≡◌, ◌<◌, ◌≤◌, ◌+◌, ◌*◌, ℕ, Bool, List, length, true, false, get_or, sym, ap, ◌∙◌, subst, arith}
-use Rattle.std.specs.Prelude.{None, Option, Some}
+use Rattle.std.specs.Prelude.{None, Some}
 use Rattle.sig_clock.specs.Reactions.{IsReaction, is_present, status_at}
-use Rattle.sig_dd.specs.Nodes.{StoreView, Keeps, Spans}
+use Rattle.sig_dd.specs.Nodes.{StoreView, Spans}
 use Rattle.sig_dd.specs.Shares.{Share}
 use Rattle.sig_dd.specs.declared.node.Ref.{Ref}
 use Rattle.sig_dd.proofs.Adding.{Share-then}
 use Rattle.sig_dd.proofs.CallerLemmas.{Spans-kept}
 use Rattle.sig_solve.specs.Frames.{IsFrameIn}
 use Rattle.sig_solve.specs.Parts.{IsNarrowed, IsShadow}
-use Rattle.sig_solve.specs.Sets.{AreKnown, IsImage, IsPart, IsReady}
+use Rattle.sig_solve.specs.Sets.{AreKnown, IsImage, IsPart}
 use Rattle.sig_solve.specs.declared.frame.Frame.{Frame}
 use Rattle.sig_solve.specs.declared.known.Known.{Known}
 use Rattle.sig_solve.proofs.FrameLemmas.{frame_stays}
@@ -36,10 +36,10 @@ split c =
       has_frame = frame_stays c.args.store.now c.narrow.new.store c.args.frame.now c.in_ok-present.ensures.kept c.requires.ready.has_frame;
       truth = sym c.truth.ensures ∙ c.in-Some.is;
       part = part_present c.args.store.now.nodes c.narrow.new.store.nodes c.args.frame.now (IsReaction c.args.frame.now.kernel.now) c.whole.result c.in_ok-present.present c.args.condition.0 true c.requires.ready.has_frame lt
-      (part_whole c.args.store.now.nodes c.args.frame.now c.requires.ready.has_frame c.whole.result c.whole.ensures)
-      (subst (λ p. IsNarrowed c.args.store.now.nodes c.narrow.new.store.nodes c.whole.result p true c.in_ok-present.present) c.presence.ensures c.in_ok-present.ensures.value);
+          (part_whole c.args.store.now.nodes c.args.frame.now c.requires.ready.has_frame c.whole.result c.whole.ensures)
+          (subst (λ p. IsNarrowed c.args.store.now.nodes c.narrow.new.store.nodes c.whole.result p true c.in_ok-present.present) c.presence.ensures c.in_ok-present.ensures.value);
       share = c.in_ok-present.ensures.share c.args.frame.now.unknowns.items (whole_spans c.args.store.now.nodes c.args.frame.now c.requires.ready.has_frame c.whole.result c.whole.ensures)
-      (presence_unknown c.args.store.now.nodes c.args.frame.now c.requires.ready.has_frame c.args.condition.0 c.presence.result lt c.presence.ensures);
+          (presence_unknown c.args.store.now.nodes c.args.frame.now c.requires.ready.has_frame c.args.condition.0 c.presence.result lt c.presence.ensures);
     }
 
 pub returns-in_err-present-clause-share : goal.returns-in_err-present-clause-share
@@ -74,10 +74,10 @@ high_of c is =
       has_frame = frame_stays c.narrow.new.store c.shadow.new.store c.args.frame.now c.in_ok-high.ensures.kept is.has_frame;
       part = part_stays c.narrow.new.store c.shadow.new.store c.args.frame.now (λ reaction. IsReaction c.args.frame.now.kernel.now reaction × (is_present reaction c.args.condition.0 ≡ true)) c.in_ok-present.present c.in_ok-high.ensures.kept is.part;
       image = image_truth c.narrow.new.store.nodes c.shadow.new.store.nodes c.args.frame.now c.args.known.now c.in_ok-present.present c.in_ok-high.high c.args.condition.0 c.in-Some.v true is.has_frame is.within is.truth is.part
-      (subst (λ xs. IsShadow c.narrow.new.store.nodes c.shadow.new.store.nodes c.in_ok-present.present c.in-Some.v true xs c.in_ok-high.high) c.as_slice-others.ensures.value c.in_ok-high.ensures.value);
+          (subst (λ xs. IsShadow c.narrow.new.store.nodes c.shadow.new.store.nodes c.in_ok-present.present c.in-Some.v true xs c.in_ok-high.high) c.as_slice-others.ensures.value c.in_ok-high.ensures.value);
       spans = c.in_ok-high.ensures.value.spans c.args.frame.now.unknowns.items is.part.spans (truth_unknown c.narrow.new.store.nodes c.args.frame.now is.has_frame c.args.condition.0 c.in-Some.v is.within is.truth);
       share = image_share c.args.store.now c.narrow.new.store c.shadow.new.store c.args.frame.now c.args.known.now c.args.condition.0 c.in-Some.v c.in_ok-present.present c.as_slice-others.result.now None is c.requires.known
-      c.as_slice-others.ensures.value c.in_ok-high.ensures.share;
+          c.as_slice-others.ensures.value c.in_ok-high.ensures.share;
     }
 
 pub returns-in_err-high-clause-share : goal.returns-in_err-high-clause-share
@@ -113,7 +113,7 @@ returns-clause-value c =
     record {
       high_is = image_stays c.shadow.new.store c.shadow-2.new.store c.args.frame.now c.args.known.now (λ reaction. IsReaction c.args.frame.now.kernel.now reaction × (status_at reaction c.args.condition.0 ≡ Some true)) c.in_ok-high.high c.in_ok-low.ensures.kept high.image;
       low_is = image_truth c.shadow.new.store.nodes c.shadow-2.new.store.nodes c.args.frame.now c.args.known.now c.in_ok-present.present c.in_ok-low.low c.args.condition.0 c.in-Some.v false high.has_frame is.within is.truth high.part
-      (subst (λ xs. IsShadow c.shadow.new.store.nodes c.shadow-2.new.store.nodes c.in_ok-present.present c.in-Some.v false xs c.in_ok-low.low) c.as_slice-others.ensures.value c.in_ok-low.ensures.value);
+          (subst (λ xs. IsShadow c.shadow.new.store.nodes c.shadow-2.new.store.nodes c.in_ok-present.present c.in-Some.v false xs c.in_ok-low.low) c.as_slice-others.ensures.value c.in_ok-low.ensures.value);
       high_spans = Spans-kept c.shadow.new.store c.shadow-2.new.store c.in_ok-low.ensures.kept c.in_ok-high.high high.image.held c.args.frame.now.unknowns.items high.spans;
       low_spans = c.in_ok-low.ensures.value.spans c.args.frame.now.unknowns.items high.part.spans (truth_unknown c.shadow.new.store.nodes c.args.frame.now high.has_frame c.args.condition.0 c.in-Some.v is.within is.truth);
     }

@@ -1,4 +1,4 @@
-use Rattle.std.proofs.Common.{◌≡◌, ◌<◌, ◌+◌, ◌*◌, ℕ, length, false, get_or, sym, ap, subst, arith}
+use Rattle.std.proofs.Common.{◌≡◌, ◌*◌, length, false, get_or, ap, subst, arith}
 use Rattle.std.specs.Prelude.{None}
 use Rattle.sig_clock.specs.Reactions.{Speaks}
 use Rattle.sig_dd.proofs.CallerLemmas.{Keeps-trans}
@@ -50,10 +50,10 @@ loop-leader-preserved c = record {
   store = c.in_ok-is_met.ensures.store;
   kept = Keeps-trans c.args.store.now c.loop-leader.store c.is_met.new.store c.loop-leader.invariant.kept c.in_ok-is_met.ensures.kept;
   none = below_more_of (IsSomewhereAbsent c.args.frame.now.kernel.now) c.as_slice-leader-items.result.now c.loop-leader.leader-index c.loop-leader.invariant.none
-  (met_absent c.loop-leader.store.nodes c.args.frame.now (frame_stays c.args.store.now c.loop-leader.store c.args.frame.now c.loop-leader.invariant.kept c.requires.ready.has_frame) c.args.speaking
-  (part_stays c.args.store.now c.loop-leader.store c.args.frame.now (Speaks c.args.frame.now.kernel.now) c.args.speaking c.loop-leader.invariant.kept c.requires.speaking)
-  (get_or c.as_slice-leader-items.result.now c.loop-leader.leader-index 0)
-  (subst (IsMetAnswer c.loop-leader.store.nodes c.args.frame.now c.args.speaking false (get_or c.as_slice-leader-items.result.now c.loop-leader.leader-index 0)) c.if-not-branch.false c.in_ok-is_met.ensures.value));
+      (met_absent c.loop-leader.store.nodes c.args.frame.now (frame_stays c.args.store.now c.loop-leader.store c.args.frame.now c.loop-leader.invariant.kept c.requires.ready.has_frame) c.args.speaking
+      (part_stays c.args.store.now c.loop-leader.store c.args.frame.now (Speaks c.args.frame.now.kernel.now) c.args.speaking c.loop-leader.invariant.kept c.requires.speaking)
+      (get_or c.as_slice-leader-items.result.now c.loop-leader.leader-index 0)
+      (subst (IsMetAnswer c.loop-leader.store.nodes c.args.frame.now c.args.speaking false (get_or c.as_slice-leader-items.result.now c.loop-leader.leader-index 0)) c.if-not-branch.false c.in_ok-is_met.ensures.value));
   share = next_turn 2 c.loop-leader.leader-index c.args.frame.now.unknowns.items c.args.store.now c.loop-leader.store c.is_met.new.store None c.loop-leader.invariant.share c.in_ok-is_met.ensures.share;
 }
 

@@ -1,6 +1,5 @@
-use Rattle.std.proofs.Common.{◌≡◌, ◌<◌, ◌+◌, ◌*◌, ℕ, length, true, false, get_or, sym, ap, subst, arith}
+use Rattle.std.proofs.Common.{◌≡◌, ◌*◌, length, true, get_or, ap, subst, arith}
 use Rattle.std.specs.Prelude.{None}
-use Rattle.sig_dd.specs.Nodes.{Keeps}
 use Rattle.sig_dd.proofs.CallerLemmas.{Keeps-trans, Holds-kept, Spans-kept}
 use Rattle.sig_solve.specs.Answers.{IsMet, IsMetAnswer}
 use Rattle.sig_solve.proofs.FrameLemmas.{frame_stays}
@@ -51,8 +50,8 @@ loop-leader-preserved c =
       store = c.in_ok-is_met.ensures.store;
       kept = Keeps-trans c.args.store.now c.loop-leader.store c.is_met.new.store c.loop-leader.invariant.kept c.in_ok-is_met.ensures.kept;
       none = below_more_of (λ k. IsMet c.args.store.now.nodes c.args.frame.now c.args.part true k → ⊥) c.as_slice-leader-items.result.now c.loop-leader.leader-index c.loop-leader.invariant.none
-      (unmet_before c.args.store.now c.loop-leader.store c.args.frame.now c.args.part true s c.loop-leader.invariant.kept c.requires.held
-      (subst (IsMetAnswer c.loop-leader.store.nodes c.args.frame.now c.args.part true s) c.if-branch.false c.in_ok-is_met.ensures.value));
+          (unmet_before c.args.store.now c.loop-leader.store c.args.frame.now c.args.part true s c.loop-leader.invariant.kept c.requires.held
+          (subst (IsMetAnswer c.loop-leader.store.nodes c.args.frame.now c.args.part true s) c.if-branch.false c.in_ok-is_met.ensures.value));
       share = next_turn 2 c.loop-leader.leader-index c.args.frame.now.unknowns.items c.args.store.now c.loop-leader.store c.is_met.new.store None c.loop-leader.invariant.share c.in_ok-is_met.ensures.share;
     }
 

@@ -1,8 +1,8 @@
 use Rattle.std.proofs.Common.{◌≡◌, ◌<◌, ◌+◌, ◌*◌, ℕ, length, true, false, get_or, sym, ap, subst, arith}
 use Rattle.std.specs.Prelude.{None}
-use Rattle.sig_clock.specs.Reactions.{Reaction, Speaks, is_present}
+use Rattle.sig_clock.specs.Reactions.{Speaks, is_present}
 use Rattle.sig_dd.specs.Nodes.{StoreView, Keeps, Spans}
-use Rattle.sig_dd.specs.Shares.{Share, refusal}
+use Rattle.sig_dd.specs.Shares.{Share}
 use Rattle.sig_dd.specs.declared.node.Ref.{Ref}
 use Rattle.sig_dd.proofs.Adding.{Share-then}
 use Rattle.sig_solve.specs.Parts.{IsNarrowed}

@@ -1,7 +1,6 @@
-use Rattle.std.proofs.Common.{◌≡◌, ◌<◌, ◌+◌, ◌*◌, length, get_or, take, sym, ap, ◌∙◌, subst, arith}
+use Rattle.std.proofs.Common.{◌≡◌, ◌*◌, length, ap, subst, arith}
 use Rattle.std.proofs.lemmas.List.{take_all}
 use Rattle.std.specs.Prelude.{None}
-use Rattle.sig_dd.specs.Shares.{Share}
 use Rattle.sig_dd.proofs.Adding.{Share-none}
 use Rattle.sig_dd.proofs.CallerLemmas.{Keeps-itself, Keeps-trans}
 use Rattle.sig_solve.specs.Absences.{LacksAll}
@@ -42,10 +41,10 @@ loop-leader-preserved c =
       store = c.in_ok-silent.ensures.store;
       kept = Keeps-trans c.args.store.now c.loop-leader.store c.narrow.new.store c.loop-leader.invariant.kept c.in_ok-silent.ensures.kept;
       value = one_more_lacks c.loop-leader.store.nodes c.args.frame.now (frame_stays c.args.store.now c.loop-leader.store c.args.frame.now c.loop-leader.invariant.kept c.requires.has_frame)
-      c.narrow.new.store.nodes c.as_slice-leader-items.result.now c.loop-leader.leader-index c.presence.result c.loop-leader.silent c.in_ok-silent.silent c.as_slice-leader-items.ensures.value c.loop-leader-test.true c.presence.ensures
-      c.loop-leader.invariant.value c.in_ok-silent.ensures.value;
+          c.narrow.new.store.nodes c.as_slice-leader-items.result.now c.loop-leader.leader-index c.presence.result c.loop-leader.silent c.in_ok-silent.silent c.as_slice-leader-items.ensures.value c.loop-leader-test.true c.presence.ensures
+          c.loop-leader.invariant.value c.in_ok-silent.ensures.value;
       share = next_turn 2 c.loop-leader.leader-index c.args.frame.now.unknowns.items c.args.store.now c.loop-leader.store c.narrow.new.store None c.loop-leader.invariant.share
-      (c.in_ok-silent.ensures.share c.args.frame.now.unknowns.items c.loop-leader.invariant.value.spans (presence_unknown c.args.store.now.nodes c.args.frame.now c.requires.has_frame _ c.presence.result below c.presence.ensures));
+          (c.in_ok-silent.ensures.share c.args.frame.now.unknowns.items c.loop-leader.invariant.value.spans (presence_unknown c.args.store.now.nodes c.args.frame.now c.requires.has_frame _ c.presence.result below c.presence.ensures));
     }
 
 pub returns-clause-value : goal.returns-clause-value

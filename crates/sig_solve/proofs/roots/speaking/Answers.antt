@@ -1,4 +1,4 @@
-use Rattle.std.proofs.Common.{◌+◌, ◌*◌, length}
+use Rattle.std.proofs.Common.{◌*◌, length}
 use Rattle.sig_dd.specs.Shares.{refusal}
 use Rattle.sig_dd.proofs.Adding.{Share-then}
 use Rattle.sig_solve.proofs.FrameLemmas.{frame_stays}

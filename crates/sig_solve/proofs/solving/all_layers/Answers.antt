@@ -1,4 +1,4 @@
-use Rattle.std.proofs.Common.{◌≡◌, sym, ap, ◌∙◌}
+use Rattle.std.proofs.Common.{sym, ap, ◌∙◌}
 use Rattle.std.specs.Prelude.{slice_get}
 use Rattle.sig_solve.proofs.SolveLemmas.{unsolved_at}
 use Rattle.sig_solve.proofs.solving.all_layers.Goals as goal

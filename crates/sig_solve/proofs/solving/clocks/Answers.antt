@@ -1,7 +1,6 @@
-use Rattle.std.proofs.Common.{◌≡◌, sym, ap, ◌∙◌, subst, get_or}
+use Rattle.std.proofs.Common.{sym, ap, ◌∙◌, subst, get_or}
 use Rattle.std.specs.Prelude.{slice_get}
 use Rattle.sig_solve.specs.Guards.{AreGuards}
-use Rattle.sig_solve.specs.Classes.{AreMadeOf}
 use Rattle.sig_solve.proofs.ClassLemmas.{clocks_are}
 use Rattle.sig_solve.proofs.FrameLemmas.{leader_in}
 use Rattle.sig_solve.proofs.solving.clocks.Goals as goal

@@ -1,10 +1,8 @@
-use Rattle.std.proofs.Common.{◌≡◌, ◌<◌, ◌≤◌, ◌+◌, ◌*◌, List, length, sym, ap, ◌∙◌, subst, arith}
+use Rattle.std.proofs.Common.{◌≡◌, ◌≤◌, ◌+◌, ◌*◌, List, length, ap, ◌∙◌, subst, arith}
 use Rattle.std.specs.Prelude.{None}
 use Rattle.std.proofs.Math.Nat.{mul-le-mul_left}
 use Rattle.sig_base.specs.declared.ids.SigId.{SigId}
 use Rattle.sig_clock.specs.Conditions.{conditions_of}
-use Rattle.sig_dd.specs.Nodes.{StoreView}
-use Rattle.sig_dd.specs.Shares.{Share}
 use Rattle.sig_solve.specs.Answers.{FindsPinned}
 use Rattle.sig_solve.specs.Orders.{by_layer}
 use Rattle.sig_solve.specs.declared.frame.Frame.{Frame}

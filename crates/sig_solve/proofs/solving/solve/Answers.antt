@@ -1,4 +1,4 @@
-use Rattle.std.proofs.Common.{◌≡◌, ◌+◌, ℕ}
+use Rattle.std.proofs.Common.{◌+◌}
 use Rattle.sig_dd.proofs.CallerLemmas.{Keeps-trans}
 use Rattle.sig_solve.specs.Refusals.{rest_of_share, share_of}
 use Rattle.sig_solve.proofs.CountLemmas.{halves, within_equal, within_relation, within_then}

@@ -1,14 +1,13 @@
-use Rattle.std.proofs.Common.{◌≡◌, ◌<◌, ◌≤◌, ◌+◌, ◌*◌, ℕ, List, length, sym, ap, ◌∙◌, subst, arith}
+use Rattle.std.proofs.Common.{◌+◌, ◌*◌, length, arith}
 use Rattle.std.specs.Prelude.{None}
 use Rattle.std.proofs.Math.Nat.{mul-le-mul_left}
 use Rattle.sig_clock.specs.ClockRefusals.{HasClocks}
 use Rattle.sig_clock.specs.Clocks.{AreClocks}
 use Rattle.sig_clock.specs.Conditions.{conditions_of}
 use Rattle.sig_clock.specs.Reactions.{Speaks}
-use Rattle.sig_dd.specs.Shares.{Share}
 use Rattle.sig_dd.proofs.Adding.{Share-then}
 use Rattle.sig_dd.proofs.CallerLemmas.{Keeps-trans}
-use Rattle.sig_solve.specs.Refusals.{calls_of, store_refusal}
+use Rattle.sig_solve.specs.Refusals.{store_refusal}
 use Rattle.sig_solve.proofs.FrameLemmas.{frame_stays}
 use Rattle.sig_solve.proofs.SetLemmas.{part_stays}
 use Rattle.sig_solve.proofs.SolveLemmas.{solved, with_clocks}
@@ -32,16 +31,16 @@ pub free_conditions-requires-clause-ready : goal.free_conditions-requires-clause
 free_conditions-requires-clause-ready c = record {
   has_store = c.in_ok-layers.ensures.store;
   has_frame = frame_stays c.args.store.now c.all_layers.new.store c.args.frame.now
-  (Keeps-trans c.args.store.now c.some_root.new.store c.all_layers.new.store (Keeps-trans c.args.store.now c.some_speaking.new.store c.some_root.new.store c.in_ok-speaking.ensures.kept c.in_ok-root.ensures.kept) c.in_ok-layers.ensures.kept) c.requires.ready.has_frame;
+      (Keeps-trans c.args.store.now c.some_root.new.store c.all_layers.new.store (Keeps-trans c.args.store.now c.some_speaking.new.store c.some_root.new.store c.in_ok-speaking.ensures.kept c.in_ok-root.ensures.kept) c.in_ok-layers.ensures.kept) c.requires.ready.has_frame;
 }
 
 pub clocks-requires-clause-ready : goal.clocks-requires-clause-ready
 clocks-requires-clause-ready c = record {
   has_store = c.in_ok-ordered.ensures.store;
   has_frame = frame_stays c.args.store.now c.free_conditions.new.store c.args.frame.now
-  (Keeps-trans c.args.store.now c.all_layers.new.store c.free_conditions.new.store
-  (Keeps-trans c.args.store.now c.some_root.new.store c.all_layers.new.store (Keeps-trans c.args.store.now c.some_speaking.new.store c.some_root.new.store c.in_ok-speaking.ensures.kept c.in_ok-root.ensures.kept) c.in_ok-layers.ensures.kept)
-  c.in_ok-ordered.ensures.kept) c.requires.ready.has_frame;
+      (Keeps-trans c.args.store.now c.all_layers.new.store c.free_conditions.new.store
+      (Keeps-trans c.args.store.now c.some_root.new.store c.all_layers.new.store (Keeps-trans c.args.store.now c.some_speaking.new.store c.some_root.new.store c.in_ok-speaking.ensures.kept c.in_ok-root.ensures.kept) c.in_ok-layers.ensures.kept)
+      c.in_ok-ordered.ensures.kept) c.requires.ready.has_frame;
 }
 
 pub clocks-requires-clause-speaking : goal.clocks-requires-clause-speaking

@@ -1,11 +1,9 @@
-use Rattle.std.proofs.Common.{◌≡◌, ◌<◌, ◌≤◌, ◌+◌, ◌*◌, ℕ, List, length, sym, ap, ◌∙◌, subst, arith, IfOk}
-use Rattle.std.specs.Prelude.{None, IfErr}
-use Rattle.sig_kernel.specs.declared.kernel.Kernel.{Kernel}
+use Rattle.std.proofs.Common.{sym, ap, ◌∙◌, subst, IfOk}
+use Rattle.std.specs.Prelude.{IfErr}
 use Rattle.sig_clock.specs.ClockRefusals.{HasClocks}
 use Rattle.sig_clock.specs.Clocks.{AreClocks}
 use Rattle.sig_clock.specs.Conditions.{conditions_of}
 use Rattle.sig_rel.specs.Relations.{IsUnknownCount}
-use Rattle.sig_solve.specs.Frames.{IsFrameIn}
 use Rattle.sig_solve.specs.Refusals.{IsRefusalOf, IsWithin, rest_of_share}
 use Rattle.sig_solve.specs.Sets.{IsReady}
 use Rattle.sig_solve.proofs.SolveLemmas.{ready_of, rest_within, within_nothing}
