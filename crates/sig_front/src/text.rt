@@ -37,6 +37,6 @@ fn tree_of(alloc: Global, bytes: &[u8]) -> Result<Program, FrontAnswer>
     ensures fault { IfErr result (λ answer. (answer ≡ FrontAnswer.OutOfMemory) ⊎ IsNoText bytes.now answer) }
 {
     let tokens = lex(alloc, bytes)?;
-    let program = parse(alloc, bytes, &tokens)?;
+    let program = parse(alloc, bytes, tokens)?;
     Ok(program)
 }

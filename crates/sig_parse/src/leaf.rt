@@ -63,7 +63,7 @@ fn leaf_at<'a>(bytes: &'a [u8], token: &Token) -> Option<Leaf<'a>>
 }
 
 /// The leaves of a text, in order.
-pub fn leaves<'a>(
+fn leaves<'a>(
     alloc: Global,
     bytes: &'a [u8],
     tokens: &[Token],
@@ -79,4 +79,16 @@ pub fn leaves<'a>(
         }
     }
     Ok(leaves)
+}
+
+/// The leaves of a text, in order. The memory of its tokens is let go.
+pub fn into_leaves<'a>(
+    alloc: Global,
+    bytes: &'a [u8],
+    tokens: Vec<Token>,
+) -> Result<Vec<Leaf<'a>>, AllocFailed<Leaf<'a>>>
+    requires { AreTokens bytes.now tokens.items }
+    ensures { IfOk result (λ leaves. map leaf_seen leaves.items ≡ leaves_of bytes.now tokens.items) }
+{
+    leaves(alloc, bytes, &tokens)
 }

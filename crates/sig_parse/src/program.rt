@@ -12,7 +12,7 @@ ghost use Rattle.sig_parse.specs.Parts.{InProgram, IsAnything};
 ghost use Rattle.sig_parse.specs.Refusals.{IsOfText};
 ghost use Rattle.sig_lex.specs.Tokens.{AreTokens};
 
-use crate::leaf::leaves;
+use crate::leaf::into_leaves;
 use crate::parse_answer::ParseAnswer;
 use crate::parser::Parser;
 use crate::process::process;
@@ -23,29 +23,31 @@ use sig_lex::Token;
 use sig_tree::{Process, Program, one_tree};
 use std::alloc::Global;
 
-/// The tree of a program, from the tokens of its text, which has no other tree.
-pub fn parse(alloc: Global, bytes: &[u8], tokens: &[Token]) -> Result<Program, ParseAnswer>
-    requires { AreTokens bytes.now tokens.now }
-    ensures tree { IfOk result (λ program. HasTree (leaves_of bytes.now tokens.now) (program_of program)) }
-    ensures only { IfOk result (λ program. (other : List ProcessModel) → HasTree (leaves_of bytes.now tokens.now) other → other ≡ program_of program) }
+/// The tree of a program, from the tokens of its text, which has no other tree. The tokens are let go
+/// before it is built.
+pub fn parse(alloc: Global, bytes: &[u8], tokens: Vec<Token>) -> Result<Program, ParseAnswer>
+    requires { AreTokens bytes.now tokens.items }
+    ensures tree { IfOk result (λ program. HasTree (leaves_of bytes.now tokens.items) (program_of program)) }
+    ensures only { IfOk result (λ program. (other : List ProcessModel) → HasTree (leaves_of bytes.now tokens.items) other → other ≡ program_of program) }
     // Some program that keeps both limits begins with the tokens before the refused one.
-    ensures viable { IfErr result (λ answer. IsRefusal (leaves_of bytes.now tokens.now) (end_of tokens.now) answer) }
+    ensures viable { IfErr result (λ answer. IsRefusal (leaves_of bytes.now tokens.items) (end_of tokens.items) answer) }
     // The refused token is the first with which no program goes on. It is Syntax where none does
     // whatever the limits, Nesting of 64 where none does that keeps the nesting, and else of 512.
-    ensures refused { IfErr result (λ answer. IsAnswerOf (leaves_of bytes.now tokens.now) (end_of tokens.now) answer) }
+    ensures refused { IfErr result (λ answer. IsAnswerOf (leaves_of bytes.now tokens.items) (end_of tokens.items) answer) }
     // It is so exactly there: no other token is the first, and none for another cause.
-    ensures no_other { IfErr result (λ answer. (cause : Cause) (at : Span) → IsRefused (leaves_of bytes.now tokens.now) (end_of tokens.now) cause at
+    ensures no_other { IfErr result (λ answer. (cause : Cause) (at : Span) → IsRefused (leaves_of bytes.now tokens.items) (end_of tokens.items) cause at
         → (answer ≡ ParseAnswer.OutOfMemory) ⊎ (answer ≡ answer_for cause at)) }
-    ensures accepted { IfOk result (λ program. (cause : Cause) (at : Span) → IsRefused (leaves_of bytes.now tokens.now) (end_of tokens.now) cause at → ⊥) }
+    ensures accepted { IfOk result (λ program. (cause : Cause) (at : Span) → IsRefused (leaves_of bytes.now tokens.items) (end_of tokens.items) cause at → ⊥) }
     // A text with a tree is refused for want of memory alone.
-    ensures given { IfErr result (λ answer. (processes : List ProcessModel) → HasTree (leaves_of bytes.now tokens.now) processes → answer ≡ ParseAnswer.OutOfMemory) }
+    ensures given { IfErr result (λ answer. (processes : List ProcessModel) → HasTree (leaves_of bytes.now tokens.items) processes → answer ≡ ParseAnswer.OutOfMemory) }
 {
     one_tree();
-    let leaves = leaves(alloc, bytes, tokens)?;
+    let last = end(&tokens);
+    let leaves = into_leaves(alloc, bytes, tokens)?;
     let mut parser = Parser::new(&leaves);
     match processes(alloc, &mut parser) {
         Ok(processes) => Ok(Program { processes }),
-        Err(refusal) => Err(answer(refusal, place(&parser, tokens))),
+        Err(refusal) => Err(answer(refusal, place(&parser, last))),
     }
 }
 
@@ -61,13 +63,13 @@ fn answer(refusal: Refusal, at: Span) -> ParseAnswer
     }
 }
 
-/// The place of the next token.
-fn place(parser: &Parser, tokens: &[Token]) -> Span
-    ensures { result ≡ place_of parser.now.leaves (end_of tokens.now) }
+/// The place of the next token, or of the last one.
+fn place(parser: &Parser, last: Span) -> Span
+    ensures { result ≡ place_of parser.now.leaves last }
 {
     match parser.ahead().first() {
         Some(leaf) => leaf.at,
-        None => end(tokens),
+        None => last,
     }
 }
 
