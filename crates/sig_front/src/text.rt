@@ -9,7 +9,7 @@ ghost use Rattle.sig_front.specs.declared.answer.FrontAnswer.{FrontAnswer};
 use crate::answer::FrontAnswer;
 use sig_base::limits::PROGRAM_BYTES;
 use sig_lex::lex;
-use sig_parse::parse;
+use sig_parse::parse_owned;
 use sig_tree::Program;
 use std::alloc::Global;
 
@@ -37,6 +37,6 @@ fn tree_of(alloc: Global, bytes: &[u8]) -> Result<Program, FrontAnswer>
     ensures fault { IfErr result (λ answer. (answer ≡ FrontAnswer.OutOfMemory) ⊎ IsNoText bytes.now answer) }
 {
     let tokens = lex(alloc, bytes)?;
-    let program = parse(alloc, bytes, tokens)?;
+    let program = parse_owned(alloc, bytes, tokens)?;
     Ok(program)
 }

@@ -108,7 +108,7 @@ fn written(alloc: Global, text: &[u8]) -> Result<String, Fail> {
         return Ok(out);
     }
     let tokens = lex(alloc, &program)?;
-    if let Ok(read) = parse(alloc, &program, tokens) {
+    if let Ok(read) = parse(alloc, &program, &tokens) {
         if let Some(process) = read.processes.first() {
             if let Body::Def(_, Right::Value(e)) = &process.body {
                 write_tree(&mut out, e)?;

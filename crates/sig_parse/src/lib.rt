@@ -35,7 +35,7 @@ mod words;
 pub use answer::SmallAnswer;
 pub use laws::one_refusal;
 pub use parse_answer::ParseAnswer;
-pub use program::parse;
+pub use program::{parse, parse_owned};
 use sig_base::limits::PROGRAM_BYTES;
 use std::alloc::Global;
 pub use straight::{Straight, Term};

@@ -23,9 +23,29 @@ use sig_lex::Token;
 use sig_tree::{Process, Program, one_tree};
 use std::alloc::Global;
 
-/// The tree of a program, from the tokens of its text, which has no other tree. The tokens are let go
-/// before it is built.
-pub fn parse(alloc: Global, bytes: &[u8], tokens: Vec<Token>) -> Result<Program, ParseAnswer>
+/// The tree of a program, from the tokens of its text, which has no other tree.
+pub fn parse(alloc: Global, bytes: &[u8], tokens: &[Token]) -> Result<Program, ParseAnswer>
+    requires { AreTokens bytes.now tokens.now }
+    ensures tree { IfOk result (λ program. HasTree (leaves_of bytes.now tokens.now) (program_of program)) }
+    ensures only { IfOk result (λ program. (other : List ProcessModel) → HasTree (leaves_of bytes.now tokens.now) other → other ≡ program_of program) }
+    // Some program that keeps both limits begins with the tokens before the refused one.
+    ensures viable { IfErr result (λ answer. IsRefusal (leaves_of bytes.now tokens.now) (end_of tokens.now) answer) }
+    // The refused token is the first with which no program goes on. It is Syntax where none does
+    // whatever the limits, Nesting of 64 where none does that keeps the nesting, and else of 512.
+    ensures refused { IfErr result (λ answer. IsAnswerOf (leaves_of bytes.now tokens.now) (end_of tokens.now) answer) }
+    // It is so exactly there: no other token is the first, and none for another cause.
+    ensures no_other { IfErr result (λ answer. (cause : Cause) (at : Span) → IsRefused (leaves_of bytes.now tokens.now) (end_of tokens.now) cause at
+        → (answer ≡ ParseAnswer.OutOfMemory) ⊎ (answer ≡ answer_for cause at)) }
+    ensures accepted { IfOk result (λ program. (cause : Cause) (at : Span) → IsRefused (leaves_of bytes.now tokens.now) (end_of tokens.now) cause at → ⊥) }
+    // A text with a tree is refused for want of memory alone.
+    ensures given { IfErr result (λ answer. (processes : List ProcessModel) → HasTree (leaves_of bytes.now tokens.now) processes → answer ≡ ParseAnswer.OutOfMemory) }
+{
+    parse_owned(alloc, bytes, tokens.to_vec(alloc)?)
+}
+
+/// The same as `parse`, with the tokens let go before the tree is built, so that both never take memory
+/// together.
+pub fn parse_owned(alloc: Global, bytes: &[u8], tokens: Vec<Token>) -> Result<Program, ParseAnswer>
     requires { AreTokens bytes.now tokens.items }
     ensures tree { IfOk result (λ program. HasTree (leaves_of bytes.now tokens.items) (program_of program)) }
     ensures only { IfOk result (λ program. (other : List ProcessModel) → HasTree (leaves_of bytes.now tokens.items) other → other ≡ program_of program) }

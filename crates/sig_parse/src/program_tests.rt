@@ -14,7 +14,7 @@ fn read(alloc: Global, text: &[u8]) -> Result<Result<Program, ParseAnswer>, Fail
         return Ok(Err(ParseAnswer::OutOfMemory));
     }
     let tokens = lex(alloc, text)?;
-    Ok(parse(alloc, text, tokens))
+    Ok(parse(alloc, text, &tokens))
 }
 
 /// The line of a refusal, or `read`.

@@ -1,34 +1,13 @@
-use Rattle.std.proofs.Common.{◌≡◌, ◌∙◌, ap, rules, map, subst, sym}
-use Rattle.sig_tree.specs.Syntax.{model_of}
+use Rattle.std.proofs.Common.{◌≡◌, rules, IfOk, subst}
+use Rattle.sig_base.specs.declared.span.Span.{Span}
 use Rattle.sig_tree.specs.Leaves.{leaves_of}
-use Rattle.sig_tree.specs.Grammar.{HasTree}
-use Rattle.sig_parse.specs.Refused.{end_of, place_of}
-use Rattle.sig_parse.specs.declared.parse_answer.ParseAnswer.{ParseAnswer}
-use Rattle.sig_parse.proofs.RefusedTexts.{stands_behind}
-use Rattle.sig_parse.proofs.RefusedPrograms.{answered, no_other, given_tree, not_refused}
-use Rattle.sig_parse.specs.Exact.{IsAnswerOf}
+use Rattle.sig_parse.specs.Refused.{end_of}
+use Rattle.sig_parse.specs.Refusals.{Cause}
+use Rattle.sig_parse.specs.Exact.{IsRefused}
 use Rattle.sig_parse.proofs.program.parse.Goals as goal
 
-pub returns-in-Ok-clause-only : goal.returns-in-Ok-clause-only
-returns-in-Ok-clause-only c = let tree : HasTree (leaves_of c.args.bytes.now c.args.tokens.items) (map model_of c.in-Ok.processes.items) = search rules in
-    λ other h. c.one_tree.ensures.tree (leaves_of c.args.bytes.now c.args.tokens.items) other (map model_of c.in-Ok.processes.items) h tree
-
-pub returns-clause-viable : goal.returns-clause-viable
-returns-clause-viable c = let whole : c.new-parser.result.leaves ≡ leaves_of c.args.bytes.now c.args.tokens.items = search rules in
-    stands_behind (leaves_of c.args.bytes.now c.args.tokens.items) (end_of c.args.tokens.items) c.answer.result (subst (λ (a : ParseAnswer). IsAnswerOf (leaves_of c.args.bytes.now c.args.tokens.items) (end_of c.args.tokens.items) a) (sym c.answer.ensures) (answered (leaves_of c.args.bytes.now c.args.tokens.items) (end_of c.args.tokens.items) c.place.result c.in-Err.refusal c.new-parser.result c.processes.new.parser whole (c.place.ensures ∙ ap (place_of c.processes.new.parser.leaves) (c.end-last.ensures ∙ ap end_of c.deref.ensures.value)) c.in-Err.ensures.refuses))
-
-pub returns-clause-refused : goal.returns-clause-refused
-returns-clause-refused c = let whole : c.new-parser.result.leaves ≡ leaves_of c.args.bytes.now c.args.tokens.items = search rules in
-    subst (λ (a : ParseAnswer). IsAnswerOf (leaves_of c.args.bytes.now c.args.tokens.items) (end_of c.args.tokens.items) a) (sym c.answer.ensures) (answered (leaves_of c.args.bytes.now c.args.tokens.items) (end_of c.args.tokens.items) c.place.result c.in-Err.refusal c.new-parser.result c.processes.new.parser whole (c.place.ensures ∙ ap (place_of c.processes.new.parser.leaves) (c.end-last.ensures ∙ ap end_of c.deref.ensures.value)) c.in-Err.ensures.refuses)
-
-pub returns-clause-no_other : goal.returns-clause-no_other
-returns-clause-no_other c = let whole : c.new-parser.result.leaves ≡ leaves_of c.args.bytes.now c.args.tokens.items = search rules in
-    no_other (leaves_of c.args.bytes.now c.args.tokens.items) (end_of c.args.tokens.items) c.answer.result (subst (λ (a : ParseAnswer). IsAnswerOf (leaves_of c.args.bytes.now c.args.tokens.items) (end_of c.args.tokens.items) a) (sym c.answer.ensures) (answered (leaves_of c.args.bytes.now c.args.tokens.items) (end_of c.args.tokens.items) c.place.result c.in-Err.refusal c.new-parser.result c.processes.new.parser whole (c.place.ensures ∙ ap (place_of c.processes.new.parser.leaves) (c.end-last.ensures ∙ ap end_of c.deref.ensures.value)) c.in-Err.ensures.refuses))
-
-pub returns-clause-given : goal.returns-clause-given
-returns-clause-given c = let whole : c.new-parser.result.leaves ≡ leaves_of c.args.bytes.now c.args.tokens.items = search rules in
-    given_tree (leaves_of c.args.bytes.now c.args.tokens.items) (end_of c.args.tokens.items) c.answer.result (subst (λ (a : ParseAnswer). IsAnswerOf (leaves_of c.args.bytes.now c.args.tokens.items) (end_of c.args.tokens.items) a) (sym c.answer.ensures) (answered (leaves_of c.args.bytes.now c.args.tokens.items) (end_of c.args.tokens.items) c.place.result c.in-Err.refusal c.new-parser.result c.processes.new.parser whole (c.place.ensures ∙ ap (place_of c.processes.new.parser.leaves) (c.end-last.ensures ∙ ap end_of c.deref.ensures.value)) c.in-Err.ensures.refuses))
-
-pub returns-in-Ok-clause-accepted : goal.returns-in-Ok-clause-accepted
-returns-in-Ok-clause-accepted c = let tree : HasTree (leaves_of c.args.bytes.now c.args.tokens.items) (map model_of c.in-Ok.processes.items) = search rules in
-    λ cause at r. not_refused (leaves_of c.args.bytes.now c.args.tokens.items) (end_of c.args.tokens.items) at cause (map model_of c.in-Ok.processes.items) tree r
+pub returns-clause-accepted : goal.returns-clause-accepted
+returns-clause-accepted c =
+    let same : c.in_ok-to_vec.field-0.items ≡ c.args.tokens.now = search rules in
+    subst (λ tokens. IfOk c.parse_owned.result (λ program. (cause : Cause) (at : Span) → IsRefused (leaves_of c.args.bytes.now tokens) (end_of tokens) cause at → ⊥)) same
+    c.parse_owned.ensures.accepted
