@@ -23,6 +23,10 @@ copy() {
         done
     done
     cp -p "$here/passes/program.txt" "$work/crates/passes/src/main.rt"
+    (cd "$here/passes/proofs" && find . -name '*.txt' | while read -r proof; do
+        mkdir -p "$work/crates/passes/proofs/$(dirname "$proof")"
+        cp -p "$proof" "$work/crates/passes/proofs/${proof%.txt}.antt"
+    done)
     for crate in $crates; do grep "^$crate[: ]" "$here/../crates.txt"; done >"$work/crates.txt"
     printf 'passes: sig_base sig_text sig_kernel sig_dd sig_clock sig_solve sig_flow sig_front anyhow\n' >>"$work/crates.txt"
     [ -d "$work/.git" ] || git init -q "$work"
@@ -30,7 +34,7 @@ copy() {
 
 is_stale() {
     [ -x "$program" ] || return 0
-    [ -n "$(find "$here/../crates" "$here/passes/program.txt" "$here/../crates.txt" -name out -prune -o \
+    [ -n "$(find "$here/../crates" "$here/passes/program.txt" "$here/passes/proofs" "$here/../crates.txt" -name out -prune -o \
         \( -name '*.rt' -o -name '*.antt' -o -name '*.txt' \) -newer "$program" -print -quit)" ]
 }
 
