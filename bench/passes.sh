@@ -8,7 +8,7 @@ set -eu
 here=$(cd "$(dirname "$0")" && pwd)
 work=$here/passes/out
 program=$work/crates/passes/out/passes
-crates='sig_base sig_text sig_lex sig_tree sig_kernel sig_dd sig_clock sig_flow sig_parse sig_type sig_call sig_flat sig_front'
+crates='sig_base sig_text sig_lex sig_tree sig_kernel sig_dd sig_clock sig_rel sig_solve sig_flow sig_parse sig_type sig_call sig_flat sig_front'
 
 # The sources as they stand, each file with its own time, so that what is built stays where nothing changed.
 copy() {
@@ -24,7 +24,7 @@ copy() {
     done
     cp -p "$here/passes/program.txt" "$work/crates/passes/src/main.rt"
     for crate in $crates; do grep "^$crate[: ]" "$here/../crates.txt"; done >"$work/crates.txt"
-    printf 'passes: sig_base sig_text sig_kernel sig_clock sig_flow sig_front anyhow\n' >>"$work/crates.txt"
+    printf 'passes: sig_base sig_text sig_kernel sig_dd sig_clock sig_solve sig_flow sig_front anyhow\n' >>"$work/crates.txt"
     [ -d "$work/.git" ] || git init -q "$work"
 }
 

@@ -1,5 +1,4 @@
 pub mod Lists
-pub mod Pigeons
 pub mod Coming
 pub mod Takings
 pub mod Walking

@@ -10,7 +10,7 @@ use Rattle.sig_clock.specs.ClockRefusals.{IsLeast}
 use Rattle.sig_plan.specs.Order.{IsOrdered, IsReady, Reaches, directly, onward}
 use Rattle.sig_graph.specs.Graphs.{Edge, IsAcyclic, IsOpen, IsTaken, IsWithin, mark_at, marked_count}
 use Rattle.sig_graph.proofs.Lists.{contains_none, failing}
-use Rattle.sig_graph.proofs.Pigeons.{two_are_same}
+use Rattle.sig_plan.proofs.Pigeons.{two_are_same}
 
 pub no_mark : (n k : ℕ) → mark_at (replicate n false) k ≡ false
 no_mark zero k = refl

@@ -1,7 +1,8 @@
 //! The compiled order.
 
-ghost use Rattle.std.specs.Prelude.{◌≢◌, IfOk, IfErr};
+ghost use Rattle.std.specs.Prelude.{All, IfErr, IfOk};
 ghost use Rattle.sig_clock.specs.Clocks.{AreClocks};
+ghost use Rattle.sig_dd.specs.Nodes.{Holds};
 ghost use Rattle.sig_graph.specs.Answers.{IsRefusal};
 ghost use Rattle.sig_kernel.specs.Validity.{IsValid};
 ghost use Rattle.sig_plan.specs.Operations.{AreOperations, operations_in};
@@ -37,6 +38,21 @@ pub fn order(
     ensures no_cycle { IfOk result (λ _. HasNoCycle clocks.now.conditions (operations_in store.now.nodes ops.now)) }
     ensures cycle { IfErr result (IsRefusal clocks.now.conditions (operations_in store.now.nodes ops.now)) }
 {
+    order_of(alloc, ops, clocks, store)
+}
+
+/// The order of operations whose guards are held by the store.
+fn order_of(
+    alloc: Global,
+    ops: &[Op],
+    clocks: &Clocks,
+    store: &Store,
+) -> Result<Vec<OpId>, GraphAnswer>
+    requires { All (λ op. Holds store.now.nodes op.guard) ops.now }
+    ensures order { IfOk result (λ order. IsCompiledOrder clocks.now.conditions (operations_in store.now.nodes ops.now) (numbers_of order.items)) }
+    ensures no_cycle { IfOk result (λ _. HasNoCycle clocks.now.conditions (operations_in store.now.nodes ops.now)) }
+    ensures cycle { IfErr result (IsRefusal clocks.now.conditions (operations_in store.now.nodes ops.now)) }
+{
     // More operations than there are numbers for them find no memory.
     if ops.len() > u32::MAX as usize {
         return Err(GraphAnswer::OutOfMemory);
@@ -47,3 +63,6 @@ pub fn order(
     }
     Ok(take_all(alloc, graph.as_slice())?)
 }
+
+#[cfg(test)]
+mod tests;

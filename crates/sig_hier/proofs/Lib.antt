@@ -1,4 +1,5 @@
 pub mod CountLemmas
+pub mod Once
 pub mod PreorderLemmas
 pub mod TextLemmas
 pub mod TreeLemmas

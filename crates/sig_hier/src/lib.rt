@@ -4,12 +4,14 @@
 #![tactic(auto)]
 
 mod answer;
+mod laws;
 mod making;
 mod preorder;
 mod text;
 mod trees;
 
 pub use answer::TreeAnswer;
+pub use laws::each_class_has_one_line;
 pub use making::tree;
 pub use text::tree_text;
 pub use trees::Tree;

@@ -1,10 +1,13 @@
 //! Laws of plans. The function of a law does nothing when it runs.
 
-ghost use Rattle.std.specs.Prelude.{◌≡◌};
+ghost use Rattle.std.specs.Prelude.{◌≡◌, ◌+◌, ◌*◌, ◌^◌, ◌<◌, ◌≤◌, ℕ, List, Contains, length, slice_index};
+ghost use Rattle.sig_base.specs.declared.ids.SigId.{SigId};
 ghost use Rattle.sig_clock.specs.Clocks.{AreClocks, ClocksView};
 ghost use Rattle.sig_dd.specs.Nodes.{Keeps, StoreView};
 ghost use Rattle.sig_kernel.specs.declared.kernel.Kernel.{Kernel};
-ghost use Rattle.sig_plan.specs.Operations.{presence_in};
+ghost use Rattle.sig_plan.specs.Operations.{Operation, presence_in};
+ghost use Rattle.sig_plan.specs.Order.{IsCompiledOrder, Precedes, Reaches};
+ghost use Rattle.sig_plan.specs.Shares.{share_of};
 
 /// A law: the clocks of a kernel stay its clocks while the store of their guards grows, and their
 /// guards stay the same functions.
@@ -13,4 +16,33 @@ pub fn clocks_stay()
         → AreClocks kernel old.nodes clocks → AreClocks kernel new.nodes clocks }
     ensures guards { (kernel : Kernel) (old new : StoreView) (clocks : ClocksView) → Keeps old new
         → AreClocks kernel old.nodes clocks → presence_in new.nodes clocks ≡ presence_in old.nodes clocks }
+{}
+
+/// A law: operations have one compiled order at most. It has each operation once, and what precedes
+/// an operation stands before it; so where there is an order, no operation precedes itself, directly
+/// or through others.
+pub fn operations_have_one_order()
+    ensures one { (conditions : List SigId) (operations : List Operation) (a b : List ℕ)
+        → IsCompiledOrder conditions operations a → IsCompiledOrder conditions operations b → a ≡ b }
+    ensures each { (conditions : List SigId) (operations : List Operation) (order : List ℕ)
+        → IsCompiledOrder conditions operations order → (i : ℕ) → i < length operations → Contains order i }
+    ensures once { (conditions : List SigId) (operations : List Operation) (order : List ℕ)
+        → IsCompiledOrder conditions operations order → (i j : ℕ) → i < length operations → j < length operations
+        → slice_index order i ≡ slice_index order j → i ≡ j }
+    ensures before { (conditions : List SigId) (operations : List Operation) (order : List ℕ)
+        → IsCompiledOrder conditions operations order → (j : ℕ) → j < length operations
+        → (p : ℕ) → Precedes conditions operations p (slice_index order j)
+        → (i : ℕ) × (i < j) × (slice_index order i ≡ p) }
+    ensures acyclic { (conditions : List SigId) (operations : List Operation) (order : List ℕ)
+        → IsCompiledOrder conditions operations order → (i : ℕ) → i < length operations
+        → Reaches (Precedes conditions operations) i i → ⊥ }
+{}
+
+/// A law: the share of operations is within three calls for each equation over the conditions, and
+/// within 60 over any greater number of unknowns.
+pub fn operations_need_few_nodes()
+    ensures conditions { (kernel : Kernel) (conditions : List SigId)
+        → share_of kernel conditions ≤ 2 ^ length conditions * 3 * (length kernel.equations + 1) }
+    ensures unknowns { (kernel : Kernel) (conditions : List SigId) (u : ℕ) → length conditions ≤ u
+        → share_of kernel conditions ≤ 2 ^ u * 60 * (length kernel.equations + u * u * u) }
 {}

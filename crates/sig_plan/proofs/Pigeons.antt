@@ -7,7 +7,7 @@ same_or_not : (a b : ℕ) → (a ≡ b) ⊎ (a ≢ b)
 same_or_not a b = elim (cases_order a b) [ inl e ↦ inl e | inr (inl lt) ↦ inr (λ e. omega (arith, e, lt)) | inr (inr lt) ↦ inr (λ e. omega (arith, e, lt)) ]
 
 -- a number of a row is met, or none of them is
-met_or_not : (f : ℕ → ℕ) (c m : ℕ) → ((k : ℕ) × (k < m) × (f k ≡ c)) ⊎ ((k : ℕ) → k < m → f k ≢ c)
+pub met_or_not : (f : ℕ → ℕ) (c m : ℕ) → ((k : ℕ) × (k < m) × (f k ≡ c)) ⊎ ((k : ℕ) → k < m → f k ≢ c)
 met_or_not f c zero = inr (λ k lt. absurd (omega (arith, lt)))
 met_or_not f c (suc m) = at (same_or_not (f m) c) (met_or_not f c m) where
   at : ((f m ≡ c) ⊎ (f m ≢ c)) → (((k : ℕ) × (k < m) × (f k ≡ c)) ⊎ ((k : ℕ) → k < m → f k ≢ c)) → ((k : ℕ) × (k < suc m) × (f k ≡ c)) ⊎ ((k : ℕ) → k < suc m → f k ≢ c)

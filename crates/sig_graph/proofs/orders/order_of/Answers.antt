@@ -3,7 +3,7 @@ use Rattle.sig_graph.specs.Graphs.{IsAcyclic, IsGraph}
 use Rattle.sig_graph.specs.Marks.{IsLeastOnCycle}
 use Rattle.sig_plan.specs.Plans.{numbers_of}
 use Rattle.sig_graph.proofs.Relating.{acyclic, cycle_is, graph_within, no_cycle, order_is}
-use Rattle.sig_graph.proofs.orders.order.Goals as goal
+use Rattle.sig_graph.proofs.orders.order_of.Goals as goal
 
 pub least_on_cycle-requires-clause-within : goal.least_on_cycle-requires-clause-within
 least_on_cycle-requires-clause-within c =
