@@ -1,8 +1,8 @@
 """Reads flow files of 64 MiB with sig_flow and with the reader inside sig_tool, and prints the times.
 
 The reader inside sig_tool is run as `sigc run` for one instant, and sig_flow by a small program that
-this script builds with rt in a folder of its own, which takes some minutes. Both times are those of
-whole processes, the reading of the file included.
+this script builds with rt in a folder of its own, which takes some minutes. Both times are the
+processor times of whole processes, the reading of the file included.
 usage: flows.py SIGC
 """
 
@@ -12,7 +12,6 @@ import shutil
 import subprocess
 import sys
 import tempfile
-import time
 
 HERE = os.path.dirname(os.path.abspath(__file__))
 VALUES = 4_000_000
@@ -75,13 +74,15 @@ def write_short_lines(path):
 
 
 def least_time(words):
+    """The least processor seconds of a run, and the words that it prints."""
     times = []
     for _ in range(ROUNDS):
-        begin = time.perf_counter()
-        done = subprocess.run(words, capture_output=True, text=True, check=False)
-        times.append(time.perf_counter() - begin)
-        assert done.returncode == 0, done.stderr
-    return min(times), done.stdout.split()
+        child = subprocess.Popen(words, stdout=subprocess.PIPE, stderr=subprocess.DEVNULL, text=True)
+        printed = child.stdout.read()
+        _, status, usage = os.wait4(child.pid, 0)
+        times.append(usage.ru_utime + usage.ru_stime)
+        assert status == 0, words
+    return min(times), printed.split()
 
 
 def main():
