@@ -99,6 +99,31 @@ fn merged(alloc: Global) -> Result<Kernel, AllocError> {
     })
 }
 
+/// `Y := A + 1`, `A ^= A ^* H`, where H is an event.
+fn sampled_by_an_event(alloc: Global) -> Result<Kernel, AllocError> {
+    let kinds = [
+        Kind::Event,
+        Kind::Integer,
+        Kind::Integer,
+        Kind::Event,
+        Kind::Event,
+        Kind::Event,
+    ];
+    let mut forms = Vec::new(alloc);
+    forms.push(fun(alloc, 2, FunOp::Add, 1, 1)?)?;
+    forms.push(Form::Event(SigId(3), SigId(1)))?;
+    forms.push(Form::Event(SigId(4), SigId(0)))?;
+    forms.push(Form::When(SigId(5), SigId(3), SigId(4)))?;
+    forms.push(Form::Sync(SigId(1), SigId(5)))?;
+    Ok(Kernel {
+        signals: signals(alloc, &kinds)?,
+        equations: equations(alloc, forms)?,
+        inputs: 2,
+        outputs: 1,
+        declared: 3,
+    })
+}
+
 /// `X := A when B`, `A ^= B ^= X`.
 fn forced(alloc: Global) -> Result<Kernel, AllocError> {
     let kinds = [Kind::Integer, Kind::Boolean, Kind::Integer];
@@ -182,6 +207,10 @@ fn kernels_have_none(rt: HostRuntime) -> Result<(), Fail> {
     assert_eq!(rt;
         refusal_of(alloc, &merged(alloc)?)?,
         Some(ClockAnswer::Unsolved(SigId(0)))
+    );
+    assert_eq!(rt;
+        refusal_of(alloc, &sampled_by_an_event(alloc)?)?,
+        Some(ClockAnswer::Unsolved(SigId(1)))
     );
     assert_eq!(rt;
         refusal_of(alloc, &forced(alloc)?)?,
