@@ -16,3 +16,4 @@ pub mod OrderLemmas
 pub mod ClassLemmas
 pub mod CountLemmas
 pub mod SolveLemmas
+pub mod WalkLemmas

@@ -8,6 +8,7 @@ mod classes;
 mod frame;
 mod guards;
 mod known;
+mod laws;
 mod layers;
 mod order;
 mod parts;
@@ -16,6 +17,7 @@ mod roots;
 mod solving;
 
 pub use answer::ClockAnswer;
+pub use laws::walks_ask_no_absent_condition;
 pub use solving::solve;
 
 #[cfg(test)]
