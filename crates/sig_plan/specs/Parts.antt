@@ -2,6 +2,7 @@
 use Rattle.std.specs.Prelude.{◌≡◌, ◌≢◌, ◌+◌, ◌<◌, ◌≤◌, ◌⊎◌, ◌↔◌, ℕ, List, [], ◌++◌, length, map, fold, max, slice_get, slice_index_or, None, Some, Contains}
 use Rattle.std.specs.List.{range_with_len}
 use Rattle.sig_base.specs.declared.ids.SigId.{SigId}
+use Rattle.sig_base.specs.declared.limits.TheConstants.{LINKS}
 use Rattle.sig_base.specs.declared.signal.Signal.{Signal}
 use Rattle.sig_kernel.specs.declared.kernel.Kernel.{Kernel}
 use Rattle.sig_plan.specs.Operations.{Operation}
@@ -104,3 +105,9 @@ pub record AreParts (kernel : Kernel) (conditions : List SigId) (operations : Li
   pub actors : length parts.imports ≡ parts.clusters + 1
   pub imports : (actor : ℕ) → actor ≤ parts.clusters → AreImports kernel conditions operations actor (slice_index_or parts.imports actor [])
   pub links : AreLinks kernel.signals parts.clusters parts.imports parts.links
+
+-- more links are needed than are kept
+pub record NeedsTooManyLinks (kernel : Kernel) (conditions : List SigId) (operations : List Operation) : Type 0 where
+  pub parts : PartsView
+  pub are : AreParts kernel conditions operations parts
+  pub many : LINKS < length parts.links

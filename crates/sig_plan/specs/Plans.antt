@@ -1,7 +1,6 @@
 -- Accepted plans: all that is derived from a kernel.
-use Rattle.std.specs.Prelude.{◌≡◌, ◌≤◌, ℕ, List, length, map}
+use Rattle.std.specs.Prelude.{◌≡◌, ℕ, List, map}
 use Rattle.sig_base.specs.declared.ids.OpId.{OpId}
-use Rattle.sig_base.specs.declared.limits.TheConstants.{LINKS}
 use Rattle.sig_clock.specs.ClockRefusals.{HasClocks}
 use Rattle.sig_clock.specs.Clocks.{AreClocks, ClocksView}
 use Rattle.sig_dd.specs.Nodes.{IsStore, StoreView}
@@ -38,5 +37,4 @@ pub record IsAccepted (plan : PlanView) : Type 0 where
   pub parts : PartsView
   pub split : AreParts plan.kernel plan.clocks.conditions (operations_in plan.store.nodes plan.ops) parts
   pub links : parts.links ≡ plan.links
-  pub few : length plan.links ≤ LINKS
   pub codes : AreCodes plan.store.nodes (operations_in plan.store.nodes plan.ops) (numbers_of plan.order) parts plan.codes

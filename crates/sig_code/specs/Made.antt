@@ -1,0 +1,19 @@
+-- The plan that is made of its parts.
+use Rattle.std.specs.Prelude.{◌≡◌, List}
+use Rattle.sig_base.specs.declared.ids.OpId.{OpId}
+use Rattle.sig_clock.specs.Clocks.{ClocksView}
+use Rattle.sig_dd.specs.Nodes.{StoreView}
+use Rattle.sig_kernel.specs.declared.kernel.Kernel.{Kernel}
+use Rattle.sig_plan.specs.Parts.{PartsView}
+use Rattle.sig_plan.specs.Plans.{PlanView}
+use Rattle.sig_plan.specs.declared.op.Op.{Op}
+
+-- The plan holds what it was made of. That its codes are those of these parts is part of its being accepted.
+pub record Holds (kernel : Kernel) (clocks : ClocksView) (store : StoreView) (ops : List Op) (order : List OpId) (parts : PartsView)
+    (plan : PlanView) : Type 0 where
+  pub kernel_held : plan.kernel ≡ kernel
+  pub clocks_held : plan.clocks ≡ clocks
+  pub store_held : plan.store ≡ store
+  pub ops_held : plan.ops ≡ ops
+  pub order_held : plan.order ≡ order
+  pub links_held : plan.links ≡ parts.links
