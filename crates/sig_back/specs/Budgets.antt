@@ -1,0 +1,13 @@
+-- How small a kernel is for which the nodes of a store suffice.
+use Rattle.std.specs.Prelude.{◌*◌, ◌≤◌, ℕ}
+use Rattle.sig_base.specs.declared.limits.TheConstants.{NODES}
+use Rattle.sig_kernel.specs.declared.kernel.Kernel.{Kernel}
+use Rattle.sig_rel.specs.Relations.{IsUnknownCount}
+use Rattle.sig_solve.specs.Refusals.{share_of}
+
+-- For u unknowns, one for each clock class and one for each boolean that is no event, and q equations, four times
+-- 2^u * 60 * (q + u*u*u) nodes are no more than a store has.
+pub record MeetsBound (kernel : Kernel) : Type 0 where
+  pub unknowns : ℕ
+  pub counted : IsUnknownCount kernel unknowns
+  pub fits : 4 * share_of kernel unknowns ≤ NODES

@@ -1,0 +1,49 @@
+-- How the reason is told for which a kernel is refused: with the names of the signals that it is said of, and the place of the
+-- first of them.
+use Rattle.std.specs.Prelude.{◌≡◌, ℕ, List, [], ◌∷◌, slice_get, Option, None, Some}
+use Rattle.sig_base.specs.declared.ids.SigId.{SigId}
+use Rattle.sig_base.specs.declared.signal.Signal.{Signal}
+use Rattle.sig_base.specs.declared.span.Span.{Span}
+use Rattle.sig_back.specs.declared.fault.BackKind.{BackKind}
+use Rattle.sig_back.specs.declared.fault.BackKind.TheVariants.{Dead as IsDead, MissingRoot as IsMissingRoot, Unsolved as IsUnsolved, Pinned as IsPinned, Cycle as IsCycle, TooManyLinks as AreTooManyLinks}
+use Rattle.sig_kernel.specs.declared.kernel.Kernel.{Kernel}
+use Rattle.sig_plan.specs.Acceptance.{IsRefusedFor, KernelFault, Dead, MissingRoot, Unsolved, Pinned, Cycle, TooManyLinks}
+
+pub record FaultView : Type 0 where
+  pub kind : BackKind
+  pub names : List (List ℕ)
+  pub at : Option Span
+
+abbrev pub name_of : Option Signal → List ℕ
+name_of None = []
+name_of (Some signal) = signal.name
+
+abbrev pub place_of : Option Signal → Option Span
+place_of None = None
+place_of (Some signal) = Some signal.at
+
+abbrev pub name_at : Kernel → SigId → List ℕ
+name_at kernel x = name_of (slice_get kernel.signals x.0)
+
+-- where a signal is declared, or its operator stands
+abbrev pub place_at : Kernel → SigId → Option Span
+place_at kernel x = place_of (slice_get kernel.signals x.0)
+
+abbrev pub said_of : Kernel → BackKind → SigId → FaultView
+said_of kernel kind x = record { kind = kind; names = name_at kernel x ∷ []; at = place_at kernel x }
+
+abbrev pub said_of_none : BackKind → FaultView
+said_of_none kind = record { kind = kind; names = []; at = None }
+
+-- how the reason for which a kernel is refused is told
+abbrev pub told_as : Kernel → KernelFault → FaultView
+told_as kernel Dead = said_of_none IsDead
+told_as kernel (MissingRoot x y) = record { kind = IsMissingRoot; names = name_at kernel x ∷ name_at kernel y ∷ []; at = place_at kernel x }
+told_as kernel (Unsolved x) = said_of kernel IsUnsolved x
+told_as kernel (Pinned b) = said_of kernel IsPinned b
+told_as kernel (Cycle x) = said_of kernel IsCycle x
+told_as kernel TooManyLinks = said_of_none AreTooManyLinks
+
+-- the kernel is refused for the reason that is told
+abbrev pub IsFaultOf : Kernel → FaultView → Type 0
+IsFaultOf kernel told = (fault : KernelFault) × IsRefusedFor kernel fault × (told ≡ told_as kernel fault)

@@ -1,0 +1,4 @@
+pub mod Answers
+pub mod Budgets
+pub mod Faults
+pub mod Shown
