@@ -6,6 +6,7 @@
 mod answer;
 mod fault;
 mod passes;
+mod telling;
 
 pub use answer::BackAnswer;
 pub use fault::{BackFault, BackKind};
