@@ -1,3 +1,7 @@
 mod Accepting
 mod Growing
+mod OneFault
+mod OneOperations
+mod OneParts
 mod Rooms
+mod Sorted

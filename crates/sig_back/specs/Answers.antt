@@ -3,7 +3,7 @@ use Rattle.std.specs.Prelude.{◌≡◌, List}
 use Rattle.sig_base.specs.declared.ids.SigId.{SigId}
 use Rattle.sig_base.specs.declared.limits.TheConstants.{NODES}
 use Rattle.sig_back.specs.Budgets.{MeetsBound}
-use Rattle.sig_back.specs.Faults.{IsFaultOf, said_of}
+use Rattle.sig_back.specs.Faults.{FaultView, IsFaultOf, said_of}
 use Rattle.sig_back.specs.declared.answer.BackAnswer.{BackAnswer}
 use Rattle.sig_back.specs.declared.answer.BackAnswer.TheVariants.{Refused, Budget, OutOfMemory}
 use Rattle.sig_back.specs.declared.fault.BackKind.{BackKind}
@@ -21,6 +21,18 @@ abbrev pub IsRefusal : Kernel → BackAnswer → Type 0
 IsRefusal kernel (Refused fault) = IsFaultOf kernel fault
 IsRefusal kernel (Budget nodes) = (nodes ≡ NODES) × IsBeyondBound kernel
 IsRefusal kernel OutOfMemory = Unit {0}
+
+-- nothing is said against the kernel: the nodes do not suffice, or memory is wanting
+abbrev pub IsWanting : BackAnswer → Type 0
+IsWanting (Refused fault) = ⊥
+IsWanting (Budget nodes) = Unit {0}
+IsWanting OutOfMemory = Unit {0}
+
+-- a refusal is told so
+abbrev pub IsToldUnlessWanting : FaultView → BackAnswer → Type 0
+IsToldUnlessWanting told (Refused fault) = fault ≡ told
+IsToldUnlessWanting told (Budget nodes) = Unit {0}
+IsToldUnlessWanting told OutOfMemory = Unit {0}
 
 -- the answer tells of this rule and these signals, or memory is wanting
 abbrev pub Tells : Kernel → BackKind → List SigId → BackAnswer → Type 0

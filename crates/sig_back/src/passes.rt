@@ -1,14 +1,15 @@
 //! From a kernel to its plan.
 
-ghost use Rattle.std.specs.Prelude.{◌≡◌, ◌≤◌, [], IfErr, IfOk, ℕ, length};
-ghost use Rattle.sig_back.specs.Answers.{IsRefusal};
+ghost use Rattle.std.specs.Prelude.{◌≡◌, ◌≤◌, [], IfErr, IfOk, IsErrAnd, length};
+ghost use Rattle.sig_back.specs.Answers.{IsRefusal, IsToldUnlessWanting, IsWanting};
 ghost use Rattle.sig_back.specs.Budgets.{Spends};
+ghost use Rattle.sig_back.specs.Faults.{told_as};
 ghost use Rattle.sig_base.specs.declared.limits.TheConstants.{LINKS, NODES};
 ghost use Rattle.sig_clock.specs.ClockRefusals.{HasClocks};
 ghost use Rattle.sig_clock.specs.Clocks.{AreClocks};
 ghost use Rattle.sig_dd.specs.Nodes.{IsStore};
 ghost use Rattle.sig_kernel.specs.Validity.{IsValid};
-ghost use Rattle.sig_plan.specs.Acceptance.{IsAcceptedKernel};
+ghost use Rattle.sig_plan.specs.Acceptance.{IsAcceptedKernel, IsRefusedFor, KernelFault};
 ghost use Rattle.sig_plan.specs.Operations.{AreOperations, operations_in};
 ghost use Rattle.sig_plan.specs.Order.{HasNoCycle, IsCompiledOrder};
 ghost use Rattle.sig_plan.specs.Parts.{AreParts};
@@ -34,6 +35,22 @@ use std::alloc::Global;
 /// forced, no operation precedes itself, and at most 4,096 links are needed. All diagrams stand in one store
 /// of at most 8,000,000 nodes; that these do not suffice is never answered for a kernel within the bound.
 pub fn back(alloc: Global, kernel: Kernel) -> Result<Plan, BackAnswer>
+    requires valid { IsValid kernel }
+    ensures plan { IfOk result (λ plan. plan.kernel ≡ kernel) }
+    ensures accepted { IfOk result (λ plan. IsAcceptedKernel kernel) }
+    ensures few { IfOk result (λ plan. length plan.links ≤ LINKS) }
+    ensures refused { IfErr result (IsRefusal kernel) }
+
+    // A kernel that is accepted has its plan given, and one that is refused is refused for its one fault, unless
+    // memory runs out or the nodes do not suffice.
+    ensures given { IsAcceptedKernel kernel → IfErr result IsWanting }
+    ensures first { (fault : KernelFault) → IsRefusedFor kernel fault → IsErrAnd result (IsToldUnlessWanting (told_as kernel fault)) }
+{
+    plan_of(alloc, kernel)
+}
+
+/// The plan of a kernel, or its first fault.
+fn plan_of(alloc: Global, kernel: Kernel) -> Result<Plan, BackAnswer>
     requires valid { IsValid kernel }
     ensures plan { IfOk result (λ plan. plan.kernel ≡ kernel) }
     ensures accepted { IfOk result (λ plan. IsAcceptedKernel kernel) }
