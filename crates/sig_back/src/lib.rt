@@ -13,3 +13,6 @@ pub use answer::BackAnswer;
 pub use fault::{BackFault, BackKind};
 pub use laws::kernels_have_one_fault;
 pub use passes::back;
+
+#[cfg(test)]
+mod tests;
