@@ -1,0 +1,7 @@
+pub mod Going
+pub mod Joining
+pub mod Numbered
+pub mod Parents
+pub mod Planning
+pub mod Pushing
+pub mod Turning

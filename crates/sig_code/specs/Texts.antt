@@ -3,7 +3,6 @@
 use Rattle.std.specs.Prelude.{ℕ, List, [], ◌++◌, codes, slice_get, Option, None, Some}
 use Rattle.std.specs.Fmt.{decimal}
 use Rattle.std.specs.List.{enumerate_from, flat_map}
-use Rattle.sig_base.specs.declared.ids.EqId.{EqId}
 use Rattle.sig_base.specs.declared.ids.SigId.{SigId}
 use Rattle.sig_base.specs.declared.signal.Signal.{Signal}
 use Rattle.sig_kernel.specs.declared.equation.Equation.{Equation}
@@ -65,12 +64,12 @@ what_text kernel ops Commit = codes "commit"
 
 -- the line of a step with its index
 abbrev pub step_text : Kernel → List Op → ℕ × Step → List ℕ
-step_text kernel ops (index , step) =
+step_text kernel ops (index, step) =
     decimal index ++ (codes " " ++ (decimal step.pos ++ (codes " " ++ (what_text kernel ops step.kind ++ codes "\n"))))
 
 -- the lines of an actor's code
 abbrev pub actor_text : Kernel → List Op → ℕ × CodeView → List ℕ
-actor_text kernel ops (actor , code) =
+actor_text kernel ops (actor, code) =
     codes "actor " ++ (decimal actor ++ (codes "\n" ++ flat_map (step_text kernel ops) (enumerate_from 0 code.steps)))
 
 -- the text of a plan's code

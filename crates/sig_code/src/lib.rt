@@ -5,6 +5,9 @@
 
 mod answer;
 mod coding;
+mod routes;
+mod slots;
+mod steps;
 mod text;
 
 pub use answer::CodeAnswer;
