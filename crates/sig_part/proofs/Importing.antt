@@ -15,7 +15,7 @@ use Rattle.sig_part.specs.Closing.{AreClosed, Closes, seed, onward, is_elsewhere
 use Rattle.sig_part.specs.Imported.{AreImported, AreImportedBy}
 use Rattle.sig_part.specs.Uses.{AreNeeded, AreNeededForEach, IsNeededWithin, IsUsedWithin}
 use Rattle.sig_part.specs.Written.{AreWritten}
-use Rattle.sig_part.proofs.Lists.{get_map, get_some, map_get}
+use Rattle.sig_part.proofs.Lists.{get_map, map_get}
 
 -- listed operations are the operations of the kernel
 module _ (conditions : List SigId) (nodes : List Node) (ops : List Op) (needs : List (List SigId)) (are : AreNeeded conditions nodes ops needs) where

@@ -1,6 +1,6 @@
 -- Links of marked signals.
-use Rattle.std.proofs.Common.{◌≡◌, ◌<◌, ◌+◌, ◌⊎◌, inl, inr, ℕ, Bool, true, false, List, [], ◌∷◌, ◌++◌, length, get_or, refl, sym, ap, ◌∙◌, subst, arith, Contains}
-use Rattle.std.specs.Prelude.{Option, None, Some, slice_get, slice_index_or}
+use Rattle.std.proofs.Common.{◌≡◌, ◌<◌, ◌+◌, ◌⊎◌, inl, inr, ℕ, Bool, false, List, [], ◌∷◌, ◌++◌, length, get_or, refl, sym, ap, ◌∙◌, subst, arith}
+use Rattle.std.specs.Prelude.{Some}
 use Rattle.std.proofs.lemmas.Bool.{cases_order, false≢true}
 use Rattle.std.proofs.lemmas.List.Elements.{Contains-append_left, Contains-push}
 use Rattle.sig_base.specs.declared.ids.SigId.{SigId}
@@ -12,7 +12,7 @@ use Rattle.sig_plan.proofs.Guards.{at_contained}
 use Rattle.sig_part.specs.Linking.{AreLinksBefore, IsBefore, IsMarkedFor, IsMarkedLink}
 use Rattle.sig_part.specs.Marks.{AreMarkedIn, mark_at}
 use Rattle.sig_part.proofs.Lists.{get_push, pairwise_push}
-use Rattle.sig_part.proofs.Marking.{marked_within, signal_same}
+use Rattle.sig_part.proofs.Marking.{signal_same}
 
 pub links_none : (signals : List Signal) (marks : List (List Bool)) → AreLinksBefore signals marks 0 0 []
 links_none signals marks = record {
@@ -101,8 +101,7 @@ module _ (signals : List Signal) (marks : List (List Bool)) where
       record {
         each = λ number link is.
             let from = are.each number link is in
-            let within : link.reader < length marks = from.1.reader in
-            (
+            let within : link.reader < length marks = from.1.reader in (
               from.0,
               record {
                 signal = from.1.signal;

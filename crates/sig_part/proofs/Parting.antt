@@ -1,5 +1,5 @@
 -- Parts from marks.
-use Rattle.std.proofs.Common.{◌≡◌, ◌+◌, ◌<◌, ◌≤◌, ◌∙◌, ℕ, Bool, List, [], length, get_or, sym, subst, arith}
+use Rattle.std.proofs.Common.{◌≡◌, ◌+◌, ◌∙◌, ℕ, Bool, List, [], length, get_or, subst, arith}
 use Rattle.sig_base.specs.declared.ids.SigId.{SigId}
 use Rattle.sig_base.specs.declared.signal.Signal.{Signal}
 use Rattle.sig_kernel.specs.declared.kernel.Kernel.{Kernel}

@@ -1,6 +1,6 @@
 -- What operations use and what their guards need.
-use Rattle.std.proofs.Common.{◌≡◌, ◌≢◌, ◌<◌, ◌+◌, ◌⊎◌, inl, inr, ◌↔◌, ℕ, List, [], ◌++◌, length, get_or, refl, sym, ap, ◌∙◌, subst, arith, Contains}
-use Rattle.std.specs.Prelude.{Option, None, Some, slice_get}
+use Rattle.std.proofs.Common.{◌≡◌, ◌≢◌, ◌<◌, ◌+◌, ◌⊎◌, inl, inr, ◌↔◌, ℕ, List, [], ◌++◌, get_or, sym, ap, ◌∙◌, subst, arith, Contains}
+use Rattle.std.specs.Prelude.{Some, slice_get}
 use Rattle.std.specs.List.{filter_map}
 use Rattle.std.proofs.lemmas.Bool.{cases_order}
 use Rattle.std.proofs.lemmas.List.Elements.{Contains-append_cases, Contains-append_left, Contains-append_right}
@@ -44,9 +44,9 @@ module _ (ops : List Op) (needs : List (List SigId)) (n : ℕ) (op : Op) (is : s
     used_cases x found = elim (place ops n found.number op found.op is found.below found.is) [
       | inl less ↦ inl (record { number = found.number; below = less; op = found.op; is = found.is; own = found.own; used = found.used })
       | inr here ↦ inr (
-          ap (λ (o : Op). o.actor) here.1 ∙ found.own,
-          subst (λ (o : Op). Contains o.reads x ⊎ Contains (get_or needs n []) x) (sym here.1) (subst (λ (k : ℕ). Contains found.op.reads x ⊎ Contains (get_or needs k []) x) here.0 found.used),
-        )
+        ap (λ (o : Op). o.actor) here.1 ∙ found.own,
+        subst (λ (o : Op). Contains o.reads x ⊎ Contains (get_or needs n []) x) (sym here.1) (subst (λ (k : ℕ). Contains found.op.reads x ⊎ Contains (get_or needs k []) x) here.0 found.used),
+      )
     ]
 
     pub used_not : (used : List SigId) → op.actor ≢ cluster → ((x : SigId) → Contains used x ↔ IsUsedWithin ops needs cluster n x) → (x : SigId) → Contains used x ↔ IsUsedWithin ops needs cluster (n + 1) x

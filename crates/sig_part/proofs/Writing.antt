@@ -1,6 +1,6 @@
 -- The operations of a valid kernel write its signals.
 use Rattle.std.proofs.Common.{◌≡◌, ◌<◌, ◌≤◌, ◌+◌, ◌⊎◌, inl, inr, ◌&&◌, ℕ, Bool, true, false, cond, List, [], ◌∷◌, ◌++◌, length, map, refl, sym, ap, ◌∙◌, subst, arith, Contains}
-use Rattle.std.specs.Prelude.{All, Option, None, Some, fold, nat_lt, slice_get}
+use Rattle.std.specs.Prelude.{All, Some, fold, nat_lt, slice_get}
 use Rattle.std.specs.List.{range_with_len, count_by, AllPass, list_all}
 use Rattle.std.proofs.lemmas.Bool.{cases_order, eqb-true, false≢true, ltb-true}
 use Rattle.std.proofs.lemmas.List.FromFn.{get_or-range_with_len, length-range_with_len}
@@ -9,8 +9,7 @@ use Rattle.sig_base.specs.declared.ids.EqId.{EqId}
 use Rattle.sig_base.specs.declared.ids.SigId.{SigId}
 use Rattle.sig_base.specs.declared.signal.Signal.{Signal}
 use Rattle.sig_clock.specs.Conditions.{signal_id}
-use Rattle.sig_clock.proofs.Lists.{contains_head, contains_later}
-use Rattle.sig_dd.specs.declared.node.Node.{Node}
+use Rattle.sig_clock.proofs.Lists.{contains_head}
 use Rattle.sig_kernel.specs.Table.{operands_of, target_of}
 use Rattle.sig_kernel.specs.Validity.{IsValid, defines, form_within, is_target, operand_within, target_within}
 use Rattle.sig_kernel.specs.declared.equation.Equation.{Equation}
@@ -47,10 +46,10 @@ module _ (signals : List Signal) where
     reads_own : (n : ℕ) → n ≤ length signals → All (IsOwn signals) (map (λ number. read_of signals presence (signal_id number)) (range_with_len 0 n))
     reads_own n most = All-map (IsOwn signals) (λ number. read_of signals presence (signal_id number)) (range_with_len 0 n)
         (All-from_get_or (λ (number : ℕ). IsOwn signals (read_of signals presence (signal_id number))) (range_with_len 0 n) 0 (λ i less.
-            let lt : i < n = omega (arith, less, length-range_with_len 0 n) in
-            let at : 0 + i < length signals = omega (arith, lt, most) in
-            subst (λ (number : ℕ). IsOwn signals (read_of signals presence (signal_id number))) (sym (get_or-range_with_len 0 n i 0 lt))
-            (own_at (read_of signals presence (signal_id (0 + i))) (signal_id (0 + i)) at refl refl)))
+        let lt : i < n = omega (arith, less, length-range_with_len 0 n) in
+        let at : 0 + i < length signals = omega (arith, lt, most) in
+        subst (λ (number : ℕ). IsOwn signals (read_of signals presence (signal_id number))) (sym (get_or-range_with_len 0 n i 0 lt))
+        (own_at (read_of signals presence (signal_id (0 + i))) (signal_id (0 + i)) at refl refl)))
 
     and_left : (a b : Bool) → (a && b) ≡ true → a ≡ true
     and_left true b is = refl

@@ -42,7 +42,13 @@ pub(crate) fn imported(
         marks.push(closed(alloc, signals, needed.as_slice(), cluster, used.as_slice())?)?;
     }
     let outputs = outputs_of(alloc, kernel)?;
-    marks.push(closed(alloc, signals, needed.as_slice(), clusters, outputs.as_slice())?)?;
+    marks.push(closed(
+        alloc,
+        signals,
+        needed.as_slice(),
+        clusters,
+        outputs.as_slice(),
+    )?)?;
     Ok(marks)
 }
 

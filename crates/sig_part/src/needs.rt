@@ -65,12 +65,7 @@ pub(crate) fn needed_by_each(
 }
 
 /// The conditions that the guard of an operation needs.
-fn needed_by(
-    alloc: Global,
-    op: &Op,
-    clocks: &Clocks,
-    store: &Store,
-) -> Result<Conditions, DdAnswer>
+fn needed_by(alloc: Global, op: &Op, clocks: &Clocks, store: &Store) -> Result<Conditions, DdAnswer>
     requires { Holds store.now.nodes op.now.guard }
     ensures { IfOk result (λ needs. (x : SigId) → Contains needs x
         ↔ Needs clocks.now.conditions (operation_in store.now.nodes op.now) x) }

@@ -1,5 +1,5 @@
-use Rattle.std.proofs.Common.{◌≡◌, ◌<◌, ◌∙◌, [], Bool, List, sym, ap, subst, length, get_or, refl, Contains}
-use Rattle.std.proofs.lemmas.List.{get_or_read, length-replicate, nil_from_length}
+use Rattle.std.proofs.Common.{◌∙◌, [], Bool, List, sym, ap, subst, length, refl, Contains}
+use Rattle.std.proofs.lemmas.List.{get_or_read, nil_from_length}
 use Rattle.std.proofs.lemmas.List.Elements.{Contains-push}
 use Rattle.sig_base.specs.declared.ids.SigId.{SigId}
 use Rattle.sig_clock.proofs.Lists.{written}

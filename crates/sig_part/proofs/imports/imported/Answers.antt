@@ -1,4 +1,4 @@
-use Rattle.std.proofs.Common.{◌≡◌, ◌<◌, ◌↔◌, ◌∙◌, ℕ, Bool, List, [], length, sym, ap, subst, arith, Contains}
+use Rattle.std.proofs.Common.{◌≡◌, ◌<◌, ◌↔◌, ◌∙◌, ℕ, List, [], length, sym, ap, subst, arith, Contains}
 use Rattle.std.proofs.lemmas.List.{length_push}
 use Rattle.sig_base.specs.declared.ids.SigId.{SigId}
 use Rattle.sig_base.specs.declared.signal.Signal.{Signal}
@@ -31,10 +31,10 @@ loop-cluster-preserved c =
     let few : c.args.clusters ≡ cluster_count kernel.signals = c.requires.clusters in
     let within : n < cluster_count kernel.signals = omega (arith, test, few) in
     let for_each : AreNeededForEach ops needs (length kernel.signals) needed =
-        subst (λ (xs : List (List SigId)). AreNeededForEach ops xs (length kernel.signals) needed) c.as_slice.ensures.value
-        (subst (λ (signals : List Signal). AreNeededForEach ops c.as_slice.result.now (length signals) needed) c.as_slice-signals.ensures c.in_ok-needed.ensures) in
+    subst (λ (xs : List (List SigId)). AreNeededForEach ops xs (length kernel.signals) needed) c.as_slice.ensures.value
+    (subst (λ (signals : List Signal). AreNeededForEach ops c.as_slice.result.now (length signals) needed) c.as_slice-signals.ensures c.in_ok-needed.ensures) in
     let uses : (x : SigId) → Contains used x ↔ IsUsedWithin ops needs n (length ops) x =
-        subst (λ (xs : List (List SigId)). (x : SigId) → Contains used x ↔ IsUsedWithin ops xs n (length ops) x) c.as_slice-in-loop-cluster.ensures.value c.in_ok-used.ensures in
+    subst (λ (xs : List (List SigId)). (x : SigId) → Contains used x ↔ IsUsedWithin ops xs n (length ops) x) c.as_slice-in-loop-cluster.ensures.value c.in_ok-used.ensures in
     let closed = closed_as _ kernel.signals _ needed _ used n marks c.as_slice-signals.ensures c.as_slice-in-loop-cluster-2.ensures.value c.as_slice-in-loop-cluster-3.ensures.value c.in_ok-closed.ensures in
     record {
       count = ap length c.in_ok-push.ensures.items ∙ length_push c.loop-cluster.marks.items marks ∙ (let count = inv.count in omega (arith, count));
@@ -60,8 +60,8 @@ returns c =
     let same : c.loop-cluster.cluster ≡ n = omega (arith, last, most) in
     let before : AreImportedBy kernel conditions (operations_in nodes ops) n c.loop-cluster.marks.items = subst (λ (k : ℕ). AreImportedBy kernel conditions (operations_in nodes ops) k c.loop-cluster.marks.items) same inv in
     let for_each : AreNeededForEach ops needs (length kernel.signals) needed =
-        subst (λ (xs : List (List SigId)). AreNeededForEach ops xs (length kernel.signals) needed) c.as_slice.ensures.value
-        (subst (λ (signals : List Signal). AreNeededForEach ops c.as_slice.result.now (length signals) needed) c.as_slice-signals.ensures c.in_ok-needed.ensures) in
+    subst (λ (xs : List (List SigId)). AreNeededForEach ops xs (length kernel.signals) needed) c.as_slice.ensures.value
+    (subst (λ (signals : List Signal). AreNeededForEach ops c.as_slice.result.now (length signals) needed) c.as_slice-signals.ensures c.in_ok-needed.ensures) in
     let closed = closed_as _ kernel.signals _ needed _ outputs n marks c.as_slice-signals.ensures c.as_slice-2.ensures.value c.as_slice-3.ensures.value c.in_ok-closed-2.ensures in
     record {
       count = ap length c.in_ok-push-2.ensures.items ∙ length_push c.loop-cluster.marks.items marks ∙ (let count = before.count in omega (arith, count));

@@ -1,5 +1,4 @@
 use Rattle.std.proofs.Common.{◌≡◌, ℕ, length, sym, ap, subst, arith}
-use Rattle.sig_base.specs.declared.signal.Signal.{Signal}
 use Rattle.sig_plan.specs.Operations.{cluster_of}
 use Rattle.sig_part.specs.Linking.{AreLinksBefore}
 use Rattle.sig_part.proofs.Linked.{links_next, links_none}

@@ -1,4 +1,4 @@
-use Rattle.std.proofs.Common.{◌≡◌, ◌+◌, ◌++◌, ◌∷◌, [], ◌∙◌, List, sym, subst}
+use Rattle.std.proofs.Common.{◌≡◌, ◌+◌, ◌++◌, ◌∷◌, [], ◌∙◌, sym, subst}
 use Rattle.sig_base.specs.declared.ids.SigId.{SigId}
 use Rattle.sig_part.specs.Marks.{AreMarked}
 use Rattle.sig_part.proofs.Listing.{marked_next, marked_not}

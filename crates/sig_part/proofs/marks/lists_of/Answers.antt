@@ -1,4 +1,4 @@
-use Rattle.std.proofs.Common.{◌<◌, ◌∙◌, ℕ, Bool, List, [], length, get_or, ap, subst, arith}
+use Rattle.std.proofs.Common.{◌∙◌, ℕ, Bool, List, [], length, get_or, ap, subst, arith}
 use Rattle.std.proofs.lemmas.List.{get_or_read, length_push}
 use Rattle.sig_base.specs.declared.ids.SigId.{SigId}
 use Rattle.sig_part.specs.Marks.{AreMarked}

@@ -1,4 +1,3 @@
-use Rattle.std.proofs.Common.{◌∙◌}
 use Rattle.std.proofs.lemmas.Result.{IfOk-weaker, IfErr-weaker}
 use Rattle.sig_plan.specs.Operations.{operations_in, presence_in}
 use Rattle.sig_part.proofs.Writing.{operations_written}

@@ -1,5 +1,4 @@
-use Rattle.std.proofs.Common.{◌≡◌, ◌<◌, ◌+◌, ◌↔◌, ◌++◌, ◌∙◌, ℕ, List, [], length, sym, subst, arith, true, Contains}
-use Rattle.std.specs.Prelude.{Some}
+use Rattle.std.proofs.Common.{◌≡◌, ◌<◌, ◌+◌, ◌↔◌, ◌++◌, ◌∙◌, ℕ, List, [], length, sym, subst, arith, Contains}
 use Rattle.std.proofs.lemmas.Bool.{false≢true}
 use Rattle.std.proofs.lemmas.List.{get_or_read}
 use Rattle.sig_base.specs.declared.ids.SigId.{SigId}

@@ -1,4 +1,4 @@
-use Rattle.std.proofs.Common.{◌≡◌, ◌<◌, ◌↔◌, ◌∙◌, ℕ, List, [], length, refl, sym, ap, subst, arith, Contains}
+use Rattle.std.proofs.Common.{◌≡◌, ◌↔◌, ◌∙◌, ℕ, List, [], length, refl, sym, ap, subst, arith, Contains}
 use Rattle.std.proofs.lemmas.List.{length_push}
 use Rattle.sig_base.specs.declared.ids.SigId.{SigId}
 use Rattle.sig_part.specs.Uses.{IsNeededWithin}
