@@ -101,3 +101,6 @@ fn codes_of(
     };
     source.codes(alloc)
 }
+
+#[cfg(test)]
+mod tests;

@@ -27,7 +27,7 @@ pub fn code_text(alloc: Global, plan: &Plan) -> Result<Vec<u8>, CodeAnswer>
 }
 
 /// Appends the lines of the actors with these codes.
-fn put_actors(
+pub(crate) fn put_actors(
     text: &mut Vec<u8>,
     kernel: &Kernel,
     ops: &[Op],
