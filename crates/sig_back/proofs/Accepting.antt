@@ -7,7 +7,6 @@ use Rattle.sig_back.specs.Faults.{said_of, told_as}
 use Rattle.sig_back.specs.declared.answer.BackAnswer.{BackAnswer}
 use Rattle.sig_back.specs.declared.answer.BackAnswer.TheVariants.{Refused, Budget, OutOfMemory}
 use Rattle.sig_back.specs.declared.fault.BackKind.{BackKind}
-use Rattle.sig_back.proofs.OneFault.{no_fault, one_fault}
 use Rattle.sig_clock.specs.ClockFunctions.{IsClockFunction}
 use Rattle.sig_clock.specs.ClockRefusals.{HasClocks}
 use Rattle.sig_clock.specs.Clocks.{AreClocks, ClocksView, guard_of}
@@ -17,6 +16,7 @@ use Rattle.sig_dd.specs.declared.node.Node.{Node}
 use Rattle.sig_dd.specs.declared.node.Ref.{Ref}
 use Rattle.sig_kernel.specs.Validity.{IsValid}
 use Rattle.sig_kernel.specs.declared.kernel.Kernel.{Kernel}
+use Rattle.sig_plan.proofs.FaultOnce.{accepted_or_refused, fault_once}
 use Rattle.sig_plan.specs.Acceptance.{HasOperations, IsAcceptedKernel, IsRefusedFor, KernelFault}
 use Rattle.sig_plan.specs.Operations.{AreOperations, function_in, operations_in, presence_in}
 use Rattle.sig_plan.specs.declared.op.Op.{Op}
@@ -50,14 +50,14 @@ operations kernel nodes clocks ops has are made = record {
 -- an accepted kernel is not refused
 pub given : {T : Type 0} (kernel : Kernel) (result : Result T BackAnswer) → IsValid kernel → IfErr result (IsRefusal kernel) → IsAcceptedKernel kernel → IfErr result IsWanting
 given kernel (Ok plan) valid refused accepted = tt
-given kernel (Err (Refused told)) valid refused accepted = no_fault kernel valid refused.0 accepted refused.1
+given kernel (Err (Refused told)) valid refused accepted = accepted_or_refused kernel valid refused.0 accepted refused.1
 given kernel (Err (Budget nodes)) valid refused accepted = tt
 given kernel (Err OutOfMemory) valid refused accepted = tt
 
 -- a refused kernel is refused for its fault
 pub first : {T : Type 0} (kernel : Kernel) (result : Result T BackAnswer) → IsValid kernel → IfOk result (λ plan. IsAcceptedKernel kernel) → IfErr result (IsRefusal kernel)
     → (fault : KernelFault) → IsRefusedFor kernel fault → IsErrAnd result (IsToldUnlessWanting (told_as kernel fault))
-first kernel (Ok plan) valid accepted refused fault is = absurd (no_fault kernel valid fault accepted is)
-first kernel (Err (Refused told)) valid accepted refused fault is = refused.2 ∙ ap (told_as kernel) (one_fault kernel valid refused.0 fault refused.1 is)
+first kernel (Ok plan) valid accepted refused fault is = absurd (accepted_or_refused kernel valid fault accepted is)
+first kernel (Err (Refused told)) valid accepted refused fault is = refused.2 ∙ ap (told_as kernel) (fault_once kernel valid refused.0 fault refused.1 is)
 first kernel (Err (Budget nodes)) valid accepted refused fault is = tt
 first kernel (Err OutOfMemory) valid accepted refused fault is = tt

@@ -1,7 +1,3 @@
 mod Accepting
 mod Growing
-mod OneFault
-mod OneOperations
-mod OneParts
 mod Rooms
-mod Sorted

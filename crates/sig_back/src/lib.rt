@@ -5,13 +5,11 @@
 
 mod answer;
 mod fault;
-mod laws;
 mod passes;
 mod telling;
 
 pub use answer::BackAnswer;
 pub use fault::{BackFault, BackKind};
-pub use laws::kernels_have_one_fault;
 pub use passes::back;
 
 #[cfg(test)]

@@ -5,3 +5,4 @@ pub mod Parents
 pub mod Planning
 pub mod Pushing
 pub mod Turning
+mod CodeOnce

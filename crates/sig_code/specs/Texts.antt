@@ -1,6 +1,6 @@
 -- The text of a plan's code: for each actor a line with its number, and then a line for each step with the step's index, its
 -- position and what it does.
-use Rattle.std.specs.Prelude.{ℕ, List, [], ◌++◌, codes, slice_get, Option, None, Some}
+use Rattle.std.specs.Prelude.{◌≡◌, ℕ, List, [], ◌++◌, codes, slice_get, Option, None, Some}
 use Rattle.std.specs.Fmt.{decimal}
 use Rattle.std.specs.List.{enumerate_from, flat_map}
 use Rattle.sig_base.specs.declared.ids.SigId.{SigId}
@@ -10,7 +10,7 @@ use Rattle.sig_kernel.specs.declared.equation.Form.{Form}
 use Rattle.sig_kernel.specs.declared.equation.Form.TheVariants.{Fun, Delay, When, WhenConst, Default, Sync, Event}
 use Rattle.sig_kernel.specs.declared.kernel.Kernel.{Kernel}
 use Rattle.sig_plan.specs.Codes.{CodeView}
-use Rattle.sig_plan.specs.Plans.{PlanView}
+use Rattle.sig_plan.specs.Plans.{IsAccepted, PlanView}
 use Rattle.sig_plan.specs.declared.code.Step.{Step}
 use Rattle.sig_plan.specs.declared.code.StepKind.{StepKind}
 use Rattle.sig_plan.specs.declared.code.StepKind.TheVariants.{Do, Send, Receive, Report, Collect, Commit}
@@ -75,3 +75,10 @@ actor_text kernel ops (actor, code) =
 -- the text of a plan's code
 abbrev pub code_text_of : PlanView → List ℕ
 code_text_of plan = flat_map (actor_text plan.kernel plan.ops) (enumerate_from 0 plan.codes)
+
+-- the text of the code of a kernel's accepted plan
+pub record IsCodeText (kernel : Kernel) (text : List ℕ) : Type 0 where
+  pub plan : PlanView
+  pub accepted : IsAccepted plan
+  pub of : plan.kernel ≡ kernel
+  pub says : text ≡ code_text_of plan

@@ -10,7 +10,7 @@ use Rattle.sig_plan.specs.Operations.{Operation, operation_in, operations_in}
 use Rattle.sig_plan.specs.Order.{Needs}
 use Rattle.sig_plan.specs.Parts.{Imports, used, output, guarded, IsNeededFor, IsOutput, IsUsed, IsWrittenElsewhere, cluster_count}
 use Rattle.sig_plan.specs.declared.op.Op.{Op}
-use Rattle.sig_plan.proofs.Guards.{get_within}
+use Rattle.sig_clock.proofs.Lists.{get_within}
 use Rattle.sig_part.specs.Closing.{AreClosed, Closes, seed, onward, is_elsewhere, is_other}
 use Rattle.sig_part.specs.Imported.{AreImported, AreImportedBy}
 use Rattle.sig_part.specs.Uses.{AreNeeded, AreNeededForEach, IsNeededWithin, IsUsedWithin}

@@ -8,7 +8,7 @@ use Rattle.sig_base.specs.declared.signal.Signal.{Signal}
 use Rattle.sig_plan.specs.Operations.{cluster_at, cluster_of}
 use Rattle.sig_plan.specs.Parts.{AreSignalLinks, IsEarlierLink}
 use Rattle.sig_plan.specs.declared.parts.LinkInfo.{LinkInfo}
-use Rattle.sig_plan.proofs.Guards.{at_contained}
+use Rattle.sig_clock.proofs.Lists.{at_contained}
 use Rattle.sig_part.specs.Linking.{AreLinksBefore, IsBefore, IsMarkedFor, IsMarkedLink}
 use Rattle.sig_part.specs.Marks.{AreMarkedIn, mark_at}
 use Rattle.sig_part.proofs.Lists.{get_push, pairwise_push}

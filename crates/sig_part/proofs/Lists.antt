@@ -2,10 +2,9 @@
 use Rattle.std.proofs.Common.{◌≡◌, ◌<◌, ◌⊎◌, inl, inr, ℕ, List, [], ◌∷◌, ◌++◌, length, map, get_or, refl, sym, ap, ◌∙◌, subst, arith, Contains, ◌+◌}
 use Rattle.std.specs.Prelude.{zero, suc, Option, None, Some, slice_get}
 use Rattle.std.specs.List.{cons_option, filter_map}
-use Rattle.sig_clock.proofs.Lists.{contains_cons, contains_head, contains_later, contains_none}
+use Rattle.sig_clock.proofs.Lists.{contains_at, contains_cons, contains_head, contains_later, contains_none, get_at, get_within}
 use Rattle.std.proofs.lemmas.Bool.{cases_order}
 use Rattle.std.proofs.lemmas.List.{get_or_append_left, get_or_push}
-use Rattle.sig_plan.proofs.Guards.{contains_at, get_at, get_within}
 
 pub get_is : {X : Type 0} (xs : List X) (k : ℕ) (x d : X) → slice_get xs k ≡ Some x → get_or xs k d ≡ x
 get_is xs k x d is = let e : Some (get_or xs k d) ≡ Some x = sym (get_at xs k d (get_within xs k x is)) ∙ is in cc

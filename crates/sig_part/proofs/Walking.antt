@@ -6,10 +6,9 @@ use Rattle.std.proofs.lemmas.List.{length-replicate, length-set, length_push}
 use Rattle.std.proofs.lemmas.List.Elements.{Contains-append_cases, Contains-append_left, Contains-append_right, Contains-push, Contains-push_cases}
 use Rattle.sig_base.specs.declared.ids.SigId.{SigId}
 use Rattle.sig_base.specs.declared.signal.Signal.{Signal}
-use Rattle.sig_clock.proofs.Lists.{contains_cons, contains_head, contains_none}
+use Rattle.sig_clock.proofs.Lists.{contains_cons, contains_head, contains_none, get_within}
 use Rattle.sig_part.specs.Closing.{AreClosed, Closes, seed, onward, Visits, Walks, is_elsewhere, is_other}
 use Rattle.sig_part.specs.Marks.{mark_at}
-use Rattle.sig_plan.proofs.Guards.{get_within}
 use Rattle.sig_part.proofs.Marking.{marked_more, marked_within, no_mark, one_marked}
 
 -- a signal that is there

@@ -9,7 +9,7 @@ use Rattle.sig_base.specs.declared.ids.EqId.{EqId}
 use Rattle.sig_base.specs.declared.ids.SigId.{SigId}
 use Rattle.sig_base.specs.declared.signal.Signal.{Signal}
 use Rattle.sig_clock.specs.Conditions.{signal_id}
-use Rattle.sig_clock.proofs.Lists.{contains_head}
+use Rattle.sig_clock.proofs.Lists.{at_contained, contains_at, contains_head, get_at}
 use Rattle.sig_kernel.specs.Table.{operands_of, target_of}
 use Rattle.sig_kernel.specs.Validity.{IsValid, defines, form_within, is_target, operand_within, target_within}
 use Rattle.sig_kernel.specs.declared.equation.Equation.{Equation}
@@ -20,7 +20,6 @@ use Rattle.sig_plan.specs.Operations.{Guard, Operation, Presence, cluster_at, cl
 use Rattle.sig_plan.specs.Order.{Writes}
 use Rattle.sig_plan.specs.declared.op.OpKind.{OpKind}
 use Rattle.sig_plan.specs.declared.op.OpKind.TheVariants.{Compute, Left, Right, DelayRead}
-use Rattle.sig_plan.proofs.Guards.{at_contained, contains_at, get_at}
 use Rattle.sig_part.specs.Written.{AreWritten}
 use Rattle.sig_part.proofs.Lists.{get_map, get_some}
 use Rattle.sig_part.proofs.Marking.{signal_same}

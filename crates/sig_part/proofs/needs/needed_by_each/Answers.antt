@@ -5,7 +5,7 @@ use Rattle.sig_base.specs.declared.ids.SigId.{SigId}
 use Rattle.sig_plan.specs.Operations.{operation_in}
 use Rattle.sig_plan.specs.Order.{Needs}
 use Rattle.sig_plan.specs.declared.op.Op.{Op}
-use Rattle.sig_plan.proofs.Guards.{get_within}
+use Rattle.sig_clock.proofs.Lists.{get_within}
 use Rattle.sig_part.proofs.Lists.{each_more, get_is}
 use Rattle.sig_part.proofs.needs.needed_by_each.Goals as goal
 
