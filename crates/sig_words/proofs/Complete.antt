@@ -1,5 +1,5 @@
 -- A reading of the words is what they are read as.
-use Rattle.std.proofs.Common.{◌≡◌, ℕ, ◌+◌, ◌≤◌, Bool, true, false, List, [], ◌∷◌, ◌++◌, length, refl, sym, ap, ◌∙◌, arith, Option, Some, None, option_to_list, eqb}
+use Rattle.std.proofs.Common.{◌≡◌, ℕ, ◌+◌, ◌≤◌, Bool, true, false, List, [], ◌∷◌, ◌++◌, length, refl, sym, ap, ◌∙◌, arith, Option, Some, None, option_to_list, cond, eqb}
 use Rattle.std.specs.Prelude.{codes, option_map, option_and_then}
 use Rattle.std.specs.List.{AllByRecursion, flat_map}
 use Rattle.std.specs.Str.{bytes_eq}
@@ -8,8 +8,9 @@ use Rattle.std.proofs.lemmas.Bool.Decides.{nat_tests}
 use Rattle.std.proofs.lemmas.List.{append-nil}
 use Rattle.std.proofs.lemmas.Slice.Eq.{bytes_eq-Decides}
 use Rattle.sig_words.specs.Readings.{Word, Item, Plain, Joined, Apart, Pace, Reading, IsGood, is_plain, name_of, values_of, paces, written, written_behind}
-use Rattle.sig_words.specs.Steps.{Said, State, any_next, any_step, run, with_pace, with_plain, with_value}
-use Rattle.sig_words.specs.declared.given.Next.TheVariants as next
+use Rattle.sig_words.specs.Said.{HasPlainValue, Said}
+use Rattle.sig_words.proofs.Steps.{State, any_next, any_step, run, with_pace, with_plain, with_value}
+use Rattle.sig_words.proofs.Steps as next
 use Rattle.sig_words.specs.declared.option.OptionName.{OptionName}
 use Rattle.sig_words.specs.declared.option.OptionName.TheVariants.{Workers, Capacity, Instants}
 use Rattle.sig_words.proofs.Sound.{option_word, run_plain}
@@ -38,25 +39,25 @@ not_closing word plain = at_test (bytes_eq word (codes "--")) refl
         let same : word ≡ codes "--" = (bytes_eq-Decides word (codes "--")).0 is in
         let no : false ≡ true = rw same at plain in absurd (false≢true no)
 
-plain_step : (word : Word) (before : Said) → is_plain word ≡ true → any_step word before ≡ Some (next.Any, with_plain word before)
+pub plain_step : (word : Word) (before : Said) → is_plain word ≡ true → any_step word before ≡ Some (next.Any, with_plain word before)
 plain_step word before plain = rw (not_closing word plain, plain) refl
 
-not_empty : (word : Word) (c : ℕ) → eqb (length (c ∷ word)) 0 ≡ false
+pub not_empty : (word : Word) (c : ℕ) → eqb (length (c ∷ word)) 0 ≡ false
 not_empty word c = grind (arith, nat_tests)
 
 -- an option's word is taken as one
-joined_step : (option : OptionName) (value : Word) (before : Said)
+pub joined_step : (option : OptionName) (value : Word) (before : Said)
     → any_step (option_word option (Some value)) before ≡ option_map any_next (with_value option value before)
 joined_step Workers value before = rw (not_empty (name_of Workers ++ (codes "=" ++ value)) 45) refl
 joined_step Capacity value before = rw (not_empty (name_of Capacity ++ (codes "=" ++ value)) 45) refl
 joined_step Instants value before = rw (not_empty (name_of Instants ++ (codes "=" ++ value)) 45) refl
 
-apart_step : (option : OptionName) (before : Said) → any_step (codes "--" ++ name_of option) before ≡ Some (next.Value option, before)
+pub apart_step : (option : OptionName) (before : Said) → any_step (codes "--" ++ name_of option) before ≡ Some (next.Value option, before)
 apart_step Workers before = refl
 apart_step Capacity before = refl
 apart_step Instants before = refl
 
-pace_step : (before : Said) → any_step (codes "--pace") before ≡ option_map any_next (with_pace before)
+pub pace_step : (before : Said) → any_step (codes "--pace") before ≡ option_map any_next (with_pace before)
 pace_step before = refl
 
 -- an option that fits has no value yet
@@ -153,12 +154,13 @@ joined_read option value words before next r gives rest = record {
   adds = Adds-joined option value before next rest.after r gives rest.adds;
 }
 
-apart_read : (option : OptionName) (value : Word) (words : List Word) (before next : Said) (r : Reading) → with_value option value before ≡ Some next
+apart_read : (option : OptionName) (value : Word) (words : List Word) (before next : Said) (r : Reading) → is_plain value ≡ true → with_value option value before ≡ Some next
     → IsRead words next r → IsRead ((codes "--" ++ name_of option) ∷ value ∷ words) before (with_item (Apart option value) r)
 unfolding run
-apart_read option value words before next r gives rest = record {
+apart_read option value words before next r plain gives rest = record {
   after = rest.after;
   runs = ap (λ (o : Option State). option_and_then (λ p. run p.0 (value ∷ words) p.1) o) (apart_step option before)
+      ∙ ap (λ (b : Bool). option_and_then (λ (p : State). run p.0 words p.1) (cond b (option_map any_next (with_value option value before)) None)) plain
       ∙ ap (λ (o : Option Said). joined_on o words) gives ∙ rest.runs;
   adds = Adds-apart option value before next rest.after r gives rest.adds;
 }
@@ -176,26 +178,26 @@ pace_read words before r none rest =
     }
 
 -- a reading that fits is what its words are read as
-pub complete : (items : List Item) (behind : Option (List Word)) (before : Said) → AllByRecursion IsGood items
+pub complete : (items : List Item) (behind : Option (List Word)) (before : Said) → AllByRecursion IsGood items → AllByRecursion HasPlainValue items
     → Fits before (record { items = items; behind = behind }) → IsRead (words_of items behind) before (record { items = items; behind = behind })
-complete [] behind before good fits = no_item behind before
-complete (Plain word ∷ items) behind before good fits =
+complete [] behind before good apart fits = no_item behind before
+complete (Plain word ∷ items) behind before good apart fits =
     plain_read word (words_of items behind) before (record { items = items; behind = behind }) good.0
-    (complete items behind (with_plain word before) good.1
+    (complete items behind (with_plain word before) good.1 apart.1
     (record { workers = fits.workers; capacity = fits.capacity; instants = fits.instants; paces = fits.paces }))
-complete (Joined option value ∷ items) behind before good fits =
+complete (Joined option value ∷ items) behind before good apart fits =
     let r : Reading = record { items = items; behind = behind } in
     let g = gives option value before r fits in
-    joined_read option value (words_of items behind) before g.next r g.gives (complete items behind g.next good.1 g.fits)
-complete (Apart option value ∷ items) behind before good fits =
+    joined_read option value (words_of items behind) before g.next r g.gives (complete items behind g.next good.1 apart.1 g.fits)
+complete (Apart option value ∷ items) behind before good apart fits =
     let r : Reading = record { items = items; behind = behind } in
     let g = gives option value before r
     (record { workers = fits.workers; capacity = fits.capacity; instants = fits.instants; paces = fits.paces }) in
-    apart_read option value (words_of items behind) before g.next r g.gives (complete items behind g.next good.1 g.fits)
-complete (Pace ∷ items) behind before good fits =
+    apart_read option value (words_of items behind) before g.next r apart.0 g.gives (complete items behind g.next good.1 apart.1 g.fits)
+complete (Pace ∷ items) behind before good apart fits =
     let r : Reading = record { items = items; behind = behind } in
     let count : said_paces before + (paces r + 1) ≤ 1 = omega (arith, fits.paces) in
     let none = no_pace before (paces r) count in
     pace_read (words_of items behind) before r none
-    (complete items behind (record before { pace = true }) good.1
+    (complete items behind (record before { pace = true }) good.1 apart.1
     (record { workers = fits.workers; capacity = fits.capacity; instants = fits.instants; paces = omega (arith, count) }))

@@ -6,7 +6,7 @@ use Rattle.std.proofs.lemmas.Bool.{false≢true}
 use Rattle.sig_words.specs.Numbers.{IsNumberWithin}
 use Rattle.sig_words.specs.Readings.{Word}
 use Rattle.sig_words.specs.Commands.{AreSettings, AreSeedAndStages, OptionValues, HasPlainWords, IsFlag, IsSetting, options_of, settings_of, spelling, verb_of}
-use Rattle.sig_words.specs.Steps.{IsMadeWith}
+use Rattle.sig_words.specs.Said.{IsMadeWith}
 use Rattle.sig_words.specs.declared.verb.Options.{Options}
 use Rattle.sig_words.specs.declared.verb.Verb.{Verb}
 use Rattle.sig_words.specs.declared.verb.Verb.TheVariants as verb

@@ -1,15 +1,16 @@
 -- What the words are read as is a reading of them.
 use Rattle.std.proofs.Common.{◌≡◌, Bool, true, false, List, [], ◌∷◌, ◌++◌, append_assoc, refl, sym, ap, ◌∙◌, cond, arith, Option, Some, None, eqb, subst, option_to_list}
 use Rattle.std.specs.Prelude.{codes, option_map, option_and_then}
+use Rattle.std.specs.List.{AllByRecursion}
 use Rattle.std.specs.Str.{bytes_eq}
 use Rattle.std.proofs.lemmas.Bool.Decides.{nat_tests}
 use Rattle.std.proofs.lemmas.List.{append-nil}
-use Rattle.std.proofs.lemmas.Option.{same_Some, some_pair_parts}
+use Rattle.std.proofs.lemmas.Option.{none-some, same_Some, some_pair_parts}
 use Rattle.std.proofs.lemmas.Slice.Eq.{bytes_eq-Decides}
 use Rattle.sig_words.specs.Readings.{Word, Plain, Joined, Apart, Pace, Reading, IsReading, is_plain, name_of}
-use Rattle.sig_words.specs.Steps.{Said, State, any_next, option_said, option_step, or_else, run, said_as, step, value_in_rest, after_front, with_pace, with_option, with_plain, with_value}
-use Rattle.sig_words.specs.declared.given.Next.{Next}
-use Rattle.sig_words.specs.declared.given.Next.TheVariants as next
+use Rattle.sig_words.specs.Said.{HasPlainValue, Said}
+use Rattle.sig_words.proofs.Steps.{Next, State, any_next, option_said, option_step, or_else, run, said_as, step, value_in_rest, after_front, with_pace, with_option, with_plain, with_value}
+use Rattle.sig_words.proofs.Steps as next
 use Rattle.sig_words.specs.declared.option.OptionName.{OptionName}
 use Rattle.sig_words.specs.declared.option.OptionName.TheVariants.{Workers, Capacity, Instants}
 use Rattle.sig_words.proofs.Fronts.{front_found}
@@ -24,6 +25,7 @@ option_word option (Some value) = codes "--" ++ (name_of option ++ (codes "=" ++
 pub record ReadAs (words : List Word) (before after : Said) : Type 0 where
   pub reading : Reading
   pub reads : IsReading words reading
+  pub apart : AllByRecursion HasPlainValue reading.items
   pub adds : Adds before reading after
 
 -- what words that bring from one summary to another are
@@ -89,6 +91,7 @@ closed : (words : List Word) (before after : Said) → after ≡ record before {
 closed words before after is = rw is record {
   reading = record { items = []; behind = Some words };
   reads = record { good = tt; whole = refl };
+  apart = tt;
   adds = record {
     plain = refl;
     workers = sym (append-nil (option_to_list before.workers));
@@ -103,6 +106,7 @@ empty : (before : Said) → ReadAs [] before before
 empty before = record {
   reading = record { items = []; behind = None };
   reads = record { good = tt; whole = refl };
+  apart = tt;
   adds = record {
     plain = sym (append-nil before.plain);
     workers = sym (append-nil (option_to_list before.workers));
@@ -117,6 +121,7 @@ more_plain : (word : Word) (words : List Word) (before after : Said) → is_plai
 more_plain word words before after plain r = record {
   reading = with_item (Plain word) r.reading;
   reads = record { good = (plain, r.reads.good); whole = ap (λ (ws : List Word). word ∷ ws) r.reads.whole };
+  apart = (tt, r.apart);
   adds = Adds-plain word before after r.reading r.adds;
 }
 
@@ -125,14 +130,16 @@ more_joined : (option : OptionName) (value : Word) (words : List Word) (before n
 more_joined option value words before next after is r = record {
   reading = with_item (Joined option value) r.reading;
   reads = record { good = (tt, r.reads.good); whole = ap (λ (ws : List Word). option_word option (Some value) ∷ ws) r.reads.whole };
+  apart = (tt, r.apart);
   adds = Adds-joined option value before next after r.reading is r.adds;
 }
 
-more_apart : (option : OptionName) (value : Word) (words : List Word) (before next after : Said) → with_value option value before ≡ Some next
+more_apart : (option : OptionName) (value : Word) (words : List Word) (before next after : Said) → is_plain value ≡ true → with_value option value before ≡ Some next
     → ReadAs words next after → ReadAs ((codes "--" ++ name_of option) ∷ value ∷ words) before after
-more_apart option value words before next after is r = record {
+more_apart option value words before next after plain is r = record {
   reading = with_item (Apart option value) r.reading;
   reads = record { good = (tt, r.reads.good); whole = ap (λ (ws : List Word). (codes "--" ++ name_of option) ∷ value ∷ ws) r.reads.whole };
+  apart = (plain, r.apart);
   adds = Adds-apart option value before next after r.reading is r.adds;
 }
 
@@ -141,6 +148,7 @@ more_pace : (words : List Word) (before next after : Said) → with_pace before 
 more_pace words before next after is r = record {
   reading = with_item Pace r.reading;
   reads = record { good = (tt, r.reads.good); whole = ap (λ (ws : List Word). codes "--pace" ∷ ws) r.reads.whole };
+  apart = (tt, r.apart);
   adds = Adds-pace before next after r.reading is r.adds;
 }
 
@@ -191,13 +199,19 @@ any_stepped : (word : Word) (words : List Word) (before after : Said) (p : State
     → Outcome p.0 words p.1 after → ReadAs (word ∷ words) before after
 any_stepped word words before after p is rest = closed_stepped word words before after p (bytes_eq word (codes "--")) refl is rest
 
+value_stepped : (option : OptionName) (word : Word) (words : List Word) (before after : Said) (p : State) → (b : Bool) → is_plain word ≡ b
+    → cond b (option_map any_next (with_value option word before)) None ≡ Some p
+    → Outcome p.0 words p.1 after → Outcome (next.Value option) (word ∷ words) before after
+value_stepped option word words before after p true plain is rest =
+    behind_any (with_value option word before) p is
+    (λ s gives to. more_apart option word words before s after plain gives (subst (λ (q : State). Outcome q.0 words q.1 after) to rest))
+value_stepped option word words before after p false plain is rest = absurd (none-some p is)
+
 -- a step, and what the words behind it are
 pub stepped : (at : Next) (word : Word) (words : List Word) (before after : Said) (p : State) → step at word before ≡ Some p
     → Outcome p.0 words p.1 after → Outcome at (word ∷ words) before after
 stepped next.Any word words before after p is rest = any_stepped word words before after p is rest
-stepped (next.Value option) word words before after p is rest =
-    behind_any (with_value option word before) p is
-    (λ s gives to. more_apart option word words before s after gives (subst (λ (q : State). Outcome q.0 words q.1 after) to rest))
+stepped (next.Value option) word words before after p is rest = value_stepped option word words before after p (is_plain word) refl is rest
 stepped next.Plain word words before after p is rest =
     let to = same_Some (next.Plain, with_plain word before) p is in
     let same : after ≡ record before { plain = (before.plain ++ word ∷ []) ++ words } =

@@ -2,7 +2,8 @@
 use Rattle.std.proofs.Common.{◌≡◌, ℕ, ◌+◌, Bool, true, false, [], ◌∷◌, ◌++◌, append_assoc, refl, ◌∙◌, cond, arith, Option, Some, None, option_to_list, subst}
 use Rattle.std.specs.Option.{is_some}
 use Rattle.sig_words.specs.Readings.{Word, Item, Plain, Joined, Apart, Pace, Reading, plain_words, values_of, paces}
-use Rattle.sig_words.specs.Steps.{Said, with_plain, with_value, with_pace}
+use Rattle.sig_words.specs.Said.{Said}
+use Rattle.sig_words.proofs.Steps.{with_plain, with_value, with_pace}
 use Rattle.sig_words.specs.declared.option.OptionName.{OptionName}
 use Rattle.sig_words.specs.declared.option.OptionName.TheVariants.{Workers, Capacity, Instants}
 
@@ -33,11 +34,11 @@ Adds-plain word before after r adds = record {
 }
 
 -- what may be put where nothing is
-once : {X : Type 0} (o : Option Word) (x y : X) → cond (is_some o) None (Some x) ≡ Some y → (o ≡ None) × (y ≡ x)
+pub once : {X : Type 0} (o : Option Word) (x y : X) → cond (is_some o) None (Some x) ≡ Some y → (o ≡ None) × (y ≡ x)
 once None x y is = (refl, cc)
 once (Some w) x y is = cc
 
-once_false : {X : Type 0} (b : Bool) (x y : X) → cond b None (Some x) ≡ Some y → (b ≡ false) × (y ≡ x)
+pub once_false : {X : Type 0} (b : Bool) (x y : X) → cond b None (Some x) ≡ Some y → (b ≡ false) × (y ≡ x)
 once_false false x y is = (refl, cc)
 once_false true x y is = cc
 

@@ -1,4 +1,5 @@
 pub mod Commands
+pub mod Lines
 pub mod Numbers
 pub mod Readings
-pub mod Steps
+pub mod Said

@@ -1,12 +1,15 @@
-//! What the words after a command's name give, whatever the command is.
+//! What the words after a command's name give, whatever the command is. `clap` reads them.
 
-ghost use Rattle.std.specs.Prelude.{◌≡◌, ◌⊎◌, None, Some, IfOk, IfErr, IsSome, MatchResult};
-ghost use Rattle.sig_words.specs.Readings.{is_plain, texts};
-ghost use Rattle.sig_words.specs.Steps.{any_step, nothing, run, said_by, step, with_pace, with_value};
+ghost use Rattle.std.specs.Prelude.{◌≡◌, ◌⊎◌, false, IfOk, IfErr};
+ghost use Rattle.clap.specs.Words.{app_of, found_of, rows_of, rule_of};
+ghost use Rattle.sig_words.specs.Lines.{Shows, command_line, option_rule};
+ghost use Rattle.sig_words.specs.Readings.{texts};
+ghost use Rattle.sig_words.specs.Said.{IsSaid, Said, said_by};
 
 use crate::answer::WordsAnswer;
-use crate::option::{OptionName, option_of};
-use std::alloc::Global;
+use crate::option::OptionName;
+use clap::{Arg, ArgAction, ArgMatches, Command};
+use std::alloc::{AllocError, Global};
 
 /// The plain words, the values of the options, and whether the flag stands there.
 #[derive(Debug, Drop)]
@@ -18,138 +21,62 @@ pub struct Given<'a> {
     pub pace: bool,
 }
 
-/// What a next word is.
-#[derive(Clone, Copy, Debug)]
-pub enum Next {
-    /// A plain word, an option, the flag or `--`.
-    Any,
-    /// The value of an option.
-    Value(OptionName),
-    /// A plain word, since `--` stands before it.
-    Plain,
-}
+/// The name under which the plain words are found.
+const WORDS: &str = "words";
 
-/// Whether a word is plain wherever it stands: it does not begin with `-`, or is `-` alone.
-fn is_plain(word: &str) -> bool
-    ensures { result ≡ is_plain word.now }
-{
-    let bytes = word.as_bytes();
-    bytes.first() != Some(&b'-') || bytes.len() == 1
-}
-
-/// Puts a value where there is none.
-fn set_once<'a>(place: &mut Option<&'a str>, value: &'a str) -> Result<(), WordsAnswer>
-    ensures { MatchResult result
-        (λ _. (place.old ≡ None) × (place.new ≡ Some value.entry))
-        (λ answer. (answer ≡ WordsAnswer.Refused) × IsSome place.old) }
-{
-    if place.is_some() {
-        return Err(WordsAnswer::Refused);
-    }
-    *place = Some(value);
-    Ok(())
-}
+/// The flag, as it stands behind `--`.
+const PACE: &str = "pace";
 
 impl<'a> Given<'a> {
-    /// Nothing yet.
-    fn new(alloc: Global) -> Given<'a>
-        ensures { said_by result ≡ nothing }
+    /// What was found.
+    fn of_matches(alloc: Global, matches: &ArgMatches<'a>) -> Result<Given<'a>, AllocError>
+        ensures { (s : Said) → Shows (rows_of (found_of matches.now)) s → IfOk result (λ given. said_by given ≡ s) }
     {
-        Given {
-            plain: Vec::new(alloc),
-            workers: None,
-            capacity: None,
-            instants: None,
-            pace: false,
-        }
+        let mut plain = Vec::new(alloc);
+        plain.extend_from_slice(matches.get_raw(WORDS).unwrap_or(&[]))?;
+        Ok(Given {
+            plain,
+            workers: matches.get_str(OptionName::Workers.name()),
+            capacity: matches.get_str(OptionName::Capacity.name()),
+            instants: matches.get_str(OptionName::Instants.name()),
+            pace: matches.get_flag(PACE),
+        })
     }
+}
 
-    /// Gives an option its value, unless it has one.
-    fn set(&mut self, option: OptionName, value: &'a str) -> Result<(), WordsAnswer>
-        ensures { MatchResult result
-            (λ _. with_value option value.entry.now (said_by self.old) ≡ Some (said_by self.new))
-            (λ answer. (answer ≡ WordsAnswer.Refused) × (with_value option value.entry.now (said_by self.old) ≡ None)) }
-    {
-        match option {
-            OptionName::Workers => set_once(&mut self.workers, value),
-            OptionName::Capacity => set_once(&mut self.capacity, value),
-            OptionName::Instants => set_once(&mut self.instants, value),
-        }
-    }
+/// An option with one value.
+fn option(alloc: Global, option: OptionName) -> Arg<'static>
+    ensures rule { rule_of result ≡ option_rule option }
+    ensures local { result.global ≡ false }
+{
+    Arg::new(alloc, option.name()).long(option.name())
+}
 
-    /// Notes the flag, unless it was noted.
-    fn set_pace(&mut self) -> Result<(), WordsAnswer>
-        ensures { MatchResult result
-            (λ _. with_pace (said_by self.old) ≡ Some (said_by self.new))
-            (λ answer. (answer ≡ WordsAnswer.Refused) × (with_pace (said_by self.old) ≡ None)) }
-    {
-        if self.pace {
-            return Err(WordsAnswer::Refused);
-        }
-        self.pace = true;
-        Ok(())
-    }
-
-    /// Takes a word where anything may come, and says what the next one is.
-    fn take_any(&mut self, word: &'a str) -> Result<Next, WordsAnswer>
-        ensures { MatchResult result
-            (λ next. any_step word.entry.now (said_by self.old) ≡ Some (next, said_by self.new))
-            (λ answer. (answer ≡ WordsAnswer.OutOfMemory) ⊎ (any_step word.entry.now (said_by self.old) ≡ None)) }
-    {
-        if word == "--" {
-            return Ok(Next::Plain);
-        }
-        if is_plain(word) {
-            self.plain.push(word)?;
-            return Ok(Next::Any);
-        }
-        if word == "--pace" {
-            self.set_pace()?;
-            return Ok(Next::Any);
-        }
-        match option_of(word) {
-            Some((option, Some(value))) => {
-                self.set(option, value)?;
-                Ok(Next::Any)
-            }
-            Some((option, None)) => Ok(Next::Value(option)),
-            None => Err(WordsAnswer::Refused),
-        }
-    }
-
-    /// Takes a word, and says what the next one is.
-    fn take(&mut self, next: Next, word: &'a str) -> Result<Next, WordsAnswer>
-        ensures { MatchResult result
-            (λ after. step next word.entry.now (said_by self.old) ≡ Some (after, said_by self.new))
-            (λ answer. (answer ≡ WordsAnswer.OutOfMemory) ⊎ (step next word.entry.now (said_by self.old) ≡ None)) }
-    {
-        match next {
-            Next::Any => self.take_any(word),
-            Next::Value(option) => {
-                self.set(option, word)?;
-                Ok(Next::Any)
-            }
-            Next::Plain => {
-                self.plain.push(word)?;
-                Ok(Next::Plain)
-            }
-        }
-    }
+/// The words of every command: plain words in any number, each option and the flag at most once.
+/// Which of them a command has is asked later.
+fn command_line<'a>(alloc: Global) -> Result<Command<'a>, AllocError>
+    ensures { IfOk result (λ line. app_of line ≡ command_line) }
+{
+    let plain = Arg::new(alloc, WORDS).action(ArgAction::Append);
+    let pace = Arg::new(alloc, PACE).long(PACE).action(ArgAction::SetTrue);
+    let line = Command::new(alloc, "sigc")
+        .no_binary_name(true)
+        .disable_help_flag(true)
+        .arg(plain)?
+        .arg(option(alloc, OptionName::Workers))?
+        .arg(option(alloc, OptionName::Capacity))?
+        .arg(option(alloc, OptionName::Instants))?
+        .arg(pace)?;
+    Ok(line)
 }
 
 /// What the words give.
 pub fn gather<'a>(alloc: Global, words: &'a [String]) -> Result<Given<'a>, WordsAnswer>
-    ensures given { IfOk result (λ given. run Next.Any (texts words.entry.now) nothing ≡ Some (said_by given)) }
+    ensures given { IfOk result (λ given. IsSaid (texts words.entry.now) (said_by given)) }
     ensures refused { IfErr result (λ answer.
-        (answer ≡ WordsAnswer.OutOfMemory) ⊎ (run Next.Any (texts words.entry.now) nothing ≡ None)) }
+        (answer ≡ WordsAnswer.OutOfMemory) ⊎ ((s : Said) → ¬ IsSaid (texts words.entry.now) s)) }
 {
-    let mut given = Given::new(alloc);
-    let mut next = Next::Any;
-    for word in words {
-        next = given.take(next, word.as_str())?;
-    }
-    match next {
-        Next::Any | Next::Plain => Ok(given),
-        Next::Value(_) => Err(WordsAnswer::Refused),
-    }
+    let line = command_line(alloc)?;
+    let matches = line.try_get_matches_from(words)?;
+    Ok(Given::of_matches(alloc, &matches)?)
 }

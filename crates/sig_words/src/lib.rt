@@ -1,6 +1,6 @@
 //! The command line of sigc: its words as one of ten commands with their settings, or a refusal.
 //! What the words of a command are is defined in `specs/Commands.antt`, apart from how they are read.
-//! It stands on sig_base.
+//! It stands on sig_base and on the kit's clap.
 #![tactic(auto)]
 
 mod answer;

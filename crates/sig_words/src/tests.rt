@@ -5,8 +5,6 @@ use sig_base::Text;
 use std::alloc::{AllocError, Global};
 use std::test::Fail;
 
-mod by_clap;
-
 /// The bytes of a text, in writing.
 fn write_text(out: &mut String, text: &Text) -> Result<(), AllocError> {
     out.push_str(" <")?;

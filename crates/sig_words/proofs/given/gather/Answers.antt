@@ -1,39 +1,32 @@
-use Rattle.std.proofs.Common.{◌∙◌, sym, inl, inr, refl}
+use Rattle.std.proofs.Common.{◌∙◌, ap, inl, inr}
 use Rattle.std.proofs.lemmas.Result.{err_from_is_err_and}
-use Rattle.sig_words.specs.Steps.{said_by}
-use Rattle.sig_words.proofs.Runs.{run_end, run_on, run_refused}
+use Rattle.clap.specs.Faults.{is_simple_and_free}
+use Rattle.clap.specs.Matches.{found_of}
+use Rattle.clap.specs.Simple.{app_of, is_simple}
+use Rattle.clap.specs.Walk.{rows_of}
+use Rattle.sig_words.specs.Readings.{texts}
+use Rattle.sig_words.specs.Said.{said_by}
+use Rattle.sig_words.proofs.Built.{simple, simple_and_free}
+use Rattle.sig_words.proofs.Names.{strings}
+use Rattle.sig_words.proofs.Parsed.{not_parsed, parsed}
 use Rattle.sig_words.proofs.given.gather.Goals as goal
 
--- a word that may not stand there
-pub returns-in_err-next-clause-refused : goal.returns-in_err-next-clause-refused
-returns-in_err-next-clause-refused c =
-    let p = err_from_is_err_and c.from_residual.result c.from_residual.ensures.1 in
-    rw (p.1, p.2)
-    (elim c.in_err-next.ensures [
-      | inl memory ↦ inl memory
-      | inr refuses ↦ inr (sym c.loop-word.invariant
-          ∙ run_refused c.args.words.now c.loop-word.word-index c.word-item.result c.loop-word-test.true c.word-item.is
-          c.loop-word.next (said_by c.loop-word.given) (rw c.as_str.ensures.value at refuses))
+-- the words are not parsed
+pub returns-in_err-matches-clause-refused : goal.returns-in_err-matches-clause-refused
+returns-in_err-matches-clause-refused c =
+    let p = err_from_is_err_and c.from_residual-in_err-matches.result c.from_residual-in_err-matches.ensures.1 in
+    let line = c.in_ok-line.ensures in
+    let kinds = c.in_err-matches.ensures.kinds (ap is_simple_and_free line ∙ simple_and_free) in
+    let why = not_parsed (app_of c.in_ok-line.line) (texts c.args.words.now) c.in_err-matches.field-0.0 line (strings c.args.words.now) kinds in
+    rw p.1 (elim p.2 [
+      | inl memory ↦ inl memory.1
+      | inr refused ↦ elim why [ inl memory ↦ absurd (refused.0 memory) | inr none ↦ inr none ]
     ])
 
-pub loop-word-preserved : goal.loop-word-preserved
-loop-word-preserved c =
-    sym (run_on c.args.words.now c.loop-word.word-index c.word-item.result c.loop-word-test.true c.word-item.is
-    c.loop-word.next (said_by c.loop-word.given) (c.in_ok-next.next, said_by c.take.new.self) (rw c.as_str.ensures.value at c.in_ok-next.ensures))
-    ∙ c.loop-word.invariant
-
--- the end, where no option wants its value
-pub returns-in-Any : goal.returns-in-Any
-returns-in-Any c = record {
-  given = sym c.loop-word.invariant
-      ∙ run_end c.args.words.now c.loop-word.word-index c.loop-word-test.false c.loop-word.next (said_by c.loop-word.given)
-      ∙ (elim c.in-Any.is [ inl is ↦ rw is refl | inr is ↦ rw is refl ]);
-  refused = tt;
-}
-
--- the end, where one does
-pub returns-clause-refused : goal.returns-clause-refused
-returns-clause-refused c =
-    inr (sym c.loop-word.invariant
-    ∙ run_end c.args.words.now c.loop-word.word-index c.loop-word-test.false c.loop-word.next (said_by c.loop-word.given)
-    ∙ rw c.in-Value.is refl)
+-- they are
+pub returns-clause-given : goal.returns-clause-given
+returns-clause-given c =
+    let line = c.in_ok-line.ensures in
+    parsed (app_of c.in_ok-line.line) (texts c.args.words.now) (rows_of (found_of c.in_ok-matches.matches)) (said_by c.in_ok-of_matches.field-0) line
+    (strings c.args.words.now) (c.in_ok-matches.ensures.kinds (ap is_simple_and_free line ∙ simple_and_free))
+    (c.in_ok-matches.ensures.matches (ap is_simple line ∙ simple)).0 c.in_ok-of_matches.ensures

@@ -1,18 +1,17 @@
 use Rattle.std.proofs.Common.{◌≡◌, ◌∙◌, sym, List, ◌∷◌, Result, Ok, Err, IfOk, IfErr, MatchResult, inl, inr, ap}
 use Rattle.std.specs.Prelude.{string_bytes}
 use Rattle.std.proofs.lemmas.Result.{err_from_is_err_and}
-use Rattle.std.proofs.lemmas.Option.{none-some, same_Some}
 use Rattle.std.specs.Prelude.{String}
 use Rattle.std.specs.declared.alloc.Global.{Global}
 use Rattle.sig_words.specs.Readings.{Word, texts}
 use Rattle.sig_words.specs.Commands.{settings_of, spelling}
-use Rattle.sig_words.specs.Steps.{said_by}
+use Rattle.sig_words.specs.Said.{said_by}
 use Rattle.sig_words.specs.declared.answer.WordsAnswer.{WordsAnswer}
 use Rattle.sig_words.specs.declared.command.Command.{Command}
 use Rattle.sig_words.specs.declared.verb.Verb.{Verb}
-use Rattle.std.specs.List.{AllByRecursion}
 use Rattle.std.specs.Str.{IsUtf8}
 use Rattle.sig_words.proofs.Determined.{determined, makes, only_made}
+use Rattle.sig_words.proofs.Says.{said_once}
 use Rattle.sig_words.proofs.Names.{of_command, strings}
 use Rattle.sig_words.proofs.read.read_words.Goals as goal
 
@@ -40,7 +39,7 @@ returns-in_err-given-clause-given c = λ d is.
     let named = named_by c.args.words.now c.in-Some.name.now c.in-Some.after.now c.in-Some-named.verb c.as_str.result.now
     c.in-Some.ensures.cases.0 c.as_str.ensures.value c.in-Some-named.ensures in
     let det = determined c.in-Some-named.verb (texts c.args.words.now) (texts c.in-Some.after.now) d named is in
-    rw (p.1, p.2) (elim c.in_err-given.ensures.refused [ inl memory ↦ memory | inr none ↦ absurd (none-some det.said (sym none ∙ det.runs)) ])
+    rw (p.1, p.2) (elim c.in_err-given.ensures.refused [ inl memory ↦ memory | inr none ↦ absurd (none det.said det.is) ])
 
 -- the settings are not the command's
 pub returns-in_err-settings-clause-given : goal.returns-in_err-settings-clause-given
@@ -49,7 +48,7 @@ returns-in_err-settings-clause-given c = λ d is.
     let named = named_by c.args.words.now c.in-Some.name.now c.in-Some.after.now c.in-Some-named.verb c.as_str.result.now
     c.in-Some.ensures.cases.0 c.as_str.ensures.value c.in-Some-named.ensures in
     let det = determined c.in-Some-named.verb (texts c.args.words.now) (texts c.in-Some.after.now) d named is in
-    let back = same_Some det.said (said_by c.in_ok-given.given) (sym det.runs ∙ c.in_ok-given.ensures.given) in
+    let back = said_once (texts c.in-Some.after.now) det.said (said_by c.in_ok-given.given) det.is c.in_ok-given.ensures.given in
     let refused = c.in_err-settings.ensures in
     absurd (refused.1 (settings_of d) (rw c.options.ensures (rw back at det.settings)))
 
@@ -70,7 +69,7 @@ returns-clause-given c = λ d is.
     c.in-Some.ensures.cases.0 c.as_str.ensures.value c.in-Some-named.ensures in
     let are = rw c.options.ensures at c.in_ok-settings.ensures in
     let det = determined c.in-Some-named.verb (texts c.args.words.now) (texts c.in-Some.after.now) d named is in
-    let back = same_Some det.said (said_by c.in_ok-given.given) (sym det.runs ∙ c.in_ok-given.ensures.given) in
+    let back = said_once (texts c.in-Some.after.now) det.said (said_by c.in_ok-given.given) det.is c.in_ok-given.ensures.given in
     on_both c.command.result _ _ _ _ _ _ c.command.ensures.verb c.command.ensures.plain c.command.ensures.settings c.command.ensures.err
     (λ e verb plain made. only_made c.in-Some-named.verb (texts c.args.words.now) (texts c.in-Some.after.now) (said_by c.in_ok-given.given)
     c.in_ok-settings.settings e d named c.in_ok-given.ensures.given are verb (rw c.deref.ensures.value at plain) made is)

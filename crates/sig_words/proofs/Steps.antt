@@ -1,49 +1,19 @@
--- How the words after a command's name are read, one after another. No public clause speaks of it: the
--- definition is that of `Commands`, and that both agree is proved.
-use Rattle.std.specs.Prelude.{◌≡◌, ◌==◌, ⊤, Bool, true, false, List, [], ◌∷◌, ◌++◌, Option, None, Some, option_map, option_and_then, option_to_list, is_some, codes, bytes_eq, if◌then◌else◌, map}
-use Rattle.std.specs.Borrow.{Bor}
-use Rattle.sig_words.specs.Commands.{OptionValues}
+-- How the words after a command's name are read, one after another, with what was said so far.
+use Rattle.std.specs.Prelude.{◌==◌, true, false, List, [], ◌∷◌, ◌++◌, Option, None, Some, option_map, option_and_then, is_some, codes, bytes_eq, if◌then◌else◌}
 use Rattle.sig_words.specs.Readings.{Word, is_plain, name_of}
-use Rattle.sig_words.specs.declared.command.Settings.{Settings}
-use Rattle.sig_words.specs.declared.command.Command.{Command}
-use Rattle.sig_words.specs.declared.command.Command.TheVariants.{Check, Print, Tree, Code, Run, Play, Load, Judge, Build, Exec}
-use Rattle.sig_words.specs.declared.given.Given.{Given}
-use Rattle.sig_words.specs.declared.given.Next.{Next}
-use Rattle.sig_words.specs.declared.given.Next.TheVariants.{Any, Value, Plain}
+use Rattle.sig_words.specs.Said.{Said}
 use Rattle.sig_words.specs.declared.option.OptionName.{OptionName}
 use Rattle.sig_words.specs.declared.option.OptionName.TheVariants.{Workers, Capacity, Instants}
 
--- the texts behind references
-abbrev pub referents : List (Bor Word) → List Word
-referents = map (λ s. s.now)
-
--- what the words so far say
-pub record Said : Type 0 where
-  pub plain : List Word
-  pub workers : Option Word
-  pub capacity : Option Word
-  pub instants : Option Word
-  pub pace : Bool
+-- what a next word is: a plain word, an option, the flag or `--`; the value of an option; or a plain word,
+-- since `--` stands before it
+pub data Next : Type 0 where
+  Any : Next
+  Value : OptionName → Next
+  Plain : Next
 
 abbrev pub nothing : Said
 nothing = record { plain = []; workers = None; capacity = None; instants = None; pace = false }
-
-abbrev pub said_by : Given → Said
-said_by g = record {
-  plain = referents g.plain.items;
-  workers = option_map (λ s. s.now) g.workers;
-  capacity = option_map (λ s. s.now) g.capacity;
-  instants = option_map (λ s. s.now) g.instants;
-  pace = g.pace;
-}
-
-abbrev pub said_values : Said → OptionValues
-said_values s = record {
-  workers = option_to_list s.workers;
-  capacity = option_to_list s.capacity;
-  instants = option_to_list s.instants;
-  paces = if s.pace then 1 else 0;
-}
 
 -- one more plain word
 abbrev pub with_plain : Word → Said → Said
@@ -107,7 +77,7 @@ any_step word s = if bytes_eq word (codes "--") then Some (Plain, s)
 -- one more word; none where it may not stand there
 abbrev pub step : Next → Word → Said → Option State
 step Any word s = any_step word s
-step (Value option) word s = option_map any_next (with_value option word s)
+step (Value option) word s = if is_plain word then option_map any_next (with_value option word s) else None
 step Plain word s = Some (Plain, with_plain word s)
 
 -- at the end no option may want its value
@@ -120,16 +90,3 @@ ended Plain s = Some s
 unfoldable pub run : Next → List Word → Said → Option Said
 run next [] s = ended next s
 run next (word ∷ words) s = option_and_then (λ p. run p.0 words p.1) (step next word s)
-
--- a command that holds these settings, or of them the flag, or none
-abbrev pub IsMadeWith : Settings → Command → Type 0
-IsMadeWith s (Check program pace) = pace ≡ s.pace
-IsMadeWith s (Print program) = ⊤
-IsMadeWith s (Tree program pace) = pace ≡ s.pace
-IsMadeWith s (Code program pace) = pace ≡ s.pace
-IsMadeWith s (Run program flows settings) = settings ≡ s
-IsMadeWith s (Play program flows events settings) = settings ≡ s
-IsMadeWith s (Load seed stages settings) = settings ≡ s
-IsMadeWith s (Judge program trace) = ⊤
-IsMadeWith s (Build program) = ⊤
-IsMadeWith s (Exec image flows settings) = settings ≡ s
