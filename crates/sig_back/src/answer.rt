@@ -17,7 +17,7 @@ use std::fmt;
 pub enum BackAnswer {
     /// The kernel does not meet a rule of acceptance.
     Refused(BackFault),
-    /// The store holds this many nodes, and another one may be needed.
+    /// The nodes of a store, so many, may not suffice: the kernel is not within the bound.
     Budget(u32),
     OutOfMemory,
 }

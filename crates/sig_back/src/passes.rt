@@ -39,6 +39,7 @@ pub fn back(alloc: Global, kernel: Kernel) -> Result<Plan, BackAnswer>
     ensures plan { IfOk result (λ plan. plan.kernel ≡ kernel) }
     ensures accepted { IfOk result (λ plan. IsAcceptedKernel kernel) }
     ensures few { IfOk result (λ plan. length plan.links ≤ LINKS) }
+    ensures room { IfOk result (λ plan. plan.store.made_for ≡ NODES) }
     ensures refused { IfErr result (IsRefusal kernel) }
 
     // A kernel that is accepted has its plan given, and one that is refused is refused for its one fault, unless
@@ -55,6 +56,7 @@ fn plan_of(alloc: Global, kernel: Kernel) -> Result<Plan, BackAnswer>
     ensures plan { IfOk result (λ plan. plan.kernel ≡ kernel) }
     ensures accepted { IfOk result (λ plan. IsAcceptedKernel kernel) }
     ensures few { IfOk result (λ plan. length plan.links ≤ LINKS) }
+    ensures room { IfOk result (λ plan. plan.store.made_for ≡ NODES) }
     ensures refused { IfErr result (IsRefusal kernel) }
 {
     let mut store = Store::new(alloc, NODES)?;
@@ -100,6 +102,7 @@ fn operations_of(
     requires spends { Spends kernel.now store.old }
     requires clocks { AreClocks kernel.now store.old.nodes clocks.now }
     ensures store { IsStore store.new }
+    ensures made_for { store.new.made_for ≡ NODES }
     ensures clocks { AreClocks kernel.now store.new.nodes clocks.now }
     ensures operations { IfOk result (λ ops. AreOperations kernel.now store.new.nodes clocks.now ops.items) }
     ensures refused { IfErr result (IsRefusal kernel.now) }

@@ -2,11 +2,15 @@
 
 use crate::{BackAnswer, back};
 use sig_base::{Kind, OpId, SigId, Signal, Span, Text};
+use sig_code::code_text;
 use sig_kernel::{Equation, Equations, Form, FunOp, Kernel, Operand, Operands, Signals};
 use sig_plan::{LinkInfo, StepKind};
 use std::alloc::{AllocError, Global};
 use std::fmt::Write;
 use std::test::Fail;
+
+const SUM_CODE: &str =
+    "actor 0\n0 0 read A\n1 2 read B\n2 4 compute Y\n3 5 send 0\n4 6 report 1\nactor 1\n0 5 receive 0\n1 6 collect 1\n2 7 commit\n";
 
 /// A signal of the first line, at this column.
 fn signal(alloc: Global, name: &[u8], col: u32) -> Result<Signal, AllocError> {
@@ -115,6 +119,54 @@ fn a_sum_has_a_plan(rt: HostRuntime) -> Result<(), Fail> {
         (StepKind::Commit, 7),
     ];
     assert_eq!(rt; kinds.as_slice(), wanted.as_slice());
+    let text = code_text(rt.alloc(), &plan)?;
+    assert_eq!(rt; str::from_utf8(text.as_slice())?, SUM_CODE);
+    Ok(())
+}
+
+/// `process EIGHT = (? boolean A, B, C, D, E, F, G ! boolean Y) (| Y := A and B | A ^= .. ^= G |);` has one clock class and
+/// eight booleans.
+fn eight_booleans(alloc: Global) -> Result<Kernel, AllocError> {
+    let mut signals = Vec::new(alloc);
+    for number in 0..8 {
+        signals.push(Signal {
+            name: Text::from_bytes(alloc, &[b'A' + number])?,
+            kind: Kind::Boolean,
+            cluster: 0,
+            at: Span { line: 1, col: 1 },
+        })?;
+    }
+    let mut operands = Vec::new(alloc);
+    operands.push(Operand::Sig(SigId(0)))?;
+    operands.push(Operand::Sig(SigId(1)))?;
+    let at = Span { line: 1, col: 1 };
+    let mut equations = Vec::new(alloc);
+    equations.push(Equation {
+        form: Form::Fun(SigId(7), FunOp::And, Operands::from(operands)),
+        at,
+    })?;
+    for number in 1..7 {
+        equations.push(Equation {
+            form: Form::Sync(SigId(0), SigId(number)),
+            at,
+        })?;
+    }
+    Ok(Kernel {
+        signals: Signals::from(signals),
+        equations: Equations::from(equations),
+        inputs: 7,
+        outputs: 1,
+        declared: 8,
+    })
+}
+
+// The nodes suffice for kernels far beyond the bound.
+#[test]
+fn nine_unknowns_find_room(rt: HostRuntime) -> Result<(), Fail> {
+    let kernel = eight_booleans(rt.alloc())?;
+    assert!(rt; kernel.is_valid());
+    let plan = back(rt.alloc(), kernel)?;
+    assert_eq!(rt; plan.order.len(), 8);
     Ok(())
 }
 

@@ -8,7 +8,7 @@ use Rattle.sig_plan.specs.Parts.{PartsView}
 use Rattle.sig_plan.specs.Plans.{PlanView}
 use Rattle.sig_plan.specs.declared.op.Op.{Op}
 
--- The plan holds what it was made of. That its codes are those of these parts is part of its being accepted.
+-- The plan holds what it was made of, of the parts the links. That its codes are those of these parts is part of its being accepted.
 pub record Holds (kernel : Kernel) (clocks : ClocksView) (store : StoreView) (ops : List Op) (order : List OpId) (parts : PartsView)
     (plan : PlanView) : Type 0 where
   pub kernel_held : plan.kernel ≡ kernel

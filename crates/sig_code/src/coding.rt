@@ -25,7 +25,7 @@ use sig_plan::{Code, LinkInfo, Op, Parts, Plan};
 use std::alloc::Global;
 
 /// The plan of a kernel that has clocks, from its operations, their compiled order and its parts: the code
-/// of each actor, the collector's last, and all that was handed in. Only memory can be wanting; what was
+/// of each actor, the collector's last, and what was handed in, of the parts the links. Only memory can be wanting; what was
 /// handed in is then dropped.
 pub fn code(
     alloc: Global,

@@ -58,7 +58,7 @@ pub fn a_kernel_has_its_operations_once()
 
 /// A law: a valid kernel is refused for one reason at most, with the same signals, and where it is, it is
 /// not accepted.
-pub fn a_kernel_is_accepted_or_refused()
+pub fn a_kernel_has_one_fault_at_most()
     ensures one { (kernel : Kernel) (a b : KernelFault) → IsValid kernel → IsRefusedFor kernel a → IsRefusedFor kernel b → a ≡ b }
     ensures apart { (kernel : Kernel) (fault : KernelFault) → IsValid kernel → IsAcceptedKernel kernel → IsRefusedFor kernel fault → ⊥ }
 {}

@@ -17,7 +17,7 @@ pub use answer::PlanAnswer;
 pub use code::{Code, Slot, Step, StepKind};
 pub use ended::{Cause, Ended};
 pub use laws::{
-    a_kernel_has_its_operations_once, a_kernel_is_accepted_or_refused, clocks_stay,
+    a_kernel_has_its_operations_once, a_kernel_has_one_fault_at_most, clocks_stay,
     operations_have_one_order, operations_need_few_nodes,
 };
 pub use making::operations;

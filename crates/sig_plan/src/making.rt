@@ -20,8 +20,10 @@ use sig_kernel::{Equation, Form, Kernel};
 use std::alloc::{AllocError, Global};
 
 /// The operations of a kernel: those of the inputs, then those of the equations but the stores, then
-/// the stores. It is refused where the store has no room for the guards of the right operands of
-/// `Default`s, which are taken where the left ones are absent; older references of the store stay.
+/// the stores. The guards of the right operands of `Default`s, which are taken where the left ones are
+/// absent, are made in the store; older references stay. Budget comes only where the store is full and its
+/// nodes before the call, with the share of two allowances for each equation, are above the number that it
+/// was made for. Want of memory is the other refusal.
 pub fn operations(
     alloc: Global,
     kernel: &Kernel,

@@ -1,5 +1,5 @@
 use Rattle.sig_plan.proofs.FaultOnce.{accepted_or_refused, fault_once}
-use Rattle.sig_plan.proofs.laws.a_kernel_is_accepted_or_refused.Goals as goal
+use Rattle.sig_plan.proofs.laws.a_kernel_has_one_fault_at_most.Goals as goal
 
 pub returns-clause-one : goal.returns-clause-one
 returns-clause-one c = λ kernel a b valid. fault_once kernel valid a b
