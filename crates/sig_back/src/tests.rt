@@ -2,7 +2,9 @@
 
 use crate::{BackAnswer, back};
 use sig_base::{Kind, OpId, SigId, Signal, Span, Text};
+use sig_clock::Clocks;
 use sig_code::code_text;
+use sig_dd::Ref;
 use sig_kernel::{Equation, Equations, Form, FunOp, Kernel, Operand, Operands, Signals};
 use sig_plan::{LinkInfo, StepKind};
 use std::alloc::{AllocError, Global};
@@ -66,6 +68,54 @@ fn two_roots(alloc: Global) -> Result<Kernel, AllocError> {
         inputs: 2,
         outputs: 2,
         declared: 4,
+    })
+}
+
+fn at_first(form: Form) -> Equation {
+    Equation {
+        form,
+        at: Span { line: 1, col: 1 },
+    }
+}
+
+/// `y := x op c`.
+fn with_constant(alloc: Global, y: u32, op: FunOp, x: u32, c: i64) -> Result<Equation, AllocError> {
+    let mut operands = Vec::new(alloc);
+    operands.push(Operand::Sig(SigId(x)))?;
+    operands.push(Operand::Const(c))?;
+    Ok(at_first(Form::Fun(SigId(y), op, Operands::from(operands))))
+}
+
+/// `process DOWN = (? integer A ! integer Y) (| Y := A default (ZY - 1) | ZY := Y $ init 0 | A ^= when (ZY <= 0) |)
+/// where integer ZY; end;`
+fn countdown(alloc: Global) -> Result<Kernel, AllocError> {
+    let kinds = [
+        Kind::Integer,
+        Kind::Integer,
+        Kind::Integer,
+        Kind::Integer,
+        Kind::Boolean,
+        Kind::Event,
+    ];
+    let mut signals = Vec::new(alloc);
+    for kind in kinds {
+        let mut one = signal(alloc, b"X", 1)?;
+        one.kind = kind;
+        signals.push(one)?;
+    }
+    let mut equations = Vec::new(alloc);
+    equations.push(with_constant(alloc, 3, FunOp::Sub, 2, 1)?)?;
+    equations.push(at_first(Form::Default(SigId(1), SigId(0), SigId(3))))?;
+    equations.push(at_first(Form::Delay(SigId(2), SigId(1), 0)))?;
+    equations.push(with_constant(alloc, 4, FunOp::Le, 2, 0)?)?;
+    equations.push(at_first(Form::WhenConst(SigId(5), 1, SigId(4))))?;
+    equations.push(at_first(Form::Sync(SigId(0), SigId(5))))?;
+    Ok(Kernel {
+        signals: Signals::from(signals),
+        equations: Equations::from(equations),
+        inputs: 1,
+        outputs: 1,
+        declared: 3,
     })
 }
 
@@ -167,6 +217,47 @@ fn nine_unknowns_find_room(rt: HostRuntime) -> Result<(), Fail> {
     assert!(rt; kernel.is_valid());
     let plan = back(rt.alloc(), kernel)?;
     assert_eq!(rt; plan.order.len(), 8);
+    Ok(())
+}
+
+/// The guard of the first signal.
+fn first_guard(clocks: &Clocks) -> Option<Ref> {
+    let class = clocks.class_of.as_slice().first()?;
+    clocks.guard.as_slice().get(*class as usize).copied()
+}
+
+// There is one condition, so a guard that is neither constant nor A's clock is the rest of Y's clock. The
+// collector has the same guards.
+#[test]
+fn a_countdown_has_three_guards(rt: HostRuntime) -> Result<(), Fail> {
+    let kernel = countdown(rt.alloc())?;
+    assert!(rt; kernel.is_valid());
+    let plan = back(rt.alloc(), kernel)?;
+    assert_eq!(rt; plan.clocks.conditions.as_slice(), [SigId(4)].as_slice());
+    let always = plan.store.constant(true);
+    let never = plan.store.constant(false);
+    let taken = first_guard(&plan.clocks);
+    let mut guards = Vec::new(rt.alloc());
+    for code in &plan.codes {
+        for slot in code.slots() {
+            let is_taken = Some(slot.guard) == taken;
+            guards.push((
+                slot.guard == always,
+                is_taken,
+                slot.guard == never,
+                slot.parent,
+            ))?;
+        }
+    }
+    let wanted = [
+        (true, false, false, None),
+        (false, true, false, Some(0)),
+        (false, false, false, Some(0)),
+        (true, false, false, None),
+        (false, true, false, Some(0)),
+        (false, false, false, Some(0)),
+    ];
+    assert_eq!(rt; guards.as_slice(), wanted.as_slice());
     Ok(())
 }
 
