@@ -16,4 +16,5 @@ mod TextFile
 mod TextClauses
 mod PlanFile
 mod JudgeFiles
+mod Budgets
 mod CommandWords
