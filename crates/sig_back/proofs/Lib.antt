@@ -1,1 +1,3 @@
+mod Accepting
 mod Growing
+mod Rooms

@@ -1,6 +1,7 @@
 -- How small a kernel is for which the nodes of a store suffice.
-use Rattle.std.specs.Prelude.{◌*◌, ◌≤◌, ℕ}
+use Rattle.std.specs.Prelude.{◌≡◌, ◌*◌, ◌≤◌, ℕ, length}
 use Rattle.sig_base.specs.declared.limits.TheConstants.{NODES}
+use Rattle.sig_dd.specs.Nodes.{StoreView}
 use Rattle.sig_kernel.specs.declared.kernel.Kernel.{Kernel}
 use Rattle.sig_rel.specs.Relations.{IsUnknownCount}
 use Rattle.sig_solve.specs.Refusals.{share_of}
@@ -11,3 +12,8 @@ pub record MeetsBound (kernel : Kernel) : Type 0 where
   pub unknowns : ℕ
   pub counted : IsUnknownCount kernel unknowns
   pub fits : 4 * share_of kernel unknowns ≤ NODES
+
+-- a store for so many nodes holds at most the share of the clocks
+pub record Spends (kernel : Kernel) (store : StoreView) : Type 0 where
+  pub made_for : store.made_for ≡ NODES
+  pub share : (unknowns : ℕ) → IsUnknownCount kernel unknowns → length store.nodes ≤ share_of kernel unknowns

@@ -1,6 +1,6 @@
 -- How the reason is told for which a kernel is refused: with the names of the signals that it is said of, and the place of the
 -- first of them.
-use Rattle.std.specs.Prelude.{◌≡◌, ℕ, List, [], ◌∷◌, slice_get, Option, None, Some}
+use Rattle.std.specs.Prelude.{◌≡◌, ℕ, List, [], ◌∷◌, map, slice_get, Option, None, Some}
 use Rattle.sig_base.specs.declared.ids.SigId.{SigId}
 use Rattle.sig_base.specs.declared.signal.Signal.{Signal}
 use Rattle.sig_base.specs.declared.span.Span.{Span}
@@ -29,20 +29,22 @@ name_at kernel x = name_of (slice_get kernel.signals x.0)
 abbrev pub place_at : Kernel → SigId → Option Span
 place_at kernel x = place_of (slice_get kernel.signals x.0)
 
-abbrev pub said_of : Kernel → BackKind → SigId → FaultView
-said_of kernel kind x = record { kind = kind; names = name_at kernel x ∷ []; at = place_at kernel x }
+abbrev pub first_place : Kernel → List SigId → Option Span
+first_place kernel [] = None
+first_place kernel (x ∷ others) = place_at kernel x
 
-abbrev pub said_of_none : BackKind → FaultView
-said_of_none kind = record { kind = kind; names = []; at = None }
+-- a rule is not met, and these signals are named
+abbrev pub said_of : Kernel → BackKind → List SigId → FaultView
+said_of kernel kind signals = record { kind = kind; names = map (name_at kernel) signals; at = first_place kernel signals }
 
 -- how the reason for which a kernel is refused is told
 abbrev pub told_as : Kernel → KernelFault → FaultView
-told_as kernel Dead = said_of_none IsDead
-told_as kernel (MissingRoot x y) = record { kind = IsMissingRoot; names = name_at kernel x ∷ name_at kernel y ∷ []; at = place_at kernel x }
-told_as kernel (Unsolved x) = said_of kernel IsUnsolved x
-told_as kernel (Pinned b) = said_of kernel IsPinned b
-told_as kernel (Cycle x) = said_of kernel IsCycle x
-told_as kernel TooManyLinks = said_of_none AreTooManyLinks
+told_as kernel Dead = said_of kernel IsDead []
+told_as kernel (MissingRoot x y) = said_of kernel IsMissingRoot (x ∷ y ∷ [])
+told_as kernel (Unsolved x) = said_of kernel IsUnsolved (x ∷ [])
+told_as kernel (Pinned b) = said_of kernel IsPinned (b ∷ [])
+told_as kernel (Cycle x) = said_of kernel IsCycle (x ∷ [])
+told_as kernel TooManyLinks = said_of kernel AreTooManyLinks []
 
 -- the kernel is refused for the reason that is told
 abbrev pub IsFaultOf : Kernel → FaultView → Type 0

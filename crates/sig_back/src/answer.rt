@@ -5,6 +5,8 @@ ghost use Rattle.sig_back.specs.Shown.{back_line};
 ghost use Rattle.sig_back.specs.declared.answer.BackAnswer.TheVariants.{OutOfMemory};
 
 use crate::fault::BackFault;
+use sig_code::CodeAnswer;
+use sig_dd::DdAnswer;
 use std::alloc::{AllocError, AllocFailed};
 use std::error::Error;
 use std::fmt;
@@ -33,6 +35,23 @@ impl fmt::Display for BackAnswer {
 }
 
 impl Error for BackAnswer {}
+
+// A store is made without room, so only memory can be wanting.
+impl From<DdAnswer> for BackAnswer {
+    ghost from_gives = { λ _ e. e ≡ OutOfMemory };
+
+    fn from(_refused: DdAnswer) -> BackAnswer {
+        BackAnswer::OutOfMemory
+    }
+}
+
+impl From<CodeAnswer> for BackAnswer {
+    ghost from_gives = { λ _ e. e ≡ OutOfMemory };
+
+    fn from(_refused: CodeAnswer) -> BackAnswer {
+        BackAnswer::OutOfMemory
+    }
+}
 
 impl From<AllocError> for BackAnswer {
     ghost from_gives = { λ _ e. e ≡ OutOfMemory };

@@ -6,7 +6,11 @@
 mod answer;
 mod fault;
 mod passes;
+mod telling;
 
 pub use answer::BackAnswer;
 pub use fault::{BackFault, BackKind};
 pub use passes::back;
+
+#[cfg(test)]
+mod tests;

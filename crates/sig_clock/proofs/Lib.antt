@@ -6,3 +6,5 @@ pub mod LayerLemmas
 pub mod ReactionLemmas
 pub mod ProposalLemmas
 pub mod AbstractLemmas
+pub mod OnceLemmas
+pub mod Ordered

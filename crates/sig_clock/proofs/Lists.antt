@@ -1,6 +1,6 @@
 -- Lemmas on lists and what they contain.
 use Rattle.std.proofs.Common.{◌≡◌, ◌<◌, ◌≤◌, ◌+◌, ◌++◌, ◌⊎◌, inl, inr, ℕ, List, [], ◌∷◌, length, get_or, refl, sym, ap, ◌∙◌, subst, arith, Contains}
-use Rattle.std.specs.Prelude.{zero, suc}
+use Rattle.std.specs.Prelude.{zero, suc, Some, slice_get}
 use Rattle.std.specs.List.{range_with_len}
 use Rattle.std.specs.Prelude.{take, drop}
 use Rattle.std.proofs.lemmas.List.{append-nil, get_or_default, take_all}
@@ -41,3 +41,19 @@ written len new items same is =
 -- an element that was read, whatever would stand past the end
 pub item_at : {X : Type 0} (own items : List X) (n : ℕ) (x : X) → own ≡ items → n < length own → x ≡ get_or own n x → (d : X) → get_or items n d ≡ x
 item_at own items n x same within is d = sym (is ∙ get_or_default own n x d within ∙ ap (λ xs. get_or xs n d) same)
+
+pub get_at : {X : Type 0} (xs : List X) (k : ℕ) (d : X) → k < length xs → slice_get xs k ≡ Some (get_or xs k d)
+get_at [] k d lt = absurd (omega (arith, lt))
+get_at (x ∷ xs) zero d lt = refl
+get_at (x ∷ xs) (suc k) d lt = get_at xs k d (omega (arith, lt))
+
+pub get_within : {X : Type 0} (xs : List X) (k : ℕ) (x : X) → slice_get xs k ≡ Some x → k < length xs
+get_within [] k x is = cc
+get_within (y ∷ xs) zero x is = omega arith
+get_within (y ∷ xs) (suc k) x is = omega (arith, get_within xs k x is)
+
+pub contains_at : {X : Type 0} (xs : List X) (k : ℕ) (x : X) → slice_get xs k ≡ Some x → Contains xs x
+contains_at xs k x is = let e : Some (get_or xs k x) ≡ Some x = sym (get_at xs k x (get_within xs k x is)) ∙ is in (k, get_within xs k x is, cc)
+
+pub at_contained : {X : Type 0} (xs : List X) (x : X) (there : Contains xs x) → slice_get xs there.0 ≡ Some x
+at_contained xs x there = get_at xs there.0 x there.1 ∙ ap Some there.2

@@ -1,2 +1,4 @@
+pub mod Coding
 pub mod Made
 pub mod Texts
+pub mod Turns

@@ -1,9 +1,8 @@
 -- The text of a plan's code: for each actor a line with its number, and then a line for each step with the step's index, its
 -- position and what it does.
-use Rattle.std.specs.Prelude.{ℕ, List, [], ◌++◌, codes, slice_get, Option, None, Some}
+use Rattle.std.specs.Prelude.{◌≡◌, ℕ, List, [], ◌++◌, codes, slice_get, Option, None, Some}
 use Rattle.std.specs.Fmt.{decimal}
 use Rattle.std.specs.List.{enumerate_from, flat_map}
-use Rattle.sig_base.specs.declared.ids.EqId.{EqId}
 use Rattle.sig_base.specs.declared.ids.SigId.{SigId}
 use Rattle.sig_base.specs.declared.signal.Signal.{Signal}
 use Rattle.sig_kernel.specs.declared.equation.Equation.{Equation}
@@ -11,7 +10,7 @@ use Rattle.sig_kernel.specs.declared.equation.Form.{Form}
 use Rattle.sig_kernel.specs.declared.equation.Form.TheVariants.{Fun, Delay, When, WhenConst, Default, Sync, Event}
 use Rattle.sig_kernel.specs.declared.kernel.Kernel.{Kernel}
 use Rattle.sig_plan.specs.Codes.{CodeView}
-use Rattle.sig_plan.specs.Plans.{PlanView}
+use Rattle.sig_plan.specs.Plans.{IsAccepted, PlanView}
 use Rattle.sig_plan.specs.declared.code.Step.{Step}
 use Rattle.sig_plan.specs.declared.code.StepKind.{StepKind}
 use Rattle.sig_plan.specs.declared.code.StepKind.TheVariants.{Do, Send, Receive, Report, Collect, Commit}
@@ -65,14 +64,21 @@ what_text kernel ops Commit = codes "commit"
 
 -- the line of a step with its index
 abbrev pub step_text : Kernel → List Op → ℕ × Step → List ℕ
-step_text kernel ops (index , step) =
+step_text kernel ops (index, step) =
     decimal index ++ (codes " " ++ (decimal step.pos ++ (codes " " ++ (what_text kernel ops step.kind ++ codes "\n"))))
 
 -- the lines of an actor's code
 abbrev pub actor_text : Kernel → List Op → ℕ × CodeView → List ℕ
-actor_text kernel ops (actor , code) =
+actor_text kernel ops (actor, code) =
     codes "actor " ++ (decimal actor ++ (codes "\n" ++ flat_map (step_text kernel ops) (enumerate_from 0 code.steps)))
 
 -- the text of a plan's code
 abbrev pub code_text_of : PlanView → List ℕ
 code_text_of plan = flat_map (actor_text plan.kernel plan.ops) (enumerate_from 0 plan.codes)
+
+-- the text of the code of a kernel's accepted plan
+pub record IsCodeText (kernel : Kernel) (text : List ℕ) : Type 0 where
+  pub plan : PlanView
+  pub accepted : IsAccepted plan
+  pub of : plan.kernel ≡ kernel
+  pub says : text ≡ code_text_of plan

@@ -1,28 +1,34 @@
 //! The code of each actor, and the plan.
 
-ghost use Rattle.std.specs.Prelude.{IfOk};
+ghost use Rattle.std.specs.Prelude.{◌≡◌, ◌+◌, ◌<◌, All, IfOk, length};
 ghost use Rattle.sig_clock.specs.ClockRefusals.{HasClocks};
 ghost use Rattle.sig_clock.specs.Clocks.{AreClocks};
+ghost use Rattle.sig_code.specs.Coding.{AreCodesOf};
 ghost use Rattle.sig_code.specs.Made.{Holds};
+ghost use Rattle.sig_code.specs.Turns.{parts_of};
+ghost use Rattle.sig_dd.specs.Nodes.{Holds as HoldsRef, IsStore};
 ghost use Rattle.sig_kernel.specs.Validity.{IsValid};
+ghost use Rattle.sig_plan.specs.Codes.{instructions_of};
 ghost use Rattle.sig_plan.specs.Operations.{AreOperations, operations_in};
 ghost use Rattle.sig_plan.specs.Order.{IsCompiledOrder};
 ghost use Rattle.sig_plan.specs.Parts.{AreParts};
 ghost use Rattle.sig_plan.specs.Plans.{numbers_of};
 
 use crate::answer::CodeAnswer;
+use crate::routes::routes_of_each;
+use crate::steps::Source;
 use sig_base::OpId;
 use sig_clock::Clocks;
 use sig_dd::Store;
 use sig_kernel::Kernel;
-use sig_plan::{Op, Parts, Plan};
+use sig_plan::{Code, LinkInfo, Op, Parts, Plan};
 use std::alloc::Global;
 
 /// The plan of a kernel that has clocks, from its operations, their compiled order and its parts: the code
 /// of each actor, the collector's last, and all that was handed in. Only memory can be wanting; what was
 /// handed in is then dropped.
 pub fn code(
-    _alloc: Global,
+    alloc: Global,
     kernel: Kernel,
     clocks: Clocks,
     store: Store,
@@ -38,5 +44,63 @@ pub fn code(
     requires parts { AreParts kernel clocks.conditions (operations_in store.nodes ops.items) parts }
     ensures { IfOk result (Holds kernel clocks store ops.items order.items parts) }
 {
-    Err(CodeAnswer::OutOfMemory)
+    let Parts {
+        clusters,
+        links,
+        ..
+    } = parts;
+    let codes = codes_of(
+        alloc,
+        &store,
+        ops.as_slice(),
+        order.as_slice(),
+        links.as_slice(),
+        clusters,
+    )?;
+    Ok(Plan {
+        kernel,
+        clocks,
+        store,
+        ops,
+        order,
+        links,
+        codes,
+    })
 }
+
+/// The codes of the clusters, and the collector's last.
+fn codes_of(
+    alloc: Global,
+    store: &Store,
+    ops: &[Op],
+    order: &[OpId],
+    links: &[LinkInfo],
+    clusters: u32,
+) -> Result<Vec<Code>, CodeAnswer>
+    requires held { All (λ op. HoldsRef store.now.nodes op.guard) ops.now }
+    requires within { All (λ op. op.0 < length ops.now) order.now }
+    requires places { length order.now ≡ length ops.now }
+    ensures store { IfOk result (λ _. IsStore store.now) }
+    ensures codes { IfOk result (λ codes. AreCodesOf store.now.nodes
+        (instructions_of (operations_in store.now.nodes ops.now) (numbers_of order.now) (parts_of clusters links.now)) (clusters + 1) codes.items) }
+{
+    // More operations than there are positions for them, or more links than there are numbers, find no
+    // memory.
+    if ops.len() > (u32::MAX / 2) as usize || links.len() > u32::MAX as usize {
+        return Err(CodeAnswer::OutOfMemory);
+    }
+    let routes = routes_of_each(alloc, ops, links)?;
+    let source = Source {
+        store,
+        ops,
+        order,
+        links,
+        routes: routes.as_slice(),
+        clusters,
+        unguarded: store.constant(true),
+    };
+    source.codes(alloc)
+}
+
+#[cfg(test)]
+mod tests;

@@ -5,8 +5,13 @@
 
 mod answer;
 mod coding;
+mod laws;
+mod routes;
+mod slots;
+mod steps;
 mod text;
 
 pub use answer::CodeAnswer;
 pub use coding::code;
+pub use laws::a_kernel_has_one_code_text;
 pub use text::code_text;

@@ -3,3 +3,4 @@ pub mod Once
 pub mod PreorderLemmas
 pub mod TextLemmas
 pub mod TreeLemmas
+mod TreeOnce

@@ -1,9 +1,11 @@
 -- The text of a clock hierarchy: a line for each class, in preorder, with two blanks for each level and the declared
 -- signals of the class.
-use Rattle.std.specs.Prelude.{ℕ, zero, suc, ◌+◌, ◌==◌, Bool, false, List, [], ◌∷◌, ◌++◌, length, filter, slice_get, slice_index, slice_index_or, Option, None, Some, codes}
+use Rattle.std.specs.Prelude.{◌≡◌, ℕ, zero, suc, ◌+◌, ◌==◌, Bool, false, List, [], ◌∷◌, ◌++◌, length, filter, slice_get, slice_index, slice_index_or, Option, None, Some, codes}
 use Rattle.std.specs.List.{flat_map, range_with_len}
 use Rattle.sig_base.specs.declared.signal.Signal.{Signal}
-use Rattle.sig_clock.specs.Clocks.{ClocksView}
+use Rattle.sig_clock.specs.Clocks.{AreClocks, ClocksView}
+use Rattle.sig_dd.specs.declared.node.Node.{Node}
+use Rattle.sig_hier.specs.Trees.{IsTree}
 use Rattle.sig_hier.specs.declared.preorder.Line.{Line}
 use Rattle.sig_kernel.specs.declared.kernel.Kernel.{Kernel}
 
@@ -55,3 +57,12 @@ line_text kernel class_of line = indent line.level ++ names_text kernel.signals 
 -- the text of the tree of a kernel's clocks
 abbrev pub text_of : Kernel → ClocksView → List (Option ℕ) → List ℕ
 text_of kernel clocks tree = flat_map (line_text kernel clocks.class_of) (preorder tree)
+
+-- the text of the hierarchy of a kernel's clocks, whose guards are references of some store
+pub record IsTreeText (kernel : Kernel) (text : List ℕ) : Type 0 where
+  pub nodes : List Node
+  pub clocks : ClocksView
+  pub are : AreClocks kernel nodes clocks
+  pub tree : List (Option ℕ)
+  pub is : IsTree nodes clocks tree
+  pub says : text ≡ text_of kernel clocks tree

@@ -11,7 +11,7 @@ mod text;
 mod trees;
 
 pub use answer::TreeAnswer;
-pub use laws::each_class_has_one_line;
+pub use laws::{a_kernel_has_one_tree_text, each_class_has_one_line};
 pub use making::tree;
 pub use text::tree_text;
 pub use trees::Tree;

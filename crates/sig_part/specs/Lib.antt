@@ -1,1 +1,7 @@
 pub mod Answers
+pub mod Uses
+pub mod Marks
+pub mod Closing
+pub mod Linking
+pub mod Written
+pub mod Imported

@@ -4,7 +4,13 @@
 #![tactic(auto)]
 
 mod answer;
+mod closing;
+mod imports;
+mod links;
+mod marks;
+mod needs;
 mod splitting;
+mod uses;
 
 pub use answer::PartAnswer;
 pub use splitting::split;

@@ -1,17 +1,23 @@
 //! The parts of a kernel.
 
-ghost use Rattle.std.specs.Prelude.{◌≤◌, IfErr, IfOk, length};
+ghost use Rattle.std.specs.Prelude.{◌≡◌, ◌+◌, ◌^◌, ◌<◌, ◌≤◌, All, IfErr, IfOk, length};
 ghost use Rattle.sig_base.specs.declared.limits.TheConstants.{LINKS};
 ghost use Rattle.sig_clock.specs.Clocks.{AreClocks};
+ghost use Rattle.sig_dd.specs.Nodes.{Holds};
 ghost use Rattle.sig_kernel.specs.Validity.{IsValid};
 ghost use Rattle.sig_part.specs.Answers.{IsRefusal};
+ghost use Rattle.sig_part.specs.Written.{AreWritten};
 ghost use Rattle.sig_plan.specs.Operations.{AreOperations, operations_in};
 ghost use Rattle.sig_plan.specs.Order.{IsCompiledOrder};
-ghost use Rattle.sig_plan.specs.Parts.{AreParts};
+ghost use Rattle.sig_plan.specs.Parts.{AreParts, cluster_count};
 ghost use Rattle.sig_plan.specs.Plans.{numbers_of};
 
 use crate::answer::PartAnswer;
-use sig_base::OpId;
+use crate::imports::imported;
+use crate::links::links_of;
+use crate::marks::lists_of;
+use sig_base::limits::LINKS;
+use sig_base::{OpId, Signal};
 use sig_clock::Clocks;
 use sig_dd::Store;
 use sig_kernel::Kernel;
@@ -22,20 +28,68 @@ use std::alloc::Global;
 /// collector last, and the links, which are at most 4,096. It is refused exactly where more are needed.
 /// Only memory can be wanting besides. The parts are the same whatever the order of the operations is.
 pub fn split(
-    _alloc: Global,
-    _kernel: &Kernel,
-    _ops: &[Op],
+    alloc: Global,
+    kernel: &Kernel,
+    ops: &[Op],
     _order: &[OpId],
-    _clocks: &Clocks,
-    _store: &Store,
+    clocks: &Clocks,
+    store: &Store,
 ) -> Result<Parts, PartAnswer>
-    requires valid { IsValid _kernel.now }
-    requires clocks { AreClocks _kernel.now _store.now.nodes _clocks.now }
-    requires operations { AreOperations _kernel.now _store.now.nodes _clocks.now _ops.now }
-    requires order { IsCompiledOrder _clocks.now.conditions (operations_in _store.now.nodes _ops.now) (numbers_of _order.now) }
-    ensures parts { IfOk result (AreParts _kernel.now _clocks.now.conditions (operations_in _store.now.nodes _ops.now)) }
+    requires valid { IsValid kernel.now }
+    requires clocks { AreClocks kernel.now store.now.nodes clocks.now }
+    requires operations { AreOperations kernel.now store.now.nodes clocks.now ops.now }
+    requires order { IsCompiledOrder clocks.now.conditions (operations_in store.now.nodes ops.now) (numbers_of _order.now) }
+    ensures parts { IfOk result (AreParts kernel.now clocks.now.conditions (operations_in store.now.nodes ops.now)) }
     ensures few { IfOk result (λ parts. length parts.links ≤ LINKS) }
-    ensures refused { IfErr result (IsRefusal _kernel.now _clocks.now.conditions (operations_in _store.now.nodes _ops.now)) }
+    ensures refused { IfErr result (IsRefusal kernel.now clocks.now.conditions (operations_in store.now.nodes ops.now)) }
 {
-    Err(PartAnswer::OutOfMemory)
+    split_of(alloc, kernel, ops, clocks, store)
 }
+
+/// The parts of operations whose guards are held by the store.
+fn split_of(
+    alloc: Global,
+    kernel: &Kernel,
+    ops: &[Op],
+    clocks: &Clocks,
+    store: &Store,
+) -> Result<Parts, PartAnswer>
+    requires signals { length kernel.now.signals < 2 ^ 32 }
+    requires outputs { kernel.now.inputs + kernel.now.outputs < 2 ^ 32 }
+    requires ops { All (λ op. Holds store.now.nodes op.guard) ops.now }
+    ensures parts { IfOk result (λ parts. AreWritten kernel.now.signals (operations_in store.now.nodes ops.now)
+        → AreParts kernel.now clocks.now.conditions (operations_in store.now.nodes ops.now) parts) }
+    ensures few { IfOk result (λ parts. length parts.links ≤ LINKS) }
+    ensures refused { IfErr result (λ answer. AreWritten kernel.now.signals (operations_in store.now.nodes ops.now)
+        → IsRefusal kernel.now clocks.now.conditions (operations_in store.now.nodes ops.now) answer) }
+{
+    let signals = kernel.signals.as_slice();
+    // More clusters than there are numbers for them find no memory.
+    let Ok(clusters) = u32::try_from(cluster_count(signals)) else {
+        return Err(PartAnswer::OutOfMemory);
+    };
+    let marks = imported(alloc, kernel, ops, clusters, clocks, store)?;
+    let links = links_of(alloc, signals, clusters, marks.as_slice())?;
+    let imports = lists_of(alloc, signals.len() as u32, marks.as_slice())?;
+    if links.len() > LINKS as usize {
+        return Err(PartAnswer::TooManyLinks(LINKS));
+    }
+    Ok(Parts {
+        clusters,
+        links,
+        imports,
+    })
+}
+
+/// How many clusters there are: one more than the greatest cluster of a signal.
+fn cluster_count(signals: &[Signal]) -> u64
+    ensures { result ≡ cluster_count signals.now }
+{
+    signals
+        .iter()
+        .map(|signal| u64::from(signal.cluster) + 1)
+        .fold(1, |count, other| count.max(other))
+}
+
+#[cfg(test)]
+mod tests;

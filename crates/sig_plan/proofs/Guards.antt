@@ -1,6 +1,7 @@
 -- The guards of clocks, and what stays of them as a store grows.
 use Rattle.std.proofs.Common.{◌≡◌, ◌<◌, ℕ, Bool, List, [], ◌∷◌, length, get_or, refl, sym, ap, ◌∙◌, subst, arith, Contains}
 use Rattle.std.specs.Prelude.{zero, suc, Option, None, Some, slice_get}
+use Rattle.sig_clock.proofs.Lists.{at_contained, contains_at}
 use Rattle.sig_clock.specs.Clocks.{AreClocks, ClocksView, guard_of}
 use Rattle.sig_dd.specs.Diagram.{Depends}
 use Rattle.sig_dd.specs.Nodes.{Holds, Keeps, StoreView, test}
@@ -10,22 +11,6 @@ use Rattle.sig_dd.proofs.CallerLemmas.{Agree-kept, Holds-kept, Spans-kept}
 use Rattle.sig_kernel.specs.declared.kernel.Kernel.{Kernel}
 use Rattle.sig_plan.specs.Making.{AreOver, HaveGuards, HoldGuards}
 use Rattle.sig_plan.specs.Operations.{function_in, presence_in}
-
-pub get_at : {X : Type 0} (xs : List X) (k : ℕ) (d : X) → k < length xs → slice_get xs k ≡ Some (get_or xs k d)
-get_at [] k d lt = absurd (omega (arith, lt))
-get_at (x ∷ xs) zero d lt = refl
-get_at (x ∷ xs) (suc k) d lt = get_at xs k d (omega (arith, lt))
-
-pub get_within : {X : Type 0} (xs : List X) (k : ℕ) (x : X) → slice_get xs k ≡ Some x → k < length xs
-get_within [] k x is = cc
-get_within (y ∷ xs) zero x is = omega arith
-get_within (y ∷ xs) (suc k) x is = omega (arith, get_within xs k x is)
-
-pub contains_at : {X : Type 0} (xs : List X) (k : ℕ) (x : X) → slice_get xs k ≡ Some x → Contains xs x
-contains_at xs k x is = let e : Some (get_or xs k x) ≡ Some x = sym (get_at xs k x (get_within xs k x is)) ∙ is in (k, get_within xs k x is, cc)
-
-pub at_contained : {X : Type 0} (xs : List X) (x : X) (there : Contains xs x) → slice_get xs there.0 ≡ Some x
-at_contained xs x there = get_at xs there.0 x there.1 ∙ ap Some there.2
 
 module _ (kernel : Kernel) (nodes : List Node) (clocks : ClocksView) (are : AreClocks kernel nodes clocks) where
   pub guards_there : HaveGuards clocks (length kernel.signals)

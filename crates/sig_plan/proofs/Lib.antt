@@ -5,3 +5,6 @@ pub mod Operating
 pub mod Pigeons
 pub mod Orders
 pub mod SmallShares
+pub mod FaultOnce
+pub mod OperationsOnce
+pub mod PartsOnce

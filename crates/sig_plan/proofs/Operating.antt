@@ -16,7 +16,8 @@ use Rattle.sig_plan.specs.Shares.{IsRefusedFor, KeepsToShare, share_of}
 use Rattle.sig_plan.specs.declared.answer.PlanAnswer.{PlanAnswer}
 use Rattle.sig_plan.specs.declared.answer.PlanAnswer.TheVariants.{OutOfMemory}
 use Rattle.sig_plan.specs.declared.op.Op.{Op}
-use Rattle.sig_plan.proofs.Guards.{at_contained, guards_held, guards_kept, presence_stays}
+use Rattle.sig_clock.proofs.Lists.{at_contained}
+use Rattle.sig_plan.proofs.Guards.{guards_held, guards_kept, presence_stays}
 
 range_contains : (n v : ℕ) → v < n → Contains (range_with_len 0 n) v
 range_contains n v lt = (v, omega (arith, lt, length-range_with_len 0 n), get_or-range_with_len 0 n v v lt ∙ omega arith)

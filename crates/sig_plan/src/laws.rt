@@ -4,7 +4,9 @@ ghost use Rattle.std.specs.Prelude.{◌≡◌, ◌+◌, ◌*◌, ◌^◌, ◌<�
 ghost use Rattle.sig_base.specs.declared.ids.SigId.{SigId};
 ghost use Rattle.sig_clock.specs.Clocks.{AreClocks, ClocksView};
 ghost use Rattle.sig_dd.specs.Nodes.{Keeps, StoreView};
+ghost use Rattle.sig_kernel.specs.Validity.{IsValid};
 ghost use Rattle.sig_kernel.specs.declared.kernel.Kernel.{Kernel};
+ghost use Rattle.sig_plan.specs.Acceptance.{HasOperations, IsAcceptedKernel, IsRefusedFor, KernelFault};
 ghost use Rattle.sig_plan.specs.Operations.{Operation, presence_in};
 ghost use Rattle.sig_plan.specs.Order.{IsCompiledOrder, Precedes, Reaches};
 ghost use Rattle.sig_plan.specs.Shares.{share_of};
@@ -45,4 +47,18 @@ pub fn operations_need_few_nodes()
         → share_of kernel conditions ≤ 2 ^ length conditions * 3 * (length kernel.equations + 1) }
     ensures unknowns { (kernel : Kernel) (conditions : List SigId) (u : ℕ) → length conditions ≤ u
         → share_of kernel conditions ≤ 2 ^ u * 60 * (length kernel.equations + u * u * u) }
+{}
+
+/// A law: a valid kernel that has clocks has one order of its conditions and one list of operations.
+pub fn a_kernel_has_its_operations_once()
+    ensures { (kernel : Kernel) (conditions other_conditions : List SigId) (operations other_operations : List Operation) → IsValid kernel
+        → HasOperations kernel conditions operations → HasOperations kernel other_conditions other_operations
+        → (conditions ≡ other_conditions) × (operations ≡ other_operations) }
+{}
+
+/// A law: a valid kernel is refused for one reason at most, with the same signals, and where it is, it is
+/// not accepted.
+pub fn a_kernel_is_accepted_or_refused()
+    ensures one { (kernel : Kernel) (a b : KernelFault) → IsValid kernel → IsRefusedFor kernel a → IsRefusedFor kernel b → a ≡ b }
+    ensures apart { (kernel : Kernel) (fault : KernelFault) → IsValid kernel → IsAcceptedKernel kernel → IsRefusedFor kernel fault → ⊥ }
 {}

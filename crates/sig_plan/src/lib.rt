@@ -16,7 +16,10 @@ mod source;
 pub use answer::PlanAnswer;
 pub use code::{Code, Slot, Step, StepKind};
 pub use ended::{Cause, Ended};
-pub use laws::{clocks_stay, operations_have_one_order, operations_need_few_nodes};
+pub use laws::{
+    a_kernel_has_its_operations_once, a_kernel_is_accepted_or_refused, clocks_stay,
+    operations_have_one_order, operations_need_few_nodes,
+};
 pub use making::operations;
 pub use op::{Op, OpKind, Reads};
 pub use parts::{Imports, LinkInfo, Parts};

@@ -1,0 +1,63 @@
+-- What the passes give means that the kernel is accepted, and what they refuse that it is not.
+use Rattle.std.proofs.Common.{◌≡◌, ◌<◌, ℕ, List, [], ◌∷◌, length, slice_get, slice_index, refl, sym, ap, ◌∙◌, subst, arith}
+use Rattle.std.specs.Prelude.{zero, suc, Option, Some, Result, Ok, Err, IfErr, IfOk, IsErrAnd}
+use Rattle.sig_base.specs.declared.ids.SigId.{SigId}
+use Rattle.sig_back.specs.Answers.{IsRefusal, IsToldUnlessWanting, IsWanting, Tells}
+use Rattle.sig_back.specs.Faults.{said_of, told_as}
+use Rattle.sig_back.specs.declared.answer.BackAnswer.{BackAnswer}
+use Rattle.sig_back.specs.declared.answer.BackAnswer.TheVariants.{Refused, Budget, OutOfMemory}
+use Rattle.sig_back.specs.declared.fault.BackKind.{BackKind}
+use Rattle.sig_clock.specs.ClockFunctions.{IsClockFunction}
+use Rattle.sig_clock.specs.ClockRefusals.{HasClocks}
+use Rattle.sig_clock.specs.Clocks.{AreClocks, ClocksView, guard_of}
+use Rattle.sig_clock.specs.Conditions.{signal_id}
+use Rattle.sig_clock.specs.Layers.{IsSignal}
+use Rattle.sig_dd.specs.declared.node.Node.{Node}
+use Rattle.sig_dd.specs.declared.node.Ref.{Ref}
+use Rattle.sig_kernel.specs.Validity.{IsValid}
+use Rattle.sig_kernel.specs.declared.kernel.Kernel.{Kernel}
+use Rattle.sig_plan.proofs.FaultOnce.{accepted_or_refused, fault_once}
+use Rattle.sig_plan.specs.Acceptance.{HasOperations, IsAcceptedKernel, IsRefusedFor, KernelFault}
+use Rattle.sig_plan.specs.Operations.{AreOperations, function_in, operations_in, presence_in}
+use Rattle.sig_plan.specs.declared.op.Op.{Op}
+
+-- an answer that tells of a rule refuses the kernel that does not meet it
+pub refuses : (kernel : Kernel) (fault : KernelFault) (kind : BackKind) (signals : List SigId) (answer : BackAnswer) → IsRefusedFor kernel fault
+    → said_of kernel kind signals ≡ told_as kernel fault → Tells kernel kind signals answer → IsRefusal kernel answer
+refuses kernel fault kind signals (Refused told) refused same is = (fault, refused, is ∙ same)
+refuses kernel fault kind signals (Budget nodes) refused same is = absurd is
+refuses kernel fault kind signals OutOfMemory refused same is = tt
+
+present : {X : Type 0} (xs : List X) (k : ℕ) → k < length xs → (x : X) × (slice_get xs k ≡ Some x)
+present [] k lt = absurd (omega (arith, lt))
+present (x ∷ xs) zero lt = (x, refl)
+present (x ∷ xs) (suc k) lt = present xs k (omega (arith, lt))
+
+-- the operations that were made are the kernel's
+pub operations : (kernel : Kernel) (nodes : List Node) (clocks : ClocksView) (ops : List Op) → HasClocks kernel → AreClocks kernel nodes clocks
+    → AreOperations kernel nodes clocks ops → HasOperations kernel clocks.conditions (operations_in nodes ops)
+operations kernel nodes clocks ops has are made = record {
+  clocks = has;
+  order = are.conditions;
+  presence = presence_in nodes clocks;
+  functions = λ signal is. let there = present clocks.guard (slice_index clocks.class_of signal) (are.classes signal is) in of signal is there.0 there.1;
+  are = made.are;
+} where
+  of : (signal : ℕ) → IsSignal kernel signal → (guard : Ref) → guard_of clocks signal ≡ Some guard
+      → IsClockFunction kernel clocks.conditions signal (presence_in nodes clocks (signal_id signal))
+  of signal is guard e = subst (λ (o : Option Ref). IsClockFunction kernel clocks.conditions signal (function_in nodes o)) (sym e) (are.functions signal _ is e)
+
+-- an accepted kernel is not refused
+pub given : {T : Type 0} (kernel : Kernel) (result : Result T BackAnswer) → IsValid kernel → IfErr result (IsRefusal kernel) → IsAcceptedKernel kernel → IfErr result IsWanting
+given kernel (Ok plan) valid refused accepted = tt
+given kernel (Err (Refused told)) valid refused accepted = accepted_or_refused kernel valid refused.0 accepted refused.1
+given kernel (Err (Budget nodes)) valid refused accepted = tt
+given kernel (Err OutOfMemory) valid refused accepted = tt
+
+-- a refused kernel is refused for its fault
+pub first : {T : Type 0} (kernel : Kernel) (result : Result T BackAnswer) → IsValid kernel → IfOk result (λ plan. IsAcceptedKernel kernel) → IfErr result (IsRefusal kernel)
+    → (fault : KernelFault) → IsRefusedFor kernel fault → IsErrAnd result (IsToldUnlessWanting (told_as kernel fault))
+first kernel (Ok plan) valid accepted refused fault is = absurd (accepted_or_refused kernel valid fault accepted is)
+first kernel (Err (Refused told)) valid accepted refused fault is = refused.2 ∙ ap (told_as kernel) (fault_once kernel valid refused.0 fault refused.1 is)
+first kernel (Err (Budget nodes)) valid accepted refused fault is = tt
+first kernel (Err OutOfMemory) valid accepted refused fault is = tt

@@ -1,0 +1,112 @@
+-- A kernel within the bound does not run out of nodes.
+use Rattle.std.proofs.Common.{◌≡◌, ◌<◌, ◌≤◌, ◌⊎◌, inl, inr, ℕ, true, false, eqb, List, [], length, map, filter, get_or, slice_get, sym, ap, ◌∙◌, subst, arith}
+use Rattle.std.specs.Prelude.{Some, Result}
+use Rattle.std.specs.List.{list_any, range_with_len}
+use Rattle.std.proofs.lemmas.Cmp.{nat_eq_equiv}
+use Rattle.std.proofs.lemmas.List.{get_or-map}
+use Rattle.std.proofs.lemmas.List.Sums.{length-filter}
+use Rattle.std.proofs.lemmas.Map.Keys.{IsDistinct-from_apart}
+use Rattle.std.proofs.lemmas.Map.Made.{length-le_from_is_member}
+use Rattle.sig_base.specs.declared.ids.SigId.{SigId}
+use Rattle.sig_base.specs.declared.limits.TheConstants.{NODES}
+use Rattle.sig_back.specs.Answers.{HasNoRoomFor, IsBeyondBound}
+use Rattle.sig_back.specs.Budgets.{Spends}
+use Rattle.sig_clock.specs.Clocks.{AreClocks, ClocksView}
+use Rattle.sig_clock.specs.Conditions.{is_condition, signal_id}
+use Rattle.sig_clock.specs.Layers.{HasLayer, IsEarlier}
+use Rattle.sig_clock.proofs.LayerLemmas.{one_layer}
+use Rattle.sig_dd.specs.Nodes.{Keeps, StoreView}
+use Rattle.sig_dd.specs.declared.node.Node.{Node}
+use Rattle.sig_kernel.specs.declared.kernel.Kernel.{Kernel}
+use Rattle.sig_plan.specs.Shares.{IsRefusedFor}
+use Rattle.sig_plan.specs.declared.answer.PlanAnswer.{PlanAnswer}
+use Rattle.sig_plan.specs.declared.answer.PlanAnswer.TheVariants.{Budget as NoNodes}
+use Rattle.sig_rel.specs.Relations.{IsUnknownCount, is_boolean}
+use Rattle.sig_solve.specs.Refusals.{HasNoRoom, KeepsToShare, share_of}
+use Rattle.sig_solve.specs.declared.answer.ClockAnswer.{ClockAnswer}
+use Rattle.sig_solve.specs.declared.answer.ClockAnswer.TheVariants.{Dead, MissingRoot, Unsolved, Pinned, Budget, OutOfMemory}
+use Rattle.sig_solve.proofs.ListLemmas.{any_is, apart-eqb, get_at, in_filter, in_range, is_any, map_length, of_map}
+use Rattle.sig_solve.proofs.ReactionLemmas.{condition_is_boolean, condition_is_signal}
+
+number : SigId → ℕ
+number c = c.0
+
+-- what comes earlier is another condition
+never_earlier : (kernel : Kernel) (c d : ℕ) → c ≡ d → IsEarlier kernel c d → ⊥
+never_earlier kernel c d same is = by is.before where
+  layers : is.layer ≡ is.later_layer
+  layers = one_layer kernel d is.layer is.later_layer (subst (λ n. HasLayer kernel n is.layer) same is.has) is.later_has
+
+  by : (is.layer < is.later_layer) ⊎ ((is.layer ≡ is.later_layer) × (c < d)) → ⊥
+  by (inl less) = omega (arith, less, layers)
+  by (inr (e, less)) = omega (arith, less, same)
+
+-- the conditions are no more than the booleans, and so no more than the unknowns
+pub few_conditions : (kernel : Kernel) (nodes : List Node) (clocks : ClocksView) → AreClocks kernel nodes clocks
+    → (unknowns : ℕ) → IsUnknownCount kernel unknowns → length clocks.conditions ≤ unknowns
+unfolding number
+few_conditions kernel nodes clocks are unknowns (least, is, sum) =
+    let fewer : length own ≤ length booleans = length-le_from_is_member nat_eq_equiv own booleans (IsDistinct-from_apart eqb own apart) among in
+    omega (arith, fewer, length-filter (is_boolean kernel) range, map_length number clocks.conditions, sum)
+  where
+    range : List ℕ
+    range = range_with_len 0 (length kernel.signals)
+
+    own : List ℕ
+    own = map number clocks.conditions
+
+    booleans : List ℕ
+    booleans = filter (is_boolean kernel) range
+
+    at : (i : ℕ) → i < length own → slice_get clocks.conditions i ≡ Some (get_or clocks.conditions i (signal_id 0))
+    at i lt = get_at clocks.conditions i (signal_id 0) (omega (arith, lt, map_length number clocks.conditions))
+
+    own_at : (i d : ℕ) → i < length own → get_or own i d ≡ number (get_or clocks.conditions i (signal_id 0))
+    own_at i d lt = get_or-map number clocks.conditions i (signal_id 0) d (omega (arith, lt, map_length number clocks.conditions))
+
+    apart : (i j d : ℕ) → i < j → j < length own → eqb (get_or own i d) (get_or own j d) ≡ false
+    apart i j d less lt = apart-eqb (get_or own i d) (get_or own j d) (λ same.
+        never_earlier kernel _ _ (sym (own_at i d (omega (arith, less, lt))) ∙ same ∙ own_at j d lt)
+        (are.conditions.order i j _ _ less (at i (omega (arith, less, lt))) (at j lt)))
+
+    among : (q : ℕ) → list_any (eqb q) own ≡ true → list_any (eqb q) booleans ≡ true
+    among q there =
+        let (x, in_own, same) = any_is (eqb q) own there in
+        let (c, in_conditions, e) = of_map number clocks.conditions x in_own in
+        let is_x : is_condition kernel x ≡ true = subst (λ n. is_condition kernel n ≡ true) (sym e) ((are.conditions.all c).0 in_conditions) in
+        is_any (eqb q) booleans x (in_filter (is_boolean kernel) range x (in_range (length kernel.signals) x (condition_is_signal kernel x is_x)) (condition_is_boolean kernel x is_x)) same
+
+-- what a store without nodes holds behind the clocks
+pub spends : {T : Type 0} (kernel : Kernel) (old new : StoreView) (result : Result T ClockAnswer) → old.nodes ≡ [] → old.made_for ≡ NODES → Keeps old new
+    → KeepsToShare kernel old new result → Spends kernel new
+spends kernel old new result empty made kept share = record {
+  made_for = kept.made_for ∙ made;
+  share = λ u counted. let none : length old.nodes ≡ 0 = ap length empty in omega (arith, none, (share u counted).added);
+}
+
+-- the clocks find no room only for a kernel that is not within the bound
+pub no_room : (kernel : Kernel) (old new : StoreView) (answer : ClockAnswer) → old.nodes ≡ [] → old.made_for ≡ NODES → Keeps old new
+    → ((unknowns : ℕ) → IsUnknownCount kernel unknowns → HasNoRoom old new (share_of kernel unknowns) answer) → HasNoRoomFor kernel answer
+no_room kernel old new Dead empty made kept room = tt
+no_room kernel old new (MissingRoot x y) empty made kept room = tt
+no_room kernel old new (Unsolved x) empty made kept room = tt
+no_room kernel old new (Pinned b) empty made kept room = tt
+no_room kernel old new OutOfMemory empty made kept room = tt
+no_room kernel old new (Budget n) empty made kept room = λ meets.
+    let (full, less) = room meets.unknowns meets.counted in
+    let none : length old.nodes ≡ 0 = ap length empty in
+    let fits = meets.fits in
+    let is : n ≡ NODES = sym full.0 ∙ kept.made_for ∙ made in
+    omega (arith, less, none, fits, is)
+
+-- and so do the operations
+pub no_room_for_operations : (kernel : Kernel) (old new : StoreView) (clocks : ClocksView) (n room : ℕ) → AreClocks kernel old.nodes clocks → Spends kernel old → Keeps old new
+    → ((unknowns : ℕ) → length clocks.conditions ≤ unknowns → room ≤ share_of kernel unknowns)
+    → (answer : PlanAnswer) → answer ≡ NoNodes n → IsRefusedFor old new room answer → IsBeyondBound kernel
+no_room_for_operations kernel old new clocks n room are spent kept small answer named refused = λ meets.
+    let (full, less) = subst (IsRefusedFor old new room) named refused in
+    let held = spent.share meets.unknowns meets.counted in
+    let needed = small meets.unknowns (few_conditions kernel old.nodes clocks are meets.unknowns meets.counted) in
+    let fits = meets.fits in
+    let is : n ≡ NODES = sym full.0 ∙ kept.made_for ∙ spent.made_for in
+    omega (arith, less, held, needed, fits, is)

@@ -1,0 +1,6 @@
+use Rattle.std.proofs.Common.{◌≡◌, map, take}
+use Rattle.sig_back.specs.Faults.{name_at}
+use Rattle.sig_back.proofs.telling.fault.Given as goal
+
+abbrev pub invariant-loop-x : goal.invariant-loop-x
+invariant-loop-x l = l.names.items ≡ map (name_at l.kernel) (take l.x-index l.signals)

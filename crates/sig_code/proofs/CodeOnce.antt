@@ -1,0 +1,145 @@
+-- The text of a kernel's code is one.
+use Rattle.std.proofs.Common.{◌≡◌, ◌<◌, ◌+◌, ◌++◌, ℕ, List, [], ◌∷◌, length, get_or, refl, sym, ap, ◌∙◌, subst, arith}
+use Rattle.std.specs.Prelude.{zero, suc, Option, None, Some, All, true, codes, slice_get}
+use Rattle.std.specs.Fmt.{decimal}
+use Rattle.std.specs.List.{enumerate_from, flat_map}
+use Rattle.sig_base.specs.declared.ids.SigId.{SigId}
+use Rattle.sig_clock.specs.ClockFunctions.{IsClockFunction}
+use Rattle.sig_clock.specs.Clocks.{guard_of}
+use Rattle.sig_clock.specs.Conditions.{signal_id}
+use Rattle.sig_code.specs.Texts.{act_text, actor_text, code_text_of, op_text, step_text, what_text}
+use Rattle.sig_dd.specs.declared.node.Node.{Node}
+use Rattle.sig_kernel.specs.declared.kernel.Kernel.{Kernel}
+use Rattle.sig_plan.specs.Acceptance.{HasOperations}
+use Rattle.sig_plan.specs.Codes.{CodeView, Instruction, instructions_of}
+use Rattle.sig_plan.specs.Operations.{Operation, operations_in, presence_in}
+use Rattle.sig_plan.specs.Order.{IsCompiledOrder, Precedes}
+use Rattle.sig_plan.specs.Parts.{AreParts, PartsView}
+use Rattle.sig_plan.specs.Plans.{IsAccepted, PlanView, numbers_of}
+use Rattle.sig_plan.specs.declared.code.Step.{Step}
+use Rattle.sig_plan.specs.declared.code.StepKind.{StepKind}
+use Rattle.sig_plan.specs.declared.code.StepKind.TheVariants.{Do, Send, Receive, Report, Collect, Commit}
+use Rattle.sig_plan.specs.declared.op.Op.{Op}
+use Rattle.sig_plan.proofs.Adding.{guard_is}
+use Rattle.sig_clock.proofs.Lists.{get_at, get_within}
+use Rattle.sig_plan.proofs.Orders.{same_order}
+use Rattle.sig_code.specs.Texts.{IsCodeText}
+use Rattle.sig_plan.proofs.OperationsOnce.{operations_once}
+use Rattle.sig_plan.proofs.PartsOnce.{WritesWithin, operations_fine, parts_once}
+
+-- ---- the operations of an accepted plan are those of its kernel
+
+pub plan_operations : (plan : PlanView) → IsAccepted plan → HasOperations plan.kernel plan.clocks.conditions (operations_in plan.store.nodes plan.ops)
+plan_operations plan is = record {
+  clocks = is.has_clocks;
+  order = is.clocks.conditions;
+  presence = presence_in plan.store.nodes plan.clocks;
+  functions = λ signal within.
+      let class = get_or plan.clocks.class_of signal 0 in
+      let guard = get_or plan.clocks.guard class (record { number = 0 }) in
+      let has : guard_of plan.clocks signal ≡ Some guard = get_at plan.clocks.guard class (record { number = 0 }) (is.clocks.classes signal within) in
+      subst (IsClockFunction plan.kernel plan.clocks.conditions signal) (guard_is plan.clocks (signal_id signal) guard has plan.store.nodes) (is.clocks.functions signal guard within has);
+  are = is.operations.are;
+}
+
+-- ---- texts of lists
+
+-- two lists whose elements have the same texts, each at its number
+same_texts : {X Y : Type 0} (f : ℕ × X → List ℕ) (g : ℕ × Y → List ℕ) (n : ℕ) (xs : List X) (ys : List Y) → length xs ≡ length ys
+    → ((k : ℕ) (x : X) (y : Y) → slice_get xs k ≡ Some x → slice_get ys k ≡ Some y → f (n + k, x) ≡ g (n + k, y)) → flat_map f (enumerate_from n xs) ≡ flat_map g (enumerate_from n ys)
+same_texts f g n [] [] count each = refl
+same_texts f g n [] (y ∷ ys) count each = absurd (omega (arith, count))
+same_texts f g n (x ∷ xs) [] count each = absurd (omega (arith, count))
+same_texts f g n (x ∷ xs) (y ∷ ys) count each =
+    let here : n + 0 ≡ n = omega arith in
+    let first : f (n, x) ≡ g (n, y) = ap (λ m. f (m, x)) (sym here) ∙ each 0 x y refl refl ∙ ap (λ m. g (m, y)) here in
+    let rest = same_texts f g (n + 1) xs ys (omega (arith, count)) (λ k a b at_a at_b.
+    let next : n + 1 + k ≡ n + suc k = omega arith in
+    ap (λ m. f (m, a)) next ∙ each (suc k) a b at_a at_b ∙ ap (λ m. g (m, b)) (sym next)) in
+    λ j. first j ++ rest j
+
+-- what an operation is shown as
+text_in : Kernel → Option Operation → List ℕ
+text_in kernel None = []
+text_in kernel (Some p) = act_text kernel p.kind p.writes
+
+op_text_is : (kernel : Kernel) (nodes : List Node) (ops : List Op) (i : ℕ) → op_text kernel (slice_get ops i) ≡ text_in kernel (slice_get (operations_in nodes ops) i)
+unfolding text_in
+op_text_is kernel nodes [] i = refl
+op_text_is kernel nodes (op ∷ ops) zero = refl
+op_text_is kernel nodes (op ∷ ops) (suc i) = op_text_is kernel nodes ops i
+
+module _ (kernel : Kernel) (nodes others : List Node) (ops other_ops : List Op) (same : operations_in nodes ops ≡ operations_in others other_ops) where
+  same_what : (kind : StepKind) → what_text kernel ops kind ≡ what_text kernel other_ops kind
+  same_what (Do op) = op_text_is kernel nodes ops op.0 ∙ ap (λ (os : List Operation). text_in kernel (slice_get os op.0)) same ∙ sym (op_text_is kernel others other_ops op.0)
+  same_what (Send link) = refl
+  same_what (Receive link) = refl
+  same_what (Report link) = refl
+  same_what (Collect link) = refl
+  same_what Commit = refl
+
+  same_step : (index : ℕ) (a b : Step) → a.kind ≡ b.kind → a.pos ≡ b.pos → step_text kernel ops (index, a) ≡ step_text kernel other_ops (index, b)
+  same_step index a b kind position =
+      let what : what_text kernel ops a.kind ≡ what_text kernel other_ops b.kind = ap (what_text kernel ops) kind ∙ same_what b.kind in
+      λ j. decimal index ++ (codes " " ++ (decimal (position j) ++ (codes " " ++ (what j ++ codes "\n"))))
+
+  -- two codes of the same instructions have one text
+  same_actor : (actor : ℕ) (instructions : List Instruction) (a b : CodeView)
+      → length a.steps ≡ length instructions → length b.steps ≡ length instructions
+      → ((k : ℕ) (instruction : Instruction) (step : Step) → slice_get instructions k ≡ Some instruction → slice_get a.steps k ≡ Some step → (step.kind ≡ instruction.kind) × (step.pos ≡ instruction.position))
+      → ((k : ℕ) (instruction : Instruction) (step : Step) → slice_get instructions k ≡ Some instruction → slice_get b.steps k ≡ Some step → (step.kind ≡ instruction.kind) × (step.pos ≡ instruction.position))
+      → actor_text kernel ops (actor, a) ≡ actor_text kernel other_ops (actor, b)
+  same_actor actor instructions a b count_a count_b of_a of_b =
+      let lines = same_texts (step_text kernel ops) (step_text kernel other_ops) 0 a.steps b.steps (count_a ∙ sym count_b) (λ k step other at_a at_b.
+      let within : k < length instructions = omega (arith, get_within a.steps k step at_a, count_a) in
+      let is = get_at instructions k (record { kind = step.kind; position = 0; guard = λ proposal. true }) within in
+      let one = of_a k _ step is at_a in
+      let two = of_b k _ other is at_b in
+      same_step (0 + k) step other (one.0 ∙ sym two.0) (one.1 ∙ sym two.1)) in
+      λ j. codes "actor " ++ (decimal actor ++ (codes "\n" ++ lines j))
+
+-- ---- the text of the code
+
+module _ (a b : PlanView) (one : IsAccepted a) (other : IsAccepted b) (kernels : a.kernel ≡ b.kernel) where
+  same_plan : (conditions : List SigId) (operations : List Operation) (order : List ℕ) (parts : PartsView) → a.clocks.conditions ≡ conditions → operations_in a.store.nodes a.ops ≡ operations
+      → IsCompiledOrder conditions operations order → AreParts a.kernel conditions operations parts
+      → (numbers_of a.order ≡ order) × (one.parts.clusters ≡ parts.clusters) × (one.parts.links ≡ parts.links)
+  same_plan conditions operations order parts cs os ordered split =
+      let own_order : IsCompiledOrder conditions operations (numbers_of a.order) = subst (λ c. IsCompiledOrder c operations (numbers_of a.order)) cs (subst (λ (o : List Operation). IsCompiledOrder a.clocks.conditions o (numbers_of a.order)) os one.order) in
+      let own_parts : AreParts a.kernel conditions operations one.parts = subst (λ c. AreParts a.kernel c operations one.parts) cs (subst (λ (o : List Operation). AreParts a.kernel a.clocks.conditions o one.parts) os one.split) in
+      let fine = subst (λ (o : List Operation). All (WritesWithin (length a.kernel.signals)) o) (sym one.operations.are ∙ os) (operations_fine a.kernel (presence_in a.store.nodes a.clocks) one.valid) in
+      let same_parts = parts_once a.kernel conditions operations fine one.parts parts own_parts split in
+      (same_order (Precedes conditions operations) (length operations) (numbers_of a.order) order own_order ordered, same_parts.0, same_parts.1)
+
+  pub code_once : code_text_of a ≡ code_text_of b
+  code_once = same_texts (actor_text a.kernel a.ops) (actor_text b.kernel b.ops) 0 a.codes b.codes actors each where
+    has : HasOperations a.kernel b.clocks.conditions (operations_in b.store.nodes b.ops)
+    has = subst (λ (k : Kernel). HasOperations k b.clocks.conditions (operations_in b.store.nodes b.ops)) (sym kernels) (plan_operations b other)
+
+    made : (a.clocks.conditions ≡ b.clocks.conditions) × (operations_in a.store.nodes a.ops ≡ operations_in b.store.nodes b.ops)
+    made = operations_once a.kernel one.valid a.clocks.conditions b.clocks.conditions (operations_in a.store.nodes a.ops) (operations_in b.store.nodes b.ops) (plan_operations a one) has
+
+    split : AreParts a.kernel b.clocks.conditions (operations_in b.store.nodes b.ops) other.parts
+    split = subst (λ (k : Kernel). AreParts k b.clocks.conditions (operations_in b.store.nodes b.ops) other.parts) (sym kernels) other.split
+
+    same : (numbers_of a.order ≡ numbers_of b.order) × (one.parts.clusters ≡ other.parts.clusters) × (one.parts.links ≡ other.parts.links)
+    same = same_plan b.clocks.conditions (operations_in b.store.nodes b.ops) (numbers_of b.order) other.parts made.0 made.1 other.order split
+
+    actors : length a.codes ≡ length b.codes
+    actors = one.codes.actors ∙ ap (λ m. m + 1) same.1 ∙ sym other.codes.actors
+
+    instructions : (actor : ℕ) → instructions_of (operations_in a.store.nodes a.ops) (numbers_of a.order) one.parts actor ≡ instructions_of (operations_in b.store.nodes b.ops) (numbers_of b.order) other.parts actor
+    instructions actor = λ j. instructions_of (made.1 j) (same.0 j) (record { clusters = same.1 j; links = same.2 j; imports = one.parts.imports }) actor
+
+    each : (k : ℕ) (x y : CodeView) → slice_get a.codes k ≡ Some x → slice_get b.codes k ≡ Some y → actor_text a.kernel a.ops (0 + k, x) ≡ actor_text b.kernel b.ops (0 + k, y)
+    each k x y at_x at_y =
+        let code = one.codes.each k x at_x in
+        let code' = subst (λ (is : List Instruction). length y.steps ≡ length is) (sym (instructions k)) (other.codes.each k y at_y).count in
+        same_actor a.kernel a.store.nodes b.store.nodes a.ops b.ops made.1 (0 + k) (instructions_of (operations_in a.store.nodes a.ops) (numbers_of a.order) one.parts k) x y
+        code.count code'
+        (λ i instruction step is at_step. let does = code.steps i instruction step is at_step in (does.kind, does.position))
+        (λ i instruction step is at_step. let does = (other.codes.each k y at_y).steps i instruction step (subst (λ (xs : List Instruction). slice_get xs i ≡ Some instruction) (instructions k) is) at_step in (does.kind, does.position))
+        ∙ ap (λ (kernel : Kernel). actor_text kernel b.ops (0 + k, y)) kernels
+
+pub code_text_once : (kernel : Kernel) (a b : List ℕ) → IsCodeText kernel a → IsCodeText kernel b → a ≡ b
+code_text_once kernel a b one other = one.says ∙ code_once one.plan other.plan one.accepted other.accepted (one.of ∙ sym other.of) ∙ sym other.says

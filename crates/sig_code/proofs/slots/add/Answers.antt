@@ -1,0 +1,16 @@
+use Rattle.std.proofs.Common.{[], ◌∷◌, refl, subst, sym}
+use Rattle.sig_code.specs.Coding.{Adds, AreHeld}
+use Rattle.sig_code.specs.Turns.{doing}
+use Rattle.sig_code.proofs.Going.{adds_step}
+use Rattle.sig_plan.specs.Codes.{CodeView}
+use Rattle.sig_code.proofs.slots.add.Goals as goal
+
+pub returns : goal.returns
+returns c =
+    let nodes = c.args.store.now.nodes in
+    let at = c.args.at in
+    let old : CodeView = record { steps = c.code.inside.steps.items; slots = c.code.inside.slots.items } in
+    let new : CodeView = record { steps = c.push.new.self.items; slots = c.slot_of.new.slots.items } in
+    subst (λ (was : CodeView). Adds nodes (doing nodes at.guard at.pos c.args.kind ∷ []) was new) c.code.view_is
+    (adds_step nodes at.guard at.pos c.args.kind c.in_ok-slot.slot old c.slot_of.new.slots.items new c.requires.guard
+    (subst (λ (was : CodeView). AreHeld nodes was.slots) (sym c.code.view_is) c.requires.slots) c.in_ok-slot.ensures refl c.in_ok-push.ensures.items)

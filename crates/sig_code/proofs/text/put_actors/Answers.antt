@@ -1,0 +1,11 @@
+use Rattle.std.proofs.Common.{ℕ, List, ◌++◌, ◌∙◌, ap}
+use Rattle.sig_plan.specs.Codes.{CodeView}
+use Rattle.sig_code.specs.Texts.{actor_text}
+use Rattle.sig_code.proofs.Numbered.{lines_more}
+use Rattle.sig_code.proofs.text.put_actors.Goals as goal
+
+pub loop-actor-preserved : goal.loop-actor-preserved
+loop-actor-preserved c =
+    let lines : ℕ × CodeView → List ℕ = actor_text c.args.kernel.now c.args.ops.now in
+    lines_more lines c.args.text.now.items c.loop-actor.text.items c.put_actor.new.text.items c.args.codes.now c.loop-actor.actor c.index-codes-actor.result c.loop-actor-test.true c.loop-actor.invariant
+    (c.in_ok-put_actor.ensures ∙ ap (λ (code : CodeView). c.loop-actor.text.items ++ lines (c.loop-actor.actor, code)) c.index-codes-actor.is)

@@ -1,0 +1,6 @@
+use Rattle.std.proofs.Common.{take}
+use Rattle.sig_part.specs.Closing.{Visits, is_elsewhere}
+use Rattle.sig_part.proofs.closing.visit.Given as goal
+
+abbrev pub invariant-loop-x : goal.invariant-loop-x
+invariant-loop-x l = Visits (is_elsewhere l.signals l.actor) (take l.x-index l.list) l.initial.marks l.marks l.initial.waiting.items l.waiting.items

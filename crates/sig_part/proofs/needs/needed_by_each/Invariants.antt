@@ -1,0 +1,14 @@
+use Rattle.std.proofs.Common.{◌≡◌, ◌<◌, ◌↔◌, ℕ, []}
+use Rattle.std.specs.Prelude.{length, slice_get, slice_index_or, Some, Contains}
+use Rattle.sig_base.specs.declared.ids.SigId.{SigId}
+use Rattle.sig_plan.specs.Operations.{operation_in}
+use Rattle.sig_plan.specs.Order.{Needs}
+use Rattle.sig_plan.specs.declared.op.Op.{Op}
+use Rattle.sig_part.proofs.needs.needed_by_each.Given as goal
+
+abbrev pub invariant-loop-op : goal.invariant-loop-op
+invariant-loop-op l = record {
+  count : length l.needs.items ≡ l.op-index;
+  each : (number : ℕ) → number < l.op-index → (op : Op) → slice_get l.ops number ≡ Some op
+      → (x : SigId) → Contains (slice_index_or l.needs.items number []) x ↔ Needs l.clocks.conditions (operation_in l.store.nodes op) x;
+}

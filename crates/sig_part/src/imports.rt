@@ -1,0 +1,65 @@
+//! What each actor imports.
+
+ghost use Rattle.std.specs.Prelude.{◌≡◌, ◌+◌, ◌<◌, ◌^◌, ◌↔◌, IfOk, All, Contains, length};
+ghost use Rattle.sig_base.specs.declared.ids.SigId.{SigId};
+ghost use Rattle.sig_dd.specs.Nodes.{Holds};
+ghost use Rattle.sig_part.specs.Imported.{AreImportedBy};
+ghost use Rattle.sig_plan.specs.Operations.{operations_in};
+ghost use Rattle.sig_plan.specs.Parts.{IsOutput, cluster_count};
+
+use crate::closing::closed;
+use crate::marks::Marks;
+use crate::needs::needed_by_each;
+use crate::uses::{needed_for_each, used_by};
+use sig_base::SigId;
+use sig_clock::Clocks;
+use sig_dd::{DdAnswer, Store};
+use sig_kernel::Kernel;
+use sig_plan::Op;
+use std::alloc::{AllocError, Global};
+
+/// Marks what each actor imports: the clusters, of which there are so many, and then the collector.
+pub(crate) fn imported(
+    alloc: Global,
+    kernel: &Kernel,
+    ops: &[Op],
+    clusters: u32,
+    clocks: &Clocks,
+    store: &Store,
+) -> Result<Vec<Marks>, DdAnswer>
+    requires signals { length kernel.now.signals < 2 ^ 32 }
+    requires outputs { kernel.now.inputs + kernel.now.outputs < 2 ^ 32 }
+    requires clusters { clusters ≡ cluster_count kernel.now.signals }
+    requires ops { All (λ op. Holds store.now.nodes op.guard) ops.now }
+    ensures { IfOk result (λ marks. AreImportedBy kernel.now clocks.now.conditions (operations_in store.now.nodes ops.now) (clusters + 1) marks.items) }
+{
+    let signals = kernel.signals.as_slice();
+    let needs = needed_by_each(alloc, ops, clocks, store)?;
+    let needed = needed_for_each(alloc, signals.len() as u32, ops, needs.as_slice())?;
+    let mut marks = Vec::new(alloc);
+    for cluster in 0..clusters {
+        let used = used_by(alloc, ops, needs.as_slice(), cluster)?;
+        marks.push(closed(alloc, signals, needed.as_slice(), cluster, used.as_slice())?)?;
+    }
+    let outputs = outputs_of(alloc, kernel)?;
+    marks.push(closed(
+        alloc,
+        signals,
+        needed.as_slice(),
+        clusters,
+        outputs.as_slice(),
+    )?)?;
+    Ok(marks)
+}
+
+/// The outputs of a kernel.
+fn outputs_of(alloc: Global, kernel: &Kernel) -> Result<Vec<SigId>, AllocError>
+    requires { kernel.now.inputs + kernel.now.outputs < 2 ^ 32 }
+    ensures { IfOk result (λ outputs. (x : SigId) → Contains outputs.items x ↔ IsOutput kernel.now x) }
+{
+    let mut outputs = Vec::new(alloc);
+    for number in kernel.inputs..kernel.inputs + kernel.outputs {
+        outputs.push(SigId(number))?;
+    }
+    Ok(outputs)
+}
