@@ -5,4 +5,4 @@ pub mod Parents
 pub mod Planning
 pub mod Pushing
 pub mod Turning
-mod CodeOnce
+pub mod CodeOnce

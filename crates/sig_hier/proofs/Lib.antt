@@ -3,4 +3,4 @@ pub mod Once
 pub mod PreorderLemmas
 pub mod TextLemmas
 pub mod TreeLemmas
-mod TreeOnce
+pub mod TreeOnce

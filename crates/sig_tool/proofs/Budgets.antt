@@ -3,7 +3,7 @@ use Rattle.std.proofs.Common.{◌≡◌, ◌⊎◌, ℕ, Bool, List, Option, Non
 use Rattle.sig_text.specs.Files.{Contents}
 use Rattle.sig_words.specs.declared.command.Command.TheVariants.{Judge, Print, Run}
 use Rattle.sig_words.specs.declared.command.Settings.{Settings}
-use Rattle.sig_tool.specs.TopCall.{IsBeyondBound, IsStatusOf}
+use Rattle.sig_tool.specs.TopCall.{CompilesBeyondBound, IsStatusOf}
 
 run_never : (program flows : List ℕ) (settings : Settings) (status : ℕ) → IsStatusOf (Run program flows settings) status → status ≡ 8 → ⊥
 run_never program flows settings status (inl (inl is)) eight = omega (arith, is, eight)
@@ -34,11 +34,11 @@ told_none : (contents : Option Contents) (Fact : Contents → Type 0) → ⊥ �
 told_none None Fact no = tt
 told_none (Some held) Fact no = absurd no
 
-pub run_budget : (contents : Option Contents) (program flows : List ℕ) (settings : Settings) (status : ℕ) → IsStatusOf (Run program flows settings) status → status ≡ 8 → IfSome contents (λ held. IsBeyondBound held (Run program flows settings))
+pub run_budget : (contents : Option Contents) (program flows : List ℕ) (settings : Settings) (status : ℕ) → IsStatusOf (Run program flows settings) status → status ≡ 8 → IfSome contents (λ held. CompilesBeyondBound held (Run program flows settings))
 run_budget contents program flows settings status numbers eight = told_none contents _ (run_never program flows settings status numbers eight)
 
-pub print_budget : (contents : Option Contents) (program : List ℕ) (status : ℕ) → IsStatusOf (Print program) status → status ≡ 8 → IfSome contents (λ held. IsBeyondBound held (Print program))
+pub print_budget : (contents : Option Contents) (program : List ℕ) (status : ℕ) → IsStatusOf (Print program) status → status ≡ 8 → IfSome contents (λ held. CompilesBeyondBound held (Print program))
 print_budget contents program status numbers eight = told_none contents _ (print_never program status numbers eight)
 
-pub judge_budget : (contents : Option Contents) (program traces : List ℕ) (status : ℕ) → IsStatusOf (Judge program traces) status → status ≡ 8 → IfSome contents (λ held. IsBeyondBound held (Judge program traces))
+pub judge_budget : (contents : Option Contents) (program traces : List ℕ) (status : ℕ) → IsStatusOf (Judge program traces) status → status ≡ 8 → IfSome contents (λ held. CompilesBeyondBound held (Judge program traces))
 judge_budget contents program traces status numbers eight = told_none contents _ (judge_never program traces status numbers eight)

@@ -16,5 +16,6 @@ mod TextFile
 mod TextClauses
 mod PlanFile
 mod JudgeFiles
+mod Statuses
 mod Budgets
 mod CommandWords

@@ -28,9 +28,10 @@ use Rattle.sig_tool.specs.FlowFile.{IsFlowFile, flow_in}
 use Rattle.sig_tool.specs.Outcomes.{AtFile, AtFlat, AtFlows, AtProgram, AtText, AtTrace, ComesTo, FindsFlat, FindsFlows, FindsProgram, FindsText, FindsTrace, JudgeComesTo, JudgesTo, RefusesFlat, RefusesTrace, bad_trace, judged, PrintComesTo, RefusesText, done, Found, Good, Outcome, RefusesFlows, RefusesProgram, RunComesTo, RunsTo, ended, long_file, Absent, Long, Bad, CompileComesTo, FindsAccepted, AtPlan, IsVerdictText, WritesDue}
 use Rattle.sig_tool.specs.Acceptance.{AreRefused, HasKernel, IsAcceptedAs, IsAcceptedProgram, IsRefusedKernel, IsRefusedProgram, IsRefusedText, long_program}
 use Rattle.sig_tool.proofs.Verdicts.{accepted_once, accepted_or_refused, refused_once}
-use Rattle.sig_once.specs.Texts.{IsCodeText, IsTreeText}
-use Rattle.sig_once.proofs.Coding.{code_text_once}
-use Rattle.sig_once.proofs.Trees.{tree_text_once}
+use Rattle.sig_code.specs.Texts.{IsCodeText}
+use Rattle.sig_hier.specs.Texts.{IsTreeText}
+use Rattle.sig_code.proofs.CodeOnce.{code_text_once}
+use Rattle.sig_hier.proofs.TreeOnce.{tree_text_once}
 use Rattle.sig_kernel.specs.declared.kernel.Kernel.{Kernel}
 use Rattle.sig_clock.specs.ClockRefusals.{HasClocks}
 use Rattle.sig_tool.proofs.RunCauses.{one_end}

@@ -15,7 +15,7 @@ use Rattle.sig_tool.specs.Acceptance.{HasKernel, IsAcceptedAs}
 use Rattle.sig_tool.specs.Compiling.{HasNoRoom, IsDueOf, IsRefusalOf, command_of}
 use Rattle.sig_tool.specs.Outcomes.{AtPlan, Bad, ComesTo, FindsAccepted, Good, done}
 use Rattle.sig_tool.specs.Refusals.{HasCount, IsAbout, IsAboutPlan, IsOwn, Owes, back_refusal, front_refusal, outcome_of, status_of}
-use Rattle.sig_tool.specs.TopCall.{HasLargeKernel}
+use Rattle.sig_tool.specs.TopCall.{HoldsBeyondBound}
 use Rattle.sig_tool.specs.declared.product.Product.{Product}
 use Rattle.sig_tool.specs.declared.product.Product.TheVariants as product
 use Rattle.sig_tool.specs.declared.refusal.Refusal.{Refusal}
@@ -137,7 +137,7 @@ about_product product.Verdict program pace r about = about
 about_product product.Tree program pace r about = about
 about_product product.Code program pace r about = about
 
-large_of : (held : Option (List ℕ)) (r : Refusal) → HasNoRoom held r → status_of r ≡ 8 → HasLargeKernel held
+large_of : (held : Option (List ℕ)) (r : Refusal) → HasNoRoom held r → status_of r ≡ 8 → HoldsBeyondBound held
 large_of held (Missing n) room is = absurd (omega (arith, is))
 large_of held (ReadFault n) room is = absurd (omega (arith, is))
 large_of held LongProgram room is = absurd (omega (arith, is))
@@ -150,7 +150,7 @@ large_of held (NoFlows n) room is = absurd (omega (arith, is))
 large_of held (Trace n answer) room is = absurd (omega (arith, is))
 large_of held OutOfMemory room is = absurd (omega (arith, is))
 
-pub budget_of_refusal : (contents : Option Contents) (program : List ℕ) (r said : Refusal) (status : ℕ) → status ≡ status_of said → (said ≡ r) ⊎ (said ≡ OutOfMemory) → IfSome contents (λ held. HasNoRoom (held program) r) → status ≡ 8 → IfSome contents (λ held. HasLargeKernel (held program))
+pub budget_of_refusal : (contents : Option Contents) (program : List ℕ) (r said : Refusal) (status : ℕ) → status ≡ status_of said → (said ≡ r) ⊎ (said ≡ OutOfMemory) → IfSome contents (λ held. HasNoRoom (held program) r) → status ≡ 8 → IfSome contents (λ held. HoldsBeyondBound (held program))
 budget_of_refusal None program r said status is same room eight = tt
 budget_of_refusal (Some held) program r said status is same room eight =
     ⊎_elim (λ it. large_of (held program) r room (sym (ap status_of it) ∙ sym is ∙ eight)) (λ none. absurd (omega (arith, is, ap status_of none, eight))) same

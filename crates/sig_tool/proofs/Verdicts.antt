@@ -5,7 +5,7 @@ use Rattle.sig_back.specs.Shown.{fault_line}
 use Rattle.sig_front.specs.Shown.{front_line}
 use Rattle.sig_front.proofs.OneKernel.{kernel_once, kernel_or_refusal, no_kernel_once}
 use Rattle.sig_kernel.specs.declared.kernel.Kernel.{Kernel}
-use Rattle.sig_once.proofs.Accepting as accepting
+use Rattle.sig_plan.proofs.FaultOnce as faults
 use Rattle.sig_tool.specs.Acceptance.{AreRefused, HasKernel, IsAcceptedAs, IsAcceptedProgram, IsRefusedKernel, IsRefusedProgram, IsRefusedText, long_program}
 
 pub accepted_once : (bytes : List ℕ) (a b : Kernel) → IsAcceptedAs bytes a → IsAcceptedAs bytes b → a ≡ b
@@ -18,8 +18,8 @@ same_fault : (bytes l m : List ℕ) → IsRefusedKernel bytes l → IsRefusedKer
 same_fault bytes l m one other =
     let same : other.kernel ≡ one.kernel = kernel_once bytes other.kernel one.kernel other.has.text one.has.text in
     let told : IsFaultOf one.kernel other.fault = subst (λ (k : Kernel). IsFaultOf k other.fault) same other.told in
-    let faults = accepting.fault_once one.kernel one.has.valid one.told.0 told.0 one.told.1 told.1 in
-    let views = one.told.2 ∙ ap (told_as one.kernel) faults ∙ sym told.2 in
+    let same_fault = faults.fault_once one.kernel one.has.valid one.told.0 told.0 one.told.1 told.1 in
+    let views = one.told.2 ∙ ap (told_as one.kernel) same_fault ∙ sym told.2 in
     one.says ∙ ap fault_line views ∙ sym other.says
 
 pub refused_once : (bytes l m : List ℕ) → AreRefused bytes l → AreRefused bytes m → l ≡ m
@@ -33,7 +33,7 @@ accepted_or_refused bytes kernel line is (inl text) = kernel_or_refusal bytes ke
 accepted_or_refused bytes kernel line is (inr refused) =
     let same : refused.kernel ≡ kernel = kernel_once bytes refused.kernel kernel refused.has.text is.has.text in
     let told : IsFaultOf kernel refused.fault = subst (λ (k : Kernel). IsFaultOf k refused.fault) same refused.told in
-    accepting.accepted_or_refused kernel is.has.valid told.0 is.accepted told.1
+    faults.accepted_or_refused kernel is.has.valid told.0 is.accepted told.1
 
 pub program_apart : (bytes line : List ℕ) → IsAcceptedProgram bytes → IsRefusedProgram bytes line → ⊥
 program_apart bytes line is (inl long) = omega (arith, long.0, is.short)

@@ -5,10 +5,11 @@ use Rattle.sig_back.specs.Faults.{IsFaultOf}
 use Rattle.sig_base.specs.declared.limits.TheConstants.{NODES}
 use Rattle.sig_front.specs.Kernels.{IsNoKernelText}
 use Rattle.sig_kernel.specs.declared.kernel.Kernel.{Kernel}
-use Rattle.sig_once.specs.Texts.{IsCodeText, IsTreeText}
+use Rattle.sig_code.specs.Texts.{IsCodeText}
+use Rattle.sig_hier.specs.Texts.{IsTreeText}
 use Rattle.sig_tool.specs.Acceptance.{HasKernel}
 use Rattle.sig_tool.specs.Outcomes.{IsVerdictText}
-use Rattle.sig_tool.specs.TopCall.{HasLargeKernel}
+use Rattle.sig_tool.specs.TopCall.{HoldsBeyondBound}
 use Rattle.sig_tool.specs.declared.product.Product.{Product}
 use Rattle.sig_tool.specs.declared.product.Product.TheVariants as product
 use Rattle.sig_tool.specs.declared.refusal.Refusal.{Refusal}
@@ -26,7 +27,7 @@ IsRefusalOf bytes _ = ⊥
 
 -- a refusal for the number of nodes comes where the kernel is not within the bound
 abbrev pub HasNoRoom : Option (List ℕ) → Refusal → Type 0
-HasNoRoom held (Budget nodes) = HasLargeKernel held
+HasNoRoom held (Budget nodes) = HoldsBeyondBound held
 HasNoRoom held _ = ⊤
 
 -- the command that asks for a product of a program

@@ -23,7 +23,8 @@ use Rattle.sig_front.specs.Shown.{front_line}
 use Rattle.sig_front.specs.Texts.{IsNoText}
 use Rattle.sig_front.specs.declared.answer.FrontAnswer.{FrontAnswer}
 use Rattle.sig_kernel.specs.declared.kernel.Kernel.{Kernel}
-use Rattle.sig_once.specs.Texts.{IsCodeText, IsTreeText}
+use Rattle.sig_code.specs.Texts.{IsCodeText}
+use Rattle.sig_hier.specs.Texts.{IsTreeText}
 use Rattle.sig_tool.specs.Acceptance.{AreRefused, IsAcceptedAs, long_program}
 use Rattle.sig_tool.specs.FlowFile.{IsFlowFile, IsNoFlowFile}
 use Rattle.sig_tool.specs.SmallRun.{IsLength, IsCause, text_of}

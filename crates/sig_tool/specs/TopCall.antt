@@ -63,7 +63,7 @@ IsStatusOf (Judge program traces) status =
 IsStatusOf _ status = ⊥
 
 -- the status that is answered where another is owed: that one; or 5, where a call of the files failed;
--- or 6, where a write failed of a command that was to be done; or 7; or 8, whose cause is `IsBeyondBound`
+-- or 6, where a write failed of a command that was to be done; or 7; or 8, whose cause is `CompilesBeyondBound`
 abbrev pub MayAnswer : ℕ → ℕ → Type 0 → Type 0 → Type 0
 MayAnswer owed status ReadFailed WriteFailed =
     (status ≡ owed)
@@ -83,15 +83,15 @@ HasBegun held _ before at = ⊥
 
 -- a file holds a program that no pass up to its kernel refuses, and whose kernel is not within the bound for which the
 -- nodes of a store suffice
-abbrev pub HasLargeKernel : Option (List ℕ) → Type 0
-HasLargeKernel held = Holds held 1048576 (λ bytes. (kernel : Kernel) × HasKernel bytes kernel × (MeetsBound kernel → ⊥))
+abbrev pub HoldsBeyondBound : Option (List ℕ) → Type 0
+HoldsBeyondBound held = Holds held 1048576 (λ bytes. (kernel : Kernel) × HasKernel bytes kernel × (MeetsBound kernel → ⊥))
 
 -- that holds of the program which a command compiles
-abbrev pub IsBeyondBound : Contents → Command → Type 0
-IsBeyondBound held (Check program pace) = HasLargeKernel (held program)
-IsBeyondBound held (Tree program pace) = HasLargeKernel (held program)
-IsBeyondBound held (Code program pace) = HasLargeKernel (held program)
-IsBeyondBound held _ = ⊥
+abbrev pub CompilesBeyondBound : Contents → Command → Type 0
+CompilesBeyondBound held (Check program pace) = HoldsBeyondBound (held program)
+CompilesBeyondBound held (Tree program pace) = HoldsBeyondBound (held program)
+CompilesBeyondBound held (Code program pace) = HoldsBeyondBound (held program)
+CompilesBeyondBound held _ = ⊥
 
 -- ---- the line on standard error
 

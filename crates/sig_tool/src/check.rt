@@ -7,7 +7,7 @@ ghost use Rattle.sig_text.specs.Sink.{TookPrefix};
 ghost use Rattle.sig_tool.specs.Compiling.{HasNoRoom, command_of};
 ghost use Rattle.sig_tool.specs.Outcomes.{ComesTo, done};
 ghost use Rattle.sig_tool.specs.Refusals.{HasCount, IsAboutPlan, IsOwn, Owes};
-ghost use Rattle.sig_tool.specs.TopCall.{HasBegun, HasLargeKernel, IsDone, IsDue, IsRefused, IsRefusedBy, IsStatusOf, MayAnswer, OfOutcome, SaysLine, memory_line, write_line};
+ghost use Rattle.sig_tool.specs.TopCall.{HasBegun, HoldsBeyondBound, IsDone, IsDue, IsRefused, IsRefusedBy, IsStatusOf, MayAnswer, OfOutcome, SaysLine, memory_line, write_line};
 
 use crate::compile::load_plan;
 use crate::due::put_due;
@@ -35,7 +35,7 @@ pub fn compile_command<F: Files, S: Sink, E: Sink>(
     ensures flushed { IsDone result → IsTrue (S.clean out.new) }
     ensures status { (pace : Bool) → OfOutcome (F.contents files.old) (command_of product program.now pace) (λ o. MayAnswer o.status result
         (Rose (F.faults files.old) (F.faults files.new)) (Rose (S.faults out.old) (S.faults out.new))) }
-    ensures budget { result ≡ 8 → IfSome (F.contents files.old) (λ held. HasLargeKernel (held program.now)) }
+    ensures budget { result ≡ 8 → IfSome (F.contents files.old) (λ held. HoldsBeyondBound (held program.now)) }
     ensures refused { IsRefused result → (pace : Bool) →
         IsRefusedBy (command_of product program.now pace) (F.contents files.old) (F.at files.old) (F.at files.new)
         (F.misses files.old) (F.misses files.new) (F.faults files.old) (F.faults files.new) result

@@ -7,7 +7,7 @@ ghost use Rattle.sig_text.specs.Counts.{Rose};
 ghost use Rattle.sig_text.specs.Sink.{TookPrefix};
 ghost use Rattle.sig_words.specs.Commands.{files_of};
 ghost use Rattle.sig_tool.specs.Commands.{IsBuilt};
-ghost use Rattle.sig_tool.specs.TopCall.{HasBegun, IsBeyondBound, IsDone, IsDue, IsRefused, IsRefusedBy, IsStatusOf, MayAnswer, OfOutcome, SaysLine, memory_line, write_line};
+ghost use Rattle.sig_tool.specs.TopCall.{HasBegun, CompilesBeyondBound, IsDone, IsDue, IsRefused, IsRefusedBy, IsStatusOf, MayAnswer, OfOutcome, SaysLine, memory_line, write_line};
 
 use crate::check::compile_command;
 use crate::command::run_command;
@@ -39,7 +39,7 @@ pub fn perform<F: Files, S: Sink, E: Sink>(
     ensures flushed { IsDone result → IsTrue (S.clean out.new) }
     ensures status { OfOutcome (F.contents files.old) command.now (λ o. MayAnswer o.status result
         (Rose (F.faults files.old) (F.faults files.new)) (Rose (S.faults out.old) (S.faults out.new))) }
-    ensures budget { result ≡ 8 → IfSome (F.contents files.old) (λ held. IsBeyondBound held command.now) }
+    ensures budget { result ≡ 8 → IfSome (F.contents files.old) (λ held. CompilesBeyondBound held command.now) }
     ensures refused { IsRefused result →
         IsRefusedBy command.now (F.contents files.old) (F.at files.old) (F.at files.new)
         (F.misses files.old) (F.misses files.new) (F.faults files.old) (F.faults files.new) result

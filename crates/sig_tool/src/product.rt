@@ -1,7 +1,8 @@
 //! What is made of the plan of a program, as a text.
 
 ghost use Rattle.std.specs.Prelude.{IfOk};
-ghost use Rattle.sig_once.specs.Texts.{IsCodeText, IsTreeText};
+ghost use Rattle.sig_code.specs.Texts.{IsCodeText};
+ghost use Rattle.sig_hier.specs.Texts.{IsTreeText};
 ghost use Rattle.sig_tool.specs.Compiling.{IsDueOf};
 
 use sig_code::{CodeAnswer, code_text};
@@ -29,7 +30,7 @@ impl Product {
                 Ok(text) => Ok(text),
                 Err(TreeAnswer::OutOfMemory) => Err(AllocError),
             },
-            Product::Code => match code_text(alloc, plan) {
+            Product::Code => match text_of_code(alloc, plan) {
                 Ok(text) => Ok(text),
                 Err(CodeAnswer::OutOfMemory) => Err(AllocError),
             },
@@ -43,4 +44,13 @@ fn text_of_tree(alloc: Global, plan: &Plan) -> Result<Vec<u8>, TreeAnswer>
 {
     let tree = tree(alloc, &plan.clocks, &plan.store)?;
     tree_text(alloc, &plan.kernel, &plan.clocks, &tree)
+}
+
+/// The text of a plan's code.
+fn text_of_code(alloc: Global, plan: &Plan) -> Result<Vec<u8>, CodeAnswer>
+    ensures { IfOk result (λ text. IsCodeText plan.now.kernel text.items) }
+{
+    // What holds of every plan is known where its fields are read.
+    let _inputs = plan.kernel.inputs;
+    code_text(alloc, plan)
 }

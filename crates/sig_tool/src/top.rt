@@ -8,7 +8,7 @@ ghost use Rattle.sig_words.specs.Readings.{texts};
 ghost use Rattle.sig_words.specs.declared.command.Command.{Command};
 ghost use Rattle.sig_tool.specs.Acceptance.{IsAcceptedProgram, IsRefusedProgram};
 ghost use Rattle.sig_tool.specs.Outcomes.{ComesTo, Outcome};
-ghost use Rattle.sig_tool.specs.TopCall.{AreNoCommand, HasBegun, IsBeyondBound, IsDone, IsDue, IsRefused, IsRefusedBy, IsStatus, IsStatusOf, MayAnswer, OfCommand, OfOutcome, SaysLine, memory_line, words_line, write_line};
+ghost use Rattle.sig_tool.specs.TopCall.{AreNoCommand, HasBegun, CompilesBeyondBound, IsDone, IsDue, IsRefused, IsRefusedBy, IsStatus, IsStatusOf, MayAnswer, OfCommand, OfOutcome, SaysLine, memory_line, words_line, write_line};
 
 use crate::perform::perform;
 use crate::report::{say_no_memory, say_words};
@@ -67,7 +67,7 @@ pub fn sig_main<R: Threads + Wait + Sync, F: Files, S: Sink, E: Sink, G: Gate + 
         MayAnswer o.status result (Rose (F.faults files.old) (F.faults files.new))
         (Rose (S.faults out.old) (S.faults out.new)))) }
     ensures budget { result ≡ 8 → OfCommand (texts words.now) (λ c.
-        IfSome (F.contents files.old) (λ held. IsBeyondBound held c)) }
+        IfSome (F.contents files.old) (λ held. CompilesBeyondBound held c)) }
     ensures failed { result ≡ 6 → Rose (S.faults out.old) (S.faults out.new) }
 
     // A refused command says one line, with its cause, and leaves the output as it was.

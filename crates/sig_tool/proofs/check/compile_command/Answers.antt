@@ -4,6 +4,7 @@ use Rattle.sig_tool.specs.Outcomes.{done}
 use Rattle.sig_tool.proofs.PlanFile.{about_product, budget_of_refusal}
 use Rattle.sig_tool.proofs.RunClauses.{prefix_of_none, refused_by, status_of_refusal}
 use Rattle.sig_tool.proofs.TextClauses.{prefix_of_outcome, status_of_outcome}
+use Rattle.sig_tool.proofs.Statuses.{compile_numbers, written_numbers}
 use Rattle.sig_tool.proofs.check.compile_command.Goals as goal
 
 pub returns-in-Ok-clause-prefix : goal.returns-in-Ok-clause-prefix
@@ -34,3 +35,10 @@ returns-in-Err-clause-refused g c = λ refuses pace.
     (g.F.Files.misses c.args.files.now) (g.F.Files.misses c.compiled.new.files) (g.F.Files.faults c.args.files.now) (g.F.Files.faults c.compiled.new.files)
     c.in-Err.refusal c.say_refusal.result c.status.result _ c.status.ensures c.say_refusal.ensures.same c.say_refusal.ensures.said (about_product c.args.product c.args.program.now pace _ tt)
     (about_product c.args.product c.args.program.now pace c.in-Err.refusal c.in-Err.ensures.about) c.in-Err.ensures.counted (c.in-Err.ensures.owed pace)
+
+pub returns-in-Ok-clause-numbers : goal.returns-in-Ok-clause-numbers
+returns-in-Ok-clause-numbers g c = λ pace. written_numbers c.args.product c.args.program.now pace c.put_due.result c.put_due.ensures.numbers
+
+pub returns-in-Err-clause-numbers : goal.returns-in-Err-clause-numbers
+returns-in-Err-clause-numbers g c = λ pace.
+    compile_numbers c.args.product c.args.program.now pace c.in-Err.refusal c.say_refusal.result c.status.result c.status.ensures c.say_refusal.ensures.same c.in-Err.ensures.about

@@ -1,5 +1,0 @@
-use Rattle.sig_once.proofs.Coding.{code_text_once}
-use Rattle.sig_once.proofs.laws.a_kernel_has_one_code_text.Goals as goal
-
-pub returns : goal.returns
-returns c = code_text_once

@@ -1,5 +1,0 @@
-use Rattle.sig_once.proofs.Trees.{tree_text_once}
-use Rattle.sig_once.proofs.laws.a_kernel_has_one_tree_text.Goals as goal
-
-pub returns : goal.returns
-returns c = tree_text_once
