@@ -1,5 +1,5 @@
 -- Commands that compile no program never answer that the nodes do not suffice; and those that do.
-use Rattle.std.proofs.Common.{◌≡◌, ◌⊎◌, ℕ, Bool, List, Option, None, Some, IfSome, inl, inr, arith}
+use Rattle.std.proofs.Common.{◌≡◌, ℕ, List, Option, None, Some, IfSome, inl, inr, arith}
 use Rattle.sig_text.specs.Files.{Contents}
 use Rattle.sig_words.specs.declared.command.Command.TheVariants.{Judge, Print, Run}
 use Rattle.sig_words.specs.declared.command.Settings.{Settings}
@@ -31,8 +31,8 @@ judge_never program traces status (inr (inr (inr (inr (inl is))))) eight = omega
 judge_never program traces status (inr (inr (inr (inr (inr is))))) eight = omega (arith, is, eight)
 
 told_none : (contents : Option Contents) (Fact : Contents → Type 0) → ⊥ → IfSome contents Fact
-told_none None Fact no = tt
-told_none (Some held) Fact no = absurd no
+told_none None Fact nothing = tt
+told_none (Some held) Fact nothing = absurd nothing
 
 pub run_budget : (contents : Option Contents) (program flows : List ℕ) (settings : Settings) (status : ℕ) → IsStatusOf (Run program flows settings) status → status ≡ 8 → IfSome contents (λ held. CompilesBeyondBound held (Run program flows settings))
 run_budget contents program flows settings status numbers eight = told_none contents _ (run_never program flows settings status numbers eight)

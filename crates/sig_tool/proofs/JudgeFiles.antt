@@ -1,5 +1,5 @@
 -- What the files of a program and of a trace give, for the judge.
-use Rattle.std.proofs.Common.{◌≡◌, ◌≤◌, ◌∙◌, ◌⊎◌, ◌↔◌, ℕ, List, length, Option, None, Some, IfSome, ⊎_elim, inl, inr, refl, sym, ap, subst}
+use Rattle.std.proofs.Common.{◌≡◌, ◌≤◌, ◌∙◌, ◌⊎◌, ◌↔◌, ℕ, List, length, Option, None, Some, IfSome, ⊎_elim, inl, inr, refl, ap, subst}
 use Rattle.sig_base.specs.Traces.{Trace as TraceSeen}
 use Rattle.sig_base.specs.declared.signal.Signal.{Signal}
 use Rattle.sig_text.specs.Files.{Contents, name_where_there}

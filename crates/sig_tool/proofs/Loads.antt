@@ -1,5 +1,5 @@
 -- The refusal that a flow file calls for, behind a program that is good.
-use Rattle.std.proofs.Common.{◌≡◌, ◌≤◌, ℕ, List, Option, Some, None, IfSome, sym, subst, arith}
+use Rattle.std.proofs.Common.{◌≡◌, ◌≤◌, ℕ, List, Option, Some, None, IfSome, subst, arith}
 use Rattle.sig_parse.specs.Small.{Small}
 use Rattle.sig_text.specs.Files.{Contents, name_where_there}
 use Rattle.sig_words.specs.declared.command.Command.TheVariants.{Run}

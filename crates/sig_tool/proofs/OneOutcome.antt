@@ -1,6 +1,5 @@
 -- A command over told contents comes to one outcome at most.
-use Rattle.std.proofs.Common.{◌≡◌, ◌∙◌, ℕ, ℤ, List, Option, Some, None, map, sym, refl, ap, subst}
-use Rattle.std.specs.Str.Lines.{lines}
+use Rattle.std.proofs.Common.{◌≡◌, ◌∙◌, ℕ, ℤ, List, Option, Some, None, sym, refl, ap, subst}
 use Rattle.sig_parse.specs.Small.{Small, IsSmallProgram}
 use Rattle.sig_parse.specs.Words.{signs}
 use Rattle.sig_parse.specs.Reading.{small_at}
@@ -24,9 +23,9 @@ use Rattle.sig_front.specs.Flats.{IsFlatText}
 use Rattle.sig_front.specs.Shown.{front_line}
 use Rattle.sig_front.proofs.OneFlat.{flat_once, no_flat_once, flat_or_refusal}
 use Rattle.sig_front.proofs.OneText.{tree_once, refusal_once, tree_or_refusal}
-use Rattle.sig_tool.specs.FlowFile.{IsFlowFile, flow_in}
+use Rattle.sig_tool.specs.FlowFile.{IsFlowFile}
 use Rattle.sig_tool.specs.Outcomes.{AtFile, AtFlat, AtFlows, AtProgram, AtText, AtTrace, ComesTo, FindsFlat, FindsFlows, FindsProgram, FindsText, FindsTrace, JudgeComesTo, JudgesTo, RefusesFlat, RefusesTrace, bad_trace, judged, PrintComesTo, RefusesText, done, Found, Good, Outcome, RefusesFlows, RefusesProgram, RunComesTo, RunsTo, ended, long_file, Absent, Long, Bad, CompileComesTo, FindsAccepted, AtPlan, IsVerdictText, WritesDue}
-use Rattle.sig_tool.specs.Acceptance.{AreRefused, HasKernel, IsAcceptedAs, IsAcceptedProgram, IsRefusedKernel, IsRefusedProgram, IsRefusedText, long_program}
+use Rattle.sig_tool.specs.Acceptance.{AreRefused, IsAcceptedAs, long_program}
 use Rattle.sig_tool.proofs.Verdicts.{accepted_once, accepted_or_refused, refused_once}
 use Rattle.sig_code.specs.Texts.{IsCodeText}
 use Rattle.sig_hier.specs.Texts.{IsTreeText}

@@ -1,5 +1,5 @@
 -- What the file of a program gives, for its plan, and what a product of the plan comes to.
-use Rattle.std.proofs.Common.{◌≡◌, ◌≤◌, ◌∙◌, ◌⊎◌, ℕ, Bool, List, length, Option, None, Some, IfSome, Result, Ok, Err, inl, inr, ⊎_elim, refl, sym, ap, subst, arith}
+use Rattle.std.proofs.Common.{◌≡◌, ◌≤◌, ◌∙◌, ◌⊎◌, ℕ, Bool, List, length, Option, None, Some, IfSome, Result, Ok, Err, inl, inr, ⊎_elim, refl, sym, ap, arith}
 use Rattle.std.specs.Prelude.{IfErr, IfOk}
 use Rattle.sig_back.specs.Answers.{IsRefusal}
 use Rattle.sig_back.specs.Shown.{fault_line}

@@ -1,5 +1,5 @@
 -- The clauses of a run, from what its files gave.
-use Rattle.std.proofs.Common.{◌≡◌, ◌∙◌, ◌⊎◌, ◌++◌, ◌<◌, ◌≤◌, ℕ, ℤ, List, [], Option, Some, None, IfSome, inl, inr, ⊎_elim, refl, sym, ap, subst, arith}
+use Rattle.std.proofs.Common.{◌≡◌, ◌∙◌, ◌⊎◌, ◌++◌, ℕ, ℤ, List, [], Option, Some, None, IfSome, inl, inr, ⊎_elim, refl, sym, ap, subst, arith}
 use Rattle.std.proofs.lemmas.Bool.{cases_lt}
 use Rattle.std.specs.Prelude.{codes}
 use Rattle.sig_parse.specs.Small.{Small}

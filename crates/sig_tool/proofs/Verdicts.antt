@@ -1,12 +1,12 @@
 -- A program is accepted or refused, and not both, and a refused one has one line.
-use Rattle.std.proofs.Common.{◌≡◌, ◌∙◌, ◌⊎◌, ◌<◌, ◌≤◌, ℕ, List, length, inl, inr, ⊎_elim, sym, ap, subst, arith}
+use Rattle.std.proofs.Common.{◌≡◌, ◌∙◌, ℕ, List, inl, inr, sym, ap, subst, arith}
 use Rattle.sig_back.specs.Faults.{IsFaultOf, told_as}
 use Rattle.sig_back.specs.Shown.{fault_line}
 use Rattle.sig_front.specs.Shown.{front_line}
 use Rattle.sig_front.proofs.OneKernel.{kernel_once, kernel_or_refusal, no_kernel_once}
 use Rattle.sig_kernel.specs.declared.kernel.Kernel.{Kernel}
 use Rattle.sig_plan.proofs.FaultOnce as faults
-use Rattle.sig_tool.specs.Acceptance.{AreRefused, HasKernel, IsAcceptedAs, IsAcceptedProgram, IsRefusedKernel, IsRefusedProgram, IsRefusedText, long_program}
+use Rattle.sig_tool.specs.Acceptance.{AreRefused, IsAcceptedAs, IsAcceptedProgram, IsRefusedKernel, IsRefusedProgram, IsRefusedText}
 
 pub accepted_once : (bytes : List ℕ) (a b : Kernel) → IsAcceptedAs bytes a → IsAcceptedAs bytes b → a ≡ b
 accepted_once bytes a b one other = kernel_once bytes a b one.has.text other.has.text

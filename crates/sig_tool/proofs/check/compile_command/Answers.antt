@@ -1,9 +1,10 @@
-use Rattle.std.proofs.Common.{inl, refl}
+use Rattle.std.proofs.Common.{[], inl, refl, subst, sym}
 use Rattle.sig_tool.specs.Compiling.{command_of}
 use Rattle.sig_tool.specs.Outcomes.{done}
+use Rattle.sig_tool.specs.TopCall.{SaysLine}
 use Rattle.sig_tool.proofs.PlanFile.{about_product, budget_of_refusal}
 use Rattle.sig_tool.proofs.RunClauses.{prefix_of_none, refused_by, status_of_refusal}
-use Rattle.sig_tool.proofs.TextClauses.{prefix_of_outcome, status_of_outcome}
+use Rattle.sig_tool.proofs.TextClauses.{done_is_0, prefix_of_outcome, status_of_outcome, whole_of_outcome}
 use Rattle.sig_tool.proofs.Statuses.{compile_numbers, written_numbers}
 use Rattle.sig_tool.proofs.check.compile_command.Goals as goal
 
@@ -42,3 +43,12 @@ returns-in-Ok-clause-numbers g c = λ pace. written_numbers c.args.product c.arg
 pub returns-in-Err-clause-numbers : goal.returns-in-Err-clause-numbers
 returns-in-Err-clause-numbers g c = λ pace.
     compile_numbers c.args.product c.args.program.now pace c.in-Err.refusal c.say_refusal.result c.status.result c.status.ensures c.say_refusal.ensures.same c.in-Err.ensures.about
+
+pub returns-in-Ok-clause-whole : goal.returns-in-Ok-clause-whole
+returns-in-Ok-clause-whole g c = λ ends pace.
+    let nought = done_is_0 c.put_due.result c.put_due.ensures.numbers ends in
+    whole_of_outcome (command_of c.args.product c.args.program.now pace) (done c.in-Ok.text.items c.args.program.now) (g.F.Files.contents c.args.files.now) (g.F.Files.at c.args.files.now) (g.F.Files.at c.compiled.new.files) c.put_due.result
+    (λ text. g.S.Sink.took c.args.out.now text c.put_due.new.out)
+    (SaysLine g.E.Sink.took (g.E.Sink.faults c.args.err.now) (g.E.Sink.faults c.put_due.new.err) c.args.err.now c.put_due.new.err)
+    (c.in-Ok.ensures.text pace) c.in-Ok.ensures.told nought (rw c.deref.ensures.value at (c.put_due.ensures.whole nought))
+    (λ stays. subst (λ after. g.E.Sink.took c.args.err.now [] after) (sym (c.put_due.ensures.silent nought)) (g.met.E.Sink.took_nothing c.args.err.now))

@@ -1,5 +1,4 @@
-use Rattle.std.proofs.Common.{◌≡◌, ◌≤◌, Some, ap, arith, length}
-use Rattle.std.specs.Prelude.{IfErr, IfOk}
+use Rattle.std.proofs.Common.{◌≤◌, Some, ap, arith, length}
 use Rattle.std.proofs.lemmas.Option.{IfSome_then}
 use Rattle.sig_tool.specs.Acceptance.{IsAcceptedAs}
 use Rattle.sig_tool.specs.Compiling.{HasNoRoom, IsRefusalOf}

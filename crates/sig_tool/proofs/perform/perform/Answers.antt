@@ -7,7 +7,7 @@ returns-in-Run-clause-status g c =
 
 pub returns-in-Run-clause-budget : goal.returns-in-Run-clause-budget
 returns-in-Run-clause-budget g c =
-    λ eight. rw c.in-Run.is (rw (c.name_of-program.ensures, c.name_of-flows.ensures) at (run_budget (g.F.Files.contents c.args.files.now) c.name_of-program.result.now c.name_of-flows.result.now c.in-Run.settings.now c.run_command.result c.run_command.ensures.numbers eight))
+    λ eight. rw c.in-Run.is (run_budget (g.F.Files.contents c.args.files.now) c.name_of-program.result.now c.name_of-flows.result.now c.in-Run.settings c.run_command.result c.run_command.ensures.numbers eight)
 
 pub returns-in-Print-clause-status : goal.returns-in-Print-clause-status
 returns-in-Print-clause-status g c =
@@ -15,7 +15,7 @@ returns-in-Print-clause-status g c =
 
 pub returns-in-Print-clause-budget : goal.returns-in-Print-clause-budget
 returns-in-Print-clause-budget g c =
-    λ eight. rw c.in-Print.is (rw c.name_of-in-Print.ensures at (print_budget (g.F.Files.contents c.args.files.now) c.name_of-in-Print.result.now c.print_command.result c.print_command.ensures.numbers eight))
+    λ eight. rw c.in-Print.is (print_budget (g.F.Files.contents c.args.files.now) c.name_of-in-Print.result.now c.print_command.result c.print_command.ensures.numbers eight)
 
 pub returns-in-Judge-clause-prefix : goal.returns-in-Judge-clause-prefix
 returns-in-Judge-clause-prefix g c =
@@ -27,11 +27,11 @@ returns-in-Judge-clause-status g c =
 
 pub returns-in-Judge-clause-budget : goal.returns-in-Judge-clause-budget
 returns-in-Judge-clause-budget g c =
-    λ eight. rw c.in-Judge.is (rw (c.name_of-program-in-Judge.ensures, c.name_of-traces.ensures) at (judge_budget (g.F.Files.contents c.args.files.now) c.name_of-program-in-Judge.result.now c.name_of-traces.result.now c.judge_command.result c.judge_command.ensures.numbers eight))
+    λ eight. rw c.in-Judge.is (judge_budget (g.F.Files.contents c.args.files.now) c.name_of-program-in-Judge.result.now c.name_of-traces.result.now c.judge_command.result c.judge_command.ensures.numbers eight)
 
 pub returns-in-Check-clause-numbers : goal.returns-in-Check-clause-numbers
 returns-in-Check-clause-numbers g c =
-    rw c.in-Check.is (rw c.name_of.ensures at (c.compile_command.ensures.numbers c.in-Check.field-1))
+    rw c.in-Check.is (c.compile_command.ensures.numbers c.in-Check.field-1)
 
 pub returns-in-Check-clause-prefix : goal.returns-in-Check-clause-prefix
 returns-in-Check-clause-prefix g c =
@@ -59,7 +59,7 @@ returns-in-Check-clause-begun g c =
 
 pub returns-in-Tree-clause-numbers : goal.returns-in-Tree-clause-numbers
 returns-in-Tree-clause-numbers g c =
-    rw c.in-Tree.is (rw c.name_of-in-Tree.ensures at (c.compile_command-in-Tree.ensures.numbers c.in-Tree.field-1))
+    rw c.in-Tree.is (c.compile_command-in-Tree.ensures.numbers c.in-Tree.field-1)
 
 pub returns-in-Tree-clause-prefix : goal.returns-in-Tree-clause-prefix
 returns-in-Tree-clause-prefix g c =
@@ -87,7 +87,7 @@ returns-in-Tree-clause-begun g c =
 
 pub returns-in-Code-clause-numbers : goal.returns-in-Code-clause-numbers
 returns-in-Code-clause-numbers g c =
-    rw c.in-Code.is (rw c.name_of-in-Code.ensures at (c.compile_command-in-Code.ensures.numbers c.in-Code.field-1))
+    rw c.in-Code.is (c.compile_command-in-Code.ensures.numbers c.in-Code.field-1)
 
 pub returns-in-Code-clause-prefix : goal.returns-in-Code-clause-prefix
 returns-in-Code-clause-prefix g c =

@@ -27,16 +27,28 @@ fn refuses_what_the_front_refuses(rt: HostRuntime) -> Result<(), Fail> {
     let bodies: [(&[u8], &'static [u8]); 12] = [
         (b"Y := A + Q;", b"error 2:10: unknown name Q\n"),
         (b"A := A;", b"error 2:1: input A is defined\n"),
-        (b"(| Y := A | Y := A |);", b"error 2:13: Y is defined twice\n"),
+        (
+            b"(| Y := A | Y := A |);",
+            b"error 2:13: Y is defined twice\n",
+        ),
         (b"(| |);", b"error 1:36: Y is not defined\n"),
         (b"Y := A and A;", b"error 2:8: types clash\n"),
         (b"Y := A default 0;", b"error 2:16: bare constant\n"),
         (b"Y := P(A, A);", b"error 2:6: bad call of P\n"),
         (b"Y := P(A);", b"error 2:6: recursive call of P\n"),
         (b"Y := A $ 1;", b"error 2:8: delay without init\n"),
-        (b"Y := A + 9223372036854775808;", b"error 2:10: number too large\n"),
-        (b"pragmas RunOn {Q} \"1\" end pragmas Y := A;", b"error 2:16: bad pragma\n"),
-        (b"Y := ((((((((((((((((((((((((((((((((((((((((((((((((((((((((((((((((((A)))))))))))))))))))))))))))))))))))))))))))))))))))))))))))))))));", b"error 2:70: nesting deeper than 64\n"),
+        (
+            b"Y := A + 9223372036854775808;",
+            b"error 2:10: number too large\n",
+        ),
+        (
+            b"pragmas RunOn {Q} \"1\" end pragmas Y := A;",
+            b"error 2:16: bad pragma\n",
+        ),
+        (
+            b"Y := ((((((((((((((((((((((((((((((((((((((((((((((((((((((((((((((((((A)))))))))))))))))))))))))))))))))))))))))))))))))))))))))))))))));",
+            b"error 2:70: nesting deeper than 64\n",
+        ),
     ];
     for (body, line) in bodies {
         let mut program = Vec::from_slice(rt.alloc(), b"process P = (? integer A ! integer Y)\n")?;
@@ -44,7 +56,11 @@ fn refuses_what_the_front_refuses(rt: HostRuntime) -> Result<(), Fail> {
         check_program(&rt, &program, refused(line))?;
     }
     let long = vec![in rt.alloc(); b' '; 1_048_577]?;
-    check_program(&rt, &long, refused(b"error: program longer than 1048576 bytes\n"))
+    check_program(
+        &rt,
+        &long,
+        refused(b"error: program longer than 1048576 bytes\n"),
+    )
 }
 
 #[test]
@@ -88,12 +104,19 @@ fn refuses_kernels(rt: HostRuntime) -> Result<(), Fail> {
 /// The same refusals come of the commands that write more than a verdict.
 #[test]
 fn refuses_for_each_product(rt: HostRuntime) -> Result<(), Fail> {
-    let cycle = b"process CYC = (? integer A ! integer X, Y)\n(| X := Y + 1 | Y := X - 1 | X ^= A |);";
+    let cycle =
+        b"process CYC = (? integer A ! integer X, Y)\n(| X := Y + 1 | Y := X - 1 | X ^= A |);";
     let lines: [&[&str]; 3] = [&["check", "P"], &["tree", "P"], &["code", "--", "P"]];
     for line in lines {
         let mut files = files_of(rt.alloc(), cycle, b"")?;
         let mut out = MemSink::new(rt.alloc(), 1000)?;
-        call(&rt, line, &mut files, &mut out, refused(b"error 1:38: cycle through X\n"))?;
+        call(
+            &rt,
+            line,
+            &mut files,
+            &mut out,
+            refused(b"error 1:38: cycle through X\n"),
+        )?;
         let mut none = MemFiles::new(rt.alloc());
         let missing = Wanted {
             out: b"",

@@ -2,13 +2,17 @@
 
 use super::*;
 
-const DOWN: &[u8] = b"process DOWN = (? integer A ! integer Y) (| Y := A default (ZY - 1) | ZY := Y $ init 0 | A ^= when (ZY <= 0) |) where integer ZY; end;";
+const DOWN: &[u8] =
+    b"process DOWN = (? integer A ! integer Y) (| Y := A default (ZY - 1) | ZY := Y $ init 0 | A ^= when (ZY <= 0) |) where integer ZY; end;";
 
-const CROSSED: &[u8] = b"process CRS = (? integer A; boolean B ! integer X, Y)\n(| X := (A when B) default ((Y when not B) + 1) | Y := (A when not B) default ((X when B) + 10) | A ^= B |);";
+const CROSSED: &[u8] =
+    b"process CRS = (? integer A; boolean B ! integer X, Y)\n(| X := (A when B) default ((Y when not B) + 1) | Y := (A when not B) default ((X when B) + 10) | A ^= B |);";
 
-const MERGE: &[u8] = b"process M = (? boolean B; integer U, V ! integer Y) (| Y := U default V | U ^= when B | V ^= ^B |);";
+const MERGE: &[u8] =
+    b"process M = (? boolean B; integer U, V ! integer Y) (| Y := U default V | U ^= when B | V ^= ^B |);";
 
-const WATCH: &[u8] = b"process WATCH = (? event TICK; boolean REQ; integer V ! integer HELD; boolean ALARM)
+const WATCH: &[u8] =
+    b"process WATCH = (? event TICK; boolean REQ; integer V ! integer HELD; boolean ALARM)
 pragmas RunOn {AGE, ALARM} \"1\" end pragmas
 (| REQ ^= TICK
  | V ^= when REQ
@@ -61,7 +65,8 @@ fn writes_hierarchies(rt: HostRuntime) -> Result<(), Fail> {
 
 #[test]
 fn writes_code(rt: HostRuntime) -> Result<(), Fail> {
-    let text = b"actor 0\n0 0 read A\n1 2 read B\n2 4 compute Y\n3 5 send 0\n4 6 report 1\nactor 1\n0 5 receive 0\n1 6 collect 1\n2 7 commit\n";
+    let text =
+        b"actor 0\n0 0 read A\n1 2 read B\n2 4 compute Y\n3 5 send 0\n4 6 report 1\nactor 1\n0 5 receive 0\n1 6 collect 1\n2 7 commit\n";
     write_product(&rt, &["code", "P"], SUM, text)
 }
 
