@@ -3,7 +3,7 @@ use Rattle.std.proofs.Common.{◌≡◌, ℕ, List, Option, inl, refl, sym, subs
 use Rattle.sig_text.specs.Files.{Contents}
 use Rattle.sig_words.specs.Readings.{Word}
 use Rattle.sig_words.specs.declared.command.Command.{Command}
-use Rattle.sig_words.specs.declared.command.Command.TheVariants.{Judge, Print, Run}
+use Rattle.sig_words.specs.declared.command.Command.TheVariants.{Check, Code, Judge, Print, Run, Tree}
 use Rattle.sig_tool.specs.Commands.{IsBuilt}
 use Rattle.sig_tool.specs.Refusals.{IsAbout}
 use Rattle.sig_tool.specs.declared.refusal.Refusal.TheVariants.{OutOfMemory}
@@ -16,6 +16,9 @@ of_one words command Fact only fact = λ c is built. subst Fact (sym (only c is 
 -- a command for whose words there was no memory was refused for that
 about_none : (c : Command) → IsBuilt c → IsAbout c OutOfMemory
 about_none (Run program flows settings) built = inl tt
+about_none (Check program pace) built = tt
+about_none (Tree program pace) built = tt
+about_none (Code program pace) built = tt
 about_none (Print program) built = tt
 about_none (Judge program traces) built = inl tt
 about_none _ built = absurd built

@@ -1,5 +1,5 @@
 -- What the files of a program and of a trace give, for the judge.
-use Rattle.std.proofs.Common.{◌≡◌, ◌≤◌, ◌∙◌, ◌⊎◌, ◌↔◌, ℕ, List, length, Option, None, Some, IfSome, ⊎_elim, inl, inr, refl, sym, ap, subst}
+use Rattle.std.proofs.Common.{◌≡◌, ◌≤◌, ◌∙◌, ◌⊎◌, ◌↔◌, ℕ, List, length, Option, None, Some, IfSome, ⊎_elim, inl, inr, refl, ap, subst}
 use Rattle.sig_base.specs.Traces.{Trace as TraceSeen}
 use Rattle.sig_base.specs.declared.signal.Signal.{Signal}
 use Rattle.sig_text.specs.Files.{Contents, name_where_there}
@@ -20,7 +20,7 @@ use Rattle.sig_tool.specs.Outcomes.{AtFlat, AtTrace, Bad, FindsFlat, FindsTrace,
 use Rattle.sig_tool.specs.Refusals.{HasCount, IsAboutTrace, IsOwn, IsTraceRefusal, Owes, front_refusal, outcome_of}
 use Rattle.sig_tool.specs.TopCall.{IsDone}
 use Rattle.sig_tool.specs.declared.refusal.Refusal.{Refusal}
-use Rattle.sig_tool.specs.declared.refusal.Refusal.TheVariants.{Missing, ReadFault, LongProgram, Front, NotBuilt, LongFile, NoFlows, Trace, OutOfMemory}
+use Rattle.sig_tool.specs.declared.refusal.Refusal.TheVariants.{Missing, ReadFault, LongProgram, Front, Back, Budget, NotBuilt, LongFile, NoFlows, Trace, OutOfMemory}
 use Rattle.sig_tool.proofs.Loads.{later_own}
 use Rattle.sig_tool.proofs.OneOutcome.{flat_refuses, trace_refuses}
 
@@ -53,6 +53,8 @@ module _ (traces : List ℕ) (answer : TraceAnswer) where
   about_trace (ReadFault name) is = absurd is
   about_trace LongProgram is = absurd is
   about_trace (Front front) is = absurd is
+  about_trace (Back fault) is = absurd is
+  about_trace (Budget nodes) is = absurd is
   about_trace NotBuilt is = absurd is
   about_trace (LongFile name) is = absurd is
   about_trace (NoFlows name) is = absurd is
@@ -64,6 +66,8 @@ module _ (traces : List ℕ) (answer : TraceAnswer) where
   count_of_trace contents at misses misses' faults faults' (ReadFault name) is = absurd is
   count_of_trace contents at misses misses' faults faults' LongProgram is = tt
   count_of_trace contents at misses misses' faults faults' (Front front) is = tt
+  count_of_trace contents at misses misses' faults faults' (Back fault) is = tt
+  count_of_trace contents at misses misses' faults faults' (Budget nodes) is = tt
   count_of_trace contents at misses misses' faults faults' NotBuilt is = tt
   count_of_trace contents at misses misses' faults faults' (LongFile name) is = tt
   count_of_trace contents at misses misses' faults faults' (NoFlows name) is = tt
@@ -75,6 +79,8 @@ module _ (traces : List ℕ) (answer : TraceAnswer) where
   refused_trace held signals bytes there short why (ReadFault name) faults faults' is own = absurd is
   refused_trace held signals bytes there short why LongProgram faults faults' is own = absurd is
   refused_trace held signals bytes there short why (Front front) faults faults' is own = absurd is
+  refused_trace held signals bytes there short why (Back fault) faults faults' is own = absurd is
+  refused_trace held signals bytes there short why (Budget nodes) faults faults' is own = absurd is
   refused_trace held signals bytes there short why NotBuilt faults faults' is own = absurd is
   refused_trace held signals bytes there short why (LongFile name) faults faults' is own = absurd is
   refused_trace held signals bytes there short why (NoFlows name) faults faults' is own = absurd is

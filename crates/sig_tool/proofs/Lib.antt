@@ -8,10 +8,14 @@ mod RunLength
 mod ProgramFile
 mod RunCauses
 mod Stages
+mod Verdicts
 mod OneOutcome
 mod Loads
 mod RunClauses
 mod TextFile
 mod TextClauses
+mod PlanFile
 mod JudgeFiles
+mod Statuses
+mod Budgets
 mod CommandWords

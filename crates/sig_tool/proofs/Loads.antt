@@ -1,5 +1,5 @@
 -- The refusal that a flow file calls for, behind a program that is good.
-use Rattle.std.proofs.Common.{◌≡◌, ◌≤◌, ℕ, List, Option, Some, None, IfSome, sym, subst, arith}
+use Rattle.std.proofs.Common.{◌≡◌, ◌≤◌, ℕ, List, Option, Some, None, IfSome, subst, arith}
 use Rattle.sig_parse.specs.Small.{Small}
 use Rattle.sig_text.specs.Files.{Contents, name_where_there}
 use Rattle.sig_words.specs.declared.command.Command.TheVariants.{Run}
@@ -7,7 +7,7 @@ use Rattle.sig_words.specs.declared.command.Settings.{Settings}
 use Rattle.sig_tool.specs.Outcomes.{AtFlows, FindsProgram, Good}
 use Rattle.sig_tool.specs.Refusals.{IsOwn, Owes, outcome_of}
 use Rattle.sig_tool.specs.declared.refusal.Refusal.{Refusal}
-use Rattle.sig_tool.specs.declared.refusal.Refusal.TheVariants.{Missing, ReadFault, LongProgram, Front, NotBuilt, LongFile, NoFlows, Trace, OutOfMemory}
+use Rattle.sig_tool.specs.declared.refusal.Refusal.TheVariants.{Missing, ReadFault, LongProgram, Front, Back, Budget, NotBuilt, LongFile, NoFlows, Trace, OutOfMemory}
 use Rattle.sig_tool.proofs.OneOutcome.{flows_refuse}
 
 -- a count that did not rise since an earlier moment did not rise since a later one
@@ -16,6 +16,8 @@ later_own (Missing name) first middle last le own = omega (arith, own, le)
 later_own (ReadFault name) first middle last le own = own
 later_own LongProgram first middle last le own = own
 later_own (Front answer) first middle last le own = own
+later_own (Back fault) first middle last le own = own
+later_own (Budget nodes) first middle last le own = own
 later_own NotBuilt first middle last le own = own
 later_own (LongFile name) first middle last le own = own
 later_own (NoFlows name) first middle last le own = own

@@ -1,6 +1,5 @@
 -- A command over told contents comes to one outcome at most.
-use Rattle.std.proofs.Common.{◌≡◌, ◌∙◌, ℕ, ℤ, List, Option, Some, None, map, sym, refl, ap, subst}
-use Rattle.std.specs.Str.Lines.{lines}
+use Rattle.std.proofs.Common.{◌≡◌, ◌∙◌, ℕ, ℤ, List, Option, Some, None, sym, refl, ap, subst}
 use Rattle.sig_parse.specs.Small.{Small, IsSmallProgram}
 use Rattle.sig_parse.specs.Words.{signs}
 use Rattle.sig_parse.specs.Reading.{small_at}
@@ -9,7 +8,7 @@ use Rattle.sig_parse.specs.declared.answer.SmallAnswer.TheVariants.{NotBuilt}
 use Rattle.sig_parse.proofs.SmallLemmas.{only_one, refused as says_none}
 use Rattle.sig_text.specs.Files.{Contents}
 use Rattle.sig_words.specs.declared.command.Command.{Command}
-use Rattle.sig_words.specs.declared.command.Command.TheVariants.{Judge, Print, Run}
+use Rattle.sig_words.specs.declared.command.Command.TheVariants.{Check, Code, Judge, Print, Run, Tree}
 use Rattle.sig_words.specs.declared.command.Settings.{Settings}
 use Rattle.sig_base.specs.Traces.{Trace}
 use Rattle.sig_base.specs.declared.signal.Signal.{Signal}
@@ -24,8 +23,16 @@ use Rattle.sig_front.specs.Flats.{IsFlatText}
 use Rattle.sig_front.specs.Shown.{front_line}
 use Rattle.sig_front.proofs.OneFlat.{flat_once, no_flat_once, flat_or_refusal}
 use Rattle.sig_front.proofs.OneText.{tree_once, refusal_once, tree_or_refusal}
-use Rattle.sig_tool.specs.FlowFile.{IsFlowFile, flow_in}
-use Rattle.sig_tool.specs.Outcomes.{AtFile, AtFlat, AtFlows, AtProgram, AtText, AtTrace, ComesTo, FindsFlat, FindsFlows, FindsProgram, FindsText, FindsTrace, JudgeComesTo, JudgesTo, RefusesFlat, RefusesTrace, bad_trace, judged, PrintComesTo, RefusesText, done, Found, Good, Outcome, RefusesFlows, RefusesProgram, RunComesTo, RunsTo, ended, long_file, long_program}
+use Rattle.sig_tool.specs.FlowFile.{IsFlowFile}
+use Rattle.sig_tool.specs.Outcomes.{AtFile, AtFlat, AtFlows, AtProgram, AtText, AtTrace, ComesTo, FindsFlat, FindsFlows, FindsProgram, FindsText, FindsTrace, JudgeComesTo, JudgesTo, RefusesFlat, RefusesTrace, bad_trace, judged, PrintComesTo, RefusesText, done, Found, Good, Outcome, RefusesFlows, RefusesProgram, RunComesTo, RunsTo, ended, long_file, Absent, Long, Bad, CompileComesTo, FindsAccepted, AtPlan, IsVerdictText, WritesDue}
+use Rattle.sig_tool.specs.Acceptance.{AreRefused, IsAcceptedAs, long_program}
+use Rattle.sig_tool.proofs.Verdicts.{accepted_once, accepted_or_refused, refused_once}
+use Rattle.sig_code.specs.Texts.{IsCodeText}
+use Rattle.sig_hier.specs.Texts.{IsTreeText}
+use Rattle.sig_code.proofs.CodeOnce.{code_text_once}
+use Rattle.sig_hier.proofs.TreeOnce.{tree_text_once}
+use Rattle.sig_kernel.specs.declared.kernel.Kernel.{Kernel}
+use Rattle.sig_clock.specs.ClockRefusals.{HasClocks}
 use Rattle.sig_tool.proofs.RunCauses.{one_end}
 use Rattle.sig_tool.proofs.Stages.{OneAtMost, at_file_ends, one_at_file, one_found}
 
@@ -136,8 +143,32 @@ one_judge_outcome held program traces one other =
     (λ flat. one_at_trace held traces flat.signals (λ trace. JudgesTo flat trace traces) (λ trace. one_verdict_outcome flat trace traces))
     one other
 
+-- a program file gives one accepted kernel or one refusal at most
+pub one_plan_file : (held : Option (List ℕ)) (f g : Found Kernel) → FindsAccepted held f → FindsAccepted held g → f ≡ g
+one_plan_file held f g = one_found held 1048576 IsAcceptedAs AreRefused accepted_once refused_once accepted_or_refused f g
+
+one_at_plan : (held : Contents) (name : List ℕ) (Next : Kernel → Outcome → Type 0) → ((kernel : Kernel) (bytes : List ℕ) → IsAcceptedAs bytes kernel → OneAtMost (Next kernel)) → OneAtMost (AtPlan held name Next)
+one_at_plan held name Next one o p x y = at x.0 x.1 x.2 (subst (λ found. AtFile 1 long_program name found Next p) (one_plan_file (held name) y.0 x.0 y.1 x.1) y.2) where
+  at : (found : Found Kernel) → FindsAccepted (held name) found → AtFile 1 long_program name found Next o → AtFile 1 long_program name found Next p → o ≡ p
+  at Absent is a b = a ∙ sym b
+  at Long is a b = a ∙ sym b
+  at (Bad line) is a b = a ∙ sym b
+  at (Good kernel) is a b = one kernel is.bytes is.good o p a b
+
+one_due : (IsText : List ℕ → Type 0) (file : List ℕ) → ((a b : List ℕ) → IsText a → IsText b → a ≡ b) → OneAtMost (WritesDue IsText file)
+one_due IsText file one o p x y = x.is ∙ ap (λ t. done t file) (one x.text y.text x.due y.due) ∙ sym y.is
+
+one_compile_outcome : (IsText : Kernel → List ℕ → Type 0) → ((kernel : Kernel) (a b : List ℕ) → HasClocks kernel → IsText kernel a → IsText kernel b → a ≡ b)
+    → (held : Contents) (program : List ℕ) (one other : Outcome) → CompileComesTo IsText held program one → CompileComesTo IsText held program other → one ≡ other
+one_compile_outcome IsText once held program one other =
+    one_at_plan held program (λ kernel. WritesDue (IsText kernel) program)
+    (λ kernel bytes is. one_due (IsText kernel) program (λ a b. once kernel a b is.accepted.has.clocks)) one other
+
 pub one_outcome : (held : Contents) (c : Command) (one other : Outcome) → ComesTo held c one → ComesTo held c other → one ≡ other
 one_outcome held (Run program flows settings) one other = one_run_outcome held program flows settings.instants one other
+one_outcome held (Check program pace) one other = one_compile_outcome IsVerdictText (λ kernel a b has x y. x ∙ sym y) held program one other
+one_outcome held (Tree program pace) one other = one_compile_outcome IsTreeText tree_text_once held program one other
+one_outcome held (Code program pace) one other = one_compile_outcome IsCodeText (λ kernel a b has x y. code_text_once kernel a b x y) held program one other
 one_outcome held (Print program) one other = one_print_outcome held program one other
 one_outcome held (Judge program traces) one other = one_judge_outcome held program traces one other
 one_outcome held _ one other = λ x y. absurd x
@@ -184,3 +215,9 @@ runs_only held program flows settings s values o good read x =
     (one_program_file (held program) x.0 (Good s) x.1 good) x.2 in
     subst (λ found. AtFile 4 (long_file flows) flows found (λ v. RunsTo s v settings.instants flows) o)
     (one_flow_file (held flows) flows s.inputs y.0 (Good values) y.1 read) y.2
+
+-- ---- what the compiling of a program comes to
+
+-- a program file that gives no accepted kernel ends it
+pub plan_refuses : (IsText : Kernel → List ℕ → Type 0) (held : Contents) (program : List ℕ) (o : Outcome) → AtPlan held program (λ _ _. ⊥) o → CompileComesTo IsText held program o
+plan_refuses IsText held program o x = (x.0, x.1, at_file_ends 1 long_program program x.0 (λ kernel. WritesDue (IsText kernel) program) o x.2)

@@ -1,9 +1,9 @@
 -- What a program file holds.
-use Rattle.std.proofs.Common.{◌≡◌, ◌≤◌, ◌++◌, ◌∷◌, [], ℕ, List, length, bytes_eq, Option, Some, subst, arith, length-append}
+use Rattle.std.proofs.Common.{◌++◌, ◌∷◌, [], bytes_eq, arith, length-append}
 use Rattle.std.proofs.lemmas.List.{get_or_append_left}
 use Rattle.std.proofs.lemmas.Map.Keys.{apart_from_distinct, IsDistinct-from_apart}
 use Rattle.std.specs.List.{IsDistinct}
-use Rattle.sig_parse.specs.Small.{Small, IsSmall, IsSmallProgram}
+use Rattle.sig_parse.specs.Small.{Small, IsSmall}
 
 -- the inputs of a straight program have different names
 pub inputs_differ : (s : Small) → IsSmall s → IsDistinct bytes_eq s.inputs

@@ -1,5 +1,5 @@
 -- The clauses of a run, from what its files gave.
-use Rattle.std.proofs.Common.{◌≡◌, ◌∙◌, ◌⊎◌, ◌++◌, ◌<◌, ◌≤◌, ℕ, ℤ, List, [], Option, Some, None, IfSome, inl, inr, ⊎_elim, refl, sym, ap, subst, arith}
+use Rattle.std.proofs.Common.{◌≡◌, ◌∙◌, ◌⊎◌, ◌++◌, ℕ, ℤ, List, [], Option, Some, None, IfSome, inl, inr, ⊎_elim, refl, sym, ap, subst, arith}
 use Rattle.std.proofs.lemmas.Bool.{cases_lt}
 use Rattle.std.specs.Prelude.{codes}
 use Rattle.sig_parse.specs.Small.{Small}
@@ -15,7 +15,7 @@ use Rattle.sig_tool.specs.RunEnd.{end_status}
 use Rattle.sig_tool.specs.SmallRun.{IsLength, text_of}
 use Rattle.sig_tool.specs.TopCall.{IsDone, IsDue, IsEnded, IsRefusedBy, MayAnswer, OfOutcome, RunsWhole, memory_line}
 use Rattle.sig_tool.specs.declared.refusal.Refusal.{Refusal}
-use Rattle.sig_tool.specs.declared.refusal.Refusal.TheVariants.{Missing, ReadFault, LongProgram, Front, NotBuilt, LongFile, NoFlows, Trace, OutOfMemory}
+use Rattle.sig_tool.specs.declared.refusal.Refusal.TheVariants.{Missing, ReadFault, LongProgram, Front, Back, Budget, NotBuilt, LongFile, NoFlows, Trace, OutOfMemory}
 use Rattle.sig_tool.specs.declared.run.Cause.{Cause}
 use Rattle.sig_tool.specs.declared.run.Cause.TheVariants.{Limit, Exhausted, Overflow}
 use Rattle.sig_tool.proofs.OneOutcome.{one_outcome, one_run, runs, runs_only}
@@ -78,11 +78,13 @@ own_status held c before at misses misses' faults faults' WriteFailed (Missing n
 own_status held c before at misses misses' faults faults' WriteFailed (ReadFault name) o count owes comes = inr (inl (refl, count.cause))
 own_status held c before at misses misses' faults faults' WriteFailed LongProgram o count owes comes = inl (by_owed held c before at LongProgram o (owes tt) comes)
 own_status held c before at misses misses' faults faults' WriteFailed (Front answer) o count owes comes = inl (by_owed held c before at (Front answer) o (owes tt) comes)
+own_status held c before at misses misses' faults faults' WriteFailed (Back fault) o count owes comes = inl (by_owed held c before at (Back fault) o (owes tt) comes)
+own_status held c before at misses misses' faults faults' WriteFailed (Budget nodes) o count owes comes = inr (inr (inr (inr refl)))
 own_status held c before at misses misses' faults faults' WriteFailed NotBuilt o count owes comes = inl (by_owed held c before at NotBuilt o (owes tt) comes)
 own_status held c before at misses misses' faults faults' WriteFailed (LongFile name) o count owes comes = inl (by_owed held c before at (LongFile name) o (owes tt) comes)
 own_status held c before at misses misses' faults faults' WriteFailed (NoFlows name) o count owes comes = inl (by_owed held c before at (NoFlows name) o (owes tt) comes)
 own_status held c before at misses misses' faults faults' WriteFailed (Trace name answer) o count owes comes = inl (by_owed held c before at (Trace name answer) o (owes tt) comes)
-own_status held c before at misses misses' faults faults' WriteFailed OutOfMemory o count owes comes = inr (inr (inr refl))
+own_status held c before at misses misses' faults faults' WriteFailed OutOfMemory o count owes comes = inr (inr (inr (inl refl)))
 
 pub status_of_refusal : (contents : Option Contents) (c : Command) (before at : Option (List ℕ)) (misses misses' faults faults' : ℕ) (WriteFailed : Type 0) (r said : Refusal) (status : ℕ) → status ≡ status_of said → (said ≡ r) ⊎ (said ≡ OutOfMemory) → HasCount contents at misses misses' faults faults' r → IfSome contents (λ held. IsOwn r faults faults' → Owes held c before at r) → OfOutcome contents c (λ o. MayAnswer o.status status (Rose faults faults') WriteFailed)
 status_of_refusal None c before at misses misses' faults faults' WriteFailed r said status is same count owes = tt
@@ -90,7 +92,7 @@ status_of_refusal (Some held) c before at misses misses' faults faults' WriteFai
     ⊎_elim
     (λ it. subst (λ n. MayAnswer o.status n (Rose faults faults') WriteFailed) (sym (is ∙ ap status_of it))
     (own_status held c before at misses misses' faults faults' WriteFailed r o count owes comes))
-    (λ none. inr (inr (inr (is ∙ ap status_of none))))
+    (λ none. inr (inr (inr (inl (is ∙ ap status_of none)))))
     same
 
 owed_where_told : (contents : Option Contents) (c : Command) (before at : Option (List ℕ)) (faults faults' : ℕ) (r : Refusal) → IfSome contents (λ held. IsOwn r faults faults' → Owes held c before at r) → IsOwn r faults faults' → IfSome contents (λ held. Owes held c before at r)
@@ -127,6 +129,8 @@ memory_said c contents before at misses misses' faults faults' status Said by se
     said_at (ReadFault name) is line = absurd (omega (arith, is))
     said_at LongProgram is line = absurd (omega (arith, is))
     said_at (Front answer) is line = absurd (omega (arith, is))
+    said_at (Back fault) is line = absurd (omega (arith, is))
+    said_at (Budget nodes) is line = absurd (omega (arith, is))
     said_at NotBuilt is line = absurd (omega (arith, is))
     said_at (LongFile name) is line = absurd (omega (arith, is))
     said_at (NoFlows name) is line = absurd (omega (arith, is))

@@ -1,6 +1,5 @@
 -- What a file gives is one thing at most, and so is what a command comes to there.
-use Rattle.std.proofs.Common.{◌≡◌, ◌∙◌, ◌<◌, ℕ, ℤ, List, Option, Some, None, sym, refl, ap, subst, arith, length}
-use Rattle.std.specs.Prelude.{IsSomeAnd}
+use Rattle.std.proofs.Common.{◌≡◌, ◌∙◌, ◌<◌, ℕ, List, Option, Some, None, sym, refl, ap, subst, arith, length}
 use Rattle.sig_text.specs.Read.{IsLongerThan}
 use Rattle.sig_tool.specs.Outcomes.{AtFile, Found, Absent, Long, Bad, Good, Finds, Holds, Outcome}
 

@@ -1,5 +1,5 @@
 -- The clauses of a command that is done without a run, from what its files gave.
-use Rattle.std.proofs.Common.{◌≡◌, ◌∙◌, ◌⊎◌, ℕ, List, [], Option, Some, None, IfSome, inl, inr, ⊎_elim, refl, sym, ap, subst, arith}
+use Rattle.std.proofs.Common.{◌≡◌, ◌∙◌, ◌⊎◌, ℕ, List, Option, Some, None, IfSome, inl, inr, ⊎_elim, ap, subst, arith}
 use Rattle.sig_text.specs.Files.{Contents, name_where_there}
 use Rattle.sig_text.specs.Sink.{TookPrefix}
 use Rattle.sig_tree.specs.Syntax.{ProcessModel}

@@ -1,5 +1,5 @@
 -- What the file of a program gives, for its text alone.
-use Rattle.std.proofs.Common.{◌≡◌, ◌≤◌, ◌⊎◌, ℕ, List, length, Option, Some, ⊎_elim, refl}
+use Rattle.std.proofs.Common.{◌≡◌, ◌≤◌, ◌⊎◌, ℕ, List, length, Some, ⊎_elim, refl}
 use Rattle.sig_text.specs.Files.{Contents}
 use Rattle.sig_front.specs.Shown.{front_line}
 use Rattle.sig_front.specs.Texts.{IsNoText}

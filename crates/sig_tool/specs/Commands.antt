@@ -1,11 +1,14 @@
 -- The commands that are built so far, among those of a command line.
 use Rattle.std.specs.Prelude.{◌≡◌, false, ⊤}
 use Rattle.sig_words.specs.declared.command.Command.{Command}
-use Rattle.sig_words.specs.declared.command.Command.TheVariants.{Judge, Print, Run}
+use Rattle.sig_words.specs.declared.command.Command.TheVariants.{Check, Code, Judge, Print, Run, Tree}
 
--- a command is built: a run without pacing, the printing of a program, and the judging of a trace
+-- a command is built: a run, a check, a tree or a code without pacing, the printing of a program, and the judging of a trace
 abbrev pub IsBuilt : Command → Type 0
 IsBuilt (Run program flows settings) = settings.pace ≡ false
+IsBuilt (Check program pace) = pace ≡ false
+IsBuilt (Tree program pace) = pace ≡ false
+IsBuilt (Code program pace) = pace ≡ false
 IsBuilt (Print program) = ⊤
 IsBuilt (Judge program traces) = ⊤
 IsBuilt _ = ⊥

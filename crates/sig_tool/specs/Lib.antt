@@ -1,4 +1,6 @@
+pub mod Acceptance
 pub mod Commands
+pub mod Compiling
 pub mod FlowFile
 pub mod Outcomes
 pub mod Reading

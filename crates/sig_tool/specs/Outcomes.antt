@@ -22,12 +22,16 @@ use Rattle.sig_front.specs.Flats.{IsFlatText, IsNoFlatText}
 use Rattle.sig_front.specs.Shown.{front_line}
 use Rattle.sig_front.specs.Texts.{IsNoText}
 use Rattle.sig_front.specs.declared.answer.FrontAnswer.{FrontAnswer}
+use Rattle.sig_kernel.specs.declared.kernel.Kernel.{Kernel}
+use Rattle.sig_code.specs.Texts.{IsCodeText}
+use Rattle.sig_hier.specs.Texts.{IsTreeText}
+use Rattle.sig_tool.specs.Acceptance.{AreRefused, IsAcceptedAs, long_program}
 use Rattle.sig_tool.specs.FlowFile.{IsFlowFile, IsNoFlowFile}
 use Rattle.sig_tool.specs.SmallRun.{IsLength, IsCause, text_of}
 use Rattle.sig_tool.specs.RunEnd.{end_line, end_status}
 use Rattle.sig_tool.specs.declared.run.Cause.{Cause}
 use Rattle.sig_words.specs.declared.command.Command.{Command}
-use Rattle.sig_words.specs.declared.command.Command.TheVariants.{Judge, Print, Run}
+use Rattle.sig_words.specs.declared.command.Command.TheVariants.{Check, Code, Judge, Print, Run, Tree}
 
 -- what a command comes to: the text that is due on its output, its status, its line on standard error,
 -- and the file that it asked for last, if it asked for any
@@ -53,8 +57,8 @@ not_found name = refusal (name ++ codes ": not found")
 abbrev pub read_failed : List ℕ → List ℕ
 read_failed name = refusal (name ++ codes ": read failed")
 
-abbrev pub long_program : List ℕ
-long_program = refusal (codes "program longer than 1048576 bytes")
+abbrev pub no_nodes : ℕ → List ℕ
+no_nodes nodes = refusal (decimal nodes ++ codes " diagram nodes")
 
 abbrev pub not_built : List ℕ
 not_built = refusal (codes "not built yet")
@@ -146,6 +150,15 @@ abbrev pub AtFlat : Contents → List ℕ → (FlatBody → Outcome → Type 0) 
 AtFlat held name Next o =
     (found : Found FlatBody) × FindsFlat (held name) found × AtFile 1 long_program name found Next o
 
+-- ---- the program file, for its plan
+
+abbrev pub FindsAccepted : Option (List ℕ) → Found Kernel → Type 0
+FindsAccepted held found = Finds held 1048576 IsAcceptedAs AreRefused found
+
+abbrev pub AtPlan : Contents → List ℕ → (Kernel → Outcome → Type 0) → Outcome → Type 0
+AtPlan held name Next o =
+    (found : Found Kernel) × FindsAccepted (held name) found × AtFile 1 long_program name found Next o
+
 -- ---- the trace file
 
 -- the bytes are refused as a trace of these signals, with this line
@@ -201,6 +214,20 @@ RunComesTo held program flows limit o =
 abbrev pub PrintComesTo : Contents → List ℕ → Outcome → Type 0
 PrintComesTo held program o = AtText held program (λ tree o. o ≡ done (canonical_text tree) program) o
 
+-- the text that is due of the verdict on a program that is accepted
+abbrev pub IsVerdictText : Kernel → List ℕ → Type 0
+IsVerdictText kernel text = text ≡ codes "accepted\n"
+
+-- a command writes a text that is due
+pub record WritesDue (IsText : List ℕ → Type 0) (file : List ℕ) (o : Outcome) : Type 0 where
+  pub text : List ℕ
+  pub due : IsText text
+  pub is : o ≡ done text file
+
+-- the compiling of a program over told contents comes to this, where such a text is due of its kernel
+abbrev pub CompileComesTo : (Kernel → List ℕ → Type 0) → Contents → List ℕ → Outcome → Type 0
+CompileComesTo IsText held program o = AtPlan held program (λ kernel. WritesDue (IsText kernel) program) o
+
 -- what is written of a verdict, with which status, and what is said of it
 abbrev pub verdict_text : Verdict → List ℕ
 verdict_text Accepted = codes "accepted\n"
@@ -233,6 +260,9 @@ JudgeComesTo held program traces o =
 -- a command over told contents comes to this; one that is not built comes to nothing
 abbrev pub ComesTo : Contents → Command → Outcome → Type 0
 ComesTo held (Run program flows settings) o = RunComesTo held program flows settings.instants o
+ComesTo held (Check program pace) o = CompileComesTo IsVerdictText held program o
+ComesTo held (Tree program pace) o = CompileComesTo IsTreeText held program o
+ComesTo held (Code program pace) o = CompileComesTo IsCodeText held program o
 ComesTo held (Print program) o = PrintComesTo held program o
 ComesTo held (Judge program traces) o = JudgeComesTo held program traces o
 ComesTo held _ o = ⊥

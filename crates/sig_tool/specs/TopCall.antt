@@ -5,14 +5,17 @@ use Rattle.sig_parse.specs.Small.{Small}
 use Rattle.sig_text.specs.Counts.{DidNotRise}
 use Rattle.sig_text.specs.Files.{Contents, name_where_there}
 use Rattle.sig_tool.specs.Commands.{IsBuilt}
-use Rattle.sig_tool.specs.Outcomes.{Outcome, ComesTo}
+use Rattle.sig_back.specs.Budgets.{MeetsBound}
+use Rattle.sig_kernel.specs.declared.kernel.Kernel.{Kernel}
+use Rattle.sig_tool.specs.Acceptance.{HasKernel}
+use Rattle.sig_tool.specs.Outcomes.{Outcome, ComesTo, Holds}
 use Rattle.sig_tool.specs.Refusals.{IsOwn, HasCount, IsAbout, Owes, begun_after, line_of, out_of_memory, status_of}
 use Rattle.sig_tool.specs.RunEnd.{end_line, end_status}
 use Rattle.sig_tool.specs.SmallRun.{IsCause, IsLength, text_of}
 use Rattle.sig_words.specs.Commands.{IsCommand}
 use Rattle.sig_words.specs.Readings.{Word}
 use Rattle.sig_words.specs.declared.command.Command.{Command}
-use Rattle.sig_words.specs.declared.command.Command.TheVariants.{Judge, Print, Run}
+use Rattle.sig_words.specs.declared.command.Command.TheVariants.{Check, Code, Judge, Print, Run, Tree}
 use Rattle.sig_tool.specs.declared.run.Cause.{Cause}
 use Rattle.sig_tool.specs.declared.refusal.Refusal.{Refusal}
 
@@ -38,15 +41,21 @@ IsDone status = IsEnded status ⊎ (status ≡ 9)
 
 -- a command that was refused: nothing was written
 abbrev pub IsRefused : ℕ → Type 0
-IsRefused status = (status ≡ 1) ⊎ ((status ≡ 2) ⊎ ((status ≡ 4) ⊎ ((status ≡ 5) ⊎ (status ≡ 7))))
+IsRefused status = (status ≡ 1) ⊎ ((status ≡ 2) ⊎ ((status ≡ 4) ⊎ ((status ≡ 5) ⊎ ((status ≡ 7) ⊎ (status ≡ 8)))))
 
 -- the statuses that are answered, and those of a command
 abbrev pub IsStatus : ℕ → Type 0
 IsStatus status = IsDone status ⊎ (IsRefused status ⊎ (status ≡ 6))
 
+abbrev pub IsCompileStatus : ℕ → Type 0
+IsCompileStatus status = (status ≡ 0) ⊎ ((status ≡ 6) ⊎ ((status ≡ 1) ⊎ ((status ≡ 5) ⊎ ((status ≡ 7) ⊎ (status ≡ 8)))))
+
 abbrev pub IsStatusOf : Command → ℕ → Type 0
 IsStatusOf (Run program flows settings) status =
     IsEnded status ⊎ ((status ≡ 6) ⊎ ((status ≡ 1) ⊎ ((status ≡ 4) ⊎ ((status ≡ 5) ⊎ (status ≡ 7)))))
+IsStatusOf (Check program pace) status = IsCompileStatus status
+IsStatusOf (Tree program pace) status = IsCompileStatus status
+IsStatusOf (Code program pace) status = IsCompileStatus status
 IsStatusOf (Print program) status =
     (status ≡ 0) ⊎ ((status ≡ 6) ⊎ ((status ≡ 1) ⊎ ((status ≡ 5) ⊎ (status ≡ 7))))
 IsStatusOf (Judge program traces) status =
@@ -54,20 +63,35 @@ IsStatusOf (Judge program traces) status =
 IsStatusOf _ status = ⊥
 
 -- the status that is answered where another is owed: that one; or 5, where a call of the files failed;
--- or 6, where a write failed of a command that was to be done; or 7
+-- or 6, where a write failed of a command that was to be done; or 7; or 8, whose cause is `CompilesBeyondBound`
 abbrev pub MayAnswer : ℕ → ℕ → Type 0 → Type 0 → Type 0
 MayAnswer owed status ReadFailed WriteFailed =
     (status ≡ owed)
-    ⊎ (((status ≡ 5) × ReadFailed) ⊎ (((status ≡ 6) × IsDone owed × WriteFailed) ⊎ (status ≡ 7)))
+    ⊎ (((status ≡ 5) × ReadFailed) ⊎ (((status ≡ 6) × IsDone owed × WriteFailed) ⊎ ((status ≡ 7) ⊎ (status ≡ 8))))
 
 -- the file that was begun last is one of the command's
 abbrev pub HasBegun : Contents → Command → Option (List ℕ) → Option (List ℕ) → Type 0
 HasBegun held (Run program flows settings) before at =
     (at ≡ name_where_there held program) ⊎ (at ≡ name_where_there held flows)
+HasBegun held (Check program pace) before at = at ≡ name_where_there held program
+HasBegun held (Tree program pace) before at = at ≡ name_where_there held program
+HasBegun held (Code program pace) before at = at ≡ name_where_there held program
 HasBegun held (Print program) before at = at ≡ name_where_there held program
 HasBegun held (Judge program traces) before at =
     (at ≡ name_where_there held program) ⊎ (at ≡ name_where_there held traces)
 HasBegun held _ before at = ⊥
+
+-- a file holds a program that no pass up to its kernel refuses, and whose kernel is not within the bound for which the
+-- nodes of a store suffice
+abbrev pub HoldsBeyondBound : Option (List ℕ) → Type 0
+HoldsBeyondBound held = Holds held 1048576 (λ bytes. (kernel : Kernel) × HasKernel bytes kernel × (MeetsBound kernel → ⊥))
+
+-- that holds of the program which a command compiles
+abbrev pub CompilesBeyondBound : Contents → Command → Type 0
+CompilesBeyondBound held (Check program pace) = HoldsBeyondBound (held program)
+CompilesBeyondBound held (Tree program pace) = HoldsBeyondBound (held program)
+CompilesBeyondBound held (Code program pace) = HoldsBeyondBound (held program)
+CompilesBeyondBound held _ = ⊥
 
 -- ---- the line on standard error
 

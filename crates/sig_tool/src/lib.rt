@@ -3,7 +3,9 @@
 //! `sig_text`.
 #![tactic(auto)]
 
+mod check;
 mod command;
+mod compile;
 mod due;
 mod flows;
 mod judge;
@@ -11,6 +13,7 @@ mod load;
 mod perform;
 mod pieces;
 mod print;
+mod product;
 mod refusal;
 mod report;
 mod run;
@@ -18,4 +21,4 @@ mod top;
 mod words;
 
 pub use run::{Cause, one_end};
-pub use top::{one_outcome, sig_main};
+pub use top::{one_outcome, one_verdict, sig_main};

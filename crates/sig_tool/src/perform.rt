@@ -7,11 +7,13 @@ ghost use Rattle.sig_text.specs.Counts.{Rose};
 ghost use Rattle.sig_text.specs.Sink.{TookPrefix};
 ghost use Rattle.sig_words.specs.Commands.{files_of};
 ghost use Rattle.sig_tool.specs.Commands.{IsBuilt};
-ghost use Rattle.sig_tool.specs.TopCall.{HasBegun, IsDone, IsDue, IsRefused, IsRefusedBy, IsStatusOf, MayAnswer, OfOutcome, SaysLine, memory_line, write_line};
+ghost use Rattle.sig_tool.specs.TopCall.{HasBegun, CompilesBeyondBound, IsDone, IsDue, IsRefused, IsRefusedBy, IsStatusOf, MayAnswer, OfOutcome, SaysLine, memory_line, write_line};
 
+use crate::check::compile_command;
 use crate::command::run_command;
 use crate::judge::judge_command;
 use crate::print::print_command;
+use crate::product::Product;
 use sig_base::Text;
 use sig_text::{Files, Sink};
 use sig_words::Command;
@@ -37,6 +39,7 @@ pub fn perform<F: Files, S: Sink, E: Sink>(
     ensures flushed { IsDone result → IsTrue (S.clean out.new) }
     ensures status { OfOutcome (F.contents files.old) command.now (λ o. MayAnswer o.status result
         (Rose (F.faults files.old) (F.faults files.new)) (Rose (S.faults out.old) (S.faults out.new))) }
+    ensures budget { result ≡ 8 → IfSome (F.contents files.old) (λ held. CompilesBeyondBound held command.now) }
     ensures refused { IsRefused result →
         IsRefusedBy command.now (F.contents files.old) (F.at files.old) (F.at files.new)
         (F.misses files.old) (F.misses files.new) (F.faults files.old) (F.faults files.new) result
@@ -54,6 +57,15 @@ pub fn perform<F: Files, S: Sink, E: Sink>(
         Command::Run(program, flows, settings) => {
             let (program, flows) = (name_of(program), name_of(flows));
             run_command(alloc, program, flows, *settings, files, out, err)
+        }
+        Command::Check(program, _) => {
+            compile_command(alloc, Product::Verdict, name_of(program), files, out, err)
+        }
+        Command::Tree(program, _) => {
+            compile_command(alloc, Product::Tree, name_of(program), files, out, err)
+        }
+        Command::Code(program, _) => {
+            compile_command(alloc, Product::Code, name_of(program), files, out, err)
         }
         Command::Judge(program, traces) => {
             let (program, traces) = (name_of(program), name_of(traces));

@@ -2,6 +2,7 @@
 
 ghost use Rattle.std.specs.Prelude.{◌≡◌, Some};
 
+use sig_back::{BackAnswer, BackFault};
 use sig_front::FrontAnswer;
 use sig_judge::TraceAnswer;
 use std::fmt;
@@ -17,6 +18,10 @@ pub enum Refusal<'a> {
     LongProgram,
     /// The text of the program file is refused.
     Front(FrontAnswer),
+    /// The kernel of the program does not meet a rule of acceptance.
+    Back(BackFault),
+    /// The diagrams of the program need more than this many nodes.
+    Budget(u32),
     /// The program is not of the small form.
     NotBuilt,
     /// The flow file or trace file of this name has too many bytes.
@@ -37,10 +42,11 @@ impl Refusal<'_> {
         ensures { result ≡ status_of self.now }
     {
         match self {
-            Refusal::LongProgram | Refusal::Front(_) | Refusal::NotBuilt => 1,
+            Refusal::LongProgram | Refusal::Front(_) | Refusal::Back(_) | Refusal::NotBuilt => 1,
             Refusal::LongFile(_) | Refusal::NoFlows(_) | Refusal::Trace(_, _) => 4,
             Refusal::Missing(_) | Refusal::ReadFault(_) => 5,
             Refusal::OutOfMemory => 7,
+            Refusal::Budget(_) => 8,
         }
     }
 }
@@ -58,6 +64,20 @@ impl From<FrontAnswer> for Refusal<'_> {
     }
 }
 
+impl From<BackAnswer> for Refusal<'_> {
+    ghost use Rattle.sig_tool.specs.Refusals.{back_refusal};
+
+    ghost from_gives = { λ answer refusal. refusal ≡ back_refusal answer };
+
+    fn from(answer: BackAnswer) -> Self {
+        match answer {
+            BackAnswer::Refused(fault) => Refusal::Back(fault),
+            BackAnswer::Budget(nodes) => Refusal::Budget(nodes),
+            BackAnswer::OutOfMemory => Refusal::OutOfMemory,
+        }
+    }
+}
+
 impl fmt::Display for Refusal<'_> {
     ghost use Rattle.sig_tool.specs.Refusals.{line_of};
 
@@ -69,6 +89,8 @@ impl fmt::Display for Refusal<'_> {
             Refusal::ReadFault(name) => write!(f, "error: {name}: read failed"),
             Refusal::LongProgram => f.write_str("error: program longer than 1048576 bytes"),
             Refusal::Front(answer) => write!(f, "{answer}"),
+            Refusal::Back(fault) => write!(f, "{fault}"),
+            Refusal::Budget(nodes) => write!(f, "error: {nodes} diagram nodes"),
             Refusal::NotBuilt => f.write_str("error: not built yet"),
             Refusal::LongFile(name) => write!(f, "error: {name}: longer than 67108864 bytes"),
             Refusal::NoFlows(name) => write!(f, "error: {name}: not a flow file"),

@@ -1,13 +1,14 @@
 //! The top call: from the words of a command line, files and sinks to a status.
 
-ghost use Rattle.std.specs.Prelude.{◌≡◌, ◌⊎◌, IfSome, IsTrue};
+ghost use Rattle.std.specs.Prelude.{◌≡◌, ◌⊎◌, ℕ, List, IfSome, IsTrue};
 ghost use Rattle.sig_text.specs.Counts.{Rose};
 ghost use Rattle.sig_text.specs.Files.{Contents};
 ghost use Rattle.sig_text.specs.Sink.{TookPrefix};
 ghost use Rattle.sig_words.specs.Readings.{texts};
 ghost use Rattle.sig_words.specs.declared.command.Command.{Command};
+ghost use Rattle.sig_tool.specs.Acceptance.{IsAcceptedProgram, IsRefusedProgram};
 ghost use Rattle.sig_tool.specs.Outcomes.{ComesTo, Outcome};
-ghost use Rattle.sig_tool.specs.TopCall.{AreNoCommand, HasBegun, IsDone, IsDue, IsRefused, IsRefusedBy, IsStatus, IsStatusOf, MayAnswer, OfCommand, OfOutcome, SaysLine, memory_line, words_line, write_line};
+ghost use Rattle.sig_tool.specs.TopCall.{AreNoCommand, HasBegun, CompilesBeyondBound, IsDone, IsDue, IsRefused, IsRefusedBy, IsStatus, IsStatusOf, MayAnswer, OfCommand, OfOutcome, SaysLine, memory_line, words_line, write_line};
 
 use crate::perform::perform;
 use crate::report::{say_no_memory, say_words};
@@ -19,20 +20,23 @@ use std::sync::Wait;
 use std::thread::Threads;
 
 /// Does what the words of a command line ask for, and answers the status with which the program ends.
-/// `words` are the command line without the program's name. So far the one command that is built is
-/// `run PROGRAM FLOWS` with its options, for a program of the small form; the number of workers and
-/// the capacity of a link are read, and have no effect yet.
+/// `words` are the command line without the program's name. So far the commands that are built are
+/// `check`, `tree` and `code` without the flag `--pace`, `print`, `judge`, and `run` without that flag
+/// for a program of the small form; the number of workers and the capacity of a link are read, and
+/// have no effect yet.
 ///
 /// | Status | Comes |
 /// |---|---|
-/// | 0 | the run ended because an input had no further value, or at the limit of instants |
-/// | 1 | the program is longer than 1,048,576 bytes or not of the small form |
+/// | 0 | done; a run ended because an input had no further value, or at the limit of instants |
+/// | 1 | the program is refused, by the passes that the command needs; for a run, it is not of the small form |
 /// | 2 | the words are no command, or one that is not built |
 /// | 3 | the run ended at a sum outside 64 bits |
-/// | 4 | the flow file is longer than 67,108,864 bytes or no flow file for the inputs |
+/// | 4 | the flow or trace file is longer than 67,108,864 bytes or none for the program |
 /// | 5 | a file is missing or was not read |
 /// | 6 | a write to `out` failed |
 /// | 7 | memory was wanting |
+/// | 8 | a program that is to be compiled needs too many nodes of diagrams |
+/// | 9 | the trace is not one of the program |
 pub fn sig_main<R: Threads + Wait + Sync, F: Files, S: Sink, E: Sink, G: Gate + Sync>(
     _rt: &R,
     alloc: Global,
@@ -62,6 +66,8 @@ pub fn sig_main<R: Threads + Wait + Sync, F: Files, S: Sink, E: Sink, G: Gate + 
     ensures status { OfCommand (texts words.now) (λ c. OfOutcome (F.contents files.old) c (λ o.
         MayAnswer o.status result (Rose (F.faults files.old) (F.faults files.new))
         (Rose (S.faults out.old) (S.faults out.new)))) }
+    ensures budget { result ≡ 8 → OfCommand (texts words.now) (λ c.
+        IfSome (F.contents files.old) (λ held. CompilesBeyondBound held c)) }
     ensures failed { result ≡ 6 → Rose (S.faults out.old) (S.faults out.new) }
 
     // A refused command says one line, with its cause, and leaves the output as it was.
@@ -96,6 +102,12 @@ pub fn sig_main<R: Threads + Wait + Sync, F: Files, S: Sink, E: Sink, G: Gate + 
         }
     }
 }
+
+/// A law: a program is accepted or refused, and not both, and a refused one has one line.
+pub fn one_verdict()
+    ensures apart { (bytes line : List ℕ) → IsAcceptedProgram bytes → IsRefusedProgram bytes line → ⊥ }
+    ensures one { (bytes line other : List ℕ) → IsRefusedProgram bytes line → IsRefusedProgram bytes other → line ≡ other }
+{}
 
 /// A law: a command over told contents comes to one outcome at most.
 pub fn one_outcome()

@@ -33,11 +33,9 @@ fn is_built(command: &Command) -> bool
 {
     match command {
         Command::Run(_, _, settings) => !settings.pace,
+        Command::Check(_, pace) | Command::Tree(_, pace) | Command::Code(_, pace) => !*pace,
         Command::Print(_) | Command::Judge(_, _) => true,
-        Command::Check(_, _)
-        | Command::Tree(_, _)
-        | Command::Code(_, _)
-        | Command::Play(_, _, _, _)
+        Command::Play(_, _, _, _)
         | Command::Load(_, _, _)
         | Command::Build(_)
         | Command::Exec(_, _, _) => false,

@@ -7,8 +7,10 @@ use std::sync::atomic::{AtomicU64, Ordering};
 use std::test::Fail;
 use std::{env, fs, process};
 
+mod check;
 mod faults;
 mod judge;
+mod plans;
 mod print;
 mod refused;
 mod run;

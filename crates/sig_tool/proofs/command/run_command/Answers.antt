@@ -2,6 +2,7 @@ use Rattle.std.proofs.Common.{inl}
 use Rattle.sig_parse.specs.Small.{small_of}
 use Rattle.sig_words.specs.declared.command.Command.TheVariants.{Run}
 use Rattle.sig_tool.proofs.RunClauses.{prefix_of_none, prefix_of_run, refused_by, status_of_refusal, status_of_run, whole_of_run}
+use Rattle.sig_tool.proofs.Statuses.{run_numbers}
 use Rattle.sig_tool.proofs.command.run_command.Goals as goal
 
 pub returns-in-Ok-clause-prefix : goal.returns-in-Ok-clause-prefix
@@ -40,3 +41,7 @@ returns-in-Err-clause-refused g c = λ refuses.
 
 pub returns-in-Err-clause-begun : goal.returns-in-Err-clause-begun
 returns-in-Err-clause-begun g c = c.in-Err.ensures.begun c.args.settings
+
+pub returns-in-Err-clause-numbers : goal.returns-in-Err-clause-numbers
+returns-in-Err-clause-numbers g c =
+    run_numbers c.args.program.now c.args.flows.now c.args.settings c.in-Err.refusal c.say_refusal.result c.status.result c.status.ensures c.say_refusal.ensures.same (c.in-Err.ensures.about c.args.settings)

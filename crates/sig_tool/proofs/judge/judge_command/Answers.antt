@@ -4,6 +4,7 @@ use Rattle.sig_tool.specs.Outcomes.{judged}
 use Rattle.sig_tool.proofs.JudgeFiles.{verdict_done}
 use Rattle.sig_tool.proofs.RunClauses.{prefix_of_none, refused_by, status_of_refusal}
 use Rattle.sig_tool.proofs.TextClauses.{prefix_of_outcome, status_of_outcome}
+use Rattle.sig_tool.proofs.Statuses.{judge_numbers}
 use Rattle.sig_tool.proofs.judge.judge_command.Goals as goal
 
 pub returns-in-Ok-clause-prefix : goal.returns-in-Ok-clause-prefix
@@ -30,3 +31,7 @@ returns-in-Err-clause-refused g c = λ refuses.
     (g.F.Files.misses c.args.files.now) (g.F.Files.misses c.verdict_of.new.files) (g.F.Files.faults c.args.files.now) (g.F.Files.faults c.verdict_of.new.files)
     c.in-Err.refusal c.say_refusal.result c.status.result _ c.status.ensures c.say_refusal.ensures.same c.say_refusal.ensures.said (inl tt)
     c.in-Err.ensures.about c.in-Err.ensures.counted c.in-Err.ensures.owed
+
+pub returns-in-Err-clause-numbers : goal.returns-in-Err-clause-numbers
+returns-in-Err-clause-numbers g c =
+    judge_numbers c.args.program.now c.args.traces.now c.in-Err.refusal c.say_refusal.result c.status.result c.status.ensures c.say_refusal.ensures.same c.in-Err.ensures.about

@@ -1,6 +1,7 @@
+use Rattle.std.specs.Prelude.{IfSome}
 use Rattle.sig_text.specs.Counts.{Rose}
 use Rattle.sig_words.specs.Readings.{texts}
-use Rattle.sig_tool.specs.TopCall.{IsRefusedBy, MayAnswer, OfOutcome, SaysLine}
+use Rattle.sig_tool.specs.TopCall.{CompilesBeyondBound, IsRefusedBy, MayAnswer, OfOutcome, SaysLine}
 use Rattle.sig_tool.proofs.CommandWords.{of_one, refused_unread}
 use Rattle.sig_tool.proofs.top.sig_main.Goals as goal
 
@@ -24,3 +25,9 @@ returns-in-Ok-clause-refused g c = λ refuses.
 pub returns-in-Err-OutOfMemory-clause-refused : goal.returns-in-Err-OutOfMemory-clause-refused
 returns-in-Err-OutOfMemory-clause-refused g c = λ refuses d is built.
     refused_unread _ d _ _ _ _ _ _ _ built c.say_no_memory.ensures
+
+pub returns-in-Ok-clause-budget : goal.returns-in-Ok-clause-budget
+returns-in-Ok-clause-budget g c = λ eight.
+    of_one (texts c.args.words.now) c.in-Ok.command
+    (λ command. IfSome (g.F.Files.contents c.args.files.now) (λ held. CompilesBeyondBound held command))
+    c.in-Ok.ensures.only (c.perform.ensures.budget eight)

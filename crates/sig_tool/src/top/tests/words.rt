@@ -47,7 +47,7 @@ fn refuses_words(rt: HostRuntime) -> Result<(), Fail> {
         &["run", "P", "F", "--instants", "0"],
         &["run", "P", "F", "--instants"],
         &["check", "P", "--pace=1"],
-        &["check", "P"],
+        &["check", "P", "--pace"],
         &["load", "1", "3"],
         &["exec", "P", "F"],
         &["run", "P", "F", "--pace"],
