@@ -3,7 +3,8 @@
 
 Runs `SIGC check` on the watchdog, on generated programs of 1 to 12 stages of sampling and merging, on chains of
 samplings, and on a program of 512 signals in 64 clusters. Prints of each what was answered, the least processor time of
-three runs, its ratio to that of `SIGC print` of the same program in the same run, and the peak memory.
+three runs, its ratio to that of `SIGC print` of the same program in the same run, and the peak memory, which is at least that of
+this script where it starts them.
 """
 import os
 import subprocess
