@@ -10,6 +10,7 @@ use Rattle.sig_plan.specs.Order.{ComesBefore, HasNoCycle, IsCycle, IsOnCycle, Is
 use Rattle.sig_plan.specs.declared.op.Op.{Op}
 use Rattle.sig_plan.specs.declared.op.OpKind.{OpKind}
 use Rattle.sig_plan.specs.declared.op.OpKind.TheVariants.{DelayRead, Store}
+use Rattle.sig_plan.proofs.Orders.{none_before_itself}
 use Rattle.sig_graph.specs.Graphs.{Edge, IsAcyclic, IsGraph, IsWithin}
 use Rattle.sig_graph.specs.Marks.{IsLeastOnCycle, WritesOnCycle}
 use Rattle.sig_graph.proofs.Lists.{contains_none, get_map, get_some, get_within, map_get}
@@ -111,6 +112,14 @@ module _ (conditions : List SigId) (operations : List Operation) where
 
   abbrev Before : ℕ → ℕ → Type 0
   Before = Precedes conditions operations
+
+  starts_within : (i k : ℕ) → Reaches Before i k → i < length operations
+  starts_within _ _ (directly i k step) = get_within operations i step.p step.is
+  starts_within _ _ (onward i j k step rest) = get_within operations i step.p step.is
+
+  -- operations with a compiled order have no cycle
+  pub ordered_no_cycle : (order : List ℕ) → IsOrdered Before (length operations) order → HasNoCycle conditions operations
+  ordered_no_cycle order ordered i cycle = none_before_itself Before (length operations) order ordered i (starts_within i i cycle) cycle
 
   written_by : (i : ℕ) (p : Operation) (x : SigId) → slice_get operations i ≡ Some p → p.writes ≡ Some x → Reaches Before i i → Written
   written_by i p x is writes cycle = (x.0, record { number = i; p = p; writes = x; is = is; target = writes; named = refl; cycle = cycle })
