@@ -1,18 +1,18 @@
 -- How often numbers stand in lists, and how many of them are left.
-use Rattle.std.proofs.Common.{◌≡◌, ◌≢◌, ◌<◌, ◌≤◌, ◌+◌, ◌⊎◌, inl, inr, ◌↔◌, ℕ, Bool, true, false, List, [], ◌∷◌, ◌++◌, length, map, get_or, set, replicate, refl, sym, ap, ◌∙◌, subst, arith, Contains, eqb, eq-eqb, cond, IsTrue, Ordering}
+use Rattle.std.proofs.Common.{◌≡◌, ◌≢◌, ◌<◌, ◌≤◌, ◌+◌, ◌⊎◌, inl, inr, ◌↔◌, ℕ, Bool, true, false, List, [], ◌∷◌, ◌++◌, length, map, get_or, set, replicate, refl, sym, ap, ◌∙◌, subst, arith, Contains, eqb, eq-eqb, cond, Ordering}
 use Rattle.std.specs.Prelude.{zero, suc, not, take}
 use Rattle.std.specs.BTreeSet.{BTreeSet, contains}
 use Rattle.std.specs.Cmp.{nat_cmp_is}
 use Rattle.std.specs.Ordering.{nat_cmp, is_eq}
 use Rattle.std.specs.declared.cmp.Ordering.TheVariants.{Less, Equal, Greater}
 use Rattle.std.proofs.lemmas.Bool.{cases_order, eqb-true, ne_eqb, false≢true}
-use Rattle.std.proofs.lemmas.List.{get_or-map, get_or-set_other, get_or-set_same, get_or_append_left, get_or_past, get_or_push, get_or-take, length-map, length-set, length_push, take_all, take_more}
-use Rattle.std.proofs.lemmas.List.Elements.{Contains-append_cases, Contains-append_left, Contains-append_right, Contains-get_or, Contains-push_cases}
+use Rattle.std.proofs.lemmas.List.{get_or-map, get_or-set_other, get_or-set_same, get_or_past, get_or-take, length-map, length-set, take_more}
+use Rattle.std.proofs.lemmas.List.Elements.{Contains-append_cases, Contains-append_left, Contains-append_right}
 use Rattle.std.proofs.lemmas.List.Sums.{sum_by-append, sum_by-cons}
 use Rattle.std.proofs.lemmas.Map.Lookups.{exact_unsigned}
 use Rattle.sig_clock.specs.ClockRefusals.{IsLeast}
 use Rattle.sig_graph.specs.Counts.{Adds, AreSuccessors, Has, Releases, Takes, left_in, occurs}
-use Rattle.sig_graph.specs.Graphs.{Edge, IsOpen, IsTaken, mark_at}
+use Rattle.sig_graph.specs.Graphs.{Edge, IsOpen, mark_at}
 use Rattle.sig_graph.proofs.Lists.{contains_none}
 use Rattle.sig_graph.proofs.Takings.{marked_more, no_mark, taking_begins, taking_goes_on}
 
@@ -381,11 +381,14 @@ module _ (graph successors : List (List ℕ)) (are : AreSuccessors (length graph
       ready_next : (q : ℕ) → IsOpen graph (set is.marks n true) q → Has next q
       ready_next q is_open = (releases.exact q).1 (elim (occurs_or_not n (get_or graph q [])) [
         | inl edge ↦ inr (edge_successor q edge, counted_more q ∙ all_left_none (set is.marks n true) (get_or graph q []) (λ p before. is_open.free p before))
-        | inr no_edge ↦ inl ((others q).1 ((is.exact q).1 (record {
+        | inr no_edge ↦ inl ((others q).1 (
+          (is.exact q).1 (record {
             within = is_open.within;
             left = sym (unmarked_as q apart) ∙ is_open.left;
             free = λ p before. elim ((marked_more is.marks n p below).0 (is_open.free p before)) [ inl marked ↦ marked | inr e ↦ absurd (let some = contains_occurs n (get_or graph q []) (subst (Contains (get_or graph q [])) e before) in omega (arith, some, no_edge)) ];
-          }), apart))
+          }),
+          apart,
+        ))
       ]) where
         apart : q ≢ n
         apart e = false≢true (sym is_open.left ∙ ap (mark_at (set is.marks n true)) e ∙ get_or-set_same is.marks n true false below)

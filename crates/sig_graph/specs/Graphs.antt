@@ -1,5 +1,5 @@
 -- Graphs on the numbers below a count: to each number the list of those that precede it.
-use Rattle.std.specs.Prelude.{◌≡◌, ◌<◌, ◌↔◌, ℕ, Bool, true, false, List, [], ◌∷◌, ◌++◌, length, slice_get, slice_index_or, slice_index, take, count_by, Option, None, Some, Contains}
+use Rattle.std.specs.Prelude.{◌≡◌, ◌<◌, ◌↔◌, ℕ, Bool, true, false, List, [], ◌∷◌, ◌++◌, length, slice_get, slice_index_or, slice_index, take, count_by, Some, Contains}
 use Rattle.sig_base.specs.declared.ids.SigId.{SigId}
 use Rattle.sig_clock.specs.ClockRefusals.{IsLeast}
 use Rattle.sig_dd.specs.declared.node.Node.{Node}

@@ -62,7 +62,7 @@ fn order_of(
     if order.len() == ops.len() {
         return Ok(order);
     }
-    // What is left waits for ever, since something precedes itself.
+    // Some operations wait for ever, as they do only behind one that precedes itself.
     match least_on_cycle(alloc, graph.as_slice(), ops)? {
         Some(x) => Err(GraphAnswer::Cycle(x)),
         None => Ok(order),

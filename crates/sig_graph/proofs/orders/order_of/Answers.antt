@@ -1,8 +1,8 @@
-use Rattle.std.proofs.Common.{◌≡◌, ◌∙◌, sym, ap, subst, length, arith, rules, ℕ}
+use Rattle.std.proofs.Common.{◌≡◌, ◌∙◌, sym, subst, length, arith, rules, ℕ, List}
 use Rattle.std.specs.Prelude.{vec_len}
 use Rattle.std.proofs.lemmas.List.{length-map}
 use Rattle.sig_base.specs.declared.ids.OpId.{OpId}
-use Rattle.sig_graph.specs.Graphs.{IsAcyclic, IsGraph, IsTakenOut}
+use Rattle.sig_graph.specs.Graphs.{IsGraph, IsTakenOut}
 use Rattle.sig_graph.specs.Marks.{IsLeastOnCycle}
 use Rattle.sig_plan.specs.Operations.{operations_in}
 use Rattle.sig_plan.specs.Plans.{numbers_of}
@@ -36,10 +36,24 @@ least_on_cycle-requires-clause-within c =
     graph_within c.args.clocks.now.conditions c.args.store.now.nodes c.args.ops.now c.as_slice-2.result.now is
 
 pub returns-in-Some-clause-cycle : goal.returns-in-Some-clause-cycle
-returns-in-Some-clause-cycle c = ?
+returns-in-Some-clause-cycle c =
+    let is = subst (IsGraph c.args.clocks.now.conditions c.args.store.now.nodes c.args.ops.now) (sym c.as_slice-2.ensures.value) c.in_ok-graph.ensures in
+    cycle_is c.args.clocks.now.conditions c.args.store.now.nodes c.args.ops.now c.as_slice-2.result.now is c.in-Some.x
+    (subst (IsLeastOnCycle c.as_slice-2.result.now c.args.ops.now (length c.args.ops.now)) c.in-Some.is c.in_ok-x.ensures)
 
 pub returns-clause-order : goal.returns-clause-order
-returns-clause-order c = ?
+returns-clause-order c =
+    let is = subst (IsGraph c.args.clocks.now.conditions c.args.store.now.nodes c.args.ops.now) (sym c.as_slice-2.ensures.value) c.in_ok-graph.ensures in
+    let order = numbers_of c.in_ok-order.order.items in
+    let out : IsTakenOut c.as_slice-2.result.now (numbers_of c.in_ok-order.order.items) =
+    subst (λ (graph : List (List ℕ)). IsTakenOut graph (numbers_of c.in_ok-order.order.items)) (c.as_slice.ensures.value ∙ sym c.as_slice-2.ensures.value) c.in_ok-order.ensures in
+    let free = acyclic c.args.clocks.now.conditions c.args.store.now.nodes c.args.ops.now c.as_slice-2.result.now is
+    (subst (IsLeastOnCycle c.as_slice-2.result.now c.args.ops.now (length c.args.ops.now)) c.in-None.is c.in_ok-x.ensures) in
+    order_is c.args.clocks.now.conditions c.args.store.now.nodes c.args.ops.now c.as_slice-2.result.now is order
+    (taking_ends c.as_slice-2.result.now out.marks order (graph_within c.args.clocks.now.conditions c.args.store.now.nodes c.args.ops.now c.as_slice-2.result.now is) free out.taken out.none)
 
 pub returns-clause-no_cycle : goal.returns-clause-no_cycle
-returns-clause-no_cycle c = ?
+returns-clause-no_cycle c =
+    let is = subst (IsGraph c.args.clocks.now.conditions c.args.store.now.nodes c.args.ops.now) (sym c.as_slice-2.ensures.value) c.in_ok-graph.ensures in
+    no_cycle c.args.clocks.now.conditions c.args.store.now.nodes c.args.ops.now c.as_slice-2.result.now is
+    (subst (IsLeastOnCycle c.as_slice-2.result.now c.args.ops.now (length c.args.ops.now)) c.in-None.is c.in_ok-x.ensures)
