@@ -1,8 +1,7 @@
 -- What a graph of operations says of them.
-use Rattle.std.proofs.Common.{◌≡◌, ◌<◌, ◌≤◌, inl, inr, ℕ, List, [], length, get_or, refl, sym, ap, ◌∙◌, subst, arith, Contains}
+use Rattle.std.proofs.Common.{◌≡◌, ◌<◌, inl, inr, ℕ, List, length, get_or, refl, sym, ap, ◌∙◌, subst, arith}
 use Rattle.std.specs.Prelude.{None, Some, slice_get, take}
-use Rattle.std.proofs.lemmas.Bool.{cases_order}
-use Rattle.std.proofs.lemmas.List.{get_or_past, length-map}
+use Rattle.std.proofs.lemmas.List.{length-map}
 use Rattle.sig_base.specs.declared.ids.SigId.{SigId}
 use Rattle.sig_dd.specs.declared.node.Node.{Node}
 use Rattle.sig_plan.specs.Operations.{Operation, operation_in, operations_in}
@@ -10,9 +9,11 @@ use Rattle.sig_plan.specs.Order.{ComesBefore, HasNoCycle, IsCycle, IsOnCycle, Is
 use Rattle.sig_plan.specs.declared.op.Op.{Op}
 use Rattle.sig_plan.specs.declared.op.OpKind.{OpKind}
 use Rattle.sig_plan.specs.declared.op.OpKind.TheVariants.{DelayRead, Store}
+use Rattle.sig_plan.proofs.Orders.{none_before_itself}
 use Rattle.sig_graph.specs.Graphs.{Edge, IsAcyclic, IsGraph, IsWithin}
 use Rattle.sig_graph.specs.Marks.{IsLeastOnCycle, WritesOnCycle}
-use Rattle.sig_graph.proofs.Lists.{contains_none, get_map, get_some, get_within, map_get}
+use Rattle.sig_graph.proofs.Counting.{edge_within}
+use Rattle.sig_graph.proofs.Lists.{get_map, get_some, get_within, map_get}
 
 -- a relation that holds where another one does
 pub reaches_as : (R S : ℕ → ℕ → Type 0) → ((p q : ℕ) → R p q → S p q) → (i j : ℕ) → Reaches R i j → Reaches S i j
@@ -39,19 +40,10 @@ module _ (R S : ℕ → ℕ → Type 0) (gives : (p q : ℕ) → R p q → S p q
   }
 
 module _ (conditions : List SigId) (nodes : List Node) (ops : List Op) (graph : List (List ℕ)) (is : IsGraph conditions nodes ops graph) where
-  edge_within : (p q : ℕ) → Edge graph p q → q < length graph
-  edge_within p q edge = elim (cases_order q (length graph)) [
-    | inl e ↦ absurd (past (omega (arith, e)))
-    | inr (inl less) ↦ less
-    | inr (inr more) ↦ absurd (past (omega (arith, more)))
-  ] where
-    past : length graph ≤ q → ⊥
-    past le = contains_none p (subst (λ (xs : List ℕ). Contains xs p) (get_or_past graph q [] le) edge)
-
   pub graph_within : IsWithin graph
   graph_within p q edge =
       let count = is.count in
-      let lt = edge_within p q edge in
+      let lt = edge_within graph p q edge in
       let at_q = get_some ops q (omega (arith, lt, count)) in
       let below = (is.each q at_q.0 at_q.1).within p edge in
       omega (arith, below, count)
@@ -59,7 +51,7 @@ module _ (conditions : List SigId) (nodes : List Node) (ops : List Op) (graph : 
   pub edge_precedes : (p q : ℕ) → Edge graph p q → Precedes conditions (operations_in nodes ops) p q
   edge_precedes p q edge =
       let count = is.count in
-      let lt = edge_within p q edge in
+      let lt = edge_within graph p q edge in
       let at_q = get_some ops q (omega (arith, lt, count)) in
       let before = is.each q at_q.0 at_q.1 in
       let at_p = get_some ops p (before.within p edge) in
@@ -111,6 +103,14 @@ module _ (conditions : List SigId) (operations : List Operation) where
 
   abbrev Before : ℕ → ℕ → Type 0
   Before = Precedes conditions operations
+
+  starts_within : (i k : ℕ) → Reaches Before i k → i < length operations
+  starts_within _ _ (directly i k step) = get_within operations i step.p step.is
+  starts_within _ _ (onward i j k step rest) = get_within operations i step.p step.is
+
+  -- operations with a compiled order have no cycle
+  pub ordered_no_cycle : (order : List ℕ) → IsOrdered Before (length operations) order → HasNoCycle conditions operations
+  ordered_no_cycle order ordered i cycle = none_before_itself Before (length operations) order ordered i (starts_within i i cycle) cycle
 
   written_by : (i : ℕ) (p : Operation) (x : SigId) → slice_get operations i ≡ Some p → p.writes ≡ Some x → Reaches Before i i → Written
   written_by i p x is writes cycle = (x.0, record { number = i; p = p; writes = x; is = is; target = writes; named = refl; cycle = cycle })

@@ -8,7 +8,7 @@ use Rattle.std.proofs.lemmas.List.Elements.{All-contains, Contains-append_left, 
 use Rattle.std.proofs.lemmas.List.Sums.{AllPass-from_list_all, sum_by-set, count_by-le-length}
 use Rattle.sig_clock.specs.ClockRefusals.{IsLeast}
 use Rattle.sig_plan.specs.Order.{IsOrdered, IsReady, Reaches, directly, onward}
-use Rattle.sig_graph.specs.Graphs.{Edge, IsAcyclic, IsOpen, IsTaken, IsWithin, mark_at, marked_count}
+use Rattle.sig_graph.specs.Graphs.{Edge, IsAcyclic, IsOpen, IsTaken, IsTakenOut, IsWithin, mark_at, marked_count}
 use Rattle.sig_graph.proofs.Lists.{contains_none, failing}
 use Rattle.sig_plan.proofs.Pigeons.{two_are_same}
 
@@ -187,6 +187,10 @@ taking_ends graph marks order below acyclic is none =
     let full : length order ≡ length graph = omega (arith, all, count, taken) in
     record { all = full; each = λ k lt. is.each k (omega (arith, lt, full)) }
 
+-- numbers that were all taken
+pub taken_ordered : (graph : List (List ℕ)) (order : List ℕ) → IsTakenOut graph order → length order ≡ length graph → IsOrdered (Edge graph) (length graph) order
+taken_ordered graph order is full = record { all = full; each = λ k lt. is.taken.each k (omega (arith, lt, full)) }
+
 -- the predecessors of a number that were read
 pub edges_read : (graph : List (List ℕ)) (number : ℕ) (numbers : List ℕ) → number < length graph → numbers ≡ get_or graph number numbers → numbers ≡ get_or graph number []
 edges_read graph number numbers lt is = get_or_read graph number numbers lt is []
@@ -195,12 +199,3 @@ pub edges_below : (graph : List (List ℕ)) (number : ℕ) (numbers list : List 
     → All (λ (n : ℕ). n < length graph) list
 edges_below graph number numbers list below lt is same k d less =
     below (get_or list k d) number (subst (λ (xs : List ℕ). Contains xs (get_or list k d)) (same ∙ edges_read graph number numbers lt is) (Contains-get_or list k d less))
-
-pub not_open_taken : (graph : List (List ℕ)) (marks : List Bool) (number : ℕ) → mark_at marks number ≡ true → IsOpen graph marks number → ⊥
-not_open_taken graph marks number is is_open = false≢true (sym is_open.left ∙ is)
-
-pub not_open_bound : (graph : List (List ℕ)) (marks : List Bool) (number : ℕ) (numbers list : List ℕ) → number < length graph → numbers ≡ get_or graph number numbers → list ≡ numbers
-    → list_all (mark_at marks) list ≡ false → IsOpen graph marks number → ⊥
-not_open_bound graph marks number numbers list lt is same missing is_open =
-    let from = failing (mark_at marks) list missing in
-    false≢true (sym from.2 ∙ is_open.free from.0 (subst (λ (xs : List ℕ). Contains xs from.0) (same ∙ edges_read graph number numbers lt is) from.1))

@@ -1,5 +1,5 @@
 -- Graphs on the numbers below a count: to each number the list of those that precede it.
-use Rattle.std.specs.Prelude.{◌≡◌, ◌<◌, ◌↔◌, ℕ, Bool, true, false, List, [], ◌∷◌, ◌++◌, length, slice_get, slice_index_or, slice_index, take, count_by, Option, None, Some, Contains}
+use Rattle.std.specs.Prelude.{◌≡◌, ◌<◌, ◌↔◌, ℕ, Bool, true, false, List, [], ◌∷◌, ◌++◌, length, slice_get, slice_index_or, slice_index, take, count_by, Some, Contains}
 use Rattle.sig_base.specs.declared.ids.SigId.{SigId}
 use Rattle.sig_clock.specs.ClockRefusals.{IsLeast}
 use Rattle.sig_dd.specs.declared.node.Node.{Node}
@@ -28,11 +28,6 @@ pub record IsOpen (graph : List (List ℕ)) (marks : List Bool) (q : ℕ) : Type
   pub left : mark_at marks q ≡ false
   pub free : (p : ℕ) → Edge graph p q → mark_at marks p ≡ true
 
--- the number is the least that is open, or none is
-abbrev pub IsFirstOpen : List (List ℕ) → List Bool → Option ℕ → Type 0
-IsFirstOpen graph marks None = (q : ℕ) → IsOpen graph marks q → ⊥
-IsFirstOpen graph marks (Some q) = IsLeast (IsOpen graph marks) q
-
 -- how many are marked
 abbrev pub marked_count : List Bool → ℕ
 marked_count marks = count_by (λ mark. mark) marks
@@ -43,6 +38,12 @@ pub record IsTaken (graph : List (List ℕ)) (marks : List Bool) (order : List �
   pub taken : marked_count marks ≡ length order
   pub marked : (k : ℕ) → (mark_at marks k ≡ true) ↔ Contains order k
   pub each : (k : ℕ) → k < length order → IsLeast (IsReady (Edge graph) (length graph) (take k order)) (slice_index order k)
+
+-- numbers were taken, until none was open
+pub record IsTakenOut (graph : List (List ℕ)) (order : List ℕ) : Type 0 where
+  pub marks : List Bool
+  pub taken : IsTaken graph marks order
+  pub none : (q : ℕ) → IsOpen graph marks q → ⊥
 
 -- a number is added, where it is chosen
 abbrev pub added : List ℕ → ℕ → Bool → List ℕ

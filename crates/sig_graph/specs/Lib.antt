@@ -1,4 +1,5 @@
 pub mod Answers
+pub mod Counts
 pub mod Graphs
 pub mod Marks
 pub mod Memories

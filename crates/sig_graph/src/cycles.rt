@@ -4,8 +4,8 @@ ghost use Rattle.std.specs.Prelude.{◌≡◌, ◌<◌, ◌∷◌, [], IfOk, OnO
 ghost use Rattle.sig_graph.specs.Graphs.{IsWithin};
 ghost use Rattle.sig_graph.specs.Marks.{AreReaching, IsLeastOnCycle, Visits, lesser};
 
-use crate::graph::Predecessors;
 use crate::marks::unmarked;
+use crate::numbers::Numbers;
 use sig_base::SigId;
 use sig_plan::Op;
 use std::alloc::{AllocError, Global};
@@ -13,7 +13,7 @@ use std::alloc::{AllocError, Global};
 /// The least signal that an operation writes which precedes itself, directly or through others.
 pub(crate) fn least_on_cycle(
     alloc: Global,
-    graph: &[Predecessors],
+    graph: &[Numbers],
     ops: &[Op],
 ) -> Result<Option<SigId>, AllocError>
     requires within { IsWithin graph.now }
@@ -42,7 +42,7 @@ fn lesser(x: Option<SigId>, y: Option<SigId>) -> Option<SigId>
 }
 
 /// Which numbers precede a number, directly or through others.
-fn reaching(alloc: Global, graph: &[Predecessors], target: usize) -> Result<Vec<bool>, AllocError>
+fn reaching(alloc: Global, graph: &[Numbers], target: usize) -> Result<Vec<bool>, AllocError>
     requires within { IsWithin graph.now }
     requires target { target < length graph.now }
     ensures { IfOk result (λ marks. AreReaching graph.now target marks.items) }

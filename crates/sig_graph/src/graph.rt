@@ -9,35 +9,12 @@ ghost use Rattle.sig_graph.specs.Memories.{is_equation, keeps_memory};
 ghost use Rattle.sig_plan.specs.Operations.{operation_in};
 ghost use Rattle.sig_plan.specs.Order.{ComesBefore, Needs};
 
+use crate::numbers::Numbers;
 use sig_base::{EqId, SigId};
 use sig_clock::Clocks;
 use sig_dd::{DdAnswer, Store};
 use sig_plan::{Op, OpKind};
 use std::alloc::{AllocError, Global};
-use std::marker::Model;
-
-/// The numbers that precede a number. Contracts see the list.
-#[derive(Drop)]
-pub(crate) struct Predecessors {
-    list: Vec<usize>,
-}
-
-impl Model for Predecessors {
-    ghost use Rattle.std.specs.Prelude.{List, ℕ};
-
-    ghost Value = { List ℕ };
-
-    ghost view = { λ predecessors. predecessors.list.items };
-}
-
-impl Predecessors {
-    /// The numbers.
-    pub(crate) fn as_slice(&self) -> &[usize]
-        ensures { result.now ≡ self.now }
-    {
-        self.list.as_slice()
-    }
-}
 
 /// To each operation the numbers of those that precede it.
 pub(crate) fn graph_of(
@@ -45,7 +22,7 @@ pub(crate) fn graph_of(
     ops: &[Op],
     clocks: &Clocks,
     store: &Store,
-) -> Result<Vec<Predecessors>, DdAnswer>
+) -> Result<Vec<Numbers>, DdAnswer>
     requires { All (λ op. Holds store.now.nodes op.guard) ops.now }
     ensures { IfOk result (λ graph. IsGraph clocks.now.conditions store.now.nodes ops.now graph.items) }
 {
@@ -63,13 +40,13 @@ fn predecessors_of(
     q: &Op,
     clocks: &Clocks,
     store: &Store,
-) -> Result<Predecessors, DdAnswer>
+) -> Result<Numbers, DdAnswer>
     requires ops { All (λ op. Holds store.now.nodes op.guard) ops.now }
     requires q { Holds store.now.nodes q.now.guard }
     ensures { IfOk result (IsBefore clocks.now.conditions store.now.nodes ops.now q.now) }
 {
     let needs = needed_by(alloc, q, clocks, store)?;
-    let mut list = Vec::new(alloc);
+    let mut list = Numbers::new(alloc);
     for (number, p) in ops.iter().enumerate() {
         add(
             &mut list,
@@ -77,12 +54,12 @@ fn predecessors_of(
             comes_before(p, q, needs.as_slice(), store)?,
         )?;
     }
-    Ok(Predecessors { list })
+    Ok(list)
 }
 
 /// Adds a number, where it is chosen.
-fn add(list: &mut Vec<usize>, number: usize, chosen: bool) -> Result<(), AllocError>
-    ensures { OnOk result (list.new.items ≡ added list.old.items number chosen) }
+fn add(list: &mut Numbers, number: usize, chosen: bool) -> Result<(), AllocError>
+    ensures { OnOk result (list.new ≡ added list.old number chosen) }
 {
     if chosen {
         list.push(number)?;

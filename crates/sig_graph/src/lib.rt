@@ -3,10 +3,13 @@
 #![tactic(auto)]
 
 mod answer;
+mod counts;
 mod cycles;
 mod graph;
 mod marks;
+mod numbers;
 mod orders;
+mod successors;
 mod taking;
 
 pub use answer::GraphAnswer;

@@ -58,10 +58,15 @@ fn order_of(
         return Err(GraphAnswer::OutOfMemory);
     }
     let graph = graph_of(alloc, ops, clocks, store)?;
-    if let Some(x) = least_on_cycle(alloc, graph.as_slice(), ops)? {
-        return Err(GraphAnswer::Cycle(x));
+    let order = take_all(alloc, graph.as_slice())?;
+    if order.len() == ops.len() {
+        return Ok(order);
     }
-    Ok(take_all(alloc, graph.as_slice())?)
+    // Some operations wait for ever, as they do only behind one that precedes itself.
+    match least_on_cycle(alloc, graph.as_slice(), ops)? {
+        Some(x) => Err(GraphAnswer::Cycle(x)),
+        None => Ok(order),
+    }
 }
 
 #[cfg(test)]

@@ -1,0 +1,6 @@
+use Rattle.std.proofs.Common.{take}
+use Rattle.sig_graph.specs.Counts.{Releases}
+use Rattle.sig_graph.proofs.counts.release.Given as goal
+
+abbrev pub invariant-loop-number : goal.invariant-loop-number
+invariant-loop-number l = Releases (take l.number-index l.numbers) l.initial.counts l.counts l.initial.ready l.ready

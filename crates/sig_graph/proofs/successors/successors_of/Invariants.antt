@@ -1,0 +1,6 @@
+use Rattle.std.proofs.Common.{take, length}
+use Rattle.sig_graph.specs.Counts.{AreSuccessors}
+use Rattle.sig_graph.proofs.successors.successors_of.Given as goal
+
+abbrev pub invariant-loop-number : goal.invariant-loop-number
+invariant-loop-number l = AreSuccessors (length l.graph) (take l.number l.graph) l.successors.items
