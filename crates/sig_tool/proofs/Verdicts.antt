@@ -1,4 +1,4 @@
--- A program is accepted or refused, and not both, and a refused one has one line.
+-- No program is both accepted and refused, and a refused one has one line.
 use Rattle.std.proofs.Common.{◌≡◌, ◌∙◌, ℕ, List, inl, inr, sym, ap, subst, arith}
 use Rattle.sig_back.specs.Faults.{IsFaultOf, told_as}
 use Rattle.sig_back.specs.Shown.{fault_line}

@@ -257,7 +257,7 @@ abbrev pub JudgeComesTo : Contents → (program traces : List ℕ) → Outcome �
 JudgeComesTo held program traces o =
     AtFlat held program (λ flat. AtTrace held traces flat.signals (λ trace. JudgesTo flat trace traces)) o
 
--- a command over told contents comes to this; one that is not built comes to nothing
+-- a command over told contents comes to this; the flag is not looked at, and a command without an equation comes to nothing
 abbrev pub ComesTo : Contents → Command → Outcome → Type 0
 ComesTo held (Run program flows settings) o = RunComesTo held program flows settings.instants o
 ComesTo held (Check program pace) o = CompileComesTo IsVerdictText held program o

@@ -35,7 +35,7 @@ use std::thread::Threads;
 /// | 5 | a file is missing or was not read |
 /// | 6 | a write to `out` failed |
 /// | 7 | memory was wanting |
-/// | 8 | a program that is to be compiled needs too many nodes of diagrams |
+/// | 8 | the nodes of diagrams do not suffice for a program that is to be compiled and is not within the bound |
 /// | 9 | the trace is not one of the program |
 pub fn sig_main<R: Threads + Wait + Sync, F: Files, S: Sink, E: Sink, G: Gate + Sync>(
     _rt: &R,
@@ -62,7 +62,8 @@ pub fn sig_main<R: Threads + Wait + Sync, F: Files, S: Sink, E: Sink, G: Gate + 
         S.took out.old text out.new × SaysLine E.took (E.faults err.old) (E.faults err.new) err.old err.new line))) }
     ensures flushed { IsDone result → IsTrue (S.clean out.new) }
 
-    // The status is the one that the told contents call for, if no call failed and memory was found.
+    // The status is the one that the told contents call for, if no call failed, memory was found, and the nodes of
+    // diagrams sufficed.
     ensures status { OfCommand (texts words.now) (λ c. OfOutcome (F.contents files.old) c (λ o.
         MayAnswer o.status result (Rose (F.faults files.old) (F.faults files.new))
         (Rose (S.faults out.old) (S.faults out.new)))) }
@@ -103,7 +104,7 @@ pub fn sig_main<R: Threads + Wait + Sync, F: Files, S: Sink, E: Sink, G: Gate + 
     }
 }
 
-/// A law: a program is accepted or refused, and not both, and a refused one has one line.
+/// A law: no program is both accepted and refused, and a refused one has one line.
 pub fn one_verdict()
     ensures apart { (bytes line : List ℕ) → IsAcceptedProgram bytes → IsRefusedProgram bytes line → ⊥ }
     ensures one { (bytes line other : List ℕ) → IsRefusedProgram bytes line → IsRefusedProgram bytes other → line ≡ other }
