@@ -1,5 +1,5 @@
 -- The functions of values, which expressions and kernels have in common. Truths are 0 and 1.
-use Rattle.std.specs.Prelude.{◌≡◌, ◌≢◌, ◌⊎◌, ℤ, pos, negsuc, zero, suc, ◌+ℤ◌, ◌-ℤ◌, ◌*ℤ◌, neg_ℤ, ◌<ℤ◌, ◌≤ℤ◌, int_div, List, [], ◌∷◌, ⊤}
+use Rattle.std.specs.Prelude.{◌≡◌, ◌≢◌, ◌⊎◌, ℕ, ℤ, pos, negsuc, zero, suc, ◌+ℤ◌, ◌-ℤ◌, ◌*ℤ◌, neg_ℤ, ◌<ℤ◌, ◌≤ℤ◌, int_div, List, [], ◌∷◌, ⊤}
 use Rattle.sig_base.specs.Traces.{Range, Bounded, Unbounded}
 
 pub data Function : Type 0 where
@@ -60,3 +60,10 @@ Gives range Product (a ∷ b ∷ []) v = v ≡ a *ℤ b
 Gives range Quotient (a ∷ b ∷ []) v = MayDivide range b × (v ≡ quotient a b)
 Gives range Remainder (a ∷ b ∷ []) v = MayDivide range b × (v ≡ remainder a b)
 Gives range function operands v = ⊥
+
+-- how many operands a function has
+abbrev pub operand_count : Function → ℕ
+operand_count Identity = 1
+operand_count Negative = 1
+operand_count Not = 1
+operand_count function = 2

@@ -1,6 +1,6 @@
 -- Traces: what the signals of a program are, instant by instant. A signal is absent, or present with a
 -- value (SIGNAL V4 reference manual). Truths are 0 and 1, and an event has the value 1 alone.
-use Rattle.std.specs.Prelude.{◌≡◌, ◌⊎◌, ◌≤◌, ◌<◌, ◌++◌, ℕ, ℤ, pos, Bool, true, false, not, List, [], ◌∷◌, length, filter, flat_map, slice_index_or, Option, None, Some, option_to_list, ⊤, FitsSigned}
+use Rattle.std.specs.Prelude.{◌≡◌, ◌⊎◌, ◌≤◌, ◌<◌, ◌++◌, ◌^◌, ℕ, ℤ, pos, negsuc, nat_lt, Bool, true, false, not, List, [], ◌∷◌, length, filter, flat_map, slice_index_or, Option, None, Some, option_to_list, ⊤, FitsSigned}
 use Rattle.std.specs.Int.{w64}
 use Rattle.std.specs.List.{AllByRecursion}
 use Rattle.sig_base.specs.declared.ids.Kind.{Kind}
@@ -26,6 +26,11 @@ pub data Range : Type 0 where
 abbrev pub IsInteger : Range → ℤ → Type 0
 IsInteger Bounded v = FitsSigned w64 v
 IsInteger Unbounded v = ⊤
+
+-- whether a number has 64 bits: it is from -2^63 up to 2^63 - 1
+abbrev pub has_64_bits : ℤ → Bool
+has_64_bits (pos n) = nat_lt n (2 ^ 63)
+has_64_bits (negsuc n) = nat_lt n (2 ^ 63)
 
 -- the values of a kind
 abbrev pub IsValue : Range → Kind → ℤ → Type 0
