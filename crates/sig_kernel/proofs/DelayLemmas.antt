@@ -1,16 +1,17 @@
 -- Lemmas on the flow of a delay.
-use Rattle.std.proofs.Common.{◌≡◌, ◌++◌, ℕ, ℤ, List, [], ◌∷◌, length, take, get_or, refl, ap, sym, subst, ◌∙◌, arith, ◌<◌, append_assoc}
-use Rattle.std.specs.Prelude.{Option, None, Some, option_to_list, Contains, suc, zero}
+use Rattle.std.proofs.Common.{◌≡◌, ◌++◌, ℕ, ℤ, List, [], ◌∷◌, length, take, get_or, refl, ap, subst, ◌∙◌, arith, ◌<◌}
+use Rattle.std.specs.Prelude.{None, Some, option_to_list, Contains, suc, zero}
 use Rattle.std.specs.List.{AllByRecursion}
 use Rattle.std.proofs.lemmas.List.{append-nil}
 use Rattle.sig_base.specs.Traces.{Trace, Instant, Seen, Range, seen_at, flow_of}
 use Rattle.sig_base.specs.declared.ids.SigId.{SigId}
 use Rattle.sig_base.specs.declared.span.Span.{Span}
-use Rattle.sig_kernel.specs.KernelTraces.{Memory, last_of, remembered, where_present, IsReaction, IsTraceIn, Meets}
+use Rattle.sig_base.proofs.TraceLemmas.{flow_append}
+use Rattle.sig_kernel.specs.KernelTraces.{last_of, remembered, where_present, IsTraceIn, Meets}
 use Rattle.sig_kernel.specs.declared.equation.Equation.{Equation}
 use Rattle.sig_kernel.specs.declared.equation.Form.TheVariants.{Delay}
 use Rattle.sig_kernel.specs.declared.kernel.Kernel.{Kernel}
-use Rattle.sig_kernel.proofs.TraceLemmas.{Runs, runs_from_trace, flow_append}
+use Rattle.sig_kernel.proofs.TraceLemmas.{Runs, runs_from_trace}
 
 -- what holds of all elements holds of one
 pub at_element : {X : Type 0} (P : X → Type 0) (xs : List X) (x : X) → Contains xs x → AllByRecursion P xs → P x
@@ -36,7 +37,7 @@ delay_behind : (range : Range) (kernel : Kernel) (past trace : Trace) (y x : Sig
     → flow_of y.0 trace ≡ take (length (flow_of x.0 trace)) (last_of initial (flow_of x.0 past) ∷ flow_of x.0 trace)
 delay_behind range kernel past [] y x initial at there runs = refl
 delay_behind range kernel past (instant ∷ trace) y x initial at there runs =
-    one_delay (seen_at instant x.0) (seen_at instant y.0) (remembered past x.0 initial) (remembered (past ++ instant ∷ []) x.0 initial) (flow_of x.0 trace) (flow_of y.0 trace)
+    one_delay (seen_at instant x.0) (seen_at instant y.0) (remembered past y.0 x.0 initial) (remembered (past ++ instant ∷ []) y.0 x.0 initial) (flow_of x.0 trace) (flow_of y.0 trace)
     (at_element (λ (equation : Equation). Meets range (remembered past) instant equation.form) kernel.equations (record { form = Delay y x initial; at = at }) there runs.0.equations)
     (λ none. ap (λ list. last_of initial list) (flow_append x.0 past (instant ∷ []) ∙ ap (λ list. flow_of x.0 past ++ (list ++ [])) none ∙ append-nil (flow_of x.0 past)))
     (λ v some. ap (λ list. last_of initial list) (flow_append x.0 past (instant ∷ []) ∙ ap (λ seen. flow_of x.0 past ++ (option_to_list seen ++ [])) some) ∙ last_more initial (flow_of x.0 past) v)
@@ -46,3 +47,14 @@ pub delay_flow : (range : Range) (kernel : Kernel) (trace : Trace) (y x : SigId)
     → Contains kernel.equations (record { form = Delay y x initial; at = at }) → IsTraceIn range kernel trace
     → flow_of y.0 trace ≡ take (length (flow_of x.0 trace)) (initial ∷ flow_of x.0 trace)
 delay_flow range kernel trace y x initial at there is = delay_behind range kernel [] trace y x initial at there (runs_from_trace range kernel trace is)
+
+-- what an instant leaves to be remembered
+pub absent_leaves : (past : Trace) (instant : Instant) (signal delayed : ℕ) (initial : ℤ) → seen_at instant delayed ≡ None
+    → remembered (past ++ instant ∷ []) signal delayed initial ≡ remembered past signal delayed initial
+absent_leaves past instant signal delayed initial none =
+    ap (λ list. last_of initial list) (flow_append delayed past (instant ∷ []) ∙ ap (λ seen. flow_of delayed past ++ (option_to_list seen ++ [])) none ∙ append-nil (flow_of delayed past))
+
+pub present_leaves : (past : Trace) (instant : Instant) (signal delayed : ℕ) (initial v : ℤ) → seen_at instant delayed ≡ Some v
+    → remembered (past ++ instant ∷ []) signal delayed initial ≡ v
+present_leaves past instant signal delayed initial v some =
+    ap (λ list. last_of initial list) (flow_append delayed past (instant ∷ []) ∙ ap (λ seen. flow_of delayed past ++ (option_to_list seen ++ [])) some) ∙ last_more initial (flow_of delayed past) v

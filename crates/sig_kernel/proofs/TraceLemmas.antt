@@ -1,14 +1,12 @@
 -- Lemmas on the traces of a kernel.
-use Rattle.std.proofs.Common.{◌≡◌, ◌≤◌, ◌+◌, ◌++◌, ℕ, ℤ, pos, Bool, true, false, not, List, [], ◌∷◌, length, take, map, get_or, refl, ap, sym, subst, ◌∙◌, arith, append_assoc, ◌<◌}
-use Rattle.std.specs.Prelude.{Option, None, Some, option_to_list, flat_map, Contains, ⊤, slice_index_or, suc, zero}
+use Rattle.std.proofs.Common.{◌≡◌, ◌++◌, ℕ, Bool, true, false, List, [], ◌∷◌, length, map, refl, ap, sym, subst, ◌∙◌, arith, append_assoc}
+use Rattle.std.specs.Prelude.{None, Some, option_to_list, ⊤}
 use Rattle.std.specs.List.{AllByRecursion}
 use Rattle.std.proofs.lemmas.List.{append-nil}
-use Rattle.sig_base.specs.Traces.{Trace, Instant, Seen, Range, is_silent, seen_at, flow_of, reduce, IsPrefixOf, AreOfKinds}
-use Rattle.sig_base.specs.declared.ids.Kind.{Kind}
-use Rattle.sig_base.specs.declared.ids.SigId.{SigId}
+use Rattle.sig_base.specs.Traces.{Trace, Instant, Range, is_silent, flow_of, reduce, IsPrefixOf, AreOfKinds}
+use Rattle.sig_base.proofs.TraceLemmas.{flow_append, flow_reduced, silent_at}
 use Rattle.sig_base.specs.declared.signal.Signal.{Signal}
-use Rattle.sig_base.specs.declared.span.Span.{Span}
-use Rattle.sig_kernel.specs.KernelTraces.{Memory, last_of, remembered, where_present, AreAbsent, IsReaction, IsTraceIn, Meets}
+use Rattle.sig_kernel.specs.KernelTraces.{Memory, last_of, remembered, AreAbsent, IsReaction, IsTraceIn, Meets}
 use Rattle.sig_kernel.specs.declared.equation.Equation.{Equation}
 use Rattle.sig_kernel.specs.declared.equation.Form.{Form}
 use Rattle.sig_kernel.specs.declared.equation.Form.TheVariants.{Fun, Delay, When, WhenConst, Default, Sync, Event}
@@ -42,23 +40,12 @@ abbrev pub SameFlows : Trace → Trace → Type 0
 SameFlows past other = (signal : ℕ) → flow_of signal past ≡ flow_of signal other
 
 same_memory : (past other : Trace) → SameFlows past other → remembered past ≡ remembered other
-same_memory past other same = λ i signal initial. last_of initial (same signal i)
-
-pub flow_append : (signal : ℕ) (t u : Trace) → flow_of signal (t ++ u) ≡ flow_of signal t ++ flow_of signal u
-flow_append signal [] u = refl
-flow_append signal (instant ∷ t) u =
-    ap (λ rest. option_to_list (seen_at instant signal) ++ rest) (flow_append signal t u) ∙ sym (append_assoc (option_to_list (seen_at instant signal)) (flow_of signal t) (flow_of signal u))
+same_memory past other same = λ i signal delayed initial. last_of initial (same delayed i)
 
 -- an instant behind both
 same_more : (past other more : Trace) → SameFlows past other → SameFlows (past ++ more) (other ++ more)
 same_more past other more same signal =
     flow_append signal past more ∙ ap (λ front. front ++ flow_of signal more) (same signal) ∙ sym (flow_append signal other more)
-
-pub silent_at : (instant : Instant) (signal : ℕ) → is_silent instant ≡ true → seen_at instant signal ≡ None
-silent_at [] signal silent = refl
-silent_at (None ∷ instant) zero silent = refl
-silent_at (None ∷ instant) (suc signal) silent = silent_at instant signal silent
-silent_at (Some v ∷ instant) signal silent = cc
 
 -- a silent instant leaves nothing to be remembered
 silent_more : (past : Trace) (instant : Instant) → is_silent instant ≡ true → SameFlows (past ++ instant ∷ []) past
@@ -132,3 +119,22 @@ no_instants range kernel past instant back split = absurd (never past instant ba
   never : (past : Trace) (instant : Instant) (back : Trace) → 0 ≡ length (past ++ instant ∷ back) → ⊥
   never [] instant back e = omega (arith, e)
   never (first ∷ past) instant back e = omega (arith, e)
+
+-- a trace goes on by an instant of the kernel
+pub goes_on : (range : Range) (kernel : Kernel) (trace : Trace) (instant : Instant) → IsTraceIn range kernel trace → IsReaction range kernel (remembered trace) instant
+    → IsTraceIn range kernel (trace ++ instant ∷ [])
+goes_on range kernel trace instant is next = trace_from_runs range kernel (trace ++ instant ∷ []) (more [] trace next (runs_from_trace range kernel trace is)) where
+  more : (past trace : Trace) → IsReaction range kernel (remembered (past ++ trace)) instant → Runs range kernel past trace → Runs range kernel past (trace ++ instant ∷ [])
+  more past [] next runs = (rw append-nil at next, tt)
+  more past (first ∷ trace) next runs = (runs.0, more (past ++ first ∷ []) trace (rw append_assoc next) runs.1)
+
+pub comes_from : (range : Range) (kernel : Kernel) (trace : Trace) (instant : Instant) → IsTraceIn range kernel (trace ++ instant ∷ [])
+    → IsTraceIn range kernel trace × IsReaction range kernel (remembered trace) instant
+comes_from range kernel trace instant is = (prefix_trace range kernel trace (trace ++ instant ∷ []) (instant ∷ [], refl) is, is trace instant [] refl)
+
+-- what silent instants leave is what was there
+pub silent_leaves : (past : Trace) (instant : Instant) → is_silent instant ≡ true → remembered (past ++ instant ∷ []) ≡ remembered past
+silent_leaves past instant silent = same_memory (past ++ instant ∷ []) past (silent_more past instant silent)
+
+pub reduced_leaves : (past : Trace) → remembered (reduce past) ≡ remembered past
+reduced_leaves past = same_memory (reduce past) past (λ signal. flow_reduced signal past)

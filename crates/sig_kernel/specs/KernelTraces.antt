@@ -1,7 +1,7 @@
 -- The traces of a kernel: at each instant every signal is absent or has a value of its kind, and every
 -- equation is met. There is one case for each form of an equation. What a function, a delay, `when` and
 -- `default` are is the SIGNAL V4 reference manual's.
-use Rattle.std.specs.Prelude.{◌≡◌, ℕ, ℤ, pos, Bool, true, false, List, [], ◌∷◌, ◌++◌, map, Option, None, Some, is_some, ⊤, if◌then◌else◌}
+use Rattle.std.specs.Prelude.{◌≡◌, ℕ, ℤ, pos, List, [], ◌∷◌, ◌++◌, map, None, Some, is_some, ⊤, if◌then◌else◌}
 use Rattle.std.specs.List.{AllByRecursion}
 use Rattle.std.specs.Ordering.{int_eq}
 use Rattle.sig_base.specs.Functions.{Function, Identity, Negative, Not as Negation, And as Conjunction, Or as Disjunction, Xor as Exclusive, Equal, NotEqual, Less, LessEqual, Greater, GreaterEqual, Sum, Difference, Product, Quotient, Remainder, Gives}
@@ -12,7 +12,6 @@ use Rattle.sig_kernel.specs.declared.equation.Operand.{Operand}
 use Rattle.sig_kernel.specs.declared.equation.Operand.TheVariants.{Sig, Const}
 use Rattle.sig_kernel.specs.declared.equation.Form.{Form}
 use Rattle.sig_kernel.specs.declared.equation.Form.TheVariants.{Fun, Delay, When, WhenConst, Default, Sync, Event}
-use Rattle.sig_kernel.specs.declared.equation.Equation.{Equation}
 use Rattle.sig_kernel.specs.declared.kernel.Kernel.{Kernel}
 
 -- the function of values that an operator stands for
@@ -68,10 +67,10 @@ abbrev pub or_else : Seen → Seen → Seen
 or_else None v = v
 or_else (Some u) v = Some u
 
--- what a delay remembers: for a signal and an initial value, the signal's value at its latest earlier presence,
--- or the initial value where there is none
+-- What each delay remembers: by the signal that it defines, the signal that it delays and its initial value. It is
+-- the delayed signal's value at its latest earlier presence, or the initial value where there is none.
 abbrev pub Memory : Type 0
-Memory = ℕ → ℤ → ℤ
+Memory = ℕ → ℕ → ℤ → ℤ
 
 -- the last of some values, and before the first of them an initial one
 abbrev pub last_of : ℤ → List ℤ → ℤ
@@ -80,12 +79,12 @@ last_of initial (v ∷ values) = last_of v values
 
 -- what earlier instants leave to be remembered
 abbrev pub remembered : Trace → Memory
-remembered past signal initial = last_of initial (flow_of signal past)
+remembered past signal delayed initial = last_of initial (flow_of delayed past)
 
 -- an instant meets an equation of this form
 abbrev pub Meets : Range → Memory → Instant → Form → Type 0
 Meets range memory instant (Fun y op operands) = IsFunction range (function_of op) instant operands (seen_at instant y.0)
-Meets range memory instant (Delay y x initial) = seen_at instant y.0 ≡ where_present (seen_at instant x.0) (memory x.0 initial)
+Meets range memory instant (Delay y x initial) = seen_at instant y.0 ≡ where_present (seen_at instant x.0) (memory y.0 x.0 initial)
 Meets range memory instant (When y x b) = seen_at instant y.0 ≡ where_true (seen_at instant b.0) (seen_at instant x.0)
 Meets range memory instant (WhenConst y constant b) = seen_at instant y.0 ≡ where_true (seen_at instant b.0) (Some constant)
 Meets range memory instant (Default y u v) = seen_at instant y.0 ≡ or_else (seen_at instant u.0) (seen_at instant v.0)

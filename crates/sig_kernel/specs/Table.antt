@@ -7,6 +7,7 @@ use Rattle.sig_base.specs.declared.ids.Kind.{Kind}
 use Rattle.sig_base.specs.declared.ids.Kind.TheVariants.{Integer, Boolean, Event}
 use Rattle.sig_base.specs.declared.ids.SigId.{SigId}
 use Rattle.sig_base.specs.declared.signal.Signal.{Signal}
+use Rattle.sig_base.specs.Traces.{has_64_bits}
 use Rattle.sig_kernel.specs.declared.equation.FunOp.{FunOp}
 use Rattle.sig_kernel.specs.declared.equation.FunOp.TheVariants.{Id, Neg, Not, And, Or, Xor, Eq, Ne, Lt, Le, Gt, Ge, Add, Sub, Mul, Div, Mod}
 use Rattle.sig_kernel.specs.declared.equation.Operand.{Operand}
@@ -119,12 +120,12 @@ kind_is Truth kind = is_kind Boolean kind || is_kind Event kind
 kind_is AnEvent kind = is_kind Event kind
 kind_is Any kind = true
 
--- a constant is of the sort: every number is an integer, 0 and 1 are truths, and 1 is an event's value
+-- a constant is of the sort: a number of 64 bits is an integer, 0 and 1 are truths, and 1 is an event's value
 abbrev pub constant_is : Sort → ℤ → Bool
-constant_is AnInteger constant = true
+constant_is AnInteger constant = has_64_bits constant
 constant_is Truth constant = int_eq constant (pos 0) || int_eq constant (pos 1)
 constant_is AnEvent constant = int_eq constant (pos 1)
-constant_is Any constant = true
+constant_is Any constant = has_64_bits constant
 
 -- the kind of the signal of a number
 abbrev pub kind_of : Option Signal → Option Kind

@@ -7,6 +7,7 @@ use Rattle.sig_base.specs.declared.ids.Kind.TheVariants.{Integer, Boolean, Event
 use Rattle.sig_base.specs.declared.ids.SigId.{SigId}
 use Rattle.sig_base.specs.declared.limits.TheConstants.{SIGNALS}
 use Rattle.sig_base.specs.declared.signal.Signal.{Signal}
+use Rattle.sig_base.specs.Traces.{has_64_bits}
 use Rattle.sig_kernel.specs.Table.{operands_of, target_of, form_fits}
 use Rattle.sig_kernel.specs.declared.equation.Equation.{Equation}
 use Rattle.sig_kernel.specs.declared.equation.Form.{Form}
@@ -70,13 +71,13 @@ pub record IsValid (kernel : Kernel) : Type 0 where
   pub equations : AreWellMade kernel
   pub defined : DefinesEach kernel
 
--- a number of 64 bits is a value of the kind
+-- a number is a value of the kind: of 64 bits, or as a truth 0 or 1, or as an event 1
 abbrev pub value_is : Kind → ℤ → Bool
-value_is Integer value = true
+value_is Integer value = has_64_bits value
 value_is Boolean value = int_eq value (pos 0) || int_eq value (pos 1)
 value_is Event value = int_eq value (pos 1)
 
--- flows of numbers of 64 bits fit a kernel
+-- flows of numbers fit a kernel
 pub record AreFlowsFor (kernel : Kernel) (flows : List (List ℤ)) : Type 0 where
   -- there is one for each input
   pub count : length flows ≡ length (inputs_of kernel)

@@ -13,8 +13,10 @@ pub use equation::{Equation, Form, FunOp, Operand, Operands};
 pub use flow::{Flow, Inputs};
 pub use kernel::{Equations, Kernel, Signals};
 pub use laws::{
-    a_kernel_has_one_longest_trace, beginnings_are_traces, delays_give_the_previous_value,
-    silent_instants_make_no_difference, texts_grow_with_traces,
+    a_kernel_has_one_longest_trace, beginnings_are_traces, bounded_traces_are_unbounded,
+    constants_are_values, delays_give_the_previous_value, delays_remember_the_last_value,
+    delays_remember_values, flows_hold_values, silent_instants_make_no_difference,
+    texts_grow_with_traces, traces_go_on_by_instants,
 };
 pub use table::Sort;
 
