@@ -66,6 +66,12 @@ Member-without v u (x ∷ xs) apart m = by (Member-without v u xs apart) (eqb x 
     by below false e (inl same) = inl same
     by below false e (inr m) = inr (below m)
 
+pub length-without_contained : (v : ℕ) (xs : List ℕ) → Contains xs v → suc (length (without v xs)) ≤ length xs
+length-without_contained v xs among = length-without v xs (Member-Contains xs v among)
+
+pub Contains-without : (v u : ℕ) (xs : List ℕ) → u ≢ v → Contains xs u → Contains (without v xs) u
+Contains-without v u xs apart among = Contains-Member (without v xs) u (Member-without v u xs apart (Member-Contains xs u among))
+
 -- no function of the question tests a variable before their first
 SomeTests-later : (nodes : List Node) → IsReduced nodes → (q : Question) → HoldsAll nodes q → (b u : ℕ) → AllStartFrom nodes b q → SomeTests nodes q u → b ≤ u
 SomeTests-later nodes reduced (Pick f g h) held b u s (inl t) = Tests-later (diagram nodes f) b u (proper nodes reduced f held.0) s.0 t

@@ -17,3 +17,4 @@ pub mod CallerLemmas
 pub mod Dependence
 pub mod Trails
 pub mod Rows
+pub mod Walks

@@ -1,4 +1,5 @@
 pub mod Diagram
+pub mod Walks
 pub mod Nodes
 pub mod Operand
 pub mod Question

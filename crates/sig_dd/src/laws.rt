@@ -2,9 +2,10 @@
 //! see of a store, and its function does nothing when it runs.
 
 ghost use Rattle.std.specs.Prelude.{◌≡◌, ◌↔◌, ◌||◌, ◌⊎◌, ◌+◌, ◌*◌, ◌≤◌, ℕ, Bool, true, false, List, ◌∷◌, Option, None, IsTrue, Contains, length, if◌then◌else◌};
-ghost use Rattle.sig_dd.specs.Diagram.{truth_of, with_truth, Agree, Depends};
-ghost use Rattle.sig_dd.specs.Nodes.{allowance, test, Holds, IsRefOf, IsStore, Keeps, Spans, StoreView};
+ghost use Rattle.sig_dd.specs.Diagram.{truth_of, visited, with_truth, Agree, Depends};
+ghost use Rattle.sig_dd.specs.Nodes.{allowance, diagram, test, Holds, IsRefOf, IsStore, Keeps, Spans, StoreView};
 ghost use Rattle.sig_dd.specs.Shares.{HasAll, HoldAll, Share, Shares, SpanAll, Trail};
+ghost use Rattle.sig_dd.specs.Walks.{Asks, IsIdle};
 ghost use Rattle.sig_dd.specs.declared.answer.DdAnswer.{DdAnswer};
 ghost use Rattle.sig_dd.specs.declared.node.Node.{Node};
 ghost use Rattle.sig_dd.specs.declared.node.Ref.{Ref};
@@ -92,6 +93,42 @@ pub fn fixed_variables_make_no_difference()
         → IsTrue (test nodes f (with_truth truths v false)
         || test nodes f (with_truth truths v true))
         ↔ ((x : Bool) × IsTrue (test nodes f (with_truth truths v x))) }
+{}
+
+/// A law: truths that agree on all variables on which a reference depends give it one value. Those
+/// that a walk by the first truths asks for are enough.
+pub fn other_variables_make_no_difference()
+    ensures depends { (s : StoreView) → IsStore s → (f : Ref) → Holds s.nodes f
+        → (truths others : List Bool)
+        → ((v : ℕ) → Depends (test s.nodes f) v → truth_of truths v ≡ truth_of others v)
+        → test s.nodes f truths ≡ test s.nodes f others }
+    ensures spans { (s : StoreView) → IsStore s → (f : Ref) → Holds s.nodes f
+        → (vs : List ℕ) → Spans s.nodes f vs → (truths others : List Bool)
+        → ((v : ℕ) → Contains vs v → truth_of truths v ≡ truth_of others v)
+        → test s.nodes f truths ≡ test s.nodes f others }
+    ensures asked { (s : StoreView) → IsStore s → (f : Ref) → Holds s.nodes f
+        → (truths others : List Bool)
+        → ((v : ℕ) → Asks (diagram s.nodes f) truths v → truth_of truths v ≡ truth_of others v)
+        → test s.nodes f truths ≡ test s.nodes f others }
+{}
+
+/// A law: a walk asks only for variables on which the reference depends, and for none that makes no
+/// difference below the truths of the earlier ones. It visits at most as many nodes as there are
+/// variables on which the reference depends, or variables that it asks for.
+pub fn walks_ask_nothing_idle()
+    ensures depends { (s : StoreView) → IsStore s → (f : Ref) → Holds s.nodes f
+        → (truths : List Bool) (v : ℕ) → Asks (diagram s.nodes f) truths v
+        → Depends (test s.nodes f) v }
+    ensures idle { (s : StoreView) → IsStore s → (f : Ref) → Holds s.nodes f
+        → (truths : List Bool) (v : ℕ) → Asks (diagram s.nodes f) truths v
+        → IsIdle (test s.nodes f) truths v → ⊥ }
+    ensures visited { (s : StoreView) → IsStore s → (f : Ref) → Holds s.nodes f
+        → (truths : List Bool) (vs : List ℕ) → Spans s.nodes f vs
+        → visited (diagram s.nodes f) truths ≤ length vs }
+    ensures visits { (s : StoreView) → IsStore s → (f : Ref) → Holds s.nodes f
+        → (truths : List Bool) (vs : List ℕ)
+        → ((v : ℕ) → Asks (diagram s.nodes f) truths v → Contains vs v)
+        → visited (diagram s.nodes f) truths ≤ length vs }
 {}
 
 /// A law: a store may be shared between threads, and moved to one.

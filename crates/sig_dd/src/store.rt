@@ -42,7 +42,7 @@ impl Model for Store {
 }
 
 impl Store {
-    /// An empty store for at most this many nodes. The table of its cache grows with what is kept.
+    /// An empty store for at most this many nodes, with the table of its cache.
     pub fn new(alloc: Global, nodes: u32) -> Result<Store, DdAnswer>
         ensures store { IfOk result IsStore }
         ensures empty { IfOk result (λ s. s.nodes ≡ []) }
@@ -52,7 +52,7 @@ impl Store {
         Ok(Store {
             nodes: IndexSet::new(alloc),
             made_for: nodes,
-            cache: LruCache::sparse(alloc, NonZeroUsize::new(KEPT).unwrap())?,
+            cache: LruCache::new(alloc, NonZeroUsize::new(KEPT).unwrap())?,
             alloc,
         })
     }
