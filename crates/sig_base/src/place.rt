@@ -38,16 +38,3 @@ pub fn packing_keeps_order()
     ensures order { (i j p q : ℕ) → p < 2 ^ 32 → q < 2 ^ 32 →
         (i * 2 ^ 32 + p < j * 2 ^ 32 + q) ↔ ((i < j) ⊎ ((i ≡ j) × (p < q))) }
 {}
-
-#[cfg(test)]
-mod tests {
-    use super::*;
-
-    #[test]
-    fn packs_and_unpacks(rt: HostRuntime) {
-        let place = Place { instant: 2, pos: 3 };
-        assert_eq!(rt; place.pack(), 8_589_934_595);
-        assert_eq!(rt; Place::unpack(8_589_934_595), place);
-        assert!(rt; place < Place { instant: 3, pos: 0 });
-    }
-}

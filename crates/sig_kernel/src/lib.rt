@@ -17,6 +17,3 @@ pub use laws::{
     silent_instants_make_no_difference, texts_grow_with_traces,
 };
 pub use table::Sort;
-
-#[cfg(test)]
-mod tests;
