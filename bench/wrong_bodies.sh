@@ -20,7 +20,7 @@ done
 room=$(mktemp -d) || exit 2
 trap 'rm -rf "$room"' EXIT
 trap 'exit 2' INT TERM
-tar -cf - --exclude='crates/*/out' --exclude='crates/*/must-fail' crates crates.txt HANDLES | tar -xf - -C "$room" || exit 2
+tar --no-wildcards-match-slash -cf - --exclude='crates/*/out' --exclude='crates/*/must-fail' crates crates.txt HANDLES | tar -xf - -C "$room" || exit 2
 wanted=0
 for crate in "${crates[@]}"; do
     mkdir "$room/crates/$crate/must-fail"

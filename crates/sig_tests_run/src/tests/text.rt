@@ -1,5 +1,6 @@
 //! Files and sinks in memory and of the operating system, with the answers that are expected.
 
+use super::signals::{Interrupted, InterruptedFiles};
 use sig_text::{
     Begun, Files, HostFiles, HostSink, MemFiles, MemSink, QuietSink, ReadAnswer, ReadStep, Sink,
     WriteFault, put_all, read_all,
@@ -136,37 +137,25 @@ fn writes_to_streams(rt: HostRuntime) -> Result<(), Fail> {
     Ok(())
 }
 
-// Takes one byte at every other call, up to so many, and is interrupted by a signal at the others.
-#[derive(Drop)]
-struct Interrupted {
-    calls: u32,
-    room: usize,
-}
-
-impl Write for Interrupted {
-    fn write(&mut self, piece: &[u8]) -> io::Result<usize> {
-        self.calls = self.calls.wrapping_add(1);
-        if self.calls % 2 == 1 {
-            return Err(Error::from(ErrorKind::Interrupted));
-        }
-        let count = piece.len().min(1).min(self.room);
-        self.room -= count;
-        Ok(count)
-    }
-
-    fn flush(&mut self) -> io::Result<()> {
-        Ok(())
-    }
-}
-
 #[test]
-fn writes_again_after_a_signal(rt: HostRuntime) -> Result<(), Fail> {
+fn goes_on_after_a_signal(rt: HostRuntime) -> Result<(), Fail> {
     let alloc = rt.alloc();
-    let mut sink = HostSink::new(alloc, Interrupted { calls: 0, room: 4 })?;
+    let stream = Interrupted {
+        was_interrupted: false,
+        left: 4,
+    };
+    let mut sink = HostSink::new(alloc, stream)?;
     assert_eq!(rt; put_all(&mut sink, b"four"), Ok(()));
     assert_eq!(rt; sink.flush(), Ok(()));
     assert_eq!(rt; put_all(&mut sink, b"more"), Ok(()));
     assert_eq!(rt; sink.flush(), Err(WriteFault));
+
+    let runtime = InterruptedFiles { length: 3 };
+    let mut files = HostFiles::new(&runtime);
+    assert_eq!(rt;
+        read_all(alloc, &mut files, "any", 3)?.as_slice(),
+        b"xxx".as_slice()
+    );
     Ok(())
 }
 
