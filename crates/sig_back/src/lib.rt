@@ -11,6 +11,3 @@ mod telling;
 pub use answer::BackAnswer;
 pub use fault::{BackFault, BackKind};
 pub use passes::back;
-
-#[cfg(test)]
-mod tests;

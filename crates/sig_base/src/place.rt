@@ -63,16 +63,3 @@ pub fn words_are_ordered()
     ensures one { (p q : Place) → p.pos < 2 ^ 32 → q.pos < 2 ^ 32 → packed p ≡ packed q → p ≡ q }
     ensures some { (p : Place) → p.instant < 2 ^ 32 - 1 → p.pos < 2 ^ 32 → packed p < no_place }
 {}
-
-#[cfg(test)]
-mod tests {
-    use super::*;
-
-    #[test]
-    fn packs_and_unpacks(rt: HostRuntime) {
-        let place = Place { instant: 2, pos: 3 };
-        assert_eq!(rt; place.pack(), 8_589_934_595);
-        assert_eq!(rt; Place::unpack(8_589_934_595), place);
-        assert!(rt; place < Place { instant: 3, pos: 0 });
-    }
-}

@@ -23,16 +23,3 @@ impl fmt::Display for Span {
         write!(f, "{line}:{col}")
     }
 }
-
-#[cfg(test)]
-mod tests {
-    use super::*;
-    use std::test::Fail;
-
-    #[test]
-    fn shows_line_and_column(rt: HostRuntime) -> Result<(), Fail> {
-        let at = Span { line: 12, col: 3 };
-        assert_eq!(rt; at.to_string(rt.alloc())?.as_str(), "12:3");
-        Ok(())
-    }
-}

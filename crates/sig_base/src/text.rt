@@ -69,19 +69,3 @@ impl From<Vec<u8>> for Text {
         Text { bytes }
     }
 }
-
-#[cfg(test)]
-mod tests {
-    use super::*;
-    use std::test::Fail;
-
-    #[test]
-    fn keeps_its_bytes(rt: HostRuntime) -> Result<(), Fail> {
-        let text = Text::from_bytes(rt.alloc(), b"HELD")?;
-        assert_eq!(rt; text.as_bytes(), b"HELD".as_slice());
-        assert_eq!(rt; text.len(), 4);
-        assert!(rt; text == Text::from([72, 69, 76, 68].to_vec(rt.alloc())?));
-        assert!(rt; !text.is_empty());
-        Ok(())
-    }
-}

@@ -14,8 +14,6 @@ mod expression;
 mod flat_body;
 mod laws;
 mod signal_names;
-#[cfg(test)]
-mod tests;
 mod well_made;
 
 pub use answer::CallAnswer;

@@ -18,6 +18,3 @@ pub use laws::{
     instants_leave_abstract_reactions, proposals_determine_presences, signals_have_one_layer,
     signals_of_one_clock_are_present_together, silence_is_a_reaction,
 };
-
-#[cfg(test)]
-mod tests;

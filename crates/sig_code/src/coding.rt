@@ -101,6 +101,3 @@ fn codes_of(
     };
     source.codes(alloc)
 }
-
-#[cfg(test)]
-mod tests;

@@ -27,6 +27,3 @@ pub use laws::{
 pub use node::Ref;
 pub use steps::Steps;
 pub use store::Store;
-
-#[cfg(test)]
-mod tests;

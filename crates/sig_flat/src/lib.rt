@@ -24,6 +24,3 @@ pub use laws::{
 };
 pub use traces::kernel_traces_are_process_traces;
 pub use valid::{kernels_are_valid, kernels_have_few_equations, kernels_name_signals};
-
-#[cfg(test)]
-mod tests;

@@ -10,4 +10,3 @@ mod Numerals
 mod ShortNumbers
 mod StarLemmas
 mod TakenPieces
-pub mod ThreeNames

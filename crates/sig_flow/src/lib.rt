@@ -28,6 +28,3 @@ pub use put::put_value;
 pub use read::{read_flows, read_named};
 pub use value::{WordFault, value_of};
 pub use word::{Next, next_word};
-
-#[cfg(test)]
-mod tests;

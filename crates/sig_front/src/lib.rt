@@ -14,6 +14,3 @@ pub use body::flat;
 pub use kernel::front;
 pub use laws::{one_flat_text, one_kernel_text, one_text};
 pub use text::tree;
-
-#[cfg(test)]
-mod tests;

@@ -68,6 +68,3 @@ fn order_of(
         None => Ok(order),
     }
 }
-
-#[cfg(test)]
-mod tests;

@@ -13,6 +13,3 @@ mod steps;
 pub use halt::{Halt, HaltAnswer};
 pub use halt_seat::HaltSeat;
 pub use laws::{a_word_may_be_shared, steps_keep_the_rule};
-
-#[cfg(test)]
-mod tests;

@@ -15,6 +15,3 @@ pub use laws::{a_kernel_has_one_tree_text, each_class_has_one_line};
 pub use making::tree;
 pub use text::tree_text;
 pub use trees::Tree;
-
-#[cfg(test)]
-mod tests;

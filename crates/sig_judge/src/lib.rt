@@ -22,6 +22,3 @@ pub use read::read_trace;
 pub use trace::{Row, Seen, Trace};
 pub use trace_answer::TraceAnswer;
 pub use verdict::{Verdict, judge};
-
-#[cfg(test)]
-mod tests;

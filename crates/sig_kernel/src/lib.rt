@@ -19,6 +19,3 @@ pub use laws::{
     texts_grow_with_traces, traces_go_on_by_instants,
 };
 pub use table::Sort;
-
-#[cfg(test)]
-mod tests;

@@ -18,6 +18,3 @@ pub use laws::{
 };
 pub use scan::lex;
 pub use token::{Token, TokenKind};
-
-#[cfg(test)]
-mod tests;

@@ -17,6 +17,3 @@ pub use opening::{LinkAnswer, link};
 pub use put::Put;
 pub use settling::{Settled, settle};
 pub use take::Take;
-
-#[cfg(test)]
-mod tests;

@@ -14,6 +14,3 @@ pub use answer::LoadAnswer;
 pub use flows::flows_text;
 pub use program::program_text;
 pub use tally::TallySink;
-
-#[cfg(test)]
-mod tests;

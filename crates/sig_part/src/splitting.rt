@@ -90,6 +90,3 @@ fn cluster_count(signals: &[Signal]) -> u64
         .map(|signal| u64::from(signal.cluster) + 1)
         .fold(1, |count, other| count.max(other))
 }
-
-#[cfg(test)]
-mod tests;

@@ -14,6 +14,3 @@ pub use laws::{
     canonical_leaves, no_other_program, round_trip, words_are_spelled, words_are_tokens,
 };
 pub use process::print;
-
-#[cfg(test)]
-mod tests;

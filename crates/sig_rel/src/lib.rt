@@ -16,6 +16,3 @@ pub use answer::RelAnswer;
 pub use laws::{reactions_are_truths, relations_see_reactions, statuses_are_those_of_unknowns};
 pub use making::relation;
 pub use relations::Relation;
-
-#[cfg(test)]
-mod tests;

@@ -19,6 +19,3 @@ mod solving;
 pub use answer::ClockAnswer;
 pub use laws::walks_ask_no_absent_condition;
 pub use solving::solve;
-
-#[cfg(test)]
-mod tests;

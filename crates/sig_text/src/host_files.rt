@@ -84,33 +84,3 @@ fn read_retrying<R: Read>(reader: &mut R, piece: &mut [u8]) -> io::Result<usize>
     }
     Err(io::Error::from(ErrorKind::Interrupted))
 }
-
-#[cfg(test)]
-mod tests {
-    use super::*;
-    use std::test::Fail;
-
-    // A reader that a signal interrupts so often before it gives two bytes.
-    #[derive(Drop)]
-    struct Interrupted {
-        left: u32,
-    }
-
-    impl Read for Interrupted {
-        fn read(&mut self, piece: &mut [u8]) -> io::Result<usize> {
-            if self.left > 0 {
-                self.left -= 1;
-                return Err(io::Error::from(ErrorKind::Interrupted));
-            }
-            Ok(piece.len().min(2))
-        }
-    }
-
-    #[test]
-    fn reads_again_after_a_signal(rt: HostRuntime) -> Result<(), Fail> {
-        let mut reader = Interrupted { left: 3 };
-        assert_eq!(rt; read_retrying(&mut reader, &mut [0; 4]).ok(), Some(2));
-        assert_eq!(rt; reader.left, 0);
-        Ok(())
-    }
-}

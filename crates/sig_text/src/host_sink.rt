@@ -82,39 +82,3 @@ fn write_retrying<W: Write>(writer: &mut W, piece: &[u8]) -> io::Result<usize>
     }
     Err(io::Error::from(ErrorKind::Interrupted))
 }
-
-#[cfg(test)]
-mod tests {
-    use super::*;
-    use std::test::Fail;
-
-    // A stream that a signal interrupts at every other call.
-    #[derive(Drop)]
-    struct Interrupted {
-        calls: u32,
-        taken: usize,
-    }
-
-    impl Write for Interrupted {
-        fn write(&mut self, piece: &[u8]) -> io::Result<usize> {
-            self.calls = self.calls.wrapping_add(1);
-            if self.calls % 2 == 1 {
-                return Err(io::Error::from(ErrorKind::Interrupted));
-            }
-            self.taken = self.taken.saturating_add(piece.len());
-            Ok(piece.len())
-        }
-
-        fn flush(&mut self) -> io::Result<()> {
-            Ok(())
-        }
-    }
-
-    #[test]
-    fn writes_again_after_a_signal(rt: HostRuntime) -> Result<(), Fail> {
-        let mut stream = Interrupted { calls: 0, taken: 0 };
-        assert_eq!(rt; write_retrying(&mut stream, b"four").ok(), Some(4));
-        assert_eq!(rt; (stream.calls, stream.taken), (2, 4));
-        Ok(())
-    }
-}

@@ -27,6 +27,3 @@ pub use put::put_all;
 pub use quiet_sink::QuietSink;
 pub use read::{ReadAnswer, read_all};
 pub use sink::{Sink, WriteFault, Wrote};
-
-#[cfg(test)]
-mod tests;

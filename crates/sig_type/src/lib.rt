@@ -21,8 +21,6 @@ mod ranks;
 mod recursion;
 mod scope;
 mod signals;
-#[cfg(test)]
-mod tests;
 mod texts;
 mod typed;
 mod well_formed;

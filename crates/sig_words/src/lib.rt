@@ -18,6 +18,3 @@ pub use answer::WordsAnswer;
 pub use command::{Command, Settings};
 pub use laws::one_command;
 pub use read::read_words;
-
-#[cfg(test)]
-mod tests;

@@ -1,6 +1,0 @@
-use Rattle.std.proofs.Common.{◌≡◌}
-use Rattle.sig_halt.specs.Seats.{parts, IsSeatOf}
-use Rattle.sig_halt.proofs.tests.fail_from.Given as goal
-
-abbrev pub invariant-loop-instant : goal.invariant-loop-instant
-invariant-loop-instant l = IsSeatOf l.halt l.seat × (parts l.seat ≡ parts l.fn.seat)

@@ -1,0 +1,15 @@
+//! The tests of each crate in a module of its name, and what they share.
+
+mod back;
+mod clock;
+mod code;
+mod dd;
+mod diagrams;
+mod graph;
+mod hier;
+mod kernels;
+mod part;
+mod passes;
+mod plan;
+mod rel;
+mod solve;

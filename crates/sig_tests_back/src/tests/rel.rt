@@ -1,0 +1,178 @@
+//! The relations of small kernels.
+
+ghost use Rattle.std.specs.Prelude.{◌≡◌, IfOk};
+ghost use Rattle.sig_dd.specs.Nodes.{Holds};
+
+use super::diagrams::value;
+use super::kernels::{down, fun, kernel, sig};
+use sig_base::{Kind, SigId};
+use sig_dd::{DdAnswer, Ref, Store};
+use sig_kernel::{Form, FunOp, Kernel, Operand};
+use sig_rel::{RelAnswer, Relation, relation};
+use std::alloc::{AllocError, Global};
+use std::marker::Brand;
+use std::sync::ledger::Blank;
+use std::test::Fail;
+
+/// Each function of truths of two booleans, and a comparison of an integer beside them.
+fn functions(alloc: Global) -> Result<Kernel, AllocError> {
+    let listed = [
+        ("A", Kind::Boolean, 0),
+        ("B", Kind::Boolean, 0),
+        ("C", Kind::Integer, 0),
+        ("D", Kind::Boolean, 0),
+        ("E", Kind::Boolean, 0),
+        ("F", Kind::Boolean, 0),
+        ("G", Kind::Boolean, 0),
+        ("H", Kind::Boolean, 0),
+        ("I", Kind::Boolean, 0),
+        ("J", Kind::Boolean, 0),
+        ("K", Kind::Boolean, 0),
+    ];
+    let forms = vec![in alloc;
+        fun(alloc, 3, FunOp::Id, &[sig(0)])?,
+        fun(alloc, 4, FunOp::Not, &[sig(0)])?,
+        fun(alloc, 5, FunOp::And, &[sig(0), sig(1)])?,
+        fun(alloc, 6, FunOp::Or, &[sig(0), sig(1)])?,
+        fun(alloc, 7, FunOp::Xor, &[sig(0), sig(1)])?,
+        fun(alloc, 8, FunOp::Eq, &[sig(0), sig(1)])?,
+        fun(alloc, 9, FunOp::Ne, &[sig(0), Operand::Const(1)])?,
+        fun(alloc, 10, FunOp::Eq, &[sig(2), Operand::Const(0)])?,
+        Form::Sync(SigId(2), SigId(0)),
+    ]?;
+    kernel(alloc, &listed, (3, 0, 3), forms)
+}
+
+/// Each other form of an equation.
+fn forms(alloc: Global) -> Result<Kernel, AllocError> {
+    let listed = [
+        ("A", Kind::Boolean, 0),
+        ("B", Kind::Boolean, 0),
+        ("C", Kind::Boolean, 0),
+        ("D", Kind::Boolean, 0),
+        ("E", Kind::Boolean, 0),
+        ("F", Kind::Boolean, 0),
+        ("G", Kind::Event, 0),
+        ("H", Kind::Event, 0),
+    ];
+    let forms = vec![in alloc;
+        Form::Delay(SigId(2), SigId(0), 0),
+        Form::When(SigId(3), SigId(0), SigId(1)),
+        Form::WhenConst(SigId(4), 0, SigId(1)),
+        Form::Default(SigId(5), SigId(3), SigId(4)),
+        Form::Event(SigId(6), SigId(3)),
+        Form::WhenConst(SigId(7), 1, SigId(2)),
+        Form::Sync(SigId(7), SigId(6)),
+    ]?;
+    kernel(alloc, &listed, (2, 0, 2), forms)
+}
+
+/// The relation of a kernel that is valid.
+fn relation_of(
+    alloc: Global,
+    kernel: &Kernel,
+    store: &mut Store,
+) -> Result<Option<Relation>, RelAnswer>
+    ensures { IfOk result (λ found. (r : Relation) → found ≡ Some r → Holds store.new.nodes r.whole) }
+{
+    if kernel.is_valid() {
+        Ok(Some(relation(alloc, kernel, store)?))
+    } else {
+        Ok(None)
+    }
+}
+
+/// The truths of a number: false for so many variables, and then its binary digits, the lowest first.
+fn truths(alloc: Global, first: u32, digits: u32, number: u32) -> Result<Vec<bool>, AllocError> {
+    let mut truths = Vec::new(alloc);
+    for _ in 0..first {
+        truths.push(false)?;
+    }
+    let mut rest = number;
+    for _ in 0..digits {
+        truths.push(rest % 2 == 1)?;
+        rest /= 2;
+    }
+    Ok(truths)
+}
+
+/// The numbers below a limit whose truths make the function true.
+fn numbers_of(
+    alloc: Global,
+    store: &Store,
+    f: Ref,
+    first: u32,
+    digits: u32,
+    limit: u32,
+) -> Result<Vec<u32>, DdAnswer>
+    requires { Holds store.now.nodes f }
+{
+    let mut numbers = Vec::new(alloc);
+    for number in 0..limit {
+        let truths = truths(alloc, first, digits, number)?;
+        if value::<Brand>(store, f, truths.as_slice(), Blank::new(1))? == Some(true) {
+            numbers.push(number)?;
+        }
+    }
+    Ok(numbers)
+}
+
+fn checksum(numbers: &[u32]) -> u64 {
+    let mut sum: u64 = 0;
+    for number in numbers {
+        sum = sum.wrapping_mul(31).wrapping_add(*number as u64);
+    }
+    sum
+}
+
+#[test]
+fn down_has_three_unknowns(rt: HostRuntime) -> Result<(), Fail> {
+    let alloc = rt.alloc();
+    let mut store = Store::new(alloc, 1000)?;
+    let found = relation_of(alloc, &down(alloc)?, &mut store)?.ok_or("not valid")?;
+    assert_eq!(rt; found.present.as_slice(), [2, 1, 1, 1, 1, 2].as_slice());
+    assert_eq!(rt;
+        found.truth.as_slice(),
+        [None, None, None, None, Some(3), None].as_slice()
+    );
+    let numbers = numbers_of(alloc, &store, found.whole, 1, 3, 8)?;
+    assert_eq!(rt; numbers.as_slice(), [0, 1, 4, 7].as_slice());
+    Ok(())
+}
+
+// The numbers and checksums of the next two are those of a reading of the definitions in Python.
+#[test]
+fn functions_of_truths(rt: HostRuntime) -> Result<(), Fail> {
+    let alloc = rt.alloc();
+    let mut store = Store::new(alloc, 10_000)?;
+    let found = relation_of(alloc, &functions(alloc)?, &mut store)?.ok_or("not valid")?;
+    let numbers = numbers_of(alloc, &store, found.whole, 3, 11, 2048)?;
+    assert_eq!(rt; numbers.len(), 1032);
+    assert_eq!(rt; checksum(numbers.as_slice()), 17376103186187897728);
+    Ok(())
+}
+
+#[test]
+fn other_forms(rt: HostRuntime) -> Result<(), Fail> {
+    let alloc = rt.alloc();
+    let mut store = Store::new(alloc, 10_000)?;
+    let found = relation_of(alloc, &forms(alloc)?, &mut store)?.ok_or("not valid")?;
+    let numbers = numbers_of(alloc, &store, found.whole, 3, 11, 2048)?;
+    assert_eq!(rt; numbers.len(), 154);
+    assert_eq!(rt; checksum(numbers.as_slice()), 929932358096905588);
+    Ok(())
+}
+
+#[test]
+fn a_full_store_refuses(rt: HostRuntime) -> Result<(), Fail> {
+    let alloc = rt.alloc();
+    let mut store = Store::new(alloc, 3)?;
+    let kernel = down(alloc)?;
+    assert!(rt;
+        matches!(
+            relation_of(alloc, &kernel, &mut store),
+            Err(RelAnswer::Budget(3))
+        )
+    );
+    Ok(())
+}

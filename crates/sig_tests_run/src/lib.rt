@@ -1,0 +1,6 @@
+//! The tests of the crates that a run stands on: sig_base, sig_text, sig_link, sig_halt and sig_load. It has
+//! no function of its own.
+#![tactic(auto)]
+
+#[cfg(test)]
+mod tests;

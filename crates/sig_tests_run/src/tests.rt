@@ -1,0 +1,8 @@
+//! The tests of each crate in a module of its name, and a runtime that a signal interrupts.
+
+mod base;
+mod halt;
+mod link;
+mod load;
+mod signals;
+mod text;
