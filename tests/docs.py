@@ -26,7 +26,7 @@ import tempfile
 
 TOP = os.path.dirname(os.path.dirname(os.path.realpath(__file__)))
 SECONDS = 120
-NOT_BUILT = ("error: not built yet\n", "error: these words are not a command\n")
+NOT_BUILT = re.compile(r"error: (not built yet|these words are not a command|\S+: not a flow file)\n")
 COLUMNS = ["Command", "Standard output", "Standard error", "Status"]
 
 
@@ -123,7 +123,7 @@ class Documents:
         """Runs one command, and counts whether it prints what is wanted."""
         out, err, ended = self.call(command, folder)
         said = out + err
-        if is_to_come and said in NOT_BUILT:
+        if is_to_come and said != wanted and NOT_BUILT.fullmatch(said):
             self.passed += 1
             print(f"{where}: to come: {command}")
         elif said != wanted:
