@@ -1,6 +1,6 @@
 //! The judge of traces: whether a trace is one of the process of a flat body. What that means is
-//! defined in sig_tree; the judge reads a trace once, instant by instant. It stands on sig_base and
-//! sig_tree.
+//! defined in sig_tree; the judge reads a trace once, instant by instant. It stands on sig_tree, and on
+//! sig_flow for the lines and words of trace files.
 #![tactic(auto)]
 
 mod answer;

@@ -1,4 +1,4 @@
-//! The printer: the canonical text of a program. It stands on sig_tree.
+//! The printer: the canonical text of a program. It stands on sig_tree and sig_lex.
 #![tactic(auto)]
 
 mod answer;
