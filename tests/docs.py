@@ -12,8 +12,8 @@ In a document (README.md, docs/*.md, examples/README.md, tools/README.md)
   - in a table with the columns Command, Standard output, Standard error and Status each row is such a command.
 
 Commands run in the document's folder, in which `examples` and `tools` are those of the repository, and `sigc` is
-the program. A ```signal fence without a name, or one that no command of its document names, is a failure.
-The last line is `N passed, M failed`.
+the program. A ```signal fence without a name, or one that no command of its document names, is a failure, and so is
+a link between the pages that leads nowhere, or a program of examples/ that its README does not run. The last line is `N passed, M failed`.
 """
 import argparse
 import glob
@@ -191,6 +191,31 @@ def shown(text):
     return "".join(f"    {line}\n" for line in text.splitlines()) or "    (nothing)\n"
 
 
+def anchor(heading):
+    """The name under which a heading of a page is found."""
+    return re.sub(r"[^\w\- ]", "", heading.lower()).replace(" ", "-")
+
+
+def headings_of(path):
+    """The names of a page's headings; lines inside fences are none."""
+    with open(path, encoding="utf-8") as it:
+        text = re.sub(r"^ *```.*?^ *```$", "", it.read(), flags=re.M | re.S)
+    return {anchor(it) for it in re.findall(r"^#+ (.*)$", text, flags=re.M)}
+
+
+def broken_links():
+    """The links of the documents and of the crates' pages that lead nowhere: (page, target)."""
+    for page in [*documents(), *sorted(os.path.relpath(it, TOP) for it in glob.glob(f"{TOP}/crates/*/README.md"))]:
+        with open(f"{TOP}/{page}", encoding="utf-8") as it:
+            text = re.sub(r"^ *```.*?^ *```$", "", it.read(), flags=re.M | re.S)
+        for target in re.findall(r"\]\(([^)\s]+)\)", text):
+            file, _, name = target.partition("#")
+            path = os.path.normpath(os.path.join(TOP, os.path.dirname(page), file)) if file else f"{TOP}/{page}"
+            is_page = path.endswith(".md")
+            if "://" not in target and (not os.path.exists(path) or name and is_page and name not in headings_of(path)):
+                yield page, target
+
+
 def unnamed_examples():
     """The programs of examples/ that no command of their README names."""
     with open(f"{TOP}/examples/README.md", encoding="utf-8") as it:
@@ -214,6 +239,8 @@ def main():
         if not words.only:
             for it in unnamed_examples():
                 run.fail("examples/README.md", f"no command names examples/{it}")
+            for page, target in broken_links():
+                run.fail(page, f"this link leads nowhere: {target}")
     print(f"{run.passed} passed, {run.failed} failed")
     return 1 if run.failed or not run.passed else 0
 
