@@ -6,7 +6,7 @@ use Rattle.std.specs.Ordering.{int_eq}
 use Rattle.std.proofs.lemmas.Bool.{and_parts, false≢true}
 use Rattle.std.proofs.Math.Bool.{or-false}
 use Rattle.sig_base.specs.Functions.{Function, Identity, Negative, Not as Negation, And as Conjunction, Or as Disjunction, Xor as Exclusive, Equal, NotEqual, Gives, Tells}
-use Rattle.sig_base.specs.Traces.{Seen, Instant, Range, AreOfKinds, IsOfKind, IsValue, seen_at}
+use Rattle.sig_base.specs.Traces.{Seen, Instant, Range, AreOfKinds, IsOfKind, IsValue, is_silent as is_silent_instant, seen_at}
 use Rattle.sig_base.specs.declared.ids.Kind.{Kind}
 use Rattle.sig_base.specs.declared.ids.Kind.TheVariants.{Integer, Boolean, Event}
 use Rattle.sig_base.specs.declared.ids.SigId.{SigId}
@@ -26,7 +26,7 @@ use Rattle.sig_kernel.specs.declared.equation.Operand.TheVariants.{Sig, Const}
 use Rattle.sig_kernel.specs.declared.table.Sort.{Sort}
 use Rattle.sig_kernel.specs.declared.table.Sort.TheVariants.{Integer as AnInteger, Truth, Event as AnEvent, Any}
 use Rattle.sig_clock.specs.Abstractions.{abstraction_of, status_of, truth_of_value}
-use Rattle.sig_clock.specs.Reactions.{IsReaction, Reaction, Status, status_at, is_present, is_with, is_integer, is_integer_kind, same_status, same_truth, where_present, where_true, or_else, constant_truth, meets, are_statuses, is_status_of, operand_truth, truth_of_status, truth_function, function_truth, has_truth}
+use Rattle.sig_clock.specs.Reactions.{IsReaction, Reaction, Speaks, Status, status_at, is_present, is_silent, is_with, is_integer, is_integer_kind, same_status, same_truth, where_present, where_true, or_else, constant_truth, meets, are_statuses, is_status_of, operand_truth, truth_of_status, truth_function, function_truth, has_truth}
 
 -- a status by the kind of a signal, where it has one
 abbrev status_by : Option Kind → Seen → Status
@@ -549,3 +549,33 @@ abstract_instant range kernel memory instant valid is = record {
   equations = λ k d lt. abstract_meets range kernel.signals memory instant (get_or kernel.equations k d).form is.kinds (valid.equations.fit k d lt) (valid.equations.speak k d lt)
       (each_meets range memory instant kernel.equations k d lt is.equations);
 }
+
+silent_with : (range : Range) (signals : List Signal) (instant : Instant) → AreOfKinds range (map (λ signal. signal.kind) signals) instant
+    → is_silent (abstraction_of signals instant) ≡ is_silent_instant instant
+silent_with range [] [] kinds = refl
+silent_with range [] (seen ∷ instant) kinds = absurd kinds
+silent_with range (signal ∷ signals) [] kinds = absurd kinds
+silent_with range (signal ∷ signals) (None ∷ instant) kinds = silent_with range signals instant kinds.1
+silent_with range (signal ∷ signals) (Some v ∷ instant) kinds = refl
+
+-- an instant is silent where what is left of it is
+pub abstract_silence : (range : Range) (kernel : Kernel) (memory : Memory) (instant : Instant) → IsInstant range kernel memory instant
+    → is_silent (abstraction_of kernel.signals instant) ≡ is_silent_instant instant
+abstract_silence range kernel memory instant is = silent_with range kernel.signals instant is.kinds
+
+pub abstract_speaks : (range : Range) (kernel : Kernel) (memory : Memory) (instant : Instant) → IsValid kernel → IsInstant range kernel memory instant
+    → is_silent_instant instant ≡ false → Speaks kernel (abstraction_of kernel.signals instant)
+abstract_speaks range kernel memory instant valid is some = record {
+  is = abstract_instant range kernel memory instant valid is;
+  some = abstract_silence range kernel memory instant is ∙ some;
+}
+
+-- the status of a signal is that of its value
+pub abstract_status : (range : Range) (kernel : Kernel) (memory : Memory) (instant : Instant) → IsInstant range kernel memory instant
+    → (number : ℕ) (signal : Signal) → slice_get kernel.signals number ≡ Some signal → status_at (abstraction_of kernel.signals instant) number ≡ status_of signal.kind (seen_at instant number)
+abstract_status range kernel memory instant is number signal there =
+    at range kernel.signals instant number is.kinds ∙ ap (λ owner. status_by (kind_of owner) (seen_at instant number)) there
+
+pub abstract_presence : (range : Range) (kernel : Kernel) (memory : Memory) (instant : Instant) → IsInstant range kernel memory instant
+    → (number : ℕ) → is_present (abstraction_of kernel.signals instant) number ≡ is_some (seen_at instant number)
+abstract_presence range kernel memory instant is number = present_by range kernel.signals instant number is.kinds

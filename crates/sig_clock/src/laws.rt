@@ -1,9 +1,10 @@
 //! Laws of the clock calculus. The function of a law does nothing when it runs.
 
-ghost use Rattle.std.specs.Prelude.{◌≡◌, ◌+◌, ◌<◌, ℕ, Bool, true, false, List, length, slice_get, None, Some};
+ghost use Rattle.std.specs.Prelude.{◌≡◌, ◌+◌, ◌<◌, ℕ, Bool, true, false, List, length, slice_get, None, Some, is_some};
 ghost use Rattle.sig_base.specs.declared.ids.SigId.{SigId};
-ghost use Rattle.sig_base.specs.Traces.{Instant, Range};
-ghost use Rattle.sig_clock.specs.Abstractions.{abstraction_of};
+ghost use Rattle.sig_base.specs.Traces.{Instant, Range, is_silent as is_silent_instant, seen_at};
+ghost use Rattle.sig_base.specs.declared.signal.Signal.{Signal};
+ghost use Rattle.sig_clock.specs.Abstractions.{abstraction_of, status_of};
 ghost use Rattle.sig_clock.specs.ClockFunctions.{IsClockFunction, KeepsTo};
 ghost use Rattle.sig_clock.specs.ClockRefusals.{HasClocks, IsFirstPinned, IsMissingRoot, IsUnsolved};
 ghost use Rattle.sig_clock.specs.Clocks.{AreInOrder};
@@ -20,6 +21,24 @@ ghost use Rattle.sig_kernel.specs.declared.kernel.Kernel.{Kernel};
 pub fn instants_leave_abstract_reactions()
     ensures { (range : Range) (kernel : Kernel) (memory : Memory) (instant : Instant) → IsValid kernel
         → IsInstant range kernel memory instant → IsReaction kernel (abstraction_of kernel.signals instant) }
+{}
+
+/// A law: an instant that is not silent leaves an abstract reaction that is not silent. Each signal is
+/// present in it where it is present at the instant, and has the truth of its value.
+pub fn abstractions_have_the_statuses_of_values()
+    ensures speaks { (range : Range) (kernel : Kernel) (memory : Memory) (instant : Instant) → IsValid kernel
+        → IsInstant range kernel memory instant → is_silent_instant instant ≡ false
+        → Speaks kernel (abstraction_of kernel.signals instant) }
+    ensures silent { (range : Range) (kernel : Kernel) (memory : Memory) (instant : Instant)
+        → IsInstant range kernel memory instant
+        → is_silent (abstraction_of kernel.signals instant) ≡ is_silent_instant instant }
+    ensures statuses { (range : Range) (kernel : Kernel) (memory : Memory) (instant : Instant)
+        → IsInstant range kernel memory instant
+        → (number : ℕ) (signal : Signal) → slice_get kernel.signals number ≡ Some signal
+        → status_at (abstraction_of kernel.signals instant) number ≡ status_of signal.kind (seen_at instant number) }
+    ensures presences { (range : Range) (kernel : Kernel) (memory : Memory) (instant : Instant)
+        → IsInstant range kernel memory instant
+        → (number : ℕ) → is_present (abstraction_of kernel.signals instant) number ≡ is_some (seen_at instant number) }
 {}
 
 /// A law: signals of one clock class are present together in every abstract reaction.

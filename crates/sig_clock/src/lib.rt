@@ -15,6 +15,7 @@ pub use clocks::Clocks;
 pub use conditions::condition_set;
 pub use laws::{
     a_kernel_has_one_refusal, absent_conditions_make_no_difference,
-    instants_leave_abstract_reactions, proposals_determine_presences, signals_have_one_layer,
+    abstractions_have_the_statuses_of_values, instants_leave_abstract_reactions,
+    proposals_determine_presences, signals_have_one_layer,
     signals_of_one_clock_are_present_together, silence_is_a_reaction,
 };

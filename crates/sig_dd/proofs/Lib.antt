@@ -18,3 +18,4 @@ pub mod Dependence
 pub mod Trails
 pub mod Rows
 pub mod Walks
+pub mod RelationalProducts

@@ -113,7 +113,7 @@ module _ (nodes : List Node) (reduced : IsReduced nodes) where
         (λ t. meets_constant none (λ e. ne (ap (λ (r : Ref). r.number) e)) (λ e. ne' (ap (λ (r : Ref). r.number) e)), λ m. refl)
 
   -- a side's truth at some truths is the function's, with the variable set
-  side_set : (r c : Ref) (v : ℕ) (x : Bool) → IsSide nodes r v x c → (ts : List Bool) → test nodes r (with_truth ts v x) ≡ test nodes c ts
+  pub side_set : (r c : Ref) (v : ℕ) (x : Bool) → IsSide nodes r v x c → (ts : List Bool) → test nodes r (with_truth ts v x) ≡ test nodes c ts
   side_set r c v x side ts =
       let lt : v < suc v = omega arith in
       sym (side.function (with_truth ts v x) (truth_of-with_same ts v x))
@@ -127,7 +127,7 @@ module _ (nodes : List Node) (reduced : IsReduced nodes) where
       → test nodes p.first ts ≡ true → test nodes p.second ts ≡ b → Meets nodes k b
   meets_side p k v x b sf sg ts at first second = (ts, sf.function ts at ∙ first, sg.function ts at ∙ second)
 
-  smaller_side : (p k : Pair) (v : ℕ) (x : Bool) → IsSide nodes p.first v x k.first → IsSide nodes p.second v x k.second → HasVariable nodes p.first v ⊎ HasVariable nodes p.second v
+  pub smaller_side : (p k : Pair) (v : ℕ) (x : Bool) → IsSide nodes p.first v x k.first → IsSide nodes p.second v x k.second → HasVariable nodes p.first v ⊎ HasVariable nodes p.second v
       → k.first.number + k.second.number < p.first.number + p.second.number
   smaller_side p k v x sf sg (inl has) = let l = sf.smaller has in let m = sg.at_most in omega arith
   smaller_side p k v x sf sg (inr has) = let l = sf.at_most in let m = sg.smaller has in omega arith

@@ -5,5 +5,6 @@ pub mod Operand
 pub mod Question
 pub mod Cache
 pub mod Meets
+pub mod Products
 pub mod Shares
 pub mod Support

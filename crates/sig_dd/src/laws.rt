@@ -4,6 +4,7 @@
 ghost use Rattle.std.specs.Prelude.{◌≡◌, ◌↔◌, ◌||◌, ◌⊎◌, ◌+◌, ◌*◌, ◌≤◌, ℕ, Bool, true, false, List, ◌∷◌, Option, None, IsTrue, Contains, length, if◌then◌else◌};
 ghost use Rattle.sig_dd.specs.Diagram.{truth_of, visited, with_truth, Agree, Depends};
 ghost use Rattle.sig_dd.specs.Nodes.{allowance, diagram, test, Holds, IsRefOf, IsStore, Keeps, Spans, StoreView};
+ghost use Rattle.sig_dd.specs.Products.{IsProduct};
 ghost use Rattle.sig_dd.specs.Shares.{HasAll, HoldAll, Share, Shares, SpanAll, Trail};
 ghost use Rattle.sig_dd.specs.Walks.{Asks, IsIdle};
 ghost use Rattle.sig_dd.specs.declared.answer.DdAnswer.{DdAnswer};
@@ -129,6 +130,18 @@ pub fn walks_ask_nothing_idle()
         → (truths : List Bool) (vs : List ℕ)
         → ((v : ℕ) → Asks (diagram s.nodes f) truths v → Contains vs v)
         → visited (diagram s.nodes f) truths ≤ length vs }
+{}
+
+/// A law: a relational product depends on no forgotten variable, and on no other variable than its
+/// two functions do.
+pub fn products_forget_their_variables()
+    ensures forgotten { (nodes : List Node) (forgotten : List Bool) (f g : List Bool → Bool) (r : Ref)
+        → IsProduct nodes forgotten f g r
+        → (v : ℕ) → Depends (test nodes r) v → truth_of forgotten v ≡ false }
+    ensures spans { (s : StoreView) → IsStore s → (f g : Ref) → Holds s.nodes f → Holds s.nodes g
+        → (nodes : List Node) (forgotten : List Bool) (r : Ref)
+        → IsProduct nodes forgotten (test s.nodes f) (test s.nodes g) r
+        → (vs : List ℕ) → Spans s.nodes f vs → Spans s.nodes g vs → Spans nodes r vs }
 {}
 
 /// A law: a store may be shared between threads, and moved to one.

@@ -11,6 +11,7 @@ mod meets;
 mod node;
 mod operand;
 mod operations;
+mod products;
 mod question;
 mod recursion;
 mod steps;
@@ -21,8 +22,8 @@ pub use answer::DdAnswer;
 pub use laws::{
     a_store_may_be_shared, calls_add_up, calls_lead_on, equal_functions_have_one_ref,
     fixed_variables_make_no_difference, functions_depend_on_their_parts, older_references_stay,
-    other_variables_make_no_difference, references_depend_as_their_functions,
-    walks_ask_nothing_idle,
+    other_variables_make_no_difference, products_forget_their_variables,
+    references_depend_as_their_functions, walks_ask_nothing_idle,
 };
 pub use node::Ref;
 pub use steps::Steps;

@@ -29,7 +29,7 @@ pub(crate) enum PairStep {
 }
 
 /// The pair where the variable has the truth.
-fn pair_side(first: &Operand, second: &Operand, variable: u32, truth: bool) -> Pair
+pub(crate) fn pair_side(first: &Operand, second: &Operand, variable: u32, truth: bool) -> Pair
     ensures first { result.first ≡ side_of first.now.node first.now.reference variable truth }
     ensures second { result.second ≡ side_of second.now.node second.now.reference variable truth }
 {
