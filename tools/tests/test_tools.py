@@ -219,6 +219,10 @@ class Waveform(unittest.TestCase):
         rows = [(1, ["Z", "true"]), (2, ["Y", "2"]), (3, ["Z", "false"])]
         self.assertEqual(self.vcd.instants_of_run(rows, ["Y", "Z"])[1], [{"Z": "true"}, {"Y": "2", "Z": "false"}])
 
+    def test_a_scope_for_each_call(self):
+        done = ran("trace2vcd", given="Y COUNT#1.N\n1 2\n")
+        self.assertIn("$scope module COUNT_1 $end\n$var integer 64 \" N $end\n$upscope $end\n$upscope $end\n", done.stdout)
+
     def test_short_names(self):
         self.assertEqual(len({self.vcd.code_of(it) for it in range(9000)}), 9000)
 
