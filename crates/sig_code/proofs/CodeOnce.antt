@@ -20,27 +20,12 @@ use Rattle.sig_plan.specs.declared.code.Step.{Step}
 use Rattle.sig_plan.specs.declared.code.StepKind.{StepKind}
 use Rattle.sig_plan.specs.declared.code.StepKind.TheVariants.{Do, Send, Receive, Report, Collect, Commit}
 use Rattle.sig_plan.specs.declared.op.Op.{Op}
-use Rattle.sig_plan.proofs.Adding.{guard_is}
+use Rattle.sig_plan.proofs.Accepted.{plan_operations}
 use Rattle.sig_clock.proofs.Lists.{get_at, get_within}
 use Rattle.sig_plan.proofs.Orders.{same_order}
 use Rattle.sig_code.specs.Texts.{IsCodeText}
 use Rattle.sig_plan.proofs.OperationsOnce.{operations_once}
 use Rattle.sig_plan.proofs.PartsOnce.{WritesWithin, operations_fine, parts_once}
-
--- ---- the operations of an accepted plan are those of its kernel
-
-pub plan_operations : (plan : PlanView) → IsAccepted plan → HasOperations plan.kernel plan.clocks.conditions (operations_in plan.store.nodes plan.ops)
-plan_operations plan is = record {
-  clocks = is.has_clocks;
-  order = is.clocks.conditions;
-  presence = presence_in plan.store.nodes plan.clocks;
-  functions = λ signal within.
-      let class = get_or plan.clocks.class_of signal 0 in
-      let guard = get_or plan.clocks.guard class (record { number = 0 }) in
-      let has : guard_of plan.clocks signal ≡ Some guard = get_at plan.clocks.guard class (record { number = 0 }) (is.clocks.classes signal within) in
-      subst (IsClockFunction plan.kernel plan.clocks.conditions signal) (guard_is plan.clocks (signal_id signal) guard has plan.store.nodes) (is.clocks.functions signal guard within has);
-  are = is.operations.are;
-}
 
 -- ---- texts of lists
 

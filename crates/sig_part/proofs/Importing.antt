@@ -14,7 +14,7 @@ use Rattle.sig_clock.proofs.Lists.{get_within}
 use Rattle.sig_part.specs.Closing.{AreClosed, Closes, seed, onward, is_elsewhere, is_other}
 use Rattle.sig_part.specs.Imported.{AreImported, AreImportedBy}
 use Rattle.sig_part.specs.Uses.{AreNeeded, AreNeededForEach, IsNeededWithin, IsUsedWithin}
-use Rattle.sig_part.specs.Written.{AreWritten}
+use Rattle.sig_plan.specs.Written.{AreWritten}
 use Rattle.sig_part.proofs.Lists.{get_map, map_get}
 
 -- listed operations are the operations of the kernel

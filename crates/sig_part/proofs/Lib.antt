@@ -6,4 +6,3 @@ pub mod Listing
 pub mod Linked
 pub mod Importing
 pub mod Parting
-pub mod Writing

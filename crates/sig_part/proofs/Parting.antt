@@ -9,7 +9,7 @@ use Rattle.sig_plan.specs.declared.parts.LinkInfo.{LinkInfo}
 use Rattle.sig_part.specs.Imported.{AreImported, AreImportedBy}
 use Rattle.sig_part.specs.Linking.{AreLinksOfMarks}
 use Rattle.sig_part.specs.Marks.{AreMarked, AreMarkedIn}
-use Rattle.sig_part.specs.Written.{AreWritten}
+use Rattle.sig_plan.specs.Written.{AreWritten}
 use Rattle.sig_part.proofs.Linked.{signal_links}
 use Rattle.sig_part.proofs.Marking.{marked_within}
 

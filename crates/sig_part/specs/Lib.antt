@@ -3,5 +3,4 @@ pub mod Uses
 pub mod Marks
 pub mod Closing
 pub mod Linking
-pub mod Written
 pub mod Imported

@@ -6,7 +6,7 @@ ghost use Rattle.sig_clock.specs.Clocks.{AreClocks};
 ghost use Rattle.sig_dd.specs.Nodes.{Holds};
 ghost use Rattle.sig_kernel.specs.Validity.{IsValid};
 ghost use Rattle.sig_part.specs.Answers.{IsRefusal};
-ghost use Rattle.sig_part.specs.Written.{AreWritten};
+ghost use Rattle.sig_plan.specs.Written.{AreWritten};
 ghost use Rattle.sig_plan.specs.Operations.{AreOperations, operations_in};
 ghost use Rattle.sig_plan.specs.Order.{IsCompiledOrder};
 ghost use Rattle.sig_plan.specs.Parts.{AreParts, cluster_count};

@@ -1,6 +1,6 @@
 -- The guards of clocks, and what stays of them as a store grows.
-use Rattle.std.proofs.Common.{◌≡◌, ◌<◌, ℕ, Bool, List, [], ◌∷◌, length, get_or, refl, sym, ap, ◌∙◌, subst, arith, Contains}
-use Rattle.std.specs.Prelude.{zero, suc, Option, None, Some, slice_get}
+use Rattle.std.proofs.Common.{◌≡◌, ℕ, Bool, List, length, get_or, refl, sym, ap, ◌∙◌, subst}
+use Rattle.std.specs.Prelude.{Option, None, Some, slice_get}
 use Rattle.sig_clock.proofs.Lists.{at_contained, contains_at}
 use Rattle.sig_clock.specs.Clocks.{AreClocks, ClocksView, guard_of}
 use Rattle.sig_dd.specs.Diagram.{Depends}

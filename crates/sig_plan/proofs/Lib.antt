@@ -8,3 +8,10 @@ pub mod SmallShares
 pub mod FaultOnce
 pub mod OperationsOnce
 pub mod PartsOnce
+pub mod Writing
+pub mod Accepted
+pub mod EachOperation
+pub mod Counting
+pub mod Indices
+pub mod Done
+pub mod Earlier

@@ -1,5 +1,5 @@
 -- The operations of a kernel are one thing.
-use Rattle.std.proofs.Common.{◌≡◌, ◌<◌, ◌≤◌, ◌+◌, ◌⊎◌, inl, inr, ℕ, true, List, [], ◌∷◌, ◌++◌, length, map, refl, sym, ◌∙◌, subst, arith}
+use Rattle.std.proofs.Common.{◌≡◌, ◌<◌, ◌≤◌, ◌+◌, ℕ, true, List, [], ◌∷◌, ◌++◌, length, map, refl, sym, ◌∙◌, subst, arith}
 use Rattle.std.specs.Prelude.{zero, suc, ◌&&◌, None, Some}
 use Rattle.std.specs.List.{AllPass, list_all, range_with_len}
 use Rattle.std.proofs.lemmas.Bool.{and_parts, ltb-true}
@@ -7,12 +7,7 @@ use Rattle.std.proofs.lemmas.List.Elements.{All-head, All-tail}
 use Rattle.sig_base.specs.declared.ids.EqId.{EqId}
 use Rattle.sig_base.specs.declared.ids.SigId.{SigId}
 use Rattle.sig_clock.specs.ClockFunctions.{IsClockFunction}
-use Rattle.sig_clock.specs.ClockRefusals.{HasClocks}
-use Rattle.sig_clock.specs.Clocks.{AreInOrder}
 use Rattle.sig_clock.specs.Conditions.{signal_id}
-use Rattle.sig_clock.specs.Layers.{IsEarlier}
-use Rattle.sig_clock.proofs.LayerLemmas.{one_layer}
-use Rattle.sig_clock.proofs.ProposalLemmas.{some_reaction}
 use Rattle.sig_kernel.specs.Table.{operands_of, target_of}
 use Rattle.sig_kernel.specs.Validity.{IsValid, form_within, is_below, operand_within, target_within}
 use Rattle.sig_kernel.specs.declared.equation.Equation.{Equation}
@@ -20,7 +15,7 @@ use Rattle.sig_kernel.specs.declared.equation.Form.{Form}
 use Rattle.sig_kernel.specs.declared.equation.Form.TheVariants.{Fun, Delay, When, WhenConst, Default, Sync, Event}
 use Rattle.sig_kernel.specs.declared.kernel.Kernel.{Kernel}
 use Rattle.sig_plan.specs.Acceptance.{HasOperations}
-use Rattle.sig_plan.specs.Operations.{Guard, Operation, Presence, cluster_at, equation_id, of_each, operations_of, read_of, stores_of, without, writes_of, writing, signals_of}
+use Rattle.sig_plan.specs.Operations.{Operation, Presence, cluster_at, equation_id, of_each, operations_of, read_of, stores_of, without, writes_of, writing, signals_of}
 use Rattle.sig_plan.specs.declared.op.OpKind.TheVariants.{Read, Compute, Left, Right, DelayRead, Store}
 use Rattle.sig_clock.proofs.OnceLemmas.{conditions_once, function_once}
 

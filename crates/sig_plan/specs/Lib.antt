@@ -7,3 +7,4 @@ pub mod Order
 pub mod Parts
 pub mod Plans
 pub mod Shares
+pub mod Written

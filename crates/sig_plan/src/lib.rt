@@ -7,6 +7,8 @@ mod answer;
 mod code;
 mod ended;
 mod laws;
+mod laws_accepted;
+mod laws_done;
 mod making;
 mod op;
 mod parts;
@@ -19,6 +21,13 @@ pub use ended::{Cause, Ended};
 pub use laws::{
     a_kernel_has_its_operations_once, a_kernel_has_one_fault_at_most, clocks_stay,
     operations_have_one_order, operations_need_few_nodes,
+};
+pub use laws_accepted::{
+    accepted_plans_have_their_operations, signals_are_written_in_their_clusters,
+};
+pub use laws_done::{
+    guards_depend_on_conditions_alone, operations_have_what_they_need,
+    operations_name_what_is_there, present_signals_are_written_once, read_signals_are_present,
 };
 pub use making::operations;
 pub use op::{Op, OpKind, Reads};
