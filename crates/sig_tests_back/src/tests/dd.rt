@@ -9,52 +9,65 @@ use std::marker::Brand;
 use std::sync::ledger::Blank;
 use std::test::Fail;
 
-#[test]
-fn a_full_store_refuses(rt: HostRuntime) -> Result<(), Fail> {
-    let mut store = Store::new(rt.alloc(), 3)?;
-    assert_eq!(rt; store.len(), 0);
+/// Two variables, and where both are true.
+#[derive(Drop)]
+struct Two {
+    a: Ref,
+    b: Ref,
+    both: Ref,
+}
+
+fn two_of(store: &mut Store) -> Result<Two, DdAnswer>
+    ensures a { IfOk result (λ two. Holds store.new.nodes two.a) }
+    ensures b { IfOk result (λ two. Holds store.new.nodes two.b) }
+    ensures both { IfOk result (λ two. Holds store.new.nodes two.both) }
+{
     let a = store.variable(0)?;
     let b = store.variable(1)?;
     let both = store.conj(a, b)?;
+    Ok(Two { a, b, both })
+}
+
+#[test]
+fn a_full_store_refuses(rt: HostRuntime) -> Result<(), Fail> {
+    let mut store = Store::new(rt.alloc(), 3)?;
+    let two = two_of(&mut store)?;
+    assert_eq!(rt; store.conj(two.b, two.a), Ok(two.both));
+    assert_eq!(rt; store.disj(two.a, two.b), Err(DdAnswer::Budget(3)));
     assert_eq!(rt; store.len(), 3);
-    assert_eq!(rt; store.conj(b, a)?, both);
-    assert_eq!(rt; store.disj(a, b), Err(DdAnswer::Budget(3)));
-    assert_eq!(rt; store.len(), 3);
-    assert_eq!(rt;
-        value::<Brand>(&store, both, &[true, true], Blank::new(1))?,
-        Some(true)
-    );
+    Ok(())
+}
+
+#[test]
+fn a_function_has_its_values(rt: HostRuntime) -> Result<(), Fail> {
+    let mut store = Store::new(rt.alloc(), 100)?;
+    let two = two_of(&mut store)?;
+    let either = store.disj(two.a, two.b)?;
+    let mixed = value::<Brand>(&store, either, &[false, true], Blank::new(1))?;
+    let both = value::<Brand>(&store, two.both, &[false, true], Blank::new(1))?;
+    assert_eq!(rt; (mixed, both), (Some(true), Some(false)));
     Ok(())
 }
 
 #[test]
 fn operations_answer(rt: HostRuntime) -> Result<(), Fail> {
     let mut store = Store::new(rt.alloc(), 100)?;
-    let a = store.variable(0)?;
-    let b = store.variable(1)?;
-    let either = store.disj(a, b)?;
-    assert_eq!(rt;
-        value::<Brand>(&store, either, &[false, true], Blank::new(1))?,
-        Some(true)
-    );
-    let both = store.conj(a, b)?;
+    let two = two_of(&mut store)?;
     let never = store.constant(false);
-    assert_eq!(rt; store.ite(a, b, never)?, both);
-    let not_a = store.negate(a)?;
-    assert_eq!(rt; store.negate(not_a)?, a);
+    assert_eq!(rt; store.ite(two.a, two.b, never), Ok(two.both));
+    let not_a = store.negate(two.a)?;
+    assert_eq!(rt; store.negate(not_a), Ok(two.a));
+    assert_eq!(rt; store.implies(two.both, two.a), Ok(true));
     Ok(())
 }
 
 #[test]
 fn quantifiers_answer(rt: HostRuntime) -> Result<(), Fail> {
     let mut store = Store::new(rt.alloc(), 100)?;
-    let a = store.variable(0)?;
-    let b = store.variable(1)?;
-    let both = store.conj(a, b)?;
-    assert_eq!(rt; store.restrict(both, 0, true)?, b);
-    assert_eq!(rt; store.forget_var(both, 0)?, b);
-    assert!(rt; store.implies(both, a)?);
-    let variables = store.support(both)?;
+    let two = two_of(&mut store)?;
+    assert_eq!(rt; store.restrict(two.both, 0, true), Ok(two.b));
+    assert_eq!(rt; store.forget_var(two.both, 0), Ok(two.b));
+    let variables = store.support(two.both)?;
     assert_eq!(rt; variables.as_slice(), [0, 1].as_slice());
     Ok(())
 }
@@ -90,15 +103,19 @@ fn each_question_is_split_once(rt: HostRuntime) -> Result<(), Fail> {
 #[test]
 fn two_truths_answer(rt: HostRuntime) -> Result<(), Fail> {
     let mut store = Store::new(rt.alloc(), 100)?;
-    let a = store.variable(0)?;
-    let b = store.variable(1)?;
-    let both = store.conj(a, b)?;
-    let not_a = store.negate(a)?;
+    let two = two_of(&mut store)?;
+    let within = (
+        store.within(two.both, two.a)?,
+        store.within(two.a, two.both)?,
+    );
+    assert_eq!(rt; within, (true, false));
+    let not_a = store.negate(two.a)?;
     let count = store.len();
-    assert!(rt; store.within(both, a)?);
-    assert!(rt; !store.within(a, both)?);
-    assert!(rt; store.overlap(a, b)?);
-    assert!(rt; !store.overlap(both, not_a)?);
+    let overlap = (
+        store.overlap(two.a, two.b)?,
+        store.overlap(two.both, not_a)?,
+    );
+    assert_eq!(rt; overlap, (true, false));
     assert_eq!(rt; store.len(), count);
     Ok(())
 }

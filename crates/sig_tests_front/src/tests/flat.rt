@@ -1,9 +1,10 @@
 //! Kernels of small flat bodies, and the limit.
 
 use super::texts::flat_of;
-use sig_base::{Kind, SigId, Signal, Span, Text};
+use super::writing::write_bytes;
+use sig_base::{Kind, Signal, Span, Text};
 use sig_flat::{FlatAnswer, to_kernel};
-use sig_kernel::{Form, FunOp, Kernel, Operand};
+use sig_kernel::Kernel;
 use sig_tree::Flat;
 use std::alloc::Global;
 use std::fmt::Write;
@@ -15,60 +16,43 @@ const DOWN: &[u8] = b"process DOWN = (? integer A ! integer Y)
  | A ^= when (ZY <= 0)
  |) where integer ZY; end;";
 
-fn name(kernel: &Kernel, number: usize) -> &[u8] {
-    match kernel.signals.as_slice().get(number) {
-        Some(signal) => signal.name.as_bytes(),
-        None => b"",
+/// The names of a kernel's signals from this number on, with a blank behind each.
+fn names(alloc: Global, kernel: &Kernel, first: usize) -> Result<String, Fail> {
+    let mut out = String::new(alloc);
+    for signal in kernel.signals.as_slice().iter().skip(first) {
+        write_bytes(&mut out, signal.name.as_bytes())?;
+        out.push(' ')?;
     }
+    Ok(out)
 }
 
-fn form(kernel: &Kernel, number: usize) -> Option<&Form> {
-    match kernel.equations.as_slice().get(number) {
-        Some(equation) => Some(&equation.form),
-        None => None,
+/// The forms of a kernel's equations, each on a line.
+fn forms(alloc: Global, kernel: &Kernel) -> Result<String, Fail> {
+    let mut out = String::new(alloc);
+    for equation in kernel.equations.as_slice() {
+        write!(out, "{:?}\n", equation.form)?;
     }
+    Ok(out)
 }
 
-fn is_function(form: Option<&Form>, y: u32, op: FunOp, operands: &[Operand]) -> bool {
-    match form {
-        Some(Form::Fun(signal, function, list)) => {
-            signal.0 == y && *function == op && list.as_slice() == operands
-        }
-        _ => false,
-    }
-}
+const DOWN_FORMS: &str = "Fun(SigId(3), Sub, Operands { list: [Sig(SigId(2)), Const(1)] })
+Default(SigId(1), SigId(0), SigId(3))
+Delay(SigId(2), SigId(1), 0)
+Fun(SigId(4), Le, Operands { list: [Sig(SigId(2)), Const(0)] })
+WhenConst(SigId(5), 1, SigId(4))
+Sync(SigId(0), SigId(5))
+";
 
 #[test]
 fn makes_the_kernel_of_down(rt: HostRuntime) -> Result<(), Fail> {
     let alloc = rt.alloc();
     let kernel = to_kernel(alloc, &flat_of(alloc, DOWN)?)?;
-    assert_eq!(rt; kernel.inputs, 1);
-    assert_eq!(rt; kernel.outputs, 1);
-    assert_eq!(rt; kernel.declared, 3);
-    assert_eq!(rt; kernel.signals.as_slice().len(), 6);
-    assert_eq!(rt; name(&kernel, 2), b"ZY".as_slice());
-    assert_eq!(rt; name(&kernel, 3), b"#2:23".as_slice());
-    assert_eq!(rt; name(&kernel, 4), b"#4:18".as_slice());
-    assert_eq!(rt; name(&kernel, 5), b"#4:9".as_slice());
-    assert_eq!(rt; kernel.equations.as_slice().len(), 6);
-    let one = [Operand::Sig(SigId(2)), Operand::Const(1)];
-    assert!(rt; is_function(form(&kernel, 0), 3, FunOp::Sub, &one));
-    assert!(rt;
-        matches!(
-            form(&kernel, 1),
-            Some(Form::Default(SigId(1), SigId(0), SigId(3)))
-        )
+    assert_eq!(rt; (kernel.inputs, kernel.outputs, kernel.declared), (1, 1, 3));
+    assert_eq!(rt;
+        names(alloc, &kernel, 0)?.as_str(),
+        "A Y ZY #2:23 #4:18 #4:9 "
     );
-    assert!(rt; matches!(form(&kernel, 2), Some(Form::Delay(SigId(2), SigId(1), 0))));
-    let none = [Operand::Sig(SigId(2)), Operand::Const(0)];
-    assert!(rt; is_function(form(&kernel, 3), 4, FunOp::Le, &none));
-    assert!(rt;
-        matches!(
-            form(&kernel, 4),
-            Some(Form::WhenConst(SigId(5), 1, SigId(4)))
-        )
-    );
-    assert!(rt; matches!(form(&kernel, 5), Some(Form::Sync(SigId(0), SigId(5)))));
+    assert_eq!(rt; forms(alloc, &kernel)?.as_str(), DOWN_FORMS);
     Ok(())
 }
 
@@ -76,27 +60,23 @@ const COPY: &[u8] =
     b"process P = (? boolean X ! event Y) pragmas RunOn {Y} \"7\" end pragmas Y := Q(X);
 process Q = (? boolean X ! event Y) Y := X ^- X;";
 
+const COPY_FORMS: &str = "Fun(SigId(2), Id, Operands { list: [Sig(SigId(0))] })
+Event(SigId(4), SigId(2))
+Event(SigId(5), SigId(2))
+Fun(SigId(6), Not, Operands { list: [Sig(SigId(5))] })
+Default(SigId(7), SigId(6), SigId(4))
+WhenConst(SigId(3), 1, SigId(7))
+Fun(SigId(1), Id, Operands { list: [Sig(SigId(3))] })
+";
+
 #[test]
 fn names_intermediates_of_copies(rt: HostRuntime) -> Result<(), Fail> {
     let alloc = rt.alloc();
     let kernel = to_kernel(alloc, &flat_of(alloc, COPY)?)?;
     let signals = kernel.signals.as_slice();
-    assert_eq!(rt; signals.len(), 8);
-    assert_eq!(rt; name(&kernel, 7), b"Q#1.#2:44".as_slice());
     assert!(rt; signals.iter().skip(1).all(|signal| signal.cluster == 7));
-    assert_eq!(rt; kernel.equations.as_slice().len(), 7);
-    assert!(rt;
-        matches!(
-            form(&kernel, 4),
-            Some(Form::Default(SigId(7), SigId(6), SigId(4)))
-        )
-    );
-    assert!(rt;
-        matches!(
-            form(&kernel, 5),
-            Some(Form::WhenConst(SigId(3), 1, SigId(7)))
-        )
-    );
+    assert_eq!(rt; names(alloc, &kernel, 7)?.as_str(), "Q#1.#2:44 ");
+    assert_eq!(rt; forms(alloc, &kernel)?.as_str(), COPY_FORMS);
     Ok(())
 }
 

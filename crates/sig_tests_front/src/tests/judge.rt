@@ -4,6 +4,7 @@ use super::texts::{THREE_KINDS, flat_of};
 use sig_judge::{Row, Seen, Trace, TraceAnswer, Verdict, judge, read_trace};
 use sig_tree::Flat;
 use std::alloc::Global;
+use std::fmt::Write;
 use std::test::Fail;
 
 fn trace(alloc: Global, instants: &[[Seen; 3]]) -> Result<Trace, Fail> {
@@ -125,23 +126,33 @@ fn shows_refusals_of_traces(rt: HostRuntime) -> Result<(), Fail> {
     Ok(())
 }
 
-// A file of so many silent instants.
+/// Forty names.
+fn forty(alloc: Global, between: &str) -> Result<String, Fail> {
+    let mut names = String::from_str(alloc, "A0")?;
+    for number in 1..40 {
+        write!(names, "{between}A{number}")?;
+    }
+    Ok(names)
+}
+
+/// A file of so many silent instants of the forty.
 fn silent_file(alloc: Global, count: usize) -> Result<Vec<u8>, Fail> {
-    let mut bytes = b"A B C\n".to_vec(alloc)?;
-    bytes.extend_from_slice(&b". . .\n".repeat(alloc, count)?)?;
+    let mut bytes = forty(alloc, " ")?.as_bytes().to_vec(alloc)?;
+    for _ in 0..count {
+        bytes.push(b'\n')?;
+        bytes.extend_from_slice(&b" .".repeat(alloc, 40)?)?;
+    }
     Ok(bytes)
 }
 
 #[test]
 fn counts_cells(rt: HostRuntime) -> Result<(), Fail> {
     let alloc = rt.alloc();
-    let flat = flat_of(alloc, THREE_KINDS)?;
-    let most = silent_file(alloc, 1_333_333)?;
-    assert_eq!(rt; read_trace(alloc, &most, &flat)?.rows.len(), 1_333_333);
-    let more = silent_file(alloc, 1_333_334)?;
-    assert_eq!(rt;
-        read_trace(alloc, &more, &flat).err(),
-        Some(TraceAnswer::TooMany(4_000_000))
-    );
+    let text = format!(in alloc; "process P = (? integer {} ! ) (| |);", forty(alloc, ", ")?)?;
+    let flat = flat_of(alloc, text.as_bytes())?;
+    let most = read_trace(alloc, &silent_file(alloc, 100_000)?, &flat)?;
+    assert_eq!(rt; most.rows.len(), 100_000);
+    let more = read_trace(alloc, &silent_file(alloc, 100_001)?, &flat).err();
+    assert_eq!(rt; more, Some(TraceAnswer::TooMany(4_000_000)));
     Ok(())
 }

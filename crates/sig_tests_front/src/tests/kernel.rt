@@ -74,13 +74,18 @@ fn is_valid_with(alloc: Global, last: Form) -> Result<bool, AllocError> {
 fn valid_kernels(rt: HostRuntime) -> Result<(), Fail> {
     let alloc = rt.alloc();
     let mut down = kernel(alloc, down_forms(alloc)?)?;
-    assert!(rt; down.is_valid());
+    let is_valid = down.is_valid();
     down.inputs = 3;
-    assert!(rt; !down.is_valid());
-    assert!(rt; is_valid_with(alloc, Form::Sync(SigId(5), SigId(0)))?);
-    assert!(rt; !is_valid_with(alloc, Form::Sync(SigId(5), SigId(6)))?);
-    assert!(rt; !is_valid_with(alloc, Form::Event(SigId(0), SigId(5)))?);
-    assert!(rt; !is_valid_with(alloc, Form::Event(SigId(5), SigId(0)))?);
+    assert_eq!(rt; (is_valid, down.is_valid()), (true, false));
+    let rows = [
+        (Form::Sync(SigId(5), SigId(0)), true),
+        (Form::Sync(SigId(5), SigId(6)), false),
+        (Form::Event(SigId(0), SigId(5)), false),
+        (Form::Event(SigId(5), SigId(0)), false),
+    ];
+    for (last, wanted) in rows {
+        assert_eq!(rt; is_valid_with(alloc, last)?, wanted);
+    }
     Ok(())
 }
 
@@ -96,14 +101,20 @@ fn with_event(alloc: Global, form: Form) -> Result<bool, AllocError> {
 #[test]
 fn kinds_of_operands(rt: HostRuntime) -> Result<(), Fail> {
     let alloc = rt.alloc();
-    assert!(rt; with_event(alloc, Form::Event(SigId(5), SigId(0)))?);
-    assert!(rt; with_event(alloc, Form::WhenConst(SigId(5), 1, SigId(4)))?);
-    assert!(rt; !with_event(alloc, Form::WhenConst(SigId(5), 0, SigId(4)))?);
-    assert!(rt; !with_event(alloc, Form::WhenConst(SigId(5), 1, SigId(0)))?);
-    assert!(rt; !with_event(alloc, Form::Default(SigId(5), SigId(4), SigId(4)))?);
-    assert!(rt; !with_event(alloc, Form::When(SigId(5), SigId(4), SigId(4)))?);
-    assert!(rt; !with_event(alloc, Form::Delay(SigId(5), SigId(4), 1))?);
-    assert!(rt; !with_event(alloc, fun(alloc, 5, FunOp::Eq, 4, 1)?)?);
+    let compared = fun(alloc, 5, FunOp::Eq, 4, 1)?;
+    let rows = [
+        (Form::Event(SigId(5), SigId(0)), true),
+        (Form::WhenConst(SigId(5), 1, SigId(4)), true),
+        (Form::WhenConst(SigId(5), 0, SigId(4)), false),
+        (Form::WhenConst(SigId(5), 1, SigId(0)), false),
+        (Form::Default(SigId(5), SigId(4), SigId(4)), false),
+        (Form::When(SigId(5), SigId(4), SigId(4)), false),
+        (Form::Delay(SigId(5), SigId(4), 1), false),
+        (compared, false),
+    ];
+    for (form, wanted) in rows {
+        assert_eq!(rt; with_event(alloc, form)?, wanted);
+    }
     Ok(())
 }
 

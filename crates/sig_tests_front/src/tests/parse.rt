@@ -1,8 +1,8 @@
 //! Programs, and texts that are none, each with the line of its refusal, made by hand from the grammar.
 
-use super::texts::parsed;
+use super::texts::{parsed, program};
 use sig_base::{Kind, Span};
-use sig_tree::{Body, Constant, Expr, Right};
+use sig_tree::{Body, Constant, Expr, Process, Right};
 use std::alloc::{AllocError, Global};
 use std::test::Fail;
 
@@ -176,46 +176,79 @@ fn keeps_the_limits_of_bodies_and_processes(rt: HostRuntime) -> Result<(), Fail>
     Ok(())
 }
 
-#[test]
-fn gives_the_tree(rt: HostRuntime) -> Result<(), Fail> {
-    let text = b"process COUNT = { integer MAX } ( ? boolean RESET ; ! integer N , M init - 1 )
+const COUNT: &[u8] =
+    b"process COUNT = { integer MAX } ( ? boolean RESET ; ! integer N , M init - 1 )
 pragmas RunOn { N , Z } \"3\" end pragmas
 (| ( N , M ) := F { MAX , true } ( Z , 7 ) | Z := N $ 1 init 0 | N ^= RESET |)
 where integer Z ; process F = ( ? ! ) (| |) ; end ;";
-    let program = parsed(rt.alloc(), text)?
-        .ok()
-        .expect(&rt, "the text is a program");
-    assert_eq!(rt; program.processes.len(), 1);
-    let process = &program.processes[0];
+
+/// The one process of the text.
+fn count(alloc: Global) -> Result<Process, Fail> {
+    let mut read = program(alloc, COUNT)?;
+    match read.processes.pop() {
+        Some(process) if read.processes.is_empty() => Ok(process),
+        _ => Err(Fail::from("there is one process")),
+    }
+}
+
+#[test]
+fn gives_the_parts_of_a_process(rt: HostRuntime) -> Result<(), Fail> {
+    let process = count(rt.alloc())?;
+    let lengths = [
+        process.params.len(),
+        process.inputs.len(),
+        process.outputs.len(),
+        process.run_on.len(),
+        process.locals.len(),
+        process.inner.len(),
+    ];
+    assert_eq!(rt; lengths, [1, 1, 1, 1, 1, 1]);
     assert_eq!(rt; process.name.text.as_bytes(), b"COUNT".as_slice());
     assert_eq!(rt; process.name.at, Span { line: 1, col: 9 });
-    assert_eq!(rt; process.params.len(), 1);
-    assert_eq!(rt; process.inputs.len(), 1);
-    assert_eq!(rt; process.inputs[0].kind, Kind::Boolean);
-    assert_eq!(rt; process.outputs.len(), 1);
-    assert_eq!(rt; process.outputs[0].items.len(), 2);
-    assert!(rt; matches!(process.outputs[0].items[1].init, Some(Constant::Int(-1, _))));
-    assert_eq!(rt; process.run_on.len(), 1);
-    assert_eq!(rt; process.run_on[0].names.len(), 2);
-    assert_eq!(rt; process.run_on[0].label.as_bytes(), b"3".as_slice());
-    assert_eq!(rt; process.run_on[0].at, Span { line: 2, col: 9 });
-    assert_eq!(rt; process.locals.len(), 1);
-    assert_eq!(rt; process.inner.len(), 1);
-    let Body::All(bodies) = &process.body else {
-        assert!(rt; false, "the body is several together");
-        return Ok(());
+    Ok(())
+}
+
+#[test]
+fn gives_declarations_and_pragmas(rt: HostRuntime) -> Result<(), Fail> {
+    let process = count(rt.alloc())?;
+    for group in &process.inputs {
+        assert_eq!(rt; group.kind, Kind::Boolean);
+    }
+    for group in &process.outputs {
+        let inits: Vec<bool> = group
+            .items
+            .iter()
+            .map(|item| matches!(item.init, Some(Constant::Int(-1, _))))
+            .collect(rt.alloc())?;
+        assert_eq!(rt; inits.as_slice(), [false, true].as_slice());
+    }
+    for run_on in &process.run_on {
+        assert_eq!(rt;
+            (run_on.names.len(), run_on.at),
+            (2, Span { line: 2, col: 9 })
+        );
+        assert_eq!(rt; run_on.label.as_bytes(), b"3".as_slice());
+    }
+    Ok(())
+}
+
+/// Whether a body is a call, a delay by 0 or a clock equation, by 0, 1 and 2.
+fn sort(body: &Body) -> u32 {
+    match body {
+        Body::Def(_, Right::Call(_, _, _)) => 0,
+        Body::Def(_, Right::Value(Expr::Delay(_, Some(Constant::Int(0, _)), _))) => 1,
+        Body::Same(_) => 2,
+        _ => 3,
+    }
+}
+
+#[test]
+fn gives_the_equations(rt: HostRuntime) -> Result<(), Fail> {
+    let process = count(rt.alloc())?;
+    let sorts = match &process.body {
+        Body::All(bodies) => bodies.iter().map(|body| sort(body)).collect(rt.alloc())?,
+        _ => Vec::new(rt.alloc()),
     };
-    assert_eq!(rt; bodies.len(), 3);
-    assert!(rt; matches!(&bodies[0], Body::Def(_, Right::Call(_, _, _))));
-    assert!(rt;
-        matches!(
-            &bodies[1],
-            Body::Def(
-                _,
-                Right::Value(Expr::Delay(_, Some(Constant::Int(0, _)), _))
-            )
-        )
-    );
-    assert!(rt; matches!(&bodies[2], Body::Same(_)));
+    assert_eq!(rt; sorts.as_slice(), [0, 1, 2].as_slice());
     Ok(())
 }
