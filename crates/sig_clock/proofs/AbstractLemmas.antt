@@ -475,7 +475,7 @@ abstract_meets range signals memory instant (Fun y op operands) kinds fits speak
       (function_met range signals instant target.0 op operands present.0 v kinds target.2 speaks present.1 present.2))
 abstract_meets range signals memory instant (Delay y x initial) kinds fits speaks met =
     same_if (is_present (abstraction_of signals instant) y.0) (is_present (abstraction_of signals instant) x.0)
-    (present_by range signals instant y.0 kinds ∙ ap is_some met ∙ kept_seen (seen_at instant x.0) (memory x.0 initial) ∙ sym (present_by range signals instant x.0 kinds)) where
+    (present_by range signals instant y.0 kinds ∙ ap is_some met ∙ kept_seen (seen_at instant x.0) (memory y.0 x.0 initial) ∙ sym (present_by range signals instant x.0 kinds)) where
       kept_seen : (seen : Seen) (v : ℤ) → is_some (seen_where_present seen v) ≡ is_some seen
       kept_seen None v = refl
       kept_seen (Some w) v = refl

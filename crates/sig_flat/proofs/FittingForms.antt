@@ -1,6 +1,7 @@
 -- Forms whose operands have kinds that a row of the table takes.
 use Rattle.std.proofs.Common.{◌≡◌, ◌⊎◌, ◌++◌, ◌&&◌, ◌||◌, ℤ, pos, Bool, true, false, List, [], ◌∷◌, None, Some, refl, ap, ◌∙◌, inl, inr}
 use Rattle.std.proofs.lemmas.Bool.{false≢true}
+use Rattle.sig_base.proofs.TraceLemmas.{fits_by_test}
 use Rattle.sig_base.specs.declared.ids.Kind.{Kind}
 use Rattle.sig_base.specs.declared.ids.Kind.TheVariants.{Integer, Boolean, Event}
 use Rattle.sig_base.specs.declared.ids.SigId.{SigId}
@@ -80,8 +81,13 @@ right_true true f = refl
 right_true false f = f
 
 constant_fits : (sort : Sort) (kind : Kind) (c : ℤ) → IsValue Bounded kind c → kind_is sort kind ≡ true → constant_is sort c ≡ true
-constant_fits AnInteger kind c value fits = refl
-constant_fits Any kind c value fits = refl
+constant_fits AnInteger Integer c value fits = (fits_by_test c).1 value
+constant_fits AnInteger Boolean c value fits = absurd (false≢true fits)
+constant_fits AnInteger Event c value fits = absurd (false≢true fits)
+constant_fits Any Integer c value fits = (fits_by_test c).1 value
+constant_fits Any Boolean c (inl zero) fits = ap (λ x. constant_is Any x) zero
+constant_fits Any Boolean c (inr one) fits = ap (λ x. constant_is Any x) one
+constant_fits Any Event c one fits = ap (λ x. constant_is Any x) one
 constant_fits Truth Integer c value fits = absurd (false≢true fits)
 constant_fits Truth Boolean c (inl zero) fits = ap (λ x. constant_is Truth x) zero
 constant_fits Truth Boolean c (inr one) fits = ap (λ x. constant_is Truth x) one
@@ -215,7 +221,7 @@ stored_sort Event = refl
 
 keeps : (signals : List Signal) (k : Kind) (x : Operand) (init : ℤ) → operand_is signals x (sort_for (stored k)) ≡ true → IsValue Bounded (stored k) init
     → keeps_to_one signals (stored k) (x ∷ Const init ∷ []) kept ≡ true
-keeps signals Integer x init is value = kept_by signals Integer (x ∷ Const init ∷ []) [] (row (AnInteger ∷ AnInteger ∷ []) Integer) (row (Truth ∷ Truth ∷ []) Boolean ∷ []) (keeps_two signals Integer x (Const init) AnInteger AnInteger is refl)
+keeps signals Integer x init is value = kept_by signals Integer (x ∷ Const init ∷ []) [] (row (AnInteger ∷ AnInteger ∷ []) Integer) (row (Truth ∷ Truth ∷ []) Boolean ∷ []) (keeps_two signals Integer x (Const init) AnInteger AnInteger is (constant_fits AnInteger Integer init value refl))
 keeps signals Boolean x init is value =
     kept_by signals Boolean (x ∷ Const init ∷ []) (row (AnInteger ∷ AnInteger ∷ []) Integer ∷ []) (row (Truth ∷ Truth ∷ []) Boolean) [] (keeps_two signals Boolean x (Const init) Truth Truth is (constant_fits Truth Boolean init value refl))
 keeps signals Event x init is value =

@@ -21,6 +21,7 @@ mod Operating
 mod Parts
 mod Reacting
 mod Reading
+mod Restricting
 mod Saying
 mod SignalNames
 mod Sizes

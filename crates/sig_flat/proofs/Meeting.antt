@@ -42,8 +42,8 @@ both_row memory instant op (Const c) (Sig v) y fits some = (
 both_row memory instant op (Const c) (Const d) y fits some = absurd cc
 
 pub delay_row : (memory : Memory) (instant : Instant) (x y : SigId) (init : ℤ)
-    → (Meets Bounded memory instant (Delay y x init) ↔ (seen_at instant y.0 ≡ delayed (memory x.0 init) (seen_at instant x.0)))
-delay_row memory instant x y init = let same = delay_is (memory x.0 init) (seen_at instant x.0) in (λ h. h ∙ same, λ h. h ∙ sym same)
+    → (Meets Bounded memory instant (Delay y x init) ↔ (seen_at instant y.0 ≡ delayed (memory y.0 x.0 init) (seen_at instant x.0)))
+delay_row memory instant x y init = let same = delay_is (memory y.0 x.0 init) (seen_at instant x.0) in (λ h. h ∙ same, λ h. h ∙ sym same)
 
 pub when_row : (memory : Memory) (instant : Instant) (x b y : SigId)
     → (Meets Bounded memory instant (When y x b) ↔ Combines Sampled (Signal (seen_at instant x.0)) (Signal (seen_at instant b.0)) (seen_at instant y.0))
@@ -128,13 +128,13 @@ less_row memory instant u v e f z w y =
 
 pub cell_row : (memory : Memory) (instant : Instant) (x b z e w d y : SigId) (init : ℤ)
     → (AreMet memory instant (Delay z y init ∷ Default y x z ∷ Event e x ∷ WhenConst w (pos 1) b ∷ Default d e w ∷ Sync y d ∷ [])
-    ↔ ((seen_at instant z.0 ≡ delayed (memory y.0 init) (seen_at instant y.0))
+    ↔ ((seen_at instant z.0 ≡ delayed (memory z.0 y.0 init) (seen_at instant y.0))
     × (seen_at instant e.0 ≡ clock_of (seen_at instant x.0))
     × (seen_at instant w.0 ≡ sampled (Some (pos 1)) (seen_at instant b.0))
     × (seen_at instant d.0 ≡ merged (seen_at instant e.0) (seen_at instant w.0))
-    × (seen_at instant y.0 ≡ held (memory y.0 init) (seen_at instant x.0) (seen_at instant b.0))))
+    × (seen_at instant y.0 ≡ held (memory z.0 y.0 init) (seen_at instant x.0) (seen_at instant b.0))))
 cell_row memory instant x b z e w d y init =
-    let previous : ℤ = memory y.0 init in
+    let previous : ℤ = memory z.0 y.0 init in
     let x_is = clock_is (seen_at instant x.0) in
     let b_is = when_is (seen_at instant b.0) (Some (pos 1)) in
     let d_is = merge_is (seen_at instant e.0) (seen_at instant w.0) in

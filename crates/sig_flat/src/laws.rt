@@ -41,7 +41,7 @@ pub fn equations_mean_operators()
         → is_signal u || is_signal v ≡ true
         → (Meets Bounded memory instant (Fun y op (u ∷ v ∷ [])) ↔ AppliesToBoth (function_of op) (found_at instant u) (found_at instant v) (seen_at instant y.0)) }
     ensures delay { (memory : Memory) (instant : Instant) (x y : SigId) (init : ℤ)
-        → (Meets Bounded memory instant (Delay y x init) ↔ (seen_at instant y.0 ≡ delayed (memory x.0 init) (seen_at instant x.0))) }
+        → (Meets Bounded memory instant (Delay y x init) ↔ (seen_at instant y.0 ≡ delayed (memory y.0 x.0 init) (seen_at instant x.0))) }
     ensures when { (memory : Memory) (instant : Instant) (x b y : SigId)
         → (Meets Bounded memory instant (When y x b) ↔ Combines Sampled (Signal (seen_at instant x.0)) (Signal (seen_at instant b.0)) (seen_at instant y.0)) }
     ensures constant_when { (memory : Memory) (instant : Instant) (constant : ℤ) (b y : SigId)
@@ -74,11 +74,11 @@ pub fn derived_equations_mean_operators()
         × Combines Less (Signal (seen_at instant u.0)) (Signal (seen_at instant v.0)) (seen_at instant y.0))) }
     ensures cell { (memory : Memory) (instant : Instant) (x b z e w d y : SigId) (init : ℤ)
         → (AreMet memory instant (Delay z y init ∷ Default y x z ∷ Event e x ∷ WhenConst w (pos 1) b ∷ Default d e w ∷ Sync y d ∷ [])
-        ↔ ((seen_at instant z.0 ≡ delayed (memory y.0 init) (seen_at instant y.0))
+        ↔ ((seen_at instant z.0 ≡ delayed (memory z.0 y.0 init) (seen_at instant y.0))
         × (seen_at instant e.0 ≡ clock_of (seen_at instant x.0))
         × (seen_at instant w.0 ≡ sampled (Some (pos 1)) (seen_at instant b.0))
         × (seen_at instant d.0 ≡ merged (seen_at instant e.0) (seen_at instant w.0))
-        × (seen_at instant y.0 ≡ held (memory y.0 init) (seen_at instant x.0) (seen_at instant b.0)))) }
+        × (seen_at instant y.0 ≡ held (memory z.0 y.0 init) (seen_at instant x.0) (seen_at instant b.0)))) }
 {}
 
 /// A law: the equations of the kernel of a flat body whose equations name its signals name signals of

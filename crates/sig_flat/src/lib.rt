@@ -11,6 +11,7 @@ mod flat_equation;
 mod kernel;
 mod laws;
 mod operator;
+mod restricted;
 mod site;
 mod term;
 mod traces;
@@ -21,6 +22,10 @@ pub use kernel::to_kernel;
 pub use laws::{
     derived_equations_mean_operators, equations_mean_operators, kernels_have_their_parts,
     kernels_keep_signals, kernels_name_their_signals,
+};
+pub use restricted::{
+    longest_traces_are_longest_process_traces, restricted_traces_keep_flows,
+    restricted_traces_keep_silence,
 };
 pub use traces::kernel_traces_are_process_traces;
 pub use valid::{kernels_are_valid, kernels_have_few_equations, kernels_name_signals};
