@@ -15,3 +15,5 @@ pub mod Counting
 pub mod Indices
 pub mod Done
 pub mod Earlier
+pub mod Instructing
+pub mod Slotted

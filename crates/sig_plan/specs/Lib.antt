@@ -1,6 +1,8 @@
 pub mod Acceptance
 pub mod Answers
 pub mod Codes
+pub mod Guards
+pub mod Instructions
 pub mod Making
 pub mod Operations
 pub mod Order
