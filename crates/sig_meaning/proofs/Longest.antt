@@ -9,8 +9,7 @@ use Rattle.sig_base.specs.Functions.{Function, Identity, Negative, Not, And, Or,
 use Rattle.sig_base.specs.Traces.{AreOfKinds, Bounded, Fits, Instant, IsLongest, IsOfKind, IsPrefixOf, IsValue, NoneSilent, Seen, Trace, Unbounded, flow_of, has_64_bits, is_silent, reduce, seen_at}
 use Rattle.sig_base.specs.declared.ids.Kind.{Kind}
 use Rattle.sig_base.specs.declared.ids.Kind.TheVariants.{Integer, Boolean, Event}
-use Rattle.sig_base.proofs.FunctionLemmas.{within_bounds}
-use Rattle.sig_base.proofs.TraceLemmas.{fits_by_test, fits_reduced, prefix_fits, prefix_of_prefix, reduced, speaks}
+use Rattle.sig_base.proofs.TraceLemmas.{fits_by_test, fits_reduced, prefix_fits, one_longest, speaks}
 use Rattle.sig_kernel.specs.KernelTraces.{HaveValues, IsFunction, IsKernelTrace, IsReaction, IsTraceIn, Meets, Memory, function_of, remembered}
 use Rattle.sig_kernel.specs.declared.equation.Equation.{Equation}
 use Rattle.sig_kernel.specs.declared.equation.Form.{Form}
@@ -79,6 +78,27 @@ decide_gives Product (a ∷ b ∷ []) v is = inl is
 decide_gives Quotient (a ∷ b ∷ []) v is = both (not_zero b) (inl is.1)
 decide_gives Remainder (a ∷ b ∷ []) v is = both (not_zero b) (inl is.1)
 decide_gives function operands v is = absurd is
+
+-- functions give within 64 bits what they give without bounds
+pub within_bounds : (function : Function) (operands : List ℤ) (v : ℤ) → Gives Bounded function operands v → Gives Unbounded function operands v
+within_bounds Identity (a ∷ []) v is = is
+within_bounds Negative (a ∷ []) v is = is
+within_bounds Not (a ∷ []) v is = is
+within_bounds And (a ∷ b ∷ []) v is = is
+within_bounds Or (a ∷ b ∷ []) v is = is
+within_bounds Xor (a ∷ b ∷ []) v is = is
+within_bounds Equal (a ∷ b ∷ []) v is = is
+within_bounds NotEqual (a ∷ b ∷ []) v is = is
+within_bounds Less (a ∷ b ∷ []) v is = is
+within_bounds LessEqual (a ∷ b ∷ []) v is = is
+within_bounds Greater (a ∷ b ∷ []) v is = is
+within_bounds GreaterEqual (a ∷ b ∷ []) v is = is
+within_bounds Sum (a ∷ b ∷ []) v is = is
+within_bounds Difference (a ∷ b ∷ []) v is = is
+within_bounds Product (a ∷ b ∷ []) v is = is
+within_bounds Quotient (a ∷ b ∷ []) v is = (tt, is.1)
+within_bounds Remainder (a ∷ b ∷ []) v is = (tt, is.1)
+within_bounds function operands v is = absurd is
 
 -- operands have one list of values
 pub same_values : (instant : Instant) (operands : List Operand) (us vs : List ℤ) → HaveValues instant operands us → HaveValues instant operands vs → us ≡ vs
@@ -221,8 +241,7 @@ IsCleanCut kernel flows limit trace = IsClean kernel flows (length trace) trace
 
 pub some_cut : {kernel : Kernel} {flows : List (List ℤ)} → Fitting kernel flows → (limit : ℕ) → (trace : Trace) × IsCleanCut kernel flows limit trace
 some_cut {kernel} {flows} f zero =
-    let start = some_reference f 0 in
-    ([], clean f [] (λ past instant back e. absurd (never past instant back (ap length e))) (λ input lt. (get_or flows input [], refl)) tt, inl refl) where
+    ([], (clean f [] (λ past instant back e. absurd (never past instant back (ap length e))) (λ input lt. (get_or flows input [], refl)) tt, inl refl)) where
       never : (past : Trace) (instant : Instant) (back : Trace) → 0 ≡ length (past ++ instant ∷ back) → ⊥
       never [] instant back e = omega (arith, e)
       never (first ∷ past) instant back e = omega (arith, e)
@@ -249,16 +268,16 @@ some_cut {kernel} {flows} f (suc limit) = by (some_cut f limit) where
             → IsReference kernel flows (suc (length trace)) (trace ++ instant ∷ []) → Decided (IsWithinBounds kernel flows trace instant) → (trace : Trace) × IsCleanCut kernel flows (suc limit) trace
         at_instant trace instant c at next (inl within) =
             let longer = clean_more f (length trace) trace instant c next within in
-            (trace ++ instant ∷ [], subst (λ n. IsClean kernel flows n (trace ++ instant ∷ [])) (sym longer.reference.instants) longer, inl (longer.reference.instants ∙ ap suc at))
+            (trace ++ instant ∷ [], (subst (λ n. IsClean kernel flows n (trace ++ instant ∷ [])) (sym longer.reference.instants) longer, inl (longer.reference.instants ∙ ap suc at)))
         at_instant trace instant c at next (inr beyond) =
-            (trace, c, inr (omega (arith, at), instant, record { next = subst (λ n. IsReference kernel flows n (trace ++ instant ∷ [])) (omega arith) next; beyond = beyond }))
+            (trace, (c, inr (omega (arith, at), instant, record { next = subst (λ n. IsReference kernel flows n (trace ++ instant ∷ [])) (omega arith) next; beyond = beyond })))
 
   by : (trace : Trace) × IsCleanCut kernel flows limit trace → (trace : Trace) × IsCleanCut kernel flows (suc limit) trace
   by found = at_end found.0 found.1.0 found.1.1 where
     at_end : (trace : Trace) → IsClean kernel flows (length trace) trace
         → (length trace ≡ limit) ⊎ ((length trace < limit) × (instant : Instant) × StopsBefore kernel flows trace instant) → (trace : Trace) × IsCleanCut kernel flows (suc limit) trace
     at_end trace c (inl at) = further trace c at
-    at_end trace c (inr stops) = (trace, c, inr (omega (arith, stops.0), stops.1, stops.2))
+    at_end trace c (inr stops) = (trace, (c, inr (omega (arith, stops.0), stops.1, stops.2)))
 
 -- the cut is the longest trace
 pub cut_longest : {kernel : Kernel} {flows : List (List ℤ)} → Fitting kernel flows → (limit : ℕ) (trace : Trace) → IsCleanCut kernel flows limit trace
@@ -289,3 +308,17 @@ cut_longest {kernel} {flows} f limit trace cut = record {
 
 pub some_longest : {kernel : Kernel} {flows : List (List ℤ)} → Fitting kernel flows → (limit : ℕ) → (trace : Trace) × IsLongest (IsKernelTrace kernel) flows limit trace
 some_longest {kernel} {flows} f limit = let found = some_cut f limit in (found.0, cut_longest f limit found.0 found.1)
+
+-- and the longest trace is the cut
+pub longest_cut : {kernel : Kernel} {flows : List (List ℤ)} → Fitting kernel flows → (limit : ℕ) (trace : Trace) → IsLongest (IsKernelTrace kernel) flows limit trace → IsCut kernel flows limit trace
+longest_cut {kernel} {flows} f limit trace is =
+    let found = some_cut f limit in
+    let same : found.0 ≡ trace = one_longest (IsKernelTrace kernel) flows limit found.0 trace (cut_longest f limit found.0 found.1) is in
+    let cut : IsCleanCut kernel flows limit trace = subst (λ t. IsCleanCut kernel flows limit t) same found.1 in
+    record {
+      reference = cut.0.reference;
+      within = λ past instant future split.
+          let begins : IsPrefixOf (past ++ instant ∷ []) trace = (future, split ∙ sym (append_assoc past (instant ∷ []) future)) in
+          clean_back kernel flows past instant (prefix_trace Bounded kernel (past ++ instant ∷ []) trace begins is.is) (prefix_fits flows (past ++ instant ∷ []) trace begins is.fits);
+      ends = cut.1;
+    }

@@ -17,6 +17,7 @@ pub record StopsBefore (kernel : Kernel) (flows : List (List ℤ)) (trace : Trac
   pub beyond : IsWithinBounds kernel flows trace instant → ⊥
 
 -- A trace begins the reference up to the limit, or up to the first instant that is not within bounds.
-abbrev pub IsCut : Kernel → List (List ℤ) → ℕ → Trace → Type 0
-IsCut kernel flows limit trace = IsReference kernel flows (length trace) trace
-    × ((length trace ≡ limit) ⊎ ((length trace < limit) × (instant : Instant) × StopsBefore kernel flows trace instant))
+pub record IsCut (kernel : Kernel) (flows : List (List ℤ)) (limit : ℕ) (trace : Trace) : Type 0 where
+  pub reference : IsReference kernel flows (length trace) trace
+  pub within : (past : Trace) (instant : Instant) (future : Trace) → trace ≡ past ++ instant ∷ future → IsWithinBounds kernel flows past instant
+  pub ends : (length trace ≡ limit) ⊎ ((length trace < limit) × (instant : Instant) × StopsBefore kernel flows trace instant)

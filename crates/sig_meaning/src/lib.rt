@@ -5,4 +5,4 @@
 
 mod laws;
 
-pub use laws::references_exist_once;
+pub use laws::{longest_traces_exist, references_exist_once};
