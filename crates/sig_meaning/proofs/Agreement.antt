@@ -188,7 +188,7 @@ module _ (kernel : Kernel) (conditions : List SigId) (operations : List Operatio
       let e = read_earlier kernel c.valid conditions operations c.has order c.ordered k lt q at by_a yes_a y there in
       (before e.0 e.2 e.1 e.3).seen y e.4 e.5
 
-  same_value : (k : ℕ) → k < length operations → ReadsAgree k → SameBefore k → (q : Operation) → slice_get operations (slice_index order k) ≡ Some q → SameAt q
+  pub same_value : (k : ℕ) → k < length operations → ReadsAgree k → SameBefore k → (q : Operation) → slice_get operations (slice_index order k) ≡ Some q → SameAt q
   same_value k lt agree before q at =
       let done : q.guard by_a ≡ q.guard by_b = same_guard k lt before q at in
       record {

@@ -1,12 +1,17 @@
 pub mod Accepted
 pub mod Agreement
+pub mod Causing
 pub mod Doing
+pub mod Ending
 pub mod Equations
+pub mod FirstFaults
 pub mod Flows
 pub mod Longest
+pub mod Naming
 pub mod Reacting
 pub mod References
 pub mod Results
+pub mod Small
 pub mod Steps
 pub mod Truths
 pub mod Values

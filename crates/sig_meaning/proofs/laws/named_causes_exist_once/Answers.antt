@@ -1,0 +1,5 @@
+use Rattle.sig_meaning.proofs.Ending.{some_end}
+use Rattle.sig_meaning.proofs.laws.named_causes_exist_once.Goals as goal
+
+pub returns : goal.returns
+returns c = record { some = some_end }
