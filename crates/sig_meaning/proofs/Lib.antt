@@ -14,4 +14,5 @@ pub mod Results
 pub mod Small
 pub mod Steps
 pub mod Truths
+pub mod Uniqueness
 pub mod Values
