@@ -5,7 +5,7 @@ use Rattle.std.specs.List.{AllByRecursion, range_with_len}
 use Rattle.std.proofs.lemmas.List.{append-nil, length-append, length-map}
 use Rattle.std.proofs.lemmas.List.FromFn.{get_or-map-range_with_len, length-map-range_with_len}
 use Rattle.std.proofs.lemmas.List.Elements.{Contains-append_left, Contains-append_right}
-use Rattle.sig_base.specs.Traces.{AreOfKinds, Bounded, Fits, Instant, IsPrefixOf, IsValue, Seen, Trace, Unbounded, flow_of, has_64_bits, seen_at}
+use Rattle.sig_base.specs.Traces.{AreOfKinds, Bounded, Fits, Instant, IsPrefixOf, IsValue, Range, Seen, Trace, Unbounded, flow_of, has_64_bits, seen_at}
 use Rattle.sig_base.specs.declared.ids.EqId.{EqId}
 use Rattle.sig_base.specs.declared.ids.Kind.{Kind}
 use Rattle.sig_base.specs.declared.ids.SigId.{SigId}
@@ -55,11 +55,22 @@ met_place operations order k cause m =
     let there = got order k 0 m.number m.ordered in
     (there.0, ap (slice_get operations) there.1 ∙ m.is)
 
-kinds_length : (kinds : List Kind) (t : Instant) → AreOfKinds Unbounded kinds t → length t ≡ length kinds
-kinds_length [] [] are = refl
-kinds_length [] (s ∷ t) are = absurd are
-kinds_length (kind ∷ kinds) [] are = absurd are
-kinds_length (kind ∷ kinds) (s ∷ t) are = ap suc (kinds_length kinds t are.1)
+pub kinds_length : (range : Range) (kinds : List Kind) (t : Instant) → AreOfKinds range kinds t → length t ≡ length kinds
+kinds_length range [] [] are = refl
+kinds_length range [] (s ∷ t) are = absurd are
+kinds_length range (kind ∷ kinds) [] are = absurd are
+kinds_length range (kind ∷ kinds) (s ∷ t) are = ap suc (kinds_length range kinds t are.1)
+
+-- a signal that is there has a number below the count
+pub beyond_end : (signals : List Signal) (t : Instant) (x : ℕ) (w : ℤ) → length t ≡ length signals → seen_at t x ≡ Some w → x < length signals
+beyond_end signals t x w same seen = elim (at_most_or (length t) x) [
+  | inl le ↦ absurd (past t x le seen)
+  | inr lt ↦ omega (arith, lt, same)
+] where
+  past : (t : Instant) (x : ℕ) → length t ≤ x → seen_at t x ≡ Some w → ⊥
+  past [] x le seen = let e : None ≡ Some w = seen in cc
+  past (s ∷ t) zero le seen = omega (arith, le)
+  past (s ∷ t) (suc x) le seen = past t x (omega (arith, le)) seen
 
 -- a value within a flow
 flow_value : (P : ℤ → Type 0) (flow : List ℤ) (k : ℕ) (d : ℤ) → k < length flow → AllByRecursion P flow → P (get_or flow k d)
@@ -173,16 +184,6 @@ module _ (kernel : Kernel) (conditions : List SigId) (operations : List Operatio
   prefix_short : (a b : List ℤ) → IsPrefixOf a b → length a ≤ length b
   prefix_short a b begins = let e : length b ≡ length a + length begins.0 = ap length begins.1 ∙ length-append a begins.0 in omega (arith, e)
 
-  beyond_end : (signals : List Signal) (t : Instant) (x : ℕ) (w : ℤ) → length t ≡ length signals → seen_at t x ≡ Some w → x < length signals
-  beyond_end signals t x w same seen = elim (at_most_or (length t) x) [
-    | inl le ↦ absurd (past t x le seen)
-    | inr lt ↦ omega (arith, lt, same)
-  ] where
-    past : (t : Instant) (x : ℕ) → length t ≤ x → seen_at t x ≡ Some w → ⊥
-    past [] x le seen = let e : None ≡ Some w = seen in cc
-    past (s ∷ t) zero le seen = omega (arith, le)
-    past (s ∷ t) (suc x) le seen = past t x (omega (arith, le)) seen
-
   read_in : (input : ℕ) → input < kernel.inputs → Contains (operations_of kernel c.has.presence) (read_of kernel.signals c.has.presence (signal_id input))
   read_in input lt =
       Contains-append_left _ (of_each (stores_of kernel.signals c.has.presence) 0 kernel.equations) (read_of kernel.signals c.has.presence (signal_id input))
@@ -211,7 +212,7 @@ module _ (kernel : Kernel) (conditions : List SigId) (operations : List Operatio
   } where
     small : (x : ℕ) (w : ℤ) → seen_at instant x ≡ Some w → has_64_bits w ≡ true
     small x w seen =
-        let lt : x < length kernel.signals = beyond_end kernel.signals instant x w (kinds_length (map (λ (signal : Signal). signal.kind) kernel.signals) instant follows.is.kinds ∙ length-map kernel.signals (λ (signal : Signal). signal.kind)) seen in
+        let lt : x < length kernel.signals = beyond_end kernel.signals instant x w (kinds_length Unbounded (map (λ (signal : Signal). signal.kind) kernel.signals) instant follows.is.kinds ∙ length-map kernel.signals (λ (signal : Signal). signal.kind)) seen in
         let p = own_written kernel conditions operations order c memory next instant follows (signal_id x) lt (ap is_some seen) in
         let place = place_of kernel conditions operations order memory next c p.0 p.1 p.2 in
         small_before (length operations) (omega arith) none place.0 place.1 p.1 place.2 (signal_id x) p.3 p.4 w seen

@@ -16,3 +16,4 @@ pub mod Steps
 pub mod Truths
 pub mod Uniqueness
 pub mod Values
+pub mod WithinBounds

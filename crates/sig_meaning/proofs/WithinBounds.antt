@@ -1,0 +1,68 @@
+-- An instant that is within bounds has no fault.
+use Rattle.std.proofs.Common.{◌≡◌, ◌<◌, ◌≤◌, ◌+◌, ◌++◌, ℕ, ℤ, pos, Bool, true, false, List, [], ◌∷◌, length, map, refl, ap, sym, subst, ◌∙◌, arith, Contains}
+use Rattle.std.specs.Prelude.{None, Option, Some, slice_get, slice_index}
+use Rattle.std.specs.Ordering.{int_eq}
+use Rattle.std.proofs.lemmas.List.{length-map}
+use Rattle.sig_base.specs.Functions.{Function, Quotient, Remainder, Gives}
+use Rattle.sig_base.specs.Traces.{Bounded, Instant, IsOfKind, Trace, has_64_bits, seen_at}
+use Rattle.sig_base.specs.declared.ids.EqId.{EqId}
+use Rattle.sig_base.specs.declared.ids.SigId.{SigId}
+use Rattle.sig_base.specs.declared.signal.Signal.{Signal}
+use Rattle.sig_clock.proofs.AbstractLemmas.{of_kind}
+use Rattle.sig_clock.proofs.Lists.{contains_at}
+use Rattle.sig_kernel.specs.KernelTraces.{IsFunction, IsReaction, Meets, Memory, function_of, remembered}
+use Rattle.sig_kernel.specs.Table.{kind_of}
+use Rattle.sig_kernel.specs.declared.equation.Equation.{Equation}
+use Rattle.sig_kernel.specs.declared.equation.Form.{Form}
+use Rattle.sig_kernel.specs.declared.equation.Form.TheVariants.{Fun}
+use Rattle.sig_kernel.specs.declared.kernel.Kernel.{Kernel}
+use Rattle.sig_kernel.proofs.DelayLemmas.{at_element}
+use Rattle.sig_meaning.specs.Ends.{IsWithinBounds}
+use Rattle.sig_meaning.specs.Faults.{IsFaultAt}
+use Rattle.sig_meaning.proofs.Agreement.{Compiled, some_at}
+use Rattle.sig_meaning.proofs.Causing.{beyond_end, kinds_length}
+use Rattle.sig_meaning.proofs.FirstFaults.{one_either}
+use Rattle.sig_meaning.proofs.Longest.{same_values}
+use Rattle.sig_meaning.proofs.Results.{equal}
+use Rattle.sig_meaning.proofs.Small.{small_value}
+use Rattle.sig_model.specs.Causes.{Computes, HasFault, Meets as MeetsFault}
+use Rattle.sig_model.specs.Results.{divides_by_zero}
+use Rattle.sig_plan.specs.Operations.{Operation, operations_of}
+use Rattle.sig_plan.specs.declared.ended.Cause.{Cause}
+use Rattle.sig_plan.specs.declared.ended.Cause.TheVariants.{Exhausted, Overflow, ZeroDivisor, Limit}
+
+never_by_zero : (function : Function) (values : List ℤ) (v : ℤ) → Gives Bounded function values v → divides_by_zero function values ≡ true → ⊥
+never_by_zero Quotient (a ∷ b ∷ []) v gives is = gives.0 ((equal b (pos 0)).yes is)
+never_by_zero Remainder (a ∷ b ∷ []) v gives is = gives.0 ((equal b (pos 0)).yes is)
+never_by_zero function values v gives is = let e : false ≡ true = is in cc
+
+module _ (kernel : Kernel) (memory : Memory) (instant : Instant) (is : IsReaction Bounded kernel memory instant) where
+  small_result : (e : EqId) (c : Computes kernel instant e) → has_64_bits c.result ≡ true
+  small_result e c =
+      let lt : c.target.0 < length kernel.signals = beyond_end kernel.signals instant c.target.0 c.result
+          (kinds_length Bounded (map (λ (signal : Signal). signal.kind) kernel.signals) instant is.kinds ∙ length-map kernel.signals (λ (signal : Signal). signal.kind)) c.gives in
+      let s = some_at kernel.signals c.target.0 lt in
+      let of : IsOfKind Bounded s.0.kind (seen_at instant c.target.0) = of_kind Bounded kernel.signals instant c.target.0 s.0.kind is.kinds (ap kind_of s.1) in
+      small_value s.0.kind c.result (subst (λ seen. IsOfKind Bounded s.0.kind seen) c.gives of)
+
+  no_zero : (e : EqId) (c : Computes kernel instant e) → divides_by_zero (function_of c.function) c.values ≡ true → ⊥
+  no_zero e c by_zero =
+      let met : Meets Bounded memory instant c.equation.form =
+          at_element (λ (q : Equation). Meets Bounded memory instant q.form) kernel.equations c.equation (contains_at kernel.equations e.0 c.equation c.is) is.equations in
+      let of_form : Meets Bounded memory instant (Fun c.target c.function c.operands) = subst (λ (form : Form). Meets Bounded memory instant form) c.form met in
+      let given : IsFunction Bounded (function_of c.function) instant c.operands (Some c.result) = subst (λ s. IsFunction Bounded (function_of c.function) instant c.operands s) c.gives of_form in
+      never_by_zero (function_of c.function) c.values c.result
+      (subst (λ values. Gives Bounded (function_of c.function) values c.result) (same_values instant c.operands given.0 c.values given.1 c.have) given.2) by_zero
+
+pub bounds_without_faults : (kernel : Kernel) (conditions : List SigId) (operations : List Operation) (order : List ℕ) → Compiled kernel conditions operations order → (flows : List (List ℤ)) → length flows ≡ kernel.inputs
+    → (trace : Trace) (instant : Instant) → IsWithinBounds kernel flows trace instant → (place : ℕ) (cause : Cause) → IsFaultAt kernel operations order flows trace instant place cause → ⊥
+bounds_without_faults kernel conditions operations order c flows count trace instant within place cause fault = by cause fault.met.meets fault.fault where
+  by : (found : Cause) → MeetsFault fault.met.operation found → HasFault kernel flows trace instant found → ⊥
+  by (Exhausted x) meets past =
+      let either = (one_either kernel c.has.presence fault.met.operation
+          (subst (λ (ps : List Operation). Contains ps fault.met.operation) c.has.are (contains_at operations fault.met.number fault.met.operation fault.met.is))).0 x meets in
+      let few = within.inputs x.0 (omega (arith, either.1, count)) in
+      omega (arith, few, past)
+  by (Overflow e) meets large = let clash : true ≡ false = sym (small_result kernel (remembered trace) instant within.is e large.0) ∙ large.1 in cc
+  by (ZeroDivisor e) meets zero_divisor = no_zero kernel (remembered trace) instant within.is e zero_divisor.0 zero_divisor.1
+  by Limit meets fails = fails

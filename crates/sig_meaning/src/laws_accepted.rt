@@ -1,0 +1,53 @@
+//! Laws of accepted plans and their runs. The function of a law does nothing when it runs.
+
+ghost use Rattle.std.specs.Prelude.{◌≡◌, ◌+◌, ℕ, ℤ, List, length, Option, Some};
+ghost use Rattle.sig_base.specs.Traces.{Fits, Instant, NoneSilent, Trace};
+ghost use Rattle.sig_base.specs.declared.place.Place.{Place};
+ghost use Rattle.sig_kernel.specs.KernelTraces.{IsKernelTrace, Memory};
+ghost use Rattle.sig_kernel.specs.Validity.{AreFlowsFor};
+ghost use Rattle.sig_meaning.specs.Ends.{IsWithinBounds, StopsBefore};
+ghost use Rattle.sig_meaning.specs.Faults.{IsFaultAt, IsFirstFault};
+ghost use Rattle.sig_meaning.specs.Reactions.{HasOneReaction, IsNext};
+ghost use Rattle.sig_model.specs.Causes.{IsEnd, place_at};
+ghost use Rattle.sig_plan.specs.Operations.{operations_in};
+ghost use Rattle.sig_plan.specs.Plans.{IsAccepted, PlanView, numbers_of};
+ghost use Rattle.sig_plan.specs.declared.ended.Cause.{Cause};
+ghost use Rattle.sig_plan.specs.declared.ended.Ended.{Ended};
+
+/// A law: an accepted kernel has one reaction; and whatever its delays remember and its inputs have
+/// next, it has no two.
+pub fn accepted_kernels_have_one_reaction()
+    ensures one { (plan : PlanView) → IsAccepted plan → HasOneReaction plan.kernel }
+    ensures at_most { (plan : PlanView) → IsAccepted plan → (memory : Memory) (next : ℕ → ℤ) (a b : Instant)
+        → IsNext plan.kernel memory next a → IsNext plan.kernel memory next b → a ≡ b }
+{}
+
+/// A law: a run of an accepted plan over flows that fit has one end: the longest trace, its length, and
+/// one named cause with its place. Where the limit is not the cause, the extended reference goes on by
+/// an instant that is not within bounds, and the cause is the first fault of that in the compiled order.
+pub fn named_causes_exist_once()
+    ensures some { (plan : PlanView) → IsAccepted plan → (flows : List (List ℤ)) → AreFlowsFor plan.kernel flows → (limit : ℕ)
+        → (trace : Trace) × (place : Option Place) × (ended : Ended) × IsEnd plan flows limit trace place ended }
+    ensures one { (plan : PlanView) → IsAccepted plan → (flows : List (List ℤ)) → AreFlowsFor plan.kernel flows → (limit : ℕ)
+        → (t u : Trace) (p q : Option Place) (a b : Ended) → IsEnd plan flows limit t p a → IsEnd plan flows limit u q b
+        → (t ≡ u) × (p ≡ q) × (a ≡ b) }
+    ensures first { (plan : PlanView) → IsAccepted plan → (flows : List (List ℤ)) → AreFlowsFor plan.kernel flows → (limit : ℕ)
+        → (trace : Trace) (place : Place) (ended : Ended) → IsEnd plan flows limit trace (Some place) ended
+        → (instant : Instant) × (k : ℕ) × StopsBefore plan.kernel flows trace instant
+        × IsFirstFault plan.kernel (operations_in plan.store.nodes plan.ops) (numbers_of plan.order) flows trace instant k ended.cause
+        × (place ≡ place_at (length trace + 1) k) }
+{}
+
+/// A law: an instant by which the extended reference of an accepted plan goes on, where the reference so
+/// far is a trace of the kernel and fits the flows, is within bounds exactly where no operation meets a
+/// fault.
+pub fn faults_are_out_of_bounds()
+    ensures none { (plan : PlanView) → IsAccepted plan → (flows : List (List ℤ)) → AreFlowsFor plan.kernel flows
+        → (trace : Trace) (instant : Instant) → IsWithinBounds plan.kernel flows trace instant → (place : ℕ) (cause : Cause)
+        → IsFaultAt plan.kernel (operations_in plan.store.nodes plan.ops) (numbers_of plan.order) flows trace instant place cause → ⊥ }
+    ensures first { (plan : PlanView) → IsAccepted plan → (flows : List (List ℤ)) → AreFlowsFor plan.kernel flows
+        → (trace : Trace) (instant : Instant) → IsKernelTrace plan.kernel trace → Fits flows trace → NoneSilent trace
+        → StopsBefore plan.kernel flows trace instant
+        → (place : ℕ) × (cause : Cause)
+        × IsFirstFault plan.kernel (operations_in plan.store.nodes plan.ops) (numbers_of plan.order) flows trace instant place cause }
+{}
