@@ -1,12 +1,12 @@
 -- Accepted plans are compiled.
-use Rattle.std.proofs.Common.{◌≡◌, ℕ, Bool, List, [], ◌∷◌, length, map, refl, sym, ap, subst, ◌∙◌, arith, get_or}
-use Rattle.std.specs.Prelude.{All, Some, slice_get, zero, suc}
+use Rattle.std.proofs.Common.{◌≡◌, ℕ, List, [], ◌∷◌, refl, sym, subst, ◌∙◌, get_or}
+use Rattle.std.specs.Prelude.{Some, slice_get, zero, suc}
 use Rattle.sig_clock.proofs.Lists.{get_at, get_within}
-use Rattle.sig_dd.specs.Diagram.{Depends, truth_of}
+use Rattle.sig_dd.specs.Diagram.{Depends}
 use Rattle.sig_dd.specs.Nodes.{Holds, test}
 use Rattle.sig_dd.specs.declared.node.Node.{Node}
 use Rattle.sig_dd.proofs.Walks.{depends_agree}
-use Rattle.sig_meaning.proofs.Agreement.{Compiled, GuardsAgree}
+use Rattle.sig_meaning.proofs.Agreement.{Compiled}
 use Rattle.sig_plan.proofs.Accepted.{plan_operations}
 use Rattle.sig_plan.specs.Operations.{Operation, operation_in, operations_in}
 use Rattle.sig_plan.specs.Plans.{IsAccepted, PlanView, numbers_of}
@@ -29,7 +29,7 @@ compiled plan accepted = record {
       let at : get_or plan.ops number from.0 ≡ from.0 = (let e : Some (get_or plan.ops number from.0) ≡ Some from.0 = sym (get_at plan.ops number from.0 lt) ∙ from.1 in cc) in
       let held : Holds plan.store.nodes from.0.guard = subst (λ (op : Op). Holds plan.store.nodes op.guard) at (accepted.operations.held number from.0 lt) in
       let agree : test plan.store.nodes from.0.guard truths ≡ test plan.store.nodes from.0.guard others =
-          depends_agree plan.store accepted.store from.0.guard held truths others
-          (λ v depends. same v (subst (λ (q : Operation). Depends q.guard v) (sym from.2) depends)) in
+      depends_agree plan.store accepted.store from.0.guard held truths others
+      (λ v depends. same v (subst (λ (q : Operation). Depends q.guard v) (sym from.2) depends)) in
       subst (λ (q : Operation). q.guard truths ≡ q.guard others) (sym from.2) agree;
 }

@@ -1,11 +1,10 @@
 -- Two instants of an accepted kernel with the same memories and next values agree, place by place of the compiled order.
-use Rattle.std.proofs.Common.{◌≡◌, ◌<◌, ◌≤◌, ◌+◌, ◌⊎◌, inl, inr, ℕ, zero, suc, ℤ, pos, Bool, true, false, List, [], ◌∷◌, length, map, get_or, refl, ap, sym, subst, ◌∙◌, arith, Contains}
+use Rattle.std.proofs.Common.{◌≡◌, ◌<◌, ◌≤◌, ◌⊎◌, inl, inr, ℕ, zero, suc, ℤ, Bool, true, false, List, [], ◌∷◌, length, map, refl, ap, sym, subst, ◌∙◌, arith, Contains}
 use Rattle.std.specs.Prelude.{Option, None, Some, is_some, slice_get, slice_index}
-use Rattle.std.specs.Ordering.{int_eq}
 use Rattle.std.proofs.lemmas.Bool.{and_parts}
 use Rattle.std.proofs.lemmas.List.{get_or_default, length-map}
 use Rattle.std.proofs.lemmas.List.Elements.{All-contains}
-use Rattle.sig_base.specs.Traces.{AreOfKinds, Instant, Range, Seen, Unbounded, is_silent, seen_at}
+use Rattle.sig_base.specs.Traces.{AreOfKinds, Instant, Range, Seen, Unbounded, seen_at}
 use Rattle.sig_base.specs.declared.ids.Kind.{Kind}
 use Rattle.sig_base.specs.declared.ids.Kind.TheVariants.{Integer, Boolean, Event}
 use Rattle.sig_base.specs.declared.ids.SigId.{SigId}
@@ -14,26 +13,25 @@ use Rattle.sig_clock.specs.Abstractions.{abstraction_of, status_of}
 use Rattle.sig_clock.specs.ClockFunctions.{Allows, KeepsTo}
 use Rattle.sig_clock.specs.Clocks.{AreInOrder}
 use Rattle.sig_clock.specs.Conditions.{is_condition, is_free, signal_id}
-use Rattle.sig_clock.specs.Reactions.{Reaction, Speaks, Status, is_boolean_kind, is_present, status_at}
+use Rattle.sig_clock.specs.Reactions.{Reaction, Speaks, is_boolean_kind, is_present, status_at}
 use Rattle.sig_clock.proofs.AbstractLemmas.{abstract_presence, abstract_speaks, abstract_status}
-use Rattle.sig_clock.proofs.Lists.{contains_at, get_at, get_within}
+use Rattle.sig_clock.proofs.Lists.{contains_at, get_within}
 use Rattle.sig_dd.specs.Diagram.{Depends, truth_of}
 use Rattle.sig_kernel.specs.KernelTraces.{IsReaction, Memory}
 use Rattle.sig_kernel.specs.Table.{kind_at, kind_of}
 use Rattle.sig_kernel.specs.Validity.{IsValid}
 use Rattle.sig_kernel.specs.declared.kernel.Kernel.{Kernel}
 use Rattle.sig_meaning.specs.Reactions.{IsNext}
-use Rattle.sig_meaning.proofs.Values.{all_depend, all_seen, form_for, none_where, value, value_by, where_some}
+use Rattle.sig_meaning.proofs.Values.{all_depend, all_seen, form_for, none_where, value, value_by}
 use Rattle.sig_model.specs.Actors.{Registers, is_true, truths_of}
 use Rattle.sig_plan.specs.Acceptance.{HasOperations}
 use Rattle.sig_plan.specs.Operations.{Operation, operations_of}
 use Rattle.sig_plan.specs.Order.{IsCompiledOrder, Needs, Precedes, Writes}
 use Rattle.sig_plan.specs.declared.op.OpKind.{OpKind}
 use Rattle.sig_plan.specs.declared.op.OpKind.TheVariants.{Read, Compute, Left, Right, DelayRead, Store}
-use Rattle.sig_plan.proofs.Done.{present_written, read_present, written_by_one, written_present}
+use Rattle.sig_plan.proofs.Done.{present_written}
 use Rattle.sig_plan.proofs.Earlier.{guards_alone, needed_earlier, read_earlier}
-use Rattle.sig_plan.proofs.Indices.{written_below}
-use Rattle.sig_plan.proofs.Orders.{stands_once, stands_somewhere}
+use Rattle.sig_plan.proofs.Orders.{stands_somewhere}
 
 -- truths that agree on the variables on which a guard depends give it one value
 abbrev pub GuardsAgree : List Operation → Type 0
@@ -78,7 +76,7 @@ pub keeps_to_own : (kernel : Kernel) (memory : Memory) (instant : Instant) (cond
 keeps_to_own kernel memory instant conditions order is v c at =
     let there = condition_signal kernel conditions order v c at in
     let status : status_at (abstraction_of kernel.signals instant) c.0 ≡ status_of Boolean (seen_at instant c.0) =
-        abstract_status Unbounded kernel memory instant is c.0 there.0 there.1 ∙ ap (λ kind. status_of kind (seen_at instant c.0)) there.2 in
+    abstract_status Unbounded kernel memory instant is c.0 there.0 there.1 ∙ ap (λ kind. status_of kind (seen_at instant c.0)) there.2 in
     rw status (subst (λ t. Allows (status_of Boolean (seen_at instant c.0)) t) (sym (truth_at conditions (seen_at instant) v c at)) (by (seen_at instant c.0))) where
       by : (seen : Seen) → Allows (status_of Boolean seen) (is_true seen)
       by None = tt
@@ -178,7 +176,7 @@ module _ (kernel : Kernel) (conditions : List SigId) (operations : List Operatio
       let signal = condition_signal kernel conditions c.has.order v there.0 there.1 in
       let needs : Needs conditions q there.0 = record { variable = v; is = there.1; depends = depends } in
       let same : seen_at a there.0.0 ≡ seen_at b there.0.0 = same_condition k before there.0 (get_within kernel.signals there.0.0 signal.0 signal.1)
-          (λ number p is_p writes. needed_earlier kernel c.valid conditions operations c.has order c.ordered k lt q at there.0 needs number p is_p writes) in
+      (λ number p is_p writes. needed_earlier kernel c.valid conditions operations c.has order c.ordered k lt q at there.0 needs number p is_p writes) in
       truth_at conditions (seen_at a) v there.0 there.1 ∙ ap is_true same ∙ sym (truth_at conditions (seen_at b) v there.0 there.1))
 
   -- what is read at a place is the same

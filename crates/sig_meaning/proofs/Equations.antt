@@ -1,16 +1,14 @@
 -- Registers that hold what the operations write meet the equations of a kernel.
-use Rattle.std.proofs.Common.{◌≡◌, ◌<◌, ◌≤◌, ◌+◌, ◌++◌, inl, inr, ℕ, zero, suc, ℤ, pos, Bool, true, false, not, cond, ◌&&◌, List, [], ◌∷◌, length, map, get_or, refl, ap, sym, subst, ◌∙◌, arith, Contains}
+use Rattle.std.proofs.Common.{◌≡◌, ◌<◌, ◌+◌, ℕ, zero, suc, ℤ, pos, Bool, true, false, not, cond, ◌&&◌, List, [], ◌∷◌, length, map, get_or, refl, ap, sym, subst, ◌∙◌, arith, Contains}
 use Rattle.std.specs.Prelude.{Option, None, Some, is_some, slice_get, unwrap_or}
-use Rattle.std.specs.List.{AllByRecursion, list_all, list_any, range_with_len}
+use Rattle.std.specs.List.{AllByRecursion, list_all, range_with_len}
 use Rattle.std.specs.Ordering.{int_eq}
 use Rattle.std.proofs.lemmas.Bool.{and_parts, false≢true}
 use Rattle.std.proofs.lemmas.List.{length-map}
 use Rattle.std.proofs.lemmas.List.Elements.{Contains-append_left, Contains-append_right}
 use Rattle.std.proofs.lemmas.List.FromFn.{get_or-map-range_with_len, length-map-range_with_len}
-use Rattle.sig_base.specs.Functions.{operand_count}
-use Rattle.sig_base.specs.Traces.{AreOfKinds, Instant, IsOfKind, IsValue, Seen, Unbounded, is_silent, seen_at}
+use Rattle.sig_base.specs.Traces.{Instant, IsOfKind, Seen, Unbounded, is_silent, seen_at}
 use Rattle.sig_base.specs.declared.ids.EqId.{EqId}
-use Rattle.sig_base.specs.declared.ids.Kind.{Kind}
 use Rattle.sig_base.specs.declared.ids.SigId.{SigId}
 use Rattle.sig_base.specs.declared.signal.Signal.{Signal}
 use Rattle.sig_base.proofs.TraceLemmas.{silent_at}
@@ -18,10 +16,10 @@ use Rattle.sig_clock.specs.Abstractions.{truth_of_value}
 use Rattle.sig_clock.specs.Conditions.{signal_id}
 use Rattle.sig_clock.specs.Reactions.{IsReaction as IsAbstract, Reaction, Status, are_statuses, is_present, is_silent as is_silent_reaction, is_status_of, is_with, meets, or_else as status_or_else, function_truth, has_truth, same_truth, status_at, where_present as status_where_present, where_true as status_where_true, constant_truth}
 use Rattle.sig_clock.proofs.AbstractLemmas.{truth_is, where_rows}
-use Rattle.sig_clock.proofs.Lists.{contains_head, contains_later, get_at}
+use Rattle.sig_clock.proofs.Lists.{contains_head, contains_later}
 use Rattle.sig_clock.proofs.ReactionLemmas.{truths_are_same}
 use Rattle.sig_kernel.specs.KernelTraces.{AreAbsent, HaveValues, IsFunction, IsReaction, Meets, Memory, function_of, or_else, where_present, where_true}
-use Rattle.sig_kernel.specs.Table.{defines_well, form_fits, function_rows, keeps_to_one, kind_at, kind_fits, kind_is, kind_of, operand_is, operands_of, target_fits}
+use Rattle.sig_kernel.specs.Table.{defines_well, form_fits, kind_at, kind_fits, kind_is, kind_of, operand_is, target_fits}
 use Rattle.sig_kernel.specs.declared.table.Sort.TheVariants.{Truth}
 use Rattle.sig_kernel.specs.Validity.{IsValid, form_within, is_below, operand_within}
 use Rattle.sig_kernel.specs.declared.equation.Equation.{Equation}
@@ -34,11 +32,10 @@ use Rattle.sig_kernel.specs.declared.kernel.Kernel.{Kernel}
 use Rattle.sig_meaning.specs.Reactions.{IsNext}
 use Rattle.sig_meaning.proofs.Results.{given}
 use Rattle.sig_meaning.proofs.Steps.{AreKnown, instant_of, of_kinds, seen_of}
-use Rattle.sig_meaning.proofs.Truths.{no_status, operands_counted, sampled, some_status, statuses_equal}
+use Rattle.sig_meaning.proofs.Truths.{no_status, operands_counted, sampled, statuses_equal}
 use Rattle.sig_meaning.proofs.Values.{computed, form_for, has_form, kept_in, none_where, value, where_some}
 use Rattle.sig_model.specs.Actors.{Registers, value_in}
 use Rattle.sig_model.specs.Operating.{operand_in}
-use Rattle.sig_model.specs.Results.{result_of}
 use Rattle.sig_plan.specs.Operations.{Operation, Presence, equation_id, of_each, operations_of, read_of, signals_of, stores_of, without, writes_of, writing}
 use Rattle.sig_plan.specs.Order.{Writes}
 use Rattle.sig_plan.specs.declared.op.OpKind.TheVariants.{Compute, DelayRead, Left, Right}
@@ -120,9 +117,10 @@ module _ (kernel : Kernel) (valid : IsValid kernel) (memory : Memory) (next : �
   all_absent [] within none = tt
   all_absent (Sig x ∷ operands) within none =
       let lt = first_below (length kernel.signals) x (list_all (operand_within (length kernel.signals)) operands) within in
-      let parts = and_parts (same_truth false (is_present a x.0)) (list_all (is_with a false) operands) none in
-      (seen x lt ∙ absent x lt (no_status (status_at a x.0) (sym (truths_are_same false (is_present a x.0) parts.0))),
-      all_absent operands (and_parts (is_below (length kernel.signals) x) (list_all (operand_within (length kernel.signals)) operands) within).1 parts.1)
+      let parts = and_parts (same_truth false (is_present a x.0)) (list_all (is_with a false) operands) none in (
+        seen x lt ∙ absent x lt (no_status (status_at a x.0) (sym (truths_are_same false (is_present a x.0) parts.0))),
+        all_absent operands (and_parts (is_below (length kernel.signals) x) (list_all (operand_within (length kernel.signals)) operands) within).1 parts.1,
+      )
   all_absent (Const c ∷ operands) within none = all_absent operands within none
 
   all_present : (operands : List Operand) → list_all (operand_within (length kernel.signals)) operands ≡ true → list_all (is_with a true) operands ≡ true
@@ -131,9 +129,10 @@ module _ (kernel : Kernel) (valid : IsValid kernel) (memory : Memory) (next : �
   all_present (Sig x ∷ operands) within some =
       let lt = first_below (length kernel.signals) x (list_all (operand_within (length kernel.signals)) operands) within in
       let parts = and_parts (same_truth true (is_present a x.0)) (list_all (is_with a true) operands) some in
-      let found = where_some (final x.0) (present x lt ∙ sym (truths_are_same true (is_present a x.0) parts.0)) in
-      (seen x lt ∙ found.1 ∙ ap Some (sym (hold x found.0 found.1)),
-      all_present operands (and_parts (is_below (length kernel.signals) x) (list_all (operand_within (length kernel.signals)) operands) within).1 parts.1)
+      let found = where_some (final x.0) (present x lt ∙ sym (truths_are_same true (is_present a x.0) parts.0)) in (
+        seen x lt ∙ found.1 ∙ ap Some (sym (hold x found.0 found.1)),
+        all_present operands (and_parts (is_below (length kernel.signals) x) (list_all (operand_within (length kernel.signals)) operands) within).1 parts.1,
+      )
   all_present (Const c ∷ operands) within some = (refl, all_present operands within some)
 
   function_met : (number : EqId) (y : SigId) (op : FunOp) (operands : List Operand) → Equated number (Fun y op operands) → IsFunction Unbounded (function_of op) now operands (seen_at now y.0)
@@ -153,9 +152,11 @@ module _ (kernel : Kernel) (valid : IsValid kernel) (memory : Memory) (next : �
     by true some =
         let target = of_target y (Fun y op operands) e.fits in
         let it = compute number (Fun y op operands) y (signals_of operands) e lt (contains_head (writing kernel.signals number Compute (presence y) y (signals_of operands)) []) some in
-        subst (λ s. IsFunction Unbounded (function_of op) now operands s) (sym (seen y lt ∙ it))
-        (map (operand_in final) operands, all_present operands within (subst (λ b. list_all (is_with a b) operands ≡ true) some beside),
-        given (function_of op) (map (operand_in final) operands) (length-map operands (operand_in final) ∙ operands_counted kernel.signals target.0.kind op operands target.2))
+        subst (λ s. IsFunction Unbounded (function_of op) now operands s) (sym (seen y lt ∙ it)) (
+          map (operand_in final) operands,
+          all_present operands within (subst (λ b. list_all (is_with a b) operands ≡ true) some beside),
+          given (function_of op) (map (operand_in final) operands) (length-map operands (operand_in final) ∙ operands_counted kernel.signals target.0.kind op operands target.2),
+        )
 
   -- ---- the other forms
 
@@ -356,10 +357,12 @@ module _ (kernel : Kernel) (valid : IsValid kernel) (memory : Memory) (next : �
         let it : final input ≡ Some v = sym (seen (signal_id input) below) ∙ at in
         let there : is_present a input ≡ true = sym (present (signal_id input) below) ∙ ap is_some it in
         let found : final input ≡ Some (next input) = written (read_of kernel.signals presence (signal_id input))
-            (Contains-append_left _ (of_each (stores_of kernel.signals presence) 0 kernel.equations) (read_of kernel.signals presence (signal_id input))
-            (Contains-append_left (map (λ number. read_of kernel.signals presence (signal_id number)) (range_with_len 0 kernel.inputs)) (of_each (writes_of kernel.signals presence) 0 kernel.equations) (read_of kernel.signals presence (signal_id input))
-            (input, omega (arith, lt, length-map-range_with_len (λ number. read_of kernel.signals presence (signal_id number)) 0 kernel.inputs),
-            get_or-map-range_with_len (λ number. read_of kernel.signals presence (signal_id number)) 0 kernel.inputs input input (read_of kernel.signals presence (signal_id input)) lt (omega arith))))
-            (sym (there_at (signal_id input) below) ∙ there) (signal_id input) refl in
+        (Contains-append_left _ (of_each (stores_of kernel.signals presence) 0 kernel.equations) (read_of kernel.signals presence (signal_id input))
+        (Contains-append_left (map (λ number. read_of kernel.signals presence (signal_id number)) (range_with_len 0 kernel.inputs)) (of_each (writes_of kernel.signals presence) 0 kernel.equations) (read_of kernel.signals presence (signal_id input)) (
+          input,
+          omega (arith, lt, length-map-range_with_len (λ number. read_of kernel.signals presence (signal_id number)) 0 kernel.inputs),
+          get_or-map-range_with_len (λ number. read_of kernel.signals presence (signal_id number)) 0 kernel.inputs input input (read_of kernel.signals presence (signal_id input)) lt (omega arith),
+        )))
+        (sym (there_at (signal_id input) below) ∙ there) (signal_id input) refl in
         let e : Some v ≡ Some (next input) = sym it ∙ found in cc;
   }

@@ -1,18 +1,13 @@
 -- The first fault of the instant by which the reference goes on.
-use Rattle.std.proofs.Common.{◌≡◌, ◌<◌, ◌≤◌, ◌+◌, ◌++◌, ◌⊎◌, inl, inr, ℕ, zero, suc, ℤ, pos, Bool, true, false, List, [], ◌∷◌, length, map, get_or, refl, ap, sym, subst, ◌∙◌, arith, Contains}
-use Rattle.std.specs.Prelude.{All, Option, None, Some, is_some, slice_get, slice_index, option_to_list}
-use Rattle.std.specs.List.{AllByRecursion, range_with_len}
-use Rattle.std.proofs.lemmas.List.{append-nil, length-append}
-use Rattle.std.proofs.lemmas.List.Elements.{All-cons, All-contains, All-nil, Contains-append_left, Contains-append_right}
-use Rattle.sig_base.specs.Traces.{Bounded, Instant, IsPrefixOf, IsValue, Seen, Trace, Unbounded, flow_of, has_64_bits, seen_at}
+use Rattle.std.proofs.Common.{◌≡◌, ◌<◌, ◌≤◌, ◌++◌, ◌⊎◌, inl, inr, ℤ, Bool, true, false, List, [], ◌∷◌, length, get_or, refl, ap, sym, subst, ◌∙◌, arith, Contains}
+use Rattle.std.specs.Prelude.{All, Option, None, Some, slice_get}
+use Rattle.std.proofs.lemmas.List.Elements.{All-cons, All-contains, All-nil}
+use Rattle.sig_base.specs.Traces.{Instant, Seen, Trace, Unbounded, flow_of, has_64_bits, seen_at}
 use Rattle.sig_base.specs.declared.ids.EqId.{EqId}
 use Rattle.sig_base.specs.declared.ids.SigId.{SigId}
-use Rattle.sig_base.specs.declared.signal.Signal.{Signal}
-use Rattle.sig_clock.specs.Abstractions.{abstraction_of}
 use Rattle.sig_clock.specs.Conditions.{signal_id}
-use Rattle.sig_clock.proofs.Lists.{at_contained, contains_at, contains_head, get_at, get_within}
-use Rattle.sig_kernel.specs.KernelTraces.{HaveValues, IsFunction, IsReaction, Meets, Memory, function_of, remembered}
-use Rattle.sig_kernel.specs.Validity.{inputs_of}
+use Rattle.sig_clock.proofs.Lists.{contains_at}
+use Rattle.sig_kernel.specs.KernelTraces.{HaveValues, IsFunction, IsReaction, Meets, Memory, function_of}
 use Rattle.sig_kernel.specs.declared.equation.Equation.{Equation}
 use Rattle.sig_kernel.specs.declared.equation.Form.{Form}
 use Rattle.sig_kernel.specs.declared.equation.Form.TheVariants.{Fun, Delay, When, WhenConst, Default, Sync, Event}
@@ -20,29 +15,17 @@ use Rattle.sig_kernel.specs.declared.equation.FunOp.{FunOp}
 use Rattle.sig_kernel.specs.declared.equation.Operand.{Operand}
 use Rattle.sig_kernel.specs.declared.kernel.Kernel.{Kernel}
 use Rattle.sig_kernel.proofs.DelayLemmas.{at_element}
-use Rattle.sig_kernel.proofs.ValueLemmas.{flow_values}
-use Rattle.sig_meaning.specs.Ends.{IsWithinBounds}
-use Rattle.sig_meaning.specs.Faults.{IsFaultAt, IsFirstFault}
-use Rattle.sig_meaning.specs.Reactions.{IsNext}
-use Rattle.sig_meaning.proofs.Agreement.{Compiled, own_keeps, own_present, own_speaks, own_written, some_at}
-use Rattle.sig_meaning.proofs.Doing.{at_most_or, place_of}
-use Rattle.sig_meaning.proofs.Equations.{among_each}
-use Rattle.sig_meaning.proofs.Flows.{flow_more, next_in}
-use Rattle.sig_meaning.proofs.Longest.{Decided, IsClean, same_values}
-use Rattle.sig_meaning.proofs.References.{Fitting, count_inputs, flow_count, got, reference_last, taken_at}
-use Rattle.sig_meaning.proofs.Small.{bounded_reaction, one_small, small_value}
-use Rattle.sig_meaning.proofs.Values.{form_for, form_in, has_form, where_some}
-use Rattle.sig_model.specs.Actors.{truths_of}
-use Rattle.sig_model.specs.Causes.{Computes, HasFault, IsPastEnd, Meets as MeetsFault, MeetsAt}
-use Rattle.sig_model.specs.References.{IsReference}
+use Rattle.sig_meaning.proofs.Doing.{at_most_or}
+use Rattle.sig_meaning.proofs.Longest.{Decided, same_values}
+use Rattle.sig_meaning.proofs.Values.{form_for, has_form}
+use Rattle.sig_model.specs.Causes.{Computes, HasFault, IsPastEnd, Meets as MeetsFault}
 use Rattle.sig_model.specs.Results.{divides_by_zero}
-use Rattle.sig_plan.specs.Operations.{Operation, Presence, equation_id, of_each, operations_of, read_of, signals_of, store_of, stores_of, without, writes_of, writing}
+use Rattle.sig_plan.specs.Operations.{Operation, Presence, operations_of, signals_of, stores_of, without, writes_of, writing}
 use Rattle.sig_plan.specs.Order.{Writes}
 use Rattle.sig_plan.specs.declared.ended.Cause.{Cause}
 use Rattle.sig_plan.specs.declared.ended.Cause.TheVariants.{Exhausted, Overflow, ZeroDivisor, Limit}
 use Rattle.sig_plan.specs.declared.op.OpKind.{OpKind}
 use Rattle.sig_plan.specs.declared.op.OpKind.TheVariants.{Read, Compute, Left, Right, DelayRead, Store}
-use Rattle.sig_plan.proofs.Earlier.{read_earlier}
 use Rattle.sig_plan.proofs.EachOperation.{each_operation, only}
 
 -- ---- operations by their kinds
@@ -73,11 +56,14 @@ module _ (kernel : Kernel) (presence : Presence) where
       let f : Some form ≡ Some (Fun y op operands) = sym has ∙ ap (λ (n : EqId). form_for kernel (Some n)) one ∙ is in cc
 
   writes_either : (number : EqId) (form : Form) → HasForm number form → All IsEither (writes_of kernel.signals presence number form)
-  writes_either number (Fun y op operands) has = only IsEither (writing kernel.signals number Compute (presence y) y (signals_of operands)) ((λ x e. absurd (not_read x Compute (inl refl) e)), (λ e z o ps kind same is.
-      let f = other_form number e (Fun y op operands) z o ps has same is in
-      let to_y : y ≡ z = cc in
-      let to_ps : operands ≡ ps = cc in
-      (ap Some to_y, ap presence to_y, ap signals_of to_ps)))
+  writes_either number (Fun y op operands) has = only IsEither (writing kernel.signals number Compute (presence y) y (signals_of operands)) (
+    (λ x e. absurd (not_read x Compute (inl refl) e)),
+    (λ e z o ps kind same is.
+        let f = other_form number e (Fun y op operands) z o ps has same is in
+        let to_y : y ≡ z = cc in
+        let to_ps : operands ≡ ps = cc in
+        (ap Some to_y, ap presence to_y, ap signals_of to_ps)),
+  )
   writes_either number (When y x b) has = only IsEither _ ((λ x e. absurd (not_read x Compute (inl refl) e)), (λ e z o ps kind same is. absurd (let f = other_form number e (When y x b) z o ps has same is in cc)))
   writes_either number (WhenConst y k b) has = only IsEither _ ((λ x e. absurd (not_read x Compute (inl refl) e)), (λ e z o ps kind same is. absurd (let f = other_form number e (WhenConst y k b) z o ps has same is in cc)))
   writes_either number (Event y x) has = only IsEither _ ((λ x e. absurd (not_read x Compute (inl refl) e)), (λ e z o ps kind same is. absurd (let f = other_form number e (Event y x) z o ps has same is in cc)))
@@ -99,10 +85,13 @@ module _ (kernel : Kernel) (presence : Presence) where
 
   all_either : All IsEither (operations_of kernel presence)
   all_either = each_operation IsEither kernel presence HasForm (has_form kernel)
-      (λ number lt. ((λ x e.
-      let f : Read (signal_id number) ≡ Read x = e in
-      let one : signal_id number ≡ x = cc in
-      (ap Some one, subst (λ (z : SigId). z.0 < kernel.inputs) one lt, ap presence one)), (λ e z o ps kind same is. absurd (let f : Read (signal_id number) ≡ Compute = kind in cc))))
+      (λ number lt. (
+        (λ x e.
+            let f : Read (signal_id number) ≡ Read x = e in
+            let one : signal_id number ≡ x = cc in
+            (ap Some one, subst (λ (z : SigId). z.0 < kernel.inputs) one lt, ap presence one)),
+        (λ e z o ps kind same is. absurd (let f : Read (signal_id number) ≡ Compute = kind in cc)),
+      ))
       writes_either stores_either
 
   pub one_either : (p : Operation) → Contains (operations_of kernel presence) p → IsEither p

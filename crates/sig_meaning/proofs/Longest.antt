@@ -1,16 +1,16 @@
 -- Lemmas on the longest trace of a kernel that has one reaction.
 use Rattle.std.proofs.Common.{◌≡◌, ◌≢◌, ◌≤◌, ◌<◌, ◌+◌, ◌++◌, ◌⊎◌, inl, inr, ℕ, zero, suc, ℤ, pos, Bool, true, false, List, [], ◌∷◌, length, get_or, map, refl, ap, sym, subst, ◌∙◌, arith, append_assoc}
-use Rattle.std.specs.Prelude.{None, Some, Option}
+use Rattle.std.specs.Prelude.{None, Some}
 use Rattle.std.specs.List.{AllByRecursion}
 use Rattle.std.specs.Ordering.{int_eq}
 use Rattle.std.proofs.lemmas.Bool.Decides.{Decides-int_eq}
 use Rattle.std.proofs.lemmas.List.{length-append}
 use Rattle.sig_base.specs.Functions.{Function, Identity, Negative, Not, And, Or, Xor, Equal, NotEqual, Less, LessEqual, Greater, GreaterEqual, Sum, Difference, Product, Quotient, Remainder, Gives}
-use Rattle.sig_base.specs.Traces.{AreOfKinds, Bounded, Fits, Instant, IsLongest, IsOfKind, IsPrefixOf, IsValue, NoneSilent, Seen, Trace, Unbounded, flow_of, has_64_bits, is_silent, reduce, seen_at}
+use Rattle.sig_base.specs.Traces.{AreOfKinds, Bounded, Fits, Instant, IsLongest, IsOfKind, IsPrefixOf, NoneSilent, Seen, Trace, Unbounded, flow_of, has_64_bits, reduce, seen_at}
 use Rattle.sig_base.specs.declared.ids.Kind.{Kind}
 use Rattle.sig_base.specs.declared.ids.Kind.TheVariants.{Integer, Boolean, Event}
 use Rattle.sig_base.proofs.TraceLemmas.{fits_by_test, fits_reduced, prefix_fits, one_longest, speaks}
-use Rattle.sig_kernel.specs.KernelTraces.{HaveValues, IsFunction, IsKernelTrace, IsReaction, IsTraceIn, Meets, Memory, function_of, remembered}
+use Rattle.sig_kernel.specs.KernelTraces.{HaveValues, IsFunction, IsKernelTrace, IsReaction, Meets, Memory, function_of, remembered}
 use Rattle.sig_kernel.specs.declared.equation.Equation.{Equation}
 use Rattle.sig_kernel.specs.declared.equation.Form.{Form}
 use Rattle.sig_kernel.specs.declared.equation.Form.TheVariants.{Fun, Delay, When, WhenConst, Default, Sync, Event as EventOf}
@@ -20,8 +20,8 @@ use Rattle.sig_kernel.specs.declared.kernel.Kernel.{Kernel}
 use Rattle.sig_kernel.proofs.TraceLemmas.{comes_from, goes_on, prefix_trace, reduced_trace}
 use Rattle.sig_kernel.proofs.RangeLemmas.{wide_trace}
 use Rattle.sig_meaning.specs.Ends.{IsCut, IsWithinBounds, StopsBefore}
-use Rattle.sig_meaning.proofs.Flows.{Continues, Follows, fits_follows, follows_fits, last_value, of_prefix, within_flow}
-use Rattle.sig_meaning.proofs.References.{Fitting, one_reference, reference_begins, reference_more, some_reference, split_last}
+use Rattle.sig_meaning.proofs.Flows.{fits_follows, follows_fits, last_value, of_prefix, within_flow}
+use Rattle.sig_meaning.proofs.References.{Fitting, reference_begins, some_reference, split_last}
 use Rattle.sig_model.specs.References.{IsReference}
 
 abbrev pub Decided : Type 0 → Type 0
@@ -303,7 +303,7 @@ cut_longest {kernel} {flows} f limit trace cut = record {
     by (inl at) (inr more) = begins (omega (arith, at, few))
     by (inr stops) (inr more) =
         let longer : IsPrefixOf (trace ++ stops.1 ∷ []) other =
-            reference_begins f (length trace + 1) (length other) (trace ++ stops.1 ∷ []) other (omega (arith, more)) stops.2.next (clean f other is fits none).reference in
+        reference_begins f (length trace + 1) (length other) (trace ++ stops.1 ∷ []) other (omega (arith, more)) stops.2.next (clean f other is fits none).reference in
         absurd (stops.2.beyond (clean_back kernel flows trace stops.1 (prefix_trace Bounded kernel (trace ++ stops.1 ∷ []) other longer is) (prefix_fits flows (trace ++ stops.1 ∷ []) other longer fits)))
 
 pub some_longest : {kernel : Kernel} {flows : List (List ℤ)} → Fitting kernel flows → (limit : ℕ) → (trace : Trace) × IsLongest (IsKernelTrace kernel) flows limit trace

@@ -1,53 +1,30 @@
 -- What the operations of a compiled kernel write, done in order, is an instant of the kernel.
-use Rattle.std.proofs.Common.{◌≡◌, ◌<◌, ◌≤◌, ◌+◌, ◌⊎◌, inl, inr, ℕ, zero, suc, ℤ, pos, Bool, true, false, not, cond, ◌&&◌, ◌||◌, List, [], ◌∷◌, length, map, get_or, refl, ap, sym, subst, ◌∙◌, arith, Contains}
-use Rattle.std.specs.Prelude.{All, Option, None, Some, is_some, slice_get, slice_index, unwrap_or, nat_lt}
-use Rattle.std.specs.List.{AllByRecursion, list_all, list_any, range_with_len}
-use Rattle.std.specs.Ordering.{int_eq}
-use Rattle.std.proofs.lemmas.Bool.{and_parts, false≢true, ltb-true}
-use Rattle.std.proofs.lemmas.List.{length-map}
-use Rattle.std.proofs.lemmas.List.Elements.{All-contains}
-use Rattle.sig_base.specs.Functions.{Function, operand_count}
-use Rattle.sig_base.specs.Traces.{AreOfKinds, Instant, IsOfKind, IsValue, Seen, Unbounded, is_silent, seen_at}
-use Rattle.sig_base.specs.declared.ids.EqId.{EqId}
+use Rattle.std.proofs.Common.{◌≡◌, ◌<◌, ◌≤◌, ◌⊎◌, inl, inr, ℕ, zero, suc, ℤ, Bool, true, false, List, length, refl, ap, sym, subst, ◌∙◌, arith, Contains}
+use Rattle.std.specs.Prelude.{Option, None, Some, is_some, slice_get, slice_index}
+use Rattle.sig_base.specs.Traces.{Instant, IsValue, Unbounded}
 use Rattle.sig_base.specs.declared.ids.Kind.{Kind}
-use Rattle.sig_base.specs.declared.ids.Kind.TheVariants.{Integer, Boolean, Event}
+use Rattle.sig_base.specs.declared.ids.Kind.TheVariants.{Boolean}
 use Rattle.sig_base.specs.declared.ids.SigId.{SigId}
 use Rattle.sig_base.specs.declared.signal.Signal.{Signal}
-use Rattle.sig_clock.specs.Abstractions.{status_of, truth_of_value}
+use Rattle.sig_clock.specs.Abstractions.{truth_of_value}
 use Rattle.sig_clock.specs.ClockFunctions.{Allows}
 use Rattle.sig_clock.specs.Conditions.{is_condition}
-use Rattle.sig_clock.specs.Reactions.{Reaction, Status, is_present, is_silent as is_silent_reaction, is_with, meets, or_else as status_or_else, function_truth, has_truth, same_truth, status_at, where_present as status_where_present, where_true as status_where_true, constant_truth}
-use Rattle.sig_clock.proofs.AbstractLemmas.{where_rows}
-use Rattle.sig_clock.proofs.Lists.{at_contained, contains_at, contains_head, contains_later, get_at, get_within}
-use Rattle.sig_clock.proofs.ReactionLemmas.{truths_are_same}
+use Rattle.sig_clock.specs.Reactions.{Reaction, Status, is_present, status_at}
+use Rattle.sig_clock.proofs.Lists.{at_contained, contains_at}
 use Rattle.sig_dd.specs.Diagram.{truth_of}
-use Rattle.sig_kernel.specs.KernelTraces.{AreAbsent, HaveValues, IsFunction, IsReaction, Meets, Memory, function_of, or_else, where_present, where_true}
-use Rattle.sig_kernel.specs.Table.{defines_well, form_fits, function_rows, keeps_to_one, kind_at, kind_fits, kind_is, kind_of, operand_is, operands_of, target_fits}
-use Rattle.sig_kernel.specs.declared.table.Sort.TheVariants.{Truth}
-use Rattle.sig_kernel.specs.Validity.{form_within, is_below, operand_within}
-use Rattle.sig_kernel.specs.declared.equation.Equation.{Equation}
-use Rattle.sig_kernel.specs.declared.equation.Form.{Form}
-use Rattle.sig_kernel.specs.declared.equation.Form.TheVariants.{Fun, Delay, When, WhenConst, Default, Sync, Event as EventOf}
-use Rattle.sig_kernel.specs.declared.equation.FunOp.{FunOp}
-use Rattle.sig_kernel.specs.declared.equation.Operand.{Operand}
-use Rattle.sig_kernel.specs.declared.equation.Operand.TheVariants.{Sig, Const}
+use Rattle.sig_kernel.specs.KernelTraces.{Memory}
 use Rattle.sig_kernel.specs.declared.kernel.Kernel.{Kernel}
 use Rattle.sig_meaning.specs.Reactions.{HasNextValues, HasOneReaction, IsNext, RemembersValues}
 use Rattle.sig_meaning.proofs.Agreement.{Compiled, condition_signal, same_instant, truth_at}
-use Rattle.sig_meaning.proofs.Doing.{WritesAt, at_most_or, count, final, finally_present, finally_written, guard_settled, place_of, reaction, read_there, run, run_next, run_none, truths, unchanged, written_stays}
+use Rattle.sig_meaning.proofs.Doing.{WritesAt, final, finally_present, finally_written, guard_settled, place_of, reaction, read_there, run, run_none, truths, unchanged, written_stays}
 use Rattle.sig_meaning.proofs.Equations.{next_instant}
-use Rattle.sig_meaning.proofs.Results.{given}
 use Rattle.sig_meaning.proofs.Steps.{AreKnown, instant_of, one_fit}
-use Rattle.sig_meaning.proofs.Truths.{no_status, operands_counted, sampled, some_status, statuses_equal}
-use Rattle.sig_meaning.proofs.Values.{computed, form_for, has_form, kept_in, none_where, value, where_some}
-use Rattle.sig_model.specs.Actors.{Registers, is_true, truths_of, value_in}
-use Rattle.sig_model.specs.Operating.{operand_in}
-use Rattle.sig_model.specs.Results.{result_of}
-use Rattle.sig_plan.specs.Operations.{Operation, equation_id, of_each, operations_of, signals_of, without, writes_of, writing}
+use Rattle.sig_meaning.proofs.Truths.{some_status}
+use Rattle.sig_meaning.proofs.Values.{value}
+use Rattle.sig_model.specs.Actors.{Registers, is_true}
+use Rattle.sig_plan.specs.Operations.{Operation, operations_of}
 use Rattle.sig_plan.specs.Order.{Writes}
-use Rattle.sig_plan.specs.declared.op.OpKind.TheVariants.{Compute, DelayRead, Left, Right}
-use Rattle.sig_plan.proofs.Done.{present_written, written_present}
-use Rattle.sig_plan.proofs.EachOperation.{first_below, operands_below, second_below, target_below}
+use Rattle.sig_plan.proofs.Done.{written_present}
 
 module _ (kernel : Kernel) (conditions : List SigId) (operations : List Operation) (order : List ℕ) (memory : Memory) (next : ℕ → ℤ) (c : Compiled kernel conditions operations order)
     (memories : RemembersValues kernel memory) (nexts : HasNextValues kernel next) where
@@ -95,13 +72,14 @@ module _ (kernel : Kernel) (conditions : List SigId) (operations : List Operatio
         let same_value : value kernel memory next (R k) q ≡ v = (let f : Some (value kernel memory next (R k) q) ≡ Some v = sym written ∙ ap (R (suc k)) e ∙ held in cc) in
         let own_y : slice_get kernel.signals y.0 ≡ Some signal = ap (slice_get kernel.signals) e ∙ own in
         let fit = one_fit kernel c.valid memory next memories nexts c.has.presence A (reaction kernel conditions operations order memory next c).1.is P at_presence (R k) known q
-            (subst (λ (ps : List Operation). Contains ps q) c.has.are (contains_at operations (slice_index order k) q at)) y writes done signal own_y
-            (λ z there. let r = read_there kernel conditions operations order memory next c k lt q at done z there in ap is_some r.1) in
+        (subst (λ (ps : List Operation). Contains ps q) c.has.are (contains_at operations (slice_index order k) q at)) y writes done signal own_y
+        (λ z there. let r = read_there kernel conditions operations order memory next c k lt q at done z there in ap is_some r.1) in
         let present = written_present kernel c.valid conditions operations c.has P A (reaction kernel conditions operations order memory next c).1 (reaction kernel conditions operations order memory next c).2
-            (slice_index order k) q y at writes done in
-        let finally : F y.0 ≡ Some v = written_stays kernel conditions operations order memory next c k (length operations) q y lt (omega arith) at writes done ∙ ap Some same_value in
-        (subst (λ w. IsValue Unbounded signal.kind w) same_value fit.0,
-        sym (ap (status_at A) e) ∙ status y (is_condition kernel y.0) refl own_y present finally (λ free. fit.1 free ∙ ap (λ w. Some (truth_of_value signal.kind w)) same_value)) where
+        (slice_index order k) q y at writes done in
+        let finally : F y.0 ≡ Some v = written_stays kernel conditions operations order memory next c k (length operations) q y lt (omega arith) at writes done ∙ ap Some same_value in (
+          subst (λ w. IsValue Unbounded signal.kind w) same_value fit.0,
+          sym (ap (status_at A) e) ∙ status y (is_condition kernel y.0) refl own_y present finally (λ free. fit.1 free ∙ ap (λ w. Some (truth_of_value signal.kind w)) same_value),
+        ) where
           status : (y : SigId) (b : Bool) → is_condition kernel y.0 ≡ b → slice_get kernel.signals y.0 ≡ Some signal → is_present A y.0 ≡ true → F y.0 ≡ Some v
               → (is_condition kernel y.0 ≡ false → status_at A y.0 ≡ Some (truth_of_value signal.kind v)) → status_at A y.0 ≡ Some (truth_of_value signal.kind v)
           status y true is own_y present finally rest = condition_status y signal v own_y is present finally
@@ -163,9 +141,11 @@ module _ (kernel : Kernel) (conditions : List SigId) (operations : List Operatio
       finally_written kernel conditions operations order memory next c place.0 place.1 p place.2 done y writes
 
   pub some_next : (instant : Instant) × IsNext kernel memory next instant
-  some_next = (instant_of (length kernel.signals) F,
-      next_instant kernel c.valid memory next c.has.presence A (reaction kernel conditions operations order memory next c).1.is P at_presence F (known_all (length operations) (omega arith))
-      (λ x lt. finally_present kernel conditions operations order memory next c x lt) written_of (reaction kernel conditions operations order memory next c).1.some)
+  some_next = (
+    instant_of (length kernel.signals) F,
+    next_instant kernel c.valid memory next c.has.presence A (reaction kernel conditions operations order memory next c).1.is P at_presence F (known_all (length operations) (omega arith))
+        (λ x lt. finally_present kernel conditions operations order memory next c x lt) written_of (reaction kernel conditions operations order memory next c).1.some,
+  )
 
 -- a compiled kernel has one reaction
 pub one_reaction : (kernel : Kernel) (conditions : List SigId) (operations : List Operation) (order : List ℕ) → Compiled kernel conditions operations order → HasOneReaction kernel

@@ -1,13 +1,11 @@
 -- Where no operation of an instant has a fault, its values have 64 bits and nothing is divided by 0.
-use Rattle.std.proofs.Common.{◌≡◌, ◌≢◌, ◌<◌, ◌≤◌, ◌+◌, ◌++◌, ◌⊎◌, inl, inr, ℕ, zero, suc, ℤ, pos, Bool, true, false, not, ◌&&◌, List, [], ◌∷◌, length, map, get_or, refl, ap, sym, subst, ◌∙◌, arith, Contains}
-use Rattle.std.specs.Prelude.{All, Option, None, Some, is_some, slice_get, slice_index, option_to_list}
+use Rattle.std.proofs.Common.{◌≡◌, ◌<◌, inl, inr, ℕ, suc, ℤ, pos, Bool, true, false, not, List, [], ◌∷◌, length, map, get_or, refl, ap, sym, subst, ◌∙◌, arith, Contains}
+use Rattle.std.specs.Prelude.{All, Option, None, Some, is_some, slice_get}
 use Rattle.std.specs.List.{AllByRecursion}
-use Rattle.std.specs.Ordering.{int_eq}
 use Rattle.std.proofs.lemmas.Bool.{and_parts}
-use Rattle.std.proofs.lemmas.List.{append-nil, length-append}
 use Rattle.std.proofs.lemmas.List.Elements.{All-cons, All-contains, All-nil}
 use Rattle.sig_base.specs.Functions.{Function, Identity, Negative, Not, And, Or, Xor, Equal, NotEqual, Less, LessEqual, Greater, GreaterEqual, Sum, Difference, Product, Quotient, Remainder, Gives}
-use Rattle.sig_base.specs.Traces.{AreOfKinds, Bounded, Instant, IsOfKind, IsValue, Seen, Trace, Unbounded, flow_of, has_64_bits, seen_at}
+use Rattle.sig_base.specs.Traces.{AreOfKinds, Bounded, Instant, IsOfKind, IsValue, Seen, Trace, Unbounded, has_64_bits, seen_at}
 use Rattle.sig_base.specs.declared.ids.EqId.{EqId}
 use Rattle.sig_base.specs.declared.ids.Kind.{Kind}
 use Rattle.sig_base.specs.declared.ids.Kind.TheVariants.{Integer, Boolean, Event as AnEvent}
@@ -17,8 +15,8 @@ use Rattle.sig_base.specs.declared.span.Span.{Span}
 use Rattle.sig_base.proofs.TraceLemmas.{fits_by_test}
 use Rattle.sig_clock.specs.Conditions.{signal_id}
 use Rattle.sig_clock.proofs.Lists.{contains_at, contains_head, get_at}
-use Rattle.sig_kernel.specs.KernelTraces.{HaveValues, IsFunction, IsReaction, IsTraceIn, Meets, Memory, function_of, or_else, remembered, where_present, where_true}
-use Rattle.sig_kernel.specs.Table.{form_fits, kind_at, kind_of, operands_of, target_fits}
+use Rattle.sig_kernel.specs.KernelTraces.{IsFunction, IsReaction, IsTraceIn, Meets, function_of, or_else, remembered}
+use Rattle.sig_kernel.specs.Table.{form_fits, kind_of, target_fits}
 use Rattle.sig_kernel.specs.Validity.{IsValid, form_within}
 use Rattle.sig_kernel.specs.declared.equation.Equation.{Equation}
 use Rattle.sig_kernel.specs.declared.equation.Form.{Form}
@@ -30,16 +28,15 @@ use Rattle.sig_kernel.specs.declared.kernel.Kernel.{Kernel}
 use Rattle.sig_kernel.proofs.DelayLemmas.{at_element}
 use Rattle.sig_kernel.proofs.ValueLemmas.{few_constants, remembered_value}
 use Rattle.sig_meaning.proofs.Results.{equal}
-use Rattle.sig_meaning.proofs.Values.{form_for, has_form, none_where, where_present_some, where_some, where_true_some}
+use Rattle.sig_meaning.proofs.Values.{none_where, where_present_some, where_some, where_true_some}
 use Rattle.sig_model.specs.Causes.{Computes, HasFault, IsPastEnd, Meets as MeetsFault}
 use Rattle.sig_model.specs.Results.{divides_by_zero}
-use Rattle.sig_plan.specs.Operations.{Operation, Presence, equation_id, operations_of, read_of, signals_of, store_of, stores_of, without, writes_of, writing}
+use Rattle.sig_plan.specs.Operations.{Operation, Presence, equation_id, operations_of, signals_of, stores_of, without, writes_of, writing}
 use Rattle.sig_plan.specs.Order.{Writes}
 use Rattle.sig_plan.specs.declared.ended.Cause.{Cause}
-use Rattle.sig_plan.specs.declared.ended.Cause.TheVariants.{Exhausted, Overflow, ZeroDivisor, Limit}
-use Rattle.sig_plan.specs.declared.op.OpKind.{OpKind}
-use Rattle.sig_plan.specs.declared.op.OpKind.TheVariants.{Read, Compute, Left, Right, DelayRead, Store}
-use Rattle.sig_plan.proofs.EachOperation.{each_operation, first_below, only, operands_below, second_below, target_below}
+use Rattle.sig_plan.specs.declared.ended.Cause.TheVariants.{Exhausted, Overflow}
+use Rattle.sig_plan.specs.declared.op.OpKind.TheVariants.{Compute, Left, Right}
+use Rattle.sig_plan.proofs.EachOperation.{each_operation, first_below, only, operands_below}
 
 pub small_value : (kind : Kind) (v : ℤ) → IsValue Bounded kind v → has_64_bits v ≡ true
 small_value Integer v is = (fits_by_test v).1 is
@@ -204,9 +201,12 @@ module _ (kernel : Kernel) (valid : IsValid kernel) (flows : List (List ℤ)) (t
         → ((c : Computes kernel instant number) → divides_by_zero (function_of c.function) c.values ≡ false) → (s : Seen) → seen_at instant y.0 ≡ s
         → IsFunction Unbounded (function_of op) instant operands s → IsFunction Bounded (function_of op) instant operands s
     function_bounded number y op operands e no_zero None seen met = met
-    function_bounded number y op operands e no_zero (Some v) seen met =
-        (met.0, met.1, bounded_gives (function_of op) met.0 v
-        (no_zero (record { equation = e.equation; is = e.at; target = y; function = op; operands = operands; form = e.has; values = met.0; have = met.1; result = v; gives = seen })) met.2)
+    function_bounded number y op operands e no_zero (Some v) seen met = (
+      met.0,
+      met.1,
+      bounded_gives (function_of op) met.0 v
+          (no_zero (record { equation = e.equation; is = e.at; target = y; function = op; operands = operands; form = e.has; values = met.0; have = met.1; result = v; gives = seen })) met.2,
+    )
 
     form_bounded : (number : EqId) (form : Form) → IsEquation number form → ((c : Computes kernel instant number) → divides_by_zero (function_of c.function) c.values ≡ false)
         → Meets Bounded (remembered trace) instant form

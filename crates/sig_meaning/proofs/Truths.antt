@@ -1,49 +1,27 @@
 -- What an operation writes is of its signal's kind, and has the truth that an abstract reaction gives to the signal.
-use Rattle.std.proofs.Common.{◌≡◌, ◌<◌, ◌⊎◌, inl, inr, ℕ, zero, suc, ℤ, pos, Bool, true, false, not, cond, int_le, int_lt, ◌&&◌, ◌||◌, List, [], ◌∷◌, length, map, get_or, refl, ap, sym, subst, ◌∙◌, arith, Contains}
-use Rattle.std.specs.Prelude.{All, Option, None, Some, is_some, slice_get, unwrap_or, ◌==◌, nat_lt}
-use Rattle.std.specs.List.{list_all, list_any, range_with_len}
+use Rattle.std.proofs.Common.{◌≡◌, ◌⊎◌, inl, inr, ℕ, zero, suc, ℤ, pos, Bool, true, false, not, int_le, int_lt, ◌&&◌, ◌||◌, List, [], ◌∷◌, length, refl, ap, sym, subst, ◌∙◌, arith}
+use Rattle.std.specs.Prelude.{None, Some, is_some, slice_get}
+use Rattle.std.specs.List.{list_any}
 use Rattle.std.specs.Ordering.{int_eq}
-use Rattle.std.proofs.lemmas.Bool.{and_parts, eqb-false, false≢true, lt-ltb}
+use Rattle.std.proofs.lemmas.Bool.{and_parts, false≢true}
 use Rattle.std.proofs.Math.Bool.{or-false, or-true}
-use Rattle.std.proofs.lemmas.List.Elements.{All-cons, All-nil}
-use Rattle.sig_base.specs.Functions.{Function, Identity, Negative, Not as Negation, And as Conjunction, Or as Disjunction, Xor as Exclusive, Equal, NotEqual, Less, LessEqual, Greater, GreaterEqual, Sum, Difference, Product, Quotient, Remainder, Gives, operand_count}
-use Rattle.sig_base.specs.Traces.{AreOfKinds, Bounded, Instant, IsOfKind, IsValue, Seen, Unbounded, seen_at}
-use Rattle.sig_base.specs.declared.ids.EqId.{EqId}
+use Rattle.sig_base.specs.Functions.{Function, Not as Negation, And as Conjunction, Or as Disjunction, Xor as Exclusive, Equal, NotEqual, Less, LessEqual, Greater, GreaterEqual, operand_count}
+use Rattle.sig_base.specs.Traces.{IsValue, Unbounded}
 use Rattle.sig_base.specs.declared.ids.Kind.{Kind}
 use Rattle.sig_base.specs.declared.ids.Kind.TheVariants.{Integer, Boolean, Event}
-use Rattle.sig_base.specs.declared.ids.SigId.{SigId}
 use Rattle.sig_base.specs.declared.signal.Signal.{Signal}
-use Rattle.sig_base.specs.declared.span.Span.{Span}
-use Rattle.sig_clock.specs.Abstractions.{abstraction_of, status_of, truth_of_value}
-use Rattle.sig_clock.specs.Conditions.{freed, frees, is_condition, is_free, is_number, signal_id}
-use Rattle.sig_clock.specs.Reactions.{IsReaction, Reaction, Status, are_statuses, compares, constant_truth, function_truth, has_truth, is_boolean_kind, is_integer, is_present, is_status_of, meets, operand_truth, or_else, same_status, same_truth, status_at, truth_function, truth_of_status, where_present, where_true}
-use Rattle.sig_clock.proofs.AbstractLemmas.{at as status_by_kind, boolean_row, equality_rows, function_met, handed_row, kind_bit, like, merged_rows, one_operand, sort_of, two_operands, where_rows}
-use Rattle.sig_clock.proofs.Lists.{contains_at, contains_cons, contains_head, contains_later, get_at, get_within}
+use Rattle.sig_clock.specs.Abstractions.{truth_of_value}
+use Rattle.sig_clock.specs.Reactions.{Reaction, Status, are_statuses, compares, is_status_of, same_status, same_truth, status_at, truth_function, where_true}
+use Rattle.sig_clock.proofs.AbstractLemmas.{boolean_row, equality_rows, handed_row, kind_bit, one_operand, sort_of, two_operands}
 use Rattle.sig_clock.proofs.ReactionLemmas.{truths_are_same}
-use Rattle.sig_kernel.specs.KernelTraces.{HaveValues, Memory, function_of}
-use Rattle.sig_kernel.specs.Table.{defines_well, form_fits, function_rows, is_kind, keeps_to_one, kind_at, kind_fits, kind_is, kind_of, operand_is, operands_are, operands_of, target_fits}
+use Rattle.sig_kernel.specs.KernelTraces.{function_of}
+use Rattle.sig_kernel.specs.Table.{function_rows, is_kind, keeps_to_one, kind_is, operands_are}
 use Rattle.sig_kernel.specs.declared.table.Sort.{Sort}
 use Rattle.sig_kernel.specs.declared.table.Sort.TheVariants.{Integer as AnInteger, Truth}
-use Rattle.sig_kernel.specs.Validity.{IsValid, form_within, is_signal}
-use Rattle.sig_kernel.specs.declared.equation.Equation.{Equation}
-use Rattle.sig_kernel.specs.declared.equation.Form.{Form}
-use Rattle.sig_kernel.specs.declared.equation.Form.TheVariants.{Fun, Delay, When, WhenConst, Default, Sync, Event as EventOf}
 use Rattle.sig_kernel.specs.declared.equation.FunOp.{FunOp}
 use Rattle.sig_kernel.specs.declared.equation.FunOp.TheVariants.{Id, Neg, Not, And, Or, Xor, Eq, Ne, Lt, Le, Gt, Ge, Add, Sub, Mul, Div, Mod}
 use Rattle.sig_kernel.specs.declared.equation.Operand.{Operand}
-use Rattle.sig_kernel.specs.declared.equation.Operand.TheVariants.{Sig, Const}
-use Rattle.sig_kernel.specs.declared.kernel.Kernel.{Kernel}
-use Rattle.sig_kernel.proofs.ValueLemmas.{sampled_value}
-use Rattle.sig_meaning.specs.Reactions.{HasNextValues, RemembersValues}
-use Rattle.sig_meaning.proofs.Results.{given}
-use Rattle.sig_meaning.proofs.Values.{computed, form_for, has_form, kept_in, value, where_some}
-use Rattle.sig_model.specs.Actors.{Registers, value_in}
-use Rattle.sig_model.specs.Operating.{operand_in}
 use Rattle.sig_model.specs.Results.{is_one, result_of, truth_value}
-use Rattle.sig_plan.specs.Operations.{Operation, Presence, equation_id, operations_of, read_of, signals_of, store_of, stores_of, without, writes_of, writing}
-use Rattle.sig_plan.specs.Order.{Writes}
-use Rattle.sig_plan.specs.declared.op.OpKind.TheVariants.{Left, Right}
-use Rattle.sig_plan.proofs.EachOperation.{each_operation, first_below, only, operands_below, second_below, target_below}
 
 -- ---- statuses
 

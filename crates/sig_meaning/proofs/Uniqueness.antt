@@ -1,12 +1,10 @@
 -- There is one named cause.
-use Rattle.std.proofs.Common.{◌≡◌, ◌<◌, ◌≤◌, ◌+◌, ◌++◌, ◌⊎◌, inl, inr, ℕ, zero, suc, ℤ, pos, negsuc, neg_ℤ, Bool, true, false, List, [], ◌∷◌, length, get_or, refl, ap, sym, subst, ◌∙◌, arith}
-use Rattle.std.specs.Prelude.{None, Option, Some, slice_get, slice_index}
-use Rattle.std.specs.Ordering.{int_eq}
+use Rattle.std.proofs.Common.{◌≡◌, ◌<◌, ◌≤◌, ◌+◌, ◌++◌, ◌⊎◌, inl, inr, ℕ, suc, ℤ, pos, negsuc, neg_ℤ, true, false, List, [], ◌∷◌, length, refl, ap, sym, subst, ◌∙◌, arith}
+use Rattle.std.specs.Prelude.{None, Option, Some, slice_get}
 use Rattle.std.proofs.Math.Nat.{div-zero}
 use Rattle.sig_base.specs.Functions.{Function, Quotient, Remainder}
-use Rattle.sig_base.specs.Traces.{Instant, IsLongest, Trace, Unbounded, has_64_bits, seen_at}
+use Rattle.sig_base.specs.Traces.{Instant, IsLongest, Trace, Unbounded, has_64_bits}
 use Rattle.sig_base.specs.declared.ids.EqId.{EqId}
-use Rattle.sig_base.specs.declared.ids.SigId.{SigId}
 use Rattle.sig_base.specs.declared.place.Place.{Place}
 use Rattle.sig_base.proofs.TraceLemmas.{one_longest}
 use Rattle.sig_clock.proofs.Lists.{contains_at}
@@ -15,12 +13,11 @@ use Rattle.sig_kernel.specs.Validity.{AreFlowsFor}
 use Rattle.sig_kernel.specs.declared.equation.Equation.{Equation}
 use Rattle.sig_kernel.specs.declared.equation.Form.{Form}
 use Rattle.sig_kernel.specs.declared.equation.Form.TheVariants.{Fun}
-use Rattle.sig_kernel.specs.declared.equation.FunOp.{FunOp}
 use Rattle.sig_kernel.specs.declared.kernel.Kernel.{Kernel}
 use Rattle.sig_kernel.proofs.DelayLemmas.{at_element}
 use Rattle.sig_kernel.proofs.TraceLemmas.{comes_from}
-use Rattle.sig_meaning.specs.Ends.{IsCut, StopsBefore}
-use Rattle.sig_meaning.specs.Faults.{IsFaultAt, IsFirstFault}
+use Rattle.sig_meaning.specs.Ends.{StopsBefore}
+use Rattle.sig_meaning.specs.Faults.{IsFirstFault}
 use Rattle.sig_meaning.proofs.Accepted.{compiled}
 use Rattle.sig_meaning.proofs.Causing.{first_fault}
 use Rattle.sig_meaning.proofs.Ending.{fitting}
@@ -28,7 +25,6 @@ use Rattle.sig_meaning.proofs.FirstFaults.{one_computes}
 use Rattle.sig_meaning.proofs.Longest.{IsClean, longest_cut, same_values}
 use Rattle.sig_meaning.proofs.Longest.{clean as clean_of}
 use Rattle.sig_meaning.proofs.Naming.{first_cause, reference_goes_on}
-use Rattle.sig_meaning.proofs.References.{Fitting}
 use Rattle.sig_meaning.proofs.Results.{determined, equal}
 use Rattle.sig_model.specs.Causes.{Computes, GoesOn, HasFault, IsEnd, IsFirstCause, IsNamedCause, Meets as MeetsFault, MeetsAt, place_at}
 use Rattle.sig_model.specs.References.{IsReference}
@@ -54,7 +50,7 @@ module _ (kernel : Kernel) (memory : Memory) (instant : Instant) (is : IsReactio
   computed_result : (e : EqId) (c : Computes kernel instant e) → c.result ≡ result_of (function_of c.function) c.values
   computed_result e c =
       let met : Meets Unbounded memory instant c.equation.form =
-          at_element (λ (q : Equation). Meets Unbounded memory instant q.form) kernel.equations c.equation (contains_at kernel.equations e.0 c.equation c.is) is.equations in
+      at_element (λ (q : Equation). Meets Unbounded memory instant q.form) kernel.equations c.equation (contains_at kernel.equations e.0 c.equation c.is) is.equations in
       let of_form : Meets Unbounded memory instant (Fun c.target c.function c.operands) = subst (λ (form : Form). Meets Unbounded memory instant form) c.form met in
       let given : IsFunction Unbounded (function_of c.function) instant c.operands (Some c.result) = subst (λ s. IsFunction Unbounded (function_of c.function) instant c.operands s) c.gives of_form in
       determined (function_of c.function) given.0 c.result given.2 ∙ ap (result_of (function_of c.function)) (same_values instant c.operands given.0 c.values given.1 c.have)
@@ -98,10 +94,11 @@ one_cause kernel operations order flows trace instant goes a b p q x y =
     let less : x.first ≤ y.first = x.least y.first b y.is in
     let more : y.first ≤ x.first = y.least x.first a x.is in
     let same : x.first ≡ y.first = omega (arith, less, more) in
-    let one : x.is.at.operation ≡ y.is.at.operation = same_operation operations order x.first y.first a b same x.is.at y.is.at in
-    (x.met ∙ ap (λ k. place_at (length trace + 1) k) same ∙ sym y.met,
-    same_cause kernel (remembered trace) instant (comes_from Unbounded kernel trace instant goes.is).1 flows trace y.is.at.operation a b
-    (subst (λ (o : Operation). MeetsFault o a) one x.is.at.meets) y.is.at.meets (x.is.every instant goes) (y.is.every instant goes))
+    let one : x.is.at.operation ≡ y.is.at.operation = same_operation operations order x.first y.first a b same x.is.at y.is.at in (
+      x.met ∙ ap (λ k. place_at (length trace + 1) k) same ∙ sym y.met,
+      same_cause kernel (remembered trace) instant (comes_from Unbounded kernel trace instant goes.is).1 flows trace y.is.at.operation a b
+          (subst (λ (o : Operation). MeetsFault o a) one x.is.at.meets) y.is.at.meets (x.is.every instant goes) (y.is.every instant goes),
+    )
 
 -- ---- the end of a run of an accepted plan
 

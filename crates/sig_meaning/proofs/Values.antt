@@ -1,10 +1,10 @@
 -- The value that an operation writes, by what it reads.
-use Rattle.std.proofs.Common.{◌≡◌, ◌<◌, ℕ, ℤ, pos, Bool, true, false, not, ◌&&◌, List, [], ◌∷◌, length, map, get_or, refl, ap, sym, subst, ◌∙◌, arith, Contains}
+use Rattle.std.proofs.Common.{◌≡◌, ◌<◌, ℕ, ℤ, pos, Bool, true, false, not, List, [], ◌∷◌, length, map, get_or, refl, ap, sym, subst, ◌∙◌, arith, Contains}
 use Rattle.std.specs.Prelude.{All, Option, None, Some, is_some, slice_get, unwrap_or}
 use Rattle.std.specs.Ordering.{int_eq}
 use Rattle.std.proofs.lemmas.Bool.{and_parts}
-use Rattle.std.proofs.lemmas.List.Elements.{All-cons, All-contains, All-nil}
-use Rattle.sig_base.specs.Functions.{Function, Gives}
+use Rattle.std.proofs.lemmas.List.Elements.{All-cons, All-nil}
+use Rattle.sig_base.specs.Functions.{Function}
 use Rattle.sig_base.specs.Traces.{Instant, Seen, Unbounded, seen_at}
 use Rattle.sig_base.specs.declared.ids.EqId.{EqId}
 use Rattle.sig_base.specs.declared.ids.SigId.{SigId}
@@ -19,12 +19,11 @@ use Rattle.sig_kernel.specs.declared.equation.Operand.{Operand}
 use Rattle.sig_kernel.specs.declared.equation.Operand.TheVariants.{Sig, Const}
 use Rattle.sig_kernel.specs.declared.kernel.Kernel.{Kernel}
 use Rattle.sig_kernel.proofs.DelayLemmas.{at_element}
-use Rattle.sig_meaning.specs.Reactions.{TakesNext}
 use Rattle.sig_meaning.proofs.Results.{determined}
 use Rattle.sig_model.specs.Actors.{Registers, value_in}
 use Rattle.sig_model.specs.Operating.{first_in, operand_in}
 use Rattle.sig_model.specs.Results.{result_of}
-use Rattle.sig_plan.specs.Operations.{Operation, Presence, equation_id, operations_of, read_of, signals_of, store_of, stores_of, without, writes_of, writing}
+use Rattle.sig_plan.specs.Operations.{Operation, Presence, equation_id, operations_of, signals_of, stores_of, without, writes_of, writing}
 use Rattle.sig_plan.specs.Order.{Writes}
 use Rattle.sig_plan.specs.declared.op.OpKind.{OpKind}
 use Rattle.sig_plan.specs.declared.op.OpKind.TheVariants.{Read, Compute, Left, Right, DelayRead, Store}
@@ -238,8 +237,12 @@ module _ (kernel : Kernel) (memory : Memory) (next : ℕ → ℤ) (presence : Pr
   pub all_seen : IsValid kernel → IsReaction Unbounded kernel memory instant → ((input : ℕ) (v : ℤ) → input < kernel.inputs → seen_at instant input ≡ Some v → v ≡ next input)
       → All IsSeen (operations_of kernel presence)
   all_seen valid is takes = each_operation IsSeen kernel presence IsMet
-      (λ k d lt. (has_form kernel k d lt, at_element (λ (equation : Equation). Meets Unbounded memory instant equation.form) kernel.equations (get_or kernel.equations k d)
-      (contains_at kernel.equations k (get_or kernel.equations k d) (get_at kernel.equations k d lt)) is.equations, valid.equations.within k d lt))
+      (λ k d lt. (
+        has_form kernel k d lt,
+        at_element (λ (equation : Equation). Meets Unbounded memory instant equation.form) kernel.equations (get_or kernel.equations k d)
+            (contains_at kernel.equations k (get_or kernel.equations k d) (get_at kernel.equations k d lt)) is.equations,
+        valid.equations.within k d lt,
+      ))
       (λ number lt z target done.
       let there = present (signal_id number) (omega (arith, lt, valid.parts.interface, valid.parts.declared)) done in
       let e : Some (signal_id number) ≡ Some z = target in

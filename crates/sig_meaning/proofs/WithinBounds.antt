@@ -1,7 +1,6 @@
 -- An instant that is within bounds has no fault.
-use Rattle.std.proofs.Common.{◌≡◌, ◌<◌, ◌≤◌, ◌+◌, ◌++◌, ℕ, ℤ, pos, Bool, true, false, List, [], ◌∷◌, length, map, refl, ap, sym, subst, ◌∙◌, arith, Contains}
-use Rattle.std.specs.Prelude.{None, Option, Some, slice_get, slice_index}
-use Rattle.std.specs.Ordering.{int_eq}
+use Rattle.std.proofs.Common.{◌≡◌, ◌<◌, ℕ, ℤ, pos, true, false, List, [], ◌∷◌, length, map, ap, sym, subst, ◌∙◌, arith, Contains}
+use Rattle.std.specs.Prelude.{Some}
 use Rattle.std.proofs.lemmas.List.{length-map}
 use Rattle.sig_base.specs.Functions.{Function, Quotient, Remainder, Gives}
 use Rattle.sig_base.specs.Traces.{Bounded, Instant, IsOfKind, Trace, has_64_bits, seen_at}
@@ -27,7 +26,7 @@ use Rattle.sig_meaning.proofs.Results.{equal}
 use Rattle.sig_meaning.proofs.Small.{small_value}
 use Rattle.sig_model.specs.Causes.{Computes, HasFault, Meets as MeetsFault}
 use Rattle.sig_model.specs.Results.{divides_by_zero}
-use Rattle.sig_plan.specs.Operations.{Operation, operations_of}
+use Rattle.sig_plan.specs.Operations.{Operation}
 use Rattle.sig_plan.specs.declared.ended.Cause.{Cause}
 use Rattle.sig_plan.specs.declared.ended.Cause.TheVariants.{Exhausted, Overflow, ZeroDivisor, Limit}
 
@@ -40,7 +39,7 @@ module _ (kernel : Kernel) (memory : Memory) (instant : Instant) (is : IsReactio
   small_result : (e : EqId) (c : Computes kernel instant e) → has_64_bits c.result ≡ true
   small_result e c =
       let lt : c.target.0 < length kernel.signals = beyond_end kernel.signals instant c.target.0 c.result
-          (kinds_length Bounded (map (λ (signal : Signal). signal.kind) kernel.signals) instant is.kinds ∙ length-map kernel.signals (λ (signal : Signal). signal.kind)) c.gives in
+      (kinds_length Bounded (map (λ (signal : Signal). signal.kind) kernel.signals) instant is.kinds ∙ length-map kernel.signals (λ (signal : Signal). signal.kind)) c.gives in
       let s = some_at kernel.signals c.target.0 lt in
       let of : IsOfKind Bounded s.0.kind (seen_at instant c.target.0) = of_kind Bounded kernel.signals instant c.target.0 s.0.kind is.kinds (ap kind_of s.1) in
       small_value s.0.kind c.result (subst (λ seen. IsOfKind Bounded s.0.kind seen) c.gives of)
@@ -48,7 +47,7 @@ module _ (kernel : Kernel) (memory : Memory) (instant : Instant) (is : IsReactio
   no_zero : (e : EqId) (c : Computes kernel instant e) → divides_by_zero (function_of c.function) c.values ≡ true → ⊥
   no_zero e c by_zero =
       let met : Meets Bounded memory instant c.equation.form =
-          at_element (λ (q : Equation). Meets Bounded memory instant q.form) kernel.equations c.equation (contains_at kernel.equations e.0 c.equation c.is) is.equations in
+      at_element (λ (q : Equation). Meets Bounded memory instant q.form) kernel.equations c.equation (contains_at kernel.equations e.0 c.equation c.is) is.equations in
       let of_form : Meets Bounded memory instant (Fun c.target c.function c.operands) = subst (λ (form : Form). Meets Bounded memory instant form) c.form met in
       let given : IsFunction Bounded (function_of c.function) instant c.operands (Some c.result) = subst (λ s. IsFunction Bounded (function_of c.function) instant c.operands s) c.gives of_form in
       never_by_zero (function_of c.function) c.values c.result
@@ -60,7 +59,7 @@ bounds_without_faults kernel conditions operations order c flows count trace ins
   by : (found : Cause) → MeetsFault fault.met.operation found → HasFault kernel flows trace instant found → ⊥
   by (Exhausted x) meets past =
       let either = (one_either kernel c.has.presence fault.met.operation
-          (subst (λ (ps : List Operation). Contains ps fault.met.operation) c.has.are (contains_at operations fault.met.number fault.met.operation fault.met.is))).0 x meets in
+      (subst (λ (ps : List Operation). Contains ps fault.met.operation) c.has.are (contains_at operations fault.met.number fault.met.operation fault.met.is))).0 x meets in
       let few = within.inputs x.0 (omega (arith, either.1, count)) in
       omega (arith, few, past)
   by (Overflow e) meets large = let clash : true ≡ false = sym (small_result kernel (remembered trace) instant within.is e large.0) ∙ large.1 in cc

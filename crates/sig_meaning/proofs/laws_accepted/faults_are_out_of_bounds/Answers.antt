@@ -1,4 +1,4 @@
-use Rattle.std.proofs.Common.{ℕ, suc, ◌++◌, ◌∷◌, [], length, subst, arith}
+use Rattle.std.proofs.Common.{◌++◌, ◌∷◌, [], subst, arith}
 use Rattle.sig_plan.specs.Operations.{operations_in}
 use Rattle.sig_plan.specs.Plans.{numbers_of}
 use Rattle.sig_model.specs.References.{IsReference}
