@@ -22,6 +22,7 @@ use Rattle.sig_kernel.specs.Table.{kind_at, kind_of}
 use Rattle.sig_kernel.specs.Validity.{IsValid}
 use Rattle.sig_kernel.specs.declared.kernel.Kernel.{Kernel}
 use Rattle.sig_meaning.specs.Reactions.{IsNext}
+use Rattle.sig_meaning.proofs.Numbers.{same_or_not}
 use Rattle.sig_meaning.proofs.Values.{all_depend, all_seen, form_for, none_where, value, value_by}
 use Rattle.sig_model.specs.Actors.{Registers, is_true, truths_of}
 use Rattle.sig_plan.specs.Acceptance.{HasOperations}
@@ -200,16 +201,7 @@ module _ (kernel : Kernel) (conditions : List SigId) (operations : List Operatio
       }
 
   same_next : (k : ℕ) → suc k ≤ length operations → ReadsAgree k → SameBefore k → SameBefore (suc k)
-  same_next k le agree before i lt q at = by (at_end i k) where
-    at_end : (i k : ℕ) → (i ≡ k) ⊎ ((i ≡ k) → ⊥)
-    at_end zero zero = inl refl
-    at_end zero (suc k) = inr (λ e. omega (arith, e))
-    at_end (suc i) zero = inr (λ e. omega (arith, e))
-    at_end (suc i) (suc k) = elim (at_end i k) [
-      | inl e ↦ inl (ap suc e)
-      | inr differs ↦ inr (λ e. differs (omega (arith, e)))
-    ]
-
+  same_next k le agree before i lt q at = by (same_or_not i k) where
     by : (i ≡ k) ⊎ ((i ≡ k) → ⊥) → SameAt q
     by (inl e) = same_value k (omega (arith, le)) agree before q (sym (ap (λ j. slice_get operations (slice_index order j)) e) ∙ at)
     by (inr differs) = before i (omega (arith, lt, differs)) q at

@@ -9,6 +9,7 @@ use Rattle.sig_base.specs.Traces.{AreOfKinds, Bounded, Instant, IsPrefixOf, IsVa
 use Rattle.sig_base.specs.declared.ids.Kind.{Kind}
 use Rattle.sig_base.specs.declared.ids.SigId.{SigId}
 use Rattle.sig_base.specs.declared.signal.Signal.{Signal}
+use Rattle.sig_base.proofs.TraceLemmas.{prefix_length}
 use Rattle.sig_clock.specs.Abstractions.{abstraction_of}
 use Rattle.sig_clock.specs.Conditions.{signal_id}
 use Rattle.sig_clock.proofs.Lists.{at_contained, contains_at, contains_head, get_at}
@@ -25,7 +26,8 @@ use Rattle.sig_meaning.specs.Ends.{IsWithinBounds}
 use Rattle.sig_meaning.specs.Faults.{IsFaultAt, IsFirstFault}
 use Rattle.sig_meaning.specs.Reactions.{IsNext}
 use Rattle.sig_meaning.proofs.Agreement.{Compiled, own_keeps, own_present, own_speaks, own_written, some_at}
-use Rattle.sig_meaning.proofs.Doing.{at_most_or, place_of}
+use Rattle.sig_meaning.proofs.Doing.{place_of}
+use Rattle.sig_meaning.proofs.Numbers.{at_most_or}
 use Rattle.sig_meaning.proofs.Equations.{among_each}
 use Rattle.sig_meaning.proofs.FirstFaults.{decide_fault}
 use Rattle.sig_meaning.proofs.Flows.{flow_more, last_value, next_in}
@@ -183,9 +185,6 @@ module _ (kernel : Kernel) (conditions : List SigId) (operations : List Operatio
       let contained : Contains operations p = subst (λ (ps : List Operation). Contains ps p) (sym c.has.are) there in
       place_of kernel conditions operations order memory next c contained.0 p (at_contained operations p contained)
 
-  prefix_short : (a b : List ℤ) → IsPrefixOf a b → length a ≤ length b
-  prefix_short a b begins = let e : length b ≡ length a + length begins.0 = ap length begins.1 ∙ length-append a begins.0 in omega (arith, e)
-
   read_in : (input : ℕ) → input < kernel.inputs → Contains (operations_of kernel c.has.presence) (read_of kernel.signals c.has.presence (signal_id input))
   read_in input lt =
       Contains-append_left _ (of_each (stores_of kernel.signals c.has.presence) 0 kernel.equations) (read_of kernel.signals c.has.presence (signal_id input))
@@ -235,7 +234,7 @@ module _ (kernel : Kernel) (conditions : List SigId) (operations : List Operatio
     within : (input : ℕ) → input < kernel.inputs → input < length flows → (s : Seen) → seen_at instant input ≡ s → length (flow_of input (trace ++ instant ∷ [])) ≤ length (get_or flows input [])
     within input lt below None seen =
         let same : flow_of input (trace ++ instant ∷ []) ≡ flow_of input trace = flow_more input trace instant ∙ ap (λ s. flow_of input trace ++ option_to_list s) seen ∙ append-nil (flow_of input trace) in
-        let few : length (flow_of input trace) ≤ length (get_or flows input []) = prefix_short (flow_of input trace) (get_or flows input []) (clean.fits input below) in
+        let few : length (flow_of input trace) ≤ length (get_or flows input []) = prefix_length (flow_of input trace) (get_or flows input []) (clean.fits input below) in
         omega (arith, few, ap length same)
     within input lt below (Some v) seen = elim (at_most_or (length (flow_of input (trace ++ instant ∷ []))) (length (get_or flows input []))) [
       | inl le ↦ le

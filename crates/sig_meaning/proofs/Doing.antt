@@ -12,6 +12,7 @@ use Rattle.sig_clock.specs.Reactions.{Reaction, Speaks, is_present}
 use Rattle.sig_kernel.specs.KernelTraces.{Memory}
 use Rattle.sig_kernel.specs.declared.kernel.Kernel.{Kernel}
 use Rattle.sig_meaning.proofs.Agreement.{Compiled, some_at, truth_at, value_by_reads}
+use Rattle.sig_meaning.proofs.Numbers.{at_most_or}
 use Rattle.sig_meaning.proofs.Values.{value}
 use Rattle.sig_model.specs.Actors.{Registers, is_true, no_registers, truths_of, with_at, with_signal}
 use Rattle.sig_plan.specs.Operations.{Operation}
@@ -19,12 +20,6 @@ use Rattle.sig_plan.specs.Order.{Needs, Precedes, Writes}
 use Rattle.sig_plan.proofs.Done.{present_written, written_by_one, written_present}
 use Rattle.sig_plan.proofs.Earlier.{guards_alone, needed_earlier, read_earlier}
 use Rattle.sig_plan.proofs.Orders.{stands_once, stands_somewhere}
-
--- a number is at most another one, or not
-pub at_most_or : (a b : ℕ) → (a ≤ b) ⊎ (b < a)
-at_most_or zero b = inl (omega arith)
-at_most_or (suc a) zero = inr (omega arith)
-at_most_or (suc a) (suc b) = elim (at_most_or a b) [ inl le ↦ inl (omega (arith, le)) | inr lt ↦ inr (omega (arith, lt)) ]
 
 with_other : (y : SigId) (v : Seen) (f : Registers) (x : ℕ) → (y.0 ≡ x → ⊥) → with_at y.0 v f x ≡ f x
 with_other y v f x apart = by (x == y.0) refl where

@@ -41,6 +41,11 @@ use Rattle.sig_plan.specs.Order.{Writes}
 use Rattle.sig_plan.specs.declared.op.OpKind.TheVariants.{Compute, DelayRead, Left, Right}
 use Rattle.sig_plan.proofs.EachOperation.{first_below, operands_below, second_below, target_below}
 
+-- what holds at each index
+pub from_index : (Q : Equation → Type 0) (equations : List Equation) → ((k : ℕ) (d : Equation) → k < length equations → Q (get_or equations k d)) → AllByRecursion Q equations
+from_index Q [] each = tt
+from_index Q (equation ∷ equations) each = (each 0 equation (omega arith), from_index Q equations (λ k d lt. each (suc k) d (omega (arith, lt))))
+
 -- what an equation makes is among the operations
 pub among_each : (make : EqId → Form → List Operation) (n : ℕ) (equations : List Equation) (k : ℕ) (d : Equation) (p : Operation) → k < length equations
     → Contains (make (equation_id (n + k)) (get_or equations k d).form) p → Contains (of_each make n equations) p
@@ -242,12 +247,6 @@ module _ (kernel : Kernel) (valid : IsValid kernel) (memory : Memory) (next : �
     same : status_at a y.0 ≡ status_or_else (status_at a u.0) (status_at a v.0)
     same = statuses_equal (status_at a y.0) (status_or_else (status_at a u.0) (status_at a v.0)) e.met
 
-    left : Operation
-    left = writing kernel.signals number Left (presence u) y (u ∷ [])
-
-    right : Operation
-    right = writing kernel.signals number Right (without (presence v) (presence u)) y (v ∷ [])
-
     by : (one two : Status) → status_at a u.0 ≡ one → status_at a v.0 ≡ two → final y.0 ≡ or_else (final u.0) (final v.0)
     by (Some t) two e_u e_v =
         let found = held u lt_u t e_u in
@@ -327,10 +326,6 @@ module _ (kernel : Kernel) (valid : IsValid kernel) (memory : Memory) (next : �
         (Contains-append_right (map (λ number. read_of kernel.signals presence (signal_id number)) (range_with_len 0 kernel.inputs)) (of_each (writes_of kernel.signals presence) 0 kernel.equations) p
         (among_each (writes_of kernel.signals presence) 0 kernel.equations k d p lt (subst (λ m. Contains (writes_of kernel.signals presence (equation_id m) (get_or kernel.equations k d).form) p) same there)));
   }
-
-  from_index : (Q : Equation → Type 0) (equations : List Equation) → ((k : ℕ) (d : Equation) → k < length equations → Q (get_or equations k d)) → AllByRecursion Q equations
-  from_index Q [] each = tt
-  from_index Q (equation ∷ equations) each = (each 0 equation (omega arith), from_index Q equations (λ k d lt. each (suc k) d (omega (arith, lt))))
 
   is_instant : IsReaction Unbounded kernel memory now
   is_instant = record {

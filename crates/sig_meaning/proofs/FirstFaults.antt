@@ -15,7 +15,7 @@ use Rattle.sig_kernel.specs.declared.equation.FunOp.{FunOp}
 use Rattle.sig_kernel.specs.declared.equation.Operand.{Operand}
 use Rattle.sig_kernel.specs.declared.kernel.Kernel.{Kernel}
 use Rattle.sig_kernel.proofs.DelayLemmas.{at_element}
-use Rattle.sig_meaning.proofs.Doing.{at_most_or}
+use Rattle.sig_meaning.proofs.Numbers.{at_most_or}
 use Rattle.sig_meaning.proofs.Longest.{Decided, same_values}
 use Rattle.sig_meaning.proofs.Values.{form_for, has_form}
 use Rattle.sig_model.specs.Causes.{Computes, HasFault, IsPastEnd, Meets as MeetsFault}

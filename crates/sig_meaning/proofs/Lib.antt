@@ -8,6 +8,7 @@ pub mod FirstFaults
 pub mod Flows
 pub mod Longest
 pub mod Naming
+pub mod Numbers
 pub mod Reacting
 pub mod References
 pub mod Results

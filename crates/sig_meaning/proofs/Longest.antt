@@ -9,7 +9,7 @@ use Rattle.sig_base.specs.Functions.{Function, Identity, Negative, Not, And, Or,
 use Rattle.sig_base.specs.Traces.{AreOfKinds, Bounded, Fits, Instant, IsLongest, IsOfKind, IsPrefixOf, NoneSilent, Seen, Trace, Unbounded, flow_of, has_64_bits, reduce, seen_at}
 use Rattle.sig_base.specs.declared.ids.Kind.{Kind}
 use Rattle.sig_base.specs.declared.ids.Kind.TheVariants.{Integer, Boolean, Event}
-use Rattle.sig_base.proofs.TraceLemmas.{fits_by_test, fits_reduced, prefix_fits, one_longest, speaks}
+use Rattle.sig_base.proofs.TraceLemmas.{fits_by_test, fits_reduced, prefix_fits, one_longest, speaks, prefix_length}
 use Rattle.sig_kernel.specs.KernelTraces.{HaveValues, IsFunction, IsKernelTrace, IsReaction, Meets, Memory, function_of, remembered}
 use Rattle.sig_kernel.specs.declared.equation.Equation.{Equation}
 use Rattle.sig_kernel.specs.declared.equation.Form.{Form}
@@ -21,8 +21,11 @@ use Rattle.sig_kernel.proofs.TraceLemmas.{comes_from, goes_on, prefix_trace, red
 use Rattle.sig_kernel.proofs.RangeLemmas.{wide_trace}
 use Rattle.sig_meaning.specs.Ends.{IsCut, IsWithinBounds, StopsBefore}
 use Rattle.sig_meaning.proofs.Flows.{fits_follows, follows_fits, last_value, of_prefix, within_flow}
+use Rattle.sig_meaning.proofs.Numbers.{at_most_or, same_or_not}
 use Rattle.sig_meaning.proofs.References.{Fitting, reference_begins, some_reference, split_last}
+use Rattle.sig_meaning.proofs.Results.{bounded_gives, never_by_zero, within_bounds}
 use Rattle.sig_model.specs.References.{IsReference}
+use Rattle.sig_model.specs.Results.{divides_by_zero}
 
 abbrev pub Decided : Type 0 → Type 0
 Decided Statement = Statement ⊎ (Statement → ⊥)
@@ -47,58 +50,11 @@ decide_kinds [] (seen ∷ instant) are = absurd are
 decide_kinds (kind ∷ kinds) [] are = absurd are
 decide_kinds (kind ∷ kinds) (seen ∷ instant) are = both (decide_kind kind seen are.0) (decide_kinds kinds instant are.1)
 
-equal : (a b : ℤ) → Decided (a ≡ b)
-equal a b = by (int_eq a b) refl where
-  by : (same : Bool) → int_eq a b ≡ same → Decided (a ≡ b)
-  by true is = inl (grind (arith, Decides-int_eq a b, is))
-  by false is = inr (λ e. grind (arith, Decides-int_eq a b, is, e))
-
-not_zero : (b : ℤ) → Decided (b ≢ pos 0)
-not_zero b = by (equal b (pos 0)) where
-  by : Decided (b ≡ pos 0) → Decided (b ≢ pos 0)
-  by (inl e) = inr (λ differs. differs e)
-  by (inr differs) = inl differs
-
 decide_gives : (function : Function) (operands : List ℤ) (v : ℤ) → Gives Unbounded function operands v → Decided (Gives Bounded function operands v)
-decide_gives Identity (a ∷ []) v is = inl is
-decide_gives Negative (a ∷ []) v is = inl is
-decide_gives Not (a ∷ []) v is = inl is
-decide_gives And (a ∷ b ∷ []) v is = inl is
-decide_gives Or (a ∷ b ∷ []) v is = inl is
-decide_gives Xor (a ∷ b ∷ []) v is = inl is
-decide_gives Equal (a ∷ b ∷ []) v is = inl is
-decide_gives NotEqual (a ∷ b ∷ []) v is = inl is
-decide_gives Less (a ∷ b ∷ []) v is = inl is
-decide_gives LessEqual (a ∷ b ∷ []) v is = inl is
-decide_gives Greater (a ∷ b ∷ []) v is = inl is
-decide_gives GreaterEqual (a ∷ b ∷ []) v is = inl is
-decide_gives Sum (a ∷ b ∷ []) v is = inl is
-decide_gives Difference (a ∷ b ∷ []) v is = inl is
-decide_gives Product (a ∷ b ∷ []) v is = inl is
-decide_gives Quotient (a ∷ b ∷ []) v is = both (not_zero b) (inl is.1)
-decide_gives Remainder (a ∷ b ∷ []) v is = both (not_zero b) (inl is.1)
-decide_gives function operands v is = absurd is
-
--- functions give within 64 bits what they give without bounds
-pub within_bounds : (function : Function) (operands : List ℤ) (v : ℤ) → Gives Bounded function operands v → Gives Unbounded function operands v
-within_bounds Identity (a ∷ []) v is = is
-within_bounds Negative (a ∷ []) v is = is
-within_bounds Not (a ∷ []) v is = is
-within_bounds And (a ∷ b ∷ []) v is = is
-within_bounds Or (a ∷ b ∷ []) v is = is
-within_bounds Xor (a ∷ b ∷ []) v is = is
-within_bounds Equal (a ∷ b ∷ []) v is = is
-within_bounds NotEqual (a ∷ b ∷ []) v is = is
-within_bounds Less (a ∷ b ∷ []) v is = is
-within_bounds LessEqual (a ∷ b ∷ []) v is = is
-within_bounds Greater (a ∷ b ∷ []) v is = is
-within_bounds GreaterEqual (a ∷ b ∷ []) v is = is
-within_bounds Sum (a ∷ b ∷ []) v is = is
-within_bounds Difference (a ∷ b ∷ []) v is = is
-within_bounds Product (a ∷ b ∷ []) v is = is
-within_bounds Quotient (a ∷ b ∷ []) v is = (tt, is.1)
-within_bounds Remainder (a ∷ b ∷ []) v is = (tt, is.1)
-within_bounds function operands v is = absurd is
+decide_gives function operands v is = by (divides_by_zero function operands) refl where
+  by : (b : Bool) → divides_by_zero function operands ≡ b → Decided (Gives Bounded function operands v)
+  by true e = inr (λ gives. never_by_zero function operands v gives e)
+  by false e = inl (bounded_gives function operands v e is)
 
 -- operands have one list of values
 pub same_values : (instant : Instant) (operands : List Operand) (us vs : List ℤ) → HaveValues instant operands us → HaveValues instant operands vs → us ≡ vs
@@ -151,33 +107,16 @@ decide_reaction kernel memory instant is =
       by (inr fails) equations = inr (λ r. fails r.kinds)
 
 -- a bound on each of so many numbers
-at_most : (a b : ℕ) → Decided (a ≤ b)
-at_most zero b = inl (omega arith)
-at_most (suc a) zero = inr (λ le. omega (arith, le))
-at_most (suc a) (suc b) = by (at_most a b) where
-  by : Decided (a ≤ b) → Decided (suc a ≤ suc b)
-  by (inl le) = inl (omega (arith, le))
-  by (inr more) = inr (λ le. more (omega (arith, le)))
-
 decide_below : (f g : ℕ → ℕ) (n : ℕ) → Decided ((input : ℕ) → input < n → f input ≤ g input)
 decide_below f g zero = inl (λ input lt. absurd (omega (arith, lt)))
-decide_below f g (suc n) = by (decide_below f g n) (at_most (f n) (g n)) where
+decide_below f g (suc n) = by (decide_below f g n) (at_most_or (f n) (g n)) where
   last : ((input : ℕ) → input < n → f input ≤ g input) → f n ≤ g n → (input : ℕ) → input < suc n → Decided (input ≡ n) → f input ≤ g input
   last all le input lt (inl e) = rw e le
   last all le input lt (inr differs) = all input (omega (arith, lt, differs))
 
-  same : (a b : ℕ) → Decided (a ≡ b)
-  same zero zero = inl refl
-  same zero (suc b) = inr (λ e. omega (arith, e))
-  same (suc a) zero = inr (λ e. omega (arith, e))
-  same (suc a) (suc b) = elim (same a b) [
-    | inl e ↦ inl (ap suc e)
-    | inr differs ↦ inr (λ e. differs (omega (arith, e)))
-  ]
-
-  by : Decided ((input : ℕ) → input < n → f input ≤ g input) → Decided (f n ≤ g n) → Decided ((input : ℕ) → input < suc n → f input ≤ g input)
-  by (inl all) (inl le) = inl (λ input lt. last all le input lt (same input n))
-  by (inl all) (inr more) = inr (λ each. more (each n (omega arith)))
+  by : Decided ((input : ℕ) → input < n → f input ≤ g input) → (f n ≤ g n) ⊎ (g n < f n) → Decided ((input : ℕ) → input < suc n → f input ≤ g input)
+  by (inl all) (inl le) = inl (λ input lt. last all le input lt (same_or_not input n))
+  by (inl all) (inr more) = inr (λ each. omega (arith, more, each n (omega arith)))
   by (inr fails) le = inr (λ each. fails (λ input lt. each input (omega (arith, lt))))
 
 pub decide_bounds : (kernel : Kernel) (flows : List (List ℤ)) (trace : Trace) (instant : Instant) → IsReaction Unbounded kernel (remembered trace) instant
@@ -223,15 +162,12 @@ clean_more {kernel} {flows} f count trace instant c next within = record {
       (fits_follows kernel flows (suc count) (trace ++ instant ∷ []) f.fit.count next.fits input lt);
 }
 
-prefix_short : (a b : List ℤ) → IsPrefixOf a b → length a ≤ length b
-prefix_short a b begins = let e : length b ≡ length a + length begins.0 = ap length begins.1 ∙ length-append a begins.0 in omega (arith, e)
-
 -- behind a trace of the kernel that fits the flows
 pub clean_back : (kernel : Kernel) (flows : List (List ℤ)) (trace : Trace) (instant : Instant) → IsKernelTrace kernel (trace ++ instant ∷ []) → Fits flows (trace ++ instant ∷ [])
     → IsWithinBounds kernel flows trace instant
 clean_back kernel flows trace instant is fits = record {
   is = (comes_from Bounded kernel trace instant is).1;
-  inputs = λ input lt. prefix_short (flow_of input (trace ++ instant ∷ [])) (get_or flows input []) (fits input lt);
+  inputs = λ input lt. prefix_length (flow_of input (trace ++ instant ∷ [])) (get_or flows input []) (fits input lt);
 }
 
 -- a clean reference up to the limit, or up to an instant that is not within bounds
@@ -294,11 +230,11 @@ cut_longest {kernel} {flows} f limit trace cut = record {
   short (inr stops) = omega (arith, stops.0)
 
   reduced_begins : (other : Trace) → IsKernelTrace kernel other → Fits flows other → NoneSilent other → length other ≤ limit → IsPrefixOf other trace
-  reduced_begins other is fits none few = by cut.1 (at_most (length other) (length trace)) where
+  reduced_begins other is fits none few = by cut.1 (at_most_or (length other) (length trace)) where
     begins : length other ≤ length trace → IsPrefixOf other trace
     begins le = reference_begins f (length other) (length trace) other trace le (clean f other is fits none).reference cut.0.reference
 
-    by : (length trace ≡ limit) ⊎ ((length trace < limit) × (instant : Instant) × StopsBefore kernel flows trace instant) → Decided (length other ≤ length trace) → IsPrefixOf other trace
+    by : (length trace ≡ limit) ⊎ ((length trace < limit) × (instant : Instant) × StopsBefore kernel flows trace instant) → (length other ≤ length trace) ⊎ (length trace < length other) → IsPrefixOf other trace
     by ends (inl le) = begins le
     by (inl at) (inr more) = begins (omega (arith, at, few))
     by (inr stops) (inr more) =

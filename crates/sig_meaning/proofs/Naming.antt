@@ -5,6 +5,7 @@ use Rattle.std.proofs.lemmas.List.{append-nil, length-append}
 use Rattle.sig_base.specs.Traces.{Instant, IsPrefixOf, Seen, Trace, Unbounded, flow_of, has_64_bits, seen_at}
 use Rattle.sig_base.specs.declared.ids.EqId.{EqId}
 use Rattle.sig_base.specs.declared.ids.SigId.{SigId}
+use Rattle.sig_base.proofs.TraceLemmas.{prefix_length}
 use Rattle.sig_clock.specs.Abstractions.{abstraction_of}
 use Rattle.sig_clock.proofs.Lists.{contains_at, contains_head, contains_later}
 use Rattle.sig_kernel.specs.KernelTraces.{HaveValues, Memory, function_of, remembered}
@@ -17,7 +18,7 @@ use Rattle.sig_meaning.specs.Faults.{IsFirstFault}
 use Rattle.sig_meaning.specs.Reactions.{IsNext}
 use Rattle.sig_meaning.proofs.Agreement.{Compiled, ReadsAgree, SameBefore, own_keeps, own_present, own_speaks, same_before, same_guard, same_reads, same_value}
 use Rattle.sig_meaning.proofs.Causing.{follows, meets_at, met_place, own_presence}
-use Rattle.sig_meaning.proofs.Doing.{at_most_or}
+use Rattle.sig_meaning.proofs.Numbers.{at_most_or}
 use Rattle.sig_meaning.proofs.FirstFaults.{one_either}
 use Rattle.sig_meaning.proofs.Flows.{Continues, fits_follows, flow_more, last_value, next_in, within_flow}
 use Rattle.sig_meaning.proofs.Longest.{IsClean}
@@ -99,9 +100,6 @@ module _ (kernel : Kernel) (conditions : List SigId) (operations : List Operatio
   longer : (t : Instant) (x : SigId) (v : ℤ) → seen_at t x.0 ≡ Some v → length (flow_of x.0 (trace ++ t ∷ [])) ≡ length (flow_of x.0 trace) + 1
   longer t x v seen = ap length (flow_more x.0 trace t ∙ ap (λ s. flow_of x.0 trace ++ option_to_list s) seen) ∙ length-append (flow_of x.0 trace) (v ∷ [])
 
-  prefix_short : (a b : List ℤ) → IsPrefixOf a b → length a ≤ length b
-  prefix_short a b begins = let e : length b ≡ length a + length begins.0 = ap length begins.1 ∙ length-append a begins.0 in omega (arith, e)
-
   module _ (k : ℕ) (cause : Cause) (first : IsFirstFault kernel operations order flows trace instant k cause) (b : Instant) (goes : GoesOn kernel flows trace b) where
     abbrev other : ℕ → ℤ
     other input = unwrap_or (seen_at b input) (next input)
@@ -145,9 +143,6 @@ module _ (kernel : Kernel) (conditions : List SigId) (operations : List Operatio
     before : SameBefore kernel conditions operations order c memory next other instant b is also k
     before = same_before kernel conditions operations order c memory next other instant b is also k (omega (arith, within)) agree_at
 
-    q : Operation
-    q = first.is.met.operation
-
     -- the operation at the place is done in both
     also_done : first.is.met.operation.guard own ≡ true → first.is.met.operation.guard (truths_of conditions (seen_at b)) ≡ true
     also_done done = sym (same_guard kernel conditions operations order c memory next other instant b is also k within before first.is.met.operation place.1) ∙ done
@@ -164,7 +159,7 @@ module _ (kernel : Kernel) (conditions : List SigId) (operations : List Operatio
       by : (s : Seen) → seen_at instant x.0 ≡ s → IsPastEnd flows trace b x
       by None none =
           let same : flow_of x.0 (trace ++ instant ∷ []) ≡ flow_of x.0 trace = flow_more x.0 trace instant ∙ ap (λ s. flow_of x.0 trace ++ option_to_list s) none ∙ append-nil (flow_of x.0 trace) in
-          let few = prefix_short (flow_of x.0 trace) (get_or flows x.0 []) (clean.fits x.0 (omega (arith, either.1, flow_count f))) in
+          let few = prefix_length (flow_of x.0 trace) (get_or flows x.0 []) (clean.fits x.0 (omega (arith, either.1, flow_count f))) in
           absurd (omega (arith, past, few, ap length same))
       by (Some v) some =
           let done : first.is.met.operation.guard own ≡ true =

@@ -18,6 +18,7 @@ use Rattle.sig_meaning.specs.Reactions.{HasNextValues, HasOneReaction, IsNext, R
 use Rattle.sig_meaning.proofs.Agreement.{Compiled, condition_signal, same_instant, truth_at}
 use Rattle.sig_meaning.proofs.Doing.{WritesAt, final, finally_present, finally_written, guard_settled, place_of, reaction, read_there, run, run_none, truths, unchanged, written_stays}
 use Rattle.sig_meaning.proofs.Equations.{next_instant}
+use Rattle.sig_meaning.proofs.Numbers.{same_or_not}
 use Rattle.sig_meaning.proofs.Steps.{AreKnown, instant_of, one_fit}
 use Rattle.sig_meaning.proofs.Truths.{some_status}
 use Rattle.sig_meaning.proofs.Values.{value}
@@ -94,19 +95,10 @@ module _ (kernel : Kernel) (conditions : List SigId) (operations : List Operatio
     by (Some q) at = written (at_x q.writes refl) (q.guard P) refl where
       at_x : (w : Option SigId) → q.writes ≡ w → ((y : SigId) × Writes q y × (y.0 ≡ x)) ⊎ ((y : SigId) → Writes q y → y.0 ≡ x → ⊥)
       at_x None e = inr (λ y writes same. let f : None ≡ Some y = sym e ∙ writes in cc)
-      at_x (Some y) e = decide (y.0) (at_number y.0 x) where
-        at_number : (i j : ℕ) → (i ≡ j) ⊎ ((i ≡ j) → ⊥)
-        at_number zero zero = inl refl
-        at_number zero (suc j) = inr (λ f. omega (arith, f))
-        at_number (suc i) zero = inr (λ f. omega (arith, f))
-        at_number (suc i) (suc j) = elim (at_number i j) [
-          | inl f ↦ inl (ap suc f)
-          | inr differs ↦ inr (λ f. differs (omega (arith, f)))
-        ]
-
-        decide : (n : ℕ) → (y.0 ≡ x) ⊎ ((y.0 ≡ x) → ⊥) → ((z : SigId) × Writes q z × (z.0 ≡ x)) ⊎ ((z : SigId) → Writes q z → z.0 ≡ x → ⊥)
-        decide n (inl f) = inl (y, e, f)
-        decide n (inr differs) = inr (λ z writes f.
+      at_x (Some y) e = decide (same_or_not y.0 x) where
+        decide : (y.0 ≡ x) ⊎ ((y.0 ≡ x) → ⊥) → ((z : SigId) × Writes q z × (z.0 ≡ x)) ⊎ ((z : SigId) → Writes q z → z.0 ≡ x → ⊥)
+        decide (inl f) = inl (y, e, f)
+        decide (inr differs) = inr (λ z writes f.
             let one : y ≡ z = (let g : Some y ≡ Some z = sym e ∙ writes in cc) in
             differs (ap (λ (u : SigId). u.0) one ∙ f))
 

@@ -17,7 +17,7 @@ use Rattle.sig_meaning.specs.Reactions.{HasNextValues, HasOneReaction, IsNext, R
 use Rattle.sig_meaning.proofs.Flows.{fill, fits_follows, follows_fits, follows_front, follows_more, follows_takes, last_value, next_in}
 use Rattle.sig_model.specs.References.{IsReference, filler}
 
-wide : (kind : Kind) (v : ℤ) → IsValue Bounded kind v → IsValue Unbounded kind v
+pub wide : (kind : Kind) (v : ℤ) → IsValue Bounded kind v → IsValue Unbounded kind v
 wide Integer v is = tt
 wide Boolean v is = is
 wide Event v is = is

@@ -4,8 +4,8 @@ use Rattle.std.specs.Ordering.{int_eq}
 use Rattle.std.proofs.lemmas.Bool.Decides.{Decides-int_eq}
 use Rattle.std.proofs.lemmas.Int.{ints}
 use Rattle.sig_base.specs.Functions.{Function, Identity, Negative, Not, And, Or, Xor, Equal, NotEqual, Less, LessEqual, Greater, GreaterEqual, Sum, Difference, Product, Quotient, Remainder, Gives, Tells, operand_count}
-use Rattle.sig_base.specs.Traces.{Unbounded}
-use Rattle.sig_model.specs.Results.{result_of, truth_value}
+use Rattle.sig_base.specs.Traces.{Bounded, Unbounded}
+use Rattle.sig_model.specs.Results.{divides_by_zero, result_of, truth_value}
 
 -- a test that decides a statement
 pub record Tests (b : Bool) (Statement : Type 0) : Type 0 where
@@ -93,3 +93,51 @@ determined Product (a ∷ b ∷ []) v is = is
 determined Quotient (a ∷ b ∷ []) v is = is.1
 determined Remainder (a ∷ b ∷ []) v is = is.1
 determined function operands v is = absurd is
+
+-- functions give within 64 bits what they give without bounds
+pub within_bounds : (function : Function) (operands : List ℤ) (v : ℤ) → Gives Bounded function operands v → Gives Unbounded function operands v
+within_bounds Identity (a ∷ []) v is = is
+within_bounds Negative (a ∷ []) v is = is
+within_bounds Not (a ∷ []) v is = is
+within_bounds And (a ∷ b ∷ []) v is = is
+within_bounds Or (a ∷ b ∷ []) v is = is
+within_bounds Xor (a ∷ b ∷ []) v is = is
+within_bounds Equal (a ∷ b ∷ []) v is = is
+within_bounds NotEqual (a ∷ b ∷ []) v is = is
+within_bounds Less (a ∷ b ∷ []) v is = is
+within_bounds LessEqual (a ∷ b ∷ []) v is = is
+within_bounds Greater (a ∷ b ∷ []) v is = is
+within_bounds GreaterEqual (a ∷ b ∷ []) v is = is
+within_bounds Sum (a ∷ b ∷ []) v is = is
+within_bounds Difference (a ∷ b ∷ []) v is = is
+within_bounds Product (a ∷ b ∷ []) v is = is
+within_bounds Quotient (a ∷ b ∷ []) v is = (tt, is.1)
+within_bounds Remainder (a ∷ b ∷ []) v is = (tt, is.1)
+within_bounds function operands v is = absurd is
+
+-- a function that does not divide by 0 gives within 64 bits what it gives
+pub bounded_gives : (function : Function) (operands : List ℤ) (v : ℤ) → divides_by_zero function operands ≡ false → Gives Unbounded function operands v → Gives Bounded function operands v
+bounded_gives Identity (a ∷ []) v apart is = is
+bounded_gives Negative (a ∷ []) v apart is = is
+bounded_gives Not (a ∷ []) v apart is = is
+bounded_gives And (a ∷ b ∷ []) v apart is = is
+bounded_gives Or (a ∷ b ∷ []) v apart is = is
+bounded_gives Xor (a ∷ b ∷ []) v apart is = is
+bounded_gives Equal (a ∷ b ∷ []) v apart is = is
+bounded_gives NotEqual (a ∷ b ∷ []) v apart is = is
+bounded_gives Less (a ∷ b ∷ []) v apart is = is
+bounded_gives LessEqual (a ∷ b ∷ []) v apart is = is
+bounded_gives Greater (a ∷ b ∷ []) v apart is = is
+bounded_gives GreaterEqual (a ∷ b ∷ []) v apart is = is
+bounded_gives Sum (a ∷ b ∷ []) v apart is = is
+bounded_gives Difference (a ∷ b ∷ []) v apart is = is
+bounded_gives Product (a ∷ b ∷ []) v apart is = is
+bounded_gives Quotient (a ∷ b ∷ []) v apart is = ((equal b (pos 0)).no apart, is.1)
+bounded_gives Remainder (a ∷ b ∷ []) v apart is = ((equal b (pos 0)).no apart, is.1)
+bounded_gives function operands v apart is = absurd is
+
+-- and one that divides by 0 gives nothing there
+pub never_by_zero : (function : Function) (values : List ℤ) (v : ℤ) → Gives Bounded function values v → divides_by_zero function values ≡ true → ⊥
+never_by_zero Quotient (a ∷ b ∷ []) v gives is = gives.0 ((equal b (pos 0)).yes is)
+never_by_zero Remainder (a ∷ b ∷ []) v gives is = gives.0 ((equal b (pos 0)).yes is)
+never_by_zero function values v gives is = let e : false ≡ true = is in cc

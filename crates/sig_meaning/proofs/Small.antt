@@ -27,7 +27,9 @@ use Rattle.sig_kernel.specs.declared.equation.Operand.{Operand}
 use Rattle.sig_kernel.specs.declared.kernel.Kernel.{Kernel}
 use Rattle.sig_kernel.proofs.DelayLemmas.{at_element}
 use Rattle.sig_kernel.proofs.ValueLemmas.{few_constants, remembered_value}
-use Rattle.sig_meaning.proofs.Results.{equal}
+use Rattle.sig_meaning.proofs.Numbers.{not_true}
+use Rattle.sig_meaning.proofs.Equations.{from_index}
+use Rattle.sig_meaning.proofs.Results.{bounded_gives}
 use Rattle.sig_meaning.proofs.Values.{none_where, where_present_some, where_some, where_true_some}
 use Rattle.sig_model.specs.Causes.{Computes, HasFault, IsPastEnd, Meets as MeetsFault}
 use Rattle.sig_model.specs.Results.{divides_by_zero}
@@ -43,27 +45,6 @@ small_value Integer v is = (fits_by_test v).1 is
 small_value Boolean v (inl e) = ap has_64_bits e
 small_value Boolean v (inr e) = ap has_64_bits e
 small_value AnEvent v is = ap has_64_bits is
-
--- a function that does not divide by 0 gives within 64 bits what it gives
-pub bounded_gives : (function : Function) (operands : List ℤ) (v : ℤ) → divides_by_zero function operands ≡ false → Gives Unbounded function operands v → Gives Bounded function operands v
-bounded_gives Identity (a ∷ []) v apart is = is
-bounded_gives Negative (a ∷ []) v apart is = is
-bounded_gives Not (a ∷ []) v apart is = is
-bounded_gives And (a ∷ b ∷ []) v apart is = is
-bounded_gives Or (a ∷ b ∷ []) v apart is = is
-bounded_gives Xor (a ∷ b ∷ []) v apart is = is
-bounded_gives Equal (a ∷ b ∷ []) v apart is = is
-bounded_gives NotEqual (a ∷ b ∷ []) v apart is = is
-bounded_gives Less (a ∷ b ∷ []) v apart is = is
-bounded_gives LessEqual (a ∷ b ∷ []) v apart is = is
-bounded_gives Greater (a ∷ b ∷ []) v apart is = is
-bounded_gives GreaterEqual (a ∷ b ∷ []) v apart is = is
-bounded_gives Sum (a ∷ b ∷ []) v apart is = is
-bounded_gives Difference (a ∷ b ∷ []) v apart is = is
-bounded_gives Product (a ∷ b ∷ []) v apart is = is
-bounded_gives Quotient (a ∷ b ∷ []) v apart is = ((equal b (pos 0)).no apart, is.1)
-bounded_gives Remainder (a ∷ b ∷ []) v apart is = ((equal b (pos 0)).no apart, is.1)
-bounded_gives function operands v apart is = absurd is
 
 or_else_left : (u v : Seen) (w : ℤ) → u ≡ Some w → or_else u v ≡ u
 or_else_left u v w e = ap (λ s. or_else s v) e ∙ sym e
@@ -118,9 +99,6 @@ module _ (kernel : Kernel) (valid : IsValid kernel) (flows : List (List ℤ)) (t
       let same : constant ≡ w = (let f : Some constant ≡ Some w = where_true_some (seen_at instant b.0) (Some constant) w (sym e.met ∙ seen) in cc) in
       subst (λ v. has_64_bits v ≡ true) same ((fits_by_test constant).1 (few_constants kernel (record { form = WhenConst y constant b; at = e.span }) constant valid.equations e.there (contains_head (Const constant) (Sig b ∷ []))))
 
-  not_true : (b : Bool) → not b ≡ true → b ≡ false
-  not_true true e = absurd (let f : false ≡ true = e in cc)
-  not_true false e = refl
 
   writes_small : (number : EqId) (form : Form) → IsEquation number form → All IsSmall (writes_of kernel.signals presence number form)
   writes_small number (Fun y op operands) e = only IsSmall _ (λ z target done reads none. moved y z target (λ w seen. by w seen none (has_64_bits w) refl)) where
@@ -217,10 +195,6 @@ module _ (kernel : Kernel) (valid : IsValid kernel) (flows : List (List ℤ)) (t
     form_bounded number (Default y u v) e no_zero = e.met
     form_bounded number (Sync x y) e no_zero = e.met
     form_bounded number (Event y x) e no_zero = e.met
-
-    from_index : (Q : Equation → Type 0) (equations : List Equation) → ((k : ℕ) (d : Equation) → k < length equations → Q (get_or equations k d)) → AllByRecursion Q equations
-    from_index Q [] each = tt
-    from_index Q (equation ∷ equations) each = (each 0 equation (omega arith), from_index Q equations (λ k d lt. each (suc k) d (omega (arith, lt))))
 
     pub bounded_reaction : IsReaction Bounded kernel (remembered trace) instant
     bounded_reaction = record {

@@ -35,6 +35,8 @@ use Rattle.sig_kernel.specs.declared.equation.Operand.TheVariants.{Sig, Const}
 use Rattle.sig_kernel.specs.declared.kernel.Kernel.{Kernel}
 use Rattle.sig_kernel.proofs.ValueLemmas.{sampled_value}
 use Rattle.sig_meaning.specs.Reactions.{HasNextValues, RemembersValues}
+use Rattle.sig_meaning.proofs.Numbers.{not_true}
+use Rattle.sig_meaning.proofs.References.{wide}
 use Rattle.sig_meaning.proofs.Results.{given}
 use Rattle.sig_meaning.proofs.Truths.{any_at, boolean_result, event_result, handed_value, no_status, operands_counted, plain, sampled, some_status, status_fits, statuses_equal, truth_told}
 use Rattle.sig_meaning.proofs.Values.{computed, form_for, has_form, kept_in, value, where_some}
@@ -69,11 +71,6 @@ pub of_kinds : (signals : List Signal) (registers : Registers) → ((k : ℕ) (s
 of_kinds signals registers each = of_kinds_from signals registers 0 (λ k signal is.
     let same : k ≡ 0 + k = omega arith in subst (λ n. IsOfKind Unbounded signal.kind (registers n)) same (each k signal is))
 
-wide : (kind : Kind) (v : ℤ) → IsValue Bounded kind v → IsValue Unbounded kind v
-wide Integer v is = tt
-wide Boolean v is = is
-wide Event v is = is
-
 constant_is : (kind : Kind) (c : ℤ) → constant_truth (Some kind) c ≡ truth_of_value kind c
 constant_is Integer c = refl
 constant_is Boolean c = refl
@@ -93,9 +90,6 @@ present_truth : (s : Status) (t : Bool) → where_present s true ≡ Some t → 
 present_truth None t is = absurd (let e = is in cc)
 present_truth (Some u) t is = cc
 
-not_true : (b : Bool) → not b ≡ true → b ≡ false
-not_true true e = absurd (false≢true e)
-not_true false e = refl
 
 itself : (n : ℕ) → (n == n) ≡ true
 itself n = by (n == n) refl where

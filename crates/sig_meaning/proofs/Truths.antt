@@ -61,19 +61,6 @@ plain Event t v is free = truths_are_same t true is
 
 -- ---- functions
 
-is_truth_function : Function → Bool
-is_truth_function Negation = true
-is_truth_function Conjunction = true
-is_truth_function Disjunction = true
-is_truth_function Exclusive = true
-is_truth_function Equal = true
-is_truth_function NotEqual = true
-is_truth_function Less = true
-is_truth_function LessEqual = true
-is_truth_function Greater = true
-is_truth_function GreaterEqual = true
-is_truth_function function = false
-
 bit : (b : Bool) → (truth_value b ≡ pos 0) ⊎ (truth_value b ≡ pos 1)
 bit true = inr refl
 bit false = inl refl

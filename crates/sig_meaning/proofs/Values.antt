@@ -19,6 +19,7 @@ use Rattle.sig_kernel.specs.declared.equation.Operand.{Operand}
 use Rattle.sig_kernel.specs.declared.equation.Operand.TheVariants.{Sig, Const}
 use Rattle.sig_kernel.specs.declared.kernel.Kernel.{Kernel}
 use Rattle.sig_kernel.proofs.DelayLemmas.{at_element}
+use Rattle.sig_meaning.proofs.Numbers.{not_true}
 use Rattle.sig_meaning.proofs.Results.{determined}
 use Rattle.sig_model.specs.Actors.{Registers, value_in}
 use Rattle.sig_model.specs.Operating.{first_in, operand_in}
@@ -219,10 +220,7 @@ module _ (kernel : Kernel) (memory : Memory) (next : ℕ → ℤ) (presence : Pr
       let absent : seen_at instant u.0 ≡ None = none_where (seen_at instant u.0) (at u (first_below (length kernel.signals) u _ operands) ∙ not_true (presence u proposal) parts.1) in
       let one : y ≡ z = cc in
       subst (λ (w : SigId). seen_at instant w.0 ≡ Some (value_in (seen_at instant) v)) one
-      (met ∙ ap (λ s. or_else s (seen_at instant v.0)) absent ∙ there.1 ∙ ap Some (sym (some_value_in instant v there.0 there.1))))) where
-        not_true : (b : Bool) → not b ≡ true → b ≡ false
-        not_true true e = absurd (let f : false ≡ true = e in cc)
-        not_true false e = refl
+      (met ∙ ap (λ s. or_else s (seen_at instant v.0)) absent ∙ there.1 ∙ ap Some (sym (some_value_in instant v there.0 there.1)))))
 
   stores_seen : (number : EqId) (form : Form) → IsMet number form → All IsSeen (stores_of kernel.signals presence number form)
   stores_seen number (Delay y x initial) is = only IsSeen _ (λ z target done. absurd (let e : None ≡ Some z = target in cc))

@@ -22,18 +22,13 @@ use Rattle.sig_meaning.proofs.Agreement.{Compiled, some_at}
 use Rattle.sig_meaning.proofs.Causing.{beyond_end, kinds_length}
 use Rattle.sig_meaning.proofs.FirstFaults.{one_either}
 use Rattle.sig_meaning.proofs.Longest.{same_values}
-use Rattle.sig_meaning.proofs.Results.{equal}
+use Rattle.sig_meaning.proofs.Results.{never_by_zero}
 use Rattle.sig_meaning.proofs.Small.{small_value}
 use Rattle.sig_model.specs.Causes.{Computes, HasFault, Meets as MeetsFault}
 use Rattle.sig_model.specs.Results.{divides_by_zero}
 use Rattle.sig_plan.specs.Operations.{Operation}
 use Rattle.sig_plan.specs.declared.ended.Cause.{Cause}
 use Rattle.sig_plan.specs.declared.ended.Cause.TheVariants.{Exhausted, Overflow, ZeroDivisor, Limit}
-
-never_by_zero : (function : Function) (values : List ℤ) (v : ℤ) → Gives Bounded function values v → divides_by_zero function values ≡ true → ⊥
-never_by_zero Quotient (a ∷ b ∷ []) v gives is = gives.0 ((equal b (pos 0)).yes is)
-never_by_zero Remainder (a ∷ b ∷ []) v gives is = gives.0 ((equal b (pos 0)).yes is)
-never_by_zero function values v gives is = let e : false ≡ true = is in cc
 
 module _ (kernel : Kernel) (memory : Memory) (instant : Instant) (is : IsReaction Bounded kernel memory instant) where
   small_result : (e : EqId) (c : Computes kernel instant e) → has_64_bits c.result ≡ true
