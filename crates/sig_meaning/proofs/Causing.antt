@@ -5,7 +5,7 @@ use Rattle.std.specs.List.{AllByRecursion, range_with_len}
 use Rattle.std.proofs.lemmas.List.{append-nil, length-append, length-map}
 use Rattle.std.proofs.lemmas.List.FromFn.{get_or-map-range_with_len, length-map-range_with_len}
 use Rattle.std.proofs.lemmas.List.Elements.{Contains-append_left, Contains-append_right}
-use Rattle.sig_base.specs.Traces.{AreOfKinds, Bounded, Instant, IsPrefixOf, IsValue, Range, Seen, Trace, Unbounded, flow_of, has_64_bits, seen_at}
+use Rattle.sig_base.specs.Traces.{AreOfKinds, Bounded, Instant, IsValue, Range, Seen, Trace, Unbounded, flow_of, has_64_bits, seen_at}
 use Rattle.sig_base.specs.declared.ids.Kind.{Kind}
 use Rattle.sig_base.specs.declared.ids.SigId.{SigId}
 use Rattle.sig_base.specs.declared.signal.Signal.{Signal}

@@ -1,10 +1,8 @@
 -- Where no operation of an instant has a fault, its values have 64 bits and nothing is divided by 0.
-use Rattle.std.proofs.Common.{◌≡◌, ◌<◌, inl, inr, ℕ, suc, ℤ, pos, Bool, true, false, not, List, [], ◌∷◌, length, map, get_or, refl, ap, sym, subst, ◌∙◌, arith, Contains}
+use Rattle.std.proofs.Common.{◌≡◌, ◌<◌, inl, inr, ℕ, suc, ℤ, pos, Bool, true, false, not, List, [], ◌∷◌, length, map, get_or, refl, ap, sym, subst, ◌∙◌, Contains}
 use Rattle.std.specs.Prelude.{All, Option, None, Some, is_some, slice_get}
-use Rattle.std.specs.List.{AllByRecursion}
 use Rattle.std.proofs.lemmas.Bool.{and_parts}
 use Rattle.std.proofs.lemmas.List.Elements.{All-cons, All-contains, All-nil}
-use Rattle.sig_base.specs.Functions.{Function, Identity, Negative, Not, And, Or, Xor, Equal, NotEqual, Less, LessEqual, Greater, GreaterEqual, Sum, Difference, Product, Quotient, Remainder, Gives}
 use Rattle.sig_base.specs.Traces.{AreOfKinds, Bounded, Instant, IsOfKind, IsValue, Seen, Trace, Unbounded, has_64_bits, seen_at}
 use Rattle.sig_base.specs.declared.ids.EqId.{EqId}
 use Rattle.sig_base.specs.declared.ids.Kind.{Kind}
@@ -98,7 +96,6 @@ module _ (kernel : Kernel) (valid : IsValid kernel) (flows : List (List ℤ)) (t
   constant_small number y b constant e w seen =
       let same : constant ≡ w = (let f : Some constant ≡ Some w = where_true_some (seen_at instant b.0) (Some constant) w (sym e.met ∙ seen) in cc) in
       subst (λ v. has_64_bits v ≡ true) same ((fits_by_test constant).1 (few_constants kernel (record { form = WhenConst y constant b; at = e.span }) constant valid.equations e.there (contains_head (Const constant) (Sig b ∷ []))))
-
 
   writes_small : (number : EqId) (form : Form) → IsEquation number form → All IsSmall (writes_of kernel.signals presence number form)
   writes_small number (Fun y op operands) e = only IsSmall _ (λ z target done reads none. moved y z target (λ w seen. by w seen none (has_64_bits w) refl)) where

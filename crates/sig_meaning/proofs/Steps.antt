@@ -10,7 +10,7 @@ use Rattle.std.proofs.lemmas.List.{length-map}
 use Rattle.std.proofs.lemmas.List.Elements.{All-cons, All-contains, All-nil}
 use Rattle.std.proofs.lemmas.List.FromFn.{get_or-map-range_with_len}
 use Rattle.sig_base.specs.Functions.{Gives}
-use Rattle.sig_base.specs.Traces.{AreOfKinds, Bounded, Instant, IsOfKind, IsValue, Seen, Unbounded, seen_at}
+use Rattle.sig_base.specs.Traces.{AreOfKinds, Instant, IsOfKind, IsValue, Seen, Unbounded, seen_at}
 use Rattle.sig_base.specs.declared.ids.EqId.{EqId}
 use Rattle.sig_base.specs.declared.ids.Kind.{Kind}
 use Rattle.sig_base.specs.declared.ids.Kind.TheVariants.{Integer, Boolean, Event}
@@ -89,7 +89,6 @@ one_truth Event = refl
 present_truth : (s : Status) (t : Bool) → where_present s true ≡ Some t → t ≡ true
 present_truth None t is = absurd (let e = is in cc)
 present_truth (Some u) t is = cc
-
 
 itself : (n : ℕ) → (n == n) ≡ true
 itself n = by (n == n) refl where

@@ -1,8 +1,8 @@
 -- An instant that is within bounds has no fault.
-use Rattle.std.proofs.Common.{◌≡◌, ◌<◌, ℕ, ℤ, pos, true, false, List, [], ◌∷◌, length, map, ap, sym, subst, ◌∙◌, arith, Contains}
+use Rattle.std.proofs.Common.{◌≡◌, ◌<◌, ℕ, ℤ, true, false, List, length, map, ap, sym, subst, ◌∙◌, arith, Contains}
 use Rattle.std.specs.Prelude.{Some}
 use Rattle.std.proofs.lemmas.List.{length-map}
-use Rattle.sig_base.specs.Functions.{Function, Quotient, Remainder, Gives}
+use Rattle.sig_base.specs.Functions.{Gives}
 use Rattle.sig_base.specs.Traces.{Bounded, Instant, IsOfKind, Trace, has_64_bits, seen_at}
 use Rattle.sig_base.specs.declared.ids.EqId.{EqId}
 use Rattle.sig_base.specs.declared.ids.SigId.{SigId}
