@@ -17,3 +17,4 @@ pub mod Done
 pub mod Earlier
 pub mod Instructing
 pub mod Slotted
+pub mod LinkEnds
