@@ -18,3 +18,5 @@ pub mod Earlier
 pub mod Instructing
 pub mod Slotted
 pub mod LinkEnds
+pub mod Positions
+pub mod Provided

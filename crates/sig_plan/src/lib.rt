@@ -31,7 +31,9 @@ pub use laws_done::{
     guards_depend_on_conditions_alone, operations_have_what_they_need,
     operations_name_what_is_there, present_signals_are_written_once, read_signals_are_present,
 };
-pub use laws_links::{links_have_one_writer_and_one_reader, what_is_sent_is_received};
+pub use laws_links::{
+    actors_have_what_they_need, links_have_one_writer_and_one_reader, what_is_sent_is_received,
+};
 pub use making::operations;
 pub use op::{Op, OpKind, Reads};
 pub use parts::{Imports, LinkInfo, Parts};
