@@ -20,3 +20,5 @@ pub mod Slotted
 pub mod LinkEnds
 pub mod Positions
 pub mod Provided
+pub mod PlanOnce
+pub mod Naming

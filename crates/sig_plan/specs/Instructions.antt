@@ -4,6 +4,7 @@ use Rattle.sig_base.specs.declared.ids.SigId.{SigId}
 use Rattle.sig_plan.specs.Codes.{Instruction, op_id, under, unguarded}
 use Rattle.sig_plan.specs.Operations.{Operation}
 use Rattle.sig_plan.specs.Order.{Writes}
+use Rattle.sig_plan.specs.declared.code.StepKind.{StepKind}
 use Rattle.sig_plan.specs.declared.code.StepKind.TheVariants.{Do, Send, Receive, Report, Collect, Commit}
 use Rattle.sig_plan.specs.declared.parts.LinkInfo.{LinkInfo}
 
@@ -48,3 +49,12 @@ abbrev pub IsProvidedBefore : List Operation → List LinkInfo → List Instruct
 IsProvidedBefore operations links instructions proposal k x =
     (i : ℕ) × (instruction : Instruction) × (i < k) × (slice_get instructions i ≡ Some instruction) × (instruction.guard proposal ≡ true)
     × Provides operations links x instruction
+
+-- what a step names is one of so many operations, or one of so many links
+abbrev pub NamesWithin : ℕ → ℕ → StepKind → Type 0
+NamesWithin operations links (Do op) = op.0 < operations
+NamesWithin operations links (Send link) = link < links
+NamesWithin operations links (Receive link) = link < links
+NamesWithin operations links (Report link) = link < links
+NamesWithin operations links (Collect link) = link < links
+NamesWithin operations links Commit = Unit {0}
