@@ -18,3 +18,7 @@ pub mod Earlier
 pub mod Instructing
 pub mod Slotted
 pub mod LinkEnds
+pub mod Positions
+pub mod Provided
+pub mod PlanOnce
+pub mod Naming

@@ -23,14 +23,14 @@ use Rattle.sig_plan.proofs.Writing.{operations_written}
 
 -- ---- lists
 
-contains_either : {X : Type 0} (xs ys : List X) (x : X) → Contains (xs ++ ys) x → Contains xs x ⊎ Contains ys x
+pub contains_either : {X : Type 0} (xs ys : List X) (x : X) → Contains (xs ++ ys) x → Contains xs x ⊎ Contains ys x
 contains_either [] ys x there = inr there
 contains_either (z ∷ xs) ys x there = elim (contains_cons z x (xs ++ ys) there) [
   | inl same ↦ inl (subst (Contains (z ∷ xs)) (sym same) (contains_head z xs))
   | inr later ↦ elim (contains_either xs ys x later) [ inl first ↦ inl (contains_later z x xs first) | inr second ↦ inr second ]
 ]
 
-mapped_from : {X Y : Type 0} (f : X → Y) (xs : List X) (y : Y) → Contains (map f xs) y → (x : X) × Contains xs x × (y ≡ f x)
+pub mapped_from : {X Y : Type 0} (f : X → Y) (xs : List X) (y : Y) → Contains (map f xs) y → (x : X) × Contains xs x × (y ≡ f x)
 mapped_from f [] y there = absurd (contains_none y there)
 mapped_from f (x ∷ xs) y there = elim (contains_cons (f x) y (map f xs) there) [
   | inl same ↦ (x, contains_head x xs, same)
@@ -84,11 +84,11 @@ eq_false a b apart = by (a == b) refl
 
 -- ---- clusters
 
-grows : (a : ℕ) (xs : List ℕ) → a ≤ fold max a xs
+pub grows : (a : ℕ) (xs : List ℕ) → a ≤ fold max a xs
 grows a [] = omega arith
 grows a (x ∷ xs) = let rest = grows (max a x) xs in let first = le-max_left a x in omega (arith, rest, first)
 
-cluster_under : (a : ℕ) (signals : List Signal) (k : ℕ) (owner : Signal) → slice_get signals k ≡ Some owner → owner.cluster + 1 ≤ fold max a (map (λ (signal : Signal). signal.cluster + 1) signals)
+pub cluster_under : (a : ℕ) (signals : List Signal) (k : ℕ) (owner : Signal) → slice_get signals k ≡ Some owner → owner.cluster + 1 ≤ fold max a (map (λ (signal : Signal). signal.cluster + 1) signals)
 cluster_under a [] k owner is = cc
 cluster_under a (signal ∷ signals) zero owner is =
     let same : signal ≡ owner = cc in

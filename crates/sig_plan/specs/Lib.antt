@@ -1,4 +1,5 @@
 pub mod Acceptance
+pub mod Alike
 pub mod Answers
 pub mod Codes
 pub mod Guards
