@@ -1,0 +1,8 @@
+use Rattle.sig_meaning.proofs.Longest.{longest_cut, some_longest}
+use Rattle.sig_meaning.proofs.laws.longest_traces_exist.Goals as goal
+
+pub returns-clause-some : goal.returns-clause-some
+returns-clause-some c = λ kernel valid one flows fit. some_longest (record { valid = valid; fit = fit; one = one })
+
+pub returns-clause-cut : goal.returns-clause-cut
+returns-clause-cut c = λ kernel valid one flows fit. longest_cut (record { valid = valid; fit = fit; one = one })

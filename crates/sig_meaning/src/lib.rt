@@ -1,0 +1,8 @@
+//! What a kernel does: that it has one reaction to what it remembers and is given, so one reference
+//! and one longest trace for flows and a limit (`specs/`). It is a library of laws, and stands on
+//! sig_model.
+#![tactic(auto)]
+
+mod laws;
+
+pub use laws::{longest_traces_exist, references_exist_once};
