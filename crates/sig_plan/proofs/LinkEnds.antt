@@ -11,12 +11,12 @@ use Rattle.sig_clock.proofs.Lists.{at_contained, contains_at, contains_cons, con
 use Rattle.sig_kernel.specs.Validity.{IsValid}
 use Rattle.sig_kernel.specs.declared.kernel.Kernel.{Kernel}
 use Rattle.sig_plan.specs.Acceptance.{HasOperations}
-use Rattle.sig_plan.specs.Codes.{Instruction, at_end, at_number, at_place, instructions_of, is_signal, links_of, links_to, over_order, op_id, under}
+use Rattle.sig_plan.specs.Codes.{Instruction, at_end, at_number, at_place, instructions_of, is_signal, links_of, links_to, over_order, op_id, report_links, reports_of, under, unguarded}
 use Rattle.sig_plan.specs.Instructions.{CarriesFrom, IsFor, StandsAt, collects, commits, does, receives, reports, sends}
 use Rattle.sig_plan.specs.Operations.{Operation}
 use Rattle.sig_plan.specs.Parts.{AreParts, Imports, used, output, guarded, IsWrittenElsewhere, PartsView, report_link}
 use Rattle.sig_plan.specs.Written.{AreWritten}
-use Rattle.sig_plan.specs.declared.code.StepKind.TheVariants.{Do, Send, Receive, Report, Collect}
+use Rattle.sig_plan.specs.declared.code.StepKind.TheVariants.{Do, Send, Receive, Report, Collect, Commit}
 use Rattle.sig_plan.specs.declared.parts.LinkInfo.{LinkInfo}
 use Rattle.sig_plan.proofs.Instructing.{chosen, instruction_for}
 use Rattle.sig_plan.proofs.Writing.{operations_written}
@@ -285,3 +285,40 @@ module _ (kernel : Kernel) (valid : IsValid kernel) (conditions : List SigId) (o
         sends_there operations order parts from.info.writer j number p stands link from own,
         receives_there operations order parts from.info.reader j number p stands link from (λ e. ends.apart (sym own ∙ e)) refl,
       )
+
+-- ---- reports
+
+module _ (operations : List Operation) (order : List ℕ) (parts : PartsView) (link : ℕ) (info : LinkInfo) (at : slice_get parts.links link ≡ Some info) (none : info.signal ≡ None) where
+  report_number : (let o : Option ℕ = Some (0 + link) in o) ≡ Some link
+  report_number = ap Some (omega arith)
+
+  pub reports_there : (actor : ℕ) → actor ≢ parts.clusters → info.writer ≡ actor → Contains (instructions_of operations order parts actor) (unguarded (Report link) (2 * length operations))
+  reports_there actor other writer =
+      let among : Contains (reports_of parts.links actor) link =
+      chosen (λ l. if is_signal l.1.signal None then (if l.1.writer == actor then Some l.0 else None) else None) 0 parts.links link info link at
+      (ap (λ o. if is_signal o None then (if info.writer == actor then Some (0 + link) else None) else None) none
+      ∙ (ap (λ b. if b then Some (0 + link) else None) (eq_true info.writer actor writer) ∙ report_number)) in
+      Contains-append_right (over_order operations order parts.links actor) (at_end parts.links parts.clusters (length operations) actor) (unguarded (Report link) (2 * length operations))
+      (subst (λ b. Contains (if b then map (λ l. unguarded (Collect l) (2 * length operations)) (report_links parts.links) ++ unguarded Commit (2 * length operations + 1) ∷ [] else map (λ l. unguarded (Report l) (2 * length operations)) (reports_of parts.links actor)) (unguarded (Report link) (2 * length operations)))
+      (sym (eq_false actor parts.clusters other))
+      (contains_mapped (λ l. unguarded (Report l) (2 * length operations)) (reports_of parts.links actor) link among))
+
+  pub collects_there : (actor : ℕ) → actor ≡ parts.clusters → Contains (instructions_of operations order parts actor) (unguarded (Collect link) (2 * length operations))
+  collects_there actor own =
+      let among : Contains (report_links parts.links) link =
+      chosen (λ l. if is_signal l.1.signal None then Some l.0 else None) 0 parts.links link info link at (ap (λ o. if is_signal o None then Some (0 + link) else None) none ∙ report_number) in
+      Contains-append_right (over_order operations order parts.links actor) (at_end parts.links parts.clusters (length operations) actor) (unguarded (Collect link) (2 * length operations))
+      (subst (λ b. Contains (if b then map (λ l. unguarded (Collect l) (2 * length operations)) (report_links parts.links) ++ unguarded Commit (2 * length operations + 1) ∷ [] else map (λ l. unguarded (Report l) (2 * length operations)) (reports_of parts.links actor)) (unguarded (Collect link) (2 * length operations)))
+      (sym (eq_true actor parts.clusters own))
+      (Contains-append_left (map (λ l. unguarded (Collect l) (2 * length operations)) (report_links parts.links)) (unguarded Commit (2 * length operations + 1) ∷ []) (unguarded (Collect link) (2 * length operations))
+      (contains_mapped (λ l. unguarded (Collect l) (2 * length operations)) (report_links parts.links) link among)))
+
+-- what is reported is collected
+pub report_paired : (kernel : Kernel) → IsValid kernel → (conditions : List SigId) (operations : List Operation) → HasOperations kernel conditions operations → (parts : PartsView) → AreParts kernel conditions operations parts
+    → (order : List ℕ) (link : ℕ) (info : LinkInfo) → slice_get parts.links link ≡ Some info → info.signal ≡ None
+    → Contains (instructions_of operations order parts info.writer) (unguarded (Report link) (2 * length operations)) × Contains (instructions_of operations order parts info.reader) (unguarded (Collect link) (2 * length operations))
+report_paired kernel valid conditions operations has parts split order link info at none =
+    let ends = report_ends kernel valid conditions operations has parts split link info at none in (
+      reports_there operations order parts link info at none info.writer (λ e. let lt = ends.0 in omega (arith, e, lt)) refl,
+      collects_there operations order parts link info at none info.reader ends.1,
+    )

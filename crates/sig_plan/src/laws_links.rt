@@ -1,7 +1,7 @@
 //! Laws of the links of a kernel and of the instructions that use them. The function of a law does
 //! nothing when it runs.
 
-ghost use Rattle.std.specs.Prelude.{◌≡◌, ◌≢◌, ◌<◌, ◌≤◌, ◌+◌, ◌*◌, ◌⊎◌, ℕ, Bool, true, List, length, slice_get, Some, Contains};
+ghost use Rattle.std.specs.Prelude.{◌≡◌, ◌≢◌, ◌<◌, ◌≤◌, ◌+◌, ◌*◌, ◌⊎◌, ℕ, Bool, true, List, length, slice_get, None, Some, Contains};
 ghost use Rattle.sig_base.specs.declared.ids.SigId.{SigId};
 ghost use Rattle.sig_clock.specs.ClockFunctions.{KeepsTo};
 ghost use Rattle.sig_clock.specs.Reactions.{Reaction, Speaks, is_present};
@@ -9,7 +9,7 @@ ghost use Rattle.sig_dd.specs.Diagram.{Depends};
 ghost use Rattle.sig_kernel.specs.Validity.{IsValid};
 ghost use Rattle.sig_kernel.specs.declared.kernel.Kernel.{Kernel};
 ghost use Rattle.sig_plan.specs.Acceptance.{HasOperations};
-ghost use Rattle.sig_plan.specs.Codes.{Instruction, instructions_of, op_id, under};
+ghost use Rattle.sig_plan.specs.Codes.{Instruction, instructions_of, op_id, under, unguarded};
 ghost use Rattle.sig_plan.specs.Instructions.{CarriesFrom, IsProvidedBefore, StandsAt};
 ghost use Rattle.sig_plan.specs.Operations.{Operation};
 ghost use Rattle.sig_plan.specs.Order.{IsCompiledOrder};
@@ -40,15 +40,23 @@ pub fn links_have_one_writer_and_one_reader()
 {}
 
 /// A law: for each operation that writes a link's signal the link's writer sends on it and its reader
-/// receives from it, at equal positions and under the operation's guard.
+/// receives from it, at equal positions and under the operation's guard. What a cluster reports is
+/// collected, at equal positions too.
 pub fn what_is_sent_is_received()
-    ensures { (kernel : Kernel) → IsValid kernel → (conditions : List SigId) (operations : List Operation)
+    ensures sends { (kernel : Kernel) → IsValid kernel → (conditions : List SigId) (operations : List Operation)
         → HasOperations kernel conditions operations
         → (parts : PartsView) → AreParts kernel conditions operations parts
         → (order : List ℕ) (j number link : ℕ) (p : Operation) → StandsAt operations order j number p
         → (from : CarriesFrom parts.links p link)
         → Contains (instructions_of operations order parts from.info.writer) (under p (Send link) (2 * j + 1))
         × Contains (instructions_of operations order parts from.info.reader) (under p (Receive link) (2 * j + 1)) }
+    ensures reports { (kernel : Kernel) → IsValid kernel → (conditions : List SigId) (operations : List Operation)
+        → HasOperations kernel conditions operations
+        → (parts : PartsView) → AreParts kernel conditions operations parts
+        → (order : List ℕ) (link : ℕ) (info : LinkInfo) → slice_get parts.links link ≡ Some info
+        → info.signal ≡ None
+        → Contains (instructions_of operations order parts info.writer) (unguarded (Report link) (2 * length operations))
+        × Contains (instructions_of operations order parts info.reader) (unguarded (Collect link) (2 * length operations)) }
 {}
 
 /// A law: the instructions of an actor stand by position. Where the guard of one holds, in a reaction
