@@ -22,3 +22,4 @@ pub mod Positions
 pub mod Provided
 pub mod PlanOnce
 pub mod Naming
+pub mod Holdings

@@ -3,6 +3,7 @@ pub mod Alike
 pub mod Answers
 pub mod Codes
 pub mod Guards
+pub mod Holding
 pub mod Instructions
 pub mod Making
 pub mod Operations

@@ -1,11 +1,11 @@
 //! Laws of accepted plans. The function of a law does nothing when it runs.
 
-ghost use Rattle.std.specs.Prelude.{◌≡◌, ◌≢◌, ◌<◌, ℕ, Bool, List, length, slice_get, None, Some, Contains};
+ghost use Rattle.std.specs.Prelude.{◌≡◌, ◌≢◌, ◌<◌, ℕ, Bool, true, List, length, slice_get, None, Some, Contains};
 ghost use Rattle.sig_base.specs.declared.ids.SigId.{SigId};
 ghost use Rattle.sig_clock.specs.ClockRefusals.{HasClocks};
 ghost use Rattle.sig_clock.specs.Clocks.{AreClocks, ClocksView};
 ghost use Rattle.sig_clock.specs.ClockFunctions.{KeepsTo};
-ghost use Rattle.sig_clock.specs.Reactions.{Reaction, Speaks, status_at};
+ghost use Rattle.sig_clock.specs.Reactions.{Reaction, Speaks, is_present, status_at};
 ghost use Rattle.sig_dd.specs.Diagram.{Depends, truth_of};
 ghost use Rattle.sig_dd.specs.Nodes.{Holds, diagram, test};
 ghost use Rattle.sig_dd.specs.Walks.{Asks};
@@ -15,16 +15,19 @@ ghost use Rattle.sig_kernel.specs.Validity.{IsValid};
 ghost use Rattle.sig_kernel.specs.declared.kernel.Kernel.{Kernel};
 ghost use Rattle.sig_plan.specs.Acceptance.{HasOperations};
 ghost use Rattle.sig_plan.specs.Alike.{AreAlike};
-ghost use Rattle.sig_plan.specs.Codes.{CodeView, Instruction, IsStepOf, instructions_of};
+ghost use Rattle.sig_plan.specs.Codes.{CodeView, Instruction, IsStepOf, instructions_of, op_id};
 ghost use Rattle.sig_plan.specs.Guards.{IsGuardOf};
+ghost use Rattle.sig_plan.specs.Holding.{HasBefore, HasGuard};
 ghost use Rattle.sig_plan.specs.Instructions.{IsFor, NamesWithin};
 ghost use Rattle.sig_plan.specs.Operations.{AreOperations, Operation, operations_in};
-ghost use Rattle.sig_plan.specs.Parts.{PartsView};
+ghost use Rattle.sig_plan.specs.Parts.{IsOutput, PartsView};
 ghost use Rattle.sig_plan.specs.Plans.{IsAccepted, PlanView, numbers_of};
 ghost use Rattle.sig_plan.specs.Written.{AreWritten};
 ghost use Rattle.sig_plan.specs.declared.code.Slot.{Slot};
 ghost use Rattle.sig_plan.specs.declared.code.Step.{Step};
+ghost use Rattle.sig_plan.specs.declared.code.StepKind.TheVariants.{Do, Send, Commit};
 ghost use Rattle.sig_plan.specs.declared.op.Op.{Op};
+ghost use Rattle.sig_plan.specs.declared.parts.LinkInfo.{LinkInfo};
 
 /// A law: the operations that are made with a kernel's clocks are the kernel's, and so are those of an
 /// accepted plan.
@@ -113,4 +116,38 @@ pub fn a_kernel_has_one_plan()
     ensures codes { (a b : PlanView) → IsAccepted a → IsAccepted b → a.kernel ≡ b.kernel
         → (actor : ℕ) (x y : CodeView) → slice_get a.codes actor ≡ Some x → slice_get b.codes actor ≡ Some y
         → AreAlike a.store.nodes b.store.nodes x y }
+{}
+
+/// A law: before a step of an accepted plan, in a reaction that keeps to the proposal, its actor has
+/// written or received each condition that is present and on which the step's guard depends; and where
+/// the guard holds, each signal that its operation reads, the signal that it sends, and for the commit
+/// each output that is present.
+pub fn steps_have_what_they_need()
+    ensures conditions { (plan : PlanView) → IsAccepted plan → (proposal : List Bool) (reaction : Reaction)
+        → Speaks plan.kernel reaction → KeepsTo plan.clocks.conditions proposal reaction
+        → (actor : ℕ) (code : CodeView) → slice_get plan.codes actor ≡ Some code
+        → (k : ℕ) (step : Step) (slot : Slot) → slice_get code.steps k ≡ Some step → HasGuard code step slot
+        → (v : ℕ) (condition : SigId) → slice_get plan.clocks.conditions v ≡ Some condition
+        → is_present reaction condition.0 ≡ true → Depends (test plan.store.nodes slot.guard) v
+        → HasBefore plan code proposal k condition }
+    ensures reads { (plan : PlanView) → IsAccepted plan → (proposal : List Bool) (reaction : Reaction)
+        → Speaks plan.kernel reaction → KeepsTo plan.clocks.conditions proposal reaction
+        → (actor : ℕ) (code : CodeView) → slice_get plan.codes actor ≡ Some code
+        → (k : ℕ) (step : Step) (slot : Slot) → slice_get code.steps k ≡ Some step → HasGuard code step slot
+        → (number : ℕ) (op : Op) → step.kind ≡ Do (op_id number) → slice_get plan.ops number ≡ Some op
+        → test plan.store.nodes slot.guard proposal ≡ true
+        → (x : SigId) → Contains op.reads x → HasBefore plan code proposal k x }
+    ensures sends { (plan : PlanView) → IsAccepted plan → (proposal : List Bool) (reaction : Reaction)
+        → Speaks plan.kernel reaction → KeepsTo plan.clocks.conditions proposal reaction
+        → (actor : ℕ) (code : CodeView) → slice_get plan.codes actor ≡ Some code
+        → (k : ℕ) (step : Step) (slot : Slot) → slice_get code.steps k ≡ Some step → HasGuard code step slot
+        → (link : ℕ) (info : LinkInfo) (x : SigId) → step.kind ≡ Send link
+        → slice_get plan.links link ≡ Some info → info.signal ≡ Some x
+        → test plan.store.nodes slot.guard proposal ≡ true → HasBefore plan code proposal k x }
+    ensures commits { (plan : PlanView) → IsAccepted plan → (proposal : List Bool) (reaction : Reaction)
+        → Speaks plan.kernel reaction → KeepsTo plan.clocks.conditions proposal reaction
+        → (actor : ℕ) (code : CodeView) → slice_get plan.codes actor ≡ Some code
+        → (k : ℕ) (step : Step) (slot : Slot) → slice_get code.steps k ≡ Some step → HasGuard code step slot
+        → step.kind ≡ Commit → (x : SigId) → IsOutput plan.kernel x → is_present reaction x.0 ≡ true
+        → HasBefore plan code proposal k x }
 {}

@@ -26,7 +26,7 @@ pub use laws::{
 pub use laws_accepted::{
     a_kernel_has_one_plan, accepted_plans_have_their_operations, codes_name_what_is_there,
     guards_of_plans_ask_no_absent_condition, instructions_are_for_operations,
-    signals_are_written_in_their_clusters,
+    signals_are_written_in_their_clusters, steps_have_what_they_need,
 };
 pub use laws_done::{
     guards_depend_on_conditions_alone, operations_have_what_they_need,
