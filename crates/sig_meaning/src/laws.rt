@@ -1,13 +1,16 @@
 //! Laws of kernels that have one reaction. The function of a law does nothing when it runs.
 
-ghost use Rattle.std.specs.Prelude.{◌≡◌, ◌≤◌, ℕ, ℤ, List};
-ghost use Rattle.sig_base.specs.Traces.{IsLongest, IsPrefixOf, Trace};
-ghost use Rattle.sig_kernel.specs.KernelTraces.{IsKernelTrace};
+ghost use Rattle.std.specs.Prelude.{◌≡◌, ◌≤◌, ℕ, ℤ, List, length};
+ghost use Rattle.sig_base.specs.Functions.{Function, Gives, operand_count};
+ghost use Rattle.sig_base.specs.Traces.{Instant, IsLongest, IsPrefixOf, Trace, Unbounded};
+ghost use Rattle.sig_kernel.specs.KernelTraces.{IsKernelTrace, Memory};
 ghost use Rattle.sig_kernel.specs.Validity.{AreFlowsFor, IsValid};
 ghost use Rattle.sig_kernel.specs.declared.kernel.Kernel.{Kernel};
 ghost use Rattle.sig_meaning.specs.Ends.{IsCut};
-ghost use Rattle.sig_meaning.specs.Reactions.{HasOneReaction};
+ghost use Rattle.sig_meaning.specs.Reactions.{HasOneReaction, IsNext};
 ghost use Rattle.sig_model.specs.References.{IsReference};
+ghost use Rattle.sig_model.specs.Results.{result_of};
+ghost use Rattle.sig_plan.specs.Plans.{IsAccepted, PlanView};
 
 /// A law: a valid kernel that has one reaction has, for flows that fit, one extended reference of each
 /// number of instants, and a shorter one begins a longer one.
@@ -28,4 +31,20 @@ pub fn longest_traces_exist()
         → (limit : ℕ) → (trace : Trace) × IsLongest (IsKernelTrace kernel) flows limit trace }
     ensures cut { (kernel : Kernel) → IsValid kernel → HasOneReaction kernel → (flows : List (List ℤ)) → AreFlowsFor kernel flows
         → (limit : ℕ) (trace : Trace) → IsLongest (IsKernelTrace kernel) flows limit trace → IsCut kernel flows limit trace }
+{}
+
+/// A law: the result of a function of as many values as it has operands is the one value that the
+/// function gives of them, where every whole number is an integer.
+pub fn functions_have_results()
+    ensures given { (function : Function) (operands : List ℤ) → length operands ≡ operand_count function
+        → Gives Unbounded function operands (result_of function operands) }
+    ensures one { (function : Function) (operands : List ℤ) (v : ℤ) → Gives Unbounded function operands v
+        → v ≡ result_of function operands }
+{}
+
+/// A law: an accepted kernel has at most one instant that is not silent, for what it remembers and what
+/// its inputs have next.
+pub fn accepted_kernels_react_once()
+    ensures { (plan : PlanView) → IsAccepted plan → (memory : Memory) (next : ℕ → ℤ) (a b : Instant)
+        → IsNext plan.kernel memory next a → IsNext plan.kernel memory next b → a ≡ b }
 {}

@@ -1,0 +1,217 @@
+-- Two instants of an accepted kernel with the same memories and next values agree, place by place of the compiled order.
+use Rattle.std.proofs.Common.{◌≡◌, ◌<◌, ◌≤◌, ◌+◌, ◌⊎◌, inl, inr, ℕ, zero, suc, ℤ, pos, Bool, true, false, List, [], ◌∷◌, length, map, get_or, refl, ap, sym, subst, ◌∙◌, arith, Contains}
+use Rattle.std.specs.Prelude.{Option, None, Some, is_some, slice_get, slice_index}
+use Rattle.std.specs.Ordering.{int_eq}
+use Rattle.std.proofs.lemmas.Bool.{and_parts}
+use Rattle.std.proofs.lemmas.List.{get_or_default, length-map}
+use Rattle.std.proofs.lemmas.List.Elements.{All-contains}
+use Rattle.sig_base.specs.Traces.{AreOfKinds, Instant, Range, Seen, Unbounded, is_silent, seen_at}
+use Rattle.sig_base.specs.declared.ids.Kind.{Kind}
+use Rattle.sig_base.specs.declared.ids.Kind.TheVariants.{Integer, Boolean, Event}
+use Rattle.sig_base.specs.declared.ids.SigId.{SigId}
+use Rattle.sig_base.specs.declared.signal.Signal.{Signal}
+use Rattle.sig_clock.specs.Abstractions.{abstraction_of, status_of}
+use Rattle.sig_clock.specs.ClockFunctions.{Allows, KeepsTo}
+use Rattle.sig_clock.specs.Clocks.{AreInOrder}
+use Rattle.sig_clock.specs.Conditions.{is_condition, is_free, signal_id}
+use Rattle.sig_clock.specs.Reactions.{Reaction, Speaks, Status, is_boolean_kind, is_present, status_at}
+use Rattle.sig_clock.proofs.AbstractLemmas.{abstract_presence, abstract_speaks, abstract_status}
+use Rattle.sig_clock.proofs.Lists.{contains_at, get_at, get_within}
+use Rattle.sig_dd.specs.Diagram.{Depends, truth_of}
+use Rattle.sig_kernel.specs.KernelTraces.{IsReaction, Memory}
+use Rattle.sig_kernel.specs.Table.{kind_at, kind_of}
+use Rattle.sig_kernel.specs.Validity.{IsValid}
+use Rattle.sig_kernel.specs.declared.kernel.Kernel.{Kernel}
+use Rattle.sig_meaning.specs.Reactions.{IsNext}
+use Rattle.sig_meaning.proofs.Values.{all_depend, all_seen, none_where, value, where_some}
+use Rattle.sig_model.specs.Actors.{Registers, is_true, truths_of}
+use Rattle.sig_plan.specs.Acceptance.{HasOperations}
+use Rattle.sig_plan.specs.Operations.{Operation, operations_of}
+use Rattle.sig_plan.specs.Order.{IsCompiledOrder, Needs, Precedes, Writes}
+use Rattle.sig_plan.proofs.Done.{present_written, read_present, written_by_one, written_present}
+use Rattle.sig_plan.proofs.Earlier.{guards_alone, needed_earlier, read_earlier}
+use Rattle.sig_plan.proofs.Indices.{written_below}
+use Rattle.sig_plan.proofs.Orders.{stands_once, stands_somewhere}
+
+-- truths that agree on the variables on which a guard depends give it one value
+abbrev pub GuardsAgree : List Operation → Type 0
+GuardsAgree operations = (number : ℕ) (p : Operation) → slice_get operations number ≡ Some p → (truths others : List Bool)
+    → ((v : ℕ) → Depends p.guard v → truth_of truths v ≡ truth_of others v) → p.guard truths ≡ p.guard others
+
+-- a kernel with the compiled order of its operations
+pub record Compiled (kernel : Kernel) (conditions : List SigId) (operations : List Operation) (order : List ℕ) : Type 0 where
+  pub valid : IsValid kernel
+  pub has : HasOperations kernel conditions operations
+  pub ordered : IsCompiledOrder conditions operations order
+  pub agree : GuardsAgree operations
+
+pub truth_at : (conditions : List SigId) (registers : Registers) (v : ℕ) (c : SigId) → slice_get conditions v ≡ Some c → truth_of (truths_of conditions registers) v ≡ is_true (registers c.0)
+truth_at [] registers v c is = absurd (let e = is in cc)
+truth_at (d ∷ conditions) registers zero c is = let e : Some d ≡ Some c = is in let one : d ≡ c = cc in ap (λ (x : SigId). is_true (registers x.0)) one
+truth_at (d ∷ conditions) registers (suc v) c is = truth_at conditions registers v c is
+
+pub some_at : {A : Type 0} (xs : List A) (k : ℕ) → k < length xs → (x : A) × (slice_get xs k ≡ Some x)
+some_at {A} [] k lt = absurd (omega (arith, lt))
+some_at {A} (x ∷ xs) zero lt = (x, refl)
+some_at {A} (x ∷ xs) (suc k) lt = some_at xs k (omega (arith, lt))
+
+boolean_kind : (owner : Option Signal) → is_boolean_kind (kind_of owner) ≡ true → (signal : Signal) × (owner ≡ Some signal) × (signal.kind ≡ Boolean)
+boolean_kind None is = absurd (let e : false ≡ true = is in cc)
+boolean_kind (Some signal) is = (signal, refl, by signal.kind is) where
+  by : (kind : Kind) → is_boolean_kind (Some kind) ≡ true → kind ≡ Boolean
+  by Integer is = absurd (let e : false ≡ true = is in cc)
+  by Boolean is = refl
+  by Event is = absurd (let e : false ≡ true = is in cc)
+
+-- a condition is a boolean signal
+pub condition_signal : (kernel : Kernel) (conditions : List SigId) → AreInOrder kernel conditions → (v : ℕ) (c : SigId) → slice_get conditions v ≡ Some c
+    → (signal : Signal) × (slice_get kernel.signals c.0 ≡ Some signal) × (signal.kind ≡ Boolean)
+condition_signal kernel conditions order v c is =
+    let yes : is_condition kernel c.0 ≡ true = (order.all c).0 (contains_at conditions v c is) in
+    boolean_kind (slice_get kernel.signals c.0) (and_parts (is_boolean_kind (kind_at kernel.signals (signal_id c.0))) (is_free kernel c.0) yes).0
+
+-- an instant keeps to the truths of its conditions
+pub keeps_to_own : (kernel : Kernel) (memory : Memory) (instant : Instant) (conditions : List SigId) → AreInOrder kernel conditions → IsReaction Unbounded kernel memory instant
+    → KeepsTo conditions (truths_of conditions (seen_at instant)) (abstraction_of kernel.signals instant)
+keeps_to_own kernel memory instant conditions order is v c at =
+    let there = condition_signal kernel conditions order v c at in
+    let status : status_at (abstraction_of kernel.signals instant) c.0 ≡ status_of Boolean (seen_at instant c.0) =
+        abstract_status Unbounded kernel memory instant is c.0 there.0 there.1 ∙ ap (λ kind. status_of kind (seen_at instant c.0)) there.2 in
+    rw status (subst (λ t. Allows (status_of Boolean (seen_at instant c.0)) t) (sym (truth_at conditions (seen_at instant) v c at)) (by (seen_at instant c.0))) where
+      by : (seen : Seen) → Allows (status_of Boolean seen) (is_true seen)
+      by None = tt
+      by (Some w) = refl
+
+-- an instant of a compiled kernel
+module _ (kernel : Kernel) (conditions : List SigId) (operations : List Operation) (order : List ℕ) (c : Compiled kernel conditions operations order)
+    (memory : Memory) (next : ℕ → ℤ) (instant : Instant) (is : IsNext kernel memory next instant) where
+  abbrev own : List Bool
+  own = truths_of conditions (seen_at instant)
+
+  abbrev left : Reaction
+  left = abstraction_of kernel.signals instant
+
+  pub own_speaks : Speaks kernel left
+  own_speaks = abstract_speaks Unbounded kernel memory instant c.valid is.is is.speaks
+
+  pub own_keeps : KeepsTo conditions own left
+  own_keeps = keeps_to_own kernel memory instant conditions c.has.order is.is
+
+  pub own_present : (x : ℕ) → is_present left x ≡ is_some (seen_at instant x)
+  own_present x = abstract_presence Unbounded kernel memory instant is.is x
+
+  pub own_written : (x : SigId) → x.0 < length kernel.signals → is_some (seen_at instant x.0) ≡ true
+      → (number : ℕ) × (p : Operation) × (slice_get operations number ≡ Some p) × Writes p x × (p.guard own ≡ true)
+  own_written x lt some = present_written kernel c.valid conditions operations c.has own left own_speaks own_keeps x lt (own_present x.0 ∙ some)
+
+  -- what is done writes what is seen
+  pub own_seen : (number : ℕ) (p : Operation) (y : SigId) → slice_get operations number ≡ Some p → Writes p y → p.guard own ≡ true
+      → seen_at instant y.0 ≡ Some (value kernel memory next (seen_at instant) p)
+  own_seen number p y at writes done =
+      All-contains (λ (q : Operation). (z : SigId) → Writes q z → q.guard own ≡ true → seen_at instant z.0 ≡ Some (value kernel memory next (seen_at instant) q))
+      (operations_of kernel c.has.presence) p
+      (all_seen kernel memory next c.has.presence instant own (λ x lt. sym (own_present x.0) ∙ c.has.functions x.0 lt own left own_speaks own_keeps) c.valid is.is is.takes)
+      (subst (λ (ps : List Operation). Contains ps p) c.has.are (contains_at operations number p at)) y writes done
+
+-- the value depends on what is read alone
+pub value_by_reads : (kernel : Kernel) (conditions : List SigId) (operations : List Operation) → HasOperations kernel conditions operations → (memory : Memory) (next : ℕ → ℤ)
+    → (number : ℕ) (p : Operation) → slice_get operations number ≡ Some p → (r s : Registers) → ((x : SigId) → Contains p.reads x → r x.0 ≡ s x.0)
+    → value kernel memory next r p ≡ value kernel memory next s p
+value_by_reads kernel conditions operations has memory next number p at =
+    All-contains (λ (q : Operation). (r s : Registers) → ((x : SigId) → Contains q.reads x → r x.0 ≡ s x.0) → value kernel memory next r q ≡ value kernel memory next s q)
+    (operations_of kernel has.presence) p (all_depend kernel memory next has.presence)
+    (subst (λ (ps : List Operation). Contains ps p) has.are (contains_at operations number p at))
+
+module _ (kernel : Kernel) (conditions : List SigId) (operations : List Operation) (order : List ℕ) (c : Compiled kernel conditions operations order)
+    (memory : Memory) (next : ℕ → ℤ) (a b : Instant) (is : IsNext kernel memory next a) (also : IsNext kernel memory next b) where
+  abbrev by_a : List Bool
+  by_a = truths_of conditions (seen_at a)
+
+  abbrev by_b : List Bool
+  by_b = truths_of conditions (seen_at b)
+
+  -- they agree before a place: an operation is done in both or in neither, and where it is, it writes one value
+  pub record SameAt (q : Operation) : Type 0 where
+    pub done : q.guard by_a ≡ q.guard by_b
+    pub seen : (x : SigId) → Writes q x → q.guard by_a ≡ true → seen_at a x.0 ≡ seen_at b x.0
+
+  abbrev SameBefore : ℕ → Type 0
+  SameBefore k = (i : ℕ) → i < k → (q : Operation) → slice_get operations (slice_index order i) ≡ Some q → SameAt q
+
+  -- a condition that is written before a place is the same
+  same_condition : (k : ℕ) → SameBefore k → (x : SigId) → x.0 < length kernel.signals
+      → ((number : ℕ) (p : Operation) → slice_get operations number ≡ Some p → Writes p x → (i : ℕ) × (i < k) × (slice_index order i ≡ number)) → seen_at a x.0 ≡ seen_at b x.0
+  same_condition k before x lt earlier = by (is_some (seen_at a x.0)) (is_some (seen_at b x.0)) refl refl where
+    by : (one two : Bool) → is_some (seen_at a x.0) ≡ one → is_some (seen_at b x.0) ≡ two → seen_at a x.0 ≡ seen_at b x.0
+    by true two e f =
+        let w = own_written kernel conditions operations order c memory next a is x lt e in
+        let place = earlier w.0 w.1 w.2 w.3 in
+        (before place.0 place.1 w.1 (ap (slice_get operations) place.2 ∙ w.2)).seen x w.3 w.4
+    by false true e f =
+        let w = own_written kernel conditions operations order c memory next b also x lt f in
+        let place = earlier w.0 w.1 w.2 w.3 in
+        let same = before place.0 place.1 w.1 (ap (slice_get operations) place.2 ∙ w.2) in
+        same.seen x w.3 (same.done ∙ w.4)
+    by false false e f = none_where (seen_at a x.0) e ∙ sym (none_where (seen_at b x.0) f)
+
+  same_guard : (k : ℕ) → k < length operations → SameBefore k → (q : Operation) → slice_get operations (slice_index order k) ≡ Some q → q.guard by_a ≡ q.guard by_b
+  same_guard k lt before q at = c.agree (slice_index order k) q at by_a by_b (λ v depends.
+      let there = some_at conditions v (guards_alone kernel c.valid conditions operations c.has (slice_index order k) q at v depends) in
+      let signal = condition_signal kernel conditions c.has.order v there.0 there.1 in
+      let needs : Needs conditions q there.0 = record { variable = v; is = there.1; depends = depends } in
+      let same : seen_at a there.0.0 ≡ seen_at b there.0.0 = same_condition k before there.0 (get_within kernel.signals there.0.0 signal.0 signal.1)
+          (λ number p is_p writes. needed_earlier kernel c.valid conditions operations c.has order c.ordered k lt q at there.0 needs number p is_p writes) in
+      truth_at conditions (seen_at a) v there.0 there.1 ∙ ap is_true same ∙ sym (truth_at conditions (seen_at b) v there.0 there.1))
+
+  same_value : (k : ℕ) → k < length operations → SameBefore k → (q : Operation) → slice_get operations (slice_index order k) ≡ Some q → SameAt q
+  same_value k lt before q at =
+      let done : q.guard by_a ≡ q.guard by_b = same_guard k lt before q at in
+      record {
+        done = done;
+        seen = λ x writes yes.
+            let one = own_seen kernel conditions operations order c memory next a is (slice_index order k) q x at writes yes in
+            let two = own_seen kernel conditions operations order c memory next b also (slice_index order k) q x at writes (sym done ∙ yes) in
+            let reads = value_by_reads kernel conditions operations c.has memory next (slice_index order k) q at (seen_at a) (seen_at b) (λ y there.
+                let e = read_earlier kernel c.valid conditions operations c.has order c.ordered k lt q at by_a yes y there in
+                (before e.0 e.2 e.1 e.3).seen y e.4 e.5) in
+            one ∙ ap Some reads ∙ sym two;
+      }
+
+  same_next : (k : ℕ) → suc k ≤ length operations → SameBefore k → SameBefore (suc k)
+  same_next k le before i lt q at = by (at_end i k) where
+    at_end : (i k : ℕ) → (i ≡ k) ⊎ ((i ≡ k) → ⊥)
+    at_end zero zero = inl refl
+    at_end zero (suc k) = inr (λ e. omega (arith, e))
+    at_end (suc i) zero = inr (λ e. omega (arith, e))
+    at_end (suc i) (suc k) = elim (at_end i k) [
+      | inl e ↦ inl (ap suc e)
+      | inr differs ↦ inr (λ e. differs (omega (arith, e)))
+    ]
+
+    by : (i ≡ k) ⊎ ((i ≡ k) → ⊥) → SameAt q
+    by (inl e) = same_value k (omega (arith, le)) before q (sym (ap (λ j. slice_get operations (slice_index order j)) e) ∙ at)
+    by (inr differs) = before i (omega (arith, lt, differs)) q at
+
+  pub same_before : (k : ℕ) → k ≤ length operations → SameBefore k
+  same_before zero le = λ i lt q at. absurd (omega (arith, lt))
+  same_before (suc k) le = same_next k le (same_before k (omega (arith, le)))
+
+  pub same_seen : (x : SigId) → x.0 < length kernel.signals → seen_at a x.0 ≡ seen_at b x.0
+  same_seen x lt = same_condition (length operations) (same_before (length operations) (omega arith)) x lt (λ number p at writes.
+      let within = get_within operations number p at in
+      let somewhere = stands_somewhere (Precedes conditions operations) (length operations) order c.ordered number within in
+      (somewhere.0, omega (arith, somewhere.1, c.ordered.all), get_or_default order somewhere.0 0 number somewhere.1 ∙ somewhere.2))
+
+  same_lists : (range : Range) (kinds : List Kind) (s t : Instant) → AreOfKinds range kinds s → AreOfKinds range kinds t → ((x : ℕ) → x < length kinds → seen_at s x ≡ seen_at t x) → s ≡ t
+  same_lists range [] [] [] one two same = refl
+  same_lists range [] [] (z ∷ t) one two same = absurd two
+  same_lists range [] (y ∷ s) t one two same = absurd one
+  same_lists range (kind ∷ kinds) [] t one two same = absurd one
+  same_lists range (kind ∷ kinds) (y ∷ s) [] one two same = absurd two
+  same_lists range (kind ∷ kinds) (y ∷ s) (z ∷ t) one two same =
+      let first : y ≡ z = same 0 (omega arith) in
+      let rest : s ≡ t = same_lists range kinds s t one.1 two.1 (λ x lt. same (suc x) (omega (arith, lt))) in
+      cc
+
+  pub same_instant : a ≡ b
+  same_instant = same_lists Unbounded (map (λ (signal : Signal). signal.kind) kernel.signals) a b is.is.kinds also.is.kinds (λ x lt. same_seen (signal_id x) (omega (arith, lt, length-map kernel.signals (λ (signal : Signal). signal.kind))))
