@@ -1,6 +1,6 @@
 -- Before a step of an accepted plan whose guard holds, its actor has what the step needs.
-use Rattle.std.proofs.Common.{◌≡◌, ◌<◌, ◌≤◌, inl, inr, ℕ, Bool, true, List, [], ◌∷◌, length, map, get_or, refl, sym, ap, ◌∙◌, subst, arith, Contains}
-use Rattle.std.specs.Prelude.{zero, suc, Some, slice_get}
+use Rattle.std.proofs.Common.{◌≡◌, ◌<◌, ◌≤◌, inl, inr, ℕ, Bool, true, List, length, get_or, sym, ap, ◌∙◌, subst, arith, Contains}
+use Rattle.std.specs.Prelude.{Some, slice_get}
 use Rattle.sig_base.specs.declared.ids.SigId.{SigId}
 use Rattle.sig_clock.proofs.Lists.{get_at, get_within}
 use Rattle.sig_clock.specs.ClockFunctions.{KeepsTo}
@@ -20,18 +20,9 @@ use Rattle.sig_plan.specs.declared.code.StepKind.TheVariants.{Do, Send, Commit}
 use Rattle.sig_plan.specs.declared.op.Op.{Op}
 use Rattle.sig_plan.specs.declared.parts.LinkInfo.{LinkInfo}
 use Rattle.sig_plan.proofs.Accepted.{plan_operations}
+use Rattle.sig_plan.proofs.Lists.{get_map, map_get}
 use Rattle.sig_plan.proofs.Naming.{step_instruction}
 use Rattle.sig_plan.proofs.Provided.{committed_before, condition_before, read_before, sent_before}
-
-unmapped : {X Y : Type 0} (f : X → Y) (xs : List X) (k : ℕ) (y : Y) → slice_get (map f xs) k ≡ Some y → (x : X) × (slice_get xs k ≡ Some x) × (f x ≡ y)
-unmapped f [] k y is = cc
-unmapped f (x ∷ xs) zero y is = (x, refl, cc)
-unmapped f (x ∷ xs) (suc k) y is = unmapped f xs k y is
-
-mapped : {X Y : Type 0} (f : X → Y) (xs : List X) (k : ℕ) (x : X) → slice_get xs k ≡ Some x → slice_get (map f xs) k ≡ Some (f x)
-mapped f [] k x is = cc
-mapped f (y ∷ xs) zero x is = let same : y ≡ x = cc in ap (λ z. Some (f z)) same
-mapped f (y ∷ xs) (suc k) x is = mapped f xs k x is
 
 module _ (plan : PlanView) (is : IsAccepted plan) (proposal : List Bool) (reaction : Reaction) (speaks : Speaks plan.kernel reaction) (keeps : KeepsTo plan.clocks.conditions proposal reaction)
     (actor : ℕ) (code : CodeView) (coded : slice_get plan.codes actor ≡ Some code) where
@@ -53,7 +44,7 @@ module _ (plan : PlanView) (is : IsAccepted plan) (proposal : List Bool) (reacti
 
   gives : (x : SigId) (i : Instruction) (step : Step) → step.kind ≡ i.kind → Provides operations is.parts.links x i → Gives plan x step
   gives x i step kind (inl (number, p, at, writes, does)) =
-      let (op, there, same) = unmapped (operation_in plan.store.nodes) plan.ops number p at in
+      let (op, there, same) = map_get (operation_in plan.store.nodes) plan.ops number p at in
       inl (number, op, there, ap (λ (q : Operation). q.writes) same ∙ writes, kind ∙ does)
   gives x i step kind (inr (link, info, at, carries, receives)) =
       inr (link, info, subst (λ (ls : List LinkInfo). slice_get ls link ≡ Some info) is.links at, carries, kind ∙ receives)
@@ -101,7 +92,7 @@ module _ (plan : PlanView) (is : IsAccepted plan) (proposal : List Bool) (reacti
     step_has_reads number op kind there holds x reads =
         has_before k x within
         (read_before plan.kernel is.valid plan.clocks.conditions operations (plan_operations plan is) (numbers_of plan.order) is.order is.parts is.split proposal reaction speaks keeps actor most
-        k found.0 found.1 number (operation_in plan.store.nodes op) (sym found.2.kind ∙ kind) (mapped (operation_in plan.store.nodes) plan.ops number op there) (guard_holds holds) x reads)
+        k found.0 found.1 number (operation_in plan.store.nodes op) (sym found.2.kind ∙ kind) (get_map (operation_in plan.store.nodes) plan.ops number op there) (guard_holds holds) x reads)
 
     pub step_has_sent : (link : ℕ) (info : LinkInfo) (x : SigId) → step.kind ≡ Send link → slice_get plan.links link ≡ Some info → info.signal ≡ Some x → test plan.store.nodes slot.guard proposal ≡ true → HasBefore plan code proposal k x
     unfolding found

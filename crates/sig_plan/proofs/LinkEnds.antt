@@ -1,13 +1,12 @@
 -- A link has one writer and one reader, and what is sent on it is received at an equal position under an equal guard.
-use Rattle.std.proofs.Common.{◌≡◌, ◌≢◌, ◌<◌, ◌≤◌, ◌+◌, ◌*◌, ◌⊎◌, ◌++◌, inl, inr, ℕ, Bool, true, false, List, [], ◌∷◌, length, map, refl, sym, ap, ◌∙◌, subst, arith, Contains}
-use Rattle.std.specs.Prelude.{zero, suc, None, Option, Some, flat_map, fold, max, slice_get, ◌==◌, if◌then◌else◌}
+use Rattle.std.proofs.Common.{◌≡◌, ◌≢◌, ◌<◌, ◌≤◌, ◌+◌, ◌*◌, ◌⊎◌, ◌++◌, inl, inr, ℕ, Bool, true, List, [], ◌∷◌, length, map, refl, sym, ap, ◌∙◌, subst, arith, Contains}
+use Rattle.std.specs.Prelude.{zero, suc, None, Option, Some, fold, max, slice_get, ◌==◌, if◌then◌else◌}
 use Rattle.std.specs.List.{enumerate_from, range_with_len}
 use Rattle.std.proofs.Math.Nat.{le-max_left, le-max_right}
-use Rattle.std.proofs.lemmas.Bool.{eqb-false, eqb-true}
 use Rattle.std.proofs.lemmas.List.Elements.{Contains-append_left, Contains-append_right}
 use Rattle.sig_base.specs.declared.ids.SigId.{SigId}
 use Rattle.sig_base.specs.declared.signal.Signal.{Signal}
-use Rattle.sig_clock.proofs.Lists.{at_contained, contains_at, contains_cons, contains_head, contains_later, contains_none}
+use Rattle.sig_clock.proofs.Lists.{at_contained, contains_at, contains_head, contains_later}
 use Rattle.sig_kernel.specs.Validity.{IsValid}
 use Rattle.sig_kernel.specs.declared.kernel.Kernel.{Kernel}
 use Rattle.sig_plan.specs.Acceptance.{HasOperations}
@@ -19,68 +18,8 @@ use Rattle.sig_plan.specs.Written.{AreWritten}
 use Rattle.sig_plan.specs.declared.code.StepKind.TheVariants.{Do, Send, Receive, Report, Collect, Commit}
 use Rattle.sig_plan.specs.declared.parts.LinkInfo.{LinkInfo}
 use Rattle.sig_plan.proofs.Instructing.{chosen, instruction_for}
+use Rattle.sig_plan.proofs.Lists.{contains_either, contains_flat, contains_mapped, contains_numbered, eq_false, eq_true, in_range, mapped_from}
 use Rattle.sig_plan.proofs.Writing.{operations_written}
-
--- ---- lists
-
-pub contains_either : {X : Type 0} (xs ys : List X) (x : X) → Contains (xs ++ ys) x → Contains xs x ⊎ Contains ys x
-contains_either [] ys x there = inr there
-contains_either (z ∷ xs) ys x there = elim (contains_cons z x (xs ++ ys) there) [
-  | inl same ↦ inl (subst (Contains (z ∷ xs)) (sym same) (contains_head z xs))
-  | inr later ↦ elim (contains_either xs ys x later) [ inl first ↦ inl (contains_later z x xs first) | inr second ↦ inr second ]
-]
-
-pub mapped_from : {X Y : Type 0} (f : X → Y) (xs : List X) (y : Y) → Contains (map f xs) y → (x : X) × Contains xs x × (y ≡ f x)
-mapped_from f [] y there = absurd (contains_none y there)
-mapped_from f (x ∷ xs) y there = elim (contains_cons (f x) y (map f xs) there) [
-  | inl same ↦ (x, contains_head x xs, same)
-  | inr later ↦ let (z, is, same) = mapped_from f xs y later in (z, contains_later x z xs is, same)
-]
-
-contains_mapped : {X Y : Type 0} (f : X → Y) (xs : List X) (x : X) → Contains xs x → Contains (map f xs) (f x)
-contains_mapped f [] x there = absurd (contains_none x there)
-contains_mapped f (z ∷ xs) x there = elim (contains_cons z x xs there) [
-  | inl same ↦ subst (λ w. Contains (f z ∷ map f xs) (f w)) (sym same) (contains_head (f z) (map f xs))
-  | inr later ↦ contains_later (f z) (f x) (map f xs) (contains_mapped f xs x later)
-]
-
-in_range : (a n k : ℕ) → Contains (range_with_len a n) k → k < a + n
-in_range a zero k there = absurd (contains_none k there)
-in_range a (suc n) k there = elim (contains_cons a k (range_with_len (a + 1) n) there) [
-  | inl same ↦ omega (arith, same)
-  | inr later ↦ let lt = in_range (a + 1) n k later in omega (arith, lt)
-]
-
-contains_flat : {X Y : Type 0} (f : X → List Y) (xs : List X) (x : X) (y : Y) → Contains xs x → Contains (f x) y → Contains (flat_map f xs) y
-contains_flat f [] x y there is = absurd (contains_none x there)
-contains_flat f (z ∷ xs) x y there is = elim (contains_cons z x xs there) [
-  | inl same ↦ Contains-append_left (f z) (flat_map f xs) y (subst (λ w. Contains (f w) y) same is)
-  | inr later ↦ Contains-append_right (f z) (flat_map f xs) y (contains_flat f xs x y later is)
-]
-
-contains_numbered : {X : Type 0} (n : ℕ) (xs : List X) (k : ℕ) (x : X) → slice_get xs k ≡ Some x → Contains (enumerate_from n xs) (n + k, x)
-contains_numbered n [] k x is = cc
-contains_numbered n (z ∷ xs) zero x is =
-    let same : z ≡ x = cc in
-    let here : n ≡ n + 0 = omega arith in
-    subst (λ m. Contains ((n, z) ∷ enumerate_from (n + 1) xs) (m, x)) here (subst (λ w. Contains ((n, z) ∷ enumerate_from (n + 1) xs) (n, w)) same (contains_head (n, z) (enumerate_from (n + 1) xs)))
-contains_numbered n (z ∷ xs) (suc k) x is =
-    let next : n + 1 + k ≡ n + suc k = omega arith in
-    contains_later (n, z) (n + suc k, x) (enumerate_from (n + 1) xs) (subst (λ m. Contains (enumerate_from (n + 1) xs) (m, x)) next (contains_numbered (n + 1) xs k x is))
-
-eq_true : (a b : ℕ) → a ≡ b → (a == b) ≡ true
-eq_true a b same = by (a == b) refl
-  where
-    by : (t : Bool) → (a == b) ≡ t → (a == b) ≡ true
-    by true is = is
-    by false is = absurd (eqb-false a b is same)
-
-eq_false : (a b : ℕ) → a ≢ b → (a == b) ≡ false
-eq_false a b apart = by (a == b) refl
-  where
-    by : (t : Bool) → (a == b) ≡ t → (a == b) ≡ false
-    by true is = absurd (apart (eqb-true a b is))
-    by false is = is
 
 -- ---- clusters
 
@@ -146,6 +85,9 @@ module _ (operations : List Operation) (order : List ℕ) (parts : PartsView) (a
 
 -- ---- the ends of links
 
+apart_from : (cluster owner writer reader : ℕ) → cluster ≢ reader → cluster ≡ owner → writer ≡ owner → writer ≢ reader
+apart_from cluster owner writer reader other is same e = other (is ∙ (sym same ∙ e))
+
 elsewhere : (kernel : Kernel) (conditions : List SigId) (operations : List Operation) (actor : ℕ) (x : SigId) → Imports kernel conditions operations actor x → IsWrittenElsewhere operations actor x
 elsewhere kernel conditions operations actor _ (used x lt is other) = other
 elsewhere kernel conditions operations actor _ (output x lt is other) = other
@@ -178,7 +120,7 @@ module _ (kernel : Kernel) (valid : IsValid kernel) (conditions : List SigId) (o
         let other = elsewhere kernel conditions operations info.reader x imported in
         let owner = are_written.owner other.writer x other.is other.writes in
         let writer = carries.writer owner.0 (subst (λ (z : SigId). slice_get kernel.signals z.0 ≡ Some owner.0) (sym same) owner.1) in
-        record { imported = imported; reader = most; owner = owner.0; owned = owner.1; writer = writer; apart = λ e. other.other (owner.2 ∙ (sym writer ∙ e)) }
+        record { imported = imported; reader = most; owner = owner.0; owned = owner.1; writer = writer; apart = apart_from other.writer.cluster owner.0.cluster info.writer info.reader other.other owner.2 writer }
   ]
 
   -- what writes a link's signal is of the link's writer

@@ -9,7 +9,7 @@ use Rattle.sig_plan.specs.Operations.{Operation}
 use Rattle.sig_plan.specs.Parts.{PartsView}
 use Rattle.sig_plan.specs.declared.code.StepKind.TheVariants.{Do, Send, Receive, Report, Collect, Commit}
 use Rattle.sig_plan.specs.declared.parts.LinkInfo.{LinkInfo}
-use Rattle.sig_plan.proofs.LinkEnds.{contains_either, mapped_from}
+use Rattle.sig_plan.proofs.Lists.{contains_either, mapped_from}
 
 -- each stands at no later position than those behind it
 Sorted : List Instruction → Type 0
