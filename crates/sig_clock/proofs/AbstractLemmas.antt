@@ -29,11 +29,11 @@ use Rattle.sig_clock.specs.Abstractions.{abstraction_of, status_of, truth_of_val
 use Rattle.sig_clock.specs.Reactions.{IsReaction, Reaction, Speaks, Status, status_at, is_present, is_silent, is_with, is_integer, is_integer_kind, same_status, same_truth, where_present, where_true, or_else, constant_truth, meets, are_statuses, is_status_of, operand_truth, truth_of_status, truth_function, function_truth, has_truth}
 
 -- a status by the kind of a signal, where it has one
-abbrev status_by : Option Kind → Seen → Status
+abbrev pub status_by : Option Kind → Seen → Status
 status_by None seen = None
 status_by (Some kind) seen = status_of kind seen
 
-at : (range : Range) (signals : List Signal) (instant : Instant) (k : ℕ) → AreOfKinds range (map (λ signal. signal.kind) signals) instant
+pub at : (range : Range) (signals : List Signal) (instant : Instant) (k : ℕ) → AreOfKinds range (map (λ signal. signal.kind) signals) instant
     → status_at (abstraction_of signals instant) k ≡ status_by (kind_of (slice_get signals k)) (seen_at instant k)
 at range [] instant k kinds = refl
 at range (signal ∷ signals) [] k kinds = absurd kinds
@@ -56,18 +56,18 @@ truth_itself : (b : Bool) → same_truth b b ≡ true
 truth_itself true = refl
 truth_itself false = refl
 
-same_if : (a b : Bool) → a ≡ b → same_truth a b ≡ true
+pub same_if : (a b : Bool) → a ≡ b → same_truth a b ≡ true
 same_if a b is = subst (λ x. same_truth a x ≡ true) is (truth_itself a)
 
 status_itself : (s : Status) → same_status s s ≡ true
 status_itself None = refl
 status_itself (Some b) = truth_itself b
 
-same_status_if : (a b : Status) → a ≡ b → same_status a b ≡ true
+pub same_status_if : (a b : Status) → a ≡ b → same_status a b ≡ true
 same_status_if a b is = subst (λ x. same_status a x ≡ true) is (status_itself a)
 
 -- the sort that an operand is of whose values are handed on to a signal of a kind
-abbrev sort_of : Kind → Sort
+abbrev pub sort_of : Kind → Sort
 sort_of Integer = AnInteger
 sort_of Boolean = Truth
 sort_of Event = AnEvent
@@ -76,7 +76,7 @@ one_is : (v : ℤ) → v ≡ pos 1 → int_eq v (pos 1) ≡ true
 one_is v is = ap (λ w. int_eq w (pos 1)) is
 
 -- a value that is handed on keeps its truth
-like : (range : Range) (target kind : Kind) (seen : Seen) → kind_is (sort_of target) kind ≡ true → IsOfKind range kind seen → status_of target seen ≡ status_of kind seen
+pub like : (range : Range) (target kind : Kind) (seen : Seen) → kind_is (sort_of target) kind ≡ true → IsOfKind range kind seen → status_of target seen ≡ status_of kind seen
 like range target kind None fits is = refl
 like range Integer Integer (Some v) fits is = refl
 like range Integer Boolean (Some v) fits is = absurd (false≢true fits)
@@ -89,7 +89,7 @@ like range Event Boolean (Some v) fits is = absurd (false≢true fits)
 like range Event Event (Some v) fits is = refl
 
 -- the truth of a truth's value is whether it is 1
-truth_is : (range : Range) (kind : Kind) (v : ℤ) → kind_is Truth kind ≡ true → IsValue range kind v → truth_of_value kind v ≡ int_eq v (pos 1)
+pub truth_is : (range : Range) (kind : Kind) (v : ℤ) → kind_is Truth kind ≡ true → IsValue range kind v → truth_of_value kind v ≡ int_eq v (pos 1)
 truth_is range Integer v fits is = absurd (false≢true fits)
 truth_is range Boolean v fits is = refl
 truth_is range Event v fits is = sym (one_is v is)
@@ -99,19 +99,19 @@ two_parts p q all =
     let parts = and_parts p (q && true) (sym (or-false (p && (q && true))) ∙ all) in
     (parts.0, (and_parts q true parts.1).0)
 
-where_rows : (signals : List Signal) (target : Kind) (a b : Operand) → keeps_to_one signals target (a ∷ b ∷ []) handed_on_where ≡ true
+pub where_rows : (signals : List Signal) (target : Kind) (a b : Operand) → keeps_to_one signals target (a ∷ b ∷ []) handed_on_where ≡ true
     → (operand_is signals a (sort_of target) ≡ true) × (operand_is signals b Truth ≡ true)
 where_rows signals Integer a b fits = two_parts (operand_is signals a AnInteger) (operand_is signals b Truth) fits
 where_rows signals Boolean a b fits = two_parts (operand_is signals a Truth) (operand_is signals b Truth) fits
 where_rows signals Event a b fits = two_parts (operand_is signals a AnEvent) (operand_is signals b Truth) fits
 
-merged_rows : (signals : List Signal) (target : Kind) (a b : Operand) → keeps_to_one signals target (a ∷ b ∷ []) merged ≡ true
+pub merged_rows : (signals : List Signal) (target : Kind) (a b : Operand) → keeps_to_one signals target (a ∷ b ∷ []) merged ≡ true
     → (operand_is signals a (sort_of target) ≡ true) × (operand_is signals b (sort_of target) ≡ true)
 merged_rows signals Integer a b fits = two_parts (operand_is signals a AnInteger) (operand_is signals b AnInteger) fits
 merged_rows signals Boolean a b fits = two_parts (operand_is signals a Truth) (operand_is signals b Truth) fits
 merged_rows signals Event a b fits = two_parts (operand_is signals a AnEvent) (operand_is signals b AnEvent) fits
 
-of_kind : (range : Range) (signals : List Signal) (instant : Instant) (k : ℕ) (kind : Kind) → AreOfKinds range (map (λ signal. signal.kind) signals) instant
+pub of_kind : (range : Range) (signals : List Signal) (instant : Instant) (k : ℕ) (kind : Kind) → AreOfKinds range (map (λ signal. signal.kind) signals) instant
     → kind_of (slice_get signals k) ≡ Some kind → IsOfKind range kind (seen_at instant k)
 of_kind range [] instant k kind kinds is = absurd (let e : None ≡ Some kind = is in cc)
 of_kind range (signal ∷ signals) [] k kind kinds is = absurd kinds
@@ -241,7 +241,7 @@ constant_bit c is = by (int_eq c (pos 0)) refl where
   by true e = inl ((Decides-int_eq c (pos 0)).0 e)
   by false e = inr ((Decides-int_eq c (pos 1)).0 (sym (ap (λ b. b || int_eq c (pos 1)) e) ∙ is))
 
-kind_bit : (range : Range) (kind : Kind) (w : ℤ) → kind_is Truth kind ≡ true → IsValue range kind w → (w ≡ pos 0) ⊎ (w ≡ pos 1)
+pub kind_bit : (range : Range) (kind : Kind) (w : ℤ) → kind_is Truth kind ≡ true → IsValue range kind w → (w ≡ pos 0) ⊎ (w ≡ pos 1)
 kind_bit range Integer w fits is = absurd (false≢true fits)
 kind_bit range Boolean w fits is = is
 kind_bit range Event w fits is = inr is
@@ -267,13 +267,13 @@ truth_operand range signals instant (Const c) w kinds fits have = record {
 }
 
 -- operands by a row of one or of two
-one_operand : (signals : List Signal) (operands : List Operand) (s : Sort) → operands_are signals operands (s ∷ []) ≡ true
+pub one_operand : (signals : List Signal) (operands : List Operand) (s : Sort) → operands_are signals operands (s ∷ []) ≡ true
     → (a : Operand) × (operands ≡ a ∷ []) × (operand_is signals a s ≡ true)
 one_operand signals [] s fits = absurd (false≢true fits)
 one_operand signals (a ∷ []) s fits = (a, refl, (and_parts (operand_is signals a s) true fits).0)
 one_operand signals (a ∷ b ∷ more) s fits = absurd (false≢true (and_parts (operand_is signals a s) false fits).1)
 
-two_operands : (signals : List Signal) (operands : List Operand) (s t : Sort) → operands_are signals operands (s ∷ t ∷ []) ≡ true
+pub two_operands : (signals : List Signal) (operands : List Operand) (s t : Sort) → operands_are signals operands (s ∷ t ∷ []) ≡ true
     → (a : Operand) × (b : Operand) × (operands ≡ a ∷ b ∷ []) × (operand_is signals a s ≡ true) × (operand_is signals b t ≡ true)
 two_operands signals [] s t fits = absurd (false≢true fits)
 two_operands signals (a ∷ []) s t fits = absurd (false≢true (and_parts (operand_is signals a s) false fits).1)
@@ -282,12 +282,12 @@ two_operands signals (a ∷ b ∷ []) s t fits =
 two_operands signals (a ∷ b ∷ c ∷ more) s t fits =
     absurd (false≢true (and_parts (operand_is signals b t) false (and_parts (operand_is signals a s) (operand_is signals b t && false) fits).1).1)
 
-boolean_row : (target : Kind) (fits : Bool) → ((is_kind target Boolean && fits) || false) ≡ true → (target ≡ Boolean) × (fits ≡ true)
+pub boolean_row : (target : Kind) (fits : Bool) → ((is_kind target Boolean && fits) || false) ≡ true → (target ≡ Boolean) × (fits ≡ true)
 boolean_row Integer fits is = absurd (false≢true is)
 boolean_row Boolean fits is = (refl, sym (or-false fits) ∙ is)
 boolean_row Event fits is = absurd (false≢true is)
 
-handed_row : (signals : List Signal) (target : Kind) (operands : List Operand) → keeps_to_one signals target operands handed_on ≡ true → operands_are signals operands (sort_of target ∷ []) ≡ true
+pub handed_row : (signals : List Signal) (target : Kind) (operands : List Operand) → keeps_to_one signals target operands handed_on ≡ true → operands_are signals operands (sort_of target ∷ []) ≡ true
 handed_row signals Integer operands is = sym (or-false (operands_are signals operands (AnInteger ∷ []))) ∙ is
 handed_row signals Boolean operands is = sym (or-false (operands_are signals operands (Truth ∷ []))) ∙ is
 handed_row signals Event operands is = sym (or-false (operands_are signals operands (AnEvent ∷ []))) ∙ is
@@ -361,7 +361,7 @@ met_by signals instant target op F operands v gives kind found =
 met_open : (signals : List Signal) (instant : Instant) (target : Kind) (op : FunOp) (operands : List Operand) (v : ℤ) → function_truth signals (abstraction_of signals instant) op operands ≡ None → Met signals instant target op operands v
 met_open signals instant target op operands v none = ap (has_truth (Some (truth_of_value target v))) none
 
-equality_rows : (target : Kind) (first second : Bool) → ((is_kind target Boolean && first) || ((is_kind target Boolean && second) || false)) ≡ true → (target ≡ Boolean) × ((first ≡ true) ⊎ (second ≡ true))
+pub equality_rows : (target : Kind) (first second : Bool) → ((is_kind target Boolean && first) || ((is_kind target Boolean && second) || false)) ≡ true → (target ≡ Boolean) × ((first ≡ true) ⊎ (second ≡ true))
 equality_rows Integer first second is = absurd (false≢true is)
 equality_rows Boolean true second is = (refl, inl refl)
 equality_rows Boolean false second is = (refl, inr (sym (or-false second) ∙ is))
@@ -407,7 +407,7 @@ equality_met range signals instant target op function F operands values v opens 
   by false e (kind, inr row) = truths e kind row
 
 -- a function's truth is the one that its operands' truths give
-function_met : (range : Range) (signals : List Signal) (instant : Instant) (target : Kind) (op : FunOp) (operands : List Operand) (values : List ℤ) (v : ℤ) → AreOfKinds range (map (λ signal. signal.kind) signals) instant
+pub function_met : (range : Range) (signals : List Signal) (instant : Instant) (target : Kind) (op : FunOp) (operands : List Operand) (values : List ℤ) (v : ℤ) → AreOfKinds range (map (λ signal. signal.kind) signals) instant
     → keeps_to_one signals target operands (function_rows op) ≡ true → list_any is_signal operands ≡ true → HaveValues instant operands values → Gives range (function_of op) values v → Met signals instant target op operands v
 function_met range signals instant target Id operands values v kinds fits speaks have gives =
     let found = one_operand signals operands (sort_of target) (handed_row signals target operands fits) in
@@ -451,7 +451,7 @@ function_met range signals instant target Div operands values v kinds fits speak
 function_met range signals instant target Mod operands values v kinds fits speaks have gives = refl
 
 -- a target that is there has a kind
-target_kind : (signals : List Signal) (y : SigId) (form : Form) → target_fits signals (kind_at signals y) form ≡ true → (k : Kind) × (kind_at signals y ≡ Some k) × (defines_well signals k form ≡ true)
+pub target_kind : (signals : List Signal) (y : SigId) (form : Form) → target_fits signals (kind_at signals y) form ≡ true → (k : Kind) × (kind_at signals y ≡ Some k) × (defines_well signals k form ≡ true)
 target_kind signals y form fits = by (kind_at signals y) refl where
   by : (found : Option Kind) → kind_at signals y ≡ found → (k : Kind) × (kind_at signals y ≡ Some k) × (defines_well signals k form ≡ true)
   by None e = absurd (false≢true (sym (ap (λ k. target_fits signals k form) e) ∙ fits))

@@ -1,7 +1,12 @@
 pub mod Accepted
 pub mod Agreement
+pub mod Doing
+pub mod Equations
 pub mod Flows
 pub mod Longest
+pub mod Reacting
 pub mod References
 pub mod Results
+pub mod Steps
+pub mod Truths
 pub mod Values

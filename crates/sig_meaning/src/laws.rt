@@ -48,3 +48,8 @@ pub fn accepted_kernels_react_once()
     ensures { (plan : PlanView) → IsAccepted plan → (memory : Memory) (next : ℕ → ℤ) (a b : Instant)
         → IsNext plan.kernel memory next a → IsNext plan.kernel memory next b → a ≡ b }
 {}
+
+/// A law: an accepted kernel has one reaction.
+pub fn accepted_kernels_have_one_reaction()
+    ensures { (plan : PlanView) → IsAccepted plan → HasOneReaction plan.kernel }
+{}
