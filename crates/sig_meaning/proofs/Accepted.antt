@@ -29,7 +29,7 @@ compiled plan accepted = record {
       let at : get_or plan.ops number from.0 ≡ from.0 = (let e : Some (get_or plan.ops number from.0) ≡ Some from.0 = sym (get_at plan.ops number from.0 lt) ∙ from.1 in cc) in
       let held : Holds plan.store.nodes from.0.guard = subst (λ (op : Op). Holds plan.store.nodes op.guard) at (accepted.operations.held number from.0 lt) in
       let agree : test plan.store.nodes from.0.guard truths ≡ test plan.store.nodes from.0.guard others =
-          depends_agree plan.store accepted.store from.0.guard held truths others
-          (λ v depends. same v (subst (λ (q : Operation). Depends q.guard v) (sym from.2) depends)) in
+      depends_agree plan.store accepted.store from.0.guard held truths others
+      (λ v depends. same v (subst (λ (q : Operation). Depends q.guard v) (sym from.2) depends)) in
       subst (λ (q : Operation). q.guard truths ≡ q.guard others) (sym from.2) agree;
 }

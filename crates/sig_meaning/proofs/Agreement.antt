@@ -76,7 +76,7 @@ pub keeps_to_own : (kernel : Kernel) (memory : Memory) (instant : Instant) (cond
 keeps_to_own kernel memory instant conditions order is v c at =
     let there = condition_signal kernel conditions order v c at in
     let status : status_at (abstraction_of kernel.signals instant) c.0 ≡ status_of Boolean (seen_at instant c.0) =
-        abstract_status Unbounded kernel memory instant is c.0 there.0 there.1 ∙ ap (λ kind. status_of kind (seen_at instant c.0)) there.2 in
+    abstract_status Unbounded kernel memory instant is c.0 there.0 there.1 ∙ ap (λ kind. status_of kind (seen_at instant c.0)) there.2 in
     rw status (subst (λ t. Allows (status_of Boolean (seen_at instant c.0)) t) (sym (truth_at conditions (seen_at instant) v c at)) (by (seen_at instant c.0))) where
       by : (seen : Seen) → Allows (status_of Boolean seen) (is_true seen)
       by None = tt
@@ -160,7 +160,7 @@ module _ (kernel : Kernel) (conditions : List SigId) (operations : List Operatio
       let signal = condition_signal kernel conditions c.has.order v there.0 there.1 in
       let needs : Needs conditions q there.0 = record { variable = v; is = there.1; depends = depends } in
       let same : seen_at a there.0.0 ≡ seen_at b there.0.0 = same_condition k before there.0 (get_within kernel.signals there.0.0 signal.0 signal.1)
-          (λ number p is_p writes. needed_earlier kernel c.valid conditions operations c.has order c.ordered k lt q at there.0 needs number p is_p writes) in
+      (λ number p is_p writes. needed_earlier kernel c.valid conditions operations c.has order c.ordered k lt q at there.0 needs number p is_p writes) in
       truth_at conditions (seen_at a) v there.0 there.1 ∙ ap is_true same ∙ sym (truth_at conditions (seen_at b) v there.0 there.1))
 
   same_value : (k : ℕ) → k < length operations → SameBefore k → (q : Operation) → slice_get operations (slice_index order k) ≡ Some q → SameAt q
@@ -172,8 +172,8 @@ module _ (kernel : Kernel) (conditions : List SigId) (operations : List Operatio
             let one = own_seen kernel conditions operations order c memory next a is (slice_index order k) q x at writes yes in
             let two = own_seen kernel conditions operations order c memory next b also (slice_index order k) q x at writes (sym done ∙ yes) in
             let reads = value_by_reads kernel conditions operations c.has memory next (slice_index order k) q at (seen_at a) (seen_at b) (λ y there.
-                let e = read_earlier kernel c.valid conditions operations c.has order c.ordered k lt q at by_a yes y there in
-                (before e.0 e.2 e.1 e.3).seen y e.4 e.5) in
+            let e = read_earlier kernel c.valid conditions operations c.has order c.ordered k lt q at by_a yes y there in
+            (before e.0 e.2 e.1 e.3).seen y e.4 e.5) in
             one ∙ ap Some reads ∙ sym two;
       }
 

@@ -126,7 +126,7 @@ module _ (kernel : Kernel) (conditions : List SigId) (operations : List Operatio
         let there = some_at conditions v (guards_alone kernel c.valid conditions operations c.has (slice_index order k) q at v depends) in
         let needs : Needs conditions q there.0 = record { variable = v; is = there.1; depends = depends } in
         let same : final there.0.0 ≡ run k there.0.0 = settled k there.0.0 (omega (arith, lt)) (λ number p y is_p writes e.
-            needed_earlier kernel c.valid conditions operations c.has order c.ordered k lt q at there.0 needs number p is_p (writes ∙ ap Some (same_id y there.0 e))) in
+        needed_earlier kernel c.valid conditions operations c.has order c.ordered k lt q at there.0 needs number p is_p (writes ∙ ap Some (same_id y there.0 e))) in
         truth_at conditions (run k) v there.0 there.1 ∙ ap is_true (sym same) ∙ sym (truth_at conditions final v there.0 there.1))
 
     -- a reaction that keeps to the final truths
@@ -139,7 +139,7 @@ module _ (kernel : Kernel) (conditions : List SigId) (operations : List Operatio
     one_writer i j p x lt at writes done below w =
         let also : w.operation.guard truths ≡ true = sym (guard_settled j below w.operation w.is) ∙ w.done in
         let one = written_by_one kernel c.valid conditions operations c.has truths reaction.0 reaction.1 reaction.2 (slice_index order i) (slice_index order j) p w.operation x at w.is writes
-            (w.writes ∙ ap Some (same_id w.signal x w.same)) done also in
+        (w.writes ∙ ap Some (same_id w.signal x w.same)) done also in
         stands_once Rule count order c.ordered i j lt below one
 
     -- what an operation that is done writes stays
@@ -156,10 +156,11 @@ module _ (kernel : Kernel) (conditions : List SigId) (operations : List Operatio
     pub read_there : (k : ℕ) → k < count → (q : Operation) → slice_get operations (slice_index order k) ≡ Some q → q.guard truths ≡ true → (x : SigId) → Contains q.reads x
         → (v : ℤ) × (run k x.0 ≡ Some v) × (final x.0 ≡ Some v)
     read_there k lt q at done x there =
-        let e = read_earlier kernel c.valid conditions operations c.has order c.ordered k lt q at truths done x there in
-        (value kernel memory next (run e.0) e.1,
-        written_stays e.0 k e.1 x e.2 (omega (arith, lt)) e.3 e.4 e.5,
-        written_stays e.0 count e.1 x (omega (arith, e.2, lt)) (omega arith) e.3 e.4 e.5)
+        let e = read_earlier kernel c.valid conditions operations c.has order c.ordered k lt q at truths done x there in (
+          value kernel memory next (run e.0) e.1,
+          written_stays e.0 k e.1 x e.2 (omega (arith, lt)) e.3 e.4 e.5,
+          written_stays e.0 count e.1 x (omega (arith, e.2, lt)) (omega arith) e.3 e.4 e.5,
+        )
 
     -- what is written in the end, by what is read in the end
     pub finally_written : (k : ℕ) → k < count → (q : Operation) → slice_get operations (slice_index order k) ≡ Some q → q.guard truths ≡ true → (x : SigId) → Writes q x
@@ -186,6 +187,6 @@ module _ (kernel : Kernel) (conditions : List SigId) (operations : List Operatio
           ap is_some (finally_written p.0 p.1 w.1 p.2 w.4 x w.3)
       by false e = ap is_some (unchanged 0 count x.0 (omega arith) (λ j above below w.
           let present = written_present kernel c.valid conditions operations c.has truths reaction.0 reaction.1 reaction.2 (slice_index order j) w.operation w.signal w.is w.writes
-              (sym (guard_settled j below w.operation w.is) ∙ w.done) in
+          (sym (guard_settled j below w.operation w.is) ∙ w.done) in
           let same : is_present reaction.0 w.signal.0 ≡ false = ap (is_present reaction.0) w.same ∙ e in
           let clash : true ≡ false = sym present ∙ same in cc) ∙ ap (λ r. r x.0) run_none)

@@ -120,9 +120,10 @@ module _ (kernel : Kernel) (valid : IsValid kernel) (memory : Memory) (next : �
   all_absent [] within none = tt
   all_absent (Sig x ∷ operands) within none =
       let lt = first_below (length kernel.signals) x (list_all (operand_within (length kernel.signals)) operands) within in
-      let parts = and_parts (same_truth false (is_present a x.0)) (list_all (is_with a false) operands) none in
-      (seen x lt ∙ absent x lt (no_status (status_at a x.0) (sym (truths_are_same false (is_present a x.0) parts.0))),
-      all_absent operands (and_parts (is_below (length kernel.signals) x) (list_all (operand_within (length kernel.signals)) operands) within).1 parts.1)
+      let parts = and_parts (same_truth false (is_present a x.0)) (list_all (is_with a false) operands) none in (
+        seen x lt ∙ absent x lt (no_status (status_at a x.0) (sym (truths_are_same false (is_present a x.0) parts.0))),
+        all_absent operands (and_parts (is_below (length kernel.signals) x) (list_all (operand_within (length kernel.signals)) operands) within).1 parts.1,
+      )
   all_absent (Const c ∷ operands) within none = all_absent operands within none
 
   all_present : (operands : List Operand) → list_all (operand_within (length kernel.signals)) operands ≡ true → list_all (is_with a true) operands ≡ true
@@ -131,9 +132,10 @@ module _ (kernel : Kernel) (valid : IsValid kernel) (memory : Memory) (next : �
   all_present (Sig x ∷ operands) within some =
       let lt = first_below (length kernel.signals) x (list_all (operand_within (length kernel.signals)) operands) within in
       let parts = and_parts (same_truth true (is_present a x.0)) (list_all (is_with a true) operands) some in
-      let found = where_some (final x.0) (present x lt ∙ sym (truths_are_same true (is_present a x.0) parts.0)) in
-      (seen x lt ∙ found.1 ∙ ap Some (sym (hold x found.0 found.1)),
-      all_present operands (and_parts (is_below (length kernel.signals) x) (list_all (operand_within (length kernel.signals)) operands) within).1 parts.1)
+      let found = where_some (final x.0) (present x lt ∙ sym (truths_are_same true (is_present a x.0) parts.0)) in (
+        seen x lt ∙ found.1 ∙ ap Some (sym (hold x found.0 found.1)),
+        all_present operands (and_parts (is_below (length kernel.signals) x) (list_all (operand_within (length kernel.signals)) operands) within).1 parts.1,
+      )
   all_present (Const c ∷ operands) within some = (refl, all_present operands within some)
 
   function_met : (number : EqId) (y : SigId) (op : FunOp) (operands : List Operand) → Equated number (Fun y op operands) → IsFunction Unbounded (function_of op) now operands (seen_at now y.0)
@@ -153,9 +155,11 @@ module _ (kernel : Kernel) (valid : IsValid kernel) (memory : Memory) (next : �
     by true some =
         let target = of_target y (Fun y op operands) e.fits in
         let it = compute number (Fun y op operands) y (signals_of operands) e lt (contains_head (writing kernel.signals number Compute (presence y) y (signals_of operands)) []) some in
-        subst (λ s. IsFunction Unbounded (function_of op) now operands s) (sym (seen y lt ∙ it))
-        (map (operand_in final) operands, all_present operands within (subst (λ b. list_all (is_with a b) operands ≡ true) some beside),
-        given (function_of op) (map (operand_in final) operands) (length-map operands (operand_in final) ∙ operands_counted kernel.signals target.0.kind op operands target.2))
+        subst (λ s. IsFunction Unbounded (function_of op) now operands s) (sym (seen y lt ∙ it)) (
+          map (operand_in final) operands,
+          all_present operands within (subst (λ b. list_all (is_with a b) operands ≡ true) some beside),
+          given (function_of op) (map (operand_in final) operands) (length-map operands (operand_in final) ∙ operands_counted kernel.signals target.0.kind op operands target.2),
+        )
 
   -- ---- the other forms
 
@@ -356,10 +360,12 @@ module _ (kernel : Kernel) (valid : IsValid kernel) (memory : Memory) (next : �
         let it : final input ≡ Some v = sym (seen (signal_id input) below) ∙ at in
         let there : is_present a input ≡ true = sym (present (signal_id input) below) ∙ ap is_some it in
         let found : final input ≡ Some (next input) = written (read_of kernel.signals presence (signal_id input))
-            (Contains-append_left _ (of_each (stores_of kernel.signals presence) 0 kernel.equations) (read_of kernel.signals presence (signal_id input))
-            (Contains-append_left (map (λ number. read_of kernel.signals presence (signal_id number)) (range_with_len 0 kernel.inputs)) (of_each (writes_of kernel.signals presence) 0 kernel.equations) (read_of kernel.signals presence (signal_id input))
-            (input, omega (arith, lt, length-map-range_with_len (λ number. read_of kernel.signals presence (signal_id number)) 0 kernel.inputs),
-            get_or-map-range_with_len (λ number. read_of kernel.signals presence (signal_id number)) 0 kernel.inputs input input (read_of kernel.signals presence (signal_id input)) lt (omega arith))))
-            (sym (there_at (signal_id input) below) ∙ there) (signal_id input) refl in
+        (Contains-append_left _ (of_each (stores_of kernel.signals presence) 0 kernel.equations) (read_of kernel.signals presence (signal_id input))
+        (Contains-append_left (map (λ number. read_of kernel.signals presence (signal_id number)) (range_with_len 0 kernel.inputs)) (of_each (writes_of kernel.signals presence) 0 kernel.equations) (read_of kernel.signals presence (signal_id input)) (
+          input,
+          omega (arith, lt, length-map-range_with_len (λ number. read_of kernel.signals presence (signal_id number)) 0 kernel.inputs),
+          get_or-map-range_with_len (λ number. read_of kernel.signals presence (signal_id number)) 0 kernel.inputs input input (read_of kernel.signals presence (signal_id input)) lt (omega arith),
+        )))
+        (sym (there_at (signal_id input) below) ∙ there) (signal_id input) refl in
         let e : Some v ≡ Some (next input) = sym it ∙ found in cc;
   }

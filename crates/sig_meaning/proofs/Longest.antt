@@ -303,7 +303,7 @@ cut_longest {kernel} {flows} f limit trace cut = record {
     by (inl at) (inr more) = begins (omega (arith, at, few))
     by (inr stops) (inr more) =
         let longer : IsPrefixOf (trace ++ stops.1 ∷ []) other =
-            reference_begins f (length trace + 1) (length other) (trace ++ stops.1 ∷ []) other (omega (arith, more)) stops.2.next (clean f other is fits none).reference in
+        reference_begins f (length trace + 1) (length other) (trace ++ stops.1 ∷ []) other (omega (arith, more)) stops.2.next (clean f other is fits none).reference in
         absurd (stops.2.beyond (clean_back kernel flows trace stops.1 (prefix_trace Bounded kernel (trace ++ stops.1 ∷ []) other longer is) (prefix_fits flows (trace ++ stops.1 ∷ []) other longer fits)))
 
 pub some_longest : {kernel : Kernel} {flows : List (List ℤ)} → Fitting kernel flows → (limit : ℕ) → (trace : Trace) × IsLongest (IsKernelTrace kernel) flows limit trace

@@ -95,13 +95,14 @@ module _ (kernel : Kernel) (conditions : List SigId) (operations : List Operatio
         let same_value : value kernel memory next (R k) q ≡ v = (let f : Some (value kernel memory next (R k) q) ≡ Some v = sym written ∙ ap (R (suc k)) e ∙ held in cc) in
         let own_y : slice_get kernel.signals y.0 ≡ Some signal = ap (slice_get kernel.signals) e ∙ own in
         let fit = one_fit kernel c.valid memory next memories nexts c.has.presence A (reaction kernel conditions operations order memory next c).1.is P at_presence (R k) known q
-            (subst (λ (ps : List Operation). Contains ps q) c.has.are (contains_at operations (slice_index order k) q at)) y writes done signal own_y
-            (λ z there. let r = read_there kernel conditions operations order memory next c k lt q at done z there in ap is_some r.1) in
+        (subst (λ (ps : List Operation). Contains ps q) c.has.are (contains_at operations (slice_index order k) q at)) y writes done signal own_y
+        (λ z there. let r = read_there kernel conditions operations order memory next c k lt q at done z there in ap is_some r.1) in
         let present = written_present kernel c.valid conditions operations c.has P A (reaction kernel conditions operations order memory next c).1 (reaction kernel conditions operations order memory next c).2
-            (slice_index order k) q y at writes done in
-        let finally : F y.0 ≡ Some v = written_stays kernel conditions operations order memory next c k (length operations) q y lt (omega arith) at writes done ∙ ap Some same_value in
-        (subst (λ w. IsValue Unbounded signal.kind w) same_value fit.0,
-        sym (ap (status_at A) e) ∙ status y (is_condition kernel y.0) refl own_y present finally (λ free. fit.1 free ∙ ap (λ w. Some (truth_of_value signal.kind w)) same_value)) where
+        (slice_index order k) q y at writes done in
+        let finally : F y.0 ≡ Some v = written_stays kernel conditions operations order memory next c k (length operations) q y lt (omega arith) at writes done ∙ ap Some same_value in (
+          subst (λ w. IsValue Unbounded signal.kind w) same_value fit.0,
+          sym (ap (status_at A) e) ∙ status y (is_condition kernel y.0) refl own_y present finally (λ free. fit.1 free ∙ ap (λ w. Some (truth_of_value signal.kind w)) same_value),
+        ) where
           status : (y : SigId) (b : Bool) → is_condition kernel y.0 ≡ b → slice_get kernel.signals y.0 ≡ Some signal → is_present A y.0 ≡ true → F y.0 ≡ Some v
               → (is_condition kernel y.0 ≡ false → status_at A y.0 ≡ Some (truth_of_value signal.kind v)) → status_at A y.0 ≡ Some (truth_of_value signal.kind v)
           status y true is own_y present finally rest = condition_status y signal v own_y is present finally
@@ -163,9 +164,11 @@ module _ (kernel : Kernel) (conditions : List SigId) (operations : List Operatio
       finally_written kernel conditions operations order memory next c place.0 place.1 p place.2 done y writes
 
   pub some_next : (instant : Instant) × IsNext kernel memory next instant
-  some_next = (instant_of (length kernel.signals) F,
-      next_instant kernel c.valid memory next c.has.presence A (reaction kernel conditions operations order memory next c).1.is P at_presence F (known_all (length operations) (omega arith))
-      (λ x lt. finally_present kernel conditions operations order memory next c x lt) written_of (reaction kernel conditions operations order memory next c).1.some)
+  some_next = (
+    instant_of (length kernel.signals) F,
+    next_instant kernel c.valid memory next c.has.presence A (reaction kernel conditions operations order memory next c).1.is P at_presence F (known_all (length operations) (omega arith))
+        (λ x lt. finally_present kernel conditions operations order memory next c x lt) written_of (reaction kernel conditions operations order memory next c).1.some,
+  )
 
 -- a compiled kernel has one reaction
 pub one_reaction : (kernel : Kernel) (conditions : List SigId) (operations : List Operation) (order : List ℕ) → Compiled kernel conditions operations order → HasOneReaction kernel

@@ -52,7 +52,7 @@ next_values kernel flows trace fit input signal lt is =
     let there : slice_get (inputs_of kernel) input ≡ Some signal = taken_at kernel.signals kernel.inputs input signal lt is in
     let at = got (inputs_of kernel) input signal signal there in
     let values : AllByRecursion (IsValue Bounded signal.kind) (get_or flows input []) =
-        subst (λ (s : Signal). AllByRecursion (IsValue Bounded s.kind) (get_or flows input [])) at.1 (flow_values kernel flows fit input signal at.0) in
+    subst (λ (s : Signal). AllByRecursion (IsValue Bounded s.kind) (get_or flows input [])) at.1 (flow_values kernel flows fit input signal at.0) in
     let last : last_value kernel input ≡ filler signal.kind = ap fill there in
     subst (λ d. IsValue Unbounded signal.kind (get_or (get_or flows input []) (length (flow_of input trace)) d)) (sym last)
     (value_or_filled signal.kind (get_or flows input []) (length (flow_of input trace)) values)
@@ -121,12 +121,15 @@ split_last {A} (x ∷ y ∷ xs) (suc n) e =
     (x ∷ rest.0, rest.1, ap (λ list. x ∷ list) rest.2, ap suc rest.3)
 
 pub some_reference : {kernel : Kernel} {flows : List (List ℤ)} → Fitting kernel flows → (count : ℕ) → (trace : Trace) × IsReference kernel flows count trace
-some_reference {kernel} {flows} f zero = ([], record {
-  is = no_instants Unbounded kernel;
-  speaks = tt;
-  instants = refl;
-  fits = follows_fits kernel flows 0 [] f.fit.count (omega arith) (λ input lt. tt);
-})
+some_reference {kernel} {flows} f zero = (
+  [],
+  record {
+    is = no_instants Unbounded kernel;
+    speaks = tt;
+    instants = refl;
+    fits = follows_fits kernel flows 0 [] f.fit.count (omega arith) (λ input lt. tt);
+  },
+)
 some_reference {kernel} {flows} f (suc count) =
     let before = some_reference f count in
     let next = f.one.some (remembered before.0) (next_in kernel flows before.0) (memory_values kernel before.0 f.valid before.1.is) (next_values kernel flows before.0 f.fit) in
@@ -148,7 +151,7 @@ one_reference {kernel} {flows} f (suc count) a b is other =
     let same : s.0 ≡ t.0 = one_reference f count s.0 t.0 front front_too in
     let next : IsNext kernel (remembered s.0) (next_in kernel flows s.0) s.1 = reference_last f (suc count) s.0 s.1 whole in
     let next_too : IsNext kernel (remembered s.0) (next_in kernel flows s.0) t.1 =
-        subst (λ trace. IsNext kernel (remembered trace) (next_in kernel flows trace) t.1) (sym same) (reference_last f (suc count) t.0 t.1 whole_too) in
+    subst (λ trace. IsNext kernel (remembered trace) (next_in kernel flows trace) t.1) (sym same) (reference_last f (suc count) t.0 t.1 whole_too) in
     let last : s.1 ≡ t.1 = f.one.one (remembered s.0) (next_in kernel flows s.0) (memory_values kernel s.0 f.valid front.is) (next_values kernel flows s.0 f.fit) s.1 t.1 next next_too in
     s.2 ∙ ap (λ trace. trace ++ s.1 ∷ []) same ∙ ap (λ instant. t.0 ++ instant ∷ []) last ∙ sym t.2
 

@@ -59,10 +59,11 @@ of_kinds_from : (signals : List Signal) (registers : Registers) (a : ℕ) → ((
     → AreOfKinds Unbounded (map (λ (signal : Signal). signal.kind) signals) (map registers (range_with_len a (length signals)))
 of_kinds_from [] registers a each = tt
 of_kinds_from (s ∷ signals) registers a each =
-    let here : a + 0 ≡ a = omega arith in
-    (subst (λ k. IsOfKind Unbounded s.kind (registers k)) here (each 0 s refl),
-    of_kinds_from signals registers (a + 1) (λ k signal is.
-    let next : a + suc k ≡ a + 1 + k = omega arith in subst (λ n. IsOfKind Unbounded signal.kind (registers n)) next (each (suc k) signal is)))
+    let here : a + 0 ≡ a = omega arith in (
+      subst (λ k. IsOfKind Unbounded s.kind (registers k)) here (each 0 s refl),
+      of_kinds_from signals registers (a + 1) (λ k signal is.
+          let next : a + suc k ≡ a + 1 + k = omega arith in subst (λ n. IsOfKind Unbounded signal.kind (registers n)) next (each (suc k) signal is)),
+    )
 
 pub of_kinds : (signals : List Signal) (registers : Registers) → ((k : ℕ) (signal : Signal) → slice_get signals k ≡ Some signal → IsOfKind Unbounded signal.kind (registers k))
     → AreOfKinds Unbounded (map (λ (signal : Signal). signal.kind) signals) (instant_of (length signals) registers)
@@ -109,7 +110,7 @@ pub freed_condition : (kernel : Kernel) (y : SigId) (form : Form) (at : Span) �
 freed_condition kernel y form at there free signal own boolean =
     let kind : is_boolean_kind (kind_of (slice_get kernel.signals y.0)) ≡ true = ap (λ o. is_boolean_kind (kind_of o)) own ∙ ap (λ k. is_boolean_kind (Some k)) boolean in
     let some : list_any (frees kernel.signals y.0) kernel.equations ≡ true =
-        any_at (frees kernel.signals y.0) kernel.equations there.0 (record { form = form; at = at }) (at_contained kernel.equations (record { form = form; at = at }) there) (ap (is_number y.0) free ∙ itself y.0) in
+    any_at (frees kernel.signals y.0) kernel.equations there.0 (record { form = form; at = at }) (at_contained kernel.equations (record { form = form; at = at }) there) (ap (is_number y.0) free ∙ itself y.0) in
     ap (λ b. b && is_free kernel y.0) kind ∙ ap (λ b. nat_lt y.0 kernel.inputs || b) some ∙ or-true (nat_lt y.0 kernel.inputs)
 
 pub input_condition : (kernel : Kernel) (number : ℕ) → number < kernel.inputs → (signal : Signal) → slice_get kernel.signals number ≡ Some signal → signal.kind ≡ Boolean → is_condition kernel number ≡ true
@@ -181,63 +182,77 @@ module _ (kernel : Kernel) (valid : IsValid kernel) (memory : Memory) (next : �
       → is_some (registers x.0) ≡ true → Fit signal.kind y (value_in registers x)
   when_fit number y x b signal e own done some =
       let rows = where_rows kernel.signals signal.kind (Sig x) (Sig b) (target_form y (When y x b) signal e.fits own) in
-      let h = handed x signal.kind rows.0 some in
-      (h.0, λ free.
-      let t = status_there y (target_below (length kernel.signals) (When y x b) y e.within refl) done in
-      let same = statuses_equal (status_at a y.0) (where_true (status_at a b.0) (status_at a x.0)) e.met in
-      let s = sampled (status_at a b.0) (status_at a x.0) t.0 (sym same ∙ t.1) in
-      t.1 ∙ sym s.1 ∙ h.1)
+      let h = handed x signal.kind rows.0 some in (
+        h.0,
+        λ free.
+            let t = status_there y (target_below (length kernel.signals) (When y x b) y e.within refl) done in
+            let same = statuses_equal (status_at a y.0) (where_true (status_at a b.0) (status_at a x.0)) e.met in
+            let s = sampled (status_at a b.0) (status_at a x.0) t.0 (sym same ∙ t.1) in
+            t.1 ∙ sym s.1 ∙ h.1,
+      )
 
   constant_fit : (number : EqId) (y b : SigId) (constant : ℤ) (signal : Signal) → HasEquation number (WhenConst y constant b) → slice_get kernel.signals y.0 ≡ Some signal → presence y proposal ≡ true
       → Fit signal.kind y constant
-  constant_fit number y b constant signal e own done =
-      (wide signal.kind constant (sampled_value kernel y b constant e.span signal.kind valid.equations e.there (ap kind_of own)), λ free.
-      let t = status_there y (target_below (length kernel.signals) (WhenConst y constant b) y e.within refl) done in
-      let same = statuses_equal (status_at a y.0) (where_true (status_at a b.0) (Some (constant_truth (kind_at kernel.signals y) constant))) e.met in
-      let s = sampled (status_at a b.0) (Some (constant_truth (kind_at kernel.signals y) constant)) t.0 (sym same ∙ t.1) in
-      t.1 ∙ sym s.1 ∙ ap (λ o. Some (constant_truth (kind_of o) constant)) own ∙ ap Some (constant_is signal.kind constant))
+  constant_fit number y b constant signal e own done = (
+    wide signal.kind constant (sampled_value kernel y b constant e.span signal.kind valid.equations e.there (ap kind_of own)),
+    λ free.
+        let t = status_there y (target_below (length kernel.signals) (WhenConst y constant b) y e.within refl) done in
+        let same = statuses_equal (status_at a y.0) (where_true (status_at a b.0) (Some (constant_truth (kind_at kernel.signals y) constant))) e.met in
+        let s = sampled (status_at a b.0) (Some (constant_truth (kind_at kernel.signals y) constant)) t.0 (sym same ∙ t.1) in
+        t.1 ∙ sym s.1 ∙ ap (λ o. Some (constant_truth (kind_of o) constant)) own ∙ ap Some (constant_is signal.kind constant),
+  )
 
   event_fit : (number : EqId) (y x : SigId) (signal : Signal) → HasEquation number (EventOf y x) → slice_get kernel.signals y.0 ≡ Some signal → presence y proposal ≡ true → Fit signal.kind y (pos 1)
-  event_fit number y x signal e own done =
-      (one_value signal.kind, λ free.
-      let t = status_there y (target_below (length kernel.signals) (EventOf y x) y e.within refl) done in
-      let same = statuses_equal (status_at a y.0) (where_present (status_at a x.0) true) e.met in
-      t.1 ∙ ap Some (present_truth (status_at a x.0) t.0 (sym same ∙ t.1) ∙ sym (one_truth signal.kind)))
+  event_fit number y x signal e own done = (
+    one_value signal.kind,
+    λ free.
+        let t = status_there y (target_below (length kernel.signals) (EventOf y x) y e.within refl) done in
+        let same = statuses_equal (status_at a y.0) (where_present (status_at a x.0) true) e.met in
+        t.1 ∙ ap Some (present_truth (status_at a x.0) t.0 (sym same ∙ t.1) ∙ sym (one_truth signal.kind)),
+  )
 
   left_fit : (number : EqId) (y u v : SigId) (signal : Signal) → HasEquation number (Default y u v) → slice_get kernel.signals y.0 ≡ Some signal → presence u proposal ≡ true
       → is_some (registers u.0) ≡ true → Fit signal.kind y (value_in registers u)
   left_fit number y u v signal e own done some =
       let rows = merged_rows kernel.signals signal.kind (Sig u) (Sig v) (target_form y (Default y u v) signal e.fits own) in
-      let h = handed u signal.kind rows.0 some in
-      (h.0, λ free.
-      let t = status_there u (first_below (length kernel.signals) u _ (operands_below (length kernel.signals) (Default y u v) e.within)) done in
-      let same = statuses_equal (status_at a y.0) (or_else (status_at a u.0) (status_at a v.0)) e.met in
-      same ∙ ap (λ s. or_else s (status_at a v.0)) t.1 ∙ sym t.1 ∙ h.1)
+      let h = handed u signal.kind rows.0 some in (
+        h.0,
+        λ free.
+            let t = status_there u (first_below (length kernel.signals) u _ (operands_below (length kernel.signals) (Default y u v) e.within)) done in
+            let same = statuses_equal (status_at a y.0) (or_else (status_at a u.0) (status_at a v.0)) e.met in
+            same ∙ ap (λ s. or_else s (status_at a v.0)) t.1 ∙ sym t.1 ∙ h.1,
+      )
 
   right_fit : (number : EqId) (y u v : SigId) (signal : Signal) → HasEquation number (Default y u v) → slice_get kernel.signals y.0 ≡ Some signal → without (presence v) (presence u) proposal ≡ true
       → is_some (registers v.0) ≡ true → Fit signal.kind y (value_in registers v)
   right_fit number y u v signal e own done some =
       let rows = merged_rows kernel.signals signal.kind (Sig u) (Sig v) (target_form y (Default y u v) signal e.fits own) in
-      let h = handed v signal.kind rows.1 some in
-      (h.0, λ free.
-      let parts = and_parts (presence v proposal) (not (presence u proposal)) done in
-      let none = no_status (status_at a u.0) (there_at u (first_below (length kernel.signals) u _ (operands_below (length kernel.signals) (Default y u v) e.within)) ∙ not_true (presence u proposal) parts.1) in
-      let same = statuses_equal (status_at a y.0) (or_else (status_at a u.0) (status_at a v.0)) e.met in
-      same ∙ ap (λ s. or_else s (status_at a v.0)) none ∙ h.1)
+      let h = handed v signal.kind rows.1 some in (
+        h.0,
+        λ free.
+            let parts = and_parts (presence v proposal) (not (presence u proposal)) done in
+            let none = no_status (status_at a u.0) (there_at u (first_below (length kernel.signals) u _ (operands_below (length kernel.signals) (Default y u v) e.within)) ∙ not_true (presence u proposal) parts.1) in
+            let same = statuses_equal (status_at a y.0) (or_else (status_at a u.0) (status_at a v.0)) e.met in
+            same ∙ ap (λ s. or_else s (status_at a v.0)) none ∙ h.1,
+      )
 
   delay_fit : (number : EqId) (y x : SigId) (initial : ℤ) (signal : Signal) → HasEquation number (Delay y x initial) → slice_get kernel.signals y.0 ≡ Some signal → presence y proposal ≡ true
       → Fit signal.kind y (memory y.0 x.0 initial)
-  delay_fit number y x initial signal e own done =
-      (memories y x initial e.span signal.kind e.there (ap kind_of own), λ free.
-      let t = status_there y (target_below (length kernel.signals) (Delay y x initial) y e.within refl) done in
-      plain_status y signal (memory y.0 x.0 initial) t.0 own t.1 (λ boolean.
-      absurd (false≢true (sym free ∙ freed_condition kernel y (Delay y x initial) e.span e.there refl signal own boolean))))
+  delay_fit number y x initial signal e own done = (
+    memories y x initial e.span signal.kind e.there (ap kind_of own),
+    λ free.
+        let t = status_there y (target_below (length kernel.signals) (Delay y x initial) y e.within refl) done in
+        plain_status y signal (memory y.0 x.0 initial) t.0 own t.1 (λ boolean.
+        absurd (false≢true (sym free ∙ freed_condition kernel y (Delay y x initial) e.span e.there refl signal own boolean))),
+  )
 
   read_fit : (number : ℕ) (signal : Signal) → number < kernel.inputs → slice_get kernel.signals number ≡ Some signal → presence (signal_id number) proposal ≡ true → Fit signal.kind (signal_id number) (next number)
-  read_fit number signal lt own done =
-      (nexts number signal lt own, λ free.
-      let t = status_there (signal_id number) (get_within kernel.signals number signal own) done in
-      plain_status (signal_id number) signal (next number) t.0 own t.1 (λ boolean. absurd (false≢true (sym free ∙ input_condition kernel number lt signal own boolean))))
+  read_fit number signal lt own done = (
+    nexts number signal lt own,
+    λ free.
+        let t = status_there (signal_id number) (get_within kernel.signals number signal own) done in
+        plain_status (signal_id number) signal (next number) t.0 own t.1 (λ boolean. absurd (false≢true (sym free ∙ input_condition kernel number lt signal own boolean))),
+  )
 
   -- ---- functions
 
@@ -258,9 +273,10 @@ module _ (kernel : Kernel) (valid : IsValid kernel) (memory : Memory) (next : �
   have_values (Sig x ∷ operands) within there =
       let parts = and_parts (is_below (length kernel.signals) x) (list_all (operand_within (length kernel.signals)) operands) within in
       let found = where_some (registers x.0) (there x (contains_head x (signals_of operands))) in
-      let held : value_in registers x ≡ found.0 = ap (λ (seen : Seen). unwrap_or seen (pos 0)) found.1 in
-      (seen_of (length kernel.signals) registers x.0 (first_below (length kernel.signals) x (list_all (operand_within (length kernel.signals)) operands) within) ∙ found.1 ∙ ap Some (sym held),
-      have_values operands parts.1 (λ y among. there y (contains_later x y (signals_of operands) among)))
+      let held : value_in registers x ≡ found.0 = ap (λ (seen : Seen). unwrap_or seen (pos 0)) found.1 in (
+        seen_of (length kernel.signals) registers x.0 (first_below (length kernel.signals) x (list_all (operand_within (length kernel.signals)) operands) within) ∙ found.1 ∙ ap Some (sym held),
+        have_values operands parts.1 (λ y among. there y (contains_later x y (signals_of operands) among)),
+      )
   have_values (Const c ∷ operands) within there = (refl, have_values operands within there)
 
   same_truths : (operands : List Operand) → list_all (operand_within (length kernel.signals)) operands ≡ true → AreThere operands
@@ -309,8 +325,11 @@ module _ (kernel : Kernel) (valid : IsValid kernel) (memory : Memory) (next : �
 
   function_fit : (number : EqId) (y : SigId) (op : FunOp) (operands : List Operand) (signal : Signal) → HasEquation number (Fun y op operands) → slice_get kernel.signals y.0 ≡ Some signal
       → presence y proposal ≡ true → AreThere operands → Fit signal.kind y (result_of (function_of op) (map (operand_in registers) operands))
-  function_fit number y op operands signal e own done there = (function_value signal.kind op operands well e.speaks there, λ free.
-      plain_status y signal (result_of (function_of op) (map (operand_in registers) operands)) t.0 own t.1 (λ boolean. by free boolean (compares kernel.signals op operands) refl)) where
+  function_fit number y op operands signal e own done there = (
+    function_value signal.kind op operands well e.speaks there,
+    λ free.
+        plain_status y signal (result_of (function_of op) (map (operand_in registers) operands)) t.0 own t.1 (λ boolean. by free boolean (compares kernel.signals op operands) refl),
+  ) where
     well : keeps_to_one kernel.signals signal.kind operands (function_rows op) ≡ true
     well = target_form y (Fun y op operands) signal e.fits own
 
@@ -328,15 +347,15 @@ module _ (kernel : Kernel) (valid : IsValid kernel) (memory : Memory) (next : �
         let told = truth_told kernel.signals op operands (map (operand_truth a) operands) well_boolean compared (length-map operands (operand_truth a)) in
         let of_a : function_truth kernel.signals a op operands ≡ Some told.0 = ap (λ b. cond b None (truth_function op (map (operand_truth a) operands))) compared ∙ told.1 in
         let of_now : function_truth kernel.signals (abstraction_of kernel.signals now) op operands ≡ Some told.0 =
-            ap (λ b. cond b None (truth_function op (map (operand_truth (abstraction_of kernel.signals now)) operands))) compared ∙ ap (truth_function op) (same_truths operands within there) ∙ told.1 in
+        ap (λ b. cond b None (truth_function op (map (operand_truth (abstraction_of kernel.signals now)) operands))) compared ∙ ap (truth_function op) (same_truths operands within there) ∙ told.1 in
         let parts = and_parts (list_all (is_with a (is_present a y.0)) operands) (has_truth (status_at a y.0) (function_truth kernel.signals a op operands)) e.met in
         let one : same_truth t.0 told.0 ≡ true = sym (ap (λ f. has_truth (Some t.0) f) of_a) ∙ sym (ap (λ s. has_truth s (function_truth kernel.signals a op operands)) t.1) ∙ parts.1 in
         let gives : Gives Unbounded (function_of op) (map (operand_in registers) operands) (result_of (function_of op) (map (operand_in registers) operands)) =
-            given (function_of op) (map (operand_in registers) operands) (length-map operands (operand_in registers) ∙ operands_counted kernel.signals Boolean op operands well_boolean) in
+        given (function_of op) (map (operand_in registers) operands) (length-map operands (operand_in registers) ∙ operands_counted kernel.signals Boolean op operands well_boolean) in
         let met = function_met Unbounded kernel.signals now Boolean op operands (map (operand_in registers) operands) (result_of (function_of op) (map (operand_in registers) operands)) now_kinds well_boolean e.speaks
-            (have_values operands within there) gives in
+        (have_values operands within there) gives in
         let two : same_truth (int_eq (result_of (function_of op) (map (operand_in registers) operands)) (pos 1)) told.0 ≡ true =
-            sym (ap (λ f. has_truth (Some (int_eq (result_of (function_of op) (map (operand_in registers) operands)) (pos 1))) f) of_now) ∙ met in
+        sym (ap (λ f. has_truth (Some (int_eq (result_of (function_of op) (map (operand_in registers) operands)) (pos 1))) f) of_now) ∙ met in
         truths_are_same t.0 told.0 one ∙ sym (truths_are_same (int_eq (result_of (function_of op) (map (operand_in registers) operands)) (pos 1)) told.0 two)
 
   -- ---- each operation

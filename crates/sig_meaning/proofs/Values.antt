@@ -238,8 +238,12 @@ module _ (kernel : Kernel) (memory : Memory) (next : ℕ → ℤ) (presence : Pr
   pub all_seen : IsValid kernel → IsReaction Unbounded kernel memory instant → ((input : ℕ) (v : ℤ) → input < kernel.inputs → seen_at instant input ≡ Some v → v ≡ next input)
       → All IsSeen (operations_of kernel presence)
   all_seen valid is takes = each_operation IsSeen kernel presence IsMet
-      (λ k d lt. (has_form kernel k d lt, at_element (λ (equation : Equation). Meets Unbounded memory instant equation.form) kernel.equations (get_or kernel.equations k d)
-      (contains_at kernel.equations k (get_or kernel.equations k d) (get_at kernel.equations k d lt)) is.equations, valid.equations.within k d lt))
+      (λ k d lt. (
+        has_form kernel k d lt,
+        at_element (λ (equation : Equation). Meets Unbounded memory instant equation.form) kernel.equations (get_or kernel.equations k d)
+            (contains_at kernel.equations k (get_or kernel.equations k d) (get_at kernel.equations k d lt)) is.equations,
+        valid.equations.within k d lt,
+      ))
       (λ number lt z target done.
       let there = present (signal_id number) (omega (arith, lt, valid.parts.interface, valid.parts.declared)) done in
       let e : Some (signal_id number) ≡ Some z = target in
