@@ -3,7 +3,7 @@ use Rattle.std.specs.Prelude.{◌≡◌, ◌<◌, ℕ, length, slice_get, Option
 use Rattle.sig_base.specs.declared.ids.EqId.{EqId}
 use Rattle.sig_base.specs.declared.ids.SigId.{SigId}
 use Rattle.sig_dd.specs.Diagram.{Depends}
-use Rattle.sig_dd.specs.Nodes.{Holds, test}
+use Rattle.sig_dd.specs.Nodes.{Holds, Implies, test}
 use Rattle.sig_model.specs.Actors.{code_of}
 use Rattle.sig_model.specs.Operating.{defined_by}
 use Rattle.sig_model.specs.Progress.{fills}
@@ -41,6 +41,11 @@ pub record IsRunnable (plan : PlanView) : Type 0 where
   pub held : (k number : ℕ) (slot : Slot) → slice_get (code_of plan k).slots number ≡ Some slot → Holds plan.store.nodes slot.guard
   pub needs : (k number : ℕ) (slot : Slot) → slice_get (code_of plan k).slots number ≡ Some slot
       → (v : ℕ) → Depends (test plan.store.nodes slot.guard) v → v < length plan.clocks.conditions
+  -- a slot is met first behind all that stand before it; a guard implies that of its slot's parent, which stands before it
+  pub first : (k number earlier : ℕ) (step : Step) → slice_get (code_of plan k).steps number ≡ Some step → earlier < step.slot
+      → (m : ℕ) × (other : Step) × (m < number) × (slice_get (code_of plan k).steps m ≡ Some other) × (other.slot ≡ earlier)
+  pub parents : (k number parent : ℕ) (slot : Slot) → slice_get (code_of plan k).slots number ≡ Some slot → slot.parent ≡ Some parent
+      → (parent < number) × (above : Slot) × (slice_get (code_of plan k).slots parent ≡ Some above) × Implies plan.store.nodes slot.guard above.guard
   -- a condition that a step's guard needs is filled by earlier steps alone
   pub earlier : (k number filling v : ℕ) (slot : Slot) (condition : SigId) → IsInSlot plan k number slot
       → Depends (test plan.store.nodes slot.guard) v → slice_get plan.clocks.conditions v ≡ Some condition
