@@ -23,11 +23,13 @@ use Rattle.sig_kernel.specs.Table.{kind_at, kind_of}
 use Rattle.sig_kernel.specs.Validity.{IsValid}
 use Rattle.sig_kernel.specs.declared.kernel.Kernel.{Kernel}
 use Rattle.sig_meaning.specs.Reactions.{IsNext}
-use Rattle.sig_meaning.proofs.Values.{all_depend, all_seen, none_where, value, where_some}
+use Rattle.sig_meaning.proofs.Values.{all_depend, all_seen, form_for, none_where, value, value_by, where_some}
 use Rattle.sig_model.specs.Actors.{Registers, is_true, truths_of}
 use Rattle.sig_plan.specs.Acceptance.{HasOperations}
 use Rattle.sig_plan.specs.Operations.{Operation, operations_of}
 use Rattle.sig_plan.specs.Order.{IsCompiledOrder, Needs, Precedes, Writes}
+use Rattle.sig_plan.specs.declared.op.OpKind.{OpKind}
+use Rattle.sig_plan.specs.declared.op.OpKind.TheVariants.{Read, Compute, Left, Right, DelayRead, Store}
 use Rattle.sig_plan.proofs.Done.{present_written, read_present, written_by_one, written_present}
 use Rattle.sig_plan.proofs.Earlier.{guards_alone, needed_earlier, read_earlier}
 use Rattle.sig_plan.proofs.Indices.{written_below}
@@ -76,7 +78,7 @@ pub keeps_to_own : (kernel : Kernel) (memory : Memory) (instant : Instant) (cond
 keeps_to_own kernel memory instant conditions order is v c at =
     let there = condition_signal kernel conditions order v c at in
     let status : status_at (abstraction_of kernel.signals instant) c.0 ≡ status_of Boolean (seen_at instant c.0) =
-    abstract_status Unbounded kernel memory instant is c.0 there.0 there.1 ∙ ap (λ kind. status_of kind (seen_at instant c.0)) there.2 in
+        abstract_status Unbounded kernel memory instant is c.0 there.0 there.1 ∙ ap (λ kind. status_of kind (seen_at instant c.0)) there.2 in
     rw status (subst (λ t. Allows (status_of Boolean (seen_at instant c.0)) t) (sym (truth_at conditions (seen_at instant) v c at)) (by (seen_at instant c.0))) where
       by : (seen : Seen) → Allows (status_of Boolean seen) (is_true seen)
       by None = tt
@@ -122,12 +124,24 @@ value_by_reads kernel conditions operations has memory next number p at =
     (operations_of kernel has.presence) p (all_depend kernel memory next has.presence)
     (subst (λ (ps : List Operation). Contains ps p) has.are (contains_at operations number p at))
 
+-- and on the next value of an input that is read
+value_by_next : (kernel : Kernel) (memory : Memory) (next other : ℕ → ℤ) (r : Registers) (p : Operation) → ((x : SigId) → p.kind ≡ Read x → next x.0 ≡ other x.0)
+    → value kernel memory next r p ≡ value kernel memory other r p
+value_by_next kernel memory next other r p agree = by p.kind refl where
+  by : (kind : OpKind) → p.kind ≡ kind → value_by memory next r p.reads (form_for kernel p.equation) kind ≡ value_by memory other r p.reads (form_for kernel p.equation) kind
+  by (Read x) e = agree x e
+  by Compute e = refl
+  by Left e = refl
+  by Right e = refl
+  by DelayRead e = refl
+  by (Store f) e = refl
+
 module _ (kernel : Kernel) (conditions : List SigId) (operations : List Operation) (order : List ℕ) (c : Compiled kernel conditions operations order)
-    (memory : Memory) (next : ℕ → ℤ) (a b : Instant) (is : IsNext kernel memory next a) (also : IsNext kernel memory next b) where
-  abbrev by_a : List Bool
+    (memory : Memory) (next other : ℕ → ℤ) (a b : Instant) (is : IsNext kernel memory next a) (also : IsNext kernel memory other b) where
+  abbrev pub by_a : List Bool
   by_a = truths_of conditions (seen_at a)
 
-  abbrev by_b : List Bool
+  abbrev pub by_b : List Bool
   by_b = truths_of conditions (seen_at b)
 
   -- they agree before a place: an operation is done in both or in neither, and where it is, it writes one value
@@ -135,8 +149,12 @@ module _ (kernel : Kernel) (conditions : List SigId) (operations : List Operatio
     pub done : q.guard by_a ≡ q.guard by_b
     pub seen : (x : SigId) → Writes q x → q.guard by_a ≡ true → seen_at a x.0 ≡ seen_at b x.0
 
-  abbrev SameBefore : ℕ → Type 0
+  abbrev pub SameBefore : ℕ → Type 0
   SameBefore k = (i : ℕ) → i < k → (q : Operation) → slice_get operations (slice_index order i) ≡ Some q → SameAt q
+
+  -- an input that is read at a place has one next value in both
+  abbrev pub ReadsAgree : ℕ → Type 0
+  ReadsAgree k = (q : Operation) → slice_get operations (slice_index order k) ≡ Some q → (x : SigId) → q.kind ≡ Read x → q.guard by_a ≡ true → next x.0 ≡ other x.0
 
   -- a condition that is written before a place is the same
   same_condition : (k : ℕ) → SameBefore k → (x : SigId) → x.0 < length kernel.signals
@@ -148,37 +166,43 @@ module _ (kernel : Kernel) (conditions : List SigId) (operations : List Operatio
         let place = earlier w.0 w.1 w.2 w.3 in
         (before place.0 place.1 w.1 (ap (slice_get operations) place.2 ∙ w.2)).seen x w.3 w.4
     by false true e f =
-        let w = own_written kernel conditions operations order c memory next b also x lt f in
+        let w = own_written kernel conditions operations order c memory other b also x lt f in
         let place = earlier w.0 w.1 w.2 w.3 in
         let same = before place.0 place.1 w.1 (ap (slice_get operations) place.2 ∙ w.2) in
         same.seen x w.3 (same.done ∙ w.4)
     by false false e f = none_where (seen_at a x.0) e ∙ sym (none_where (seen_at b x.0) f)
 
-  same_guard : (k : ℕ) → k < length operations → SameBefore k → (q : Operation) → slice_get operations (slice_index order k) ≡ Some q → q.guard by_a ≡ q.guard by_b
+  pub same_guard : (k : ℕ) → k < length operations → SameBefore k → (q : Operation) → slice_get operations (slice_index order k) ≡ Some q → q.guard by_a ≡ q.guard by_b
   same_guard k lt before q at = c.agree (slice_index order k) q at by_a by_b (λ v depends.
       let there = some_at conditions v (guards_alone kernel c.valid conditions operations c.has (slice_index order k) q at v depends) in
       let signal = condition_signal kernel conditions c.has.order v there.0 there.1 in
       let needs : Needs conditions q there.0 = record { variable = v; is = there.1; depends = depends } in
       let same : seen_at a there.0.0 ≡ seen_at b there.0.0 = same_condition k before there.0 (get_within kernel.signals there.0.0 signal.0 signal.1)
-      (λ number p is_p writes. needed_earlier kernel c.valid conditions operations c.has order c.ordered k lt q at there.0 needs number p is_p writes) in
+          (λ number p is_p writes. needed_earlier kernel c.valid conditions operations c.has order c.ordered k lt q at there.0 needs number p is_p writes) in
       truth_at conditions (seen_at a) v there.0 there.1 ∙ ap is_true same ∙ sym (truth_at conditions (seen_at b) v there.0 there.1))
 
-  same_value : (k : ℕ) → k < length operations → SameBefore k → (q : Operation) → slice_get operations (slice_index order k) ≡ Some q → SameAt q
-  same_value k lt before q at =
+  -- what is read at a place is the same
+  pub same_reads : (k : ℕ) → k < length operations → SameBefore k → (q : Operation) → slice_get operations (slice_index order k) ≡ Some q → q.guard by_a ≡ true
+      → (y : SigId) → Contains q.reads y → seen_at a y.0 ≡ seen_at b y.0
+  same_reads k lt before q at yes_a y there =
+      let e = read_earlier kernel c.valid conditions operations c.has order c.ordered k lt q at by_a yes_a y there in
+      (before e.0 e.2 e.1 e.3).seen y e.4 e.5
+
+  pub same_value : (k : ℕ) → k < length operations → ReadsAgree k → SameBefore k → (q : Operation) → slice_get operations (slice_index order k) ≡ Some q → SameAt q
+  same_value k lt agree before q at =
       let done : q.guard by_a ≡ q.guard by_b = same_guard k lt before q at in
       record {
         done = done;
-        seen = λ x writes yes.
-            let one = own_seen kernel conditions operations order c memory next a is (slice_index order k) q x at writes yes in
-            let two = own_seen kernel conditions operations order c memory next b also (slice_index order k) q x at writes (sym done ∙ yes) in
-            let reads = value_by_reads kernel conditions operations c.has memory next (slice_index order k) q at (seen_at a) (seen_at b) (λ y there.
-            let e = read_earlier kernel c.valid conditions operations c.has order c.ordered k lt q at by_a yes y there in
-            (before e.0 e.2 e.1 e.3).seen y e.4 e.5) in
-            one ∙ ap Some reads ∙ sym two;
+        seen = λ x writes yes_a.
+            let one = own_seen kernel conditions operations order c memory next a is (slice_index order k) q x at writes yes_a in
+            let two = own_seen kernel conditions operations order c memory other b also (slice_index order k) q x at writes (sym done ∙ yes_a) in
+            let reads = value_by_reads kernel conditions operations c.has memory next (slice_index order k) q at (seen_at a) (seen_at b) (same_reads k lt before q at yes_a) in
+            let values = value_by_next kernel memory next other (seen_at b) q (λ y kind. agree q at y kind yes_a) in
+            one ∙ ap Some (reads ∙ values) ∙ sym two;
       }
 
-  same_next : (k : ℕ) → suc k ≤ length operations → SameBefore k → SameBefore (suc k)
-  same_next k le before i lt q at = by (at_end i k) where
+  same_next : (k : ℕ) → suc k ≤ length operations → ReadsAgree k → SameBefore k → SameBefore (suc k)
+  same_next k le agree before i lt q at = by (at_end i k) where
     at_end : (i k : ℕ) → (i ≡ k) ⊎ ((i ≡ k) → ⊥)
     at_end zero zero = inl refl
     at_end zero (suc k) = inr (λ e. omega (arith, e))
@@ -189,15 +213,15 @@ module _ (kernel : Kernel) (conditions : List SigId) (operations : List Operatio
     ]
 
     by : (i ≡ k) ⊎ ((i ≡ k) → ⊥) → SameAt q
-    by (inl e) = same_value k (omega (arith, le)) before q (sym (ap (λ j. slice_get operations (slice_index order j)) e) ∙ at)
+    by (inl e) = same_value k (omega (arith, le)) agree before q (sym (ap (λ j. slice_get operations (slice_index order j)) e) ∙ at)
     by (inr differs) = before i (omega (arith, lt, differs)) q at
 
-  pub same_before : (k : ℕ) → k ≤ length operations → SameBefore k
-  same_before zero le = λ i lt q at. absurd (omega (arith, lt))
-  same_before (suc k) le = same_next k le (same_before k (omega (arith, le)))
+  pub same_before : (k : ℕ) → k ≤ length operations → ((i : ℕ) → i < k → ReadsAgree i) → SameBefore k
+  same_before zero le agree = λ i lt q at. absurd (omega (arith, lt))
+  same_before (suc k) le agree = same_next k le (agree k (omega arith)) (same_before k (omega (arith, le)) (λ i lt. agree i (omega (arith, lt))))
 
-  pub same_seen : (x : SigId) → x.0 < length kernel.signals → seen_at a x.0 ≡ seen_at b x.0
-  same_seen x lt = same_condition (length operations) (same_before (length operations) (omega arith)) x lt (λ number p at writes.
+  pub same_seen : ((i : ℕ) → ReadsAgree i) → (x : SigId) → x.0 < length kernel.signals → seen_at a x.0 ≡ seen_at b x.0
+  same_seen agree x lt = same_condition (length operations) (same_before (length operations) (omega arith) (λ i below. agree i)) x lt (λ number p at writes.
       let within = get_within operations number p at in
       let somewhere = stands_somewhere (Precedes conditions operations) (length operations) order c.ordered number within in
       (somewhere.0, omega (arith, somewhere.1, c.ordered.all), get_or_default order somewhere.0 0 number somewhere.1 ∙ somewhere.2))
@@ -213,5 +237,10 @@ module _ (kernel : Kernel) (conditions : List SigId) (operations : List Operatio
       let rest : s ≡ t = same_lists range kinds s t one.1 two.1 (λ x lt. same (suc x) (omega (arith, lt))) in
       cc
 
-  pub same_instant : a ≡ b
-  same_instant = same_lists Unbounded (map (λ (signal : Signal). signal.kind) kernel.signals) a b is.is.kinds also.is.kinds (λ x lt. same_seen (signal_id x) (omega (arith, lt, length-map kernel.signals (λ (signal : Signal). signal.kind))))
+  pub same_instants : ((i : ℕ) → ReadsAgree i) → a ≡ b
+  same_instants agree = same_lists Unbounded (map (λ (signal : Signal). signal.kind) kernel.signals) a b is.is.kinds also.is.kinds
+      (λ x lt. same_seen agree (signal_id x) (omega (arith, lt, length-map kernel.signals (λ (signal : Signal). signal.kind))))
+
+pub same_instant : (kernel : Kernel) (conditions : List SigId) (operations : List Operation) (order : List ℕ) → Compiled kernel conditions operations order → (memory : Memory) (next : ℕ → ℤ) (a b : Instant)
+    → IsNext kernel memory next a → IsNext kernel memory next b → a ≡ b
+same_instant kernel conditions operations order c memory next a b is also = same_instants kernel conditions operations order c memory next next a b is also (λ i q at x kind done. refl)

@@ -45,7 +45,7 @@ use Rattle.sig_plan.specs.declared.op.OpKind.TheVariants.{Compute, DelayRead, Le
 use Rattle.sig_plan.proofs.EachOperation.{first_below, operands_below, second_below, target_below}
 
 -- what an equation makes is among the operations
-among_each : (make : EqId → Form → List Operation) (n : ℕ) (equations : List Equation) (k : ℕ) (d : Equation) (p : Operation) → k < length equations
+pub among_each : (make : EqId → Form → List Operation) (n : ℕ) (equations : List Equation) (k : ℕ) (d : Equation) (p : Operation) → k < length equations
     → Contains (make (equation_id (n + k)) (get_or equations k d).form) p → Contains (of_each make n equations) p
 among_each make n [] k d p lt there = absurd (omega (arith, lt))
 among_each make n (equation ∷ equations) zero d p lt there =

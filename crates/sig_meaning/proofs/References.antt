@@ -32,7 +32,7 @@ value_or_filled kind [] k all = filled kind
 value_or_filled kind (v ∷ flow) zero all = wide kind v all.0
 value_or_filled kind (v ∷ flow) (suc k) all = value_or_filled kind flow k all.1
 
-taken_at : (signals : List Signal) (n k : ℕ) (signal : Signal) → k < n → slice_get signals k ≡ Some signal → slice_get (take n signals) k ≡ Some signal
+pub taken_at : (signals : List Signal) (n k : ℕ) (signal : Signal) → k < n → slice_get signals k ≡ Some signal → slice_get (take n signals) k ≡ Some signal
 taken_at [] n k signal lt is = cc
 taken_at (s ∷ signals) zero k signal lt is = absurd (omega (arith, lt))
 taken_at (s ∷ signals) (suc n) zero signal lt is = is

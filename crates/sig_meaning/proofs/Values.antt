@@ -125,14 +125,14 @@ module _ (kernel : Kernel) (memory : Memory) (next : ℕ → ℤ) (presence : Pr
 
 -- ---- the value is what is seen
 
-where_true_some : (b x : Seen) (v : ℤ) → where_true b x ≡ Some v → x ≡ Some v
+pub where_true_some : (b x : Seen) (v : ℤ) → where_true b x ≡ Some v → x ≡ Some v
 where_true_some None x v is = absurd (let e = is in cc)
 where_true_some (Some t) x v is = by (int_eq t (pos 1)) refl where
   by : (yes : Bool) → int_eq t (pos 1) ≡ yes → x ≡ Some v
   by true e = rw e at is
   by false e = absurd (let f : None ≡ Some v = rw e at is in cc)
 
-where_present_some : (x : Seen) (w v : ℤ) → where_present x w ≡ Some v → w ≡ v
+pub where_present_some : (x : Seen) (w v : ℤ) → where_present x w ≡ Some v → w ≡ v
 where_present_some None w v is = absurd (let e = is in cc)
 where_present_some (Some u) w v is = cc
 
