@@ -78,7 +78,7 @@ pub keeps_to_own : (kernel : Kernel) (memory : Memory) (instant : Instant) (cond
 keeps_to_own kernel memory instant conditions order is v c at =
     let there = condition_signal kernel conditions order v c at in
     let status : status_at (abstraction_of kernel.signals instant) c.0 ≡ status_of Boolean (seen_at instant c.0) =
-        abstract_status Unbounded kernel memory instant is c.0 there.0 there.1 ∙ ap (λ kind. status_of kind (seen_at instant c.0)) there.2 in
+    abstract_status Unbounded kernel memory instant is c.0 there.0 there.1 ∙ ap (λ kind. status_of kind (seen_at instant c.0)) there.2 in
     rw status (subst (λ t. Allows (status_of Boolean (seen_at instant c.0)) t) (sym (truth_at conditions (seen_at instant) v c at)) (by (seen_at instant c.0))) where
       by : (seen : Seen) → Allows (status_of Boolean seen) (is_true seen)
       by None = tt
@@ -178,7 +178,7 @@ module _ (kernel : Kernel) (conditions : List SigId) (operations : List Operatio
       let signal = condition_signal kernel conditions c.has.order v there.0 there.1 in
       let needs : Needs conditions q there.0 = record { variable = v; is = there.1; depends = depends } in
       let same : seen_at a there.0.0 ≡ seen_at b there.0.0 = same_condition k before there.0 (get_within kernel.signals there.0.0 signal.0 signal.1)
-          (λ number p is_p writes. needed_earlier kernel c.valid conditions operations c.has order c.ordered k lt q at there.0 needs number p is_p writes) in
+      (λ number p is_p writes. needed_earlier kernel c.valid conditions operations c.has order c.ordered k lt q at there.0 needs number p is_p writes) in
       truth_at conditions (seen_at a) v there.0 there.1 ∙ ap is_true same ∙ sym (truth_at conditions (seen_at b) v there.0 there.1))
 
   -- what is read at a place is the same

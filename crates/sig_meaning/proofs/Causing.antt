@@ -108,10 +108,14 @@ module _ (kernel : Kernel) (conditions : List SigId) (operations : List Operatio
     q = some_at operations (slice_index order n) (c.ordered.each n (omega (arith, le))).holds.within
 
     more : NoneBefore n → Decided ((cause : Cause) × MeetsFault q.0 cause × HasFault kernel flows trace instant cause) → NoneBefore (suc n) ⊎ First
-    more none (inl found) = inr (n, found.0, record {
-      is = record { met = meets_at operations order n q.0 found.0 (omega (arith, le, places)) q.1 found.1; fault = found.2 };
-      first = λ other another fault. elim (at_most_or n other) [ inl le ↦ le | inr lt ↦ absurd (none other another lt fault) ];
-    })
+    more none (inl found) = inr (
+      n,
+      found.0,
+      record {
+        is = record { met = meets_at operations order n q.0 found.0 (omega (arith, le, places)) q.1 found.1; fault = found.2 };
+        first = λ other another fault. elim (at_most_or n other) [ inl le ↦ le | inr lt ↦ absurd (none other another lt fault) ];
+      },
+    )
     more none (inr fine) = inl (λ i cause lt fault. elim (at_most_or n i) [
       | inl at ↦
           let there = met_place operations order i cause fault.met in
@@ -132,7 +136,7 @@ module _ (kernel : Kernel) (conditions : List SigId) (operations : List Operatio
   read_small input v lt seen fine =
       let is_v : v ≡ next input = follows.takes input v lt seen in
       let longer : length (flow_of input (trace ++ instant ∷ [])) ≡ length (flow_of input trace) + 1 =
-          ap length (flow_more input trace instant ∙ ap (λ s. flow_of input trace ++ option_to_list s) seen) ∙ length-append (flow_of input trace) (v ∷ []) in
+      ap length (flow_more input trace instant ∙ ap (λ s. flow_of input trace ++ option_to_list s) seen) ∙ length-append (flow_of input trace) (v ∷ []) in
       let within : length (flow_of input trace) < length (get_or flows input []) = elim (at_most_or (length (flow_of input (trace ++ instant ∷ []))) (length (get_or flows input []))) [
         | inl le ↦ omega (arith, le, longer)
         | inr past ↦ absurd (fine past)
@@ -141,7 +145,7 @@ module _ (kernel : Kernel) (conditions : List SigId) (operations : List Operatio
       let s = some_at kernel.signals input below in
       let there = got (inputs_of kernel) input s.0 s.0 (taken_at kernel.signals kernel.inputs input s.0 lt s.1) in
       let values : AllByRecursion (IsValue Bounded s.0.kind) (get_or flows input []) =
-          subst (λ (z : Signal). AllByRecursion (IsValue Bounded z.kind) (get_or flows input [])) there.1 (flow_values kernel flows f.fit input s.0 there.0) in
+      subst (λ (z : Signal). AllByRecursion (IsValue Bounded z.kind) (get_or flows input [])) there.1 (flow_values kernel flows f.fit input s.0 there.0) in
       ap has_64_bits is_v ∙ small_value s.0.kind (next input) (flow_value (IsValue Bounded s.0.kind) (get_or flows input []) (length (flow_of input trace)) (last_value kernel input) within values)
 
   abbrev SmallBefore : ℕ → Type 0
@@ -187,15 +191,17 @@ module _ (kernel : Kernel) (conditions : List SigId) (operations : List Operatio
   read_in input lt =
       Contains-append_left _ (of_each (stores_of kernel.signals c.has.presence) 0 kernel.equations) (read_of kernel.signals c.has.presence (signal_id input))
       (Contains-append_left (map (λ number. read_of kernel.signals c.has.presence (signal_id number)) (range_with_len 0 kernel.inputs)) (of_each (writes_of kernel.signals c.has.presence) 0 kernel.equations)
-      (read_of kernel.signals c.has.presence (signal_id input))
-      (input, omega (arith, lt, length-map-range_with_len (λ number. read_of kernel.signals c.has.presence (signal_id number)) 0 kernel.inputs),
-      get_or-map-range_with_len (λ number. read_of kernel.signals c.has.presence (signal_id number)) 0 kernel.inputs input input (read_of kernel.signals c.has.presence (signal_id input)) lt (omega arith)))
+      (read_of kernel.signals c.has.presence (signal_id input)) (
+        input,
+        omega (arith, lt, length-map-range_with_len (λ number. read_of kernel.signals c.has.presence (signal_id number)) 0 kernel.inputs),
+        get_or-map-range_with_len (λ number. read_of kernel.signals c.has.presence (signal_id number)) 0 kernel.inputs input input (read_of kernel.signals c.has.presence (signal_id input)) lt (omega arith),
+      ))
 
   compute_in : (k : ℕ) (y : SigId) (op : FunOp) (operands : List Operand) → k < length kernel.equations → (d : Equation) → (get_or kernel.equations k d).form ≡ Fun y op operands
       → Contains (operations_of kernel c.has.presence) (writing kernel.signals (equation_id k) Compute (c.has.presence y) y (signals_of operands))
   compute_in k y op operands lt d form =
       let made : Contains (writes_of kernel.signals c.has.presence (equation_id k) (get_or kernel.equations k d).form) (writing kernel.signals (equation_id k) Compute (c.has.presence y) y (signals_of operands)) =
-          subst (λ (shape : Form). Contains (writes_of kernel.signals c.has.presence (equation_id k) shape) (writing kernel.signals (equation_id k) Compute (c.has.presence y) y (signals_of operands))) (sym form) (contains_head (writing kernel.signals (equation_id k) Compute (c.has.presence y) y (signals_of operands)) []) in
+      subst (λ (shape : Form). Contains (writes_of kernel.signals c.has.presence (equation_id k) shape) (writing kernel.signals (equation_id k) Compute (c.has.presence y) y (signals_of operands))) (sym form) (contains_head (writing kernel.signals (equation_id k) Compute (c.has.presence y) y (signals_of operands)) []) in
       let same : k ≡ 0 + k = omega arith in
       Contains-append_left _ (of_each (stores_of kernel.signals c.has.presence) 0 kernel.equations) (writing kernel.signals (equation_id k) Compute (c.has.presence y) y (signals_of operands))
       (Contains-append_right (map (λ number. read_of kernel.signals c.has.presence (signal_id number)) (range_with_len 0 kernel.inputs)) (of_each (writes_of kernel.signals c.has.presence) 0 kernel.equations)
@@ -221,7 +227,7 @@ module _ (kernel : Kernel) (conditions : List SigId) (operations : List Operatio
     apart k d lt true by_zero =
         let at = got kernel.equations k d.equation d.equation d.is in
         let place = place_of_op (writing kernel.signals (equation_id k) Compute (c.has.presence d.target) d.target (signals_of d.operands))
-            (compute_in k d.target d.function d.operands lt d.equation (ap (λ (q : Equation). q.form) at.1 ∙ d.form)) in
+        (compute_in k d.target d.function d.operands lt d.equation (ap (λ (q : Equation). q.form) at.1 ∙ d.form)) in
         absurd (none place.0 (ZeroDivisor (equation_id k)) place.1 (record {
           met = meets_at operations order place.0 (writing kernel.signals (equation_id k) Compute (c.has.presence d.target) d.target (signals_of d.operands)) (ZeroDivisor (equation_id k)) (omega (arith, place.1, places)) place.2 (refl, refl);
           fault = (d, by_zero);

@@ -73,11 +73,14 @@ module _ (kernel : Kernel) (presence : Presence) where
       let f : Some form ≡ Some (Fun y op operands) = sym has ∙ ap (λ (n : EqId). form_for kernel (Some n)) one ∙ is in cc
 
   writes_either : (number : EqId) (form : Form) → HasForm number form → All IsEither (writes_of kernel.signals presence number form)
-  writes_either number (Fun y op operands) has = only IsEither (writing kernel.signals number Compute (presence y) y (signals_of operands)) ((λ x e. absurd (not_read x Compute (inl refl) e)), (λ e z o ps kind same is.
-      let f = other_form number e (Fun y op operands) z o ps has same is in
-      let to_y : y ≡ z = cc in
-      let to_ps : operands ≡ ps = cc in
-      (ap Some to_y, ap presence to_y, ap signals_of to_ps)))
+  writes_either number (Fun y op operands) has = only IsEither (writing kernel.signals number Compute (presence y) y (signals_of operands)) (
+    (λ x e. absurd (not_read x Compute (inl refl) e)),
+    (λ e z o ps kind same is.
+        let f = other_form number e (Fun y op operands) z o ps has same is in
+        let to_y : y ≡ z = cc in
+        let to_ps : operands ≡ ps = cc in
+        (ap Some to_y, ap presence to_y, ap signals_of to_ps)),
+  )
   writes_either number (When y x b) has = only IsEither _ ((λ x e. absurd (not_read x Compute (inl refl) e)), (λ e z o ps kind same is. absurd (let f = other_form number e (When y x b) z o ps has same is in cc)))
   writes_either number (WhenConst y k b) has = only IsEither _ ((λ x e. absurd (not_read x Compute (inl refl) e)), (λ e z o ps kind same is. absurd (let f = other_form number e (WhenConst y k b) z o ps has same is in cc)))
   writes_either number (Event y x) has = only IsEither _ ((λ x e. absurd (not_read x Compute (inl refl) e)), (λ e z o ps kind same is. absurd (let f = other_form number e (Event y x) z o ps has same is in cc)))
@@ -99,10 +102,13 @@ module _ (kernel : Kernel) (presence : Presence) where
 
   all_either : All IsEither (operations_of kernel presence)
   all_either = each_operation IsEither kernel presence HasForm (has_form kernel)
-      (λ number lt. ((λ x e.
-      let f : Read (signal_id number) ≡ Read x = e in
-      let one : signal_id number ≡ x = cc in
-      (ap Some one, subst (λ (z : SigId). z.0 < kernel.inputs) one lt, ap presence one)), (λ e z o ps kind same is. absurd (let f : Read (signal_id number) ≡ Compute = kind in cc))))
+      (λ number lt. (
+        (λ x e.
+            let f : Read (signal_id number) ≡ Read x = e in
+            let one : signal_id number ≡ x = cc in
+            (ap Some one, subst (λ (z : SigId). z.0 < kernel.inputs) one lt, ap presence one)),
+        (λ e z o ps kind same is. absurd (let f : Read (signal_id number) ≡ Compute = kind in cc)),
+      ))
       writes_either stores_either
 
   pub one_either : (p : Operation) → Contains (operations_of kernel presence) p → IsEither p

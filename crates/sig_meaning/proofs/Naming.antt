@@ -140,7 +140,7 @@ module _ (kernel : Kernel) (conditions : List SigId) (operations : List Operatio
       by None none = sym (ap (λ s. unwrap_or s (next x.0)) none)
       by (Some v) some =
           let agrees : AgreeSoFar (flow_of x.0 trace ++ v ∷ []) (get_or flows x.0 []) =
-              subst (λ values. AgreeSoFar values (get_or flows x.0 [])) (flow_more x.0 trace b ∙ ap (λ s. flow_of x.0 trace ++ option_to_list s) some) (goes.inputs x.0 (omega (arith, either.1, flow_count f))) in
+          subst (λ values. AgreeSoFar values (get_or flows x.0 [])) (flow_more x.0 trace b ∙ ap (λ s. flow_of x.0 trace ++ option_to_list s) some) (goes.inputs x.0 (omega (arith, either.1, flow_count f))) in
           value_at (flow_of x.0 trace) v (get_or flows x.0 []) (last_value kernel x.0) agrees fine ∙ sym (ap (λ s. unwrap_or s (next x.0)) some)
 
     before : SameBefore kernel conditions operations order c memory next other instant b is also k
@@ -169,7 +169,7 @@ module _ (kernel : Kernel) (conditions : List SigId) (operations : List Operatio
           absurd (omega (arith, past, few, ap length same))
       by (Some v) some =
           let done : first.is.met.operation.guard own ≡ true =
-              ap (λ g. g own) either.2 ∙ sym (own_presence kernel conditions operations order c flows f trace clean instant reference x (below x either.1)) ∙ ap is_some some in
+          ap (λ g. g own) either.2 ∙ sym (own_presence kernel conditions operations order c flows f trace clean instant reference x (below x either.1)) ∙ ap is_some some in
           let there = also_there x (below x either.1) (ap (λ g. g (truths_of conditions (seen_at b))) (sym either.2) ∙ also_done done) in
           omega (arith, past, longer instant x v some, longer b x there.0 there.1)
 
@@ -180,17 +180,20 @@ module _ (kernel : Kernel) (conditions : List SigId) (operations : List Operatio
         let either = (one_either kernel c.has.presence first.is.met.operation (among first.is.met.operation (slice_index order k) place.1)).1 e d.target d.function d.operands kind is_e form in
         let lt = written_below kernel c.valid conditions operations c.has (slice_index order k) first.is.met.operation place.1 d.target either.0 in
         let done : first.is.met.operation.guard own ≡ true =
-            ap (λ g. g own) either.1 ∙ sym (own_presence kernel conditions operations order c flows f trace clean instant reference d.target lt) ∙ ap is_some d.gives in
+        ap (λ g. g own) either.1 ∙ sym (own_presence kernel conditions operations order c flows f trace clean instant reference d.target lt) ∙ ap is_some d.gives in
         let same = same_value kernel conditions operations order c memory next other instant b is also k within
-            (λ p at x reads yes_p. absurd (let one : Some p ≡ Some first.is.met.operation = sym at ∙ place.1 in
-            let is_p : p ≡ first.is.met.operation = cc in
-            let clash : Read x ≡ Compute = sym reads ∙ ap (λ (o : Operation). o.kind) is_p ∙ kind in cc)) before first.is.met.operation place.1 in
+        (λ p at x reads yes_p. absurd (let one : Some p ≡ Some first.is.met.operation = sym at ∙ place.1 in
+        let is_p : p ≡ first.is.met.operation = cc in
+        let clash : Read x ≡ Compute = sym reads ∙ ap (λ (o : Operation). o.kind) is_p ∙ kind in cc)) before first.is.met.operation place.1 in
         let seen : seen_at instant d.target.0 ≡ seen_at b d.target.0 = same.seen d.target either.0 done in
         let have : HaveValues b d.operands d.values = have_moved instant b d.operands d.values
-            (λ x among_them. same_reads kernel conditions operations order c memory next other instant b is also k within before first.is.met.operation place.1 done x
-            (subst (λ (xs : List SigId). Contains xs x) (sym either.2) among_them)) d.have in
-        (record { equation = d.equation; is = d.is; target = d.target; function = d.function; operands = d.operands; form = d.form; values = d.values; have = have; result = d.result; gives = sym seen ∙ d.gives },
-        refl, refl, refl)
+        (λ x among_them. same_reads kernel conditions operations order c memory next other instant b is also k within before first.is.met.operation place.1 done x
+        (subst (λ (xs : List SigId). Contains xs x) (sym either.2) among_them)) d.have in (
+          record { equation = d.equation; is = d.is; target = d.target; function = d.function; operands = d.operands; form = d.form; values = d.values; have = have; result = d.result; gives = sym seen ∙ d.gives },
+          refl,
+          refl,
+          refl,
+        )
 
     fault_too : (found : Cause) → cause ≡ found → MeetsFault first.is.met.operation found → HasFault kernel flows trace instant found → HasFault kernel flows trace b found
     fault_too (Exhausted x) e meets fault = past_too x meets fault

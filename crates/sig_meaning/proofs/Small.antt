@@ -204,9 +204,12 @@ module _ (kernel : Kernel) (valid : IsValid kernel) (flows : List (List ℤ)) (t
         → ((c : Computes kernel instant number) → divides_by_zero (function_of c.function) c.values ≡ false) → (s : Seen) → seen_at instant y.0 ≡ s
         → IsFunction Unbounded (function_of op) instant operands s → IsFunction Bounded (function_of op) instant operands s
     function_bounded number y op operands e no_zero None seen met = met
-    function_bounded number y op operands e no_zero (Some v) seen met =
-        (met.0, met.1, bounded_gives (function_of op) met.0 v
-        (no_zero (record { equation = e.equation; is = e.at; target = y; function = op; operands = operands; form = e.has; values = met.0; have = met.1; result = v; gives = seen })) met.2)
+    function_bounded number y op operands e no_zero (Some v) seen met = (
+      met.0,
+      met.1,
+      bounded_gives (function_of op) met.0 v
+          (no_zero (record { equation = e.equation; is = e.at; target = y; function = op; operands = operands; form = e.has; values = met.0; have = met.1; result = v; gives = seen })) met.2,
+    )
 
     form_bounded : (number : EqId) (form : Form) → IsEquation number form → ((c : Computes kernel instant number) → divides_by_zero (function_of c.function) c.values ≡ false)
         → Meets Bounded (remembered trace) instant form

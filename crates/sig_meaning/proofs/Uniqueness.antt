@@ -54,7 +54,7 @@ module _ (kernel : Kernel) (memory : Memory) (instant : Instant) (is : IsReactio
   computed_result : (e : EqId) (c : Computes kernel instant e) → c.result ≡ result_of (function_of c.function) c.values
   computed_result e c =
       let met : Meets Unbounded memory instant c.equation.form =
-          at_element (λ (q : Equation). Meets Unbounded memory instant q.form) kernel.equations c.equation (contains_at kernel.equations e.0 c.equation c.is) is.equations in
+      at_element (λ (q : Equation). Meets Unbounded memory instant q.form) kernel.equations c.equation (contains_at kernel.equations e.0 c.equation c.is) is.equations in
       let of_form : Meets Unbounded memory instant (Fun c.target c.function c.operands) = subst (λ (form : Form). Meets Unbounded memory instant form) c.form met in
       let given : IsFunction Unbounded (function_of c.function) instant c.operands (Some c.result) = subst (λ s. IsFunction Unbounded (function_of c.function) instant c.operands s) c.gives of_form in
       determined (function_of c.function) given.0 c.result given.2 ∙ ap (result_of (function_of c.function)) (same_values instant c.operands given.0 c.values given.1 c.have)
@@ -98,10 +98,11 @@ one_cause kernel operations order flows trace instant goes a b p q x y =
     let less : x.first ≤ y.first = x.least y.first b y.is in
     let more : y.first ≤ x.first = y.least x.first a x.is in
     let same : x.first ≡ y.first = omega (arith, less, more) in
-    let one : x.is.at.operation ≡ y.is.at.operation = same_operation operations order x.first y.first a b same x.is.at y.is.at in
-    (x.met ∙ ap (λ k. place_at (length trace + 1) k) same ∙ sym y.met,
-    same_cause kernel (remembered trace) instant (comes_from Unbounded kernel trace instant goes.is).1 flows trace y.is.at.operation a b
-    (subst (λ (o : Operation). MeetsFault o a) one x.is.at.meets) y.is.at.meets (x.is.every instant goes) (y.is.every instant goes))
+    let one : x.is.at.operation ≡ y.is.at.operation = same_operation operations order x.first y.first a b same x.is.at y.is.at in (
+      x.met ∙ ap (λ k. place_at (length trace + 1) k) same ∙ sym y.met,
+      same_cause kernel (remembered trace) instant (comes_from Unbounded kernel trace instant goes.is).1 flows trace y.is.at.operation a b
+          (subst (λ (o : Operation). MeetsFault o a) one x.is.at.meets) y.is.at.meets (x.is.every instant goes) (y.is.every instant goes),
+    )
 
 -- ---- the end of a run of an accepted plan
 

@@ -5,4 +5,7 @@
 
 mod laws;
 
-pub use laws::{accepted_kernels_have_one_reaction, accepted_kernels_react_once, functions_have_results, longest_traces_exist, named_causes_exist_once, references_exist_once};
+pub use laws::{
+    accepted_kernels_have_one_reaction, accepted_kernels_react_once, functions_have_results,
+    longest_traces_exist, named_causes_exist_once, references_exist_once,
+};
