@@ -1,6 +1,6 @@
-"""Reads flow files of 64 MiB with sig_flow and with the reader inside sig_tool, and prints the times.
+"""Reads flow files of 64 MiB with sig_flow and with the reader inside sig_runs, and prints the times.
 
-The reader inside sig_tool is run as `sigc run` for one instant, and sig_flow by a small program that
+The reader inside sig_runs is run as `sigc run` for one instant, and sig_flow by a small program that
 this script builds with rt in a folder of its own, which takes some minutes. Both times are the
 processor times of whole processes, the reading of the file included.
 usage: flows.py SIGC

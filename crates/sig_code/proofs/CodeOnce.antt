@@ -1,31 +1,21 @@
 -- The text of a kernel's code is one.
-use Rattle.std.proofs.Common.{◌≡◌, ◌<◌, ◌+◌, ◌++◌, ℕ, List, [], ◌∷◌, length, get_or, refl, sym, ap, ◌∙◌, subst, arith}
-use Rattle.std.specs.Prelude.{zero, suc, Option, None, Some, All, true, codes, slice_get}
+use Rattle.std.proofs.Common.{◌≡◌, ◌<◌, ◌+◌, ◌++◌, ℕ, List, [], ◌∷◌, length, refl, sym, ap, ◌∙◌, subst, arith}
+use Rattle.std.specs.Prelude.{zero, suc, Option, None, Some, true, codes, slice_get}
 use Rattle.std.specs.Fmt.{decimal}
 use Rattle.std.specs.List.{enumerate_from, flat_map}
-use Rattle.sig_base.specs.declared.ids.SigId.{SigId}
-use Rattle.sig_clock.specs.ClockFunctions.{IsClockFunction}
-use Rattle.sig_clock.specs.Clocks.{guard_of}
-use Rattle.sig_clock.specs.Conditions.{signal_id}
 use Rattle.sig_code.specs.Texts.{act_text, actor_text, code_text_of, op_text, step_text, what_text}
 use Rattle.sig_dd.specs.declared.node.Node.{Node}
 use Rattle.sig_kernel.specs.declared.kernel.Kernel.{Kernel}
-use Rattle.sig_plan.specs.Acceptance.{HasOperations}
 use Rattle.sig_plan.specs.Codes.{CodeView, Instruction, instructions_of}
-use Rattle.sig_plan.specs.Operations.{Operation, operations_in, presence_in}
-use Rattle.sig_plan.specs.Order.{IsCompiledOrder, Precedes}
-use Rattle.sig_plan.specs.Parts.{AreParts, PartsView}
+use Rattle.sig_plan.specs.Operations.{Operation, operations_in}
 use Rattle.sig_plan.specs.Plans.{IsAccepted, PlanView, numbers_of}
 use Rattle.sig_plan.specs.declared.code.Step.{Step}
 use Rattle.sig_plan.specs.declared.code.StepKind.{StepKind}
 use Rattle.sig_plan.specs.declared.code.StepKind.TheVariants.{Do, Send, Receive, Report, Collect, Commit}
 use Rattle.sig_plan.specs.declared.op.Op.{Op}
-use Rattle.sig_plan.proofs.Accepted.{plan_operations}
+use Rattle.sig_plan.proofs.PlanOnce.{same_actors, same_instructions, same_operations}
 use Rattle.sig_clock.proofs.Lists.{get_at, get_within}
-use Rattle.sig_plan.proofs.Orders.{same_order}
 use Rattle.sig_code.specs.Texts.{IsCodeText}
-use Rattle.sig_plan.proofs.OperationsOnce.{operations_once}
-use Rattle.sig_plan.proofs.PartsOnce.{WritesWithin, operations_fine, parts_once}
 
 -- ---- texts of lists
 
@@ -86,41 +76,16 @@ module _ (kernel : Kernel) (nodes others : List Node) (ops other_ops : List Op) 
 -- ---- the text of the code
 
 module _ (a b : PlanView) (one : IsAccepted a) (other : IsAccepted b) (kernels : a.kernel ≡ b.kernel) where
-  same_plan : (conditions : List SigId) (operations : List Operation) (order : List ℕ) (parts : PartsView) → a.clocks.conditions ≡ conditions → operations_in a.store.nodes a.ops ≡ operations
-      → IsCompiledOrder conditions operations order → AreParts a.kernel conditions operations parts
-      → (numbers_of a.order ≡ order) × (one.parts.clusters ≡ parts.clusters) × (one.parts.links ≡ parts.links)
-  same_plan conditions operations order parts cs os ordered split =
-      let own_order : IsCompiledOrder conditions operations (numbers_of a.order) = subst (λ c. IsCompiledOrder c operations (numbers_of a.order)) cs (subst (λ (o : List Operation). IsCompiledOrder a.clocks.conditions o (numbers_of a.order)) os one.order) in
-      let own_parts : AreParts a.kernel conditions operations one.parts = subst (λ c. AreParts a.kernel c operations one.parts) cs (subst (λ (o : List Operation). AreParts a.kernel a.clocks.conditions o one.parts) os one.split) in
-      let fine = subst (λ (o : List Operation). All (WritesWithin (length a.kernel.signals)) o) (sym one.operations.are ∙ os) (operations_fine a.kernel (presence_in a.store.nodes a.clocks) one.valid) in
-      let same_parts = parts_once a.kernel conditions operations fine one.parts parts own_parts split in
-      (same_order (Precedes conditions operations) (length operations) (numbers_of a.order) order own_order ordered, same_parts.0, same_parts.1)
-
   pub code_once : code_text_of a ≡ code_text_of b
-  code_once = same_texts (actor_text a.kernel a.ops) (actor_text b.kernel b.ops) 0 a.codes b.codes actors each where
-    has : HasOperations a.kernel b.clocks.conditions (operations_in b.store.nodes b.ops)
-    has = subst (λ (k : Kernel). HasOperations k b.clocks.conditions (operations_in b.store.nodes b.ops)) (sym kernels) (plan_operations b other)
-
-    made : (a.clocks.conditions ≡ b.clocks.conditions) × (operations_in a.store.nodes a.ops ≡ operations_in b.store.nodes b.ops)
-    made = operations_once a.kernel one.valid a.clocks.conditions b.clocks.conditions (operations_in a.store.nodes a.ops) (operations_in b.store.nodes b.ops) (plan_operations a one) has
-
-    split : AreParts a.kernel b.clocks.conditions (operations_in b.store.nodes b.ops) other.parts
-    split = subst (λ (k : Kernel). AreParts k b.clocks.conditions (operations_in b.store.nodes b.ops) other.parts) (sym kernels) other.split
-
-    same : (numbers_of a.order ≡ numbers_of b.order) × (one.parts.clusters ≡ other.parts.clusters) × (one.parts.links ≡ other.parts.links)
-    same = same_plan b.clocks.conditions (operations_in b.store.nodes b.ops) (numbers_of b.order) other.parts made.0 made.1 other.order split
-
-    actors : length a.codes ≡ length b.codes
-    actors = one.codes.actors ∙ ap (λ m. m + 1) same.1 ∙ sym other.codes.actors
-
+  code_once = same_texts (actor_text a.kernel a.ops) (actor_text b.kernel b.ops) 0 a.codes b.codes (same_actors a b one other kernels) each where
     instructions : (actor : ℕ) → instructions_of (operations_in a.store.nodes a.ops) (numbers_of a.order) one.parts actor ≡ instructions_of (operations_in b.store.nodes b.ops) (numbers_of b.order) other.parts actor
-    instructions actor = λ j. instructions_of (made.1 j) (same.0 j) (record { clusters = same.1 j; links = same.2 j; imports = one.parts.imports }) actor
+    instructions actor = same_instructions a b one other kernels actor
 
     each : (k : ℕ) (x y : CodeView) → slice_get a.codes k ≡ Some x → slice_get b.codes k ≡ Some y → actor_text a.kernel a.ops (0 + k, x) ≡ actor_text b.kernel b.ops (0 + k, y)
     each k x y at_x at_y =
         let code = one.codes.each k x at_x in
         let code' = subst (λ (is : List Instruction). length y.steps ≡ length is) (sym (instructions k)) (other.codes.each k y at_y).count in
-        same_actor a.kernel a.store.nodes b.store.nodes a.ops b.ops made.1 (0 + k) (instructions_of (operations_in a.store.nodes a.ops) (numbers_of a.order) one.parts k) x y
+        same_actor a.kernel a.store.nodes b.store.nodes a.ops b.ops (same_operations a b one other kernels) (0 + k) (instructions_of (operations_in a.store.nodes a.ops) (numbers_of a.order) one.parts k) x y
         code.count code'
         (λ i instruction step is at_step. let does = code.steps i instruction step is at_step in (does.kind, does.position))
         (λ i instruction step is at_step. let does = (other.codes.each k y at_y).steps i instruction step (subst (λ (xs : List Instruction). slice_get xs i ≡ Some instruction) (instructions k) is) at_step in (does.kind, does.position))

@@ -3,6 +3,7 @@ mod CleanLines
 mod EventLemmas
 pub mod FirstLemmas
 mod FirstLines
+mod FittingFlows
 mod FlowLemmas
 pub mod InputLemmas
 mod LineWords

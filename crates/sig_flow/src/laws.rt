@@ -7,6 +7,8 @@ ghost use Rattle.sig_flow.specs.Flows.{AreFlows, IsFirstBadPlace, value_judge};
 ghost use Rattle.sig_flow.specs.First.{AllGood, IsFirst, first_fault};
 ghost use Rattle.sig_flow.specs.Words.{Word};
 ghost use Rattle.sig_base.specs.declared.ids.Kind.{Kind};
+ghost use Rattle.sig_kernel.specs.Validity.{AreFlowsFor, inputs_of};
+ghost use Rattle.sig_kernel.specs.declared.kernel.Kernel.{Kernel};
 ghost use Rattle.sig_flow.specs.declared.version.Version.{Version};
 ghost use Rattle.sig_flow.specs.declared.answer.EventAnswer.{EventAnswer};
 ghost use Rattle.sig_flow.specs.declared.answer.FlowAnswer.{FlowAnswer};
@@ -20,6 +22,13 @@ pub fn one_flow_reading()
     ensures fault { (inputs : List Signal) (bytes : List ℕ) (a b : FlowAnswer) → IsFirstBadPlace inputs bytes a → IsFirstBadPlace inputs bytes b → a ≡ b }
     ensures apart { (inputs : List Signal) (bytes : List ℕ) (flows : List (List ℤ)) (fault : FlowAnswer) →
         AreFlows inputs bytes flows → IsFirstBadPlace inputs bytes fault → ⊥ }
+{}
+
+/// A law: the flows of a flow file for the inputs of a kernel fit the kernel: there is one for each
+/// input, and each of its values is of the input's kind, an integer of 64 bits, a truth or true.
+pub fn flows_that_are_read_fit()
+    ensures { (kernel : Kernel) (bytes : List ℕ) (flows : List (List ℤ)) → AreFlows (inputs_of kernel) bytes flows
+        → AreFlowsFor kernel flows }
 {}
 
 /// A law: the place at which a line's values offend is that of the first word that does, and every word

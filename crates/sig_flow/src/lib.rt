@@ -21,7 +21,7 @@ mod word;
 
 pub use answer::{EventAnswer, FlowAnswer};
 pub use event::{FileEvent, read_events};
-pub use laws::{first_wrong_word, one_event_reading, one_flow_reading};
+pub use laws::{first_wrong_word, flows_that_are_read_fit, one_event_reading, one_flow_reading};
 pub use line::next_line;
 pub use named::{input_named, is_clean};
 pub use put::put_value;

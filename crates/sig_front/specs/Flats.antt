@@ -1,5 +1,6 @@
 -- The flat body of a text, and what a text is refused for that has none that is kept.
 use Rattle.std.specs.Prelude.{◌≡◌, ◌<◌, ◌≤◌, ℕ, List, length}
+use Rattle.sig_base.specs.declared.limits.TheConstants.{SIGNALS}
 use Rattle.sig_tree.specs.Candidates.{Offence, Unknown as UnknownName, DeclaredTwice as TwiceDeclared, InputDefined as GivenDefined, DefinedTwice as TwiceDefined, Undefined as NotDefined, Clash as KindsClash, BareConstant as ConstantAlone, BadCall as CallDiffers, Recursive as CallsItself, BadPragma as PragmaIsBad, NoInit as InitIsMissing}
 use Rattle.sig_tree.specs.FlatBody.{IsFlatBody}
 use Rattle.sig_tree.specs.FlatSyntax.{FlatBody}
@@ -58,12 +59,12 @@ pub record IsGood (text : List ℕ) (tree : List ProcessModel) : Type 0 where
   pub reads : IsText text tree
   pub formed : IsWellFormed tree
 
--- the text is that of a well-formed program with this flat body, of at most 512 signals
+-- the text is that of a well-formed program with this flat body, within the limit of signals
 pub record IsFlatText (text : List ℕ) (flat : FlatBody) : Type 0 where
   pub tree : List ProcessModel
   pub good : IsGood text tree
   pub expands : IsFlatBody tree flat
-  pub few : length flat.signals ≤ 512
+  pub few : length flat.signals ≤ SIGNALS
 
 -- the text is that of a program which breaks a rule, of which this is the first
 pub record Offends (text : List ℕ) (answer : TypeAnswer) : Type 0 where
@@ -79,8 +80,8 @@ pub record IsTooLarge (text : List ℕ) (limit : ℕ) : Type 0 where
   pub good : IsGood text tree
   pub flat : FlatBody
   pub expands : IsFlatBody tree flat
-  pub many : 512 < length flat.signals
-  pub said : limit ≡ 512
+  pub many : SIGNALS < length flat.signals
+  pub said : limit ≡ SIGNALS
 
 -- The text has no flat body that is kept: it is no text of a program, or that of one that breaks a rule, or
 -- that of one with too many signals.

@@ -2,6 +2,7 @@
 -- speak of the program, over its bytes.
 use Rattle.std.specs.Prelude.{◌≡◌, ◌⊎◌, ◌<◌, ◌≤◌, ℕ, List, length}
 use Rattle.sig_base.specs.Traces.{Trace}
+use Rattle.sig_base.specs.declared.limits.TheConstants.{SIGNALS}
 use Rattle.sig_tree.specs.FlatSyntax.{FlatBody}
 use Rattle.sig_tree.specs.ProcessTraces.{IsProcessTrace}
 use Rattle.sig_kernel.specs.KernelTraces.{IsKernelTrace}
@@ -12,19 +13,19 @@ use Rattle.sig_front.specs.Flats.{IsFlatText, IsNoFlatText, IsTooLarge}
 use Rattle.sig_front.specs.declared.answer.FrontAnswer.{FrontAnswer}
 use Rattle.sig_front.specs.declared.answer.FrontAnswer.TheVariants.{Lex, Parse, «Type» as TypeRefused, TooManySignals, OutOfMemory}
 
--- the text is that of a well-formed program with this kernel, of at most 512 signals
+-- the text is that of a well-formed program with this kernel, within the limit of signals
 pub record IsKernelText (text : List ℕ) (kernel : Kernel) : Type 0 where
   pub flat : FlatBody
   pub says : IsFlatText text flat
   pub made : kernel ≡ kernel_of flat
-  pub few : length kernel.signals ≤ 512
+  pub few : length kernel.signals ≤ SIGNALS
 
 -- the text is that of a well-formed program whose flat body is kept and whose kernel has more signals than the limit
 pub record HasLargeKernel (text : List ℕ) (limit : ℕ) : Type 0 where
   pub flat : FlatBody
   pub says : IsFlatText text flat
-  pub many : 512 < length (kernel_of flat).signals
-  pub said : limit ≡ 512
+  pub many : SIGNALS < length (kernel_of flat).signals
+  pub said : limit ≡ SIGNALS
 
 -- The text has no kernel that is kept: it has no flat body that is, or one whose kernel is too large.
 abbrev pub IsNoKernelText : List ℕ → FrontAnswer → Type 0

@@ -10,15 +10,9 @@ ghost use Rattle.sig_front.specs.declared.answer.FrontAnswer.{FrontAnswer};
 
 use crate::answer::FrontAnswer;
 use crate::body::flat;
+use crate::laws::kernels_of_texts;
 use sig_base::limits::PROGRAM_BYTES;
-use sig_call::{
-    flat_bodies_are_well_made, names_of_flat_bodies, signals_have_names, size_of_flat_bodies,
-    trees_of_texts,
-};
-use sig_flat::{
-    kernel_traces_are_process_traces, kernels_are_valid, kernels_have_few_equations,
-    kernels_name_signals, to_kernel,
-};
+use sig_flat::to_kernel;
 use sig_kernel::Kernel;
 use std::alloc::Global;
 
@@ -43,15 +37,7 @@ pub fn front(alloc: Global, bytes: &[u8]) -> Result<Kernel, FrontAnswer>
     ensures refused { (fault : FrontAnswer) → IsNoKernelText bytes.now fault →
         IsErrAnd result (λ answer. (answer ≡ FrontAnswer.OutOfMemory) ⊎ (answer ≡ fault)) }
 {
-    trees_of_texts();
-    size_of_flat_bodies();
-    names_of_flat_bodies();
-    signals_have_names();
-    flat_bodies_are_well_made();
-    kernels_are_valid();
-    kernels_have_few_equations();
-    kernels_name_signals();
-    kernel_traces_are_process_traces();
+    kernels_of_texts();
     kernel_of(alloc, bytes)
 }
 

@@ -1,14 +1,27 @@
 //! Laws of texts.
 
-ghost use Rattle.std.specs.Prelude.{◌≡◌, ℕ, List};
+ghost use Rattle.std.specs.Prelude.{◌≡◌, ◌<◌, ◌≤◌, ◌^◌, ℕ, List, length};
+ghost use Rattle.std.specs.List.{AllByRecursion};
+ghost use Rattle.sig_base.specs.declared.limits.TheConstants.{PROGRAM_BYTES};
+ghost use Rattle.sig_call.specs.SignalNames.{IsSignalName};
 ghost use Rattle.sig_tree.specs.Grammar.{IsText};
 ghost use Rattle.sig_tree.specs.Syntax.{ProcessModel};
 ghost use Rattle.sig_tree.specs.FlatSyntax.{FlatBody};
+ghost use Rattle.sig_kernel.specs.Validity.{IsValid};
 ghost use Rattle.sig_kernel.specs.declared.kernel.Kernel.{Kernel};
 ghost use Rattle.sig_front.specs.Flats.{IsFlatText, IsNoFlatText};
-ghost use Rattle.sig_front.specs.Kernels.{IsKernelText, IsNoKernelText};
+ghost use Rattle.sig_front.specs.Kernels.{HasTracesOf, IsKernelText, IsNoKernelText};
 ghost use Rattle.sig_front.specs.Texts.{IsNoText};
 ghost use Rattle.sig_front.specs.declared.answer.FrontAnswer.{FrontAnswer};
+
+use sig_call::{
+    flat_bodies_are_well_made, names_of_flat_bodies, signals_have_names, size_of_flat_bodies,
+    trees_of_texts,
+};
+use sig_flat::{
+    kernel_traces_are_process_traces, kernels_are_valid, kernels_have_few_equations,
+    kernels_name_signals,
+};
 
 /// A law: a text is that of one program or has one refusal, at most, and not both.
 pub fn one_text()
@@ -30,3 +43,24 @@ pub fn one_kernel_text()
     ensures refusal { (text : List ℕ) (a b : FrontAnswer) → IsNoKernelText text a → IsNoKernelText text b → a ≡ b }
     ensures apart { (text : List ℕ) (kernel : Kernel) (answer : FrontAnswer) → IsKernelText text kernel → IsNoKernelText text answer → ⊥ }
 {}
+
+/// A law: the kernel of a text has the traces of the text's program. Where the text is not too long,
+/// the kernel is valid, and its signals have names of 1 to 1,048,576 bytes of printable ASCII without blanks.
+pub fn kernels_of_texts()
+    ensures traces { (text : List ℕ) (kernel : Kernel) → IsKernelText text kernel → HasTracesOf text kernel }
+    ensures valid { (text : List ℕ) (kernel : Kernel) → length text ≤ PROGRAM_BYTES → IsKernelText text kernel → IsValid kernel }
+    ensures small { (text : List ℕ) (kernel : Kernel) → length text ≤ PROGRAM_BYTES → IsKernelText text kernel
+        → length kernel.equations < 2 ^ 30 }
+    ensures names { (text : List ℕ) (kernel : Kernel) → length text ≤ PROGRAM_BYTES → IsKernelText text kernel
+        → AllByRecursion (λ signal. IsSignalName signal.name) kernel.signals }
+{
+    trees_of_texts();
+    size_of_flat_bodies();
+    names_of_flat_bodies();
+    signals_have_names();
+    flat_bodies_are_well_made();
+    kernels_are_valid();
+    kernels_have_few_equations();
+    kernels_name_signals();
+    kernel_traces_are_process_traces();
+}

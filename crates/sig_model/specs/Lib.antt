@@ -5,4 +5,5 @@ pub mod Operating
 pub mod Progress
 pub mod References
 pub mod Results
+pub mod Runnable
 pub mod Turns

@@ -29,12 +29,14 @@ abbrev pub next_of : SigId → Option ℤ → Outcome
 next_of x None = Faults (Exhausted x)
 next_of x (Some v) = Gives v
 
+-- a result, where it has 64 bits
+abbrev pub bounded : EqId → ℤ → Outcome
+bounded e v = if has_64_bits v then Gives v else Faults (Overflow e)
+
 -- a function of values, where its divisor is not 0 and its result has 64 bits
 abbrev pub computed : EqId → Function → List ℤ → Outcome
 computed e function values =
-    if divides_by_zero function values then Faults (ZeroDivisor e)
-    else if has_64_bits (result_of function values) then Gives (result_of function values)
-    else Faults (Overflow e)
+    if divides_by_zero function values then Faults (ZeroDivisor e) else bounded e (result_of function values)
 
 abbrev pub operand_in : Registers → Operand → ℤ
 operand_in registers (Sig x) = value_in registers x

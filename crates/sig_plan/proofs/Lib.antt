@@ -1,3 +1,4 @@
+pub mod Lists
 pub mod Guards
 pub mod Adding
 pub mod Spending
@@ -17,3 +18,9 @@ pub mod Done
 pub mod Earlier
 pub mod Instructing
 pub mod Slotted
+pub mod LinkEnds
+pub mod Positions
+pub mod Provided
+pub mod PlanOnce
+pub mod Naming
+pub mod Holdings

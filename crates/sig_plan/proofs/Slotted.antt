@@ -1,6 +1,6 @@
 -- The guards of an accepted plan's operations and slots.
-use Rattle.std.proofs.Common.{◌≡◌, ◌≢◌, ◌<◌, ◌⊎◌, inl, inr, ℕ, Bool, false, true, List, [], ◌∷◌, length, map, get_or, refl, sym, ap, ◌∙◌, subst, arith}
-use Rattle.std.specs.Prelude.{zero, suc, None, Some, slice_get}
+use Rattle.std.proofs.Common.{◌≡◌, ◌≢◌, ◌<◌, ◌⊎◌, inl, inr, ℕ, Bool, false, true, List, length, get_or, refl, sym, ap, ◌∙◌, subst, arith}
+use Rattle.std.specs.Prelude.{None, Some, slice_get}
 use Rattle.std.proofs.lemmas.List.Elements.{All-contains}
 use Rattle.sig_base.specs.declared.ids.SigId.{SigId}
 use Rattle.sig_clock.proofs.Lists.{contains_at, get_at, get_within}
@@ -23,11 +23,7 @@ use Rattle.sig_plan.specs.Guards.{IsGuardOf, of_operation, of_slot}
 use Rattle.sig_plan.proofs.Accepted.{plan_operations}
 use Rattle.sig_plan.proofs.Earlier.{guards_alone, guards_idle}
 use Rattle.sig_plan.proofs.Instructing.{instruction_for}
-
-mapped : {X Y : Type 0} (f : X → Y) (xs : List X) (k : ℕ) (x : X) → slice_get xs k ≡ Some x → slice_get (map f xs) k ≡ Some (f x)
-mapped f [] k x is = cc
-mapped f (y ∷ xs) zero x is = let same : y ≡ x = cc in ap (λ z. Some (f z)) same
-mapped f (y ∷ xs) (suc k) x is = mapped f xs k x is
+use Rattle.sig_plan.proofs.Lists.{get_map}
 
 module _ (plan : PlanView) (is : IsAccepted plan) where
   abbrev operations : List Operation
@@ -81,7 +77,7 @@ module _ (plan : PlanView) (is : IsAccepted plan) where
   unfolding FromOperation
   op_guard number op at = (
     test plan.store.nodes op.guard,
-    inl (number, operation_in plan.store.nodes op, mapped (operation_in plan.store.nodes) plan.ops number op at, refl),
+    inl (number, operation_in plan.store.nodes op, get_map (operation_in plan.store.nodes) plan.ops number op at, refl),
     record { holds = All-contains (λ (o : Op). Holds plan.store.nodes o.guard) plan.ops op is.operations.held (contains_at plan.ops number op at); function = λ ts. refl },
   )
 

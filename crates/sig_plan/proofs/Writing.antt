@@ -1,6 +1,6 @@
 -- The operations of a valid kernel write its signals.
 use Rattle.std.proofs.Common.{◌≡◌, ◌<◌, ◌≤◌, ◌+◌, ◌⊎◌, inl, inr, ◌&&◌, ℕ, Bool, true, false, cond, List, [], ◌∷◌, ◌++◌, length, map, refl, sym, ap, ◌∙◌, subst, arith, Contains}
-use Rattle.std.specs.Prelude.{All, Some, fold, nat_lt, slice_get, zero, suc}
+use Rattle.std.specs.Prelude.{All, Some, fold, nat_lt, slice_get}
 use Rattle.std.specs.List.{range_with_len, count_by, AllPass, list_all}
 use Rattle.std.proofs.lemmas.Bool.{cases_order, eqb-true, false≢true, ltb-true}
 use Rattle.std.proofs.lemmas.List.FromFn.{get_or-range_with_len, length-range_with_len}
@@ -21,19 +21,7 @@ use Rattle.sig_plan.specs.Order.{Writes}
 use Rattle.sig_plan.specs.declared.op.OpKind.{OpKind}
 use Rattle.sig_plan.specs.declared.op.OpKind.TheVariants.{Compute, Left, Right, DelayRead}
 use Rattle.sig_plan.specs.Written.{AreWritten}
-
-pub get_some : {X : Type 0} (xs : List X) (k : ℕ) → k < length xs → (x : X) × (slice_get xs k ≡ Some x)
-get_some [] k lt = absurd (omega (arith, lt))
-get_some (x ∷ xs) zero lt = (x, refl)
-get_some (x ∷ xs) (suc k) lt = get_some xs k (omega (arith, lt))
-
-get_map : {X Y : Type 0} (f : X → Y) (xs : List X) (k : ℕ) (x : X) → slice_get xs k ≡ Some x → slice_get (map f xs) k ≡ Some (f x)
-get_map f [] k x is = cc
-get_map f (y ∷ xs) zero x is = let same : y ≡ x = cc in ap (λ z. Some (f z)) same
-get_map f (y ∷ xs) (suc k) x is = get_map f xs k x is
-
-signal_same : (x y : SigId) → x.0 ≡ y.0 → x ≡ y
-signal_same x y same = λ j. record { 0 = same j }
+use Rattle.sig_plan.proofs.Lists.{get_map, get_some, signal_same}
 
 -- the operation writes signals of its own cluster
 abbrev IsOwn : List Signal → Operation → Type 0

@@ -1,9 +1,10 @@
 -- What each instruction of an actor is for.
-use Rattle.std.specs.Prelude.{◌≡◌, ◌≢◌, ◌+◌, ◌*◌, ℕ, List, length, slice_get, None, Some}
+use Rattle.std.specs.Prelude.{◌≡◌, ◌≢◌, ◌<◌, ◌⊎◌, ◌+◌, ◌*◌, ℕ, Bool, true, List, length, slice_get, None, Some}
 use Rattle.sig_base.specs.declared.ids.SigId.{SigId}
 use Rattle.sig_plan.specs.Codes.{Instruction, op_id, under, unguarded}
 use Rattle.sig_plan.specs.Operations.{Operation}
 use Rattle.sig_plan.specs.Order.{Writes}
+use Rattle.sig_plan.specs.declared.code.StepKind.{StepKind}
 use Rattle.sig_plan.specs.declared.code.StepKind.TheVariants.{Do, Send, Receive, Report, Collect, Commit}
 use Rattle.sig_plan.specs.declared.parts.LinkInfo.{LinkInfo}
 
@@ -36,3 +37,24 @@ pub data IsFor (operations : List Operation) (order : List ℕ) (links : List Li
   collects : (link : ℕ) (info : LinkInfo) → actor ≡ clusters → slice_get links link ≡ Some info → info.signal ≡ None
       → IsFor operations order links clusters actor (unguarded (Collect link) (2 * length operations))
   commits : actor ≡ clusters → IsFor operations order links clusters actor (unguarded Commit (2 * length operations + 1))
+
+-- An instruction gives its actor the signal: it does an operation that writes it, or receives it on a link.
+abbrev pub Provides : List Operation → List LinkInfo → SigId → Instruction → Type 0
+Provides operations links x instruction =
+    ((number : ℕ) × (p : Operation) × (slice_get operations number ≡ Some p) × Writes p x × (instruction.kind ≡ Do (op_id number)))
+    ⊎ ((link : ℕ) × (info : LinkInfo) × (slice_get links link ≡ Some info) × (info.signal ≡ Some x) × (instruction.kind ≡ Receive link))
+
+-- an instruction that is done for the proposal, and stands before the place k among those of an actor, gives the actor the signal
+abbrev pub IsProvidedBefore : List Operation → List LinkInfo → List Instruction → List Bool → ℕ → SigId → Type 0
+IsProvidedBefore operations links instructions proposal k x =
+    (i : ℕ) × (instruction : Instruction) × (i < k) × (slice_get instructions i ≡ Some instruction) × (instruction.guard proposal ≡ true)
+    × Provides operations links x instruction
+
+-- what a step names is one of so many operations, or one of so many links
+abbrev pub NamesWithin : ℕ → ℕ → StepKind → Type 0
+NamesWithin operations links (Do op) = op.0 < operations
+NamesWithin operations links (Send link) = link < links
+NamesWithin operations links (Receive link) = link < links
+NamesWithin operations links (Report link) = link < links
+NamesWithin operations links (Collect link) = link < links
+NamesWithin operations links Commit = Unit {0}

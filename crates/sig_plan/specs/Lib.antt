@@ -1,7 +1,9 @@
 pub mod Acceptance
+pub mod Alike
 pub mod Answers
 pub mod Codes
 pub mod Guards
+pub mod Holding
 pub mod Instructions
 pub mod Making
 pub mod Operations

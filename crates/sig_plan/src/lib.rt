@@ -9,6 +9,7 @@ mod ended;
 mod laws;
 mod laws_accepted;
 mod laws_done;
+mod laws_links;
 mod making;
 mod op;
 mod parts;
@@ -23,12 +24,16 @@ pub use laws::{
     operations_have_one_order, operations_need_few_nodes,
 };
 pub use laws_accepted::{
-    accepted_plans_have_their_operations, guards_of_plans_ask_no_absent_condition,
-    instructions_are_for_operations, signals_are_written_in_their_clusters,
+    a_kernel_has_one_plan, accepted_plans_have_their_operations, codes_name_what_is_there,
+    guards_of_plans_ask_no_absent_condition, instructions_are_for_operations,
+    signals_are_written_in_their_clusters, steps_have_what_they_need,
 };
 pub use laws_done::{
     guards_depend_on_conditions_alone, operations_have_what_they_need,
     operations_name_what_is_there, present_signals_are_written_once, read_signals_are_present,
+};
+pub use laws_links::{
+    actors_have_what_they_need, links_have_one_writer_and_one_reader, what_is_sent_is_received,
 };
 pub use making::operations;
 pub use op::{Op, OpKind, Reads};

@@ -97,7 +97,7 @@ all_statuses [] (s ∷ reaction) is = absurd (false≢true is)
 all_statuses (signal ∷ signals) [] is = absurd (false≢true is)
 all_statuses (signal ∷ signals) (s ∷ reaction) is = ap suc (all_statuses signals reaction (and_parts (is_status_of signal.kind s) (are_statuses signals reaction) is).1)
 
-status_fits_at : (signals : List Signal) (reaction : Reaction) (k : ℕ) (signal : Signal) → are_statuses signals reaction ≡ true → slice_get signals k ≡ Some signal → is_status_of signal.kind (status_at reaction k) ≡ true
+pub status_fits_at : (signals : List Signal) (reaction : Reaction) (k : ℕ) (signal : Signal) → are_statuses signals reaction ≡ true → slice_get signals k ≡ Some signal → is_status_of signal.kind (status_at reaction k) ≡ true
 status_fits_at [] reaction k signal is at = absurd (let no : None ≡ Some signal = at in cc)
 status_fits_at (x ∷ signals) [] k signal is at = absurd (false≢true is)
 status_fits_at (x ∷ signals) (s ∷ reaction) zero signal is at =
@@ -105,14 +105,14 @@ status_fits_at (x ∷ signals) (s ∷ reaction) zero signal is at =
     subst (λ y. is_status_of y.kind s ≡ true) e (and_parts (is_status_of x.kind s) (are_statuses signals reaction) is).0
 status_fits_at (x ∷ signals) (s ∷ reaction) (suc k) signal is at = status_fits_at signals reaction k signal (and_parts (is_status_of x.kind s) (are_statuses signals reaction) is).1 at
 
-true_unless_boolean : (kind : Kind) (b : Bool) → is_status_of kind (Some b) ≡ true → (is_boolean_kind (Some kind) ≡ true → ⊥) → b ≡ true
+pub true_unless_boolean : (kind : Kind) (b : Bool) → is_status_of kind (Some b) ≡ true → (is_boolean_kind (Some kind) ≡ true → ⊥) → b ≡ true
 true_unless_boolean Integer true fits other = refl
 true_unless_boolean Integer false fits other = absurd (false≢true fits)
 true_unless_boolean Boolean b fits other = absurd (other refl)
 true_unless_boolean Event true fits other = refl
 true_unless_boolean Event false fits other = absurd (false≢true fits)
 
-found : {X : Type 0} (xs : List X) (k : ℕ) → k < length xs → (x : X) × (slice_get xs k ≡ Some x)
+pub found : {X : Type 0} (xs : List X) (k : ℕ) → k < length xs → (x : X) × (slice_get xs k ≡ Some x)
 found [] k lt = absurd (omega (arith, lt))
 found (x ∷ xs) zero lt = (x, refl)
 found (x ∷ xs) (suc k) lt = found xs k (omega (arith, lt))

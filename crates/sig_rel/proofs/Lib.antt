@@ -16,3 +16,12 @@ pub mod Meeting
 pub mod OperandLemmas
 pub mod Reactions
 pub mod Staying
+pub mod TriangleKinds
+pub mod OnceDefined
+pub mod TriangleLemmas
+pub mod ValueFits
+pub mod SoundValues
+pub mod OneReaction
+pub mod RuleLemmas
+pub mod PlacingLemmas
+pub mod ConditionLists

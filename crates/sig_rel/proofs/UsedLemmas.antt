@@ -66,7 +66,7 @@ in_range a (suc n) v low high = elim (cases_eq v a) [
 pub range_has : (kernel : Kernel) (count : ℕ) (present : List ℕ) (truth : List (Option ℕ)) → AreUnknowns kernel count present truth → (v : ℕ) → IsUsed present truth v → Contains (range_with_len (length (conditions_of kernel)) count) v
 range_has kernel count present truth are v used = let within = are.within v used in in_range (length (conditions_of kernel)) count v within.0 within.1
 
-one_least : (kernel : Kernel) (a b : List ℕ) → AreLeast kernel a → AreLeast kernel b → a ≡ b
+pub one_least : (kernel : Kernel) (a b : List ℕ) → AreLeast kernel a → AreLeast kernel b → a ≡ b
 one_least kernel a b first second = ext_get_or 0 a b (first.count ∙ sym second.count) (λ s lt.
     let within : s < length kernel.signals = let e = first.count in omega arith in
     let down : get_or a s 0 ≤ get_or b s 0 = first.least s (get_or b s 0) within (second.same s within) in

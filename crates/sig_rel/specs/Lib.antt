@@ -4,3 +4,7 @@ pub mod Relations
 pub mod Shares
 pub mod Statuses
 pub mod TruthFunctions
+pub mod Triangles
+pub mod Systems
+pub mod Rules
+pub mod Tables

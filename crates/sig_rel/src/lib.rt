@@ -1,18 +1,24 @@
 //! The clock relation of a kernel: one diagram that is true exactly of its abstract reactions, over
-//! unknowns for the presence of each clock class and the truth of each boolean. It stands on
-//! sig_clock, whose abstract reactions these are, and on sig_dd.
+//! unknowns for the presence of each clock class and the truth of each boolean. And the triangular
+//! kernels, whose clocks can be written out one after another. It stands on sig_clock, whose abstract
+//! reactions these are, and on sig_dd.
 #![tactic(auto)]
 
 mod answer;
+mod elements;
 mod equations;
 mod functions;
 mod laws;
 mod making;
 mod numbering;
+mod placing;
 mod relations;
+mod rules;
 mod statuses;
+mod triangles;
 
 pub use answer::RelAnswer;
 pub use laws::{reactions_are_truths, relations_see_reactions, statuses_are_those_of_unknowns};
 pub use making::relation;
 pub use relations::Relation;
+pub use triangles::triangle;

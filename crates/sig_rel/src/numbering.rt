@@ -230,7 +230,7 @@ impl Numbering {
 }
 
 /// Whether the signal of this number is a boolean.
-fn is_boolean(kernel: &Kernel, signal: usize) -> bool
+pub(crate) fn is_boolean(kernel: &Kernel, signal: usize) -> bool
     ensures { result ≡ is_boolean kernel.now signal }
 {
     match kernel.signals.as_slice().get(signal) {

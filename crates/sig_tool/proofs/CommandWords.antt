@@ -4,10 +4,10 @@ use Rattle.sig_text.specs.Files.{Contents}
 use Rattle.sig_words.specs.Readings.{Word}
 use Rattle.sig_words.specs.declared.command.Command.{Command}
 use Rattle.sig_words.specs.declared.command.Command.TheVariants.{Check, Code, Judge, Print, Run, Tree}
+use Rattle.sig_outcome.specs.Tasks.{IsRefusedBy, memory_line}
+use Rattle.sig_outcome.specs.declared.refusal.Refusal.TheVariants.{OutOfMemory}
 use Rattle.sig_tool.specs.Commands.{IsBuilt}
-use Rattle.sig_tool.specs.Refusals.{IsAbout}
-use Rattle.sig_tool.specs.declared.refusal.Refusal.TheVariants.{OutOfMemory}
-use Rattle.sig_tool.specs.TopCall.{IsRefusedBy, OfCommand, memory_line}
+use Rattle.sig_tool.specs.TopCall.{ComesTo, IsAbout, OfCommand}
 
 -- what holds of the one command that the words are holds of each
 pub of_one : (words : List Word) (command : Command) (Fact : Command → Type 0) → OfCommand words (λ c. c ≡ command) → Fact command → OfCommand words Fact
@@ -23,7 +23,7 @@ about_none (Print program) built = tt
 about_none (Judge program traces) built = inl tt
 about_none _ built = absurd built
 
-pub refused_unread : (contents : Option Contents) (c : Command) (before at : Option (List ℕ)) (misses misses' faults faults' : ℕ) (Said : List ℕ → Type 0) → IsBuilt c → Said memory_line → IsRefusedBy c contents before at misses misses' faults faults' 7 Said
+pub refused_unread : (contents : Option Contents) (c : Command) (before at : Option (List ℕ)) (misses misses' faults faults' : ℕ) (Said : List ℕ → Type 0) → IsBuilt c → Said memory_line → IsRefusedBy (λ held. ComesTo held c) (IsAbout c) contents before at misses misses' faults faults' 7 Said
 refused_unread contents c before at misses misses' faults faults' Said built line = record {
   refusal = OutOfMemory;
   numbered = refl;

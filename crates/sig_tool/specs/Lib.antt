@@ -1,14 +1,2 @@
-pub mod Acceptance
 pub mod Commands
-pub mod Compiling
-pub mod FlowFile
-pub mod Outcomes
-pub mod Reading
-pub mod Refusals
-pub mod RunEnd
-pub mod SmallRun
 pub mod TopCall
-pub use Rattle.sig_parse.specs.Small
-pub use Rattle.sig_text.specs.Counts
-pub use Rattle.sig_text.specs.Files
-pub use Rattle.sig_text.specs.Sink

@@ -1,24 +1,13 @@
-//! The top call of sigc: from the words of a command line, files and sinks to a status. It joins the
-//! parser of `sig_parse` with a reader of flow files and a loop over instants, and reads and writes by
-//! `sig_text`.
+//! The top call of sigc: from the words of a command line, files and sinks to a status. It reads the
+//! words by sig_words and hands each command to the crate that promises what it does: sig_compile,
+//! sig_judging or sig_runs. What they promise has one form, the task of sig_outcome, of which each clause
+//! of `sig_main` is a part.
 #![tactic(auto)]
 
-mod check;
-mod command;
-mod compile;
-mod due;
-mod flows;
-mod judge;
-mod load;
 mod perform;
-mod pieces;
-mod print;
-mod product;
-mod refusal;
-mod report;
-mod run;
 mod top;
 mod words;
 
-pub use run::{Cause, one_end};
-pub use top::{one_outcome, one_verdict, sig_main};
+pub use sig_compile::one_verdict;
+pub use sig_runs::{Cause, one_end};
+pub use top::{one_outcome, sig_main};

@@ -1,18 +1,18 @@
 //! The top call: from the words of a command line, files and sinks to a status.
 
-ghost use Rattle.std.specs.Prelude.{◌≡◌, ◌⊎◌, ℕ, List, IfSome, IsTrue};
+ghost use Rattle.std.specs.Prelude.{◌≡◌, ◌⊎◌, IfSome, IsTrue};
 ghost use Rattle.sig_text.specs.Counts.{Rose};
 ghost use Rattle.sig_text.specs.Files.{Contents};
 ghost use Rattle.sig_text.specs.Sink.{TookPrefix};
 ghost use Rattle.sig_words.specs.Readings.{texts};
 ghost use Rattle.sig_words.specs.declared.command.Command.{Command};
-ghost use Rattle.sig_tool.specs.Acceptance.{IsAcceptedProgram, IsRefusedProgram};
-ghost use Rattle.sig_tool.specs.Outcomes.{ComesTo, Outcome};
-ghost use Rattle.sig_tool.specs.TopCall.{AreNoCommand, HasBegun, CompilesBeyondBound, IsDone, IsDue, IsRefused, IsRefusedBy, IsStatus, IsStatusOf, MayAnswer, OfCommand, OfOutcome, SaysLine, memory_line, words_line, write_line};
+ghost use Rattle.sig_outcome.specs.Outcomes.{Outcome};
+ghost use Rattle.sig_outcome.specs.Tasks.{IsDone, IsDue, IsRefused, IsRefusedBy, MayAnswer, SaysLine, memory_line, words_line, write_line};
+ghost use Rattle.sig_tool.specs.TopCall.{AreNoCommand, ComesTo, CompilesBeyondBound, HasBegun, IsAbout, IsStatus, IsStatusOf, OfCommand, OfOutcome};
 
 use crate::perform::perform;
-use crate::report::{say_no_memory, say_words};
 use crate::words::built_command;
+use sig_outcome::{say_no_memory, say_words};
 use sig_text::{Files, Gate, Sink};
 use sig_words::WordsAnswer;
 use std::alloc::Global;
@@ -58,7 +58,7 @@ pub fn sig_main<R: Threads + Wait + Sync, F: Files, S: Sink, E: Sink, G: Gate + 
 
     // A command that is done wrote all of it, and said what ended it.
     ensures whole { IsDone result → OfCommand (texts words.now) (λ c. IfSome (F.contents files.old) (λ held.
-        IsDue held c (F.at files.old) (F.at files.new) result (λ text line.
+        IsDue (ComesTo held c) held (F.at files.old) (F.at files.new) result (λ text line.
         S.took out.old text out.new × SaysLine E.took (E.faults err.old) (E.faults err.new) err.old err.new line))) }
     ensures flushed { IsDone result → IsTrue (S.clean out.new) }
 
@@ -73,7 +73,7 @@ pub fn sig_main<R: Threads + Wait + Sync, F: Files, S: Sink, E: Sink, G: Gate + 
 
     // A refused command says one line, with its cause, and leaves the output as it was.
     ensures refused { IsRefused result → OfCommand (texts words.now) (λ c.
-        IsRefusedBy c (F.contents files.old) (F.at files.old) (F.at files.new)
+        IsRefusedBy (λ held. ComesTo held c) (IsAbout c) (F.contents files.old) (F.at files.old) (F.at files.new)
         (F.misses files.old) (F.misses files.new) (F.faults files.old) (F.faults files.new) result
         (SaysLine E.took (E.faults err.old) (E.faults err.new) err.old err.new)) }
     ensures words_line { result ≡ 2 →
@@ -87,7 +87,7 @@ pub fn sig_main<R: Threads + Wait + Sync, F: Files, S: Sink, E: Sink, G: Gate + 
     // The file that was begun last, if it is there, is one of the command's; or none was begun, since
     // memory was wanting to read the words.
     ensures begun { OfCommand (texts words.now) (λ c.
-        IfSome (F.contents files.old) (λ held. HasBegun held c (F.at files.old) (F.at files.new))
+        IfSome (F.contents files.old) (λ held. HasBegun held c (F.at files.new))
         ⊎ ((result ≡ 7) × (files.new ≡ files.old))) }
     ensures none_begun { AreNoCommand (texts words.now) → files.new ≡ files.old }
 {
@@ -104,17 +104,8 @@ pub fn sig_main<R: Threads + Wait + Sync, F: Files, S: Sink, E: Sink, G: Gate + 
     }
 }
 
-/// A law: no program is both accepted and refused, and a refused one has one line.
-pub fn one_verdict()
-    ensures apart { (bytes line : List ℕ) → IsAcceptedProgram bytes → IsRefusedProgram bytes line → ⊥ }
-    ensures one { (bytes line other : List ℕ) → IsRefusedProgram bytes line → IsRefusedProgram bytes other → line ≡ other }
-{}
-
 /// A law: a command over told contents comes to one outcome at most.
 pub fn one_outcome()
     ensures { (held : Contents) (c : Command) (one other : Outcome) →
         ComesTo held c one → ComesTo held c other → one ≡ other }
 {}
-
-#[cfg(test)]
-mod tests;

@@ -67,6 +67,7 @@ fn quantifiers_answer(rt: HostRuntime) -> Result<(), Fail> {
     let two = two_of(&mut store)?;
     assert_eq!(rt; store.restrict(two.both, 0, true), Ok(two.b));
     assert_eq!(rt; store.forget_var(two.both, 0), Ok(two.b));
+    assert_eq!(rt; store.meet_without(two.a, two.b, &[true]), Ok(two.b));
     let variables = store.support(two.both)?;
     assert_eq!(rt; variables.as_slice(), [0, 1].as_slice());
     Ok(())

@@ -4,11 +4,11 @@ ghost use Rattle.std.specs.Prelude.{◌≡◌, IfOk};
 ghost use Rattle.sig_dd.specs.Nodes.{Holds};
 
 use super::diagrams::value;
-use super::kernels::{down, fun, kernel, sig};
+use super::kernels::{down, fun, kernel, sig, two_roots};
 use sig_base::{Kind, SigId};
 use sig_dd::{DdAnswer, Ref, Store};
 use sig_kernel::{Form, FunOp, Kernel, Operand};
-use sig_rel::{RelAnswer, Relation, relation};
+use sig_rel::{RelAnswer, Relation, relation, triangle};
 use std::alloc::{AllocError, Global};
 use std::marker::Brand;
 use std::sync::ledger::Blank;
@@ -123,6 +123,24 @@ fn checksum(numbers: &[u32]) -> u64 {
         sum = sum.wrapping_mul(31).wrapping_add(*number as u64);
     }
     sum
+}
+
+/// The triangle of a kernel that is valid.
+fn triangle_of(alloc: Global, kernel: &Kernel) -> Result<Option<Vec<u32>>, RelAnswer> {
+    if kernel.is_valid() {
+        triangle(alloc, kernel)
+    } else {
+        Ok(None)
+    }
+}
+
+#[test]
+fn down_is_triangular(rt: HostRuntime) -> Result<(), Fail> {
+    let alloc = rt.alloc();
+    let classes = triangle_of(alloc, &down(alloc)?)?.ok_or("not triangular")?;
+    assert_eq!(rt; classes.as_slice(), [1, 0].as_slice());
+    assert!(rt; triangle_of(alloc, &two_roots(alloc)?)?.is_none());
+    Ok(())
 }
 
 #[test]

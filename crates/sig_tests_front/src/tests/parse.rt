@@ -232,13 +232,25 @@ fn gives_declarations_and_pragmas(rt: HostRuntime) -> Result<(), Fail> {
     Ok(())
 }
 
-/// Whether a body is a call, a delay by 0 or a clock equation, by 0, 1 and 2.
+fn is_delay_by_0(e: &Expr) -> bool {
+    match e {
+        Expr::Delay(_, init, _) => match init {
+            Some(constant) => matches!(constant, Constant::Int(0, _)),
+            None => false,
+        },
+        _ => false,
+    }
+}
+
+/// 0 for a call, 1 for a delay by 0, 2 for a clock equation, and 3 for all else.
 fn sort(body: &Body) -> u32 {
     match body {
-        Body::Def(_, Right::Call(_, _, _)) => 0,
-        Body::Def(_, Right::Value(Expr::Delay(_, Some(Constant::Int(0, _)), _))) => 1,
+        Body::All(_) => 3,
         Body::Same(_) => 2,
-        _ => 3,
+        Body::Def(_, right) => match right {
+            Right::Call(..) => 0,
+            Right::Value(e) => if is_delay_by_0(e) { 1 } else { 3 },
+        },
     }
 }
 

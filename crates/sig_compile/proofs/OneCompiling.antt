@@ -1,0 +1,72 @@
+-- The compiling and the printing of a program over told contents come to one outcome at most.
+use Rattle.std.proofs.Common.{◌≡◌, ◌∙◌, ◌⊎◌, ℕ, List, inl, inr, refl, sym, ap}
+use Rattle.sig_text.specs.Files.{Contents}
+use Rattle.sig_tree.specs.Grammar.{IsText}
+use Rattle.sig_tree.specs.Syntax.{ProcessModel}
+use Rattle.sig_print.specs.Canonical.{canonical_text}
+use Rattle.sig_front.specs.Shown.{front_line}
+use Rattle.sig_front.proofs.OneText.{tree_once, refusal_once, tree_or_refusal}
+use Rattle.sig_clock.specs.ClockRefusals.{HasClocks}
+use Rattle.sig_code.proofs.CodeOnce.{code_text_once}
+use Rattle.sig_hier.proofs.TreeOnce.{tree_text_once}
+use Rattle.sig_kernel.specs.declared.kernel.Kernel.{Kernel}
+use Rattle.sig_outcome.specs.Outcomes.{OneAtMost, WritesDue, done}
+use Rattle.sig_outcome.specs.Refusals.{status_of}
+use Rattle.sig_outcome.specs.declared.refusal.Refusal.{Refusal}
+use Rattle.sig_outcome.specs.declared.refusal.Refusal.TheVariants.{Missing, ReadFault, LongProgram, Program, Budget, LongFile, Data, OutOfMemory}
+use Rattle.sig_outcome.proofs.Stages.{one_at_program}
+use Rattle.sig_compile.specs.Acceptance.{AreRefused, IsAcceptedAs}
+use Rattle.sig_compile.specs.Compiling.{CompileComesTo, IsAboutPlan, IsCompileStatus, IsDueOf}
+use Rattle.sig_compile.specs.Printing.{IsAboutText, IsPrintStatus, PrintComesTo, RefusesText}
+use Rattle.sig_compile.specs.declared.product.Product.{Product}
+use Rattle.sig_compile.specs.declared.product.Product.TheVariants.{Code, Tree, Verdict}
+use Rattle.sig_compile.proofs.Verdicts.{accepted_once, accepted_or_refused, refused_once}
+
+-- ---- the products of a program
+
+one_due : (IsText : List ℕ → Type 0) (file : List ℕ) → ((a b : List ℕ) → IsText a → IsText b → a ≡ b) → OneAtMost (WritesDue IsText file)
+one_due IsText file one o p x y = x.is ∙ ap (λ t. done t file) (one x.text y.text x.due y.due) ∙ sym y.is
+
+one_product : (product : Product) (kernel : Kernel) (a b : List ℕ) → HasClocks kernel → IsDueOf product kernel a → IsDueOf product kernel b → a ≡ b
+one_product Verdict kernel a b has x y = x ∙ sym y
+one_product Tree kernel a b has x y = tree_text_once kernel a b has x y
+one_product Code kernel a b has x y = code_text_once kernel a b x y
+
+pub one_compile_outcome : (product : Product) (program : List ℕ) (held : Contents) → OneAtMost (CompileComesTo (IsDueOf product) held program)
+one_compile_outcome product program held =
+    one_at_program IsAcceptedAs AreRefused accepted_once refused_once accepted_or_refused held program
+    (λ kernel. WritesDue (IsDueOf product kernel) program)
+    (λ kernel bytes is. one_due (IsDueOf product kernel) program (λ a b. one_product product kernel a b is.accepted.has.clocks))
+
+pub compile_number : (program : List ℕ) (r : Refusal) → IsAboutPlan program r → IsCompileStatus (status_of r)
+compile_number program (Missing n) about = inr (inr (inr (inl refl)))
+compile_number program (ReadFault n) about = inr (inr (inr (inl refl)))
+compile_number program LongProgram about = inr (inr (inl refl))
+compile_number program (Program line) about = inr (inr (inl refl))
+compile_number program (Budget nodes) about = inr (inr (inr (inr (inr refl))))
+compile_number program (LongFile n) about = absurd about
+compile_number program (Data line) about = absurd about
+compile_number program OutOfMemory about = inr (inr (inr (inr (inl refl))))
+
+-- ---- the canonical text
+
+no_text_line : (bytes l m : List ℕ) → RefusesText bytes l → RefusesText bytes m → l ≡ m
+no_text_line bytes l m x y = x.says ∙ ap front_line (refusal_once bytes x.answer y.answer x.none y.none) ∙ sym y.says
+
+text_apart : (bytes : List ℕ) (tree : List ProcessModel) (l : List ℕ) → IsText bytes tree → RefusesText bytes l → ⊥
+text_apart bytes tree l says refuses = tree_or_refusal bytes tree refuses.answer says refuses.none
+
+pub one_print_outcome : (program : List ℕ) (held : Contents) → OneAtMost (PrintComesTo held program)
+one_print_outcome program held =
+    one_at_program IsText RefusesText tree_once no_text_line text_apart held program
+    (λ tree o. o ≡ done (canonical_text tree) program) (λ tree bytes is. λ o p x y. x ∙ sym y)
+
+pub print_number : (program : List ℕ) (r : Refusal) → IsAboutText program r → IsPrintStatus (status_of r)
+print_number program (Missing n) about = inr (inr (inr (inl refl)))
+print_number program (ReadFault n) about = inr (inr (inr (inl refl)))
+print_number program LongProgram about = inr (inr (inl refl))
+print_number program (Program line) about = inr (inr (inl refl))
+print_number program (Budget nodes) about = absurd about
+print_number program (LongFile n) about = absurd about
+print_number program (Data line) about = absurd about
+print_number program OutOfMemory about = inr (inr (inr (inr refl)))

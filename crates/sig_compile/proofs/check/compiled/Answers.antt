@@ -1,0 +1,37 @@
+use Rattle.std.proofs.Common.{◌≤◌, ap, arith, length, refl}
+use Rattle.std.proofs.lemmas.Result.{err_from_is_err_and}
+use Rattle.sig_outcome.specs.Outcomes.{WritesDue}
+use Rattle.sig_outcome.proofs.OneFile.{reaches_text, stops_bytes, stops_unread}
+use Rattle.sig_outcome.proofs.Refused.{on_err, on_ok}
+use Rattle.sig_compile.specs.Acceptance.{AreRefused, IsAcceptedAs}
+use Rattle.sig_compile.specs.Compiling.{HoldsBeyondBound, IsBudget, IsCompileStatus, IsDueOf, IsPlanLine, LacksNodes}
+use Rattle.sig_compile.proofs.Rooms.{budget_number, holds_beyond, plan_line}
+use Rattle.sig_compile.proofs.check.compiled.Goals as goal
+
+pub returns-in_err-bytes-clause-stops : goal.returns-in_err-bytes-clause-stops
+returns-in_err-bytes-clause-stops g c =
+    let p = err_from_is_err_and c.from_residual.result c.from_residual.ensures.1 in
+    rw (p.1, p.2) (stops_unread IsAcceptedAs AreRefused (λ kernel. WritesDue (IsDueOf c.args.product kernel) c.args.name.now) IsCompileStatus IsPlanLine IsBudget (λ held. HoldsBeyondBound (held c.args.name.now)) c.args.name.now
+    (g.F.Files.contents c.args.files.now) (g.F.Files.at c.args.files.now) (g.F.Files.at c.read_program.new.files)
+    (g.F.Files.misses c.args.files.now) (g.F.Files.misses c.read_program.new.files) (g.F.Files.faults c.args.files.now) (g.F.Files.faults c.read_program.new.files)
+    c.in_err-bytes.field-0.0 c.in_err-bytes.ensures.about c.in_err-bytes.ensures.counted c.in_err-bytes.ensures.refused c.in_err-bytes.ensures.read.told)
+
+pub returns-clause-stops : goal.returns-clause-stops
+returns-clause-stops g c =
+    let short : length c.in_ok-bytes.bytes.items ≤ 1048576 = omega (arith, c.in_ok-bytes.ensures.within, c.deref.ensures.len, ap length c.deref.ensures.value) in
+    on_err c.product_of.result _ _
+    (λ r is. stops_bytes IsAcceptedAs AreRefused (λ kernel. WritesDue (IsDueOf c.args.product kernel) c.args.name.now) IsCompileStatus IsPlanLine IsBudget (λ held. HoldsBeyondBound (held c.args.name.now)) c.args.name.now
+    (g.F.Files.contents c.args.files.now) (g.F.Files.at c.args.files.now) (g.F.Files.at c.read_program.new.files)
+    (g.F.Files.misses c.args.files.now) (g.F.Files.misses c.read_program.new.files) (g.F.Files.faults c.args.files.now) (g.F.Files.faults c.read_program.new.files)
+    c.in_ok-bytes.bytes.items (LacksNodes c.in_ok-bytes.bytes.items) r c.in_ok-bytes.ensures.bytes short
+    (plan_line c.in_ok-bytes.bytes.items) (budget_number c.in_ok-bytes.bytes.items) (holds_beyond c.args.name.now c.in_ok-bytes.bytes.items short) is c.in_ok-bytes.ensures.read.told)
+    (rw c.deref.ensures.value at c.product_of.ensures.refused)
+
+pub returns-clause-text : goal.returns-clause-text
+returns-clause-text g c =
+    let short : length c.in_ok-bytes.bytes.items ≤ 1048576 = omega (arith, c.in_ok-bytes.ensures.within, c.deref.ensures.len, ap length c.deref.ensures.value) in
+    on_ok c.product_of.result _ _
+    (λ text is. reaches_text IsAcceptedAs AreRefused (λ kernel. WritesDue (IsDueOf c.args.product kernel) c.args.name.now) IsCompileStatus IsPlanLine IsBudget (λ held. HoldsBeyondBound (held c.args.name.now)) c.args.name.now
+    (g.F.Files.contents c.args.files.now) (g.F.Files.at c.args.files.now) (g.F.Files.at c.read_program.new.files)
+    c.in_ok-bytes.bytes.items text.items is.kernel c.in_ok-bytes.ensures.bytes short is.is (record { text = text.items; due = is.due; is = refl }) c.in_ok-bytes.ensures.read.told)
+    (rw c.deref.ensures.value at c.product_of.ensures.text)

@@ -1,0 +1,87 @@
+-- What the commands `check`, `tree` and `code` come to over told contents.
+-- The refusals of a command are tried in the order in which the equations below stand.
+use Rattle.std.specs.Prelude.{◌≡◌, ◌⊎◌, ℕ, List, Option, codes}
+use Rattle.sig_back.specs.Budgets.{MeetsBound}
+use Rattle.sig_back.specs.Faults.{FaultView}
+use Rattle.sig_back.specs.Shown.{fault_line}
+use Rattle.sig_base.specs.declared.limits.TheConstants.{NODES}
+use Rattle.sig_code.specs.Texts.{IsCodeText}
+use Rattle.sig_front.specs.Shown.{front_line}
+use Rattle.sig_front.specs.declared.answer.FrontAnswer.{FrontAnswer}
+use Rattle.sig_hier.specs.Texts.{IsTreeText}
+use Rattle.sig_kernel.specs.declared.kernel.Kernel.{Kernel}
+use Rattle.sig_text.specs.Files.{Contents, name_where_there}
+use Rattle.sig_outcome.specs.Outcomes.{AtProgram, FindsProgram, Found, Holds, Outcome, WritesDue}
+use Rattle.sig_outcome.specs.Refusals.{IsAboutProgram}
+use Rattle.sig_outcome.specs.Tasks.{Task}
+use Rattle.sig_outcome.specs.declared.refusal.Refusal.{Refusal}
+use Rattle.sig_compile.specs.Acceptance.{AreRefused, HasKernel, IsAcceptedAs}
+use Rattle.sig_compile.specs.declared.product.Product.{Product}
+use Rattle.sig_compile.specs.declared.product.Product.TheVariants.{Code, Tree, Verdict}
+
+-- ---- the program file, for its plan
+
+abbrev pub FindsAccepted : Option (List ℕ) → Found Kernel → Type 0
+FindsAccepted held found = FindsProgram IsAcceptedAs AreRefused held found
+
+abbrev pub AtPlan : Contents → List ℕ → (Kernel → Outcome → Type 0) → Outcome → Type 0
+AtPlan held name Next o = AtProgram IsAcceptedAs AreRefused held name Next o
+
+-- ---- the commands
+
+-- the text that is due of the verdict on a program that is accepted
+abbrev pub IsVerdictText : Kernel → List ℕ → Type 0
+IsVerdictText kernel text = text ≡ codes "accepted\n"
+
+-- the text that is due of a product
+abbrev pub IsDueOf : Product → Kernel → List ℕ → Type 0
+IsDueOf Verdict kernel text = IsVerdictText kernel text
+IsDueOf Tree kernel text = IsTreeText kernel text
+IsDueOf Code kernel text = IsCodeText kernel text
+
+-- the compiling of a program over told contents comes to this, where such a text is due of its kernel
+abbrev pub CompileComesTo : (Kernel → List ℕ → Type 0) → Contents → List ℕ → Outcome → Type 0
+CompileComesTo IsText held program o = AtPlan held program (λ kernel. WritesDue (IsText kernel) program) o
+
+-- its statuses, and the refusals that there may be
+abbrev pub IsCompileStatus : ℕ → Type 0
+IsCompileStatus status = (status ≡ 0) ⊎ ((status ≡ 6) ⊎ ((status ≡ 1) ⊎ ((status ≡ 5) ⊎ ((status ≡ 7) ⊎ (status ≡ 8)))))
+
+abbrev pub IsPlanLine : List ℕ → Type 0
+IsPlanLine line = ((answer : FrontAnswer) × (line ≡ front_line answer)) ⊎ ((fault : FaultView) × (line ≡ fault_line fault))
+
+abbrev pub IsBudget : ℕ → Type 0
+IsBudget nodes = nodes ≡ NODES
+
+abbrev pub IsAboutPlan : List ℕ → Refusal → Type 0
+IsAboutPlan program r = IsAboutProgram program IsPlanLine IsBudget r
+
+-- a program that no pass up to its kernel refuses, whose kernel is not within the bound for which the nodes of a store suffice
+abbrev pub IsBeyondBound : List ℕ → Type 0
+IsBeyondBound bytes = (kernel : Kernel) × HasKernel bytes kernel × (MeetsBound kernel → ⊥)
+
+-- a file holds such a program
+abbrev pub HoldsBeyondBound : Option (List ℕ) → Type 0
+HoldsBeyondBound held = Holds held 1048576 IsBeyondBound
+
+abbrev pub compiling : Product → List ℕ → Task
+compiling product program = record {
+  comes = λ held o. CompileComesTo (IsDueOf product) held program o;
+  statuses = λ status. IsCompileStatus status;
+  about = λ r. IsAboutPlan program r;
+  begun = λ held at. at ≡ name_where_there held program;
+  beyond = λ held. HoldsBeyondBound (held program);
+}
+
+-- ---- a text
+
+-- a text is that of a product of the program that some bytes are
+pub record IsProductText (product : Product) (bytes text : List ℕ) : Type 0 where
+  pub kernel : Kernel
+  pub is : IsAcceptedAs bytes kernel
+  pub due : IsDueOf product kernel text
+
+-- the nodes do not suffice for the program that some bytes are
+pub record LacksNodes (bytes : List ℕ) (nodes : ℕ) : Type 0 where
+  pub number : nodes ≡ NODES
+  pub beyond : IsBeyondBound bytes

@@ -1,0 +1,3 @@
+pub mod Acceptance
+pub mod Compiling
+pub mod Printing

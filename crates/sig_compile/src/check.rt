@@ -1,0 +1,66 @@
+//! The commands `check`, `tree` and `code`: from the name of a program file to a status.
+
+ghost use Rattle.std.specs.Prelude.{◌≤◌, IfErr, IfOk, length};
+ghost use Rattle.sig_outcome.specs.Outcomes.{done};
+ghost use Rattle.sig_outcome.specs.Refusals.{IsOfProgram};
+ghost use Rattle.sig_outcome.specs.Tasks.{Performs, Reaches, SaysLine, Stops};
+ghost use Rattle.sig_compile.specs.Acceptance.{AreRefused};
+ghost use Rattle.sig_compile.specs.Compiling.{IsProductText, LacksNodes, compiling};
+
+use crate::compile::plan_of;
+use crate::product::Product;
+use sig_base::limits::PROGRAM_BYTES;
+use sig_outcome::{Refusal, put_due, read_program, refuse};
+use sig_text::{Files, Sink};
+use std::alloc::{AllocError, Global};
+
+/// Writes a product of the program that the file of this name holds.
+pub fn compile_command<F: Files, S: Sink, E: Sink>(
+    alloc: Global,
+    product: Product,
+    program: &str,
+    files: &mut F,
+    out: &mut S,
+    err: &mut E,
+) -> u8
+    ensures { Performs (compiling product program.now)
+        (F.contents files.old) (F.at files.old) (F.at files.new)
+        (F.misses files.old) (F.misses files.new) (F.faults files.old) (F.faults files.new)
+        S.took out.old out.new (S.faults out.old) (S.faults out.new) (S.clean out.new)
+        (SaysLine E.took (E.faults err.old) (E.faults err.new) err.old err.new) result }
+{
+    match compiled(alloc, product, files, program) {
+        Ok(text) => put_due(&text, out, err),
+        Err(refusal) => refuse(&refusal, err),
+    }
+}
+
+/// The text of a product of the program that the file of this name holds.
+fn compiled<'a, F: Files>(
+    alloc: Global,
+    product: Product,
+    files: &mut F,
+    name: &'a str,
+) -> Result<Vec<u8>, Refusal<'a>>
+    ensures text { IfOk result (λ text. Reaches (compiling product name.now)
+        (F.contents files.old) (F.at files.old) (F.at files.new) (done text.items name.now)) }
+    ensures stops { IfErr result (Stops (compiling product name.now)
+        (F.contents files.old) (F.at files.old) (F.at files.new)
+        (F.misses files.old) (F.misses files.new) (F.faults files.old) (F.faults files.new)) }
+{
+    let bytes = read_program(alloc, files, name)?;
+    product_of(alloc, product, &bytes)
+}
+
+/// The text of a product of the program that some bytes are.
+fn product_of<'a>(alloc: Global, product: Product, bytes: &[u8]) -> Result<Vec<u8>, Refusal<'a>>
+    requires short { length bytes.now ≤ PROGRAM_BYTES }
+    ensures text { IfOk result (λ text. IsProductText product bytes.now text.items) }
+    ensures refused { IfErr result (IsOfProgram (AreRefused bytes.now) (LacksNodes bytes.now)) }
+{
+    let plan = plan_of(alloc, bytes)?;
+    match product.text(alloc, &plan) {
+        Ok(text) => Ok(text),
+        Err(AllocError) => Err(Refusal::OutOfMemory),
+    }
+}

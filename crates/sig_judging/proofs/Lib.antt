@@ -1,0 +1,2 @@
+pub mod OneJudging
+mod JudgeFiles

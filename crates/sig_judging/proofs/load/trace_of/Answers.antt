@@ -1,0 +1,15 @@
+use Rattle.std.proofs.Common.{◌≡◌, ◌≢◌, ⊎_elim}
+use Rattle.sig_judge.specs.declared.trace_answer.TraceAnswer.TheVariants.{OutOfMemory}
+use Rattle.sig_outcome.proofs.Refused.{of_more_data}
+use Rattle.sig_judging.specs.Judging.{RefusesTrace, bad_trace}
+use Rattle.sig_judging.proofs.load.trace_of.Goals as goal
+
+pub returns-in-Err-clause-refused : goal.returns-in-Err-clause-refused
+returns-in-Err-clause-refused c =
+    of_more_data (λ line. (c.in-Err.answer ≢ OutOfMemory) × (line ≡ bad_trace c.args.name.now c.in-Err.answer)) (RefusesTrace c.args.name.now c.args.flat.now.signals.items c.args.bytes.now)
+    (λ line is. record {
+      answer = c.in-Err.answer;
+      none = ⊎_elim (λ memory. absurd (is.0 memory)) (λ first. first) c.in-Err.ensures.fault;
+      says = is.1;
+    })
+    c.refused_trace.result c.refused_trace.ensures

@@ -1,0 +1,5 @@
+pub mod TakenPieces
+pub mod Stages
+pub mod Refused
+pub mod OneFile
+pub mod Performing

@@ -1,0 +1,5 @@
+use Rattle.sig_plan.proofs.LinkEnds.{paired, report_paired}
+use Rattle.sig_plan.proofs.laws_links.what_is_sent_is_received.Goals as goal
+
+pub returns : goal.returns
+returns c = record { sends = paired; reports = report_paired }

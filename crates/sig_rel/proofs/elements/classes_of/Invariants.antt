@@ -1,0 +1,6 @@
+use Rattle.std.proofs.Common.{◌≡◌, take}
+use Rattle.sig_rel.specs.Triangles.{classes_among}
+use Rattle.sig_rel.proofs.elements.classes_of.Given as goal
+
+abbrev pub invariant-loop-element : goal.invariant-loop-element
+invariant-loop-element l = l.classes.items ≡ classes_among (take l.element-index l.list)

@@ -1,0 +1,6 @@
+use Rattle.std.proofs.Common.{◌≡◌, ◌<◌, ℕ, false}
+use Rattle.sig_rel.specs.Tables.{is_top_class}
+use Rattle.sig_rel.proofs.rules.top_of.Given as goal
+
+abbrev pub invariant-loop-class : goal.invariant-loop-class
+invariant-loop-class l = (class : ℕ) → class < l.class → is_top_class l.kernel l.least class ≡ false

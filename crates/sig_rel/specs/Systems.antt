@@ -1,0 +1,93 @@
+-- The system of a kernel's clocks: the presence of each class and the truth of each boolean as functions of a few
+-- variables, the proposals of the conditions first, and what is left to be met.
+use Rattle.std.specs.Prelude.{◌≡◌, ◌<◌, ◌≤◌, ◌↔◌, ℕ, Bool, true, false, List, [], ◌∷◌, length, Some, None, slice_get, Contains, IsTrue, if◌then◌else◌}
+use Rattle.sig_base.specs.declared.ids.SigId.{SigId}
+use Rattle.sig_kernel.specs.declared.kernel.Kernel.{Kernel}
+use Rattle.sig_clock.specs.ClockFunctions.{KeepsTo}
+use Rattle.sig_clock.specs.Conditions.{conditions_of, is_condition}
+use Rattle.sig_clock.specs.Layers.{IsSignal}
+use Rattle.sig_clock.specs.Reactions.{Reaction, Status, Speaks, status_at}
+use Rattle.sig_clock.specs.SameClocks.{SameClock}
+use Rattle.sig_dd.specs.Diagram.{Agree, Depends, with_truth}
+use Rattle.sig_dd.specs.Nodes.{Holds, test}
+use Rattle.sig_dd.specs.declared.node.Node.{Node}
+use Rattle.sig_dd.specs.declared.node.Ref.{Ref}
+use Rattle.sig_rel.specs.Relations.{IsUnknownCount, is_boolean}
+use Rattle.sig_rel.specs.Triangles.{IsTriangular}
+
+pub record SystemView : Type 0 where
+  -- the presence of each signal
+  pub present : List Ref
+  -- the truth of each signal, where it is present
+  pub truth : List Ref
+  -- what the variables have to meet
+  pub residue : Ref
+  -- where some signal is present
+  pub speaks : Ref
+  -- the conditions; variable i is the proposal of condition i
+  pub conditions : List SigId
+  -- how many variables there are
+  pub variables : ℕ
+
+abbrev pub status_read : List Node → List Bool → Ref → Ref → Status
+status_read nodes truths present truth = if test nodes present truths then Some (test nodes truth truths) else None
+
+abbrev pub statuses_read : List Node → List Bool → List Ref → List Ref → Reaction
+statuses_read nodes truths [] truth = []
+statuses_read nodes truths (p ∷ present) [] = []
+statuses_read nodes truths (p ∷ present) (t ∷ truth) = status_read nodes truths p t ∷ statuses_read nodes truths present truth
+
+-- the reaction that truths of the variables are
+abbrev pub reading : List Node → SystemView → List Bool → Reaction
+reading nodes system truths = statuses_read nodes truths system.present system.truth
+
+-- truths meet what is left to be met, and some signal is present
+abbrev pub IsSolution : List Node → SystemView → List Bool → Type 0
+IsSolution nodes system truths = IsTrue (test nodes system.residue truths) × IsTrue (test nodes system.speaks truths)
+
+-- the conditions of a kernel, each once, in some order
+pub record AreConditions (kernel : Kernel) (conditions : List SigId) : Type 0 where
+  pub all : (condition : SigId) → Contains conditions condition ↔ (is_condition kernel condition.0 ≡ true)
+  pub once : (i j : ℕ) (condition : SigId) → slice_get conditions i ≡ Some condition → slice_get conditions j ≡ Some condition → i ≡ j
+  pub count : length conditions ≡ length (conditions_of kernel)
+
+-- a reference of the store to a function of the variables below a number
+pub record IsOver (nodes : List Node) (variables : ℕ) (r : Ref) : Type 0 where
+  pub held : Holds nodes r
+  pub below : (v : ℕ) → Depends (test nodes r) v → v < variables
+
+-- The system of a kernel's clocks, among the nodes of a store.
+pub record IsSystem (kernel : Kernel) (nodes : List Node) (system : SystemView) : Type 0 where
+  pub presences : length system.present ≡ length kernel.signals
+  pub truths : length system.truth ≡ length kernel.signals
+  -- references of the store, over the variables
+  pub present : (signal : ℕ) (r : Ref) → slice_get system.present signal ≡ Some r → IsOver nodes system.variables r
+  pub truth : (signal : ℕ) (r : Ref) → slice_get system.truth signal ≡ Some r → IsOver nodes system.variables r
+  pub residue : IsOver nodes system.variables system.residue
+  pub speaks : IsOver nodes system.variables system.speaks
+  -- the variables are no more than the unknowns, and each condition has one
+  pub few : (count : ℕ) → IsUnknownCount kernel count → system.variables ≤ count
+  pub proposed : length system.conditions ≤ system.variables
+  -- signals of one class have one presence; the truth of an event or an integer is its presence
+  pub classes : (s t : ℕ) → IsSignal kernel s → IsSignal kernel t → SameClock kernel s t → slice_get system.present s ≡ slice_get system.present t
+  pub plain : (signal : ℕ) → is_boolean kernel signal ≡ false → slice_get system.truth signal ≡ slice_get system.present signal
+  -- the solutions read off the reactions that are not silent, all of them and no others
+  pub sound : (truths : List Bool) → IsSolution nodes system truths → Speaks kernel (reading nodes system truths)
+  pub complete : (reaction : Reaction) → Speaks kernel reaction
+      → (truths : List Bool) × IsSolution nodes system truths × (reading nodes system truths ≡ reaction)
+  -- a condition that is present has its proposal as its truth
+  pub proposals : (truths : List Bool) → KeepsTo system.conditions truths (reading nodes system truths)
+  -- the proposal of a condition that is absent makes no difference
+  pub idle : (i : ℕ) (condition : SigId) (truths : List Bool) (b : Bool) → slice_get system.conditions i ≡ Some condition → IsSolution nodes system truths
+      → status_at (reading nodes system truths) condition.0 ≡ None
+      → IsSolution nodes system (with_truth truths i b) × (reading nodes system (with_truth truths i b) ≡ reading nodes system truths)
+
+-- nothing is left to be met, some signal is always present, and the proposals are all variables: so each proposal is a reaction
+pub record IsFreeSystem (nodes : List Node) (system : SystemView) : Type 0 where
+  pub residue : Agree (test nodes system.residue) (λ _. true)
+  pub speaks : Agree (test nodes system.speaks) (λ _. true)
+  pub variables : system.variables ≡ length system.conditions
+
+-- the system of a triangular kernel is free
+abbrev pub IsFreeIfTriangular : Kernel → List Node → SystemView → Type 0
+IsFreeIfTriangular kernel nodes system = IsTriangular kernel → IsFreeSystem nodes system

@@ -1,0 +1,306 @@
+//! The list of a triangular kernel, put together one element after another.
+
+ghost use Rattle.std.specs.Prelude.{◌≡◌, ◌<◌, ◌≤◌, ◌∷◌, ◌++◌, [], ℕ, true, false, length, slice_index_or, IfOk, OnOk, MatchOption, MatchBool};
+ghost use Rattle.std.specs.List.{list_all};
+ghost use Rattle.sig_kernel.specs.Validity.{IsValid};
+ghost use Rattle.sig_rel.specs.Systems.{AreConditions};
+ghost use Rattle.sig_rel.specs.Tables.{AreMarks, AreRulesOf, IsPlaced, IsStuck, IsTriangleOf, IsWithin, MayBePlaced, has_both, has_class, has_operand, has_truth_of, has_whole, is_top_class, may_enter, may_hold, presence_ready, truth_ready, with_class, with_truth_of};
+ghost use Rattle.sig_rel.specs.Triangles.{IsTriangular};
+
+use crate::elements::Element;
+use crate::numbering::is_boolean;
+use crate::rules::{Rules, least_of, rules_of, top_of};
+use sig_base::SigId;
+use sig_clock::ClockBase;
+use sig_kernel::{Form, Kernel, Operand};
+use std::alloc::{AllocError, Global};
+
+/// A list that shows that a kernel is triangular, with what decides its elements.
+#[derive(Drop)]
+pub(crate) struct Triangle {
+    pub(crate) rules: Rules,
+    pub(crate) list: Vec<Element>,
+}
+
+/// What was placed so far: the list, and which classes, at their least signals, and which booleans
+/// it has.
+#[derive(Drop)]
+struct Placed {
+    list: Vec<Element>,
+    classes: Vec<bool>,
+    truths: Vec<bool>,
+}
+
+/// A list that shows that a kernel is triangular, and None where it is not. The kernel's conditions
+/// are given.
+pub(crate) fn triangle_of(
+    alloc: Global,
+    kernel: &Kernel,
+    conditions: &[SigId],
+) -> Result<Option<Triangle>, ClockBase>
+    requires valid { IsValid kernel.now }
+    requires conditions { AreConditions kernel.now conditions.now }
+    ensures { IfOk result (λ triangle. MatchOption triangle (IsTriangular kernel.now → ⊥)
+        (IsTriangleOf kernel.now)) }
+{
+    let rules = rules_of(alloc, kernel, conditions)?;
+    match top_of(kernel, rules.least.as_slice()) {
+        Some(top) => Ok(placed_from(alloc, kernel, rules, top)?),
+        None => Ok(None),
+    }
+}
+
+/// A list that begins with this top and shows that a kernel is triangular, and None where it is not.
+fn placed_from(
+    alloc: Global,
+    kernel: &Kernel,
+    rules: Rules,
+    top: usize,
+) -> Result<Option<Triangle>, AllocError>
+    requires valid { IsValid kernel.now }
+    requires rules { AreRulesOf kernel.now rules }
+    requires within { top < length kernel.now.signals }
+    requires top { is_top_class kernel.now rules.least.items top ≡ true }
+    ensures { IfOk result (λ triangle. MatchOption triangle (IsTriangular kernel.now → ⊥)
+        (IsTriangleOf kernel.now)) }
+{
+    let mut placed = Placed::with_top(alloc, kernel.signals.as_slice().len(), top)?;
+    placed.place_all(kernel, &rules)?;
+    if placed.is_whole(kernel, &rules) {
+        Ok(Some(Triangle {
+            rules,
+            list: placed.list,
+        }))
+    } else {
+        Ok(None)
+    }
+}
+
+impl Placed {
+    /// The top alone, of so many signals.
+    fn with_top(alloc: Global, count: usize, top: usize) -> Result<Placed, AllocError>
+        requires top { top < count }
+        requires few { count ≤ 512 }
+        ensures list { IfOk result (λ placed. placed.list.items ≡ Element.Presence top ∷ []) }
+        ensures marks { IfOk result (AreMarks count) }
+    {
+        let mut placed = Placed {
+            list: Vec::new(alloc),
+            classes: vec![in alloc; false; count]?,
+            truths: vec![in alloc; false; count]?,
+        };
+        placed.place(Element::Presence(top as u32))?;
+        Ok(placed)
+    }
+
+    /// Places elements as long as one may stand behind those that were placed.
+    fn place_all(&mut self, kernel: &Kernel, rules: &Rules) -> Result<(), AllocError>
+        requires valid { IsValid kernel.now }
+        requires rules { AreRulesOf kernel.now rules.now }
+        requires placed { IsPlaced kernel.now rules.now self.old }
+        ensures { IfOk result (λ _. IsPlaced kernel.now rules.now self.new × IsStuck kernel.now rules.now self.new) }
+    {
+        while let Some(element) = self.next(kernel, rules) {
+            self.place(element)?;
+        }
+        Ok(())
+    }
+
+    /// Places an element behind the others, and marks it.
+    fn place(&mut self, element: Element) -> Result<(), AllocError>
+        requires { IsWithin self.old element }
+        ensures list { OnOk result (self.new.list.items ≡ self.old.list.items ++ element ∷ []) }
+        ensures classes { OnOk result (self.new.classes.items ≡ with_class self.old.classes.items element) }
+        ensures truths { OnOk result (self.new.truths.items ≡ with_truth_of self.old.truths.items element) }
+    {
+        self.list.push(element)?;
+        match element {
+            Element::Presence(class) => self.classes[class as usize] = true,
+            Element::Truth(signal) => self.truths[signal as usize] = true,
+        }
+        Ok(())
+    }
+
+    /// An element that was not placed, and may stand behind those that were.
+    fn next(&self, kernel: &Kernel, rules: &Rules) -> Option<Element>
+        requires { length kernel.now.signals ≤ 512 }
+        ensures { MatchOption result (IsStuck kernel.now rules.now self.now)
+            (MayBePlaced kernel.now rules.now self.now) }
+    {
+        let count = kernel.signals.as_slice().len();
+        if let Some(class) = self.next_class(kernel, rules, count) {
+            return Some(Element::Presence(class as u32));
+        }
+        match self.next_truth(kernel, rules, count) {
+            Some(signal) => Some(Element::Truth(signal as u32)),
+            None => None,
+        }
+    }
+
+    /// The least class that was not placed, and may be.
+    fn next_class(&self, kernel: &Kernel, rules: &Rules, count: usize) -> Option<usize>
+        ensures { MatchOption result
+            ((class : ℕ) → class < count → may_enter kernel.now rules.now self.now class ≡ false)
+            (λ class. (class < count) × (may_enter kernel.now rules.now self.now class ≡ true)) }
+    {
+        for class in 0..count {
+            if self.may_enter(kernel, rules, class) {
+                return Some(class);
+            }
+        }
+        None
+    }
+
+    /// The least boolean that was not placed, and may be.
+    fn next_truth(&self, kernel: &Kernel, rules: &Rules, count: usize) -> Option<usize>
+        ensures { MatchOption result
+            ((signal : ℕ) → signal < count → may_hold kernel.now rules.now self.now signal ≡ false)
+            (λ signal. (signal < count) × (may_hold kernel.now rules.now self.now signal ≡ true)) }
+    {
+        for signal in 0..count {
+            if self.may_hold(kernel, rules, signal) {
+                return Some(signal);
+            }
+        }
+        None
+    }
+
+    /// Whether a class was not placed, and may be.
+    fn may_enter(&self, kernel: &Kernel, rules: &Rules, class: usize) -> bool
+        ensures { result ≡ may_enter kernel.now rules.now self.now class }
+    {
+        if is_marked(self.classes.as_slice(), class) {
+            return false;
+        }
+        match rules.counted.get(class) {
+            Some(Some(number)) => match kernel.equations.as_slice().get(*number as usize) {
+                Some(equation) => {
+                    self.presence_ready(kernel, rules.least.as_slice(), &equation.form)
+                }
+                None => false,
+            },
+            _ => false,
+        }
+    }
+
+    /// Whether a boolean was not placed, and may be.
+    fn may_hold(&self, kernel: &Kernel, rules: &Rules, signal: usize) -> bool
+        ensures { result ≡ may_hold kernel.now rules.now self.now signal }
+    {
+        if !is_boolean(kernel, signal) || is_marked(self.truths.as_slice(), signal) {
+            return false;
+        }
+        if !self.has_class(rules.least.as_slice(), signal) {
+            return false;
+        }
+        match rules.defined.get(signal) {
+            Some(Some(number)) => match kernel.equations.as_slice().get(*number as usize) {
+                Some(equation) => self.truth_ready(kernel, rules.least.as_slice(), &equation.form),
+                None => false,
+            },
+            Some(None) => true,
+            None => false,
+        }
+    }
+
+    /// Whether what a form gives its signal's class stands behind was placed.
+    fn presence_ready(&self, kernel: &Kernel, least: &[u32], form: &Form) -> bool
+        ensures { result ≡ presence_ready kernel.now least.now self.now form.now }
+    {
+        match form {
+            Form::When(_, x, b) => {
+                self.has_class(least, x.0 as usize) && self.has_whole(kernel, least, *b)
+            }
+            Form::WhenConst(_, _, b) => self.has_whole(kernel, least, *b),
+            Form::Default(_, u, v) => {
+                self.has_class(least, u.0 as usize) && self.has_class(least, v.0 as usize)
+            }
+            Form::Fun(_, _, _) | Form::Delay(_, _, _) | Form::Sync(_, _) | Form::Event(_, _) =>
+                true,
+        }
+    }
+
+    /// Whether what a form gives its signal's truth stands behind was placed.
+    fn truth_ready(&self, kernel: &Kernel, least: &[u32], form: &Form) -> bool
+        ensures { result ≡ truth_ready kernel.now least.now self.now form.now }
+    {
+        match form {
+            Form::Fun(_, _, operands) => self.has_operands(kernel, least, operands.as_slice()),
+            Form::Delay(_, x, _) | Form::WhenConst(_, _, x) | Form::Event(_, x) => {
+                self.has_whole(kernel, least, *x)
+            }
+            Form::When(_, a, b) | Form::Default(_, a, b) | Form::Sync(a, b) => {
+                self.has_whole(kernel, least, *a) && self.has_whole(kernel, least, *b)
+            }
+        }
+    }
+
+    /// Whether the classes of operands were placed, and those of them that are booleans.
+    fn has_operands(&self, kernel: &Kernel, least: &[u32], operands: &[Operand]) -> bool
+        ensures { result ≡ list_all (has_operand kernel.now least.now self.now) operands.now }
+    {
+        operands
+            .iter()
+            .all(|operand| self.has_operand(kernel, least, *operand))
+    }
+
+    fn has_operand(&self, kernel: &Kernel, least: &[u32], operand: Operand) -> bool
+        ensures { result ≡ has_operand kernel.now least.now self.now operand }
+    {
+        match operand {
+            Operand::Sig(x) => self.has_whole(kernel, least, x),
+            Operand::Const(_) => true,
+        }
+    }
+
+    /// Whether the class of a signal was placed, and the signal if it is a boolean.
+    fn has_whole(&self, kernel: &Kernel, least: &[u32], x: SigId) -> bool
+        ensures { result ≡ has_whole kernel.now least.now self.now x.0 }
+    {
+        self.has_class(least, x.0 as usize) && self.has_truth_of(kernel, x.0 as usize)
+    }
+
+    /// Whether the class of a signal was placed.
+    fn has_class(&self, least: &[u32], x: usize) -> bool
+        ensures { result ≡ has_class least.now self.now x }
+    {
+        is_marked(self.classes.as_slice(), least_of(least, x))
+    }
+
+    /// Whether a signal was placed, if it is a boolean.
+    fn has_truth_of(&self, kernel: &Kernel, x: usize) -> bool
+        ensures { result ≡ has_truth_of kernel.now self.now x }
+    {
+        !is_boolean(kernel, x) || is_marked(self.truths.as_slice(), x)
+    }
+
+    /// Whether all classes and all booleans were placed.
+    fn is_whole(&self, kernel: &Kernel, rules: &Rules) -> bool
+        ensures { MatchBool result
+            ((signal : ℕ) → signal < length kernel.now.signals → has_both kernel.now rules.now self.now signal ≡ true)
+            ((signal : ℕ) × (signal < length kernel.now.signals) × (has_both kernel.now rules.now self.now signal ≡ false)) }
+    {
+        for signal in 0..kernel.signals.as_slice().len() {
+            if !self.has_both(kernel, rules, signal) {
+                return false;
+            }
+        }
+        true
+    }
+
+    fn has_both(&self, kernel: &Kernel, rules: &Rules, signal: usize) -> bool
+        ensures { result ≡ has_both kernel.now rules.now self.now signal }
+    {
+        self.has_class(rules.least.as_slice(), signal) && self.has_truth_of(kernel, signal)
+    }
+}
+
+/// Whether a place is marked.
+fn is_marked(marks: &[bool], place: usize) -> bool
+    ensures { result ≡ slice_index_or marks.now place false }
+{
+    match marks.get(place) {
+        Some(mark) => *mark,
+        None => false,
+    }
+}

@@ -1,0 +1,283 @@
+//! What decides the clock classes and the booleans of a kernel.
+
+ghost use Rattle.std.specs.Prelude.{◌≡◌, ◌<◌, ◌^◌, ℕ, false, true, length, map, position, slice_index, IfOk, MatchOption};
+ghost use Rattle.std.specs.List.{list_all, list_any, range_with_len};
+ghost use Rattle.sig_kernel.specs.Validity.{IsValid, defines};
+ghost use Rattle.sig_rel.specs.Systems.{AreConditions};
+ghost use Rattle.sig_rel.specs.Tables.{AreRulesOf, allows_top, counted_for, defined_for, gives, governs, has_operand_of, is_excused, is_numbered, is_top_class, repeats, target_number};
+
+use crate::numbering::is_boolean;
+use sig_base::SigId;
+use sig_clock::{ClockBase, same_clock};
+use sig_kernel::{Equation, Form, Kernel};
+use std::alloc::{AllocError, Global};
+
+/// For each signal the least signal of its clock class; for each class, at its least signal, the
+/// number of the equation that gives it its presence, where there is one; for each boolean that is
+/// no condition the number of the equation that defines it.
+#[derive(Drop)]
+pub(crate) struct Rules {
+    pub(crate) least: Vec<u32>,
+    pub(crate) counted: Vec<Option<u32>>,
+    pub(crate) defined: Vec<Option<u32>>,
+}
+
+/// What decides the classes and the booleans of a kernel. Its conditions are given.
+pub(crate) fn rules_of(
+    alloc: Global,
+    kernel: &Kernel,
+    conditions: &[SigId],
+) -> Result<Rules, ClockBase>
+    requires valid { IsValid kernel.now }
+    requires conditions { AreConditions kernel.now conditions.now }
+    ensures { IfOk result (AreRulesOf kernel.now) }
+{
+    let least = same_clock(alloc, kernel)?;
+    let counted = counted_of(alloc, kernel, least.as_slice())?;
+    let defined = defined_of(alloc, kernel, conditions)?;
+    Ok(Rules {
+        least,
+        counted,
+        defined,
+    })
+}
+
+/// For each class the equation that is counted for it.
+fn counted_of(alloc: Global, kernel: &Kernel, least: &[u32]) -> Result<Vec<Option<u32>>, AllocError>
+    requires { IsValid kernel.now }
+    ensures { IfOk result (λ counted. counted.items
+        ≡ map (counted_for kernel.now least.now) (range_with_len 0 (length kernel.now.signals))) }
+{
+    (0..kernel.signals.as_slice().len())
+        .map(|class| counted_for(kernel, least, class))
+        .collect(alloc)
+}
+
+/// The equation that is counted for a class: it gives the class its presence from those of other
+/// classes, and each other When, WhenConst or Default that defines a signal of the class repeats it.
+fn counted_for(kernel: &Kernel, least: &[u32], class: usize) -> Option<u32>
+    requires { IsValid kernel.now }
+    ensures { result ≡ counted_for kernel.now least.now class }
+{
+    let equations = kernel.equations.as_slice();
+    match first_given(equations, least, class) {
+        Some(number) => match equations.get(number) {
+            Some(counted) => {
+                if are_excused(equations, least, class, &counted.form) {
+                    Some(number as u32)
+                } else {
+                    None
+                }
+            }
+            None => None,
+        },
+        None => None,
+    }
+}
+
+/// The first equation that gives a class its presence from those of other classes.
+fn first_given(equations: &[Equation], least: &[u32], class: usize) -> Option<usize>
+    ensures { result ≡ position (gives least.now class) equations.now }
+{
+    equations
+        .iter()
+        .position(|equation| gives(least, class, equation))
+}
+
+/// Whether each other equation leaves an equation of this form the counted one of a class.
+fn are_excused(equations: &[Equation], least: &[u32], class: usize, counted: &Form) -> bool
+    ensures { result ≡ list_all (is_excused least.now class counted.now) equations.now }
+{
+    equations
+        .iter()
+        .all(|equation| is_excused(least, class, counted, equation))
+}
+
+/// Whether an equation gives a class its presence from those of other classes.
+fn gives(least: &[u32], class: usize, equation: &Equation) -> bool
+    ensures { result ≡ gives least.now class equation.now }
+{
+    governs(least, class, &equation.form) && !has_operand_of(least, class, &equation.form)
+}
+
+/// Whether an equation defines no signal of a class, or repeats the counted one, or is that one.
+fn is_excused(least: &[u32], class: usize, counted: &Form, equation: &Equation) -> bool
+    ensures { result ≡ is_excused least.now class counted.now equation.now }
+{
+    !governs(least, class, &equation.form)
+        || repeats(least, class, counted, &equation.form)
+        || defines(equation, target_number(counted) as usize)
+}
+
+/// Whether a form is a When, WhenConst or Default that defines a signal of a class.
+fn governs(least: &[u32], class: usize, form: &Form) -> bool
+    ensures { result ≡ governs least.now class form.now }
+{
+    match form {
+        Form::When(y, _, _) | Form::WhenConst(y, _, _) | Form::Default(y, _, _) => {
+            class_of(least, *y) == class
+        }
+        Form::Fun(_, _, _) | Form::Delay(_, _, _) | Form::Sync(_, _) | Form::Event(_, _) => false,
+    }
+}
+
+/// Whether a form is a Default with an operand of a class.
+fn has_operand_of(least: &[u32], class: usize, form: &Form) -> bool
+    ensures { result ≡ has_operand_of least.now class form.now }
+{
+    match form {
+        Form::Default(_, u, v) => class_of(least, *u) == class || class_of(least, *v) == class,
+        Form::Fun(_, _, _)
+        | Form::Delay(_, _, _)
+        | Form::When(_, _, _)
+        | Form::WhenConst(_, _, _)
+        | Form::Sync(_, _)
+        | Form::Event(_, _) => false,
+    }
+}
+
+/// Whether a form is a Default with an operand of a class, the other operand being of the class of
+/// an operand of a counted Default.
+fn repeats(least: &[u32], class: usize, counted: &Form, form: &Form) -> bool
+    ensures { result ≡ repeats least.now class counted.now form.now }
+{
+    match form {
+        Form::Default(_, u, v) => {
+            let (u, v) = (class_of(least, *u), class_of(least, *v));
+            (u == class && has_operand_of(least, v, counted))
+                || (v == class && has_operand_of(least, u, counted))
+        }
+        Form::Fun(_, _, _)
+        | Form::Delay(_, _, _)
+        | Form::When(_, _, _)
+        | Form::WhenConst(_, _, _)
+        | Form::Sync(_, _)
+        | Form::Event(_, _) => false,
+    }
+}
+
+/// The least signal of a signal's class.
+fn class_of(least: &[u32], x: SigId) -> usize
+    ensures { result ≡ slice_index least.now x.0 }
+{
+    least_of(least, x.0 as usize)
+}
+
+/// The least signal of the class of the signal of this number.
+pub(crate) fn least_of(least: &[u32], x: usize) -> usize
+    ensures { result ≡ slice_index least.now x }
+{
+    match least.get(x) {
+        Some(class) => *class as usize,
+        None => 0,
+    }
+}
+
+/// The signal that a form defines.
+fn target_number(form: &Form) -> u32
+    ensures { result ≡ target_number form.now }
+{
+    match form {
+        Form::Fun(y, _, _)
+        | Form::Delay(y, _, _)
+        | Form::When(y, _, _)
+        | Form::WhenConst(y, _, _)
+        | Form::Default(y, _, _)
+        | Form::Sync(y, _)
+        | Form::Event(y, _) => y.0,
+    }
+}
+
+/// Whether an equation defines a signal.
+fn defines(equation: &Equation, signal: usize) -> bool
+    ensures { result ≡ defines signal equation.now }
+{
+    match equation.form {
+        Form::Sync(_, _) => false,
+        _ => target_number(&equation.form) as usize == signal,
+    }
+}
+
+/// For each boolean that is no condition the equation that defines it.
+fn defined_of(
+    alloc: Global,
+    kernel: &Kernel,
+    conditions: &[SigId],
+) -> Result<Vec<Option<u32>>, AllocError>
+    requires { IsValid kernel.now }
+    ensures { IfOk result (λ defined. defined.items
+        ≡ map (defined_for kernel.now conditions.now) (range_with_len 0 (length kernel.now.signals))) }
+{
+    (0..kernel.signals.as_slice().len())
+        .map(|signal| defined_for(kernel, conditions, signal))
+        .collect(alloc)
+}
+
+/// The equation that defines a signal, where that is a boolean and no condition.
+fn defined_for(kernel: &Kernel, conditions: &[SigId], signal: usize) -> Option<u32>
+    requires { IsValid kernel.now }
+    ensures { result ≡ defined_for kernel.now conditions.now signal }
+{
+    if !is_boolean(kernel, signal) || is_listed(conditions, signal) {
+        return None;
+    }
+    match first_defining(kernel.equations.as_slice(), signal) {
+        Some(number) => Some(number as u32),
+        None => None,
+    }
+}
+
+/// The first equation that defines a signal.
+fn first_defining(equations: &[Equation], signal: usize) -> Option<usize>
+    ensures { result ≡ position (defines signal) equations.now }
+{
+    equations
+        .iter()
+        .position(|equation| defines(equation, signal))
+}
+
+/// Whether a signal is among conditions.
+fn is_listed(conditions: &[SigId], signal: usize) -> bool
+    ensures { result ≡ list_any (is_numbered signal) conditions.now }
+{
+    conditions
+        .iter()
+        .any(|condition| condition.0 as usize == signal)
+}
+
+/// The class that no equation gives its presence from those of other classes, if there is one.
+pub(crate) fn top_of(kernel: &Kernel, least: &[u32]) -> Option<usize>
+    ensures { MatchOption result
+        ((class : ℕ) → class < length least.now → is_top_class kernel.now least.now class ≡ false)
+        (λ top. (top < length least.now) × (is_top_class kernel.now least.now top ≡ true)) }
+{
+    for class in 0..least.len() {
+        if is_top(kernel, least, class) {
+            return Some(class);
+        }
+    }
+    None
+}
+
+/// Whether a number is that of a class, and no equation gives that class its presence from those of
+/// other classes.
+fn is_top(kernel: &Kernel, least: &[u32], class: usize) -> bool
+    ensures { result ≡ is_top_class kernel.now least.now class }
+{
+    least_of(least, class) == class && all_allow_top(kernel.equations.as_slice(), least, class)
+}
+
+fn all_allow_top(equations: &[Equation], least: &[u32], class: usize) -> bool
+    ensures { result ≡ list_all (allows_top least.now class) equations.now }
+{
+    equations
+        .iter()
+        .all(|equation| allows_top(least, class, equation))
+}
+
+/// Whether an equation is no reason against a class being the top.
+fn allows_top(least: &[u32], class: usize, equation: &Equation) -> bool
+    ensures { result ≡ allows_top least.now class equation.now }
+{
+    !governs(least, class, &equation.form) || has_operand_of(least, class, &equation.form)
+}

@@ -1,0 +1,4 @@
+pub mod FlowFile
+pub mod RunEnd
+pub mod Runs
+pub mod SmallRun
