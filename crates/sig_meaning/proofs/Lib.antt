@@ -9,6 +9,7 @@ pub mod Flows
 pub mod Longest
 pub mod Naming
 pub mod Numbers
+pub mod Outcomes
 pub mod Reacting
 pub mod References
 pub mod Results

@@ -77,7 +77,7 @@ has_form kernel k d lt = ap form_in (get_at kernel.equations k d lt)
 
 -- ---- the value depends on what is read alone
 
-same_operands : (r s : Registers) (operands : List Operand) → ((x : SigId) → Contains (signals_of operands) x → r x.0 ≡ s x.0) → map (operand_in r) operands ≡ map (operand_in s) operands
+pub same_operands : (r s : Registers) (operands : List Operand) → ((x : SigId) → Contains (signals_of operands) x → r x.0 ≡ s x.0) → map (operand_in r) operands ≡ map (operand_in s) operands
 same_operands r s [] same = refl
 same_operands r s (Sig x ∷ operands) same =
     let first : value_in r x ≡ value_in s x = ap (λ (seen : Seen). unwrap_or seen (pos 0)) (same x (contains_head x (signals_of operands))) in
@@ -144,7 +144,7 @@ pub none_where : (x : Seen) → is_some x ≡ false → x ≡ None
 none_where None is = refl
 none_where (Some v) is = absurd (let e : true ≡ false = is in cc)
 
-have_map : (instant : Instant) (operands : List Operand) (values : List ℤ) → HaveValues instant operands values → values ≡ map (operand_in (seen_at instant)) operands
+pub have_map : (instant : Instant) (operands : List Operand) (values : List ℤ) → HaveValues instant operands values → values ≡ map (operand_in (seen_at instant)) operands
 have_map instant [] [] have = refl
 have_map instant [] (v ∷ values) have = absurd have
 have_map instant (Sig x ∷ operands) [] have = absurd have

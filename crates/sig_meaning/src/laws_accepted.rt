@@ -1,18 +1,24 @@
 //! Laws of accepted plans and their runs. The function of a law does nothing when it runs.
 
-ghost use Rattle.std.specs.Prelude.{◌≡◌, ◌+◌, ℕ, ℤ, List, length, Option, Some};
-ghost use Rattle.sig_base.specs.Traces.{Fits, Instant, NoneSilent, Trace};
+ghost use Rattle.std.specs.Prelude.{◌≡◌, ◌+◌, ◌++◌, ◌∷◌, [], ℕ, ℤ, true, List, length, slice_get, Option, Some};
+ghost use Rattle.sig_base.specs.Traces.{Fits, Instant, NoneSilent, Trace, seen_at};
 ghost use Rattle.sig_base.specs.declared.place.Place.{Place};
+ghost use Rattle.sig_dd.specs.Nodes.{test};
 ghost use Rattle.sig_kernel.specs.KernelTraces.{IsKernelTrace, Memory};
 ghost use Rattle.sig_kernel.specs.Validity.{AreFlowsFor};
 ghost use Rattle.sig_meaning.specs.Ends.{IsWithinBounds, StopsBefore};
 ghost use Rattle.sig_meaning.specs.Faults.{IsFaultAt, IsFirstFault};
+ghost use Rattle.sig_meaning.specs.Outcomes.{IsAt, IsOutcome};
 ghost use Rattle.sig_meaning.specs.Reactions.{HasOneReaction, IsNext};
+ghost use Rattle.sig_model.specs.Actors.{Actor, truths_of};
 ghost use Rattle.sig_model.specs.Causes.{IsEnd, place_at};
-ghost use Rattle.sig_plan.specs.Operations.{operations_in};
+ghost use Rattle.sig_model.specs.Operating.{outcome};
+ghost use Rattle.sig_model.specs.References.{IsReference};
+ghost use Rattle.sig_plan.specs.Operations.{operation_in, operations_in};
 ghost use Rattle.sig_plan.specs.Plans.{IsAccepted, PlanView, numbers_of};
 ghost use Rattle.sig_plan.specs.declared.ended.Cause.{Cause};
 ghost use Rattle.sig_plan.specs.declared.ended.Ended.{Ended};
+ghost use Rattle.sig_plan.specs.declared.op.Op.{Op};
 
 /// A law: an accepted kernel has one reaction; and whatever its delays remember and its inputs have
 /// next, it has no two.
@@ -50,4 +56,17 @@ pub fn faults_are_out_of_bounds()
         → StopsBefore plan.kernel flows trace instant
         → (place : ℕ) × (cause : Cause)
         × IsFirstFault plan.kernel (operations_in plan.store.nodes plan.ops) (numbers_of plan.order) flows trace instant place cause }
+{}
+
+/// A law: what a done operation of an accepted plan comes to at an actor that has what the operation
+/// reads, remembers what the trace so far leaves, and has read what that took, is what the instant has by
+/// which the extended reference goes on: the value of the signal that is written, or a fault.
+pub fn outcomes_are_of_the_reference()
+    ensures { (plan : PlanView) → IsAccepted plan → (flows : List (List ℤ)) → AreFlowsFor plan.kernel flows
+        → (trace : Trace) (instant : Instant) → IsKernelTrace plan.kernel trace → Fits flows trace → NoneSilent trace
+        → IsReference plan.kernel flows (length trace + 1) (trace ++ instant ∷ [])
+        → (number : ℕ) (op : Op) → slice_get plan.ops number ≡ Some op
+        → test plan.store.nodes op.guard (truths_of plan.clocks.conditions (seen_at instant)) ≡ true
+        → (actor : Actor) → IsAt plan.kernel trace instant op actor
+        → IsOutcome plan.kernel flows trace instant (operation_in plan.store.nodes op) (outcome plan.kernel flows actor op) }
 {}
