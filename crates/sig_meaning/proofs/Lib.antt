@@ -15,6 +15,7 @@ pub mod References
 pub mod Results
 pub mod Small
 pub mod Steps
+pub mod Storing
 pub mod Truths
 pub mod Uniqueness
 pub mod Values

@@ -1,8 +1,12 @@
 //! Laws of accepted plans and their runs. The function of a law does nothing when it runs.
 
-ghost use Rattle.std.specs.Prelude.{◌≡◌, ◌+◌, ◌++◌, ◌∷◌, [], ℕ, ℤ, true, List, length, slice_get, Option, Some};
+ghost use Rattle.std.specs.Prelude.{◌≡◌, ◌+◌, ◌++◌, ◌∷◌, [], ℕ, ℤ, true, List, length, slice_get, Contains, Option, Some};
 ghost use Rattle.sig_base.specs.Traces.{Fits, Instant, NoneSilent, Trace, seen_at};
+ghost use Rattle.sig_base.specs.declared.ids.EqId.{EqId};
+ghost use Rattle.sig_base.specs.declared.ids.SigId.{SigId};
 ghost use Rattle.sig_base.specs.declared.place.Place.{Place};
+ghost use Rattle.sig_kernel.specs.declared.equation.Equation.{Equation};
+ghost use Rattle.sig_kernel.specs.declared.equation.Form.TheVariants.{Delay};
 ghost use Rattle.sig_dd.specs.Nodes.{test};
 ghost use Rattle.sig_kernel.specs.KernelTraces.{IsKernelTrace, Memory};
 ghost use Rattle.sig_kernel.specs.Validity.{AreFlowsFor};
@@ -10,15 +14,16 @@ ghost use Rattle.sig_meaning.specs.Ends.{IsWithinBounds, StopsBefore};
 ghost use Rattle.sig_meaning.specs.Faults.{IsFaultAt, IsFirstFault};
 ghost use Rattle.sig_meaning.specs.Outcomes.{IsAt, IsOutcome};
 ghost use Rattle.sig_meaning.specs.Reactions.{HasOneReaction, IsNext};
-ghost use Rattle.sig_model.specs.Actors.{Actor, truths_of};
+ghost use Rattle.sig_model.specs.Actors.{Actor, Registers, truths_of};
 ghost use Rattle.sig_model.specs.Causes.{IsEnd, place_at};
-ghost use Rattle.sig_model.specs.Operating.{outcome};
+ghost use Rattle.sig_model.specs.Operating.{first_in, outcome};
 ghost use Rattle.sig_model.specs.References.{IsReference};
-ghost use Rattle.sig_plan.specs.Operations.{operation_in, operations_in};
+ghost use Rattle.sig_plan.specs.Operations.{Operation, operation_in, operations_in};
 ghost use Rattle.sig_plan.specs.Plans.{IsAccepted, PlanView, numbers_of};
 ghost use Rattle.sig_plan.specs.declared.ended.Cause.{Cause};
 ghost use Rattle.sig_plan.specs.declared.ended.Ended.{Ended};
 ghost use Rattle.sig_plan.specs.declared.op.Op.{Op};
+ghost use Rattle.sig_plan.specs.declared.op.OpKind.TheVariants.{Store};
 
 /// A law: an accepted kernel has one reaction; and whatever its delays remember and its inputs have
 /// next, it has no two.
@@ -69,4 +74,17 @@ pub fn outcomes_are_of_the_reference()
         → test plan.store.nodes op.guard (truths_of plan.clocks.conditions (seen_at instant)) ≡ true
         → (actor : Actor) → IsAt plan.kernel trace instant op actor
         → IsOutcome plan.kernel flows trace instant (operation_in plan.store.nodes op) (outcome plan.kernel flows actor op) }
+{}
+
+/// A law: a done store of an accepted plan, whose registers have what it reads, keeps what the instant
+/// has of the signal that its delay delays.
+pub fn stores_keep_what_is_seen()
+    ensures { (plan : PlanView) → IsAccepted plan → (memory : Memory) (next : ℕ → ℤ) (instant : Instant)
+        → IsNext plan.kernel memory next instant → (number : ℕ) (p : Operation)
+        → slice_get (operations_in plan.store.nodes plan.ops) number ≡ Some p
+        → p.guard (truths_of plan.clocks.conditions (seen_at instant)) ≡ true
+        → (e : EqId) (y x : SigId) (initial : ℤ) (equation : Equation) → p.kind ≡ Store e
+        → slice_get plan.kernel.equations e.0 ≡ Some equation → equation.form ≡ Delay y x initial → (registers : Registers)
+        → ((z : SigId) → Contains p.reads z → registers z.0 ≡ seen_at instant z.0)
+        → seen_at instant x.0 ≡ Some (first_in registers p.reads) }
 {}

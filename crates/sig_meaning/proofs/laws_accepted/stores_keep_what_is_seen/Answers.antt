@@ -1,0 +1,12 @@
+use Rattle.std.proofs.Common.{ap, ◌∙◌}
+use Rattle.std.specs.Prelude.{Some}
+use Rattle.sig_plan.specs.Operations.{operations_in}
+use Rattle.sig_plan.specs.Plans.{numbers_of}
+use Rattle.sig_meaning.proofs.Accepted.{compiled}
+use Rattle.sig_meaning.proofs.Storing.{stored}
+use Rattle.sig_meaning.proofs.Values.{form_in}
+use Rattle.sig_meaning.proofs.laws_accepted.stores_keep_what_is_seen.Goals as goal
+
+pub returns : goal.returns
+returns c = λ plan accepted memory next instant is number p at done e y x initial equation kind there form.
+    stored plan.kernel plan.clocks.conditions (operations_in plan.store.nodes plan.ops) (numbers_of plan.order) (compiled plan accepted) memory next instant is number p at done e y x initial kind (ap form_in there ∙ ap Some form)
