@@ -1,6 +1,6 @@
 -- What a store keeps is what the instant has of the signal that its delay delays.
-use Rattle.std.proofs.Common.{◌≡◌, ◌<◌, ◌∙◌, ℕ, ℤ, pos, true, List, [], ◌∷◌, length, ap, refl, subst, sym, Contains}
-use Rattle.std.specs.Prelude.{All, None, Option, Some, slice_get, unwrap_or}
+use Rattle.std.proofs.Common.{◌≡◌, ◌∙◌, ℕ, ℤ, pos, true, List, [], ◌∷◌, ap, subst, sym, Contains}
+use Rattle.std.specs.Prelude.{All, Some, slice_get, unwrap_or}
 use Rattle.std.proofs.lemmas.List.Elements.{All-cons, All-contains, All-nil}
 use Rattle.sig_base.specs.Traces.{Instant, Seen, seen_at}
 use Rattle.sig_base.specs.declared.ids.EqId.{EqId}
@@ -18,7 +18,6 @@ use Rattle.sig_meaning.proofs.Values.{form_for, has_form, where_some}
 use Rattle.sig_model.specs.Actors.{Registers, truths_of}
 use Rattle.sig_model.specs.Operating.{first_in}
 use Rattle.sig_plan.specs.Operations.{Operation, Presence, operations_of, signals_of, store_of, stores_of, without, writes_of, writing}
-use Rattle.sig_plan.specs.declared.op.OpKind.{OpKind}
 use Rattle.sig_plan.specs.declared.op.OpKind.TheVariants.{Compute, DelayRead, Left, Read, Right, Store}
 use Rattle.sig_plan.proofs.Done.{read_present}
 use Rattle.sig_plan.proofs.EachOperation.{each_operation, only}
