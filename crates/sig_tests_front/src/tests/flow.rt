@@ -5,10 +5,7 @@ ghost use Rattle.std.specs.List.{IsDistinct};
 
 use super::texts::{THREE_KINDS, flat_of};
 use sig_base::{Kind, Signal, Text};
-use sig_flow::{
-    EventAnswer, FileEvent, FlowAnswer, put_value, read_events, read_flows, read_named,
-};
-use sig_kernel::{Equations, Kernel, Signals};
+use sig_flow::{EventAnswer, FileEvent, FlowAnswer, put_value, read_events, read_named};
 use sig_text::{MemSink, WriteFault};
 use std::alloc::Global;
 use std::test::Fail;
@@ -206,6 +203,7 @@ fn counts_values(rt: HostRuntime) -> Result<(), Fail> {
     let alloc = rt.alloc();
     let inputs = flat_of(alloc, THREE_KINDS)?.signals;
     let whole = read_named(alloc, b"flows 2\nA 7*3999999\nB true", &inputs)?;
+    assert_eq!(rt; whole.as_slice().len(), 3);
     assert_eq!(rt; whole.as_slice()[0].as_slice().len(), 3_999_999);
     let many = Some(FlowAnswer::TooMany(4_000_000));
     assert_eq!(rt;
@@ -217,27 +215,6 @@ fn counts_values(rt: HostRuntime) -> Result<(), Fail> {
         Some(FlowAnswer::BadValue(3, 3))
     );
     assert_eq!(rt; refusal(alloc, b"flows 2\nA 7*4000000 1", &inputs), many);
-    Ok(())
-}
-
-#[test]
-#[tactic(auto, using(sig_front::proofs::Distinct::first_distinct))]
-fn reads_a_kernels_flows(rt: HostRuntime) -> Result<(), Fail> {
-    let alloc = rt.alloc();
-    let kernel = Kernel {
-        signals: Signals::from(flat_of(alloc, THREE_KINDS)?.signals),
-        equations: Equations::from(Vec::new(alloc)),
-        inputs: 3,
-        outputs: 0,
-        declared: 3,
-    };
-    let flows = read_flows(alloc, b"B true\nA 5", &kernel)?;
-    assert_eq!(rt; flows.as_slice().len(), 3);
-    assert_eq!(rt; flows.as_slice()[0].as_slice(), [5].as_slice());
-    assert_eq!(rt;
-        read_flows(alloc, b"D true", &kernel).err(),
-        Some(FlowAnswer::NotAnInput(1))
-    );
     Ok(())
 }
 
