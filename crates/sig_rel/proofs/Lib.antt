@@ -25,3 +25,10 @@ pub mod OneReaction
 pub mod RuleLemmas
 pub mod PlacingLemmas
 pub mod ConditionLists
+pub mod ColumnLemmas
+pub mod NewColumns
+pub mod WritingLemmas
+pub mod FreeSystems
+pub mod StepLemmas
+pub mod AddingLemmas
+pub mod FilledLemmas

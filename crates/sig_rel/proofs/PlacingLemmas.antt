@@ -312,7 +312,7 @@ module _ (kernel : Kernel) (valid : IsValid kernel) (rules : Rules) (are : AreRu
     by (Some equation) there is = (equation, there, cc)
 
   -- the form that is counted for a class, by the table
-  counted_form : (class number : ℕ) (form : Form) → slice_get rules.counted.items class ≡ Some (Some number) → form_at kernel number ≡ Some form → IsCounted kernel least class number form × (HasOperandOf least class form → ⊥)
+  pub counted_form : (class number : ℕ) (form : Form) → slice_get rules.counted.items class ≡ Some (Some number) → form_at kernel number ≡ Some form → IsCounted kernel least class number form × (HasOperandOf least class form → ⊥)
   counted_form class number form there at =
       let is = are.is_counted class number there in
       let both : Some is.0 ≡ Some form = sym is.1.at ∙ at in
@@ -320,7 +320,7 @@ module _ (kernel : Kernel) (valid : IsValid kernel) (rules : Rules) (are : AreRu
       (subst (IsCounted kernel least class number) same is.1, subst (λ f. HasOperandOf least class f → ⊥) same is.2)
 
   -- a class that is governed is one
-  governed_class : (class number : ℕ) (form : Form) → form_at kernel number ≡ Some form → Governs least class form → IsClass kernel least class
+  pub governed_class : (class number : ℕ) (form : Form) → form_at kernel number ≡ Some form → Governs least class form → IsClass kernel least class
   governed_class class number form at governs = let e = form_of number form at in by form (subst (λ f. form_within (length kernel.signals) f ≡ true) e.2 (within_at kernel valid number e.0 e.1)) governs where
     of_target : (y : ℕ) → y < length kernel.signals → get_or least y 0 ≡ class → IsClass kernel least class
     of_target y lt is = subst (IsClass kernel least) is (least_within kernel least are.are_least y lt, least_own kernel least are.are_least y lt)

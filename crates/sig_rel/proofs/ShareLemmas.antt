@@ -29,7 +29,7 @@ within_share kernel first count u is other =
     subst (λ w. 14 * length kernel.equations * allowance (range_with_len first count) ≤ share_of kernel w) (one_count kernel count u is other)
     (subst (λ n. 14 * length kernel.equations * (2 ^ n - 1) ≤ share_of kernel count) (sym long) (fourteen (length kernel.equations) (2 ^ count) (count * count * count)))
 
-refused_as : (old new : StoreView) (a b : ℕ) → a ≤ b → (why : DdAnswer) (answer : RelAnswer) → IsFromStore why answer → IsRefused old new a why → IsRefusedFor old new b answer
+pub refused_as : (old new : StoreView) (a b : ℕ) → a ≤ b → (why : DdAnswer) (answer : RelAnswer) → IsFromStore why answer → IsRefused old new a why → IsRefusedFor old new b answer
 refused_as old new a b le (StoreBudget n) answer is refused = let lt = refused.1 in subst (IsRefusedFor old new b) (sym is) (refused.0, omega arith)
 refused_as old new a b le NoMemory answer is refused = subst (IsRefusedFor old new b) (sym is) tt
 

@@ -55,7 +55,7 @@ there_used (p ∷ present) truth v there = elim (contains_cons p v (used_among p
   | inr later ↦ elim (there_used present truth v later) [ inl at ↦ inl (suc at.0, at.1) | inr at ↦ inr at ]
 ]
 
-in_range : (a n v : ℕ) → a ≤ v → v < a + n → Contains (range_with_len a n) v
+pub in_range : (a n v : ℕ) → a ≤ v → v < a + n → Contains (range_with_len a n) v
 in_range a zero v low high = absurd (omega arith)
 in_range a (suc n) v low high = elim (cases_eq v a) [
   | inl is ↦ subst (Contains (range_with_len a (suc n))) (sym is) (contains_head a (range_with_len (a + 1) n))

@@ -8,3 +8,5 @@ pub mod Triangles
 pub mod Systems
 pub mod Rules
 pub mod Tables
+pub mod Substitutions
+pub mod FreeColumns

@@ -5,7 +5,9 @@ use Rattle.sig_dd.specs.Shares.{HoldAll, Share, Trail}
 use Rattle.sig_dd.specs.declared.answer.DdAnswer.{DdAnswer}
 use Rattle.sig_dd.specs.declared.node.Ref.{Ref}
 use Rattle.sig_kernel.specs.declared.kernel.Kernel.{Kernel}
+use Rattle.sig_clock.specs.Conditions.{conditions_of}
 use Rattle.sig_rel.specs.Relations.{IsUnknownCount}
+use Rattle.sig_rel.specs.Triangles.{IsTriangular}
 use Rattle.sig_rel.specs.declared.answer.RelAnswer.{RelAnswer}
 use Rattle.sig_rel.specs.declared.answer.RelAnswer.TheVariants.{Budget, OutOfMemory}
 use Rattle.std.specs.Prelude.{Some}
@@ -23,6 +25,15 @@ IsRefusedFor old new room OutOfMemory = Unit {0}
 pub record KeepsToShare {T : Type 0} (kernel : Kernel) (old new : StoreView) (result : Result T RelAnswer) : Type 0 where
   pub added : (u : ℕ) → IsUnknownCount kernel u → length new.nodes ≤ length old.nodes + share_of kernel u
   pub refused : (u : ℕ) → IsUnknownCount kernel u → IfErr result (IsRefusedFor old new (share_of kernel u))
+
+-- how many nodes the making of a triangular kernel's system may add
+abbrev pub triangular_share_of : Kernel → ℕ
+triangular_share_of kernel = 2 ^ length (conditions_of kernel) * 16 * (length kernel.equations + 1)
+
+-- the making of a triangular kernel's system keeps to a share over its conditions alone
+pub record KeepsToTriangularShare {T : Type 0} (kernel : Kernel) (old new : StoreView) (result : Result T RelAnswer) : Type 0 where
+  pub added : IsTriangular kernel → length new.nodes ≤ length old.nodes + triangular_share_of kernel
+  pub refused : IsTriangular kernel → IfErr result (IsRefusedFor old new (triangular_share_of kernel))
 
 -- what so many calls over the variables vs have led to: references that depend on these alone, or a refusal
 abbrev pub Leads : {T : Type 0} → ℕ → List ℕ → StoreView → StoreView → (T → List Ref) → Result T DdAnswer → Type 0

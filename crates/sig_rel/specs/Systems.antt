@@ -13,7 +13,6 @@ use Rattle.sig_dd.specs.Nodes.{Holds, test}
 use Rattle.sig_dd.specs.declared.node.Node.{Node}
 use Rattle.sig_dd.specs.declared.node.Ref.{Ref}
 use Rattle.sig_rel.specs.Relations.{IsUnknownCount, is_boolean}
-use Rattle.sig_rel.specs.Triangles.{IsTriangular}
 
 pub record SystemView : Type 0 where
   -- the presence of each signal
@@ -88,6 +87,6 @@ pub record IsFreeSystem (nodes : List Node) (system : SystemView) : Type 0 where
   pub speaks : Agree (test nodes system.speaks) (λ _. true)
   pub variables : system.variables ≡ length system.conditions
 
--- the system of a triangular kernel is free
-abbrev pub IsFreeIfTriangular : Kernel → List Node → SystemView → Type 0
-IsFreeIfTriangular kernel nodes system = IsTriangular kernel → IsFreeSystem nodes system
+-- the system is the free one of a kernel, over these conditions
+abbrev pub IsFreeSystemOf : Kernel → List SigId → List Node → SystemView → Type 0
+IsFreeSystemOf kernel conditions nodes system = (system.conditions ≡ conditions) × IsSystem kernel nodes system × IsFreeSystem nodes system

@@ -5,9 +5,10 @@ ghost use Rattle.sig_rel.specs.Triangles.{classes_among};
 
 use std::alloc::{AllocError, Global};
 
-/// The presence of a clock class, which is named by its least signal, or the truth of a boolean.
+/// What stands in the list of a triangular kernel: the presence of a clock class, which is named by its
+/// least signal, or the truth of a boolean, by its signal.
 #[derive(Clone, Copy, PartialEq, Eq)]
-pub(crate) enum Element {
+pub enum Element {
     Presence(u32),
     Truth(u32),
 }

@@ -288,7 +288,7 @@ fn two_signals(
 }
 
 /// The truth that a constant has in a signal.
-fn constant_truth(signals: &[Signal], y: SigId, constant: i64) -> bool
+pub(crate) fn constant_truth(signals: &[Signal], y: SigId, constant: i64) -> bool
     ensures { result ≡ constant_truth (kind_at signals.now y) constant }
 {
     match signals.get(y.0 as usize) {

@@ -1,0 +1,111 @@
+-- What is written of an element, by the equation that its table has for it.
+use Rattle.std.proofs.Common.{◌≡◌, ◌<◌, ◌≤◌, ◌+◌, ◌*◌, ◌++◌, ℕ, Bool, List, [], ◌∷◌, length, take, get_or, Option, None, Some, Result, Ok, refl, sym, ap, ◌∙◌, subst, arith}
+use Rattle.std.specs.Prelude.{option_map, slice_get}
+use Rattle.std.proofs.lemmas.Option.{slice_get_past, slice_get_read}
+use Rattle.std.proofs.lemmas.List.{take_more}
+use Rattle.std.proofs.lemmas.List.Sums.{sum_by_more, sum_by-take-le}
+use Rattle.sig_clock.proofs.Lists.{contains_at, get_at, get_within}
+use Rattle.sig_dd.specs.Nodes.{StoreView, test}
+use Rattle.sig_dd.specs.declared.answer.DdAnswer.{DdAnswer}
+use Rattle.sig_dd.specs.declared.node.Node.{Node}
+use Rattle.sig_dd.specs.declared.node.Ref.{Ref}
+use Rattle.sig_kernel.specs.declared.equation.Equation.{Equation}
+use Rattle.sig_kernel.specs.declared.equation.Form.{Form}
+use Rattle.sig_kernel.specs.declared.kernel.Kernel.{Kernel}
+use Rattle.sig_rel.specs.Rules.{presence_by}
+use Rattle.sig_rel.specs.Shares.{Makes}
+use Rattle.sig_rel.specs.Substitutions.{AreAsMany, GivesTruth, IsColumnOf, IsNewPresence, IsNewTruth, IsPartlyWritten, SpanColumns, no_ref, step_at, steps, values_at}
+use Rattle.sig_rel.specs.Triangles.{IsTriangle, form_at}
+use Rattle.sig_rel.specs.declared.elements.Element.{Element}
+use Rattle.sig_rel.specs.declared.elements.Element.TheVariants.{Presence, Truth}
+use Rattle.sig_rel.specs.declared.rules.Rules.{Rules}
+use Rattle.sig_rel.specs.declared.substitution.Columns.{Columns}
+use Rattle.sig_rel.proofs.Makings.{makes_then}
+use Rattle.sig_rel.proofs.UnknownLemmas.{boolean_within}
+
+-- an element that was read, and none
+pub read_at : {X : Type 0} (own items : List X) (i : ℕ) (x : X) → own ≡ items → i < length own → x ≡ get_or own i x → slice_get items i ≡ Some x
+read_at own items i x same lt is = subst (λ xs. slice_get xs i ≡ Some x) same (slice_get_read own (length own) i x refl lt is)
+
+pub read_past : {X : Type 0} (own items : List X) (i : ℕ) → own ≡ items → length own ≤ i → slice_get items i ≡ None
+read_past own items i same past = subst (λ xs. slice_get xs i ≡ None) same (slice_get_past own i past)
+
+pub element_at : (own list : List Element) (k : ℕ) (d : Element) → own ≡ list → k < length own → slice_get list k ≡ Some (get_or own k d)
+element_at own list k d same lt = subst (λ xs. slice_get xs k ≡ Some (get_or own k d)) same (get_at own k d lt)
+
+-- an equation at a number, and none
+at_form : (kernel : Kernel) (number : ℕ) (equation : Equation) → slice_get kernel.equations number ≡ Some equation → form_at kernel number ≡ Some equation.form
+at_form kernel number equation at = ap (option_map (λ (e : Equation). e.form)) at
+
+no_form : (kernel : Kernel) (m n : ℕ) (form : Form) (entry : Option (Option ℕ)) → entry ≡ Some (Some m) → slice_get kernel.equations m ≡ None → entry ≡ Some (Some n) → form_at kernel n ≡ Some form → ⊥
+no_form kernel m n form entry first none second at =
+    let both : Some (Some m) ≡ Some (Some n) = sym first ∙ second in
+    let same : m ≡ n = cc in
+    let off : None ≡ Some form = sym (ap (option_map (λ (e : Equation). e.form)) none) ∙ ap (form_at kernel) same ∙ at in
+    cc
+
+module _ (kernel : Kernel) (rules : Rules) (old new : List Node) (columns : Columns) where
+  -- the table has an equation for the class
+  pub new_presence_is : (class number : ℕ) (equation : Equation) (r : Ref) → slice_get rules.counted.items class ≡ Some (Some number) → slice_get kernel.equations number ≡ Some equation
+      → ((truths : List Bool) → test new r truths ≡ presence_by rules.least.items (values_at old columns truths) equation.form) → IsNewPresence kernel rules old new columns class (Some r)
+  new_presence_is class number equation r counted at is = (number, (equation.form, (counted, at_form kernel number equation at), is))
+
+  -- the number is that of no equation
+  pub off_presence : (class number : ℕ) → slice_get rules.counted.items class ≡ Some (Some number) → slice_get kernel.equations number ≡ None → IsNewPresence kernel rules old new columns class None
+  off_presence class number counted none n form is = no_form kernel number n form (slice_get rules.counted.items class) counted none is.0 is.1
+
+  -- the table has no number
+  pub no_presence : (class : ℕ) → ((number : ℕ) → slice_get rules.counted.items class ≡ Some (Some number) → ⊥) → IsNewPresence kernel rules old new columns class None
+  no_presence class never number form is = never number is.0
+
+  pub new_truth_is : (signal number : ℕ) (equation : Equation) (r : Ref) → slice_get rules.defined.items signal ≡ Some (Some number) → slice_get kernel.equations number ≡ Some equation
+      → GivesTruth old new columns kernel.signals rules.least.items equation.form r → IsNewTruth kernel rules old new columns signal (Some r)
+  new_truth_is signal number equation r defined_it at is = (number, (equation.form, (defined_it, at_form kernel number equation at), is))
+
+  pub off_truth : (signal number : ℕ) → slice_get rules.defined.items signal ≡ Some (Some number) → slice_get kernel.equations number ≡ None → IsNewTruth kernel rules old new columns signal None
+  off_truth signal number defined_it none n form is = no_form kernel number n form (slice_get rules.defined.items signal) defined_it none is.0 is.1
+
+  pub no_truth : (signal : ℕ) → ((number : ℕ) → slice_get rules.defined.items signal ≡ Some (Some number) → ⊥) → IsNewTruth kernel rules old new columns signal None
+  no_truth signal never number form is = never number is.0
+
+-- there is a column for each element of a triangular kernel's list
+pub has_column : (kernel : Kernel) (least : List ℕ) (list : List Element) (columns : Columns) → IsTriangle kernel least list → AreAsMany (length kernel.signals) columns
+    → (k : ℕ) (element : Element) → slice_get list k ≡ Some element → IsColumnOf columns element
+has_column kernel least list columns tri counts k (Presence class) at =
+    let is = (tri.classes class).0 (contains_at list k (Presence class) at) in
+    subst (λ n. class < n) (sym counts.presences) is.0
+has_column kernel least list columns tri counts k (Truth signal) at =
+    let boolean = (tri.truths signal).0 (contains_at list k (Truth signal) at) in
+    subst (λ n. signal < n) (sym counts.truths) (boolean_within kernel signal boolean)
+
+-- the elements so far, and one more
+more_taken : (list : List Element) (k : ℕ) (element : Element) → slice_get list k ≡ Some element → take (k + 1) list ≡ take k list ++ element ∷ []
+more_taken list k element at =
+    let lt = get_within list k element at in
+    let same : Some (get_or list k element) ≡ Some element = sym (get_at list k element lt) ∙ at in
+    take_more list k element lt ∙ ap (λ e. take k list ++ e ∷ []) (let e : get_or list k element ≡ element = cc in e)
+
+pub next_written : (kernel : Kernel) (rules : Rules) (old new : List Node) (before after : Columns) (list : List Element) (k : ℕ) (element : Element) → slice_get list k ≡ Some element
+    → IsPartlyWritten kernel rules old new before after (take k list ++ element ∷ []) → IsPartlyWritten kernel rules old new before after (take (k + 1) list)
+next_written kernel rules old new before after list k element at = subst (IsPartlyWritten kernel rules old new before after) (sym (more_taken list k element at))
+
+-- and they take as many calls as their equations
+pub steps_more : (rules : Rules) (list : List Element) (k : ℕ) (element : Element) → slice_get list k ≡ Some element → steps rules (take (k + 1) list) ≡ steps rules (take k list) + step_at rules element
+steps_more rules list k element at =
+    let lt = get_within list k element at in
+    let same : Some (get_or list k element) ≡ Some element = sym (get_at list k element lt) ∙ at in
+    sum_by_more (step_at rules) list k element lt ∙ ap (λ e. steps rules (take k list) + step_at rules e) (let e : get_or list k element ≡ element = cc in e)
+
+pub steps_within : (rules : Rules) (list : List Element) (k : ℕ) → steps rules (take k list) ≤ steps rules list
+steps_within rules list k = sum_by-take-le (step_at rules) list k
+
+-- the calls so far, and those of one more element
+pub made_more : (kernel : Kernel) (rules : Rules) (list : List Element) (k : ℕ) (element : Element) (start : Columns) (r s t : StoreView) (before : Columns) (result : Result (Unit {0}) DdAnswer)
+    → slice_get list k ≡ Some element → Makes (3 * steps rules (take k list)) (SpanColumns r.nodes start) r s no_ref (Ok tt) → IsPartlyWritten kernel rules r.nodes s.nodes start before (take k list)
+    → Makes (3 * step_at rules element) (SpanColumns s.nodes before) s t no_ref result → Makes (3 * steps rules (take (k + 1) list)) (SpanColumns r.nodes start) r t no_ref result
+made_more kernel rules list k element start r s t before result at so_far partly one =
+    let more = steps_more rules list k element at in
+    let sum : 3 * steps rules (take k list) + 3 * step_at rules element ≡ 3 * steps rules (take (k + 1) list) = omega (arith, more) in
+    subst (λ n. Makes n (SpanColumns r.nodes start) r t no_ref result) sum
+    (makes_then (3 * steps rules (take k list)) (3 * step_at rules element) (SpanColumns r.nodes start) (SpanColumns r.nodes start) (SpanColumns s.nodes before) r s t no_ref no_ref tt result so_far one
+    (λ vs wide. wide) (λ vs wide spans. partly.spans vs wide))

@@ -1,0 +1,7 @@
+use Rattle.std.proofs.Common.{subst, sym}
+use Rattle.sig_dd.specs.Nodes.{Spans}
+use Rattle.sig_dd.specs.declared.node.Ref.{Ref}
+use Rattle.sig_rel.proofs.substitution.Columns.operand.Goals as goal
+
+pub returns-in-Sig-clause-spans : goal.returns-in-Sig-clause-spans
+returns-in-Sig-clause-spans c = λ vs span. subst (λ (r : Ref). Spans c.args.store.now.nodes r vs) (sym c.truth_of.ensures) (span.truth c.in-Sig.x.0)

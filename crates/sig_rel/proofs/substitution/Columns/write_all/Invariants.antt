@@ -1,0 +1,10 @@
+use Rattle.std.proofs.Common.{◌*◌, Ok, take}
+use Rattle.sig_rel.specs.Shares.{Makes}
+use Rattle.sig_rel.specs.Substitutions.{IsPartlyWritten, SpanColumns, no_ref, steps}
+use Rattle.sig_rel.proofs.substitution.Columns.write_all.Given as goal
+
+abbrev pub invariant-loop-element : goal.invariant-loop-element
+invariant-loop-element l = record {
+  made : Makes (3 * steps l.triangle.rules (take l.element-index l.triangle.list.items)) (SpanColumns l.initial.store.nodes l.initial.self) l.initial.store l.store no_ref (Ok tt);
+  written : IsPartlyWritten l.kernel l.triangle.rules l.initial.store.nodes l.store.nodes l.initial.self l.self (take l.element-index l.triangle.list.items);
+}

@@ -1,0 +1,71 @@
+-- Columns of a triangular kernel as its system.
+use Rattle.std.specs.Prelude.{◌≡◌, ◌+◌, ◌<◌, ◌≤◌, ℕ, Bool, true, List, length, map, replicate, Some, Result, IfErr, slice_get, slice_set, slice_index, if◌then◌else◌}
+use Rattle.std.specs.List.{range_with_len}
+use Rattle.sig_base.specs.declared.ids.SigId.{SigId}
+use Rattle.sig_kernel.specs.declared.kernel.Kernel.{Kernel}
+use Rattle.sig_dd.specs.Diagram.{truth_of}
+use Rattle.sig_dd.specs.Nodes.{IsRefOf, IsStore, Keeps, StoreView}
+use Rattle.sig_dd.specs.Shares.{IsRefused}
+use Rattle.sig_dd.specs.declared.answer.DdAnswer.{DdAnswer}
+use Rattle.sig_dd.specs.declared.node.Node.{Node}
+use Rattle.sig_dd.specs.declared.node.Ref.{Ref}
+use Rattle.sig_rel.specs.Relations.{is_boolean}
+use Rattle.sig_rel.specs.Substitutions.{HoldColumns, SpanColumns, present_at, truth_at, values_at}
+use Rattle.sig_rel.specs.Rules.{AreValues}
+use Rattle.sig_rel.specs.Systems.{SystemView}
+use Rattle.sig_rel.specs.Triangles.{IsTriangle}
+use Rattle.sig_rel.specs.declared.placing.Triangle.{Triangle}
+use Rattle.sig_rel.specs.declared.rules.Rules.{Rules}
+use Rattle.sig_rel.specs.declared.substitution.Columns.{Columns}
+
+-- ---- the columns as a system
+
+-- the truth of a signal: that of a boolean, and the presence of another signal
+abbrev pub truth_ref : Kernel → Rules → Columns → ℕ → Ref
+truth_ref kernel rules columns signal = if is_boolean kernel signal then truth_at columns signal else present_at columns (slice_index rules.least.items signal)
+
+-- the system is what the columns are
+pub record IsSystemOf (kernel : Kernel) (rules : Rules) (columns : Columns) (conditions : List SigId) (system : SystemView) : Type 0 where
+  pub present : system.present ≡ map (λ signal. present_at columns (slice_index rules.least.items signal)) (range_with_len 0 (length kernel.signals))
+  pub truth : system.truth ≡ map (truth_ref kernel rules columns) (range_with_len 0 (length kernel.signals))
+  pub residue : system.residue ≡ columns.always
+  pub speaks : system.speaks ≡ columns.always
+  pub listed : system.conditions ≡ conditions
+  pub variables : system.variables ≡ length conditions
+
+-- columns that are true everywhere
+pub record AreFresh (nodes : List Node) (count : ℕ) (columns : Columns) : Type 0 where
+  pub always : IsRefOf nodes (λ truths. true) columns.always
+  pub present : columns.present.items ≡ replicate count columns.always
+  pub truth : columns.truth.items ≡ replicate count columns.always
+
+-- calls that add at most so many nodes
+pub record Adds (count : ℕ) (old new : StoreView) (result : Result (Unit {0}) DdAnswer) : Type 0 where
+  pub store : IsStore new
+  pub kept : Keeps old new
+  pub added : length new.nodes ≤ length old.nodes + count
+  pub refused : IfErr result (IsRefused old new count)
+
+-- the truth of a signal was made a variable
+pub record IsProposed (new : List Node) (before after : Columns) (signal v : ℕ) : Type 0 where
+  pub always : after.always ≡ before.always
+  pub present : after.present ≡ before.present
+  pub variable : Ref
+  pub truth : after.truth.items ≡ slice_set before.truth.items signal variable
+  pub is : IsRefOf new (λ truths. truth_of truths v) variable
+
+-- the truths of the first conditions are their proposals, and the other columns are as they were
+pub record AreProposedTo (new : List Node) (before after : Columns) (conditions : List SigId) (count : ℕ) : Type 0 where
+  pub always : after.always ≡ before.always
+  pub present : after.present ≡ before.present
+  pub truths : length after.truth.items ≡ length before.truth.items
+  pub proposals : (i : ℕ) (condition : SigId) → i < count → slice_get conditions i ≡ Some condition → IsRefOf new (λ truths. truth_of truths i) (truth_at after condition.0)
+  pub others : (signal : ℕ) → ((i : ℕ) (condition : SigId) → i < count → slice_get conditions i ≡ Some condition → condition.0 ≡ signal → ⊥) → truth_at after signal ≡ truth_at before signal
+
+-- The columns keep to the tables of a triangular kernel at each proposal of its conditions.
+pub record AreFilled (kernel : Kernel) (triangle : Triangle) (conditions : List SigId) (nodes : List Node) (columns : Columns) : Type 0 where
+  pub held : HoldColumns nodes columns
+  pub span : SpanColumns nodes columns (range_with_len 0 (length conditions))
+  pub always : IsRefOf nodes (λ truths. true) columns.always
+  pub keeps : (is : IsTriangle kernel triangle.rules.least.items triangle.list.items) (truths : List Bool)
+      → AreValues kernel triangle.rules.least.items triangle.rules.counted.items triangle.rules.defined.items conditions is.top truths (values_at nodes columns truths)

@@ -1,0 +1,162 @@
+//! The system of a triangular kernel's clocks.
+
+ghost use Rattle.std.specs.Prelude.{◌≡◌, ◌≤◌, length, map, slice_index, IfErr, IfOk, MatchOption, OnOk};
+ghost use Rattle.std.specs.List.{range_with_len};
+ghost use Rattle.sig_dd.specs.Nodes.{IsStore, Keeps};
+ghost use Rattle.sig_kernel.specs.Validity.{IsValid};
+ghost use Rattle.sig_rel.specs.FreeColumns.{Adds, AreFilled, AreFresh, IsSystemOf, truth_ref};
+ghost use Rattle.sig_rel.specs.Shares.{KeepsToTriangularShare, triangular_share_of};
+ghost use Rattle.sig_rel.specs.Substitutions.{present_at};
+ghost use Rattle.sig_rel.specs.Systems.{AreConditions, IsFreeSystemOf};
+ghost use Rattle.sig_rel.specs.Tables.{IsTriangleOf};
+ghost use Rattle.sig_rel.specs.Triangles.{IsTriangular};
+ghost use Rattle.sig_rel.specs.declared.answer.RelAnswer.TheVariants.{OutOfMemory};
+
+use crate::answer::RelAnswer;
+use crate::numbering::is_boolean;
+use crate::placing::{Triangle, triangle_of};
+use crate::rules::{Rules, least_of};
+use crate::substitution::Columns;
+use crate::systems::System;
+use sig_base::SigId;
+use sig_dd::{DdAnswer, Ref, Store};
+use sig_kernel::Kernel;
+use std::alloc::{AllocError, Global};
+
+/// The clocks of a triangular kernel, substituted into one another, and None where the kernel is
+/// not triangular. The conditions are those of the kernel, in any order: their proposals are the
+/// variables, and each proposal is a reaction. It is refused where the store has no room for the
+/// nodes that it needs; older references of the store stay. A kernel that is not triangular leaves the
+/// store as it was.
+pub fn free_system(
+    alloc: Global,
+    kernel: &Kernel,
+    conditions: &[SigId],
+    store: &mut Store,
+) -> Result<Option<System>, RelAnswer>
+    requires valid { IsValid kernel.now }
+    requires conditions { AreConditions kernel.now conditions.now }
+    ensures store { IsStore store.new }
+    ensures kept { Keeps store.old store.new }
+    ensures system { IfOk result (λ system. MatchOption system (IsTriangular kernel.now → ⊥)
+        (IsFreeSystemOf kernel.now conditions.now store.new.nodes)) }
+    ensures share { KeepsToTriangularShare kernel.now store.old store.new result }
+    ensures other { (IsTriangular kernel.now → ⊥) → (store.new ≡ store.old) × IfErr result (λ answer. answer ≡ OutOfMemory) }
+{
+    let _nodes = store.len();
+    match triangle_of(alloc, kernel, conditions)? {
+        Some(triangle) => {
+            let system = substituted(alloc, kernel, conditions, &triangle, store)?;
+            Ok(Some(system))
+        }
+        None => Ok(None),
+    }
+}
+
+/// The system of a kernel, of which a list that shows that it is triangular is given.
+fn substituted(
+    alloc: Global,
+    kernel: &Kernel,
+    conditions: &[SigId],
+    triangle: &Triangle,
+    store: &mut Store,
+) -> Result<System, RelAnswer>
+    requires valid { IsValid kernel.now }
+    requires store { IsStore store.old }
+    requires conditions { AreConditions kernel.now conditions.now }
+    requires triangle { IsTriangleOf kernel.now triangle.now }
+    ensures store { IsStore store.new }
+    ensures kept { Keeps store.old store.new }
+    ensures system { IfOk result (IsFreeSystemOf kernel.now conditions.now store.new.nodes) }
+    ensures share { KeepsToTriangularShare kernel.now store.old store.new result }
+{
+    let mut columns = Columns::fresh(alloc, store, kernel.signals.as_slice().len())?;
+    columns.fill(store, kernel, conditions, triangle)?;
+    Ok(system_of(alloc, kernel, &triangle.rules, &columns, conditions)?)
+}
+
+impl Columns {
+    /// Writes the clocks of a kernel into columns that are true everywhere: the proposals of its
+    /// conditions, and what the others come to.
+    fn fill(
+        &mut self,
+        store: &mut Store,
+        kernel: &Kernel,
+        conditions: &[SigId],
+        triangle: &Triangle,
+    ) -> Result<(), DdAnswer>
+        requires valid { IsValid kernel.now }
+        requires store { IsStore store.old }
+        requires conditions { AreConditions kernel.now conditions.now }
+        requires triangle { IsTriangleOf kernel.now triangle.now }
+        requires fresh { AreFresh store.old.nodes (length kernel.now.signals) self.old }
+        ensures adds { Adds (triangular_share_of kernel.now) store.old store.new result }
+        ensures filled { OnOk result (AreFilled kernel.now triangle.now conditions.now store.new.nodes self.new) }
+    {
+        self.propose(store, conditions)?;
+        self.write_all(store, kernel, triangle)
+    }
+}
+
+/// The columns as a system, of which nothing is left to be met.
+fn system_of(
+    alloc: Global,
+    kernel: &Kernel,
+    rules: &Rules,
+    columns: &Columns,
+    conditions: &[SigId],
+) -> Result<System, AllocError>
+    requires { length conditions.now ≤ 512 }
+    ensures { IfOk result (IsSystemOf kernel.now rules.now columns.now conditions.now) }
+{
+    Ok(System {
+        present: presences(alloc, kernel, rules, columns)?,
+        truth: truths(alloc, kernel, rules, columns)?,
+        residue: columns.always,
+        speaks: columns.always,
+        conditions: Vec::from_slice(alloc, conditions)?,
+        variables: conditions.len() as u32,
+    })
+}
+
+/// The presence of each signal: that of its class.
+fn presences(
+    alloc: Global,
+    kernel: &Kernel,
+    rules: &Rules,
+    columns: &Columns,
+) -> Result<Vec<Ref>, AllocError>
+    ensures { IfOk result (λ present. present.items
+        ≡ map (λ signal. present_at columns.now (slice_index rules.now.least.items signal))
+        (range_with_len 0 (length kernel.now.signals))) }
+{
+    (0..kernel.signals.as_slice().len())
+        .map(|signal| columns.present_at(least_of(rules.least.as_slice(), signal)))
+        .collect(alloc)
+}
+
+/// The truth of each signal.
+fn truths(
+    alloc: Global,
+    kernel: &Kernel,
+    rules: &Rules,
+    columns: &Columns,
+) -> Result<Vec<Ref>, AllocError>
+    ensures { IfOk result (λ truth. truth.items
+        ≡ map (truth_ref kernel.now rules.now columns.now) (range_with_len 0 (length kernel.now.signals))) }
+{
+    (0..kernel.signals.as_slice().len())
+        .map(|signal| truth_of(kernel, rules, columns, signal))
+        .collect(alloc)
+}
+
+/// The truth of a signal: that of a boolean, and the presence of another signal.
+fn truth_of(kernel: &Kernel, rules: &Rules, columns: &Columns, signal: usize) -> Ref
+    ensures { result ≡ truth_ref kernel.now rules.now columns.now signal }
+{
+    if is_boolean(kernel, signal) {
+        columns.truth_at(signal)
+    } else {
+        columns.present_at(least_of(rules.least.as_slice(), signal))
+    }
+}
