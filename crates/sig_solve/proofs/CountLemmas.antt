@@ -20,7 +20,7 @@ use Rattle.sig_solve.specs.Frames.{IsFrameIn, truths_among}
 use Rattle.sig_solve.specs.Refusals.{HasNoRoom, IsFromRelation, IsWithin, calls_of, rest_of_share, share_of, store_refusal}
 use Rattle.sig_solve.specs.declared.answer.ClockAnswer.{ClockAnswer}
 use Rattle.sig_solve.specs.declared.answer.ClockAnswer.TheVariants.{Dead, MissingRoot, Unsolved, Pinned, Budget, OutOfMemory}
-use Rattle.sig_solve.specs.declared.frame.Frame.{Frame}
+use Rattle.sig_solve.specs.declared.related.Related.{Related}
 use Rattle.sig_solve.proofs.ListLemmas.{get_at, get_is, map_length, of_range}
 use Rattle.sig_solve.proofs.FrameLemmas.{leader_in}
 use Rattle.sig_solve.proofs.ReactionLemmas.{condition_is_boolean}
@@ -112,7 +112,7 @@ calls_fit (suc m) c k q vs count le (inr pos) =
     let own : allowance vs ≡ 2 ^ suc m - 1 = ap (λ n. 2 ^ n - 1) count in
     fit (calls_of c k (suc m)) (suc m * suc m * suc m) (2 ^ suc m) (allowance vs) q few (omega (arith, own))
 
--- counts of a frame
+-- counts of a related
 filter_fewer : (p q : ℕ → Bool) (xs : List ℕ) → ((x : ℕ) → p x ≡ true → q x ≡ true) → length (filter p xs) ≤ length (filter q xs)
 filter_fewer p q [] wider = omega arith
 filter_fewer p q (x ∷ xs) wider = by (p x) (q x) (wider x) (filter_fewer p q xs wider) where
@@ -143,43 +143,43 @@ filter_same p q (x ∷ xs) same = by (p x) (q x) (same x (contains_head x xs)) (
   by true false e rest = absurd (false≢true (sym e))
   by false true e rest = absurd (false≢true e)
 
-module _ (nodes : List Node) (frame : Frame) (is : IsFrameIn nodes frame) where
-  pub unknowns_sum : length frame.unknowns.items ≡ length frame.leaders.items + length (truths_among frame.relation.truth)
+module _ (nodes : List Node) (related : Related) (is : IsFrameIn nodes related) where
+  pub unknowns_sum : length related.unknowns.items ≡ length related.frame.leaders.items + length (truths_among related.relation.truth)
   unknowns_sum =
-      ap length is.parts.unknowns ∙ length-append (map (λ k. get_or frame.relation.present k 0) frame.leaders.items) (truths_among frame.relation.truth)
-      ∙ ap (λ n. n + length (truths_among frame.relation.truth)) (map_length (λ k. get_or frame.relation.present k 0) frame.leaders.items)
+      ap length is.unknowns ∙ length-append (map (λ k. get_or related.relation.present k 0) related.frame.leaders.items) (truths_among related.relation.truth)
+      ∙ ap (λ n. n + length (truths_among related.relation.truth)) (map_length (λ k. get_or related.relation.present k 0) related.frame.leaders.items)
 
-  truths_are : length (truths_among frame.relation.truth) ≡ length (filter (is_boolean frame.kernel.now) (range_with_len 0 (length frame.kernel.now.signals)))
+  truths_are : length (truths_among related.relation.truth) ≡ length (filter (is_boolean related.frame.kernel.now) (range_with_len 0 (length related.frame.kernel.now.signals)))
   truths_are =
-      truths_length (is_boolean frame.kernel.now) 0 frame.relation.truth (λ k lt. by k lt (get_or frame.relation.truth k None) refl (is_boolean frame.kernel.now k) refl ∙ ap (is_boolean frame.kernel.now) (omega arith))
-      ∙ ap (λ n. length (filter (is_boolean frame.kernel.now) (range_with_len 0 n))) is.relation.unknowns.truths
+      truths_length (is_boolean related.frame.kernel.now) 0 related.relation.truth (λ k lt. by k lt (get_or related.relation.truth k None) refl (is_boolean related.frame.kernel.now k) refl ∙ ap (is_boolean related.frame.kernel.now) (omega arith))
+      ∙ ap (λ n. length (filter (is_boolean related.frame.kernel.now) (range_with_len 0 n))) is.relation.unknowns.truths
     where
-      by : (k : ℕ) → k < length frame.relation.truth → (t : Option ℕ) → get_or frame.relation.truth k None ≡ t → (b : Bool) → is_boolean frame.kernel.now k ≡ b → is_some (get_or frame.relation.truth k None) ≡ is_boolean frame.kernel.now k
-      by k lt None at true boolean = let some = is.relation.unknowns.some k boolean in absurd (let e : None ≡ Some some.0 = sym at ∙ get_is frame.relation.truth k (Some some.0) None some.1 in cc)
+      by : (k : ℕ) → k < length related.relation.truth → (t : Option ℕ) → get_or related.relation.truth k None ≡ t → (b : Bool) → is_boolean related.frame.kernel.now k ≡ b → is_some (get_or related.relation.truth k None) ≡ is_boolean related.frame.kernel.now k
+      by k lt None at true boolean = let some = is.relation.unknowns.some k boolean in absurd (let e : None ≡ Some some.0 = sym at ∙ get_is related.relation.truth k (Some some.0) None some.1 in cc)
       by k lt None at false boolean = ap is_some at ∙ sym boolean
-      by k lt (Some v) at b boolean = ap is_some at ∙ sym (is.relation.unknowns.booleans k v (get_at frame.relation.truth k None lt ∙ ap Some at))
+      by k lt (Some v) at b boolean = ap is_some at ∙ sym (is.relation.unknowns.booleans k v (get_at related.relation.truth k None lt ∙ ap Some at))
 
-  pub conditions_fewer : length (conditions_of frame.kernel.now) ≤ length (truths_among frame.relation.truth)
+  pub conditions_fewer : length (conditions_of related.frame.kernel.now) ≤ length (truths_among related.relation.truth)
   conditions_fewer =
-      let few = filter_fewer (is_condition frame.kernel.now) (is_boolean frame.kernel.now) (range_with_len 0 (length frame.kernel.now.signals)) (λ x is_x. condition_is_boolean frame.kernel.now x is_x) in
-      omega (arith, few, truths_are, map_length signal_id (filter (is_condition frame.kernel.now) (range_with_len 0 (length frame.kernel.now.signals))))
+      let few = filter_fewer (is_condition related.frame.kernel.now) (is_boolean related.frame.kernel.now) (range_with_len 0 (length related.frame.kernel.now.signals)) (λ x is_x. condition_is_boolean related.frame.kernel.now x is_x) in
+      omega (arith, few, truths_are, map_length signal_id (filter (is_condition related.frame.kernel.now) (range_with_len 0 (length related.frame.kernel.now.signals))))
 
-  pub some_class : (length frame.unknowns.items ≡ 0) ⊎ (1 ≤ length frame.leaders.items)
-  some_class = by (cases_lt 0 (length frame.kernel.now.signals)) where
-    by : ((0 < length frame.kernel.now.signals) ⊎ (length frame.kernel.now.signals ≤ 0)) → (length frame.unknowns.items ≡ 0) ⊎ (1 ≤ length frame.leaders.items)
-    by (inl pos) = let there = leader_in frame is.parts 0 pos in inr (omega (arith, there.1))
+  pub some_class : (length related.unknowns.items ≡ 0) ⊎ (1 ≤ length related.frame.leaders.items)
+  some_class = by (cases_lt 0 (length related.frame.kernel.now.signals)) where
+    by : ((0 < length related.frame.kernel.now.signals) ⊎ (length related.frame.kernel.now.signals ≤ 0)) → (length related.unknowns.items ≡ 0) ⊎ (1 ≤ length related.frame.leaders.items)
+    by (inl pos) = let there = leader_in related.frame is.parts 0 pos in inr (omega (arith, there.1))
     by (inr none) =
-        let empty : length frame.kernel.now.signals ≡ 0 = omega (arith, none) in
-        let booleans : length (truths_among frame.relation.truth) ≡ 0 = truths_are ∙ ap (λ n. length (filter (is_boolean frame.kernel.now) (range_with_len 0 n))) empty in
-        let leaders : length frame.leaders.items ≡ 0 = ap length is.parts.leaders ∙ ap (λ n. length (filter (λ s. eqb (get_or frame.least.items s 0) s) (range_with_len 0 n))) (is.parts.least.count ∙ empty) in
+        let empty : length related.frame.kernel.now.signals ≡ 0 = omega (arith, none) in
+        let booleans : length (truths_among related.relation.truth) ≡ 0 = truths_are ∙ ap (λ n. length (filter (is_boolean related.frame.kernel.now) (range_with_len 0 n))) empty in
+        let leaders : length related.frame.leaders.items ≡ 0 = ap length is.parts.leaders ∙ ap (λ n. length (filter (λ s. eqb (get_or related.frame.least.items s 0) s) (range_with_len 0 n))) (is.parts.least.count ∙ empty) in
         inl (omega (arith, unknowns_sum, booleans, leaders))
 
-  pub unknown_count : (u : ℕ) → IsUnknownCount frame.kernel.now u → length frame.unknowns.items ≡ u
+  pub unknown_count : (u : ℕ) → IsUnknownCount related.frame.kernel.now u → length related.unknowns.items ≡ u
   unknown_count u (least, are, sum) =
-      let range = range_with_len 0 (length frame.kernel.now.signals) in
-      let leaders : length frame.leaders.items ≡ count_by (λ s. eqb (get_or least s 0) s) range =
-      ap length is.parts.leaders ∙ ap (λ n. length (filter (λ s. eqb (get_or frame.least.items s 0) s) (range_with_len 0 n))) is.parts.least.count
-      ∙ filter_same (λ s. eqb (get_or frame.least.items s 0) s) (λ s. eqb (get_or least s 0) s) range (λ s there. ap (λ k. eqb k s) (least_one frame.kernel.now frame.least.items least is.parts.least are s (of_range (length frame.kernel.now.signals) s there)))
+      let range = range_with_len 0 (length related.frame.kernel.now.signals) in
+      let leaders : length related.frame.leaders.items ≡ count_by (λ s. eqb (get_or least s 0) s) range =
+      ap length is.parts.leaders ∙ ap (λ n. length (filter (λ s. eqb (get_or related.frame.least.items s 0) s) (range_with_len 0 n))) is.parts.least.count
+      ∙ filter_same (λ s. eqb (get_or related.frame.least.items s 0) s) (λ s. eqb (get_or least s 0) s) range (λ s there. ap (λ k. eqb k s) (least_one related.frame.kernel.now related.frame.least.items least is.parts.least are s (of_range (length related.frame.kernel.now.signals) s there)))
       ∙ length-filter (λ s. eqb (get_or least s 0) s) range in
-      let booleans : length (truths_among frame.relation.truth) ≡ count_by (is_boolean frame.kernel.now) range = truths_are ∙ length-filter (is_boolean frame.kernel.now) range in
+      let booleans : length (truths_among related.relation.truth) ≡ count_by (is_boolean related.frame.kernel.now) range = truths_are ∙ length-filter (is_boolean related.frame.kernel.now) range in
       omega (arith, unknowns_sum, leaders, booleans, sum)

@@ -7,6 +7,7 @@ pub mod FrameLemmas
 pub mod SetLemmas
 pub mod RootLemmas
 pub mod RoundLemmas
+pub mod SystemRooms
 pub mod PinnedLemmas
 pub mod GuardLemmas
 pub mod ProposeLemmas
@@ -17,3 +18,7 @@ pub mod ClassLemmas
 pub mod CountLemmas
 pub mod SolveLemmas
 pub mod WalkLemmas
+pub mod FreeLemmas
+pub mod TriangleLemmas
+pub mod ConditionLists
+pub mod RoomLemmas

@@ -24,7 +24,7 @@ use Rattle.sig_solve.specs.Frames.{IsAmong, IsFrameIn}
 use Rattle.sig_solve.specs.Orders.{IsFreeBy, IsPinnedAnswer, IsPinnedBy}
 use Rattle.sig_solve.specs.Parts.{Exceeds, IsShadow}
 use Rattle.sig_solve.specs.Sets.{AreKnown, IsImage, IsPart, reaction_of}
-use Rattle.sig_solve.specs.declared.frame.Frame.{Frame}
+use Rattle.sig_solve.specs.declared.related.Related.{Related}
 use Rattle.sig_solve.specs.declared.known.Known.{Known}
 use Rattle.sig_solve.proofs.FrameLemmas.{unknown_in}
 use Rattle.sig_solve.proofs.ListLemmas.{contains_get, get_at}
@@ -65,56 +65,56 @@ some_status true w t p_is w_is = ap Some w_is
 some_status false w t p_is w_is = absurd (false≢true p_is)
 
 -- all abstract reactions are a part
-pub part_whole : (nodes : List Node) (frame : Frame) (is : IsFrameIn nodes frame) (whole : Ref) → whole ≡ frame.relation.whole → IsPart nodes frame (IsReaction frame.kernel.now) whole
-part_whole nodes frame is whole same = subst (λ r. IsPart nodes frame (IsReaction frame.kernel.now) r) (sym same) (record {
+pub part_whole : (nodes : List Node) (related : Related) (is : IsFrameIn nodes related) (whole : Ref) → whole ≡ related.relation.whole → IsPart nodes related (IsReaction related.frame.kernel.now) whole
+part_whole nodes related is whole same = subst (λ r. IsPart nodes related (IsReaction related.frame.kernel.now) r) (sym same) (record {
   held = is.relation.held;
-  spans = λ v d. unknown_in frame is.parts is.count is.relation.unknowns v (is.relation.spans v d);
+  spans = λ v d. unknown_in related is.parts is.unknowns is.count is.relation.unknowns v (is.relation.spans v d);
   reactions = is.relation.reactions;
 })
 
 -- the shadow of a part where a signal is present and has a truth
-pub image_truth : (old new : List Node) (frame : Frame) (known : Known) (f r : Ref) (s w : ℕ) (t : Bool) → IsFrameIn old frame → s < length frame.kernel.now.signals → get_or frame.relation.truth s None ≡ Some w
-    → IsPart old frame (λ reaction. IsReaction frame.kernel.now reaction × (is_present reaction s ≡ true)) f → IsShadow old new f w t known.others.items r
-    → IsImage new frame known (λ reaction. IsReaction frame.kernel.now reaction × (status_at reaction s ≡ Some t)) r
-image_truth old new frame known f r s w t is lt truth part at = record {
+pub image_truth : (old new : List Node) (related : Related) (known : Known) (f r : Ref) (s w : ℕ) (t : Bool) → IsFrameIn old related → s < length related.frame.kernel.now.signals → get_or related.relation.truth s None ≡ Some w
+    → IsPart old related (λ reaction. IsReaction related.frame.kernel.now reaction × (is_present reaction s ≡ true)) f → IsShadow old new f w t known.others.items r
+    → IsImage new related known (λ reaction. IsReaction related.frame.kernel.now reaction × (status_at reaction s ≡ Some t)) r
+image_truth old new related known f r s w t is lt truth part at = record {
   held = at.held;
   reactions = λ ts. (
     (λ u. let a = (at.function ts).0 u in
         let p = (part.reactions a.0).0 a.2 in
-        (a.0, a.1, (p.0, read a.0 ∙ some_status (truth_of a.0 (get_or frame.relation.present s 0)) (truth_of a.0 w) t (sym (presence_of old frame is a.0 s lt) ∙ p.1) a.3))),
-    (λ a. let both = status_some (truth_of a.0 (get_or frame.relation.present s 0)) (truth_of a.0 w) t (sym (read a.0) ∙ a.2.1) in
-        (at.function ts).1 (a.0, a.1, (part.reactions a.0).1 (a.2.0, presence_of old frame is a.0 s lt ∙ both.0), both.1)),
+        (a.0, a.1, (p.0, read a.0 ∙ some_status (truth_of a.0 (get_or related.relation.present s 0)) (truth_of a.0 w) t (sym (presence_of old related is a.0 s lt) ∙ p.1) a.3))),
+    (λ a. let both = status_some (truth_of a.0 (get_or related.relation.present s 0)) (truth_of a.0 w) t (sym (read a.0) ∙ a.2.1) in
+        (at.function ts).1 (a.0, a.1, (part.reactions a.0).1 (a.2.0, presence_of old related is a.0 s lt ∙ both.0), both.1)),
   );
 } where
-  read : (ts : List Bool) → status_at (reaction_of frame ts) s ≡ (if truth_of ts (get_or frame.relation.present s 0) then Some (truth_of ts w) else None)
-  read ts = status_read ts frame.relation.present frame.relation.truth s (in_present old frame is s lt) (in_truth old frame is s lt) ∙ ap (status_in ts (get_or frame.relation.present s 0)) truth
+  read : (ts : List Bool) → status_at (reaction_of related ts) s ≡ (if truth_of ts (get_or related.relation.present s 0) then Some (truth_of ts w) else None)
+  read ts = status_read ts related.relation.present related.relation.truth s (in_present old related is s lt) (in_truth old related is s lt) ∙ ap (status_in ts (get_or related.relation.present s 0)) truth
 
-pub truth_unknown : (nodes : List Node) (frame : Frame) (is : IsFrameIn nodes frame) (s w : ℕ) → s < length frame.kernel.now.signals → get_or frame.relation.truth s None ≡ Some w → Contains frame.unknowns.items w
-truth_unknown nodes frame is s w lt truth = unknown_in frame is.parts is.count is.relation.unknowns w (inr (s, get_at frame.relation.truth s None (in_truth nodes frame is s lt) ∙ ap Some truth))
+pub truth_unknown : (nodes : List Node) (related : Related) (is : IsFrameIn nodes related) (s w : ℕ) → s < length related.frame.kernel.now.signals → get_or related.relation.truth s None ≡ Some w → Contains related.unknowns.items w
+truth_unknown nodes related is s w lt truth = unknown_in related is.parts is.unknowns is.count is.relation.unknowns w (inr (s, get_at related.relation.truth s None (in_truth nodes related is s lt) ∙ ap Some truth))
 
-module _ (nodes : List Node) (frame : Frame) (is : IsFrameIn nodes frame) (known : Known) (are : AreKnown frame known) (s : ℕ) (high low : Ref) (halves : AreHalves nodes frame known s high low) where
+module _ (nodes : List Node) (related : Related) (is : IsFrameIn nodes related) (known : Known) (are : AreKnown related known) (s : ℕ) (high low : Ref) (halves : AreHalves nodes related known s high low) where
   abbrev With : Bool → Reaction → Type 0
-  With t = λ reaction. IsReaction frame.kernel.now reaction × (status_at reaction s ≡ Some t)
+  With t = λ reaction. IsReaction related.frame.kernel.now reaction × (status_at reaction s ≡ Some t)
 
   pub pinned_ok : (result : Result Bool DdAnswer) → IfOk result (λ holds. IsTrue holds ↔ (Exceeds nodes high low ⊎ Exceeds nodes low high))
-      → IfOk result (IsPinnedAnswer frame.kernel.now (IsAmong known.conditions.items) s)
+      → IfOk result (IsPinnedAnswer related.frame.kernel.now (IsAmong known.conditions.items) s)
   pinned_ok (Err e) over = tt
   pinned_ok (Ok true) over = elim (over.0 refl) [
     | inl e ↦
-        let at = exceeds_none nodes frame is known are (λ reaction. IsReaction frame.kernel.now reaction × (status_at reaction s ≡ Some true)) (λ reaction. IsReaction frame.kernel.now reaction × (status_at reaction s ≡ Some false)) (λ r p. p.0) (λ r p. p.0) high low halves.high_is halves.low_is e in
+        let at = exceeds_none nodes related is known are (λ reaction. IsReaction related.frame.kernel.now reaction × (status_at reaction s ≡ Some true)) (λ reaction. IsReaction related.frame.kernel.now reaction × (status_at reaction s ≡ Some false)) (λ r p. p.0) (λ r p. p.0) high low halves.high_is halves.low_is e in
         record { reaction = at.0; truth = true; possible = at.1.0; present = at.1.1; forced = λ other possible agree status. at.2 other (possible, status) agree }
     | inr e ↦
-        let at = exceeds_none nodes frame is known are (λ reaction. IsReaction frame.kernel.now reaction × (status_at reaction s ≡ Some false)) (λ reaction. IsReaction frame.kernel.now reaction × (status_at reaction s ≡ Some true)) (λ r p. p.0) (λ r p. p.0) low high halves.low_is halves.high_is e in
+        let at = exceeds_none nodes related is known are (λ reaction. IsReaction related.frame.kernel.now reaction × (status_at reaction s ≡ Some false)) (λ reaction. IsReaction related.frame.kernel.now reaction × (status_at reaction s ≡ Some true)) (λ r p. p.0) (λ r p. p.0) low high halves.low_is halves.high_is e in
         record { reaction = at.0; truth = false; possible = at.1.0; present = at.1.1; forced = λ other possible agree status. at.2 other (possible, status) agree }
   ]
   pinned_ok (Ok false) over = λ reaction truth possible status. by reaction truth possible status where
-    by : IsFreeBy frame.kernel.now (IsAmong known.conditions.items) s
+    by : IsFreeBy related.frame.kernel.now (IsAmong known.conditions.items) s
     by reaction true possible status =
-        let at = none_exceeds nodes frame is known are (λ reaction. IsReaction frame.kernel.now reaction × (status_at reaction s ≡ Some true)) (λ reaction. IsReaction frame.kernel.now reaction × (status_at reaction s ≡ Some false)) (λ r p. p.0) (λ r p. p.0) high low halves.high_is halves.low_is
+        let at = none_exceeds nodes related is known are (λ reaction. IsReaction related.frame.kernel.now reaction × (status_at reaction s ≡ Some true)) (λ reaction. IsReaction related.frame.kernel.now reaction × (status_at reaction s ≡ Some false)) (λ r p. p.0) (λ r p. p.0) high low halves.high_is halves.low_is
         (λ e. false≢true (over.1 (inl e))) reaction (possible, status) in
         (at.0, at.1.0, at.2, at.1.1)
     by reaction false possible status =
-        let at = none_exceeds nodes frame is known are (λ reaction. IsReaction frame.kernel.now reaction × (status_at reaction s ≡ Some false)) (λ reaction. IsReaction frame.kernel.now reaction × (status_at reaction s ≡ Some true)) (λ r p. p.0) (λ r p. p.0) low high halves.low_is halves.high_is
+        let at = none_exceeds nodes related is known are (λ reaction. IsReaction related.frame.kernel.now reaction × (status_at reaction s ≡ Some false)) (λ reaction. IsReaction related.frame.kernel.now reaction × (status_at reaction s ≡ Some true)) (λ r p. p.0) (λ r p. p.0) low high halves.low_is halves.high_is
         (λ e. false≢true (over.1 (inr e))) reaction (possible, status) in
         (at.0, at.1.0, at.2, at.1.1)
 

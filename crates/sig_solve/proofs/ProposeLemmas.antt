@@ -24,7 +24,7 @@ use Rattle.sig_solve.specs.Frames.{IsFrameIn, truths_among}
 use Rattle.sig_solve.specs.Guards.{IsProposed, IsSubstituted, IsWide, replaced, truths_told}
 use Rattle.sig_solve.specs.Parts.{AgreeOutside}
 use Rattle.sig_solve.specs.Sets.{IsPart, reaction_of}
-use Rattle.sig_solve.specs.declared.frame.Frame.{Frame}
+use Rattle.sig_solve.specs.declared.related.Related.{Related}
 use Rattle.sig_solve.proofs.ListLemmas.{apart-eqb, contains_get, get_at, get_beyond, get_first, get_last, get_within, in_map, map_length, of_map, take_next, truths_more}
 use Rattle.sig_solve.proofs.PinnedLemmas.{get_take, not_both, truth_unknown}
 use Rattle.sig_solve.proofs.ReactionLemmas.{condition_is_signal, status_read}
@@ -49,8 +49,8 @@ told_more relation conditions c t is =
     ∙ truths_more (map (λ (d : SigId). get_or relation.truth d.0 None) conditions) t
 
 -- nothing is proposed yet
-pub proposed_none : (nodes : List Node) (frame : Frame) (f : Ref) → IsPart nodes frame (Speaks frame.kernel.now) f → IsProposed nodes frame [] f
-proposed_none nodes frame f part = record {
+pub proposed_none : (nodes : List Node) (related : Related) (f : Ref) → IsPart nodes related (Speaks related.frame.kernel.now) f → IsProposed nodes related [] f
+proposed_none nodes related f part = record {
   held = part.held;
   function = λ ts. (
     (λ t. (ts, (λ v out. refl), (part.reactions ts).0 t, (λ v c is. absurd (let e : None ≡ Some c = is in cc)))),
@@ -58,16 +58,16 @@ proposed_none nodes frame f part = record {
   );
 }
 
-pub wide_none : (nodes : List Node) (frame : Frame) (f : Ref) → Spans nodes f frame.unknowns.items → IsWide nodes frame [] f frame.unknowns.items
-wide_none nodes frame f spans = record { count = refl; spans = spans; within = λ u there. inr (there, contains_none u); has = λ u there out. there }
+pub wide_none : (nodes : List Node) (related : Related) (f : Ref) → Spans nodes f related.unknowns.items → IsWide nodes related [] f related.unknowns.items
+wide_none nodes related f spans = record { count = refl; spans = spans; within = λ u there. inr (there, contains_none u); has = λ u there out. there }
 
-module _ (s0 s1 : List Node) (frame : Frame) (is : IsFrameIn s0 frame) (conditions : List SigId) (order : AreInOrder frame.kernel.now conditions) (few : length conditions ≤ length (conditions_of frame.kernel.now))
-    (j : ℕ) (c : SigId) (t : ℕ) (at : slice_get conditions j ≡ Some c) (truth : get_or frame.relation.truth c.0 None ≡ Some t) where
-  is_c : is_condition frame.kernel.now c.0 ≡ true
+module _ (s0 s1 : List Node) (related : Related) (is : IsFrameIn s0 related) (conditions : List SigId) (order : AreInOrder related.frame.kernel.now conditions) (few : length conditions ≤ length (conditions_of related.frame.kernel.now))
+    (j : ℕ) (c : SigId) (t : ℕ) (at : slice_get conditions j ≡ Some c) (truth : get_or related.relation.truth c.0 None ≡ Some t) where
+  is_c : is_condition related.frame.kernel.now c.0 ≡ true
   is_c = (order.all c).0 (contains_get conditions j c at)
 
-  pub c_within : c.0 < length frame.kernel.now.signals
-  c_within = condition_is_signal frame.kernel.now c.0 is_c
+  pub c_within : c.0 < length related.frame.kernel.now.signals
+  c_within = condition_is_signal related.frame.kernel.now c.0 is_c
 
   j_within : j < length conditions
   j_within = get_within conditions j c at
@@ -75,14 +75,14 @@ module _ (s0 s1 : List Node) (frame : Frame) (is : IsFrameIn s0 frame) (conditio
   length_done : length (take j conditions) ≡ j
   length_done = let lt = j_within in omega (arith, length-take j conditions, lt)
 
-  present_get : slice_get frame.relation.present c.0 ≡ Some (get_or frame.relation.present c.0 0)
-  present_get = get_at frame.relation.present c.0 0 (in_present s0 frame is c.0 c_within)
+  present_get : slice_get related.relation.present c.0 ≡ Some (get_or related.relation.present c.0 0)
+  present_get = get_at related.relation.present c.0 0 (in_present s0 related is c.0 c_within)
 
-  truth_get : (s w : ℕ) → s < length frame.kernel.now.signals → get_or frame.relation.truth s None ≡ Some w → slice_get frame.relation.truth s ≡ Some (Some w)
-  truth_get s w lt e = get_at frame.relation.truth s None (in_truth s0 frame is s lt) ∙ ap Some e
+  truth_get : (s w : ℕ) → s < length related.frame.kernel.now.signals → get_or related.relation.truth s None ≡ Some w → slice_get related.relation.truth s ≡ Some (Some w)
+  truth_get s w lt e = get_at related.relation.truth s None (in_truth s0 related is s lt) ∙ ap Some e
 
   -- its two unknowns are two
-  pub p_apart : get_or frame.relation.present c.0 0 ≢ t
+  pub p_apart : get_or related.relation.present c.0 0 ≢ t
   p_apart e = is.relation.unknowns.differ c.0 c.0 t (present_get ∙ ap Some e) (truth_get c.0 t c_within truth)
 
   done_place : (d : SigId) → Contains (take j conditions) d → (i : ℕ) × (i < j) × (slice_get conditions i ≡ Some d)
@@ -90,29 +90,29 @@ module _ (s0 s1 : List Node) (frame : Frame) (is : IsFrameIn s0 frame) (conditio
       let lt : there.0 < j = omega (arith, there.1, length_done) in
       (there.0, lt, sym (get_take conditions j there.0 lt) ∙ get_at (take j conditions) there.0 d there.1 ∙ ap Some there.2)
 
-  done_within : (d : SigId) → Contains (take j conditions) d → d.0 < length frame.kernel.now.signals
-  done_within d there = let place = done_place d there in condition_is_signal frame.kernel.now d.0 ((order.all d).0 (contains_get conditions place.0 d place.2))
+  done_within : (d : SigId) → Contains (take j conditions) d → d.0 < length related.frame.kernel.now.signals
+  done_within d there = let place = done_place d there in condition_is_signal related.frame.kernel.now d.0 ((order.all d).0 (contains_get conditions place.0 d place.2))
 
-  pub p_untold : Contains (truths_told frame.relation (take j conditions)) (get_or frame.relation.present c.0 0) → ⊥
+  pub p_untold : Contains (truths_told related.relation (take j conditions)) (get_or related.relation.present c.0 0) → ⊥
   p_untold there =
-      let d = told_of frame.relation (take j conditions) (get_or frame.relation.present c.0 0) there in
-      is.relation.unknowns.differ c.0 d.0.0 (get_or frame.relation.present c.0 0) present_get (truth_get d.0.0 (get_or frame.relation.present c.0 0) (done_within d.0 d.1) d.2)
+      let d = told_of related.relation (take j conditions) (get_or related.relation.present c.0 0) there in
+      is.relation.unknowns.differ c.0 d.0.0 (get_or related.relation.present c.0 0) present_get (truth_get d.0.0 (get_or related.relation.present c.0 0) (done_within d.0 d.1) d.2)
 
-  pub t_untold : Contains (truths_told frame.relation (take j conditions)) t → ⊥
+  pub t_untold : Contains (truths_told related.relation (take j conditions)) t → ⊥
   t_untold there =
-      let d = told_of frame.relation (take j conditions) t there in
+      let d = told_of related.relation (take j conditions) t there in
       let same : d.0.0 ≡ c.0 = is.relation.unknowns.apart d.0.0 c.0 t (truth_get d.0.0 t (done_within d.0 d.1) d.2) (truth_get c.0 t c_within truth) in
       let place = done_place d.0 d.1 in
       let earlier = order.order place.0 j d.0 c place.1 place.2 at in
-      let own = subst (λ k. Rattle.sig_clock.specs.Layers.IsEarlier frame.kernel.now k c.0) same earlier in
-      not_both frame.kernel.now c.0 c.0 own own
+      let own = subst (λ k. Rattle.sig_clock.specs.Layers.IsEarlier related.frame.kernel.now k c.0) same earlier in
+      not_both related.frame.kernel.now c.0 c.0 own own
 
   -- variables of conditions are no unknowns
   pub variable_apart : (v : ℕ) → v < length conditions → v ≢ t
   variable_apart v lt e = let low = (is.relation.unknowns.within t (inr (c.0, truth_get c.0 t c_within truth))).0 in omega (arith, low, lt, e, few)
 
-  status_of_c : (other : List Bool) → status_at (reaction_of frame other) c.0 ≡ (if truth_of other (get_or frame.relation.present c.0 0) then Some (truth_of other t) else None)
-  status_of_c other = status_read other frame.relation.present frame.relation.truth c.0 (in_present s0 frame is c.0 c_within) (in_truth s0 frame is c.0 c_within) ∙ ap (status_in other (get_or frame.relation.present c.0 0)) truth
+  status_of_c : (other : List Bool) → status_at (reaction_of related other) c.0 ≡ (if truth_of other (get_or related.relation.present c.0 0) then Some (truth_of other t) else None)
+  status_of_c other = status_read other related.relation.present related.relation.truth c.0 (in_present s0 related is c.0 c_within) (in_truth s0 related is c.0 c_within) ∙ ap (status_in other (get_or related.relation.present c.0 0)) truth
 
   -- one more condition is proposed
   keeps_more : (ts : List Bool) (own : Bool) (reaction : Reaction) → KeepsTo (take j conditions) (with_truth ts t own) reaction → Allows (status_at reaction c.0) (truth_of ts j) → KeepsTo (take j conditions ++ c ∷ []) ts reaction
@@ -132,7 +132,7 @@ module _ (s0 s1 : List Node) (frame : Frame) (is : IsFrameIn s0 frame) (conditio
     subst (λ k. Allows (status_at reaction c.0) (truth_of ts k)) length_done (keeps (length (take j conditions)) c (get_last (take j conditions) c)),
   )
 
-  proposed_next : (f r : Ref) → IsProposed s0 frame (take j conditions) f → IsSubstituted s0 s1 f (get_or frame.relation.present c.0 0) t j r → IsProposed s1 frame (take j conditions ++ c ∷ []) r
+  proposed_next : (f r : Ref) → IsProposed s0 related (take j conditions) f → IsSubstituted s0 s1 f (get_or related.relation.present c.0 0) t j r → IsProposed s1 related (take j conditions ++ c ∷ []) r
   proposed_next f r proposed sub = record {
     held = sub.held;
     function = λ ts. (
@@ -142,16 +142,16 @@ module _ (s0 s1 : List Node) (frame : Frame) (is : IsFrameIn s0 frame) (conditio
           let same_p = sym (truth_of-with_other ts t w.0 p p_apart) ∙ o.1 p p_untold in
           let same_t = sym (truth_of-with_same ts t w.0) ∙ o.1 t t_untold in (
             o.0,
-            subst (λ xs. AgreeOutside xs ts o.0) (sym told) (outside_more (truths_told frame.relation (take j conditions)) t w.0 ts o.0 o.1),
+            subst (λ xs. AgreeOutside xs ts o.0) (sym told) (outside_more (truths_told related.relation (take j conditions)) t w.0 ts o.0 o.1),
             o.2,
-            keeps_more ts w.0 (reaction_of frame o.0) o.3
+            keeps_more ts w.0 (reaction_of related o.0) o.3
                 (subst (λ s. Allows s (truth_of ts j)) (ap (λ b. if b then Some w.0 else None) same_p ∙ ap (λ b. if truth_of o.0 p then Some b else None) same_t ∙ sym (status_of_c o.0)) w.2),
           )),
       (λ o.
           let out = subst (λ xs. AgreeOutside xs ts o.0) told o.1 in
           let own = truth_of o.0 t in
-          let both = keeps_fewer ts own (reaction_of frame o.0) o.3 in
-          let fewer = outside_fewer (truths_told frame.relation (take j conditions)) t ts o.0 out in
+          let both = keeps_fewer ts own (reaction_of related o.0) o.3 in
+          let fewer = outside_fewer (truths_told related.relation (take j conditions)) t ts o.0 out in
           let same_p = sym (truth_of-with_other ts t own p p_apart) ∙ fewer p p_untold in
           (sub.function ts).1 (
             own,
@@ -161,34 +161,34 @@ module _ (s0 s1 : List Node) (frame : Frame) (is : IsFrameIn s0 frame) (conditio
     );
   } where
     p : ℕ
-    p = get_or frame.relation.present c.0 0
+    p = get_or related.relation.present c.0 0
 
-    told : truths_told frame.relation (take j conditions ++ c ∷ []) ≡ truths_told frame.relation (take j conditions) ++ t ∷ []
-    told = told_more frame.relation (take j conditions) c t truth
+    told : truths_told related.relation (take j conditions ++ c ∷ []) ≡ truths_told related.relation (take j conditions) ++ t ∷ []
+    told = told_more related.relation (take j conditions) c t truth
 
-  wide_next : (f r : Ref) (vs : List ℕ) → Holds s0 f → IsWide s0 frame (take j conditions) f vs → IsSubstituted s0 s1 f (get_or frame.relation.present c.0 0) t j r → IsWide s1 frame (take j conditions ++ c ∷ []) r (replaced t j vs)
+  wide_next : (f r : Ref) (vs : List ℕ) → Holds s0 f → IsWide s0 related (take j conditions) f vs → IsSubstituted s0 s1 f (get_or related.relation.present c.0 0) t j r → IsWide s1 related (take j conditions ++ c ∷ []) r (replaced t j vs)
   wide_next f r vs held wide sub = record {
     count = map_length (λ u. if eqb u t then j else u) vs ∙ wide.count;
     spans = sub.spans vs wide.spans has_p has_t;
     within = λ u there. let from = of_map (λ u. if eqb u t then j else u) vs u there in by_within u from.0 from.1 from.2 (cases_eq from.0 t);
     has = λ u there out.
-        let ne : u ≢ t = λ e. out (subst (λ xs. Contains xs u) (sym told) (subst (λ w. Contains (truths_told frame.relation (take j conditions) ++ t ∷ []) w) (sym e) (contains_last (truths_told frame.relation (take j conditions)) t))) in
+        let ne : u ≢ t = λ e. out (subst (λ xs. Contains xs u) (sym told) (subst (λ w. Contains (truths_told related.relation (take j conditions) ++ t ∷ []) w) (sym e) (contains_last (truths_told related.relation (take j conditions)) t))) in
         subst (λ w. Contains (replaced t j vs) w) (ap (λ b. cond b j u) (apart-eqb u t ne))
-        (in_map (λ u. if eqb u t then j else u) vs u (wide.has u there (λ before. out (subst (λ xs. Contains xs u) (sym told) (contains_before (truths_told frame.relation (take j conditions)) t u before)))));
+        (in_map (λ u. if eqb u t then j else u) vs u (wide.has u there (λ before. out (subst (λ xs. Contains xs u) (sym told) (contains_before (truths_told related.relation (take j conditions)) t u before)))));
   } where
-    told : truths_told frame.relation (take j conditions ++ c ∷ []) ≡ truths_told frame.relation (take j conditions) ++ t ∷ []
-    told = told_more frame.relation (take j conditions) c t truth
+    told : truths_told related.relation (take j conditions ++ c ∷ []) ≡ truths_told related.relation (take j conditions) ++ t ∷ []
+    told = told_more related.relation (take j conditions) c t truth
 
-    has_p : Contains vs (get_or frame.relation.present c.0 0)
-    has_p = wide.has (get_or frame.relation.present c.0 0) (presence_unknown s0 frame is c.0 (get_or frame.relation.present c.0 0) c_within refl) p_untold
+    has_p : Contains vs (get_or related.relation.present c.0 0)
+    has_p = wide.has (get_or related.relation.present c.0 0) (presence_unknown s0 related is c.0 (get_or related.relation.present c.0 0) c_within refl) p_untold
 
     has_t : Contains vs t
-    has_t = wide.has t (truth_unknown s0 frame is c.0 t c_within truth) t_untold
+    has_t = wide.has t (truth_unknown s0 related is c.0 t c_within truth) t_untold
 
     more : length (take j conditions ++ c ∷ []) ≡ j + 1
     more = length_push (take j conditions) c ∙ ap (λ n. n + 1) length_done
 
-    by_within : (u x : ℕ) → Contains vs x → u ≡ cond (eqb x t) j x → ((x ≡ t) ⊎ (x ≢ t)) → (u < length (take j conditions ++ c ∷ [])) ⊎ (Contains frame.unknowns.items u × (Contains (truths_told frame.relation (take j conditions ++ c ∷ [])) u → ⊥))
+    by_within : (u x : ℕ) → Contains vs x → u ≡ cond (eqb x t) j x → ((x ≡ t) ⊎ (x ≢ t)) → (u < length (take j conditions ++ c ∷ [])) ⊎ (Contains related.unknowns.items u × (Contains (truths_told related.relation (take j conditions ++ c ∷ [])) u → ⊥))
     by_within u x there is_u (inl e) =
         let own : u ≡ j = is_u ∙ ap (λ b. cond b j x) (eq-eqb x t e) in
         inl (omega (arith, own, more))
@@ -197,31 +197,31 @@ module _ (s0 s1 : List Node) (frame : Frame) (is : IsFrameIn s0 frame) (conditio
         elim (wide.within x there) [
           | inl lt ↦ inl (omega (arith, own, lt, more, length_done))
           | inr both ↦ inr (
-            subst (λ w. Contains frame.unknowns.items w) (sym own) both.0,
-            λ later. elim (contains_end (truths_told frame.relation (take j conditions)) t u (subst (λ xs. Contains xs u) told later)) [
-              | inl before ↦ both.1 (subst (λ w. Contains (truths_told frame.relation (take j conditions)) w) own before)
+            subst (λ w. Contains related.unknowns.items w) (sym own) both.0,
+            λ later. elim (contains_end (truths_told related.relation (take j conditions)) t u (subst (λ xs. Contains xs u) told later)) [
+              | inl before ↦ both.1 (subst (λ w. Contains (truths_told related.relation (take j conditions)) w) own before)
               | inr same ↦ ne (sym own ∙ same)
             ],
           )
         ]
 
-  pub has_both : (f : Ref) (vs : List ℕ) → IsWide s0 frame (take j conditions) f vs → Contains vs (get_or frame.relation.present c.0 0) × Contains vs t
+  pub has_both : (f : Ref) (vs : List ℕ) → IsWide s0 related (take j conditions) f vs → Contains vs (get_or related.relation.present c.0 0) × Contains vs t
   has_both f vs wide =
-      (wide.has (get_or frame.relation.present c.0 0) (presence_unknown s0 frame is c.0 (get_or frame.relation.present c.0 0) c_within refl) p_untold, wide.has t (truth_unknown s0 frame is c.0 t c_within truth) t_untold)
+      (wide.has (get_or related.relation.present c.0 0) (presence_unknown s0 related is c.0 (get_or related.relation.present c.0 0) c_within refl) p_untold, wide.has t (truth_unknown s0 related is c.0 t c_within truth) t_untold)
 
-  pub propose_turn : (f r : Ref) (p : ℕ) → p ≡ get_or frame.relation.present c.0 0 → IsProposed s0 frame (take j conditions) f → IsSubstituted s0 s1 f p t j r → IsProposed s1 frame (take (j + 1) conditions) r
+  pub propose_turn : (f r : Ref) (p : ℕ) → p ≡ get_or related.relation.present c.0 0 → IsProposed s0 related (take j conditions) f → IsSubstituted s0 s1 f p t j r → IsProposed s1 related (take (j + 1) conditions) r
   propose_turn f r p same proposed sub =
-      subst (λ xs. IsProposed s1 frame xs r) (sym (take_next conditions j c at)) (proposed_next f r proposed (subst (λ q. IsSubstituted s0 s1 f q t j r) same sub))
+      subst (λ xs. IsProposed s1 related xs r) (sym (take_next conditions j c at)) (proposed_next f r proposed (subst (λ q. IsSubstituted s0 s1 f q t j r) same sub))
 
-  pub wide_turn : (f r : Ref) (p : ℕ) → p ≡ get_or frame.relation.present c.0 0 → Holds s0 f → (vs : List ℕ) × IsWide s0 frame (take j conditions) f vs → IsSubstituted s0 s1 f p t j r → (vs : List ℕ) × IsWide s1 frame (take (j + 1) conditions) r vs
+  pub wide_turn : (f r : Ref) (p : ℕ) → p ≡ get_or related.relation.present c.0 0 → Holds s0 f → (vs : List ℕ) × IsWide s0 related (take j conditions) f vs → IsSubstituted s0 s1 f p t j r → (vs : List ℕ) × IsWide s1 related (take (j + 1) conditions) r vs
   wide_turn f r p same held (vs, wide) sub =
-      (replaced t j vs, subst (λ xs. IsWide s1 frame xs r (replaced t j vs)) (sym (take_next conditions j c at)) (wide_next f r vs held wide (subst (λ q. IsSubstituted s0 s1 f q t j r) same sub)))
+      (replaced t j vs, subst (λ xs. IsWide s1 related xs r (replaced t j vs)) (sym (take_next conditions j c at)) (wide_next f r vs held wide (subst (λ q. IsSubstituted s0 s1 f q t j r) same sub)))
 
 -- calls over as many variables
 pub as_many : (n : ℕ) (vs ws : List ℕ) (s t : StoreView) (why : Option DdAnswer) → length vs ≡ length ws → Share n vs s t why → Share n ws s t why
 as_many n vs ws s t why same share = Share-wider s t n n vs ws why (mul-le-mul_left n (allowance_rises vs ws (omega (arith, same)))) share
 
-pub substitute_share : (old new : StoreView) (frame : Frame) (conditions : List SigId) (f : Ref) (p q t : ℕ) (why : Option DdAnswer) (wide : (vs : List ℕ) × IsWide old.nodes frame conditions f vs) → p ≡ q → Contains wide.0 q × Contains wide.0 t
-    → ((vs : List ℕ) → Spans old.nodes f vs → Contains vs p → Contains vs t → Share 18 vs old new why) → Share 18 frame.unknowns.items old new why
-substitute_share old new frame conditions f p q t why wide same has share =
-    as_many 18 wide.0 frame.unknowns.items old new why wide.1.count (share wide.0 wide.1.spans (subst (λ v. Contains wide.0 v) (sym same) has.0) has.1)
+pub substitute_share : (old new : StoreView) (related : Related) (conditions : List SigId) (f : Ref) (p q t : ℕ) (why : Option DdAnswer) (wide : (vs : List ℕ) × IsWide old.nodes related conditions f vs) → p ≡ q → Contains wide.0 q × Contains wide.0 t
+    → ((vs : List ℕ) → Spans old.nodes f vs → Contains vs p → Contains vs t → Share 18 vs old new why) → Share 18 related.unknowns.items old new why
+substitute_share old new related conditions f p q t why wide same has share =
+    as_many 18 wide.0 related.unknowns.items old new why wide.1.count (share wide.0 wide.1.spans (subst (λ v. Contains wide.0 v) (sym same) has.0) has.1)

@@ -11,7 +11,7 @@ use Rattle.sig_dd.specs.declared.node.Node.{Node}
 use Rattle.sig_dd.specs.declared.node.Ref.{Ref}
 use Rattle.sig_kernel.specs.declared.kernel.Kernel.{Kernel}
 use Rattle.sig_solve.specs.Sets.{IsImage}
-use Rattle.sig_solve.specs.declared.frame.Frame.{Frame}
+use Rattle.sig_solve.specs.declared.related.Related.{Related}
 use Rattle.sig_solve.specs.declared.known.Known.{Known}
 
 -- some reaction that is not silent lacks the signal
@@ -24,26 +24,26 @@ FindsRoot kernel None = (signal : ℕ) → IsSignal kernel signal → IsSomewher
 FindsRoot kernel (Some root) = IsRoot kernel root.0
 
 -- a signal is present, or absent, somewhere in a part
-pub record IsMet (nodes : List Node) (frame : Frame) (part : Ref) (present : Bool) (signal : ℕ) : Type 0 where
-  pub is : IsSignal frame.kernel.now signal
+pub record IsMet (nodes : List Node) (related : Related) (part : Ref) (present : Bool) (signal : ℕ) : Type 0 where
+  pub is : IsSignal related.frame.kernel.now signal
   pub truths : List Bool
   pub within : IsTrue (test nodes part truths)
-  pub at : truth_of truths (slice_index frame.relation.present signal) ≡ present
+  pub at : truth_of truths (slice_index related.relation.present signal) ≡ present
 
 -- a signal is present somewhere in a part
-abbrev pub SomeIsMet : List Node → Frame → Ref → Type 0
-SomeIsMet nodes frame part = (signal : ℕ) × IsMet nodes frame part true signal
+abbrev pub SomeIsMet : List Node → Related → Ref → Type 0
+SomeIsMet nodes related part = (signal : ℕ) × IsMet nodes related part true signal
 
-abbrev pub IsMetAnswer : List Node → Frame → Ref → Bool → ℕ → Bool → Type 0
-IsMetAnswer nodes frame part present signal true = IsMet nodes frame part present signal
-IsMetAnswer nodes frame part present signal false = IsMet nodes frame part present signal → ⊥
+abbrev pub IsMetAnswer : List Node → Related → Ref → Bool → ℕ → Bool → Type 0
+IsMetAnswer nodes related part present signal true = IsMet nodes related part present signal
+IsMetAnswer nodes related part present signal false = IsMet nodes related part present signal → ⊥
 
 -- images of the reactions in which a condition is present and true, and of those in which it is present and false
-pub record AreHalves (nodes : List Node) (frame : Frame) (known : Known) (condition : ℕ) (high low : Ref) : Type 0 where
-  pub high_is : IsImage nodes frame known (λ reaction. IsReaction frame.kernel.now reaction × (status_at reaction condition ≡ Some true)) high
-  pub low_is : IsImage nodes frame known (λ reaction. IsReaction frame.kernel.now reaction × (status_at reaction condition ≡ Some false)) low
-  pub high_spans : Spans nodes high frame.unknowns.items
-  pub low_spans : Spans nodes low frame.unknowns.items
+pub record AreHalves (nodes : List Node) (related : Related) (known : Known) (condition : ℕ) (high low : Ref) : Type 0 where
+  pub high_is : IsImage nodes related known (λ reaction. IsReaction related.frame.kernel.now reaction × (status_at reaction condition ≡ Some true)) high
+  pub low_is : IsImage nodes related known (λ reaction. IsReaction related.frame.kernel.now reaction × (status_at reaction condition ≡ Some false)) low
+  pub high_spans : Spans nodes high related.unknowns.items
+  pub low_spans : Spans nodes low related.unknowns.items
 
 -- a condition that is pinned, and no earlier one is; or each one is free
 abbrev pub FindsPinned : Kernel → List SigId → Option SigId → Type 0

@@ -1,4 +1,4 @@
--- A kernel with its relation and its unknowns, as the solver keeps them.
+-- A kernel with its clock classes, with its relation and its unknowns, as the solver keeps them.
 use Rattle.std.specs.Prelude.{◌≡◌, ◌==◌, ◌++◌, ◌||◌, ℕ, Bool, false, not, List, [], ◌∷◌, length, map, filter, slice_index, slice_index_or, slice_get, Option, None, Some, Contains}
 use Rattle.std.specs.List.{list_any, range_with_len}
 use Rattle.sig_base.specs.declared.ids.SigId.{SigId}
@@ -9,6 +9,7 @@ use Rattle.sig_dd.specs.declared.node.Node.{Node}
 use Rattle.sig_kernel.specs.Validity.{IsValid}
 use Rattle.sig_rel.specs.Relations.{IsRelation, RelationView, reaction_in}
 use Rattle.sig_solve.specs.declared.frame.Frame.{Frame}
+use Rattle.sig_solve.specs.declared.related.Related.{Related}
 
 -- the signals that are the least of their class
 abbrev pub leaders_of : List ℕ → List ℕ
@@ -24,17 +25,21 @@ truths_among (Some v ∷ truths) = v ∷ truths_among truths
 pub record IsFrame (frame : Frame) : Type 0 where
   pub least : AreLeast frame.kernel.now frame.least.items
   pub leaders : frame.leaders.items ≡ leaders_of frame.least.items
-  pub unknowns : frame.unknowns.items ≡ map (slice_index frame.relation.present) frame.leaders.items ++ truths_among frame.relation.truth
+
+-- the unknowns: those of the presences of the clock classes, and then those of truths
+abbrev pub AreUnknownsOf : Related → Type 0
+AreUnknownsOf related = related.unknowns.items ≡ map (slice_index related.relation.present) related.frame.leaders.items ++ truths_among related.relation.truth
 
 -- the frame of a kernel whose relation stands among the nodes of a store
-pub record IsFrameIn (nodes : List Node) (frame : Frame) : Type 0 where
-  pub parts : IsFrame frame
-  pub valid : IsValid frame.kernel.now
+pub record IsFrameIn (nodes : List Node) (related : Related) : Type 0 where
+  pub parts : IsFrame related.frame
+  pub unknowns : AreUnknownsOf related
+  pub valid : IsValid related.frame.kernel.now
   pub count : ℕ
-  pub relation : IsRelation frame.kernel.now count nodes frame.relation
+  pub relation : IsRelation related.frame.kernel.now count nodes related.relation
   -- each abstract reaction is that of some truths
-  pub every : (reaction : Reaction) → IsReaction frame.kernel.now reaction
-      → (truths : List Bool) × (reaction_in truths frame.relation.present frame.relation.truth ≡ reaction)
+  pub every : (reaction : Reaction) → IsReaction related.frame.kernel.now reaction
+      → (truths : List Bool) × (reaction_in truths related.relation.present related.relation.truth ≡ reaction)
 
 abbrev pub is_variable : ℕ → Option ℕ → Bool
 is_variable v None = false

@@ -13,6 +13,7 @@ use Rattle.sig_solve.specs.Frames.{is_variable, truths_among}
 use Rattle.sig_solve.specs.Parts.{AgreeOutside}
 use Rattle.sig_solve.specs.Sets.{reaction_of}
 use Rattle.sig_solve.specs.declared.frame.Frame.{Frame}
+use Rattle.sig_solve.specs.declared.related.Related.{Related}
 
 -- r stands in the new nodes for f where the truth of a present condition is the given one, with its variable forgotten
 pub record IsKept (old new : List Node) (f : Ref) (present truth : ℕ) (proposed : Bool) (r : Ref) : Type 0 where
@@ -43,19 +44,19 @@ rest_of relation unknowns conditions = filter (λ v. not (list_any (λ c. is_var
 
 -- A function is true where some reaction that is not silent keeps to the truths that are proposed for the first
 -- conditions; the other variables are the unknowns of that reaction, the truths of these conditions aside.
-pub record IsProposed (nodes : List Node) (frame : Frame) (conditions : List SigId) (f : Ref) : Type 0 where
+pub record IsProposed (nodes : List Node) (related : Related) (conditions : List SigId) (f : Ref) : Type 0 where
   pub held : Holds nodes f
   pub function : (truths : List Bool) → IsTrue (test nodes f truths)
-      ↔ ((other : List Bool) × AgreeOutside (truths_told frame.relation conditions) truths other × Speaks frame.kernel.now (reaction_of frame other)
-      × KeepsTo conditions truths (reaction_of frame other))
+      ↔ ((other : List Bool) × AgreeOutside (truths_told related.relation conditions) truths other × Speaks related.frame.kernel.now (reaction_of related other)
+      × KeepsTo conditions truths (reaction_of related other))
 
 -- as many variables as there are unknowns, of which the function depends on no others: those of the first conditions,
 -- and the unknowns, the truths of these conditions aside
-pub record IsWide (nodes : List Node) (frame : Frame) (conditions : List SigId) (f : Ref) (vs : List ℕ) : Type 0 where
-  pub count : length vs ≡ length frame.unknowns.items
+pub record IsWide (nodes : List Node) (related : Related) (conditions : List SigId) (f : Ref) (vs : List ℕ) : Type 0 where
+  pub count : length vs ≡ length related.unknowns.items
   pub spans : Spans nodes f vs
-  pub within : (u : ℕ) → Contains vs u → (u < length conditions) ⊎ (Contains frame.unknowns.items u × (Contains (truths_told frame.relation conditions) u → ⊥))
-  pub has : (u : ℕ) → Contains frame.unknowns.items u → (Contains (truths_told frame.relation conditions) u → ⊥) → Contains vs u
+  pub within : (u : ℕ) → Contains vs u → (u < length conditions) ⊎ (Contains related.unknowns.items u × (Contains (truths_told related.relation conditions) u → ⊥))
+  pub has : (u : ℕ) → Contains related.unknowns.items u → (Contains (truths_told related.relation conditions) u → ⊥) → Contains vs u
 
 -- the guard of a signal: it is true at a proposal where some reaction that keeps to it has the signal
 pub record IsGuard (nodes : List Node) (frame : Frame) (conditions : List SigId) (signal : ℕ) (r : Ref) : Type 0 where

@@ -1,12 +1,15 @@
 -- Why a kernel has no clocks, and how many nodes solving may add.
-use Rattle.std.specs.Prelude.{◌≡◌, ◌+◌, ◌*◌, ◌^◌, ◌<◌, ◌≤◌, ℕ, length, Option, None, Some, Result, Ok, Err, IfErr}
+use Rattle.std.specs.Prelude.{◌≡◌, ◌+◌, ◌*◌, ◌^◌, ◌<◌, ◌≤◌, ◌⊎◌, ℕ, length, Option, None, Some, Result, Ok, Err, IfErr}
 use Rattle.sig_clock.specs.ClockRefusals.{IsFirstPinned, IsMissingRoot, IsUnsolved}
 use Rattle.sig_clock.specs.Layers.{IsDead}
 use Rattle.sig_dd.specs.Nodes.{StoreView, IsFull}
 use Rattle.sig_dd.specs.declared.answer.DdAnswer.{DdAnswer}
 use Rattle.sig_dd.specs.declared.answer.DdAnswer.TheVariants.{Budget as StoreBudget, OutOfMemory as NoMemory}
 use Rattle.sig_kernel.specs.declared.kernel.Kernel.{Kernel}
+use Rattle.sig_clock.specs.Conditions.{conditions_of}
 use Rattle.sig_rel.specs.Relations.{IsUnknownCount}
+use Rattle.sig_rel.specs.Shares.{triangular_share_of as system_share_of}
+use Rattle.sig_rel.specs.Triangles.{IsTriangular}
 use Rattle.sig_rel.specs.declared.answer.RelAnswer.{RelAnswer}
 use Rattle.sig_rel.specs.declared.answer.RelAnswer.TheVariants.{Budget as RelationBudget, OutOfMemory as NoRelation}
 use Rattle.sig_solve.specs.declared.answer.ClockAnswer.{ClockAnswer}
@@ -61,6 +64,14 @@ pub record IsWithin {T : Type 0} (room : ℕ) (old new : StoreView) (result : Re
 abbrev pub KeepsToShare : {T : Type 0} → Kernel → StoreView → StoreView → Result T ClockAnswer → Type 0
 KeepsToShare kernel old new result = (unknowns : ℕ) → IsUnknownCount kernel unknowns → IsWithin (share_of kernel unknowns) old new result
 
+-- how many nodes solving a triangular kernel may add
+abbrev pub triangular_share_of : Kernel → ℕ
+triangular_share_of kernel = 2 ^ length (conditions_of kernel) * 36 * (length kernel.equations + 1)
+
+-- solving a triangular kernel keeps to a share over its conditions alone
+abbrev pub KeepsToTriangularShare : {T : Type 0} → Kernel → StoreView → StoreView → Result T ClockAnswer → Type 0
+KeepsToTriangularShare kernel old new result = IsTriangular kernel → IsWithin (triangular_share_of kernel) old new result
+
 -- the share that is left once the relation is made
 abbrev pub rest_of_share : Kernel → ℕ → ℕ
 rest_of_share kernel unknowns = 2 ^ unknowns * 30 * (length kernel.equations + unknowns * unknowns * unknowns)
@@ -68,3 +79,7 @@ rest_of_share kernel unknowns = 2 ^ unknowns * 30 * (length kernel.equations + u
 -- how many calls solve a kernel of so many classes, conditions and unknowns
 abbrev pub calls_of : ℕ → ℕ → ℕ → ℕ
 calls_of classes conditions unknowns = (2 * classes + 1) + (6 * classes + 2) + (4 + 6 * unknowns) * classes * classes + (8 + 6 * unknowns) * conditions + (18 * conditions + (2 + 3 * unknowns) * classes)
+
+-- how many nodes the making of a triangular kernel's system may add: in either form, half of the share or less
+abbrev pub IsSystemRoom : Kernel → ℕ → Type 0
+IsSystemRoom kernel room = ((unknowns : ℕ) × IsUnknownCount kernel unknowns × (room ≡ rest_of_share kernel unknowns)) ⊎ (room ≡ system_share_of kernel)

@@ -12,9 +12,9 @@ ghost use Rattle.sig_solve.specs.Frames.{is_variable};
 ghost use Rattle.sig_solve.specs.Guards.{AreGuards, IsKept, IsProposed, IsSubstituted, IsWide, rest_of};
 ghost use Rattle.sig_solve.specs.Sets.{IsPart, IsReady};
 
-use crate::frame::Frame;
 use crate::known::{is_variable, truth};
 use crate::parts::{narrow, shadow, where_it_is};
+use crate::related::Related;
 use sig_base::SigId;
 use sig_dd::{DdAnswer, Ref, Store};
 use std::alloc::{AllocError, Global};
@@ -76,42 +76,42 @@ fn choose(store: &mut Store, v: u32, high: Ref, low: Ref) -> Result<Ref, DdAnswe
 
 /// The reactions that keep to a proposal, as a function of the proposed truths.
 fn propose(
-    frame: &Frame,
+    related: &Related,
     speaking: Ref,
     store: &mut Store,
     conditions: &[SigId],
 ) -> Result<Ref, DdAnswer>
-    requires ready { IsReady store.old frame.now }
-    requires speaking { IsPart store.old.nodes frame.now (Speaks frame.now.kernel.now) speaking }
-    requires conditions { AreInOrder frame.now.kernel.now conditions.now }
-    requires few { length conditions.now ≤ length (conditions_of frame.now.kernel.now) }
+    requires ready { IsReady store.old related.now }
+    requires speaking { IsPart store.old.nodes related.now (Speaks related.now.frame.kernel.now) speaking }
+    requires conditions { AreInOrder related.now.frame.kernel.now conditions.now }
+    requires few { length conditions.now ≤ length (conditions_of related.now.frame.kernel.now) }
     ensures store { IsStore store.new }
     ensures kept { Keeps store.old store.new }
-    ensures value { IfOk result (IsProposed store.new.nodes frame.now conditions.now) }
+    ensures value { IfOk result (IsProposed store.new.nodes related.now conditions.now) }
     ensures wide { IfOk result (λ r. (vs : List ℕ)
-        × IsWide store.new.nodes frame.now conditions.now r vs) }
-    ensures share { Share (18 * length conditions.now) frame.now.unknowns.items
+        × IsWide store.new.nodes related.now conditions.now r vs) }
+    ensures share { Share (18 * length conditions.now) related.now.unknowns.items
         store.old store.new (refusal result) }
 {
     let mut proposed = speaking;
     for (place, condition) in conditions.iter().enumerate() {
-        let Some(v) = truth(frame, *condition) else {
+        let Some(v) = truth(related, *condition) else {
             unreachable!();
         };
-        let present = frame.presence(condition.0);
+        let present = related.presence(condition.0);
         proposed = substitute(store, proposed, present, v, place as u32)?;
     }
     Ok(proposed)
 }
 
 /// The unknowns that are no condition's truth.
-fn rest_of(alloc: Global, frame: &Frame, conditions: &[SigId]) -> Result<Vec<u32>, AllocError>
+fn rest_of(alloc: Global, related: &Related, conditions: &[SigId]) -> Result<Vec<u32>, AllocError>
     ensures { IfOk result (λ rest. rest.items
-        ≡ rest_of frame.now.relation frame.now.unknowns.items conditions.now) }
+        ≡ rest_of related.now.relation related.now.unknowns.items conditions.now) }
 {
     let mut rest = Vec::new(alloc);
-    for v in frame.unknowns.as_slice() {
-        if !is_truth(frame, conditions, *v) {
+    for v in related.unknowns.as_slice() {
+        if !is_truth(related, conditions, *v) {
             rest.push(*v)?;
         }
     }
@@ -119,42 +119,42 @@ fn rest_of(alloc: Global, frame: &Frame, conditions: &[SigId]) -> Result<Vec<u32
 }
 
 /// Whether the unknown is the truth of a condition.
-fn is_truth(frame: &Frame, conditions: &[SigId], v: u32) -> bool
-    ensures { result ≡ list_any (λ c. is_variable v (slice_index_or frame.now.relation.truth c.0 None)) conditions.now }
+fn is_truth(related: &Related, conditions: &[SigId], v: u32) -> bool
+    ensures { result ≡ list_any (λ c. is_variable v (slice_index_or related.now.relation.truth c.0 None)) conditions.now }
 {
     conditions
         .iter()
-        .any(|condition| is_variable(v, truth(frame, *condition)))
+        .any(|condition| is_variable(v, truth(related, *condition)))
 }
 
 /// The guards of the least signals of the clock classes, at their places.
 pub(crate) fn guards_of(
     alloc: Global,
-    frame: &Frame,
+    related: &Related,
     speaking: Ref,
     store: &mut Store,
     conditions: &[SigId],
 ) -> Result<Vec<Ref>, DdAnswer>
-    requires ready { IsReady store.old frame.now }
-    requires speaking { IsPart store.old.nodes frame.now (Speaks frame.now.kernel.now) speaking }
-    requires conditions { AreInOrder frame.now.kernel.now conditions.now }
-    requires few { length conditions.now ≤ length (conditions_of frame.now.kernel.now) }
+    requires ready { IsReady store.old related.now }
+    requires speaking { IsPart store.old.nodes related.now (Speaks related.now.frame.kernel.now) speaking }
+    requires conditions { AreInOrder related.now.frame.kernel.now conditions.now }
+    requires few { length conditions.now ≤ length (conditions_of related.now.frame.kernel.now) }
     ensures store { IsStore store.new }
     ensures kept { Keeps store.old store.new }
     ensures value { IfOk result (λ guards.
-        AreGuards store.new.nodes frame.now conditions.now guards.items) }
+        AreGuards store.new.nodes related.now.frame conditions.now guards.items) }
     ensures share { Share (18 * length conditions.now
-        + (2 + 3 * length frame.now.unknowns.items) * length frame.now.leaders.items)
-        frame.now.unknowns.items store.old store.new (refusal result) }
+        + (2 + 3 * length related.now.unknowns.items) * length related.now.frame.leaders.items)
+        related.now.unknowns.items store.old store.new (refusal result) }
 {
-    let proposed = propose(frame, speaking, store, conditions)?;
-    let rest = rest_of(alloc, frame, conditions)?;
-    let mut guards = vec![in alloc; store.constant(false); frame.least.len()]?;
-    for leader in frame.leaders.as_slice() {
+    let proposed = propose(related, speaking, store, conditions)?;
+    let rest = rest_of(alloc, related, conditions)?;
+    let mut guards = vec![in alloc; store.constant(false); related.frame.least.len()]?;
+    for leader in related.frame.leaders.as_slice() {
         let guard = shadow(
             store,
             proposed,
-            frame.presence(*leader),
+            related.presence(*leader),
             true,
             rest.as_slice(),
         )?;

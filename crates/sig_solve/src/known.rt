@@ -4,7 +4,7 @@ ghost use Rattle.std.specs.Prelude.{◌≡◌, ◌||◌, None, IfOk, slice_get, 
 ghost use Rattle.std.specs.List.{list_any};
 ghost use Rattle.sig_solve.specs.Frames.{is_variable, others_of, tells};
 
-use crate::frame::Frame;
+use crate::related::Related;
 use sig_base::SigId;
 use std::alloc::{AllocError, Global};
 
@@ -18,15 +18,15 @@ pub(crate) struct Known {
 /// These conditions as known ones.
 pub(crate) fn known_of(
     alloc: Global,
-    frame: &Frame,
+    related: &Related,
     conditions: Vec<SigId>,
 ) -> Result<Known, AllocError>
     ensures { IfOk result (λ known. (known.conditions.items ≡ conditions.items)
-        × (known.others.items ≡ others_of frame.now.relation frame.now.unknowns.items conditions.items)) }
+        × (known.others.items ≡ others_of related.now.relation related.now.unknowns.items conditions.items)) }
 {
     let mut others = Vec::new(alloc);
-    for v in frame.unknowns.as_slice() {
-        if !is_told(frame, conditions.as_slice(), *v) {
+    for v in related.unknowns.as_slice() {
+        if !is_told(related, conditions.as_slice(), *v) {
             others.push(*v)?;
         }
     }
@@ -34,19 +34,19 @@ pub(crate) fn known_of(
 }
 
 /// Whether the unknown tells something of one of the conditions.
-fn is_told(frame: &Frame, conditions: &[SigId], v: u32) -> bool
-    ensures { result ≡ list_any (tells frame.now.relation v) conditions.now }
+fn is_told(related: &Related, conditions: &[SigId], v: u32) -> bool
+    ensures { result ≡ list_any (tells related.now.relation v) conditions.now }
 {
     conditions
         .iter()
-        .any(|condition| tells(frame, *condition, v))
+        .any(|condition| tells(related, *condition, v))
 }
 
 /// Whether the unknown tells the presence or the truth of a condition.
-fn tells(frame: &Frame, condition: SigId, v: u32) -> bool
-    ensures { result ≡ tells frame.now.relation v condition }
+fn tells(related: &Related, condition: SigId, v: u32) -> bool
+    ensures { result ≡ tells related.now.relation v condition }
 {
-    is_variable(v, presence(frame, condition)) || is_variable(v, truth(frame, condition))
+    is_variable(v, presence(related, condition)) || is_variable(v, truth(related, condition))
 }
 
 /// Whether an unknown is this one.
@@ -60,18 +60,18 @@ pub(crate) fn is_variable(v: u32, unknown: Option<u32>) -> bool
 }
 
 /// The unknown of a signal's presence.
-fn presence(frame: &Frame, signal: SigId) -> Option<u32>
-    ensures { result ≡ slice_get frame.now.relation.present signal.0 }
+fn presence(related: &Related, signal: SigId) -> Option<u32>
+    ensures { result ≡ slice_get related.now.relation.present signal.0 }
 {
-    let present = frame.relation.present.as_slice();
+    let present = related.relation.present.as_slice();
     present.get(signal.0 as usize).copied()
 }
 
 /// The unknown of a signal's truth, where it has one.
-pub(crate) fn truth(frame: &Frame, signal: SigId) -> Option<u32>
-    ensures { result ≡ slice_index_or frame.now.relation.truth signal.0 None }
+pub(crate) fn truth(related: &Related, signal: SigId) -> Option<u32>
+    ensures { result ≡ slice_index_or related.now.relation.truth signal.0 None }
 {
-    let truth = frame.relation.truth.as_slice();
+    let truth = related.relation.truth.as_slice();
     match truth.get(signal.0 as usize) {
         Some(v) => *v,
         None => None,

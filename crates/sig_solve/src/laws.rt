@@ -7,9 +7,9 @@ ghost use Rattle.sig_clock.specs.ClockRefusals.{HasClocks};
 ghost use Rattle.sig_clock.specs.Clocks.{AreClocks, ClocksView};
 ghost use Rattle.sig_clock.specs.Reactions.{Reaction, Speaks, status_at};
 ghost use Rattle.sig_dd.specs.Nodes.{IsStore, StoreView, diagram};
-ghost use Rattle.sig_dd.specs.Walks.{Asks};
 ghost use Rattle.sig_dd.specs.declared.node.Ref.{Ref};
 ghost use Rattle.sig_kernel.specs.declared.kernel.Kernel.{Kernel};
+ghost use Rattle.sig_solve.specs.Walks.{Asks};
 
 /// A law: in a kernel that has clocks, the walk of a guard from its top, by truths that a reaction keeps
 /// to, never asks for a condition that is absent from the reaction.

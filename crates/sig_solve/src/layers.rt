@@ -13,6 +13,7 @@ ghost use Rattle.sig_solve.specs.Sets.{AreKnown, IsPart, IsReady};
 use crate::frame::Frame;
 use crate::known::{Known, known_of};
 use crate::parts::shadow;
+use crate::related::Related;
 use sig_base::SigId;
 use sig_dd::{DdAnswer, Ref, Store};
 use std::alloc::{AllocError, Global};
@@ -28,30 +29,30 @@ pub(crate) struct Layers {
 /// The layers of a kernel, of which the conditions are given.
 pub(crate) fn layers_of(
     alloc: Global,
-    frame: &Frame,
+    related: &Related,
     speaking: Ref,
     store: &mut Store,
     conditions: &[SigId],
 ) -> Result<Layers, DdAnswer>
-    requires ready { IsReady store.old frame.now }
-    requires speaking { IsPart store.old.nodes frame.now (Speaks frame.now.kernel.now) speaking }
-    requires conditions { conditions.now ≡ conditions_of frame.now.kernel.now }
+    requires ready { IsReady store.old related.now }
+    requires speaking { IsPart store.old.nodes related.now (Speaks related.now.frame.kernel.now) speaking }
+    requires conditions { conditions.now ≡ conditions_of related.now.frame.kernel.now }
     ensures store { IsStore store.new }
     ensures kept { Keeps store.old store.new }
     ensures value { IfOk result (λ layers.
-        AreSettled frame.now layers.numbers.items layers.waiting.items) }
-    ensures share { Share ((4 + 6 * length frame.now.unknowns.items)
-        * length frame.now.leaders.items * length frame.now.leaders.items)
-        frame.now.unknowns.items store.old store.new (refusal result) }
+        AreSettled related.now.frame layers.numbers.items layers.waiting.items) }
+    ensures share { Share ((4 + 6 * length related.now.unknowns.items)
+        * length related.now.frame.leaders.items * length related.now.frame.leaders.items)
+        related.now.unknowns.items store.old store.new (refusal result) }
 {
-    let mut numbers = zeros(alloc, frame.least.len())?;
-    let mut waiting = Vec::from_slice(alloc, frame.leaders.as_slice())?;
-    for round in 0..frame.leaders.len() as u32 {
-        let entered = entered(alloc, frame, numbers.as_slice(), conditions)?;
-        let known = known_of(alloc, frame, entered)?;
+    let mut numbers = zeros(alloc, related.frame.least.len())?;
+    let mut waiting = Vec::from_slice(alloc, related.frame.leaders.as_slice())?;
+    for round in 0..related.frame.leaders.len() as u32 {
+        let entered = entered(alloc, &related.frame, numbers.as_slice(), conditions)?;
+        let known = known_of(alloc, related, entered)?;
         let still = pass(
             alloc,
-            frame,
+            related,
             speaking,
             store,
             &known,
@@ -71,14 +72,14 @@ pub(crate) fn layers_of(
 }
 
 /// So many zeros.
-fn zeros(alloc: Global, count: usize) -> Result<Vec<u32>, AllocError>
+pub(crate) fn zeros(alloc: Global, count: usize) -> Result<Vec<u32>, AllocError>
     ensures { IfOk result (λ zeros. zeros.items ≡ replicate count 0) }
 {
     vec![in alloc; 0; count]
 }
 
 /// The conditions whose class has entered.
-fn entered(
+pub(crate) fn entered(
     alloc: Global,
     frame: &Frame,
     layers: &[u32],
@@ -118,7 +119,7 @@ pub(crate) fn number_at(numbers: &[u32], place: u32) -> u32
 /// are still open.
 fn pass(
     alloc: Global,
-    frame: &Frame,
+    related: &Related,
     speaking: Ref,
     store: &mut Store,
     known: &Known,
@@ -126,24 +127,24 @@ fn pass(
     waiting: &[u32],
     layers: &mut [u32],
 ) -> Result<Vec<u32>, DdAnswer>
-    requires ready { IsReady store.old frame.now }
-    requires speaking { IsPart store.old.nodes frame.now (Speaks frame.now.kernel.now) speaking }
-    requires known { AreKnown frame.now known.now }
-    requires entered { AreEntered frame.now.kernel.now round known.now.conditions.items }
-    requires rounds { AreRounds frame.now round layers.old waiting.now }
+    requires ready { IsReady store.old related.now }
+    requires speaking { IsPart store.old.nodes related.now (Speaks related.now.frame.kernel.now) speaking }
+    requires known { AreKnown related.now known.now }
+    requires entered { AreEntered related.now.frame.kernel.now round known.now.conditions.items }
+    requires rounds { AreRounds related.now.frame round layers.old waiting.now }
     requires few { round < 512 }
     ensures store { IsStore store.new }
     ensures kept { Keeps store.old store.new }
-    ensures value { IfOk result (λ still. AreRounds frame.now (suc round) layers.new still.items
+    ensures value { IfOk result (λ still. AreRounds related.now.frame (suc round) layers.new still.items
         × (length still.items ≤ length waiting.now)
         × (length still.items ≡ length waiting.now
         → (s : ℕ) → Contains waiting.now s → Contains still.items s)) }
-    ensures share { Share ((4 + 6 * length frame.now.unknowns.items) * length waiting.now)
-        frame.now.unknowns.items store.old store.new (refusal result) }
+    ensures share { Share ((4 + 6 * length related.now.unknowns.items) * length waiting.now)
+        related.now.unknowns.items store.old store.new (refusal result) }
 {
     let mut still = Vec::new(alloc);
     for class in waiting {
-        if is_open(frame, speaking, store, known, *class)? {
+        if is_open(related, speaking, store, known, *class)? {
             still.push(*class)?;
         } else {
             layers[*class as usize] = round + 1;
@@ -155,25 +156,25 @@ fn pass(
 /// Whether known conditions leave the presence of a signal open: two reactions agree on them, of
 /// which one has the signal.
 fn is_open(
-    frame: &Frame,
+    related: &Related,
     speaking: Ref,
     store: &mut Store,
     known: &Known,
     signal: u32,
 ) -> Result<bool, DdAnswer>
-    requires ready { IsReady store.old frame.now }
-    requires speaking { IsPart store.old.nodes frame.now (Speaks frame.now.kernel.now) speaking }
-    requires known { AreKnown frame.now known.now }
-    requires signal { IsSignal frame.now.kernel.now signal }
+    requires ready { IsReady store.old related.now }
+    requires speaking { IsPart store.old.nodes related.now (Speaks related.now.frame.kernel.now) speaking }
+    requires known { AreKnown related.now known.now }
+    requires signal { IsSignal related.now.frame.kernel.now signal }
     ensures store { IsStore store.new }
     ensures kept { Keeps store.old store.new }
     ensures value { IfOk result
-        (IsOpenAnswer frame.now.kernel.now (IsAmong known.now.conditions.items) signal) }
-    ensures share { Share (4 + 6 * length frame.now.unknowns.items) frame.now.unknowns.items
+        (IsOpenAnswer related.now.frame.kernel.now (IsAmong known.now.conditions.items) signal) }
+    ensures share { Share (4 + 6 * length related.now.unknowns.items) related.now.unknowns.items
         store.old store.new (refusal result) }
 {
     let others = known.others.as_slice();
-    let present = frame.presence(signal);
+    let present = related.presence(signal);
     let with = shadow(store, speaking, present, true, others)?;
     let without = shadow(store, speaking, present, false, others)?;
     store.overlap(with, without)

@@ -13,8 +13,11 @@ mod layers;
 mod order;
 mod parts;
 mod pinned;
+mod related;
 mod roots;
+mod rounds;
 mod solving;
+mod triangular;
 
 pub use answer::ClockAnswer;
 pub use laws::walks_ask_no_absent_condition;

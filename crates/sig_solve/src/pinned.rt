@@ -12,9 +12,9 @@ ghost use Rattle.sig_solve.specs.Orders.{IsPinnedAnswer};
 ghost use Rattle.sig_solve.specs.Parts.{Exceeds};
 ghost use Rattle.sig_solve.specs.Sets.{AreKnown, IsReady};
 
-use crate::frame::Frame;
 use crate::known::{Known, known_of, truth};
 use crate::parts::{exceeds, narrow, shadow};
+use crate::related::Related;
 use sig_base::SigId;
 use sig_dd::{DdAnswer, Ref, Store};
 use std::alloc::Global;
@@ -22,22 +22,22 @@ use std::alloc::Global;
 /// The first pinned condition, if one is pinned. The conditions are given in the condition order.
 pub(crate) fn find_pinned(
     alloc: Global,
-    frame: &Frame,
+    related: &Related,
     store: &mut Store,
     conditions: &[SigId],
 ) -> Result<Option<SigId>, DdAnswer>
-    requires ready { IsReady store.old frame.now }
-    requires conditions { AreInOrder frame.now.kernel.now conditions.now }
+    requires ready { IsReady store.old related.now }
+    requires conditions { AreInOrder related.now.frame.kernel.now conditions.now }
     ensures store { IsStore store.new }
     ensures kept { Keeps store.old store.new }
-    ensures value { IfOk result (FindsPinned frame.now.kernel.now conditions.now) }
-    ensures share { Share ((8 + 6 * length frame.now.unknowns.items) * length conditions.now)
-        frame.now.unknowns.items store.old store.new (refusal result) }
+    ensures value { IfOk result (FindsPinned related.now.frame.kernel.now conditions.now) }
+    ensures share { Share ((8 + 6 * length related.now.unknowns.items) * length conditions.now)
+        related.now.unknowns.items store.old store.new (refusal result) }
 {
     for (place, condition) in conditions.iter().enumerate() {
         let earlier = Vec::from_slice(alloc, &conditions[..place])?;
-        let known = known_of(alloc, frame, earlier)?;
-        if is_pinned(frame, store, &known, *condition)? {
+        let known = known_of(alloc, related, earlier)?;
+        if is_pinned(related, store, &known, *condition)? {
             return Ok(Some(*condition));
         }
     }
@@ -46,48 +46,48 @@ pub(crate) fn find_pinned(
 
 /// Whether known conditions force the truth of a condition.
 fn is_pinned(
-    frame: &Frame,
+    related: &Related,
     store: &mut Store,
     known: &Known,
     condition: SigId,
 ) -> Result<bool, DdAnswer>
-    requires ready { IsReady store.old frame.now }
-    requires known { AreKnown frame.now known.now }
-    requires condition { is_condition frame.now.kernel.now condition.0 ≡ true }
+    requires ready { IsReady store.old related.now }
+    requires known { AreKnown related.now known.now }
+    requires condition { is_condition related.now.frame.kernel.now condition.0 ≡ true }
     ensures store { IsStore store.new }
     ensures kept { Keeps store.old store.new }
     ensures value { IfOk result
-        (IsPinnedAnswer frame.now.kernel.now (IsAmong known.now.conditions.items) condition.0) }
-    ensures share { Share (8 + 6 * length frame.now.unknowns.items) frame.now.unknowns.items
+        (IsPinnedAnswer related.now.frame.kernel.now (IsAmong known.now.conditions.items) condition.0) }
+    ensures share { Share (8 + 6 * length related.now.unknowns.items) related.now.unknowns.items
         store.old store.new (refusal result) }
 {
-    let (high, low) = halves(frame, store, known, condition)?;
+    let (high, low) = halves(related, store, known, condition)?;
     differ(store, high, low)
 }
 
 /// What agrees on known conditions with a reaction in which a condition is true, and with one in
 /// which it is false.
 fn halves(
-    frame: &Frame,
+    related: &Related,
     store: &mut Store,
     known: &Known,
     condition: SigId,
 ) -> Result<(Ref, Ref), DdAnswer>
-    requires ready { IsReady store.old frame.now }
-    requires known { AreKnown frame.now known.now }
-    requires condition { is_condition frame.now.kernel.now condition.0 ≡ true }
+    requires ready { IsReady store.old related.now }
+    requires known { AreKnown related.now known.now }
+    requires condition { is_condition related.now.frame.kernel.now condition.0 ≡ true }
     ensures store { IsStore store.new }
     ensures kept { Keeps store.old store.new }
     ensures value { IfOk result (λ found.
-        AreHalves store.new.nodes frame.now known.now condition.0 found.0 found.1) }
-    ensures share { Share (6 + 6 * length frame.now.unknowns.items) frame.now.unknowns.items
+        AreHalves store.new.nodes related.now known.now condition.0 found.0 found.1) }
+    ensures share { Share (6 + 6 * length related.now.unknowns.items) related.now.unknowns.items
         store.old store.new (refusal result) }
 {
-    let Some(v) = truth(frame, condition) else {
+    let Some(v) = truth(related, condition) else {
         unreachable!();
     };
     let others = known.others.as_slice();
-    let present = narrow(store, frame.whole(), frame.presence(condition.0), true)?;
+    let present = narrow(store, related.whole(), related.presence(condition.0), true)?;
     let high = shadow(store, present, v, true, others)?;
     let low = shadow(store, present, v, false, others)?;
     Ok((high, low))

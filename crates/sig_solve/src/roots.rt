@@ -9,57 +9,57 @@ ghost use Rattle.sig_dd.specs.Shares.{Share, refusal};
 ghost use Rattle.sig_solve.specs.Answers.{FindsRoot, IsMet, IsMetAnswer, IsSomewhereAbsent, SomeIsMet};
 ghost use Rattle.sig_solve.specs.Sets.{IsPart, IsReady};
 
-use crate::frame::Frame;
 use crate::parts::{narrow, where_it_is};
+use crate::related::Related;
 use sig_base::SigId;
 use sig_dd::{DdAnswer, Ref, Store};
 
 /// The abstract reactions that are not silent.
-pub(crate) fn speaking(frame: &Frame, store: &mut Store) -> Result<Ref, DdAnswer>
-    requires { IsReady store.old frame.now }
+pub(crate) fn speaking(related: &Related, store: &mut Store) -> Result<Ref, DdAnswer>
+    requires { IsReady store.old related.now }
     ensures store { IsStore store.new }
     ensures kept { Keeps store.old store.new }
-    ensures value { IfOk result (IsPart store.new.nodes frame.now (Speaks frame.now.kernel.now)) }
-    ensures share { Share (2 * length frame.now.leaders.items + 1) frame.now.unknowns.items
+    ensures value { IfOk result (IsPart store.new.nodes related.now (Speaks related.now.frame.kernel.now)) }
+    ensures share { Share (2 * length related.now.frame.leaders.items + 1) related.now.unknowns.items
         store.old store.new (refusal result) }
 {
-    let silent = silent(frame, store)?;
-    where_it_is(store, frame.whole(), silent, false)
+    let silent = silent(related, store)?;
+    where_it_is(store, related.whole(), silent, false)
 }
 
 /// The abstract reactions in which nothing is present.
-fn silent(frame: &Frame, store: &mut Store) -> Result<Ref, DdAnswer>
-    requires { IsReady store.old frame.now }
+fn silent(related: &Related, store: &mut Store) -> Result<Ref, DdAnswer>
+    requires { IsReady store.old related.now }
     ensures store { IsStore store.new }
     ensures kept { Keeps store.old store.new }
-    ensures value { IfOk result (IsPart store.new.nodes frame.now
-        (λ reaction. IsReaction frame.now.kernel.now reaction × (is_silent reaction ≡ true))) }
-    ensures share { Share (2 * length frame.now.leaders.items) frame.now.unknowns.items
+    ensures value { IfOk result (IsPart store.new.nodes related.now
+        (λ reaction. IsReaction related.now.frame.kernel.now reaction × (is_silent reaction ≡ true))) }
+    ensures share { Share (2 * length related.now.frame.leaders.items) related.now.unknowns.items
         store.old store.new (refusal result) }
 {
-    let mut silent = frame.whole();
-    for leader in frame.leaders.as_slice() {
-        silent = narrow(store, silent, frame.presence(*leader), false)?;
+    let mut silent = related.whole();
+    for leader in related.frame.leaders.as_slice() {
+        silent = narrow(store, silent, related.presence(*leader), false)?;
     }
     Ok(silent)
 }
 
 /// A root, if there is one.
 pub(crate) fn find_root(
-    frame: &Frame,
+    related: &Related,
     speaking: Ref,
     store: &mut Store,
 ) -> Result<Option<SigId>, DdAnswer>
-    requires ready { IsReady store.old frame.now }
-    requires speaking { IsPart store.old.nodes frame.now (Speaks frame.now.kernel.now) speaking }
+    requires ready { IsReady store.old related.now }
+    requires speaking { IsPart store.old.nodes related.now (Speaks related.now.frame.kernel.now) speaking }
     ensures store { IsStore store.new }
     ensures kept { Keeps store.old store.new }
-    ensures value { IfOk result (FindsRoot frame.now.kernel.now) }
-    ensures share { Share (2 * length frame.now.leaders.items) frame.now.unknowns.items
+    ensures value { IfOk result (FindsRoot related.now.frame.kernel.now) }
+    ensures share { Share (2 * length related.now.frame.leaders.items) related.now.unknowns.items
         store.old store.new (refusal result) }
 {
-    for leader in frame.leaders.as_slice() {
-        if !is_met(frame, speaking, store, *leader, false)? {
+    for leader in related.frame.leaders.as_slice() {
+        if !is_met(related, speaking, store, *leader, false)? {
             return Ok(Some(SigId(*leader)));
         }
     }
@@ -68,42 +68,42 @@ pub(crate) fn find_root(
 
 /// The signals that show that there is no root.
 pub(crate) fn missing_root(
-    frame: &Frame,
+    related: &Related,
     speaking: Ref,
     store: &mut Store,
 ) -> Result<(SigId, SigId), DdAnswer>
-    requires ready { IsReady store.old frame.now }
-    requires speaking { IsPart store.old.nodes frame.now (Speaks frame.now.kernel.now) speaking }
-    requires alive { IsAlive frame.now.kernel.now }
-    requires none { (s : ℕ) → IsSignal frame.now.kernel.now s
-        → IsSomewhereAbsent frame.now.kernel.now s }
+    requires ready { IsReady store.old related.now }
+    requires speaking { IsPart store.old.nodes related.now (Speaks related.now.frame.kernel.now) speaking }
+    requires alive { IsAlive related.now.frame.kernel.now }
+    requires none { (s : ℕ) → IsSignal related.now.frame.kernel.now s
+        → IsSomewhereAbsent related.now.frame.kernel.now s }
     ensures store { IsStore store.new }
     ensures kept { Keeps store.old store.new }
     ensures value { IfOk result (λ found.
-        IsMissingRoot frame.now.kernel.now found.0.0 found.1.0) }
-    ensures share { Share (4 * length frame.now.leaders.items + 2) frame.now.unknowns.items
+        IsMissingRoot related.now.frame.kernel.now found.0.0 found.1.0) }
+    ensures share { Share (4 * length related.now.frame.leaders.items + 2) related.now.unknowns.items
         store.old store.new (refusal result) }
 {
-    let x = first_met(frame, speaking, store)?;
-    let rest = narrow(store, speaking, frame.presence(x.0), false)?;
-    let y = first_met(frame, rest, store)?;
+    let x = first_met(related, speaking, store)?;
+    let rest = narrow(store, speaking, related.presence(x.0), false)?;
+    let y = first_met(related, rest, store)?;
     Ok((x, y))
 }
 
 /// The first signal that is present somewhere in a part.
-fn first_met(frame: &Frame, part: Ref, store: &mut Store) -> Result<SigId, DdAnswer>
-    requires ready { IsReady store.old frame.now }
+fn first_met(related: &Related, part: Ref, store: &mut Store) -> Result<SigId, DdAnswer>
+    requires ready { IsReady store.old related.now }
     requires held { Holds store.old.nodes part }
-    requires spans { Spans store.old.nodes part frame.now.unknowns.items }
-    requires some { SomeIsMet store.old.nodes frame.now part }
+    requires spans { Spans store.old.nodes part related.now.unknowns.items }
+    requires some { SomeIsMet store.old.nodes related.now part }
     ensures store { IsStore store.new }
     ensures kept { Keeps store.old store.new }
-    ensures value { IfOk result (λ x. IsLeast (IsMet store.old.nodes frame.now part true) x.0) }
-    ensures share { Share (2 * length frame.now.leaders.items) frame.now.unknowns.items
+    ensures value { IfOk result (λ x. IsLeast (IsMet store.old.nodes related.now part true) x.0) }
+    ensures share { Share (2 * length related.now.frame.leaders.items) related.now.unknowns.items
         store.old store.new (refusal result) }
 {
-    for leader in frame.leaders.as_slice() {
-        if is_met(frame, part, store, *leader, true)? {
+    for leader in related.frame.leaders.as_slice() {
+        if is_met(related, part, store, *leader, true)? {
             return Ok(SigId(*leader));
         }
     }
@@ -112,21 +112,21 @@ fn first_met(frame: &Frame, part: Ref, store: &mut Store) -> Result<SigId, DdAns
 
 /// Whether a signal is present, or absent, somewhere in a part.
 fn is_met(
-    frame: &Frame,
+    related: &Related,
     part: Ref,
     store: &mut Store,
     signal: u32,
     present: bool,
 ) -> Result<bool, DdAnswer>
-    requires ready { IsReady store.old frame.now }
+    requires ready { IsReady store.old related.now }
     requires held { Holds store.old.nodes part }
-    requires spans { Spans store.old.nodes part frame.now.unknowns.items }
-    requires signal { IsSignal frame.now.kernel.now signal }
+    requires spans { Spans store.old.nodes part related.now.unknowns.items }
+    requires signal { IsSignal related.now.frame.kernel.now signal }
     ensures store { IsStore store.new }
     ensures kept { Keeps store.old store.new }
-    ensures value { IfOk result (IsMetAnswer store.old.nodes frame.now part present signal) }
-    ensures share { Share 2 frame.now.unknowns.items store.old store.new (refusal result) }
+    ensures value { IfOk result (IsMetAnswer store.old.nodes related.now part present signal) }
+    ensures share { Share 2 related.now.unknowns.items store.old store.new (refusal result) }
 {
-    let found = narrow(store, part, frame.presence(signal), present)?;
+    let found = narrow(store, part, related.presence(signal), present)?;
     store.overlap(found, found)
 }

@@ -11,37 +11,39 @@ ghost use Rattle.sig_dd.specs.Nodes.{IsStore, Keeps};
 ghost use Rattle.sig_dd.specs.Shares.{Share};
 ghost use Rattle.sig_kernel.specs.Validity.{IsValid};
 ghost use Rattle.sig_rel.specs.Relations.{IsRelation, IsUnknownCount};
-ghost use Rattle.sig_solve.specs.Refusals.{IsRefusalOf, IsWithin, KeepsToShare, calls_of, rest_of_share, store_refusal};
+ghost use Rattle.sig_solve.specs.Refusals.{IsRefusalOf, IsWithin, KeepsToShare, KeepsToTriangularShare, calls_of, rest_of_share, store_refusal};
 ghost use Rattle.sig_solve.specs.Rounds.{AreSettled};
 ghost use Rattle.sig_solve.specs.Sets.{IsPart, IsReady};
 
 use crate::answer::ClockAnswer;
 use crate::classes::clocks_of;
-use crate::frame::{Frame, frame_of};
+use crate::frame::frame_of;
 use crate::guards::guards_of;
 use crate::layers::layers_of;
 use crate::order::by_layer;
 use crate::pinned::find_pinned;
+use crate::related::{Related, related_of};
 use crate::roots::{find_root, missing_root, speaking};
+use crate::triangular::solve_triangular;
 use sig_base::SigId;
 use sig_clock::{Clocks, condition_set};
 use sig_dd::{Ref, Store};
 use sig_kernel::Kernel;
-use sig_rel::{Relation, relation};
+use sig_rel::{Relation, relation, triangle};
 use std::alloc::Global;
 
 /// The reactions that are not silent, of a kernel that has some.
-fn some_speaking(frame: &Frame, store: &mut Store) -> Result<Ref, ClockAnswer>
-    requires { IsReady store.old frame.now }
+fn some_speaking(related: &Related, store: &mut Store) -> Result<Ref, ClockAnswer>
+    requires { IsReady store.old related.now }
     ensures store { IsStore store.new }
     ensures kept { Keeps store.old store.new }
-    ensures value { IfOk result (λ r. IsPart store.new.nodes frame.now (Speaks frame.now.kernel.now) r
-        × IsAlive frame.now.kernel.now) }
-    ensures refused { IfErr result (IsRefusalOf frame.now.kernel.now) }
-    ensures share { Share (2 * length frame.now.leaders.items + 1) frame.now.unknowns.items
+    ensures value { IfOk result (λ r. IsPart store.new.nodes related.now (Speaks related.now.frame.kernel.now) r
+        × IsAlive related.now.frame.kernel.now) }
+    ensures refused { IfErr result (IsRefusalOf related.now.frame.kernel.now) }
+    ensures share { Share (2 * length related.now.frame.leaders.items + 1) related.now.unknowns.items
         store.old store.new (store_refusal result) }
 {
-    let speaking = speaking(frame, store)?;
+    let speaking = speaking(related, store)?;
     if !store.overlap(speaking, speaking)? {
         return Err(ClockAnswer::Dead);
     }
@@ -49,21 +51,21 @@ fn some_speaking(frame: &Frame, store: &mut Store) -> Result<Ref, ClockAnswer>
 }
 
 /// A root of a kernel that has one.
-fn some_root(frame: &Frame, speaking: Ref, store: &mut Store) -> Result<SigId, ClockAnswer>
-    requires ready { IsReady store.old frame.now }
-    requires speaking { IsPart store.old.nodes frame.now (Speaks frame.now.kernel.now) speaking }
-    requires alive { IsAlive frame.now.kernel.now }
+fn some_root(related: &Related, speaking: Ref, store: &mut Store) -> Result<SigId, ClockAnswer>
+    requires ready { IsReady store.old related.now }
+    requires speaking { IsPart store.old.nodes related.now (Speaks related.now.frame.kernel.now) speaking }
+    requires alive { IsAlive related.now.frame.kernel.now }
     ensures store { IsStore store.new }
     ensures kept { Keeps store.old store.new }
-    ensures value { IfOk result (λ root. IsRoot frame.now.kernel.now root.0) }
-    ensures refused { IfErr result (IsRefusalOf frame.now.kernel.now) }
-    ensures share { Share (6 * length frame.now.leaders.items + 2) frame.now.unknowns.items
+    ensures value { IfOk result (λ root. IsRoot related.now.frame.kernel.now root.0) }
+    ensures refused { IfErr result (IsRefusalOf related.now.frame.kernel.now) }
+    ensures share { Share (6 * length related.now.frame.leaders.items + 2) related.now.unknowns.items
         store.old store.new (store_refusal result) }
 {
-    match find_root(frame, speaking, store)? {
+    match find_root(related, speaking, store)? {
         Some(root) => Ok(root),
         None => {
-            let (x, y) = missing_root(frame, speaking, store)?;
+            let (x, y) = missing_root(related, speaking, store)?;
             Err(ClockAnswer::MissingRoot(x, y))
         }
     }
@@ -72,24 +74,24 @@ fn some_root(frame: &Frame, speaking: Ref, store: &mut Store) -> Result<SigId, C
 /// The layers of a kernel in which each signal enters.
 fn all_layers(
     alloc: Global,
-    frame: &Frame,
+    related: &Related,
     speaking: Ref,
     store: &mut Store,
     conditions: &[SigId],
 ) -> Result<Vec<u32>, ClockAnswer>
-    requires ready { IsReady store.old frame.now }
-    requires speaking { IsPart store.old.nodes frame.now (Speaks frame.now.kernel.now) speaking }
-    requires conditions { conditions.now ≡ conditions_of frame.now.kernel.now }
-    requires root { HasRoot frame.now.kernel.now }
+    requires ready { IsReady store.old related.now }
+    requires speaking { IsPart store.old.nodes related.now (Speaks related.now.frame.kernel.now) speaking }
+    requires conditions { conditions.now ≡ conditions_of related.now.frame.kernel.now }
+    requires root { HasRoot related.now.frame.kernel.now }
     ensures store { IsStore store.new }
     ensures kept { Keeps store.old store.new }
-    ensures value { IfOk result (λ layers. AreSettled frame.now layers.items []) }
-    ensures refused { IfErr result (IsRefusalOf frame.now.kernel.now) }
-    ensures share { Share ((4 + 6 * length frame.now.unknowns.items)
-        * length frame.now.leaders.items * length frame.now.leaders.items)
-        frame.now.unknowns.items store.old store.new (store_refusal result) }
+    ensures value { IfOk result (λ layers. AreSettled related.now.frame layers.items []) }
+    ensures refused { IfErr result (IsRefusalOf related.now.frame.kernel.now) }
+    ensures share { Share ((4 + 6 * length related.now.unknowns.items)
+        * length related.now.frame.leaders.items * length related.now.frame.leaders.items)
+        related.now.unknowns.items store.old store.new (store_refusal result) }
 {
-    let layers = layers_of(alloc, frame, speaking, store, conditions)?;
+    let layers = layers_of(alloc, related, speaking, store, conditions)?;
     if let Some(signal) = layers.waiting.as_slice().first() {
         return Err(ClockAnswer::Unsolved(SigId(*signal)));
     }
@@ -99,27 +101,33 @@ fn all_layers(
 /// The conditions in their order, where none is pinned.
 fn free_conditions(
     alloc: Global,
-    frame: &Frame,
+    related: &Related,
     store: &mut Store,
     layers: &[u32],
     conditions: &[SigId],
 ) -> Result<Vec<SigId>, ClockAnswer>
-    requires ready { IsReady store.old frame.now }
-    requires settled { AreSettled frame.now layers.now [] }
-    requires conditions { conditions.now ≡ conditions_of frame.now.kernel.now }
-    requires root { HasRoot frame.now.kernel.now }
+    requires ready { IsReady store.old related.now }
+    requires settled { AreSettled related.now.frame layers.now [] }
+    requires conditions { conditions.now ≡ conditions_of related.now.frame.kernel.now }
+    requires root { HasRoot related.now.frame.kernel.now }
     ensures store { IsStore store.new }
     ensures kept { Keeps store.old store.new }
-    ensures value { IfOk result (λ ordered. AreInOrder frame.now.kernel.now ordered.items
-        × (length ordered.items ≤ length (conditions_of frame.now.kernel.now))
-        × ((c : ℕ) → is_condition frame.now.kernel.now c ≡ true → IsFree frame.now.kernel.now c)) }
-    ensures refused { IfErr result (IsRefusalOf frame.now.kernel.now) }
-    ensures share { Share ((8 + 6 * length frame.now.unknowns.items)
-        * length (conditions_of frame.now.kernel.now))
-        frame.now.unknowns.items store.old store.new (store_refusal result) }
+    ensures value { IfOk result (λ ordered. AreInOrder related.now.frame.kernel.now ordered.items
+        × (length ordered.items ≤ length (conditions_of related.now.frame.kernel.now))
+        × ((c : ℕ) → is_condition related.now.frame.kernel.now c ≡ true → IsFree related.now.frame.kernel.now c)) }
+    ensures refused { IfErr result (IsRefusalOf related.now.frame.kernel.now) }
+    ensures share { Share ((8 + 6 * length related.now.unknowns.items)
+        * length (conditions_of related.now.frame.kernel.now))
+        related.now.unknowns.items store.old store.new (store_refusal result) }
 {
-    let ordered = by_layer(alloc, frame, layers, conditions, frame.leaders.len() as u32)?;
-    match find_pinned(alloc, frame, store, ordered.as_slice())? {
+    let ordered = by_layer(
+        alloc,
+        &related.frame,
+        layers,
+        conditions,
+        related.frame.leaders.len() as u32,
+    )?;
+    match find_pinned(alloc, related, store, ordered.as_slice())? {
         Some(condition) => Err(ClockAnswer::Pinned(condition)),
         None => Ok(ordered),
     }
@@ -128,57 +136,64 @@ fn free_conditions(
 /// The clocks of a kernel that has them, from its layers and its conditions in their order.
 fn clocks(
     alloc: Global,
-    frame: &Frame,
+    related: &Related,
     speaking: Ref,
     store: &mut Store,
     layers: &[u32],
     conditions: Vec<SigId>,
     root: SigId,
 ) -> Result<Clocks, ClockAnswer>
-    requires ready { IsReady store.old frame.now }
-    requires speaking { IsPart store.old.nodes frame.now (Speaks frame.now.kernel.now) speaking }
-    requires settled { AreSettled frame.now layers.now [] }
-    requires conditions { AreInOrder frame.now.kernel.now conditions.items }
-    requires few { length conditions.items ≤ length (conditions_of frame.now.kernel.now) }
-    requires root { IsRoot frame.now.kernel.now root.0 }
-    requires has { HasClocks frame.now.kernel.now }
+    requires ready { IsReady store.old related.now }
+    requires speaking { IsPart store.old.nodes related.now (Speaks related.now.frame.kernel.now) speaking }
+    requires settled { AreSettled related.now.frame layers.now [] }
+    requires conditions { AreInOrder related.now.frame.kernel.now conditions.items }
+    requires few { length conditions.items ≤ length (conditions_of related.now.frame.kernel.now) }
+    requires root { IsRoot related.now.frame.kernel.now root.0 }
+    requires has { HasClocks related.now.frame.kernel.now }
     ensures store { IsStore store.new }
     ensures kept { Keeps store.old store.new }
-    ensures value { IfOk result (AreClocks frame.now.kernel.now store.new.nodes) }
-    ensures refused { IfErr result (IsRefusalOf frame.now.kernel.now) }
+    ensures value { IfOk result (AreClocks related.now.frame.kernel.now store.new.nodes) }
+    ensures refused { IfErr result (IsRefusalOf related.now.frame.kernel.now) }
     ensures share { Share (18 * length conditions.items
-        + (2 + 3 * length frame.now.unknowns.items) * length frame.now.leaders.items)
-        frame.now.unknowns.items store.old store.new (store_refusal result) }
+        + (2 + 3 * length related.now.unknowns.items) * length related.now.frame.leaders.items)
+        related.now.unknowns.items store.old store.new (store_refusal result) }
 {
-    let guards = guards_of(alloc, frame, speaking, store, conditions.as_slice())?;
-    Ok(clocks_of(alloc, frame, layers, conditions, guards.as_slice(), root)?)
+    let guards = guards_of(alloc, related, speaking, store, conditions.as_slice())?;
+    Ok(clocks_of(
+        alloc,
+        &related.frame,
+        layers,
+        conditions,
+        guards.as_slice(),
+        root,
+    )?)
 }
 
 /// The clocks of a kernel whose relation stands in the store, and whose conditions are given.
 fn solve_in(
     alloc: Global,
-    frame: &Frame,
+    related: &Related,
     store: &mut Store,
     conditions: &[SigId],
 ) -> Result<Clocks, ClockAnswer>
-    requires ready { IsReady store.old frame.now }
-    requires conditions { conditions.now ≡ conditions_of frame.now.kernel.now }
+    requires ready { IsReady store.old related.now }
+    requires conditions { conditions.now ≡ conditions_of related.now.frame.kernel.now }
     ensures store { IsStore store.new }
     ensures kept { Keeps store.old store.new }
-    ensures clocks { IfOk result (λ clocks. HasClocks frame.now.kernel.now
-        × AreClocks frame.now.kernel.now store.new.nodes clocks) }
-    ensures refused { IfErr result (IsRefusalOf frame.now.kernel.now) }
-    ensures share { Share (calls_of (length frame.now.leaders.items)
-        (length (conditions_of frame.now.kernel.now)) (length frame.now.unknowns.items))
-        frame.now.unknowns.items store.old store.new (store_refusal result) }
+    ensures clocks { IfOk result (λ clocks. HasClocks related.now.frame.kernel.now
+        × AreClocks related.now.frame.kernel.now store.new.nodes clocks) }
+    ensures refused { IfErr result (IsRefusalOf related.now.frame.kernel.now) }
+    ensures share { Share (calls_of (length related.now.frame.leaders.items)
+        (length (conditions_of related.now.frame.kernel.now)) (length related.now.unknowns.items))
+        related.now.unknowns.items store.old store.new (store_refusal result) }
 {
-    let speaking = some_speaking(frame, store)?;
-    let root = some_root(frame, speaking, store)?;
-    let layers = all_layers(alloc, frame, speaking, store, conditions)?;
-    let ordered = free_conditions(alloc, frame, store, layers.as_slice(), conditions)?;
+    let speaking = some_speaking(related, store)?;
+    let root = some_root(related, speaking, store)?;
+    let layers = all_layers(alloc, related, speaking, store, conditions)?;
+    let ordered = free_conditions(alloc, related, store, layers.as_slice(), conditions)?;
     clocks(
         alloc,
-        frame,
+        related,
         speaking,
         store,
         layers.as_slice(),
@@ -205,9 +220,28 @@ fn solve_relation(
     ensures share { (unknowns : ℕ) → IsUnknownCount kernel.now unknowns
         → IsWithin (rest_of_share kernel.now unknowns) store.old store.new result }
 {
-    let frame = frame_of(alloc, kernel, relation)?;
+    let frame = frame_of(alloc, kernel)?;
+    let related = related_of(alloc, frame, relation)?;
     let conditions = condition_set(alloc, kernel)?;
-    solve_in(alloc, &frame, store, conditions.as_slice())
+    solve_in(alloc, &related, store, conditions.as_slice())
+}
+
+/// The clocks of a kernel by its relation.
+fn solve_by_relation(
+    alloc: Global,
+    kernel: &Kernel,
+    store: &mut Store,
+) -> Result<Clocks, ClockAnswer>
+    requires valid { IsValid kernel.now }
+    ensures store { IsStore store.new }
+    ensures kept { Keeps store.old store.new }
+    ensures clocks { IfOk result (λ clocks. HasClocks kernel.now
+        × AreClocks kernel.now store.new.nodes clocks) }
+    ensures refused { IfErr result (IsRefusalOf kernel.now) }
+    ensures share { KeepsToShare kernel.now store.old store.new result }
+{
+    let relation = relation(alloc, kernel, store)?;
+    solve_relation(alloc, kernel, relation, store)
 }
 
 /// The clocks of a kernel, or the first reason why it has none: no reaction is possible but the
@@ -221,7 +255,12 @@ pub fn solve(alloc: Global, kernel: &Kernel, store: &mut Store) -> Result<Clocks
         × AreClocks kernel.now store.new.nodes clocks) }
     ensures refused { IfErr result (IsRefusalOf kernel.now) }
     ensures share { KeepsToShare kernel.now store.old store.new result }
+    ensures triangular { KeepsToTriangularShare kernel.now store.old store.new result }
 {
-    let relation = relation(alloc, kernel, store)?;
-    solve_relation(alloc, kernel, relation, store)
+    // What holds of every store is known where one is asked.
+    let _nodes = store.len();
+    match triangle(alloc, kernel)? {
+        Some(classes) => solve_triangular(alloc, kernel, classes.as_slice(), store),
+        None => solve_by_relation(alloc, kernel, store),
+    }
 }

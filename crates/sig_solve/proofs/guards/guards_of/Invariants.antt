@@ -11,7 +11,7 @@ invariant-loop-leader l = record {
   store : IsStore l.store;
   kept : Keeps l.fn.store l.store;
   later : Keeps l.initial.store l.store;
-  count : length l.guards.items ≡ length l.frame.kernel.now.signals;
-  each : (k : ℕ) → k < l.leader-index → (r : Ref) × (slice_get l.guards.items (get_or l.leader-items k 0) ≡ Some r) × IsGuard l.store.nodes l.frame l.conditions (get_or l.leader-items k 0) r;
-  share : Share (18 * length l.conditions + (2 + 3 * length l.frame.unknowns.items) * l.leader-index) l.frame.unknowns.items l.fn.store l.store None;
+  count : length l.guards.items ≡ length l.related.frame.kernel.now.signals;
+  each : (k : ℕ) → k < l.leader-index → (r : Ref) × (slice_get l.guards.items (get_or l.leader-items k 0) ≡ Some r) × IsGuard l.store.nodes l.related.frame l.conditions (get_or l.leader-items k 0) r;
+  share : Share (18 * length l.conditions + (2 + 3 * length l.related.unknowns.items) * l.leader-index) l.related.unknowns.items l.fn.store l.store None;
 }

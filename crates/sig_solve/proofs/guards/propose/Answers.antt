@@ -15,22 +15,22 @@ pub loop-place-init : goal.loop-place-init
 loop-place-init c = record {
   store = c.requires.ready.has_store;
   kept = Keeps-itself c.args.store.now;
-  value = proposed_none c.args.store.now.nodes c.args.frame.now c.args.speaking c.requires.speaking;
-  wide = (c.args.frame.now.unknowns.items, wide_none c.args.store.now.nodes c.args.frame.now c.args.speaking c.requires.speaking.spans);
-  share = Share-none c.args.store.now c.args.frame.now.unknowns.items;
+  value = proposed_none c.args.store.now.nodes c.args.related.now c.args.speaking c.requires.speaking;
+  wide = (c.args.related.now.unknowns.items, wide_none c.args.store.now.nodes c.args.related.now c.args.speaking c.requires.speaking.spans);
+  share = Share-none c.args.store.now c.args.related.now.unknowns.items;
 }
 
 pub unreachable-requires : goal.unreachable-requires
 unreachable-requires c =
     let d : SigId = record { 0 = 0 } in
     let b = get_or c.args.conditions.now c.loop-place.place d in
-    let is = condition_is_boolean c.args.frame.now.kernel.now b.0 ((c.requires.conditions.all b).0 (contains_get c.args.conditions.now c.loop-place.place b (get_at c.args.conditions.now c.loop-place.place d c.loop-place-test.true))) in
+    let is = condition_is_boolean c.args.related.now.frame.kernel.now b.0 ((c.requires.conditions.all b).0 (contains_get c.args.conditions.now c.loop-place.place b (get_at c.args.conditions.now c.loop-place.place d c.loop-place-test.true))) in
     let some = c.requires.ready.has_frame.relation.unknowns.some b.0 is in
-    c.in_default.not-Some some.0 (c.truth.ensures ∙ get_is c.args.frame.now.relation.truth b.0 (Some some.0) None some.1)
+    c.in_default.not-Some some.0 (c.truth.ensures ∙ get_is c.args.related.now.relation.truth b.0 (Some some.0) None some.1)
 
 pub overflow_cast-place : goal.overflow_cast-place
 overflow_cast-place c =
-    let few = conditions_few c.args.frame.now.kernel.now in
+    let few = conditions_few c.args.related.now.frame.kernel.now in
     let signals = c.requires.ready.has_frame.valid.parts.signals in
     record { fits = omega (arith, few, signals, c.requires.few, c.loop-place-test.true) }
 
@@ -38,7 +38,7 @@ pub substitute-requires-clause-apart : goal.substitute-requires-clause-apart
 substitute-requires-clause-apart c e =
     let d : SigId = record { 0 = 0 } in
     let b = get_or c.args.conditions.now c.loop-place.place d in
-    p_apart c.args.store.now.nodes c.args.store.now.nodes c.args.frame.now c.requires.ready.has_frame c.args.conditions.now c.requires.conditions c.requires.few c.loop-place.place b c.in-Some.v
+    p_apart c.args.store.now.nodes c.args.store.now.nodes c.args.related.now c.requires.ready.has_frame c.args.conditions.now c.requires.conditions c.requires.few c.loop-place.place b c.in-Some.v
     (get_at c.args.conditions.now c.loop-place.place d c.loop-place-test.true) (sym c.truth.ensures ∙ c.in-Some.is) (sym c.presence-present.ensures ∙ e)
 
 pub returns-in_err-proposed-clause-kept : goal.returns-in_err-proposed-clause-kept
@@ -48,12 +48,12 @@ pub returns-in_err-proposed-clause-share : goal.returns-in_err-proposed-clause-s
 returns-in_err-proposed-clause-share c =
     let d : SigId = record { 0 = 0 } in
     let b = get_or c.args.conditions.now c.loop-place.place d in
-    let frame = frame_stays c.args.store.now c.loop-place.store c.args.frame.now c.loop-place.invariant.kept c.requires.ready.has_frame in
-    refused (18 * length c.args.conditions.now) c.args.frame.now.unknowns.items c.args.store.now c.substitute.new.store c.from_residual.result c.in_err-proposed.field-0.0 c.from_residual.ensures.1
-    (turn_within 18 c.loop-place.place (length c.args.conditions.now) c.args.frame.now.unknowns.items c.args.store.now c.loop-place.store c.substitute.new.store _ c.loop-place-test.true c.loop-place.invariant.share
-    (substitute_share c.loop-place.store c.substitute.new.store c.args.frame.now (take c.loop-place.place c.args.conditions.now) c.loop-place.proposed c.presence-present.result (get_or c.args.frame.now.relation.present b.0 0) c.in-Some.v _
+    let related = frame_stays c.args.store.now c.loop-place.store c.args.related.now c.loop-place.invariant.kept c.requires.ready.has_frame in
+    refused (18 * length c.args.conditions.now) c.args.related.now.unknowns.items c.args.store.now c.substitute.new.store c.from_residual.result c.in_err-proposed.field-0.0 c.from_residual.ensures.1
+    (turn_within 18 c.loop-place.place (length c.args.conditions.now) c.args.related.now.unknowns.items c.args.store.now c.loop-place.store c.substitute.new.store _ c.loop-place-test.true c.loop-place.invariant.share
+    (substitute_share c.loop-place.store c.substitute.new.store c.args.related.now (take c.loop-place.place c.args.conditions.now) c.loop-place.proposed c.presence-present.result (get_or c.args.related.now.relation.present b.0 0) c.in-Some.v _
     c.loop-place.invariant.wide c.presence-present.ensures
-    (has_both c.loop-place.store.nodes c.loop-place.store.nodes c.args.frame.now frame c.args.conditions.now c.requires.conditions c.requires.few c.loop-place.place b c.in-Some.v
+    (has_both c.loop-place.store.nodes c.loop-place.store.nodes c.args.related.now related c.args.conditions.now c.requires.conditions c.requires.few c.loop-place.place b c.in-Some.v
     (get_at c.args.conditions.now c.loop-place.place d c.loop-place-test.true) (sym c.truth.ensures ∙ c.in-Some.is) c.loop-place.proposed c.loop-place.invariant.wide.0 c.loop-place.invariant.wide.1)
     c.in_err-proposed.ensures.share))
 
@@ -61,19 +61,19 @@ pub loop-place-preserved : goal.loop-place-preserved
 loop-place-preserved c =
     let d : SigId = record { 0 = 0 } in
     let b = get_or c.args.conditions.now c.loop-place.place d in
-    let frame = frame_stays c.args.store.now c.loop-place.store c.args.frame.now c.loop-place.invariant.kept c.requires.ready.has_frame in
+    let related = frame_stays c.args.store.now c.loop-place.store c.args.related.now c.loop-place.invariant.kept c.requires.ready.has_frame in
     let at = get_at c.args.conditions.now c.loop-place.place d c.loop-place-test.true in
     let truth = sym c.truth.ensures ∙ c.in-Some.is in
     record {
       store = c.in_ok-proposed.ensures.store;
       kept = Keeps-trans c.args.store.now c.loop-place.store c.substitute.new.store c.loop-place.invariant.kept c.in_ok-proposed.ensures.kept;
-      value = propose_turn c.loop-place.store.nodes c.substitute.new.store.nodes c.args.frame.now frame c.args.conditions.now c.requires.conditions c.requires.few c.loop-place.place b c.in-Some.v at truth
+      value = propose_turn c.loop-place.store.nodes c.substitute.new.store.nodes c.args.related.now related c.args.conditions.now c.requires.conditions c.requires.few c.loop-place.place b c.in-Some.v at truth
           c.loop-place.proposed c.in_ok-proposed.proposed c.presence-present.result c.presence-present.ensures c.loop-place.invariant.value c.in_ok-proposed.ensures.value;
-      wide = wide_turn c.loop-place.store.nodes c.substitute.new.store.nodes c.args.frame.now frame c.args.conditions.now c.requires.conditions c.requires.few c.loop-place.place b c.in-Some.v at truth
+      wide = wide_turn c.loop-place.store.nodes c.substitute.new.store.nodes c.args.related.now related c.args.conditions.now c.requires.conditions c.requires.few c.loop-place.place b c.in-Some.v at truth
           c.loop-place.proposed c.in_ok-proposed.proposed c.presence-present.result c.presence-present.ensures c.loop-place.invariant.value.held c.loop-place.invariant.wide c.in_ok-proposed.ensures.value;
-      share = next_turn 18 c.loop-place.place c.args.frame.now.unknowns.items c.args.store.now c.loop-place.store c.substitute.new.store None c.loop-place.invariant.share
-          (substitute_share c.loop-place.store c.substitute.new.store c.args.frame.now (take c.loop-place.place c.args.conditions.now) c.loop-place.proposed c.presence-present.result (get_or c.args.frame.now.relation.present b.0 0) c.in-Some.v None
+      share = next_turn 18 c.loop-place.place c.args.related.now.unknowns.items c.args.store.now c.loop-place.store c.substitute.new.store None c.loop-place.invariant.share
+          (substitute_share c.loop-place.store c.substitute.new.store c.args.related.now (take c.loop-place.place c.args.conditions.now) c.loop-place.proposed c.presence-present.result (get_or c.args.related.now.relation.present b.0 0) c.in-Some.v None
           c.loop-place.invariant.wide c.presence-present.ensures
-          (has_both c.loop-place.store.nodes c.loop-place.store.nodes c.args.frame.now frame c.args.conditions.now c.requires.conditions c.requires.few c.loop-place.place b c.in-Some.v at truth c.loop-place.proposed c.loop-place.invariant.wide.0 c.loop-place.invariant.wide.1)
+          (has_both c.loop-place.store.nodes c.loop-place.store.nodes c.args.related.now related c.args.conditions.now c.requires.conditions c.requires.few c.loop-place.place b c.in-Some.v at truth c.loop-place.proposed c.loop-place.invariant.wide.0 c.loop-place.invariant.wide.1)
           c.in_ok-proposed.ensures.share);
     }

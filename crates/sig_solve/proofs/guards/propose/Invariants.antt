@@ -9,7 +9,7 @@ abbrev pub invariant-loop-place : goal.invariant-loop-place
 invariant-loop-place l = record {
   store : IsStore l.store;
   kept : Keeps l.initial.store l.store;
-  value : IsProposed l.store.nodes l.frame (take l.place l.conditions) l.proposed;
-  wide : (vs : List ℕ) × IsWide l.store.nodes l.frame (take l.place l.conditions) l.proposed vs;
-  share : Share (18 * l.place) l.frame.unknowns.items l.initial.store l.store None;
+  value : IsProposed l.store.nodes l.related (take l.place l.conditions) l.proposed;
+  wide : (vs : List ℕ) × IsWide l.store.nodes l.related (take l.place l.conditions) l.proposed vs;
+  share : Share (18 * l.place) l.related.unknowns.items l.initial.store l.store None;
 }

@@ -9,7 +9,7 @@ abbrev pub invariant-loop-round : goal.invariant-loop-round
 invariant-loop-round l = record {
   store : IsStore l.store;
   kept : Keeps l.initial.store l.store;
-  rounds : AreRounds l.frame l.round l.numbers.items l.waiting.items;
-  few : length l.waiting.items + l.round ≤ length l.frame.leaders.items;
-  share : Share ((4 + 6 * length l.frame.unknowns.items) * length l.frame.leaders.items * l.round) l.frame.unknowns.items l.initial.store l.store None;
+  rounds : AreRounds l.related.frame l.round l.numbers.items l.waiting.items;
+  few : length l.waiting.items + l.round ≤ length l.related.frame.leaders.items;
+  share : Share ((4 + 6 * length l.related.unknowns.items) * length l.related.frame.leaders.items * l.round) l.related.unknowns.items l.initial.store l.store None;
 }

@@ -9,8 +9,8 @@ abbrev pub invariant-loop-class : goal.invariant-loop-class
 invariant-loop-class l = record {
   store : IsStore l.store;
   kept : Keeps l.initial.store l.store;
-  passed : ArePassed l.frame l.round l.layers l.still.items (drop l.class-index l.waiting);
+  passed : ArePassed l.related.frame l.round l.layers l.still.items (drop l.class-index l.waiting);
   few : length l.still.items ≤ l.class-index;
   stuck : length l.still.items ≡ l.class-index → (k : ℕ) → k < l.class-index → Contains l.still.items (get_or l.waiting k 0);
-  share : Share ((4 + 6 * length l.frame.unknowns.items) * l.class-index) l.frame.unknowns.items l.initial.store l.store None;
+  share : Share ((4 + 6 * length l.related.unknowns.items) * l.class-index) l.related.unknowns.items l.initial.store l.store None;
 }

@@ -16,22 +16,22 @@ use Rattle.sig_solve.proofs.pinned.find_pinned.Goals as goal
 pub is_pinned-requires-clause-ready : goal.is_pinned-requires-clause-ready
 is_pinned-requires-clause-ready c = record {
   has_store = c.loop-place.invariant.store;
-  has_frame = frame_stays c.args.store.now c.loop-place.store c.args.frame.now c.loop-place.invariant.kept c.requires.ready.has_frame;
+  has_frame = frame_stays c.args.store.now c.loop-place.store c.args.related.now c.loop-place.invariant.kept c.requires.ready.has_frame;
 }
 
 pub returns-in_err-is_pinned-clause-share : goal.returns-in_err-is_pinned-clause-share
 returns-in_err-is_pinned-clause-share c =
-    let m = 8 + 6 * length c.args.frame.now.unknowns.items in
-    refused (m * length c.args.conditions.now) c.args.frame.now.unknowns.items c.args.store.now c.is_pinned.new.store c.from_residual-in_err-is_pinned.result c.in_err-is_pinned.field-0.0 c.from_residual-in_err-is_pinned.ensures.1
-    (turn_within m c.loop-place.place (length c.args.conditions.now) c.args.frame.now.unknowns.items c.args.store.now c.loop-place.store c.is_pinned.new.store _ c.loop-place-test.true c.loop-place.invariant.share c.in_err-is_pinned.ensures.share)
+    let m = 8 + 6 * length c.args.related.now.unknowns.items in
+    refused (m * length c.args.conditions.now) c.args.related.now.unknowns.items c.args.store.now c.is_pinned.new.store c.from_residual-in_err-is_pinned.result c.in_err-is_pinned.field-0.0 c.from_residual-in_err-is_pinned.ensures.1
+    (turn_within m c.loop-place.place (length c.args.conditions.now) c.args.related.now.unknowns.items c.args.store.now c.loop-place.store c.is_pinned.new.store _ c.loop-place-test.true c.loop-place.invariant.share c.in_err-is_pinned.ensures.share)
 
 pub returns-then-branch-clause-value : goal.returns-then-branch-clause-value
 returns-then-branch-clause-value c =
     let d : SigId = record { 0 = 0 } in
     let b = get_or c.args.conditions.now c.loop-place.place d in
     let same : c.in_ok-known.known.conditions.items ≡ take c.loop-place.place c.args.conditions.now = c.in_ok-known.ensures.0 ∙ c.in_ok-earlier.ensures.items in
-    first_pinned c.args.frame.now.kernel.now c.args.conditions.now c.requires.conditions c.loop-place.place b (get_at c.args.conditions.now c.loop-place.place d c.loop-place-test.true) c.loop-place.invariant.free
-    (subst (λ xs. IsPinnedAnswer c.args.frame.now.kernel.now (IsAmong xs) b.0 true) same (subst (IsPinnedAnswer c.args.frame.now.kernel.now (IsAmong c.in_ok-known.known.conditions.items) b.0) c.if-branch.true c.in_ok-is_pinned.ensures.value))
+    first_pinned c.args.related.now.frame.kernel.now c.args.conditions.now c.requires.conditions c.loop-place.place b (get_at c.args.conditions.now c.loop-place.place d c.loop-place-test.true) c.loop-place.invariant.free
+    (subst (λ xs. IsPinnedAnswer c.args.related.now.frame.kernel.now (IsAmong xs) b.0 true) same (subst (IsPinnedAnswer c.args.related.now.frame.kernel.now (IsAmong c.in_ok-known.known.conditions.items) b.0) c.if-branch.true c.in_ok-is_pinned.ensures.value))
 
 one_more_free : (kernel : Kernel) (conditions : List SigId) (place : ℕ) (d : SigId) → place < length conditions → ((k : ℕ) (c : SigId) → k < place → slice_get conditions k ≡ Some c → IsFree kernel c.0)
     → IsFree kernel (get_or conditions place d).0 → (k : ℕ) (c : SigId) → k < place + 1 → slice_get conditions k ≡ Some c → IsFree kernel c.0
@@ -45,18 +45,18 @@ one_more_free kernel conditions place d within before here k c lt is = elim (cas
 
 pub loop-place-preserved : goal.loop-place-preserved
 loop-place-preserved c =
-    let m = 8 + 6 * length c.args.frame.now.unknowns.items in
+    let m = 8 + 6 * length c.args.related.now.unknowns.items in
     let d : SigId = record { 0 = 0 } in
     let b = get_or c.args.conditions.now c.loop-place.place d in
     let same : c.in_ok-known.known.conditions.items ≡ take c.loop-place.place c.args.conditions.now = c.in_ok-known.ensures.0 ∙ c.in_ok-earlier.ensures.items in
     record {
       store = c.in_ok-is_pinned.ensures.store;
       kept = Keeps-trans c.args.store.now c.loop-place.store c.is_pinned.new.store c.loop-place.invariant.kept c.in_ok-is_pinned.ensures.kept;
-      free = one_more_free c.args.frame.now.kernel.now c.args.conditions.now c.loop-place.place d c.loop-place-test.true c.loop-place.invariant.free
-          (free_is c.args.frame.now.kernel.now c.args.conditions.now c.requires.conditions c.loop-place.place b (get_at c.args.conditions.now c.loop-place.place d c.loop-place-test.true)
-          (subst (λ xs. IsPinnedAnswer c.args.frame.now.kernel.now (IsAmong xs) b.0 false) same (subst (IsPinnedAnswer c.args.frame.now.kernel.now (IsAmong c.in_ok-known.known.conditions.items) b.0) c.if-branch.false c.in_ok-is_pinned.ensures.value)));
-      share = next_turn m c.loop-place.place c.args.frame.now.unknowns.items c.args.store.now c.loop-place.store c.is_pinned.new.store None c.loop-place.invariant.share c.in_ok-is_pinned.ensures.share;
+      free = one_more_free c.args.related.now.frame.kernel.now c.args.conditions.now c.loop-place.place d c.loop-place-test.true c.loop-place.invariant.free
+          (free_is c.args.related.now.frame.kernel.now c.args.conditions.now c.requires.conditions c.loop-place.place b (get_at c.args.conditions.now c.loop-place.place d c.loop-place-test.true)
+          (subst (λ xs. IsPinnedAnswer c.args.related.now.frame.kernel.now (IsAmong xs) b.0 false) same (subst (IsPinnedAnswer c.args.related.now.frame.kernel.now (IsAmong c.in_ok-known.known.conditions.items) b.0) c.if-branch.false c.in_ok-is_pinned.ensures.value)));
+      share = next_turn m c.loop-place.place c.args.related.now.unknowns.items c.args.store.now c.loop-place.store c.is_pinned.new.store None c.loop-place.invariant.share c.in_ok-is_pinned.ensures.share;
     }
 
 pub returns-clause-value : goal.returns-clause-value
-returns-clause-value c = all_free c.args.frame.now.kernel.now c.args.conditions.now c.requires.conditions (λ k b lt is. c.loop-place.invariant.free k b (omega arith) is)
+returns-clause-value c = all_free c.args.related.now.frame.kernel.now c.args.conditions.now c.requires.conditions (λ k b lt is. c.loop-place.invariant.free k b (omega arith) is)

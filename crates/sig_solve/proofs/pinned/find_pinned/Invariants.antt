@@ -10,6 +10,6 @@ abbrev pub invariant-loop-place : goal.invariant-loop-place
 invariant-loop-place l = record {
   store : IsStore l.store;
   kept : Keeps l.initial.store l.store;
-  free : (k : ℕ) (c : SigId) → k < l.place → slice_get l.conditions k ≡ Some c → IsFree l.frame.kernel.now c.0;
-  share : Share ((8 + 6 * length l.frame.unknowns.items) * l.place) l.frame.unknowns.items l.initial.store l.store None;
+  free : (k : ℕ) (c : SigId) → k < l.place → slice_get l.conditions k ≡ Some c → IsFree l.related.frame.kernel.now c.0;
+  share : Share ((8 + 6 * length l.related.unknowns.items) * l.place) l.related.unknowns.items l.initial.store l.store None;
 }

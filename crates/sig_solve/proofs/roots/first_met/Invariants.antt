@@ -9,6 +9,6 @@ abbrev pub invariant-loop-leader : goal.invariant-loop-leader
 invariant-loop-leader l = record {
   store : IsStore l.store;
   kept : Keeps l.initial.store l.store;
-  none : (k : ℕ) → k < l.leader-index → IsMet l.initial.store.nodes l.frame l.fn.part true (get_or l.leader-items k 0) → ⊥;
-  share : Share (2 * l.leader-index) l.frame.unknowns.items l.initial.store l.store None;
+  none : (k : ℕ) → k < l.leader-index → IsMet l.initial.store.nodes l.related l.fn.part true (get_or l.leader-items k 0) → ⊥;
+  share : Share (2 * l.leader-index) l.related.unknowns.items l.initial.store l.store None;
 }

@@ -10,6 +10,6 @@ abbrev pub invariant-loop-leader : goal.invariant-loop-leader
 invariant-loop-leader l = record {
   store : IsStore l.store;
   kept : Keeps l.initial.store l.store;
-  value : IsPart l.store.nodes l.frame (LacksAll l.frame.kernel.now (take l.leader-index l.leader-items)) l.silent;
-  share : Share (2 * l.leader-index) l.frame.unknowns.items l.initial.store l.store None;
+  value : IsPart l.store.nodes l.related (LacksAll l.related.frame.kernel.now (take l.leader-index l.leader-items)) l.silent;
+  share : Share (2 * l.leader-index) l.related.unknowns.items l.initial.store l.store None;
 }

@@ -5,7 +5,7 @@ use Rattle.sig_base.specs.declared.ids.SigId.{SigId}
 use Rattle.sig_clock.specs.Conditions.{conditions_of}
 use Rattle.sig_solve.specs.Answers.{FindsPinned}
 use Rattle.sig_solve.specs.Orders.{by_layer}
-use Rattle.sig_solve.specs.declared.frame.Frame.{Frame}
+use Rattle.sig_solve.specs.declared.related.Related.{Related}
 use Rattle.sig_solve.proofs.OrderLemmas.{by_fewer, conditions_in_order}
 use Rattle.sig_solve.proofs.RoundLemmas.{leaders_fewer}
 use Rattle.sig_solve.proofs.SolveLemmas.{pinned_at, refused_from}
@@ -15,56 +15,56 @@ use Rattle.sig_solve.proofs.solving.free_conditions.Goals.{In_ok-ordered}
 
 pub overflow_cast-len : goal.overflow_cast-len
 overflow_cast-len c =
-    let few = leaders_fewer c.args.frame.now c.requires.ready.has_frame.parts in
+    let few = leaders_fewer c.args.related.now.frame c.requires.ready.has_frame.parts in
     let signals = c.requires.ready.has_frame.valid.parts.signals in
-    record { fits = omega (arith, few, signals, c.len.ensures, c.args.frame.now.leaders.ok.0) }
+    record { fits = omega (arith, few, signals, c.len.ensures, c.args.related.now.frame.leaders.ok.0) }
 
 pub by_layer-requires : goal.by_layer-requires
 by_layer-requires c =
-    let few = leaders_fewer c.args.frame.now c.requires.ready.has_frame.parts in
+    let few = leaders_fewer c.args.related.now.frame c.requires.ready.has_frame.parts in
     let signals = c.requires.ready.has_frame.valid.parts.signals in
-    omega (arith, few, signals, c.len.ensures, c.args.frame.now.leaders.ok.0)
+    omega (arith, few, signals, c.len.ensures, c.args.related.now.frame.leaders.ok.0)
 
 -- the conditions, layer after layer
-listed : (frame : Frame) (layers : List _) (conditions ordered : List SigId) (n : _) → ordered ≡ by_layer frame layers conditions n → conditions ≡ conditions_of frame.kernel.now → n ≡ length frame.leaders.items → ordered ≡ by_layer frame layers (conditions_of frame.kernel.now) (length frame.leaders.items)
-listed frame layers conditions ordered n is same count = is ∙ ap (λ xs. by_layer frame layers xs n) same ∙ ap (by_layer frame layers (conditions_of frame.kernel.now)) count
+listed : (related : Related) (layers : List _) (conditions ordered : List SigId) (n : _) → ordered ≡ by_layer related.frame layers conditions n → conditions ≡ conditions_of related.frame.kernel.now → n ≡ length related.frame.leaders.items → ordered ≡ by_layer related.frame layers (conditions_of related.frame.kernel.now) (length related.frame.leaders.items)
+listed related layers conditions ordered n is same count = is ∙ ap (λ xs. by_layer related.frame layers xs n) same ∙ ap (by_layer related.frame layers (conditions_of related.frame.kernel.now)) count
 
-ordered_is : (c : In_ok-ordered) → c.in_ok-ordered.ordered.items ≡ by_layer c.args.frame.now c.args.layers.now (conditions_of c.args.frame.now.kernel.now) (length c.args.frame.now.leaders.items)
-ordered_is c = listed c.args.frame.now c.args.layers.now c.args.conditions.now c.in_ok-ordered.ordered.items c.len.result c.in_ok-ordered.ensures c.requires.conditions (c.len.ensures ∙ c.args.frame.now.leaders.ok.0)
+ordered_is : (c : In_ok-ordered) → c.in_ok-ordered.ordered.items ≡ by_layer c.args.related.now.frame c.args.layers.now (conditions_of c.args.related.now.frame.kernel.now) (length c.args.related.now.frame.leaders.items)
+ordered_is c = listed c.args.related.now c.args.layers.now c.args.conditions.now c.in_ok-ordered.ordered.items c.len.result c.in_ok-ordered.ensures c.requires.conditions (c.len.ensures ∙ c.args.related.now.frame.leaders.ok.0)
 
-ordered_few : (c : In_ok-ordered) → length c.in_ok-ordered.ordered.items ≤ length (conditions_of c.args.frame.now.kernel.now)
-ordered_few c = omega (arith, ap length (ordered_is c), by_fewer c.args.frame.now c.args.layers.now (conditions_of c.args.frame.now.kernel.now) (length c.args.frame.now.leaders.items))
+ordered_few : (c : In_ok-ordered) → length c.in_ok-ordered.ordered.items ≤ length (conditions_of c.args.related.now.frame.kernel.now)
+ordered_few c = omega (arith, ap length (ordered_is c), by_fewer c.args.related.now.frame c.args.layers.now (conditions_of c.args.related.now.frame.kernel.now) (length c.args.related.now.frame.leaders.items))
 
 pub find_pinned-requires-clause-conditions : goal.find_pinned-requires-clause-conditions
 find_pinned-requires-clause-conditions c =
-    conditions_in_order c.args.frame.now c.requires.ready.has_frame.parts c.args.layers.now c.requires.settled c.as_slice.result.now (c.as_slice.ensures.value ∙ ordered_is (goal.at.find_pinned-requires-clause-conditions c).In_ok-ordered)
+    conditions_in_order c.args.related.now.frame c.requires.ready.has_frame.parts c.args.layers.now c.requires.settled c.as_slice.result.now (c.as_slice.ensures.value ∙ ordered_is (goal.at.find_pinned-requires-clause-conditions c).In_ok-ordered)
 
 pub returns-in_err-condition-clause-share : goal.returns-in_err-condition-clause-share
 returns-in_err-condition-clause-share c =
-    let m = 8 + 6 * length c.args.frame.now.unknowns.items in
-    let k = length (conditions_of c.args.frame.now.kernel.now) in
+    let m = 8 + 6 * length c.args.related.now.unknowns.items in
+    let k = length (conditions_of c.args.related.now.frame.kernel.now) in
     let few : length c.as_slice.result.now ≤ k = omega (arith, ap length c.as_slice.ensures.value, ordered_few (goal.at.returns-in_err-condition-clause-share c).In_ok-ordered) in
-    refused_from (m * k) c.args.frame.now.unknowns.items c.args.store.now c.find_pinned.new.store c.from_residual-in_err-condition.result c.in_err-condition.field-0.0 c.from_residual-in_err-condition.ensures.1
-    (more_calls (m * length c.as_slice.result.now) (m * k) c.args.frame.now.unknowns.items c.args.store.now c.find_pinned.new.store _ (mul-le-mul_left m few) c.in_err-condition.ensures.share)
+    refused_from (m * k) c.args.related.now.unknowns.items c.args.store.now c.find_pinned.new.store c.from_residual-in_err-condition.result c.in_err-condition.field-0.0 c.from_residual-in_err-condition.ensures.1
+    (more_calls (m * length c.as_slice.result.now) (m * k) c.args.related.now.unknowns.items c.args.store.now c.find_pinned.new.store _ (mul-le-mul_left m few) c.in_err-condition.ensures.share)
 
 pub returns-in-Some-clause-refused : goal.returns-in-Some-clause-refused
-returns-in-Some-clause-refused c = pinned_at c.args.frame.now c.requires.ready.has_frame.parts c.args.layers.now c.as_slice.result.now c.in-Some.condition c.requires.settled c.requires.root (subst (FindsPinned c.args.frame.now.kernel.now c.as_slice.result.now) c.in-Some.is c.in_ok-condition.ensures.value)
+returns-in-Some-clause-refused c = pinned_at c.args.related.now.frame c.requires.ready.has_frame.parts c.args.layers.now c.as_slice.result.now c.in-Some.condition c.requires.settled c.requires.root (subst (FindsPinned c.args.related.now.frame.kernel.now c.as_slice.result.now) c.in-Some.is c.in_ok-condition.ensures.value)
 
 pub returns-in-Some-clause-share : goal.returns-in-Some-clause-share
 returns-in-Some-clause-share c =
-    let m = 8 + 6 * length c.args.frame.now.unknowns.items in
-    let k = length (conditions_of c.args.frame.now.kernel.now) in
+    let m = 8 + 6 * length c.args.related.now.unknowns.items in
+    let k = length (conditions_of c.args.related.now.frame.kernel.now) in
     let few : length c.as_slice.result.now ≤ k = omega (arith, ap length c.as_slice.ensures.value, ordered_few (goal.at.returns-in-Some-clause-share c).In_ok-ordered) in
-    more_calls (m * length c.as_slice.result.now) (m * k) c.args.frame.now.unknowns.items c.args.store.now c.find_pinned.new.store None (mul-le-mul_left m few) c.in_ok-condition.ensures.share
+    more_calls (m * length c.as_slice.result.now) (m * k) c.args.related.now.unknowns.items c.args.store.now c.find_pinned.new.store None (mul-le-mul_left m few) c.in_ok-condition.ensures.share
 
 pub returns-in-None-clause-value : goal.returns-in-None-clause-value
 returns-in-None-clause-value c =
     let is = (goal.at.returns-in-None-clause-value c).In_ok-ordered in
-    (conditions_in_order c.args.frame.now c.requires.ready.has_frame.parts c.args.layers.now c.requires.settled c.in_ok-ordered.ordered.items (ordered_is is), ordered_few is, subst (FindsPinned c.args.frame.now.kernel.now c.as_slice.result.now) c.in-None.is c.in_ok-condition.ensures.value)
+    (conditions_in_order c.args.related.now.frame c.requires.ready.has_frame.parts c.args.layers.now c.requires.settled c.in_ok-ordered.ordered.items (ordered_is is), ordered_few is, subst (FindsPinned c.args.related.now.frame.kernel.now c.as_slice.result.now) c.in-None.is c.in_ok-condition.ensures.value)
 
 pub returns-in-None-clause-share : goal.returns-in-None-clause-share
 returns-in-None-clause-share c =
-    let m = 8 + 6 * length c.args.frame.now.unknowns.items in
-    let k = length (conditions_of c.args.frame.now.kernel.now) in
+    let m = 8 + 6 * length c.args.related.now.unknowns.items in
+    let k = length (conditions_of c.args.related.now.frame.kernel.now) in
     let few : length c.as_slice.result.now ≤ k = omega (arith, ap length c.as_slice.ensures.value, ordered_few (goal.at.returns-in-None-clause-share c).In_ok-ordered) in
-    more_calls (m * length c.as_slice.result.now) (m * k) c.args.frame.now.unknowns.items c.args.store.now c.find_pinned.new.store None (mul-le-mul_left m few) c.in_ok-condition.ensures.share
+    more_calls (m * length c.as_slice.result.now) (m * k) c.args.related.now.unknowns.items c.args.store.now c.find_pinned.new.store None (mul-le-mul_left m few) c.in_ok-condition.ensures.share

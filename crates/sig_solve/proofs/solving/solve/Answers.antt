@@ -1,19 +1,16 @@
-use Rattle.std.proofs.Common.{◌+◌}
-use Rattle.sig_dd.proofs.CallerLemmas.{Keeps-trans}
-use Rattle.sig_solve.specs.Refusals.{rest_of_share, share_of}
-use Rattle.sig_solve.proofs.CountLemmas.{halves, within_equal, within_relation, within_then}
+use Rattle.std.proofs.Common.{◌+◌, inl, inr, refl}
+use Rattle.sig_solve.specs.Refusals.{rest_of_share, share_of, triangular_share_of}
+use Rattle.sig_rel.specs.Shares.{triangular_share_of as system_share_of}
+use Rattle.sig_solve.proofs.CountLemmas.{halves, within_equal}
+use Rattle.sig_solve.proofs.RoomLemmas.{two_systems, within_more}
 use Rattle.sig_solve.proofs.solving.solve.Goals as goal
 
-pub returns-in_err-relation-clause-share : goal.returns-in_err-relation-clause-share
-returns-in_err-relation-clause-share c u count =
-    within_equal (rest_of_share c.args.kernel.now u + rest_of_share c.args.kernel.now u) (share_of c.args.kernel.now u) c.args.store.now c.relation.new.store c.from_residual.result (halves c.args.kernel.now u)
-    (within_relation (rest_of_share c.args.kernel.now u) (rest_of_share c.args.kernel.now u) c.args.store.now c.relation.new.store c.from_residual.result c.in_err-relation.field-0.0
-    (c.in_err-relation.ensures.share.added u count) (c.in_err-relation.ensures.share.refused u count) c.from_residual.ensures.1)
+pub returns-in-Some-clause-share : goal.returns-in-Some-clause-share
+returns-in-Some-clause-share c u count =
+    within_equal (rest_of_share c.args.kernel.now u + rest_of_share c.args.kernel.now u) (share_of c.args.kernel.now u) c.args.store.now c.solve_triangular.new.store c.solve_triangular.result (halves c.args.kernel.now u)
+    (c.solve_triangular.ensures.share (rest_of_share c.args.kernel.now u) (inl (u, count, refl)))
 
-pub returns-clause-kept : goal.returns-clause-kept
-returns-clause-kept c = Keeps-trans c.args.store.now c.relation.new.store c.solve_relation.new.store c.in_ok-relation.ensures.kept c.solve_relation.ensures.kept
-
-pub returns-clause-share : goal.returns-clause-share
-returns-clause-share c u count =
-    within_equal (rest_of_share c.args.kernel.now u + rest_of_share c.args.kernel.now u) (share_of c.args.kernel.now u) c.args.store.now c.solve_relation.new.store c.solve_relation.result (halves c.args.kernel.now u)
-    (within_then (rest_of_share c.args.kernel.now u) (rest_of_share c.args.kernel.now u) c.args.store.now c.relation.new.store c.solve_relation.new.store c.solve_relation.result (c.in_ok-relation.ensures.share.added u count) (c.solve_relation.ensures.share u count))
+pub returns-in-Some-clause-triangular : goal.returns-in-Some-clause-triangular
+returns-in-Some-clause-triangular c is =
+    within_more (system_share_of c.args.kernel.now + system_share_of c.args.kernel.now) (triangular_share_of c.args.kernel.now) c.args.store.now c.solve_triangular.new.store c.solve_triangular.result (two_systems c.args.kernel.now)
+    (c.solve_triangular.ensures.share (system_share_of c.args.kernel.now) (inr refl))

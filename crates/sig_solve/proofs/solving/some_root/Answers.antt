@@ -6,8 +6,8 @@ use Rattle.sig_solve.proofs.solving.some_root.Goals as goal
 pub missing_root-requires-clause-ready : goal.missing_root-requires-clause-ready
 missing_root-requires-clause-ready c = record {
   has_store = c.in_ok-root.ensures.store;
-  has_frame = frame_stays c.args.store.now c.find_root.new.store c.args.frame.now c.in_ok-root.ensures.kept c.requires.ready.has_frame;
+  has_frame = frame_stays c.args.store.now c.find_root.new.store c.args.related.now c.in_ok-root.ensures.kept c.requires.ready.has_frame;
 }
 
 pub missing_root-requires-clause-speaking : goal.missing_root-requires-clause-speaking
-missing_root-requires-clause-speaking c = part_stays c.args.store.now c.find_root.new.store c.args.frame.now (Speaks c.args.frame.now.kernel.now) c.args.speaking c.in_ok-root.ensures.kept c.requires.speaking
+missing_root-requires-clause-speaking c = part_stays c.args.store.now c.find_root.new.store c.args.related.now (Speaks c.args.related.now.frame.kernel.now) c.args.speaking c.in_ok-root.ensures.kept c.requires.speaking

@@ -3,8 +3,8 @@ use Rattle.std.specs.Prelude.{Option, None, Some}
 use Rattle.std.proofs.lemmas.List.{take_more}
 use Rattle.sig_solve.specs.Frames.{truths_among}
 use Rattle.sig_solve.proofs.ListLemmas.{is_none, truths_more, truths_stay}
-use Rattle.sig_solve.proofs.frame.with_truths.Goals as goal
-use Rattle.sig_solve.proofs.frame.with_truths.Goals.{in-Some+in_ok-push, in_default}
+use Rattle.sig_solve.proofs.related.with_truths.Goals as goal
+use Rattle.sig_solve.proofs.related.with_truths.Goals.{in-Some+in_ok-push, in_default}
 
 one_more : (truths : List (Option ℕ)) (i v : ℕ) (first old new : List ℕ) → take (i + 1) truths ≡ take i truths ++ Some v ∷ [] → old ≡ first ++ truths_among (take i truths) → new ≡ old ++ v ∷ [] → new ≡ first ++ truths_among (take (i + 1) truths)
 one_more truths i v first old new next before after =

@@ -3,7 +3,7 @@ use Rattle.std.specs.List.{range_with_len}
 use Rattle.sig_rel.specs.Relations.{RelationView}
 use Rattle.sig_solve.specs.Frames.{leaders_of}
 use Rattle.sig_solve.proofs.ListLemmas.{of_filter, of_range}
-use Rattle.sig_solve.proofs.frame.frame_of.Goals as goal
+use Rattle.sig_solve.proofs.related.related_of.Goals as goal
 
 leader_below : (least leaders : List ℕ) (n k : ℕ) → leaders ≡ leaders_of least → length least ≡ n → k < length leaders → get_or leaders k 0 < n
 leader_below least leaders n k is count lt =
@@ -14,5 +14,5 @@ leader_below least leaders n k is count lt =
 pub presences-requires : goal.presences-requires
 presences-requires c k lt =
     let present : c.relation.inside.present.items ≡ c.args.relation.present = ap (λ (r : RelationView). r.present) c.relation.view_is in
-    leader_below c.as_slice.result.now c.as_slice-3.result.now (length c.as_slice-2.result.now) k
-    (c.as_slice-3.ensures.value ∙ c.in_ok-leaders.ensures) (ap length c.as_slice.ensures.value ∙ c.in_ok-least.ensures.count ∙ sym c.requires.counts.0 ∙ sym (ap length (c.as_slice-2.ensures.value ∙ present))) lt
+    leader_below c.args.frame.least.items c.as_slice-leaders.result.now (length c.as_slice.result.now) k
+    (c.as_slice-leaders.ensures.value ∙ c.requires.frame.leaders) (c.requires.frame.least.count ∙ sym c.requires.counts ∙ sym (ap length (c.as_slice.ensures.value ∙ present))) lt

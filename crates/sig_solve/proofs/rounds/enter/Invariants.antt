@@ -1,0 +1,10 @@
+use Rattle.std.proofs.Common.{◌≡◌, ◌<◌, ◌≤◌, ℕ, length, get_or, drop, Contains}
+use Rattle.sig_solve.specs.Rounds.{ArePassed}
+use Rattle.sig_solve.proofs.rounds.enter.Given as goal
+
+abbrev pub invariant-loop-class : goal.invariant-loop-class
+invariant-loop-class l = record {
+  passed : ArePassed l.frame l.round l.layers l.still.items (drop l.class-index l.waiting);
+  few : length l.still.items ≤ l.class-index;
+  stuck : length l.still.items ≡ l.class-index → (k : ℕ) → k < l.class-index → Contains l.still.items (get_or l.waiting k 0);
+}

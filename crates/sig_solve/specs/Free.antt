@@ -1,0 +1,23 @@
+-- Free systems, and what the presence of a signal needs.
+use Rattle.std.specs.Prelude.{◌==◌, ℕ, Bool, true, not, List, Option, None, Some, slice_get}
+use Rattle.std.specs.List.{list_any}
+use Rattle.sig_base.specs.declared.ids.SigId.{SigId}
+use Rattle.sig_dd.specs.Nodes.{IsStore, StoreView}
+use Rattle.sig_kernel.specs.declared.kernel.Kernel.{Kernel}
+use Rattle.sig_rel.specs.Systems.{AreConditions, IsFreeSystem, IsSystem, SystemView}
+
+-- the store has the system of a kernel, and it is free: each list of truths for its conditions is a reaction
+pub record IsFreeIn (kernel : Kernel) (store : StoreView) (system : SystemView) : Type 0 where
+  pub has_store : IsStore store
+  pub conditions : AreConditions kernel system.conditions
+  pub is_system : IsSystem kernel store.nodes system
+  pub is_free : IsFreeSystem store.nodes system
+
+-- a condition that is not known, or none
+abbrev pub is_unknown_to : List SigId → Option SigId → Bool
+is_unknown_to known None = true
+is_unknown_to known (Some condition) = not (list_any (λ other. other.0 == condition.0) known)
+
+-- a variable is no proposal of a known condition
+abbrev pub is_unknown : List SigId → List SigId → ℕ → Bool
+is_unknown conditions known v = is_unknown_to known (slice_get conditions v)
