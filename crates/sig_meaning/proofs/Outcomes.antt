@@ -1,11 +1,12 @@
 -- What an operation of an accepted plan comes to is what the instant by which the reference goes on has.
 use Rattle.std.proofs.Common.{◌≡◌, ◌<◌, ◌≤◌, ◌+◌, ◌++◌, ℕ, zero, suc, ℤ, Bool, true, false, cond, List, [], ◌∷◌, length, map, get_or, refl, ap, sym, subst, ◌∙◌, arith, Contains}
-use Rattle.std.specs.Prelude.{All, Option, None, Some, slice_get, option_to_list}
+use Rattle.std.specs.Prelude.{All, Option, None, Some, is_some, slice_get, option_to_list}
 use Rattle.std.proofs.lemmas.List.{length-append}
 use Rattle.std.proofs.lemmas.List.Elements.{All-cons, All-contains, All-nil}
 use Rattle.sig_base.specs.Traces.{Instant, Trace, Unbounded, flow_of, has_64_bits, seen_at}
 use Rattle.sig_base.specs.declared.ids.EqId.{EqId}
 use Rattle.sig_base.specs.declared.ids.SigId.{SigId}
+use Rattle.sig_clock.specs.Abstractions.{abstraction_of}
 use Rattle.sig_clock.specs.Conditions.{signal_id}
 use Rattle.sig_clock.proofs.Lists.{contains_at}
 use Rattle.sig_kernel.specs.KernelTraces.{HaveValues, IsFunction, Memory, Meets, function_of, remembered}
@@ -18,12 +19,11 @@ use Rattle.sig_kernel.proofs.DelayLemmas.{at_element}
 use Rattle.sig_kernel.specs.declared.kernel.Kernel.{Kernel}
 use Rattle.sig_meaning.specs.Outcomes.{IsAt, IsOutcome}
 use Rattle.sig_meaning.specs.Reactions.{IsNext}
-use Rattle.sig_meaning.proofs.Agreement.{Compiled, own_seen, value_by_reads}
-use Rattle.sig_meaning.proofs.Causing.{follows, own_presence}
+use Rattle.sig_meaning.proofs.Agreement.{Compiled, own_keeps, own_present, own_seen, own_speaks, value_by_reads}
 use Rattle.sig_meaning.proofs.FirstFaults.{one_either}
 use Rattle.sig_meaning.proofs.Flows.{flow_more, last_value, next_in}
 use Rattle.sig_meaning.proofs.Longest.{IsClean}
-use Rattle.sig_meaning.proofs.References.{Fitting, got}
+use Rattle.sig_meaning.proofs.References.{Fitting, got, reference_last}
 use Rattle.sig_meaning.proofs.Values.{computed as computed_value, form_for, form_in, has_form, have_map, kept_in, same_operands, value, value_by, where_some}
 use Rattle.sig_model.specs.Actors.{Actor, truths_of}
 use Rattle.sig_model.specs.Causes.{Computes}
@@ -88,7 +88,7 @@ module _ (kernel : Kernel) (presence : Presence) where
 -- ---- outcomes
 
 module _ (kernel : Kernel) (conditions : List SigId) (operations : List Operation) (order : List ℕ) (c : Compiled kernel conditions operations order) (flows : List (List ℤ)) (f : Fitting kernel flows)
-    (trace : Trace) (clean : IsClean kernel flows (length trace) trace) (instant : Instant) (reference : IsReference kernel flows (suc (length trace)) (trace ++ instant ∷ []))
+    (trace : Trace) (instant : Instant) (reference : IsReference kernel flows (suc (length trace)) (trace ++ instant ∷ []))
     (nodes : List Node) (number : ℕ) (op : Op) (at : slice_get operations number ≡ Some (operation_in nodes op)) (actor : Actor) (stands : IsAt kernel trace instant op actor)
     (done : (operation_in nodes op).guard (truths_of conditions (seen_at instant)) ≡ true) where
   abbrev p : Operation
@@ -101,7 +101,11 @@ module _ (kernel : Kernel) (conditions : List SigId) (operations : List Operatio
   next = next_in kernel flows trace
 
   is : IsNext kernel memory next instant
-  is = follows kernel conditions operations order c flows f trace clean instant reference
+  is = reference_last f (suc (length trace)) trace instant reference
+
+  presence_there : (x : SigId) → x.0 < length kernel.signals → is_some (seen_at instant x.0) ≡ c.has.presence x (truths_of conditions (seen_at instant))
+  presence_there x lt = sym (own_present kernel conditions operations order c memory next instant is x.0)
+      ∙ c.has.functions x.0 lt (truths_of conditions (seen_at instant)) (abstraction_of kernel.signals instant) (own_speaks kernel conditions operations order c memory next instant is) (own_keeps kernel conditions operations order c memory next instant is)
 
   among : Contains (operations_of kernel c.has.presence) p
   among = subst (λ (ps : List Operation). Contains ps p) c.has.are (contains_at operations number p at)
@@ -119,7 +123,7 @@ module _ (kernel : Kernel) (conditions : List SigId) (operations : List Operatio
   read_outcome x kind None none =
       let either = (one_either kernel c.has.presence p among).0 x kind in
       let below : x.0 < length kernel.signals = omega (arith, either.1, c.valid.parts.interface, c.valid.parts.declared) in
-      let there = where_some (seen_at instant x.0) (own_presence kernel conditions operations order c flows f trace clean instant reference x below
+      let there = where_some (seen_at instant x.0) (presence_there x below
       ∙ ap (λ g. g (truths_of conditions (seen_at instant))) (sym either.2) ∙ done) in
       let longer : length (flow_of x.0 (trace ++ instant ∷ [])) ≡ length (flow_of x.0 trace) + 1 =
       ap length (flow_more x.0 trace instant ∙ ap (λ s. flow_of x.0 trace ++ option_to_list s) there.1) ∙ length-append (flow_of x.0 trace) (there.0 ∷ []) in
@@ -211,8 +215,8 @@ module _ (kernel : Kernel) (conditions : List SigId) (operations : List Operatio
   store_outcome : (e : EqId) → op.kind ≡ Store e → (v : ℤ) → IsOutcome kernel flows trace instant p (Gives v)
   store_outcome e kind v x writes = absurd (let g : None ≡ Some x = sym ((one_kept kernel c.has.presence p among).0 e kind) ∙ writes in cc)
 
-  pub is_outcome : IsOutcome kernel flows trace instant p (outcome kernel flows actor op)
-  is_outcome = by op.kind refl where
+  pub reference_outcome : IsOutcome kernel flows trace instant p (outcome kernel flows actor op)
+  reference_outcome = by op.kind refl where
     by : (k : OpKind) → op.kind ≡ k → IsOutcome kernel flows trace instant p (outcome_by kernel flows actor op k)
     by (Read x) kind = read_outcome x kind (slice_get (get_or flows x.0 []) (actor.taken x.0)) refl
     by Compute kind = compute_outcome op.eq kind refl
@@ -220,3 +224,11 @@ module _ (kernel : Kernel) (conditions : List SigId) (operations : List Operatio
     by Right kind = of_kind Right kind
     by DelayRead kind = delay_outcome kind
     by (Store e) kind = store_outcome e kind (first_in actor.registers op.reads)
+
+-- the same behind a trace that is within bounds
+pub is_outcome : (kernel : Kernel) (conditions : List SigId) (operations : List Operation) (order : List ℕ) → Compiled kernel conditions operations order → (flows : List (List ℤ)) → Fitting kernel flows
+    → (trace : Trace) → IsClean kernel flows (length trace) trace → (instant : Instant) → IsReference kernel flows (suc (length trace)) (trace ++ instant ∷ [])
+    → (nodes : List Node) (number : ℕ) (op : Op) → slice_get operations number ≡ Some (operation_in nodes op) → (actor : Actor) → IsAt kernel trace instant op actor
+    → (operation_in nodes op).guard (truths_of conditions (seen_at instant)) ≡ true → IsOutcome kernel flows trace instant (operation_in nodes op) (outcome kernel flows actor op)
+is_outcome kernel conditions operations order c flows f trace clean instant reference nodes number op at actor stands done =
+    reference_outcome kernel conditions operations order c flows f trace instant reference nodes number op at actor stands done

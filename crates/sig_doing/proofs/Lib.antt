@@ -1,0 +1,10 @@
+pub mod Amid
+pub mod Committed
+pub mod Committing
+pub mod Defining
+pub mod Failing
+pub mod Knowing
+pub mod Lines
+pub mod Operated
+pub mod Passing
+pub mod Places

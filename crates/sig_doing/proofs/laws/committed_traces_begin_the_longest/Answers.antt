@@ -1,0 +1,9 @@
+use Rattle.sig_doing.proofs.Committed.{begins_longest}
+use Rattle.sig_doing.proofs.laws.committed_traces_begin_the_longest.Goals as goal
+use Rattle.sig_kernel.proofs.TextLemmas.{text_prefix}
+
+pub returns-clause-trace : goal.returns-clause-trace
+returns-clause-trace c = λ plan. begins_longest plan.kernel
+
+pub returns-clause-text : goal.returns-clause-text
+returns-clause-text c = λ plan flows limit trace longest is le whole. text_prefix plan.kernel trace longest (begins_longest plan.kernel flows limit trace longest is le whole)

@@ -1,0 +1,75 @@
+-- An accepted plan has what the code of its actors asks of it.
+use Rattle.std.proofs.Common.{◌≡◌, ◌<◌, ℕ, List, length, refl, sym, subst}
+use Rattle.std.specs.Prelude.{None, Option, Some, slice_get, option_and_then}
+use Rattle.sig_base.specs.declared.ids.EqId.{EqId}
+use Rattle.sig_clock.proofs.Lists.{get_within}
+use Rattle.sig_doing.proofs.Defining.{defined_local}
+use Rattle.sig_kernel.specs.Table.{target_of}
+use Rattle.sig_kernel.specs.declared.equation.Equation.{Equation}
+use Rattle.sig_meaning.proofs.Agreement.{some_at}
+use Rattle.sig_model.specs.Actors.{code_of}
+use Rattle.sig_model.specs.Operating.{defined_by}
+use Rattle.sig_model.specs.Runnable.{IsRunnable, IsThere}
+use Rattle.sig_model.specs.Turns.{carried}
+use Rattle.sig_plan.specs.Codes.{CodeView, ImpliesSlot, IsLastBelow}
+use Rattle.sig_plan.specs.Guards.{of_slot}
+use Rattle.sig_plan.specs.Operations.{operation_in, operations_in}
+use Rattle.sig_plan.specs.Plans.{IsAccepted, PlanView}
+use Rattle.sig_plan.specs.declared.code.Slot.{Slot}
+use Rattle.sig_plan.specs.declared.op.Op.{Op}
+use Rattle.sig_plan.specs.declared.parts.LinkInfo.{LinkInfo}
+use Rattle.sig_plan.proofs.Accepted.{plan_operations}
+use Rattle.sig_plan.proofs.Indices.{written_below}
+use Rattle.sig_plan.proofs.LinkEnds.{carrying_ends}
+use Rattle.sig_plan.proofs.Lists.{get_map}
+use Rattle.sig_plan.proofs.Naming.{step_slot}
+use Rattle.sig_plan.proofs.Slotted.{guard_alone, guard_held}
+use Rattle.sig_schedules.proofs.Beginnings.{code_begins}
+use Rattle.sig_schedules.proofs.Coded.{code_is, slot_coded, step_coded}
+use Rattle.sig_schedules.proofs.Fillings.{fills_earlier}
+
+module _ (plan : PlanView) (accepted : IsAccepted plan) where
+  signals_written : (number : ℕ) (op : Op) → slice_get plan.ops number ≡ Some op → IsThere plan op.writes
+  signals_written number op at x writes =
+      written_below plan.kernel accepted.valid plan.clocks.conditions (operations_in plan.store.nodes plan.ops) (plan_operations plan accepted) number (operation_in plan.store.nodes op)
+      (get_map (operation_in plan.store.nodes) plan.ops number op at) x writes
+
+  signals_carried : (j : ℕ) → IsThere plan (carried plan.links j)
+  signals_carried j x is = by (slice_get plan.links j) (λ info e. e) is where
+    by : (o : Option LinkInfo) → ((info : LinkInfo) → o ≡ Some info → slice_get plan.links j ≡ Some info) → option_and_then (λ (l : LinkInfo). l.signal) o ≡ Some x → x.0 < length plan.kernel.signals
+    by None at is = absurd (let e : None ≡ Some x = is in cc)
+    by (Some info) at is =
+        let there = subst (λ (ls : List LinkInfo). slice_get ls j ≡ Some info) (sym accepted.links) (at info refl) in
+        let ends = carrying_ends plan.kernel accepted.valid plan.clocks.conditions (operations_in plan.store.nodes plan.ops) (plan_operations plan accepted) accepted.parts accepted.split j info x there is in
+        get_within plan.kernel.signals x.0 ends.owner ends.owned
+
+  signals_defined : (e : EqId) → IsThere plan (defined_by plan.kernel e)
+  signals_defined e x is = by (slice_get plan.kernel.equations e.0) (λ d s. s) is where
+    by : (o : Option Equation) → ((d : Equation) → o ≡ Some d → slice_get plan.kernel.equations e.0 ≡ Some d) → option_and_then (λ (equation : Equation). target_of equation.form) o ≡ Some x → x.0 < length plan.kernel.signals
+    by None at is = absurd (let f : None ≡ Some x = is in cc)
+    by (Some d) at is = (defined_local plan.kernel accepted.valid e.0 d x (at d refl) is).1
+
+  actor_begins : (k : ℕ) → k < length plan.codes → 0 < length (code_of plan k).steps
+  actor_begins k lt =
+      let code = some_at plan.codes k lt in
+      subst (λ (c : CodeView). 0 < length c.steps) (sym (code_is plan k code.0 code.1)) (code_begins plan accepted k code.0 code.1 lt)
+
+  slot_parents : (k number parent : ℕ) (slot : Slot) → slice_get (code_of plan k).slots number ≡ Some slot → slot.parent ≡ Some parent → IsLastBelow (ImpliesSlot plan.store.nodes (code_of plan k).slots slot) number (Some parent)
+  slot_parents k number parent slot at is =
+      subst (λ o. IsLastBelow (ImpliesSlot plan.store.nodes (code_of plan k).slots slot) number o) is
+      ((accepted.codes.each k (code_of plan k) (slot_coded plan k number slot at)).slots.parents number slot at)
+
+  pub is_runnable : IsRunnable plan
+  is_runnable = record {
+    writes = signals_written;
+    carries = signals_carried;
+    defines = signals_defined;
+    begins = actor_begins;
+    slots = λ k number step at. step_slot plan accepted k (code_of plan k) (step_coded plan k number step at) number step at;
+    held = λ k number slot at. guard_held plan accepted slot.guard (of_slot k number (code_of plan k) slot (slot_coded plan k number slot at) at);
+    needs = λ k number slot at. guard_alone plan accepted slot.guard (of_slot k number (code_of plan k) slot (slot_coded plan k number slot at) at);
+    first = λ k number earlier step at lt. (accepted.codes.each k (code_of plan k) (step_coded plan k number step at)).slots.first number step at earlier lt;
+    parents = λ k number parent slot at is. let last = slot_parents k number parent slot at is in (last.0, last.1.0, last.1.1, last.1.2);
+    earlier = λ k number filling v slot condition here depends is there.
+        fills_earlier plan accepted k (code_of plan k) (step_coded plan k number here.step here.is) number filling v here.step there.step slot condition here.is here.has depends is there.is there.does;
+  }

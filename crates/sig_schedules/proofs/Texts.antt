@@ -1,0 +1,45 @@
+-- The text that is committed begins that of the reference.
+use Rattle.std.proofs.Common.{◌≡◌, ◌-◌, ◌++◌, [], ◌∷◌, length, map, take, drop, refl, ap, sym, ◌∙◌, arith}
+use Rattle.std.specs.Prelude.{Some, slice_get}
+use Rattle.std.specs.List.{range_with_len}
+use Rattle.std.proofs.lemmas.List.{length-drop, length-take, take-append-drop}
+use Rattle.sig_base.specs.Traces.{Instant, IsPrefixOf, Trace, seen_at}
+use Rattle.sig_doing.proofs.Lines.{dropped_at, same_lines}
+use Rattle.sig_kernel.specs.OutputText.{instant_text, output_text, outputs_of, seen_lines}
+use Rattle.sig_kernel.specs.Validity.{IsValid}
+use Rattle.sig_kernel.specs.declared.kernel.Kernel.{Kernel}
+use Rattle.sig_meaning.proofs.Agreement.{some_at}
+use Rattle.sig_model.specs.Actors.{Actor}
+use Rattle.sig_model.specs.Cores.{Core, Given, reactions_text}
+use Rattle.sig_model.specs.Progress.{IsOnReference, reactions_of}
+use Rattle.sig_model.specs.Turns.{reaction_in}
+use Rattle.sig_plan.specs.Plans.{IsAccepted}
+use Rattle.sig_schedules.proofs.Lists.{joined_append}
+
+module _ (kernel : Kernel) (valid : IsValid kernel) where
+  lines_are : (instant : Instant) → seen_lines (outputs_of kernel) (reaction_in kernel (seen_at instant)) ≡ instant_text kernel instant
+  lines_are instant =
+      let count : length (outputs_of kernel) ≡ kernel.outputs =
+      omega (arith, length-take kernel.outputs (drop kernel.inputs kernel.signals), length-drop kernel.inputs kernel.signals, valid.parts.interface, valid.parts.declared) in
+      ap (λ n. seen_lines (outputs_of kernel) (map (seen_at instant) (range_with_len kernel.inputs n))) (sym count)
+      ∙ same_lines (outputs_of kernel) (seen_at instant) kernel.inputs (drop kernel.inputs instant) (λ k lt. sym (dropped_at kernel.inputs instant k))
+
+  pub text_is : (trace : Trace) → reactions_text kernel (reactions_of kernel trace) ≡ output_text kernel trace
+  text_is [] = refl
+  text_is (instant ∷ trace) = (λ t. lines_are instant t ++ text_is trace t)
+
+module _ (given : Given) (accepted : IsAccepted given.plan) (reference : Trace) (core : Core) (on : IsOnReference given reference core) where
+  pub committed_text : (collector : Actor) → slice_get core.actors (length given.plan.codes - 1) ≡ Some collector
+      → reactions_text given.plan.kernel core.committed ≡ output_text given.plan.kernel (take (collector.instant - 1) reference)
+  committed_text collector at = ap (reactions_text given.plan.kernel) (on.committed collector at) ∙ text_is given.plan.kernel accepted.valid (take (collector.instant - 1) reference)
+
+  pub committed_begins : IsPrefixOf (reactions_text given.plan.kernel core.committed) (output_text given.plan.kernel reference)
+  committed_begins =
+      let actors = accepted.codes.actors in
+      let count = on.actors in
+      let collector = some_at core.actors (length given.plan.codes - 1) (omega (arith, actors, count)) in
+      let n = collector.0.instant - 1 in (
+        output_text given.plan.kernel (drop n reference),
+        ap (output_text given.plan.kernel) (sym (take-append-drop n reference)) ∙ joined_append (λ instant. instant_text given.plan.kernel instant) (take n reference) (drop n reference)
+            ∙ ap (λ text. text ++ output_text given.plan.kernel (drop n reference)) (sym (committed_text collector.0 collector.1)),
+      )

@@ -1,0 +1,9 @@
+use Rattle.sig_schedules.proofs.Interleavings.{after_sound}
+use Rattle.sig_schedules.proofs.Sound.{stepped_sound}
+use Rattle.sig_schedules.proofs.laws.actors_go_past_no_fault.Goals as goal
+
+pub returns-clause-event : goal.returns-clause-event
+returns-clause-event c = stepped_sound
+
+pub returns-clause-interleaving : goal.returns-clause-interleaving
+returns-clause-interleaving c = after_sound
