@@ -3,8 +3,8 @@ mod CleanLines
 mod EventLemmas
 pub mod FirstLemmas
 mod FirstLines
-mod FittingFlows
-mod FlowLemmas
+pub mod FittingFlows
+pub mod FlowLemmas
 pub mod InputLemmas
 mod LineWords
 mod Numerals

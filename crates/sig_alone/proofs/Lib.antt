@@ -1,0 +1,3 @@
+pub mod OutputLines
+pub mod Running
+pub mod Stepping

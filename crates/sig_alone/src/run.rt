@@ -1,0 +1,97 @@
+//! A run.
+
+ghost use Rattle.std.specs.Prelude.{◌≡◌, ◌≤◌, ◌<◌, ◌+◌, ◌^◌, ℕ, ℤ, List, Err, IfOk, OnErr, OnOk};
+ghost use Rattle.sig_alone.specs.Lines.{lines_of};
+ghost use Rattle.sig_alone.specs.Runs.{IsWholeRun, TookSome};
+ghost use Rattle.sig_alone.specs.declared.answer.RunAnswer.{RunAnswer};
+ghost use Rattle.sig_kernel.specs.Validity.{AreFlowsFor};
+ghost use Rattle.sig_model.specs.Actors.{opening_actor};
+ghost use Rattle.sig_text.specs.Counts.{Rose};
+ghost use Rattle.sig_text.specs.Sink.{TookPrefix};
+ghost use Rattle.sig_values.specs.Values.{AreValuesOf, actor_at, at_next, instant_of, seen_in};
+
+use crate::answer::RunAnswer;
+use crate::plans::plans_are_accepted;
+use crate::putting::put_reaction;
+use crate::react::react;
+use sig_kernel::Inputs;
+use sig_plan::{Cause, Ended, Plan};
+use sig_text::{Sink, WriteFault};
+use sig_values::Values;
+use std::alloc::Global;
+
+/// Runs a plan over flows, up to a limit of instants. The text of each instant is appended to the sink once
+/// the instant is whole, so that of a whole run the sink took the text of the longest trace, and the answer
+/// is the number of its instants with the named cause. Where a write fails, a prefix of that text was
+/// appended. All memory is taken before the first instant.
+pub fn run_alone<S: Sink>(
+    alloc: Global,
+    plan: &Plan,
+    inputs: &Inputs,
+    limit: u32,
+    sink: &mut S,
+) -> Result<Ended, RunAnswer>
+    requires fits { AreFlowsFor plan.now.kernel inputs.now }
+    requires limit { limit + 1 < 2 ^ 32 }
+    ensures whole { IfOk result (IsWholeRun plan.now inputs.now limit S.took sink.old sink.new) }
+    ensures prefix { result ≡ Err RunAnswer.WriteFault → TookSome plan.now inputs.now limit S.took sink.old sink.new }
+    ensures failed { result ≡ Err RunAnswer.WriteFault → Rose (S.faults sink.old) (S.faults sink.new) }
+    ensures faults_stay { S.faults sink.old ≤ S.faults sink.new }
+    ensures memory { result ≡ Err RunAnswer.OutOfMemory → sink.new ≡ sink.old }
+{
+    let Ok(mut values) = Values::new(alloc, plan, inputs) else {
+        return Err(RunAnswer::OutOfMemory);
+    };
+    match run(&mut values, plan, inputs, limit, sink) {
+        Ok(ended) => Ok(ended),
+        Err(WriteFault) => Err(RunAnswer::WriteFault),
+    }
+}
+
+/// Runs from the opening.
+fn run<S: Sink>(
+    values: &mut Values,
+    plan: &Plan,
+    inputs: &Inputs,
+    limit: u32,
+    sink: &mut S,
+) -> Result<Ended, WriteFault>
+    requires fits { AreFlowsFor plan.now.kernel inputs.now }
+    requires limit { limit + 1 < 2 ^ 32 }
+    requires values { AreValuesOf plan.now inputs.now values.old }
+    requires opening { actor_at values.old 0 ≡ opening_actor plan.now.kernel }
+    ensures whole { IfOk result (IsWholeRun plan.now inputs.now limit S.took sink.old sink.new) }
+    ensures prefix { OnErr result (TookSome plan.now inputs.now limit S.took sink.old sink.new) }
+    ensures failed { OnErr result (Rose (S.faults sink.old) (S.faults sink.new)) }
+    ensures faults_stay { S.faults sink.old ≤ S.faults sink.new }
+{
+    plans_are_accepted(plan);
+    for done in 0..limit {
+        if let Err(cause) = react(values, plan, inputs) {
+            return Ok(Ended {
+                instants: done,
+                cause,
+            });
+        }
+        commit(values, plan, sink)?;
+    }
+    Ok(Ended {
+        instants: limit,
+        cause: Cause::Limit,
+    })
+}
+
+/// Appends the lines of a reaction, and goes to the next instant.
+fn commit<S: Sink>(values: &mut Values, plan: &Plan, sink: &mut S) -> Result<(), WriteFault>
+    requires { instant_of values.old + 1 < 2 ^ 32 }
+    ensures all { OnOk result (S.took sink.old (lines_of plan.now.kernel (seen_in values.old)) sink.new) }
+    ensures next { OnOk result ((step : ℕ) → actor_at values.new 0 ≡ at_next (actor_at values.old step)) }
+    ensures values { OnOk result ((flows : List (List ℤ)) → AreValuesOf plan.now flows values.old → AreValuesOf plan.now flows values.new) }
+    ensures prefix { OnErr result (TookPrefix S.took sink.old (lines_of plan.now.kernel (seen_in values.old)) sink.new) }
+    ensures failed { OnErr result (Rose (S.faults sink.old) (S.faults sink.new)) }
+    ensures faults_stay { S.faults sink.old ≤ S.faults sink.new }
+{
+    put_reaction(values, plan, sink)?;
+    values.next_instant();
+    Ok(())
+}

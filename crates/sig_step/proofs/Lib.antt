@@ -1,0 +1,10 @@
+pub mod Beginning
+pub mod Doing
+pub mod Going
+pub mod GuardLemmas
+pub mod MarkLemmas
+pub mod StateLemmas
+pub mod Taking
+pub mod TruthLemmas
+pub mod Turning
+pub mod WalkLemmas

@@ -1,0 +1,101 @@
+-- What is known of guards while an actor writes registers and goes on.
+use Rattle.std.proofs.Common.{◌≡◌, ◌≤◌, ◌+◌, ◌∙◌, ℕ, ℤ, Bool, true, false, List, length, nat_lt, slice_get, if◌then◌else◌, Option, None, Some, refl, sym, ap, subst, inl, inr, arith}
+use Rattle.std.proofs.lemmas.Bool.Decides.{eqb_tells}
+use Rattle.sig_base.specs.declared.ids.SigId.{SigId}
+use Rattle.sig_dd.specs.Nodes.{test}
+use Rattle.sig_model.specs.Actors.{Actor, Registers, code_of, no_registers, slot_holds, truths_of, with_at, with_signal}
+use Rattle.sig_model.specs.Runnable.{FillsAt, IsInSlot, IsRunnable}
+use Rattle.sig_plan.specs.Plans.{PlanView}
+use Rattle.sig_plan.specs.declared.code.Slot.{Slot}
+use Rattle.sig_plan.specs.declared.code.Step.{Step}
+use Rattle.sig_step.proofs.TruthLemmas.{test_stays}
+use Rattle.sig_step.specs.Moving.{IsMet, MovesOn}
+use Rattle.sig_step.specs.States.{AreMarks, AreMarksAt, actor_of}
+use Rattle.sig_step.specs.declared.state.ClusterState.{ClusterState}
+use Rattle.sig_step.specs.declared.state.Mark.{Mark}
+use Rattle.sig_values.specs.Values.{instant_of, seen_in}
+
+id_is : (a b : SigId) → a.0 ≡ b.0 → a ≡ b
+id_is a b same = ap (λ n. let c : SigId = record { 0 = n } in c) same
+
+-- a guard that was met keeps its value where the next step writes its signal
+slot_stays : (plan : PlanView) (s : ClusterState) → IsRunnable plan → (x : SigId) (v : ℤ) → FillsAt plan s.actor s.step x
+    → (k number : ℕ) (step : Step) → number ≤ s.step → slice_get (code_of plan s.actor).steps number ≡ Some step → step.slot ≡ k
+    → (slot : Option Slot) → slice_get (code_of plan s.actor).slots k ≡ slot
+    → slot_holds plan.store.nodes (truths_of plan.clocks.conditions (seen_in s.values)) slot
+    ≡ slot_holds plan.store.nodes (truths_of plan.clocks.conditions (with_at x.0 (Some v) (seen_in s.values))) slot
+slot_stays plan s runnable x v filled k number step before at in_slot None is = refl
+slot_stays plan s runnable x v filled k number step before at in_slot (Some slot) is =
+    let has : slice_get (code_of plan s.actor).slots step.slot ≡ Some slot = ap (slice_get (code_of plan s.actor).slots) in_slot ∙ is in
+    let here : IsInSlot plan s.actor number slot = record { step = step; is = at; has = has } in
+    test_stays plan.clocks.conditions (test plan.store.nodes slot.guard) x v (seen_in s.values)
+    (λ j condition at_j same depends.
+    let fills_it : FillsAt plan s.actor s.step condition = subst (FillsAt plan s.actor s.step) (sym (id_is condition x same)) filled in
+    let earlier = runnable.earlier s.actor number s.step j slot condition here depends at_j fills_it in
+    omega (arith, earlier, before))
+
+-- marks stay right where the next step fills its signal, if there is one
+pub marks_filled : (plan : PlanView) (s : ClusterState) → IsRunnable plan → AreMarks plan s → (target : Option SigId) (v : ℤ)
+    → ((x : SigId) → target ≡ Some x → FillsAt plan s.actor s.step x)
+    → AreMarksAt plan s.actor (instant_of s.values) s.step (with_signal target (Some v) (seen_in s.values)) s.marks.items
+marks_filled plan s runnable marks None v filled = marks
+marks_filled plan s runnable marks (Some x) v filled = record {
+  count = marks.count;
+  past = marks.past;
+  known = λ k mark at now.
+      let (value, (number, step, before, step_at, in_slot)) = marks.known k mark at now in (
+        value ∙ slot_stays plan s runnable x v (filled x refl) k number step before step_at in_slot (slice_get (code_of plan s.actor).slots k) refl,
+        (number, step, before, step_at, in_slot),
+      );
+  reached = marks.reached;
+}
+
+-- the marks of an actor, where all that they speak of is as it was
+pub same_marks : (plan : PlanView) (a b i j m n : ℕ) (r q : Registers) (old new : List Mark) → a ≡ b → i ≡ j → m ≡ n → r ≡ q → old ≡ new
+    → AreMarksAt plan a i m r old → AreMarksAt plan b j n q new
+same_marks plan a b i j m n r q old new actor instant next registers marks are =
+    subst (λ (x : List Mark). AreMarksAt plan b j n q x) marks
+    (subst (λ (x : Registers). AreMarksAt plan b j n x old) registers
+    (subst (λ (x : ℕ). AreMarksAt plan b j x r old) next
+    (subst (λ (x : ℕ). AreMarksAt plan b x m r old) instant
+    (subst (λ (x : ℕ). AreMarksAt plan x i m r old) actor are))))
+
+-- the marks before the step behind one whose slot was met
+at_next_step : (plan : PlanView) (s : ClusterState) → AreMarks plan s → IsMet plan s
+    → AreMarksAt plan s.actor (instant_of s.values) (s.step + 1) (seen_in s.values) s.marks.items
+at_next_step plan s marks met = record {
+  count = marks.count;
+  past = marks.past;
+  known = λ k mark at now.
+      let (value, (number, step, before, step_at, in_slot)) = marks.known k mark at now in
+      (value, (number, step, omega (arith, before), step_at, in_slot));
+  reached = λ number step below at. elim (eqb_tells number s.step) [
+    | inl same ↦ met step (ap (slice_get (code_of plan s.actor).steps) (sym same.1) ∙ at)
+    | inr other ↦ marks.reached number step (omega (arith, below, other.1)) at
+  ];
+}
+
+-- the marks at the next instant, of which nothing is known yet
+at_next_instant : (plan : PlanView) (s : ClusterState) → AreMarks plan s
+    → AreMarksAt plan s.actor ((instant_of s.values) + 1) 0 no_registers s.marks.items
+at_next_instant plan s marks = record {
+  count = marks.count;
+  past = λ k mark at. let h = marks.past k mark at in omega (arith, h);
+  known = λ k mark at now. let h = marks.past k mark at in absurd (omega (arith, h, now));
+  reached = λ number step below at. absurd (omega (arith, below));
+}
+
+-- marks stay right where the actor goes on behind a step whose slot was met
+pub marks_moved : (plan : PlanView) (s new : ClusterState) → AreMarks plan s → IsMet plan s → MovesOn plan s new → AreMarks plan new
+marks_moved plan s new marks met moves = by_case (nat_lt (s.step + 1) (length (code_of plan s.actor).steps)) moves.actor where
+  by_case : (b : Bool)
+      → actor_of new ≡ (if b then record (actor_of s) { step = s.step + 1 } else record (actor_of s) { instant = (instant_of s.values) + 1; step = 0; registers = no_registers })
+      → AreMarks plan new
+  by_case true is =
+      same_marks plan s.actor new.actor (instant_of s.values) (instant_of new.values) (s.step + 1) new.step (seen_in s.values) (seen_in new.values) s.marks.items new.marks.items
+      (sym moves.same.actor) (sym (ap (λ (a : Actor). a.instant) is)) (sym (ap (λ (a : Actor). a.step) is)) (sym (ap (λ (a : Actor). a.registers) is))
+      (sym (ap (λ m. m.items) moves.marks)) (at_next_step plan s marks met)
+  by_case false is =
+      same_marks plan s.actor new.actor ((instant_of s.values) + 1) (instant_of new.values) 0 new.step no_registers (seen_in new.values) s.marks.items new.marks.items
+      (sym moves.same.actor) (sym (ap (λ (a : Actor). a.instant) is)) (sym (ap (λ (a : Actor). a.step) is)) (sym (ap (λ (a : Actor). a.registers) is))
+      (sym (ap (λ m. m.items) moves.marks)) (at_next_instant plan s marks)

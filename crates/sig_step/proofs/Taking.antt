@@ -1,0 +1,17 @@
+-- Items that an actor takes.
+use Rattle.std.proofs.Common.{◌≡◌, ◌≤◌, ◌∙◌, ℤ, List, [], length, sym, subst}
+use Rattle.std.specs.Prelude.{slice_index_or}
+use Rattle.sig_plan.specs.Plans.{PlanView}
+use Rattle.sig_values.specs.Values.{AreAlike, AreValuesOf, taken_in}
+use Rattle.sig_values.specs.declared.values.Values.{Values}
+
+-- values of which a register was written
+pub values_written : (plan : PlanView) (flows : List (List ℤ)) (old new : Values) → AreValuesOf plan flows old → AreAlike old new
+    → new ≡ record old { registers = new.registers } → AreValuesOf plan flows new
+values_written plan flows old new are alike stays = record {
+  registers = alike.registers ∙ are.registers;
+  conditions = alike.conditions ∙ are.conditions;
+  memories = alike.memories ∙ are.memories;
+  inputs = alike.inputs ∙ are.inputs;
+  taken = λ input. subst (λ (v : Values). taken_in v.taken.items input ≤ length (slice_index_or flows input [])) (sym stays) (are.taken input);
+}

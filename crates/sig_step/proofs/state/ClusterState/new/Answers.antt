@@ -1,0 +1,19 @@
+use Rattle.std.proofs.Common.{◌≡◌, ◌<◌, ◌^◌, ◌∙◌, ap, arith, length, refl, replicate, slice_get, List}
+use Rattle.sig_model.specs.Actors.{Actor, code_of, position_of}
+use Rattle.sig_plan.specs.Codes.{CodeView}
+use Rattle.sig_plan.specs.declared.code.Slot.{Slot}
+use Rattle.sig_plan.specs.declared.code.Step.{Step}
+use Rattle.sig_step.proofs.Beginning.{opened, unknown}
+use Rattle.sig_step.proofs.state.ClusterState.new.Goals as goal
+
+pub returns-clause-state : goal.returns-clause-state
+returns-clause-state c =
+    let plan = c.args.plan.now in
+    let count : length c.steps.result.now ≡ length (code_of plan c.args.actor).steps = ap length (c.steps.ensures ∙ ap (λ (code : CodeView). code.steps) c.code_at-code.ensures) in
+    let short : length (code_of plan c.args.actor).steps < 2 ^ 32 = grind (arith, c.if-steps.false, count) in
+    let steps = c.steps-2.ensures ∙ ap (λ (code : CodeView). code.steps) c.code_at-code.ensures in
+    let slots = c.slots.ensures ∙ ap (λ (code : CodeView). code.slots) c.code_at-code.ensures in
+    opened plan c.args.inputs.now _ c.plans_can_run.ensures.runnable c.requires.actor c.requires.limit refl short
+    (c.position_of.ensures ∙ ap (λ (steps : List Step). position_of (slice_get steps 0)) steps)
+    c.in_ok-new.ensures.values (ap (λ (a : Actor). a.instant) c.in_ok-new.ensures.opening)
+    (c.in_ok-unknown.ensures ∙ ap (λ (slots : List Slot). replicate (length slots) unknown) slots)

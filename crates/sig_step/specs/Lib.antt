@@ -1,0 +1,4 @@
+pub mod Acting
+pub mod LinkEnds
+pub mod Moving
+pub mod States

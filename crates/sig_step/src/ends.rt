@@ -1,0 +1,39 @@
+//! The link ends of an actor.
+
+ghost use Rattle.std.specs.Prelude.{◌≡◌, ◌⊎◌, ℕ, List, Option, Contains, IsSome};
+ghost use Rattle.sig_step.specs.LinkEnds.{Asks, HasSentFew, Past, Queues, asked_to_pop, asked_to_push};
+
+use sig_base::Full;
+
+/// Where an actor sends items and takes them, by the numbers of links. It tells what was sent and taken so
+/// far, or what each link holds.
+pub trait Ends {
+    // What was sent and taken, where it tells that.
+    ghost past: { Self → Option Past };
+
+    // What each link holds, where it tells that.
+    ghost queues: { Self → Option Queues };
+
+    // The links to which it can push, and those from which it can pop.
+    ghost pushes: { Self → List ℕ };
+
+    ghost pops: { Self → List ℕ };
+
+    // It tells one of the two.
+    ghost tells: { (ends : Self) → IsSome (past ends) ⊎ IsSome (queues ends) };
+
+    /// Sends an item on a link.
+    fn push(&mut self, link: u32, item: i64) -> Result<(), Full>
+        requires end { Contains (pushes self.old) link }
+        requires few { HasSentFew (past self.old) link }
+        ensures asked { Asks past queues (asked_to_push link item result) self.old self.new }
+        ensures pushes { pushes self.new ≡ pushes self.old }
+        ensures pops { pops self.new ≡ pops self.old };
+
+    /// Takes the first item of a link, if it has one.
+    fn pop(&mut self, link: u32) -> Option<i64>
+        requires end { Contains (pops self.old) link }
+        ensures asked { Asks past queues (asked_to_pop link result) self.old self.new }
+        ensures pushes { pushes self.new ≡ pushes self.old }
+        ensures pops { pops self.new ≡ pops self.old };
+}

@@ -1,0 +1,21 @@
+//! One actor of a plan: its state, and the step that it does next over any link ends. What that step is,
+//! sig_model says. It stands on sig_values, sig_schedules and sig_flow.
+#![tactic(auto)]
+
+mod answer;
+mod cause;
+mod ends;
+mod guards;
+mod making;
+mod moving;
+mod operating;
+mod plans;
+mod putting;
+mod receiving;
+mod sending;
+mod state;
+mod step;
+
+pub use answer::{Acted, StepAnswer};
+pub use ends::Ends;
+pub use state::ClusterState;

@@ -1,0 +1,52 @@
+//! How an actor goes on in its code.
+
+ghost use Rattle.std.specs.Prelude.{◌≡◌, ◌<◌, ◌+◌, ◌^◌, ℤ, List, slice_get};
+ghost use Rattle.sig_model.specs.Actors.{moved_on, position_of};
+ghost use Rattle.sig_plan.specs.Plans.{PlanView};
+ghost use Rattle.sig_step.specs.Moving.{MayGoOn, MovesOn};
+ghost use Rattle.sig_step.specs.States.{IsStateOf, actor_of};
+ghost use Rattle.sig_values.specs.Values.{AreValuesOf, instant_of, last_in, seen_in};
+
+use crate::state::ClusterState;
+use sig_plan::{Plan, Step};
+
+/// The position of a step, 0 where there is none.
+pub(crate) fn position_of(steps: &[Step], number: u32) -> u32
+    ensures { result ≡ position_of (slice_get steps.now number) }
+{
+    match steps.get(number as usize) {
+        Some(step) => step.pos,
+        None => 0,
+    }
+}
+
+impl ClusterState {
+    /// Goes to the next step, or to the first one of the next instant.
+    pub(crate) fn move_on(&mut self, plan: &Plan)
+        requires { (flows : List (List ℤ)) × MayGoOn plan.now flows self.old }
+        ensures moves { MovesOn plan.now self.old self.new }
+        ensures state { (flows : List (List ℤ)) → MayGoOn plan.now flows self.old → IsStateOf plan.now flows self.new }
+    {
+        let steps = self.code(plan);
+        self.advance(steps.len());
+        self.pos = position_of(steps, self.step);
+    }
+
+    /// Goes on among so many steps.
+    fn advance(&mut self, count: usize)
+        requires step { self.old.step < count }
+        requires short { count < 2 ^ 32 }
+        requires instant { instant_of self.old.values + 1 < 2 ^ 32 }
+        ensures actor { actor_of self.new ≡ moved_on count (actor_of self.old) }
+        ensures last { self.new.step ≡ 0 → last_in self.new.values ≡ seen_in self.old.values }
+        ensures values { (plan : PlanView) (flows : List (List ℤ)) → AreValuesOf plan flows self.old.values → AreValuesOf plan flows self.new.values }
+        ensures stays { self.new ≡ record self.old { step = self.new.step; values = self.new.values } }
+    {
+        if self.step as usize + 1 < count {
+            self.step += 1;
+        } else {
+            self.step = 0;
+            self.values.next_instant();
+        }
+    }
+}

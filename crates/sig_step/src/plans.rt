@@ -1,0 +1,53 @@
+//! The parts of a plan.
+
+ghost use Rattle.std.specs.Prelude.{◌≡◌, ◌<◌, length, slice_get};
+ghost use Rattle.sig_model.specs.Actors.{code_of};
+ghost use Rattle.sig_model.specs.Turns.{carried};
+ghost use Rattle.sig_plan.specs.Plans.{IsAccepted};
+ghost use Rattle.sig_step.specs.Moving.{CanRun};
+
+use sig_base::SigId;
+use sig_kernel::Kernel;
+use sig_plan::{Code, Op, Plan};
+use sig_schedules::accepted_plans_are_runnable;
+
+/// A law: each plan can be run.
+pub(crate) fn plans_can_run(plan: &Plan)
+    ensures { CanRun plan.now }
+{
+    accepted_plans_are_runnable();
+    kernel_of(plan);
+}
+
+/// The kernel of a plan.
+pub(crate) fn kernel_of(plan: &Plan) -> &Kernel
+    ensures kernel { result.now ≡ plan.now.kernel }
+    ensures accepted { IsAccepted plan.now }
+{
+    &plan.kernel
+}
+
+/// The operations of a plan.
+pub(crate) fn ops_of(plan: &Plan) -> &[Op]
+    ensures { result.now ≡ plan.now.ops }
+{
+    plan.ops.as_slice()
+}
+
+/// The code of an actor.
+pub(crate) fn code_at(plan: &Plan, actor: u32) -> &Code
+    requires { actor < length plan.now.codes }
+    ensures { result.now ≡ code_of plan.now actor }
+{
+    &plan.codes[actor as usize]
+}
+
+/// The signal that a link carries, where it carries one.
+pub(crate) fn carried(plan: &Plan, link: u32) -> Option<SigId>
+    ensures { result ≡ carried plan.now.links link }
+{
+    match plan.links.get(link as usize) {
+        Some(link) => link.signal,
+        None => None,
+    }
+}

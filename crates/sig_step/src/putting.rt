@@ -1,0 +1,54 @@
+//! The text of a reaction.
+
+ghost use Rattle.std.specs.Prelude.{◌≤◌, ◌<◌, OnErr, OnOk, length};
+ghost use Rattle.sig_alone.specs.Lines.{line_at};
+ghost use Rattle.sig_kernel.specs.OutputText.{outputs_of, seen_lines};
+ghost use Rattle.sig_step.specs.States.{last_reaction};
+ghost use Rattle.sig_text.specs.Counts.{Rose};
+ghost use Rattle.sig_text.specs.Sink.{TookPrefix};
+ghost use Rattle.sig_values.specs.Values.{last_in};
+
+use crate::plans::kernel_of;
+use crate::state::ClusterState;
+use sig_base::SigId;
+use sig_flow::put_value;
+use sig_kernel::Kernel;
+use sig_plan::Plan;
+use sig_text::{Sink, WriteFault};
+
+impl ClusterState {
+    /// Appends the text of the reaction that the collector committed in its last step; where a write fails,
+    /// a prefix of it. It takes no memory.
+    pub fn put_reaction<S: Sink>(&self, plan: &Plan, sink: &mut S) -> Result<(), WriteFault>
+        ensures all { OnOk result (S.took sink.old (seen_lines (outputs_of plan.now.kernel) (last_reaction plan.now.kernel self.now)) sink.new) }
+        ensures prefix { OnErr result (TookPrefix S.took sink.old (seen_lines (outputs_of plan.now.kernel) (last_reaction plan.now.kernel self.now)) sink.new) }
+        ensures failed { OnErr result (Rose (S.faults sink.old) (S.faults sink.new)) }
+        ensures faults_stay { S.faults sink.old ≤ S.faults sink.new }
+    {
+        let kernel = kernel_of(plan);
+        for output in 0..kernel.outputs {
+            self.put_signal(kernel, kernel.inputs + output, sink)?;
+        }
+        Ok(())
+    }
+
+    /// Appends the line of a signal, where it was present in the instant before.
+    fn put_signal<S: Sink>(
+        &self,
+        kernel: &Kernel,
+        number: u32,
+        sink: &mut S,
+    ) -> Result<(), WriteFault>
+        requires { number < length kernel.now.signals }
+        ensures all { OnOk result (S.took sink.old (line_at kernel.now (last_in self.now.values) number) sink.new) }
+        ensures prefix { OnErr result (TookPrefix S.took sink.old (line_at kernel.now (last_in self.now.values) number) sink.new) }
+        ensures failed { OnErr result (Rose (S.faults sink.old) (S.faults sink.new)) }
+        ensures faults_stay { S.faults sink.old ≤ S.faults sink.new }
+    {
+        let signal = &kernel.signals.as_slice()[number as usize];
+        match self.values.last_seen(SigId(number)) {
+            Some(value) => put_value(sink, &signal.name, signal.kind, value),
+            None => Ok(()),
+        }
+    }
+}

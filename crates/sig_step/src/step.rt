@@ -1,0 +1,141 @@
+//! The next step of an actor.
+
+ghost use Rattle.std.specs.Prelude.{◌≡◌, ◌≤◌, ℕ, false, length, slice_get, if◌then◌else◌};
+ghost use Rattle.sig_model.specs.Actors.{code_of, moved_on};
+ghost use Rattle.sig_model.specs.Turns.{Goes, turn, turn_at, turn_by};
+ghost use Rattle.sig_step.specs.Acting.{Counts, MayDo, MayUse, TakesTurn};
+ghost use Rattle.sig_step.specs.LinkEnds.{HasSentFew};
+ghost use Rattle.sig_step.specs.Moving.{IsReady, IsSameActor};
+ghost use Rattle.sig_step.specs.States.{IsStateOf, actor_of};
+ghost use Rattle.sig_values.specs.Values.{instant_of};
+
+use crate::answer::Acted;
+use crate::ends::Ends;
+use crate::plans::{carried, plans_can_run};
+use crate::state::ClusterState;
+use sig_dd::Steps;
+use sig_kernel::Inputs;
+use sig_plan::{Plan, StepKind};
+use std::sync::ledger::Ledger;
+
+impl ClusterState {
+    /// Does the next step of the actor, with its link ends, and counts the nodes that walks of guards
+    /// visit. A guard is walked once in an instant at most, and only where that of its parent holds. It
+    /// takes no memory.
+    pub fn act<E: Ends, L: Ledger>(
+        &mut self,
+        plan: &Plan,
+        inputs: &Inputs,
+        ends: &mut E,
+        steps: &mut Steps<L>,
+    ) -> Acted
+        requires state { IsStateOf plan.now inputs.now self.old }
+        requires links { MayUse plan.now self.old.actor (E.pushes ends.old) (E.pops ends.old) }
+        requires few { (j : ℕ) → HasSentFew (E.past ends.old) j }
+        ensures state { IsStateOf plan.now inputs.now self.new }
+        ensures same { IsSameActor self.old self.new }
+        ensures turn { TakesTurn E.past E.queues plan.now.kernel (turn plan.now inputs.now self.old.limit self.old.actor (actor_of self.old))
+            result self.old self.new ends.old ends.new }
+        ensures pushes { E.pushes ends.new ≡ E.pushes ends.old }
+        ensures pops { E.pops ends.new ≡ E.pops ends.old }
+        ensures counts { Counts plan.now self.old steps.old steps.new }
+    {
+        if self.ended {
+            return Acted::Stopped;
+        }
+        if self.values.instant() > self.limit {
+            self.ended = true;
+            return Acted::AtLimit;
+        }
+        self.take_step(plan, inputs, ends, steps)
+    }
+
+    /// Does the next step within the limit.
+    fn take_step<E: Ends, L: Ledger>(
+        &mut self,
+        plan: &Plan,
+        inputs: &Inputs,
+        ends: &mut E,
+        steps: &mut Steps<L>,
+    ) -> Acted
+        requires state { IsStateOf plan.now inputs.now self.old }
+        requires runs { self.old.ended ≡ false }
+        requires within { instant_of self.old.values ≤ self.old.limit }
+        requires links { MayUse plan.now self.old.actor (E.pushes ends.old) (E.pops ends.old) }
+        requires few { (j : ℕ) → HasSentFew (E.past ends.old) j }
+        ensures state { IsStateOf plan.now inputs.now self.new }
+        ensures same { IsSameActor self.old self.new }
+        ensures turn { TakesTurn E.past E.queues plan.now.kernel (turn_at plan.now inputs.now (code_of plan.now self.old.actor) (actor_of self.old) (slice_get (code_of plan.now self.old.actor).steps self.old.step))
+            result self.old self.new ends.old ends.new }
+        ensures pushes { E.pushes ends.new ≡ E.pushes ends.old }
+        ensures pops { E.pops ends.new ≡ E.pops ends.old }
+        ensures counts { Counts plan.now self.old steps.old steps.new }
+    {
+        plans_can_run(plan);
+        let step = self.next_step(plan);
+        let holds = self.holds(plan, step.slot, steps);
+        self.do_or_pass(plan, inputs, ends, step.kind, holds)
+    }
+
+    /// Does a step whose guard holds, and passes over another.
+    fn do_or_pass<E: Ends>(
+        &mut self,
+        plan: &Plan,
+        inputs: &Inputs,
+        ends: &mut E,
+        kind: StepKind,
+        holds: bool,
+    ) -> Acted
+        requires ready { IsReady plan.now inputs.now self.old kind }
+        requires links { MayDo (E.pushes ends.old) (E.pops ends.old) kind }
+        requires few { (j : ℕ) → HasSentFew (E.past ends.old) j }
+        ensures state { IsStateOf plan.now inputs.now self.new }
+        ensures same { IsSameActor self.old self.new }
+        ensures turn { TakesTurn E.past E.queues plan.now.kernel
+            (if holds then turn_by plan.now inputs.now (code_of plan.now self.old.actor) (actor_of self.old) kind else Goes (moved_on (length (code_of plan.now self.old.actor).steps) (actor_of self.old)))
+            result self.old self.new ends.old ends.new }
+        ensures pushes { E.pushes ends.new ≡ E.pushes ends.old }
+        ensures pops { E.pops ends.new ≡ E.pops ends.old }
+    {
+        if holds {
+            self.perform(plan, inputs, ends, kind)
+        } else {
+            self.move_on(plan);
+            Acted::Done
+        }
+    }
+
+    /// Does a step whose guard holds.
+    fn perform<E: Ends>(
+        &mut self,
+        plan: &Plan,
+        inputs: &Inputs,
+        ends: &mut E,
+        kind: StepKind,
+    ) -> Acted
+        requires ready { IsReady plan.now inputs.now self.old kind }
+        requires links { MayDo (E.pushes ends.old) (E.pops ends.old) kind }
+        requires few { (j : ℕ) → HasSentFew (E.past ends.old) j }
+        ensures state { IsStateOf plan.now inputs.now self.new }
+        ensures same { IsSameActor self.old self.new }
+        ensures turn { TakesTurn E.past E.queues plan.now.kernel (turn_by plan.now inputs.now (code_of plan.now self.old.actor) (actor_of self.old) kind)
+            result self.old self.new ends.old ends.new }
+        ensures pushes { E.pushes ends.new ≡ E.pushes ends.old }
+        ensures pops { E.pops ends.new ≡ E.pops ends.old }
+    {
+        match kind {
+            StepKind::Do(o) => self.operate(plan, inputs, o),
+            StepKind::Send(j) => {
+                let item = self.item(carried(plan, j));
+                self.send(plan, inputs, ends, j, item)
+            }
+            StepKind::Report(j) => self.send(plan, inputs, ends, j, 0),
+            StepKind::Receive(j) => self.receive(plan, inputs, ends, j, carried(plan, j)),
+            StepKind::Collect(j) => self.receive(plan, inputs, ends, j, None),
+            StepKind::Commit => {
+                self.move_on(plan);
+                Acted::Commit
+            }
+        }
+    }
+}

@@ -1,0 +1,5 @@
+pub mod Behind
+pub mod Functions
+pub mod Opening
+pub mod Remainders
+pub mod Writing

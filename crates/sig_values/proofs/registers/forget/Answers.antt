@@ -1,0 +1,11 @@
+use Rattle.std.proofs.Common.{◌∙◌, ap, false, replicate, arith}
+use Rattle.sig_values.proofs.Writing.{all_false, one_more_false}
+use Rattle.sig_values.proofs.registers.forget.Goals as goal
+
+pub loop-i-preserved : goal.loop-i-preserved
+loop-i-preserved c = one_more_false c.loop-i.truths c.loop-i.i (omega arith) c.loop-i.invariant
+
+pub returns : goal.returns
+returns c =
+    all_false c.loop-i.truths (λ k below. c.loop-i.invariant k (omega (arith, below, c.loop-i-test.false, c.loop-i.auto.truths)))
+    ∙ ap (λ n. replicate n false) c.loop-i.auto.truths

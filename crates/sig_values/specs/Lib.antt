@@ -1,0 +1,4 @@
+pub mod Answers
+pub mod Making
+pub mod Registers
+pub mod Values
