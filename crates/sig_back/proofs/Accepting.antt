@@ -16,7 +16,6 @@ use Rattle.sig_dd.specs.declared.node.Node.{Node}
 use Rattle.sig_dd.specs.declared.node.Ref.{Ref}
 use Rattle.sig_kernel.specs.Validity.{IsValid}
 use Rattle.sig_kernel.specs.declared.kernel.Kernel.{Kernel}
-use Rattle.sig_plan.proofs.Accepted.{operations_made_are}
 use Rattle.sig_plan.proofs.FaultOnce.{accepted_or_refused, fault_once}
 use Rattle.sig_plan.specs.Acceptance.{HasOperations, IsAcceptedKernel, IsRefusedFor, KernelFault}
 use Rattle.sig_plan.specs.Operations.{AreOperations, function_in, operations_in, presence_in}
@@ -29,10 +28,24 @@ refuses kernel fault kind signals (Refused told) refused same is = (fault, refus
 refuses kernel fault kind signals (Budget nodes) refused same is = absurd is
 refuses kernel fault kind signals OutOfMemory refused same is = tt
 
+present : {X : Type 0} (xs : List X) (k : ℕ) → k < length xs → (x : X) × (slice_get xs k ≡ Some x)
+present [] k lt = absurd (omega (arith, lt))
+present (x ∷ xs) zero lt = (x, refl)
+present (x ∷ xs) (suc k) lt = present xs k (omega (arith, lt))
+
 -- the operations that were made are the kernel's
 pub operations : (kernel : Kernel) (nodes : List Node) (clocks : ClocksView) (ops : List Op) → HasClocks kernel → AreClocks kernel nodes clocks
     → AreOperations kernel nodes clocks ops → HasOperations kernel clocks.conditions (operations_in nodes ops)
-operations kernel nodes clocks ops has are made = operations_made_are kernel nodes clocks ops has are made
+operations kernel nodes clocks ops has are made = record {
+  clocks = has;
+  order = are.conditions;
+  presence = presence_in nodes clocks;
+  functions = λ signal is. let there = present clocks.guard (slice_index clocks.class_of signal) (are.classes signal is) in of signal is there.0 there.1;
+  are = made.are;
+} where
+  of : (signal : ℕ) → IsSignal kernel signal → (guard : Ref) → guard_of clocks signal ≡ Some guard
+      → IsClockFunction kernel clocks.conditions signal (presence_in nodes clocks (signal_id signal))
+  of signal is guard e = subst (λ (o : Option Ref). IsClockFunction kernel clocks.conditions signal (function_in nodes o)) (sym e) (are.functions signal _ is e)
 
 -- an accepted kernel is not refused
 pub given : {T : Type 0} (kernel : Kernel) (result : Result T BackAnswer) → IsValid kernel → IfErr result (IsRefusal kernel) → IsAcceptedKernel kernel → IfErr result IsWanting

@@ -1,7 +1,9 @@
 -- A kernel within the bound does not run out of nodes.
-use Rattle.std.proofs.Common.{◌≡◌, ◌<◌, ◌≤◌, ◌⊎◌, inl, inr, ℕ, true, false, eqb, List, [], length, map, filter, get_or, slice_get, sym, ap, ◌∙◌, subst, arith}
+use Rattle.std.proofs.Common.{◌≡◌, ◌<◌, ◌≤◌, ◌+◌, ◌*◌, ◌^◌, ◌⊎◌, inl, inr, ℕ, Bool, true, false, eqb, List, [], length, map, filter, get_or, slice_get, sym, ap, ◌∙◌, subst, arith}
 use Rattle.std.specs.Prelude.{Some, Result}
 use Rattle.std.specs.List.{list_any, range_with_len}
+use Rattle.std.proofs.Math.Nat.{mul-le-mul_right}
+use Rattle.std.proofs.Math.Pow.{pow_mono}
 use Rattle.std.proofs.lemmas.Cmp.{nat_eq_equiv}
 use Rattle.std.proofs.lemmas.List.{get_or-map}
 use Rattle.std.proofs.lemmas.List.Sums.{length-filter}
@@ -12,7 +14,7 @@ use Rattle.sig_base.specs.declared.limits.TheConstants.{NODES}
 use Rattle.sig_back.specs.Answers.{HasNoRoomFor, IsBeyondBound}
 use Rattle.sig_back.specs.Budgets.{Spends}
 use Rattle.sig_clock.specs.Clocks.{AreClocks, ClocksView}
-use Rattle.sig_clock.specs.Conditions.{is_condition, signal_id}
+use Rattle.sig_clock.specs.Conditions.{conditions_of, is_condition, signal_id}
 use Rattle.sig_clock.specs.Layers.{HasLayer, IsEarlier}
 use Rattle.sig_clock.proofs.LayerLemmas.{one_layer}
 use Rattle.sig_dd.specs.Nodes.{Keeps, StoreView}
@@ -22,7 +24,8 @@ use Rattle.sig_plan.specs.Shares.{IsRefusedFor}
 use Rattle.sig_plan.specs.declared.answer.PlanAnswer.{PlanAnswer}
 use Rattle.sig_plan.specs.declared.answer.PlanAnswer.TheVariants.{Budget as NoNodes}
 use Rattle.sig_rel.specs.Relations.{IsUnknownCount, is_boolean}
-use Rattle.sig_solve.specs.Refusals.{HasNoRoom, KeepsToShare, share_of}
+use Rattle.sig_rel.specs.Triangles.{IsTriangular}
+use Rattle.sig_solve.specs.Refusals.{HasNoRoom, KeepsToShare, KeepsToTriangularShare, share_of, triangular_share_of}
 use Rattle.sig_solve.specs.declared.answer.ClockAnswer.{ClockAnswer}
 use Rattle.sig_solve.specs.declared.answer.ClockAnswer.TheVariants.{Dead, MissingRoot, Unsolved, Pinned, Budget, OutOfMemory}
 use Rattle.sig_solve.proofs.ListLemmas.{any_is, apart-eqb, get_at, in_filter, in_range, is_any, map_length, of_map}
@@ -41,13 +44,13 @@ never_earlier kernel c d same is = by is.before where
   by (inl less) = omega (arith, less, layers)
   by (inr (e, less)) = omega (arith, less, same)
 
--- the conditions are no more than the booleans, and so no more than the unknowns
-pub few_conditions : (kernel : Kernel) (nodes : List Node) (clocks : ClocksView) → AreClocks kernel nodes clocks
-    → (unknowns : ℕ) → IsUnknownCount kernel unknowns → length clocks.conditions ≤ unknowns
+-- the conditions in their order are no more than numbers of signals that hold of each condition
+fewer_conditions : (kernel : Kernel) (nodes : List Node) (clocks : ClocksView) → AreClocks kernel nodes clocks → (p : ℕ → Bool) → ((x : ℕ) → is_condition kernel x ≡ true → p x ≡ true)
+    → length clocks.conditions ≤ length (filter p (range_with_len 0 (length kernel.signals)))
 unfolding number
-few_conditions kernel nodes clocks are unknowns (least, is, sum) =
-    let fewer : length own ≤ length booleans = length-le_from_is_member nat_eq_equiv own booleans (IsDistinct-from_apart eqb own apart) among in
-    omega (arith, fewer, length-filter (is_boolean kernel) range, map_length number clocks.conditions, sum)
+fewer_conditions kernel nodes clocks are p holds =
+    let fewer : length own ≤ length wide = length-le_from_is_member nat_eq_equiv own wide (IsDistinct-from_apart eqb own apart) among in
+    omega (arith, fewer, map_length number clocks.conditions)
   where
     range : List ℕ
     range = range_with_len 0 (length kernel.signals)
@@ -55,8 +58,8 @@ few_conditions kernel nodes clocks are unknowns (least, is, sum) =
     own : List ℕ
     own = map number clocks.conditions
 
-    booleans : List ℕ
-    booleans = filter (is_boolean kernel) range
+    wide : List ℕ
+    wide = filter p range
 
     at : (i : ℕ) → i < length own → slice_get clocks.conditions i ≡ Some (get_or clocks.conditions i (signal_id 0))
     at i lt = get_at clocks.conditions i (signal_id 0) (omega (arith, lt, map_length number clocks.conditions))
@@ -69,44 +72,89 @@ few_conditions kernel nodes clocks are unknowns (least, is, sum) =
         never_earlier kernel _ _ (sym (own_at i d (omega (arith, less, lt))) ∙ same ∙ own_at j d lt)
         (are.conditions.order i j _ _ less (at i (omega (arith, less, lt))) (at j lt)))
 
-    among : (q : ℕ) → list_any (eqb q) own ≡ true → list_any (eqb q) booleans ≡ true
+    among : (q : ℕ) → list_any (eqb q) own ≡ true → list_any (eqb q) wide ≡ true
     among q there =
         let (x, in_own, same) = any_is (eqb q) own there in
         let (c, in_conditions, e) = of_map number clocks.conditions x in_own in
         let is_x : is_condition kernel x ≡ true = subst (λ n. is_condition kernel n ≡ true) (sym e) ((are.conditions.all c).0 in_conditions) in
-        is_any (eqb q) booleans x (in_filter (is_boolean kernel) range x (in_range (length kernel.signals) x (condition_is_signal kernel x is_x)) (condition_is_boolean kernel x is_x)) same
+        is_any (eqb q) wide x (in_filter p range x (in_range (length kernel.signals) x (condition_is_signal kernel x is_x)) (holds x is_x)) same
+
+-- the conditions are no more than the booleans, and so no more than the unknowns
+pub few_conditions : (kernel : Kernel) (nodes : List Node) (clocks : ClocksView) → AreClocks kernel nodes clocks
+    → (unknowns : ℕ) → IsUnknownCount kernel unknowns → length clocks.conditions ≤ unknowns
+few_conditions kernel nodes clocks are unknowns (least, is, sum) =
+    omega (arith, fewer_conditions kernel nodes clocks are (is_boolean kernel) (λ x is_x. condition_is_boolean kernel x is_x), length-filter (is_boolean kernel) (range_with_len 0 (length kernel.signals)), sum)
+
+-- no condition is counted twice
+pub all_conditions : (kernel : Kernel) (nodes : List Node) (clocks : ClocksView) → AreClocks kernel nodes clocks → length clocks.conditions ≤ length (conditions_of kernel)
+all_conditions kernel nodes clocks are =
+    omega (arith, fewer_conditions kernel nodes clocks are (is_condition kernel) (λ x is_x. is_x), map_length signal_id (filter (is_condition kernel) (range_with_len 0 (length kernel.signals))))
 
 -- what a store without nodes holds behind the clocks
 pub spends : {T : Type 0} (kernel : Kernel) (old new : StoreView) (result : Result T ClockAnswer) → old.nodes ≡ [] → old.made_for ≡ NODES → Keeps old new
-    → KeepsToShare kernel old new result → Spends kernel new
-spends kernel old new result empty made kept share = record {
+    → KeepsToShare kernel old new result → KeepsToTriangularShare kernel old new result → Spends kernel new
+spends kernel old new result empty made kept share own = record {
   made_for = kept.made_for ∙ made;
   share = λ u counted. let none : length old.nodes ≡ 0 = ap length empty in omega (arith, none, (share u counted).added);
+  triangular = λ is. let none : length old.nodes ≡ 0 = ap length empty in omega (arith, none, (own is).added);
 }
+
+-- a kernel within a bound has room for the clocks and the operations
+within_bound : (p x : ℕ) → p * 36 * x + p * 3 * x ≡ p * 39 * x
+within_bound p x = omega arith
 
 -- the clocks find no room only for a kernel that is not within the bound
 pub no_room : (kernel : Kernel) (old new : StoreView) (answer : ClockAnswer) → old.nodes ≡ [] → old.made_for ≡ NODES → Keeps old new
-    → ((unknowns : ℕ) → IsUnknownCount kernel unknowns → HasNoRoom old new (share_of kernel unknowns) answer) → HasNoRoomFor kernel answer
-no_room kernel old new Dead empty made kept room = tt
-no_room kernel old new (MissingRoot x y) empty made kept room = tt
-no_room kernel old new (Unsolved x) empty made kept room = tt
-no_room kernel old new (Pinned b) empty made kept room = tt
-no_room kernel old new OutOfMemory empty made kept room = tt
-no_room kernel old new (Budget n) empty made kept room = λ meets.
-    let (full, less) = room meets.unknowns meets.counted in
+    → ((unknowns : ℕ) → IsUnknownCount kernel unknowns → HasNoRoom old new (share_of kernel unknowns) answer) → (IsTriangular kernel → HasNoRoom old new (triangular_share_of kernel) answer) → HasNoRoomFor kernel answer
+no_room kernel old new Dead empty made kept room own = tt
+no_room kernel old new (MissingRoot x y) empty made kept room own = tt
+no_room kernel old new (Unsolved x) empty made kept room own = tt
+no_room kernel old new (Pinned b) empty made kept room own = tt
+no_room kernel old new OutOfMemory empty made kept room own = tt
+no_room kernel old new (Budget n) empty made kept room own = λ meets.
     let none : length old.nodes ≡ 0 = ap length empty in
-    let fits = meets.fits in
-    let is : n ≡ NODES = sym full.0 ∙ kept.made_for ∙ made in
-    omega (arith, less, none, fits, is)
+    elim meets [
+      | inl at ↦
+          let (full, less) = room at.unknowns at.counted in
+          let fits = at.fits in
+          let is : n ≡ NODES = sym full.0 ∙ kept.made_for ∙ made in
+          omega (arith, less, none, fits, is)
+      | inr at ↦
+          let (full, less) = own at.triangular in
+          let fits = at.fits in
+          let is : n ≡ NODES = sym full.0 ∙ kept.made_for ∙ made in
+          let both = within_bound (2 ^ length (conditions_of kernel)) (length kernel.equations + 1) in
+          omega (arith, less, none, fits, is, both)
+    ]
+
+-- powers rise
+powers_rise : (a b : ℕ) → a ≤ b → 2 ^ a ≤ 2 ^ b
+powers_rise a b le = pow_mono le
+
+-- three calls over fewer conditions
+fewer_calls : (p r x room : ℕ) → room ≤ p * 3 * x → p ≤ r → room ≤ r * 3 * x
+fewer_calls p r x room small le =
+    let one : p * 3 ≤ r * 3 = mul-le-mul_right 3 le in
+    let two : p * 3 * x ≤ r * 3 * x = mul-le-mul_right x one in
+    omega (arith, small, two)
 
 -- and so do the operations
 pub no_room_for_operations : (kernel : Kernel) (old new : StoreView) (clocks : ClocksView) (n room : ℕ) → AreClocks kernel old.nodes clocks → Spends kernel old → Keeps old new
-    → ((unknowns : ℕ) → length clocks.conditions ≤ unknowns → room ≤ share_of kernel unknowns)
+    → ((unknowns : ℕ) → length clocks.conditions ≤ unknowns → room ≤ share_of kernel unknowns) → room ≤ 2 ^ length clocks.conditions * 3 * (length kernel.equations + 1)
     → (answer : PlanAnswer) → answer ≡ NoNodes n → IsRefusedFor old new room answer → IsBeyondBound kernel
-no_room_for_operations kernel old new clocks n room are spent kept small answer named refused = λ meets.
+no_room_for_operations kernel old new clocks n room are spent kept small few answer named refused = λ meets.
     let (full, less) = subst (IsRefusedFor old new room) named refused in
-    let held = spent.share meets.unknowns meets.counted in
-    let needed = small meets.unknowns (few_conditions kernel old.nodes clocks are meets.unknowns meets.counted) in
-    let fits = meets.fits in
     let is : n ≡ NODES = sym full.0 ∙ kept.made_for ∙ spent.made_for in
-    omega (arith, less, held, needed, fits, is)
+    elim meets [
+      | inl at ↦
+          let held = spent.share at.unknowns at.counted in
+          let needed = small at.unknowns (few_conditions kernel old.nodes clocks are at.unknowns at.counted) in
+          let fits = at.fits in
+          omega (arith, less, held, needed, fits, is)
+      | inr at ↦
+          let held = spent.triangular at.triangular in
+          let needed = fewer_calls (2 ^ length clocks.conditions) (2 ^ length (conditions_of kernel)) (length kernel.equations + 1) room few (powers_rise (length clocks.conditions) (length (conditions_of kernel)) (all_conditions kernel old.nodes clocks are)) in
+          let fits = at.fits in
+          let both = within_bound (2 ^ length (conditions_of kernel)) (length kernel.equations + 1) in
+          omega (arith, less, held, needed, fits, is, both)
+    ]

@@ -2,3 +2,4 @@ pub mod Answers
 pub mod Budgets
 pub mod Faults
 pub mod Shown
+pub mod Reacting

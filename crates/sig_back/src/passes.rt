@@ -4,11 +4,13 @@ ghost use Rattle.std.specs.Prelude.{◌≡◌, ◌≤◌, [], IfErr, IfOk, IsErr
 ghost use Rattle.sig_back.specs.Answers.{IsRefusal, IsToldUnlessWanting, IsWanting};
 ghost use Rattle.sig_back.specs.Budgets.{Spends};
 ghost use Rattle.sig_back.specs.Faults.{told_as};
+ghost use Rattle.sig_back.specs.Reacting.{HasLongestTraces};
 ghost use Rattle.sig_base.specs.declared.limits.TheConstants.{LINKS, NODES};
 ghost use Rattle.sig_clock.specs.ClockRefusals.{HasClocks};
 ghost use Rattle.sig_clock.specs.Clocks.{AreClocks};
 ghost use Rattle.sig_dd.specs.Nodes.{IsStore};
 ghost use Rattle.sig_kernel.specs.Validity.{IsValid};
+ghost use Rattle.sig_meaning.specs.Reactions.{HasOneReaction};
 ghost use Rattle.sig_plan.specs.Acceptance.{IsAcceptedKernel, IsRefusedFor, KernelFault};
 ghost use Rattle.sig_plan.specs.Operations.{AreOperations, operations_in};
 ghost use Rattle.sig_plan.specs.Order.{HasNoCycle, IsCompiledOrder};
@@ -17,6 +19,7 @@ ghost use Rattle.sig_plan.specs.Plans.{numbers_of};
 
 use crate::answer::BackAnswer;
 use crate::fault::BackKind;
+use crate::reacting::plans_react;
 use crate::telling::{told, told_of_clocks};
 use sig_base::OpId;
 use sig_base::limits::NODES;
@@ -42,12 +45,23 @@ pub fn back(alloc: Global, kernel: Kernel) -> Result<Plan, BackAnswer>
     ensures room { IfOk result (λ plan. plan.store.made_for ≡ NODES) }
     ensures refused { IfErr result (IsRefusal kernel) }
 
+    // Whatever the delays remember and the inputs have next, exactly one instant that is not silent is possible; so for all
+    // flows and limits there is a longest trace.
+    ensures reaction { IfOk result (λ plan. HasOneReaction plan.kernel) }
+    ensures longest { IfOk result (λ plan. HasLongestTraces plan.kernel) }
+
     // A kernel that is accepted has its plan given, and one that is refused is refused for its one fault, unless
     // memory runs out or the nodes do not suffice.
     ensures given { IsAcceptedKernel kernel → IfErr result IsWanting }
     ensures first { (fault : KernelFault) → IsRefusedFor kernel fault → IsErrAnd result (IsToldUnlessWanting (told_as kernel fault)) }
 {
-    plan_of(alloc, kernel)
+    match plan_of(alloc, kernel) {
+        Ok(plan) => {
+            plans_react(&plan);
+            Ok(plan)
+        }
+        Err(answer) => Err(answer),
+    }
 }
 
 /// The plan of a kernel, or its first fault.

@@ -1,8 +1,12 @@
+use Rattle.std.specs.Prelude.{Err, Ok}
 use Rattle.sig_back.proofs.Accepting.{first, given}
 use Rattle.sig_back.proofs.passes.back.Goals as goal
 
-pub returns-clause-given : goal.returns-clause-given
-returns-clause-given c = given c.args.kernel c.plan_of.result c.requires.valid c.plan_of.ensures.refused
+pub returns-in-Ok-clause-first : goal.returns-in-Ok-clause-first
+returns-in-Ok-clause-first c = first c.args.kernel (Ok c.in-Ok.plan) c.requires.valid c.in-Ok.ensures.accepted tt
 
-pub returns-clause-first : goal.returns-clause-first
-returns-clause-first c = first c.args.kernel c.plan_of.result c.requires.valid c.plan_of.ensures.accepted c.plan_of.ensures.refused
+pub returns-in-Err-clause-given : goal.returns-in-Err-clause-given
+returns-in-Err-clause-given c = given {T = Unit {0}} c.args.kernel (Err c.in-Err.answer) c.requires.valid c.in-Err.ensures.refused
+
+pub returns-in-Err-clause-first : goal.returns-in-Err-clause-first
+returns-in-Err-clause-first c = first {T = Unit {0}} c.args.kernel (Err c.in-Err.answer) c.requires.valid tt c.in-Err.ensures.refused
