@@ -13,7 +13,7 @@ use Rattle.sig_kernel.specs.declared.kernel.Kernel.{Kernel}
 use Rattle.sig_outcome.specs.Outcomes.{OneAtMost, WritesDue, done}
 use Rattle.sig_outcome.specs.Refusals.{status_of}
 use Rattle.sig_outcome.specs.declared.refusal.Refusal.{Refusal}
-use Rattle.sig_outcome.specs.declared.refusal.Refusal.TheVariants.{Missing, ReadFault, LongProgram, Program, Budget, LongFile, Data, OutOfMemory}
+use Rattle.sig_outcome.specs.declared.refusal.Refusal.TheVariants.{Missing, ReadFault, LongProgram, Program, Budget, TooManyItems, LongFile, Data, OutOfMemory}
 use Rattle.sig_outcome.proofs.Stages.{one_at_program}
 use Rattle.sig_compile.specs.Acceptance.{AreRefused, IsAcceptedAs}
 use Rattle.sig_compile.specs.Compiling.{CompileComesTo, IsAboutPlan, IsCompileStatus, IsDueOf}
@@ -44,6 +44,7 @@ compile_number program (ReadFault n) about = inr (inr (inr (inl refl)))
 compile_number program LongProgram about = inr (inr (inl refl))
 compile_number program (Program line) about = inr (inr (inl refl))
 compile_number program (Budget nodes) about = inr (inr (inr (inr (inr refl))))
+compile_number program TooManyItems about = absurd about
 compile_number program (LongFile n) about = absurd about
 compile_number program (Data line) about = absurd about
 compile_number program OutOfMemory about = inr (inr (inr (inr (inl refl))))
@@ -67,6 +68,7 @@ print_number program (ReadFault n) about = inr (inr (inr (inl refl)))
 print_number program LongProgram about = inr (inr (inl refl))
 print_number program (Program line) about = inr (inr (inl refl))
 print_number program (Budget nodes) about = absurd about
+print_number program TooManyItems about = absurd about
 print_number program (LongFile n) about = absurd about
 print_number program (Data line) about = absurd about
 print_number program OutOfMemory about = inr (inr (inr (inr refl)))

@@ -8,10 +8,12 @@
 mod check;
 mod compile;
 mod laws;
+mod load;
 mod print;
 mod product;
 
 pub use check::compile_command;
 pub use laws::one_verdict;
+pub use load::load_plan;
 pub use print::print_command;
 pub use product::Product;

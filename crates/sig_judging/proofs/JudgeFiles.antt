@@ -13,7 +13,7 @@ use Rattle.sig_outcome.specs.Outcomes.{Good}
 use Rattle.sig_outcome.specs.Refusals.{HasCount, IsOfData, IsOwn, outcome_of, status_of}
 use Rattle.sig_outcome.specs.Tasks.{Reaches, Stops}
 use Rattle.sig_outcome.specs.declared.refusal.Refusal.{Refusal}
-use Rattle.sig_outcome.specs.declared.refusal.Refusal.TheVariants.{Missing, ReadFault, LongProgram, Program, Budget, LongFile, Data, OutOfMemory}
+use Rattle.sig_outcome.specs.declared.refusal.Refusal.TheVariants.{Missing, ReadFault, LongProgram, Program, Budget, TooManyItems, LongFile, Data, OutOfMemory}
 use Rattle.sig_outcome.proofs.Refused.{later_count, later_own, told_both}
 use Rattle.sig_judging.specs.Judging.{AtFlat, AtTrace, FindsFlat, FindsTrace, IsAboutFlat, IsAboutJudge, IsAboutTrace, IsJudgeStatus, JudgeComesTo, judged, judging}
 use Rattle.sig_judging.proofs.OneJudging.{flat_refuses, judges, trace_refuses}
@@ -25,6 +25,7 @@ judge_number program traces (ReadFault n) about = inr (inr (inr (inr (inl refl))
 judge_number program traces LongProgram about = inr (inr (inl refl))
 judge_number program traces (Program line) about = inr (inr (inl refl))
 judge_number program traces (Budget nodes) about = absurd (⊎_elim (λ x. x) (λ x. x) about)
+judge_number program traces TooManyItems about = absurd (⊎_elim (λ x. x) (λ x. x) about)
 judge_number program traces (LongFile n) about = inr (inr (inr (inl refl)))
 judge_number program traces (Data line) about = inr (inr (inr (inl refl)))
 judge_number program traces OutOfMemory about = inr (inr (inr (inr (inr refl))))
@@ -35,6 +36,7 @@ no_budget program traces (ReadFault n) about eight = omega (arith, eight)
 no_budget program traces LongProgram about eight = omega (arith, eight)
 no_budget program traces (Program line) about eight = omega (arith, eight)
 no_budget program traces (Budget nodes) about eight = ⊎_elim (λ x. x) (λ x. x) about
+no_budget program traces TooManyItems about eight = omega (arith, eight)
 no_budget program traces (LongFile n) about eight = omega (arith, eight)
 no_budget program traces (Data line) about eight = omega (arith, eight)
 no_budget program traces OutOfMemory about eight = omega (arith, eight)

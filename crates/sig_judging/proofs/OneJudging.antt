@@ -41,7 +41,7 @@ one_judge_outcome program traces held =
     (λ flat. AtTrace held traces flat.signals (λ trace. JudgesTo flat trace traces))
     (λ flat bytes is.
     one_at_data (IsTraceFile flat.signals) (RefusesTrace traces flat.signals) (one_trace flat.signals) (no_trace_line traces flat.signals) (trace_apart traces flat.signals) held traces
-    (λ trace. JudgesTo flat trace traces) (λ trace. one_verdict_outcome flat trace traces))
+    (λ trace. JudgesTo flat trace traces) (λ trace bytes is. one_verdict_outcome flat trace traces))
 
 -- ---- what it comes to
 

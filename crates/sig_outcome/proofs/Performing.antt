@@ -7,9 +7,9 @@ use Rattle.sig_text.specs.Files.{Contents, name_where_there}
 use Rattle.sig_text.specs.Sink.{TookPrefix}
 use Rattle.sig_outcome.specs.Outcomes.{OneAtMost, Outcome}
 use Rattle.sig_outcome.specs.Refusals.{HasCount, IsOwn, line_of, outcome_of, status_of}
-use Rattle.sig_outcome.specs.Tasks.{IsDone, IsDue, IsRefused, MayAnswer, Owes, Performs, Reaches, Stops, Task, Writes, memory_line, write_line}
+use Rattle.sig_outcome.specs.Tasks.{IsDone, IsDue, IsRefused, MayAnswer, Owes, Performs, Reaches, Stops, Task, Writes, items_line, memory_line, write_line}
 use Rattle.sig_outcome.specs.declared.refusal.Refusal.{Refusal}
-use Rattle.sig_outcome.specs.declared.refusal.Refusal.TheVariants.{Missing, ReadFault, LongProgram, Program, Budget, LongFile, Data, OutOfMemory}
+use Rattle.sig_outcome.specs.declared.refusal.Refusal.TheVariants.{Missing, ReadFault, LongProgram, Program, Budget, TooManyItems, LongFile, Data, OutOfMemory}
 use Rattle.sig_outcome.proofs.Refused.{told, told_both}
 
 -- ---- statuses
@@ -38,6 +38,7 @@ refused_status (ReadFault name) = inr (inr (inr (inl refl)))
 refused_status LongProgram = inl refl
 refused_status (Program line) = inl refl
 refused_status (Budget nodes) = inr (inr (inr (inr (inr refl))))
+refused_status TooManyItems = inr (inl refl)
 refused_status (LongFile name) = inr (inr (inl refl))
 refused_status (Data line) = inr (inr (inl refl))
 refused_status OutOfMemory = inr (inr (inr (inr (inl refl))))
@@ -48,9 +49,21 @@ memory_said (ReadFault name) Said is line = absurd (omega (arith, is))
 memory_said LongProgram Said is line = absurd (omega (arith, is))
 memory_said (Program text) Said is line = absurd (omega (arith, is))
 memory_said (Budget nodes) Said is line = absurd (omega (arith, is))
+memory_said TooManyItems Said is line = absurd (omega (arith, is))
 memory_said (LongFile name) Said is line = absurd (omega (arith, is))
 memory_said (Data text) Said is line = absurd (omega (arith, is))
 memory_said OutOfMemory Said is line = line
+
+items_said : (r : Refusal) (Said : List ℕ → Type 0) → status_of r ≡ 2 → Said (line_of r ++ codes "\n") → Said items_line
+items_said (Missing name) Said is line = absurd (omega (arith, is))
+items_said (ReadFault name) Said is line = absurd (omega (arith, is))
+items_said LongProgram Said is line = absurd (omega (arith, is))
+items_said (Program text) Said is line = absurd (omega (arith, is))
+items_said (Budget nodes) Said is line = absurd (omega (arith, is))
+items_said TooManyItems Said is line = line
+items_said (LongFile name) Said is line = absurd (omega (arith, is))
+items_said (Data text) Said is line = absurd (omega (arith, is))
+items_said OutOfMemory Said is line = absurd (omega (arith, is))
 
 module _ (task : Task) (contents : Option Contents) (before at : Option (List ℕ)) (misses misses' faults faults' : ℕ) (once : (held : Contents) → OneAtMost (task.comes held)) where
   -- ---- what was to be done
@@ -80,6 +93,7 @@ module _ (task : Task) (contents : Option Contents) (before at : Option (List �
     failed = failed;
     fault_line = said;
     memory_line = λ seven. absurd (not_refused status ends (inr (inr (inr (inr (inl seven))))));
+    items_line = λ two. absurd (not_refused status ends (inr (inl two)));
   }
 
   pub performs_outcome : {S : Type 0} (took : S → List ℕ → S → Type 0) (out out' : S) (wrote wrote' : ℕ) (clean : Bool) (Said : List ℕ → Type 0) (status : ℕ) (o : Outcome)
@@ -123,6 +137,7 @@ module _ (task : Task) (contents : Option Contents) (before at : Option (List �
   own_status contents held WriteFailed LongProgram o count owes comes = inl (by_owed held LongProgram o (owes tt) comes)
   own_status contents held WriteFailed (Program line) o count owes comes = inl (by_owed held (Program line) o (owes tt) comes)
   own_status contents held WriteFailed (Budget nodes) o count owes comes = inr (inr (inr (inr refl)))
+  own_status contents held WriteFailed TooManyItems o count owes comes = inl (by_owed held TooManyItems o (owes tt) comes)
   own_status contents held WriteFailed (LongFile name) o count owes comes = inl (by_owed held (LongFile name) o (owes tt) comes)
   own_status contents held WriteFailed (Data line) o count owes comes = inl (by_owed held (Data line) o (owes tt) comes)
   own_status contents held WriteFailed OutOfMemory o count owes comes = inr (inr (inr (inl refl)))
@@ -155,4 +170,5 @@ module _ (task : Task) (contents : Option Contents) (before at : Option (List �
         failed = λ six. absurd (not_refused status (inr six) refuses);
         fault_line = λ six. absurd (not_refused status (inr six) refuses);
         memory_line = λ seven. memory_said r Said (sym is ∙ seven) said;
+        items_line = λ two. items_said r Said (sym is ∙ two) said;
       }

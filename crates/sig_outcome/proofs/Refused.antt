@@ -5,7 +5,7 @@ use Rattle.sig_text.specs.Files.{Contents}
 use Rattle.sig_outcome.specs.Outcomes.{Absent, AtData, AtProgram, Bad, Good, FindsData, FindsProgram, Long, Outcome, long_file, long_program}
 use Rattle.sig_outcome.specs.Refusals.{AtNoBytes, HasCount, IsAboutData, IsAboutProgram, IsOfData, IsOfProgram, IsOwn, outcome_of, status_of}
 use Rattle.sig_outcome.specs.declared.refusal.Refusal.{Refusal}
-use Rattle.sig_outcome.specs.declared.refusal.Refusal.TheVariants.{Missing, ReadFault, LongProgram, Program, Budget, LongFile, Data, OutOfMemory}
+use Rattle.sig_outcome.specs.declared.refusal.Refusal.TheVariants.{Missing, ReadFault, LongProgram, Program, Budget, TooManyItems, LongFile, Data, OutOfMemory}
 
 -- what holds of one result holds of another one that is told by it
 pub on_err : {T E : Type 0} (result : Result T E) (P Q : E → Type 0) → ((e : E) → P e → Q e) → IfErr result P → IfErr result Q
@@ -45,6 +45,7 @@ module _ {A : Type 0} (Says : List ℕ → A → Type 0) (Refuses : List ℕ →
   refused_program short IsBudget (Program line) faults faults' is own =
       (Bad (string_bytes line), record { bytes = bytes; there = there; short = short; good = is }, refl)
   refused_program short IsBudget (Budget nodes) faults faults' is own = absurd own
+  refused_program short IsBudget TooManyItems faults faults' is own = absurd is
   refused_program short IsBudget (LongFile n) faults faults' is own = absurd is
   refused_program short IsBudget (Data line) faults faults' is own = absurd is
   refused_program short IsBudget OutOfMemory faults faults' is own = absurd own
@@ -55,6 +56,7 @@ module _ {A : Type 0} (Says : List ℕ → A → Type 0) (Refuses : List ℕ →
   refused_data short LongProgram faults faults' is own = absurd is
   refused_data short (Program line) faults faults' is own = absurd is
   refused_data short (Budget nodes) faults faults' is own = absurd own
+  refused_data short TooManyItems faults faults' is own = absurd is
   refused_data short (LongFile n) faults faults' is own = absurd is
   refused_data short (Data line) faults faults' is own =
       (Bad (string_bytes line), record { bytes = bytes; there = there; short = short; good = is }, refl)
@@ -70,6 +72,7 @@ module _ (IsLine : List ℕ → Type 0) (IsBudget : ℕ → Type 0) where
   count_of_program contents at misses misses' faults faults' LongProgram is = tt
   count_of_program contents at misses misses' faults faults' (Program line) is = tt
   count_of_program contents at misses misses' faults faults' (Budget nodes) is = tt
+  count_of_program contents at misses misses' faults faults' TooManyItems is = absurd is
   count_of_program contents at misses misses' faults faults' (LongFile n) is = tt
   count_of_program contents at misses misses' faults faults' (Data line) is = tt
   count_of_program contents at misses misses' faults faults' OutOfMemory is = tt
@@ -80,6 +83,7 @@ module _ (IsLine : List ℕ → Type 0) (IsBudget : ℕ → Type 0) where
   about_bytes program MayBe MayLack lines nodes LongProgram is = tt
   about_bytes program MayBe MayLack lines nodes (Program line) is = lines (string_bytes line) is
   about_bytes program MayBe MayLack lines nodes (Budget n) is = nodes n is
+  about_bytes program MayBe MayLack lines nodes TooManyItems is = absurd is
   about_bytes program MayBe MayLack lines nodes (LongFile n) is = absurd is
   about_bytes program MayBe MayLack lines nodes (Data line) is = absurd is
   about_bytes program MayBe MayLack lines nodes OutOfMemory is = tt
@@ -91,6 +95,7 @@ module _ (IsLine : List ℕ → Type 0) (IsBudget : ℕ → Type 0) where
   budget_of LongProgram is eight = absurd is
   budget_of (Program line) is eight = absurd (omega (arith, eight))
   budget_of (Budget nodes) is eight = (nodes, is)
+  budget_of TooManyItems is eight = absurd is
   budget_of (LongFile n) is eight = absurd is
   budget_of (Data line) is eight = absurd is
   budget_of OutOfMemory is eight = absurd (omega (arith, eight))
@@ -102,6 +107,7 @@ about_more program Less More Few Many lines nodes (ReadFault n) is = is
 about_more program Less More Few Many lines nodes LongProgram is = tt
 about_more program Less More Few Many lines nodes (Program line) is = lines (string_bytes line) is
 about_more program Less More Few Many lines nodes (Budget n) is = nodes n is
+about_more program Less More Few Many lines nodes TooManyItems is = absurd is
 about_more program Less More Few Many lines nodes (LongFile n) is = absurd is
 about_more program Less More Few Many lines nodes (Data line) is = absurd is
 about_more program Less More Few Many lines nodes OutOfMemory is = tt
@@ -114,6 +120,7 @@ module _ (IsLine : List ℕ → Type 0) where
   count_of_data contents at misses misses' faults faults' LongProgram is = tt
   count_of_data contents at misses misses' faults faults' (Program line) is = tt
   count_of_data contents at misses misses' faults faults' (Budget nodes) is = tt
+  count_of_data contents at misses misses' faults faults' TooManyItems is = absurd is
   count_of_data contents at misses misses' faults faults' (LongFile n) is = tt
   count_of_data contents at misses misses' faults faults' (Data line) is = tt
   count_of_data contents at misses misses' faults faults' OutOfMemory is = tt
@@ -124,6 +131,7 @@ module _ (IsLine : List ℕ → Type 0) where
   about_data name MayBe lines LongProgram is = absurd is
   about_data name MayBe lines (Program line) is = absurd is
   about_data name MayBe lines (Budget n) is = absurd is
+  about_data name MayBe lines TooManyItems is = absurd is
   about_data name MayBe lines (LongFile n) is = absurd is
   about_data name MayBe lines (Data line) is = lines (string_bytes line) is
   about_data name MayBe lines OutOfMemory is = tt
@@ -134,6 +142,7 @@ about_more_data name Less More lines (ReadFault n) is = is
 about_more_data name Less More lines LongProgram is = absurd is
 about_more_data name Less More lines (Program line) is = absurd is
 about_more_data name Less More lines (Budget n) is = absurd is
+about_more_data name Less More lines TooManyItems is = absurd is
 about_more_data name Less More lines (LongFile n) is = is
 about_more_data name Less More lines (Data line) is = lines (string_bytes line) is
 about_more_data name Less More lines OutOfMemory is = tt
@@ -145,6 +154,7 @@ later_own (ReadFault name) first middle last le own = own
 later_own LongProgram first middle last le own = own
 later_own (Program line) first middle last le own = own
 later_own (Budget nodes) first middle last le own = own
+later_own TooManyItems first middle last le own = own
 later_own (LongFile name) first middle last le own = own
 later_own (Data line) first middle last le own = own
 later_own OutOfMemory first middle last le own = own
@@ -156,6 +166,7 @@ later_count contents at m0 m1 m2 f0 f1 f2 le_m le_f (ReadFault n) count = record
 later_count contents at m0 m1 m2 f0 f1 f2 le_m le_f LongProgram count = tt
 later_count contents at m0 m1 m2 f0 f1 f2 le_m le_f (Program line) count = tt
 later_count contents at m0 m1 m2 f0 f1 f2 le_m le_f (Budget nodes) count = tt
+later_count contents at m0 m1 m2 f0 f1 f2 le_m le_f TooManyItems count = tt
 later_count contents at m0 m1 m2 f0 f1 f2 le_m le_f (LongFile n) count = tt
 later_count contents at m0 m1 m2 f0 f1 f2 le_m le_f (Data line) count = tt
 later_count contents at m0 m1 m2 f0 f1 f2 le_m le_f OutOfMemory count = tt
@@ -167,6 +178,7 @@ of_more Less More Few Many lines nodes (ReadFault n) is = absurd is
 of_more Less More Few Many lines nodes LongProgram is = absurd is
 of_more Less More Few Many lines nodes (Program line) is = lines (string_bytes line) is
 of_more Less More Few Many lines nodes (Budget n) is = nodes n is
+of_more Less More Few Many lines nodes TooManyItems is = absurd is
 of_more Less More Few Many lines nodes (LongFile n) is = absurd is
 of_more Less More Few Many lines nodes (Data line) is = absurd is
 of_more Less More Few Many lines nodes OutOfMemory is = tt
@@ -177,6 +189,7 @@ of_more_data Less More lines (ReadFault n) is = absurd is
 of_more_data Less More lines LongProgram is = absurd is
 of_more_data Less More lines (Program line) is = absurd is
 of_more_data Less More lines (Budget n) is = absurd is
+of_more_data Less More lines TooManyItems is = absurd is
 of_more_data Less More lines (LongFile n) is = absurd is
 of_more_data Less More lines (Data line) is = lines (string_bytes line) is
 of_more_data Less More lines OutOfMemory is = tt
@@ -188,6 +201,7 @@ no_eight program IsLine (ReadFault n) is eight = omega (arith, eight)
 no_eight program IsLine LongProgram is eight = omega (arith, eight)
 no_eight program IsLine (Program line) is eight = omega (arith, eight)
 no_eight program IsLine (Budget n) is eight = is
+no_eight program IsLine TooManyItems is eight = absurd is
 no_eight program IsLine (LongFile n) is eight = absurd is
 no_eight program IsLine (Data line) is eight = absurd is
 no_eight program IsLine OutOfMemory is eight = omega (arith, eight)

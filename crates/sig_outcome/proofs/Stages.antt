@@ -46,12 +46,6 @@ one_found held limit Says Refuses one line apart (Good a) (Bad m) x y =
 one_found held limit Says Refuses one line apart (Good a) (Good b) x y =
     ap Good (one x.bytes a b x.good (subst (λ bytes. Says bytes b) (same_bytes held limit limit x y) y.good))
 
-pub one_at_file : {A : Type 0} (status : ℕ) (long name : List ℕ) (found : Found A) (Next : A → Outcome → Type 0) → ((a : A) → OneAtMost (Next a)) → OneAtMost (AtFile status long name found Next)
-one_at_file status long name Absent Next one o p x y = x ∙ sym y
-one_at_file status long name Long Next one o p x y = x ∙ sym y
-one_at_file status long name (Bad line) Next one o p x y = x ∙ sym y
-one_at_file status long name (Good a) Next one o p x y = one a o p x y
-
 -- a file that gives nothing ends the command, whatever would follow
 pub at_file_ends : {A : Type 0} (status : ℕ) (long name : List ℕ) (found : Found A) (Next : A → Outcome → Type 0) (o : Outcome) → AtFile status long name found (λ _ _. ⊥) o → AtFile status long name found Next o
 at_file_ends status long name Absent Next o x = x
@@ -73,10 +67,13 @@ module _ {A : Type 0} (Says : List ℕ → A → Type 0) (Refuses : List ℕ →
     at (Bad line) is a b = a ∙ sym b
     at (Good a) is x y = one a is.bytes is.good o p x y
 
-  pub one_at_data : (held : Contents) (name : List ℕ) (Next : A → Outcome → Type 0) → ((a : A) → OneAtMost (Next a)) → OneAtMost (AtData Says Refuses held name Next)
-  one_at_data held name Next one o p x y =
-      one_at_file 4 (long_file name) name x.0 Next one o p x.2
-      (subst (λ found. AtFile 4 (long_file name) name found Next p) (one_found (held name) 67108864 Says Refuses one_said one_line apart y.0 x.0 y.1 x.1) y.2)
+  pub one_at_data : (held : Contents) (name : List ℕ) (Next : A → Outcome → Type 0) → ((a : A) (bytes : List ℕ) → Says bytes a → OneAtMost (Next a)) → OneAtMost (AtData Says Refuses held name Next)
+  one_at_data held name Next one o p x y = at x.0 x.1 x.2 (subst (λ found. AtFile 4 (long_file name) name found Next p) (one_found (held name) 67108864 Says Refuses one_said one_line apart y.0 x.0 y.1 x.1) y.2) where
+    at : (found : Found A) → FindsData Says Refuses (held name) found → AtFile 4 (long_file name) name found Next o → AtFile 4 (long_file name) name found Next p → o ≡ p
+    at Absent is a b = a ∙ sym b
+    at Long is a b = a ∙ sym b
+    at (Bad line) is a b = a ∙ sym b
+    at (Good a) is x y = one a is.bytes is.good o p x y
 
   -- what comes behind a file that gives something
   pub behind_program : (held : Contents) (name : List ℕ) (a : A) (Next : A → Outcome → Type 0) (o : Outcome) → FindsProgram Says Refuses (held name) (Good a) → AtProgram Says Refuses held name Next o → Next a o

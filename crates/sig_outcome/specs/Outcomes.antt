@@ -42,6 +42,9 @@ no_nodes nodes = refusal (decimal nodes ++ codes " diagram nodes")
 abbrev pub long_program : List ℕ
 long_program = refusal (codes "program longer than 1048576 bytes")
 
+abbrev pub too_many_items : List ℕ
+too_many_items = refusal (codes "links times capacity above 16777216")
+
 abbrev pub long_file : List ℕ → List ℕ
 long_file name = refusal (name ++ codes ": longer than 67108864 bytes")
 

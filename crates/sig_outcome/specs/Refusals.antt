@@ -3,9 +3,9 @@ use Rattle.std.specs.Prelude.{◌≡◌, ◌⊎◌, ⊤, ℕ, List, Option, Some
 use Rattle.sig_text.specs.Counts.{Rose, DidNotRise}
 use Rattle.sig_text.specs.Files.{Contents, name_where_there}
 use Rattle.sig_text.specs.Read.{IsLongerThan}
-use Rattle.sig_outcome.specs.Outcomes.{Outcome, refused, not_found, read_failed, no_nodes, long_program, long_file, out_of_memory}
+use Rattle.sig_outcome.specs.Outcomes.{Outcome, refused, not_found, read_failed, no_nodes, long_program, too_many_items, long_file, out_of_memory}
 use Rattle.sig_outcome.specs.declared.refusal.Refusal.{Refusal}
-use Rattle.sig_outcome.specs.declared.refusal.Refusal.TheVariants.{Missing, ReadFault, LongProgram, Program, Budget, LongFile, Data, OutOfMemory}
+use Rattle.sig_outcome.specs.declared.refusal.Refusal.TheVariants.{Missing, ReadFault, LongProgram, Program, Budget, TooManyItems, LongFile, Data, OutOfMemory}
 
 -- the status of a refusal
 abbrev pub status_of : Refusal → ℕ
@@ -14,6 +14,7 @@ status_of (ReadFault name) = 5
 status_of LongProgram = 1
 status_of (Program line) = 1
 status_of (Budget nodes) = 8
+status_of TooManyItems = 2
 status_of (LongFile name) = 4
 status_of (Data line) = 4
 status_of OutOfMemory = 7
@@ -25,6 +26,7 @@ line_of (ReadFault name) = read_failed name.now
 line_of LongProgram = long_program
 line_of (Program line) = string_bytes line
 line_of (Budget nodes) = no_nodes nodes
+line_of TooManyItems = too_many_items
 line_of (LongFile name) = long_file name.now
 line_of (Data line) = string_bytes line
 line_of OutOfMemory = out_of_memory
@@ -40,6 +42,7 @@ IsOwn (ReadFault name) faults faults' = ⊥
 IsOwn LongProgram faults faults' = ⊤
 IsOwn (Program line) faults faults' = ⊤
 IsOwn (Budget nodes) faults faults' = ⊥
+IsOwn TooManyItems faults faults' = ⊤
 IsOwn (LongFile name) faults faults' = ⊤
 IsOwn (Data line) faults faults' = ⊤
 IsOwn OutOfMemory faults faults' = ⊥
@@ -58,6 +61,7 @@ HasCount contents at misses misses' faults faults' (ReadFault name) = IsLast con
 HasCount contents at misses misses' faults faults' LongProgram = ⊤
 HasCount contents at misses misses' faults faults' (Program line) = ⊤
 HasCount contents at misses misses' faults faults' (Budget nodes) = ⊤
+HasCount contents at misses misses' faults faults' TooManyItems = ⊤
 HasCount contents at misses misses' faults faults' (LongFile name) = ⊤
 HasCount contents at misses misses' faults faults' (Data line) = ⊤
 HasCount contents at misses misses' faults faults' OutOfMemory = ⊤
@@ -71,6 +75,7 @@ IsAboutProgram program IsLine IsBudget (ReadFault name) = name.now ≡ program
 IsAboutProgram program IsLine IsBudget LongProgram = ⊤
 IsAboutProgram program IsLine IsBudget (Program line) = IsLine (string_bytes line)
 IsAboutProgram program IsLine IsBudget (Budget nodes) = IsBudget nodes
+IsAboutProgram program IsLine IsBudget TooManyItems = ⊥
 IsAboutProgram program IsLine IsBudget (LongFile name) = ⊥
 IsAboutProgram program IsLine IsBudget (Data line) = ⊥
 IsAboutProgram program IsLine IsBudget OutOfMemory = ⊤
@@ -82,9 +87,22 @@ IsAboutData data_file IsLine (ReadFault name) = name.now ≡ data_file
 IsAboutData data_file IsLine LongProgram = ⊥
 IsAboutData data_file IsLine (Program line) = ⊥
 IsAboutData data_file IsLine (Budget nodes) = ⊥
+IsAboutData data_file IsLine TooManyItems = ⊥
 IsAboutData data_file IsLine (LongFile name) = name.now ≡ data_file
 IsAboutData data_file IsLine (Data line) = IsLine (string_bytes line)
 IsAboutData data_file IsLine OutOfMemory = ⊤
+
+-- a refusal is that of a program whose links hold too many items
+abbrev pub IsAboutLinks : Refusal → Type 0
+IsAboutLinks (Missing name) = ⊥
+IsAboutLinks (ReadFault name) = ⊥
+IsAboutLinks LongProgram = ⊥
+IsAboutLinks (Program line) = ⊥
+IsAboutLinks (Budget nodes) = ⊥
+IsAboutLinks TooManyItems = ⊤
+IsAboutLinks (LongFile name) = ⊥
+IsAboutLinks (Data line) = ⊥
+IsAboutLinks OutOfMemory = ⊥
 
 -- a refusal is one of the bytes of a program: such a line, or so many nodes; or memory was wanting
 abbrev pub IsOfProgram : (List ℕ → Type 0) → (ℕ → Type 0) → Refusal → Type 0
@@ -93,6 +111,7 @@ IsOfProgram IsLine IsBudget (ReadFault name) = ⊥
 IsOfProgram IsLine IsBudget LongProgram = ⊥
 IsOfProgram IsLine IsBudget (Program line) = IsLine (string_bytes line)
 IsOfProgram IsLine IsBudget (Budget nodes) = IsBudget nodes
+IsOfProgram IsLine IsBudget TooManyItems = ⊥
 IsOfProgram IsLine IsBudget (LongFile name) = ⊥
 IsOfProgram IsLine IsBudget (Data line) = ⊥
 IsOfProgram IsLine IsBudget OutOfMemory = ⊤
@@ -104,6 +123,7 @@ IsOfData IsLine (ReadFault name) = ⊥
 IsOfData IsLine LongProgram = ⊥
 IsOfData IsLine (Program line) = ⊥
 IsOfData IsLine (Budget nodes) = ⊥
+IsOfData IsLine TooManyItems = ⊥
 IsOfData IsLine (LongFile name) = ⊥
 IsOfData IsLine (Data line) = IsLine (string_bytes line)
 IsOfData IsLine OutOfMemory = ⊤

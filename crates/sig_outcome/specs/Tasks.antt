@@ -4,7 +4,7 @@ use Rattle.sig_base.specs.Lines.{refusal}
 use Rattle.sig_text.specs.Counts.{DidNotRise, Rose}
 use Rattle.sig_text.specs.Files.{Contents, name_where_there}
 use Rattle.sig_text.specs.Sink.{TookPrefix}
-use Rattle.sig_outcome.specs.Outcomes.{Outcome, out_of_memory}
+use Rattle.sig_outcome.specs.Outcomes.{Outcome, out_of_memory, too_many_items}
 use Rattle.sig_outcome.specs.Refusals.{IsOwn, HasCount, line_of, outcome_of, status_of}
 use Rattle.sig_outcome.specs.declared.refusal.Refusal.{Refusal}
 
@@ -43,6 +43,9 @@ write_line = refusal (codes "write failed") ++ codes "\n"
 
 abbrev pub memory_line : List ℕ
 memory_line = out_of_memory ++ codes "\n"
+
+abbrev pub items_line : List ℕ
+items_line = too_many_items ++ codes "\n"
 
 -- ---- a command that is done, and one that is refused
 
@@ -103,6 +106,7 @@ pub record Performs {S : Type 0} (task : Task) (contents : Option Contents) (bef
   pub failed : status ≡ 6 → Rose wrote wrote'
   pub fault_line : status ≡ 6 → Said write_line
   pub memory_line : status ≡ 7 → Said memory_line
+  pub items_line : status ≡ 2 → Said items_line
 
 -- ---- what the parts of such a call promise
 

@@ -19,6 +19,8 @@ pub enum Refusal<'a> {
     Program(String),
     /// The diagrams of the program need more than this many nodes.
     Budget(u32),
+    /// The links of the program would hold too many items.
+    TooManyItems,
     /// The flow file or trace file of this name has too many bytes.
     LongFile(&'a str),
     /// The bytes of the flow file or trace file are refused with this line.
@@ -36,6 +38,7 @@ impl Refusal<'_> {
     {
         match self {
             Refusal::LongProgram | Refusal::Program(_) => 1,
+            Refusal::TooManyItems => 2,
             Refusal::LongFile(_) | Refusal::Data(_) => 4,
             Refusal::Missing(_) | Refusal::ReadFault(_) => 5,
             Refusal::OutOfMemory => 7,

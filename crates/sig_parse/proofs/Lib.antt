@@ -2,7 +2,6 @@
 pub mod BodyLemmas
 pub mod Covering
 pub mod Enclosing
-pub mod FormLemmas
 pub mod GroupLemmas
 pub mod Joins
 pub mod KeywordLemmas
@@ -11,16 +10,10 @@ pub mod Lifting
 pub mod Lists
 pub mod Passing
 pub mod OperatorLemmas
-pub mod PlaceLemmas
 pub mod ProcessLemmas
-pub mod ReadingLemmas
 pub mod RefusedTexts
 pub mod RefusedTokens
 pub mod Relaying
-pub mod RuleLemmas
-pub mod SmallLemmas
-pub mod SpellingLemmas
-pub mod SplittingLemmas
 pub mod Standing
 pub mod Steps
 pub mod Tables

@@ -1,11 +1,5 @@
-mod Numerals
-mod LineWords
-mod Lines
-mod FlowLines
-mod Sums
-mod RunLength
-mod ProgramFile
-mod RunCauses
+mod Plans
 pub mod OneRun
 mod Loads
-mod RunClauses
+mod Written
+pub mod Ending

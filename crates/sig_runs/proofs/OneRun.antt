@@ -1,78 +1,86 @@
--- A run over told contents comes to one outcome at most.
-use Rattle.std.proofs.Common.{◌≡◌, ◌∙◌, ℕ, ℤ, List, Option, Some, None, sym, refl, ap, subst}
-use Rattle.sig_parse.specs.Small.{Small, IsSmallProgram}
-use Rattle.sig_parse.specs.Words.{signs}
-use Rattle.sig_parse.specs.Reading.{small_at}
-use Rattle.sig_parse.specs.Splitting.{words_of}
-use Rattle.sig_parse.specs.declared.answer.SmallAnswer.TheVariants.{NotBuilt}
-use Rattle.sig_parse.proofs.SmallLemmas.{only_one, refused as says_none}
+-- A run over told contents comes to one outcome at most, and what it comes to.
+use Rattle.std.proofs.Common.{◌≡◌, ◌∙◌, ◌⊎◌, ℕ, ℤ, List, Some, inl, inr, sym, refl, ap, subst}
+use Rattle.sig_base.specs.Traces.{Trace}
+use Rattle.sig_base.specs.declared.signal.Signal.{Signal}
 use Rattle.sig_text.specs.Files.{Contents}
-use Rattle.sig_outcome.specs.Outcomes.{Good, OneAtMost, Outcome, long_file, long_program}
-use Rattle.sig_outcome.proofs.Stages.{at_file_ends, behind_data, behind_program, one_at_data, one_at_program}
-use Rattle.sig_runs.specs.FlowFile.{IsFlowFile}
-use Rattle.sig_runs.specs.Runs.{AtFlows, AtSmall, FindsFlows, FindsSmall, RefusesFlows, RefusesSmall, RunComesTo, RunsTo, ended}
-use Rattle.sig_runs.proofs.RunCauses.{one_end}
+use Rattle.sig_kernel.specs.Validity.{AreFlowsFor, inputs_of}
+use Rattle.sig_kernel.specs.declared.kernel.Kernel.{Kernel}
+use Rattle.sig_plan.specs.declared.ended.Ended.{Ended}
+use Rattle.sig_meaning.proofs.Uniqueness.{one_end}
+use Rattle.sig_flow.specs.Flows.{AreFlows}
+use Rattle.sig_flow.proofs.FittingFlows.{read_fit}
+use Rattle.sig_flow.proofs.FlowLemmas.{flows_and_fault, one_place}
+use Rattle.sig_words.specs.declared.command.Settings.{Settings}
+use Rattle.sig_outcome.specs.Outcomes.{Good, OneAtMost, Outcome, long_file, long_program, refused, too_many_items}
+use Rattle.sig_outcome.proofs.Stages.{at_file_ends, one_at_data, one_at_program}
+use Rattle.sig_compile.specs.Acceptance.{AreRefused, IsAcceptedAs}
+use Rattle.sig_compile.specs.Compiling.{AtPlan, FindsAccepted}
+use Rattle.sig_compile.proofs.Verdicts.{accepted_once, accepted_or_refused, refused_once}
+use Rattle.sig_runs.specs.Runs.{AtFlows, AtLinks, FindsFlows, HoldFew, HoldTooMany, RefusesFlows, RunComesTo, RunsTo, bad_flows, ended}
+use Rattle.sig_runs.proofs.Plans.{items_apart, same_end}
 
--- a text says one straight program at most
-one_program : (text : List ℕ) (s t : Small) → IsSmallProgram text s → IsSmallProgram text t → s ≡ t
-one_program text s t first second = at (small_at (signs text) (words_of text)) refl
-  where
-    at : (reading : Option Small) → small_at (signs text) (words_of text) ≡ reading → s ≡ t
-    at None is = absurd (says_none text (signs text) (words_of text) NotBuilt refl refl is refl s first)
-    at (Some u) is =
-        only_one text (signs text) (words_of text) u refl refl is s first
-        ∙ sym (only_one text (signs text) (words_of text) u refl refl is t second)
-
-no_program_line : (bytes l m : List ℕ) → RefusesSmall bytes l → RefusesSmall bytes m → l ≡ m
-no_program_line bytes l m x y = x.says ∙ sym y.says
-
-program_apart : (bytes : List ℕ) (s : Small) (l : List ℕ) → IsSmallProgram bytes s → RefusesSmall bytes l → ⊥
-program_apart bytes s l says refuses = refuses.none s says
+-- ---- the flow file
 
 -- bytes are one list of flows at most
-one_flows : (inputs : List (List ℕ)) (bytes : List ℕ) (a b : List (List ℤ)) → IsFlowFile inputs bytes a → IsFlowFile inputs bytes b → a ≡ b
-one_flows inputs bytes a b x y = x.values ∙ sym y.values
+one_flows : (inputs : List Signal) (bytes : List ℕ) (a b : List (List ℤ)) → AreFlows inputs bytes a → AreFlows inputs bytes b → a ≡ b
+one_flows inputs bytes a b x y = x.each ∙ sym y.each
 
-no_flows_line : (name : List ℕ) (inputs : List (List ℕ)) (bytes l m : List ℕ) → RefusesFlows name inputs bytes l → RefusesFlows name inputs bytes m → l ≡ m
-no_flows_line name inputs bytes l m x y = x.says ∙ sym y.says
+no_flows_line : (name : List ℕ) (inputs : List Signal) (bytes l m : List ℕ) → RefusesFlows name inputs bytes l → RefusesFlows name inputs bytes m → l ≡ m
+no_flows_line name inputs bytes l m x y = x.says ∙ ap (bad_flows name) (one_place inputs bytes x.answer y.answer x.none y.none) ∙ sym y.says
 
-flows_apart : (name : List ℕ) (inputs : List (List ℕ)) (bytes : List ℕ) (values : List (List ℤ)) (l : List ℕ) → IsFlowFile inputs bytes values → RefusesFlows name inputs bytes l → ⊥
-flows_apart name inputs bytes values l says refuses = refuses.none values says
+flows_apart : (name : List ℕ) (inputs : List Signal) (bytes : List ℕ) (values : List (List ℤ)) (l : List ℕ) → AreFlows inputs bytes values → RefusesFlows name inputs bytes l → ⊥
+flows_apart name inputs bytes values l says refuses = flows_and_fault inputs bytes values refuses.answer says refuses.none
+
+-- ---- one outcome
 
 -- a run has one end
-pub one_run : (s : Small) (values : List (List ℤ)) (limit : ℕ) (file : List ℕ) → OneAtMost (RunsTo s values limit file)
-one_run s values limit file o p x y =
-    let same = one_end s values limit x.instants y.instants x.cause y.cause x.long y.long x.ends y.ends in
-    x.is ∙ ap (λ n. ended s values file n x.cause) same.0 ∙ ap (ended s values file y.instants) same.1 ∙ sym y.is
+pub one_run : (kernel : Kernel) (values : List (List ℤ)) (limit : ℕ) (file : List ℕ) → AreFlowsFor kernel values → OneAtMost (RunsTo kernel values limit file)
+one_run kernel values limit file fit o p x y =
+    let fits : AreFlowsFor x.plan.kernel values = subst (λ (k : Kernel). AreFlowsFor k values) (sym x.planned.same) fit in
+    let same = one_end x.plan x.planned.accepted values fits limit x.trace y.trace x.place y.place x.end y.end x.ends
+    (same_end kernel x.plan y.plan x.planned y.planned values limit y.trace y.place y.end y.ends) in
+    x.is ∙ ap (λ (t : Trace). ended kernel t x.end file) same.0 ∙ ap (λ (e : Ended). ended kernel y.trace e file) same.2 ∙ sym y.is
 
--- and the command one outcome
-pub one_run_outcome : (program flows : List ℕ) (limit : ℕ) (held : Contents) → OneAtMost (RunComesTo held program flows limit)
-one_run_outcome program flows limit held =
-    one_at_program IsSmallProgram RefusesSmall one_program no_program_line program_apart held program
-    (λ s. AtFlows held flows s.inputs (λ values. RunsTo s values limit flows))
-    (λ s bytes is.
-    one_at_data (IsFlowFile s.inputs) (RefusesFlows flows s.inputs) (one_flows s.inputs) (no_flows_line flows s.inputs) (flows_apart flows s.inputs) held flows
-    (λ values. RunsTo s values limit flows) (λ values. one_run s values limit flows))
+-- the links hold too many items or few
+one_at_links : (kernel : Kernel) (capacity : ℕ) (file : List ℕ) (Next : Outcome → Type 0) → OneAtMost Next → OneAtMost (AtLinks kernel capacity file Next)
+one_at_links kernel capacity file Next one o p (inl x) (inl y) = x.1 ∙ sym y.1
+one_at_links kernel capacity file Next one o p (inl x) (inr y) = absurd (items_apart kernel capacity x.0 y.0)
+one_at_links kernel capacity file Next one o p (inr x) (inl y) = absurd (items_apart kernel capacity y.0 x.0)
+one_at_links kernel capacity file Next one o p (inr x) (inr y) = one o p x.1 y.1
 
-module _ (held : Contents) (program flows : List ℕ) (limit : ℕ) where
-  -- a program file that gives nothing ends it
-  pub program_refuses : (o : Outcome) → AtSmall held program (λ _ _. ⊥) o → RunComesTo held program flows limit o
-  program_refuses o x =
-      (x.0, x.1, at_file_ends 1 long_program program x.0 (λ s. AtFlows held flows s.inputs (λ values. RunsTo s values limit flows)) o x.2)
+module _ (program flows : List ℕ) (settings : Settings) where
+  -- what comes behind a program that is accepted, and behind links that hold few items
+  abbrev AtInputs : Contents → Kernel → Outcome → Type 0
+  AtInputs held kernel o = AtFlows held flows (inputs_of kernel) (λ values. RunsTo kernel values settings.instants flows) o
 
-  -- and so does a flow file, behind a program that is good
-  pub flows_refuse : (s : Small) (o : Outcome) → FindsSmall (held program) (Good s) → AtFlows held flows s.inputs (λ _ _. ⊥) o → RunComesTo held program flows limit o
-  flows_refuse s o good x =
-      (Good s, good, (x.0, x.1, at_file_ends 4 (long_file flows) flows x.0 (λ values. RunsTo s values limit flows) o x.2))
+  abbrev AtKernel : Contents → Kernel → Outcome → Type 0
+  AtKernel held kernel o = AtLinks kernel settings.capacity program (λ q. AtInputs held kernel q) o
 
-  -- else it comes to the run's end
-  pub runs : (s : Small) (values : List (List ℤ)) (o : Outcome) → FindsSmall (held program) (Good s) → FindsFlows (held flows) flows s.inputs (Good values) → RunsTo s values limit flows o → RunComesTo held program flows limit o
-  runs s values o good read x = (Good s, good, (Good values, read, x))
+  -- the command comes to one outcome
+  pub one_run_outcome : (held : Contents) → OneAtMost (RunComesTo held program flows settings)
+  one_run_outcome held =
+      one_at_program IsAcceptedAs AreRefused accepted_once refused_once accepted_or_refused held program (λ kernel. AtKernel held kernel)
+      (λ kernel bytes is.
+      one_at_links kernel settings.capacity program (λ q. AtInputs held kernel q)
+      (one_at_data (AreFlows (inputs_of kernel)) (RefusesFlows flows (inputs_of kernel)) (one_flows (inputs_of kernel)) (no_flows_line flows (inputs_of kernel)) (flows_apart flows (inputs_of kernel)) held flows
+      (λ values. RunsTo kernel values settings.instants flows)
+      (λ values data_bytes read. one_run kernel values settings.instants flows (read_fit kernel data_bytes values read))))
 
-  -- and to nothing else
-  pub runs_only : (s : Small) (values : List (List ℤ)) (o : Outcome) → FindsSmall (held program) (Good s) → FindsFlows (held flows) flows s.inputs (Good values) → RunComesTo held program flows limit o → RunsTo s values limit flows o
-  runs_only s values o good read x =
-      behind_data (IsFlowFile s.inputs) (RefusesFlows flows s.inputs) (one_flows s.inputs) (no_flows_line flows s.inputs) (flows_apart flows s.inputs) held flows values
-      (λ v. RunsTo s v limit flows) o read
-      (behind_program IsSmallProgram RefusesSmall one_program no_program_line program_apart held program s
-      (λ t. AtFlows held flows t.inputs (λ v. RunsTo t v limit flows)) o good x)
+  module _ (held : Contents) where
+    -- a program file that gives no plan ends it
+    pub program_refuses : (o : Outcome) → AtPlan held program (λ _ _. ⊥) o → RunComesTo held program flows settings o
+    program_refuses o x = (x.0, x.1, at_file_ends 1 long_program program x.0 (λ kernel. AtKernel held kernel) o x.2)
+
+    module _ (kernel : Kernel) (good : FindsAccepted (held program) (Good kernel)) where
+      -- and so do links that hold too many items
+      pub links_refuse : HoldTooMany kernel settings.capacity → RunComesTo held program flows settings (refused 2 too_many_items (Some program))
+      links_refuse many = (Good kernel, good, inl (many, refl))
+
+      -- and a flow file that gives no flows
+      pub flows_refuse : HoldFew kernel settings.capacity → (o : Outcome) → AtFlows held flows (inputs_of kernel) (λ _ _. ⊥) o → RunComesTo held program flows settings o
+      flows_refuse few o x =
+          (Good kernel, good, inr (few, (x.0, x.1, at_file_ends 4 (long_file flows) flows x.0 (λ values. RunsTo kernel values settings.instants flows) o x.2)))
+
+      -- else it comes to the run's end
+      pub runs : HoldFew kernel settings.capacity → (values : List (List ℤ)) → FindsFlows (held flows) flows (inputs_of kernel) (Good values) → (o : Outcome) → RunsTo kernel values settings.instants flows o → RunComesTo held program flows settings o
+      runs few values read o x = (Good kernel, good, inr (few, (Good values, read, x)))

@@ -1,4 +1,2 @@
-pub mod FlowFile
-pub mod RunEnd
+pub mod Ends
 pub mod Runs
-pub mod SmallRun

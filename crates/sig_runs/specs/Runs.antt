@@ -1,104 +1,154 @@
 -- What the command `run` comes to over told contents.
 -- The refusals of the command are tried in the order in which the equations below stand.
-use Rattle.std.specs.Prelude.{◌≡◌, ◌⊎◌, ◌++◌, ℕ, ℤ, List, codes, Option, Some}
+use Rattle.std.specs.Prelude.{◌≡◌, ◌⊎◌, ◌≤◌, ◌<◌, ◌*◌, ◌++◌, ℕ, ℤ, Bool, List, codes, length, Option, Some}
 use Rattle.sig_base.specs.Lines.{refusal}
-use Rattle.sig_parse.specs.Small.{Small, IsSmallProgram}
+use Rattle.sig_base.specs.Traces.{Trace}
+use Rattle.sig_base.specs.declared.limits.TheConstants.{ITEMS}
+use Rattle.sig_base.specs.declared.place.Place.{Place}
+use Rattle.sig_base.specs.declared.signal.Signal.{Signal}
 use Rattle.sig_text.specs.Files.{Contents, name_where_there}
-use Rattle.sig_outcome.specs.Outcomes.{AtData, AtProgram, FindsData, FindsProgram, Found, Outcome}
-use Rattle.sig_outcome.specs.Refusals.{IsAboutData, IsAboutProgram}
-use Rattle.sig_outcome.specs.Tasks.{IsEnded, Task}
+use Rattle.sig_kernel.specs.OutputText.{output_text}
+use Rattle.sig_kernel.specs.Validity.{inputs_of}
+use Rattle.sig_kernel.specs.declared.kernel.Kernel.{Kernel}
+use Rattle.sig_plan.specs.Plans.{IsAccepted, PlanView}
+use Rattle.sig_plan.specs.declared.ended.Ended.{Ended}
+use Rattle.sig_model.specs.Causes.{IsEnd}
+use Rattle.sig_flow.specs.Flows.{AreFlows, IsFirstBadPlace}
+use Rattle.sig_flow.specs.Shown.{flow_text}
+use Rattle.sig_flow.specs.declared.answer.FlowAnswer.{FlowAnswer}
+use Rattle.sig_words.specs.declared.command.Settings.{Settings}
+use Rattle.sig_outcome.specs.Outcomes.{AtData, FindsData, Found, Holds, Outcome, refused, too_many_items}
+use Rattle.sig_outcome.specs.Refusals.{IsAboutData, IsAboutLinks}
+use Rattle.sig_outcome.specs.Tasks.{IsEnded, Task, Writes, memory_line}
 use Rattle.sig_outcome.specs.declared.refusal.Refusal.{Refusal}
-use Rattle.sig_runs.specs.FlowFile.{IsFlowFile, IsNoFlowFile}
-use Rattle.sig_runs.specs.SmallRun.{IsLength, IsCause, text_of}
-use Rattle.sig_runs.specs.RunEnd.{end_line, end_status}
-use Rattle.sig_runs.specs.declared.run.Cause.{Cause}
+use Rattle.sig_compile.specs.Acceptance.{IsAcceptedAs}
+use Rattle.sig_compile.specs.Compiling.{AtPlan, HoldsBeyondBound, IsAboutPlan}
+use Rattle.sig_runs.specs.Ends.{end_line, end_status}
 
--- ---- lines, without their newlines
+-- ---- the links of the program
 
-abbrev pub not_built : List ℕ
-not_built = refusal (codes "not built yet")
+-- A plan of a kernel: the plans of a kernel differ in the references of their guards alone.
+pub record IsPlanOf (kernel : Kernel) (plan : PlanView) : Type 0 where
+  pub accepted : IsAccepted plan
+  pub same : plan.kernel ≡ kernel
 
-abbrev pub no_flows : List ℕ → List ℕ
-no_flows name = refusal (name ++ codes ": not a flow file")
+-- the links of a kernel's plan, each of which holds so many items, hold together a number of items of which a fact holds
+pub record HoldItems (kernel : Kernel) (capacity : ℕ) (Fact : ℕ → Type 0) : Type 0 where
+  pub plan : PlanView
+  pub planned : IsPlanOf kernel plan
+  pub fact : Fact (length plan.links * capacity)
 
--- ---- the program file
+abbrev pub HoldTooMany : Kernel → ℕ → Type 0
+HoldTooMany kernel capacity = HoldItems kernel capacity (λ items. ITEMS < items)
 
--- the bytes are refused as a program, with this line
-pub record RefusesSmall (bytes line : List ℕ) : Type 0 where
-  pub none : (s : Small) → ¬ IsSmallProgram bytes s
-  pub says : line ≡ not_built
+abbrev pub HoldFew : Kernel → ℕ → Type 0
+HoldFew kernel capacity = HoldItems kernel capacity (λ items. items ≤ ITEMS)
 
-abbrev pub FindsSmall : Option (List ℕ) → Found Small → Type 0
-FindsSmall held found = FindsProgram IsSmallProgram RefusesSmall held found
-
-abbrev pub AtSmall : Contents → List ℕ → (Small → Outcome → Type 0) → Outcome → Type 0
-AtSmall held name Next o = AtProgram IsSmallProgram RefusesSmall held name Next o
+-- where they hold too many items the command is refused, behind the program file; else comes what follows
+abbrev pub AtLinks : Kernel → ℕ → List ℕ → (Outcome → Type 0) → Outcome → Type 0
+AtLinks kernel capacity file Next o =
+    (HoldTooMany kernel capacity × (o ≡ refused 2 too_many_items (Some file))) ⊎ (HoldFew kernel capacity × Next o)
 
 -- ---- the flow file
 
+-- the line, without its newline
+abbrev pub bad_flows : List ℕ → FlowAnswer → List ℕ
+bad_flows name answer = refusal (name ++ (codes ":" ++ flow_text answer))
+
 -- the bytes are refused as flows of these inputs, with this line
-pub record RefusesFlows (name : List ℕ) (inputs : List (List ℕ)) (bytes line : List ℕ) : Type 0 where
-  pub none : IsNoFlowFile inputs bytes
-  pub says : line ≡ no_flows name
+pub record RefusesFlows (name : List ℕ) (inputs : List Signal) (bytes line : List ℕ) : Type 0 where
+  pub answer : FlowAnswer
+  pub none : IsFirstBadPlace inputs bytes answer
+  pub says : line ≡ bad_flows name answer
 
-abbrev pub FindsFlows : Option (List ℕ) → List ℕ → List (List ℕ) → Found (List (List ℤ)) → Type 0
-FindsFlows held name inputs found = FindsData (IsFlowFile inputs) (RefusesFlows name inputs) held found
+abbrev pub FindsFlows : Option (List ℕ) → List ℕ → List Signal → Found (List (List ℤ)) → Type 0
+FindsFlows held name inputs found = FindsData (AreFlows inputs) (RefusesFlows name inputs) held found
 
-abbrev pub AtFlows : Contents → List ℕ → List (List ℕ) → (List (List ℤ) → Outcome → Type 0) → Outcome → Type 0
-AtFlows held name inputs Next o = AtData (IsFlowFile inputs) (RefusesFlows name inputs) held name Next o
+abbrev pub AtFlows : Contents → List ℕ → List Signal → (List (List ℤ) → Outcome → Type 0) → Outcome → Type 0
+AtFlows held name inputs Next o = AtData (AreFlows inputs) (RefusesFlows name inputs) held name Next o
+
+-- ---- the run
+
+-- the outcome of a run with this longest trace and this end
+abbrev pub ended : Kernel → Trace → Ended → List ℕ → Outcome
+ended kernel trace end file =
+    record { text = output_text kernel trace; status = end_status end.cause; line = end_line kernel end; file = Some file }
+
+-- The run of a kernel over flows, for at most so many instants: its text is that of the longest trace, and its line names
+-- the cause why that is not longer.
+pub record RunsTo (kernel : Kernel) (flows : List (List ℤ)) (limit : ℕ) (file : List ℕ) (o : Outcome) : Type 0 where
+  pub plan : PlanView
+  pub planned : IsPlanOf kernel plan
+  pub trace : Trace
+  pub place : Option Place
+  pub end : Ended
+  pub ends : IsEnd plan flows limit trace place end
+  pub is : o ≡ ended kernel trace end file
 
 -- ---- the command
 
--- the outcome of a run of n instants with this end
-abbrev pub ended : Small → List (List ℤ) → List ℕ → ℕ → Cause → Outcome
-ended s values file n cause =
-    record { text = text_of s values n; status = end_status cause; line = end_line s n cause; file = Some file }
-
--- the run of a program over flows, for at most so many instants
-pub record RunsTo (s : Small) (values : List (List ℤ)) (limit : ℕ) (file : List ℕ) (o : Outcome) : Type 0 where
-  pub instants : ℕ
-  pub long : IsLength s values limit instants
-  pub cause : Cause
-  pub ends : IsCause s values limit instants cause
-  pub is : o ≡ ended s values file instants cause
-
--- a run over told contents comes to this
-abbrev pub RunComesTo : Contents → List ℕ → List ℕ → ℕ → Outcome → Type 0
-RunComesTo held program flows limit o =
-    AtSmall held program (λ s. AtFlows held flows s.inputs (λ values. RunsTo s values limit flows)) o
+-- a run over told contents comes to this; the number of workers makes no difference
+abbrev pub RunComesTo : Contents → (program flows : List ℕ) → Settings → Outcome → Type 0
+RunComesTo held program flows settings o =
+    AtPlan held program (λ kernel.
+    AtLinks kernel settings.capacity program (
+    AtFlows held flows (inputs_of kernel) (λ values. RunsTo kernel values settings.instants flows))) o
 
 -- its statuses, the refusals that there may be, and the file that was begun last
 abbrev pub IsRunStatus : ℕ → Type 0
 IsRunStatus status =
-    IsEnded status ⊎ ((status ≡ 6) ⊎ ((status ≡ 1) ⊎ ((status ≡ 4) ⊎ ((status ≡ 5) ⊎ (status ≡ 7)))))
-
-abbrev pub IsAboutSmall : List ℕ → Refusal → Type 0
-IsAboutSmall program r = IsAboutProgram program (λ line. line ≡ not_built) (λ nodes. ⊥) r
+    IsEnded status
+    ⊎ ((status ≡ 6) ⊎ ((status ≡ 1) ⊎ ((status ≡ 2) ⊎ ((status ≡ 4) ⊎ ((status ≡ 5) ⊎ ((status ≡ 7) ⊎ (status ≡ 8)))))))
 
 abbrev pub IsAboutFlows : List ℕ → Refusal → Type 0
-IsAboutFlows flows r = IsAboutData flows (λ line. line ≡ no_flows flows) r
+IsAboutFlows flows r = IsAboutData flows (λ line. (answer : FlowAnswer) × (line ≡ bad_flows flows answer)) r
 
-abbrev pub IsAboutRun : List ℕ → List ℕ → Refusal → Type 0
-IsAboutRun program flows r = IsAboutSmall program r ⊎ IsAboutFlows flows r
+abbrev pub IsAboutRun : (program flows : List ℕ) → Refusal → Type 0
+IsAboutRun program flows r = IsAboutPlan program r ⊎ (IsAboutLinks r ⊎ IsAboutFlows flows r)
 
-abbrev pub HasBegunRun : Contents → List ℕ → List ℕ → Option (List ℕ) → Type 0
+abbrev pub HasBegunRun : Contents → (program flows : List ℕ) → Option (List ℕ) → Type 0
 HasBegunRun held program flows at = (at ≡ name_where_there held program) ⊎ (at ≡ name_where_there held flows)
 
-abbrev pub running : (program flows : List ℕ) (limit : ℕ) → Task
-running program flows limit = record {
-  comes = λ held o. RunComesTo held program flows limit o;
+abbrev pub running : (program flows : List ℕ) → Settings → Task
+running program flows settings = record {
+  comes = λ held o. RunComesTo held program flows settings o;
   statuses = λ status. IsRunStatus status;
   about = λ r. IsAboutRun program flows r;
   begun = λ held at. HasBegunRun held program flows at;
-  beyond = λ held. ⊥;
+  beyond = λ held. HoldsBeyondBound (held program);
 }
 
--- a run of a program over flows that came to its end: the whole text was taken, and the line was said
-pub record RunsWhole (s : Small) (values : List (List ℤ)) (limit status : ℕ) (Took Said : List ℕ → Type 0) : Type 0 where
-  pub instants : ℕ
-  pub long : IsLength s values limit instants
-  pub cause : Cause
-  pub ends : IsCause s values limit instants cause
-  pub numbered : status ≡ end_status cause
-  pub text : Took (text_of s values instants)
-  pub line : Said (end_line s instants cause)
+-- ---- what a run wrote
+
+-- the text of the longest trace of a kernel and the line of the run's end were written, or a write failed
+pub record WritesRun {S : Type 0} (kernel : Kernel) (flows : List (List ℤ)) (limit : ℕ) (took : S → List ℕ → S → Type 0) (out out' : S) (wrote wrote' : ℕ) (clean : Bool) (Said : List ℕ → Type 0) (status : ℕ) : Type 0 where
+  pub plan : PlanView
+  pub planned : IsPlanOf kernel plan
+  pub trace : Trace
+  pub place : Option Place
+  pub end : Ended
+  pub ends : IsEnd plan flows limit trace place end
+  pub writes : Writes (output_text kernel trace) (end_line kernel end) (end_status end.cause) took out out' wrote wrote' clean Said status
+
+-- there was no memory for a run: nothing was written, and a line says so
+pub record LacksMemory {S : Type 0} (out out' : S) (Said : List ℕ → Type 0) (status : ℕ) : Type 0 where
+  pub numbered : status ≡ 7
+  pub untouched : out' ≡ out
+  pub line : Said memory_line
+
+-- A run came to its end: the program file holds an accepted program and the flow file flows of its inputs, the text of the
+-- longest trace was taken, and the line was said that names the cause why that is not longer.
+pub record HasRun (held : Contents) (program flows : List ℕ) (settings : Settings) (status : ℕ) (Took Said : List ℕ → Type 0) : Type 0 where
+  pub kernel : Kernel
+  pub accepted : Holds (held program) 1048576 (λ bytes. IsAcceptedAs bytes kernel)
+  pub values : List (List ℤ)
+  pub read : Holds (held flows) 67108864 (λ bytes. AreFlows (inputs_of kernel) bytes values)
+  pub plan : PlanView
+  pub planned : IsPlanOf kernel plan
+  pub trace : Trace
+  pub place : Option Place
+  pub end : Ended
+  pub ends : IsEnd plan values settings.instants trace place end
+  pub numbered : status ≡ end_status end.cause
+  pub text : Took (output_text kernel trace)
+  pub line : Said (end_line kernel end)

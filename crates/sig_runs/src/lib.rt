@@ -1,13 +1,10 @@
-//! Runs of programs of the small form: a reader of flow files, the loop over instants, and the command
-//! `run` from the names of its files to a status. It stands on sig_parse for the program, on sig_text
-//! for files and sinks, and on sig_outcome for what every command promises.
+//! The command `run`: a program is compiled to its plan by sig_compile, its flows are read by sig_flow,
+//! and sig_alone does the plan's operations on this thread. What the command comes to is defined in
+//! `specs/Runs.antt`. It stands on sig_outcome for what every command promises.
 #![tactic(auto)]
 
 mod command;
-mod flows;
 mod load;
 mod report;
-mod run;
 
 pub use command::run_command;
-pub use run::{Cause, one_end};

@@ -1,105 +1,88 @@
 //! Reading the files of a run.
 
-ghost use Rattle.std.specs.Prelude.{◌≡◌, ℕ, Some, IfSome, IfOk, IfErr, length, vec_len, bytes_eq};
+ghost use Rattle.std.specs.Prelude.{◌≡◌, ◌≢◌, ◌≤◌, Some, IfErr, IfOk, IfSome, bytes_eq, length, map, true, false};
 ghost use Rattle.std.specs.List.{IsDistinct};
-ghost use Rattle.sig_parse.specs.Small.{IsSmall, small_of};
+ghost use Rattle.sig_flow.specs.Flows.{AreFlows};
+ghost use Rattle.sig_kernel.specs.Validity.{AreFlowsFor, inputs_of};
 ghost use Rattle.sig_text.specs.Files.{name_where_there};
 ghost use Rattle.sig_outcome.specs.Outcomes.{Good};
 ghost use Rattle.sig_outcome.specs.Reading.{Reads};
-ghost use Rattle.sig_outcome.specs.Refusals.{HasCount, IsOfData, IsOfProgram, IsOwn, outcome_of};
+ghost use Rattle.sig_outcome.specs.Refusals.{HasCount, IsOfData, IsOwn, outcome_of};
 ghost use Rattle.sig_outcome.specs.Tasks.{Stops};
-ghost use Rattle.sig_runs.specs.Runs.{AtFlows, AtSmall, FindsFlows, FindsSmall, IsAboutFlows, IsAboutSmall, no_flows, not_built, running};
+ghost use Rattle.sig_compile.specs.Compiling.{FindsAccepted};
+ghost use Rattle.sig_words.specs.declared.command.Settings.{Settings};
+ghost use Rattle.sig_runs.specs.Runs.{AtFlows, FindsFlows, HoldFew, HoldTooMany, IsAboutFlows, RefusesFlows, bad_flows, running};
 
-use crate::flows::{Flow, FlowsAnswer, read_flows};
-use sig_base::Text;
-use sig_outcome::{Refusal, read_data, read_program};
-use sig_parse::{SmallAnswer, Straight, small};
+use sig_base::limits::{FLOW_BYTES, ITEMS};
+use sig_compile::load_plan;
+use sig_flow::{FlowAnswer, flows_that_are_read_fit, read_flows};
+use sig_kernel::{Inputs, Kernel};
+use sig_outcome::{Refusal, read_data};
+use sig_plan::Plan;
 use sig_text::Files;
 use std::alloc::{AllocError, Global};
 
-/// What the files of a run hold.
-#[derive(Debug, Drop)]
+/// What the files of a run hold: the plan of the program, and the flows of its inputs.
+#[derive(Drop)]
 pub struct Loaded {
-    pub program: Straight,
-    pub flows: Vec<Flow>,
+    pub plan: Plan,
+    pub inputs: Inputs,
 }
 
-/// The program and the flows of a run. The flow file is asked for behind a program that is good.
+/// The plan and the flows of a run, with links that hold `capacity` items. The flow file is asked for
+/// behind a program that is good.
 pub fn load<'a, F: Files>(
     alloc: Global,
     files: &mut F,
     program: &'a str,
     flows: &'a str,
+    capacity: u32,
 ) -> Result<Loaded, Refusal<'a>>
-    ensures small { IfOk result (λ loaded. IsSmall (small_of loaded.program)) }
-    ensures count { IfOk result (λ loaded. vec_len loaded.flows ≡ vec_len loaded.program.inputs) }
     ensures program { IfSome (F.contents files.old) (λ held. IfOk result (λ loaded.
-        FindsSmall (held program.now) (Good (small_of loaded.program)))) }
+        FindsAccepted (held program.now) (Good loaded.plan.kernel))) }
+    ensures few { IfOk result (λ loaded. HoldFew loaded.plan.kernel capacity) }
     ensures flows { IfSome (F.contents files.old) (λ held. IfOk result (λ loaded.
-        FindsFlows (held flows.now) flows.now loaded.program.inputs.items (Good loaded.flows.items))) }
+        FindsFlows (held flows.now) flows.now (inputs_of loaded.plan.kernel) (Good loaded.inputs))) }
+    ensures fit { IfOk result (λ loaded. AreFlowsFor loaded.plan.kernel loaded.inputs) }
     ensures last { IfSome (F.contents files.old) (λ held. IfOk result (λ _.
         F.at files.new ≡ name_where_there held flows.now)) }
 
     // A refusal is the one that told contents call for, if they alone decide it, whatever the limit.
-    ensures stops { (limit : ℕ) → IfErr result (Stops (running program.now flows.now limit)
+    ensures stops { (settings : Settings) → settings.capacity ≡ capacity →
+        IfErr result (Stops (running program.now flows.now settings)
         (F.contents files.old) (F.at files.old) (F.at files.new)
         (F.misses files.old) (F.misses files.new) (F.faults files.old) (F.faults files.new)) }
 {
-    let program = load_program(alloc, files, program)?;
-    let flows = load_flows(alloc, files, flows, &program.inputs)?;
-    Ok(Loaded { program, flows })
-}
-
-/// The straight program that the file of this name holds.
-fn load_program<'a, F: Files>(
-    alloc: Global,
-    files: &mut F,
-    name: &'a str,
-) -> Result<Straight, Refusal<'a>>
-    ensures small { IfOk result (λ s. IsSmall (small_of s)) }
-    ensures program { IfSome (F.contents files.old) (λ held.
-        IfOk result (λ s. FindsSmall (held name.now) (Good (small_of s)))) }
-    ensures refused { IfSome (F.contents files.old) (λ held. IfErr result (λ refusal.
-        IsOwn refusal (F.faults files.old) (F.faults files.new) →
-        AtSmall held name.now (λ _ _. ⊥) (outcome_of refusal (Some name.now)))) }
-    ensures about { IfErr result (IsAboutSmall name.now) }
-    ensures counted { IfErr result (HasCount (F.contents files.old) (F.at files.new)
-        (F.misses files.old) (F.misses files.new) (F.faults files.old) (F.faults files.new)) }
-    ensures read { Reads (F.contents files.old) (F.contents files.new) (F.at files.new)
-        (F.misses files.old) (F.misses files.new) (F.faults files.old) (F.faults files.new) name.now }
-{
-    let bytes = read_program(alloc, files, name)?;
-    match small(alloc, &bytes) {
-        Ok(program) => Ok(program),
-        Err(SmallAnswer::NotBuilt) => Err(not_built(alloc)),
-        Err(SmallAnswer::OutOfMemory) => Err(Refusal::OutOfMemory),
+    let plan = load_plan(alloc, files, program)?;
+    if hold_too_many(&plan, capacity) {
+        return Err(Refusal::TooManyItems);
     }
+    let inputs = load_flows(alloc, files, flows, &plan.kernel)?;
+    Ok(Loaded { plan, inputs })
 }
 
-/// The refusal of a program that is not of the small form.
-fn not_built<'a>(alloc: Global) -> Refusal<'a>
-    ensures { IsOfProgram (λ line. line ≡ not_built) (λ nodes. ⊥) result }
+/// Whether the links of a plan, each of which holds `capacity` items, hold too many together.
+fn hold_too_many(plan: &Plan, capacity: u32) -> bool
+    ensures many { result ≡ true → HoldTooMany plan.now.kernel capacity }
+    ensures few { result ≡ false → HoldFew plan.now.kernel capacity }
 {
-    match String::from_str(alloc, "error: not built yet") {
-        Ok(line) => Refusal::Program(line),
-        Err(AllocError) => Refusal::OutOfMemory,
-    }
+    plan.links.len().saturating_mul(capacity as usize) > ITEMS as usize
 }
 
-/// The flows that the file of this name has for these inputs.
+/// The flows that the file of this name has for the inputs of a kernel.
 fn load_flows<'a, F: Files>(
     alloc: Global,
     files: &mut F,
     name: &'a str,
-    inputs: &[Text],
-) -> Result<Vec<Flow>, Refusal<'a>>
-    requires differ { IsDistinct bytes_eq inputs.now }
-    ensures flows { IfSome (F.contents files.old) (λ held.
-        IfOk result (λ flows. FindsFlows (held name.now) name.now inputs.now (Good flows.items))) }
-    ensures count { IfOk result (λ flows. vec_len flows ≡ length inputs.now) }
+    kernel: &Kernel,
+) -> Result<Inputs, Refusal<'a>>
+    requires differ { IsDistinct bytes_eq (map (λ input. input.name) (inputs_of kernel.now)) }
+    ensures flows { IfSome (F.contents files.old) (λ held. IfOk result (λ flows.
+        FindsFlows (held name.now) name.now (inputs_of kernel.now) (Good flows))) }
+    ensures fit { IfOk result (AreFlowsFor kernel.now) }
     ensures refused { IfSome (F.contents files.old) (λ held. IfErr result (λ refusal.
         IsOwn refusal (F.faults files.old) (F.faults files.new) →
-        AtFlows held name.now inputs.now (λ _ _. ⊥) (outcome_of refusal (Some name.now)))) }
+        AtFlows held name.now (inputs_of kernel.now) (λ _ _. ⊥) (outcome_of refusal (Some name.now)))) }
     ensures about { IfErr result (IsAboutFlows name.now) }
     ensures counted { IfErr result (HasCount (F.contents files.old) (F.at files.new)
         (F.misses files.old) (F.misses files.new) (F.faults files.old) (F.faults files.new)) }
@@ -107,19 +90,38 @@ fn load_flows<'a, F: Files>(
         (F.misses files.old) (F.misses files.new) (F.faults files.old) (F.faults files.new) name.now }
 {
     let bytes = read_data(alloc, files, name)?;
-    match read_flows(alloc, &bytes, inputs) {
+    flows_of(alloc, &bytes, name, kernel)
+}
+
+/// The flows of a kernel's inputs that the bytes of the file of this name are.
+fn flows_of<'a>(
+    alloc: Global,
+    bytes: &[u8],
+    name: &str,
+    kernel: &Kernel,
+) -> Result<Inputs, Refusal<'a>>
+    requires short { length bytes.now ≤ FLOW_BYTES }
+    requires differ { IsDistinct bytes_eq (map (λ input. input.name) (inputs_of kernel.now)) }
+    ensures flows { IfOk result (AreFlows (inputs_of kernel.now) bytes.now) }
+    ensures fit { IfOk result (AreFlowsFor kernel.now) }
+    ensures refused { IfErr result (IsOfData (λ line. RefusesFlows name.now (inputs_of kernel.now) bytes.now line)) }
+{
+    flows_that_are_read_fit();
+    match read_flows(alloc, bytes, kernel) {
         Ok(flows) => Ok(flows),
-        Err(FlowsAnswer::NotFlows) => Err(no_flows(alloc, name)),
-        Err(FlowsAnswer::OutOfMemory) => Err(Refusal::OutOfMemory),
+        Err(answer) => Err(refused_flows(alloc, name, answer)),
     }
 }
 
-/// The refusal of a file that has no flows for the inputs.
-fn no_flows<'a>(alloc: Global, name: &str) -> Refusal<'a>
-    ensures { IsOfData (λ line. line ≡ no_flows name.now) result }
+/// The refusal of a flow file by an answer, or want of memory for its line.
+fn refused_flows<'a>(alloc: Global, name: &str, answer: FlowAnswer) -> Refusal<'a>
+    ensures { IsOfData (λ line. (answer ≢ FlowAnswer.OutOfMemory) × (line ≡ bad_flows name.now answer)) result }
 {
-    match format!(in alloc; "error: {name}: not a flow file") {
-        Ok(line) => Refusal::Data(line),
-        Err(AllocError) => Refusal::OutOfMemory,
+    match answer {
+        FlowAnswer::OutOfMemory => Refusal::OutOfMemory,
+        _ => match format!(in alloc; "error: {name}:{answer}") {
+            Ok(line) => Refusal::Data(line),
+            Err(AllocError) => Refusal::OutOfMemory,
+        },
     }
 }

@@ -1,5 +1,6 @@
 //! The tests of each crate in a module of its name, and what they share.
 
+mod alone;
 mod back;
 mod clock;
 mod code;

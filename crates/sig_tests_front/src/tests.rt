@@ -10,7 +10,6 @@ mod kernel;
 mod lex;
 mod parse;
 mod print;
-mod small;
 mod texts;
 mod types;
 mod words;

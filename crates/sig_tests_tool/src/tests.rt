@@ -23,6 +23,36 @@ const SUM: &[u8] = b"process SUM = (? integer A, B ! integer Y) Y := A + B;";
 
 const DIFFERENCE: &[u8] = b"process Z = (? integer A, B ! integer Y) Y := A - B;";
 
+const DOWN: &[u8] =
+    b"process DOWN = (? integer A ! integer Y) (| Y := A default (ZY - 1) | ZY := Y $ init 0 | A ^= when (ZY <= 0) |) where integer ZY; end;";
+
+const CROSSED: &[u8] =
+    b"process CRS = (? integer A; boolean B ! integer X, Y)\n(| X := (A when B) default ((Y when not B) + 1) | Y := (A when not B) default ((X when B) + 10) | A ^= B |);";
+
+const MERGE: &[u8] =
+    b"process M = (? boolean B; integer U, V ! integer Y) (| Y := U default V | U ^= when B | V ^= ^B |);";
+
+const WATCH: &[u8] =
+    b"process WATCH = (? event TICK; boolean REQ; integer V ! integer HELD; boolean ALARM)
+pragmas RunOn {AGE, ALARM} \"1\" end pragmas
+(| REQ ^= TICK
+ | V ^= when REQ
+ | HELD := V cell TICK init 0
+ | AGE := COUNT{3}(REQ)
+ | LATE := AGE >= 3
+ | WAS := LATE $ init false
+ | ALARM := LATE and not WAS
+ |)
+where integer AGE; boolean LATE, WAS;
+  process COUNT = {integer MAX} (? boolean R ! integer N)
+  (| N := (0 when R) default (MAX when (ZN >= MAX)) default (ZN + 1)
+   | ZN := N $
+   | N ^= R
+   |)
+  where integer ZN init 0; end;
+end;
+";
+
 const TWICE: &[u8] = b"process Z = (? integer A ! integer Y) Y := A + A;";
 
 /// What a call must write and answer.
@@ -117,9 +147,20 @@ fn run_text<R: Threads + Wait + Sync + Abort + AllocGlobal>(
     flows: &[u8],
     wanted: Wanted,
 ) -> Result<(), Fail> {
+    run_line(rt, &["run", "P", "F"], program, flows, wanted)
+}
+
+/// The same with these words.
+fn run_line<R: Threads + Wait + Sync + Abort + AllocGlobal>(
+    rt: &R,
+    line: &[&str],
+    program: &[u8],
+    flows: &[u8],
+    wanted: Wanted,
+) -> Result<(), Fail> {
     let mut files = files_of(rt.alloc(), program, flows)?;
-    let mut out = MemSink::new(rt.alloc(), 1000)?;
-    call(rt, &["run", "P", "F"], &mut files, &mut out, wanted)
+    let mut out = MemSink::new(rt.alloc(), 5000)?;
+    call(rt, line, &mut files, &mut out, wanted)
 }
 
 /// Calls with the words of a run.

@@ -1,3 +1,4 @@
 mod OneOutcome
 mod CommandWords
 mod TopClauses
+mod Limits

@@ -11,7 +11,7 @@ use Rattle.sig_runs.proofs.OneRun.{one_run_outcome}
 use Rattle.sig_tool.specs.TopCall.{ComesTo}
 
 pub one_outcome : (held : Contents) (c : Command) (one other : Outcome) → ComesTo held c one → ComesTo held c other → one ≡ other
-one_outcome held (Run program flows settings) one other = one_run_outcome program flows settings.instants held one other
+one_outcome held (Run program flows settings) one other = one_run_outcome program flows settings held one other
 one_outcome held (Check program pace) one other = one_compile_outcome product.Verdict program held one other
 one_outcome held (Tree program pace) one other = one_compile_outcome product.Tree program held one other
 one_outcome held (Code program pace) one other = one_compile_outcome product.Code program held one other

@@ -3,6 +3,7 @@ use Rattle.std.proofs.Common.{◌≡◌, ◌⊎◌, ℕ, inl, inr}
 use Rattle.sig_words.specs.declared.command.Command.{Command}
 use Rattle.sig_words.specs.declared.command.Command.TheVariants.{Check, Code, Judge, Print, Run, Tree}
 use Rattle.sig_compile.specs.Compiling.{IsCompileStatus}
+use Rattle.sig_runs.specs.Runs.{IsRunStatus}
 use Rattle.sig_tool.specs.TopCall.{IsStatus, IsStatusOf}
 
 compile_status : (status : ℕ) → IsCompileStatus status → IsStatus status
@@ -13,14 +14,19 @@ compile_status status (inr (inr (inr (inl is)))) = inr (inl (inr (inr (inr (inl 
 compile_status status (inr (inr (inr (inr (inl is))))) = inr (inl (inr (inr (inr (inr (inl is))))))
 compile_status status (inr (inr (inr (inr (inr is))))) = inr (inl (inr (inr (inr (inr (inr is))))))
 
+run_status : (status : ℕ) → IsRunStatus status → IsStatus status
+run_status status (inl ends) = inl (inl ends)
+run_status status (inr (inl is)) = inr (inr is)
+run_status status (inr (inr (inl is))) = inr (inl (inl is))
+run_status status (inr (inr (inr (inl is)))) = inr (inl (inr (inl is)))
+run_status status (inr (inr (inr (inr (inl is))))) = inr (inl (inr (inr (inl is))))
+run_status status (inr (inr (inr (inr (inr (inl is)))))) = inr (inl (inr (inr (inr (inl is)))))
+run_status status (inr (inr (inr (inr (inr (inr (inl is))))))) = inr (inl (inr (inr (inr (inr (inl is))))))
+run_status status (inr (inr (inr (inr (inr (inr (inr is))))))) = inr (inl (inr (inr (inr (inr (inr is))))))
+
 -- a status of a command is one of those that are answered
 pub is_status : (c : Command) (status : ℕ) → IsStatusOf c status → IsStatus status
-is_status (Run program flows settings) status (inl ends) = inl (inl ends)
-is_status (Run program flows settings) status (inr (inl is)) = inr (inr is)
-is_status (Run program flows settings) status (inr (inr (inl is))) = inr (inl (inl is))
-is_status (Run program flows settings) status (inr (inr (inr (inl is)))) = inr (inl (inr (inr (inl is))))
-is_status (Run program flows settings) status (inr (inr (inr (inr (inl is))))) = inr (inl (inr (inr (inr (inl is)))))
-is_status (Run program flows settings) status (inr (inr (inr (inr (inr is))))) = inr (inl (inr (inr (inr (inr (inl is))))))
+is_status (Run program flows settings) status is = run_status status is
 is_status (Check program pace) status is = compile_status status is
 is_status (Tree program pace) status is = compile_status status is
 is_status (Code program pace) status is = compile_status status is

@@ -1,5 +1,7 @@
 -- The commands that are built so far, among those of a command line.
-use Rattle.std.specs.Prelude.{◌≡◌, false, ⊤}
+use Rattle.std.specs.Prelude.{◌≡◌, ◌≤◌, false, ⊤}
+use Rattle.sig_base.specs.declared.limits.TheConstants.{INSTANTS_MAX}
+use Rattle.sig_words.specs.Commands.{settings_of}
 use Rattle.sig_words.specs.declared.command.Command.{Command}
 use Rattle.sig_words.specs.declared.command.Command.TheVariants.{Check, Code, Judge, Print, Run, Tree}
 
@@ -12,3 +14,7 @@ IsBuilt (Code program pace) = pace ≡ false
 IsBuilt (Print program) = ⊤
 IsBuilt (Judge program traces) = ⊤
 IsBuilt _ = ⊥
+
+-- the limit of instants of a command is at most 1,000,000,000
+abbrev pub IsLimited : Command → Type 0
+IsLimited c = (settings_of c).instants ≤ INSTANTS_MAX

@@ -4,6 +4,7 @@ use Rattle.sig_text.specs.Files.{Contents, name_where_there}
 use Rattle.sig_words.specs.Commands.{IsCommand}
 use Rattle.sig_words.specs.Readings.{Word}
 use Rattle.sig_words.specs.declared.command.Command.{Command}
+use Rattle.sig_words.specs.declared.command.Settings.{Settings}
 use Rattle.sig_words.specs.declared.command.Command.TheVariants.{Check, Code, Judge, Print, Run, Tree}
 use Rattle.sig_outcome.specs.Outcomes.{Outcome}
 use Rattle.sig_outcome.specs.Tasks.{IsDone, IsRefused, Task}
@@ -26,11 +27,15 @@ AreNoCommand words = (c : Command) → IsCommand words c → ¬ IsBuilt c
 abbrev pub OfCommand : List Word → (Command → Type 0) → Type 0
 OfCommand words Fact = (c : Command) → IsCommand words c → IsBuilt c → Fact c
 
+-- a fact of a run, if the words are one
+abbrev pub OfRun : List Word → ((program flows : List ℕ) → Settings → Type 0) → Type 0
+OfRun words Fact = (program flows : List ℕ) (settings : Settings) → IsCommand words (Run program flows settings) → IsBuilt (Run program flows settings) → Fact program flows settings
+
 -- ---- what a command means
 
 -- a command over told contents comes to this; the flag is not looked at, and a command without an equation comes to nothing
 abbrev pub ComesTo : Contents → Command → Outcome → Type 0
-ComesTo held (Run program flows settings) o = RunComesTo held program flows settings.instants o
+ComesTo held (Run program flows settings) o = RunComesTo held program flows settings o
 ComesTo held (Check program pace) o = CompileComesTo IsVerdictText held program o
 ComesTo held (Tree program pace) o = CompileComesTo IsTreeText held program o
 ComesTo held (Code program pace) o = CompileComesTo IsCodeText held program o
@@ -77,6 +82,7 @@ HasBegun held _ at = ⊥
 
 -- the program which a command compiles is not within the bound for which the nodes of a store suffice
 abbrev pub CompilesBeyondBound : Contents → Command → Type 0
+CompilesBeyondBound held (Run program flows settings) = HoldsBeyondBound (held program)
 CompilesBeyondBound held (Check program pace) = HoldsBeyondBound (held program)
 CompilesBeyondBound held (Tree program pace) = HoldsBeyondBound (held program)
 CompilesBeyondBound held (Code program pace) = HoldsBeyondBound (held program)

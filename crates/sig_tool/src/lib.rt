@@ -9,5 +9,4 @@ mod top;
 mod words;
 
 pub use sig_compile::one_verdict;
-pub use sig_runs::{Cause, one_end};
 pub use top::{one_outcome, sig_main};

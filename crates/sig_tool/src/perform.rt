@@ -5,7 +5,7 @@ ghost use Rattle.std.specs.List.{AllByRecursion};
 ghost use Rattle.std.specs.Str.{IsUtf8};
 ghost use Rattle.sig_outcome.specs.Tasks.{Performs, SaysLine};
 ghost use Rattle.sig_words.specs.Commands.{files_of};
-ghost use Rattle.sig_tool.specs.Commands.{IsBuilt};
+ghost use Rattle.sig_tool.specs.Commands.{IsBuilt, IsLimited};
 ghost use Rattle.sig_tool.specs.TopCall.{task_of};
 
 use sig_base::Text;
@@ -17,7 +17,7 @@ use sig_words::Command;
 use std::alloc::Global;
 use std::str;
 
-/// Does what a command asks for. The number of workers and the capacity of a link have no effect so far.
+/// Does what a command asks for. The number of workers has no effect so far.
 pub fn perform<F: Files, S: Sink, E: Sink>(
     alloc: Global,
     command: &Command,
@@ -27,6 +27,7 @@ pub fn perform<F: Files, S: Sink, E: Sink>(
 ) -> u8
     requires built { IsBuilt command.now }
     requires names { AllByRecursion IsUtf8 (files_of command.now) }
+    requires limited { IsLimited command.now }
     ensures { Performs (task_of command.now)
         (F.contents files.old) (F.at files.old) (F.at files.new)
         (F.misses files.old) (F.misses files.new) (F.faults files.old) (F.faults files.new)
@@ -36,7 +37,7 @@ pub fn perform<F: Files, S: Sink, E: Sink>(
     match command {
         Command::Run(program, flows, settings) => {
             let (program, flows) = (name_of(program), name_of(flows));
-            run_command(alloc, program, flows, settings.instants, files, out, err)
+            run_command(alloc, program, flows, *settings, files, out, err)
         }
         Command::Check(program, _) => {
             compile_command(alloc, Product::Verdict, name_of(program), files, out, err)

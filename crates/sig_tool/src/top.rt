@@ -7,8 +7,9 @@ ghost use Rattle.sig_text.specs.Sink.{TookPrefix};
 ghost use Rattle.sig_words.specs.Readings.{texts};
 ghost use Rattle.sig_words.specs.declared.command.Command.{Command};
 ghost use Rattle.sig_outcome.specs.Outcomes.{Outcome};
-ghost use Rattle.sig_outcome.specs.Tasks.{IsDone, IsDue, IsRefused, IsRefusedBy, MayAnswer, SaysLine, memory_line, words_line, write_line};
-ghost use Rattle.sig_tool.specs.TopCall.{AreNoCommand, ComesTo, CompilesBeyondBound, HasBegun, IsAbout, IsStatus, IsStatusOf, OfCommand, OfOutcome};
+ghost use Rattle.sig_runs.specs.Runs.{HasRun};
+ghost use Rattle.sig_outcome.specs.Tasks.{IsDone, IsDue, IsEnded, IsRefused, IsRefusedBy, MayAnswer, SaysLine, items_line, memory_line, words_line, write_line};
+ghost use Rattle.sig_tool.specs.TopCall.{AreNoCommand, ComesTo, CompilesBeyondBound, HasBegun, IsAbout, IsStatus, IsStatusOf, OfCommand, OfOutcome, OfRun};
 
 use crate::perform::perform;
 use crate::words::built_command;
@@ -21,17 +22,17 @@ use std::thread::Threads;
 
 /// Does what the words of a command line ask for, and answers the status with which the program ends.
 /// `words` are the command line without the program's name. So far the commands that are built are
-/// `check`, `tree` and `code` without the flag `--pace`, `print`, `judge`, and `run` without that flag
-/// for a program of the small form; the number of workers and the capacity of a link are read, and
-/// have no effect yet.
+/// `check`, `tree`, `code` and `run` without the flag `--pace`, `print` and `judge`. A run is made on this
+/// thread, whatever the number of workers; the capacity of a link is asked for how many items the links
+/// of the program would hold.
 ///
 /// | Status | Comes |
 /// |---|---|
 /// | 0 | done; a run ended because an input had no further value, or at the limit of instants |
-/// | 1 | the program is refused, by the passes that the command needs; for a run, it is not of the small form |
-/// | 2 | the words are no command, or one that is not built |
-/// | 3 | the run ended at a sum outside 64 bits |
-/// | 4 | the flow or trace file is longer than 67,108,864 bytes or none for the program |
+/// | 1 | the program is refused, by the passes that the command needs |
+/// | 2 | the words are no command, or one that is not built; or the links of the program to be run would hold more than 16,777,216 items |
+/// | 3 | the run ended at an equation: its result is outside 64 bits, or its divisor is 0 |
+/// | 4 | the flow or trace file is longer than 67,108,864 bytes, or none for the program |
 /// | 5 | a file is missing or was not read |
 /// | 6 | a write to `out` failed |
 /// | 7 | memory was wanting |
@@ -46,8 +47,8 @@ pub fn sig_main<R: Threads + Wait + Sync, F: Files, S: Sink, E: Sink, G: Gate + 
     err: &mut E,
     _gate: &G,
 ) -> u8
-    // The statuses, and those of each command that is built. 2 comes where the words are none of
-    // these, unless memory was wanting to read them.
+    // The statuses, and those of each command that is built. Where the words are none of these, 2 comes,
+    // unless memory was wanting to read them.
     ensures numbers { IsStatus result }
     ensures numbers_of { OfCommand (texts words.now) (λ c. IsStatusOf c result) }
     ensures no_command { AreNoCommand (texts words.now) → (result ≡ 2) ⊎ (result ≡ 7) }
@@ -56,10 +57,14 @@ pub fn sig_main<R: Threads + Wait + Sync, F: Files, S: Sink, E: Sink, G: Gate + 
     ensures prefix { OfCommand (texts words.now) (λ c. OfOutcome (F.contents files.old) c (λ o.
         TookPrefix S.took out.old o.text out.new)) }
 
-    // A command that is done wrote all of it, and said what ended it.
+    // A command that is done wrote all of it, and said what ended it: a run wrote the text of the longest
+    // trace, and named the first cause why that is not longer.
     ensures whole { IsDone result → OfCommand (texts words.now) (λ c. IfSome (F.contents files.old) (λ held.
         IsDue (ComesTo held c) held (F.at files.old) (F.at files.new) result (λ text line.
         S.took out.old text out.new × SaysLine E.took (E.faults err.old) (E.faults err.new) err.old err.new line))) }
+    ensures run { IsEnded result → OfRun (texts words.now) (λ program flows settings.
+        IfSome (F.contents files.old) (λ held. HasRun held program flows settings result
+        (λ text. S.took out.old text out.new) (SaysLine E.took (E.faults err.old) (E.faults err.new) err.old err.new))) }
     ensures flushed { IsDone result → IsTrue (S.clean out.new) }
 
     // The status is the one that the told contents call for, if no call failed, memory was found, and the nodes of
@@ -76,8 +81,10 @@ pub fn sig_main<R: Threads + Wait + Sync, F: Files, S: Sink, E: Sink, G: Gate + 
         IsRefusedBy (λ held. ComesTo held c) (IsAbout c) (F.contents files.old) (F.at files.old) (F.at files.new)
         (F.misses files.old) (F.misses files.new) (F.faults files.old) (F.faults files.new) result
         (SaysLine E.took (E.faults err.old) (E.faults err.new) err.old err.new)) }
-    ensures words_line { result ≡ 2 →
+    ensures words_line { AreNoCommand (texts words.now) → result ≡ 2 →
         SaysLine E.took (E.faults err.old) (E.faults err.new) err.old err.new words_line }
+    ensures items_line { result ≡ 2 → OfCommand (texts words.now) (λ c.
+        SaysLine E.took (E.faults err.old) (E.faults err.new) err.old err.new items_line) }
     ensures memory_line { result ≡ 7 →
         SaysLine E.took (E.faults err.old) (E.faults err.new) err.old err.new memory_line }
     ensures fault_line { result ≡ 6 →

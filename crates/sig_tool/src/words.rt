@@ -5,7 +5,7 @@ ghost use Rattle.std.specs.List.{AllByRecursion};
 ghost use Rattle.std.specs.Str.{IsUtf8};
 ghost use Rattle.sig_words.specs.Commands.{IsCommand, files_of};
 ghost use Rattle.sig_words.specs.Readings.{texts};
-ghost use Rattle.sig_tool.specs.Commands.{IsBuilt};
+ghost use Rattle.sig_tool.specs.Commands.{IsBuilt, IsLimited};
 ghost use Rattle.sig_tool.specs.TopCall.{AreNoCommand, OfCommand};
 
 use sig_words::{Command, WordsAnswer, read_words};
@@ -17,6 +17,7 @@ pub fn built_command(alloc: Global, words: &[String]) -> Result<Command, WordsAn
     ensures command { IfOk result (IsCommand (texts words.now)) }
     ensures only { IfOk result (λ command. OfCommand (texts words.now) (λ c. c ≡ command)) }
     ensures names { IfOk result (λ command. AllByRecursion IsUtf8 (files_of command)) }
+    ensures limited { IfOk result IsLimited }
     ensures refused { IfErr result (λ answer. (answer ≡ WordsAnswer.OutOfMemory) ⊎ AreNoCommand (texts words.now)) }
 {
     let command = read_words(alloc, words)?;

@@ -4,11 +4,12 @@ ghost use Rattle.std.specs.Prelude.{◌≡◌, IfOk};
 ghost use Rattle.sig_dd.specs.Nodes.{Holds};
 
 use super::diagrams::value;
-use super::kernels::{down, fun, kernel, sig, two_roots};
+use super::kernels::{down, fun, kernel, sampled_by_two, sig, two_roots};
 use sig_base::{Kind, SigId};
+use sig_clock::condition_set;
 use sig_dd::{DdAnswer, Ref, Store};
 use sig_kernel::{Form, FunOp, Kernel, Operand};
-use sig_rel::{RelAnswer, Relation, relation, triangle};
+use sig_rel::{RelAnswer, Relation, System, free_system, relation, triangle};
 use std::alloc::{AllocError, Global};
 use std::marker::Brand;
 use std::sync::ledger::Blank;
@@ -140,6 +141,61 @@ fn down_is_triangular(rt: HostRuntime) -> Result<(), Fail> {
     let classes = triangle_of(alloc, &down(alloc)?)?.ok_or("not triangular")?;
     assert_eq!(rt; classes.as_slice(), [1, 0].as_slice());
     assert!(rt; triangle_of(alloc, &two_roots(alloc)?)?.is_none());
+    Ok(())
+}
+
+/// The system of a kernel that is valid, over its conditions by number.
+fn system_of(
+    alloc: Global,
+    kernel: &Kernel,
+    store: &mut Store,
+) -> Result<Option<System>, RelAnswer> {
+    if kernel.is_valid() {
+        let conditions = condition_set(alloc, kernel)?;
+        free_system(alloc, kernel, conditions.as_slice(), store)
+    } else {
+        Ok(None)
+    }
+}
+
+/// The function that is true always, and the first variable.
+fn always_and_first(store: &mut Store) -> Result<(Ref, Ref), DdAnswer> {
+    let first = store.variable(0)?;
+    Ok((store.constant(true), first))
+}
+
+/// The second variable, and where the first two are true.
+fn second_and_both(store: &mut Store) -> Result<(Ref, Ref), DdAnswer> {
+    let first = store.variable(0)?;
+    let second = store.variable(1)?;
+    let both = store.conj(first, second)?;
+    Ok((second, both))
+}
+
+#[test]
+fn the_clocks_of_down(rt: HostRuntime) -> Result<(), Fail> {
+    let alloc = rt.alloc();
+    let mut store = Store::new(alloc, 1)?;
+    let found = system_of(alloc, &down(alloc)?, &mut store)?.ok_or("not free")?;
+    let (t, a) = always_and_first(&mut store)?;
+    assert_eq!(rt; found.present.as_slice(), [a, t, t, t, t, a].as_slice());
+    assert_eq!(rt; found.truth.as_slice(), [a, t, t, t, a, a].as_slice());
+    assert!(rt; found.residue == t && found.speaks == t && found.variables == 1);
+    Ok(())
+}
+
+#[test]
+fn the_clocks_of_samplings(rt: HostRuntime) -> Result<(), Fail> {
+    let alloc = rt.alloc();
+    let mut store = Store::new(alloc, 3)?;
+    let found = system_of(alloc, &sampled_by_two(alloc)?, &mut store)?.ok_or("not free")?;
+    let (t, a) = always_and_first(&mut store)?;
+    let (b, both) = second_and_both(&mut store)?;
+    assert_eq!(rt;
+        found.present.as_slice(),
+        [t, t, t, a, b, both, a].as_slice()
+    );
+    assert_eq!(rt; found.truth.as_slice(), [a, b, t, a, b, both, a].as_slice());
     Ok(())
 }
 

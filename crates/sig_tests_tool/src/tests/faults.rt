@@ -39,10 +39,12 @@ fn tells_of_a_sink_that_fails(rt: HostRuntime) -> Result<(), Fail> {
         status: 6,
     };
     call(&rt, &["run", "P", "F"], &mut files, &mut short, cut)?;
+    // Without a text the first call of the sink is the flush.
     let mut sticky = MemSink::new(rt.alloc(), 100)?;
-    sticky.fail_at(9)?;
+    sticky.fail_at(1)?;
+    let mut files = files_of(rt.alloc(), SUM, b"")?;
     let unflushed = Wanted {
-        out: b"Y 11\nY 22\n",
+        out: b"",
         err: b"error: write failed\n",
         status: 6,
     };
@@ -78,12 +80,12 @@ fn asks_for_no_more_than_it_needs(rt: HostRuntime) -> Result<(), Fail> {
     let run: &[&str] = &["run", "P", "F"];
     let none: &[&str] = &["run", "Q", "F"];
     let refused = b"error: these words are not a command\n".as_slice();
-    let not_built = b"error: not built yet\n".as_slice();
+    let no_program = b"error 1:1: syntax\n".as_slice();
     let missing = b"error: Q: not found\n".as_slice();
     // The call behind the last one that is needed fails where it is made.
     for (line, err, status, next) in [
         (words, refused, 2, 1),
-        (run, not_built, 1, 4),
+        (run, no_program, 1, 4),
         (none, missing, 5, 2),
     ] {
         let mut files = files_of(rt.alloc(), b"no program", b"A 1")?;

@@ -2,10 +2,6 @@
 
 use super::*;
 
-const DOWN: &[u8] = b"process DOWN = (? integer A ! integer Y)
-(| Y := A default (ZY - 1) | ZY := Y $ init 0 | A ^= when (ZY <= 0) |)
-where integer ZY; end;";
-
 #[test]
 fn judges_traces(rt: HostRuntime) -> Result<(), Fail> {
     let traces: [(&[u8], &[u8], Wanted); 6] = [

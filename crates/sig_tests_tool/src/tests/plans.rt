@@ -2,36 +2,6 @@
 
 use super::*;
 
-const DOWN: &[u8] =
-    b"process DOWN = (? integer A ! integer Y) (| Y := A default (ZY - 1) | ZY := Y $ init 0 | A ^= when (ZY <= 0) |) where integer ZY; end;";
-
-const CROSSED: &[u8] =
-    b"process CRS = (? integer A; boolean B ! integer X, Y)\n(| X := (A when B) default ((Y when not B) + 1) | Y := (A when not B) default ((X when B) + 10) | A ^= B |);";
-
-const MERGE: &[u8] =
-    b"process M = (? boolean B; integer U, V ! integer Y) (| Y := U default V | U ^= when B | V ^= ^B |);";
-
-const WATCH: &[u8] =
-    b"process WATCH = (? event TICK; boolean REQ; integer V ! integer HELD; boolean ALARM)
-pragmas RunOn {AGE, ALARM} \"1\" end pragmas
-(| REQ ^= TICK
- | V ^= when REQ
- | HELD := V cell TICK init 0
- | AGE := COUNT{3}(REQ)
- | LATE := AGE >= 3
- | WAS := LATE $ init false
- | ALARM := LATE and not WAS
- |)
-where integer AGE; boolean LATE, WAS;
-  process COUNT = {integer MAX} (? boolean R ! integer N)
-  (| N := (0 when R) default (MAX when (ZN >= MAX)) default (ZN + 1)
-   | ZN := N $
-   | N ^= R
-   |)
-  where integer ZN init 0; end;
-end;
-";
-
 /// Calls with these words for a program, and compares the text.
 fn write_product<R: Threads + Wait + Sync + Abort + AllocGlobal>(
     rt: &R,

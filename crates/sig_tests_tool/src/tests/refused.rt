@@ -4,61 +4,57 @@ use super::*;
 
 #[test]
 fn refuses_programs(rt: HostRuntime) -> Result<(), Fail> {
-    for program in [
-        b"".as_slice(),
-        b"process P = (? integer A ! integer Y) Y := A * A;",
-    ] {
+    let long = vec![in rt.alloc(); b' '; 1_048_577]?;
+    let rows: [(&[u8], &'static [u8]); 4] = [
+        (b"", b"error 1:1: syntax\n"),
+        (
+            b"process P = (? integer A ! integer Y) Y := A + Q;",
+            b"error 1:48: unknown name Q\n",
+        ),
+        (
+            b"process CYC = (? integer A ! integer X, Y)\n(| X := Y + 1 | Y := X - 1 | X ^= A |);",
+            b"error 1:38: cycle through X\n",
+        ),
+        (&long, b"error: program longer than 1048576 bytes\n"),
+    ];
+    for (program, err) in rows {
         let wanted = Wanted {
             out: b"",
-            err: b"error: not built yet\n",
+            err,
             status: 1,
         };
         run_text(&rt, program, b"A 1", wanted)?;
-    }
-    let long = vec![in rt.alloc(); b' '; 1_048_577]?;
-    let wanted = Wanted {
-        out: b"",
-        err: b"error: program longer than 1048576 bytes\n",
-        status: 1,
-    };
-    run_text(&rt, &long, b"A 1", wanted)
-}
-
-#[test]
-fn refuses_flow_files(rt: HostRuntime) -> Result<(), Fail> {
-    let bad: [&[u8]; 8] = [
-        b"A 1x",
-        b"A 9223372036854775808",
-        b"A -9223372036854775809",
-        b"C 1",
-        b"A 1\r",
-        b"A \x80",
-        b"A +1",
-        b"A 1 -",
-    ];
-    for flows in bad {
-        let wanted = Wanted {
-            out: b"",
-            err: b"error: F: not a flow file\n",
-            status: 4,
-        };
-        run_text(&rt, SUM, flows, wanted)?;
     }
     Ok(())
 }
 
 #[test]
-fn refuses_too_many_values(rt: HostRuntime) -> Result<(), Fail> {
-    let mut flows = Vec::from_slice(rt.alloc(), b"A")?;
-    for _ in 0..4_000_001 {
-        flows.extend_from_slice(b" 1")?;
+fn refuses_flow_files(rt: HostRuntime) -> Result<(), Fail> {
+    let bad: [(&[u8], &'static [u8]); 11] = [
+        (b"A 1x", b"error: F:1:3: bad value\n"),
+        (b"A 9223372036854775808", b"error: F:1:3: out of range\n"),
+        (b"A -9223372036854775809", b"error: F:1:3: out of range\n"),
+        (b"C 1", b"error: F:1: not an input\n"),
+        (b"A 1\r", b"error: F:1: bad line\n"),
+        (b"A \x80", b"error: F:1: bad line\n"),
+        (b"A +1", b"error: F:1:3: bad value\n"),
+        (b"A 1 -", b"error: F:1:5: bad value\n"),
+        (b"flows 2\nA 1*0", b"error: F:2:3: bad value\n"),
+        (b"A 1*3", b"error: F:1:3: bad value\n"),
+        (
+            b"flows 2\nA 0*4000000\nB 1",
+            b"error: F: more than 4000000 values\n",
+        ),
+    ];
+    for (flows, err) in bad {
+        let wanted = Wanted {
+            out: b"",
+            err,
+            status: 4,
+        };
+        run_text(&rt, SUM, flows, wanted)?;
     }
-    let wanted = Wanted {
-        out: b"",
-        err: b"error: F: not a flow file\n",
-        status: 4,
-    };
-    run_text(&rt, TWICE, &flows, wanted)
+    Ok(())
 }
 
 #[test]

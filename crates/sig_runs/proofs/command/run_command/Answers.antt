@@ -1,25 +1,26 @@
-use Rattle.sig_parse.specs.Small.{small_of}
 use Rattle.sig_outcome.specs.Tasks.{SaysLine}
 use Rattle.sig_outcome.proofs.Performing.{performs_refusal}
 use Rattle.sig_runs.specs.Runs.{running}
 use Rattle.sig_runs.proofs.Loads.{run_number}
 use Rattle.sig_runs.proofs.OneRun.{one_run_outcome}
-use Rattle.sig_runs.proofs.RunClauses.{performs_run}
+use Rattle.sig_runs.proofs.Written.{performs_run}
 use Rattle.sig_runs.proofs.command.run_command.Goals as goal
+use Rattle.std.proofs.Common.{refl}
 
 pub returns-in-Ok : goal.returns-in-Ok
 returns-in-Ok g c =
-    performs_run (g.F.Files.contents c.args.files.now) c.args.program.now c.args.flows.now c.args.limit (small_of c.in-Ok.loaded.program) c.in-Ok.loaded.flows.items
-    c.in-Ok.ensures.program c.in-Ok.ensures.flows (g.F.Files.at c.args.files.now) (g.F.Files.at c.load.new.files)
+    performs_run (g.F.Files.contents c.args.files.now) (g.F.Files.at c.args.files.now) (g.F.Files.at c.load.new.files)
     (g.F.Files.misses c.args.files.now) (g.F.Files.misses c.load.new.files) (g.F.Files.faults c.args.files.now) (g.F.Files.faults c.load.new.files)
+    c.args.program.now c.args.flows.now c.args.settings c.in-Ok.loaded.plan.kernel c.in-Ok.loaded.inputs
+    c.in-Ok.ensures.program c.in-Ok.ensures.few c.in-Ok.ensures.flows c.in-Ok.ensures.last
     g.S.Sink.took c.args.out.now c.run_loaded.new.out (g.S.Sink.faults c.args.out.now) (g.S.Sink.faults c.run_loaded.new.out) (g.S.Sink.clean c.run_loaded.new.out)
     (SaysLine g.E.Sink.took (g.E.Sink.faults c.args.err.now) (g.E.Sink.faults c.run_loaded.new.err) c.args.err.now c.run_loaded.new.err) c.run_loaded.result
-    c.in-Ok.ensures.last c.run_loaded.ensures.numbers c.run_loaded.ensures.whole c.run_loaded.ensures.flushed c.run_loaded.ensures.prefix c.run_loaded.ensures.failed c.run_loaded.ensures.fault_line
+    (g.met.S.Sink.took_nothing c.args.out.now) c.run_loaded.ensures
 
 pub returns-in-Err : goal.returns-in-Err
 returns-in-Err g c =
-    performs_refusal (running c.args.program.now c.args.flows.now c.args.limit) (g.F.Files.contents c.args.files.now) (g.F.Files.at c.args.files.now) (g.F.Files.at c.load.new.files)
+    performs_refusal (running c.args.program.now c.args.flows.now c.args.settings) (g.F.Files.contents c.args.files.now) (g.F.Files.at c.args.files.now) (g.F.Files.at c.load.new.files)
     (g.F.Files.misses c.args.files.now) (g.F.Files.misses c.load.new.files) (g.F.Files.faults c.args.files.now) (g.F.Files.faults c.load.new.files)
-    (one_run_outcome c.args.program.now c.args.flows.now c.args.limit) g.S.Sink.took c.args.out.now (g.S.Sink.faults c.args.out.now) (g.S.Sink.faults c.args.out.now) (g.S.Sink.clean c.args.out.now)
+    (one_run_outcome c.args.program.now c.args.flows.now c.args.settings) g.S.Sink.took c.args.out.now (g.S.Sink.faults c.args.out.now) (g.S.Sink.faults c.args.out.now) (g.S.Sink.clean c.args.out.now)
     (SaysLine g.E.Sink.took (g.E.Sink.faults c.args.err.now) (g.E.Sink.faults c.refuse.new.err) c.args.err.now c.refuse.new.err) c.refuse.result c.in-Err.refusal
-    (g.met.S.Sink.took_nothing c.args.out.now) (run_number c.args.program.now c.args.flows.now) (c.in-Err.ensures.stops c.args.limit) c.refuse.ensures.said c.refuse.ensures.status
+    (g.met.S.Sink.took_nothing c.args.out.now) (run_number c.args.program.now c.args.flows.now) (c.in-Err.ensures.stops c.args.settings refl) c.refuse.ensures.said c.refuse.ensures.status

@@ -1,19 +1,26 @@
-use Rattle.sig_parse.specs.Small.{small_of}
-use Rattle.sig_runs.specs.SmallRun.{text_of}
+use Rattle.std.proofs.Common.{subst}
+use Rattle.sig_base.proofs.TraceLemmas.{one_longest}
+use Rattle.sig_base.specs.Traces.{Trace}
+use Rattle.sig_kernel.specs.KernelTraces.{IsKernelTrace}
+use Rattle.sig_kernel.specs.OutputText.{output_text}
+use Rattle.sig_text.specs.Sink.{TookPrefix-whole}
 use Rattle.sig_outcome.proofs.TakenPieces.{flushed}
-use Rattle.sig_runs.proofs.RunLength.{prefix_whole}
 use Rattle.sig_runs.proofs.command.run_out.Goals as goal
 
-pub returns-in_err-flush-clause-prefix : goal.returns-in_err-flush-clause-prefix
-returns-in_err-flush-clause-prefix g c = λ n long.
-    prefix_whole g.S.Sink.took (small_of c.args.program.now) c.args.flows.now c.args.limit c.in_ok-ended.ended.instants n c.args.out.now c.flush.new.self c.in_ok-ended.ensures.length long
-    (flushed g.S.Sink.took g.met.S.Sink.took_both (text_of (small_of c.args.program.now) c.args.flows.now c.in_ok-ended.ended.instants) c.args.out.now c.run.new.out c.flush.new.self c.in_ok-ended.ensures.text c.flush.ensures.bytes)
+pub returns-in-Ok-clause-whole : goal.returns-in-Ok-clause-whole
+returns-in-Ok-clause-whole g c =
+    let run = c.in_ok-end.ensures.whole in
+    record {
+      trace = run.trace;
+      place = run.place;
+      end = run.end;
+      text = flushed g.S.Sink.took g.met.S.Sink.took_both (output_text c.args.plan.now.kernel run.trace) c.args.out.now c.run_alone.new.sink c.flush.new.self run.text c.flush.ensures.bytes;
+    }
 
-pub returns-clause-text : goal.returns-clause-text
-returns-clause-text g c =
-    flushed g.S.Sink.took g.met.S.Sink.took_both (text_of (small_of c.args.program.now) c.args.flows.now c.in_ok-ended.ended.instants) c.args.out.now c.run.new.out c.flush.new.self c.in_ok-ended.ensures.text c.flush.ensures.bytes
-
-pub returns-clause-prefix : goal.returns-clause-prefix
-returns-clause-prefix g c = λ n long.
-    prefix_whole g.S.Sink.took (small_of c.args.program.now) c.args.flows.now c.args.limit c.in_ok-ended.ended.instants n c.args.out.now c.flush.new.self c.in_ok-ended.ensures.length long
-    (flushed g.S.Sink.took g.met.S.Sink.took_both (text_of (small_of c.args.program.now) c.args.flows.now c.in_ok-ended.ended.instants) c.args.out.now c.run.new.out c.flush.new.self c.in_ok-ended.ensures.text c.flush.ensures.bytes)
+pub returns-in-Err-clause-prefix : goal.returns-in-Err-clause-prefix
+returns-in-Err-clause-prefix g c = λ is trace longest.
+    let run = c.in_ok-end.ensures.whole in
+    let same = one_longest (IsKernelTrace c.args.plan.now.kernel) c.args.inputs.now c.args.limit run.trace trace run.end.longest longest in
+    TookPrefix-whole g.S.Sink.took c.args.out.now c.flush.new.self (output_text c.args.plan.now.kernel trace)
+    (subst (λ (t : Trace). g.S.Sink.took c.args.out.now (output_text c.args.plan.now.kernel t) c.flush.new.self) same
+    (flushed g.S.Sink.took g.met.S.Sink.took_both (output_text c.args.plan.now.kernel run.trace) c.args.out.now c.run_alone.new.sink c.flush.new.self run.text c.flush.ensures.bytes))

@@ -1,4 +1,10 @@
+use Rattle.std.proofs.Common.{subst}
+use Rattle.sig_words.specs.declared.command.Command.{Command}
+use Rattle.sig_tool.specs.Commands.{IsLimited}
 use Rattle.sig_tool.proofs.perform.perform.Goals as goal
+
+pub run_command-requires : goal.run_command-requires
+run_command-requires g c = subst (λ (d : Command). IsLimited d) c.in-Run.is c.requires.limited
 
 pub returns-in-Run : goal.returns-in-Run
 returns-in-Run g c = rw c.in-Run.is (rw (c.name_of-program.ensures, c.name_of-flows.ensures) at c.run_command.ensures)

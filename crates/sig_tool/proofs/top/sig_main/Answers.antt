@@ -1,10 +1,14 @@
-use Rattle.std.proofs.Common.{inl}
+use Rattle.std.proofs.Common.{inl, subst, sym}
 use Rattle.std.specs.Prelude.{IfSome}
 use Rattle.sig_text.specs.Counts.{Rose}
 use Rattle.sig_text.specs.Sink.{TookPrefix}
 use Rattle.sig_words.specs.Readings.{texts}
 use Rattle.sig_outcome.specs.Tasks.{IsDue, IsRefusedBy, MayAnswer, SaysLine}
 use Rattle.sig_tool.specs.TopCall.{ComesTo, CompilesBeyondBound, HasBegun, IsAbout, IsStatusOf, OfOutcome}
+use Rattle.sig_words.specs.declared.command.Command.{Command}
+use Rattle.sig_words.specs.declared.command.Command.TheVariants.{Run}
+use Rattle.sig_outcome.proofs.Refused.{told_both}
+use Rattle.sig_runs.proofs.Ending.{has_run}
 use Rattle.sig_tool.proofs.CommandWords.{of_one, refused_unread}
 use Rattle.sig_tool.proofs.TopClauses.{is_status}
 use Rattle.sig_tool.proofs.top.sig_main.Goals as goal
@@ -31,6 +35,18 @@ returns-in-Ok-clause-whole g c = λ ends.
     (λ text line. g.S.Sink.took c.args.out.now text c.perform.new.out
     × SaysLine g.E.Sink.took (g.E.Sink.faults c.args.err.now) (g.E.Sink.faults c.perform.new.err) c.args.err.now c.perform.new.err line)))
     c.in-Ok.ensures.only (c.perform.ensures.whole ends)
+
+pub returns-in-Ok-clause-run : goal.returns-in-Ok-clause-run
+returns-in-Ok-clause-run g c = λ ends program flows settings is built.
+    told_both (g.F.Files.contents c.args.files.now) _ _ _
+    (λ held due same. has_run held program flows settings (g.F.Files.at c.args.files.now) (g.F.Files.at c.perform.new.files) c.perform.result
+    (λ text. g.S.Sink.took c.args.out.now text c.perform.new.out)
+    (SaysLine g.E.Sink.took (g.E.Sink.faults c.args.err.now) (g.E.Sink.faults c.perform.new.err) c.args.err.now c.perform.new.err)
+    (subst (λ (d : Command). IsDue (ComesTo held d) held (g.F.Files.at c.args.files.now) (g.F.Files.at c.perform.new.files) c.perform.result
+    (λ text line. g.S.Sink.took c.args.out.now text c.perform.new.out
+    × SaysLine g.E.Sink.took (g.E.Sink.faults c.args.err.now) (g.E.Sink.faults c.perform.new.err) c.args.err.now c.perform.new.err line))
+    (sym (c.in-Ok.ensures.only (Run program flows settings) is built)) due) ends)
+    (c.perform.ensures.whole (inl ends)) (c.perform.ensures.whole (inl ends))
 
 pub returns-in-Ok-clause-status : goal.returns-in-Ok-clause-status
 returns-in-Ok-clause-status g c =
@@ -59,6 +75,12 @@ returns-in-Ok-clause-begun g c = λ d is built.
     inl (of_one (texts c.args.words.now) c.in-Ok.command
     (λ command. IfSome (g.F.Files.contents c.args.files.now) (λ held. HasBegun held command (g.F.Files.at c.perform.new.files)))
     c.in-Ok.ensures.only c.perform.ensures.begun d is built)
+
+pub returns-in-Ok-clause-words_line : goal.returns-in-Ok-clause-words_line
+returns-in-Ok-clause-words_line g c = λ none two. absurd (none c.in-Ok.command c.in-Ok.ensures.command c.in-Ok.ensures.built)
+
+pub returns-in-Ok-clause-items_line : goal.returns-in-Ok-clause-items_line
+returns-in-Ok-clause-items_line g c = λ two d is built. c.perform.ensures.items_line two
 
 -- ---- memory was wanting to read the words
 

@@ -8,6 +8,7 @@ use Rattle.sig_words.specs.declared.answer.WordsAnswer.TheVariants.{Refused, Out
 use Rattle.sig_words.specs.declared.command.Command.{Command}
 use Rattle.sig_tool.specs.Commands.{IsBuilt}
 use Rattle.sig_tool.specs.TopCall.{AreNoCommand}
+use Rattle.sig_tool.proofs.Limits.{limited}
 use Rattle.sig_tool.proofs.words.built_command.Goals as goal
 
 -- where the words are a command, only memory was wanting
@@ -22,6 +23,9 @@ returns-in_err-command-clause-refused c =
 
 pub returns-then-is_built-clause-only : goal.returns-then-is_built-clause-only
 returns-then-is_built-clause-only c = λ d is built. sym (c.in_ok-command.ensures.given d is)
+
+pub returns-then-is_built-clause-limited : goal.returns-then-is_built-clause-limited
+returns-then-is_built-clause-limited c = limited (texts c.args.words.now) c.in_ok-command.command c.in_ok-command.ensures.command
 
 pub returns-else-is_built-clause-refused : goal.returns-else-is_built-clause-refused
 returns-else-is_built-clause-refused c =

@@ -1,0 +1,37 @@
+//! Reading the file of a program, up to its plan.
+
+ghost use Rattle.std.specs.Prelude.{◌≡◌, Some, IfErr, IfOk, IfSome};
+ghost use Rattle.sig_outcome.specs.Outcomes.{Good};
+ghost use Rattle.sig_outcome.specs.Reading.{Reads};
+ghost use Rattle.sig_outcome.specs.Refusals.{HasCount, IsOwn, outcome_of, status_of};
+ghost use Rattle.sig_compile.specs.Compiling.{AtPlan, FindsAccepted, HoldsBeyondBound, IsAboutPlan};
+
+use crate::compile::plan_of;
+use sig_outcome::{Refusal, read_program};
+use sig_plan::Plan;
+use sig_text::Files;
+use std::alloc::Global;
+
+/// The plan of the program that the file of this name holds, or the first refusal by its length, the
+/// passes up to the kernel and the rules of acceptance.
+pub fn load_plan<'a, F: Files>(
+    alloc: Global,
+    files: &mut F,
+    name: &'a str,
+) -> Result<Plan, Refusal<'a>>
+    ensures plan { IfSome (F.contents files.old) (λ held.
+        IfOk result (λ plan. FindsAccepted (held name.now) (Good plan.kernel))) }
+    ensures refused { IfSome (F.contents files.old) (λ held. IfErr result (λ refusal.
+        IsOwn refusal (F.faults files.old) (F.faults files.new) →
+        AtPlan held name.now (λ _ _. ⊥) (outcome_of refusal (Some name.now)))) }
+    ensures budget { IfSome (F.contents files.old) (λ held. IfErr result (λ refusal.
+        status_of refusal ≡ 8 → HoldsBeyondBound (held name.now))) }
+    ensures about { IfErr result (IsAboutPlan name.now) }
+    ensures counted { IfErr result (HasCount (F.contents files.old) (F.at files.new)
+        (F.misses files.old) (F.misses files.new) (F.faults files.old) (F.faults files.new)) }
+    ensures read { Reads (F.contents files.old) (F.contents files.new) (F.at files.new)
+        (F.misses files.old) (F.misses files.new) (F.faults files.old) (F.faults files.new) name.now }
+{
+    let bytes = read_program(alloc, files, name)?;
+    plan_of(alloc, &bytes)
+}
