@@ -1,17 +1,56 @@
 #!/usr/bin/env python3
-"""check.py SIGC: how long a whole compilation takes.
+"""check.py SIGC [FAMILY..]: how long a whole compilation takes, and how that grows.
 
-Runs `SIGC check` on the watchdog, on generated programs of 1 to 12 stages of sampling and merging, on chains of
-samplings, and on a program of 512 signals in 64 clusters. Prints of each what was answered, the least processor time of
-three runs, its ratio to that of `SIGC print` of the same program in the same run, and the peak memory, which is at least that of
-this script where it starts them.
+Runs `SIGC check` on families of programs:
+
+  NAME        n copies of examples/NAME.sig on one clock, by calls of one process model, for n from 1 until 512 signals;
+  chain       chains of samplings, each by a condition of its own;
+  cases       a chain of `(i when A = i) default ..`;
+  sampled     n boolean inputs that sample one signal;
+  stages      the generated programs of 1 to 12 stages of sampling and merging;
+  sums        512 signals in 64 clusters.
+
+Prints of each program its signals, its answer, the least processor time of three runs, its ratio to that of `SIGC print` of
+the same program in the same run, and the peak memory, which is at least that of this script where it starts them. A family
+ends where a check takes more than 20 s. The status is 1 where a check took more than 10 times `print` and more than 50 ms.
 """
 import os
+import re
+import resource
 import subprocess
 import sys
 import tempfile
 
 HERE = os.path.dirname(os.path.abspath(__file__))
+# the controllers, and of each the signal whose instants are those of the process
+CONTROLLERS = {
+    "edge": "LEVEL", "debounce": "RAW", "thermostat": "TEMPERATURE", "bucket": "PACKET", "light": "BUTTON",
+    "pump": "FRONT", "watch": "TICK", "down": "Y",
+}
+SIGNALS = 512
+SECONDS = 20
+
+
+def declared(text):
+    """The kinds and names of a list of declarations."""
+    return [(kind, name) for kind, names in re.findall(r"(event|boolean|integer)\s+([^;]+)", text) for name in names.replace(",", " ").split()]
+
+
+def copies(name, count):
+    """So many calls of a controller, whose clocks are one; and how many signals that makes, at least."""
+    with open(os.path.join(HERE, "..", "examples", name + ".sig"), encoding="ascii") as file:
+        text = re.sub(r"%[^%]*%", "", file.read()).strip()
+    head = re.match(r"process (\w+) = \(\?([^!]*)!([^)]*)\)", text)
+    model, inputs, outputs = head.group(1), declared(head.group(2)), declared(head.group(3))
+    numbered = lambda signals, i: ", ".join(f"{signal}{i}" for _, signal in signals)
+    interface = lambda signals: "; ".join(f"{kind} {signal}{i}" for i in range(1, count + 1) for kind, signal in signals)
+    lines = []
+    for i in range(1, count + 1):
+        left = numbered(outputs, i)
+        lines.append(f"{f'({left})' if len(outputs) > 1 else left} := {model}({numbered(inputs, i)})")
+    clock = CONTROLLERS[name]
+    lines += [f"{clock}{i} ^= {clock}{i + 1}" for i in range(1, count)]
+    return f"process COPIES = (? {interface(inputs)} ! {interface(outputs)})\n(| " + "\n | ".join(lines) + f" |)\nwhere\n{text}\nend;\n"
 
 
 def stages(count):
@@ -36,11 +75,23 @@ def chain(count):
     inputs = "; ".join(f"boolean B{i}" for i in range(1, count + 1))
     lines = ["B1 ^= X0"] + [f"B{i} ^= X{i - 1}" for i in range(2, count + 1)]
     lines += [f"X{i} := X{i - 1} when B{i}" for i in range(1, count + 1)]
-    names = ", ".join(f"X{i}" for i in range(1, count))
-    return (
-        f"process CHAIN = (? integer X0; {inputs} ! integer X{count})\n(| " + "\n | ".join(lines)
-        + f" |)\nwhere integer {names}; end;\n"
-    )
+    names = [f"X{i}" for i in range(1, count)]
+    where = f"\nwhere integer {', '.join(names)}; end;" if names else ";"
+    return f"process CHAIN = (? integer X0; {inputs} ! integer X{count})\n(| " + "\n | ".join(lines) + f" |){where}\n"
+
+
+def cases(count):
+    """One value for each of so many values of the input."""
+    choice = " default ".join(f"({i} when A = {i})" for i in range(1, count + 1))
+    return f"process CASES = (? integer A ! integer Y)\n(| Y := {choice} default A |);\n"
+
+
+def sampled(count):
+    """So many boolean inputs sample one signal, on its clock."""
+    inputs = ", ".join(f"B{i}" for i in range(1, count + 1))
+    outputs = ", ".join(f"Y{i}" for i in range(1, count + 1))
+    lines = [f"B{i} ^= A | Y{i} := A when B{i}" for i in range(1, count + 1)]
+    return f"process SAMPLED = (? integer A; boolean {inputs} ! integer {outputs})\n(| " + "\n | ".join(lines) + " |);\n"
 
 
 def sums(count):
@@ -55,35 +106,60 @@ def sums(count):
     )
 
 
+def growing():
+    """1, 2, 3, 4, 6, 8, 12, .."""
+    count = 1
+    while True:
+        yield count
+        if count > 2 and count & (count - 1) == 0:
+            yield count + count // 2
+        count = 3 if count == 2 else count + 1 if count < 2 else 2 ** count.bit_length()
+
+
+FAMILIES = {name: (lambda count, name=name: copies(name, count)) for name in CONTROLLERS}
+FAMILIES |= {"chain": chain, "cases": cases, "sampled": sampled, "stages": stages, "sums": sums}
+COUNTS = {"chain": [4, 8, 16, 32, 64, 128], "stages": range(1, 13), "sums": [SIGNALS]}
+
+
 def timed(words, folder):
     """What a run wrote, its processor seconds and its peak memory in KB."""
-    child = subprocess.Popen(words, cwd=folder, stdout=subprocess.PIPE, stderr=subprocess.STDOUT)
+    limit = lambda: resource.setrlimit(resource.RLIMIT_CPU, (3 * SECONDS, 3 * SECONDS))
+    child = subprocess.Popen(words, cwd=folder, stdout=subprocess.PIPE, stderr=subprocess.STDOUT, preexec_fn=limit)
     out = child.stdout.read().decode("ascii").strip()
-    _, _, usage = os.wait4(child.pid, 0)
-    return out, usage.ru_utime + usage.ru_stime, usage.ru_maxrss
+    _, status, usage = os.wait4(child.pid, 0)
+    return out if not os.WIFSIGNALED(status) else f"no answer in {3 * SECONDS} s", usage.ru_utime + usage.ru_stime, usage.ru_maxrss
 
 
 def least(words, folder):
-    """The answer of three runs, the least time and the greatest memory."""
-    runs = [timed(words, folder) for _ in range(3)]
+    """The answer of three runs, the least time and the greatest memory; of one run, where it took long."""
+    runs = [timed(words, folder)]
+    while len(runs) < 3 and runs[-1][1] < 3:
+        runs.append(timed(words, folder))
     return runs[0][0], min(run[1] for run in runs), max(run[2] for run in runs)
 
 
+def measure(sigc, name, count, folder):
+    """Checks one program and prints its line; tells the answer, and whether it was in time."""
+    with open(os.path.join(folder, "program.sig"), "w", encoding="ascii") as file:
+        file.write(FAMILIES[name](count))
+    answer, seconds, memory = least([sigc, "check", "program.sig"], folder)
+    _, base, _ = least([sigc, "print", "program.sig"], folder)
+    print(f"{name} {count}: {answer}, {1000 * seconds:.1f} ms, {seconds / base:.1f} times print, {memory} KB", flush=True)
+    return answer, seconds, seconds <= max(10 * base, 0.05)
+
+
 def main():
-    sigc = os.path.abspath(sys.argv[1])
-    with open(os.path.join(HERE, "..", "examples", "watch.sig"), encoding="ascii") as file:
-        programs = [("watchdog", file.read())]
-    programs += [(f"{count} stages", stages(count)) for count in range(1, 13)]
-    programs += [(f"chain of {count} samplings", chain(count)) for count in (4, 8, 12, 16)]
-    programs += [("512 signals", sums(512))]
+    sigc, late = os.path.abspath(sys.argv[1]), 0
     with tempfile.TemporaryDirectory() as folder:
-        for name, text in programs:
-            with open(os.path.join(folder, "program.sig"), "w", encoding="ascii") as file:
-                file.write(text)
-            answer, seconds, memory = least([sigc, "check", "program.sig"], folder)
-            _, base, _ = least([sigc, "print", "program.sig"], folder)
-            print(f"{name}: {answer}, {1000 * seconds:.1f} ms, {seconds / base:.1f} times print, {memory} KB")
+        for name in sys.argv[2:] or FAMILIES:
+            for count in COUNTS.get(name) or growing():
+                answer, seconds, in_time = measure(sigc, name, count, folder)
+                late += not in_time
+                if answer != "accepted" or seconds > SECONDS:
+                    break
+    print(f"{late} too late")
+    return 1 if late else 0
 
 
 if __name__ == "__main__":
-    main()
+    sys.exit(main())

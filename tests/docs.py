@@ -26,7 +26,7 @@ import tempfile
 
 TOP = os.path.dirname(os.path.dirname(os.path.realpath(__file__)))
 SECONDS = 120
-NOT_BUILT = re.compile(r"error: (not built yet|these words are not a command|\S+: not a flow file)\n")
+NOT_BUILT = re.compile(r"error: these words are not a command\n")
 COLUMNS = ["Command", "Standard output", "Standard error", "Status"]
 
 

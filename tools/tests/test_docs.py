@@ -21,7 +21,7 @@ def loaded():
 STAND_IN = """#!/usr/bin/env bash
 case $1 in
 check) echo accepted;;
-run) echo 'error: not built yet' >&2; exit 1;;
+run) echo 'error: these words are not a command' >&2; exit 2;;
 *) echo "error 1:2: syntax" >&2; exit 1;;
 esac
 """

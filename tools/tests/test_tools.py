@@ -172,7 +172,7 @@ class Caret(unittest.TestCase):
         longer than 67108864 bytes;bad line;not an input;bad value;out of range;more than 4000000 values;bad event;
         more than 1000000 events;write failed;out of memory;bad header;bad width;more than 4000000 cells;
         instant 2 breaks equation 3;name pace_1 is taken by a pace;bad image at byte 3;operation 0 is not sound;
-        image longer than 67108864 bytes;not built yet;not a flow file;overflow after 2 instants;division by zero after 2 instants"""
+        image longer than 67108864 bytes;overflow after 2 instants;division by zero after 2 instants"""
         for text in texts.split(";"):
             with self.subTest(text.strip()):
                 self.assertIn(self.caret.entry_of(text.strip()), headings)
