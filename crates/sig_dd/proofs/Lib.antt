@@ -19,3 +19,4 @@ pub mod Trails
 pub mod Rows
 pub mod Walks
 pub mod RelationalProducts
+pub mod Renamed

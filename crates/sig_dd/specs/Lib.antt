@@ -6,5 +6,6 @@ pub mod Question
 pub mod Cache
 pub mod Meets
 pub mod Products
+pub mod Renaming
 pub mod Shares
 pub mod Support

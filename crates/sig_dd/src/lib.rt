@@ -14,6 +14,7 @@ mod operations;
 mod products;
 mod question;
 mod recursion;
+mod renaming;
 mod steps;
 mod store;
 mod support;

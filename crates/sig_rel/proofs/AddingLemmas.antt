@@ -23,7 +23,7 @@ Done : Type 0
 Done = Result (Unit {0}) DdAnswer
 
 -- a refusal of later calls is one of all of them
-refused_later : (r s t : StoreView) (n m : ℕ) → length s.nodes + n ≤ length r.nodes + m → (why : DdAnswer) → IsRefused s t n why → IsRefused r t m why
+pub refused_later : (r s t : StoreView) (n m : ℕ) → length s.nodes + n ≤ length r.nodes + m → (why : DdAnswer) → IsRefused s t n why → IsRefused r t m why
 refused_later r s t n m le (StoreBudget k) refused = let lt = refused.1 in (refused.0, omega (arith, le, lt))
 refused_later r s t n m le NoMemory refused = tt
 

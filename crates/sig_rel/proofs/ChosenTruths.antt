@@ -147,7 +147,7 @@ module _ (kernel : Kernel) (count : ℕ) (present : List ℕ) (truth : List (Opt
     by false e = chosen_false v present truth reaction (λ k at'. absurd (are.differ k s v at' at)) (λ k at'. ap (λ n. truth_of_status (status_at reaction n)) (are.apart k s v at' at) ∙ e)
 
   -- the chosen truths
-  abbrev choices : List Bool
+  abbrev pub choices : List Bool
   choices = map (λ v. chosen v present truth reaction) (range_with_len 0 (length (conditions_of kernel) + count))
 
   choice_at : (v : ℕ) → IsUsed present truth v → truth_of choices v ≡ chosen v present truth reaction
@@ -155,10 +155,10 @@ module _ (kernel : Kernel) (count : ℕ) (present : List ℕ) (truth : List (Opt
       let within = are.within v used in
       get_or-map-range_with_len (λ w. chosen w present truth reaction) 0 (length (conditions_of kernel) + count) v v false within.1 (omega arith)
 
-  choice_of_presence : (s p : ℕ) → slice_get present s ≡ Some p → truth_of choices p ≡ is_present reaction s
+  pub choice_of_presence : (s p : ℕ) → slice_get present s ≡ Some p → truth_of choices p ≡ is_present reaction s
   choice_of_presence s p at = choice_at p (inl (s, at)) ∙ chosen_presence s p at
 
-  choice_of_truth : (s : ℕ) (t : Option ℕ) (b : Bool) → s < length kernel.signals → slice_get truth s ≡ Some t → status_at reaction s ≡ Some b → truth_in choices t ≡ b
+  pub choice_of_truth : (s : ℕ) (t : Option ℕ) (b : Bool) → s < length kernel.signals → slice_get truth s ≡ Some t → status_at reaction s ≡ Some b → truth_in choices t ≡ b
   choice_of_truth s None b lt at status =
       let signal = found kernel.signals s lt in
       let fits = status_fits_at kernel.signals reaction s signal.0 is.kinds signal.1 in

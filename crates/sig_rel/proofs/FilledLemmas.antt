@@ -29,7 +29,7 @@ use Rattle.sig_rel.proofs.OnceDefined.{got_within}
 use Rattle.sig_rel.proofs.PlacingLemmas.{counted_form, governed_class}
 use Rattle.sig_rel.proofs.UnknownLemmas.{boolean_within}
 use Rattle.sig_rel.proofs.UsedLemmas.{in_range}
-use Rattle.sig_rel.proofs.WritingLemmas.{top_uncounted}
+use Rattle.sig_rel.proofs.TriangleOrders.{top_uncounted}
 
 -- a list of one reference gives it everywhere
 everywhere : (n k : ℕ) (r : Ref) → get_or (replicate n r) k r ≡ r

@@ -6,7 +6,7 @@ use Rattle.std.proofs.lemmas.Bool.{and_parts, cases_Bool, cases_eq, cases_lt}
 use Rattle.std.proofs.lemmas.List.{length-map}
 use Rattle.std.proofs.lemmas.List.Sums.{length-filter, sum_by-cons}
 use Rattle.std.proofs.lemmas.List.FromFn.{get_or-map-range_with_len, get_or-range_with_len, length-map-range_with_len, length-range_with_len}
-use Rattle.std.proofs.lemmas.Option.{get_or_from_slice_get, slice_get-map, slice_get_past}
+use Rattle.std.proofs.lemmas.Option.{get_or_from_slice_get, slice_get-map, slice_get_past, slice_get_within}
 use Rattle.std.specs.Prelude.{filter}
 use Rattle.sig_base.specs.declared.ids.SigId.{SigId}
 use Rattle.sig_kernel.specs.Validity.{IsValid}
@@ -24,7 +24,7 @@ use Rattle.sig_rel.specs.Relations.{IsUnknownCount, is_boolean}
 use Rattle.sig_rel.specs.Rules.{AreValues, has, value_status}
 use Rattle.sig_rel.specs.FreeColumns.{IsSystemOf, truth_ref}
 use Rattle.sig_rel.specs.Substitutions.{HoldColumns, SpanColumns, present_at, truth_at, values_at}
-use Rattle.sig_rel.specs.Systems.{AreConditions, IsFreeSystem, IsOver, IsSolution, IsSystem, SystemView, reading, status_read, statuses_read}
+use Rattle.sig_rel.specs.Systems.{AreConditions, IsFreeSystem, IsOver, IsSolution, IsSystem, IsVariable, SystemView, proposed, reading, status_read, statuses_read}
 use Rattle.sig_rel.specs.Tables.{AreRulesOf}
 use Rattle.sig_rel.specs.Triangles.{IsTriangle}
 use Rattle.sig_rel.specs.declared.elements.Element.{Element}
@@ -90,6 +90,15 @@ in_range_below n v there =
     let is = there.2 in
     omega (arith, within, e, is)
 
+range_place : (n i v : ℕ) → slice_get (range_with_len 0 n) i ≡ Some v → (v ≡ i) × (i < n)
+range_place n i v at =
+    let long = length-range_with_len 0 n in
+    let lt = slice_get_within (range_with_len 0 n) i v at in
+    let within : i < n = omega (arith, long, lt) in
+    let e = get_or-range_with_len 0 n i v within in
+    let is = get_or_from_slice_get (range_with_len 0 n) i v v at in
+    (omega (arith, e, is), within)
+
 module _ (kernel : Kernel) (valid : IsValid kernel) (conditions : List SigId) (are : AreConditions kernel conditions) (rules : Rules) (are_rules : AreRulesOf kernel rules)
     (list : List Element) (tri : IsTriangle kernel rules.least.items list) (nodes : List Node) (columns : Columns) (held : HoldColumns nodes columns)
     (span : SpanColumns nodes columns (range_with_len 0 (length conditions))) (always : IsRefOf nodes (λ truths. true) columns.always)
@@ -101,8 +110,11 @@ module _ (kernel : Kernel) (valid : IsValid kernel) (conditions : List SigId) (a
   abbrev size : ℕ
   size = length kernel.signals
 
-  over : (r : Ref) → Holds nodes r → Spans nodes r (range_with_len 0 (length conditions)) → IsOver nodes system.variables r
-  over r hold spans = record { held = hold; below = λ v d. subst (λ n. v < n) (sym is.variables) (in_range_below (length conditions) v (spans v d)) }
+  variable : (v : ℕ) → v < length conditions → IsVariable system v
+  variable v lt = (let a = is.first in omega (arith, a), let a = is.first in let b = is.variables in omega (arith, a, b, lt))
+
+  over : (r : Ref) → Holds nodes r → Spans nodes r (range_with_len 0 (length conditions)) → IsOver nodes system r
+  over r hold spans = record { held = hold; within = λ v d. variable v (in_range_below (length conditions) v (spans v d)) }
 
   own_status : (truths : List Bool) (s : ℕ) → status_read nodes truths (present_at columns (slice_index least s)) (truth_ref kernel rules columns s) ≡ value_status least (values_at nodes columns truths) s
   own_status truths s = elim (cases_Bool (is_boolean kernel s)) [
@@ -139,6 +151,16 @@ module _ (kernel : Kernel) (valid : IsValid kernel) (conditions : List SigId) (a
   keeps_proposals truths v c at = subst (λ s. Allows s (truth_of truths v)) (sym (reading_at truths c.0 (condition_within v c at)))
       (allows_if (has least (values_at nodes columns truths) c.0) (test nodes (truth_at columns c.0) truths) (truth_of truths v) (let k = keeps truths in k.proposals v c at))
 
+  -- a proposal is the variable of its condition's number
+  proposal_place : (i v : ℕ) → slice_get system.proposals i ≡ Some v → (v ≡ i) × (i < length conditions)
+  proposal_place i v at = range_place (length conditions) i v (ap (λ xs. slice_get xs i) (sym is.proposals) ∙ at)
+
+  proposed_at : (truths : List Bool) (i : ℕ) → i < length conditions → truth_of (proposed system truths) i ≡ truth_of truths i
+  proposed_at truths i lt = ap (λ xs. truth_of (map (truth_of truths) xs) i) is.proposals ∙ get_or-map-range_with_len (truth_of truths) 0 (length conditions) i i false lt (omega arith)
+
+  keeps_proposed : (truths : List Bool) → KeepsTo conditions (proposed system truths) (reading nodes system truths)
+  keeps_proposed truths i c at = subst (Allows (status_at (reading nodes system truths) c.0)) (sym (proposed_at truths i (slice_get_within conditions i c at))) (keeps_proposals truths i c at)
+
   abbrev chosen : Reaction → List Bool
   chosen r = map (λ (c : SigId). truth_of_status (status_at r c.0)) conditions
 
@@ -162,14 +184,14 @@ module _ (kernel : Kernel) (valid : IsValid kernel) (conditions : List SigId) (a
   truth_got : (s : ℕ) (r : Ref) → slice_get system.truth s ≡ Some r → truth_ref kernel rules columns s ≡ r
   truth_got s r at = (got_map_range (truth_ref kernel rules columns) size s r (ap (λ xs. slice_get xs s) (sym is.truth) ∙ at)).1
 
-  truth_over : (s : ℕ) → IsOver nodes system.variables (truth_ref kernel rules columns s)
+  truth_over : (s : ℕ) → IsOver nodes system (truth_ref kernel rules columns s)
   truth_over s = elim (cases_Bool (is_boolean kernel s)) [
-    | inl boolean ↦ subst (IsOver nodes system.variables) (sym (ap (λ (b : Bool). if b then truth_at columns s else present_at columns (slice_index least s)) boolean)) (over (truth_at columns s) (held.truth s) (span.truth s))
-    | inr other ↦ subst (IsOver nodes system.variables) (sym (ap (λ (b : Bool). if b then truth_at columns s else present_at columns (slice_index least s)) other)) (over (present_at columns (slice_index least s)) (held.present (slice_index least s)) (span.present (slice_index least s)))
+    | inl boolean ↦ subst (IsOver nodes system) (sym (ap (λ (b : Bool). if b then truth_at columns s else present_at columns (slice_index least s)) boolean)) (over (truth_at columns s) (held.truth s) (span.truth s))
+    | inr other ↦ subst (IsOver nodes system) (sym (ap (λ (b : Bool). if b then truth_at columns s else present_at columns (slice_index least s)) other)) (over (present_at columns (slice_index least s)) (held.present (slice_index least s)) (span.present (slice_index least s)))
   ]
 
-  always_over : (r : Ref) → r ≡ columns.always → IsOver nodes system.variables r
-  always_over r same = subst (IsOver nodes system.variables) (sym same) (record { held = always.holds; below = λ v d. absurd (d.1 (always.function (with_truth d.0 v false) ∙ sym (always.function (with_truth d.0 v true)))) })
+  always_over : (r : Ref) → r ≡ columns.always → IsOver nodes system r
+  always_over r same = subst (IsOver nodes system) (sym same) (record { held = always.holds; within = λ v d. absurd (d.1 (always.function (with_truth d.0 v false) ∙ sym (always.function (with_truth d.0 v true)))) })
 
   plain_at : (s : ℕ) → is_boolean kernel s ≡ false → (o : Option ℕ) → slice_get system.truth s ≡ slice_get system.present s
   plain_at s other o = ap (λ xs. slice_get xs s) is.truth ∙ elim (cases_lt s size) [
@@ -183,12 +205,14 @@ module _ (kernel : Kernel) (valid : IsValid kernel) (conditions : List SigId) (a
   is_system = record {
     presences = ap length is.present ∙ length-map-range_with_len (λ s. present_at columns (slice_index least s)) 0 size;
     truths = ap length is.truth ∙ length-map-range_with_len (truth_ref kernel rules columns) 0 size;
-    present = λ s r at. subst (IsOver nodes system.variables) (present_got s r at) (over (present_at columns (slice_index least s)) (held.present (slice_index least s)) (span.present (slice_index least s)));
-    truth = λ s r at. subst (IsOver nodes system.variables) (truth_got s r at) (truth_over s);
+    present = λ s r at. subst (IsOver nodes system) (present_got s r at) (over (present_at columns (slice_index least s)) (held.present (slice_index least s)) (span.present (slice_index least s)));
+    truth = λ s r at. subst (IsOver nodes system) (truth_got s r at) (truth_over s);
     residue = always_over system.residue is.residue;
     speaks = always_over system.speaks is.speaks;
     few = λ count counts. let le = conditions_few kernel count counts in let e = is.variables in let same = are.count in omega (arith, le, e, same);
-    proposed = let e = is.variables in let same = ap length is.listed in omega (arith, e, same);
+    counted = ap length is.proposals ∙ length-range_with_len 0 (length conditions) ∙ ap length (sym is.listed);
+    proposal = λ i v at. let place = proposal_place i v at in variable v (let lt = place.1 in let same = place.0 in omega (arith, lt, same));
+    apart = λ i j v at there. sym (proposal_place i v at).0 ∙ (proposal_place j v there).0;
     classes = λ s t ls lt same.
         ap (λ xs. slice_get xs s) is.present ∙ map_range_got (λ s. present_at columns (slice_index least s)) size s ls
         ∙ ap (λ c. Some (present_at columns c)) (least_of_class kernel least are_rules.are_least s t ls lt same)
@@ -196,13 +220,20 @@ module _ (kernel : Kernel) (valid : IsValid kernel) (conditions : List SigId) (a
     plain = λ s other. plain_at s other None;
     sound = λ truths solves. speaks truths;
     complete = λ r speaks_r. (chosen r, solution (chosen r), only r (chosen r) speaks_r (keeps_chosen r));
-    proposals = λ truths. subst (λ cs. KeepsTo cs truths (reading nodes system truths)) (sym is.listed) (keeps_proposals truths);
-    idle = λ i condition truths b at solves absent. (solution (with_truth truths i b), only (reading nodes system truths) (with_truth truths i b) (speaks truths) (keeps_without i condition truths b (ap (λ cs. slice_get cs i) (sym is.listed) ∙ at) absent));
+    keeps = λ truths. subst (λ cs. KeepsTo cs (proposed system truths) (reading nodes system truths)) (sym is.listed) (keeps_proposed truths);
+    idle = λ i v condition truths b at place solves absent.
+        let same = (proposal_place i v place).0 in (
+          solution (with_truth truths v b),
+          only (reading nodes system truths) (with_truth truths v b) (speaks truths)
+              (subst (λ n. KeepsTo conditions (with_truth truths n b) (reading nodes system truths)) (sym same) (keeps_without i condition truths b (ap (λ cs. slice_get cs i) (sym is.listed) ∙ at) absent)),
+        );
   }
 
   pub is_free_system : IsFreeSystem nodes system
   is_free_system = record {
     residue = λ truths. (solution truths).0;
     speaks = λ truths. (solution truths).1;
+    first = is.first;
+    proposals = is.proposals ∙ ap (λ (cs : List SigId). range_with_len 0 (length cs)) (sym is.listed);
     variables = is.variables ∙ ap length (sym is.listed);
   }

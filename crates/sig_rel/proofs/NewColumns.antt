@@ -15,7 +15,8 @@ use Rattle.sig_kernel.specs.declared.kernel.Kernel.{Kernel}
 use Rattle.sig_rel.specs.Rules.{presence_by}
 use Rattle.sig_rel.specs.Shares.{Makes}
 use Rattle.sig_rel.specs.Substitutions.{AreAsMany, GivesTruth, IsColumnOf, IsNewPresence, IsNewTruth, IsPartlyWritten, SpanColumns, no_ref, step_at, steps, values_at}
-use Rattle.sig_rel.specs.Triangles.{IsTriangle, form_at}
+use Rattle.sig_rel.specs.Schedules.{IsOrderOfWriting}
+use Rattle.sig_rel.specs.Triangles.{form_at}
 use Rattle.sig_rel.specs.declared.elements.Element.{Element}
 use Rattle.sig_rel.specs.declared.elements.Element.TheVariants.{Presence, Truth}
 use Rattle.sig_rel.specs.declared.rules.Rules.{Rules}
@@ -68,14 +69,14 @@ module _ (kernel : Kernel) (rules : Rules) (old new : List Node) (columns : Colu
   pub no_truth : (signal : ℕ) → ((number : ℕ) → slice_get rules.defined.items signal ≡ Some (Some number) → ⊥) → IsNewTruth kernel rules old new columns signal None
   no_truth signal never number form is = never number is.0
 
--- there is a column for each element of a triangular kernel's list
-pub has_column : (kernel : Kernel) (least : List ℕ) (list : List Element) (columns : Columns) → IsTriangle kernel least list → AreAsMany (length kernel.signals) columns
+-- there is a column for each element of an order of writing
+pub has_column : (kernel : Kernel) (rules : Rules) (list : List Element) (columns : Columns) → IsOrderOfWriting kernel rules list → AreAsMany (length kernel.signals) columns
     → (k : ℕ) (element : Element) → slice_get list k ≡ Some element → IsColumnOf columns element
-has_column kernel least list columns tri counts k (Presence class) at =
-    let is = (tri.classes class).0 (contains_at list k (Presence class) at) in
+has_column kernel rules list columns order counts k (Presence class) at =
+    let is = order.classes class (contains_at list k (Presence class) at) in
     subst (λ n. class < n) (sym counts.presences) is.0
-has_column kernel least list columns tri counts k (Truth signal) at =
-    let boolean = (tri.truths signal).0 (contains_at list k (Truth signal) at) in
+has_column kernel rules list columns order counts k (Truth signal) at =
+    let boolean = order.truths signal (contains_at list k (Truth signal) at) in
     subst (λ n. signal < n) (sym counts.truths) (boolean_within kernel signal boolean)
 
 -- the elements so far, and one more

@@ -194,13 +194,13 @@ module _ (kernel : Kernel) (least : List ℕ) (placed : Placed) (marks : AreMark
   abbrev HasTruth : ℕ → Type 0
   HasTruth x = is_boolean kernel x ≡ true → Contains placed.list.items (Truth x)
 
-  class_says : (x : ℕ) → has_class least placed x ≡ true → HasClass x
+  pub class_says : (x : ℕ) → has_class least placed x ≡ true → HasClass x
   class_says x is = (marks.classes (get_or least x 0)).0 is
 
   class_from : (x : ℕ) → HasClass x → has_class least placed x ≡ true
   class_from x there = (marks.classes (get_or least x 0)).1 there
 
-  truth_says : (x : ℕ) → has_truth_of kernel placed x ≡ true → HasTruth x
+  pub truth_says : (x : ℕ) → has_truth_of kernel placed x ≡ true → HasTruth x
   truth_says x is boolean = elim (or_cases (not (is_boolean kernel x)) (get_or placed.truths.items x false) is) [
     | inl other ↦ absurd (false≢true (sym (not-true (is_boolean kernel x) other) ∙ boolean))
     | inr mark ↦ (marks.truths x).0 mark
@@ -218,7 +218,7 @@ module _ (kernel : Kernel) (least : List ℕ) (placed : Placed) (marks : AreMark
   whole_from : (x : ℕ) → HasClass x → HasTruth x → has_whole kernel least placed x ≡ true
   whole_from x class truth = and_from (has_class least placed x) (has_truth_of kernel placed x) (class_from x class) (truth_from x truth)
 
-  presence_says : (class : ℕ) (form : Form) → Governs least class form → presence_ready kernel least placed form ≡ true → HasClasses least placed.list.items (operand_signals form) × HasTruths kernel placed.list.items (tested form)
+  pub presence_says : (class : ℕ) (form : Form) → Governs least class form → presence_ready kernel least placed form ≡ true → HasClasses least placed.list.items (operand_signals form) × HasTruths kernel placed.list.items (tested form)
   presence_says class (Fun y op operands) governs is = absurd governs
   presence_says class (Delay y x c) governs is = absurd governs
   presence_says class (When y x b) governs is =
@@ -266,7 +266,7 @@ module _ (kernel : Kernel) (least : List ℕ) (placed : Placed) (marks : AreMark
   abbrev HasBoth : ℕ → Type 0
   HasBoth z = HasClass z × HasTruth z
 
-  both_said : (form : Form) → truth_ready kernel least placed form ≡ true → (z : ℕ) → Contains (operand_signals form) z → HasBoth z
+  pub both_said : (form : Form) → truth_ready kernel least placed form ≡ true → (z : ℕ) → Contains (operand_signals form) z → HasBoth z
   both_said (Fun y op operands) is z there = operands_say operands is z there
   both_said (Delay y x c) is z there = one_from HasBoth x.0 z (whole_says x.0 is) there
   both_said (When y x b) is z there = let parts = and_parts (has_whole kernel least placed x.0) (has_whole kernel least placed b.0) is in two_from HasBoth x.0 b.0 z (whole_says x.0 parts.0) (whole_says b.0 parts.1) there
@@ -296,7 +296,7 @@ module _ (kernel : Kernel) (least : List ℕ) (placed : Placed) (marks : AreMark
   unmarked_truth : (signal : ℕ) → get_or placed.truths.items signal false ≡ false → Contains placed.list.items (Truth signal) → ⊥
   unmarked_truth signal unset there = false≢true (sym unset ∙ (marks.truths signal).1 there)
 
-past : {X : Type 0} (xs : List X) (k : ℕ) → slice_get xs k ≡ None → k < length xs → ⊥
+pub past : {X : Type 0} (xs : List X) (k : ℕ) → slice_get xs k ≡ None → k < length xs → ⊥
 past [] k is lt = omega (arith, lt)
 past (x ∷ xs) zero is lt = let some : Some x ≡ None = is in cc
 past (x ∷ xs) (suc k) is lt = past xs k is (omega (arith, lt))

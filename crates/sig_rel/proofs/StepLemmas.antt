@@ -1,4 +1,4 @@
--- How many elements of a triangular kernel's list an equation gives: at most two for each equation.
+-- How many elements of an order of writing an equation gives: at most two for each equation.
 use Rattle.std.proofs.Common.{◌≡◌, ◌<◌, ◌≤◌, ◌+◌, ◌*◌, inl, inr, ℕ, suc, Bool, true, false, List, [], ◌∷◌, length, Option, None, Some, refl, sym, ap, ◌∙◌, subst, arith, eqb}
 use Rattle.std.specs.Prelude.{slice_get, option_map}
 use Rattle.std.specs.List.{AllByRecursion, list_any, IsDistinct}
@@ -12,8 +12,8 @@ use Rattle.sig_kernel.specs.declared.equation.Form.{Form}
 use Rattle.sig_kernel.specs.declared.equation.Form.TheVariants.{Fun, Delay, When, WhenConst, Default, Sync, Event}
 use Rattle.sig_kernel.specs.declared.kernel.Kernel.{Kernel}
 use Rattle.sig_rel.specs.Substitutions.{size_of, step_at, steps}
-use Rattle.sig_rel.specs.Tables.{AreRulesOf}
-use Rattle.sig_rel.specs.Triangles.{Governs, IsTriangle, form_at}
+use Rattle.sig_rel.specs.Schedules.{IsOrderOfWriting}
+use Rattle.sig_rel.specs.Triangles.{Governs, form_at}
 use Rattle.sig_rel.specs.declared.elements.Element.{Element}
 use Rattle.sig_rel.specs.declared.elements.Element.TheVariants.{Presence, Truth}
 use Rattle.sig_rel.specs.declared.rules.Rules.{Rules}
@@ -125,36 +125,36 @@ form_below kernel number form at = by (slice_get kernel.equations number) refl a
   by None there is = absurd (let none : None ≡ Some form = is in cc)
   by (Some equation) there is = got_within kernel.equations number equation there
 
-module _ (kernel : Kernel) (rules : Rules) (are : AreRulesOf kernel rules) (list : List Element) (tri : IsTriangle kernel rules.least.items list) where
+module _ (kernel : Kernel) (rules : Rules) (list : List Element) (order : IsOrderOfWriting kernel rules list) where
   classes_once : AreOnce (class_entry rules) list
   classes_once i j (Truth s) e q at there is has = absurd (let none : None ≡ Some (Some q) = is in cc)
   classes_once i j (Presence c) (Truth s) q at there is has = absurd (let none : None ≡ Some (Some q) = has in cc)
   classes_once i j (Presence c) (Presence d) q at there is has =
-      let first = are.is_counted c q is in
-      let second = are.is_counted d q has in
-      let forms : Some first.0 ≡ Some second.0 = sym first.1.at ∙ second.1.at in
+      let first = order.named.presence c q is in
+      let second = order.named.presence d q has in
+      let forms : Some first.0 ≡ Some second.0 = sym first.1 ∙ second.1 in
       let e : first.0 ≡ second.0 = cc in
-      let same = governed_once rules.least.items c d second.0 (subst (Governs rules.least.items c) e first.1.governs) second.1.governs in
-      tri.once i j (Presence d) (at ∙ ap (λ x. Some (Presence x)) same) there
+      let same = governed_once rules.least.items c d second.0 (subst (Governs rules.least.items c) e first.2) second.2 in
+      order.once i j (Presence d) (at ∙ ap (λ x. Some (Presence x)) same) there
 
   truths_once : AreOnce (truth_entry rules) list
   truths_once i j (Presence c) e q at there is has = absurd (let none : None ≡ Some (Some q) = is in cc)
   truths_once i j (Truth s) (Presence c) q at there is has = absurd (let none : None ≡ Some (Some q) = has in cc)
   truths_once i j (Truth s) (Truth r) q at there is has =
-      let first = are.is_defined s q is in
-      let second = are.is_defined r q has in
+      let first = order.named.truth s q is in
+      let second = order.named.truth r q has in
       let equations : Some first.0 ≡ Some second.0 = sym first.1 ∙ second.1 in
       let e : first.0 ≡ second.0 = cc in
       let same = targets_once s r second.0.form (subst (λ (x : Equation). defines s x ≡ true) e first.2) second.2 in
-      tri.once i j (Truth r) (at ∙ ap (λ x. Some (Truth x)) same) there
+      order.once i j (Truth r) (at ∙ ap (λ x. Some (Truth x)) same) there
 
   class_below : (k : ℕ) (e : Element) (q : ℕ) → slice_get list k ≡ Some e → class_entry rules e ≡ Some (Some q) → q < length kernel.equations
-  class_below k (Presence c) q at is = let first = are.is_counted c q is in form_below kernel q first.0 first.1.at
+  class_below k (Presence c) q at is = let first = order.named.presence c q is in form_below kernel q first.0 first.1
   class_below k (Truth s) q at is = absurd (let none : None ≡ Some (Some q) = is in cc)
 
   truth_below : (k : ℕ) (e : Element) (q : ℕ) → slice_get list k ≡ Some e → truth_entry rules e ≡ Some (Some q) → q < length kernel.equations
   truth_below k (Presence c) q at is = absurd (let none : None ≡ Some (Some q) = is in cc)
-  truth_below k (Truth s) q at is = let first = are.is_defined s q is in got_within kernel.equations q first.0 first.1
+  truth_below k (Truth s) q at is = let first = order.named.truth s q is in got_within kernel.equations q first.0 first.1
 
   pub few_steps : steps rules list ≤ 2 * length kernel.equations
   few_steps =

@@ -12,9 +12,12 @@ use Rattle.sig_clock.specs.Reactions.{is_boolean_kind}
 use Rattle.sig_clock.specs.SameClocks.{AreLeast}
 use Rattle.sig_rel.specs.Numberings.{AreGiven, HasNumbers, number_of}
 use Rattle.sig_rel.specs.Relations.{AreUnknowns, IsUsed, is_boolean}
+use Rattle.sig_rel.specs.Statuses.{LieWithin}
 use Rattle.sig_rel.specs.declared.numbering.Numbering.{Numbering}
+use Rattle.sig_rel.specs.declared.numbering.Unknowns.{Unknowns}
 use Rattle.sig_rel.proofs.ClassLemmas.{class_of_least, least_of_class}
 use Rattle.sig_rel.proofs.Places.{count_given}
+use Rattle.sig_rel.proofs.UsedLemmas.{one_count}
 
 -- a boolean is a signal
 pub boolean_within : (kernel : Kernel) (s : ℕ) → is_boolean kernel s ≡ true → s < length kernel.signals
@@ -99,3 +102,25 @@ module _ (kernel : Kernel) (least : List ℕ) (numbering : Numbering) (present :
         let below = given.truths.below s v at in
         let limit = next_within in
         (given.truths.from s v at, omega (arith, below, limit))
+
+  -- they lie from the first one to the next, as many as there are or fewer
+  pub lie_within : (unknowns : Unknowns) → unknowns.present.items ≡ present → unknowns.truth.items ≡ numbering.truth.items → unknowns.first ≡ length (conditions_of kernel) → unknowns.end ≡ numbering.next → LieWithin kernel unknowns
+  lie_within unknowns presents truths first end = record {
+    order = let e = given.counted in omega (arith, e, first, end);
+    few = λ count counts.
+        let limit = next_within in
+        let same = one_count kernel (counted kernel least) count (least, are, refl) counts in
+        omega (arith, limit, same, first, end);
+    within = λ v used. used_within v used;
+  } where
+    used_within : (v : ℕ) → IsUsed unknowns.present.items unknowns.truth.items v → (unknowns.first ≤ v) × (v < unknowns.end)
+    used_within v (inl (s, at)) =
+        let there = (presence_of s v (ap (λ xs. slice_get xs s) (sym presents) ∙ at)).1 in
+        let low = given.classes.from (get_or least s 0) v there in
+        let high = given.classes.below (get_or least s 0) v there in
+        (omega (arith, low, first), omega (arith, high, end))
+    used_within v (inr (s, at)) =
+        let there = ap (λ xs. slice_get xs s) (sym truths) ∙ at in
+        let low = given.truths.from s v there in
+        let high = given.truths.below s v there in
+        (omega (arith, low, first), omega (arith, high, end))

@@ -1,6 +1,6 @@
--- Columns that are written in the order of a triangular kernel's list.
-use Rattle.std.proofs.Common.{◌≡◌, ◌<◌, ◌≤◌, ◌++◌, ◌⊎◌, inl, inr, ℕ, zero, suc, Bool, true, false, List, [], ◌∷◌, length, get_or, map, take, Option, None, Some, refl, sym, ap, ◌∙◌, subst, arith, Contains, if◌then◌else◌}
-use Rattle.std.specs.Prelude.{◌&&◌, ◌||◌, slice_get, slice_set, option_map}
+-- Columns that are written in an order in which each element stands behind what its equation reads.
+use Rattle.std.proofs.Common.{◌≡◌, ◌<◌, ◌≤◌, ◌++◌, ◌⊎◌, inl, inr, ℕ, Bool, true, false, List, [], ◌∷◌, length, get_or, map, take, Option, None, Some, refl, sym, ap, ◌∙◌, subst, arith, Contains, if◌then◌else◌}
+use Rattle.std.specs.Prelude.{◌&&◌, ◌||◌, slice_get, slice_set}
 use Rattle.std.proofs.lemmas.Bool.{cases_Bool, cases_eq, false≢true}
 use Rattle.std.proofs.lemmas.List.{get_or-set_other, get_or-set_same, length-set}
 use Rattle.sig_base.specs.declared.signal.Signal.{Signal}
@@ -9,8 +9,6 @@ use Rattle.sig_dd.specs.Shares.{HoldAll, SpanAll}
 use Rattle.sig_dd.specs.declared.node.Node.{Node}
 use Rattle.sig_dd.specs.declared.node.Ref.{Ref}
 use Rattle.sig_dd.proofs.CallerLemmas.{Holds-kept, Spans-kept}
-use Rattle.sig_kernel.specs.Validity.{IsValid}
-use Rattle.sig_kernel.specs.declared.equation.Equation.{Equation}
 use Rattle.sig_kernel.specs.declared.equation.Form.{Form}
 use Rattle.sig_kernel.specs.declared.equation.Form.TheVariants.{Fun, Delay, When, WhenConst, Default, Sync, Event}
 use Rattle.sig_kernel.specs.declared.equation.Operand.{Operand}
@@ -22,15 +20,15 @@ use Rattle.sig_clock.proofs.Lists.{contains_at, contains_head, contains_later, c
 use Rattle.sig_rel.specs.Relations.{is_boolean}
 use Rattle.sig_rel.specs.Rules.{Values, has, operand_value, presence_by, truth_by_form}
 use Rattle.sig_rel.specs.Substitutions.{AreAsMany, ArePlain, AreWritten, GivesTruth, HoldColumns, IsCountedBy, IsDefinedBy, IsNewPresence, IsNewTruth, IsPartlyWritten, IsWritten, SpanColumns, present_at, set_some, some_ref, truth_at, values_at}
-use Rattle.sig_rel.specs.Tables.{AreRulesOf}
-use Rattle.sig_rel.specs.Triangles.{HasClasses, HasTruths, IsTriangle, form_at, operand_signals, tested}
+use Rattle.sig_rel.specs.Schedules.{IsOrderOfWriting}
+use Rattle.sig_rel.specs.Triangles.{form_at, operand_signals, tested}
 use Rattle.sig_rel.specs.declared.elements.Element.{Element}
 use Rattle.sig_rel.specs.declared.elements.Element.TheVariants.{Presence, Truth}
 use Rattle.sig_rel.specs.declared.rules.Rules.{Rules}
 use Rattle.sig_rel.specs.declared.substitution.Columns.{Columns}
 use Rattle.sig_rel.proofs.PlacingLemmas.{among_more, apart_kinds, presence_is, truth_is}
 use Rattle.sig_rel.proofs.Staying.{test_kept}
-use Rattle.sig_rel.proofs.TriangleLemmas.{before_place, not_own, place_of_class, taken_place}
+use Rattle.sig_rel.proofs.TriangleLemmas.{before_place, taken_place}
 
 -- ---- what an equation gives depends on its operands alone
 
@@ -85,44 +83,9 @@ module _ (least : List ℕ) (v w : Values) where
 taken_more : {X : Type 0} (xs : List X) (j k : ℕ) (x : X) → j ≤ k → Contains (take j xs) x → Contains (take k xs) x
 taken_more xs j k x le there = let before = before_place j xs x there in let lt = before.1 in contains_at (take k xs) before.0 x (taken_place k xs before.0 x (omega (arith, lt, le)) before.2)
 
-module _ (kernel : Kernel) (valid : IsValid kernel) (rules : Rules) (are : AreRulesOf kernel rules) (list : List Element) (tri : IsTriangle kernel rules.least.items list) where
+module _ (kernel : Kernel) (rules : Rules) (list : List Element) (order : IsOrderOfWriting kernel rules list) where
   abbrev least : List ℕ
   least = rules.least.items
-
-  -- no equation gives the top
-  pub top_uncounted : (number : ℕ) (form : Form) → IsCountedBy kernel rules tri.top number form → ⊥
-  top_uncounted number form counted =
-      let is = are.is_counted tri.top number counted.0 in
-      is.2 (tri.is_top number is.0 is.1.at is.1.governs)
-
-  -- what decides an element that an equation gives stands before it
-  pub presence_before : (k class number : ℕ) (form : Form) → slice_get list k ≡ Some (Presence class) → IsCountedBy kernel rules class number form
-      → HasClasses least (take k list) (operand_signals form) × HasTruths kernel (take k list) (tested form)
-  presence_before zero class number form at counted =
-      let both : Some (Presence class) ≡ Some (Presence tri.top) = sym at ∙ tri.first in
-      let same : class ≡ tri.top = presence_is class tri.top (let e : Presence class ≡ Presence tri.top = cc in e) in
-      absurd (top_uncounted number form (subst (λ c. IsCountedBy kernel rules c number form) same counted))
-  presence_before (suc k) class number form at counted =
-      let may = tri.order (suc k) (Presence class) (omega arith) at in
-      let there = are.all_counted class may.number may.form (place_of_class kernel least list tri (suc k) class at) may.counted (not_own kernel least list tri (suc k) class at may) in
-      let numbers : Some (Some may.number) ≡ Some (Some number) = sym there ∙ counted.0 in
-      let same : may.number ≡ number = cc in
-      let forms : Some may.form ≡ Some form = sym may.counted.at ∙ ap (form_at kernel) same ∙ counted.1 in
-      let e : may.form ≡ form = cc in
-      (subst (λ f. HasClasses least (take (suc k) list) (operand_signals f)) e may.classes, subst (λ f. HasTruths kernel (take (suc k) list) (tested f)) e may.tests)
-
-  pub truth_before : (k signal number : ℕ) (form : Form) → slice_get list k ≡ Some (Truth signal) → IsDefinedBy kernel rules signal number form
-      → HasClasses least (take k list) (operand_signals form) × HasTruths kernel (take k list) (operand_signals form)
-  truth_before zero signal number form at defined_it =
-      let both : Some (Presence tri.top) ≡ Some (Truth signal) = sym tri.first ∙ at in
-      absurd (apart_kinds tri.top signal (let e : Presence tri.top ≡ Truth signal = cc in e))
-  truth_before (suc k) signal number form at defined_it =
-      let may = tri.order (suc k) (Truth signal) (omega arith) at in
-      let is = are.is_defined signal number defined_it.0 in
-      let forms : Some is.0.form ≡ Some form = sym (ap (option_map (λ (e : Equation). e.form)) is.1) ∙ defined_it.1 in
-      let e : is.0.form ≡ form = cc in
-      let among = contains_at kernel.equations number is.0 is.1 in
-      (subst (λ f. HasClasses least (take (suc k) list) (operand_signals f)) e (may.classes is.4 is.0 among is.2), subst (λ f. HasTruths kernel (take (suc k) list) (operand_signals f)) e (may.truths is.4 is.0 among is.2))
 
   -- ---- one more element is written
 
@@ -131,12 +94,12 @@ module _ (kernel : Kernel) (valid : IsValid kernel) (rules : Rules) (are : AreRu
     earlier : (e : Element) → Contains (take k list) e → element ≡ e → ⊥
     earlier e there same =
         let place = before_place k list e there in
-        let twice = tri.once place.0 k e place.2 (subst (λ x. slice_get list k ≡ Some x) same at) in
+        let twice = order.once place.0 k e place.2 (subst (λ x. slice_get list k ≡ Some x) same at) in
         let lt = place.1 in
         omega (arith, lt, twice)
 
     no_definition : (x : ℕ) → is_boolean kernel x ≡ false → (number : ℕ) (form : Form) → IsDefinedBy kernel rules x number form → ⊥
-    no_definition x other number form defined_it = false≢true (sym other ∙ (are.is_defined x number defined_it.0).3)
+    no_definition x other number form defined_it = false≢true (sym other ∙ (order.named.truth x number defined_it.0).3)
 
     pub still_plain : ArePlain kernel t.nodes after
     still_plain x other truths =
@@ -160,13 +123,13 @@ module _ (kernel : Kernel) (valid : IsValid kernel) (rules : Rules) (are : AreRu
 
       presences_stay : (j class number : ℕ) (form : Form) → j ≤ k → slice_get list j ≡ Some (Presence class) → IsCountedBy kernel rules class number form → presence_by least old form ≡ presence_by least new form
       presences_stay j class number form le there counted =
-          let needs = presence_before j class number form there counted in
+          let needs = order.order j (Presence class) there number form counted.0 counted.1 in
           presence_same least old new form (λ x among. presence_stays (get_or least x 0) (taken_more list j k (Presence (get_or least x 0)) le (needs.0 x among)))
           (λ x among. truth_stays x (λ boolean. taken_more list j k (Truth x) le (needs.1 x among boolean)))
 
       truths_stay : (j signal number : ℕ) (form : Form) → j ≤ k → slice_get list j ≡ Some (Truth signal) → IsDefinedBy kernel rules signal number form → truth_by_form kernel.signals least old form ≡ truth_by_form kernel.signals least new form
       truths_stay j signal number form le there defined_it =
-          let needs = truth_before j signal number form there defined_it in
+          let needs = order.order j (Truth signal) there number form defined_it.0 defined_it.1 in
           truth_same least old new kernel.signals form (λ x among. presence_stays (get_or least x 0) (taken_more list j k (Presence (get_or least x 0)) le (needs.0 x among)))
           (λ x among. truth_stays x (λ boolean. taken_more list j k (Truth x) le (needs.1 x among boolean)))
 
@@ -199,15 +162,15 @@ none_written kernel rules nodes columns held counts plain = record {
   truth = λ signal never. refl;
 }
 
-pub partly_more : (kernel : Kernel) (valid : IsValid kernel) (rules : Rules) (are : AreRulesOf kernel rules) (list : List Element) (tri : IsTriangle kernel rules.least.items list) (first : List Node) (start : Columns)
+pub partly_more : (kernel : Kernel) (rules : Rules) (list : List Element) (order : IsOrderOfWriting kernel rules list) (first : List Node) (start : Columns)
     (s t : StoreView) (kept : Keeps s t) (before after : Columns) (k : ℕ) (element : Element) → slice_get list k ≡ Some element → IsPartlyWritten kernel rules first s.nodes start before (take k list)
     → IsWritten kernel rules s.nodes t.nodes before after element → IsPartlyWritten kernel rules first t.nodes start after (take k list ++ element ∷ [])
-partly_more kernel valid rules are list tri first start s t kept before after k element at partly w = record {
+partly_more kernel rules list order first start s t kept before after k element at partly w = record {
   counts = record { presences = w.presences ∙ partly.counts.presences; truths = w.truths ∙ partly.counts.truths };
   held = w.held;
   spans = λ vs span. w.spans vs (partly.spans vs span);
-  plain = still_plain kernel valid rules are list tri s t kept before after partly.held partly.plain k element at w;
-  written = written_more kernel valid rules are list tri s t kept before after partly.held partly.plain k element at w partly.written;
+  plain = still_plain kernel rules list order s t kept before after partly.held partly.plain k element at w;
+  written = written_more kernel rules list order s t kept before after partly.held partly.plain k element at w partly.written;
   presence = λ class never. w.other_presence class (inr never) ∙ partly.presence class never;
   truth = λ signal never. w.other_truth signal (inr never) ∙ partly.truth signal never;
 }

@@ -31,6 +31,8 @@ pub record IsSystemOf (kernel : Kernel) (rules : Rules) (columns : Columns) (con
   pub residue : system.residue ≡ columns.always
   pub speaks : system.speaks ≡ columns.always
   pub listed : system.conditions ≡ conditions
+  pub proposals : system.proposals ≡ range_with_len 0 (length conditions)
+  pub first : system.first ≡ 0
   pub variables : system.variables ≡ length conditions
 
 -- columns that are true everywhere

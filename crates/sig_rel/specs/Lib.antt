@@ -10,3 +10,8 @@ pub mod Rules
 pub mod Tables
 pub mod Substitutions
 pub mod FreeColumns
+pub mod Schedules
+pub mod Substituted
+pub mod OwnColumns
+pub mod Residues
+pub mod GeneralColumns

@@ -1,11 +1,11 @@
 -- Statuses of signals as functions of the unknowns.
-use Rattle.std.specs.Prelude.{◌≡◌, ℕ, Bool, List, [], ◌∷◌, length, Option, None, Some, if◌then◌else◌, Contains}
+use Rattle.std.specs.Prelude.{◌≡◌, ◌<◌, ◌≤◌, ◌+◌, ℕ, Bool, List, [], ◌∷◌, length, Option, None, Some, if◌then◌else◌, Contains}
 use Rattle.sig_clock.specs.Reactions.{Reaction, Status}
 use Rattle.sig_dd.specs.Nodes.{test}
 use Rattle.sig_dd.specs.declared.node.Node.{Node}
 use Rattle.sig_dd.specs.declared.node.Ref.{Ref}
 use Rattle.sig_kernel.specs.declared.kernel.Kernel.{Kernel}
-use Rattle.sig_rel.specs.Relations.{AreUnknowns, IsUsed, reaction_in}
+use Rattle.sig_rel.specs.Relations.{AreUnknowns, IsUnknownCount, IsUsed, reaction_in}
 use Rattle.sig_rel.specs.declared.numbering.Unknowns.{Unknowns}
 use Rattle.sig_rel.specs.declared.statuses.Known.{Known}
 
@@ -50,3 +50,9 @@ four_of pair = pair.0.present ∷ pair.0.truth ∷ pair.1.present ∷ pair.1.tru
 -- the unknowns of a kernel
 abbrev pub AreUnknownsOf : Kernel → Unknowns → Type 0
 AreUnknownsOf kernel unknowns = (count : ℕ) × AreUnknowns kernel count unknowns.present.items unknowns.truth.items
+
+-- the unknowns lie from the first one to the end, and these are no further apart than there are unknowns
+pub record LieWithin (kernel : Kernel) (unknowns : Unknowns) : Type 0 where
+  pub order : unknowns.first ≤ unknowns.end
+  pub few : (count : ℕ) → IsUnknownCount kernel count → unknowns.end ≤ unknowns.first + count
+  pub within : (v : ℕ) → IsUsed unknowns.present.items unknowns.truth.items v → (unknowns.first ≤ v) × (v < unknowns.end)

@@ -1,4 +1,4 @@
--- Clocks of a triangular kernel as they are written, one after another.
+-- Clocks of a kernel as they are written, one after another.
 use Rattle.std.specs.Prelude.{◌≡◌, ◌<◌, ◌⊎◌, ℕ, Bool, true, false, List, [], ◌∷◌, length, Option, None, Some, slice_index_or, slice_get, slice_set, sum_by, Contains}
 use Rattle.sig_base.specs.declared.signal.Signal.{Signal}
 use Rattle.sig_kernel.specs.declared.equation.Form.{Form}

@@ -94,7 +94,7 @@ impl Columns {
         ensures filled { OnOk result (AreFilled kernel.now triangle.now conditions.now store.new.nodes self.new) }
     {
         self.propose(store, conditions)?;
-        self.write_all(store, kernel, triangle)
+        self.write_all(store, kernel, &triangle.rules, triangle.list.as_slice())
     }
 }
 
@@ -115,12 +115,21 @@ fn system_of(
         residue: columns.always,
         speaks: columns.always,
         conditions: Vec::from_slice(alloc, conditions)?,
+        proposals: first_numbers(alloc, conditions.len() as u32)?,
+        first: 0,
         variables: conditions.len() as u32,
     })
 }
 
+/// So many numbers, from 0 on.
+fn first_numbers(alloc: Global, count: u32) -> Result<Vec<u32>, AllocError>
+    ensures { IfOk result (λ numbers. numbers.items ≡ map (λ number. number) (range_with_len 0 count)) }
+{
+    (0..count).map(|number| number).collect(alloc)
+}
+
 /// The presence of each signal: that of its class.
-fn presences(
+pub(crate) fn presences(
     alloc: Global,
     kernel: &Kernel,
     rules: &Rules,
@@ -136,7 +145,7 @@ fn presences(
 }
 
 /// The truth of each signal.
-fn truths(
+pub(crate) fn truths(
     alloc: Global,
     kernel: &Kernel,
     rules: &Rules,

@@ -7,7 +7,7 @@ ghost use Rattle.sig_kernel.specs.Validity.{IsValid, form_within, operand_within
 ghost use Rattle.std.specs.List.{list_all};
 ghost use Rattle.sig_rel.specs.Numberings.{AreGiven, HasNumbers, Retains, given_at, next_after, number_of};
 ghost use Rattle.sig_rel.specs.Relations.{is_boolean};
-ghost use Rattle.sig_rel.specs.Statuses.{AreUnknownsOf};
+ghost use Rattle.sig_rel.specs.Statuses.{AreUnknownsOf, LieWithin};
 
 use sig_base::Kind;
 use sig_clock::{ClockBase, condition_set, same_clock};
@@ -20,6 +20,9 @@ use std::alloc::{AllocError, Global};
 pub(crate) struct Unknowns {
     pub(crate) present: Vec<u32>,
     pub(crate) truth: Vec<Option<u32>>,
+    /// The number of the first unknown, and the one behind the last.
+    pub(crate) first: u32,
+    pub(crate) end: u32,
 }
 
 /// The numbers that were given so far: to clock classes, at their least signals, and to truths.
@@ -33,7 +36,8 @@ struct Numbering {
 /// The unknowns of a kernel, numbered from the count of its conditions on.
 pub(crate) fn unknowns_of(alloc: Global, kernel: &Kernel) -> Result<Unknowns, ClockBase>
     requires { IsValid kernel.now }
-    ensures { IfOk result (AreUnknownsOf kernel.now) }
+    ensures unknowns { IfOk result (AreUnknownsOf kernel.now) }
+    ensures within { IfOk result (LieWithin kernel.now) }
 {
     let least = same_clock(alloc, kernel)?;
     let conditions = condition_set(alloc, kernel)?;
@@ -52,7 +56,8 @@ fn numbered(
     requires valid { IsValid kernel.now }
     requires least { AreLeast kernel.now least.now }
     requires first { first ≡ length (conditions_of kernel.now) }
-    ensures { IfOk result (AreUnknownsOf kernel.now) }
+    ensures unknowns { IfOk result (AreUnknownsOf kernel.now) }
+    ensures within { IfOk result (LieWithin kernel.now) }
 {
     let mut numbering = Numbering::new(alloc, kernel.signals.as_slice().len(), first)?;
     numbering.number_equations(kernel, least);
@@ -61,6 +66,8 @@ fn numbered(
     Ok(Unknowns {
         present,
         truth: numbering.truth,
+        first,
+        end: numbering.next,
     })
 }
 
@@ -104,7 +111,8 @@ impl Numbering {
         }
     }
 
-    /// Numbers the signals that a form names.
+    /// Numbers the signals that a form names. A Delay or a Sync leaves nothing to be met beside the
+    /// classes, so it brings nothing together.
     fn number_form(&mut self, kernel: &Kernel, least: &[u32], form: &Form)
         requires valid { IsValid kernel.now }
         requires least { AreLeast kernel.now least.now }
@@ -117,10 +125,8 @@ impl Numbering {
                 self.number(kernel, least, y.0 as usize);
                 self.number_operands(kernel, least, operands.as_slice());
             }
-            Form::Delay(y, x, _)
-            | Form::WhenConst(y, _, x)
-            | Form::Sync(y, x)
-            | Form::Event(y, x) => {
+            Form::Delay(_, _, _) | Form::Sync(_, _) => {}
+            Form::WhenConst(y, _, x) | Form::Event(y, x) => {
                 self.number(kernel, least, y.0 as usize);
                 self.number(kernel, least, x.0 as usize);
             }

@@ -3,13 +3,14 @@
 ghost use Rattle.std.specs.Prelude.{◌≡◌, ◌<◌, ◌≤◌, ◌∷◌, ◌++◌, [], ℕ, true, false, length, slice_index_or, IfOk, OnOk, MatchOption, MatchBool};
 ghost use Rattle.std.specs.List.{list_all};
 ghost use Rattle.sig_kernel.specs.Validity.{IsValid};
+ghost use Rattle.sig_rel.specs.Schedules.{is_left, may_write};
 ghost use Rattle.sig_rel.specs.Systems.{AreConditions};
 ghost use Rattle.sig_rel.specs.Tables.{AreMarks, AreRulesOf, IsPlaced, IsStuck, IsTriangleOf, IsWithin, MayBePlaced, has_both, has_class, has_operand, has_truth_of, has_whole, is_top_class, may_enter, may_hold, presence_ready, truth_ready, with_class, with_truth_of};
 ghost use Rattle.sig_rel.specs.Triangles.{IsTriangular};
 
 use crate::elements::Element;
 use crate::numbering::is_boolean;
-use crate::rules::{Rules, least_of, rules_of, top_of};
+use crate::rules::{Rules, governs, least_of, rules_of, top_of};
 use sig_base::SigId;
 use sig_clock::ClockBase;
 use sig_kernel::{Form, Kernel, Operand};
@@ -25,8 +26,8 @@ pub(crate) struct Triangle {
 /// What was placed so far: the list, and which classes, at their least signals, and which booleans
 /// it has.
 #[derive(Drop)]
-struct Placed {
-    list: Vec<Element>,
+pub(crate) struct Placed {
+    pub(crate) list: Vec<Element>,
     classes: Vec<bool>,
     truths: Vec<bool>,
 }
@@ -77,6 +78,39 @@ fn placed_from(
 }
 
 impl Placed {
+    /// Nothing, of so many signals.
+    pub(crate) fn none(alloc: Global, count: usize) -> Result<Placed, AllocError>
+        requires few { count ≤ 512 }
+        ensures list { IfOk result (λ placed. placed.list.items ≡ []) }
+        ensures marks { IfOk result (AreMarks count) }
+    {
+        Ok(Placed {
+            list: Vec::new(alloc),
+            classes: vec![in alloc; false; count]?,
+            truths: vec![in alloc; false; count]?,
+        })
+    }
+
+    /// Whether a number is that of a class that was not placed.
+    pub(crate) fn is_left(&self, least: &[u32], class: usize) -> bool
+        ensures { result ≡ is_left least.now self.now class }
+    {
+        least_of(least, class) == class && !is_marked(self.classes.as_slice(), class)
+    }
+
+    /// Whether an equation of this form may give a class its presence from what was placed.
+    pub(crate) fn may_write(
+        &self,
+        kernel: &Kernel,
+        least: &[u32],
+        class: usize,
+        form: &Form,
+    ) -> bool
+        ensures { result ≡ may_write kernel.now least.now self.now class form.now }
+    {
+        governs(least, class, form) && self.presence_ready(kernel, least, form)
+    }
+
     /// The top alone, of so many signals.
     fn with_top(alloc: Global, count: usize, top: usize) -> Result<Placed, AllocError>
         requires top { top < count }
@@ -107,7 +141,7 @@ impl Placed {
     }
 
     /// Places an element behind the others, and marks it.
-    fn place(&mut self, element: Element) -> Result<(), AllocError>
+    pub(crate) fn place(&mut self, element: Element) -> Result<(), AllocError>
         requires { IsWithin self.old element }
         ensures list { OnOk result (self.new.list.items ≡ self.old.list.items ++ element ∷ []) }
         ensures classes { OnOk result (self.new.classes.items ≡ with_class self.old.classes.items element) }
@@ -184,7 +218,7 @@ impl Placed {
     }
 
     /// Whether a boolean was not placed, and may be.
-    fn may_hold(&self, kernel: &Kernel, rules: &Rules, signal: usize) -> bool
+    pub(crate) fn may_hold(&self, kernel: &Kernel, rules: &Rules, signal: usize) -> bool
         ensures { result ≡ may_hold kernel.now rules.now self.now signal }
     {
         if !is_boolean(kernel, signal) || is_marked(self.truths.as_slice(), signal) {
@@ -261,14 +295,14 @@ impl Placed {
     }
 
     /// Whether the class of a signal was placed.
-    fn has_class(&self, least: &[u32], x: usize) -> bool
+    pub(crate) fn has_class(&self, least: &[u32], x: usize) -> bool
         ensures { result ≡ has_class least.now self.now x }
     {
         is_marked(self.classes.as_slice(), least_of(least, x))
     }
 
     /// Whether a signal was placed, if it is a boolean.
-    fn has_truth_of(&self, kernel: &Kernel, x: usize) -> bool
+    pub(crate) fn has_truth_of(&self, kernel: &Kernel, x: usize) -> bool
         ensures { result ≡ has_truth_of kernel.now self.now x }
     {
         !is_boolean(kernel, x) || is_marked(self.truths.as_slice(), x)
@@ -288,7 +322,7 @@ impl Placed {
         true
     }
 
-    fn has_both(&self, kernel: &Kernel, rules: &Rules, signal: usize) -> bool
+    pub(crate) fn has_both(&self, kernel: &Kernel, rules: &Rules, signal: usize) -> bool
         ensures { result ≡ has_both kernel.now rules.now self.now signal }
     {
         self.has_class(rules.least.as_slice(), signal) && self.has_truth_of(kernel, signal)

@@ -1,8 +1,9 @@
 //! What decides the clock classes and the booleans of a kernel.
 
-ghost use Rattle.std.specs.Prelude.{◌≡◌, ◌<◌, ◌^◌, ℕ, false, true, length, map, position, slice_index, IfOk, MatchOption};
+ghost use Rattle.std.specs.Prelude.{◌≡◌, ◌<◌, ◌^◌, ℕ, false, true, None, length, map, position, replicate, slice_index, IfOk, MatchOption};
 ghost use Rattle.std.specs.List.{list_all, list_any, range_with_len};
 ghost use Rattle.sig_kernel.specs.Validity.{IsValid, defines};
+ghost use Rattle.sig_rel.specs.Schedules.{AreNamed};
 ghost use Rattle.sig_rel.specs.Systems.{AreConditions};
 ghost use Rattle.sig_rel.specs.Tables.{AreRulesOf, allows_top, counted_for, defined_for, gives, governs, has_operand_of, is_excused, is_numbered, is_top_class, repeats, target_number};
 
@@ -40,6 +41,34 @@ pub(crate) fn rules_of(
         counted,
         defined,
     })
+}
+
+/// The least signals of the classes, no equation for any class, and the equations that define booleans
+/// that are no conditions.
+pub(crate) fn defined_rules(
+    alloc: Global,
+    kernel: &Kernel,
+    conditions: &[SigId],
+) -> Result<Rules, ClockBase>
+    requires valid { IsValid kernel.now }
+    requires conditions { AreConditions kernel.now conditions.now }
+    ensures { IfOk result (AreNamed kernel.now) }
+{
+    let least = same_clock(alloc, kernel)?;
+    let counted = no_rows(alloc, kernel.signals.as_slice().len())?;
+    let defined = defined_of(alloc, kernel, conditions)?;
+    Ok(Rules {
+        least,
+        counted,
+        defined,
+    })
+}
+
+/// A table that names no equation.
+fn no_rows(alloc: Global, count: usize) -> Result<Vec<Option<u32>>, AllocError>
+    ensures { IfOk result (λ rows. rows.items ≡ replicate count None) }
+{
+    vec![in alloc; None; count]
 }
 
 /// For each class the equation that is counted for it.
@@ -110,7 +139,7 @@ fn is_excused(least: &[u32], class: usize, counted: &Form, equation: &Equation) 
 }
 
 /// Whether a form is a When, WhenConst or Default that defines a signal of a class.
-fn governs(least: &[u32], class: usize, form: &Form) -> bool
+pub(crate) fn governs(least: &[u32], class: usize, form: &Form) -> bool
     ensures { result ≡ governs least.now class form.now }
 {
     match form {
@@ -157,7 +186,7 @@ fn repeats(least: &[u32], class: usize, counted: &Form, form: &Form) -> bool
 }
 
 /// The least signal of a signal's class.
-fn class_of(least: &[u32], x: SigId) -> usize
+pub(crate) fn class_of(least: &[u32], x: SigId) -> usize
     ensures { result ≡ slice_index least.now x.0 }
 {
     least_of(least, x.0 as usize)
@@ -174,7 +203,7 @@ pub(crate) fn least_of(least: &[u32], x: usize) -> usize
 }
 
 /// The signal that a form defines.
-fn target_number(form: &Form) -> u32
+pub(crate) fn target_number(form: &Form) -> u32
     ensures { result ≡ target_number form.now }
 {
     match form {
@@ -261,7 +290,7 @@ pub(crate) fn top_of(kernel: &Kernel, least: &[u32]) -> Option<usize>
 
 /// Whether a number is that of a class, and no equation gives that class its presence from those of
 /// other classes.
-fn is_top(kernel: &Kernel, least: &[u32], class: usize) -> bool
+pub(crate) fn is_top(kernel: &Kernel, least: &[u32], class: usize) -> bool
     ensures { result ≡ is_top_class kernel.now least.now class }
 {
     least_of(least, class) == class && all_allow_top(kernel.equations.as_slice(), least, class)

@@ -1,4 +1,4 @@
-//! Clocks of a triangular kernel, substituted into one another.
+//! Clocks of a kernel, substituted into one another.
 
 ghost use Rattle.std.specs.Prelude.{◌≡◌, ◌∷◌, [], ◌&&◌, not, ℕ, List, Bool, Some, slice_index, IfOk};
 ghost use Rattle.sig_dd.specs.Diagram.{Agree};
@@ -20,7 +20,7 @@ use sig_dd::{DdAnswer, Ref, Store};
 use sig_kernel::{Form, FunOp, Operand};
 
 /// The presence of each class, at its least signal, and the truth of each boolean, as far as they are
-/// written; the others are true.
+/// written; the others are what they were before.
 #[derive(Drop)]
 pub(crate) struct Columns {
     pub(crate) present: Vec<Ref>,
@@ -30,7 +30,7 @@ pub(crate) struct Columns {
 
 impl Columns {
     /// The presence of a signal.
-    fn present_of(&self, least: &[u32], x: SigId) -> Ref
+    pub(crate) fn present_of(&self, least: &[u32], x: SigId) -> Ref
         ensures { result ≡ present_at self.now (slice_index least.now x.0) }
     {
         self.present_at(least_of(least, x.0 as usize))
@@ -47,7 +47,7 @@ impl Columns {
     }
 
     /// The truth of a signal.
-    fn truth_of(&self, x: SigId) -> Ref
+    pub(crate) fn truth_of(&self, x: SigId) -> Ref
         ensures { result ≡ truth_at self.now x.0 }
     {
         self.truth_at(x.0 as usize)
@@ -147,7 +147,11 @@ impl Columns {
     }
 
     /// The truth that a function of truths gives.
-    fn function_value(&self, store: &mut Store, function: TruthFunction) -> Result<Ref, DdAnswer>
+    pub(crate) fn function_value(
+        &self,
+        store: &mut Store,
+        function: TruthFunction,
+    ) -> Result<Ref, DdAnswer>
         requires { HoldColumns store.old.nodes self.now }
         ensures made { Makes 3 (SpanColumns store.old.nodes self.now) store.old store.new itself result }
         ensures value { IfOk result (λ r. Agree (test store.new.nodes r) (λ truths.

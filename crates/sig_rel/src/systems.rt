@@ -7,8 +7,8 @@ use sig_dd::Ref;
 use std::marker::Model;
 
 /// The clocks of a kernel, substituted into one another: for each signal its presence, and its
-/// truth where it is present, as functions of `variables` variables. Variable i below the count of
-/// the conditions is the proposal of `conditions[i]`: its truth, where it is present. The other
+/// truth where it is present, as functions of `variables` variables, numbered from `first` on. Variable
+/// `proposals[i]` is the proposal of `conditions[i]`: its truth, where it is present. The other
 /// variables stand for what nothing determines. `residue` is what the variables have to meet, and
 /// `speaks` is true where some signal is present.
 #[derive(Drop)]
@@ -18,6 +18,8 @@ pub struct System {
     pub residue: Ref,
     pub speaks: Ref,
     pub conditions: Vec<SigId>,
+    pub proposals: Vec<u32>,
+    pub first: u32,
     pub variables: u32,
 }
 
@@ -26,5 +28,5 @@ impl Model for System {
 
     ghost Value = { SystemView };
 
-    ghost view = { λ s. record { present = s.present.items; truth = s.truth.items; residue = s.residue; speaks = s.speaks; conditions = s.conditions.items; variables = s.variables } };
+    ghost view = { λ s. record { present = s.present.items; truth = s.truth.items; residue = s.residue; speaks = s.speaks; conditions = s.conditions.items; proposals = s.proposals.items; first = s.first; variables = s.variables } };
 }

@@ -1,14 +1,13 @@
-//! The columns of a triangular kernel, written in the order of its list.
+//! Columns, written in an order in which each class and boolean stands behind what its equation reads.
 
 ghost use Rattle.std.specs.Prelude.{◌≡◌, ◌*◌, ◌<◌, length, slice_get, IfOk, OnOk};
 ghost use Rattle.sig_dd.specs.Nodes.{IsStore};
 ghost use Rattle.sig_kernel.specs.Validity.{IsValid};
 ghost use Rattle.sig_rel.specs.Shares.{Makes};
-ghost use Rattle.sig_rel.specs.Substitutions.{AreAsMany, HoldColumns, IsBegunWriting, IsColumnOf, IsNewPresence, IsNewTruth, IsWhollyWritten, IsWritten, SpanColumns, no_ref, set_some, size_of, some_ref, step_at, steps};
-ghost use Rattle.sig_rel.specs.Tables.{IsTriangleOf};
+ghost use Rattle.sig_rel.specs.Substitutions.{AreAsMany, HoldColumns, IsBegunWriting, IsColumnOf, IsNewPresence, IsNewTruth, IsPartlyWritten, IsWritten, SpanColumns, no_ref, set_some, size_of, some_ref, step_at, steps};
+ghost use Rattle.sig_rel.specs.Schedules.{IsOrderOfWriting};
 
 use crate::elements::Element;
-use crate::placing::Triangle;
 use crate::rules::Rules;
 use crate::substitution::Columns;
 use sig_dd::{DdAnswer, Ref, Store};
@@ -122,19 +121,19 @@ impl Columns {
         &mut self,
         store: &mut Store,
         kernel: &Kernel,
-        triangle: &Triangle,
+        rules: &Rules,
+        list: &[Element],
     ) -> Result<(), DdAnswer>
         requires valid { IsValid kernel.now }
-        requires triangle { IsTriangleOf kernel.now triangle.now }
+        requires order { IsOrderOfWriting kernel.now rules.now list.now }
         requires store { IsStore store.old }
         requires hold { HoldColumns store.old.nodes self.old }
         requires counts { AreAsMany (length kernel.now.signals) self.old }
         requires begun { IsBegunWriting kernel.now store.old.nodes self.old }
-        ensures made { Makes (3 * steps triangle.now.rules triangle.now.list.items) (SpanColumns store.old.nodes self.old) store.old store.new no_ref result }
-        ensures written { OnOk result (IsWhollyWritten kernel.now triangle.now store.old.nodes store.new.nodes self.old self.new) }
+        ensures made { Makes (3 * steps rules.now list.now) (SpanColumns store.old.nodes self.old) store.old store.new no_ref result }
+        ensures written { OnOk result (IsPartlyWritten kernel.now rules.now store.old.nodes store.new.nodes self.old self.new list.now) }
     {
-        let rules = &triangle.rules;
-        for element in triangle.list.as_slice() {
+        for element in list {
             self.write(store, kernel, rules, *element)?;
         }
         Ok(())

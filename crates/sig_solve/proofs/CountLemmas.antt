@@ -1,8 +1,9 @@
 -- Lemmas on the share of solving.
-use Rattle.std.proofs.Common.{◌≡◌, ◌<◌, ◌≤◌, ◌+◌, ◌-◌, ◌*◌, ◌^◌, ◌⊎◌, inl, inr, ℕ, Bool, true, false, cond, eqb, count_by, List, [], ◌∷◌, length, map, filter, get_or, refl, sym, ap, ◌∙◌, subst, arith, Contains, length-append}
-use Rattle.std.specs.Prelude.{zero, suc, Option, None, Some, Result, Ok, Err, IfErr, IsErrAnd, is_some}
+use Rattle.std.proofs.Common.{◌≡◌, ◌<◌, ◌≤◌, ◌+◌, ◌-◌, ◌*◌, ◌^◌, ◌⊎◌, inl, inr, ℕ, Bool, true, false, cond, eqb, count_by, List, [], ◌∷◌, length, filter, get_or, refl, sym, ap, ◌∙◌, subst, arith, Contains}
+use Rattle.std.specs.Prelude.{zero, suc, Result, Ok, Err, IfErr, IsErrAnd}
 use Rattle.std.specs.List.{range_with_len}
 use Rattle.std.proofs.Math.Nat.{mul-le-mul_left, mul-le-mul_right}
+use Rattle.std.proofs.Math.Pow.{pow_mono}
 use Rattle.std.proofs.lemmas.Bool.{cases_lt, false≢true}
 use Rattle.std.proofs.lemmas.List.Sums.{length-filter}
 use Rattle.sig_kernel.specs.declared.kernel.Kernel.{Kernel}
@@ -10,18 +11,17 @@ use Rattle.sig_clock.specs.Conditions.{conditions_of, is_condition, signal_id}
 use Rattle.sig_clock.specs.SameClocks.{AreLeast}
 use Rattle.sig_dd.specs.Nodes.{StoreView, allowance}
 use Rattle.sig_dd.specs.Shares.{Share}
-use Rattle.sig_dd.specs.declared.node.Node.{Node}
 use Rattle.sig_clock.proofs.Lists.{contains_head, contains_later}
 use Rattle.sig_rel.specs.Relations.{IsUnknownCount, is_boolean}
 use Rattle.sig_rel.specs.Shares.{IsRefusedFor}
 use Rattle.sig_rel.specs.declared.answer.RelAnswer.{RelAnswer}
 use Rattle.sig_rel.specs.declared.answer.RelAnswer.TheVariants.{Budget as RelationBudget, OutOfMemory as NoRelation}
-use Rattle.sig_solve.specs.Frames.{IsFrameIn, truths_among}
+use Rattle.sig_solve.specs.Frames.{IsFrame}
+use Rattle.sig_solve.specs.declared.frame.Frame.{Frame}
 use Rattle.sig_solve.specs.Refusals.{HasNoRoom, IsFromRelation, IsWithin, calls_of, rest_of_share, share_of, store_refusal}
 use Rattle.sig_solve.specs.declared.answer.ClockAnswer.{ClockAnswer}
 use Rattle.sig_solve.specs.declared.answer.ClockAnswer.TheVariants.{Dead, MissingRoot, Unsolved, Pinned, Budget, OutOfMemory}
-use Rattle.sig_solve.specs.declared.related.Related.{Related}
-use Rattle.sig_solve.proofs.ListLemmas.{get_at, get_is, map_length, of_range}
+use Rattle.sig_solve.proofs.ListLemmas.{map_length, of_range}
 use Rattle.sig_solve.proofs.FrameLemmas.{leader_in}
 use Rattle.sig_solve.proofs.ReactionLemmas.{condition_is_boolean}
 
@@ -75,23 +75,35 @@ halves kernel u = by (2 ^ u) (length kernel.equations + u * u * u) where
   by p x = omega arith
 
 -- so many calls are few
-few_calls : (m c k : ℕ) → c ≤ suc m → k ≤ m → calls_of c k (suc m) ≤ 30 * (suc m * suc m * suc m)
+few_calls : (m c k : ℕ) → c ≤ suc m → k ≤ m → 1 + calls_of c k (suc m) ≤ 30 * (suc m * suc m * suc m)
 few_calls m c k le_c le_k =
-    let a : (4 + 6 * suc m) * c ≤ (4 + 6 * suc m) * suc m = mul-le-mul_left (4 + 6 * suc m) le_c in
-    let b : (4 + 6 * suc m) * c * c ≤ (4 + 6 * suc m) * c * suc m = mul-le-mul_left ((4 + 6 * suc m) * c) le_c in
-    let d : (4 + 6 * suc m) * c * suc m ≤ (4 + 6 * suc m) * suc m * suc m = mul-le-mul_right (suc m) a in
-    let e : (8 + 6 * suc m) * k ≤ (8 + 6 * suc m) * m = mul-le-mul_left (8 + 6 * suc m) le_k in
-    let f : (2 + 3 * suc m) * c ≤ (2 + 3 * suc m) * suc m = mul-le-mul_left (2 + 3 * suc m) le_c in
-    let total : (2 * c + 1) + (6 * c + 2) + (4 + 6 * suc m) * c * c + (8 + 6 * suc m) * k + (18 * k + (2 + 3 * suc m) * c)
-    ≤ (2 * suc m + 1) + (6 * suc m + 2) + (4 + 6 * suc m) * suc m * suc m + (8 + 6 * suc m) * m + (18 * m + (2 + 3 * suc m) * suc m) = sums le_c le_k b d e f in
+    let a : (3 + 2 * suc m) * c ≤ (3 + 2 * suc m) * suc m = mul-le-mul_left (3 + 2 * suc m) le_c in
+    let b : (3 + 2 * suc m) * c * c ≤ (3 + 2 * suc m) * c * suc m = mul-le-mul_left ((3 + 2 * suc m) * c) le_c in
+    let d : (3 + 2 * suc m) * c * suc m ≤ (3 + 2 * suc m) * suc m * suc m = mul-le-mul_right (suc m) a in
+    let e : (5 + 2 * suc m) * k ≤ (5 + 2 * suc m) * m = mul-le-mul_left (5 + 2 * suc m) le_k in
+    let f : (2 + 2 * suc m) * c ≤ (2 + 2 * suc m) * suc m = mul-le-mul_left (2 + 2 * suc m) le_c in
+    let total : 1 + (2 + (3 + 2 * suc m) * c * c + (5 + 2 * suc m) * k + (2 + 2 * suc m) * c) ≤ 3 + (3 + 2 * suc m) * suc m * suc m + (5 + 2 * suc m) * m + (2 + 2 * suc m) * suc m = sums b d e f in
     let bound = polynomial m in
     omega (arith, total, bound)
   where
-    sums : {n c k x y z w v p q : ℕ} → c ≤ n → k ≤ m → x ≤ y → y ≤ z → w ≤ v → p ≤ q → (2 * c + 1) + (6 * c + 2) + x + w + (18 * k + p) ≤ (2 * n + 1) + (6 * n + 2) + z + v + (18 * m + q)
-    sums c_le k_le one two three four = omega (arith, c_le, k_le, one, two, three, four)
+    sums : {x y z w v p q : ℕ} → x ≤ y → y ≤ z → w ≤ v → p ≤ q → 1 + (2 + x + w + p) ≤ 3 + z + v + q
+    sums one two three four = omega (arith, one, two, three, four)
 
-    polynomial : (m : ℕ) → (2 * suc m + 1) + (6 * suc m + 2) + (4 + 6 * suc m) * suc m * suc m + (8 + 6 * suc m) * m + (18 * m + (2 + 3 * suc m) * suc m) ≤ 30 * (suc m * suc m * suc m)
+    polynomial : (m : ℕ) → 3 + (3 + 2 * suc m) * suc m * suc m + (5 + 2 * suc m) * m + (2 + 2 * suc m) * suc m ≤ 30 * (suc m * suc m * suc m)
     polynomial m = omega arith
+
+-- fewer variables make fewer calls
+calls_rise : (c k n u : ℕ) → n ≤ u → 1 + calls_of c k n ≤ 1 + calls_of c k u
+calls_rise c k n u le =
+    let a : 3 + 2 * n ≤ 3 + 2 * u = omega (arith, le) in
+    let b : (3 + 2 * n) * c ≤ (3 + 2 * u) * c = mul-le-mul_right c a in
+    let d : (3 + 2 * n) * c * c ≤ (3 + 2 * u) * c * c = mul-le-mul_right c b in
+    let e : (5 + 2 * n) * k ≤ (5 + 2 * u) * k = mul-le-mul_right k (omega (arith, le)) in
+    let f : (2 + 2 * n) * c ≤ (2 + 2 * u) * c = mul-le-mul_right c (omega (arith, le)) in
+    sums d e f
+  where
+    sums : {x y z w v p : ℕ} → x ≤ y → z ≤ w → v ≤ p → 1 + (2 + x + z + v) ≤ 1 + (2 + y + w + p)
+    sums one two three = omega (arith, one, two, three)
 
 fit_last : (n x p a q : ℕ) → n * a ≤ n * p → n * p ≤ 30 * x * p → n * a ≤ p * 30 * (q + x)
 fit_last n x p a q one two = omega (arith, one, two)
@@ -99,20 +111,22 @@ fit_last n x p a q one two = omega (arith, one, two)
 fit : (n x p a q : ℕ) → n ≤ 30 * x → a ≤ p → n * a ≤ p * 30 * (q + x)
 fit n x p a q few low = fit_last n x p a q (mul-le-mul_left n low) (mul-le-mul_right p few)
 
-pub calls_fit : (u c k q : ℕ) (vs : List ℕ) → length vs ≡ u → c + k ≤ u → ((u ≡ 0) ⊎ (1 ≤ c)) → calls_of c k u * allowance vs ≤ 2 ^ u * 30 * (q + u * u * u)
-calls_fit zero c k q vs count le some =
-    let none : allowance vs ≡ 0 = ap (λ n. 2 ^ n - 1) count in
-    subst (λ n. calls_of c k 0 * n ≤ 2 ^ 0 * 30 * (q + 0 * 0 * 0)) (sym none) (let zero_is : calls_of c k 0 * 0 ≡ 0 = times_none (calls_of c k 0) in omega (arith, zero_is))
+pub calls_fit : (n u c k q : ℕ) (vs : List ℕ) → length vs ≡ n → n ≤ u → c + k ≤ u → ((u ≡ 0) ⊎ (1 ≤ c)) → (1 + calls_of c k n) * allowance vs ≤ 2 ^ u * 30 * (q + u * u * u)
+calls_fit n zero c k q vs count few le some =
+    let zero_of : length vs ≡ 0 = omega (arith, count, few) in
+    let none : allowance vs ≡ 0 = ap (λ m. 2 ^ m - 1) zero_of in
+    subst (λ m. (1 + calls_of c k n) * m ≤ 2 ^ 0 * 30 * (q + 0 * 0 * 0)) (sym none) (let zero_is : (1 + calls_of c k n) * 0 ≡ 0 = times_none (1 + calls_of c k n) in omega (arith, zero_is))
   where
     times_none : (n : ℕ) → n * 0 ≡ 0
     times_none n = omega arith
-calls_fit (suc m) c k q vs count le (inl none) = absurd (omega (arith, none))
-calls_fit (suc m) c k q vs count le (inr pos) =
-    let few = few_calls m c k (omega (arith, le)) (omega (arith, le, pos)) in
-    let own : allowance vs ≡ 2 ^ suc m - 1 = ap (λ n. 2 ^ n - 1) count in
-    fit (calls_of c k (suc m)) (suc m * suc m * suc m) (2 ^ suc m) (allowance vs) q few (omega (arith, own))
+calls_fit n (suc m) c k q vs count few le (inl none) = absurd (omega (arith, none))
+calls_fit n (suc m) c k q vs count few le (inr pos) =
+    let low : 1 + calls_of c k n ≤ 30 * (suc m * suc m * suc m) =
+    (let rise = calls_rise c k n (suc m) few in let bound = few_calls m c k (omega (arith, le)) (omega (arith, le, pos)) in omega (arith, rise, bound)) in
+    let wide : 2 ^ length vs ≤ 2 ^ suc m = pow_mono (omega (arith, count, few)) in
+    fit (1 + calls_of c k n) (suc m * suc m * suc m) (2 ^ suc m) (allowance vs) q low (omega (arith, wide))
 
--- counts of a related
+-- counts of a frame
 filter_fewer : (p q : ℕ → Bool) (xs : List ℕ) → ((x : ℕ) → p x ≡ true → q x ≡ true) → length (filter p xs) ≤ length (filter q xs)
 filter_fewer p q [] wider = omega arith
 filter_fewer p q (x ∷ xs) wider = by (p x) (q x) (wider x) (filter_fewer p q xs wider) where
@@ -121,15 +135,6 @@ filter_fewer p q (x ∷ xs) wider = by (p x) (q x) (wider x) (filter_fewer p q x
   by true false h rest = absurd (false≢true (h refl))
   by false true h rest = omega (arith, rest)
   by false false h rest = rest
-
-truths_length : (p : ℕ → Bool) (a : ℕ) (truths : List (Option ℕ)) → ((k : ℕ) → k < length truths → is_some (get_or truths k None) ≡ p (a + k)) → length (truths_among truths) ≡ length (filter p (range_with_len a (length truths)))
-truths_length p a [] same = refl
-truths_length p a (t ∷ truths) same = by t (p a) (same 0 (omega arith) ∙ ap p (omega arith)) (truths_length p (a + 1) truths (λ k lt. same (suc k) (omega (arith, lt)) ∙ ap p (omega arith))) where
-  by : (t : Option ℕ) (b : Bool) → is_some t ≡ b → length (truths_among truths) ≡ length (filter p (range_with_len (a + 1) (length truths))) → length (truths_among (t ∷ truths)) ≡ length (cond b (a ∷ filter p (range_with_len (a + 1) (length truths))) (filter p (range_with_len (a + 1) (length truths))))
-  by None true is rest = absurd (false≢true is)
-  by None false is rest = rest
-  by (Some v) true is rest = ap suc rest
-  by (Some v) false is rest = absurd (false≢true (sym is))
 
 least_one : (kernel : Kernel) (a b : List ℕ) → AreLeast kernel a → AreLeast kernel b → (s : ℕ) → s < length kernel.signals → get_or a s 0 ≡ get_or b s 0
 least_one kernel a b is_a is_b s lt = omega (arith, is_a.least s (get_or b s 0) lt (is_b.same s lt), is_b.least s (get_or a s 0) lt (is_a.same s lt))
@@ -143,43 +148,31 @@ filter_same p q (x ∷ xs) same = by (p x) (q x) (same x (contains_head x xs)) (
   by true false e rest = absurd (false≢true (sym e))
   by false true e rest = absurd (false≢true e)
 
-module _ (nodes : List Node) (related : Related) (is : IsFrameIn nodes related) where
-  pub unknowns_sum : length related.unknowns.items ≡ length related.frame.leaders.items + length (truths_among related.relation.truth)
-  unknowns_sum =
-      ap length is.unknowns ∙ length-append (map (λ k. get_or related.relation.present k 0) related.frame.leaders.items) (truths_among related.relation.truth)
-      ∙ ap (λ n. n + length (truths_among related.relation.truth)) (map_length (λ k. get_or related.relation.present k 0) related.frame.leaders.items)
+module _ (frame : Frame) (is : IsFrame frame) (u : ℕ) (count : IsUnknownCount frame.kernel.now u) where
+  leaders_count : length frame.leaders.items ≡ count_by (λ s. eqb (get_or count.0 s 0) s) (range_with_len 0 (length frame.kernel.now.signals))
+  leaders_count =
+      let range = range_with_len 0 (length frame.kernel.now.signals) in
+      ap length is.leaders ∙ ap (λ n. length (filter (λ s. eqb (get_or frame.least.items s 0) s) (range_with_len 0 n))) is.least.count
+      ∙ filter_same (λ s. eqb (get_or frame.least.items s 0) s) (λ s. eqb (get_or count.0 s 0) s) range (λ s there. ap (λ k. eqb k s) (least_one frame.kernel.now frame.least.items count.0 is.least count.1 s (of_range (length frame.kernel.now.signals) s there)))
+      ∙ length-filter (λ s. eqb (get_or count.0 s 0) s) range
 
-  truths_are : length (truths_among related.relation.truth) ≡ length (filter (is_boolean related.frame.kernel.now) (range_with_len 0 (length related.frame.kernel.now.signals)))
-  truths_are =
-      truths_length (is_boolean related.frame.kernel.now) 0 related.relation.truth (λ k lt. by k lt (get_or related.relation.truth k None) refl (is_boolean related.frame.kernel.now k) refl ∙ ap (is_boolean related.frame.kernel.now) (omega arith))
-      ∙ ap (λ n. length (filter (is_boolean related.frame.kernel.now) (range_with_len 0 n))) is.relation.unknowns.truths
-    where
-      by : (k : ℕ) → k < length related.relation.truth → (t : Option ℕ) → get_or related.relation.truth k None ≡ t → (b : Bool) → is_boolean related.frame.kernel.now k ≡ b → is_some (get_or related.relation.truth k None) ≡ is_boolean related.frame.kernel.now k
-      by k lt None at true boolean = let some = is.relation.unknowns.some k boolean in absurd (let e : None ≡ Some some.0 = sym at ∙ get_is related.relation.truth k (Some some.0) None some.1 in cc)
-      by k lt None at false boolean = ap is_some at ∙ sym boolean
-      by k lt (Some v) at b boolean = ap is_some at ∙ sym (is.relation.unknowns.booleans k v (get_at related.relation.truth k None lt ∙ ap Some at))
-
-  pub conditions_fewer : length (conditions_of related.frame.kernel.now) ≤ length (truths_among related.relation.truth)
+  conditions_fewer : length (conditions_of frame.kernel.now) ≤ count_by (is_boolean frame.kernel.now) (range_with_len 0 (length frame.kernel.now.signals))
   conditions_fewer =
-      let few = filter_fewer (is_condition related.frame.kernel.now) (is_boolean related.frame.kernel.now) (range_with_len 0 (length related.frame.kernel.now.signals)) (λ x is_x. condition_is_boolean related.frame.kernel.now x is_x) in
-      omega (arith, few, truths_are, map_length signal_id (filter (is_condition related.frame.kernel.now) (range_with_len 0 (length related.frame.kernel.now.signals))))
+      let range = range_with_len 0 (length frame.kernel.now.signals) in
+      let few = filter_fewer (is_condition frame.kernel.now) (is_boolean frame.kernel.now) range (λ x is_x. condition_is_boolean frame.kernel.now x is_x) in
+      omega (arith, few, length-filter (is_boolean frame.kernel.now) range, map_length signal_id (filter (is_condition frame.kernel.now) range))
 
-  pub some_class : (length related.unknowns.items ≡ 0) ⊎ (1 ≤ length related.frame.leaders.items)
-  some_class = by (cases_lt 0 (length related.frame.kernel.now.signals)) where
-    by : ((0 < length related.frame.kernel.now.signals) ⊎ (length related.frame.kernel.now.signals ≤ 0)) → (length related.unknowns.items ≡ 0) ⊎ (1 ≤ length related.frame.leaders.items)
-    by (inl pos) = let there = leader_in related.frame is.parts 0 pos in inr (omega (arith, there.1))
+  -- the classes and the conditions are no more than the unknowns
+  pub classes_and_conditions : length frame.leaders.items + length (conditions_of frame.kernel.now) ≤ u
+  classes_and_conditions = let few = conditions_fewer in let leaders = leaders_count in let sum = count.2 in omega (arith, few, leaders, sum)
+
+  -- where there is an unknown, there is a class
+  pub some_class : (u ≡ 0) ⊎ (1 ≤ length frame.leaders.items)
+  some_class = by (cases_lt 0 (length frame.kernel.now.signals)) where
+    by : ((0 < length frame.kernel.now.signals) ⊎ (length frame.kernel.now.signals ≤ 0)) → (u ≡ 0) ⊎ (1 ≤ length frame.leaders.items)
+    by (inl pos) = let there = leader_in frame is 0 pos in inr (omega (arith, there.1))
     by (inr none) =
-        let empty : length related.frame.kernel.now.signals ≡ 0 = omega (arith, none) in
-        let booleans : length (truths_among related.relation.truth) ≡ 0 = truths_are ∙ ap (λ n. length (filter (is_boolean related.frame.kernel.now) (range_with_len 0 n))) empty in
-        let leaders : length related.frame.leaders.items ≡ 0 = ap length is.parts.leaders ∙ ap (λ n. length (filter (λ s. eqb (get_or related.frame.least.items s 0) s) (range_with_len 0 n))) (is.parts.least.count ∙ empty) in
-        inl (omega (arith, unknowns_sum, booleans, leaders))
-
-  pub unknown_count : (u : ℕ) → IsUnknownCount related.frame.kernel.now u → length related.unknowns.items ≡ u
-  unknown_count u (least, are, sum) =
-      let range = range_with_len 0 (length related.frame.kernel.now.signals) in
-      let leaders : length related.frame.leaders.items ≡ count_by (λ s. eqb (get_or least s 0) s) range =
-      ap length is.parts.leaders ∙ ap (λ n. length (filter (λ s. eqb (get_or related.frame.least.items s 0) s) (range_with_len 0 n))) is.parts.least.count
-      ∙ filter_same (λ s. eqb (get_or related.frame.least.items s 0) s) (λ s. eqb (get_or least s 0) s) range (λ s there. ap (λ k. eqb k s) (least_one related.frame.kernel.now related.frame.least.items least is.parts.least are s (of_range (length related.frame.kernel.now.signals) s there)))
-      ∙ length-filter (λ s. eqb (get_or least s 0) s) range in
-      let booleans : length (truths_among related.relation.truth) ≡ count_by (is_boolean related.frame.kernel.now) range = truths_are ∙ length-filter (is_boolean related.frame.kernel.now) range in
-      omega (arith, unknowns_sum, leaders, booleans, sum)
+        let empty : length frame.kernel.now.signals ≡ 0 = omega (arith, none) in
+        let classes : count_by (λ s. eqb (get_or count.0 s 0) s) (range_with_len 0 (length frame.kernel.now.signals)) ≡ 0 = ap (λ n. count_by (λ s. eqb (get_or count.0 s 0) s) (range_with_len 0 n)) empty in
+        let booleans : count_by (is_boolean frame.kernel.now) (range_with_len 0 (length frame.kernel.now.signals)) ≡ 0 = ap (λ n. count_by (is_boolean frame.kernel.now) (range_with_len 0 n)) empty in
+        inl (count.2 ∙ omega (arith, classes, booleans))

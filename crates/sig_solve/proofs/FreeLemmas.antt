@@ -1,7 +1,8 @@
 -- Lemmas on free systems: what their truths read off.
-use Rattle.std.proofs.Common.{◌≡◌, ◌≢◌, ◌<◌, ◌≤◌, ◌↔◌, inl, inr, ℕ, Bool, true, false, eqb, not, List, [], ◌∷◌, length, get_or, refl, sym, ap, ◌∙◌, subst, arith, Contains}
-use Rattle.std.specs.Prelude.{zero, suc, None, Some, slice_get, is_some, if◌then◌else◌}
-use Rattle.std.specs.List.{list_any}
+use Rattle.std.proofs.Common.{◌≡◌, ◌≢◌, ◌<◌, ◌≤◌, ◌↔◌, inl, inr, ℕ, Bool, true, false, eqb, not, List, [], length, get_or, refl, sym, ap, ◌∙◌, subst, arith, Contains}
+use Rattle.std.specs.Prelude.{zero, suc, None, Some, slice_get, is_some}
+use Rattle.std.specs.List.{list_any, range_with_len}
+use Rattle.std.proofs.lemmas.List.FromFn.{get_or-range_with_len, length-range_with_len}
 use Rattle.std.proofs.lemmas.Bool.{cases_eq, eq-eqb, eqb-true, false≢true}
 use Rattle.sig_base.specs.declared.ids.SigId.{SigId}
 use Rattle.sig_kernel.specs.declared.kernel.Kernel.{Kernel}
@@ -19,44 +20,18 @@ use Rattle.sig_dd.specs.declared.node.Ref.{Ref}
 use Rattle.sig_dd.proofs.Trees.{truth_of-with_same, truth_of-with_other}
 use Rattle.sig_dd.proofs.Walks.{depends_agree}
 use Rattle.sig_clock.proofs.Lists.{at_contained}
-use Rattle.sig_rel.specs.Systems.{AreConditions, IsFreeSystem, IsOver, IsSolution, IsSystem, SystemView, reading, status_read, statuses_read}
-use Rattle.sig_rel.specs.Triangles.{IsTriangular}
+use Rattle.sig_rel.specs.Systems.{AreConditions, IsFreeSystem, IsOver, IsSolution, IsSystem, SystemView, reading}
 use Rattle.sig_solve.specs.Frames.{IsAmong, IsFrame}
 use Rattle.sig_solve.specs.Free.{IsFreeIn, is_unknown, is_unknown_to}
 use Rattle.sig_solve.specs.Guards.{AreGuards}
 use Rattle.sig_solve.specs.Rounds.{AreEntered, IsOpenAnswer}
 use Rattle.sig_solve.specs.declared.frame.Frame.{Frame}
 use Rattle.sig_solve.proofs.FrameLemmas.{leader_is}
-use Rattle.sig_solve.proofs.ListLemmas.{any_is, contains_get, get_at, is_any}
+use Rattle.sig_solve.proofs.ListLemmas.{any_is, contains_get, get_at, get_within, is_any}
 use Rattle.sig_solve.proofs.ReactionLemmas.{condition_is_signal}
 use Rattle.sig_solve.proofs.RoundLemmas.{determined_enters}
+use Rattle.sig_solve.proofs.SystemLemmas.{keeps_at, presence_at as presence_at_system, presence_over as presence_over_system, presence_read as presence_read_system, same_readings}
 use Rattle.sig_solve.proofs.TruthLemmas.{is_in, mixed, mixed_at, mixed_outside}
-
--- what a signal is in what truths read off
-status_of_reading : (nodes : List Node) (truths : List Bool) (present truth : List Ref) (s : ℕ) (p t : Ref) → slice_get present s ≡ Some p → slice_get truth s ≡ Some t → status_at (statuses_read nodes truths present truth) s ≡ status_read nodes truths p t
-status_of_reading nodes truths [] truth s p t at_p at_t = absurd (let e : None ≡ Some p = at_p in cc)
-status_of_reading nodes truths (q ∷ present) [] s p t at_p at_t = absurd (let e : None ≡ Some t = at_t in cc)
-status_of_reading nodes truths (q ∷ present) (u ∷ truth) zero p t at_p at_t =
-    let e : Some q ≡ Some p = at_p in
-    let f : Some u ≡ Some t = at_t in
-    let same_p : q ≡ p = cc in
-    let same_t : u ≡ t = cc in
-    ap (λ x. status_read nodes truths x u) same_p ∙ ap (λ x. status_read nodes truths p x) same_t
-status_of_reading nodes truths (q ∷ present) (u ∷ truth) (suc s) p t at_p at_t = status_of_reading nodes truths present truth s p t at_p at_t
-
--- where each presence and each truth is the same, the same is read off
-same_readings : (nodes : List Node) (a b : List Bool) (present truth : List Ref) → ((s : ℕ) (r : Ref) → slice_get present s ≡ Some r → test nodes r a ≡ test nodes r b) → ((s : ℕ) (r : Ref) → slice_get truth s ≡ Some r → test nodes r a ≡ test nodes r b)
-    → statuses_read nodes a present truth ≡ statuses_read nodes b present truth
-same_readings nodes a b [] truth same_p same_t = refl
-same_readings nodes a b (p ∷ present) [] same_p same_t = refl
-same_readings nodes a b (p ∷ present) (t ∷ truth) same_p same_t =
-    ap (λ x. (if x then Some (test nodes t a) else None) ∷ statuses_read nodes a present truth) (same_p 0 p refl)
-    ∙ ap (λ x. (if test nodes p b then Some x else None) ∷ statuses_read nodes a present truth) (same_t 0 t refl)
-    ∙ ap (λ xs. status_read nodes b p t ∷ xs) (same_readings nodes a b present truth (λ s r at. same_p (suc s) r at) (λ s r at. same_t (suc s) r at))
-
-some_where : (b truth : Bool) → is_some (if b then Some truth else None) ≡ b
-some_where true truth = refl
-some_where false truth = refl
 
 -- a truth that is the same with either truth of a variable
 not_depends : (f : List Bool → Bool) (v : ℕ) (ts : List Bool) → (Depends f v → ⊥) → f (with_truth ts v false) ≡ f (with_truth ts v true)
@@ -88,25 +63,37 @@ module _ (kernel : Kernel) (store : StoreView) (system : SystemView) (is : IsFre
   truth_at s = get_or system.truth s system.residue
 
   pub presence_at : (s : ℕ) → s < length kernel.signals → slice_get system.present s ≡ Some (get_or system.present s system.residue)
-  presence_at s lt = get_at system.present s system.residue (omega (arith, lt, is.is_system.presences))
+  presence_at s lt = presence_at_system kernel store.nodes system is.is_system s lt
 
-  pub presence_over : (s : ℕ) → s < length kernel.signals → IsOver store.nodes system.variables (get_or system.present s system.residue)
-  presence_over s lt = is.is_system.present s (get_or system.present s system.residue) (presence_at s lt)
-
-  status_is : (s : ℕ) → s < length kernel.signals → (truths : List Bool)
-      → status_at (reading store.nodes system truths) s ≡ (if test store.nodes (get_or system.present s system.residue) truths then Some (test store.nodes (get_or system.truth s system.residue) truths) else None)
-  status_is s lt truths =
-      status_of_reading store.nodes truths system.present system.truth s (get_or system.present s system.residue) (get_or system.truth s system.residue) (presence_at s lt) (get_at system.truth s system.residue (omega (arith, lt, is.is_system.truths)))
+  pub presence_over : (s : ℕ) → s < length kernel.signals → IsOver store.nodes system (get_or system.present s system.residue)
+  presence_over s lt = presence_over_system kernel store.nodes system is.is_system s lt
 
   pub presence_read : (s : ℕ) → s < length kernel.signals → (truths : List Bool) → is_present (reading store.nodes system truths) s ≡ test store.nodes (get_or system.present s system.residue) truths
-  presence_read s lt truths =
-      ap is_some (status_is s lt truths) ∙ some_where (test store.nodes (get_or system.present s system.residue) truths) (test store.nodes (get_or system.truth s system.residue) truths)
+  presence_read s lt truths = presence_read_system kernel store.nodes system is.is_system s lt truths
+
+  -- variable i is the proposal of condition i, and there are no others
+  own_number : (v : ℕ) (c : SigId) → slice_get system.conditions v ≡ Some c → slice_get system.proposals v ≡ Some v
+  own_number v c at =
+      let lt = get_within system.conditions v c at in
+      ap (λ xs. slice_get xs v) is.is_free.proposals
+      ∙ get_at (range_with_len 0 (length system.conditions)) v 0 (omega (arith, lt, length-range_with_len 0 (length system.conditions)))
+      ∙ ap Some (get_or-range_with_len 0 (length system.conditions) v 0 lt ∙ omega arith)
+
+  pub keeps_own : (truths : List Bool) → KeepsTo system.conditions truths (reading store.nodes system truths)
+  keeps_own truths v c at = keeps_at kernel store.nodes system is.is_system truths v v c at (own_number v c at)
+
+  idle_own : (i : ℕ) (c : SigId) (truths : List Bool) (b : Bool) → slice_get system.conditions i ≡ Some c → IsSolution store.nodes system truths → status_at (reading store.nodes system truths) c.0 ≡ None
+      → IsSolution store.nodes system (with_truth truths i b) × (reading store.nodes system (with_truth truths i b) ≡ reading store.nodes system truths)
+  idle_own i c truths b at solves absent = is.is_system.idle i i c truths b at (own_number i c at) solves absent
+
+  pub below_of : (r : Ref) → IsOver store.nodes system r → (v : ℕ) → Depends (test store.nodes r) v → v < length system.conditions
+  below_of r over v d = let within = over.within v d in let end = within.1 in omega (arith, end, is.is_free.first, is.is_free.variables)
 
   -- truths that agree on the proposals read off one reaction
   pub same_reading : (a b : List Bool) → ((v : ℕ) → v < length system.conditions → truth_of a v ≡ truth_of b v) → reading store.nodes system a ≡ reading store.nodes system b
-  same_reading a b same = same_readings store.nodes a b system.present system.truth (λ s r at. over r (is.is_system.present s r at)) (λ s r at. over r (is.is_system.truth s r at)) where
-    over : (r : Ref) → IsOver store.nodes system.variables r → test store.nodes r a ≡ test store.nodes r b
-    over r is_over = depends_agree store is.has_store r is_over.held a b (λ v d. let below = is_over.below v d in same v (omega (arith, below, is.is_free.variables)))
+  same_reading a b same = same_readings store.nodes store.nodes a b system.present system.truth (λ s r at. over r (is.is_system.present s r at)) (λ s r at. over r (is.is_system.truth s r at)) where
+    over : (r : Ref) → IsOver store.nodes system r → test store.nodes r a ≡ test store.nodes r b
+    over r is_over = depends_agree store is.has_store r is_over.held a b (λ v d. same v (below_of r is_over v d))
 
   -- the reaction with the first truths of a proposal put in for its own
   flipped : (proposal : List Bool) (reaction : Reaction) → KeepsTo system.conditions proposal reaction → (start : List Bool) → reading store.nodes system start ≡ reaction
@@ -126,10 +113,10 @@ module _ (kernel : Kernel) (store : StoreView) (system : SystemView) (is : IsFre
       )
     where
       by : (t : List Bool) → reading store.nodes system t ≡ reaction → (c : SigId) → slice_get system.conditions n ≡ Some c → (status : Status) → status_at reaction c.0 ≡ status → reading store.nodes system (with_truth t n (truth_of proposal n)) ≡ reaction
-      by t own c at None absent = (is.is_system.idle n c t (truth_of proposal n) at (solution t) (ap (λ r. status_at r c.0) own ∙ absent)).1 ∙ own
+      by t own c at None absent = (idle_own n c t (truth_of proposal n) at (solution t) (ap (λ r. status_at r c.0) own ∙ absent)).1 ∙ own
       by t own c at (Some b) here =
           let wanted : Allows (Some b) (truth_of proposal n) = subst (λ x. Allows x (truth_of proposal n)) here (keeps n c at) in
-          let has : Allows (Some b) (truth_of t n) = subst (λ x. Allows x (truth_of t n)) (ap (λ r. status_at r c.0) own ∙ here) (is.is_system.proposals t n c at) in
+          let has : Allows (Some b) (truth_of t n) = subst (λ x. Allows x (truth_of t n)) (ap (λ r. status_at r c.0) own ∙ here) (keeps_own t n c at) in
           let same : truth_of proposal n ≡ truth_of t n = sym wanted ∙ has in
           same_reading (with_truth t n (truth_of proposal n)) t (λ v lt. elim (cases_eq v n) [
             | inl e ↦ subst (λ w. truth_of (with_truth t n (truth_of proposal n)) w ≡ truth_of t w) (sym e) (truth_of-with_same t n (truth_of proposal n) ∙ same)
@@ -156,7 +143,7 @@ module _ (kernel : Kernel) (store : StoreView) (system : SystemView) (is : IsFre
     presences = presence_read d lt (with_truth ts v a) ∙ same ∙ sym (presence_read d lt (with_truth ts v b))
 
     own : (x : Bool) (status : Status) → status_at (reading store.nodes system (with_truth ts v x)) d ≡ status → Allows status (truth_of ts u)
-    own x status e = subst (λ t. Allows status t) (truth_of-with_other ts v x u apart) (subst (λ y. Allows y (truth_of (with_truth ts v x) u)) e (is.is_system.proposals (with_truth ts v x) u (signal_id d) at))
+    own x status e = subst (λ t. Allows status t) (truth_of-with_other ts v x u apart) (subst (λ y. Allows y (truth_of (with_truth ts v x) u)) e (keeps_own (with_truth ts v x) u (signal_id d) at))
 
     by : (x y : Status) → status_at (reading store.nodes system (with_truth ts v a)) d ≡ x → status_at (reading store.nodes system (with_truth ts v b)) d ≡ y → status_at (reading store.nodes system (with_truth ts v a)) d ≡ status_at (reading store.nodes system (with_truth ts v b)) d
     by None None e f = e ∙ sym f
@@ -234,10 +221,10 @@ module _ (kernel : Kernel) (store : StoreView) (system : SystemView) (is : IsFre
         | inl there ↦
             let among = known_is known c (ap (is_unknown_to known) (sym at) ∙ told v there) in
             let same = agree c.0 ((is.conditions.all c).0 (contains_get system.conditions v c at)) among in
-            let own : Allows (status_at a c.0) (truth_of first.0 v) = subst (λ r. Allows (status_at r c.0) (truth_of first.0 v)) first.2 (is.is_system.proposals first.0 v c at) in
+            let own : Allows (status_at a c.0) (truth_of first.0 v) = subst (λ r. Allows (status_at r c.0) (truth_of first.0 v)) first.2 (keeps_own first.0 v c at) in
             subst (λ t. Allows (status_at b c.0) t) (sym (mixed_at needs first.0 second.0 v there)) (subst (λ x. Allows x (truth_of first.0 v)) same own)
         | inr out ↦
-            let own : Allows (status_at b c.0) (truth_of second.0 v) = subst (λ r. Allows (status_at r c.0) (truth_of second.0 v)) second.2 (is.is_system.proposals second.0 v c at) in
+            let own : Allows (status_at b c.0) (truth_of second.0 v) = subst (λ r. Allows (status_at r c.0) (truth_of second.0 v)) second.2 (keeps_own second.0 v c at) in
             subst (λ t. Allows (status_at b c.0) t) (mixed_outside needs first.0 second.0 v out) own
       ]
 
@@ -246,7 +233,7 @@ module _ (kernel : Kernel) (store : StoreView) (system : SystemView) (is : IsFre
       → is_unknown system.conditions known v ≡ true → IsDetermined kernel (IsAmong known) s → ⊥
   needs_unknown round known s v entered lt depends unknown determined = by (get_or system.conditions v (signal_id 0)) at where
     at : slice_get system.conditions v ≡ Some (get_or system.conditions v (signal_id 0))
-    at = get_at system.conditions v (signal_id 0) (let below = (presence_over s lt).below v depends in omega (arith, below, is.is_free.variables))
+    at = get_at system.conditions v (signal_id 0) (below_of (get_or system.present s system.residue) (presence_over s lt) v depends)
 
     by : (c : SigId) → slice_get system.conditions v ≡ Some c → ⊥
     by c at_c =
@@ -292,7 +279,7 @@ module _ (kernel : Kernel) (store : StoreView) (system : SystemView) (is : IsFre
 
     truth_here : truth_of (is.is_system.complete reaction speaks_here).0 (number_of c is_c).0 ≡ truth
     truth_here =
-        let own : Allows (Some truth) (truth_of start number) = subst (λ x. Allows x (truth_of start number)) (ap (λ r. status_at r c) start_is ∙ here) (is.is_system.proposals start number (signal_id c) (number_of c is_c).1) in
+        let own : Allows (Some truth) (truth_of start number) = subst (λ x. Allows x (truth_of start number)) (ap (λ r. status_at r c) start_is ∙ here) (keeps_own start number (signal_id c) (number_of c is_c).1) in
         sym own
 
     -- the start with its own truth put in twice
@@ -309,11 +296,11 @@ module _ (kernel : Kernel) (store : StoreView) (system : SystemView) (is : IsFre
     turned_is = by (status_at (reading store.nodes system turned) c) refl where
       by : (x : Status) → status_at (reading store.nodes system (with_truth (is.is_system.complete reaction speaks_here).0 (number_of c is_c).0 (not truth))) c ≡ x → x ≡ Some (not truth)
       by None e =
-          let stays = (is.is_system.idle number (signal_id c) turned truth (number_of c is_c).1 (solution turned) e).1 in
+          let stays = (idle_own number (signal_id c) turned truth (number_of c is_c).1 (solution turned) e).1 in
           let back = back_again turned (λ v ne. truth_of-with_other start number (not truth) v ne) in
           absurd (let none : None ≡ Some truth = sym e ∙ ap (λ r. status_at r c) (sym stays ∙ back) ∙ here in cc)
       by (Some b) e =
-          let own : Allows (Some b) (truth_of turned number) = subst (λ x. Allows x (truth_of turned number)) e (is.is_system.proposals turned number (signal_id c) (number_of c is_c).1) in
+          let own : Allows (Some b) (truth_of turned number) = subst (λ x. Allows x (truth_of turned number)) e (keeps_own turned number (signal_id c) (number_of c is_c).1) in
           ap Some (own ∙ truth_of-with_same start number (not truth))
 
     earlier_same : AgreeOn kernel (λ earlier. IsEarlier kernel earlier c) reaction (reading store.nodes system (with_truth (is.is_system.complete reaction speaks_here).0 (number_of c is_c).0 (not truth)))
@@ -365,10 +352,10 @@ free_guards frame parts store system is = record {
         record {
           held = over.held;
           function = λ proposal. (
-            (λ t. (reading store.nodes system proposal, speaks_read frame.kernel.now store system is proposal, is.is_system.proposals proposal, presence_read frame.kernel.now store system is s lt proposal ∙ t)),
+            (λ t. (reading store.nodes system proposal, speaks_read frame.kernel.now store system is proposal, keeps_own frame.kernel.now store system is proposal, presence_read frame.kernel.now store system is s lt proposal ∙ t)),
             (λ w. sym (presence_read frame.kernel.now store system is s lt proposal) ∙ ap (λ r. is_present r s) (one_reading frame.kernel.now store system is proposal w.0 w.1 w.2) ∙ w.3),
           );
-          variables = λ v d. let below = over.below v d in omega (arith, below, is.is_free.variables);
+          variables = λ v d. below_of frame.kernel.now store system is (get_or system.present s system.residue) over v d;
         },
       );
 }

@@ -7,7 +7,6 @@ use Rattle.std.proofs.lemmas.Bool.{cases_eq, eqb-true, false≢true}
 use Rattle.std.proofs.lemmas.List.{append-nil, take_more}
 use Rattle.std.proofs.lemmas.List.Elements.{filter-append}
 use Rattle.sig_clock.proofs.Lists.{contains_cons, contains_head, contains_later, contains_none, range_from_zero}
-use Rattle.sig_solve.specs.Frames.{truths_among}
 
 pub filter_keeps : {X : Type 0} (p : X → Bool) (xs : List X) (x : X) → p x ≡ true → filter p (xs ++ x ∷ []) ≡ filter p xs ++ x ∷ []
 filter_keeps p xs x is = filter-append p xs (x ∷ []) ∙ ap (λ b. filter p xs ++ cond b (x ∷ []) []) is
@@ -95,33 +94,6 @@ of_range (suc n) k there =
       | inl before ↦ omega (arith, of_range n k before)
       | inr at ↦ elim (contains_cons n k [] at) [ inl e ↦ omega (arith, e) | inr none ↦ absurd (contains_none k none) ]
     ]
-
-pub truths_more : (truths : List (Option ℕ)) (v : ℕ) → truths_among (truths ++ Some v ∷ []) ≡ truths_among truths ++ v ∷ []
-truths_more [] v = refl
-truths_more (None ∷ truths) v = truths_more truths v
-truths_more (Some w ∷ truths) v = ap (λ vs. w ∷ vs) (truths_more truths v)
-
-pub truths_stay : (truths : List (Option ℕ)) → truths_among (truths ++ None ∷ []) ≡ truths_among truths
-truths_stay [] = refl
-truths_stay (None ∷ truths) = truths_stay truths
-truths_stay (Some w ∷ truths) = ap (λ vs. w ∷ vs) (truths_stay truths)
-
-pub in_truths : (truths : List (Option ℕ)) (s v : ℕ) → slice_get truths s ≡ Some (Some v) → Contains (truths_among truths) v
-in_truths [] s v is = cc
-in_truths (t ∷ truths) zero v is = by t (let e : Some t ≡ Some (Some v) = is in cc) where
-  by : (t : Option ℕ) → t ≡ Some v → Contains (truths_among (t ∷ truths)) v
-  by None e = cc
-  by (Some w) e = let same : w ≡ v = cc in subst (λ u. Contains (w ∷ truths_among truths) u) same (contains_head w (truths_among truths))
-in_truths (None ∷ truths) (suc s) v is = in_truths truths s v is
-in_truths (Some w ∷ truths) (suc s) v is = contains_later w v (truths_among truths) (in_truths truths s v is)
-
-pub of_truths : (truths : List (Option ℕ)) (v : ℕ) → Contains (truths_among truths) v → (s : ℕ) × (slice_get truths s ≡ Some (Some v))
-of_truths [] v there = absurd (contains_none v there)
-of_truths (None ∷ truths) v there = let rest = of_truths truths v there in (suc rest.0, rest.1)
-of_truths (Some w ∷ truths) v there = elim (contains_cons w v (truths_among truths) there) [
-  | inl e ↦ (0, ap (λ u. Some (Some u)) (sym e))
-  | inr later ↦ let rest = of_truths truths v later in (suc rest.0, rest.1)
-]
 
 pub apart-eqb : (a b : ℕ) → (a ≡ b → ⊥) → eqb a b ≡ false
 apart-eqb a b apart = by (eqb a b) refl where

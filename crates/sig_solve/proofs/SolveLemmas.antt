@@ -1,28 +1,22 @@
 -- Lemmas on the steps of solving.
-use Rattle.std.proofs.Common.{◌≡◌, ◌≤◌, ◌+◌, ◌*◌, ◌^◌, inl, inr, ℕ, List, [], ◌∷◌, length, sym, ap, ◌∙◌, subst, arith}
+use Rattle.std.proofs.Common.{◌≡◌, ◌≤◌, ◌+◌, ℕ, List, [], ◌∷◌, length, sym, ap, subst, arith}
 use Rattle.std.specs.Prelude.{Some, Result, Ok, Err, IfOk, IsErrAnd, slice_get}
 use Rattle.sig_base.specs.declared.ids.SigId.{SigId}
-use Rattle.sig_kernel.specs.declared.kernel.Kernel.{Kernel}
 use Rattle.sig_clock.specs.ClockRefusals.{AreSolved, HasRoot, IsFirstPinned, IsUnsolved}
 use Rattle.sig_clock.specs.Conditions.{conditions_of}
-use Rattle.sig_dd.specs.Nodes.{StoreView, IsStore, allowance}
-use Rattle.sig_dd.specs.declared.node.Node.{Node}
-use Rattle.sig_kernel.specs.Validity.{IsValid}
-use Rattle.sig_rel.specs.Relations.{IsRelation, IsUnknownCount, RelationView}
-use Rattle.sig_rel.proofs.ChosenTruths.{truths_of_reaction}
-use Rattle.sig_solve.specs.Sets.{IsReady}
+use Rattle.sig_dd.specs.Nodes.{StoreView}
+use Rattle.sig_rel.specs.Relations.{IsUnknownCount}
 use Rattle.sig_solve.specs.declared.answer.ClockAnswer.TheVariants.{OutOfMemory}
-use Rattle.sig_solve.proofs.CountLemmas.{calls_fit, conditions_fewer, some_class, unknown_count, unknowns_sum, within_of_share}
+use Rattle.sig_solve.proofs.CountLemmas.{calls_fit, classes_and_conditions, some_class, within_of_share}
 use Rattle.sig_dd.specs.Shares.{Share}
 use Rattle.sig_dd.specs.declared.answer.DdAnswer.{DdAnswer}
 use Rattle.sig_dd.specs.declared.answer.DdAnswer.TheVariants.{Budget as StoreBudget, OutOfMemory as NoMemory}
 use Rattle.sig_solve.specs.Answers.{FindsPinned}
-use Rattle.sig_solve.specs.Frames.{AreUnknownsOf, IsFrame, IsFrameIn}
+use Rattle.sig_solve.specs.Frames.{IsFrame}
 use Rattle.sig_solve.specs.Refusals.{HasNoRoom, IsFromStore, IsWithin, calls_of, rest_of_share, store_refusal}
 use Rattle.sig_solve.specs.Rounds.{AreSettled, layer_in}
 use Rattle.sig_solve.specs.declared.answer.ClockAnswer.{ClockAnswer}
 use Rattle.sig_solve.specs.declared.frame.Frame.{Frame}
-use Rattle.sig_solve.specs.declared.related.Related.{Related}
 use Rattle.sig_solve.proofs.OrderLemmas.{signal_layer, unsolved_first}
 use Rattle.sig_solve.proofs.ReactionLemmas.{condition_is_signal}
 
@@ -59,35 +53,14 @@ pub with_clocks : {T : Type 0} (H : Type 0) (P : T → Type 0) (result : Result 
 with_clocks H P (Ok x) h is = (h, is)
 with_clocks H P (Err e) h is = tt
 
--- a frame of a kernel whose relation is in the store
-pub ready_of : (store : StoreView) (kernel : Kernel) (count : ℕ) (relation : RelationView) (related : Related) → related.frame.kernel.now ≡ kernel → related.relation ≡ relation → IsFrame related.frame → AreUnknownsOf related → IsValid kernel → IsStore store → IsRelation kernel count store.nodes relation → IsReady store related
-ready_of store kernel count relation related same_kernel same_relation parts unknowns valid is_store is =
-    let own : IsRelation related.frame.kernel.now count store.nodes related.relation = subst (λ k. IsRelation k count store.nodes related.relation) (sym same_kernel) (subst (λ r. IsRelation kernel count store.nodes r) (sym same_relation) is) in
-    record {
-      has_store = is_store;
-      has_frame = record {
-        parts = parts;
-        unknowns = unknowns;
-        valid = subst IsValid (sym same_kernel) valid;
-        count = count;
-        relation = own;
-        every = λ reaction possible. truths_of_reaction related.frame.kernel.now count related.relation.present related.relation.truth own.unknowns reaction possible;
-      };
-    }
-
 -- the calls keep to what is left of the share
-pub rest_within : {T : Type 0} (nodes : List Node) (related : Related) (is : IsFrameIn nodes related) (u : ℕ) (old new : StoreView) (result : Result T ClockAnswer) → IsUnknownCount related.frame.kernel.now u
-    → Share (calls_of (length related.frame.leaders.items) (length (conditions_of related.frame.kernel.now)) (length related.unknowns.items)) related.unknowns.items old new (store_refusal result) → IsWithin (rest_of_share related.frame.kernel.now u) old new result
-rest_within nodes related is u old new result counted share =
-    let c = length related.frame.leaders.items in
-    let k = length (conditions_of related.frame.kernel.now) in
-    let same : length related.unknowns.items ≡ u = unknown_count nodes related is u counted in
-    let sum = unknowns_sum nodes related is in
-    let few = conditions_fewer nodes related is in
-    let le : c + k ≤ u = omega (arith, sum, few, same) in
-    within_of_share (calls_of c k (length related.unknowns.items)) related.unknowns.items (rest_of_share related.frame.kernel.now u) old new result
-    (subst (λ n. calls_of c k n * allowance related.unknowns.items ≤ 2 ^ u * 30 * (length related.frame.kernel.now.equations + u * u * u)) (sym same)
-    (calls_fit u c k (length related.frame.kernel.now.equations) related.unknowns.items same le (elim (some_class nodes related is) [ inl none ↦ inl (sym same ∙ none) | inr pos ↦ inr pos ]))) share
+pub rest_within : {T : Type 0} (frame : Frame) (is : IsFrame frame) (u n : ℕ) (vs : List ℕ) (old new : StoreView) (result : Result T ClockAnswer) → IsUnknownCount frame.kernel.now u → length vs ≡ n → n ≤ u
+    → Share (1 + calls_of (length frame.leaders.items) (length (conditions_of frame.kernel.now)) n) vs old new (store_refusal result) → IsWithin (rest_of_share frame.kernel.now u) old new result
+rest_within frame is u n vs old new result counted count few share =
+    let c = length frame.leaders.items in
+    let k = length (conditions_of frame.kernel.now) in
+    within_of_share (1 + calls_of c k n) vs (rest_of_share frame.kernel.now u) old new result
+    (calls_fit n u c k (length frame.kernel.now.equations) vs count few (classes_and_conditions frame is u counted) (some_class frame is u counted)) share
 
 pub within_nothing : {T : Type 0} (room : ℕ) (s : StoreView) (result : Result T ClockAnswer) → IsErrAnd result (λ e. e ≡ OutOfMemory) → IsWithin room s s result
 within_nothing room s (Ok x) is = absurd is

@@ -4,7 +4,6 @@ use Rattle.std.proofs.lemmas.Bool.{cases_eq}
 use Rattle.sig_clock.proofs.Lists.{contains_cons, contains_head, contains_later, contains_none}
 use Rattle.sig_dd.specs.Diagram.{truth_of, with_truth}
 use Rattle.sig_dd.proofs.Trees.{truth_of-with_same, truth_of-with_other}
-use Rattle.sig_solve.specs.Parts.{AgreeOutside}
 
 -- a variable is in a list, or not
 pub is_in : (xs : List ℕ) (v : ℕ) → Contains xs v ⊎ (Contains xs v → ⊥)
@@ -33,21 +32,6 @@ pub contains_last : {X : Type 0} (xs : List X) (x : X) → Contains (xs ++ x ∷
 contains_last [] x = contains_head x []
 contains_last (z ∷ xs) x = contains_later z x (xs ++ x ∷ []) (contains_last xs x)
 
-pub outside_none : (a : List Bool) → AgreeOutside [] a a
-outside_none a v out = refl
-
--- one more variable is forgotten: some truth of it
-pub outside_more : (xs : List ℕ) (v : ℕ) (x : Bool) (a b : List Bool) → AgreeOutside xs (with_truth a v x) b → AgreeOutside (xs ++ v ∷ []) a b
-outside_more xs v x a b agree u out =
-    let ne : u ≢ v = λ e. out (subst (λ w. Contains (xs ++ v ∷ []) w) (sym e) (contains_last xs v)) in
-    sym (truth_of-with_other a v x u ne) ∙ agree u (λ there. out (contains_before xs v u there))
-
-pub outside_fewer : (xs : List ℕ) (v : ℕ) (a b : List Bool) → AgreeOutside (xs ++ v ∷ []) a b → AgreeOutside xs (with_truth a v (truth_of b v)) b
-outside_fewer xs v a b agree u out = by (cases_eq u v) where
-  by : ((u ≡ v) ⊎ (u ≢ v)) → truth_of (with_truth a v (truth_of b v)) u ≡ truth_of b u
-  by (inl e) = subst (λ w. truth_of (with_truth a v (truth_of b v)) w ≡ truth_of b w) (sym e) (truth_of-with_same a v (truth_of b v))
-  by (inr ne) = truth_of-with_other a v (truth_of b v) u ne ∙ agree u (λ there. elim (contains_end xs v u there) [ inl in_xs ↦ out in_xs | inr e ↦ ne e ])
-
 -- truths that are those of one list at some variables, and of another one elsewhere
 pub mixed : List ℕ → List Bool → List Bool → List Bool
 mixed [] at a = a
@@ -61,7 +45,7 @@ mixed_at (v ∷ vs) at a u there = elim (cases_eq u v) [
   | inr ne ↦ truth_of-with_other (mixed vs at a) v (truth_of at v) u ne ∙ elim (contains_cons v u vs there) [ inl e ↦ absurd (ne e) | inr later ↦ mixed_at vs at a u later ]
 ]
 
-pub mixed_outside : (vs : List ℕ) (at a : List Bool) → AgreeOutside vs a (mixed vs at a)
+pub mixed_outside : (vs : List ℕ) (at a : List Bool) (u : ℕ) → (Contains vs u → ⊥) → truth_of a u ≡ truth_of (mixed vs at a) u
 unfolding mixed
 mixed_outside [] at a u out = refl
 mixed_outside (v ∷ vs) at a u out =

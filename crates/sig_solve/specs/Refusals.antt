@@ -72,13 +72,13 @@ triangular_share_of kernel = 2 ^ length (conditions_of kernel) * 36 * (length ke
 abbrev pub KeepsToTriangularShare : {T : Type 0} → Kernel → StoreView → StoreView → Result T ClockAnswer → Type 0
 KeepsToTriangularShare kernel old new result = IsTriangular kernel → IsWithin (triangular_share_of kernel) old new result
 
--- the share that is left once the relation is made
+-- the share that is left once the system is made
 abbrev pub rest_of_share : Kernel → ℕ → ℕ
 rest_of_share kernel unknowns = 2 ^ unknowns * 30 * (length kernel.equations + unknowns * unknowns * unknowns)
 
--- how many calls solve a kernel of so many classes, conditions and unknowns
+-- how many calls solve a kernel of so many classes, conditions and variables, once its solutions are made
 abbrev pub calls_of : ℕ → ℕ → ℕ → ℕ
-calls_of classes conditions unknowns = (2 * classes + 1) + (6 * classes + 2) + (4 + 6 * unknowns) * classes * classes + (8 + 6 * unknowns) * conditions + (18 * conditions + (2 + 3 * unknowns) * classes)
+calls_of classes conditions unknowns = 2 + (3 + 2 * unknowns) * classes * classes + (5 + 2 * unknowns) * conditions + (2 + 2 * unknowns) * classes
 
 -- how many nodes the making of a triangular kernel's system may add: in either form, half of the share or less
 abbrev pub IsSystemRoom : Kernel → ℕ → Type 0

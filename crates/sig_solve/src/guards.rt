@@ -1,164 +1,103 @@
 //! Guards: where signals are present, as functions of the truths that are proposed for conditions.
 
-ghost use Rattle.std.specs.Prelude.{◌≡◌, ◌≢◌, ◌≤◌, ◌+◌, ◌*◌, ℕ, List, [], ◌∷◌, length, slice_index_or, None, IfOk, Contains, if◌then◌else◌};
-ghost use Rattle.std.specs.List.{list_any};
+ghost use Rattle.std.specs.Prelude.{◌≡◌, ◌+◌, ◌*◌, ◌==◌, ◌≤◌, ℕ, true, length, slice_get, None, Some, IfOk, Contains, MatchOption};
+ghost use Rattle.sig_base.specs.declared.ids.SigId.{SigId};
 ghost use Rattle.sig_clock.specs.Clocks.{AreInOrder};
-ghost use Rattle.sig_clock.specs.Conditions.{conditions_of};
-ghost use Rattle.sig_clock.specs.Reactions.{Speaks};
-ghost use Rattle.sig_dd.specs.Diagram.{truth_of};
-ghost use Rattle.sig_dd.specs.Nodes.{Holds, IsRefOf, IsStore, Keeps, Spans, test};
-ghost use Rattle.sig_dd.specs.Shares.{Share, Shares, refusal};
-ghost use Rattle.sig_solve.specs.Frames.{is_variable};
-ghost use Rattle.sig_solve.specs.Guards.{AreGuards, IsKept, IsProposed, IsSubstituted, IsWide, rest_of};
-ghost use Rattle.sig_solve.specs.Sets.{IsPart, IsReady};
+ghost use Rattle.sig_clock.specs.Layers.{IsSignal};
+ghost use Rattle.sig_dd.specs.Nodes.{IsStore, Keeps};
+ghost use Rattle.sig_dd.specs.Shares.{Share, refusal};
+ghost use Rattle.sig_solve.specs.Asked.{AreProposed, ArePlaced, ForgetsAllBut, IsAskedIn, variables_of};
+ghost use Rattle.sig_solve.specs.Guards.{AreGuards, IsGuard};
 
-use crate::known::{is_variable, truth};
-use crate::parts::{narrow, shadow, where_it_is};
-use crate::related::Related;
+use crate::asked::Asked;
+use crate::known::known_of;
 use sig_base::SigId;
 use sig_dd::{DdAnswer, Ref, Store};
+use sig_rel::System;
 use std::alloc::{AllocError, Global};
-
-/// The function that is left of f where the condition, if it is present, has the proposed truth.
-fn keep(
-    store: &mut Store,
-    f: Ref,
-    present: u32,
-    truth: u32,
-    proposed: bool,
-) -> Result<Ref, DdAnswer>
-    requires held { Holds store.old.nodes f }
-    requires apart { present ≢ truth }
-    ensures store { IsStore store.new }
-    ensures kept { Keeps store.old store.new }
-    ensures value { IfOk result
-        (IsKept store.old.nodes store.new.nodes f present truth proposed) }
-    ensures share { (vs : List ℕ) → Spans store.old.nodes f vs → Contains vs present → Contains vs truth
-        → Share 8 vs store.old store.new (refusal result) }
-{
-    let here = narrow(store, f, present, true)?;
-    let breaking = narrow(store, here, truth, !proposed)?;
-    let kept = where_it_is(store, f, breaking, false)?;
-    store.forget_var(kept, truth)
-}
-
-/// The function that is left of f where the condition, if it is present, has the truth of a
-/// variable.
-fn substitute(store: &mut Store, f: Ref, present: u32, truth: u32, v: u32) -> Result<Ref, DdAnswer>
-    requires held { Holds store.old.nodes f }
-    requires apart { present ≢ truth }
-    ensures store { IsStore store.new }
-    ensures kept { Keeps store.old store.new }
-    ensures value { IfOk result
-        (IsSubstituted store.old.nodes store.new.nodes f present truth v) }
-    ensures share { (vs : List ℕ) → Spans store.old.nodes f vs → Contains vs present → Contains vs truth
-        → Share 18 vs store.old store.new (refusal result) }
-{
-    let low = keep(store, f, present, truth, false)?;
-    let high = keep(store, f, present, truth, true)?;
-    choose(store, v, high, low)
-}
-
-/// The choice by a variable between two functions.
-fn choose(store: &mut Store, v: u32, high: Ref, low: Ref) -> Result<Ref, DdAnswer>
-    requires high { Holds store.old.nodes high }
-    requires low { Holds store.old.nodes low }
-    ensures store { IsStore store.new }
-    ensures kept { Keeps store.old store.new }
-    ensures value { IfOk result (IsRefOf store.new.nodes (λ truths.
-        if truth_of truths v then test store.old.nodes high truths
-        else test store.old.nodes low truths)) }
-    ensures share { Shares 2 (high ∷ low ∷ []) (v ∷ []) store.old store.new (refusal result) }
-{
-    let variable = store.variable(v)?;
-    store.ite(variable, high, low)
-}
-
-/// The reactions that keep to a proposal, as a function of the proposed truths.
-fn propose(
-    related: &Related,
-    speaking: Ref,
-    store: &mut Store,
-    conditions: &[SigId],
-) -> Result<Ref, DdAnswer>
-    requires ready { IsReady store.old related.now }
-    requires speaking { IsPart store.old.nodes related.now (Speaks related.now.frame.kernel.now) speaking }
-    requires conditions { AreInOrder related.now.frame.kernel.now conditions.now }
-    requires few { length conditions.now ≤ length (conditions_of related.now.frame.kernel.now) }
-    ensures store { IsStore store.new }
-    ensures kept { Keeps store.old store.new }
-    ensures value { IfOk result (IsProposed store.new.nodes related.now conditions.now) }
-    ensures wide { IfOk result (λ r. (vs : List ℕ)
-        × IsWide store.new.nodes related.now conditions.now r vs) }
-    ensures share { Share (18 * length conditions.now) related.now.unknowns.items
-        store.old store.new (refusal result) }
-{
-    let mut proposed = speaking;
-    for (place, condition) in conditions.iter().enumerate() {
-        let Some(v) = truth(related, *condition) else {
-            unreachable!();
-        };
-        let present = related.presence(condition.0);
-        proposed = substitute(store, proposed, present, v, place as u32)?;
-    }
-    Ok(proposed)
-}
-
-/// The unknowns that are no condition's truth.
-fn rest_of(alloc: Global, related: &Related, conditions: &[SigId]) -> Result<Vec<u32>, AllocError>
-    ensures { IfOk result (λ rest. rest.items
-        ≡ rest_of related.now.relation related.now.unknowns.items conditions.now) }
-{
-    let mut rest = Vec::new(alloc);
-    for v in related.unknowns.as_slice() {
-        if !is_truth(related, conditions, *v) {
-            rest.push(*v)?;
-        }
-    }
-    Ok(rest)
-}
-
-/// Whether the unknown is the truth of a condition.
-fn is_truth(related: &Related, conditions: &[SigId], v: u32) -> bool
-    ensures { result ≡ list_any (λ c. is_variable v (slice_index_or related.now.relation.truth c.0 None)) conditions.now }
-{
-    conditions
-        .iter()
-        .any(|condition| is_variable(v, truth(related, *condition)))
-}
 
 /// The guards of the least signals of the clock classes, at their places.
 pub(crate) fn guards_of(
     alloc: Global,
-    related: &Related,
-    speaking: Ref,
+    asked: &Asked,
     store: &mut Store,
     conditions: &[SigId],
 ) -> Result<Vec<Ref>, DdAnswer>
-    requires ready { IsReady store.old related.now }
-    requires speaking { IsPart store.old.nodes related.now (Speaks related.now.frame.kernel.now) speaking }
-    requires conditions { AreInOrder related.now.frame.kernel.now conditions.now }
-    requires few { length conditions.now ≤ length (conditions_of related.now.frame.kernel.now) }
+    requires asked { IsAskedIn store.old asked.now }
+    requires conditions { AreInOrder asked.now.frame.kernel.now conditions.now }
+    requires few { length conditions.now ≤ 512 }
     ensures store { IsStore store.new }
     ensures kept { Keeps store.old store.new }
     ensures value { IfOk result (λ guards.
-        AreGuards store.new.nodes related.now.frame conditions.now guards.items) }
-    ensures share { Share (18 * length conditions.now
-        + (2 + 3 * length related.now.unknowns.items) * length related.now.frame.leaders.items)
-        related.now.unknowns.items store.old store.new (refusal result) }
+        AreGuards store.new.nodes asked.now.frame conditions.now guards.items) }
+    ensures share { Share ((2 + 2 * asked.now.system.variables)
+        * length asked.now.frame.leaders.items)
+        (variables_of asked.now.system) store.old store.new (refusal result) }
 {
-    let proposed = propose(related, speaking, store, conditions)?;
-    let rest = rest_of(alloc, related, conditions)?;
-    let mut guards = vec![in alloc; store.constant(false); related.frame.least.len()]?;
-    for leader in related.frame.leaders.as_slice() {
-        let guard = shadow(
-            store,
-            proposed,
-            related.presence(*leader),
-            true,
-            rest.as_slice(),
-        )?;
+    let places = places_of(alloc, &asked.system, conditions)?;
+    let places = places.as_slice();
+    let known = known_of(alloc, &asked.system, Vec::from_slice(alloc, conditions)?)?;
+    let forgotten = known.forgotten.as_slice();
+    let mut guards = vec![in alloc; store.constant(false); asked.frame.least.len()]?;
+    for leader in asked.frame.leaders.as_slice() {
+        let guard = guard(asked, store, *leader, conditions, forgotten, places)?;
         guards[*leader as usize] = guard;
     }
     Ok(guards)
+}
+
+/// The guard of a signal, from what is forgotten beside the proposals of conditions, and from their
+/// places.
+fn guard(
+    asked: &Asked,
+    store: &mut Store,
+    signal: u32,
+    conditions: &[SigId],
+    forgotten: &[bool],
+    places: &[u32],
+) -> Result<Ref, DdAnswer>
+    requires asked { IsAskedIn store.old asked.now }
+    requires signal { IsSignal asked.now.frame.kernel.now signal }
+    requires conditions { AreInOrder asked.now.frame.kernel.now conditions.now }
+    requires known { ForgetsAllBut asked.now.system conditions.now forgotten.now }
+    requires places { ArePlaced asked.now.system conditions.now places.now }
+    ensures store { IsStore store.new }
+    ensures kept { Keeps store.old store.new }
+    ensures value { IfOk result (IsGuard store.new.nodes asked.now.frame conditions.now signal) }
+    ensures share { Share (2 + 2 * asked.now.system.variables) (variables_of asked.now.system)
+        store.old store.new (refusal result) }
+{
+    let _conditions = conditions;
+    let proposed = asked.where_present(store, signal, forgotten)?;
+    store.rename(proposed, places)
+}
+
+/// To each variable the place of the condition of which it is the proposal; 0 to the others.
+fn places_of(alloc: Global, system: &System, conditions: &[SigId]) -> Result<Vec<u32>, AllocError>
+    requires proposed { AreProposed system.now }
+    requires all { (c : SigId) → Contains system.now.conditions c → Contains conditions.now c }
+    requires few { length conditions.now ≤ 512 }
+    ensures { IfOk result (λ places. ArePlaced system.now conditions.now places.items) }
+{
+    let proposals = system.proposals.as_slice();
+    let end = system.first as usize + system.variables as usize;
+    let mut places = vec![in alloc; 0; end]?;
+    for (number, condition) in system.conditions.as_slice().iter().enumerate() {
+        places[proposals[number] as usize] = place_of(conditions, *condition);
+    }
+    Ok(places)
+}
+
+/// The place of a condition among others.
+fn place_of(conditions: &[SigId], condition: SigId) -> u32
+    requires there { Contains conditions.now condition }
+    requires few { length conditions.now ≤ 512 }
+    ensures { slice_get conditions.now result ≡ Some condition }
+{
+    for (place, other) in conditions.iter().enumerate() {
+        if other.0 == condition.0 {
+            return place as u32;
+        }
+    }
+    unreachable!()
 }

@@ -1,79 +1,56 @@
 //! Conditions that are known.
 
-ghost use Rattle.std.specs.Prelude.{◌≡◌, ◌||◌, None, IfOk, slice_get, slice_index_or};
+ghost use Rattle.std.specs.Prelude.{◌≡◌, ◌==◌, IfOk};
 ghost use Rattle.std.specs.List.{list_any};
-ghost use Rattle.sig_solve.specs.Frames.{is_variable, others_of, tells};
+ghost use Rattle.sig_solve.specs.Asked.{AreProposed, ForgetsAllBut};
 
-use crate::related::Related;
 use sig_base::SigId;
+use sig_rel::System;
 use std::alloc::{AllocError, Global};
 
-/// Conditions, and the unknowns that tell nothing of them.
+/// Conditions, and to each number whether it is forgotten: each variable is but their proposals.
 #[derive(Drop)]
 pub(crate) struct Known {
     pub(crate) conditions: Vec<SigId>,
-    pub(crate) others: Vec<u32>,
+    pub(crate) forgotten: Vec<bool>,
 }
 
 /// These conditions as known ones.
 pub(crate) fn known_of(
     alloc: Global,
-    related: &Related,
+    system: &System,
     conditions: Vec<SigId>,
 ) -> Result<Known, AllocError>
+    requires { AreProposed system.now }
     ensures { IfOk result (λ known. (known.conditions.items ≡ conditions.items)
-        × (known.others.items ≡ others_of related.now.relation related.now.unknowns.items conditions.items)) }
+        × ForgetsAllBut system.now conditions.items known.forgotten.items) }
 {
-    let mut others = Vec::new(alloc);
-    for v in related.unknowns.as_slice() {
-        if !is_told(related, conditions.as_slice(), *v) {
-            others.push(*v)?;
+    let forgotten = forgotten_but(alloc, system, conditions.as_slice())?;
+    Ok(Known {
+        conditions,
+        forgotten,
+    })
+}
+
+/// All variables but the proposals of known conditions.
+fn forgotten_but(alloc: Global, system: &System, known: &[SigId]) -> Result<Vec<bool>, AllocError>
+    requires { AreProposed system.now }
+    ensures { IfOk result (λ forgotten. ForgetsAllBut system.now known.now forgotten.items) }
+{
+    let proposals = system.proposals.as_slice();
+    let end = system.first as usize + system.variables as usize;
+    let mut forgotten = vec![in alloc; true; end]?;
+    for (place, condition) in system.conditions.as_slice().iter().enumerate() {
+        if is_among(known, *condition) {
+            forgotten[proposals[place] as usize] = false;
         }
     }
-    Ok(Known { conditions, others })
+    Ok(forgotten)
 }
 
-/// Whether the unknown tells something of one of the conditions.
-fn is_told(related: &Related, conditions: &[SigId], v: u32) -> bool
-    ensures { result ≡ list_any (tells related.now.relation v) conditions.now }
+/// Whether a condition is among known ones.
+fn is_among(known: &[SigId], condition: SigId) -> bool
+    ensures { result ≡ list_any (λ other. other.0 == condition.0) known.now }
 {
-    conditions
-        .iter()
-        .any(|condition| tells(related, *condition, v))
-}
-
-/// Whether the unknown tells the presence or the truth of a condition.
-fn tells(related: &Related, condition: SigId, v: u32) -> bool
-    ensures { result ≡ tells related.now.relation v condition }
-{
-    is_variable(v, presence(related, condition)) || is_variable(v, truth(related, condition))
-}
-
-/// Whether an unknown is this one.
-pub(crate) fn is_variable(v: u32, unknown: Option<u32>) -> bool
-    ensures { result ≡ is_variable v unknown }
-{
-    match unknown {
-        Some(w) => w == v,
-        None => false,
-    }
-}
-
-/// The unknown of a signal's presence.
-fn presence(related: &Related, signal: SigId) -> Option<u32>
-    ensures { result ≡ slice_get related.now.relation.present signal.0 }
-{
-    let present = related.relation.present.as_slice();
-    present.get(signal.0 as usize).copied()
-}
-
-/// The unknown of a signal's truth, where it has one.
-pub(crate) fn truth(related: &Related, signal: SigId) -> Option<u32>
-    ensures { result ≡ slice_index_or related.now.relation.truth signal.0 None }
-{
-    let truth = related.relation.truth.as_slice();
-    match truth.get(signal.0 as usize) {
-        Some(v) => *v,
-        None => None,
-    }
+    known.iter().any(|other| other.0 == condition.0)
 }

@@ -3,19 +3,17 @@
 ghost use Rattle.std.specs.Prelude.{◌≡◌, ◌+◌, ◌*◌, ◌<◌, ◌≤◌, ℕ, suc, length, slice_index, filter, replicate, IfOk, Contains};
 ghost use Rattle.sig_clock.specs.Conditions.{conditions_of};
 ghost use Rattle.sig_clock.specs.Layers.{IsSignal};
-ghost use Rattle.sig_clock.specs.Reactions.{Speaks};
 ghost use Rattle.sig_dd.specs.Nodes.{IsStore, Keeps};
 ghost use Rattle.sig_dd.specs.Shares.{Share, refusal};
+ghost use Rattle.sig_solve.specs.Asked.{AreKnown, IsAskedIn, variables_of};
 ghost use Rattle.sig_solve.specs.Frames.{IsAmong};
 ghost use Rattle.sig_solve.specs.Rounds.{AreEntered, AreRounds, AreSettled, IsOpenAnswer, has_entered, layer_in};
-ghost use Rattle.sig_solve.specs.Sets.{AreKnown, IsPart, IsReady};
 
+use crate::asked::Asked;
 use crate::frame::Frame;
 use crate::known::{Known, known_of};
-use crate::parts::shadow;
-use crate::related::Related;
 use sig_base::SigId;
-use sig_dd::{DdAnswer, Ref, Store};
+use sig_dd::{DdAnswer, Store};
 use std::alloc::{AllocError, Global};
 
 /// The layer of each clock class, at its least signal, and the least signals of the classes that
@@ -29,31 +27,28 @@ pub(crate) struct Layers {
 /// The layers of a kernel, of which the conditions are given.
 pub(crate) fn layers_of(
     alloc: Global,
-    related: &Related,
-    speaking: Ref,
+    asked: &Asked,
     store: &mut Store,
     conditions: &[SigId],
 ) -> Result<Layers, DdAnswer>
-    requires ready { IsReady store.old related.now }
-    requires speaking { IsPart store.old.nodes related.now (Speaks related.now.frame.kernel.now) speaking }
-    requires conditions { conditions.now ≡ conditions_of related.now.frame.kernel.now }
+    requires asked { IsAskedIn store.old asked.now }
+    requires conditions { conditions.now ≡ conditions_of asked.now.frame.kernel.now }
     ensures store { IsStore store.new }
     ensures kept { Keeps store.old store.new }
     ensures value { IfOk result (λ layers.
-        AreSettled related.now.frame layers.numbers.items layers.waiting.items) }
-    ensures share { Share ((4 + 6 * length related.now.unknowns.items)
-        * length related.now.frame.leaders.items * length related.now.frame.leaders.items)
-        related.now.unknowns.items store.old store.new (refusal result) }
+        AreSettled asked.now.frame layers.numbers.items layers.waiting.items) }
+    ensures share { Share ((3 + 2 * asked.now.system.variables)
+        * length asked.now.frame.leaders.items * length asked.now.frame.leaders.items)
+        (variables_of asked.now.system) store.old store.new (refusal result) }
 {
-    let mut numbers = zeros(alloc, related.frame.least.len())?;
-    let mut waiting = Vec::from_slice(alloc, related.frame.leaders.as_slice())?;
-    for round in 0..related.frame.leaders.len() as u32 {
-        let entered = entered(alloc, &related.frame, numbers.as_slice(), conditions)?;
-        let known = known_of(alloc, related, entered)?;
+    let mut numbers = zeros(alloc, asked.frame.least.len())?;
+    let mut waiting = Vec::from_slice(alloc, asked.frame.leaders.as_slice())?;
+    for round in 0..asked.frame.leaders.len() as u32 {
+        let entered = entered(alloc, &asked.frame, numbers.as_slice(), conditions)?;
+        let known = known_of(alloc, &asked.system, entered)?;
         let still = pass(
             alloc,
-            related,
-            speaking,
+            asked,
             store,
             &known,
             round,
@@ -119,32 +114,30 @@ pub(crate) fn number_at(numbers: &[u32], place: u32) -> u32
 /// are still open.
 fn pass(
     alloc: Global,
-    related: &Related,
-    speaking: Ref,
+    asked: &Asked,
     store: &mut Store,
     known: &Known,
     round: u32,
     waiting: &[u32],
     layers: &mut [u32],
 ) -> Result<Vec<u32>, DdAnswer>
-    requires ready { IsReady store.old related.now }
-    requires speaking { IsPart store.old.nodes related.now (Speaks related.now.frame.kernel.now) speaking }
-    requires known { AreKnown related.now known.now }
-    requires entered { AreEntered related.now.frame.kernel.now round known.now.conditions.items }
-    requires rounds { AreRounds related.now.frame round layers.old waiting.now }
+    requires asked { IsAskedIn store.old asked.now }
+    requires known { AreKnown asked.now.system known.now }
+    requires entered { AreEntered asked.now.frame.kernel.now round known.now.conditions.items }
+    requires rounds { AreRounds asked.now.frame round layers.old waiting.now }
     requires few { round < 512 }
     ensures store { IsStore store.new }
     ensures kept { Keeps store.old store.new }
-    ensures value { IfOk result (λ still. AreRounds related.now.frame (suc round) layers.new still.items
+    ensures value { IfOk result (λ still. AreRounds asked.now.frame (suc round) layers.new still.items
         × (length still.items ≤ length waiting.now)
         × (length still.items ≡ length waiting.now
         → (s : ℕ) → Contains waiting.now s → Contains still.items s)) }
-    ensures share { Share ((4 + 6 * length related.now.unknowns.items) * length waiting.now)
-        related.now.unknowns.items store.old store.new (refusal result) }
+    ensures share { Share ((3 + 2 * asked.now.system.variables) * length waiting.now)
+        (variables_of asked.now.system) store.old store.new (refusal result) }
 {
     let mut still = Vec::new(alloc);
     for class in waiting {
-        if is_open(related, speaking, store, known, *class)? {
+        if is_open(asked, store, known, *class)? {
             still.push(*class)?;
         } else {
             layers[*class as usize] = round + 1;
@@ -155,27 +148,21 @@ fn pass(
 
 /// Whether known conditions leave the presence of a signal open: two reactions agree on them, of
 /// which one has the signal.
-fn is_open(
-    related: &Related,
-    speaking: Ref,
-    store: &mut Store,
-    known: &Known,
-    signal: u32,
-) -> Result<bool, DdAnswer>
-    requires ready { IsReady store.old related.now }
-    requires speaking { IsPart store.old.nodes related.now (Speaks related.now.frame.kernel.now) speaking }
-    requires known { AreKnown related.now known.now }
-    requires signal { IsSignal related.now.frame.kernel.now signal }
+fn is_open(asked: &Asked, store: &mut Store, known: &Known, signal: u32) -> Result<bool, DdAnswer>
+    requires asked { IsAskedIn store.old asked.now }
+    requires known { AreKnown asked.now.system known.now }
+    requires entered { (round : ℕ)
+        × AreEntered asked.now.frame.kernel.now round known.now.conditions.items }
+    requires signal { IsSignal asked.now.frame.kernel.now signal }
     ensures store { IsStore store.new }
     ensures kept { Keeps store.old store.new }
     ensures value { IfOk result
-        (IsOpenAnswer related.now.frame.kernel.now (IsAmong known.now.conditions.items) signal) }
-    ensures share { Share (4 + 6 * length related.now.unknowns.items) related.now.unknowns.items
+        (IsOpenAnswer asked.now.frame.kernel.now (IsAmong known.now.conditions.items) signal) }
+    ensures share { Share (3 + 2 * asked.now.system.variables) (variables_of asked.now.system)
         store.old store.new (refusal result) }
 {
-    let others = known.others.as_slice();
-    let present = related.presence(signal);
-    let with = shadow(store, speaking, present, true, others)?;
-    let without = shadow(store, speaking, present, false, others)?;
+    let forgotten = known.forgotten.as_slice();
+    let with = asked.where_present(store, signal, forgotten)?;
+    let without = asked.where_absent(store, signal, forgotten)?;
     store.overlap(with, without)
 }

@@ -1,19 +1,20 @@
 //! The clocks of a kernel, or the first reason why it has none. It stands on sig_clock, whose
-//! definitions these are, on sig_rel, whose relation is one diagram of the abstract reactions, and
-//! on sig_dd.
+//! definitions these are, on sig_rel, whose system writes the clocks of a kernel as functions of a few
+//! variables, and on sig_dd.
 #![tactic(auto)]
 
 mod answer;
+mod asked;
 mod classes;
 mod frame;
+mod general;
 mod guards;
+mod images;
 mod known;
 mod laws;
 mod layers;
 mod order;
-mod parts;
 mod pinned;
-mod related;
 mod roots;
 mod rounds;
 mod solving;

@@ -3,6 +3,7 @@ use Rattle.std.specs.Prelude.{None, Some, slice_get}
 use Rattle.sig_dd.specs.Nodes.{IsStore, Keeps}
 use Rattle.sig_dd.specs.Shares.{Share}
 use Rattle.sig_dd.specs.declared.node.Ref.{Ref}
+use Rattle.sig_solve.specs.Asked.{variables_of}
 use Rattle.sig_solve.specs.Guards.{IsGuard}
 use Rattle.sig_solve.proofs.guards.guards_of.Given as goal
 
@@ -10,8 +11,7 @@ abbrev pub invariant-loop-leader : goal.invariant-loop-leader
 invariant-loop-leader l = record {
   store : IsStore l.store;
   kept : Keeps l.fn.store l.store;
-  later : Keeps l.initial.store l.store;
-  count : length l.guards.items ≡ length l.related.frame.kernel.now.signals;
-  each : (k : ℕ) → k < l.leader-index → (r : Ref) × (slice_get l.guards.items (get_or l.leader-items k 0) ≡ Some r) × IsGuard l.store.nodes l.related.frame l.conditions (get_or l.leader-items k 0) r;
-  share : Share (18 * length l.conditions + (2 + 3 * length l.related.unknowns.items) * l.leader-index) l.related.unknowns.items l.fn.store l.store None;
+  count : length l.guards.items ≡ length l.asked.frame.kernel.now.signals;
+  each : (k : ℕ) → k < l.leader-index → (r : Ref) × (slice_get l.guards.items (get_or l.leader-items k 0) ≡ Some r) × IsGuard l.store.nodes l.asked.frame l.conditions (get_or l.leader-items k 0) r;
+  share : Share ((2 + 2 * l.asked.system.variables) * l.leader-index) (variables_of l.asked.system) l.fn.store l.store None;
 }

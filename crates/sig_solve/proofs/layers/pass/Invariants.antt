@@ -2,6 +2,7 @@ use Rattle.std.proofs.Common.{◌≡◌, ◌<◌, ◌≤◌, ◌+◌, ◌*◌, �
 use Rattle.std.specs.Prelude.{None}
 use Rattle.sig_dd.specs.Nodes.{IsStore, Keeps}
 use Rattle.sig_dd.specs.Shares.{Share}
+use Rattle.sig_solve.specs.Asked.{variables_of}
 use Rattle.sig_solve.specs.Rounds.{ArePassed}
 use Rattle.sig_solve.proofs.layers.pass.Given as goal
 
@@ -9,8 +10,8 @@ abbrev pub invariant-loop-class : goal.invariant-loop-class
 invariant-loop-class l = record {
   store : IsStore l.store;
   kept : Keeps l.initial.store l.store;
-  passed : ArePassed l.related.frame l.round l.layers l.still.items (drop l.class-index l.waiting);
+  passed : ArePassed l.asked.frame l.round l.layers l.still.items (drop l.class-index l.waiting);
   few : length l.still.items ≤ l.class-index;
   stuck : length l.still.items ≡ l.class-index → (k : ℕ) → k < l.class-index → Contains l.still.items (get_or l.waiting k 0);
-  share : Share ((4 + 6 * length l.related.unknowns.items) * l.class-index) l.related.unknowns.items l.initial.store l.store None;
+  share : Share ((3 + 2 * l.asked.system.variables) * l.class-index) (variables_of l.asked.system) l.initial.store l.store None;
 }

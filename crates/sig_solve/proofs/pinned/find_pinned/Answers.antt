@@ -1,37 +1,40 @@
-use Rattle.std.proofs.Common.{◌≡◌, ◌<◌, ◌+◌, ◌*◌, inl, inr, ℕ, List, length, true, false, get_or, take, sym, ap, ◌∙◌, subst, arith}
+use Rattle.std.proofs.Common.{◌≡◌, ◌<◌, ◌+◌, ◌*◌, inl, inr, ℕ, List, length, get_or, sym, ap, ◌∙◌, subst, arith}
 use Rattle.std.specs.Prelude.{None, Some, slice_get}
 use Rattle.std.proofs.lemmas.Bool.{cases_eq}
 use Rattle.sig_base.specs.declared.ids.SigId.{SigId}
 use Rattle.sig_kernel.specs.declared.kernel.Kernel.{Kernel}
 use Rattle.sig_clock.specs.Pinned.{IsFree}
 use Rattle.sig_dd.proofs.CallerLemmas.{Keeps-trans}
-use Rattle.sig_solve.specs.Frames.{IsAmong}
-use Rattle.sig_solve.specs.Orders.{IsPinnedAnswer}
-use Rattle.sig_solve.proofs.FrameLemmas.{frame_stays}
+use Rattle.sig_solve.specs.Asked.{ForgetsAllBut, variables_of}
+use Rattle.sig_solve.proofs.AskedLemmas.{are_proposed, asked_stays}
+use Rattle.sig_solve.proofs.AskedPinned.{apart_pinned, refs_apart, refs_same, same_free}
 use Rattle.sig_solve.proofs.ListLemmas.{get_at}
 use Rattle.sig_solve.proofs.PinnedLemmas.{all_free, first_pinned, free_is}
 use Rattle.sig_solve.proofs.StoreLemmas.{next_turn, refused, turn_within}
 use Rattle.sig_solve.proofs.pinned.find_pinned.Goals as goal
 
-pub is_pinned-requires-clause-ready : goal.is_pinned-requires-clause-ready
-is_pinned-requires-clause-ready c = record {
-  has_store = c.loop-place.invariant.store;
-  has_frame = frame_stays c.args.store.now c.loop-place.store c.args.related.now c.loop-place.invariant.kept c.requires.ready.has_frame;
-}
+pub known_of-requires : goal.known_of-requires
+known_of-requires c = are_proposed c.args.store.now c.args.asked.now c.requires.asked
 
-pub returns-in_err-is_pinned-clause-share : goal.returns-in_err-is_pinned-clause-share
-returns-in_err-is_pinned-clause-share c =
-    let m = 8 + 6 * length c.args.related.now.unknowns.items in
-    refused (m * length c.args.conditions.now) c.args.related.now.unknowns.items c.args.store.now c.is_pinned.new.store c.from_residual-in_err-is_pinned.result c.in_err-is_pinned.field-0.0 c.from_residual-in_err-is_pinned.ensures.1
-    (turn_within m c.loop-place.place (length c.args.conditions.now) c.args.related.now.unknowns.items c.args.store.now c.loop-place.store c.is_pinned.new.store _ c.loop-place-test.true c.loop-place.invariant.share c.in_err-is_pinned.ensures.share)
+pub halves-requires-clause-asked : goal.halves-requires-clause-asked
+halves-requires-clause-asked c = asked_stays c.args.store.now c.loop-place.store c.loop-place.invariant.kept c.args.asked.now c.loop-place.invariant.store c.requires.asked
 
-pub returns-then-branch-clause-value : goal.returns-then-branch-clause-value
-returns-then-branch-clause-value c =
+pub returns-in_err-high-clause-share : goal.returns-in_err-high-clause-share
+returns-in_err-high-clause-share c =
+    let m = 5 + 2 * c.args.asked.now.system.variables in
+    refused (m * length c.args.conditions.now) (variables_of c.args.asked.now.system) c.args.store.now c.halves.new.store c.from_residual-in_err-high.result c.in_err-high.field-0.0 c.from_residual-in_err-high.ensures.1
+    (turn_within m c.loop-place.place (length c.args.conditions.now) (variables_of c.args.asked.now.system) c.args.store.now c.loop-place.store c.halves.new.store _ c.loop-place-test.true c.loop-place.invariant.share c.in_err-high.ensures.share)
+
+pub returns-then-ne-clause-value : goal.returns-then-ne-clause-value
+returns-then-ne-clause-value c =
     let d : SigId = record { 0 = 0 } in
     let b = get_or c.args.conditions.now c.loop-place.place d in
-    let same : c.in_ok-known.known.conditions.items ≡ take c.loop-place.place c.args.conditions.now = c.in_ok-known.ensures.0 ∙ c.in_ok-earlier.ensures.items in
-    first_pinned c.args.related.now.frame.kernel.now c.args.conditions.now c.requires.conditions c.loop-place.place b (get_at c.args.conditions.now c.loop-place.place d c.loop-place-test.true) c.loop-place.invariant.free
-    (subst (λ xs. IsPinnedAnswer c.args.related.now.frame.kernel.now (IsAmong xs) b.0 true) same (subst (IsPinnedAnswer c.args.related.now.frame.kernel.now (IsAmong c.in_ok-known.known.conditions.items) b.0) c.if-branch.true c.in_ok-is_pinned.ensures.value))
+    let at = get_at c.args.conditions.now c.loop-place.place d c.loop-place-test.true in
+    let is = asked_stays c.args.store.now c.halves.new.store (Keeps-trans c.args.store.now c.loop-place.store c.halves.new.store c.loop-place.invariant.kept c.in_ok-high.ensures.kept) c.args.asked.now c.in_ok-high.ensures.store c.requires.asked in
+    let but = subst (λ xs. ForgetsAllBut c.args.asked.now.system xs c.in_ok-known.known.forgotten.items) c.in_ok-earlier.ensures.items c.in_ok-known.ensures.1 in
+    first_pinned c.args.asked.now.frame.kernel.now c.args.conditions.now c.requires.conditions c.loop-place.place b at c.loop-place.invariant.free
+    (apart_pinned c.halves.new.store c.args.asked.now is c.args.conditions.now c.requires.conditions c.loop-place.place b at c.in_ok-known.known.forgotten.items but c.in_ok-high.high c.in_ok-high.low c.in_ok-high.ensures.value
+    (refs_apart c.in_ok-high.high c.in_ok-high.low c.ne.result c.ne.ensures c.if-ne.true))
 
 one_more_free : (kernel : Kernel) (conditions : List SigId) (place : ℕ) (d : SigId) → place < length conditions → ((k : ℕ) (c : SigId) → k < place → slice_get conditions k ≡ Some c → IsFree kernel c.0)
     → IsFree kernel (get_or conditions place d).0 → (k : ℕ) (c : SigId) → k < place + 1 → slice_get conditions k ≡ Some c → IsFree kernel c.0
@@ -45,18 +48,21 @@ one_more_free kernel conditions place d within before here k c lt is = elim (cas
 
 pub loop-place-preserved : goal.loop-place-preserved
 loop-place-preserved c =
-    let m = 8 + 6 * length c.args.related.now.unknowns.items in
+    let m = 5 + 2 * c.args.asked.now.system.variables in
     let d : SigId = record { 0 = 0 } in
     let b = get_or c.args.conditions.now c.loop-place.place d in
-    let same : c.in_ok-known.known.conditions.items ≡ take c.loop-place.place c.args.conditions.now = c.in_ok-known.ensures.0 ∙ c.in_ok-earlier.ensures.items in
+    let at = get_at c.args.conditions.now c.loop-place.place d c.loop-place-test.true in
+    let is = asked_stays c.args.store.now c.halves.new.store (Keeps-trans c.args.store.now c.loop-place.store c.halves.new.store c.loop-place.invariant.kept c.in_ok-high.ensures.kept) c.args.asked.now c.in_ok-high.ensures.store c.requires.asked in
+    let but = subst (λ xs. ForgetsAllBut c.args.asked.now.system xs c.in_ok-known.known.forgotten.items) c.in_ok-earlier.ensures.items c.in_ok-known.ensures.1 in
     record {
-      store = c.in_ok-is_pinned.ensures.store;
-      kept = Keeps-trans c.args.store.now c.loop-place.store c.is_pinned.new.store c.loop-place.invariant.kept c.in_ok-is_pinned.ensures.kept;
-      free = one_more_free c.args.related.now.frame.kernel.now c.args.conditions.now c.loop-place.place d c.loop-place-test.true c.loop-place.invariant.free
-          (free_is c.args.related.now.frame.kernel.now c.args.conditions.now c.requires.conditions c.loop-place.place b (get_at c.args.conditions.now c.loop-place.place d c.loop-place-test.true)
-          (subst (λ xs. IsPinnedAnswer c.args.related.now.frame.kernel.now (IsAmong xs) b.0 false) same (subst (IsPinnedAnswer c.args.related.now.frame.kernel.now (IsAmong c.in_ok-known.known.conditions.items) b.0) c.if-branch.false c.in_ok-is_pinned.ensures.value)));
-      share = next_turn m c.loop-place.place c.args.related.now.unknowns.items c.args.store.now c.loop-place.store c.is_pinned.new.store None c.loop-place.invariant.share c.in_ok-is_pinned.ensures.share;
+      store = c.in_ok-high.ensures.store;
+      kept = Keeps-trans c.args.store.now c.loop-place.store c.halves.new.store c.loop-place.invariant.kept c.in_ok-high.ensures.kept;
+      free = one_more_free c.args.asked.now.frame.kernel.now c.args.conditions.now c.loop-place.place d c.loop-place-test.true c.loop-place.invariant.free
+          (free_is c.args.asked.now.frame.kernel.now c.args.conditions.now c.requires.conditions c.loop-place.place b at
+          (same_free c.halves.new.store c.args.asked.now is c.args.conditions.now c.requires.conditions c.loop-place.place b at c.in_ok-known.known.forgotten.items but c.in_ok-high.high c.in_ok-high.low c.in_ok-high.ensures.value
+          (refs_same c.in_ok-high.high c.in_ok-high.low c.ne.result c.ne.ensures c.if-ne.false)));
+      share = next_turn m c.loop-place.place (variables_of c.args.asked.now.system) c.args.store.now c.loop-place.store c.halves.new.store None c.loop-place.invariant.share c.in_ok-high.ensures.share;
     }
 
 pub returns-clause-value : goal.returns-clause-value
-returns-clause-value c = all_free c.args.related.now.frame.kernel.now c.args.conditions.now c.requires.conditions (λ k b lt is. c.loop-place.invariant.free k b (omega arith) is)
+returns-clause-value c = all_free c.args.asked.now.frame.kernel.now c.args.conditions.now c.requires.conditions (λ k b lt is. c.loop-place.invariant.free k b (omega arith) is)

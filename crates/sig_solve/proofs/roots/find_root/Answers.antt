@@ -1,62 +1,26 @@
-use Rattle.std.proofs.Common.{◌≡◌, ◌*◌, length, false, get_or, ap, subst, arith}
-use Rattle.std.specs.Prelude.{None}
-use Rattle.sig_clock.specs.Reactions.{Speaks}
-use Rattle.sig_dd.proofs.CallerLemmas.{Keeps-trans}
-use Rattle.sig_solve.specs.Answers.{IsMetAnswer, IsSomewhereAbsent}
-use Rattle.sig_solve.proofs.FrameLemmas.{frame_stays}
-use Rattle.sig_solve.proofs.RootLemmas.{leader_at, met_absent, none_root, unmet_root}
-use Rattle.sig_solve.proofs.SetLemmas.{part_stays}
-use Rattle.sig_solve.proofs.StoreLemmas.{below_more_of, next_turn, refused, turn_within}
+use Rattle.std.proofs.Common.{get_or, subst, arith}
+use Rattle.sig_dd.specs.Nodes.{Implies}
+use Rattle.sig_dd.specs.declared.node.Ref.{Ref}
+use Rattle.sig_solve.proofs.AskedLemmas.{present_over}
+use Rattle.sig_solve.proofs.RootLemmas.{implied_root, leader_at, none_root}
 use Rattle.sig_solve.proofs.roots.find_root.Goals as goal
 
-pub is_met-requires-clause-ready : goal.is_met-requires-clause-ready
-is_met-requires-clause-ready c = record {
-  has_store = c.loop-leader.invariant.store;
-  has_frame = frame_stays c.args.store.now c.loop-leader.store c.args.related.now c.loop-leader.invariant.kept c.requires.ready.has_frame;
-}
+pub presence-requires : goal.presence-requires
+presence-requires c =
+    let below = leader_at c.args.asked.now.frame c.requires.parts c.as_slice-leader-items.result.now c.loop-leader.leader-index c.as_slice-leader-items.ensures.value c.loop-leader-test.true in
+    omega (arith, below, c.requires.is_system.presences)
 
-pub is_met-requires-clause-held : goal.is_met-requires-clause-held
-is_met-requires-clause-held c = (part_stays c.args.store.now c.loop-leader.store c.args.related.now (Speaks c.args.related.now.frame.kernel.now) c.args.speaking c.loop-leader.invariant.kept c.requires.speaking).held
-
-pub is_met-requires-clause-spans : goal.is_met-requires-clause-spans
-is_met-requires-clause-spans c = (part_stays c.args.store.now c.loop-leader.store c.args.related.now (Speaks c.args.related.now.frame.kernel.now) c.args.speaking c.loop-leader.invariant.kept c.requires.speaking).spans
-
-pub is_met-requires-clause-signal : goal.is_met-requires-clause-signal
-is_met-requires-clause-signal c = leader_at c.args.store.now.nodes c.args.related.now c.requires.ready.has_frame c.as_slice-leader-items.result.now c.loop-leader.leader-index c.as_slice-leader-items.ensures.value c.loop-leader-test.true
-
-pub returns-in_err-is_met-clause-share : goal.returns-in_err-is_met-clause-share
-returns-in_err-is_met-clause-share c =
-    let n : length c.as_slice-leader-items.result.now ≡ length c.args.related.now.frame.leaders.items = ap length c.as_slice-leader-items.ensures.value in
-    refused (2 * length c.args.related.now.frame.leaders.items) c.args.related.now.unknowns.items c.args.store.now c.is_met.new.store c.from_residual.result c.in_err-is_met.field-0.0 c.from_residual.ensures.1
-    (turn_within 2 c.loop-leader.leader-index (length c.args.related.now.frame.leaders.items) c.args.related.now.unknowns.items c.args.store.now c.loop-leader.store c.is_met.new.store _ (omega arith) c.loop-leader.invariant.share
-    c.in_err-is_met.ensures.share)
-
-pub returns-then-not-branch-clause-value : goal.returns-then-not-branch-clause-value
-returns-then-not-branch-clause-value c =
+pub within-requires-clause-g : goal.within-requires-clause-g
+within-requires-clause-g c =
     let s = get_or c.as_slice-leader-items.result.now c.loop-leader.leader-index 0 in
-    unmet_root c.loop-leader.store.nodes c.args.related.now (frame_stays c.args.store.now c.loop-leader.store c.args.related.now c.loop-leader.invariant.kept c.requires.ready.has_frame) c.args.speaking
-    (part_stays c.args.store.now c.loop-leader.store c.args.related.now (Speaks c.args.related.now.frame.kernel.now) c.args.speaking c.loop-leader.invariant.kept c.requires.speaking) s
-    (leader_at c.args.store.now.nodes c.args.related.now c.requires.ready.has_frame c.as_slice-leader-items.result.now c.loop-leader.leader-index c.as_slice-leader-items.ensures.value c.loop-leader-test.true)
-    (subst (IsMetAnswer c.loop-leader.store.nodes c.args.related.now c.args.speaking false s) c.if-not-branch.true c.in_ok-is_met.ensures.value)
+    (present_over c.args.store.now c.args.asked.now c.requires s (leader_at c.args.asked.now.frame c.requires.parts c.as_slice-leader-items.result.now c.loop-leader.leader-index c.as_slice-leader-items.ensures.value c.loop-leader-test.true) c.presence.result c.presence.ensures).held
 
-pub returns-then-not-branch-clause-share : goal.returns-then-not-branch-clause-share
-returns-then-not-branch-clause-share c =
-    let n : length c.as_slice-leader-items.result.now ≡ length c.args.related.now.frame.leaders.items = ap length c.as_slice-leader-items.ensures.value in
-    turn_within 2 c.loop-leader.leader-index (length c.args.related.now.frame.leaders.items) c.args.related.now.unknowns.items c.args.store.now c.loop-leader.store c.is_met.new.store None (omega arith) c.loop-leader.invariant.share
-    c.in_ok-is_met.ensures.share
-
-pub loop-leader-preserved : goal.loop-leader-preserved
-loop-leader-preserved c = record {
-  store = c.in_ok-is_met.ensures.store;
-  kept = Keeps-trans c.args.store.now c.loop-leader.store c.is_met.new.store c.loop-leader.invariant.kept c.in_ok-is_met.ensures.kept;
-  none = below_more_of (IsSomewhereAbsent c.args.related.now.frame.kernel.now) c.as_slice-leader-items.result.now c.loop-leader.leader-index c.loop-leader.invariant.none
-      (met_absent c.loop-leader.store.nodes c.args.related.now (frame_stays c.args.store.now c.loop-leader.store c.args.related.now c.loop-leader.invariant.kept c.requires.ready.has_frame) c.args.speaking
-      (part_stays c.args.store.now c.loop-leader.store c.args.related.now (Speaks c.args.related.now.frame.kernel.now) c.args.speaking c.loop-leader.invariant.kept c.requires.speaking)
-      (get_or c.as_slice-leader-items.result.now c.loop-leader.leader-index 0)
-      (subst (IsMetAnswer c.loop-leader.store.nodes c.args.related.now c.args.speaking false (get_or c.as_slice-leader-items.result.now c.loop-leader.leader-index 0)) c.if-not-branch.false c.in_ok-is_met.ensures.value));
-  share = next_turn 2 c.loop-leader.leader-index c.args.related.now.unknowns.items c.args.store.now c.loop-leader.store c.is_met.new.store None c.loop-leader.invariant.share c.in_ok-is_met.ensures.share;
-}
+pub returns-then-branch-clause-value : goal.returns-then-branch-clause-value
+returns-then-branch-clause-value c =
+    let s = get_or c.as_slice-leader-items.result.now c.loop-leader.leader-index 0 in
+    implied_root c.args.store.now c.args.asked.now c.requires s (leader_at c.args.asked.now.frame c.requires.parts c.as_slice-leader-items.result.now c.loop-leader.leader-index c.as_slice-leader-items.ensures.value c.loop-leader-test.true)
+    (subst (λ (r : Ref). Implies c.args.store.now.nodes c.args.asked.now.solutions r) c.presence.ensures (c.in_ok-within.ensures.value.0 c.if-branch.true))
 
 pub returns-clause-value : goal.returns-clause-value
 returns-clause-value c =
-    none_root c.args.store.now.nodes c.args.related.now c.requires.ready.has_frame c.as_slice-leader-items.result.now c.as_slice-leader-items.ensures.value (λ k lt. c.loop-leader.invariant.none k (omega arith))
+    none_root c.args.store.now c.args.asked.now c.requires c.as_slice-leader-items.result.now c.as_slice-leader-items.ensures.value (λ k lt. c.loop-leader.invariant k (omega arith))

@@ -1,89 +1,95 @@
-use Rattle.std.proofs.Common.{◌≡◌, ◌<◌, ◌+◌, ◌*◌, ℕ, length, true, false, get_or, sym, ap, subst, arith}
-use Rattle.std.specs.Prelude.{None}
-use Rattle.sig_clock.specs.Reactions.{Speaks, is_present}
-use Rattle.sig_dd.specs.Nodes.{StoreView, Keeps, Spans}
+use Rattle.std.proofs.Common.{◌≡◌, ◌<◌, ◌↔◌, Bool, List, false, not, length, subst, arith, IsTrue}
+use Rattle.std.specs.Prelude.{Err, None}
+use Rattle.sig_base.specs.declared.ids.SigId.{SigId}
+use Rattle.sig_clock.specs.Reactions.{is_present}
+use Rattle.sig_dd.specs.Nodes.{IsRefOf, Keeps, test}
 use Rattle.sig_dd.specs.Shares.{Share}
 use Rattle.sig_dd.specs.declared.node.Ref.{Ref}
 use Rattle.sig_dd.proofs.Adding.{Share-then}
-use Rattle.sig_solve.specs.Parts.{IsNarrowed}
-use Rattle.sig_solve.specs.Sets.{IsPart, IsReady}
-use Rattle.sig_solve.specs.declared.related.Related.{Related}
-use Rattle.sig_solve.proofs.FrameLemmas.{frame_stays}
-use Rattle.sig_solve.proofs.RootLemmas.{least_possible, missing, some_met, presence_unknown}
-use Rattle.sig_solve.proofs.SetLemmas.{part_present, part_stays}
-use Rattle.sig_solve.proofs.StoreLemmas.{more_calls, refused}
+use Rattle.sig_dd.proofs.CallerLemmas.{Keeps-trans}
+use Rattle.sig_rel.specs.Systems.{IsOver, IsSolution, reading}
+use Rattle.sig_solve.specs.Asked.{IsAskedIn, variables_of}
+use Rattle.sig_solve.proofs.AskedLemmas.{asked_stays, over_one, over_spans, present_over, says_rest}
+use Rattle.sig_solve.proofs.RootLemmas.{least_possible, missing, rest_met, solutions_say, some_met}
+use Rattle.sig_solve.proofs.StoreLemmas.{asked, more_calls, refused}
+use Rattle.sig_solve.proofs.SystemLemmas.{over_kept}
 use Rattle.sig_solve.proofs.roots.missing_root.Goals as goal
-
--- the reactions without a signal
-rest_part : (old mid new : StoreView) (related : Related) (speaking rest : Ref) (x p : ℕ) → Keeps old mid → IsReady old related → IsPart old.nodes related (Speaks related.frame.kernel.now) speaking → x < length related.frame.kernel.now.signals
-    → p ≡ get_or related.relation.present x 0 → IsNarrowed mid.nodes new.nodes speaking p false rest → IsPart new.nodes related (λ reaction. Speaks related.frame.kernel.now reaction × (is_present reaction x ≡ false)) rest
-rest_part old mid new related speaking rest x p kept ready part lt same at =
-    part_present mid.nodes new.nodes related (Speaks related.frame.kernel.now) speaking rest x false (frame_stays old mid related kept ready.has_frame) lt
-    (part_stays old mid related (Speaks related.frame.kernel.now) speaking kept part) (subst (λ v. IsNarrowed mid.nodes new.nodes speaking v false rest) same at)
-
--- the calls up to there
-rest_share : (old mid new : StoreView) (related : Related) (speaking : Ref) (x p n : ℕ) (why : _) → Keeps old mid → IsReady old related → IsPart old.nodes related (Speaks related.frame.kernel.now) speaking → x < length related.frame.kernel.now.signals
-    → p ≡ get_or related.relation.present x 0 → Share n related.unknowns.items old mid None
-    → ((vs : _) → Spans mid.nodes speaking vs → Rattle.std.proofs.Common.Contains vs p → Share 2 vs mid new why) → Share (n + 2) related.unknowns.items old new why
-rest_share old mid new related speaking x p n why kept ready part lt same first second =
-    Share-then old mid new n 2 related.unknowns.items why first
-    (second related.unknowns.items (part_stays old mid related (Speaks related.frame.kernel.now) speaking kept part).spans (presence_unknown old.nodes related ready.has_frame x p lt same))
+use Rattle.sig_solve.proofs.roots.missing_root.Goals.{In_ok-x, In_ok-absent, In_ok-rest}
 
 pub first_met-requires-clause-some : goal.first_met-requires-clause-some
 first_met-requires-clause-some c =
-    some_met c.args.store.now.nodes c.args.related.now c.requires.ready.has_frame (Speaks c.args.related.now.frame.kernel.now) (λ r p. p) c.args.speaking c.requires.speaking c.requires.alive.0 c.requires.alive.1
+    some_met c.args.store.now c.args.asked.now c.requires.asked (λ r. Unit {0}) c.args.asked.now.solutions (solutions_say c.args.store.now c.args.asked.now c.requires.asked) c.requires.alive.0 c.requires.alive.1 tt
+
+-- the first signal
+within_x : (c : In_ok-x) → c.in_ok-x.x.0 < length c.args.asked.now.frame.kernel.now.signals
+within_x c = c.in_ok-x.ensures.value.holds.0
+
+present_x : (c : In_ok-absent) → IsOver c.args.store.now.nodes c.args.asked.now.system c.presence.result
+present_x c = present_over c.args.store.now c.args.asked.now c.requires.asked c.in_ok-x.x.0 c.in_ok-x.ensures.value.holds.0 c.presence.result c.presence.ensures
+
+pub negate-requires : goal.negate-requires
+negate-requires c = (present_over c.args.store.now c.args.asked.now c.requires.asked c.in_ok-x.x.0 c.in_ok-x.ensures.value.holds.0 c.presence.result c.presence.ensures).held
+
+pub returns-in_err-absent-clause-share : goal.returns-in_err-absent-clause-share
+returns-in_err-absent-clause-share c =
+    let vs = variables_of c.args.asked.now.system in
+    let over = present_over c.args.store.now c.args.asked.now c.requires.asked c.in_ok-x.x.0 c.in_ok-x.ensures.value.holds.0 c.presence.result c.presence.ensures in
+    refused 2 vs c.args.store.now c.negate.new.self c.from_residual-in_err-absent.result c.in_err-absent.field-0.0 c.from_residual-in_err-absent.ensures.1
+    (more_calls 1 2 vs c.args.store.now c.negate.new.self _ (omega arith) (c.in_err-absent.ensures.spends.over vs (over_spans c.args.store.now.nodes c.args.asked.now.system c.presence.result over, tt) tt))
 
 pub returns-in_err-rest-clause-share : goal.returns-in_err-rest-clause-share
 returns-in_err-rest-clause-share c =
-    let n = length c.args.related.now.frame.leaders.items in
-    refused (4 * n + 2) c.args.related.now.unknowns.items c.args.store.now c.narrow.new.store c.from_residual-in_err-rest.result c.in_err-rest.field-0.0 c.from_residual-in_err-rest.ensures.1
-    (more_calls (2 * n + 2) (4 * n + 2) c.args.related.now.unknowns.items c.args.store.now c.narrow.new.store _ (omega arith)
-    (rest_share c.args.store.now c.first_met.new.store c.narrow.new.store c.args.related.now c.args.speaking c.in_ok-x.x.0 c.presence.result (2 * n) _ c.in_ok-x.ensures.kept c.requires.ready c.requires.speaking c.in_ok-x.ensures.value.holds.is
-    c.presence.ensures c.in_ok-x.ensures.share c.in_err-rest.ensures.share))
+    let vs = variables_of c.args.asked.now.system in
+    let over = present_over c.args.store.now c.args.asked.now c.requires.asked c.in_ok-x.x.0 c.in_ok-x.ensures.value.holds.0 c.presence.result c.presence.ensures in
+    let gone = over_one c.args.store.now.nodes c.negate.new.self.nodes c.args.asked.now.system not c.presence.result c.in_ok-absent.absent over c.in_ok-absent.ensures.value in
+    let all = over_kept c.args.store.now c.negate.new.self c.in_ok-absent.ensures.kept c.args.asked.now.system c.args.asked.now.solutions c.requires.asked.over in
+    refused 2 vs c.args.store.now c.conj.new.self c.from_residual-in_err-rest.result c.in_err-rest.field-0.0 c.from_residual-in_err-rest.ensures.1
+    (Share-then c.args.store.now c.negate.new.self c.conj.new.self 1 1 vs _ (c.in_ok-absent.ensures.spends.over vs (over_spans c.args.store.now.nodes c.args.asked.now.system c.presence.result over, tt) tt)
+    (c.in_err-rest.ensures.spends.over vs (over_spans c.negate.new.self.nodes c.args.asked.now.system c.args.asked.now.solutions all, (over_spans c.negate.new.self.nodes c.args.asked.now.system c.in_ok-absent.absent gone, tt)) tt))
 
-pub first_met-requires-2-clause-ready : goal.first_met-requires-2-clause-ready
-first_met-requires-2-clause-ready c = record {
-  has_store = c.in_ok-rest.ensures.store;
-  has_frame = frame_stays c.first_met.new.store c.narrow.new.store c.args.related.now c.in_ok-rest.ensures.kept (frame_stays c.args.store.now c.first_met.new.store c.args.related.now c.in_ok-x.ensures.kept c.requires.ready.has_frame);
-}
+-- the solutions without the first signal
+kept_rest : (c : In_ok-rest) → Keeps c.args.store.now c.conj.new.self
+kept_rest c = Keeps-trans c.args.store.now c.negate.new.self c.conj.new.self c.in_ok-absent.ensures.kept c.in_ok-rest.ensures.kept
 
-pub first_met-requires-2-clause-spans : goal.first_met-requires-2-clause-spans
-first_met-requires-2-clause-spans c =
-    (rest_part c.args.store.now c.first_met.new.store c.narrow.new.store c.args.related.now c.args.speaking c.in_ok-rest.rest c.in_ok-x.x.0 c.presence.result c.in_ok-x.ensures.kept c.requires.ready c.requires.speaking c.in_ok-x.ensures.value.holds.is
-    c.presence.ensures c.in_ok-rest.ensures.value).spans
+asked_rest : (c : In_ok-rest) → IsAskedIn c.conj.new.self c.args.asked.now
+asked_rest c = asked_stays c.args.store.now c.conj.new.self (kept_rest c) c.args.asked.now c.in_ok-rest.ensures.store c.requires.asked
+
+rest_says : (c : In_ok-rest) (ts : List Bool) → IsTrue (test c.conj.new.self.nodes c.in_ok-rest.rest ts) ↔ (IsSolution c.conj.new.self.nodes c.args.asked.now.system ts × (is_present (reading c.conj.new.self.nodes c.args.asked.now.system ts) c.in_ok-x.x.0 ≡ false))
+rest_says c =
+    says_rest c.args.store.now c.args.asked.now c.requires.asked c.in_ok-x.x.0 c.in_ok-x.ensures.value.holds.0 c.negate.new.self c.in_ok-absent.ensures.kept c.in_ok-absent.absent
+    (subst (λ (r : Ref). IsRefOf c.negate.new.self.nodes (λ ts. not (test c.args.store.now.nodes r ts)) c.in_ok-absent.absent) c.presence.ensures c.in_ok-absent.ensures.value)
+    c.conj.new.self c.in_ok-rest.ensures.kept c.in_ok-rest.rest c.in_ok-rest.ensures.value
+
+calls_rest : (c : In_ok-rest) → Share 2 (variables_of c.args.asked.now.system) c.args.store.now c.conj.new.self None
+calls_rest c =
+    let vs = variables_of c.args.asked.now.system in
+    let over = present_over c.args.store.now c.args.asked.now c.requires.asked c.in_ok-x.x.0 c.in_ok-x.ensures.value.holds.0 c.presence.result c.presence.ensures in
+    let gone = over_one c.args.store.now.nodes c.negate.new.self.nodes c.args.asked.now.system not c.presence.result c.in_ok-absent.absent over c.in_ok-absent.ensures.value in
+    let all = over_kept c.args.store.now c.negate.new.self c.in_ok-absent.ensures.kept c.args.asked.now.system c.args.asked.now.solutions c.requires.asked.over in
+    Share-then c.args.store.now c.negate.new.self c.conj.new.self 1 1 vs None (c.in_ok-absent.ensures.spends.over vs (over_spans c.args.store.now.nodes c.args.asked.now.system c.presence.result over, tt) tt)
+    (c.in_ok-rest.ensures.spends.over vs (over_spans c.negate.new.self.nodes c.args.asked.now.system c.args.asked.now.solutions all, (over_spans c.negate.new.self.nodes c.args.asked.now.system c.in_ok-absent.absent gone, tt)) tt)
+
+pub first_met-requires-2-clause-asked : goal.first_met-requires-2-clause-asked
+first_met-requires-2-clause-asked c = asked_rest (goal.at.first_met-requires-2-clause-asked c).In_ok-rest
 
 pub first_met-requires-2-clause-some : goal.first_met-requires-2-clause-some
 first_met-requires-2-clause-some c =
-    let absent = c.requires.none c.in_ok-x.x.0 c.in_ok-x.ensures.value.holds.is in
-    some_met c.narrow.new.store.nodes c.args.related.now
-    (frame_stays c.first_met.new.store c.narrow.new.store c.args.related.now c.in_ok-rest.ensures.kept (frame_stays c.args.store.now c.first_met.new.store c.args.related.now c.in_ok-x.ensures.kept c.requires.ready.has_frame))
-    (λ reaction. Speaks c.args.related.now.frame.kernel.now reaction × (is_present reaction c.in_ok-x.x.0 ≡ false)) (λ r p. p.0) c.in_ok-rest.rest
-    (rest_part c.args.store.now c.first_met.new.store c.narrow.new.store c.args.related.now c.args.speaking c.in_ok-rest.rest c.in_ok-x.x.0 c.presence.result c.in_ok-x.ensures.kept c.requires.ready c.requires.speaking c.in_ok-x.ensures.value.holds.is
-    c.presence.ensures c.in_ok-rest.ensures.value) absent.0 (absent.1, absent.2)
+    let here = (goal.at.first_met-requires-2-clause-some c).In_ok-rest in
+    rest_met c.conj.new.self c.args.asked.now (asked_rest here) c.in_ok-x.x.0 c.in_ok-x.ensures.value.holds.0 c.in_ok-rest.rest (rest_says here) c.requires.none
 
 pub returns-in_err-y-clause-share : goal.returns-in_err-y-clause-share
 returns-in_err-y-clause-share c =
-    let n = length c.args.related.now.frame.leaders.items in
-    refused (4 * n + 2) c.args.related.now.unknowns.items c.args.store.now c.first_met-2.new.store c.from_residual-in_err-y.result c.in_err-y.field-0.0 c.from_residual-in_err-y.ensures.1
-    (more_calls (2 * n + 2 + 2 * n) (4 * n + 2) c.args.related.now.unknowns.items c.args.store.now c.first_met-2.new.store _ (omega arith)
-    (Share-then c.args.store.now c.narrow.new.store c.first_met-2.new.store (2 * n + 2) (2 * n) c.args.related.now.unknowns.items _
-    (rest_share c.args.store.now c.first_met.new.store c.narrow.new.store c.args.related.now c.args.speaking c.in_ok-x.x.0 c.presence.result (2 * n) None c.in_ok-x.ensures.kept c.requires.ready c.requires.speaking c.in_ok-x.ensures.value.holds.is
-    c.presence.ensures c.in_ok-x.ensures.share c.in_ok-rest.ensures.share) c.in_err-y.ensures.share))
+    let vs = variables_of c.args.asked.now.system in
+    let here = (goal.at.returns-in_err-y-clause-share c).In_ok-rest in
+    refused 2 vs c.args.store.now c.conj.new.self c.from_residual-in_err-y.result c.in_err-y.field-0.0 c.from_residual-in_err-y.ensures.1
+    (asked {T = SigId} 2 vs c.args.store.now c.conj.new.self (calls_rest here) (Err c.in_err-y.field-0.0) c.in_err-y.ensures.no_budget)
+
+pub returns-clause-share : goal.returns-clause-share
+returns-clause-share c = calls_rest (goal.at.returns-clause-share c).In_ok-rest
 
 pub returns-clause-value : goal.returns-clause-value
 returns-clause-value c =
-    missing c.args.related.now.frame.kernel.now c.in_ok-x.x.0 c.in_ok-y.y.0 c.requires.none
-    (least_possible c.args.store.now.nodes c.args.related.now c.requires.ready.has_frame (Speaks c.args.related.now.frame.kernel.now) (λ r p. p) c.args.speaking c.requires.speaking c.in_ok-x.x.0 c.in_ok-x.ensures.value)
-    (least_possible c.narrow.new.store.nodes c.args.related.now
-    (frame_stays c.first_met.new.store c.narrow.new.store c.args.related.now c.in_ok-rest.ensures.kept (frame_stays c.args.store.now c.first_met.new.store c.args.related.now c.in_ok-x.ensures.kept c.requires.ready.has_frame))
-    (λ reaction. Speaks c.args.related.now.frame.kernel.now reaction × (is_present reaction c.in_ok-x.x.0 ≡ false)) (λ r p. p.0) c.in_ok-rest.rest
-    (rest_part c.args.store.now c.first_met.new.store c.narrow.new.store c.args.related.now c.args.speaking c.in_ok-rest.rest c.in_ok-x.x.0 c.presence.result c.in_ok-x.ensures.kept c.requires.ready c.requires.speaking c.in_ok-x.ensures.value.holds.is
-    c.presence.ensures c.in_ok-rest.ensures.value) c.in_ok-y.y.0 c.in_ok-y.ensures.value)
-
-pub returns-clause-share : goal.returns-clause-share
-returns-clause-share c =
-    let n = length c.args.related.now.frame.leaders.items in
-    more_calls (2 * n + 2 + 2 * n) (4 * n + 2) c.args.related.now.unknowns.items c.args.store.now c.first_met-2.new.store None (omega arith)
-    (Share-then c.args.store.now c.narrow.new.store c.first_met-2.new.store (2 * n + 2) (2 * n) c.args.related.now.unknowns.items None
-    (rest_share c.args.store.now c.first_met.new.store c.narrow.new.store c.args.related.now c.args.speaking c.in_ok-x.x.0 c.presence.result (2 * n) None c.in_ok-x.ensures.kept c.requires.ready c.requires.speaking c.in_ok-x.ensures.value.holds.is
-    c.presence.ensures c.in_ok-x.ensures.share c.in_ok-rest.ensures.share) c.in_ok-y.ensures.share)
+    let here = (goal.at.returns-clause-value c).In_ok-rest in
+    missing c.args.asked.now.frame.kernel.now c.in_ok-x.x.0 c.in_ok-y.y.0 c.requires.none
+    (least_possible c.args.store.now c.args.asked.now c.requires.asked (λ r. Unit {0}) c.args.asked.now.solutions (solutions_say c.args.store.now c.args.asked.now c.requires.asked) c.in_ok-x.x.0 c.in_ok-x.ensures.value)
+    (least_possible c.conj.new.self c.args.asked.now (asked_rest here) (λ r. is_present r c.in_ok-x.x.0 ≡ false) c.in_ok-rest.rest (rest_says here) c.in_ok-y.y.0 c.in_ok-y.ensures.value)

@@ -1,14 +1,16 @@
-use Rattle.std.proofs.Common.{◌+◌, ◌*◌, ◌∙◌, length, ap, arith}
+use Rattle.std.proofs.Common.{◌+◌, ◌*◌, ◌∙◌, length, ap, arith, subst, sym}
 use Rattle.std.specs.List.{range_with_len}
 use Rattle.std.proofs.lemmas.List.{length-replicate}
 use Rattle.std.proofs.lemmas.Result.{on_ok_weaker}
 use Rattle.sig_dd.specs.Nodes.{allowance}
-use Rattle.sig_rel.specs.Shares.{triangular_share_of}
-use Rattle.sig_rel.specs.Substitutions.{SpanColumns, steps}
+use Rattle.sig_rel.specs.Schedules.{IsOrderOfWriting}
+use Rattle.sig_rel.specs.Shares.{Makes, triangular_share_of}
+use Rattle.sig_rel.specs.Substitutions.{IsPartlyWritten, SpanColumns, no_ref, steps}
 use Rattle.sig_rel.proofs.AddingLemmas.{adds_err, adds_makes, adds_more, adds_then, within_triangular_share}
 use Rattle.sig_rel.proofs.FilledLemmas.{are_filled, condition_within, proposed_plain, proposed_span}
 use Rattle.sig_rel.proofs.GivenLemmas.{conditions_within}
 use Rattle.sig_rel.proofs.StepLemmas.{few_steps}
+use Rattle.sig_rel.proofs.TriangleOrders.{triangle_orders}
 use Rattle.sig_rel.proofs.substitution.Columns.fill.Goals as goal
 
 pub propose-requires-clause-few : goal.propose-requires-clause-few
@@ -29,8 +31,14 @@ returns-in_err-propose-clause-adds c =
     let k = length c.args.conditions.now in
     let s = steps c.args.triangle.now.rules c.args.triangle.now.list.items in
     let enough = within_triangular_share c.args.kernel.now k s c.requires.conditions.count
-    (few_steps c.args.kernel.now c.args.triangle.now.rules c.requires.triangle.are_rules c.args.triangle.now.list.items c.requires.triangle.is_triangle) in
+    (few_steps c.args.kernel.now c.args.triangle.now.rules c.args.triangle.now.list.items
+    (triangle_orders c.args.kernel.now c.requires.valid c.args.triangle.now.rules c.requires.triangle.are_rules c.args.triangle.now.list.items c.requires.triangle.is_triangle)) in
     adds_err k (triangular_share_of c.args.kernel.now) c.args.store.now c.propose.new.store c.in_err-propose.field-0.0 c.from_residual.result c.in_err-propose.ensures.adds (omega (arith, enough)) c.from_residual.ensures.1
+
+pub write_all-requires-clause-order : goal.write_all-requires-clause-order
+write_all-requires-clause-order c =
+    subst (IsOrderOfWriting c.args.kernel.now c.args.triangle.now.rules) (sym c.as_slice.ensures.value)
+    (triangle_orders c.args.kernel.now c.requires.valid c.args.triangle.now.rules c.requires.triangle.are_rules c.args.triangle.now.list.items c.requires.triangle.is_triangle)
 
 pub write_all-requires-clause-begun : goal.write_all-requires-clause-begun
 write_all-requires-clause-begun c =
@@ -43,15 +51,17 @@ returns-clause-adds c =
     let s = steps c.args.triangle.now.rules c.args.triangle.now.list.items in
     let vs = range_with_len 0 k in
     let enough = within_triangular_share kernel k s c.requires.conditions.count
-    (few_steps kernel c.args.triangle.now.rules c.requires.triangle.are_rules c.args.triangle.now.list.items c.requires.triangle.is_triangle) in
+    (few_steps kernel c.args.triangle.now.rules c.args.triangle.now.list.items
+    (triangle_orders kernel c.requires.valid c.args.triangle.now.rules c.requires.triangle.are_rules c.args.triangle.now.list.items c.requires.triangle.is_triangle)) in
     adds_more (k + 3 * s * allowance vs) (triangular_share_of kernel) c.args.store.now c.write_all.new.store c.write_all.result
     (adds_then k (3 * s * allowance vs) c.args.store.now c.propose.new.store c.write_all.new.store c.write_all.result c.in_ok-propose.ensures.adds
     (adds_makes (3 * s) (SpanColumns c.propose.new.store.nodes c.propose.new.self) c.propose.new.store c.write_all.new.store vs
     (proposed_span kernel c.args.conditions.now c.requires.conditions c.args.store.now c.propose.new.store c.in_ok-propose.ensures.adds.kept c.args.self.now c.propose.new.self c.requires.fresh c.in_ok-propose.ensures.proposed)
-    c.write_all.result c.write_all.ensures.made)) enough
+    c.write_all.result (subst (λ list. Makes (3 * steps c.args.triangle.now.rules list) (SpanColumns c.propose.new.store.nodes c.propose.new.self) c.propose.new.store c.write_all.new.store no_ref c.write_all.result) c.as_slice.ensures.value c.write_all.ensures.made))) enough
 
 pub returns-clause-filled : goal.returns-clause-filled
 returns-clause-filled c =
     on_ok_weaker c.write_all.result
     (λ written. are_filled c.args.kernel.now c.args.conditions.now c.requires.conditions c.args.store.now c.propose.new.store c.in_ok-propose.ensures.adds.kept c.args.self.now c.propose.new.self c.requires.fresh c.in_ok-propose.ensures.proposed
-    c.requires.valid c.args.triangle.now c.requires.triangle c.write_all.new.store c.write_all.ensures.made.kept c.write_all.new.self written) c.write_all.ensures.written
+    c.requires.valid c.args.triangle.now c.requires.triangle c.write_all.new.store c.write_all.ensures.made.kept c.write_all.new.self
+    (subst (IsPartlyWritten c.args.kernel.now c.args.triangle.now.rules c.propose.new.store.nodes c.write_all.new.store.nodes c.propose.new.self c.write_all.new.self) c.as_slice.ensures.value written)) c.write_all.ensures.written

@@ -1,4 +1,4 @@
-use Rattle.std.proofs.Common.{◌*◌, ◌+◌, Err, Ok, arith, get_or, take}
+use Rattle.std.proofs.Common.{◌*◌, ◌+◌, Err, Ok, arith, get_or, refl, take}
 use Rattle.sig_rel.specs.Substitutions.{SpanColumns, no_ref, steps}
 use Rattle.sig_rel.specs.declared.elements.Element.TheVariants.{Presence}
 use Rattle.sig_rel.proofs.Makings.{makes_err}
@@ -8,17 +8,16 @@ use Rattle.sig_rel.proofs.substitution.Columns.write_all.Goals as goal
 
 pub write-requires-clause-within : goal.write-requires-clause-within
 write-requires-clause-within c =
-    let own = c.as_slice-element-items.result.now in
-    let triangle = c.args.triangle.now in
+    let own = c.args.list.now in
     let k = c.loop-element.element-index in
-    has_column c.args.kernel.now triangle.rules.least.items triangle.list.items c.loop-element.self c.requires.triangle.is_triangle c.loop-element.invariant.written.counts k (get_or own k (Presence 0))
-    (element_at own triangle.list.items k (Presence 0) c.as_slice-element-items.ensures.value c.loop-element-test.true)
+    has_column c.args.kernel.now c.args.rules.now c.args.list.now c.loop-element.self c.requires.order c.loop-element.invariant.written.counts k (get_or own k (Presence 0))
+    (element_at own c.args.list.now k (Presence 0) refl c.loop-element-test.true)
 
 pub returns-in_err-write-clause-made : goal.returns-in_err-write-clause-made
 returns-in_err-write-clause-made c =
-    let own = c.as_slice-element-items.result.now in
-    let rules = c.args.triangle.now.rules in
-    let list = c.args.triangle.now.list.items in
+    let own = c.args.list.now in
+    let rules = c.args.rules.now in
+    let list = c.args.list.now in
     let k = c.loop-element.element-index in
     let r = c.args.store.now in
     let s = c.loop-element.store in
@@ -28,25 +27,25 @@ returns-in_err-write-clause-made c =
     let within = steps_within rules list (k + 1) in
     makes_err (3 * steps rules (take (k + 1) list)) (3 * steps rules list) wide wide r t no_ref no_ref e c.from_residual.result
     (made_more c.args.kernel.now rules list k (get_or own k (Presence 0)) c.args.self.now r s t c.loop-element.self (Err e)
-    (element_at own list k (Presence 0) c.as_slice-element-items.ensures.value c.loop-element-test.true) c.loop-element.invariant.made c.loop-element.invariant.written c.in_err-write.ensures.made)
+    (element_at own list k (Presence 0) refl c.loop-element-test.true) c.loop-element.invariant.made c.loop-element.invariant.written c.in_err-write.ensures.made)
     (omega (arith, within)) (λ vs has. has) c.from_residual.ensures.1
 
 pub loop-element-preserved : goal.loop-element-preserved
 loop-element-preserved c =
-    let own = c.as_slice-element-items.result.now in
+    let own = c.args.list.now in
     let kernel = c.args.kernel.now in
-    let rules = c.args.triangle.now.rules in
-    let list = c.args.triangle.now.list.items in
+    let rules = c.args.rules.now in
+    let list = c.args.list.now in
     let k = c.loop-element.element-index in
     let element = get_or own k (Presence 0) in
     let r = c.args.store.now in
     let s = c.loop-element.store in
     let t = c.write.new.store in
-    let at = element_at own list k (Presence 0) c.as_slice-element-items.ensures.value c.loop-element-test.true in
+    let at = element_at own list k (Presence 0) refl c.loop-element-test.true in
     let so_far = c.loop-element.invariant.written in
     record {
       made = made_more kernel rules list k element c.args.self.now r s t c.loop-element.self (Ok tt) at c.loop-element.invariant.made so_far c.in_ok-write.ensures.made;
       written = next_written kernel rules r.nodes t.nodes c.args.self.now c.write.new.self list k element at
-          (partly_more kernel c.requires.valid rules c.requires.triangle.are_rules list c.requires.triangle.is_triangle r.nodes c.args.self.now s t c.in_ok-write.ensures.made.kept
+          (partly_more kernel rules list c.requires.order r.nodes c.args.self.now s t c.in_ok-write.ensures.made.kept
           c.loop-element.self c.write.new.self k element at so_far c.in_ok-write.ensures.written);
     }

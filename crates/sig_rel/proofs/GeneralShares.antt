@@ -1,0 +1,113 @@
+-- The making of a kernel's system keeps to the share of its relation.
+use Rattle.std.proofs.Common.{◌≡◌, ◌≤◌, ◌+◌, ◌-◌, ◌*◌, ◌^◌, ℕ, zero, suc, List, Result, Ok, Err, length, sym, subst, arith}
+use Rattle.std.specs.Prelude.{count_by, slice_index, ◌==◌}
+use Rattle.std.specs.Result.{IsErrAnd}
+use Rattle.std.specs.List.{range_with_len}
+use Rattle.std.proofs.Math.Nat.{mul-le-mul_left, mul-le-mul_right}
+use Rattle.std.proofs.Math.Pow.{pow_mono}
+use Rattle.std.proofs.lemmas.Nat.{pow_pos}
+use Rattle.std.proofs.lemmas.List.FromFn.{length-range_with_len}
+use Rattle.sig_dd.specs.Nodes.{StoreView, allowance}
+use Rattle.sig_dd.specs.declared.answer.DdAnswer.{DdAnswer}
+use Rattle.sig_kernel.specs.declared.kernel.Kernel.{Kernel}
+use Rattle.sig_clock.specs.SameClocks.{AreLeast}
+use Rattle.sig_rel.specs.Answers.{IsFromStore}
+use Rattle.sig_rel.specs.FreeColumns.{Adds}
+use Rattle.sig_rel.specs.GeneralColumns.{substituting}
+use Rattle.sig_rel.specs.OwnColumns.{classes_below}
+use Rattle.sig_rel.specs.Relations.{IsUnknownCount}
+use Rattle.sig_rel.specs.Residues.{left_refs}
+use Rattle.sig_rel.specs.Shares.{IsRefusedFor, KeepsToShare, Makes, share_of}
+use Rattle.sig_rel.specs.declared.answer.RelAnswer.{RelAnswer}
+use Rattle.sig_rel.specs.declared.answer.RelAnswer.TheVariants.{OutOfMemory}
+use Rattle.sig_rel.specs.declared.general.Left.{Left}
+use Rattle.sig_rel.proofs.AddingLemmas.{refused_later}
+use Rattle.sig_rel.proofs.ShareLemmas.{refused_as}
+use Rattle.sig_rel.proofs.UsedLemmas.{one_least}
+
+-- there are no more classes than unknowns
+classes_few : (kernel : Kernel) (least : List ℕ) → AreLeast kernel least → (u : ℕ) → IsUnknownCount kernel u → classes_below least (length least) ≤ u
+classes_few kernel least are u is =
+    let same = one_least kernel is.0 least is.1 are in
+    let count = are.count in
+    let own = subst (λ (xs : List ℕ). u ≡ count_by (λ signal. slice_index xs signal == signal) (range_with_len 0 (length kernel.signals)) + _) same is.2 in
+    let few : count_by (λ signal. slice_index least signal == signal) (range_with_len 0 (length kernel.signals)) ≤ u = omega (arith, own) in
+    subst (λ n. classes_below least n ≤ u) (sym count) few
+
+cubed : (u : ℕ) → u ≤ u * u * u
+cubed zero = omega arith
+cubed (suc u) =
+    let a : 1 * suc u ≤ (suc u * suc u) * suc u = mul-le-mul_right (suc u) (let b : 1 * suc u ≤ suc u * suc u = mul-le-mul_right (suc u) (omega arith) in omega (arith, b)) in
+    omega (arith, a)
+
+fits : (q c u w p r : ℕ) → c ≤ u → 1 ≤ p → r ≤ p → u ≤ w → u + 6 * q * p + (11 * q + c) * (r - 1) ≤ p * 30 * (q + w)
+fits q c u w p r few one le cube =
+    let a : (11 * q + c) * (r - 1) ≤ (11 * q + c) * p = mul-le-mul_left (11 * q + c) (omega (arith, le)) in
+    let b : (11 * q + c) * p ≤ (11 * q + u) * p = mul-le-mul_right p (omega (arith, few)) in
+    let d : u * 1 ≤ u * p = mul-le-mul_left u one in
+    let e : u * p ≤ w * p = mul-le-mul_right p cube in
+    let f : (11 * q + u) * p ≡ 11 * (q * p) + u * p = omega arith in
+    let g : 6 * q * p ≡ 6 * (q * p) = omega arith in
+    let h : p * 30 * (q + w) ≡ 30 * (q * p) + 30 * (w * p) = omega arith in
+    omega (arith, a, b, d, e, f, g, h)
+
+-- the writing of the columns, and what is left, are within the share
+within : (kernel : Kernel) (least : List ℕ) → AreLeast kernel least → (u : ℕ) → IsUnknownCount kernel u → (first n : ℕ) → n ≤ u
+    → substituting kernel u + (11 * length kernel.equations + classes_below least (length least)) * allowance (range_with_len first n) ≤ share_of kernel u
+within kernel least are u is first n le =
+    let few = classes_few kernel least are u is in
+    subst (λ m. substituting kernel u + (11 * length kernel.equations + classes_below least (length least)) * (2 ^ m - 1) ≤ share_of kernel u) (sym (length-range_with_len first n))
+    (fits (length kernel.equations) (classes_below least (length least)) u (u * u * u) (2 ^ u) (2 ^ n) few (let e = pow_pos u in omega (arith, e)) (pow_mono le) (cubed u))
+
+module _ (kernel : Kernel) (least : List ℕ) (are : AreLeast kernel least) (Wide : List ℕ → Type 0) (first n : ℕ) (wide : Wide (range_with_len first n)) (few : (u : ℕ) → IsUnknownCount kernel u → n ≤ u)
+    (r s t : StoreView) where
+  all_calls : (left : Left) → ((u : ℕ) → IsUnknownCount kernel u → Adds (substituting kernel u) r s (Ok tt)) → Makes (11 * length kernel.equations + classes_below least (length least)) Wide s t left_refs (let d : Result Left DdAnswer = Ok left in d)
+      → (u : ℕ) → IsUnknownCount kernel u → length t.nodes ≤ length r.nodes + share_of kernel u
+  all_calls left adds makes u is =
+      let lead = makes.leads (range_with_len first n) wide in
+      let a = (adds u is).added in
+      let b = lead.share.added in
+      let c = within kernel least are u is first n (few u is) in
+      omega (arith, a, b, c)
+
+  module _ {T : Type 0} where
+    pub made_within_share : (left : Left) (result : T) → ((u : ℕ) → IsUnknownCount kernel u → Adds (substituting kernel u) r s (Ok tt)) → Makes (11 * length kernel.equations + classes_below least (length least)) Wide s t left_refs (let d : Result Left DdAnswer = Ok left in d)
+        → KeepsToShare kernel r t (let x : Result T RelAnswer = Ok result in x)
+    made_within_share left result adds makes = record { added = all_calls left adds makes; refused = λ u is. tt }
+
+    -- memory alone was wanting at last
+    pub lacked_within_share : (left : Left) (result : Result T RelAnswer) → ((u : ℕ) → IsUnknownCount kernel u → Adds (substituting kernel u) r s (Ok tt)) → Makes (11 * length kernel.equations + classes_below least (length least)) Wide s t left_refs (let d : Result Left DdAnswer = Ok left in d)
+        → IsErrAnd result (λ answer. answer ≡ OutOfMemory) → KeepsToShare kernel r t result
+    lacked_within_share left (Ok x) adds makes is = absurd is
+    lacked_within_share left (Err answer) adds makes is = record { added = all_calls left adds makes; refused = λ u count. subst (IsRefusedFor r t (share_of kernel u)) (sym is) tt }
+
+    pub left_within_share : (why : DdAnswer) (result : Result T RelAnswer) → ((u : ℕ) → IsUnknownCount kernel u → Adds (substituting kernel u) r s (Ok tt)) → Makes (11 * length kernel.equations + classes_below least (length least)) Wide s t left_refs (let d : Result Left DdAnswer = Err why in d)
+        → IsErrAnd result (IsFromStore why) → KeepsToShare kernel r t result
+    left_within_share why (Ok x) adds makes from = absurd from
+    left_within_share why (Err answer) adds makes from = record {
+      added = λ u is.
+          let share = makes.leads (range_with_len first n) wide in
+          let a = (adds u is).added in
+          let b = share.added in
+          let c = within kernel least are u is first n (few u is) in
+          omega (arith, a, b, c);
+      refused = λ u is.
+          let share = makes.leads (range_with_len first n) wide in
+          let calls : ℕ = (11 * length kernel.equations + classes_below least (length least)) * allowance (range_with_len first n) in
+          let a = (adds u is).added in
+          let c = within kernel least are u is first n (few u is) in
+          refused_as r t (substituting kernel u + calls) (share_of kernel u) c why answer from
+          (refused_later r s t calls (substituting kernel u + calls) (omega (arith, a)) why share.refused);
+    }
+
+module _ (kernel : Kernel) (least : List ℕ) (are : AreLeast kernel least) (r s : StoreView) where
+  substituting_few : (u : ℕ) → IsUnknownCount kernel u → substituting kernel u ≤ share_of kernel u
+  substituting_few u is = let c = within kernel least are u is 0 0 (omega arith) in omega (arith, c)
+
+  module _ {T : Type 0} where
+    pub substituted_within_share : (why : DdAnswer) (result : Result T RelAnswer) → ((u : ℕ) → IsUnknownCount kernel u → Adds (substituting kernel u) r s (Err why)) → IsErrAnd result (IsFromStore why) → KeepsToShare kernel r s result
+    substituted_within_share why (Ok x) adds from = absurd from
+    substituted_within_share why (Err answer) adds from = record {
+      added = λ u is. let a = (adds u is).added in let c = substituting_few u is in omega (arith, a, c);
+      refused = λ u is. refused_as r s (substituting kernel u) (share_of kernel u) (substituting_few u is) why answer from (adds u is).refused;
+    }

@@ -1,0 +1,396 @@
+-- A schedule that is put together one step after another.
+use Rattle.std.proofs.Common.{◌≡◌, ◌<◌, ◌++◌, ◌⊎◌, inl, inr, ℕ, zero, suc, Bool, true, false, not, List, [], ◌∷◌, length, get_or, map, replicate, take, Option, None, Some, refl, sym, ap, ◌∙◌, subst, arith, Contains}
+use Rattle.std.specs.Prelude.{◌&&◌, ◌==◌, slice_get, slice_set, slice_index, slice_index_or, option_map}
+use Rattle.std.specs.List.{range_with_len}
+use Rattle.std.proofs.lemmas.Bool.{and_parts, and_from, cases_eq, eq-eqb, eqb-true, false≢true, ltb-true, not-true, or_right}
+use Rattle.std.proofs.lemmas.List.{length-replicate, length-set, take-append-le, take_all}
+use Rattle.std.proofs.lemmas.Option.{get_or_from_slice_get}
+use Rattle.sig_base.specs.declared.ids.SigId.{SigId}
+use Rattle.sig_kernel.specs.Validity.{IsValid, form_within, is_below}
+use Rattle.sig_kernel.specs.declared.equation.Equation.{Equation}
+use Rattle.sig_kernel.specs.declared.equation.Form.{Form}
+use Rattle.sig_kernel.specs.declared.equation.Form.TheVariants.{Fun, Delay, When, WhenConst, Default, Sync, Event}
+use Rattle.sig_kernel.specs.declared.kernel.Kernel.{Kernel}
+use Rattle.sig_clock.specs.SameClocks.{AreLeast}
+use Rattle.sig_clock.proofs.Lists.{contains_at, contains_none}
+use Rattle.sig_rel.specs.Relations.{is_boolean}
+use Rattle.sig_rel.specs.Schedules.{AreNamed, HasPlace, IsOrderOfWriting, IsPlannedStep, IsSchedule, IsScheduling, IsStepBy, IsTaken, IsWhole, MayBeWritten, ReadsBefore, is_left, is_left_truth, with_counted, with_defined}
+use Rattle.sig_rel.specs.Systems.{AreConditions}
+use Rattle.sig_rel.specs.Tables.{AreMarks, IsFreshWithin, IsMarkedWithin, boolean_ready, counted_for, defined_for, governs, has_class, has_truth_of, may_hold, presence_ready, truth_ready, truth_ready_at}
+use Rattle.sig_rel.specs.Triangles.{Governs, HasClasses, HasTruths, IsClass, form_at, operand_signals, tested}
+use Rattle.sig_rel.specs.declared.elements.Element.{Element}
+use Rattle.sig_rel.specs.declared.elements.Element.TheVariants.{Presence, Truth}
+use Rattle.sig_rel.specs.declared.placing.Placed.{Placed}
+use Rattle.sig_rel.specs.declared.rules.Rules.{Rules}
+use Rattle.sig_rel.specs.declared.schedules.Schedule.{Schedule}
+use Rattle.sig_rel.specs.declared.schedules.Scheduling.{Scheduling}
+use Rattle.sig_rel.specs.declared.schedules.Step.{Step}
+use Rattle.sig_rel.proofs.ClassLemmas.{least_own, least_within}
+use Rattle.sig_rel.proofs.OnceDefined.{within_at}
+use Rattle.sig_rel.proofs.PlacingLemmas.{among_more, apart_kinds, both_said, got_more, marks_more, presence_is, presence_says, truth_is, truth_says}
+use Rattle.sig_rel.proofs.RuleLemmas.{are_rules, governs_true}
+use Rattle.sig_rel.proofs.UnknownLemmas.{boolean_within}
+
+-- ---- rows of tables
+
+pub set_same : {X : Type 0} (xs : List X) (i : ℕ) (y : X) → i < length xs → slice_get (slice_set xs i y) i ≡ Some y
+set_same [] i y lt = absurd (omega (arith, lt))
+set_same (x ∷ xs) zero y lt = refl
+set_same (x ∷ xs) (suc i) y lt = set_same xs i y (omega (arith, lt))
+
+pub set_other : {X : Type 0} (xs : List X) (i k : ℕ) (y : X) → (k ≡ i → ⊥) → slice_get (slice_set xs i y) k ≡ slice_get xs k
+set_other [] i k y apart = refl
+set_other (x ∷ xs) zero zero y apart = absurd (apart refl)
+set_other (x ∷ xs) zero (suc k) y apart = refl
+set_other (x ∷ xs) (suc i) zero y apart = refl
+set_other (x ∷ xs) (suc i) (suc k) y apart = set_other xs i k y (λ e. apart (ap suc e))
+
+none_named : (n k number : ℕ) → slice_get (replicate n (let o : Option ℕ = None in o)) k ≡ Some (Some number) → ⊥
+none_named zero k number at = let no : None ≡ Some (Some number) = at in cc
+none_named (suc n) zero number at = let none : Option ℕ = None in let no : Some none ≡ Some (Some number) = at in cc
+none_named (suc n) (suc k) number at = none_named n k number at
+
+-- the table of classes with one more row
+counted_other : (counted : List (Option ℕ)) (element : Element) (equation : Option ℕ) (class : ℕ) → (element ≡ Presence class → ⊥) → slice_get (with_counted counted element equation) class ≡ slice_get counted class
+counted_other counted (Presence c) equation class apart = set_other counted c class equation (λ e. apart (ap Presence (sym e)))
+counted_other counted (Truth s) equation class apart = refl
+
+counted_length : (counted : List (Option ℕ)) (element : Element) (equation : Option ℕ) → length (with_counted counted element equation) ≡ length counted
+counted_length counted (Presence c) equation = length-set counted c equation
+counted_length counted (Truth s) equation = refl
+
+defined_other : (defined : List (Option ℕ)) (element : Element) (equation : Option ℕ) (signal : ℕ) → (element ≡ Truth signal → ⊥) → slice_get (with_defined defined element equation) signal ≡ slice_get defined signal
+defined_other defined (Presence c) equation signal apart = refl
+defined_other defined (Truth s) equation signal apart = set_other defined s signal equation (λ e. apart (ap Truth (sym e)))
+
+defined_length : (defined : List (Option ℕ)) (element : Element) (equation : Option ℕ) → length (with_defined defined element equation) ≡ length defined
+defined_length defined (Presence c) equation = refl
+defined_length defined (Truth s) equation = length-set defined s equation
+
+same_element : (element other : Element) → (element ≡ other) ⊎ (element ≡ other → ⊥)
+same_element (Presence a) (Presence b) = elim (cases_eq a b) [ inl e ↦ inl (ap Presence e) | inr apart ↦ inr (λ e. apart (presence_is a b e)) ]
+same_element (Presence a) (Truth b) = inr (λ e. apart_kinds a b e)
+same_element (Truth a) (Presence b) = inr (λ e. apart_kinds b a (sym e))
+same_element (Truth a) (Truth b) = elim (cases_eq a b) [ inl e ↦ inl (ap Truth e) | inr apart ↦ inr (λ e. apart (truth_is a b e)) ]
+
+one_form_at : (kernel : Kernel) (m n : ℕ) (f g : Form) → m ≡ n → form_at kernel m ≡ Some f → form_at kernel n ≡ Some g → f ≡ g
+one_form_at kernel m n f g same at there = let both : Some f ≡ Some g = sym at ∙ ap (form_at kernel) same ∙ there in cc
+
+row_number : (row : Option (Option ℕ)) (m n : ℕ) → row ≡ Some (Some m) → row ≡ Some (Some n) → m ≡ n
+row_number row m n first second = let both : Some (Some m) ≡ Some (Some n) = sym first ∙ second in cc
+
+-- ---- classes that equations govern
+
+pub governed_is_class : (kernel : Kernel) (valid : IsValid kernel) (least : List ℕ) (are_least : AreLeast kernel least) (class number : ℕ) (equation : Equation) → slice_get kernel.equations number ≡ Some equation → Governs least class equation.form → IsClass kernel least class
+governed_is_class kernel valid least are_least class number equation at governs_it = by equation.form (within_at kernel valid number equation at) governs_it where
+  of_target : (y : ℕ) → y < length kernel.signals → get_or least y 0 ≡ class → IsClass kernel least class
+  of_target y lt is = subst (IsClass kernel least) is (least_within kernel least are_least y lt, least_own kernel least are_least y lt)
+
+  by : (form : Form) → form_within (length kernel.signals) form ≡ true → Governs least class form → IsClass kernel least class
+  by (Fun y op operands) within governs_it = absurd governs_it
+  by (Delay y x c) within governs_it = absurd governs_it
+  by (When y x b) within governs_it = of_target y.0 (ltb-true y.0 (length kernel.signals) (and_parts (is_below (length kernel.signals) y) _ within).0) governs_it
+  by (WhenConst y c b) within governs_it = of_target y.0 (ltb-true y.0 (length kernel.signals) (and_parts (is_below (length kernel.signals) y) _ within).0) governs_it
+  by (Default y u v) within governs_it = of_target y.0 (ltb-true y.0 (length kernel.signals) (and_parts (is_below (length kernel.signals) y) _ within).0) governs_it
+  by (Sync x y) within governs_it = absurd governs_it
+  by (Event y x) within governs_it = absurd governs_it
+
+pub named_class : (kernel : Kernel) (valid : IsValid kernel) (rules : Rules) (named : AreNamed kernel rules) (class number : ℕ) → slice_get rules.counted.items class ≡ Some (Some number) → IsClass kernel rules.least.items class
+named_class kernel valid rules named class number at = let is = named.presence class number at in by is.0 is.1 is.2 (slice_get kernel.equations number) refl where
+  by : (form : Form) → form_at kernel number ≡ Some form → Governs rules.least.items class form → (o : Option Equation) → slice_get kernel.equations number ≡ o → IsClass kernel rules.least.items class
+  by form there governs_it None e = absurd (let no : None ≡ Some form = sym (ap (option_map (λ (x : Equation). x.form)) e) ∙ there in cc)
+  by form there governs_it (Some equation) e =
+      let both : Some equation.form ≡ Some form = sym (ap (option_map (λ (x : Equation). x.form)) e) ∙ there in
+      let same : form ≡ equation.form = cc in
+      governed_is_class kernel valid rules.least.items named.are_least class number equation e (subst (Governs rules.least.items class) same governs_it)
+
+-- ---- nothing is scheduled at first
+
+pub named_first : (kernel : Kernel) (valid : IsValid kernel) (conditions : List SigId) (are : AreConditions kernel conditions) (rules : Rules) → AreLeast kernel rules.least.items
+    → rules.counted.items ≡ replicate (length kernel.signals) None → rules.defined.items ≡ map (defined_for kernel conditions) (range_with_len 0 (length kernel.signals)) → AreNamed kernel rules
+named_first kernel valid conditions are rules are_least none defined_are =
+    let full = are_rules kernel valid rules.least.items conditions are (map (counted_for kernel rules.least.items) (range_with_len 0 (length kernel.signals))) rules.defined.items are_least refl defined_are in
+    record {
+      are_least = are_least;
+      countings = ap length none ∙ length-replicate (length kernel.signals) None;
+      definitions = full.definitions;
+      presence = λ class number at. absurd (none_named (length kernel.signals) class number (ap (λ xs. slice_get xs class) (sym none) ∙ at));
+      truth = full.is_defined;
+    }
+
+pub nothing_scheduled : (kernel : Kernel) (scheduling : Scheduling) → AreNamed kernel scheduling.rules → scheduling.placed.list.items ≡ [] → AreMarks (length kernel.signals) scheduling.placed → IsScheduling kernel scheduling
+nothing_scheduled kernel scheduling named empty marks = record {
+  order = subst (IsOrderOfWriting kernel scheduling.rules) (sym empty) (record {
+    named = named;
+    classes = λ class there. absurd (contains_none (Presence class) there);
+    truths = λ signal there. absurd (contains_none (Truth signal) there);
+    once = λ i j element at there. absurd (contains_none element (contains_at [] i element at));
+    order = λ k element at. absurd (contains_none element (contains_at [] k element at));
+  });
+  marks = marks;
+}
+
+-- ---- one more step
+
+not_yet : (n : ℕ) (placed : Placed) (marks : AreMarks n placed) (element : Element) → IsFreshWithin placed element → Contains placed.list.items element → ⊥
+not_yet n placed marks (Presence class) fresh there = false≢true (sym fresh.1 ∙ (marks.classes class).1 there)
+not_yet n placed marks (Truth signal) fresh there = false≢true (sym fresh.1 ∙ (marks.truths signal).1 there)
+
+marked_within : (n : ℕ) (placed : Placed) (marks : AreMarks n placed) (element : Element) → IsFreshWithin placed element → IsMarkedWithin n element
+marked_within n placed marks (Presence class) fresh = let e = marks.class_count in let lt = fresh.0 in omega arith
+marked_within n placed marks (Truth signal) fresh = let e = marks.truth_count in let lt = fresh.0 in omega arith
+
+step_class : (kernel : Kernel) (rules : Rules) (before : List Element) (class : ℕ) (equation : Option ℕ) → IsStepBy kernel rules before (Presence class) equation → IsClass kernel rules.least.items class
+step_class kernel rules before class None is = is
+step_class kernel rules before class (Some number) is = is.0
+
+step_truth : (kernel : Kernel) (rules : Rules) (before : List Element) (signal : ℕ) (equation : Option ℕ) → IsStepBy kernel rules before (Truth signal) equation → is_boolean kernel signal ≡ true
+step_truth kernel rules before signal None is = is
+step_truth kernel rules before signal (Some number) is = is.0
+
+module _ (kernel : Kernel) (old new : Scheduling) (step : Step) (is : IsScheduling kernel old) (planned : IsPlannedStep kernel old step) (taken : IsTaken old new step) where
+  abbrev list : List Element
+  list = old.placed.list.items
+
+  least_kept : old.rules.least.items ≡ new.rules.least.items
+  least_kept = ap (λ v. v.items) (sym taken.least)
+
+  fresh_in_list : Contains list step.element → ⊥
+  fresh_in_list there = not_yet (length kernel.signals) old.placed is.marks step.element planned.fresh there
+
+  counted_row : (class : ℕ) → (step.element ≡ Presence class → ⊥) → slice_get new.rules.counted.items class ≡ slice_get old.rules.counted.items class
+  counted_row class apart = ap (λ xs. slice_get xs class) taken.counted ∙ counted_other old.rules.counted.items step.element step.equation class apart
+
+  defined_row : (signal : ℕ) → (step.element ≡ Truth signal → ⊥) → slice_get new.rules.defined.items signal ≡ slice_get old.rules.defined.items signal
+  defined_row signal apart = ap (λ xs. slice_get xs signal) taken.defined ∙ defined_other old.rules.defined.items step.element step.equation signal apart
+
+  class_within : (class : ℕ) → step.element ≡ Presence class → class < length old.rules.counted.items
+  class_within class same =
+      let here = marked_within (length kernel.signals) old.placed is.marks step.element planned.fresh in
+      let lt : class < length kernel.signals = subst (IsMarkedWithin (length kernel.signals)) same here in
+      let long = is.order.named.countings in
+      omega (arith, lt, long)
+
+  truth_within : (signal : ℕ) → step.element ≡ Truth signal → signal < length old.rules.defined.items
+  truth_within signal same =
+      let here = marked_within (length kernel.signals) old.placed is.marks step.element planned.fresh in
+      let lt : signal < length kernel.signals = subst (IsMarkedWithin (length kernel.signals)) same here in
+      let long = is.order.named.definitions in
+      omega (arith, lt, long)
+
+  counted_here : (class : ℕ) → step.element ≡ Presence class → slice_get new.rules.counted.items class ≡ Some step.equation
+  counted_here class same = ap (λ xs. slice_get xs class) taken.counted ∙ ap (λ e. slice_get (with_counted old.rules.counted.items e step.equation) class) same ∙ set_same old.rules.counted.items class step.equation (class_within class same)
+
+  defined_here : (signal : ℕ) → step.element ≡ Truth signal → slice_get new.rules.defined.items signal ≡ Some step.equation
+  defined_here signal same = ap (λ xs. slice_get xs signal) taken.defined ∙ ap (λ e. slice_get (with_defined old.rules.defined.items e step.equation) signal) same ∙ set_same old.rules.defined.items signal step.equation (truth_within signal same)
+
+  -- what the step's equation is
+  step_by : (element : Element) (equation : Option ℕ) → step.element ≡ element → step.equation ≡ equation → IsStepBy kernel old.rules list element equation
+  step_by element equation same here = subst (λ e. IsStepBy kernel old.rules list e equation) same (subst (λ o. IsStepBy kernel old.rules list step.element o) here planned.by)
+
+  given_here : (entry : Option (Option ℕ)) (number : ℕ) → entry ≡ Some step.equation → entry ≡ Some (Some number) → step.equation ≡ Some number
+  given_here entry number first second = let both : Some step.equation ≡ Some (Some number) = sym first ∙ second in cc
+
+  named_more : AreNamed kernel new.rules
+  named_more = record {
+    are_least = subst (AreLeast kernel) least_kept is.order.named.are_least;
+    countings = ap length taken.counted ∙ counted_length old.rules.counted.items step.element step.equation ∙ is.order.named.countings;
+    definitions = ap length taken.defined ∙ defined_length old.rules.defined.items step.element step.equation ∙ is.order.named.definitions;
+    presence = λ class number at. elim (same_element step.element (Presence class)) [
+      | inr apart ↦ let named = is.order.named.presence class number (sym (counted_row class apart) ∙ at) in (named.0, named.1, subst (λ least. Governs least class named.0) least_kept named.2)
+      | inl same ↦
+          let by = step_by (Presence class) (Some number) same (given_here (slice_get new.rules.counted.items class) number (counted_here class same) at) in
+          (by.1.0, by.1.1, subst (λ least. Governs least class by.1.0) least_kept by.1.2)
+    ];
+    truth = λ signal number at. elim (same_element step.element (Truth signal)) [
+      | inr apart ↦ is.order.named.truth signal number (sym (defined_row signal apart) ∙ at)
+      | inl same ↦
+          let by = step_by (Truth signal) (Some number) same (given_here (slice_get new.rules.defined.items signal) number (defined_here signal same) at) in
+          is.order.named.truth signal number by.1
+    ];
+  }
+
+  -- an element that was scheduled earlier reads what it read
+  reads_kept : (before : List Element) (element : Element) → (step.element ≡ element → ⊥) → ReadsBefore kernel old.rules before element → ReadsBefore kernel new.rules before element
+  reads_kept before (Presence class) apart reads = λ number form at there.
+      let has = reads number form (sym (counted_row class apart) ∙ at) there in
+      (subst (λ least. HasClasses least before (operand_signals form)) least_kept has.0, has.1)
+  reads_kept before (Truth signal) apart reads = λ number form at there.
+      let has = reads number form (sym (defined_row signal apart) ∙ at) there in
+      (subst (λ least. HasClasses least before (operand_signals form)) least_kept has.0, has.1)
+
+  reads_here : (element : Element) → step.element ≡ element → ReadsBefore kernel new.rules list element
+  reads_here (Presence class) same = λ number form at there.
+      let by = step_by (Presence class) (Some number) same (given_here (slice_get new.rules.counted.items class) number (counted_here class same) at) in
+      let e = one_form_at kernel number number by.1.0 form refl by.1.1 there in
+      (subst (λ least. HasClasses least list (operand_signals form)) least_kept (subst (λ f. HasClasses old.rules.least.items list (operand_signals f)) e by.1.3), subst (λ f. HasTruths kernel list (tested f)) e by.1.4)
+  reads_here (Truth signal) same = λ number form at there.
+      let by = step_by (Truth signal) (Some number) same (given_here (slice_get new.rules.defined.items signal) number (defined_here signal same) at) in
+      let has = by.2 form there in
+      (subst (λ least. HasClasses least list (operand_signals form)) least_kept has.0, has.1)
+
+  order_more : IsOrderOfWriting kernel new.rules (list ++ step.element ∷ [])
+  order_more = record {
+    named = named_more;
+    classes = λ class there. subst (λ least. IsClass kernel least class) least_kept (elim (among_more list step.element (Presence class) there) [
+      | inl earlier ↦ is.order.classes class earlier
+      | inr same ↦ step_class kernel old.rules list class step.equation (step_by (Presence class) step.equation (sym same) refl)
+    ]);
+    truths = λ signal there. elim (among_more list step.element (Truth signal) there) [
+      | inl earlier ↦ is.order.truths signal earlier
+      | inr same ↦ step_truth kernel old.rules list signal step.equation (step_by (Truth signal) step.equation (sym same) refl)
+    ];
+    once = λ i j e at there. elim (got_more list step.element i e at) [
+      | inl a ↦ elim (got_more list step.element j e there) [
+        | inl b ↦ is.order.once i j e a.1 b.1
+        | inr b ↦ absurd (fresh_in_list (subst (Contains list) b.1 (contains_at list i e a.1)))
+      ]
+      | inr a ↦ elim (got_more list step.element j e there) [
+        | inl b ↦ absurd (fresh_in_list (subst (Contains list) a.1 (contains_at list j e b.1)))
+        | inr b ↦ a.0 ∙ sym b.0
+      ]
+    ];
+    order = λ k e at. elim (got_more list step.element k e at) [
+      | inl a ↦ subst (λ before. ReadsBefore kernel new.rules before e) (sym (take-append-le k list (step.element ∷ []) (let lt = a.0 in omega arith)))
+          (reads_kept (take k list) e (λ same. fresh_in_list (subst (Contains list) (sym same) (contains_at list k e a.1))) (is.order.order k e a.1))
+      | inr a ↦ subst (λ before. ReadsBefore kernel new.rules before e)
+          (sym (take-append-le k list (step.element ∷ []) (let same = a.0 in omega arith) ∙ take_all k list (let same = a.0 in omega arith)))
+          (reads_here e (sym a.1))
+    ];
+  }
+
+  pub scheduling_more : IsScheduling kernel new
+  scheduling_more = record {
+    order = subst (IsOrderOfWriting kernel new.rules) (sym taken.list) order_more;
+    marks = marks_more (length kernel.signals) old.placed new.placed step.element is.marks (marked_within (length kernel.signals) old.placed is.marks step.element planned.fresh) taken.list taken.classes taken.truths;
+  }
+
+-- the tables have a row for a step
+pub planned_place : (kernel : Kernel) (scheduling : Scheduling) (step : Step) → IsScheduling kernel scheduling → IsPlannedStep kernel scheduling step → HasPlace scheduling step.element
+planned_place kernel scheduling step is planned = by step.element planned.fresh where
+  by : (element : Element) → IsFreshWithin scheduling.placed element → HasPlace scheduling element
+  by (Presence class) fresh = (let lt = fresh.0 in let count = is.marks.class_count in let long = is.order.named.countings in omega arith, fresh.0)
+  by (Truth signal) fresh = (let lt = fresh.0 in let count = is.marks.truth_count in let long = is.order.named.definitions in omega arith, fresh.0)
+
+-- ---- what may be next
+
+module _ (kernel : Kernel) (valid : IsValid kernel) (scheduling : Scheduling) (is : IsScheduling kernel scheduling) where
+  abbrev least : List ℕ
+  least = scheduling.rules.least.items
+
+  abbrev placed : Placed
+  placed = scheduling.placed
+
+  left_parts : (class : ℕ) → is_left least placed class ≡ true → (slice_index least class ≡ class) × (slice_index_or placed.classes.items class false ≡ false)
+  left_parts class left =
+      let parts = and_parts (slice_index least class == class) (not (slice_index_or placed.classes.items class false)) left in
+      (eqb-true (slice_index least class) class parts.0, not-true (slice_index_or placed.classes.items class false) parts.1)
+
+  left_fresh : (class : ℕ) → class < length kernel.signals → is_left least placed class ≡ true → IsFreshWithin placed (Presence class)
+  left_fresh class lt left = (let e = is.marks.class_count in omega arith, (left_parts class left).1)
+
+  left_truth_parts : (signal : ℕ) → is_left_truth kernel least placed signal ≡ true → (is_boolean kernel signal ≡ true) × (slice_index_or placed.truths.items signal false ≡ false)
+  left_truth_parts signal left =
+      let parts = and_parts (is_boolean kernel signal && has_class least placed signal) (not (has_truth_of kernel placed signal)) left in
+      let first = and_parts (is_boolean kernel signal) (has_class least placed signal) parts.0 in
+      (first.0, by (slice_index_or placed.truths.items signal false) refl (not-true (has_truth_of kernel placed signal) parts.1)) where
+        by : (b : Bool) → slice_index_or placed.truths.items signal false ≡ b → has_truth_of kernel placed signal ≡ false → slice_index_or placed.truths.items signal false ≡ false
+        by false e missing = e
+        by true e missing = absurd (false≢true (sym missing ∙ or_right (not (is_boolean kernel signal)) (slice_index_or placed.truths.items signal false) e))
+
+  pub planned_class_cut : (step : Step) (class : ℕ) → step.element ≡ Presence class → step.equation ≡ None → class < length kernel.signals → is_left least placed class ≡ true → IsPlannedStep kernel scheduling step
+  planned_class_cut step class element equation lt left = record {
+    fresh = subst (IsFreshWithin placed) (sym element) (left_fresh class lt left);
+    by = subst (λ e. IsStepBy kernel scheduling.rules placed.list.items e step.equation) (sym element) (subst (λ o. IsStepBy kernel scheduling.rules placed.list.items (Presence class) o) (sym equation) (lt, (left_parts class left).0));
+  }
+
+  pub planned_truth_cut : (step : Step) (signal : ℕ) → step.element ≡ Truth signal → step.equation ≡ None → signal < length kernel.signals → is_left_truth kernel least placed signal ≡ true → IsPlannedStep kernel scheduling step
+  planned_truth_cut step signal element equation lt left =
+      let parts = left_truth_parts signal left in
+      record {
+        fresh = subst (IsFreshWithin placed) (sym element) (let e = is.marks.truth_count in omega arith, parts.1);
+        by = subst (λ e. IsStepBy kernel scheduling.rules placed.list.items e step.equation) (sym element) (subst (λ o. IsStepBy kernel scheduling.rules placed.list.items (Truth signal) o) (sym equation) parts.0);
+      }
+
+  -- the class that an equation may write
+  pub written_is_class : (class number : ℕ) (equation : Equation) → slice_get kernel.equations number ≡ Some equation → MayBeWritten kernel scheduling equation.form class → IsClass kernel least class
+  written_is_class class number equation at may =
+      let parts = and_parts (governs least class equation.form) (presence_ready kernel least placed equation.form) may.1 in
+      governed_is_class kernel valid least is.order.named.are_least class number equation at (governs_true least class equation.form parts.0)
+
+  pub planned_class : (step : Step) (class number : ℕ) (equation : Equation) → step.element ≡ Presence class → step.equation ≡ Some number → slice_get kernel.equations number ≡ Some equation → MayBeWritten kernel scheduling equation.form class
+      → IsPlannedStep kernel scheduling step
+  planned_class step class number equation element here at may =
+      let parts = and_parts (governs least class equation.form) (presence_ready kernel least placed equation.form) may.1 in
+      let governs_it = governs_true least class equation.form parts.0 in
+      let class_is = governed_is_class kernel valid least is.order.named.are_least class number equation at governs_it in
+      let says = presence_says kernel least placed is.marks class equation.form governs_it parts.1 in
+      record {
+        fresh = subst (IsFreshWithin placed) (sym element) (left_fresh class class_is.0 may.0);
+        by = subst (λ e. IsStepBy kernel scheduling.rules placed.list.items e step.equation) (sym element) (subst (λ o. IsStepBy kernel scheduling.rules placed.list.items (Presence class) o) (sym here)
+            (class_is, (equation.form, ap (option_map (λ (e : Equation). e.form)) at, governs_it, says.0, says.1)));
+      }
+
+  ready_form : (number : ℕ) (form : Form) → form_at kernel number ≡ Some form → (o : Option Equation) → slice_get kernel.equations number ≡ o → truth_ready_at kernel least placed o ≡ true → truth_ready kernel least placed form ≡ true
+  ready_form number form at None there ready = absurd (false≢true ready)
+  ready_form number form at (Some equation) there ready =
+      let both : Some equation.form ≡ Some form = sym (ap (option_map (λ (e : Equation). e.form)) there) ∙ at in
+      let same : equation.form ≡ form = cc in
+      subst (λ f. truth_ready kernel least placed f ≡ true) same ready
+
+  pub planned_truth : (step : Step) (signal : ℕ) → step.element ≡ Truth signal → step.equation ≡ slice_index_or scheduling.rules.defined.items signal None → may_hold kernel scheduling.rules placed signal ≡ true → IsPlannedStep kernel scheduling step
+  planned_truth step signal element here may =
+      let parts = and_parts (is_boolean kernel signal && not (slice_index_or placed.truths.items signal false)) (has_class least placed signal && boolean_ready kernel least placed (slice_get scheduling.rules.defined.items signal)) may in
+      let first = and_parts (is_boolean kernel signal) (not (slice_index_or placed.truths.items signal false)) parts.0 in
+      let second = and_parts (has_class least placed signal) (boolean_ready kernel least placed (slice_get scheduling.rules.defined.items signal)) parts.1 in
+      record {
+        fresh = subst (IsFreshWithin placed) (sym element) (let lt = boolean_within kernel signal first.0 in let e = is.marks.truth_count in omega (arith, lt, e), not-true (slice_index_or placed.truths.items signal false) first.1);
+        by = subst (λ e. IsStepBy kernel scheduling.rules placed.list.items e step.equation) (sym element) (subst (λ o. IsStepBy kernel scheduling.rules placed.list.items (Truth signal) o) (sym here)
+            (by (slice_get scheduling.rules.defined.items signal) refl first.0 second.1));
+      } where
+        by : (o : Option (Option ℕ)) → slice_get scheduling.rules.defined.items signal ≡ o → is_boolean kernel signal ≡ true → boolean_ready kernel least placed (slice_get scheduling.rules.defined.items signal) ≡ true
+            → IsStepBy kernel scheduling.rules placed.list.items (Truth signal) (slice_index_or scheduling.rules.defined.items signal None)
+        by None there boolean ready = absurd (false≢true (sym (ap (boolean_ready kernel least placed) there) ∙ ready))
+        by (Some None) there boolean ready =
+            subst (λ o. IsStepBy kernel scheduling.rules placed.list.items (Truth signal) o) (sym (get_or_from_slice_get scheduling.rules.defined.items signal None None there)) boolean
+        by (Some (Some number)) there boolean ready =
+            subst (λ o. IsStepBy kernel scheduling.rules placed.list.items (Truth signal) o) (sym (get_or_from_slice_get scheduling.rules.defined.items signal (Some number) None there)) (
+              boolean,
+              there,
+              λ form at.
+                  let form_ready = ready_form number form at (slice_get kernel.equations number) refl (sym (ap (boolean_ready kernel least placed) there) ∙ ready) in
+                  ((λ z among. (both_said kernel least placed is.marks form form_ready z among).0), (λ z among. (both_said kernel least placed is.marks form form_ready z among).1)),
+            )
+
+  -- ---- nothing is left
+
+  pub nothing_left : ((class : ℕ) → class < length kernel.signals → is_left least placed class ≡ false) → ((signal : ℕ) → signal < length kernel.signals → is_left_truth kernel least placed signal ≡ false) → IsWhole kernel scheduling
+  nothing_left no_class no_truth = record { classes = class_there; truths = truth_there } where
+    class_marked : (class : ℕ) → IsClass kernel least class → slice_index_or placed.classes.items class false ≡ true
+    class_marked class of = by (slice_index_or placed.classes.items class false) refl where
+      by : (b : Bool) → slice_index_or placed.classes.items class false ≡ b → slice_index_or placed.classes.items class false ≡ true
+      by true e = e
+      by false e = absurd (false≢true (sym (no_class class of.0) ∙ and_from (slice_index least class == class) (not (slice_index_or placed.classes.items class false)) (eq-eqb (slice_index least class) class of.1) (ap not e)))
+
+    class_there : (class : ℕ) → IsClass kernel least class → Contains placed.list.items (Presence class)
+    class_there class of = (is.marks.classes class).0 (class_marked class of)
+
+    truth_there : (signal : ℕ) → is_boolean kernel signal ≡ true → Contains placed.list.items (Truth signal)
+    truth_there signal boolean = by (has_truth_of kernel placed signal) refl where
+      lt : signal < length kernel.signals
+      lt = boolean_within kernel signal boolean
+
+      own : has_class least placed signal ≡ true
+      own = class_marked (get_or least signal 0) (least_within kernel least is.order.named.are_least signal lt, least_own kernel least is.order.named.are_least signal lt)
+
+      by : (b : Bool) → has_truth_of kernel placed signal ≡ b → Contains placed.list.items (Truth signal)
+      by true e = truth_says kernel least placed is.marks signal e boolean
+      by false e = absurd (false≢true (sym (no_truth signal lt)
+          ∙ and_from (is_boolean kernel signal && has_class least placed signal) (not (has_truth_of kernel placed signal)) (and_from (is_boolean kernel signal) (has_class least placed signal) boolean own) (ap not e)))
+
+pub whole_schedule : (kernel : Kernel) (scheduling : Scheduling) (schedule : Schedule) → IsScheduling kernel scheduling → IsWhole kernel scheduling → schedule.rules ≡ scheduling.rules → schedule.list ≡ scheduling.placed.list → IsSchedule kernel schedule
+whole_schedule kernel scheduling schedule is whole rules list = record {
+  order = subst (λ r. IsOrderOfWriting kernel r schedule.list.items) (sym rules) (subst (λ l. IsOrderOfWriting kernel scheduling.rules l.items) (sym list) is.order);
+  all_classes = λ class of. subst (λ l. Contains l.items (Presence class)) (sym list) (whole.classes class (subst (λ r. IsClass kernel r.least.items class) rules of));
+  all_truths = λ signal boolean. subst (λ l. Contains l.items (Truth signal)) (sym list) (whole.truths signal boolean);
+}

@@ -1,0 +1,5 @@
+use Rattle.std.specs.Prelude.{⊤}
+use Rattle.sig_rel.proofs.schedules.Scheduling.next_class.Given as goal
+
+abbrev pub invariant-loop-number : goal.invariant-loop-number
+invariant-loop-number l = ⊤

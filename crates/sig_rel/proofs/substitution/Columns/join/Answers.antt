@@ -1,0 +1,26 @@
+use Rattle.std.proofs.Common.{[], ◌∷◌, ◌&&◌, ◌∙◌}
+use Rattle.std.proofs.lemmas.Result.{IfOk-weaker}
+use Rattle.sig_dd.specs.Shares.{SpanAll}
+use Rattle.sig_dd.proofs.CallerLemmas.{Spans-kept}
+use Rattle.sig_rel.specs.Statuses.{itself}
+use Rattle.sig_rel.specs.Substitutions.{SpanColumns}
+use Rattle.sig_rel.proofs.Makings.{made_two, makes_then}
+use Rattle.sig_rel.proofs.Staying.{test_kept}
+use Rattle.sig_rel.proofs.substitution.Columns.join.Goals as goal
+
+pub returns-clause-made : goal.returns-clause-made
+returns-clause-made c =
+    let r = c.args.store.now in
+    let s = c.meets.new.store in
+    let t = c.conj.new.self in
+    let u = c.args.self.now in
+    let w = c.args.whole in
+    let m = c.in_ok-met.met in
+    let second = made_two s t c.conj.ensures.store c.conj.ensures.kept c.conj.result (λ p q. p && q) w m c.conj.ensures.value c.conj.ensures.spends in
+    makes_then 10 1 (λ vs. SpanColumns r.nodes u vs × SpanAll r.nodes (itself w) vs) (SpanColumns r.nodes u) (SpanAll s.nodes (w ∷ m ∷ [])) r s t itself itself m c.conj.result
+    c.in_ok-met.ensures.made second (λ vs wide. wide.0) (λ vs wide spans. (Spans-kept r s c.in_ok-met.ensures.made.kept w c.requires.whole vs wide.1.0, spans))
+
+pub returns-clause-value : goal.returns-clause-value
+returns-clause-value c =
+    IfOk-weaker c.conj.result _ _ (λ h is truths.
+    is.function truths ∙ (λ j. test_kept c.args.store.now c.meets.new.store c.in_ok-met.ensures.made.kept c.args.whole c.requires.whole truths j && c.in_ok-met.ensures.value truths j)) c.conj.ensures.value

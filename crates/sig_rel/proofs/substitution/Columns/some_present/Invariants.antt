@@ -1,0 +1,13 @@
+use Rattle.std.proofs.Common.{Ok}
+use Rattle.sig_rel.specs.Residues.{IsSomePresent}
+use Rattle.sig_rel.specs.Shares.{Makes}
+use Rattle.sig_rel.specs.Statuses.{itself}
+use Rattle.sig_rel.specs.Substitutions.{SpanColumns}
+use Rattle.sig_rel.proofs.OwnLemmas.{classes_from}
+use Rattle.sig_rel.proofs.substitution.Columns.some_present.Given as goal
+
+abbrev pub invariant-loop-class : goal.invariant-loop-class
+invariant-loop-class l = record {
+  made : Makes (classes_from l.least l.class) (SpanColumns l.initial.store.nodes l.self) l.initial.store l.store itself (Ok l.some);
+  value : IsSomePresent l.initial.store.nodes l.store.nodes l.least l.self l.class l.some;
+}

@@ -1,0 +1,210 @@
+//! The order in which the clocks of a kernel are written, each behind what it is written from.
+
+ghost use Rattle.std.specs.Prelude.{◌≡◌, None, slice_index_or, IfOk, IfSome, MatchOption, OnOk};
+ghost use Rattle.sig_kernel.specs.Validity.{IsValid};
+ghost use Rattle.sig_rel.specs.Schedules.{HasPlace, IsPlannedStep, IsSchedule, IsScheduling, IsTaken, IsWhole, MayBeWritten, is_left, is_left_truth};
+ghost use Rattle.sig_rel.specs.Systems.{AreConditions};
+
+use crate::elements::Element;
+use crate::numbering::is_boolean;
+use crate::placing::Placed;
+use crate::rules::{Rules, defined_rules, is_top, least_of, target_number};
+use sig_base::SigId;
+use sig_clock::ClockBase;
+use sig_kernel::{Form, Kernel};
+use std::alloc::{AllocError, Global};
+
+/// All classes and booleans of a kernel in the order in which they are written, and the equations
+/// that write them. What no equation writes is a cut: it keeps its own variable. So does each
+/// condition.
+#[derive(Drop)]
+pub(crate) struct Schedule {
+    pub(crate) rules: Rules,
+    pub(crate) list: Vec<Element>,
+}
+
+/// An element that may be written next, and the equation that writes it; none for a cut.
+#[derive(Clone, Copy)]
+pub(crate) struct Step {
+    pub(crate) element: Element,
+    pub(crate) equation: Option<u32>,
+}
+
+/// What was scheduled so far.
+#[derive(Drop)]
+pub(crate) struct Scheduling {
+    pub(crate) rules: Rules,
+    pub(crate) placed: Placed,
+}
+
+/// The schedule of a kernel, of which the conditions are given.
+pub(crate) fn schedule_of(
+    alloc: Global,
+    kernel: &Kernel,
+    conditions: &[SigId],
+) -> Result<Schedule, ClockBase>
+    requires valid { IsValid kernel.now }
+    requires conditions { AreConditions kernel.now conditions.now }
+    ensures { IfOk result (IsSchedule kernel.now) }
+{
+    let mut scheduling = Scheduling::none(alloc, kernel, conditions)?;
+    scheduling.cut_tops(kernel)?;
+    scheduling.schedule_all(alloc, kernel)?;
+    Ok(Schedule {
+        rules: scheduling.rules,
+        list: scheduling.placed.list,
+    })
+}
+
+/// A step that no equation makes.
+pub(crate) fn cut(element: Element) -> Step
+    ensures element { result.element ≡ element }
+    ensures equation { result.equation ≡ None }
+{
+    Step {
+        element,
+        equation: None,
+    }
+}
+
+impl Scheduling {
+    /// Nothing is scheduled.
+    fn none(alloc: Global, kernel: &Kernel, conditions: &[SigId]) -> Result<Scheduling, ClockBase>
+        requires valid { IsValid kernel.now }
+        requires conditions { AreConditions kernel.now conditions.now }
+        ensures { IfOk result (IsScheduling kernel.now) }
+    {
+        let rules = defined_rules(alloc, kernel, conditions)?;
+        let placed = Placed::none(alloc, kernel.signals.as_slice().len())?;
+        Ok(Scheduling { rules, placed })
+    }
+
+    /// Cuts the classes that no equation can ever write from other classes.
+    fn cut_tops(&mut self, kernel: &Kernel) -> Result<(), AllocError>
+        requires valid { IsValid kernel.now }
+        requires scheduling { IsScheduling kernel.now self.old }
+        ensures { OnOk result (IsScheduling kernel.now self.new) }
+    {
+        for class in 0..kernel.signals.as_slice().len() {
+            if self.is_left(class) && is_top(kernel, self.rules.least.as_slice(), class) {
+                self.take(cut(Element::Presence(class as u32)))?;
+            }
+        }
+        Ok(())
+    }
+
+    /// Schedules steps until nothing is left.
+    fn schedule_all(&mut self, alloc: Global, kernel: &Kernel) -> Result<(), AllocError>
+        requires valid { IsValid kernel.now }
+        requires scheduling { IsScheduling kernel.now self.old }
+        ensures scheduling { OnOk result (IsScheduling kernel.now self.new) }
+        ensures whole { OnOk result (IsWhole kernel.now self.new) }
+    {
+        while let Some(step) = self.next(alloc, kernel)? {
+            self.take(step)?;
+        }
+        Ok(())
+    }
+
+    /// Schedules a step.
+    fn take(&mut self, step: Step) -> Result<(), AllocError>
+        requires { HasPlace self.old step.element }
+        ensures { OnOk result (IsTaken self.old self.new step) }
+    {
+        match step.element {
+            Element::Presence(class) => self.rules.counted[class as usize] = step.equation,
+            Element::Truth(signal) => self.rules.defined[signal as usize] = step.equation,
+        }
+        self.placed.place(step.element)
+    }
+
+    /// What may be written next: a class or a boolean by an equation, and a cut where there is none
+    /// such. None where nothing is left.
+    fn next(&self, alloc: Global, kernel: &Kernel) -> Result<Option<Step>, AllocError>
+        requires valid { IsValid kernel.now }
+        requires scheduling { IsScheduling kernel.now self.now }
+        ensures { IfOk result (λ step. MatchOption step (IsWhole kernel.now self.now) (IsPlannedStep kernel.now self.now)) }
+    {
+        if let Some(step) = self.next_class(kernel) {
+            return Ok(Some(step));
+        }
+        match self.next_truth(kernel) {
+            Some(step) => Ok(Some(step)),
+            None => self.next_cut(alloc, kernel),
+        }
+    }
+
+    /// The first equation that may write the class of the signal that it defines.
+    fn next_class(&self, kernel: &Kernel) -> Option<Step>
+        requires valid { IsValid kernel.now }
+        requires scheduling { IsScheduling kernel.now self.now }
+        ensures { IfSome result (IsPlannedStep kernel.now self.now) }
+    {
+        let equations = kernel.equations.as_slice();
+        for number in 0..equations.len() {
+            if let Some(class) = self.written_class(kernel, &equations[number].form) {
+                return Some(Step {
+                    element: Element::Presence(class as u32),
+                    equation: Some(number as u32),
+                });
+            }
+        }
+        None
+    }
+
+    /// The class that an equation of this form may write.
+    fn written_class(&self, kernel: &Kernel, form: &Form) -> Option<usize>
+        ensures { IfSome result (MayBeWritten kernel.now self.now form.now) }
+    {
+        let least = self.rules.least.as_slice();
+        let class = least_of(least, target_number(form) as usize);
+        if self.is_left(class) && self.placed.may_write(kernel, least, class, form) {
+            Some(class)
+        } else {
+            None
+        }
+    }
+
+    /// The least boolean whose truth may be written: a condition, or one that its equation gives.
+    fn next_truth(&self, kernel: &Kernel) -> Option<Step>
+        requires valid { IsValid kernel.now }
+        requires scheduling { IsScheduling kernel.now self.now }
+        ensures { IfSome result (IsPlannedStep kernel.now self.now) }
+    {
+        for signal in 0..kernel.signals.as_slice().len() {
+            if self.placed.may_hold(kernel, &self.rules, signal) {
+                return Some(Step {
+                    element: Element::Truth(signal as u32),
+                    equation: self.definition(signal),
+                });
+            }
+        }
+        None
+    }
+
+    /// The equation that gives a boolean its truth.
+    fn definition(&self, signal: usize) -> Option<u32>
+        ensures { result ≡ slice_index_or self.now.rules.defined.items signal None }
+    {
+        match self.rules.defined.get(signal) {
+            Some(number) => *number,
+            None => None,
+        }
+    }
+
+    /// Whether a number is that of a class that was not written.
+    pub(crate) fn is_left(&self, class: usize) -> bool
+        ensures { result ≡ is_left self.now.rules.least.items self.now.placed class }
+    {
+        self.placed.is_left(self.rules.least.as_slice(), class)
+    }
+
+    /// Whether a boolean was not written, but its class was.
+    pub(crate) fn is_left_truth(&self, kernel: &Kernel, signal: usize) -> bool
+        ensures { result ≡ is_left_truth kernel.now self.now.rules.least.items self.now.placed signal }
+    {
+        is_boolean(kernel, signal)
+            && self.placed.has_class(self.rules.least.as_slice(), signal)
+            && !self.placed.has_truth_of(kernel, signal)
+    }
+}

@@ -1,0 +1,113 @@
+-- Lemmas on rounds: where the proposals of known conditions are known, so are the conditions.
+use Rattle.std.proofs.Common.{◌≡◌, ◌≤◌, ◌↔◌, ℕ, Bool, true, false, List, get_or, refl, sym, ap, ◌∙◌, subst, arith, IsTrue}
+use Rattle.std.specs.Prelude.{zero, suc, None, Some, Result, Ok, Err, IfOk, is_some, slice_get}
+use Rattle.std.proofs.lemmas.Bool.{false≢true}
+use Rattle.sig_base.specs.declared.ids.SigId.{SigId}
+use Rattle.sig_clock.specs.ClockFunctions.{Allows}
+use Rattle.sig_clock.specs.Conditions.{is_condition, signal_id}
+use Rattle.sig_clock.specs.Layers.{AgreeOn, EntersBy, IsDetermined}
+use Rattle.sig_clock.specs.Reactions.{Reaction, Status, Speaks, is_present, status_at}
+use Rattle.sig_dd.specs.Diagram.{truth_of}
+use Rattle.sig_dd.specs.Nodes.{Overlap, StoreView}
+use Rattle.sig_dd.specs.declared.answer.DdAnswer.{DdAnswer}
+use Rattle.sig_dd.specs.declared.node.Ref.{Ref}
+use Rattle.sig_rel.specs.Systems.{IsSolution, reading}
+use Rattle.sig_solve.specs.Asked.{ForgetsAllBut, IsAskedIn, IsImage}
+use Rattle.sig_solve.specs.Frames.{IsAmong}
+use Rattle.sig_solve.specs.Rounds.{AreEntered, IsOpenAnswer}
+use Rattle.sig_solve.specs.declared.asked.Asked.{Asked}
+use Rattle.sig_solve.proofs.AskedLemmas.{is_condition_at, kept_known, kept_proposals, moved, number_of, speaks_read, variable_at}
+use Rattle.sig_solve.proofs.RoundLemmas.{enters_later}
+use Rattle.sig_solve.proofs.SystemLemmas.{keeps_at}
+
+module _ (store : StoreView) (asked : Asked) (is : IsAskedIn store asked) where
+  -- two solutions with one proposal for a condition read off one status of it, where they read off one presence
+  module _ (a b : List Bool) (c : ℕ) (is_c : is_condition asked.frame.kernel.now c ≡ true) (present : is_present (reading store.nodes asked.system a) c ≡ is_present (reading store.nodes asked.system b) c)
+      (agree : (i v : ℕ) → slice_get asked.system.conditions i ≡ Some (signal_id c) → slice_get asked.system.proposals i ≡ Some v → truth_of a v ≡ truth_of b v) where
+    by_statuses : (x y : Status) → status_at (reading store.nodes asked.system a) c ≡ x → status_at (reading store.nodes asked.system b) c ≡ y → status_at (reading store.nodes asked.system a) c ≡ status_at (reading store.nodes asked.system b) c
+    by_statuses None None e f = e ∙ sym f
+    by_statuses None (Some y) e f = absurd (false≢true (sym (ap is_some e) ∙ present ∙ ap is_some f))
+    by_statuses (Some x) None e f = absurd (false≢true (sym (ap is_some f) ∙ sym present ∙ ap is_some e))
+    by_statuses (Some x) (Some y) e f =
+        let (i, at) = number_of store asked is c is_c in
+        let own = variable_at store asked is i (signal_id c) at in
+        let v = get_or asked.system.proposals i 0 in
+        let first : Allows (Some x) (truth_of a v) = subst (λ s. Allows s (truth_of a v)) e (keeps_at asked.frame.kernel.now store.nodes asked.system is.is_system a i v (signal_id c) at own) in
+        let second : Allows (Some y) (truth_of b v) = subst (λ s. Allows s (truth_of b v)) f (keeps_at asked.frame.kernel.now store.nodes asked.system is.is_system b i v (signal_id c) at own) in
+        e ∙ ap Some (first ∙ agree i v at own ∙ sym second) ∙ sym f
+
+    pub one_status : status_at (reading store.nodes asked.system a) c ≡ status_at (reading store.nodes asked.system b) c
+    one_status = by_statuses (status_at (reading store.nodes asked.system a) c) (status_at (reading store.nodes asked.system b) c) refl refl
+
+  -- so two solutions with one proposal for the conditions of the first rounds agree on these
+  module _ (a b : List Bool) (solves_a : IsSolution store.nodes asked.system a) (solves_b : IsSolution store.nodes asked.system b) (round : ℕ)
+      (agree : (i v : ℕ) (c : SigId) → slice_get asked.system.conditions i ≡ Some c → slice_get asked.system.proposals i ≡ Some v → EntersBy asked.frame.kernel.now round c.0 → truth_of a v ≡ truth_of b v) where
+    pub closed_rounds : (r : ℕ) → r ≤ round → AgreeOn asked.frame.kernel.now (EntersBy asked.frame.kernel.now r) (reading store.nodes asked.system a) (reading store.nodes asked.system b)
+    closed_rounds zero le c is_c enters = absurd enters
+    closed_rounds (suc r) le c is_c enters =
+        one_status a b c is_c
+        (enters (reading store.nodes asked.system a) (reading store.nodes asked.system b) (speaks_read store asked is a solves_a) (speaks_read store asked is b solves_b) (closed_rounds r (omega (arith, le))))
+        (λ i v at own. agree i v (signal_id c) at own (enters_later asked.frame.kernel.now (suc r) round c le enters))
+
+  -- a reaction that agrees with another one on known conditions, as a solution with the proposals of that one
+  module _ (known : List SigId) (forgotten : List Bool) (but : ForgetsAllBut asked.system known forgotten) (a : List Bool) (r : Reaction) (speaks : Speaks asked.frame.kernel.now r)
+      (agree : AgreeOn asked.frame.kernel.now (IsAmong known) (reading store.nodes asked.system a) r) where
+    own_truths : (ts : List Bool) × IsSolution store.nodes asked.system ts × (reading store.nodes asked.system ts ≡ r)
+    own_truths = is.is_system.complete r speaks
+
+    abbrev own : List Bool
+    own = own_truths.0
+
+    allowed : (i v : ℕ) (c : SigId) → slice_get asked.system.conditions i ≡ Some c → slice_get asked.system.proposals i ≡ Some v → truth_of forgotten v ≡ false → Allows (status_at (reading store.nodes asked.system own_truths.0) c.0) (truth_of a v)
+    allowed i v c at_c at kept =
+        let among = kept_known store asked is known forgotten but i v c at_c at kept in
+        let same = agree c.0 (is_condition_at store asked is i c at_c) among in
+        subst (λ s. Allows s (truth_of a v)) (same ∙ ap (λ x. status_at x c.0) (sym own_truths.2)) (keeps_at asked.frame.kernel.now store.nodes asked.system is.is_system a i v c at_c at)
+
+    pub agreeing : (o : List Bool) × ((v : ℕ) → truth_of forgotten v ≡ false → truth_of a v ≡ truth_of o v) × IsSolution store.nodes asked.system o × (reading store.nodes asked.system o ≡ r)
+    agreeing =
+        let at = moved store asked is forgotten (kept_proposals store asked is known forgotten but) a own_truths.0 own_truths.1 allowed in
+        (at.0, at.1, at.2, at.3 ∙ own_truths.2)
+
+  -- ---- whether known conditions leave a presence open
+
+  module _ (round : ℕ) (known : List SigId) (forgotten : List Bool) (but : ForgetsAllBut asked.system known forgotten) (entered : AreEntered asked.frame.kernel.now round known) (s : ℕ) (with without : Ref)
+      (is_with : IsImage store.nodes asked forgotten (λ r. is_present r s ≡ true) with) (is_without : IsImage store.nodes asked forgotten (λ r. is_present r s ≡ false) without) where
+    -- solutions that agree on what is not forgotten agree on the known conditions
+    known_agree : (a b : List Bool) → IsSolution store.nodes asked.system a → IsSolution store.nodes asked.system b → ((v : ℕ) → truth_of forgotten v ≡ false → truth_of a v ≡ truth_of b v)
+        → AgreeOn asked.frame.kernel.now (IsAmong known) (reading store.nodes asked.system a) (reading store.nodes asked.system b)
+    known_agree a b solves_a solves_b same c is_c among =
+        closed_rounds a b solves_a solves_b round
+        (λ i v d at own enters. same v (but.kept v d ((entered d.0 (is_condition_at store asked is i d at)).1 enters) (i, at, own)))
+        round (omega arith) c is_c ((entered c is_c).0 among)
+
+    overlap_open : Overlap store.nodes with without → IsDetermined asked.frame.kernel.now (IsAmong known) s → ⊥
+    overlap_open (ts, w, o) determined =
+        let a = (is_with.function ts).0 w in
+        let b = (is_without.function ts).0 o in
+        let same = determined (reading store.nodes asked.system a.0) (reading store.nodes asked.system b.0) (speaks_read store asked is a.0 a.2) (speaks_read store asked is b.0 b.2)
+        (known_agree a.0 b.0 a.2 b.2 (λ v kept. sym (a.1 v kept) ∙ b.1 v kept)) in
+        false≢true (sym b.3 ∙ sym same ∙ a.3)
+
+    -- two reactions that agree, one with the signal and one without
+    open_overlap : (p q : Reaction) → Speaks asked.frame.kernel.now p → Speaks asked.frame.kernel.now q → AgreeOn asked.frame.kernel.now (IsAmong known) p q → is_present p s ≡ true → is_present q s ≡ false → Overlap store.nodes with without
+    open_overlap p q speaks_p speaks_q agree here gone =
+        let a = is.is_system.complete p speaks_p in
+        let o = agreeing known forgotten but a.0 q speaks_q (λ c is_c among. ap (λ x. status_at x c) a.2 ∙ agree c is_c among) in (
+          a.0,
+          (is_with.function a.0).1 (a.0, (λ v kept. refl), a.1, ap (λ x. is_present x s) a.2 ∙ here),
+          (is_without.function a.0).1 (o.0, o.1, o.2, ap (λ x. is_present x s) o.3 ∙ gone),
+        )
+
+    none_determined : (Overlap store.nodes with without → ⊥) → IsDetermined asked.frame.kernel.now (IsAmong known) s
+    none_determined none p q speaks_p speaks_q agree = by (is_present p s) (is_present q s) refl refl where
+      by : (x y : Bool) → is_present p s ≡ x → is_present q s ≡ y → is_present p s ≡ is_present q s
+      by true true e f = e ∙ sym f
+      by false false e f = e ∙ sym f
+      by true false e f = absurd (none (open_overlap p q speaks_p speaks_q agree e f))
+      by false true e f = absurd (none (open_overlap q p speaks_q speaks_p (λ c is_c among. sym (agree c is_c among)) f e))
+
+    pub open_ok : (result : Result Bool DdAnswer) → IfOk result (λ holds. IsTrue holds ↔ Overlap store.nodes with without) → IfOk result (IsOpenAnswer asked.frame.kernel.now (IsAmong known) s)
+    open_ok (Err e) over = tt
+    open_ok (Ok true) over = overlap_open (over.0 refl)
+    open_ok (Ok false) over = none_determined (λ o. false≢true (over.1 o))

@@ -1,0 +1,7 @@
+use Rattle.std.proofs.Common.{◌≡◌, ◌<◌, ℕ}
+use Rattle.sig_base.specs.declared.ids.SigId.{SigId}
+use Rattle.std.specs.Prelude.{Some, slice_get}
+use Rattle.sig_solve.proofs.guards.place_of.Given as goal
+
+abbrev pub invariant-loop-place : goal.invariant-loop-place
+invariant-loop-place l = (k : ℕ) (d : SigId) → k < l.place → slice_get l.conditions k ≡ Some d → d.0 ≡ l.condition.0 → ⊥

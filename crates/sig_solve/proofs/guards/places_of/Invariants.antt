@@ -1,0 +1,5 @@
+use Rattle.sig_solve.proofs.AskedGuards.{ArePlacedTo}
+use Rattle.sig_solve.proofs.guards.places_of.Given as goal
+
+abbrev pub invariant-loop-number : goal.invariant-loop-number
+invariant-loop-number l = ArePlacedTo l.system l.conditions l.number l.places.items

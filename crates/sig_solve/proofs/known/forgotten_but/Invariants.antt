@@ -1,0 +1,5 @@
+use Rattle.sig_solve.proofs.KnownLemmas.{AreForgotten}
+use Rattle.sig_solve.proofs.known.forgotten_but.Given as goal
+
+abbrev pub invariant-loop-place : goal.invariant-loop-place
+invariant-loop-place l = AreForgotten l.system l.known l.place l.forgotten.items

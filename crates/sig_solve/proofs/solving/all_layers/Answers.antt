@@ -1,9 +1,0 @@
-use Rattle.std.proofs.Common.{sym, ap, ◌∙◌}
-use Rattle.std.specs.Prelude.{slice_get}
-use Rattle.sig_solve.proofs.SolveLemmas.{unsolved_at}
-use Rattle.sig_solve.proofs.solving.all_layers.Goals as goal
-
-pub returns-in-Some-clause-refused : goal.returns-in-Some-clause-refused
-returns-in-Some-clause-refused c =
-    unsolved_at c.args.related.now.frame c.requires.ready.has_frame.parts c.in_ok-layers.layers.numbers.items c.in_ok-layers.layers.waiting.items c.in-Some.signal.now c.in_ok-layers.ensures.value
-    (ap (λ xs. slice_get xs 0) (sym c.as_slice.ensures.value) ∙ sym c.in-Some.ensures.value) c.requires.root
