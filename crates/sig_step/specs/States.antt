@@ -20,6 +20,13 @@ use Rattle.sig_values.specs.Values.{AreValuesOf, actor_at, instant_of, last_in, 
 abbrev pub actor_of : ClusterState → Actor
 actor_of s = record (actor_at s.values s.step) { ended = s.ended }
 
+-- which actor of the plan it is, and up to which instant it runs
+abbrev pub number_of : ClusterState → ℕ
+number_of s = s.actor
+
+abbrev pub limit_of : ClusterState → ℕ
+limit_of s = s.limit
+
 -- the place of its next step
 abbrev pub place_of : ClusterState → Place
 place_of s = record { instant = instant_of s.values; pos = s.pos }

@@ -27,7 +27,7 @@ impl ClusterState {
     }
 
     /// Why an operation has no value; the limit where it has one.
-    fn cause_of_op(&self, plan: &Plan, inputs: &Inputs, o: OpId) -> Cause
+    pub fn cause_of_op(&self, plan: &Plan, inputs: &Inputs, o: OpId) -> Cause
         ensures { result ≡ cause_of_op plan.now inputs.now (actor_of self.now) (slice_get plan.now.ops o.0) }
     {
         let Some(op) = ops_of(plan).get(o.0 as usize) else {

@@ -1,0 +1,34 @@
+-- A run to its end, as it was served actor by actor.
+use Rattle.std.proofs.Common.{◌≡◌, ◌≤◌, ℕ, List, length, sym, subst, arith}
+use Rattle.sig_base.specs.Traces.{Trace}
+use Rattle.sig_base.specs.declared.place.Place.{Place}
+use Rattle.std.specs.Prelude.{Option}
+use Rattle.sig_core.proofs.Ending.{all_ended, end_is}
+use Rattle.sig_core.proofs.Finishing.{Join}
+use Rattle.sig_core.specs.Cores.{IsCore, IsReached, IsSameRun, Shows}
+use Rattle.sig_core.specs.Finishing.{HasEnded, IsEndOf, after_of, instants_of}
+use Rattle.sig_core.specs.Resting.{RestBelow}
+use Rattle.sig_core.specs.declared.state.Core.{Core}
+use Rattle.sig_model.specs.Causes.{IsEnd}
+use Rattle.sig_model.specs.Cores.{Core as ModelCore, Given, cause_of}
+use Rattle.sig_plan.specs.Plans.{IsAccepted}
+use Rattle.sig_plan.specs.declared.ended.Ended.{Ended}
+use Rattle.sig_text.specs.Sink.{Joins, TookPrefix, TookPrefix-then}
+
+-- takings, and then a prefix of more
+pub join_part : {S : Type 0} (took : S → List ℕ → S → Type 0) → Joins took → Join took (TookPrefix took)
+join_part took joins first middle last bytes more one two = TookPrefix-then took joins first middle last bytes more one two
+
+pub accepted_on : (old new : Core) → IsSameRun old new → IsAccepted old.plan.now → IsAccepted new.plan.now
+accepted_on old new same accepted = subst (λ (given : Given). IsAccepted given.plan) (sym same) accepted
+
+-- where all actors rest, all have ended
+pub all_rest : (c : Core) → IsCore c → IsAccepted c.plan.now → IsReached c → (k : ℕ) → RestBelow k c → length c.states.items ≤ k → HasEnded c
+all_rest c is accepted (events, shows) k rest all = all_ended c is accepted events shows (λ i lt. rest i (omega (arith, lt, all)) (after_of c events) shows)
+
+-- the end of one core is that of each other one of its run
+pub end_of_run : (old new : Core) → IsSameRun old new → IsCore new → IsAccepted new.plan.now → IsReached new → HasEnded new → (answer : Ended) → answer.instants ≡ instants_of new
+    → ((m : ModelCore) → Shows m new → answer.cause ≡ cause_of new.plan.now new.inputs.now m m.word) → IsEndOf old answer
+end_of_run old new same is accepted (events, shows) ended answer instants cause =
+    subst (λ (given : Given). (trace : Trace) (place : Option Place) (end : Ended) → IsEnd given.plan given.flows given.limit trace place end → answer ≡ end) same
+    (end_is new is accepted events shows ended answer instants (cause (after_of new events) shows))

@@ -1,0 +1,34 @@
+-- The links that the actors of a plan use.
+use Rattle.std.proofs.Common.{◌≡◌, ◌<◌, ◌+◌, ◌∙◌, ℕ, zero, suc, length, ap, arith, Contains}
+use Rattle.std.specs.Prelude.{Some, slice_get}
+use Rattle.std.specs.List.{range_with_len}
+use Rattle.sig_clock.proofs.Lists.{contains_at}
+use Rattle.sig_model.specs.Actors.{code_of}
+use Rattle.sig_plan.specs.Instructions.{NamesWithin}
+use Rattle.sig_plan.specs.Plans.{IsAccepted, PlanView}
+use Rattle.sig_plan.specs.declared.code.StepKind.{StepKind}
+use Rattle.sig_plan.specs.declared.code.StepKind.TheVariants.{Do, Send, Receive, Report, Collect, Commit}
+use Rattle.sig_plan.proofs.Naming.{step_names}
+use Rattle.sig_schedules.proofs.Coded.{step_coded}
+use Rattle.sig_step.specs.Acting.{MayDo, MayUse}
+
+pub range_get : (a n k : ℕ) → k < n → slice_get (range_with_len a n) k ≡ Some (a + k)
+range_get a zero k lt = absurd (omega (arith, lt))
+range_get a (suc n) zero lt = ap (λ i. Some i) (let e : a ≡ a + 0 = omega arith in e)
+range_get a (suc n) (suc k) lt = range_get (a + 1) n k (omega (arith, lt)) ∙ ap (λ i. Some i) (let e : a + 1 + k ≡ a + suc k = omega arith in e)
+
+pub in_range : (n k : ℕ) → k < n → Contains (range_with_len 0 n) k
+in_range n k lt = contains_at (range_with_len 0 n) k k (range_get 0 n k lt ∙ ap (λ i. Some i) (let e : 0 + k ≡ k = omega arith in e))
+
+pub may_use : (plan : PlanView) → IsAccepted plan → (k n : ℕ) → n ≡ length plan.links → MayUse plan k (range_with_len 0 n) (range_with_len 0 n)
+may_use plan accepted k n count number step at = by step.kind (step_names plan accepted k (code_of plan k) (step_coded plan k number step at) number step at) where
+  there : (j : ℕ) → j < length plan.links → Contains (range_with_len 0 n) j
+  there j lt = in_range n j (omega (arith, lt, count))
+
+  by : (kind : StepKind) → NamesWithin (length plan.ops) (length plan.links) kind → MayDo (range_with_len 0 n) (range_with_len 0 n) kind
+  by (Do o) named = tt
+  by (Send j) named = there j named
+  by (Receive j) named = there j named
+  by (Report j) named = there j named
+  by (Collect j) named = there j named
+  by Commit named = tt

@@ -1,0 +1,36 @@
+use Rattle.std.proofs.Common.{◌≡◌, ◌∙◌, arith, List, ℤ, Global, length, refl, ap, sym}
+use Rattle.std.specs.Prelude.{Some, slice_get}
+use Rattle.std.proofs.lemmas.Bool.{ltb-false}
+use Rattle.std.proofs.lemmas.Option.{slice_get_read}
+use Rattle.std.specs.declared.collections.VecDeque.{VecDeque}
+use Rattle.sig_clock.proofs.Lists.{get_within}
+use Rattle.sig_core.proofs.LinksTold.{length_told, none_told}
+use Rattle.sig_core.specs.Lists.{queue_in, queues_of}
+use Rattle.sig_core.proofs.state.Core.link_len.Goals as goal
+
+there : (c : goal.After-len) → slice_get c.args.self.now.lists.queues.items c.args.j ≡ Some c.in-Some.queue.now
+there c =
+    let found = c.in-Some.ensures.lookup in
+    ap (λ (xs : List (VecDeque ℤ Global)). slice_get xs c.args.j) (sym c.deref.ensures.value)
+    ∙ slice_get_read c.deref.result.now _ c.args.j c.in-Some.queue.now refl found.3.0 found.1
+
+pub overflow_cast-result : goal.overflow_cast-result
+overflow_cast-result c =
+    let at = there c in
+    let lt = get_within c.args.self.now.lists.queues.items c.args.j c.in-Some.queue.now at in
+    let count = c.requires.links in
+    let held = c.requires.held c.args.j (omega (arith, lt, count)) in
+    let items : length (queues_of c.args.self.now.lists c.args.j).items ≡ length c.in-Some.queue.now.items = ap (λ o. length (queue_in o).items) at in
+    let small = c.requires.small in
+    let whole = c.in-Some.queue.now.ok.0 in
+    let len = c.len.ensures in
+    omega (arith, held, items, small, whole, len)
+
+pub returns-in-Some : goal.returns-in-Some
+returns-in-Some c = λ m shows. length_told c.args.self.now m shows c.args.j c.in-Some.queue.now (there c) c.len.result (c.len.ensures ∙ c.in-Some.queue.now.ok.0)
+
+pub returns-in-None : goal.returns-in-None
+returns-in-None c = λ m shows.
+    let past = ltb-false c.args.j (length c.deref.result.now) (sym c.in-None.ensures.lookup.0) in
+    let same = ap length c.deref.ensures.value in
+    none_told c.args.self.now m shows c.args.j (omega (arith, past, same))

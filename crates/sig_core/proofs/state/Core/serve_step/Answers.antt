@@ -1,0 +1,35 @@
+use Rattle.std.proofs.Common.{subst}
+use Rattle.std.proofs.lemmas.Result.{err_from_is_err_and}
+use Rattle.sig_core.proofs.Finishing.{event_leads}
+use Rattle.sig_core.proofs.Serving.{none_rest, resting_serves, stepped_serves}
+use Rattle.sig_core.specs.Cores.{LeavesLess, TellsChange}
+use Rattle.sig_model.specs.declared.event.Event.TheVariants.{Act}
+use Rattle.sig_text.specs.Sink.{TookPrefix}
+use Rattle.sig_core.proofs.state.Core.serve_step.Goals as goal
+
+pub returns-in_err-act-clause-part : goal.returns-in_err-act-clause-part
+returns-in_err-act-clause-part g c =
+    let p = err_from_is_err_and c.from_residual.result c.from_residual.ensures.1 in
+    rw p.1 (event_leads (TookPrefix g.S.Sink.took) (Act c.args.k) c.args.self.now c.act.new.self c.args.sink.now c.act.new.sink c.in_err-act.ensures.part)
+
+pub returns-then-not-branch-clause-serves : goal.returns-then-not-branch-clause-serves
+returns-then-not-branch-clause-serves g c =
+    resting_serves g.S.Sink.took c.args.self.now c.act.new.self c.requires.core c.in_ok-act.ensures.core c.in_ok-act.ensures.run c.plans_are_accepted.ensures c.requires.reached c.args.k c.requires.actor c.requires.rest
+    c.requires.looked (subst (TellsChange c.args.self.now (Act c.args.k)) c.if-not-branch.true c.in_ok-act.ensures.answer) c.args.sink.now c.act.new.sink c.in_ok-act.ensures.happened
+    (subst (LeavesLess c.args.self.now c.act.new.self) c.if-not-branch.true c.in_ok-act.ensures.left)
+
+pub returns-then-self-word-clause-leads : goal.returns-then-self-word-clause-leads
+returns-then-self-word-clause-leads g c = event_leads g.S.Sink.took (Act c.args.k) c.args.self.now c.act.new.self c.args.sink.now c.act.new.sink c.in_ok-act.ensures.happened
+
+pub returns-then-self-word-clause-serves : goal.returns-then-self-word-clause-serves
+returns-then-self-word-clause-serves g c =
+    stepped_serves g.S.Sink.took c.args.self.now c.act.new.self c.requires.core c.in_ok-act.ensures.core c.in_ok-act.ensures.run c.plans_are_accepted.ensures c.requires.reached c.args.k c.requires.actor c.requires.rest
+    c.lowest-low.result c.lowest-low.ensures c.in_ok-act.ensures.touches c.if-self-word.true (subst (LeavesLess c.args.self.now c.act.new.self) c.if-not-branch.false c.in_ok-act.ensures.left)
+
+pub returns-else-self-word-clause-leads : goal.returns-else-self-word-clause-leads
+returns-else-self-word-clause-leads g c = event_leads g.S.Sink.took (Act c.args.k) c.args.self.now c.act.new.self c.args.sink.now c.act.new.sink c.in_ok-act.ensures.happened
+
+pub returns-else-self-word-clause-serves : goal.returns-else-self-word-clause-serves
+returns-else-self-word-clause-serves g c =
+    none_rest g.S.Sink.took c.args.self.now c.act.new.self c.requires.core c.in_ok-act.ensures.core c.in_ok-act.ensures.run c.plans_are_accepted.ensures c.requires.reached c.args.k c.requires.actor c.requires.rest
+    (subst (LeavesLess c.args.self.now c.act.new.self) c.if-not-branch.false c.in_ok-act.ensures.left)

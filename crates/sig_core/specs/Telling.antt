@@ -1,0 +1,14 @@
+-- What a core tells of its state.
+use Rattle.std.specs.Prelude.{ℕ, ℤ, List, length, Option, None, Some}
+use Rattle.sig_core.specs.declared.answer.ActorState.{ActorState}
+use Rattle.sig_model.specs.Actors.{Actor}
+
+-- how far an actor is
+abbrev pub state_in : Option Actor → Option ActorState
+state_in None = None
+state_in (Some actor) = Some (record { instant = actor.instant; step = actor.step; ended = actor.ended })
+
+-- how many items a link holds
+abbrev pub length_in : Option (List ℤ) → Option ℕ
+length_in None = None
+length_in (Some items) = Some (length items)

@@ -1,0 +1,73 @@
+//! The parts of a plan.
+
+ghost use Rattle.std.specs.Prelude.{◌≡◌, ◌<◌, length, slice_get, Some};
+ghost use Rattle.sig_core.specs.Resting.{link_at, link_of};
+ghost use Rattle.sig_model.specs.Actors.{code_of};
+ghost use Rattle.sig_plan.specs.Plans.{IsAccepted};
+
+use sig_base::OpId;
+use sig_plan::{LinkInfo, Op, Plan, StepKind};
+
+/// A law: each plan is an accepted one.
+pub(crate) fn plans_are_accepted(plan: &Plan)
+    ensures { IsAccepted plan.now }
+{
+    // What holds of every plan is known where its fields are read.
+    let _kernel = &plan.kernel;
+}
+
+/// The order of the operations of a plan.
+pub(crate) fn order_of(plan: &Plan) -> &[OpId]
+    ensures { result.now ≡ plan.now.order }
+{
+    plan.order.as_slice()
+}
+
+/// The operations of a plan.
+pub(crate) fn ops_of(plan: &Plan) -> &[Op]
+    ensures { result.now ≡ plan.now.ops }
+{
+    plan.ops.as_slice()
+}
+
+/// How many actors a plan has.
+pub(crate) fn actors_in(plan: &Plan) -> usize
+    ensures { result ≡ length plan.now.codes }
+{
+    plan.codes.len()
+}
+
+/// How many links a plan has.
+pub(crate) fn links_in(plan: &Plan) -> usize
+    ensures { result ≡ length plan.now.links }
+{
+    plan.links.len()
+}
+
+/// The links of a plan.
+pub(crate) fn links_of(plan: &Plan) -> &[LinkInfo]
+    ensures { result.now ≡ plan.now.links }
+{
+    plan.links.as_slice()
+}
+
+/// What a step of an actor is for.
+pub(crate) fn step_at(plan: &Plan, actor: u32, step: u32) -> StepKind
+    requires actor { actor < length plan.now.codes }
+    requires step { step < length (code_of plan.now actor).steps }
+    ensures { link_of result ≡ link_at (slice_get (code_of plan.now actor).steps step) }
+{
+    plan.codes[actor as usize].steps()[step as usize].kind
+}
+
+/// The link that a step uses, where it uses one.
+pub(crate) fn link_of(kind: StepKind) -> Option<u32>
+    ensures { result ≡ link_of kind }
+{
+    match kind {
+        StepKind::Do(_) | StepKind::Commit => None,
+        StepKind::Send(j) | StepKind::Receive(j) | StepKind::Report(j) | StepKind::Collect(j) => {
+            Some(j)
+        }
+    }
+}

@@ -1,0 +1,191 @@
+-- The actors do all their own steps, one at a time.
+use Rattle.std.proofs.Common.{◌≡◌, ◌<◌, ◌≤◌, ◌+◌, ◌++◌, ◌⊎◌, inl, inr, ℕ, zero, suc, ℤ, false, List, [], ◌∷◌, length, get_or, replicate, refl, ap, sym, subst, ◌∙◌, arith}
+use Rattle.std.specs.Prelude.{None, Option, Some, fold, slice_get}
+use Rattle.std.proofs.lemmas.Bool.{cases_lt}
+use Rattle.std.proofs.lemmas.List.{append_cancel_left, ext_get_or, length-replicate}
+use Rattle.sig_base.specs.Traces.{Trace}
+use Rattle.sig_kernel.specs.Validity.{AreFlowsFor}
+use Rattle.sig_meaning.proofs.Agreement.{some_at}
+use Rattle.sig_meaning.proofs.Ending.{fitting}
+use Rattle.sig_meaning.proofs.Numbers.{same_or_not}
+use Rattle.sig_meaning.proofs.References.{some_reference}
+use Rattle.sig_model.specs.Actors.{Actor, opening_actor, with_at}
+use Rattle.sig_model.specs.Cores.{Core, Given, after, items_on, opening, stepped}
+use Rattle.sig_model.specs.Progress.{IsOnReference}
+use Rattle.sig_model.specs.Turns.{turn}
+use Rattle.sig_model.specs.References.{IsReference}
+use Rattle.sig_model.specs.declared.event.Event.{Event}
+use Rattle.sig_model.specs.declared.event.Event.TheVariants.{Act}
+use Rattle.sig_plan.specs.Plans.{IsAccepted}
+use Rattle.sig_schedules.proofs.Keeping.{stepped_on}
+use Rattle.sig_schedules.proofs.Opening.{opening_on, repeated}
+use Rattle.sig_settling.specs.OwnSteps.{IsOwnStep, LeadBy, Own, opening_own}
+use Rattle.sig_settling.specs.Settled.{AreBalanced, HasActed, acts, collector_of}
+use Rattle.sig_settling.proofs.Amid.{IsAmid, amid_next, at_here, at_other, ends_there}
+use Rattle.sig_settling.proofs.Failures.{least_same}
+use Rattle.sig_settling.proofs.Going.{CanAct, lead, place, runs, some_acts}
+use Rattle.sig_settling.proofs.Least.{LeastLeft, some_left}
+use Rattle.sig_settling.proofs.Tells.{turn_tells}
+
+-- how many steps are left of so many actors
+abbrev pub total : (ℕ → ℕ) → ℕ → ℕ
+total more zero = 0
+total more (suc n) = total more n + more n
+
+total_same : (f g : ℕ → ℕ) (n : ℕ) → ((k : ℕ) → k < n → f k ≡ g k) → total f n ≡ total g n
+total_same f g zero same = refl
+total_same f g (suc n) same =
+    let rest = total_same f g n (λ k lt. same k (omega (arith, lt))) in
+    let last = same n (omega arith) in
+    omega (arith, rest, last)
+
+-- one step less is left
+total_less : (k left : ℕ) (more : ℕ → ℕ) (g : ℕ → ℕ) (n : ℕ) → k < n → more k ≡ suc left → g k ≡ left → ((m : ℕ) → ((m ≡ k) → ⊥) → g m ≡ more m) → total more n ≡ suc (total g n)
+total_less k left more g zero lt is here others = absurd (omega (arith, lt))
+total_less k left more g (suc n) lt is here others = elim (same_or_not n k) [
+  | inl same ↦
+      let rest = total_same more g n (λ m before. sym (others m (λ e. omega (arith, e, same, before)))) in
+      let old : more n ≡ suc left = ap more same ∙ is in
+      let new : g n ≡ left = ap g same ∙ here in
+      omega (arith, rest, old, new)
+  | inr apart ↦
+      let rest = total_less k left more g n (omega (arith, lt, apart)) is here others in
+      let last = others n apart in
+      omega (arith, rest, last)
+]
+
+none_left : (more : ℕ → ℕ) (n : ℕ) → ((k : ℕ) → k < n → more k ≡ 0) → total more n ≡ 0
+none_left more zero all = refl
+none_left more (suc n) all =
+    let rest = none_left more n (λ k lt. all k (omega (arith, lt))) in
+    let last = all n (omega arith) in
+    omega (arith, rest, last)
+
+module _ (given : Given) (accepted : IsAccepted given.plan) (fit : AreFlowsFor given.plan.kernel given.flows) (reference : Trace) (long : given.limit + 1 ≤ length reference) (room : 1 ≤ given.capacity)
+    (final : ℕ → Own) (links : List (List ℤ)) (balanced : AreBalanced given final links) where
+  -- all have done theirs, behind some steps
+  pub record HaveDone (core : Core) : Type 0 where
+    pub numbers : List ℕ
+    pub now : ℕ → Own
+    pub more : ℕ → ℕ
+    pub amid : IsAmid given final (fold (stepped given) core (acts numbers)) now more
+    pub on : IsOnReference given reference (fold (stepped given) core (acts numbers))
+    pub all : (k : ℕ) → k < length given.plan.codes → more k ≡ 0
+
+  module _ (core : Core) (on : IsOnReference given reference core) (now : ℕ → Own) (more : ℕ → ℕ) (amid : IsAmid given final core now more)
+      (can : CanAct given accepted fit reference long room final links balanced core on now more amid) where
+    abbrev path : LeadBy given can.k (suc can.left) (now can.k) (final can.k)
+    path = lead given accepted fit reference long room final links balanced core on now more amid can.k can.lt can.left can.is
+
+    abbrev running : (now can.k).actor.ended ≡ false
+    running = runs given accepted fit reference long room final links balanced core on now more amid can.k can.lt can.left can.is
+
+    abbrev now_later : ℕ → Own
+    now_later = with_at can.k path.0 now
+
+    abbrev more_later : ℕ → ℕ
+    more_later = with_at can.k can.left more
+
+    abbrev next : Core
+    next = stepped given core (Act can.k)
+
+    fewer : total more (length given.plan.codes) ≡ suc (total more_later (length given.plan.codes))
+    fewer = total_less can.k can.left more more_later (length given.plan.codes) can.lt can.is (at_here can.k can.left more can.k refl) (at_other can.k can.left more)
+
+    next_on : IsOnReference given reference next
+    next_on = stepped_on given accepted fit reference long core on (Act can.k)
+
+    next_amid : IsAmid given final next now_later more_later
+    next_amid = amid_next given accepted fit reference long final links balanced core on now more amid can.k can.lt path.0 can.left path.1 path.2 running
+        (turn_tells given accepted fit reference long core on can.k (now can.k).actor (amid.actors can.k can.lt) running) can.can
+
+  abbrev some : (core : Core) (on : IsOnReference given reference core) (now : ℕ → Own) (more : ℕ → ℕ) (amid : IsAmid given final core now more)
+      → LeastLeft (place given accepted fit reference long room final links balanced core on now more amid) more (length given.plan.codes) → CanAct given accepted fit reference long room final links balanced core on now more amid
+  some core on now more amid least = some_acts given accepted fit reference long room final links balanced core on now more amid least
+
+  pub all_act : (steps : ℕ) (core : Core) (on : IsOnReference given reference core) (now : ℕ → Own) (more : ℕ → ℕ) → IsAmid given final core now more → total more (length given.plan.codes) ≡ steps → HaveDone core
+  all_act zero core on now more amid none = elim (some_left (place given accepted fit reference long room final links balanced core on now more amid) more (length given.plan.codes)) [
+    | inl all ↦ record { numbers = []; now = now; more = more; amid = amid; on = on; all = all }
+    | inr least ↦ absurd (let f = fewer core on now more amid (some core on now more amid least) in omega (arith, none, f))
+  ]
+  all_act (suc n) core on now more amid count = elim (some_left (place given accepted fit reference long room final links balanced core on now more amid) more (length given.plan.codes)) [
+    | inl all ↦ record { numbers = []; now = now; more = more; amid = amid; on = on; all = all }
+    | inr least ↦
+        let can = some core on now more amid least in
+        let done = all_act n (next core on now more amid can) (next_on core on now more amid can) (now_later core on now more amid can) (more_later core on now more amid can) (next_amid core on now more amid can)
+        (let f = fewer core on now more amid can in omega (arith, count, f)) in
+        record { numbers = can.k ∷ done.numbers; now = done.now; more = done.more; amid = done.amid; on = done.on; all = done.all }
+  ]
+
+  -- ---- from the opening
+
+  -- how many own steps an actor does
+  abbrev steps_by : (k : ℕ) → (k < length given.plan.codes) ⊎ (length given.plan.codes ≤ k) → ℕ
+  steps_by k (inl lt) = (balanced.each k lt).0
+  steps_by k (inr ge) = 0
+
+  abbrev steps_of : ℕ → ℕ
+  steps_of k = steps_by k (cases_lt k (length given.plan.codes))
+
+  lead_by : (k : ℕ) (side : (k < length given.plan.codes) ⊎ (length given.plan.codes ≤ k)) → k < length given.plan.codes → LeadBy given k (steps_by k side) (opening_own given.plan.kernel) (final k)
+  lead_by k (inl there) lt = (balanced.each k there).1
+  lead_by k (inr ge) lt = absurd (omega (arith, lt, ge))
+
+  no_items : (n j : ℕ) → get_or (replicate n (let none : List ℤ = [] in none)) j [] ≡ []
+  no_items zero j = refl
+  no_items (suc n) zero = refl
+  no_items (suc n) (suc j) = no_items n j
+
+  opening_there : (k : ℕ) → k < length given.plan.codes → slice_get (opening given.plan).actors k ≡ Some (opening_actor given.plan.kernel)
+  opening_there k lt =
+      let found = some_at (replicate (length given.plan.codes) (opening_actor given.plan.kernel)) k (omega (arith, lt, length-replicate (length given.plan.codes) (opening_actor given.plan.kernel))) in
+      found.1 ∙ ap Some (repeated (length given.plan.codes) k (opening_actor given.plan.kernel) found.0 found.1).1
+
+  opening_amid : IsAmid given final (opening given.plan) (λ k. opening_own given.plan.kernel) steps_of
+  opening_amid = record {
+    actors = opening_there;
+    lead = λ k lt. lead_by k (cases_lt k (length given.plan.codes)) lt;
+    items = λ j link at. sym (no_items (length given.plan.links) j);
+    word = λ k lt. refl;
+    quiet = λ k lt going. refl;
+    committed = refl;
+  }
+
+  -- ---- where all have done their steps
+
+  module _ (core : Core) (on : IsOnReference given reference core) (now : ℕ → Own) (more : ℕ → ℕ) (amid : IsAmid given final core now more) (all : (k : ℕ) → k < length given.plan.codes → more k ≡ 0) where
+    done : (k : ℕ) → k < length given.plan.codes → now k ≡ final k
+    done k lt = subst (λ n. LeadBy given k n (now k) (final k)) (all k lt) (amid.lead k lt)
+
+    same_link : (j : ℕ) → j < length core.links → get_or core.links j [] ≡ get_or links j []
+    same_link j lt =
+        let count_links = on.links in
+        let link = some_at given.plan.links j (omega (arith, lt, count_links)) in
+        let there = ends_there given accepted fit reference long final links balanced core on now more amid j link.0 link.1 in
+        append_cancel_left ((final link.0.reader).taken j) (get_or core.links j []) (get_or links j [])
+        (ap (λ (o : Own). o.taken j ++ get_or core.links j []) (sym (done link.0.reader there.1)) ∙ sym (amid.items j link.0 link.1)
+        ∙ ap (λ (o : Own). o.sent j) (done link.0.writer there.0) ∙ balanced.balance j link.0 link.1)
+
+    acted_all : HasActed given final links core
+    acted_all = record {
+      actors = λ k lt. amid.actors k lt ∙ ap (λ (o : Own). Some o.actor) (done k lt);
+      items = ext_get_or [] core.links links (let a = on.links in let b = balanced.count in omega (arith, a, b)) same_link;
+      word = least_same (length given.plan.codes) (λ k. (now k).failed) (λ k. (final k).failed) core.word (λ k lt. ap (λ (o : Own). o.failed) (sym (done k lt))) amid.word;
+      committed = amid.committed ∙ ap (λ (o : Own). o.committed) (done (collector_of given) (let actors = accepted.codes.actors in omega (arith, actors)));
+    }
+
+  pub acted : IsReference given.plan.kernel given.flows (length reference) reference → (numbers : List ℕ) × HasActed given final links (after given (acts numbers)) × IsOnReference given reference (after given (acts numbers))
+  acted is =
+      let opened = opening_on given accepted reference is (omega (arith, long)) in
+      let end = all_act (total steps_of (length given.plan.codes)) (opening given.plan) opened (λ k. opening_own given.plan.kernel) steps_of opening_amid refl in
+      (end.numbers, acted_all (fold (stepped given) (opening given.plan) (acts end.numbers)) end.on end.now end.more end.amid end.all, end.on)
+
+-- over a reference that is long enough
+pub own_acted : (given : Given) → IsAccepted given.plan → AreFlowsFor given.plan.kernel given.flows → 1 ≤ given.capacity → (own : ℕ → Own) (links : List (List ℤ)) → AreBalanced given own links
+    → (numbers : List ℕ) × HasActed given own links (after given (acts numbers)) × (length (after given (acts numbers)).actors ≡ length given.plan.codes)
+own_acted given accepted fit room own links balanced =
+    let r = some_reference (fitting given.plan accepted given.flows fit) (given.limit + 1) in
+    let exact = r.1.instants in
+    let is : IsReference given.plan.kernel given.flows (length r.0) r.0 = subst (λ n. IsReference given.plan.kernel given.flows n r.0) (sym exact) r.1 in
+    let found = acted given accepted fit r.0 (omega (arith, exact)) room own links balanced is in
+    (found.0, found.1, found.2.actors)

@@ -1,0 +1,29 @@
+//! Laws of actors that did their own steps by themselves. The function of a law does nothing when it runs.
+
+ghost use Rattle.std.specs.Prelude.{◌≡◌, ◌≤◌, ◌<◌, ℕ, ℤ, List, Option};
+ghost use Rattle.sig_base.specs.declared.place.Place.{Place};
+ghost use Rattle.sig_kernel.specs.Validity.{AreFlowsFor};
+ghost use Rattle.sig_model.specs.Actors.{Actor};
+ghost use Rattle.sig_model.specs.Cores.{Given, IsFinished, after};
+ghost use Rattle.sig_model.specs.declared.event.Event.{Event};
+ghost use Rattle.sig_plan.specs.Plans.{IsAccepted};
+ghost use Rattle.sig_settling.specs.OwnSteps.{Own};
+ghost use Rattle.sig_settling.specs.Settled.{AreBalanced, AreSettled, HasActed, acts, collector_of};
+
+/// A law: where each actor of an accepted plan did its own steps, and each link holds what was sent on it
+/// and not taken, there are steps of the actors, one at a time, that come to the same.
+pub fn own_steps_are_an_interleaving()
+    ensures { (given : Given) → IsAccepted given.plan → AreFlowsFor given.plan.kernel given.flows → 1 ≤ given.capacity
+        → (own : ℕ → Own) (links : List (List ℤ)) → AreBalanced given own links
+        → (numbers : List ℕ) × HasActed given own links (after given (acts numbers)) }
+{}
+
+/// A law: and where all of them have ended, by themselves or by a look at the word, which is the least place
+/// at which one failed, there is an interleaving that leaves exactly this, and has ended too.
+pub fn settled_actors_are_finished()
+    ensures { (given : Given) → IsAccepted given.plan → AreFlowsFor given.plan.kernel given.flows → 1 ≤ given.capacity
+        → (own : ℕ → Own) (links : List (List ℤ)) (word : Option Place) (actors : List Actor) → AreSettled given own links word actors
+        → (events : List Event)
+        × (after given events ≡ record { actors = actors; links = links; word = word; committed = (own (collector_of given)).committed })
+        × IsFinished (after given events) }
+{}
