@@ -1,14 +1,13 @@
 #!/usr/bin/env python3
 """Runs `rt ci` and prints what each crate's proof, tests and must-fail edits cost. Needs rt.
 
-    bench/gate.py [--log FILE] [NAME..]     runs `rt ci NAME..`, whose own lines go to the log (/tmp/gate.log)
-    bench/gate.py --attach PID              watches an `rt ci` that has begun; what ended before is not seen
+    bench/gate.py [--log FILE]     runs `rt ci`, whose own lines go to the log (/tmp/gate.log)
+    bench/gate.py --attach PID     watches an `rt ci` that has begun; what ended before is not seen
 
 The figures are seconds of processor time, read from /proc while the checks run: a check is told by its
 command line and its folder. `seed` is the proof that a crate's edits begin with, where there are several;
-`edits` all of their checks. What an earlier run kept is not done again and does not show, so a whole table
-wants a machine that kept nothing, or `rt ci --anew`. The table goes to standard output; the status is that of
-the run. RT_JOBS in the environment limits the processors, as for rt.
+`edits` all of their checks. The table goes to standard output; the status is that of the run. RT_JOBS in the
+environment limits the processors, as for rt.
 """
 import argparse
 import collections
@@ -120,8 +119,7 @@ def main():
     words = argparse.ArgumentParser(description=__doc__, formatter_class=argparse.RawDescriptionHelpFormatter)
     words.add_argument('--attach', type=int, metavar='PID')
     words.add_argument('--log', default='/tmp/gate.log')
-    words.add_argument('names', nargs='*', metavar='NAME')
-    given, rest = words.parse_known_args()
+    given = words.parse_args()
     begun, seen, status = time.time(), {}, 0
     if given.attach:
         while os.path.exists(f'/proc/{given.attach}'):
@@ -130,7 +128,7 @@ def main():
     else:
         root = os.path.dirname(os.path.dirname(os.path.abspath(__file__)))
         with open(given.log, 'w') as log:
-            ran = subprocess.Popen(['rt', 'ci', *rest, *given.names], cwd=root, stdout=log, stderr=subprocess.STDOUT)
+            ran = subprocess.Popen(['rt', 'ci'], cwd=root, stdout=log, stderr=subprocess.STDOUT)
             while ran.poll() is None:
                 look(ran.pid, seen)
                 time.sleep(0.5)

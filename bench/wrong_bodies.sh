@@ -2,10 +2,8 @@
 # Tries the wrong bodies of wrong-bodies/: the check must refuse each. They are edits in the form of must-fail/ that
 # the gate does not try.
 #     bench/wrong_bodies.sh [CRATE..]     those of these crates, or of all
-# It works on a copy of the crates as they stand, in a folder of its own that it removes. What rt check proved of
-# the crates is not proved again, and an edit that was refused is not tried again until something changes that it
-# stands on. The status is 0 where all were refused, 1 where one was not, was bad or was not tried, and 2 where no
-# such crate is there.
+# It works on a copy of the crates as they stand, in a folder of its own that it removes. The status is 0 where all
+# were refused, 1 where one was not, was bad or was not tried, and 2 where no such crate is there.
 set -u
 root=$(cd "$(dirname "$0")/.." && pwd)
 cd "$root" || exit 2

@@ -1,5 +1,6 @@
 -- A flat body as it is made.
 use Rattle.std.specs.Prelude.{◌≡◌, ◌++◌, ◌<◌, ◌≤◌, ℕ, List, map, length, Result, Ok, Err, ⊤}
+use Rattle.sig_base.specs.declared.limits.TheConstants.{SIGNALS}
 use Rattle.sig_base.specs.declared.signal.Signal.{Signal}
 use Rattle.sig_tree.specs.Syntax.{Equations, ProcessModel}
 use Rattle.sig_tree.specs.FlatSyntax.{FlatEquation, FlatBody}
@@ -48,21 +49,21 @@ pub record Advances (all : List ProcessModel) (copy : Copy) (equations : List Eq
   pub leads : Leads all copy equations before.progress after.progress flat
   pub grows : length before.progress.signals ≤ length after.progress.signals
 
--- each expansion of equations, and of any behind them, has more than 512 signals
+-- each expansion of equations, and of any behind them, has more than `SIGNALS` signals
 abbrev pub NeedsMore : List ProcessModel → Copy → List Equations → Progress → Type 0
 NeedsMore all copy equations before = (rest : List Equations) (end : Progress) (whole : List FlatEquation)
-    → Expands all copy (equations ++ rest) before end whole → 512 < length end.signals
+    → Expands all copy (equations ++ rest) before end whole → SIGNALS < length end.signals
 
--- what is so where an answer refuses, by the limit of 512, and not for want of memory
+-- what is so where an answer refuses, by the limit, and not for want of memory
 abbrev pub IsRefusedBy : CallAnswer → Type 0 → Type 0
-IsRefusedBy (TooManySignals limit) Cause = (limit ≡ 512) × Cause
+IsRefusedBy (TooManySignals limit) Cause = (limit ≡ SIGNALS) × Cause
 IsRefusedBy OutOfMemory Cause = ⊤
 
 abbrev pub IsRefused : {A : Type 0} → Result A CallAnswer → Type 0 → Type 0
 IsRefused (Ok value) Cause = ⊤
 IsRefused (Err answer) Cause = IsRefusedBy answer Cause
 
--- a program has a flat body, which has more than 512 signals
+-- a program has a flat body, which has more than `SIGNALS` signals
 pub record NeedsTooMany (program : List ProcessModel) : Type 0 where
   pub some : (flat : FlatBody) × IsFlatBody program flat
-  pub each : (flat : FlatBody) → IsFlatBody program flat → 512 < length flat.signals
+  pub each : (flat : FlatBody) → IsFlatBody program flat → SIGNALS < length flat.signals

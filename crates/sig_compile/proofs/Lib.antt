@@ -1,3 +1,3 @@
 pub mod Verdicts
 pub mod OneCompiling
-mod Rooms
+pub mod Rooms

@@ -10,6 +10,7 @@
 -- refusal of the passes up to the kernel, or the first rule that its kernel does not meet. No program is both, and a refused
 -- one has one line (the law `one_verdict`).
 use Rattle.std.specs.Prelude.{◌≡◌, ◌⊎◌, ◌<◌, ◌≤◌, ℕ, List, length}
+use Rattle.sig_base.specs.declared.limits.TheConstants.{PROGRAM_BYTES}
 use Rattle.sig_back.specs.Faults.{FaultView, IsFaultOf}
 use Rattle.sig_back.specs.Shown.{fault_line}
 use Rattle.sig_front.specs.Kernels.{IsKernelText, IsNoKernelText}
@@ -32,7 +33,7 @@ pub record IsAcceptedAs (bytes : List ℕ) (kernel : Kernel) : Type 0 where
 
 -- *Acceptance*
 pub record IsAcceptedProgram (bytes : List ℕ) : Type 0 where
-  pub short : length bytes ≤ 1048576
+  pub short : length bytes ≤ PROGRAM_BYTES
   pub kernel : Kernel
   pub is : IsAcceptedAs bytes kernel
 
@@ -59,4 +60,4 @@ AreRefused bytes line = IsRefusedText bytes line ⊎ IsRefusedKernel bytes line
 -- *Refusal*
 abbrev pub IsRefusedProgram : List ℕ → List ℕ → Type 0
 IsRefusedProgram bytes line =
-    ((1048576 < length bytes) × (line ≡ long_program)) ⊎ ((length bytes ≤ 1048576) × AreRefused bytes line)
+    ((PROGRAM_BYTES < length bytes) × (line ≡ long_program)) ⊎ ((length bytes ≤ PROGRAM_BYTES) × AreRefused bytes line)

@@ -4,7 +4,7 @@ use Rattle.std.specs.Prelude.{◌≡◌, ◌⊎◌, ℕ, List, Option, codes}
 use Rattle.sig_back.specs.Budgets.{MeetsBound}
 use Rattle.sig_back.specs.Faults.{FaultView}
 use Rattle.sig_back.specs.Shown.{fault_line}
-use Rattle.sig_base.specs.declared.limits.TheConstants.{NODES}
+use Rattle.sig_base.specs.declared.limits.TheConstants.{NODES, PROGRAM_BYTES}
 use Rattle.sig_code.specs.Texts.{IsCodeText}
 use Rattle.sig_front.specs.Shown.{front_line}
 use Rattle.sig_front.specs.declared.answer.FrontAnswer.{FrontAnswer}
@@ -62,7 +62,7 @@ IsBeyondBound bytes = (kernel : Kernel) × HasKernel bytes kernel × (MeetsBound
 
 -- a file holds such a program
 abbrev pub HoldsBeyondBound : Option (List ℕ) → Type 0
-HoldsBeyondBound held = Holds held 1048576 IsBeyondBound
+HoldsBeyondBound held = Holds held PROGRAM_BYTES IsBeyondBound
 
 abbrev pub compiling : Product → List ℕ → Task
 compiling product program = record {

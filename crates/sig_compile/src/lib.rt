@@ -13,6 +13,7 @@ mod print;
 mod product;
 
 pub use check::compile_command;
+pub use compile::plan_of;
 pub use laws::one_verdict;
 pub use load::load_plan;
 pub use print::print_command;

@@ -3,6 +3,7 @@
 use Rattle.std.specs.Fmt.{decimal}
 use Rattle.std.specs.Prelude.{◌≡◌, ◌≤◌, ◌++◌, ℕ, List, [], length, codes, Option, Some, None}
 use Rattle.sig_base.specs.Lines.{refusal}
+use Rattle.sig_base.specs.declared.limits.TheConstants.{PROGRAM_BYTES}
 use Rattle.sig_text.specs.Files.{Contents}
 use Rattle.sig_text.specs.Read.{IsLongerThan}
 
@@ -84,7 +85,7 @@ AtFile status long name (Good what) Next o = Next what o
 
 -- what a program file gives, of bytes that say what is wanted or are refused with a line
 abbrev pub FindsProgram : {A : Type 0} → (List ℕ → A → Type 0) → (List ℕ → List ℕ → Type 0) → Option (List ℕ) → Found A → Type 0
-FindsProgram Says Refuses held found = Finds held 1048576 Says Refuses found
+FindsProgram Says Refuses held found = Finds held PROGRAM_BYTES Says Refuses found
 
 abbrev pub AtProgram : {A : Type 0} → (List ℕ → A → Type 0) → (List ℕ → List ℕ → Type 0) → Contents → List ℕ → (A → Outcome → Type 0) → Outcome → Type 0
 AtProgram {A} Says Refuses held name Next o =

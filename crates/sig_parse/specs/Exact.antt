@@ -1,5 +1,6 @@
 -- Which token of a text is refused, and why.
 use Rattle.std.specs.Prelude.{◌≡◌, ◌≢◌, ◌++◌, ◌⊎◌, List, [], ◌∷◌}
+use Rattle.sig_base.specs.declared.limits.TheConstants.{NESTING, OPERATORS}
 use Rattle.sig_base.specs.declared.span.Span.{Span}
 use Rattle.sig_tree.specs.Syntax.{ProcessModel}
 use Rattle.sig_tree.specs.Terminals.{Leaf}
@@ -37,8 +38,8 @@ pub record IsRefused (leaves : List Leaf) (end : Span) (cause : Cause) (at : Spa
 -- the answer for a cause, at a place
 abbrev pub answer_for : Cause → Span → ParseAnswer
 answer_for Wrong at = Syntax at
-answer_for TooDeep at = Nesting 64 at
-answer_for TooMany at = Nesting 512 at
+answer_for TooDeep at = Nesting NESTING at
+answer_for TooMany at = Nesting OPERATORS at
 
 -- the answer is that for the token that is refused
 abbrev pub IsFirstRefusal : List Leaf → Span → ParseAnswer → Type 0

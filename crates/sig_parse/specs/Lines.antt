@@ -2,12 +2,13 @@
 use Rattle.std.specs.Prelude.{ℕ, ◌++◌, ◌==◌, List, codes, if◌then◌else◌}
 use Rattle.std.specs.Fmt.{decimal}
 use Rattle.sig_base.specs.Lines.{refusal_at, refusal}
+use Rattle.sig_base.specs.declared.limits.TheConstants.{OPERATORS}
 use Rattle.sig_parse.specs.declared.parse_answer.ParseAnswer.{ParseAnswer}
 use Rattle.sig_parse.specs.declared.parse_answer.ParseAnswer.TheVariants.{Syntax, Nesting, OutOfMemory}
 
 abbrev pub answer_line : ParseAnswer → List ℕ
 answer_line (Syntax at) = refusal_at at (codes "syntax")
-answer_line (Nesting limit at) = refusal_at at (if limit == 512
+answer_line (Nesting limit at) = refusal_at at (if limit == OPERATORS
     then codes "more than " ++ decimal limit ++ codes " operators"
     else codes "nesting deeper than " ++ decimal limit)
 answer_line OutOfMemory = refusal (codes "out of memory")

@@ -1,5 +1,6 @@
 -- The levels and the operators of expressions as the parser has them, in the terms of the grammar.
 use Rattle.std.specs.Prelude.{◌≡◌, ◌++◌, ◌+◌, ◌≤◌, ◌⊎◌, ℕ, suc, Bool, List, ◌∷◌, codes}
+use Rattle.sig_base.specs.declared.limits.TheConstants.{OPERATORS}
 use Rattle.sig_base.specs.declared.span.Span.{Span}
 use Rattle.sig_tree.specs.Terminals.{Terminal, Leaf, leaf, number, word, mark, truth_word, binary_terminal}
 use Rattle.sig_tree.specs.Beginning.{BeginsName}
@@ -94,4 +95,4 @@ pub record Completes (depth : ℕ) (left : Expression) (op : Infix) (at : Span) 
   pub count : ℕ
   pub operators_are : operators e ≡ suc (operators left + count)
   pub counted : after.operators ≡ before.operators + count
-  pub few : before.operators ≤ 512 → after.operators ≤ 512
+  pub few : before.operators ≤ OPERATORS → after.operators ≤ OPERATORS

@@ -1,5 +1,6 @@
 -- What a part of the parser reads.
 use Rattle.std.specs.Prelude.{◌≡◌, ◌++◌, ◌+◌, ◌≤◌, ◌<◌, ℕ, List, [], ◌∷◌, length}
+use Rattle.sig_base.specs.declared.limits.TheConstants.{OPERATORS}
 use Rattle.sig_base.specs.declared.span.Span.{Span}
 use Rattle.sig_tree.specs.Terminals.{Terminal, Leaf, leaf}
 use Rattle.sig_parse.specs.State.{State}
@@ -10,7 +11,7 @@ pub record Reads (Is : List Leaf → Type 0) (count : ℕ) (before after : State
   pub split : before.leaves ≡ front ++ after.leaves
   pub is : Is front
   pub counted : after.operators ≡ before.operators + count
-  pub few : before.operators ≤ 512 → after.operators ≤ 512
+  pub few : before.operators ≤ OPERATORS → after.operators ≤ OPERATORS
 
 -- some leaf was read
 abbrev pub Shorter : State → State → Type 0

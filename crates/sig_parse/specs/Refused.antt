@@ -1,5 +1,6 @@
 -- What a refusal of a text says.
 use Rattle.std.specs.Prelude.{◌≡◌, ◌++◌, ◌-◌, List, [], ◌∷◌, length, slice_get, option_map, unwrap_or}
+use Rattle.sig_base.specs.declared.limits.TheConstants.{NESTING, OPERATORS}
 use Rattle.sig_base.specs.declared.span.Span.{Span}
 use Rattle.sig_lex.specs.declared.token.Token.{Token}
 use Rattle.sig_tree.specs.Terminals.{Leaf}
@@ -35,6 +36,6 @@ IsRefusal leaves end OutOfMemory = Unit {0}
 -- the answer for a refusal of the token at a place
 abbrev pub answer_of : Refusal → Span → ParseAnswer
 answer_of RefusalSyntax at = Syntax at
-answer_of RefusalNesting at = Nesting 64 at
-answer_of Operators at = Nesting 512 at
+answer_of RefusalNesting at = Nesting NESTING at
+answer_of Operators at = Nesting OPERATORS at
 answer_of RefusalOutOfMemory at = OutOfMemory

@@ -51,12 +51,12 @@ module _ (held : Contents) (program flows : List ℕ) (settings : Settings) (bef
   of_flows kernel accepted (Good values) finds run = of_run kernel values accepted finds run
 
   of_links : (kernel : Kernel) → FindsAccepted (held program) (Good kernel)
-      → AtLinks kernel settings.capacity program (AtFlows held flows (inputs_of kernel) (λ values. RunsTo kernel values settings.instants flows)) due.outcome → HasRun held program flows settings status Took Said
+      → AtLinks kernel settings.capacity (Some program) (AtFlows held flows (inputs_of kernel) (λ values. RunsTo kernel values settings.instants flows)) due.outcome → HasRun held program flows settings status Took Said
   of_links kernel accepted (inl many) = absurd (refuses 2 (ap (λ (o : Outcome). o.status) many.1) (inr (inl refl)))
   of_links kernel accepted (inr few) = of_flows kernel accepted few.1.0 few.1.1 few.1.2
 
   of_program : (found : Found Kernel) → FindsAccepted (held program) found
-      → AtFile 1 long_program program found (λ kernel. AtLinks kernel settings.capacity program (AtFlows held flows (inputs_of kernel) (λ values. RunsTo kernel values settings.instants flows))) due.outcome
+      → AtFile 1 long_program program found (λ kernel. AtLinks kernel settings.capacity (Some program) (AtFlows held flows (inputs_of kernel) (λ values. RunsTo kernel values settings.instants flows))) due.outcome
       → HasRun held program flows settings status Took Said
   of_program Absent finds is = absurd (refuses 5 (ap (λ (o : Outcome). o.status) is) (inr (inr (inr refl))))
   of_program Long finds is = absurd (refuses 1 (ap (λ (o : Outcome). o.status) is) (inl refl))

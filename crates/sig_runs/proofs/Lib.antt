@@ -1,5 +1,5 @@
-mod Plans
+pub mod Plans
 pub mod OneRun
 mod Loads
-mod Written
+pub mod Written
 pub mod Ending

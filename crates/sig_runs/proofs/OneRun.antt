@@ -1,5 +1,5 @@
 -- A run over told contents comes to one outcome at most, and what it comes to.
-use Rattle.std.proofs.Common.{◌≡◌, ◌∙◌, ◌⊎◌, ℕ, ℤ, List, Some, inl, inr, sym, refl, ap, subst}
+use Rattle.std.proofs.Common.{◌≡◌, ◌∙◌, ◌⊎◌, ℕ, ℤ, List, Option, Some, inl, inr, sym, refl, ap, subst}
 use Rattle.sig_base.specs.Traces.{Trace}
 use Rattle.sig_base.specs.declared.signal.Signal.{Signal}
 use Rattle.sig_text.specs.Files.{Contents}
@@ -22,13 +22,13 @@ use Rattle.sig_runs.proofs.Plans.{items_apart, same_end}
 -- ---- the flow file
 
 -- bytes are one list of flows at most
-one_flows : (inputs : List Signal) (bytes : List ℕ) (a b : List (List ℤ)) → AreFlows inputs bytes a → AreFlows inputs bytes b → a ≡ b
+pub one_flows : (inputs : List Signal) (bytes : List ℕ) (a b : List (List ℤ)) → AreFlows inputs bytes a → AreFlows inputs bytes b → a ≡ b
 one_flows inputs bytes a b x y = x.each ∙ sym y.each
 
-no_flows_line : (name : List ℕ) (inputs : List Signal) (bytes l m : List ℕ) → RefusesFlows name inputs bytes l → RefusesFlows name inputs bytes m → l ≡ m
+pub no_flows_line : (name : List ℕ) (inputs : List Signal) (bytes l m : List ℕ) → RefusesFlows name inputs bytes l → RefusesFlows name inputs bytes m → l ≡ m
 no_flows_line name inputs bytes l m x y = x.says ∙ ap (bad_flows name) (one_place inputs bytes x.answer y.answer x.none y.none) ∙ sym y.says
 
-flows_apart : (name : List ℕ) (inputs : List Signal) (bytes : List ℕ) (values : List (List ℤ)) (l : List ℕ) → AreFlows inputs bytes values → RefusesFlows name inputs bytes l → ⊥
+pub flows_apart : (name : List ℕ) (inputs : List Signal) (bytes : List ℕ) (values : List (List ℤ)) (l : List ℕ) → AreFlows inputs bytes values → RefusesFlows name inputs bytes l → ⊥
 flows_apart name inputs bytes values l says refuses = flows_and_fault inputs bytes values refuses.answer says refuses.none
 
 -- ---- one outcome
@@ -42,7 +42,7 @@ one_run kernel values limit file fit o p x y =
     x.is ∙ ap (λ (t : Trace). ended kernel t x.end file) same.0 ∙ ap (λ (e : Ended). ended kernel y.trace e file) same.2 ∙ sym y.is
 
 -- the links hold too many items or few
-one_at_links : (kernel : Kernel) (capacity : ℕ) (file : List ℕ) (Next : Outcome → Type 0) → OneAtMost Next → OneAtMost (AtLinks kernel capacity file Next)
+pub one_at_links : (kernel : Kernel) (capacity : ℕ) (file : Option (List ℕ)) (Next : Outcome → Type 0) → OneAtMost Next → OneAtMost (AtLinks kernel capacity file Next)
 one_at_links kernel capacity file Next one o p (inl x) (inl y) = x.1 ∙ sym y.1
 one_at_links kernel capacity file Next one o p (inl x) (inr y) = absurd (items_apart kernel capacity x.0 y.0)
 one_at_links kernel capacity file Next one o p (inr x) (inl y) = absurd (items_apart kernel capacity y.0 x.0)
@@ -54,14 +54,14 @@ module _ (program flows : List ℕ) (settings : Settings) where
   AtInputs held kernel o = AtFlows held flows (inputs_of kernel) (λ values. RunsTo kernel values settings.instants flows) o
 
   abbrev AtKernel : Contents → Kernel → Outcome → Type 0
-  AtKernel held kernel o = AtLinks kernel settings.capacity program (λ q. AtInputs held kernel q) o
+  AtKernel held kernel o = AtLinks kernel settings.capacity (Some program) (λ q. AtInputs held kernel q) o
 
   -- the command comes to one outcome
   pub one_run_outcome : (held : Contents) → OneAtMost (RunComesTo held program flows settings)
   one_run_outcome held =
       one_at_program IsAcceptedAs AreRefused accepted_once refused_once accepted_or_refused held program (λ kernel. AtKernel held kernel)
       (λ kernel bytes is.
-      one_at_links kernel settings.capacity program (λ q. AtInputs held kernel q)
+      one_at_links kernel settings.capacity (Some program) (λ q. AtInputs held kernel q)
       (one_at_data (AreFlows (inputs_of kernel)) (RefusesFlows flows (inputs_of kernel)) (one_flows (inputs_of kernel)) (no_flows_line flows (inputs_of kernel)) (flows_apart flows (inputs_of kernel)) held flows
       (λ values. RunsTo kernel values settings.instants flows)
       (λ values data_bytes read. one_run kernel values settings.instants flows (read_fit kernel data_bytes values read))))

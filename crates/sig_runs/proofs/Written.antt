@@ -28,13 +28,13 @@ use Rattle.sig_runs.proofs.OneRun.{one_run_outcome}
 
 -- ---- statuses
 
-no_six : (cause : Cause) → end_status cause ≡ 6 → ⊥
+pub no_six : (cause : Cause) → end_status cause ≡ 6 → ⊥
 no_six (Exhausted x) six = omega (arith, six)
 no_six (Overflow e) six = omega (arith, six)
 no_six (ZeroDivisor e) six = omega (arith, six)
 no_six Limit six = omega (arith, six)
 
-is_ended : (cause : Cause) → IsEnded (end_status cause)
+pub is_ended : (cause : Cause) → IsEnded (end_status cause)
 is_ended (Exhausted x) = inl refl
 is_ended (Overflow e) = inr refl
 is_ended (ZeroDivisor e) = inr refl

@@ -3,7 +3,7 @@
 use Rattle.std.specs.Prelude.{◌≡◌, ◌⊎◌, ◌≤◌, ◌<◌, ◌*◌, ◌++◌, ℕ, ℤ, Bool, List, codes, length, Option, Some}
 use Rattle.sig_base.specs.Lines.{refusal}
 use Rattle.sig_base.specs.Traces.{Trace}
-use Rattle.sig_base.specs.declared.limits.TheConstants.{ITEMS}
+use Rattle.sig_base.specs.declared.limits.TheConstants.{FLOW_BYTES, ITEMS, PROGRAM_BYTES}
 use Rattle.sig_base.specs.declared.place.Place.{Place}
 use Rattle.sig_base.specs.declared.signal.Signal.{Signal}
 use Rattle.sig_text.specs.Files.{Contents, name_where_there}
@@ -44,10 +44,10 @@ HoldTooMany kernel capacity = HoldItems kernel capacity (λ items. ITEMS < items
 abbrev pub HoldFew : Kernel → ℕ → Type 0
 HoldFew kernel capacity = HoldItems kernel capacity (λ items. items ≤ ITEMS)
 
--- where they hold too many items the command is refused, behind the program file; else comes what follows
-abbrev pub AtLinks : Kernel → ℕ → List ℕ → (Outcome → Type 0) → Outcome → Type 0
+-- where they hold too many items the command is refused, behind the file that was asked for last; else comes what follows
+abbrev pub AtLinks : Kernel → ℕ → Option (List ℕ) → (Outcome → Type 0) → Outcome → Type 0
 AtLinks kernel capacity file Next o =
-    (HoldTooMany kernel capacity × (o ≡ refused 2 too_many_items (Some file))) ⊎ (HoldFew kernel capacity × Next o)
+    (HoldTooMany kernel capacity × (o ≡ refused 2 too_many_items file)) ⊎ (HoldFew kernel capacity × Next o)
 
 -- ---- the flow file
 
@@ -91,7 +91,7 @@ pub record RunsTo (kernel : Kernel) (flows : List (List ℤ)) (limit : ℕ) (fil
 abbrev pub RunComesTo : Contents → (program flows : List ℕ) → Settings → Outcome → Type 0
 RunComesTo held program flows settings o =
     AtPlan held program (λ kernel.
-    AtLinks kernel settings.capacity program (
+    AtLinks kernel settings.capacity (Some program) (
     AtFlows held flows (inputs_of kernel) (λ values. RunsTo kernel values settings.instants flows))) o
 
 -- its statuses, the refusals that there may be, and the file that was begun last
@@ -140,9 +140,9 @@ pub record LacksMemory {S : Type 0} (out out' : S) (Said : List ℕ → Type 0) 
 -- longest trace was taken, and the line was said that names the cause why that is not longer.
 pub record HasRun (held : Contents) (program flows : List ℕ) (settings : Settings) (status : ℕ) (Took Said : List ℕ → Type 0) : Type 0 where
   pub kernel : Kernel
-  pub accepted : Holds (held program) 1048576 (λ bytes. IsAcceptedAs bytes kernel)
+  pub accepted : Holds (held program) PROGRAM_BYTES (λ bytes. IsAcceptedAs bytes kernel)
   pub values : List (List ℤ)
-  pub read : Holds (held flows) 67108864 (λ bytes. AreFlows (inputs_of kernel) bytes values)
+  pub read : Holds (held flows) FLOW_BYTES (λ bytes. AreFlows (inputs_of kernel) bytes values)
   pub plan : PlanView
   pub planned : IsPlanOf kernel plan
   pub trace : Trace

@@ -104,7 +104,7 @@ fn run_out<S: Sink>(
 }
 
 /// The status of a run that came to its end.
-fn end_status(cause: Cause) -> u8
+pub fn end_status(cause: Cause) -> u8
     ensures { result ≡ end_status cause }
 {
     match cause {

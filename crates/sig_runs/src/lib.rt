@@ -7,4 +7,6 @@ mod command;
 mod load;
 mod report;
 
-pub use command::run_command;
+pub use command::{end_status, run_command};
+pub use load::{Loaded, flows_of, hold_too_many};
+pub use report::say_end;

@@ -62,7 +62,7 @@ pub fn load<'a, F: Files>(
 }
 
 /// Whether the links of a plan, each of which holds `capacity` items, hold too many together.
-fn hold_too_many(plan: &Plan, capacity: u32) -> bool
+pub fn hold_too_many(plan: &Plan, capacity: u32) -> bool
     ensures many { result ≡ true → HoldTooMany plan.now.kernel capacity }
     ensures few { result ≡ false → HoldFew plan.now.kernel capacity }
 {
@@ -94,7 +94,7 @@ fn load_flows<'a, F: Files>(
 }
 
 /// The flows of a kernel's inputs that the bytes of the file of this name are.
-fn flows_of<'a>(
+pub fn flows_of<'a>(
     alloc: Global,
     bytes: &[u8],
     name: &str,

@@ -4,6 +4,7 @@ mod alone;
 mod back;
 mod clock;
 mod code;
+mod cores;
 mod dd;
 mod diagrams;
 mod graph;

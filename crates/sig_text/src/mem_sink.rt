@@ -80,6 +80,7 @@ impl Sink for MemSink {
         ensures fails { (result ≡ Wrote.Failed) ↔ WriteFails self.old piece.now }
         ensures takes { IfTook result (λ n. n ≡ min (room_left self.old) (length piece.now)) }
         ensures bytes { Grew self.old (taken_of result piece.now) self.new }
+        ensures clean { self.new.clean ≡ false }
         ensures room_stays { self.new.room ≡ self.old.room }
         ensures calls { self.new.calls ≡ after_call self.old.calls (write_failed result) }
         ensures faults_stay { self.old.calls.faults ≤ self.new.calls.faults }

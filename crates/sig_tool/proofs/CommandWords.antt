@@ -3,7 +3,7 @@ use Rattle.std.proofs.Common.{◌≡◌, ℕ, List, Option, inl, refl, sym, subs
 use Rattle.sig_text.specs.Files.{Contents}
 use Rattle.sig_words.specs.Readings.{Word}
 use Rattle.sig_words.specs.declared.command.Command.{Command}
-use Rattle.sig_words.specs.declared.command.Command.TheVariants.{Check, Code, Judge, Print, Run, Tree}
+use Rattle.sig_words.specs.declared.command.Command.TheVariants.{Check, Code, Judge, Load, Print, Run, Tree}
 use Rattle.sig_outcome.specs.Tasks.{IsRefusedBy, memory_line}
 use Rattle.sig_outcome.specs.declared.refusal.Refusal.TheVariants.{OutOfMemory}
 use Rattle.sig_tool.specs.Commands.{IsBuilt}
@@ -21,6 +21,7 @@ about_none (Tree program pace) built = tt
 about_none (Code program pace) built = tt
 about_none (Print program) built = tt
 about_none (Judge program traces) built = inl tt
+about_none (Load seed stages settings) built = tt
 about_none _ built = absurd built
 
 pub refused_unread : (contents : Option Contents) (c : Command) (before at : Option (List ℕ)) (misses misses' faults faults' : ℕ) (Said : List ℕ → Type 0) → IsBuilt c → Said memory_line → IsRefusedBy (λ held. ComesTo held c) (IsAbout c) contents before at misses misses' faults faults' 7 Said

@@ -1,9 +1,10 @@
 -- The statuses that are answered.
 use Rattle.std.proofs.Common.{◌≡◌, ◌⊎◌, ℕ, inl, inr}
 use Rattle.sig_words.specs.declared.command.Command.{Command}
-use Rattle.sig_words.specs.declared.command.Command.TheVariants.{Check, Code, Judge, Print, Run, Tree}
+use Rattle.sig_words.specs.declared.command.Command.TheVariants.{Check, Code, Judge, Load, Print, Run, Tree}
 use Rattle.sig_compile.specs.Compiling.{IsCompileStatus}
 use Rattle.sig_runs.specs.Runs.{IsRunStatus}
+use Rattle.sig_loads.specs.Loads.{IsLoadStatus}
 use Rattle.sig_tool.specs.TopCall.{IsStatus, IsStatusOf}
 
 compile_status : (status : ℕ) → IsCompileStatus status → IsStatus status
@@ -24,12 +25,22 @@ run_status status (inr (inr (inr (inr (inr (inl is)))))) = inr (inl (inr (inr (i
 run_status status (inr (inr (inr (inr (inr (inr (inl is))))))) = inr (inl (inr (inr (inr (inr (inl is))))))
 run_status status (inr (inr (inr (inr (inr (inr (inr is))))))) = inr (inl (inr (inr (inr (inr (inr is))))))
 
+load_status : (status : ℕ) → IsLoadStatus status → IsStatus status
+load_status status (inl ends) = inl (inl ends)
+load_status status (inr (inl is)) = inr (inr is)
+load_status status (inr (inr (inl is))) = inr (inl (inl is))
+load_status status (inr (inr (inr (inl is)))) = inr (inl (inr (inl is)))
+load_status status (inr (inr (inr (inr (inl is))))) = inr (inl (inr (inr (inl is))))
+load_status status (inr (inr (inr (inr (inr (inl is)))))) = inr (inl (inr (inr (inr (inr (inl is))))))
+load_status status (inr (inr (inr (inr (inr (inr is)))))) = inr (inl (inr (inr (inr (inr (inr is))))))
+
 -- a status of a command is one of those that are answered
 pub is_status : (c : Command) (status : ℕ) → IsStatusOf c status → IsStatus status
 is_status (Run program flows settings) status is = run_status status is
 is_status (Check program pace) status is = compile_status status is
 is_status (Tree program pace) status is = compile_status status is
 is_status (Code program pace) status is = compile_status status is
+is_status (Load seed stages settings) status is = load_status status is
 is_status (Print program) status (inl is) = inl (inl (inl is))
 is_status (Print program) status (inr (inl is)) = inr (inr is)
 is_status (Print program) status (inr (inr (inl is))) = inr (inl (inl is))

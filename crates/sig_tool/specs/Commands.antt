@@ -3,9 +3,10 @@ use Rattle.std.specs.Prelude.{◌≡◌, ◌≤◌, false, ⊤}
 use Rattle.sig_base.specs.declared.limits.TheConstants.{INSTANTS_MAX}
 use Rattle.sig_words.specs.Commands.{settings_of}
 use Rattle.sig_words.specs.declared.command.Command.{Command}
-use Rattle.sig_words.specs.declared.command.Command.TheVariants.{Check, Code, Judge, Print, Run, Tree}
+use Rattle.sig_words.specs.declared.command.Command.TheVariants.{Check, Code, Judge, Load, Print, Run, Tree}
 
--- a command is built: a run, a check, a tree or a code without pacing, the printing of a program, and the judging of a trace
+-- a command is built: a run, a check, a tree or a code without pacing, a load, the printing of a program, and the judging of
+-- a trace
 abbrev pub IsBuilt : Command → Type 0
 IsBuilt (Run program flows settings) = settings.pace ≡ false
 IsBuilt (Check program pace) = pace ≡ false
@@ -13,8 +14,15 @@ IsBuilt (Tree program pace) = pace ≡ false
 IsBuilt (Code program pace) = pace ≡ false
 IsBuilt (Print program) = ⊤
 IsBuilt (Judge program traces) = ⊤
+IsBuilt (Load seed stages settings) = ⊤
 IsBuilt _ = ⊥
 
--- the limit of instants of a command is at most 1,000,000,000
-abbrev pub IsLimited : Command → Type 0
-IsLimited c = (settings_of c).instants ≤ INSTANTS_MAX
+-- a load has from 1 to 12 stages
+abbrev pub HasStages : Command → Type 0
+HasStages (Load seed stages settings) = (1 ≤ stages) × (stages ≤ 12)
+HasStages _ = ⊤
+
+-- the limit of instants of a command is at most 1,000,000,000, and its stages are within their bounds
+pub record IsLimited (c : Command) : Type 0 where
+  pub instants : (settings_of c).instants ≤ INSTANTS_MAX
+  pub stages : HasStages c

@@ -1,20 +1,23 @@
 -- What is said of a call of the top, for every command.
-use Rattle.std.specs.Prelude.{◌≡◌, ◌⊎◌, ℕ, List, Option, IfSome}
+use Rattle.std.specs.Prelude.{◌≡◌, ◌⊎◌, ⊤, ℕ, List, Option, IfSome}
 use Rattle.sig_text.specs.Files.{Contents, name_where_there}
 use Rattle.sig_words.specs.Commands.{IsCommand}
 use Rattle.sig_words.specs.Readings.{Word}
 use Rattle.sig_words.specs.declared.command.Command.{Command}
 use Rattle.sig_words.specs.declared.command.Settings.{Settings}
-use Rattle.sig_words.specs.declared.command.Command.TheVariants.{Check, Code, Judge, Print, Run, Tree}
+use Rattle.sig_words.specs.declared.command.Command.TheVariants.{Check, Code, Judge, Load, Print, Run, Tree}
 use Rattle.sig_outcome.specs.Outcomes.{Outcome}
 use Rattle.sig_outcome.specs.Tasks.{IsDone, IsRefused, Task}
 use Rattle.sig_outcome.specs.declared.refusal.Refusal.{Refusal}
 use Rattle.sig_code.specs.Texts.{IsCodeText}
 use Rattle.sig_hier.specs.Texts.{IsTreeText}
-use Rattle.sig_compile.specs.Compiling.{CompileComesTo, HoldsBeyondBound, IsAboutPlan, IsCompileStatus, IsVerdictText}
+use Rattle.sig_compile.specs.Compiling.{CompileComesTo, HoldsBeyondBound, IsBeyondBound, IsAboutPlan, IsCompileStatus, IsVerdictText}
 use Rattle.sig_compile.specs.Printing.{IsAboutText, IsPrintStatus, PrintComesTo}
 use Rattle.sig_judging.specs.Judging.{HasBegunJudge, IsAboutJudge, IsJudgeStatus, JudgeComesTo}
 use Rattle.sig_runs.specs.Runs.{HasBegunRun, IsAboutRun, IsRunStatus, RunComesTo}
+use Rattle.sig_load.specs.Program.{program as generated}
+use Rattle.sig_loads.specs.Loads.{IsLoadStatus, LoadComesTo}
+use Rattle.sig_loads.specs.Refusals.{IsAboutLoad}
 use Rattle.sig_tool.specs.Commands.{IsBuilt}
 
 -- ---- the command that the words are
@@ -41,6 +44,7 @@ ComesTo held (Tree program pace) o = CompileComesTo IsTreeText held program o
 ComesTo held (Code program pace) o = CompileComesTo IsCodeText held program o
 ComesTo held (Print program) o = PrintComesTo held program o
 ComesTo held (Judge program traces) o = JudgeComesTo held program traces o
+ComesTo held (Load seed stages settings) o = LoadComesTo seed stages settings o
 ComesTo held _ o = ⊥
 
 -- a fact of what a command with told contents comes to
@@ -58,6 +62,7 @@ IsStatusOf (Tree program pace) status = IsCompileStatus status
 IsStatusOf (Code program pace) status = IsCompileStatus status
 IsStatusOf (Print program) status = IsPrintStatus status
 IsStatusOf (Judge program traces) status = IsJudgeStatus status
+IsStatusOf (Load seed stages settings) status = IsLoadStatus status
 IsStatusOf _ status = ⊥
 
 -- a refusal may be one of a command
@@ -68,9 +73,10 @@ IsAbout (Tree program pace) r = IsAboutPlan program r
 IsAbout (Code program pace) r = IsAboutPlan program r
 IsAbout (Print program) r = IsAboutText program r
 IsAbout (Judge program traces) r = IsAboutJudge program traces r
+IsAbout (Load seed stages settings) r = IsAboutLoad r
 IsAbout _ r = ⊥
 
--- the file that was begun last is one of the command's
+-- the file that was begun last is one of the command's; one that names none begins none
 abbrev pub HasBegun : Contents → Command → Option (List ℕ) → Type 0
 HasBegun held (Run program flows settings) at = HasBegunRun held program flows at
 HasBegun held (Check program pace) at = at ≡ name_where_there held program
@@ -78,6 +84,7 @@ HasBegun held (Tree program pace) at = at ≡ name_where_there held program
 HasBegun held (Code program pace) at = at ≡ name_where_there held program
 HasBegun held (Print program) at = at ≡ name_where_there held program
 HasBegun held (Judge program traces) at = HasBegunJudge held program traces at
+HasBegun held (Load seed stages settings) at = ⊤
 HasBegun held _ at = ⊥
 
 -- the program which a command compiles is not within the bound for which the nodes of a store suffice
@@ -86,6 +93,7 @@ CompilesBeyondBound held (Run program flows settings) = HoldsBeyondBound (held p
 CompilesBeyondBound held (Check program pace) = HoldsBeyondBound (held program)
 CompilesBeyondBound held (Tree program pace) = HoldsBeyondBound (held program)
 CompilesBeyondBound held (Code program pace) = HoldsBeyondBound (held program)
+CompilesBeyondBound held (Load seed stages settings) = IsBeyondBound (generated stages)
 CompilesBeyondBound held _ = ⊥
 
 -- all of this, as what is asked for

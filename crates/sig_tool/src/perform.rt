@@ -1,6 +1,6 @@
 //! A command that is built, from its files to a status.
 
-ghost use Rattle.std.specs.Prelude.{◌≡◌};
+ghost use Rattle.std.specs.Prelude.{◌≡◌, []};
 ghost use Rattle.std.specs.List.{AllByRecursion};
 ghost use Rattle.std.specs.Str.{IsUtf8};
 ghost use Rattle.sig_outcome.specs.Tasks.{Performs, SaysLine};
@@ -11,6 +11,7 @@ ghost use Rattle.sig_tool.specs.TopCall.{task_of};
 use sig_base::Text;
 use sig_compile::{Product, compile_command, print_command};
 use sig_judging::judge_command;
+use sig_loads::load_command;
 use sig_runs::run_command;
 use sig_text::{Files, Sink};
 use sig_words::Command;
@@ -28,11 +29,12 @@ pub fn perform<F: Files, S: Sink, E: Sink>(
     requires built { IsBuilt command.now }
     requires names { AllByRecursion IsUtf8 (files_of command.now) }
     requires limited { IsLimited command.now }
-    ensures { Performs (task_of command.now)
+    ensures performs { Performs (task_of command.now)
         (F.contents files.old) (F.at files.old) (F.at files.new)
         (F.misses files.old) (F.misses files.new) (F.faults files.old) (F.faults files.new)
         S.took out.old out.new (S.faults out.old) (S.faults out.new) (S.clean out.new)
         (SaysLine E.took (E.faults err.old) (E.faults err.new) err.old err.new) result }
+    ensures no_files { files_of command.now ≡ [] → files.new ≡ files.old }
 {
     match command {
         Command::Run(program, flows, settings) => {
@@ -51,6 +53,9 @@ pub fn perform<F: Files, S: Sink, E: Sink>(
         Command::Judge(program, traces) => {
             let (program, traces) = (name_of(program), name_of(traces));
             judge_command(alloc, program, traces, files, out, err)
+        }
+        Command::Load(seed, stages, settings) => {
+            load_command(alloc, *seed, *stages, *settings, out, err)
         }
         Command::Print(program) => print_command(alloc, name_of(program), files, out, err),
         _ => unreachable!(),

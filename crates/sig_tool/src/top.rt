@@ -1,9 +1,10 @@
 //! The top call: from the words of a command line, files and sinks to a status.
 
-ghost use Rattle.std.specs.Prelude.{◌≡◌, ◌⊎◌, IfSome, IsTrue};
+ghost use Rattle.std.specs.Prelude.{◌≡◌, ◌⊎◌, [], IfSome, IsTrue};
 ghost use Rattle.sig_text.specs.Counts.{Rose};
 ghost use Rattle.sig_text.specs.Files.{Contents};
 ghost use Rattle.sig_text.specs.Sink.{TookPrefix};
+ghost use Rattle.sig_words.specs.Commands.{files_of};
 ghost use Rattle.sig_words.specs.Readings.{texts};
 ghost use Rattle.sig_words.specs.declared.command.Command.{Command};
 ghost use Rattle.sig_outcome.specs.Outcomes.{Outcome};
@@ -22,9 +23,9 @@ use std::thread::Threads;
 
 /// Does what the words of a command line ask for, and answers the status with which the program ends.
 /// `words` are the command line without the program's name. So far the commands that are built are
-/// `check`, `tree`, `code` and `run` without the flag `--pace`, `print` and `judge`. A run is made on this
-/// thread, whatever the number of workers; the capacity of a link is asked for how many items the links
-/// of the program would hold.
+/// `check`, `tree`, `code` and `run` without the flag `--pace`, `print`, `judge` and `load`. A run is made on
+/// this thread, whatever the number of workers; the capacity of a link is asked for how many items the
+/// links of the program would hold.
 ///
 /// | Status | Comes |
 /// |---|---|
@@ -97,6 +98,7 @@ pub fn sig_main<R: Threads + Wait + Sync, F: Files, S: Sink, E: Sink, G: Gate + 
         IfSome (F.contents files.old) (λ held. HasBegun held c (F.at files.new))
         ⊎ ((result ≡ 7) × (files.new ≡ files.old))) }
     ensures none_begun { AreNoCommand (texts words.now) → files.new ≡ files.old }
+    ensures no_files { OfCommand (texts words.now) (λ c. files_of c ≡ [] → files.new ≡ files.old) }
 {
     match built_command(alloc, words) {
         Ok(command) => perform(alloc, &command, files, out, err),

@@ -1,5 +1,6 @@
 -- The limits of nesting and of operators.
 use Rattle.std.specs.Prelude.{◌≡◌, ◌+◌, ◌<◌, ◌≤◌, ℕ, Bool, true, false, sum_by}
+use Rattle.sig_base.specs.declared.limits.TheConstants.{NESTING, OPERATORS}
 use Rattle.sig_tree.specs.Syntax.{Expression, Named, Number, Truth, Unary, Binary, Delay, Cell, RightSide, Computed, Called}
 
 -- which of the two limits are kept
@@ -19,14 +20,14 @@ nesting_limit = record { nesting = true; operators = false }
 abbrev pub no_limits : Limits
 no_limits = record { nesting = false; operators = false }
 
--- A construct may stand inside so many others: fewer than 64, where the limit is kept. The constructs
+-- A construct may stand inside so many others: fewer than `NESTING`, where the limit is kept. The constructs
 -- that count are `(` in expressions and on left sides, `(|`, nested processes and prefix operators.
 abbrev pub MayStandInside : Limits → ℕ → Type 0
-MayStandInside limits depth = limits.nesting ≡ true → depth < 64
+MayStandInside limits depth = limits.nesting ≡ true → depth < NESTING
 
--- an equation may have so many operators: at most 512, where the limit is kept
+-- an equation may have so many operators: at most `OPERATORS`, where the limit is kept
 abbrev pub MayHave : Limits → ℕ → Type 0
-MayHave limits count = limits.operators ≡ true → count ≤ 512
+MayHave limits count = limits.operators ≡ true → count ≤ OPERATORS
 
 -- the operators of an expression
 abbrev pub operators : Expression → ℕ

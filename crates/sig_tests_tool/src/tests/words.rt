@@ -35,7 +35,7 @@ fn takes_options(rt: HostRuntime) -> Result<(), Fail> {
 /// Words that are no command, or none that is built.
 #[test]
 fn refuses_words(rt: HostRuntime) -> Result<(), Fail> {
-    let lines: [&[&str]; 16] = [
+    let lines: [&[&str]; 17] = [
         &[],
         &["run", "P"],
         &["run", "P", "F", "F"],
@@ -48,7 +48,8 @@ fn refuses_words(rt: HostRuntime) -> Result<(), Fail> {
         &["run", "P", "F", "--instants"],
         &["check", "P", "--pace=1"],
         &["check", "P", "--pace"],
-        &["load", "1", "3"],
+        &["load", "1", "13"],
+        &["load", "1", "3", "--instants", "5"],
         &["exec", "P", "F"],
         &["run", "P", "F", "--pace"],
         &["run", "P", "F", "--pace=1"],

@@ -4,22 +4,32 @@ use Rattle.sig_tool.specs.Commands.{IsLimited}
 use Rattle.sig_tool.proofs.perform.perform.Goals as goal
 
 pub run_command-requires : goal.run_command-requires
-run_command-requires g c = subst (λ (d : Command). IsLimited d) c.in-Run.is c.requires.limited
+run_command-requires g c = (subst (λ (d : Command). IsLimited d) c.in-Run.is c.requires.limited).instants
 
-pub returns-in-Run : goal.returns-in-Run
-returns-in-Run g c = rw c.in-Run.is (rw (c.name_of-program.ensures, c.name_of-flows.ensures) at c.run_command.ensures)
+pub load_command-requires-clause-some : goal.load_command-requires-clause-some
+load_command-requires-clause-some g c = (subst (λ (d : Command). IsLimited d) c.in-Load.is c.requires.limited).stages.0
 
-pub returns-in-Print : goal.returns-in-Print
-returns-in-Print g c = rw c.in-Print.is (rw c.name_of-in-Print.ensures at c.print_command.ensures)
+pub load_command-requires-clause-few : goal.load_command-requires-clause-few
+load_command-requires-clause-few g c = (subst (λ (d : Command). IsLimited d) c.in-Load.is c.requires.limited).stages.1
 
-pub returns-in-Judge : goal.returns-in-Judge
-returns-in-Judge g c = rw c.in-Judge.is (rw (c.name_of-program-in-Judge.ensures, c.name_of-traces.ensures) at c.judge_command.ensures)
+pub returns-in-Run-clause-performs : goal.returns-in-Run-clause-performs
+returns-in-Run-clause-performs g c = rw c.in-Run.is (rw (c.name_of-program.ensures, c.name_of-flows.ensures) at c.run_command.ensures)
 
-pub returns-in-Check : goal.returns-in-Check
-returns-in-Check g c = rw c.in-Check.is (rw c.name_of.ensures at c.compile_command.ensures)
+pub returns-in-Load-clause-performs : goal.returns-in-Load-clause-performs
+returns-in-Load-clause-performs g c =
+    rw c.in-Load.is (c.load_command.ensures (g.F.Files.contents c.args.files.now) (g.F.Files.at c.args.files.now) (g.F.Files.misses c.args.files.now) (g.F.Files.faults c.args.files.now))
 
-pub returns-in-Tree : goal.returns-in-Tree
-returns-in-Tree g c = rw c.in-Tree.is (rw c.name_of-in-Tree.ensures at c.compile_command-in-Tree.ensures)
+pub returns-in-Print-clause-performs : goal.returns-in-Print-clause-performs
+returns-in-Print-clause-performs g c = rw c.in-Print.is (rw c.name_of-in-Print.ensures at c.print_command.ensures)
 
-pub returns-in-Code : goal.returns-in-Code
-returns-in-Code g c = rw c.in-Code.is (rw c.name_of-in-Code.ensures at c.compile_command-in-Code.ensures)
+pub returns-in-Judge-clause-performs : goal.returns-in-Judge-clause-performs
+returns-in-Judge-clause-performs g c = rw c.in-Judge.is (rw (c.name_of-program-in-Judge.ensures, c.name_of-traces.ensures) at c.judge_command.ensures)
+
+pub returns-in-Check-clause-performs : goal.returns-in-Check-clause-performs
+returns-in-Check-clause-performs g c = rw c.in-Check.is (rw c.name_of.ensures at c.compile_command.ensures)
+
+pub returns-in-Tree-clause-performs : goal.returns-in-Tree-clause-performs
+returns-in-Tree-clause-performs g c = rw c.in-Tree.is (rw c.name_of-in-Tree.ensures at c.compile_command-in-Tree.ensures)
+
+pub returns-in-Code-clause-performs : goal.returns-in-Code-clause-performs
+returns-in-Code-clause-performs g c = rw c.in-Code.is (rw c.name_of-in-Code.ensures at c.compile_command-in-Code.ensures)

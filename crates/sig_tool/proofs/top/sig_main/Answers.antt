@@ -1,7 +1,8 @@
-use Rattle.std.proofs.Common.{inl, subst, sym}
+use Rattle.std.proofs.Common.{◌≡◌, [], inl, subst, sym}
 use Rattle.std.specs.Prelude.{IfSome}
 use Rattle.sig_text.specs.Counts.{Rose}
 use Rattle.sig_text.specs.Sink.{TookPrefix}
+use Rattle.sig_words.specs.Commands.{files_of}
 use Rattle.sig_words.specs.Readings.{texts}
 use Rattle.sig_outcome.specs.Tasks.{IsDue, IsRefusedBy, MayAnswer, SaysLine}
 use Rattle.sig_tool.specs.TopCall.{ComesTo, CompilesBeyondBound, HasBegun, IsAbout, IsStatusOf, OfOutcome}
@@ -16,17 +17,17 @@ use Rattle.sig_tool.proofs.top.sig_main.Goals as goal
 -- ---- the words are a command, and each clause is a part of what is promised of it
 
 pub returns-in-Ok-clause-numbers : goal.returns-in-Ok-clause-numbers
-returns-in-Ok-clause-numbers g c = is_status c.in-Ok.command c.perform.result c.perform.ensures.numbers
+returns-in-Ok-clause-numbers g c = is_status c.in-Ok.command c.perform.result c.perform.ensures.performs.numbers
 
 pub returns-in-Ok-clause-numbers_of : goal.returns-in-Ok-clause-numbers_of
 returns-in-Ok-clause-numbers_of g c =
-    of_one (texts c.args.words.now) c.in-Ok.command (λ command. IsStatusOf command c.perform.result) c.in-Ok.ensures.only c.perform.ensures.numbers
+    of_one (texts c.args.words.now) c.in-Ok.command (λ command. IsStatusOf command c.perform.result) c.in-Ok.ensures.only c.perform.ensures.performs.numbers
 
 pub returns-in-Ok-clause-prefix : goal.returns-in-Ok-clause-prefix
 returns-in-Ok-clause-prefix g c =
     of_one (texts c.args.words.now) c.in-Ok.command
     (λ command. OfOutcome (g.F.Files.contents c.args.files.now) command (λ o. TookPrefix g.S.Sink.took c.args.out.now o.text c.perform.new.out))
-    c.in-Ok.ensures.only c.perform.ensures.prefix
+    c.in-Ok.ensures.only c.perform.ensures.performs.prefix
 
 pub returns-in-Ok-clause-whole : goal.returns-in-Ok-clause-whole
 returns-in-Ok-clause-whole g c = λ ends.
@@ -34,7 +35,7 @@ returns-in-Ok-clause-whole g c = λ ends.
     (λ command. IfSome (g.F.Files.contents c.args.files.now) (λ held. IsDue (ComesTo held command) held (g.F.Files.at c.args.files.now) (g.F.Files.at c.perform.new.files) c.perform.result
     (λ text line. g.S.Sink.took c.args.out.now text c.perform.new.out
     × SaysLine g.E.Sink.took (g.E.Sink.faults c.args.err.now) (g.E.Sink.faults c.perform.new.err) c.args.err.now c.perform.new.err line)))
-    c.in-Ok.ensures.only (c.perform.ensures.whole ends)
+    c.in-Ok.ensures.only (c.perform.ensures.performs.whole ends)
 
 pub returns-in-Ok-clause-run : goal.returns-in-Ok-clause-run
 returns-in-Ok-clause-run g c = λ ends program flows settings is built.
@@ -46,7 +47,7 @@ returns-in-Ok-clause-run g c = λ ends program flows settings is built.
     (λ text line. g.S.Sink.took c.args.out.now text c.perform.new.out
     × SaysLine g.E.Sink.took (g.E.Sink.faults c.args.err.now) (g.E.Sink.faults c.perform.new.err) c.args.err.now c.perform.new.err line))
     (sym (c.in-Ok.ensures.only (Run program flows settings) is built)) due) ends)
-    (c.perform.ensures.whole (inl ends)) (c.perform.ensures.whole (inl ends))
+    (c.perform.ensures.performs.whole (inl ends)) (c.perform.ensures.performs.whole (inl ends))
 
 pub returns-in-Ok-clause-status : goal.returns-in-Ok-clause-status
 returns-in-Ok-clause-status g c =
@@ -54,13 +55,13 @@ returns-in-Ok-clause-status g c =
     (λ command. OfOutcome (g.F.Files.contents c.args.files.now) command (λ o. MayAnswer o.status c.perform.result
     (Rose (g.F.Files.faults c.args.files.now) (g.F.Files.faults c.perform.new.files))
     (Rose (g.S.Sink.faults c.args.out.now) (g.S.Sink.faults c.perform.new.out))))
-    c.in-Ok.ensures.only c.perform.ensures.owed
+    c.in-Ok.ensures.only c.perform.ensures.performs.owed
 
 pub returns-in-Ok-clause-budget : goal.returns-in-Ok-clause-budget
 returns-in-Ok-clause-budget g c = λ eight.
     of_one (texts c.args.words.now) c.in-Ok.command
     (λ command. IfSome (g.F.Files.contents c.args.files.now) (λ held. CompilesBeyondBound held command))
-    c.in-Ok.ensures.only (c.perform.ensures.budget eight)
+    c.in-Ok.ensures.only (c.perform.ensures.performs.budget eight)
 
 pub returns-in-Ok-clause-refused : goal.returns-in-Ok-clause-refused
 returns-in-Ok-clause-refused g c = λ refuses.
@@ -68,22 +69,26 @@ returns-in-Ok-clause-refused g c = λ refuses.
     (λ command. IsRefusedBy (λ held. ComesTo held command) (IsAbout command) (g.F.Files.contents c.args.files.now) (g.F.Files.at c.args.files.now) (g.F.Files.at c.perform.new.files)
     (g.F.Files.misses c.args.files.now) (g.F.Files.misses c.perform.new.files) (g.F.Files.faults c.args.files.now) (g.F.Files.faults c.perform.new.files) c.perform.result
     (SaysLine g.E.Sink.took (g.E.Sink.faults c.args.err.now) (g.E.Sink.faults c.perform.new.err) c.args.err.now c.perform.new.err))
-    c.in-Ok.ensures.only (c.perform.ensures.refused refuses)
+    c.in-Ok.ensures.only (c.perform.ensures.performs.refused refuses)
 
 pub returns-in-Ok-clause-begun : goal.returns-in-Ok-clause-begun
 returns-in-Ok-clause-begun g c = λ d is built.
     inl (of_one (texts c.args.words.now) c.in-Ok.command
     (λ command. IfSome (g.F.Files.contents c.args.files.now) (λ held. HasBegun held command (g.F.Files.at c.perform.new.files)))
-    c.in-Ok.ensures.only c.perform.ensures.begun d is built)
+    c.in-Ok.ensures.only c.perform.ensures.performs.begun d is built)
 
 pub returns-in-Ok-clause-words_line : goal.returns-in-Ok-clause-words_line
 returns-in-Ok-clause-words_line g c = λ none two. absurd (none c.in-Ok.command c.in-Ok.ensures.command c.in-Ok.ensures.built)
 
 pub returns-in-Ok-clause-items_line : goal.returns-in-Ok-clause-items_line
-returns-in-Ok-clause-items_line g c = λ two d is built. c.perform.ensures.items_line two
+returns-in-Ok-clause-items_line g c = λ two d is built. c.perform.ensures.performs.items_line two
 
 -- ---- memory was wanting to read the words
 
 pub returns-in-Err-OutOfMemory-clause-refused : goal.returns-in-Err-OutOfMemory-clause-refused
 returns-in-Err-OutOfMemory-clause-refused g c = λ refuses d is built.
     refused_unread _ d _ _ _ _ _ _ _ built c.say_no_memory.ensures
+
+pub returns-in-Ok-clause-no_files : goal.returns-in-Ok-clause-no_files
+returns-in-Ok-clause-no_files g c =
+    of_one (texts c.args.words.now) c.in-Ok.command (λ command. files_of command ≡ [] → c.perform.new.files ≡ c.args.files.now) c.in-Ok.ensures.only c.perform.ensures.no_files

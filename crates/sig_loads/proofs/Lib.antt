@@ -1,0 +1,3 @@
+pub mod OneLoad
+mod Stopped
+mod Counted

@@ -1,0 +1,16 @@
+use Rattle.std.proofs.Common.{◌≤◌, length, rules}
+use Rattle.sig_base.specs.declared.limits.TheConstants.{PROGRAM_BYTES}
+use Rattle.sig_load.specs.Program.{program}
+use Rattle.sig_outcome.proofs.Refused.{on_err, on_ok}
+use Rattle.sig_loads.proofs.Stopped.{of_program}
+use Rattle.sig_loads.proofs.generated.generated_plan.Goals as goal
+
+pub returns-clause-program : goal.returns-clause-program
+returns-clause-program c =
+    let short : length (program c.args.stages) ≤ PROGRAM_BYTES = search rules in
+    on_ok c.plan_of.result _ _ (λ plan is. (short, is)) (rw (c.deref.ensures.value, c.in-Ok.ensures) at c.plan_of.ensures.plan)
+
+pub returns-clause-refused : goal.returns-clause-refused
+returns-clause-refused c =
+    let short : length (program c.args.stages) ≤ PROGRAM_BYTES = search rules in
+    on_err c.plan_of.result _ _ (λ r of. of_program (program c.args.stages) short r of) (rw (c.deref.ensures.value, c.in-Ok.ensures) at c.plan_of.ensures.refused)

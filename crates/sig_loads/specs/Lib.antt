@@ -1,0 +1,4 @@
+pub mod Loads
+pub mod Refusals
+pub mod Stopping
+pub mod Summaries
