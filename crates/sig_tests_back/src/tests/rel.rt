@@ -9,7 +9,7 @@ use sig_base::{Kind, SigId};
 use sig_clock::condition_set;
 use sig_dd::{DdAnswer, Ref, Store};
 use sig_kernel::{Form, FunOp, Kernel, Operand};
-use sig_rel::{RelAnswer, Relation, System, free_system, relation, system, triangle};
+use sig_rel::{RelAnswer, Relation, System, free_system, relation, triangle};
 use std::alloc::{AllocError, Global};
 use std::marker::Brand;
 use std::sync::ledger::Blank;
@@ -196,92 +196,6 @@ fn the_clocks_of_samplings(rt: HostRuntime) -> Result<(), Fail> {
         [t, t, t, a, b, both, a].as_slice()
     );
     assert_eq!(rt; found.truth.as_slice(), [a, b, t, a, b, both, a].as_slice());
-    Ok(())
-}
-
-/// The system of a kernel that is valid, by cuts.
-fn cut_system_of(
-    alloc: Global,
-    kernel: &Kernel,
-    store: &mut Store,
-) -> Result<Option<System>, RelAnswer> {
-    if kernel.is_valid() {
-        let conditions = condition_set(alloc, kernel)?;
-        Ok(Some(system(alloc, kernel, conditions.as_slice(), store)?))
-    } else {
-        Ok(None)
-    }
-}
-
-/// `X := A when B`, `A ^= B ^= X`.
-fn sampled_in_its_class(alloc: Global) -> Result<Kernel, AllocError> {
-    let listed = [
-        ("A", Kind::Integer, 0),
-        ("B", Kind::Boolean, 0),
-        ("X", Kind::Integer, 0),
-    ];
-    let forms = vec![in alloc;
-        Form::When(SigId(2), SigId(0), SigId(1)),
-        Form::Sync(SigId(0), SigId(1)),
-        Form::Sync(SigId(1), SigId(2)),
-    ]?;
-    kernel(alloc, &listed, (2, 1, 3), forms)
-}
-
-/// Where a variable is false, or another one is true.
-fn implied(store: &mut Store, v: u32, w: u32) -> Result<Ref, DdAnswer> {
-    let first = store.variable(v)?;
-    let second = store.variable(w)?;
-    let always = store.constant(true);
-    store.ite(first, second, always)
-}
-
-/// Two variables, and where they are true.
-fn two_and_both(store: &mut Store, v: u32, w: u32) -> Result<(Ref, Ref, Ref), DdAnswer> {
-    let first = store.variable(v)?;
-    let second = store.variable(w)?;
-    let both = store.conj(first, second)?;
-    Ok((first, second, both))
-}
-
-// The top of down is cut: it is variable 1, and the truth of the condition is variable 3.
-#[test]
-fn the_clocks_of_down_by_cuts(rt: HostRuntime) -> Result<(), Fail> {
-    let alloc = rt.alloc();
-    let mut store = Store::new(alloc, 1000)?;
-    let found = cut_system_of(alloc, &down(alloc)?, &mut store)?.ok_or("not valid")?;
-    let (t, b, a) = two_and_both(&mut store, 1, 3)?;
-    assert_eq!(rt; found.present.as_slice(), [a, t, t, t, t, a].as_slice());
-    assert_eq!(rt; found.truth.as_slice(), [a, t, t, t, b, a].as_slice());
-    assert!(rt; found.residue == store.constant(true) && found.speaks == t);
-    assert!(rt; found.first == 1 && found.variables == 3);
-    assert_eq!(rt; found.proposals.as_slice(), [3].as_slice());
-    Ok(())
-}
-
-// Its two inputs are classes that nothing determines, and nothing is left to be met.
-#[test]
-fn the_clocks_of_two_roots(rt: HostRuntime) -> Result<(), Fail> {
-    let alloc = rt.alloc();
-    let mut store = Store::new(alloc, 1000)?;
-    let found = cut_system_of(alloc, &two_roots(alloc)?, &mut store)?.ok_or("not valid")?;
-    assert!(rt; found.residue == store.constant(true));
-    assert!(rt; found.first == 0 && found.variables == 2);
-    assert_eq!(rt; found.proposals.len(), 0);
-    Ok(())
-}
-
-// It is present or absent as a whole, and where it is present B is true.
-#[test]
-fn the_residue_of_a_sampling_in_its_class(rt: HostRuntime) -> Result<(), Fail> {
-    let alloc = rt.alloc();
-    let mut store = Store::new(alloc, 1000)?;
-    let kernel = sampled_in_its_class(alloc)?;
-    let found = cut_system_of(alloc, &kernel, &mut store)?.ok_or("not valid")?;
-    let (t, b, _both) = two_and_both(&mut store, 1, 2)?;
-    assert_eq!(rt; found.present.as_slice(), [t, t, t].as_slice());
-    assert_eq!(rt; found.truth.as_slice(), [t, b, t].as_slice());
-    assert!(rt; found.residue == implied(&mut store, 1, 2)? && found.speaks == t);
     Ok(())
 }
 
