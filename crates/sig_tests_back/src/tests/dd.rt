@@ -68,9 +68,6 @@ fn quantifiers_answer(rt: HostRuntime) -> Result<(), Fail> {
     assert_eq!(rt; store.restrict(two.both, 0, true), Ok(two.b));
     assert_eq!(rt; store.forget_var(two.both, 0), Ok(two.b));
     assert_eq!(rt; store.meet_without(two.a, two.b, &[true]), Ok(two.b));
-    assert_eq!(rt; store.rename(two.both, &[1, 0]), Ok(two.both));
-    assert_eq!(rt; store.rename(two.a, &[1, 0]), Ok(two.b));
-    assert_eq!(rt; store.rename(two.b, &[1]), Ok(store.constant(false)));
     let variables = store.support(two.both)?;
     assert_eq!(rt; variables.as_slice(), [0, 1].as_slice());
     Ok(())
