@@ -4,6 +4,7 @@
 #![tactic(auto)]
 
 mod answer;
+mod gates;
 mod guard;
 mod plans;
 mod putting;

@@ -11,24 +11,27 @@ ghost use Rattle.sig_text.specs.Sink.{TookPrefix};
 ghost use Rattle.sig_values.specs.Values.{AreValuesOf, actor_at, at_next, instant_of, seen_in};
 
 use crate::answer::RunAnswer;
+use crate::gates::pass_all;
 use crate::plans::plans_are_accepted;
 use crate::putting::put_reaction;
 use crate::react::react;
 use sig_kernel::Inputs;
 use sig_plan::{Cause, Ended, Plan};
-use sig_text::{Sink, WriteFault};
+use sig_text::{Gate, Sink, WriteFault};
 use sig_values::Values;
 use std::alloc::Global;
 
 /// Runs a plan over flows, up to a limit of instants. The text of each instant is appended to the sink once
 /// the instant is whole, so that of a whole run the sink took the text of the longest trace, and the answer
 /// is the number of its instants with the named cause. Where a write fails, a prefix of that text was
-/// appended. All memory is taken before the first instant.
-pub fn run_alone<S: Sink>(
+/// appended. Each cluster passes the gate before the operations of each instant. All memory is taken before
+/// the first instant.
+pub fn run_alone<S: Sink, G: Gate>(
     alloc: Global,
     plan: &Plan,
     inputs: &Inputs,
     limit: u32,
+    gate: &G,
     sink: &mut S,
 ) -> Result<Ended, RunAnswer>
     requires fits { AreFlowsFor plan.now.kernel inputs.now }
@@ -42,18 +45,19 @@ pub fn run_alone<S: Sink>(
     let Ok(mut values) = Values::new(alloc, plan, inputs) else {
         return Err(RunAnswer::OutOfMemory);
     };
-    match run(&mut values, plan, inputs, limit, sink) {
+    match run(&mut values, plan, inputs, limit, gate, sink) {
         Ok(ended) => Ok(ended),
         Err(WriteFault) => Err(RunAnswer::WriteFault),
     }
 }
 
 /// Runs from the opening.
-fn run<S: Sink>(
+fn run<S: Sink, G: Gate>(
     values: &mut Values,
     plan: &Plan,
     inputs: &Inputs,
     limit: u32,
+    gate: &G,
     sink: &mut S,
 ) -> Result<Ended, WriteFault>
     requires fits { AreFlowsFor plan.now.kernel inputs.now }
@@ -67,6 +71,7 @@ fn run<S: Sink>(
 {
     plans_are_accepted(plan);
     for done in 0..limit {
+        pass_all(plan, gate, done + 1);
         if let Err(cause) = react(values, plan, inputs) {
             return Ok(Ended {
                 instants: done,

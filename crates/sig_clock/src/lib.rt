@@ -8,6 +8,7 @@ mod classes;
 mod clocks;
 mod conditions;
 mod laws;
+mod sharing;
 
 pub use answer::ClockBase;
 pub use classes::same_clock;
@@ -19,3 +20,4 @@ pub use laws::{
     proposals_determine_presences, signals_have_one_layer,
     signals_of_one_clock_are_present_together, silence_is_a_reaction,
 };
+pub use sharing::clocks_may_be_shared;

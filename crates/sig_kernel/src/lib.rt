@@ -6,6 +6,7 @@ mod equation;
 mod flow;
 mod kernel;
 mod laws;
+mod sharing;
 mod table;
 mod valid;
 
@@ -18,4 +19,5 @@ pub use laws::{
     delays_remember_values, flows_hold_values, silent_instants_make_no_difference,
     texts_grow_with_traces, traces_go_on_by_instants,
 };
+pub use sharing::kernels_and_flows_may_be_shared;
 pub use table::Sort;

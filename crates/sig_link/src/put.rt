@@ -1,6 +1,6 @@
 //! The end of a link that puts.
 
-ghost use Rattle.std.specs.Prelude.{◌≡◌, ◌<◌, ◌≤◌, ◌^◌, [], ◌∷◌, ◌++◌, true, length, OnErr, OnOk};
+ghost use Rattle.std.specs.Prelude.{◌≡◌, ◌≤◌, [], ◌∷◌, ◌++◌, true, OnErr, OnOk};
 ghost use Rattle.std.specs.Arc.{arc_value};
 ghost use Rattle.crossbeam_queue.specs.Passes.{view, ruled_capacity, IsPassOf};
 ghost use Rattle.sig_link.specs.Rule.{WasFull};
@@ -27,7 +27,6 @@ impl Put {
     /// Puts the item last of what was sent. `Full` comes only where the queue was full at a step of
     /// this call, and nothing then changed. It may wait for the other end to end a step.
     pub fn push<R: Wait>(&mut self, rt: &R, item: i64) -> Result<(), Full>
-        requires { length (sent self.old) < 2 ^ 32 }
         ensures end { IsSamePut self.old self.new }
         ensures ok { OnOk result (sent self.new ≡ sent self.old ++ item ∷ []) }
         ensures full { OnErr result ((sent self.new ≡ sent self.old)

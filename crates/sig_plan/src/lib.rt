@@ -14,6 +14,7 @@ mod making;
 mod op;
 mod parts;
 mod plan;
+mod sharing;
 mod source;
 
 pub use answer::PlanAnswer;
@@ -39,3 +40,4 @@ pub use making::operations;
 pub use op::{Op, OpKind, Reads};
 pub use parts::{Imports, LinkInfo, Parts};
 pub use plan::Plan;
+pub use sharing::plans_may_be_shared;

@@ -1,5 +1,5 @@
 -- What the ends of links are asked, and what is told of them: what was sent and taken so far, or what each link holds.
-use Rattle.std.specs.Prelude.{◌≡◌, ◌≢◌, ◌<◌, ◌≤◌, ◌^◌, ℕ, ℤ, List, [], ◌∷◌, ◌++◌, length, Option, None, Some, Result, Ok, Err}
+use Rattle.std.specs.Prelude.{◌≡◌, ◌≢◌, ◌<◌, ◌≤◌, ℕ, ℤ, List, [], ◌∷◌, ◌++◌, length, Option, None, Some, Result, Ok, Err}
 use Rattle.sig_base.specs.declared.ids.Full.{Full}
 
 -- what was sent on a link and what was taken from it, as far as a party knows
@@ -76,8 +76,3 @@ QueuesGoOn (Popped link item) before after =
 pub record Asks {E : Type 0} (past : E → Option Past) (queues : E → Option Queues) (asked : Asked) (before after : E) : Type 0 where
   pub tells_past : BothTell (PastGoesOn asked) (past before) (past after)
   pub tells_queues : BothTell (QueuesGoOn asked) (queues before) (queues after)
-
--- fewer than 2 ^ 32 items were sent on a link, where that is told
-abbrev pub HasSentFew : Option Past → ℕ → Type 0
-HasSentFew None link = Unit {0}
-HasSentFew (Some past) link = length (past link).sent < 2 ^ 32

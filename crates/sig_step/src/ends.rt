@@ -1,7 +1,7 @@
 //! The link ends of an actor.
 
 ghost use Rattle.std.specs.Prelude.{◌≡◌, ◌⊎◌, ℕ, List, Option, Contains, IsSome};
-ghost use Rattle.sig_step.specs.LinkEnds.{Asks, HasSentFew, Past, Queues, asked_to_pop, asked_to_push};
+ghost use Rattle.sig_step.specs.LinkEnds.{Asks, Past, Queues, asked_to_pop, asked_to_push};
 
 use sig_base::Full;
 
@@ -22,11 +22,16 @@ pub trait Ends {
     // It tells one of the two.
     ghost tells: { (ends : Self) → IsSome (past ends) ⊎ IsSome (queues ends) };
 
+    // Both are ends of the same links.
+    ghost same: { Self → Self → Type 0 };
+
+    ghost same_itself: { (ends : Self) → same ends ends };
+
     /// Sends an item on a link.
     fn push(&mut self, link: u32, item: i64) -> Result<(), Full>
         requires end { Contains (pushes self.old) link }
-        requires few { HasSentFew (past self.old) link }
         ensures asked { Asks past queues (asked_to_push link item result) self.old self.new }
+        ensures links { same self.old self.new }
         ensures pushes { pushes self.new ≡ pushes self.old }
         ensures pops { pops self.new ≡ pops self.old };
 
@@ -34,6 +39,7 @@ pub trait Ends {
     fn pop(&mut self, link: u32) -> Option<i64>
         requires end { Contains (pops self.old) link }
         ensures asked { Asks past queues (asked_to_pop link result) self.old self.new }
+        ensures links { same self.old self.new }
         ensures pushes { pushes self.new ≡ pushes self.old }
         ensures pops { pops self.new ≡ pops self.old };
 }

@@ -13,9 +13,11 @@ mod plans;
 mod putting;
 mod receiving;
 mod sending;
+mod sharing;
 mod state;
 mod step;
 
 pub use answer::{Acted, StepAnswer};
 pub use ends::Ends;
+pub use sharing::states_may_be_moved;
 pub use state::ClusterState;

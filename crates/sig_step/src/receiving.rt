@@ -36,6 +36,7 @@ impl ClusterState {
             result self.old self.new ends.old ends.new }
         ensures state { IsStateOf plan.now inputs.now self.new }
         ensures same { IsSameActor self.old self.new }
+        ensures ends { E.same ends.old ends.new }
         ensures pushes { E.pushes ends.new ≡ E.pushes ends.old }
         ensures pops { E.pops ends.new ≡ E.pops ends.old }
     {

@@ -4,7 +4,6 @@ ghost use Rattle.std.specs.Prelude.{◌≡◌, Contains, length};
 ghost use Rattle.sig_model.specs.Actors.{code_of, moved_on};
 ghost use Rattle.sig_model.specs.Turns.{Puts, item_of};
 ghost use Rattle.sig_step.specs.Acting.{TakesTurn};
-ghost use Rattle.sig_step.specs.LinkEnds.{HasSentFew};
 ghost use Rattle.sig_step.specs.Moving.{IsSameActor, MayGoOn};
 ghost use Rattle.sig_step.specs.States.{IsStateOf, actor_of};
 ghost use Rattle.sig_values.specs.Values.{seen_in};
@@ -38,11 +37,11 @@ impl ClusterState {
     ) -> Acted
         requires may { MayGoOn plan.now inputs.now self.old }
         requires end { Contains (E.pushes ends.old) link }
-        requires few { HasSentFew (E.past ends.old) link }
         ensures turn { TakesTurn E.past E.queues plan.now.kernel (Puts link item (moved_on (length (code_of plan.now self.old.actor).steps) (actor_of self.old)))
             result self.old self.new ends.old ends.new }
         ensures state { IsStateOf plan.now inputs.now self.new }
         ensures same { IsSameActor self.old self.new }
+        ensures ends { E.same ends.old ends.new }
         ensures pushes { E.pushes ends.new ≡ E.pushes ends.old }
         ensures pops { E.pops ends.new ≡ E.pops ends.old }
     {

@@ -4,7 +4,6 @@ ghost use Rattle.std.specs.Prelude.{◌≡◌, ◌≤◌, ℕ, false, length, sl
 ghost use Rattle.sig_model.specs.Actors.{code_of, moved_on};
 ghost use Rattle.sig_model.specs.Turns.{Goes, turn, turn_at, turn_by};
 ghost use Rattle.sig_step.specs.Acting.{Counts, MayDo, MayUse, TakesTurn};
-ghost use Rattle.sig_step.specs.LinkEnds.{HasSentFew};
 ghost use Rattle.sig_step.specs.Moving.{IsReady, IsSameActor};
 ghost use Rattle.sig_step.specs.States.{IsStateOf, actor_of};
 ghost use Rattle.sig_values.specs.Values.{instant_of};
@@ -31,11 +30,11 @@ impl ClusterState {
     ) -> Acted
         requires state { IsStateOf plan.now inputs.now self.old }
         requires links { MayUse plan.now self.old.actor (E.pushes ends.old) (E.pops ends.old) }
-        requires few { (j : ℕ) → HasSentFew (E.past ends.old) j }
         ensures state { IsStateOf plan.now inputs.now self.new }
         ensures same { IsSameActor self.old self.new }
         ensures turn { TakesTurn E.past E.queues plan.now.kernel (turn plan.now inputs.now self.old.limit self.old.actor (actor_of self.old))
             result self.old self.new ends.old ends.new }
+        ensures ends { E.same ends.old ends.new }
         ensures pushes { E.pushes ends.new ≡ E.pushes ends.old }
         ensures pops { E.pops ends.new ≡ E.pops ends.old }
         ensures counts { Counts plan.now self.old steps.old steps.new }
@@ -62,11 +61,11 @@ impl ClusterState {
         requires runs { self.old.ended ≡ false }
         requires within { instant_of self.old.values ≤ self.old.limit }
         requires links { MayUse plan.now self.old.actor (E.pushes ends.old) (E.pops ends.old) }
-        requires few { (j : ℕ) → HasSentFew (E.past ends.old) j }
         ensures state { IsStateOf plan.now inputs.now self.new }
         ensures same { IsSameActor self.old self.new }
         ensures turn { TakesTurn E.past E.queues plan.now.kernel (turn_at plan.now inputs.now (code_of plan.now self.old.actor) (actor_of self.old) (slice_get (code_of plan.now self.old.actor).steps self.old.step))
             result self.old self.new ends.old ends.new }
+        ensures ends { E.same ends.old ends.new }
         ensures pushes { E.pushes ends.new ≡ E.pushes ends.old }
         ensures pops { E.pops ends.new ≡ E.pops ends.old }
         ensures counts { Counts plan.now self.old steps.old steps.new }
@@ -88,12 +87,12 @@ impl ClusterState {
     ) -> Acted
         requires ready { IsReady plan.now inputs.now self.old kind }
         requires links { MayDo (E.pushes ends.old) (E.pops ends.old) kind }
-        requires few { (j : ℕ) → HasSentFew (E.past ends.old) j }
         ensures state { IsStateOf plan.now inputs.now self.new }
         ensures same { IsSameActor self.old self.new }
         ensures turn { TakesTurn E.past E.queues plan.now.kernel
             (if holds then turn_by plan.now inputs.now (code_of plan.now self.old.actor) (actor_of self.old) kind else Goes (moved_on (length (code_of plan.now self.old.actor).steps) (actor_of self.old)))
             result self.old self.new ends.old ends.new }
+        ensures ends { E.same ends.old ends.new }
         ensures pushes { E.pushes ends.new ≡ E.pushes ends.old }
         ensures pops { E.pops ends.new ≡ E.pops ends.old }
     {
@@ -115,11 +114,11 @@ impl ClusterState {
     ) -> Acted
         requires ready { IsReady plan.now inputs.now self.old kind }
         requires links { MayDo (E.pushes ends.old) (E.pops ends.old) kind }
-        requires few { (j : ℕ) → HasSentFew (E.past ends.old) j }
         ensures state { IsStateOf plan.now inputs.now self.new }
         ensures same { IsSameActor self.old self.new }
         ensures turn { TakesTurn E.past E.queues plan.now.kernel (turn_by plan.now inputs.now (code_of plan.now self.old.actor) (actor_of self.old) kind)
             result self.old self.new ends.old ends.new }
+        ensures ends { E.same ends.old ends.new }
         ensures pushes { E.pushes ends.new ≡ E.pushes ends.old }
         ensures pops { E.pops ends.new ≡ E.pops ends.old }
     {

@@ -1,0 +1,12 @@
+//! The gate of a run on one thread.
+
+use sig_plan::Plan;
+use sig_text::Gate;
+
+/// Each cluster of a plan passes the gate at this instant.
+pub(crate) fn pass_all<G: Gate>(plan: &Plan, gate: &G, instant: u32) {
+    // One code is the collector's, which passes no gate.
+    for (cluster, _) in (0..u32::MAX).zip(plan.codes.iter().skip(1)) {
+        gate.pass(cluster, instant);
+    }
+}
