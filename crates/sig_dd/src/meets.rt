@@ -92,7 +92,8 @@ impl Store {
             PairStep::Known(met) => return Ok(met),
             PairStep::Open(low, high) => (low, high),
         };
-        if apart.contains(&pair) {
+        // The first way down asks for no hash.
+        if !apart.is_empty() && apart.contains(&pair) {
             return Ok(false);
         }
         if self.meets_in(apart, low, truth)? {

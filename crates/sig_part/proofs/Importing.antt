@@ -1,7 +1,8 @@
 -- The closed sets of marked signals are the imports.
-use Rattle.std.proofs.Common.{◌≡◌, ◌≢◌, ◌<◌, ◌⊎◌, inl, inr, ◌↔◌, ℕ, Bool, true, false, not, List, [], length, get_or, refl, sym, ap, ◌∙◌, subst, arith, Contains, eqb, eq-eqb}
+use Rattle.std.proofs.Common.{◌≡◌, ◌≢◌, ◌<◌, ◌+◌, ◌⊎◌, inl, inr, ◌↔◌, ℕ, Bool, true, false, not, List, [], ◌∷◌, ◌++◌, length, get_or, refl, sym, ap, ◌∙◌, subst, arith, Contains, eqb, eq-eqb}
 use Rattle.std.specs.Prelude.{Option, None, Some, slice_get}
 use Rattle.std.proofs.lemmas.Bool.{eqb-true, false≢true}
+use Rattle.std.proofs.lemmas.List.{length_push}
 use Rattle.sig_base.specs.declared.ids.SigId.{SigId}
 use Rattle.sig_base.specs.declared.signal.Signal.{Signal}
 use Rattle.sig_dd.specs.declared.node.Node.{Node}
@@ -15,7 +16,7 @@ use Rattle.sig_part.specs.Closing.{AreClosed, Closes, seed, onward, is_elsewhere
 use Rattle.sig_part.specs.Imported.{AreImported, AreImportedBy}
 use Rattle.sig_part.specs.Uses.{AreNeeded, AreNeededForEach, IsNeededWithin, IsUsedWithin}
 use Rattle.sig_plan.specs.Written.{AreWritten}
-use Rattle.sig_part.proofs.Lists.{get_map, map_get}
+use Rattle.sig_part.proofs.Lists.{each_more, get_map, map_get}
 
 -- listed operations are the operations of the kernel
 module _ (conditions : List SigId) (nodes : List Node) (ops : List Op) (needs : List (List SigId)) (are : AreNeeded conditions nodes ops needs) where
@@ -107,6 +108,17 @@ module _ (signals : List Signal) (operations : List Operation) (written : AreWri
 
 pub imported_none : (kernel : Kernel) (conditions : List SigId) (operations : List Operation) → AreImportedBy kernel conditions operations 0 []
 imported_none kernel conditions operations = record { count = refl; each = λ written actor less. absurd (omega (arith, less)) }
+
+-- the marks of one more actor
+pub imported_push : (kernel : Kernel) (conditions : List SigId) (operations : List Operation) (n : ℕ) (old new : List (List Bool)) (marks : List Bool) → AreImportedBy kernel conditions operations n old
+    → (AreWritten kernel.signals operations → AreImported kernel conditions operations n marks) → new ≡ old ++ marks ∷ [] → AreImportedBy kernel conditions operations (n + 1) new
+imported_push kernel conditions operations n old new marks before imported is =
+    let count = before.count in
+    let long = length_push old marks in
+    record {
+      count = ap length is ∙ long ∙ omega (arith, count);
+      each = λ written. each_more (AreImported kernel conditions operations) old new marks [] n before.count (before.each written) (imported written) is;
+    }
 
 -- what an actor imports to begin with
 abbrev pub Begins : Kernel → List SigId → List Operation → ℕ → SigId → Type 0

@@ -6,3 +6,4 @@ pub mod Listing
 pub mod Linked
 pub mod Importing
 pub mod Parting
+pub mod Existing

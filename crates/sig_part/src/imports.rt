@@ -1,44 +1,44 @@
 //! What each actor imports.
 
-ghost use Rattle.std.specs.Prelude.{◌≡◌, ◌+◌, ◌<◌, ◌^◌, ◌↔◌, IfOk, All, Contains, length};
+ghost use Rattle.std.specs.Prelude.{◌≡◌, ◌+◌, ◌<◌, ◌^◌, ◌↔◌, List, IfOk, Contains, length};
 ghost use Rattle.sig_base.specs.declared.ids.SigId.{SigId};
-ghost use Rattle.sig_dd.specs.Nodes.{Holds};
+ghost use Rattle.sig_dd.specs.declared.node.Node.{Node};
 ghost use Rattle.sig_part.specs.Imported.{AreImportedBy};
+ghost use Rattle.sig_part.specs.Uses.{AreNeeded};
 ghost use Rattle.sig_plan.specs.Operations.{operations_in};
 ghost use Rattle.sig_plan.specs.Parts.{IsOutput, cluster_count};
 
 use crate::closing::closed;
 use crate::marks::Marks;
-use crate::needs::needed_by_each;
+use crate::needs::Conditions;
 use crate::uses::{needed_for_each, used_by};
 use sig_base::SigId;
-use sig_clock::Clocks;
-use sig_dd::{DdAnswer, Store};
 use sig_kernel::Kernel;
 use sig_plan::Op;
 use std::alloc::{AllocError, Global};
 
-/// Marks what each actor imports: the clusters, of which there are so many, and then the collector.
+/// Marks what each actor imports: the clusters, of which there are so many, and then the collector. To
+/// each operation it is given what its guard needs.
 pub(crate) fn imported(
     alloc: Global,
     kernel: &Kernel,
     ops: &[Op],
+    needs: &[Conditions],
     clusters: u32,
-    clocks: &Clocks,
-    store: &Store,
-) -> Result<Vec<Marks>, DdAnswer>
+) -> Result<Vec<Marks>, AllocError>
     requires signals { length kernel.now.signals < 2 ^ 32 }
     requires outputs { kernel.now.inputs + kernel.now.outputs < 2 ^ 32 }
     requires clusters { clusters ≡ cluster_count kernel.now.signals }
-    requires ops { All (λ op. Holds store.now.nodes op.guard) ops.now }
-    ensures { IfOk result (λ marks. AreImportedBy kernel.now clocks.now.conditions (operations_in store.now.nodes ops.now) (clusters + 1) marks.items) }
+    requires needs { length needs.now ≡ length ops.now }
+    ensures actors { IfOk result (λ marks. length marks.items ≡ clusters + 1) }
+    ensures imports { IfOk result (λ marks. (conditions : List SigId) (nodes : List Node) → AreNeeded conditions nodes ops.now needs.now
+        → AreImportedBy kernel.now conditions (operations_in nodes ops.now) (clusters + 1) marks.items) }
 {
     let signals = kernel.signals.as_slice();
-    let needs = needed_by_each(alloc, ops, clocks, store)?;
-    let needed = needed_for_each(alloc, signals.len() as u32, ops, needs.as_slice())?;
+    let needed = needed_for_each(alloc, signals.len() as u32, ops, needs)?;
     let mut marks = Vec::new(alloc);
     for cluster in 0..clusters {
-        let used = used_by(alloc, ops, needs.as_slice(), cluster)?;
+        let used = used_by(alloc, ops, needs, cluster)?;
         marks.push(closed(alloc, signals, needed.as_slice(), cluster, used.as_slice())?)?;
     }
     let outputs = outputs_of(alloc, kernel)?;

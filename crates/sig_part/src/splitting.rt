@@ -16,6 +16,7 @@ use crate::answer::PartAnswer;
 use crate::imports::imported;
 use crate::links::links_of;
 use crate::marks::lists_of;
+use crate::needs::needed_by_each;
 use sig_base::limits::LINKS;
 use sig_base::{OpId, Signal};
 use sig_clock::Clocks;
@@ -25,8 +26,9 @@ use sig_plan::{Op, Parts};
 use std::alloc::Global;
 
 /// The parts of a kernel: how many clusters there are, the signals that each actor imports, the
-/// collector last, and the links, which are at most 4,096. It is refused exactly where more are needed.
-/// Only memory can be wanting besides. The parts are the same whatever the order of the operations is.
+/// collector last, and the links, which are at most 4,096. It is refused exactly where more are needed,
+/// and before anything is made for each cluster where there are more clusters than that. Only memory can
+/// be wanting besides. The parts are the same whatever the order of the operations is.
 pub fn split(
     alloc: Global,
     kernel: &Kernel,
@@ -64,11 +66,14 @@ fn split_of(
         → IsRefusal kernel.now clocks.now.conditions (operations_in store.now.nodes ops.now) answer) }
 {
     let signals = kernel.signals.as_slice();
-    // More clusters than there are numbers for them find no memory.
-    let Ok(clusters) = u32::try_from(cluster_count(signals)) else {
-        return Err(PartAnswer::OutOfMemory);
-    };
-    let marks = imported(alloc, kernel, ops, clusters, clocks, store)?;
+    let needs = needed_by_each(alloc, ops, clocks, store)?;
+    let count = cluster_count(signals);
+    // Each cluster has a link for its reports.
+    if count > u64::from(LINKS) {
+        return Err(PartAnswer::TooManyLinks(LINKS));
+    }
+    let clusters = count as u32;
+    let marks = imported(alloc, kernel, ops, needs.as_slice(), clusters)?;
     let links = links_of(alloc, signals, clusters, marks.as_slice())?;
     let imports = lists_of(alloc, signals.len() as u32, marks.as_slice())?;
     if links.len() > LINKS as usize {

@@ -1,5 +1,5 @@
 -- Lemmas on free systems: what their truths read off.
-use Rattle.std.proofs.Common.{◌≡◌, ◌≢◌, ◌<◌, ◌≤◌, ◌↔◌, inl, inr, ℕ, Bool, true, false, eqb, not, List, [], length, get_or, refl, sym, ap, ◌∙◌, subst, arith, Contains}
+use Rattle.std.proofs.Common.{◌≡◌, ◌≢◌, ◌<◌, ◌≤◌, ◌↔◌, inl, inr, ℕ, Bool, true, false, eqb, not, List, [], ◌∷◌, length, map, get_or, refl, sym, ap, ◌∙◌, subst, arith, Contains}
 use Rattle.std.specs.Prelude.{zero, suc, None, Some, slice_get, is_some}
 use Rattle.std.specs.List.{list_any, range_with_len}
 use Rattle.std.proofs.lemmas.List.FromFn.{get_or-range_with_len, length-range_with_len}
@@ -41,6 +41,12 @@ not_depends f v ts not = by (f (with_truth ts v false)) (f (with_truth ts v true
   by false false e d = e ∙ sym d
   by true false e d = absurd (not (ts, λ same. false≢true (sym d ∙ sym same ∙ e)))
   by false true e d = absurd (not (ts, λ same. false≢true (sym e ∙ same ∙ d)))
+
+-- the marks of conditions that are not known
+marks_read : (known conditions : List SigId) (v : ℕ) → get_or (map (λ (c : SigId). is_unknown_to known (Some c)) conditions) v true ≡ is_unknown conditions known v
+marks_read known [] v = refl
+marks_read known (c ∷ conditions) zero = refl
+marks_read known (c ∷ conditions) (suc v) = marks_read known conditions v
 
 module _ (kernel : Kernel) (store : StoreView) (system : SystemView) (is : IsFreeIn kernel store system) where
   abbrev nodes : List Node
@@ -256,6 +262,16 @@ module _ (kernel : Kernel) (store : StoreView) (system : SystemView) (is : IsFre
       told : (v : ℕ) → Contains needs v → (b : Bool) → is_unknown system.conditions known v ≡ b → is_unknown system.conditions known v ≡ false
       told v there false f = f
       told v there true f = absurd (false≢true (sym e ∙ is_any (is_unknown conditions known) variables v (subst (λ (xs : List ℕ). Contains xs v) (sym all) there) (ap (λ cs. is_unknown cs known v) same ∙ f)))
+
+  -- the same where the conditions that are not known are marked
+  pub marked_answer : (round : ℕ) (known : List SigId) (needs variables : List ℕ) (marks : List Bool) (s : ℕ) (result : Bool) → AreEntered kernel round known → s < length kernel.signals
+      → ((v : ℕ) → Contains needs v ↔ Depends (test store.nodes (get_or system.present s system.residue)) v) → variables ≡ needs → marks ≡ map (λ (c : SigId). is_unknown_to known (Some c)) system.conditions
+      → result ≡ list_any (λ v. get_or marks v true) variables → IsOpenAnswer kernel (IsAmong known) s result
+  marked_answer round known needs variables marks s result entered lt exact all are answer =
+      open_answer round known system.conditions needs variables s (get_or system.present s system.residue) result entered lt refl exact refl all (answer ∙ (λ j. list_any (λ v. marked v j) variables))
+    where
+      marked : (v : ℕ) → get_or marks v true ≡ is_unknown system.conditions known v
+      marked v = ap (λ (xs : List Bool). get_or xs v true) are ∙ marks_read known system.conditions v
 
   -- no condition is pinned: its proposal may be turned
   module _ (reaction : Reaction) (truth : Bool) (c : ℕ) (is_c : is_condition kernel c ≡ true) (possible : IsReaction kernel reaction) (here : status_at reaction c ≡ Some truth) where

@@ -23,3 +23,4 @@ pub mod FreeLemmas
 pub mod TriangleLemmas
 pub mod ConditionLists
 pub mod RoomLemmas
+pub mod AwaitingLemmas

@@ -4,7 +4,7 @@ use Rattle.std.specs.Prelude.{zero, suc, filter, Option, None, Some, slice_get, 
 use Rattle.std.specs.List.{list_any, range_with_len}
 use Rattle.std.proofs.Math.ListN.{length-set}
 use Rattle.std.proofs.lemmas.Bool.{cases_eq, eqb-true, false≢true}
-use Rattle.std.proofs.lemmas.List.{append-nil, take_more}
+use Rattle.std.proofs.lemmas.List.{append-nil, get_or_append_left, get_or_push, take_more}
 use Rattle.std.proofs.lemmas.List.Elements.{filter-append}
 use Rattle.sig_clock.proofs.Lists.{contains_cons, contains_head, contains_later, contains_none, range_from_zero}
 
@@ -167,3 +167,11 @@ pub get_set_other : {X : Type 0} (xs : List X) (k j : ℕ) (x y : X) → j ≢ k
 get_set_other xs k j x y ne is =
     let lt = get_within xs j y is in
     get_at (set xs k x) j y (omega (arith, lt, length-set xs k x)) ∙ ap Some (get_or-set_other xs k j x y ne ∙ get_is xs j y y is)
+
+-- what holds of each element of a list of n elements, and of one more
+pub each_more : {X : Type 0} (P : ℕ → X → Type 0) (xs new : List X) (x d : X) (n : ℕ) → length xs ≡ n → ((j : ℕ) → j < n → P j (get_or xs j d)) → P n x → new ≡ xs ++ x ∷ []
+    → (j : ℕ) → j < n + 1 → P j (get_or new j d)
+each_more {X} P xs new x d n count before here is j less = subst (λ (list : List X). P j (get_or list j d)) (sym is) (at (cases_eq j n)) where
+  at : ((j ≡ n) ⊎ (j ≢ n)) → P j (get_or (xs ++ x ∷ []) j d)
+  at (inl e) = subst (P j) (sym (get_or_push xs x d j (omega (arith, count, e)))) (subst (λ (k : ℕ). P k x) (sym e) here)
+  at (inr apart) = subst (P j) (sym (get_or_append_left xs (x ∷ []) d j (omega (arith, less, apart, count)))) (before j (omega (arith, less, apart)))

@@ -1,8 +1,10 @@
 -- Free systems, and what the presence of a signal needs.
-use Rattle.std.specs.Prelude.{◌==◌, ℕ, Bool, true, not, List, Option, None, Some, slice_get}
+use Rattle.std.specs.Prelude.{◌≡◌, ◌==◌, ◌<◌, ◌↔◌, ℕ, Bool, true, not, List, [], length, slice_get, slice_index_or, Option, None, Some, Contains}
 use Rattle.std.specs.List.{list_any}
 use Rattle.sig_base.specs.declared.ids.SigId.{SigId}
-use Rattle.sig_dd.specs.Nodes.{IsStore, StoreView}
+use Rattle.sig_dd.specs.Diagram.{Depends}
+use Rattle.sig_dd.specs.Nodes.{IsStore, StoreView, test}
+use Rattle.sig_dd.specs.declared.node.Node.{Node}
 use Rattle.sig_kernel.specs.declared.kernel.Kernel.{Kernel}
 use Rattle.sig_rel.specs.Systems.{AreConditions, IsFreeSystem, IsSystem, SystemView}
 
@@ -12,6 +14,12 @@ pub record IsFreeIn (kernel : Kernel) (store : StoreView) (system : SystemView) 
   pub conditions : AreConditions kernel system.conditions
   pub is_system : IsSystem kernel store.nodes system
   pub is_free : IsFreeSystem store.nodes system
+
+-- to each signal the variables on which its presence depends
+pub record AreNeeds (nodes : List Node) (system : SystemView) (needs : List (List ℕ)) : Type 0 where
+  pub count : length needs ≡ length system.present
+  pub exact : (s : ℕ) → s < length system.present
+      → (v : ℕ) → Contains (slice_index_or needs s []) v ↔ Depends (test nodes (slice_index_or system.present s system.residue)) v
 
 -- a condition that is not known, or none
 abbrev pub is_unknown_to : List SigId → Option SigId → Bool

@@ -1,15 +1,15 @@
 //! Rounds: in which signals enter, as conditions become known.
 
-ghost use Rattle.std.specs.Prelude.{◌≡◌, ◌+◌, ◌*◌, ◌<◌, ◌≤◌, ℕ, suc, length, slice_index, filter, replicate, IfOk, Contains};
+ghost use Rattle.std.specs.Prelude.{◌≡◌, ◌+◌, ◌*◌, ◌<◌, ◌≤◌, ℕ, suc, length, slice_index, filter, replicate, IfOk, OnOk, Contains};
 ghost use Rattle.sig_clock.specs.Conditions.{conditions_of};
-ghost use Rattle.sig_clock.specs.Layers.{IsSignal};
 ghost use Rattle.sig_dd.specs.Nodes.{IsStore, Keeps};
 ghost use Rattle.sig_dd.specs.Shares.{Share, refusal};
-ghost use Rattle.sig_solve.specs.Asked.{AreKnown, IsAskedIn, variables_of};
-ghost use Rattle.sig_solve.specs.Frames.{IsAmong};
-ghost use Rattle.sig_solve.specs.Rounds.{AreEntered, AreRounds, AreSettled, IsOpenAnswer, has_entered, layer_in};
+ghost use Rattle.sig_solve.specs.Asked.{AreKnown, ForgetsAllBut, IsAskedIn, variables_of};
+ghost use Rattle.sig_solve.specs.Awaiting.{AreAwaited};
+ghost use Rattle.sig_solve.specs.Rounds.{AreEntered, AreRounds, AreSettled, has_entered, layer_in};
 
 use crate::asked::Asked;
+use crate::awaiting::{Guide, guide_of, none_awaited, stays_open};
 use crate::frame::Frame;
 use crate::known::{Known, known_of};
 use sig_base::SigId;
@@ -43,6 +43,8 @@ pub(crate) fn layers_of(
 {
     let mut numbers = zeros(alloc, asked.frame.least.len())?;
     let mut waiting = Vec::from_slice(alloc, asked.frame.leaders.as_slice())?;
+    let guide = guide_of(alloc, asked, store)?;
+    let mut awaited = none_awaited(alloc, asked.frame.least.len())?;
     for round in 0..asked.frame.leaders.len() as u32 {
         let entered = entered(alloc, &asked.frame, numbers.as_slice(), conditions)?;
         let known = known_of(alloc, &asked.system, entered)?;
@@ -51,9 +53,11 @@ pub(crate) fn layers_of(
             asked,
             store,
             &known,
+            &guide,
             round,
             waiting.as_slice(),
             &mut numbers,
+            &mut awaited,
         )?;
         if still.len() == waiting.len() {
             return Ok(Layers {
@@ -117,14 +121,18 @@ fn pass(
     asked: &Asked,
     store: &mut Store,
     known: &Known,
+    guide: &Guide,
     round: u32,
     waiting: &[u32],
     layers: &mut [u32],
+    awaited: &mut [Option<u32>],
 ) -> Result<Vec<u32>, DdAnswer>
     requires asked { IsAskedIn store.old asked.now }
     requires known { AreKnown asked.now.system known.now }
     requires entered { AreEntered asked.now.frame.kernel.now round known.now.conditions.items }
+    requires guide { ForgetsAllBut asked.now.system asked.now.system.conditions guide.now.base.items }
     requires rounds { AreRounds asked.now.frame round layers.old waiting.now }
+    requires awaited { AreAwaited store.old.nodes asked.now awaited.old }
     requires few { round < 512 }
     ensures store { IsStore store.new }
     ensures kept { Keeps store.old store.new }
@@ -132,37 +140,17 @@ fn pass(
         × (length still.items ≤ length waiting.now)
         × (length still.items ≡ length waiting.now
         → (s : ℕ) → Contains waiting.now s → Contains still.items s)) }
+    ensures awaited { OnOk result (AreAwaited store.new.nodes asked.now awaited.new) }
     ensures share { Share ((3 + 2 * asked.now.system.variables) * length waiting.now)
         (variables_of asked.now.system) store.old store.new (refusal result) }
 {
     let mut still = Vec::new(alloc);
     for class in waiting {
-        if is_open(asked, store, known, *class)? {
+        if stays_open(alloc, asked, store, known, guide, awaited, *class)? {
             still.push(*class)?;
         } else {
             layers[*class as usize] = round + 1;
         }
     }
     Ok(still)
-}
-
-/// Whether known conditions leave the presence of a signal open: two reactions agree on them, of
-/// which one has the signal.
-fn is_open(asked: &Asked, store: &mut Store, known: &Known, signal: u32) -> Result<bool, DdAnswer>
-    requires asked { IsAskedIn store.old asked.now }
-    requires known { AreKnown asked.now.system known.now }
-    requires entered { (round : ℕ)
-        × AreEntered asked.now.frame.kernel.now round known.now.conditions.items }
-    requires signal { IsSignal asked.now.frame.kernel.now signal }
-    ensures store { IsStore store.new }
-    ensures kept { Keeps store.old store.new }
-    ensures value { IfOk result
-        (IsOpenAnswer asked.now.frame.kernel.now (IsAmong known.now.conditions.items) signal) }
-    ensures share { Share (3 + 2 * asked.now.system.variables) (variables_of asked.now.system)
-        store.old store.new (refusal result) }
-{
-    let forgotten = known.forgotten.as_slice();
-    let with = asked.where_present(store, signal, forgotten)?;
-    let without = asked.where_absent(store, signal, forgotten)?;
-    store.overlap(with, without)
 }

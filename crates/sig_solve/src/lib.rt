@@ -5,6 +5,7 @@
 
 mod answer;
 mod asked;
+mod awaiting;
 mod classes;
 mod frame;
 mod general;
@@ -13,6 +14,7 @@ mod images;
 mod known;
 mod laws;
 mod layers;
+mod needs;
 mod order;
 mod pinned;
 mod roots;

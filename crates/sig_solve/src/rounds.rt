@@ -1,23 +1,25 @@
 //! The rounds of a kernel whose system is free: in which classes enter, as conditions become known.
 
-ghost use Rattle.std.specs.Prelude.{◌≡◌, ◌==◌, ◌≢◌, ◌<◌, ◌≤◌, ◌+◌, ℕ, suc, length, slice_index_or, Err, IfOk, Contains};
+ghost use Rattle.std.specs.Prelude.{◌≡◌, ◌==◌, ◌≢◌, ◌<◌, ◌≤◌, ◌+◌, ℕ, suc, true, length, map, slice_index_or, Some, Err, IfOk, Contains};
 ghost use Rattle.std.specs.List.{list_any};
 ghost use Rattle.sig_clock.specs.Conditions.{conditions_of};
 ghost use Rattle.sig_clock.specs.Layers.{IsSignal};
 ghost use Rattle.sig_dd.specs.Nodes.{IsStore};
 ghost use Rattle.sig_solve.specs.Frames.{IsAmong, IsFrame};
-ghost use Rattle.sig_solve.specs.Free.{IsFreeIn, is_unknown, is_unknown_to};
+ghost use Rattle.sig_solve.specs.Free.{AreNeeds, IsFreeIn, is_unknown_to};
 ghost use Rattle.sig_solve.specs.Rounds.{AreEntered, AreRounds, AreSettled, IsOpenAnswer};
 
 use crate::frame::Frame;
 use crate::layers::{Layers, entered, zeros};
+use crate::needs::{Needs, needs_of};
 use sig_base::SigId;
-use sig_dd::{DdAnswer, Ref, Store};
+use sig_dd::{DdAnswer, Store};
 use sig_rel::System;
-use std::alloc::Global;
+use std::alloc::{AllocError, Global};
 
 /// The layers of a kernel, of which the system is given. A class enters in a round where its presence
-/// depends on proposals of conditions of earlier rounds alone.
+/// depends on proposals of conditions of earlier rounds alone. What each presence depends on is asked
+/// once, before the rounds.
 pub(crate) fn rounds_of(
     alloc: Global,
     frame: &Frame,
@@ -33,6 +35,8 @@ pub(crate) fn rounds_of(
     ensures no_budget { (n : ℕ) → result ≢ Err (DdAnswer.Budget n) }
 {
     let conditions = system.conditions.as_slice();
+    let needs = needs_of(alloc, frame, system, store)?;
+    let needs = needs.as_slice();
     let mut numbers = zeros(alloc, frame.least.len())?;
     let mut waiting = Vec::from_slice(alloc, frame.leaders.as_slice())?;
     for round in 0..frame.leaders.len() as u32 {
@@ -43,6 +47,7 @@ pub(crate) fn rounds_of(
             frame,
             system,
             store,
+            needs,
             known,
             round,
             waiting.as_slice(),
@@ -66,13 +71,15 @@ fn enter(
     frame: &Frame,
     system: &System,
     store: &Store,
+    needs: &[Needs],
     known: &[SigId],
     round: u32,
     waiting: &[u32],
     layers: &mut [u32],
-) -> Result<Vec<u32>, DdAnswer>
+) -> Result<Vec<u32>, AllocError>
     requires frame { IsFrame frame.now }
     requires free { IsFreeIn frame.now.kernel.now store.now system.now }
+    requires needs { AreNeeds store.now.nodes system.now needs.now }
     requires entered { AreEntered frame.now.kernel.now round known.now }
     requires rounds { AreRounds frame.now round layers.old waiting.now }
     requires few { round < 512 }
@@ -80,11 +87,12 @@ fn enter(
         × (length still.items ≤ length waiting.now)
         × (length still.items ≡ length waiting.now
         → (s : ℕ) → Contains waiting.now s → Contains still.items s)) }
-    ensures no_budget { (n : ℕ) → result ≢ Err (DdAnswer.Budget n) }
 {
+    let unknown = unknown_of(alloc, system.conditions.as_slice(), known)?;
+    let unknown = unknown.as_slice();
     let mut still = Vec::new(alloc);
     for class in waiting {
-        if is_open(frame, system, store, known, *class)? {
+        if is_open(frame, system, store, needs, known, unknown, *class) {
             still.push(*class)?;
         } else {
             layers[*class as usize] = round + 1;
@@ -96,54 +104,47 @@ fn enter(
 /// Whether the presence of a signal depends on the proposal of a condition that is not known. The
 /// conditions of the first rounds are known.
 fn is_open(
-    frame: &Frame,
-    system: &System,
-    store: &Store,
-    known: &[SigId],
+    _frame: &Frame,
+    _system: &System,
+    _store: &Store,
+    needs: &[Needs],
+    _known: &[SigId],
+    unknown: &[bool],
     signal: u32,
-) -> Result<bool, DdAnswer>
-    requires free { IsFreeIn frame.now.kernel.now store.now system.now }
-    requires entered { (round : ℕ) × AreEntered frame.now.kernel.now round known.now }
-    requires signal { IsSignal frame.now.kernel.now signal }
-    ensures value { IfOk result (IsOpenAnswer frame.now.kernel.now (IsAmong known.now) signal) }
-    ensures no_budget { (n : ℕ) → result ≢ Err (DdAnswer.Budget n) }
+) -> bool
+    requires free { IsFreeIn _frame.now.kernel.now _store.now _system.now }
+    requires needs { AreNeeds _store.now.nodes _system.now needs.now }
+    requires entered { (round : ℕ) × AreEntered _frame.now.kernel.now round _known.now }
+    requires unknown { unknown.now ≡ map (λ condition. is_unknown_to _known.now (Some condition)) _system.now.conditions }
+    requires signal { IsSignal _frame.now.kernel.now signal }
+    ensures { IsOpenAnswer _frame.now.kernel.now (IsAmong _known.now) signal result }
 {
-    let conditions = system.conditions.as_slice();
-    let needs = store.support(presence_at(system, signal))?;
-    Ok(is_one_unknown(conditions, known, needs.as_slice()))
+    is_one_unknown(unknown, needs[signal as usize].as_slice())
 }
 
-/// Whether one of these variables is the proposal of a condition that is not known.
-fn is_one_unknown(conditions: &[SigId], known: &[SigId], variables: &[u32]) -> bool
-    ensures { result ≡ list_any (is_unknown conditions.now known.now) variables.now }
+/// Whether one of these variables is marked as unknown.
+fn is_one_unknown(unknown: &[bool], variables: &[u32]) -> bool
+    ensures { result ≡ list_any (λ v. slice_index_or unknown.now v true) variables.now }
 {
-    variables.iter().any(|v| is_unknown(conditions, known, *v))
+    variables.iter().any(|v| is_unknown(unknown, *v))
 }
 
-/// The presence of a signal.
-fn presence_at(system: &System, signal: u32) -> Ref
-    requires { signal < length system.now.present }
-    ensures { result ≡ slice_index_or system.now.present signal system.now.residue }
+/// Whether a variable is marked as unknown; one past the end is.
+fn is_unknown(unknown: &[bool], v: u32) -> bool
+    ensures { result ≡ slice_index_or unknown.now v true }
 {
-    let present = system.present.as_slice();
-    present[signal as usize]
+    unknown.get(v as usize).copied().unwrap_or(true)
 }
 
-/// Whether a variable is the proposal of a condition that is not known.
-fn is_unknown(conditions: &[SigId], known: &[SigId], v: u32) -> bool
-    ensures { result ≡ is_unknown conditions.now known.now v }
+/// To each condition whether it is not known.
+fn unknown_of(alloc: Global, conditions: &[SigId], known: &[SigId]) -> Result<Vec<bool>, AllocError>
+    ensures { IfOk result (λ unknown. unknown.items
+        ≡ map (λ condition. is_unknown_to known.now (Some condition)) conditions.now) }
 {
-    is_unknown_to(known, conditions.get(v as usize).copied())
-}
-
-/// Whether a condition is not known; where there is none, it is not.
-fn is_unknown_to(known: &[SigId], condition: Option<SigId>) -> bool
-    ensures { result ≡ is_unknown_to known.now condition }
-{
-    match condition {
-        Some(condition) => !is_known(known, condition),
-        None => true,
-    }
+    conditions
+        .iter()
+        .map(|condition| !is_known(known, *condition))
+        .collect(alloc)
 }
 
 /// Whether a condition is known.

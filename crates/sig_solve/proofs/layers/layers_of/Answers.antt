@@ -1,15 +1,19 @@
 use Rattle.std.proofs.Common.{◌≡◌, ◌<◌, ◌≤◌, ◌+◌, ◌*◌, ℕ, Bool, List, [], ◌∷◌, ◌++◌, length, true, false, get_or, drop, take, refl, sym, ap, ◌∙◌, subst, arith, Contains}
-use Rattle.std.specs.Prelude.{None, suc}
+use Rattle.std.specs.Prelude.{None, suc, Err}
 use Rattle.std.proofs.Math.Nat.{mul-le-mul_left}
 use Rattle.sig_clock.proofs.Lists.{written}
 use Rattle.sig_dd.specs.declared.answer.DdAnswer.TheVariants.{OutOfMemory}
 use Rattle.sig_dd.specs.Shares.{Share}
+use Rattle.sig_dd.proofs.Adding.{Share-none}
+use Rattle.sig_solve.specs.declared.awaiting.Guide.{Guide}
 use Rattle.sig_dd.proofs.CallerLemmas.{Keeps-itself, Keeps-trans}
 use Rattle.sig_solve.specs.Asked.{ForgetsAllBut, variables_of}
 use Rattle.sig_solve.specs.Rounds.{AreRounds, AreSettled, has_entered}
+use Rattle.sig_solve.specs.Awaiting.{AreAwaited}
 use Rattle.sig_solve.proofs.AskedLemmas.{are_proposed, asked_stays}
+use Rattle.sig_solve.proofs.AwaitingLemmas.{none_awaited as awaiting_begins}
 use Rattle.sig_solve.proofs.RoundLemmas.{entered_conditions, leaders_fewer, rounds_begin, rounds_stick}
-use Rattle.sig_solve.proofs.StoreLemmas.{more_calls, next_turn, no_turns, out_of_memory, refused}
+use Rattle.sig_solve.proofs.StoreLemmas.{asked, more_calls, next_turn, no_turns, out_of_memory, refused}
 use Rattle.sig_solve.proofs.layers.layers_of.Goals as goal
 
 pub overflow_cast-round-end : goal.overflow_cast-round-end
@@ -25,9 +29,27 @@ loop-round-init c =
       store = c.requires.asked.has_store;
       kept = Keeps-itself c.args.store.now;
       rounds = rounds_begin c.args.asked.now.frame c.requires.asked.parts c.in_ok-numbers.numbers.items c.in_ok-waiting.waiting.items c.len.result (c.len.ensures ∙ c.args.asked.now.frame.least.ok.0) c.in_ok-numbers.ensures waiting;
+      awaited = awaiting_begins c.args.store.now.nodes c.args.asked.now c.len-2.result c.in_ok-awaited.awaited.items (c.len-2.ensures ∙ c.args.asked.now.frame.least.ok.0 ∙ c.requires.asked.parts.least.count) c.in_ok-awaited.ensures;
       few = omega (arith, ap length waiting);
       share = no_turns ((3 + 2 * c.args.asked.now.system.variables) * length c.args.asked.now.frame.leaders.items) (variables_of c.args.asked.now.system) c.args.store.now;
     }
+
+pub returns-in_err-guide-clause-share : goal.returns-in_err-guide-clause-share
+returns-in_err-guide-clause-share c =
+    let n = length c.args.asked.now.frame.leaders.items in
+    let m = (3 + 2 * c.args.asked.now.system.variables) * n * n in
+    let vs = variables_of c.args.asked.now.system in
+    let s = c.args.store.now in
+    refused m vs s s c.from_residual-in_err-guide.result c.in_err-guide.field-0.0 c.from_residual-in_err-guide.ensures.1
+    (asked {T = Guide} m vs s s (more_calls 0 m vs s s None (omega arith) (Share-none s vs)) (Err c.in_err-guide.field-0.0) c.in_err-guide.ensures.no_budget)
+
+pub returns-in_err-awaited-clause-share : goal.returns-in_err-awaited-clause-share
+returns-in_err-awaited-clause-share c =
+    let n = length c.args.asked.now.frame.leaders.items in
+    let m = (3 + 2 * c.args.asked.now.system.variables) * n * n in
+    let vs = variables_of c.args.asked.now.system in
+    let s = c.args.store.now in
+    refused m vs s s c.from_residual-in_err-awaited.result OutOfMemory c.from_residual-in_err-awaited.ensures.1 (out_of_memory m vs s s (more_calls 0 m vs s s None (omega arith) (Share-none s vs)))
 
 -- the calls so far are within those of all rounds
 so_far : (m : ℕ) (k n : ℕ) (vs : List ℕ) (s t : _) → k ≤ n → Share (m * k) vs s t None → Share (m * n) vs s t None
@@ -115,6 +137,7 @@ loop-round-preserved c =
     let vs = (variables_of c.args.asked.now.system) in
     let is = c.in_ok-still.ensures.value in
     let numbers = written_numbers c.loop-round.numbers.len c.loop-round.numbers.items c.pass.new.layers (length c.args.asked.now.frame.kernel.now.signals) c.loop-round.numbers.ok.0 c.loop-round.invariant.rounds.count is.0.count in
+    let waits = written c.loop-round.awaited.len c.pass.new.awaited c.loop-round.awaited.items (c.in_ok-still.ensures.awaited.count ∙ sym c.loop-round.invariant.awaited.count) c.loop-round.awaited.ok.0 in
     let next : suc c.loop-round.round ≡ c.loop-round.round + 1 = omega arith in
     let still : length c.in_ok-still.still.items ≡ c.len-in-loop-round.result = sym c.in_ok-still.still.ok.0 ∙ sym c.len-in-loop-round.ensures in
     let before : length c.loop-round.waiting.items ≡ c.len-in-loop-round-2.result = sym c.loop-round.waiting.ok.0 ∙ sym c.len-in-loop-round-2.ensures in
@@ -122,6 +145,7 @@ loop-round-preserved c =
       store = c.in_ok-still.ensures.store;
       kept = Keeps-trans c.args.store.now c.loop-round.store c.pass.new.store c.loop-round.invariant.kept c.in_ok-still.ensures.kept;
       rounds = subst (λ xs. AreRounds c.args.asked.now.frame (c.loop-round.round + 1) xs c.in_ok-still.still.items) (sym numbers) (subst (λ k. AreRounds c.args.asked.now.frame k c.pass.new.layers c.in_ok-still.still.items) next is.0);
+      awaited = subst (AreAwaited c.pass.new.store.nodes c.args.asked.now) (sym waits) c.in_ok-still.ensures.awaited;
       few = omega (arith, is.1, c.if-len.false, still, before, c.loop-round.invariant.few, ap length c.as_slice-in-loop-round-2.ensures.value);
       share = one_round u n c.loop-round.round (length c.as_slice-in-loop-round-2.result.now) vs c.args.store.now c.loop-round.store c.pass.new.store None (omega (arith, c.loop-round.invariant.few, ap length c.as_slice-in-loop-round-2.ensures.value))
           c.loop-round.invariant.share c.in_ok-still.ensures.share;

@@ -3,6 +3,7 @@ use Rattle.std.specs.Prelude.{None}
 use Rattle.sig_dd.specs.Nodes.{IsStore, Keeps}
 use Rattle.sig_dd.specs.Shares.{Share}
 use Rattle.sig_solve.specs.Asked.{variables_of}
+use Rattle.sig_solve.specs.Awaiting.{AreAwaited}
 use Rattle.sig_solve.specs.Rounds.{ArePassed}
 use Rattle.sig_solve.proofs.layers.pass.Given as goal
 
@@ -13,5 +14,6 @@ invariant-loop-class l = record {
   passed : ArePassed l.asked.frame l.round l.layers l.still.items (drop l.class-index l.waiting);
   few : length l.still.items ≤ l.class-index;
   stuck : length l.still.items ≡ l.class-index → (k : ℕ) → k < l.class-index → Contains l.still.items (get_or l.waiting k 0);
+  awaited : AreAwaited l.store.nodes l.asked l.awaited;
   share : Share ((3 + 2 * l.asked.system.variables) * l.class-index) (variables_of l.asked.system) l.initial.store l.store None;
 }

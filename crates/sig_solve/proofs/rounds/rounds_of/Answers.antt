@@ -2,6 +2,7 @@ use Rattle.std.proofs.Common.{◌≡◌, ◌<◌, ◌+◌, ℕ, List, ◌++◌, 
 use Rattle.std.specs.Prelude.{suc}
 use Rattle.sig_clock.proofs.Lists.{written}
 use Rattle.sig_rel.specs.Systems.{SystemView}
+use Rattle.sig_solve.specs.Free.{AreNeeds}
 use Rattle.sig_solve.specs.Rounds.{AreRounds, AreSettled, has_entered}
 use Rattle.sig_solve.proofs.RoundLemmas.{entered_conditions, leaders_fewer, rounds_begin, rounds_stick}
 use Rattle.sig_solve.proofs.rounds.rounds_of.Goals as goal
@@ -24,6 +25,10 @@ enter-requires-clause-entered c =
     entered_conditions c.args.frame.now c.requires.frame c.loop-round.round c.loop-round.numbers.items c.loop-round.waiting.items c.loop-round.invariant.rounds c.as_slice-conditions.result.now c.as_slice-known.result.now
     (c.as_slice-conditions.ensures.value ∙ ap (λ (s : SystemView). s.conditions) c.system.view_is ∙ c.requires.conditions)
     (c.as_slice-known.ensures.value ∙ c.in_ok-known.ensures ∙ ap (λ xs. filter (has_entered c.args.frame.now xs) c.as_slice-conditions.result.now) c.as_slice-in-loop-round.ensures.value)
+
+pub enter-requires-clause-needs : goal.enter-requires-clause-needs
+enter-requires-clause-needs c =
+    subst (λ (xs : List (List ℕ)). AreNeeds c.args.store.now.nodes c.args.system.now xs) (sym c.as_slice-needs.ensures.value) c.in_ok-needs.ensures.value
 
 pub enter-requires-clause-few : goal.enter-requires-clause-few
 enter-requires-clause-few c =
