@@ -18,7 +18,8 @@ impl<'a> Core<'a> {
     /// Lets one event happen after another until all actors have ended: each time that of the least actor
     /// for which one changes something, a look before a step. The rest of the text of the longest trace is
     /// appended to the sink, and the answer is the number of its instants with the named cause; after a
-    /// fault of the sink a prefix of that rest was appended. It takes no memory.
+    /// fault of the sink a prefix of that rest was appended, and of the text of the events that happened. It
+    /// takes no memory.
     pub fn finish<S: Sink>(&mut self, sink: &mut S) -> Result<Ended, WriteFault>
         requires core { IsCore self.old }
         requires reached { IsReached self.old }
@@ -29,6 +30,8 @@ impl<'a> Core<'a> {
         ensures answer { IfOk result (IsEndOf self.old) }
         ensures rest { OnOk result (TookRest S.took self.old sink.old sink.new) }
         ensures part { OnErr result (TookRest (TookPrefix S.took) self.old sink.old sink.new) }
+        ensures leads { OnOk result (LeadsTo S.took self.old self.new sink.old sink.new) }
+        ensures led { OnErr result (LeadsTo (TookPrefix S.took) self.old self.new sink.old sink.new) }
         ensures text { HoldsOf BeginsTheText self.new }
         ensures reference { HoldsOf KeepsToTheReference self.new }
         ensures word { HoldsOf RecordsNoneBefore self.new }
@@ -53,6 +56,8 @@ impl<'a> Core<'a> {
         ensures answer { IfOk result (IsEndOf self.old) }
         ensures rest { OnOk result (TookRest S.took self.old sink.old sink.new) }
         ensures part { OnErr result (TookRest (TookPrefix S.took) self.old sink.old sink.new) }
+        ensures leads { OnOk result (LeadsTo S.took self.old self.new sink.old sink.new) }
+        ensures led { OnErr result (LeadsTo (TookPrefix S.took) self.old self.new sink.old sink.new) }
         ensures failed { OnErr result (Rose (S.faults sink.old) (S.faults sink.new)) }
         ensures faults_stay { S.faults sink.old ≤ S.faults sink.new }
     {

@@ -28,7 +28,7 @@ impl Lists {
 }
 
 impl Ends for Lists {
-    ghost use Rattle.std.specs.Prelude.{None, Some, length};
+    ghost use Rattle.std.specs.Prelude.{◌≡◌, None, Some, length};
     ghost use Rattle.std.proofs.Common.{inr, refl};
     ghost use Rattle.std.specs.List.{range_with_len};
     ghost use Rattle.sig_core.specs.Lists.{queues_of};
@@ -42,6 +42,10 @@ impl Ends for Lists {
     ghost pops = { λ lists. range_with_len 0 (length lists.queues.items) };
 
     ghost tells = { λ lists. inr refl };
+
+    ghost same = { λ old new. length new.queues.items ≡ length old.queues.items };
+
+    ghost same_itself = { λ lists. refl };
 
     fn push(&mut self, link: u32, item: i64) -> Result<(), Full> {
         let queue = &mut self.queues[link as usize];

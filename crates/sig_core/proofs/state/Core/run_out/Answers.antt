@@ -21,6 +21,12 @@ returns-in_err-k-clause-part g c =
     (leads_then g.S.Sink.took (TookPrefix g.S.Sink.took) (join_part g.S.Sink.took g.met.S.Sink.took_both) c.args.self.now c.events.self c.serve.new.self c.args.sink.now c.events.sink c.serve.new.sink
     c.events.invariant.run c.events.invariant.leads c.in_err-k.ensures.part))
 
+pub returns-in_err-k-clause-led : goal.returns-in_err-k-clause-led
+returns-in_err-k-clause-led g c =
+    let p = err_from_is_err_and c.from_residual.result c.from_residual.ensures.1 in
+    rw p.1 (leads_then g.S.Sink.took (TookPrefix g.S.Sink.took) (join_part g.S.Sink.took g.met.S.Sink.took_both) c.args.self.now c.events.self c.serve.new.self c.args.sink.now c.events.sink c.serve.new.sink
+    c.events.invariant.run c.events.invariant.leads c.in_err-k.ensures.part)
+
 pub events-preserved : goal.events-preserved
 events-preserved g c = record {
   core = c.in_ok-k.ensures.core;
