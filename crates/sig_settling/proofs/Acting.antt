@@ -1,6 +1,6 @@
 -- The actors do all their own steps, one at a time.
 use Rattle.std.proofs.Common.{◌≡◌, ◌<◌, ◌≤◌, ◌+◌, ◌++◌, ◌⊎◌, inl, inr, ℕ, zero, suc, ℤ, false, List, [], ◌∷◌, length, get_or, replicate, refl, ap, sym, subst, ◌∙◌, arith}
-use Rattle.std.specs.Prelude.{None, Option, Some, fold, slice_get}
+use Rattle.std.specs.Prelude.{Some, fold, slice_get}
 use Rattle.std.proofs.lemmas.Bool.{cases_lt}
 use Rattle.std.proofs.lemmas.List.{append_cancel_left, ext_get_or, length-replicate}
 use Rattle.sig_base.specs.Traces.{Trace}
@@ -9,22 +9,26 @@ use Rattle.sig_meaning.proofs.Agreement.{some_at}
 use Rattle.sig_meaning.proofs.Ending.{fitting}
 use Rattle.sig_meaning.proofs.Numbers.{same_or_not}
 use Rattle.sig_meaning.proofs.References.{some_reference}
-use Rattle.sig_model.specs.Actors.{Actor, opening_actor, with_at}
-use Rattle.sig_model.specs.Cores.{Core, Given, after, items_on, opening, stepped}
+use Rattle.sig_base.specs.declared.place.Place.{Place}
+use Rattle.sig_model.specs.Actors.{Actor, code_of, opening_actor, with_at}
+use Rattle.sig_model.specs.Cores.{Core, Given, after, opening, stepped}
 use Rattle.sig_model.specs.Progress.{IsOnReference}
-use Rattle.sig_model.specs.Turns.{turn}
 use Rattle.sig_model.specs.References.{IsReference}
-use Rattle.sig_model.specs.declared.event.Event.{Event}
 use Rattle.sig_model.specs.declared.event.Event.TheVariants.{Act}
+use Rattle.sig_plan.specs.Codes.{CodeView}
 use Rattle.sig_plan.specs.Plans.{IsAccepted}
 use Rattle.sig_schedules.proofs.Keeping.{stepped_on}
 use Rattle.sig_schedules.proofs.Opening.{opening_on, repeated}
-use Rattle.sig_settling.specs.OwnSteps.{IsOwnStep, LeadBy, Own, opening_own}
-use Rattle.sig_settling.specs.Settled.{AreBalanced, HasActed, acts, collector_of}
+use Rattle.sig_schedules.proofs.Turning.{coded}
+use Rattle.sig_schedules.proofs.Words.{NotAfter, not_after_onward}
+use Rattle.sig_settling.specs.OwnSteps.{LeadBy, Own, opening_own}
+use Rattle.sig_settling.specs.Settled.{AreBalanced, AreInOrder, HasActed, acts, collector_of}
 use Rattle.sig_settling.proofs.Amid.{IsAmid, amid_next, at_here, at_other, ends_there}
 use Rattle.sig_settling.proofs.Failures.{least_same}
-use Rattle.sig_settling.proofs.Going.{CanAct, lead, place, runs, some_acts}
+use Rattle.sig_settling.proofs.Going.{CanAct, lead, rank, runs, some_acts}
 use Rattle.sig_settling.proofs.Least.{LeastLeft, some_left}
+use Rattle.sig_settling.proofs.Moving.{left_runs, own_step_moves, rank_rises}
+use Rattle.sig_settling.proofs.Ordering.{InOrderFrom, NoneBelow, in_order, rank_of}
 use Rattle.sig_settling.proofs.Tells.{turn_tells}
 
 -- how many steps are left of so many actors
@@ -63,9 +67,16 @@ none_left more (suc n) all =
 
 module _ (given : Given) (accepted : IsAccepted given.plan) (fit : AreFlowsFor given.plan.kernel given.flows) (reference : Trace) (long : given.limit + 1 ≤ length reference) (room : 1 ≤ given.capacity)
     (final : ℕ → Own) (links : List (List ℤ)) (balanced : AreBalanced given final links) where
+  -- no actor that has a step left is of a rank below this one
+  abbrev NoneLower : Place → (ℕ → Own) → (ℕ → ℕ) → Type 0
+  NoneLower low start left = (m : ℕ) → m < length given.plan.codes → ((left m ≡ 0) → ⊥) → NotAfter low (rank_of (code_of given.plan m) (start m).actor)
+
   -- all have done theirs, behind some steps
-  pub record HaveDone (core : Core) : Type 0 where
+  pub record HaveDone (core : Core) (start : ℕ → Own) (left : ℕ → ℕ) : Type 0 where
     pub numbers : List ℕ
+    -- in order, and of ranks that are not below those at which the actors stood that had steps left
+    pub order : InOrderFrom given core numbers
+    pub below : (low : Place) → NoneLower low start left → NoneBelow given low core numbers
     pub now : ℕ → Own
     pub more : ℕ → ℕ
     pub amid : IsAmid given final (fold (stepped given) core (acts numbers)) now more
@@ -99,22 +110,77 @@ module _ (given : Given) (accepted : IsAccepted given.plan) (fit : AreFlowsFor g
     next_amid = amid_next given accepted fit reference long final links balanced core on now more amid can.k can.lt path.0 can.left path.1 path.2 running
         (turn_tells given accepted fit reference long core on can.k (now can.k).actor (amid.actors can.k can.lt) running) can.can
 
+  module _ (core : Core) (on : IsOnReference given reference core) (now : ℕ → Own) (more : ℕ → ℕ) (amid : IsAmid given final core now more)
+      (can : CanAct given accepted fit reference long room final links balanced core on now more amid) where
+    abbrev code : CodeView
+    code = code_of given.plan can.k
+
+    still_left : more can.k ≡ 0 → ⊥
+    still_left none = let clash : suc can.left ≡ 0 = sym can.is ∙ none in omega (arith, clash)
+
+    is_mine : (actor : Actor) → slice_get core.actors can.k ≡ Some actor → (now can.k).actor ≡ actor
+    is_mine actor at = let e : Some (now can.k).actor ≡ Some actor = sym (amid.actors can.k can.lt) ∙ at in cc
+
+    acts_first : (actor : Actor) → slice_get core.actors can.k ≡ Some actor → NoneLower (rank_of code actor) now more
+    acts_first actor at = λ m lt some. subst (λ (a : Actor). NotAfter (rank_of code a) (rank_of (code_of given.plan m) (now m).actor)) (is_mine actor at) (can.first m lt some)
+
+    acts_no_lower : (low : Place) → NoneLower low now more → (actor : Actor) → slice_get core.actors can.k ≡ Some actor → NotAfter low (rank_of code actor)
+    acts_no_lower low all actor at = subst (λ (a : Actor). NotAfter low (rank_of code a)) (is_mine actor at) (all can.k can.lt still_left)
+
+    at_next : slice_get (next core on now more amid can).actors can.k ≡ Some (path core on now more amid can).0.actor
+    at_next = (next_amid core on now more amid can).actors can.k can.lt ∙ ap (λ (o : Own). Some o.actor) (at_here can.k (path core on now more amid can).0 now can.k refl)
+
+    -- its own rank does not fall
+    mine_rises : ((can.left ≡ 0) → ⊥) → NotAfter (rank_of code (now can.k).actor) (rank_of code (path core on now more amid can).0.actor)
+    mine_rises some =
+        let a = (now can.k).actor in
+        let b = (path core on now more amid can).0.actor in
+        rank_rises given.plan accepted can.k code (coded given accepted fit reference core on can.k a (amid.actors can.k can.lt)) a b
+        (on.each can.k a (amid.actors can.k can.lt)).step ((next_on core on now more amid can).each can.k b at_next).step
+        (own_step_moves given can.k (now can.k) (path core on now more amid can).0 (path core on now more amid can).1
+        (left_runs given can.k can.left (path core on now more amid can).0 (final can.k) (path core on now more amid can).2 some))
+
+    lower_later : (low : Place) → NoneLower low now more → NoneLower low (now_later core on now more amid can) (more_later core on now more amid can)
+    lower_later low all = λ m lt some. elim (same_or_not m can.k) [
+      | inl same ↦
+          subst (λ (o : Own). NotAfter low (rank_of (code_of given.plan m) o.actor)) (sym (at_here can.k (path core on now more amid can).0 now m same))
+          (subst (λ i. NotAfter low (rank_of (code_of given.plan i) (path core on now more amid can).0.actor)) (sym same)
+          (not_after_onward low (rank_of code (now can.k).actor) (rank_of code (path core on now more amid can).0.actor) (all can.k can.lt still_left)
+          (mine_rises (λ none. some (at_here can.k can.left more m same ∙ none)))))
+      | inr apart ↦
+          subst (λ (o : Own). NotAfter low (rank_of (code_of given.plan m) o.actor)) (sym (at_other can.k (path core on now more amid can).0 now m apart))
+          (all m lt (λ none. some (at_other can.k can.left more m apart ∙ none)))
+    ]
+
   abbrev some : (core : Core) (on : IsOnReference given reference core) (now : ℕ → Own) (more : ℕ → ℕ) (amid : IsAmid given final core now more)
-      → LeastLeft (place given accepted fit reference long room final links balanced core on now more amid) more (length given.plan.codes) → CanAct given accepted fit reference long room final links balanced core on now more amid
+      → LeastLeft (rank given accepted fit reference long room final links balanced core on now more amid) more (length given.plan.codes) → CanAct given accepted fit reference long room final links balanced core on now more amid
   some core on now more amid least = some_acts given accepted fit reference long room final links balanced core on now more amid least
 
-  pub all_act : (steps : ℕ) (core : Core) (on : IsOnReference given reference core) (now : ℕ → Own) (more : ℕ → ℕ) → IsAmid given final core now more → total more (length given.plan.codes) ≡ steps → HaveDone core
-  all_act zero core on now more amid none = elim (some_left (place given accepted fit reference long room final links balanced core on now more amid) more (length given.plan.codes)) [
-    | inl all ↦ record { numbers = []; now = now; more = more; amid = amid; on = on; all = all }
+  pub all_act : (steps : ℕ) (core : Core) (on : IsOnReference given reference core) (now : ℕ → Own) (more : ℕ → ℕ) → IsAmid given final core now more → total more (length given.plan.codes) ≡ steps → HaveDone core now more
+  all_act zero core on now more amid none = elim (some_left (rank given accepted fit reference long room final links balanced core on now more amid) more (length given.plan.codes)) [
+    | inl all ↦ record { numbers = []; order = tt; below = λ low all. tt; now = now; more = more; amid = amid; on = on; all = all }
     | inr least ↦ absurd (let f = fewer core on now more amid (some core on now more amid least) in omega (arith, none, f))
   ]
-  all_act (suc n) core on now more amid count = elim (some_left (place given accepted fit reference long room final links balanced core on now more amid) more (length given.plan.codes)) [
-    | inl all ↦ record { numbers = []; now = now; more = more; amid = amid; on = on; all = all }
+  all_act (suc n) core on now more amid count = elim (some_left (rank given accepted fit reference long room final links balanced core on now more amid) more (length given.plan.codes)) [
+    | inl all ↦ record { numbers = []; order = tt; below = λ low all. tt; now = now; more = more; amid = amid; on = on; all = all }
     | inr least ↦
         let can = some core on now more amid least in
         let done = all_act n (next core on now more amid can) (next_on core on now more amid can) (now_later core on now more amid can) (more_later core on now more amid can) (next_amid core on now more amid can)
         (let f = fewer core on now more amid can in omega (arith, count, f)) in
-        record { numbers = can.k ∷ done.numbers; now = done.now; more = done.more; amid = done.amid; on = done.on; all = done.all }
+        record {
+          numbers = can.k ∷ done.numbers;
+          order = (
+            λ actor at. done.below (rank_of (code_of given.plan can.k) actor)
+                (lower_later core on now more amid can (rank_of (code_of given.plan can.k) actor) (acts_first core on now more amid can actor at)),
+            done.order,
+          );
+          below = λ low all. (λ actor at. acts_no_lower core on now more amid can low all actor at, done.below low (lower_later core on now more amid can low all));
+          now = done.now;
+          more = done.more;
+          amid = done.amid;
+          on = done.on;
+          all = done.all;
+        }
   ]
 
   -- ---- from the opening
@@ -174,18 +240,18 @@ module _ (given : Given) (accepted : IsAccepted given.plan) (fit : AreFlowsFor g
       committed = amid.committed ∙ ap (λ (o : Own). o.committed) (done (collector_of given) (let actors = accepted.codes.actors in omega (arith, actors)));
     }
 
-  pub acted : IsReference given.plan.kernel given.flows (length reference) reference → (numbers : List ℕ) × HasActed given final links (after given (acts numbers)) × IsOnReference given reference (after given (acts numbers))
+  pub acted : IsReference given.plan.kernel given.flows (length reference) reference → (numbers : List ℕ) × AreInOrder given numbers × HasActed given final links (after given (acts numbers)) × IsOnReference given reference (after given (acts numbers))
   acted is =
       let opened = opening_on given accepted reference is (omega (arith, long)) in
       let end = all_act (total steps_of (length given.plan.codes)) (opening given.plan) opened (λ k. opening_own given.plan.kernel) steps_of opening_amid refl in
-      (end.numbers, acted_all (fold (stepped given) (opening given.plan) (acts end.numbers)) end.on end.now end.more end.amid end.all, end.on)
+      (end.numbers, in_order given end.numbers end.order, acted_all (fold (stepped given) (opening given.plan) (acts end.numbers)) end.on end.now end.more end.amid end.all, end.on)
 
 -- over a reference that is long enough
 pub own_acted : (given : Given) → IsAccepted given.plan → AreFlowsFor given.plan.kernel given.flows → 1 ≤ given.capacity → (own : ℕ → Own) (links : List (List ℤ)) → AreBalanced given own links
-    → (numbers : List ℕ) × HasActed given own links (after given (acts numbers)) × (length (after given (acts numbers)).actors ≡ length given.plan.codes)
+    → (numbers : List ℕ) × AreInOrder given numbers × HasActed given own links (after given (acts numbers)) × (length (after given (acts numbers)).actors ≡ length given.plan.codes)
 own_acted given accepted fit room own links balanced =
     let r = some_reference (fitting given.plan accepted given.flows fit) (given.limit + 1) in
     let exact = r.1.instants in
     let is : IsReference given.plan.kernel given.flows (length r.0) r.0 = subst (λ n. IsReference given.plan.kernel given.flows n r.0) (sym exact) r.1 in
     let found = acted given accepted fit r.0 (omega (arith, exact)) room own links balanced is in
-    (found.0, found.1, found.2.actors)
+    (found.0, found.1, found.2, found.3.actors)

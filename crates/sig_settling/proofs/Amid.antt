@@ -1,10 +1,9 @@
 -- A state amid the own steps of its actors, and what one more own step leaves of it.
-use Rattle.std.proofs.Common.{◌≡◌, ◌<◌, ◌≤◌, ◌+◌, ◌-◌, ◌++◌, ◌⊎◌, inl, inr, ℕ, zero, suc, ℤ, Bool, true, false, cond, List, [], ◌∷◌, length, get_or, set, refl, ap, sym, subst, ◌∙◌, append_assoc, arith}
-use Rattle.std.specs.Prelude.{None, Option, Some, nat_lt, slice_get}
+use Rattle.std.proofs.Common.{◌≡◌, ◌<◌, ◌≤◌, ◌+◌, ◌++◌, inl, inr, ℕ, zero, suc, ℤ, true, false, cond, List, [], ◌∷◌, length, get_or, set, refl, ap, sym, subst, ◌∙◌, append_assoc, arith}
+use Rattle.std.specs.Prelude.{None, Option, Some, slice_get}
 use Rattle.std.proofs.lemmas.Bool.{eq-eqb, lt-ltb, ne_eqb}
 use Rattle.std.proofs.lemmas.List.{get_or-set_other, get_or-set_same}
 use Rattle.sig_base.specs.Traces.{IsPrefixOf, Trace}
-use Rattle.sig_base.specs.declared.place.Place.{Place}
 use Rattle.sig_clock.proofs.Lists.{get_within}
 use Rattle.sig_kernel.specs.Validity.{AreFlowsFor}
 use Rattle.sig_meaning.proofs.Numbers.{same_or_not}
@@ -19,11 +18,11 @@ use Rattle.sig_plan.proofs.LinkEnds.{ends_within}
 use Rattle.sig_plan.specs.Operations.{operations_in}
 use Rattle.sig_schedules.proofs.Lists.{set_here}
 use Rattle.sig_schedules.proofs.Prefixes.{same_next}
-use Rattle.sig_settling.specs.OwnSteps.{Grow, HasTurned, IsBehind, IsOwnStep, Items, LeadBy, Own, Stay, UsesNone}
+use Rattle.sig_settling.specs.OwnSteps.{Grow, HasTurned, IsBehind, IsOwnStep, LeadBy, Own, Stay, UsesNone}
 use Rattle.sig_settling.specs.Settled.{AreBalanced, IsLeastFailure, collector_of}
 use Rattle.sig_settling.proofs.Failures.{least_lesser, least_same}
 use Rattle.sig_settling.proofs.Owning.{lead_begins}
-use Rattle.sig_settling.proofs.Tells.{IsPutting, IsTaking, Tells}
+use Rattle.sig_settling.proofs.Tells.{Tells}
 
 pub set_apart : {A : Type 0} (xs : List A) (k : ℕ) (x : A) (m : ℕ) → ((m ≡ k) → ⊥) → slice_get (set xs k x) m ≡ slice_get xs m
 set_apart {A} [] k x m apart = refl

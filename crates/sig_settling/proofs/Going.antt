@@ -1,6 +1,6 @@
 -- Where an actor has own steps left, one of the actors can do its next one.
-use Rattle.std.proofs.Common.{◌≡◌, ◌<◌, ◌≤◌, ◌+◌, ◌*◌, ◌-◌, ◌++◌, ◌⊎◌, inl, inr, ℕ, zero, suc, ℤ, Bool, true, false, List, [], ◌∷◌, length, get_or, refl, ap, sym, subst, ◌∙◌, arith}
-use Rattle.std.specs.Prelude.{Some, nat_lt, slice_get}
+use Rattle.std.proofs.Common.{◌≡◌, ◌<◌, ◌≤◌, ◌+◌, ◌⊎◌, inl, inr, ℕ, zero, suc, ℤ, true, false, List, [], ◌∷◌, length, get_or, refl, ap, sym, subst, ◌∙◌, arith}
+use Rattle.std.specs.Prelude.{Some, slice_get}
 use Rattle.std.proofs.lemmas.Bool.{cases_lt}
 use Rattle.std.proofs.lemmas.List.{length-append}
 use Rattle.sig_base.specs.Traces.{Instant, Trace, seen_at}
@@ -17,6 +17,8 @@ use Rattle.sig_plan.specs.Instructions.{IsFor}
 use Rattle.sig_plan.specs.Operations.{Operation, operations_in}
 use Rattle.sig_plan.specs.Plans.{IsAccepted, PlanView, numbers_of}
 use Rattle.sig_plan.specs.declared.code.Step.{Step}
+use Rattle.sig_plan.specs.declared.code.StepKind.{StepKind}
+use Rattle.sig_plan.specs.declared.code.StepKind.TheVariants.{Do, Send, Receive, Report, Collect, Commit}
 use Rattle.sig_plan.specs.declared.parts.LinkInfo.{LinkInfo}
 use Rattle.sig_plan.proofs.Positions.{positions_rise}
 use Rattle.sig_schedules.proofs.Linking.{reader_end}
@@ -26,10 +28,11 @@ use Rattle.sig_schedules.proofs.Steps.{DoesStep, step_does}
 use Rattle.sig_schedules.proofs.Turning.{coded}
 use Rattle.sig_schedules.proofs.Waiting.{reader_earlier, writer_no_later}
 use Rattle.sig_schedules.proofs.Words.{NotAfter}
-use Rattle.sig_settling.specs.OwnSteps.{Grow, HasTurned, IsOwnStep, LeadBy, Own}
-use Rattle.sig_settling.specs.Settled.{AreBalanced}
+use Rattle.sig_settling.specs.OwnSteps.{Grow, HasTurned, LeadBy, Own}
+use Rattle.sig_settling.specs.Settled.{AreBalanced, is_next, is_such, takes_item}
 use Rattle.sig_settling.proofs.Amid.{CanHappen, IsAmid, ends_there}
 use Rattle.sig_settling.proofs.Least.{LeastLeft}
+use Rattle.sig_settling.proofs.Ordering.{rank_of, rank_place, takes_last}
 use Rattle.sig_settling.proofs.Owning.{lead_begins, step_runs}
 use Rattle.sig_settling.proofs.Tells.{IsPutting, IsTaking, Tells, turn_tells}
 
@@ -38,8 +41,11 @@ module _ (given : Given) (accepted : IsAccepted given.plan) (fit : AreFlowsFor g
   abbrev plan : PlanView
   plan = given.plan
 
-  abbrev pub place : ℕ → Place
+  abbrev place : ℕ → Place
   place m = next_place (code_of plan m) (now m).actor
+
+  abbrev pub rank : ℕ → Place
+  rank m = rank_of (code_of plan m) (now m).actor
 
   ends : (l : ℕ) (info : LinkInfo) → slice_get plan.links l ≡ Some info → (info.writer < length plan.codes) × (info.reader < length plan.codes)
   ends l info at_l = ends_there given accepted fit reference long final links balanced core on now more amid l info at_l
@@ -50,6 +56,8 @@ module _ (given : Given) (accepted : IsAccepted given.plan) (fit : AreFlowsFor g
     pub left : ℕ
     pub is : more k ≡ suc left
     pub can : CanHappen given core (turn plan given.flows given.limit k (now k).actor)
+    -- no other that has a step left is of a lower rank
+    pub first : (m : ℕ) → m < length plan.codes → ((more m ≡ 0) → ⊥) → NotAfter (rank k) (rank m)
 
   -- ---- an actor that has a step left
 
@@ -144,10 +152,10 @@ module _ (given : Given) (accepted : IsAccepted given.plan) (fit : AreFlowsFor g
             link_below : l < length plan.links
             link_below = get_within plan.links l p.info p.at_l
 
-  -- ---- an actor at a least place that waits for an item: its writer can act
+  -- ---- an actor of a least rank waits for no item: its writer would be at the same place, and of a lower rank
 
   module _ (k : ℕ) (lt : k < length plan.codes) (left : ℕ) (is : more k ≡ suc left) (starving : Starving k lt left is)
-      (least : (m : ℕ) → m < length plan.codes → ((more m ≡ 0) → ⊥) → NotAfter (place k) (place m)) where
+      (least : (m : ℕ) → m < length plan.codes → ((more m ≡ 0) → ⊥) → NotAfter (rank k) (rank m)) where
     abbrev l : ℕ
     l = starving.l
 
@@ -208,8 +216,8 @@ module _ (given : Given) (accepted : IsAccepted given.plan) (fit : AreFlowsFor g
     w_on : IsActorOn plan reference (code_of plan w) writer
     w_on = on.each w writer at_w
 
-    no_later : (writer.instant < me.instant) ⊎ ((writer.instant ≡ me.instant) × (writer.step ≤ sending.t))
-    no_later = writer_no_later given accepted fit reference core on l info p.at_l writer me at_w (ap (slice_get core.actors) p.reader ∙ amid.actors k lt) p.step
+    writer_no_further : (writer.instant < me.instant) ⊎ ((writer.instant ≡ me.instant) × (writer.step ≤ sending.t))
+    writer_no_further = writer_no_later given accepted fit reference core on l info p.at_l writer me at_w (ap (slice_get core.actors) p.reader ∙ amid.actors k lt) p.step
         (subst (λ n. slice_get (code_of plan n).steps me.step ≡ Some p.step) (sym p.reader) p.at_s) p.item
         (subst (λ n. chosen_of plan (code_of plan n) reference (taken_from plan.links l) instant p.step ≡ Some p.item) (sym p.reader) p.takes)
         (ap (λ (xs : List ℤ). length xs) starving.empty) sending.t sending.other sending.item sending.at sending.sends
@@ -238,7 +246,7 @@ module _ (given : Given) (accepted : IsAccepted given.plan) (fit : AreFlowsFor g
     w_position = ap position_of w_step.1
 
     not_after : NotAfter (place w) (place k)
-    not_after = elim no_later [
+    not_after = elim writer_no_further [
       | inl before ↦ inl before
       | inr both ↦ inr (both.0, omega (arith, w_position, my_position, position_before writer.step w_step.0 w_step.1 both.1))
     ]
@@ -260,7 +268,7 @@ module _ (given : Given) (accepted : IsAccepted given.plan) (fit : AreFlowsFor g
         omega (arith, one, two, three, four, five, six)
 
     back : NotAfter (place k) (place w)
-    back = least w w_lt writer_left
+    back = rank_place (code_of plan k) me (code_of plan w) writer (least w w_lt writer_left)
 
     same_instant : writer.instant ≡ me.instant
     same_instant = elim not_after [
@@ -277,29 +285,35 @@ module _ (given : Given) (accepted : IsAccepted given.plan) (fit : AreFlowsFor g
       ]
     ]
 
-    instants : (m : ℕ) → m < length plan.codes → ((more m ≡ 0) → ⊥) → writer.instant ≤ (now m).actor.instant
-    instants m within some = elim (least m within some) [ inl before ↦ omega (arith, before, same_instant) | inr both ↦ omega (arith, both.0, same_instant) ]
+    i_take : is_next takes_item (code_of plan k) me ≡ true
+    i_take = ap (is_such takes_item) p.at_s ∙ elim p.kind [ inl is_receive ↦ ap takes_item is_receive | inr is_collect ↦ ap takes_item is_collect ]
 
-    pub writer_acts : CanAct
-    writer_acts = by (more w) refl where
-      by : (n : ℕ) → more w ≡ n → CanAct
-      by zero none = absurd (writer_left none)
-      by (suc n) some = elim (sorted w w_lt n some) [
-        | inl can ↦ record { k = w; lt = w_lt; left = n; is = some; can = can }
-        | inr (inl full) ↦ absurd (never_full w w_lt n some full instants)
-        | inr (inr other) ↦
-            let q = other.taking in
-            let e = step_does plan accepted w (code_of plan w) cw writer.step q.step q.at_s in
-            let here : position_of (slice_get (code_of plan w).steps writer.step) ≡ e.i.position = ap position_of q.at_s ∙ e.position in
-            absurd (sending.alone e.i e.known (omega (arith, here, same_position)) other.l (elim q.kind [ inl is_receive ↦ inl (sym e.kind ∙ is_receive) | inr is_collect ↦ inr (sym e.kind ∙ is_collect) ]))
-      ]
+    -- the writer takes nothing at that place
+    w_takes_not : is_next takes_item (code_of plan w) writer ≡ false
+    w_takes_not = ap (is_such takes_item) w_step.1 ∙ by w_step.0.kind refl where
+      e : DoesStep plan accepted w (code_of plan w) cw writer.step w_step.0
+      e = step_does plan accepted w (code_of plan w) cw writer.step w_step.0 w_step.1
 
-  -- ---- of the actors that have a step left the least acts, or its writer
+      here : e.i.position ≡ d.i.position
+      here = let mine = e.position in omega (arith, mine, w_position, same_position)
 
-  pub some_acts : LeastLeft place more (length plan.codes) → CanAct
+      by : (kind : StepKind) → w_step.0.kind ≡ kind → takes_item w_step.0.kind ≡ false
+      by (Receive j) is = absurd (sending.alone e.i e.known here j (inl (sym e.kind ∙ is)))
+      by (Collect j) is = absurd (sending.alone e.i e.known here j (inr (sym e.kind ∙ is)))
+      by (Send j) is = ap takes_item is
+      by (Report j) is = ap takes_item is
+      by (Do o) is = ap takes_item is
+      by Commit is = ap takes_item is
+
+    pub never_starving : ⊥
+    never_starving = takes_last (code_of plan k) me (code_of plan w) writer (least w w_lt writer_left) same_instant (omega (arith, same_position, my_position)) i_take w_takes_not
+
+  -- ---- of the actors that have a step left one of the least rank acts
+
+  pub some_acts : LeastLeft rank more (length plan.codes) → CanAct
   some_acts least = elim (sorted least.k least.lt least.left least.is) [
-    | inl can ↦ record { k = least.k; lt = least.lt; left = least.left; is = least.is; can = can }
+    | inl can ↦ record { k = least.k; lt = least.lt; left = least.left; is = least.is; can = can; first = least.least }
     | inr (inl full) ↦ absurd (never_full least.k least.lt least.left least.is full
         (λ m within some. elim (least.least m within some) [ inl before ↦ omega (arith, before) | inr both ↦ omega (arith, both.0) ]))
-    | inr (inr starving) ↦ writer_acts least.k least.lt least.left least.is starving least.least
+    | inr (inr starving) ↦ absurd (never_starving least.k least.lt least.left least.is starving least.least)
   ]

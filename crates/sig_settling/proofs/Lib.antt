@@ -3,6 +3,8 @@ mod Owning
 mod Failures
 mod Amid
 mod Least
+mod Ordering
+mod Moving
 mod Going
 mod Acting
 mod Looking

@@ -1,30 +1,24 @@
 -- Each actor looks at the word once: those that were to end by a look have ended.
-use Rattle.std.proofs.Common.{◌≡◌, ◌<◌, ◌≤◌, ◌+◌, ◌++◌, ◌⊎◌, inl, inr, ℕ, zero, suc, ℤ, Bool, true, false, cond, List, [], ◌∷◌, length, get_or, refl, ap, sym, subst, ◌∙◌, arith}
-use Rattle.std.specs.Prelude.{None, Option, Some, fold, slice_get}
+use Rattle.std.proofs.Common.{◌≡◌, ◌<◌, ◌≤◌, ◌++◌, inl, inr, ℕ, zero, suc, ℤ, true, cond, List, [], ◌∷◌, length, get_or, refl, ap, sym, subst, ◌∙◌, arith}
+use Rattle.std.specs.Prelude.{Option, Some, fold, slice_get}
 use Rattle.std.proofs.lemmas.List.{length-set}
 use Rattle.std.proofs.lemmas.List.Sums.{fold-append}
 use Rattle.sig_base.specs.declared.place.Place.{Place}
-use Rattle.sig_clock.proofs.Lists.{get_at, get_within}
+use Rattle.sig_clock.proofs.Lists.{get_at}
 use Rattle.sig_kernel.specs.Validity.{AreFlowsFor}
 use Rattle.sig_meaning.proofs.Agreement.{some_at}
 use Rattle.sig_meaning.proofs.Numbers.{same_or_not}
 use Rattle.sig_model.specs.Actors.{Actor, code_of, ended_at, next_place}
 use Rattle.sig_model.specs.Cores.{Core, Given, IsFinished, after, looked, opening, stepped, with_actor, word_before}
-use Rattle.sig_model.specs.Turns.{Reaction}
 use Rattle.sig_model.specs.declared.event.Event.{Event}
 use Rattle.sig_model.specs.declared.event.Event.TheVariants.{Look}
 use Rattle.sig_plan.specs.Plans.{IsAccepted}
 use Rattle.sig_schedules.proofs.Lists.{set_here}
 use Rattle.sig_settling.specs.OwnSteps.{Own}
-use Rattle.sig_settling.specs.Settled.{AreSettled, HasActed, HasEndedBy, acts, collector_of}
+use Rattle.sig_settling.specs.Settled.{AreBalanced, AreInOrder, AreSettled, HasActed, HasEndedBy, acts, collector_of, looks}
 use Rattle.sig_settling.proofs.Acting.{own_acted}
 use Rattle.sig_settling.proofs.Amid.{set_apart}
 use Rattle.sig_settling.proofs.Failures.{one_least}
-
--- a look of each of so many actors
-abbrev looks : ℕ → List Event
-looks zero = []
-looks (suc n) = looks n ++ Look n ∷ []
 
 same_list : {A : Type 0} (xs ys : List A) → length xs ≡ length ys → ((k : ℕ) → k < length ys → slice_get xs k ≡ slice_get ys k) → xs ≡ ys
 same_list {A} [] [] count each = refl
@@ -125,13 +119,30 @@ module _ (given : Given) (own : ℕ → Own) (links : List (List ℤ)) (word : O
   pub all_ended : IsFinished whole
   all_ended = λ k a lt. ended_by k (get_or actors k a) (settled.each k (get_or actors k a) (get_at actors k a lt))
 
+-- the steps of actors in order, and then the looks
+pub acted_then_looked : (given : Given) → IsAccepted given.plan → AreFlowsFor given.plan.kernel given.flows → 1 ≤ given.capacity
+    → (own : ℕ → Own) (links : List (List ℤ)) → AreBalanced given own links
+    → (numbers : List ℕ) × AreInOrder given numbers × HasActed given own links (after given (acts numbers))
+    × ((word : Option Place) (actors : List Actor) → AreSettled given own links word actors
+    → (after given (acts numbers ++ looks (length given.plan.codes)) ≡ record { actors = actors; links = links; word = word; committed = (own (collector_of given)).committed })
+    × IsFinished (after given (acts numbers ++ looks (length given.plan.codes))))
+acted_then_looked given accepted fit room own links balanced =
+    let found = own_acted given accepted fit room own links balanced in (
+      found.0,
+      found.1,
+      found.2,
+      λ word actors settled.
+          let joined = fold-append (stepped given) (opening given.plan) (acts found.0) (looks (length given.plan.codes))
+          ∙ all_looked given own links word actors settled (after given (acts found.0)) found.2 found.3 in
+          (joined, subst (λ (c : Core). IsFinished c) (sym joined) (all_ended given own links word actors settled (after given (acts found.0)) found.2 found.3)),
+    )
+
 pub settled_finished : (given : Given) → IsAccepted given.plan → AreFlowsFor given.plan.kernel given.flows → 1 ≤ given.capacity
     → (own : ℕ → Own) (links : List (List ℤ)) (word : Option Place) (actors : List Actor) → AreSettled given own links word actors
     → (events : List Event)
     × (after given events ≡ record { actors = actors; links = links; word = word; committed = (own (collector_of given)).committed })
     × IsFinished (after given events)
 settled_finished given accepted fit room own links word actors settled =
-    let found = own_acted given accepted fit room own links settled.balanced in
-    let joined = fold-append (stepped given) (opening given.plan) (acts found.0) (looks (length given.plan.codes))
-    ∙ all_looked given own links word actors settled (after given (acts found.0)) found.1 found.2 in
-    (acts found.0 ++ looks (length given.plan.codes), joined, subst (λ (c : Core). IsFinished c) (sym joined) (all_ended given own links word actors settled (after given (acts found.0)) found.1 found.2))
+    let found = acted_then_looked given accepted fit room own links settled.balanced in
+    let end = found.3 word actors settled in
+    (acts found.0 ++ looks (length given.plan.codes), end.0, end.1)

@@ -1,11 +1,14 @@
 -- What actors that did their own steps by themselves have in common in the end.
-use Rattle.std.specs.Prelude.{◌≡◌, ◌<◌, ◌≤◌, ◌⊎◌, ◌-◌, ◌++◌, ℕ, ℤ, true, false, List, [], length, map, slice_get, slice_index_or, Option, None, Some}
+use Rattle.std.specs.Prelude.{◌≡◌, ◌<◌, ◌≤◌, ◌⊎◌, ◌-◌, ◌++◌, ℕ, zero, suc, ℤ, Bool, true, false, List, [], ◌∷◌, length, map, slice_get, slice_index_or, Option, None, Some}
 use Rattle.sig_base.specs.declared.place.Place.{Place}
 use Rattle.sig_model.specs.Actors.{Actor, code_of, ended_at, next_place}
-use Rattle.sig_model.specs.Cores.{Core, Given, is_before, word_before}
+use Rattle.sig_model.specs.Cores.{Core, Given, after, is_before, word_before}
 use Rattle.sig_model.specs.declared.event.Event.{Event}
-use Rattle.sig_model.specs.declared.event.Event.TheVariants.{Act}
+use Rattle.sig_model.specs.declared.event.Event.TheVariants.{Act, Look}
 use Rattle.sig_plan.specs.Codes.{CodeView}
+use Rattle.sig_plan.specs.declared.code.Step.{Step}
+use Rattle.sig_plan.specs.declared.code.StepKind.{StepKind}
+use Rattle.sig_plan.specs.declared.code.StepKind.TheVariants.{Do, Send, Receive, Report, Collect, Commit}
 use Rattle.sig_plan.specs.declared.parts.LinkInfo.{LinkInfo}
 use Rattle.sig_settling.specs.OwnSteps.{IsOwn, Own}
 
@@ -31,6 +34,51 @@ collector_of given = length given.plan.codes - 1
 -- steps of actors alone, by the numbers of the actors
 abbrev pub acts : List ℕ → List Event
 acts numbers = map (λ k. Act k) numbers
+
+-- a look of each of so many actors
+abbrev pub looks : ℕ → List Event
+looks zero = []
+looks (suc n) = looks n ++ Look n ∷ []
+
+-- a step that puts an item on a link
+abbrev pub puts_item : StepKind → Bool
+puts_item (Send l) = true
+puts_item (Report l) = true
+puts_item (Receive l) = false
+puts_item (Collect l) = false
+puts_item (Do o) = false
+puts_item Commit = false
+
+-- a step that takes an item from a link
+abbrev pub takes_item : StepKind → Bool
+takes_item (Send l) = false
+takes_item (Report l) = false
+takes_item (Receive l) = true
+takes_item (Collect l) = true
+takes_item (Do o) = false
+takes_item Commit = false
+
+-- there is a step, and it is such a one
+abbrev pub is_such : (StepKind → Bool) → Option Step → Bool
+is_such such None = false
+is_such such (Some step) = such step.kind
+
+-- the next step of an actor is such a one
+abbrev pub is_next : (StepKind → Bool) → CodeView → Actor → Bool
+is_next such code actor = is_such such (slice_get code.steps actor.step)
+
+-- The next step of one actor is no later than that of another one: its place is not after, and at one place it does not take
+-- where the other one puts.
+pub record IsNoLater (code : CodeView) (actor : Actor) (other_code : CodeView) (other : Actor) : Type 0 where
+  pub place : is_before (next_place other_code other) (next_place code actor) ≡ false
+  pub puts_first : next_place other_code other ≡ next_place code actor → is_next takes_item code actor ≡ true → is_next puts_item other_code other ≡ false
+
+-- Steps of actors are in order: of any two of them the first one is no later. Each is the next step of its actor in the state
+-- behind those before it.
+abbrev pub AreInOrder : Given → List ℕ → Type 0
+AreInOrder given numbers = (before : List ℕ) (k : ℕ) (between : List ℕ) (m : ℕ) (later : List ℕ) → numbers ≡ before ++ k ∷ between ++ m ∷ later
+    → (actor other : Actor) → slice_get (after given (acts before)).actors k ≡ Some actor → slice_get (after given (acts (before ++ k ∷ between))).actors m ≡ Some other
+    → IsNoLater (code_of given.plan k) actor (code_of given.plan m) other
 
 -- A state has what these actors have, whether they ended or not.
 pub record HasActed (given : Given) (own : ℕ → Own) (links : List (List ℤ)) (core : Core) : Type 0 where

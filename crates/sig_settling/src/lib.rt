@@ -5,4 +5,6 @@
 
 mod laws;
 
-pub use laws::{own_steps_are_an_interleaving, settled_actors_are_finished};
+pub use laws::{
+    own_steps_are_an_interleaving, settled_actors_are_finished, settled_actors_have_acted_in_order,
+};
