@@ -1,0 +1,266 @@
+-- The ends of an actor, with one of them changed.
+use Rattle.std.proofs.Common.{◌≡◌, ◌<◌, ◌≤◌, ◌+◌, ◌++◌, inl, inr, ℕ, zero, suc, ℤ, Bool, true, false, cond, List, [], ◌∷◌, length, get_or, set, Result, Ok, Err, refl, ap, sym, subst, ◌∙◌, arith, Contains}
+use Rattle.std.specs.Prelude.{IfNone, IfSome, None, OnErr, OnOk, Option, Some, slice_get}
+use Rattle.std.specs.List.{filter, range_with_len}
+use Rattle.std.proofs.lemmas.List.{length-set}
+use Rattle.sig_clock.proofs.Lists.{contains_cons, contains_head, contains_later, contains_none, get_at, get_within}
+use Rattle.sig_link.specs.Ends.{put_capacity, put_link, sent, take_link, taken}
+use Rattle.sig_link.specs.declared.put.Put.{Put}
+use Rattle.sig_link.specs.declared.take.Take.{Take}
+use Rattle.sig_meaning.proofs.Numbers.{same_or_not}
+use Rattle.sig_base.specs.declared.ids.Full.{Full}
+use Rattle.sig_schedules.proofs.Lists.{set_here}
+use Rattle.sig_step.specs.LinkEnds.{PastGoesOn, asked_to_pop, asked_to_push}
+use Rattle.sig_work.specs.Ends.{AreSameEnds, has_put, has_take, past_of, puts_of, sent_by, sent_of, taken_by, taken_of, takes_of}
+use Rattle.sig_work.specs.declared.ends.LinkEnds.{LinkEnds}
+
+pub set_apart : {A : Type 0} (xs : List A) (k : ℕ) (x : A) (m : ℕ) → ((m ≡ k) → ⊥) → slice_get (set xs k x) m ≡ slice_get xs m
+set_apart {A} [] k x m apart = refl
+set_apart {A} (y ∷ xs) zero x zero apart = absurd (apart refl)
+set_apart {A} (y ∷ xs) zero x (suc m) apart = refl
+set_apart {A} (y ∷ xs) (suc k) x zero apart = refl
+set_apart {A} (y ∷ xs) (suc k) x (suc m) apart = set_apart xs k x m (λ e. apart (ap suc e))
+
+-- what a filter keeps
+of_filter : {A : Type 0} (p : A → Bool) (xs : List A) (x : A) → Contains (filter p xs) x → p x ≡ true
+of_filter {A} p [] x there = absurd (contains_none x there)
+of_filter {A} p (y ∷ xs) x there = by (p y) refl (of_filter p xs x) there where
+  by : (b : Bool) → p y ≡ b → (Contains (filter p xs) x → p x ≡ true) → Contains (cond b (y ∷ filter p xs) (filter p xs)) x → p x ≡ true
+  by true is rest inside = elim (contains_cons y x (filter p xs) inside) [ inl same ↦ ap p same ∙ is | inr later ↦ rest later ]
+  by false is rest inside = rest inside
+
+in_filter : {A : Type 0} (p : A → Bool) (xs : List A) (x : A) → Contains xs x → p x ≡ true → Contains (filter p xs) x
+in_filter {A} p [] x there is = absurd (contains_none x there)
+in_filter {A} p (y ∷ xs) x there is = elim (contains_cons y x xs there) [
+  | inl same ↦ subst (λ b. Contains (cond b (y ∷ filter p xs) (filter p xs)) x) (sym (ap p (sym same) ∙ is)) (subst (λ (z : A). Contains (z ∷ filter p xs) x) same (contains_head x (filter p xs)))
+  | inr later ↦ by (p y) (in_filter p xs x later is)
+] where
+  by : (b : Bool) → Contains (filter p xs) x → Contains (cond b (y ∷ filter p xs) (filter p xs)) x
+  by true inside = contains_later y x (filter p xs) inside
+  by false inside = inside
+
+in_range : (a n j : ℕ) → a ≤ j → j < a + n → Contains (range_with_len a n) j
+in_range a zero j le lt = absurd (omega (arith, le, lt))
+in_range a (suc n) j le lt = elim (same_or_not j a) [
+  | inl same ↦ subst (λ i. Contains (i ∷ range_with_len (a + 1) n) j) same (contains_head j (range_with_len (a + 1) n))
+  | inr apart ↦ contains_later a j (range_with_len (a + 1) n) (in_range (a + 1) n j (omega (arith, le, apart)) (omega (arith, lt)))
+]
+
+-- a test that gives the same everywhere keeps the same
+filter_same : {A : Type 0} (p q : A → Bool) (xs : List A) → ((x : A) → p x ≡ q x) → filter p xs ≡ filter q xs
+filter_same {A} p q [] same = refl
+filter_same {A} p q (x ∷ xs) same = ap (λ b. cond b (x ∷ filter p xs) (filter p xs)) (same x) ∙ ap (λ (ys : List A). cond (q x) (x ∷ ys) ys) (filter_same p q xs same)
+
+filter_alike : (p q : ℕ → Bool) (m n : ℕ) → m ≡ n → ((x : ℕ) → p x ≡ q x) → filter p (range_with_len 0 m) ≡ filter q (range_with_len 0 n)
+filter_alike p q m n same alike = filter_same p q (range_with_len 0 m) alike ∙ ap (λ i. filter q (range_with_len 0 i)) same
+
+-- ---- ends that are there
+
+some_put : (o : Option (Option Put)) → has_put o ≡ true → (put : Put) × (o ≡ Some (Some put))
+some_put None is = absurd (let e : false ≡ true = is in cc)
+some_put (Some None) is = absurd (let e : false ≡ true = is in cc)
+some_put (Some (Some put)) is = (put, refl)
+
+some_take : (o : Option (Option Take)) → has_take o ≡ true → (take : Take) × (o ≡ Some (Some take))
+some_take None is = absurd (let e : false ≡ true = is in cc)
+some_take (Some None) is = absurd (let e : false ≡ true = is in cc)
+some_take (Some (Some take)) is = (take, refl)
+
+pub put_there : (ends : LinkEnds) (link : ℕ) → Contains (puts_of ends) link → (put : Put) × (slice_get ends.puts.items link ≡ Some (Some put))
+put_there ends link there = some_put (slice_get ends.puts.items link) (of_filter (λ j. has_put (slice_get ends.puts.items j)) (range_with_len 0 (length ends.puts.items)) link there)
+
+pub take_there : (ends : LinkEnds) (link : ℕ) → Contains (takes_of ends) link → (take : Take) × (slice_get ends.takes.items link ≡ Some (Some take))
+take_there ends link there = some_take (slice_get ends.takes.items link) (of_filter (λ j. has_take (slice_get ends.takes.items j)) (range_with_len 0 (length ends.takes.items)) link there)
+
+pub there_put : (ends : LinkEnds) (link : ℕ) (put : Put) → slice_get ends.puts.items link ≡ Some (Some put) → Contains (puts_of ends) link
+there_put ends link put is =
+    in_filter (λ j. has_put (slice_get ends.puts.items j)) (range_with_len 0 (length ends.puts.items)) link (in_range 0 (length ends.puts.items) link (omega arith) (let lt = get_within ends.puts.items link (Some put) is in omega (arith, lt))) (ap has_put is)
+
+pub there_take : (ends : LinkEnds) (link : ℕ) (take : Take) → slice_get ends.takes.items link ≡ Some (Some take) → Contains (takes_of ends) link
+there_take ends link take is =
+    in_filter (λ j. has_take (slice_get ends.takes.items j)) (range_with_len 0 (length ends.takes.items)) link (in_range 0 (length ends.takes.items) link (omega arith) (let lt = get_within ends.takes.items link (Some take) is in omega (arith, lt))) (ap has_take is)
+
+-- ---- one end changed
+
+module _ (puts : List (Option Put)) (link : ℕ) (old new : Put) (at : slice_get puts link ≡ Some (Some old)) where
+  abbrev after : List (Option Put)
+  after = set puts link (Some new)
+
+  at_link : slice_get after link ≡ Some (Some new)
+  at_link = set_here puts link (Some new) (Some old) at
+
+  pub put_sent : (j : ℕ) → ((j ≡ link) → ⊥) → sent_by (slice_get after j) ≡ sent_by (slice_get puts j)
+  put_sent j apart = ap sent_by (set_apart puts link (Some new) j apart)
+
+  pub put_sends : sent_by (slice_get after link) ≡ sent new
+  put_sends = ap sent_by at_link
+
+  pub put_had : sent_by (slice_get puts link) ≡ sent old
+  put_had = ap sent_by at
+
+  pub puts_stay : filter (λ j. has_put (slice_get after j)) (range_with_len 0 (length after)) ≡ filter (λ j. has_put (slice_get puts j)) (range_with_len 0 (length puts))
+  puts_stay = filter_alike (λ j. has_put (slice_get after j)) (λ j. has_put (slice_get puts j)) (length after) (length puts) (length-set puts link (Some new))
+      (λ j. elim (same_or_not j link) [
+        | inl same ↦ ap (λ i. has_put (slice_get after i)) same ∙ ap has_put at_link ∙ sym (ap has_put at) ∙ ap (λ i. has_put (slice_get puts i)) (sym same)
+        | inr apart ↦ ap has_put (set_apart puts link (Some new) j apart)
+      ])
+
+  pub put_same : put_link new ≡ put_link old → put_capacity new ≡ put_capacity old → (j : ℕ) (before : Put) → slice_get puts j ≡ Some (Some before)
+      → (p : Put) × (slice_get after j ≡ Some (Some p)) × (put_link p ≡ put_link before) × (put_capacity p ≡ put_capacity before)
+  put_same same_link same_capacity j before is = elim (same_or_not j link) [
+    | inl same ↦
+        let e : Some (Some old) ≡ Some (Some before) = sym at ∙ ap (slice_get puts) (sym same) ∙ is in
+        let one : old ≡ before = cc in
+        (new, ap (slice_get after) same ∙ at_link, same_link ∙ ap put_link one, same_capacity ∙ ap put_capacity one)
+    | inr apart ↦ (before, set_apart puts link (Some new) j apart ∙ is, refl, refl)
+  ]
+
+module _ (takes : List (Option Take)) (link : ℕ) (old new : Take) (at : slice_get takes link ≡ Some (Some old)) where
+  abbrev after_take : List (Option Take)
+  after_take = set takes link (Some new)
+
+  at_take : slice_get after_take link ≡ Some (Some new)
+  at_take = set_here takes link (Some new) (Some old) at
+
+  pub take_stays : (j : ℕ) → ((j ≡ link) → ⊥) → taken_by (slice_get after_take j) ≡ taken_by (slice_get takes j)
+  take_stays j apart = ap taken_by (set_apart takes link (Some new) j apart)
+
+  pub take_takes : taken_by (slice_get after_take link) ≡ taken new
+  take_takes = ap taken_by at_take
+
+  pub take_had : taken_by (slice_get takes link) ≡ taken old
+  take_had = ap taken_by at
+
+  pub takes_stay : filter (λ j. has_take (slice_get after_take j)) (range_with_len 0 (length after_take)) ≡ filter (λ j. has_take (slice_get takes j)) (range_with_len 0 (length takes))
+  takes_stay = filter_alike (λ j. has_take (slice_get after_take j)) (λ j. has_take (slice_get takes j)) (length after_take) (length takes) (length-set takes link (Some new))
+      (λ j. elim (same_or_not j link) [
+        | inl same ↦ ap (λ i. has_take (slice_get after_take i)) same ∙ ap has_take at_take ∙ sym (ap has_take at) ∙ ap (λ i. has_take (slice_get takes i)) (sym same)
+        | inr apart ↦ ap has_take (set_apart takes link (Some new) j apart)
+      ])
+
+  pub take_same : take_link new ≡ take_link old → (j : ℕ) (before : Take) → slice_get takes j ≡ Some (Some before)
+      → (p : Take) × (slice_get after_take j ≡ Some (Some p)) × (take_link p ≡ take_link before)
+  take_same same_link j before is = elim (same_or_not j link) [
+    | inl same ↦
+        let e : Some (Some old) ≡ Some (Some before) = sym at ∙ ap (slice_get takes) (sym same) ∙ is in
+        let one : old ≡ before = cc in
+        (new, ap (slice_get after_take) same ∙ at_take, same_link ∙ ap take_link one)
+    | inr apart ↦ (before, set_apart takes link (Some new) j apart ∙ is, refl)
+  ]
+
+-- ---- what a call leaves of the past
+
+place_is : {A : Type 0} (items : List A) (link : ℕ) (o x : A) → link < length items → o ≡ get_or items link o → o ≡ x → slice_get items link ≡ Some x
+place_is {A} items link o x lt value is = get_at items link o lt ∙ ap Some (sym value ∙ is)
+
+pub put_is : (ends : LinkEnds) (link : ℕ) (o : Option Put) (put : Put) → Contains (puts_of ends) link → o ≡ get_or ends.puts.items link o → o ≡ Some put → slice_get ends.puts.items link ≡ Some (Some put)
+put_is ends link o put there value is =
+    let found = put_there ends link there in
+    place_is ends.puts.items link o (Some put) (get_within ends.puts.items link (Some found.0) found.1) value is
+
+pub take_is : (ends : LinkEnds) (link : ℕ) (o : Option Take) (take : Take) → Contains (takes_of ends) link → o ≡ get_or ends.takes.items link o → o ≡ Some take → slice_get ends.takes.items link ≡ Some (Some take)
+take_is ends link o take there value is =
+    let found = take_there ends link there in
+    place_is ends.takes.items link o (Some take) (get_within ends.takes.items link (Some found.0) found.1) value is
+
+pub put_never_none : (ends : LinkEnds) (link : ℕ) (o : Option Put) → Contains (puts_of ends) link → o ≡ get_or ends.puts.items link o → o ≡ None → ⊥
+put_never_none ends link o there value none =
+    let found = put_there ends link there in
+    let e : Some (Some found.0) ≡ Some o = sym found.1 ∙ place_is ends.puts.items link o o (get_within ends.puts.items link (Some found.0) found.1) value refl in
+    let f : Some found.0 ≡ o = cc in
+    let g : Some found.0 ≡ None = f ∙ none in
+    cc
+
+pub take_never_none : (ends : LinkEnds) (link : ℕ) (o : Option Take) → Contains (takes_of ends) link → o ≡ get_or ends.takes.items link o → o ≡ None → ⊥
+take_never_none ends link o there value none =
+    let found = take_there ends link there in
+    let e : Some (Some found.0) ≡ Some o = sym found.1 ∙ place_is ends.takes.items link o o (get_within ends.takes.items link (Some found.0) found.1) value refl in
+    let f : Some found.0 ≡ o = cc in
+    let g : Some found.0 ≡ None = f ∙ none in
+    cc
+
+module _ (ends later : LinkEnds) (link : ℕ) (old new : Put) (at : slice_get ends.puts.items link ≡ Some (Some old)) (puts_are : later.puts.items ≡ set ends.puts.items link (Some new)) (takes_are : later.takes ≡ ends.takes) where
+  sent_at : (j : ℕ) → sent_of later j ≡ sent_by (slice_get (set ends.puts.items link (Some new)) j)
+  sent_at j = ap (λ (xs : List (Option Put)). sent_by (slice_get xs j)) puts_are
+
+  taken_at : (j : ℕ) → taken_of later j ≡ taken_of ends j
+  taken_at j = ap (λ ts. taken_by (slice_get ts.items j)) takes_are
+
+  past_at : (j : ℕ) (xs : List ℤ) → sent_of later j ≡ xs → past_of later j ≡ record { sent = xs; taken = taken_of ends j }
+  past_at j xs is = λ t. record { sent = is t; taken = taken_at j t }
+
+  other_stays : (j : ℕ) → ((j ≡ link) → ⊥) → past_of later j ≡ past_of ends j
+  other_stays j apart = past_at j (sent_of ends j) (sent_at j ∙ put_sent ends.puts.items link old new at j apart)
+
+  pub asked_push : {U : Type 0} (item : ℤ) (result : Result U Full) → OnOk result (sent new ≡ sent old ++ item ∷ []) → OnErr result (sent new ≡ sent old) → PastGoesOn (asked_to_push link item result) (past_of ends) (past_of later)
+  asked_push {U} item (Ok done) more same = (
+    past_at link (sent_of ends link ++ item ∷ []) (sent_at link ∙ put_sends ends.puts.items link old new at ∙ more ∙ ap (λ (xs : List ℤ). xs ++ item ∷ []) (sym (put_had ends.puts.items link old new at))),
+    λ j apart. other_stays j apart,
+  )
+  asked_push {U} item (Err full) more same = λ j. elim (same_or_not j link) [
+    | inl is ↦ subst (λ i. past_of later i ≡ past_of ends i) (sym is) (past_at link (sent_of ends link) (sent_at link ∙ put_sends ends.puts.items link old new at ∙ same ∙ sym (put_had ends.puts.items link old new at)))
+    | inr apart ↦ other_stays j apart
+  ]
+
+  pub pushed_ends : put_link new ≡ put_link old → put_capacity new ≡ put_capacity old → AreSameEnds ends later
+  pushed_ends same_link same_capacity = record {
+    puts = ap (λ (xs : List (Option Put)). length xs) puts_are ∙ length-set ends.puts.items link (Some new);
+    takes = ap (λ ts. length ts.items) takes_are;
+    put = λ j before is.
+        let p = put_same ends.puts.items link old new at same_link same_capacity j before is in
+        (p.0, ap (λ (xs : List (Option Put)). slice_get xs j) puts_are ∙ p.1, p.2, p.3);
+    take = λ j before is. (before, ap (λ ts. slice_get ts.items j) takes_are ∙ is, refl);
+  }
+
+  pub pushed_puts : puts_of later ≡ puts_of ends
+  pushed_puts = ap (λ (xs : List (Option Put)). filter (λ j. has_put (slice_get xs j)) (range_with_len 0 (length xs))) puts_are ∙ puts_stay ends.puts.items link old new at
+
+  pub pushed_takes : takes_of later ≡ takes_of ends
+  pushed_takes = ap (λ ts. filter (λ j. has_take (slice_get ts.items j)) (range_with_len 0 (length ts.items))) takes_are
+
+module _ (ends later : LinkEnds) (link : ℕ) (old new : Take) (at : slice_get ends.takes.items link ≡ Some (Some old)) (takes_are : later.takes.items ≡ set ends.takes.items link (Some new)) (puts_are : later.puts ≡ ends.puts) where
+  taken_there : (j : ℕ) → taken_of later j ≡ taken_by (slice_get (set ends.takes.items link (Some new)) j)
+  taken_there j = ap (λ (xs : List (Option Take)). taken_by (slice_get xs j)) takes_are
+
+  sent_there : (j : ℕ) → sent_of later j ≡ sent_of ends j
+  sent_there j = ap (λ ps. sent_by (slice_get ps.items j)) puts_are
+
+  past_there : (j : ℕ) (xs : List ℤ) → taken_of later j ≡ xs → past_of later j ≡ record { sent = sent_of ends j; taken = xs }
+  past_there j xs is = λ t. record { sent = sent_there j t; taken = is t }
+
+  other_there : (j : ℕ) → ((j ≡ link) → ⊥) → past_of later j ≡ past_of ends j
+  other_there j apart = past_there j (taken_of ends j) (taken_there j ∙ take_stays ends.takes.items link old new at j apart)
+
+  pub asked_pop : (o : Option ℤ) → IfSome o (λ x. taken new ≡ taken old ++ x ∷ []) → IfNone o (taken new ≡ taken old) → PastGoesOn (asked_to_pop link o) (past_of ends) (past_of later)
+  asked_pop (Some x) more same = (
+    past_there link (taken_of ends link ++ x ∷ []) (taken_there link ∙ take_takes ends.takes.items link old new at ∙ more ∙ ap (λ (xs : List ℤ). xs ++ x ∷ []) (sym (take_had ends.takes.items link old new at))),
+    λ j apart. other_there j apart,
+  )
+  asked_pop None more same = λ j. elim (same_or_not j link) [
+    | inl is ↦ subst (λ i. past_of later i ≡ past_of ends i) (sym is) (past_there link (taken_of ends link) (taken_there link ∙ take_takes ends.takes.items link old new at ∙ same ∙ sym (take_had ends.takes.items link old new at)))
+    | inr apart ↦ other_there j apart
+  ]
+
+  pub popped_ends : take_link new ≡ take_link old → AreSameEnds ends later
+  popped_ends same_link = record {
+    puts = ap (λ ps. length ps.items) puts_are;
+    takes = ap (λ (xs : List (Option Take)). length xs) takes_are ∙ length-set ends.takes.items link (Some new);
+    put = λ j before is. (before, ap (λ ps. slice_get ps.items j) puts_are ∙ is, refl, refl);
+    take = λ j before is.
+        let p = take_same ends.takes.items link old new at same_link j before is in
+        (p.0, ap (λ (xs : List (Option Take)). slice_get xs j) takes_are ∙ p.1, p.2);
+  }
+
+  pub popped_takes : takes_of later ≡ takes_of ends
+  popped_takes = ap (λ (xs : List (Option Take)). filter (λ j. has_take (slice_get xs j)) (range_with_len 0 (length xs))) takes_are ∙ takes_stay ends.takes.items link old new at
+
+  pub popped_puts : puts_of later ≡ puts_of ends
+  popped_puts = ap (λ ps. filter (λ j. has_put (slice_get ps.items j)) (range_with_len 0 (length ps.items))) puts_are
+
+pub none_first : {A : Type 0} (o : Option A) (P Q : Type 0) → IfNone o (P × Q) → IfNone o P
+none_first {A} None P Q both = both.0
+none_first {A} (Some x) P Q both = tt
+
+pub err_first : {A B : Type 0} (result : Result A B) (P Q : Type 0) → OnErr result (P × Q) → OnErr result P
+err_first {A} {B} (Ok x) P Q both = tt
+err_first {A} {B} (Err e) P Q both = both.0

@@ -1,0 +1,33 @@
+use Rattle.std.proofs.Common.{◌≡◌, Some, arith, length, refl, rules}
+use Rattle.std.specs.Prelude.{vec_len}
+use Rattle.std.specs.Vec.{with_item}
+use Rattle.sig_clock.proofs.Lists.{get_within}
+use Rattle.sig_work.proofs.EndLemmas.{asked_pop, none_first, popped_ends, popped_takes, take_is, take_never_none, take_there}
+use Rattle.sig_work.proofs.ends.LentEnds.pop.Goals as goal
+
+pub index_mut-requires : goal.index_mut-requires
+index_mut-requires g c =
+    let found = take_there c.args.self.now.ends c.args.link c.requires.end in
+    let whole : vec_len c.args.self.now.ends.takes ≡ length c.args.self.now.ends.takes.items = search rules in
+    omega (arith, whole, get_within c.args.self.now.ends.takes.items c.args.link (Some found.0) found.1)
+
+pub unreachable-requires : goal.unreachable-requires
+unreachable-requires g c = take_never_none c.args.self.now.ends c.args.link c.index_mut.result.now c.requires.end c.index_mut.ensures.value c.in-None.is
+
+pub returns-clause-asked : goal.returns-clause-asked
+returns-clause-asked g c = record {
+  tells_past = asked_pop c.args.self.now.ends (record { takes = with_item c.args.self.now.ends.takes c.args.link (Some c.pop.new.self); puts = c.args.self.now.ends.puts }) c.args.link c.in-Some.take c.pop.new.self
+      (take_is c.args.self.now.ends c.args.link c.index_mut.result.now c.in-Some.take c.requires.end c.index_mut.ensures.value c.in-Some.is) refl refl c.pop.result c.pop.ensures.item
+      (none_first c.pop.result _ _ c.pop.ensures.empty);
+  tells_queues = tt;
+}
+
+pub returns-clause-links : goal.returns-clause-links
+returns-clause-links g c =
+    popped_ends c.args.self.now.ends (record { takes = with_item c.args.self.now.ends.takes c.args.link (Some c.pop.new.self); puts = c.args.self.now.ends.puts }) c.args.link c.in-Some.take c.pop.new.self
+    (take_is c.args.self.now.ends c.args.link c.index_mut.result.now c.in-Some.take c.requires.end c.index_mut.ensures.value c.in-Some.is) refl refl c.pop.ensures.end
+
+pub returns-clause-pops : goal.returns-clause-pops
+returns-clause-pops g c =
+    popped_takes c.args.self.now.ends (record { takes = with_item c.args.self.now.ends.takes c.args.link (Some c.pop.new.self); puts = c.args.self.now.ends.puts }) c.args.link c.in-Some.take c.pop.new.self
+    (take_is c.args.self.now.ends c.args.link c.index_mut.result.now c.in-Some.take c.requires.end c.index_mut.ensures.value c.in-Some.is) refl refl

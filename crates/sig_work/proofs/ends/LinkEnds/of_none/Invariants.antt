@@ -1,0 +1,13 @@
+use Rattle.std.proofs.Common.{◌≤◌}
+use Rattle.std.specs.Prelude.{vec_capacity}
+use Rattle.sig_work.specs.Ends.{HasNoEnds}
+use Rattle.sig_work.specs.declared.ends.LinkEnds.{LinkEnds}
+use Rattle.sig_work.proofs.ends.LinkEnds.of_none.Given as goal
+
+-- so many links so far, of which none has an end
+abbrev pub invariant-loop : goal.invariant-loop
+invariant-loop l = record {
+  none : HasNoEnds l.counter (let ends : LinkEnds = record { puts = l.puts; takes = l.takes } in ends);
+  puts_room : l.links ≤ vec_capacity l.puts;
+  takes_room : l.links ≤ vec_capacity l.takes;
+}

@@ -1,0 +1,34 @@
+use Rattle.std.proofs.Common.{◌≡◌, inl, inr, sym, ap, subst, ◌∙◌, arith}
+use Rattle.std.specs.Prelude.{Some, slice_get}
+use Rattle.sig_clock.proofs.Lists.{get_within}
+use Rattle.sig_meaning.proofs.Numbers.{same_or_not}
+use Rattle.sig_values.proofs.Writing.{some_is}
+use Rattle.sig_work.proofs.Placing.{item_at}
+use Rattle.sig_work.specs.Among.{HasNoneIn}
+use Rattle.sig_work.specs.declared.share.Share.{Share}
+use Rattle.sig_work.proofs.finding.find.Goals as goal
+
+pub returns-in-Some-clause-some : goal.returns-in-Some-clause-some
+returns-in-Some-clause-some c =
+    let stands = c.in-Some.ensures.some in
+    record {
+      member = stands.member;
+      share = c.index-shares-at.result;
+      there = item_at c.args.shares.now c.loop-at.at c.index-shares-at.result c.loop-at-test.true c.index-shares-at.is;
+      is = stands.is;
+      numbered = stands.numbered;
+    }
+
+pub loop-at-preserved : goal.loop-at-preserved
+loop-at-preserved c = λ i share lt at. elim (same_or_not i c.loop-at.at) [
+  | inl same ↦
+      let here : slice_get c.args.shares.now c.loop-at.at ≡ Some c.index-shares-at.result =
+      item_at c.args.shares.now c.loop-at.at c.index-shares-at.result c.loop-at-test.true c.index-shares-at.is in
+      let s_is : c.index-shares-at.result ≡ share = some_is c.index-shares-at.result share (sym here ∙ ap (slice_get c.args.shares.now) (sym same) ∙ at) in
+      subst (λ (s : Share). HasNoneIn s c.args.number) s_is c.in_default.ensures.none
+  | inr apart ↦ c.loop-at.invariant i share (omega (arith, lt, apart)) at
+]
+
+pub returns-clause-none : goal.returns-clause-none
+returns-clause-none c = λ m one.
+    c.loop-at.invariant one.at one.share (let lt = get_within c.args.shares.now one.at one.share one.there in let all = c.loop-at-test.false in omega (arith, lt, all)) one.there one.number m one.is one.numbered

@@ -1,0 +1,8 @@
+use Rattle.std.proofs.Common.{◌≡◌, ◌<◌, ℕ}
+use Rattle.std.specs.Prelude.{Some, slice_get}
+use Rattle.sig_work.specs.Among.{HasNoneIn}
+use Rattle.sig_work.specs.declared.share.Share.{Share}
+use Rattle.sig_work.proofs.finding.find.Given as goal
+
+abbrev pub invariant-loop-at : goal.invariant-loop-at
+invariant-loop-at l = (i : ℕ) (share : Share) → i < l.at → slice_get l.shares i ≡ Some share → HasNoneIn share l.number

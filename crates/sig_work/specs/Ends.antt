@@ -1,0 +1,83 @@
+-- What the link ends of an actor know of the links.
+use Rattle.std.specs.Prelude.{◌≡◌, ◌<◌, ℕ, ℤ, Bool, true, false, List, [], length, slice_get, Option, None, Some}
+use Rattle.std.proofs.Common.{refl}
+use Rattle.std.specs.List.{filter, range_with_len}
+use Rattle.sig_link.specs.Ends.{put_capacity, put_link, sent, take_link, taken}
+use Rattle.sig_link.specs.declared.put.Put.{Put}
+use Rattle.sig_link.specs.declared.take.Take.{Take}
+use Rattle.sig_plan.specs.Plans.{PlanView}
+use Rattle.sig_plan.specs.declared.parts.LinkInfo.{LinkInfo}
+use Rattle.sig_settling.specs.OwnSteps.{Items}
+use Rattle.sig_step.specs.LinkEnds.{Past}
+use Rattle.sig_work.specs.declared.ends.LinkEnds.{LinkEnds}
+
+-- what an end knows, where there is one
+abbrev pub sent_by : Option (Option Put) → List ℤ
+sent_by None = []
+sent_by (Some None) = []
+sent_by (Some (Some put)) = sent put
+
+abbrev pub taken_by : Option (Option Take) → List ℤ
+taken_by None = []
+taken_by (Some None) = []
+taken_by (Some (Some take)) = taken take
+
+abbrev pub has_put : Option (Option Put) → Bool
+has_put None = false
+has_put (Some None) = false
+has_put (Some (Some put)) = true
+
+abbrev pub has_take : Option (Option Take) → Bool
+has_take None = false
+has_take (Some None) = false
+has_take (Some (Some take)) = true
+
+-- by the numbers of links
+abbrev pub sent_of : LinkEnds → Items
+sent_of ends link = sent_by (slice_get ends.puts.items link)
+
+abbrev pub taken_of : LinkEnds → Items
+taken_of ends link = taken_by (slice_get ends.takes.items link)
+
+abbrev pub past_of : LinkEnds → Past
+past_of ends link = record { sent = sent_of ends link; taken = taken_of ends link }
+
+-- the links to which it can push, and those from which it can pop
+abbrev pub puts_of : LinkEnds → List ℕ
+puts_of ends = filter (λ link. has_put (slice_get ends.puts.items link)) (range_with_len 0 (length ends.puts.items))
+
+abbrev pub takes_of : LinkEnds → List ℕ
+takes_of ends = filter (λ link. has_take (slice_get ends.takes.items link)) (range_with_len 0 (length ends.takes.items))
+
+-- room for so many links, of which none has an end here
+pub record HasNoEnds (links : ℕ) (ends : LinkEnds) : Type 0 where
+  pub puts : length ends.puts.items ≡ links
+  pub takes : length ends.takes.items ≡ links
+  pub no_put : (link : ℕ) → link < links → slice_get ends.puts.items link ≡ Some None
+  pub no_take : (link : ℕ) → link < links → slice_get ends.takes.items link ≡ Some None
+
+-- The actor k has the ends of the links that it writes and reads, each of this capacity.
+pub record HasEnds (plan : PlanView) (capacity k : ℕ) (ends : LinkEnds) : Type 0 where
+  pub puts : length ends.puts.items ≡ length plan.links
+  pub takes : length ends.takes.items ≡ length plan.links
+  pub writes : (link : ℕ) (info : LinkInfo) → slice_get plan.links link ≡ Some info → info.writer ≡ k
+      → (put : Put) × (slice_get ends.puts.items link ≡ Some (Some put)) × (put_capacity put ≡ capacity)
+  pub reads : (link : ℕ) (info : LinkInfo) → slice_get plan.links link ≡ Some info → info.reader ≡ k
+      → (take : Take) × (slice_get ends.takes.items link ≡ Some (Some take))
+
+-- the ends are of the same links
+pub record AreSameEnds (old new : LinkEnds) : Type 0 where
+  pub puts : length new.puts.items ≡ length old.puts.items
+  pub takes : length new.takes.items ≡ length old.takes.items
+  pub put : (link : ℕ) (before : Put) → slice_get old.puts.items link ≡ Some (Some before)
+      → (after : Put) × (slice_get new.puts.items link ≡ Some (Some after)) × (put_link after ≡ put_link before) × (put_capacity after ≡ put_capacity before)
+  pub take : (link : ℕ) (before : Take) → slice_get old.takes.items link ≡ Some (Some before)
+      → (after : Take) × (slice_get new.takes.items link ≡ Some (Some after)) × (take_link after ≡ take_link before)
+
+pub AreSameEnds-itself : (ends : LinkEnds) → AreSameEnds ends ends
+AreSameEnds-itself ends = record {
+  puts = refl;
+  takes = refl;
+  put = λ link before is. (before, is, refl, refl);
+  take = λ link before is. (before, is, refl);
+}

@@ -1,0 +1,10 @@
+pub mod Among
+pub mod Dealing
+pub mod Ends
+pub mod Gathered
+pub mod Members
+pub mod Rounds
+pub mod Running
+pub mod Settling
+pub mod Shares
+pub mod Words

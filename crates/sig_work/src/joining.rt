@@ -1,0 +1,72 @@
+//! The making of all links, and the giving of their ends to the actors.
+
+ghost use Rattle.std.specs.Prelude.{◌≡◌, ◌≤◌, ◌<◌, length, slice_get, OnOk, Some};
+ghost use Rattle.sig_work.specs.Dealing.{AreJoined, HasGivenPut, HasGivenTake};
+ghost use Rattle.sig_work.specs.Settling.{AreLeftEnds, But, Each};
+ghost use Rattle.sig_link.specs.Ends.{put_capacity, sent, taken, OfOneLink};
+ghost use Rattle.sig_work.specs.declared.member.Member.{Member};
+
+use crate::answer::DealAnswer;
+use crate::ends::LinkEnds;
+use crate::member::Member;
+use crate::plans::{links_in, plans_are_accepted};
+use sig_link::{Put, Take, link};
+use sig_plan::Plan;
+use std::alloc::Global;
+
+/// Makes all links of a plan, and gives their ends to the members that write and read them.
+pub(crate) fn join_all(
+    alloc: Global,
+    plan: &Plan,
+    capacity: u32,
+    members: &mut [Member],
+) -> Result<(), DealAnswer>
+    requires capacity { (1 ≤ capacity) × (capacity ≤ 65536) }
+    requires count { length members.old ≡ length plan.now.codes }
+    requires none { AreJoined plan.now.links capacity 0 members.old members.old }
+    ensures { OnOk result (AreJoined plan.now.links capacity (length plan.now.links) members.old members.new) }
+{
+    plans_are_accepted(plan);
+    for (number, info) in links_in(plan).iter().enumerate() {
+        let (put, take) = link(alloc, capacity)?;
+        give_put(members, info.writer as usize, number, put);
+        give_take(members, info.reader as usize, number, take);
+    }
+    Ok(())
+}
+
+/// Gives an end that puts to a member.
+fn give_put(members: &mut [Member], writer: usize, link: usize, put: Put)
+    requires there { writer < length members.old }
+    requires room { (m : Member) → slice_get members.old writer ≡ Some m → link < length m.ends.puts.items }
+    ensures { HasGivenPut members.old members.new writer link put }
+{
+    members[writer].ends.give_put(link, put);
+}
+
+/// Gives an end that takes to a member.
+fn give_take(members: &mut [Member], reader: usize, link: usize, take: Take)
+    requires there { reader < length members.old }
+    requires room { (m : Member) → slice_get members.old reader ≡ Some m → link < length m.ends.takes.items }
+    ensures { HasGivenTake members.old members.new reader link take }
+{
+    members[reader].ends.give_take(link, take);
+}
+
+impl LinkEnds {
+    fn give_put(&mut self, link: usize, put: Put)
+        requires { link < length self.old.puts.items }
+        ensures left { AreLeftEnds (But link) Each self.old self.new }
+        ensures put { slice_get self.new.puts.items link ≡ Some (Some put) }
+    {
+        self.puts[link] = Some(put);
+    }
+
+    fn give_take(&mut self, link: usize, take: Take)
+        requires { link < length self.old.takes.items }
+        ensures left { AreLeftEnds Each (But link) self.old self.new }
+        ensures take { slice_get self.new.takes.items link ≡ Some (Some take) }
+    {
+        self.takes[link] = Some(take);
+    }
+}

@@ -1,0 +1,43 @@
+//! The parts of a plan.
+
+ghost use Rattle.std.specs.Prelude.{◌≡◌, length};
+ghost use Rattle.sig_plan.specs.Plans.{IsAccepted};
+
+use sig_base::OpId;
+use sig_plan::{LinkInfo, Op, Plan};
+
+/// A law: each plan is an accepted one.
+pub(crate) fn plans_are_accepted(plan: &Plan)
+    ensures { IsAccepted plan.now }
+{
+    // What holds of every plan is known where its fields are read.
+    let _kernel = &plan.kernel;
+}
+
+/// How many actors a plan has; the collector is the last.
+pub(crate) fn actors_in(plan: &Plan) -> usize
+    ensures { result ≡ length plan.now.codes }
+{
+    plan.codes.len()
+}
+
+/// The links of a plan.
+pub(crate) fn links_in(plan: &Plan) -> &[LinkInfo]
+    ensures { result.now ≡ plan.now.links }
+{
+    plan.links.as_slice()
+}
+
+/// The order of the operations of a plan.
+pub(crate) fn order_of(plan: &Plan) -> &[OpId]
+    ensures { result.now ≡ plan.now.order }
+{
+    plan.order.as_slice()
+}
+
+/// The operations of a plan.
+pub(crate) fn ops_of(plan: &Plan) -> &[Op]
+    ensures { result.now ≡ plan.now.ops }
+{
+    plan.ops.as_slice()
+}

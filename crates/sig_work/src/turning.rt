@@ -1,0 +1,121 @@
+//! The turns of one actor of a share.
+
+ghost use Rattle.std.specs.Prelude.{◌≡◌, ◌≤◌, false, true, Ok, OnErr, OnOk};
+ghost use Rattle.sig_text.specs.Counts.{Rose};
+ghost use Rattle.sig_text.specs.Sink.{TookPrefix};
+ghost use Rattle.sig_work.specs.Rounds.{IsServedInSome, KeepsMember, KeepsSeat, ServesMember};
+ghost use Rattle.sig_work.specs.declared.round.Round.TheVariants.{Ended};
+
+use crate::member::{Ending, Member};
+use crate::round::Round;
+use sig_halt::{Halt, HaltSeat};
+use sig_kernel::Inputs;
+use sig_plan::Plan;
+use sig_step::Acted;
+use sig_text::{Gate, Sink, WriteFault};
+use std::marker::Brand;
+use std::sync::Wait;
+use std::sync::ledger::Blank;
+
+/// How many steps an actor does before others get their turn.
+const STEPS_IN_TURN: u32 = 256;
+
+impl Member {
+    /// Does steps of the actor until a link refuses, it ends, or it did its share of them. It passes the
+    /// gate at each instant that it comes to. The sink gets the text of the reactions that it commits.
+    pub(crate) fn advance<R: Wait, S: Sink, G: Gate>(
+        &mut self,
+        rt: &R,
+        plan: &Plan,
+        inputs: &Inputs,
+        halt: &Halt,
+        seat: &mut HaltSeat,
+        gate: &G,
+        sink: &mut S,
+    ) -> Result<Round, WriteFault>
+        requires run { IsServedInSome plan.now inputs.now halt.now self.old seat.old }
+        ensures keeps { KeepsMember self.old self.new }
+        ensures seat { KeepsSeat seat.old seat.new }
+        ensures ended { result ≡ Ok Ended → self.new.state.ended ≡ true }
+        ensures serves { OnOk result (ServesMember S.took plan.now inputs.now halt.now self.old seat.old self.new seat.new sink.old sink.new) }
+        ensures part { OnErr result (ServesMember (TookPrefix S.took) plan.now inputs.now halt.now self.old seat.old self.new seat.new sink.old sink.new) }
+        ensures failed { OnErr result (Rose (S.faults sink.old) (S.faults sink.new)) }
+        ensures faults_stay { S.faults sink.old ≤ S.faults sink.new }
+    {
+        let mut round = Round::Still;
+        for _ in 0..STEPS_IN_TURN {
+            match self.turn(rt, plan, inputs, halt, seat, gate, sink)? {
+                Round::Moved => round = Round::Moved,
+                Round::Still => break,
+                Round::Ended => return Ok(Round::Ended),
+            }
+        }
+        Ok(round)
+    }
+
+    /// Does the actor's next step, and notes what it came to. Where a link refused it looks at the word.
+    fn turn<R: Wait, S: Sink, G: Gate>(
+        &mut self,
+        rt: &R,
+        plan: &Plan,
+        inputs: &Inputs,
+        halt: &Halt,
+        seat: &mut HaltSeat,
+        gate: &G,
+        sink: &mut S,
+    ) -> Result<Round, WriteFault>
+        requires run { IsServedInSome plan.now inputs.now halt.now self.old seat.old }
+        ensures keeps { KeepsMember self.old self.new }
+        ensures seat { KeepsSeat seat.old seat.new }
+        ensures ended { result ≡ Ok Ended → self.new.state.ended ≡ true }
+        ensures serves { OnOk result (ServesMember S.took plan.now inputs.now halt.now self.old seat.old self.new seat.new sink.old sink.new) }
+        ensures part { OnErr result (ServesMember (TookPrefix S.took) plan.now inputs.now halt.now self.old seat.old self.new seat.new sink.old sink.new) }
+        ensures failed { OnErr result (Rose (S.faults sink.old) (S.faults sink.new)) }
+        ensures faults_stay { S.faults sink.old ≤ S.faults sink.new }
+    {
+        if self.state.ended() {
+            return Ok(Round::Ended);
+        }
+        self.pass(plan, gate);
+        self.take_turn(rt, plan, inputs, halt, seat, sink)
+    }
+
+    /// The same of an actor that runs and has passed the gate.
+    fn take_turn<R: Wait, S: Sink>(
+        &mut self,
+        rt: &R,
+        plan: &Plan,
+        inputs: &Inputs,
+        halt: &Halt,
+        seat: &mut HaltSeat,
+        sink: &mut S,
+    ) -> Result<Round, WriteFault>
+        requires run { IsServedInSome plan.now inputs.now halt.now self.old seat.old }
+        requires runs { self.old.state.ended ≡ false }
+        ensures keeps { KeepsMember self.old self.new }
+        ensures seat { KeepsSeat seat.old seat.new }
+        ensures ended { result ≡ Ok Ended → self.new.state.ended ≡ true }
+        ensures serves { OnOk result (ServesMember S.took plan.now inputs.now halt.now self.old seat.old self.new seat.new sink.old sink.new) }
+        ensures part { OnErr result (ServesMember (TookPrefix S.took) plan.now inputs.now halt.now self.old seat.old self.new seat.new sink.old sink.new) }
+        ensures failed { OnErr result (Rose (S.faults sink.old) (S.faults sink.new)) }
+        ensures faults_stay { S.faults sink.old ≤ S.faults sink.new }
+    {
+        match self.act::<R, Brand>(rt, plan, inputs, Blank::new(1)) {
+            Acted::Done => Ok(Round::Moved),
+            Acted::Commit => {
+                self.state.put_reaction(plan, sink)?;
+                Ok(Round::Moved)
+            }
+            Acted::Empty(_) | Acted::Full(_) => Ok(self.rest(halt, seat)),
+            Acted::Failed(place) => {
+                self.fail(halt, seat, place);
+                Ok(Round::Ended)
+            }
+            Acted::AtLimit => {
+                self.ending = Some(Ending::AtLimit);
+                Ok(Round::Ended)
+            }
+            Acted::Stopped => Ok(Round::Ended),
+        }
+    }
+}
