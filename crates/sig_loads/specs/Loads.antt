@@ -66,7 +66,7 @@ pub record LoadsTo (stages : ℕ) (kernel : Kernel) (values : List (List ℤ)) (
 
 -- ---- the command
 
--- a load comes to this; the number of workers makes no difference
+-- a load comes to this, whatever the number of workers
 abbrev pub LoadComesTo : (seed stages : ℕ) → Settings → Outcome → Type 0
 LoadComesTo seed stages settings o =
     AtProgramText (program stages) (λ kernel.

@@ -3,7 +3,7 @@
 use Rattle.std.specs.Prelude.{◌≡◌, ◌⊎◌, ◌≤◌, ◌<◌, ◌*◌, ◌++◌, ℕ, ℤ, Bool, List, codes, length, Option, Some}
 use Rattle.sig_base.specs.Lines.{refusal}
 use Rattle.sig_base.specs.Traces.{Trace}
-use Rattle.sig_base.specs.declared.limits.TheConstants.{FLOW_BYTES, ITEMS, PROGRAM_BYTES}
+use Rattle.sig_base.specs.declared.limits.TheConstants.{CAPACITY_MAX, FLOW_BYTES, INSTANTS_MAX, ITEMS, PROGRAM_BYTES, WORKERS_MAX}
 use Rattle.sig_base.specs.declared.place.Place.{Place}
 use Rattle.sig_base.specs.declared.signal.Signal.{Signal}
 use Rattle.sig_text.specs.Files.{Contents, name_where_there}
@@ -24,6 +24,14 @@ use Rattle.sig_outcome.specs.declared.refusal.Refusal.{Refusal}
 use Rattle.sig_compile.specs.Acceptance.{IsAcceptedAs}
 use Rattle.sig_compile.specs.Compiling.{AtPlan, HoldsBeyondBound, IsAboutPlan}
 use Rattle.sig_runs.specs.Ends.{end_line, end_status}
+
+-- ---- the settings
+
+-- the settings of a run are within their bounds
+pub record AreWithinBounds (settings : Settings) : Type 0 where
+  pub capacity : (1 ≤ settings.capacity) × (settings.capacity ≤ CAPACITY_MAX)
+  pub workers : settings.workers ≤ WORKERS_MAX
+  pub instants : settings.instants ≤ INSTANTS_MAX
 
 -- ---- the links of the program
 
@@ -87,7 +95,7 @@ pub record RunsTo (kernel : Kernel) (flows : List (List ℤ)) (limit : ℕ) (fil
 
 -- ---- the command
 
--- a run over told contents comes to this; the number of workers makes no difference
+-- a run over told contents comes to this, whatever the number of workers
 abbrev pub RunComesTo : Contents → (program flows : List ℕ) → Settings → Outcome → Type 0
 RunComesTo held program flows settings o =
     AtPlan held program (λ kernel.

@@ -1,12 +1,15 @@
 //! The command `run`: a program is compiled to its plan by sig_compile, its flows are read by sig_flow,
-//! and sig_alone does the plan's operations on this thread. What the command comes to is defined in
-//! `specs/Runs.antt`. It stands on sig_outcome for what every command promises.
+//! and sig_work runs the plan's clusters on worker threads, or sig_alone all of its operations on this
+//! thread. What the command comes to is defined in `specs/Runs.antt`. It stands on sig_outcome for what every
+//! command promises.
 #![tactic(auto)]
 
 mod command;
 mod load;
 mod report;
+mod run;
 
 pub use command::{end_status, run_command};
-pub use load::{Loaded, flows_of, hold_too_many};
+pub use load::{Loaded, flows_of, hold_too_many, load as load_run};
 pub use report::say_end;
+pub use run::run_plan;

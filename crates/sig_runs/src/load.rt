@@ -1,6 +1,6 @@
 //! Reading the files of a run.
 
-ghost use Rattle.std.specs.Prelude.{◌≡◌, ◌≢◌, ◌≤◌, Some, IfErr, IfOk, IfSome, bytes_eq, length, map, true, false};
+ghost use Rattle.std.specs.Prelude.{◌≡◌, ◌≢◌, ◌≤◌, Some, IfErr, IfOk, IfSome, OnOk, bytes_eq, length, map, true, false};
 ghost use Rattle.std.specs.List.{IsDistinct};
 ghost use Rattle.sig_flow.specs.Flows.{AreFlows};
 ghost use Rattle.sig_kernel.specs.Validity.{AreFlowsFor, inputs_of};
@@ -46,6 +46,8 @@ pub fn load<'a, F: Files>(
     ensures fit { IfOk result (λ loaded. AreFlowsFor loaded.plan.kernel loaded.inputs) }
     ensures last { IfSome (F.contents files.old) (λ held. IfOk result (λ _.
         F.at files.new ≡ name_where_there held flows.now)) }
+    ensures read { OnOk result (Reads (F.contents files.old) (F.contents files.new) (F.at files.new)
+        (F.misses files.old) (F.misses files.new) (F.faults files.old) (F.faults files.new) flows.now) }
 
     // A refusal is the one that told contents call for, if they alone decide it, whatever the limit.
     ensures stops { (settings : Settings) → settings.capacity ≡ capacity →

@@ -3,7 +3,7 @@ use Rattle.std.proofs.Common.{◌≡◌, ℕ, List, Option, inl, refl, sym, subs
 use Rattle.sig_text.specs.Files.{Contents}
 use Rattle.sig_words.specs.Readings.{Word}
 use Rattle.sig_words.specs.declared.command.Command.{Command}
-use Rattle.sig_words.specs.declared.command.Command.TheVariants.{Check, Code, Judge, Load, Print, Run, Tree}
+use Rattle.sig_words.specs.declared.command.Command.TheVariants.{Check, Code, Judge, Load, Play, Print, Run, Tree}
 use Rattle.sig_outcome.specs.Tasks.{IsRefusedBy, memory_line}
 use Rattle.sig_outcome.specs.declared.refusal.Refusal.TheVariants.{OutOfMemory}
 use Rattle.sig_tool.specs.Commands.{IsBuilt}
@@ -16,6 +16,7 @@ of_one words command Fact only fact = λ c is built. subst Fact (sym (only c is 
 -- a command for whose words there was no memory was refused for that
 about_none : (c : Command) → IsBuilt c → IsAbout c OutOfMemory
 about_none (Run program flows settings) built = inl tt
+about_none (Play program flows events settings) built = inl (inl tt)
 about_none (Check program pace) built = tt
 about_none (Tree program pace) built = tt
 about_none (Code program pace) built = tt

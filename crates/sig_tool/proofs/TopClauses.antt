@@ -1,7 +1,7 @@
 -- The statuses that are answered.
 use Rattle.std.proofs.Common.{◌≡◌, ◌⊎◌, ℕ, inl, inr}
 use Rattle.sig_words.specs.declared.command.Command.{Command}
-use Rattle.sig_words.specs.declared.command.Command.TheVariants.{Check, Code, Judge, Load, Print, Run, Tree}
+use Rattle.sig_words.specs.declared.command.Command.TheVariants.{Check, Code, Judge, Load, Play, Print, Run, Tree}
 use Rattle.sig_compile.specs.Compiling.{IsCompileStatus}
 use Rattle.sig_runs.specs.Runs.{IsRunStatus}
 use Rattle.sig_loads.specs.Loads.{IsLoadStatus}
@@ -37,6 +37,7 @@ load_status status (inr (inr (inr (inr (inr (inr is)))))) = inr (inl (inr (inr (
 -- a status of a command is one of those that are answered
 pub is_status : (c : Command) (status : ℕ) → IsStatusOf c status → IsStatus status
 is_status (Run program flows settings) status is = run_status status is
+is_status (Play program flows events settings) status is = run_status status is
 is_status (Check program pace) status is = compile_status status is
 is_status (Tree program pace) status is = compile_status status is
 is_status (Code program pace) status is = compile_status status is

@@ -1,14 +1,15 @@
 -- The commands that are built so far, among those of a command line.
 use Rattle.std.specs.Prelude.{◌≡◌, ◌≤◌, false, ⊤}
-use Rattle.sig_base.specs.declared.limits.TheConstants.{INSTANTS_MAX}
+use Rattle.sig_runs.specs.Runs.{AreWithinBounds}
 use Rattle.sig_words.specs.Commands.{settings_of}
 use Rattle.sig_words.specs.declared.command.Command.{Command}
-use Rattle.sig_words.specs.declared.command.Command.TheVariants.{Check, Code, Judge, Load, Print, Run, Tree}
+use Rattle.sig_words.specs.declared.command.Command.TheVariants.{Check, Code, Judge, Load, Play, Print, Run, Tree}
 
--- a command is built: a run, a check, a tree or a code without pacing, a load, the printing of a program, and the judging of
--- a trace
+-- a command is built: a run, a play, a check, a tree or a code without pacing, a load, the printing of a program, and the
+-- judging of a trace
 abbrev pub IsBuilt : Command → Type 0
 IsBuilt (Run program flows settings) = settings.pace ≡ false
+IsBuilt (Play program flows events settings) = settings.pace ≡ false
 IsBuilt (Check program pace) = pace ≡ false
 IsBuilt (Tree program pace) = pace ≡ false
 IsBuilt (Code program pace) = pace ≡ false
@@ -22,7 +23,7 @@ abbrev pub HasStages : Command → Type 0
 HasStages (Load seed stages settings) = (1 ≤ stages) × (stages ≤ 12)
 HasStages _ = ⊤
 
--- the limit of instants of a command is at most 1,000,000,000, and its stages are within their bounds
+-- the settings and the stages of a command are within their bounds
 pub record IsLimited (c : Command) : Type 0 where
-  pub instants : (settings_of c).instants ≤ INSTANTS_MAX
+  pub settings : AreWithinBounds (settings_of c)
   pub stages : HasStages c

@@ -5,7 +5,7 @@ use Rattle.sig_words.specs.Commands.{IsCommand}
 use Rattle.sig_words.specs.Readings.{Word}
 use Rattle.sig_words.specs.declared.command.Command.{Command}
 use Rattle.sig_words.specs.declared.command.Settings.{Settings}
-use Rattle.sig_words.specs.declared.command.Command.TheVariants.{Check, Code, Judge, Load, Print, Run, Tree}
+use Rattle.sig_words.specs.declared.command.Command.TheVariants.{Check, Code, Judge, Load, Play, Print, Run, Tree}
 use Rattle.sig_outcome.specs.Outcomes.{Outcome}
 use Rattle.sig_outcome.specs.Tasks.{IsDone, IsRefused, Task}
 use Rattle.sig_outcome.specs.declared.refusal.Refusal.{Refusal}
@@ -18,6 +18,7 @@ use Rattle.sig_runs.specs.Runs.{HasBegunRun, IsAboutRun, IsRunStatus, RunComesTo
 use Rattle.sig_load.specs.Program.{program as generated}
 use Rattle.sig_loads.specs.Loads.{IsLoadStatus, LoadComesTo}
 use Rattle.sig_loads.specs.Refusals.{IsAboutLoad}
+use Rattle.sig_plays.specs.Plays.{HasBegunPlay, IsAboutPlay, PlayComesTo}
 use Rattle.sig_tool.specs.Commands.{IsBuilt}
 
 -- ---- the command that the words are
@@ -34,11 +35,16 @@ OfCommand words Fact = (c : Command) → IsCommand words c → IsBuilt c → Fac
 abbrev pub OfRun : List Word → ((program flows : List ℕ) → Settings → Type 0) → Type 0
 OfRun words Fact = (program flows : List ℕ) (settings : Settings) → IsCommand words (Run program flows settings) → IsBuilt (Run program flows settings) → Fact program flows settings
 
+-- and of a play
+abbrev pub OfPlay : List Word → ((program flows events : List ℕ) → Settings → Type 0) → Type 0
+OfPlay words Fact = (program flows events : List ℕ) (settings : Settings) → IsCommand words (Play program flows events settings) → IsBuilt (Play program flows events settings) → Fact program flows events settings
+
 -- ---- what a command means
 
 -- a command over told contents comes to this; the flag is not looked at, and a command without an equation comes to nothing
 abbrev pub ComesTo : Contents → Command → Outcome → Type 0
 ComesTo held (Run program flows settings) o = RunComesTo held program flows settings o
+ComesTo held (Play program flows events settings) o = PlayComesTo held program flows events settings o
 ComesTo held (Check program pace) o = CompileComesTo IsVerdictText held program o
 ComesTo held (Tree program pace) o = CompileComesTo IsTreeText held program o
 ComesTo held (Code program pace) o = CompileComesTo IsCodeText held program o
@@ -57,6 +63,7 @@ IsStatus status = IsDone status ⊎ (IsRefused status ⊎ (status ≡ 6))
 
 abbrev pub IsStatusOf : Command → ℕ → Type 0
 IsStatusOf (Run program flows settings) status = IsRunStatus status
+IsStatusOf (Play program flows events settings) status = IsRunStatus status
 IsStatusOf (Check program pace) status = IsCompileStatus status
 IsStatusOf (Tree program pace) status = IsCompileStatus status
 IsStatusOf (Code program pace) status = IsCompileStatus status
@@ -68,6 +75,7 @@ IsStatusOf _ status = ⊥
 -- a refusal may be one of a command
 abbrev pub IsAbout : Command → Refusal → Type 0
 IsAbout (Run program flows settings) r = IsAboutRun program flows r
+IsAbout (Play program flows events settings) r = IsAboutPlay program flows events r
 IsAbout (Check program pace) r = IsAboutPlan program r
 IsAbout (Tree program pace) r = IsAboutPlan program r
 IsAbout (Code program pace) r = IsAboutPlan program r
@@ -79,6 +87,7 @@ IsAbout _ r = ⊥
 -- the file that was begun last is one of the command's; one that names none begins none
 abbrev pub HasBegun : Contents → Command → Option (List ℕ) → Type 0
 HasBegun held (Run program flows settings) at = HasBegunRun held program flows at
+HasBegun held (Play program flows events settings) at = HasBegunPlay held program flows events at
 HasBegun held (Check program pace) at = at ≡ name_where_there held program
 HasBegun held (Tree program pace) at = at ≡ name_where_there held program
 HasBegun held (Code program pace) at = at ≡ name_where_there held program
@@ -90,6 +99,7 @@ HasBegun held _ at = ⊥
 -- the program which a command compiles is not within the bound for which the nodes of a store suffice
 abbrev pub CompilesBeyondBound : Contents → Command → Type 0
 CompilesBeyondBound held (Run program flows settings) = HoldsBeyondBound (held program)
+CompilesBeyondBound held (Play program flows events settings) = HoldsBeyondBound (held program)
 CompilesBeyondBound held (Check program pace) = HoldsBeyondBound (held program)
 CompilesBeyondBound held (Tree program pace) = HoldsBeyondBound (held program)
 CompilesBeyondBound held (Code program pace) = HoldsBeyondBound (held program)

@@ -1,9 +1,10 @@
 //! A command that is built, from its files to a status.
 
-ghost use Rattle.std.specs.Prelude.{◌≡◌, []};
+ghost use Rattle.std.specs.Prelude.{◌≡◌, [], false};
 ghost use Rattle.std.specs.List.{AllByRecursion};
 ghost use Rattle.std.specs.Str.{IsUtf8};
 ghost use Rattle.sig_outcome.specs.Tasks.{Performs, SaysLine};
+ghost use Rattle.sig_runs.specs.Runs.{AreWithinBounds, running};
 ghost use Rattle.sig_words.specs.Commands.{files_of};
 ghost use Rattle.sig_tool.specs.Commands.{IsBuilt, IsLimited};
 ghost use Rattle.sig_tool.specs.TopCall.{task_of};
@@ -12,19 +13,24 @@ use sig_base::Text;
 use sig_compile::{Product, compile_command, print_command};
 use sig_judging::judge_command;
 use sig_loads::load_command;
+use sig_plays::play_command;
 use sig_runs::run_command;
-use sig_text::{Files, Sink};
-use sig_words::Command;
+use sig_text::{Files, Gate, Sink};
+use sig_words::{Command, Settings};
 use std::alloc::Global;
 use std::str;
+use std::sync::Wait;
+use std::thread::Threads;
 
-/// Does what a command asks for. The number of workers has no effect so far.
-pub fn perform<F: Files, S: Sink, E: Sink>(
+/// Does what a command asks for.
+pub fn perform<R: Threads + Wait + Sync, F: Files, S: Sink, E: Sink, G: Gate + Sync>(
+    rt: &R,
     alloc: Global,
     command: &Command,
     files: &mut F,
     out: &mut S,
     err: &mut E,
+    gate: &G,
 ) -> u8
     requires built { IsBuilt command.now }
     requires names { AllByRecursion IsUtf8 (files_of command.now) }
@@ -39,7 +45,11 @@ pub fn perform<F: Files, S: Sink, E: Sink>(
     match command {
         Command::Run(program, flows, settings) => {
             let (program, flows) = (name_of(program), name_of(flows));
-            run_command(alloc, program, flows, *settings, files, out, err)
+            run(rt, alloc, program, flows, *settings, files, out, err, gate)
+        }
+        Command::Play(program, flows, events, settings) => {
+            let (program, flows, events) = (name_of(program), name_of(flows), name_of(events));
+            play_command(alloc, program, flows, events, *settings, files, out, err)
         }
         Command::Check(program, _) => {
             compile_command(alloc, Product::Verdict, name_of(program), files, out, err)
@@ -55,11 +65,34 @@ pub fn perform<F: Files, S: Sink, E: Sink>(
             judge_command(alloc, program, traces, files, out, err)
         }
         Command::Load(seed, stages, settings) => {
-            load_command(alloc, *seed, *stages, *settings, out, err)
+            load_command(rt, alloc, *seed, *stages, *settings, out, err, gate)
         }
         Command::Print(program) => print_command(alloc, name_of(program), files, out, err),
         _ => unreachable!(),
     }
+}
+
+/// Runs a program without pacing.
+fn run<R: Threads + Wait + Sync, F: Files, S: Sink, E: Sink, G: Gate + Sync>(
+    rt: &R,
+    alloc: Global,
+    program: &str,
+    flows: &str,
+    settings: Settings,
+    files: &mut F,
+    out: &mut S,
+    err: &mut E,
+    gate: &G,
+) -> u8
+    requires bounds { AreWithinBounds settings }
+    requires built { settings.pace ≡ false }
+    ensures { Performs (running program.now flows.now settings)
+        (F.contents files.old) (F.at files.old) (F.at files.new)
+        (F.misses files.old) (F.misses files.new) (F.faults files.old) (F.faults files.new)
+        S.took out.old out.new (S.faults out.old) (S.faults out.new) (S.clean out.new)
+        (SaysLine E.took (E.faults err.old) (E.faults err.new) err.old err.new) result }
+{
+    run_command(rt, alloc, program, flows, settings, files, out, err, gate)
 }
 
 /// The name of a file, as the files are asked for it.

@@ -8,9 +8,10 @@ ghost use Rattle.sig_words.specs.Commands.{files_of};
 ghost use Rattle.sig_words.specs.Readings.{texts};
 ghost use Rattle.sig_words.specs.declared.command.Command.{Command};
 ghost use Rattle.sig_outcome.specs.Outcomes.{Outcome};
+ghost use Rattle.sig_plays.specs.Plays.{HasPlay};
 ghost use Rattle.sig_runs.specs.Runs.{HasRun};
 ghost use Rattle.sig_outcome.specs.Tasks.{IsDone, IsDue, IsEnded, IsRefused, IsRefusedBy, MayAnswer, SaysLine, items_line, memory_line, words_line, write_line};
-ghost use Rattle.sig_tool.specs.TopCall.{AreNoCommand, ComesTo, CompilesBeyondBound, HasBegun, IsAbout, IsStatus, IsStatusOf, OfCommand, OfOutcome, OfRun};
+ghost use Rattle.sig_tool.specs.TopCall.{AreNoCommand, ComesTo, CompilesBeyondBound, HasBegun, IsAbout, IsStatus, IsStatusOf, OfCommand, OfOutcome, OfPlay, OfRun};
 
 use crate::perform::perform;
 use crate::words::built_command;
@@ -23,30 +24,31 @@ use std::thread::Threads;
 
 /// Does what the words of a command line ask for, and answers the status with which the program ends.
 /// `words` are the command line without the program's name. So far the commands that are built are
-/// `check`, `tree`, `code` and `run` without the flag `--pace`, `print`, `judge` and `load`. A run is made on
-/// this thread, whatever the number of workers; the capacity of a link is asked for how many items the
-/// links of the program would hold.
+/// `check`, `tree`, `code`, `run` and `play` without the flag `--pace`, `print`, `judge` and `load`. A run is
+/// made with its clusters on worker threads, or on this thread alone where no worker is asked for; each cluster
+/// passes the gate at each of its instants. A play lets given events of the actors happen, on this thread and
+/// over links of the capacity asked for, writes the state that they leave, and finishes the run from there.
 ///
 /// | Status | Comes |
 /// |---|---|
-/// | 0 | done; a run ended because an input had no further value, or at the limit of instants |
+/// | 0 | done; a run or a play ended because an input had no further value, or at the limit of instants |
 /// | 1 | the program is refused, by the passes that the command needs |
-/// | 2 | the words are no command, or one that is not built; or the links of the program to be run would hold more than 16,777,216 items |
-/// | 3 | the run ended at an equation: its result is outside 64 bits, or its divisor is 0 |
-/// | 4 | the flow or trace file is longer than 67,108,864 bytes, or none for the program |
+/// | 2 | the words are no command, or one that is not built; or the links of the program to be run or played would hold more than 16,777,216 items |
+/// | 3 | the run or the play ended at an equation: its result is outside 64 bits, or its divisor is 0 |
+/// | 4 | the flow, event or trace file is longer than 67,108,864 bytes, or none for the program |
 /// | 5 | a file is missing or was not read |
 /// | 6 | a write to `out` failed |
 /// | 7 | memory was wanting |
 /// | 8 | the nodes of diagrams do not suffice for a program that is to be compiled and is not within the bound |
 /// | 9 | the trace is not one of the program |
 pub fn sig_main<R: Threads + Wait + Sync, F: Files, S: Sink, E: Sink, G: Gate + Sync>(
-    _rt: &R,
+    rt: &R,
     alloc: Global,
     words: &[String],
     files: &mut F,
     out: &mut S,
     err: &mut E,
-    _gate: &G,
+    gate: &G,
 ) -> u8
     // The statuses, and those of each command that is built. Where the words are none of these, 2 comes,
     // unless memory was wanting to read them.
@@ -59,12 +61,16 @@ pub fn sig_main<R: Threads + Wait + Sync, F: Files, S: Sink, E: Sink, G: Gate + 
         TookPrefix S.took out.old o.text out.new)) }
 
     // A command that is done wrote all of it, and said what ended it: a run wrote the text of the longest
-    // trace, and named the first cause why that is not longer.
+    // trace, and named the first cause why that is not longer; a play wrote what its events commit, the state
+    // that they leave and the rest of that text, and named the same cause.
     ensures whole { IsDone result → OfCommand (texts words.now) (λ c. IfSome (F.contents files.old) (λ held.
         IsDue (ComesTo held c) held (F.at files.old) (F.at files.new) result (λ text line.
         S.took out.old text out.new × SaysLine E.took (E.faults err.old) (E.faults err.new) err.old err.new line))) }
     ensures run { IsEnded result → OfRun (texts words.now) (λ program flows settings.
         IfSome (F.contents files.old) (λ held. HasRun held program flows settings result
+        (λ text. S.took out.old text out.new) (SaysLine E.took (E.faults err.old) (E.faults err.new) err.old err.new))) }
+    ensures play { IsEnded result → OfPlay (texts words.now) (λ program flows events settings.
+        IfSome (F.contents files.old) (λ held. HasPlay held program flows events settings result
         (λ text. S.took out.old text out.new) (SaysLine E.took (E.faults err.old) (E.faults err.new) err.old err.new))) }
     ensures flushed { IsDone result → IsTrue (S.clean out.new) }
 
@@ -101,7 +107,7 @@ pub fn sig_main<R: Threads + Wait + Sync, F: Files, S: Sink, E: Sink, G: Gate + 
     ensures no_files { OfCommand (texts words.now) (λ c. files_of c ≡ [] → files.new ≡ files.old) }
 {
     match built_command(alloc, words) {
-        Ok(command) => perform(alloc, &command, files, out, err),
+        Ok(command) => perform(rt, alloc, &command, files, out, err, gate),
         Err(WordsAnswer::Refused) => {
             say_words(err);
             2

@@ -14,13 +14,13 @@ returns-in-Ok-clause-whole g c =
       trace = run.trace;
       place = run.place;
       end = run.end;
-      text = flushed g.S.Sink.took g.met.S.Sink.took_both (output_text c.args.plan.now.kernel run.trace) c.args.out.now c.run_alone.new.sink c.flush.new.self run.text c.flush.ensures.bytes;
+      text = flushed g.S.Sink.took g.met.S.Sink.took_both (output_text c.args.plan.now.kernel run.trace) c.args.out.now c.run_plan.new.sink c.flush.new.self run.text c.flush.ensures.bytes;
     }
 
 pub returns-in-Err-clause-prefix : goal.returns-in-Err-clause-prefix
 returns-in-Err-clause-prefix g c = λ is trace longest.
     let run = c.in_ok-end.ensures.whole in
-    let same = one_longest (IsKernelTrace c.args.plan.now.kernel) c.args.inputs.now c.args.limit run.trace trace run.end.longest longest in
+    let same = one_longest (IsKernelTrace c.args.plan.now.kernel) c.args.inputs.now c.args.settings.instants run.trace trace run.end.longest longest in
     TookPrefix-whole g.S.Sink.took c.args.out.now c.flush.new.self (output_text c.args.plan.now.kernel trace)
     (subst (λ (t : Trace). g.S.Sink.took c.args.out.now (output_text c.args.plan.now.kernel t) c.flush.new.self) same
-    (flushed g.S.Sink.took g.met.S.Sink.took_both (output_text c.args.plan.now.kernel run.trace) c.args.out.now c.run_alone.new.sink c.flush.new.self run.text c.flush.ensures.bytes))
+    (flushed g.S.Sink.took g.met.S.Sink.took_both (output_text c.args.plan.now.kernel run.trace) c.args.out.now c.run_plan.new.sink c.flush.new.self run.text c.flush.ensures.bytes))

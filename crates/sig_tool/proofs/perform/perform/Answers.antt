@@ -1,19 +1,34 @@
 use Rattle.std.proofs.Common.{subst}
 use Rattle.sig_words.specs.declared.command.Command.{Command}
-use Rattle.sig_tool.specs.Commands.{IsLimited}
+use Rattle.sig_tool.specs.Commands.{IsBuilt, IsLimited}
 use Rattle.sig_tool.proofs.perform.perform.Goals as goal
 
-pub run_command-requires : goal.run_command-requires
-run_command-requires g c = (subst (λ (d : Command). IsLimited d) c.in-Run.is c.requires.limited).instants
+pub run-requires-clause-bounds : goal.run-requires-clause-bounds
+run-requires-clause-bounds g c κs within = (subst (λ (d : Command). IsLimited d) c.in-Run.is c.requires.limited).settings
+
+pub run-requires-clause-built : goal.run-requires-clause-built
+run-requires-clause-built g c κs within = subst (λ (d : Command). IsBuilt d) c.in-Run.is c.requires.built
+
+pub load_command-requires-clause-bounds : goal.load_command-requires-clause-bounds
+load_command-requires-clause-bounds g c κs within = (subst (λ (d : Command). IsLimited d) c.in-Load.is c.requires.limited).settings
+
+pub play_command-requires-clause-capacity : goal.play_command-requires-clause-capacity
+play_command-requires-clause-capacity g c = (subst (λ (d : Command). IsLimited d) c.in-Play.is c.requires.limited).settings.capacity.0
+
+pub play_command-requires-clause-instants : goal.play_command-requires-clause-instants
+play_command-requires-clause-instants g c = (subst (λ (d : Command). IsLimited d) c.in-Play.is c.requires.limited).settings.instants
 
 pub load_command-requires-clause-some : goal.load_command-requires-clause-some
-load_command-requires-clause-some g c = (subst (λ (d : Command). IsLimited d) c.in-Load.is c.requires.limited).stages.0
+load_command-requires-clause-some g c κs within = (subst (λ (d : Command). IsLimited d) c.in-Load.is c.requires.limited).stages.0
 
 pub load_command-requires-clause-few : goal.load_command-requires-clause-few
-load_command-requires-clause-few g c = (subst (λ (d : Command). IsLimited d) c.in-Load.is c.requires.limited).stages.1
+load_command-requires-clause-few g c κs within = (subst (λ (d : Command). IsLimited d) c.in-Load.is c.requires.limited).stages.1
 
 pub returns-in-Run-clause-performs : goal.returns-in-Run-clause-performs
-returns-in-Run-clause-performs g c = rw c.in-Run.is (rw (c.name_of-program.ensures, c.name_of-flows.ensures) at c.run_command.ensures)
+returns-in-Run-clause-performs g c = rw c.in-Run.is (rw (c.name_of-program.ensures, c.name_of-flows.ensures) at c.run.ensures)
+
+pub returns-in-Play-clause-performs : goal.returns-in-Play-clause-performs
+returns-in-Play-clause-performs g c = rw c.in-Play.is (rw (c.name_of-program-in-Play.ensures, c.name_of-flows-in-Play.ensures, c.name_of-events.ensures) at c.play_command.ensures)
 
 pub returns-in-Load-clause-performs : goal.returns-in-Load-clause-performs
 returns-in-Load-clause-performs g c =

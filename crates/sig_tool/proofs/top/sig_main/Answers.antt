@@ -7,8 +7,9 @@ use Rattle.sig_words.specs.Readings.{texts}
 use Rattle.sig_outcome.specs.Tasks.{IsDue, IsRefusedBy, MayAnswer, SaysLine}
 use Rattle.sig_tool.specs.TopCall.{ComesTo, CompilesBeyondBound, HasBegun, IsAbout, IsStatusOf, OfOutcome}
 use Rattle.sig_words.specs.declared.command.Command.{Command}
-use Rattle.sig_words.specs.declared.command.Command.TheVariants.{Run}
+use Rattle.sig_words.specs.declared.command.Command.TheVariants.{Play, Run}
 use Rattle.sig_outcome.proofs.Refused.{told_both}
+use Rattle.sig_plays.proofs.Ending.{has_play}
 use Rattle.sig_runs.proofs.Ending.{has_run}
 use Rattle.sig_tool.proofs.CommandWords.{of_one, refused_unread}
 use Rattle.sig_tool.proofs.TopClauses.{is_status}
@@ -47,6 +48,18 @@ returns-in-Ok-clause-run g c = λ ends program flows settings is built.
     (λ text line. g.S.Sink.took c.args.out.now text c.perform.new.out
     × SaysLine g.E.Sink.took (g.E.Sink.faults c.args.err.now) (g.E.Sink.faults c.perform.new.err) c.args.err.now c.perform.new.err line))
     (sym (c.in-Ok.ensures.only (Run program flows settings) is built)) due) ends)
+    (c.perform.ensures.performs.whole (inl ends)) (c.perform.ensures.performs.whole (inl ends))
+
+pub returns-in-Ok-clause-play : goal.returns-in-Ok-clause-play
+returns-in-Ok-clause-play g c = λ ends program flows events settings is built.
+    told_both (g.F.Files.contents c.args.files.now) _ _ _
+    (λ held due same. has_play held program flows events settings (g.F.Files.at c.args.files.now) (g.F.Files.at c.perform.new.files) c.perform.result
+    (λ text. g.S.Sink.took c.args.out.now text c.perform.new.out)
+    (SaysLine g.E.Sink.took (g.E.Sink.faults c.args.err.now) (g.E.Sink.faults c.perform.new.err) c.args.err.now c.perform.new.err)
+    (subst (λ (d : Command). IsDue (ComesTo held d) held (g.F.Files.at c.args.files.now) (g.F.Files.at c.perform.new.files) c.perform.result
+    (λ text line. g.S.Sink.took c.args.out.now text c.perform.new.out
+    × SaysLine g.E.Sink.took (g.E.Sink.faults c.args.err.now) (g.E.Sink.faults c.perform.new.err) c.args.err.now c.perform.new.err line))
+    (sym (c.in-Ok.ensures.only (Play program flows events settings) is built)) due) ends)
     (c.perform.ensures.performs.whole (inl ends)) (c.perform.ensures.performs.whole (inl ends))
 
 pub returns-in-Ok-clause-status : goal.returns-in-Ok-clause-status

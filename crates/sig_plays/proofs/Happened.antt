@@ -1,0 +1,83 @@
+-- Events one after another, and what a sink took of them.
+use Rattle.std.proofs.Common.{◌≡◌, ◌<◌, ◌+◌, ◌++◌, ◌∙◌, ℕ, List, [], ◌∷◌, length, map, take, drop, get_or, refl, sym, ap, subst, append_assoc}
+use Rattle.std.specs.Prelude.{fold}
+use Rattle.std.proofs.lemmas.List.{append-nil, drop_more, map-append, take-append-drop, take_more}
+use Rattle.sig_core.proofs.Finishing.{Join, more_then, text_append}
+use Rattle.sig_core.specs.Cores.{Happened, IsSameRun, Shows, TookMore, given_of}
+use Rattle.sig_core.specs.declared.state.Core.{Core}
+use Rattle.sig_flow.specs.declared.event.FileEvent.{FileEvent}
+use Rattle.sig_kernel.specs.declared.kernel.Kernel.{Kernel}
+use Rattle.sig_model.specs.Cores.{Core as ModelCore, Given, reactions_text, stepped}
+use Rattle.sig_model.specs.declared.event.Event.{Event}
+use Rattle.sig_plays.specs.EventFiles.{happens}
+use Rattle.sig_plays.specs.Happening.{AllHappened, PartHappened, behind}
+use Rattle.sig_plays.proofs.Growing.{grows}
+use Rattle.sig_text.specs.Sink.{Joins, TookPrefix, TookPrefix-longer}
+
+pub fold_append : {A B : Type 0} (f : A → B → A) (z : A) (xs ys : List B) → fold f z (xs ++ ys) ≡ fold f (fold f z xs) ys
+fold_append f z [] ys = refl
+fold_append f z (x ∷ xs) ys = fold_append f (f z x) xs ys
+
+-- ---- the events of a file
+
+-- one more of them
+pub one_more : (es : List FileEvent) (i : ℕ) (d : FileEvent) → i < length es → map happens (take i es) ++ happens (get_or es i d) ∷ [] ≡ map happens (take (i + 1) es)
+one_more es i d lt = sym (map-append happens (take i es) (get_or es i d ∷ [])) ∙ ap (map happens) (sym (take_more es i d lt))
+
+-- and those behind it
+pub with_rest : (es : List FileEvent) (i : ℕ) → map happens (take i es) ++ map happens (drop i es) ≡ map happens es
+with_rest es i = sym (map-append happens (take i es) (drop i es)) ∙ ap (map happens) (take-append-drop i es)
+
+-- ---- what happened
+
+-- no event
+pub none_happened : {S : Type 0} (took : S → List ℕ → S → Type 0) (c : Core) (first : S) → took first [] first → AllHappened took [] c c first first
+none_happened took c first nothing m shows = (shows, record { more = []; committed = sym (append-nil m.committed); taken = nothing })
+
+-- one more event
+pub happened_more : {S : Type 0} (took also : S → List ℕ → S → Type 0) → Join took also → (old mid new : Core) (first middle last : S) → IsSameRun old mid
+    → (events : List Event) (e : Event) → AllHappened took events old mid first middle → Happened also e mid new middle last → AllHappened also (events ++ e ∷ []) old new first last
+happened_more {S} took also join old mid new first middle last same events e all next m shows =
+    let before = all m shows in
+    let there : ModelCore = behind (given_of old) m events in
+    let on = next there before.0 in
+    let end_is : stepped (given_of mid) there e ≡ behind (given_of old) m (events ++ e ∷ []) =
+    ap (λ (g : Given). stepped g there e) same ∙ sym (fold_append (stepped (given_of old)) m events (e ∷ [])) in
+    let kernel : mid.plan.now.kernel ≡ old.plan.now.kernel = ap (λ (g : Given). g.plan.kernel) same in (
+      subst (λ n. Shows n new) end_is on.0,
+      subst (λ n. TookMore also old.plan.now.kernel m n first last) end_is
+          (more_then took also join old.plan.now.kernel m there (stepped (given_of mid) there e) first middle last before.1
+          (subst (λ k. TookMore also k there (stepped (given_of mid) there e) middle last) kernel on.1)),
+    )
+
+-- a prefix of what some events commit is one of what they commit with others behind them
+pub part_longer : {S : Type 0} (took : S → List ℕ → S → Type 0) (old new : Core) (first last : S) (events rest : List Event)
+    → AllHappened (TookPrefix took) events old new first last → PartHappened (TookPrefix took) (events ++ rest) old first last
+part_longer took old new first last events rest part m shows =
+    let so_far = (part m shows).1 in
+    let n : ModelCore = behind (given_of old) m events in
+    let more = grows (given_of old) rest n in
+    let kernel : Kernel = old.plan.now.kernel in
+    subst (λ k. TookMore (TookPrefix took) old.plan.now.kernel m k first last) (sym (fold_append (stepped (given_of old)) m events rest))
+    (record {
+      more = so_far.more ++ more.0;
+      committed = more.1 ∙ ap (λ rs. rs ++ more.0) so_far.committed ∙ append_assoc m.committed so_far.more more.0;
+      taken = subst (λ bytes. TookPrefix took first bytes last) (sym (text_append kernel so_far.more more.0))
+          (TookPrefix-longer took first last (reactions_text kernel so_far.more) (reactions_text kernel more.0) so_far.taken);
+    })
+
+-- the next event of a file
+pub next_happened : {S : Type 0} (took also : S → List ℕ → S → Type 0) → Join took also → (old mid new : Core) (first middle last : S) → IsSameRun old mid
+    → (es : List FileEvent) (i : ℕ) (d : FileEvent) → i < length es → (e : Event) → e ≡ happens (get_or es i d)
+    → AllHappened took (map happens (take i es)) old mid first middle → Happened also e mid new middle last → AllHappened also (map happens (take (i + 1) es)) old new first last
+next_happened took also join old mid new first middle last same es i d lt e is all next =
+    subst (λ (events : List Event). AllHappened also events old new first last) (one_more es i d lt)
+    (happened_more took also join old mid new first middle last same (map happens (take i es)) (happens (get_or es i d)) all
+    (subst (λ (f : Event). Happened also f mid new middle last) is next))
+
+-- a prefix of what the first events of a file commit
+pub first_part : {S : Type 0} (took : S → List ℕ → S → Type 0) (old new : Core) (first last : S) (es : List FileEvent) (i : ℕ)
+    → AllHappened (TookPrefix took) (map happens (take i es)) old new first last → PartHappened (TookPrefix took) (map happens es) old first last
+first_part took old new first last es i part =
+    subst (λ (events : List Event). PartHappened (TookPrefix took) events old first last) (with_rest es i)
+    (part_longer took old new first last (map happens (take i es)) (map happens (drop i es)) part)

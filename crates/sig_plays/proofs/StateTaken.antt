@@ -1,0 +1,101 @@
+-- What a sink took of the text of a state.
+use Rattle.std.proofs.Common.{◌≡◌, ◌≤◌, ◌<◌, ◌∙◌, ◌++◌, ◌^◌, ℕ, ℤ, List, [], ◌∷◌, Bool, length, map, refl, sym, ap, subst, arith}
+use Rattle.std.specs.Prelude.{Option, None, Some, codes, flat_map, slice_get}
+use Rattle.std.proofs.lemmas.List.{length-map}
+use Rattle.sig_base.specs.declared.place.Place.{Place}
+use Rattle.sig_core.specs.Cores.{IsCore, Shows}
+use Rattle.sig_core.specs.Telling.{length_in, state_in}
+use Rattle.sig_core.specs.declared.answer.ActorState.{ActorState}
+use Rattle.sig_core.specs.declared.state.Core.{Core}
+use Rattle.sig_model.specs.Actors.{Actor}
+use Rattle.sig_model.specs.Cores.{Core as ModelCore}
+use Rattle.sig_plays.specs.Happening.{TookOf}
+use Rattle.sig_plays.specs.StateLines.{actor_line, actor_pieces, lines_from, link_line, link_pieces, state_text, word_line}
+use Rattle.sig_step.specs.States.{actor_of}
+use Rattle.sig_text.specs.Sink.{Joins, TookPrefix, TookPrefix-longer, TookPrefix-then}
+use Rattle.sig_values.proofs.Writing.{some_is}
+
+-- ---- actors and links that a core tells of
+
+pub actor_there : (o : Option Actor) (state : ActorState) → Some state ≡ state_in o
+    → (actor : Actor) × (o ≡ Some actor) × ((k : ℕ) → flat_map (λ piece. piece) (actor_pieces k state.instant state.step state.ended) ≡ actor_line k actor)
+actor_there None state is = absurd (let e : Some state ≡ None = is in cc)
+actor_there (Some actor) state is =
+    let same = some_is state (record { instant = actor.instant; step = actor.step; ended = actor.ended }) is in
+    (actor, refl, λ k. ap (λ (s : ActorState). flat_map (λ piece. piece) (actor_pieces k s.instant s.step s.ended)) same)
+
+pub no_actor : (o : Option Actor) → None ≡ state_in o → o ≡ None
+no_actor None is = refl
+no_actor (Some actor) is = absurd (let e : None ≡ state_in (Some actor) = is in cc)
+
+pub link_there : (o : Option (List ℤ)) (count : ℕ) → Some count ≡ length_in o
+    → (items : List ℤ) × (o ≡ Some items) × ((j : ℕ) → flat_map (λ piece. piece) (link_pieces j count) ≡ link_line j items)
+link_there None count is = absurd (let e : Some count ≡ None = is in cc)
+link_there (Some items) count is =
+    let same = some_is count (length items) is in
+    (items, refl, λ j. ap (λ n. flat_map (λ piece. piece) (link_pieces j n)) same)
+
+pub no_link : (o : Option (List ℤ)) → None ≡ length_in o → o ≡ None
+no_link None is = refl
+no_link (Some items) is = absurd (let e : None ≡ length_in (Some items) = is in cc)
+
+-- there are few of each
+pub few_actors : (c : Core) → IsCore c → (m : ModelCore) → Shows m c → length m.actors < 2 ^ 32
+few_actors c is m shows = let same = ap length shows.actors in let count = length-map c.states.items actor_of in let few = is.few in omega (arith, same, count, few)
+
+pub few_links : (c : Core) → IsCore c → length c.plan.now.links ≤ 16777216 → (m : ModelCore) → Shows m c → length m.links ≤ 16777216
+few_links c is few m shows = let same = shows.count in let count = is.links in omega (arith, same, count, few)
+
+-- ---- the parts of the text, one after another
+
+module _ {S : Type 0} (took : S → List ℕ → S → Type 0) (joins : Joins took) (c : Core) where
+  abbrev begin : List ℕ
+  begin = codes "events done\n"
+
+  abbrev actors : ModelCore → List ℕ
+  actors m = lines_from actor_line 0 m.actors
+
+  abbrev links : ModelCore → List ℕ
+  links m = lines_from link_line 0 m.links
+
+  abbrev end : List ℕ
+  end = codes "finish\n"
+
+  pub part_begin : (s0 s1 : S) → TookPrefix took s0 (codes "events done\n") s1 → TookOf (TookPrefix took) c state_text s0 s1
+  part_begin s0 s1 one m shows = TookPrefix-longer took s0 s1 begin (actors m ++ (links m ++ (word_line m.word ++ end))) one
+
+  module _ (s0 s1 : S) (one : took s0 (codes "events done\n") s1) where
+    pub part_actors : (s2 : S) → TookOf (TookPrefix took) c (λ m. lines_from actor_line 0 m.actors) s1 s2 → TookOf (TookPrefix took) c state_text s0 s2
+    part_actors s2 two m shows =
+        TookPrefix-then took joins s0 s1 s2 begin (actors m ++ (links m ++ (word_line m.word ++ end))) one
+        (TookPrefix-longer took s1 s2 (actors m) (links m ++ (word_line m.word ++ end)) (two m shows))
+
+    module _ (s2 : S) (two : TookOf took c (λ m. lines_from actor_line 0 m.actors) s1 s2) where
+      pub part_links : (s3 : S) → TookOf (TookPrefix took) c (λ m. lines_from link_line 0 m.links) s2 s3 → TookOf (TookPrefix took) c state_text s0 s3
+      part_links s3 three m shows =
+          TookPrefix-then took joins s0 s1 s3 begin (actors m ++ (links m ++ (word_line m.word ++ end))) one
+          (TookPrefix-then took joins s1 s2 s3 (actors m) (links m ++ (word_line m.word ++ end)) (two m shows)
+          (TookPrefix-longer took s2 s3 (links m) (word_line m.word ++ end) (three m shows)))
+
+      module _ (s3 : S) (three : TookOf took c (λ m. lines_from link_line 0 m.links) s2 s3) (word : Option Place) (words : (m : ModelCore) → Shows m c → word ≡ m.word) where
+        pub part_word : (s4 : S) → TookPrefix took s3 (word_line word) s4 → TookOf (TookPrefix took) c state_text s0 s4
+        part_word s4 four m shows =
+            TookPrefix-then took joins s0 s1 s4 begin (actors m ++ (links m ++ (word_line m.word ++ end))) one
+            (TookPrefix-then took joins s1 s2 s4 (actors m) (links m ++ (word_line m.word ++ end)) (two m shows)
+            (TookPrefix-then took joins s2 s3 s4 (links m) (word_line m.word ++ end) (three m shows)
+            (TookPrefix-longer took s3 s4 (word_line m.word) end (subst (λ o. TookPrefix took s3 (word_line o) s4) (words m shows) four))))
+
+        module _ (s4 : S) (four : took s3 (word_line word) s4) where
+          pub part_end : (s5 : S) → TookPrefix took s4 (codes "finish\n") s5 → TookOf (TookPrefix took) c state_text s0 s5
+          part_end s5 five m shows =
+              TookPrefix-then took joins s0 s1 s5 begin (actors m ++ (links m ++ (word_line m.word ++ end))) one
+              (TookPrefix-then took joins s1 s2 s5 (actors m) (links m ++ (word_line m.word ++ end)) (two m shows)
+              (TookPrefix-then took joins s2 s3 s5 (links m) (word_line m.word ++ end) (three m shows)
+              (TookPrefix-then took joins s3 s4 s5 (word_line m.word) end (subst (λ o. took s3 (word_line o) s4) (words m shows) four) five)))
+
+          pub whole_state : (s5 : S) → took s4 (codes "finish\n") s5 → TookOf took c state_text s0 s5
+          whole_state s5 five m shows =
+              joins s0 s1 s5 begin (actors m ++ (links m ++ (word_line m.word ++ end))) one
+              (joins s1 s2 s5 (actors m) (links m ++ (word_line m.word ++ end)) (two m shows)
+              (joins s2 s3 s5 (links m) (word_line m.word ++ end) (three m shows)
+              (joins s3 s4 s5 (word_line m.word) end (subst (λ o. took s3 (word_line o) s4) (words m shows) four) five)))

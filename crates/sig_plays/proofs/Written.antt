@@ -1,0 +1,145 @@
+-- What is promised of a play follows from what its files gave and what was written.
+use Rattle.std.proofs.Common.{◌≡◌, ◌∙◌, ◌⊎◌, ◌≤◌, ◌*◌, ◌++◌, ℕ, ℤ, List, [], Bool, map, Option, IfSome, length, inl, inr, refl, sym, ap, subst, arith}
+use Rattle.std.specs.Prelude.{IsTrue, Some}
+use Rattle.std.proofs.Math.Nat.{mul-le-mul_left}
+use Rattle.sig_base.specs.Traces.{IsPrefixOf, Trace}
+use Rattle.sig_base.specs.declared.limits.TheConstants.{ITEMS}
+use Rattle.sig_base.specs.declared.place.Place.{Place}
+use Rattle.sig_core.specs.Schedules.{run_of}
+use Rattle.sig_flow.specs.declared.event.FileEvent.{FileEvent}
+use Rattle.sig_kernel.specs.OutputText.{output_text}
+use Rattle.sig_kernel.specs.Validity.{AreFlowsFor, inputs_of}
+use Rattle.sig_kernel.specs.declared.kernel.Kernel.{Kernel}
+use Rattle.sig_text.specs.Counts.{Rose}
+use Rattle.sig_text.specs.Files.{Contents, name_where_there}
+use Rattle.sig_text.specs.Sink.{TookPrefix, TookPrefix-whole}
+use Rattle.sig_plan.specs.Plans.{IsAccepted, PlanView}
+use Rattle.sig_plan.specs.declared.ended.Ended.{Ended}
+use Rattle.sig_plan.specs.declared.parts.LinkInfo.{LinkInfo}
+use Rattle.sig_meaning.proofs.Ending.{some_end}
+use Rattle.sig_model.specs.Cores.{after, reactions_text}
+use Rattle.sig_schedules.proofs.Finished.{after_begins}
+use Rattle.sig_words.specs.declared.command.Settings.{Settings}
+use Rattle.sig_outcome.specs.Outcomes.{Good}
+use Rattle.sig_outcome.specs.Tasks.{Performs, write_line}
+use Rattle.sig_outcome.specs.declared.refusal.Refusal.TheVariants.{OutOfMemory}
+use Rattle.sig_outcome.proofs.Performing.{performs_outcome, performs_refusal}
+use Rattle.sig_compile.specs.Compiling.{FindsAccepted}
+use Rattle.sig_runs.specs.Ends.{IsOfKernel, end_line, end_status}
+use Rattle.sig_runs.specs.Runs.{FindsFlows, HoldFew, LacksMemory}
+use Rattle.sig_runs.proofs.Plans.{end_there, same_links}
+use Rattle.sig_runs.proofs.Written.{is_ended, no_six}
+use Rattle.sig_plays.specs.EventFiles.{FindsEvents, happens}
+use Rattle.sig_plays.specs.Happening.{IsEndIn, TookPlay}
+use Rattle.sig_plays.specs.Plays.{PlaysTo, WritesPlay, left_by, played, playing}
+use Rattle.sig_plays.proofs.Loads.{play_number, reaches_end, stops_memory}
+use Rattle.sig_plays.proofs.OnePlay.{one_play_outcome}
+
+-- ---- links that hold few items are few
+
+pub few_links : (plan : PlanView) (capacity : ℕ) → IsAccepted plan → 1 ≤ capacity → HoldFew plan.kernel capacity → length plan.links ≤ ITEMS
+few_links plan capacity accepted some few =
+    let same : length few.plan.links ≡ length plan.links = ap (λ (links : List LinkInfo). length links) (same_links plan.kernel few.plan plan few.planned (record { accepted = accepted; same = refl })) in
+    let within : length plan.links * capacity ≤ ITEMS = subst (λ n. n * capacity ≤ ITEMS) same few.fact in
+    let each : length plan.links * 1 ≤ length plan.links * capacity = mul-le-mul_left (length plan.links) some in
+    omega (arith, within, each)
+
+-- ---- what a play wrote
+
+module _ (plan : PlanView) (accepted : IsAccepted plan) (flows : List (List ℤ)) (fit : AreFlowsFor plan.kernel flows) (capacity limit : ℕ) (events : List FileEvent) where
+  -- there is an end, and what is missing then
+  pub end_named : (answer : Ended) → IsEndIn (run_of plan flows capacity limit) answer → IsOfKernel plan.kernel answer.cause
+  end_named answer is =
+      let some = some_end plan accepted flows fit limit in
+      subst (λ (end : Ended). IsOfKernel plan.kernel end.cause) (sym (is some.0 some.1 some.2 some.3)) (end_there plan accepted flows limit some.0 some.1 some.2 some.3)
+
+  module _ {S : Type 0} (took : S → List ℕ → S → Type 0) (out out' : S) (wrote wrote' : ℕ) (clean : Bool) (Said : List ℕ → Type 0) (status : ℕ) where
+    -- it came to its end
+    pub wrote_whole : (answer : Ended) → IsEndIn (run_of plan flows capacity limit) answer → TookPlay took (run_of plan flows capacity limit) (map happens events) out out'
+        → IsTrue clean → Said (end_line plan.kernel answer) → status ≡ end_status answer.cause
+        → WritesPlay plan.kernel flows capacity limit events took out out' wrote wrote' clean Said status
+    wrote_whole answer is whole flushed said numbered =
+        let some = some_end plan accepted flows fit limit in
+        let begins = (after_begins (run_of plan flows capacity limit) accepted fit (map happens events) some.0 some.1 some.2 some.3).0 in
+        let same : answer ≡ some.2 = is some.0 some.1 some.2 some.3 in
+        let taken = whole some.0 some.1 some.2 some.3 begins.0 (sym begins.1) in
+        record {
+          plan = plan;
+          planned = record { accepted = accepted; same = refl };
+          trace = some.0;
+          place = some.1;
+          end = some.2;
+          ends = some.3;
+          rest = begins.0;
+          missing = sym begins.1;
+          writes = record {
+            numbers = inl (numbered ∙ ap (λ (end : Ended). end_status end.cause) same);
+            prefix = TookPrefix-whole took out out' _ taken;
+            whole = λ other. taken;
+            says = λ other. subst (λ (end : Ended). Said (end_line plan.kernel end)) same said;
+            flushed = λ other. flushed;
+            failed = λ six. absurd (no_six answer.cause (sym numbered ∙ six));
+            fault_line = λ six. absurd (no_six answer.cause (sym numbered ∙ six));
+          };
+        }
+
+    -- a write failed
+    pub wrote_part : TookPlay (TookPrefix took) (run_of plan flows capacity limit) (map happens events) out out'
+        → Rose wrote wrote' → Said write_line → status ≡ 6
+        → WritesPlay plan.kernel flows capacity limit events took out out' wrote wrote' clean Said status
+    wrote_part part rose said six =
+        let some = some_end plan accepted flows fit limit in
+        let begins = (after_begins (run_of plan flows capacity limit) accepted fit (map happens events) some.0 some.1 some.2 some.3).0 in
+        record {
+          plan = plan;
+          planned = record { accepted = accepted; same = refl };
+          trace = some.0;
+          place = some.1;
+          end = some.2;
+          ends = some.3;
+          rest = begins.0;
+          missing = sym begins.1;
+          writes = record {
+            numbers = inr six;
+            prefix = part some.0 some.1 some.2 some.3 begins.0 (sym begins.1);
+            whole = λ other. absurd (other six);
+            says = λ other. absurd (other six);
+            flushed = λ other. absurd (other six);
+            failed = λ _. rose;
+            fault_line = λ _. said;
+          };
+        }
+
+-- ---- what is promised
+
+module _ (contents : Option Contents) (before at : Option (List ℕ)) (misses misses' faults faults' : ℕ) (program flows events : List ℕ) (settings : Settings) (kernel : Kernel) (values : List (List ℤ)) (happening : List FileEvent)
+    (good : IfSome contents (λ held. FindsAccepted (held program) (Good kernel))) (few : HoldFew kernel settings.capacity)
+    (read : IfSome contents (λ held. FindsFlows (held flows) flows (inputs_of kernel) (Good values)))
+    (said : IfSome contents (λ held. FindsEvents (held events) events (Good happening))) (last : IfSome contents (λ held. at ≡ name_where_there held events)) where
+  pub performs_play : {S : Type 0} (took : S → List ℕ → S → Type 0) (out out' : S) (wrote wrote' : ℕ) (clean : Bool) (Said : List ℕ → Type 0) (status : ℕ) → took out [] out
+      → WritesPlay kernel values settings.capacity settings.instants happening took out out' wrote wrote' clean Said status ⊎ LacksMemory out out' Said status
+      → Performs (playing program flows events settings) contents before at misses misses' faults faults' took out out' wrote wrote' clean Said status
+  performs_play took out out' wrote wrote' clean Said status nothing (inl play) =
+      performs_outcome (playing program flows events settings) contents before at misses misses' faults faults' (one_play_outcome program flows events settings)
+      took out out' wrote wrote' clean Said status (played kernel (left_by play.plan values settings.capacity settings.instants happening) play.rest play.end events)
+      (inl (is_ended play.end.cause)) (inl (is_ended play.end.cause)) (inr (inl refl))
+      (reaches_end contents before at misses misses misses' faults faults faults' program flows events settings kernel good few values read happening
+      (played kernel (left_by play.plan values settings.capacity settings.instants happening) play.rest play.end events) said
+      (record {
+        plan = play.plan;
+        planned = play.planned;
+        trace = play.trace;
+        place = play.place;
+        end = play.end;
+        ends = play.ends;
+        rest = play.rest;
+        missing = play.missing;
+        is = refl;
+      })
+      refl last)
+      play.writes
+  performs_play {S} took out out' wrote wrote' clean Said status nothing (inr lacks) =
+      subst (λ (o : S). Performs (playing program flows events settings) contents before at misses misses' faults faults' took out o wrote wrote' clean Said status) (sym lacks.untouched)
+      (performs_refusal (playing program flows events settings) contents before at misses misses' faults faults' (one_play_outcome program flows events settings)
+      took out wrote wrote' clean Said status OutOfMemory nothing (play_number program flows events)
+      (stops_memory contents before at misses misses misses' faults faults faults' program flows events settings kernel good few values read last) lacks.line lacks.numbered)

@@ -1,0 +1,16 @@
+use Rattle.std.proofs.Common.{◌≤◌, ap, arith, length}
+use Rattle.std.proofs.lemmas.Option.{IfSome_then}
+use Rattle.sig_flow.specs.Events.{AreEvents}
+use Rattle.sig_outcome.proofs.Refused.{on_err, refused_data}
+use Rattle.sig_plays.specs.EventFiles.{RefusesEvents}
+use Rattle.sig_plays.proofs.event_file.load_events.Goals as goal
+
+pub returns-clause-refused : goal.returns-clause-refused
+returns-clause-refused g c =
+    IfSome_then (g.F.Files.contents c.args.files.now) c.in_ok-bytes.ensures.bytes
+    (λ held there.
+    let short : length c.in_ok-bytes.bytes.items ≤ 67108864 = omega (arith, c.in_ok-bytes.ensures.within, c.deref.ensures.len, ap length c.deref.ensures.value) in
+    on_err c.events_of.result _ _
+    (λ r is. refused_data AreEvents (RefusesEvents c.args.name.now) held c.args.name.now c.in_ok-bytes.bytes.items there (λ _ _. ⊥) short r
+    (g.F.Files.faults c.args.files.now) (g.F.Files.faults c.read_data.new.files) is)
+    (rw c.deref.ensures.value at c.events_of.ensures.refused))

@@ -1,0 +1,4 @@
+pub mod EventFiles
+pub mod Happening
+pub mod Plays
+pub mod StateLines

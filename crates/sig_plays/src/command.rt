@@ -1,0 +1,106 @@
+//! The command `play`: from the names of three files to a status.
+
+ghost use Rattle.std.specs.Prelude.{◌≡◌, ◌⊎◌, ◌≤◌, length};
+ghost use Rattle.sig_base.specs.declared.limits.TheConstants.{ITEMS};
+ghost use Rattle.sig_core.specs.Cores.{IsCore, Shows};
+ghost use Rattle.sig_kernel.specs.Validity.{AreFlowsFor};
+ghost use Rattle.sig_model.specs.Cores.{opening};
+ghost use Rattle.sig_outcome.specs.Tasks.{Performs, SaysLine};
+ghost use Rattle.sig_plan.specs.Plans.{IsAccepted};
+ghost use Rattle.sig_plays.specs.Plays.{WritesPlay, playing};
+ghost use Rattle.sig_runs.specs.Runs.{HoldFew, LacksMemory};
+
+use crate::load::{Script, load_script};
+use crate::writing::play_out;
+use sig_base::limits::INSTANTS_MAX;
+use sig_core::{Core, CoreAnswer};
+use sig_flow::FileEvent;
+use sig_kernel::Kernel;
+use sig_outcome::{refuse, say_fault, say_no_memory};
+use sig_runs::{end_status, say_end};
+use sig_text::{Files, Sink};
+use sig_words::Settings;
+use std::alloc::Global;
+
+/// Lets the events that a file holds happen at the actors of a program over its flows, one after another,
+/// writes the state that they leave, and finishes the run from there.
+pub fn play_command<F: Files, S: Sink, E: Sink>(
+    alloc: Global,
+    program: &str,
+    flows: &str,
+    events: &str,
+    settings: Settings,
+    files: &mut F,
+    out: &mut S,
+    err: &mut E,
+) -> u8
+    requires capacity { 1 ≤ settings.capacity }
+    requires instants { settings.instants ≤ INSTANTS_MAX }
+    ensures { Performs (playing program.now flows.now events.now settings)
+        (F.contents files.old) (F.at files.old) (F.at files.new)
+        (F.misses files.old) (F.misses files.new) (F.faults files.old) (F.faults files.new)
+        S.took out.old out.new (S.faults out.old) (S.faults out.new) (S.clean out.new)
+        (SaysLine E.took (E.faults err.old) (E.faults err.new) err.old err.new) result }
+{
+    match load_script(alloc, files, program, flows, events, settings.capacity) {
+        Ok(script) => play_script(alloc, &script, settings, out, err),
+        Err(refusal) => refuse(&refusal, err),
+    }
+}
+
+/// Plays what was loaded, and says on `err` how the run ended.
+fn play_script<S: Sink, E: Sink>(
+    alloc: Global,
+    script: &Script,
+    settings: Settings,
+    out: &mut S,
+    err: &mut E,
+) -> u8
+    requires fit { AreFlowsFor script.now.loaded.plan.kernel script.now.loaded.inputs }
+    requires few { HoldFew script.now.loaded.plan.kernel settings.capacity }
+    requires capacity { 1 ≤ settings.capacity }
+    requires instants { settings.instants ≤ INSTANTS_MAX }
+    ensures { WritesPlay script.now.loaded.plan.kernel script.now.loaded.inputs
+        settings.capacity settings.instants script.now.events.items
+        S.took out.old out.new (S.faults out.old) (S.faults out.new) (S.clean out.new)
+        (SaysLine E.took (E.faults err.old) (E.faults err.new) err.old err.new) result
+        ⊎ LacksMemory out.old out.new (SaysLine E.took (E.faults err.old) (E.faults err.new) err.old err.new) result }
+{
+    let (plan, inputs) = (&script.loaded.plan, &script.loaded.inputs);
+    match Core::new(alloc, plan, inputs, settings.capacity, settings.instants) {
+        Ok(mut core) => play_core(&mut core, &plan.kernel, &script.events, out, err),
+        Err(CoreAnswer::OutOfMemory) => {
+            say_no_memory(err);
+            7
+        }
+    }
+}
+
+/// Plays events at the opening of a core, and says on `err` how the run ended.
+fn play_core<S: Sink, E: Sink>(
+    core: &mut Core<'_>,
+    kernel: &Kernel,
+    events: &[FileEvent],
+    out: &mut S,
+    err: &mut E,
+) -> u8
+    requires core { IsCore core.old }
+    requires opening { Shows (opening core.old.plan.now) core.old }
+    requires accepted { IsAccepted core.old.plan.now }
+    requires links { length core.old.plan.now.links ≤ ITEMS }
+    requires kernel { kernel.now ≡ core.old.plan.now.kernel }
+    ensures { WritesPlay core.old.plan.now.kernel core.old.inputs.now core.old.capacity core.old.limit events.now
+        S.took out.old out.new (S.faults out.old) (S.faults out.new) (S.clean out.new)
+        (SaysLine E.took (E.faults err.old) (E.faults err.new) err.old err.new) result }
+{
+    match play_out(core, events, out) {
+        Ok(end) => {
+            say_end(err, kernel, end);
+            end_status(end.cause)
+        }
+        Err(fault) => {
+            say_fault(err, fault);
+            6
+        }
+    }
+}

@@ -1,0 +1,14 @@
+//! The command `play`: a program and its flows are loaded by sig_runs and the events of an event file are
+//! read by sig_flow, the events happen one after another at the core of sig_core, and the state that they
+//! leave is written before the run is finished. What the command comes to is defined in
+//! `specs/Plays.antt`. It stands on sig_outcome for what every command promises.
+#![tactic(auto)]
+
+mod command;
+mod event_file;
+mod events;
+mod load;
+mod state;
+mod writing;
+
+pub use command::play_command;

@@ -1,0 +1,58 @@
+//! The run of a plan, on this thread or with workers.
+
+ghost use Rattle.std.specs.Prelude.{◌≡◌, ◌≤◌, Err, IfOk};
+ghost use Rattle.sig_alone.specs.Runs.{IsWholeRun, TookSome};
+ghost use Rattle.sig_alone.specs.declared.answer.RunAnswer.{RunAnswer};
+ghost use Rattle.sig_kernel.specs.Validity.{AreFlowsFor};
+ghost use Rattle.sig_text.specs.Counts.{Rose};
+ghost use Rattle.sig_runs.specs.Runs.{AreWithinBounds};
+
+use sig_alone::{RunAnswer, run_alone};
+use sig_kernel::Inputs;
+use sig_plan::{Ended, Plan};
+use sig_text::{Gate, Sink};
+use sig_words::Settings;
+use sig_work::RunAnswer as WorkAnswer;
+use std::alloc::Global;
+use std::sync::Wait;
+use std::thread::Threads;
+
+/// Runs a plan over flows to its end, up to the limit of instants: without workers on this thread alone, in
+/// the compiled order, and else with the clusters on as many workers, over links of the capacity. The sink
+/// gets the text of the longest trace, and the answer is the number of its instants with the named cause;
+/// neither depends on the workers and the capacity. Where a write fails, a prefix of that text was
+/// appended. All memory is taken before the first instant.
+pub fn run_plan<R: Threads + Wait + Sync, S: Sink, G: Gate + Sync>(
+    rt: &R,
+    alloc: Global,
+    plan: &Plan,
+    inputs: &Inputs,
+    settings: Settings,
+    gate: &G,
+    sink: &mut S,
+) -> Result<Ended, RunAnswer>
+    requires fits { AreFlowsFor plan.now.kernel inputs.now }
+    requires bounds { AreWithinBounds settings }
+    ensures whole { IfOk result (IsWholeRun plan.now inputs.now settings.instants S.took sink.old sink.new) }
+    ensures prefix { result ≡ Err RunAnswer.WriteFault → TookSome plan.now inputs.now settings.instants S.took sink.old sink.new }
+    ensures failed { result ≡ Err RunAnswer.WriteFault → Rose (S.faults sink.old) (S.faults sink.new) }
+    ensures faults_stay { S.faults sink.old ≤ S.faults sink.new }
+    ensures memory { result ≡ Err RunAnswer.OutOfMemory → sink.new ≡ sink.old }
+{
+    let Settings {
+        workers,
+        capacity,
+        instants,
+        ..
+    } = settings;
+    if workers == 0 {
+        return run_alone(alloc, plan, inputs, instants, gate, sink);
+    }
+    match sig_work::run(
+        rt, alloc, plan, inputs, capacity, instants, workers, gate, sink,
+    ) {
+        Ok(end) => Ok(end),
+        Err(WorkAnswer::WriteFault) => Err(RunAnswer::WriteFault),
+        Err(WorkAnswer::OutOfMemory) => Err(RunAnswer::OutOfMemory),
+    }
+}
