@@ -12,12 +12,18 @@ use std::{env, fs, process};
 
 mod check;
 mod faults;
+mod gate;
+mod hostile;
 mod judge;
+mod limits;
+mod load;
 mod plans;
+mod play;
 mod print;
 mod refused;
 mod run;
 mod words;
+mod workers;
 
 const SUM: &[u8] = b"process SUM = (? integer A, B ! integer Y) Y := A + B;";
 
@@ -52,6 +58,20 @@ where integer AGE; boolean LATE, WAS;
   where integer ZN init 0; end;
 end;
 ";
+
+const WATCHED: &[u8] =
+    b"TICK true true true true true true true\nREQ true false false false false true false\nV 7 9";
+
+const HELD: &[u8] =
+    b"HELD 7\nALARM false\nHELD 7\nALARM false\nHELD 7\nALARM false\nHELD 7\nALARM true\nHELD 7\nALARM false\nHELD 9\nALARM false\nHELD 9\nALARM false\n";
+
+/// Two clusters that share nothing.
+const TWO: &[u8] =
+    b"process TWO = (? integer A, B ! integer Y, Z) pragmas RunOn {B, Z} \"1\" end pragmas\n(| Y := A + 1 | Z := B + 1 | A ^= B |);";
+
+/// Two clusters, of which each takes what the other sends.
+const LOOP: &[u8] =
+    b"process LOOP = (? integer A ! integer Y) pragmas RunOn {M} \"1\" end pragmas (| M := A * 2 | Y := M + A |) where integer M; end;";
 
 const TWICE: &[u8] = b"process Z = (? integer A ! integer Y) Y := A + A;";
 
@@ -98,7 +118,7 @@ fn words_of(alloc: Global, line: &[&str]) -> Result<Vec<String>, Fail> {
     Ok(words)
 }
 
-/// The status of a call with these words, which passes no gate.
+/// The status of a call with these words. One that is refused passes no gate.
 fn answer<R: Threads + Wait + Sync + Abort + AllocGlobal, F: Files, S: Sink, E: Sink>(
     rt: &R,
     line: &[&str],
@@ -109,7 +129,8 @@ fn answer<R: Threads + Wait + Sync + Abort + AllocGlobal, F: Files, S: Sink, E: 
     let words = words_of(rt.alloc(), line)?;
     let gate = Counting::new();
     let status = status_of(rt, &words, files, out, err, &gate);
-    assert_eq!(rt; gate.passes.load(Ordering::SeqCst), 0);
+    let passes = gate.passes.load(Ordering::SeqCst);
+    assert!(rt; matches!(status, 0 | 3 | 6) || passes == 0);
     Ok(status)
 }
 

@@ -6,9 +6,16 @@ use sig_alone::{RunAnswer, run_alone};
 use sig_base::SigId;
 use sig_kernel::{Flow, Inputs};
 use sig_plan::{Cause, Ended};
-use sig_text::MemSink;
+use sig_text::{Gate, MemSink};
 use std::alloc::Global;
 use std::test::Fail;
+
+/// A gate at which nobody waits.
+struct Open;
+
+impl Gate for Open {
+    fn pass(&self, _cluster: u32, _instant: u32) {}
+}
 
 /// The end of a run of `down` over these values of its input.
 fn run_of(
@@ -24,7 +31,8 @@ fn run_of(
     if !inputs.fits(&plan.kernel) {
         return Err(Fail::from("the flows do not fit"));
     }
-    Ok(run_alone(alloc, &plan, &inputs, u32::from(limit), sink))
+    let limit = u32::from(limit);
+    Ok(run_alone(alloc, &plan, &inputs, limit, &Open, sink))
 }
 
 #[test]

@@ -1,6 +1,6 @@
 //! Links by example: on one thread, and between two.
 
-ghost use Rattle.std.specs.Prelude.{◌≡◌, ◌<◌, ◌^◌, [], length};
+ghost use Rattle.std.specs.Prelude.{◌≡◌, []};
 ghost use Rattle.sig_link.specs.Ends.{put_link, take_link, sent, taken, OfOneLink};
 
 use sig_base::Full;
@@ -26,7 +26,6 @@ fn keeps_to_its_capacity(rt: HostRuntime) -> Result<(), Fail> {
 // Puts all items, each as soon as there is room.
 fn put_all<R: Wait>(rt: &R, mut put: Put, items: &[i64]) -> Put
     requires new { sent put ≡ [] }
-    requires few { length items.now < 2 ^ 32 }
     ensures end { put_link result ≡ put_link put }
     ensures all { sent result ≡ items.now }
 {
@@ -70,9 +69,7 @@ fn relay<R: Threads + Wait + Sync>(
     rt: &R,
     alloc: Global,
     items: &[i64],
-) -> Result<(Vec<i64>, u32), LinkAnswer>
-    requires { length items.now < 2 ^ 32 }
-{
+) -> Result<(Vec<i64>, u32), LinkAnswer> {
     let copy = Vec::from_elem(alloc, 0, items.len())?;
     let (put, take) = link(alloc, 2)?;
     let (put, (take, copy)) = thread::join(

@@ -102,29 +102,6 @@ fn runs_to_the_end(rt: HostRuntime) -> Result<(), Fail> {
     Ok(())
 }
 
-/// Programs of several clusters, which one thread does.
-#[test]
-fn runs_clusters(rt: HostRuntime) -> Result<(), Fail> {
-    let watched = ended(
-        b"HELD 7\nALARM false\nHELD 7\nALARM false\nHELD 7\nALARM false\nHELD 7\nALARM true\nHELD 7\nALARM false\nHELD 9\nALARM false\nHELD 9\nALARM false\n",
-        b"end: input TICK exhausted after 7 instants\n",
-    );
-    let ticks =
-        b"TICK true true true true true true true\nREQ true false false false false true false\nV 7 9";
-    run_text(&rt, WATCH, ticks, watched)?;
-    let looped = ended(
-        b"Y 3\nY 6\nY 9\n",
-        b"end: input A exhausted after 3 instants\n",
-    );
-    let program =
-        b"process LOOP = (? integer A ! integer Y) pragmas RunOn {M} \"1\" end pragmas (| M := A * 2 | Y := M + A |) where integer M; end;";
-    for workers in ["0", "1", "2", "8"] {
-        let line: &[&str] = &["run", "P", "F", "--capacity", "1", "--workers", workers];
-        run_line(&rt, line, program, b"A 1 2 3", looped)?;
-    }
-    Ok(())
-}
-
 #[test]
 fn ends_at_an_equation(rt: HostRuntime) -> Result<(), Fail> {
     let quotients =
@@ -183,7 +160,8 @@ fn ends_at_the_limit(rt: HostRuntime) -> Result<(), Fail> {
     let mut files = files_of(rt.alloc(), TWICE, &flows)?;
     let mut out = MemSink::new(rt.alloc(), 4_000_000)?;
     let mut err = MemSink::new(rt.alloc(), 200)?;
-    let status = answer(&rt, &["run", "P", "F"], &mut files, &mut out, &mut err)?;
+    let line: &[&str] = &["run", "P", "F", "--workers", "0"];
+    let status = answer(&rt, line, &mut files, &mut out, &mut err)?;
     assert_eq!(rt; status, 0);
     assert_eq!(rt;
         err.bytes(),
