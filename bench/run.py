@@ -1,15 +1,21 @@
 #!/usr/bin/env python3
-"""run.py SIGC: how long a run takes, beside a plain C program written by hand for the same job.
+"""run.py SIGC: how long a run takes, beside a plain C program written by hand for the same job, and with workers.
 
-Runs `SIGC run` on a sum, a thermostat, a watchdog (1,000,000 instants each) and the generated program of 12 stages
-(200,000 instants), files and text included, and bench/run.c, compiled by gcc -O2, on the same flows. The texts are compared.
-Prints of each the least processor time of five runs, their ratio, the time of an instant and the peak memory.
+Runs `SIGC run --workers 0` on a sum, a thermostat, a watchdog (1,000,000 instants each) and the generated program of 12
+stages (200,000 instants), files and text included, and bench/run.c, compiled by gcc -O2, on the same flows. The texts are
+compared. Prints of each the least processor time of five runs, their ratio, the time of an instant and the peak memory.
+
+Then it runs the 12 stages and a program of four clusters of 64 operations each with 0, 1, 2 and 4 workers, compares the texts,
+and prints the least wall time of five runs, its ratio to that of 0 workers, and the processor time. Last it runs a program
+that hands 32 signals from one cluster to another, and the same in one cluster, with 1 and 2 workers: the difference of the
+two wall times, for one signal and instant, is what an item of a link costs.
 """
 import os
 import random
 import subprocess
 import sys
 import tempfile
+import time
 
 from check import stages
 
@@ -17,6 +23,9 @@ HERE = os.path.dirname(os.path.abspath(__file__))
 EXAMPLES = os.path.join(HERE, "..", "examples")
 INSTANTS = 1_000_000
 STAGES = 12
+CLUSTERS = 4
+OPERATIONS = 64
+HANDED = 32
 ROUNDS = 5
 
 
@@ -48,6 +57,43 @@ def stages_flows(draws):
     return flows
 
 
+def heavy():
+    """Clusters that share nothing but their clock, each with a chain of sums."""
+    name = lambda i, j: f"X{i}n{j}" if j else f"A{i}"
+    clusters = range(CLUSTERS)
+    inputs, outputs = ", ".join(f"A{i}" for i in clusters), ", ".join(name(i, OPERATIONS) for i in clusters)
+    pragmas = "\n".join(
+        f'RunOn {{{", ".join(name(i, j) for j in range(OPERATIONS + 1))}}} "{i}"' for i in clusters
+    )
+    sums = "\n | ".join(f"{name(i, j)} := {name(i, j - 1)} + {j}" for i in clusters for j in range(1, OPERATIONS + 1))
+    locals_ = ", ".join(name(i, j) for i in clusters for j in range(1, OPERATIONS))
+    clock = " ^= ".join(f"A{i}" for i in clusters)
+    return (
+        f"process HEAVY = (? integer {inputs} ! integer {outputs})\npragmas\n{pragmas}\nend pragmas\n"
+        f"(| {sums}\n | {clock}\n |)\nwhere integer {locals_}; end;\n"
+    )
+
+
+def heavy_flows(draws):
+    return {f"A{i}": [str(draws.randrange(1000)) for _ in range(INSTANTS // 5)] for i in range(CLUSTERS)}
+
+
+def handing(apart):
+    """Signals of which a cluster takes each from another, or from itself."""
+    numbers = range(1, HANDED + 1)
+    taken = ", ".join(f"Z{i}" for i in numbers)
+    pragma = f'pragmas RunOn {{Y, {taken}}} "1" end pragmas\n' if apart else ""
+    sums = "\n | ".join(f"X{i} := A + {i} | Z{i} := X{i} + 1" for i in numbers)
+    return (
+        f"process HAND = (? integer A ! integer Y)\n{pragma}(| {sums}\n | Y := {' + '.join(f'Z{i}' for i in numbers)}\n |)\n"
+        f"where integer {', '.join(f'X{i}' for i in numbers)}, {taken}; end;\n"
+    )
+
+
+def handing_flows(draws):
+    return {"A": [str(draws.randrange(1000)) for _ in range(INSTANTS // 5)]}
+
+
 def example(name):
     with open(os.path.join(EXAMPLES, name + ".sig"), encoding="ascii") as file:
         return file.read()
@@ -62,16 +108,18 @@ PROGRAMS = {
 
 
 def measured(words, folder, text):
-    """The least processor time of several runs in seconds, and the peak memory in MB."""
-    times, peak = [], 0
+    """The least processor time and the least wall time of several runs in seconds, and the peak memory in MB."""
+    times, walls, peak = [], [], 0
     for _ in range(ROUNDS):
         with open(os.path.join(folder, text), "wb") as out:
+            begun = time.monotonic()
             child = subprocess.Popen(words, cwd=folder, stdout=out, stderr=subprocess.DEVNULL)
             _, status, usage = os.wait4(child.pid, 0)
+            walls.append(time.monotonic() - begun)
         assert status == 0, words
         times.append(usage.ru_utime + usage.ru_stime)
         peak = max(peak, usage.ru_maxrss)
-    return min(times), peak / 1024
+    return min(times), min(walls), peak / 1024
 
 
 def read(folder, name):
@@ -79,25 +127,64 @@ def read(folder, name):
         return file.read()
 
 
+def put_files(folder, program, made):
+    """Writes the two files of a run, and tells how many instants it has."""
+    with open(os.path.join(folder, "program.sig"), "w", encoding="ascii") as file:
+        file.write(program)
+    with open(os.path.join(folder, "flows"), "w", encoding="ascii") as file:
+        file.writelines(f"{name} {' '.join(values)}\n" for name, values in made.items())
+    return max(map(len, made.values()))
+
+
+def run_words(sigc, workers):
+    return [sigc, "run", "program.sig", "flows", "--workers", str(workers)]
+
+
+def beside_c(sigc, plain_program, folder):
+    for name, (program, flows) in PROGRAMS.items():
+        instants = put_files(folder, program(), flows(random.Random(1)))
+        own, _, peak = measured(run_words(sigc, 0), folder, "own")
+        plain, _, plain_peak = measured([plain_program, name, "flows"], folder, "plain")
+        assert read(folder, "own") == read(folder, "plain"), f"{name}: the texts differ"
+        print(
+            f"{name}: sigc {own:.3f} s ({1e9 * own / instants:.0f} ns an instant, {peak:.0f} MB), "
+            f"C {plain:.3f} s ({plain_peak:.0f} MB), ratio {own / plain:.2f}"
+        )
+
+
+def with_workers(sigc, folder):
+    for name, program, flows in (("stages", stages(STAGES), stages_flows), ("heavy", heavy(), heavy_flows)):
+        instants = put_files(folder, program, flows(random.Random(1)))
+        alone = None
+        for workers in (0, 1, 2, 4):
+            spent, wall, _ = measured(run_words(sigc, workers), folder, str(workers))
+            assert read(folder, str(workers)) == read(folder, "0"), f"{name}: the texts differ"
+            alone = alone or wall
+            print(
+                f"{name}, {workers} workers: wall {wall:.3f} s ({1e9 * wall / instants:.0f} ns an instant), "
+                f"ratio {wall / alone:.2f}, processors {spent:.3f} s"
+            )
+
+
+def items(sigc, folder):
+    walls = {}
+    for apart in (False, True):
+        instants = put_files(folder, handing(apart), handing_flows(random.Random(1)))
+        for workers in (1, 2):
+            _, walls[apart, workers], _ = measured(run_words(sigc, workers), folder, "own")
+    for workers in (1, 2):
+        cost = (walls[True, workers] - walls[False, workers]) / (instants * HANDED)
+        print(f"an item of a link, {workers} workers: {1e9 * cost:.0f} ns")
+
+
 def main():
     sigc = os.path.abspath(sys.argv[1])
     with tempfile.TemporaryDirectory() as folder:
         plain_program = os.path.join(folder, "plain-run")
         subprocess.run(["gcc", "-O2", "-o", plain_program, os.path.join(HERE, "run.c")], check=True)
-        for name, (program, flows) in PROGRAMS.items():
-            with open(os.path.join(folder, "program.sig"), "w", encoding="ascii") as file:
-                file.write(program())
-            made = flows(random.Random(1))
-            with open(os.path.join(folder, "flows"), "w", encoding="ascii") as file:
-                file.writelines(f"{input} {' '.join(values)}\n" for input, values in made.items())
-            own, peak = measured([sigc, "run", "program.sig", "flows"], folder, "own")
-            plain, plain_peak = measured([plain_program, name, "flows"], folder, "plain")
-            assert read(folder, "own") == read(folder, "plain"), f"{name}: the texts differ"
-            instants = max(map(len, made.values()))
-            print(
-                f"{name}: sigc {own:.3f} s ({1e9 * own / instants:.0f} ns an instant, {peak:.0f} MB), "
-                f"C {plain:.3f} s ({plain_peak:.0f} MB), ratio {own / plain:.2f}"
-            )
+        beside_c(sigc, plain_program, folder)
+        with_workers(sigc, folder)
+        items(sigc, folder)
 
 
 if __name__ == "__main__":
