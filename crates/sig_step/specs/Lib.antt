@@ -1,4 +1,5 @@
 pub mod Acting
+pub mod GoingOn
 pub mod LinkEnds
 pub mod Moving
 pub mod States

@@ -20,6 +20,7 @@ use std::sync::ledger::Ledger;
 impl ClusterState {
     /// Whether the guard of the next step's slot holds. It is walked once in an instant at most, and only
     /// where that of its parent holds.
+    #[inline(always)]
     pub(crate) fn holds<L: Ledger>(
         &mut self,
         plan: &Plan,
@@ -49,6 +50,7 @@ impl ClusterState {
     }
 
     /// The slot of a number in the actor's code.
+    #[inline(always)]
     fn slot_at(&self, plan: &Plan, number: u32) -> Slot
         requires actor { self.now.actor < length plan.now.codes }
         requires number { number < length (code_of plan.now self.now.actor).slots }
@@ -58,6 +60,7 @@ impl ClusterState {
     }
 
     /// Whether the guard of a slot holds, where that is known in this instant.
+    #[inline(always)]
     fn known(&self, number: u32) -> Option<bool>
         ensures { result ≡ known_in (instant_of self.now.values) (slice_get self.now.marks.items number) }
     {
@@ -68,6 +71,7 @@ impl ClusterState {
     }
 
     /// Notes in this instant whether the guard of a slot holds.
+    #[inline(always)]
     fn note(&mut self, number: u32, holds: bool)
         requires { number < length self.old.marks.items }
         ensures marks { self.new.marks.items ≡ slice_set self.old.marks.items number (record { instant = instant_of self.old.values; holds = holds }) }
@@ -78,6 +82,7 @@ impl ClusterState {
     }
 
     /// Walks a guard, where that of its parent holds.
+    #[inline(always)]
     fn walk<L: Ledger>(&self, plan: &Plan, slot: Slot, steps: &mut Steps<L>) -> bool
         requires held { Holds plan.now.store.nodes slot.guard }
         requires needs { (v : ℕ) → Depends (test plan.now.store.nodes slot.guard) v → v < length (conditions_in self.now.values) }
@@ -90,6 +95,7 @@ impl ClusterState {
     }
 
     /// Whether the guard of the parent holds, where there is one.
+    #[inline(always)]
     fn parent_holds(&self, parent: Option<u32>) -> bool
         ensures { result ≡ parent_holds self.now parent }
     {
@@ -99,6 +105,7 @@ impl ClusterState {
         }
     }
 
+    #[inline(always)]
     fn mark_holds(&self, number: u32) -> bool
         ensures { result ≡ mark_holds (slice_get self.now.marks.items number) }
     {

@@ -5,6 +5,7 @@
 mod answer;
 mod cause;
 mod ends;
+mod going_on;
 mod guards;
 mod making;
 mod moving;

@@ -11,6 +11,7 @@ use crate::state::ClusterState;
 use sig_plan::{Plan, Step};
 
 /// The position of a step, 0 where there is none.
+#[inline(always)]
 pub(crate) fn position_of(steps: &[Step], number: u32) -> u32
     ensures { result ≡ position_of (slice_get steps.now number) }
 {
@@ -22,6 +23,7 @@ pub(crate) fn position_of(steps: &[Step], number: u32) -> u32
 
 impl ClusterState {
     /// Goes to the next step, or to the first one of the next instant.
+    #[inline(always)]
     pub(crate) fn move_on(&mut self, plan: &Plan)
         requires { (flows : List (List ℤ)) × MayGoOn plan.now flows self.old }
         ensures moves { MovesOn plan.now self.old self.new }
@@ -33,6 +35,7 @@ impl ClusterState {
     }
 
     /// Goes on among so many steps.
+    #[inline(always)]
     fn advance(&mut self, count: usize)
         requires step { self.old.step < count }
         requires short { count < 2 ^ 32 }

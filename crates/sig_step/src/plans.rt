@@ -35,6 +35,7 @@ pub(crate) fn ops_of(plan: &Plan) -> &[Op]
 }
 
 /// The code of an actor.
+#[inline(always)]
 pub(crate) fn code_at(plan: &Plan, actor: u32) -> &Code
     requires { actor < length plan.now.codes }
     ensures { result.now ≡ code_of plan.now actor }
@@ -43,6 +44,7 @@ pub(crate) fn code_at(plan: &Plan, actor: u32) -> &Code
 }
 
 /// The signal that a link carries, where it carries one.
+#[inline(always)]
 pub(crate) fn carried(plan: &Plan, link: u32) -> Option<SigId>
     ensures { result ≡ carried plan.now.links link }
 {

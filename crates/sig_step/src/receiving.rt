@@ -19,6 +19,7 @@ use sig_plan::Plan;
 impl ClusterState {
     /// Takes an item from a link into the register of a signal, where there is one, and goes on once the
     /// link has given it.
+    #[inline(always)]
     pub(crate) fn receive<E: Ends>(
         &mut self,
         plan: &Plan,

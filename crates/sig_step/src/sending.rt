@@ -17,6 +17,7 @@ use sig_plan::Plan;
 
 impl ClusterState {
     /// The item of a link that carries this signal, or a report.
+    #[inline(always)]
     pub(crate) fn item(&self, signal: Option<SigId>) -> i64
         ensures { result ≡ item_of (seen_in self.now.values) signal }
     {
@@ -27,6 +28,7 @@ impl ClusterState {
     }
 
     /// Sends an item on a link, and goes on once the link has taken it.
+    #[inline(always)]
     pub(crate) fn send<E: Ends>(
         &mut self,
         plan: &Plan,

@@ -82,6 +82,7 @@ impl ClusterState {
     }
 
     /// The steps of the actor's code.
+    #[inline(always)]
     pub(crate) fn code<'a>(&self, plan: &'a Plan) -> &'a [Step]
         requires { self.now.actor < length plan.now.codes }
         ensures { result.now ≡ (code_of plan.now self.now.actor).steps }
@@ -90,6 +91,7 @@ impl ClusterState {
     }
 
     /// The actor's next step.
+    #[inline(always)]
     pub(crate) fn next_step(&self, plan: &Plan) -> Step
         requires actor { self.now.actor < length plan.now.codes }
         requires step { self.now.step < length (code_of plan.now self.now.actor).steps }

@@ -21,6 +21,7 @@ impl ClusterState {
     /// Does the next step of the actor, with its link ends, and counts the nodes that walks of guards
     /// visit. A guard is walked once in an instant at most, and only where that of its parent holds. It
     /// takes no memory.
+    #[inline(always)]
     pub fn act<E: Ends, L: Ledger>(
         &mut self,
         plan: &Plan,
@@ -50,6 +51,7 @@ impl ClusterState {
     }
 
     /// Does the next step within the limit.
+    #[inline(always)]
     fn take_step<E: Ends, L: Ledger>(
         &mut self,
         plan: &Plan,
@@ -77,6 +79,7 @@ impl ClusterState {
     }
 
     /// Does a step whose guard holds, and passes over another.
+    #[inline(always)]
     fn do_or_pass<E: Ends>(
         &mut self,
         plan: &Plan,
@@ -105,6 +108,7 @@ impl ClusterState {
     }
 
     /// Does a step whose guard holds.
+    #[inline(always)]
     fn perform<E: Ends>(
         &mut self,
         plan: &Plan,

@@ -1,0 +1,41 @@
+use Rattle.std.proofs.Common.{◌∙◌}
+use Rattle.sig_step.proofs.Several.{one_more, same_actor_then, the_last}
+use Rattle.sig_step.proofs.state.ClusterState.act_on.Goals as goal
+
+pub returns-then-not-is_amid-clause-steps : goal.returns-then-not-is_amid-clause-steps
+returns-then-not-is_amid-clause-steps g c =
+    the_last g.E.Ends.past g.E.Ends.queues g.E.Ends.same c.args.plan.now c.args.inputs.now c.args.self.now c.loop.self c.act-acted.new.self c.args.ends.now c.loop.ends c.act-acted.new.ends
+    c.args.steps.now c.loop.steps c.act-acted.new.steps c.act-acted.result c.loop.invariant.done (record {
+      state = c.act-acted.ensures.state;
+      actor = c.act-acted.ensures.same;
+      takes = c.act-acted.ensures.turn;
+      ends = c.act-acted.ensures.ends;
+      counts = c.act-acted.ensures.counts;
+    })
+
+pub loop-preserved : goal.loop-preserved
+loop-preserved g c = record {
+  done = one_more g.E.Ends.past g.E.Ends.queues g.E.Ends.same c.args.plan.now c.args.inputs.now c.args.self.now c.loop.self c.act-acted.new.self c.args.ends.now c.loop.ends c.act-acted.new.ends
+      c.args.steps.now c.loop.steps c.act-acted.new.steps c.act-acted.result (c.is_amid.ensures c.if-not-is_amid.false) c.loop.invariant.done (record {
+        state = c.act-acted.ensures.state;
+        actor = c.act-acted.ensures.same;
+        takes = c.act-acted.ensures.turn;
+        ends = c.act-acted.ensures.ends;
+        counts = c.act-acted.ensures.counts;
+      });
+  state = c.act-acted.ensures.state;
+  same = same_actor_then c.args.self.now c.loop.self c.act-acted.new.self c.loop.invariant.same c.act-acted.ensures.same;
+  pushes = c.act-acted.ensures.pushes ∙ c.loop.invariant.pushes;
+  pops = c.act-acted.ensures.pops ∙ c.loop.invariant.pops;
+}
+
+pub returns-clause-steps : goal.returns-clause-steps
+returns-clause-steps g c =
+    the_last g.E.Ends.past g.E.Ends.queues g.E.Ends.same c.args.plan.now c.args.inputs.now c.args.self.now c.loop.self c.act.new.self c.args.ends.now c.loop.ends c.act.new.ends
+    c.args.steps.now c.loop.steps c.act.new.steps c.act.result c.loop.invariant.done (record {
+      state = c.act.ensures.state;
+      actor = c.act.ensures.same;
+      takes = c.act.ensures.turn;
+      ends = c.act.ensures.ends;
+      counts = c.act.ensures.counts;
+    })
