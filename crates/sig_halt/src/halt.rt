@@ -5,6 +5,7 @@ ghost use Rattle.sig_halt.specs.declared.halt.HaltAnswer.TheVariants.{OutOfMemor
 
 use super::halt_seat::HaltSeat;
 use super::rule::Word;
+use crossbeam_utils::sync::EventCount;
 use std::alloc::{AllocError, Global};
 use thiserror::Error;
 
@@ -28,6 +29,8 @@ impl From<AllocError> for HaltAnswer {
 #[derive(Drop)]
 pub struct Halt {
     pub(crate) table: Word,
+    /// Where threads rest that find nothing to do.
+    pub(crate) resting: EventCount,
     ghost one_word: { table.shared.table_id.words ≡ 1 },
     ghost no_slots: { table.shared.table_id.slots ≡ 0 },
 }
@@ -46,7 +49,8 @@ impl Halt {
         ensures none { IfOk result (λ made. (recorded made.1 ≡ no_place) × (seen made.1 ≡ no_place)) }
     {
         let (table, seat) = Word::of_words(alloc, &[u64::MAX], &parts)?;
-        Ok((Halt { table }, HaltSeat { seat }))
+        let resting = EventCount::new();
+        Ok((Halt { table, resting }, HaltSeat { seat }))
     }
 
     /// The last word, with the seat that holds all parts: the least packed place that this seat and

@@ -6,6 +6,8 @@ ghost use Rattle.sig_halt.specs.Seats.{parts, IsSeatOf};
 use sig_base::Place;
 use sig_halt::{Halt, HaltAnswer, HaltSeat};
 use std::alloc::Global;
+use std::sync::Wait;
+use std::sync::atomic::{AtomicBool, Ordering};
 use std::test::Fail;
 use std::thread;
 use std::thread::Threads;
@@ -61,5 +63,50 @@ fn least_of_two<R: Threads + Sync>(rt: &R, alloc: Global) -> Result<u64, HaltAns
 fn two_threads_record_in_one_word(rt: HostRuntime) -> Result<(), Fail> {
     let least = least_of_two(&rt, rt.alloc())?;
     assert_eq!(rt; Place::unpack(least), Place { instant: 2, pos: 9 });
+    Ok(())
+}
+
+#[test]
+fn a_rest_ends_behind_a_wake(rt: HostRuntime) -> Result<(), Fail> {
+    let (halt, _seat) = Halt::new(rt.alloc(), 1)?;
+    let rest = halt.rest();
+    halt.wake();
+    rest.sleep(&rt);
+    Ok(())
+}
+
+// Sleeps until it is woken, and tells so.
+fn sleep_once<R: Wait>(rt: &R, halt: &Halt, woken: &AtomicBool) {
+    halt.rest().sleep(rt);
+    woken.store(true, Ordering::SeqCst);
+}
+
+// Wakes until the other thread has told that it is woken.
+fn wake_it<R: Wait>(rt: &R, halt: &Halt, woken: &AtomicBool) {
+    for _ in rt.forever() {
+        if woken.load(Ordering::SeqCst) {
+            break;
+        }
+        halt.wake();
+        thread::yield_now();
+    }
+}
+
+// Whether a thread that slept was woken.
+fn was_woken<R: Threads + Wait + Sync>(rt: &R, alloc: Global) -> Result<bool, HaltAnswer> {
+    let (word, _seat) = Halt::new(alloc, 1)?;
+    let flag = AtomicBool::new(false);
+    let (halt, woken) = (&word, &flag);
+    thread::join(
+        rt,
+        move || sleep_once(rt, halt, woken),
+        move || wake_it(rt, halt, woken),
+    );
+    Ok(flag.load(Ordering::SeqCst))
+}
+
+#[test]
+fn a_thread_that_sleeps_is_woken(rt: HostRuntime) -> Result<(), Fail> {
+    assert!(rt; was_woken(&rt, rt.alloc())?);
     Ok(())
 }
