@@ -15,6 +15,9 @@ use sig_text::Gate;
 use std::sync::Wait;
 use std::sync::ledger::{Blank, Ledger};
 
+/// How many steps of an instant an actor does at once, but the first.
+const MORE_AT_ONCE: u32 = 255;
+
 impl Member {
     /// Passes the gate where the actor is a cluster that came to an instant.
     pub(crate) fn pass<G: Gate>(&mut self, plan: &Plan, gate: &G)
@@ -31,7 +34,7 @@ impl Member {
         }
     }
 
-    /// Does the actor's next step.
+    /// Does the actor's next steps of one instant.
     pub(crate) fn act<R: Wait, L: Ledger>(
         &mut self,
         rt: &R,
@@ -54,7 +57,9 @@ impl Member {
             rt,
             ends: self.ends.take(),
         };
-        let acted = self.state.act(plan, inputs, &mut lent, &mut steps);
+        let acted = self
+            .state
+            .act_on(plan, inputs, &mut lent, &mut steps, MORE_AT_ONCE);
         self.ends = lent.ends;
         acted
     }

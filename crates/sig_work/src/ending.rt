@@ -15,8 +15,9 @@ use sig_base::Place;
 use sig_halt::{Halt, HaltSeat};
 
 impl Member {
-    /// Looks at the failure word, which ends the actor where it is before its next place.
-    pub(crate) fn rest(&mut self, halt: &Halt, seat: &mut HaltSeat) -> Round
+    /// What a refusal of a link comes to, where this was the actor's step a stretch ago. Where it did no step
+    /// since, it looks at the failure word, which ends it where that is before its next place.
+    pub(crate) fn rest(&mut self, step: u32, halt: &Halt, seat: &mut HaltSeat) -> Round
         requires word { IsSeatOf halt.now seat.old }
         ensures keeps { KeepsMember self.old self.new }
         ensures seat { KeepsSeat seat.old seat.new }
@@ -24,9 +25,13 @@ impl Member {
         ensures served { (given : Given) (others : ℕ) (committed : List Reaction) → IsServed given halt.now others committed self.old seat.old
             → IsServed given halt.now others committed self.new seat.new }
     {
+        if self.state.step() != step {
+            return Round::Moved;
+        }
         let word = seat.look(halt);
         if self.state.look(word) {
             self.ending = Some(Ending::Looked);
+            halt.wake();
             return Round::Ended;
         }
         Round::Still
@@ -42,6 +47,7 @@ impl Member {
     {
         seat.fail(halt, place);
         self.ending = Some(Ending::Failed(place));
+        halt.wake();
     }
 
     /// Ends the actor where it runs, since the sink failed: by a look at a word below all places.

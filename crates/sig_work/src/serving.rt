@@ -42,9 +42,13 @@ pub fn serve<R: Wait, S: Sink, G: Gate>(
     ensures faults_stay { S.faults sink.old ≤ S.faults sink.new }
 {
     match serve_on(rt, plan, inputs, halt, shares, gate, sink) {
-        Ok(()) => Ok(()),
+        Ok(()) => {
+            halt.wake();
+            Ok(())
+        }
         Err(fault) => {
             stop_all(halt, shares);
+            halt.wake();
             Err(fault)
         }
     }
@@ -68,11 +72,11 @@ fn serve_on<R: Wait, S: Sink, G: Gate>(
     ensures failed { OnErr result (Rose (S.faults sink.old) (S.faults sink.new)) }
     ensures faults_stay { S.faults sink.old ≤ S.faults sink.new }
 {
-    let mut patience = Patience::new();
+    let mut patience = Patience::new(halt);
     'rounds: for _ in rt.forever() {
         match serve_round(rt, plan, inputs, halt, shares, gate, sink)? {
             Round::Ended => return Ok(()),
-            Round::Still => patience.wait(),
+            Round::Still => patience.wait(rt),
             Round::Moved => patience.renew(),
         }
     }

@@ -17,8 +17,8 @@ use std::marker::Brand;
 use std::sync::Wait;
 use std::sync::ledger::Blank;
 
-/// How many steps an actor does before others get their turn.
-const STEPS_IN_TURN: u32 = 256;
+/// How many stretches of steps, each within one instant, an actor does before others get their turn.
+const STRETCHES_IN_TURN: u32 = 256;
 
 impl Member {
     /// Does steps of the actor until a link refuses, it ends, or it did its share of them. It passes the
@@ -43,7 +43,7 @@ impl Member {
         ensures faults_stay { S.faults sink.old ≤ S.faults sink.new }
     {
         let mut round = Round::Still;
-        for _ in 0..STEPS_IN_TURN {
+        for _ in 0..STRETCHES_IN_TURN {
             match self.turn(rt, plan, inputs, halt, seat, gate, sink)? {
                 Round::Moved => round = Round::Moved,
                 Round::Still => break,
@@ -53,7 +53,8 @@ impl Member {
         Ok(round)
     }
 
-    /// Does the actor's next step, and notes what it came to. Where a link refused it looks at the word.
+    /// Does the actor's next steps within an instant, and notes what the last of them came to. Where a link
+    /// refused it looks at the word.
     fn turn<R: Wait, S: Sink, G: Gate>(
         &mut self,
         rt: &R,
@@ -100,19 +101,21 @@ impl Member {
         ensures failed { OnErr result (Rose (S.faults sink.old) (S.faults sink.new)) }
         ensures faults_stay { S.faults sink.old ≤ S.faults sink.new }
     {
+        let step = self.state.step();
         match self.act::<R, Brand>(rt, plan, inputs, Blank::new(1)) {
             Acted::Done => Ok(Round::Moved),
             Acted::Commit => {
                 self.state.put_reaction(plan, sink)?;
                 Ok(Round::Moved)
             }
-            Acted::Empty(_) | Acted::Full(_) => Ok(self.rest(halt, seat)),
+            Acted::Empty(_) | Acted::Full(_) => Ok(self.rest(step, halt, seat)),
             Acted::Failed(place) => {
                 self.fail(halt, seat, place);
                 Ok(Round::Ended)
             }
             Acted::AtLimit => {
                 self.ending = Some(Ending::AtLimit);
+                halt.wake();
                 Ok(Round::Ended)
             }
             Acted::Stopped => Ok(Round::Ended),
