@@ -1,3 +1,4 @@
 pub mod Verdicts
 pub mod OneCompiling
 pub mod Rooms
+pub mod Complete

@@ -51,10 +51,10 @@ compile_number program OutOfMemory about = inr (inr (inr (inr (inl refl))))
 
 -- ---- the canonical text
 
-no_text_line : (bytes l m : List ℕ) → RefusesText bytes l → RefusesText bytes m → l ≡ m
+pub no_text_line : (bytes l m : List ℕ) → RefusesText bytes l → RefusesText bytes m → l ≡ m
 no_text_line bytes l m x y = x.says ∙ ap front_line (refusal_once bytes x.answer y.answer x.none y.none) ∙ sym y.says
 
-text_apart : (bytes : List ℕ) (tree : List ProcessModel) (l : List ℕ) → IsText bytes tree → RefusesText bytes l → ⊥
+pub text_apart : (bytes : List ℕ) (tree : List ProcessModel) (l : List ℕ) → IsText bytes tree → RefusesText bytes l → ⊥
 text_apart bytes tree l says refuses = tree_or_refusal bytes tree refuses.answer says refuses.none
 
 pub one_print_outcome : (program : List ℕ) (held : Contents) → OneAtMost (PrintComesTo held program)

@@ -1,10 +1,42 @@
 //! What is so of every program.
 
 ghost use Rattle.std.specs.Prelude.{◌≡◌, ℕ, List};
+ghost use Rattle.sig_text.specs.Files.{Contents};
+ghost use Rattle.sig_code.specs.Texts.{IsCodeText};
+ghost use Rattle.sig_plan.specs.Plans.{IsAccepted, PlanView};
+ghost use Rattle.sig_print.specs.Canonical.{canonical_text};
+ghost use Rattle.sig_outcome.specs.Outcomes.{Outcome, WritesDue, done};
 ghost use Rattle.sig_compile.specs.Acceptance.{IsAcceptedProgram, IsRefusedProgram};
+ghost use Rattle.sig_compile.specs.Compiling.{CompileComesTo, IsDueOf, IsVerdictText};
+ghost use Rattle.sig_compile.specs.Complete.{CanCompile, CanPrint};
+ghost use Rattle.sig_compile.specs.Printing.{PrintComesTo};
+ghost use Rattle.sig_compile.specs.declared.product.Product.{Product};
 
 /// A law: no program is both accepted and refused, and a refused one has one line.
 pub fn one_verdict()
     ensures apart { (bytes line : List ℕ) → IsAcceptedProgram bytes → IsRefusedProgram bytes line → ⊥ }
     ensures one { (bytes line other : List ℕ) → IsRefusedProgram bytes line → IsRefusedProgram bytes other → line ≡ other }
+{}
+
+/// A law: a program that is accepted is compiled. Whatever its compiling comes to has the text that is due
+/// of its kernel, with status 0. The verdict is there, and where its kernel has a plan, so is the code.
+pub fn good_programs_compile()
+    ensures only { (held : Contents) (program : List ℕ) → (can : CanCompile held program)
+        → (product : Product) (o : Outcome) → CompileComesTo (IsDueOf product) held program o
+        → WritesDue (IsDueOf product can.kernel) program o }
+    ensures status { (held : Contents) (program : List ℕ) → CanCompile held program
+        → (product : Product) (o : Outcome) → CompileComesTo (IsDueOf product) held program o → o.status ≡ 0 }
+    ensures verdict { (held : Contents) (program : List ℕ) → CanCompile held program
+        → (o : Outcome) × CompileComesTo IsVerdictText held program o }
+    ensures code { (held : Contents) (program : List ℕ) → (can : CanCompile held program)
+        → (plan : PlanView) → IsAccepted plan → plan.kernel ≡ can.kernel
+        → (o : Outcome) × CompileComesTo IsCodeText held program o }
+{}
+
+/// A law: a program whose text has a tree is printed, as its canonical text and as nothing else.
+pub fn good_texts_print()
+    ensures only { (held : Contents) (program : List ℕ) → (can : CanPrint held program)
+        → (o : Outcome) → PrintComesTo held program o → o ≡ done (canonical_text can.tree) program }
+    ensures some { (held : Contents) (program : List ℕ) → (can : CanPrint held program)
+        → PrintComesTo held program (done (canonical_text can.tree) program) }
 {}

@@ -1,3 +1,4 @@
+pub mod Complete
 pub mod OneLoad
 mod Stopped
 mod Counted

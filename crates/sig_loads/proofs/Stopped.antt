@@ -16,6 +16,7 @@ use Rattle.sig_compile.specs.Acceptance.{AreRefused}
 use Rattle.sig_compile.specs.Compiling.{IsBeyondBound, LacksNodes}
 use Rattle.sig_compile.proofs.Rooms.{plan_line}
 use Rattle.sig_runs.specs.Runs.{HoldFew, HoldTooMany, RefusesFlows}
+use Rattle.sig_runs.proofs.FlowLines.{flow_line}
 use Rattle.sig_words.specs.declared.command.Settings.{Settings}
 use Rattle.sig_loads.specs.Loads.{IsLoadStatus, IsShortProgram, LoadComesTo}
 use Rattle.sig_loads.specs.Refusals.{IsAboutLoad, IsOfFlowsText, IsOfProgramText, flows_name}
@@ -117,7 +118,7 @@ module _ (seed stages capacity : ℕ) where
       about_flows (Budget nodes) of = absurd of
       about_flows TooManyItems of = tt
       about_flows (LongFile name) of = of.0
-      about_flows (Data line) of = (of.1.answer, of.1.says)
+      about_flows (Data line) of = flow_line flows_name (inputs_of kernel) (flows seed stages) (string_bytes line) of.1
       about_flows OutOfMemory of = tt
 
       no_budget : (r : Refusal) → IsOfFlowsText kernel (flows seed stages) r → status_of r ≡ 8 → IsBeyondBound (program stages)

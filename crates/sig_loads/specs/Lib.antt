@@ -1,3 +1,4 @@
+pub mod Complete
 pub mod Loads
 pub mod Refusals
 pub mod Stopping

@@ -1,14 +1,13 @@
 -- The refusals of generated texts.
 use Rattle.std.specs.Prelude.{◌≡◌, ◌≤◌, ◌<◌, ⊤, ℕ, List, codes, length, string_bytes}
 use Rattle.sig_base.specs.declared.limits.TheConstants.{FLOW_BYTES, PROGRAM_BYTES}
-use Rattle.sig_flow.specs.declared.answer.FlowAnswer.{FlowAnswer}
 use Rattle.sig_kernel.specs.Validity.{inputs_of}
 use Rattle.sig_kernel.specs.declared.kernel.Kernel.{Kernel}
 use Rattle.sig_outcome.specs.declared.refusal.Refusal.{Refusal}
 use Rattle.sig_outcome.specs.declared.refusal.Refusal.TheVariants.{Missing, ReadFault, LongProgram, Program, Budget, TooManyItems, LongFile, Data, OutOfMemory}
 use Rattle.sig_compile.specs.Acceptance.{AreRefused}
 use Rattle.sig_compile.specs.Compiling.{IsBudget, IsPlanLine, LacksNodes}
-use Rattle.sig_runs.specs.Runs.{RefusesFlows, bad_flows}
+use Rattle.sig_runs.specs.Runs.{IsFlowLine, RefusesFlows}
 
 -- the name by which a refusal calls the generated flows
 abbrev pub flows_name : List ℕ
@@ -23,7 +22,7 @@ IsAboutLoad (Program line) = IsPlanLine (string_bytes line)
 IsAboutLoad (Budget nodes) = IsBudget nodes
 IsAboutLoad TooManyItems = ⊤
 IsAboutLoad (LongFile name) = name.now ≡ flows_name
-IsAboutLoad (Data line) = (answer : FlowAnswer) × (string_bytes line ≡ bad_flows flows_name answer)
+IsAboutLoad (Data line) = IsFlowLine flows_name (string_bytes line)
 IsAboutLoad OutOfMemory = ⊤
 
 -- a refusal is that of bytes as a program

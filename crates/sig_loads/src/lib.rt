@@ -6,6 +6,8 @@
 
 mod command;
 mod generated;
+mod laws;
 mod summary;
 
 pub use command::load_command;
+pub use laws::good_loads_end;

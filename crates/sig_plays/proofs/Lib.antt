@@ -1,4 +1,6 @@
+pub mod Complete
 pub mod Ending
+mod EventLines
 mod Growing
 mod Happened
 mod Lining

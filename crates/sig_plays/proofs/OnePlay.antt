@@ -31,13 +31,13 @@ use Rattle.sig_plays.proofs.SamePlans.{same_after}
 -- ---- the event file
 
 -- bytes are one list of events at most
-one_events : (bytes : List ℕ) (a b : List FileEvent) → AreEvents bytes a → AreEvents bytes b → a ≡ b
+pub one_events : (bytes : List ℕ) (a b : List FileEvent) → AreEvents bytes a → AreEvents bytes b → a ≡ b
 one_events bytes a b x y = x.each ∙ sym y.each
 
-no_events_line : (name bytes l m : List ℕ) → RefusesEvents name bytes l → RefusesEvents name bytes m → l ≡ m
+pub no_events_line : (name bytes l m : List ℕ) → RefusesEvents name bytes l → RefusesEvents name bytes m → l ≡ m
 no_events_line name bytes l m x y = x.says ∙ ap (bad_events name) (one_first event_judge 0 (lines_of bytes) x.answer y.answer x.none y.none) ∙ sym y.says
 
-events_apart : (name bytes : List ℕ) (events : List FileEvent) (l : List ℕ) → AreEvents bytes events → RefusesEvents name bytes l → ⊥
+pub events_apart : (name bytes : List ℕ) (events : List FileEvent) (l : List ℕ) → AreEvents bytes events → RefusesEvents name bytes l → ⊥
 events_apart name bytes events l says refuses = not_both event_judge 0 (lines_of bytes) refuses.answer says.good refuses.none
 
 -- ---- one outcome

@@ -1,3 +1,4 @@
+pub mod Complete
 pub mod EventFiles
 pub mod Happening
 pub mod Plays

@@ -7,8 +7,10 @@
 mod command;
 mod event_file;
 mod events;
+mod laws;
 mod load;
 mod state;
 mod writing;
 
 pub use command::play_command;
+pub use laws::good_plays_end;

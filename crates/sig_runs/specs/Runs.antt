@@ -1,6 +1,6 @@
 -- What the command `run` comes to over told contents.
 -- The refusals of the command are tried in the order in which the equations below stand.
-use Rattle.std.specs.Prelude.{◌≡◌, ◌⊎◌, ◌≤◌, ◌<◌, ◌*◌, ◌++◌, ℕ, ℤ, Bool, List, codes, length, Option, Some}
+use Rattle.std.specs.Prelude.{◌≡◌, ◌≢◌, ◌⊎◌, ◌≤◌, ◌<◌, ◌*◌, ◌++◌, ℕ, ℤ, Bool, List, codes, length, Option, Some}
 use Rattle.sig_base.specs.Lines.{refusal}
 use Rattle.sig_base.specs.Traces.{Trace}
 use Rattle.sig_base.specs.declared.limits.TheConstants.{CAPACITY_MAX, FLOW_BYTES, INSTANTS_MAX, ITEMS, PROGRAM_BYTES, WORKERS_MAX}
@@ -16,6 +16,7 @@ use Rattle.sig_model.specs.Causes.{IsEnd}
 use Rattle.sig_flow.specs.Flows.{AreFlows, IsFirstBadPlace}
 use Rattle.sig_flow.specs.Shown.{flow_text}
 use Rattle.sig_flow.specs.declared.answer.FlowAnswer.{FlowAnswer}
+use Rattle.sig_flow.specs.declared.answer.FlowAnswer.TheVariants.{OutOfMemory}
 use Rattle.sig_words.specs.declared.command.Settings.{Settings}
 use Rattle.sig_outcome.specs.Outcomes.{AtData, FindsData, Found, Holds, Outcome, refused, too_many_items}
 use Rattle.sig_outcome.specs.Refusals.{IsAboutData, IsAboutLinks}
@@ -63,6 +64,10 @@ AtLinks kernel capacity file Next o =
 abbrev pub bad_flows : List ℕ → FlowAnswer → List ℕ
 bad_flows name answer = refusal (name ++ (codes ":" ++ flow_text answer))
 
+-- such a line tells of a fault of the bytes, and not of memory that was wanting
+abbrev pub IsFlowLine : (name line : List ℕ) → Type 0
+IsFlowLine name line = (answer : FlowAnswer) × (answer ≢ OutOfMemory) × (line ≡ bad_flows name answer)
+
 -- the bytes are refused as flows of these inputs, with this line
 pub record RefusesFlows (name : List ℕ) (inputs : List Signal) (bytes line : List ℕ) : Type 0 where
   pub answer : FlowAnswer
@@ -109,7 +114,7 @@ IsRunStatus status =
     ⊎ ((status ≡ 6) ⊎ ((status ≡ 1) ⊎ ((status ≡ 2) ⊎ ((status ≡ 4) ⊎ ((status ≡ 5) ⊎ ((status ≡ 7) ⊎ (status ≡ 8)))))))
 
 abbrev pub IsAboutFlows : List ℕ → Refusal → Type 0
-IsAboutFlows flows r = IsAboutData flows (λ line. (answer : FlowAnswer) × (line ≡ bad_flows flows answer)) r
+IsAboutFlows flows r = IsAboutData flows (IsFlowLine flows) r
 
 abbrev pub IsAboutRun : (program flows : List ℕ) → Refusal → Type 0
 IsAboutRun program flows r = IsAboutPlan program r ⊎ (IsAboutLinks r ⊎ IsAboutFlows flows r)

@@ -2,3 +2,4 @@ mod OneOutcome
 mod CommandWords
 mod TopClauses
 mod Limits
+mod Complete

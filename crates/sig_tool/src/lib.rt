@@ -8,5 +8,8 @@ mod perform;
 mod top;
 mod words;
 
-pub use sig_compile::one_verdict;
-pub use top::{one_outcome, sig_main};
+pub use sig_compile::{good_programs_compile, good_texts_print, one_verdict};
+pub use sig_loads::good_loads_end;
+pub use sig_plays::good_plays_end;
+pub use sig_runs::good_runs_end;
+pub use top::{good_commands_are_done, one_outcome, sig_main};

@@ -1,7 +1,7 @@
 //! The top call: from the words of a command line, files and sinks to a status.
 
 ghost use Rattle.std.specs.Prelude.{◌≡◌, ◌⊎◌, [], IfSome, IsTrue};
-ghost use Rattle.sig_text.specs.Counts.{Rose};
+ghost use Rattle.sig_text.specs.Counts.{DidNotRise, Rose};
 ghost use Rattle.sig_text.specs.Files.{Contents};
 ghost use Rattle.sig_text.specs.Sink.{TookPrefix};
 ghost use Rattle.sig_words.specs.Commands.{files_of};
@@ -11,6 +11,7 @@ ghost use Rattle.sig_outcome.specs.Outcomes.{Outcome};
 ghost use Rattle.sig_plays.specs.Plays.{HasPlay};
 ghost use Rattle.sig_runs.specs.Runs.{HasRun};
 ghost use Rattle.sig_outcome.specs.Tasks.{IsDone, IsDue, IsEnded, IsRefused, IsRefusedBy, MayAnswer, SaysLine, items_line, memory_line, words_line, write_line};
+ghost use Rattle.sig_tool.specs.Complete.{CanBeDone};
 ghost use Rattle.sig_tool.specs.TopCall.{AreNoCommand, ComesTo, CompilesBeyondBound, HasBegun, IsAbout, IsStatus, IsStatusOf, OfCommand, OfOutcome, OfPlay, OfRun};
 
 use crate::perform::perform;
@@ -79,6 +80,15 @@ pub fn sig_main<R: Threads + Wait + Sync, F: Files, S: Sink, E: Sink, G: Gate + 
     ensures status { OfCommand (texts words.now) (λ c. OfOutcome (F.contents files.old) c (λ o.
         MayAnswer o.status result (Rose (F.faults files.old) (F.faults files.new))
         (Rose (S.faults out.old) (S.faults out.new)))) }
+
+    // A command whose program is accepted and whose flows and events have a reading, or whose text has a tree
+    // where it is printed, is done, if no call failed, memory was found, and the nodes of diagrams sufficed.
+    ensures complete { DidNotRise (F.faults files.old) (F.faults files.new)
+        → DidNotRise (S.faults out.old) (S.faults out.new) → OfCommand (texts words.now) (λ c.
+        IfSome (F.contents files.old) (λ held. CanBeDone held c →
+        IsDone result ⊎ ((result ≡ 7) ⊎ (result ≡ 8)))) }
+
+    // Why they did not suffice, and when a write failed.
     ensures budget { result ≡ 8 → OfCommand (texts words.now) (λ c.
         IfSome (F.contents files.old) (λ held. CompilesBeyondBound held c)) }
     ensures failed { result ≡ 6 → Rose (S.faults out.old) (S.faults out.new) }
@@ -123,4 +133,9 @@ pub fn sig_main<R: Threads + Wait + Sync, F: Files, S: Sink, E: Sink, G: Gate + 
 pub fn one_outcome()
     ensures { (held : Contents) (c : Command) (one other : Outcome) →
         ComesTo held c one → ComesTo held c other → one ≡ other }
+{}
+
+/// A law: whatever a command comes to whose files are good, it is done.
+pub fn good_commands_are_done()
+    ensures { (held : Contents) (c : Command) → CanBeDone held c → (o : Outcome) → ComesTo held c o → IsDone o.status }
 {}

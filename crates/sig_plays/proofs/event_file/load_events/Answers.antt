@@ -1,8 +1,9 @@
 use Rattle.std.proofs.Common.{◌≤◌, ap, arith, length}
 use Rattle.std.proofs.lemmas.Option.{IfSome_then}
 use Rattle.sig_flow.specs.Events.{AreEvents}
-use Rattle.sig_outcome.proofs.Refused.{on_err, refused_data}
-use Rattle.sig_plays.specs.EventFiles.{RefusesEvents}
+use Rattle.sig_outcome.proofs.Refused.{about_data, on_err, refused_data}
+use Rattle.sig_plays.specs.EventFiles.{IsEventLine, RefusesEvents}
+use Rattle.sig_plays.proofs.EventLines.{event_line}
 use Rattle.sig_plays.proofs.event_file.load_events.Goals as goal
 
 pub returns-clause-refused : goal.returns-clause-refused
@@ -14,3 +15,10 @@ returns-clause-refused g c =
     (λ r is. refused_data AreEvents (RefusesEvents c.args.name.now) held c.args.name.now c.in_ok-bytes.bytes.items there (λ _ _. ⊥) short r
     (g.F.Files.faults c.args.files.now) (g.F.Files.faults c.read_data.new.files) is)
     (rw c.deref.ensures.value at c.events_of.ensures.refused))
+
+pub returns-clause-about : goal.returns-clause-about
+returns-clause-about g c =
+    on_err c.events_of.result _ _
+    (about_data (RefusesEvents c.args.name.now c.in_ok-bytes.bytes.items) c.args.name.now (IsEventLine c.args.name.now)
+    (event_line c.args.name.now c.in_ok-bytes.bytes.items))
+    (rw c.deref.ensures.value at c.events_of.ensures.refused)

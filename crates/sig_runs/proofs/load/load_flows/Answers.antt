@@ -2,8 +2,9 @@ use Rattle.std.proofs.Common.{◌≤◌, ap, arith, length}
 use Rattle.std.proofs.lemmas.Option.{IfSome_then}
 use Rattle.sig_flow.specs.Flows.{AreFlows}
 use Rattle.sig_kernel.specs.Validity.{inputs_of}
-use Rattle.sig_outcome.proofs.Refused.{on_err, refused_data}
-use Rattle.sig_runs.specs.Runs.{RefusesFlows}
+use Rattle.sig_outcome.proofs.Refused.{about_data, on_err, refused_data}
+use Rattle.sig_runs.specs.Runs.{IsFlowLine, RefusesFlows}
+use Rattle.sig_runs.proofs.FlowLines.{flow_line}
 use Rattle.sig_runs.proofs.load.load_flows.Goals as goal
 
 pub returns-clause-refused : goal.returns-clause-refused
@@ -15,3 +16,10 @@ returns-clause-refused g c =
     (λ r is. refused_data (AreFlows (inputs_of c.args.kernel.now)) (RefusesFlows c.args.name.now (inputs_of c.args.kernel.now)) held c.args.name.now c.in_ok-bytes.bytes.items there (λ _ _. ⊥) short r
     (g.F.Files.faults c.args.files.now) (g.F.Files.faults c.read_data.new.files) is)
     (rw c.deref.ensures.value at c.flows_of.ensures.refused))
+
+pub returns-clause-about : goal.returns-clause-about
+returns-clause-about g c =
+    on_err c.flows_of.result _ _
+    (about_data (RefusesFlows c.args.name.now (inputs_of c.args.kernel.now) c.in_ok-bytes.bytes.items) c.args.name.now (IsFlowLine c.args.name.now)
+    (flow_line c.args.name.now (inputs_of c.args.kernel.now) c.in_ok-bytes.bytes.items))
+    (rw c.deref.ensures.value at c.flows_of.ensures.refused)

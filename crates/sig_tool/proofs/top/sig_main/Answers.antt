@@ -1,16 +1,18 @@
-use Rattle.std.proofs.Common.{◌≡◌, [], inl, subst, sym}
+use Rattle.std.proofs.Common.{◌≡◌, ◌⊎◌, [], inl, inr, refl, subst, sym}
 use Rattle.std.specs.Prelude.{IfSome}
 use Rattle.sig_text.specs.Counts.{Rose}
 use Rattle.sig_text.specs.Sink.{TookPrefix}
 use Rattle.sig_words.specs.Commands.{files_of}
 use Rattle.sig_words.specs.Readings.{texts}
-use Rattle.sig_outcome.specs.Tasks.{IsDue, IsRefusedBy, MayAnswer, SaysLine}
+use Rattle.sig_outcome.specs.Tasks.{IsDone, IsDue, IsRefusedBy, MayAnswer, SaysLine}
 use Rattle.sig_tool.specs.TopCall.{ComesTo, CompilesBeyondBound, HasBegun, IsAbout, IsStatusOf, OfOutcome}
 use Rattle.sig_words.specs.declared.command.Command.{Command}
 use Rattle.sig_words.specs.declared.command.Command.TheVariants.{Play, Run}
-use Rattle.sig_outcome.proofs.Refused.{told_both}
+use Rattle.sig_outcome.proofs.Refused.{told, told_both}
 use Rattle.sig_plays.proofs.Ending.{has_play}
 use Rattle.sig_runs.proofs.Ending.{has_run}
+use Rattle.sig_tool.specs.Complete.{CanBeDone}
+use Rattle.sig_tool.proofs.Complete.{complete}
 use Rattle.sig_tool.proofs.CommandWords.{of_one, refused_unread}
 use Rattle.sig_tool.proofs.TopClauses.{is_status}
 use Rattle.sig_tool.proofs.top.sig_main.Goals as goal
@@ -70,6 +72,17 @@ returns-in-Ok-clause-status g c =
     (Rose (g.S.Sink.faults c.args.out.now) (g.S.Sink.faults c.perform.new.out))))
     c.in-Ok.ensures.only c.perform.ensures.performs.owed
 
+pub returns-in-Ok-clause-complete : goal.returns-in-Ok-clause-complete
+returns-in-Ok-clause-complete g c = λ read written.
+    of_one (texts c.args.words.now) c.in-Ok.command
+    (λ command. IfSome (g.F.Files.contents c.args.files.now) (λ held. CanBeDone held command → IsDone c.perform.result ⊎ ((c.perform.result ≡ 7) ⊎ (c.perform.result ≡ 8))))
+    c.in-Ok.ensures.only
+    (complete c.in-Ok.command (g.F.Files.contents c.args.files.now) (g.F.Files.at c.args.files.now) (g.F.Files.at c.perform.new.files)
+    (g.F.Files.misses c.args.files.now) (g.F.Files.misses c.perform.new.files) (g.F.Files.faults c.args.files.now) (g.F.Files.faults c.perform.new.files) c.perform.result
+    g.S.Sink.took c.args.out.now c.perform.new.out (g.S.Sink.faults c.args.out.now) (g.S.Sink.faults c.perform.new.out) (g.S.Sink.clean c.perform.new.out)
+    (SaysLine g.E.Sink.took (g.E.Sink.faults c.args.err.now) (g.E.Sink.faults c.perform.new.err) c.args.err.now c.perform.new.err)
+    (is_status c.in-Ok.command c.perform.result c.perform.ensures.performs.numbers) c.perform.ensures.performs read written)
+
 pub returns-in-Ok-clause-budget : goal.returns-in-Ok-clause-budget
 returns-in-Ok-clause-budget g c = λ eight.
     of_one (texts c.args.words.now) c.in-Ok.command
@@ -97,6 +110,9 @@ pub returns-in-Ok-clause-items_line : goal.returns-in-Ok-clause-items_line
 returns-in-Ok-clause-items_line g c = λ two d is built. c.perform.ensures.performs.items_line two
 
 -- ---- memory was wanting to read the words
+
+pub returns-in-Err-OutOfMemory-clause-complete : goal.returns-in-Err-OutOfMemory-clause-complete
+returns-in-Err-OutOfMemory-clause-complete g c = λ read written d is built. told (g.F.Files.contents c.args.files.now) _ (λ held can. inr (inl refl))
 
 pub returns-in-Err-OutOfMemory-clause-refused : goal.returns-in-Err-OutOfMemory-clause-refused
 returns-in-Err-OutOfMemory-clause-refused g c = λ refuses d is built.
