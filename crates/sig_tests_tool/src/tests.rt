@@ -22,6 +22,7 @@ mod play;
 mod print;
 mod refused;
 mod run;
+mod stored;
 mod words;
 mod workers;
 
