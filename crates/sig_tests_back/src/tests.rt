@@ -15,3 +15,4 @@ mod passes;
 mod plan;
 mod rel;
 mod solve;
+mod step;

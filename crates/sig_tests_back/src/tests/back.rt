@@ -5,7 +5,7 @@ use sig_back::{BackAnswer, back};
 use sig_base::{Kind, OpId, SigId};
 use sig_clock::Clocks;
 use sig_dd::Ref;
-use sig_kernel::{Form, FunOp, Kernel};
+use sig_kernel::{Form, FunOp, Kernel, Operand};
 use sig_plan::{LinkInfo, StepKind};
 use std::alloc::{AllocError, Global};
 use std::fmt::Write;
@@ -84,6 +84,52 @@ fn nine_unknowns_find_room(rt: HostRuntime) -> Result<(), Fail> {
     assert!(rt; kernel.is_valid());
     let plan = back(rt.alloc(), kernel)?;
     assert_eq!(rt; plan.order.len(), 8);
+    Ok(())
+}
+
+/// Twelve stages, of which each samples what the one before gives by a boolean input of its own, and merges
+/// that with the result of the one before: `Bi ^= Xj`, `Xi := (Xj + i) when Bi`, `Yi := Xi default Yj` with
+/// i = j + 1, where X0 and Y0 are A.
+fn stage_forms(alloc: Global) -> Result<Vec<Form>, AllocError> {
+    let mut forms = Vec::new(alloc);
+    let (mut x, mut y) = (0, 0);
+    for b in 1..13u32 {
+        let (sampled, sum) = (b + 13, b + 36);
+        let merged = if b == 12 { 13 } else { b + 25 };
+        forms.push(Form::Sync(SigId(b), SigId(x)))?;
+        forms.push(fun(
+            alloc,
+            sum,
+            FunOp::Add,
+            &[sig(x), Operand::Const(i64::from(b))],
+        )?)?;
+        forms.push(Form::When(SigId(sampled), SigId(sum), SigId(b)))?;
+        forms.push(Form::Default(SigId(merged), SigId(sampled), SigId(y)))?;
+        (x, y) = (sampled, merged);
+    }
+    Ok(forms)
+}
+
+fn twelve_stages(alloc: Global) -> Result<Kernel, AllocError> {
+    let booleans = ["B", "C", "D", "E", "F", "G", "H", "I", "J", "K", "L", "M"];
+    let mut listed = vec![in alloc; ("A", Kind::Integer, 0)]?;
+    for name in booleans {
+        listed.push((name, Kind::Boolean, 0))?;
+    }
+    for _ in 13..49u32 {
+        listed.push(("S", Kind::Integer, 0))?;
+    }
+    kernel(alloc, listed.as_slice(), (13, 1, 37), stage_forms(alloc)?)
+}
+
+// Only the second bound keeps Budget away from these: 2 ^ 12 * 39 * 49 nodes.
+#[test]
+fn twelve_stages_find_room(rt: HostRuntime) -> Result<(), Fail> {
+    let kernel = twelve_stages(rt.alloc())?;
+    assert!(rt; kernel.is_valid());
+    let plan = back(rt.alloc(), kernel)?;
+    let clocks = &plan.clocks;
+    assert_eq!(rt; clocks.conditions.len(), 12);
     Ok(())
 }
 

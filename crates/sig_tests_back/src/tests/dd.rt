@@ -5,6 +5,7 @@ ghost use Rattle.sig_dd.specs.Nodes.{Holds};
 
 use super::diagrams::value;
 use sig_dd::{DdAnswer, Ref, Store};
+use std::alloc::Global;
 use std::marker::Brand;
 use std::sync::ledger::Blank;
 use std::test::Fail;
@@ -70,6 +71,36 @@ fn quantifiers_answer(rt: HostRuntime) -> Result<(), Fail> {
     assert_eq!(rt; store.meet_without(two.a, two.b, &[true]), Ok(two.b));
     let variables = store.support(two.both)?;
     assert_eq!(rt; variables.as_slice(), [0, 1].as_slice());
+    Ok(())
+}
+
+/// Whether the function of two variables that is true where both are is itself with these in their place.
+fn both_renamed(alloc: Global, to: &[u32]) -> Result<bool, DdAnswer> {
+    let mut store = Store::new(alloc, 100)?;
+    let two = two_of(&mut store)?;
+    Ok(store.rename(two.both, to)? == two.both)
+}
+
+/// Whether the second of two variables stands where the first one stood.
+fn first_renamed(alloc: Global, to: &[u32]) -> Result<bool, DdAnswer> {
+    let mut store = Store::new(alloc, 100)?;
+    let two = two_of(&mut store)?;
+    Ok(store.rename(two.a, to)? == two.b)
+}
+
+/// Whether nothing stands where the second of two variables stood.
+fn second_renamed(alloc: Global, to: &[u32]) -> Result<bool, DdAnswer> {
+    let mut store = Store::new(alloc, 100)?;
+    let two = two_of(&mut store)?;
+    Ok(store.rename(two.b, to)? == store.constant(false))
+}
+
+#[test]
+fn variables_are_renamed(rt: HostRuntime) -> Result<(), Fail> {
+    let alloc = rt.alloc();
+    assert!(rt; both_renamed(alloc, &[1, 0])?);
+    assert!(rt; first_renamed(alloc, &[1, 0])?);
+    assert!(rt; second_renamed(alloc, &[1])?);
     Ok(())
 }
 

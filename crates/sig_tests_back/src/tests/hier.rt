@@ -1,7 +1,7 @@
 //! Hierarchies of small kernels, and their texts.
 
-use super::kernels::{fun, kernel, sampled_by_two, sig};
-use super::passes::tree_of;
+use super::kernels::{down, fun, kernel, sampled_by_two, sig};
+use super::passes::{tree_of, tree_text_of};
 use sig_base::{Kind, SigId};
 use sig_clock::Clocks;
 use sig_hier::{Tree, TreeAnswer, tree_text};
@@ -113,5 +113,35 @@ fn what_is_never_present_lies_in_the_root(rt: HostRuntime) -> Result<(), Fail> {
     let alloc = rt.alloc();
     let tree = tree_of(alloc, &never_present(alloc)?)?;
     assert_eq!(rt; tree.parent.as_slice(), [None, Some(0), Some(0)].as_slice());
+    Ok(())
+}
+
+/// `X := A when (B and not B)`, `V ^= X`, `A ^= B`.
+fn never_sampled(alloc: Global) -> Result<Kernel, AllocError> {
+    let listed = [
+        ("V", Kind::Integer, 0),
+        ("A", Kind::Integer, 0),
+        ("B", Kind::Boolean, 0),
+        ("X", Kind::Integer, 0),
+        ("#1:2", Kind::Boolean, 0),
+        ("#1:1", Kind::Boolean, 0),
+    ];
+    let forms = vec![in alloc;
+        fun(alloc, 4, FunOp::Not, &[sig(2)])?,
+        fun(alloc, 5, FunOp::And, &[sig(2), sig(4)])?,
+        Form::When(SigId(3), SigId(1), SigId(5)),
+        Form::Sync(SigId(0), SigId(3)),
+        Form::Sync(SigId(1), SigId(2)),
+    ]?;
+    kernel(alloc, &listed, (3, 1, 4), forms)
+}
+
+#[test]
+fn kernels_have_texts(rt: HostRuntime) -> Result<(), Fail> {
+    let alloc = rt.alloc();
+    let down = tree_text_of(alloc, &down(alloc)?)?;
+    assert_eq!(rt; down.as_slice(), b"Y ZY\n  A\n".as_slice());
+    let never = tree_text_of(alloc, &never_sampled(alloc)?)?;
+    assert_eq!(rt; never.as_slice(), b"A B\n  V X\n".as_slice());
     Ok(())
 }

@@ -5,7 +5,7 @@ use sig_clock::Clocks;
 use sig_code::code;
 use sig_dd::Store;
 use sig_graph::{GraphAnswer, order};
-use sig_hier::{Tree, tree};
+use sig_hier::{Tree, tree, tree_text};
 use sig_kernel::Kernel;
 use sig_part::{PartAnswer, split};
 use sig_plan::{Op, Parts, Plan, operations};
@@ -32,6 +32,17 @@ pub fn tree_of(alloc: Global, kernel: &Kernel) -> Result<Tree, Fail> {
     let mut store = Store::new(alloc, NODES)?;
     let clocks = solve(alloc, kernel, &mut store)?;
     Ok(tree(alloc, &clocks, &store)?)
+}
+
+/// The text of the hierarchy of a kernel's clocks.
+pub fn tree_text_of(alloc: Global, kernel: &Kernel) -> Result<Vec<u8>, Fail> {
+    if !kernel.is_valid() {
+        return Err(Fail::from("the kernel is not valid"));
+    }
+    let mut store = Store::new(alloc, NODES)?;
+    let clocks = solve(alloc, kernel, &mut store)?;
+    let tree = tree(alloc, &clocks, &store)?;
+    Ok(tree_text(alloc, kernel, &clocks, &tree)?)
 }
 
 /// The operations of a kernel.

@@ -9,7 +9,7 @@ use sig_base::{Kind, SigId};
 use sig_clock::condition_set;
 use sig_dd::{DdAnswer, Ref, Store};
 use sig_kernel::{Form, FunOp, Kernel, Operand};
-use sig_rel::{RelAnswer, Relation, System, free_system, relation, triangle};
+use sig_rel::{RelAnswer, Relation, System, free_system, relation, system, triangle};
 use std::alloc::{AllocError, Global};
 use std::marker::Brand;
 use std::sync::ledger::Blank;
@@ -144,6 +144,75 @@ fn down_is_triangular(rt: HostRuntime) -> Result<(), Fail> {
     Ok(())
 }
 
+/// The clocks of `cell` in a kernel of 22 signals: `REQ ^= TICK`, `V ^= when REQ`, `HELD := V cell TICK init 0`.
+fn push_cell(forms: &mut Vec<Form>) -> Result<(), AllocError> {
+    forms.push(Form::Sync(SigId(1), SigId(0)))?;
+    forms.push(Form::WhenConst(SigId(11), 1, SigId(1)))?;
+    forms.push(Form::Sync(SigId(2), SigId(11)))?;
+    forms.push(Form::Delay(SigId(12), SigId(3), 0))?;
+    forms.push(Form::Default(SigId(3), SigId(2), SigId(12)))?;
+    forms.push(Form::Event(SigId(13), SigId(2)))?;
+    forms.push(Form::WhenConst(SigId(14), 1, SigId(0)))?;
+    forms.push(Form::Default(SigId(15), SigId(13), SigId(14)))?;
+    forms.push(Form::Sync(SigId(3), SigId(15)))?;
+    Ok(())
+}
+
+/// `N := (0 when R) default (3 when (ZN >= 3)) default (ZN + 1)`, `ZN := N $`, `N ^= R`, where R is REQ.
+fn push_count(alloc: Global, forms: &mut Vec<Form>) -> Result<(), AllocError> {
+    forms.push(fun(alloc, 8, FunOp::Id, &[sig(1)])?)?;
+    forms.push(Form::WhenConst(SigId(16), 0, SigId(8)))?;
+    forms.push(fun(alloc, 17, FunOp::Ge, &[sig(10), Operand::Const(3)])?)?;
+    forms.push(Form::WhenConst(SigId(18), 3, SigId(17)))?;
+    forms.push(Form::Default(SigId(19), SigId(16), SigId(18)))?;
+    forms.push(fun(alloc, 20, FunOp::Add, &[sig(10), Operand::Const(1)])?)?;
+    forms.push(Form::Default(SigId(9), SigId(19), SigId(20)))?;
+    forms.push(Form::Delay(SigId(10), SigId(9), 0))?;
+    forms.push(Form::Sync(SigId(9), SigId(8)))?;
+    Ok(())
+}
+
+/// `AGE := N`, `LATE := AGE >= 3`, `WAS := LATE $ init false`, `ALARM := LATE and not WAS`.
+fn push_alarm(alloc: Global, forms: &mut Vec<Form>) -> Result<(), AllocError> {
+    forms.push(fun(alloc, 5, FunOp::Id, &[sig(9)])?)?;
+    forms.push(fun(alloc, 6, FunOp::Ge, &[sig(5), Operand::Const(3)])?)?;
+    forms.push(Form::Delay(SigId(7), SigId(6), 0))?;
+    forms.push(fun(alloc, 21, FunOp::Not, &[sig(7)])?)?;
+    forms.push(fun(alloc, 4, FunOp::And, &[sig(6), sig(21)])?)?;
+    Ok(())
+}
+
+/// A watchdog: a value that is held, and an alarm where no request came for three instants.
+fn watch(alloc: Global) -> Result<Kernel, AllocError> {
+    let mut listed = vec![in alloc;
+        ("TICK", Kind::Event, 0),
+        ("REQ", Kind::Boolean, 0),
+        ("V", Kind::Integer, 0),
+    ]?;
+    for number in 3..22u32 {
+        let kind = match number {
+            11 | 13 | 14 | 15 => Kind::Event,
+            4 | 6 | 7 | 8 | 17 | 21 => Kind::Boolean,
+            _ => Kind::Integer,
+        };
+        listed.push(("S", kind, 0))?;
+    }
+    let mut forms = Vec::new(alloc);
+    push_cell(&mut forms)?;
+    push_count(alloc, &mut forms)?;
+    push_alarm(alloc, &mut forms)?;
+    kernel(alloc, listed.as_slice(), (3, 2, 11), forms)
+}
+
+// A watchdog has seven classes, of which the first one is the top.
+#[test]
+fn a_watchdog_is_triangular(rt: HostRuntime) -> Result<(), Fail> {
+    let alloc = rt.alloc();
+    let classes = triangle_of(alloc, &watch(alloc)?)?.ok_or("not triangular")?;
+    assert_eq!(rt; (classes.len(), classes.first()), (7, Some(&0)));
+    Ok(())
+}
+
 /// The system of a kernel that is valid, over its conditions by number.
 fn system_of(
     alloc: Global,
@@ -196,6 +265,99 @@ fn the_clocks_of_samplings(rt: HostRuntime) -> Result<(), Fail> {
         [t, t, t, a, b, both, a].as_slice()
     );
     assert_eq!(rt; found.truth.as_slice(), [a, b, t, a, b, both, a].as_slice());
+    Ok(())
+}
+
+/// The system of a kernel that is valid, by cuts.
+fn cut_system_of(
+    alloc: Global,
+    kernel: &Kernel,
+    store: &mut Store,
+) -> Result<Option<System>, RelAnswer> {
+    if kernel.is_valid() {
+        let conditions = condition_set(alloc, kernel)?;
+        Ok(Some(system(alloc, kernel, conditions.as_slice(), store)?))
+    } else {
+        Ok(None)
+    }
+}
+
+/// Whether a system has these presences and truths.
+fn is_written(found: &System, present: &[Ref], truth: &[Ref]) -> bool {
+    found.present.as_slice() == present && found.truth.as_slice() == truth
+}
+
+/// Whether a system has its variables from one on, so many of them, and these proposals.
+fn is_over(found: &System, first: u32, variables: u32, proposals: &[u32]) -> bool {
+    found.first == first && found.variables == variables && found.proposals.as_slice() == proposals
+}
+
+/// `X := A when B`, `A ^= B ^= X`.
+fn sampled_in_its_class(alloc: Global) -> Result<Kernel, AllocError> {
+    let listed = [
+        ("A", Kind::Integer, 0),
+        ("B", Kind::Boolean, 0),
+        ("X", Kind::Integer, 0),
+    ];
+    let forms = vec![in alloc;
+        Form::When(SigId(2), SigId(0), SigId(1)),
+        Form::Sync(SigId(0), SigId(1)),
+        Form::Sync(SigId(1), SigId(2)),
+    ]?;
+    kernel(alloc, &listed, (2, 1, 3), forms)
+}
+
+/// Where a variable is false, or another one is true.
+fn implied(store: &mut Store, v: u32, w: u32) -> Result<Ref, DdAnswer> {
+    let first = store.variable(v)?;
+    let second = store.variable(w)?;
+    let always = store.constant(true);
+    store.ite(first, second, always)
+}
+
+/// Two variables, and where they are true.
+fn two_and_both(store: &mut Store, v: u32, w: u32) -> Result<(Ref, Ref, Ref), DdAnswer> {
+    let first = store.variable(v)?;
+    let second = store.variable(w)?;
+    let both = store.conj(first, second)?;
+    Ok((first, second, both))
+}
+
+// The top of down is cut: it is variable 1, and the truth of the condition is variable 3.
+#[test]
+fn the_clocks_of_down_by_cuts(rt: HostRuntime) -> Result<(), Fail> {
+    let alloc = rt.alloc();
+    let mut store = Store::new(alloc, 1000)?;
+    let found = cut_system_of(alloc, &down(alloc)?, &mut store)?.ok_or("not valid")?;
+    let (t, b, a) = two_and_both(&mut store, 1, 3)?;
+    assert!(rt; is_written(&found, &[a, t, t, t, t, a], &[a, t, t, t, b, a]));
+    assert!(rt; found.residue == store.constant(true) && found.speaks == t);
+    assert!(rt; is_over(&found, 1, 3, &[3]));
+    Ok(())
+}
+
+// Its two inputs are classes that nothing determines, and nothing is left to be met.
+#[test]
+fn the_clocks_of_two_roots(rt: HostRuntime) -> Result<(), Fail> {
+    let alloc = rt.alloc();
+    let mut store = Store::new(alloc, 1000)?;
+    let found = cut_system_of(alloc, &two_roots(alloc)?, &mut store)?.ok_or("not valid")?;
+    let (u, v, _both) = two_and_both(&mut store, 0, 1)?;
+    assert!(rt; is_written(&found, &[u, v, u, v], &[u, v, u, v]));
+    assert!(rt; found.residue == store.constant(true) && is_over(&found, 0, 2, &[]));
+    Ok(())
+}
+
+// It is present or absent as a whole, and where it is present B is true.
+#[test]
+fn the_residue_of_a_sampling_in_its_class(rt: HostRuntime) -> Result<(), Fail> {
+    let alloc = rt.alloc();
+    let mut store = Store::new(alloc, 1000)?;
+    let kernel = sampled_in_its_class(alloc)?;
+    let found = cut_system_of(alloc, &kernel, &mut store)?.ok_or("not valid")?;
+    let (t, b, _both) = two_and_both(&mut store, 1, 2)?;
+    assert!(rt; is_written(&found, &[t, t, t], &[t, b, t]));
+    assert!(rt; found.residue == implied(&mut store, 1, 2)? && found.speaks == t);
     Ok(())
 }
 
