@@ -3,8 +3,10 @@
 
 Runs SIGC on each of the rows below once for each number N, with the Nth allocation refused (bench/refuse.c, compiled by gcc,
 in the place of malloc), until a run makes no Nth one. Each run must say that memory is wanting, with status 7 and nothing on
-standard output, or give what the row gives with ample memory. Prints of each row how many runs ended in which way, and of
-each that ended otherwise its number. The status is 0 where there is none.
+standard output, or give what the row gives with ample memory; where one of the first two is refused, the buffers of the
+streams, nothing can be said, and the status alone says it. Prints of each row how many runs ended in which way, and of
+each that ended otherwise its number. The status is 0 where there is none. A program with a malloc of its own, as one with an
+address sanitizer, makes no allocation that the library sees: that is said, and the status is 1.
 
 `rt try --fail-alloc N` does the same for one number, in the sources as they stand, and builds them anew for each.
 """
@@ -41,6 +43,8 @@ ROWS = {
 }
 
 REFUSED = (7, b"", b"error: out of memory\n")
+SILENT = (7, b"", b"")
+BUFFERS = 2
 
 
 def shim(folder):
@@ -77,19 +81,28 @@ def tried(sigc, name, library):
         if ample[0] == 2:
             print(f"{name}: not a command of this program")
             return []
-        wanting, same, other = 0, 0, []
+        wanting, same, silent, other = 0, 0, 0, []
         for number in itertools.count(1):
             ended, refused = run([sigc, *words], folder, library, number)
             if not refused:
                 break
             wanting += ended == REFUSED
             same += ended == ample
-            if ended not in (REFUSED, ample):
+            if ended == SILENT and number <= BUFFERS:
+                silent += 1
+            elif ended not in (REFUSED, ample):
                 other.append(number)
                 print(f"{name}: allocation {number}: {ended}")
+        if number == 1:
+            print(f"{name}: no allocation was seen: the program has a malloc of its own")
+            return [0]
         if ended != ample:
             other.append(number)
-        print(f"{name}: {number - 1} allocations, {wanting} times out of memory, {same} times the row, {len(other)} times something else")
+            print(f"{name}: no allocation {number}: {ended}")
+        print(
+            f"{name}: {number - 1} allocations, {wanting} times out of memory, {silent} times so without a line, "
+            f"{same} times the row, {len(other)} times something else"
+        )
     return other
 
 

@@ -1,6 +1,6 @@
 // The baselines of run.py: the same job as `sigc run` of one program, written by hand. A flow file is read whole, its
 // values by strtoll; text goes out in pieces, its numbers by a formatter of its own.
-// usage: run PROGRAM FLOWS, where PROGRAM is sum, thermostat, watch or stages
+// usage: run PROGRAM FLOWS, where PROGRAM is sum, thermostat, watch, controller or stages
 #include <stdio.h>
 #include <stdlib.h>
 #include <string.h>
@@ -98,6 +98,38 @@ static void watch(void) {
     }
 }
 
+static int hysteresis(Integer x, Integer low, Integer high, int was) {
+    return x < low ? 1 : x > high ? 0 : was;
+}
+
+static void controller(void) {
+    Integer temperature, level, start, stop, fault = 0, starts = 0, age = 0, lowest = 100, highest = 0;
+    int was = 0, cold = 0, low = 0, counted = 0;
+    while (take(0, &temperature) && take(1, &level) && take(2, &start) && take(3, &stop)) {
+        int running = (was || start) && !stop, begins = running && !was, draining = level > 95;
+        cold = hysteresis(temperature, 18, 21, cold);
+        low = hysteresis(level, 20, 80, low);
+        counted = !(temperature > 30 || draining) ? 0 : counted >= 3 ? 3 : counted + 1;
+        fault = counted >= 3 ? temperature : fault;
+        age = begins ? 0 : age + 1;
+        lowest = level < lowest ? level : lowest;
+        highest = level > highest ? level : highest;
+        put_boolean("RUNNING", running);
+        put_boolean("HEATING", cold && running);
+        put_boolean("FILLING", low && running);
+        put_boolean("DRAINING", draining);
+        put_boolean("ALARM", counted >= 3);
+        put_integer("FAULT", fault);
+        if (begins) {
+            put_integer("STARTS", ++starts);
+        }
+        put_integer("AGE", age);
+        put_integer("LOWEST", lowest);
+        put_integer("HIGHEST", highest);
+        was = running;
+    }
+}
+
 static void stages(void) {
     Integer x, y, b;
     while (take(0, &x)) {
@@ -168,6 +200,8 @@ int main(int count, char **words) {
         thermostat();
     } else if (strcmp(words[1], "watch") == 0) {
         watch();
+    } else if (strcmp(words[1], "controller") == 0) {
+        controller();
     } else {
         stages();
     }

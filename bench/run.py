@@ -1,14 +1,19 @@
 #!/usr/bin/env python3
-"""run.py SIGC: how long a run takes, beside a plain C program written by hand for the same job, and with workers.
+"""run.py SIGC [PART..]: how long a run takes, beside a plain C program written by hand for the same job, and with workers.
 
-Runs `SIGC run --workers 0` on a sum, a thermostat, a watchdog (1,000,000 instants each) and the generated program of 12
-stages (200,000 instants), files and text included, and bench/run.c, compiled by gcc -O2, on the same flows. The texts are
+Part `run`: `SIGC run --workers 0` on a sum, a thermostat, a watchdog (1,000,000 instants each) and the generated program of
+12 stages (200,000 instants), files and text included, and bench/run.c, compiled by gcc -O2, on the same flows. The texts are
 compared. Prints of each the least processor time of five runs, their ratio, the time of an instant and the peak memory.
 
-Then it runs the 12 stages and a program of four clusters of 64 operations each with 0, 1, 2 and 4 workers, compares the texts,
-and prints the least wall time of five runs, its ratio to that of 0 workers, and the processor time. Last it runs a program
-that hands 32 signals from one cluster to another, and the same in one cluster, with 1 and 2 workers: the difference of the
-two wall times, for one signal and instant, is what an item of a link costs.
+Part `play`: the same of `SIGC play` with no events, which finishes the run step by step of its actors, over links of 16
+items: the watchdog, bench/controller.sig with ten outputs (1,000,000 instants each) and the 12 stages (20,000 instants). Prints
+also the time of a step, of which each instant has as many as `SIGC code` shows, without that of a play of one instant.
+
+Part `workers`: the 12 stages and a program of four clusters of 64 operations each with 0, 1, 2 and 4 workers. Compares the
+texts, and prints the least wall time of five runs, its ratio to that of 0 workers, and the processor time.
+
+Part `items`: a program that hands 32 signals from one cluster to another, and the same in one cluster, with 1 and 2 workers:
+the difference of the two wall times, for one signal and instant, is what an item of a link costs.
 """
 import os
 import random
@@ -41,16 +46,30 @@ def thermostat_flows(draws):
     return {"TEMPERATURE": [str(draws.randrange(10, 30)) for _ in range(INSTANTS)]}
 
 
+def controller_flows(draws):
+    """Readings that wander, a start at one instant of 50 and a stop at one of 100."""
+    flows = {}
+    for name, most in (("TEMPERATURE", 35), ("LEVEL", 100)):
+        value, values = most // 2, []
+        for _ in range(INSTANTS):
+            value = min(most, max(0, value + draws.randrange(-3, 4)))
+            values.append(str(value))
+        flows[name] = values
+    for name, rate in (("START", 50), ("STOP", 100)):
+        flows[name] = ["false" if draws.randrange(rate) else "true" for _ in range(INSTANTS)]
+    return flows
+
+
 def watch_flows(draws):
     asked = [truth(draws) for _ in range(INSTANTS)]
     values = [str(draws.randrange(1000)) for _ in range(asked.count("true"))]
     return {"TICK": ["true"] * INSTANTS, "REQ": asked, "V": values}
 
 
-def stages_flows(draws):
-    """Each input of as many values as are taken in 200,000 instants, half of them at each next stage."""
-    flows = {"A": [str(draws.randrange(1000)) for _ in range(INSTANTS // 5)]}
-    taken = INSTANTS // 5
+def stages_flows(draws, instants=INSTANTS // 5):
+    """Each input of as many values as are taken in these instants, half of them at each next stage."""
+    flows = {"A": [str(draws.randrange(1000)) for _ in range(instants)]}
+    taken = instants
     for i in range(1, STAGES + 1):
         flows[f"B{i}"] = [truth(draws) for _ in range(taken)]
         taken = flows[f"B{i}"].count("true")
@@ -94,9 +113,13 @@ def handing_flows(draws):
     return {"A": [str(draws.randrange(1000)) for _ in range(INSTANTS // 5)]}
 
 
-def example(name):
-    with open(os.path.join(EXAMPLES, name + ".sig"), encoding="ascii") as file:
+def program_of(folder, name):
+    with open(os.path.join(folder, name + ".sig"), encoding="ascii") as file:
         return file.read()
+
+
+def example(name):
+    return program_of(EXAMPLES, name)
 
 
 PROGRAMS = {
@@ -104,6 +127,12 @@ PROGRAMS = {
     "thermostat": (lambda: example("thermostat"), thermostat_flows),
     "watch": (lambda: example("watch"), watch_flows),
     "stages": (lambda: stages(STAGES), stages_flows),
+}
+
+PLAYS = {
+    "watch": PROGRAMS["watch"],
+    "controller": (lambda: program_of(HERE, "controller"), controller_flows),
+    "stages": (lambda: stages(STAGES), lambda draws: stages_flows(draws, INSTANTS // 50)),
 }
 
 
@@ -140,15 +169,48 @@ def run_words(sigc, workers):
     return [sigc, "run", "program.sig", "flows", "--workers", str(workers)]
 
 
-def beside_c(sigc, plain_program, folder):
+def plain_program(folder):
+    """The C program of all baselines."""
+    made = os.path.join(folder, "plain-run")
+    subprocess.run(["gcc", "-O2", "-o", made, os.path.join(HERE, "run.c")], check=True)
+    return made
+
+
+def beside_c(sigc, folder):
+    plain_run = plain_program(folder)
     for name, (program, flows) in PROGRAMS.items():
         instants = put_files(folder, program(), flows(random.Random(1)))
         own, _, peak = measured(run_words(sigc, 0), folder, "own")
-        plain, _, plain_peak = measured([plain_program, name, "flows"], folder, "plain")
+        plain, _, plain_peak = measured([plain_run, name, "flows"], folder, "plain")
         assert read(folder, "own") == read(folder, "plain"), f"{name}: the texts differ"
         print(
             f"{name}: sigc {own:.3f} s ({1e9 * own / instants:.0f} ns an instant, {peak:.0f} MB), "
             f"C {plain:.3f} s ({plain_peak:.0f} MB), ratio {own / plain:.2f}"
+        )
+
+
+def steps_of(sigc, folder):
+    """How many steps the actors of the program have in all."""
+    code = subprocess.run([sigc, "code", "program.sig"], cwd=folder, capture_output=True, check=True).stdout
+    return sum(not line.startswith(b"actor") for line in code.splitlines())
+
+
+def played_beside_c(sigc, folder):
+    plain_run = plain_program(folder)
+    open(os.path.join(folder, "events"), "w", encoding="ascii").close()
+    play = [sigc, "play", "program.sig", "flows", "events"]
+    for name, (program, flows) in PLAYS.items():
+        instants = put_files(folder, program(), flows(random.Random(1)))
+        steps = steps_of(sigc, folder)
+        begun, _, _ = measured([*play, "--instants", "1"], folder, "own")
+        own, _, peak = measured(play, folder, "own")
+        plain, _, _ = measured([plain_run, name, "flows"], folder, "plain")
+        text = read(folder, "own").partition(b"\nfinish\n")[2]
+        assert text == read(folder, "plain"), f"{name}: the texts differ"
+        print(
+            f"{name} played: sigc {own:.3f} s, {begun:.3f} s of it before the second instant "
+            f"({1e9 * own / instants:.0f} ns an instant, {peak:.0f} MB), C {plain:.3f} s, ratio {own / plain:.2f}; "
+            f"{steps} steps an instant, {1e9 * (own - begun) / (instants * steps):.1f} ns a step"
         )
 
 
@@ -177,14 +239,14 @@ def items(sigc, folder):
         print(f"an item of a link, {workers} workers: {1e9 * cost:.0f} ns")
 
 
+PARTS = {"run": beside_c, "play": played_beside_c, "workers": with_workers, "items": items}
+
+
 def main():
     sigc = os.path.abspath(sys.argv[1])
     with tempfile.TemporaryDirectory() as folder:
-        plain_program = os.path.join(folder, "plain-run")
-        subprocess.run(["gcc", "-O2", "-o", plain_program, os.path.join(HERE, "run.c")], check=True)
-        beside_c(sigc, plain_program, folder)
-        with_workers(sigc, folder)
-        items(sigc, folder)
+        for part in sys.argv[2:] or PARTS:
+            PARTS[part](sigc, folder)
 
 
 if __name__ == "__main__":

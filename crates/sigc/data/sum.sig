@@ -1,1 +1,0 @@
-process SUM = (? integer A, B ! integer Y) Y := A + B;
