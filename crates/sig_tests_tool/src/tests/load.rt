@@ -3,45 +3,26 @@
 
 use super::*;
 
-const THREE: &[u8] = b"stages 3\ninstants 20000\nbytes 137834\nsum 6685077\n";
-
-const TWELVE: &[u8] = b"stages 12\ninstants 20000\nbytes 157865\nsum 7646580\n";
-
-/// The runs of three stages, whose bytes another program counted: with two workers, which come where none are
-/// asked for, with none and with eight.
+/// The runs of three and of twelve stages, whose bytes another program counted.
 #[test]
 fn counts_generated_runs(rt: HostRuntime) -> Result<(), Fail> {
-    let rows: [(&[&str], &'static [u8]); 3] = [
-        (&["load", "1", "3"], THREE),
-        (&["load", "1", "3", "--workers", "0"], THREE),
-        (&["load", "1", "3", "--workers", "8"], THREE),
+    let three = b"stages 3\ninstants 20000\nbytes 137834\nsum 6685077\n".as_slice();
+    let twelve = b"stages 12\ninstants 20000\nbytes 157865\nsum 7646580\n".as_slice();
+    let rows: [(&[&str], &'static [u8]); 6] = [
+        (&["load", "1", "3"], three),
+        (&["load", "1", "3", "--workers", "0"], three),
+        (&["load", "1", "3", "--workers", "8"], three),
+        (&["load", "1", "3", "--capacity", "1"], three),
+        (&["load", "1", "12", "--workers", "0"], twelve),
+        (&["load", "1", "12", "--workers", "1"], twelve),
     ];
-    load_all(&rt, &rows)
-}
-
-/// Three stages over links of one item, and twelve stages.
-#[test]
-fn counts_longer_generated_runs(rt: HostRuntime) -> Result<(), Fail> {
-    let rows: [(&[&str], &'static [u8]); 3] = [
-        (&["load", "1", "3", "--capacity", "1"], THREE),
-        (&["load", "1", "12", "--workers", "0"], TWELVE),
-        (&["load", "1", "12", "--workers", "1"], TWELVE),
-    ];
-    load_all(&rt, &rows)
-}
-
-/// Makes each of these runs, to the end of its 20,000 instants.
-fn load_all<R: Threads + Wait + Sync + Abort + AllocGlobal>(
-    rt: &R,
-    rows: &[(&[&str], &'static [u8])],
-) -> Result<(), Fail> {
-    for row in rows {
+    for (line, out) in rows {
         let wanted = Wanted {
-            out: row.1,
+            out,
             err: b"end: input A exhausted after 20000 instants\n",
             status: 0,
         };
-        load_line(rt, row.0, wanted)?;
+        load_line(&rt, line, wanted)?;
     }
     Ok(())
 }
