@@ -8,7 +8,7 @@ use Rattle.sig_step.specs.declared.state.ClusterState.{ClusterState}
 use Rattle.sig_values.specs.Values.{AreValuesOf, actor_at, at_next, last_in, seen_in}
 use Rattle.sig_values.specs.declared.values.Values.{Values}
 
-no_further : (m n : ℕ) → n ≤ m → nat_lt m n ≡ false
+pub no_further : (m n : ℕ) → n ≤ m → nat_lt m n ≡ false
 no_further m n more = grind (arith, more)
 
 -- behind the last step

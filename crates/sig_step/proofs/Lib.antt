@@ -3,6 +3,7 @@ pub mod Doing
 pub mod Going
 pub mod GuardLemmas
 pub mod MarkLemmas
+pub mod PlainSteps
 pub mod Several
 pub mod StateLemmas
 pub mod Taking

@@ -4,7 +4,7 @@ use Rattle.sig_model.specs.Turns.{turn}
 use Rattle.sig_plan.specs.Plans.{PlanView}
 use Rattle.sig_step.specs.Acting.{Counts, TakesTurn}
 use Rattle.sig_step.specs.LinkEnds.{Past, Queues}
-use Rattle.sig_step.specs.Moving.{IsSameActor}
+use Rattle.sig_step.specs.Moving.{IsSameActor, StaysMet}
 use Rattle.sig_step.specs.States.{IsStateOf, actor_of}
 use Rattle.sig_step.specs.declared.answer.Acted.{Acted}
 use Rattle.sig_step.specs.declared.answer.Acted.TheVariants.{Done}
@@ -17,6 +17,7 @@ pub record DoesStep {E : Type 0} (past : E → Option Past) (queues : E → Opti
   pub actor : IsSameActor old new
   pub takes : TakesTurn past queues plan.kernel (turn plan flows old.limit old.actor (actor_of old)) acted old new before after
   pub ends : same before after
+  pub met : StaysMet plan acted new
   pub counts : Counts plan old count_before count_after
 
 -- So many steps, one after another, each of which is done.

@@ -2,4 +2,5 @@ pub mod Acting
 pub mod GoingOn
 pub mod LinkEnds
 pub mod Moving
+pub mod Plain
 pub mod States

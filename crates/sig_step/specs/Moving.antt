@@ -6,6 +6,8 @@ use Rattle.sig_plan.specs.Plans.{IsAccepted, PlanView}
 use Rattle.sig_plan.specs.declared.code.Step.{Step}
 use Rattle.sig_plan.specs.declared.code.StepKind.{StepKind}
 use Rattle.sig_step.specs.States.{IsStateOf, actor_of}
+use Rattle.sig_step.specs.declared.answer.Acted.{Acted}
+use Rattle.sig_step.specs.declared.answer.Acted.TheVariants.{Done, Commit, Empty, Full, Failed, AtLimit, Stopped}
 use Rattle.sig_step.specs.declared.state.ClusterState.{ClusterState}
 use Rattle.sig_step.specs.declared.state.Mark.{Mark}
 use Rattle.sig_values.specs.Values.{AreValuesOf, instant_of, last_in, seen_in}
@@ -17,6 +19,16 @@ IsSlotMet s slot = (mark : Mark) × (slice_get s.marks.items slot ≡ Some mark)
 -- that of the next step was met
 abbrev pub IsMet : PlanView → ClusterState → Type 0
 IsMet plan s = (step : Step) → slice_get (code_of plan s.actor).steps s.step ≡ Some step → IsSlotMet s step.slot
+
+-- where a link refused a step, the slot of that step, which is still the next one, was met
+abbrev pub StaysMet : PlanView → Acted → ClusterState → Type 0
+StaysMet plan (Empty j) s = IsMet plan s
+StaysMet plan (Full j) s = IsMet plan s
+StaysMet plan Done s = Unit {0}
+StaysMet plan Commit s = Unit {0}
+StaysMet plan (Failed place) s = Unit {0}
+StaysMet plan AtLimit s = Unit {0}
+StaysMet plan Stopped s = Unit {0}
 
 -- A state within its limit may go on once the guard of its next step was met.
 pub record MayGoOn (plan : PlanView) (flows : List (List ℤ)) (s : ClusterState) : Type 0 where

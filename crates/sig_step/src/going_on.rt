@@ -17,8 +17,9 @@ use std::sync::ledger::Ledger;
 
 impl ClusterState {
     /// Does steps of the actor as `act` does, one after another, so long as each of them is done: at least one,
-    /// no more than so many besides, and none behind the first that comes to a next instant. It answers what the
-    /// last of them came to, and takes no memory.
+    /// and none behind the first that comes to a next instant. Besides plain ones, which ask no link and walk no
+    /// guard, they are no more than one and so many. It answers what the last of them came to, and takes no
+    /// memory.
     pub fn act_on<E: Ends, L: Ledger>(
         &mut self,
         plan: &Plan,
@@ -36,6 +37,9 @@ impl ClusterState {
         ensures pops { E.pops ends.new ≡ E.pops ends.old }
     {
         for _ in 0..more {
+            if let Err(place) = self.do_plain_steps(plan, inputs) {
+                return Acted::Failed(place);
+            }
             let acted = self.act(plan, inputs, ends, steps);
             if !self.is_amid(acted) {
                 return acted;

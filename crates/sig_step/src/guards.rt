@@ -17,6 +17,15 @@ use sig_dd::Steps;
 use sig_plan::{Plan, Slot};
 use std::sync::ledger::Ledger;
 
+/// The slot of a number.
+#[inline(always)]
+pub(crate) fn slot_in(slots: &[Slot], number: u32) -> Slot
+    requires { number < length slots.now }
+    ensures { slice_get slots.now number ≡ Some result }
+{
+    slots[number as usize]
+}
+
 impl ClusterState {
     /// Whether the guard of the next step's slot holds. It is walked once in an instant at most, and only
     /// where that of its parent holds.
@@ -56,12 +65,12 @@ impl ClusterState {
         requires number { number < length (code_of plan.now self.now.actor).slots }
         ensures { slice_get (code_of plan.now self.now.actor).slots number ≡ Some result }
     {
-        code_at(plan, self.actor).slots()[number as usize]
+        slot_in(code_at(plan, self.actor).slots(), number)
     }
 
     /// Whether the guard of a slot holds, where that is known in this instant.
     #[inline(always)]
-    fn known(&self, number: u32) -> Option<bool>
+    pub(crate) fn known(&self, number: u32) -> Option<bool>
         ensures { result ≡ known_in (instant_of self.now.values) (slice_get self.now.marks.items number) }
     {
         match self.marks.as_slice().get(number as usize) {
@@ -72,7 +81,7 @@ impl ClusterState {
 
     /// Notes in this instant whether the guard of a slot holds.
     #[inline(always)]
-    fn note(&mut self, number: u32, holds: bool)
+    pub(crate) fn note(&mut self, number: u32, holds: bool)
         requires { number < length self.old.marks.items }
         ensures marks { self.new.marks.items ≡ slice_set self.old.marks.items number (record { instant = instant_of self.old.values; holds = holds }) }
         ensures stays { self.new ≡ record self.old { marks = self.new.marks } }
@@ -96,7 +105,7 @@ impl ClusterState {
 
     /// Whether the guard of the parent holds, where there is one.
     #[inline(always)]
-    fn parent_holds(&self, parent: Option<u32>) -> bool
+    pub(crate) fn parent_holds(&self, parent: Option<u32>) -> bool
         ensures { result ≡ parent_holds self.now parent }
     {
         match parent {

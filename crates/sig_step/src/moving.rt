@@ -1,7 +1,7 @@
 //! How an actor goes on in its code.
 
-ghost use Rattle.std.specs.Prelude.{◌≡◌, ◌<◌, ◌+◌, ◌^◌, ℤ, List, slice_get};
-ghost use Rattle.sig_model.specs.Actors.{moved_on, position_of};
+ghost use Rattle.std.specs.Prelude.{◌≡◌, ◌<◌, ◌+◌, ◌^◌, ℤ, List, length, slice_get, Some};
+ghost use Rattle.sig_model.specs.Actors.{code_of, moved_on, position_of};
 ghost use Rattle.sig_plan.specs.Plans.{PlanView};
 ghost use Rattle.sig_step.specs.Moving.{MayGoOn, MovesOn};
 ghost use Rattle.sig_step.specs.States.{IsStateOf, actor_of};
@@ -21,6 +21,15 @@ pub(crate) fn position_of(steps: &[Step], number: u32) -> u32
     }
 }
 
+/// The step of a number.
+#[inline(always)]
+pub(crate) fn step_in(steps: &[Step], number: u32) -> Step
+    requires { number < length steps.now }
+    ensures { slice_get steps.now number ≡ Some result }
+{
+    steps[number as usize]
+}
+
 impl ClusterState {
     /// Goes to the next step, or to the first one of the next instant.
     #[inline(always)]
@@ -30,6 +39,17 @@ impl ClusterState {
         ensures state { (flows : List (List ℤ)) → MayGoOn plan.now flows self.old → IsStateOf plan.now flows self.new }
     {
         let steps = self.code(plan);
+        self.move_on_in(plan, steps);
+    }
+
+    /// The same over the steps of the actor's code.
+    #[inline(always)]
+    pub(crate) fn move_on_in(&mut self, plan: &Plan, steps: &[Step])
+        requires may { (flows : List (List ℤ)) × MayGoOn plan.now flows self.old }
+        requires steps { steps.now ≡ (code_of plan.now self.old.actor).steps }
+        ensures moves { MovesOn plan.now self.old self.new }
+        ensures state { (flows : List (List ℤ)) → MayGoOn plan.now flows self.old → IsStateOf plan.now flows self.new }
+    {
         self.advance(steps.len());
         self.pos = position_of(steps, self.step);
     }

@@ -1,40 +1,80 @@
 //! The operations of an actor.
 
-ghost use Rattle.std.specs.Prelude.{◌≡◌};
+ghost use Rattle.std.specs.Prelude.{◌≡◌, false, Ok};
 ghost use Rattle.sig_model.specs.Actors.{code_of};
 ghost use Rattle.sig_model.specs.Turns.{turn_by};
 ghost use Rattle.sig_plan.specs.declared.code.StepKind.{StepKind};
 ghost use Rattle.sig_step.specs.Acting.{Acts};
 ghost use Rattle.sig_step.specs.LinkEnds.{Nothing};
-ghost use Rattle.sig_step.specs.Moving.{IsReady, IsSameActor};
+ghost use Rattle.sig_step.specs.Moving.{IsReady, IsSameActor, StaysMet};
+ghost use Rattle.sig_step.specs.Plain.{answered_as};
 ghost use Rattle.sig_step.specs.States.{IsStateOf, actor_of};
 
 use crate::answer::Acted;
 use crate::plans::ops_of;
 use crate::state::ClusterState;
-use sig_base::OpId;
+use sig_base::{OpId, Place};
 use sig_kernel::Inputs;
-use sig_plan::Plan;
+use sig_plan::{Plan, StepKind};
 
 impl ClusterState {
     /// Does an operation, or ends where it has no value.
+    #[inline(always)]
     pub(crate) fn operate(&mut self, plan: &Plan, inputs: &Inputs, o: OpId) -> Acted
         requires { IsReady plan.now inputs.now self.old (StepKind.Do o) }
         ensures acts { Acts plan.now.kernel (turn_by plan.now inputs.now (code_of plan.now self.old.actor) (actor_of self.old) (StepKind.Do o)) result self.old self.new Nothing }
         ensures state { IsStateOf plan.now inputs.now self.new }
         ensures same { IsSameActor self.old self.new }
+        ensures met { StaysMet plan.now result self.new }
+    {
+        match self.do_operation(plan, inputs, o) {
+            Ok(true) => Acted::Done,
+            Ok(false) => Acted::Stopped,
+            Err(place) => Acted::Failed(place),
+        }
+    }
+
+    /// Does a step of this kind where it is an operation, and tells whether it was one; or ends at the place of
+    /// the operation, where that has no value.
+    #[inline(always)]
+    pub(crate) fn do_kind(
+        &mut self,
+        plan: &Plan,
+        inputs: &Inputs,
+        kind: StepKind,
+    ) -> Result<bool, Place>
+        requires { IsReady plan.now inputs.now self.old kind }
+        ensures acts { (result ≡ Ok false → ⊥) → Acts plan.now.kernel (turn_by plan.now inputs.now (code_of plan.now self.old.actor) (actor_of self.old) kind) (answered_as result) self.old self.new Nothing }
+        ensures left { result ≡ Ok false → self.new ≡ self.old }
+        ensures state { IsStateOf plan.now inputs.now self.new }
+        ensures same { IsSameActor self.old self.new }
+    {
+        match kind {
+            StepKind::Do(o) => self.do_operation(plan, inputs, o),
+            _ => Ok(false),
+        }
+    }
+
+    /// Does an operation, where there is one of this number, or ends where it has no value.
+    #[inline(always)]
+    fn do_operation(&mut self, plan: &Plan, inputs: &Inputs, o: OpId) -> Result<bool, Place>
+        requires { IsReady plan.now inputs.now self.old (StepKind.Do o) }
+        ensures acts { Acts plan.now.kernel (turn_by plan.now inputs.now (code_of plan.now self.old.actor) (actor_of self.old) (StepKind.Do o)) (answered_as result) self.old self.new Nothing }
+        ensures left { result ≡ Ok false → self.new ≡ self.old }
+        ensures state { IsStateOf plan.now inputs.now self.new }
+        ensures same { IsSameActor self.old self.new }
     {
         let Some(op) = ops_of(plan).get(o.0 as usize) else {
-            return Acted::Stopped;
+            return Ok(false);
         };
         match self.values.operate(plan, inputs, op) {
             Ok(()) => {
                 self.move_on(plan);
-                Acted::Done
+                Ok(true)
             }
             Err(_) => {
                 self.ended = true;
-                Acted::Failed(self.next_place())
+                Err(self.next_place())
             }
         }
     }

@@ -6,7 +6,7 @@ ghost use Rattle.sig_model.specs.Actors.{code_of, moved_on};
 ghost use Rattle.sig_model.specs.Runnable.{FillsAt, IsThere, IsRunnable};
 ghost use Rattle.sig_model.specs.Turns.{Takes, received};
 ghost use Rattle.sig_step.specs.Acting.{TakesTurn};
-ghost use Rattle.sig_step.specs.Moving.{IsSameActor, MayGoOn};
+ghost use Rattle.sig_step.specs.Moving.{IsSameActor, MayGoOn, StaysMet};
 ghost use Rattle.sig_step.specs.States.{IsStateOf, actor_of};
 
 use crate::answer::Acted;
@@ -38,6 +38,7 @@ impl ClusterState {
         ensures state { IsStateOf plan.now inputs.now self.new }
         ensures same { IsSameActor self.old self.new }
         ensures ends { E.same ends.old ends.new }
+        ensures met { StaysMet plan.now result self.new }
         ensures pushes { E.pushes ends.new ≡ E.pushes ends.old }
         ensures pops { E.pops ends.new ≡ E.pops ends.old }
     {

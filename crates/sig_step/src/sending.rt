@@ -4,7 +4,7 @@ ghost use Rattle.std.specs.Prelude.{◌≡◌, Contains, length};
 ghost use Rattle.sig_model.specs.Actors.{code_of, moved_on};
 ghost use Rattle.sig_model.specs.Turns.{Puts, item_of};
 ghost use Rattle.sig_step.specs.Acting.{TakesTurn};
-ghost use Rattle.sig_step.specs.Moving.{IsSameActor, MayGoOn};
+ghost use Rattle.sig_step.specs.Moving.{IsSameActor, MayGoOn, StaysMet};
 ghost use Rattle.sig_step.specs.States.{IsStateOf, actor_of};
 ghost use Rattle.sig_values.specs.Values.{seen_in};
 
@@ -44,6 +44,7 @@ impl ClusterState {
         ensures state { IsStateOf plan.now inputs.now self.new }
         ensures same { IsSameActor self.old self.new }
         ensures ends { E.same ends.old ends.new }
+        ensures met { StaysMet plan.now result self.new }
         ensures pushes { E.pushes ends.new ≡ E.pushes ends.old }
         ensures pops { E.pops ends.new ≡ E.pops ends.old }
     {

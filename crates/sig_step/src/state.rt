@@ -5,6 +5,7 @@ ghost use Rattle.sig_base.specs.Places.{packed};
 ghost use Rattle.sig_model.specs.Actors.{code_of};
 ghost use Rattle.sig_plan.specs.Plans.{PlanView};
 
+use crate::moving::step_in;
 use crate::plans::code_at;
 use sig_base::Place;
 use sig_plan::{Plan, Step};
@@ -97,6 +98,6 @@ impl ClusterState {
         requires step { self.now.step < length (code_of plan.now self.now.actor).steps }
         ensures { slice_get (code_of plan.now self.now.actor).steps self.now.step ≡ Some result }
     {
-        self.code(plan)[self.step as usize]
+        step_in(self.code(plan), self.step)
     }
 }

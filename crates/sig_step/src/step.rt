@@ -4,7 +4,7 @@ ghost use Rattle.std.specs.Prelude.{◌≡◌, ◌≤◌, ℕ, false, length, sl
 ghost use Rattle.sig_model.specs.Actors.{code_of, moved_on};
 ghost use Rattle.sig_model.specs.Turns.{Goes, turn, turn_at, turn_by};
 ghost use Rattle.sig_step.specs.Acting.{Counts, MayDo, MayUse, TakesTurn};
-ghost use Rattle.sig_step.specs.Moving.{IsReady, IsSameActor};
+ghost use Rattle.sig_step.specs.Moving.{IsReady, IsSameActor, StaysMet};
 ghost use Rattle.sig_step.specs.States.{IsStateOf, actor_of};
 ghost use Rattle.sig_values.specs.Values.{instant_of};
 
@@ -36,6 +36,7 @@ impl ClusterState {
         ensures turn { TakesTurn E.past E.queues plan.now.kernel (turn plan.now inputs.now self.old.limit self.old.actor (actor_of self.old))
             result self.old self.new ends.old ends.new }
         ensures ends { E.same ends.old ends.new }
+        ensures met { StaysMet plan.now result self.new }
         ensures pushes { E.pushes ends.new ≡ E.pushes ends.old }
         ensures pops { E.pops ends.new ≡ E.pops ends.old }
         ensures counts { Counts plan.now self.old steps.old steps.new }
@@ -68,6 +69,7 @@ impl ClusterState {
         ensures turn { TakesTurn E.past E.queues plan.now.kernel (turn_at plan.now inputs.now (code_of plan.now self.old.actor) (actor_of self.old) (slice_get (code_of plan.now self.old.actor).steps self.old.step))
             result self.old self.new ends.old ends.new }
         ensures ends { E.same ends.old ends.new }
+        ensures met { StaysMet plan.now result self.new }
         ensures pushes { E.pushes ends.new ≡ E.pushes ends.old }
         ensures pops { E.pops ends.new ≡ E.pops ends.old }
         ensures counts { Counts plan.now self.old steps.old steps.new }
@@ -96,6 +98,7 @@ impl ClusterState {
             (if holds then turn_by plan.now inputs.now (code_of plan.now self.old.actor) (actor_of self.old) kind else Goes (moved_on (length (code_of plan.now self.old.actor).steps) (actor_of self.old)))
             result self.old self.new ends.old ends.new }
         ensures ends { E.same ends.old ends.new }
+        ensures met { StaysMet plan.now result self.new }
         ensures pushes { E.pushes ends.new ≡ E.pushes ends.old }
         ensures pops { E.pops ends.new ≡ E.pops ends.old }
     {
@@ -123,6 +126,7 @@ impl ClusterState {
         ensures turn { TakesTurn E.past E.queues plan.now.kernel (turn_by plan.now inputs.now (code_of plan.now self.old.actor) (actor_of self.old) kind)
             result self.old self.new ends.old ends.new }
         ensures ends { E.same ends.old ends.new }
+        ensures met { StaysMet plan.now result self.new }
         ensures pushes { E.pushes ends.new ≡ E.pushes ends.old }
         ensures pops { E.pops ends.new ≡ E.pops ends.old }
     {

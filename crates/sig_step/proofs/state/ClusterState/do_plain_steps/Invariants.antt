@@ -1,0 +1,12 @@
+use Rattle.std.proofs.Common.{ℕ}
+use Rattle.sig_step.specs.Moving.{IsSameActor}
+use Rattle.sig_step.specs.Plain.{DoesPlainSteps}
+use Rattle.sig_step.specs.States.{IsStateOf}
+use Rattle.sig_step.proofs.state.ClusterState.do_plain_steps.Given as goal
+
+abbrev pub invariant-loop : goal.invariant-loop
+invariant-loop l = record {
+  done : (count : ℕ) × DoesPlainSteps l.plan l.inputs count l.fn.self l.self;
+  state : IsStateOf l.plan l.inputs l.self;
+  same : IsSameActor l.fn.self l.self;
+}
