@@ -1,5 +1,6 @@
 pub mod Ending
 pub mod Finishing
+pub mod GoingOn
 pub mod Happening
 pub mod Leaving
 pub mod Linking

@@ -1,10 +1,10 @@
 -- What a look of an actor does to a core.
 use Rattle.std.proofs.Common.{◌≡◌, ◌<◌, ◌≤◌, ◌+◌, ◌^◌, ◌↔◌, ◌∙◌, inl, inr, ℕ, Bool, true, false, cond, List, length, map, set, if◌then◌else◌, refl, sym, ap, subst, arith, length-set}
-use Rattle.std.specs.Prelude.{Some, IsTrue, slice_get}
+use Rattle.std.specs.Prelude.{None, Option, Some, IsTrue, slice_get}
 use Rattle.sig_base.specs.Places.{no_place, packed}
 use Rattle.sig_base.specs.declared.place.Place.{Place}
 use Rattle.sig_core.proofs.Leaving.{Falls, end_falls, get_map, left_falls, map_set, set_there}
-use Rattle.sig_core.proofs.Wording.{word_before_is}
+use Rattle.sig_core.proofs.Wording.{no_word_told, word_before_is}
 use Rattle.sig_core.specs.Cores.{IsActorState, IsCore, Keeps, LeavesLess, Shows, TellsChange, given_of, left_from}
 use Rattle.sig_core.specs.declared.state.Core.{Core}
 use Rattle.sig_meaning.proofs.Numbers.{same_or_not}
@@ -17,6 +17,27 @@ use Rattle.sig_step.specs.States.{IsStateOf, actor_of, place_of}
 use Rattle.sig_step.specs.declared.state.ClusterState.{ClusterState}
 use Rattle.sig_values.proofs.Writing.{some_is}
 use Rattle.sig_values.specs.Values.{instant_of}
+
+-- where no failure is recorded, a look changes nothing
+module _ (c : Core) (k : ℕ) (none : c.word ≡ no_place) where
+  pub no_word_looks : (m : ModelCore) → Shows m c → stepped (given_of c) m (Look k) ≡ m
+  no_word_looks m shows = by (slice_get m.actors k) where
+    before : (place : Place) → word_before m.word place ≡ false
+    before place = ap (λ w. word_before w place) (sym (no_word_told m.word c.word shows.word none))
+
+    by_end : (a : Actor) (ended : Bool) → cond ended m (cond (word_before m.word (next_place (code_of c.plan.now k) a)) (with_actor k (ended_at a) m) m) ≡ m
+    by_end a true = refl
+    by_end a false = ap (λ b. cond b (with_actor k (ended_at a) m) m) (before (next_place (code_of c.plan.now k) a))
+
+    by : (o : Option Actor) → looked c.plan.now k m o ≡ m
+    by None = refl
+    by (Some a) = by_end a a.ended
+
+  pub no_word_keeps : Keeps (Look k) c c
+  no_word_keeps m shows = (subst (λ n. Shows n c) (sym (no_word_looks m shows)) shows, ap (λ (n : ModelCore). n.committed) (no_word_looks m shows))
+
+  pub no_word_tells : TellsChange c (Look k) false
+  no_word_tells m shows = no_word_looks m shows
 
 module _ (old : Core) (is : IsCore old) (k : ℕ) (s next : ClusterState) (at : slice_get old.states.items k ≡ Some s) (fits : s.pos < 2 ^ 32) (below : packed (place_of s) ≤ no_place)
     (answer : Bool) (answers : IsTrue answer ↔ ((s.ended ≡ false) × (old.word < packed (place_of s)))) (next_is : next ≡ (if answer then record s { ended = true } else s))

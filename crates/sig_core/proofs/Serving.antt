@@ -1,6 +1,6 @@
 -- Actors of a core that rest.
-use Rattle.std.proofs.Common.{◌≡◌, ◌≢◌, ◌<◌, ◌≤◌, ◌-◌, ◌+◌, ◌*◌, ◌∙◌, inl, inr, false, ℕ, zero, suc, List, [], ◌∷◌, length, map, refl, sym, ap, subst, arith}
-use Rattle.std.specs.Prelude.{None, Option, Some, slice_get}
+use Rattle.std.proofs.Common.{◌≡◌, ◌≢◌, ◌<◌, ◌≤◌, ◌-◌, ◌+◌, ◌*◌, ◌⊎◌, ◌∙◌, inl, inr, false, ℕ, zero, suc, List, [], ◌∷◌, length, map, refl, sym, ap, subst, arith}
+use Rattle.std.specs.Prelude.{None, Option, Some, min, slice_get}
 use Rattle.std.proofs.Math.Nat.{mul-le-mul_right, suc-mul}
 use Rattle.sig_core.proofs.Leaving.{get_map}
 use Rattle.sig_core.proofs.Resting.{act_rests, has_end, look_rests}
@@ -44,25 +44,19 @@ names_there plan accepted k number step at j names = by step.kind (step_names pl
   by (Collect l) named is = subst (λ n. n < length plan.links) (some_is l j is) named
   by Commit named is = absurd (let e : None ≡ Some j = is in cc)
 
--- an actor below a low number has no end of the link
-pub apart_below : (c : Core) → IsAccepted c.plan.now → (k low : ℕ) → IsLow c k low → (i : ℕ) → i < low → (j : ℕ) → next_link c k ≡ Some j → next_link c i ≡ Some j → ⊥
-apart_below c accepted k low is i lt j names_k names_i = by (slice_get c.states.items i) refl names_i where
-  plan : PlanView
-  plan = c.plan.now
+-- an actor has one of the ends of the link that its next step uses
+pub at_end : (c : Core) → IsAccepted c.plan.now → (i j : ℕ) → next_link c i ≡ Some j → (info : LinkInfo) × (slice_get c.plan.now.links j ≡ Some info) × ((i ≡ info.writer) ⊎ (i ≡ info.reader))
+at_end c accepted i j names = by (slice_get c.states.items i) names where
+  at_step : (number : ℕ) (step : Option Step) → slice_get (code_of c.plan.now i).steps number ≡ step → link_at step ≡ Some j
+      → (info : LinkInfo) × (slice_get c.plan.now.links j ≡ Some info) × ((i ≡ info.writer) ⊎ (i ≡ info.reader))
+  at_step number None at there = absurd (let e : None ≡ Some j = there in cc)
+  at_step number (Some step) at there =
+      let (info, found) = some_at c.plan.now.links j (names_there c.plan.now accepted i number step at j there) in
+      (info, found, has_end c.plan.now accepted i number step at j info found there)
 
-  at_step : (s : ClusterState) (step : Option Step) → slice_get (code_of c.plan.now i).steps s.step ≡ step → link_at step ≡ Some j → ⊥
-  at_step s None at names = let e : None ≡ Some j = names in cc
-  at_step s (Some step) at names =
-      let (info, there) = some_at c.plan.now.links j (names_there c.plan.now accepted i s.step step at j names) in
-      let ends = is.ends j info names_k there in
-      elim (has_end c.plan.now accepted i s.step step at j info there names) [
-        | inl same ↦ let above = ends.0 in omega (arith, lt, same, above)
-        | inr same ↦ let above = ends.1 in omega (arith, lt, same, above)
-      ]
-
-  by : (o : Option ClusterState) → slice_get c.states.items i ≡ o → link_by c.plan.now i o ≡ Some j → ⊥
-  by None at names = let e : None ≡ Some j = names in cc
-  by (Some s) at names = at_step s (slice_get (code_of c.plan.now i).steps s.step) refl names
+  by : (o : Option ClusterState) → link_by c.plan.now i o ≡ Some j → (info : LinkInfo) × (slice_get c.plan.now.links j ≡ Some info) × ((i ≡ info.writer) ⊎ (i ≡ info.reader))
+  by None there = absurd (let e : None ≡ Some j = there in cc)
+  by (Some s) there = at_step s.step (slice_get (code_of c.plan.now i).steps s.step) refl there
 
 -- An actor that rests in a state of one core rests in each state of another one, where its own state, its link and the word
 -- are the same.
@@ -173,7 +167,7 @@ module _ {S : Type 0} (took : S → List ℕ → S → Type 0) (old new : Core) 
     within = (let c = count in let own = is_low.own in omega (arith, c, there, own));
     rest = λ i lt.
         let own = is_low.own in
-        rests_on old new is_old same accepted m shows k (next_link old k) touches word i (λ e. omega (arith, e, lt, own)) (λ j names names_i. apart_below old accepted k low is_low i lt j names names_i)
+        rests_on old new is_old same accepted m shows k (next_link old k) touches word i (λ e. omega (arith, e, lt, own)) (λ j names names_i. is_low.apart i lt j names names_i)
         (rest i (omega (arith, lt, own)) m shows);
     less = left_falls_by old new k low count less;
   }
@@ -202,24 +196,50 @@ module _ {S : Type 0} (took : S → List ℕ → S → Type 0) (old new : Core) 
           omega (arith, rows, c, there);
     }
 
--- ---- the least of an actor and of those at the ends of its link
+-- ---- the least of an actor and the one that waits at the other end of its link
 
 pub low_alone : (c : Core) (k : ℕ) → next_link c k ≡ None → IsLow c k k
-low_alone c k none = record { own = omega arith; ends = λ j link names at. absurd (let e : None ≡ Some j = sym none ∙ names in cc) }
+low_alone c k none = record { own = omega arith; apart = λ i lt j names names_i. let e : None ≡ Some j = sym none ∙ names in cc }
 
-pub low_past : (c : Core) (k l : ℕ) → next_link c k ≡ Some l → slice_get c.plan.now.links l ≡ None → IsLow c k k
-low_past c k l is none = record {
-  own = omega arith;
-  ends = λ j link names at.
-      let same : l ≡ j = some_is l j (sym is ∙ names) in
-      absurd (let e : None ≡ Some link = sym none ∙ (ap (slice_get c.plan.now.links) same ∙ at) in cc);
-}
+module _ (c : Core) (accepted : IsAccepted c.plan.now) (k j : ℕ) (names : next_link c k ≡ Some j) (other : ℕ)
+    (least : (link : LinkInfo) → slice_get c.plan.now.links j ≡ Some link → other ≡ min link.writer link.reader) where
+  -- the actors of the link are not below the lesser one of its ends
+  not_below : (i : ℕ) → next_link c i ≡ Some j → other ≤ i
+  not_below i names_i =
+      let (info, there, end) = at_end c accepted i j names_i in
+      let is = least info there in
+      elim end [ inl same ↦ grind (arith, is, same) | inr same ↦ grind (arith, is, same) ]
 
-pub low_least : (c : Core) (k l : ℕ) (info : LinkInfo) → next_link c k ≡ Some l → slice_get c.plan.now.links l ≡ Some info → (low : ℕ) → low ≤ k → low ≤ info.writer → low ≤ info.reader → IsLow c k low
-low_least c k l info is there low own writer reader = record {
-  own = own;
-  ends = λ j link names at.
-      let same : l ≡ j = some_is l j (sym is ∙ names) in
-      let found : info ≡ link = some_is info link (sym there ∙ (ap (slice_get c.plan.now.links) same ∙ at)) in
-      (subst (λ (x : LinkInfo). low ≤ x.writer) found writer, subst (λ (x : LinkInfo). low ≤ x.reader) found reader);
-}
+  -- one below the actor k is the one at the other end
+  is_other : (i : ℕ) → i < k → next_link c i ≡ Some j → i ≡ other
+  is_other i lt names_i =
+      let (info, there, end) = at_end c accepted i j names_i in
+      let (mine, there_k, end_k) = at_end c accepted k j names in
+      by info (least info there) end (subst (λ (x : LinkInfo). (k ≡ x.writer) ⊎ (k ≡ x.reader)) (some_is mine info (sym there_k ∙ there)) end_k) where
+        by : (x : LinkInfo) → other ≡ min x.writer x.reader → (i ≡ x.writer) ⊎ (i ≡ x.reader) → (k ≡ x.writer) ⊎ (k ≡ x.reader) → i ≡ other
+        by x is (inl same) (inl same_k) = absurd (omega (arith, lt, same, same_k))
+        by x is (inl same) (inr same_k) = grind (arith, is, lt, same, same_k)
+        by x is (inr same) (inl same_k) = grind (arith, is, lt, same, same_k)
+        by x is (inr same) (inr same_k) = absurd (omega (arith, lt, same, same_k))
+
+  here : (l : ℕ) → next_link c k ≡ Some l → l ≡ j
+  here l names_l = some_is l j (sym names_l ∙ names)
+
+  -- it is below, and waits there
+  pub low_other : other < k → IsLow c k other
+  low_other lt = record {
+    own = omega (arith, lt);
+    apart = λ i below l names_l names_i.
+        let least_i = not_below i (names_i ∙ ap (λ n. Some n) (here l names_l)) in
+        omega (arith, below, least_i);
+  }
+
+  -- it is not below, or does not wait there
+  pub low_own : (other < k → next_link c other ≡ Some j → ⊥) → IsLow c k k
+  low_own apart = record {
+    own = omega arith;
+    apart = λ i below l names_l names_i.
+        let names_j : next_link c i ≡ Some j = names_i ∙ ap (λ n. Some n) (here l names_l) in
+        let same = is_other i below names_j in
+        apart (omega (arith, same, below)) (subst (λ n. next_link c n ≡ Some j) same names_j);
+  }

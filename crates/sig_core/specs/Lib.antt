@@ -1,6 +1,7 @@
 pub mod Acting
 pub mod Cores
 pub mod Finishing
+pub mod GoingOn
 pub mod Lists
 pub mod Making
 pub mod Resting

@@ -1,5 +1,6 @@
 -- Actors for which no event changes anything.
 use Rattle.std.specs.Prelude.{◌≡◌, ◌≢◌, ◌<◌, ◌≤◌, ◌-◌, ◌+◌, ◌*◌, ℕ, Option, None, Some, length, slice_get}
+use Rattle.sig_base.specs.Places.{no_place}
 use Rattle.sig_core.specs.Cores.{Shows, given_of, left_in}
 use Rattle.sig_core.specs.Finishing.{IsStill}
 use Rattle.sig_core.specs.Lists.{queues_of}
@@ -10,8 +11,8 @@ use Rattle.sig_model.specs.declared.event.Event.TheVariants.{Look}
 use Rattle.sig_plan.specs.Plans.{PlanView}
 use Rattle.sig_plan.specs.declared.code.Step.{Step}
 use Rattle.sig_plan.specs.declared.code.StepKind.{StepKind}
-use Rattle.sig_plan.specs.declared.code.StepKind.TheVariants.{Do, Send, Receive, Report, Collect, Commit}
 use Rattle.sig_plan.specs.declared.parts.LinkInfo.{LinkInfo}
+use Rattle.sig_plan.specs.declared.code.StepKind.TheVariants.{Do, Send, Receive, Report, Collect, Commit}
 use Rattle.sig_step.specs.States.{actor_of}
 use Rattle.sig_step.specs.declared.state.ClusterState.{ClusterState}
 
@@ -53,10 +54,19 @@ pub record Touches (k : ℕ) (link : Option ℕ) (old new : Core) : Type 0 where
   pub states : (i : ℕ) → i ≢ k → slice_get new.states.items i ≡ slice_get old.states.items i
   pub links : (j : ℕ) → link ≢ Some j → queues_of new.lists j ≡ queues_of old.lists j
 
--- A number is not above that of the actor k, nor above those at the ends of the link that its next step uses.
+-- A number is not above that of the actor k, and no actor below it uses at its next step the link that the next step of k uses.
 pub record IsLow (c : Core) (k low : ℕ) : Type 0 where
   pub own : low ≤ k
-  pub ends : (j : ℕ) (link : LinkInfo) → next_link c k ≡ Some j → slice_get c.plan.now.links j ≡ Some link → (low ≤ link.writer) × (low ≤ link.reader)
+  pub apart : (i : ℕ) → i < low → (j : ℕ) → next_link c k ≡ Some j → next_link c i ≡ Some j → ⊥
+
+-- The next step of the actor i uses no link of the actor k.
+abbrev pub IsApart : Core → ℕ → ℕ → Type 0
+IsApart c k i = (j : ℕ) (link : LinkInfo) → next_link c i ≡ Some j → slice_get c.plan.now.links j ≡ Some link → (k ≢ link.writer) × (k ≢ link.reader)
+
+-- No failure is recorded, and no lesser actor uses at its next step a link of the actor k.
+pub record IsAlone (c : Core) (k : ℕ) : Type 0 where
+  pub word : c.word ≡ no_place
+  pub apart : (i : ℕ) → i < k → IsApart c k i
 
 -- what is left where the actors below a number rest
 abbrev pub left_behind : Core → ℕ → ℕ

@@ -18,6 +18,7 @@ use std::sync::ledger::{Blank, Ledger};
 
 impl<'a> Core<'a> {
     /// Lets an actor do its next step, and appends the text of a reaction that it commits.
+    #[inline(always)]
     pub(crate) fn act<S: Sink>(&mut self, k: u32, sink: &mut S) -> Result<bool, WriteFault>
         requires { IsCore self.old }
         ensures core { IsCore self.new }
@@ -43,6 +44,7 @@ impl<'a> Core<'a> {
     }
 
     /// Lets an actor do its next step.
+    #[inline(always)]
     fn step<L: Ledger>(&mut self, k: u32, blank: Blank) -> Acted
         requires core { IsCore self.old }
         requires actor { k < length self.old.states.items }
@@ -66,6 +68,7 @@ impl<'a> Core<'a> {
     }
 
     /// Lets an actor do its turn, which may leave a place to be recorded.
+    #[inline(always)]
     fn turn<L: Ledger>(&mut self, k: u32, blank: Blank) -> Acted
         requires core { IsCore self.old }
         requires actor { k < length self.old.states.items }
@@ -82,6 +85,7 @@ impl<'a> Core<'a> {
 }
 
 /// Whether a step that answers this changes the state.
+#[inline(always)]
 fn changes(acted: Acted) -> bool
     ensures { result ≡ changes acted }
 {

@@ -6,13 +6,16 @@ mod answer;
 mod cause;
 mod event;
 mod finish;
+mod going_on;
 mod laws;
 mod lists;
 mod looking;
 mod making;
 mod plans;
+mod serve;
 mod state;
 mod telling;
+mod waiting;
 
 pub use answer::{ActorState, CoreAnswer};
 pub use laws::{cores_keep_to_the_plan, runs_keep_to_the_plan};

@@ -47,6 +47,7 @@ impl Ends for Lists {
 
     ghost same_itself = { λ lists. refl };
 
+    #[inline(always)]
     fn push(&mut self, link: u32, item: i64) -> Result<(), Full> {
         let queue = &mut self.queues[link as usize];
         if queue.len() >= queue.capacity() {
@@ -56,6 +57,7 @@ impl Ends for Lists {
         Ok(())
     }
 
+    #[inline(always)]
     fn pop(&mut self, link: u32) -> Option<i64> {
         self.queues[link as usize].pop_front()
     }

@@ -8,8 +8,27 @@ ghost use Rattle.sig_model.specs.declared.event.Event.TheVariants.{Look};
 use crate::state::Core;
 
 impl<'a> Core<'a> {
-    /// Lets an actor look at the failure word: it ends where it runs and the word is before its next place.
+    /// Lets an actor look at the failure word: it ends where it runs and the word is before its next place,
+    /// which it never is where no failure is recorded.
+    #[inline(always)]
     pub(crate) fn look(&mut self, k: u32) -> bool
+        requires { IsCore self.old }
+        ensures core { IsCore self.new }
+        ensures run { IsSameRun self.old self.new }
+        ensures happened { Keeps (Look k) self.old self.new }
+        ensures answer { TellsChange self.old (Look k) result }
+        ensures left { LeavesLess self.old self.new result }
+        ensures touches { Touches k None self.old self.new }
+        ensures word { self.new.word ≡ self.old.word }
+    {
+        if self.word == u64::MAX {
+            return false;
+        }
+        self.look_at_word(k)
+    }
+
+    /// The same, whatever the word is.
+    fn look_at_word(&mut self, k: u32) -> bool
         requires { IsCore self.old }
         ensures core { IsCore self.new }
         ensures run { IsSameRun self.old self.new }

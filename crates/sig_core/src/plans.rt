@@ -9,6 +9,7 @@ use sig_base::OpId;
 use sig_plan::{LinkInfo, Op, Plan, StepKind};
 
 /// A law: each plan is an accepted one.
+#[inline(always)]
 pub(crate) fn plans_are_accepted(plan: &Plan)
     ensures { IsAccepted plan.now }
 {
@@ -45,6 +46,7 @@ pub(crate) fn links_in(plan: &Plan) -> usize
 }
 
 /// The links of a plan.
+#[inline(always)]
 pub(crate) fn links_of(plan: &Plan) -> &[LinkInfo]
     ensures { result.now ≡ plan.now.links }
 {
@@ -52,6 +54,7 @@ pub(crate) fn links_of(plan: &Plan) -> &[LinkInfo]
 }
 
 /// What a step of an actor is for.
+#[inline(always)]
 pub(crate) fn step_at(plan: &Plan, actor: u32, step: u32) -> StepKind
     requires actor { actor < length plan.now.codes }
     requires step { step < length (code_of plan.now actor).steps }
@@ -61,6 +64,7 @@ pub(crate) fn step_at(plan: &Plan, actor: u32, step: u32) -> StepKind
 }
 
 /// The link that a step uses, where it uses one.
+#[inline(always)]
 pub(crate) fn link_of(kind: StepKind) -> Option<u32>
     ensures { result ≡ link_of kind }
 {

@@ -2,7 +2,7 @@ use Rattle.sig_core.proofs.Finishing.{event_leads}
 use Rattle.sig_core.proofs.Happening.{kept_happened}
 use Rattle.sig_core.proofs.Serving.{looked_serves}
 use Rattle.sig_model.specs.declared.event.Event.TheVariants.{Look}
-use Rattle.sig_core.proofs.state.Core.serve.Goals as goal
+use Rattle.sig_core.proofs.state.Core.serve_event.Goals as goal
 
 pub returns-then-look-clause-leads : goal.returns-then-look-clause-leads
 returns-then-look-clause-leads g c =
