@@ -15,8 +15,8 @@ use sig_base::Place;
 use sig_halt::{Halt, HaltSeat};
 
 impl Member {
-    /// What a refusal of a link comes to, where this was the actor's step a stretch ago. Where it did no step
-    /// since, it looks at the failure word, which ends it where that is before its next place.
+    /// What a refusal of a link comes to, where this was the actor's step a stretch ago. It looks at the failure
+    /// word, which ends it where that is before its next place.
     pub(crate) fn rest(&mut self, step: u32, halt: &Halt, seat: &mut HaltSeat) -> Round
         requires word { IsSeatOf halt.now seat.old }
         ensures keeps { KeepsMember self.old self.new }
@@ -25,16 +25,14 @@ impl Member {
         ensures served { (given : Given) (others : ℕ) (committed : List Reaction) → IsServed given halt.now others committed self.old seat.old
             → IsServed given halt.now others committed self.new seat.new }
     {
-        if self.state.step() != step {
-            return Round::Moved;
-        }
+        let moved = self.state.step() != step;
         let word = seat.look(halt);
         if self.state.look(word) {
             self.ending = Some(Ending::Looked);
             halt.wake();
             return Round::Ended;
         }
-        Round::Still
+        Round::of_refused(moved)
     }
 
     /// Notes that the actor has failed at a place, which the seat records.

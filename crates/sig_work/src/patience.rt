@@ -1,14 +1,11 @@
 //! How a thread waits that finds nothing to do.
 
 use sig_halt::{Halt, Rest};
+use std::hint;
 use std::sync::Wait;
-use std::{hint, thread};
 
-/// How often in a row it only spins.
-const SPINS: u32 = 10;
-
-/// How often it then lets other threads go on, before it rests.
-const YIELDS: u32 = 4;
+/// How often in a row it only spins, before it rests.
+const SPINS: u32 = 128;
 
 /// How often something is done before threads that rest are told.
 const MOVES: u32 = 16;
@@ -46,22 +43,19 @@ impl<'a> Patience<'a> {
         }
     }
 
-    /// Waits: it tells those that rest of all that was done before, and spins, each time twice as long as the
-    /// time before; then it lets other threads go on, then announces a rest, and from the next time on it rests
-    /// until another thread has done something.
+    /// Waits: it tells those that rest of all that was done before, and spins, a little longer each time; then it
+    /// announces a rest, and the next time it rests until another thread has done something. It never yields:
+    /// beside other programs a yield may cost it a whole time slice.
     pub(crate) fn wait<R: Wait>(&mut self, rt: &R) {
         if self.rounds == 0 {
             self.halt.wake();
         }
         if self.rounds < SPINS {
-            spin(1u32 << self.rounds);
-        } else if self.rounds < SPINS + YIELDS {
-            thread::yield_now();
+            spin(1 + self.rounds / 4);
+            self.rounds += 1;
         } else {
             self.rest(rt);
-            return;
         }
-        self.rounds += 1;
     }
 
     /// Announces a rest, or rests where it is announced. A thread that was woken spins again before it rests.

@@ -46,6 +46,7 @@ impl Member {
         for _ in 0..STRETCHES_IN_TURN {
             match self.turn(rt, plan, inputs, halt, seat, gate, sink)? {
                 Round::Moved => round = Round::Moved,
+                Round::Stuck => return Ok(Round::Moved),
                 Round::Still => break,
                 Round::Ended => return Ok(Round::Ended),
             }

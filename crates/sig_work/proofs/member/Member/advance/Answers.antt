@@ -54,3 +54,11 @@ pub returns-in-Still-clause-serves : goal.returns-in-Still-clause-serves
 returns-in-Still-clause-serves g c =
     member_then g.S.Sink.took g.S.Sink.took g.met.S.Sink.took_both c.args.plan.now c.args.inputs.now c.args.halt.now c.args.sink.now c.loop.sink c.turn.new.sink
     c.args.self.now c.args.seat.now c.loop.self c.loop.seat c.turn.new.self c.turn.new.seat c.turn.ensures.keeps c.loop.invariant.serves c.in_ok-turn.ensures.serves
+
+pub returns-in-Stuck-clause-keeps : goal.returns-in-Stuck-clause-keeps
+returns-in-Stuck-clause-keeps g c = keeps_then c.args.self.now c.loop.self c.turn.new.self c.loop.invariant.keeps c.turn.ensures.keeps
+
+pub returns-in-Stuck-clause-serves : goal.returns-in-Stuck-clause-serves
+returns-in-Stuck-clause-serves g c =
+    member_then g.S.Sink.took g.S.Sink.took g.met.S.Sink.took_both c.args.plan.now c.args.inputs.now c.args.halt.now c.args.sink.now c.loop.sink c.turn.new.sink
+    c.args.self.now c.args.seat.now c.loop.self c.loop.seat c.turn.new.self c.turn.new.seat c.turn.ensures.keeps c.loop.invariant.serves c.in_ok-turn.ensures.serves
