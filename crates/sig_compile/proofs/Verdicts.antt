@@ -1,12 +1,14 @@
 -- No program is both accepted and refused, and a refused one has one line.
-use Rattle.std.proofs.Common.{◌≡◌, ◌∙◌, ℕ, List, inl, inr, sym, ap, subst, arith}
+use Rattle.std.proofs.Common.{◌≡◌, ◌≤◌, ◌⊎◌, ◌∙◌, ℕ, List, length, inl, inr, refl, sym, ap, subst, arith}
+use Rattle.sig_base.specs.declared.limits.TheConstants.{PROGRAM_BYTES}
 use Rattle.sig_back.specs.Faults.{IsFaultOf, told_as}
 use Rattle.sig_back.specs.Shown.{fault_line}
 use Rattle.sig_front.specs.Shown.{front_line}
 use Rattle.sig_front.proofs.OneKernel.{kernel_once, kernel_or_refusal, no_kernel_once}
 use Rattle.sig_kernel.specs.declared.kernel.Kernel.{Kernel}
 use Rattle.sig_plan.proofs.FaultOnce as faults
-use Rattle.sig_compile.specs.Acceptance.{AreRefused, IsAcceptedAs, IsAcceptedProgram, IsRefusedKernel, IsRefusedProgram, IsRefusedText}
+use Rattle.sig_plan.specs.Acceptance.{IsAcceptedKernel, IsRefusedFor, KernelFault}
+use Rattle.sig_compile.specs.Acceptance.{AreRefused, HasKernel, IsAcceptedAs, IsAcceptedProgram, IsRefusedKernel, IsRefusedProgram, IsRefusedText}
 
 pub accepted_once : (bytes : List ℕ) (a b : Kernel) → IsAcceptedAs bytes a → IsAcceptedAs bytes b → a ≡ b
 accepted_once bytes a b one other = kernel_once bytes a b one.has.text other.has.text
@@ -44,3 +46,14 @@ program_once bytes line other (inl a) (inl b) = a.1 ∙ sym b.1
 program_once bytes line other (inl a) (inr b) = absurd (omega (arith, a.0, b.0))
 program_once bytes line other (inr a) (inl b) = absurd (omega (arith, a.0, b.0))
 program_once bytes line other (inr a) (inr b) = refused_once bytes line other a.1 b.1
+
+-- the text of a program with a kernel is accepted, or refused, since its kernel is
+pub with_verdict : ((kernel : Kernel) → IsAcceptedKernel kernel ⊎ ((fault : KernelFault) × IsRefusedFor kernel fault)) → (bytes : List ℕ) (kernel : Kernel) → length bytes ≤ PROGRAM_BYTES → HasKernel bytes kernel
+    → IsAcceptedProgram bytes ⊎ ((line : List ℕ) × IsRefusedProgram bytes line)
+with_verdict decided bytes kernel short has = elim (decided kernel) [
+  | inl accepted ↦ inl (record { short = short; kernel = kernel; is = record { has = has; accepted = accepted } })
+  | inr refused ↦
+      let told : IsFaultOf kernel (told_as kernel refused.0) = (refused.0, refused.1, refl) in
+      let is : IsRefusedKernel bytes (fault_line (told_as kernel refused.0)) = record { kernel = kernel; has = has; fault = told_as kernel refused.0; told = told; says = refl } in
+      inr (fault_line (told_as kernel refused.0), inr (short, inr is))
+]

@@ -1,22 +1,35 @@
 //! What is so of every program.
 
-ghost use Rattle.std.specs.Prelude.{◌≡◌, ℕ, List};
+ghost use Rattle.std.specs.Prelude.{◌≡◌, ◌⊎◌, ◌≤◌, ℕ, List, length};
+ghost use Rattle.sig_base.specs.declared.limits.TheConstants.{PROGRAM_BYTES};
+ghost use Rattle.sig_kernel.specs.declared.kernel.Kernel.{Kernel};
 ghost use Rattle.sig_text.specs.Files.{Contents};
 ghost use Rattle.sig_code.specs.Texts.{IsCodeText};
 ghost use Rattle.sig_plan.specs.Plans.{IsAccepted, PlanView};
 ghost use Rattle.sig_print.specs.Canonical.{canonical_text};
 ghost use Rattle.sig_outcome.specs.Outcomes.{Outcome, WritesDue, done};
-ghost use Rattle.sig_compile.specs.Acceptance.{IsAcceptedProgram, IsRefusedProgram};
+ghost use Rattle.sig_compile.specs.Acceptance.{HasKernel, IsAcceptedProgram, IsRefusedProgram};
 ghost use Rattle.sig_compile.specs.Compiling.{CompileComesTo, IsDueOf, IsVerdictText};
 ghost use Rattle.sig_compile.specs.Complete.{CanCompile, CanPrint};
 ghost use Rattle.sig_compile.specs.Printing.{PrintComesTo};
 ghost use Rattle.sig_compile.specs.declared.product.Product.{Product};
+
+use sig_deciding::kernels_are_accepted_or_refused;
 
 /// A law: no program is both accepted and refused, and a refused one has one line.
 pub fn one_verdict()
     ensures apart { (bytes line : List ℕ) → IsAcceptedProgram bytes → IsRefusedProgram bytes line → ⊥ }
     ensures one { (bytes line other : List ℕ) → IsRefusedProgram bytes line → IsRefusedProgram bytes other → line ≡ other }
 {}
+
+/// A law: bytes that are not too many and are the text of a program with a kernel are an accepted program, or
+/// a refused one with its line.
+pub fn kernels_have_a_verdict()
+    ensures { (bytes : List ℕ) (kernel : Kernel) → length bytes ≤ PROGRAM_BYTES → HasKernel bytes kernel
+        → IsAcceptedProgram bytes ⊎ ((line : List ℕ) × IsRefusedProgram bytes line) }
+{
+    kernels_are_accepted_or_refused();
+}
 
 /// A law: a program that is accepted is compiled. Whatever its compiling comes to has the text that is due
 /// of its kernel, with status 0. The verdict is there, and where its kernel has a plan, so is the code.

@@ -14,7 +14,7 @@ mod product;
 
 pub use check::compile_command;
 pub use compile::plan_of;
-pub use laws::{good_programs_compile, good_texts_print, one_verdict};
+pub use laws::{good_programs_compile, good_texts_print, kernels_have_a_verdict, one_verdict};
 pub use load::load_plan;
 pub use print::print_command;
 pub use product::Product;
