@@ -8,7 +8,9 @@ mod perform;
 mod top;
 mod words;
 
-pub use sig_compile::{good_programs_compile, good_texts_print, kernels_have_a_verdict, one_verdict};
+pub use sig_compile::{
+    good_programs_compile, good_texts_print, kernels_have_a_verdict, one_verdict,
+};
 pub use sig_loads::good_loads_end;
 pub use sig_plays::good_plays_end;
 pub use sig_runs::good_runs_end;
