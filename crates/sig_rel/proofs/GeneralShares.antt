@@ -9,6 +9,7 @@ use Rattle.std.proofs.lemmas.Nat.{pow_pos}
 use Rattle.std.proofs.lemmas.List.FromFn.{length-range_with_len}
 use Rattle.sig_dd.specs.Nodes.{StoreView, allowance}
 use Rattle.sig_dd.specs.declared.answer.DdAnswer.{DdAnswer}
+use Rattle.sig_dd.specs.declared.node.Ref.{Ref}
 use Rattle.sig_kernel.specs.declared.kernel.Kernel.{Kernel}
 use Rattle.sig_clock.specs.SameClocks.{AreLeast}
 use Rattle.sig_rel.specs.Answers.{IsFromStore}
@@ -16,11 +17,9 @@ use Rattle.sig_rel.specs.FreeColumns.{Adds}
 use Rattle.sig_rel.specs.GeneralColumns.{substituting}
 use Rattle.sig_rel.specs.OwnColumns.{classes_below}
 use Rattle.sig_rel.specs.Relations.{IsUnknownCount}
-use Rattle.sig_rel.specs.Residues.{left_refs}
 use Rattle.sig_rel.specs.Shares.{IsRefusedFor, KeepsToShare, Makes, share_of}
 use Rattle.sig_rel.specs.declared.answer.RelAnswer.{RelAnswer}
 use Rattle.sig_rel.specs.declared.answer.RelAnswer.TheVariants.{OutOfMemory}
-use Rattle.sig_rel.specs.declared.general.Left.{Left}
 use Rattle.sig_rel.proofs.AddingLemmas.{refused_later}
 use Rattle.sig_rel.proofs.ShareLemmas.{refused_as}
 use Rattle.sig_rel.proofs.UsedLemmas.{one_least}
@@ -59,29 +58,36 @@ within kernel least are u is first n le =
     subst (λ m. substituting kernel u + (11 * length kernel.equations + classes_below least (length least)) * (2 ^ m - 1) ≤ share_of kernel u) (sym (length-range_with_len first n))
     (fits (length kernel.equations) (classes_below least (length least)) u (u * u * u) (2 ^ u) (2 ^ n) few (let e = pow_pos u in omega (arith, e)) (pow_mono le) (cubed u))
 
+-- what was made of the columns, by no more calls than ask for what is left, is within the share too
 module _ (kernel : Kernel) (least : List ℕ) (are : AreLeast kernel least) (Wide : List ℕ → Type 0) (first n : ℕ) (wide : Wide (range_with_len first n)) (few : (u : ℕ) → IsUnknownCount kernel u → n ≤ u)
-    (r s t : StoreView) where
-  all_calls : (left : Left) → ((u : ℕ) → IsUnknownCount kernel u → Adds (substituting kernel u) r s (Ok tt)) → Makes (11 * length kernel.equations + classes_below least (length least)) Wide s t left_refs (let d : Result Left DdAnswer = Ok left in d)
+    {X : Type 0} (refs : X → List Ref) (calls : ℕ) (most : calls ≤ 11 * length kernel.equations + classes_below least (length least)) (r s t : StoreView) where
+  enough : (u : ℕ) → IsUnknownCount kernel u → substituting kernel u + calls * allowance (range_with_len first n) ≤ share_of kernel u
+  enough u is =
+      let a = within kernel least are u is first n (few u is) in
+      let b : calls * allowance (range_with_len first n) ≤ (11 * length kernel.equations + classes_below least (length least)) * allowance (range_with_len first n) = mul-le-mul_right (allowance (range_with_len first n)) most in
+      omega (arith, a, b)
+
+  all_calls : (made : X) → ((u : ℕ) → IsUnknownCount kernel u → Adds (substituting kernel u) r s (Ok tt)) → Makes calls Wide s t refs (let d : Result X DdAnswer = Ok made in d)
       → (u : ℕ) → IsUnknownCount kernel u → length t.nodes ≤ length r.nodes + share_of kernel u
-  all_calls left adds makes u is =
+  all_calls made adds makes u is =
       let lead = makes.leads (range_with_len first n) wide in
       let a = (adds u is).added in
       let b = lead.share.added in
-      let c = within kernel least are u is first n (few u is) in
+      let c = enough u is in
       omega (arith, a, b, c)
 
   module _ {T : Type 0} where
-    pub made_within_share : (left : Left) (result : T) → ((u : ℕ) → IsUnknownCount kernel u → Adds (substituting kernel u) r s (Ok tt)) → Makes (11 * length kernel.equations + classes_below least (length least)) Wide s t left_refs (let d : Result Left DdAnswer = Ok left in d)
+    pub made_within_share : (made : X) (result : T) → ((u : ℕ) → IsUnknownCount kernel u → Adds (substituting kernel u) r s (Ok tt)) → Makes calls Wide s t refs (let d : Result X DdAnswer = Ok made in d)
         → KeepsToShare kernel r t (let x : Result T RelAnswer = Ok result in x)
-    made_within_share left result adds makes = record { added = all_calls left adds makes; refused = λ u is. tt }
+    made_within_share made result adds makes = record { added = all_calls made adds makes; refused = λ u is. tt }
 
     -- memory alone was wanting at last
-    pub lacked_within_share : (left : Left) (result : Result T RelAnswer) → ((u : ℕ) → IsUnknownCount kernel u → Adds (substituting kernel u) r s (Ok tt)) → Makes (11 * length kernel.equations + classes_below least (length least)) Wide s t left_refs (let d : Result Left DdAnswer = Ok left in d)
+    pub lacked_within_share : (made : X) (result : Result T RelAnswer) → ((u : ℕ) → IsUnknownCount kernel u → Adds (substituting kernel u) r s (Ok tt)) → Makes calls Wide s t refs (let d : Result X DdAnswer = Ok made in d)
         → IsErrAnd result (λ answer. answer ≡ OutOfMemory) → KeepsToShare kernel r t result
-    lacked_within_share left (Ok x) adds makes is = absurd is
-    lacked_within_share left (Err answer) adds makes is = record { added = all_calls left adds makes; refused = λ u count. subst (IsRefusedFor r t (share_of kernel u)) (sym is) tt }
+    lacked_within_share made (Ok x) adds makes is = absurd is
+    lacked_within_share made (Err answer) adds makes is = record { added = all_calls made adds makes; refused = λ u count. subst (IsRefusedFor r t (share_of kernel u)) (sym is) tt }
 
-    pub left_within_share : (why : DdAnswer) (result : Result T RelAnswer) → ((u : ℕ) → IsUnknownCount kernel u → Adds (substituting kernel u) r s (Ok tt)) → Makes (11 * length kernel.equations + classes_below least (length least)) Wide s t left_refs (let d : Result Left DdAnswer = Err why in d)
+    pub left_within_share : (why : DdAnswer) (result : Result T RelAnswer) → ((u : ℕ) → IsUnknownCount kernel u → Adds (substituting kernel u) r s (Ok tt)) → Makes calls Wide s t refs (let d : Result X DdAnswer = Err why in d)
         → IsErrAnd result (IsFromStore why) → KeepsToShare kernel r t result
     left_within_share why (Ok x) adds makes from = absurd from
     left_within_share why (Err answer) adds makes from = record {
@@ -89,15 +95,14 @@ module _ (kernel : Kernel) (least : List ℕ) (are : AreLeast kernel least) (Wid
           let share = makes.leads (range_with_len first n) wide in
           let a = (adds u is).added in
           let b = share.added in
-          let c = within kernel least are u is first n (few u is) in
+          let c = enough u is in
           omega (arith, a, b, c);
       refused = λ u is.
           let share = makes.leads (range_with_len first n) wide in
-          let calls : ℕ = (11 * length kernel.equations + classes_below least (length least)) * allowance (range_with_len first n) in
+          let nodes : ℕ = calls * allowance (range_with_len first n) in
           let a = (adds u is).added in
-          let c = within kernel least are u is first n (few u is) in
-          refused_as r t (substituting kernel u + calls) (share_of kernel u) c why answer from
-          (refused_later r s t calls (substituting kernel u + calls) (omega (arith, a)) why share.refused);
+          refused_as r t (substituting kernel u + nodes) (share_of kernel u) (enough u is) why answer from
+          (refused_later r s t nodes (substituting kernel u + nodes) (omega (arith, a)) why share.refused);
     }
 
 module _ (kernel : Kernel) (least : List ℕ) (are : AreLeast kernel least) (r s : StoreView) where

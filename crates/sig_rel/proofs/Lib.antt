@@ -7,13 +7,9 @@ pub mod SignalNumbers
 pub mod Makings
 pub mod ChosenTruths
 pub mod SeenReactions
-pub mod SharedClocks
 pub mod UsedLemmas
 pub mod ShareLemmas
-pub mod KindLemmas
 pub mod RelationLemmas
-pub mod Meeting
-pub mod OperandLemmas
 pub mod Reactions
 pub mod Staying
 pub mod TriangleKinds
@@ -23,10 +19,13 @@ pub mod ValueFits
 pub mod SoundValues
 pub mod OneReaction
 pub mod RuleLemmas
+pub mod Searches
 pub mod PlacingLemmas
 pub mod ConditionLists
 pub mod ColumnLemmas
 pub mod NewColumns
+pub mod ElementLemmas
+pub mod VariableLemmas
 pub mod WritingLemmas
 pub mod FreeSystems
 pub mod StepLemmas

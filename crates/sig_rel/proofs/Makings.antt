@@ -126,3 +126,6 @@ made_none n Wide s refs x store held spans =
 -- a constant depends on nothing
 pub constant_spans : (nodes : List Node) (b : Bool) (h : Ref) (vs : List ℕ) → IsRefOf nodes (λ ts. b) h → Spans nodes h vs
 constant_spans nodes b h vs is = Spans-of nodes (λ ts. b) h is vs (λ v d. absurd (d.1 refl))
+
+pub made_constant : (n : ℕ) (Wide : List ℕ → Type 0) (s : StoreView) (b : Bool) (h : Ref) → IsStore s → IsRefOf s.nodes (λ ts. b) h → Makes n Wide s s itself (Ok h)
+made_constant n Wide s b h store is = made_none n Wide s itself h store (is.holds, tt) (λ vs wide. (constant_spans s.nodes b h vs is, tt))

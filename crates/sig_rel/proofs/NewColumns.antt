@@ -1,6 +1,8 @@
 -- What is written of an element, by the equation that its table has for it.
-use Rattle.std.proofs.Common.{◌≡◌, ◌<◌, ◌≤◌, ◌+◌, ◌*◌, ◌++◌, ℕ, Bool, List, [], ◌∷◌, length, take, get_or, Option, None, Some, Result, Ok, refl, sym, ap, ◌∙◌, subst, arith}
+use Rattle.std.proofs.Common.{◌≡◌, ◌<◌, ◌≤◌, ◌+◌, ◌*◌, ◌++◌, ℕ, Bool, List, [], ◌∷◌, length, take, get_or, Option, None, Some, Result, Ok, Err, refl, sym, ap, ◌∙◌, subst, arith}
 use Rattle.std.specs.Prelude.{option_map, slice_get}
+use Rattle.std.specs.Result.{IsErrAnd}
+use Rattle.sig_base.specs.declared.signal.Signal.{Signal}
 use Rattle.std.proofs.lemmas.Option.{slice_get_past, slice_get_read}
 use Rattle.std.proofs.lemmas.List.{take_more}
 use Rattle.std.proofs.lemmas.List.Sums.{sum_by_more, sum_by-take-le}
@@ -12,16 +14,18 @@ use Rattle.sig_dd.specs.declared.node.Ref.{Ref}
 use Rattle.sig_kernel.specs.declared.equation.Equation.{Equation}
 use Rattle.sig_kernel.specs.declared.equation.Form.{Form}
 use Rattle.sig_kernel.specs.declared.kernel.Kernel.{Kernel}
+use Rattle.sig_rel.specs.Elements.{IsCut, IsGiven, entry_of, signal_of}
 use Rattle.sig_rel.specs.Rules.{presence_by}
 use Rattle.sig_rel.specs.Shares.{Makes}
-use Rattle.sig_rel.specs.Substitutions.{AreAsMany, GivesTruth, IsColumnOf, IsNewPresence, IsNewTruth, IsPartlyWritten, SpanColumns, no_ref, step_at, steps, values_at}
+use Rattle.sig_rel.specs.Statuses.{itself}
+use Rattle.sig_rel.specs.Substitutions.{Gives, GivesTruth, IsPartlyWritten, SpanColumns, given_by, no_ref, size_of, step_at, steps, values_at}
 use Rattle.sig_rel.specs.Schedules.{IsOrderOfWriting}
 use Rattle.sig_rel.specs.Triangles.{form_at}
 use Rattle.sig_rel.specs.declared.elements.Element.{Element}
 use Rattle.sig_rel.specs.declared.elements.Element.TheVariants.{Presence, Truth}
 use Rattle.sig_rel.specs.declared.rules.Rules.{Rules}
 use Rattle.sig_rel.specs.declared.substitution.Columns.{Columns}
-use Rattle.sig_rel.proofs.Makings.{makes_then}
+use Rattle.sig_rel.proofs.Makings.{makes_err, makes_ok, makes_then}
 use Rattle.sig_rel.proofs.UnknownLemmas.{boolean_within}
 
 -- an element that was read, and none
@@ -45,39 +49,24 @@ no_form kernel m n form entry first none second at =
     let off : None ≡ Some form = sym (ap (option_map (λ (e : Equation). e.form)) none) ∙ ap (form_at kernel) same ∙ at in
     cc
 
-module _ (kernel : Kernel) (rules : Rules) (old new : List Node) (columns : Columns) where
-  -- the table has an equation for the class
-  pub new_presence_is : (class number : ℕ) (equation : Equation) (r : Ref) → slice_get rules.counted.items class ≡ Some (Some number) → slice_get kernel.equations number ≡ Some equation
-      → ((truths : List Bool) → test new r truths ≡ presence_by rules.least.items (values_at old columns truths) equation.form) → IsNewPresence kernel rules old new columns class (Some r)
-  new_presence_is class number equation r counted at is = (number, (equation.form, (counted, at_form kernel number equation at), is))
+module _ (kernel : Kernel) (rules : Rules) (element : Element) (number : ℕ) (entry : entry_of rules element ≡ Some (Some number)) where
+  -- the tables have an equation for the element
+  pub given_is : (equation : Equation) → slice_get kernel.equations number ≡ Some equation → IsGiven kernel rules element equation.form
+  given_is equation at = (number, (entry, at_form kernel number equation at))
 
   -- the number is that of no equation
-  pub off_presence : (class number : ℕ) → slice_get rules.counted.items class ≡ Some (Some number) → slice_get kernel.equations number ≡ None → IsNewPresence kernel rules old new columns class None
-  off_presence class number counted none n form is = no_form kernel number n form (slice_get rules.counted.items class) counted none is.0 is.1
+  pub off_cut : slice_get kernel.equations number ≡ None → IsCut kernel rules element
+  off_cut none n form is = no_form kernel number n form (entry_of rules element) entry none is.0 is.1
 
-  -- the table has no number
-  pub no_presence : (class : ℕ) → ((number : ℕ) → slice_get rules.counted.items class ≡ Some (Some number) → ⊥) → IsNewPresence kernel rules old new columns class None
-  no_presence class never number form is = never number is.0
-
-  pub new_truth_is : (signal number : ℕ) (equation : Equation) (r : Ref) → slice_get rules.defined.items signal ≡ Some (Some number) → slice_get kernel.equations number ≡ Some equation
-      → GivesTruth old new columns kernel.signals rules.least.items equation.form r → IsNewTruth kernel rules old new columns signal (Some r)
-  new_truth_is signal number equation r defined_it at is = (number, (equation.form, (defined_it, at_form kernel number equation at), is))
-
-  pub off_truth : (signal number : ℕ) → slice_get rules.defined.items signal ≡ Some (Some number) → slice_get kernel.equations number ≡ None → IsNewTruth kernel rules old new columns signal None
-  off_truth signal number defined_it none n form is = no_form kernel number n form (slice_get rules.defined.items signal) defined_it none is.0 is.1
-
-  pub no_truth : (signal : ℕ) → ((number : ℕ) → slice_get rules.defined.items signal ≡ Some (Some number) → ⊥) → IsNewTruth kernel rules old new columns signal None
-  no_truth signal never number form is = never number is.0
-
--- there is a column for each element of an order of writing
-pub has_column : (kernel : Kernel) (rules : Rules) (list : List Element) (columns : Columns) → IsOrderOfWriting kernel rules list → AreAsMany (length kernel.signals) columns
-    → (k : ℕ) (element : Element) → slice_get list k ≡ Some element → IsColumnOf columns element
-has_column kernel rules list columns order counts k (Presence class) at =
+-- there is a row for each element of an order of writing
+pub has_row : (kernel : Kernel) (rules : Rules) (list : List Element) (columns : Columns) → IsOrderOfWriting kernel rules list → length columns.rows.items ≡ length kernel.signals
+    → (k : ℕ) (element : Element) → slice_get list k ≡ Some element → signal_of element < length columns.rows.items
+has_row kernel rules list columns order count k (Presence class) at =
     let is = order.classes class (contains_at list k (Presence class) at) in
-    subst (λ n. class < n) (sym counts.presences) is.0
-has_column kernel rules list columns order counts k (Truth signal) at =
+    subst (λ n. class < n) (sym count) is.0
+has_row kernel rules list columns order count k (Truth signal) at =
     let boolean = order.truths signal (contains_at list k (Truth signal) at) in
-    subst (λ n. signal < n) (sym counts.truths) (boolean_within kernel signal boolean)
+    subst (λ n. signal < n) (sym count) (boolean_within kernel signal boolean)
 
 -- the elements so far, and one more
 more_taken : (list : List Element) (k : ℕ) (element : Element) → slice_get list k ≡ Some element → take (k + 1) list ≡ take k list ++ element ∷ []
@@ -110,3 +99,23 @@ made_more kernel rules list k element start r s t before result at so_far partly
     subst (λ n. Makes n (SpanColumns r.nodes start) r t no_ref result) sum
     (makes_then (3 * steps rules (take k list)) (3 * step_at rules element) (SpanColumns r.nodes start) (SpanColumns r.nodes start) (SpanColumns s.nodes before) r s t no_ref no_ref tt result so_far one
     (λ vs wide. wide) (λ vs wide spans. partly.spans vs wide))
+
+-- ---- what an equation gives an element
+
+module _ (old new : List Node) (columns : Columns) (signals : List Signal) (least : List ℕ) (form : Form) (element : Element) (x : ℕ) (r : Ref) where
+  pub presence_gives : element ≡ Presence x → ((truths : List Bool) → test new r truths ≡ presence_by least (values_at old columns truths) form) → Gives old new columns signals least form element r
+  presence_gives same is truths b told =
+      let both : Some (presence_by least (values_at old columns truths) form) ≡ Some b = ap (given_by signals least (values_at old columns truths) form) (sym same) ∙ told in
+      let e : presence_by least (values_at old columns truths) form ≡ b = cc in
+      is truths ∙ e
+
+  pub truth_gives : element ≡ Truth x → GivesTruth old new columns signals least form r → Gives old new columns signals least form element r
+  truth_gives same is truths b told = is truths b (ap (given_by signals least (values_at old columns truths) form) (sym same) ∙ told)
+
+-- three calls for an element that an equation gives
+module _ (kernel : Kernel) (rules : Rules) (element : Element) (form : Form) (given : IsGiven kernel rules element form) (s t : StoreView) (Wide : List ℕ → Type 0) where
+  pub element_made : (r : Ref) → Makes 3 Wide s t itself (Ok r) → Makes (3 * step_at rules element) Wide s t no_ref (Ok tt)
+  element_made r made = subst (λ o. Makes (3 * size_of o) Wide s t no_ref (Ok tt)) (sym given.1.0) (makes_ok 3 Wide s t itself no_ref r tt made tt (λ vs wide spans. tt))
+
+  pub element_refused : (e : DdAnswer) (result : Result (Unit {0}) DdAnswer) → Makes 3 Wide s t itself (Err e) → IsErrAnd result (λ d. d ≡ e) → Makes (3 * step_at rules element) Wide s t no_ref result
+  element_refused e result made is = subst (λ o. Makes (3 * size_of o) Wide s t no_ref result) (sym given.1.0) (makes_err 3 3 Wide Wide s t itself no_ref e result made (omega arith) (λ vs wide. wide) is)

@@ -1,22 +1,27 @@
--- Columns in which classes and booleans are made variables, one after another.
-use Rattle.std.proofs.Common.{◌≡◌, ◌<◌, ◌≤◌, ◌+◌, ◌-◌, inl, inr, ℕ, zero, suc, Bool, true, List, [], length, get_or, replicate, Option, None, Some, refl, sym, ap, ◌∙◌, subst, arith}
+-- Columns in which the elements of each signal are made their own unknowns, one signal after another.
+use Rattle.std.proofs.Common.{◌≡◌, ◌<◌, ◌≤◌, ◌+◌, ◌-◌, ◌⊎◌, inl, inr, ℕ, zero, suc, Bool, true, false, List, [], length, get_or, Option, None, Some, refl, sym, ap, ◌∙◌, subst, arith, if◌then◌else◌}
 use Rattle.std.specs.Prelude.{is_some, slice_get, slice_index, count_by}
 use Rattle.std.specs.List.{range_with_len}
-use Rattle.std.proofs.lemmas.Bool.{cases_Bool, cases_eq, cases_lt, false≢true}
-use Rattle.std.proofs.lemmas.List.{get_or-replicate, get_or-set_other, get_or-set_same, get_or_past, length-replicate, length-set, take_all}
+use Rattle.std.proofs.lemmas.Bool.{cases_eq, cases_lt}
+use Rattle.std.proofs.lemmas.List.{get_or_past, take_all}
 use Rattle.std.proofs.lemmas.List.Sums.{sum_by-cons, sum_by_more, sum_by-take-le}
 use Rattle.std.proofs.lemmas.Option.{get_or_from_slice_get}
-use Rattle.sig_dd.specs.Diagram.{truth_of}
+use Rattle.sig_clock.proofs.Lists.{get_at, get_within}
 use Rattle.sig_dd.specs.Nodes.{IsRefOf, Keeps, StoreView}
-use Rattle.sig_dd.specs.declared.node.Ref.{Ref}
+use Rattle.sig_dd.specs.declared.node.Node.{Node}
 use Rattle.sig_dd.proofs.CallerLemmas.{IsRefOf-kept}
+use Rattle.sig_rel.specs.Elements.{signal_of}
 use Rattle.sig_rel.specs.FreeColumns.{AreFresh}
-use Rattle.sig_rel.specs.OwnColumns.{AreOwnColumns, AreOwnPresences, AreOwnTruths, IsOwnPresence, IsOwnTruth, IsVariableOf, classes_below, count_one, is_own, truths_below}
+use Rattle.sig_rel.specs.OwnColumns.{AreOwnColumns, IsUnknownWhere, classes_below, count_one, is_own, truths_below, unknown_of}
 use Rattle.sig_rel.specs.Relations.{truth_in}
-use Rattle.sig_rel.specs.Substitutions.{present_at, truth_at}
+use Rattle.sig_rel.specs.Substitutions.{present_at, ref_at}
+use Rattle.sig_rel.specs.Variables.{AreVariables, IsVariableAt, IsVariableOf}
+use Rattle.sig_rel.specs.declared.elements.Element.{Element}
+use Rattle.sig_rel.specs.declared.elements.Element.TheVariants.{Presence, Truth}
 use Rattle.sig_rel.specs.declared.numbering.Unknowns.{Unknowns}
 use Rattle.sig_rel.specs.declared.substitution.Columns.{Columns}
-use Rattle.sig_rel.proofs.Places.{found_there}
+use Rattle.sig_rel.proofs.PlacingLemmas.{apart_kinds}
+use Rattle.sig_rel.proofs.VariableLemmas.{variables_then}
 
 -- ---- how many there are
 
@@ -34,7 +39,7 @@ count_last p a (suc n) =
     let here = ap (λ x. count_one (p x)) same in
     omega (arith, e, f, rest, here)
 
-pub classes_more : (least : List ℕ) (k : ℕ) → classes_below least (k + 1) ≡ classes_below least k + count_one (is_own least k)
+classes_more : (least : List ℕ) (k : ℕ) → classes_below least (k + 1) ≡ classes_below least k + count_one (is_own least k)
 classes_more least k =
     let e : k + 1 ≡ suc k = omega arith in
     let here : 0 + k ≡ k = omega arith in
@@ -62,7 +67,7 @@ count_grows p a (suc m) (suc n) le =
     let rest = count_grows p (a + 1) m n (omega (arith, le)) in
     omega (arith, e, f, rest)
 
-pub classes_within : (least : List ℕ) (k : ℕ) → k ≤ length least → classes_below least k ≤ classes_below least (length least)
+classes_within : (least : List ℕ) (k : ℕ) → k ≤ length least → classes_below least k ≤ classes_below least (length least)
 classes_within least k le = count_grows (is_own least) 0 k (length least) le
 
 -- the classes from a signal on are some of all
@@ -88,146 +93,95 @@ classes_from_within least k le =
     let e = ap (λ a. count_by (is_own least) (range_with_len a (length least - k))) here in
     omega (arith, within, e)
 
-pub truths_more : (unknowns : List (Option ℕ)) (k : ℕ) (o : Option ℕ) → k < length unknowns → slice_get unknowns k ≡ Some o → truths_below unknowns (k + 1) ≡ truths_below unknowns k + count_one (is_some o)
+truths_more : (unknowns : List (Option ℕ)) (k : ℕ) (o : Option ℕ) → k < length unknowns → slice_get unknowns k ≡ Some o → truths_below unknowns (k + 1) ≡ truths_below unknowns k + count_one (is_some o)
 truths_more unknowns k o lt at =
     sum_by_more (λ x. count_one (is_some x)) unknowns k None lt
     ∙ ap (λ x. truths_below unknowns k + count_one (is_some x)) (get_or_from_slice_get unknowns k o None at)
 
-pub truths_within : (unknowns : List (Option ℕ)) (k : ℕ) → truths_below unknowns k ≤ truths_below unknowns (length unknowns)
+truths_within : (unknowns : List (Option ℕ)) (k : ℕ) → truths_below unknowns k ≤ truths_below unknowns (length unknowns)
 truths_within unknowns k =
     let le = sum_by-take-le (λ x. count_one (is_some x)) unknowns k in
     let all = ap (count_by is_some) (take_all (length unknowns) unknowns (omega arith)) in
     omega (arith, le, all)
 
--- ---- a class was made a variable
+-- ---- what was made a variable
 
-pub none_own : (s : StoreView) (least unknowns : List ℕ) (columns : Columns) → AreOwnPresences s.nodes least unknowns columns columns 0
-none_own s least unknowns columns = record {
-  always = refl;
-  truth = refl;
-  presences = refl;
-  own = λ class lt is. absurd (omega (arith, lt));
-  others = λ class other. refl;
-}
+-- the elements of the first signals, and those of one more
+pub below_more : (s t : StoreView) → Keeps s t → (least : List ℕ) (unknowns : Unknowns) (first before after : Columns) (k : ℕ)
+    → AreVariables s.nodes (IsUnknownWhere (λ n. n < k) least unknowns) first before → AreVariables t.nodes (IsUnknownWhere (λ n. n ≡ k) least unknowns) before after
+    → AreVariables t.nodes (IsUnknownWhere (λ n. n < k + 1) least unknowns) first after
+below_more s t kept least unknowns first before after k are more =
+    variables_then s t kept (IsUnknownWhere (λ n. n < k) least unknowns) (IsUnknownWhere (λ n. n ≡ k) least unknowns) (IsUnknownWhere (λ n. n < k + 1) least unknowns) first before after are more
+    (λ e v is. elim (cases_eq (signal_of e) k) [
+      | inl same ↦ inr (same, is.1)
+      | inr apart ↦ inl ((let lt = is.0 in omega (arith, lt, apart), is.1), λ w at. apart at.0)
+    ])
+    (λ e v is. (let lt = is.0 in omega (arith, lt), is.1))
+    (λ e v is. (let same = is.0 in omega (arith, same), is.1))
 
-pub one_own : (s t : StoreView) → Keeps s t → (least unknowns : List ℕ) (first before after : Columns) (k : ℕ) → k < length before.present.items
-    → AreOwnPresences s.nodes least unknowns first before k → IsOwnPresence t.nodes least unknowns before after k → AreOwnPresences t.nodes least unknowns first after (k + 1)
-one_own s t kept least unknowns first before after k lt are is = record {
-  always = is.always ∙ are.always;
-  truth = is.truth ∙ are.truth;
-  presences = elim (cases_Bool (is_own least k)) [
-    | inl own ↦ ap length (is.set own).1 ∙ length-set before.present.items k (is.set own).0 ∙ are.presences
-    | inr other ↦ ap length (is.kept (λ own. false≢true (sym other ∙ own))) ∙ are.presences
-  ];
-  own = λ class below own. elim (cases_eq class k) [
-    | inl same ↦ subst (λ (c : ℕ). IsVariableOf t.nodes (slice_index unknowns c) (present_at after c)) (sym same) (here (subst (λ c. is_own least c ≡ true) same own))
-    | inr apart ↦ subst (IsVariableOf t.nodes (slice_index unknowns class)) (sym (elsewhere class (λ same own. apart same)))
-        (IsRefOf-kept s t kept (λ truths. truth_of truths (slice_index unknowns class)) (present_at before class) (are.own class (omega (arith, below, apart)) own))
-  ];
-  others = λ class other.
-      elsewhere class (λ same own. other (omega (arith, same)) (subst (λ c. is_own least c ≡ true) (sym same) own))
-      ∙ are.others class (λ below own. other (omega (arith, below)) own);
-} where
-  elsewhere : (class : ℕ) → (class ≡ k → is_own least k ≡ true → ⊥) → present_at after class ≡ present_at before class
-  elsewhere class apart = elim (cases_Bool (is_own least k)) [
-    | inl own ↦ (λ j. get_or ((is.set own).1 j) class (is.always j)) ∙ get_or-set_other before.present.items k class (is.set own).0 before.always (λ same. apart same own)
-    | inr other ↦ (λ j. get_or (is.kept (λ own. false≢true (sym other ∙ own)) j) class (is.always j))
-  ]
+-- the two elements of a signal
+pub both_made : (s t : StoreView) → Keeps s t → (least : List ℕ) (unknowns : Unknowns) (first middle last : Columns) (k : ℕ)
+    → AreVariables s.nodes (IsVariableAt (Presence k) (unknown_of least unknowns (Presence k))) first middle → AreVariables t.nodes (IsVariableAt (Truth k) (unknown_of least unknowns (Truth k))) middle last
+    → AreVariables t.nodes (IsUnknownWhere (λ n. n ≡ k) least unknowns) first last
+both_made s t kept least unknowns first middle last k one two =
+    variables_then s t kept (IsVariableAt (Presence k) (unknown_of least unknowns (Presence k))) (IsVariableAt (Truth k) (unknown_of least unknowns (Truth k))) (IsUnknownWhere (λ n. n ≡ k) least unknowns) first middle last one two
+    split (λ e v is. (ap signal_of is.0, ap (unknown_of least unknowns) is.0 ∙ is.1)) (λ e v is. (ap signal_of is.0, ap (unknown_of least unknowns) is.0 ∙ is.1)) where
+      split : (e : Element) (v : ℕ) → IsUnknownWhere (λ n. n ≡ k) least unknowns e v
+          → (IsVariableAt (Presence k) (unknown_of least unknowns (Presence k)) e v × ((w : ℕ) → IsVariableAt (Truth k) (unknown_of least unknowns (Truth k)) e w → ⊥)) ⊎ IsVariableAt (Truth k) (unknown_of least unknowns (Truth k)) e v
+      split (Presence c) v is = inl ((ap Presence is.0, ap (λ n. unknown_of least unknowns (Presence n)) (sym is.0) ∙ is.1), λ w at. apart_kinds c k at.0)
+      split (Truth x) v is = inr (ap Truth is.0, ap (λ n. unknown_of least unknowns (Truth n)) (sym is.0) ∙ is.1)
 
-  here : is_own least k ≡ true → IsVariableOf t.nodes (slice_index unknowns k) (present_at after k)
-  here own =
-      let set = is.set own in
-      let at : present_at after k ≡ set.0 = (λ j. get_or (set.1 j) k (is.always j)) ∙ get_or-set_same before.present.items k set.0 before.always lt in
-      subst (IsVariableOf t.nodes (slice_index unknowns k)) (sym at) set.2
+-- a class has an unknown where it is the least signal
+own_counts : (least : List ℕ) (unknowns : Unknowns) (class : ℕ) → class < length unknowns.present.items → count_one (is_some (unknown_of least unknowns (Presence class))) ≡ count_one (is_own least class)
+own_counts least unknowns class lt = by (is_own least class) refl where
+  by : (b : Bool) → is_own least class ≡ b → count_one (is_some (if b then slice_get unknowns.present.items class else None)) ≡ count_one b
+  by true own = ap (λ o. count_one (is_some o)) (get_at unknowns.present.items class 0 lt)
+  by false other = refl
 
--- ---- a truth was made a variable
+pub class_unknown : (nodes : List Node) (least : List ℕ) (unknowns : Unknowns) (columns : Columns) → AreOwnColumns nodes least unknowns columns → (class : ℕ) → class < length unknowns.present.items → is_own least class ≡ true
+    → IsVariableOf nodes (slice_index unknowns.present.items class) (present_at columns class)
+class_unknown nodes least unknowns columns own class lt is =
+    subst (λ o. IsRefOf nodes (λ truths. truth_in truths o) (present_at columns class))
+    (ap (λ b. if b then slice_get unknowns.present.items class else None) is ∙ get_at unknowns.present.items class 0 lt) (own.all (Presence class))
 
-pub none_true : (s : StoreView) (unknowns : List (Option ℕ)) (columns : Columns) → AreOwnTruths s.nodes unknowns columns columns 0
-none_true s unknowns columns = record {
-  always = refl;
-  present = refl;
-  truths = refl;
-  own = λ signal v lt at. absurd (omega (arith, lt));
-  others = λ signal other. refl;
-}
+-- how many the first signals have, and one more
+pub own_more : (least : List ℕ) (unknowns : Unknowns) (k : ℕ) → k < length unknowns.present.items → k < length unknowns.truth.items
+    → classes_below least (k + 1) + truths_below unknowns.truth.items (k + 1)
+    ≡ classes_below least k + truths_below unknowns.truth.items k + (count_one (is_some (unknown_of least unknowns (Presence k))) + count_one (is_some (unknown_of least unknowns (Truth k))))
+own_more least unknowns k present truth =
+    let a = classes_more least k in
+    let b = truths_more unknowns.truth.items k (get_or unknowns.truth.items k None) truth (get_at unknowns.truth.items k None truth) in
+    let e = own_counts least unknowns k present in
+    omega (arith, a, b, e)
 
-pub one_true : (s t : StoreView) → Keeps s t → (unknowns : List (Option ℕ)) (first before after : Columns) (k : ℕ) (o : Option ℕ) → slice_get unknowns k ≡ Some o → k < length before.truth.items
-    → AreOwnTruths s.nodes unknowns first before k → IsOwnTruth t.nodes o before after k → AreOwnTruths t.nodes unknowns first after (k + 1)
-one_true s t kept unknowns first before after k o at lt are is = record {
-  always = is.always ∙ are.always;
-  present = is.present ∙ are.present;
-  truths = count o refl;
-  own = λ signal v below there. elim (cases_eq signal k) [
-    | inl same ↦
-        let both : Some o ≡ Some (Some v) = sym at ∙ ap (slice_get unknowns) (sym same) ∙ there in
-        let e : o ≡ Some v = cc in
-        subst (λ (c : ℕ). IsVariableOf t.nodes v (truth_at after c)) (sym same) (here v e)
-    | inr apart ↦ subst (IsVariableOf t.nodes v) (sym (elsewhere signal (λ w same. absurd (apart same))))
-        (IsRefOf-kept s t kept (λ truths. truth_of truths v) (truth_at before signal) (are.own signal v (omega (arith, below, apart)) there))
-  ];
-  others = λ signal other.
-      elsewhere signal (λ v same e. other v (omega (arith, same)) (ap (slice_get unknowns) same ∙ at ∙ ap Some e))
-      ∙ are.others signal (λ v below there. other v (omega (arith, below)) there);
-} where
-  elsewhere : (signal : ℕ) → ((v : ℕ) → signal ≡ k → o ≡ Some v → ⊥) → truth_at after signal ≡ truth_at before signal
-  elsewhere signal apart = by o refl where
-    by : (x : Option ℕ) → o ≡ x → truth_at after signal ≡ truth_at before signal
-    by None e = (λ j. get_or (is.kept e j) signal (is.always j))
-    by (Some v) e = (λ j. get_or ((is.set v e).1 j) signal (is.always j)) ∙ get_or-set_other before.truth.items k signal (is.set v e).0 before.always (λ same. apart v same e)
-
-  count : (x : Option ℕ) → o ≡ x → length after.truth.items ≡ length first.truth.items
-  count None e = ap length (is.kept e) ∙ are.truths
-  count (Some v) e = ap length (is.set v e).1 ∙ length-set before.truth.items k (is.set v e).0 ∙ are.truths
-
-  here : (v : ℕ) → o ≡ Some v → IsVariableOf t.nodes v (truth_at after k)
-  here v e =
-      let set = is.set v e in
-      let there : truth_at after k ≡ set.0 = (λ j. get_or (set.1 j) k (is.always j)) ∙ get_or-set_same before.truth.items k set.0 before.always lt in
-      subst (IsVariableOf t.nodes v) (sym there) set.2
+pub own_within : (least : List ℕ) (unknowns : Unknowns) (k : ℕ) → k ≤ length least
+    → classes_below least k + truths_below unknowns.truth.items k ≤ classes_below least (length least) + truths_below unknowns.truth.items (length unknowns.truth.items)
+own_within least unknowns k le =
+    let a = classes_within least k le in
+    let b = truths_within unknowns.truth.items k in
+    omega (arith, a, b)
 
 -- ---- all of them
 
-everywhere : (n k : ℕ) (r : Ref) → get_or (replicate n r) k r ≡ r
-everywhere n k r = elim (cases_lt k n) [
-  | inl lt ↦ get_or-replicate n k r r lt
-  | inr le ↦ get_or_past (replicate n r) k r (let long = length-replicate n r in omega (arith, le, long))
+-- an unknown is that of a signal
+unknown_within : (least : List ℕ) (unknowns : Unknowns) → length unknowns.present.items ≡ length least → length unknowns.truth.items ≡ length least
+    → (e : Element) (v : ℕ) → unknown_of least unknowns e ≡ Some v → signal_of e < length least
+unknown_within least unknowns presences truths (Presence class) v is = by (is_own least class) is where
+  by : (b : Bool) → (if b then slice_get unknowns.present.items class else None) ≡ Some v → class < length least
+  by true at = let lt = get_within unknowns.present.items class v at in omega (arith, lt, presences)
+  by false at = absurd (let no : None ≡ Some v = at in cc)
+unknown_within least unknowns presences truths (Truth signal) v is = elim (cases_lt signal (length unknowns.truth.items)) [
+  | inl lt ↦ omega (arith, lt, truths)
+  | inr le ↦ absurd (let no : None ≡ Some v = sym (get_or_past unknowns.truth.items signal None le) ∙ is in cc)
 ]
 
-module _ (r s t : StoreView) (to_s : Keeps r s) (to_t : Keeps s t) (least : List ℕ) (unknowns : Unknowns) (first middle last : Columns)
-    (presences : length unknowns.present.items ≡ length least) (truths : length unknowns.truth.items ≡ length least) (fresh : AreFresh r.nodes (length least) first)
-    (classes : AreOwnPresences s.nodes least unknowns.present.items first middle (length least)) (booleans : AreOwnTruths t.nodes unknowns.truth.items middle last (length unknowns.truth.items)) where
-  always_first : last.always ≡ first.always
-  always_first = booleans.always ∙ classes.always
-
-  always_kept : IsRefOf t.nodes (λ truths. true) first.always
-  always_kept = IsRefOf-kept s t to_t (λ truths. true) first.always (IsRefOf-kept r s to_s (λ truths. true) first.always fresh.always)
-
-  present_middle : (class : ℕ) → present_at last class ≡ present_at middle class
-  present_middle class = (λ j. get_or (booleans.present j).items class (booleans.always j))
-
-  truth_first : (signal : ℕ) → truth_at middle signal ≡ first.always
-  truth_first signal = (λ j. get_or (classes.truth j).items signal (classes.always j)) ∙ (λ j. get_or (fresh.truth j) signal first.always) ∙ everywhere (length least) signal first.always
-
-  own_truth_at : (signal : ℕ) (o : Option ℕ) → get_or unknowns.truth.items signal None ≡ o → IsRefOf t.nodes (λ ts. truth_in ts o) (truth_at last signal)
-  own_truth_at signal None is = subst (IsRefOf t.nodes (λ truths. true)) (sym (booleans.others signal none ∙ truth_first signal)) always_kept where
-    none : (v : ℕ) → signal < length unknowns.truth.items → slice_get unknowns.truth.items signal ≡ Some (Some v) → ⊥
-    none v lt at =
-        let no : None ≡ Some v = sym is ∙ get_or_from_slice_get unknowns.truth.items signal (Some v) None at in
-        cc
-  own_truth_at signal (Some v) is = elim (cases_lt signal (length unknowns.truth.items)) [
-    | inl lt ↦ booleans.own signal v lt (found_there unknowns.truth.items signal v lt is)
-    | inr le ↦ absurd (let no : None ≡ Some v = sym (get_or_past unknowns.truth.items signal None le) ∙ is in cc)
-  ]
-
-  pub are_own : AreOwnColumns t.nodes least unknowns last
-  are_own = record {
-    presences = ap (λ v. length v.items) booleans.present ∙ classes.presences ∙ ap length fresh.present ∙ length-replicate (length least) first.always ∙ sym presences;
-    truths = booleans.truths ∙ ap (λ v. length v.items) classes.truth ∙ ap length fresh.truth ∙ length-replicate (length least) first.always ∙ sym truths;
-    always = subst (IsRefOf t.nodes (λ truths. true)) (sym always_first) always_kept;
-    present = λ class lt own. subst (IsVariableOf t.nodes (slice_index unknowns.present.items class)) (sym (present_middle class))
-        (IsRefOf-kept s t to_t (λ truths. truth_of truths (slice_index unknowns.present.items class)) (present_at middle class) (classes.own class (omega (arith, lt, presences)) own));
-    other_present = λ class other.
-        present_middle class ∙ classes.others class (λ lt own. other (omega (arith, lt, presences)) own)
-        ∙ (λ j. get_or (fresh.present j) class first.always) ∙ everywhere (length least) class first.always ∙ sym always_first;
-    truth = λ signal. own_truth_at signal (get_or unknowns.truth.items signal None) refl;
-  }
+pub are_own : (s t : StoreView) → Keeps s t → (least : List ℕ) (unknowns : Unknowns) (first last : Columns) → length unknowns.present.items ≡ length least → length unknowns.truth.items ≡ length least
+    → AreFresh s.nodes (length least) first → AreVariables t.nodes (IsUnknownWhere (λ n. n < length least) least unknowns) first last → AreOwnColumns t.nodes least unknowns last
+are_own s t kept least unknowns first last presences truths fresh are = record {
+  count = are.count ∙ fresh.rows ∙ sym presences;
+  all = λ e. by e (unknown_of least unknowns e) refl;
+} where
+  by : (e : Element) (o : Option ℕ) → unknown_of least unknowns e ≡ o → IsRefOf t.nodes (λ ts. truth_in ts (unknown_of least unknowns e)) (ref_at last e)
+  by e None is = subst (λ o. IsRefOf t.nodes (λ ts. truth_in ts o) (ref_at last e)) (sym is)
+      (subst (IsRefOf t.nodes (λ truths. true)) (sym (are.others e (λ v at. let no : None ≡ Some v = sym is ∙ at.1 in cc) ∙ fresh.all e)) (IsRefOf-kept s t kept (λ truths. true) first.always fresh.always))
+  by e (Some v) is = subst (λ o. IsRefOf t.nodes (λ ts. truth_in ts o) (ref_at last e)) (sym is) (are.own e v (unknown_within least unknowns presences truths e v is, is))

@@ -1,27 +1,31 @@
 -- Columns that are the unknowns of a kernel hold and span these, and take no more nodes than there are unknowns.
-use Rattle.std.proofs.Common.{◌≡◌, ◌<◌, ◌≤◌, ◌+◌, ◌-◌, ◌*◌, ◌^◌, inl, inr, ℕ, Bool, true, false, List, length, get_or, Option, None, Some, refl, sym, ap, ◌∙◌, subst, arith, Contains}
+use Rattle.std.proofs.Common.{◌≡◌, ◌<◌, ◌≤◌, ◌+◌, ◌-◌, ◌*◌, ◌^◌, inl, inr, ℕ, Bool, true, false, List, length, get_or, Option, None, Some, Result, refl, sym, ap, ◌∙◌, subst, arith, Contains, if◌then◌else◌}
 use Rattle.std.specs.Prelude.{is_some, slice_get, slice_index, count_by, ◌==◌}
 use Rattle.std.specs.List.{range_with_len}
 use Rattle.std.proofs.Math.Nat.{mul-le-mul_left, pow-le-pow_right}
-use Rattle.std.proofs.lemmas.Bool.{cases_Bool, cases_lt, false≢true}
+use Rattle.std.proofs.lemmas.Bool.{cases_lt, false≢true}
 use Rattle.std.proofs.lemmas.List.{get_or_past, take_all}
 use Rattle.std.proofs.lemmas.List.FromFn.{length-range_with_len}
 use Rattle.sig_dd.specs.Diagram.{truth_of}
-use Rattle.sig_dd.specs.Nodes.{Holds, IsRefOf, Spans, allowance}
+use Rattle.sig_dd.specs.Nodes.{IsRefOf, Spans, StoreView, allowance}
+use Rattle.sig_dd.specs.declared.answer.DdAnswer.{DdAnswer}
 use Rattle.sig_dd.specs.declared.node.Node.{Node}
-use Rattle.sig_dd.specs.declared.node.Ref.{Ref}
 use Rattle.sig_dd.proofs.CallerLemmas.{Spans-of}
 use Rattle.sig_dd.proofs.Dependence.{variable_depends}
 use Rattle.sig_kernel.specs.declared.kernel.Kernel.{Kernel}
 use Rattle.sig_clock.specs.SameClocks.{AreLeast}
-use Rattle.sig_clock.proofs.Lists.{get_at}
+use Rattle.sig_rel.specs.FreeColumns.{Adds}
 use Rattle.sig_rel.specs.GeneralColumns.{numbers_of, substituting}
-use Rattle.sig_rel.specs.OwnColumns.{AreOwnColumns, classes_below, is_own, truths_below}
+use Rattle.sig_rel.specs.OwnColumns.{AreOwnColumns, classes_below, is_own, truths_below, unknown_of}
 use Rattle.sig_rel.specs.Relations.{AreUnknowns, IsUnknownCount, IsUsed, is_boolean, truth_in}
 use Rattle.sig_rel.specs.Statuses.{LieWithin}
-use Rattle.sig_rel.specs.Substitutions.{AreAsMany, ArePlain, HoldColumns, SpanColumns, present_at, truth_at}
+use Rattle.sig_rel.specs.Substitutions.{ArePlain, HoldColumns, SpanColumns, ref_at}
+use Rattle.sig_rel.specs.declared.elements.Element.{Element}
+use Rattle.sig_rel.specs.declared.elements.Element.TheVariants.{Presence, Truth}
 use Rattle.sig_rel.specs.declared.numbering.Unknowns.{Unknowns}
 use Rattle.sig_rel.specs.declared.substitution.Columns.{Columns}
+use Rattle.sig_rel.proofs.AddingLemmas.{adds_more}
+use Rattle.sig_rel.proofs.ElementLemmas.{held_by, span_by}
 use Rattle.sig_rel.proofs.Makings.{constant_spans}
 use Rattle.sig_rel.proofs.Places.{count_given, found_there}
 use Rattle.sig_rel.proofs.UsedLemmas.{in_range, one_least}
@@ -69,44 +73,44 @@ module _ (kernel : Kernel) (least : List ℕ) (are : AreLeast kernel least) (cou
   within_share_of_own s u steps counts =
       within_substituting (classes_below least (length least) + truths_below unknowns.truth.items (length unknowns.truth.items)) s (length kernel.equations) u (allowance (numbers_of unknowns)) (own_few u counts) steps (numbers_few u counts)
 
-  module _ (nodes : List Node) (columns : Columns) (own : AreOwnColumns nodes least unknowns columns) where
-    presence_by : (P : Ref → Type 0) → ((class : ℕ) → class < length unknowns.present.items → is_own least class ≡ true → P (present_at columns class)) → P columns.always → (class : ℕ) → P (present_at columns class)
-    presence_by P each rest class = elim (cases_lt class (length unknowns.present.items)) [
-      | inl lt ↦ elim (cases_Bool (is_own least class)) [
-        | inl same ↦ each class lt same
-        | inr other ↦ subst P (sym (own.other_present class (λ l o. false≢true (sym other ∙ o)))) rest
-      ]
-      | inr le ↦ subst P (sym (own.other_present class (λ l o. omega (arith, le, l)))) rest
-    ]
+  -- they are within what the writing of columns may add
+  pub own_adds : (r s : StoreView) (result : Result (Unit {0}) DdAnswer) → Adds (classes_below least (length least) + truths_below unknowns.truth.items (length unknowns.truth.items)) r s result
+      → (u : ℕ) → IsUnknownCount kernel u → Adds (substituting kernel u) r s result
+  own_adds r s result adds u counts =
+      let few = own_few u counts in
+      adds_more (classes_below least (length least) + truths_below unknowns.truth.items (length unknowns.truth.items)) (substituting kernel u) r s result adds (omega (arith, few))
 
+  module _ (nodes : List Node) (columns : Columns) (own : AreOwnColumns nodes least unknowns columns) where
     given : (signal v : ℕ) → get_or unknowns.truth.items signal None ≡ Some v → slice_get unknowns.truth.items signal ≡ Some (Some v)
     given signal v at = elim (cases_lt signal (length unknowns.truth.items)) [
       | inl lt ↦ found_there unknowns.truth.items signal v lt at
       | inr le ↦ absurd (let no : None ≡ Some v = sym (get_or_past unknowns.truth.items signal None le) ∙ at in cc)
     ]
 
-    pub own_columns_hold : HoldColumns nodes columns
-    own_columns_hold = record {
-      present = presence_by (Holds nodes) (λ class lt o. let variable = own.present class lt o in variable.holds) own.always.holds;
-      truth = λ signal. let variable = own.truth signal in variable.holds;
-    }
+    used : (e : Element) (v : ℕ) → unknown_of least unknowns e ≡ Some v → IsUsed unknowns.present.items unknowns.truth.items v
+    used (Presence class) v is = by (is_own least class) is where
+      by : (b : Bool) → (if b then slice_get unknowns.present.items class else None) ≡ Some v → IsUsed unknowns.present.items unknowns.truth.items v
+      by true at = inl (class, at)
+      by false at = absurd (let no : None ≡ Some v = at in cc)
+    used (Truth signal) v is = inr (signal, given signal v is)
 
-    spans_truth : (r : Ref) (signal : ℕ) (o : Option ℕ) → get_or unknowns.truth.items signal None ≡ o → IsRefOf nodes (λ ts. truth_in ts o) r → Spans nodes r (numbers_of unknowns)
-    spans_truth r signal None at value = constant_spans nodes true r (numbers_of unknowns) value
-    spans_truth r signal (Some v) at value = Spans-of nodes (λ truths. truth_of truths v) r value (numbers_of unknowns)
-        (λ w d. subst (Contains (numbers_of unknowns)) (sym (variable_depends v w d)) (among v (inr (signal, given signal v at))))
+    pub own_columns_hold : HoldColumns nodes columns
+    own_columns_hold = held_by nodes columns (λ e. let variable = own.all e in variable.holds)
+
+    -- each element depends on its own unknown alone
+    module _ (vs : List ℕ) (has : (v : ℕ) → IsUsed unknowns.present.items unknowns.truth.items v → Contains vs v) where
+      spans_unknown : (e : Element) (o : Option ℕ) → unknown_of least unknowns e ≡ o → IsRefOf nodes (λ ts. truth_in ts o) (ref_at columns e) → Spans nodes (ref_at columns e) vs
+      spans_unknown e None at value = constant_spans nodes true (ref_at columns e) vs value
+      spans_unknown e (Some v) at value = Spans-of nodes (λ truths. truth_of truths v) (ref_at columns e) value vs (λ w d. subst (Contains vs) (sym (variable_depends v w d)) (has v (used e v at)))
+
+      pub own_columns_span_over : SpanColumns nodes columns vs
+      own_columns_span_over = span_by nodes columns vs (λ e. spans_unknown e (unknown_of least unknowns e) refl (own.all e))
 
     pub own_columns_span : SpanColumns nodes columns (numbers_of unknowns)
-    own_columns_span = record {
-      present = presence_by (λ (r : Ref). Spans nodes r (numbers_of unknowns))
-          (λ class lt o. Spans-of nodes (λ truths. truth_of truths (slice_index unknowns.present.items class)) (present_at columns class) (own.present class lt o) (numbers_of unknowns)
-          (λ w d. subst (Contains (numbers_of unknowns)) (sym (variable_depends (slice_index unknowns.present.items class) w d)) (among (slice_index unknowns.present.items class) (inl (class, get_at unknowns.present.items class 0 lt)))))
-          (constant_spans nodes true columns.always (numbers_of unknowns) own.always);
-      truth = λ signal. spans_truth (truth_at columns signal) signal (get_or unknowns.truth.items signal None) refl (own.truth signal);
-    }
+    own_columns_span = own_columns_span_over (numbers_of unknowns) among
 
-    pub own_columns_counts : AreAsMany (length kernel.signals) columns
-    own_columns_counts = record { presences = own.presences ∙ is.presences; truths = own.truths ∙ is.truths }
+    pub own_columns_count : length columns.rows.items ≡ length kernel.signals
+    own_columns_count = own.count ∙ is.presences
 
     plain_truth : (signal : ℕ) (o : Option ℕ) → is_boolean kernel signal ≡ false → get_or unknowns.truth.items signal None ≡ o → (truths : List Bool) → truth_in truths o ≡ true
     plain_truth signal None other at truths = refl
@@ -114,5 +118,5 @@ module _ (kernel : Kernel) (least : List ℕ) (are : AreLeast kernel least) (cou
 
     pub own_columns_plain : ArePlain kernel nodes columns
     own_columns_plain signal other truths =
-        let variable = own.truth signal in
+        let variable = own.all (Truth signal) in
         variable.function truths ∙ plain_truth signal (get_or unknowns.truth.items signal None) other refl truths

@@ -17,7 +17,7 @@ use Rattle.sig_dd.specs.declared.node.Node.{Node}
 use Rattle.sig_dd.specs.declared.node.Ref.{Ref}
 use Rattle.sig_dd.proofs.CallerLemmas.{Holds-kept, Spans-kept}
 use Rattle.sig_rel.specs.OwnColumns.{is_own}
-use Rattle.sig_rel.specs.Residues.{IsGivenStatus, IsOwnStatus, IsSomePresent, is_met}
+use Rattle.sig_rel.specs.Residues.{IsOwnStatus, IsSomePresent, is_met}
 use Rattle.sig_rel.specs.Rules.{Values, has, presence_by, truth_by_form, value_status}
 use Rattle.sig_rel.specs.Statuses.{refs_of, status_by}
 use Rattle.sig_rel.specs.Substitutions.{HoldColumns, SpanColumns, present_at, truth_at, values_at}
@@ -55,14 +55,6 @@ module _ (nodes : List Node) (least : List ℕ) (columns : Columns) (x : ℕ) (k
 
   pub own_status : (truths : List Bool) → status_by nodes known truths ≡ value_status least (values_at nodes columns truths) x
   own_status truths = λ j. if test nodes (is.0 j) truths then Some (test nodes (is.1 j) truths) else None
-
--- what an equation gives, as a status
-pub given_status : (old new : List Node) (signals : List Signal) (least : List ℕ) (columns : Columns) (form : Form) (known : Known) → IsGivenStatus old new signals least columns form known
-    → (truths : List Bool) (b : Bool) → truth_by_form signals least (values_at old columns truths) form ≡ Some b
-    → status_by new known truths ≡ status (presence_by least (values_at old columns truths) form) b
-given_status old new signals least columns form known is truths b gives =
-    let of = is truths in
-    (λ j. status (of.0 j) (of.1 b gives j))
 
 pub no_truth_had : (s : Status) → true ≡ has_truth s None
 no_truth_had None = refl

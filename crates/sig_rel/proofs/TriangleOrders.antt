@@ -7,7 +7,7 @@ use Rattle.sig_kernel.specs.declared.equation.Form.{Form}
 use Rattle.sig_kernel.specs.declared.kernel.Kernel.{Kernel}
 use Rattle.sig_clock.proofs.Lists.{contains_at}
 use Rattle.sig_rel.specs.Schedules.{AreNamed, IsOrderOfWriting, ReadsBefore}
-use Rattle.sig_rel.specs.Substitutions.{IsCountedBy, IsDefinedBy}
+use Rattle.sig_rel.specs.Elements.{IsGivenBy}
 use Rattle.sig_rel.specs.Tables.{AreRulesOf}
 use Rattle.sig_rel.specs.Triangles.{HasClasses, HasTruths, IsTriangle, form_at, operand_signals, tested}
 use Rattle.sig_rel.specs.declared.elements.Element.{Element}
@@ -21,18 +21,18 @@ module _ (kernel : Kernel) (valid : IsValid kernel) (rules : Rules) (are : AreRu
   least = rules.least.items
 
   -- no equation gives the top
-  pub top_uncounted : (number : ℕ) (form : Form) → IsCountedBy kernel rules tri.top number form → ⊥
+  pub top_uncounted : (number : ℕ) (form : Form) → IsGivenBy kernel rules (Presence tri.top) number form → ⊥
   top_uncounted number form counted =
       let is = are.is_counted tri.top number counted.0 in
       is.2 (tri.is_top number is.0 is.1.at is.1.governs)
 
   -- what decides an element that an equation gives stands before it
-  pub presence_before : (k class number : ℕ) (form : Form) → slice_get list k ≡ Some (Presence class) → IsCountedBy kernel rules class number form
+  pub presence_before : (k class number : ℕ) (form : Form) → slice_get list k ≡ Some (Presence class) → IsGivenBy kernel rules (Presence class) number form
       → HasClasses least (take k list) (operand_signals form) × HasTruths kernel (take k list) (tested form)
   presence_before zero class number form at counted =
       let both : Some (Presence class) ≡ Some (Presence tri.top) = sym at ∙ tri.first in
       let same : class ≡ tri.top = presence_is class tri.top (let e : Presence class ≡ Presence tri.top = cc in e) in
-      absurd (top_uncounted number form (subst (λ c. IsCountedBy kernel rules c number form) same counted))
+      absurd (top_uncounted number form (subst (λ c. IsGivenBy kernel rules (Presence c) number form) same counted))
   presence_before (suc k) class number form at counted =
       let may = tri.order (suc k) (Presence class) (omega arith) at in
       let there = are.all_counted class may.number may.form (place_of_class kernel least list tri (suc k) class at) may.counted (not_own kernel least list tri (suc k) class at may) in
@@ -42,7 +42,7 @@ module _ (kernel : Kernel) (valid : IsValid kernel) (rules : Rules) (are : AreRu
       let e : may.form ≡ form = cc in
       (subst (λ f. HasClasses least (take (suc k) list) (operand_signals f)) e may.classes, subst (λ f. HasTruths kernel (take (suc k) list) (tested f)) e may.tests)
 
-  pub truth_before : (k signal number : ℕ) (form : Form) → slice_get list k ≡ Some (Truth signal) → IsDefinedBy kernel rules signal number form
+  pub truth_before : (k signal number : ℕ) (form : Form) → slice_get list k ≡ Some (Truth signal) → IsGivenBy kernel rules (Truth signal) number form
       → HasClasses least (take k list) (operand_signals form) × HasTruths kernel (take k list) (operand_signals form)
   truth_before zero signal number form at defined_it =
       let both : Some (Presence tri.top) ≡ Some (Truth signal) = sym tri.first ∙ at in

@@ -62,10 +62,6 @@ in_range a (suc n) v low high = elim (cases_eq v a) [
   | inr apart ↦ contains_later a v (range_with_len (a + 1) n) (in_range (a + 1) n v (omega arith) (omega arith))
 ]
 
--- and so has a range of as many numbers as there are unknowns
-pub range_has : (kernel : Kernel) (count : ℕ) (present : List ℕ) (truth : List (Option ℕ)) → AreUnknowns kernel count present truth → (v : ℕ) → IsUsed present truth v → Contains (range_with_len (length (conditions_of kernel)) count) v
-range_has kernel count present truth are v used = let within = are.within v used in in_range (length (conditions_of kernel)) count v within.0 within.1
-
 pub one_least : (kernel : Kernel) (a b : List ℕ) → AreLeast kernel a → AreLeast kernel b → a ≡ b
 one_least kernel a b first second = ext_get_or 0 a b (first.count ∙ sym second.count) (λ s lt.
     let within : s < length kernel.signals = let e = first.count in omega arith in

@@ -2,12 +2,15 @@
 use Rattle.std.proofs.Common.{◌≡◌, Bool, true, false, Option, None, Some, refl, sym, ap, if◌then◌else◌}
 use Rattle.std.specs.Prelude.{◌&&◌, ◌||◌, is_some}
 use Rattle.std.proofs.lemmas.Bool.{false≢true}
-use Rattle.sig_clock.specs.Reactions.{Status, has_truth, or_else, same_status, where_present, where_true, truth_of_status}
+use Rattle.sig_clock.specs.Reactions.{Status, has_truth, or_else, same_status, same_truth, where_present, where_true, truth_of_status}
 use Rattle.sig_clock.proofs.ReactionLemmas.{truths_are_same}
-use Rattle.sig_rel.proofs.Meeting.{same_as_itself}
 
 abbrev pub status : Bool → Bool → Status
 status present truth = if present then Some truth else None
+
+pub same_as_itself : (b : Bool) → same_truth b b ≡ true
+same_as_itself true = refl
+same_as_itself false = refl
 
 pub when_fits : (py ty px tx pb tb : Bool) → py ≡ ((pb && tb) && px) → (py ≡ true → ty ≡ tx) → same_status (status py ty) (where_true (status pb tb) (status px tx)) ≡ true
 when_fits py ty true tx true true is same = rw (is, same is) (same_as_itself tx)

@@ -25,10 +25,9 @@ use Rattle.sig_rel.specs.Rules.{Values, has, operand_value, value_status}
 use Rattle.sig_rel.specs.TruthFunctions.{truth_given}
 use Rattle.sig_rel.proofs.ClassLemmas.{least_of_class}
 use Rattle.sig_rel.proofs.FormLemmas.{below, three, two}
-use Rattle.sig_rel.proofs.Meeting.{same_as_itself}
 use Rattle.sig_rel.proofs.OnceDefined.{got_or, got_within, within_at}
 use Rattle.sig_rel.proofs.RuleLemmas.{all_at, all_from}
-use Rattle.sig_rel.proofs.ValueFits.{present_of, status}
+use Rattle.sig_rel.proofs.ValueFits.{present_of, same_as_itself, status}
 
 statuses_fit : (signals : List Signal) (reaction : Reaction) → length reaction ≡ length signals
     → ((k : ℕ) (signal : Signal) → slice_get signals k ≡ Some signal → is_status_of signal.kind (status_at reaction k) ≡ true) → are_statuses signals reaction ≡ true

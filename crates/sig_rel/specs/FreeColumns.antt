@@ -1,19 +1,20 @@
 -- Columns of a triangular kernel as its system.
-use Rattle.std.specs.Prelude.{◌≡◌, ◌+◌, ◌<◌, ◌≤◌, ℕ, Bool, true, List, length, map, replicate, Some, Result, IfErr, slice_get, slice_set, slice_index, if◌then◌else◌}
+use Rattle.std.specs.Prelude.{◌≡◌, ◌+◌, ◌<◌, ◌≤◌, ℕ, Bool, true, List, length, map, Some, Result, IfErr, slice_get, slice_index, if◌then◌else◌}
 use Rattle.std.specs.List.{range_with_len}
 use Rattle.sig_base.specs.declared.ids.SigId.{SigId}
 use Rattle.sig_kernel.specs.declared.kernel.Kernel.{Kernel}
-use Rattle.sig_dd.specs.Diagram.{truth_of}
 use Rattle.sig_dd.specs.Nodes.{IsRefOf, IsStore, Keeps, StoreView}
 use Rattle.sig_dd.specs.Shares.{IsRefused}
 use Rattle.sig_dd.specs.declared.answer.DdAnswer.{DdAnswer}
 use Rattle.sig_dd.specs.declared.node.Node.{Node}
 use Rattle.sig_dd.specs.declared.node.Ref.{Ref}
 use Rattle.sig_rel.specs.Relations.{is_boolean}
-use Rattle.sig_rel.specs.Substitutions.{HoldColumns, SpanColumns, present_at, truth_at, values_at}
+use Rattle.sig_rel.specs.Substitutions.{HoldColumns, SpanColumns, present_at, ref_at, truth_at, values_at}
 use Rattle.sig_rel.specs.Rules.{AreValues}
 use Rattle.sig_rel.specs.Systems.{SystemView}
 use Rattle.sig_rel.specs.Triangles.{IsTriangle}
+use Rattle.sig_rel.specs.declared.elements.Element.{Element}
+use Rattle.sig_rel.specs.declared.elements.Element.TheVariants.{Truth}
 use Rattle.sig_rel.specs.declared.placing.Triangle.{Triangle}
 use Rattle.sig_rel.specs.declared.rules.Rules.{Rules}
 use Rattle.sig_rel.specs.declared.substitution.Columns.{Columns}
@@ -38,8 +39,8 @@ pub record IsSystemOf (kernel : Kernel) (rules : Rules) (columns : Columns) (con
 -- columns that are true everywhere
 pub record AreFresh (nodes : List Node) (count : ℕ) (columns : Columns) : Type 0 where
   pub always : IsRefOf nodes (λ truths. true) columns.always
-  pub present : columns.present.items ≡ replicate count columns.always
-  pub truth : columns.truth.items ≡ replicate count columns.always
+  pub rows : length columns.rows.items ≡ count
+  pub all : (element : Element) → ref_at columns element ≡ columns.always
 
 -- calls that add at most so many nodes
 pub record Adds (count : ℕ) (old new : StoreView) (result : Result (Unit {0}) DdAnswer) : Type 0 where
@@ -48,21 +49,12 @@ pub record Adds (count : ℕ) (old new : StoreView) (result : Result (Unit {0}) 
   pub added : length new.nodes ≤ length old.nodes + count
   pub refused : IfErr result (IsRefused old new count)
 
--- the truth of a signal was made a variable
-pub record IsProposed (new : List Node) (before after : Columns) (signal v : ℕ) : Type 0 where
-  pub always : after.always ≡ before.always
-  pub present : after.present ≡ before.present
-  pub variable : Ref
-  pub truth : after.truth.items ≡ slice_set before.truth.items signal variable
-  pub is : IsRefOf new (λ truths. truth_of truths v) variable
+-- the variable of a condition is its place among these
+abbrev pub IsProposal : List SigId → Element → ℕ → Type 0
+IsProposal conditions element v = (condition : SigId) × (slice_get conditions v ≡ Some condition) × (element ≡ Truth condition.0)
 
--- the truths of the first conditions are their proposals, and the other columns are as they were
-pub record AreProposedTo (new : List Node) (before after : Columns) (conditions : List SigId) (count : ℕ) : Type 0 where
-  pub always : after.always ≡ before.always
-  pub present : after.present ≡ before.present
-  pub truths : length after.truth.items ≡ length before.truth.items
-  pub proposals : (i : ℕ) (condition : SigId) → i < count → slice_get conditions i ≡ Some condition → IsRefOf new (λ truths. truth_of truths i) (truth_at after condition.0)
-  pub others : (signal : ℕ) → ((i : ℕ) (condition : SigId) → i < count → slice_get conditions i ≡ Some condition → condition.0 ≡ signal → ⊥) → truth_at after signal ≡ truth_at before signal
+abbrev pub IsProposalBelow : List SigId → ℕ → Element → ℕ → Type 0
+IsProposalBelow conditions count element v = (v < count) × IsProposal conditions element v
 
 -- The columns keep to the tables of a triangular kernel at each proposal of its conditions.
 pub record AreFilled (kernel : Kernel) (triangle : Triangle) (conditions : List SigId) (nodes : List Node) (columns : Columns) : Type 0 where

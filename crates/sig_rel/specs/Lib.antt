@@ -7,8 +7,10 @@ pub mod TruthFunctions
 pub mod Triangles
 pub mod Systems
 pub mod Rules
+pub mod Elements
 pub mod Tables
 pub mod Substitutions
+pub mod Variables
 pub mod FreeColumns
 pub mod Schedules
 pub mod Substituted

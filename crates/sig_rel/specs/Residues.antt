@@ -9,8 +9,8 @@ use Rattle.sig_dd.specs.Nodes.{test}
 use Rattle.sig_dd.specs.declared.node.Node.{Node}
 use Rattle.sig_dd.specs.declared.node.Ref.{Ref}
 use Rattle.sig_rel.specs.OwnColumns.{is_own}
-use Rattle.sig_rel.specs.Rules.{Values, operand_value, presence_by, truth_by_form, value_status}
-use Rattle.sig_rel.specs.Substitutions.{present_at, truth_at, values_at}
+use Rattle.sig_rel.specs.Rules.{Values, operand_value, value_status}
+use Rattle.sig_rel.specs.Substitutions.{present_at, truth_at}
 use Rattle.sig_rel.specs.TruthFunctions.{truth_given}
 use Rattle.sig_rel.specs.declared.general.Left.{Left}
 use Rattle.sig_rel.specs.declared.statuses.Known.{Known}
@@ -29,12 +29,6 @@ is_met signals least values (Event y x) = same_status (value_status least values
 -- what a signal is in the columns
 abbrev pub IsOwnStatus : List ℕ → Columns → ℕ → Known → Type 0
 IsOwnStatus least columns signal known = (known.present ≡ present_at columns (slice_index least signal)) × (known.truth ≡ truth_at columns signal)
-
--- what an equation of a form gives of the columns
-abbrev pub IsGivenStatus : List Node → List Node → List Signal → List ℕ → Columns → Form → Known → Type 0
-IsGivenStatus old new signals least columns form known =
-    (truths : List Bool) → (test new known.present truths ≡ presence_by least (values_at old columns truths) form)
-    × ((b : Bool) → truth_by_form signals least (values_at old columns truths) form ≡ Some b → test new known.truth truths ≡ b)
 
 -- a class of some signals is present at some truths
 abbrev pub IsPresentFrom : List Node → List ℕ → Columns → List Bool → ℕ → Type 0

@@ -7,6 +7,7 @@ use Rattle.sig_kernel.specs.declared.equation.Form.{Form}
 use Rattle.sig_kernel.specs.declared.kernel.Kernel.{Kernel}
 use Rattle.sig_clock.specs.Conditions.{is_condition}
 use Rattle.sig_clock.specs.SameClocks.{AreLeast}
+use Rattle.sig_rel.specs.Elements.{entry_of, truths_read}
 use Rattle.sig_rel.specs.Relations.{is_boolean}
 use Rattle.sig_rel.specs.Tables.{AreMarks, IsFreshWithin, governs, has_class, has_truth_of, presence_ready, with_class, with_truth_of}
 use Rattle.sig_rel.specs.Triangles.{Governs, HasClasses, HasTruths, IsClass, form_at, operand_signals, tested}
@@ -32,10 +33,8 @@ pub record AreNamed (kernel : Kernel) (rules : Rules) : Type 0 where
 
 -- what the equation of an element reads is among the elements before it; a cut reads nothing
 abbrev pub ReadsBefore : Kernel → Rules → List Element → Element → Type 0
-ReadsBefore kernel rules before (Presence class) = (number : ℕ) (form : Form) → slice_get rules.counted.items class ≡ Some (Some number) → form_at kernel number ≡ Some form
-    → HasClasses rules.least.items before (operand_signals form) × HasTruths kernel before (tested form)
-ReadsBefore kernel rules before (Truth signal) = (number : ℕ) (form : Form) → slice_get rules.defined.items signal ≡ Some (Some number) → form_at kernel number ≡ Some form
-    → HasClasses rules.least.items before (operand_signals form) × HasTruths kernel before (operand_signals form)
+ReadsBefore kernel rules before element = (number : ℕ) (form : Form) → entry_of rules element ≡ Some (Some number) → form_at kernel number ≡ Some form
+    → HasClasses rules.least.items before (operand_signals form) × HasTruths kernel before (truths_read form element)
 
 -- each element of a list once, and each behind what its equation reads
 pub record IsOrderOfWriting (kernel : Kernel) (rules : Rules) (list : List Element) : Type 0 where

@@ -6,8 +6,9 @@ use Rattle.sig_kernel.specs.declared.equation.Form.{Form}
 use Rattle.sig_kernel.specs.declared.kernel.Kernel.{Kernel}
 use Rattle.sig_rel.specs.Relations.{is_boolean, truth_in}
 use Rattle.sig_rel.specs.Rules.{Values, presence_by, truth_by_form}
-use Rattle.sig_rel.specs.Substitutions.{IsCountedBy, IsDefinedBy}
+use Rattle.sig_rel.specs.Elements.{IsGivenBy}
 use Rattle.sig_rel.specs.Triangles.{IsClass}
+use Rattle.sig_rel.specs.declared.elements.Element.TheVariants.{Presence, Truth}
 use Rattle.sig_rel.specs.declared.numbering.Unknowns.{Unknowns}
 use Rattle.sig_rel.specs.declared.rules.Rules.{Rules}
 
@@ -21,8 +22,8 @@ IsCutTruth kernel rules signal = (is_boolean kernel signal ≡ true) × (slice_g
 
 -- what an equation is named for is what it gives; all else is its own unknown
 pub record AreSubstituted (kernel : Kernel) (rules : Rules) (unknowns : Unknowns) (truths : List Bool) (values : Values) : Type 0 where
-  pub classes : (class number : ℕ) (form : Form) → IsCountedBy kernel rules class number form → values.present class ≡ presence_by rules.least.items values form
-  pub truths_given : (signal number : ℕ) (form : Form) (b : Bool) → IsDefinedBy kernel rules signal number form
+  pub classes : (class number : ℕ) (form : Form) → IsGivenBy kernel rules (Presence class) number form → values.present class ≡ presence_by rules.least.items values form
+  pub truths_given : (signal number : ℕ) (form : Form) (b : Bool) → IsGivenBy kernel rules (Truth signal) number form
       → truth_by_form kernel.signals rules.least.items values form ≡ Some b → values.truth signal ≡ b
   pub cut_classes : (class : ℕ) → IsCutClass kernel rules class → values.present class ≡ truth_of truths (slice_index unknowns.present.items class)
   pub cut_truths : (signal : ℕ) → IsCutTruth kernel rules signal → values.truth signal ≡ truth_in truths (slice_index_or unknowns.truth.items signal None)

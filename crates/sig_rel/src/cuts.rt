@@ -1,6 +1,6 @@
 //! What is cut where no equation can write anything.
 
-ghost use Rattle.std.specs.Prelude.{◌≡◌, ◌⊎◌, Some, option_map, IfOk, MatchOption};
+ghost use Rattle.std.specs.Prelude.{◌≡◌, ◌⊎◌, Some, IfOk, MatchOption};
 ghost use Rattle.sig_kernel.specs.Validity.{IsValid};
 ghost use Rattle.sig_rel.specs.Schedules.{IsFoundAmong, IsPlannedStep, IsScheduling, IsWhole, is_left, is_left_truth};
 
@@ -10,13 +10,6 @@ use crate::schedules::{Scheduling, Step, cut};
 use sig_base::SigId;
 use sig_kernel::{Form, Kernel, Operand};
 use std::alloc::{AllocError, Global};
-
-/// What may be cut, and how many equations wait for it.
-#[derive(Clone, Copy)]
-struct Candidate {
-    place: usize,
-    waiting: u32,
-}
 
 impl Scheduling {
     /// What is cut next, of a circle: the boolean of a written class, and then the class, for which
@@ -52,10 +45,10 @@ impl Scheduling {
         let mut best = None;
         for signal in 0..count {
             if self.is_left_truth(kernel, signal) {
-                best = Some(better(best, signal, waiting_for(waiting.as_slice(), signal)));
+                best = Some(better(waiting.as_slice(), best, signal));
             }
         }
-        Ok(place_of(best))
+        Ok(best)
     }
 
     /// The class for which most equations wait.
@@ -68,10 +61,10 @@ impl Scheduling {
         let mut best = None;
         for class in 0..kernel.signals.as_slice().len() {
             if self.is_left(class) {
-                best = Some(better(best, class, waiting_for(waiting.as_slice(), class)));
+                best = Some(better(waiting.as_slice(), best, class));
             }
         }
-        Ok(place_of(best))
+        Ok(best)
     }
 
     /// To each number that signals have, how many equations read a signal of it, of those that define
@@ -84,16 +77,12 @@ impl Scheduling {
     ) -> Result<Vec<u32>, AllocError> {
         let mut waiting = vec![in alloc; 0u32; kernel.signals.as_slice().len()]?;
         for equation in kernel.equations.as_slice() {
-            if self.is_unfinished(kernel, target_number(&equation.form) as usize) {
+            let target = target_number(&equation.form) as usize;
+            if !self.placed.has_both(kernel, &self.rules, target) {
                 count_form(waiting.as_mut_slice(), numbers, &equation.form);
             }
         }
         Ok(waiting)
-    }
-
-    /// Whether the class of a signal, or its truth, was not written.
-    fn is_unfinished(&self, kernel: &Kernel, signal: usize) -> bool {
-        !self.placed.has_both(kernel, &self.rules, signal)
     }
 }
 
@@ -105,30 +94,19 @@ fn waiting_for(waiting: &[u32], number: usize) -> u32 {
     }
 }
 
-/// The better one of a candidate and the best one so far, the earlier one of equals.
-fn better(best: Option<Candidate>, place: usize, waiting: u32) -> Candidate
-    ensures { (result.place ≡ place) ⊎ (best ≡ Some result) }
+/// The better one of a place and the best one so far, the earlier one of equals.
+fn better(waiting: &[u32], best: Option<usize>, place: usize) -> usize
+    ensures { (result ≡ place) ⊎ (best ≡ Some result) }
 {
-    let candidate = Candidate { place, waiting };
     match best {
         Some(best) => {
-            if waiting > best.waiting {
-                candidate
+            if waiting_for(waiting, place) > waiting_for(waiting, best) {
+                place
             } else {
                 best
             }
         }
-        None => candidate,
-    }
-}
-
-/// The place of a candidate.
-fn place_of(candidate: Option<Candidate>) -> Option<usize>
-    ensures { result ≡ option_map (λ candidate. candidate.place) candidate }
-{
-    match candidate {
-        Some(candidate) => Some(candidate.place),
-        None => None,
+        None => place,
     }
 }
 

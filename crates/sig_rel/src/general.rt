@@ -10,7 +10,7 @@ ghost use Rattle.sig_kernel.specs.Validity.{IsValid};
 ghost use Rattle.sig_rel.specs.FreeColumns.{Adds, AreFresh};
 ghost use Rattle.sig_rel.specs.GeneralColumns.{AreSubstitutedColumns, IsSystemWith, substituting};
 ghost use Rattle.sig_rel.specs.Numberings.{number_of};
-ghost use Rattle.sig_rel.specs.OwnColumns.{AreOwnColumns, classes_below, count_one, is_own, truths_below};
+ghost use Rattle.sig_rel.specs.OwnColumns.{classes_below, count_one, is_own};
 ghost use Rattle.sig_rel.specs.Relations.{IsUnknownCount};
 ghost use Rattle.sig_rel.specs.Residues.{IsSomePresent, is_met, left_refs};
 ghost use Rattle.sig_rel.specs.Schedules.{IsSchedule};
@@ -93,20 +93,6 @@ impl Columns {
     {
         self.own(store, schedule.rules.least.as_slice(), unknowns)?;
         self.write_all(store, kernel, &schedule.rules, schedule.list.as_slice())
-    }
-
-    /// Makes the presence of each class and the truth of each boolean its own unknown.
-    fn own(&mut self, store: &mut Store, least: &[u32], unknowns: &Unknowns) -> Result<(), DdAnswer>
-        requires store { IsStore store.old }
-        requires presences { length unknowns.now.present.items ≡ length least.now }
-        requires truths { length unknowns.now.truth.items ≡ length least.now }
-        requires fresh { AreFresh store.old.nodes (length least.now) self.old }
-        ensures adds { Adds (classes_below least.now (length least.now)
-            + truths_below unknowns.now.truth.items (length unknowns.now.truth.items)) store.old store.new result }
-        ensures own { OnOk result (AreOwnColumns store.new.nodes least.now unknowns.now self.new) }
-    {
-        self.own_presences(store, least, unknowns.present.as_slice())?;
-        self.own_truths(store, unknowns.truth.as_slice())
     }
 
     /// What is left to be met, and where some signal is present.
@@ -204,10 +190,11 @@ fn proposals_of(
     ensures { IfOk result (λ proposals. proposals.items
         ≡ map (λ condition. number_of (slice_get unknowns.now.truth.items condition.0)) conditions.now) }
 {
-    conditions
-        .iter()
-        .map(|condition| proposal_of(unknowns, *condition))
-        .collect(alloc)
+    let mut proposals = Vec::new(alloc);
+    for condition in conditions {
+        proposals.push(proposal_of(unknowns, *condition))?;
+    }
+    Ok(proposals)
 }
 
 /// The variable of a boolean's truth.

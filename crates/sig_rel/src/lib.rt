@@ -8,7 +8,6 @@
 mod answer;
 mod cuts;
 mod elements;
-mod equations;
 mod free;
 mod functions;
 mod general;
@@ -17,7 +16,6 @@ mod making;
 mod numbering;
 mod own;
 mod placing;
-mod proposing;
 mod relations;
 mod residue;
 mod rules;

@@ -218,10 +218,11 @@ impl Numbering {
         ensures { IfOk result (λ present. present.items
             ≡ map (λ class. number_of (slice_get self.now.class.items class)) least.now) }
     {
-        least
-            .iter()
-            .map(|class| self.class_number(*class as usize))
-            .collect(alloc)
+        let mut present = Vec::new(alloc);
+        for class in least {
+            present.push(self.class_number(*class as usize))?;
+        }
+        Ok(present)
     }
 
     /// The number of a class.

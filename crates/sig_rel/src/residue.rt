@@ -6,10 +6,10 @@ ghost use Rattle.sig_clock.specs.Reactions.{has_truth, same_status, where_presen
 ghost use Rattle.sig_dd.specs.Diagram.{Agree};
 ghost use Rattle.sig_dd.specs.Nodes.{Holds, IsStore, test};
 ghost use Rattle.sig_dd.specs.Shares.{SpanAll};
-ghost use Rattle.sig_rel.specs.Residues.{IsGivenStatus, IsOwnStatus, is_met};
+ghost use Rattle.sig_rel.specs.Residues.{IsOwnStatus, is_met};
 ghost use Rattle.sig_rel.specs.Rules.{presence_by, truth_by_form, value_status};
 ghost use Rattle.sig_rel.specs.Shares.{Makes};
-ghost use Rattle.sig_rel.specs.Statuses.{itself, refs_of, status_by};
+ghost use Rattle.sig_rel.specs.Statuses.{itself};
 ghost use Rattle.sig_rel.specs.Substitutions.{HoldColumns, SpanColumns, operand_at, values_at};
 ghost use Rattle.sig_rel.specs.TruthFunctions.{truth_given};
 
@@ -132,25 +132,10 @@ impl Columns {
             ≡ same_status (value_status least.now (values_at store.old.nodes self.now truths) y.0)
             (if presence_by least.now (values_at store.old.nodes self.now truths) form.now then Some b else None)) }
     {
-        let given = self.given(store, signals, least, form)?;
-        self.status_of(least, y).same(store, given)
-    }
-
-    /// What an equation of this form gives.
-    fn given(
-        &self,
-        store: &mut Store,
-        signals: &[Signal],
-        least: &[u32],
-        form: &Form,
-    ) -> Result<Known, DdAnswer>
-        requires { HoldColumns store.old.nodes self.now }
-        ensures made { Makes 5 (SpanColumns store.old.nodes self.now) store.old store.new refs_of result }
-        ensures value { IfOk result (IsGivenStatus store.old.nodes store.new.nodes signals.now least.now self.now form.now) }
-    {
         let present = self.presence(store, least, form)?;
         let truth = self.truth(store, signals, least, form)?;
-        Ok(Known { present, truth })
+        self.status_of(least, y)
+            .same(store, Known { present, truth })
     }
 
     /// Where a signal is true exactly where another one is present.
@@ -167,8 +152,10 @@ impl Columns {
             same_status (value_status least.now (values_at store.old.nodes self.now truths) y.0)
             (where_present (value_status least.now (values_at store.old.nodes self.now truths) x.0) true))) }
     {
-        let present = self.status_of(least, x).where_present(store, true);
-        self.status_of(least, y).same(store, present)
+        let present = self.present_of(least, x);
+        let truth = store.constant(true);
+        self.status_of(least, y)
+            .same(store, Known { present, truth })
     }
 
     /// What a signal is.

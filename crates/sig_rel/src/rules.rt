@@ -77,9 +77,11 @@ fn counted_of(alloc: Global, kernel: &Kernel, least: &[u32]) -> Result<Vec<Optio
     ensures { IfOk result (λ counted. counted.items
         ≡ map (counted_for kernel.now least.now) (range_with_len 0 (length kernel.now.signals))) }
 {
-    (0..kernel.signals.as_slice().len())
-        .map(|class| counted_for(kernel, least, class))
-        .collect(alloc)
+    let mut counted = Vec::new(alloc);
+    for class in 0..kernel.signals.as_slice().len() {
+        counted.push(counted_for(kernel, least, class))?;
+    }
+    Ok(counted)
 }
 
 /// The equation that is counted for a class: it gives the class its presence from those of other
@@ -108,18 +110,24 @@ fn counted_for(kernel: &Kernel, least: &[u32], class: usize) -> Option<u32>
 fn first_given(equations: &[Equation], least: &[u32], class: usize) -> Option<usize>
     ensures { result ≡ position (gives least.now class) equations.now }
 {
-    equations
-        .iter()
-        .position(|equation| gives(least, class, equation))
+    for number in 0..equations.len() {
+        if gives(least, class, &equations[number]) {
+            return Some(number);
+        }
+    }
+    None
 }
 
 /// Whether each other equation leaves an equation of this form the counted one of a class.
 fn are_excused(equations: &[Equation], least: &[u32], class: usize, counted: &Form) -> bool
     ensures { result ≡ list_all (is_excused least.now class counted.now) equations.now }
 {
-    equations
-        .iter()
-        .all(|equation| is_excused(least, class, counted, equation))
+    for equation in equations {
+        if !is_excused(least, class, counted, equation) {
+            return false;
+        }
+    }
+    true
 }
 
 /// Whether an equation gives a class its presence from those of other classes.
@@ -237,9 +245,11 @@ fn defined_of(
     ensures { IfOk result (λ defined. defined.items
         ≡ map (defined_for kernel.now conditions.now) (range_with_len 0 (length kernel.now.signals))) }
 {
-    (0..kernel.signals.as_slice().len())
-        .map(|signal| defined_for(kernel, conditions, signal))
-        .collect(alloc)
+    let mut defined = Vec::new(alloc);
+    for signal in 0..kernel.signals.as_slice().len() {
+        defined.push(defined_for(kernel, conditions, signal))?;
+    }
+    Ok(defined)
 }
 
 /// The equation that defines a signal, where that is a boolean and no condition.
@@ -260,18 +270,24 @@ fn defined_for(kernel: &Kernel, conditions: &[SigId], signal: usize) -> Option<u
 fn first_defining(equations: &[Equation], signal: usize) -> Option<usize>
     ensures { result ≡ position (defines signal) equations.now }
 {
-    equations
-        .iter()
-        .position(|equation| defines(equation, signal))
+    for number in 0..equations.len() {
+        if defines(&equations[number], signal) {
+            return Some(number);
+        }
+    }
+    None
 }
 
 /// Whether a signal is among conditions.
 fn is_listed(conditions: &[SigId], signal: usize) -> bool
     ensures { result ≡ list_any (is_numbered signal) conditions.now }
 {
-    conditions
-        .iter()
-        .any(|condition| condition.0 as usize == signal)
+    for condition in conditions {
+        if condition.0 as usize == signal {
+            return true;
+        }
+    }
+    false
 }
 
 /// The class that no equation gives its presence from those of other classes, if there is one.
@@ -296,17 +312,12 @@ pub(crate) fn is_top(kernel: &Kernel, least: &[u32], class: usize) -> bool
     least_of(least, class) == class && all_allow_top(kernel.equations.as_slice(), least, class)
 }
 
+/// Whether no equation is a reason against a class being the top.
 fn all_allow_top(equations: &[Equation], least: &[u32], class: usize) -> bool
     ensures { result ≡ list_all (allows_top least.now class) equations.now }
 {
-    equations
-        .iter()
-        .all(|equation| allows_top(least, class, equation))
-}
-
-/// Whether an equation is no reason against a class being the top.
-fn allows_top(least: &[u32], class: usize, equation: &Equation) -> bool
-    ensures { result ≡ allows_top least.now class equation.now }
-{
-    !governs(least, class, &equation.form) || has_operand_of(least, class, &equation.form)
+    match first_given(equations, least, class) {
+        Some(_) => false,
+        None => true,
+    }
 }

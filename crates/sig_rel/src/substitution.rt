@@ -1,30 +1,31 @@
 //! Clocks of a kernel, substituted into one another.
 
-ghost use Rattle.std.specs.Prelude.{◌≡◌, ◌∷◌, [], ◌&&◌, not, ℕ, List, Bool, Some, slice_index, IfOk};
+ghost use Rattle.std.specs.Prelude.{◌≡◌, ◌<◌, ◌∷◌, [], ◌&&◌, not, ℕ, List, Bool, Some, length, slice_index, IfOk};
 ghost use Rattle.sig_dd.specs.Diagram.{Agree};
-ghost use Rattle.sig_clock.specs.Reactions.{same_truth};
+ghost use Rattle.sig_clock.specs.Reactions.{constant_truth, same_truth};
 ghost use Rattle.sig_dd.specs.Nodes.{Holds, IsStore, Spans, test};
 ghost use Rattle.sig_dd.specs.Shares.{SpanAll};
+ghost use Rattle.sig_rel.specs.Elements.{signal_of};
+ghost use Rattle.sig_kernel.specs.Table.{kind_at};
 ghost use Rattle.sig_rel.specs.Rules.{presence_by};
 ghost use Rattle.sig_rel.specs.Shares.{Makes};
 ghost use Rattle.sig_rel.specs.Statuses.{itself};
-ghost use Rattle.sig_rel.specs.Substitutions.{GivesTruth, HoldColumns, SpanColumns, operand_at, present_at, truth_at, values_at};
+ghost use Rattle.sig_rel.specs.Substitutions.{Gives, GivesTruth, HoldColumns, IsSet, SpanColumns, operand_at, present_at, row_at, truth_at, values_at};
 ghost use Rattle.sig_rel.specs.TruthFunctions.{truth_by, truth_given};
 
-use crate::equations::constant_truth;
+use crate::elements::Element;
 use crate::functions::{TruthFunction, truth_function};
 use crate::rules::least_of;
-use crate::statuses::same_truth;
-use sig_base::{SigId, Signal};
+use crate::statuses::{Known, same_truth};
+use sig_base::{Kind, SigId, Signal};
 use sig_dd::{DdAnswer, Ref, Store};
 use sig_kernel::{Form, FunOp, Operand};
 
-/// The presence of each class, at its least signal, and the truth of each boolean, as far as they are
-/// written; the others are what they were before.
+/// To each signal the presence of the class whose least signal it is, and its truth where it is a
+/// boolean, as far as they are written; the others are what they were before.
 #[derive(Drop)]
 pub(crate) struct Columns {
-    pub(crate) present: Vec<Ref>,
-    pub(crate) truth: Vec<Ref>,
+    pub(crate) rows: Vec<Known>,
     pub(crate) always: Ref,
 }
 
@@ -40,10 +41,7 @@ impl Columns {
     pub(crate) fn present_at(&self, class: usize) -> Ref
         ensures { result ≡ present_at self.now class }
     {
-        match self.present.get(class) {
-            Some(present) => *present,
-            None => self.always,
-        }
+        self.row(class).present
     }
 
     /// The truth of a signal.
@@ -57,9 +55,49 @@ impl Columns {
     pub(crate) fn truth_at(&self, signal: usize) -> Ref
         ensures { result ≡ truth_at self.now signal }
     {
-        match self.truth.get(signal) {
-            Some(truth) => *truth,
-            None => self.always,
+        self.row(signal).truth
+    }
+
+    /// What the signal of a number is.
+    fn row(&self, signal: usize) -> Known
+        ensures { result ≡ row_at self.now signal }
+    {
+        match self.rows.get(signal) {
+            Some(row) => *row,
+            None => Known {
+                present: self.always,
+                truth: self.always,
+            },
+        }
+    }
+
+    /// Writes an element.
+    pub(crate) fn set(&mut self, element: Element, value: Ref)
+        requires { signal_of element < length self.old.rows.items }
+        ensures { IsSet self.old self.new element value }
+    {
+        match element {
+            Element::Presence(class) => self.rows[class as usize].present = value,
+            Element::Truth(signal) => self.rows[signal as usize].truth = value,
+        }
+    }
+
+    /// What an equation of this form gives an element, where it gives it anything.
+    pub(crate) fn value(
+        &self,
+        store: &mut Store,
+        signals: &[Signal],
+        least: &[u32],
+        form: &Form,
+        element: Element,
+    ) -> Result<Ref, DdAnswer>
+        requires { HoldColumns store.old.nodes self.now }
+        ensures made { Makes 3 (SpanColumns store.old.nodes self.now) store.old store.new itself result }
+        ensures value { IfOk result (Gives store.old.nodes store.new.nodes self.now signals.now least.now form.now element) }
+    {
+        match element {
+            Element::Presence(_) => self.presence(store, least, form),
+            Element::Truth(_) => self.truth(store, signals, least, form),
         }
     }
 
@@ -228,4 +266,17 @@ fn differ(store: &mut Store, a: Ref, b: Ref) -> Result<Ref, DdAnswer>
 {
     let same = same_truth(store, a, b)?;
     store.negate(same)
+}
+
+/// The truth that a constant has in a signal.
+fn constant_truth(signals: &[Signal], y: SigId, constant: i64) -> bool
+    ensures { result ≡ constant_truth (kind_at signals.now y) constant }
+{
+    match signals.get(y.0 as usize) {
+        Some(signal) => match signal.kind {
+            Kind::Boolean => constant == 1,
+            Kind::Integer | Kind::Event => true,
+        },
+        None => true,
+    }
 }

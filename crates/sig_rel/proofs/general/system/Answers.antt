@@ -39,7 +39,7 @@ returns-in_err-left-clause-share c =
     let columns = c.substitute.new.self in
     let why = c.in_err-left.field-0.0 in
     left_within_share kernel least c.in_ok-schedule.ensures.order.named.are_least (SpanColumns s.nodes columns) unknowns.first (unknowns.end - unknowns.first) c.in_ok-substitute.ensures.substituted.span
-    (λ u is. let few = lie.few u is in omega (arith, few)) c.args.store.now s t why c.from_residual-in_err-left.result c.in_ok-substitute.ensures.adds
+    (λ u is. let few = lie.few u is in omega (arith, few)) left_refs (asking kernel least) (omega arith) c.args.store.now s t why c.from_residual-in_err-left.result c.in_ok-substitute.ensures.adds
     (subst (λ (xs : List ℕ). Makes (asking kernel xs) (SpanColumns s.nodes columns) s t left_refs (let result : Result Left DdAnswer = Err why in result)) c.as_slice-2.ensures.value c.in_err-left.ensures.made)
     c.from_residual-in_err-left.ensures.1
 
@@ -59,7 +59,7 @@ returns-in_err-system_with-clause-share c =
     let columns = c.substitute.new.self in
     let left = c.in_ok-left.left in
     lacked_within_share kernel least c.in_ok-schedule.ensures.order.named.are_least (SpanColumns s.nodes columns) unknowns.first (unknowns.end - unknowns.first) c.in_ok-substitute.ensures.substituted.span
-    (λ u is. let few = lie.few u is in omega (arith, few)) c.args.store.now s t left c.from_residual-in_err-system_with.result c.in_ok-substitute.ensures.adds
+    (λ u is. let few = lie.few u is in omega (arith, few)) left_refs (asking kernel least) (omega arith) c.args.store.now s t left c.from_residual-in_err-system_with.result c.in_ok-substitute.ensures.adds
     (subst (λ (xs : List ℕ). Makes (asking kernel xs) (SpanColumns s.nodes columns) s t left_refs (let result : Result Left DdAnswer = Ok left in result)) c.as_slice-2.ensures.value c.in_ok-left.ensures.made)
     c.from_residual-in_err-system_with.ensures.1
 
@@ -90,5 +90,5 @@ returns-clause-share c =
     let columns = c.substitute.new.self in
     let left = c.in_ok-left.left in
     made_within_share kernel least c.in_ok-schedule.ensures.order.named.are_least (SpanColumns s.nodes columns) unknowns.first (unknowns.end - unknowns.first) c.in_ok-substitute.ensures.substituted.span
-    (λ u is. let few = lie.few u is in omega (arith, few)) c.args.store.now s t left c.in_ok-system_with.field-0 c.in_ok-substitute.ensures.adds
+    (λ u is. let few = lie.few u is in omega (arith, few)) left_refs (asking kernel least) (omega arith) c.args.store.now s t left c.in_ok-system_with.field-0 c.in_ok-substitute.ensures.adds
     (subst (λ (xs : List ℕ). Makes (asking kernel xs) (SpanColumns s.nodes columns) s t left_refs (let result : Result Left DdAnswer = Ok left in result)) c.as_slice-2.ensures.value c.in_ok-left.ensures.made)

@@ -1,7 +1,7 @@
-use Rattle.std.specs.Prelude.{length, option_map}
+use Rattle.std.specs.Prelude.{length}
 use Rattle.sig_rel.specs.Schedules.{is_left}
 use Rattle.sig_rel.proofs.BestSignals.{IsBestBelow}
 use Rattle.sig_rel.proofs.schedules.Scheduling.waited_class.Given as goal
 
 abbrev pub invariant-loop-class : goal.invariant-loop-class
-invariant-loop-class l = IsBestBelow (is_left l.self.rules.least.items l.self.placed) (length l.kernel.signals) l.class (option_map (λ candidate. candidate.place) l.best)
+invariant-loop-class l = IsBestBelow (is_left l.self.rules.least.items l.self.placed) (length l.kernel.signals) l.class l.best

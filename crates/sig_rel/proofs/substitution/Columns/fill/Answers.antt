@@ -1,13 +1,12 @@
-use Rattle.std.proofs.Common.{◌+◌, ◌*◌, ◌∙◌, length, ap, arith, subst, sym}
+use Rattle.std.proofs.Common.{◌+◌, ◌*◌, length, arith, subst, sym}
 use Rattle.std.specs.List.{range_with_len}
-use Rattle.std.proofs.lemmas.List.{length-replicate}
 use Rattle.std.proofs.lemmas.Result.{on_ok_weaker}
 use Rattle.sig_dd.specs.Nodes.{allowance}
 use Rattle.sig_rel.specs.Schedules.{IsOrderOfWriting}
 use Rattle.sig_rel.specs.Shares.{Makes, triangular_share_of}
 use Rattle.sig_rel.specs.Substitutions.{IsPartlyWritten, SpanColumns, no_ref, steps}
 use Rattle.sig_rel.proofs.AddingLemmas.{adds_err, adds_makes, adds_more, adds_then, within_triangular_share}
-use Rattle.sig_rel.proofs.FilledLemmas.{are_filled, condition_within, proposed_plain, proposed_span}
+use Rattle.sig_rel.proofs.FilledLemmas.{are_filled, condition_within, proposed_count, proposed_hold, proposed_plain, proposed_span}
 use Rattle.sig_rel.proofs.GivenLemmas.{conditions_within}
 use Rattle.sig_rel.proofs.StepLemmas.{few_steps}
 use Rattle.sig_rel.proofs.TriangleOrders.{triangle_orders}
@@ -23,7 +22,7 @@ propose-requires-clause-few c =
 pub propose-requires-clause-within : goal.propose-requires-clause-within
 propose-requires-clause-within c i condition at =
     let lt = condition_within c.args.kernel.now c.args.conditions.now c.requires.conditions i condition at in
-    let long = ap length c.requires.fresh.truth ∙ length-replicate (length c.args.kernel.now.signals) c.args.self.now.always in
+    let long = c.requires.fresh.rows in
     omega (arith, lt, long)
 
 pub returns-in_err-propose-clause-adds : goal.returns-in_err-propose-clause-adds
@@ -40,8 +39,16 @@ write_all-requires-clause-order c =
     subst (IsOrderOfWriting c.args.kernel.now c.args.triangle.now.rules) (sym c.as_slice.ensures.value)
     (triangle_orders c.args.kernel.now c.requires.valid c.args.triangle.now.rules c.requires.triangle.are_rules c.args.triangle.now.list.items c.requires.triangle.is_triangle)
 
-pub write_all-requires-clause-begun : goal.write_all-requires-clause-begun
-write_all-requires-clause-begun c =
+pub write_all-requires-clause-hold : goal.write_all-requires-clause-hold
+write_all-requires-clause-hold c =
+    proposed_hold c.args.kernel.now c.args.conditions.now c.requires.conditions c.args.store.now c.propose.new.store c.in_ok-propose.ensures.adds.kept c.args.self.now c.propose.new.self c.requires.fresh c.in_ok-propose.ensures.proposed
+
+pub write_all-requires-clause-count : goal.write_all-requires-clause-count
+write_all-requires-clause-count c =
+    proposed_count c.args.kernel.now c.args.conditions.now c.requires.conditions c.args.store.now c.propose.new.store c.in_ok-propose.ensures.adds.kept c.args.self.now c.propose.new.self c.requires.fresh c.in_ok-propose.ensures.proposed
+
+pub write_all-requires-clause-plain : goal.write_all-requires-clause-plain
+write_all-requires-clause-plain c =
     proposed_plain c.args.kernel.now c.args.conditions.now c.requires.conditions c.args.store.now c.propose.new.store c.in_ok-propose.ensures.adds.kept c.args.self.now c.propose.new.self c.requires.fresh c.in_ok-propose.ensures.proposed
 
 pub returns-clause-adds : goal.returns-clause-adds

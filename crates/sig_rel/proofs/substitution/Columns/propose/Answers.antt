@@ -1,39 +1,44 @@
-use Rattle.std.proofs.Common.{◌≡◌, ◌+◌, Ok, Err, length, get_or, subst, arith}
+use Rattle.std.proofs.Common.{◌≡◌, ◌+◌, Ok, Err, length, get_or, arith}
 use Rattle.sig_clock.proofs.Lists.{get_at}
-use Rattle.sig_rel.specs.FreeColumns.{AreProposedTo}
+use Rattle.sig_rel.specs.FreeColumns.{IsProposalBelow}
 use Rattle.sig_rel.proofs.AddingLemmas.{adds_err, adds_more, adds_none, adds_then}
-use Rattle.sig_rel.proofs.FilledLemmas.{none_proposed, one_proposed}
+use Rattle.sig_rel.proofs.FilledLemmas.{all_proposed, one_proposed}
+use Rattle.sig_rel.proofs.VariableLemmas.{no_variables}
 use Rattle.sig_rel.proofs.substitution.Columns.propose.Goals as goal
 
 pub loop-v-init : goal.loop-v-init
-loop-v-init c = record { adds = adds_none c.args.store.now c.requires.store; proposed = none_proposed c.args.store.now c.args.self.now c.args.conditions.now }
+loop-v-init c = record {
+  adds = adds_none c.args.store.now c.requires.store;
+  proposed = no_variables c.args.store.now.nodes (IsProposalBelow c.args.conditions.now 0) c.args.self.now (λ e v is. let lt = is.0 in omega (arith, lt));
+}
 
-pub propose_one-requires : goal.propose_one-requires
-propose_one-requires c =
+pub set_variable-requires-clause-store : goal.set_variable-requires-clause-store
+set_variable-requires-clause-store c = c.loop-v.invariant.adds.store
+
+pub set_variable-requires-clause-within : goal.set_variable-requires-clause-within
+set_variable-requires-clause-within c =
     let at = get_at c.args.conditions.now c.loop-v.v (record { 0 = 0 }) c.loop-v-test.true in
     let within = c.requires.within c.loop-v.v (get_or c.args.conditions.now c.loop-v.v (record { 0 = 0 })) at in
-    let count = c.loop-v.invariant.proposed.truths in
+    let count = c.loop-v.invariant.proposed.count in
     omega (arith, within, count)
 
-pub returns-in_err-propose_one-clause-adds : goal.returns-in_err-propose_one-clause-adds
-returns-in_err-propose_one-clause-adds c =
+pub returns-in_err-set_variable-clause-adds : goal.returns-in_err-set_variable-clause-adds
+returns-in_err-set_variable-clause-adds c =
     let k = c.loop-v.v in
-    let why = c.in_err-propose_one.field-0.0 in
+    let why = c.in_err-set_variable.field-0.0 in
     let lt = c.loop-v-test.true in
-    adds_err (k + 1) (length c.args.conditions.now) c.args.store.now c.propose_one.new.store why c.from_residual.result
-    (adds_then k 1 c.args.store.now c.loop-v.store c.propose_one.new.store (Err why) c.loop-v.invariant.adds c.in_err-propose_one.ensures.adds) (omega (arith, lt)) c.from_residual.ensures.1
+    adds_err (k + 1) (length c.args.conditions.now) c.args.store.now c.set_variable.new.store why c.from_residual.result
+    (adds_then k 1 c.args.store.now c.loop-v.store c.set_variable.new.store (Err why) c.loop-v.invariant.adds c.in_err-set_variable.ensures.adds) (omega (arith, lt)) c.from_residual.ensures.1
 
 pub loop-v-preserved : goal.loop-v-preserved
 loop-v-preserved c =
     let k = c.loop-v.v in
     let at = get_at c.args.conditions.now k (record { 0 = 0 }) c.loop-v-test.true in
     let condition = get_or c.args.conditions.now k (record { 0 = 0 }) in
-    let within = c.requires.within k condition at in
-    let count = c.loop-v.invariant.proposed.truths in
     record {
-      adds = adds_then k 1 c.args.store.now c.loop-v.store c.propose_one.new.store (Ok tt) c.loop-v.invariant.adds c.in_ok-propose_one.ensures.adds;
-      proposed = one_proposed c.loop-v.store c.propose_one.new.store c.in_ok-propose_one.ensures.adds.kept c.args.self.now c.loop-v.self c.propose_one.new.self c.args.conditions.now k condition at
-          (omega (arith, within, count)) c.requires.once c.loop-v.invariant.proposed c.in_ok-propose_one.ensures.proposed;
+      adds = adds_then k 1 c.args.store.now c.loop-v.store c.set_variable.new.store (Ok tt) c.loop-v.invariant.adds c.in_ok-set_variable.ensures.adds;
+      proposed = one_proposed c.loop-v.store c.set_variable.new.store c.in_ok-set_variable.ensures.adds.kept c.args.self.now c.loop-v.self c.set_variable.new.self c.args.conditions.now k condition at
+          c.requires.once c.loop-v.invariant.proposed c.in_ok-set_variable.ensures.set;
     }
 
 pub returns-clause-adds : goal.returns-clause-adds
@@ -43,7 +48,5 @@ returns-clause-adds c =
 
 pub returns-clause-proposed : goal.returns-clause-proposed
 returns-clause-proposed c =
-    let le = c.loop-v.auto.v-end in
     let past = c.loop-v-test.false in
-    let same : c.loop-v.v ≡ length c.args.conditions.now = omega (arith, le, past) in
-    subst (AreProposedTo c.loop-v.store.nodes c.args.self.now c.loop-v.self c.args.conditions.now) same c.loop-v.invariant.proposed
+    all_proposed c.loop-v.store.nodes c.args.self.now c.loop-v.self c.args.conditions.now c.loop-v.v (omega (arith, past)) c.loop-v.invariant.proposed

@@ -1,4 +1,4 @@
-use Rattle.std.proofs.Common.{◌+◌, ◌*◌, Ok, Err, length, sym, subst, arith}
+use Rattle.std.proofs.Common.{◌+◌, ◌*◌, Ok, Err, length, ap, sym, subst, arith}
 use Rattle.std.proofs.lemmas.Result.{on_ok_weaker}
 use Rattle.sig_dd.specs.Nodes.{allowance}
 use Rattle.sig_rel.specs.FreeColumns.{Adds}
@@ -8,7 +8,7 @@ use Rattle.sig_rel.specs.Schedules.{IsOrderOfWriting}
 use Rattle.sig_rel.specs.Shares.{Makes}
 use Rattle.sig_rel.specs.Substitutions.{IsPartlyWritten, SpanColumns, no_ref, steps}
 use Rattle.sig_rel.proofs.AddingLemmas.{adds_err, adds_makes, adds_more, adds_then}
-use Rattle.sig_rel.proofs.OwnSpans.{own_columns_counts, own_columns_hold, own_columns_plain, own_columns_span, within_share_of_own}
+use Rattle.sig_rel.proofs.OwnSpans.{own_columns_count, own_columns_hold, own_columns_plain, own_columns_span, within_share_of_own}
 use Rattle.sig_rel.proofs.StepLemmas.{few_steps}
 use Rattle.sig_rel.proofs.SubstitutedColumns.{columns_substituted}
 use Rattle.sig_rel.proofs.substitution.Columns.substitute.Goals as goal
@@ -26,6 +26,14 @@ returns-in_err-own-clause-adds c u counts =
     let adds = subst (λ ls. Adds (classes_below ls (length ls) + truths_below unknowns.truth.items (length unknowns.truth.items)) c.args.store.now c.own.new.store (Err c.in_err-own.field-0.0)) c.as_slice.ensures.value c.in_err-own.ensures.adds in
     adds_err m (substituting kernel u) c.args.store.now c.own.new.store c.in_err-own.field-0.0 c.from_residual.result adds (omega (arith, enough)) c.from_residual.ensures.1
 
+pub own-requires-clause-few : goal.own-requires-clause-few
+own-requires-clause-few c =
+    let same = ap length c.as_slice.ensures.value in
+    let order = c.requires.schedule.order in
+    let long = order.named.are_least.count in
+    let limit = c.requires.valid.parts.signals in
+    omega (arith, same, long, limit)
+
 pub write_all-requires-clause-order : goal.write_all-requires-clause-order
 write_all-requires-clause-order c = subst (IsOrderOfWriting c.args.kernel.now c.args.schedule.now.rules) (sym c.as_slice-2.ensures.value) c.requires.schedule.order
 
@@ -36,15 +44,15 @@ write_all-requires-clause-hold c =
     own_columns_hold c.args.kernel.now rules.least.items order.named.are_least c.requires.unknowns.0 c.args.unknowns.now c.requires.unknowns.1 c.requires.within c.own.new.store.nodes c.own.new.self
     (subst (λ ls. AreOwnColumns c.own.new.store.nodes ls c.args.unknowns.now c.own.new.self) c.as_slice.ensures.value c.in_ok-own.ensures.own)
 
-pub write_all-requires-clause-counts : goal.write_all-requires-clause-counts
-write_all-requires-clause-counts c =
+pub write_all-requires-clause-count : goal.write_all-requires-clause-count
+write_all-requires-clause-count c =
     let rules = c.args.schedule.now.rules in
     let order = c.requires.schedule.order in
-    own_columns_counts c.args.kernel.now rules.least.items order.named.are_least c.requires.unknowns.0 c.args.unknowns.now c.requires.unknowns.1 c.requires.within c.own.new.store.nodes c.own.new.self
+    own_columns_count c.args.kernel.now rules.least.items order.named.are_least c.requires.unknowns.0 c.args.unknowns.now c.requires.unknowns.1 c.requires.within c.own.new.store.nodes c.own.new.self
     (subst (λ ls. AreOwnColumns c.own.new.store.nodes ls c.args.unknowns.now c.own.new.self) c.as_slice.ensures.value c.in_ok-own.ensures.own)
 
-pub write_all-requires-clause-begun : goal.write_all-requires-clause-begun
-write_all-requires-clause-begun c =
+pub write_all-requires-clause-plain : goal.write_all-requires-clause-plain
+write_all-requires-clause-plain c =
     let rules = c.args.schedule.now.rules in
     let order = c.requires.schedule.order in
     own_columns_plain c.args.kernel.now rules.least.items order.named.are_least c.requires.unknowns.0 c.args.unknowns.now c.requires.unknowns.1 c.requires.within c.own.new.store.nodes c.own.new.self

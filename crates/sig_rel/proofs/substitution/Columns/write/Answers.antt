@@ -1,37 +1,34 @@
-use Rattle.std.proofs.Common.{◌*◌, sym, subst}
-use Rattle.std.specs.Prelude.{slice_get}
-use Rattle.sig_rel.specs.Substitutions.{IsColumnOf, IsWritten, SpanColumns, size_of, some_ref}
-use Rattle.sig_rel.specs.declared.elements.Element.{Element}
-use Rattle.sig_rel.proofs.Makings.{makes_spans}
-use Rattle.sig_rel.proofs.WritingLemmas.{presence_written, truth_written}
+use Rattle.std.proofs.Common.{◌*◌, ◌∙◌}
+use Rattle.sig_rel.specs.Statuses.{itself}
+use Rattle.sig_rel.specs.Substitutions.{SpanColumns, given_by, no_ref, step_at, values_at}
+use Rattle.sig_rel.proofs.Makings.{made_none, makes_spans}
+use Rattle.sig_rel.proofs.NewColumns.{element_made, element_refused}
+use Rattle.sig_rel.proofs.WritingLemmas.{is_written, not_written}
 use Rattle.sig_rel.proofs.substitution.Columns.write.Goals as goal
 
-pub returns-in_ok-present-in-Presence-clause-written : goal.returns-in_ok-present-in-Presence-clause-written
-returns-in_ok-present-in-Presence-clause-written c =
-    let kernel = c.args.kernel.now in
-    let rules = c.args.rules.now in
+pub returns-in_err-value-in-Some-clause-made : goal.returns-in_err-value-in-Some-clause-made
+returns-in_err-value-in-Some-clause-made c =
     let s = c.args.store.now in
-    let t = c.new_presence.new.store in
-    let before = c.args.self.now in
-    let after = c.set_presence.new.self in
-    let class = c.in-Presence.class in
-    let o = c.in_ok-present-in-Presence.present in
-    let made = c.in_ok-present-in-Presence.ensures.made in
-    subst (λ (e : Element). IsWritten kernel rules s.nodes t.nodes before after e) (sym c.in-Presence.is)
-    (presence_written kernel rules s t made.kept before after c.requires.hold c.set_presence.ensures.always class o (subst (λ (e : Element). IsColumnOf before e) c.in-Presence.is c.requires.within) c.set_presence.ensures.truth c.set_presence.ensures.present
-    made.held (makes_spans (2 * size_of (slice_get rules.counted.items class)) (SpanColumns s.nodes before) s t some_ref o made) c.in_ok-present-in-Presence.ensures.value)
+    element_refused c.args.kernel.now c.args.rules.now c.args.element c.in-Some.form.now c.in-Some.ensures s c.value.new.store (SpanColumns s.nodes c.args.self.now) c.in_err-value-in-Some.field-0.0 c.from_residual.result c.in_err-value-in-Some.ensures.made c.from_residual.ensures.1
 
-pub returns-in_ok-truth-in-Truth-clause-written : goal.returns-in_ok-truth-in-Truth-clause-written
-returns-in_ok-truth-in-Truth-clause-written c =
-    let kernel = c.args.kernel.now in
-    let rules = c.args.rules.now in
+pub returns-in_ok-value-in-Some-clause-made : goal.returns-in_ok-value-in-Some-clause-made
+returns-in_ok-value-in-Some-clause-made c =
     let s = c.args.store.now in
-    let t = c.new_truth.new.store in
-    let before = c.args.self.now in
-    let after = c.set_truth.new.self in
-    let signal = c.in-Truth.signal in
-    let o = c.in_ok-truth-in-Truth.truth in
-    let made = c.in_ok-truth-in-Truth.ensures.made in
-    subst (λ (e : Element). IsWritten kernel rules s.nodes t.nodes before after e) (sym c.in-Truth.is)
-    (truth_written kernel rules s t made.kept before after c.requires.hold c.set_truth.ensures.always signal o (subst (λ (e : Element). IsColumnOf before e) c.in-Truth.is c.requires.within) c.set_truth.ensures.present c.set_truth.ensures.truth
-    made.held (makes_spans (3 * size_of (slice_get rules.defined.items signal)) (SpanColumns s.nodes before) s t some_ref o made) c.in_ok-truth-in-Truth.ensures.value)
+    element_made c.args.kernel.now c.args.rules.now c.args.element c.in-Some.form.now c.in-Some.ensures s c.value.new.store (SpanColumns s.nodes c.args.self.now) c.in_ok-value-in-Some.value c.in_ok-value-in-Some.ensures.made
+
+pub returns-in_ok-value-in-Some-clause-written : goal.returns-in_ok-value-in-Some-clause-written
+returns-in_ok-value-in-Some-clause-written c =
+    let s = c.args.store.now in
+    let made = c.in_ok-value-in-Some.ensures.made in
+    let given = c.in-Some.ensures in
+    is_written c.args.kernel.now c.args.rules.now s c.args.self.now c.requires.hold c.args.element c.value.new.store made.kept c.set.new.self c.in_ok-value-in-Some.value c.set.ensures made.held.0
+    (λ vs span. (makes_spans 3 (SpanColumns s.nodes c.args.self.now) s c.value.new.store itself c.in_ok-value-in-Some.value made vs span).0) given.0 c.in-Some.form.now given.1
+    (λ truths b told. c.in_ok-value-in-Some.ensures.value truths b ((λ j. given_by (c.as_slice-signals.ensures j) (c.as_slice.ensures.value j) (values_at s.nodes c.args.self.now truths) c.in-Some.form.now c.args.element) ∙ told))
+
+pub returns-in-None-clause-made : goal.returns-in-None-clause-made
+returns-in-None-clause-made c =
+    let s = c.args.store.now in
+    made_none (3 * step_at c.args.rules.now c.args.element) (SpanColumns s.nodes c.args.self.now) s no_ref tt c.requires.store tt (λ vs wide. tt)
+
+pub returns-in-None-clause-written : goal.returns-in-None-clause-written
+returns-in-None-clause-written c = not_written c.args.kernel.now c.args.rules.now c.args.store.now c.args.self.now c.requires.hold c.args.element c.in-None.ensures

@@ -1,0 +1,7 @@
+use Rattle.std.proofs.Common.{◌≡◌, ℕ, map, take}
+use Rattle.std.specs.Prelude.{slice_get}
+use Rattle.sig_rel.specs.Numberings.{number_of}
+use Rattle.sig_rel.proofs.numbering.Numbering.presences.Given as goal
+
+abbrev pub invariant-loop-class : goal.invariant-loop-class
+invariant-loop-class l = l.present.items ≡ map (λ (class : ℕ). number_of (slice_get l.self.class.items class)) (take l.class-index l.least)

@@ -1,0 +1,7 @@
+use Rattle.std.proofs.Common.{◌≡◌, map}
+use Rattle.std.specs.List.{range_with_len}
+use Rattle.sig_rel.specs.Tables.{defined_for}
+use Rattle.sig_rel.proofs.rules.defined_of.Given as goal
+
+abbrev pub invariant-loop-signal : goal.invariant-loop-signal
+invariant-loop-signal l = l.defined.items ≡ map (defined_for l.kernel l.conditions) (range_with_len 0 l.signal)

@@ -1,0 +1,11 @@
+use Rattle.std.proofs.Common.{◌+◌, ◌<◌, Ok}
+use Rattle.sig_rel.specs.FreeColumns.{Adds}
+use Rattle.sig_rel.specs.OwnColumns.{IsUnknownWhere, classes_below, truths_below}
+use Rattle.sig_rel.specs.Variables.{AreVariables}
+use Rattle.sig_rel.proofs.substitution.Columns.own.Given as goal
+
+abbrev pub invariant-loop-signal : goal.invariant-loop-signal
+invariant-loop-signal l = record {
+  adds : Adds (classes_below l.least l.signal + truths_below l.unknowns.truth.items l.signal) l.initial.store l.store (Ok tt);
+  own : AreVariables l.store.nodes (IsUnknownWhere (λ n. n < l.signal) l.least l.unknowns) l.initial.self l.self;
+}
