@@ -7,7 +7,7 @@ use Rattle.sig_tree.specs.Terminals.{Terminal, Leaf, leaf}
 use Rattle.sig_tree.specs.Repeated.{Between, Each, Separated}
 use Rattle.sig_parse.specs.State.{State}
 use Rattle.sig_parse.specs.Reads.{Reads, Covers, IsLeaf}
-use Rattle.sig_parse.proofs.Lists.{separated_one, separated_more}
+use Rattle.sig_parse.proofs.Lists.{separated_one, separated_more, each_more}
 
 pub covered : {A : List Leaf → Type 0} {n : ℕ} {s t : State} → Reads A n s t → Covers A s t
 covered r = record { front = r.front; split = r.split; is = r.is }
@@ -59,10 +59,6 @@ module _ {A B : Type 0} (f : B → A) (Is : A → List Leaf → Type 0) (separat
       (and_then r (and_then q p)))
 
 -- things one behind another
-each_more : {A : Type 0} (Is : A → List Leaf → Type 0) (xs : List A) (x : A) (front back : List Leaf) → Each Is xs front → Is x back → Each Is (xs ++ x ∷ []) (front ++ back)
-each_more Is [] x front back e is = (back, [], ap (λ ls. ls ++ back) e ∙ sym (append-nil back), is, refl)
-each_more Is (y ∷ ys) x front back h is = (h.0, h.1 ++ back, ap (λ ls. ls ++ back) h.2 ∙ append_assoc h.0 h.1 back, h.3, each_more Is ys x h.1 back h.4 is)
-
 pub one_each_more : {A B : Type 0} (f : B → A) (Is : A → List Leaf → Type 0) (old new : List B) (x : B) {s t u : State} → new ≡ old ++ x ∷ []
     → Covers (Each Is (map f old)) s t → Covers (Is (f x)) t u → Covers (Each Is (map f new)) s u
 one_each_more {A} f Is old new x {s} {t} {u} e r q =

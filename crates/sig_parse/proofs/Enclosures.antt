@@ -14,8 +14,7 @@ use Rattle.sig_tree.proofs.ReadEquations.{stops_nothing}
 use Rattle.sig_parse.specs.State.{State}
 use Rattle.sig_parse.specs.Reads.{Covers, IsLeaf}
 use Rattle.sig_parse.specs.Refusals.{Cause, Refuses}
-use Rattle.sig_parse.specs.Settling.{Settles, Closes}
-use Rattle.sig_parse.specs.Languages.{InLeaf}
+use Rattle.sig_parse.specs.Settling.{Settles}
 use Rattle.sig_parse.specs.Parts.{InSome, UpTo}
 use Rattle.sig_parse.proofs.Refusing.{SameFirst, agrees_first}
 use Rattle.sig_parse.proofs.Leading.{Leads, Then, refuses_where, leads_where, settles_where, apart_nothing, then_first, leads_alone, starts_or_stops, starts_same}
@@ -69,19 +68,6 @@ module _ {A : Type 0} (Is : A → List Leaf → Type 0) (once : OneReading Is Co
   pub each_read : (x : A) {s t : State} → StopsBefore (λ u. u ≡ ending) s.leaves → Covers (Is x) s t → Leads All ContinuesNothing All ContinuesNothing s.leaves t.leaves
   each_read x {s} {t} stopped c = leads_where (Then (Always Is) All) All ContinuesNothing ContinuesNothing all_of (λ back stops. stops) s.leaves (λ limits whole back is stops same. of_all s.leaves stopped limits whole back is same)
       (leads_alone (Always Is) All ContinuesNothing once (λ limits x leaves is. is) (λ limits x leaves is. is) x c)
-
-  -- the terminal is next
-  module _ (Begins : Terminal → Type 0) (begins : (x : A) (leaves : List Leaf) → Is x leaves → StartsWith Begins leaves) (apart : Begins ending → ⊥) where
-    pub each_ends : {here : List Leaf} → StartsWith (λ t. t ≡ ending) here → Closes All ending here here
-    each_ends {here} next = λ cause stopped r. refuses_where (InLeaf ending) All ContinuesNothing ContinuesNothing (λ limits leaves is. ([], (is.0, [], is.1, refl))) (λ back stops. stops) here
-        (λ limits whole back is stops same. go limits whole back is.0 is.1.0 is.1.1 is.1.2 is.1.3 same) r
-      where
-        go : (limits : Limits) (whole back : List Leaf) (xs : List A) (ended : Span) (inside : List Leaf) → whole ≡ inside ++ leaf ending ended ∷ [] → Each Is xs inside → SameFirst here (whole ++ back) → InLeaf ending limits whole
-        go limits whole back [] ended inside e none same = (ended, e ∙ ap (λ ls. ls ++ leaf ending ended ∷ []) none)
-        go limits whole back (x ∷ xs) ended inside e (first, rest, f, is, are) same =
-            absurd (both_begin (λ t. t ≡ ending) Begins (λ t e b. apart (subst Begins e b)) (whole ++ back) (starts_same (λ t. t ≡ ending) here (whole ++ back) same next)
-            (starts_as Begins (whole ++ back) first (rest ++ leaf ending ended ∷ back)
-            (append_to whole inside (leaf ending ended ∷ []) back e ∙ append_to inside first rest (leaf ending ended ∷ back) f) (begins x first is)))
 
 -- what may be missing, and begins with a terminal where it is there
 module _ (Whole Part : Limits → List Leaf → Type 0) (first : Terminal) (some : (limits : Limits) (leaves : List Leaf) → Part limits leaves → Whole limits leaves)

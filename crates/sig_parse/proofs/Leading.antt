@@ -172,6 +172,11 @@ module _ (Is Whole : Limits → List Leaf → Type 0) (Continues WholeContinues 
         k.alone leaves front back agrees e (from no_limits front back is stops begin) (stopping back stops);
   }
 
+-- one language as another
+pub settles_as : (Is Whole : Limits → List Leaf → Type 0) (Continues : Terminal → Type 0) → ((limits : Limits) (leaves : List Leaf) → Is limits leaves → Whole limits leaves)
+    → ((limits : Limits) (leaves : List Leaf) → Whole limits leaves → Is limits leaves) → {here after : List Leaf} → Settles Is Continues here after → Settles Whole Continues here after
+settles_as Is Whole Continues to from {here} k = settles_where Is Whole Continues Continues to (λ back stops. stops) here (λ limits whole back is stops same. from limits whole is) k
+
 -- the first leaf is in the set and is not
 pub starts_or_stops : (Begins : Terminal → Type 0) (leaves other : List Leaf) → SameFirst leaves other → StopsBefore Begins leaves → StartsWith Begins other → ⊥
 starts_or_stops Begins [] [] same stops starts = starts

@@ -27,12 +27,15 @@ pub mod RefusedOperands
 pub mod RefusedSteps
 pub mod RefusedPrimaries
 pub mod RefusedLists
-pub mod RefusedRows
 pub mod RefusedSides
 pub mod RefusedEquations
 pub mod RefusedBodies
 pub mod Leading
 pub mod Rows
+pub mod ClosedRows
+pub mod ReadRows
+pub mod ExpressionRows
+pub mod Repeating
 pub mod AheadLemmas
 pub mod RefusedChoice
 pub mod RefusedDeclarations

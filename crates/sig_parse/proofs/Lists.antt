@@ -88,9 +88,6 @@ pub first_pushed : {B : Type 0} {none all : List B} {x : B} → none ≡ [] → 
 first_pushed {x = x} empty e = e ∙ ap (λ l. l ++ x ∷ []) empty
 
 -- the lengths of lists that grow
-pub two_items : {B : Type 0} (a b : List B) (x y : B) → a ≡ [] ++ x ∷ [] → b ≡ a ++ y ∷ [] → 2 ≤ length b
-two_items a b x y e f = omega (arith, ap length f, length-append a (y ∷ []), ap length e)
-
 pub more_items : {B : Type 0} (n : ℕ) (a b : List B) (y : B) → b ≡ a ++ y ∷ [] → n ≤ length a → n ≤ length b
 more_items n a b y f le = omega (arith, ap length f, length-append a (y ∷ []))
 
@@ -104,15 +101,6 @@ pub reads_each_more : {A B : Type 0} (f : B → A) (Is : A → List Leaf → Typ
 reads_each_more {A} f Is old new x {s} {t} {u} e r q =
     subst (λ (xs : List A). Reads (Each Is xs) 0 s u) (sym (ap (map f) e ∙ map-append f old (x ∷ [])))
     (joined (Each Is (map f old ++ f x ∷ [])) 0 refl (λ front back is one. each_more Is (map f old) (f x) front back is one) r q)
-
--- the same, where nothing is counted
-pub subst_more : {A : Type 0} (Is : A → List Leaf → Type 0) (separator : Terminal) (old new : List A) (x : A) (at : Span) {s t u v : State} → new ≡ old ++ x ∷ []
-    → Reads (Separated Is separator old) 0 s t → Reads (IsLeaf separator at) 0 t u → Reads (Is x) 0 u v → Reads (Separated Is separator new) 0 s v
-subst_more Is separator old new x at {s} {v = v} e r q p =
-    subst (λ xs. Reads (Separated Is separator xs) 0 s v) (sym e) (reads_more Is separator old x 0 0 0 at refl r q p)
-
-pub subst_one : {A : Type 0} (Is : A → List Leaf → Type 0) (separator : Terminal) (all : List A) (x : A) {s t : State} → all ≡ [] ++ x ∷ [] → Reads (Is x) 0 s t → Reads (Separated Is separator all) 0 s t
-subst_one Is separator all x {s} {t} e r = subst (λ xs. Reads (Separated Is separator xs) 0 s t) (sym e) (reads_one Is separator x 0 r)
 
 -- none of them
 pub reads_none : {A B : Type 0} (f : B → A) (Is : A → List Leaf → Type 0) (all : List B) (s : State) → all ≡ [] → Reads (Each Is (map f all)) 0 s s

@@ -161,6 +161,9 @@ whole depth name params inputs outputs run_on body locals inner closed r =
     (subst (λ (ps : List Process). Parts depth name (map declared_of params.items) (map declared_of inputs.items) (map declared_of outputs.items) (map placement_of run_on.items) (equations_of body) (map declared_of locals.items) (map model_of ps) closed front)
     (sym (items_hidden-the_row-Process-0 inner)) h)) r
 
+pub modelled : (depth : ℕ) (p q : Process) {s t : State} → q ≡ p → Covers (IsModel both_limits (model_of p) depth) s t → Covers (IsModel both_limits (model_of q) depth) s t
+modelled depth p q {s} {t} same c = subst (λ (r : Process). Covers (IsModel both_limits (model_of r) depth) s t) (sym same) c
+
 pub nothing_begun : (depth : ℕ) (processes : List Process) (groups : List Group) (s : State) → processes ≡ [] → groups ≡ [] → Begun depth (map model_of processes) (map declared_of groups) s s
 nothing_begun depth processes groups s e f =
     subst (λ (ps : List Process). Begun depth (map model_of ps) (map declared_of groups) s s) (sym e)

@@ -1,13 +1,14 @@
 -- What is refused of calls, of their constants and of their arguments, where the parser stands.
-use Rattle.std.proofs.Common.{◌≡◌, ◌++◌, ◌+◌, ◌≤◌, ◌<◌, ℕ, List, [], ◌∷◌, codes, sum_by, true, false, inl, inr, ◌⊎◌, refl, sym, ap, ◌∙◌, subst, arith}
+use Rattle.std.proofs.Common.{◌≡◌, ◌++◌, ◌+◌, ◌≤◌, ◌<◌, ℕ, List, [], ◌∷◌, codes, map, sum_by, true, false, inl, inr, ◌⊎◌, refl, sym, ap, ◌∙◌, subst, arith}
 use Rattle.std.proofs.lemmas.List.{append-nil}
 use Rattle.sig_base.specs.declared.span.Span.{Span}
 use Rattle.sig_tree.specs.declared.expr.Name.{Name}
 use Rattle.sig_tree.specs.declared.expr.Constant.{Constant}
-use Rattle.sig_tree.specs.Syntax.{Expression, RightSide, Computed, Called}
+use Rattle.sig_tree.specs.declared.expr.Expr.{Expr}
+use Rattle.sig_tree.specs.Syntax.{expression_of, RightSide, Computed, Called}
 use Rattle.sig_tree.specs.Terminals.{Leaf, leaf, mark, name_leaf}
 use Rattle.sig_tree.specs.Levels.{default_level}
-use Rattle.sig_tree.specs.Limits.{Limits, both_limits, no_limits, MayHave, operators, right_operators}
+use Rattle.sig_tree.specs.Limits.{Limits, both_limits, MayHave, operators, right_operators}
 use Rattle.sig_tree.specs.Repeated.{Between, Listed, Separated}
 use Rattle.sig_tree.specs.Expressions.{IsConstant, IsExpression}
 use Rattle.sig_tree.specs.Equations.{IsName, AreConstants, IsRight}
@@ -16,73 +17,67 @@ use Rattle.sig_tree.specs.Readings.{StopsBefore, OneReading}
 use Rattle.sig_tree.specs.Continuing.{ContinuesNothing, ContinuesOptional, ContinuesEach, ContinuesList, ContinuesExpression, ContinuesDefinition}
 use Rattle.sig_tree.specs.Unplaced.{no_place}
 use Rattle.sig_tree.proofs.Operators.{different}
-use Rattle.sig_tree.proofs.Unlimited.{expression_unlimited, expression_within}
-use Rattle.sig_tree.proofs.ReadExpressions.{constant_once, expression_once}
+use Rattle.sig_tree.proofs.ReadExpressions.{constant_once}
 use Rattle.sig_tree.proofs.Combining.{cons_same, between_once, listed_once}
 use Rattle.sig_tree.proofs.FirstLeaves.{constant_begins}
 use Rattle.sig_tree.proofs.ReadEquations.{mark_apart, stops_nothing, names_once, call_or_expression, Opens}
+use Rattle.sig_parse.specs.declared.refusal.Refusal.{Refusal}
 use Rattle.sig_parse.specs.State.{State}
 use Rattle.sig_parse.specs.Reads.{Reads, IsLeaf}
-use Rattle.sig_parse.specs.Refusals.{Cause, Wrong, TooDeep, Refuses}
+use Rattle.sig_parse.specs.Refusals.{Cause, Wrong, TooDeep, Refuses, RefusedBy}
 use Rattle.sig_parse.specs.Settling.{Settles, Closes}
 use Rattle.sig_parse.specs.Ahead.{BeginsCall}
 use Rattle.sig_parse.specs.Languages.{InLeaf, InOne, counted, InConstant, InConstantList, InConstants, InLevel, InArgumentList, InArguments, InRight, InLeft}
-use Rattle.sig_parse.specs.Parts.{InNames}
+use Rattle.sig_parse.specs.Parts.{InSome, UpTo, InNames}
+use Rattle.sig_parse.specs.Repeats.{ReadsSeparated, RefusesSeparated}
 use Rattle.sig_parse.proofs.Refusing.{SameFirst, refuses_first}
 use Rattle.sig_parse.proofs.Covering.{covered}
 use Rattle.sig_parse.proofs.Lifting.{Lifts, leaf_split}
 use Rattle.sig_parse.proofs.RefusedLevels.{fewer}
 use Rattle.sig_parse.proofs.RefusedLists.{List_of, bracketed_from_closed, closed_from_inside, closed_from_end}
-use Rattle.sig_parse.proofs.RefusedEquations.{Expression_of}
-use Rattle.sig_parse.proofs.RefusedSides.{Name_of, Constant_of, none_of, no_operators, counted_sum, left_refused, left_too_deep, left_from_names, constants_from_list, right_from_expression}
+use Rattle.sig_parse.proofs.RefusedSides.{Name_of, Constant_of, no_operators, counted_sum, left_refused, left_too_deep, left_from_names, constants_from_list, right_from_expression}
 use Rattle.sig_parse.proofs.RefusedNames.{ContinuesNames, counted_names}
-use Rattle.sig_parse.proofs.RefusedRows.{Counts, CountsRest, counts_first, counts_next, counts_refused, counts_next_refused, counts_over, counts_none}
+use Rattle.sig_parse.proofs.Joins.{viewed}
+use Rattle.sig_parse.proofs.Lists.{listed}
+use Rattle.sig_parse.proofs.Rows.{none_of}
+use Rattle.sig_parse.proofs.ReadRows.{plain_reads, plain_not_closed, plain_closes}
+use Rattle.sig_parse.proofs.ClosedRows.{Closed}
+use Rattle.sig_parse.proofs.ExpressionRows.{ExpressionRead, ExpressionRefused, expressions_so_far, enclosed_refused, enclosed_closes}
 use Rattle.sig_parse.proofs.Enclosures.{optional_settled, leaf_next}
 use Rattle.sig_parse.proofs.Enclosing.{between}
 use Rattle.sig_parse.proofs.Leading.{Leads, Then, Apart, settled_once, leads_on, leads_refuses, leads_settled, then_first, refuses_as, starts_same}
 
 -- Constants.
 
-abbrev pub ConstantsSoFar : (before after : List Leaf) → Type 0
-ConstantsSoFar before after = Leads (Counts Constant_of none_of (mark (codes ",")) (mark (codes "}")) 0) ContinuesNothing (CountsRest Constant_of none_of (mark (codes ",")) (mark (codes "}")) 0) ContinuesNothing before after
+abbrev pub ConstantRead : Constant → State → State → Type 0
+ConstantRead c s t = Reads (IsConstant c) 0 s t
 
-constants_up_to : {cause : Cause} {here after : List Leaf} → Refuses (Counts Constant_of none_of (mark (codes ",")) (mark (codes "}")) 0) ContinuesNothing cause here after → Refuses InConstantList ContinuesNothing cause here after
-constants_up_to r = refuses_as (Counts Constant_of none_of (mark (codes ",")) (mark (codes "}")) 0) InConstantList ContinuesNothing (λ limits leaves is. (is.0, is.1.0, is.1.1, is.1.2, is.1.3))
-    (λ limits leaves is. (is.0, (is.1, is.2, is.3, is.4), λ kept. let none = no_operators is.0 in omega arith)) r
+abbrev pub ConstantRefused : Refusal → State → State → Type 0
+ConstantRefused why s t = RefusedBy InConstant ContinuesNothing s t why
+
+constant_settled : (c : Constant) (s t : State) → ConstantRead c s t → Settles (InSome IsConstant) ContinuesNothing s.leaves t.leaves
+constant_settled c s t r = settled_once Constant_of ContinuesNothing constant_once (λ limits x leaves is. is) c (covered r) (stops_nothing t.leaves)
 
 brace_apart : mark (codes ",") ≡ mark (codes "}") → ⊥
 brace_apart e = different (mark (codes ",")) (mark (codes "}")) refl refl e
 
-as_one : {cause : Cause} {here after : List Leaf} → Refuses InConstant ContinuesNothing cause here after → Refuses (InOne Constant_of none_of 0) ContinuesNothing cause here after
-as_one r = refuses_as InConstant (InOne Constant_of none_of 0) ContinuesNothing (λ limits leaves is. (is.0, is.1, λ kept. omega arith)) (λ limits leaves is. (is.0, is.1)) r
+pub constants_read : (constants : List Constant) (s t : State) → ReadsSeparated ConstantRead (mark (codes ",")) constants s t → Reads (Listed IsConstant (mark (codes ",")) constants) 0 s t
+constants_read constants s t h = viewed (Listed IsConstant (mark (codes ",")) constants) (λ front is. listed IsConstant (mark (codes ",")) constants front is)
+    (plain_reads IsConstant ContinuesNothing (mark (codes ",")) (λ none. none) ConstantRead (λ c s t r. r) constant_settled s constants t h)
 
-pub first_constant_refused : (here : List Leaf) → StopsBefore (λ t. t ≡ mark (codes "}")) here → Lifts InConstant ContinuesNothing here InConstantList ContinuesNothing here
-first_constant_refused here open_here cause after r =
-    constants_up_to (counts_refused Constant_of none_of (mark (codes ",")) (mark (codes "}")) ContinuesNothing constant_once (λ limits x leaves is. is) (λ limits x leaves is. is) (λ none. none) (λ none. none) 0 cause here after open_here (as_one r))
+as_constant_list : {cause : Cause} {here after : List Leaf} → Refuses (InSome (UpTo (mark (codes "}")) (Listed IsConstant (mark (codes ","))))) ContinuesNothing cause here after → Refuses InConstantList ContinuesNothing cause here after
+as_constant_list r = refuses_as (InSome (UpTo (mark (codes "}")) (Listed IsConstant (mark (codes ","))))) InConstantList ContinuesNothing (λ limits leaves is. (is.0, is.1.0, is.1.1, is.1.2, is.1.3)) (λ limits leaves is. (is.0, (is.1, is.2, is.3, is.4))) r
 
-pub constants_begun : (c : Constant) {s t : State} → Reads (IsConstant c) 0 s t → StopsBefore (λ u. u ≡ mark (codes "}")) s.leaves → ConstantsSoFar s.leaves t.leaves
-constants_begun c {s} {t} r open_here =
-    counts_first Constant_of none_of (mark (codes ",")) (mark (codes "}")) ContinuesNothing constant_once (λ limits x leaves is. is) (λ limits x leaves is. is) (λ none. none) (λ none. none) 0 c r (stops_nothing t.leaves) open_here
+pub constants_refused : (why : Refusal) (s t : State) → StopsBefore (λ u. u ≡ mark (codes "}")) s.leaves → RefusesSeparated ConstantRead ConstantRefused (mark (codes ",")) s t why → RefusedBy InConstantList ContinuesNothing s t why
+constants_refused why s t open_here h text = as_constant_list (plain_not_closed IsConstant ContinuesNothing (mark (codes ",")) (λ none. none) ConstantRead (λ c s t r. r) constant_settled ConstantRefused (λ why s t r text. r text) (mark (codes "}")) brace_apart (λ none. none) why s t open_here h text)
 
-pub constants_more : (at : Span) (c : Constant) {before : List Leaf} {s t u : State} → ConstantsSoFar before s.leaves → Reads (IsLeaf (mark (codes ",")) at) 0 s t → Reads (IsConstant c) 0 t u → ConstantsSoFar before u.leaves
-constants_more at c {s = s} {t = t} {u = u} l q r = leads_on l
-    (counts_next Constant_of none_of (mark (codes ",")) (mark (codes "}")) ContinuesNothing constant_once (λ limits x leaves is. is) (λ limits x leaves is. is) (λ none. none) (λ none. none) 0 at c q r (stops_nothing u.leaves) brace_apart)
-
-pub next_constant_refused : (at : Span) {before : List Leaf} {s t : State} → ConstantsSoFar before s.leaves → Reads (IsLeaf (mark (codes ",")) at) 0 s t → Lifts InConstant ContinuesNothing t.leaves InConstantList ContinuesNothing before
-next_constant_refused at l q cause after r = constants_up_to (leads_refuses l
-    (counts_next_refused Constant_of none_of (mark (codes ",")) (mark (codes "}")) ContinuesNothing constant_once (λ limits x leaves is. is) (λ limits x leaves is. is) (λ none. none) (λ none. none) 0 at q brace_apart cause after (as_one r)))
-
-pub constants_over : {before here : List Leaf} → ConstantsSoFar before here → StopsBefore (λ t. t ≡ mark (codes ",")) here → Closes InConstantList (mark (codes "}")) before here
-constants_over {here = here} l no_more cause stopped r = constants_up_to (leads_refuses l
-    (counts_over Constant_of none_of (mark (codes ",")) (mark (codes "}")) ContinuesNothing constant_once (λ limits x leaves is. is) (λ limits x leaves is. is) (λ none. none) (λ none. none) 0 here (omega arith) no_more cause stopped r))
-
-pub constants_none : (here : List Leaf) → StartsWith (λ t. t ≡ mark (codes "}")) here → Closes InConstantList (mark (codes "}")) here here
-constants_none here next cause stopped r = constants_up_to (counts_none Constant_of none_of (mark (codes ",")) (mark (codes "}")) 0 here next cause stopped r)
+pub constants_end : (constants : List Constant) (s t : State) → StopsBefore (λ u. u ≡ mark (codes "}")) s.leaves → ReadsSeparated ConstantRead (mark (codes ",")) constants s t → Closes InConstantList (mark (codes "}")) s.leaves t.leaves
+constants_end constants s t open_here h cause stopped r = as_constant_list (plain_closes IsConstant ContinuesNothing (mark (codes ",")) (λ none. none) ConstantRead (λ c s t r. r) constant_settled (mark (codes "}")) brace_apart (λ none. none) s constants t open_here h cause stopped r)
 
 -- in braces
 pub constants_lifts : (opened : Span) {s t : State} → Reads (IsLeaf (mark (codes "{")) opened) 0 s t → Lifts InConstantList ContinuesNothing t.leaves InConstants (ContinuesOptional (mark (codes "{"))) s.leaves
 constants_lifts opened {s} {t} q cause after r = subst (λ (ls : List Leaf). Refuses InConstants (ContinuesOptional (mark (codes "{"))) cause ls after) (sym (leaf_split q))
-    (constants_from_list opened cause t.leaves after (refuses_as InConstantList (Counts Constant_of none_of (mark (codes ",")) (mark (codes "}")) 0) ContinuesNothing
+    (constants_from_list opened cause t.leaves after (refuses_as InConstantList (Closed Constant_of none_of MayHave ContinuesNothing (mark (codes ",")) (mark (codes "}")) 0) ContinuesNothing
     (λ limits leaves is. (is.0, (is.1, is.2, is.3, is.4), λ kept. let none = no_operators is.0 in omega arith)) (λ limits leaves is. (is.0, is.1.0, is.1.1, is.1.2, is.1.3)) r))
 
 abbrev Braced : Limits → List Leaf → Type 0
@@ -134,62 +129,24 @@ parenthesis_apart : mark (codes ",") ≡ mark (codes ")") → ⊥
 parenthesis_apart e = different (mark (codes ",")) (mark (codes ")")) refl refl e
 
 module _ (depth : ℕ) where
-  abbrev Arguments : ℕ → Limits → List Leaf → Type 0
-  Arguments used = Counts (Expression_of depth) operators (mark (codes ",")) (mark (codes ")")) used
-
-  abbrev pub ArgumentsSoFar : (used count : ℕ) (before after : List Leaf) → Type 0
-  ArgumentsSoFar used count before after = Leads (Counts (Expression_of depth) operators (mark (codes ",")) (mark (codes ")")) used) ContinuesNothing
-      (CountsRest (Expression_of depth) operators (mark (codes ",")) (mark (codes ")")) count) ContinuesNothing before after
-
-  once : OneReading (Expression_of depth no_limits) (ContinuesExpression default_level)
-  once = expression_once no_limits default_level depth
-
-  free : (limits : Limits) (x : Expression) (leaves : List Leaf) → Expression_of depth limits x leaves → Expression_of depth no_limits x leaves
-  free limits x leaves is = expression_unlimited limits default_level depth depth x leaves is
-
-  within : (limits : Limits) (x : Expression) (leaves : List Leaf) → Expression_of depth both_limits x leaves → Expression_of depth limits x leaves
-  within limits x leaves is = expression_within limits default_level depth x leaves is
-
   comma : ContinuesExpression default_level (mark (codes ",")) → ⊥
   comma continues = mark_apart (codes ",") refl default_level continues
 
   close : ContinuesExpression default_level (mark (codes ")")) → ⊥
   close continues = mark_apart (codes ")") refl default_level continues
 
-  arguments_up_to : (used : ℕ) {cause : Cause} {here after : List Leaf} → Refuses (Arguments used) ContinuesNothing cause here after → Refuses (InArgumentList depth used) ContinuesNothing cause here after
-  arguments_up_to used r = refuses_as (Arguments used) (InArgumentList depth used) ContinuesNothing (λ limits leaves is. is) (λ limits leaves is. is) r
+  pub arguments_read : (arguments : List Expr) (s t : State) → ReadsSeparated (ExpressionRead depth) (mark (codes ",")) arguments s t
+      → Reads (Listed (IsExpression both_limits depth) (mark (codes ",")) (map expression_of arguments)) (sum_by operators (map expression_of arguments)) s t
+  arguments_read arguments s t (h, stops) = viewed (Listed (IsExpression both_limits depth) (mark (codes ",")) (map expression_of arguments))
+      (λ front is. listed (IsExpression both_limits depth) (mark (codes ",")) (map expression_of arguments) front is) (expressions_so_far depth (mark (codes ",")) comma s arguments t h).0
 
-  pub first_argument_refused : (used : ℕ) (here : List Leaf) → StopsBefore (λ t. t ≡ mark (codes ")")) here → Lifts (InLevel default_level depth used) (ContinuesExpression default_level) here (InArgumentList depth used) ContinuesNothing here
-  first_argument_refused used here open_here cause after r = arguments_up_to used (counts_refused (Expression_of depth) operators (mark (codes ",")) (mark (codes ")")) (ContinuesExpression default_level) once free within comma close used cause here after open_here r)
+  pub arguments_refused : (why : Refusal) (s t : State) → s.operators ≤ 512 → StopsBefore (λ u. u ≡ mark (codes ")")) s.leaves → RefusesSeparated (ExpressionRead depth) (ExpressionRefused depth) (mark (codes ",")) s t why
+      → RefusedBy (InArgumentList depth s.operators) ContinuesNothing s t why
+  arguments_refused why s t few open_here h = enclosed_refused depth (mark (codes ",")) comma (mark (codes ")")) parenthesis_apart close why s t few open_here h
 
-  pub arguments_begun : (x : Expression) {s t : State} → Reads (IsExpression both_limits depth x) (operators x) s t → StopsBefore (ContinuesExpression default_level) t.leaves → StopsBefore (λ u. u ≡ mark (codes ")")) s.leaves
-      → ArgumentsSoFar s.operators t.operators s.leaves t.leaves
-  arguments_begun x {s} {t} r stops open_here = subst (λ (n : ℕ). ArgumentsSoFar s.operators n s.leaves t.leaves) (sym r.counted)
-      (counts_first (Expression_of depth) operators (mark (codes ",")) (mark (codes ")")) (ContinuesExpression default_level) once free within comma close s.operators x r stops open_here)
-
-  pub arguments_more : (used : ℕ) (at : Span) (x : Expression) {before : List Leaf} {s t u : State} → ArgumentsSoFar used s.operators before s.leaves → Reads (IsLeaf (mark (codes ",")) at) 0 s t → Reads (IsExpression both_limits depth x) (operators x) t u
-      → StopsBefore (ContinuesExpression default_level) u.leaves → ArgumentsSoFar used u.operators before u.leaves
-  arguments_more used at x {before} {s} {t} {u} l q r stops = subst (λ (n : ℕ). ArgumentsSoFar used n before u.leaves) (sym operators_are) (leads_on l
-      (counts_next (Expression_of depth) operators (mark (codes ",")) (mark (codes ")")) (ContinuesExpression default_level) once free within comma close s.operators at x q r stops parenthesis_apart))
-    where
-      operators_are : u.operators ≡ s.operators + operators x
-      operators_are = omega (arith, q.counted, r.counted)
-
-  pub next_argument_refused : (used : ℕ) (at : Span) {before : List Leaf} {s t : State} → ArgumentsSoFar used s.operators before s.leaves → Reads (IsLeaf (mark (codes ",")) at) 0 s t
-      → Lifts (InLevel default_level depth t.operators) (ContinuesExpression default_level) t.leaves (InArgumentList depth used) ContinuesNothing before
-  next_argument_refused used at {s = s} {t = t} l q cause after r = arguments_up_to used (leads_refuses l
-      (counts_next_refused (Expression_of depth) operators (mark (codes ",")) (mark (codes ")")) (ContinuesExpression default_level) once free within comma close s.operators at q parenthesis_apart cause after
-      (subst (λ (n : ℕ). Refuses (InLevel default_level depth n) (ContinuesExpression default_level) cause t.leaves after) same r)))
-    where
-      same : t.operators ≡ s.operators
-      same = omega (arith, q.counted)
-
-  pub arguments_over : (used count : ℕ) {before here : List Leaf} → count ≤ 512 → ArgumentsSoFar used count before here → StopsBefore (λ t. t ≡ mark (codes ",")) here → Closes (InArgumentList depth used) (mark (codes ")")) before here
-  arguments_over used count {here = here} few l no_more cause stopped r = arguments_up_to used (leads_refuses l
-      (counts_over (Expression_of depth) operators (mark (codes ",")) (mark (codes ")")) (ContinuesExpression default_level) once free within comma close count here few no_more cause stopped r))
-
-  pub arguments_none : (used : ℕ) (here : List Leaf) → StartsWith (λ t. t ≡ mark (codes ")")) here → Closes (InArgumentList depth used) (mark (codes ")")) here here
-  arguments_none used here next cause stopped r = arguments_up_to used (counts_none (Expression_of depth) operators (mark (codes ",")) (mark (codes ")")) used here next cause stopped r)
+  pub arguments_end : (arguments : List Expr) (s t : State) → s.operators ≤ 512 → StopsBefore (λ u. u ≡ mark (codes ")")) s.leaves → ReadsSeparated (ExpressionRead depth) (mark (codes ",")) arguments s t
+      → Closes (InArgumentList depth s.operators) (mark (codes ")")) s.leaves t.leaves
+  arguments_end arguments s t few open_here h = enclosed_closes depth (mark (codes ",")) comma (mark (codes ")")) parenthesis_apart close s arguments t few open_here h
 
   -- in parentheses
   pub arguments_opening : (used : ℕ) (here : List Leaf) → used ≤ 512 → Lifts (InLeaf (mark (codes "("))) ContinuesNothing here (InArguments depth used) ContinuesNothing here

@@ -7,6 +7,7 @@ use Rattle.sig_tree.specs.declared.expr.Name.{Name}
 use Rattle.sig_tree.specs.declared.process.Item.{Item}
 use Rattle.sig_tree.specs.Terminals.{Terminal, Leaf, leaf, name_leaf, kind_word, word, mark}
 use Rattle.sig_tree.specs.Limits.{Limits, no_limits}
+use Rattle.sig_tree.specs.Repeated.{Separated}
 use Rattle.sig_tree.specs.Equations.{IsName}
 use Rattle.sig_tree.specs.Beginning.{StartsWith}
 use Rattle.sig_tree.specs.Readings.{StopsBefore, OneReading}
@@ -21,7 +22,8 @@ use Rattle.sig_parse.specs.Declarations.{IsItemOf}
 use Rattle.sig_parse.specs.declared.refusal.Refusal.{Refusal}
 use Rattle.sig_parse.specs.declared.refusal.Refusal.TheVariants.{Syntax}
 use Rattle.sig_parse.specs.State.{State}
-use Rattle.sig_parse.specs.Reads.{Covers, IsLeaf}
+use Rattle.sig_parse.specs.Reads.{Reads, Covers, IsLeaf}
+use Rattle.sig_parse.specs.Repeats.{ReadsSeparated, RefusesSeparated}
 use Rattle.sig_parse.specs.Refusals.{Cause, Wrong, cause_of, Refuses, RefusedBy}
 use Rattle.sig_parse.specs.Settling.{Settles}
 use Rattle.sig_parse.specs.Languages.{InLeaf, InOptionalInit}
@@ -29,7 +31,7 @@ use Rattle.sig_parse.specs.Parts.{InSome, IsKindOf, InKind, InItem, InItems, InG
 use Rattle.sig_parse.proofs.Refusing.{SameFirst, refuses_at_once}
 use Rattle.sig_parse.proofs.RefusedConstants.{some_name, some_leaf}
 use Rattle.sig_parse.proofs.Leading.{Leads, Then, leads_refuses, settles_on, refuses_where, settles_where, apart_nothing, then_first, leads_alone, settled_once, starts_or_stops}
-use Rattle.sig_parse.proofs.Rows.{RowRest, row_refused, row_item, row_separated, row_ends}
+use Rattle.sig_parse.proofs.ReadRows.{plain_reads, plain_settles, plain_refused}
 
 -- what stands the same, whatever the limits
 abbrev pub Always : {A : Type 0} → (A → List Leaf → Type 0) → Limits → A → List Leaf → Type 0
@@ -140,27 +142,20 @@ comma_apart Inputs none = none
 comma_apart Signals e = let both : mark (codes ",") ≡ word (codes "init") = e in cc
 
 module _ (declares : Declares) where
-  abbrev Of : Limits → Item → List Leaf → Type 0
-  Of limits item leaves = IsItemOf declares item leaves
+  abbrev pub ItemRead : Item → State → State → Type 0
+  ItemRead item s t = Reads (IsItemOf declares item) 0 s t × Settles (InItem declares) (ContinuesItem declares) s.leaves t.leaves
 
-  abbrev pub RestOfItems : Limits → List Leaf → Type 0
-  RestOfItems limits leaves = RowRest (λ limits. IsItemOf declares) (ContinuesItem declares) (mark (codes ",")) limits leaves
+  abbrev pub ItemRefused : Refusal → State → State → Type 0
+  ItemRefused why s t = RefusedBy (InItem declares) (ContinuesItem declares) s t why
 
-  -- where a list of items was begun, up to an item
-  abbrev pub LeadsItems : (before after : List Leaf) → Type 0
-  LeadsItems before after = Leads (InItems declares) (ContinuesItems declares) RestOfItems (ContinuesItems declares) before after
+  pub items_read : (items : List Item) (s t : State) → ReadsSeparated ItemRead (mark (codes ",")) items s t → Reads (Separated (IsItemOf declares) (mark (codes ",")) items) 0 s t
+  items_read items s t h = plain_reads (IsItemOf declares) (ContinuesItem declares) (mark (codes ",")) (comma_apart declares) ItemRead (λ x s t p. p.0) (λ x s t p. p.1) s items t h
 
-  pub items_refused : {cause : Cause} {here after : List Leaf} → Refuses (InItem declares) (ContinuesItem declares) cause here after → Refuses (InItems declares) (ContinuesItems declares) cause here after
-  items_refused r = row_refused Of (ContinuesItem declares) (mark (codes ",")) (comma_apart declares) r
+  pub items_settled : (items : List Item) (s t : State) → ReadsSeparated ItemRead (mark (codes ",")) items s t → Settles (InItems declares) (ContinuesItems declares) s.leaves t.leaves
+  items_settled items s t h = plain_settles (IsItemOf declares) (ContinuesItem declares) (mark (codes ",")) (comma_apart declares) ItemRead (λ x s t p. p.0) (λ x s t p. p.1) s items t h
 
-  pub items_begun : (item : Item) {s t : State} → Covers (IsItemOf declares item) s t → Settles (InItem declares) (ContinuesItem declares) s.leaves t.leaves → LeadsItems s.leaves t.leaves
-  items_begun item c k = row_item Of (ContinuesItem declares) (mark (codes ",")) (comma_apart declares) (λ limits x leaves is. is) (λ limits x leaves is. is) item c k
-
-  pub items_next : (at : Span) {s t : State} → Covers (IsLeaf (mark (codes ",")) at) s t → Leads RestOfItems (ContinuesItems declares) (InItems declares) (ContinuesItems declares) s.leaves t.leaves
-  items_next at c = row_separated Of (ContinuesItem declares) (mark (codes ",")) at c
-
-  pub items_settled : {before here : List Leaf} → LeadsItems before here → StopsBefore (λ t. t ≡ mark (codes ",")) here → Settles (InItems declares) (ContinuesItems declares) before here
-  items_settled {before} {here} l stops = settles_on l (row_ends Of (ContinuesItem declares) (mark (codes ",")) here stops)
+  pub items_refused : (why : Refusal) (s t : State) → RefusesSeparated ItemRead ItemRefused (mark (codes ",")) s t why → RefusedBy (InItems declares) (ContinuesItems declares) s t why
+  items_refused why s t h = plain_refused (IsItemOf declares) (ContinuesItem declares) (mark (codes ",")) (comma_apart declares) ItemRead (λ x s t p. p.0) (λ x s t p. p.1) ItemRefused (λ why s t r text. r text) why s t h
 
 -- kind item { "," item }
 abbrev KindThen : Declares → Limits → List Leaf → Type 0

@@ -19,20 +19,20 @@ use Rattle.sig_tree.specs.Spines.{IsAtom, IsOperand, WithOperand, WithCell, With
 use Rattle.sig_tree.proofs.Stopping.{stops_smaller}
 use Rattle.sig_tree.proofs.Operators.{tighter_continues, not_tighter}
 use Rattle.sig_parse.specs.declared.refusal.Refusal.{Refusal}
-use Rattle.sig_parse.specs.declared.refusal.Refusal.TheVariants.{Nesting, Operators}
+use Rattle.sig_parse.specs.declared.refusal.Refusal.TheVariants.{Syntax, Nesting, Operators}
 use Rattle.sig_parse.specs.declared.operator.Level.{Level}
 use Rattle.sig_parse.specs.declared.operator.Level.TheVariants.{Relation, Primary}
 use Rattle.sig_parse.specs.declared.operator.Infix.{Infix}
 use Rattle.sig_parse.specs.declared.operator.Infix.TheVariants.{Binary, Cell, Delay as DelayOp}
 use Rattle.sig_parse.specs.State.{State}
 use Rattle.sig_parse.specs.Reads.{Reads, Shorter, IsLeaf}
-use Rattle.sig_parse.specs.Refusals.{Wrong, TooDeep, TooMany, cause_of, Refuses}
+use Rattle.sig_parse.specs.Refusals.{Cause, Wrong, TooDeep, TooMany, cause_of, Refuses}
 use Rattle.sig_parse.specs.Refusals.{IsOfText}
 use Rattle.sig_parse.specs.Settling.{Settles}
 use Rattle.sig_parse.specs.Languages.{InLeaf, InInit, InOptionalInit, InOptionalOne, InLevel, InOperand, InStep, InSteps}
-use Rattle.sig_parse.specs.Operators.{level_number, first_level, infix_terminal, infix_level, IsOperatorOf, ContinuesStep, BeginsAtom, IsTighter, ReadsStep}
+use Rattle.sig_parse.specs.Operators.{level_number, first_level, infix_terminal, infix_level, IsOperatorOf, ContinuesStep, BeginsAtom, IsTighter, ReadsStep, Completes}
 use Rattle.sig_parse.proofs.Joins.{joined, viewed, after_leaf}
-use Rattle.sig_parse.proofs.Lifting.{Lifts, leaf_split}
+use Rattle.sig_parse.proofs.Lifting.{Lifts, leaf_split, wrong}
 use Rattle.sig_parse.proofs.OperatorLemmas.{in_tree, same_terminal, same_level, of_level, one_level, operator_continues, operand_continues_more}
 use Rattle.sig_parse.proofs.RefusedLevels.{level_from_steps, steps_from_step, steps_from_steps, steps_stop, steps_too_many}
 use Rattle.sig_parse.proofs.RefusedOperands.{prefix_operand, prefix_too_deep, prefix_too_many, tighter_operand}
@@ -115,6 +115,12 @@ cell_wrong o at depth used held init {s} {t} {u} is_op is_count few r q starts =
     (settled_wrong (InStep mixed_level depth used) (ContinuesStep mixed_level) (leaf (word (codes "cell")) at ∷ s.leaves) u.leaves k
     ([], subst (λ (l : List Leaf). InStep mixed_level depth used both_limits l) (same ∙ sym (append-nil k.passed)) step) starts)
 
+pub cell_refuses : (o : Infix) (at : Span) (depth used : ℕ) (held : Expression) {s t u : State} → o ≡ Cell → s.operators ≡ suc used → s.operators ≤ 512 → Reads (IsAtLevel both_limits primary_level depth held) (operators held) s t
+    → (why : Refusal) → Refuses InInit ContinuesNothing (cause_of why) t.leaves u.leaves ⊎ ((init : Constant) × Reads (IsInit init) 0 t u × (why ≡ Syntax) × StartsWith (ContinuesStep mixed_level) u.leaves)
+    → Refuses (InStep (infix_level o) depth used) (ContinuesStep (infix_level o)) (cause_of why) (leaf (infix_terminal o) at ∷ s.leaves) u.leaves
+cell_refuses o at depth used held {u = u} is_op is_count few r why (inl refused) = init_lifts o at depth used held is_op is_count few r (cause_of why) u.leaves refused
+cell_refuses o at depth used held is_op is_count few r why (inr (init, q, is_syntax, starts)) = wrong why is_syntax (cell_wrong o at depth used held init is_op is_count few r q starts)
+
 pub delay_lifts : (o : Infix) (at : Span) (depth used : ℕ) {s t : State} → o ≡ DelayOp → s.operators ≡ suc used → s.operators ≤ 512 → Reads IsOptionalOne 0 s t → Settles InOptionalOne (λ u. u ≡ number 1) s.leaves t.leaves
     → StepLifts InOptionalInit ContinuesInit t.leaves o at depth used s.leaves
 delay_lifts o at depth used {s} {t} is_op is_count few r k = subst (λ (p : Infix). StepLifts InOptionalInit ContinuesInit t.leaves p at depth used s.leaves) (sym is_op)
@@ -138,6 +144,20 @@ delay_wrong o at depth used init {s} {t} {u} is_op is_count few r k q j starts =
 -- behind a cell, and behind a delay
 pub step_stops : (o other : Infix) (n : ℕ) (leaves : List Leaf) → o ≡ other → infix_level other ≡ n → StopsBefore (ContinuesStep n) leaves → StopsBefore (ContinuesStep (infix_level o)) leaves
 step_stops o other n leaves is_op is_level stops = subst (λ (m : ℕ). StopsBefore (ContinuesStep m) leaves) (sym (ap infix_level is_op ∙ is_level)) stops
+
+-- what is said of an equal expression, and of an equal operator
+pub completes_as : (depth : ℕ) (left : Expression) (o : Infix) (at : Span) (x e : Expression) {s t : State} → e ≡ x → Completes depth left o at x s t → Completes depth left o at e s t
+completes_as depth left o at x e {s} {t} same c = subst (λ (y : Expression). Completes depth left o at y s t) (sym same) c
+
+pub completes_at : (depth : ℕ) (left : Expression) (o other : Infix) (at : Span) (e : Expression) {s t : State} → o ≡ other → Completes depth left other at e s t → Completes depth left o at e s t
+completes_at depth left o other at e {s} {t} same c = subst (λ (p : Infix). Completes depth left p at e s t) (sym same) c
+
+pub step_at : (depth : ℕ) (o other : Infix) (at : Span) {s t : State} → o ≡ other → ReadsStep depth other at s t → ReadsStep depth o at s t
+step_at depth o other at {s} {t} same r = subst (λ (p : Infix). ReadsStep depth p at s t) (sym same) r
+
+pub delay_refuses : (o : Infix) (at : Span) (depth used : ℕ) {cause : Cause} {here after : List Leaf} → o ≡ DelayOp → Refuses (InStep delay_level depth used) (ContinuesStep delay_level) cause (leaf (infix_terminal DelayOp) at ∷ here) after
+    → Refuses (InStep (infix_level o) depth used) (ContinuesStep (infix_level o)) cause (leaf (infix_terminal o) at ∷ here) after
+delay_refuses o at depth used {cause} {here} {after} same r = subst (λ (p : Infix). Refuses (InStep (infix_level p) depth used) (ContinuesStep (infix_level p)) cause (leaf (infix_terminal p) at ∷ here) after) (sym same) r
 
 -- Operands.
 

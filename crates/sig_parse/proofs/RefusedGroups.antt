@@ -6,13 +6,12 @@ use Rattle.sig_tree.specs.Syntax.{Declared}
 use Rattle.sig_tree.specs.Terminals.{Terminal, Leaf, leaf, word, mark}
 use Rattle.sig_tree.specs.Limits.{Limits}
 use Rattle.sig_tree.specs.Repeated.{Further}
-use Rattle.sig_tree.specs.Processes.{IsPlainItem, IsItem, AreGroups}
+use Rattle.sig_tree.specs.Processes.{AreGroups}
 use Rattle.sig_tree.specs.Beginning.{StartsWith, BeginsGroup}
 use Rattle.sig_tree.specs.Readings.{StopsBefore}
 use Rattle.sig_tree.specs.Continuing.{ContinuesNothing}
 use Rattle.sig_tree.specs.Unplaced.{no_place}
 use Rattle.sig_tree.proofs.Operators.{different}
-use Rattle.sig_tree.proofs.FirstLeaves.{group_begins, starts_longer}
 use Rattle.sig_tree.proofs.Combining.{cons_same, append_to}
 use Rattle.sig_parse.specs.declared.declaration.Declares.{Declares}
 use Rattle.sig_parse.specs.declared.declaration.Declares.TheVariants.{Parameters, Inputs, Signals}
@@ -24,7 +23,8 @@ use Rattle.sig_parse.specs.Settling.{Settles, Closes}
 use Rattle.sig_parse.specs.Languages.{InLeaf}
 use Rattle.sig_parse.specs.Parts.{InSome, UpTo, InGroup, InGroups, ContinuesItem, ContinuesItems, EndsGroups}
 use Rattle.sig_parse.proofs.Refusing.{SameFirst}
-use Rattle.sig_parse.proofs.Leading.{Leads, Then, Apart, leads_refuses, leads_on, refuses_where, leads_where, then_first, leads_settled, starts_or_stops, starts_same}
+use Rattle.sig_parse.proofs.ClosedRows.{closes_next}
+use Rattle.sig_parse.proofs.Leading.{Leads, Then, Apart, leads_refuses, leads_on, refuses_where, leads_where, then_first, leads_settled, starts_or_stops}
 use Rattle.sig_parse.proofs.RefusedDeclarations.{Always}
 
 abbrev semicolon : Span → Leaf
@@ -150,24 +150,6 @@ module _ (Is : Declared → List Leaf → Type 0) (Continues : Terminal → Type
       go limits whole back (g ∷ gs) closed front tail f (place, first, others, h, is, are) ends same =
           absurd (never place whole ((first ++ others) ++ (tail ++ leaf closing closed ∷ [])) back (f ∙ ap (λ ls. ls ++ (tail ++ leaf closing closed ∷ [])) h) same)
 
-  -- the mark that ends them is next
-  module _ (Begins : Terminal → Type 0) (begins : (g : Declared) (leaves : List Leaf) → Is g leaves → StartsWith Begins leaves) (apart : Begins closing → ⊥) where
-    pub ending_refused : {cause : Cause} {here after : List Leaf} → StartsWith (λ t. t ≡ closing) here → Refuses (InLeaf closing) ContinuesNothing cause here after → Refuses Whole ContinuesNothing cause here after
-    ending_refused {here = here} next r = refuses_where (InLeaf closing) Whole ContinuesNothing ContinuesNothing (λ limits leaves is. ([], (is.0, [], is.1, refl))) (λ back stops. stops) here
-        (λ limits whole back is stops same. go limits whole back is.0 is.1.0 is.1.1 is.1.2 is.1.3 same) r
-      where
-        both : (leaves : List Leaf) → StartsWith (λ t. t ≡ closing) leaves → StartsWith Begins leaves → ⊥
-        both [] e starts = starts
-        both (l ∷ leaves) e starts = apart (subst Begins e starts)
-
-        go : (limits : Limits) (whole back : List Leaf) (groups : List Declared) (closed : Span) (inside : List Leaf) → whole ≡ inside ++ leaf closing closed ∷ [] → AreGroups Is groups inside → SameFirst here (whole ++ back) → InLeaf closing limits whole
-        go limits whole back [] closed inside e none same = (closed, e ∙ ap (λ ls. ls ++ leaf closing closed ∷ []) none)
-        go limits whole back (g ∷ gs) closed inside e (front, tail, f, (first, rest, h, is, are), ends) same =
-            absurd (both (whole ++ back) (starts_same (λ t. t ≡ closing) here (whole ++ back) same next)
-            (subst (λ (ls : List Leaf). StartsWith Begins ls) (sym (ap (λ ls. ls ++ back) (e ∙ ap (λ ls. ls ++ leaf closing closed ∷ []) (f ∙ ap (λ ls. ls ++ tail) h))
-            ∙ append_assoc (((first ++ rest) ++ tail)) (leaf closing closed ∷ []) back ∙ append_assoc (first ++ rest) tail (leaf closing closed ∷ back) ∙ append_assoc first rest (tail ++ leaf closing closed ∷ back)))
-            (starts_longer Begins first (rest ++ (tail ++ leaf closing closed ∷ back)) (begins g first is))))
-
 -- groups of what is declared
 mark_begins_none : (text : List _) → BeginsGroup (mark text) → ⊥
 mark_begins_none text (Integer, e) = cc
@@ -201,11 +183,6 @@ pub semicolon_continues : (declares : Declares) → ContinuesItems declares (mar
 semicolon_continues declares (inl f) = different (mark (codes ";")) (mark (codes ",")) refl refl f
 semicolon_continues declares (inr continues) = mark_no_item declares (codes ";") continues
 
-group_starts : (declares : Declares) (g : Declared) (leaves : List Leaf) → IsGroupOf declares g leaves → StartsWith BeginsGroup leaves
-group_starts Parameters g leaves (kind, is) = group_begins IsPlainItem g leaves is
-group_starts Inputs g leaves is = group_begins IsPlainItem g leaves is
-group_starts Signals g leaves is = group_begins IsItem g leaves is
-
 -- where groups were begun, up to a group
 abbrev pub LeadsGroups : Declares → Terminal → (before after : List Leaf) → Type 0
 LeadsGroups declares closing before after = Leads (InGroups declares closing) ContinuesNothing (BehindGroup (IsGroupOf declares) (ContinuesItems declares) closing) ContinuesNothing before after
@@ -222,7 +199,7 @@ module _ (declares : Declares) (closing : Terminal) (ends : EndsGroups closing) 
 
   -- the mark that ends them is next
   pub groups_end : {here : List Leaf} → StartsWith (λ t. t ≡ closing) here → Closes (InGroups declares closing) closing here here
-  groups_end next = λ cause stopped r. ending_refused (IsGroupOf declares) (ContinuesItems declares) closing BeginsGroup (group_starts declares) (ending_mark closing ends) next r
+  groups_end next = closes_next (InGroups declares closing) closing next
 
   -- no ";" is next
   pub groups_over : {before here : List Leaf} → LeadsGroups declares closing before here → StopsBefore (λ t. t ≡ mark (codes ";")) here → Closes (InGroups declares closing) closing before here

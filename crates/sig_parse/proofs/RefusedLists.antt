@@ -1,21 +1,19 @@
 -- What is refused of lists with separators, and of what stands in brackets, from what is refused of their
 -- parts.
-use Rattle.std.proofs.Common.{◌≡◌, ◌++◌, ◌+◌, ◌≤◌, ℕ, List, [], ◌∷◌, inr, refl, sym, ap, ◌∙◌, subst, append_assoc, arith}
+use Rattle.std.proofs.Common.{◌≡◌, ◌++◌, ◌+◌, ◌≤◌, ℕ, List, [], ◌∷◌, refl, sym, ap, ◌∙◌, append_assoc}
 use Rattle.std.proofs.lemmas.List.{append-nil}
 use Rattle.sig_base.specs.declared.span.Span.{Span}
 use Rattle.sig_tree.specs.Terminals.{Terminal, Leaf, leaf}
-use Rattle.sig_tree.specs.Limits.{Limits, both_limits, no_limits, MayHave}
-use Rattle.sig_tree.specs.Repeated.{Between, Further, Separated, Listed}
+use Rattle.sig_tree.specs.Limits.{Limits, both_limits, no_limits}
+use Rattle.sig_tree.specs.Repeated.{Between, Separated, Listed}
 use Rattle.sig_tree.specs.Readings.{StopsBefore, OneReading}
-use Rattle.sig_tree.specs.Continuing.{ContinuesNothing, ContinuesList}
+use Rattle.sig_tree.specs.Continuing.{ContinuesNothing}
 use Rattle.sig_tree.specs.Unplaced.{no_place}
-use Rattle.sig_tree.proofs.Stopping.{stops_smaller}
 use Rattle.sig_tree.proofs.Combining.{cons_same, append_to, part_at}
 use Rattle.sig_tree.proofs.ReadEquations.{stops_nothing}
 use Rattle.sig_parse.specs.Refusals.{Cause, Refuses}
-use Rattle.sig_parse.specs.Languages.{InLeaf, InOne, counted}
+use Rattle.sig_parse.specs.Languages.{InLeaf, InOne}
 use Rattle.sig_parse.proofs.Refusing.{first_stops, refuses_inside, refuses_first}
-use Rattle.sig_parse.proofs.RefusedLevels.{fewer}
 
 -- leaves and the one that closes them
 abbrev pub Closed : {A : Type 0} → (Limits → A → List Leaf → Type 0) → Terminal → Limits → A → List Leaf → Type 0
@@ -63,33 +61,5 @@ module _ {A : Type 0} (Is : Limits → A → List Leaf → Type 0) (count : A �
 abbrev pub List_of : {A : Type 0} → (Limits → A → List Leaf → Type 0) → Terminal → Limits → List A → List Leaf → Type 0
 List_of Is separator limits xs leaves = Separated (Is limits) separator xs leaves
 
-abbrev pub More_of : {A : Type 0} → (Limits → A → List Leaf → Type 0) → Terminal → Limits → List A → List Leaf → Type 0
-More_of Is separator limits xs leaves = Further (Is limits) separator xs leaves
-
 abbrev pub Any_of : {A : Type 0} → (Limits → A → List Leaf → Type 0) → Terminal → Limits → List A → List Leaf → Type 0
 Any_of Is separator limits xs leaves = Listed (Is limits) separator xs leaves
-
-module _ {A : Type 0} (Is : Limits → A → List Leaf → Type 0) (count : A → ℕ) (used : ℕ) (Continues : Terminal → Type 0)
-    (once : OneReading (Is no_limits) Continues) (free : (limits : Limits) (x : A) (leaves : List Leaf) → Is limits x leaves → Is no_limits x leaves)
-    (within : (limits : Limits) (x : A) (leaves : List Leaf) → Is both_limits x leaves → Is limits x leaves) (separator : Terminal) (apart : Continues separator → ⊥) where
-  item_stops : (back : List Leaf) → StopsBefore (ContinuesList separator Continues) back → StopsBefore Continues back
-  item_stops back stops = stops_smaller (ContinuesList separator Continues) Continues (λ t continues. inr continues) back stops
-
-  more_stops : (limits : Limits) (xs : List A) (front back : List Leaf) → Further (Is limits) separator xs front → StopsBefore Continues back → StopsBefore Continues (front ++ back)
-  more_stops limits [] front back e stops = subst (λ (l : List Leaf). StopsBefore Continues (l ++ back)) (sym e) stops
-  more_stops limits (x ∷ xs) front back (at, first, rest, e, is, are) stops = subst (λ (l : List Leaf). StopsBefore Continues (l ++ back)) (sym e) apart
-
-  -- the first item is refused
-  pub list_from_first : (cause : Cause) (here after : List Leaf) → Refuses (InOne Is count used) Continues cause here after
-      → Refuses (InOne (List_of Is separator) (counted count) used) (ContinuesList separator Continues) cause here after
-  list_from_first cause here after r =
-      refuses_first (InOne Is count used) (InOne (List_of Is separator) (counted count) used) []
-      (λ limits leaves is. (is.0 ∷ [], (leaves, [], refl, is.1, refl), fewer limits (used + counted count (is.0 ∷ [])) (used + count is.0) (omega arith) is.2))
-      Continues (ContinuesList separator Continues) cause here after
-      (λ limits whole back is stops same. go limits whole back is.0 is.1 is.2 stops) r
-    where
-      go : (limits : Limits) (whole back : List Leaf) (xs : List A) → Separated (Is limits) separator xs whole → MayHave limits (used + counted count xs) → StopsBefore (ContinuesList separator Continues) back
-          → (part other : List Leaf) × (whole ++ back ≡ part ++ other) × InOne Is count used limits part × StopsBefore Continues other
-      go limits whole back [] are fits stops = absurd are
-      go limits whole back (x ∷ xs) (first, rest, e, is, are) fits stops =
-          (first, rest ++ back, append_to whole first rest back e, (x, is, fewer limits (used + count x) (used + counted count (x ∷ xs)) (omega arith) fits), more_stops limits xs rest back are (item_stops back stops))

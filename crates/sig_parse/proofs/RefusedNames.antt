@@ -1,44 +1,45 @@
--- What is refused of names with commas between them.
+-- Names with commas between them, and what is refused of them.
 use Rattle.std.proofs.Common.{◌≡◌, List, codes, inl, inr, arith}
-use Rattle.sig_base.specs.declared.span.Span.{Span}
 use Rattle.sig_tree.specs.declared.expr.Name.{Name}
 use Rattle.sig_tree.specs.Terminals.{Terminal, Leaf, mark}
-use Rattle.sig_tree.specs.Limits.{Limits}
+use Rattle.sig_tree.specs.Repeated.{Separated}
 use Rattle.sig_tree.specs.Equations.{IsName}
 use Rattle.sig_tree.specs.Readings.{StopsBefore}
 use Rattle.sig_tree.specs.Continuing.{ContinuesNothing, ContinuesList}
 use Rattle.sig_tree.proofs.Stopping.{stops_smaller}
 use Rattle.sig_tree.proofs.ReadEquations.{name_once, stops_nothing}
+use Rattle.sig_parse.specs.declared.refusal.Refusal.{Refusal}
 use Rattle.sig_parse.specs.State.{State}
-use Rattle.sig_parse.specs.Reads.{Covers, IsLeaf}
-use Rattle.sig_parse.specs.Refusals.{Cause, Refuses}
+use Rattle.sig_parse.specs.Reads.{Reads}
+use Rattle.sig_parse.specs.Refusals.{Cause, Refuses, RefusedBy}
+use Rattle.sig_parse.specs.Settling.{Settles}
 use Rattle.sig_parse.specs.Languages.{InName, InOne, counted}
-use Rattle.sig_parse.specs.Parts.{InNames}
+use Rattle.sig_parse.specs.Parts.{InSome, InNames}
+use Rattle.sig_parse.specs.Repeats.{ReadsSeparated, RefusesSeparated}
+use Rattle.sig_parse.proofs.Covering.{covered}
 use Rattle.sig_parse.proofs.RefusedLists.{List_of}
-use Rattle.sig_parse.proofs.RefusedSides.{Name_of, none_of, no_operators}
-use Rattle.sig_parse.proofs.Leading.{Leads, refuses_where, settled_once}
-use Rattle.sig_parse.proofs.Rows.{RowRest, row_refused, row_item, row_separated}
-use Rattle.sig_parse.proofs.RefusedDeclarations.{Always}
+use Rattle.sig_parse.proofs.RefusedSides.{Name_of, no_operators}
+use Rattle.sig_parse.proofs.Leading.{refuses_as, settled_once}
+use Rattle.sig_parse.proofs.Rows.{none_of}
+use Rattle.sig_parse.proofs.ReadRows.{plain_reads, plain_refused}
 
 abbrev pub ContinuesNames : Terminal → Type 0
 ContinuesNames t = ContinuesList (mark (codes ",")) ContinuesNothing t
 
-abbrev pub RestOfNames : Limits → List Leaf → Type 0
-RestOfNames limits leaves = RowRest (Always IsName) ContinuesNothing (mark (codes ",")) limits leaves
+abbrev pub NameRead : Name → State → State → Type 0
+NameRead n s t = Reads (IsName n) 0 s t
 
--- where names were begun, up to a name
-abbrev pub LeadsNames : (before after : List Leaf) → Type 0
-LeadsNames before after = Leads InNames ContinuesNames RestOfNames ContinuesNames before after
+abbrev pub NameRefused : Refusal → State → State → Type 0
+NameRefused why s t = RefusedBy InName ContinuesNothing s t why
 
-pub names_refused : {cause : Cause} {here after : List Leaf} → Refuses InName ContinuesNothing cause here after → Refuses InNames ContinuesNames cause here after
-names_refused r = row_refused (Always IsName) ContinuesNothing (mark (codes ",")) (λ none. none) r
+name_settled : (n : Name) (s t : State) → NameRead n s t → Settles (InSome IsName) ContinuesNothing s.leaves t.leaves
+name_settled n s t r = settled_once Name_of ContinuesNothing name_once (λ limits x leaves is. is) n (covered r) (stops_nothing t.leaves)
 
-pub names_begun : (n : Name) {s t : State} → Covers (IsName n) s t → LeadsNames s.leaves t.leaves
-names_begun n {s} {t} c = row_item (Always IsName) ContinuesNothing (mark (codes ",")) (λ none. none) (λ limits x leaves is. is) (λ limits x leaves is. is) n c
-    (settled_once (Always IsName) ContinuesNothing name_once (λ limits x leaves is. is) n c (stops_nothing t.leaves))
+pub names_read : (names : List Name) (s t : State) → ReadsSeparated NameRead (mark (codes ",")) names s t → Reads (Separated IsName (mark (codes ",")) names) 0 s t
+names_read names s t h = plain_reads IsName ContinuesNothing (mark (codes ",")) (λ none. none) NameRead (λ n s t r. r) name_settled s names t h
 
-pub names_next : (at : Span) {s t : State} → Covers (IsLeaf (mark (codes ",")) at) s t → Leads RestOfNames ContinuesNames InNames ContinuesNames s.leaves t.leaves
-names_next at c = row_separated (Always IsName) ContinuesNothing (mark (codes ",")) at c
+pub names_refused : (why : Refusal) (s t : State) → RefusesSeparated NameRead NameRefused (mark (codes ",")) s t why → RefusedBy InNames ContinuesNames s t why
+names_refused why s t h = plain_refused IsName ContinuesNothing (mark (codes ",")) (λ none. none) NameRead (λ n s t r. r) name_settled NameRefused (λ why s t r text. r text) why s t h
 
 pub names_stop : (here : List Leaf) → StopsBefore (λ t. t ≡ mark (codes ",")) here → StopsBefore ContinuesNames here
 names_stop here stops = stops_smaller (λ t. t ≡ mark (codes ",")) ContinuesNames only here stops where
@@ -48,5 +49,4 @@ names_stop here stops = stops_smaller (λ t. t ≡ mark (codes ",")) ContinuesNa
 
 -- the same where operators are counted
 pub counted_names : {cause : Cause} {here after : List Leaf} → Refuses InNames ContinuesNames cause here after → Refuses (InOne (List_of Name_of (mark (codes ","))) (counted none_of) 0) ContinuesNames cause here after
-counted_names {here = here} r = refuses_where InNames (InOne (List_of Name_of (mark (codes ","))) (counted none_of) 0) ContinuesNames ContinuesNames
-    (λ limits leaves is. (is.0, is.1, λ kept. let none = no_operators is.0 in omega arith)) (λ back stops. stops) here (λ limits whole back is stops same. (is.0, is.1)) r
+counted_names r = refuses_as InNames (InOne (List_of Name_of (mark (codes ","))) (counted none_of) 0) ContinuesNames (λ limits leaves is. (is.0, is.1, λ kept. let none = no_operators is.0 in omega arith)) (λ limits leaves is. (is.0, is.1)) r

@@ -13,7 +13,6 @@ use Rattle.sig_tree.specs.Readings.{StopsBefore, OneReading}
 use Rattle.sig_tree.specs.Continuing.{ContinuesNothing, ContinuesList, ContinuesOptional, ContinuesPlacements}
 use Rattle.sig_tree.specs.Unplaced.{no_place}
 use Rattle.sig_tree.proofs.Operators.{different}
-use Rattle.sig_tree.proofs.FirstLeaves.{placement_begins}
 use Rattle.sig_tree.proofs.Combining.{between_once}
 use Rattle.sig_tree.proofs.ReadEquations.{names_once, stops_nothing}
 use Rattle.sig_tree.proofs.ReadDeclarations.{placement_once, pragma_list_once}
@@ -26,7 +25,8 @@ use Rattle.sig_parse.specs.Parts.{UpTo, InNames, IsBraced, InBraced, InPragma, I
 use Rattle.sig_parse.proofs.RefusedConstants.{some_name, some_leaf}
 use Rattle.sig_parse.proofs.Leading.{Leads, Then, leads_refuses, settles_on, refuses_where, apart_nothing, then_first, leads_stopped, leads_alone, settled_once, Leaf_of, leaf_once, leads_leaf}
 use Rattle.sig_parse.proofs.RefusedDeclarations.{Always}
-use Rattle.sig_parse.proofs.Enclosures.{up_to_once, up_to_covered, each_refused, each_read, each_ends, optional_refused, optional_settled, optional_missing, leaf_next}
+use Rattle.sig_parse.proofs.ClosedRows.{closes_next}
+use Rattle.sig_parse.proofs.Enclosures.{up_to_once, up_to_covered, each_refused, each_read, optional_refused, optional_settled, optional_missing, leaf_next}
 
 -- names in braces
 abbrev NameList : List Name → List Leaf → Type 0
@@ -127,7 +127,7 @@ pub pragma_list_more : (pragma : Placement) {s t : State} → StopsBefore (λ u.
 pragma_list_more pragma stopped c = each_read IsPlacement placement_once (word (codes "end")) pragma stopped c
 
 pub pragma_list_ends : {here : List Leaf} → StartsWith (λ t. t ≡ word (codes "end")) here → Closes InPragmaList (word (codes "end")) here here
-pragma_list_ends next = each_ends IsPlacement placement_once (word (codes "end")) BeginsPlacement placement_begins end_apart next
+pragma_list_ends next = closes_next InPragmaList (word (codes "end")) next
 
 -- "pragmas" { pragma } "end" "pragmas"
 abbrev Listing : List Placement → List Leaf → Type 0

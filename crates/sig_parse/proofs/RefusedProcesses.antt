@@ -23,8 +23,7 @@ use Rattle.sig_parse.specs.Declarations.{IsTitle, IsInnerProcess, AreDeclared}
 use Rattle.sig_parse.specs.State.{State}
 use Rattle.sig_parse.specs.Reads.{Covers, IsLeaf}
 use Rattle.sig_parse.specs.Refusals.{Cause, Refuses}
-use Rattle.sig_parse.specs.Settling.{Settles, Closes}
-use Rattle.sig_parse.specs.Languages.{InLeaf}
+use Rattle.sig_parse.specs.Settling.{Settles}
 use Rattle.sig_parse.specs.Parts.{InAny, UpTo, InLocalGroup, InProcess, IsDeclared, InDeclared, InWhere}
 use Rattle.sig_parse.proofs.Refusing.{SameFirst}
 use Rattle.sig_parse.proofs.Leading.{Leads, Then, leads_refuses, settles_on, refuses_where, leads_where, apart_nothing, then_first, leads_alone, settled_once, Leaf_of, leads_leaf, starts_or_stops, starts_same}
@@ -117,34 +116,6 @@ module _ (depth : ℕ) where
 
   ended_once : OneReading (Declares_to no_limits) ContinuesNothing
   ended_once = up_to_once (IsDeclared depth no_limits) (word (codes "end")) ContinuesLocals declared_once end_no_local
-
-  -- where the next leaf is `end`
-  pub declared_ends : {here : List Leaf} → StartsWith (λ t. t ≡ word (codes "end")) here → Closes (InDeclared depth) (word (codes "end")) here here
-  declared_ends {here} next = λ cause stopped r. refuses_where (InLeaf (word (codes "end"))) (InDeclared depth) ContinuesNothing ContinuesNothing (λ limits leaves is. (([], no_model), (is.0, [], is.1, refl))) (λ back stops. stops) here
-      (λ limits whole back is stops same. go limits whole back is.0.0 is.0.1 is.1.0 is.1.1 is.1.2 is.1.3 same) r
-    where
-      never : (Begins : Terminal → Type 0) → ((t : Terminal) → t ≡ word (codes "end") → Begins t → ⊥) → (leaves : List Leaf) → SameFirst here leaves → StartsWith Begins leaves → ⊥
-      never Begins apart leaves same begins = both_begin (λ t. t ≡ word (codes "end")) Begins apart leaves (starts_same (λ t. t ≡ word (codes "end")) here leaves same next) begins
-
-      no_group : (t : Terminal) → t ≡ word (codes "end") → BeginsGroup t → ⊥
-      no_group t e begins = end_no_local (inl (subst BeginsGroup e begins))
-
-      first_group : (limits : Limits) (whole back front rest : List Leaf) (g : Declared) (ended : Span) (more : List Leaf) → whole ≡ (front ++ rest) ++ more → IsLocalGroup g front → SameFirst here (whole ++ back) → ⊥
-      first_group limits whole back front rest g ended more e is same =
-          never BeginsGroup no_group (whole ++ back) same (starts_as BeginsGroup (whole ++ back) front (rest ++ (more ++ back)) (append_to whole (front ++ rest) more back e ∙ append_assoc front rest (more ++ back)) (local_group_begins g front is))
-
-      go : (limits : Limits) (whole back : List Leaf) (groups : List Declared) (inner : ProcessModels) (ended : Span) (inside : List Leaf) → whole ≡ inside ++ leaf (word (codes "end")) ended ∷ [] → AreLocals limits inner depth groups inside
-          → SameFirst here (whole ++ back) → InLeaf (word (codes "end")) limits whole
-      go limits whole back [] no_model ended inside e none same = (ended, e ∙ ap (λ ls. ls ++ leaf (word (codes "end")) ended ∷ []) none)
-      go limits whole back (g ∷ gs) no_model ended inside e (front, rest, f, is, are) same =
-          absurd (first_group limits whole back front rest g ended (leaf (word (codes "end")) ended ∷ []) (e ∙ ap (λ ls. ls ++ leaf (word (codes "end")) ended ∷ []) f) is same)
-      go limits whole back groups (more_models model others) ended inside e ([], after, front, middle, last, f, g, none, (may, is), are) same =
-          absurd (never BeginsProcess (λ t e p. end_no_process t p e) (whole ++ back) same (starts_as BeginsProcess (whole ++ back) middle (last ++ (leaf (word (codes "end")) ended ∷ back))
-          (append_to whole inside (leaf (word (codes "end")) ended ∷ []) back e ∙ ap (λ ls. ls ++ leaf (word (codes "end")) ended ∷ back) (g ∙ ap (λ ls. ls ++ (middle ++ last)) none) ∙ append_assoc middle last (leaf (word (codes "end")) ended ∷ back))
-          (model_begins limits model (suc depth) middle is)))
-      go limits whole back groups (more_models model others) ended inside e (b ∷ bs, after, front, middle, last, f, g, (first, rest, h, is_group, each), (may, is), are) same =
-          absurd (first_group limits whole back first (rest ++ (middle ++ last)) b ended (leaf (word (codes "end")) ended ∷ [])
-          (e ∙ ap (λ ls. ls ++ leaf (word (codes "end")) ended ∷ []) (g ∙ ap (λ ls. ls ++ (middle ++ last)) h ∙ append_assoc first rest (middle ++ last))) is_group same)
 
   -- a group, and what is declared behind it
   add_group : (limits : Limits) (g : Declared) (groups : List Declared) (inner : ProcessModels) (front back : List Leaf) → IsLocalGroup g front → AreLocals limits inner depth groups back → AreLocals limits inner depth (g ∷ groups) (front ++ back)

@@ -27,6 +27,7 @@ use Rattle.sig_parse.proofs.Refusing.{refuses_inside, refuses_first, refuses_at_
 use Rattle.sig_parse.proofs.RefusedConstants.{some_name, some_leaf}
 use Rattle.sig_parse.proofs.RefusedLevels.{fewer}
 use Rattle.sig_parse.proofs.RefusedLists.{Closed, List_of, Any_of}
+use Rattle.sig_parse.proofs.Rows.{none_of}
 
 -- the sum of the grammar is that of the parser
 pub counted_sum : (xs : List Expression) → sum_by operators xs ≡ counted operators xs
@@ -36,9 +37,6 @@ counted_sum (x ∷ xs) = sum_by-cons operators x xs ∙ ap (λ n. operators x + 
 -- names, whatever the limits
 abbrev pub Name_of : Limits → Name → List Leaf → Type 0
 Name_of limits n leaves = IsName n leaves
-
-abbrev pub none_of : {A : Type 0} → A → ℕ
-none_of x = 0
 
 abbrev pub Constant_of : Limits → Constant → List Leaf → Type 0
 Constant_of limits c leaves = IsConstant c leaves

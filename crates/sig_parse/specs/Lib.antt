@@ -1,4 +1,5 @@
 pub mod Ahead
+pub mod Beginnings
 pub mod Declarations
 pub mod Exact
 pub mod Keywords
@@ -9,6 +10,7 @@ pub mod Parts
 pub mod Reads
 pub mod Refusals
 pub mod Refused
+pub mod Repeats
 pub mod Seen
 pub mod Settling
 pub mod State

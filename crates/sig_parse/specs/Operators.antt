@@ -3,19 +3,24 @@ use Rattle.std.specs.Prelude.{◌≡◌, ◌++◌, ◌+◌, ◌≤◌, ◌⊎◌
 use Rattle.sig_base.specs.declared.limits.TheConstants.{OPERATORS}
 use Rattle.sig_base.specs.declared.span.Span.{Span}
 use Rattle.sig_tree.specs.Terminals.{Terminal, Leaf, leaf, number, word, mark, truth_word, binary_terminal}
-use Rattle.sig_tree.specs.Beginning.{BeginsName}
-use Rattle.sig_tree.specs.Continuing.{IsInfix as StandsBehind, ContinuesDelay}
+use Rattle.sig_tree.specs.declared.expr.Constant.{Constant}
+use Rattle.sig_tree.specs.Beginning.{BeginsName, StartsWith}
+use Rattle.sig_tree.specs.Continuing.{IsInfix as StandsBehind, ContinuesNothing, ContinuesDelay}
 use Rattle.sig_tree.specs.Spines.{Step, IsStep}
 use Rattle.sig_tree.specs.Syntax.{Expression}
 use Rattle.sig_tree.specs.Levels.{default_level, mixed_level, clock_level, or_level, and_level, not_level, relation_level, sum_level, product_level, minus_level, delay_level, primary_level, left_level, binary_level}
 use Rattle.sig_tree.specs.Limits.{both_limits, operators}
-use Rattle.sig_tree.specs.Expressions.{IsAtLevel}
+use Rattle.sig_tree.specs.Expressions.{IsInit, IsAtLevel}
 use Rattle.sig_parse.specs.declared.operator.Level.{Level}
 use Rattle.sig_parse.specs.declared.operator.Level.TheVariants.{Default, Mixed, Clock, Or, And, Not, Relation, Sum, Product, Minus, Delay, Primary}
 use Rattle.sig_parse.specs.declared.operator.Infix.{Infix}
 use Rattle.sig_parse.specs.declared.operator.Infix.TheVariants.{Binary, Cell, Delay as DelayOp}
 use Rattle.sig_parse.specs.State.{State}
-use Rattle.sig_parse.specs.Languages.{step_operators}
+use Rattle.sig_parse.specs.declared.refusal.Refusal.{Refusal}
+use Rattle.sig_parse.specs.declared.refusal.Refusal.TheVariants.{Syntax}
+use Rattle.sig_parse.specs.Reads.{Reads}
+use Rattle.sig_parse.specs.Refusals.{IsOfText, cause_of, Refuses}
+use Rattle.sig_parse.specs.Languages.{InInit, step_operators}
 
 abbrev pub level_number : Level → ℕ
 level_number Default = default_level
@@ -96,3 +101,8 @@ pub record Completes (depth : ℕ) (left : Expression) (op : Infix) (at : Span) 
   pub operators_are : operators e ≡ suc (operators left + count)
   pub counted : after.operators ≡ before.operators + count
   pub few : before.operators ≤ OPERATORS → after.operators ≤ OPERATORS
+
+-- The init of a cell is refused, or a tighter operator behind it.
+abbrev pub RefusesInit : Refusal → (before after : State) → Type 0
+RefusesInit why before after = IsOfText why → Refuses InInit ContinuesNothing (cause_of why) before.leaves after.leaves
+    ⊎ ((constant : Constant) × Reads (IsInit constant) 0 before after × (why ≡ Syntax) × StartsWith (ContinuesStep mixed_level) after.leaves)

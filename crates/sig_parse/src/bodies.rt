@@ -17,10 +17,11 @@ ghost use Rattle.sig_parse.specs.Settling.{Settles, Closes};
 ghost use Rattle.sig_parse.specs.Refusals.{IsOfText};
 
 use crate::ahead::begins_definition;
-use crate::expression::expression;
+use crate::expression::OneExpression;
 use crate::keyword::Keyword;
 use crate::parser::{Parser, inside};
 use crate::refusal::Refusal;
+use crate::separated::separated;
 use crate::sides::{left_side, right_side};
 use sig_tree::{Body, Expr};
 use std::alloc::Global;
@@ -48,23 +49,18 @@ fn clock_equation(alloc: Global, parser: &mut Parser, depth: u32) -> Result<Body
     Ok(Body::Same(operands(alloc, parser, depth)?))
 }
 
-/// The operands of a clock equation.
+/// The operands of a clock equation: two or more.
 fn operands(alloc: Global, parser: &mut Parser, depth: u32) -> Result<Vec<Expr>, Refusal>
     requires { parser.old.operators ≡ 0 }
     ensures reads { IfOk result (λ operands. Covers (IsClockEquation both_limits depth (map expression_of operands.items)) parser.old parser.new) }
     ensures stops { OnOk result (StopsBefore ContinuesClockEquation parser.new.leaves) }
     ensures refuses { IfErr result (RefusedBy (InClockEquation depth) ContinuesClockEquation parser.old parser.new) }
 {
-    let mut all = Vec::new(alloc);
-    all.push(expression(alloc, parser, depth)?)?;
-    let _same = parser.expect(Keyword::SameClock)?;
-    all.push(expression(alloc, parser, depth)?)?;
-    loop {
-        let Some(_) = parser.take(Keyword::SameClock) else {
-            return Ok(all);
-        };
-        all.push(expression(alloc, parser, depth)?)?;
+    let all = separated(alloc, parser, &OneExpression { depth }, Keyword::SameClock)?;
+    if all.len() < 2 {
+        return Err(Refusal::Syntax);
     }
+    Ok(all)
 }
 
 /// A body, inside so many constructs.

@@ -19,12 +19,13 @@ use crate::constant::optional_init;
 use crate::keyword::Keyword;
 use crate::parser::Parser;
 use crate::refusal::Refusal;
+use crate::separated::{Part, separated};
 use sig_base::{Kind, Span};
 use sig_tree::{Group, Item};
 use std::alloc::Global;
 
 /// What is declared: parameters, inputs, or signals that may have an init.
-#[derive(Clone, Copy, Debug, PartialEq, Eq)]
+#[derive(Clone, Copy, PartialEq, Eq)]
 pub enum Declares {
     Parameters,
     Inputs,
@@ -66,20 +67,32 @@ fn item(alloc: Global, parser: &mut Parser, declares: Declares) -> Result<Item, 
     }
 }
 
+/// An item of several.
+#[derive(Clone, Copy)]
+struct OneItem {
+    declares: Declares,
+}
+
+impl Part for OneItem {
+    type Tree = Item;
+
+    ghost reads_as = { λ part item before after. Reads (IsItemOf part.declares item) 0 before after
+        × Settles (InItem part.declares) (ContinuesItem part.declares) before.leaves after.leaves };
+
+    ghost refuses_as = { λ part why before after. RefusedBy (InItem part.declares) (ContinuesItem part.declares) before after why };
+
+    fn read(&self, alloc: Global, parser: &mut Parser) -> Result<Item, Refusal> {
+        item(alloc, parser, self.declares)
+    }
+}
+
 /// Items with `,` between them.
 fn items(alloc: Global, parser: &mut Parser, declares: Declares) -> Result<Vec<Item>, Refusal>
     ensures reads { IfOk result (λ items. Reads (Separated (IsItemOf declares) (mark (codes ",")) items.items) 0 parser.old parser.new) }
     ensures settles { OnOk result (Settles (InItems declares) (ContinuesItems declares) parser.old.leaves parser.new.leaves) }
     ensures refuses { IfErr result (RefusedBy (InItems declares) (ContinuesItems declares) parser.old parser.new) }
 {
-    let mut all = Vec::new(alloc);
-    all.push(item(alloc, parser, declares)?)?;
-    loop {
-        let Some(_) = parser.take(Keyword::Comma) else {
-            return Ok(all);
-        };
-        all.push(item(alloc, parser, declares)?)?;
-    }
+    separated(alloc, parser, &OneItem { declares }, Keyword::Comma)
 }
 
 /// A group: its kind and its items.

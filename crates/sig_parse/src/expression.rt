@@ -2,16 +2,17 @@
 
 ghost use Rattle.std.specs.Prelude.{◌≡◌, ◌<◌, ◌≤◌, ◌⊎◌, ◌∷◌, ℕ, suc, codes, IfOk, OnOk, MatchOption, MatchBool, IfSome, IfErr, OnErr};
 ghost use Rattle.sig_tree.specs.declared.expr.UnOp.{UnOp};
-ghost use Rattle.sig_tree.specs.Syntax.{expression_of};
+ghost use Rattle.sig_tree.specs.declared.expr.Constant.{Constant};
+ghost use Rattle.sig_tree.specs.Syntax.{expression_of, Binary, Cell};
 ghost use Rattle.sig_tree.specs.Terminals.{leaf, mark, unary_terminal};
-ghost use Rattle.sig_tree.specs.Levels.{default_level, relation_level, delay_level, primary_level, unary_level};
+ghost use Rattle.sig_tree.specs.Levels.{default_level, mixed_level, relation_level, delay_level, primary_level, unary_level};
 ghost use Rattle.sig_tree.specs.Limits.{both_limits, operators};
-ghost use Rattle.sig_tree.specs.Expressions.{IsAtLevel, IsExpression};
+ghost use Rattle.sig_tree.specs.Expressions.{IsInit, IsAtLevel, IsExpression};
 ghost use Rattle.sig_tree.specs.Readings.{StopsBefore};
 ghost use Rattle.sig_tree.specs.Beginning.{StartsWith};
 ghost use Rattle.sig_tree.specs.Continuing.{ContinuesDelay, ContinuesExpression};
 ghost use Rattle.sig_tree.specs.Spines.{IsAtom, IsOperand};
-ghost use Rattle.sig_parse.specs.Operators.{level_number, first_level, infix_terminal, infix_level, IsOperator, IsOperatorOf, IsInfix, ContinuesStep, BeginsAtom, Completes, ReadsStep};
+ghost use Rattle.sig_parse.specs.Operators.{level_number, first_level, infix_terminal, infix_level, IsOperator, IsOperatorOf, IsInfix, ContinuesStep, BeginsAtom, Completes, ReadsStep, RefusesInit};
 ghost use Rattle.sig_parse.specs.Reads.{Reads, Shorter, IsLeaf};
 ghost use Rattle.sig_parse.specs.Refusals.{IsOfText};
 ghost use Rattle.sig_parse.specs.Languages.{InLevel, InOperand, InStep};
@@ -24,8 +25,9 @@ use crate::operator::{
 };
 use crate::parser::{Parser, inside};
 use crate::refusal::Refusal;
+use crate::separated::Part;
 use sig_base::Span;
-use sig_tree::{Expr, UnOp};
+use sig_tree::{BinOp, Constant, Expr, UnOp};
 use std::alloc::Global;
 
 /// An expression, inside so many constructs.
@@ -36,6 +38,26 @@ pub fn expression(alloc: Global, parser: &mut Parser, depth: u32) -> Result<Expr
     ensures refuses { IfErr result (λ why. parser.old.operators ≤ 512 → RefusedBy (InLevel default_level depth parser.old.operators) (ContinuesExpression default_level) parser.old parser.new why) }
 {
     at_level(alloc, parser, Level::Default, depth)
+}
+
+/// An expression of several, each inside so many constructs.
+#[derive(Clone, Copy)]
+pub struct OneExpression {
+    pub depth: u32,
+}
+
+impl Part for OneExpression {
+    type Tree = Expr;
+
+    ghost reads_as = { λ part e before after. Reads (IsExpression both_limits part.depth (expression_of e)) (operators (expression_of e)) before after
+        × StopsBefore (ContinuesExpression default_level) after.leaves };
+
+    ghost refuses_as = { λ part why before after. before.operators ≤ 512
+        → RefusedBy (InLevel default_level part.depth before.operators) (ContinuesExpression default_level) before after why };
+
+    fn read(&self, alloc: Global, parser: &mut Parser) -> Result<Expr, Refusal> {
+        expression(alloc, parser, self.depth)
+    }
 }
 
 /// An expression of a level: its first operand, and operators of the level with what they take.
@@ -188,23 +210,65 @@ fn completed(
     match op {
         Infix::Binary(op) => {
             let right = at_level(alloc, parser, right_level(op), depth)?;
-            let left = Box::new(alloc, left)?;
-            Ok(Expr::Binary(op, left, Box::new(alloc, right)?, at))
+            joined(alloc, op, left, right, at)
         }
         Infix::Cell => {
             let held = at_level(alloc, parser, Level::Primary, depth)?;
-            let constant = init(alloc, parser)?;
-            nothing_tighter(parser, Level::Mixed)?;
-            let left = Box::new(alloc, left)?;
-            Ok(Expr::Cell(left, Box::new(alloc, held)?, constant, at))
+            cell(alloc, parser, left, held, at)
         }
-        Infix::Delay => {
-            parser.take_one();
-            let constant = optional_init(alloc, parser)?;
-            nothing_tighter(parser, Level::Delay)?;
-            Ok(Expr::Delay(Box::new(alloc, left)?, constant, at))
-        }
+        Infix::Delay => delay(alloc, parser, left, at),
     }
+}
+
+/// Two operands and the operator between them.
+fn joined(alloc: Global, op: BinOp, left: Expr, right: Expr, at: Span) -> Result<Expr, Refusal>
+    ensures value { IfOk result (λ e. expression_of e ≡ Binary op (expression_of left) (expression_of right) at) }
+    ensures wanting { IfErr result (λ why. why ≡ Refusal.OutOfMemory) }
+{
+    let left = Box::new(alloc, left)?;
+    Ok(Expr::Binary(op, left, Box::new(alloc, right)?, at))
+}
+
+/// The init of a cell, with nothing tighter behind it.
+fn last_init(alloc: Global, parser: &mut Parser) -> Result<Constant, Refusal>
+    ensures reads { IfOk result (λ constant. Reads (IsInit constant) 0 parser.old parser.new) }
+    ensures stops { OnOk result (StopsBefore (ContinuesStep mixed_level) parser.new.leaves) }
+    ensures refuses { IfErr result (λ why. RefusesInit why parser.old parser.new) }
+{
+    let constant = init(alloc, parser)?;
+    nothing_tighter(parser, Level::Mixed)?;
+    Ok(constant)
+}
+
+/// A cell behind what it holds.
+fn cell(
+    alloc: Global,
+    parser: &mut Parser,
+    left: Expr,
+    held: Expr,
+    at: Span,
+) -> Result<Expr, Refusal>
+    ensures reads { IfOk result (λ e. (constant : Constant) × (expression_of e ≡ Cell (expression_of left) (expression_of held) constant at) × Reads (IsInit constant) 0 parser.old parser.new) }
+    ensures stops { OnOk result (StopsBefore (ContinuesStep mixed_level) parser.new.leaves) }
+    ensures refuses { IfErr result (λ why. RefusesInit why parser.old parser.new) }
+{
+    let constant = last_init(alloc, parser)?;
+    let left = Box::new(alloc, left)?;
+    Ok(Expr::Cell(left, Box::new(alloc, held)?, constant, at))
+}
+
+/// A delay behind its operator, with nothing tighter behind it.
+fn delay(alloc: Global, parser: &mut Parser, left: Expr, at: Span) -> Result<Expr, Refusal>
+    ensures completes { IfOk result (λ e. (depth : ℕ) → Completes depth (expression_of left) Infix.Delay at (expression_of e) parser.old parser.new) }
+    ensures step { OnOk result ((depth : ℕ) → ReadsStep depth Infix.Delay at parser.old parser.new) }
+    ensures stops { OnOk result (StopsBefore (ContinuesStep delay_level) parser.new.leaves) }
+    ensures refuses { IfErr result (λ why. (depth used : ℕ) → parser.old.operators ≡ suc used → parser.old.operators ≤ 512 → IsOfText why
+        → Refuses (InStep delay_level depth used) (ContinuesStep delay_level) (cause_of why) (leaf (infix_terminal Infix.Delay) at ∷ parser.old.leaves) parser.new.leaves) }
+{
+    parser.take_one();
+    let constant = optional_init(alloc, parser)?;
+    nothing_tighter(parser, Level::Delay)?;
+    Ok(Expr::Delay(Box::new(alloc, left)?, constant, at))
 }
 
 /// A name, a number, a truth, or an expression in parentheses.

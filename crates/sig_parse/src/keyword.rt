@@ -6,7 +6,7 @@ ghost use Rattle.sig_tree.specs.Terminals.{word, mark};
 ghost use Rattle.sig_parse.specs.Keywords.{terminal_of, spelling_of};
 
 /// A reserved word or a mark.
-#[derive(Clone, Copy, Debug, PartialEq, Eq)]
+#[derive(Clone, Copy, PartialEq, Eq)]
 pub enum Keyword {
     Process,
     Where,

@@ -15,7 +15,7 @@ use sig_lex::{Token, TokenKind, these_tokens};
 use std::alloc::{AllocFailed, Global};
 
 /// What a token says: a name, a number, a label without its quotes, or a reserved word or a mark.
-#[derive(Clone, Copy, Debug, Drop)]
+#[derive(Clone, Copy, Drop)]
 pub enum Terminal<'a> {
     Name(&'a [u8]),
     Number(Natural),
@@ -24,7 +24,7 @@ pub enum Terminal<'a> {
 }
 
 /// A terminal where it stands in the text.
-#[derive(Clone, Copy, Debug, Drop)]
+#[derive(Clone, Copy, Drop)]
 pub struct Leaf<'a> {
     pub terminal: Terminal<'a>,
     pub at: Span,

@@ -18,6 +18,7 @@ mod pragma;
 mod process;
 mod program;
 mod refusal;
+mod separated;
 mod sides;
 
 pub use laws::one_refusal;

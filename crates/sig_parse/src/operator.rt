@@ -12,7 +12,7 @@ use crate::keyword::Keyword;
 use sig_tree::{BinOp, UnOp};
 
 /// The levels of expressions, from the loosest to the tightest.
-#[derive(Clone, Copy, Debug, PartialEq, Eq)]
+#[derive(Clone, Copy, PartialEq, Eq)]
 pub enum Level {
     Default,
     Mixed,
@@ -29,7 +29,7 @@ pub enum Level {
 }
 
 /// An operator that stands behind its left operand.
-#[derive(Clone, Copy, Debug)]
+#[derive(Clone, Copy)]
 pub enum Infix {
     Binary(BinOp),
     Cell,

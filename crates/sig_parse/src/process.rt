@@ -2,7 +2,8 @@
 
 ghost use Rattle.std.specs.Prelude.{◌≡◌, ◌∷◌, [], codes, map, IfOk, OnOk, IfErr};
 ghost use Rattle.sig_base.specs.declared.span.Span.{Span};
-ghost use Rattle.sig_tree.specs.Syntax.{declared_of, model_of};
+ghost use Rattle.sig_tree.specs.declared.process.Process.{roll-Process};
+ghost use Rattle.sig_tree.specs.Syntax.{declared_of, equations_of, model_of, placement_of};
 ghost use Rattle.sig_tree.specs.Terminals.{leaf, name_leaf, word, mark};
 ghost use Rattle.sig_tree.specs.Limits.{both_limits};
 ghost use Rattle.sig_tree.specs.Processes.{AreParams, IsInterface, IsLocalGroup, IsModel};
@@ -10,6 +11,7 @@ ghost use Rattle.sig_parse.specs.Declarations.{IsTitle, HasSides, HasDeclared, H
 ghost use Rattle.sig_tree.specs.Beginning.{StartsWith, BeginsProcess};
 ghost use Rattle.sig_tree.specs.Continuing.{ContinuesNothing, ContinuesOptional};
 ghost use Rattle.sig_parse.specs.Parts.{InParams, InInterface, InTitle, InLocalGroup, InProcess, InDeclared, InWhere};
+ghost use Rattle.sig_parse.specs.Beginnings.{ReadsBeginning};
 ghost use Rattle.sig_parse.specs.Reads.{Reads, Covers, Shorter};
 ghost use Rattle.sig_parse.specs.Refusals.{RefusedBy};
 ghost use Rattle.sig_parse.specs.Settling.{Settles, Closes};
@@ -21,7 +23,7 @@ use crate::keyword::Keyword;
 use crate::parser::{Parser, inside};
 use crate::pragma::pragmas;
 use crate::refusal::Refusal;
-use sig_tree::{Group, Name, Process};
+use sig_tree::{Body, Group, Name, Process, RunOn};
 use std::alloc::Global;
 
 /// Parameters in braces, where `{` is next.
@@ -71,10 +73,21 @@ fn title(alloc: Global, parser: &mut Parser) -> Result<Name, Refusal>
     Ok(name)
 }
 
-/// A process, whose contents stand inside so many constructs.
-#[cycle(process)]
-pub fn process(alloc: Global, parser: &mut Parser, depth: u32) -> Result<Process, Refusal>
-    ensures reads { IfOk result (λ process. Covers (IsModel both_limits (model_of process) depth) parser.old parser.new) }
+/// A process up to its body.
+#[derive(Drop)]
+struct Begun {
+    name: Name,
+    params: Vec<Group>,
+    inputs: Vec<Group>,
+    outputs: Vec<Group>,
+    run_on: Vec<RunOn>,
+    body: Body,
+}
+
+/// A process up to its body, which stands inside so many constructs.
+fn beginning(alloc: Global, parser: &mut Parser, depth: u32) -> Result<Begun, Refusal>
+    ensures reads { IfOk result (λ begun. ReadsBeginning depth begun.name (map declared_of begun.params.items) (map declared_of begun.inputs.items) (map declared_of begun.outputs.items)
+        (map placement_of begun.run_on.items) (equations_of begun.body) parser.old parser.new) }
     ensures shorter { OnOk result (Shorter parser.old parser.new) }
     ensures refuses { IfErr result (RefusedBy (InProcess depth) ContinuesNothing parser.old parser.new) }
 {
@@ -83,18 +96,27 @@ pub fn process(alloc: Global, parser: &mut Parser, depth: u32) -> Result<Process
     let interface = inputs_and_outputs(alloc, parser)?;
     let run_on = pragmas(alloc, parser)?;
     let body = body(alloc, parser, depth)?;
-    let declared = where_part(alloc, parser, depth)?;
-    let _ended = parser.expect(Keyword::Semicolon)?;
-    Ok(Process {
+    Ok(Begun {
         name,
         params,
         inputs: interface.inputs,
         outputs: interface.outputs,
         run_on,
         body,
-        locals: declared.groups,
-        inner: declared.processes,
     })
+}
+
+/// A process, whose contents stand inside so many constructs.
+#[cycle(process)]
+pub fn process(alloc: Global, parser: &mut Parser, depth: u32) -> Result<Process, Refusal>
+    ensures reads { IfOk result (λ process. Covers (IsModel both_limits (model_of process) depth) parser.old parser.new) }
+    ensures shorter { OnOk result (Shorter parser.old parser.new) }
+    ensures refuses { IfErr result (RefusedBy (InProcess depth) ContinuesNothing parser.old parser.new) }
+{
+    let begun = beginning(alloc, parser, depth)?;
+    let declared = where_part(alloc, parser, depth)?;
+    let _ended = parser.expect(Keyword::Semicolon)?;
+    Ok(whole(begun, declared))
 }
 
 /// What a process declares after `where`.
@@ -102,6 +124,22 @@ pub fn process(alloc: Global, parser: &mut Parser, depth: u32) -> Result<Process
 struct Locals {
     groups: Vec<Group>,
     processes: Vec<Process>,
+}
+
+/// A process from its beginning and what it declares.
+fn whole(begun: Begun, declared: Locals) -> Process
+    ensures { result ≡ roll-Process (record { name = begun.name; params = begun.params; inputs = begun.inputs; outputs = begun.outputs; run_on = begun.run_on; body = begun.body; locals = declared.groups; inner = declared.processes }) }
+{
+    Process {
+        name: begun.name,
+        params: begun.params,
+        inputs: begun.inputs,
+        outputs: begun.outputs,
+        run_on: begun.run_on,
+        body: begun.body,
+        locals: declared.groups,
+        inner: declared.processes,
+    }
 }
 
 /// What is declared after `where`, where that is next.

@@ -6,7 +6,7 @@ ghost use Rattle.sig_parse.specs.declared.refusal.Refusal.TheVariants.{OutOfMemo
 use std::alloc::{AllocError, AllocFailed};
 
 /// Why the parser does not pass the next token, or want of memory.
-#[derive(Clone, Copy, Debug, PartialEq, Eq)]
+#[derive(Clone, Copy)]
 pub enum Refusal {
     /// No sentence begins with the tokens up to it.
     Syntax,

@@ -10,7 +10,7 @@ ghost use Rattle.sig_tree.specs.Equations.{IsName, IsLeft, AreConstants, AreArgu
 ghost use Rattle.sig_tree.specs.Readings.{StopsBefore};
 ghost use Rattle.sig_tree.specs.Continuing.{ContinuesNothing, ContinuesOptional, ContinuesList, ContinuesDefinition};
 ghost use Rattle.sig_parse.specs.Ahead.{BeginsCall};
-ghost use Rattle.sig_parse.specs.Languages.{InLeft, InConstantList, InConstants, InArgumentList, InArguments, InRight};
+ghost use Rattle.sig_parse.specs.Languages.{InName, InConstant, InLeft, InConstantList, InConstants, InArgumentList, InArguments, InRight};
 ghost use Rattle.sig_parse.specs.Parts.{InNames};
 ghost use Rattle.sig_parse.specs.Refusals.{RefusedBy};
 ghost use Rattle.sig_parse.specs.Settling.{Settles, Closes};
@@ -19,12 +19,29 @@ ghost use Rattle.sig_parse.specs.Refusals.{IsOfText};
 
 use crate::ahead::begins_call;
 use crate::constant::constant;
-use crate::expression::expression;
+use crate::expression::{OneExpression, expression};
 use crate::keyword::Keyword;
 use crate::parser::{Parser, inside};
 use crate::refusal::Refusal;
+use crate::separated::{Part, separated};
 use sig_tree::{Constant, Expr, Name, Right};
 use std::alloc::Global;
+
+/// A name of several.
+#[derive(Clone, Copy)]
+struct OneName;
+
+impl Part for OneName {
+    type Tree = Name;
+
+    ghost reads_as = { λ _ name before after. Reads (IsName name) 0 before after };
+
+    ghost refuses_as = { λ _ why before after. RefusedBy InName ContinuesNothing before after why };
+
+    fn read(&self, alloc: Global, parser: &mut Parser) -> Result<Name, Refusal> {
+        parser.name(alloc)
+    }
+}
 
 /// Names with `,` between them.
 pub fn names(alloc: Global, parser: &mut Parser) -> Result<Vec<Name>, Refusal>
@@ -32,14 +49,7 @@ pub fn names(alloc: Global, parser: &mut Parser) -> Result<Vec<Name>, Refusal>
     ensures stops { OnOk result (StopsBefore (ContinuesList (mark (codes ",")) ContinuesNothing) parser.new.leaves) }
     ensures refuses { IfErr result (RefusedBy InNames (ContinuesList (mark (codes ",")) ContinuesNothing) parser.old parser.new) }
 {
-    let mut all = Vec::new(alloc);
-    all.push(parser.name(alloc)?)?;
-    loop {
-        let Some(_) = parser.take(Keyword::Comma) else {
-            return Ok(all);
-        };
-        all.push(parser.name(alloc)?)?;
-    }
+    separated(alloc, parser, &OneName, Keyword::Comma)
 }
 
 /// A name, or names in parentheses.
@@ -60,23 +70,32 @@ pub fn left_side(alloc: Global, parser: &mut Parser, depth: u32) -> Result<Vec<N
     }
 }
 
+/// A constant of several.
+#[derive(Clone, Copy)]
+struct OneConstant;
+
+impl Part for OneConstant {
+    type Tree = Constant;
+
+    ghost reads_as = { λ _ constant before after. Reads (IsConstant constant) 0 before after };
+
+    ghost refuses_as = { λ _ why before after. RefusedBy InConstant ContinuesNothing before after why };
+
+    fn read(&self, alloc: Global, parser: &mut Parser) -> Result<Constant, Refusal> {
+        constant(alloc, parser)
+    }
+}
+
 /// Constants with `,` between them, up to `}`.
 fn constant_list(alloc: Global, parser: &mut Parser) -> Result<Vec<Constant>, Refusal>
     ensures reads { IfOk result (λ constants. Reads (Listed IsConstant (mark (codes ",")) constants.items) 0 parser.old parser.new) }
     ensures closes { OnOk result (Closes InConstantList (mark (codes "}")) parser.old.leaves parser.new.leaves) }
     ensures refuses { IfErr result (RefusedBy InConstantList ContinuesNothing parser.old parser.new) }
 {
-    let mut all = Vec::new(alloc);
     if parser.is(Keyword::BraceClose) {
-        return Ok(all);
+        return Ok(Vec::new(alloc));
     }
-    all.push(constant(alloc, parser)?)?;
-    loop {
-        let Some(_) = parser.take(Keyword::Comma) else {
-            return Ok(all);
-        };
-        all.push(constant(alloc, parser)?)?;
-    }
+    separated(alloc, parser, &OneConstant, Keyword::Comma)
 }
 
 /// Constants in braces, where `{` is next.
@@ -100,17 +119,10 @@ fn argument_list(alloc: Global, parser: &mut Parser, depth: u32) -> Result<Vec<E
     ensures closes { OnOk result (parser.old.operators ≤ 512 → Closes (InArgumentList depth parser.old.operators) (mark (codes ")")) parser.old.leaves parser.new.leaves) }
     ensures refuses { IfErr result (λ why. parser.old.operators ≤ 512 → RefusedBy (InArgumentList depth parser.old.operators) ContinuesNothing parser.old parser.new why) }
 {
-    let mut all = Vec::new(alloc);
     if parser.is(Keyword::Close) {
-        return Ok(all);
+        return Ok(Vec::new(alloc));
     }
-    all.push(expression(alloc, parser, depth)?)?;
-    loop {
-        let Some(_) = parser.take(Keyword::Comma) else {
-            return Ok(all);
-        };
-        all.push(expression(alloc, parser, depth)?)?;
-    }
+    separated(alloc, parser, &OneExpression { depth }, Keyword::Comma)
 }
 
 /// Expressions in parentheses.

@@ -9,7 +9,8 @@ use Rattle.sig_parse.proofs.Relaying.{handed, since_refused}
 use Rattle.sig_parse.proofs.Outcomes.{on_ok}
 use Rattle.sig_parse.proofs.SettledBodies.{body_defined, body_equated, body_together}
 use Rattle.sig_parse.proofs.RefusedChoice.{body_from_definition, body_from_clock_equation}
-use Rattle.sig_parse.proofs.RefusedTogether.{together_deep, next_not_refused, together_inside, bodies_end, bodies_begun, bodies_more, bodies_first, bodies_over, bodies_next}
+use Rattle.sig_parse.proofs.RefusedTogether.{together_deep, together_inside, bodies_begun, bodies_more, bodies_first, bodies_over, bodies_next}
+use Rattle.sig_parse.proofs.ClosedRows.{next_not_refused, closes_next}
 use Rattle.sig_parse.proofs.Lists.{first_pushed}
 use Rattle.sig_parse.specs.State.{State}
 use Rattle.sig_parse.specs.Settling.{Closes}
@@ -52,12 +53,12 @@ pub together-returns-in_err-_closed-clause-refuses : goal.together-returns-in_er
 together-returns-in_err-_closed-clause-refuses t c = handed _ _ _ c.from_residual-in_err-_closed.ensures (λ text. together_inside c.args.depth c.in_ok-inner.inner c.in_ok-inner.ensures.deeper c.in_ok-_opened._opened (covered c.in_ok-_opened.ensures.reads) (c.in_ok-all.ensures.closes _ _ (c.in_err-_closed.ensures.refuses text)))
 
 pub bodies-returns-then-is-clause-closes : goal.bodies-returns-then-is-clause-closes
-bodies-returns-then-is-clause-closes t c = bodies_end c.args.depth c.if-is.ensures
+bodies-returns-then-is-clause-closes t c = closes_next (InBodies c.args.depth) (mark (codes "|)")) c.if-is.ensures
 
 pub bodies-loop-all-init : goal.bodies-loop-all-init
 bodies-loop-all-init t c = (
   first_item equations_of (λ body leaves. IsBody both_limits body c.args.depth leaves) (mark (codes "|")) _ c.in_ok-body.field-0 (first_pushed c.new-all.ensures.items c.in_ok-push.ensures.items) c.in_ok-body.ensures.reads,
-  bodies_begun c.args.depth (equations_of c.in_ok-body.field-0) c.if-is.ensures c.in_ok-body.ensures.reads c.in_ok-body.ensures.settles,
+  bodies_begun c.args.depth (equations_of c.in_ok-body.field-0) c.in_ok-body.ensures.reads c.in_ok-body.ensures.settles,
 )
 
 pub bodies-loop-all-preserved : goal.bodies-loop-all-preserved
@@ -70,10 +71,10 @@ pub bodies-returns-in_err-body-clause-refuses : goal.bodies-returns-in_err-body-
 bodies-returns-in_err-body-clause-refuses t c = handed _ _ _ c.from_residual.ensures (λ text. bodies_first c.args.depth c.if-is.ensures (c.in_err-body.ensures.refuses text))
 
 pub bodies-returns-in_default-clause-closes : goal.bodies-returns-in_default-clause-closes
-bodies-returns-in_default-clause-closes t c = subst (λ (x : State). Closes (InBodies c.args.depth) (mark (codes "|)")) c.args.parser.now.leaves x.leaves) (sym c.in_default.ensures.0) (bodies_over c.args.depth c.loop-all.invariant.1 c.in_default.ensures.1)
+bodies-returns-in_default-clause-closes t c = subst (λ (x : State). Closes (InBodies c.args.depth) (mark (codes "|)")) c.args.parser.now.leaves x.leaves) (sym c.in_default.ensures.0) (bodies_over c.args.depth c.if-is.ensures c.loop-all.invariant.1 c.in_default.ensures.1)
 
 pub bodies-returns-in_err-body-2-clause-refuses : goal.bodies-returns-in_err-body-2-clause-refuses
-bodies-returns-in_err-body-2-clause-refuses t c = handed _ _ _ c.from_residual-in_err-body-2.ensures (λ text. bodies_next c.args.depth c.in-Some.field-0 c.loop-all.invariant.1 (covered c.in-Some.ensures.0) (c.in_err-body-2.ensures.refuses text))
+bodies-returns-in_err-body-2-clause-refuses t c = handed _ _ _ c.from_residual-in_err-body-2.ensures (λ text. bodies_next c.args.depth c.in-Some.field-0 c.loop-all.invariant.1 (covered c.in-Some.ensures.0) c.if-is.ensures (c.in_err-body-2.ensures.refuses text))
 
 pub together-returns-clause-settles : goal.together-returns-clause-settles
 together-returns-clause-settles t c = body_together c.args.depth (equations_of (All c.in_ok-all.all)) c.requires.opens (together c.in_ok-all.all c.args.depth c.in_ok-inner.inner c.in_ok-_opened._opened c.in_ok-_closed._closed c.in_ok-inner.ensures.deeper.0 c.in_ok-inner.ensures.deeper.1 (covered c.in_ok-_opened.ensures.reads) c.in_ok-all.ensures.reads (covered c.in_ok-_closed.ensures.reads))

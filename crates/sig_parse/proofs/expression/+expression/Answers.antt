@@ -3,9 +3,10 @@ use Rattle.std.proofs.lemmas.Result.{IfOk-weaker}
 use denote.Enum.Bare.{same_false, same_true}
 use Rattle.sig_tree.specs.Syntax.{expression_of}
 use Rattle.sig_parse.specs.contracts.operator.Level.{the_type}
-use Rattle.sig_parse.proofs.Steps.{whole, step, again, step_shorter, ends_at, begins_at, at_binary, at_cell, at_delay, enclosed, prefixed, of_tighter}
+use Rattle.sig_parse.proofs.Steps.{whole, step, again, step_shorter, ends_at, begins_at, at_binary, at_cell, enclosed, prefixed, of_tighter}
 use Rattle.sig_tree.specs.Levels.{mixed_level, delay_level}
 use Rattle.sig_parse.specs.Operators.{level_number, ContinuesStep, IsOperatorOf}
+use Rattle.sig_parse.proofs.Outcomes.{on_ok, ok_since, on_each_ok}
 use Rattle.sig_parse.proofs.Relaying.{handed, since_refused, since_both}
 use Rattle.sig_tree.specs.Readings.{StopsBefore}
 use Rattle.sig_parse.specs.declared.operator.Level.TheVariants.{Relation}
@@ -13,7 +14,7 @@ use Rattle.sig_parse.specs.declared.operator.Infix.TheVariants.{Cell, Delay as D
 use Rattle.sig_parse.proofs.Lifting.{wrong, wrong_here, deep_here, too_many, same_after, stops_again, one_more}
 use Rattle.sig_parse.proofs.OperatorLemmas.{level_ends}
 use Rattle.sig_parse.proofs.RefusedLevels.{level_from_operand}
-use Rattle.sig_parse.proofs.RefusedExpressions.{binary_stops, binary_reads, cell_reads, delay_reads, binary_lifts, held_lifts, init_lifts, cell_wrong, delay_lifts, delay_wrong, step_stops, prefix_here, prefix_lifts, prefix_stops, prefixed_operand, tighter_reads, tighter_refuses, primary_refuses, no_atom_here, opening_too_deep, starts_and_stops, inside_lifts, closing_lifts, parenthesised_operand, atom_operand, behind_operand, behind_more, behind_operator, tighter_wrong, relation_wrong, too_many_here, any_number, at_most_one, within_levels}
+use Rattle.sig_parse.proofs.RefusedExpressions.{binary_stops, binary_reads, cell_reads, binary_lifts, held_lifts, cell_refuses, completes_as, completes_at, step_at, delay_refuses, step_stops, prefix_here, prefix_lifts, prefix_stops, prefixed_operand, tighter_reads, tighter_refuses, primary_refuses, no_atom_here, opening_too_deep, starts_and_stops, inside_lifts, closing_lifts, parenthesised_operand, atom_operand, behind_operand, behind_more, behind_operator, tighter_wrong, relation_wrong, too_many_here, any_number, at_most_one, within_levels}
 use Rattle.sig_parse.proofs.expression.+expression.Goals as goal
 
 pub at_level-returns-in_default-clause-reads : goal.at_level-returns-in_default-clause-reads
@@ -37,18 +38,6 @@ at_level-loop-left-preserved t c =
     let stops = subst (λ (n : ℕ). StopsBefore (ContinuesStep n) c.completed.new.parser.leaves) own c.in_ok-left-2.ensures.stops in
     record { reads = reads; shorter = shorter; taken = suc before.taken; many = any_number c.args.level (suc (suc before.taken)) other; lifts = lifts; stops = stops }
 
-pub completed-returns-in_ok-new-in-Binary-clause-completes : goal.completed-returns-in_ok-new-in-Binary-clause-completes
-completed-returns-in_ok-new-in-Binary-clause-completes t c = at_binary c.args.op c.in-Binary.op (expression_of c.args.left) _ (expression_of c.in_ok-right-in-Binary.right) _ c.args.at _ c.args.depth
-    c.in-Binary.is (ap expression_of c.in_ok-left-in-Binary.ensures.ok) (ap expression_of c.in_ok-new-in-Binary.ensures.ok) c.right_level.ensures c.in_ok-right-in-Binary.ensures.reads
-
-pub completed-returns-in_ok-new-in-Cell-clause-completes : goal.completed-returns-in_ok-new-in-Cell-clause-completes
-completed-returns-in_ok-new-in-Cell-clause-completes t c = at_cell c.args.op (expression_of c.args.left) _ (expression_of c.in_ok-held-in-Cell.held) _ c.in_ok-constant-in-Cell.constant c.args.at c.args.depth
-    c.in-Cell.is (ap expression_of c.in_ok-left-in-Cell.ensures.ok) (ap expression_of c.in_ok-new-in-Cell.ensures.ok) c.in_ok-held-in-Cell.ensures.reads c.in_ok-constant-in-Cell.ensures.reads
-
-pub completed-returns-in_ok-new-in-Delay-clause-completes : goal.completed-returns-in_ok-new-in-Delay-clause-completes
-completed-returns-in_ok-new-in-Delay-clause-completes t c = at_delay c.args.op (expression_of c.args.left) _ c.in_ok-constant-in-Delay.constant c.args.at c.args.depth
-    c.in-Delay.is (ap expression_of c.in_ok-new-in-Delay.ensures.ok) c.take_one.ensures.reads c.in_ok-constant-in-Delay.ensures.reads
-
 pub enclosed-returns-clause-reads : goal.enclosed-returns-clause-reads
 enclosed-returns-clause-reads t c = enclosed (expression_of c.in_ok-e.e) _ c.args.depth c.in_ok-inner.inner _ _ _ c.in_ok-inner.ensures.deeper.0 c.in_ok-inner.ensures.deeper.1
     c.in_ok-expect.ensures.reads c.in_ok-e.ensures.reads c.in_ok-expect-2.ensures.reads
@@ -60,51 +49,6 @@ operand-returns-in-Some-clause-reads t c = let f = rw c.in-Some.is at c.in_ok-op
 pub operand-returns-in-Some-tighter-clause-reads : goal.operand-returns-in-Some-tighter-clause-reads
 operand-returns-in-Some-tighter-clause-reads t c = IfOk-weaker c.at_level-in-Some-tighter.result _ _
     (λ e r. let none = rw c.in_default.is at c.in_ok-op.ensures.reads in begins_at none.0 (of_tighter c.args.level c.in-Some-tighter.next c.args.depth (expression_of e) c.in-Some-tighter.ensures r)) c.at_level-in-Some-tighter.ensures.reads
-
-pub completed-returns-in_ok-new-in-Binary-clause-step : goal.completed-returns-in_ok-new-in-Binary-clause-step
-completed-returns-in_ok-new-in-Binary-clause-step t c = binary_reads c.args.op c.in-Binary.op c.args.at _ c.args.depth (expression_of c.in_ok-right-in-Binary.right) c.in-Binary.is c.right_level.ensures c.in_ok-right-in-Binary.ensures.reads
-
-pub completed-returns-in_ok-new-in-Binary-clause-stops : goal.completed-returns-in_ok-new-in-Binary-clause-stops
-completed-returns-in_ok-new-in-Binary-clause-stops t c = binary_stops c.args.op c.in-Binary.op _ _ c.in-Binary.is c.right_level.ensures c.in_ok-right-in-Binary.ensures.stops
-
-pub completed-returns-in_ok-new-in-Cell-clause-step : goal.completed-returns-in_ok-new-in-Cell-clause-step
-completed-returns-in_ok-new-in-Cell-clause-step t c = cell_reads c.args.op c.args.at c.args.depth (expression_of c.in_ok-held-in-Cell.held) c.in_ok-constant-in-Cell.constant c.in-Cell.is c.in_ok-held-in-Cell.ensures.reads c.in_ok-constant-in-Cell.ensures.reads
-
-pub completed-returns-in_ok-new-in-Delay-clause-step : goal.completed-returns-in_ok-new-in-Delay-clause-step
-completed-returns-in_ok-new-in-Delay-clause-step t c = delay_reads c.args.op c.args.at c.args.depth c.in_ok-constant-in-Delay.constant c.in-Delay.is c.take_one.ensures.reads c.in_ok-constant-in-Delay.ensures.reads
-
-pub completed-returns-in_ok-new-in-Cell-clause-stops : goal.completed-returns-in_ok-new-in-Cell-clause-stops
-completed-returns-in_ok-new-in-Cell-clause-stops t c = step_stops c.args.op Cell mixed_level _ c.in-Cell.is refl c.in_ok-nothing_tighter-in-Cell.ensures.stops
-
-pub completed-returns-in_ok-new-in-Delay-clause-stops : goal.completed-returns-in_ok-new-in-Delay-clause-stops
-completed-returns-in_ok-new-in-Delay-clause-stops t c = step_stops c.args.op DelayOp delay_level _ c.in-Delay.is refl c.in_ok-nothing_tighter-in-Delay.ensures.stops
-
-pub completed-returns-in_err-right-in-Binary-clause-refuses : goal.completed-returns-in_err-right-in-Binary-clause-refuses
-completed-returns-in_err-right-in-Binary-clause-refuses t c = handed _ _ _ c.from_residual.ensures (λ used counts few text.
-    binary_lifts c.args.op c.in-Binary.op c.args.at _ c.args.depth used _ _ c.in-Binary.is c.right_level.ensures counts _ _ (c.in_err-right-in-Binary.ensures.refuses few text))
-
-pub completed-returns-in_err-held-in-Cell-clause-refuses : goal.completed-returns-in_err-held-in-Cell-clause-refuses
-completed-returns-in_err-held-in-Cell-clause-refuses t c = handed _ _ _ c.from_residual-in_err-held-in-Cell.ensures (λ used counts few text.
-    held_lifts c.args.op c.args.at c.args.depth used _ _ c.in-Cell.is counts _ _ (c.in_err-held-in-Cell.ensures.refuses few text))
-
-pub completed-returns-in_err-constant-in-Cell-clause-refuses : goal.completed-returns-in_err-constant-in-Cell-clause-refuses
-completed-returns-in_err-constant-in-Cell-clause-refuses t c = handed _ _ _ c.from_residual-in_err-constant-in-Cell.ensures (λ used counts few text.
-    init_lifts c.args.op c.args.at c.args.depth used (expression_of c.in_ok-held-in-Cell.held) c.in-Cell.is counts few c.in_ok-held-in-Cell.ensures.reads _ _ (c.in_err-constant-in-Cell.ensures.refuses text))
-
-pub completed-returns-in_err-constant-in-Delay-clause-refuses : goal.completed-returns-in_err-constant-in-Delay-clause-refuses
-completed-returns-in_err-constant-in-Delay-clause-refuses t c = handed _ _ _ c.from_residual-in_err-constant-in-Delay.ensures (λ used counts few text.
-    delay_lifts c.args.op c.args.at c.args.depth used c.in-Delay.is counts few c.take_one.ensures.reads c.take_one.ensures.settles _ _ (c.in_err-constant-in-Delay.ensures.refuses text))
-
-pub completed-returns-in_err-nothing_tighter-in-Cell-clause-refuses : goal.completed-returns-in_err-nothing_tighter-in-Cell-clause-refuses
-completed-returns-in_err-nothing_tighter-in-Cell-clause-refuses t c = handed _ _ _ c.from_residual-in_err-nothing_tighter-in-Cell.ensures (λ used counts few text.
-    wrong c.in_err-nothing_tighter-in-Cell.field-0.0 c.in_err-nothing_tighter-in-Cell.ensures.refused.0
-    (cell_wrong c.args.op c.args.at c.args.depth used (expression_of c.in_ok-held-in-Cell.held) c.in_ok-constant-in-Cell.constant c.in-Cell.is counts few c.in_ok-held-in-Cell.ensures.reads c.in_ok-constant-in-Cell.ensures.reads c.in_err-nothing_tighter-in-Cell.ensures.refused.1))
-
-pub completed-returns-in_err-nothing_tighter-in-Delay-clause-refuses : goal.completed-returns-in_err-nothing_tighter-in-Delay-clause-refuses
-completed-returns-in_err-nothing_tighter-in-Delay-clause-refuses t c = handed _ _ _ c.from_residual-in_err-nothing_tighter-in-Delay.ensures (λ used counts few text.
-    wrong c.in_err-nothing_tighter-in-Delay.field-0.0 c.in_err-nothing_tighter-in-Delay.ensures.refused.0
-    (delay_wrong c.args.op c.args.at c.args.depth used c.in_ok-constant-in-Delay.constant c.in-Delay.is counts few c.take_one.ensures.reads c.take_one.ensures.settles
-    c.in_ok-constant-in-Delay.ensures.reads c.in_ok-constant-in-Delay.ensures.settles c.in_err-nothing_tighter-in-Delay.ensures.refused.1))
 
 pub operand-returns-in_err-op-clause-refuses : goal.operand-returns-in_err-op-clause-refuses
 operand-returns-in_err-op-clause-refuses t c = handed _ _ _ c.from_residual.ensures (λ few text.
@@ -221,3 +165,55 @@ at_level-returns-then-eq-clause-stops t c =
     let relation = ap level_number is_relation in
     level_ends (level_number c.args.level) _ (subst (λ (n : ℕ). StopsBefore (ContinuesStep n) c.completed.new.parser.leaves) f.0.level_is c.in_ok-left-2.ensures.stops)
     (subst (λ (n : ℕ). StopsBefore (IsOperatorOf n) c.completed.new.parser.leaves) (sym relation) c.in_ok-no_relation.ensures.stops)
+
+pub completed-returns-in_err-right-in-Binary-clause-refuses : goal.completed-returns-in_err-right-in-Binary-clause-refuses
+completed-returns-in_err-right-in-Binary-clause-refuses t c = handed _ _ _ c.from_residual.ensures (λ used counts few text.
+    binary_lifts c.args.op c.in-Binary.op c.args.at _ c.args.depth used _ _ c.in-Binary.is c.right_level.ensures counts _ _ (c.in_err-right-in-Binary.ensures.refuses few text))
+
+pub completed-returns-in_ok-right-in-Binary-clause-completes : goal.completed-returns-in_ok-right-in-Binary-clause-completes
+completed-returns-in_ok-right-in-Binary-clause-completes t c = IfOk-weaker c.joined.result _ _ (λ e value.
+    completes_as c.args.depth (expression_of c.args.left) c.args.op c.args.at _ (expression_of e) value
+    (at_binary c.args.op c.in-Binary.op (expression_of c.args.left) _ (expression_of c.in_ok-right-in-Binary.right) _ c.args.at _ c.args.depth c.in-Binary.is refl refl c.right_level.ensures c.in_ok-right-in-Binary.ensures.reads)) c.joined.ensures.value
+
+pub completed-returns-in_ok-right-in-Binary-clause-step : goal.completed-returns-in_ok-right-in-Binary-clause-step
+completed-returns-in_ok-right-in-Binary-clause-step t c = on_each_ok c.joined.result (binary_reads c.args.op c.in-Binary.op c.args.at _ c.args.depth (expression_of c.in_ok-right-in-Binary.right) c.in-Binary.is c.right_level.ensures c.in_ok-right-in-Binary.ensures.reads)
+
+pub completed-returns-in_ok-right-in-Binary-clause-stops : goal.completed-returns-in_ok-right-in-Binary-clause-stops
+completed-returns-in_ok-right-in-Binary-clause-stops t c = on_each_ok c.joined.result (binary_stops c.args.op c.in-Binary.op _ _ c.in-Binary.is c.right_level.ensures c.in_ok-right-in-Binary.ensures.stops)
+
+pub completed-returns-in_ok-right-in-Binary-clause-refuses : goal.completed-returns-in_ok-right-in-Binary-clause-refuses
+completed-returns-in_ok-right-in-Binary-clause-refuses t c = since_refused _ _ c.joined.result c.joined.ensures.wanting (λ why memory used counts few text. absurd (text memory))
+
+pub completed-returns-in_err-held-in-Cell-clause-refuses : goal.completed-returns-in_err-held-in-Cell-clause-refuses
+completed-returns-in_err-held-in-Cell-clause-refuses t c = handed _ _ _ c.from_residual-in_err-held-in-Cell.ensures (λ used counts few text.
+    held_lifts c.args.op c.args.at c.args.depth used _ _ c.in-Cell.is counts _ _ (c.in_err-held-in-Cell.ensures.refuses few text))
+
+pub completed-returns-in_ok-held-in-Cell-clause-completes : goal.completed-returns-in_ok-held-in-Cell-clause-completes
+completed-returns-in_ok-held-in-Cell-clause-completes t c = IfOk-weaker c.cell.result _ _ (λ e found.
+    completes_as c.args.depth (expression_of c.args.left) c.args.op c.args.at _ (expression_of e) found.1
+    (at_cell c.args.op (expression_of c.args.left) _ (expression_of c.in_ok-held-in-Cell.held) _ found.0 c.args.at c.args.depth c.in-Cell.is refl refl c.in_ok-held-in-Cell.ensures.reads found.2)) c.cell.ensures.reads
+
+pub completed-returns-in_ok-held-in-Cell-clause-step : goal.completed-returns-in_ok-held-in-Cell-clause-step
+completed-returns-in_ok-held-in-Cell-clause-step t c = ok_since _ c.cell.result c.cell.ensures.reads (λ e found. cell_reads c.args.op c.args.at c.args.depth (expression_of c.in_ok-held-in-Cell.held) found.0 c.in-Cell.is c.in_ok-held-in-Cell.ensures.reads found.2)
+
+pub completed-returns-in_ok-held-in-Cell-clause-stops : goal.completed-returns-in_ok-held-in-Cell-clause-stops
+completed-returns-in_ok-held-in-Cell-clause-stops t c = on_ok _ c.cell.result c.cell.ensures.reads c.cell.ensures.stops (λ e found stops. step_stops c.args.op Cell mixed_level _ c.in-Cell.is refl stops)
+
+pub completed-returns-in_ok-held-in-Cell-clause-refuses : goal.completed-returns-in_ok-held-in-Cell-clause-refuses
+completed-returns-in_ok-held-in-Cell-clause-refuses t c = since_refused _ _ c.cell.result c.cell.ensures.refuses (λ why r used counts few text.
+    cell_refuses c.args.op c.args.at c.args.depth used (expression_of c.in_ok-held-in-Cell.held) c.in-Cell.is counts few c.in_ok-held-in-Cell.ensures.reads why (r text))
+
+pub completed-returns-in-Delay-clause-completes : goal.completed-returns-in-Delay-clause-completes
+completed-returns-in-Delay-clause-completes t c = IfOk-weaker c.delay.result _ _
+    (λ e all. completes_at c.args.depth (expression_of c.args.left) c.args.op DelayOp c.args.at (expression_of e) c.in-Delay.is (all c.args.depth)) c.delay.ensures.completes
+
+pub completed-returns-in-Delay-clause-step : goal.completed-returns-in-Delay-clause-step
+completed-returns-in-Delay-clause-step t c = on_ok _ c.delay.result c.delay.ensures.completes c.delay.ensures.step
+    (λ e all step. step_at c.args.depth c.args.op DelayOp c.args.at c.in-Delay.is (step c.args.depth))
+
+pub completed-returns-in-Delay-clause-stops : goal.completed-returns-in-Delay-clause-stops
+completed-returns-in-Delay-clause-stops t c = on_ok _ c.delay.result c.delay.ensures.completes c.delay.ensures.stops (λ e all stops. step_stops c.args.op DelayOp delay_level _ c.in-Delay.is refl stops)
+
+pub completed-returns-in-Delay-clause-refuses : goal.completed-returns-in-Delay-clause-refuses
+completed-returns-in-Delay-clause-refuses t c = since_refused _ _ c.delay.result c.delay.ensures.refuses (λ why r used counts few text.
+    delay_refuses c.args.op c.args.at c.args.depth used c.in-Delay.is (r c.args.depth used counts few text))

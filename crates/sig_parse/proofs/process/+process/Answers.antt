@@ -1,18 +1,41 @@
-use Rattle.std.proofs.Common.{codes, map, inr, subst, sym}
+use Rattle.std.proofs.Common.{codes, map, inr, subst, sym, arith}
 use Rattle.sig_tree.specs.Terminals.{word}
-use Rattle.sig_tree.specs.Syntax.{declared_of, model_of, equations_of, placement_of}
+use Rattle.sig_tree.specs.Syntax.{declared_of, model_of}
 use Rattle.sig_parse.specs.Declarations.{AreDeclared, AreBehindWhere}
-use Rattle.sig_parse.proofs.Covering.{covered, seen_as, between_marks}
-use Rattle.sig_parse.proofs.ProcessLemmas.{ended, one_group_more, one_process_more, in_parts, whole, nothing_begun}
+use Rattle.sig_parse.proofs.Covering.{covered, no_more, seen_as, between_marks}
+use Rattle.sig_parse.proofs.ProcessLemmas.{ended, one_group_more, one_process_more, in_parts, whole, modelled, nothing_begun}
 use Rattle.sig_parse.proofs.Relaying.{handed, since_refused}
+use Rattle.sig_parse.proofs.ClosedRows.{closes_next}
 use Rattle.sig_parse.proofs.Leading.{leads_on, leads_refuses, leads_nowhere}
 use Rattle.sig_parse.specs.Parts.{InDeclared, InWhere}
 use Rattle.sig_tree.specs.Continuing.{ContinuesNothing, ContinuesOptional}
-use Rattle.sig_parse.proofs.RefusedModels.{process_title, process_params, process_interface, process_pragmas, process_body, process_where, process_end, inner_too_deep, inner_refused}
-use Rattle.sig_parse.proofs.RefusedProcesses.{declared_ends, declared_group, group_declared, process_declared, where_missing, where_inside, where_settled}
+use Rattle.sig_parse.proofs.RefusedModels.{process_where, process_end, inner_too_deep, inner_refused}
+use Rattle.sig_parse.proofs.RefusedProcesses.{declared_group, group_declared, process_declared, where_missing, where_inside, where_settled}
 use Rattle.sig_parse.specs.State.{State}
 use Rattle.sig_parse.specs.Settling.{Settles}
 use Rattle.sig_parse.proofs.process.+process.Goals as goal
+
+pub process-returns-clause-reads : goal.process-returns-clause-reads
+process-returns-clause-reads t c = let b = c.in_ok-begun.ensures.reads in
+    modelled c.args.depth _ c.whole.result c.whole.ensures
+    (whole c.args.depth c.in_ok-begun.begun.name c.in_ok-begun.begun.params c.in_ok-begun.begun.inputs c.in_ok-begun.begun.outputs c.in_ok-begun.begun.run_on c.in_ok-begun.begun.body
+    c.in_ok-declared.declared.groups c.in_ok-declared.declared.processes c.in_ok-_ended._ended
+    (in_parts c.args.depth c.in_ok-begun.begun.name _ _ _ _ _ _ _ c.in_ok-_ended._ended b.title b.params_are b.interface b.pragmas_are b.body_is c.in_ok-declared.ensures.reads (covered c.in_ok-_ended.ensures.reads)))
+
+pub process-returns-clause-shorter : goal.process-returns-clause-shorter
+process-returns-clause-shorter t c = omega (arith, c.in_ok-begun.ensures.shorter, no_more c.in_ok-declared.ensures.reads, c.in_ok-_ended.ensures.shorter)
+
+pub process-returns-in_err-begun-clause-refuses : goal.process-returns-in_err-begun-clause-refuses
+process-returns-in_err-begun-clause-refuses t c = handed _ _ _ c.from_residual.ensures c.in_err-begun.ensures.refuses
+
+pub process-returns-in_err-declared-clause-refuses : goal.process-returns-in_err-declared-clause-refuses
+process-returns-in_err-declared-clause-refuses t c = let b = c.in_ok-begun.ensures.reads in
+    handed _ _ _ c.from_residual-in_err-declared.ensures (λ text. process_where c.args.depth c.in_ok-begun.begun.name b.title _ b.params_are b.params_settled _ _ b.interface _ b.pragmas_are b.pragmas_settled _ b.body_is b.body_settled (c.in_err-declared.ensures.refuses text))
+
+pub process-returns-in_err-_ended-clause-refuses : goal.process-returns-in_err-_ended-clause-refuses
+process-returns-in_err-_ended-clause-refuses t c = let b = c.in_ok-begun.ensures.reads in
+    handed _ _ _ c.from_residual-in_err-_ended.ensures (λ text. process_end c.args.depth c.in_ok-begun.begun.name b.title _ b.params_are b.params_settled _ _ b.interface _ b.pragmas_are b.pragmas_settled _ b.body_is b.body_settled
+    (map model_of c.in_ok-declared.declared.processes.items) (map declared_of c.in_ok-declared.declared.groups.items) c.in_ok-declared.ensures.reads c.in_ok-declared.ensures.settles (c.in_err-_ended.ensures.refuses text))
 
 pub where_part-returns-clause-reads : goal.where_part-returns-clause-reads
 where_part-returns-clause-reads t c =
@@ -24,33 +47,6 @@ where_part-returns-clause-reads t c =
 
 pub entries-returns-then-is-clause-reads : goal.entries-returns-then-is-clause-reads
 entries-returns-then-is-clause-reads t c = ended c.args.depth (map model_of c.loop-alloc.processes.items) (map declared_of c.loop-alloc.groups.items) c.loop-alloc.invariant.0
-
-pub process-returns-clause-reads : goal.process-returns-clause-reads
-process-returns-clause-reads t c = whole c.args.depth c.in_ok-name.name c.in_ok-params.params c.in_ok-interface.interface.inputs c.in_ok-interface.interface.outputs c.in_ok-run_on.run_on c.in_ok-body.body
-    c.in_ok-declared.declared.groups c.in_ok-declared.declared.processes c.in_ok-_ended._ended
-    (in_parts c.args.depth c.in_ok-name.name _ _ _ _ _ _ _ c.in_ok-_ended._ended (covered c.in_ok-name.ensures.reads) (covered c.in_ok-params.ensures.reads) (covered c.in_ok-interface.ensures.reads)
-    (covered c.in_ok-run_on.ensures.reads) c.in_ok-body.ensures.reads c.in_ok-declared.ensures.reads (covered c.in_ok-_ended.ensures.reads))
-
-pub process-returns-in_err-name-clause-refuses : goal.process-returns-in_err-name-clause-refuses
-process-returns-in_err-name-clause-refuses t c = handed _ _ _ c.from_residual.ensures (λ text. process_title c.args.depth (c.in_err-name.ensures.refuses text))
-
-pub process-returns-in_err-params-clause-refuses : goal.process-returns-in_err-params-clause-refuses
-process-returns-in_err-params-clause-refuses t c = handed _ _ _ c.from_residual-in_err-params.ensures (λ text. process_params c.args.depth c.in_ok-name.name (covered c.in_ok-name.ensures.reads) (c.in_err-params.ensures.refuses text))
-
-pub process-returns-in_err-interface-clause-refuses : goal.process-returns-in_err-interface-clause-refuses
-process-returns-in_err-interface-clause-refuses t c = handed _ _ _ c.from_residual-in_err-interface.ensures (λ text. process_interface c.args.depth c.in_ok-name.name (covered c.in_ok-name.ensures.reads) (map declared_of c.in_ok-params.params.items) (covered c.in_ok-params.ensures.reads) c.in_ok-params.ensures.settles (c.in_err-interface.ensures.refuses text))
-
-pub process-returns-in_err-run_on-clause-refuses : goal.process-returns-in_err-run_on-clause-refuses
-process-returns-in_err-run_on-clause-refuses t c = handed _ _ _ c.from_residual-in_err-run_on.ensures (λ text. process_pragmas c.args.depth c.in_ok-name.name (covered c.in_ok-name.ensures.reads) (map declared_of c.in_ok-params.params.items) (covered c.in_ok-params.ensures.reads) c.in_ok-params.ensures.settles (map declared_of c.in_ok-interface.interface.inputs.items) (map declared_of c.in_ok-interface.interface.outputs.items) (covered c.in_ok-interface.ensures.reads) (c.in_err-run_on.ensures.refuses text))
-
-pub process-returns-in_err-body-clause-refuses : goal.process-returns-in_err-body-clause-refuses
-process-returns-in_err-body-clause-refuses t c = handed _ _ _ c.from_residual-in_err-body.ensures (λ text. process_body c.args.depth c.in_ok-name.name (covered c.in_ok-name.ensures.reads) (map declared_of c.in_ok-params.params.items) (covered c.in_ok-params.ensures.reads) c.in_ok-params.ensures.settles (map declared_of c.in_ok-interface.interface.inputs.items) (map declared_of c.in_ok-interface.interface.outputs.items) (covered c.in_ok-interface.ensures.reads) (map placement_of c.in_ok-run_on.run_on.items) (covered c.in_ok-run_on.ensures.reads) c.in_ok-run_on.ensures.settles (c.in_err-body.ensures.refuses text))
-
-pub process-returns-in_err-declared-clause-refuses : goal.process-returns-in_err-declared-clause-refuses
-process-returns-in_err-declared-clause-refuses t c = handed _ _ _ c.from_residual-in_err-declared.ensures (λ text. process_where c.args.depth c.in_ok-name.name (covered c.in_ok-name.ensures.reads) (map declared_of c.in_ok-params.params.items) (covered c.in_ok-params.ensures.reads) c.in_ok-params.ensures.settles (map declared_of c.in_ok-interface.interface.inputs.items) (map declared_of c.in_ok-interface.interface.outputs.items) (covered c.in_ok-interface.ensures.reads) (map placement_of c.in_ok-run_on.run_on.items) (covered c.in_ok-run_on.ensures.reads) c.in_ok-run_on.ensures.settles (equations_of c.in_ok-body.body) c.in_ok-body.ensures.reads c.in_ok-body.ensures.settles (c.in_err-declared.ensures.refuses text))
-
-pub process-returns-in_err-_ended-clause-refuses : goal.process-returns-in_err-_ended-clause-refuses
-process-returns-in_err-_ended-clause-refuses t c = handed _ _ _ c.from_residual-in_err-_ended.ensures (λ text. process_end c.args.depth c.in_ok-name.name (covered c.in_ok-name.ensures.reads) (map declared_of c.in_ok-params.params.items) (covered c.in_ok-params.ensures.reads) c.in_ok-params.ensures.settles (map declared_of c.in_ok-interface.interface.inputs.items) (map declared_of c.in_ok-interface.interface.outputs.items) (covered c.in_ok-interface.ensures.reads) (map placement_of c.in_ok-run_on.run_on.items) (covered c.in_ok-run_on.ensures.reads) c.in_ok-run_on.ensures.settles (equations_of c.in_ok-body.body) c.in_ok-body.ensures.reads c.in_ok-body.ensures.settles (map model_of c.in_ok-declared.declared.processes.items) (map declared_of c.in_ok-declared.declared.groups.items) c.in_ok-declared.ensures.reads c.in_ok-declared.ensures.settles (c.in_err-_ended.ensures.refuses text))
 
 pub where_part-returns-in_default-clause-settles : goal.where_part-returns-in_default-clause-settles
 where_part-returns-in_default-clause-settles t c = subst (λ (x : State). Settles (InWhere c.args.depth) (ContinuesOptional (word (codes "where"))) c.args.parser.now.leaves x.leaves) (sym c.in_default.ensures.0) (where_missing c.args.depth c.in_default.ensures.1)
@@ -77,7 +73,7 @@ entries-loop-alloc-preserved t c = (
 )
 
 pub entries-returns-then-is-clause-closes : goal.entries-returns-then-is-clause-closes
-entries-returns-then-is-clause-closes t c = λ cause stopped r. leads_refuses c.loop-alloc.invariant.1 (declared_ends c.args.depth c.if-is.ensures cause stopped r)
+entries-returns-then-is-clause-closes t c = λ cause stopped r. leads_refuses c.loop-alloc.invariant.1 (closes_next (InDeclared c.args.depth) (word (codes "end")) c.if-is.ensures cause stopped r)
 
 pub entries-returns-in_err-inner_process-clause-refuses : goal.entries-returns-in_err-inner_process-clause-refuses
 entries-returns-in_err-inner_process-clause-refuses t c = handed _ _ _ c.from_residual.ensures (λ text. leads_refuses c.loop-alloc.invariant.1 (c.in_err-inner_process.ensures.refuses text))

@@ -1,0 +1,10 @@
+use Rattle.std.proofs.Common.{length}
+use Rattle.sig_parse.specs.Keywords.{terminal_of}
+use Rattle.sig_parse.specs.Repeats.{ReadsParts}
+use Rattle.sig_parse.proofs.separated.separated.Given as goal
+
+abbrev pub decreases-loop-all : goal.decreases-loop-all
+decreases-loop-all g l = length l.parser.leaves
+
+abbrev pub invariant-loop-all : goal.invariant-loop-all
+invariant-loop-all g l = ReadsParts (g.P.Part.reads_as l.part) (terminal_of l.separator) l.all.items l.fn.parser l.parser
