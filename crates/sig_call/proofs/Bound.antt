@@ -5,8 +5,8 @@ use Rattle.std.proofs.lemmas.List.{drop_all, append-nil}
 use Rattle.sig_tree.specs.Syntax.{ProcessModel}
 use Rattle.sig_tree.specs.Declarations.{Declaration, params_of, inputs_of, outputs_of, locals_of}
 use Rattle.sig_tree.specs.FlatBody.{Binding as BoundTo, BoundSignal, bound_constants, bound_from, signals_declared}
-use Rattle.sig_type.specs.declared.declared.Declared.{Declared}
-use Rattle.sig_type.specs.Declarations.{declarations_in}
+use Rattle.sig_scope.specs.declared.declared.Declared.{Declared}
+use Rattle.sig_scope.specs.Declarations.{declarations_in}
 use Rattle.sig_call.specs.Bindings.{bindings_of}
 
 -- what stands for no list of constants

@@ -9,8 +9,8 @@ use Rattle.sig_tree.specs.Syntax.{Expression, Equations, ProcessModel}
 use Rattle.sig_tree.specs.FlatSyntax.{Sig, FlatEquation, Defines, Equal}
 use Rattle.sig_tree.specs.Declarations.{inputs_of, process_of, equations_of_model, left_sides}
 use Rattle.sig_tree.specs.FlatBody.{Copy, Progress, Expands, Ended, Defined, Equated, Expanded, flat_of, flat_right, inputs_defined, outputs_defined, called_copy, with_copy, signal_of, signals_declared}
-use Rattle.sig_call.specs.Sound.{IsReady, AreExpandable}
-use Rattle.sig_call.specs.WellMade.{defines}
+use Rattle.sig_tree.specs.Sound.{IsReady, AreExpandable}
+use Rattle.sig_tree.specs.WellMade.{defines}
 use Rattle.sig_call.proofs.Counting.{below, tally, count_append, count_cons}
 use Rattle.sig_call.proofs.LeftSides.{DefinesOnce, left_count, no_number}
 use Rattle.sig_call.proofs.Readiness.{call_numbers}

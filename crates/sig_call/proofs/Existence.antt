@@ -11,7 +11,7 @@ use Rattle.sig_tree.specs.FlatBody.{Copy, Progress, Expands, Ended, Defined, Equ
 use Rattle.sig_tree.specs.Candidates.{NoneHolds, candidate, each, Recursive}
 use Rattle.sig_tree.specs.Rules.{CallsByName, Reaches, Itself, ByCall}
 use Rattle.sig_tree.specs.WellFormed.{IsWellFormed}
-use Rattle.sig_call.specs.Sound.{IsTree, IsReady, Fits, AreExpandable}
+use Rattle.sig_tree.specs.Sound.{IsTree, IsReady, Fits, AreExpandable}
 use Rattle.sig_call.proofs.Expandable.{expandable, rules_hold, key_rules}
 use Rattle.sig_call.proofs.Whole.{first_found}
 

@@ -10,8 +10,8 @@ use Rattle.sig_tree.specs.Declarations.{Declaration, declarations, name_of, inpu
 use Rattle.sig_tree.specs.Candidates.{Candidate, NoneHolds, each}
 use Rattle.sig_tree.specs.Rules.{unknown_use, unknown_names, declared_twice, inputs_defined, defined_twice, undefined, clashes, bare_constants, bad_calls, bad_calls_of, recursive_calls, bad_pragmas, bad_pragmas_of, missing_inits_in, DiffersFrom, IsCluster, number_of}
 use Rattle.sig_tree.specs.WellFormed.{IsWellFormed, rules_on}
-use Rattle.sig_type.proofs.Sequences.{each_append, each_flat}
-use Rattle.sig_call.specs.Sound.{IsRead, IsTree, IsReady, IsLow, Fits, AreExpandable}
+use Rattle.sig_tree.proofs.CandidateLemmas.{each_append, each_flat}
+use Rattle.sig_tree.specs.Sound.{IsRead, IsTree, IsReady, IsLow, Fits, AreExpandable}
 
 -- candidates in two lists
 pub none_parts : (cs ds : List Candidate) → NoneHolds (cs ++ ds) → NoneHolds cs × NoneHolds ds

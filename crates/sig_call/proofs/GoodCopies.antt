@@ -10,7 +10,7 @@ use Rattle.sig_tree.specs.Declarations.{Role, Parameter, Input, Output, Local, D
 use Rattle.sig_tree.specs.Kinds.{kind_of_parameter}
 use Rattle.sig_tree.specs.FlatBody.{Binding as BoundTo, BoundSignal, BoundConstant, Copy, binding_of, bound_constants, bound_from, copied_signals, signals_declared}
 use Rattle.sig_call.specs.Bindings.{binding_found, bindings_of}
-use Rattle.sig_call.specs.WellMade.{kind_numbered}
+use Rattle.sig_tree.specs.WellMade.{kind_numbered}
 use Rattle.sig_call.proofs.Apart.{all_so}
 use Rattle.sig_call.proofs.Obeying.{roles}
 use Rattle.sig_call.proofs.Texts.{all_both}

@@ -21,8 +21,8 @@ use Rattle.sig_tree.specs.Candidates.{NoneHolds}
 use Rattle.sig_tree.specs.Rules.{IsUnfit, RefusesOne, RefusesTwo, clashes_of_expression, bare_in_expression, missing_inits}
 use Rattle.sig_tree.specs.FlatBody.{Binding as BoundTo, BoundSignal, BoundConstant, Copy, binding_of, flat_name, flat_of, truth_value, value_bound, value_of}
 use Rattle.sig_call.specs.Constants.{IsBoundedConstant, HasBoundedInits}
-use Rattle.sig_call.specs.Sound.{IsSmall}
-use Rattle.sig_call.specs.WellMade.{kind_numbered, flat_kind, is_constant, Allows, IsMade, MayBegin}
+use Rattle.sig_tree.specs.Sound.{IsSmall}
+use Rattle.sig_tree.specs.WellMade.{kind_numbered, flat_kind, is_constant, Allows, IsMade, MayBegin}
 use Rattle.sig_call.proofs.Expandable.{none_parts}
 use Rattle.sig_call.proofs.GoodCopies.{IsGoodCopy, Suits}
 use Rattle.sig_call.proofs.KindRules.{some_is, same_kind, fits_pos, fits_neg, Alike, unary_alike, binary_alike, allowed, not_constant}

@@ -9,7 +9,7 @@ use Rattle.std.specs.List.{AllByRecursion, AllPass}
 use Rattle.std.specs.Str.Parse.{AllDigits}
 use Rattle.sig_lex.specs.Bytes.{first, is_name_byte}
 use Rattle.sig_lex.specs.Lexemes.{IsNameText}
-use Rattle.sig_call.specs.SignalNames.{IsGraphic}
+use Rattle.sig_tree.specs.SignalNames.{IsGraphic}
 
 or_true : (a b : Bool) → (a || b) ≡ true → (a ≡ true) ⊎ (b ≡ true)
 or_true true b h = inl refl

@@ -4,7 +4,7 @@ use Rattle.sig_base.specs.declared.ids.Kind.{Kind}
 use Rattle.sig_base.specs.declared.ids.Kind.TheVariants.{Integer, Boolean, Event}
 use Rattle.sig_tree.specs.Kinds.{FormRow, ConstantRule, NoConstant, OneConstant, FirstConstant, accepts, kind_of_result, unary_kind, binary_kind, stored, Takes}
 use Rattle.sig_tree.specs.Rules.{RefusesOne, RefusesTwo, MayNotBeFirst, MayNotBeSecond}
-use Rattle.sig_call.specs.WellMade.{Allows}
+use Rattle.sig_tree.specs.WellMade.{Allows}
 
 pub some_is : {A : Type 0} {a b : A} → Some a ≡ Some b → a ≡ b
 some_is {A} {a} {b} is = ap (λ o. from o) is where

@@ -9,8 +9,8 @@ use Rattle.sig_tree.specs.Syntax.{Placement, placement_of, model_of}
 use Rattle.sig_tree.specs.Declarations.{pragmas_of_model}
 use Rattle.sig_tree.specs.FlatBody.{cluster_at}
 use Rattle.sig_tree.specs.Rules.{number_of}
-use Rattle.sig_type.proofs.Trees.{pragmas_are}
-use Rattle.sig_call.specs.Sound.{IsLow}
+use Rattle.sig_scope.proofs.Trees.{pragmas_are}
+use Rattle.sig_tree.specs.Sound.{IsLow}
 use Rattle.sig_call.proofs.Lists.{all_mapped}
 
 -- the number that digits write behind another

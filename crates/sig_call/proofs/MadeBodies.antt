@@ -12,9 +12,9 @@ use Rattle.sig_tree.specs.Declarations.{Declaration, declarations, params_of, in
 use Rattle.sig_tree.specs.Candidates.{NoneHolds, each}
 use Rattle.sig_tree.specs.Rules.{DiffersFrom, bad_calls_of, clash_of_arguments, clashes_of_call, clashes_of_constants, clashes_of_expression, clashes_of_results}
 use Rattle.sig_tree.specs.FlatBody.{Copy, Progress, Expands, Ended, Defined, Equated, Expanded, inputs_defined, outputs_defined, called_copy, copied_signals, copy_prefix, cluster_of_call, signals_declared, value_of}
-use Rattle.sig_type.proofs.Sequences.{each_append}
-use Rattle.sig_call.specs.Sound.{IsReady, IsSmall}
-use Rattle.sig_call.specs.WellMade.{IsMadeEquation}
+use Rattle.sig_tree.proofs.CandidateLemmas.{each_append}
+use Rattle.sig_tree.specs.Sound.{IsReady, IsSmall}
+use Rattle.sig_tree.specs.WellMade.{IsMadeEquation}
 use Rattle.sig_call.proofs.Expandable.{none_parts, unknown_at}
 use Rattle.sig_call.proofs.GoodCopies.{AreNumbered, AreValues, IsGoodCopy, copied_numbered, good_copy}
 use Rattle.sig_call.proofs.GoodExpressions.{IsKnown}

@@ -15,8 +15,8 @@ use Rattle.sig_tree.specs.Candidates.{NoneHolds, each}
 use Rattle.sig_tree.specs.Rules.{IsGiven, HasInit, DoesNotTake, clash_of_init, clashes_of_constants, clashes_of_expression, clashes_of_results, bare_alone, bare_in_expression, missing_inits, missing_inits_of_right}
 use Rattle.sig_tree.specs.FlatBody.{Binding as BoundTo, BoundSignal, BoundConstant, Copy, binding_of, declared_init, flat_of, flat_right, init_value, inputs_defined, outputs_defined, signal_bound, signal_of, value_of}
 use Rattle.sig_call.specs.Constants.{IsBoundedConstant, IsBoundedInit, HasBoundedInits}
-use Rattle.sig_call.specs.Sound.{IsSmall}
-use Rattle.sig_call.specs.WellMade.{kind_numbered, IsMadeEquation, IsWhole}
+use Rattle.sig_tree.specs.Sound.{IsSmall}
+use Rattle.sig_tree.specs.WellMade.{kind_numbered, IsMadeEquation, IsWhole}
 use Rattle.sig_call.proofs.Expandable.{found_all, none_parts}
 use Rattle.sig_call.proofs.GoodCopies.{AreNumbered, AreValues, IsGoodCopy, Suits}
 use Rattle.sig_call.proofs.GoodExpressions.{Asked, IsGood, IsKnown, constant_fits, delay_good, good, numbered_within}

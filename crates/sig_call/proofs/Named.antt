@@ -13,7 +13,7 @@ use Rattle.sig_tree.specs.FlatBody.{Copy, Progress, Expands, Ended, Defined, Equ
 use Rattle.sig_tree.specs.Candidates.{Offence, NoneHolds, DeclaredTwice, candidate, each}
 use Rattle.sig_tree.specs.Rules.{unknown_names, declared_twice}
 use Rattle.sig_tree.specs.WellFormed.{IsWellFormed}
-use Rattle.sig_call.specs.Sound.{IsTree, IsReady, AreExpandable}
+use Rattle.sig_tree.specs.Sound.{IsTree, IsReady, AreExpandable}
 use Rattle.sig_call.proofs.Apart.{all_so, prefixed, all_prefixed, all_texts, Apart, distinct, apart_both, apart_right, apart_prefixed, Lacks}
 use Rattle.sig_call.proofs.Existence.{found_name}
 use Rattle.sig_call.proofs.Expandable.{expandable, found_all, none_parts, rules_hold}

@@ -10,9 +10,9 @@ use Rattle.sig_tree.specs.Declarations.{Role, Parameter, Input, Declaration, dec
 use Rattle.sig_tree.specs.Candidates.{Candidate, NoneHolds, candidate, each, DefinedTwice, Undefined, InputDefined}
 use Rattle.sig_tree.specs.Rules.{IsGiven, unknown_names, declared_twice, inputs_defined, defined_twice, undefined, clashes, clashes_of_equation, clashes_of_inits, clash_of_init, bare_constants, bare_in_equation, bad_calls, bad_calls_of, recursive_calls, bad_pragmas, missing_inits_in, missing_inits_of_equation}
 use Rattle.sig_tree.specs.WellFormed.{IsWellFormed, rules_on}
-use Rattle.sig_type.proofs.Sequences.{each_append}
+use Rattle.sig_tree.proofs.CandidateLemmas.{each_append}
 use Rattle.sig_call.specs.Constants.{IsBounded, IsBoundedEquation, IsBoundedInit, IsBoundedProcess}
-use Rattle.sig_call.specs.Sound.{IsTree, IsReady}
+use Rattle.sig_tree.specs.Sound.{IsTree, IsReady}
 use Rattle.sig_call.proofs.Apart.{all_so}
 use Rattle.sig_call.proofs.Expandable.{expandable, found_all, known_in_equations, none_parts, rules_hold, unknown_at}
 use Rattle.sig_call.proofs.LeftSides.{DefinesOnce}

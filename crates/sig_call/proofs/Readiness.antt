@@ -8,7 +8,7 @@ use Rattle.sig_tree.specs.FlatSyntax.{Defines as DefinesFlat}
 use Rattle.sig_tree.specs.Declarations.{inputs_of, outputs_of, locals_of, process_of}
 use Rattle.sig_tree.specs.FlatBody.{Copy, Progress, signal_of, flat_right, with_copy, copied_signals, copy_prefix, cluster_of_call, signals_declared}
 use Rattle.sig_call.specs.Making.{Made, with_equations, Advances, IsRefused, IsRefusedBy}
-use Rattle.sig_call.specs.Sound.{IsReady, Fits}
+use Rattle.sig_tree.specs.Sound.{IsReady, Fits}
 use Rattle.sig_call.specs.declared.answer.CallAnswer.{CallAnswer}
 use Rattle.sig_call.specs.declared.answer.CallAnswer.TheVariants.{TooManySignals, OutOfMemory}
 use Rattle.sig_call.proofs.Leading.{leads_defined, advances_by}

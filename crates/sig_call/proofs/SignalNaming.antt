@@ -19,8 +19,8 @@ use Rattle.sig_lex.specs.Slices.{InOrder}
 use Rattle.sig_tree.specs.Leaves.{leaves_of}
 use Rattle.sig_tree.specs.Grammar.{HasTree}
 use Rattle.sig_tree.specs.WellFormed.{IsWellFormed}
-use Rattle.sig_call.specs.SignalNames.{AtOperators, IsGraphic, IsSignalName, NamesOperators, placed_name}
-use Rattle.sig_call.specs.Sound.{IsTree, IsReady, AreExpandable}
+use Rattle.sig_tree.specs.SignalNames.{AtOperators, IsGraphic, IsSignalName, NamesOperators, placed_name}
+use Rattle.sig_tree.specs.Sound.{IsTree, IsReady, AreExpandable}
 use Rattle.sig_call.proofs.Existence.{found_name}
 use Rattle.sig_call.proofs.Expandable.{expandable, found_all}
 use Rattle.sig_call.proofs.Graphic.{decimal_graphic, name_graphic, name_some}

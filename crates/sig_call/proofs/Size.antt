@@ -10,7 +10,7 @@ use Rattle.sig_tree.specs.FlatSyntax.{FlatEquation, Defines, Equal as EqualFlat,
 use Rattle.sig_tree.specs.Declarations.{name_of, inputs_of, outputs_of, process_of, all_processes, equations_of_model}
 use Rattle.sig_tree.specs.FlatBody.{Copy, Progress, Expands, Ended, Defined, Equated, Expanded, IsFlatBody, flat_of, inputs_defined, outputs_defined, with_copy}
 use Rattle.sig_tree.specs.WellFormed.{IsWellFormed}
-use Rattle.sig_call.specs.Sound.{IsTree, IsReady, IsSized, size_of, weight, weights, flat_weight, flat_weights, AreExpandable}
+use Rattle.sig_tree.specs.Sound.{IsTree, IsReady, IsSized, size_of, weight, weights, flat_weight, flat_weights, AreExpandable}
 use Rattle.sig_call.proofs.Expandable.{expandable, found_all}
 use Rattle.sig_call.proofs.Readiness.{call_adds, call_numbers}
 use Rattle.sig_call.proofs.Whole.{first_found}

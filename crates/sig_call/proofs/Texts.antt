@@ -28,7 +28,7 @@ use Rattle.sig_tree.specs.Equations.{AreConstants, IsLeft, IsRight, IsDefinition
 use Rattle.sig_tree.specs.Processes.{IsGroup, AreGroups, IsInterface, IsModel, IsProcess, AreLocals, IsPlainItem, IsItem}
 use Rattle.sig_tree.specs.Grammar.{HasTree}
 use Rattle.sig_call.specs.Constants.{IsBoundedConstant, IsBoundedEquation, IsBoundedInit, IsBoundedRight, HasBoundedInits}
-use Rattle.sig_call.specs.Sound.{IsSmall, IsSmallRight, IsRead, IsTree, IsSized, size_of, weights}
+use Rattle.sig_tree.specs.Sound.{IsSmall, IsSmallRight, IsRead, IsTree, IsSized, size_of, weights}
 use Rattle.sig_call.proofs.KindRules.{fits_neg, fits_pos}
 
 -- a leaf's number is small, and its name is spelled as one

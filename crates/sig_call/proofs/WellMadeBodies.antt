@@ -9,8 +9,8 @@ use Rattle.sig_tree.specs.Declarations.{Declaration, name_of, params_of, inputs_
 use Rattle.sig_tree.specs.WellFormed.{IsWellFormed, rules_on}
 use Rattle.sig_tree.specs.FlatBody.{IsFlatBody, Progress, copied_signals, first_copy, first_progress, signals_declared}
 use Rattle.sig_call.specs.Constants.{IsBounded}
-use Rattle.sig_call.specs.Sound.{IsTree}
-use Rattle.sig_call.specs.WellMade.{IsMadeEquation, IsWellMade, defines}
+use Rattle.sig_tree.specs.Sound.{IsTree}
+use Rattle.sig_tree.specs.WellMade.{IsMadeEquation, IsWellMade, defines}
 use Rattle.sig_call.proofs.Counting.{below}
 use Rattle.sig_call.proofs.DefinitionCounts.{counted, lefts_for}
 use Rattle.sig_call.proofs.Expandable.{expandable, none_parts}

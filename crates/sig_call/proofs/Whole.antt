@@ -8,8 +8,8 @@ use Rattle.sig_tree.specs.Syntax.{Equations, ProcessModel, Modelled, model_of}
 use Rattle.sig_tree.specs.FlatSyntax.{FlatBody, FlatEquation}
 use Rattle.sig_tree.specs.Declarations.{name_of, inputs_of, outputs_of, all_processes, with_inner, those_inner, process_of, equations_of_model}
 use Rattle.sig_tree.specs.FlatBody.{Copy, Progress, Expands, Ended, IsFlatBody, first_copy, first_progress, copied_signals}
-use Rattle.sig_type.specs.declared.scope.Interface.{Interface}
-use Rattle.sig_type.specs.Walked.{interface_models}
+use Rattle.sig_scope.specs.declared.scope.Interface.{Interface}
+use Rattle.sig_scope.specs.Walked.{interface_models}
 use Rattle.sig_call.specs.Making.{Made, Advances, NeedsMore, NeedsTooMany}
 use Rattle.sig_call.proofs.Leading.{grows_along}
 

@@ -4,6 +4,3 @@ pub mod Constants
 pub mod Copies
 pub mod MadeOf
 pub mod Making
-pub mod SignalNames
-pub mod Sound
-pub mod WellMade

@@ -2,12 +2,12 @@
 
 ghost use Rattle.std.specs.Prelude.{◌≡◌, ◌++◌, ◌+◌, ◌<◌, ◌^◌, ℕ, List, IfOk, OnOk, option_map, length};
 ghost use Rattle.sig_tree.specs.FlatBody.{Binding as BoundTo, bound_from, bound_constants};
-ghost use Rattle.sig_type.specs.Declarations.{declarations_in};
+ghost use Rattle.sig_scope.specs.Declarations.{declarations_in};
 ghost use Rattle.sig_call.specs.Bindings.{binding_in, bindings_in, texts_bound, binding_found};
 
 use sig_base::{Kind, SigId};
+use sig_scope::{Declared, Texts};
 use sig_tree::Name;
-use sig_type::{Declared, Texts};
 use std::alloc::{AllocError, Global};
 use std::marker::Model;
 

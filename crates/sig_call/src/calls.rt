@@ -5,18 +5,18 @@ ghost use Rattle.std.specs.List.{AllByRecursion};
 ghost use Rattle.sig_tree.specs.Syntax.{model_of, equations_of, right_side_of, Defines};
 ghost use Rattle.sig_tree.specs.Declarations.{pragmas_of_model, outputs_of};
 ghost use Rattle.sig_tree.specs.FlatBody.{with_copy, called_copy};
-ghost use Rattle.sig_type.specs.Walked.{interface_models, bodies_in};
+ghost use Rattle.sig_scope.specs.Walked.{interface_models, bodies_in};
 ghost use Rattle.sig_call.specs.Calling.{call_of};
 ghost use Rattle.sig_call.specs.Copies.{copy_in};
 ghost use Rattle.sig_call.specs.MadeOf.{made_of};
 ghost use Rattle.sig_call.specs.Making.{IsRefused, Advances, NeedsMore, with_progress};
-ghost use Rattle.sig_call.specs.Sound.{IsLow, IsReady, AreExpandable};
+ghost use Rattle.sig_tree.specs.Sound.{IsLow, IsReady, AreExpandable};
 
 use crate::answer::CallAnswer;
 use crate::copy::{ProcessCopy, prefix_of};
 use crate::expansion::Expansion;
+use sig_scope::{Interface, Processes, flat_equations};
 use sig_tree::{Body, Constant, Expr, Name, Right};
-use sig_type::{Interface, Processes, flat_equations};
 use std::alloc::Global;
 
 /// A definition by a call: its left sides, the name of the process, its constants and its arguments.

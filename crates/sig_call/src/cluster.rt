@@ -6,7 +6,7 @@ ghost use Rattle.sig_tree.specs.Syntax.{model_of};
 ghost use Rattle.sig_tree.specs.Declarations.{pragmas_of_model};
 ghost use Rattle.sig_tree.specs.FlatBody.{cluster_of, is_named};
 ghost use Rattle.sig_tree.specs.Rules.{number_of};
-ghost use Rattle.sig_call.specs.Sound.{IsLow};
+ghost use Rattle.sig_tree.specs.Sound.{IsLow};
 
 use sig_tree::{Name, Process};
 

@@ -9,8 +9,8 @@ ghost use Rattle.sig_call.specs.Bindings.{binding_in, bindings_of};
 use crate::binding::{Binding, Bindings, bind_constants, bind_signals};
 use itoa::Buffer;
 use sig_base::{SigId, Text};
+use sig_scope::{Interface, Scope};
 use sig_tree::{Constant, Name, Process};
-use sig_type::{Interface, Scope};
 use std::alloc::{AllocError, Global};
 
 /// The prefix of the signals of the copy that a call makes, by the name that is called and the

@@ -8,8 +8,8 @@ use crate::copy::ProcessCopy;
 use crate::expression::{flat_expression, flat_expressions, flat_right};
 use sig_base::limits::SIGNALS;
 use sig_base::{SigId, Signal, Text};
+use sig_scope::{Declared, Interface};
 use sig_tree::{Expr, Flat, FlatEq, FlatExpr, Name, Process};
-use sig_type::{Declared, Interface};
 use std::alloc::{AllocError, Global};
 
 /// The calls so far, the signals, of which there are at most 512, and the equations. Each call has
@@ -30,10 +30,10 @@ impl Expansion {
     ghost use Rattle.sig_tree.specs.Declarations.{pragmas_of_model};
     ghost use Rattle.sig_tree.specs.FlatSyntax.{flat_body_of, flat_equation_of, flat_expression_of, Defines as DefinesFlat, Equal as EqualFlat};
     ghost use Rattle.sig_tree.specs.FlatBody.{cluster_at, cluster_of_call, copied_signals, flat_right, flat_of, inputs_defined, outputs_defined, signal_of};
-    ghost use Rattle.sig_type.specs.Declarations.{declarations_in};
+    ghost use Rattle.sig_scope.specs.Declarations.{declarations_in};
     ghost use Rattle.sig_call.specs.Copies.{copy_in};
     ghost use Rattle.sig_call.specs.Making.{Made, IsRefused, with_signals, with_equations, signals_copied};
-    ghost use Rattle.sig_call.specs.Sound.{IsSmall, IsLow};
+    ghost use Rattle.sig_tree.specs.Sound.{IsSmall, IsLow};
     ghost use Rattle.sig_call.specs.MadeOf.{made_of};
 
     /// No call, signal or equation.

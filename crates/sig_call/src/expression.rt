@@ -6,7 +6,7 @@ ghost use Rattle.sig_tree.specs.Syntax.{expression_of};
 ghost use Rattle.sig_tree.specs.FlatSyntax.{flat_expression_of};
 ghost use Rattle.sig_tree.specs.FlatBody.{binding_of, flat_name, flat_unary, flat_of, flat_right};
 ghost use Rattle.sig_call.specs.Copies.{copy_in};
-ghost use Rattle.sig_call.specs.Sound.{IsSmall};
+ghost use Rattle.sig_tree.specs.Sound.{IsSmall};
 
 use crate::binding::Binding;
 use crate::copy::ProcessCopy;

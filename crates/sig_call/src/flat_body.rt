@@ -6,15 +6,15 @@ ghost use Rattle.sig_tree.specs.FlatSyntax.{flat_body_of};
 ghost use Rattle.sig_tree.specs.FlatBody.{IsFlatBody};
 ghost use Rattle.sig_tree.specs.WellFormed.{IsWellFormed};
 ghost use Rattle.sig_call.specs.Making.{IsRefused, NeedsTooMany};
-ghost use Rattle.sig_call.specs.Sound.{IsTree};
+ghost use Rattle.sig_tree.specs.Sound.{IsTree};
 
 use crate::answer::CallAnswer;
 use crate::calls::expand;
 use crate::copy::ProcessCopy;
 use crate::expansion::Expansion;
 use sig_base::Text;
+use sig_scope::{Processes, Typed, flat_equations};
 use sig_tree::{Flat, Program};
-use sig_type::{Processes, Typed, flat_equations};
 use std::alloc::Global;
 
 /// The flat body of a well-formed program. `TooManySignals` is answered where it needs more than 512

@@ -9,7 +9,7 @@ ghost use Rattle.sig_tree.specs.FlatBody.{IsFlatBody};
 ghost use Rattle.sig_tree.specs.Grammar.{IsText};
 ghost use Rattle.sig_tree.specs.WellFormed.{IsWellFormed};
 ghost use Rattle.sig_call.specs.Constants.{IsBounded};
-ghost use Rattle.sig_call.specs.Sound.{IsTree, IsSized, flat_weights};
+ghost use Rattle.sig_tree.specs.Sound.{IsTree, IsSized, flat_weights};
 
 use sig_lex::{each_token, slices_in_order};
 

@@ -1,7 +1,7 @@
 //! The expansion of calls: the flat body of a well-formed program, in which each call is replaced by a
 //! copy of the body of the process that is called. What a flat body is, is defined in sig_tree; `inline`
 //! makes it, or refuses a program whose flat body has more than 512 signals. It stops as soon as there
-//! are more, however long the flat body would be. It stands on sig_base, sig_tree and sig_type.
+//! are more, however long the flat body would be. It stands on sig_base, sig_tree and sig_scope.
 #![tactic(auto)]
 
 mod answer;

@@ -8,7 +8,7 @@ ghost use Rattle.sig_tree.specs.FlatSyntax.{FlatBody};
 ghost use Rattle.sig_tree.specs.FlatBody.{IsFlatBody};
 ghost use Rattle.sig_tree.specs.Grammar.{IsText};
 ghost use Rattle.sig_tree.specs.WellFormed.{IsWellFormed};
-ghost use Rattle.sig_call.specs.SignalNames.{IsSignalName, NamesOperators};
+ghost use Rattle.sig_tree.specs.SignalNames.{IsSignalName, NamesOperators};
 
 use crate::laws::trees_of_texts;
 use sig_lex::{each_token, slices_in_order};

@@ -6,8 +6,8 @@ ghost use Rattle.sig_tree.specs.FlatSyntax.{FlatBody};
 ghost use Rattle.sig_tree.specs.FlatBody.{IsFlatBody};
 ghost use Rattle.sig_tree.specs.WellFormed.{IsWellFormed};
 ghost use Rattle.sig_call.specs.Constants.{IsBounded};
-ghost use Rattle.sig_call.specs.Sound.{IsTree};
-ghost use Rattle.sig_call.specs.WellMade.{IsWellMade};
+ghost use Rattle.sig_tree.specs.Sound.{IsTree};
+ghost use Rattle.sig_tree.specs.WellMade.{IsWellMade};
 
 /// A law: the flat body of a well-formed program has kinds by the table of kinds, constants only where
 /// they may stand, and one definition of each signal that is no input.

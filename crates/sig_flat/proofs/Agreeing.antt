@@ -7,7 +7,7 @@ use Rattle.sig_base.specs.declared.ids.Kind.TheVariants.{Integer, Boolean, Event
 use Rattle.sig_base.specs.declared.signal.Signal.{Signal}
 use Rattle.sig_base.specs.Traces.{Seen, Instant, Bounded, IsValue, IsOfKind, AreOfKinds, seen_at}
 use Rattle.sig_tree.specs.ProcessTraces.{kinds_of}
-use Rattle.sig_call.specs.WellMade.{kind_numbered}
+use Rattle.sig_tree.specs.WellMade.{kind_numbered}
 
 abbrev pub Agree : ℕ → Instant → Instant → Type 0
 Agree count a b = (x : ℕ) → x < count → seen_at a x ≡ seen_at b x

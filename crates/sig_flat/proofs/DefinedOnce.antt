@@ -6,7 +6,7 @@ use Rattle.std.specs.List.{AllByRecursion, range_with_len}
 use Rattle.sig_base.specs.declared.ids.SigId.{SigId}
 use Rattle.sig_base.specs.declared.signal.Signal.{Signal}
 use Rattle.sig_base.specs.declared.span.Span.{Span}
-use Rattle.sig_call.specs.WellMade.{IsMadeEquation, defines as defines_flat, IsWellMade}
+use Rattle.sig_tree.specs.WellMade.{IsMadeEquation, defines as defines_flat, IsWellMade}
 use Rattle.sig_tree.specs.FlatSyntax.{FlatExpression, FlatEquation, Defines, Equal, FlatBody}
 use Rattle.sig_kernel.specs.declared.equation.Equation.{Equation}
 use Rattle.sig_kernel.specs.declared.equation.Form.TheVariants.{Sync}

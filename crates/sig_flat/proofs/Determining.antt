@@ -14,7 +14,7 @@ use Rattle.sig_tree.specs.declared.expr.BinOp.TheVariants.{Plus, Meet, Less}
 use Rattle.sig_tree.specs.Kinds.{binary_row, kind_of_result, stored}
 use Rattle.sig_tree.specs.Operators.{Operand as Found, Signal, Combines, clock_of, merged, sampled, delayed, held as held_value}
 use Rattle.sig_tree.specs.ProcessTraces.{kinds_of}
-use Rattle.sig_call.specs.WellMade.{Allows}
+use Rattle.sig_tree.specs.WellMade.{Allows}
 use Rattle.sig_flat.specs.Rows.{found_at}
 use Rattle.sig_flat.specs.KernelOf.{Site, Made, Translated, with_signal, with_own, with_clocks, own, next as next_signal, by_one, binary_form, signal_in, signal_id, less, binary, cell}
 use Rattle.sig_flat.proofs.Meeting.{less_row, cell_row}

@@ -11,7 +11,7 @@ use Rattle.sig_kernel.specs.declared.equation.Form.TheVariants.{Sync}
 use Rattle.sig_tree.specs.FlatSyntax.{FlatExpression, FlatEquation, Defines, Equal}
 use Rattle.sig_tree.specs.Operators.{Signal}
 use Rattle.sig_tree.specs.Steps.{Steps}
-use Rattle.sig_call.specs.WellMade.{IsWhole}
+use Rattle.sig_tree.specs.WellMade.{IsWhole}
 use Rattle.sig_flat.specs.KernelOf.{Site, Made, Translated, Together, with_equation, signal_in, place_of, translate, operands_from, with_syncs, with_all_syncs, cluster_at, with_flat_equation, with_flat_equations}
 use Rattle.sig_flat.proofs.Agreeing.{Agree}
 use Rattle.sig_flat.proofs.Growing.{Grows, equation_grows}

@@ -18,7 +18,7 @@ use Rattle.sig_tree.specs.Kinds.{unary_row, binary_row, delay_row, cell_row, kin
 use Rattle.sig_tree.specs.Operators.{Operand as Found, Signal, AppliesToOne, delayed, held as held_value}
 use Rattle.sig_tree.specs.ProcessTraces.{kinds_of}
 use Rattle.sig_tree.specs.Steps.{Steps}
-use Rattle.sig_call.specs.WellMade.{Allows, IsMade, flat_kind, kind_numbered}
+use Rattle.sig_tree.specs.WellMade.{Allows, IsMade, flat_kind, kind_numbered}
 use Rattle.sig_flat.specs.Rows.{found_at}
 use Rattle.sig_flat.specs.KernelOf.{Site, Made, Translated, own, next as next_signal, unary_form, signal_in, signal_id, binary, kind_at}
 use Rattle.sig_flat.proofs.Meeting.{one_row, delay_row as delay_equation}

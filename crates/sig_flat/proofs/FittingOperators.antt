@@ -11,7 +11,7 @@ use Rattle.sig_base.specs.declared.ids.SigId.{SigId}
 use Rattle.sig_base.specs.declared.signal.Signal.{Signal}
 use Rattle.sig_base.specs.declared.span.Span.{Span}
 use Rattle.sig_base.specs.Traces.{Bounded, IsPrefixOf, IsValue}
-use Rattle.sig_call.specs.WellMade.{kind_numbered, Allows}
+use Rattle.sig_tree.specs.WellMade.{kind_numbered, Allows}
 use Rattle.sig_tree.specs.declared.expr.BinOp.{BinOp}
 use Rattle.sig_tree.specs.declared.expr.BinOp.TheVariants.{Default as DefaultOf, When as Sampled, Plus, Meet, Less, Or as OrOf, Xor as XorOf, And as AndOf, Eq as EqOf, Ne as NeOf, Lt as LtOf, Le as LeOf, Gt as GtOf, Ge as GeOf, Add as AddOf, Sub as SubOf, Mul as MulOf, Div as DivOf, Mod as ModOf}
 use Rattle.sig_tree.specs.Kinds.{FormRow, binary_row, accepts, kind_of_result, merged, unary_kind, binary_kind, stored, Alike, AnyThenTruth}

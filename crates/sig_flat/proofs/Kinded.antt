@@ -15,7 +15,7 @@ use Rattle.sig_tree.specs.FlatSyntax.{FlatExpression, Sig as SigOf, Const as Con
 use Rattle.sig_tree.specs.Kinds.{FormRow, Alike, unary_row, binary_row, delay_row, cell_row, unary_kind, binary_kind, accepts, kind_of_result, stored, merged as merged_kind}
 use Rattle.sig_tree.specs.Operators.{Operand as Found, Signal, Constant, AppliesToOne, AppliesToBoth, Changes, Combines, sampled, merged, clock_of, both_of, without, delayed, held as held_value, is_true}
 use Rattle.sig_tree.specs.Steps.{Steps, kept}
-use Rattle.sig_call.specs.WellMade.{flat_kind, is_constant, IsMade, MayBegin}
+use Rattle.sig_tree.specs.WellMade.{flat_kind, is_constant, IsMade, MayBegin}
 use Rattle.sig_flat.specs.KernelOf.{place_of}
 use Rattle.sig_flat.proofs.Agreeing.{Suits, Agree}
 

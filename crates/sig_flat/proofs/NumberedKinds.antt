@@ -5,7 +5,7 @@ use Rattle.std.specs.List.{slice_get}
 use Rattle.std.specs.Option.{option_map, unwrap_or}
 use Rattle.sig_base.specs.declared.ids.Kind.{Kind}
 use Rattle.sig_base.specs.declared.signal.Signal.{Signal}
-use Rattle.sig_call.specs.WellMade.{kind_numbered}
+use Rattle.sig_tree.specs.WellMade.{kind_numbered}
 use Rattle.sig_kernel.specs.Table.{kind_of, kind_at}
 use Rattle.sig_flat.specs.KernelOf.{signal_id, kind_at as kind_made}
 

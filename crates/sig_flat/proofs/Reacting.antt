@@ -10,7 +10,7 @@ use Rattle.sig_tree.specs.FlatSyntax.{FlatExpression, FlatEquation, Defines, Equ
 use Rattle.sig_tree.specs.Operators.{Operand as Found, Signal}
 use Rattle.sig_tree.specs.ProcessTraces.{kinds_of}
 use Rattle.sig_tree.specs.Steps.{Steps, EquationSteps, BodySteps}
-use Rattle.sig_call.specs.WellMade.{IsWhole, IsMadeEquation, kind_numbered}
+use Rattle.sig_tree.specs.WellMade.{IsWhole, IsMadeEquation, kind_numbered}
 use Rattle.sig_flat.specs.Rows.{found_at}
 use Rattle.sig_flat.specs.KernelOf.{Site, Made, Translated, Together, next as next_signal, signal_in, place_of, with_all_syncs}
 use Rattle.sig_flat.proofs.Agreeing.{Agree, agree_less, Fitting, Suits}

@@ -22,7 +22,7 @@ use Rattle.sig_tree.specs.FlatSyntax.{FlatExpression, Sig as SigOf, Const as Con
 use Rattle.sig_tree.specs.Kinds.{unary_row, binary_row, kind_of_result, stored}
 use Rattle.sig_tree.specs.Operators.{AppliesToOne, Changes, Combines, Signal, clock_of, held as held_value}
 use Rattle.sig_tree.specs.Steps.{Steps, kept}
-use Rattle.sig_call.specs.WellMade.{Allows, IsMade}
+use Rattle.sig_tree.specs.WellMade.{Allows, IsMade}
 use Rattle.sig_flat.specs.Rows.{AreMet, found_at}
 use Rattle.sig_flat.specs.KernelOf.{Site, Made, Translated, with_signal, with_equation, with_own, with_clocks, own, next as next_signal, by_one, unary_form, binary_form, signal_in, signal_id, made_signal, less, binary, cell}
 use Rattle.sig_flat.proofs.Meeting.{one_row, both_row, delay_row, when_row, constant_row, default_row, clock_row, plus_row, meet_row, less_row, cell_row}

@@ -7,7 +7,7 @@ use Rattle.sig_base.specs.declared.ids.Kind.{Kind}
 use Rattle.sig_base.specs.declared.ids.Kind.TheVariants.{Boolean, Event}
 use Rattle.sig_base.specs.declared.ids.SigId.{SigId}
 use Rattle.sig_base.specs.declared.span.Span.{Span}
-use Rattle.sig_call.specs.WellMade.{is_constant}
+use Rattle.sig_tree.specs.WellMade.{is_constant}
 use Rattle.sig_tree.specs.declared.expr.UnOp.{UnOp}
 use Rattle.sig_tree.specs.declared.expr.UnOp.TheVariants.{Not as NotOf, Neg as NegOf, When as WhenOf, Clock}
 use Rattle.sig_tree.specs.declared.expr.BinOp.{BinOp}

@@ -8,7 +8,7 @@ use Rattle.sig_kernel.specs.KernelTraces.{IsKernelTrace}
 use Rattle.sig_tree.specs.FlatSyntax.{FlatEquation, FlatBody}
 use Rattle.sig_tree.specs.ProcessTraces.{kinds_of, HoldsAt, HoldThroughout, IsTraceOf, IsProcessTrace}
 use Rattle.sig_tree.specs.Steps.{EquationSteps, BodySteps}
-use Rattle.sig_call.specs.WellMade.{IsWellMade}
+use Rattle.sig_tree.specs.WellMade.{IsWellMade}
 use Rattle.sig_flat.specs.KernelOf.{Made, next as next_signal, kernel_of}
 use Rattle.sig_flat.specs.Restricted.{restricted}
 use Rattle.sig_flat.proofs.Agreeing.{Agree, agree_then, agree_back, Fitting, fitting, Suits, kinds_length, kinds_begin, take_agrees, begins_with, same_instant}

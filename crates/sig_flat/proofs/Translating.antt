@@ -17,7 +17,7 @@ use Rattle.sig_tree.specs.declared.expr.BinOp.TheVariants.{Plus, Meet, Less}
 use Rattle.sig_tree.specs.FlatSyntax.{FlatExpression, Sig as SigOf, Const as ConstOf, Unary, Binary, Delay as DelayOf, Cell}
 use Rattle.sig_tree.specs.Kinds.{unary_row, kind_of_result, stored}
 use Rattle.sig_tree.specs.Operators.{Signal}
-use Rattle.sig_call.specs.WellMade.{is_constant}
+use Rattle.sig_tree.specs.WellMade.{is_constant}
 use Rattle.sig_flat.specs.Rows.{AreMet, found_at}
 use Rattle.sig_flat.specs.KernelOf.{Site, Made, Translated, with_equation, with_own, own, by_one, unary_form, kind_at, signal_in, signal_id, made_signal, binary, cell, translate}
 use Rattle.sig_flat.proofs.Instants.{at_first, behind_form, behind_equation, behind_equations, MeetAll, behind_made}

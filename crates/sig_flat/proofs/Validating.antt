@@ -4,7 +4,7 @@ use Rattle.std.specs.List.{AllByRecursion, AllPass, IsDistinct, list_all}
 use Rattle.std.proofs.lemmas.List.Sums.{AllPass-from_list_all}
 use Rattle.sig_base.specs.declared.limits.TheConstants.{SIGNALS}
 use Rattle.sig_base.specs.declared.signal.Signal.{Signal}
-use Rattle.sig_call.specs.WellMade.{IsMadeEquation, IsWellMade}
+use Rattle.sig_tree.specs.WellMade.{IsMadeEquation, IsWellMade}
 use Rattle.sig_tree.specs.FlatSyntax.{FlatEquation, Defines, Equal, FlatBody}
 use Rattle.sig_kernel.specs.Validity.{IsValid, form_within}
 use Rattle.sig_kernel.specs.declared.equation.Equation.{Equation}

@@ -4,7 +4,7 @@ use Rattle.std.proofs.lemmas.Bool.{false≢true}
 use Rattle.std.specs.List.{AllByRecursion}
 use Rattle.sig_base.specs.declared.ids.Kind.{Kind}
 use Rattle.sig_base.specs.declared.signal.Signal.{Signal}
-use Rattle.sig_call.specs.WellMade.{is_constant, Allows, IsMade, IsWhole, IsMadeEquation}
+use Rattle.sig_tree.specs.WellMade.{is_constant, Allows, IsMade, IsWhole, IsMadeEquation}
 use Rattle.sig_tree.specs.FlatSyntax.{FlatExpression, Sig, Const, Unary, Binary, Delay, Cell, FlatEquation, Defines, Equal}
 use Rattle.sig_tree.specs.Kinds.{ConstantRule, NoConstant, OneConstant, FirstConstant, binary_row}
 use Rattle.sig_flat.specs.Bodies.{NamesBelow, IsBelow, IsSignal, Speaks, EquationSpeaks}

@@ -1,6 +1,6 @@
 //! From flat bodies to kernels. The kernel of a flat body is a definition (`specs/KernelOf.antt`);
 //! `to_kernel` makes it, or refuses one of more than 512 signals, and stops as soon as there are more. It
-//! stands on sig_base, sig_tree, sig_call and sig_kernel.
+//! stands on sig_base, sig_tree and sig_kernel.
 #![tactic(auto)]
 
 mod answer;

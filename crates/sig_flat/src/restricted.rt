@@ -2,7 +2,7 @@
 
 ghost use Rattle.std.specs.Prelude.{◌≡◌, ◌≤◌, ◌<◌, ◌+◌, ◌↔◌, ℕ, ℤ, List, length};
 ghost use Rattle.sig_base.specs.Traces.{Fits, IsLongest, Trace, flow_of, reduce};
-ghost use Rattle.sig_call.specs.WellMade.{IsWellMade};
+ghost use Rattle.sig_tree.specs.WellMade.{IsWellMade};
 ghost use Rattle.sig_flat.specs.KernelOf.{kernel_of};
 ghost use Rattle.sig_flat.specs.Restricted.{restricted};
 ghost use Rattle.sig_kernel.specs.KernelTraces.{IsKernelTrace};

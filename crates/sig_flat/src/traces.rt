@@ -2,7 +2,7 @@
 
 ghost use Rattle.std.specs.Prelude.{◌≡◌, length};
 ghost use Rattle.sig_base.specs.Traces.{Trace};
-ghost use Rattle.sig_call.specs.WellMade.{IsWellMade};
+ghost use Rattle.sig_tree.specs.WellMade.{IsWellMade};
 ghost use Rattle.sig_flat.specs.KernelOf.{kernel_of};
 ghost use Rattle.sig_flat.specs.Restricted.{restricted};
 ghost use Rattle.sig_kernel.specs.KernelTraces.{IsKernelTrace};

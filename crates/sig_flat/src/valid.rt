@@ -3,9 +3,9 @@
 ghost use Rattle.std.specs.Prelude.{◌≡◌, ◌<◌, ◌≤◌, ◌+◌, ◌*◌, ◌^◌, bytes_eq, length, map, take};
 ghost use Rattle.std.specs.List.{AllByRecursion, IsDistinct};
 ghost use Rattle.sig_base.specs.declared.limits.TheConstants.{SIGNALS};
-ghost use Rattle.sig_call.specs.SignalNames.{IsSignalName, NamesOperators};
-ghost use Rattle.sig_call.specs.Sound.{flat_weights};
-ghost use Rattle.sig_call.specs.WellMade.{IsWellMade};
+ghost use Rattle.sig_tree.specs.SignalNames.{IsSignalName, NamesOperators};
+ghost use Rattle.sig_tree.specs.Sound.{flat_weights};
+ghost use Rattle.sig_tree.specs.WellMade.{IsWellMade};
 ghost use Rattle.sig_flat.specs.KernelOf.{kernel_of};
 ghost use Rattle.sig_kernel.specs.Validity.{IsValid};
 ghost use Rattle.sig_tree.specs.FlatSyntax.{FlatBody};

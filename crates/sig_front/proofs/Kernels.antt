@@ -11,9 +11,9 @@ use Rattle.sig_tree.specs.ProcessTraces.{IsProcessTrace}
 use Rattle.sig_tree.specs.Syntax.{ProcessModel}
 use Rattle.sig_tree.specs.WellFormed.{IsWellFormed}
 use Rattle.sig_call.specs.Constants.{IsBounded}
-use Rattle.sig_call.specs.SignalNames.{IsSignalName, NamesOperators}
-use Rattle.sig_call.specs.Sound.{IsTree, IsSized, flat_weights}
-use Rattle.sig_call.specs.WellMade.{IsWellMade}
+use Rattle.sig_tree.specs.SignalNames.{IsSignalName, NamesOperators}
+use Rattle.sig_tree.specs.Sound.{IsTree, IsSized, flat_weights}
+use Rattle.sig_tree.specs.WellMade.{IsWellMade}
 use Rattle.sig_kernel.specs.KernelTraces.{IsKernelTrace}
 use Rattle.sig_kernel.specs.Validity.{IsValid}
 use Rattle.sig_kernel.specs.declared.kernel.Kernel.{Kernel}

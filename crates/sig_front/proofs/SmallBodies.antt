@@ -10,7 +10,7 @@ use Rattle.sig_tree.specs.FlatSyntax.{FlatBody, FlatEquation, flat_body_of, flat
 use Rattle.sig_tree.specs.Grammar.{IsText}
 use Rattle.sig_tree.specs.Syntax.{ProcessModel}
 use Rattle.sig_tree.specs.WellFormed.{IsWellFormed}
-use Rattle.sig_call.specs.Sound.{IsTree, IsSized, flat_weights}
+use Rattle.sig_tree.specs.Sound.{IsTree, IsSized, flat_weights}
 use Rattle.sig_front.specs.Flats.{IsFlatText}
 
 -- a product of bounded numbers

@@ -2,7 +2,7 @@
 
 ghost use Rattle.std.specs.Prelude.{◌≡◌, ◌<◌, ◌≤◌, ◌^◌, ◌⊎◌, ℕ, List, IfOk, IfErr, IsErrAnd, MatchResult, bytes_eq, length, map};
 ghost use Rattle.std.specs.List.{IsDistinct};
-ghost use Rattle.sig_call.specs.Sound.{IsTree};
+ghost use Rattle.sig_tree.specs.Sound.{IsTree};
 ghost use Rattle.sig_tree.specs.FlatSyntax.{FlatBody, flat_body_of};
 ghost use Rattle.sig_tree.specs.Grammar.{IsText};
 ghost use Rattle.sig_tree.specs.Syntax.{program_of};
@@ -13,8 +13,9 @@ use crate::answer::FrontAnswer;
 use crate::text::tree;
 use sig_base::limits::PROGRAM_BYTES;
 use sig_call::{inline, names_of_flat_bodies, size_of_flat_bodies, trees_of_texts};
+use sig_scope::Typed;
 use sig_tree::{Flat, Program};
-use sig_type::{Typed, check_owned};
+use sig_type::check_owned;
 use std::alloc::Global;
 
 /// The flat body of the program that a text is, or the first refusal by the lexer, the parser, the

@@ -2,7 +2,7 @@
 
 ghost use Rattle.std.specs.Prelude.{◌≡◌, ◌<◌, ◌≤◌, ◌^◌, ◌⊎◌, List, IfOk, IfErr, IsErrAnd, MatchResult, length};
 ghost use Rattle.std.specs.List.{AllByRecursion};
-ghost use Rattle.sig_call.specs.SignalNames.{IsSignalName};
+ghost use Rattle.sig_tree.specs.SignalNames.{IsSignalName};
 ghost use Rattle.sig_kernel.specs.Validity.{IsValid};
 ghost use Rattle.sig_kernel.specs.declared.kernel.Kernel.{Kernel};
 ghost use Rattle.sig_front.specs.Kernels.{HasTracesOf, IsKernelText, IsNoKernelText};

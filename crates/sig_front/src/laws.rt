@@ -3,7 +3,7 @@
 ghost use Rattle.std.specs.Prelude.{◌≡◌, ◌<◌, ◌≤◌, ◌^◌, ℕ, List, length};
 ghost use Rattle.std.specs.List.{AllByRecursion};
 ghost use Rattle.sig_base.specs.declared.limits.TheConstants.{PROGRAM_BYTES};
-ghost use Rattle.sig_call.specs.SignalNames.{IsSignalName};
+ghost use Rattle.sig_tree.specs.SignalNames.{IsSignalName};
 ghost use Rattle.sig_tree.specs.Grammar.{IsText};
 ghost use Rattle.sig_tree.specs.Syntax.{ProcessModel};
 ghost use Rattle.sig_tree.specs.FlatSyntax.{FlatBody};

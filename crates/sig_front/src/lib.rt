@@ -1,6 +1,6 @@
 //! The passes from the text of a program on, joined: the first refusal of them, or what they give.
 //! What a text is, and its first refusal, is defined in `specs/`, over the bytes. It stands on
-//! sig_lex, sig_parse, sig_tree, sig_type, sig_call, sig_flat and sig_kernel.
+//! sig_lex, sig_parse, sig_tree, sig_scope, sig_type, sig_call, sig_flat and sig_kernel.
 #![tactic(auto)]
 
 mod answer;

@@ -1,7 +1,7 @@
 -- Lemmas on lists of candidates.
-use Rattle.std.specs.Prelude.{◌≡◌, List, [], ◌∷◌}
-use Rattle.std.proofs.Common.{◌∙◌, sym, inl, inr}
-use Rattle.sig_tree.specs.Candidates.{Candidate, Offence, NoneHolds, IsFirst}
+use Rattle.std.proofs.Common.{◌≡◌, ◌++◌, ◌∙◌, List, [], ◌∷◌, refl, ap, sym, inl, inr, map, append_assoc}
+use Rattle.std.specs.List.{flat_map}
+use Rattle.sig_tree.specs.Candidates.{Candidate, Offence, NoneHolds, IsFirst, each}
 
 pub one_first : (cs : List Candidate) (a b : Offence) → IsFirst cs a → IsFirst cs b → a ≡ b
 one_first [] a b f g = elim f [ ]
@@ -14,3 +14,16 @@ pub none_first : (cs : List Candidate) (a : Offence) → NoneHolds cs → IsFirs
 none_first [] a none f = elim f [ ]
 none_first (c ∷ cs) a none (inl f) = none.0 f.0
 none_first (c ∷ cs) a none (inr f) = none_first cs a none.1 f.1
+
+-- the candidates of each element of lists that are joined, mapped or flattened
+pub each_append : {A : Type 0} (of : A → List Candidate) (xs ys : List A) → each of (xs ++ ys) ≡ each of xs ++ each of ys
+each_append of [] ys = refl
+each_append of (x ∷ xs) ys = ap (λ cs. of x ++ cs) (each_append of xs ys) ∙ sym (append_assoc (of x) (each of xs) (each of ys))
+
+pub each_map : {A B : Type 0} (of : B → List Candidate) (f : A → B) (xs : List A) → each of (map f xs) ≡ each (λ x. of (f x)) xs
+each_map of f [] = refl
+each_map of f (x ∷ xs) = ap (λ cs. of (f x) ++ cs) (each_map of f xs)
+
+pub each_flat : {A B : Type 0} (of : B → List Candidate) (f : A → List B) (xs : List A) → each of (flat_map f xs) ≡ each (λ x. each of (f x)) xs
+each_flat of f [] = refl
+each_flat of f (x ∷ xs) = each_append of (f x) (flat_map f xs) ∙ ap (λ cs. each of (f x) ++ cs) (each_flat of f xs)

@@ -19,9 +19,12 @@ pub mod Processes
 pub mod Readings
 pub mod Repeated
 pub mod Rules
+pub mod SignalNames
+pub mod Sound
 pub mod Spines
 pub mod Steps
 pub mod Syntax
 pub mod Terminals
 pub mod Unplaced
 pub mod WellFormed
+pub mod WellMade

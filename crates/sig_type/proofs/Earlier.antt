@@ -11,7 +11,8 @@ use Rattle.sig_tree.specs.Rules.{IsSignal, IsCluster, bad_pragmas_of}
 use Rattle.sig_type.specs.declared.finding.First.{First}
 use Rattle.sig_type.specs.Findings.{Finds}
 use Rattle.sig_type.specs.Asked.{repeated, placed_twice}
-use Rattle.sig_type.proofs.Sequences.{finds_then, finds_as, finds_same, each_append}
+use Rattle.sig_type.proofs.Sequences.{finds_then, finds_as, finds_same}
+use Rattle.sig_tree.proofs.CandidateLemmas.{each_append}
 
 pub behind_append : {A : Type 0} (earlier xs : List A) (x : A) → behind earlier (xs ++ x ∷ []) ≡ behind earlier xs ++ (earlier ++ xs, x) ∷ []
 behind_append earlier [] x = ap (λ e. (e, x) ∷ []) (sym (append-nil earlier))

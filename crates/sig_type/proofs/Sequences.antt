@@ -1,7 +1,8 @@
 -- What is found of candidates that are asked for in a row.
-use Rattle.std.proofs.Common.{◌≡◌, ◌++◌, ℕ, List, [], ◌∷◌, refl, ap, sym, ◌∙◌, subst, inl, inr, Option, None, Some, map, take, drop, length, get_or, ◌+◌, ◌<◌, ◌≤◌, append_assoc, ◌↔◌}
+use Rattle.std.proofs.Common.{◌≡◌, ◌++◌, ℕ, List, [], ◌∷◌, refl, ap, sym, ◌∙◌, subst, inl, inr, Option, None, Some, map, take, drop, length, get_or, ◌+◌, ◌<◌, ◌≤◌, ◌↔◌}
 use Rattle.std.proofs.lemmas.List.{append-nil, take_more, take_all, take-append-drop, get_or_default}
 use Rattle.std.specs.List.{flat_map}
+use Rattle.sig_tree.proofs.CandidateLemmas.{each_append, each_map, each_flat}
 use Rattle.sig_tree.specs.Candidates.{Candidate, candidate, Offence, each, NoneHolds, IsFirst}
 use Rattle.sig_type.specs.declared.finding.Finding.{Finding}
 use Rattle.sig_type.specs.declared.finding.First.{First}
@@ -65,18 +66,6 @@ kept_same (Some f) b o P Q e h = h
 -- a candidate that holds where another one does
 pub finds_same : {a b : First} {o : Offence} {P : Type 0} (Q : Type 0) → (P ↔ Q) → Finds a b (candidate o P ∷ []) → Finds a b (candidate o Q ∷ [])
 finds_same {a} {b} {o} {P} Q e h = record { kept = kept_same a.found b.found o P Q e h.kept }
-
-pub each_append : {A : Type 0} (of : A → List Candidate) (xs ys : List A) → each of (xs ++ ys) ≡ each of xs ++ each of ys
-each_append of [] ys = refl
-each_append of (x ∷ xs) ys = ap (λ cs. of x ++ cs) (each_append of xs ys) ∙ sym (append_assoc (of x) (each of xs) (each of ys))
-
-pub each_map : {A B : Type 0} (of : B → List Candidate) (f : A → B) (xs : List A) → each of (map f xs) ≡ each (λ x. of (f x)) xs
-each_map of f [] = refl
-each_map of f (x ∷ xs) = ap (λ cs. of (f x) ++ cs) (each_map of f xs)
-
-pub each_flat : {A B : Type 0} (of : B → List Candidate) (f : A → List B) (xs : List A) → each of (flat_map f xs) ≡ each (λ x. each of (f x)) xs
-each_flat of f [] = refl
-each_flat of f (x ∷ xs) = each_append of (f x) (flat_map f xs) ∙ ap (λ cs. each of (f x) ++ cs) (each_flat of f xs)
 
 each_more : {A : Type 0} (of : A → List Candidate) (xs : List A) (i : ℕ) (x : A) → x ≡ get_or xs i x → i < length xs → each of (take (i + 1) xs) ≡ each of (take i xs) ++ of x
 each_more of xs i x is h = ap (each of) (take_more xs i x h) ∙ each_append of (take i xs) (get_or xs i x ∷ [])

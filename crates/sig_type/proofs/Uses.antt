@@ -9,7 +9,8 @@ use Rattle.sig_type.specs.declared.finding.First.{First}
 use Rattle.sig_type.specs.Findings.{Finds}
 use Rattle.sig_type.specs.Unknown.{unknown_signals, unknown_uses}
 use Rattle.std.proofs.Common.{[], ◌∷◌, ◌++◌}
-use Rattle.sig_type.proofs.Sequences.{finds_as, finds_both, each_map}
+use Rattle.sig_type.proofs.Sequences.{finds_as, finds_both}
+use Rattle.sig_tree.proofs.CandidateLemmas.{each_map}
 
 pub finds_signals : {a b : First} (all : List ProcessModel) (scope : List Declaration) (names : List Name) → Finds a b (unknown_signals scope names) → Finds a b (unknown_uses all scope (signals_used names))
 finds_signals all scope names h = finds_as (sym (each_map (λ u. unknown_use all scope u ∷ []) OfSignal names)) h

@@ -1,9 +1,9 @@
 -- All rules on a process, joined.
 use Rattle.std.proofs.Common.{◌≡◌, ◌++◌, List, [], ◌∷◌, refl, ap, sym, ◌∙◌, subst, append_assoc, Contains, map, ℕ, ◌+◌, ◌<◌, ◌≤◌, take, drop, length, get_or, Option, None, Some, ◌≢◌, ◌↔◌, Bool, IsTrue, slice_get, zero, suc, arith, is_some, inl, inr, true, false}
 use Rattle.std.proofs.lemmas.Option.{slice_get_cases, get_or_from_slice_get}
-use Rattle.sig_type.specs.Places.{place_of}
-use Rattle.sig_type.specs.Walked.{process_texts}
-use Rattle.sig_type.proofs.Placing.{place_found}
+use Rattle.sig_scope.specs.Places.{place_of}
+use Rattle.sig_scope.specs.Walked.{process_texts}
+use Rattle.sig_scope.proofs.Placing.{place_found}
 use Rattle.std.proofs.lemmas.List.{get_or-map, length-map, append-nil, take_more, take_all, take-append-drop}
 use Rattle.std.specs.List.{flat_map}
 use Rattle.sig_tree.specs.declared.expr.Name.{Name}
@@ -17,7 +17,8 @@ use Rattle.sig_type.specs.declared.finding.First.{First}
 use Rattle.sig_type.specs.Findings.{Finds, IsKept, IsFoundOf}
 use Rattle.sig_type.specs.Asked.{repeated, given_in, undefined_in, recursive_in, clashes_in, definitions_in, calls_in}
 use Rattle.sig_type.specs.Unknown.{unknown_in}
-use Rattle.sig_type.proofs.Sequences.{finds_as, finds_same, finds_both, finds_then, finds_stop, each_append}
+use Rattle.sig_type.proofs.Sequences.{finds_as, finds_same, finds_both, finds_then, finds_stop}
+use Rattle.sig_tree.proofs.CandidateLemmas.{each_append}
 use Rattle.sig_type.proofs.Earlier.{behind_append}
 
 join : (u t i d n c b k r p m : List Candidate)

@@ -1,11 +1,4 @@
 pub mod Answers
 pub mod Asked
-pub mod Calls
-pub mod Declarations
 pub mod Findings
-pub mod Formed
-pub mod Forms
-pub mod Places
-pub mod Typed
 pub mod Unknown
-pub mod Walked

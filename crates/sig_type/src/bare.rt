@@ -7,13 +7,13 @@ ghost use Rattle.sig_tree.specs.Candidates.{each};
 ghost use Rattle.sig_tree.specs.Kinds.{is_constant, is_negative_number};
 ghost use Rattle.sig_tree.specs.Rules.{MayNotBeFirst, MayNotBeSecond, place_of, bare_operands, bare_in_expression, bare_alone, bare_in_equation};
 ghost use Rattle.sig_type.specs.Findings.{Finds};
-ghost use Rattle.sig_type.specs.Forms.{form_in};
-ghost use Rattle.sig_type.specs.Walked.{bodies_in};
+ghost use Rattle.sig_kinds.specs.Forms.{form_in};
+ghost use Rattle.sig_scope.specs.Walked.{bodies_in};
 
 use crate::finding::{Finding, First};
-use crate::forms::{ConstantRule, Form, binary_form, cell_form};
-use crate::scope::Scope;
 use sig_base::Span;
+use sig_kinds::{ConstantRule, Form, binary_form, cell_form};
+use sig_scope::Scope;
 use sig_tree::{Body, Expr, Right, UnOp};
 
 /// Whether an expression is a constant: a number, `-` directly on a number, a truth, or a parameter.

@@ -6,11 +6,10 @@ ghost use Rattle.sig_tree.specs.Candidates.{BadCall, candidate, each};
 ghost use Rattle.sig_tree.specs.Declarations.{process_of};
 ghost use Rattle.sig_tree.specs.Rules.{DiffersFrom, bad_calls_of};
 ghost use Rattle.sig_type.specs.Findings.{Finds};
-ghost use Rattle.sig_type.specs.Walked.{bodies_in, interface_models};
+ghost use Rattle.sig_scope.specs.Walked.{bodies_in, interface_models};
 
 use crate::finding::{Finding, First};
-use crate::processes::Processes;
-use crate::scope::Interface;
+use sig_scope::{Interface, Processes};
 use sig_tree::{Body, Constant, Expr, Name, Right};
 
 /// Whether the numbers of a call are not those of the called process.

@@ -6,16 +6,14 @@ ghost use Rattle.sig_tree.specs.Candidates.{each};
 ghost use Rattle.sig_tree.specs.Kinds.{kind_of};
 ghost use Rattle.sig_tree.specs.Rules.{place_of_constant, IsUnfit, clash_of_constant, clash_of_init, clashes_of_expression, DoesNotTake, clash_of_left, clashes_of_results, clashes_of_constants, clashes_of_call, clashes_of_equation, clashes_of_inits};
 ghost use Rattle.sig_type.specs.Asked.{clashes_in, lefts_given, result_at};
-ghost use Rattle.sig_type.specs.Declarations.{declarations_in};
+ghost use Rattle.sig_scope.specs.Declarations.{declarations_in};
 ghost use Rattle.sig_type.specs.Findings.{Finds};
-ghost use Rattle.sig_type.specs.Walked.{bodies_in, interface_models};
+ghost use Rattle.sig_scope.specs.Walked.{bodies_in, interface_models};
 
-use crate::declared::Declared;
 use crate::finding::{Finding, First};
-use crate::forms::{Form, binary_form, cell_form, delay_form, takes, unary_form};
-use crate::processes::Processes;
-use crate::scope::{Interface, Scope};
 use sig_base::{Kind, Span};
+use sig_kinds::{Form, binary_form, cell_form, delay_form, takes, unary_form};
+use sig_scope::{Declared, Interface, Processes, Scope};
 use sig_tree::{Body, Constant, Expr, Name, Right};
 
 /// The place of a constant.

@@ -7,11 +7,11 @@ ghost use Rattle.sig_tree.specs.Candidates.{each};
 ghost use Rattle.sig_tree.specs.Declarations.{declaration_of};
 ghost use Rattle.sig_tree.specs.Rules.{HasInit, missing_init, missing_inits, missing_inits_of_right, missing_inits_of_equation};
 ghost use Rattle.sig_type.specs.Findings.{Finds};
-ghost use Rattle.sig_type.specs.Walked.{bodies_in};
+ghost use Rattle.sig_scope.specs.Walked.{bodies_in};
 
 use crate::finding::{Finding, First};
-use crate::scope::Scope;
 use sig_base::Span;
+use sig_scope::Scope;
 use sig_tree::{Body, Constant, Expr, Name, Right};
 
 /// A delay's own init, where it may be missing or not.

@@ -9,9 +9,8 @@ ghost use Rattle.sig_type.specs.Asked.{placed_twice};
 ghost use Rattle.sig_type.specs.Findings.{Finds};
 
 use crate::finding::{Finding, First};
-use crate::scope::Scope;
-use crate::texts::Texts;
 use sig_base::limits::CLUSTER_MAX;
+use sig_scope::{Scope, Texts};
 use sig_tree::{Name, RunOn};
 use std::alloc::{AllocError, Global};
 

@@ -4,14 +4,12 @@ ghost use Rattle.std.specs.Prelude.{◌≡◌, OnOk, IfOk, map};
 ghost use Rattle.sig_tree.specs.Candidates.{DeclaredTwice, DefinedTwice};
 ghost use Rattle.sig_tree.specs.Declarations.{texts};
 ghost use Rattle.sig_type.specs.Asked.{repeated, given_in, undefined_in};
-ghost use Rattle.sig_type.specs.Declarations.{declarations_in};
+ghost use Rattle.sig_scope.specs.Declarations.{declarations_in};
 ghost use Rattle.sig_type.specs.Findings.{Finds};
-ghost use Rattle.sig_type.specs.Walked.{names_in};
+ghost use Rattle.sig_scope.specs.Walked.{names_in};
 
-use crate::declared::{Declared, Role};
 use crate::finding::{Finding, First};
-use crate::scope::Scope;
-use crate::texts::Texts;
+use sig_scope::{Declared, Role, Scope, Texts};
 use sig_tree::Name;
 use std::alloc::{AllocError, Global};
 

@@ -1,7 +1,7 @@
 -- those so far are bound, and the others are left
 use Rattle.std.proofs.Common.{◌≡◌, ◌+◌, ◌++◌, drop}
 use Rattle.sig_tree.specs.FlatBody.{bound_from}
-use Rattle.sig_type.specs.Declarations.{declarations_in}
+use Rattle.sig_scope.specs.Declarations.{declarations_in}
 use Rattle.sig_call.specs.Bindings.{bindings_in}
 use Rattle.sig_call.proofs.binding.bind_signals.Given as goal
 

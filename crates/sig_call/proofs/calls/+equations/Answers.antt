@@ -6,13 +6,13 @@ use Rattle.sig_tree.specs.declared.process.Body.{Body}
 use Rattle.sig_tree.specs.Syntax.{model_of, expression_of, equations_of, right_side_of, Equations, Defines, Equal}
 use Rattle.sig_tree.specs.Declarations.{inputs_of, process_of, equations_of_model}
 use Rattle.sig_tree.specs.FlatBody.{with_copy}
-use Rattle.sig_type.specs.Declarations.{declaration_in}
-use Rattle.sig_type.specs.Walked.{interface_models, bodies_in}
-use Rattle.sig_type.proofs.Trees.{body_is}
+use Rattle.sig_scope.specs.Declarations.{declaration_in}
+use Rattle.sig_scope.specs.Walked.{interface_models, bodies_in}
+use Rattle.sig_scope.proofs.Trees.{body_is}
 use Rattle.sig_call.specs.Copies.{copy_in}
 use Rattle.sig_call.specs.MadeOf.{made_of}
 use Rattle.sig_call.specs.Making.{Made, Advances, NeedsMore}
-use Rattle.sig_call.specs.Sound.{IsReady}
+use Rattle.sig_tree.specs.Sound.{IsReady}
 use Rattle.sig_call.proofs.Leading.{needs_entering, needs_inside, needs_later, advances_called, advances_by, leads_equated}
 use Rattle.sig_call.proofs.Readiness.{advances_defined, call_adds, call_numbers, call_room, refused_by}
 use Rattle.sig_call.proofs.Lists.{all_mapped, split_at}

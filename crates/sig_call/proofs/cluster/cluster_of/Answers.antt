@@ -2,7 +2,7 @@ use Rattle.std.proofs.Common.{◌∙◌, ◌≤◌, ap, sym, map, arith}
 use Rattle.sig_tree.specs.FlatBody.{cluster_of}
 use Rattle.sig_tree.specs.Rules.{number_of}
 use Rattle.sig_tree.specs.Syntax.{placement_of}
-use Rattle.sig_type.proofs.Trees.{pragmas_are}
+use Rattle.sig_scope.proofs.Trees.{pragmas_are}
 use Rattle.sig_call.proofs.Labels.{low_at}
 use Rattle.sig_call.proofs.cluster.cluster_of.Goals as goal
 

@@ -1,6 +1,6 @@
 use Rattle.std.proofs.Common.{◌≡◌, ◌+◌, ◌∙◌, ap, sym, length}
 use Rattle.std.proofs.lemmas.List.{length-map}
-use Rattle.sig_type.specs.Declarations.{declarations_in, declaration_in}
+use Rattle.sig_scope.specs.Declarations.{declarations_in, declaration_in}
 use Rattle.sig_call.specs.Bindings.{bindings_in}
 use Rattle.sig_call.proofs.Bound.{bound_whole}
 use Rattle.sig_tree.specs.Syntax.{model_of}

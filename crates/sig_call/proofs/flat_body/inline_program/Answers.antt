@@ -6,13 +6,13 @@ use Rattle.sig_tree.specs.Syntax.{model_of, program_of, ProcessModel}
 use Rattle.sig_tree.specs.Declarations.{name_of, inputs_of, outputs_of, locals_of, all_processes, equations_of_model, process_of}
 use Rattle.sig_tree.specs.FlatBody.{Progress, copy_of, copied_signals, first_copy, first_progress}
 use Rattle.sig_tree.specs.FlatSyntax.{flat_body_of}
-use Rattle.sig_type.specs.Declarations.{declaration_in}
-use Rattle.sig_type.specs.Walked.{interface_models, bodies_in}
-use Rattle.sig_type.proofs.Trees.{body_is}
+use Rattle.sig_scope.specs.Declarations.{declaration_in}
+use Rattle.sig_scope.specs.Walked.{interface_models, bodies_in}
+use Rattle.sig_scope.proofs.Trees.{body_is}
 use Rattle.sig_call.specs.Copies.{copy_in}
 use Rattle.sig_call.specs.MadeOf.{made_of}
 use Rattle.sig_call.specs.Making.{Made, with_signals}
-use Rattle.sig_call.specs.Sound.{IsReady, AreExpandable}
+use Rattle.sig_tree.specs.Sound.{IsReady, AreExpandable}
 use Rattle.sig_call.proofs.Existence.{some_body}
 use Rattle.sig_call.proofs.Expandable.{expandable}
 use Rattle.sig_call.proofs.Readiness.{refused_by, copied_length}

@@ -1,5 +1,5 @@
 use Rattle.sig_base.specs.Traces.{Bounded}
-use Rattle.sig_call.specs.WellMade.{IsWellMade}
+use Rattle.sig_tree.specs.WellMade.{IsWellMade}
 use Rattle.sig_flat.specs.KernelOf.{kernel_of}
 use Rattle.sig_tree.specs.FlatSyntax.{FlatBody}
 use Rattle.sig_flat.proofs.Restricting.{Known, reduce_commutes}

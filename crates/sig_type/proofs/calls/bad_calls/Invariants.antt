@@ -2,7 +2,7 @@ use Rattle.sig_tree.specs.Candidates.{each}
 use Rattle.sig_tree.specs.Rules.{bad_calls_of}
 use Rattle.sig_tree.specs.Syntax.{equations_of}
 use Rattle.sig_type.specs.Findings.{Finds}
-use Rattle.sig_type.specs.Walked.{interface_models}
+use Rattle.sig_scope.specs.Walked.{interface_models}
 use Rattle.std.proofs.Common.{take}
 use Rattle.sig_type.proofs.calls.bad_calls.Given as goal
 

@@ -2,7 +2,7 @@ use Rattle.sig_tree.specs.Candidates.{each}
 use Rattle.sig_tree.specs.Rules.{clashes_of_expression}
 use Rattle.sig_tree.specs.Syntax.{expression_of}
 use Rattle.sig_type.proofs.Zipping.{AnyRefused}
-use Rattle.sig_type.specs.Declarations.{declarations_in}
+use Rattle.sig_scope.specs.Declarations.{declarations_in}
 use Rattle.sig_type.specs.Findings.{Finds}
 use Rattle.std.proofs.Common.{IsTrue, map, take, ◌↔◌}
 use Rattle.sig_type.proofs.clashes.arguments.Given as goal

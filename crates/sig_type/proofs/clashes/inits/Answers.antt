@@ -1,7 +1,7 @@
 use Rattle.sig_tree.specs.Declarations.{Declaration}
 use Rattle.sig_tree.specs.Rules.{clash_of_init}
 use Rattle.sig_type.proofs.Sequences.{finds_more, finds_mapped}
-use Rattle.sig_type.specs.Declarations.{declaration_in}
+use Rattle.sig_scope.specs.Declarations.{declaration_in}
 use Rattle.std.proofs.Common.{Some}
 use Rattle.sig_type.proofs.clashes.inits.Goals as goal
 

@@ -3,7 +3,7 @@ use Rattle.sig_tree.specs.Declarations.{uses_of_equation}
 use Rattle.sig_tree.specs.Syntax.{equations_of}
 use Rattle.sig_type.specs.Findings.{Finds}
 use Rattle.sig_type.specs.Unknown.{unknown_uses}
-use Rattle.sig_type.specs.Walked.{interface_models}
+use Rattle.sig_scope.specs.Walked.{interface_models}
 use Rattle.std.proofs.Common.{take}
 use Rattle.sig_type.proofs.names.equations.Given as goal
 

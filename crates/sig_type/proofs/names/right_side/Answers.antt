@@ -2,7 +2,7 @@ use Rattle.sig_tree.specs.Declarations.{names_of_constant, names_of_expression, 
 use Rattle.sig_tree.specs.Syntax.{expression_of}
 use Rattle.sig_type.proofs.Sequences.{finds_then, finds_same}
 use Rattle.sig_type.proofs.Uses.{finds_signals, unknown_both}
-use Rattle.sig_type.specs.Walked.{interface_models}
+use Rattle.sig_scope.specs.Walked.{interface_models}
 use Rattle.std.proofs.Common.{map, ◌++◌}
 use Rattle.std.specs.List.{flat_map}
 use Rattle.sig_type.proofs.names.right_side.Goals as goal

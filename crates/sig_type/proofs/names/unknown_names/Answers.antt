@@ -1,7 +1,7 @@
 use Rattle.sig_tree.specs.Declarations.{names_of_init, uses_of_equation, Declaration, signals_used}
 use Rattle.sig_type.proofs.Uses.{finds_signals, uses_both}
-use Rattle.sig_type.specs.Declarations.{declarations_in}
-use Rattle.sig_type.specs.Walked.{bodies_in, interface_models}
+use Rattle.sig_scope.specs.Declarations.{declarations_in}
+use Rattle.sig_scope.specs.Walked.{bodies_in, interface_models}
 use Rattle.std.proofs.Common.{◌++◌}
 use Rattle.std.specs.List.{flat_map}
 use Rattle.sig_type.proofs.names.unknown_names.Goals as goal

@@ -1,8 +1,8 @@
 use Rattle.sig_tree.specs.Candidates.{Recursive, candidate, each}
 use Rattle.sig_tree.specs.Rules.{Reaches}
-use Rattle.sig_type.specs.Calls.{IsCovered, graph_in}
+use Rattle.sig_recursion.specs.Calls.{IsCovered, graph_in}
 use Rattle.sig_type.specs.Findings.{Finds}
-use Rattle.sig_type.specs.Walked.{interface_models}
+use Rattle.sig_scope.specs.Walked.{interface_models}
 use Rattle.std.proofs.Common.{take, length, ◌≡◌, ◌∷◌, []}
 use Rattle.sig_type.proofs.recursion.recursive_calls.Given as goal
 

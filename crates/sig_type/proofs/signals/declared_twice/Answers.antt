@@ -3,8 +3,8 @@ use Rattle.sig_tree.specs.Declarations.{Declaration}
 use Rattle.sig_type.proofs.Earlier.{repeats, texts_more}
 use Rattle.sig_type.proofs.Sequences.{finds_as}
 use Rattle.sig_type.specs.Asked.{repeated}
-use Rattle.sig_type.specs.Declarations.{declaration_in, declarations_in}
-use Rattle.sig_type.specs.declared.declared.Declared.{Declared}
+use Rattle.sig_scope.specs.Declarations.{declaration_in, declarations_in}
+use Rattle.sig_scope.specs.declared.declared.Declared.{Declared}
 use Rattle.std.proofs.Common.{map, ap, sym, take, ◌≡◌, ◌∙◌}
 use Rattle.std.proofs.lemmas.List.{take_all}
 use Rattle.std.proofs.lemmas.Simd.{map-map}

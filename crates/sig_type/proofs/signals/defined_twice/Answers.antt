@@ -4,7 +4,7 @@ use Rattle.sig_tree.specs.declared.expr.Name.{Name}
 use Rattle.sig_type.proofs.Earlier.{repeats, texts_more}
 use Rattle.sig_type.proofs.Sequences.{finds_as}
 use Rattle.sig_type.specs.Asked.{repeated}
-use Rattle.sig_type.specs.Walked.{names_in}
+use Rattle.sig_scope.specs.Walked.{names_in}
 use Rattle.std.proofs.Common.{ap, Bor, ◌∙◌}
 use Rattle.std.proofs.lemmas.List.{take_all}
 use Rattle.sig_type.proofs.signals.defined_twice.Goals as goal

@@ -1,9 +1,9 @@
 use Rattle.sig_tree.specs.Syntax.{model_of}
 use Rattle.sig_tree.specs.declared.expr.Name.{Name}
-use Rattle.sig_type.proofs.Trees.{name_is}
+use Rattle.sig_scope.proofs.Trees.{name_is}
 use Rattle.sig_type.proofs.Whole.{calls_join, first_same, has_place}
-use Rattle.sig_type.specs.Declarations.{declarations_in}
-use Rattle.sig_type.specs.Walked.{bodies_in, names_in, interface_models}
+use Rattle.sig_scope.specs.Declarations.{declarations_in}
+use Rattle.sig_scope.specs.Walked.{bodies_in, names_in, interface_models}
 use Rattle.std.proofs.Common.{ap, sym, ◌∙◌, take}
 use Rattle.sig_type.proofs.well_formed.calls_of.Goals as goal
 

@@ -1,6 +1,6 @@
 use Rattle.sig_type.proofs.Whole.{definitions_join}
-use Rattle.sig_type.specs.Declarations.{declarations_in}
-use Rattle.sig_type.specs.Walked.{bodies_in, names_in}
+use Rattle.sig_scope.specs.Declarations.{declarations_in}
+use Rattle.sig_scope.specs.Walked.{bodies_in, names_in}
 use Rattle.std.proofs.Common.{ap, ◌∙◌}
 use Rattle.sig_type.proofs.well_formed.definitions.Goals as goal
 

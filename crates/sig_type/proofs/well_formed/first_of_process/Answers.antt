@@ -3,11 +3,11 @@ use Rattle.sig_tree.specs.Declarations.{Declaration, name_of, texts}
 use Rattle.sig_tree.specs.Syntax.{model_of}
 use Rattle.sig_tree.specs.declared.expr.Name.{Name}
 use Rattle.sig_type.proofs.Sequences.{finds_as, finds_same, finds_then}
-use Rattle.sig_type.proofs.Trees.{name_is, body_is, pragmas_are}
+use Rattle.sig_scope.proofs.Trees.{name_is, body_is, pragmas_are}
 use Rattle.sig_type.proofs.Whole.{joined}
 use Rattle.sig_type.specs.Asked.{repeated}
-use Rattle.sig_type.specs.Declarations.{declarations_in}
-use Rattle.sig_type.specs.Walked.{bodies_in, interface_models}
+use Rattle.sig_scope.specs.Declarations.{declarations_in}
+use Rattle.sig_scope.specs.Walked.{bodies_in, interface_models}
 use Rattle.std.proofs.Common.{ap, sym, ◌∙◌, map, take, ◌∷◌, [], Contains}
 use Rattle.sig_type.proofs.well_formed.first_of_process.Goals as goal
 

@@ -1,6 +1,6 @@
 use Rattle.std.proofs.Common.{◌≡◌, take}
 use Rattle.sig_tree.specs.Syntax.{model_of}
-use Rattle.sig_type.specs.Declarations.{declarations_in}
+use Rattle.sig_scope.specs.Declarations.{declarations_in}
 use Rattle.sig_call.specs.MadeOf.{made_of}
 use Rattle.sig_call.specs.Making.{with_signals, signals_copied}
 use Rattle.sig_call.proofs.expansion.Expansion.add_declared.Given as goal

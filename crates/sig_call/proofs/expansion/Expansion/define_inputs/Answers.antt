@@ -1,5 +1,5 @@
 use Rattle.sig_tree.specs.Syntax.{expression_of}
-use Rattle.sig_call.specs.Sound.{IsSmall}
+use Rattle.sig_tree.specs.Sound.{IsSmall}
 use Rattle.sig_call.proofs.Lists.{all_mapped}
 use Rattle.sig_call.proofs.expansion.Expansion.define_inputs.Goals as goal
 

@@ -1,0 +1,13 @@
+use Rattle.std.proofs.Common.{map, ap, ◌∙◌, ◌++◌, Bor}
+use Rattle.sig_tree.specs.Syntax.{Equations, equations_of}
+use Rattle.sig_tree.specs.declared.process.Body.{Body}
+use Rattle.sig_scope.proofs.Growing.{grown}
+use Rattle.sig_kinds.proofs.Typing.{kinds_flat}
+use Rattle.sig_scope.specs.Typed.{known, kinds_in, expressions_of}
+use Rattle.sig_scope.specs.Walked.{bodies_in}
+use Rattle.sig_kinds.proofs.kinds.add_equations.Goals as goal
+
+pub returns : goal.returns
+returns c =
+    grown (λ (eq : Equations). map known (kinds_in c.args.scope.now (expressions_of eq))) (λ (b : Bor Body). equations_of b.now) c.args.all.now.items _ c.args.equations.now _ c.loop-equation-test.false c.loop-equation.invariant
+    ∙ ap (λ l. c.args.all.now.items ++ l) (kinds_flat c.args.scope.now (bodies_in c.args.equations.now))

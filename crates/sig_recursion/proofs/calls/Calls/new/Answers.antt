@@ -1,0 +1,26 @@
+use Rattle.sig_tree.specs.Declarations.{called_in, called_by}
+use Rattle.sig_tree.specs.Syntax.{model_of, ProcessModel}
+use Rattle.sig_scope.proofs.Growing.{lengthens}
+use Rattle.sig_scope.proofs.Trees.{body_is}
+use Rattle.sig_recursion.specs.Calls.{places_called}
+use Rattle.sig_scope.specs.Walked.{bodies_in, names_in, process_texts, interface_models}
+use Rattle.sig_scope.specs.declared.scope.Interface.{Interface}
+use Rattle.std.proofs.Common.{ℕ, [], ap, sym, ◌∙◌, map}
+use Rattle.std.proofs.lemmas.List.{take_all}
+use Rattle.std.proofs.lemmas.Simd.{map-map}
+use Rattle.std.specs.Global.{Vec}
+use Rattle.std.specs.List.{flat_map}
+use Rattle.sig_recursion.proofs.calls.Calls.new.Goals as goal
+
+pub loop-interface-preserved : goal.loop-interface-preserved
+loop-interface-preserved c =
+    let ts = process_texts (interface_models c.args.processes.now.interfaces.items) in
+    rw c.in_ok-push.ensures.items (lengthens (λ (i : Interface). places_called ts (called_by (model_of i.process.now))) (λ (v : Vec ℕ). v.items) [] _ c.in_ok-places.places c.as_slice-interface-items.result.now c.loop-interface.interface-index c.interface-item.result c.interface-item.is c.loop-interface-test.true c.loop-interface.invariant
+    (c.in_ok-places.ensures ∙ ap (λ ns. places_called ts (names_in ns)) c.deref-in-loop-interface.ensures.value ∙ ap (places_called ts) (c.in_ok-names.ensures ∙ ap (λ bs. flat_map called_in (bodies_in bs)) c.deref.ensures.value
+    ∙ ap (flat_map called_in) (c.in_ok-body.ensures ∙ sym (body_is c.interface-item.result.process.now)))))
+
+pub returns : goal.returns
+returns c =
+    let ts = process_texts (interface_models c.args.processes.now.interfaces.items) in
+    c.loop-interface.invariant ∙ ap (map (λ (i : Interface). places_called ts (called_by (model_of i.process.now)))) (take_all _ c.as_slice-interface-items.result.now c.loop-interface-test.false ∙ c.as_slice-interface-items.ensures)
+    ∙ sym (map-map (λ (p : ProcessModel). places_called ts (called_by p)) (λ (i : Interface). model_of i.process.now) c.args.processes.now.interfaces.items)

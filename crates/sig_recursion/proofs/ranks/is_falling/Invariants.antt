@@ -1,0 +1,6 @@
+use Rattle.sig_recursion.specs.Calls.{graph_in}
+use Rattle.sig_recursion.proofs.Ranking.{FallsBelow}
+use Rattle.sig_recursion.proofs.ranks.is_falling.Given as goal
+
+abbrev pub invariant-loop-place : goal.invariant-loop-place
+invariant-loop-place l = FallsBelow (graph_in l.callees) l.ranks l.place

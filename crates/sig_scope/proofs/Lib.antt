@@ -1,0 +1,4 @@
+pub mod Growing
+pub mod Placing
+pub mod Scopes
+pub mod Trees

@@ -1,0 +1,8 @@
+use Rattle.std.proofs.Common.{map, []}
+use Rattle.sig_tree.specs.Syntax.{Declared, declared_of}
+use Rattle.sig_scope.specs.Declarations.{role_in, item_in}
+use Rattle.sig_scope.proofs.Growing.{grown}
+use Rattle.sig_scope.proofs.declared.declared_by.Goals as goal
+
+pub returns : goal.returns
+returns c = grown (λ (group : Declared). map (item_in group.kind (role_in c.args.role)) group.items) declared_of [] _ c.args.groups.now _ c.loop-group-test.false c.loop-group.invariant

@@ -1,0 +1,16 @@
+use Rattle.sig_tree.specs.Declarations.{with_inner}
+use Rattle.sig_tree.specs.Syntax.{model_of}
+use Rattle.sig_tree.specs.declared.process.Process.{Process}
+use Rattle.sig_scope.proofs.Growing.{grown}
+use Rattle.sig_scope.proofs.Trees.{add_is}
+use Rattle.sig_scope.specs.Walked.{models_in}
+use Rattle.std.proofs.Common.{map, ap, Bor, ◌≡◌, ◌∙◌, ◌++◌, ◌∷◌, []}
+use Rattle.std.proofs.lemmas.List.{map-append}
+use Rattle.std.specs.List.{flat_map}
+use Rattle.sig_scope.proofs.processes.+add_process.Goals as goal
+
+pub returns : goal.returns
+returns t c =
+    let whole : models_in c.loop-inner.all.items ≡ models_in c.push.new.self.items ++ flat_map with_inner (map model_of c.deref-inner-items.result.now) = grown with_inner model_of (models_in c.push.new.self.items) _ c.deref-inner-items.result.now _ c.loop-inner-test.false c.loop-inner.invariant in
+    let pushed : models_in c.push.new.self.items ≡ models_in c.args.all.now.items ++ model_of c.args.process.now ∷ [] = ap models_in c.in_ok-push.ensures.items ∙ map-append (λ (p : Bor Process). model_of p.now) c.args.all.now.items (c.args.process ∷ []) in
+    add_is c.args.process.now (models_in c.args.all.now.items) (models_in c.loop-inner.all.items) (models_in c.push.new.self.items) c.deref-inner-items.result.now c.deref-inner-items.ensures.value pushed whole

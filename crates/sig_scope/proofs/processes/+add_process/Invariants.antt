@@ -1,0 +1,9 @@
+use Rattle.sig_tree.specs.Declarations.{with_inner}
+use Rattle.sig_tree.specs.Syntax.{model_of}
+use Rattle.sig_scope.specs.Walked.{models_in}
+use Rattle.std.proofs.Common.{take, ◌++◌, ◌≡◌}
+use Rattle.std.specs.List.{flat_map}
+use Rattle.sig_scope.proofs.processes.+add_process.Given as goal
+
+abbrev pub invariant-loop-inner : goal.invariant-loop-inner
+invariant-loop-inner l = models_in l.all.items ≡ models_in l.initial.all.items ++ flat_map (λ p. with_inner (model_of p)) (take l.inner-index l.inner-items)

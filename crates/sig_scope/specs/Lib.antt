@@ -1,0 +1,5 @@
+pub mod Declarations
+pub mod Formed
+pub mod Places
+pub mod Typed
+pub mod Walked

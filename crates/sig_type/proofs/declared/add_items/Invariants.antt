@@ -1,6 +1,0 @@
-use Rattle.sig_type.specs.Declarations.{declarations_in, item_in, role_in}
-use Rattle.std.proofs.Common.{map, take, ◌++◌, ◌≡◌}
-use Rattle.sig_type.proofs.declared.add_items.Given as goal
-
-abbrev pub invariant-loop-item : goal.invariant-loop-item
-invariant-loop-item l = declarations_in l.all.items ≡ declarations_in l.initial.all.items ++ map (item_in l.kind (role_in l.role)) (take l.item-index l.items)

@@ -1,8 +1,0 @@
-use Rattle.std.proofs.Common.{map, []}
-use Rattle.sig_tree.specs.Syntax.{Declared, declared_of}
-use Rattle.sig_type.specs.Declarations.{role_in, item_in}
-use Rattle.sig_type.proofs.Growing.{grown}
-use Rattle.sig_type.proofs.declared.declared_by.Goals as goal
-
-pub returns : goal.returns
-returns c = grown (λ (group : Declared). map (item_in group.kind (role_in c.args.role)) group.items) declared_of [] _ c.args.groups.now _ c.loop-group-test.false c.loop-group.invariant

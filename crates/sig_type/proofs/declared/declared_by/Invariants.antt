@@ -1,7 +1,0 @@
-use Rattle.sig_type.specs.Declarations.{declarations_in, item_in, role_in}
-use Rattle.std.proofs.Common.{map, take, ◌≡◌}
-use Rattle.std.specs.List.{flat_map}
-use Rattle.sig_type.proofs.declared.declared_by.Given as goal
-
-abbrev pub invariant-loop-group : goal.invariant-loop-group
-invariant-loop-group l = declarations_in l.all.items ≡ flat_map (λ group. map (item_in group.kind (role_in l.role)) group.items.items) (take l.group-index l.groups)

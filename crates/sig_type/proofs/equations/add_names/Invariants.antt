@@ -1,6 +1,0 @@
-use Rattle.sig_type.specs.Walked.{names_in}
-use Rattle.std.proofs.Common.{map, take, ◌++◌, ◌≡◌}
-use Rattle.sig_type.proofs.equations.add_names.Given as goal
-
-abbrev pub invariant-loop-name : goal.invariant-loop-name
-invariant-loop-name l = names_in l.all.items ≡ names_in l.initial.all.items ++ map (λ n. n) (take l.name-index l.names)

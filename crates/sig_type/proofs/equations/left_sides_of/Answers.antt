@@ -1,9 +1,0 @@
-use Rattle.std.proofs.Common.{[], Bor}
-use Rattle.sig_tree.specs.declared.process.Body.{Body}
-use Rattle.sig_tree.specs.Syntax.{equations_of}
-use Rattle.sig_tree.specs.Declarations.{left_sides}
-use Rattle.sig_type.proofs.Growing.{grown}
-use Rattle.sig_type.proofs.equations.left_sides_of.Goals as goal
-
-pub returns : goal.returns
-returns c = grown left_sides (λ (b : Bor Body). equations_of b.now) [] _ c.args.equations.now _ c.loop-equation-test.false c.loop-equation.invariant

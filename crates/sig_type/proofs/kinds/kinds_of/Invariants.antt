@@ -1,8 +1,0 @@
-use Rattle.std.proofs.Common.{◌≡◌, map, take}
-use Rattle.std.specs.List.{flat_map}
-use Rattle.sig_tree.specs.Syntax.{model_of}
-use Rattle.sig_type.specs.Typed.{known, kinds_of_model}
-use Rattle.sig_type.proofs.kinds.kinds_of.Given as goal
-
-abbrev pub invariant-loop-interface : goal.invariant-loop-interface
-invariant-loop-interface l = l.all.items ≡ flat_map (λ i. map known (kinds_of_model (model_of i.process.now))) (take l.interface-index l.interface-items)

@@ -1,7 +1,0 @@
-use Rattle.std.proofs.Common.{◌≡◌, map, take}
-use Rattle.sig_tree.specs.Declarations.{name_of}
-use Rattle.sig_tree.specs.Syntax.{model_of}
-use Rattle.sig_type.proofs.processes.names_of.Given as goal
-
-abbrev pub invariant-loop-process : goal.invariant-loop-process
-invariant-loop-process l = l.names ≡ map (λ p. (name_of (model_of p.now)).text) (take l.process-index l.processes)

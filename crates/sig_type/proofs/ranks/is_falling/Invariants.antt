@@ -1,6 +1,0 @@
-use Rattle.sig_type.specs.Calls.{graph_in}
-use Rattle.sig_type.proofs.Ranking.{FallsBelow}
-use Rattle.sig_type.proofs.ranks.is_falling.Given as goal
-
-abbrev pub invariant-loop-place : goal.invariant-loop-place
-invariant-loop-place l = FallsBelow (graph_in l.callees) l.ranks l.place

@@ -1,9 +1,0 @@
-use Rattle.sig_tree.specs.Declarations.{called_by}
-use Rattle.sig_tree.specs.Syntax.{model_of}
-use Rattle.sig_type.specs.Calls.{graph_in, places_called}
-use Rattle.sig_type.specs.Walked.{process_texts, interface_models}
-use Rattle.std.proofs.Common.{map, take, ◌≡◌}
-use Rattle.sig_type.proofs.recursion.Calls.new.Given as goal
-
-abbrev pub invariant-loop-interface : goal.invariant-loop-interface
-invariant-loop-interface l = graph_in l.callees.items ≡ map (λ i. places_called (process_texts (interface_models l.processes.interfaces.items)) (called_by (model_of i.process.now))) (take l.interface-index l.interface-items)

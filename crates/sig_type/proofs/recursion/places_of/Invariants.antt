@@ -1,9 +1,0 @@
-use Rattle.sig_type.specs.Calls.{list_of}
-use Rattle.sig_type.specs.Places.{place_of}
-use Rattle.sig_type.specs.Walked.{process_texts, interface_models}
-use Rattle.std.proofs.Common.{take, ◌≡◌}
-use Rattle.std.specs.List.{flat_map}
-use Rattle.sig_type.proofs.recursion.places_of.Given as goal
-
-abbrev pub invariant-loop-name : goal.invariant-loop-name
-invariant-loop-name l = l.all.items ≡ flat_map (λ n. list_of (place_of (process_texts (interface_models l.processes.interfaces.items)) n.now.text)) (take l.name-index l.names)

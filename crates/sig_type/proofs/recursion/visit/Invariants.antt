@@ -1,6 +1,0 @@
-use Rattle.sig_type.specs.Calls.{Visits}
-use Rattle.std.proofs.Common.{take}
-use Rattle.sig_type.proofs.recursion.visit.Given as goal
-
-abbrev pub invariant-loop-place : goal.invariant-loop-place
-invariant-loop-place l = Visits l.initial.visited l.initial.waiting.items l.visited l.waiting.items (take l.place-index l.places)

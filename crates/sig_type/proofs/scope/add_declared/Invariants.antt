@@ -1,6 +1,0 @@
-use Rattle.sig_type.specs.Declarations.{declaration_in, declarations_in}
-use Rattle.std.proofs.Common.{map, take, ◌++◌, ◌≡◌}
-use Rattle.sig_type.proofs.scope.add_declared.Given as goal
-
-abbrev pub invariant-loop-one : goal.invariant-loop-one
-invariant-loop-one l = declarations_in l.all.items ≡ declarations_in l.initial.all.items ++ map declaration_in (take l.one-index l.more)

@@ -1,6 +1,0 @@
-use Rattle.sig_type.specs.Declarations.{declarations_in, texts_in}
-use Rattle.std.proofs.Common.{take, ◌≡◌}
-use Rattle.sig_type.proofs.scope.names_of.Given as goal
-
-abbrev pub invariant-loop-one : goal.invariant-loop-one
-invariant-loop-one l = l.names ≡ texts_in (declarations_in (take l.one-index l.declared))
