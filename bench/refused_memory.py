@@ -4,7 +4,8 @@
 Runs SIGC on each of the rows below once for each number N, with the Nth allocation refused (bench/refuse.c, compiled by gcc,
 in the place of malloc), until a run makes no Nth one. Each run must say that memory is wanting, with status 7 and nothing on
 standard output, or give what the row gives with ample memory; where one of the first two is refused, the buffers of the
-streams, nothing can be said, and the status alone says it. Prints of each row how many runs ended in which way, and of
+streams, nothing can be said, and the status alone says it. Each run that says so is made once more with a standard error
+that takes nothing, and must end with status 7 there too. Prints of each row how many runs ended in which way, and of
 each that ended otherwise its number. The status is 0 where there is none. A program with a malloc of its own, as one with an
 address sanitizer, makes no allocation that the library sees: that is said, and the status is 1.
 
@@ -54,7 +55,7 @@ def shim(folder):
     return path
 
 
-def run(words, folder, library=None, number=0):
+def run(words, folder, library=None, number=0, err=subprocess.PIPE):
     """The status, standard output and standard error of a run, and whether its allocation of this number was refused."""
     if library is None:
         ran = subprocess.run(words, cwd=folder, capture_output=True, timeout=60)
@@ -62,12 +63,21 @@ def run(words, folder, library=None, number=0):
     mark, told = os.pipe()
     environment = {"LD_PRELOAD": library, "REFUSE": str(number), "REFUSE_FD": str(told)}
     try:
-        ran = subprocess.run(words, cwd=folder, capture_output=True, timeout=60, env=environment, pass_fds=[told])
+        ran = subprocess.run(
+            words, cwd=folder, stdout=subprocess.PIPE, stderr=err, timeout=60, env=environment, pass_fds=[told]
+        )
     finally:
         os.close(told)
         with os.fdopen(mark, "rb") as read:
             refused = read.read()
     return (ran.returncode, ran.stdout, ran.stderr), bool(refused)
+
+
+def run_unheard(words, folder, library, number):
+    """The same with a standard error that takes nothing."""
+    with open("/dev/full", "wb") as full:
+        (status, out, _), _ = run(words, folder, library, number, full)
+    return status, out
 
 
 def tried(sigc, name, library):
@@ -93,6 +103,9 @@ def tried(sigc, name, library):
             elif ended not in (REFUSED, ample):
                 other.append(number)
                 print(f"{name}: allocation {number}: {ended}")
+            if ended == REFUSED and run_unheard([sigc, *words], folder, library, number) != (7, b""):
+                other.append(number)
+                print(f"{name}: allocation {number}: another status without standard error")
         if number == 1:
             print(f"{name}: no allocation was seen: the program has a malloc of its own")
             return [0]

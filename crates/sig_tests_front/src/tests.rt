@@ -4,6 +4,7 @@ mod call;
 mod flat;
 mod front;
 mod kernel;
+mod scopes;
 mod texts;
 mod types;
 mod writing;

@@ -1,3 +1,4 @@
+use super::texts::WATCH;
 use sig_base::limits::PROGRAM_BYTES;
 use sig_front::{front, tree};
 use sig_kernel::Kernel;
@@ -38,27 +39,6 @@ fn names_the_first_refusal(rt: HostRuntime) -> Result<(), Fail> {
     Ok(())
 }
 
-const WATCH: &str =
-    r#"process WATCH = (? event TICK; boolean REQ; integer V ! integer HELD; boolean ALARM)
-pragmas RunOn {AGE, ALARM} "1" end pragmas
-(| REQ ^= TICK
- | V ^= when REQ
- | HELD := V cell TICK init 0
- | AGE := COUNT{3}(REQ)
- | LATE := AGE >= 3
- | WAS := LATE $ init false
- | ALARM := LATE and not WAS
- |)
-where integer AGE; boolean LATE, WAS;
-  process COUNT = {integer MAX} (? boolean R ! integer N)
-  (| N := (0 when R) default (MAX when (ZN >= MAX)) default (ZN + 1)
-   | ZN := N $
-   | N ^= R
-   |)
-  where integer ZN init 0; end;
-end;
-"#;
-
 /// The kernel of a text that is short enough.
 fn kernel(alloc: Global, bytes: &[u8]) -> Result<Option<Kernel>, Fail> {
     if bytes.len() > PROGRAM_BYTES {
@@ -69,7 +49,7 @@ fn kernel(alloc: Global, bytes: &[u8]) -> Result<Option<Kernel>, Fail> {
 
 #[test]
 fn watch_has_its_kernel(rt: HostRuntime) -> Result<(), Fail> {
-    let found = kernel(rt.alloc(), WATCH.as_bytes())?;
+    let found = kernel(rt.alloc(), WATCH)?;
     assert!(rt; found.is_some());
     if let Some(kernel) = found {
         let signals = kernel.signals.as_slice();

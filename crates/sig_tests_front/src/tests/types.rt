@@ -1,18 +1,15 @@
-//! Texts by their places, what a program's processes say, and a small program that is checked.
+//! A small program that is checked, and the first rule that others break.
 
-use super::texts::program;
-use sig_type::{Processes, Texts, check, check_owned, flat_equations};
+use super::texts::{SUM, WATCH, program};
+use sig_type::{check, check_owned};
 use std::test::Fail;
 
 #[test]
-fn texts_keep_their_first_place(rt: HostRuntime) -> Result<(), Fail> {
-    let mut texts = Texts::new(rt.alloc());
-    assert!(rt; !texts.add(b"A")?);
-    assert!(rt; !texts.add(b"B")?);
-    assert!(rt; texts.add(b"A")?);
-    assert_eq!(rt; texts.place(b"B"), Some(1));
-    assert_eq!(rt; texts.place(b"A"), Some(0));
-    assert!(rt; texts.place(b"C").is_none());
+fn programs_are_well_formed(rt: HostRuntime) -> Result<(), Fail> {
+    for text in [SUM, WATCH] {
+        let program = program(rt.alloc(), text)?;
+        assert!(rt; check(rt.alloc(), &program).is_ok());
+    }
     Ok(())
 }
 
@@ -49,23 +46,6 @@ fn the_first_offence_is_told(rt: HostRuntime) -> Result<(), Fail> {
                 assert_eq!(rt; answer.to_string(alloc)?.as_str(), wanted);
             }
         }
-    }
-    Ok(())
-}
-
-#[test]
-fn processes_and_their_equations(rt: HostRuntime) -> Result<(), Fail> {
-    let alloc = rt.alloc();
-    let text =
-        b"process P = (? ! ) (| A := B | (| C ^= D | (| |) |) |) where process Q = (? ! ) (| |); end;";
-    let program = program(alloc, text)?;
-    let processes = Processes::new(alloc, &program)?;
-    assert_eq!(rt; processes.as_slice().len(), 2);
-    assert_eq!(rt; processes.place(b"Q"), Some(1));
-    assert!(rt; processes.get(b"R").is_none());
-    if let Some(interface) = processes.get(b"P") {
-        let equations = flat_equations(alloc, &interface.process.body)?;
-        assert_eq!(rt; equations.len(), 2);
     }
     Ok(())
 }

@@ -1,0 +1,9 @@
+//! The tests of each crate in a module of its name, and what they share.
+
+mod clock;
+mod dd;
+mod diagrams;
+mod hier;
+mod rel;
+mod solve;
+mod texts;
