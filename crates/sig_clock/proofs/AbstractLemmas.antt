@@ -1,32 +1,7 @@
 -- Lemmas on what is left of an instant where the values of integers are left out.
-use Rattle.std.proofs.Common.{◌≡◌, ◌<◌, ◌≤◌, ◌+◌, ◌⊎◌, inl, inr, ℕ, ℤ, pos, Bool, true, false, not, cond, List, [], ◌∷◌, length, map, get_or, refl, sym, ap, ◌∙◌, subst, arith}
-use Rattle.std.specs.Prelude.{zero, suc, Option, None, Some, is_some, slice_get, ◌&&◌, ◌||◌}
-use Rattle.std.specs.List.{list_all, list_any, AllByRecursion}
-use Rattle.std.specs.Ordering.{int_eq}
-use Rattle.std.proofs.lemmas.Bool.{and_parts, false≢true}
-use Rattle.std.proofs.Math.Bool.{or-false}
-use Rattle.sig_base.specs.Functions.{Function, Identity, Negative, Not as Negation, And as Conjunction, Or as Disjunction, Xor as Exclusive, Equal, NotEqual, Gives, Tells}
-use Rattle.sig_base.specs.Traces.{Seen, Instant, Range, AreOfKinds, IsOfKind, IsValue, is_silent as is_silent_instant, seen_at}
-use Rattle.sig_base.specs.declared.ids.Kind.{Kind}
-use Rattle.sig_base.specs.declared.ids.Kind.TheVariants.{Integer, Boolean, Event}
-use Rattle.sig_base.specs.declared.ids.SigId.{SigId}
-use Rattle.sig_base.specs.declared.signal.Signal.{Signal}
-use Rattle.sig_kernel.specs.KernelTraces.{Memory, Meets, HaveValues, AreAbsent, IsFunction, IsReaction as IsInstant, function_of, where_present as seen_where_present, where_true as seen_where_true, or_else as seen_or_else}
-use Rattle.sig_kernel.specs.Table.{defines_well, equality, form_fits, function_rows, handed_on, handed_on_where, is_kind, keeps_to_one, kind_at, kind_fits, kind_is, kind_of, merged, operand_is, operands_are, operands_of, target_fits}
-use Rattle.sig_kernel.specs.Validity.{IsValid, is_signal}
-use Rattle.sig_kernel.specs.declared.equation.Equation.{Equation}
-use Rattle.sig_kernel.specs.declared.equation.Form.{Form}
-use Rattle.sig_kernel.specs.declared.equation.Form.TheVariants.{Fun, Delay, When, WhenConst, Default, Sync, Event as EventOf}
-use Rattle.sig_kernel.specs.declared.equation.FunOp.{FunOp}
-use Rattle.sig_kernel.specs.declared.equation.FunOp.TheVariants.{Id, Neg, Not, And, Or, Xor, Eq, Ne, Lt, Le, Gt, Ge, Add, Sub, Mul, Div, Mod}
-use Rattle.sig_kernel.specs.declared.kernel.Kernel.{Kernel}
-use Rattle.std.proofs.lemmas.Bool.Decides.{Decides-int_eq}
-use Rattle.sig_kernel.specs.declared.equation.Operand.{Operand}
-use Rattle.sig_kernel.specs.declared.equation.Operand.TheVariants.{Sig, Const}
-use Rattle.sig_kernel.specs.declared.table.Sort.{Sort}
-use Rattle.sig_kernel.specs.declared.table.Sort.TheVariants.{Integer as AnInteger, Truth, Event as AnEvent, Any}
-use Rattle.sig_clock.specs.Abstractions.{abstraction_of, status_of, truth_of_value}
-use Rattle.sig_clock.specs.Reactions.{IsReaction, Reaction, Speaks, Status, status_at, is_present, is_silent, is_with, is_integer, is_integer_kind, same_status, same_truth, where_present, where_true, or_else, constant_truth, meets, are_statuses, is_status_of, operand_truth, truth_of_status, truth_function, function_truth, has_truth}
+use Rattle.sig_clock.proofs.Common.{◌≡◌, ◌<◌, ◌⊎◌, inl, inr, ℕ, ℤ, pos, Bool, true, false, not, cond, List, [], ◌∷◌, length, map, get_or, refl, sym, ap, ◌∙◌, subst, arith, zero, suc, Option, None, Some, is_some, slice_get, ◌&&◌, ◌||◌, list_all, list_any, AllByRecursion, int_eq, and_parts, false≢true, or-false, Function, Identity, Not as Negation, And as Conjunction, Or as Disjunction, Xor as Exclusive, Equal, NotEqual, Gives, Tells, Seen, Instant, Range, AreOfKinds, IsOfKind, IsValue, is_silent_instant, seen_at, Kind, Integer, Boolean, SigId, Signal, Memory, Meets, HaveValues, AreAbsent, IsFunction, IsInstant, function_of, seen_where_present, seen_where_true, seen_or_else, defines_well, equality, form_fits, function_rows, handed_on, handed_on_where, is_kind, keeps_to_one, kind_at, kind_fits, kind_is, kind_of, merged, operand_is, operands_are, operands_of, target_fits, IsValid, is_signal, Equation, Form, Fun, Delay, When, WhenConst, Default, Sync, Event as EventOf, FunOp, Id, Neg, Eq, Ne, Lt, Le, Gt, Ge, Add, Sub, Mul, Div, Mod, Kernel, Decides-int_eq, Operand, Sig, Const, Sort, AnInteger, Truth, AnEvent, abstraction_of, status_of, truth_of_value, IsReaction, Speaks, Status, status_at, is_present, is_silent, is_with, is_integer, is_integer_kind, same_status, same_truth, where_present, where_true, or_else, constant_truth, meets, are_statuses, is_status_of, operand_truth, truth_of_status, truth_function, function_truth, has_truth}
+use Rattle.sig_base.specs.declared.ids.Kind.TheVariants.{Event}
+use Rattle.sig_kernel.specs.declared.equation.FunOp.TheVariants.{Not, And, Or, Xor}
 
 -- a status by the kind of a signal, where it has one
 abbrev pub status_by : Option Kind → Seen → Status
@@ -189,10 +164,6 @@ present_with range signals instant (Const c ∷ operands) (v ∷ values) kinds h
 abbrev bit : Bool → ℤ
 bit true = pos 1
 bit false = pos 0
-
-bit_is : (b : Bool) → int_eq (bit b) (pos 1) ≡ b
-bit_is true = refl
-bit_is false = refl
 
 zero_one : pos 0 ≡ pos 1 → ⊥
 zero_one e = false≢true (ap (λ w. int_eq w (pos 1)) e)

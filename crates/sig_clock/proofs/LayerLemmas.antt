@@ -1,13 +1,5 @@
 -- Lemmas on layers and refusals.
-use Rattle.std.proofs.Common.{◌≡◌, ◌<◌, ◌≤◌, ◌+◌, ◌⊎◌, inl, inr, ℕ, Bool, true, false, refl, sym, ap, ◌∙◌, subst, arith}
-use Rattle.std.specs.Prelude.{zero, suc}
-use Rattle.std.proofs.lemmas.Bool.{cases_order, false≢true}
-use Rattle.sig_clock.specs.ClockRefusals.{HasClocks, IsFirstPinned, IsLeast, IsMissingRoot, IsPossible, IsPossibleWithout, IsUnsolved}
-use Rattle.sig_clock.specs.Layers.{AgreeOn, EntersBy, HasLayer, IsDead, IsDetermined, IsEarlier}
-use Rattle.sig_clock.specs.Pinned.{IsPinned}
-use Rattle.sig_clock.specs.Conditions.{is_condition}
-use Rattle.sig_clock.specs.Reactions.{Reaction, Speaks, is_present, is_silent}
-use Rattle.sig_kernel.specs.declared.kernel.Kernel.{Kernel}
+use Rattle.sig_clock.proofs.Common.{◌≡◌, ◌<◌, ◌≤◌, ◌+◌, ◌⊎◌, inl, inr, ℕ, Bool, true, false, refl, sym, ap, ◌∙◌, subst, arith, zero, suc, cases_order, false≢true, HasClocks, IsFirstPinned, IsLeast, IsMissingRoot, IsPossible, IsPossibleWithout, IsUnsolved, AgreeOn, EntersBy, HasLayer, IsDead, IsDetermined, IsEarlier, IsPinned, is_condition, Reaction, Speaks, is_present, is_silent, Kernel}
 
 -- what fewer conditions determine, more do
 determined_by_more : (kernel : Kernel) (Fewer More : ℕ → Type 0) (signal : ℕ) → ((condition : ℕ) → Fewer condition → More condition) → IsDetermined kernel Fewer signal → IsDetermined kernel More signal

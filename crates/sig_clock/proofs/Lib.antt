@@ -1,3 +1,4 @@
+pub mod Common
 pub mod Lists
 pub mod LinkLemmas
 pub mod SameClockLemmas
@@ -8,3 +9,12 @@ pub mod ProposalLemmas
 pub mod AbstractLemmas
 pub mod OnceLemmas
 pub mod Ordered
+unfoldable pub use Common.*
+pub use AbstractLemmas.*
+pub use ConditionLemmas.*
+pub use LayerLemmas.*
+pub use LinkLemmas.*
+pub use Lists.*
+pub use ProposalLemmas.*
+pub use ReactionLemmas.*
+pub use SameClockLemmas.*

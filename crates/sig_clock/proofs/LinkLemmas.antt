@@ -1,18 +1,5 @@
 -- Lemmas on putting signals into one class.
-use Rattle.std.proofs.Common.{◌≡◌, ◌<◌, ◌≤◌, ◌⊎◌, inl, inr, ℕ, ℤ, Bool, true, false, List, [], ◌∷◌, length, map, get_or, refl, sym, ap, ◌∙◌, subst, arith, Contains, cond}
-use Rattle.std.specs.Prelude.{◌==◌, ◌&&◌, zero, suc}
-use Rattle.std.proofs.lemmas.Bool.{and_parts, cases_order, ltb-true}
-use Rattle.std.specs.List.{list_all}
-use Rattle.sig_kernel.specs.Validity.{operand_within}
-use Rattle.std.proofs.Math.ListN.{get_or-eq_default}
-use Rattle.std.proofs.lemmas.List.{get_or-set_same, get_or-set_other}
-use Rattle.std.specs.Prelude.{slice_set, ◌+◌}
-use Rattle.sig_base.specs.declared.ids.SigId.{SigId}
-use Rattle.sig_kernel.specs.declared.equation.Operand.{Operand}
-use Rattle.sig_kernel.specs.declared.equation.Operand.TheVariants.{Sig, Const}
-use Rattle.sig_clock.specs.SameClocks.{signals_among}
-use Rattle.sig_clock.specs.SameClocks.{Equivalence, given, itself, turned, joined}
-use Rattle.sig_clock.specs.Links.{AreJoined, Tied, relabel_one}
+use Rattle.sig_clock.proofs.Common.{◌≡◌, ◌<◌, ◌≤◌, ◌⊎◌, inl, inr, ℕ, ℤ, Bool, true, false, List, [], ◌∷◌, length, map, get_or, refl, sym, ap, ◌∙◌, subst, arith, Contains, cond, ◌==◌, ◌&&◌, zero, suc, and_parts, cases_order, ltb-true, list_all, operand_within, get_or-eq_default, get_or-set_same, get_or-set_other, slice_set, ◌+◌, SigId, Operand, Sig, Const, signals_among, Equivalence, given, itself, turned, joined, AreJoined, Tied, relabel_one}
 use Rattle.sig_clock.proofs.Lists.{contains_head, contains_later, contains_cons, contains_none}
 
 -- an equivalence that contains a relation contains the smallest one that does

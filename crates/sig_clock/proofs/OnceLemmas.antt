@@ -1,14 +1,8 @@
 -- The order of the conditions of a kernel and the clock functions of its signals are one thing.
-use Rattle.std.proofs.Common.{◌≡◌, ◌<◌, ◌⊎◌, inl, inr, ℕ, Bool, List, sym, ◌∙◌, arith}
-use Rattle.sig_base.specs.declared.ids.SigId.{SigId}
-use Rattle.sig_clock.specs.ClockFunctions.{IsClockFunction}
-use Rattle.sig_clock.specs.ClockRefusals.{HasClocks}
-use Rattle.sig_clock.specs.Clocks.{AreInOrder}
-use Rattle.sig_clock.specs.Layers.{IsEarlier}
+use Rattle.sig_clock.proofs.Common.{◌≡◌, ◌<◌, ◌⊎◌, inl, inr, ℕ, Bool, List, sym, ◌∙◌, arith, SigId, IsClockFunction, HasClocks, AreInOrder, IsEarlier, Kernel}
 use Rattle.sig_clock.proofs.LayerLemmas.{one_layer}
 use Rattle.sig_clock.proofs.Ordered.{same_list}
 use Rattle.sig_clock.proofs.ProposalLemmas.{some_reaction}
-use Rattle.sig_kernel.specs.declared.kernel.Kernel.{Kernel}
 
 -- ---- conditions
 

@@ -1,19 +1,5 @@
 -- Lemmas on proposals and the reactions that keep to them.
-use Rattle.std.proofs.Common.{◌≡◌, ◌<◌, ◌≤◌, ◌+◌, ◌⊎◌, inl, inr, ℕ, Bool, true, false, not, List, [], ◌∷◌, length, get_or, refl, sym, ap, ◌∙◌, subst, arith, Contains}
-use Rattle.std.specs.Prelude.{zero, suc, Option, None, Some, is_some, slice_get, ◌&&◌}
-use Rattle.std.proofs.lemmas.Bool.{and_parts, cases_order, false≢true}
-use Rattle.sig_base.specs.declared.ids.SigId.{SigId}
-use Rattle.sig_base.specs.declared.signal.Signal.{Signal}
-use Rattle.sig_kernel.specs.Table.{kind_at, kind_of}
-use Rattle.sig_kernel.specs.declared.kernel.Kernel.{Kernel}
-use Rattle.sig_dd.specs.Diagram.{truth_of, with_truth}
-use Rattle.sig_clock.specs.ClockFunctions.{Allows, IsClockFunction, KeepsTo}
-use Rattle.sig_clock.specs.ClockRefusals.{HasClocks}
-use Rattle.sig_clock.specs.Clocks.{AreInOrder}
-use Rattle.sig_clock.specs.Conditions.{is_condition, is_free, signal_id}
-use Rattle.sig_clock.specs.Layers.{AgreeOn, EntersBy, HasLayer, IsDetermined, IsEarlier, IsSolved}
-use Rattle.sig_clock.specs.Pinned.{IsFree}
-use Rattle.sig_clock.specs.Reactions.{Reaction, Status, Speaks, IsReaction, is_boolean_kind, is_present, is_silent, status_at}
+use Rattle.sig_clock.proofs.Common.{◌≡◌, ◌<◌, ◌≤◌, ◌+◌, ◌⊎◌, inl, inr, ℕ, Bool, true, false, not, List, [], ◌∷◌, length, get_or, refl, sym, ap, ◌∙◌, subst, arith, Contains, zero, suc, Option, None, Some, is_some, slice_get, ◌&&◌, and_parts, cases_order, false≢true, SigId, Signal, kind_at, kind_of, Kernel, truth_of, with_truth, Allows, IsClockFunction, KeepsTo, HasClocks, AreInOrder, is_condition, is_free, signal_id, AgreeOn, EntersBy, HasLayer, IsDetermined, IsEarlier, IsSolved, IsFree, Reaction, Status, Speaks, IsReaction, is_boolean_kind, is_present, is_silent, status_at}
 use Rattle.sig_clock.proofs.LayerLemmas.{one_layer}
 use Rattle.sig_clock.proofs.ReactionLemmas.{absent_in_silence}
 

@@ -1,19 +1,6 @@
 -- Lemmas on abstract reactions.
-use Rattle.std.proofs.Common.{◌≡◌, ◌<◌, ◌+◌, ◌⊎◌, inl, inr, ℕ, Bool, true, false, not, List, [], ◌∷◌, length, get_or, refl, sym, ap, ◌∙◌, subst, arith, Contains}
-use Rattle.std.specs.Prelude.{◌&&◌, zero, suc, Option, None, Some, is_some}
-use Rattle.std.specs.List.{list_all}
-use Rattle.std.proofs.lemmas.Bool.{and_parts, false≢true}
-use Rattle.sig_base.specs.declared.ids.Kind.{Kind}
-use Rattle.sig_base.specs.declared.ids.Kind.TheVariants.{Integer, Boolean, Event}
-use Rattle.sig_base.specs.declared.signal.Signal.{Signal}
-use Rattle.sig_kernel.specs.declared.equation.Equation.{Equation}
-use Rattle.sig_kernel.specs.declared.equation.Form.{Form}
-use Rattle.sig_kernel.specs.declared.equation.Form.TheVariants.{Fun, Delay, When, WhenConst, Default, Sync, Event as EventOf}
-use Rattle.sig_kernel.specs.declared.equation.Operand.{Operand}
-use Rattle.sig_kernel.specs.declared.equation.Operand.TheVariants.{Sig, Const}
-use Rattle.sig_kernel.specs.declared.kernel.Kernel.{Kernel}
-use Rattle.sig_clock.specs.Reactions.{Status, Reaction, IsReaction, status_at, is_present, is_silent, is_with, is_status_of, are_statuses, same_truth, same_status, where_present, has_truth, function_truth, meets}
-use Rattle.sig_clock.specs.SameClocks.{AreRelated, Equivalence, SameClock, given, itself, turned, joined, related, signals_among}
+use Rattle.sig_clock.proofs.Common.{◌≡◌, ◌<◌, ◌+◌, ◌⊎◌, inl, inr, ℕ, Bool, true, false, not, List, [], ◌∷◌, length, get_or, refl, sym, ap, ◌∙◌, subst, arith, Contains, ◌&&◌, zero, suc, Option, None, Some, is_some, list_all, and_parts, false≢true, Kind, Integer, Boolean, Signal, Equation, Form, Fun, Delay, When, WhenConst, Default, Sync, Event as EventOf, Operand, Sig, Const, Kernel, Status, Reaction, IsReaction, status_at, is_present, is_silent, is_with, is_status_of, are_statuses, same_truth, same_status, where_present, has_truth, function_truth, meets, AreRelated, Equivalence, SameClock, given, itself, turned, joined, related, signals_among}
+use Rattle.sig_base.specs.declared.ids.Kind.TheVariants.{Event}
 use Rattle.sig_clock.proofs.Lists.{contains_cons, contains_none}
 
 pub truths_are_same : (a b : Bool) → same_truth a b ≡ true → a ≡ b

@@ -1,19 +1,5 @@
 -- Lemmas on clock classes.
-use Rattle.std.proofs.Common.{◌≡◌, ◌<◌, ◌≤◌, ◌+◌, ◌⊎◌, inl, inr, ℕ, Bool, true, false, List, [], ◌∷◌, length, map, get_or, refl, sym, ap, ◌∙◌, subst, arith, Contains}
-use Rattle.std.specs.Prelude.{◌&&◌, zero, suc}
-use Rattle.std.specs.List.{list_all, AllPass, range_with_len}
-use Rattle.std.proofs.lemmas.Bool.{and_parts, ltb-true, cases_order}
-use Rattle.std.proofs.lemmas.List.FromFn.{length-map-range_with_len, get_or-map-range_with_len}
-use Rattle.sig_base.specs.declared.ids.SigId.{SigId}
-use Rattle.sig_kernel.specs.Validity.{form_within, operand_within, is_below}
-use Rattle.sig_kernel.specs.declared.equation.Equation.{Equation}
-use Rattle.sig_kernel.specs.declared.equation.Form.{Form}
-use Rattle.sig_kernel.specs.declared.equation.Form.TheVariants.{Fun, Delay, When, WhenConst, Default, Sync, Event}
-use Rattle.sig_kernel.specs.declared.equation.Operand.{Operand}
-use Rattle.sig_kernel.specs.declared.equation.Operand.TheVariants.{Sig, Const}
-use Rattle.sig_kernel.specs.declared.kernel.Kernel.{Kernel}
-use Rattle.sig_clock.specs.SameClocks.{AreLeast, AreRelated, Equivalence, SameClock, given, itself, turned, joined, related, signals_among}
-use Rattle.sig_clock.specs.Links.{AreJoined, Tied}
+use Rattle.sig_clock.proofs.Common.{◌≡◌, ◌<◌, ◌≤◌, ◌+◌, ◌⊎◌, inl, inr, ℕ, Bool, true, false, List, [], ◌∷◌, length, map, get_or, refl, sym, ap, ◌∙◌, subst, arith, Contains, ◌&&◌, zero, suc, list_all, AllPass, range_with_len, and_parts, ltb-true, cases_order, length-map-range_with_len, get_or-map-range_with_len, SigId, form_within, operand_within, is_below, Equation, Form, Fun, Delay, When, WhenConst, Default, Sync, Event, Operand, Sig, Const, Kernel, AreLeast, AreRelated, Equivalence, SameClock, given, itself, turned, joined, related, signals_among, AreJoined, Tied}
 use Rattle.sig_clock.proofs.Lists.{contains_cons, contains_none}
 use Rattle.sig_clock.proofs.LinkLemmas.{equivalence_in}
 

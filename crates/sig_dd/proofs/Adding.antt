@@ -1,11 +1,5 @@
 -- Calls in a row add up.
-use Rattle.std.proofs.Common.{◌≡◌, ℕ, ◌+◌, ◌*◌, ◌<◌, ◌≤◌, ◌^◌, List, Option, None, Some, IfSome, Result, Ok, Err, length, refl, ap, arith}
-use Rattle.std.specs.Result.{IsErrAnd}
-use Rattle.std.proofs.Math.Nat.{add-mul}
-use Rattle.sig_dd.specs.Nodes.{StoreView, IsFull, allowance}
-use Rattle.sig_dd.specs.Shares.{refusal, IsRefused, Share}
-use Rattle.sig_dd.specs.declared.answer.DdAnswer.{DdAnswer}
-use Rattle.sig_dd.specs.declared.answer.DdAnswer.TheVariants.{Budget, OutOfMemory}
+use Rattle.sig_dd.proofs.Common.{◌≡◌, ℕ, ◌+◌, ◌*◌, ◌<◌, ◌≤◌, ◌^◌, List, Option, None, Some, IfSome, Result, Ok, Err, length, refl, ap, arith, IsErrAnd, add-mul, StoreView, IsFull, allowance, refusal, IsRefused, Share, DdAnswer, Budget, OutOfMemory}
 
 -- the share of one call, from what is known of each of its answers
 pub share_of : {T : Type 0} (vs : List ℕ) (old new : StoreView) (result : Result T DdAnswer) → length new.nodes < length old.nodes + 2 ^ length vs

@@ -1,15 +1,6 @@
 -- The cache keeps right results, whatever is asked of it and put into it.
-use Rattle.std.proofs.Common.{◌≡◌, ℕ, Bool, true, List, [], ◌++◌, inl, inr, Option, None, Some, IfSome, Result, Ok, Err, OnOk, OnErr, sym, subst, eqb, ◌&&◌}
-use Rattle.std.proofs.lemmas.Bool.{eqb-true}
-use Rattle.std.specs.Map.{lookup}
-use Rattle.lru.specs.LruCache.{LruCache, lru_cache, put_entries}
-use Rattle.lru.proofs.CallerLemmas.{Contains-lookup, Contains-put_entries}
-use Rattle.lru.proofs.Splits.{Contains-nil}
-use Rattle.sig_dd.specs.Cache.{IsCache, question_of}
-use Rattle.sig_dd.specs.Question.{HoldsAll, IsAnswer}
+use Rattle.sig_dd.proofs.Common.{◌≡◌, ℕ, Bool, true, List, ◌++◌, inl, inr, Option, None, Some, IfSome, Result, Ok, Err, OnOk, OnErr, sym, subst, eqb, ◌&&◌, eqb-true, lookup, LruCache, lru_cache, put_entries, Contains-lookup, Contains-put_entries, IsCache, question_of, HoldsAll, IsAnswer, Node, Ref}
 use Rattle.sig_dd.specs.declared.cache.Choice.{Choice}
-use Rattle.sig_dd.specs.declared.node.Node.{Node}
-use Rattle.sig_dd.specs.declared.node.Ref.{Ref}
 use Rattle.sig_dd.proofs.Canonical.{same_ref}
 use Rattle.sig_dd.proofs.Growth.{and_left, and_right}
 use Rattle.sig_dd.proofs.Kept.{HoldsAll-append, IsAnswer-append}
@@ -25,9 +16,6 @@ choice_eq-same c d e =
     let b = same_ref c.second d.second (eqb-true _ _ (and_left _ _ rest)) in
     let z = same_ref c.third d.third (eqb-true _ _ (and_right _ _ rest)) in
     λ j. record { first = a j; second = b j; third = z j }
-
-pub IsCache-nil : (nodes : List Node) → IsCache nodes []
-IsCache-nil nodes e among = absurd (Contains-nil e among)
 
 pub IsCache-append : (old more : List Node) (entries : List (Choice × Ref)) → IsCache old entries → IsCache (old ++ more) entries
 IsCache-append old more entries cache e among =

@@ -1,11 +1,5 @@
 -- What a proof above this crate cites: what stays as a store grows, and on what made functions depend.
-use Rattle.std.proofs.Common.{◌≡◌, ◌≢◌, ℕ, Bool, true, false, List, [], ◌++◌, ◌⊎◌, inl, inr, refl, sym, ◌∙◌, ap, subst, append_assoc, arith, true≢false, Contains}
-use Rattle.std.proofs.lemmas.Bool.{false≢true}
-use Rattle.std.proofs.lemmas.List.{append-nil}
-use Rattle.sig_dd.specs.Diagram.{with_truth, Depends, Agree}
-use Rattle.sig_dd.specs.Nodes.{StoreView, IsStore, Holds, Keeps, IsRefOf, Spans, test}
-use Rattle.sig_dd.specs.declared.node.Ref.{Ref}
-use Rattle.sig_dd.specs.declared.node.Node.{Node}
+use Rattle.sig_dd.proofs.Common.{◌≡◌, ◌≢◌, ℕ, Bool, true, false, List, [], ◌++◌, ◌⊎◌, inl, inr, refl, sym, ◌∙◌, ap, subst, append_assoc, arith, true≢false, Contains, false≢true, append-nil, with_truth, Depends, Agree, StoreView, IsStore, Holds, Keeps, IsRefOf, Spans, test, Ref, Node}
 use Rattle.sig_dd.proofs.Canonical.{one_ref}
 use Rattle.sig_dd.proofs.Functions.{test-kept, Spans-append}
 use Rattle.sig_dd.proofs.Growth.{Holds-append}

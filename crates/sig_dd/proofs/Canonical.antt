@@ -1,10 +1,5 @@
 -- In a reduced list of nodes equal functions have one reference.
-use Rattle.std.proofs.Common.{◌≡◌, ℕ, zero, suc, ◌+◌, ◌<◌, ◌≤◌, Bool, cond, List, ◌⊎◌, inl, inr, Option, None, Some, IfSome, sym, ◌∙◌, ap, subst, arith}
-use Rattle.std.proofs.lemmas.Option.{slice_get_within}
-use Rattle.sig_dd.specs.Diagram.{Constant, Choice, StartsFrom, Agree}
-use Rattle.sig_dd.specs.Nodes.{Holds, node_of, diagram, test, IsReduced}
-use Rattle.sig_dd.specs.declared.node.Ref.{Ref}
-use Rattle.sig_dd.specs.declared.node.Node.{Node}
+use Rattle.sig_dd.proofs.Common.{◌≡◌, ℕ, zero, suc, ◌+◌, ◌<◌, ◌≤◌, Bool, cond, List, ◌⊎◌, inl, inr, Option, None, Some, IfSome, sym, ◌∙◌, ap, subst, arith, slice_get_within, Constant, Choice, StartsFrom, Agree, Holds, node_of, diagram, test, IsReduced, Ref, Node}
 use Rattle.sig_dd.proofs.Trees.{IsProper, one_diagram}
 use Rattle.sig_dd.proofs.Listed.{shape, NamesConstant, NamesNode}
 

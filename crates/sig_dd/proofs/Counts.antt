@@ -1,14 +1,5 @@
 -- How many nodes a question adds, by the variables that it tests.
-use Rattle.std.proofs.Common.{◌≡◌, ◌≢◌, ℕ, zero, suc, ◌+◌, ◌^◌, ◌<◌, ◌≤◌, Bool, true, false, cond, List, [], ◌∷◌, ◌++◌, ◌⊎◌, inl, inr, length, get_or, refl, sym, ◌∙◌, subst, arith, Contains, eqb}
-use Rattle.std.proofs.lemmas.Bool.{eqb-true, eqb-false}
-use Rattle.std.proofs.Math.Nat.{pow-suc}
-use Rattle.std.proofs.Math.Pow.{pow_mono}
-use Rattle.sig_dd.specs.Nodes.{diagram, IsReduced}
-use Rattle.sig_dd.specs.Question.{HoldsAll, AllStartFrom, SomeTests, IsHalf, IsSplit, TestsOnly}
-use Rattle.sig_dd.specs.declared.node.Node.{Node}
-use Rattle.sig_dd.specs.declared.question.Question.{Question}
-use Rattle.sig_dd.specs.declared.question.Question.TheVariants.{Pick, Fix}
-use Rattle.sig_dd.specs.declared.question.Split.{Split}
+use Rattle.sig_dd.proofs.Common.{◌≡◌, ◌≢◌, ℕ, zero, suc, ◌+◌, ◌^◌, ◌<◌, ◌≤◌, Bool, true, false, cond, List, [], ◌∷◌, ◌++◌, ◌⊎◌, inl, inr, length, get_or, refl, sym, ◌∙◌, subst, arith, Contains, eqb, eqb-true, eqb-false, pow-suc, pow_mono, diagram, IsReduced, HoldsAll, AllStartFrom, SomeTests, IsHalf, IsSplit, TestsOnly, Node, Question, Pick, Fix, Split}
 use Rattle.sig_dd.proofs.Trees.{Tests-later}
 use Rattle.sig_dd.proofs.Canonical.{proper}
 use Rattle.sig_dd.proofs.Kept.{SomeTests-back}

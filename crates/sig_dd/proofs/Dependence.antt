@@ -1,11 +1,5 @@
 -- On what functions of others depend.
-use Rattle.std.proofs.Common.{◌≡◌, ◌≢◌, ℕ, ◌≤◌, Bool, true, false, List, [], ◌⊎◌, inl, inr, refl, sym, ◌∙◌, ap, subst, ◌||◌, IsTrue, length, if◌then◌else◌, arith}
-use Rattle.std.proofs.lemmas.Bool.{false≢true, cases_eq}
-use Rattle.std.proofs.Math.Pow.{pow_mono}
-use Rattle.sig_dd.specs.Diagram.{truth_of, with_truth, Depends}
-use Rattle.sig_dd.specs.Nodes.{allowance, diagram, test, IsRefOf}
-use Rattle.sig_dd.specs.declared.node.Ref.{Ref}
-use Rattle.sig_dd.specs.declared.node.Node.{Node}
+use Rattle.sig_dd.proofs.Common.{◌≡◌, ◌≢◌, ℕ, ◌≤◌, Bool, true, false, List, [], ◌⊎◌, inl, inr, refl, sym, ◌∙◌, ap, subst, ◌||◌, IsTrue, length, if◌then◌else◌, arith, false≢true, cases_eq, pow_mono, truth_of, with_truth, Depends, allowance, diagram, test, IsRefOf, Ref, Node}
 use Rattle.sig_dd.proofs.CallerLemmas.{Depends-of_two, same_truth}
 use Rattle.sig_dd.proofs.Functions.{fixed_twice}
 use Rattle.sig_dd.proofs.Trees.{truth_of-with_same, truth_of-with_other, value_at-same, with_truth-swap}

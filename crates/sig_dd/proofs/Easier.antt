@@ -1,15 +1,5 @@
 -- A choice whose second or third function is its first, asked with a constant in its place.
-use Rattle.std.proofs.Common.{◌≡◌, ℕ, ◌≤◌, Bool, true, false, cond, List, ◌⊎◌, inl, inr, refl, sym, ◌∙◌, ap, subst, arith, if◌then◌else◌}
-use Rattle.sig_dd.specs.Diagram.{value_at, Constant, StartsFrom, Tests}
-use Rattle.sig_dd.specs.Nodes.{Holds, diagram, test}
-use Rattle.sig_dd.specs.Question.{HoldsAll, asked, AllStartFrom, SomeTests, weight, IsAnswer, IsHalf, IsSplit, IsStep}
-use Rattle.sig_dd.specs.declared.node.Ref.{Ref}
-use Rattle.sig_dd.specs.declared.node.Node.{Node}
-use Rattle.sig_dd.specs.declared.question.Question.{Question}
-use Rattle.sig_dd.specs.declared.question.Question.TheVariants.{Pick}
-use Rattle.sig_dd.specs.declared.question.Split.{Split}
-use Rattle.sig_dd.specs.declared.question.Step.{Step}
-use Rattle.sig_dd.specs.declared.question.Step.TheVariants.{Known, Open}
+use Rattle.sig_dd.proofs.Common.{◌≡◌, ℕ, ◌≤◌, Bool, true, false, cond, List, ◌⊎◌, inl, inr, refl, sym, ◌∙◌, ap, subst, arith, if◌then◌else◌, value_at, Constant, StartsFrom, Tests, Holds, diagram, test, HoldsAll, asked, AllStartFrom, SomeTests, weight, IsAnswer, IsHalf, IsSplit, IsStep, Ref, Node, Question, Pick, Split, Step, Known, Open}
 use Rattle.sig_dd.proofs.Listed.{diagram-true, diagram-false}
 
 -- q asks for the function that p asks for, and tests no more

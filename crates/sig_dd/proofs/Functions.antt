@@ -1,14 +1,6 @@
 -- From the questions of the recursion to the functions of the calls.
-use Rattle.std.proofs.Common.{◌≡◌, ℕ, Bool, true, false, not, ◌&&◌, ◌||◌, List, inl, inr, Result, Ok, Err, IfOk, refl, sym, ◌∙◌, ap, subst, arith, cond, if◌then◌else◌, Contains, IsTrue, true≢false}
-use Rattle.sig_dd.specs.Diagram.{value_at, truth_of, with_truth, StartsFrom, Tests, Agree}
-use Rattle.sig_dd.specs.Nodes.{Holds, diagram, test, IsReduced, Keeps, StoreView, IsRefOf, IsChoice, Spans, Implies}
-use Rattle.sig_dd.specs.Question.{HoldsAll, asked, IsAnswer, TestsOnly}
-use Rattle.sig_dd.specs.declared.node.Ref.{Ref}
-use Rattle.sig_dd.specs.declared.node.Node.{Node}
-use Rattle.sig_dd.specs.declared.question.Question.{Question}
-use Rattle.sig_dd.specs.declared.question.Question.TheVariants.{Pick, Fix}
+use Rattle.sig_dd.proofs.Common.{◌≡◌, ℕ, Bool, true, false, not, ◌&&◌, ◌||◌, List, inl, inr, Result, Ok, Err, IfOk, refl, sym, ◌∙◌, ap, subst, arith, cond, if◌then◌else◌, Contains, IsTrue, true≢false, value_at, truth_of, with_truth, StartsFrom, Tests, Agree, Holds, diagram, test, IsReduced, Keeps, StoreView, IsRefOf, IsChoice, Spans, Implies, HoldsAll, asked, IsAnswer, TestsOnly, Ref, Node, Question, Pick, Fix, cases_eq}
 use Rattle.sig_dd.proofs.Trees.{Depends-tests, value_at-same, truth_of-with_same, truth_of-with_other, with_truth-swap}
-use Rattle.std.proofs.lemmas.Bool.{cases_eq}
 use Rattle.sig_dd.proofs.Listed.{diagram-true, diagram-false}
 use Rattle.sig_dd.proofs.Canonical.{proper, one_ref}
 use Rattle.sig_dd.proofs.Kept.{asked-append, test-append}

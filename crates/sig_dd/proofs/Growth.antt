@@ -1,18 +1,8 @@
 -- A list of nodes that grows by one node stays reduced.
-use Rattle.std.proofs.Common.{◌≡◌, ◌≢◌, ℕ, zero, suc, ◌+◌, ◌<◌, ◌≤◌, ◌^◌, Bool, true, false, List, [], ◌∷◌, ◌++◌, ◌⊎◌, inl, inr, Option, None, Some, IfSome, length, slice_get, refl, sym, ◌∙◌, ap, subst, arith, if◌then◌else◌, ◌||◌, true≢false, eqb, ◌&&◌, position, get_or}
-use Rattle.std.proofs.lemmas.Bool.{cases_lt, eqb-true, eqb-false, eq-eqb}
-use Rattle.std.proofs.lemmas.List.{length_push, length-append, append-nil}
-use Rattle.std.proofs.lemmas.Option.{slice_get_within, slice_get-get_or}
-use Rattle.std.proofs.lemmas.List.Quantifiers.{position-Some}
-use Rattle.sig_dd.specs.Diagram.{value_at, truth_of, StartsFrom}
-use Rattle.sig_dd.specs.Nodes.{Holds, node_numbered, node_of, diagram, test, IsNodeAt, IsReduced, IsStore, IsChoice}
-use Rattle.sig_dd.specs.declared.node.Ref.{Ref}
-use Rattle.sig_dd.specs.declared.node.Node.{Node}
+use Rattle.sig_dd.proofs.Common.{◌≡◌, ◌≢◌, ℕ, zero, suc, ◌+◌, ◌<◌, ◌≤◌, ◌^◌, Bool, true, false, List, [], ◌∷◌, ◌++◌, ◌⊎◌, inl, inr, Option, None, Some, IfSome, length, slice_get, refl, sym, ◌∙◌, ap, subst, arith, if◌then◌else◌, ◌||◌, true≢false, eqb, ◌&&◌, position, get_or, cases_lt, eqb-true, eqb-false, eq-eqb, length_push, length-append, append-nil, slice_get_within, slice_get-get_or, position-Some, value_at, truth_of, StartsFrom, Holds, node_numbered, node_of, diagram, test, IsNodeAt, IsReduced, IsStore, IsChoice, Ref, Node, insert_key, list_any}
 use Rattle.sig_dd.proofs.Trees.{value_at-choice, StartsFrom-weaker}
 use Rattle.sig_dd.proofs.Listed.{diagram-append, diagram-node}
 use Rattle.sig_dd.proofs.Canonical.{node-StartsFrom, same_ref, same_node}
-use Rattle.indexmap.specs.IndexSet.{insert_key}
-use Rattle.std.specs.List.{list_any}
 
 slice_get-append : {X : Type 0} (xs ys : List X) (i : ℕ) → i < length xs → slice_get (xs ++ ys) i ≡ slice_get xs i
 slice_get-append [] ys i lt = absurd (omega arith)

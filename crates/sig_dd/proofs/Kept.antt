@@ -1,14 +1,5 @@
 -- What holds of references stays as nodes are added.
-use Rattle.std.proofs.Common.{◌≡◌, ℕ, suc, Bool, true, false, List, [], ◌++◌, inl, inr, Option, None, Some, IfSome, refl, sym, ◌∙◌, ap, subst, if◌then◌else◌}
-use Rattle.std.specs.HashMap.{HashMap, get}
-use Rattle.sig_dd.specs.Diagram.{value_at, truth_of, with_truth, StartsFrom, Tests}
-use Rattle.sig_dd.specs.Nodes.{Holds, diagram, test, IsChoice}
-use Rattle.sig_dd.specs.Question.{HoldsAll, asked, AllStartFrom, SomeTests, IsAnswer, IsSplit, IsTable}
-use Rattle.sig_dd.specs.declared.node.Ref.{Ref}
-use Rattle.sig_dd.specs.declared.node.Node.{Node}
-use Rattle.sig_dd.specs.declared.question.Question.{Question}
-use Rattle.sig_dd.specs.declared.question.Question.TheVariants.{Pick, Fix}
-use Rattle.sig_dd.specs.declared.question.Split.{Split}
+use Rattle.sig_dd.proofs.Common.{◌≡◌, ℕ, suc, Bool, true, false, List, [], ◌++◌, inl, inr, Option, None, Some, IfSome, refl, sym, ◌∙◌, ap, subst, if◌then◌else◌, HashMap, get, value_at, truth_of, with_truth, StartsFrom, Tests, Holds, diagram, test, IsChoice, HoldsAll, asked, AllStartFrom, SomeTests, IsAnswer, IsSplit, IsTable, Ref, Node, Question, Pick, Fix, Split}
 use Rattle.sig_dd.proofs.Trees.{StartsFrom-weaker}
 use Rattle.sig_dd.proofs.Listed.{diagram-append}
 use Rattle.sig_dd.proofs.Growth.{Holds-append}
@@ -68,9 +59,6 @@ module _ (old more : List Node) where
 -- the two answers of a split question, chosen between, answer it
 module _ (old m1 m2 m3 : List Node) (q : Question) (s : Split) (held : HoldsAll old q) (split : IsSplit old q s) (low high r : Ref)
     (is_low : IsAnswer (old ++ m1) s.low low) (is_high : IsAnswer (old ++ m1 ++ m2) s.high high) where
-  held_low : HoldsAll (old ++ m1) s.low
-  held_low = HoldsAll-append old m1 s.low split.low.holds
-
   held_mid : HoldsAll (old ++ m1) s.high
   held_mid = HoldsAll-append old m1 s.high split.high.holds
 

@@ -1,3 +1,4 @@
+pub mod Common
 pub mod Trees
 pub mod Listed
 pub mod Canonical
@@ -16,7 +17,29 @@ pub mod Variables
 pub mod CallerLemmas
 pub mod Dependence
 pub mod Trails
-pub mod Rows
 pub mod Walks
 pub mod RelationalProducts
 pub mod Renamed
+unfoldable pub use Common.*
+pub use Adding.*
+pub use Cached.*
+pub use CallerLemmas.*
+pub use Canonical.*
+pub use Counts.*
+pub use Dependence.*
+pub use Easier.*
+pub use Functions.*
+pub use Growth.*
+pub use Kept.*
+pub use Operands.*
+pub use Pairs.*
+pub use RelationalProducts.*
+pub use Renamed.*
+pub use Sides.*
+pub use Splits.*
+pub use Trails.*
+pub use Variables.*
+pub use Walks.*
+pub use Rattle.sig_dd.proofs.Canonical.{one_reference}
+pub use Rattle.sig_dd.proofs.RelationalProducts.{high_later, known_false, known_true, low_later}
+pub use Rattle.sig_dd.proofs.Renamed.{below_room, high_only, high_spans, low_only, low_spans, positive, rest, within_room}

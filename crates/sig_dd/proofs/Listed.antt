@@ -1,13 +1,5 @@
 -- The diagrams that a list of nodes names.
-use Rattle.std.proofs.Common.{◌≡◌, ℕ, zero, suc, ◌+◌, ◌<◌, Bool, true, false, cond, List, [], ◌∷◌, ◌++◌, ◌⊎◌, inl, inr, None, Some, length, get_or, take, drop, fold, slice_get, refl, sym, ◌∙◌, ap, subst, arith, length-take, drop-cons}
-use Rattle.std.proofs.lemmas.List.{length_push, get_or_append_left, take-append-drop}
-use Rattle.std.proofs.lemmas.List.Sums.{fold-append}
-use Rattle.std.proofs.lemmas.Option.{slice_get_within, get_or_from_slice_get, slice_get-get_or}
-use Rattle.std.proofs.Math.Seq.{get_or-append_seam}
-use Rattle.sig_dd.specs.Diagram.{Diagram, Constant, Choice}
-use Rattle.sig_dd.specs.Nodes.{Holds, node_numbered, node_of, with_node, diagrams, diagram, IsNodeAt, IsReduced}
-use Rattle.sig_dd.specs.declared.node.Ref.{Ref}
-use Rattle.sig_dd.specs.declared.node.Node.{Node}
+use Rattle.sig_dd.proofs.Common.{◌≡◌, ℕ, zero, suc, ◌+◌, ◌<◌, Bool, true, false, cond, List, [], ◌∷◌, ◌++◌, ◌⊎◌, inl, inr, None, Some, length, get_or, take, drop, fold, slice_get, refl, sym, ◌∙◌, ap, subst, arith, length-take, drop-cons, length_push, get_or_append_left, take-append-drop, fold-append, slice_get_within, get_or_from_slice_get, slice_get-get_or, get_or-append_seam, Diagram, Constant, Choice, Holds, node_numbered, node_of, with_node, diagrams, diagram, IsNodeAt, IsReduced, Ref, Node}
 
 start : List Diagram
 start = Constant false ∷ Constant true ∷ []

@@ -1,14 +1,5 @@
 -- An operand's first variable, and its two sides.
-use Rattle.std.proofs.Common.{◌≡◌, ℕ, suc, ◌≤◌, Bool, true, false, cond, List, ◌⊎◌, inl, inr, Option, None, Some, IsSomeAnd, refl, sym, ◌∙◌, subst, arith}
-use Rattle.std.specs.Prelude.{nat_lt, nat_eq}
-use Rattle.std.proofs.lemmas.Bool.{ltb-true, ltb-false, eqb-true, eqb-false}
-use Rattle.sig_dd.specs.Diagram.{StartsFrom}
-use Rattle.sig_dd.specs.Nodes.{Holds, node_of, diagram, IsReduced}
-use Rattle.sig_dd.specs.Operand.{IsOperand, earlier_of, side_of}
-use Rattle.sig_dd.specs.Question.{HasVariable, IsSide}
-use Rattle.sig_dd.specs.declared.node.Ref.{Ref}
-use Rattle.sig_dd.specs.declared.node.Node.{Node}
-use Rattle.sig_dd.specs.declared.operand.Operand.{Operand}
+use Rattle.sig_dd.proofs.Common.{◌≡◌, ℕ, suc, ◌≤◌, Bool, true, false, cond, List, ◌⊎◌, inl, inr, Option, None, Some, IsSomeAnd, refl, sym, ◌∙◌, subst, arith, nat_lt, nat_eq, ltb-true, ltb-false, eqb-true, eqb-false, StartsFrom, Holds, node_of, diagram, IsReduced, IsOperand, earlier_of, side_of, HasVariable, IsSide, Ref, Node, Operand}
 use Rattle.sig_dd.proofs.Sides.{HasVariable-node, IsSide-child, IsSide-itself, starts_at, starts_nowhere, variable_from}
 
 module _ (nodes : List Node) (reduced : IsReduced nodes) (r : Ref) (held : Holds nodes r) where

@@ -1,13 +1,5 @@
 -- A step of a pair tells whether it meets, or splits it.
-use Rattle.std.proofs.Common.{◌≡◌, ◌≢◌, ◌↔◌, ℕ, suc, ◌+◌, ◌<◌, Bool, true, false, not, cond, List, ◌⊎◌, inl, inr, None, refl, sym, ◌∙◌, ap, arith, true≢false, IsTrue, eqb, ◌&&◌}
-use Rattle.std.proofs.lemmas.Bool.{false≢true, eqb-true}
-use Rattle.sig_dd.specs.Diagram.{Constant, value_at, truth_of, with_truth}
-use Rattle.sig_dd.specs.Nodes.{Holds, node_of, diagram, test, IsReduced}
-use Rattle.sig_dd.specs.Question.{HasVariable, IsSide}
-use Rattle.sig_dd.specs.Meets.{HoldsPair, Meets, IsPairSplit}
-use Rattle.sig_dd.specs.declared.node.Ref.{Ref}
-use Rattle.sig_dd.specs.declared.node.Node.{Node}
-use Rattle.sig_dd.specs.declared.meets.Pair.{Pair}
+use Rattle.sig_dd.proofs.Common.{◌≡◌, ◌≢◌, ◌↔◌, ℕ, suc, ◌+◌, ◌<◌, Bool, true, false, not, cond, List, ◌⊎◌, inl, inr, None, refl, sym, ◌∙◌, ap, arith, true≢false, IsTrue, eqb, ◌&&◌, false≢true, eqb-true, Constant, value_at, truth_of, with_truth, Holds, node_of, diagram, test, IsReduced, HasVariable, IsSide, HoldsPair, Meets, IsPairSplit, Ref, Node, Pair}
 use Rattle.sig_dd.proofs.Trees.{equal_or_differ, value_at-earlier, truth_of-with_same}
 use Rattle.sig_dd.proofs.Listed.{diagram-true, diagram-false}
 use Rattle.sig_dd.proofs.Canonical.{proper, one_reference, same_ref}

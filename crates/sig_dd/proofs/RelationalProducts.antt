@@ -1,21 +1,5 @@
 -- Relational products, and how many nodes they add.
-use Rattle.std.proofs.Common.{◌≡◌, ◌≢◌, ◌↔◌, ℕ, zero, suc, ◌+◌, ◌-◌, ◌*◌, ◌^◌, ◌<◌, ◌≤◌, Bool, true, false, List, ◌++◌, ◌⊎◌, inl, inr, None, Some, Option, IfSome, Result, Ok, Err, length, refl, sym, ◌∙◌, ap, subst, arith, true≢false, IsTrue, Contains, ◌||◌, if◌then◌else◌}
-use Rattle.std.specs.HashMap.{HashMap, get}
-use Rattle.std.proofs.lemmas.Bool.{false≢true, cases_eq}
-use Rattle.std.proofs.Math.Nat.{add-mul, mul-suc, mul_assoc, one-mul, pow-suc, suc-mul}
-use Rattle.std.proofs.Math.Pow.{pow_mono}
-use Rattle.sig_dd.specs.Diagram.{Diagram, Constant, Choice, Depends, StartsFrom, Tests, truth_of, value_at, with_truth}
-use Rattle.sig_dd.specs.Meets.{HoldsPair}
-use Rattle.sig_dd.specs.Nodes.{Holds, IsFull, IsReduced, IsStore, Keeps, Spans, StoreView, allowance, diagram, node_of, test}
-use Rattle.sig_dd.specs.Products.{AgreeBut, AreProducts, IsJoined, IsPairProduct, IsPairSide, IsProduct, IsProductSplit, MeetWithout, PairTests, PairTestsOnly, product_room}
-use Rattle.sig_dd.specs.Question.{HasVariable, IsSide}
-use Rattle.sig_dd.specs.Shares.{IsRefused, Share, refusal}
-use Rattle.sig_dd.specs.declared.answer.DdAnswer.{DdAnswer}
-use Rattle.sig_dd.specs.declared.answer.DdAnswer.TheVariants.{Budget, OutOfMemory}
-use Rattle.sig_dd.specs.declared.meets.Pair.{Pair}
-use Rattle.sig_dd.specs.declared.node.Node.{Node}
-use Rattle.sig_dd.specs.declared.node.Ref.{Ref}
-use Rattle.sig_dd.specs.declared.products.ProductSplit.{ProductSplit}
+use Rattle.sig_dd.proofs.Common.{◌≡◌, ◌≢◌, ◌↔◌, ℕ, zero, suc, ◌+◌, ◌-◌, ◌*◌, ◌^◌, ◌<◌, ◌≤◌, Bool, true, false, List, ◌++◌, ◌⊎◌, inl, inr, None, Some, Option, IfSome, Result, Ok, Err, length, refl, sym, ◌∙◌, ap, subst, arith, true≢false, IsTrue, Contains, ◌||◌, if◌then◌else◌, HashMap, get, false≢true, cases_eq, add-mul, mul-suc, mul_assoc, one-mul, pow-suc, suc-mul, pow_mono, Diagram, Constant, Choice, Depends, StartsFrom, Tests, truth_of, value_at, with_truth, HoldsPair, Holds, IsFull, IsReduced, IsStore, Keeps, Spans, StoreView, allowance, diagram, node_of, test, AgreeBut, AreProducts, IsJoined, IsPairProduct, IsPairSide, IsProduct, IsProductSplit, MeetWithout, PairTests, PairTestsOnly, product_room, HasVariable, IsSide, IsRefused, Share, refusal, DdAnswer, Budget, OutOfMemory, Pair, Node, Ref, ProductSplit}
 use Rattle.sig_dd.proofs.CallerLemmas.{Agree-kept, Holds-kept}
 use Rattle.sig_dd.proofs.Canonical.{proper}
 use Rattle.sig_dd.proofs.Counts.{Contains-without, length-without_contained, without}

@@ -1,21 +1,5 @@
 -- Functions of other variables, and how many nodes they add.
-use Rattle.std.proofs.Common.{◌≡◌, ◌≢◌, ℕ, zero, suc, ◌+◌, ◌-◌, ◌*◌, ◌^◌, ◌<◌, ◌≤◌, Bool, true, false, List, [], ◌∷◌, inl, inr, None, Some, Option, IfSome, Result, Ok, Err, IfOk, length, map, slice_get, refl, sym, ◌∙◌, ap, subst, arith, Contains, if◌then◌else◌}
-use Rattle.std.specs.Prelude.{slice_index_or}
-use Rattle.std.specs.HashMap.{HashMap, get}
-use Rattle.std.proofs.lemmas.Bool.{cases_eq}
-use Rattle.std.proofs.lemmas.List.{length-map}
-use Rattle.std.proofs.lemmas.Option.{get_or_from_slice_get, slice_get-get_or, slice_get-map}
-use Rattle.std.specs.Option.{option_map}
-use Rattle.std.proofs.Math.Nat.{add-mul, mul-le-mul, mul-suc, mul_assoc, one-mul, pow-suc, suc-mul}
-use Rattle.std.proofs.Math.Pow.{pow_mono}
-use Rattle.sig_dd.specs.Diagram.{Diagram, Constant, Choice, Depends, Tests, truth_of, value_at, with_truth}
-use Rattle.sig_dd.specs.Nodes.{Holds, IsFull, IsReduced, IsRefOf, IsStore, Keeps, Spans, StoreView, allowance, diagram, node_of, test}
-use Rattle.sig_dd.specs.Renaming.{AreRenamed, IsChoiceBy, IsRenamed, RefTestsOnly, truth_in}
-use Rattle.sig_dd.specs.Shares.{IsRefused, Share, Shares, SpanAll, refusal}
-use Rattle.sig_dd.specs.declared.answer.DdAnswer.{DdAnswer}
-use Rattle.sig_dd.specs.declared.answer.DdAnswer.TheVariants.{Budget, OutOfMemory}
-use Rattle.sig_dd.specs.declared.node.Node.{Node}
-use Rattle.sig_dd.specs.declared.node.Ref.{Ref}
+use Rattle.sig_dd.proofs.Common.{◌≡◌, ◌≢◌, ℕ, zero, suc, ◌+◌, ◌-◌, ◌*◌, ◌^◌, ◌<◌, ◌≤◌, Bool, true, false, List, [], ◌∷◌, inl, inr, None, Some, Option, IfSome, Result, Ok, Err, IfOk, length, map, slice_get, refl, sym, ◌∙◌, ap, subst, arith, Contains, if◌then◌else◌, slice_index_or, HashMap, get, cases_eq, length-map, get_or_from_slice_get, slice_get-get_or, slice_get-map, option_map, add-mul, mul-le-mul, mul-suc, mul_assoc, one-mul, pow-suc, suc-mul, pow_mono, Diagram, Constant, Choice, Depends, Tests, truth_of, value_at, with_truth, Holds, IsFull, IsReduced, IsRefOf, IsStore, Keeps, Spans, StoreView, allowance, diagram, node_of, test, AreRenamed, IsChoiceBy, IsRenamed, RefTestsOnly, truth_in, IsRefused, Share, Shares, SpanAll, refusal, DdAnswer, Budget, OutOfMemory, Node, Ref}
 use Rattle.sig_dd.proofs.CallerLemmas.{Agree-kept, Holds-kept, IsRefOf-kept, Spans-of, same_truth}
 use Rattle.sig_dd.proofs.Canonical.{children_held, children_later, proper}
 use Rattle.sig_dd.proofs.Counts.{Contains-without, length-without_contained, without}
@@ -159,13 +143,6 @@ module _ (old mid : StoreView) (kept : Keeps old mid) (v : ℕ) (chosen low high
         (Spans-append old mid kept high high_held vs two, (Spans-append old mid kept low low_held vs one, tt)),
       )
 
-no_target : (o : Option ℕ) → None ≡ o → (old : StoreView) (low high : Ref) → Holds old.nodes low → IsChoiceBy old.nodes old.nodes o low high low
-no_target None same old low high held = record { holds = held; function = λ ts. refl }
-no_target (Some w) same old low high held = cc
-
-pub choice_none : (o : Option ℕ) → None ≡ o → (old : StoreView) (low high : Ref) → Holds old.nodes low → IsChoiceBy old.nodes old.nodes o low high low
-choice_none o same old low high held = no_target o same old low high held
-
 -- the node of a variable, and the choice of it
 module _ (v : ℕ) (vs : List ℕ) (old mid new : StoreView) (first : Shares 1 [] (v ∷ []) old mid None) where
   one_more : length mid.nodes ≤ length old.nodes + 1
@@ -181,20 +158,6 @@ module _ (v : ℕ) (vs : List ℕ) (old mid new : StoreView) (first : Shares 1 [
       let one = one_more in
       let above = power_positive (length vs) in
       (why.0, omega (arith, lt, one, above))
-
-module _ (v : ℕ) (vs : List ℕ) (old new : StoreView) (e : DdAnswer) (first : Shares 1 [] (v ∷ []) old new (Some e)) where
-  own_share : Share 1 (v ∷ []) old new (Some e)
-  own_share = first.over (v ∷ []) tt ((0, omega arith, refl), tt)
-
-  pub variable_within : length new.nodes ≤ length old.nodes + 2 ^ length vs
-  variable_within = let added = own_share.added in let above = power_positive (length vs) in omega (arith, added, above)
-
-  pub variable_refused : (n : ℕ) → e ≡ Budget n → IsFull new n × (n < length old.nodes + 2 ^ length vs)
-  variable_refused n is =
-      let why : IsFull new n × (n < length old.nodes + 1 * allowance (v ∷ [])) = subst (IsRefused old new (1 * allowance (v ∷ []))) is own_share.refused in
-      let lt = why.1 in
-      let above = power_positive (length vs) in
-      (why.0, omega (arith, lt, above))
 
 -- ---- variables and their new ones
 

@@ -1,10 +1,5 @@
 -- The first variable of a reference, and its two sides.
-use Rattle.std.proofs.Common.{◌≡◌, ℕ, suc, ◌<◌, ◌≤◌, Bool, true, false, cond, List, inl, inr, Option, None, Some, IfSome, IsSomeAnd, refl, sym, ◌∙◌, ap, subst, arith, if◌then◌else◌}
-use Rattle.sig_dd.specs.Diagram.{value_at, StartsFrom, Tests}
-use Rattle.sig_dd.specs.Nodes.{Holds, node_of, diagram, IsReduced}
-use Rattle.sig_dd.specs.Question.{HasVariable, IsSide}
-use Rattle.sig_dd.specs.declared.node.Ref.{Ref}
-use Rattle.sig_dd.specs.declared.node.Node.{Node}
+use Rattle.sig_dd.proofs.Common.{◌≡◌, ℕ, suc, ◌<◌, ◌≤◌, Bool, true, false, cond, List, inl, inr, Option, None, Some, IfSome, IsSomeAnd, refl, sym, ◌∙◌, ap, subst, arith, if◌then◌else◌, value_at, StartsFrom, Tests, Holds, node_of, diagram, IsReduced, HasVariable, IsSide, Ref, Node}
 use Rattle.sig_dd.proofs.Trees.{value_at-choice}
 use Rattle.sig_dd.proofs.Listed.{shape, NamesNode}
 use Rattle.sig_dd.proofs.Canonical.{StartsFrom-node, node-StartsFrom, children_held, children_later}

@@ -1,12 +1,5 @@
 -- A step of a question answers it, or splits it.
-use Rattle.std.proofs.Common.{◌≡◌, ◌≢◌, ℕ, suc, ◌<◌, ◌≤◌, Bool, true, false, List, ◌⊎◌, inl, inr, Some, refl, sym, ◌∙◌, ap, subst, arith, if◌then◌else◌}
-use Rattle.sig_dd.specs.Diagram.{value_at, with_truth, StartsFrom}
-use Rattle.sig_dd.specs.Nodes.{Holds, node_of, diagram, test, IsReduced}
-use Rattle.sig_dd.specs.Question.{HasVariable, IsSide, AllStartFrom, SomeTests, SomeHas, IsAnswer, IsHalf, IsSplit}
-use Rattle.sig_dd.specs.declared.node.Ref.{Ref}
-use Rattle.sig_dd.specs.declared.node.Node.{Node}
-use Rattle.sig_dd.specs.declared.question.Question.{Question}
-use Rattle.sig_dd.specs.declared.question.Question.TheVariants.{Pick, Fix}
+use Rattle.sig_dd.proofs.Common.{◌≡◌, ◌≢◌, ℕ, suc, ◌<◌, ◌≤◌, Bool, true, false, List, ◌⊎◌, inl, inr, Some, refl, sym, ◌∙◌, ap, subst, arith, if◌then◌else◌, value_at, with_truth, StartsFrom, Holds, node_of, diagram, test, IsReduced, HasVariable, IsSide, AllStartFrom, SomeTests, SomeHas, IsAnswer, IsHalf, IsSplit, Ref, Node, Question, Pick, Fix}
 use Rattle.sig_dd.proofs.Trees.{value_at-earlier, StartsFrom-weaker, truth_of-with_same, truth_of-with_other}
 use Rattle.sig_dd.proofs.Listed.{diagram-true, diagram-false}
 use Rattle.sig_dd.proofs.Canonical.{proper}

@@ -1,8 +1,6 @@
 -- Decision diagrams as trees: two proper diagrams with one function are one, and a proper diagram
 -- depends on exactly the variables that it tests.
-use Rattle.std.proofs.Common.{◌≡◌, ◌≢◌, ℕ, zero, suc, ◌+◌, ◌<◌, ◌≤◌, Bool, true, false, cond, List, [], ◌∷◌, ◌⊎◌, inl, inr, refl, sym, ◌∙◌, ap, subst, true≢false, arith}
-use Rattle.std.proofs.lemmas.Bool.{false≢true, cases_lt, cases_eq}
-use Rattle.sig_dd.specs.Diagram.{Diagram, Constant, Choice, truth_of, value_at, with_truth, Depends, Tests, StartsFrom}
+use Rattle.sig_dd.proofs.Common.{◌≡◌, ◌≢◌, ℕ, zero, suc, ◌+◌, ◌<◌, ◌≤◌, Bool, true, false, cond, List, [], ◌∷◌, ◌⊎◌, inl, inr, refl, sym, ◌∙◌, ap, subst, true≢false, arith, false≢true, cases_lt, cases_eq, Diagram, Constant, Choice, truth_of, value_at, with_truth, Depends, Tests, StartsFrom}
 
 pub truth_of-with_same : (ts : List Bool) (v : ℕ) (b : Bool) → truth_of (with_truth ts v b) v ≡ b
 unfolding with_truth

@@ -1,13 +1,5 @@
 -- The variables that a node's diagram tests, and sets of them.
-use Rattle.std.proofs.Common.{◌≡◌, ℕ, suc, ◌<◌, Bool, true, false, cond, List, ◌⊎◌, inl, inr, None, Some, refl, sym, ◌∙◌, ap, subst, arith, IsTrue, Ordering, true≢false, eqb}
-use Rattle.std.specs.Ordering.{nat_cmp, is_eq}
-use Rattle.std.specs.declared.cmp.Ordering.TheVariants.{Less, Equal, Greater}
-use Rattle.std.specs.BTreeSet.{BTreeSet, contains}
-use Rattle.std.proofs.lemmas.Map.Lookups.{exact_unsigned}
-use Rattle.sig_dd.specs.Diagram.{Diagram, Choice, Tests, Depends, truth_of, value_at, visited}
-use Rattle.sig_dd.specs.Nodes.{Holds, node_of, diagram, test, IsReduced}
-use Rattle.sig_dd.specs.declared.node.Ref.{Ref}
-use Rattle.sig_dd.specs.declared.node.Node.{Node}
+use Rattle.sig_dd.proofs.Common.{◌≡◌, ℕ, suc, ◌<◌, Bool, true, false, cond, List, ◌⊎◌, inl, inr, None, Some, refl, sym, ◌∙◌, ap, subst, arith, IsTrue, Ordering, true≢false, eqb, nat_cmp, is_eq, Less, Equal, Greater, BTreeSet, contains, exact_unsigned, Diagram, Choice, Tests, Depends, truth_of, value_at, visited, Holds, node_of, diagram, test, IsReduced, Ref, Node}
 use Rattle.sig_dd.proofs.Trees.{Depends-tests, Tests-depends}
 use Rattle.sig_dd.proofs.Listed.{shape}
 use Rattle.sig_dd.proofs.Canonical.{children_held, proper}

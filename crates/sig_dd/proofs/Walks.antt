@@ -1,10 +1,5 @@
 -- What a walk asks for, and how many nodes it visits.
-use Rattle.std.proofs.Common.{◌≡◌, ℕ, zero, suc, ◌<◌, ◌≤◌, Bool, true, false, cond, List, inl, inr, length, refl, sym, ◌∙◌, subst, arith, Contains}
-use Rattle.std.proofs.lemmas.Bool.{cases_eq}
-use Rattle.sig_dd.specs.Diagram.{Diagram, Constant, Choice, Depends, StartsFrom, Tests, truth_of, value_at, visited, with_truth}
-use Rattle.sig_dd.specs.Nodes.{Holds, IsStore, Spans, StoreView, diagram, test}
-use Rattle.sig_dd.specs.Walks.{Asks, IsIdle}
-use Rattle.sig_dd.specs.declared.node.Ref.{Ref}
+use Rattle.sig_dd.proofs.Common.{◌≡◌, ℕ, zero, suc, ◌<◌, ◌≤◌, Bool, true, false, cond, List, inl, inr, length, refl, sym, ◌∙◌, subst, arith, Contains, cases_eq, Diagram, Constant, Choice, Depends, StartsFrom, Tests, truth_of, value_at, visited, with_truth, Holds, IsStore, Spans, StoreView, diagram, test, Asks, IsIdle, Ref}
 use Rattle.sig_dd.proofs.Canonical.{proper}
 use Rattle.sig_dd.proofs.Counts.{Contains-without, length-without_contained, without}
 use Rattle.sig_dd.proofs.Trees.{Depends-tests, IsProper, one_diagram, truth_of-with_other, truth_of-with_same, value_at-choice, value_at-chosen, value_at-earlier}

@@ -1,28 +1,5 @@
 -- A line whose words are good holds no other bytes than a line may.
-use Rattle.std.proofs.Common.{◌≡◌, ◌<◌, ◌∙◌, ◌+◌, ◌&&◌, ℕ, suc, ℤ, Bool, true, false, List, [], ◌∷◌, length, get_or, eqb, nat_le, nat_lt, cond, Option, None, Some, Result, Ok, Err, refl, sym, ap, subst, arith, codes, ltb-true}
-use Rattle.std.proofs.lemmas.Bool.{and_from, false≢true}
-use Rattle.std.proofs.lemmas.Bool.Decides.{nat_tests}
-use Rattle.std.proofs.lemmas.List.Folds.{list_all-append}
-use Rattle.std.proofs.lemmas.List.Sums.{passes_at_first, split_at_first}
-use Rattle.std.proofs.lemmas.Slice.Eq.{bytes_eq-Decides}
-use Rattle.std.specs.List.{AllByRecursion, after_first, before_first, list_all, onto_first, position_or_len, slice_split}
-use Rattle.std.specs.Char.{is_ascii_alphabetic}
-use Rattle.std.specs.Str.{bytes_eq}
-use Rattle.std.specs.Str.Parse.{digits_value}
-use Rattle.sig_base.specs.declared.ids.Kind.{Kind}
-use Rattle.sig_base.specs.declared.ids.Kind.TheVariants.{Integer, Boolean, Event}
-use Rattle.sig_base.specs.declared.signal.Signal.{Signal}
-use Rattle.sig_flow.specs.declared.answer.FlowAnswer.TheVariants.{BadLine}
-use Rattle.sig_flow.specs.declared.value.Run.{Run}
-use Rattle.sig_flow.specs.declared.value.WordFault.{WordFault}
-use Rattle.sig_flow.specs.declared.value.WordFault.TheVariants.{Bad, Outside}
-use Rattle.sig_flow.specs.declared.version.Version.{Version}
-use Rattle.sig_flow.specs.declared.version.Version.TheVariants.{One, Two}
-use Rattle.sig_flow.specs.Digits.{is_digits, short_number}
-use Rattle.sig_flow.specs.First.{AllGood}
-use Rattle.sig_flow.specs.Flows.{is_line_byte, is_name, is_name_byte, kind_named, named_fault, text_fault, value_judge, word_fault, words_fault}
-use Rattle.sig_flow.specs.Values.{is_numeral, is_star, repeated, run_length, run_said, starred, times_said, value_said}
-use Rattle.sig_flow.specs.Words.{Word, is_blank, words_among, words_from, words_of}
+use Rattle.sig_flow.proofs.Common.{◌≡◌, ◌<◌, ◌∙◌, ◌+◌, ◌&&◌, ℕ, suc, ℤ, Bool, true, false, List, [], ◌∷◌, length, get_or, eqb, nat_le, nat_lt, cond, Option, None, Some, Result, Ok, Err, refl, sym, ap, subst, arith, codes, ltb-true, and_from, false≢true, nat_tests, list_all-append, passes_at_first, split_at_first, bytes_eq-Decides, AllByRecursion, after_first, before_first, list_all, onto_first, position_or_len, slice_split, is_ascii_alphabetic, bytes_eq, digits_value, Kind, Integer, Boolean, Event, Signal, BadLine, Run, WordFault, Bad, Outside, Version, One, Two, is_digits, short_number, AllGood, is_line_byte, is_name, is_name_byte, kind_named, named_fault, text_fault, value_judge, word_fault, words_fault, is_numeral, is_star, repeated, run_length, run_said, starred, times_said, value_said, Word, is_blank, words_among, words_from, words_of}
 use Rattle.sig_flow.proofs.FirstLemmas.{good_from_none}
 use Rattle.sig_flow.proofs.LineWords.{kept}
 use Rattle.sig_flow.proofs.Numerals.{digit_in}

@@ -1,16 +1,7 @@
 -- The events of a file, read line by line.
-use Rattle.std.proofs.Common.{◌≡◌, ℕ, ◌+◌, List, [], ◌∷◌, ◌++◌, length, Option, None, Some, Result, Ok, Err, refl, sym, ap, ◌∙◌, arith, length-append, append_assoc, inl, inr, ⊎_elim, ◌⊎◌}
-use Rattle.std.proofs.lemmas.List.{append-nil}
-use Rattle.std.specs.Prelude.{IfOk, IfErr, MatchResult, IsErrAnd, option_to_list}
-use Rattle.std.specs.Str.Lines.{lines}
-use Rattle.sig_flow.specs.declared.answer.EventAnswer.{EventAnswer}
+use Rattle.sig_flow.proofs.Common.{◌≡◌, ℕ, ◌+◌, List, [], ◌∷◌, ◌++◌, length, Option, None, Some, Result, Ok, Err, refl, sym, ap, ◌∙◌, arith, inl, inr, ⊎_elim, ◌⊎◌, append-nil, IfOk, IfErr, MatchResult, IsErrAnd, lines, EventAnswer, FileEvent, AreEvents, IsFirstBadEvent, event_fault, event_judge, events_among, first_fault, Line, lines_of, numbered, words_of}
 use Rattle.sig_flow.specs.declared.answer.EventAnswer.TheVariants.{OutOfMemory}
-use Rattle.sig_flow.specs.declared.event.FileEvent.{FileEvent}
-use Rattle.sig_flow.specs.Events.{AreEvents, IsFirstBadEvent, event_count, event_fault, event_judge, event_of, events_among}
-use Rattle.sig_flow.specs.First.{first_fault}
-use Rattle.sig_flow.specs.Lines.{Line, lines_of, numbered}
-use Rattle.sig_flow.specs.Words.{words_of}
-use Rattle.sig_flow.proofs.FirstLemmas.{after_good, at_wrong, good_from_none, first_from_some, not_both, one_first}
+use Rattle.sig_flow.proofs.FirstLemmas.{at_wrong, good_from_none, first_from_some, not_both, one_first}
 
 -- what is wrong with the lines from here on
 abbrev pub wrong_from : ℕ → ℕ → List ℕ → Option EventAnswer
@@ -24,23 +15,6 @@ abbrev line_at : ℕ → List ℕ → Line
 line_at number text = record { number = number; text = text }
 
 module _ (bytes rest line after : List ℕ) (number : ℕ) (first : lines rest ≡ line ∷ lines after) where
-  -- behind a good line
-  pub judged_on : (old new : List FileEvent) (event : Option FileEvent) → event_fault number (length old) (words_of line) ≡ None → event ≡ event_of (words_of line) → new ≡ old ++ option_to_list event → wrong_from (length old) number rest ≡ wrong_from 0 1 bytes → wrong_from (length new) (number + 1) after ≡ wrong_from 0 1 bytes
-  judged_on old new event good is added so_far =
-      let size : length new ≡ length old + event_count (words_of line) =
-      ap length added ∙ length-append old (option_to_list event) ∙ ap (λ (e : Option FileEvent). length old + length (option_to_list e)) is in
-      ap (λ n. wrong_from n (number + 1) after) size
-      ∙ sym (after_good event_judge (length old) (line_at number line) (numbered (number + 1) (lines after)) good)
-      ∙ ap (λ (ls : List (List ℕ)). first_fault event_judge (length old) (numbered number ls)) (sym first)
-      ∙ so_far
-
-  pub events_on : (old new : List FileEvent) (event : Option FileEvent) → event ≡ event_of (words_of line) → new ≡ old ++ option_to_list event → old ++ events_from number rest ≡ events_from 1 bytes → new ++ events_from (number + 1) after ≡ events_from 1 bytes
-  events_on old new event is added so_far =
-      ap (λ (es : List FileEvent). es ++ events_from (number + 1) after) (added ∙ ap (λ (e : Option FileEvent). old ++ option_to_list e) is)
-      ∙ append_assoc old (option_to_list (event_of (words_of line))) (events_from (number + 1) after)
-      ∙ ap (λ (ls : List (List ℕ)). old ++ events_among (numbered number ls)) (sym first)
-      ∙ so_far
-
   -- at a wrong line
   pub wrong_here : (before : ℕ) (fault : EventAnswer) → event_fault number before (words_of line) ≡ Some fault → wrong_from before number rest ≡ wrong_from 0 1 bytes → IsFirstBadEvent bytes fault
   wrong_here before fault wrong so_far =

@@ -1,7 +1,5 @@
 -- The first fault of a list, and the lists without one.
-use Rattle.std.proofs.Common.{◌≡◌, ℕ, ◌+◌, List, [], ◌∷◌, ◌++◌, Option, None, Some, refl, sym, ap, ◌∙◌, arith, sum_by}
-use Rattle.std.proofs.lemmas.List.Sums.{sum_by-cons}
-use Rattle.sig_flow.specs.First.{Judge, AllGood, IsFirst, first_fault}
+use Rattle.sig_flow.proofs.Common.{◌≡◌, ℕ, ◌+◌, List, [], ◌∷◌, ◌++◌, Option, None, Some, refl, sym, ap, ◌∙◌, arith, sum_by, sum_by-cons, Judge, AllGood, IsFirst, first_fault}
 
 -- an element in which nothing is wrong is passed
 pub after_good : {A E : Type 0} (judge : Judge A E) (before : ℕ) (x : A) (xs : List A) → judge.fault before x ≡ None → first_fault judge before (x ∷ xs) ≡ first_fault judge (before + judge.size x) xs

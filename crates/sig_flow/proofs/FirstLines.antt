@@ -1,9 +1,5 @@
 -- The lines of some bytes, taken from their front.
-use Rattle.std.proofs.Common.{◌≡◌, ◌<◌, ◌+◌, ℕ, List, [], ◌∷◌, length, take, drop, eqb, false, true, arith, refl, ◌∙◌, ap, ⊎_elim}
-use Rattle.std.proofs.lemmas.List.Splits.{slice_split_none, slice_split_first, length-slice_split}
-use Rattle.std.proofs.lemmas.Bool.{ne_eqb, cases_Bool}
-use Rattle.std.specs.List.{position_or_len, slice_split, All}
-use Rattle.std.specs.Str.Lines.{lines, lines_of_parts, strip_carriage_return}
+use Rattle.sig_flow.proofs.Common.{◌≡◌, ◌<◌, ◌+◌, ℕ, List, [], ◌∷◌, length, take, drop, eqb, false, true, arith, refl, ◌∙◌, ap, ⊎_elim, slice_split_none, slice_split_first, length-slice_split, ne_eqb, cases_Bool, position_or_len, slice_split, All, lines, lines_of_parts, strip_carriage_return}
 
 lines_of_parts-cons : (part : List ℕ) (parts : List (List ℕ)) → 0 < length parts → lines_of_parts (part ∷ parts) ≡ strip_carriage_return part ∷ lines_of_parts parts
 lines_of_parts-cons part [] some = absurd (omega arith)

@@ -1,26 +1,5 @@
 -- Lemmas: the values that are read are of the kinds of their inputs.
-use Rattle.std.proofs.Common.{◌≡◌, ◌<◌, ◌≤◌, ◌+◌, ◌++◌, ◌^◌, ℕ, zero, suc, ℤ, pos, neg_ℤ, Bool, true, false, ◌&&◌, List, [], ◌∷◌, length, map, get_or, replicate, refl, sym, ap, ◌∙◌, subst, arith}
-use Rattle.std.specs.Prelude.{Option, None, Some, Result, Ok, Err, bytes_eq, codes, flat_map, nat_le, nat_lt, if◌then◌else◌, ◌==◌}
-use Rattle.std.specs.List.{list_all, before_first, after_first, position_or_len}
-use Rattle.std.specs.Str.Parse.{digits_value}
-use Rattle.std.proofs.lemmas.Bool.{false≢true, leb-true, lt-ltb}
-use Rattle.std.proofs.lemmas.List.{get_or-map, length-map}
-use Rattle.std.proofs.lemmas.List.Sums.{AllPass-from_list_all}
-use Rattle.sig_base.specs.Traces.{has_64_bits}
-use Rattle.sig_base.specs.declared.ids.Kind.{Kind}
-use Rattle.sig_base.specs.declared.ids.Kind.TheVariants.{Integer, Boolean, Event}
-use Rattle.sig_base.specs.declared.signal.Signal.{Signal}
-use Rattle.sig_kernel.specs.Validity.{AreFlowsFor, inputs_of, value_is}
-use Rattle.sig_kernel.specs.declared.kernel.Kernel.{Kernel}
-use Rattle.sig_flow.specs.Flows.{AreFlows, file_body, flow_in, values_for, values_of}
-use Rattle.sig_flow.specs.Lines.{Line}
-use Rattle.sig_flow.specs.Values.{integer_of, integer_said, is_numeral, is_star, is_within, repeated, run_said, run_values, star_said, starred, times_said, value_said}
-use Rattle.sig_flow.specs.Words.{Word, words_of}
-use Rattle.sig_flow.specs.declared.version.Version.{Version}
-use Rattle.sig_flow.specs.declared.version.Version.TheVariants.{One, Two}
-use Rattle.sig_flow.specs.declared.value.Run.{Run}
-use Rattle.sig_flow.specs.declared.value.WordFault.{WordFault}
-use Rattle.sig_flow.specs.declared.value.WordFault.TheVariants.{Bad, Outside}
+use Rattle.sig_flow.proofs.Common.{◌≡◌, ◌<◌, ◌≤◌, ◌+◌, ◌++◌, ◌^◌, ℕ, zero, suc, ℤ, pos, neg_ℤ, Bool, true, false, ◌&&◌, List, [], ◌∷◌, length, map, get_or, replicate, refl, sym, ap, ◌∙◌, subst, arith, Option, None, Some, Result, Ok, Err, bytes_eq, codes, flat_map, nat_le, nat_lt, if◌then◌else◌, ◌==◌, list_all, before_first, after_first, position_or_len, digits_value, false≢true, leb-true, lt-ltb, get_or-map, length-map, AllPass-from_list_all, has_64_bits, Kind, Integer, Boolean, Event, Signal, AreFlowsFor, inputs_of, value_is, Kernel, AreFlows, file_body, flow_in, values_for, values_of, Line, integer_of, integer_said, is_numeral, is_star, is_within, repeated, run_said, run_values, star_said, starred, times_said, value_said, Word, words_of, Version, One, Two, Run, WordFault, Bad, Outside}
 
 -- where a word has a value, it is one of the kind
 abbrev IsGood : Kind → Result ℤ WordFault → Type 0

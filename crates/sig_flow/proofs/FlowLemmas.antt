@@ -1,38 +1,7 @@
 -- What the lines of a flow file give each input.
-use Rattle.std.proofs.Common.{◌≡◌, ◌≢◌, ◌<◌, ◌+◌, ℕ, ℤ, List, [], ◌∷◌, ◌++◌, length, get_or, set, map, Option, None, Some, Result, Ok, Err, bytes_eq, sym, refl, ◌∙◌, ap, subst, ⊎_elim, ◌⊎◌, inl, inr, arith, append_assoc, sum_by}
-use Rattle.std.proofs.lemmas.Bool.{cases_eq}
-use Rattle.std.proofs.lemmas.List.{get_or_default, get_or-set_same, get_or-set_other, get_or-map, append-nil, ext_get_or, length-map}
-use Rattle.std.proofs.lemmas.List.Sums.{sum_by-cons}
-use Rattle.std.proofs.lemmas.Slice.Eq.{bytes_eq-Decides}
-use Rattle.std.specs.List.{IsDistinct}
-use Rattle.std.specs.Prelude.{IfOk, IfErr, MatchResult, IsErrAnd}
-use Rattle.std.specs.Str.Lines.{lines}
-use Rattle.sig_base.specs.declared.ids.Kind.{Kind}
-use Rattle.sig_base.specs.declared.signal.Signal.{Signal}
-use Rattle.sig_flow.specs.declared.answer.FlowAnswer.{FlowAnswer}
-use Rattle.sig_flow.specs.declared.answer.FlowAnswer.TheVariants.{OutOfMemory}
-use Rattle.sig_flow.specs.declared.version.Version.{Version}
-use Rattle.sig_flow.specs.First.{first_fault}
-use Rattle.sig_flow.specs.Flows.{AreFlows, AreFlowsIn, Body, IsFirstBadPlace, IsFirstIn, file_body, flow_in, line_judge, text_fault, value_judge, values_for, values_of, words_count}
-use Rattle.sig_flow.specs.Lines.{Line, numbered}
-use Rattle.sig_flow.specs.Values.{run_said, run_values}
-use Rattle.sig_flow.specs.Words.{Word, words_of}
-use Rattle.sig_flow.proofs.FirstLemmas.{judged_behind, judged_at, good_from_none, first_from_some, not_both, one_first}
+use Rattle.sig_flow.proofs.Common.{◌≡◌, ◌≢◌, ◌<◌, ◌+◌, ℕ, ℤ, List, [], ◌∷◌, ◌++◌, length, get_or, set, map, Option, None, Some, Result, Ok, Err, bytes_eq, sym, refl, ◌∙◌, ap, subst, ⊎_elim, ◌⊎◌, inl, inr, arith, cases_eq, get_or_default, get_or-set_same, get_or-set_other, get_or-map, append-nil, ext_get_or, length-map, bytes_eq-Decides, IsDistinct, IfOk, IfErr, MatchResult, IsErrAnd, lines, Signal, FlowAnswer, OutOfMemory, Version, first_fault, AreFlows, AreFlowsIn, Body, IsFirstBadPlace, IsFirstIn, file_body, flow_in, line_judge, text_fault, values_for, values_of, Line, numbered, Word}
+use Rattle.sig_flow.proofs.FirstLemmas.{judged_at, good_from_none, first_from_some, not_both, one_first}
 use Rattle.sig_flow.proofs.InputLemmas.{differ_eq, names_differ, nobody}
-
--- the values of words behind one
-pub values_behind : (version : Version) (kind : Kind) (old new : List ℤ) (word : Word) (behind words : List Word) → words ≡ word ∷ behind → new ≡ old ++ run_values (run_said version kind word.text) → new ++ values_of version kind behind ≡ old ++ values_of version kind words
-values_behind version kind old new word behind words are added =
-    ap (λ (vs : List ℤ). vs ++ values_of version kind behind) added
-    ∙ append_assoc old (run_values (run_said version kind word.text)) (values_of version kind behind)
-    ∙ ap (λ (ws : List Word). old ++ values_of version kind ws) (sym are)
-
--- and their number
-pub counted_behind : (version : Version) (kind : Kind) (old new : ℕ) (word : Word) (behind words : List Word) → words ≡ word ∷ behind → new ≡ old + (value_judge version kind 0).size word → new + sum_by (value_judge version kind 0).size behind ≡ old + sum_by (value_judge version kind 0).size words
-counted_behind version kind old new word behind words are added =
-    let both : sum_by (value_judge version kind 0).size words ≡ (value_judge version kind 0).size word + sum_by (value_judge version kind 0).size behind =
-    ap (sum_by (value_judge version kind 0).size) are ∙ sum_by-cons (value_judge version kind 0).size word behind in
-    omega arith
 
 -- the values of a line are those of the input that it names
 values_for_own : (version : Version) (input : Signal) (name : Word) (values : List Word) → name.text ≡ input.name → values_for version input (name ∷ values) ≡ values_of version input.kind values
@@ -66,22 +35,10 @@ module _ (version : Version) (inputs : List Signal) (rest line after : List ℕ)
   numbered_first : numbered number (lines rest) ≡ line_at number line ∷ numbered (number + 1) (lines after)
   numbered_first = ap (numbered number) first
 
-  -- behind a good line
-  pub judged_on : (old new : ℕ) → text_fault version inputs number old line ≡ None → new ≡ old + words_count version inputs (words_of line) → first_fault (line_judge version inputs) new (numbered (number + 1) (lines after)) ≡ first_fault (line_judge version inputs) old (numbered number (lines rest))
-  judged_on old new good counted =
-      judged_behind (line_judge version inputs) old new (line_at number line) (numbered (number + 1) (lines after)) (numbered number (lines rest)) numbered_first good counted
-
   -- at a wrong line
   pub wrong_at : (old : ℕ) (fault : FlowAnswer) → text_fault version inputs number old line ≡ Some fault → first_fault (line_judge version inputs) old (numbered number (lines rest)) ≡ Some fault
   wrong_at old fault wrong =
       judged_at (line_judge version inputs) old (line_at number line) (numbered (number + 1) (lines after)) (numbered number (lines rest)) fault numbered_first wrong
-
-  -- the flow of an input
-  pub flow_on : (old new : List ℤ) (input : Signal) → new ≡ old ++ values_for version input (words_of line) → new ++ flow_in version (numbered (number + 1) (lines after)) input ≡ old ++ flow_in version (numbered number (lines rest)) input
-  flow_on old new input added =
-      ap (λ (vs : List ℤ). vs ++ flow_in version (numbered (number + 1) (lines after)) input) added
-      ∙ append_assoc old (values_for version input (words_of line)) (flow_in version (numbered (number + 1) (lines after)) input)
-      ∙ ap (λ (ls : List Line). old ++ flow_in version ls input) (sym numbered_first)
 
 -- the first line that is wrong
 pub fault_here : (inputs : List Signal) (body : Body) (rest line after : List ℕ) (number before : ℕ) (fault : FlowAnswer) → lines rest ≡ line ∷ lines after → (fault ≡ OutOfMemory) ⊎ (text_fault body.version inputs number before line ≡ Some fault) → first_fault (line_judge body.version inputs) before (numbered number (lines rest)) ≡ first_fault (line_judge body.version inputs) 0 body.lines → (fault ≡ OutOfMemory) ⊎ IsFirstIn inputs body fault

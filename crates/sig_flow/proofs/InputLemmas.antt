@@ -1,14 +1,5 @@
 -- Inputs by their names.
-use Rattle.std.proofs.Common.{◌≡◌, ◌≢◌, ◌<◌, ℕ, zero, suc, List, [], ◌∷◌, length, get_or, map, None, Some, false, bytes_eq, sym, refl, ◌∙◌, ⊎_elim, arith}
-use Rattle.std.proofs.lemmas.Bool.{cases_Bool, cases_order}
-use Rattle.std.proofs.lemmas.Bool.Decides.{not_from_Decides}
-use Rattle.std.proofs.lemmas.List.{get_or-map, length-map}
-use Rattle.std.proofs.lemmas.Map.Keys.{apart_from_distinct}
-use Rattle.std.proofs.lemmas.Slice.Eq.{bytes_eq-Decides}
-use Rattle.std.specs.List.{IsDistinct}
-use Rattle.sig_base.specs.declared.signal.Signal.{Signal}
-use Rattle.sig_base.specs.declared.ids.Kind.TheVariants.{Integer}
-use Rattle.sig_flow.specs.Flows.{kind_named}
+use Rattle.sig_flow.proofs.Common.{◌≡◌, ◌≢◌, ◌<◌, ℕ, zero, suc, List, [], ◌∷◌, length, get_or, map, None, Some, false, bytes_eq, sym, refl, ◌∙◌, ⊎_elim, arith, cases_Bool, cases_order, not_from_Decides, get_or-map, length-map, apart_from_distinct, bytes_eq-Decides, IsDistinct, Signal, Integer, kind_named}
 
 -- some signal, for the places past the end of a list
 pub nobody : Signal

@@ -1,3 +1,4 @@
+pub mod Common
 mod BodyLemmas
 mod CleanLines
 mod EventLemmas
@@ -11,3 +12,18 @@ mod Numerals
 mod ShortNumbers
 mod StarLemmas
 mod TakenPieces
+pub use Common.*
+pub use BodyLemmas.*
+pub use CleanLines.*
+pub use EventLemmas.*
+pub use FirstLemmas.*
+pub use FirstLines.*
+pub use FittingFlows.*
+pub use FlowLemmas.*
+pub use InputLemmas.*
+pub use LineWords.*
+pub use Numerals.*
+pub use ShortNumbers.*
+pub use StarLemmas.*
+pub use TakenPieces.*
+pub use Rattle.sig_flow.proofs.FlowLemmas.{all_read, given, refused}

@@ -1,11 +1,5 @@
 -- The words of a line, taken from its front.
-use Rattle.std.proofs.Common.{◌≡◌, ◌≤◌, ◌<◌, ◌+◌, ℕ, zero, suc, List, [], ◌∷◌, length, take, drop, get_or, true, false, arith, sym, refl, ◌∙◌, ap, ⊎_elim, length-take-le, length-drop}
-use Rattle.std.proofs.lemmas.List.{take_all, drop_all, drop_more, get_or_default, get_or-drop}
-use Rattle.std.proofs.lemmas.Bool.{false≢true, cases_lt, ne_eqb}
-use Rattle.std.proofs.lemmas.List.Splits.{slice_split-cons_yes, slice_split_none, slice_split_first}
-use Rattle.std.proofs.lemmas.List.Sums.{position_or_len_is}
-use Rattle.std.specs.List.{position_or_len, slice_split}
-use Rattle.sig_flow.specs.Words.{Word, is_blank, words_among, words_from}
+use Rattle.sig_flow.proofs.Common.{◌≡◌, ◌≤◌, ◌<◌, ◌+◌, ℕ, zero, suc, List, [], ◌∷◌, length, take, drop, get_or, true, false, arith, sym, refl, ◌∙◌, ap, ⊎_elim, length-take-le, length-drop, take_all, drop_all, drop_more, get_or_default, get_or-drop, false≢true, cases_lt, ne_eqb, slice_split-cons_yes, slice_split_none, slice_split_first, position_or_len_is, position_or_len, slice_split, Word, is_blank, words_among, words_from}
 
 -- a blank at the front makes no word
 pub words_blank : (col x : ℕ) (xs : List ℕ) → is_blank x ≡ true → words_from col (x ∷ xs) ≡ words_from (col + 1) xs

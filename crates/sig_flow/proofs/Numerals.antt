@@ -1,17 +1,5 @@
 -- Numerals of flow files: digits read from the left.
-use Rattle.std.proofs.Common.{None, Some, ◌≡◌, ◌≤◌, ◌<◌, ◌+◌, ◌-◌, ◌*◌, ℕ, List, length, take, get_or, true, false, IsTrue, arith, subst, rules, ⊎_elim, length-take-le}
-use Rattle.std.proofs.lemmas.List.{take_all}
-use Rattle.std.proofs.lemmas.Grind.{common_steps}
-use Rattle.std.proofs.lemmas.Bool.{cases_lt}
-use Rattle.std.proofs.lemmas.Bool.Decides.{nat_tests}
-use Rattle.std.proofs.lemmas.Int.Digits.{digits_value_more, digits_more}
-use Rattle.std.proofs.lemmas.Str.Parse.{IsNumeralModel, numerals_by_value, tells_all_ascii_digits, digit_at, digits_value-take-le, digits_value_short}
-use Rattle.std.specs.Int.{IsInRange}
-use Rattle.std.specs.Char.{digit_value}
-use Rattle.std.specs.Str.{all_ascii_digits}
-use Rattle.std.specs.Str.Parse.{AllDigits, digits_value}
-use Rattle.sig_flow.specs.Digits.{IsShortNumber, is_digits, short_number}
-use Rattle.sig_flow.specs.Words.{is_blank}
+use Rattle.sig_flow.proofs.Common.{None, Some, ◌≡◌, ◌≤◌, ◌<◌, ◌+◌, ◌-◌, ◌*◌, ℕ, List, length, take, get_or, true, false, IsTrue, arith, subst, rules, ⊎_elim, length-take-le, take_all, common_steps, cases_lt, nat_tests, digits_value_more, digits_more, IsNumeralModel, numerals_by_value, tells_all_ascii_digits, digit_at, digits_value-take-le, digits_value_short, IsInRange, digit_value, all_ascii_digits, AllDigits, digits_value, IsShortNumber, is_digits, short_number, is_blank}
 
 own : IsNumeralModel (λ ds. all_ascii_digits ds ≡ true) (digits_value 10)
 own = numerals_by_value _ tells_all_ascii_digits
@@ -53,9 +41,6 @@ short_value ds digits short = digits_value_short own ds 9 (search rules) short
 -- what a number of up to nine digits is, and what is none
 pub short_is : (ds : List ℕ) → IsTrue (is_digits ds) → length ds ≤ 9 → short_number ds ≡ Some (digits_value 10 ds)
 short_is ds digits short = grind (arith, nat_tests)
-
-pub long_is_none : (ds : List ℕ) → 9 < length ds → short_number ds ≡ None
-long_is_none ds long = grind (arith, nat_tests)
 
 pub other_is_none : (ds : List ℕ) → (IsTrue (is_digits ds) → ⊥) → short_number ds ≡ None
 other_is_none ds other = grind (arith, nat_tests)

@@ -1,13 +1,5 @@
 -- What a word that is a short number stands for.
-use Rattle.std.proofs.Common.{◌≡◌, ◌<◌, ◌∙◌, ℕ, List, [], ◌∷◌, eqb, false, pos, Ok, sym, ap, arith}
-use Rattle.std.proofs.lemmas.Bool.{lt-ltb}
-use Rattle.std.proofs.lemmas.Bool.Decides.{nat_tests}
-use Rattle.std.specs.Str.Parse.{digits_value}
-use Rattle.sig_base.specs.declared.ids.Kind.TheVariants.{Integer}
-use Rattle.sig_flow.specs.Digits.{IsShortNumber}
-use Rattle.sig_flow.specs.Values.{integer_said, repeated, run_said}
-use Rattle.sig_flow.specs.declared.version.Version.{Version}
-use Rattle.sig_flow.specs.declared.version.Version.TheVariants.{One, Two}
+use Rattle.sig_flow.proofs.Common.{◌≡◌, ◌<◌, ◌∙◌, ℕ, List, [], ◌∷◌, eqb, false, pos, Ok, sym, ap, arith, lt-ltb, nat_tests, digits_value, Integer, IsShortNumber, integer_said, repeated, run_said, Version, One, Two}
 use Rattle.sig_flow.proofs.Numerals.{digit_in}
 use Rattle.sig_flow.proofs.StarLemmas.{star_nowhere}
 

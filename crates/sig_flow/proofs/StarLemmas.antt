@@ -1,10 +1,5 @@
 -- Words with a star.
-use Rattle.std.proofs.Common.{◌≡◌, ◌<◌, ◌+◌, ℕ, List, length, take, drop, get_or, eqb, nat_lt, true, false, refl, ⊎_elim, arith}
-use Rattle.std.proofs.lemmas.Bool.{cases_Bool, lt-ltb}
-use Rattle.std.proofs.lemmas.Bool.Decides.{nat_tests}
-use Rattle.std.proofs.lemmas.List.Sums.{position_or_len_is}
-use Rattle.sig_base.specs.declared.ids.Kind.{Kind}
-use Rattle.sig_flow.specs.Values.{is_star, repeated, star_said, starred, times_said, value_said}
+use Rattle.sig_flow.proofs.Common.{◌≡◌, ◌<◌, ◌+◌, ℕ, List, length, take, drop, get_or, eqb, nat_lt, true, false, refl, ⊎_elim, arith, cases_Bool, lt-ltb, nat_tests, position_or_len_is, Kind, is_star, repeated, star_said, starred, times_said, value_said}
 
 pub no_star : (b : ℕ) → (eqb b 42 ≡ true → ⊥) → eqb b 42 ≡ false
 no_star b other = ⊎_elim (λ is. absurd (other is)) (λ is. is) (cases_Bool (eqb b 42))

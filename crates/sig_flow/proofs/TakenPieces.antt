@@ -1,8 +1,5 @@
 -- What a sink took of several pieces.
-use Rattle.std.proofs.Common.{◌≡◌, ◌<◌, ◌+◌, ℕ, List, ◌++◌, length, take, drop, get_or, flat_map, Bor, sym, ◌∙◌, ap, subst, append_assoc}
-use Rattle.std.proofs.lemmas.List.{take-append-drop, drop_more}
-use Rattle.std.proofs.lemmas.List.Concat.{flat_map-append}
-use Rattle.sig_text.specs.Sink.{Joins, TookPrefix, TookPrefix-longer, TookPrefix-then}
+use Rattle.sig_flow.proofs.Common.{◌≡◌, ◌<◌, ◌+◌, ℕ, List, ◌++◌, length, take, drop, get_or, flat_map, Bor, sym, ◌∙◌, ap, subst, append_assoc, take-append-drop, drop_more, flat_map-append, Joins, TookPrefix, TookPrefix-longer, TookPrefix-then}
 
 -- the pieces before one, that one, and those behind it
 around : (pieces : List (Bor (List ℕ))) (i : ℕ) (d : Bor (List ℕ)) → i < length pieces → (flat_map (λ piece. piece.now) (take i pieces) ++ (get_or pieces i d).now) ++ flat_map (λ piece. piece.now) (drop (i + 1) pieces) ≡ flat_map (λ piece. piece.now) pieces

@@ -1,16 +1,5 @@
 -- Lemmas on the flow of a delay.
-use Rattle.std.proofs.Common.{◌≡◌, ◌++◌, ℕ, ℤ, List, [], ◌∷◌, length, take, get_or, refl, ap, subst, ◌∙◌, arith, ◌<◌}
-use Rattle.std.specs.Prelude.{None, Some, option_to_list, Contains, suc, zero}
-use Rattle.std.specs.List.{AllByRecursion}
-use Rattle.std.proofs.lemmas.List.{append-nil}
-use Rattle.sig_base.specs.Traces.{Trace, Instant, Seen, Range, seen_at, flow_of}
-use Rattle.sig_base.specs.declared.ids.SigId.{SigId}
-use Rattle.sig_base.specs.declared.span.Span.{Span}
-use Rattle.sig_base.proofs.TraceLemmas.{flow_append}
-use Rattle.sig_kernel.specs.KernelTraces.{last_of, remembered, where_present, IsTraceIn, Meets}
-use Rattle.sig_kernel.specs.declared.equation.Equation.{Equation}
-use Rattle.sig_kernel.specs.declared.equation.Form.TheVariants.{Delay}
-use Rattle.sig_kernel.specs.declared.kernel.Kernel.{Kernel}
+use Rattle.sig_kernel.proofs.Common.{◌≡◌, ◌++◌, ℕ, ℤ, List, [], ◌∷◌, length, take, get_or, refl, ap, subst, ◌∙◌, arith, ◌<◌, None, Some, option_to_list, Contains, suc, zero, AllByRecursion, append-nil, Trace, Instant, Seen, Range, seen_at, flow_of, SigId, Span, flow_append, last_of, remembered, where_present, IsTraceIn, Meets, Equation, Delay, Kernel}
 use Rattle.sig_kernel.proofs.TraceLemmas.{Runs, runs_from_trace}
 
 -- what holds of all elements holds of one
@@ -47,12 +36,6 @@ pub delay_flow : (range : Range) (kernel : Kernel) (trace : Trace) (y x : SigId)
     → Contains kernel.equations (record { form = Delay y x initial; at = at }) → IsTraceIn range kernel trace
     → flow_of y.0 trace ≡ take (length (flow_of x.0 trace)) (initial ∷ flow_of x.0 trace)
 delay_flow range kernel trace y x initial at there is = delay_behind range kernel [] trace y x initial at there (runs_from_trace range kernel trace is)
-
--- what an instant leaves to be remembered
-pub absent_leaves : (past : Trace) (instant : Instant) (signal delayed : ℕ) (initial : ℤ) → seen_at instant delayed ≡ None
-    → remembered (past ++ instant ∷ []) signal delayed initial ≡ remembered past signal delayed initial
-absent_leaves past instant signal delayed initial none =
-    ap (λ list. last_of initial list) (flow_append delayed past (instant ∷ []) ∙ ap (λ seen. flow_of delayed past ++ (option_to_list seen ++ [])) none ∙ append-nil (flow_of delayed past))
 
 pub present_leaves : (past : Trace) (instant : Instant) (signal delayed : ℕ) (initial v : ℤ) → seen_at instant delayed ≡ Some v
     → remembered (past ++ instant ∷ []) signal delayed initial ≡ v

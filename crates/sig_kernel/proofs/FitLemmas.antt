@@ -1,12 +1,5 @@
 -- Lemmas on flows that fit a kernel.
-use Rattle.std.proofs.Common.{◌≡◌, ℕ, ℤ, ◌<◌, true, false, List, [], length, get_or, sym, ◌∙◌, ap, subst, arith}
-use Rattle.std.specs.List.{list_all, AllPass}
-use Rattle.std.proofs.lemmas.Bool.{false≢true}
-use Rattle.std.proofs.lemmas.List.{get_or_default}
-use Rattle.std.proofs.lemmas.List.Sums.{AllPass-from_list_all, list_all-from_AllPass}
-use Rattle.sig_base.specs.declared.signal.Signal.{Signal}
-use Rattle.sig_kernel.specs.Validity.{AreFlowsFor, inputs_of, value_is}
-use Rattle.sig_kernel.specs.declared.kernel.Kernel.{Kernel}
+use Rattle.sig_kernel.proofs.Common.{◌≡◌, ℕ, ℤ, ◌<◌, true, false, List, [], length, get_or, sym, ◌∙◌, ap, subst, arith, list_all, AllPass, false≢true, get_or_default, AllPass-from_list_all, list_all-from_AllPass, Signal, AreFlowsFor, inputs_of, value_is, Kernel}
 
 -- the value of each flow up to a number is of the input's kind
 abbrev pub FitBelow : List Signal → List (List ℤ) → ℕ → Type 0

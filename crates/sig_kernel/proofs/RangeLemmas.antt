@@ -1,17 +1,6 @@
 -- Lemmas on traces whose integers are all whole numbers.
-use Rattle.std.proofs.Common.{ℤ, List, [], ◌∷◌, map}
-use Rattle.std.specs.Prelude.{None, Some}
-use Rattle.std.specs.List.{AllByRecursion}
-use Rattle.sig_base.specs.Functions.{Function, Gives}
-use Rattle.sig_base.specs.Traces.{Trace, Instant, Seen, Bounded, Unbounded, AreOfKinds, IsOfKind, seen_at}
-use Rattle.sig_base.specs.declared.ids.Kind.{Kind}
-use Rattle.sig_base.specs.declared.ids.Kind.TheVariants.{Integer, Boolean, Event}
-use Rattle.sig_kernel.specs.KernelTraces.{Memory, IsFunction, IsReaction, IsTraceIn, Meets, function_of, remembered}
-use Rattle.sig_kernel.specs.declared.equation.Equation.{Equation}
-use Rattle.sig_kernel.specs.declared.equation.Form.{Form}
-use Rattle.sig_kernel.specs.declared.equation.Form.TheVariants.{Fun, Delay, When, WhenConst, Default, Sync, Event as EventOf}
-use Rattle.sig_kernel.specs.declared.equation.Operand.{Operand}
-use Rattle.sig_kernel.specs.declared.kernel.Kernel.{Kernel}
+use Rattle.sig_kernel.proofs.Common.{ℤ, List, [], ◌∷◌, map, None, Some, AllByRecursion, Function, Gives, Trace, Instant, Seen, Bounded, Unbounded, AreOfKinds, IsOfKind, seen_at, Kind, Integer, Boolean, Memory, IsFunction, IsReaction, IsTraceIn, Meets, function_of, remembered, Equation, Form, Fun, Delay, When, WhenConst, Default, Sync, Event as EventOf, Operand, Kernel}
+use Rattle.sig_base.specs.declared.ids.Kind.TheVariants.{Event}
 
 -- functions give within 64 bits what they give without bounds
 abbrev pub GivesBoth : Type 0

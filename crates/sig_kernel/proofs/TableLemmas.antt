@@ -1,11 +1,5 @@
 -- Lemmas on lists of operands.
-use Rattle.std.proofs.Common.{◌≡◌, ◌≤◌, ◌<◌, false, List, [], ◌∷◌, length, refl, ◌∙◌, ap, arith}
-use Rattle.std.specs.Prelude.{◌&&◌}
-use Rattle.std.proofs.Math.Bool.{and-false}
-use Rattle.sig_base.specs.declared.signal.Signal.{Signal}
-use Rattle.sig_kernel.specs.Table.{operand_is, operands_are}
-use Rattle.sig_kernel.specs.declared.equation.Operand.{Operand}
-use Rattle.sig_kernel.specs.declared.table.Sort.{Sort}
+use Rattle.sig_kernel.proofs.Common.{◌≡◌, ◌≤◌, ◌<◌, false, List, [], ◌∷◌, length, refl, ◌∙◌, ap, arith, ◌&&◌, and-false, Signal, operand_is, operands_are, Operand, Sort}
 
 -- more than one operand are not one
 pub more_than_one : (signals : List Signal) (operands : List Operand) (sort : Sort) → 2 ≤ length operands → operands_are signals operands (sort ∷ []) ≡ false

@@ -1,10 +1,5 @@
 -- Lemmas on the text of a trace.
-use Rattle.std.proofs.Common.{◌≡◌, ◌++◌, ℕ, Bool, true, false, List, [], ◌∷◌, drop, refl, ap, sym, ◌∙◌, append_assoc}
-use Rattle.std.specs.Prelude.{None, Some, suc, zero}
-use Rattle.sig_base.specs.Traces.{Trace, Instant, Seen, is_silent, reduce, IsPrefixOf}
-use Rattle.sig_base.specs.declared.signal.Signal.{Signal}
-use Rattle.sig_kernel.specs.OutputText.{seen_lines, outputs_of, instant_text, output_text}
-use Rattle.sig_kernel.specs.declared.kernel.Kernel.{Kernel}
+use Rattle.sig_kernel.proofs.Common.{◌≡◌, ◌++◌, ℕ, Bool, true, false, List, [], ◌∷◌, drop, refl, ap, sym, ◌∙◌, append_assoc, None, Some, suc, zero, Trace, Instant, Seen, is_silent, reduce, IsPrefixOf, Signal, seen_lines, outputs_of, instant_text, output_text, Kernel}
 
 text_append : (kernel : Kernel) (t u : Trace) → output_text kernel (t ++ u) ≡ output_text kernel t ++ output_text kernel u
 text_append kernel [] u = refl

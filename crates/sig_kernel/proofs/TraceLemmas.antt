@@ -1,18 +1,5 @@
 -- Lemmas on the traces of a kernel.
-use Rattle.std.proofs.Common.{◌≡◌, ◌++◌, ℕ, Bool, true, false, List, [], ◌∷◌, length, map, refl, ap, sym, subst, ◌∙◌, arith, append_assoc}
-use Rattle.std.specs.Prelude.{None, Some, option_to_list, ⊤}
-use Rattle.std.specs.List.{AllByRecursion}
-use Rattle.std.proofs.lemmas.List.{append-nil}
-use Rattle.sig_base.specs.Traces.{Trace, Instant, Range, is_silent, flow_of, reduce, IsPrefixOf, AreOfKinds}
-use Rattle.sig_base.proofs.TraceLemmas.{flow_append, flow_reduced, silent_at}
-use Rattle.sig_base.specs.declared.signal.Signal.{Signal}
-use Rattle.sig_kernel.specs.KernelTraces.{Memory, last_of, remembered, AreAbsent, IsReaction, IsTraceIn, Meets}
-use Rattle.sig_kernel.specs.declared.equation.Equation.{Equation}
-use Rattle.sig_kernel.specs.declared.equation.Form.{Form}
-use Rattle.sig_kernel.specs.declared.equation.Form.TheVariants.{Fun, Delay, When, WhenConst, Default, Sync, Event}
-use Rattle.sig_kernel.specs.declared.equation.Operand.{Operand}
-use Rattle.sig_kernel.specs.declared.equation.Operand.TheVariants.{Sig, Const}
-use Rattle.sig_kernel.specs.declared.kernel.Kernel.{Kernel}
+use Rattle.sig_kernel.proofs.Common.{◌≡◌, ◌++◌, ℕ, Bool, true, false, List, [], ◌∷◌, length, map, refl, ap, sym, subst, ◌∙◌, arith, append_assoc, None, Some, option_to_list, ⊤, AllByRecursion, append-nil, Trace, Instant, Range, is_silent, flow_of, reduce, IsPrefixOf, AreOfKinds, flow_append, flow_reduced, silent_at, Signal, Memory, last_of, remembered, AreAbsent, IsReaction, IsTraceIn, Meets, Equation, Form, Fun, Delay, When, WhenConst, Default, Sync, Event, Operand, Sig, Const, Kernel}
 
 -- the instants of a trace are instants of a kernel, behind others
 abbrev pub Runs : Range → Kernel → Trace → Trace → Type 0

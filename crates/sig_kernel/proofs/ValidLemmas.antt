@@ -1,12 +1,5 @@
 -- Lemmas on valid kernels.
-use Rattle.std.proofs.Common.{◌≡◌, ℕ, ◌≤◌, ◌<◌, Bool, true, false, cond, List, [], ◌∷◌, length, map, refl, sym, ◌∙◌, ap, arith, bytes_eq}
-use Rattle.std.specs.Prelude.{nat_lt, ◌↔◌, IsTrue}
-use Rattle.std.specs.List.{IsDistinct, AllByRecursion, list_any, count_by}
-use Rattle.std.proofs.lemmas.Bool.{le-ltb, lt-ltb, false≢true}
-use Rattle.std.proofs.lemmas.Map.Keys.{IsDistinct-cons, IsDistinct-head, IsDistinct-tail}
-use Rattle.sig_base.specs.declared.signal.Signal.{Signal}
-use Rattle.sig_kernel.specs.Validity.{defines, DefinesEach}
-use Rattle.sig_kernel.specs.declared.kernel.Kernel.{Kernel}
+use Rattle.sig_kernel.proofs.Common.{◌≡◌, ℕ, ◌≤◌, ◌<◌, Bool, true, false, cond, List, [], ◌∷◌, length, map, refl, sym, ◌∙◌, ap, arith, bytes_eq, nat_lt, ◌↔◌, IsTrue, IsDistinct, AllByRecursion, list_any, count_by, le-ltb, lt-ltb, false≢true, IsDistinct-cons, IsDistinct-head, IsDistinct-tail, Signal, defines, DefinesEach, Kernel}
 
 apart_more : (b : Bool) (name : List ℕ) (signal : Signal) (signals : List Signal) → bytes_eq name signal.name ≡ b → list_any (λ s. bytes_eq name s.name) (signal ∷ signals) ≡ false
     → (list_any (λ s. bytes_eq name s.name) signals ≡ false → AllByRecursion (λ y. bytes_eq name y ≡ false) (map (λ s. s.name) signals))

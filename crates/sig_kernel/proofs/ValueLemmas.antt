@@ -1,31 +1,8 @@
 -- Lemmas on constants and values of flows: they are values of their kinds.
-use Rattle.std.proofs.Common.{◌≡◌, ◌⊎◌, inl, inr, ◌<◌, ℕ, zero, suc, ℤ, pos, Bool, true, false, ◌&&◌, ◌||◌, ◌++◌, List, [], ◌∷◌, length, map, refl, sym, ap, ◌∙◌, subst, arith}
-use Rattle.std.specs.Prelude.{Option, None, Some, Contains, option_to_list, slice_get, slice_index_or}
-use Rattle.std.specs.List.{AllByRecursion, list_all}
-use Rattle.std.specs.Ordering.{int_eq}
-use Rattle.std.proofs.lemmas.Bool.{false≢true}
-use Rattle.std.proofs.lemmas.List.Sums.{AllPass-from_list_all, list_all-from_AllPass}
-use Rattle.std.proofs.lemmas.Bool.Decides.{Decides-int_eq}
-use Rattle.sig_base.proofs.TraceLemmas.{fits_by_test}
-use Rattle.sig_base.specs.Traces.{Bounded, Unbounded, Range, Trace, Instant, Seen, IsInteger, IsOfKind, IsValue, AreOfKinds, flow_of, has_64_bits, seen_at}
-use Rattle.sig_base.specs.declared.ids.SigId.{SigId}
-use Rattle.sig_base.specs.declared.span.Span.{Span}
-use Rattle.sig_base.specs.declared.ids.Kind.{Kind}
-use Rattle.sig_base.specs.declared.ids.Kind.TheVariants.{Integer, Boolean, Event}
-use Rattle.sig_base.specs.declared.signal.Signal.{Signal}
+use Rattle.sig_kernel.proofs.Common.{◌≡◌, ◌⊎◌, inl, inr, ◌<◌, ℕ, zero, suc, ℤ, pos, Bool, true, false, ◌&&◌, ◌||◌, ◌++◌, List, [], ◌∷◌, length, map, refl, sym, ap, ◌∙◌, subst, arith, Option, None, Some, Contains, option_to_list, slice_get, slice_index_or, AllByRecursion, list_all, int_eq, false≢true, AllPass-from_list_all, list_all-from_AllPass, Decides-int_eq, fits_by_test, Bounded, Unbounded, Range, Trace, Instant, Seen, IsInteger, IsOfKind, IsValue, AreOfKinds, flow_of, has_64_bits, seen_at, SigId, Span, Kind, Integer, Boolean, Signal, IsTraceIn, last_of, remembered, Row, constant_is, form_fits, handed_on_where, is_kind, keeps_to, keeps_to_one, kept, kind_at, kind_fits, kind_of, operand_is, operands_are, operands_of, rows_of, target_fits, AreFlowsFor, AreWellMade, inputs_of, value_is, Equation, Form, Fun, Delay, When, WhenConst, Default, Sync, Event as EventOf, Operand, Sig, Const, Sort, AnInteger, Truth, AnEvent, Any, Kernel}
+use Rattle.sig_base.specs.declared.ids.Kind.TheVariants.{Event}
 use Rattle.sig_kernel.proofs.DelayLemmas.{at_element}
 use Rattle.sig_kernel.proofs.TraceLemmas.{Runs, runs_from_trace}
-use Rattle.sig_kernel.specs.KernelTraces.{IsTraceIn, last_of, remembered}
-use Rattle.sig_kernel.specs.Table.{Row, constant_is, form_fits, handed_on_where, is_kind, keeps_to, keeps_to_one, kept, kind_at, kind_fits, kind_of, operand_is, operands_are, operands_of, rows_of, target_fits}
-use Rattle.sig_kernel.specs.Validity.{AreFlowsFor, AreWellMade, inputs_of, value_is}
-use Rattle.sig_kernel.specs.declared.equation.Equation.{Equation}
-use Rattle.sig_kernel.specs.declared.equation.Form.{Form}
-use Rattle.sig_kernel.specs.declared.equation.Form.TheVariants.{Fun, Delay, When, WhenConst, Default, Sync, Event as EventOf}
-use Rattle.sig_kernel.specs.declared.equation.Operand.{Operand}
-use Rattle.sig_kernel.specs.declared.equation.Operand.TheVariants.{Sig, Const}
-use Rattle.sig_kernel.specs.declared.table.Sort.{Sort}
-use Rattle.sig_kernel.specs.declared.table.Sort.TheVariants.{Integer as AnInteger, Truth, Event as AnEvent, Any}
-use Rattle.sig_kernel.specs.declared.kernel.Kernel.{Kernel}
 
 same_number : (v w : ℤ) (b : Bool) → int_eq v w ≡ b → b ≡ true → v ≡ w
 same_number v w true is given = grind (arith, Decides-int_eq v w, is)

@@ -1,18 +1,5 @@
 -- A token holds no newline, so the place moves on along its line.
-use Rattle.std.proofs.Common.{◌≡◌, ℕ, zero, suc, ◌+◌, ◌-◌, ◌<◌, ◌≤◌, List, Bool, true, false, not, length, take, drop, get_or, refl, sym, ap, ◌∙◌, ⊎_elim, arith, add-zero, get_or-take, get_or-drop, length-take-le, length-drop}
-use Rattle.std.specs.List.{list_all, prefix_len}
-use Rattle.std.specs.Char.{is_ascii_digit}
-use Rattle.std.proofs.lemmas.Bool.{cases_lt, not-true}
-use Rattle.std.proofs.lemmas.Bool.Decides.{nat_tests}
-use Rattle.std.proofs.lemmas.List.Recursion.{and_at}
-use Rattle.std.proofs.lemmas.List.Sums.{prefix_len_passes}
-use Rattle.sig_base.specs.declared.span.Span.{Span}
-use Rattle.sig_lex.specs.declared.token.TokenKind.{TokenKind}
-use Rattle.sig_lex.specs.declared.token.TokenKind.TheVariants.{Name, Word, Number, Label, Mark, Last}
-use Rattle.sig_lex.specs.Bytes.{first, is_name_byte, is_quote, is_label_byte}
-use Rattle.sig_lex.specs.Places.{place_after}
-use Rattle.sig_lex.specs.Tables.{marks}
-use Rattle.sig_lex.specs.Tokens.{IsLexeme, IsLabel}
+use Rattle.sig_lex.proofs.Common.{◌≡◌, ℕ, zero, suc, ◌+◌, ◌-◌, ◌<◌, ◌≤◌, List, Bool, true, false, not, length, take, drop, get_or, refl, sym, ap, ◌∙◌, ⊎_elim, arith, add-zero, get_or-take, get_or-drop, length-take-le, length-drop, list_all, prefix_len, is_ascii_digit, cases_lt, not-true, nat_tests, and_at, prefix_len_passes, Span, TokenKind, Name, Word, Number, Label, Mark, Last, first, is_name_byte, is_quote, is_label_byte, place_after, marks, IsLexeme, IsLabel}
 use Rattle.sig_lex.proofs.Marks.{each_entry}
 use Rattle.sig_lex.proofs.PlaceLemmas.{newline, line_other, col_other}
 

@@ -1,8 +1,5 @@
 -- The class of a byte, which tells what begins with it.
-use Rattle.std.proofs.Common.{◌≡◌, ℕ, true, false, cond, refl, arith}
-use Rattle.std.specs.Char.{is_ascii_alphabetic, is_ascii_digit}
-use Rattle.std.proofs.lemmas.Bool.Decides.{nat_tests}
-use Rattle.sig_lex.specs.Bytes.{is_blank, is_percent, is_quote}
+use Rattle.sig_lex.proofs.Common.{◌≡◌, ℕ, true, false, cond, refl, arith, is_ascii_alphabetic, is_ascii_digit, nat_tests, is_blank, is_percent, is_quote}
 
 pub data Class : Type 0 where
   Blank : Class

@@ -1,10 +1,5 @@
 -- Comments, by where the next '%' is found.
-use Rattle.std.proofs.Common.{◌≡◌, ℕ, ◌+◌, List, length, drop, true, None, Some, sym, ap, arith, length-drop}
-use Rattle.std.proofs.lemmas.Bool.{false_from_ne_true}
-use Rattle.std.proofs.lemmas.List.Sums.{position_or_len_is}
-use Rattle.memchr.specs.Find.{IsFirstByte, is_byte}
-use Rattle.sig_lex.specs.Bytes.{first, is_percent}
-use Rattle.sig_lex.specs.Tokens.{IsComment, IsOpenComment}
+use Rattle.sig_lex.proofs.Common.{◌≡◌, ℕ, ◌+◌, List, length, drop, true, None, Some, sym, ap, arith, length-drop, false_from_ne_true, position_or_len_is, IsFirstByte, is_byte, first, is_percent, IsComment, IsOpenComment}
 
 module _ (bytes : List ℕ) (opened : is_percent (first bytes) ≡ true) where
   pub closed_comment : (i : ℕ) → IsFirstByte (is_byte 37) (drop 1 bytes) (Some i) → IsComment bytes (i + 2)

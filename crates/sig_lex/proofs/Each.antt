@@ -1,15 +1,5 @@
 -- What is true of each token of a text.
-use Rattle.std.proofs.Common.{◌≡◌, ℕ, zero, suc, ◌+◌, ◌<◌, ◌≤◌, List, [], ◌∷◌, ◌++◌, length, drop, get_or, Option, None, Some, refl, sym, ap, ◌∙◌, subst, ⊎_elim, arith, length-append}
-use Rattle.std.specs.Prelude.{◌≢◌, ◌↔◌, All, option_to_list, option_map}
-use Rattle.std.specs.List.{AllByRecursion}
-use Rattle.std.proofs.lemmas.Bool.{cases_lt}
-use Rattle.std.proofs.lemmas.List.{get_or_at, get_or_append_left, map-append}
-use Rattle.sig_lex.specs.declared.token.Token.{Token}
-use Rattle.sig_lex.specs.declared.token.TokenKind.{TokenKind}
-use Rattle.sig_lex.specs.declared.token.TokenKind.TheVariants.{Last}
-use Rattle.sig_lex.specs.Lexemes.{Lexeme, lexeme_of, lexemes, text_of, the_end, Spells, IsSpelled}
-use Rattle.sig_lex.specs.Slices.{StandsIn, InOrder}
-use Rattle.sig_lex.specs.Tokens.{Piece, IsPiece, Stand, AreTokens, tokens_among, token_at}
+use Rattle.sig_lex.proofs.Common.{◌≡◌, ℕ, zero, suc, ◌+◌, ◌<◌, ◌≤◌, List, [], ◌∷◌, ◌++◌, length, drop, get_or, Option, None, Some, refl, sym, ap, ◌∙◌, subst, ⊎_elim, arith, length-append, ◌≢◌, ◌↔◌, All, option_to_list, option_map, AllByRecursion, cases_lt, get_or_at, get_or_append_left, map-append, Token, TokenKind, Last, Lexeme, lexeme_of, lexemes, text_of, the_end, Spells, IsSpelled, StandsIn, InOrder, Piece, IsPiece, Stand, AreTokens, tokens_among, token_at}
 use Rattle.sig_lex.proofs.Fronts.{piece_there}
 use Rattle.sig_lex.proofs.SliceLemmas.{in_order, ends_once}
 use Rattle.sig_lex.proofs.Spacing.{lexeme_at, last_lexeme}

@@ -1,19 +1,5 @@
 -- What stands at the front of some bytes is determined by them.
-use Rattle.std.proofs.Common.{◌≡◌, ℕ, ◌+◌, ◌<◌, ◌≤◌, List, [], ◌∷◌, Bool, true, false, not, cond, eqb, leb, ◌&&◌, length, take, drop, get_or, Option, None, Some, Result, Ok, Err, refl, sym, ap, ◌∙◌, subst, ⊎_elim, arith, length-take-le, length-drop, get_or-take, ◌-◌}
-use Rattle.std.specs.Prelude.{Contains}
-use Rattle.std.specs.List.{list_any, prefix_len}
-use Rattle.std.specs.Char.{is_ascii_alphabetic, is_ascii_digit}
-use Rattle.std.specs.Str.{bytes_eq}
-use Rattle.std.specs.Str.Parse.{digits_value}
-use Rattle.std.proofs.lemmas.Bool.{false_from_ne_true, false≢true, and_parts, and_from, and_left, and_right, not-true, le-leb, lt-leb, ne_eqb, eq-eqb, cases_lt}
-use Rattle.sig_base.specs.declared.span.Span.{Span}
-use Rattle.sig_lex.specs.declared.answer.LexAnswer.{LexAnswer}
-use Rattle.sig_lex.specs.declared.answer.LexAnswer.TheVariants.{BadByte, OpenComment, LongNumber, OutOfMemory}
-use Rattle.sig_lex.specs.declared.token.TokenKind.{TokenKind}
-use Rattle.sig_lex.specs.declared.token.TokenKind.TheVariants.{Name, Word, Number, Label, Mark, Last}
-use Rattle.sig_lex.specs.Bytes.{first, is_blank, is_name_byte, is_percent, is_quote, is_label_byte}
-use Rattle.sig_lex.specs.Tables.{words, marks}
-use Rattle.sig_lex.specs.Tokens.{greatest_number, IsNameOrWord, IsDigits, IsLabel, IsLongestMark, IsComment, Piece, IsPiece, IsOpenComment, IsOpenLabel, IsLongNumber, IsStray, BeginsWithFault}
+use Rattle.sig_lex.proofs.Common.{◌≡◌, ℕ, ◌+◌, ◌<◌, ◌≤◌, List, [], ◌∷◌, Bool, true, false, not, cond, eqb, leb, ◌&&◌, length, take, drop, get_or, Option, None, Some, Result, Ok, Err, refl, sym, ap, ◌∙◌, subst, ⊎_elim, arith, length-take-le, length-drop, get_or-take, ◌-◌, Contains, list_any, prefix_len, is_ascii_alphabetic, is_ascii_digit, bytes_eq, digits_value, false_from_ne_true, false≢true, and_parts, and_from, and_left, and_right, not-true, le-leb, lt-leb, ne_eqb, eq-eqb, cases_lt, Span, LexAnswer, BadByte, OpenComment, LongNumber, OutOfMemory, TokenKind, Name, Word, Number, Label, Mark, Last, first, is_blank, is_name_byte, is_percent, is_quote, is_label_byte, words, marks, greatest_number, IsNameOrWord, IsDigits, IsLabel, IsLongestMark, IsComment, Piece, IsPiece, IsOpenComment, IsOpenLabel, IsLongNumber, IsStray, BeginsWithFault}
 use Rattle.sig_lex.proofs.Classes.{Class, class_of, blank_class, percent_class, letter_class, digit_class, quote_class, other_class}
 use Rattle.sig_lex.proofs.Classes.Class.{Blank, Percent, Letter, Digit, Quote, Other}
 use Rattle.sig_lex.proofs.Listed.{listed}

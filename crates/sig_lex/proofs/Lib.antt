@@ -1,3 +1,4 @@
+pub mod Common
 pub mod Listed
 pub mod Marks
 pub mod Numbers
@@ -14,3 +15,19 @@ pub mod SpellingLemmas
 pub mod Total
 pub mod Spacing
 pub mod Each
+pub use Common.*
+pub use Along.*
+pub use Comments.*
+pub use Each.*
+pub use Fronts.*
+pub use Listed.*
+pub use Marks.*
+pub use Numbers.*
+pub use Pieces.*
+pub use PlaceLemmas.*
+pub use SliceLemmas.*
+pub use Spacing.*
+pub use SpellingLemmas.*
+pub use Stands.*
+pub use Total.*
+pub use Unique.*

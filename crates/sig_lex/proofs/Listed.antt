@@ -1,10 +1,5 @@
 -- What the test of a table says.
-use Rattle.std.proofs.Common.{◌≡◌, ℕ, List, Bool, true, get_or, sym, ◌∙◌, subst}
-use Rattle.std.specs.Prelude.{Contains}
-use Rattle.std.specs.List.{list_any}
-use Rattle.std.specs.Str.{bytes_eq}
-use Rattle.std.proofs.lemmas.List.Folds.{list_any_at, Any-from_list_any}
-use Rattle.std.proofs.lemmas.Slice.Eq.{bytes_eq-Decides}
+use Rattle.sig_lex.proofs.Common.{◌≡◌, ℕ, List, Bool, true, get_or, sym, ◌∙◌, subst, Contains, list_any, bytes_eq, list_any_at, Any-from_list_any, bytes_eq-Decides}
 
 -- the test answers true exactly where the table has the bytes
 pub listed : (table : List (List ℕ)) (bytes : List ℕ) (r : Bool) → r ≡ list_any (λ entry. bytes_eq entry bytes) table → (r ≡ true → Contains table bytes) × (Contains table bytes → r ≡ true)

@@ -1,10 +1,5 @@
 -- What is true of each mark.
-use Rattle.std.proofs.Common.{◌≡◌, ℕ, zero, suc, ◌<◌, ◌≤◌, List, [], ◌∷◌, Bool, true, leb, ◌&&◌, length, take, get_or, refl, subst, ⊎_elim, arith, length-take-le}
-use Rattle.std.specs.Prelude.{Contains}
-use Rattle.std.specs.List.{list_all}
-use Rattle.std.proofs.lemmas.Bool.{and_parts, leb-true, cases_lt}
-use Rattle.sig_lex.specs.Tables.{marks}
-use Rattle.sig_lex.specs.Tokens.{IsLongestMark}
+use Rattle.sig_lex.proofs.Common.{◌≡◌, ℕ, zero, suc, ◌<◌, ◌≤◌, List, [], ◌∷◌, Bool, true, leb, ◌&&◌, length, take, get_or, refl, subst, ⊎_elim, arith, length-take-le, Contains, list_all, and_parts, leb-true, cases_lt, marks, IsLongestMark}
 
 -- what the test says of a whole table is true of each entry
 pub each_entry : (test : List ℕ → Bool) (table : List (List ℕ)) (x : List ℕ) → list_all test table ≡ true → Contains table x → test x ≡ true

@@ -1,16 +1,5 @@
 -- Digits, and their value.
-use Rattle.std.proofs.Common.{◌≡◌, ℕ, ◌<◌, ◌^◌, List, true, length, get_or, arith, None, Some, Result, Ok, Err, sym, ap, ◌∙◌, subst}
-use Rattle.std.specs.List.{AllPass}
-use Rattle.std.specs.Prelude.{MatchResult}
-use Rattle.std.specs.Result.{OkIff, result_ok}
-use Rattle.std.specs.Char.{is_ascii_digit}
-use Rattle.std.specs.Int.{IsInRange}
-use Rattle.std.specs.Str.{IsUtf8}
-use Rattle.std.specs.Str.Parse.{digits_value, ParsesUnsigned}
-use Rattle.std.proofs.lemmas.Bool.{and_parts, leb-true}
-use Rattle.std.proofs.lemmas.Str.{IsUtf8-from_ascii}
-use Rattle.std.proofs.lemmas.Str.Ascii.{IsAscii-from_all}
-use Rattle.std.proofs.lemmas.Str.Parse.{parse_digits, numerals_by_value, tells_by_index}
+use Rattle.sig_lex.proofs.Common.{◌≡◌, ℕ, ◌<◌, ◌^◌, List, true, length, get_or, arith, None, Some, Result, Ok, Err, sym, ap, ◌∙◌, subst, AllPass, MatchResult, OkIff, result_ok, is_ascii_digit, IsInRange, IsUtf8, digits_value, ParsesUnsigned, and_parts, leb-true, IsUtf8-from_ascii, IsAscii-from_all, parse_digits, numerals_by_value, tells_by_index}
 
 digit_range : (c : ℕ) → is_ascii_digit c ≡ true → IsInRange 48 57 c
 digit_range c is =

@@ -1,9 +1,5 @@
 -- How the place moves on by one byte.
-use Rattle.std.proofs.Common.{◌≡◌, ℕ, ◌+◌, ◌-◌, ◌<◌, List, Bool, true, false, not, eqb, length, take, drop, get_or, sym, ◌∙◌, ap, arith, length-drop, length-take, get_or-take, get_or-drop}
-use Rattle.std.specs.List.{suffix_len}
-use Rattle.std.proofs.lemmas.Bool.{ne_eqb}
-use Rattle.std.proofs.lemmas.List.Sums.{count_by_more_yes, count_by_more_no, suffix_len-take_yes, suffix_len-take_no, suffix_len-le-length}
-use Rattle.sig_lex.specs.Places.{place_after}
+use Rattle.sig_lex.proofs.Common.{◌≡◌, ℕ, ◌+◌, ◌-◌, ◌<◌, List, Bool, true, false, not, eqb, length, take, drop, get_or, sym, ◌∙◌, ap, arith, length-drop, length-take, get_or-take, get_or-drop, suffix_len, ne_eqb, count_by_more_yes, count_by_more_no, suffix_len-take_yes, suffix_len-take_no, suffix_len-le-length, place_after}
 
 abbrev pub newline : ℕ → Bool
 newline b = eqb b 10

@@ -1,15 +1,5 @@
 -- The tokens of a text are slices of it in order.
-use Rattle.std.proofs.Common.{◌≡◌, ℕ, ◌+◌, ◌<◌, ◌≤◌, List, [], ◌∷◌, ◌++◌, Bool, true, length, take, drop, Option, None, Some, refl, sym, subst, append_assoc, arith, length-take-le}
-use Rattle.std.specs.Prelude.{◌≢◌, option_to_list, option_map}
-use Rattle.std.specs.List.{prefix_len, AllByRecursion}
-use Rattle.std.specs.Char.{is_ascii_alphabetic, is_ascii_digit}
-use Rattle.std.proofs.lemmas.Bool.Decides.{nat_tests}
-use Rattle.sig_lex.specs.declared.token.Token.{Token}
-use Rattle.sig_lex.specs.declared.token.TokenKind.{TokenKind}
-use Rattle.sig_lex.specs.declared.token.TokenKind.TheVariants.{Name, Word, Number, Label, Mark, Last}
-use Rattle.sig_lex.specs.Bytes.{first, is_name_byte}
-use Rattle.sig_lex.specs.Slices.{InOrder, EndsOnce}
-use Rattle.sig_lex.specs.Tokens.{Piece, IsPiece, IsLexeme, Stand, AreTokens, tokens_among, token_at}
+use Rattle.sig_lex.proofs.Common.{◌≡◌, ℕ, ◌+◌, ◌<◌, ◌≤◌, List, [], ◌∷◌, ◌++◌, Bool, true, length, take, drop, Option, None, Some, refl, sym, subst, append_assoc, arith, length-take-le, ◌≢◌, option_to_list, option_map, prefix_len, AllByRecursion, is_ascii_alphabetic, is_ascii_digit, nat_tests, Token, TokenKind, Name, Word, Number, Label, Mark, Last, first, is_name_byte, InOrder, EndsOnce, Piece, IsPiece, IsLexeme, Stand, AreTokens, tokens_among, token_at}
 use Rattle.sig_lex.proofs.Marks.{mark_length}
 use Rattle.sig_lex.proofs.Fronts.{piece_there}
 

@@ -1,13 +1,5 @@
 -- The tokens of a text of words with blanks between them.
-use Rattle.std.proofs.Common.{◌≡◌, ℕ, zero, suc, ◌+◌, ◌-◌, ◌≤◌, List, [], ◌∷◌, ◌++◌, true, length, take, drop, map, None, Some, refl, sym, ap, ◌∙◌, subst, inl, inr, arith, append_assoc, length-append, length-drop}
-use Rattle.std.specs.List.{AllPass, AllByRecursion}
-use Rattle.std.proofs.lemmas.List.{append-nil, map-append, take_at, drop_at, drop-drop}
-use Rattle.sig_lex.specs.declared.token.Token.{Token}
-use Rattle.sig_lex.specs.declared.token.TokenKind.{TokenKind}
-use Rattle.sig_lex.specs.declared.token.TokenKind.TheVariants.{Last}
-use Rattle.sig_lex.specs.Bytes.{first, is_blank}
-use Rattle.sig_lex.specs.Lexemes.{Lexeme, lexeme_of, lexemes, the_end, IsSpelled, EndsWord, IsSpaced, Spaced, IsPrintable, word_of, spaced_text, printed_text}
-use Rattle.sig_lex.specs.Tokens.{IsLexeme, Piece, Stand, AreTokens, tokens_among, token_at}
+use Rattle.sig_lex.proofs.Common.{◌≡◌, ℕ, zero, suc, ◌+◌, ◌-◌, ◌≤◌, List, [], ◌∷◌, ◌++◌, true, length, take, drop, map, None, Some, refl, sym, ap, ◌∙◌, subst, inl, inr, arith, append_assoc, length-append, length-drop, AllPass, AllByRecursion, append-nil, map-append, take_at, drop_at, drop-drop, Token, TokenKind, Last, first, is_blank, Lexeme, lexeme_of, lexemes, the_end, IsSpelled, EndsWord, IsSpaced, Spaced, IsPrintable, word_of, spaced_text, printed_text, IsLexeme, Piece, Stand, AreTokens, tokens_among, token_at}
 use Rattle.sig_lex.proofs.SpellingLemmas.{spells_front}
 
 -- the tokens of pieces that stand in the text from the byte i up to its end are these words

@@ -1,20 +1,6 @@
 -- Tokens by themselves, and in front of other bytes.
-use Rattle.std.proofs.Common.{◌≡◌, ℕ, suc, ◌+◌, ◌-◌, ◌<◌, ◌≤◌, List, [], ◌∷◌, ◌++◌, Bool, true, false, not, ◌&&◌, length, take, get_or, refl, sym, ap, ◌∙◌, subst, ⊎_elim, arith, eqb-true, length-append, length-take, length-take-le, get_or-take, append_assoc}
-use Rattle.std.specs.List.{AllPass, list_all, prefix_len}
-use Rattle.std.specs.Char.{is_ascii_alphabetic, is_ascii_digit}
-use Rattle.std.specs.Str.Parse.{digits_value}
-use Rattle.std.proofs.lemmas.Bool.{and_parts, cases_lt, false≢true, not-true}
-use Rattle.std.proofs.lemmas.Bool.Decides.{nat_tests}
-use Rattle.std.proofs.lemmas.List.{get_or_past, get_or_at, get_or_append_left, get_or-append-add, take_at, take_more}
-use Rattle.std.proofs.lemmas.List.Recursion.{and_at}
-use Rattle.std.proofs.lemmas.List.Sums.{prefix_len_is, prefix_len_passes, prefix_len-le-length}
-use Rattle.sig_lex.specs.declared.token.TokenKind.{TokenKind}
-use Rattle.sig_lex.specs.declared.token.TokenKind.TheVariants.{Name, Word, Number, Label, Mark, Last}
-use Rattle.sig_lex.specs.Bytes.{first, is_blank, is_name_byte, is_quote, is_label_byte}
-use Rattle.sig_lex.specs.Tables.{words, marks, IsWord, IsMark}
-use Rattle.sig_lex.specs.Tokens.{IsNameOrWord, IsLabel, IsLexeme}
-use Rattle.sig_lex.specs.Lexemes.{IsLabelText, Spells, EndsWord}
-use Rattle.sig_lex.proofs.Marks.{each_entry, mark_length}
+use Rattle.sig_lex.proofs.Common.{◌≡◌, ℕ, suc, ◌+◌, ◌-◌, ◌<◌, ◌≤◌, List, [], ◌∷◌, ◌++◌, Bool, true, false, not, ◌&&◌, length, take, get_or, refl, sym, ap, ◌∙◌, subst, ⊎_elim, arith, eqb-true, length-append, length-take, length-take-le, get_or-take, append_assoc, AllPass, list_all, prefix_len, is_ascii_alphabetic, is_ascii_digit, digits_value, and_parts, cases_lt, false≢true, not-true, nat_tests, get_or_past, get_or_at, get_or_append_left, get_or-append-add, take_at, take_more, and_at, prefix_len_is, prefix_len_passes, prefix_len-le-length, TokenKind, Name, Word, Number, Label, Mark, Last, first, is_blank, is_name_byte, is_quote, is_label_byte, words, marks, IsWord, IsMark, IsNameOrWord, IsLabel, IsLexeme, IsLabelText, Spells, EndsWord}
+use Rattle.sig_lex.proofs.Marks.{each_entry}
 use Rattle.sig_lex.proofs.SliceLemmas.{lexeme_some}
 
 -- what passes a test that 0 does not stands in the list
@@ -178,12 +164,3 @@ spells_front Mark w rest spells ends = record {
   longest = no_longer_mark w rest ends spells;
 }
 spells_front Last w rest never ends = absurd never
-
--- some bytes are a token by themselves
-spells_some : (kind : TokenKind) (w : List ℕ) → Spells kind w → 0 < length w
-spells_some Name w spells = some_first is_ascii_alphabetic w refl spells.0.letter
-spells_some Word w spells = some_first is_ascii_alphabetic w refl (and_parts _ _ (each_entry (λ m. is_ascii_alphabetic (first m) && list_all is_name_byte m) words w refl spells)).0
-spells_some (Number value) w spells = spells.some
-spells_some Label w spells = omega (arith, ap length spells.quoted)
-spells_some Mark w spells = (mark_length w spells).0
-spells_some Last w never = absurd never

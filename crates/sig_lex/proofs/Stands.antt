@@ -1,12 +1,5 @@
 -- Pieces that stand in a text, one piece more.
-use Rattle.std.proofs.Common.{◌≡◌, ℕ, ◌+◌, List, [], ◌∷◌, ◌++◌, take, drop, Option, option_map, sym, ap, ◌∙◌, subst, append_assoc}
-use Rattle.std.specs.Prelude.{option_to_list}
-use Rattle.std.proofs.lemmas.List.{append-nil}
-use Rattle.sig_base.specs.declared.span.Span.{Span}
-use Rattle.sig_lex.specs.declared.token.Token.{Token}
-use Rattle.sig_lex.specs.declared.token.TokenKind.{TokenKind}
-use Rattle.sig_lex.specs.Places.{place_after}
-use Rattle.sig_lex.specs.Tokens.{Piece, IsPiece, Stand, token_of, token_at, tokens_among}
+use Rattle.sig_lex.proofs.Common.{◌≡◌, ℕ, ◌+◌, List, [], ◌∷◌, ◌++◌, take, drop, Option, option_map, sym, ap, ◌∙◌, subst, append_assoc, option_to_list, append-nil, Span, Token, TokenKind, place_after, Piece, IsPiece, Stand, token_of, token_at, tokens_among}
 
 -- the tokens are those among pieces that stand in the text up to the byte i
 abbrev pub AreTokensTo : List ℕ → ℕ → List Token → Type 0

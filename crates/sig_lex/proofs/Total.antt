@@ -1,21 +1,5 @@
 -- Each text has tokens or a first fault.
-use Rattle.std.proofs.Common.{◌≡◌, ℕ, zero, suc, ◌+◌, ◌-◌, ◌<◌, ◌≤◌, List, [], ◌∷◌, ◌++◌, Bool, true, false, length, take, drop, get_or, Option, None, Some, refl, sym, ◌∙◌, subst, ⊎_elim, inl, inr, arith, length-drop}
-use Rattle.std.specs.Prelude.{◌⊎◌, Contains, not}
-use Rattle.std.specs.List.{prefix_len}
-use Rattle.std.specs.Char.{is_ascii_alphabetic, is_ascii_digit}
-use Rattle.std.specs.Str.Parse.{digits_value}
-use Rattle.std.proofs.lemmas.Bool.{cases_lt, false≢true}
-use Rattle.std.proofs.lemmas.List.Sums.{prefix_len-le-length}
-use Rattle.sig_base.specs.declared.span.Span.{Span}
-use Rattle.sig_lex.specs.declared.answer.LexAnswer.{LexAnswer}
-use Rattle.sig_lex.specs.declared.answer.LexAnswer.TheVariants.{BadByte, OpenComment, LongNumber}
-use Rattle.sig_lex.specs.declared.token.Token.{Token}
-use Rattle.sig_lex.specs.declared.token.TokenKind.{TokenKind}
-use Rattle.sig_lex.specs.declared.token.TokenKind.TheVariants.{Name, Word, Number, Label, Mark, Last}
-use Rattle.sig_lex.specs.Bytes.{first, is_blank, is_name_byte, is_percent, is_quote, is_label_byte}
-use Rattle.sig_lex.specs.Places.{place_after}
-use Rattle.sig_lex.specs.Tables.{words, marks}
-use Rattle.sig_lex.specs.Tokens.{greatest_number, IsPiece, Piece, Stand, AreTokens, IsOther, BeginsWithFault, IsFirstFault, tokens_among, token_at}
+use Rattle.sig_lex.proofs.Common.{◌≡◌, ℕ, zero, suc, ◌+◌, ◌-◌, ◌<◌, ◌≤◌, List, [], ◌∷◌, ◌++◌, Bool, true, false, length, take, drop, get_or, Option, None, Some, refl, sym, ◌∙◌, subst, ⊎_elim, inl, inr, arith, length-drop, ◌⊎◌, Contains, not, prefix_len, is_ascii_alphabetic, is_ascii_digit, digits_value, cases_lt, false≢true, prefix_len-le-length, Span, LexAnswer, BadByte, OpenComment, LongNumber, Token, TokenKind, Name, Word, Number, Label, Mark, Last, first, is_blank, is_name_byte, is_percent, is_quote, is_label_byte, place_after, words, marks, greatest_number, IsPiece, Piece, Stand, AreTokens, IsOther, BeginsWithFault, IsFirstFault, tokens_among, token_at}
 use Rattle.sig_lex.proofs.Fronts.{is_listed, is_listed_true, listed_true}
 use Rattle.sig_lex.proofs.Marks.{two_bytes, one_byte, no_mark}
 use Rattle.sig_lex.proofs.SliceLemmas.{lexeme_some}

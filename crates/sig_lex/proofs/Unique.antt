@@ -1,12 +1,5 @@
 -- A text falls into its pieces in one way, up to its end or to its first fault.
-use Rattle.std.proofs.Common.{◌≡◌, ℕ, ◌+◌, List, [], ◌∷◌, ◌++◌, length, take, drop, Option, None, Some, refl, sym, ap, ◌∙◌, subst, Result, Ok, Err, ⊎_elim, inl, inr, arith, length-drop}
-use Rattle.std.specs.Prelude.{◌⊎◌, IfOk, IfErr, IsErrAnd, MatchResult}
-use Rattle.sig_lex.specs.declared.answer.LexAnswer.{LexAnswer}
-use Rattle.sig_lex.specs.declared.answer.LexAnswer.TheVariants.{OutOfMemory}
-use Rattle.sig_lex.specs.declared.token.Token.{Token}
-use Rattle.sig_lex.specs.declared.token.TokenKind.TheVariants.{Last}
-use Rattle.sig_lex.specs.Places.{place_after}
-use Rattle.sig_lex.specs.Tokens.{Piece, IsPiece, Stand, BeginsWithFault, AreTokens, IsFirstFault, tokens_among, token_at}
+use Rattle.sig_lex.proofs.Common.{◌≡◌, ℕ, ◌+◌, List, [], ◌∷◌, ◌++◌, length, take, drop, Option, None, Some, refl, sym, ap, ◌∙◌, subst, Result, Ok, Err, ⊎_elim, inl, inr, arith, length-drop, ◌⊎◌, IfOk, IfErr, IsErrAnd, MatchResult, LexAnswer, OutOfMemory, Token, Last, place_after, Piece, IsPiece, Stand, BeginsWithFault, AreTokens, IsFirstFault, tokens_among, token_at}
 use Rattle.sig_lex.proofs.Fronts.{one_piece, no_fault, one_fault, piece_there, fault_there}
 
 -- The pieces end at the byte i: with none, at the end of the text, or with a fault.

@@ -1,15 +1,5 @@
 -- What is promised of a call follows from what its files gave and what was written.
-use Rattle.std.proofs.Common.{◌≡◌, ◌∙◌, ◌⊎◌, ◌++◌, ℕ, List, [], Bool, Option, IfSome, inl, inr, ⊎_elim, refl, sym, ap, subst, arith}
-use Rattle.std.proofs.lemmas.Bool.{cases_lt}
-use Rattle.std.specs.Prelude.{IsTrue, codes}
-use Rattle.sig_text.specs.Counts.{Rose, raised}
-use Rattle.sig_text.specs.Files.{Contents, name_where_there}
-use Rattle.sig_text.specs.Sink.{TookPrefix}
-use Rattle.sig_outcome.specs.Outcomes.{OneAtMost, Outcome}
-use Rattle.sig_outcome.specs.Refusals.{HasCount, IsOwn, line_of, outcome_of, status_of}
-use Rattle.sig_outcome.specs.Tasks.{IsDone, IsDue, IsRefused, MayAnswer, Owes, Performs, Reaches, Stops, Task, Writes, items_line, memory_line, write_line}
-use Rattle.sig_outcome.specs.declared.refusal.Refusal.{Refusal}
-use Rattle.sig_outcome.specs.declared.refusal.Refusal.TheVariants.{Missing, ReadFault, LongProgram, Program, Budget, TooManyItems, LongFile, Data, OutOfMemory}
+use Rattle.sig_outcome.proofs.Common.{◌≡◌, ◌∙◌, ◌⊎◌, ◌++◌, ℕ, List, [], Bool, Option, IfSome, inl, inr, ⊎_elim, refl, sym, ap, subst, arith, cases_lt, IsTrue, codes, Rose, raised, Contents, name_where_there, TookPrefix, OneAtMost, Outcome, HasCount, IsOwn, line_of, outcome_of, status_of, IsDone, IsDue, IsRefused, MayAnswer, Owes, Performs, Reaches, Stops, Task, Writes, items_line, memory_line, write_line, Refusal, Missing, ReadFault, LongProgram, Program, Budget, TooManyItems, LongFile, Data, OutOfMemory}
 use Rattle.sig_outcome.proofs.Refused.{told, told_both}
 
 -- ---- statuses

@@ -1,11 +1,5 @@
 -- What a file that gives nothing ends a command with.
-use Rattle.std.proofs.Common.{◌≡◌, ◌≤◌, ◌⊎◌, ℕ, List, Option, None, Some, IfSome, Result, Ok, Err, length, inl, inr, refl, arith}
-use Rattle.std.specs.Prelude.{IfErr, IfOk, string_bytes}
-use Rattle.sig_text.specs.Files.{Contents}
-use Rattle.sig_outcome.specs.Outcomes.{Absent, AtData, AtProgram, Bad, Good, FindsData, FindsProgram, Long, Outcome, long_file, long_program}
-use Rattle.sig_outcome.specs.Refusals.{AtNoBytes, HasCount, IsAboutData, IsAboutProgram, IsOfData, IsOfProgram, IsOwn, outcome_of, status_of}
-use Rattle.sig_outcome.specs.declared.refusal.Refusal.{Refusal}
-use Rattle.sig_outcome.specs.declared.refusal.Refusal.TheVariants.{Missing, ReadFault, LongProgram, Program, Budget, TooManyItems, LongFile, Data, OutOfMemory}
+use Rattle.sig_outcome.proofs.Common.{◌≡◌, ◌≤◌, ℕ, List, Option, None, Some, IfSome, Result, Ok, Err, length, inl, inr, refl, arith, IfErr, IfOk, string_bytes, Contents, Absent, AtData, AtProgram, Bad, Long, Outcome, long_program, AtNoBytes, HasCount, IsAboutData, IsAboutProgram, IsOfData, IsOfProgram, IsOwn, outcome_of, status_of, Refusal, Missing, ReadFault, LongProgram, Program, Budget, TooManyItems, LongFile, Data, OutOfMemory}
 
 -- what holds of one result holds of another one that is told by it
 pub on_err : {T E : Type 0} (result : Result T E) (P Q : E → Type 0) → ((e : E) → P e → Q e) → IfErr result P → IfErr result Q
@@ -30,10 +24,6 @@ told (Some held) P holds = holds held
 pub no_program : {A : Type 0} (Says : List ℕ → A → Type 0) (Refuses : List ℕ → List ℕ → Type 0) (held : Contents) (name : List ℕ) (Next : A → Outcome → Type 0) (o : Outcome) → AtNoBytes 1048576 1 long_program held name o → AtProgram Says Refuses held name Next o
 no_program Says Refuses held name Next o (inl none) = (Absent, none.0, none.1)
 no_program Says Refuses held name Next o (inr long) = (Long, long.0, long.1)
-
-pub no_data : {A : Type 0} (Says : List ℕ → A → Type 0) (Refuses : List ℕ → List ℕ → Type 0) (held : Contents) (name : List ℕ) (Next : A → Outcome → Type 0) (o : Outcome) → AtNoBytes 67108864 4 (long_file name) held name o → AtData Says Refuses held name Next o
-no_data Says Refuses held name Next o (inl none) = (Absent, none.0, none.1)
-no_data Says Refuses held name Next o (inr long) = (Long, long.0, long.1)
 
 -- ---- a file whose bytes are refused
 
@@ -114,17 +104,6 @@ about_more program Less More Few Many lines nodes OutOfMemory is = tt
 
 -- a refusal of the bytes of a flow file or a trace file has no count, and may be one of that file
 module _ (IsLine : List ℕ → Type 0) where
-  pub count_of_data : (contents : Option Contents) (at : Option (List ℕ)) (misses misses' faults faults' : ℕ) (r : Refusal) → IsOfData IsLine r → HasCount contents at misses misses' faults faults' r
-  count_of_data contents at misses misses' faults faults' (Missing n) is = absurd is
-  count_of_data contents at misses misses' faults faults' (ReadFault n) is = absurd is
-  count_of_data contents at misses misses' faults faults' LongProgram is = tt
-  count_of_data contents at misses misses' faults faults' (Program line) is = tt
-  count_of_data contents at misses misses' faults faults' (Budget nodes) is = tt
-  count_of_data contents at misses misses' faults faults' TooManyItems is = absurd is
-  count_of_data contents at misses misses' faults faults' (LongFile n) is = tt
-  count_of_data contents at misses misses' faults faults' (Data line) is = tt
-  count_of_data contents at misses misses' faults faults' OutOfMemory is = tt
-
   pub about_data : (name : List ℕ) (MayBe : List ℕ → Type 0) → ((line : List ℕ) → IsLine line → MayBe line) → (r : Refusal) → IsOfData IsLine r → IsAboutData name MayBe r
   about_data name MayBe lines (Missing n) is = absurd is
   about_data name MayBe lines (ReadFault n) is = absurd is
@@ -135,17 +114,6 @@ module _ (IsLine : List ℕ → Type 0) where
   about_data name MayBe lines (LongFile n) is = absurd is
   about_data name MayBe lines (Data line) is = lines (string_bytes line) is
   about_data name MayBe lines OutOfMemory is = tt
-
-pub about_more_data : (name : List ℕ) (Less More : List ℕ → Type 0) → ((line : List ℕ) → Less line → More line) → (r : Refusal) → IsAboutData name Less r → IsAboutData name More r
-about_more_data name Less More lines (Missing n) is = is
-about_more_data name Less More lines (ReadFault n) is = is
-about_more_data name Less More lines LongProgram is = absurd is
-about_more_data name Less More lines (Program line) is = absurd is
-about_more_data name Less More lines (Budget n) is = absurd is
-about_more_data name Less More lines TooManyItems is = absurd is
-about_more_data name Less More lines (LongFile n) is = is
-about_more_data name Less More lines (Data line) is = lines (string_bytes line) is
-about_more_data name Less More lines OutOfMemory is = tt
 
 -- a count that did not rise since an earlier moment did not rise since a later one
 pub later_own : (r : Refusal) (first middle last : ℕ) → first ≤ middle → IsOwn r first last → IsOwn r middle last

@@ -1,8 +1,5 @@
 -- What a file gives is one thing at most, and so is what a command comes to there.
-use Rattle.std.proofs.Common.{◌≡◌, ◌∙◌, ◌<◌, ℕ, List, Option, Some, None, sym, refl, ap, subst, arith, length}
-use Rattle.sig_text.specs.Files.{Contents}
-use Rattle.sig_text.specs.Read.{IsLongerThan}
-use Rattle.sig_outcome.specs.Outcomes.{AtData, AtFile, AtProgram, Found, Absent, Long, Bad, Good, Finds, FindsData, FindsProgram, Holds, OneAtMost, Outcome, long_file, long_program}
+use Rattle.sig_outcome.proofs.Common.{◌≡◌, ◌∙◌, ◌<◌, ℕ, List, Option, Some, None, sym, refl, ap, subst, arith, length, Contents, IsLongerThan, AtData, AtFile, AtProgram, Found, Absent, Long, Bad, Good, Finds, FindsData, FindsProgram, Holds, OneAtMost, Outcome, long_file, long_program}
 
 -- a file that is not there has no bytes
 absent_long : (held : Option (List ℕ)) (limit : ℕ) → held ≡ None → IsLongerThan held limit → ⊥

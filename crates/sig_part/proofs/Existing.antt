@@ -1,39 +1,12 @@
 -- The parts of a kernel are there, whatever memory a list of them would take.
-use Rattle.std.proofs.Common.{◌≡◌, ◌<◌, ◌≤◌, ◌+◌, ◌-◌, ◌⊎◌, inl, inr, ◌↔◌, ℕ, Bool, true, false, List, [], ◌∷◌, ◌++◌, length, map, get_or, refl, sym, ap, ◌∙◌, subst, arith, Contains, replicate}
-use Rattle.std.specs.Prelude.{zero, suc, Option, None, Some}
-use Rattle.std.specs.List.{range_with_len}
-use Rattle.std.proofs.lemmas.Bool.{cases_eq}
-use Rattle.std.proofs.lemmas.List.{length-append, length-map, length-replicate, length_push}
-use Rattle.std.proofs.lemmas.List.FromFn.{length-range_with_len}
-use Rattle.std.proofs.lemmas.List.Sums.{count_by-le-length}
-use Rattle.sig_base.specs.declared.ids.SigId.{SigId}
-use Rattle.sig_base.specs.declared.limits.TheConstants.{LINKS}
-use Rattle.sig_base.specs.declared.signal.Signal.{Signal}
-use Rattle.sig_clock.proofs.Lists.{contains_none}
-use Rattle.sig_dd.specs.declared.node.Node.{Node}
-use Rattle.sig_kernel.specs.declared.kernel.Kernel.{Kernel}
-use Rattle.sig_part.specs.Closing.{AreClosed, Visits, Walks, is_elsewhere}
-use Rattle.sig_part.specs.Imported.{AreImported, AreImportedBy}
-use Rattle.sig_part.specs.Linking.{AreLinksBefore}
-use Rattle.sig_part.specs.Marks.{AreMarked, AreMarkedIn, mark_at, marked_count}
-use Rattle.sig_part.specs.Uses.{AreNeeded, AreNeededForEach, IsNeededWithin, IsUsedWithin}
+use Rattle.sig_part.proofs.Common.{◌≡◌, ◌<◌, ◌≤◌, ◌+◌, ◌-◌, ◌⊎◌, inl, inr, ◌↔◌, ℕ, Bool, true, false, List, [], ◌∷◌, ◌++◌, length, map, get_or, refl, sym, ap, ◌∙◌, subst, arith, Contains, replicate, zero, suc, Option, None, Some, range_with_len, cases_eq, length-append, length-map, length-replicate, length_push, length-range_with_len, count_by-le-length, SigId, LINKS, Signal, contains_none, Node, Kernel, AreClosed, Visits, Walks, is_elsewhere, AreImported, AreImportedBy, AreLinksBefore, AreMarked, AreMarkedIn, mark_at, marked_count, AreNeeded, AreNeededForEach, IsNeededWithin, IsUsedWithin, cluster_at, operations_in, NeedsTooManyLinks, cluster_count, report_link, AreWritten, Op, LinkInfo, get_some, signal_same, cases_Bool as bool_cases}
 use Rattle.sig_part.proofs.Importing.{closed_imported, cluster_begins, collector_begins, elsewhere_within, imported_none, imported_push}
 use Rattle.sig_part.proofs.Linked.{links_more, links_next, links_none, links_not}
 use Rattle.sig_part.proofs.Listing.{AreFromTo, from_to_more, from_to_none, marked_next, marked_none, marked_not}
-use Rattle.sig_part.proofs.Lists.{each_more, get_some}
-use Rattle.sig_part.proofs.Marking.{signal_same}
+use Rattle.sig_part.proofs.Lists.{each_more}
 use Rattle.sig_part.proofs.Parting.{parts_are}
 use Rattle.sig_part.proofs.Using.{needed_more, needed_not, used_more, used_not}
 use Rattle.sig_part.proofs.Walking.{visits_left, visits_marked, visits_new, visits_none, visits_then, walk_begins, walk_ends, walk_goes_on}
-use Rattle.sig_plan.specs.Operations.{cluster_at, operations_in}
-use Rattle.sig_plan.specs.Parts.{NeedsTooManyLinks, cluster_count, report_link}
-use Rattle.sig_plan.specs.Written.{AreWritten}
-use Rattle.sig_plan.specs.declared.op.Op.{Op}
-use Rattle.sig_plan.specs.declared.parts.LinkInfo.{LinkInfo}
-
-bool_cases : (b : Bool) → (b ≡ true) ⊎ (b ≡ false)
-bool_cases true = inl refl
-bool_cases false = inr refl
 
 is_signal : (o : Option SigId) (x : SigId) → (o ≡ Some x) ⊎ (o ≡ Some x → ⊥)
 is_signal None x = inr (λ is. cc)

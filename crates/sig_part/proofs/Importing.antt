@@ -1,22 +1,6 @@
 -- The closed sets of marked signals are the imports.
-use Rattle.std.proofs.Common.{◌≡◌, ◌≢◌, ◌<◌, ◌+◌, ◌⊎◌, inl, inr, ◌↔◌, ℕ, Bool, true, false, not, List, [], ◌∷◌, ◌++◌, length, get_or, refl, sym, ap, ◌∙◌, subst, arith, Contains, eqb, eq-eqb}
-use Rattle.std.specs.Prelude.{Option, None, Some, slice_get}
-use Rattle.std.proofs.lemmas.Bool.{eqb-true, false≢true}
-use Rattle.std.proofs.lemmas.List.{length_push}
-use Rattle.sig_base.specs.declared.ids.SigId.{SigId}
-use Rattle.sig_base.specs.declared.signal.Signal.{Signal}
-use Rattle.sig_dd.specs.declared.node.Node.{Node}
-use Rattle.sig_kernel.specs.declared.kernel.Kernel.{Kernel}
-use Rattle.sig_plan.specs.Operations.{Operation, operation_in, operations_in}
-use Rattle.sig_plan.specs.Order.{Needs}
-use Rattle.sig_plan.specs.Parts.{Imports, used, output, guarded, IsNeededFor, IsOutput, IsUsed, IsWrittenElsewhere, cluster_count}
-use Rattle.sig_plan.specs.declared.op.Op.{Op}
-use Rattle.sig_clock.proofs.Lists.{get_within}
-use Rattle.sig_part.specs.Closing.{AreClosed, Closes, seed, onward, is_elsewhere, is_other}
-use Rattle.sig_part.specs.Imported.{AreImported, AreImportedBy}
-use Rattle.sig_part.specs.Uses.{AreNeeded, AreNeededForEach, IsNeededWithin, IsUsedWithin}
-use Rattle.sig_plan.specs.Written.{AreWritten}
-use Rattle.sig_part.proofs.Lists.{each_more, get_map, map_get}
+use Rattle.sig_part.proofs.Common.{◌≡◌, ◌≢◌, ◌<◌, ◌+◌, ◌⊎◌, inl, inr, ◌↔◌, ℕ, Bool, true, false, not, List, [], ◌∷◌, ◌++◌, length, get_or, refl, sym, ap, ◌∙◌, subst, arith, Contains, eqb, eq-eqb, Option, None, Some, slice_get, eqb-true, false≢true, length_push, SigId, Signal, Node, Kernel, Operation, operation_in, operations_in, Needs, Imports, used, output, guarded, IsNeededFor, IsOutput, IsUsed, IsWrittenElsewhere, cluster_count, Op, get_within, AreClosed, Closes, seed, onward, is_elsewhere, is_other, AreImported, AreImportedBy, AreNeeded, AreNeededForEach, IsNeededWithin, IsUsedWithin, AreWritten, get_map, map_get}
+use Rattle.sig_part.proofs.Lists.{each_more}
 
 -- listed operations are the operations of the kernel
 module _ (conditions : List SigId) (nodes : List Node) (ops : List Op) (needs : List (List SigId)) (are : AreNeeded conditions nodes ops needs) where

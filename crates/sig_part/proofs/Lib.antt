@@ -1,3 +1,4 @@
+pub mod Common
 pub mod Lists
 pub mod Marking
 pub mod Walking
@@ -7,3 +8,12 @@ pub mod Linked
 pub mod Importing
 pub mod Parting
 pub mod Existing
+pub use Common.*
+pub use Existing.*
+pub use Importing.*
+pub use Linked.*
+pub use Listing.*
+pub use Lists.*
+pub use Parting.*
+pub use Using.*
+pub use Walking.*

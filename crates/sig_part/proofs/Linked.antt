@@ -1,18 +1,6 @@
 -- Links of marked signals.
-use Rattle.std.proofs.Common.{◌≡◌, ◌<◌, ◌+◌, ◌⊎◌, inl, inr, ℕ, Bool, false, List, [], ◌∷◌, ◌++◌, length, get_or, refl, sym, ap, ◌∙◌, subst, arith}
-use Rattle.std.specs.Prelude.{Some}
-use Rattle.std.proofs.lemmas.Bool.{cases_order, false≢true}
-use Rattle.std.proofs.lemmas.List.Elements.{Contains-append_left, Contains-push}
-use Rattle.sig_base.specs.declared.ids.SigId.{SigId}
-use Rattle.sig_base.specs.declared.signal.Signal.{Signal}
-use Rattle.sig_plan.specs.Operations.{cluster_at, cluster_of}
-use Rattle.sig_plan.specs.Parts.{AreSignalLinks, IsEarlierLink}
-use Rattle.sig_plan.specs.declared.parts.LinkInfo.{LinkInfo}
-use Rattle.sig_clock.proofs.Lists.{at_contained}
-use Rattle.sig_part.specs.Linking.{AreLinksBefore, IsBefore, IsMarkedFor, IsMarkedLink}
-use Rattle.sig_part.specs.Marks.{AreMarkedIn, mark_at}
+use Rattle.sig_part.proofs.Common.{◌≡◌, ◌<◌, ◌+◌, ◌⊎◌, inl, inr, ℕ, Bool, false, List, [], ◌∷◌, ◌++◌, length, get_or, refl, sym, ap, ◌∙◌, subst, arith, Some, cases_order, false≢true, Contains-append_left, Contains-push, SigId, Signal, cluster_at, cluster_of, AreSignalLinks, IsEarlierLink, LinkInfo, at_contained, AreLinksBefore, IsBefore, IsMarkedFor, IsMarkedLink, AreMarkedIn, mark_at, signal_same}
 use Rattle.sig_part.proofs.Lists.{get_push, pairwise_push}
-use Rattle.sig_part.proofs.Marking.{signal_same}
 
 pub links_none : (signals : List Signal) (marks : List (List Bool)) → AreLinksBefore signals marks 0 0 []
 links_none signals marks = record {

@@ -1,12 +1,6 @@
 -- Marked signals, by number.
-use Rattle.std.proofs.Common.{◌≡◌, ◌<◌, ◌≤◌, ◌+◌, ◌⊎◌, inl, inr, ◌↔◌, ℕ, Bool, true, false, List, [], ◌∷◌, ◌++◌, sym, ap, ◌∙◌, subst, arith, Contains}
-use Rattle.std.proofs.lemmas.Bool.{cases_order, false≢true}
-use Rattle.std.proofs.lemmas.List.Elements.{Contains-append_left, Contains-push, Contains-push_cases}
-use Rattle.sig_base.specs.declared.ids.SigId.{SigId}
-use Rattle.sig_clock.proofs.Lists.{contains_none}
-use Rattle.sig_part.specs.Marks.{AreMarked, mark_at}
+use Rattle.sig_part.proofs.Common.{◌≡◌, ◌<◌, ◌≤◌, ◌+◌, ◌⊎◌, inl, inr, ◌↔◌, ℕ, Bool, true, false, List, [], ◌∷◌, ◌++◌, sym, ap, ◌∙◌, subst, arith, Contains, cases_order, false≢true, Contains-append_left, Contains-push, Contains-push_cases, SigId, contains_none, AreMarked, mark_at, signal_same}
 use Rattle.sig_part.proofs.Lists.{pairwise_push}
-use Rattle.sig_part.proofs.Marking.{signal_same}
 
 abbrev numbered : ℕ → SigId
 numbered n = record { 0 = n }

@@ -1,32 +1,9 @@
 -- Elements of lists.
-use Rattle.std.proofs.Common.{◌≡◌, ◌<◌, ◌⊎◌, inl, inr, ℕ, List, [], ◌∷◌, ◌++◌, length, map, get_or, refl, sym, ap, ◌∙◌, subst, arith, Contains, ◌+◌}
-use Rattle.std.specs.Prelude.{zero, suc, Option, None, Some, slice_get}
-use Rattle.std.specs.List.{cons_option, filter_map}
-use Rattle.sig_clock.proofs.Lists.{contains_at, contains_cons, contains_head, contains_later, contains_none, get_at, get_within}
-use Rattle.std.proofs.lemmas.Bool.{cases_order}
-use Rattle.std.proofs.lemmas.List.{get_or_append_left, get_or_push}
-
-pub get_is : {X : Type 0} (xs : List X) (k : ℕ) (x d : X) → slice_get xs k ≡ Some x → get_or xs k d ≡ x
-get_is xs k x d is = let e : Some (get_or xs k d) ≡ Some x = sym (get_at xs k d (get_within xs k x is)) ∙ is in cc
+use Rattle.sig_part.proofs.Common.{◌≡◌, ◌<◌, ◌⊎◌, inl, inr, ℕ, List, [], ◌∷◌, ◌++◌, length, get_or, refl, sym, ap, ◌∙◌, subst, arith, Contains, ◌+◌, zero, suc, Option, None, Some, slice_get, cons_option, filter_map, contains_at, contains_cons, contains_head, contains_later, contains_none, get_at, get_within, cases_order, get_or_append_left, get_or_push}
 
 -- an element that was read
 pub read_is : {X : Type 0} (xs : List X) (k : ℕ) (x : X) → k < length xs → x ≡ get_or xs k x → slice_get xs k ≡ Some x
 read_is xs k x lt is = get_at xs k x lt ∙ ap Some (sym is)
-
-pub get_some : {X : Type 0} (xs : List X) (k : ℕ) → k < length xs → (x : X) × (slice_get xs k ≡ Some x)
-get_some [] k lt = absurd (omega (arith, lt))
-get_some (x ∷ xs) zero lt = (x, refl)
-get_some (x ∷ xs) (suc k) lt = get_some xs k (omega (arith, lt))
-
-pub get_map : {X Y : Type 0} (f : X → Y) (xs : List X) (k : ℕ) (x : X) → slice_get xs k ≡ Some x → slice_get (map f xs) k ≡ Some (f x)
-get_map f [] k x is = cc
-get_map f (y ∷ xs) zero x is = let same : y ≡ x = cc in ap (λ z. Some (f z)) same
-get_map f (y ∷ xs) (suc k) x is = get_map f xs k x is
-
-pub map_get : {X Y : Type 0} (f : X → Y) (xs : List X) (k : ℕ) (y : Y) → slice_get (map f xs) k ≡ Some y → (x : X) × (slice_get xs k ≡ Some x) × (f x ≡ y)
-map_get f [] k y is = cc
-map_get f (x ∷ xs) zero y is = (x, refl, cc)
-map_get f (x ∷ xs) (suc k) y is = map_get f xs k y is
 
 -- an element of a list with one more at its end
 pub get_push : {X : Type 0} (xs : List X) (y z : X) (k : ℕ) → slice_get (xs ++ y ∷ []) k ≡ Some z → (slice_get xs k ≡ Some z) ⊎ ((k ≡ length xs) × (y ≡ z))

@@ -1,13 +1,5 @@
 -- Marks that are set.
-use Rattle.std.proofs.Common.{◌≡◌, ◌≢◌, ◌<◌, ◌+◌, ◌⊎◌, inl, inr, ◌↔◌, ℕ, Bool, true, false, List, [], ◌∷◌, length, get_or, set, replicate, refl, sym, ap, ◌∙◌, arith, get_or-set_same, get_or-set_other}
-use Rattle.std.specs.Prelude.{zero, suc, sum_by, if◌then◌else◌}
-use Rattle.std.proofs.lemmas.Bool.{cases_order, false≢true}
-use Rattle.std.proofs.lemmas.List.Sums.{sum_by-set}
-use Rattle.sig_base.specs.declared.ids.SigId.{SigId}
-use Rattle.sig_part.specs.Marks.{mark_at, marked_count}
-
-pub signal_same : (x y : SigId) → x.0 ≡ y.0 → x ≡ y
-signal_same x y same = λ j. record { 0 = same j }
+use Rattle.sig_part.proofs.Common.{◌≡◌, ◌≢◌, ◌<◌, ◌+◌, ◌⊎◌, inl, inr, ◌↔◌, ℕ, Bool, true, false, List, [], ◌∷◌, length, get_or, set, replicate, refl, sym, ap, ◌∙◌, arith, get_or-set_same, get_or-set_other, zero, suc, sum_by, if◌then◌else◌, cases_order, false≢true, sum_by-set, SigId, mark_at, marked_count, signal_same}
 
 pub no_mark : (n k : ℕ) → mark_at (replicate n false) k ≡ false
 no_mark zero k = refl

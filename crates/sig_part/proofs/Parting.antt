@@ -1,15 +1,5 @@
 -- Parts from marks.
-use Rattle.std.proofs.Common.{◌≡◌, ◌+◌, ◌∙◌, ℕ, Bool, List, [], length, get_or, subst, arith}
-use Rattle.sig_base.specs.declared.ids.SigId.{SigId}
-use Rattle.sig_base.specs.declared.signal.Signal.{Signal}
-use Rattle.sig_kernel.specs.declared.kernel.Kernel.{Kernel}
-use Rattle.sig_plan.specs.Operations.{Operation}
-use Rattle.sig_plan.specs.Parts.{AreImports, AreParts, cluster_count}
-use Rattle.sig_plan.specs.declared.parts.LinkInfo.{LinkInfo}
-use Rattle.sig_part.specs.Imported.{AreImported, AreImportedBy}
-use Rattle.sig_part.specs.Linking.{AreLinksOfMarks}
-use Rattle.sig_part.specs.Marks.{AreMarked, AreMarkedIn}
-use Rattle.sig_plan.specs.Written.{AreWritten}
+use Rattle.sig_part.proofs.Common.{◌≡◌, ◌+◌, ◌∙◌, ℕ, Bool, List, [], length, get_or, subst, arith, SigId, Signal, Kernel, Operation, AreImports, AreParts, cluster_count, LinkInfo, AreImported, AreImportedBy, AreLinksOfMarks, AreMarked, AreMarkedIn, AreWritten}
 use Rattle.sig_part.proofs.Linked.{signal_links}
 use Rattle.sig_part.proofs.Marking.{marked_within}
 

@@ -1,17 +1,5 @@
 -- What operations use and what their guards need.
-use Rattle.std.proofs.Common.{◌≡◌, ◌≢◌, ◌<◌, ◌+◌, ◌⊎◌, inl, inr, ◌↔◌, ℕ, List, [], ◌++◌, get_or, sym, ap, ◌∙◌, subst, arith, Contains}
-use Rattle.std.specs.Prelude.{Some, slice_get}
-use Rattle.std.specs.List.{filter_map}
-use Rattle.std.proofs.lemmas.Bool.{cases_order}
-use Rattle.std.proofs.lemmas.List.Elements.{Contains-append_cases, Contains-append_left, Contains-append_right}
-use Rattle.sig_base.specs.declared.ids.SigId.{SigId}
-use Rattle.sig_dd.specs.Diagram.{Depends}
-use Rattle.sig_dd.specs.Nodes.{test}
-use Rattle.sig_dd.specs.declared.node.Node.{Node}
-use Rattle.sig_plan.specs.Operations.{operation_in}
-use Rattle.sig_plan.specs.Order.{Needs}
-use Rattle.sig_plan.specs.declared.op.Op.{Op}
-use Rattle.sig_part.specs.Uses.{IsNeededWithin, IsUsedWithin}
+use Rattle.sig_part.proofs.Common.{◌≡◌, ◌≢◌, ◌<◌, ◌+◌, ◌⊎◌, inl, inr, ◌↔◌, ℕ, List, [], ◌++◌, get_or, sym, ap, ◌∙◌, subst, arith, Contains, Some, slice_get, filter_map, cases_order, Contains-append_cases, Contains-append_left, Contains-append_right, SigId, Depends, test, Node, operation_in, Needs, Op, IsNeededWithin, IsUsedWithin}
 use Rattle.sig_part.proofs.Lists.{chosen, chosen_from}
 
 -- the conditions that stand at the variables on which a guard depends

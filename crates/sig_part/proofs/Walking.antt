@@ -1,14 +1,5 @@
 -- Walks that mark what is closed.
-use Rattle.std.proofs.Common.{◌≡◌, ◌<◌, ◌⊎◌, inl, inr, ℕ, Bool, true, false, List, [], ◌∷◌, ◌++◌, length, get_or, set, replicate, refl, sym, ap, ◌∙◌, subst, arith, Contains}
-use Rattle.std.specs.Prelude.{Option, None, Some, slice_get}
-use Rattle.std.proofs.lemmas.Bool.{false≢true}
-use Rattle.std.proofs.lemmas.List.{length-replicate, length-set, length_push}
-use Rattle.std.proofs.lemmas.List.Elements.{Contains-append_cases, Contains-append_left, Contains-append_right, Contains-push, Contains-push_cases}
-use Rattle.sig_base.specs.declared.ids.SigId.{SigId}
-use Rattle.sig_base.specs.declared.signal.Signal.{Signal}
-use Rattle.sig_clock.proofs.Lists.{contains_cons, contains_head, contains_none, get_within}
-use Rattle.sig_part.specs.Closing.{AreClosed, Closes, seed, onward, Visits, Walks, is_elsewhere, is_other}
-use Rattle.sig_part.specs.Marks.{mark_at}
+use Rattle.sig_part.proofs.Common.{◌≡◌, ◌<◌, ◌⊎◌, inl, inr, ℕ, Bool, true, false, List, [], ◌∷◌, ◌++◌, length, get_or, set, replicate, refl, sym, ap, ◌∙◌, subst, arith, Contains, Option, None, Some, slice_get, false≢true, length-replicate, length-set, length_push, Contains-append_cases, Contains-append_left, Contains-append_right, Contains-push, Contains-push_cases, SigId, Signal, contains_cons, contains_head, contains_none, get_within, AreClosed, Closes, seed, onward, Visits, Walks, is_elsewhere, is_other, mark_at}
 use Rattle.sig_part.proofs.Marking.{marked_more, marked_within, no_mark, one_marked}
 
 -- a signal that is there

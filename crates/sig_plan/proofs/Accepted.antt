@@ -1,18 +1,5 @@
 -- An accepted plan has its kernel's operations.
-use Rattle.std.proofs.Common.{◌≡◌, get_or, subst}
-use Rattle.std.specs.Prelude.{Some}
-use Rattle.sig_clock.proofs.Lists.{get_at}
-use Rattle.sig_clock.specs.ClockFunctions.{IsClockFunction}
-use Rattle.sig_clock.specs.ClockRefusals.{HasClocks}
-use Rattle.sig_clock.specs.Clocks.{AreClocks, ClocksView, guard_of}
-use Rattle.sig_clock.specs.Conditions.{signal_id}
-use Rattle.sig_dd.specs.declared.node.Node.{Node}
-use Rattle.sig_kernel.specs.declared.kernel.Kernel.{Kernel}
-use Rattle.sig_plan.specs.Acceptance.{HasOperations}
-use Rattle.sig_plan.specs.Operations.{AreOperations, operations_in, presence_in}
-use Rattle.sig_plan.specs.Plans.{IsAccepted, PlanView}
-use Rattle.sig_plan.specs.declared.op.Op.{Op}
-use Rattle.std.proofs.Common.{List}
+use Rattle.sig_plan.proofs.Common.{◌≡◌, get_or, subst, Some, get_at, IsClockFunction, HasClocks, AreClocks, ClocksView, guard_of, signal_id, Node, Kernel, HasOperations, AreOperations, operations_in, presence_in, IsAccepted, PlanView, Op, List}
 use Rattle.sig_plan.proofs.Adding.{guard_is}
 
 pub operations_made_are : (kernel : Kernel) (nodes : List Node) (clocks : ClocksView) (ops : List Op) → HasClocks kernel → AreClocks kernel nodes clocks

@@ -1,22 +1,5 @@
 -- Operations that are added behind others.
-use Rattle.std.proofs.Common.{◌≡◌, ◌<◌, ◌+◌, ℕ, List, [], ◌∷◌, ◌++◌, length, get_or, refl, sym, ap, ◌∙◌, subst, arith, append_assoc}
-use Rattle.std.specs.Prelude.{zero, suc, Some, take, Result, Ok, Err, OnOk}
-use Rattle.std.proofs.lemmas.List.{append-nil, map-append}
-use Rattle.std.proofs.lemmas.List.Elements.{All-head, All-push, All-tail, All-weaker}
-use Rattle.sig_base.specs.declared.ids.EqId.{EqId}
-use Rattle.sig_base.specs.declared.ids.SigId.{SigId}
-use Rattle.sig_base.specs.declared.signal.Signal.{Signal}
-use Rattle.sig_clock.specs.Clocks.{ClocksView, guard_of}
-use Rattle.sig_dd.specs.Nodes.{Holds, IsRefOf, Keeps, StoreView, test}
-use Rattle.sig_dd.proofs.CallerLemmas.{Agree-kept, Holds-kept}
-use Rattle.sig_dd.specs.declared.node.Node.{Node}
-use Rattle.sig_dd.specs.declared.node.Ref.{Ref}
-use Rattle.sig_kernel.specs.declared.equation.Equation.{Equation}
-use Rattle.sig_kernel.specs.declared.equation.Form.{Form}
-use Rattle.sig_plan.specs.Making.{Adds, AreHeld, Extends, HoldGuards, IsMade}
-use Rattle.sig_plan.specs.Operations.{Guard, Operation, Presence, cluster_at, default_of, equation_id, function_in, of_each, operation_in, operations_in, presence_in, without, writing}
-use Rattle.sig_plan.specs.declared.op.Op.{Op}
-use Rattle.sig_plan.specs.declared.op.OpKind.TheVariants.{Left, Right}
+use Rattle.sig_plan.proofs.Common.{◌≡◌, ◌<◌, ◌+◌, ℕ, List, [], ◌∷◌, ◌++◌, length, get_or, refl, sym, ap, ◌∙◌, subst, arith, append_assoc, zero, suc, Some, take, Result, Ok, Err, OnOk, append-nil, map-append, All-head, All-push, All-tail, All-weaker, EqId, SigId, Signal, ClocksView, guard_of, Holds, IsRefOf, Keeps, StoreView, test, Agree-kept, Holds-kept, Node, Ref, Equation, Form, Adds, AreHeld, Extends, HoldGuards, IsMade, Guard, Operation, Presence, cluster_at, default_of, equation_id, function_in, of_each, operation_in, operations_in, presence_in, without, writing, Op, Left, Right}
 
 -- the function of a signal's guard
 pub guard_is : (clocks : ClocksView) (x : SigId) (guard : Ref) → guard_of clocks x.0 ≡ Some guard → (nodes : List Node) → test nodes guard ≡ presence_in nodes clocks x

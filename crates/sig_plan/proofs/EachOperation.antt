@@ -1,24 +1,5 @@
 -- What holds of each operation of a kernel, since it holds of what each equation makes.
-use Rattle.std.proofs.Common.{◌≡◌, ◌<◌, ◌≤◌, ◌+◌, inl, inr, ℕ, Bool, true, List, [], ◌∷◌, length, map, get_or, refl, sym, ◌∙◌, subst, arith, Contains}
-use Rattle.std.specs.Prelude.{zero, suc, All, ◌&&◌}
-use Rattle.std.specs.List.{list_all, range_with_len}
-use Rattle.std.proofs.lemmas.Bool.{and_parts, ltb-true}
-use Rattle.std.proofs.lemmas.List.Elements.{All-append, All-cons, All-nil}
-use Rattle.sig_base.specs.declared.ids.EqId.{EqId}
-use Rattle.sig_base.specs.declared.ids.SigId.{SigId}
-use Rattle.sig_base.specs.declared.signal.Signal.{Signal}
-use Rattle.sig_clock.specs.Conditions.{signal_id}
-use Rattle.sig_clock.proofs.Lists.{contains_cons, contains_none}
-use Rattle.sig_kernel.specs.Table.{operands_of, target_of}
-use Rattle.sig_kernel.specs.Validity.{IsValid, form_within, is_below, operand_within, target_within}
-use Rattle.sig_kernel.specs.declared.equation.Equation.{Equation}
-use Rattle.sig_kernel.specs.declared.equation.Form.{Form}
-use Rattle.sig_kernel.specs.declared.equation.Form.TheVariants.{Fun, Delay, When, WhenConst, Default, Sync, Event}
-use Rattle.sig_kernel.specs.declared.equation.Operand.{Operand}
-use Rattle.sig_kernel.specs.declared.equation.Operand.TheVariants.{Sig, Const}
-use Rattle.sig_kernel.specs.declared.kernel.Kernel.{Kernel}
-use Rattle.sig_plan.specs.Operations.{Guard, Operation, Presence, equation_id, of_each, operations_of, read_of, signals_of, stores_of, without, writes_of, writing}
-use Rattle.sig_plan.specs.declared.op.OpKind.TheVariants.{Left, Right}
+use Rattle.sig_plan.proofs.Common.{◌≡◌, ◌<◌, ◌≤◌, ◌+◌, inl, inr, ℕ, Bool, true, List, [], ◌∷◌, length, map, get_or, refl, sym, ◌∙◌, subst, arith, Contains, zero, suc, All, ◌&&◌, list_all, range_with_len, and_parts, ltb-true, All-append, All-cons, All-nil, EqId, SigId, Signal, signal_id, contains_cons, contains_none, operands_of, target_of, IsValid, form_within, is_below, operand_within, target_within, Equation, Form, Fun, Delay, When, WhenConst, Default, Sync, Event, Operand, Sig, Const, Kernel, Guard, Operation, Presence, equation_id, of_each, operations_of, read_of, signals_of, stores_of, without, writes_of, writing, Left, Right}
 
 module _ (P : Operation → Type 0) where
   pub only : (p : Operation) → P p → All P (p ∷ [])

@@ -1,22 +1,5 @@
 -- In the compiled order what an operation needs stands before it, and guards depend on conditions alone.
-use Rattle.std.proofs.Common.{◌≡◌, ◌≢◌, ◌<◌, ◌≤◌, inl, inr, ◌&&◌, ℕ, Bool, true, false, not, List, length, sym, ap, ◌∙◌, subst, arith, Contains}
-use Rattle.std.specs.Prelude.{None, Some, slice_get, slice_index}
-use Rattle.std.proofs.lemmas.Bool.{cases_lt}
-use Rattle.std.proofs.lemmas.List.Elements.{All-contains}
-use Rattle.sig_base.specs.declared.ids.SigId.{SigId}
-use Rattle.sig_clock.proofs.Lists.{contains_at, get_within}
-use Rattle.sig_clock.proofs.ProposalLemmas.{absent_makes_none, some_reaction}
-use Rattle.sig_clock.specs.ClockFunctions.{Allows, KeepsTo}
-use Rattle.sig_clock.specs.Reactions.{Reaction, Speaks, status_at}
-use Rattle.sig_dd.proofs.CallerLemmas.{Depends-of_two}
-use Rattle.sig_dd.proofs.Trees.{truth_of-with_other}
-use Rattle.sig_dd.specs.Diagram.{Depends, with_truth}
-use Rattle.sig_dd.specs.Walks.{IsIdle}
-use Rattle.sig_kernel.specs.Validity.{IsValid}
-use Rattle.sig_kernel.specs.declared.kernel.Kernel.{Kernel}
-use Rattle.sig_plan.specs.Acceptance.{HasOperations}
-use Rattle.sig_plan.specs.Operations.{Guard, Operation, operations_of, without}
-use Rattle.sig_plan.specs.Order.{ComesBefore, IsCompiledOrder, Needs, Precedes, Writes}
+use Rattle.sig_plan.proofs.Common.{◌≡◌, ◌≢◌, ◌<◌, ◌≤◌, inl, inr, ◌&&◌, ℕ, Bool, true, false, not, List, length, sym, ap, ◌∙◌, subst, arith, Contains, None, Some, slice_get, slice_index, cases_lt, All-contains, SigId, contains_at, get_within, absent_makes_none, some_reaction, Allows, KeepsTo, Reaction, Speaks, status_at, Depends-of_two, truth_of-with_other, Depends, with_truth, IsIdle, IsValid, Kernel, HasOperations, Guard, Operation, operations_of, without, ComesBefore, IsCompiledOrder, Needs, Precedes, Writes}
 use Rattle.sig_plan.proofs.Done.{present_written, read_present}
 use Rattle.sig_plan.proofs.EachOperation.{each_guard}
 use Rattle.sig_plan.proofs.Indices.{read_below}

@@ -1,19 +1,6 @@
 -- A kernel is accepted, or refused for one reason.
-use Rattle.std.proofs.Common.{◌≡◌, ℕ, List, length, refl, sym, ap, ◌∙◌, subst, arith}
-use Rattle.std.specs.Prelude.{None, Some, All}
-use Rattle.std.proofs.lemmas.Bool.{false≢true}
-use Rattle.sig_base.specs.declared.ids.SigId.{SigId}
-use Rattle.sig_clock.specs.ClockRefusals.{HasClocks, IsFirstPinned, IsMissingRoot, IsOpen, IsUnsolved}
-use Rattle.sig_clock.specs.Layers.{IsDead}
-use Rattle.sig_clock.specs.Reactions.{status_at}
-use Rattle.sig_clock.proofs.LayerLemmas.{dead_has_none, one_least, same_pinned, same_roots}
-use Rattle.sig_clock.proofs.ReactionLemmas.{absent_in_silence}
-use Rattle.sig_kernel.specs.Validity.{IsValid}
-use Rattle.sig_kernel.specs.declared.kernel.Kernel.{Kernel}
-use Rattle.sig_plan.specs.Acceptance.{HasCycle, HasOperations, HasTooManyLinks, IsAcceptedKernel, IsRefusedFor, KernelFault, Cycle, Dead, MissingRoot, Pinned, TooManyLinks, Unsolved}
-use Rattle.sig_plan.specs.Operations.{Operation}
-use Rattle.sig_plan.specs.Order.{HasNoCycle, IsCycle, IsOnCycle}
-use Rattle.sig_plan.specs.Parts.{AreParts}
+use Rattle.sig_plan.proofs.Common.{◌≡◌, ℕ, List, length, refl, sym, ap, ◌∙◌, subst, arith, None, Some, All, false≢true, SigId, HasClocks, IsFirstPinned, IsMissingRoot, IsOpen, IsUnsolved, IsDead, status_at, dead_has_none, one_least, same_pinned, same_roots, absent_in_silence, IsValid, Kernel, HasCycle, HasOperations, HasTooManyLinks, IsAcceptedKernel, KernelFault, Cycle, Dead, MissingRoot, Pinned, TooManyLinks, Unsolved, Operation, HasNoCycle, IsCycle, IsOnCycle, AreParts}
+use Rattle.sig_plan.specs.Acceptance.{IsRefusedFor}
 use Rattle.sig_plan.proofs.OperationsOnce.{operations_once}
 use Rattle.sig_plan.proofs.PartsOnce.{WritesWithin, operations_fine, parts_once}
 

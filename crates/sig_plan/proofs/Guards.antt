@@ -1,21 +1,7 @@
 -- The guards of clocks, and what stays of them as a store grows.
-use Rattle.std.proofs.Common.{◌≡◌, ℕ, Bool, List, length, get_or, refl, sym, ap, ◌∙◌, subst}
-use Rattle.std.specs.Prelude.{Option, None, Some, slice_get}
-use Rattle.sig_clock.proofs.Lists.{at_contained, contains_at}
-use Rattle.sig_clock.specs.Clocks.{AreClocks, ClocksView, guard_of}
-use Rattle.sig_dd.specs.Diagram.{Depends}
-use Rattle.sig_dd.specs.Nodes.{Holds, Keeps, StoreView, test}
-use Rattle.sig_dd.specs.declared.node.Node.{Node}
-use Rattle.sig_dd.specs.declared.node.Ref.{Ref}
-use Rattle.sig_dd.proofs.CallerLemmas.{Agree-kept, Holds-kept, Spans-kept}
-use Rattle.sig_kernel.specs.declared.kernel.Kernel.{Kernel}
-use Rattle.sig_plan.specs.Making.{AreOver, HaveGuards, HoldGuards}
-use Rattle.sig_plan.specs.Operations.{function_in, presence_in}
+use Rattle.sig_plan.proofs.Common.{◌≡◌, ℕ, Bool, List, get_or, refl, sym, ap, ◌∙◌, subst, Option, None, Some, slice_get, at_contained, contains_at, AreClocks, ClocksView, guard_of, Depends, Holds, Keeps, StoreView, test, Node, Ref, Agree-kept, Holds-kept, Spans-kept, Kernel, AreOver, HoldGuards, function_in, presence_in}
 
 module _ (kernel : Kernel) (nodes : List Node) (clocks : ClocksView) (are : AreClocks kernel nodes clocks) where
-  pub guards_there : HaveGuards clocks (length kernel.signals)
-  guards_there = record { count = are.count; classes = are.classes }
-
   pub guards_held : HoldGuards nodes clocks
   guards_held guard there = are.held there.0 guard (at_contained clocks.guard guard there)
 

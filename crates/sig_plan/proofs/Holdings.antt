@@ -1,24 +1,5 @@
 -- Before a step of an accepted plan whose guard holds, its actor has what the step needs.
-use Rattle.std.proofs.Common.{◌≡◌, ◌<◌, ◌≤◌, inl, inr, ℕ, Bool, true, List, length, get_or, sym, ap, ◌∙◌, subst, arith, Contains}
-use Rattle.std.specs.Prelude.{Some, slice_get}
-use Rattle.sig_base.specs.declared.ids.SigId.{SigId}
-use Rattle.sig_clock.proofs.Lists.{get_at, get_within}
-use Rattle.sig_clock.specs.ClockFunctions.{KeepsTo}
-use Rattle.sig_clock.specs.Reactions.{Reaction, Speaks, is_present}
-use Rattle.sig_dd.proofs.Dependence.{ref_depends}
-use Rattle.sig_dd.specs.Diagram.{Depends}
-use Rattle.sig_dd.specs.Nodes.{IsRefOf, test}
-use Rattle.sig_plan.specs.Codes.{CodeView, Instruction, IsStepOf, instructions_of, op_id}
-use Rattle.sig_plan.specs.Holding.{Gives, HasBefore, HasGuard}
-use Rattle.sig_plan.specs.Instructions.{IsProvidedBefore, Provides}
-use Rattle.sig_plan.specs.Operations.{Operation, operation_in, operations_in}
-use Rattle.sig_plan.specs.Parts.{IsOutput}
-use Rattle.sig_plan.specs.Plans.{IsAccepted, PlanView, numbers_of}
-use Rattle.sig_plan.specs.declared.code.Slot.{Slot}
-use Rattle.sig_plan.specs.declared.code.Step.{Step}
-use Rattle.sig_plan.specs.declared.code.StepKind.TheVariants.{Do, Send, Commit}
-use Rattle.sig_plan.specs.declared.op.Op.{Op}
-use Rattle.sig_plan.specs.declared.parts.LinkInfo.{LinkInfo}
+use Rattle.sig_plan.proofs.Common.{◌≡◌, ◌<◌, ◌≤◌, inl, inr, ℕ, Bool, true, List, length, get_or, sym, ap, ◌∙◌, subst, arith, Contains, Some, slice_get, SigId, get_at, get_within, KeepsTo, Reaction, Speaks, is_present, ref_depends, Depends, IsRefOf, test, CodeView, Instruction, IsStepOf, instructions_of, op_id, Gives, HasBefore, HasGuard, IsProvidedBefore, Provides, Operation, operation_in, operations_in, IsOutput, IsAccepted, PlanView, numbers_of, Slot, Step, Do, Send, Commit, Op, LinkInfo}
 use Rattle.sig_plan.proofs.Accepted.{plan_operations}
 use Rattle.sig_plan.proofs.Lists.{get_map, map_get}
 use Rattle.sig_plan.proofs.Naming.{step_instruction}

@@ -1,18 +1,5 @@
 -- Operations name signals and equations of their kernel.
-use Rattle.std.proofs.Common.{◌≡◌, ◌<◌, ℕ, inl, inr, true, List, [], ◌∷◌, length, sym, subst, Contains}
-use Rattle.std.specs.Prelude.{All, Some, slice_get}
-use Rattle.std.proofs.lemmas.List.Elements.{All-cons, All-contains, All-nil}
-use Rattle.sig_base.specs.declared.ids.EqId.{EqId}
-use Rattle.sig_base.specs.declared.ids.SigId.{SigId}
-use Rattle.sig_clock.proofs.Lists.{contains_at, contains_cons, contains_none, get_within}
-use Rattle.sig_kernel.specs.Validity.{IsValid, form_within}
-use Rattle.sig_kernel.specs.declared.equation.Form.{Form}
-use Rattle.sig_kernel.specs.declared.equation.Form.TheVariants.{Fun, Delay, When, WhenConst, Default, Sync, Event}
-use Rattle.sig_kernel.specs.declared.kernel.Kernel.{Kernel}
-use Rattle.sig_plan.specs.Acceptance.{HasOperations}
-use Rattle.sig_plan.specs.Operations.{Operation, Presence, operations_of, stores_of, without, writes_of, writing}
-use Rattle.sig_plan.specs.Order.{Writes}
-use Rattle.sig_plan.specs.declared.op.OpKind.TheVariants.{Left, Right}
+use Rattle.sig_plan.proofs.Common.{◌≡◌, ◌<◌, ℕ, inl, inr, true, List, [], ◌∷◌, length, sym, subst, Contains, All, Some, slice_get, All-cons, All-contains, All-nil, EqId, SigId, contains_at, contains_cons, contains_none, get_within, IsValid, form_within, Form, Fun, Delay, When, WhenConst, Default, Sync, Event, Kernel, HasOperations, Operation, Presence, operations_of, stores_of, without, writes_of, writing, Writes, Left, Right}
 use Rattle.sig_plan.proofs.EachOperation.{each_operation, first_below, only, operands_below, second_below, signal_below}
 use Rattle.sig_plan.proofs.Writing.{operations_written}
 

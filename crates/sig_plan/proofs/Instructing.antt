@@ -1,17 +1,5 @@
 -- What the instructions of an actor are for.
-use Rattle.std.proofs.Common.{◌≡◌, ◌+◌, ◌*◌, ◌++◌, inl, inr, ℕ, Bool, true, false, cond, List, [], ◌∷◌, length, map, refl, sym, ap, ◌∙◌, subst, arith, Contains}
-use Rattle.std.specs.Prelude.{zero, suc, All, None, Option, Some, flat_map, slice_get, ◌==◌, if◌then◌else◌}
-use Rattle.std.specs.List.{cons_option, enumerate_from, filter_map}
-use Rattle.std.proofs.lemmas.Bool.{eqb-false, eqb-true, false≢true}
-use Rattle.std.proofs.lemmas.List.Elements.{All-append, All-cons, All-contains, All-nil}
-use Rattle.sig_base.specs.declared.ids.SigId.{SigId}
-use Rattle.sig_clock.proofs.Lists.{contains_cons, contains_head, contains_later, contains_none}
-use Rattle.sig_plan.specs.Codes.{Instruction, at_end, at_number, instructions_of, is_signal, links_of, links_to, over_order, report_links, reports_of, under, unguarded, op_id}
-use Rattle.sig_plan.specs.Instructions.{CarriesFrom, IsFor, StandsAt, collects, commits, does, receives, reports, sends}
-use Rattle.sig_plan.specs.Operations.{Operation}
-use Rattle.sig_plan.specs.Parts.{PartsView}
-use Rattle.sig_plan.specs.declared.code.StepKind.TheVariants.{Do, Send, Receive, Report, Collect, Commit}
-use Rattle.sig_plan.specs.declared.parts.LinkInfo.{LinkInfo}
+use Rattle.sig_plan.proofs.Common.{◌≡◌, ◌+◌, ◌*◌, ◌++◌, inl, inr, ℕ, Bool, true, false, cond, List, [], ◌∷◌, length, map, refl, sym, ap, ◌∙◌, subst, arith, Contains, zero, suc, All, None, Option, Some, flat_map, slice_get, ◌==◌, if◌then◌else◌, cons_option, enumerate_from, filter_map, eqb-false, eqb-true, false≢true, All-append, All-cons, All-contains, All-nil, SigId, contains_cons, contains_head, contains_later, contains_none, Instruction, at_end, at_number, instructions_of, is_signal, links_of, links_to, over_order, report_links, reports_of, under, unguarded, op_id, CarriesFrom, IsFor, StandsAt, collects, commits, does, receives, reports, sends, Operation, PartsView, Do, Send, Receive, Report, Collect, Commit, LinkInfo}
 
 -- ---- links that were chosen
 

@@ -1,22 +1,5 @@
 -- A link has one writer and one reader, and what is sent on it is received at an equal position under an equal guard.
-use Rattle.std.proofs.Common.{◌≡◌, ◌≢◌, ◌<◌, ◌≤◌, ◌+◌, ◌*◌, ◌⊎◌, ◌++◌, inl, inr, ℕ, Bool, true, List, [], ◌∷◌, length, map, refl, sym, ap, ◌∙◌, subst, arith, Contains}
-use Rattle.std.specs.Prelude.{zero, suc, None, Option, Some, fold, max, slice_get, ◌==◌, if◌then◌else◌}
-use Rattle.std.specs.List.{enumerate_from, range_with_len}
-use Rattle.std.proofs.Math.Nat.{le-max_left, le-max_right}
-use Rattle.std.proofs.lemmas.List.Elements.{Contains-append_left, Contains-append_right}
-use Rattle.sig_base.specs.declared.ids.SigId.{SigId}
-use Rattle.sig_base.specs.declared.signal.Signal.{Signal}
-use Rattle.sig_clock.proofs.Lists.{at_contained, contains_at, contains_head, contains_later}
-use Rattle.sig_kernel.specs.Validity.{IsValid}
-use Rattle.sig_kernel.specs.declared.kernel.Kernel.{Kernel}
-use Rattle.sig_plan.specs.Acceptance.{HasOperations}
-use Rattle.sig_plan.specs.Codes.{Instruction, at_end, at_number, at_place, instructions_of, is_signal, links_of, links_to, over_order, op_id, report_links, reports_of, under, unguarded}
-use Rattle.sig_plan.specs.Instructions.{CarriesFrom, IsFor, StandsAt, collects, commits, does, receives, reports, sends}
-use Rattle.sig_plan.specs.Operations.{Operation}
-use Rattle.sig_plan.specs.Parts.{AreParts, Imports, used, output, guarded, IsWrittenElsewhere, PartsView, report_link}
-use Rattle.sig_plan.specs.Written.{AreWritten}
-use Rattle.sig_plan.specs.declared.code.StepKind.TheVariants.{Do, Send, Receive, Report, Collect, Commit}
-use Rattle.sig_plan.specs.declared.parts.LinkInfo.{LinkInfo}
+use Rattle.sig_plan.proofs.Common.{◌≡◌, ◌≢◌, ◌<◌, ◌≤◌, ◌+◌, ◌*◌, ◌⊎◌, ◌++◌, inl, inr, ℕ, Bool, true, List, [], ◌∷◌, length, map, refl, sym, ap, ◌∙◌, subst, arith, Contains, zero, suc, None, Option, Some, fold, max, slice_get, ◌==◌, if◌then◌else◌, enumerate_from, range_with_len, le-max_left, le-max_right, Contains-append_left, Contains-append_right, SigId, Signal, at_contained, contains_at, contains_head, contains_later, IsValid, Kernel, HasOperations, Instruction, at_end, at_number, at_place, instructions_of, is_signal, links_of, links_to, over_order, op_id, report_links, reports_of, under, unguarded, CarriesFrom, IsFor, StandsAt, collects, commits, does, receives, reports, sends, Operation, AreParts, Imports, used, output, guarded, IsWrittenElsewhere, PartsView, report_link, AreWritten, Do, Send, Receive, Report, Collect, Commit, LinkInfo}
 use Rattle.sig_plan.proofs.Instructing.{chosen, instruction_for}
 use Rattle.sig_plan.proofs.Lists.{contains_either, contains_flat, contains_mapped, contains_numbered, eq_false, eq_true, in_range, mapped_from}
 use Rattle.sig_plan.proofs.Writing.{operations_written}

@@ -1,11 +1,5 @@
 -- Elements of lists, and of those made from them.
-use Rattle.std.proofs.Common.{◌≡◌, ◌≢◌, ◌<◌, ◌+◌, ◌⊎◌, ◌++◌, inl, inr, ℕ, Bool, true, false, List, [], ◌∷◌, length, map, refl, sym, ap, subst, arith, Contains}
-use Rattle.std.specs.Prelude.{zero, suc, Some, flat_map, slice_get, ◌==◌}
-use Rattle.std.specs.List.{enumerate_from, range_with_len}
-use Rattle.std.proofs.lemmas.Bool.{eqb-false, eqb-true}
-use Rattle.std.proofs.lemmas.List.Elements.{Contains-append_left, Contains-append_right}
-use Rattle.sig_base.specs.declared.ids.SigId.{SigId}
-use Rattle.sig_clock.proofs.Lists.{contains_cons, contains_head, contains_later, contains_none}
+use Rattle.sig_plan.proofs.Common.{◌≡◌, ◌≢◌, ◌<◌, ◌+◌, ◌⊎◌, ◌++◌, inl, inr, ℕ, Bool, true, false, List, [], ◌∷◌, length, map, refl, sym, ap, subst, arith, Contains, zero, suc, Some, flat_map, slice_get, ◌==◌, enumerate_from, range_with_len, eqb-false, eqb-true, Contains-append_left, Contains-append_right, SigId, contains_cons, contains_head, contains_later, contains_none}
 
 pub signal_same : (x y : SigId) → x.0 ≡ y.0 → x ≡ y
 signal_same x y same = λ j. record { 0 = same j }

@@ -1,16 +1,5 @@
 -- The steps of an accepted plan do their instructions, and name operations, links and slots that are there.
-use Rattle.std.proofs.Common.{◌≡◌, ◌<◌, ℕ, List, length, get_or, sym, ap, ◌∙◌, subst, arith}
-use Rattle.std.specs.Prelude.{None, Option, Some, slice_get}
-use Rattle.std.proofs.lemmas.List.{length-map}
-use Rattle.sig_clock.proofs.Lists.{contains_at, get_at, get_within}
-use Rattle.sig_plan.specs.Codes.{CodeView, Instruction, IsLastBelow, ImpliesSlot, IsStepOf, always, instructions_of}
-use Rattle.sig_plan.specs.Instructions.{IsFor, NamesWithin, collects, commits, does, receives, reports, sends}
-use Rattle.sig_plan.specs.Operations.{Operation, operation_in, operations_in}
-use Rattle.sig_plan.specs.Plans.{IsAccepted, PlanView, numbers_of}
-use Rattle.sig_plan.specs.declared.code.Slot.{Slot}
-use Rattle.sig_plan.specs.declared.code.Step.{Step}
-use Rattle.sig_plan.specs.declared.code.StepKind.{StepKind}
-use Rattle.sig_plan.specs.declared.parts.LinkInfo.{LinkInfo}
+use Rattle.sig_plan.proofs.Common.{◌≡◌, ◌<◌, ℕ, List, length, get_or, sym, ap, ◌∙◌, subst, arith, None, Option, Some, slice_get, length-map, contains_at, get_at, get_within, CodeView, Instruction, IsLastBelow, ImpliesSlot, IsStepOf, always, instructions_of, IsFor, NamesWithin, collects, commits, does, receives, reports, sends, Operation, operation_in, operations_in, IsAccepted, PlanView, numbers_of, Slot, Step, StepKind, LinkInfo}
 use Rattle.sig_plan.proofs.Instructing.{instruction_for}
 
 instruction_names : (operations : List Operation) (order : List ℕ) (links : List LinkInfo) (clusters actor : ℕ) (i : Instruction) → IsFor operations order links clusters actor i → NamesWithin (length operations) (length links) i.kind

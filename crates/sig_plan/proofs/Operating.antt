@@ -1,22 +1,5 @@
 -- What the making of a kernel's operations comes to.
-use Rattle.std.proofs.Common.{◌≡◌, ◌<◌, ◌*◌, ℕ, List, [], ◌++◌, length, map, sym, ap, ◌∙◌, subst, arith, Contains, Result, Ok, Err}
-use Rattle.std.specs.List.{range_with_len}
-use Rattle.std.specs.Result.{IsErrAnd}
-use Rattle.std.proofs.lemmas.List.FromFn.{get_or-range_with_len, length-range_with_len}
-use Rattle.sig_base.specs.declared.signal.Signal.{Signal}
-use Rattle.sig_clock.specs.Clocks.{AreClocks, ClocksView}
-use Rattle.sig_clock.specs.Conditions.{signal_id}
-use Rattle.sig_dd.specs.Nodes.{Keeps, StoreView}
-use Rattle.sig_dd.specs.declared.node.Node.{Node}
-use Rattle.sig_kernel.specs.declared.equation.Equation.{Equation}
-use Rattle.sig_kernel.specs.declared.kernel.Kernel.{Kernel}
-use Rattle.sig_plan.specs.Making.{Adds, AreOver, Extends, Spends}
-use Rattle.sig_plan.specs.Operations.{AreOperations, Operation, Presence, of_each, operations_in, operations_of, presence_in, read_of, stores_of, writes_of}
-use Rattle.sig_plan.specs.Shares.{IsRefusedFor, KeepsToShare, share_of}
-use Rattle.sig_plan.specs.declared.answer.PlanAnswer.{PlanAnswer}
-use Rattle.sig_plan.specs.declared.answer.PlanAnswer.TheVariants.{OutOfMemory}
-use Rattle.sig_plan.specs.declared.op.Op.{Op}
-use Rattle.sig_clock.proofs.Lists.{at_contained}
+use Rattle.sig_plan.proofs.Common.{◌≡◌, ◌<◌, ◌*◌, ℕ, List, [], ◌++◌, length, map, sym, ap, ◌∙◌, subst, arith, Contains, Result, Ok, Err, range_with_len, IsErrAnd, get_or-range_with_len, length-range_with_len, Signal, AreClocks, ClocksView, signal_id, Keeps, StoreView, Node, Equation, Kernel, Adds, AreOver, Extends, Spends, AreOperations, Operation, Presence, of_each, operations_in, operations_of, presence_in, read_of, stores_of, writes_of, IsRefusedFor, KeepsToShare, share_of, PlanAnswer, OutOfMemory, Op, at_contained}
 use Rattle.sig_plan.proofs.Guards.{guards_held, guards_kept, presence_stays}
 
 range_contains : (n v : ℕ) → v < n → Contains (range_with_len 0 n) v

@@ -1,23 +1,5 @@
 -- The operations of a kernel are one thing.
-use Rattle.std.proofs.Common.{◌≡◌, ◌<◌, ◌≤◌, ◌+◌, ℕ, true, List, [], ◌∷◌, ◌++◌, length, map, refl, sym, ◌∙◌, subst, arith}
-use Rattle.std.specs.Prelude.{zero, suc, ◌&&◌, None, Some}
-use Rattle.std.specs.List.{AllPass, list_all, range_with_len}
-use Rattle.std.proofs.lemmas.Bool.{and_parts, ltb-true}
-use Rattle.std.proofs.lemmas.List.Elements.{All-head, All-tail}
-use Rattle.sig_base.specs.declared.ids.EqId.{EqId}
-use Rattle.sig_base.specs.declared.ids.SigId.{SigId}
-use Rattle.sig_clock.specs.ClockFunctions.{IsClockFunction}
-use Rattle.sig_clock.specs.Conditions.{signal_id}
-use Rattle.sig_kernel.specs.Table.{operands_of, target_of}
-use Rattle.sig_kernel.specs.Validity.{IsValid, form_within, is_below, operand_within, target_within}
-use Rattle.sig_kernel.specs.declared.equation.Equation.{Equation}
-use Rattle.sig_kernel.specs.declared.equation.Form.{Form}
-use Rattle.sig_kernel.specs.declared.equation.Form.TheVariants.{Fun, Delay, When, WhenConst, Default, Sync, Event}
-use Rattle.sig_kernel.specs.declared.kernel.Kernel.{Kernel}
-use Rattle.sig_plan.specs.Acceptance.{HasOperations}
-use Rattle.sig_plan.specs.Operations.{Operation, Presence, cluster_at, equation_id, of_each, operations_of, read_of, stores_of, without, writes_of, writing, signals_of}
-use Rattle.sig_plan.specs.declared.op.OpKind.TheVariants.{Read, Compute, Left, Right, DelayRead, Store}
-use Rattle.sig_clock.proofs.OnceLemmas.{conditions_once, function_once}
+use Rattle.sig_plan.proofs.Common.{◌≡◌, ◌<◌, ◌≤◌, ◌+◌, ℕ, true, List, [], ◌∷◌, ◌++◌, length, map, refl, sym, ◌∙◌, subst, arith, zero, suc, ◌&&◌, None, Some, AllPass, list_all, range_with_len, and_parts, ltb-true, All-head, All-tail, EqId, SigId, IsClockFunction, signal_id, operands_of, target_of, IsValid, form_within, is_below, operand_within, target_within, Equation, Form, Fun, Delay, When, WhenConst, Default, Sync, Event, Kernel, HasOperations, Operation, Presence, cluster_at, equation_id, of_each, operations_of, read_of, stores_of, without, writes_of, writing, signals_of, Read, Compute, Left, Right, DelayRead, Store, conditions_once, function_once}
 
 -- ---- operations
 

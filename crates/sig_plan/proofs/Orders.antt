@@ -1,9 +1,5 @@
 -- What holds of every order.
-use Rattle.std.proofs.Common.{◌≡◌, ◌≢◌, ◌<◌, ◌≤◌, ◌+◌, ◌⊎◌, inl, inr, ℕ, List, [], ◌∷◌, ◌++◌, length, get_or, refl, sym, ap, ◌∙◌, subst, arith, Contains}
-use Rattle.std.specs.Prelude.{zero, suc, take}
-use Rattle.std.proofs.lemmas.Bool.{cases_order}
-use Rattle.std.proofs.lemmas.List.{get_or-take, get_or_append_left, get_or_default, get_or_push, length-take-le, take_all, take_more}
-use Rattle.sig_plan.specs.Order.{IsOrdered, IsReady, Reaches, directly, onward}
+use Rattle.sig_plan.proofs.Common.{◌≡◌, ◌≢◌, ◌<◌, ◌≤◌, ◌+◌, ◌⊎◌, inl, inr, ℕ, List, [], ◌∷◌, ◌++◌, length, get_or, refl, sym, ap, ◌∙◌, subst, arith, Contains, zero, suc, take, cases_order, get_or-take, get_or_append_left, get_or_default, get_or_push, length-take-le, take_all, take_more, IsOrdered, IsReady, Reaches, directly, onward}
 use Rattle.sig_plan.proofs.Pigeons.{AreTwo, met_or_not, two_are_same}
 
 -- a number stands in the front of a list

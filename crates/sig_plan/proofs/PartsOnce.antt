@@ -1,27 +1,5 @@
 -- The parts of a kernel are one thing: the imports of each actor and the links.
-use Rattle.std.proofs.Common.{◌≡◌, ◌<◌, ◌≤◌, ◌+◌, ◌⊎◌, ◌++◌, inl, inr, ℕ, true, List, [], ◌∷◌, length, map, get_or, refl, sym, ap, ◌∙◌, subst, arith, Contains}
-use Rattle.std.specs.Prelude.{zero, suc, Option, None, Some, IfSome, All, slice_get}
-use Rattle.std.specs.List.{AllPass, list_all, range_with_len}
-use Rattle.std.proofs.lemmas.Bool.{and_parts, ltb-true}
-use Rattle.std.proofs.lemmas.List.{ext_get_or}
-use Rattle.std.proofs.lemmas.List.Elements.{All-append, All-cons, All-contains, All-head, All-nil, All-tail}
-use Rattle.sig_base.specs.declared.ids.EqId.{EqId}
-use Rattle.sig_base.specs.declared.ids.SigId.{SigId}
-use Rattle.sig_base.specs.declared.signal.Signal.{Signal}
-use Rattle.sig_clock.specs.Conditions.{signal_id}
-use Rattle.sig_kernel.specs.Table.{operands_of, target_of}
-use Rattle.sig_kernel.specs.Validity.{IsValid, form_within, operand_within, target_within}
-use Rattle.sig_kernel.specs.declared.equation.Equation.{Equation}
-use Rattle.sig_kernel.specs.declared.equation.Form.{Form}
-use Rattle.sig_kernel.specs.declared.equation.Form.TheVariants.{Fun, Delay, When, WhenConst, Default, Sync, Event}
-use Rattle.sig_kernel.specs.declared.kernel.Kernel.{Kernel}
-use Rattle.sig_plan.specs.Operations.{Operation, Presence, equation_id, of_each, operations_of, read_of, stores_of, without, writes_of, writing}
-use Rattle.sig_plan.specs.declared.op.OpKind.TheVariants.{Left, Right}
-use Rattle.sig_plan.specs.Order.{Writes}
-use Rattle.sig_plan.specs.Parts.{AreImports, AreParts, AreSignalLinks, Carries, Imports, used, output, guarded, IsEarlierLink, IsOperation, PartsView, report_link}
-use Rattle.sig_plan.specs.declared.parts.LinkInfo.{LinkInfo}
-use Rattle.sig_clock.proofs.Lists.{at_contained, contains_at}
-use Rattle.sig_clock.proofs.Ordered.{same_list}
+use Rattle.sig_plan.proofs.Common.{◌≡◌, ◌<◌, ◌≤◌, ◌+◌, ◌⊎◌, ◌++◌, inl, inr, ℕ, true, List, [], ◌∷◌, length, map, get_or, refl, sym, ap, ◌∙◌, subst, arith, Contains, zero, suc, Option, None, Some, IfSome, All, slice_get, AllPass, list_all, range_with_len, and_parts, ltb-true, ext_get_or, All-append, All-cons, All-contains, All-head, All-nil, All-tail, EqId, SigId, Signal, signal_id, operands_of, target_of, IsValid, form_within, operand_within, target_within, Equation, Form, Fun, Delay, When, WhenConst, Default, Sync, Event, Kernel, Operation, Presence, equation_id, of_each, operations_of, read_of, stores_of, without, writes_of, writing, Left, Right, Writes, AreImports, AreParts, AreSignalLinks, Carries, Imports, used, output, guarded, IsEarlierLink, IsOperation, PartsView, report_link, LinkInfo, at_contained, contains_at, same_list}
 
 -- ---- operations write signals of the kernel
 

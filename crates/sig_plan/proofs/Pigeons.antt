@@ -1,7 +1,5 @@
 -- Among more numbers below a count than it has, two are the same.
-use Rattle.std.proofs.Common.{◌≡◌, ◌≢◌, ◌<◌, ◌⊎◌, inl, inr, ℕ, sym, ◌∙◌, subst, arith}
-use Rattle.std.specs.Prelude.{zero, suc}
-use Rattle.std.proofs.lemmas.Bool.{cases_order}
+use Rattle.sig_plan.proofs.Common.{◌≡◌, ◌≢◌, ◌<◌, ◌⊎◌, inl, inr, ℕ, sym, ◌∙◌, subst, arith, zero, suc, cases_order}
 
 same_or_not : (a b : ℕ) → (a ≡ b) ⊎ (a ≢ b)
 same_or_not a b = elim (cases_order a b) [ inl e ↦ inl e | inr (inl lt) ↦ inr (λ e. omega (arith, e, lt)) | inr (inr lt) ↦ inr (λ e. omega (arith, e, lt)) ]

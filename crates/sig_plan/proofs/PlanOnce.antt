@@ -1,25 +1,5 @@
 -- The accepted plans of a kernel differ in the references of guards alone.
-use Rattle.std.proofs.Common.{◌≡◌, ◌<◌, ◌+◌, ◌⊎◌, inl, inr, ℕ, List, [], ◌∷◌, length, get_or, refl, sym, ap, ◌∙◌, subst, arith}
-use Rattle.std.specs.Prelude.{zero, suc, All, None, Option, Some, slice_get}
-use Rattle.std.proofs.lemmas.Bool.{cases_order}
-use Rattle.std.proofs.lemmas.List.{ext_get_or}
-use Rattle.sig_base.specs.declared.ids.OpId.{OpId}
-use Rattle.sig_clock.proofs.Lists.{get_at, get_within}
-use Rattle.sig_dd.proofs.CallerLemmas.{one_reference}
-use Rattle.sig_dd.specs.Diagram.{Agree}
-use Rattle.sig_dd.specs.Nodes.{IsStore, StoreView, test}
-use Rattle.sig_dd.specs.declared.node.Node.{Node}
-use Rattle.sig_kernel.specs.declared.kernel.Kernel.{Kernel}
-use Rattle.sig_plan.specs.Acceptance.{HasOperations}
-use Rattle.sig_plan.specs.Alike.{AreAlike}
-use Rattle.sig_plan.specs.Codes.{AreSlots, CodeView, ImpliesSlot, Instruction, IsLastBelow, IsStepOf, always, instructions_of}
-use Rattle.sig_plan.specs.Operations.{Operation, operations_in, presence_in}
-use Rattle.sig_plan.specs.Order.{IsCompiledOrder, Precedes}
-use Rattle.sig_plan.specs.Parts.{AreParts}
-use Rattle.sig_plan.specs.Plans.{IsAccepted, PlanView, numbers_of}
-use Rattle.sig_plan.specs.declared.code.Slot.{Slot}
-use Rattle.sig_plan.specs.declared.code.Step.{Step}
-use Rattle.sig_plan.specs.declared.code.StepKind.TheVariants.{Commit}
+use Rattle.sig_plan.proofs.Common.{◌≡◌, ◌<◌, ◌+◌, ◌⊎◌, inl, inr, ℕ, List, [], ◌∷◌, length, get_or, refl, sym, ap, ◌∙◌, subst, arith, zero, suc, All, None, Option, Some, slice_get, cases_order, ext_get_or, OpId, get_at, get_within, one_reference, Agree, IsStore, StoreView, test, Node, Kernel, HasOperations, AreAlike, AreSlots, CodeView, ImpliesSlot, Instruction, IsLastBelow, IsStepOf, always, instructions_of, Operation, operations_in, presence_in, IsCompiledOrder, Precedes, AreParts, IsAccepted, PlanView, numbers_of, Slot, Step, Commit}
 use Rattle.sig_plan.proofs.Accepted.{plan_operations}
 use Rattle.sig_plan.proofs.OperationsOnce.{operations_once}
 use Rattle.sig_plan.proofs.Orders.{same_order}

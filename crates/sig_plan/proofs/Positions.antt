@@ -1,14 +1,5 @@
 -- Instructions stand by position.
-use Rattle.std.proofs.Common.{◌≡◌, ◌<◌, ◌≤◌, ◌+◌, ◌*◌, ◌++◌, inl, inr, ℕ, Bool, true, false, List, [], ◌∷◌, length, map, refl, sym, ap, ◌∙◌, subst, arith, Contains}
-use Rattle.std.specs.Prelude.{zero, suc, None, Option, Some, flat_map, slice_get, ◌==◌, if◌then◌else◌}
-use Rattle.std.specs.List.{enumerate_from}
-use Rattle.std.proofs.lemmas.Bool.{cases_order}
-use Rattle.sig_clock.proofs.Lists.{at_contained, contains_at, contains_cons, contains_head, contains_later, contains_none}
-use Rattle.sig_plan.specs.Codes.{Instruction, at_end, at_number, instructions_of, links_of, links_to, op_id, over_order, report_links, reports_of, under, unguarded}
-use Rattle.sig_plan.specs.Operations.{Operation}
-use Rattle.sig_plan.specs.Parts.{PartsView}
-use Rattle.sig_plan.specs.declared.code.StepKind.TheVariants.{Do, Send, Receive, Report, Collect, Commit}
-use Rattle.sig_plan.specs.declared.parts.LinkInfo.{LinkInfo}
+use Rattle.sig_plan.proofs.Common.{◌≡◌, ◌<◌, ◌≤◌, ◌+◌, ◌*◌, ◌++◌, inl, inr, ℕ, Bool, true, false, List, [], ◌∷◌, length, map, refl, sym, ap, ◌∙◌, subst, arith, Contains, zero, suc, None, Option, Some, flat_map, slice_get, ◌==◌, if◌then◌else◌, enumerate_from, cases_order, at_contained, contains_at, contains_cons, contains_head, contains_later, contains_none, Instruction, at_end, at_number, instructions_of, links_of, links_to, op_id, over_order, report_links, reports_of, under, unguarded, Operation, PartsView, Do, Send, Receive, Report, Collect, Commit, LinkInfo}
 use Rattle.sig_plan.proofs.Lists.{contains_either, mapped_from}
 
 -- each stands at no later position than those behind it

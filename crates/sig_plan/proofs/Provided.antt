@@ -1,29 +1,5 @@
 -- Before a step whose guard holds, an actor has done or received what the step needs and reads.
-use Rattle.std.proofs.Common.{◌≡◌, ◌≢◌, ◌<◌, ◌≤◌, ◌+◌, ◌*◌, inl, inr, ℕ, Bool, true, List, [], ◌∷◌, length, map, get_or, refl, sym, ap, ◌∙◌, subst, arith, Contains}
-use Rattle.std.specs.Prelude.{All, None, Option, Some, slice_get, slice_index, zero, suc}
-use Rattle.std.proofs.lemmas.Bool.{and_parts, cases_eq, false≢true}
-use Rattle.std.proofs.lemmas.List.Elements.{All-cons, All-contains, All-nil, Contains-append_left}
-use Rattle.sig_base.specs.declared.ids.EqId.{EqId}
-use Rattle.sig_base.specs.declared.ids.SigId.{SigId}
-use Rattle.sig_base.specs.declared.signal.Signal.{Signal}
-use Rattle.sig_clock.proofs.Lists.{at_contained, contains_at, get_at, get_within}
-use Rattle.sig_clock.specs.ClockFunctions.{KeepsTo}
-use Rattle.sig_clock.specs.Conditions.{signal_id}
-use Rattle.sig_clock.specs.Reactions.{Reaction, Speaks, are_statuses, is_present, is_status_of}
-use Rattle.sig_dd.specs.Diagram.{Depends}
-use Rattle.sig_kernel.specs.Validity.{IsValid}
-use Rattle.sig_kernel.specs.declared.equation.Form.{Form}
-use Rattle.sig_kernel.specs.declared.equation.Form.TheVariants.{Fun, Delay, When, WhenConst, Default, Sync, Event}
-use Rattle.sig_kernel.specs.declared.kernel.Kernel.{Kernel}
-use Rattle.sig_plan.specs.Acceptance.{HasOperations}
-use Rattle.sig_plan.specs.Codes.{Instruction, instructions_of, op_id, under}
-use Rattle.sig_plan.specs.Instructions.{IsFor, Provides, StandsAt, collects, commits, does, receives, reports, sends}
-use Rattle.sig_plan.specs.Operations.{Operation, Presence, cluster_at, cluster_of, operations_of, stores_of, without, writes_of, writing}
-use Rattle.sig_plan.specs.Order.{IsCompiledOrder, Needs, Writes}
-use Rattle.sig_plan.specs.Parts.{AreParts, Imports, used, output, guarded, IsOutput, PartsView, cluster_count}
-use Rattle.sig_plan.specs.declared.code.StepKind.TheVariants.{Do, Send, Receive, Commit}
-use Rattle.sig_plan.specs.declared.op.OpKind.TheVariants.{Left, Right}
-use Rattle.sig_plan.specs.declared.parts.LinkInfo.{LinkInfo}
+use Rattle.sig_plan.proofs.Common.{◌≡◌, ◌≢◌, ◌<◌, ◌≤◌, ◌+◌, ◌*◌, inl, inr, ℕ, Bool, true, List, [], ◌∷◌, length, map, get_or, refl, sym, ap, ◌∙◌, subst, arith, Contains, All, None, Option, Some, slice_get, slice_index, zero, suc, and_parts, cases_eq, false≢true, All-cons, All-contains, All-nil, Contains-append_left, EqId, SigId, Signal, at_contained, contains_at, get_at, get_within, KeepsTo, signal_id, Reaction, Speaks, are_statuses, is_present, is_status_of, Depends, IsValid, Form, Fun, Delay, When, WhenConst, Default, Sync, Event, Kernel, HasOperations, Instruction, instructions_of, op_id, under, IsFor, Provides, StandsAt, collects, commits, does, receives, reports, sends, Operation, Presence, cluster_at, cluster_of, operations_of, stores_of, without, writes_of, writing, IsCompiledOrder, Needs, Writes, AreParts, Imports, used, output, guarded, IsOutput, PartsView, cluster_count, Do, Send, Receive, Commit, Left, Right, LinkInfo, Precedes}
 use Rattle.sig_plan.proofs.Done.{present_written}
 use Rattle.sig_plan.proofs.EachOperation.{each_operation, only}
 use Rattle.sig_plan.proofs.Earlier.{needed_earlier, read_earlier}
@@ -31,7 +7,6 @@ use Rattle.sig_plan.proofs.Instructing.{instruction_for}
 use Rattle.sig_plan.proofs.LinkEnds.{carrying_ends, cluster_under, does_there, grows, receives_there}
 use Rattle.sig_plan.proofs.Positions.{stands_before}
 use Rattle.sig_plan.proofs.Orders.{stands_somewhere}
-use Rattle.sig_plan.specs.Order.{Precedes}
 
 -- a signal that is there is one of the kernel
 present_below : (signals : List Signal) (reaction : Reaction) (k : ℕ) → are_statuses signals reaction ≡ true → is_present reaction k ≡ true → k < length signals

@@ -1,25 +1,5 @@
 -- The guards of an accepted plan's operations and slots.
-use Rattle.std.proofs.Common.{◌≡◌, ◌≢◌, ◌<◌, ◌⊎◌, inl, inr, ℕ, Bool, false, true, List, length, get_or, refl, sym, ap, ◌∙◌, subst, arith}
-use Rattle.std.specs.Prelude.{None, Some, slice_get}
-use Rattle.std.proofs.lemmas.List.Elements.{All-contains}
-use Rattle.sig_base.specs.declared.ids.SigId.{SigId}
-use Rattle.sig_clock.proofs.Lists.{contains_at, get_at, get_within}
-use Rattle.sig_clock.specs.ClockFunctions.{KeepsTo}
-use Rattle.sig_clock.specs.Reactions.{Reaction, Speaks, status_at}
-use Rattle.sig_dd.proofs.Dependence.{ref_depends}
-use Rattle.sig_dd.proofs.Walks.{asked_agree, asks_depends, asks_no_idle}
-use Rattle.sig_dd.specs.Diagram.{Depends, truth_of, with_truth}
-use Rattle.sig_dd.specs.Nodes.{Holds, IsRefOf, diagram, test}
-use Rattle.sig_dd.specs.Walks.{Asks, IsIdle}
-use Rattle.sig_dd.specs.declared.node.Ref.{Ref}
-use Rattle.sig_plan.specs.Codes.{CodeView, Instruction, always, instructions_of}
-use Rattle.sig_plan.specs.Instructions.{IsFor, collects, commits, does, receives, reports, sends}
-use Rattle.sig_plan.specs.Operations.{Guard, Operation, operation_in, operations_in}
-use Rattle.sig_plan.specs.Plans.{IsAccepted, PlanView, numbers_of}
-use Rattle.sig_plan.specs.declared.code.Slot.{Slot}
-use Rattle.sig_plan.specs.declared.op.Op.{Op}
-use Rattle.sig_plan.specs.declared.parts.LinkInfo.{LinkInfo}
-use Rattle.sig_plan.specs.Guards.{IsGuardOf, of_operation, of_slot}
+use Rattle.sig_plan.proofs.Common.{◌≡◌, ◌≢◌, ◌<◌, ◌⊎◌, inl, inr, ℕ, Bool, false, true, List, length, get_or, refl, sym, ap, ◌∙◌, subst, arith, None, Some, slice_get, All-contains, SigId, contains_at, get_at, get_within, KeepsTo, Reaction, Speaks, status_at, ref_depends, asked_agree, asks_depends, asks_no_idle, Depends, truth_of, with_truth, Holds, IsRefOf, diagram, test, Asks, IsIdle, Ref, CodeView, Instruction, always, instructions_of, IsFor, collects, commits, does, receives, reports, sends, Guard, Operation, operation_in, operations_in, IsAccepted, PlanView, numbers_of, Slot, Op, LinkInfo, IsGuardOf, of_operation, of_slot}
 use Rattle.sig_plan.proofs.Accepted.{plan_operations}
 use Rattle.sig_plan.proofs.Earlier.{guards_alone, guards_idle}
 use Rattle.sig_plan.proofs.Instructing.{instruction_for}

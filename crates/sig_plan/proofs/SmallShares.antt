@@ -1,13 +1,5 @@
 -- How large the share of operations is.
-use Rattle.std.proofs.Common.{◌≡◌, ◌≤◌, ◌+◌, ◌-◌, ◌*◌, ◌^◌, ℕ, List, length, sym, subst, arith}
-use Rattle.std.specs.List.{range_with_len}
-use Rattle.std.proofs.Math.Nat.{mul-le-mul_left, mul-le-mul_right}
-use Rattle.std.proofs.lemmas.List.FromFn.{length-range_with_len}
-use Rattle.sig_base.specs.declared.ids.SigId.{SigId}
-use Rattle.sig_dd.specs.Nodes.{allowance}
-use Rattle.sig_dd.proofs.Dependence.{allowance_rises}
-use Rattle.sig_kernel.specs.declared.kernel.Kernel.{Kernel}
-use Rattle.sig_plan.specs.Shares.{share_of}
+use Rattle.sig_plan.proofs.Common.{◌≡◌, ◌≤◌, ◌+◌, ◌-◌, ◌*◌, ◌^◌, ℕ, List, length, sym, subst, arith, range_with_len, mul-le-mul_left, mul-le-mul_right, length-range_with_len, SigId, allowance, allowance_rises, Kernel, share_of}
 
 at_most : (q p r : ℕ) → 2 * q ≤ r → 2 * q * (p - 1) ≤ r * p
 at_most q p r le =

@@ -1,19 +1,6 @@
 -- What calls that make operations spend.
-use Rattle.std.proofs.Common.{◌≡◌, ◌≤◌, ◌+◌, ◌*◌, ℕ, List, length, sym, ◌∙◌, subst, arith, Result, Ok, Err, IfErr}
-use Rattle.std.specs.Prelude.{None, Some}
-use Rattle.std.specs.Result.{IsErrAnd}
-use Rattle.std.proofs.Math.Nat.{mul-le-mul_right}
-use Rattle.sig_clock.specs.Clocks.{ClocksView}
-use Rattle.sig_dd.specs.Nodes.{IsStore, Keeps, StoreView, allowance}
-use Rattle.sig_dd.specs.Shares.{IsRefused, Share}
-use Rattle.sig_dd.specs.declared.answer.DdAnswer.{DdAnswer}
-use Rattle.sig_dd.specs.declared.answer.DdAnswer.TheVariants.{Budget as StoreBudget, OutOfMemory as NoMemory}
-use Rattle.sig_dd.proofs.CallerLemmas.{Keeps-itself, Keeps-trans}
-use Rattle.sig_plan.specs.Answers.{IsFromStore}
-use Rattle.sig_plan.specs.Making.{AreOver, HoldGuards, Spends}
-use Rattle.sig_plan.specs.Shares.{IsRefusedFor, KeepsToShare}
-use Rattle.sig_plan.specs.declared.answer.PlanAnswer.{PlanAnswer}
-use Rattle.sig_plan.specs.declared.answer.PlanAnswer.TheVariants.{Budget, OutOfMemory}
+use Rattle.sig_plan.proofs.Common.{◌≡◌, ◌≤◌, ◌+◌, ◌*◌, ℕ, List, length, sym, ◌∙◌, subst, arith, Result, Ok, Err, IfErr, None, Some, IsErrAnd, mul-le-mul_right, ClocksView, IsStore, Keeps, StoreView, allowance, IsRefused, Share, DdAnswer, Budget as StoreBudget, NoMemory, Keeps-trans, IsFromStore, AreOver, HoldGuards, Spends, IsRefusedFor, KeepsToShare, PlanAnswer, OutOfMemory}
+use Rattle.sig_plan.specs.declared.answer.PlanAnswer.TheVariants.{Budget}
 use Rattle.sig_plan.proofs.Guards.{over_kept}
 
 no_memory : (old new : StoreView) (room : ℕ) (answer : PlanAnswer) → answer ≡ OutOfMemory → IsRefusedFor old new room answer
@@ -24,11 +11,6 @@ refused_wider r s t m n (Budget b) le is = let lt = is.1 in (is.0, omega (arith,
 refused_wider r s t m n OutOfMemory le is = tt
 
 module _ {T : Type 0} (clocks : ClocksView) where
-  -- nothing was asked of the store
-  pub spends_none : (n : ℕ) (s : StoreView) (result : Result T PlanAnswer) → IsStore s → IfErr result (λ answer. answer ≡ OutOfMemory) → Spends n clocks s s result
-  spends_none n s (Ok x) store is = record { store = store; kept = Keeps-itself s; share = λ vs over. record { added = omega arith; refused = tt } }
-  spends_none n s (Err answer) store is = record { store = store; kept = Keeps-itself s; share = λ vs over. record { added = omega arith; refused = no_memory s s (n * allowance vs) answer is } }
-
   kept_wider : (r s t : StoreView) (m n : ℕ) (result : Result T PlanAnswer) → length s.nodes + m ≤ length r.nodes + n → KeepsToShare m s t result → KeepsToShare n r t result
   kept_wider r s t m n (Ok x) le share = let most = share.added in record { added = omega (arith, most, le); refused = tt }
   kept_wider r s t m n (Err answer) le share = let most = share.added in record { added = omega (arith, most, le); refused = refused_wider r s t m n answer le share.refused }

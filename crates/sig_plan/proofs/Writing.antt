@@ -1,26 +1,5 @@
 -- The operations of a valid kernel write its signals.
-use Rattle.std.proofs.Common.{◌≡◌, ◌<◌, ◌≤◌, ◌+◌, ◌⊎◌, inl, inr, ◌&&◌, ℕ, Bool, true, false, cond, List, [], ◌∷◌, ◌++◌, length, map, refl, sym, ap, ◌∙◌, subst, arith, Contains}
-use Rattle.std.specs.Prelude.{All, Some, fold, nat_lt, slice_get}
-use Rattle.std.specs.List.{range_with_len, count_by, AllPass, list_all}
-use Rattle.std.proofs.lemmas.Bool.{cases_order, eqb-true, false≢true, ltb-true}
-use Rattle.std.proofs.lemmas.List.FromFn.{get_or-range_with_len, length-range_with_len}
-use Rattle.std.proofs.lemmas.List.Elements.{All-append, All-cons, All-contains, All-from_get_or, All-head, All-map, All-tail, Contains-append_left, Contains-append_right}
-use Rattle.sig_base.specs.declared.ids.EqId.{EqId}
-use Rattle.sig_base.specs.declared.ids.SigId.{SigId}
-use Rattle.sig_base.specs.declared.signal.Signal.{Signal}
-use Rattle.sig_clock.specs.Conditions.{signal_id}
-use Rattle.sig_clock.proofs.Lists.{at_contained, contains_at, contains_head, get_at}
-use Rattle.sig_kernel.specs.Table.{operands_of, target_of}
-use Rattle.sig_kernel.specs.Validity.{IsValid, defines, form_within, is_target, operand_within, target_within}
-use Rattle.sig_kernel.specs.declared.equation.Equation.{Equation}
-use Rattle.sig_kernel.specs.declared.equation.Form.{Form}
-use Rattle.sig_kernel.specs.declared.equation.Form.TheVariants.{Fun, Delay, When, WhenConst, Default, Sync, Event}
-use Rattle.sig_kernel.specs.declared.kernel.Kernel.{Kernel}
-use Rattle.sig_plan.specs.Operations.{Guard, Operation, Presence, cluster_at, cluster_of, equation_id, of_each, operations_of, read_of, signals_of, store_of, stores_of, without, writes_of, writing}
-use Rattle.sig_plan.specs.Order.{Writes}
-use Rattle.sig_plan.specs.declared.op.OpKind.{OpKind}
-use Rattle.sig_plan.specs.declared.op.OpKind.TheVariants.{Compute, Left, Right, DelayRead}
-use Rattle.sig_plan.specs.Written.{AreWritten}
+use Rattle.sig_plan.proofs.Common.{◌≡◌, ◌<◌, ◌≤◌, ◌+◌, ◌⊎◌, inl, inr, ◌&&◌, ℕ, Bool, true, false, cond, List, [], ◌∷◌, ◌++◌, length, map, refl, sym, ap, ◌∙◌, subst, arith, Contains, All, Some, fold, nat_lt, slice_get, range_with_len, count_by, AllPass, list_all, cases_order, eqb-true, false≢true, ltb-true, get_or-range_with_len, length-range_with_len, All-append, All-cons, All-contains, All-from_get_or, All-head, All-map, All-tail, Contains-append_left, Contains-append_right, EqId, SigId, Signal, signal_id, at_contained, contains_at, contains_head, get_at, operands_of, target_of, IsValid, defines, form_within, is_target, operand_within, target_within, Equation, Form, Fun, Delay, When, WhenConst, Default, Sync, Event, Kernel, Guard, Operation, Presence, cluster_at, cluster_of, equation_id, of_each, operations_of, read_of, signals_of, store_of, stores_of, without, writes_of, writing, Writes, OpKind, Compute, Left, Right, DelayRead, AreWritten}
 use Rattle.sig_plan.proofs.Lists.{get_map, get_some, signal_same}
 
 -- the operation writes signals of its own cluster

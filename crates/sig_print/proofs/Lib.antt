@@ -1,3 +1,4 @@
+pub mod Common
 pub mod PlaceEquations
 pub mod PlaceExpressions
 pub mod PlaceProcesses
@@ -11,3 +12,13 @@ pub mod Spaces
 pub mod SpelledEquations
 pub mod SpelledExpressions
 pub mod SpelledProcesses
+unfoldable pub use Common.*
+pub use PlaceExpressions.*
+pub use PlaceProcesses.*
+pub use Processes.*
+pub use ReadExpressions.*
+pub use ReadProcesses.*
+pub use Rows.*
+pub use Spaces.*
+pub use SpelledExpressions.*
+pub use SpelledProcesses.*

@@ -1,17 +1,7 @@
 -- A tree without places, of leaves without places, can be given the places of any leaves that are
 -- those: definitions, clock equations and bodies.
-use Rattle.std.proofs.Common.{◌≡◌, ℕ, suc, ◌++◌, List, [], ◌∷◌, refl, sym, ap, ◌∙◌, subst, codes, inl, inr, map}
-use Rattle.std.specs.Prelude.{sum_by}
-use Rattle.sig_tree.specs.declared.expr.Name.{Name}
-use Rattle.sig_tree.specs.declared.expr.Constant.{Constant}
-use Rattle.sig_tree.specs.Syntax.{Expression, RightSide, Computed, Called, Equations, Together, Defines, Equal, Bodies, no_body, more_bodies}
-use Rattle.sig_tree.specs.Terminals.{Leaf, leaf, name_leaf, name as name_terminal, mark}
-use Rattle.sig_tree.specs.Levels.{default_level}
-use Rattle.sig_tree.specs.Limits.{Limits, MayHave, operators, right_operators}
-use Rattle.sig_tree.specs.Repeated.{Separated, Listed}
-use Rattle.sig_tree.specs.Expressions.{IsConstant, IsExpression}
-use Rattle.sig_tree.specs.Equations.{IsName, IsLeft, AreConstants, AreArguments, IsRight, IsDefinition, IsClockEquation, IsBody, AreBodies, AreFurtherBodies}
-use Rattle.sig_tree.specs.Unplaced.{unplaced_leaves, unplaced_name, unplaced_constant, unplaced_expression, unplaced_right, unplaced_equations, unplaced_bodies}
+use Rattle.sig_print.proofs.Common.{◌≡◌, ℕ, suc, ◌++◌, List, [], ◌∷◌, refl, sym, ap, ◌∙◌, subst, codes, inl, inr, map, sum_by, Name, Constant, Expression, RightSide, Computed, Called, Equations, Together, Defines, Equal, Bodies, no_body, more_bodies, Leaf, leaf, name_leaf, name_terminal, default_level, Limits, MayHave, operators, right_operators, Separated, Listed, IsConstant, IsExpression, IsName, IsLeft, AreConstants, AreArguments, IsRight, IsDefinition, IsClockEquation, IsBody, AreBodies, AreFurtherBodies, unplaced_leaves, unplaced_name, unplaced_constant, unplaced_expression, unplaced_right, unplaced_equations, unplaced_bodies}
+use Rattle.sig_tree.specs.Terminals.{mark}
 use Rattle.sig_print.proofs.ReadEquations.{operators_all, right_operators_unplaced}
 use Rattle.sig_print.proofs.PlaceExpressions.{none_new, head_new, one_new, split_new, place_separated, place_listed, place_between, place_constant, place_expression}
 

@@ -1,16 +1,7 @@
 -- A tree without places, of leaves without places, can be given the places of any leaves that are
 -- those: lists, constants and expressions.
-use Rattle.std.proofs.Common.{◌≡◌, ℕ, zero, suc, ◌≤◌, ◌++◌, List, [], ◌∷◌, refl, sym, ap, ◌∙◌, subst, codes, Option, None, Some, inl, inr, map}
-use Rattle.sig_base.specs.declared.span.Span.{Span}
-use Rattle.sig_tree.specs.declared.expr.Constant.{Constant}
-use Rattle.sig_tree.specs.declared.expr.Constant.TheVariants.{Int, Bool, Param}
-use Rattle.sig_tree.specs.Syntax.{Expression, Named, Number, Truth, Unary, Binary, Delay, Cell}
-use Rattle.sig_tree.specs.Terminals.{Terminal, Leaf, leaf, name_leaf, number, mark, word, truth_word, unary_terminal, binary_terminal}
-use Rattle.sig_tree.specs.Levels.{default_level, mixed_level, delay_level, primary_level, operand_level, left_level, right_level, level_of}
-use Rattle.sig_tree.specs.Limits.{Limits}
-use Rattle.sig_tree.specs.Repeated.{Each, Further, Separated, Listed, Between}
-use Rattle.sig_tree.specs.Expressions.{IsConstant, IsInit, IsOptionalInit, IsOptionalOne, Enclosed, IsBare, IsAtLevel}
-use Rattle.sig_tree.specs.Unplaced.{no_place, unplaced_leaf, unplaced_leaves, unplaced_name, unplaced_constant, unplaced_init, unplaced_expression}
+use Rattle.sig_print.proofs.Common.{◌≡◌, ℕ, zero, suc, ◌≤◌, ◌++◌, List, [], ◌∷◌, refl, sym, ap, ◌∙◌, subst, codes, Option, None, Some, inl, inr, map, Span, Constant, Int, Bool, Param, Expression, Named, Number, Truth, Unary, Binary, Delay, Cell, Terminal, Leaf, leaf, name_leaf, number, word, truth_word, unary_terminal, binary_terminal, default_level, mixed_level, delay_level, primary_level, operand_level, left_level, right_level, level_of, Limits, Each, Further, Separated, Listed, Between, IsConstant, IsInit, IsOptionalInit, IsOptionalOne, Enclosed, IsBare, IsAtLevel, no_place, unplaced_leaf, unplaced_leaves, unplaced_name, unplaced_constant, unplaced_init, unplaced_expression}
+use Rattle.sig_tree.specs.Terminals.{mark}
 use Rattle.sig_print.proofs.ReadExpressions.{level_unplaced}
 
 -- no leaves

@@ -1,21 +1,7 @@
 -- A tree without places, of leaves without places, can be given the places of any leaves that are
 -- those: declarations, pragmas, processes and programs.
-use Rattle.std.proofs.Common.{◌≡◌, ℕ, suc, ◌++◌, List, [], ◌∷◌, refl, sym, ap, ◌∙◌, subst, codes, inl, inr, ◌⊎◌, Option, None, map}
-use Rattle.std.specs.Prelude.{◌≢◌}
-use Rattle.std.proofs.lemmas.List.{map-append}
-use Rattle.sig_base.specs.declared.span.Span.{Span}
-use Rattle.sig_base.specs.declared.ids.Kind.{Kind}
-use Rattle.sig_tree.specs.declared.expr.Name.{Name}
-use Rattle.sig_tree.specs.declared.expr.Constant.{Constant}
-use Rattle.sig_tree.specs.declared.process.Item.{Item}
-use Rattle.sig_tree.specs.Syntax.{Declared, Placement, Equations, Heading, ProcessModel, Modelled, ProcessModels, no_model, more_models}
-use Rattle.sig_tree.specs.Terminals.{Leaf, leaf, name_leaf, name as name_terminal, mark, word, label, kind_word}
-use Rattle.sig_tree.specs.Limits.{Limits}
-use Rattle.sig_tree.specs.Repeated.{Each, Separated, Between}
-use Rattle.sig_tree.specs.Expressions.{IsOptionalInit}
-use Rattle.sig_tree.specs.Equations.{IsName, IsBody}
-use Rattle.sig_tree.specs.Processes.{IsPlainItem, IsItem, IsGroup, IsParam, AreGroups, AreParams, IsInterface, IsPlacement, ArePragmas, IsLocalGroup, IsWhere, IsModel, AreLocals}
-use Rattle.sig_tree.specs.Unplaced.{no_place, unplaced_leaves, unplaced_name, unplaced_init, unplaced_item, unplaced_declared, unplaced_placement, unplaced_equations, unplaced_model, unplaced_models}
+use Rattle.sig_print.proofs.Common.{◌≡◌, ℕ, suc, ◌++◌, List, [], ◌∷◌, refl, sym, ap, ◌∙◌, subst, codes, inl, inr, ◌⊎◌, Option, None, map, ◌≢◌, map-append, Span, Kind, Name, Constant, Item, Declared, Placement, Equations, Heading, ProcessModel, Modelled, ProcessModels, no_model, more_models, Leaf, leaf, name_leaf, name_terminal, word, Limits, Each, Separated, Between, IsOptionalInit, IsName, IsBody, IsPlainItem, IsItem, IsGroup, IsParam, AreGroups, AreParams, IsInterface, IsPlacement, ArePragmas, IsLocalGroup, IsWhere, IsModel, AreLocals, no_place, unplaced_leaves, unplaced_name, unplaced_init, unplaced_item, unplaced_declared, unplaced_placement, unplaced_equations, unplaced_model, unplaced_models}
+use Rattle.sig_tree.specs.Terminals.{mark, label, kind_word}
 use Rattle.sig_print.proofs.PlaceExpressions.{none_new, head_new, one_new, split_new, cons_same, place_each, place_separated, place_between, place_optional}
 use Rattle.sig_print.proofs.PlaceEquations.{place_names, place_body}
 

@@ -1,28 +1,8 @@
 -- Words that are printable, and leaves whose terminals are.
-use Rattle.std.proofs.Common.{◌≡◌, ℕ, ◌≤◌, ◌<◌, ◌^◌, ◌++◌, List, [], ◌∷◌, Bool, true, false, refl, sym, subst, codes, lit<, lit≤, length, get_or, arith}
-use Rattle.std.specs.Prelude.{if◌then◌else◌, nat_lt}
-use Rattle.std.specs.Char.{is_ascii_digit}
-use Rattle.std.specs.Int.{IsInRange}
-use Rattle.std.proofs.lemmas.Bool.Decides.{nat_tests}
-use Rattle.std.proofs.lemmas.Fmt.{decimal_nonempty, digits_decimal, digits_value-decimal}
-use Rattle.std.proofs.lemmas.List.{get_or_default}
-use Rattle.std.proofs.lemmas.List.Elements.{All-cons, All-nil}
-use Rattle.std.proofs.lemmas.Str.Parse.{numerals_by_value, tells_by_index}
-use Rattle.std.specs.List.{AllByRecursion, AllPass}
-use Rattle.sig_base.specs.declared.ids.Kind.{Kind}
-use Rattle.sig_base.specs.declared.ids.Kind.TheVariants.{Integer, Boolean, Event}
-use Rattle.sig_lex.specs.Bytes.{is_label_byte}
-use Rattle.sig_lex.specs.Tables.{IsMark, IsWord}
-use Rattle.sig_lex.specs.Tokens.{greatest_number}
-use Rattle.sig_lex.specs.Lexemes.{Spaced, IsPrintable, Spells}
-use Rattle.sig_lex.specs.declared.token.TokenKind.TheVariants.{Name, Word, Mark}
-use Rattle.sig_tree.specs.declared.expr.UnOp.{UnOp}
-use Rattle.sig_tree.specs.declared.expr.UnOp.TheVariants.{Not, Neg, When as UnaryWhen, Clock}
-use Rattle.sig_tree.specs.declared.expr.BinOp.{BinOp}
-use Rattle.sig_tree.specs.declared.expr.BinOp.TheVariants.{Default, When, Plus, Meet, Less, Or, Xor, And, Eq, Ne, Lt, Le, Gt, Ge, Add, Sub, Mul, Div, Mod}
-use Rattle.sig_tree.specs.Terminals.{Terminal, name, word, number, label, mark, Leaf}
-use Rattle.sig_print.specs.Canonical.{fitted}
-use Rattle.sig_print.specs.Words.{after_blank, on_new_line, mark as mark_of, reserved, number as number_of, label as label_of, truth, kind_word, unary_word, binary_word, one}
+use Rattle.sig_print.proofs.Common.{◌≡◌, ℕ, ◌≤◌, ◌<◌, ◌^◌, ◌++◌, List, [], ◌∷◌, true, false, refl, sym, subst, codes, lit<, lit≤, length, get_or, arith, if◌then◌else◌, nat_lt, is_ascii_digit, IsInRange, nat_tests, decimal_nonempty, digits_decimal, digits_value-decimal, get_or_default, All-cons, All-nil, numerals_by_value, tells_by_index, AllByRecursion, AllPass, Kind, Integer, Boolean, Event, is_label_byte, IsMark, IsWord, greatest_number, Spaced, IsPrintable, Spells, Word, Mark, UnOp, Not, Neg, UnaryWhen, Clock, BinOp, Default, When, Plus, Meet, Less, Or, Xor, And, Eq, Ne, Lt, Le, Gt, Ge, Add, Sub, Mul, Div, Mod, Terminal, word, number, Leaf, fitted, after_blank, on_new_line, mark as mark_of, reserved, number_of, label as label_of, truth, kind_word, unary_word, binary_word, one}
+use Rattle.std.proofs.Common.{Bool}
+use Rattle.sig_lex.specs.declared.token.TokenKind.TheVariants.{Name}
+use Rattle.sig_tree.specs.Terminals.{name, label, mark}
 
 -- all the words are printable
 abbrev pub ArePrintable : List Spaced → Type 0

@@ -1,15 +1,6 @@
 -- Processes of the code, as the definitions see them.
-use Rattle.std.proofs.Common.{◌≡◌, ◌++◌, List, [], ◌∷◌, refl, ap, sym, ◌∙◌, map, codes, drop, length, false, ◌==◌}
+use Rattle.sig_print.proofs.Common.{◌≡◌, ◌++◌, List, [], ◌∷◌, refl, ap, sym, ◌∙◌, map, codes, length, false, ◌==◌, flat_map, Spaced, Word, Process, Process', Row_of-Process, end_of-Process, more_of-Process, items-the_row-Process, items_shown-the_row-Process-0, out-Process, Group, RunOn, declared_of, placement_of, equations_of, heading_of, model_of, models_of, ProcessModel, Modelled, heading_in, heading_words, groups_words, params_words, pragma_words, pragmas_words, body_words, local_words, where_words, process_words, processes_words, mark, reserved, on_new_line}
 use denote.Hole.Carrier.{out}
-use Rattle.std.specs.List.{flat_map}
-use Rattle.sig_lex.specs.Lexemes.{Spaced, spaced_text, printed_text}
-use Rattle.sig_lex.specs.declared.token.TokenKind.TheVariants.{Word}
-use Rattle.sig_tree.specs.declared.process.Process.{Process, Process', Row_of-Process, end_of-Process, more_of-Process, items-the_row-Process, items_shown-the_row-Process-0, out-Process}
-use Rattle.sig_tree.specs.declared.process.Group.{Group}
-use Rattle.sig_tree.specs.declared.process.RunOn.{RunOn}
-use Rattle.sig_tree.specs.Syntax.{declared_of, placement_of, equations_of, heading_of, model_of, models_of, ProcessModel, Modelled}
-use Rattle.sig_print.specs.Canonical.{heading_in, heading_words, groups_words, params_words, pragma_words, pragmas_words, body_words, local_words, where_words, process_words, processes_words}
-use Rattle.sig_print.specs.Words.{mark, reserved, on_new_line}
 
 pub heading_is : (p : Process) → heading_in (model_of p) ≡ heading_of (out-Process p).name (out-Process p).params.items (out-Process p).inputs.items (out-Process p).outputs.items
 unfolding out-Process out
@@ -57,7 +48,3 @@ pub where_of_inner : (groups : List Group) (inner : List Process) → false ≡ 
     → where_words (map declared_of groups) (flat_map process_words (map model_of inner)) ≡ shown_where groups (flat_map process_words (map model_of inner))
 where_of_inner groups [] some = cc
 where_of_inner groups (p ∷ ps) some = where_of_model groups (model_of p) (flat_map process_words (map model_of ps))
-
-pub printed : (words : List Spaced) → drop 1 (spaced_text words) ++ 10 ∷ [] ≡ printed_text words
-printed [] = refl
-printed (s ∷ words) = refl

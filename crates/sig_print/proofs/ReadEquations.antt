@@ -1,20 +1,6 @@
 -- The leaves of canonical words, their places left out, are those of the tree, its places left out:
 -- definitions, clock equations and bodies.
-use Rattle.std.proofs.Common.{◌≡◌, ℕ, suc, ◌+◌, ◌++◌, List, [], ◌∷◌, refl, ap, ◌∙◌, codes, inl, inr, map, arith}
-use Rattle.std.specs.Prelude.{sum_by, fold}
-use Rattle.sig_lex.specs.declared.token.TokenKind.TheVariants.{Mark}
-use Rattle.sig_tree.specs.declared.expr.Name.{Name}
-use Rattle.sig_tree.specs.declared.expr.Constant.{Constant}
-use Rattle.sig_tree.specs.Syntax.{Expression, RightSide, Computed, Called, Equations, Together, Defines, Equal, Bodies, no_body, more_bodies}
-use Rattle.sig_tree.specs.Terminals.{Leaf, leaf, name_leaf, mark as mark_terminal}
-use Rattle.sig_tree.specs.Levels.{default_level}
-use Rattle.sig_tree.specs.Limits.{Limits, operators, right_operators}
-use Rattle.sig_tree.specs.Repeated.{Separated, Listed}
-use Rattle.sig_tree.specs.Expressions.{IsConstant, IsExpression}
-use Rattle.sig_tree.specs.Equations.{IsName, IsLeft, AreConstants, IsRight, IsDefinition, IsClockEquation, IsBody, AreBodies, AreFurtherBodies}
-use Rattle.sig_tree.specs.Unplaced.{no_place, unplaced_name, unplaced_constant, unplaced_expression, unplaced_right, unplaced_equations, unplaced_bodies}
-use Rattle.sig_print.specs.Canonical.{separated, names_words, left_words, constant_words, constants_words, expression_words, right_words, body_words, bodies_words, further_bodies_words}
-use Rattle.sig_print.specs.Words.{name, mark, on_new_line}
+use Rattle.sig_print.proofs.Common.{◌≡◌, ℕ, suc, ◌+◌, ◌++◌, List, [], ◌∷◌, refl, ap, ◌∙◌, codes, inl, inr, map, arith, sum_by, fold, Mark, Name, Constant, Expression, RightSide, Computed, Called, Equations, Together, Defines, Equal, Bodies, no_body, more_bodies, Leaf, leaf, name_leaf, mark_terminal, default_level, Limits, operators, right_operators, Separated, Listed, IsConstant, IsExpression, IsName, IsLeft, AreConstants, IsRight, IsDefinition, IsClockEquation, IsBody, AreBodies, AreFurtherBodies, no_place, unplaced_name, unplaced_constant, unplaced_expression, unplaced_right, unplaced_equations, unplaced_bodies, separated, names_words, left_words, constant_words, constants_words, expression_words, right_words, body_words, bodies_words, further_bodies_words, name, mark, on_new_line}
 use Rattle.sig_print.proofs.ReadExpressions.{spoken, spoken_append, separated_read, listed_read, between_read, constant_read, operators_unplaced, expression_read}
 
 pub names_read : (names : List Name) (ls : List Leaf) → Separated IsName (mark_terminal (codes ",")) names ls

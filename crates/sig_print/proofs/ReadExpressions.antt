@@ -1,30 +1,7 @@
 -- The leaves of canonical words, their places left out, are those of the tree, its places left out:
 -- lists, constants and expressions.
-use Rattle.std.proofs.Common.{◌≡◌, ℕ, zero, suc, ◌+◌, ◌<◌, ◌≤◌, ◌++◌, List, [], ◌∷◌, Bool, true, false, refl, sym, ap, ◌∙◌, subst, codes, Option, None, Some, inl, inr, ◌⊎◌, map, arith}
-use Rattle.std.specs.Prelude.{ℤ, pos, neg_ℤ, nat_lt, if◌then◌else◌, option_to_list, option_map}
-use Rattle.std.specs.List.{flat_map}
-use Rattle.std.proofs.lemmas.Bool.Decides.{nat_tests}
-use Rattle.std.proofs.lemmas.List.Concat.{flat_map-append}
-use Rattle.sig_base.specs.declared.ids.Kind.{Kind}
-use Rattle.sig_base.specs.declared.ids.Kind.TheVariants.{Integer, Boolean, Event}
-use Rattle.sig_lex.specs.declared.token.TokenKind.{TokenKind}
-use Rattle.sig_lex.specs.Lexemes.{Spaced}
-use Rattle.sig_tree.specs.declared.expr.Constant.{Constant}
-use Rattle.sig_tree.specs.declared.expr.Constant.TheVariants.{Int, Bool as BoolConstant, Param}
-use Rattle.sig_tree.specs.declared.expr.UnOp.{UnOp}
-use Rattle.sig_tree.specs.declared.expr.UnOp.TheVariants.{Not, Neg, When as UnaryWhen, Clock}
-use Rattle.sig_tree.specs.declared.expr.BinOp.{BinOp}
-use Rattle.sig_tree.specs.declared.expr.BinOp.TheVariants.{Default, When, Plus, Meet, Less, Or, Xor, And, Eq, Ne, Lt, Le, Gt, Ge, Add, Sub, Mul, Div, Mod}
-use Rattle.sig_tree.specs.Syntax.{Expression, Named, Number, Truth, Unary, Binary, Delay, Cell}
-use Rattle.sig_tree.specs.Terminals.{Terminal, Leaf, leaf, number, mark as mark_terminal, word as word_terminal, truth_word, unary_terminal, binary_terminal, label as label_terminal, kind_word as kind_terminal}
-use Rattle.sig_tree.specs.Leaves.{terminal_of}
-use Rattle.sig_tree.specs.Levels.{default_level, mixed_level, delay_level, primary_level, operand_level, left_level, right_level, level_of}
-use Rattle.sig_tree.specs.Limits.{Limits, MayStandInside, operators}
-use Rattle.sig_tree.specs.Repeated.{Each, Further, Separated, Listed, Between}
-use Rattle.sig_tree.specs.Expressions.{IsConstant, IsInit, IsOptionalInit, Enclosed, Stands, IsBare, IsAtLevel}
-use Rattle.sig_tree.specs.Unplaced.{no_place, unplaced_constant, unplaced_init, unplaced_expression}
-use Rattle.sig_print.specs.Canonical.{further, separated, integer_words, constant_words, init_words, optional_init_words, bare_words, expression_words}
-use Rattle.sig_print.specs.Words.{mark, reserved, one, truth, unary_word, binary_word, kind_word, label}
+use Rattle.sig_print.proofs.Common.{◌≡◌, ℕ, zero, suc, ◌+◌, ◌<◌, ◌≤◌, ◌++◌, List, [], ◌∷◌, true, false, refl, sym, ap, ◌∙◌, subst, codes, Option, None, Some, inl, inr, ◌⊎◌, map, arith, ℤ, pos, neg_ℤ, nat_lt, if◌then◌else◌, option_to_list, option_map, flat_map, nat_tests, flat_map-append, Kind, Integer, Boolean, Event, TokenKind, Spaced, Constant, Int, Bool as BoolConstant, Param, UnOp, Not, Neg, UnaryWhen, Clock, BinOp, Default, When, Plus, Meet, Less, Or, Xor, And, Eq, Ne, Lt, Le, Gt, Ge, Add, Sub, Mul, Div, Mod, Expression, Named, Number, Truth, Unary, Binary, Delay, Cell, Terminal, Leaf, leaf, number, mark_terminal, word as word_terminal, truth_word, unary_terminal, binary_terminal, label_terminal, kind_terminal, terminal_of, default_level, mixed_level, delay_level, primary_level, operand_level, left_level, right_level, level_of, Limits, MayStandInside, operators, Each, Further, Separated, Listed, Between, IsConstant, IsInit, IsOptionalInit, Enclosed, Stands, IsBare, IsAtLevel, no_place, unplaced_constant, unplaced_init, unplaced_expression, further, separated, integer_words, constant_words, init_words, optional_init_words, bare_words, expression_words, mark, reserved, one, truth, unary_word, binary_word, kind_word, label}
+use Rattle.std.proofs.Common.{Bool}
 use Rattle.sig_print.proofs.SpelledProcesses.{inside_label}
 
 -- the leaf of a token of this kind and text

@@ -1,24 +1,6 @@
 -- The leaves of canonical words, their places left out, are those of the tree, its places left out:
 -- declarations, pragmas, processes and programs.
-use Rattle.std.proofs.Common.{◌≡◌, ℕ, suc, ◌++◌, List, [], ◌∷◌, refl, sym, ap, ◌∙◌, subst, codes, inl, inr, Option, None, Some, map, append_assoc}
-use Rattle.std.specs.Prelude.{◌≢◌, option_to_list, option_map}
-use Rattle.std.specs.List.{flat_map, AllByRecursion}
-use Rattle.std.proofs.lemmas.List.{append-nil}
-use Rattle.sig_base.specs.declared.span.Span.{Span}
-use Rattle.sig_lex.specs.Lexemes.{Spaced, Lexeme, lexemes, word_of, the_end, text_of}
-use Rattle.sig_lex.specs.declared.token.Token.{Token}
-use Rattle.sig_lex.specs.declared.token.TokenKind.TheVariants.{Word}
-use Rattle.sig_tree.specs.declared.process.Item.{Item}
-use Rattle.sig_tree.specs.Syntax.{Declared, Placement, ProcessModel, Modelled, ProcessModels, no_model, more_models}
-use Rattle.sig_tree.specs.Terminals.{Terminal, Leaf, leaf, name_leaf, mark as mark_terminal, word as word_terminal, name as name_terminal, label as label_terminal}
-use Rattle.sig_tree.specs.Leaves.{terminal_of, leaves_of}
-use Rattle.sig_tree.specs.Limits.{Limits}
-use Rattle.sig_tree.specs.Repeated.{Each, Separated, Between}
-use Rattle.sig_tree.specs.Equations.{IsName}
-use Rattle.sig_tree.specs.Processes.{IsPlainItem, IsItem, IsGroup, IsParam, AreGroups, AreParams, IsInterface, IsPlacement, ArePragmas, IsLocalGroup, IsWhere, IsModel, AreLocals}
-use Rattle.sig_tree.specs.Unplaced.{no_place, unplaced_leaves, unplaced_name, unplaced_init, unplaced_item, unplaced_declared, unplaced_placement, unplaced_model, unplaced_models}
-use Rattle.sig_print.specs.Canonical.{separated, names_words, optional_init_words, item_words, group_words, groups_words, params_words, pragma_words, pragmas_words, local_words, where_words, body_words, process_words, processes_words}
-use Rattle.sig_print.specs.Words.{on_new_line, reserved, name, mark, label}
+use Rattle.sig_print.proofs.Common.{◌≡◌, ℕ, suc, ◌++◌, List, [], ◌∷◌, refl, sym, ap, ◌∙◌, subst, codes, inl, inr, Option, None, Some, map, append_assoc, ◌≢◌, option_to_list, option_map, flat_map, AllByRecursion, append-nil, Span, Spaced, Lexeme, lexemes, word_of, the_end, text_of, Token, Word, Item, Declared, Placement, ProcessModel, Modelled, ProcessModels, no_model, more_models, Terminal, Leaf, leaf, name_leaf, mark_terminal, word as word_terminal, name_terminal, label_terminal, terminal_of, leaves_of, Limits, Each, Separated, Between, IsName, IsPlainItem, IsItem, IsGroup, IsParam, AreGroups, AreParams, IsInterface, IsPlacement, ArePragmas, IsLocalGroup, IsWhere, IsModel, AreLocals, no_place, unplaced_leaves, unplaced_name, unplaced_init, unplaced_item, unplaced_declared, unplaced_placement, unplaced_model, unplaced_models, separated, names_words, optional_init_words, item_words, group_words, groups_words, params_words, pragma_words, pragmas_words, local_words, where_words, body_words, process_words, processes_words, on_new_line, reserved, name, mark, label}
 use Rattle.sig_print.proofs.ReadExpressions.{leaf_in, spoken, spoken_append, kind_says, label_says, each_read, separated_read, between_read, optional_read}
 use Rattle.sig_print.proofs.ReadEquations.{names_read, body_read}
 

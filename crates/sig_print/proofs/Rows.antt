@@ -1,11 +1,7 @@
 -- Bodies in a vector, as the definitions see them.
 use mathlib.Core.Former.{Count}
-use Rattle.std.proofs.Common.{◌≡◌, ◌++◌, [], ◌∷◌, refl, ap, ◌∙◌, map, codes, Vec, Global}
-use Rattle.sig_lex.specs.declared.token.TokenKind.TheVariants.{Mark}
-use Rattle.sig_tree.specs.declared.process.Body.{Body, All, All', Row_of-Body, end_of-Body, more_of-Body, items-the_row-Body, items_hidden-the_row-Body-0}
-use Rattle.sig_tree.specs.Syntax.{equations_of, bodies_of}
-use Rattle.sig_print.specs.Canonical.{body_words, bodies_words, further_bodies_words, body_list_words, further}
-use Rattle.sig_print.specs.Words.{on_new_line}
+use Rattle.sig_print.proofs.Common.{◌≡◌, ◌++◌, [], ◌∷◌, refl, ap, ◌∙◌, map, codes, Vec, Global, Mark, Body, All', Row_of-Body, end_of-Body, more_of-Body, items-the_row-Body, items_hidden-the_row-Body-0, equations_of, bodies_of, body_words, bodies_words, further_bodies_words, body_list_words, further, on_new_line}
+use Rattle.sig_tree.specs.declared.process.Body.{All}
 
 further_row : (n : _) (row : Row_of-Body n) → further_bodies_words (bodies_of row) ≡ further body_words (on_new_line Mark (codes "|")) (map equations_of (items-the_row-Body n row))
 further_row n end_of-Body = refl

@@ -1,12 +1,5 @@
 -- Words one after another.
-use Rattle.std.proofs.Common.{◌≡◌, ◌++◌, List, [], ◌∷◌, ℕ, refl, ap, append_assoc, sym, ◌∙◌, Result, Ok, Err, OnOk, length, take, get_or, ◌+◌, ◌<◌, ◌≤◌, map}
-use Rattle.std.specs.List.{flat_map}
-use Rattle.std.proofs.lemmas.List.{append-nil, take_more, take_all}
-use Rattle.std.proofs.lemmas.List.Concat.{flat_map-append}
-use Rattle.std.proofs.lemmas.List.Folds.{flat_map-map}
-use Rattle.sig_lex.specs.Lexemes.{Spaced, spaced_text}
-use Rattle.sig_print.specs.Canonical.{further}
-use Rattle.sig_print.specs.Prints.{Adds}
+use Rattle.sig_print.proofs.Common.{◌≡◌, ◌++◌, List, [], ◌∷◌, ℕ, refl, ap, append_assoc, sym, ◌∙◌, Result, Ok, Err, OnOk, length, take, get_or, ◌+◌, ◌<◌, ◌≤◌, map, flat_map, append-nil, take_more, take_all, flat_map-append, flat_map-map, Spaced, spaced_text, further, Adds}
 
 -- the text of words and then of others
 pub spaced_append : (a b : List Spaced) → spaced_text (a ++ b) ≡ spaced_text a ++ spaced_text b

@@ -1,16 +1,5 @@
 -- The words of definitions, clock equations and bodies that the grammar has for spelled leaves are printable.
-use Rattle.std.proofs.Common.{ℕ, suc, List, [], ◌∷◌, sym, subst, codes, inl, inr}
-use Rattle.sig_tree.specs.declared.expr.Name.{Name}
-use Rattle.sig_tree.specs.declared.expr.Constant.{Constant}
-use Rattle.sig_tree.specs.Syntax.{Expression, RightSide, Computed, Called, Equations, Together, Defines, Equal, Bodies, no_body, more_bodies}
-use Rattle.sig_tree.specs.Terminals.{Leaf, mark as mark_terminal}
-use Rattle.sig_tree.specs.Levels.{default_level}
-use Rattle.sig_tree.specs.Limits.{Limits}
-use Rattle.sig_tree.specs.Repeated.{Separated, Listed}
-use Rattle.sig_tree.specs.Expressions.{IsConstant, IsExpression}
-use Rattle.sig_tree.specs.Equations.{IsName, IsLeft, AreConstants, IsRight, IsClockEquation, IsBody, AreBodies, AreFurtherBodies}
-use Rattle.sig_print.specs.Canonical.{separated, names_words, left_words, constant_words, constants_words, expression_words, right_words, body_words, bodies_words, further_bodies_words}
-use Rattle.sig_print.specs.Words.{name, mark}
+use Rattle.sig_print.proofs.Common.{ℕ, suc, List, [], ◌∷◌, sym, subst, codes, inl, inr, Name, Constant, Expression, RightSide, Computed, Called, Equations, Together, Defines, Equal, Bodies, no_body, more_bodies, Leaf, mark_terminal, default_level, Limits, Separated, Listed, IsConstant, IsExpression, IsName, IsLeft, AreConstants, IsRight, IsClockEquation, IsBody, AreBodies, AreFurtherBodies, separated, names_words, left_words, constant_words, constants_words, expression_words, right_words, body_words, bodies_words, further_bodies_words, name, mark}
 use Rattle.sig_print.proofs.Printable.{ArePrintable, both, AreGood, front_good, back_good, name_good, opens, closes, opens_brace, closes_brace, comma, defines, same, opens_body, closes_body, bar}
 use Rattle.sig_print.proofs.SpelledExpressions.{separated_good, listed_good, inside_good, constant_good, expression_good}
 

@@ -1,19 +1,6 @@
 -- The words of constants and expressions that the grammar has for spelled leaves are printable.
-use Rattle.std.proofs.Common.{ℕ, zero, suc, ◌≤◌, List, [], ◌∷◌, sym, subst, Option, None, Some, inl, inr}
-use Rattle.std.specs.Prelude.{pos, neg_ℤ}
-use Rattle.sig_lex.specs.Tokens.{greatest_number}
-use Rattle.sig_lex.specs.Lexemes.{Spaced, IsPrintable}
-use Rattle.sig_tree.specs.declared.expr.Constant.{Constant}
-use Rattle.sig_tree.specs.declared.expr.Constant.TheVariants.{Int, Bool, Param}
-use Rattle.sig_tree.specs.Syntax.{Expression, Named, Number, Truth, Unary, Binary, Delay, Cell}
-use Rattle.sig_tree.specs.Terminals.{Terminal, Leaf}
-use Rattle.sig_tree.specs.Levels.{default_level, mixed_level, delay_level, primary_level, operand_level, left_level, right_level, level_of}
-use Rattle.sig_tree.specs.Limits.{Limits}
-use Rattle.sig_tree.specs.Repeated.{Each, Further, Separated, Listed, Between}
-use Rattle.sig_tree.specs.Expressions.{IsConstant, IsInit, IsOptionalInit, Enclosed, Stands, IsBare, IsAtLevel}
-use Rattle.sig_print.specs.Canonical.{further, separated, integer_words, constant_words, init_words, optional_init_words, fitted, bare_words, expression_words}
+use Rattle.sig_print.proofs.Common.{ℕ, zero, suc, ◌≤◌, List, [], ◌∷◌, sym, subst, Option, None, Some, inl, inr, pos, neg_ℤ, greatest_number, Spaced, IsPrintable, Constant, Int, Bool, Param, Expression, Named, Number, Truth, Unary, Binary, Delay, Cell, Terminal, Leaf, default_level, mixed_level, delay_level, primary_level, operand_level, left_level, right_level, level_of, Limits, Each, Further, Separated, Listed, Between, IsConstant, IsInit, IsOptionalInit, Enclosed, Stands, IsBare, IsAtLevel, further, separated, integer_words, constant_words, init_words, optional_init_words, fitted, bare_words, expression_words, flat_map}
 use Rattle.sig_print.proofs.Printable.{ArePrintable, both, AreGood, front_good, back_good, name_good, number_good, truth_good, unary_good, binary_good, init_good, minus, dollar, one_good, cell_good, fitted_good}
-use Rattle.std.specs.List.{flat_map}
 
 module _ {A : Type 0} (Is : A → List Leaf → Type 0) (words : A → List Spaced) (good : (x : A) (ls : List Leaf) → AreGood ls → Is x ls → ArePrintable (words x)) where
   pub each_good : (xs : List A) (ls : List Leaf) → AreGood ls → Each Is xs ls → ArePrintable (flat_map words xs)

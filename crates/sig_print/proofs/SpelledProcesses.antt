@@ -1,26 +1,6 @@
 -- The words of declarations, pragmas and processes that the grammar has for spelled leaves are printable.
-use Rattle.std.proofs.Common.{◌≡◌, ℕ, suc, ◌-◌, ◌++◌, List, [], ◌∷◌, refl, sym, ap, ◌∙◌, subst, codes, inl, inr, length, take, arith, length-append}
-use Rattle.std.specs.Prelude.{◌≢◌, All, option_to_list, option_map, slice_range}
-use Rattle.std.specs.List.{flat_map, AllPass}
-use Rattle.sig_lex.specs.Bytes.{is_label_byte}
-use Rattle.std.proofs.lemmas.List.{take_at}
-use Rattle.std.proofs.lemmas.List.Concat.{flat_map-append}
-use Rattle.std.proofs.lemmas.List.Elements.{All-head, All-tail}
-use Rattle.sig_base.specs.declared.span.Span.{Span}
-use Rattle.sig_lex.specs.Lexemes.{Spaced, Spells, text_of}
-use Rattle.sig_lex.specs.declared.token.Token.{Token}
-use Rattle.sig_lex.specs.declared.token.TokenKind.{TokenKind}
-use Rattle.sig_lex.specs.declared.token.TokenKind.TheVariants.{Name, Word, Number, Label, Mark, Last}
-use Rattle.sig_tree.specs.declared.process.Item.{Item}
-use Rattle.sig_tree.specs.Syntax.{Declared, Placement, Heading, ProcessModel, Modelled, ProcessModels, no_model, more_models}
-use Rattle.sig_tree.specs.Terminals.{Leaf, leaf, mark as mark_terminal}
-use Rattle.sig_tree.specs.Leaves.{terminal_of, leaves_of}
-use Rattle.sig_tree.specs.Limits.{Limits}
-use Rattle.sig_tree.specs.Repeated.{Each, Separated}
-use Rattle.sig_tree.specs.Equations.{IsName}
-use Rattle.sig_tree.specs.Processes.{IsPlainItem, IsItem, IsGroup, IsParam, AreGroups, AreParams, IsInterface, IsPlacement, ArePragmas, IsLocalGroup, IsWhere, IsModel, AreLocals}
-use Rattle.sig_print.specs.Canonical.{names_words, optional_init_words, item_words, group_words, groups_words, params_words, pragma_words, pragmas_words, heading_words, local_words, where_words, body_words, process_words, processes_words}
-use Rattle.sig_print.specs.Words.{mark}
+use Rattle.sig_print.proofs.Common.{◌≡◌, ℕ, suc, ◌-◌, ◌++◌, List, [], ◌∷◌, refl, sym, ap, ◌∙◌, subst, codes, inl, inr, length, take, arith, length-append, ◌≢◌, All, option_to_list, option_map, slice_range, flat_map, AllPass, is_label_byte, take_at, flat_map-append, All-head, All-tail, Span, Spaced, Spells, text_of, Token, TokenKind, Word, Label, Mark, Last, Item, Declared, Placement, Heading, ProcessModel, Modelled, ProcessModels, no_model, more_models, Leaf, leaf, mark_terminal, terminal_of, leaves_of, Limits, Each, Separated, IsName, IsPlainItem, IsItem, IsGroup, IsParam, AreGroups, AreParams, IsInterface, IsPlacement, ArePragmas, IsLocalGroup, IsWhere, IsModel, AreLocals, names_words, optional_init_words, item_words, group_words, groups_words, params_words, pragma_words, pragmas_words, heading_words, local_words, where_words, body_words, process_words, processes_words, mark}
+use Rattle.sig_lex.specs.declared.token.TokenKind.TheVariants.{Name, Number}
 use Rattle.sig_print.proofs.Printable.{ArePrintable, both, AreGood, front_good, back_good, name_good, label_good, kind_good, opens, closes, opens_brace, closes_brace, comma, semicolon, asks, answers, equals, process_good, where_good, first_pragmas, last_pragmas, end_good}
 use Rattle.sig_print.proofs.SpelledExpressions.{each_good, separated_good, inside_good, optional_good}
 use Rattle.sig_print.proofs.SpelledEquations.{names_good, body_good}

@@ -1,6 +1,4 @@
-use Rattle.std.proofs.Common.{length}
-use Rattle.std.proofs.lemmas.List.{nil_from_length}
-use Rattle.sig_clock.proofs.LinkLemmas.{alone_joined, first_below, operands_joined}
+use Rattle.sig_clock.proofs.{length, nil_from_length, alone_joined, first_below, operands_joined}
 use Rattle.sig_clock.proofs.classes.+relate_all.Goals as goal
 
 pub returns-in-Some : goal.returns-in-Some

@@ -1,5 +1,4 @@
-use Rattle.std.proofs.Common.{get_or, refl, arith}
-use Rattle.sig_clock.proofs.LinkLemmas.{put_together, turned_round}
+use Rattle.sig_clock.proofs.{get_or, refl, arith, put_together, turned_round}
 use Rattle.sig_clock.proofs.classes.join.Goals as goal
 
 pub returns-then-a-b : goal.returns-then-a-b

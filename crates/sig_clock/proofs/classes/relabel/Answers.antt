@@ -1,5 +1,4 @@
-use Rattle.std.proofs.Common.{arith}
-use Rattle.sig_clock.proofs.LinkLemmas.{one_relabelled}
+use Rattle.sig_clock.proofs.{arith, one_relabelled}
 use Rattle.sig_clock.proofs.classes.relabel.Goals as goal
 
 pub loop-number-preserved : goal.loop-number-preserved

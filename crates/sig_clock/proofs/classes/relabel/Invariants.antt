@@ -1,4 +1,4 @@
-use Rattle.sig_clock.proofs.LinkLemmas.{Relabelled}
+use Rattle.sig_clock.proofs.{Relabelled}
 use Rattle.sig_clock.proofs.classes.relabel.Given as goal
 
 abbrev pub invariant-loop-number : goal.invariant-loop-number

@@ -1,4 +1,4 @@
-use Rattle.sig_clock.proofs.LinkLemmas.{none_joined}
+use Rattle.sig_clock.proofs.{none_joined}
 use Rattle.sig_clock.proofs.classes.relate.Goals as goal
 
 pub returns-in-When : goal.returns-in-When

@@ -1,4 +1,4 @@
-use Rattle.sig_clock.proofs.LinkLemmas.{const_joined}
+use Rattle.sig_clock.proofs.{const_joined}
 use Rattle.sig_clock.proofs.classes.relate_one.Goals as goal
 
 pub returns-in-Const : goal.returns-in-Const

@@ -1,8 +1,4 @@
-use Rattle.std.proofs.Common.{◌≡◌, ◌+◌, ℕ, List, ap, sym, subst, ◌∙◌, length, arith}
-use Rattle.sig_clock.specs.Links.{AreJoined}
-use Rattle.sig_clock.specs.SameClocks.{related}
-use Rattle.sig_clock.proofs.Lists.{item_at, written}
-use Rattle.sig_clock.proofs.SameClockLemmas.{ArePartition, first_partition, last_partition, next_partition}
+use Rattle.sig_clock.proofs.{◌≡◌, ◌+◌, ℕ, List, ap, sym, subst, ◌∙◌, length, arith, AreJoined, related, item_at, written, ArePartition, first_partition, last_partition, next_partition}
 use Rattle.sig_clock.proofs.classes.same_clock.Goals as goal
 
 pub loop-equation-init : goal.loop-equation-init

@@ -1,4 +1,4 @@
-use Rattle.sig_clock.proofs.SameClockLemmas.{ArePartition}
+use Rattle.sig_clock.proofs.{ArePartition}
 use Rattle.sig_clock.proofs.classes.same_clock.Given as goal
 
 abbrev pub invariant-loop-equation : goal.invariant-loop-equation

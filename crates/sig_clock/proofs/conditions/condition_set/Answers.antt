@@ -1,6 +1,4 @@
-use Rattle.std.proofs.Common.{◌≡◌, sym, ◌∙◌, ap, length, arith}
-use Rattle.sig_clock.specs.Conditions.{is_condition}
-use Rattle.sig_clock.proofs.ConditionLemmas.{added_conditions, chosen_is}
+use Rattle.sig_clock.proofs.{◌≡◌, sym, ◌∙◌, ap, length, arith, is_condition, added_conditions, chosen_is}
 use Rattle.sig_clock.proofs.conditions.condition_set.Goals as goal
 
 pub loop-number-preserved : goal.loop-number-preserved

@@ -1,7 +1,4 @@
-use Rattle.std.proofs.Common.{◌≡◌, map}
-use Rattle.std.specs.Prelude.{filter}
-use Rattle.std.specs.List.{range_with_len}
-use Rattle.sig_clock.specs.Conditions.{is_condition, signal_id}
+use Rattle.sig_clock.proofs.{◌≡◌, map, filter, range_with_len, is_condition, signal_id}
 use Rattle.sig_clock.proofs.conditions.condition_set.Given as goal
 
 abbrev pub invariant-loop-number : goal.invariant-loop-number

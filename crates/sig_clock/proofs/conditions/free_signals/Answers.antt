@@ -1,5 +1,4 @@
-use Rattle.std.proofs.Common.{ap, length}
-use Rattle.sig_clock.proofs.ConditionLemmas.{first_free}
+use Rattle.sig_clock.proofs.{ap, length, first_free}
 use Rattle.sig_clock.proofs.conditions.free_signals.Goals as goal
 
 pub loop-equation-init : goal.loop-equation-init

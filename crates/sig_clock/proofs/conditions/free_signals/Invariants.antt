@@ -1,4 +1,4 @@
-use Rattle.sig_clock.specs.Conditions.{AreFreeBy}
+use Rattle.sig_clock.proofs.{AreFreeBy}
 use Rattle.sig_clock.proofs.conditions.free_signals.Given as goal
 
 abbrev pub invariant-loop-equation : goal.invariant-loop-equation

@@ -1,5 +1,4 @@
-use Rattle.sig_clock.specs.ClockRefusals.{IsOpen}
-use Rattle.sig_clock.proofs.LayerLemmas.{dead_has_none, one_least, same_pinned, same_roots}
+use Rattle.sig_clock.proofs.{IsOpen, dead_has_none, one_least, same_pinned, same_roots}
 use Rattle.sig_clock.proofs.laws.a_kernel_has_one_refusal.Goals as goal
 
 pub returns-clause-dead : goal.returns-clause-dead

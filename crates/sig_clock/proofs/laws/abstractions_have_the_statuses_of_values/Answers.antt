@@ -1,4 +1,4 @@
-use Rattle.sig_clock.proofs.AbstractLemmas.{abstract_presence, abstract_silence, abstract_speaks, abstract_status}
+use Rattle.sig_clock.proofs.{abstract_presence, abstract_silence, abstract_speaks, abstract_status}
 use Rattle.sig_clock.proofs.laws.abstractions_have_the_statuses_of_values.Goals as goal
 
 pub returns : goal.returns

@@ -1,4 +1,4 @@
-use Rattle.sig_clock.proofs.AbstractLemmas.{abstract_instant}
+use Rattle.sig_clock.proofs.{abstract_instant}
 use Rattle.sig_clock.proofs.laws.instants_leave_abstract_reactions.Goals as goal
 
 pub returns : goal.returns

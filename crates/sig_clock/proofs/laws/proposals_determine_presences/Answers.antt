@@ -1,4 +1,4 @@
-use Rattle.sig_clock.proofs.ProposalLemmas.{one_presence, some_reaction}
+use Rattle.sig_clock.proofs.{one_presence, some_reaction}
 use Rattle.sig_clock.proofs.laws.proposals_determine_presences.Goals as goal
 
 pub returns-clause-some : goal.returns-clause-some

@@ -1,5 +1,4 @@
-use Rattle.std.proofs.Common.{add-one}
-use Rattle.sig_clock.proofs.LayerLemmas.{enters_stays, one_layer}
+use Rattle.sig_clock.proofs.{add-one, enters_stays, one_layer}
 use Rattle.sig_clock.proofs.laws.signals_have_one_layer.Goals as goal
 
 pub returns-clause-stays : goal.returns-clause-stays

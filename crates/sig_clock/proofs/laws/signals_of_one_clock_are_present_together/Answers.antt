@@ -1,4 +1,4 @@
-use Rattle.sig_clock.proofs.ReactionLemmas.{present_together}
+use Rattle.sig_clock.proofs.{present_together}
 use Rattle.sig_clock.proofs.laws.signals_of_one_clock_are_present_together.Goals as goal
 
 pub returns : goal.returns

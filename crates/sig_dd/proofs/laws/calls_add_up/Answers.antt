@@ -1,5 +1,4 @@
-use Rattle.sig_dd.proofs.Adding.{Share-none, Share-then, Share-wider}
-use Rattle.sig_dd.proofs.Dependence.{allowance_rises}
+use Rattle.sig_dd.proofs.{Share-none, Share-then, Share-wider, allowance_rises}
 use Rattle.sig_dd.proofs.laws.calls_add_up.Goals as goal
 
 pub returns : goal.returns

@@ -1,4 +1,4 @@
-use Rattle.sig_dd.proofs.Trails.{Trail-begins, Trail-fails, Trail-next}
+use Rattle.sig_dd.proofs.{Trail-begins, Trail-fails, Trail-next}
 use Rattle.sig_dd.proofs.laws.calls_lead_on.Goals as goal
 
 pub returns : goal.returns

@@ -1,6 +1,4 @@
-use Rattle.std.proofs.Common.{ap}
-use Rattle.sig_dd.specs.Nodes.{test}
-use Rattle.sig_dd.proofs.Canonical.{one_ref}
+use Rattle.sig_dd.proofs.{ap, test, one_ref}
 use Rattle.sig_dd.proofs.laws.equal_functions_have_one_ref.Goals as goal
 
 pub returns : goal.returns

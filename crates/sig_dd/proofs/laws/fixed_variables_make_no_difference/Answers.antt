@@ -1,4 +1,4 @@
-use Rattle.sig_dd.proofs.Dependence.{fixed, forgotten, some_truth, truth_some}
+use Rattle.sig_dd.proofs.{fixed, forgotten, some_truth, truth_some}
 use Rattle.sig_dd.proofs.laws.fixed_variables_make_no_difference.Goals as goal
 
 pub returns : goal.returns

@@ -1,6 +1,4 @@
-use Rattle.std.proofs.Common.{refl}
-use Rattle.sig_dd.proofs.CallerLemmas.{Depends-of_one, Depends-of_two}
-use Rattle.sig_dd.proofs.Dependence.{choice_depends, depends_variable, variable_depends}
+use Rattle.sig_dd.proofs.{refl, Depends-of_one, Depends-of_two, choice_depends, depends_variable, variable_depends}
 use Rattle.sig_dd.proofs.laws.functions_depend_on_their_parts.Goals as goal
 
 pub returns : goal.returns

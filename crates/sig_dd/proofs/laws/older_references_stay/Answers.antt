@@ -1,4 +1,4 @@
-use Rattle.sig_dd.proofs.CallerLemmas.{Keeps-itself, Keeps-trans, Holds-kept, Agree-kept, Spans-kept}
+use Rattle.sig_dd.proofs.{Keeps-itself, Keeps-trans, Holds-kept, Agree-kept, Spans-kept}
 use Rattle.sig_dd.proofs.laws.older_references_stay.Goals as goal
 
 pub returns : goal.returns

@@ -1,4 +1,4 @@
-use Rattle.sig_dd.proofs.Dependence.{ref_depends, function_depends}
+use Rattle.sig_dd.proofs.{ref_depends, function_depends}
 use Rattle.sig_dd.proofs.laws.references_depend_as_their_functions.Goals as goal
 
 pub returns : goal.returns

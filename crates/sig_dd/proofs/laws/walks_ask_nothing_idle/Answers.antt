@@ -1,4 +1,4 @@
-use Rattle.sig_dd.proofs.Walks.{asks_depends, asks_no_idle, asks_visited, spans_visited}
+use Rattle.sig_dd.proofs.{asks_depends, asks_no_idle, asks_visited, spans_visited}
 use Rattle.sig_dd.proofs.laws.walks_ask_nothing_idle.Goals as goal
 
 pub returns : goal.returns

@@ -1,6 +1,5 @@
 -- the lines so far are blank
-use Rattle.std.proofs.Common.{◌≡◌, ◌≤◌, ◌+◌, length}
-use Rattle.sig_flow.proofs.BodyLemmas.{body_from}
+use Rattle.sig_flow.proofs.{◌≡◌, ◌≤◌, ◌+◌, length, body_from}
 use Rattle.sig_flow.proofs.body.body_of.Given as goal
 
 abbrev pub invariant-lines : goal.invariant-lines

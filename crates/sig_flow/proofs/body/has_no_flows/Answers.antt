@@ -1,5 +1,4 @@
-use Rattle.std.proofs.Common.{refl}
-use Rattle.sig_flow.proofs.InputLemmas.{nobody}
+use Rattle.sig_flow.proofs.{refl, nobody}
 use Rattle.sig_flow.proofs.body.has_no_flows.Goals as goal
 
 pub returns-in-Some : goal.returns-in-Some

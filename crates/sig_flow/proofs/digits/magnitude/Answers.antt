@@ -1,7 +1,4 @@
-use Rattle.std.proofs.Common.{◌≤◌, arith, get_or}
-use Rattle.std.proofs.lemmas.Grind.{common_steps}
-use Rattle.std.proofs.lemmas.List.{take_all}
-use Rattle.sig_flow.proofs.Numerals.{digit_in, one_more_digit, value_with_digit, tenfold, whole}
+use Rattle.sig_flow.proofs.{◌≤◌, arith, get_or, common_steps, take_all, digit_in, one_more_digit, value_with_digit, tenfold, whole}
 use Rattle.sig_flow.proofs.digits.magnitude.Goals as goal
 
 pub returns-then-not-is_ascii_digit : goal.returns-then-not-is_ascii_digit

@@ -1,6 +1,5 @@
 -- the digits so far are digits, and the value is theirs
-use Rattle.std.proofs.Common.{◌≡◌, ◌≤◌, take}
-use Rattle.std.specs.Str.Parse.{AllDigits, digits_value}
+use Rattle.sig_flow.proofs.{◌≡◌, ◌≤◌, take, AllDigits, digits_value}
 use Rattle.sig_flow.proofs.digits.magnitude.Given as goal
 
 abbrev pub invariant-loop-digit : goal.invariant-loop-digit

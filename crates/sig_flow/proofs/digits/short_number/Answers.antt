@@ -1,5 +1,4 @@
-use Rattle.std.proofs.Common.{◌∙◌, Some, arith, ap, sym}
-use Rattle.sig_flow.proofs.Numerals.{short_value, short_is, other_is_none}
+use Rattle.sig_flow.proofs.{◌∙◌, Some, arith, ap, sym, short_value, short_is, other_is_none}
 use Rattle.sig_flow.proofs.digits.short_number.Goals as goal
 
 pub overflow_cast-result : goal.overflow_cast-result

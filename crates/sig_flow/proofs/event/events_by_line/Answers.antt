@@ -1,9 +1,5 @@
-use Rattle.std.proofs.Common.{◌≡◌, length, inr, arith, sym, subst}
-use Rattle.std.proofs.lemmas.Grind.{common_steps}
-use Rattle.std.proofs.lemmas.Result.{err_from_is_err_and}
-use Rattle.sig_flow.specs.declared.answer.EventAnswer.{EventAnswer}
-use Rattle.sig_flow.specs.Events.{IsFirstBadEvent}
-use Rattle.sig_flow.proofs.EventLemmas.{wrong_from, wrong_here, all_read}
+use Rattle.sig_flow.proofs.{◌≡◌, length, inr, arith, sym, subst, common_steps, err_from_is_err_and, EventAnswer, IsFirstBadEvent, wrong_from, wrong_here}
+use Rattle.sig_flow.proofs.EventLemmas.{all_read}
 use Rattle.sig_flow.proofs.event.events_by_line.Goals as goal
 
 pub returns-in_err-event-clause-fault : goal.returns-in_err-event-clause-fault

@@ -1,6 +1,5 @@
 -- what is read and what is left are the whole file
-use Rattle.std.proofs.Common.{◌≡◌, ◌≤◌, ◌+◌, ◌++◌, length}
-use Rattle.sig_flow.proofs.EventLemmas.{wrong_from, events_from}
+use Rattle.sig_flow.proofs.{◌≡◌, ◌≤◌, ◌+◌, ◌++◌, length, wrong_from, events_from}
 use Rattle.sig_flow.proofs.event.events_by_line.Given as goal
 
 abbrev pub invariant-loop-rest : goal.invariant-loop-rest

@@ -1,4 +1,4 @@
-use Rattle.std.proofs.Common.{◌≡◌, ℕ, [], vec_len, get_or}
+use Rattle.sig_flow.proofs.{◌≡◌, ℕ, [], vec_len, get_or}
 use Rattle.sig_flow.proofs.flow.empty_flows.Given as goal
 
 abbrev pub invariant-loop : goal.invariant-loop

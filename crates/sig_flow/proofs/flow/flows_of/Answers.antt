@@ -1,11 +1,4 @@
-use Rattle.std.proofs.Common.{◌≡◌, ◌⊎◌, length, arith, sym, subst}
-use Rattle.std.proofs.lemmas.Grind.{common_steps}
-use Rattle.std.proofs.lemmas.Result.{err_from_is_err_and}
-use Rattle.sig_flow.specs.declared.answer.FlowAnswer.{FlowAnswer}
-use Rattle.sig_flow.specs.declared.answer.FlowAnswer.TheVariants.{OutOfMemory}
-use Rattle.sig_flow.specs.Bodies.{body_behind}
-use Rattle.sig_flow.specs.Flows.{IsFirstIn}
-use Rattle.sig_flow.proofs.FlowLemmas.{all_read, fault_here}
+use Rattle.sig_flow.proofs.{◌≡◌, ◌⊎◌, length, arith, sym, subst, common_steps, err_from_is_err_and, FlowAnswer, OutOfMemory, body_behind, IsFirstIn, all_read, fault_here}
 use Rattle.sig_flow.proofs.flow.flows_of.Goals as goal
 
 pub returns-in_err-before-clause-fault : goal.returns-in_err-before-clause-fault

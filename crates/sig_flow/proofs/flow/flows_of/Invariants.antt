@@ -1,10 +1,5 @@
 -- what is read and what is left are the whole body
-use Rattle.std.proofs.Common.{◌≡◌, ◌<◌, ◌≤◌, ◌+◌, ◌++◌, ℕ, [], length, get_or}
-use Rattle.std.specs.Str.Lines.{lines}
-use Rattle.sig_base.specs.declared.signal.Signal.{Signal}
-use Rattle.sig_flow.specs.First.{first_fault}
-use Rattle.sig_flow.specs.Flows.{flow_in, line_judge}
-use Rattle.sig_flow.specs.Lines.{numbered}
+use Rattle.sig_flow.proofs.{◌≡◌, ◌<◌, ◌≤◌, ◌+◌, ◌++◌, ℕ, [], length, get_or, lines, Signal, first_fault, flow_in, line_judge, numbered}
 use Rattle.sig_flow.proofs.flow.flows_of.Given as goal
 
 abbrev pub invariant-loop-rest : goal.invariant-loop-rest

@@ -1,8 +1,4 @@
-use Rattle.std.proofs.Common.{◌≡◌, ◌<◌, sym, arith, pos, to_z, w64}
-use Rattle.std.proofs.lemmas.Grind.{common_steps}
-use Rattle.std.proofs.lemmas.Int.{to_z_pos}
-use Rattle.sig_base.specs.declared.ids.Kind.TheVariants.{Integer}
-use Rattle.sig_flow.proofs.ShortNumbers.{short_run}
+use Rattle.sig_flow.proofs.{◌≡◌, ◌<◌, sym, arith, pos, to_z, w64, common_steps, to_z_pos, Integer, short_run}
 use Rattle.sig_flow.proofs.flow_line.next_run.Goals as goal
 
 pub returns-in-Some-clause-run : goal.returns-in-Some-clause-run

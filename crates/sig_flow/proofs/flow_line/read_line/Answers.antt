@@ -1,6 +1,4 @@
-use Rattle.std.proofs.Common.{◌∙◌, ap}
-use Rattle.sig_flow.specs.Flows.{words_fault}
-use Rattle.sig_flow.proofs.CleanLines.{good_line}
+use Rattle.sig_flow.proofs.{◌∙◌, ap, words_fault, good_line}
 use Rattle.sig_flow.proofs.flow_line.read_line.Goals as goal
 
 pub returns-in_default-clause-good : goal.returns-in_default-clause-good

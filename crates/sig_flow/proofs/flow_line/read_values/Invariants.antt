@@ -1,8 +1,5 @@
 -- what is read and what is left are the whole line
-use Rattle.std.proofs.Common.{◌≡◌, ◌≤◌, ◌+◌, ◌++◌, length, sum_by}
-use Rattle.sig_flow.specs.First.{first_fault}
-use Rattle.sig_flow.specs.Flows.{value_judge, values_of}
-use Rattle.sig_flow.specs.Words.{words_from}
+use Rattle.sig_flow.proofs.{◌≡◌, ◌≤◌, ◌+◌, ◌++◌, length, sum_by, first_fault, value_judge, values_of, words_from}
 use Rattle.sig_flow.proofs.flow_line.read_values.Given as goal
 
 abbrev pub invariant-loop-next : goal.invariant-loop-next

@@ -1,9 +1,4 @@
-use Rattle.std.proofs.Common.{◌∙◌, ◌++◌, ℤ, List, [], ap, get_or, arith}
-use Rattle.std.proofs.lemmas.List.{get_or_default}
-use Rattle.std.proofs.lemmas.Result.{on_ok_weaker}
-use Rattle.sig_flow.specs.Flows.{values_of}
-use Rattle.sig_flow.specs.NextWords.{word_of, words_behind}
-use Rattle.sig_flow.proofs.FlowLemmas.{after_line}
+use Rattle.sig_flow.proofs.{◌∙◌, ◌++◌, ℤ, List, [], ap, get_or, arith, get_or_default, on_ok_weaker, values_of, word_of, words_behind, after_line}
 use Rattle.sig_flow.proofs.flow_line.read_words.Goals as goal
 
 pub returns-in-Some-clause-flows : goal.returns-in-Some-clause-flows

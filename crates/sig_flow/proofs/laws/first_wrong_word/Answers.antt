@@ -1,5 +1,4 @@
-use Rattle.sig_flow.specs.Flows.{value_judge}
-use Rattle.sig_flow.proofs.FirstLemmas.{first_from_some, good_from_none, none_from_good, some_from_first}
+use Rattle.sig_flow.proofs.{value_judge, first_from_some, good_from_none, none_from_good, some_from_first}
 use Rattle.sig_flow.proofs.laws.first_wrong_word.Goals as goal
 
 pub returns-clause-fault : goal.returns-clause-fault

@@ -1,4 +1,4 @@
-use Rattle.sig_flow.proofs.FittingFlows.{read_fit}
+use Rattle.sig_flow.proofs.{read_fit}
 use Rattle.sig_flow.proofs.laws.flows_that_are_read_fit.Goals as goal
 
 pub returns : goal.returns

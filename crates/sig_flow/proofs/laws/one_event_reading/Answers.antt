@@ -1,8 +1,4 @@
-use Rattle.std.proofs.Common.{refl, sym, ◌∙◌}
-use Rattle.sig_flow.specs.Events.{event_judge}
-use Rattle.sig_flow.specs.Lines.{lines_of}
-use Rattle.sig_flow.proofs.EventLemmas.{events_or_fault}
-use Rattle.sig_flow.proofs.FirstLemmas.{not_both, one_first}
+use Rattle.sig_flow.proofs.{refl, sym, ◌∙◌, event_judge, lines_of, events_or_fault, not_both, one_first}
 use Rattle.sig_flow.proofs.laws.one_event_reading.Goals as goal
 
 pub returns-clause-some : goal.returns-clause-some

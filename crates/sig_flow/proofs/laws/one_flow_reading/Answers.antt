@@ -1,5 +1,4 @@
-use Rattle.std.proofs.Common.{refl, sym, ◌∙◌}
-use Rattle.sig_flow.proofs.FlowLemmas.{flows_or_fault, flows_and_fault, one_place}
+use Rattle.sig_flow.proofs.{refl, sym, ◌∙◌, flows_or_fault, flows_and_fault, one_place}
 use Rattle.sig_flow.proofs.laws.one_flow_reading.Goals as goal
 
 pub returns-clause-some : goal.returns-clause-some

@@ -1,7 +1,4 @@
-use Rattle.std.proofs.Common.{get_or, eqb, arith, ap, ◌∙◌}
-use Rattle.std.proofs.lemmas.List.{get_or_default}
-use Rattle.std.proofs.lemmas.List.Sums.{position_or_len_is}
-use Rattle.sig_flow.proofs.FirstLines.{lines_first, lines_last, no_newline}
+use Rattle.sig_flow.proofs.{get_or, eqb, arith, ap, ◌∙◌, get_or_default, position_or_len_is, lines_first, lines_last, no_newline}
 use Rattle.sig_flow.proofs.line.next_line.Goals as goal
 
 pub returns-in-Some-clause-lines : goal.returns-in-Some-clause-lines

@@ -1,7 +1,4 @@
-use Rattle.std.proofs.Common.{◌≡◌, arith, ap, sym, ◌∙◌}
-use Rattle.std.proofs.lemmas.List.{get_or_default}
-use Rattle.sig_base.specs.declared.signal.Signal.{Signal}
-use Rattle.sig_flow.proofs.InputLemmas.{kind_absent, kind_at}
+use Rattle.sig_flow.proofs.{◌≡◌, arith, ap, sym, ◌∙◌, get_or_default, Signal, kind_absent, kind_at}
 use Rattle.sig_flow.proofs.named.input_named.Goals as goal
 
 pub returns-then-has_name-clause-found : goal.returns-then-has_name-clause-found

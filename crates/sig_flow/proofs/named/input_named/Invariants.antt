@@ -1,6 +1,5 @@
 -- no input so far has the name
-use Rattle.std.proofs.Common.{◌≡◌, ◌<◌, ℕ, get_or}
-use Rattle.sig_base.specs.declared.signal.Signal.{Signal}
+use Rattle.sig_flow.proofs.{◌≡◌, ◌<◌, ℕ, get_or, Signal}
 use Rattle.sig_flow.proofs.named.input_named.Given as goal
 
 abbrev pub invariant-loop-i : goal.invariant-loop-i

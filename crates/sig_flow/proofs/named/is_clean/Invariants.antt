@@ -1,7 +1,5 @@
 -- so far all bytes may stand in a line
-use Rattle.std.proofs.Common.{◌≡◌, take}
-use Rattle.std.specs.List.{list_all}
-use Rattle.sig_flow.specs.Flows.{is_line_byte}
+use Rattle.sig_flow.proofs.{◌≡◌, take, list_all, is_line_byte}
 use Rattle.sig_flow.proofs.named.is_clean.Given as goal
 
 abbrev pub invariant-loop-byte : goal.invariant-loop-byte

@@ -1,5 +1,5 @@
 -- the pieces so far were taken
-use Rattle.std.proofs.Common.{◌≤◌, take, flat_map}
+use Rattle.sig_flow.proofs.{◌≤◌, take, flat_map}
 use Rattle.sig_flow.proofs.pieces.put_pieces.Given as goal
 
 abbrev pub invariant-loop-piece : goal.invariant-loop-piece

@@ -1,4 +1,4 @@
-use Rattle.sig_flow.proofs.FlowLemmas.{given, refused}
+use Rattle.sig_flow.proofs.{given, refused}
 use Rattle.sig_flow.proofs.read.read_named.Goals as goal
 
 pub returns-clause-given : goal.returns-clause-given

@@ -1,5 +1,4 @@
-use Rattle.std.proofs.Common.{get_or, arith, sym}
-use Rattle.sig_flow.proofs.StarLemmas.{no_star, star_at, star_nowhere}
+use Rattle.sig_flow.proofs.{get_or, arith, sym, no_star, star_at, star_nowhere}
 use Rattle.sig_flow.proofs.value.run_with_star.Goals as goal
 
 pub returns-in-Some : goal.returns-in-Some

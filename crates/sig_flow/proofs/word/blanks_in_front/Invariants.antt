@@ -1,5 +1,4 @@
-use Rattle.std.proofs.Common.{◌≡◌, ℕ, ◌<◌, get_or, true}
-use Rattle.sig_flow.specs.Words.{is_blank}
+use Rattle.sig_flow.proofs.{◌≡◌, ℕ, ◌<◌, get_or, true, is_blank}
 use Rattle.sig_flow.proofs.word.blanks_in_front.Given as goal
 
 abbrev pub invariant-loop-i : goal.invariant-loop-i

@@ -1,5 +1,4 @@
-use Rattle.std.proofs.Common.{◌<◌, length, arith}
-use Rattle.sig_flow.proofs.LineWords.{words_next}
+use Rattle.sig_flow.proofs.{◌<◌, length, arith, words_next}
 use Rattle.sig_flow.proofs.word.next_number.Goals as goal
 
 pub returns-in-Some-clause-word : goal.returns-in-Some-clause-word

@@ -1,5 +1,4 @@
-use Rattle.std.proofs.Common.{◌<◌, length, arith}
-use Rattle.sig_flow.proofs.LineWords.{words_none, words_next}
+use Rattle.sig_flow.proofs.{◌<◌, length, arith, words_none, words_next}
 use Rattle.sig_flow.proofs.word.next_word.Goals as goal
 
 pub returns-then-start-line-clause-none : goal.returns-then-start-line-clause-none

@@ -1,7 +1,4 @@
-use Rattle.std.proofs.Common.{◌≡◌, ◌≤◌, length, take, get_or, arith, subst}
-use Rattle.std.proofs.lemmas.Grind.{common_steps}
-use Rattle.sig_flow.specs.Digits.{IsShortNumber}
-use Rattle.sig_flow.proofs.Numerals.{digit_no_blank, no_blank_more, one_more_digit, short_front, value_with_digit}
+use Rattle.sig_flow.proofs.{◌≡◌, ◌≤◌, length, take, get_or, arith, subst, common_steps, IsShortNumber, digit_no_blank, no_blank_more, one_more_digit, short_front, value_with_digit}
 use Rattle.sig_flow.proofs.word.short_number_in.Goals as goal
 
 pub returns-then-not-is_ascii_digit-clause-number : goal.returns-then-not-is_ascii_digit-clause-number

@@ -1,7 +1,5 @@
 -- the bytes so far are digits, and the value is theirs
-use Rattle.std.proofs.Common.{◌≡◌, ◌<◌, ℕ, take, get_or, false}
-use Rattle.std.specs.Str.Parse.{AllDigits, digits_value}
-use Rattle.sig_flow.specs.Words.{is_blank}
+use Rattle.sig_flow.proofs.{◌≡◌, ◌<◌, ℕ, take, get_or, false, AllDigits, digits_value, is_blank}
 use Rattle.sig_flow.proofs.word.short_number_in.Given as goal
 
 abbrev pub invariant-loop-i : goal.invariant-loop-i

@@ -1,4 +1,4 @@
-use Rattle.sig_kernel.proofs.TraceLemmas.{no_instants, prefix_trace}
+use Rattle.sig_kernel.proofs.{no_instants, prefix_trace}
 use Rattle.sig_kernel.proofs.laws.beginnings_are_traces.Goals as goal
 
 pub returns-clause-none : goal.returns-clause-none

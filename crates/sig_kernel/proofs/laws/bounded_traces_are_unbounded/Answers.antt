@@ -1,4 +1,4 @@
-use Rattle.sig_kernel.proofs.RangeLemmas.{wide_reaction, wide_trace}
+use Rattle.sig_kernel.proofs.{wide_reaction, wide_trace}
 use Rattle.sig_kernel.proofs.laws.bounded_traces_are_unbounded.Goals as goal
 
 pub returns-clause-instant : goal.returns-clause-instant

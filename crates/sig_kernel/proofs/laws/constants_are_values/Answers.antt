@@ -1,4 +1,4 @@
-use Rattle.sig_kernel.proofs.ValueLemmas.{few_constants, initial_value, sampled_value}
+use Rattle.sig_kernel.proofs.{few_constants, initial_value, sampled_value}
 use Rattle.sig_kernel.proofs.laws.constants_are_values.Goals as goal
 
 pub returns-clause-bits : goal.returns-clause-bits

@@ -1,5 +1,4 @@
-use Rattle.sig_kernel.proofs.DelayLemmas.{present_leaves}
-use Rattle.sig_kernel.proofs.TraceLemmas.{reduced_leaves, silent_leaves}
+use Rattle.sig_kernel.proofs.{present_leaves, reduced_leaves, silent_leaves}
 use Rattle.sig_kernel.proofs.laws.delays_remember_the_last_value.Goals as goal
 
 pub returns-clause-present : goal.returns-clause-present

@@ -1,4 +1,4 @@
-use Rattle.sig_kernel.proofs.ValueLemmas.{remembered_value}
+use Rattle.sig_kernel.proofs.{remembered_value}
 use Rattle.sig_kernel.proofs.laws.delays_remember_values.Goals as goal
 
 pub returns : goal.returns

@@ -1,4 +1,4 @@
-use Rattle.sig_kernel.proofs.ValueLemmas.{flow_values, flows_fit}
+use Rattle.sig_kernel.proofs.{flow_values, flows_fit}
 use Rattle.sig_kernel.proofs.laws.flows_hold_values.Goals as goal
 
 pub returns-clause-values : goal.returns-clause-values

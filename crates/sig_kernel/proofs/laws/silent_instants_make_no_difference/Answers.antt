@@ -1,5 +1,4 @@
-use Rattle.sig_kernel.proofs.TextLemmas.{text_reduced}
-use Rattle.sig_kernel.proofs.TraceLemmas.{reduced_trace, silent_put_in}
+use Rattle.sig_kernel.proofs.{text_reduced, reduced_trace, silent_put_in}
 use Rattle.sig_kernel.proofs.laws.silent_instants_make_no_difference.Goals as goal
 
 pub returns-clause-taken_out : goal.returns-clause-taken_out

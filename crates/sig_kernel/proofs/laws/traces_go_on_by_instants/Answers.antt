@@ -1,4 +1,4 @@
-use Rattle.sig_kernel.proofs.TraceLemmas.{comes_from, goes_on}
+use Rattle.sig_kernel.proofs.{comes_from, goes_on}
 use Rattle.sig_kernel.proofs.laws.traces_go_on_by_instants.Goals as goal
 
 pub returns-clause-on : goal.returns-clause-on

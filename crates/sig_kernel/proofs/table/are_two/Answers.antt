@@ -1,5 +1,4 @@
-use Rattle.std.proofs.Common.{sym, arith}
-use Rattle.sig_kernel.proofs.TableLemmas.{less_than_two, more_than_two}
+use Rattle.sig_kernel.proofs.{sym, arith, less_than_two, more_than_two}
 use Rattle.sig_kernel.proofs.table.are_two.Goals as goal
 
 pub returns-in_default : goal.returns-in_default

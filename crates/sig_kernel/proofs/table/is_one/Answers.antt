@@ -1,5 +1,4 @@
-use Rattle.std.proofs.Common.{sym, arith}
-use Rattle.sig_kernel.proofs.TableLemmas.{more_than_one}
+use Rattle.sig_kernel.proofs.{sym, arith, more_than_one}
 use Rattle.sig_kernel.proofs.table.is_one.Goals as goal
 
 pub returns-in_default-2 : goal.returns-in_default-2

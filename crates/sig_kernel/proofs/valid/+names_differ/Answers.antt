@@ -1,6 +1,4 @@
-use Rattle.std.proofs.Common.{sym, refl, ◌∙◌, ap, not}
-use Rattle.std.proofs.lemmas.Bool.{false≢true}
-use Rattle.sig_kernel.proofs.ValidLemmas.{differ_more, none_differ, same_named}
+use Rattle.sig_kernel.proofs.{sym, refl, ◌∙◌, ap, not, false≢true, differ_more, none_differ, same_named}
 use Rattle.sig_kernel.proofs.valid.+names_differ.Goals as goal
 
 pub returns-then-not-has_named : goal.returns-then-not-has_named

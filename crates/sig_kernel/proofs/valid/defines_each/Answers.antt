@@ -1,6 +1,4 @@
-use Rattle.std.proofs.Common.{◌≡◌, length, refl, ap, arith}
-use Rattle.std.proofs.lemmas.Bool.{false≢true}
-use Rattle.sig_kernel.proofs.ValidLemmas.{each_once}
+use Rattle.sig_kernel.proofs.{◌≡◌, length, refl, ap, arith, false≢true, each_once}
 use Rattle.sig_kernel.proofs.valid.defines_each.Goals as goal
 use Rattle.sig_kernel.proofs.valid.defines_each.Goals.{then-signal-kernel, else-signal-kernel}
 

@@ -1,7 +1,4 @@
-use Rattle.std.proofs.Common.{◌≡◌, ℕ, ◌<◌, cond}
-use Rattle.std.specs.List.{count_by}
-use Rattle.std.specs.Prelude.{nat_lt}
-use Rattle.sig_kernel.specs.Validity.{defines}
+use Rattle.sig_kernel.proofs.{◌≡◌, ℕ, ◌<◌, cond, count_by, nat_lt, defines}
 use Rattle.sig_kernel.proofs.valid.defines_each.Given as goal
 
 abbrev pub invariant-loop-signal : goal.invariant-loop-signal

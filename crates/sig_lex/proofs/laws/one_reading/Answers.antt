@@ -1,4 +1,4 @@
-use Rattle.sig_lex.proofs.Unique.{one_list, one_first_fault, list_or_fault}
+use Rattle.sig_lex.proofs.{one_list, one_first_fault, list_or_fault}
 use Rattle.sig_lex.proofs.laws.one_reading.Goals as goal
 
 pub returns-clause-tokens : goal.returns-clause-tokens

@@ -1,4 +1,4 @@
-use Rattle.sig_lex.proofs.SliceLemmas.{in_order, ends_once}
+use Rattle.sig_lex.proofs.{in_order, ends_once}
 use Rattle.sig_lex.proofs.laws.slices_in_order.Goals as goal
 
 pub returns-clause-order : goal.returns-clause-order

@@ -1,8 +1,4 @@
-use Rattle.std.proofs.Common.{ℕ, List, [], length, Some, inl, refl, subst}
-use Rattle.std.proofs.lemmas.List.{append-nil}
-use Rattle.sig_lex.specs.Tokens.{IsLexeme}
-use Rattle.sig_lex.proofs.Fronts.{piece_there}
-use Rattle.sig_lex.proofs.SpellingLemmas.{front_spells, spells_front}
+use Rattle.sig_lex.proofs.{ℕ, List, [], length, Some, inl, refl, subst, append-nil, IsLexeme, piece_there, front_spells, spells_front}
 use Rattle.sig_lex.proofs.laws.spelling.Goals as goal
 
 pub returns-clause-alone : goal.returns-clause-alone

@@ -1,4 +1,4 @@
-use Rattle.sig_lex.proofs.Each.{some_token, token_slices, token_last, token_spelled}
+use Rattle.sig_lex.proofs.{some_token, token_slices, token_last, token_spelled}
 use Rattle.sig_lex.proofs.laws.these_tokens.Goals as goal
 
 pub returns-clause-some : goal.returns-clause-some

@@ -1,4 +1,4 @@
-use Rattle.sig_lex.proofs.Spacing.{spaced_tokens, printed_tokens}
+use Rattle.sig_lex.proofs.{spaced_tokens, printed_tokens}
 use Rattle.sig_lex.proofs.laws.tokens_of_words.Goals as goal
 
 pub returns-clause-spaced : goal.returns-clause-spaced

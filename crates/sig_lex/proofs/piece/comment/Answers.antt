@@ -1,7 +1,4 @@
-use Rattle.std.proofs.Common.{List, ℕ, None, Some, inr, refl, subst}
-use Rattle.std.proofs.lemmas.List.{take_rest}
-use Rattle.memchr.specs.Find.{IsFirstByte, is_byte}
-use Rattle.sig_lex.proofs.Comments.{closed_comment, open_comment}
+use Rattle.sig_lex.proofs.{List, ℕ, None, Some, inr, refl, subst, take_rest, IsFirstByte, is_byte, closed_comment, open_comment}
 use Rattle.sig_lex.proofs.piece.comment.Goals as goal
 
 pub returns-in-Some-clause-piece : goal.returns-in-Some-clause-piece

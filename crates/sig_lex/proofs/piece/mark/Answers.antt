@@ -1,7 +1,4 @@
-use Rattle.std.proofs.Common.{inl, refl}
-use Rattle.std.proofs.lemmas.Bool.{iff_false}
-use Rattle.sig_lex.proofs.Marks.{two_bytes, one_byte, no_mark}
-use Rattle.sig_lex.proofs.Pieces.{piece_is}
+use Rattle.sig_lex.proofs.{inl, refl, iff_false, two_bytes, one_byte, no_mark, piece_is}
 use Rattle.sig_lex.proofs.piece.mark.Goals as goal
 
 pub returns-then-begins_with_mark-clause-piece : goal.returns-then-begins_with_mark-clause-piece

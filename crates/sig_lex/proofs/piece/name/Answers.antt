@@ -1,4 +1,4 @@
-use Rattle.sig_lex.proofs.Pieces.{piece_is}
+use Rattle.sig_lex.proofs.{piece_is}
 use Rattle.sig_lex.proofs.piece.name.Goals as goal
 
 pub returns-then-is_word-clause-piece : goal.returns-then-is_word-clause-piece

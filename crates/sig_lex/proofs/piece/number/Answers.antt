@@ -1,6 +1,4 @@
-use Rattle.std.proofs.Common.{◌<◌, ap, ◌∙◌, arith, length-take, get_or-take}
-use Rattle.std.specs.Char.{is_ascii_digit}
-use Rattle.std.proofs.lemmas.List.Sums.{prefix_len_passes}
+use Rattle.sig_lex.proofs.{◌<◌, ap, ◌∙◌, arith, length-take, get_or-take, is_ascii_digit, prefix_len_passes}
 use Rattle.sig_lex.proofs.piece.number.Goals as goal
 
 -- each byte of the run is a digit

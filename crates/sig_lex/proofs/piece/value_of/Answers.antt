@@ -1,5 +1,4 @@
-use Rattle.std.proofs.Common.{arith, ◌∙◌, sym}
-use Rattle.sig_lex.proofs.Numbers.{no_text_fault, no_read_fault}
+use Rattle.sig_lex.proofs.{arith, ◌∙◌, sym, no_text_fault, no_read_fault}
 use Rattle.sig_lex.proofs.piece.value_of.Goals as goal
 
 pub returns-in_err-text : goal.returns-in_err-text

@@ -1,5 +1,4 @@
-use Rattle.std.proofs.Common.{◌∙◌}
-use Rattle.sig_lex.proofs.PlaceLemmas.{step_newline, step_other}
+use Rattle.sig_lex.proofs.{◌∙◌, step_newline, step_other}
 use Rattle.sig_lex.proofs.place.advanced.Goals as goal
 use Rattle.sig_lex.proofs.place.advanced.Goals.{then-byte-eq10, else-byte-eq10}
 

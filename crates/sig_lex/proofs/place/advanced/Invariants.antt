@@ -1,5 +1,4 @@
-use Rattle.std.proofs.Common.{◌≡◌, ◌+◌, take}
-use Rattle.sig_lex.specs.Places.{place_after}
+use Rattle.sig_lex.proofs.{◌≡◌, ◌+◌, take, place_after}
 use Rattle.sig_lex.proofs.place.advanced.Given as goal
 
 abbrev pub invariant-loop-byte : goal.invariant-loop-byte

@@ -1,4 +1,4 @@
-use Rattle.sig_lex.proofs.Unique.{given, refused}
+use Rattle.sig_lex.proofs.{given, refused}
 use Rattle.sig_lex.proofs.scan.lex.Goals as goal
 
 pub returns-clause-given : goal.returns-clause-given

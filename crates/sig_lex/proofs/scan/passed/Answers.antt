@@ -1,7 +1,4 @@
-use Rattle.std.proofs.Common.{Option, drop, subst}
-use Rattle.sig_lex.specs.declared.token.TokenKind.{TokenKind}
-use Rattle.sig_lex.specs.Tokens.{IsPiece}
-use Rattle.sig_lex.proofs.Along.{after_token}
+use Rattle.sig_lex.proofs.{Option, drop, subst, TokenKind, IsPiece, after_token}
 use Rattle.sig_lex.proofs.scan.passed.Goals as goal
 
 pub returns-in-Some : goal.returns-in-Some

@@ -1,7 +1,4 @@
-use Rattle.std.proofs.Common.{ℕ, List, subst, arith, length-drop}
-use Rattle.std.proofs.lemmas.List.{take_rest}
-use Rattle.sig_lex.specs.Tokens.{IsPiece}
-use Rattle.sig_lex.proofs.Stands.{tokens_more}
+use Rattle.sig_lex.proofs.{ℕ, List, subst, arith, length-drop, take_rest, IsPiece, tokens_more}
 use Rattle.sig_lex.proofs.scan.scanned.Goals as goal
 
 pub loop-start-preserved : goal.loop-start-preserved

@@ -1,6 +1,4 @@
-use Rattle.std.proofs.Common.{◌≡◌, ◌-◌, ◌≤◌, length, take}
-use Rattle.sig_lex.specs.Places.{place_after}
-use Rattle.sig_lex.proofs.Stands.{AreTokensTo}
+use Rattle.sig_lex.proofs.{◌≡◌, ◌-◌, ◌≤◌, length, take, place_after, AreTokensTo}
 use Rattle.sig_lex.proofs.scan.scanned.Given as goal
 
 abbrev pub invariant-loop-start : goal.invariant-loop-start

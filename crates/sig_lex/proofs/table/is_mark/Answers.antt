@@ -1,5 +1,4 @@
-use Rattle.sig_lex.specs.Tables.{marks}
-use Rattle.sig_lex.proofs.Listed.{listed}
+use Rattle.sig_lex.proofs.{marks, listed}
 use Rattle.sig_lex.proofs.table.is_mark.Goals as goal
 
 pub returns : goal.returns

@@ -1,5 +1,4 @@
-use Rattle.sig_lex.specs.Tables.{words}
-use Rattle.sig_lex.proofs.Listed.{listed}
+use Rattle.sig_lex.proofs.{words, listed}
 use Rattle.sig_lex.proofs.table.is_word.Goals as goal
 
 pub returns : goal.returns

@@ -1,5 +1,4 @@
-use Rattle.sig_text.specs.Sink.{TookPrefix-whole}
-use Rattle.sig_outcome.proofs.TakenPieces.{flushed}
+use Rattle.sig_outcome.proofs.{TookPrefix-whole, flushed}
 use Rattle.sig_outcome.proofs.due.put_whole.Goals as goal
 
 pub returns-in_err-flush-clause-prefix : goal.returns-in_err-flush-clause-prefix

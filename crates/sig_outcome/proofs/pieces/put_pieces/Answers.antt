@@ -1,5 +1,4 @@
-use Rattle.std.proofs.lemmas.Result.{err_from_is_err_and}
-use Rattle.sig_outcome.proofs.TakenPieces.{prefix_of_pieces}
+use Rattle.sig_outcome.proofs.{err_from_is_err_and, prefix_of_pieces}
 use Rattle.sig_outcome.proofs.pieces.put_pieces.Goals as goal
 
 pub returns-in_err-put_all-clause-prefix : goal.returns-in_err-put_all-clause-prefix

@@ -1,5 +1,4 @@
-use Rattle.std.proofs.Common.{[], flat_map, subst}
-use Rattle.std.proofs.lemmas.List.{append-nil}
+use Rattle.sig_outcome.proofs.{[], flat_map, subst, append-nil}
 use Rattle.sig_outcome.proofs.report.say.Goals as goal
 
 pub returns-in-Ok : goal.returns-in-Ok

@@ -1,10 +1,4 @@
-use Rattle.std.proofs.Common.{◌∙◌, [], Bool, List, sym, ap, subst, length, refl, Contains}
-use Rattle.std.proofs.lemmas.List.{get_or_read, nil_from_length}
-use Rattle.std.proofs.lemmas.List.Elements.{Contains-push}
-use Rattle.sig_base.specs.declared.ids.SigId.{SigId}
-use Rattle.sig_clock.proofs.Lists.{written}
-use Rattle.sig_part.specs.Closing.{AreClosed, Walks, is_elsewhere}
-use Rattle.sig_part.proofs.Walking.{visits_as, waiting_below, walk_begins, walk_ends, walk_goes_on}
+use Rattle.sig_part.proofs.{◌∙◌, [], Bool, List, sym, ap, subst, length, refl, Contains, get_or_read, nil_from_length, Contains-push, SigId, written, AreClosed, Walks, is_elsewhere, visits_as, waiting_below, walk_begins, walk_ends, walk_goes_on}
 use Rattle.sig_part.proofs.closing.closed.Goals as goal
 
 pub loop-x-init : goal.loop-x-init

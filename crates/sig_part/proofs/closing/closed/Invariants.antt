@@ -1,7 +1,4 @@
-use Rattle.std.proofs.Common.{◌+◌, ◌-◌, length}
-use Rattle.std.specs.Prelude.{vec_len}
-use Rattle.sig_part.specs.Closing.{Walks, is_elsewhere}
-use Rattle.sig_part.specs.Marks.{marked_count}
+use Rattle.sig_part.proofs.{◌+◌, ◌-◌, length, vec_len, Walks, is_elsewhere, marked_count}
 use Rattle.sig_part.proofs.closing.closed.Given as goal
 
 abbrev pub invariant-loop-x : goal.invariant-loop-x

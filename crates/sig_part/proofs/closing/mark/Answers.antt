@@ -1,7 +1,4 @@
-use Rattle.std.proofs.Common.{◌∙◌, ◌∷◌, [], List, sym, subst, set, true}
-use Rattle.sig_base.specs.declared.ids.SigId.{SigId}
-use Rattle.sig_part.specs.Closing.{Visits, is_elsewhere}
-use Rattle.sig_part.proofs.Walking.{elsewhere_below, visits_new}
+use Rattle.sig_part.proofs.{◌∙◌, ◌∷◌, [], List, sym, subst, set, true, SigId, Visits, is_elsewhere, elsewhere_below, visits_new}
 use Rattle.sig_part.proofs.closing.mark.Goals as goal
 
 pub returns : goal.returns

@@ -1,8 +1,4 @@
-use Rattle.std.proofs.Common.{List, sym, subst, take, get_or, ◌∷◌, []}
-use Rattle.std.proofs.lemmas.List.{take_more}
-use Rattle.sig_base.specs.declared.ids.SigId.{SigId}
-use Rattle.sig_part.specs.Closing.{Visits, is_elsewhere}
-use Rattle.sig_part.proofs.Walking.{visits_then}
+use Rattle.sig_part.proofs.{List, sym, subst, take, get_or, ◌∷◌, [], take_more, SigId, Visits, is_elsewhere, visits_then}
 use Rattle.sig_part.proofs.closing.visit.Goals as goal
 
 pub loop-x-preserved : goal.loop-x-preserved

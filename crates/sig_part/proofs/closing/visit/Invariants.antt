@@ -1,5 +1,4 @@
-use Rattle.std.proofs.Common.{take}
-use Rattle.sig_part.specs.Closing.{Visits, is_elsewhere}
+use Rattle.sig_part.proofs.{take, Visits, is_elsewhere}
 use Rattle.sig_part.proofs.closing.visit.Given as goal
 
 abbrev pub invariant-loop-x : goal.invariant-loop-x

@@ -1,11 +1,4 @@
-use Rattle.std.proofs.Common.{◌≡◌, ◌<◌, ◌∙◌, ℕ, List, length, sym, ap, subst, arith}
-use Rattle.std.proofs.lemmas.List.{length_push}
-use Rattle.sig_base.specs.declared.signal.Signal.{Signal}
-use Rattle.sig_plan.specs.Operations.{operations_in}
-use Rattle.sig_plan.specs.Parts.{cluster_count}
-use Rattle.sig_part.specs.Imported.{AreImportedBy}
-use Rattle.sig_part.specs.Uses.{AreNeededForEach}
-use Rattle.sig_part.proofs.Importing.{closed_as, closed_imported, cluster_begins, collector_begins, imported_none, imported_push}
+use Rattle.sig_part.proofs.{◌≡◌, ◌<◌, ◌∙◌, ℕ, List, length, sym, ap, subst, arith, length_push, Signal, operations_in, cluster_count, AreImportedBy, AreNeededForEach, closed_as, closed_imported, cluster_begins, collector_begins, imported_none, imported_push}
 use Rattle.sig_part.proofs.imports.imported.Goals as goal
 
 pub loop-cluster-init : goal.loop-cluster-init

@@ -1,9 +1,4 @@
-use Rattle.std.proofs.Common.{◌≡◌, List, length}
-use Rattle.sig_base.specs.declared.ids.SigId.{SigId}
-use Rattle.sig_dd.specs.declared.node.Node.{Node}
-use Rattle.sig_part.specs.Imported.{AreImportedBy}
-use Rattle.sig_part.specs.Uses.{AreNeeded}
-use Rattle.sig_plan.specs.Operations.{operations_in}
+use Rattle.sig_part.proofs.{◌≡◌, List, length, SigId, Node, AreImportedBy, AreNeeded, operations_in}
 use Rattle.sig_part.proofs.imports.imported.Given as goal
 
 abbrev pub invariant-loop-cluster : goal.invariant-loop-cluster

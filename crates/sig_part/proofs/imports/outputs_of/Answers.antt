@@ -1,5 +1,4 @@
-use Rattle.std.proofs.Common.{◌≡◌, ◌+◌, ◌≤◌, ℕ, sym, subst, arith}
-use Rattle.sig_part.proofs.Listing.{AreFromTo, from_to_more, from_to_none}
+use Rattle.sig_part.proofs.{◌≡◌, ◌+◌, ◌≤◌, ℕ, sym, subst, arith, AreFromTo, from_to_more, from_to_none}
 use Rattle.sig_part.proofs.imports.outputs_of.Goals as goal
 
 pub loop-number-init : goal.loop-number-init

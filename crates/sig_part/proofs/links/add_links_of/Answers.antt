@@ -1,10 +1,4 @@
-use Rattle.std.proofs.Common.{◌≡◌, ◌+◌, ◌++◌, ◌∷◌, [], ◌∙◌, ℕ, Bool, List, length, get_or, sym, ap, subst, arith}
-use Rattle.std.specs.Prelude.{Some}
-use Rattle.std.proofs.lemmas.List.{get_or_read}
-use Rattle.sig_plan.specs.declared.parts.LinkInfo.{LinkInfo}
-use Rattle.sig_part.specs.Linking.{AreLinksBefore}
-use Rattle.sig_part.specs.Marks.{mark_at}
-use Rattle.sig_part.proofs.Linked.{links_more, links_not}
+use Rattle.sig_part.proofs.{◌≡◌, ◌+◌, ◌++◌, ◌∷◌, [], ◌∙◌, ℕ, Bool, List, length, get_or, sym, ap, subst, arith, Some, get_or_read, LinkInfo, AreLinksBefore, mark_at, links_more, links_not}
 use Rattle.sig_part.proofs.links.add_links_of.Goals as goal
 use Rattle.sig_part.proofs.links.add_links_of.Goals.{then-has+in_ok-push, else-has}
 

@@ -1,7 +1,4 @@
-use Rattle.std.proofs.Common.{◌≡◌, List}
-use Rattle.sig_base.specs.declared.signal.Signal.{Signal}
-use Rattle.sig_plan.specs.Operations.{cluster_at}
-use Rattle.sig_part.specs.Linking.{AreLinksBefore}
+use Rattle.sig_part.proofs.{◌≡◌, List, Signal, cluster_at, AreLinksBefore}
 use Rattle.sig_part.proofs.links.add_links_of.Given as goal
 
 abbrev pub invariant-loop-reader : goal.invariant-loop-reader

@@ -1,8 +1,4 @@
-use Rattle.std.proofs.Common.{◌++◌, ◌∷◌, [], ◌∙◌, List, ap, sym, map, arith, append_assoc}
-use Rattle.std.specs.List.{range_with_len}
-use Rattle.std.proofs.lemmas.List.FromFn.{map-range_with_len_more}
-use Rattle.sig_plan.specs.Parts.{report_link}
-use Rattle.sig_plan.specs.declared.parts.LinkInfo.{LinkInfo}
+use Rattle.sig_part.proofs.{◌++◌, ◌∷◌, [], ◌∙◌, List, ap, sym, map, arith, append_assoc, range_with_len, map-range_with_len_more, report_link, LinkInfo}
 use Rattle.sig_part.proofs.links.add_reports.Goals as goal
 
 pub loop-cluster-preserved : goal.loop-cluster-preserved

@@ -1,6 +1,4 @@
-use Rattle.std.proofs.Common.{◌≡◌, ◌++◌, map}
-use Rattle.std.specs.List.{range_with_len}
-use Rattle.sig_plan.specs.Parts.{report_link}
+use Rattle.sig_part.proofs.{◌≡◌, ◌++◌, map, range_with_len, report_link}
 use Rattle.sig_part.proofs.links.add_reports.Given as goal
 
 abbrev pub invariant-loop-cluster : goal.invariant-loop-cluster

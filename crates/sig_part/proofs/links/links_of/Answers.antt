@@ -1,8 +1,4 @@
-use Rattle.std.proofs.Common.{◌≡◌, ℕ, length, sym, ap, subst, arith}
-use Rattle.sig_plan.specs.Operations.{cluster_of}
-use Rattle.sig_part.specs.Linking.{AreLinksBefore}
-use Rattle.sig_part.proofs.Linked.{links_next, links_none}
-use Rattle.sig_part.proofs.Lists.{read_is}
+use Rattle.sig_part.proofs.{◌≡◌, ℕ, length, sym, ap, subst, arith, cluster_of, AreLinksBefore, links_next, links_none, read_is}
 use Rattle.sig_part.proofs.links.links_of.Goals as goal
 
 pub loop-number-init : goal.loop-number-init

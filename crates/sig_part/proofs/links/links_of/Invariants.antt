@@ -1,4 +1,4 @@
-use Rattle.sig_part.specs.Linking.{AreLinksBefore}
+use Rattle.sig_part.proofs.{AreLinksBefore}
 use Rattle.sig_part.proofs.links.links_of.Given as goal
 
 abbrev pub invariant-loop-number : goal.invariant-loop-number

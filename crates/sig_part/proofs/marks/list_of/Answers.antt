@@ -1,7 +1,4 @@
-use Rattle.std.proofs.Common.{◌≡◌, ◌+◌, ◌++◌, ◌∷◌, [], ◌∙◌, sym, subst}
-use Rattle.sig_base.specs.declared.ids.SigId.{SigId}
-use Rattle.sig_part.specs.Marks.{AreMarked}
-use Rattle.sig_part.proofs.Listing.{marked_next, marked_not}
+use Rattle.sig_part.proofs.{◌≡◌, ◌+◌, ◌++◌, ◌∷◌, [], ◌∙◌, sym, subst, SigId, AreMarked, marked_next, marked_not}
 use Rattle.sig_part.proofs.marks.list_of.Goals as goal
 use Rattle.sig_part.proofs.marks.list_of.Goals.{then-has+in_ok-push, else-has}
 

@@ -1,4 +1,4 @@
-use Rattle.sig_part.specs.Marks.{AreMarked}
+use Rattle.sig_part.proofs.{AreMarked}
 use Rattle.sig_part.proofs.marks.list_of.Given as goal
 
 abbrev pub invariant-loop-number : goal.invariant-loop-number

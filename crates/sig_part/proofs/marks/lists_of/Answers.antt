@@ -1,8 +1,4 @@
-use Rattle.std.proofs.Common.{◌∙◌, ℕ, Bool, List, [], length, get_or, ap, subst, arith}
-use Rattle.std.proofs.lemmas.List.{get_or_read, length_push}
-use Rattle.sig_base.specs.declared.ids.SigId.{SigId}
-use Rattle.sig_part.specs.Marks.{AreMarked}
-use Rattle.sig_part.proofs.Lists.{each_more}
+use Rattle.sig_part.proofs.{◌∙◌, ℕ, Bool, List, [], length, get_or, ap, subst, arith, get_or_read, length_push, SigId, AreMarked, each_more}
 use Rattle.sig_part.proofs.marks.lists_of.Goals as goal
 
 pub loop-of_actor-preserved : goal.loop-of_actor-preserved

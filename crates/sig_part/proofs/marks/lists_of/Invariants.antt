@@ -1,6 +1,4 @@
-use Rattle.std.proofs.Common.{◌≡◌, ◌<◌, ℕ, []}
-use Rattle.std.specs.Prelude.{length, slice_index_or}
-use Rattle.sig_part.specs.Marks.{AreMarked}
+use Rattle.sig_part.proofs.{◌≡◌, ◌<◌, ℕ, [], length, slice_index_or, AreMarked}
 use Rattle.sig_part.proofs.marks.lists_of.Given as goal
 
 abbrev pub invariant-loop-of_actor : goal.invariant-loop-of_actor

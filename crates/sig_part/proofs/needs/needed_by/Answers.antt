@@ -1,8 +1,4 @@
-use Rattle.std.proofs.Common.{◌∙◌, ap}
-use Rattle.std.specs.Prelude.{slice_get}
-use Rattle.std.specs.List.{filter_map}
-use Rattle.sig_clock.specs.Clocks.{ClocksView}
-use Rattle.sig_part.proofs.Using.{needs_are}
+use Rattle.sig_part.proofs.{◌∙◌, ap, slice_get, filter_map, ClocksView, needs_are}
 use Rattle.sig_part.proofs.needs.needed_by.Goals as goal
 
 pub returns : goal.returns

@@ -1,12 +1,4 @@
-use Rattle.std.proofs.Common.{◌≡◌, ◌↔◌, ◌∙◌, ℕ, List, [], ap, subst, arith, length, Contains}
-use Rattle.std.specs.Prelude.{Some, slice_get}
-use Rattle.std.proofs.lemmas.List.{length_push}
-use Rattle.sig_base.specs.declared.ids.SigId.{SigId}
-use Rattle.sig_plan.specs.Operations.{operation_in}
-use Rattle.sig_plan.specs.Order.{Needs}
-use Rattle.sig_plan.specs.declared.op.Op.{Op}
-use Rattle.sig_clock.proofs.Lists.{get_within}
-use Rattle.sig_part.proofs.Lists.{each_more, get_is}
+use Rattle.sig_part.proofs.{◌≡◌, ◌↔◌, ◌∙◌, ℕ, List, [], ap, subst, arith, length, Contains, Some, slice_get, length_push, SigId, operation_in, Needs, Op, get_within, each_more, get_is}
 use Rattle.sig_part.proofs.needs.needed_by_each.Goals as goal
 
 pub loop-op-preserved : goal.loop-op-preserved

@@ -1,9 +1,4 @@
-use Rattle.std.proofs.Common.{◌≡◌, ◌<◌, ◌↔◌, ℕ, []}
-use Rattle.std.specs.Prelude.{length, slice_get, slice_index_or, Some, Contains}
-use Rattle.sig_base.specs.declared.ids.SigId.{SigId}
-use Rattle.sig_plan.specs.Operations.{operation_in}
-use Rattle.sig_plan.specs.Order.{Needs}
-use Rattle.sig_plan.specs.declared.op.Op.{Op}
+use Rattle.sig_part.proofs.{◌≡◌, ◌<◌, ◌↔◌, ℕ, [], length, slice_get, slice_index_or, Some, Contains, SigId, operation_in, Needs, Op}
 use Rattle.sig_part.proofs.needs.needed_by_each.Given as goal
 
 abbrev pub invariant-loop-op : goal.invariant-loop-op

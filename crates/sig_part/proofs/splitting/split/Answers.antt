@@ -1,6 +1,4 @@
-use Rattle.std.proofs.lemmas.Result.{IfOk-weaker, IfErr-weaker}
-use Rattle.sig_plan.specs.Operations.{operations_in, presence_in}
-use Rattle.sig_plan.proofs.Writing.{operations_written}
+use Rattle.sig_part.proofs.{IfOk-weaker, IfErr-weaker, operations_in, presence_in, operations_written}
 use Rattle.sig_part.proofs.splitting.split.Goals as goal
 
 pub returns-clause-parts : goal.returns-clause-parts

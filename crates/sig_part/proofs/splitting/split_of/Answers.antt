@@ -1,12 +1,4 @@
-use Rattle.std.proofs.Common.{◌≡◌, ◌<◌, ◌∙◌, List, length, refl, sym, ap, subst, arith, rules}
-use Rattle.std.specs.Prelude.{vec_len}
-use Rattle.sig_base.specs.declared.ids.SigId.{SigId}
-use Rattle.sig_base.specs.declared.limits.TheConstants.{LINKS}
-use Rattle.sig_part.specs.Uses.{AreNeeded}
-use Rattle.sig_plan.specs.Operations.{operations_in}
-use Rattle.sig_plan.specs.Parts.{cluster_count}
-use Rattle.sig_part.proofs.Existing.{clusters_link}
-use Rattle.sig_part.proofs.Parting.{parts_as}
+use Rattle.sig_part.proofs.{◌≡◌, ◌<◌, ◌∙◌, List, length, refl, sym, ap, subst, arith, rules, vec_len, SigId, LINKS, AreNeeded, operations_in, cluster_count, clusters_link, parts_as}
 use Rattle.sig_part.proofs.splitting.split_of.Goals as goal
 
 pub returns-then-count-from-clause-refused : goal.returns-then-count-from-clause-refused

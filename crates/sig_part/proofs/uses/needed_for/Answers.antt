@@ -1,10 +1,4 @@
-use Rattle.std.proofs.Common.{◌≡◌, ◌<◌, ◌+◌, ◌↔◌, ◌++◌, ◌∙◌, ℕ, List, [], length, sym, subst, arith, Contains}
-use Rattle.std.proofs.lemmas.Bool.{false≢true}
-use Rattle.std.proofs.lemmas.List.{get_or_read}
-use Rattle.sig_base.specs.declared.ids.SigId.{SigId}
-use Rattle.sig_part.specs.Uses.{IsNeededWithin}
-use Rattle.sig_part.proofs.Lists.{read_is}
-use Rattle.sig_part.proofs.Using.{needed_more, needed_not}
+use Rattle.sig_part.proofs.{◌≡◌, ◌<◌, ◌+◌, ◌↔◌, ◌++◌, ◌∙◌, ℕ, List, [], length, sym, subst, arith, Contains, false≢true, get_or_read, SigId, IsNeededWithin, read_is, needed_more, needed_not}
 use Rattle.sig_part.proofs.uses.needed_for.Goals as goal
 use Rattle.sig_part.proofs.uses.needed_for.Goals.{then-writes+in_ok-extend_from_slice, else-writes}
 

@@ -1,9 +1,4 @@
-use Rattle.std.proofs.Common.{◌≡◌, ◌↔◌, ◌∙◌, ℕ, List, [], length, refl, sym, ap, subst, arith, Contains}
-use Rattle.std.proofs.lemmas.List.{length_push}
-use Rattle.sig_base.specs.declared.ids.SigId.{SigId}
-use Rattle.sig_part.specs.Uses.{IsNeededWithin}
-use Rattle.sig_part.proofs.Lists.{each_more}
-use Rattle.sig_part.proofs.Marking.{signal_same}
+use Rattle.sig_part.proofs.{◌≡◌, ◌↔◌, ◌∙◌, ℕ, List, [], length, refl, sym, ap, subst, arith, Contains, length_push, SigId, IsNeededWithin, each_more, signal_same}
 use Rattle.sig_part.proofs.uses.needed_for_each.Goals as goal
 
 pub loop-number-preserved : goal.loop-number-preserved

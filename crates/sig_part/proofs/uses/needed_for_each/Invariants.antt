@@ -1,7 +1,4 @@
-use Rattle.std.proofs.Common.{◌≡◌, ◌<◌, ◌↔◌, ℕ, []}
-use Rattle.std.specs.Prelude.{length, slice_index_or, Contains}
-use Rattle.sig_base.specs.declared.ids.SigId.{SigId}
-use Rattle.sig_part.specs.Uses.{IsNeededWithin}
+use Rattle.sig_part.proofs.{◌≡◌, ◌<◌, ◌↔◌, ℕ, [], length, slice_index_or, Contains, SigId, IsNeededWithin}
 use Rattle.sig_part.proofs.uses.needed_for_each.Given as goal
 
 abbrev pub invariant-loop-number : goal.invariant-loop-number

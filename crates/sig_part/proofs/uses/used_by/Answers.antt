@@ -1,9 +1,4 @@
-use Rattle.std.proofs.Common.{◌≡◌, ◌<◌, ◌+◌, ◌↔◌, ◌++◌, ◌∙◌, ℕ, List, [], length, sym, subst, arith, Contains}
-use Rattle.std.proofs.lemmas.List.{get_or_read}
-use Rattle.sig_base.specs.declared.ids.SigId.{SigId}
-use Rattle.sig_part.specs.Uses.{IsUsedWithin}
-use Rattle.sig_part.proofs.Lists.{read_is}
-use Rattle.sig_part.proofs.Using.{used_more, used_not}
+use Rattle.sig_part.proofs.{◌≡◌, ◌<◌, ◌+◌, ◌↔◌, ◌++◌, ◌∙◌, ℕ, List, [], length, sym, subst, arith, Contains, get_or_read, SigId, IsUsedWithin, read_is, used_more, used_not}
 use Rattle.sig_part.proofs.uses.used_by.Goals as goal
 use Rattle.sig_part.proofs.uses.used_by.Goals.{then-op-cluster+in_ok-extend_from_slice+in_ok-extend_from_slice-2, else-op-cluster}
 

@@ -1,7 +1,4 @@
-use Rattle.std.proofs.Common.{◌↔◌}
-use Rattle.std.specs.Prelude.{Contains}
-use Rattle.sig_base.specs.declared.ids.SigId.{SigId}
-use Rattle.sig_part.specs.Uses.{IsUsedWithin}
+use Rattle.sig_part.proofs.{◌↔◌, Contains, SigId, IsUsedWithin}
 use Rattle.sig_part.proofs.uses.used_by.Given as goal
 
 abbrev pub invariant-loop-number : goal.invariant-loop-number

@@ -1,4 +1,4 @@
-use Rattle.sig_plan.proofs.OperationsOnce.{operations_once}
+use Rattle.sig_plan.proofs.{operations_once}
 use Rattle.sig_plan.proofs.laws.a_kernel_has_its_operations_once.Goals as goal
 
 pub returns : goal.returns

@@ -1,4 +1,4 @@
-use Rattle.sig_plan.proofs.FaultOnce.{accepted_or_refused, fault_once}
+use Rattle.sig_plan.proofs.{accepted_or_refused, fault_once}
 use Rattle.sig_plan.proofs.laws.a_kernel_has_one_fault_at_most.Goals as goal
 
 pub returns-clause-one : goal.returns-clause-one

@@ -1,4 +1,4 @@
-use Rattle.sig_plan.proofs.Guards.{clocks_kept, guards_held, presence_stays}
+use Rattle.sig_plan.proofs.{clocks_kept, guards_held, presence_stays}
 use Rattle.sig_plan.proofs.laws.clocks_stay.Goals as goal
 
 pub returns : goal.returns

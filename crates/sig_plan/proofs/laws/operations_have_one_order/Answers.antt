@@ -1,6 +1,4 @@
-use Rattle.std.proofs.Common.{length}
-use Rattle.sig_plan.specs.Order.{Precedes}
-use Rattle.sig_plan.proofs.Orders.{kept_order, none_before_itself, same_order, stands_once, stands_somewhere}
+use Rattle.sig_plan.proofs.{length, Precedes, kept_order, none_before_itself, same_order, stands_once, stands_somewhere}
 use Rattle.sig_plan.proofs.laws.operations_have_one_order.Goals as goal
 
 pub returns : goal.returns

@@ -1,4 +1,4 @@
-use Rattle.sig_plan.proofs.SmallShares.{small_of_conditions, small_of_unknowns}
+use Rattle.sig_plan.proofs.{small_of_conditions, small_of_unknowns}
 use Rattle.sig_plan.proofs.laws.operations_need_few_nodes.Goals as goal
 
 pub returns : goal.returns

@@ -1,4 +1,4 @@
-use Rattle.sig_plan.proofs.PlanOnce.{codes_alike, same_actors, same_conditions, same_ids, same_links, same_operations}
+use Rattle.sig_plan.proofs.{codes_alike, same_actors, same_conditions, same_ids, same_links, same_operations}
 use Rattle.sig_plan.proofs.laws_accepted.a_kernel_has_one_plan.Goals as goal
 
 pub returns : goal.returns

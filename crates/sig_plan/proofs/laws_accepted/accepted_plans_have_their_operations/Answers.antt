@@ -1,4 +1,4 @@
-use Rattle.sig_plan.proofs.Accepted.{operations_made_are, plan_operations}
+use Rattle.sig_plan.proofs.{operations_made_are, plan_operations}
 use Rattle.sig_plan.proofs.laws_accepted.accepted_plans_have_their_operations.Goals as goal
 
 pub returns : goal.returns

@@ -1,4 +1,4 @@
-use Rattle.sig_plan.proofs.Naming.{order_names, slot_parent, step_instruction, step_names, step_slot}
+use Rattle.sig_plan.proofs.{order_names, slot_parent, step_instruction, step_names, step_slot}
 use Rattle.sig_plan.proofs.laws_accepted.codes_name_what_is_there.Goals as goal
 
 pub returns : goal.returns

@@ -1,4 +1,4 @@
-use Rattle.sig_plan.proofs.Slotted.{guard_agrees, guard_alone, guard_asks, guard_held}
+use Rattle.sig_plan.proofs.{guard_agrees, guard_alone, guard_asks, guard_held}
 use Rattle.sig_plan.proofs.laws_accepted.guards_of_plans_ask_no_absent_condition.Goals as goal
 
 pub returns : goal.returns

@@ -1,4 +1,4 @@
-use Rattle.sig_plan.proofs.Instructing.{instruction_for}
+use Rattle.sig_plan.proofs.{instruction_for}
 use Rattle.sig_plan.proofs.laws_accepted.instructions_are_for_operations.Goals as goal
 
 pub returns : goal.returns

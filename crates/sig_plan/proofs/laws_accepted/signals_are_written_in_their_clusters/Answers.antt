@@ -1,4 +1,4 @@
-use Rattle.sig_plan.proofs.Writing.{operations_written}
+use Rattle.sig_plan.proofs.{operations_written}
 use Rattle.sig_plan.proofs.laws_accepted.signals_are_written_in_their_clusters.Goals as goal
 
 pub returns : goal.returns

@@ -1,4 +1,4 @@
-use Rattle.sig_plan.proofs.Done.{present_written, written_by_one, written_present}
+use Rattle.sig_plan.proofs.{present_written, written_by_one, written_present}
 use Rattle.sig_plan.proofs.laws_done.present_signals_are_written_once.Goals as goal
 
 pub returns : goal.returns

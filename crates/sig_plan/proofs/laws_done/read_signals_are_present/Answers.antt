@@ -1,4 +1,4 @@
-use Rattle.sig_plan.proofs.Done.{read_present}
+use Rattle.sig_plan.proofs.{read_present}
 use Rattle.sig_plan.proofs.laws_done.read_signals_are_present.Goals as goal
 
 pub returns : goal.returns

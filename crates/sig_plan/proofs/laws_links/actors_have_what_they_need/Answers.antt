@@ -1,5 +1,4 @@
-use Rattle.sig_plan.proofs.Positions.{positions_rise}
-use Rattle.sig_plan.proofs.Provided.{committed_before, condition_before, read_before, sent_before}
+use Rattle.sig_plan.proofs.{positions_rise, committed_before, condition_before, read_before, sent_before}
 use Rattle.sig_plan.proofs.laws_links.actors_have_what_they_need.Goals as goal
 
 pub returns : goal.returns

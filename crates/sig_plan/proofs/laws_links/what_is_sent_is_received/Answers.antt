@@ -1,4 +1,4 @@
-use Rattle.sig_plan.proofs.LinkEnds.{paired, report_paired}
+use Rattle.sig_plan.proofs.{paired, report_paired}
 use Rattle.sig_plan.proofs.laws_links.what_is_sent_is_received.Goals as goal
 
 pub returns : goal.returns

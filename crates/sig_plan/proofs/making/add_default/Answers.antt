@@ -1,13 +1,4 @@
-use Rattle.std.proofs.Common.{sym, ap, ◌∙◌, ◌∷◌, [], ◌++◌, List, subst}
-use Rattle.std.specs.Prelude.{Some}
-use Rattle.std.proofs.lemmas.Result.{on_ok_weaker}
-use Rattle.sig_base.specs.declared.ids.SigId.{SigId}
-use Rattle.sig_plan.specs.Making.{Extends}
-use Rattle.sig_plan.specs.Operations.{cluster_at, default_of}
-use Rattle.sig_plan.specs.declared.op.Op.{Op}
-use Rattle.sig_plan.specs.declared.op.OpKind.TheVariants.{Left, Right}
-use Rattle.sig_plan.proofs.Adding.{extends_default}
-use Rattle.sig_plan.proofs.Spending.{spends_after, spends_after_err, spends_refused}
+use Rattle.sig_plan.proofs.{sym, ap, ◌∙◌, ◌∷◌, [], ◌++◌, List, subst, Some, on_ok_weaker, SigId, Extends, cluster_at, default_of, Op, Left, Right, extends_default, spends_after, spends_after_err, spends_refused}
 use Rattle.sig_plan.proofs.making.add_default.Goals as goal
 
 pub returns-in_err-other-clause-spends : goal.returns-in_err-other-clause-spends

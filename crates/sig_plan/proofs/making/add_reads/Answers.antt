@@ -1,8 +1,4 @@
-use Rattle.std.proofs.Common.{sym, arith}
-use Rattle.std.proofs.lemmas.List.FromFn.{map-range_with_len_more}
-use Rattle.sig_clock.specs.Conditions.{signal_id}
-use Rattle.sig_plan.specs.Operations.{read_of}
-use Rattle.sig_plan.proofs.Adding.{adds_next}
+use Rattle.sig_plan.proofs.{sym, arith, map-range_with_len_more, signal_id, read_of, adds_next}
 use Rattle.sig_plan.proofs.making.add_reads.Goals as goal
 
 pub loop-number-preserved : goal.loop-number-preserved

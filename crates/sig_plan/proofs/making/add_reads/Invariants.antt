@@ -1,8 +1,4 @@
-use Rattle.std.proofs.Common.{map}
-use Rattle.std.specs.List.{range_with_len}
-use Rattle.sig_clock.specs.Conditions.{signal_id}
-use Rattle.sig_plan.specs.Making.{Adds}
-use Rattle.sig_plan.specs.Operations.{read_of}
+use Rattle.sig_plan.proofs.{map, range_with_len, signal_id, Adds, read_of}
 use Rattle.sig_plan.proofs.making.add_reads.Given as goal
 
 abbrev pub invariant-loop-number : goal.invariant-loop-number

@@ -1,6 +1,4 @@
-use Rattle.std.proofs.Common.{sym, ap, []}
-use Rattle.sig_plan.specs.Operations.{store_of, stores_of}
-use Rattle.sig_plan.proofs.Adding.{adds_next, adds_none}
+use Rattle.sig_plan.proofs.{sym, ap, [], store_of, stores_of, adds_next, adds_none}
 use Rattle.sig_plan.proofs.making.add_store_of.Goals as goal
 
 pub returns-in_ok-push-in-Delay : goal.returns-in_ok-push-in-Delay

@@ -1,5 +1,4 @@
-use Rattle.sig_plan.specs.Operations.{stores_of}
-use Rattle.sig_plan.proofs.Adding.{adds_then, equation_more}
+use Rattle.sig_plan.proofs.{stores_of, adds_then, equation_more}
 use Rattle.sig_plan.proofs.making.add_stores.Goals as goal
 
 pub loop-number-preserved : goal.loop-number-preserved

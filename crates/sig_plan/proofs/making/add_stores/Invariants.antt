@@ -1,6 +1,4 @@
-use Rattle.std.proofs.Common.{take}
-use Rattle.sig_plan.specs.Making.{Adds}
-use Rattle.sig_plan.specs.Operations.{of_each, stores_of}
+use Rattle.sig_plan.proofs.{take, Adds, of_each, stores_of}
 use Rattle.sig_plan.proofs.making.add_stores.Given as goal
 
 abbrev pub invariant-loop-number : goal.invariant-loop-number

@@ -1,8 +1,4 @@
-use Rattle.std.proofs.Common.{◌≡◌, ◌+◌, ◌*◌, ◌≤◌, ℕ, length, Ok, Err, subst, arith}
-use Rattle.sig_plan.specs.Operations.{writes_of}
-use Rattle.sig_plan.proofs.Adding.{equation_more, extends_then}
-use Rattle.sig_plan.proofs.Guards.{presence_stays}
-use Rattle.sig_plan.proofs.Spending.{SpendsSoFar, spends_err, spends_then, spends_wider}
+use Rattle.sig_plan.proofs.{◌≡◌, ◌+◌, ◌*◌, ◌≤◌, ℕ, length, Ok, Err, subst, arith, writes_of, equation_more, extends_then, presence_stays, SpendsSoFar, spends_err, spends_then, spends_wider}
 use Rattle.sig_plan.proofs.making.add_writes.Goals as goal
 
 pub returns-in_err-add_writes_of-clause-spends : goal.returns-in_err-add_writes_of-clause-spends

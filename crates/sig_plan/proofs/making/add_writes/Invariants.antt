@@ -1,7 +1,4 @@
-use Rattle.std.proofs.Common.{◌*◌, take}
-use Rattle.sig_plan.specs.Making.{Extends}
-use Rattle.sig_plan.specs.Operations.{of_each, writes_of}
-use Rattle.sig_plan.proofs.Spending.{SpendsSoFar}
+use Rattle.sig_plan.proofs.{◌*◌, take, Extends, of_each, writes_of, SpendsSoFar}
 use Rattle.sig_plan.proofs.making.add_writes.Given as goal
 
 abbrev pub invariant-loop-number : goal.invariant-loop-number

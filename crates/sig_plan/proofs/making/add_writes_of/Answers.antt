@@ -1,14 +1,4 @@
-use Rattle.std.proofs.Common.{◌≡◌, ◌⊎◌, inl, inr, ℤ, sym, ap, ◌∙◌, ◌∷◌, [], List, subst}
-use Rattle.std.proofs.lemmas.Result.{on_ok_weaker}
-use Rattle.sig_base.specs.declared.ids.EqId.{EqId}
-use Rattle.sig_base.specs.declared.ids.SigId.{SigId}
-use Rattle.sig_base.specs.declared.signal.Signal.{Signal}
-use Rattle.sig_kernel.specs.declared.equation.Form.{Form}
-use Rattle.sig_kernel.specs.declared.equation.Form.TheVariants.{WhenConst, Event}
-use Rattle.sig_plan.specs.Making.{Extends}
-use Rattle.sig_plan.specs.Operations.{Presence, signals_of, writes_of, writing}
-use Rattle.sig_plan.specs.declared.op.OpKind.TheVariants.{Compute, DelayRead}
-use Rattle.sig_plan.proofs.Adding.{extends_one}
+use Rattle.sig_plan.proofs.{◌≡◌, ◌⊎◌, inl, inr, ℤ, sym, ap, ◌∙◌, ◌∷◌, [], List, subst, on_ok_weaker, EqId, SigId, Signal, Form, WhenConst, Event, Extends, Presence, signals_of, writes_of, writing, Compute, DelayRead, extends_one}
 use Rattle.sig_plan.proofs.making.add_writes_of.Goals as goal
 
 pub returns-in_ok-reads-in-Fun-clause-adds : goal.returns-in_ok-reads-in-Fun-clause-adds

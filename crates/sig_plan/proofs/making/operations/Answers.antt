@@ -1,11 +1,4 @@
-use Rattle.std.proofs.Common.{◌≡◌, ◌*◌, ℕ, List, Ok, ap, length, subst}
-use Rattle.sig_clock.specs.Clocks.{ClocksView}
-use Rattle.sig_dd.specs.Nodes.{StoreView}
-use Rattle.sig_kernel.specs.declared.equation.Equation.{Equation}
-use Rattle.sig_plan.specs.Making.{Spends}
-use Rattle.sig_plan.proofs.Guards.{clocks_kept}
-use Rattle.sig_plan.proofs.Operating.{operations_made, share_made, share_without_memory, within_share}
-use Rattle.sig_plan.proofs.Spending.{spends_err}
+use Rattle.sig_plan.proofs.{◌≡◌, ◌*◌, ℕ, List, Ok, ap, length, subst, ClocksView, StoreView, Equation, Spends, clocks_kept, operations_made, share_made, share_without_memory, within_share, spends_err}
 use Rattle.sig_plan.proofs.making.operations.Goals as goal
 
 pub returns-in_err-add_writes-clause-clocks : goal.returns-in_err-add_writes-clause-clocks

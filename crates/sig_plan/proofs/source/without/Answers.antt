@@ -1,8 +1,4 @@
-use Rattle.std.proofs.Common.{Bool, List, not, ◌&&◌, ◌∙◌}
-use Rattle.std.proofs.lemmas.Result.{IfOk-weaker}
-use Rattle.sig_dd.specs.Nodes.{Spans, test}
-use Rattle.sig_dd.proofs.Adding.{Share-then}
-use Rattle.sig_dd.proofs.CallerLemmas.{Agree-kept, Depends-of_one, Spans-kept, Spans-of}
+use Rattle.sig_plan.proofs.{Bool, List, not, ◌&&◌, ◌∙◌, IfOk-weaker, Spans, test, Share-then, Agree-kept, Depends-of_one, Spans-kept, Spans-of}
 use Rattle.sig_plan.proofs.source.without.Goals as goal
 
 pub returns-clause-value : goal.returns-clause-value

@@ -1,11 +1,5 @@
-use Rattle.std.proofs.Common.{rules, map, ◌∷◌, codes, ap, ◌∙◌}
-use Rattle.sig_lex.specs.declared.token.TokenKind.TheVariants.{Mark}
-use Rattle.sig_tree.specs.Syntax.{equations_of}
-use Rattle.sig_print.specs.Canonical.{body_list_words, body_words, left_words}
-use Rattle.sig_print.specs.Words.{mark, on_new_line}
-use Rattle.sig_print.proofs.Spaces.{joined, then_word, then_words, last_word, further_step, each_end}
+use Rattle.sig_print.proofs.{rules, map, ◌∷◌, codes, ap, ◌∙◌, Mark, equations_of, body_list_words, body_words, left_words, mark, on_new_line, joined, then_word, then_words, last_word, further_step, each_end, together_words}
 use Rattle.sig_print.proofs.equation.+body.Goals as goal
-use Rattle.sig_print.proofs.Rows.{together_words}
 
 pub all_bodies-loop-one-preserved : goal.all_bodies-loop-one-preserved
 all_bodies-loop-one-preserved t c = further_step (λ b. body_words (equations_of b)) (on_new_line Mark (codes "|")) _ _ _ _ c.in-Some.rest.now _ c.one-item.result

@@ -1,7 +1,4 @@
-use Rattle.std.proofs.Common.{codes, ◌++◌}
-use Rattle.sig_print.specs.Canonical.{constant_words, further}
-use Rattle.sig_print.specs.Words.{mark}
-use Rattle.sig_print.proofs.Spaces.{joined, then_word, then_words, last_word}
+use Rattle.sig_print.proofs.{codes, ◌++◌, constant_words, further, mark, joined, then_word, then_words, last_word}
 use Rattle.sig_print.proofs.equation.constants.Goals as goal
 
 pub returns-in_ok-further_constants-in-Some : goal.returns-in_ok-further_constants-in-Some

@@ -1,7 +1,4 @@
-use Rattle.sig_tree.specs.Levels.{default_level}
-use Rattle.sig_tree.specs.Syntax.{expression_of}
-use Rattle.sig_print.specs.Canonical.{expression_words}
-use Rattle.sig_print.proofs.Spaces.{then_words}
+use Rattle.sig_print.proofs.{default_level, expression_of, expression_words, then_words}
 use Rattle.sig_print.proofs.equation.expressions.Goals as goal
 
 pub returns-in_ok-expression-in-Some : goal.returns-in_ok-expression-in-Some

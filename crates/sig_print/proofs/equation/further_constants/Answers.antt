@@ -1,7 +1,4 @@
-use Rattle.std.proofs.Common.{rules, codes}
-use Rattle.sig_print.specs.Canonical.{constant_words}
-use Rattle.sig_print.specs.Words.{mark}
-use Rattle.sig_print.proofs.Spaces.{further_step}
+use Rattle.sig_print.proofs.{rules, codes, constant_words, mark, further_step}
 use Rattle.sig_print.proofs.equation.further_constants.Goals as goal
 
 pub loop-one-preserved : goal.loop-one-preserved

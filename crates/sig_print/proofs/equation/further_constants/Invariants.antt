@@ -1,7 +1,4 @@
-use Rattle.std.proofs.Common.{codes, take, ◌≡◌, ◌++◌}
-use Rattle.sig_lex.specs.Lexemes.{spaced_text}
-use Rattle.sig_print.specs.Canonical.{constant_words, further}
-use Rattle.sig_print.specs.Words.{mark}
+use Rattle.sig_print.proofs.{codes, take, ◌≡◌, ◌++◌, spaced_text, constant_words, further, mark}
 use Rattle.sig_print.proofs.equation.further_constants.Given as goal
 
 abbrev pub invariant-loop-one : goal.invariant-loop-one

@@ -1,9 +1,4 @@
-use Rattle.std.proofs.Common.{rules, ◌∷◌}
-use Rattle.sig_tree.specs.Levels.{default_level}
-use Rattle.sig_tree.specs.Syntax.{expression_of}
-use Rattle.sig_print.specs.Canonical.{expression_words}
-use Rattle.sig_print.specs.Words.{mark}
-use Rattle.sig_print.proofs.Spaces.{further_step, each_end}
+use Rattle.sig_print.proofs.{rules, ◌∷◌, default_level, expression_of, expression_words, mark, further_step, each_end}
 use Rattle.sig_print.proofs.equation.further_expressions.Goals as goal
 
 pub loop-e-preserved : goal.loop-e-preserved

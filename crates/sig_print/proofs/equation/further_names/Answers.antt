@@ -1,6 +1,4 @@
-use Rattle.std.proofs.Common.{rules, [], ◌∷◌, codes}
-use Rattle.sig_print.specs.Words.{mark, name}
-use Rattle.sig_print.proofs.Spaces.{one_word, further_step}
+use Rattle.sig_print.proofs.{rules, [], ◌∷◌, codes, mark, name, one_word, further_step}
 use Rattle.sig_print.proofs.equation.further_names.Goals as goal
 
 pub loop-name-preserved : goal.loop-name-preserved

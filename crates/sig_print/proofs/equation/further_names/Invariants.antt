@@ -1,7 +1,4 @@
-use Rattle.std.proofs.Common.{codes, take, ◌≡◌, ◌++◌, ◌∷◌, []}
-use Rattle.sig_lex.specs.Lexemes.{spaced_text}
-use Rattle.sig_print.specs.Canonical.{further}
-use Rattle.sig_print.specs.Words.{mark, name}
+use Rattle.sig_print.proofs.{codes, take, ◌≡◌, ◌++◌, ◌∷◌, [], spaced_text, further, mark, name}
 use Rattle.sig_print.proofs.equation.further_names.Given as goal
 
 abbrev pub invariant-loop-name : goal.invariant-loop-name

@@ -1,9 +1,5 @@
-use Rattle.std.proofs.Common.{[], ◌∷◌, codes, ◌≡◌, length, List, ◌++◌, refl}
-use Rattle.sig_print.specs.Canonical.{left_words, names_words}
-use Rattle.sig_print.specs.Words.{mark}
-use Rattle.sig_print.proofs.Spaces.{then_word, then_words, last_word}
+use Rattle.sig_print.proofs.{[], ◌∷◌, codes, ◌≡◌, length, List, ◌++◌, refl, left_words, names_words, mark, then_word, then_words, last_word, Name as TreeName}
 use Rattle.sig_print.proofs.equation.left_side.Goals as goal
-use Rattle.sig_tree.specs.declared.expr.Name.{Name as TreeName}
 
 several : (names : List TreeName) → (length names ≡ 1 → ⊥) → left_words names ≡ mark (codes "(") ∷ (names_words names ++ mark (codes ")") ∷ [])
 several [] h = refl

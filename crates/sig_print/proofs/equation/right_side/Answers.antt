@@ -1,9 +1,4 @@
-use Rattle.std.proofs.Common.{map, codes}
-use Rattle.sig_tree.specs.Levels.{default_level}
-use Rattle.sig_tree.specs.Syntax.{expression_of}
-use Rattle.sig_print.specs.Canonical.{constants_words, expression_words, separated}
-use Rattle.sig_print.specs.Words.{mark, name}
-use Rattle.sig_print.proofs.Spaces.{then_word, then_words, last_word}
+use Rattle.sig_print.proofs.{map, codes, default_level, expression_of, constants_words, expression_words, separated, mark, name, then_word, then_words, last_word}
 use Rattle.sig_print.proofs.equation.right_side.Goals as goal
 
 pub returns-in_ok-expressions-in-Call : goal.returns-in_ok-expressions-in-Call

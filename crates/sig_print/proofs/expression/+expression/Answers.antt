@@ -1,9 +1,4 @@
-use Rattle.std.proofs.Common.{◌∷◌, codes}
-use Rattle.sig_tree.specs.Syntax.{expression_of}
-use Rattle.sig_tree.specs.Levels.{left_level, delay_level, mixed_level, primary_level}
-use Rattle.sig_print.specs.Canonical.{optional_init_words, expression_words, bare_words}
-use Rattle.sig_print.specs.Words.{unary_word, binary_word, mark, one, reserved}
-use Rattle.sig_print.proofs.Spaces.{then_word, then_words, last_word}
+use Rattle.sig_print.proofs.{◌∷◌, codes, expression_of, left_level, delay_level, mixed_level, primary_level, optional_init_words, expression_words, bare_words, unary_word, binary_word, mark, one, reserved, then_word, then_words, last_word}
 use Rattle.sig_print.proofs.expression.+expression.Goals as goal
 
 pub bare-returns-in_ok-word-in-Unary : goal.bare-returns-in_ok-word-in-Unary

@@ -1,14 +1,4 @@
-use Rattle.std.proofs.Common.{List, sym, subst, map}
-use Rattle.std.specs.List.{flat_map}
-use Rattle.sig_tree.specs.Terminals.{Leaf}
-use Rattle.sig_tree.specs.Limits.{both_limits}
-use Rattle.sig_tree.specs.Leaves.{leaves_of}
-use Rattle.sig_tree.specs.Repeated.{Each}
-use Rattle.sig_tree.specs.Processes.{IsModel}
-use Rattle.sig_tree.specs.Unplaced.{unplaced_model}
-use Rattle.sig_print.specs.Canonical.{canonical_text, process_words}
-use Rattle.sig_print.proofs.ReadExpressions.{each_read}
-use Rattle.sig_print.proofs.ReadProcesses.{model_read, leaves_read, some_process}
+use Rattle.sig_print.proofs.{List, sym, subst, map, flat_map, Leaf, both_limits, leaves_of, Each, IsModel, unplaced_model, canonical_text, process_words, each_read, model_read, leaves_read, some_process}
 use Rattle.sig_print.proofs.laws.canonical_leaves.Goals as goal
 
 pub returns : goal.returns

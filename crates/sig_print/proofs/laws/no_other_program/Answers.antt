@@ -1,6 +1,4 @@
-use Rattle.std.proofs.Common.{ap, ◌∙◌}
-use Rattle.sig_tree.specs.Unplaced.{unplaced}
-use Rattle.sig_print.specs.Canonical.{canonical_text}
+use Rattle.sig_print.proofs.{ap, ◌∙◌, unplaced, canonical_text}
 use Rattle.sig_print.proofs.laws.no_other_program.Goals as goal
 
 -- src/laws.rt:54:1

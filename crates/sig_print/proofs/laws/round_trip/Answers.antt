@@ -1,10 +1,4 @@
-use Rattle.sig_tree.specs.Limits.{both_limits}
-use Rattle.sig_tree.specs.Leaves.{leaves_of}
-use Rattle.sig_tree.specs.Processes.{IsModel}
-use Rattle.sig_tree.specs.Unplaced.{unplaced_model}
-use Rattle.sig_print.specs.Canonical.{canonical_text}
-use Rattle.sig_print.proofs.PlaceExpressions.{place_each}
-use Rattle.sig_print.proofs.PlaceProcesses.{place_model, placed_some}
+use Rattle.sig_print.proofs.{both_limits, leaves_of, IsModel, unplaced_model, canonical_text, place_each, place_model, placed_some}
 use Rattle.sig_print.proofs.laws.round_trip.Goals as goal
 
 pub returns : goal.returns

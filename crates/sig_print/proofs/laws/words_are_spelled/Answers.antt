@@ -1,9 +1,4 @@
-use Rattle.sig_tree.specs.Limits.{both_limits}
-use Rattle.sig_tree.specs.Leaves.{leaves_of}
-use Rattle.sig_tree.specs.Processes.{IsModel}
-use Rattle.sig_print.specs.Canonical.{process_words}
-use Rattle.sig_print.proofs.SpelledExpressions.{each_good}
-use Rattle.sig_print.proofs.SpelledProcesses.{model_good, leaves_good}
+use Rattle.sig_print.proofs.{both_limits, leaves_of, IsModel, process_words, each_good, model_good, leaves_good}
 use Rattle.sig_print.proofs.laws.words_are_spelled.Goals as goal
 
 pub returns : goal.returns

@@ -1,5 +1,4 @@
-use Rattle.std.specs.List.{flat_map}
-use Rattle.sig_print.specs.Canonical.{process_words}
+use Rattle.sig_print.proofs.{flat_map, process_words}
 use Rattle.sig_print.proofs.laws.words_are_tokens.Goals as goal
 
 pub returns : goal.returns

@@ -1,12 +1,4 @@
-use Rattle.std.proofs.Common.{rules, map, [], ◌∷◌, codes, ◌≡◌, ◌++◌}
-use Rattle.std.specs.List.{flat_map}
-use Rattle.sig_lex.specs.declared.token.TokenKind.TheVariants.{Word}
-use Rattle.sig_tree.specs.Syntax.{declared_of, placement_of, model_of, equations_of}
-use Rattle.sig_print.specs.Canonical.{body_words, heading_in, heading_words, local_words, pragmas_words, process_words, where_words}
-use Rattle.sig_print.specs.Words.{mark, reserved, on_new_line}
-use Rattle.sig_print.proofs.Spaces.{then_word, then_words, last_word, each_step, each_end}
-use Rattle.sig_print.proofs.Processes.{process_is, where_of_group, where_of_inner, shown_where}
-use Rattle.sig_tree.specs.declared.process.Process.{out-Process}
+use Rattle.sig_print.proofs.{rules, map, [], ◌∷◌, codes, ◌≡◌, ◌++◌, flat_map, Word, declared_of, placement_of, model_of, equations_of, body_words, heading_in, heading_words, local_words, pragmas_words, process_words, where_words, mark, reserved, on_new_line, then_word, then_words, last_word, each_step, each_end, process_is, where_of_group, where_of_inner, shown_where, out-Process}
 use Rattle.sig_print.proofs.process.+process.Goals as goal
 use Rattle.sig_print.proofs.process.+process.Goals.{declarations-else-is_empty-via-then-is_empty+else-is_empty-2, declarations-else-is_empty-via-else-is_empty}
 

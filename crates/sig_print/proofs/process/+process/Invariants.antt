@@ -1,8 +1,4 @@
-use Rattle.std.proofs.Common.{◌≡◌, ◌++◌, take}
-use Rattle.std.specs.List.{flat_map}
-use Rattle.sig_lex.specs.Lexemes.{spaced_text}
-use Rattle.sig_tree.specs.Syntax.{model_of}
-use Rattle.sig_print.specs.Canonical.{process_words}
+use Rattle.sig_print.proofs.{◌≡◌, ◌++◌, take, flat_map, spaced_text, model_of, process_words}
 use Rattle.sig_print.proofs.process.+process.Given as goal
 
 abbrev pub invariant-processes-loop-one : goal.invariant-processes-loop-one

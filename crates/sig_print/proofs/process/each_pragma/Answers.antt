@@ -1,7 +1,4 @@
-use Rattle.std.proofs.Common.{rules}
-use Rattle.sig_tree.specs.Syntax.{placement_of}
-use Rattle.sig_print.specs.Canonical.{pragma_words}
-use Rattle.sig_print.proofs.Spaces.{each_step, each_end}
+use Rattle.sig_print.proofs.{rules, placement_of, pragma_words, each_step, each_end}
 use Rattle.sig_print.proofs.process.each_pragma.Goals as goal
 
 pub loop-one-preserved : goal.loop-one-preserved

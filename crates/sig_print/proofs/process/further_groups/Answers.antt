@@ -1,8 +1,4 @@
-use Rattle.std.proofs.Common.{rules, ◌∷◌, codes}
-use Rattle.sig_tree.specs.Syntax.{declared_of}
-use Rattle.sig_print.specs.Canonical.{group_words}
-use Rattle.sig_print.specs.Words.{mark}
-use Rattle.sig_print.proofs.Spaces.{further_step, each_end}
+use Rattle.sig_print.proofs.{rules, ◌∷◌, codes, declared_of, group_words, mark, further_step, each_end}
 use Rattle.sig_print.proofs.process.further_groups.Goals as goal
 
 pub loop-one-preserved : goal.loop-one-preserved

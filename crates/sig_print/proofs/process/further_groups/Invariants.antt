@@ -1,8 +1,4 @@
-use Rattle.std.proofs.Common.{codes, ◌≡◌, ◌++◌, take}
-use Rattle.sig_lex.specs.Lexemes.{spaced_text}
-use Rattle.sig_tree.specs.Syntax.{declared_of}
-use Rattle.sig_print.specs.Canonical.{further, group_words}
-use Rattle.sig_print.specs.Words.{mark}
+use Rattle.sig_print.proofs.{codes, ◌≡◌, ◌++◌, take, spaced_text, declared_of, further, group_words, mark}
 use Rattle.sig_print.proofs.process.further_groups.Given as goal
 
 abbrev pub invariant-loop-one : goal.invariant-loop-one

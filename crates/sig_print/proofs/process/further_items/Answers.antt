@@ -1,7 +1,4 @@
-use Rattle.std.proofs.Common.{rules, codes}
-use Rattle.sig_print.specs.Canonical.{item_words}
-use Rattle.sig_print.specs.Words.{mark}
-use Rattle.sig_print.proofs.Spaces.{further_step}
+use Rattle.sig_print.proofs.{rules, codes, item_words, mark, further_step}
 use Rattle.sig_print.proofs.process.further_items.Goals as goal
 
 pub loop-one-preserved : goal.loop-one-preserved

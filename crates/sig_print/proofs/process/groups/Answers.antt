@@ -1,6 +1,4 @@
-use Rattle.sig_tree.specs.Syntax.{declared_of}
-use Rattle.sig_print.specs.Canonical.{group_words}
-use Rattle.sig_print.proofs.Spaces.{then_words}
+use Rattle.sig_print.proofs.{declared_of, group_words, then_words}
 use Rattle.sig_print.proofs.process.groups.Goals as goal
 
 pub returns-in_ok-group-in-Some : goal.returns-in_ok-group-in-Some

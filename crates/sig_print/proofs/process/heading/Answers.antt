@@ -1,11 +1,4 @@
-use Rattle.std.proofs.Common.{map, [], ◌∷◌, codes, ◌++◌}
-use Rattle.sig_lex.specs.declared.token.TokenKind.TheVariants.{Word}
-use Rattle.sig_tree.specs.Syntax.{declared_of}
-use Rattle.sig_print.specs.Canonical.{groups_words, params_words}
-use Rattle.sig_print.specs.Words.{mark, name, on_new_line}
-use Rattle.sig_print.proofs.Spaces.{then_word, then_words, last_word}
-use Rattle.sig_print.proofs.Processes.{heading_is}
-use Rattle.sig_tree.specs.declared.process.Process.{out-Process}
+use Rattle.sig_print.proofs.{map, [], ◌∷◌, codes, ◌++◌, Word, declared_of, groups_words, params_words, mark, name, on_new_line, then_word, then_words, last_word, heading_is, out-Process}
 use Rattle.sig_print.proofs.process.heading.Goals as goal
 
 pub returns : goal.returns

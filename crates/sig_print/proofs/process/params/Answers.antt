@@ -1,9 +1,4 @@
-use Rattle.std.proofs.Common.{map, codes}
-use Rattle.sig_tree.specs.Syntax.{declared_of}
-use Rattle.sig_print.specs.Canonical.{groups_words}
-use Rattle.sig_print.specs.Words.{mark}
-use Rattle.sig_print.proofs.Spaces.{then_word, then_words, last_word}
-use Rattle.sig_print.proofs.Processes.{params_is}
+use Rattle.sig_print.proofs.{map, codes, declared_of, groups_words, mark, then_word, then_words, last_word, params_is}
 use Rattle.sig_print.proofs.process.params.Goals as goal
 
 pub returns : goal.returns

@@ -1,8 +1,5 @@
-use Rattle.std.proofs.Common.{[], ◌∷◌, codes, ◌++◌}
+use Rattle.sig_print.proofs.{[], ◌∷◌, codes, ◌++◌, names_words, after_blank, mark, label, then_word, then_words, last_word}
 use Rattle.sig_lex.specs.declared.token.TokenKind.TheVariants.{Name}
-use Rattle.sig_print.specs.Canonical.{names_words}
-use Rattle.sig_print.specs.Words.{after_blank, mark, label}
-use Rattle.sig_print.proofs.Spaces.{then_word, then_words, last_word}
 use Rattle.sig_print.proofs.process.pragma.Goals as goal
 
 pub returns : goal.returns

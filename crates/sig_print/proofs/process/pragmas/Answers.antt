@@ -1,11 +1,4 @@
-use Rattle.std.proofs.Common.{map, [], ◌∷◌, codes}
-use Rattle.std.specs.List.{flat_map}
-use Rattle.sig_lex.specs.declared.token.TokenKind.TheVariants.{Word}
-use Rattle.sig_tree.specs.Syntax.{placement_of}
-use Rattle.sig_print.specs.Canonical.{pragma_words}
-use Rattle.sig_print.specs.Words.{reserved, on_new_line}
-use Rattle.sig_print.proofs.Spaces.{then_word, then_words, last_word}
-use Rattle.sig_print.proofs.Processes.{pragmas_is}
+use Rattle.sig_print.proofs.{map, [], ◌∷◌, codes, flat_map, Word, placement_of, pragma_words, reserved, on_new_line, then_word, then_words, last_word, pragmas_is}
 use Rattle.sig_print.proofs.process.pragmas.Goals as goal
 
 pub returns : goal.returns

@@ -1,11 +1,5 @@
-use Rattle.std.proofs.Common.{◌≡◌, length, Err, ap, sym, subst, arith, rules}
-use Rattle.std.proofs.lemmas.List.{append-nil}
-use Rattle.sig_dd.specs.Nodes.{StoreView}
-use Rattle.sig_dd.specs.Question.{IsAnswer, IsTable}
-use Rattle.sig_dd.specs.declared.answer.DdAnswer.TheVariants.{Budget}
+use Rattle.sig_dd.proofs.{◌≡◌, length, Err, ap, sym, subst, arith, rules, append-nil, StoreView, IsAnswer, IsTable, Budget, low_starts, high_starts, question_held, question_answered, IsTable-append, half_tests, second_tests, halves_fit, both_fit, without}
 use Rattle.sig_dd.specs.contracts.question.QuestionPartialEq.TheImpl.{eq-value}
-use Rattle.sig_dd.proofs.Kept.{low_starts, high_starts, question_held, question_answered, IsTable-append}
-use Rattle.sig_dd.proofs.Counts.{half_tests, second_tests, halves_fit, both_fit, without}
 use Rattle.sig_dd.proofs.store.Store.+answer_in.Goals as goal
 
 pub returns-in_err-high-clause-added : goal.returns-in_err-high-clause-added

@@ -1,5 +1,5 @@
 -- The questions below one are smaller.
-use Rattle.sig_dd.specs.Question.{weight}
+use Rattle.sig_dd.proofs.{weight}
 use Rattle.sig_dd.proofs.store.Store.+answer_in.Given as goal
 
 abbrev pub decreases-answer_in : goal.decreases-answer_in

@@ -1,12 +1,6 @@
-use Rattle.std.proofs.Common.{◌≡◌, ℕ, ◌⊎◌, Bool, true, false, cond, IsTrue, inl, inr, ap, sym, ◌∙◌, subst, refl, eqb, arith}
-use Rattle.std.specs.Ordering.{nat_cmp}
-use Rattle.std.specs.BTreeSet.{contains}
+use Rattle.sig_dd.proofs.{◌≡◌, ℕ, ◌⊎◌, Bool, true, false, cond, IsTrue, inl, inr, ap, sym, ◌∙◌, subst, refl, eqb, arith, nat_cmp, contains, ref_same, Tests, diagram, constant_tests, node_tests, tests_node, low_below, high_below, low_held, high_held, inserted_kept, inserted_only}
 use Rattle.std.specs.HashSet as bag
 use Rattle.sig_dd.specs.contracts.node.RefPartialEq.TheImpl.{eq-value}
-use Rattle.sig_dd.proofs.Growth.{ref_same}
-use Rattle.sig_dd.specs.Diagram.{Tests}
-use Rattle.sig_dd.specs.Nodes.{diagram}
-use Rattle.sig_dd.proofs.Variables.{constant_tests, node_tests, tests_node, low_below, high_below, low_held, high_held, inserted_kept, inserted_only}
 use Rattle.sig_dd.proofs.store.Store.+collect_variables.Goals as goal
 
 -- a constant tests nothing

@@ -1,9 +1,5 @@
-use Rattle.std.proofs.Common.{◌≡◌, Bool, true, false, cond, inl, inr, sym, ◌∙◌, ap, subst, refl}
-use Rattle.std.proofs.lemmas.Bool.{false≢true}
+use Rattle.sig_dd.proofs.{◌≡◌, Bool, true, false, cond, inl, inr, sym, ◌∙◌, ap, subst, refl, false≢true, eq-value, Meets, pair_eq-same}
 use Rattle.std.specs.HashSet.{contains}
-use Rattle.sig_dd.specs.contracts.meets.PairPartialEq.TheImpl.{eq-value}
-use Rattle.sig_dd.specs.Meets.{Meets}
-use Rattle.sig_dd.proofs.Pairs.{pair_eq-same}
 use Rattle.sig_dd.proofs.store.Store.+meets_in.Goals.{In_ok-insert}
 use Rattle.sig_dd.proofs.store.Store.+meets_in.Goals as goal
 

@@ -1,8 +1,5 @@
-use Rattle.std.proofs.Common.{◌≡◌, Err, length, ap, arith, rules}
-use Rattle.sig_dd.specs.declared.answer.DdAnswer.TheVariants.{Budget}
-use Rattle.sig_dd.specs.contracts.meets.PairPartialEq.TheImpl.{eq-value}
-use Rattle.sig_dd.proofs.CallerLemmas.{Keeps-trans}
-use Rattle.sig_dd.proofs.RelationalProducts.{below_room, high_later, high_only, high_spans, low_later, low_only, low_spans, pair_product, positive, product_on, products_kept, rest, within_room}
+use Rattle.sig_dd.proofs.{◌≡◌, Err, length, ap, arith, rules, Budget, eq-value, Keeps-trans, high_later, low_later, pair_product, product_on, products_kept}
+use Rattle.sig_dd.proofs.RelationalProducts.{below_room, high_only, high_spans, low_only, low_spans, positive, rest, within_room}
 use Rattle.sig_dd.proofs.store.Store.+product_in.Goals as goal
 
 pub returns-in-Known-clause-value : goal.returns-in-Known-clause-value

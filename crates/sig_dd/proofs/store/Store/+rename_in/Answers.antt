@@ -1,10 +1,5 @@
-use Rattle.std.proofs.Common.{◌≡◌, Err, length, ap, arith, rules, sym, ◌∙◌, subst, IfSome, Contains}
-use Rattle.sig_dd.specs.Renaming.{IsChoiceBy}
-use Rattle.sig_dd.specs.declared.answer.DdAnswer.TheVariants.{Budget}
+use Rattle.sig_dd.proofs.{◌≡◌, Err, length, ap, arith, rules, sym, ◌∙◌, subst, IfSome, Contains, IsChoiceBy, Budget, Keeps-trans, below_room, constant_renamed, high_only, high_spans, low_only, low_spans, new_ones, own_target, positive, renamed_node, renamed_on, rest, table_kept, within_room, constant_tests, high_below, high_held, low_below, low_held}
 use Rattle.sig_dd.specs.contracts.node.RefPartialEq.TheImpl.{eq-value}
-use Rattle.sig_dd.proofs.CallerLemmas.{Keeps-trans}
-use Rattle.sig_dd.proofs.Renamed.{below_room, constant_renamed, high_only, high_spans, low_only, low_spans, new_ones, own_target, positive, renamed_node, renamed_on, rest, table_kept, within_room}
-use Rattle.sig_dd.proofs.Variables.{constant_tests, high_below, high_held, low_below, low_held}
 use Rattle.sig_dd.proofs.store.Store.+rename_in.Goals as goal
 
 pub returns-in_default-clause-value : goal.returns-in_default-clause-value

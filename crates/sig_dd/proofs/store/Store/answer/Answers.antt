@@ -1,6 +1,4 @@
-use Rattle.std.proofs.Common.{arith}
-use Rattle.sig_dd.proofs.Adding.{share_of}
-use Rattle.sig_dd.proofs.Functions.{IfOk-weaker, IsRefOf-answer}
+use Rattle.sig_dd.proofs.{arith, share_of, IfOk-weaker, IsRefOf-answer}
 use Rattle.sig_dd.proofs.store.Store.answer.Goals as goal
 
 pub returns-clause-value : goal.returns-clause-value

@@ -1,5 +1,4 @@
-use Rattle.std.proofs.Common.{sym}
-use Rattle.sig_dd.proofs.Renamed.{choice_made, choice_refused, choice_within, operands_span}
+use Rattle.sig_dd.proofs.{sym, choice_made, choice_refused, choice_within, operands_span}
 use Rattle.sig_dd.proofs.store.Store.choice_by.Goals as goal
 
 pub returns-clause-value : goal.returns-clause-value

@@ -1,4 +1,4 @@
-use Rattle.sig_dd.proofs.Functions.{IsRefOf-constant}
+use Rattle.sig_dd.proofs.{IsRefOf-constant}
 use Rattle.sig_dd.proofs.store.Store.constant.Goals as goal
 
 pub returns-clause-value : goal.returns-clause-value

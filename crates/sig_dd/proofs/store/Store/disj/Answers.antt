@@ -1,6 +1,4 @@
-use Rattle.std.proofs.Common.{refl}
-use Rattle.sig_dd.specs.Nodes.{test}
-use Rattle.sig_dd.proofs.Functions.{IfOk-weaker, IsRefOf-same, Spans-true, test-true, or_of}
+use Rattle.sig_dd.proofs.{refl, test, IfOk-weaker, IsRefOf-same, Spans-true, test-true, or_of}
 use Rattle.sig_dd.proofs.store.Store.disj.Goals as goal
 
 pub returns-clause-value : goal.returns-clause-value

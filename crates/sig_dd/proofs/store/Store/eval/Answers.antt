@@ -1,8 +1,4 @@
-use Rattle.std.proofs.Common.{◌∙◌, refl, arith}
-use Rattle.sig_dd.specs.Diagram.{truth_of}
-use Rattle.sig_dd.specs.Question.{IsSide}
-use Rattle.sig_dd.proofs.Sides.{IsSide-child, HasVariable-node, tests_own}
-use Rattle.sig_dd.proofs.Variables.{Depends-Tests, Tests-Depends, constant_value, visited_child, visited_constant}
+use Rattle.sig_dd.proofs.{◌∙◌, refl, arith, truth_of, IsSide, IsSide-child, HasVariable-node, tests_own, Depends-Tests, Tests-Depends, constant_value, visited_child, visited_constant}
 use Rattle.sig_dd.proofs.store.Store.eval.Given.{Over}
 use Rattle.sig_dd.proofs.store.Store.eval.Goals.{After-child-r}
 use Rattle.sig_dd.proofs.store.Store.eval.Goals as goal

@@ -1,6 +1,4 @@
-use Rattle.std.proofs.Common.{◌≡◌, ℕ, ◌+◌, ◌<◌, length}
-use Rattle.sig_dd.specs.Diagram.{Depends, visited}
-use Rattle.sig_dd.specs.Nodes.{Holds, diagram, test}
+use Rattle.sig_dd.proofs.{◌≡◌, ℕ, ◌+◌, ◌<◌, length, Depends, visited, Holds, diagram, test}
 use Rattle.sig_dd.proofs.store.Store.eval.Given as goal
 
 -- the walk keeps the value, goes to earlier nodes, and counts each

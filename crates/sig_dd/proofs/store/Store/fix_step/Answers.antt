@@ -1,6 +1,4 @@
-use Rattle.std.proofs.Common.{suc, arith, sym, ◌∙◌}
-use Rattle.sig_dd.proofs.Sides.{starts_nowhere}
-use Rattle.sig_dd.proofs.Splits.{answer_later, fix_later, fix_here, fix_split}
+use Rattle.sig_dd.proofs.{suc, arith, sym, ◌∙◌, starts_nowhere, answer_later, fix_later, fix_here, fix_split}
 use Rattle.sig_dd.proofs.store.Store.fix_step.Goals as goal
 
 pub returns-in_default-clause-step : goal.returns-in_default-clause-step

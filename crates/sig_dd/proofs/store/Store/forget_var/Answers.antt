@@ -1,10 +1,4 @@
-use Rattle.std.proofs.Common.{ℕ, true, false, List, arith, sym, ◌∙◌, ap, subst, ◌||◌}
-use Rattle.sig_dd.specs.Diagram.{with_truth}
-use Rattle.sig_dd.specs.Nodes.{test, Spans}
-use Rattle.sig_dd.specs.Shares.{Share}
-use Rattle.std.proofs.Common.{Bool}
-use Rattle.sig_dd.proofs.Adding.{refusal_is, Share-then, Share-wider}
-use Rattle.sig_dd.proofs.Functions.{IfOk-weaker, IsRefOf-same, Spans-append, Spans-fixed, test-kept}
+use Rattle.sig_dd.proofs.{ℕ, true, false, List, arith, sym, ◌∙◌, ap, subst, ◌||◌, with_truth, test, Spans, Share, Bool, refusal_is, Share-then, Share-wider, IfOk-weaker, IsRefOf-same, Spans-append, Spans-fixed, test-kept}
 use Rattle.sig_dd.proofs.store.Store.forget_var.Goals as goal
 
 -- the disjunction is of the two restrictions

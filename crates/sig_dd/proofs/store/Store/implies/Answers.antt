@@ -1,8 +1,4 @@
-use Rattle.std.proofs.Common.{refl, sym, ◌∙◌, subst}
-use Rattle.sig_dd.specs.Shares.{Share}
-use Rattle.sig_dd.proofs.Adding.{refusal_is}
-use Rattle.std.proofs.lemmas.Bool.{eqb-true, eq-eqb}
-use Rattle.sig_dd.proofs.Functions.{Spans-true, implied, true_of_implied}
+use Rattle.sig_dd.proofs.{refl, sym, ◌∙◌, subst, Share, refusal_is, eqb-true, eq-eqb, Spans-true, implied, true_of_implied}
 use Rattle.sig_dd.proofs.store.Store.implies.Goals as goal
 
 pub returns-clause-value : goal.returns-clause-value

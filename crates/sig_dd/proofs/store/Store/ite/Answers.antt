@@ -1,4 +1,4 @@
-use Rattle.sig_dd.proofs.Functions.{TestsOnly-pick}
+use Rattle.sig_dd.proofs.{TestsOnly-pick}
 use Rattle.sig_dd.proofs.store.Store.ite.Goals as goal
 
 pub returns-clause-spends : goal.returns-clause-spends

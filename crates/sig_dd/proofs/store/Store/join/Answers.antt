@@ -1,4 +1,4 @@
-use Rattle.sig_dd.proofs.RelationalProducts.{joins_refused, joins_within}
+use Rattle.sig_dd.proofs.{joins_refused, joins_within}
 use Rattle.sig_dd.proofs.store.Store.join.Goals as goal
 
 pub returns-then-is_forgotten-clause-added : goal.returns-then-is_forgotten-clause-added

@@ -1,8 +1,4 @@
-use Rattle.std.proofs.Common.{sym, subst}
-use Rattle.sig_dd.specs.Cache.{question_of}
-use Rattle.sig_dd.specs.Nodes.{StoreView}
-use Rattle.sig_dd.specs.Question.{HoldsAll, IsAnswer}
-use Rattle.sig_dd.proofs.Cached.{IsCache-after}
+use Rattle.sig_dd.proofs.{sym, subst, question_of, StoreView, HoldsAll, IsAnswer, IsCache-after}
 use Rattle.sig_dd.proofs.store.Store.keep_choice.Goals as goal
 
 pub invariant_of-self : goal.invariant_of-self

@@ -1,6 +1,4 @@
-use Rattle.sig_dd.proofs.Functions.{IfOk-weaker}
-use Rattle.sig_dd.proofs.RelationalProducts.{only_spanned, product_forgets, product_share}
-use Rattle.sig_dd.specs.Nodes.{test}
+use Rattle.sig_dd.proofs.{IfOk-weaker, only_spanned, product_forgets, product_share, test}
 use Rattle.sig_dd.proofs.store.Store.meet_without.Goals as goal
 
 pub returns-clause-forgets : goal.returns-clause-forgets

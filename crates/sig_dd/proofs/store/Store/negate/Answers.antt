@@ -1,6 +1,4 @@
-use Rattle.std.proofs.Common.{refl}
-use Rattle.sig_dd.specs.Nodes.{test}
-use Rattle.sig_dd.proofs.Functions.{IfOk-weaker, IsRefOf-same, Spans-false, Spans-true, test-false, test-true, not_of}
+use Rattle.sig_dd.proofs.{refl, test, IfOk-weaker, IsRefOf-same, Spans-false, Spans-true, test-false, test-true, not_of}
 use Rattle.sig_dd.proofs.store.Store.negate.Goals as goal
 
 pub returns-clause-value : goal.returns-clause-value

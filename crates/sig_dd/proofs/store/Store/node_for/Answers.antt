@@ -1,11 +1,4 @@
-use Rattle.std.proofs.Common.{◌≡◌, ap, sym, ◌∙◌, subst, arith, Some, length, ◌++◌, []}
-use Rattle.std.specs.List.{slice_get}
-use Rattle.std.proofs.lemmas.List.{append-nil}
-use Rattle.sig_dd.specs.Nodes.{IsStore, IsNodeAt, IsChoice, StoreView, IsReduced}
-use Rattle.sig_dd.specs.Cache.{IsCache}
-use Rattle.sig_dd.specs.declared.node.Node.{Node}
-use Rattle.sig_dd.proofs.Cached.{IsCache-append}
-use Rattle.sig_dd.proofs.Growth.{IsStore-insert, IsNodeAt-next, IsChoice-same, IsChoice-node, nodes-insert, ref_apart, ref_same, node_eq-same, stands_at_position}
+use Rattle.sig_dd.proofs.{◌≡◌, ap, sym, ◌∙◌, subst, arith, Some, length, ◌++◌, [], slice_get, append-nil, IsStore, IsNodeAt, IsChoice, StoreView, IsReduced, IsCache, Node, IsCache-append, IsStore-insert, IsNodeAt-next, IsChoice-same, IsChoice-node, nodes-insert, ref_apart, ref_same, node_eq-same, stands_at_position}
 use Rattle.sig_dd.proofs.store.Store.node_for.Goals as goal
 use Rattle.sig_dd.proofs.store.Store.node_for.Goals.{in-Some, in-None, in-None-2}
 

@@ -1,13 +1,4 @@
-use Rattle.std.proofs.Common.{◌≡◌, inl, inr, true, false, Some, None, sym, ◌∙◌, refl, Option, true≢false}
-use Rattle.std.specs.Option.{is_some}
-use Rattle.sig_dd.specs.declared.node.Node.{Node}
-use Rattle.std.proofs.lemmas.Bool.{eqb-true, eqb-false}
-use Rattle.sig_dd.specs.Diagram.{StartsFrom}
-use Rattle.sig_dd.specs.Nodes.{diagram}
-use Rattle.sig_dd.proofs.Growth.{ref_same}
-use Rattle.sig_dd.proofs.Sides.{HasVariable-node, starts_own}
-use Rattle.sig_dd.proofs.Operands.{IsEarlier, earlier_is, side_is}
-use Rattle.sig_dd.proofs.Pairs.{known_apart, known_itself, known_constant, pair_split}
+use Rattle.sig_dd.proofs.{◌≡◌, inl, inr, true, false, Some, None, sym, ◌∙◌, refl, Option, true≢false, is_some, Node, eqb-true, eqb-false, StartsFrom, diagram, ref_same, HasVariable-node, starts_own, IsEarlier, earlier_is, side_is, known_apart, known_itself, known_constant, pair_split}
 use Rattle.sig_dd.proofs.store.Store.pair_step.Goals.{then-eq-via-then-eq, then-eq-via-else-eq+then-eq-2}
 use Rattle.sig_dd.proofs.store.Store.pair_step.Goals as goal
 

@@ -1,19 +1,5 @@
-use Rattle.std.proofs.Common.{◌≡◌, ℕ, Bool, true, false, List, ◌⊎◌, Some, refl, sym, ◌∙◌, arith}
-use Rattle.std.proofs.lemmas.Bool.{eqb-true, eqb-false}
-use Rattle.sig_dd.specs.Nodes.{Holds, node_of, IsReduced}
-use Rattle.sig_dd.specs.Operand.{IsOperand, earlier_of, side_of}
-use Rattle.sig_dd.specs.Question.{AllStartFrom, HasVariable, HoldsAll, IsSide, IsStep}
-use Rattle.sig_dd.specs.declared.node.Ref.{Ref}
-use Rattle.sig_dd.specs.declared.node.Node.{Node}
-use Rattle.sig_dd.specs.declared.operand.Operand.{Operand}
-use Rattle.sig_dd.specs.declared.question.Question.{Question}
-use Rattle.sig_dd.specs.declared.question.Question.TheVariants.{Pick}
-use Rattle.sig_dd.specs.declared.question.Step.TheVariants.{Known, Open}
-use Rattle.sig_dd.proofs.Growth.{ref_same}
-use Rattle.sig_dd.proofs.Sides.{constant_below, HasVariable-node, node_numbered_at}
-use Rattle.sig_dd.proofs.Operands.{IsEarlier, earlier_is, side_is}
-use Rattle.sig_dd.proofs.Easier.{IsEasier, easier, easier_step, known_true, known_false}
-use Rattle.sig_dd.proofs.Splits.{answer_true, answer_false, answer_same, answer_itself, pick_starts, sides_split}
+use Rattle.sig_dd.proofs.{◌≡◌, ℕ, Bool, true, false, List, ◌⊎◌, Some, refl, sym, ◌∙◌, arith, eqb-true, eqb-false, Holds, node_of, IsReduced, IsOperand, earlier_of, side_of, AllStartFrom, HasVariable, HoldsAll, IsSide, IsStep, Ref, Node, Operand, Question, Pick, Known, Open, ref_same, constant_below, HasVariable-node, node_numbered_at, IsEarlier, earlier_is, side_is, IsEasier, easier, easier_step, answer_true, answer_false, answer_same, answer_itself, pick_starts, sides_split}
+use Rattle.sig_dd.proofs.Easier.{known_true, known_false}
 use Rattle.sig_dd.proofs.store.Store.pick_step.Goals as goal
 
 pub returns-then-eq-clause-step : goal.returns-then-eq-clause-step

@@ -1,10 +1,4 @@
-use Rattle.std.proofs.Common.{inl, inr, true, false, refl, sym, ◌∙◌}
-use Rattle.std.proofs.lemmas.Bool.{eqb-true, eqb-false}
-use Rattle.sig_dd.specs.Diagram.{StartsFrom}
-use Rattle.sig_dd.specs.Nodes.{diagram}
-use Rattle.sig_dd.proofs.Operands.{IsEarlier, earlier_is, side_is}
-use Rattle.sig_dd.proofs.RelationalProducts.{known_false, known_true, number_true, product_split}
-use Rattle.sig_dd.proofs.Sides.{HasVariable-node, starts_own}
+use Rattle.sig_dd.proofs.{inl, inr, true, false, refl, sym, ◌∙◌, eqb-true, eqb-false, StartsFrom, diagram, IsEarlier, earlier_is, side_is, known_false, known_true, number_true, product_split, HasVariable-node, starts_own}
 use Rattle.sig_dd.proofs.store.Store.product_step.Goals.{then-eq-via-then-eq, then-eq-via-else-eq+then-eq-2}
 use Rattle.sig_dd.proofs.store.Store.product_step.Goals as goal
 

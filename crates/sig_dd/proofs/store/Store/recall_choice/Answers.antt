@@ -1,8 +1,4 @@
-use Rattle.std.proofs.Common.{◌∙◌, IfSome, subst}
-use Rattle.sig_dd.specs.Cache.{question_of}
-use Rattle.sig_dd.specs.Nodes.{StoreView}
-use Rattle.sig_dd.specs.Question.{IsAnswer}
-use Rattle.sig_dd.proofs.Cached.{recalled_if}
+use Rattle.sig_dd.proofs.{◌∙◌, IfSome, subst, question_of, StoreView, IsAnswer, recalled_if}
 use Rattle.sig_dd.proofs.store.Store.recall_choice.Goals as goal
 
 pub returns : goal.returns

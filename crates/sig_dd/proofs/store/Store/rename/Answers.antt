@@ -1,6 +1,4 @@
-use Rattle.sig_dd.proofs.Functions.{IfOk-weaker, tests_spanned}
-use Rattle.sig_dd.proofs.Renamed.{renamed_depends, renamed_share}
-use Rattle.sig_dd.proofs.Variables.{Depends-Tests}
+use Rattle.sig_dd.proofs.{IfOk-weaker, tests_spanned, renamed_depends, renamed_share, Depends-Tests}
 use Rattle.sig_dd.proofs.store.Store.rename.Goals as goal
 
 pub returns-clause-depends : goal.returns-clause-depends

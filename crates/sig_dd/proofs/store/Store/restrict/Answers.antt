@@ -1,4 +1,4 @@
-use Rattle.sig_dd.proofs.Functions.{TestsOnly-fix}
+use Rattle.sig_dd.proofs.{TestsOnly-fix}
 use Rattle.sig_dd.proofs.store.Store.restrict.Goals as goal
 
 pub returns-clause-spends : goal.returns-clause-spends

@@ -1,13 +1,4 @@
-use Rattle.std.proofs.Common.{◌≡◌, Contains, sym, ◌∙◌, rules, subst, ap, inl, inr, true≢false}
-use Rattle.std.specs.List.{list_any}
-use Rattle.std.specs.BTreeMap.{is_at}
-use Rattle.std.specs.Ordering.{nat_cmp}
-use Rattle.std.proofs.lemmas.Map.Keys.{IsStrictlyIncreasing-from_sorted}
-use Rattle.std.proofs.lemmas.Map.Views.{btree_set_contains_iff}
-use Rattle.std.proofs.lemmas.Map.Lookups.{exact_unsigned}
-use Rattle.std.proofs.lemmas.Cmp.{nat_cmp_total}
-use Rattle.std.specs.List.Sorted.{IsStrictlyIncreasing}
-use Rattle.sig_dd.proofs.Variables.{Depends-Tests, Tests-Depends}
+use Rattle.sig_dd.proofs.{◌≡◌, Contains, sym, ◌∙◌, rules, subst, ap, inl, inr, true≢false, list_any, is_at, nat_cmp, IsStrictlyIncreasing-from_sorted, btree_set_contains_iff, exact_unsigned, nat_cmp_total, IsStrictlyIncreasing, Depends-Tests, Tests-Depends}
 use Rattle.sig_dd.proofs.store.Store.support.Goals as goal
 
 pub returns-clause-increasing : goal.returns-clause-increasing

@@ -1,8 +1,4 @@
-use Rattle.std.proofs.Common.{◌≡◌, ◌^◌, ◌≤◌, length, refl, ap, arith}
-use Rattle.std.proofs.Math.Pow.{pow_mono}
-use Rattle.std.proofs.lemmas.Result.{IfErr-at_err}
-use Rattle.sig_dd.proofs.Adding.{share_of}
-use Rattle.sig_dd.proofs.Functions.{IfOk-weaker, IsRefOf-variable, starts_false, starts_true}
+use Rattle.sig_dd.proofs.{◌≡◌, ◌^◌, ◌≤◌, length, refl, ap, arith, pow_mono, IfErr-at_err, share_of, IfOk-weaker, IsRefOf-variable, starts_false, starts_true}
 use Rattle.sig_dd.proofs.store.Store.variable.Goals as goal
 
 pub node_for-requires-clause-low_later : goal.node_for-requires-clause-low_later

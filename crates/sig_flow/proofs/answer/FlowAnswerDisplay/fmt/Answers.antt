@@ -1,4 +1,4 @@
-use Rattle.std.proofs.Common.{append_assoc}
+use Rattle.sig_flow.proofs.{append_assoc}
 use Rattle.sig_flow.proofs.answer.FlowAnswerDisplay.fmt.Goals as goal
 
 pub returns-in-OutOfRange-clause-writes : goal.returns-in-OutOfRange-clause-writes

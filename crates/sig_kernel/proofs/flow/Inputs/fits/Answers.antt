@@ -1,6 +1,4 @@
-use Rattle.std.proofs.Common.{refl, arith}
-use Rattle.std.proofs.lemmas.Bool.{false≢true}
-use Rattle.sig_kernel.proofs.FitLemmas.{fit_all, fit_not}
+use Rattle.sig_kernel.proofs.{refl, arith, false≢true, fit_all, fit_not}
 use Rattle.sig_kernel.proofs.flow.Inputs.fits.Goals as goal
 
 pub returns-then-not-has_values_of : goal.returns-then-not-has_values_of

@@ -1,7 +1,4 @@
-use Rattle.std.proofs.Common.{◌≡◌, ℕ, ◌<◌, [], true, slice_index_or}
-use Rattle.std.specs.List.{list_all}
-use Rattle.sig_base.specs.declared.signal.Signal.{Signal}
-use Rattle.sig_kernel.specs.Validity.{value_is}
+use Rattle.sig_kernel.proofs.{◌≡◌, ℕ, ◌<◌, [], true, slice_index_or, list_all, Signal, value_is}
 use Rattle.sig_kernel.proofs.flow.Inputs.fits.Given as goal
 
 abbrev pub invariant-loop-i : goal.invariant-loop-i

@@ -1,0 +1,49 @@
+-- What the proofs of this crate cite of std, of the crates below and of its own specs, passed on from one place.
+pub use Rattle.std.proofs.Common.{BTreeSet, Bool, Contains, Err, HashMap, IfOk, IfSome, IsErrAnd, IsSomeAnd, IsTrue, List, None, Ok, OnErr, OnOk, Option, Ordering, Result, Some, [], add-mul, ap, append-nil, append_assoc, arith, cond, drop, drop-cons, eq-eqb, eqb, eqb-true, false, fold, get_or, if◌then◌else◌, inl, inr, is_eq, is_some, length, length-append, length-take, ltb-false, ltb-true, map, mul-le-mul, mul-suc, mul_assoc, nat_cmp, nat_eq, nat_lt, not, one-mul, option_map, position, pow-suc, pow_mono, refl, rules, slice_get, slice_index_or, subst, suc, suc-mul, sym, take, take-append-drop, true, true≢false, zero, ℕ, ◌&&◌, ◌*◌, ◌++◌, ◌+◌, ◌-◌, ◌<◌, ◌^◌, ◌||◌, ◌↔◌, ◌∙◌, ◌∷◌, ◌≡◌, ◌≢◌, ◌≤◌, ◌⊎◌}
+pub use Rattle.std.proofs.Math.Seq.{get_or-append_seam}
+pub use Rattle.std.proofs.lemmas.Bool.{cases_eq, cases_lt, eqb-false, false≢true}
+pub use Rattle.std.proofs.lemmas.Cmp.{nat_cmp_total}
+pub use Rattle.std.proofs.lemmas.List.{get_or_append_left, length-map, length_push}
+pub use Rattle.std.proofs.lemmas.List.Quantifiers.{position-Some}
+pub use Rattle.std.proofs.lemmas.List.Sums.{fold-append}
+pub use Rattle.std.proofs.lemmas.Map.Keys.{IsStrictlyIncreasing-from_sorted}
+pub use Rattle.std.proofs.lemmas.Map.Lookups.{exact_unsigned}
+pub use Rattle.std.proofs.lemmas.Map.Views.{btree_set_contains_iff}
+pub use Rattle.std.proofs.lemmas.Option.{get_or_from_slice_get, slice_get-get_or, slice_get-map, slice_get_within}
+pub use Rattle.std.proofs.lemmas.Result.{IfErr-at_err}
+pub use Rattle.std.specs.BTreeMap.{is_at}
+pub use Rattle.std.specs.BTreeSet.{contains}
+pub use Rattle.std.specs.HashMap.{get}
+pub use Rattle.std.specs.List.{list_any}
+pub use Rattle.std.specs.List.Sorted.{IsStrictlyIncreasing}
+pub use Rattle.std.specs.Map.{lookup}
+pub use Rattle.std.specs.declared.cmp.Ordering.TheVariants.{Equal, Greater, Less}
+pub use Rattle.indexmap.specs.IndexSet.{insert_key}
+pub use Rattle.lru.specs.LruCache.{LruCache, lru_cache, put_entries}
+pub use Rattle.lru.proofs.CallerLemmas.{Contains-lookup, Contains-put_entries}
+pub use Rattle.sig_dd.specs.Cache.{IsCache, question_of}
+pub use Rattle.sig_dd.specs.Diagram.{Agree, Choice, Constant, Depends, Diagram, truth_of}
+unfoldable pub use Rattle.sig_dd.specs.Diagram.{StartsFrom, Tests, value_at, visited, with_truth}
+pub use Rattle.sig_dd.specs.Meets.{HoldsPair, IsPairSplit, Meets, pair_weight}
+pub use Rattle.sig_dd.specs.Nodes.{Holds, Implies, IsChoice, IsFull, IsNodeAt, IsReduced, IsRefOf, IsStore, Keeps, Spans, StoreView, allowance, node_numbered, node_of, test}
+unfoldable pub use Rattle.sig_dd.specs.Nodes.{diagram, diagrams, with_node}
+pub use Rattle.sig_dd.specs.Operand.{IsOperand, earlier_of, side_of}
+pub use Rattle.sig_dd.specs.Products.{AgreeBut, AreProducts, IsJoined, IsPairProduct, IsPairSide, IsProduct, IsProductSplit, MeetWithout, PairTests, PairTestsOnly}
+unfoldable pub use Rattle.sig_dd.specs.Products.{product_room}
+pub use Rattle.sig_dd.specs.Question.{AllStartFrom, HasVariable, HoldsAll, IsAnswer, IsHalf, IsSide, IsSplit, IsStep, IsTable, SomeHas, SomeTests, TestsOnly, asked, weight}
+pub use Rattle.sig_dd.specs.Renaming.{AreRenamed, IsChoiceBy, IsRenamed, RefTestsOnly, truth_in}
+pub use Rattle.sig_dd.specs.Shares.{HasAll, HoldAll, IsRefused, Share, Shares, SpanAll, Trail, refusal}
+pub use Rattle.sig_dd.specs.Walks.{Asks, IsIdle}
+pub use Rattle.sig_dd.specs.contracts.meets.PairPartialEq.TheImpl.{eq-value}
+pub use Rattle.sig_dd.specs.declared.answer.DdAnswer.{DdAnswer}
+pub use Rattle.sig_dd.specs.declared.answer.DdAnswer.TheVariants.{Budget, OutOfMemory}
+pub use Rattle.sig_dd.specs.declared.meets.Pair.{Pair}
+pub use Rattle.sig_dd.specs.declared.node.Node.{Node}
+pub use Rattle.sig_dd.specs.declared.node.Ref.{Ref}
+pub use Rattle.sig_dd.specs.declared.operand.Operand.{Operand}
+pub use Rattle.sig_dd.specs.declared.products.ProductSplit.{ProductSplit}
+pub use Rattle.sig_dd.specs.declared.question.Question.{Question}
+pub use Rattle.sig_dd.specs.declared.question.Question.TheVariants.{Fix, Pick}
+pub use Rattle.sig_dd.specs.declared.question.Split.{Split}
+pub use Rattle.sig_dd.specs.declared.question.Step.{Step}
+pub use Rattle.sig_dd.specs.declared.question.Step.TheVariants.{Known, Open}
