@@ -13,7 +13,7 @@ HERE = os.path.dirname(os.path.realpath(__file__))
 TOOLS = os.path.dirname(HERE)
 TOP = os.path.dirname(TOOLS)
 EXAMPLES = f"{TOP}/examples"
-SCRIPTS = ("sigc-caret", "sigc-equations", "sigc-header", "clocks2dot", "trace2vcd")
+SCRIPTS = ("sigc-caret", "sigc-equations", "sigc-header")
 sys.path.insert(0, TOOLS)
 import sigclib
 
@@ -140,26 +140,18 @@ class Caret(unittest.TestCase):
         self.assertEqual("end: limit after 3 instants\n", self.shown("ABC", "end: limit after 3 instants\n", 0, "run"))
 
     def test_a_broken_equation(self):
-        shown = self.caret.broken("instant 2 breaks equation 3", f"{EXAMPLES}/down.sig", f"{EXAMPLES}/early.trace")
+        shown = self.caret.Shown("", [f"{EXAMPLES}/down.sig", f"{EXAMPLES}/early.trace"], "judge", []).broken("instant 2 breaks equation 3")
         self.assertIn("equation 3 is A ^= when (ZY <= 0)\n", shown)
         self.assertIn("early.trace:3:1: note: instant 2 is 5 5 1\n", shown)
 
     def test_words_that_are_no_command(self):
-        self.assertEqual("error: these words are not a command\n      see docs/errors.md#these-words-are-not-a-command\n", self.shown("A", "error: these words are not a command\n", 2, "help"))
+        shown = self.shown("A", "error: these words are not a command\n", 2, "help")
+        self.assertIn("error: these words are not a command\n      there is no command help\n", shown)
+        self.assertIn("      see docs/errors.md#these-words-are-not-a-command\n", shown)
 
     def test_plain_words(self):
         self.assertEqual(self.caret.plain_words("run P --instants 3 --workers=2 F -- --pace".split()), ["P", "F", "--pace"])
         self.assertEqual(self.caret.plain_words("check --pace P".split()), ["P"])
-
-    def test_mistakes(self):
-        for before, behind, entry in [
-            ("(| Y = A + 1 ", "|)", "y--a--1"),
-            ("(| Y := if ", "B then A", "if-then-else"),
-            ("(| N := 0 -", "> pre N + 1", "0---pre-n--1"),
-            ("(| Y := A + TWICE", "(A) |)", "a-call-inside-an-expression"),
-            ("(| Y := (A when ", "|)", "syntax"),
-        ]:
-            self.assertEqual(self.caret.entry_of("syntax", before, behind), entry)
 
     def test_every_entry_is_a_heading(self):
         with open(f"{TOP}/docs/errors.md", encoding="utf-8") as it:
@@ -176,59 +168,14 @@ class Caret(unittest.TestCase):
         for text in texts.split(";"):
             with self.subTest(text.strip()):
                 self.assertIn(self.caret.entry_of(text.strip()), headings)
-        for _, _, entry in self.caret.MISTAKES:
-            self.assertIn(entry, headings)
+        with open(f"{TOOLS}/sigchints.py", encoding="utf-8") as it:
+            for entry in re.findall(r'\], "([a-z0-9-]+)"', it.read()):
+                self.assertIn(entry, headings)
 
 
 def anchor(heading):
     """The name under which a heading of a Markdown page is found."""
     return re.sub(r"[^\w\- ]", "", heading.lower()).replace(" ", "-")
-
-
-class Dot(unittest.TestCase):
-    def test_a_tree(self):
-        done = ran("clocks2dot", given="Y ZY\n  A\n    -\n  B\n")
-        self.assertEqual(re.findall(r"c\d -> c\d", done.stdout), ["c0 -> c1", "c1 -> c2", "c0 -> c3"])
-        self.assertIn('c2 [label="-"];', done.stdout)
-
-    def test_a_code(self):
-        code = "actor 0\n0 0 read A\n1 1 send 0\n2 2 report 1\nactor 1\n0 1 receive 0\n1 2 collect 1\n2 3 commit\n"
-        done = ran("clocks2dot", given=code)
-        self.assertIn('a0 -> a1 [label="0 A"];', done.stdout)
-        self.assertIn('a0 -> a1 [label="1" style=dotted];', done.stdout)
-        self.assertIn("collector", done.stdout)
-
-    def test_what_is_neither(self):
-        for text in ("", "A\n      B\n", "actor 0\nnonsense\n"):
-            self.assertEqual(ran("clocks2dot", given=text).returncode, 1)
-
-
-class Waveform(unittest.TestCase):
-    vcd = module_of("trace2vcd")
-
-    def test_a_trace(self):
-        done = ran("trace2vcd", given="A E\n-1 true\n. .\n2 true\n")
-        self.assertIn("$var integer 64 ! A $end\n$var wire 1 \" E $end\n", done.stdout)
-        self.assertIn(f"#0\nb{'1' * 64} !\n1\"\n#10\nbz !\nz\"\n#20\nb10 !\n1\"\n#30\n", done.stdout)
-
-    def test_a_run_without_its_program(self):
-        rows = [(1, ["Y", "1"]), (2, ["Z", "true"]), (3, ["Y", "2"])]
-        self.assertEqual(self.vcd.instants_of_run(rows, [])[1], [{"Y": "1", "Z": "true"}, {"Y": "2"}])
-
-    def test_a_run_with_its_program(self):
-        rows = [(1, ["Z", "true"]), (2, ["Y", "2"]), (3, ["Z", "false"])]
-        self.assertEqual(self.vcd.instants_of_run(rows, ["Y", "Z"])[1], [{"Z": "true"}, {"Y": "2", "Z": "false"}])
-
-    def test_a_scope_for_each_call(self):
-        done = ran("trace2vcd", given="Y COUNT#1.N\n1 2\n")
-        self.assertIn("$scope module COUNT_1 $end\n$var integer 64 \" N $end\n$upscope $end\n$upscope $end\n", done.stdout)
-
-    def test_short_names(self):
-        self.assertEqual(len({self.vcd.code_of(it) for it in range(9000)}), 9000)
-
-    def test_what_is_neither(self):
-        for text in ("", "A B\n1\n", "Y 1\nY x\n"):
-            self.assertEqual(ran("trace2vcd", given=text).returncode, 1)
 
 
 if __name__ == "__main__":

@@ -1,4 +1,5 @@
-" `:compiler sigc` and `:make` check the program in the buffer; sigc-caret has to be on the PATH.
+" `:make` checks the program in the buffer by sigc-caret: the one on the PATH, or that of the folder that this stands in.
 let current_compiler = "sigc"
-CompilerSet makeprg=sigc-caret\ check\ %:S
-CompilerSet errorformat=%f:%l:%c:\ %trror:\ %m,%f:%l:%c:\ %tote:\ %m,%-G%.%#
+let s:caret = executable("sigc-caret") ? "sigc-caret" : fnamemodify(resolve(expand("<sfile>:p")), ":h:h:h:h") . "/sigc-caret"
+execute "CompilerSet makeprg=" . escape(shellescape(s:caret) . " check --lint %:S", ' \|"')
+CompilerSet errorformat=%f:%l:%c:\ %trror:\ %m,%f:%l:%c:\ %tarning:\ %m,%f:%l:%c:\ %tote:\ %m,%-G%.%#

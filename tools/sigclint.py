@@ -1,0 +1,101 @@
+"""Warnings: what sigc takes, and what was hardly meant."""
+from typing import NamedTuple
+
+from sigckinds import is_integer_comparison, kinds_of
+from sigcmend import narrowed_operands, written_twice
+from sigcread import source_of, walk, words_in
+
+
+class Warning(NamedTuple):
+    line: int
+    col: int
+    text: str
+
+
+def at(piece, text):
+    return Warning(piece.line, piece.col, text)
+
+
+def is_used(process, name):
+    """Whether another equation than its own definition names a signal."""
+    others = [it for it in process.equations if name not in [left.text for left in it.lefts]]
+    return any(piece.text == name for it in others for piece in words_in(it.pieces))
+
+
+def unused_locals(text, processes):
+    for process in processes:
+        for it in process.locals:
+            if not is_used(process, it.name.text):
+                yield at(it.name, f"local {it.name.text} is not used")
+        if process is not processes[0]:
+            for it in [*process.inputs, *process.parameters]:
+                if not is_used(process, it.name.text):
+                    yield at(it.name, f"{it.role} {it.name.text} is not used")
+
+
+def unused_processes(text, processes):
+    called = {it.called.text for process in processes for it in process.equations if it.called}
+    for process in processes[1:]:
+        if process.name.text not in called:
+            yield at(process.name, f"process {process.name.text} is not called")
+
+
+def twice(text, processes):
+    for process in processes:
+        for found in written_twice(text, process):
+            (first, _), *others = found
+            for node, _ in others:
+                where = f"{source_of(text, node)} stands at {first.at.line}:{first.at.col} too"
+                yield at(node.at, f"{where}: two conditions to sigc, which may differ; name it once")
+
+
+def narrowing(text, processes):
+    for process in processes:
+        for node, rare, other in narrowed_operands(process):
+            one, two = source_of(text, rare), source_of(text, other)
+            yield at(node.at, f"{two} has to come as rarely as {one} here: the operands of `{node.op}` are present together")
+
+
+def compared(process):
+    """The booleans of a process that an integer comparison defines."""
+    kinds = kinds_of(process)
+    return {
+        it.lefts[0].text
+        for it in process.equations
+        if it.form == "definition" and it.right and any(is_integer_comparison(node, kinds) for node in walk(it.right))
+    }
+
+
+def steered(text, processes):
+    """The inputs that come where a comparison of integers is true: the program decides when it takes them."""
+    process = processes[0]
+    kinds, names = kinds_of(process), compared(process)
+    inputs = {it.name.text: it for it in process.inputs}
+    for equation in (it for it in process.equations if it.form == "clock"):
+        asked = [it for it in equation.terms if it.op == "at" and decides(it.parts[0], kinds, names)]
+        for it in equation.terms:
+            if asked and it.op == "name" and it.at.text in inputs:
+                name = it.at.text
+                yield at(it.at, f"input {name} is taken where {source_of(text, asked[0].parts[0])}: the values of integers decide when it comes")
+
+
+def decides(node, kinds, names):
+    return any(is_integer_comparison(it, kinds) or it.op == "name" and it.at.text in names for it in walk(node))
+
+
+RULES = (unused_locals, unused_processes, twice, narrowing, steered)
+
+
+def warnings_of(reader):
+    """The warnings of a program without faults, by place."""
+    if reader.faults or not reader.processes:
+        return []
+    return sorted({it for rule in RULES for it in rule(reader.text, reader.processes)})
+
+
+def empty_flows(reader, flows):
+    """The inputs that have no value in a flow file."""
+    given = {line.split()[0] for line in flows.split("\n") if len(line.split()) > 1}
+    inputs = reader.processes[0].inputs if reader.processes else []
+    empty = [it.name for it in inputs if it.name.text not in given]
+    return [at(it, f"input {it.text} has no values: the run ends where it is to come") for it in empty]

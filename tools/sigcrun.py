@@ -1,0 +1,134 @@
+"""The program sigc as the scripts call it, and how a script ends: what those share that run sigc."""
+import os
+import re
+import subprocess
+import sys
+import tempfile
+from typing import NamedTuple
+
+import sigclib
+
+TOP = os.path.dirname(os.path.dirname(os.path.realpath(__file__)))
+SECONDS = 120
+NO_COMMAND = "these words are not a command"
+
+
+# What the plain reader of sigclib ends with where a text is no program.
+UNREADABLE = (sigclib.Unreadable, IndexError, RecursionError)
+
+
+class NoProgram(Exception):
+    """There is no program sigc to call, with the reason."""
+
+
+class Answer(NamedTuple):
+    status: int
+    out: str
+    err: str
+
+
+class Refusal(NamedTuple):
+    """A line of sigc on a program: its text, and its place where it has one, else 0:0."""
+
+    line: int
+    col: int
+    text: str
+
+
+def program():
+    """The program's file: what $SIGC names, or else what ./sigc at the top of the repository runs, built where that is needed."""
+    if os.environ.get("SIGC"):
+        return os.environ["SIGC"]
+    ran = subprocess.run([f"{TOP}/sigc", "--which"], stdout=subprocess.PIPE, text=True)
+    if ran.returncode:
+        raise NoProgram(f"{TOP}/sigc has no program to run")
+    return ran.stdout.strip()
+
+
+def built_program():
+    """The program's file without building one: for scripts that an editor starts."""
+    if os.environ.get("SIGC") or not os.path.isdir(f"{TOP}/crates"):
+        return program()
+    names = ("unproved", "sigc") if os.environ.get("SIGC_UNPROVED") == "1" else ("sigc", "unproved")
+    made = [f"{TOP}/crates/sigc/out/{it}" for it in names]
+    found = next((it for it in made if os.path.isfile(it)), None)
+    if found is None:
+        raise NoProgram(f"no program is built: call {TOP}/sigc once, or name one by SIGC")
+    return found
+
+
+def refusal_of(line):
+    """The refusal that a line of sigc's is, None where it is none of a program."""
+    found = re.fullmatch(r"error (\d+):(\d+): (.*)\n?", line)
+    if found:
+        return Refusal(int(found[1]), int(found[2]), found[3])
+    found = re.fullmatch(r"error: (no reaction is possible|more than .*|program longer .*|\d+ diagram nodes)\n?", line)
+    return Refusal(0, 0, found[1]) if found else None
+
+
+class Sigc:
+    """sigc, called on texts: each stands for a while in a file of its own."""
+
+    def __init__(self, path=None):
+        self.path = path or program()
+        self.room = tempfile.TemporaryDirectory(prefix="sigc-tools-")
+        self.calls = 0
+        self.known = {}
+
+    def call(self, *words):
+        self.calls += 1
+        try:
+            ran = subprocess.run([self.path, *words], stdin=subprocess.DEVNULL, capture_output=True, timeout=SECONDS)
+        except OSError as error:
+            raise NoProgram(f"{self.path}: {error.strerror}") from None
+        except subprocess.TimeoutExpired:
+            raise NoProgram(f"{self.path}: no answer in {SECONDS} seconds") from None
+        return Answer(ran.returncode, ran.stdout.decode("latin-1"), ran.stderr.decode("latin-1"))
+
+    def ask(self, command, text, *words):
+        """What a command says of a program that is given as a text, a byte a character."""
+        path = f"{self.room.name}/p.sig"
+        with open(path, "w", encoding="latin-1", newline="") as it:
+            it.write(text)
+        return self.call(command, path, *words)
+
+    def check(self, text):
+        """Why `check` refuses a text: None where it is accepted."""
+        if text not in self.known:
+            said = self.ask("check", text)
+            refusal = refusal_of(said.err)
+            if said.status and refusal is None:
+                raise NoProgram(f"{self.path}: {said.err.strip() or f'status {said.status}'}")
+            self.known[text] = refusal
+        return self.known[text]
+
+    def takes_pace(self, text):
+        """Whether this sigc has the flag --pace, and takes a text with it."""
+        said = self.ask("check", text, "--pace")
+        return said.status == 0
+
+
+def read_program(path):
+    """The text of a program's file, a byte a character."""
+    with open(path, "rb") as it:
+        return it.read().decode("latin-1")
+
+
+def guarded(main):
+    """Runs a script to its end: Ctrl-C, a pipe that was closed and a file that is none end it in one line or none."""
+    name = os.path.basename(sys.argv[0])
+    try:
+        status = main()
+        sys.stdout.flush()
+        return status
+    except KeyboardInterrupt:
+        return 130
+    except BrokenPipeError:
+        os.dup2(os.open(os.devnull, os.O_WRONLY), sys.stdout.fileno())
+        return 141
+    except NoProgram as error:
+        print(f"{name}: {error}", file=sys.stderr)
+        return 70
+    except OSError as error:
+        print(f"{name}: {error.filename or ''}: {error.strerror}", file=sys.stderr)
+        return 5

@@ -1,0 +1,276 @@
+"""sigc-caret over the program: beginners' mistakes with their mends, further refusals, warnings, words and files."""
+import os
+import tempfile
+import unittest
+
+from helping import NEEDS_SIGC, TOP, module_of, program, ran
+
+import sigcfiles
+import sigchints
+import sigclint
+import sigcmend
+import sigcmore
+import sigcread
+import sigcrun
+import sigcwords
+
+HEAD = "process P = (? integer A ! integer Y)\n"
+TRUTHS = "process P = (? integer A ! boolean Y)\n"
+# A mistake, the entry of docs/errors.md that it leads to, and what stands in the place of it, where one mend is clear.
+MISTAKES = {
+    "process P = (? bool A ! boolean Y)\n(| Y := not A |);\n": ("bool-and-int", "(? boolean A"),
+    HEAD + "(| Z := A + 1\n | Y := Z\n |)\nwhere\n  integer Z;\n": ("end-is-missing", "integer Z;\nend;"),
+    HEAD + "(| Z := A + 1\n | Y := Z\n |)\nwhere\n  integer Z;\n;\n": ("end-is-missing", "integer Z;\n end;"),
+    "process P (? integer A ! integer Y)\n(| Y := A |);\n": ("the--of-a-process-is-missing", "process P = (?"),
+    TRUTHS + "(| LOW := A < 3\n | HIGH := A > 9\n | Y := LOW or HIGH |)\nwhere boolean LOW; HIGH; end;\n": ("boolean-low-high", "boolean LOW, HIGH;"),
+    HEAD + "(| Y := A + K |)\nwhere constant integer K = 5; end;\n": ("constant-integer-k--5", ""),
+    HEAD + "(| Y := A + OFFSET |)\nwhere integer OFFSET init 3; end;\n": ("offset-init-3-as-a-constant", ""),
+    "process P = (? integer A, OFFSET init 3 ! integer Y)\n(| Y := A + OFFSET |);\n": ("offset-init-3-as-a-constant", ""),
+    "process P = (? event A, B ! event Y)\n(| Y := A or B |);\n": ("a-or-b-of-events", "A ^+ B"),
+    "process P = (? event A, B; boolean C ! boolean Y)\n(| Y := A or (B when C) | A ^= when Y |);\n": ("a-or-b-of-events", ""),
+    HEAD + "(| Y := A mod 2 |);\n": ("marks-and-words-of-other-languages", "A modulo 2"),
+    HEAD + "(| Y := A -- the sum\n |);\n": ("marks-and-words-of-other-languages", "A % the sum %"),
+    HEAD + "(| Y := A // the sum\n |);\n": ("marks-and-words-of-other-languages", "A % the sum %"),
+    "process P = (? integer A ! integer Y, Z)\n(| Y := A;\n   Z := A\n |);\n": ("marks-and-words-of-other-languages", "A |\n"),
+    TRUTHS + "(| Y := A != 2 |);\n": ("marks-and-words-of-other-languages", "A /= 2"),
+    TRUTHS + "(| Y := A <> 2 |);\n": ("marks-and-words-of-other-languages", "A /= 2"),
+    TRUTHS + "(| Y := A == 2 |);\n": ("marks-and-words-of-other-languages", "A = 2"),
+    "process P = (? integer A; boolean B ! integer Y)\n(| Y := A when B else 0 | A ^= B |);\n": ("if-then-else", ""),
+    "process P = (? integer A; boolean B ! integer Y)\n(| Y := if B then A else 0 |);\n": ("if-then-else", ""),
+    HEAD + "(| Y = A + 1 |);\n": ("y--a--1", "Y := A + 1"),
+    HEAD + "(| Y := 0 -> pre Y + 1 |);\n": ("0---pre-n--1", ""),
+    HEAD + "(| Y := A + TWICE(A) |);\n": ("a-call-inside-an-expression", ""),
+    HEAD + "(| Y := TWICE(A) + 1 |);\n": ("a-call-inside-an-expression", ""),
+    "process P = (? integer A, boolean B ! integer Y)\n(| Y := A when B |);\n": ("syntax", "integer A; boolean B"),
+    HEAD + "(| Y := (A + 1 |);\n": ("syntax", "(A + 1)"),
+    HEAD + "(| Y := A |)\n": ("syntax", "|);"),
+    HEAD + "(| Y := Z | Z := A |)\nwhere integer Z end;\n": ("syntax", "integer Z; end"),
+    "process P = (? integer A; boolean B ! integer Y)\n(| Y := A wehn B | A ^= B |);\n": ("syntax", "A when B"),
+    HEAD + "(| Y := A |)\nwher integer Z; end;\n": ("syntax", "where integer"),
+    "process P = (? integer A ! integer Y, Z)\n(| Y := A\n   Z := A + 1\n |);\n": ("syntax", "| Z := A"),
+    "process P = (? integer A ! integer Y, Z)\n(| Y := A |\n | Z := A + 1\n |);\n": ("syntax", ""),
+    "process P = (? integer Level ! integer Y)\n(| Y := level + 1 |);\n": ("unknown-name-x", "Level + 1"),
+    HEAD + "(| Y := TWICE(A) |)\nwhere process TWCE = (? integer X ! integer Z) Z := X; end;\n": ("unknown-name-x", "TWCE(A)"),
+    "% A sum\nprocess P = (? integer A ! integer Y)\n(| Y := A + 1 |);\n% the end\n": ("two-comments-with-a-program-between-them", ""),
+    HEAD + "(| Y := A + 1 |);   % a sum\n": ("comment-not-closed", ""),
+    HEAD + "(| Y := 1 |);\n": ("y--1", "Y := 1 when ^A"),
+    HEAD + "(| Y := (A when (A > 0)) default 0 |);\n": ("bare-constant", "default (0 when ^A)"),
+    TRUTHS + "(| Y := Q{5}(A) |)\nwhere process Q = {integer K} (? integer X ! boolean Z) Z := X < -K; end;\n": ("-limit-and-m---1-of-a-parameter", ""),
+    "process Q = {integer K} (? integer X ! boolean Z) Z := X < K;\nprocess P = (? integer A ! boolean Y) Y := Q{5}(A);\n": ("a-called-process-before-the-main-one", ""),
+    "process P = (? event T ! integer N)\n(| N := ZN + 1 | ZN := N $ init 0 |)\nwhere integer ZN; end;\n": ("a-counter-without-a-clock", ""),
+    "process P = (? event T, R ! integer N)\n(| N := (0 when R) default (ZN + 1) | ZN := N $ init 0 | N ^= T |)\nwhere integer ZN; end;\n": ("an-event-as-a-reset", ""),
+    "process P = (? integer A; boolean B ! integer Y)\n(| Y := A when B |);\n": ("a-when-b-of-two-inputs", ""),
+    "process P = (? integer A; event T ! integer Y)\n(| Y := A cell T init 0 |);\n": ("two-events-or-a-value-that-is-held-between-two-ticks", ""),
+    "process P = (? integer A; boolean B ! integer Y)\n(| Y := A + (A when B) | A ^= B |);\n": ("a--a-when-b", ""),
+    "process P = (? integer A, B ! integer Y)\n(| Y := A + 1 |);\n": ("an-unused-input", ""),
+    HEAD + "(| X := A when (A < 9) | Z := (A + 1) when (A < 9) | Y := X + Z |)\nwhere integer X, Z; end;\n": ("the-same-comparison-twice", ""),
+}
+
+
+class Hints(unittest.TestCase):
+    def hint(self, text, line, col, said):
+        return sigchints.hint_of(text, sigcread.read(text), sigcrun.Refusal(line, col, said))
+
+    def test_a_name_of_the_process_around(self):
+        text = HEAD + "(| Y := Q(A) |)\nwhere process Q = (? integer X ! integer Z) Z := X + A; end;\n"
+        self.assertIn("it is a name of P, at 1:24", self.hint(text, 3, 54, "unknown name A").lines[0])
+
+    def test_the_numbers_of_a_call(self):
+        text = HEAD + "(| Y := Q(A) |)\nwhere process Q = {integer K} (? integer X ! integer Z) Z := X * K; end;\n"
+        self.assertEqual(self.hint(text, 2, 9, "bad call of Q").lines, ["Q has 1 constant, 1 argument, 1 left side; here are 0, 1, 1"])
+
+    def test_bytes(self):
+        self.assertIn("byte order mark", self.hint("\xef\xbb\xbfprocess", 1, 1, "unexpected byte").lines[0])
+        self.assertIn("`and`", self.hint("A & B", 1, 3, "unexpected byte").lines[0])
+
+    def test_what_is_open_at_the_end(self):
+        lines = self.hint(HEAD + "(| Y := (A", 2, 11, "syntax").lines
+        self.assertEqual(lines[0], "found the end of the text; wanted `)` or an operator")
+        self.assertEqual(lines[1:], ["the `(` at 2:9 wants `)`", "the `(|` at 2:1 wants `|)`"])
+
+    def test_near_words(self):
+        for word, words, meant in [("chek", sigcwords.COMMANDS, "check"), ("level", ["LEVEL"], "LEVEL"), ("A", ["B", "C"], ""), ("proces", ["process"], "process")]:
+            self.assertEqual(sigchints.near(word, list(words)), meant)
+
+
+class Words(unittest.TestCase):
+    def test_hints(self):
+        for words, wanted in [
+            (["chek", "p"], "did you mean `check`?"),
+            (["run", "p", "f", "--instant", "3"], "did you mean `--instants`?"),
+            (["run", "p", "f", "--instants", "0"], "--instants wants a number from 1 to 1000000000"),
+            (["check", "p", "--workers", "3"], "`check` has no option --workers"),
+            (["run", "p", "f", "--capacity"], "--capacity wants a number from 1 to 65536"),
+            (["run", "p", "f", "--capacity=1", "--capacity=2"], "--capacity stands twice"),
+            (["check"], "`check` takes PROGRAM; 0 such words stand here"),
+            (["p.sig"], "the command comes first: sigc check p.sig"),
+            (["build", "p"], "`build` is not built yet"),
+            ([], "a command is wanted: check, tree, code, print, judge, run, play, load"),
+        ]:
+            self.assertIn(wanted, " ".join(sigcwords.words_hint(words)))
+
+    def test_the_commands_of_the_documents(self):
+        with open(f"{TOP}/docs/formats.md", encoding="utf-8") as it:
+            text = it.read()
+        for name in sigcwords.COMMANDS:
+            self.assertIn(f"    {sigcwords.usage(name)}\n", text)
+            self.assertIn(sigcwords.usage(name), sigcwords.help_text())
+        for name, it in sigcwords.OPTIONS.items():
+            row = next(line for line in text.split("\n") if line.startswith(f"| `{name} "))
+            self.assertEqual([cell.strip().replace(",", "") for cell in row.strip("|").split("|")][2:], [str(it.least), str(it.most), str(it.usual)])
+
+
+class Files(unittest.TestCase):
+    SIGNALS = {"A": "integer", "B": "boolean", "E": "event"}
+
+    def said(self, sort, said, text, line, col=1):
+        return " ".join(sigcfiles.hint_of_file(sort, said, text, line, col, self.SIGNALS))
+
+    def test_flows(self):
+        for text, said, line, col, wanted in [
+            ("% three\nA 1", "bad line", 1, 1, "no comments"),
+            ("A 1, 2", "bad value", 1, 3, "not by `,`"),
+            ("B 1 0", "bad value", 1, 3, "`true` or `false`"),
+            ("E false", "bad value", 1, 3, "`true` where it comes"),
+            ("A 1 .", "bad value", 1, 5, "absences are left out"),
+            ("A 3*2", "bad value", 1, 3, "`flows 2`"),
+            ("A 1.5", "bad value", 1, 3, "an integer is digits"),
+            ("\xef\xbb\xbfA 1", "bad line", 1, 1, "byte order mark"),
+            ("A: 1", "bad line", 1, 1, "without `:`"),
+            ("1 2", "bad line", 1, 1, "an input's name and then its values"),
+            ("A 1\xc2\xa02", "bad line", 1, 1, "column 4"),
+            ("a 1", "not an input", 1, 1, "did you mean `A`?"),
+            ("Q 1", "not an input", 1, 1, "the inputs are A, B, E"),
+        ]:
+            self.assertIn(wanted, self.said("flow", said, text, line, col), text)
+
+    def test_traces(self):
+        for text, said, line, col, wanted in [
+            ("A B\n1", "bad header", 1, 1, "it does not name E"),
+            ("A B E Q", "bad header", 1, 1, "it names Q"),
+            ("A B E\n1 true", "bad width", 2, 1, "2 words, and the header has 3 names"),
+            ("A B E\n1 0 .", "bad value", 2, 3, "`true` or `false`"),
+            ("A B E\n1 true -", "bad value", 2, 8, "absent is written `.`"),
+            ("A B E\n% one\n", "bad width", 2, 1, "no comments"),
+            ("A,B,E\n", "bad header", 1, 1, "not by `,`"),
+        ]:
+            self.assertIn(wanted, self.said("trace", said, text, line, col), text)
+
+    def test_events(self):
+        self.assertIn("did you mean `act`?", self.said("event", "bad event", "atc 1", 1))
+        self.assertIn("`act K` or `look K`", self.said("event", "bad event", "0 0", 1))
+
+
+class Lint(unittest.TestCase):
+    def warned(self, text):
+        return [(it.line, it.text) for it in sigclint.warnings_of(sigcread.read(text))]
+
+    def test_what_is_warned_of(self):
+        text = "process L = (? integer A; boolean B ! integer Y, S)\n(| Y := (A when (A < 10)) default (1 when (A < 10))\n | S := A + (A when B)\n | U := U $ init 0\n | A ^= when (S > 0)\n |)\nwhere integer U;\n process Q = (? integer X ! integer W) W := W $ init 0;\nend;\n"
+        found = self.warned(text)
+        for line, words in [(2, "A < 10 stands at 2:20 too"), (3, "A has to come as rarely as A when B here"), (7, "local U is not used"), (8, "process Q is not called"), (8, "input X is not used"), (5, "input A is taken where S > 0")]:
+            self.assertTrue(any(at == line and it.startswith(words) for at, it in found), (words, found))
+
+    def test_what_is_not(self):
+        self.assertEqual(self.warned("process P = (? integer A; boolean B ! integer Y)\n(| Y := (A when B) default (Z + 1)\n | Z := Y $ init 0\n | A ^= B ^= Z\n |)\nwhere integer Z; end;\n"), [])
+
+    def test_empty_flows(self):
+        reader = sigcread.read("process P = (? integer A, B ! integer Y) Y := A + B;")
+        self.assertEqual([it.col for it in sigclint.empty_flows(reader, "A 1\nB\n")], [27])
+
+
+@NEEDS_SIGC
+class OverTheProgram(unittest.TestCase):
+    @classmethod
+    def setUpClass(cls):
+        cls.sigc = sigcrun.Sigc(program())
+        cls.caret = module_of("sigc-caret")
+
+    def test_beginners_mistakes_lead_to_their_mends(self):
+        for text, (entry, mended) in MISTAKES.items():
+            with self.subTest(text):
+                reader, refusal = sigcread.read(text), self.sigc.check(text)
+                hint = sigchints.hint_of(text, reader, refusal)
+                self.assertEqual(hint.entry or self.caret.entry_of(refusal.text), entry)
+                self.assertTrue(self.caret.explained(entry), entry)
+                self.assertTrue(hint.lines)
+                if mended:
+                    self.assertIn(mended, sigcmend.applied(text, hint.edits))
+
+    def test_the_reader_stops_where_sigc_does(self):
+        for text in MISTAKES:
+            refusal = self.sigc.check(text)
+            if refusal.text == "syntax":
+                fault = sigcread.read(text).faults[0].found
+                self.assertEqual((fault.line, fault.col), refusal[:2], text)
+
+    def test_several_refusals(self):
+        text = "process P = (? integer A; boolean B ! integer Y, Z, W)\n(| Y = A + 1\n | Z := if B then A\n | W := A + q\n | V := A + B\n |)\nwhere integer V, U; end;\n"
+        first = self.sigc.check(text)
+        found = sigcmore.later_refusals(self.sigc, sigcread.read(text), first)
+        self.assertEqual((first.line, first.col), (3, 2))
+        self.assertEqual({(it.line, it.col, it.text) for it in found}, {(3, 12, "syntax"), (4, 13, "unknown name q"), (5, 11, "types clash"), (7, 18, "U is not defined")})
+
+    def later(self, text):
+        found = sigcmore.later_refusals(self.sigc, sigcread.read(text), self.sigc.check(text))
+        return [(it.line, it.col, it.text) for it in found]
+
+    def test_a_mend_that_is_known_is_taken_to_go_on(self):
+        text = "process P = (? bool A; int B ! boolean Y, Z)\n(| Y := not a;\n   Z := B != q\n |);\n"
+        self.assertEqual(self.later(text), [(1, 24, "syntax"), (2, 14, "syntax"), (3, 11, "syntax"), (2, 13, "unknown name a"), (3, 14, "unknown name q")])
+
+    def test_a_clock_equation_defines_nothing(self):
+        text = "process P = (? integer A ! integer Y)\n(| Y := A\n | Y ^= A +\n | A ^= b\n |);\n"
+        self.assertEqual(self.later(text), [(4, 9, "unknown name b")])
+
+    def test_no_refusal_behind_one_of_clocks(self):
+        text = "process P = (? integer A, B ! integer Y) Y := A;"
+        self.assertEqual(sigcmore.later_refusals(self.sigc, sigcread.read(text), self.sigc.check(text)), [])
+
+    def shown(self, text, *words, flows=None):
+        with tempfile.TemporaryDirectory() as room:
+            for name, it in (("p.sig", text), ("p.flows", flows)):
+                if it is not None:
+                    with open(f"{room}/{name}", "w", encoding="latin-1") as file:
+                        file.write(it)
+            done = ran("sigc-caret", *words, cwd=room)
+            return done.returncode, done.stderr.decode()
+
+    def test_the_entry_itself(self):
+        status, shown = self.shown("process P = (? bool A ! boolean Y)\n(| Y := not A |);\n", "check", "--explain", "p.sig")
+        self.assertEqual(status, 1)
+        self.assertIn("did you mean `boolean`?\n      see docs/errors.md#bool-and-int\n", shown)
+        self.assertIn("      | process P = (? boolean A ! boolean Y)\n", shown)
+
+    def test_warnings(self):
+        status, shown = self.shown("process P = (? integer A ! integer Y)\n(| Y := A | Z := A |)\nwhere integer Z; end;\n", "--lint", "run", "p.sig", "p.flows", flows="")
+        self.assertEqual(status, 0)
+        self.assertIn("p.sig:3:15: warning: local Z is not used\n", shown)
+        self.assertIn("p.sig:1:24: warning: input A has no values", shown)
+
+    def test_a_line_of_a_flow_file(self):
+        status, shown = self.shown("process P = (? boolean A ! boolean Y)\n(| Y := A |);\n", "run", "p.sig", "p.flows", flows="A 1\n")
+        self.assertEqual(status, 4)
+        self.assertIn("p.flows:1:3: error: bad value\n    1 | A 1\n      |   ^\n      a boolean is written `true` or `false`\n", shown)
+
+    def test_pace_where_sigc_takes_it(self):
+        text = "process P = (? integer A, B ! integer Y)\n(| Y := A |);\n"
+        stand_in = "#!/bin/sh\ncase $* in *--pace*) echo accepted;; *) echo 'error 1:24: no root: A and B are independent' >&2; exit 1;; esac\n"
+        with tempfile.TemporaryDirectory() as room:
+            for name, it in (("p.sig", text), ("sigc", stand_in)):
+                with open(f"{room}/{name}", "w", encoding="utf-8") as file:
+                    file.write(it)
+            os.chmod(f"{room}/sigc", 0o755)
+            for words in (["sigc-caret", "check"], ["sigc-why"]):
+                done = ran(*words, "p.sig", cwd=room, env={"SIGC": f"{room}/sigc"})
+                self.assertIn(b"--pace", done.stderr + done.stdout)
+
+    def test_pace_is_named_only_where_sigc_takes_it(self):
+        text = "process P = (? integer A, B ! integer Y)\n(| Y := A |);\n"
+        _, shown = self.shown(text, "check", "p.sig")
+        self.assertEqual("--pace" in shown, self.sigc.takes_pace(text))
+        self.assertIn("sigc-why p.sig", shown)
+
+
+if __name__ == "__main__":
+    unittest.main()

@@ -1,0 +1,213 @@
+"""The language server, spoken to directly; and the files for editors, in Vim and Neovim where they are installed."""
+import json
+import os
+import shutil
+import subprocess
+import sys
+import tempfile
+import unittest
+from unittest import mock
+
+from helping import EXAMPLES, NEEDS_SIGC, TOOLS, only_with, program, ran
+
+import sigcdocument
+import sigcrun
+
+URI = "file:///p.sig"
+TIMER = "% \u00e9 %\nprocess P = (? event TICK, RESET ! integer N)\n(| N := (0 when RESET) default (ZN + 1)\n | ZN := N $ init 0\n | N ^= TICK\n |)\nwhere integer ZN; end;\n"
+
+
+class Client:
+    """An editor's side of a conversation."""
+
+    def __init__(self):
+        env = {**os.environ, "SIGC": program()}
+        self.server = subprocess.Popen([sys.executable, f"{TOOLS}/sigc-lsp"], stdin=subprocess.PIPE, stdout=subprocess.PIPE, env=env)
+        self.asked = 0
+
+    def write(self, body):
+        self.server.stdin.write(b"Content-Length: %d\r\n\r\n%s" % (len(body), body))
+        self.server.stdin.flush()
+
+    def read(self):
+        length = int(self.server.stdout.readline().split(b":")[1])
+        self.server.stdout.readline()
+        return json.loads(self.server.stdout.read(length))
+
+    def notify(self, method, words):
+        self.write(json.dumps({"jsonrpc": "2.0", "method": method, "params": words}).encode())
+
+    def ask(self, method, words):
+        self.asked += 1
+        self.write(json.dumps({"jsonrpc": "2.0", "id": self.asked, "method": method, "params": words}).encode())
+        return self.read()
+
+    def at(self, method, line, character, **more):
+        return self.ask(f"textDocument/{method}", {"textDocument": {"uri": URI}, "position": {"line": line, "character": character}, **more})
+
+    def open(self, text):
+        self.notify("textDocument/didOpen", {"textDocument": {"uri": URI, "text": text}})
+        return self.read()["params"]["diagnostics"]
+
+    def end(self):
+        self.ask("shutdown", None)
+        self.notify("exit", None)
+        self.server.stdin.close()
+        self.server.stdout.close()
+        return self.server.wait(30)
+
+
+def spot(line, first, last):
+    return {"start": {"line": line, "character": first}, "end": {"line": line, "character": last}}
+
+
+def changed(text, edits):
+    """A text with the edits of a workspace edit, all ASCII."""
+    lines = text.split("\n")
+    at = [0]
+    for it in lines:
+        at.append(at[-1] + len(it) + 1)
+    for it in sorted(edits, key=lambda it: -at[it["range"]["start"]["line"]] - it["range"]["start"]["character"]):
+        start, end = (at[it["range"][side]["line"]] + it["range"][side]["character"] for side in ("start", "end"))
+        text = text[:start] + it["newText"] + text[end:]
+    return text
+
+
+@NEEDS_SIGC
+class Conversation(unittest.TestCase):
+    def setUp(self):
+        self.client = Client()
+        self.assertTrue(self.client.ask("initialize", {})["result"]["capabilities"]["hoverProvider"])
+
+    def tearDown(self):
+        self.assertEqual(self.client.end(), 0)
+
+    def test_a_refusal_with_its_mends(self):
+        (found,) = self.client.open(TIMER)
+        self.assertEqual((found["range"], found["severity"], found["message"].split("\n")[0]), (spot(1, 27, 32), 1, "clock of RESET is not determined"))
+        actions = self.client.ask("textDocument/codeAction", {"textDocument": {"uri": URI}, "range": spot(1, 0, 5)})["result"]
+        self.assertEqual(actions[0]["title"], "RESET as a boolean that comes with TICK")
+        mended = changed(TIMER, actions[0]["edit"]["changes"][URI])
+        self.client.notify("textDocument/didChange", {"textDocument": {"uri": URI}, "contentChanges": [{"text": mended}]})
+        self.assertEqual(self.client.read()["params"]["diagnostics"], [])
+        self.assertIn("clock: every instant of the program", self.client.at("hover", 1, 21)["result"]["contents"]["value"])
+
+    def test_a_mistake_of_the_syntax(self):
+        text = "process P = (? bool A ! boolean Y)\n(| Y := A |);\n"
+        (found,) = self.client.open(text)
+        self.assertEqual(found["range"], spot(0, 15, 19))
+        self.assertIn("did you mean `boolean`?", found["message"])
+        (action,) = self.client.ask("textDocument/codeAction", {"textDocument": {"uri": URI}, "range": spot(0, 15, 15)})["result"]
+        self.assertIn("(? boolean A", changed(text, action["edit"]["changes"][URI]))
+
+    def test_names(self):
+        self.client.open(TIMER)
+        self.assertEqual(self.client.at("definition", 2, 33)["result"], {"uri": URI, "range": spot(6, 14, 16)})
+        self.assertEqual(len(self.client.at("references", 6, 14)["result"]), 3)
+        renamed = self.client.at("rename", 2, 33, newName="OLD")["result"]["changes"][URI]
+        self.assertEqual(changed(TIMER, renamed), TIMER.replace("ZN", "OLD"))
+        for name in ("TICK", "when", "1A", "A B", ""):
+            self.assertIn("error", self.client.at("rename", 2, 33, newName=name), name)
+        self.assertIsNone(self.client.at("prepareRename", 2, 5)["result"])
+
+    def test_kind_clock_and_cluster(self):
+        with open(f"{EXAMPLES}/watch.sig", encoding="utf-8") as it:
+            self.assertEqual(self.client.open(it.read()), [])
+        shown = self.client.at("hover", 7, 4)["result"]["contents"]["value"]
+        self.assertIn("`integer AGE`, local of WATCH", shown)
+        self.assertIn("clock: every instant of the program", shown)
+        self.assertIn("cluster: 1", shown)
+        self.assertIn("some of the instants of TICK", self.client.at("hover", 5, 3)["result"]["contents"]["value"])
+        self.assertIn("clock of COUNT#1.N", self.client.at("hover", 14, 5)["result"]["contents"]["value"])
+        self.assertIn("process COUNT = {integer MAX}", self.client.at("hover", 7, 12)["result"]["contents"]["value"])
+        self.assertIsNone(self.client.at("hover", 0, 3)["result"])
+
+    def test_completion_and_symbols(self):
+        with open(f"{EXAMPLES}/watch.sig", encoding="utf-8") as it:
+            self.client.open(it.read())
+        labels = [it["label"] for it in self.client.at("completion", 6, 3)["result"]]
+        for it in ("when", "process", "ALARM", "COUNT"):
+            self.assertIn(it, labels)
+        self.assertNotIn("ZN", labels)
+        self.assertIn("ZN", [it["label"] for it in self.client.at("completion", 14, 5)["result"]])
+        symbols = self.client.ask("textDocument/documentSymbol", {"textDocument": {"uri": URI}})["result"]
+        self.assertEqual([it["name"] for it in symbols], ["WATCH", "COUNT"])
+
+    def test_what_is_no_request(self):
+        self.assertEqual(self.client.ask("textDocument/nothing", {})["error"]["code"], -32601)
+        self.assertEqual(self.client.ask("textDocument/hover", {})["error"]["code"], -32602)
+        self.client.write(b"{")
+        self.assertEqual(self.client.read()["error"]["code"], -32700)
+        self.client.open("\x00\ud83d\ude00 nonsense")
+        self.client.at("completion", 99, 99)
+        self.assertIsNone(self.client.at("definition", 99, 99)["result"])
+
+
+class Places(unittest.TestCase):
+    def test_units(self):
+        document = sigcdocument.Document(URI, "\u00e9\U0001f600A\nB", None)
+        self.assertEqual(document.position(6), {"line": 0, "character": 3})
+        self.assertEqual(document.offset({"line": 0, "character": 3}), 6)
+        self.assertEqual(document.offset({"line": 1, "character": 5}), 9)
+
+    def test_classes(self):
+        classes = sigcdocument.classes_of("A B\n  C\n    -\n  D\n")
+        self.assertEqual(classes["A"], (["A", "B"], None))
+        self.assertEqual(classes["D"], (["D"], ["A", "B"]))
+
+    def test_no_program_is_built_for_an_editor(self):
+        with tempfile.TemporaryDirectory() as room, mock.patch.object(sigcrun, "TOP", room), mock.patch.dict(os.environ, {"SIGC": ""}):
+            os.makedirs(f"{room}/crates/sigc/out")
+            self.assertRaises(sigcrun.NoProgram, sigcrun.built_program)
+            open(f"{room}/crates/sigc/out/unproved", "w", encoding="utf-8").close()
+            self.assertEqual(sigcrun.built_program(), f"{room}/crates/sigc/out/unproved")
+
+    def test_the_end_of_the_input(self):
+        self.assertEqual(ran("sigc-lsp", given=b"").returncode, 1)
+        self.assertEqual(ran("sigc-lsp", given=os.urandom(2000)).returncode, 1)
+
+
+class Files(unittest.TestCase):
+    def test_the_files_of_vs_code(self):
+        with open(f"{TOOLS}/editors/vscode/package.json", encoding="utf-8") as it:
+            contributes = json.load(it)["contributes"]
+        paths = [it["path"] for it in contributes["grammars"] + contributes["snippets"]] + [it["configuration"] for it in contributes["languages"]]
+        for path in paths:
+            with open(f"{TOOLS}/editors/vscode/{path}", encoding="utf-8") as it:
+                self.assertTrue(json.load(it))
+
+
+def editor(name):
+    return only_with(shutil.which(name), f"{name} is not installed: its test is left out")
+
+
+@NEEDS_SIGC
+class Editors(unittest.TestCase):
+    def lines(self, words, text):
+        """What an editor that is told these words writes into the file `out`, beside a program."""
+        with tempfile.TemporaryDirectory() as room:
+            with open(f"{room}/p.sig", "w", encoding="utf-8") as it:
+                it.write(text)
+            with open(f"{room}/rc.vim", "w", encoding="utf-8") as it:
+                it.write(f"set rtp^={TOOLS}/editors/vim\nfiletype plugin indent on\nsyntax on\n")
+            env = {**os.environ, "SIGC": program(), "HOME": room, "XDG_CONFIG_HOME": room, "TERM": "dumb"}
+            subprocess.run(words, cwd=room, env=env, capture_output=True, stdin=subprocess.DEVNULL, timeout=60)
+            with open(f"{room}/out", encoding="utf-8") as it:
+                return it.read().splitlines()
+
+    @editor("vim")
+    def test_vim(self):
+        words = ["vim", "-N", "-es", "-u", "rc.vim", "-i", "NONE", "p.sig"]
+        words += ["-c", "normal gg=G", "-c", "silent! make!", "-c", "call writefile([&filetype, &commentstring, getqflist()[0].text, string(getqflist()[0].lnum), getline(3)], 'out')", "-c", "qa!"]
+        found = self.lines(words, TIMER.replace("\n |", "\n      |"))
+        self.assertEqual(found, ["signal", "% %s %", "clock of RESET is not determined", "2", "(| N := (0 when RESET) default (ZN + 1)"])
+
+    @editor("nvim")
+    def test_neovim(self):
+        told = "lua vim.wait(20000, function() return #vim.diagnostic.get(0) > 0 end); local it = vim.diagnostic.get(0)[1]; vim.fn.writefile({vim.bo.filetype, it.message:match('[^\\n]*'), tostring(it.lnum)}, 'out')"
+        found = self.lines(["nvim", "--headless", "-u", "rc.vim", "-i", "NONE", "p.sig", "-c", told, "-c", "qa!"], TIMER)
+        self.assertEqual(found, ["signal", "clock of RESET is not determined", "1"])
+
+
+if __name__ == "__main__":
+    unittest.main()
