@@ -184,3 +184,13 @@ fn run_line<R: Threads + Wait + Sync + Abort + AllocGlobal>(
     let mut out = MemSink::new(rt.alloc(), 5000)?;
     call(rt, line, &mut files, &mut out, wanted)
 }
+
+/// Calls with the words of a run.
+fn call_run<R: Threads + Wait + Sync + Abort + AllocGlobal>(
+    rt: &R,
+    files: &mut MemFiles,
+    out: &mut MemSink,
+    wanted: Wanted,
+) -> Result<(), Fail> {
+    call(rt, &["run", "P", "F"], files, out, wanted)
+}
