@@ -202,7 +202,7 @@ def add_window_words(words):
     words.add_argument("--from", metavar="I", dest="first", type=at_least(1), default=1, help="from this instant on, the first being 1")
     words.add_argument("--to", metavar="I", dest="last", type=at_least(1), help="up to this instant; the run goes on to its own end")
     words.add_argument("--instants", metavar="N", type=at_least(1), help="the most instants of the run, as of sigc run")
-    words.add_argument("--pace", action="store_true", help="handed on to sigc")
+    words.add_argument("--pace", action="store_true", help="handed on to sigc, which does not take it yet")
 
 
 def run_words(words):
