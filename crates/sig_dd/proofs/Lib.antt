@@ -20,6 +20,7 @@ pub mod Trails
 pub mod Walks
 pub mod RelationalProducts
 pub mod Renamed
+pub mod Supported
 unfoldable pub use Common.*
 pub use Adding.*
 pub use Cached.*
@@ -37,6 +38,7 @@ pub use RelationalProducts.*
 pub use Renamed.*
 pub use Sides.*
 pub use Splits.*
+pub use Supported.*
 pub use Trails.*
 pub use Variables.*
 pub use Walks.*

@@ -9,3 +9,4 @@ pub mod Products
 pub mod Renaming
 pub mod Shares
 pub mod Support
+pub mod Supports

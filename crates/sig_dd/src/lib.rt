@@ -18,6 +18,7 @@ mod renaming;
 mod steps;
 mod store;
 mod support;
+mod supports;
 
 pub use answer::DdAnswer;
 pub use laws::{
@@ -29,3 +30,4 @@ pub use laws::{
 pub use node::Ref;
 pub use steps::Steps;
 pub use store::Store;
+pub use supports::VariableList;

@@ -1,6 +1,6 @@
 //! Which operations precede which.
 
-ghost use Rattle.std.specs.Prelude.{◌≡◌, ◌↔◌, IfOk, OnOk, IsTrue, All, Contains, List, slice_get};
+ghost use Rattle.std.specs.Prelude.{◌≡◌, ◌↔◌, IfOk, OnOk, IsTrue, All, Contains, List, map, slice_get};
 ghost use Rattle.std.specs.List.{filter_map};
 ghost use Rattle.sig_base.specs.declared.ids.SigId.{SigId};
 ghost use Rattle.sig_dd.specs.Nodes.{Holds};
@@ -12,7 +12,7 @@ ghost use Rattle.sig_plan.specs.Order.{ComesBefore, Needs};
 use crate::numbers::Numbers;
 use sig_base::{EqId, SigId};
 use sig_clock::Clocks;
-use sig_dd::{DdAnswer, Store};
+use sig_dd::{DdAnswer, Ref, Store};
 use sig_plan::{Op, OpKind};
 use std::alloc::{AllocError, Global};
 
@@ -26,33 +26,41 @@ pub(crate) fn graph_of(
     requires { All (λ op. Holds store.now.nodes op.guard) ops.now }
     ensures { IfOk result (λ graph. IsGraph clocks.now.conditions store.now.nodes ops.now graph.items) }
 {
+    let guards = guards_of(alloc, ops)?;
+    let supports = store.supports(guards.as_slice())?;
     let mut graph = Vec::new(alloc);
-    for q in ops {
-        graph.push(predecessors_of(alloc, ops, q, clocks, store)?)?;
+    for (number, q) in ops.iter().enumerate() {
+        let variables = supports[number].as_slice();
+        let needs = conditions_at(alloc, clocks.conditions.as_slice(), variables)?;
+        graph.push(predecessors_of(alloc, ops, q, needs.as_slice(), store)?)?;
     }
     Ok(graph)
 }
 
-/// The numbers of the operations that precede an operation.
+/// The guards of operations.
+fn guards_of(alloc: Global, ops: &[Op]) -> Result<Vec<Ref>, AllocError>
+    ensures { IfOk result (λ guards. guards.items ≡ map (λ op. op.guard) ops.now) }
+{
+    ops.iter().map(|op| op.guard).collect(alloc)
+}
+
+/// The numbers of the operations that precede an operation, whose guard needs these conditions.
 fn predecessors_of(
     alloc: Global,
     ops: &[Op],
     q: &Op,
-    clocks: &Clocks,
+    needs: &[SigId],
     store: &Store,
 ) -> Result<Numbers, DdAnswer>
     requires ops { All (λ op. Holds store.now.nodes op.guard) ops.now }
     requires q { Holds store.now.nodes q.now.guard }
-    ensures { IfOk result (IsBefore clocks.now.conditions store.now.nodes ops.now q.now) }
+    ensures { IfOk result (λ list. (conditions : List SigId)
+        → ((x : SigId) → Contains needs.now x ↔ Needs conditions (operation_in store.now.nodes q.now) x)
+        → IsBefore conditions store.now.nodes ops.now q.now list) }
 {
-    let needs = needed_by(alloc, q, clocks, store)?;
     let mut list = Numbers::new(alloc);
     for (number, p) in ops.iter().enumerate() {
-        add(
-            &mut list,
-            number,
-            comes_before(p, q, needs.as_slice(), store)?,
-        )?;
+        add(&mut list, number, comes_before(p, q, needs, store)?)?;
     }
     Ok(list)
 }
@@ -65,16 +73,6 @@ fn add(list: &mut Numbers, number: usize, chosen: bool) -> Result<(), AllocError
         list.push(number)?;
     }
     Ok(())
-}
-
-/// The conditions that the guard of an operation needs.
-fn needed_by(alloc: Global, q: &Op, clocks: &Clocks, store: &Store) -> Result<Vec<SigId>, DdAnswer>
-    requires { Holds store.now.nodes q.now.guard }
-    ensures { IfOk result (λ needs. (x : SigId) → Contains needs.items x
-        ↔ Needs clocks.now.conditions (operation_in store.now.nodes q.now) x) }
-{
-    let variables = store.support(q.guard)?;
-    Ok(conditions_at(alloc, clocks.conditions.as_slice(), variables.as_slice())?)
 }
 
 /// The conditions for which variables stand.

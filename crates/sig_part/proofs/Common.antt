@@ -1,11 +1,14 @@
 -- What the proofs of this crate cite of std, of the crates below and of its own specs, passed on from one place.
-pub use Rattle.std.proofs.Common.{Bool, Contains, List, None, Option, Some, [], ap, append_assoc, arith, eq-eqb, eqb, eqb-true, false, filter_map, get_or, get_or-set_other, get_or-set_same, if◌then◌else◌, inl, inr, length, length-append, length-set, map, not, refl, replicate, rules, set, slice_get, slice_index_or, subst, suc, sum_by, sym, take, true, vec_len, zero, ℕ, ◌++◌, ◌+◌, ◌-◌, ◌<◌, ◌↔◌, ◌∙◌, ◌∷◌, ◌≡◌, ◌≢◌, ◌≤◌, ◌⊎◌}
+pub use Rattle.std.proofs.Common.{All, Bool, Contains, List, None, Option, Some, [], ap, append_assoc, arith, eq-eqb, eqb, eqb-true, false, filter_map, get_or, get_or-set_other, get_or-set_same, if◌then◌else◌, inl, inr, length, length-append, length-set, map, not, refl, replicate, rules, set, slice_get, slice_index_or, subst, suc, sum_by, sym, take, true, vec_len, zero, ℕ, ◌++◌, ◌+◌, ◌-◌, ◌<◌, ◌↔◌, ◌∙◌, ◌∷◌, ◌≡◌, ◌≢◌, ◌≤◌, ◌⊎◌}
 pub use Rattle.std.proofs.lemmas.Bool.{cases_Bool}
 pub use Rattle.std.proofs.lemmas.List.{get_or_read, length-replicate, length_push, nil_from_length}
-pub use Rattle.std.proofs.lemmas.List.Elements.{Contains-append_cases, Contains-push, Contains-push_cases}
+pub use Rattle.std.proofs.lemmas.List.Elements.{All-map, Contains-append_cases, Contains-push, Contains-push_cases}
 pub use Rattle.std.proofs.lemmas.List.Sums.{count_by-le-length, sum_by-set}
 pub use Rattle.std.proofs.lemmas.Option.{get_or_from_slice_get as get_is}
 pub use Rattle.std.proofs.lemmas.Result.{IfErr-weaker}
+pub use Rattle.sig_dd.specs.Nodes.{Holds}
+pub use Rattle.sig_dd.specs.Supports.{IsSupport}
+pub use Rattle.sig_dd.specs.declared.node.Ref.{Ref}
 pub use Rattle.sig_base.specs.declared.limits.TheConstants.{LINKS}
 pub use Rattle.sig_clock.proofs.Lists.{written}
 pub use Rattle.sig_plan.specs.Parts.{IsNeededFor, IsUsed, NeedsTooManyLinks}

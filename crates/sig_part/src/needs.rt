@@ -1,6 +1,6 @@
 //! The conditions that the guards of operations need.
 
-ghost use Rattle.std.specs.Prelude.{◌≡◌, ◌↔◌, IfOk, All, Contains, slice_get};
+ghost use Rattle.std.specs.Prelude.{◌≡◌, ◌↔◌, IfOk, All, Contains, map, slice_get};
 ghost use Rattle.std.specs.List.{filter_map};
 ghost use Rattle.sig_base.specs.declared.ids.SigId.{SigId};
 ghost use Rattle.sig_dd.specs.Nodes.{Holds};
@@ -10,7 +10,7 @@ ghost use Rattle.sig_plan.specs.Order.{Needs};
 
 use sig_base::SigId;
 use sig_clock::Clocks;
-use sig_dd::{DdAnswer, Store};
+use sig_dd::{DdAnswer, Ref, Store};
 use sig_plan::Op;
 use std::alloc::{AllocError, Global};
 use std::marker::Model;
@@ -57,22 +57,21 @@ pub(crate) fn needed_by_each(
     requires { All (λ op. Holds store.now.nodes op.guard) ops.now }
     ensures { IfOk result (λ needs. AreNeeded clocks.now.conditions store.now.nodes ops.now needs.items) }
 {
+    let guards = guards_of(alloc, ops)?;
+    let supports = store.supports(guards.as_slice())?;
     let mut needs = Vec::new(alloc);
-    for op in ops {
-        needs.push(needed_by(alloc, op, clocks, store)?)?;
+    for variables in supports.as_slice() {
+        let list = conditions_at(alloc, clocks.conditions.as_slice(), variables.as_slice())?;
+        needs.push(Conditions::from(list))?;
     }
     Ok(needs)
 }
 
-/// The conditions that the guard of an operation needs.
-fn needed_by(alloc: Global, op: &Op, clocks: &Clocks, store: &Store) -> Result<Conditions, DdAnswer>
-    requires { Holds store.now.nodes op.now.guard }
-    ensures { IfOk result (λ needs. (x : SigId) → Contains needs x
-        ↔ Needs clocks.now.conditions (operation_in store.now.nodes op.now) x) }
+/// The guards of operations.
+fn guards_of(alloc: Global, ops: &[Op]) -> Result<Vec<Ref>, AllocError>
+    ensures { IfOk result (λ guards. guards.items ≡ map (λ op. op.guard) ops.now) }
 {
-    let variables = store.support(op.guard)?;
-    let list = conditions_at(alloc, clocks.conditions.as_slice(), variables.as_slice())?;
-    Ok(Conditions { list })
+    ops.iter().map(|op| op.guard).collect(alloc)
 }
 
 /// The conditions for which variables stand.

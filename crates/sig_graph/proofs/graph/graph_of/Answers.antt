@@ -1,24 +1,64 @@
-use Rattle.std.proofs.Common.{◌∙◌, ap, arith, length}
-use Rattle.std.proofs.lemmas.List.{length_push}
-use Rattle.sig_graph.proofs.Coming.{graph_more}
-use Rattle.sig_graph.proofs.Lists.{get_within}
+use Rattle.std.proofs.Common.{◌≡◌, ◌<◌, ◌∙◌, ◌↔◌, Contains, ℕ, List, [], ap, sym, subst, arith, length, map, All, get_or}
+use Rattle.std.specs.Prelude.{Some, slice_get}
+use Rattle.std.specs.List.{filter_map}
+use Rattle.std.proofs.lemmas.List.{get_or_read, length-map, length_push}
+use Rattle.std.proofs.lemmas.List.Elements.{All-map}
+use Rattle.sig_clock.specs.Clocks.{ClocksView}
+use Rattle.sig_dd.specs.Nodes.{Holds}
+use Rattle.sig_dd.specs.Supports.{IsSupport}
+use Rattle.sig_dd.specs.declared.node.Ref.{Ref}
+use Rattle.sig_base.specs.declared.ids.SigId.{SigId}
+use Rattle.sig_plan.specs.Operations.{operation_in}
+use Rattle.sig_plan.specs.Order.{Needs}
+use Rattle.sig_plan.specs.declared.op.Op.{Op}
+use Rattle.sig_graph.proofs.Coming.{graph_more, needs_are}
+use Rattle.sig_graph.proofs.Lists.{get_map, get_within, read_is}
 use Rattle.sig_graph.proofs.graph.graph_of.Goals as goal
 
-pub loop-q-preserved : goal.loop-q-preserved
-loop-q-preserved c =
-    let inv = c.loop-q.invariant in
+pub supports-requires : goal.supports-requires
+supports-requires c =
+    let guards = c.as_slice.ensures.value ∙ c.in_ok-guards.ensures in
+    subst (λ (refs : List Ref). All (Holds c.args.store.now.nodes) refs) (sym guards) (All-map (Holds c.args.store.now.nodes) (λ (op : Op). op.guard) c.args.ops.now c.requires)
+
+pub index-requires : goal.index-requires
+index-requires c =
+    let guards = ap length (c.as_slice.ensures.value ∙ c.in_ok-guards.ensures) ∙ length-map c.args.ops.now (λ (op : Op). op.guard) in
+    let count = c.in_ok-supports.ensures.value.count in
+    let lt = c.loop-number-test.true in
+    omega (arith, guards, count, lt)
+
+pub loop-number-preserved : goal.loop-number-preserved
+loop-number-preserved c =
+    let inv = c.loop-number.invariant in
+    let conditions = c.args.clocks.now.conditions in
+    let nodes = c.args.store.now.nodes in
+    let ops = c.args.ops.now in
+    let n = c.loop-number.number in
+    let q = c.index-ops-number.result in
+    let variables = c.index.result.now in
+    let needs = c.in_ok-needs.needs.items in
+    let guards = c.as_slice.ensures.value ∙ c.in_ok-guards.ensures in
+    let size = ap length guards ∙ length-map ops (λ (op : Op). op.guard) in
+    let count = c.in_ok-supports.ensures.value.count in
+    let get = read_is ops n q c.loop-number-test.true c.index-ops-number.is in
+    let lt = c.loop-number-test.true in
+    let read = get_or_read c.in_ok-supports.supports.items n variables (omega (arith, size, count, lt)) c.index.ensures [] in
+    let support = subst (IsSupport nodes q.guard) (sym read) (c.in_ok-supports.ensures.value.each n q.guard (ap (λ (refs : List Ref). slice_get refs n) guards ∙ get_map (λ (o : Op). o.guard) ops n q get)) in
+    let listed = c.in_ok-needs.ensures ∙ (λ j. filter_map (slice_get ((c.as_slice-in-loop-number.ensures.value ∙ ap (λ (v : ClocksView). v.conditions) c.clocks.view_is) j)) (c.as_slice-variables.ensures j)) in
+    let exact = needs_are nodes conditions q variables needs support.exact listed in
+    let own = subst (λ (list : List SigId). (x : SigId) → Contains list x ↔ Needs conditions (operation_in nodes q) x) (sym c.as_slice-in-loop-number-2.ensures.value) exact in
     record {
-      count = ap length c.in_ok-push.ensures.items ∙ length_push c.loop-q.graph.items c.in_ok-predecessors_of.field-0 ∙ (let n = inv.count in omega (arith, n));
-      each = graph_more c.args.clocks.now.conditions c.args.store.now.nodes c.args.ops.now c.loop-q.graph.items c.push.new.self.items c.loop-q.q-index c.q-item.result c.in_ok-predecessors_of.field-0 inv.count inv.each c.loop-q-test.true
-          c.q-item.is c.in_ok-predecessors_of.ensures c.in_ok-push.ensures.items;
+      count = ap length c.in_ok-push.ensures.items ∙ length_push c.loop-number.graph.items c.in_ok-predecessors_of.field-0 ∙ (let n = inv.count in omega (arith, n));
+      each = graph_more conditions nodes ops c.loop-number.graph.items c.push.new.self.items n q c.in_ok-predecessors_of.field-0 inv.count inv.each c.loop-number-test.true
+          c.index-ops-number.is (c.in_ok-predecessors_of.ensures conditions own) c.in_ok-push.ensures.items;
     }
 
 pub returns : goal.returns
 returns c =
-    let inv = c.loop-q.invariant in
+    let inv = c.loop-number.invariant in
     let n = inv.count in
-    let last = c.loop-q-test.false in
-    let most = c.loop-q.auto.q-index-end in
+    let last = c.loop-number-test.false in
+    let most = c.loop-number.auto.number-end in
     record {
       count = omega (arith, n, last, most);
       each = λ j q is. inv.each j q (omega (arith, get_within c.args.ops.now j q is, last)) is;

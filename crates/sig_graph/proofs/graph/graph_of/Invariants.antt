@@ -4,8 +4,8 @@ use Rattle.sig_graph.specs.Graphs.{IsBefore}
 use Rattle.sig_plan.specs.declared.op.Op.{Op}
 use Rattle.sig_graph.proofs.graph.graph_of.Given as goal
 
-abbrev pub invariant-loop-q : goal.invariant-loop-q
-invariant-loop-q l = record {
-  count : length l.graph.items ≡ l.q-index;
-  each : (j : ℕ) (op : Op) → j < l.q-index → slice_get l.ops j ≡ Some op → IsBefore l.clocks.conditions l.store.nodes l.ops op (slice_index_or l.graph.items j []);
+abbrev pub invariant-loop-number : goal.invariant-loop-number
+invariant-loop-number l = record {
+  count : length l.graph.items ≡ l.number;
+  each : (j : ℕ) (op : Op) → j < l.number → slice_get l.ops j ≡ Some op → IsBefore l.clocks.conditions l.store.nodes l.ops op (slice_index_or l.graph.items j []);
 }

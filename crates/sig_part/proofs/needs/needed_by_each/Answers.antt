@@ -1,29 +1,44 @@
-use Rattle.sig_part.proofs.{◌≡◌, ◌↔◌, ◌∙◌, ℕ, List, [], ap, subst, arith, length, Contains, Some, slice_get, length_push, SigId, operation_in, Needs, Op, get_within, each_more, get_is}
+use Rattle.sig_part.proofs.{◌≡◌, ◌<◌, ◌↔◌, ◌∙◌, ℕ, List, [], ap, sym, subst, arith, length, map, Contains, Some, slice_get, filter_map, get_or, get_or_read, length_push, length-map, All-map, All, Holds, Ref, SigId, ClocksView, operation_in, Needs, Op, get_within, get_map, each_more, needs_are, IsSupport}
 use Rattle.sig_part.proofs.needs.needed_by_each.Goals as goal
 
-pub loop-op-preserved : goal.loop-op-preserved
-loop-op-preserved c =
-    let inv = c.loop-op.invariant in
+pub supports-requires : goal.supports-requires
+supports-requires c =
+    let guards = c.as_slice.ensures.value ∙ c.in_ok-guards.ensures in
+    subst (λ (refs : List Ref). All (Holds c.args.store.now.nodes) refs) (sym guards) (All-map (Holds c.args.store.now.nodes) (λ (op : Op). op.guard) c.args.ops.now c.requires)
+
+pub loop-variables-preserved : goal.loop-variables-preserved
+loop-variables-preserved c =
+    let inv = c.loop-variables.invariant in
     let conditions = c.args.clocks.now.conditions in
     let nodes = c.args.store.now.nodes in
     let ops = c.args.ops.now in
-    let n = c.loop-op.op-index in
-    let list = c.in_ok-needed_by.field-0 in
+    let n = c.loop-variables.variables-index in
+    let variables = c.variables-item.result in
+    let list = c.from.result in
+    let guards = c.as_slice.ensures.value ∙ c.in_ok-guards.ensures in
+    let lists = c.as_slice-variables-items.ensures.value in
+    let read = get_or_read c.as_slice-variables-items.result.now n variables c.loop-variables-test.true c.variables-item.is [] ∙ (λ j. get_or (lists j) n []) in
+    let listed = c.from.ensures ∙ c.in_ok-list.ensures ∙ (λ j. filter_map (slice_get ((c.as_slice-in-loop-variables.ensures.value ∙ ap (λ (v : ClocksView). v.conditions) c.clocks.view_is) j)) (c.as_slice-in-loop-variables-2.ensures j)) in
     record {
-      count = ap length c.in_ok-push.ensures.items ∙ length_push c.loop-op.needs.items list ∙ (let count = inv.count in omega (arith, count));
+      count = ap length c.in_ok-push.ensures.items ∙ length_push c.loop-variables.needs.items list ∙ (let count = inv.count in omega (arith, count));
       each = each_more (λ (number : ℕ) (needs : List SigId). (op : Op) → slice_get ops number ≡ Some op → (x : SigId) → Contains needs x ↔ Needs conditions (operation_in nodes op) x)
-          c.loop-op.needs.items c.push.new.self.items list [] n inv.count inv.each
-          (λ other get x. subst (λ (op : Op). Contains list x ↔ Needs conditions (operation_in nodes op) x) (c.op-item.is ∙ get_is ops n other c.op-item.result get) (c.in_ok-needed_by.ensures x))
+          c.loop-variables.needs.items c.push.new.self.items list [] n inv.count inv.each
+          (λ op get. needs_are nodes conditions op variables list
+          ((subst (IsSupport nodes op.guard) (sym read) (c.in_ok-supports.ensures.value.each n op.guard (ap (λ (refs : List Ref). slice_get refs n) guards ∙ get_map (λ (o : Op). o.guard) ops n op get))).exact)
+          listed)
           c.in_ok-push.ensures.items;
     }
 
 pub returns : goal.returns
 returns c =
-    let inv = c.loop-op.invariant in
+    let inv = c.loop-variables.invariant in
     let n = inv.count in
-    let last = c.loop-op-test.false in
-    let most = c.loop-op.auto.op-index-end in
+    let last = c.loop-variables-test.false in
+    let most = c.loop-variables.auto.variables-index-end in
+    let guards = ap length (c.as_slice.ensures.value ∙ c.in_ok-guards.ensures) ∙ length-map c.args.ops.now (λ (op : Op). op.guard) in
+    let lists = ap length c.as_slice-variables-items.ensures.value in
+    let same = c.in_ok-supports.ensures.value.count in
     record {
-      count = omega (arith, n, last, most);
-      each = λ number op is. inv.each number (omega (arith, get_within c.args.ops.now number op is, last)) op is;
+      count = omega (arith, n, last, most, guards, lists, same);
+      each = λ number op is. inv.each number (omega (arith, get_within c.args.ops.now number op is, last, guards, lists, same)) op is;
     }
