@@ -45,4 +45,5 @@ pub mod FormLemmas
 pub mod GeneralShares
 pub mod OwnLemmas
 pub mod OwnSpans
+pub mod CutLemmas
 pub mod MadeSystems

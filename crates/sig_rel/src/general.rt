@@ -20,13 +20,15 @@ ghost use Rattle.sig_rel.specs.Substitutions.{HoldColumns, SpanColumns, present_
 ghost use Rattle.sig_rel.specs.Systems.{AreConditions, IsSystem};
 
 use crate::answer::RelAnswer;
+use crate::arranging::arranged;
 use crate::free::{presences, truths};
-use crate::numbering::{Unknowns, unknowns_of};
+use crate::numbering::{Unknowns, unknowns_by, unknowns_of};
 use crate::rules::Rules;
 use crate::schedules::{Schedule, schedule_of};
 use crate::substitution::Columns;
 use crate::systems::System;
 use sig_base::SigId;
+use sig_clock::ClockBase;
 use sig_dd::{DdAnswer, Ref, Store};
 use sig_kernel::Kernel;
 use std::alloc::{AllocError, Global};
@@ -56,8 +58,8 @@ pub fn system(
     ensures share { KeepsToShare kernel.now store.old store.new result }
 {
     let _nodes = store.len();
-    let unknowns = unknowns_of(alloc, kernel)?;
     let schedule = schedule_of(alloc, kernel, conditions)?;
+    let unknowns = arranged_unknowns(alloc, kernel, &schedule)?;
     let mut columns = Columns::fresh(alloc, store, kernel.signals.as_slice().len())?;
     columns.substitute(store, kernel, &unknowns, &schedule)?;
     let left = columns.left(store, kernel, schedule.rules.least.as_slice())?;
@@ -70,6 +72,21 @@ pub fn system(
         &columns,
         left,
     )?)
+}
+
+/// The unknowns of a kernel, those of which its schedule links near each other.
+fn arranged_unknowns(
+    alloc: Global,
+    kernel: &Kernel,
+    schedule: &Schedule,
+) -> Result<Unknowns, ClockBase>
+    requires { IsValid kernel.now }
+    ensures unknowns { IfOk result (AreUnknownsOf kernel.now) }
+    ensures within { IfOk result (LieWithin kernel.now) }
+{
+    let named = unknowns_of(alloc, kernel)?;
+    let order = arranged(alloc, &schedule.links, &named)?;
+    unknowns_by(alloc, kernel, order.as_slice())
 }
 
 impl Columns {

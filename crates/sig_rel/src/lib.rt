@@ -6,12 +6,14 @@
 #![tactic(auto)]
 
 mod answer;
+mod arranging;
 mod cuts;
 mod elements;
 mod free;
 mod functions;
 mod general;
 mod laws;
+mod links;
 mod making;
 mod numbering;
 mod own;

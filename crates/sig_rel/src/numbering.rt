@@ -9,6 +9,7 @@ ghost use Rattle.sig_rel.specs.Numberings.{AreGiven, HasNumbers, Retains, given_
 ghost use Rattle.sig_rel.specs.Relations.{is_boolean};
 ghost use Rattle.sig_rel.specs.Statuses.{AreUnknownsOf, LieWithin};
 
+use crate::elements::Element;
 use sig_base::Kind;
 use sig_clock::{ClockBase, condition_set, same_clock};
 use sig_kernel::{Form, Kernel, Operand};
@@ -33,25 +34,43 @@ struct Numbering {
     next: u32,
 }
 
-/// The unknowns of a kernel, numbered from the count of its conditions on.
+/// The unknowns of a kernel, numbered from the count of its conditions on, in the order in which the
+/// equations name them.
 pub(crate) fn unknowns_of(alloc: Global, kernel: &Kernel) -> Result<Unknowns, ClockBase>
+    requires { IsValid kernel.now }
+    ensures unknowns { IfOk result (AreUnknownsOf kernel.now) }
+    ensures within { IfOk result (LieWithin kernel.now) }
+{
+    let order = Vec::new(alloc);
+    unknowns_by(alloc, kernel, order.as_slice())
+}
+
+/// The unknowns of a kernel, numbered from the count of its conditions on: first those of these
+/// elements, in their order, and the others in the order in which the equations name them.
+pub(crate) fn unknowns_by(
+    alloc: Global,
+    kernel: &Kernel,
+    order: &[Element],
+) -> Result<Unknowns, ClockBase>
     requires { IsValid kernel.now }
     ensures unknowns { IfOk result (AreUnknownsOf kernel.now) }
     ensures within { IfOk result (LieWithin kernel.now) }
 {
     let least = same_clock(alloc, kernel)?;
     let conditions = condition_set(alloc, kernel)?;
-    Ok(numbered(alloc, kernel, least.as_slice(), conditions.len() as u32)?)
+    let first = conditions.len() as u32;
+    Ok(numbered(alloc, kernel, least.as_slice(), first, order)?)
 }
 
-/// The unknowns of a kernel, of which the least signals of the clock classes are given. They are
-/// numbered in the order in which the equations name them, so that related ones stand beside one
-/// another.
+/// The unknowns of a kernel, of which the least signals of the clock classes are given. Those of some
+/// elements are numbered first, and the others in the order in which the equations name them, so that
+/// related ones stand beside one another.
 fn numbered(
     alloc: Global,
     kernel: &Kernel,
     least: &[u32],
     first: u32,
+    order: &[Element],
 ) -> Result<Unknowns, AllocError>
     requires valid { IsValid kernel.now }
     requires least { AreLeast kernel.now least.now }
@@ -60,6 +79,7 @@ fn numbered(
     ensures within { IfOk result (LieWithin kernel.now) }
 {
     let mut numbering = Numbering::new(alloc, kernel.signals.as_slice().len(), first)?;
+    numbering.number_elements(kernel, least, order);
     numbering.number_equations(kernel, least);
     numbering.number_signals(kernel, least);
     let present = numbering.presences(alloc, least)?;
@@ -83,6 +103,54 @@ impl Numbering {
             truth: vec![in alloc; None; signals]?,
             next: first,
         })
+    }
+
+    /// Numbers some elements.
+    fn number_elements(&mut self, kernel: &Kernel, least: &[u32], order: &[Element])
+        requires valid { IsValid kernel.now }
+        requires least { AreLeast kernel.now least.now }
+        requires given { AreGiven kernel.now least.now (length (conditions_of kernel.now)) self.old }
+        ensures { AreGiven kernel.now least.now (length (conditions_of kernel.now)) self.new }
+    {
+        for element in order {
+            self.number_element(kernel, least, *element);
+        }
+    }
+
+    /// Numbers an element, if it is one of the kernel's.
+    fn number_element(&mut self, kernel: &Kernel, least: &[u32], element: Element)
+        requires valid { IsValid kernel.now }
+        requires least { AreLeast kernel.now least.now }
+        requires given { AreGiven kernel.now least.now (length (conditions_of kernel.now)) self.old }
+        ensures { AreGiven kernel.now least.now (length (conditions_of kernel.now)) self.new }
+    {
+        match element {
+            Element::Presence(class) => self.number_own(kernel, least, class as usize),
+            Element::Truth(signal) => self.number_boolean(kernel, least, signal as usize),
+        }
+    }
+
+    /// Numbers a class, if the signal of this number is the least one of its class.
+    fn number_own(&mut self, _kernel: &Kernel, least: &[u32], class: usize)
+        requires valid { IsValid _kernel.now }
+        requires least { AreLeast _kernel.now least.now }
+        requires given { AreGiven _kernel.now least.now (length (conditions_of _kernel.now)) self.old }
+        ensures { AreGiven _kernel.now least.now (length (conditions_of _kernel.now)) self.new }
+    {
+        if class < least.len() && least[class] as usize == class {
+            self.number_class(class);
+        }
+    }
+
+    /// Numbers the truth of a signal, if it is a boolean.
+    fn number_boolean(&mut self, kernel: &Kernel, _least: &[u32], signal: usize)
+        requires valid { IsValid kernel.now }
+        requires given { AreGiven kernel.now _least.now (length (conditions_of kernel.now)) self.old }
+        ensures { AreGiven kernel.now _least.now (length (conditions_of kernel.now)) self.new }
+    {
+        if is_boolean(kernel, signal) {
+            self.number_truth(signal);
+        }
     }
 
     /// Numbers the signals that the equations name.

@@ -279,7 +279,7 @@ fn first_defining(equations: &[Equation], signal: usize) -> Option<usize>
 }
 
 /// Whether a signal is among conditions.
-fn is_listed(conditions: &[SigId], signal: usize) -> bool
+pub(crate) fn is_listed(conditions: &[SigId], signal: usize) -> bool
     ensures { result ≡ list_any (is_numbered signal) conditions.now }
 {
     for condition in conditions {

@@ -2,13 +2,16 @@
 
 ghost use Rattle.std.specs.Prelude.{◌≡◌, None, slice_index_or, IfOk, IfSome, MatchOption, OnOk};
 ghost use Rattle.sig_kernel.specs.Validity.{IsValid};
+ghost use Rattle.sig_kernel.specs.declared.kernel.Kernel.{Kernel};
 ghost use Rattle.sig_rel.specs.Schedules.{HasPlace, IsPlannedStep, IsSchedule, IsScheduling, IsTaken, IsWhole, MayBeWritten, is_left, is_left_truth};
 ghost use Rattle.sig_rel.specs.Systems.{AreConditions};
 
 use crate::elements::Element;
+use crate::links::Links;
 use crate::numbering::is_boolean;
 use crate::placing::Placed;
-use crate::rules::{Rules, defined_rules, is_top, least_of, target_number};
+use crate::rules::{Rules, defined_rules, is_listed, is_top, least_of, target_number};
+use crate::writing::form_for;
 use sig_base::SigId;
 use sig_clock::ClockBase;
 use sig_kernel::{Form, Kernel};
@@ -21,6 +24,7 @@ use std::alloc::{AllocError, Global};
 pub(crate) struct Schedule {
     pub(crate) rules: Rules,
     pub(crate) list: Vec<Element>,
+    pub(crate) links: Links,
 }
 
 /// An element that may be written next, and the equation that writes it; none for a cut.
@@ -50,10 +54,116 @@ pub(crate) fn schedule_of(
     let mut scheduling = Scheduling::none(alloc, kernel, conditions)?;
     scheduling.cut_tops(kernel)?;
     scheduling.schedule_all(alloc, kernel)?;
-    Ok(Schedule {
+    let links = Links::none(alloc, kernel.signals.as_slice().len())?;
+    let mut schedule = linked(scheduling, links);
+    schedule.cut_wide(alloc, kernel, conditions)?;
+    schedule.link_equations(alloc, kernel)?;
+    Ok(schedule)
+}
+
+/// What was scheduled, with links.
+fn linked(scheduling: Scheduling, links: Links) -> Schedule
+    ensures rules { result.rules ≡ scheduling.rules }
+    ensures list { result.list ≡ scheduling.placed.list }
+{
+    Schedule {
         rules: scheduling.rules,
         list: scheduling.placed.list,
-    })
+        links,
+    }
+}
+
+impl Schedule {
+    /// Cuts the booleans of circles that would be written from many unknowns, and links those from
+    /// which others are written.
+    fn cut_wide(
+        &mut self,
+        alloc: Global,
+        kernel: &Kernel,
+        conditions: &[SigId],
+    ) -> Result<(), AllocError>
+        requires { IsSchedule kernel.now self.old }
+        ensures { OnOk result (IsSchedule kernel.now self.new) }
+    {
+        for place in 0..self.list.len() {
+            self.cut_at(alloc, kernel, conditions, place)?;
+        }
+        Ok(())
+    }
+
+    /// Links the element at a place, and cuts it where it is one that is to be cut.
+    fn cut_at(
+        &mut self,
+        alloc: Global,
+        kernel: &Kernel,
+        conditions: &[SigId],
+        place: usize,
+    ) -> Result<(), AllocError>
+        requires { IsSchedule kernel.now self.old }
+        ensures { OnOk result (IsSchedule kernel.now self.new) }
+    {
+        match self.wide_at(alloc, kernel, conditions, place)? {
+            Some(signal) => {
+                self.cut_truth(signal as usize);
+                Ok(())
+            }
+            None => Ok(()),
+        }
+    }
+
+    /// Links the element at a place to those from which it is written. The boolean, if it is one that is
+    /// to be cut.
+    fn wide_at(
+        &mut self,
+        alloc: Global,
+        kernel: &Kernel,
+        conditions: &[SigId],
+        place: usize,
+    ) -> Result<Option<u32>, AllocError>
+        ensures rules { self.new.rules ≡ self.old.rules }
+        ensures list { self.new.list ≡ self.old.list }
+    {
+        let Some(element) = self.list.get(place).copied() else {
+            return Ok(None);
+        };
+        let form = form_for(kernel, &self.rules, element);
+        let is_condition = is_condition(conditions, element);
+        let least = self.rules.least.as_slice();
+        let is_wide = self.links.take(alloc, least, element, form, is_condition)?;
+        match element {
+            Element::Truth(signal) if is_wide => Ok(Some(signal)),
+            _ => Ok(None),
+        }
+    }
+
+    /// Cuts a boolean.
+    fn cut_truth(&mut self, signal: usize)
+        ensures { (kernel : Kernel) → IsSchedule kernel self.old → IsSchedule kernel self.new }
+    {
+        if signal < self.rules.defined.len() {
+            self.rules.defined[signal] = None;
+        }
+    }
+
+    /// Links what the equations ask that are left to be met.
+    fn link_equations(&mut self, alloc: Global, kernel: &Kernel) -> Result<(), AllocError>
+        requires { IsSchedule kernel.now self.old }
+        ensures { OnOk result (IsSchedule kernel.now self.new) }
+    {
+        for (number, equation) in kernel.equations.as_slice().iter().enumerate() {
+            self.links
+                .link_equation(alloc, kernel, &self.rules, number, equation)?;
+        }
+        Ok(())
+    }
+}
+
+/// Whether an element is the truth of a condition.
+fn is_condition(conditions: &[SigId], element: Element) -> bool {
+    match element {
+        Element::Presence(_) => false,
+        Element::Truth(signal) => is_listed(conditions, signal as usize),
+    }
 }
 
 /// A step that no equation makes.

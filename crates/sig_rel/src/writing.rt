@@ -15,7 +15,7 @@ use sig_dd::{DdAnswer, Store};
 use sig_kernel::{Form, Kernel};
 
 /// The form of the equation that the tables have for an element, if they have one.
-fn form_for<'k>(kernel: &'k Kernel, rules: &Rules, element: Element) -> Option<&'k Form>
+pub(crate) fn form_for<'k>(kernel: &'k Kernel, rules: &Rules, element: Element) -> Option<&'k Form>
     ensures { MatchOption result (IsCut kernel.now rules.now element)
         (λ form. IsGiven kernel.now rules.now element form.now) }
 {

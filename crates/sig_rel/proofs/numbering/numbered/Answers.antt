@@ -3,8 +3,8 @@ use Rattle.sig_rel.proofs.GivenLemmas.{none_given}
 use Rattle.sig_rel.proofs.UnknownLemmas.{are_unknowns, lie_within}
 use Rattle.sig_rel.proofs.numbering.numbered.Goals as goal
 
-pub number_equations-requires-clause-given : goal.number_equations-requires-clause-given
-number_equations-requires-clause-given c =
+pub number_elements-requires-clause-given : goal.number_elements-requires-clause-given
+number_elements-requires-clause-given c =
     let count = ap length c.as_slice.ensures in
     none_given c.args.kernel.now c.args.least.now _ _ c.in_ok-numbering.numbering count c.in_ok-numbering.ensures.class c.in_ok-numbering.ensures.truth (c.in_ok-numbering.ensures.next ∙ c.requires.first)
 

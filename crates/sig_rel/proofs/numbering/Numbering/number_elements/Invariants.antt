@@ -1,0 +1,7 @@
+use Rattle.std.proofs.Common.{length}
+use Rattle.sig_clock.specs.Conditions.{conditions_of}
+use Rattle.sig_rel.specs.Numberings.{AreGiven}
+use Rattle.sig_rel.proofs.numbering.Numbering.number_elements.Given as goal
+
+abbrev pub invariant-loop-element : goal.invariant-loop-element
+invariant-loop-element l = AreGiven l.kernel l.least (length (conditions_of l.kernel)) l.self
