@@ -24,8 +24,8 @@ use std::alloc::Global;
 /// Runs a plan over flows, up to a limit of instants. The text of each instant is appended to the sink once
 /// the instant is whole, so that of a whole run the sink took the text of the longest trace, and the answer
 /// is the number of its instants with the named cause. Where a write fails, a prefix of that text was
-/// appended. Each cluster passes the gate before the operations of each instant. All memory is taken before
-/// the first instant.
+/// appended. Each cluster passes the gate before the operations of each instant, and at the instant behind
+/// the limit, where the run ends. All memory is taken before the first instant.
 pub fn run_alone<S: Sink, G: Gate>(
     alloc: Global,
     plan: &Plan,
@@ -80,6 +80,7 @@ fn run<S: Sink, G: Gate>(
         }
         commit(values, plan, sink)?;
     }
+    pass_all(plan, gate, limit + 1);
     Ok(Ended {
         instants: limit,
         cause: Cause::Limit,

@@ -1,5 +1,5 @@
 -- A program that is accepted is compiled, and one whose text has a tree is printed.
-use Rattle.std.proofs.Common.{◌≡◌, ℕ, List, refl, sym, ap, subst}
+use Rattle.std.proofs.Common.{◌≡◌, ℕ, Bool, List, refl, sym, ap, subst}
 use Rattle.std.specs.Prelude.{codes}
 use Rattle.sig_text.specs.Files.{Contents}
 use Rattle.sig_code.specs.Texts.{IsCodeText, code_text_of}
@@ -19,21 +19,21 @@ use Rattle.sig_compile.proofs.OneCompiling.{no_text_line, text_apart}
 use Rattle.sig_compile.proofs.Verdicts.{accepted_once, accepted_or_refused, refused_once}
 
 module _ (held : Contents) (program : List ℕ) where
-  module _ (can : CanCompile held program) where
-    pub only_text : (IsDue : Kernel → List ℕ → Type 0) (o : Outcome) → CompileComesTo IsDue held program o → WritesDue (IsDue can.kernel) program o
+  module _ (pace : Bool) (can : CanCompile pace held program) where
+    pub only_text : (IsDue : Kernel → List ℕ → Type 0) (o : Outcome) → CompileComesTo IsDue pace held program o → WritesDue (IsDue can.kernel) program o
     only_text IsDue o x =
-        behind_program IsAcceptedAs AreRefused accepted_once refused_once accepted_or_refused held program can.kernel (λ kernel. WritesDue (IsDue kernel) program) o can.accepted x
+        behind_program (IsAcceptedAs pace) (AreRefused pace) (accepted_once pace) (refused_once pace) (accepted_or_refused pace) held program can.kernel (λ kernel. WritesDue (IsDue kernel) program) o can.accepted x
 
-    pub done_status : (IsDue : Kernel → List ℕ → Type 0) (o : Outcome) → CompileComesTo IsDue held program o → o.status ≡ 0
+    pub done_status : (IsDue : Kernel → List ℕ → Type 0) (o : Outcome) → CompileComesTo IsDue pace held program o → o.status ≡ 0
     done_status IsDue o x = ap (λ (q : Outcome). q.status) (only_text IsDue o x).is
 
-    some_text : (IsDue : Kernel → List ℕ → Type 0) (text : List ℕ) → IsDue can.kernel text → CompileComesTo IsDue held program (done text program)
+    some_text : (IsDue : Kernel → List ℕ → Type 0) (text : List ℕ) → IsDue can.kernel text → CompileComesTo IsDue pace held program (done text program)
     some_text IsDue text due = (Good can.kernel, can.accepted, record { text = text; due = due; is = refl })
 
-    pub some_verdict : (o : Outcome) × CompileComesTo IsVerdictText held program o
+    pub some_verdict : (o : Outcome) × CompileComesTo IsVerdictText pace held program o
     some_verdict = (done (codes "accepted\n") program, some_text IsVerdictText (codes "accepted\n") refl)
 
-    pub some_code : (plan : PlanView) → IsAccepted plan → plan.kernel ≡ can.kernel → (o : Outcome) × CompileComesTo IsCodeText held program o
+    pub some_code : (plan : PlanView) → IsAccepted plan → plan.kernel ≡ can.kernel → (o : Outcome) × CompileComesTo IsCodeText pace held program o
     some_code plan accepted of =
         (done (code_text_of plan) program, some_text IsCodeText (code_text_of plan) (record { plan = plan; accepted = accepted; of = of; says = refl }))
 

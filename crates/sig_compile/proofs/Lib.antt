@@ -1,3 +1,5 @@
+pub mod Growing
+pub mod Pacings
 pub mod Verdicts
 pub mod OneCompiling
 pub mod Rooms

@@ -1,5 +1,5 @@
 -- The compiling and the printing of a program over told contents come to one outcome at most.
-use Rattle.std.proofs.Common.{◌≡◌, ◌∙◌, ◌⊎◌, ℕ, List, inl, inr, refl, sym, ap}
+use Rattle.std.proofs.Common.{◌≡◌, ◌∙◌, ◌⊎◌, ℕ, Bool, List, inl, inr, refl, sym, ap}
 use Rattle.sig_text.specs.Files.{Contents}
 use Rattle.sig_tree.specs.Grammar.{IsText}
 use Rattle.sig_tree.specs.Syntax.{ProcessModel}
@@ -32,9 +32,9 @@ one_product Verdict kernel a b has x y = x ∙ sym y
 one_product Tree kernel a b has x y = tree_text_once kernel a b has x y
 one_product Code kernel a b has x y = code_text_once kernel a b x y
 
-pub one_compile_outcome : (product : Product) (program : List ℕ) (held : Contents) → OneAtMost (CompileComesTo (IsDueOf product) held program)
-one_compile_outcome product program held =
-    one_at_program IsAcceptedAs AreRefused accepted_once refused_once accepted_or_refused held program
+pub one_compile_outcome : (product : Product) (pace : Bool) (program : List ℕ) (held : Contents) → OneAtMost (CompileComesTo (IsDueOf product) pace held program)
+one_compile_outcome product pace program held =
+    one_at_program (IsAcceptedAs pace) (AreRefused pace) (accepted_once pace) (refused_once pace) (accepted_or_refused pace) held program
     (λ kernel. WritesDue (IsDueOf product kernel) program)
     (λ kernel bytes is. one_due (IsDueOf product kernel) program (λ a b. one_product product kernel a b is.accepted.has.clocks))
 

@@ -6,36 +6,56 @@
 -- reaction is possible beside the silent one, there is a root, each clock is determined, no condition is forced, no
 -- operation precedes itself, and at most 4,096 links are needed.
 --
--- It is refused for the first of these rules that it does not meet, with the line that names it: its length, the first
--- refusal of the passes up to the kernel, or the first rule that its kernel does not meet. No program is both, and a refused
--- one has one line (the law `one_verdict`).
-use Rattle.std.specs.Prelude.{◌≡◌, ◌⊎◌, ◌<◌, ◌≤◌, ℕ, List, length}
-use Rattle.sig_base.specs.declared.limits.TheConstants.{PROGRAM_BYTES}
+-- With the flag `--pace` the kernel of a program is what pacing makes of the kernel of its text (`IsPaced` of sig_pace): one
+-- without a root gets a boolean input for each maximal clock. All else is the same, over this kernel.
+--
+-- A program is refused for the first of these rules that it does not meet, with the line that names it: its length, the first
+-- refusal of the passes up to the kernel, a name that a pace takes or too many signals with the paces, or the first rule that
+-- its kernel does not meet. No program is both, and a refused one has one line (the law `one_verdict`).
+use Rattle.std.specs.Prelude.{◌≡◌, ◌⊎◌, ◌<◌, ◌≤◌, ◌++◌, ℕ, Bool, true, false, List, codes, length, Some, slice_get}
+use Rattle.sig_base.specs.Lines.{refusal_at}
+use Rattle.sig_base.specs.declared.limits.TheConstants.{PROGRAM_BYTES, SIGNALS}
+use Rattle.sig_base.specs.declared.signal.Signal.{Signal}
 use Rattle.sig_back.specs.Faults.{FaultView, IsFaultOf}
-use Rattle.sig_back.specs.Shown.{fault_line}
+use Rattle.sig_back.specs.Shown.{fault_line, shown}
 use Rattle.sig_front.specs.Kernels.{IsKernelText, IsNoKernelText}
 use Rattle.sig_front.specs.Shown.{front_line}
 use Rattle.sig_front.specs.declared.answer.FrontAnswer.{FrontAnswer}
+use Rattle.sig_front.specs.declared.answer.FrontAnswer.TheVariants.{TooManySignals}
 use Rattle.sig_kernel.specs.Validity.{IsValid}
 use Rattle.sig_kernel.specs.declared.kernel.Kernel.{Kernel}
 use Rattle.sig_outcome.specs.Outcomes.{long_program}
+use Rattle.sig_pace.specs.Paced.{IsPaced}
+use Rattle.sig_pace.specs.Refusals.{HasTooManySignals, IsNameTaken}
 use Rattle.sig_plan.specs.Acceptance.{IsAcceptedKernel}
 
--- the bytes are the text of a program with this kernel, which is valid
-pub record HasKernel (bytes : List ℕ) (kernel : Kernel) : Type 0 where
-  pub text : IsKernelText bytes kernel
+-- the bytes are the text of a program with this kernel of its own, which is valid
+pub record HasOwnKernel (bytes : List ℕ) (own : Kernel) : Type 0 where
+  pub text : IsKernelText bytes own
+  pub valid : IsValid own
+
+-- what a program's own kernel becomes: with the flag for paces what pacing makes of it, without it stays as it is
+abbrev pub Becomes : Bool → Kernel → Kernel → Type 0
+Becomes true own kernel = IsPaced own kernel
+Becomes false own kernel = kernel ≡ own
+
+-- the bytes are the text of a program whose kernel is this, with the flag or without it; the kernel is valid
+pub record HasKernel (pace : Bool) (bytes : List ℕ) (kernel : Kernel) : Type 0 where
+  pub own : Kernel
+  pub has : HasOwnKernel bytes own
+  pub becomes : Becomes pace own kernel
   pub valid : IsValid kernel
 
 -- and the kernel is accepted
-pub record IsAcceptedAs (bytes : List ℕ) (kernel : Kernel) : Type 0 where
-  pub has : HasKernel bytes kernel
+pub record IsAcceptedAs (pace : Bool) (bytes : List ℕ) (kernel : Kernel) : Type 0 where
+  pub has : HasKernel pace bytes kernel
   pub accepted : IsAcceptedKernel kernel
 
 -- *Acceptance*
-pub record IsAcceptedProgram (bytes : List ℕ) : Type 0 where
+pub record IsAcceptedProgram (pace : Bool) (bytes : List ℕ) : Type 0 where
   pub short : length bytes ≤ PROGRAM_BYTES
   pub kernel : Kernel
-  pub is : IsAcceptedAs bytes kernel
+  pub is : IsAcceptedAs pace bytes kernel
 
 -- ---- refusals, each with its line, without a newline
 
@@ -45,19 +65,52 @@ pub record IsRefusedText (bytes line : List ℕ) : Type 0 where
   pub none : IsNoKernelText bytes answer
   pub says : line ≡ front_line answer
 
--- the kernel of the text does not meet a rule
-pub record IsRefusedKernel (bytes line : List ℕ) : Type 0 where
+-- a declared signal has the name of a pace: the line says which, at its place
+abbrev pub said_taken : List ℕ → List ℕ
+said_taken name = codes "name " ++ (shown name ++ codes " is taken by a pace")
+
+abbrev pub taken_line : Signal → List ℕ
+taken_line signal = refusal_at signal.at (said_taken signal.name)
+
+pub record SaysNameTaken (own : Kernel) (line : List ℕ) : Type 0 where
+  pub signal : ℕ
+  pub taken : IsNameTaken own signal
+  pub named : Signal
+  pub is : slice_get own.signals signal ≡ Some named
+  pub says : line ≡ taken_line named
+
+-- there would be more signals, with the paces, than there may be
+pub record SaysTooManySignals (own : Kernel) (line : List ℕ) : Type 0 where
+  pub many : HasTooManySignals own
+  pub says : line ≡ front_line (TooManySignals SIGNALS)
+
+-- a kernel gets no paces
+abbrev pub IsUnpaced : Kernel → List ℕ → Type 0
+IsUnpaced own line = SaysNameTaken own line ⊎ SaysTooManySignals own line
+
+-- with the flag, the kernel of the text is to get paces, and gets none
+pub record IsRefusedPacing (bytes line : List ℕ) : Type 0 where
+  pub own : Kernel
+  pub has : HasOwnKernel bytes own
+  pub why : IsUnpaced own line
+
+abbrev pub IsRefusedPace : Bool → List ℕ → List ℕ → Type 0
+IsRefusedPace true bytes line = IsRefusedPacing bytes line
+IsRefusedPace false bytes line = ⊥
+
+-- the kernel of the program does not meet a rule
+pub record IsRefusedKernel (pace : Bool) (bytes line : List ℕ) : Type 0 where
   pub kernel : Kernel
-  pub has : HasKernel bytes kernel
+  pub has : HasKernel pace bytes kernel
   pub fault : FaultView
   pub told : IsFaultOf kernel fault
   pub says : line ≡ fault_line fault
 
 -- bytes that are not too many are refused
-abbrev pub AreRefused : List ℕ → List ℕ → Type 0
-AreRefused bytes line = IsRefusedText bytes line ⊎ IsRefusedKernel bytes line
+abbrev pub AreRefused : Bool → List ℕ → List ℕ → Type 0
+AreRefused pace bytes line = IsRefusedText bytes line ⊎ (IsRefusedPace pace bytes line ⊎ IsRefusedKernel pace bytes line)
 
 -- *Refusal*
-abbrev pub IsRefusedProgram : List ℕ → List ℕ → Type 0
-IsRefusedProgram bytes line =
-    ((PROGRAM_BYTES < length bytes) × (line ≡ long_program)) ⊎ ((length bytes ≤ PROGRAM_BYTES) × AreRefused bytes line)
+abbrev pub IsRefusedProgram : Bool → List ℕ → List ℕ → Type 0
+IsRefusedProgram pace bytes line =
+    ((PROGRAM_BYTES < length bytes) × (line ≡ long_program)) ⊎ ((length bytes ≤ PROGRAM_BYTES) × AreRefused pace bytes line)

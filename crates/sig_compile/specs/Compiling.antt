@@ -1,10 +1,11 @@
 -- What the commands `check`, `tree` and `code` come to over told contents.
 -- The refusals of a command are tried in the order in which the equations below stand.
-use Rattle.std.specs.Prelude.{◌≡◌, ◌⊎◌, ℕ, List, Option, codes}
-use Rattle.sig_back.specs.Budgets.{MeetsBound}
+use Rattle.std.specs.Prelude.{◌≡◌, ◌⊎◌, ℕ, Bool, true, false, List, Option, codes}
+use Rattle.sig_back.specs.Budgets.{MeetsBound, MeetsUnknownBound}
 use Rattle.sig_back.specs.Faults.{FaultView}
 use Rattle.sig_back.specs.Shown.{fault_line}
 use Rattle.sig_base.specs.declared.limits.TheConstants.{NODES, PROGRAM_BYTES}
+use Rattle.sig_base.specs.declared.signal.Signal.{Signal}
 use Rattle.sig_code.specs.Texts.{IsCodeText}
 use Rattle.sig_front.specs.Shown.{front_line}
 use Rattle.sig_front.specs.declared.answer.FrontAnswer.{FrontAnswer}
@@ -15,17 +16,17 @@ use Rattle.sig_outcome.specs.Outcomes.{AtProgram, FindsProgram, Found, Holds, Ou
 use Rattle.sig_outcome.specs.Refusals.{IsAboutProgram}
 use Rattle.sig_outcome.specs.Tasks.{Task}
 use Rattle.sig_outcome.specs.declared.refusal.Refusal.{Refusal}
-use Rattle.sig_compile.specs.Acceptance.{AreRefused, HasKernel, IsAcceptedAs}
+use Rattle.sig_compile.specs.Acceptance.{AreRefused, HasKernel, HasOwnKernel, IsAcceptedAs, taken_line}
 use Rattle.sig_compile.specs.declared.product.Product.{Product}
 use Rattle.sig_compile.specs.declared.product.Product.TheVariants.{Code, Tree, Verdict}
 
--- ---- the program file, for its plan
+-- ---- the program file, for its plan, with the flag for paces or without it
 
-abbrev pub FindsAccepted : Option (List ℕ) → Found Kernel → Type 0
-FindsAccepted held found = FindsProgram IsAcceptedAs AreRefused held found
+abbrev pub FindsAccepted : Bool → Option (List ℕ) → Found Kernel → Type 0
+FindsAccepted pace held found = FindsProgram (IsAcceptedAs pace) (AreRefused pace) held found
 
-abbrev pub AtPlan : Contents → List ℕ → (Kernel → Outcome → Type 0) → Outcome → Type 0
-AtPlan held name Next o = AtProgram IsAcceptedAs AreRefused held name Next o
+abbrev pub AtPlan : Bool → Contents → List ℕ → (Kernel → Outcome → Type 0) → Outcome → Type 0
+AtPlan pace held name Next o = AtProgram (IsAcceptedAs pace) (AreRefused pace) held name Next o
 
 -- ---- the commands
 
@@ -40,15 +41,17 @@ IsDueOf Tree kernel text = IsTreeText kernel text
 IsDueOf Code kernel text = IsCodeText kernel text
 
 -- the compiling of a program over told contents comes to this, where such a text is due of its kernel
-abbrev pub CompileComesTo : (Kernel → List ℕ → Type 0) → Contents → List ℕ → Outcome → Type 0
-CompileComesTo IsText held program o = AtPlan held program (λ kernel. WritesDue (IsText kernel) program) o
+abbrev pub CompileComesTo : (Kernel → List ℕ → Type 0) → Bool → Contents → List ℕ → Outcome → Type 0
+CompileComesTo IsText pace held program o = AtPlan pace held program (λ kernel. WritesDue (IsText kernel) program) o
 
 -- its statuses, and the refusals that there may be
 abbrev pub IsCompileStatus : ℕ → Type 0
 IsCompileStatus status = (status ≡ 0) ⊎ ((status ≡ 6) ⊎ ((status ≡ 1) ⊎ ((status ≡ 5) ⊎ ((status ≡ 7) ⊎ (status ≡ 8)))))
 
 abbrev pub IsPlanLine : List ℕ → Type 0
-IsPlanLine line = ((answer : FrontAnswer) × (line ≡ front_line answer)) ⊎ ((fault : FaultView) × (line ≡ fault_line fault))
+IsPlanLine line =
+    ((answer : FrontAnswer) × (line ≡ front_line answer))
+    ⊎ (((signal : Signal) × (line ≡ taken_line signal)) ⊎ ((fault : FaultView) × (line ≡ fault_line fault)))
 
 abbrev pub IsBudget : ℕ → Type 0
 IsBudget nodes = nodes ≡ NODES
@@ -56,32 +59,38 @@ IsBudget nodes = nodes ≡ NODES
 abbrev pub IsAboutPlan : List ℕ → Refusal → Type 0
 IsAboutPlan program r = IsAboutProgram program IsPlanLine IsBudget r
 
--- a program that no pass up to its kernel refuses, whose kernel is not within the bound for which the nodes of a store suffice
-abbrev pub IsBeyondBound : List ℕ → Type 0
-IsBeyondBound bytes = (kernel : Kernel) × HasKernel bytes kernel × (MeetsBound kernel → ⊥)
+-- with the flag, a program's own kernel is not within the bound for which the nodes of a store suffice to pace it
+abbrev pub IsBeyondPaceBound : Bool → List ℕ → Type 0
+IsBeyondPaceBound true bytes = (own : Kernel) × HasOwnKernel bytes own × (MeetsUnknownBound own → ⊥)
+IsBeyondPaceBound false bytes = ⊥
+
+-- a program that no pass up to its kernel refuses, whose kernel is not within the bound for which the nodes of a store suffice,
+-- before it is paced or as it is compiled
+abbrev pub IsBeyondBound : Bool → List ℕ → Type 0
+IsBeyondBound pace bytes = IsBeyondPaceBound pace bytes ⊎ ((kernel : Kernel) × HasKernel pace bytes kernel × (MeetsBound kernel → ⊥))
 
 -- a file holds such a program
-abbrev pub HoldsBeyondBound : Option (List ℕ) → Type 0
-HoldsBeyondBound held = Holds held PROGRAM_BYTES IsBeyondBound
+abbrev pub HoldsBeyondBound : Bool → Option (List ℕ) → Type 0
+HoldsBeyondBound pace held = Holds held PROGRAM_BYTES (IsBeyondBound pace)
 
-abbrev pub compiling : Product → List ℕ → Task
-compiling product program = record {
-  comes = λ held o. CompileComesTo (IsDueOf product) held program o;
+abbrev pub compiling : Product → Bool → List ℕ → Task
+compiling product pace program = record {
+  comes = λ held o. CompileComesTo (IsDueOf product) pace held program o;
   statuses = λ status. IsCompileStatus status;
   about = λ r. IsAboutPlan program r;
   begun = λ held at. at ≡ name_where_there held program;
-  beyond = λ held. HoldsBeyondBound (held program);
+  beyond = λ held. HoldsBeyondBound pace (held program);
 }
 
 -- ---- a text
 
 -- a text is that of a product of the program that some bytes are
-pub record IsProductText (product : Product) (bytes text : List ℕ) : Type 0 where
+pub record IsProductText (product : Product) (pace : Bool) (bytes text : List ℕ) : Type 0 where
   pub kernel : Kernel
-  pub is : IsAcceptedAs bytes kernel
+  pub is : IsAcceptedAs pace bytes kernel
   pub due : IsDueOf product kernel text
 
 -- the nodes do not suffice for the program that some bytes are
-pub record LacksNodes (bytes : List ℕ) (nodes : ℕ) : Type 0 where
+pub record LacksNodes (pace : Bool) (bytes : List ℕ) (nodes : ℕ) : Type 0 where
   pub number : nodes ≡ NODES
-  pub beyond : IsBeyondBound bytes
+  pub beyond : IsBeyondBound pace bytes

@@ -2,9 +2,10 @@
 
 ghost use Rattle.std.specs.Prelude.{◌≤◌, IfErr, IfOk, length};
 ghost use Rattle.sig_outcome.specs.Refusals.{IsOfProgram};
-ghost use Rattle.sig_compile.specs.Acceptance.{AreRefused, HasKernel, IsAcceptedAs};
+ghost use Rattle.sig_compile.specs.Acceptance.{AreRefused, HasKernel, HasOwnKernel, IsAcceptedAs, IsRefusedText};
 ghost use Rattle.sig_compile.specs.Compiling.{LacksNodes};
 
+use crate::pacing::paced;
 use sig_back::{BackAnswer, back};
 use sig_base::limits::PROGRAM_BYTES;
 use sig_front::{FrontAnswer, front};
@@ -13,13 +14,13 @@ use sig_outcome::{Refusal, refused_program};
 use sig_plan::Plan;
 use std::alloc::Global;
 
-/// The plan of the program that a text is.
-pub fn plan_of<'a>(alloc: Global, bytes: &[u8]) -> Result<Plan, Refusal<'a>>
+/// The plan of the program that a text is, with paces where they are asked for.
+pub fn plan_of<'a>(alloc: Global, bytes: &[u8], pace: bool) -> Result<Plan, Refusal<'a>>
     requires short { length bytes.now ≤ PROGRAM_BYTES }
-    ensures plan { IfOk result (λ plan. IsAcceptedAs bytes.now plan.kernel) }
-    ensures refused { IfErr result (IsOfProgram (AreRefused bytes.now) (LacksNodes bytes.now)) }
+    ensures plan { IfOk result (λ plan. IsAcceptedAs pace bytes.now plan.kernel) }
+    ensures refused { IfErr result (IsOfProgram (AreRefused pace bytes.now) (LacksNodes pace bytes.now)) }
 {
-    let kernel = kernel_of(alloc, bytes)?;
+    let kernel = kernel_of(alloc, bytes, pace)?;
     match back(alloc, kernel) {
         Ok(plan) => Ok(plan),
         Err(BackAnswer::Refused(fault)) => Err(refused_program(alloc, &fault)),
@@ -28,11 +29,25 @@ pub fn plan_of<'a>(alloc: Global, bytes: &[u8]) -> Result<Plan, Refusal<'a>>
     }
 }
 
-/// The kernel of the program that a text is.
-fn kernel_of<'a>(alloc: Global, bytes: &[u8]) -> Result<Kernel, Refusal<'a>>
+/// The kernel of the program that a text is, with paces where they are asked for.
+fn kernel_of<'a>(alloc: Global, bytes: &[u8], pace: bool) -> Result<Kernel, Refusal<'a>>
     requires short { length bytes.now ≤ PROGRAM_BYTES }
-    ensures kernel { IfOk result (HasKernel bytes.now) }
-    ensures refused { IfErr result (IsOfProgram (AreRefused bytes.now) (LacksNodes bytes.now)) }
+    ensures kernel { IfOk result (HasKernel pace bytes.now) }
+    ensures refused { IfErr result (IsOfProgram (AreRefused pace bytes.now) (LacksNodes pace bytes.now)) }
+{
+    let own = own_kernel(alloc, bytes)?;
+    if pace {
+        paced(alloc, bytes, own)
+    } else {
+        Ok(own)
+    }
+}
+
+/// The kernel of the program that a text is, before it gets paces.
+pub(crate) fn own_kernel<'a>(alloc: Global, bytes: &[u8]) -> Result<Kernel, Refusal<'a>>
+    requires short { length bytes.now ≤ PROGRAM_BYTES }
+    ensures own { IfOk result (HasOwnKernel bytes.now) }
+    ensures refused { IfErr result (IsOfProgram (IsRefusedText bytes.now) (λ nodes. ⊥)) }
 {
     match front(alloc, bytes) {
         Ok(kernel) => Ok(kernel),

@@ -12,20 +12,21 @@ use sig_plan::Plan;
 use sig_text::Files;
 use std::alloc::Global;
 
-/// The plan of the program that the file of this name holds, or the first refusal by its length, the
-/// passes up to the kernel and the rules of acceptance.
+/// The plan of the program that the file of this name holds, with paces where they are asked for, or the
+/// first refusal by its length, the passes up to the kernel, the paces and the rules of acceptance.
 pub fn load_plan<'a, F: Files>(
     alloc: Global,
     files: &mut F,
     name: &'a str,
+    pace: bool,
 ) -> Result<Plan, Refusal<'a>>
     ensures plan { IfSome (F.contents files.old) (λ held.
-        IfOk result (λ plan. FindsAccepted (held name.now) (Good plan.kernel))) }
+        IfOk result (λ plan. FindsAccepted pace (held name.now) (Good plan.kernel))) }
     ensures refused { IfSome (F.contents files.old) (λ held. IfErr result (λ refusal.
         IsOwn refusal (F.faults files.old) (F.faults files.new) →
-        AtPlan held name.now (λ _ _. ⊥) (outcome_of refusal (Some name.now)))) }
+        AtPlan pace held name.now (λ _ _. ⊥) (outcome_of refusal (Some name.now)))) }
     ensures budget { IfSome (F.contents files.old) (λ held. IfErr result (λ refusal.
-        status_of refusal ≡ 8 → HoldsBeyondBound (held name.now))) }
+        status_of refusal ≡ 8 → HoldsBeyondBound pace (held name.now))) }
     ensures about { IfErr result (IsAboutPlan name.now) }
     ensures counted { IfErr result (HasCount (F.contents files.old) (F.at files.new)
         (F.misses files.old) (F.misses files.new) (F.faults files.old) (F.faults files.new)) }
@@ -33,5 +34,5 @@ pub fn load_plan<'a, F: Files>(
         (F.misses files.old) (F.misses files.new) (F.faults files.old) (F.faults files.new) name.now }
 {
     let bytes = read_program(alloc, files, name)?;
-    plan_of(alloc, &bytes)
+    plan_of(alloc, &bytes, pace)
 }

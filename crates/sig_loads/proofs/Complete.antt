@@ -1,5 +1,5 @@
 -- A generated program that can be run over its flows comes to the end of its load.
-use Rattle.std.proofs.Common.{◌≡◌, ◌⊎◌, ℕ, ℤ, List, None, inl, inr, refl, sym, ap, subst, arith}
+use Rattle.std.proofs.Common.{◌≡◌, ◌⊎◌, ℕ, ℤ, false, List, None, inl, inr, refl, sym, ap, subst, arith}
 use Rattle.sig_base.specs.declared.limits.TheConstants.{INSTANTS_DEFAULT}
 use Rattle.sig_kernel.specs.Validity.{AreFlowsFor, inputs_of}
 use Rattle.sig_kernel.specs.declared.kernel.Kernel.{Kernel}
@@ -25,8 +25,8 @@ module _ (seed stages : ℕ) (settings : Settings) (can : CanLoad seed stages se
   AtKernel kernel o = AtLinks kernel settings.capacity None (AtFlowsText kernel (flows seed stages) (LoadsTo stages kernel)) o
 
   behind_program : (o : Outcome) → AtProgramText (program stages) (λ kernel. AtKernel kernel) o → AtKernel can.kernel o
-  behind_program o (inl x) = absurd (program_apart (program stages) x.0 (record { short = can.accepted.0; kernel = can.kernel; is = can.accepted.1 }) x.1)
-  behind_program o (inr x) = subst (λ (kernel : Kernel). AtKernel kernel o) (accepted_once (program stages) x.0 can.kernel x.1.1 can.accepted.1) x.2
+  behind_program o (inl x) = absurd (program_apart false (program stages) x.0 (record { short = can.accepted.0; kernel = can.kernel; is = can.accepted.1 }) x.1)
+  behind_program o (inr x) = subst (λ (kernel : Kernel). AtKernel kernel o) (accepted_once false (program stages) x.0 can.kernel x.1.1 can.accepted.1) x.2
 
   behind_links : (o : Outcome) → AtKernel can.kernel o → AtFlowsText can.kernel (flows seed stages) (LoadsTo stages can.kernel) o
   behind_links o (inl many) = absurd (can.few many.0)

@@ -1,5 +1,5 @@
 -- A load comes to one outcome at most.
-use Rattle.std.proofs.Common.{◌≡◌, ◌∙◌, ◌⊎◌, ℕ, ℤ, List, length, None, inl, inr, sym, ap, subst, arith}
+use Rattle.std.proofs.Common.{◌≡◌, ◌∙◌, ◌⊎◌, ℕ, ℤ, false, List, length, None, inl, inr, sym, ap, subst, arith}
 use Rattle.sig_base.specs.Traces.{Trace}
 use Rattle.sig_base.specs.declared.limits.TheConstants.{INSTANTS_DEFAULT}
 use Rattle.sig_kernel.specs.Validity.{AreFlowsFor, inputs_of}
@@ -21,13 +21,13 @@ use Rattle.sig_loads.specs.Refusals.{flows_name}
 -- bytes are one program, or are refused with one line
 one_at_program : (bytes : List ℕ) (Next : Kernel → Outcome → Type 0) → ((kernel : Kernel) → OneAtMost (Next kernel)) → OneAtMost (AtProgramText bytes Next)
 one_at_program bytes Next one o p (inl x) (inl y) =
-    x.2 ∙ ap (λ (line : List ℕ). refused 1 line None) (program_once bytes x.0 y.0 x.1 y.1) ∙ sym y.2
+    x.2 ∙ ap (λ (line : List ℕ). refused 1 line None) (program_once false bytes x.0 y.0 x.1 y.1) ∙ sym y.2
 one_at_program bytes Next one o p (inl x) (inr y) =
-    absurd (program_apart bytes x.0 (record { short = y.1.0; kernel = y.0; is = y.1.1 }) x.1)
+    absurd (program_apart false bytes x.0 (record { short = y.1.0; kernel = y.0; is = y.1.1 }) x.1)
 one_at_program bytes Next one o p (inr x) (inl y) =
-    absurd (program_apart bytes y.0 (record { short = x.1.0; kernel = x.0; is = x.1.1 }) y.1)
+    absurd (program_apart false bytes y.0 (record { short = x.1.0; kernel = x.0; is = x.1.1 }) y.1)
 one_at_program bytes Next one o p (inr x) (inr y) =
-    one x.0 o p x.2 (subst (λ (kernel : Kernel). Next kernel p) (accepted_once bytes y.0 x.0 y.1.1 x.1.1) y.2)
+    one x.0 o p x.2 (subst (λ (kernel : Kernel). Next kernel p) (accepted_once false bytes y.0 x.0 y.1.1 x.1.1) y.2)
 
 -- and one list of flows, or are refused with one line
 one_at_flows : (kernel : Kernel) (bytes : List ℕ) (Next : List (List ℤ) → Outcome → Type 0)

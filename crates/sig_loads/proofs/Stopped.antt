@@ -1,5 +1,5 @@
 -- The refusals of a load.
-use Rattle.std.proofs.Common.{◌≡◌, ◌≤◌, ◌⊎◌, ℕ, List, Option, None, length, inl, inr, refl, ap, sym, subst, arith}
+use Rattle.std.proofs.Common.{◌≡◌, ◌≤◌, ◌⊎◌, ℕ, false, List, Option, None, length, inl, inr, refl, ap, sym, subst, arith}
 use Rattle.std.specs.Prelude.{string_bytes}
 use Rattle.sig_base.specs.declared.limits.TheConstants.{FLOW_BYTES, PROGRAM_BYTES}
 use Rattle.sig_kernel.specs.Validity.{inputs_of}
@@ -48,7 +48,7 @@ no_count contents at misses faults OutOfMemory about = tt
 
 module _ (seed stages capacity : ℕ) where
   -- a refusal ends a load that comes to it
-  stops : (r : Refusal) → IsAboutLoad r → (status_of r ≡ 8 → IsBeyondBound (program stages))
+  stops : (r : Refusal) → IsAboutLoad r → (status_of r ≡ 8 → IsBeyondBound false (program stages))
       → ((settings : Settings) (faults : ℕ) → settings.capacity ≡ capacity → IsOwn r faults faults → LoadComesTo seed stages settings (outcome_of r None)) → StopsLoad seed stages capacity r
   stops r about beyond comes = λ settings contents at misses faults same. record {
     about = about;
@@ -67,14 +67,14 @@ module _ (seed stages capacity : ℕ) where
   about_text (Missing name) of = absurd of
   about_text (ReadFault name) of = absurd of
   about_text LongProgram of = tt
-  about_text (Program line) of = plan_line (program stages) (string_bytes line) of.1
+  about_text (Program line) of = plan_line false (program stages) (string_bytes line) of.1
   about_text (Budget nodes) of = of.number
   about_text TooManyItems of = absurd of
   about_text (LongFile name) of = absurd of
   about_text (Data line) of = absurd of
   about_text OutOfMemory of = tt
 
-  beyond_text : (r : Refusal) → IsOfProgramText (program stages) r → status_of r ≡ 8 → IsBeyondBound (program stages)
+  beyond_text : (r : Refusal) → IsOfProgramText (program stages) r → status_of r ≡ 8 → IsBeyondBound false (program stages)
   beyond_text (Missing name) of eight = absurd of
   beyond_text (ReadFault name) of eight = absurd of
   beyond_text LongProgram of eight = absurd (omega (arith, eight))
@@ -121,7 +121,7 @@ module _ (seed stages capacity : ℕ) where
       about_flows (Data line) of = flow_line flows_name (inputs_of kernel) (flows seed stages) (string_bytes line) of.1
       about_flows OutOfMemory of = tt
 
-      no_budget : (r : Refusal) → IsOfFlowsText kernel (flows seed stages) r → status_of r ≡ 8 → IsBeyondBound (program stages)
+      no_budget : (r : Refusal) → IsOfFlowsText kernel (flows seed stages) r → status_of r ≡ 8 → IsBeyondBound false (program stages)
       no_budget (Missing name) of eight = absurd of
       no_budget (ReadFault name) of eight = absurd of
       no_budget LongProgram of eight = absurd of
@@ -151,7 +151,7 @@ module _ (seed stages capacity : ℕ) where
 
 -- ---- what the passes refuse
 
-pub of_program : (bytes : List ℕ) → length bytes ≤ PROGRAM_BYTES → (r : Refusal) → IsOfProgram (AreRefused bytes) (LacksNodes bytes) r → IsOfProgramText bytes r
+pub of_program : (bytes : List ℕ) → length bytes ≤ PROGRAM_BYTES → (r : Refusal) → IsOfProgram (AreRefused false bytes) (LacksNodes false bytes) r → IsOfProgramText bytes r
 of_program bytes short (Missing name) of = absurd of
 of_program bytes short (ReadFault name) of = absurd of
 of_program bytes short LongProgram of = absurd of

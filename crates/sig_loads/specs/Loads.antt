@@ -1,6 +1,6 @@
 -- What the command `load` comes to: a generated program is run over generated flows, and its text is counted.
 -- The refusals of the command are tried in the order in which the equations below stand. It asks for no file.
-use Rattle.std.specs.Prelude.{◌≡◌, ◌⊎◌, ◌≤◌, ◌<◌, ⊤, ℕ, ℤ, Bool, List, codes, length, Option, None}
+use Rattle.std.specs.Prelude.{◌≡◌, ◌⊎◌, ◌≤◌, ◌<◌, ⊤, ℕ, ℤ, Bool, false, List, codes, length, Option, None}
 use Rattle.sig_base.specs.Traces.{Trace}
 use Rattle.sig_base.specs.declared.limits.TheConstants.{FLOW_BYTES, INSTANTS_DEFAULT, PROGRAM_BYTES}
 use Rattle.sig_base.specs.declared.place.Place.{Place}
@@ -27,7 +27,7 @@ use Rattle.sig_loads.specs.Summaries.{summary}
 
 -- bytes that are not too many are a program with this kernel, which is accepted
 abbrev pub IsShortProgram : List ℕ → Kernel → Type 0
-IsShortProgram bytes kernel = (length bytes ≤ PROGRAM_BYTES) × IsAcceptedAs bytes kernel
+IsShortProgram bytes kernel = (length bytes ≤ PROGRAM_BYTES) × IsAcceptedAs false bytes kernel
 
 -- and flows of a kernel's inputs with these values
 abbrev pub IsShortFlows : Kernel → List ℕ → List (List ℤ) → Type 0
@@ -36,7 +36,7 @@ IsShortFlows kernel bytes values = (length bytes ≤ FLOW_BYTES) × AreFlows (in
 -- the bytes are refused as a program, or what comes behind them is that of their kernel
 abbrev pub AtProgramText : List ℕ → (Kernel → Outcome → Type 0) → Outcome → Type 0
 AtProgramText bytes Next o =
-    ((line : List ℕ) × IsRefusedProgram bytes line × (o ≡ refused 1 line None))
+    ((line : List ℕ) × IsRefusedProgram false bytes line × (o ≡ refused 1 line None))
     ⊎ ((kernel : Kernel) × IsShortProgram bytes kernel × Next kernel o)
 
 -- the bytes are refused as flows of a kernel's inputs, or what comes behind them is that of their values
@@ -83,7 +83,7 @@ loading seed stages settings = record {
   statuses = λ status. IsLoadStatus status;
   about = λ r. IsAboutLoad r;
   begun = λ held at. ⊤;
-  beyond = λ held. IsBeyondBound (program stages);
+  beyond = λ held. IsBeyondBound false (program stages);
 }
 
 -- ---- what a load wrote

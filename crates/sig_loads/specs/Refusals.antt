@@ -1,5 +1,5 @@
 -- The refusals of generated texts.
-use Rattle.std.specs.Prelude.{◌≡◌, ◌≤◌, ◌<◌, ⊤, ℕ, List, codes, length, string_bytes}
+use Rattle.std.specs.Prelude.{◌≡◌, ◌≤◌, ◌<◌, ⊤, ℕ, false, List, codes, length, string_bytes}
 use Rattle.sig_base.specs.declared.limits.TheConstants.{FLOW_BYTES, PROGRAM_BYTES}
 use Rattle.sig_kernel.specs.Validity.{inputs_of}
 use Rattle.sig_kernel.specs.declared.kernel.Kernel.{Kernel}
@@ -30,8 +30,8 @@ abbrev pub IsOfProgramText : List ℕ → Refusal → Type 0
 IsOfProgramText bytes (Missing name) = ⊥
 IsOfProgramText bytes (ReadFault name) = ⊥
 IsOfProgramText bytes LongProgram = PROGRAM_BYTES < length bytes
-IsOfProgramText bytes (Program line) = (length bytes ≤ PROGRAM_BYTES) × AreRefused bytes (string_bytes line)
-IsOfProgramText bytes (Budget nodes) = LacksNodes bytes nodes
+IsOfProgramText bytes (Program line) = (length bytes ≤ PROGRAM_BYTES) × AreRefused false bytes (string_bytes line)
+IsOfProgramText bytes (Budget nodes) = LacksNodes false bytes nodes
 IsOfProgramText bytes TooManyItems = ⊥
 IsOfProgramText bytes (LongFile name) = ⊥
 IsOfProgramText bytes (Data line) = ⊥

@@ -59,7 +59,7 @@ fn generated_plan<'a>(alloc: Global, stages: u32) -> Result<Plan, Refusal<'a>>
     if text.len() > PROGRAM_BYTES {
         return Err(Refusal::LongProgram);
     }
-    plan_of(alloc, &text)
+    plan_of(alloc, &text, false)
 }
 
 /// The generated flows, as those of a kernel's inputs.

@@ -1,5 +1,5 @@
 -- What is promised of a call follows from what its files gave and what was written.
-use Rattle.sig_outcome.proofs.Common.{◌≡◌, ◌∙◌, ◌⊎◌, ◌++◌, ℕ, List, [], Bool, Option, IfSome, inl, inr, ⊎_elim, refl, sym, ap, subst, arith, cases_lt, IsTrue, codes, Rose, raised, Contents, name_where_there, TookPrefix, OneAtMost, Outcome, HasCount, IsOwn, line_of, outcome_of, status_of, IsDone, IsDue, IsRefused, MayAnswer, Owes, Performs, Reaches, Stops, Task, Writes, items_line, memory_line, write_line, Refusal, Missing, ReadFault, LongProgram, Program, Budget, TooManyItems, LongFile, Data, OutOfMemory}
+use Rattle.sig_outcome.proofs.Common.{◌≡◌, ◌∙◌, ◌⊎◌, ◌++◌, ℕ, List, [], Bool, Option, IfSome, inl, inr, ⊎_elim, refl, sym, ap, subst, arith, cases_lt, IsTrue, codes, Rose, raised, Contents, name_where_there, TookPrefix, OneAtMost, Outcome, HasCount, IsOwn, line_of, outcome_of, status_of, IsCut, IsDone, IsDue, IsRefused, MayAnswer, Owes, Performs, Reaches, Stops, Task, Writes, items_line, memory_line, write_line, Refusal, Missing, ReadFault, LongProgram, Program, Budget, TooManyItems, LongFile, Data, OutOfMemory}
 use Rattle.sig_outcome.proofs.Refused.{told, told_both}
 
 -- ---- statuses
@@ -65,9 +65,10 @@ module _ (task : Task) (contents : Option Contents) (before at : Option (List �
       → task.statuses status → IsDone status ⊎ (status ≡ 6)
       → IfSome contents (λ held. (p : Outcome) → task.comes held p → TookPrefix took out p.text out' × IsDone p.status)
       → (IsDone status → IfSome contents (λ held. IsDue (task.comes held) held before at status (λ text line. took out text out' × Said line)))
-      → (IsDone status → IsTrue clean) → IfSome contents (λ held. task.begun held at) → (status ≡ 6 → Rose wrote wrote') → (status ≡ 6 → Said write_line)
+      → (IsDone status → IsTrue clean) → IfSome contents (λ held. task.begun held at) → (status ≡ 6 → Rose wrote wrote')
+      → (status ≡ 6 → IfSome contents (λ held. IsCut (task.comes held) took out out')) → (status ≡ 6 → Said write_line)
       → Performs task contents before at misses misses' faults faults' took out out' wrote wrote' clean Said status
-  performs_ended took out out' wrote wrote' clean Said status allowed ends prefix whole flushed begun failed said = record {
+  performs_ended took out out' wrote wrote' clean Said status allowed ends prefix whole flushed begun failed cut said = record {
     numbers = allowed;
     prefix = told_both contents _ _ _ (λ held p q. λ o comes. (p o comes).0) prefix prefix;
     whole = whole;
@@ -81,6 +82,7 @@ module _ (task : Task) (contents : Option Contents) (before at : Option (List �
     untouched = λ refuses. absurd (not_refused status ends refuses);
     begun = begun;
     failed = failed;
+    cut = cut;
     fault_line = said;
     memory_line = λ seven. absurd (not_refused status ends (inr (inr (inr (inr (inl seven))))));
     items_line = λ two. absurd (not_refused status ends (inr (inl two)));
@@ -110,7 +112,11 @@ module _ (task : Task) (contents : Option Contents) (before at : Option (List �
       })
       reaches.comes reaches.last)
       (λ ends. writes.flushed (no_six status ends))
-      reaches.begun writes.failed writes.fault_line
+      reaches.begun writes.failed
+      (λ six. told_both contents _ _ _
+      (λ held comes last. record { outcome = o; comes = comes; due = is_done; prefix = writes.prefix })
+      reaches.comes reaches.last)
+      writes.fault_line
 
   -- ---- what was refused
 
@@ -158,6 +164,7 @@ module _ (task : Task) (contents : Option Contents) (before at : Option (List �
         untouched = λ _. refl;
         begun = stops.begun;
         failed = λ six. absurd (not_refused status (inr six) refuses);
+        cut = λ six. absurd (not_refused status (inr six) refuses);
         fault_line = λ six. absurd (not_refused status (inr six) refuses);
         memory_line = λ seven. memory_said r Said (sym is ∙ seven) said;
         items_line = λ two. items_said r Said (sym is ∙ two) said;

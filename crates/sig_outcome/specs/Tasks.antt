@@ -79,6 +79,13 @@ pub record IsRefusedBy (Comes : Contents → Outcome → Type 0) (IsAbout : Refu
   pub count : HasCount contents at misses misses' faults faults' refusal
   pub owed : IsOwn refusal faults faults' → IfSome contents (λ held. Owes (Comes held) held before at refusal)
 
+-- a write failed of a command that comes to such outcomes: it was to be done, and what was appended begins its text
+pub record IsCut {S : Type 0} (Comes : Outcome → Type 0) (took : S → List ℕ → S → Type 0) (out out' : S) : Type 0 where
+  pub outcome : Outcome
+  pub comes : Comes outcome
+  pub due : IsDone outcome.status
+  pub prefix : TookPrefix took out outcome.text out'
+
 -- ---- the contract
 
 -- what a command asks for: what it comes to over told contents, its statuses, the refusals that there may be, which
@@ -104,6 +111,7 @@ pub record Performs {S : Type 0} (task : Task) (contents : Option Contents) (bef
   pub untouched : IsRefused status → out' ≡ out
   pub begun : IfSome contents (λ held. task.begun held at)
   pub failed : status ≡ 6 → Rose wrote wrote'
+  pub cut : status ≡ 6 → IfSome contents (λ held. IsCut (task.comes held) took out out')
   pub fault_line : status ≡ 6 → Said write_line
   pub memory_line : status ≡ 7 → Said memory_line
   pub items_line : status ≡ 2 → Said items_line

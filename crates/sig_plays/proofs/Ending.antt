@@ -28,7 +28,7 @@ module _ (held : Contents) (program flows events : List ℕ) (settings : Setting
   abbrev Plays : Kernel → List (List ℤ) → List FileEvent → Outcome → Type 0
   Plays kernel values happening o = PlaysTo kernel values settings.capacity settings.instants events happening o
 
-  module _ (kernel : Kernel) (accepted : FindsAccepted (held program) (Good kernel)) where
+  module _ (kernel : Kernel) (accepted : FindsAccepted settings.pace (held program) (Good kernel)) where
     module _ (values : List (List ℤ)) (read : FindsFlows (held flows) flows (inputs_of kernel) (Good values)) where
       of_play : (happening : List FileEvent) → FindsEvents (held events) events (Good happening) → Plays kernel values happening due.outcome → HasPlay held program flows events settings status Took Said
       of_play happening said play = record {
@@ -69,7 +69,7 @@ module _ (held : Contents) (program flows events : List ℕ) (settings : Setting
     of_links (inl many) = refuses_one _ many.1 (λ e. omega (arith, e)) (λ e. omega (arith, e))
     of_links (inr few) = of_flows few.1.0 few.1.1 few.1.2
 
-  of_program : (found : Found Kernel) → FindsAccepted (held program) found
+  of_program : (found : Found Kernel) → FindsAccepted settings.pace (held program) found
       → AtFile 1 long_program program found (λ kernel. AtLinks kernel settings.capacity (Some program) (AtFlows held flows (inputs_of kernel) (λ values. AtEvents held events (λ happening. Plays kernel values happening)))) due.outcome
       → HasPlay held program flows events settings status Took Said
   of_program Absent finds is = refuses_one _ is (λ e. omega (arith, e)) (λ e. omega (arith, e))

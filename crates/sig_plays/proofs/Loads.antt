@@ -78,7 +78,7 @@ module _ (contents : Option Contents) (before at : Option (List ℕ)) (m0 m1 m2 
     begun = told_both contents _ _ _ (λ held is same. inl is) stops.begun stops.begun;
   }
 
-  module _ (kernel : Kernel) (good : IfSome contents (λ held. FindsAccepted (held program) (Good kernel))) (few : HoldFew kernel settings.capacity)
+  module _ (kernel : Kernel) (good : IfSome contents (λ held. FindsAccepted settings.pace (held program) (Good kernel))) (few : HoldFew kernel settings.capacity)
       (values : List (List ℤ)) (read : IfSome contents (λ held. FindsFlows (held flows) flows (inputs_of kernel) (Good values))) where
     pub stops_events : (middle : Option Contents) (r : Refusal) → middle ≡ contents → m0 ≤ m1 → f0 ≤ f1 → IsAboutEvents events r → HasCount middle at m1 m2 f1 f2 r
         → IfSome middle (λ held. IsOwn r f1 f2 → AtEvents held events (λ _ _. ⊥) (outcome_of r (Some events)))
@@ -87,9 +87,9 @@ module _ (contents : Option Contents) (before at : Option (List ℕ)) (m0 m1 m2 
         let there : IfSome contents (λ held. at ≡ name_where_there held events) = subst (λ o. IfSome o (λ held. at ≡ name_where_there held events)) stays last in
         let refused : IfSome contents (λ held. IsOwn r f1 f2 → AtEvents held events (λ _ _. ⊥) (outcome_of r (Some events))) =
         subst (λ o. IfSome o (λ held. IsOwn r f1 f2 → AtEvents held events (λ _ _. ⊥) (outcome_of r (Some events)))) stays refuses in
-        let both : IfSome contents (λ held. FindsAccepted (held program) (Good kernel) × FindsFlows (held flows) flows (inputs_of kernel) (Good values)) =
+        let both : IfSome contents (λ held. FindsAccepted settings.pace (held program) (Good kernel) × FindsFlows (held flows) flows (inputs_of kernel) (Good values)) =
         told_both contents _ _ _ (λ held finds has. (finds, has)) good read in
-        let own_there = told_both contents (λ held. FindsAccepted (held program) (Good kernel) × FindsFlows (held flows) flows (inputs_of kernel) (Good values)) _
+        let own_there = told_both contents (λ held. FindsAccepted settings.pace (held program) (Good kernel) × FindsFlows (held flows) flows (inputs_of kernel) (Good values)) _
         (λ held. IsOwn r f0 f2 → PlayComesTo held program flows events settings (outcome_of r (Some events)))
         (λ held finds ends. λ own. events_refuse program flows events settings held kernel finds.0 few values finds.1 (outcome_of r (Some events)) (ends (later_own r f0 f1 f2 le_f own))) both refused in
         record {
@@ -115,7 +115,7 @@ module _ (contents : Option Contents) (before at : Option (List ℕ)) (m0 m1 m2 
         → PlaysTo kernel values settings.capacity settings.instants events happening o → o.file ≡ Some events → IfSome contents (λ held. at ≡ name_where_there held events)
         → Reaches (playing program flows events settings) contents before at o
     reaches_end happening o said plays_to file last =
-        let both : IfSome contents (λ held. FindsAccepted (held program) (Good kernel) × FindsFlows (held flows) flows (inputs_of kernel) (Good values)) =
+        let both : IfSome contents (λ held. FindsAccepted settings.pace (held program) (Good kernel) × FindsFlows (held flows) flows (inputs_of kernel) (Good values)) =
         told_both contents _ _ _ (λ held finds has. (finds, has)) good read in
         record {
           comes = told_both contents _ _ _ (λ held finds has. plays program flows events settings held kernel finds.0 few values finds.1 happening has o plays_to) both said;

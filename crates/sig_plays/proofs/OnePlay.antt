@@ -77,7 +77,7 @@ module _ (program flows events : List ℕ) (settings : Settings) where
   -- the command comes to one outcome
   pub one_play_outcome : (held : Contents) → OneAtMost (PlayComesTo held program flows events settings)
   one_play_outcome held =
-      one_at_program IsAcceptedAs AreRefused accepted_once refused_once accepted_or_refused held program (λ kernel. AtKernel held kernel)
+      one_at_program (IsAcceptedAs settings.pace) (AreRefused settings.pace) (accepted_once settings.pace) (refused_once settings.pace) (accepted_or_refused settings.pace) held program (λ kernel. AtKernel held kernel)
       (λ kernel bytes is.
       one_at_links kernel settings.capacity (Some program) (λ q. AtInputs held kernel q)
       (one_at_data (AreFlows (inputs_of kernel)) (RefusesFlows flows (inputs_of kernel)) (one_flows (inputs_of kernel)) (no_flows_line flows (inputs_of kernel)) (flows_apart flows (inputs_of kernel)) held flows
@@ -112,7 +112,7 @@ module _ (program flows events : List ℕ) (settings : Settings) where
       pub run_refuses : RunComesTo held program flows settings o → PlayComesTo held program flows events settings o
       run_refuses x = (x.0, x.1, at_program x.0 x.2)
 
-    module _ (kernel : Kernel) (good : FindsAccepted (held program) (Good kernel)) (few : HoldFew kernel settings.capacity) (values : List (List ℤ)) (read : FindsFlows (held flows) flows (inputs_of kernel) (Good values)) where
+    module _ (kernel : Kernel) (good : FindsAccepted settings.pace (held program) (Good kernel)) (few : HoldFew kernel settings.capacity) (values : List (List ℤ)) (read : FindsFlows (held flows) flows (inputs_of kernel) (Good values)) where
       -- and so does an event file that gives no events
       pub events_refuse : (o : Outcome) → AtEvents held events (λ _ _. ⊥) o → PlayComesTo held program flows events settings o
       events_refuse o x =

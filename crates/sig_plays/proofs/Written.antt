@@ -113,7 +113,7 @@ module _ (plan : PlanView) (accepted : IsAccepted plan) (flows : List (List ℤ)
 -- ---- what is promised
 
 module _ (contents : Option Contents) (before at : Option (List ℕ)) (misses misses' faults faults' : ℕ) (program flows events : List ℕ) (settings : Settings) (kernel : Kernel) (values : List (List ℤ)) (happening : List FileEvent)
-    (good : IfSome contents (λ held. FindsAccepted (held program) (Good kernel))) (few : HoldFew kernel settings.capacity)
+    (good : IfSome contents (λ held. FindsAccepted settings.pace (held program) (Good kernel))) (few : HoldFew kernel settings.capacity)
     (read : IfSome contents (λ held. FindsFlows (held flows) flows (inputs_of kernel) (Good values)))
     (said : IfSome contents (λ held. FindsEvents (held events) events (Good happening))) (last : IfSome contents (λ held. at ≡ name_where_there held events)) where
   pub performs_play : {S : Type 0} (took : S → List ℕ → S → Type 0) (out out' : S) (wrote wrote' : ℕ) (clean : Bool) (Said : List ℕ → Type 0) (status : ℕ) → took out [] out

@@ -56,7 +56,7 @@ pub record PlaysTo (kernel : Kernel) (flows : List (List ℤ)) (capacity limit :
 -- a play over told contents comes to this
 abbrev pub PlayComesTo : Contents → (program flows events : List ℕ) → Settings → Outcome → Type 0
 PlayComesTo held program flows events settings o =
-    AtPlan held program (λ kernel.
+    AtPlan settings.pace held program (λ kernel.
     AtLinks kernel settings.capacity (Some program) (
     AtFlows held flows (inputs_of kernel) (λ values.
     AtEvents held events (λ happening. PlaysTo kernel values settings.capacity settings.instants events happening)))) o
@@ -74,7 +74,7 @@ playing program flows events settings = record {
   statuses = λ status. IsRunStatus status;
   about = λ r. IsAboutPlay program flows events r;
   begun = λ held at. HasBegunPlay held program flows events at;
-  beyond = λ held. HoldsBeyondBound (held program);
+  beyond = λ held. HoldsBeyondBound settings.pace (held program);
 }
 
 -- ---- what a play wrote
@@ -96,7 +96,7 @@ pub record WritesPlay {S : Type 0} (kernel : Kernel) (flows : List (List ℤ)) (
 -- the text of the longest trace; and the line was said that names the cause why that trace is not longer.
 pub record HasPlay (held : Contents) (program flows events : List ℕ) (settings : Settings) (status : ℕ) (Took Said : List ℕ → Type 0) : Type 0 where
   pub kernel : Kernel
-  pub accepted : Holds (held program) PROGRAM_BYTES (λ bytes. IsAcceptedAs bytes kernel)
+  pub accepted : Holds (held program) PROGRAM_BYTES (λ bytes. IsAcceptedAs settings.pace bytes kernel)
   pub values : List (List ℤ)
   pub read : Holds (held flows) FLOW_BYTES (λ bytes. AreFlows (inputs_of kernel) bytes values)
   pub happening : List FileEvent

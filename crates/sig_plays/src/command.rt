@@ -42,7 +42,7 @@ pub fn play_command<F: Files, S: Sink, E: Sink>(
         S.took out.old out.new (S.faults out.old) (S.faults out.new) (S.clean out.new)
         (SaysLine E.took (E.faults err.old) (E.faults err.new) err.old err.new) result }
 {
-    match load_script(alloc, files, program, flows, events, settings.capacity) {
+    match load_script(alloc, files, program, flows, events, settings) {
         Ok(script) => play_script(alloc, &script, settings, out, err),
         Err(refusal) => refuse(&refusal, err),
     }

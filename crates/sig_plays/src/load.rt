@@ -9,13 +9,13 @@ ghost use Rattle.sig_plays.specs.EventFiles.{FindsEvents};
 ghost use Rattle.sig_plays.specs.Plays.{playing};
 ghost use Rattle.sig_runs.specs.Runs.{FindsFlows, HoldFew};
 ghost use Rattle.sig_text.specs.Files.{name_where_there};
-ghost use Rattle.sig_words.specs.declared.command.Settings.{Settings};
 
 use crate::event_file::load_events;
 use sig_flow::FileEvent;
 use sig_outcome::Refusal;
 use sig_runs::{Loaded, load_run};
 use sig_text::Files;
+use sig_words::Settings;
 use std::alloc::Global;
 
 /// What the files of a play hold: the plan and the flows of a run, and the events.
@@ -25,19 +25,19 @@ pub(crate) struct Script {
     pub(crate) events: Vec<FileEvent>,
 }
 
-/// The plan, the flows and the events of a play, with links that hold `capacity` items. The event file is
-/// asked for behind a program and a flow file that are good.
+/// The plan, the flows and the events of a play with these settings: their pacing and their capacity count
+/// here. The event file is asked for behind a program and a flow file that are good.
 pub(crate) fn load_script<'a, F: Files>(
     alloc: Global,
     files: &mut F,
     program: &'a str,
     flows: &'a str,
     events: &'a str,
-    capacity: u32,
+    settings: Settings,
 ) -> Result<Script, Refusal<'a>>
     ensures program { IfSome (F.contents files.old) (λ held. IfOk result (λ script.
-        FindsAccepted (held program.now) (Good script.loaded.plan.kernel))) }
-    ensures few { IfOk result (λ script. HoldFew script.loaded.plan.kernel capacity) }
+        FindsAccepted settings.pace (held program.now) (Good script.loaded.plan.kernel))) }
+    ensures few { IfOk result (λ script. HoldFew script.loaded.plan.kernel settings.capacity) }
     ensures flows { IfSome (F.contents files.old) (λ held. IfOk result (λ script.
         FindsFlows (held flows.now) flows.now (inputs_of script.loaded.plan.kernel) (Good script.loaded.inputs))) }
     ensures fit { IfOk result (λ script. AreFlowsFor script.loaded.plan.kernel script.loaded.inputs) }
@@ -46,13 +46,12 @@ pub(crate) fn load_script<'a, F: Files>(
     ensures last { IfSome (F.contents files.old) (λ held. IfOk result (λ _.
         F.at files.new ≡ name_where_there held events.now)) }
 
-    // A refusal is the one that told contents call for, if they alone decide it, whatever the limit.
-    ensures stops { (settings : Settings) → settings.capacity ≡ capacity →
-        IfErr result (Stops (playing program.now flows.now events.now settings)
+    // A refusal is the one that told contents call for, if they alone decide it.
+    ensures stops { IfErr result (Stops (playing program.now flows.now events.now settings)
         (F.contents files.old) (F.at files.old) (F.at files.new)
         (F.misses files.old) (F.misses files.new) (F.faults files.old) (F.faults files.new)) }
 {
-    let loaded = load_run(alloc, files, program, flows, capacity)?;
+    let loaded = load_run(alloc, files, program, flows, settings)?;
     let events = load_events(alloc, files, events)?;
     Ok(Script { loaded, events })
 }

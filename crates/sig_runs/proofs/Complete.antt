@@ -41,11 +41,11 @@ module _ (held : Contents) (program flows : List ℕ) (settings : Settings) (can
     behind_links o (inl many) = absurd (can.few many.0)
     behind_links o (inr few) = few.1
 
-    pub behind_files : (o : Outcome) → AtPlan held program (λ kernel. AtKernel kernel) o → Next can.kernel can.values o
+    pub behind_files : (o : Outcome) → AtPlan settings.pace held program (λ kernel. AtKernel kernel) o → Next can.kernel can.values o
     behind_files o x =
         behind_data (AreFlows (inputs_of can.kernel)) (RefusesFlows flows (inputs_of can.kernel)) (one_flows (inputs_of can.kernel))
         (no_flows_line flows (inputs_of can.kernel)) (flows_apart flows (inputs_of can.kernel)) held flows can.values (λ values. Next can.kernel values) o can.read
-        (behind_links o (behind_program IsAcceptedAs AreRefused accepted_once refused_once accepted_or_refused held program can.kernel (λ kernel. AtKernel kernel) o can.accepted x))
+        (behind_links o (behind_program (IsAcceptedAs settings.pace) (AreRefused settings.pace) (accepted_once settings.pace) (refused_once settings.pace) (accepted_or_refused settings.pace) held program can.kernel (λ kernel. AtKernel kernel) o can.accepted x))
 
   pub only_end : (o : Outcome) → RunComesTo held program flows settings o → RunsTo can.kernel can.values settings.instants flows o
   only_end o x = behind_files (λ kernel values. RunsTo kernel values settings.instants flows) o x

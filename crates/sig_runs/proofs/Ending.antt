@@ -25,7 +25,7 @@ module _ (held : Contents) (program flows : List ℕ) (settings : Settings) (bef
   refuses : (n : ℕ) → due.outcome.status ≡ n → (n ≡ 1) ⊎ ((n ≡ 2) ⊎ ((n ≡ 4) ⊎ (n ≡ 5))) → ⊥
   refuses n is among = not_ended status n ends (due.numbered ∙ is) among
 
-  of_run : (kernel : Kernel) (values : List (List ℤ)) → FindsAccepted (held program) (Good kernel) → FindsFlows (held flows) flows (inputs_of kernel) (Good values)
+  of_run : (kernel : Kernel) (values : List (List ℤ)) → FindsAccepted settings.pace (held program) (Good kernel) → FindsFlows (held flows) flows (inputs_of kernel) (Good values)
       → RunsTo kernel values settings.instants flows due.outcome → HasRun held program flows settings status Took Said
   of_run kernel values accepted read run = record {
     kernel = kernel;
@@ -43,19 +43,19 @@ module _ (held : Contents) (program flows : List ℕ) (settings : Settings) (bef
     line = subst (λ (o : Outcome). Said o.line) run.is due.fact.1;
   }
 
-  of_flows : (kernel : Kernel) → FindsAccepted (held program) (Good kernel) → (found : Found (List (List ℤ))) → FindsFlows (held flows) flows (inputs_of kernel) found
+  of_flows : (kernel : Kernel) → FindsAccepted settings.pace (held program) (Good kernel) → (found : Found (List (List ℤ))) → FindsFlows (held flows) flows (inputs_of kernel) found
       → AtFile 4 (long_file flows) flows found (λ values. RunsTo kernel values settings.instants flows) due.outcome → HasRun held program flows settings status Took Said
   of_flows kernel accepted Absent finds is = absurd (refuses 5 (ap (λ (o : Outcome). o.status) is) (inr (inr (inr refl))))
   of_flows kernel accepted Long finds is = absurd (refuses 4 (ap (λ (o : Outcome). o.status) is) (inr (inr (inl refl))))
   of_flows kernel accepted (Bad line) finds is = absurd (refuses 4 (ap (λ (o : Outcome). o.status) is) (inr (inr (inl refl))))
   of_flows kernel accepted (Good values) finds run = of_run kernel values accepted finds run
 
-  of_links : (kernel : Kernel) → FindsAccepted (held program) (Good kernel)
+  of_links : (kernel : Kernel) → FindsAccepted settings.pace (held program) (Good kernel)
       → AtLinks kernel settings.capacity (Some program) (AtFlows held flows (inputs_of kernel) (λ values. RunsTo kernel values settings.instants flows)) due.outcome → HasRun held program flows settings status Took Said
   of_links kernel accepted (inl many) = absurd (refuses 2 (ap (λ (o : Outcome). o.status) many.1) (inr (inl refl)))
   of_links kernel accepted (inr few) = of_flows kernel accepted few.1.0 few.1.1 few.1.2
 
-  of_program : (found : Found Kernel) → FindsAccepted (held program) found
+  of_program : (found : Found Kernel) → FindsAccepted settings.pace (held program) found
       → AtFile 1 long_program program found (λ kernel. AtLinks kernel settings.capacity (Some program) (AtFlows held flows (inputs_of kernel) (λ values. RunsTo kernel values settings.instants flows))) due.outcome
       → HasRun held program flows settings status Took Said
   of_program Absent finds is = absurd (refuses 5 (ap (λ (o : Outcome). o.status) is) (inr (inr (inr refl))))

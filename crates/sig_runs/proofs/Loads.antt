@@ -42,8 +42,8 @@ no_budget flows OutOfMemory about eight = omega (arith, eight)
 
 module _ (contents : Option Contents) (before at : Option (List ℕ)) (m0 m1 m2 f0 f1 f2 : ℕ) (program flows : List ℕ) (settings : Settings) where
   pub stops_program : (r : Refusal) → IsAboutPlan program r → HasCount contents at m0 m1 f0 f1 r
-      → IfSome contents (λ held. IsOwn r f0 f1 → AtPlan held program (λ _ _. ⊥) (outcome_of r (Some program)))
-      → IfSome contents (λ held. status_of r ≡ 8 → HoldsBeyondBound (held program))
+      → IfSome contents (λ held. IsOwn r f0 f1 → AtPlan settings.pace held program (λ _ _. ⊥) (outcome_of r (Some program)))
+      → IfSome contents (λ held. status_of r ≡ 8 → HoldsBeyondBound settings.pace (held program))
       → IfSome contents (λ held. at ≡ name_where_there held program) → Stops (running program flows settings) contents before at m0 m1 f0 f1 r
   stops_program r about counted refuses budget last = record {
     about = inl about;
@@ -55,7 +55,7 @@ module _ (contents : Option Contents) (before at : Option (List ℕ)) (m0 m1 m2 
     begun = told_both contents _ _ _ (λ held is same. inl is) last last;
   }
 
-  module _ (kernel : Kernel) (good : IfSome contents (λ held. FindsAccepted (held program) (Good kernel))) where
+  module _ (kernel : Kernel) (good : IfSome contents (λ held. FindsAccepted settings.pace (held program) (Good kernel))) where
     pub stops_items : HoldTooMany kernel settings.capacity → IfSome contents (λ held. at ≡ name_where_there held program) → Stops (running program flows settings) contents before at m0 m1 f0 f1 TooManyItems
     stops_items many last = record {
       about = inr (inl tt);
@@ -75,7 +75,7 @@ module _ (contents : Option Contents) (before at : Option (List ℕ)) (m0 m1 m2 
           let there : IfSome contents (λ held. at ≡ name_where_there held flows) = subst (λ o. IfSome o (λ held. at ≡ name_where_there held flows)) stays last in
           let refused : IfSome contents (λ held. IsOwn r f1 f2 → AtFlows held flows (inputs_of kernel) (λ _ _. ⊥) (outcome_of r (Some flows))) =
           subst (λ o. IfSome o (λ held. IsOwn r f1 f2 → AtFlows held flows (inputs_of kernel) (λ _ _. ⊥) (outcome_of r (Some flows)))) stays refuses in
-          let own_there = told_both contents (λ held. FindsAccepted (held program) (Good kernel)) _ (λ held. IsOwn r f0 f2 → RunComesTo held program flows settings (outcome_of r (Some flows)))
+          let own_there = told_both contents (λ held. FindsAccepted settings.pace (held program) (Good kernel)) _ (λ held. IsOwn r f0 f2 → RunComesTo held program flows settings (outcome_of r (Some flows)))
           (λ held finds ends. λ own. flows_refuse program flows settings held kernel finds few (outcome_of r (Some flows)) (ends (later_own r f0 f1 f2 le_f own))) good refused in
           record {
             about = inr (inr about);

@@ -59,7 +59,7 @@ module _ (program flows : List ℕ) (settings : Settings) where
   -- the command comes to one outcome
   pub one_run_outcome : (held : Contents) → OneAtMost (RunComesTo held program flows settings)
   one_run_outcome held =
-      one_at_program IsAcceptedAs AreRefused accepted_once refused_once accepted_or_refused held program (λ kernel. AtKernel held kernel)
+      one_at_program (IsAcceptedAs settings.pace) (AreRefused settings.pace) (accepted_once settings.pace) (refused_once settings.pace) (accepted_or_refused settings.pace) held program (λ kernel. AtKernel held kernel)
       (λ kernel bytes is.
       one_at_links kernel settings.capacity (Some program) (λ q. AtInputs held kernel q)
       (one_at_data (AreFlows (inputs_of kernel)) (RefusesFlows flows (inputs_of kernel)) (one_flows (inputs_of kernel)) (no_flows_line flows (inputs_of kernel)) (flows_apart flows (inputs_of kernel)) held flows
@@ -68,10 +68,10 @@ module _ (program flows : List ℕ) (settings : Settings) where
 
   module _ (held : Contents) where
     -- a program file that gives no plan ends it
-    pub program_refuses : (o : Outcome) → AtPlan held program (λ _ _. ⊥) o → RunComesTo held program flows settings o
+    pub program_refuses : (o : Outcome) → AtPlan settings.pace held program (λ _ _. ⊥) o → RunComesTo held program flows settings o
     program_refuses o x = (x.0, x.1, at_file_ends 1 long_program program x.0 (λ kernel. AtKernel held kernel) o x.2)
 
-    module _ (kernel : Kernel) (good : FindsAccepted (held program) (Good kernel)) where
+    module _ (kernel : Kernel) (good : FindsAccepted settings.pace (held program) (Good kernel)) where
       -- and so do links that hold too many items
       pub links_refuse : HoldTooMany kernel settings.capacity → RunComesTo held program flows settings (refused 2 too_many_items (Some program))
       links_refuse many = (Good kernel, good, inl (many, refl))

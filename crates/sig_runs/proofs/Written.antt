@@ -90,7 +90,7 @@ module _ {S : Type 0} (plan : PlanView) (accepted : IsAccepted plan) (flows : Li
 -- ---- what is promised
 
 module _ (contents : Option Contents) (before at : Option (List ℕ)) (misses misses' faults faults' : ℕ) (program flows : List ℕ) (settings : Settings) (kernel : Kernel) (values : List (List ℤ))
-    (good : IfSome contents (λ held. FindsAccepted (held program) (Good kernel))) (few : HoldFew kernel settings.capacity)
+    (good : IfSome contents (λ held. FindsAccepted settings.pace (held program) (Good kernel))) (few : HoldFew kernel settings.capacity)
     (read : IfSome contents (λ held. FindsFlows (held flows) flows (inputs_of kernel) (Good values))) (last : IfSome contents (λ held. at ≡ name_where_there held flows)) where
   pub performs_run : {S : Type 0} (took : S → List ℕ → S → Type 0) (out out' : S) (wrote wrote' : ℕ) (clean : Bool) (Said : List ℕ → Type 0) (status : ℕ) → took out [] out
       → WritesRun kernel values settings.instants took out out' wrote wrote' clean Said status ⊎ LacksMemory out out' Said status

@@ -14,7 +14,7 @@ use Rattle.sig_runs.specs.Runs.{HoldTooMany}
 -- flow file has a reading for its inputs.
 pub record CanRun (held : Contents) (program flows : List ℕ) (settings : Settings) : Type 0 where
   pub kernel : Kernel
-  pub accepted : Holds (held program) PROGRAM_BYTES (λ bytes. IsAcceptedAs bytes kernel)
+  pub accepted : Holds (held program) PROGRAM_BYTES (λ bytes. IsAcceptedAs settings.pace bytes kernel)
   pub few : HoldTooMany kernel settings.capacity → ⊥
   pub values : List (List ℤ)
   pub read : Holds (held flows) FLOW_BYTES (λ bytes. AreFlows (inputs_of kernel) bytes values)

@@ -103,7 +103,7 @@ pub record RunsTo (kernel : Kernel) (flows : List (List ℤ)) (limit : ℕ) (fil
 -- a run over told contents comes to this, whatever the number of workers
 abbrev pub RunComesTo : Contents → (program flows : List ℕ) → Settings → Outcome → Type 0
 RunComesTo held program flows settings o =
-    AtPlan held program (λ kernel.
+    AtPlan settings.pace held program (λ kernel.
     AtLinks kernel settings.capacity (Some program) (
     AtFlows held flows (inputs_of kernel) (λ values. RunsTo kernel values settings.instants flows))) o
 
@@ -128,7 +128,7 @@ running program flows settings = record {
   statuses = λ status. IsRunStatus status;
   about = λ r. IsAboutRun program flows r;
   begun = λ held at. HasBegunRun held program flows at;
-  beyond = λ held. HoldsBeyondBound (held program);
+  beyond = λ held. HoldsBeyondBound settings.pace (held program);
 }
 
 -- ---- what a run wrote
@@ -153,7 +153,7 @@ pub record LacksMemory {S : Type 0} (out out' : S) (Said : List ℕ → Type 0) 
 -- longest trace was taken, and the line was said that names the cause why that is not longer.
 pub record HasRun (held : Contents) (program flows : List ℕ) (settings : Settings) (status : ℕ) (Took Said : List ℕ → Type 0) : Type 0 where
   pub kernel : Kernel
-  pub accepted : Holds (held program) PROGRAM_BYTES (λ bytes. IsAcceptedAs bytes kernel)
+  pub accepted : Holds (held program) PROGRAM_BYTES (λ bytes. IsAcceptedAs settings.pace bytes kernel)
   pub values : List (List ℤ)
   pub read : Holds (held flows) FLOW_BYTES (λ bytes. AreFlows (inputs_of kernel) bytes values)
   pub plan : PlanView

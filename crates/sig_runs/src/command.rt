@@ -26,8 +26,8 @@ use std::sync::Wait;
 use std::thread::Threads;
 
 /// Runs the program that a file holds over the flows that another file holds: with its clusters on as many
-/// worker threads as the settings say, or on this thread alone where they say none. Each cluster passes the
-/// gate at each of its instants.
+/// worker threads as the settings say, or on this thread alone where they say none, and with paces where they
+/// ask for them. Each cluster passes the gate at each of its instants.
 pub fn run_command<R: Threads + Wait + Sync, F: Files, S: Sink, E: Sink, G: Gate + Sync>(
     rt: &R,
     alloc: Global,
@@ -46,7 +46,7 @@ pub fn run_command<R: Threads + Wait + Sync, F: Files, S: Sink, E: Sink, G: Gate
         S.took out.old out.new (S.faults out.old) (S.faults out.new) (S.clean out.new)
         (SaysLine E.took (E.faults err.old) (E.faults err.new) err.old err.new) result }
 {
-    match load(alloc, files, program, flows, settings.capacity) {
+    match load(alloc, files, program, flows, settings) {
         Ok(loaded) => run_loaded(rt, alloc, &loaded, settings, out, err, gate),
         Err(refusal) => refuse(&refusal, err),
     }

@@ -10,7 +10,6 @@ ghost use Rattle.sig_outcome.specs.Reading.{Reads};
 ghost use Rattle.sig_outcome.specs.Refusals.{HasCount, IsOfData, IsOwn, outcome_of};
 ghost use Rattle.sig_outcome.specs.Tasks.{Stops};
 ghost use Rattle.sig_compile.specs.Compiling.{FindsAccepted};
-ghost use Rattle.sig_words.specs.declared.command.Settings.{Settings};
 ghost use Rattle.sig_runs.specs.Runs.{AtFlows, FindsFlows, HoldFew, HoldTooMany, IsAboutFlows, RefusesFlows, bad_flows, running};
 
 use sig_base::limits::{FLOW_BYTES, ITEMS};
@@ -20,6 +19,7 @@ use sig_kernel::{Inputs, Kernel};
 use sig_outcome::{Refusal, read_data};
 use sig_plan::Plan;
 use sig_text::Files;
+use sig_words::Settings;
 use std::alloc::{AllocError, Global};
 
 /// What the files of a run hold: the plan of the program, and the flows of its inputs.
@@ -29,18 +29,18 @@ pub struct Loaded {
     pub inputs: Inputs,
 }
 
-/// The plan and the flows of a run, with links that hold `capacity` items. The flow file is asked for
-/// behind a program that is good.
+/// The plan and the flows of a run with these settings: their pacing and their capacity count here. The flow
+/// file is asked for behind a program that is good.
 pub fn load<'a, F: Files>(
     alloc: Global,
     files: &mut F,
     program: &'a str,
     flows: &'a str,
-    capacity: u32,
+    settings: Settings,
 ) -> Result<Loaded, Refusal<'a>>
     ensures program { IfSome (F.contents files.old) (λ held. IfOk result (λ loaded.
-        FindsAccepted (held program.now) (Good loaded.plan.kernel))) }
-    ensures few { IfOk result (λ loaded. HoldFew loaded.plan.kernel capacity) }
+        FindsAccepted settings.pace (held program.now) (Good loaded.plan.kernel))) }
+    ensures few { IfOk result (λ loaded. HoldFew loaded.plan.kernel settings.capacity) }
     ensures flows { IfSome (F.contents files.old) (λ held. IfOk result (λ loaded.
         FindsFlows (held flows.now) flows.now (inputs_of loaded.plan.kernel) (Good loaded.inputs))) }
     ensures fit { IfOk result (λ loaded. AreFlowsFor loaded.plan.kernel loaded.inputs) }
@@ -49,14 +49,13 @@ pub fn load<'a, F: Files>(
     ensures read { OnOk result (Reads (F.contents files.old) (F.contents files.new) (F.at files.new)
         (F.misses files.old) (F.misses files.new) (F.faults files.old) (F.faults files.new) flows.now) }
 
-    // A refusal is the one that told contents call for, if they alone decide it, whatever the limit.
-    ensures stops { (settings : Settings) → settings.capacity ≡ capacity →
-        IfErr result (Stops (running program.now flows.now settings)
+    // A refusal is the one that told contents call for, if they alone decide it.
+    ensures stops { IfErr result (Stops (running program.now flows.now settings)
         (F.contents files.old) (F.at files.old) (F.at files.new)
         (F.misses files.old) (F.misses files.new) (F.faults files.old) (F.faults files.new)) }
 {
-    let plan = load_plan(alloc, files, program)?;
-    if hold_too_many(&plan, capacity) {
+    let plan = load_plan(alloc, files, program, settings.pace)?;
+    if hold_too_many(&plan, settings.capacity) {
         return Err(Refusal::TooManyItems);
     }
     let inputs = load_flows(alloc, files, flows, &plan.kernel)?;

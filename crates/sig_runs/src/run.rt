@@ -17,11 +17,11 @@ use std::alloc::Global;
 use std::sync::Wait;
 use std::thread::Threads;
 
-/// Runs a plan over flows to its end, up to the limit of instants: without workers on this thread alone, in
-/// the compiled order, and else with the clusters on as many workers, over links of the capacity. The sink
-/// gets the text of the longest trace, and the answer is the number of its instants with the named cause;
-/// neither depends on the workers and the capacity. Where a write fails, a prefix of that text was
-/// appended. All memory is taken before the first instant.
+/// Runs a plan over flows to its end, up to the limit of instants: without workers, or where there is one
+/// cluster and so nothing to spread, on this thread alone, in the compiled order; else with the clusters on
+/// as many workers, over links of the capacity. The sink gets the text of the longest trace, and the answer
+/// is the number of its instants with the named cause; neither depends on the workers and the capacity.
+/// Where a write fails, a prefix of that text was appended. All memory is taken before the first instant.
 pub fn run_plan<R: Threads + Wait + Sync, S: Sink, G: Gate + Sync>(
     rt: &R,
     alloc: Global,
@@ -45,7 +45,7 @@ pub fn run_plan<R: Threads + Wait + Sync, S: Sink, G: Gate + Sync>(
         instants,
         ..
     } = settings;
-    if workers == 0 {
+    if workers == 0 || has_one_cluster(plan) {
         return run_alone(alloc, plan, inputs, instants, gate, sink);
     }
     match sig_work::run(
@@ -55,4 +55,9 @@ pub fn run_plan<R: Threads + Wait + Sync, S: Sink, G: Gate + Sync>(
         Err(WorkAnswer::WriteFault) => Err(RunAnswer::WriteFault),
         Err(WorkAnswer::OutOfMemory) => Err(RunAnswer::OutOfMemory),
     }
+}
+
+/// Whether a plan has one cluster: each other code is the collector's.
+fn has_one_cluster(plan: &Plan) -> bool {
+    plan.codes.len() <= 2
 }

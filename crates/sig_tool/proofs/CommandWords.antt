@@ -1,13 +1,21 @@
 -- Facts of the command that words are.
-use Rattle.std.proofs.Common.{◌≡◌, ℕ, List, Option, inl, refl, sym, subst}
+use Rattle.std.proofs.Common.{◌≡◌, ℕ, List, [], Bool, Option, None, inl, inr, refl, sym, subst, arith}
 use Rattle.sig_text.specs.Files.{Contents}
 use Rattle.sig_words.specs.Readings.{Word}
 use Rattle.sig_words.specs.declared.command.Command.{Command}
+use Rattle.sig_words.specs.declared.command.Settings.{Settings}
 use Rattle.sig_words.specs.declared.command.Command.TheVariants.{Check, Code, Judge, Load, Play, Print, Run, Tree}
-use Rattle.sig_outcome.specs.Tasks.{IsRefusedBy, memory_line}
-use Rattle.sig_outcome.specs.declared.refusal.Refusal.TheVariants.{OutOfMemory}
+use Rattle.sig_outcome.specs.Tasks.{IsRefusedBy, Performs, Stops, memory_line}
+use Rattle.sig_outcome.specs.Refusals.{status_of}
+use Rattle.sig_outcome.specs.declared.refusal.Refusal.{Refusal}
+use Rattle.sig_outcome.specs.declared.refusal.Refusal.TheVariants.{Missing, ReadFault, LongProgram, Program, Budget, TooManyItems, LongFile, Data, OutOfMemory}
+use Rattle.sig_outcome.proofs.Refused.{told}
+use Rattle.sig_outcome.proofs.Performing.{performs_refusal}
+use Rattle.sig_loads.specs.Loads.{IsLoadStatus, loading}
+use Rattle.sig_loads.specs.Refusals.{IsAboutLoad}
+use Rattle.sig_loads.proofs.OneLoad.{one_load_outcome}
 use Rattle.sig_tool.specs.Commands.{IsBuilt}
-use Rattle.sig_tool.specs.TopCall.{ComesTo, IsAbout, OfCommand}
+use Rattle.sig_tool.specs.TopCall.{ComesTo, IfLoad, IsAbout, OfCommand}
 
 -- what holds of the one command that the words are holds of each
 pub of_one : (words : List Word) (command : Command) (Fact : Command → Type 0) → OfCommand words (λ c. c ≡ command) → Fact command → OfCommand words Fact
@@ -34,3 +42,32 @@ refused_unread contents c before at misses misses' faults faults' Said built lin
   count = tt;
   owed = λ own. absurd own;
 }
+
+-- and so was a load, which asks for no file
+
+load_number : (r : Refusal) → IsAboutLoad r → IsLoadStatus (status_of r)
+load_number (Missing name) about = absurd about
+load_number (ReadFault name) about = absurd about
+load_number LongProgram about = inr (inr (inl refl))
+load_number (Program line) about = inr (inr (inl refl))
+load_number (Budget nodes) about = inr (inr (inr (inr (inr (inr refl)))))
+load_number TooManyItems about = inr (inr (inr (inl refl)))
+load_number (LongFile name) about = inr (inr (inr (inr (inl refl))))
+load_number (Data line) about = inr (inr (inr (inr (inl refl))))
+load_number OutOfMemory about = inr (inr (inr (inr (inr (inl refl)))))
+
+unread : (seed stages : ℕ) (settings : Settings) (contents : Option Contents) → Stops (loading seed stages settings) contents None None 0 0 0 0 OutOfMemory
+unread seed stages settings contents = record {
+  about = tt;
+  counted = tt;
+  owed = told contents _ (λ held. λ own. absurd own);
+  budget = told contents _ (λ held. λ eight. absurd (omega (arith, eight)));
+  begun = told contents _ (λ held. tt);
+}
+
+pub load_unread : (c : Command) → {S : Type 0} (took : S → List ℕ → S → Type 0) (out : S) (wrote : ℕ) (clean : Bool) (Said : List ℕ → Type 0) → took out [] out → Said memory_line
+    → IfLoad c (λ seed stages settings. (contents : Option Contents) → Performs (loading seed stages settings) contents None None 0 0 0 0 took out out wrote wrote clean Said 7)
+load_unread (Load seed stages settings) took out wrote clean Said nothing line = λ contents.
+    performs_refusal (loading seed stages settings) contents None None 0 0 0 0 (λ held. one_load_outcome seed stages settings) took out wrote wrote clean Said 7 OutOfMemory nothing load_number
+    (unread seed stages settings contents) line refl
+load_unread _ took out wrote clean Said nothing line = tt

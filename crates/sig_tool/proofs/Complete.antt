@@ -14,19 +14,22 @@ use Rattle.sig_outcome.specs.declared.refusal.Refusal.TheVariants.{Missing, Read
 use Rattle.sig_outcome.proofs.Performing.{not_refused}
 use Rattle.sig_compile.specs.Compiling.{IsVerdictText}
 use Rattle.sig_compile.proofs.Complete as compiles
+use Rattle.sig_loads.specs.Complete.{CanLoad}
+use Rattle.sig_loads.specs.Loads.{loading}
 use Rattle.sig_loads.proofs.Complete as loads
 use Rattle.sig_plays.proofs.Complete as plays
 use Rattle.sig_runs.proofs.Complete as runs
 use Rattle.sig_tool.specs.Complete.{CanBeDone}
-use Rattle.sig_tool.specs.TopCall.{ComesTo, IsStatus, task_of}
+use Rattle.sig_tool.specs.TopCall.{ComesTo, IfLoad, IsStatus, task_of}
+use Rattle.sig_tool.proofs.TopClauses.{is_status}
 
 -- whatever such a command comes to, it is done
 pub done_status : (held : Contents) (c : Command) → CanBeDone held c → (o : Outcome) → ComesTo held c o → IsDone o.status
 done_status held (Run program flows settings) can o x = inl (runs.end_status_is held program flows settings can o x)
 done_status held (Play program flows events settings) can o x = inl (plays.end_status_is held program flows events settings can o x)
-done_status held (Check program pace) can o x = inl (inl (compiles.done_status held program can IsVerdictText o x))
-done_status held (Tree program pace) can o x = inl (inl (compiles.done_status held program can IsTreeText o x))
-done_status held (Code program pace) can o x = inl (inl (compiles.done_status held program can IsCodeText o x))
+done_status held (Check program pace) can o x = inl (inl (compiles.done_status held program pace can IsVerdictText o x))
+done_status held (Tree program pace) can o x = inl (inl (compiles.done_status held program pace can IsTreeText o x))
+done_status held (Code program pace) can o x = inl (inl (compiles.done_status held program pace can IsCodeText o x))
 done_status held (Print program) can o x = inl (inl (ap (λ (q : Outcome). q.status) (compiles.only_print held program can o x)))
 done_status held (Load seed stages settings) can o x = inl (loads.end_status_is seed stages settings can o x)
 done_status held _ can o x = absurd can
@@ -68,3 +71,21 @@ pub complete : (c : Command) (contents : Option Contents) (before at : Option (L
 complete c None before at misses misses' faults faults' status took out out' wrote wrote' clean Said is performs read written = tt
 complete c (Some held) before at misses misses' faults faults' status took out out' wrote wrote' clean Said is performs read written = λ can.
     by_status (task_of c) held before at misses misses' faults faults' status (done_status held c can) took out out' wrote wrote' clean Said performs read written is
+
+nothing_failed : DidNotRise 0 0
+nothing_failed = omega (arith)
+
+-- a load, which asks for no file
+pub load_complete : (c : Command) (status : ℕ) → {S : Type 0} (took : S → List ℕ → S → Type 0) (out out' : S) (wrote wrote' : ℕ) (clean : Bool) (Said : List ℕ → Type 0)
+    → IfLoad c (λ seed stages settings. (contents : Option Contents) → Performs (loading seed stages settings) contents None None 0 0 0 0 took out out' wrote wrote' clean Said status)
+    → DidNotRise wrote wrote' → IfLoad c (λ seed stages settings. CanLoad seed stages settings → IsDone status ⊎ ((status ≡ 7) ⊎ (status ≡ 8)))
+load_complete (Load seed stages settings) status took out out' wrote wrote' clean Said performs written = λ can.
+    let held : Contents = λ name. None in
+    by_status (loading seed stages settings) held None None 0 0 0 0 status (done_status held (Load seed stages settings) can) took out out' wrote wrote' clean Said (performs (Some held)) nothing_failed written
+    (is_status (Load seed stages settings) status (performs None).numbers)
+load_complete _ status took out out' wrote wrote' clean Said performs written = tt
+
+-- one for whose words there was no memory
+pub load_unread_complete : (c : Command) (status : ℕ) → status ≡ 7 → IfLoad c (λ seed stages settings. CanLoad seed stages settings → IsDone status ⊎ ((status ≡ 7) ⊎ (status ≡ 8)))
+load_unread_complete (Load seed stages settings) status is = λ can. inr (inl is)
+load_unread_complete _ status is = tt

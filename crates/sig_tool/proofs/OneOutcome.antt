@@ -15,9 +15,9 @@ use Rattle.sig_tool.specs.TopCall.{ComesTo}
 pub one_outcome : (held : Contents) (c : Command) (one other : Outcome) → ComesTo held c one → ComesTo held c other → one ≡ other
 one_outcome held (Run program flows settings) one other = one_run_outcome program flows settings held one other
 one_outcome held (Play program flows events settings) one other = one_play_outcome program flows events settings held one other
-one_outcome held (Check program pace) one other = one_compile_outcome product.Verdict program held one other
-one_outcome held (Tree program pace) one other = one_compile_outcome product.Tree program held one other
-one_outcome held (Code program pace) one other = one_compile_outcome product.Code program held one other
+one_outcome held (Check program pace) one other = one_compile_outcome product.Verdict pace program held one other
+one_outcome held (Tree program pace) one other = one_compile_outcome product.Tree pace program held one other
+one_outcome held (Code program pace) one other = one_compile_outcome product.Code pace program held one other
 one_outcome held (Print program) one other = one_print_outcome program held one other
 one_outcome held (Judge program traces) one other = one_judge_outcome program traces held one other
 one_outcome held (Load seed stages settings) one other = one_load_outcome seed stages settings one other

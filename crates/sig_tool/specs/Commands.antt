@@ -1,18 +1,17 @@
 -- The commands that are built so far, among those of a command line.
-use Rattle.std.specs.Prelude.{◌≡◌, ◌≤◌, false, ⊤}
+use Rattle.std.specs.Prelude.{◌≤◌, ⊤}
 use Rattle.sig_runs.specs.Runs.{AreWithinBounds}
 use Rattle.sig_words.specs.Commands.{settings_of}
 use Rattle.sig_words.specs.declared.command.Command.{Command}
 use Rattle.sig_words.specs.declared.command.Command.TheVariants.{Check, Code, Judge, Load, Play, Print, Run, Tree}
 
--- a command is built: a run, a play, a check, a tree or a code without pacing, a load, the printing of a program, and the
--- judging of a trace
+-- a command is built: all but those of image files
 abbrev pub IsBuilt : Command → Type 0
-IsBuilt (Run program flows settings) = settings.pace ≡ false
-IsBuilt (Play program flows events settings) = settings.pace ≡ false
-IsBuilt (Check program pace) = pace ≡ false
-IsBuilt (Tree program pace) = pace ≡ false
-IsBuilt (Code program pace) = pace ≡ false
+IsBuilt (Run program flows settings) = ⊤
+IsBuilt (Play program flows events settings) = ⊤
+IsBuilt (Check program pace) = ⊤
+IsBuilt (Tree program pace) = ⊤
+IsBuilt (Code program pace) = ⊤
 IsBuilt (Print program) = ⊤
 IsBuilt (Judge program traces) = ⊤
 IsBuilt (Load seed stages settings) = ⊤

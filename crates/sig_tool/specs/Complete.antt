@@ -12,9 +12,9 @@ use Rattle.sig_plays.specs.Complete.{CanPlay}
 abbrev pub CanBeDone : Contents → Command → Type 0
 CanBeDone held (Run program flows settings) = CanRun held program flows settings
 CanBeDone held (Play program flows events settings) = CanPlay held program flows events settings
-CanBeDone held (Check program pace) = CanCompile held program
-CanBeDone held (Tree program pace) = CanCompile held program
-CanBeDone held (Code program pace) = CanCompile held program
+CanBeDone held (Check program pace) = CanCompile pace held program
+CanBeDone held (Tree program pace) = CanCompile pace held program
+CanBeDone held (Code program pace) = CanCompile pace held program
 CanBeDone held (Print program) = CanPrint held program
 CanBeDone held (Load seed stages settings) = CanLoad seed stages settings
 CanBeDone held _ = ⊥

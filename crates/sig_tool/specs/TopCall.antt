@@ -1,5 +1,5 @@
 -- What is said of a call of the top, for every command.
-use Rattle.std.specs.Prelude.{◌≡◌, ◌⊎◌, ⊤, ℕ, List, Option, IfSome}
+use Rattle.std.specs.Prelude.{◌≡◌, ◌⊎◌, ⊤, ℕ, false, List, Option, IfSome}
 use Rattle.sig_text.specs.Files.{Contents, name_where_there}
 use Rattle.sig_words.specs.Commands.{IsCommand}
 use Rattle.sig_words.specs.Readings.{Word}
@@ -39,15 +39,20 @@ OfRun words Fact = (program flows : List ℕ) (settings : Settings) → IsComman
 abbrev pub OfPlay : List Word → ((program flows events : List ℕ) → Settings → Type 0) → Type 0
 OfPlay words Fact = (program flows events : List ℕ) (settings : Settings) → IsCommand words (Play program flows events settings) → IsBuilt (Play program flows events settings) → Fact program flows events settings
 
+-- a fact of a command that is a load
+abbrev pub IfLoad : Command → ((seed stages : ℕ) → Settings → Type 0) → Type 0
+IfLoad (Load seed stages settings) Fact = Fact seed stages settings
+IfLoad _ Fact = ⊤
+
 -- ---- what a command means
 
--- a command over told contents comes to this; the flag is not looked at, and a command without an equation comes to nothing
+-- a command over told contents comes to this; a command without an equation comes to nothing
 abbrev pub ComesTo : Contents → Command → Outcome → Type 0
 ComesTo held (Run program flows settings) o = RunComesTo held program flows settings o
 ComesTo held (Play program flows events settings) o = PlayComesTo held program flows events settings o
-ComesTo held (Check program pace) o = CompileComesTo IsVerdictText held program o
-ComesTo held (Tree program pace) o = CompileComesTo IsTreeText held program o
-ComesTo held (Code program pace) o = CompileComesTo IsCodeText held program o
+ComesTo held (Check program pace) o = CompileComesTo IsVerdictText pace held program o
+ComesTo held (Tree program pace) o = CompileComesTo IsTreeText pace held program o
+ComesTo held (Code program pace) o = CompileComesTo IsCodeText pace held program o
 ComesTo held (Print program) o = PrintComesTo held program o
 ComesTo held (Judge program traces) o = JudgeComesTo held program traces o
 ComesTo held (Load seed stages settings) o = LoadComesTo seed stages settings o
@@ -98,12 +103,12 @@ HasBegun held _ at = ⊥
 
 -- the program which a command compiles is not within the bound for which the nodes of a store suffice
 abbrev pub CompilesBeyondBound : Contents → Command → Type 0
-CompilesBeyondBound held (Run program flows settings) = HoldsBeyondBound (held program)
-CompilesBeyondBound held (Play program flows events settings) = HoldsBeyondBound (held program)
-CompilesBeyondBound held (Check program pace) = HoldsBeyondBound (held program)
-CompilesBeyondBound held (Tree program pace) = HoldsBeyondBound (held program)
-CompilesBeyondBound held (Code program pace) = HoldsBeyondBound (held program)
-CompilesBeyondBound held (Load seed stages settings) = IsBeyondBound (generated stages)
+CompilesBeyondBound held (Run program flows settings) = HoldsBeyondBound settings.pace (held program)
+CompilesBeyondBound held (Play program flows events settings) = HoldsBeyondBound settings.pace (held program)
+CompilesBeyondBound held (Check program pace) = HoldsBeyondBound pace (held program)
+CompilesBeyondBound held (Tree program pace) = HoldsBeyondBound pace (held program)
+CompilesBeyondBound held (Code program pace) = HoldsBeyondBound pace (held program)
+CompilesBeyondBound held (Load seed stages settings) = IsBeyondBound false (generated stages)
 CompilesBeyondBound held _ = ⊥
 
 -- all of this, as what is asked for

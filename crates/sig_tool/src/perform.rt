@@ -1,13 +1,16 @@
 //! A command that is built, from its files to a status.
 
-ghost use Rattle.std.specs.Prelude.{◌≡◌, [], false};
+ghost use Rattle.std.specs.Prelude.{◌≡◌, ◌≤◌, [], Option, None};
+ghost use Rattle.sig_base.specs.declared.limits.TheConstants.{WORKERS_MAX};
 ghost use Rattle.std.specs.List.{AllByRecursion};
 ghost use Rattle.std.specs.Str.{IsUtf8};
+ghost use Rattle.sig_loads.specs.Loads.{loading};
 ghost use Rattle.sig_outcome.specs.Tasks.{Performs, SaysLine};
 ghost use Rattle.sig_runs.specs.Runs.{AreWithinBounds, running};
 ghost use Rattle.sig_words.specs.Commands.{files_of};
 ghost use Rattle.sig_tool.specs.Commands.{IsBuilt, IsLimited};
-ghost use Rattle.sig_tool.specs.TopCall.{task_of};
+ghost use Rattle.sig_text.specs.Files.{Contents};
+ghost use Rattle.sig_tool.specs.TopCall.{IfLoad, task_of};
 
 use sig_base::Text;
 use sig_compile::{Product, compile_command, print_command};
@@ -41,6 +44,12 @@ pub fn perform<R: Threads + Wait + Sync, F: Files, S: Sink, E: Sink, G: Gate + S
         S.took out.old out.new (S.faults out.old) (S.faults out.new) (S.clean out.new)
         (SaysLine E.took (E.faults err.old) (E.faults err.new) err.old err.new) result }
     ensures no_files { files_of command.now ≡ [] → files.new ≡ files.old }
+
+    // A load asks for no file: what is promised of it holds whatever files would tell.
+    ensures load { IfLoad command.now (λ seed stages settings. (contents : Option Contents) →
+        Performs (loading seed stages settings) contents None None 0 0 0 0
+        S.took out.old out.new (S.faults out.old) (S.faults out.new) (S.clean out.new)
+        (SaysLine E.took (E.faults err.old) (E.faults err.new) err.old err.new) result) }
 {
     match command {
         Command::Run(program, flows, settings) => {
@@ -51,14 +60,38 @@ pub fn perform<R: Threads + Wait + Sync, F: Files, S: Sink, E: Sink, G: Gate + S
             let (program, flows, events) = (name_of(program), name_of(flows), name_of(events));
             play_command(alloc, program, flows, events, *settings, files, out, err)
         }
-        Command::Check(program, _) => {
-            compile_command(alloc, Product::Verdict, name_of(program), files, out, err)
+        Command::Check(program, pace) => {
+            compile_command(
+                alloc,
+                Product::Verdict,
+                name_of(program),
+                *pace,
+                files,
+                out,
+                err,
+            )
         }
-        Command::Tree(program, _) => {
-            compile_command(alloc, Product::Tree, name_of(program), files, out, err)
+        Command::Tree(program, pace) => {
+            compile_command(
+                alloc,
+                Product::Tree,
+                name_of(program),
+                *pace,
+                files,
+                out,
+                err,
+            )
         }
-        Command::Code(program, _) => {
-            compile_command(alloc, Product::Code, name_of(program), files, out, err)
+        Command::Code(program, pace) => {
+            compile_command(
+                alloc,
+                Product::Code,
+                name_of(program),
+                *pace,
+                files,
+                out,
+                err,
+            )
         }
         Command::Judge(program, traces) => {
             let (program, traces) = (name_of(program), name_of(traces));
@@ -72,7 +105,7 @@ pub fn perform<R: Threads + Wait + Sync, F: Files, S: Sink, E: Sink, G: Gate + S
     }
 }
 
-/// Runs a program without pacing.
+/// Runs a program, with no more workers than there may be.
 fn run<R: Threads + Wait + Sync, F: Files, S: Sink, E: Sink, G: Gate + Sync>(
     rt: &R,
     alloc: Global,
@@ -85,7 +118,7 @@ fn run<R: Threads + Wait + Sync, F: Files, S: Sink, E: Sink, G: Gate + Sync>(
     gate: &G,
 ) -> u8
     requires bounds { AreWithinBounds settings }
-    requires built { settings.pace ≡ false }
+    requires few { settings.workers ≤ WORKERS_MAX }
     ensures { Performs (running program.now flows.now settings)
         (F.contents files.old) (F.at files.old) (F.at files.new)
         (F.misses files.old) (F.misses files.new) (F.faults files.old) (F.faults files.new)

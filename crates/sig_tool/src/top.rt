@@ -1,6 +1,6 @@
 //! The top call: from the words of a command line, files and sinks to a status.
 
-ghost use Rattle.std.specs.Prelude.{◌≡◌, ◌⊎◌, [], IfSome, IsTrue};
+ghost use Rattle.std.specs.Prelude.{◌≡◌, ◌⊎◌, [], Option, None, IfSome, IsTrue};
 ghost use Rattle.sig_text.specs.Counts.{DidNotRise, Rose};
 ghost use Rattle.sig_text.specs.Files.{Contents};
 ghost use Rattle.sig_text.specs.Sink.{TookPrefix};
@@ -8,11 +8,13 @@ ghost use Rattle.sig_words.specs.Commands.{files_of};
 ghost use Rattle.sig_words.specs.Readings.{texts};
 ghost use Rattle.sig_words.specs.declared.command.Command.{Command};
 ghost use Rattle.sig_outcome.specs.Outcomes.{Outcome};
+ghost use Rattle.sig_loads.specs.Complete.{CanLoad};
+ghost use Rattle.sig_loads.specs.Loads.{loading};
 ghost use Rattle.sig_plays.specs.Plays.{HasPlay};
 ghost use Rattle.sig_runs.specs.Runs.{HasRun};
-ghost use Rattle.sig_outcome.specs.Tasks.{IsDone, IsDue, IsEnded, IsRefused, IsRefusedBy, MayAnswer, SaysLine, items_line, memory_line, words_line, write_line};
+ghost use Rattle.sig_outcome.specs.Tasks.{IsCut, IsDone, IsDue, IsEnded, IsRefused, IsRefusedBy, MayAnswer, Performs, SaysLine, items_line, memory_line, words_line, write_line};
 ghost use Rattle.sig_tool.specs.Complete.{CanBeDone};
-ghost use Rattle.sig_tool.specs.TopCall.{AreNoCommand, ComesTo, CompilesBeyondBound, HasBegun, IsAbout, IsStatus, IsStatusOf, OfCommand, OfOutcome, OfPlay, OfRun};
+ghost use Rattle.sig_tool.specs.TopCall.{AreNoCommand, ComesTo, CompilesBeyondBound, HasBegun, IfLoad, IsAbout, IsStatus, IsStatusOf, OfCommand, OfOutcome, OfPlay, OfRun};
 
 use crate::perform::perform;
 use crate::words::built_command;
@@ -25,10 +27,11 @@ use std::thread::Threads;
 
 /// Does what the words of a command line ask for, and answers the status with which the program ends.
 /// `words` are the command line without the program's name. So far the commands that are built are
-/// `check`, `tree`, `code`, `run` and `play` without the flag `--pace`, `print`, `judge` and `load`. A run is
-/// made with its clusters on worker threads, or on this thread alone where no worker is asked for; each cluster
-/// passes the gate at each of its instants. A play lets given events of the actors happen, on this thread and
-/// over links of the capacity asked for, writes the state that they leave, and finishes the run from there.
+/// `check`, `tree`, `code`, `run`, `play`, `print`, `judge` and `load`. With the flag `--pace` the first five take
+/// for the kernel of a program without a root the one with paces. A run is made with its clusters on worker
+/// threads, or on this thread alone where no worker is asked for; each cluster passes the gate at each of its
+/// instants. A play lets given events of the actors happen, on this thread and over links of the capacity asked
+/// for, writes the state that they leave, and finishes the run from there.
 ///
 /// | Status | Comes |
 /// |---|---|
@@ -93,6 +96,10 @@ pub fn sig_main<R: Threads + Wait + Sync, F: Files, S: Sink, E: Sink, G: Gate + 
         IfSome (F.contents files.old) (λ held. CompilesBeyondBound held c)) }
     ensures failed { result ≡ 6 → Rose (S.faults out.old) (S.faults out.new) }
 
+    // What a failed write leaves begins the text of what the command comes to, which was to be done.
+    ensures cut { result ≡ 6 → OfCommand (texts words.now) (λ c. IfSome (F.contents files.old) (λ held.
+        IsCut (ComesTo held c) S.took out.old out.new)) }
+
     // A refused command says one line, with its cause, and leaves the output as it was.
     ensures refused { IsRefused result → OfCommand (texts words.now) (λ c.
         IsRefusedBy (λ held. ComesTo held c) (IsAbout c) (F.contents files.old) (F.at files.old) (F.at files.new)
@@ -115,6 +122,15 @@ pub fn sig_main<R: Threads + Wait + Sync, F: Files, S: Sink, E: Sink, G: Gate + 
         ⊎ ((result ≡ 7) × (files.new ≡ files.old))) }
     ensures none_begun { AreNoCommand (texts words.now) → files.new ≡ files.old }
     ensures no_files { OfCommand (texts words.now) (λ c. files_of c ≡ [] → files.new ≡ files.old) }
+
+    // A load asks for no file, so all of this holds of it whatever files would tell, and where they tell nothing.
+    ensures load { OfCommand (texts words.now) (λ c. IfLoad c (λ seed stages settings. (contents : Option Contents) →
+        Performs (loading seed stages settings) contents None None 0 0 0 0
+        S.took out.old out.new (S.faults out.old) (S.faults out.new) (S.clean out.new)
+        (SaysLine E.took (E.faults err.old) (E.faults err.new) err.old err.new) result)) }
+    ensures load_complete { DidNotRise (S.faults out.old) (S.faults out.new) → OfCommand (texts words.now) (λ c.
+        IfLoad c (λ seed stages settings. CanLoad seed stages settings →
+        IsDone result ⊎ ((result ≡ 7) ⊎ (result ≡ 8)))) }
 {
     match built_command(alloc, words) {
         Ok(command) => perform(rt, alloc, &command, files, out, err, gate),

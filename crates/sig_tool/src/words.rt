@@ -33,9 +33,9 @@ fn is_built(command: &Command) -> bool
     ensures { IsTrue result ↔ IsBuilt command.now }
 {
     match command {
-        Command::Run(_, _, settings) | Command::Play(_, _, _, settings) => !settings.pace,
-        Command::Check(_, pace) | Command::Tree(_, pace) | Command::Code(_, pace) => !*pace,
-        Command::Print(_) | Command::Judge(_, _) | Command::Load(_, _, _) => true,
+        Command::Run(_, _, _) | Command::Play(_, _, _, _) | Command::Load(_, _, _) => true,
+        Command::Check(_, _) | Command::Tree(_, _) | Command::Code(_, _) => true,
+        Command::Print(_) | Command::Judge(_, _) => true,
         Command::Build(_) | Command::Exec(_, _, _) => false,
     }
 }

@@ -18,7 +18,7 @@ returns-clause-refused g c =
     (λ held there.
     let short : length c.in_ok-bytes.bytes.items ≤ 1048576 = omega (arith, c.in_ok-bytes.ensures.within, c.deref.ensures.len, ap length c.deref.ensures.value) in
     on_err c.plan_of.result _ _
-    (λ r is. refused_program IsAcceptedAs AreRefused held c.args.name.now c.in_ok-bytes.bytes.items there (λ _ _. ⊥) short (LacksNodes c.in_ok-bytes.bytes.items) r
+    (λ r is. refused_program (IsAcceptedAs c.args.pace) (AreRefused c.args.pace) held c.args.name.now c.in_ok-bytes.bytes.items there (λ _ _. ⊥) short (LacksNodes c.args.pace c.in_ok-bytes.bytes.items) r
     (g.F.Files.faults c.args.files.now) (g.F.Files.faults c.read_program.new.files) is)
     (rw c.deref.ensures.value at c.plan_of.ensures.refused))
 
@@ -29,13 +29,13 @@ returns-clause-budget g c =
     let short : length c.in_ok-bytes.bytes.items ≤ 1048576 = omega (arith, c.in_ok-bytes.ensures.within, c.deref.ensures.len, ap length c.deref.ensures.value) in
     on_err c.plan_of.result _ _
     (λ r is. λ eight.
-    let of = budget_of (AreRefused c.in_ok-bytes.bytes.items) (LacksNodes c.in_ok-bytes.bytes.items) r is eight in
-    holds_beyond c.args.name.now c.in_ok-bytes.bytes.items short held of.0 there of.1)
+    let of = budget_of (AreRefused c.args.pace c.in_ok-bytes.bytes.items) (LacksNodes c.args.pace c.in_ok-bytes.bytes.items) r is eight in
+    holds_beyond c.args.pace c.args.name.now c.in_ok-bytes.bytes.items short held of.0 there of.1)
     (rw c.deref.ensures.value at c.plan_of.ensures.refused))
 
 pub returns-clause-about : goal.returns-clause-about
 returns-clause-about g c =
     on_err c.plan_of.result _ _
-    (about_bytes (AreRefused c.in_ok-bytes.bytes.items) (LacksNodes c.in_ok-bytes.bytes.items) c.args.name.now IsPlanLine IsBudget
-    (plan_line c.in_ok-bytes.bytes.items) (budget_number c.in_ok-bytes.bytes.items))
+    (about_bytes (AreRefused c.args.pace c.in_ok-bytes.bytes.items) (LacksNodes c.args.pace c.in_ok-bytes.bytes.items) c.args.name.now IsPlanLine IsBudget
+    (plan_line c.args.pace c.in_ok-bytes.bytes.items) (budget_number c.args.pace c.in_ok-bytes.bytes.items))
     (rw c.deref.ensures.value at c.plan_of.ensures.refused)

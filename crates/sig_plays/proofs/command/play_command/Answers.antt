@@ -1,4 +1,3 @@
-use Rattle.std.proofs.Common.{refl}
 use Rattle.sig_outcome.specs.Tasks.{SaysLine}
 use Rattle.sig_outcome.proofs.Performing.{performs_refusal}
 use Rattle.sig_plays.specs.Plays.{playing}
@@ -23,4 +22,4 @@ returns-in-Err g c =
     (g.F.Files.misses c.args.files.now) (g.F.Files.misses c.load_script.new.files) (g.F.Files.faults c.args.files.now) (g.F.Files.faults c.load_script.new.files)
     (one_play_outcome c.args.program.now c.args.flows.now c.args.events.now c.args.settings) g.S.Sink.took c.args.out.now (g.S.Sink.faults c.args.out.now) (g.S.Sink.faults c.args.out.now) (g.S.Sink.clean c.args.out.now)
     (SaysLine g.E.Sink.took (g.E.Sink.faults c.args.err.now) (g.E.Sink.faults c.refuse.new.err) c.args.err.now c.refuse.new.err) c.refuse.result c.in-Err.refusal
-    (g.met.S.Sink.took_nothing c.args.out.now) (play_number c.args.program.now c.args.flows.now c.args.events.now) (c.in-Err.ensures.stops c.args.settings refl) c.refuse.ensures.said c.refuse.ensures.status
+    (g.met.S.Sink.took_nothing c.args.out.now) (play_number c.args.program.now c.args.flows.now c.args.events.now) c.in-Err.ensures.stops c.refuse.ensures.said c.refuse.ensures.status

@@ -5,7 +5,6 @@ use Rattle.sig_runs.proofs.Loads.{run_number}
 use Rattle.sig_runs.proofs.OneRun.{one_run_outcome}
 use Rattle.sig_runs.proofs.Written.{performs_run}
 use Rattle.sig_runs.proofs.command.run_command.Goals as goal
-use Rattle.std.proofs.Common.{refl}
 
 pub returns-in-Ok : goal.returns-in-Ok
 returns-in-Ok g c =
@@ -23,4 +22,4 @@ returns-in-Err g c =
     (g.F.Files.misses c.args.files.now) (g.F.Files.misses c.load.new.files) (g.F.Files.faults c.args.files.now) (g.F.Files.faults c.load.new.files)
     (one_run_outcome c.args.program.now c.args.flows.now c.args.settings) g.S.Sink.took c.args.out.now (g.S.Sink.faults c.args.out.now) (g.S.Sink.faults c.args.out.now) (g.S.Sink.clean c.args.out.now)
     (SaysLine g.E.Sink.took (g.E.Sink.faults c.args.err.now) (g.E.Sink.faults c.refuse.new.err) c.args.err.now c.refuse.new.err) c.refuse.result c.in-Err.refusal
-    (g.met.S.Sink.took_nothing c.args.out.now) (run_number c.args.program.now c.args.flows.now) (c.in-Err.ensures.stops c.args.settings refl) c.refuse.ensures.said c.refuse.ensures.status
+    (g.met.S.Sink.took_nothing c.args.out.now) (run_number c.args.program.now c.args.flows.now) c.in-Err.ensures.stops c.refuse.ensures.said c.refuse.ensures.status

@@ -1,13 +1,13 @@
-use Rattle.std.proofs.Common.{subst}
+use Rattle.std.proofs.Common.{None, subst}
 use Rattle.sig_words.specs.declared.command.Command.{Command}
-use Rattle.sig_tool.specs.Commands.{IsBuilt, IsLimited}
+use Rattle.sig_tool.specs.Commands.{IsLimited}
 use Rattle.sig_tool.proofs.perform.perform.Goals as goal
 
 pub run-requires-clause-bounds : goal.run-requires-clause-bounds
 run-requires-clause-bounds g c κs within = (subst (λ (d : Command). IsLimited d) c.in-Run.is c.requires.limited).settings
 
-pub run-requires-clause-built : goal.run-requires-clause-built
-run-requires-clause-built g c κs within = subst (λ (d : Command). IsBuilt d) c.in-Run.is c.requires.built
+pub run-requires-clause-few : goal.run-requires-clause-few
+run-requires-clause-few g c κs within = (subst (λ (d : Command). IsLimited d) c.in-Run.is c.requires.limited).settings.workers
 
 pub load_command-requires-clause-bounds : goal.load_command-requires-clause-bounds
 load_command-requires-clause-bounds g c κs within = (subst (λ (d : Command). IsLimited d) c.in-Load.is c.requires.limited).settings
@@ -48,3 +48,29 @@ returns-in-Tree-clause-performs g c = rw c.in-Tree.is (rw c.name_of-in-Tree.ensu
 
 pub returns-in-Code-clause-performs : goal.returns-in-Code-clause-performs
 returns-in-Code-clause-performs g c = rw c.in-Code.is (rw c.name_of-in-Code.ensures at c.compile_command-in-Code.ensures)
+
+-- a load asks for no file
+
+pub returns-in-Load-clause-load : goal.returns-in-Load-clause-load
+returns-in-Load-clause-load g c = rw c.in-Load.is (λ contents. c.load_command.ensures contents None 0 0)
+
+pub returns-in-Run-clause-load : goal.returns-in-Run-clause-load
+returns-in-Run-clause-load g c = rw c.in-Run.is tt
+
+pub returns-in-Play-clause-load : goal.returns-in-Play-clause-load
+returns-in-Play-clause-load g c = rw c.in-Play.is tt
+
+pub returns-in-Print-clause-load : goal.returns-in-Print-clause-load
+returns-in-Print-clause-load g c = rw c.in-Print.is tt
+
+pub returns-in-Judge-clause-load : goal.returns-in-Judge-clause-load
+returns-in-Judge-clause-load g c = rw c.in-Judge.is tt
+
+pub returns-in-Check-clause-load : goal.returns-in-Check-clause-load
+returns-in-Check-clause-load g c = rw c.in-Check.is tt
+
+pub returns-in-Tree-clause-load : goal.returns-in-Tree-clause-load
+returns-in-Tree-clause-load g c = rw c.in-Tree.is tt
+
+pub returns-in-Code-clause-load : goal.returns-in-Code-clause-load
+returns-in-Code-clause-load g c = rw c.in-Code.is tt

@@ -1,19 +1,22 @@
-use Rattle.std.proofs.Common.{◌≡◌, ◌⊎◌, [], inl, inr, refl, subst, sym}
+use Rattle.std.proofs.Common.{◌≡◌, ◌⊎◌, [], Option, None, inl, inr, refl, subst, sym}
 use Rattle.std.specs.Prelude.{IfSome}
 use Rattle.sig_text.specs.Counts.{Rose}
+use Rattle.sig_text.specs.Files.{Contents}
 use Rattle.sig_text.specs.Sink.{TookPrefix}
 use Rattle.sig_words.specs.Commands.{files_of}
 use Rattle.sig_words.specs.Readings.{texts}
-use Rattle.sig_outcome.specs.Tasks.{IsDone, IsDue, IsRefusedBy, MayAnswer, SaysLine}
-use Rattle.sig_tool.specs.TopCall.{ComesTo, CompilesBeyondBound, HasBegun, IsAbout, IsStatusOf, OfOutcome}
+use Rattle.sig_outcome.specs.Tasks.{IsCut, IsDone, IsDue, IsRefusedBy, MayAnswer, Performs, SaysLine}
+use Rattle.sig_tool.specs.TopCall.{ComesTo, CompilesBeyondBound, HasBegun, IfLoad, IsAbout, IsStatusOf, OfOutcome}
 use Rattle.sig_words.specs.declared.command.Command.{Command}
 use Rattle.sig_words.specs.declared.command.Command.TheVariants.{Play, Run}
 use Rattle.sig_outcome.proofs.Refused.{told, told_both}
+use Rattle.sig_loads.specs.Complete.{CanLoad}
+use Rattle.sig_loads.specs.Loads.{loading}
 use Rattle.sig_plays.proofs.Ending.{has_play}
 use Rattle.sig_runs.proofs.Ending.{has_run}
 use Rattle.sig_tool.specs.Complete.{CanBeDone}
-use Rattle.sig_tool.proofs.Complete.{complete}
-use Rattle.sig_tool.proofs.CommandWords.{of_one, refused_unread}
+use Rattle.sig_tool.proofs.Complete.{complete, load_complete, load_unread_complete}
+use Rattle.sig_tool.proofs.CommandWords.{load_unread, of_one, refused_unread}
 use Rattle.sig_tool.proofs.TopClauses.{is_status}
 use Rattle.sig_tool.proofs.top.sig_main.Goals as goal
 
@@ -89,6 +92,12 @@ returns-in-Ok-clause-budget g c = λ eight.
     (λ command. IfSome (g.F.Files.contents c.args.files.now) (λ held. CompilesBeyondBound held command))
     c.in-Ok.ensures.only (c.perform.ensures.performs.budget eight)
 
+pub returns-in-Ok-clause-cut : goal.returns-in-Ok-clause-cut
+returns-in-Ok-clause-cut g c = λ six.
+    of_one (texts c.args.words.now) c.in-Ok.command
+    (λ command. IfSome (g.F.Files.contents c.args.files.now) (λ held. IsCut (ComesTo held command) g.S.Sink.took c.args.out.now c.perform.new.out))
+    c.in-Ok.ensures.only (c.perform.ensures.performs.cut six)
+
 pub returns-in-Ok-clause-refused : goal.returns-in-Ok-clause-refused
 returns-in-Ok-clause-refused g c = λ refuses.
     of_one (texts c.args.words.now) c.in-Ok.command
@@ -109,7 +118,31 @@ returns-in-Ok-clause-words_line g c = λ none two. absurd (none c.in-Ok.command 
 pub returns-in-Ok-clause-items_line : goal.returns-in-Ok-clause-items_line
 returns-in-Ok-clause-items_line g c = λ two d is built. c.perform.ensures.performs.items_line two
 
+pub returns-in-Ok-clause-load : goal.returns-in-Ok-clause-load
+returns-in-Ok-clause-load g c =
+    of_one (texts c.args.words.now) c.in-Ok.command
+    (λ command. IfLoad command (λ seed stages settings. (contents : Option Contents) → Performs (loading seed stages settings) contents None None 0 0 0 0
+    g.S.Sink.took c.args.out.now c.perform.new.out (g.S.Sink.faults c.args.out.now) (g.S.Sink.faults c.perform.new.out) (g.S.Sink.clean c.perform.new.out)
+    (SaysLine g.E.Sink.took (g.E.Sink.faults c.args.err.now) (g.E.Sink.faults c.perform.new.err) c.args.err.now c.perform.new.err) c.perform.result))
+    c.in-Ok.ensures.only c.perform.ensures.load
+
+pub returns-in-Ok-clause-load_complete : goal.returns-in-Ok-clause-load_complete
+returns-in-Ok-clause-load_complete g c = λ written.
+    of_one (texts c.args.words.now) c.in-Ok.command
+    (λ command. IfLoad command (λ seed stages settings. CanLoad seed stages settings → IsDone c.perform.result ⊎ ((c.perform.result ≡ 7) ⊎ (c.perform.result ≡ 8))))
+    c.in-Ok.ensures.only
+    (load_complete c.in-Ok.command c.perform.result g.S.Sink.took c.args.out.now c.perform.new.out (g.S.Sink.faults c.args.out.now) (g.S.Sink.faults c.perform.new.out) (g.S.Sink.clean c.perform.new.out)
+    (SaysLine g.E.Sink.took (g.E.Sink.faults c.args.err.now) (g.E.Sink.faults c.perform.new.err) c.args.err.now c.perform.new.err)
+    c.perform.ensures.load written)
+
 -- ---- memory was wanting to read the words
+
+pub returns-in-Err-OutOfMemory-clause-load : goal.returns-in-Err-OutOfMemory-clause-load
+returns-in-Err-OutOfMemory-clause-load g c = λ d is built.
+    load_unread d g.S.Sink.took c.args.out.now (g.S.Sink.faults c.args.out.now) (g.S.Sink.clean c.args.out.now) _ (g.met.S.Sink.took_nothing c.args.out.now) c.say_no_memory.ensures
+
+pub returns-in-Err-OutOfMemory-clause-load_complete : goal.returns-in-Err-OutOfMemory-clause-load_complete
+returns-in-Err-OutOfMemory-clause-load_complete g c = λ written d is built. load_unread_complete d 7 refl
 
 pub returns-in-Err-OutOfMemory-clause-complete : goal.returns-in-Err-OutOfMemory-clause-complete
 returns-in-Err-OutOfMemory-clause-complete g c = λ read written d is built. told (g.F.Files.contents c.args.files.now) _ (λ held can. inr (inl refl))

@@ -1,0 +1,73 @@
+-- The least signals of the clock classes are no more than the unknowns.
+use Rattle.std.proofs.Common.{◌≡◌, ◌<◌, ◌≤◌, ◌⊎◌, inl, inr, ℕ, Bool, true, false, cond, eqb, count_by, filter, List, [], ◌∷◌, length, get_or, refl, sym, ap, ◌∙◌, subst, arith, Contains}
+use Rattle.std.specs.Prelude.{suc}
+use Rattle.std.specs.List.{range_with_len}
+use Rattle.std.proofs.lemmas.Bool.{cases_lt, eq-eqb, false≢true}
+use Rattle.std.proofs.lemmas.List.Sums.{length-filter}
+use Rattle.sig_clock.specs.SameClocks.{AreLeast, itself}
+use Rattle.sig_clock.proofs.Lists.{contains_head, contains_later}
+use Rattle.sig_kernel.specs.declared.kernel.Kernel.{Kernel}
+use Rattle.sig_rel.specs.Relations.{IsUnknownCount, is_boolean}
+use Rattle.sig_solve.specs.Frames.{leaders_of}
+use Rattle.sig_solve.proofs.FrameLemmas.{least_below, least_twice}
+use Rattle.sig_solve.proofs.ListLemmas.{in_filter, in_range, of_filter, of_range}
+use Rattle.sig_solve.proofs.RootLemmas.{ordered_leaders}
+use Rattle.sig_pace.specs.Leaders.{AreLeaders}
+
+filter_same : (p q : ℕ → Bool) (xs : List ℕ) → ((x : ℕ) → Contains xs x → p x ≡ q x) → length (filter p xs) ≡ length (filter q xs)
+filter_same p q [] same = refl
+filter_same p q (x ∷ xs) same = by (p x) (q x) (same x (contains_head x xs)) (filter_same p q xs (λ y there. same y (contains_later x y xs there))) where
+  by : (a b : Bool) → a ≡ b → length (filter p xs) ≡ length (filter q xs) → length (cond a (x ∷ filter p xs) (filter p xs)) ≡ length (cond b (x ∷ filter q xs) (filter q xs))
+  by true true e rest = ap suc rest
+  by false false e rest = rest
+  by true false e rest = absurd (false≢true (sym e))
+  by false true e rest = absurd (false≢true e)
+
+least_one : (kernel : Kernel) (a b : List ℕ) → AreLeast kernel a → AreLeast kernel b → (s : ℕ) → s < length kernel.signals → get_or a s 0 ≡ get_or b s 0
+least_one kernel a b is_a is_b s lt = omega (arith, is_a.least s (get_or b s 0) lt (is_b.same s lt), is_b.least s (get_or a s 0) lt (is_a.same s lt))
+
+module _ (kernel : Kernel) (least leaders : List ℕ) (are : AreLeast kernel least) (is : leaders ≡ leaders_of least) where
+  leader_there : (s : ℕ) → s < length kernel.signals → Contains leaders (get_or least s 0)
+  leader_there s lt =
+      let below = least_below kernel least are s lt in
+      let within : get_or least s 0 < length least = omega (arith, below, are.count) in
+      subst (λ (xs : List ℕ). Contains xs (get_or least s 0)) (sym is)
+      (in_filter (λ k. eqb (get_or least k 0) k) (range_with_len 0 (length least)) (get_or least s 0) (in_range (length least) (get_or least s 0) within)
+      (eq-eqb (get_or least (get_or least s 0) 0) (get_or least s 0) (least_twice kernel least are s lt)))
+
+  leader_signal : (s : ℕ) → Contains leaders s → s < length kernel.signals
+  leader_signal s there =
+      let parts = of_filter (λ k. eqb (get_or least k 0) k) (range_with_len 0 (length least)) s (subst (λ (xs : List ℕ). Contains xs s) is there) in
+      let lt = of_range (length least) s parts.0 in
+      omega (arith, lt, are.count)
+
+  module _ (u : ℕ) (count : IsUnknownCount kernel u) where
+    leaders_count : length leaders ≡ count_by (λ s. eqb (get_or count.0 s 0) s) (range_with_len 0 (length kernel.signals))
+    leaders_count =
+        let range = range_with_len 0 (length kernel.signals) in
+        ap length is
+        ∙ ap (λ n. length (filter (λ s. eqb (get_or least s 0) s) (range_with_len 0 n))) are.count
+        ∙ filter_same (λ s. eqb (get_or least s 0) s) (λ s. eqb (get_or count.0 s 0) s) range (λ s there. ap (λ k. eqb k s) (least_one kernel least count.0 are count.1 s (of_range (length kernel.signals) s there)))
+        ∙ length-filter (λ s. eqb (get_or count.0 s 0) s) range
+
+    few_leaders : length leaders ≤ u
+    few_leaders = let e = leaders_count in let sum = count.2 in omega (arith, e, sum)
+
+    some_leader : (u ≡ 0) ⊎ (1 ≤ length leaders)
+    some_leader = by (cases_lt 0 (length kernel.signals)) where
+      by : ((0 < length kernel.signals) ⊎ (length kernel.signals ≤ 0)) → (u ≡ 0) ⊎ (1 ≤ length leaders)
+      by (inl pos) = let there = leader_there 0 pos in inr (let lt = there.1 in omega (arith, lt))
+      by (inr none) =
+          let empty : length kernel.signals ≡ 0 = omega (arith, none) in
+          let classes : count_by (λ s. eqb (get_or count.0 s 0) s) (range_with_len 0 (length kernel.signals)) ≡ 0 = ap (λ n. count_by (λ s. eqb (get_or count.0 s 0) s) (range_with_len 0 n)) empty in
+          let booleans : count_by (is_boolean kernel) (range_with_len 0 (length kernel.signals)) ≡ 0 = ap (λ n. count_by (is_boolean kernel) (range_with_len 0 n)) empty in
+          inl (count.2 ∙ omega (arith, classes, booleans))
+
+  pub leaders_are : AreLeaders kernel leaders
+  leaders_are = record {
+    order = ordered_leaders least leaders is;
+    are = leader_signal;
+    all = λ s lt. (get_or least s 0, leader_there s lt, are.same s lt, are.least s s lt (itself s));
+    few = few_leaders;
+    some = some_leader;
+  }

@@ -1,0 +1,89 @@
+-- The names of paces: which declared signal is the first that has one.
+use Rattle.std.proofs.Common.{◌≡◌, ◌<◌, ◌≤◌, ◌+◌, ◌⊎◌, inl, inr, ◌||◌, ℕ, Bool, true, false, List, [], ◌∷◌, length, take, sym, ap, ◌∙◌, refl, arith}
+use Rattle.std.specs.Prelude.{zero, suc, None, Some, bytes_eq, slice_get}
+use Rattle.std.proofs.lemmas.Bool.{cases_lt, false≢true}
+use Rattle.std.proofs.lemmas.Slice.Eq.{bytes_eq-Decides}
+use Rattle.sig_base.specs.declared.ids.SigId.{SigId}
+use Rattle.sig_base.specs.declared.signal.Signal.{Signal}
+use Rattle.sig_kernel.specs.declared.kernel.Kernel.{Kernel}
+use Rattle.sig_pace.specs.Names.{FindsNamed, is_named}
+use Rattle.sig_pace.specs.Paced.{IsTaken, NeedsPaces, pace_name, paces_from}
+use Rattle.sig_pace.specs.Refusals.{IsNameTaken}
+
+-- ---- names
+
+or_cases : (a b : Bool) → (a || b) ≡ true → (a ≡ true) ⊎ (b ≡ true)
+or_cases true b is = inl refl
+or_cases false b is = inr is
+
+or_right : (a b : Bool) → b ≡ true → (a || b) ≡ true
+or_right true b is = refl
+or_right false b is = is
+
+-- what is named as a pace has its name
+pub named_pace : (kernel : Kernel) (n : ℕ) (least : List ℕ) (signal : Signal) → is_named (paces_from kernel n least) signal ≡ true → (number : ℕ) × (n ≤ number) × (number < n + length least) × (signal.name ≡ pace_name number)
+named_pace kernel n [] signal is = absurd (false≢true is)
+named_pace kernel n (m ∷ least) signal is = elim (or_cases (bytes_eq signal.name (pace_name n)) (is_named (paces_from kernel (suc n) least) signal) is) [
+  | inl here ↦ (n, omega arith, omega arith, (bytes_eq-Decides signal.name (pace_name n)).0 here)
+  | inr later ↦
+      let rest = named_pace kernel (suc n) least signal later in
+      (rest.0, let a = rest.1 in omega (arith, a), let a = rest.2 in omega (arith, a), rest.3)
+]
+
+-- and what has its name is named as a pace
+pub pace_named : (kernel : Kernel) (n : ℕ) (least : List ℕ) (signal : Signal) (number : ℕ) → n ≤ number → number < n + length least → signal.name ≡ pace_name number → is_named (paces_from kernel n least) signal ≡ true
+pace_named kernel n [] signal number low high is = absurd (omega (arith, low, high))
+pace_named kernel n (m ∷ least) signal number low high is = elim (cases_lt n number) [
+  | inl less ↦ or_right (bytes_eq signal.name (pace_name n)) (is_named (paces_from kernel (suc n) least) signal) (pace_named kernel (suc n) least signal number (omega (arith, less)) (omega (arith, high)) is)
+  | inr up ↦
+      let same : number ≡ n = omega (arith, low, up) in
+      let here = (bytes_eq-Decides signal.name (pace_name n)).1 (is ∙ ap pace_name same) in
+      ap (λ b. b || is_named (paces_from kernel (suc n) least) signal) here
+]
+
+-- the first signals of a list
+get_taken : {X : Type 0} (xs : List X) (k j : ℕ) (x : X) → slice_get (take k xs) j ≡ Some x → (j < k) × (slice_get xs j ≡ Some x)
+get_taken xs zero j x at = absurd (let e : None ≡ Some x = at in cc)
+get_taken [] (suc k) j x at = absurd (let e : None ≡ Some x = at in cc)
+get_taken (y ∷ xs) (suc k) zero x at = (omega arith, at)
+get_taken (y ∷ xs) (suc k) (suc j) x at = let rest = get_taken xs k j x at in (omega (arith, rest.0), rest.1)
+
+of_taken : {X : Type 0} (xs : List X) (k j : ℕ) (x : X) → j < k → slice_get xs j ≡ Some x → slice_get (take k xs) j ≡ Some x
+of_taken xs zero j x lt at = absurd (omega (arith, lt))
+of_taken [] (suc k) j x lt at = absurd (let e : None ≡ Some x = at in cc)
+of_taken (y ∷ xs) (suc k) zero x lt at = at
+of_taken (y ∷ xs) (suc k) (suc j) x lt at = of_taken xs k j x (omega (arith, lt)) at
+
+module _ (kernel : Kernel) (least : List ℕ) where
+  -- a taken name is found
+  taken_named : (s : ℕ) (taken : IsTaken kernel least s) → (slice_get (take kernel.declared kernel.signals) s ≡ Some taken.found) × (is_named (paces_from kernel 1 least) taken.found ≡ true)
+  taken_named s taken = (
+    of_taken kernel.signals kernel.declared s taken.found (let lt = taken.declared in omega (arith, lt)) taken.is,
+    pace_named kernel 1 least taken.found taken.number taken.counted.0 (let le = taken.counted.1 in omega (arith, le)) taken.named,
+  )
+
+  pub none_taken : FindsNamed (take kernel.declared kernel.signals) (paces_from kernel 1 least) None → (s : ℕ) → IsTaken kernel least s → ⊥
+  none_taken none s taken = let at = taken_named s taken in false≢true (sym (none s taken.found at.0) ∙ at.1)
+
+  pub first_taken : (x : SigId) → NeedsPaces kernel least → FindsNamed (take kernel.declared kernel.signals) (paces_from kernel 1 least) (Some x) → IsNameTaken kernel x.0
+  first_taken x needs found =
+      let at = get_taken kernel.signals kernel.declared x.0 found.0 found.1 in
+      let name = named_pace kernel 1 least found.0 found.2 in
+      record {
+        least = least;
+        needs = needs;
+        first = record {
+          holds = record {
+            declared = let lt = at.0 in omega (arith, lt);
+            found = found.0;
+            is = at.1;
+            number = name.0;
+            counted = (name.1, let lt = name.2 in omega (arith, lt));
+            named = name.3;
+          };
+          least = λ other taken. elim (cases_lt other x.0) [
+            | inl less ↦ (let there = taken_named other taken in absurd (false≢true (sym (found.3 other taken.found less there.0) ∙ there.1)))
+            | inr le ↦ le
+          ];
+        };
+      }

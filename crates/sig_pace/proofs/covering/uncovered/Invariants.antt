@@ -1,0 +1,6 @@
+use Rattle.std.proofs.Common.{take}
+use Rattle.sig_pace.specs.Tops.{IsCover}
+use Rattle.sig_pace.proofs.covering.uncovered.Given as goal
+
+abbrev pub invariant-loop-signal : goal.invariant-loop-signal
+invariant-loop-signal l = IsCover l.asked.kernel.now (take l.signal-index l.signals) l.found.items

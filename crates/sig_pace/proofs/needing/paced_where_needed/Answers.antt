@@ -1,0 +1,18 @@
+use Rattle.std.proofs.Common.{sym, subst}
+use Rattle.sig_pace.specs.MaximalClocks.{AreMaximalClocks}
+use Rattle.sig_pace.specs.Tops.{AreMaxima}
+use Rattle.sig_pace.proofs.MaximaLemmas.{few_need_none, many_need_paces}
+use Rattle.sig_pace.proofs.ShareLemmas.{keeps_maximal}
+use Rattle.sig_pace.proofs.needing.paced_where_needed.Goals as goal
+
+pub returns-in_err-maxima-clause-share : goal.returns-in_err-maxima-clause-share
+returns-in_err-maxima-clause-share c =
+    keeps_maximal c.args.kernel.now c.args.store.now c.maximal_clocks.new.store c.in_err-maxima.field-0.0 c.in_err-maxima.ensures.share c.from_residual-in_err-maxima.result c.from_residual-in_err-maxima.ensures.1
+
+pub returns-then-least-lt2-clause-paced : goal.returns-then-least-lt2-clause-paced
+returns-then-least-lt2-clause-paced c =
+    few_need_none c.args.kernel.now c.as_slice-least.result.now (subst (AreMaxima c.args.kernel.now) (sym c.as_slice-least.ensures.value) c.in_ok-maxima.ensures.value) c.if-least-lt2.true
+
+pub with_paces-requires-clause-needs : goal.with_paces-requires-clause-needs
+with_paces-requires-clause-needs c =
+    many_need_paces c.args.kernel.now c.as_slice-least.result.now (subst (AreMaximalClocks c.args.kernel.now) (sym c.as_slice-least.ensures.value) c.in_ok-maxima.ensures.value.clocks) c.if-least-lt2.false

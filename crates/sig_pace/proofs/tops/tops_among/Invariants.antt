@@ -1,0 +1,6 @@
+use Rattle.std.proofs.Common.{take}
+use Rattle.sig_pace.specs.Tops.{AreTops}
+use Rattle.sig_pace.proofs.tops.tops_among.Given as goal
+
+abbrev pub invariant-loop-candidate : goal.invariant-loop-candidate
+invariant-loop-candidate l = AreTops l.asked.kernel.now (take l.candidate-index l.candidates) l.tops.items

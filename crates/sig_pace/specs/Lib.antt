@@ -1,0 +1,10 @@
+pub mod Answers
+pub mod Asked
+pub mod Leaders
+pub mod MaximalClocks
+pub mod Names
+pub mod Paced
+pub mod Refusals
+pub mod Renumbering
+pub mod Restriction
+pub mod Tops

@@ -1,0 +1,35 @@
+//! The least signals of the clock classes.
+
+ghost use Rattle.std.specs.Prelude.{◌≡◌, ◌≤◌, length, IfOk};
+ghost use Rattle.sig_kernel.specs.Validity.{IsValid};
+ghost use Rattle.sig_pace.specs.Leaders.{AreLeaders};
+ghost use Rattle.sig_solve.specs.Frames.{leaders_of};
+
+use sig_clock::{ClockBase, same_clock};
+use sig_kernel::Kernel;
+use std::alloc::{AllocError, Global};
+
+/// The signals that are the least of their clock class, by number.
+pub(crate) fn class_leaders(alloc: Global, kernel: &Kernel) -> Result<Vec<u32>, ClockBase>
+    requires { IsValid kernel.now }
+    ensures { IfOk result (λ leaders. AreLeaders kernel.now leaders.items) }
+{
+    let least = same_clock(alloc, kernel)?;
+    let classes = least.as_slice();
+    let leaders = leaders(alloc, classes)?;
+    Ok(leaders)
+}
+
+/// The numbers that stand at their own places.
+fn leaders(alloc: Global, least: &[u32]) -> Result<Vec<u32>, AllocError>
+    requires { length least.now ≤ 512 }
+    ensures { IfOk result (λ leaders. leaders.items ≡ leaders_of least.now) }
+{
+    let mut leaders = Vec::new(alloc);
+    for (signal, class) in least.iter().enumerate() {
+        if *class == signal as u32 {
+            leaders.push(*class)?;
+        }
+    }
+    Ok(leaders)
+}
