@@ -4,6 +4,8 @@ mod clock;
 mod dd;
 mod diagrams;
 mod hier;
+mod pace;
 mod rel;
 mod solve;
 mod texts;
+mod writing;

@@ -323,16 +323,16 @@ fn two_and_both(store: &mut Store, v: u32, w: u32) -> Result<(Ref, Ref, Ref), Dd
     Ok((first, second, both))
 }
 
-// The top of down is cut: it is variable 1, and the truth of the condition is variable 3.
+// The top of down is cut: it is variable 1, and the truth of the condition is variable 2.
 #[test]
 fn the_clocks_of_down_by_cuts(rt: HostRuntime) -> Result<(), Fail> {
     let alloc = rt.alloc();
     let mut store = Store::new(alloc, 1000)?;
     let found = cut_system_of(alloc, &down(alloc)?, &mut store)?.ok_or("not valid")?;
-    let (t, b, a) = two_and_both(&mut store, 1, 3)?;
+    let (t, b, a) = two_and_both(&mut store, 1, 2)?;
     assert!(rt; is_written(&found, &[a, t, t, t, t, a], &[a, t, t, t, b, a]));
     assert!(rt; found.residue == store.constant(true) && found.speaks == t);
-    assert!(rt; is_over(&found, 1, 3, &[3]));
+    assert!(rt; is_over(&found, 1, 3, &[2]));
     Ok(())
 }
 

@@ -139,3 +139,23 @@ fn two_truths_answer(rt: HostRuntime) -> Result<(), Fail> {
     assert_eq!(rt; store.len(), count);
     Ok(())
 }
+
+#[test]
+fn many_supports_answer(rt: HostRuntime) -> Result<(), Fail> {
+    let mut store = Store::new(rt.alloc(), 100)?;
+    let early = store.variable(63)?;
+    let late = store.variable(64)?;
+    let last = store.variable(130)?;
+    let both = store.conj(last, early)?;
+    let some = store.disj(both, late)?;
+    let lists = store.supports(&[some, store.constant(true), both, late])?;
+    let lengths = [3, 0, 2, 1];
+    let variables = [63, 64, 130, 63, 130, 64];
+    let mut found = Vec::new(rt.alloc());
+    for (i, list) in lists.as_slice().iter().enumerate() {
+        assert_eq!(rt; lengths.get(i).copied(), Some(list.as_slice().len()));
+        found.extend_from_slice(list.as_slice())?;
+    }
+    assert_eq!(rt; found.as_slice(), variables.as_slice());
+    Ok(())
+}

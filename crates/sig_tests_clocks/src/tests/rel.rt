@@ -47,23 +47,21 @@ where integer AGE; boolean LATE, WAS;
 end;
 ";
 
-/// How many classes the triangle of a program has, and which is the first; nothing where it has none.
-fn triangle_of(alloc: Global, text: &[u8]) -> Result<Option<(usize, Option<u32>)>, Fail> {
-    let found = triangle(alloc, &kernel_of(alloc, text)?)?;
-    Ok(found.map(|classes| (classes.len(), classes.first().copied())))
+/// The classes of a program's triangle; nothing where it has none.
+fn triangle_of(alloc: Global, text: &[u8]) -> Result<Option<Vec<u32>>, Fail> {
+    Ok(triangle(alloc, &kernel_of(alloc, text)?)?)
 }
 
-// That of the countdown is 1, 0. The first class of the watchdog is the top.
+// The first class of the watchdog is the top.
 #[test]
 fn some_kernels_are_triangular(rt: HostRuntime) -> Result<(), Fail> {
-    let rows: [(&[u8], Option<(usize, Option<u32>)>); 3] = [
-        (DOWN, Some((2, Some(1)))),
-        (WATCH, Some((7, Some(0)))),
-        (TWO_ROOTS, None),
-    ];
-    for (text, wanted) in rows {
-        assert_eq!(rt; triangle_of(rt.alloc(), text)?, wanted);
+    let rows: [(&[u8], usize, &[u32]); 2] = [(DOWN, 2, &[1, 0]), (WATCH, 7, &[0])];
+    for (text, count, first) in rows {
+        let classes = triangle_of(rt.alloc(), text)?.ok_or("not triangular")?;
+        assert_eq!(rt; classes.len(), count);
+        assert!(rt; classes.as_slice().starts_with(first));
     }
+    assert!(rt; triangle_of(rt.alloc(), TWO_ROOTS)?.is_none());
     Ok(())
 }
 
@@ -244,10 +242,10 @@ impl Known {
     }
 }
 
-/// The system of a program without cuts, with room for so many nodes.
-fn free_within(alloc: Global, text: &[u8], nodes: u32) -> Result<String, Fail> {
+/// The system of a program without cuts, by letters of the first two variables.
+fn free_by(alloc: Global, text: &[u8]) -> Result<String, Fail> {
     let kernel = kernel_of(alloc, text)?;
-    let mut store = Store::new(alloc, nodes)?;
+    let mut store = Store::new(alloc, 1000)?;
     let found = free_system_of(alloc, &kernel, &mut store)?.ok_or("not free")?;
     let known = Known::new(&mut store, 0, 1)?;
     Ok(known.shown(alloc, &found)?)
@@ -266,25 +264,25 @@ fn cut_by(alloc: Global, text: &[u8], v: u32, w: u32) -> Result<String, Fail> {
 #[test]
 fn the_clocks_without_cuts(rt: HostRuntime) -> Result<(), Fail> {
     let alloc = rt.alloc();
-    let rows: [(&[u8], &str); 2] = [
-        (DOWN, "vttttv vtttvv t t 0 1 [0]"),
-        (SAMPLED_BY_TWO, "tttvwbv vwtvwbv t t 0 2 [0, 1]"),
+    let rows: [(&[u8], u32, &str); 2] = [
+        (DOWN, 1, "vttttv vtttvv t t 0 1 [0]"),
+        (SAMPLED_BY_TWO, 3, "tttvwbv vwtvwbv t t 0 2 [0, 1]"),
     ];
-    for (text, wanted) in rows {
-        assert_eq!(rt; free_within(alloc, text, 1000)?.as_str(), wanted);
+    for (text, nodes, wanted) in rows {
+        let mut store = Store::new(alloc, nodes)?;
+        assert!(rt; free_system_of(alloc, &kernel_of(alloc, text)?, &mut store)?.is_some());
+        assert_eq!(rt; free_by(alloc, text)?.as_str(), wanted);
     }
-    let mut store = Store::new(alloc, 1)?;
-    assert!(rt; free_system_of(alloc, &kernel_of(alloc, DOWN)?, &mut store)?.is_some());
     Ok(())
 }
 
-// The top of the countdown is cut: it is variable 1, and the truth of the condition is variable 3. The inputs of the
-// second are classes that nothing determines, and nothing is left to be met. The third is present or absent as a
-// whole, and where it is present B is true.
+// The top of the countdown is cut: it is variable 1, and the truth of the condition is variable 2; on the third one
+// nothing depends. The inputs of the second are classes that nothing determines, and nothing is left to be met. The
+// third is present or absent as a whole, and where it is present B is true.
 #[test]
 fn the_clocks_by_cuts(rt: HostRuntime) -> Result<(), Fail> {
     let rows: [(&[u8], u32, u32, &str); 3] = [
-        (DOWN, 1, 3, "bvvvvb bvvvwb t v 1 3 [3]"),
+        (DOWN, 1, 2, "bvvvvb bvvvwb t v 1 3 [2]"),
         (TWO_ROOTS, 0, 1, "vwvw vwvw t ? 0 2 []"),
         (FORCED, 1, 2, "vvv vwv i v 1 2 [2]"),
     ];

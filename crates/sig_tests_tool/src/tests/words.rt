@@ -47,11 +47,11 @@ fn refuses_words(rt: HostRuntime) -> Result<(), Fail> {
         &["run", "P", "F", "--instants", "0"],
         &["run", "P", "F", "--instants"],
         &["check", "P", "--pace=1"],
-        &["check", "P", "--pace"],
+        &["check", "P", "--pace", "1"],
         &["load", "1", "13"],
         &["load", "1", "3", "--instants", "5"],
         &["exec", "P", "F"],
-        &["run", "P", "F", "--pace"],
+        &["print", "P", "--pace"],
         &["run", "P", "F", "--pace=1"],
     ];
     for line in lines {
