@@ -13,6 +13,7 @@ import tempfile
 import threading
 
 import sigclib
+from sigcrun import NO_DASH
 
 TOP = os.path.dirname(os.path.dirname(os.path.realpath(__file__)))
 # What ./sigc says of a build goes on to standard error at once; all else is sigc's own.
@@ -139,7 +140,7 @@ class Program:
 def text_of(path):
     """The text of a file that the user names, a byte a character; Refused, as sigc words it, where it cannot be read."""
     if path == "-":
-        raise Refused("error: - is no file here: to read from standard input, name /dev/stdin", 5)
+        raise Refused(f"error: {NO_DASH}", 5)
     try:
         return sigclib.read_text(path)
     except FileNotFoundError:

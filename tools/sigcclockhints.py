@@ -1,9 +1,14 @@
 """What most likely is wrong where sigc refuses clocks: the beginners' mistakes of docs/errors.md, as far as the text shows them."""
+import re
+
 from sigccause import told_of
+from sigcedit import Edit
 from sigckinds import kind_of, kinds_of
 from sigclint import is_used
-from sigcmend import Edit, definitions, is_asked, narrowed_operands, written_twice
+from sigcloops import above, definitions, untied
+from sigcmend import narrowed_operands, written_twice
 from sigcread import source_of, walk, words_in
+from sigcties import are_merged, is_asked, unasked
 
 MARKS = {"or": "^+", "and": "^*"}
 
@@ -43,47 +48,101 @@ def sampled(reader, names):
     return None
 
 
-def is_of_the_past(process, name):
-    """Whether a signal's definition, and those that it names, come to a delay."""
-    defined, known, rest = definitions(process), set(), [name]
-    while rest:
-        it = rest.pop()
-        if it in defined and it not in known:
-            nodes = list(walk(defined[it]))
-            if any(node.op == "$" for node in nodes):
-                return True
-            rest += [node.at.text for node in nodes if node.op == "name"]
-        known.add(it)
-    return False
+def in_called(reader, process):
+    """Such a signal in a process that is called."""
+    called = {it.called.text for it in process.equations if it.called}
+    for it in reader.processes[1:]:
+        found = untied(it) if it.name.text in called and it.inputs else []
+        if found:
+            name, other = found[0].name, it.inputs[0].name.text
+            return [f"{name} of {it.name.text} is made of its own past: say there when it comes, as {name} ^= {other}"], "a-counter-without-a-clock", []
+    return None
+
+
+def of_the_past(reader, process, name, other):
+    """The signals that are made of their own past, and of which nothing says when they come, where a signal is made of these."""
+    found = above(process, name, untied(process))
+    if not found:
+        return in_called(reader, process)
+    if any(name in it.names for it in found):
+        return [f"{name} is made of its own past: say when it comes, as {name} ^= {other}"], "a-counter-without-a-clock", []
+    loops, inside = [it.name for it in found], set().union(*(it.names for it in found))
+    pace = next((it for loop in found for it in loop.others if it not in inside and process.declaration(it)), other)
+    words = f"{loops[0]} is made of its own past" if len(loops) == 1 else f"{', '.join(loops[:-1])} and {loops[-1]} are made of their own past"
+    return [f"{words}: say when {'it comes' if len(loops) == 1 else 'they come'}, as {' ^= '.join([*loops, pace])}"], "a-counter-without-a-clock", []
 
 
 def of_roots(reader, names):
     first = reader.processes[0]
     declared = [first.declaration(it) for it in names]
     for it, other in zip(declared, reversed(names)):
-        if it and it.role != "input" and is_of_the_past(first, it.name.text):
-            return [f"{it.name.text} is made of its own past: say when it comes, as {it.name.text} ^= {other}"], "a-counter-without-a-clock", []
+        found = of_the_past(reader, first, it.name.text, other) if it and it.role != "input" else None
+        if found:
+            return found
     for it in declared:
         if it and it.role == "input" and not is_used(first, it.name.text):
             return [f"{it.name.text} is used nowhere: take it out, or tie its clock"], "an-unused-input", []
     for it in declared:
         if it and it.role == "input" and it.kind == "event" and is_asked(first, it.name.text):
             return asked_event(it.name.text)
-    return sampled(reader, names)
+    return told_by_another(first, declared[::-1]) or sampled(reader, names) or of_inputs(declared, names)
+
+
+def told_by_another(process, declared):
+    """A boolean input that nothing asks, where an input has no clock: it was to tell when that one comes."""
+    for teller in unasked(process):
+        for it in declared:
+            if it and it.role == "input" and it is not teller and not is_tied(process, it.name.text):
+                return [f"nothing asks the boolean {teller.name.text}: is `{it.name.text} ^= when {teller.name.text}` meant?"], "", []
+    return None
+
+
+def is_tied(process, name):
+    """Whether a clock equation names a signal."""
+    return any(it.form == "clock" and name in [piece.text for piece in words_in(it.pieces)] for it in process.equations)
+
+
+def of_inputs(declared, names):
+    one, other = names
+    if not all(it and it.role == "input" for it in declared):
+        is_named = all(re.fullmatch(r"[A-Za-z]\w*", it) for it in names)
+        return ["a clock equation says how they relate" + (f", as `{one} ^= {other}`" if is_named else "")], "", []
+    words = f"say how they relate: `{one} ^= {other}` where they come together; where each comes by itself, two boolean inputs that come together tell which does"
+    return [words], "", []
 
 
 def asked_event(name):
     return [f"an event cannot be asked whether it comes: make {name} a boolean"], "an-event-as-a-reset", []
 
 
+def of_a_loop(process, name):
+    """Where a signal is made of one that comes at some instants of another one, by its own past."""
+    found = above(process, name, untied(process))
+    if not found or not found[0].others:
+        return None
+    loop, right = found[0], definitions(process)[found[0].name]
+    is_sampled = right.op == "when" and right.parts[-1].op == "name"
+    clock = f"when {right.parts[-1].at.text}" if is_sampled else loop.others[0]
+    return [f"{loop.name} is made of its own past: say when it comes, as {loop.name} ^= {clock}"], "a-counter-without-a-clock", []
+
+
 def of_a_clock(reader, names):
     first = reader.processes[0]
     declared = first.declaration(names[0])
-    if declared is None or declared.role != "input":
+    if declared and declared.role != "input":
+        return of_a_loop(first, names[0])
+    if declared is None:
         return None
+    found = told_by_another(first, [declared])
+    if found:
+        return found
     for node, _ in nodes_of(first):
         if node.op == "cell" and node.parts[0].op == "name" and node.parts[0].at.text == names[0]:
             return [f"where a value is held, does {names[0]} come too? A boolean input tells it"], "two-events-or-a-value-that-is-held-between-two-ticks", []
+    for it in first.inputs:
+        if it is not declared and are_merged(first, declared, it):
+            words = f"where {names[0]} and {it.name.text} come by themselves, two boolean inputs that come together tell which does, as `{names[0]} ^= when {names[0]}_COMES`"
+            return [words], "", []
     if declared.kind == "event":
         return asked_event(names[0])
     return None

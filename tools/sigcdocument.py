@@ -4,6 +4,7 @@ Editors count lines from 0 and characters in units of UTF-16; sigc counts lines 
 keeps its text a byte a character, as sigc sees it, and turns places over where they go in and out.
 """
 import sigccause
+import sigcedit
 import sigchints
 import sigclint
 import sigcmend
@@ -82,7 +83,7 @@ class Document:
             if hint.edits:
                 found.append(self.action(hint.lines[-1], hint.edits, refusal))
             if sigccause.told_of(refusal.text):
-                found += [self.action(it.words, [sigcmend.difference(self.text, it.text)], refusal) for it in self.clock_mends()]
+                found += [self.action(it.words, [sigcedit.difference(self.text, it.text)], refusal) for it in self.clock_mends()]
         return found
 
     def clock_mends(self):

@@ -1,10 +1,10 @@
 """What most likely is wrong with a line of a flow file, an event file or a trace file that sigc refuses."""
 import re
 
-from sigchints import near
+from sigcnear import near
 
+PACE = re.compile(r"pace_[1-9][0-9]*")
 COMMENTS = ("%", "#", "//", "--", ";")
-TRUTHS = {"1", "0", "t", "f", "yes", "no", "on", "off", "true", "false"}
 FILES = {"run": ("flow",), "play": ("flow", "event"), "judge": ("trace",)}
 
 
@@ -12,8 +12,9 @@ def words_with_columns(line):
     return [(it.group(), it.start() + 1) for it in re.finditer(r"[^ \t\r]+", line)]
 
 
-def hint_of_file(sort, said, text, line, col, signals):
-    """Lines of words for a refusal of a file; `signals` has the kinds of those that the file may name."""
+def hint_of_file(sort, said, text, line, col, signals, is_paced=False):
+    """Lines of words for a refusal of a file; `signals` has the kinds of those that the file may name, and `is_paced`
+    says whether --pace adds inputs."""
     lines = text.split("\n")
     row = lines[line - 1] if 1 <= line <= len(lines) else ""
     if row.startswith("\xef\xbb\xbf"):
@@ -23,7 +24,7 @@ def hint_of_file(sort, said, text, line, col, signals):
     if said == "bad value":
         return value_hint(sort, lines, row, line, col, signals)
     if said == "not an input":
-        return input_hint(row, signals)
+        return input_hint(row, signals, is_paced)
     if said == "bad line":
         return bad_line(sort, row, signals)
     if said == "bad header":
@@ -43,7 +44,8 @@ def comma_hint(row):
 def kind_at(sort, lines, row, line, col, signals):
     """The kind that the word in a column should have."""
     if sort == "flow":
-        return signals.get((row.split() or [""])[0])
+        name = (row.split() or [""])[0]
+        return signals.get(name) or ("boolean" if PACE.fullmatch(name) else None)
     header = next((it for it in lines if it.split()), "").split()
     at = [it for _, it in words_with_columns(row)].index(col) if col in [it for _, it in words_with_columns(row)] else 0
     return signals.get(header[at]) if at < len(header) else None
@@ -60,7 +62,7 @@ def value_hint(sort, lines, row, line, col, signals):
         return ["absent is written `.`"]
     if re.fullmatch(r".+\*\d+", word) and sort == "flow":
         return ["`v*k` stands for k values v where the first line of the file is `flows 2`"]
-    if kind == "boolean" and word.lower() in TRUTHS:
+    if kind == "boolean":
         return ["a boolean is written `true` or `false`"]
     if kind == "event":
         return ["an event is `true` where it comes" + ("" if sort == "flow" else ", and `.` where it does not")]
@@ -69,8 +71,10 @@ def value_hint(sort, lines, row, line, col, signals):
     return []
 
 
-def input_hint(row, signals):
+def input_hint(row, signals, is_paced):
     name = (row.split() or [""])[0]
+    if PACE.fullmatch(name):
+        return ["--pace adds fewer inputs to this program, none where it has a root" if is_paced else f"{name} is an input of a program without a root that is run with --pace"]
     meant = near(name, list(signals))
     return [f"did you mean `{meant}`?"] if meant else ["the inputs are " + ", ".join(signals)] if signals else []
 
@@ -83,7 +87,7 @@ def bad_line(sort, row, signals):
     first = (row.split() or [""])[0]
     if first.rstrip(":=,") in signals:
         return [f"the name stands alone, without `{first[len(first.rstrip(':=,')):]}`"]
-    return ["a line is an input's name and then its values"] if sort == "flow" else []
+    return [*comma_hint(row), "a line is an input's name and then its values"] if sort == "flow" else comma_hint(row)
 
 
 def header_hint(row, signals):

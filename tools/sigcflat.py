@@ -3,6 +3,7 @@
 What sigclib.FlatBody tells of a program as text, an Expansion tells so that a program can be written anew from it. It
 is for programs that sigc accepts; docs/language.md tells what a call stands for.
 """
+import re
 import sys
 from typing import NamedTuple
 
@@ -10,6 +11,8 @@ import sigclib
 
 # Each call adds a signal, so 512 signals bound how deep calls stand in one another.
 MOST_CALLS = 512
+# What sigc-automaton writes before a process.
+STATES = re.compile(r"% The states: ([^%]*)\. %\s*process\s+(\w+)")
 sys.setrecursionlimit(max(sys.getrecursionlimit(), 8 * MOST_CALLS))
 
 
@@ -57,13 +60,7 @@ class Keeper(sigclib.Reader):
     def __init__(self, text):
         super().__init__(text)
         self.declarations, self.open = {}, []
-        self.owners = [None] * len(self.tokens)
-
-    def take(self, text=None):
-        token = self.tokens[self.at]
-        if token.kind == "end":
-            raise sigclib.Unreadable(f"{token.line}:{token.col}: the text ends too early")
-        return super().take(text)
+        self.owners = {}
 
     def process(self):
         number, begun = len(self.processes), self.at
@@ -71,8 +68,7 @@ class Keeper(sigclib.Reader):
         super().process()
         self.open.pop()
         for at in range(begun, self.at):
-            if self.owners[at] is None:
-                self.owners[at] = number
+            self.owners.setdefault(at, number)
 
     def init(self):
         name, begun = self.tokens[self.at - 1], self.at
@@ -88,7 +84,7 @@ class Expansion:
     """
 
     def __init__(self, text):
-        self.reader = Keeper(text)
+        self.text, self.reader = text, Keeper(text)
         self.processes = self.reader.program()
         self.numbers = {}
         for at, it in enumerate(self.processes):
@@ -143,9 +139,24 @@ class Expansion:
     def inputs(self):
         return [it for it in self.signals if it.role == "input" and not it.copy]
 
+    def pace(self, names, paced):
+        """Adds the boolean inputs of these names behind the others, which come together, and lets a signal come where
+        each of them is true; None is no signal of the program."""
+        declared = {it.name: it for it in self.signals}
+        at, tops = len(self.inputs()), [declared.get(it, self.signals[0]) for it in paced]
+        self.signals[at:at] = [Declared(name, "boolean", "input", [], it.line, it.col) for name, it in zip(names, tops)]
+        for name, it in zip(names[1:], tops[1:]):
+            self.tie(it, [(names[0], True), ("^=", False), (name, True)])
+        for name, it in ((name, it) for name, it, own in zip(names, tops, paced) if own):
+            self.tie(it, [(it.name, True), ("^=", False), ("when", False), (name, True)])
+
+    def tie(self, place, words):
+        self.equations.append(Equation([Word(text, place.line, place.col, is_signal) for text, is_signal in words], ""))
+
     def named_tokens(self):
         """The tokens of the text, each with the names of the signals that it stands for: one in each copy."""
-        for token, number in zip(self.reader.tokens[:-1], self.reader.owners):
+        for at, token in enumerate(self.reader.tokens[:-1]):
+            number = self.reader.owners[at]
             is_signal = token.kind == "name" and any(token.text == it.name for it in self.declared_by(number))
             yield token, [named(copy, token.text) for copy in self.copies[number]] if is_signal else []
 
@@ -161,6 +172,19 @@ class Expansion:
             text = sigclib.words_of(word.text for word in it.words)
             for name in dict.fromkeys(word.text for word in it.words if word.is_signal and (word is it.words[0] or it.words[1].text != ":=")):
                 found.setdefault(name, []).append(text)
+        return found
+
+    def states(self):
+        """The signals that are states of an automaton that sigc-automaton wrote, each with the names of its states."""
+        named = {process: re.findall(r"[0-9]+ (\w+)", states) for states, process in STATES.findall(self.text)}
+        found = {}
+        for it in self.signals:
+            process = it.copy.partition("#")[0] or self.name
+            if process in named and it.own in ("STATE", "NEXT", "ZSTATE"):
+                found[it.name] = named[process]
+        for it in self.equations:
+            if len(it.words) == 3 and it.words[1].text == ":=" and it.words[2].text in found:
+                found.setdefault(it.words[0].text, found[it.words[2].text])
         return found
 
     def path(self, copy):

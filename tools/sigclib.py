@@ -10,6 +10,9 @@ RESERVED = set(
     "process where end integer boolean event init when default cell not and or xor modulo true false pragmas".split()
 )
 KINDS = ("integer", "boolean", "event")
+# What stands deeper than this in one another sigc does not take.
+DEEPEST = 64
+MOST_EQUATIONS = 1_000_000
 PIECE = re.compile(
     r"(?P<blank>[ \t\r\n]+|%[^%]*%)"
     r"|(?P<name>[A-Za-z][A-Za-z0-9_]*)"
@@ -69,37 +72,54 @@ def read_text(path):
 
 
 def tokens_of(text):
-    """The tokens of a program's text, the end of the text last."""
-    found, at, line, begun = [], 0, 1, 0
+    """The tokens of a program's text as they are asked for, the end of the text last."""
+    at, line, begun = 0, 1, 0
     while at < len(text):
         piece = PIECE.match(text, at)
         if not piece:
             raise Unreadable(f"{line}:{at - begun + 1}: no token begins here")
         if piece.lastgroup != "blank":
-            found.append(Token(piece.lastgroup, piece[0], line, at - begun + 1))
+            yield Token(piece.lastgroup, piece[0], line, at - begun + 1)
         line += piece[0].count("\n")
         if "\n" in piece[0]:
             begun = piece.start() + piece[0].rindex("\n") + 1
         at = piece.end()
-    return [*found, Token("end", "", line, at - begun + 1)]
+    yield Token("end", "", line, at - begun + 1)
 
 
 class Reader:
     """A walk over the tokens of a program, which keeps each process in the order of its keyword."""
 
     def __init__(self, text):
-        self.tokens, self.at, self.processes = tokens_of(text), 0, []
+        self.rest, self.tokens, self.at, self.processes, self.depth = tokens_of(text), [], 0, [], 0
+
+    def here(self):
+        """The token at which the walk stands."""
+        while len(self.tokens) <= self.at:
+            self.tokens.append(next(self.rest))
+        return self.tokens[self.at]
 
     def is_at(self, *texts):
-        token = self.tokens[self.at]
+        token = self.here()
         return token.kind != "label" and token.text in texts and token.text != ""
 
     def take(self, text=None):
-        token = self.tokens[self.at]
+        token = self.here()
         if text is not None and not self.is_at(text):
             raise Unreadable(f"{token.line}:{token.col}: {text} is wanted here")
+        if token.kind == "end":
+            raise Unreadable(f"{token.line}:{token.col}: the text ends too early")
         self.at += 1
         return token
+
+    def inside(self, part):
+        """Reads a part that may stand in others of its sort."""
+        self.depth += 1
+        if self.depth > DEEPEST + 1:
+            token = self.here()
+            raise Unreadable(f"{token.line}:{token.col}: more than {DEEPEST} stand in one another")
+        part()
+        self.depth -= 1
 
     def name(self):
         token = self.take()
@@ -108,7 +128,7 @@ class Reader:
         return token.text
 
     def program(self):
-        while self.tokens[self.at].kind != "end":
+        while self.here().kind != "end":
             self.process()
         if not self.processes:
             raise Unreadable("1:1: a process is wanted here")
@@ -143,7 +163,7 @@ class Reader:
             self.take()
             while not self.is_at("end"):
                 if self.is_at("process"):
-                    self.process()
+                    self.inside(self.process)
                 else:
                     inner += self.group()
                     self.take(";")
@@ -181,13 +201,13 @@ class Reader:
     def body(self, equations):
         if not self.is_at("(|"):
             begun = self.at
-            while self.tokens[self.at].kind != "end" and not self.is_at("|", "|)", ";", "where"):
+            while self.here().kind != "end" and not self.is_at("|", "|)", ";", "where"):
                 self.at += 1
             equations.append(equation_of(self.tokens[begun : self.at]))
             return
         self.take()
         while not self.is_at("|)"):
-            self.body(equations)
+            self.inside(lambda: self.body(equations))
             if not self.is_at("|)"):
                 self.take("|")
         self.take("|)")
@@ -270,6 +290,8 @@ class FlatBody:
                 self.add(place, [prefix + left, ":=", copy + it.name])
 
     def add(self, place, words):
+        if len(self.equations) >= MOST_EQUATIONS:
+            raise Unreadable(f"more than {MOST_EQUATIONS} equations, calls expanded")
         self.equations.append(Numbered(place.line, place.col, words_of(words)))
 
 

@@ -4,6 +4,7 @@ from typing import NamedTuple
 from sigckinds import is_integer_comparison, kinds_of
 from sigcmend import narrowed_operands, written_twice
 from sigcread import source_of, walk, words_in
+from sigcties import unasked
 
 
 class Warning(NamedTuple):
@@ -22,15 +23,37 @@ def is_used(process, name):
     return any(piece.text == name for it in others for piece in words_in(it.pieces))
 
 
+def is_automaton(process):
+    """Whether a process is one that sigc-automaton writes: it has a state, and signals for each of them, used or not."""
+    outputs = [it.name.text for it in process.outputs if it.kind == "integer"]
+    return outputs[:1] == ["STATE"] and any(it.name.text in ("NEXT", "ZSTATE") for it in process.locals)
+
+
+def given_states(process, processes):
+    """The signals of a process that are the state of an automaton that it calls."""
+    automata = {it.name.text for it in processes if is_automaton(it)}
+    return {it.lefts[0].text for it in process.equations if it.called and it.called.text in automata and it.lefts}
+
+
 def unused_locals(text, processes):
     for process in processes:
-        for it in process.locals:
-            if not is_used(process, it.name.text):
+        states = given_states(process, processes)
+        for it in [] if is_automaton(process) else process.locals:
+            if it.name.text not in states and not is_used(process, it.name.text):
                 yield at(it.name, f"local {it.name.text} is not used")
         if process is not processes[0]:
             for it in [*process.inputs, *process.parameters]:
                 if not is_used(process, it.name.text):
                     yield at(it.name, f"{it.role} {it.name.text} is not used")
+
+
+def unasked_inputs(text, processes):
+    """The boolean inputs of the first process of which one clock equation says when they come, and nothing else."""
+    process = processes[0]
+    named = [piece.text for equation in process.equations for piece in words_in(equation.pieces)]
+    for it in [] if is_automaton(process) else unasked(process):
+        if named.count(it.name.text) == 1:
+            yield at(it.name, f"nothing asks the boolean input {it.name.text}: is something to come `when {it.name.text}`, or is it an event?")
 
 
 def unused_processes(text, processes):
@@ -83,7 +106,7 @@ def decides(node, kinds, names):
     return any(is_integer_comparison(it, kinds) or it.op == "name" and it.at.text in names for it in walk(node))
 
 
-RULES = (unused_locals, unused_processes, twice, narrowing, steered)
+RULES = (unused_locals, unasked_inputs, unused_processes, twice, narrowing, steered)
 
 
 def warnings_of(reader):

@@ -1,25 +1,18 @@
 """Mends of programs whose clocks sigc refuses: texts that were tried with `check`, and are accepted.
 
-What is tried depends on the refusal: a clock equation, a boolean in the place of an event, an input that tells whether
-another one comes, one name for a comparison that is written twice, a value beside an operand that comes more rarely, a
-delay, a clock equation less, and the flag --pace where sigc has it.
+What is tried depends on the refusal: what says when a signal comes (sigcties.py), one name for a comparison that is
+written twice, a value beside an operand that comes more rarely, a delay, a clock equation less.
 """
-import difflib
-import re
 from typing import NamedTuple
 
 from sigccause import told_of
-from sigcread import FUNCTIONS, RELATIONS, read, source_of, walk
+from sigcedit import Draft, Edit, fresh, with_equation, with_local
+from sigcloops import definitions
+from sigcread import FUNCTIONS, RELATIONS, source_of, walk
+from sigcties import clocks, roots
 
 CALLS, DEEPEST = 160, 6
-
-
-class Edit(NamedTuple):
-    """The text that stands in the place of the bytes from `start` to `end`."""
-
-    start: int
-    end: int
-    text: str
+MOST_ALIKE = 8
 
 
 class Mend(NamedTuple):
@@ -27,184 +20,6 @@ class Mend(NamedTuple):
 
     words: str
     text: str
-
-
-def applied(text, edits):
-    for it in sorted(edits, key=lambda it: -it.start):
-        text = text[: it.start] + it.text + text[it.end :]
-    return text
-
-
-def difference(old, new):
-    """One edit that makes the new text of the old one."""
-    first = next((at for at, (a, b) in enumerate(zip(old, new)) if a != b), min(len(old), len(new)))
-    most = min(len(old), len(new)) - first
-    last = next((at for at in range(most) if old[-1 - at] != new[-1 - at]), most)
-    return Edit(first, len(old) - last, new[first : len(new) - last])
-
-
-def changed_lines(old, new):
-    """The lines that a mend takes away and puts in, as pairs of a sign and a line with its number."""
-    found, one, other = [], old.split("\n"), new.split("\n")
-    for tag, a, b, c, d in difflib.SequenceMatcher(None, one, other, autojunk=False).get_opcodes():
-        if tag != "equal":
-            found += [("-", at + 1, one[at]) for at in range(a, b)]
-            found += [("+", at + 1, other[at]) for at in range(c, d)]
-    return found
-
-
-# Edits of a program that was read.
-
-
-def with_equation(text, process, words):
-    """The edits that put an equation behind the others of a process."""
-    body = process.body
-    if body[0].text != "(|":
-        return [Edit(body[0].start, body[0].start, "(| "), Edit(body[-1].end, body[-1].end, f" | {words} |)")]
-    last, close = body[-2], body[-1]
-    if last is body[0]:
-        return [Edit(last.end, close.start, f" {words} ")]
-    begun = text.rfind("\n", 0, close.start) + 1
-    indent = text[begun : close.start]
-    if indent.strip() or not begun:
-        return [Edit(last.end, last.end, f" | {words}")]
-    return [Edit(begun, begun, f"{indent}| {words}\n")]
-
-
-def with_input(process, kind, name):
-    before = process.inputs[-1].name.end if process.inputs else process.query.end
-    return [Edit(before, before, f"; {kind} {name}" if process.inputs else f" {kind} {name}")]
-
-
-def with_local(process, kind, name):
-    if process.where:
-        return [Edit(process.where.end, process.where.end, f" {kind} {name};")]
-    return [Edit(process.end.start, process.end.start, f" where {kind} {name}; end")]
-
-
-def with_kind(process, declaration, kind):
-    """The edits that make one input of another kind: it goes behind the others."""
-    group = [it for it in process.inputs if it.group is declaration.group]
-    if len(group) == 1:
-        return [Edit(declaration.group.start, declaration.group.end, kind)]
-    at, name = group.index(declaration), declaration.name
-    start, end = (group[at - 1].name.end, name.end) if at else (name.start, group[1].name.start)
-    last = process.inputs[-1].name.end
-    if end == last:
-        return [Edit(start, last, f"; {kind} {name.text}")]
-    return [Edit(start, end, ""), Edit(last, last, f"; {kind} {name.text}")]
-
-
-def fresh(process, name):
-    names = {it.name.text for it in process.names()}
-    while name in names:
-        name += "_"
-    return name
-
-
-class Draft:
-    """A program that was read, and where the signal of a refusal is declared."""
-
-    def __init__(self, text):
-        self.text = text
-        self.processes = read(text).processes
-        self.first = self.processes[0]
-
-    def owner(self, name):
-        """The process and the declaration of a signal that sigc names, as COUNT#1.N; no declaration of an intermediate."""
-        found = re.fullmatch(r"(?:(\w+)#\d+\.)?(\w+)", name)
-        if not found:
-            return self.intermediate(name), None
-        process = self.first if not found[1] else next(it for it in self.processes if it.name.text == found[1])
-        return process, process.declaration(found[2])
-
-    def intermediate(self, name):
-        line, col = map(int, re.search(r"#(\d+):(\d+)", name).groups())
-        for process in self.processes:
-            for equation in process.equations:
-                if any(it.line == line and it.col == col for it in equation.pieces):
-                    return process
-        return self.first
-
-    def edited(self, edits):
-        return applied(self.text, edits)
-
-    def equated(self, process, words):
-        return f"the clock equation {words}", self.edited(with_equation(self.text, process, words))
-
-
-def names_in(process, *roles):
-    return [it for it in process.signals() if not roles or it.role in roles]
-
-
-# What is tried for each sort of refusal: pairs of words and a text.
-
-
-def roots(draft, told):
-    owners = [draft.owner(it) for it in told.names]
-    (one, x), (other, y) = owners
-    if x and y and one is other is draft.first:
-        for a, b in ((y, x), (x, y)):
-            if a.role == "input" and a.kind == "event" and is_asked(one, a.name.text):
-                yield as_boolean(draft, one, a, b)
-        yield draft.equated(one, f"{y.name.text} ^= {x.name.text}" if y.role != "input" else f"{x.name.text} ^= {y.name.text}")
-        for a, b in ((x, y), (y, x)):
-            if b.kind == "boolean":
-                yield draft.equated(one, f"{a.name.text} ^= when {b.name.text}")
-    for process, declaration in reversed(owners):
-        if declaration and process is not draft.first:
-            yield from ties(draft, process, declaration, ("input",))
-
-
-def ties(draft, process, declaration, roles):
-    name = declaration.name.text
-    for it in names_in(process, *roles):
-        if it is not declaration:
-            yield draft.equated(process, f"{name} ^= {it.name.text}")
-
-
-def clocks(draft, told):
-    process, declaration = draft.owner(told.names[0])
-    yield from narrowed(draft)
-    if declaration is None:
-        return
-    if declaration.role == "input" and process is draft.first:
-        yield from asked(draft, process, declaration)
-    yield from ties(draft, process, declaration, ("input",))
-    yield from ties(draft, process, declaration, ("output", "local"))
-
-
-def is_asked(process, name):
-    """Whether something is taken where a signal is there, so that it has to be known whether it is."""
-    nodes = (it for equation in process.equations for whole in equation.expressions() for it in walk(whole))
-    return any(it.op in ("when", "at") and it.parts[-1].op == "name" and it.parts[-1].at.text == name for it in nodes)
-
-
-def as_boolean(draft, process, event, pace):
-    """A boolean in the place of an event, at the clock of another signal."""
-    words = f"{event.name.text} ^= {pace.name.text}"
-    edits = with_kind(process, event, "boolean") + with_equation(draft.text, process, words)
-    return f"{event.name.text} as a boolean that comes with {pace.name.text}", draft.edited(edits)
-
-
-def asked(draft, process, declaration):
-    """An input that comes now and then: as a boolean, where another boolean is true, and where a new one is."""
-    name = declaration.name.text
-    others = [it for it in process.inputs if it is not declaration]
-    if declaration.kind == "event":
-        for it in others:
-            yield as_boolean(draft, process, declaration, it)
-    for it in process.signals():
-        if it.kind == "boolean" and it is not declaration:
-            yield draft.equated(process, f"{name} ^= when {it.name.text}")
-    told = fresh(process, f"{name}_COMES")
-    for it in others:
-        edits = with_input(process, "boolean", told) + with_equation(draft.text, process, f"{told} ^= {it.name.text} | {name} ^= when {told}")
-        yield f"a boolean input {told}, which comes with {it.name.text} and tells whether {name} comes", draft.edited(edits)
-
-
-def definitions(process):
-    return {it.lefts[0].text: it.right for it in process.equations if it.form == "definition" and it.right}
 
 
 def is_rare(node, defined):
@@ -368,6 +183,7 @@ def candidates(text, told):
     if told.sort == "root":
         yield from roots(draft, told)
     elif told.sort == "clock":
+        yield from narrowed(draft)
         yield from clocks(draft, told)
     elif told.sort == "cycle":
         yield from delayed(draft, told)
@@ -381,18 +197,20 @@ def candidates(text, told):
 
 
 def mends_of(sigc, text, most=2):
-    """Mends of a text that sigc refuses for its clocks, at most so many."""
+    """Mends of a text that sigc refuses for its clocks, at most so many: those that begin in different ways first."""
     refusal = sigc.check(text)
     told = told_of(refusal.text) if refusal else None
     if told is None:
         return []
-    limit, found = sigc.calls + CALLS, []
+    limit, found, alike = sigc.calls + CALLS, {}, []
     for it in tried(sigc, text, told, (), DEEPEST, limit):
-        if it.text not in [other.text for other in found]:
-            found.append(it)
-        if len(found) >= most:
+        if it.text not in [other.text for other in (*found.values(), *alike)]:
+            begin = it.words.split("; ")[0]
+            alike += [it] if begin in found else []
+            found.setdefault(begin, it)
+        if len(found) >= most or len(alike) >= MOST_ALIKE:
             break
-    return found
+    return [*found.values(), *alike][:most]
 
 
 def tried(sigc, text, told, done, depth, limit):
@@ -405,7 +223,7 @@ def tried(sigc, text, told, done, depth, limit):
             yield Mend("; ".join((*done, words)), new)
             continue
         other = told_of(refusal.text)
-        if other and other != told and other.sort in ("root", "clock"):
+        if other and other != told and other.sort in ("root", "clock", "cycle"):
             later.append((words, new, other))
     if depth > 1:
         for words, new, other in later[:3]:

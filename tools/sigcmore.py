@@ -5,8 +5,8 @@ of the same signals that are well formed; and sigc is asked again, until it acce
 about clocks.
 """
 from sigccause import told_of
+from sigcedit import Edit, applied, with_equation
 from sigchints import hint_of
-from sigcmend import Edit, applied, with_equation
 from sigcrun import Refusal
 
 STAND_IN = {"integer": "{0} := {0} $ init 0", "boolean": "{0} := {0} $ init true", "event": "{0} := ^ {0}"}

@@ -19,6 +19,8 @@ BODY_ENDS = ("|", "|)", "where", "process", "end")
 # Expressions that sigc takes stand at most 64 deep; each of them takes some fifteen calls of the reader.
 DEEPEST, CALLS = 200, 20000
 MOST_FAULTS = 50
+# A text of more pieces is read up to there.
+MOST_PIECES = 250_000
 
 
 class Piece(NamedTuple):
@@ -114,9 +116,9 @@ class Process:
 
 
 def pieces_of(text):
-    """The tokens of a text, the end last, and the offsets of bytes that begin none."""
+    """The tokens of a text, or of its beginning, the end last, and the offsets of bytes that begin none."""
     found, strange, at, line, begun = [], [], 0, 1, 0
-    while at < len(text):
+    while at < len(text) and len(found) < MOST_PIECES:
         piece = PIECE.match(text, at)
         end = piece.end() if piece else at + 1
         if not piece:

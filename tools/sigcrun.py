@@ -1,20 +1,20 @@
 """The program sigc as the scripts call it, and how a script ends: what those share that run sigc."""
+import functools
 import os
 import re
+import shutil
 import subprocess
 import sys
 import tempfile
+import weakref
 from typing import NamedTuple
-
-import sigclib
 
 TOP = os.path.dirname(os.path.dirname(os.path.realpath(__file__)))
 SECONDS = 120
+NO_DASH = "- is no file here: to read from standard input, name /dev/stdin"
 NO_COMMAND = "these words are not a command"
-
-
-# What the plain reader of sigclib ends with where a text is no program.
-UNREADABLE = (sigclib.Unreadable, IndexError, RecursionError)
+# A program that each sigc accepts, to find out which words it takes.
+PROBE = "process P = (? integer A ! integer Y) Y := A;\n"
 
 
 class NoProgram(Exception):
@@ -71,7 +71,8 @@ class Sigc:
 
     def __init__(self, path=None):
         self.path = path or program()
-        self.room = tempfile.TemporaryDirectory(prefix="sigc-tools-")
+        self.room = tempfile.mkdtemp(prefix="sigc-tools-")
+        weakref.finalize(self, shutil.rmtree, self.room, ignore_errors=True)
         self.calls = 0
         self.known = {}
 
@@ -87,7 +88,7 @@ class Sigc:
 
     def ask(self, command, text, *words):
         """What a command says of a program that is given as a text, a byte a character."""
-        path = f"{self.room.name}/p.sig"
+        path = f"{self.room}/p.sig"
         with open(path, "w", encoding="latin-1", newline="") as it:
             it.write(text)
         return self.call(command, path, *words)
@@ -102,14 +103,20 @@ class Sigc:
             self.known[text] = refusal
         return self.known[text]
 
+    @functools.cached_property
+    def has_pace(self):
+        """Whether this sigc has the flag --pace; it is asked once."""
+        return self.ask("check", PROBE, "--pace").status == 0
+
     def takes_pace(self, text):
         """Whether this sigc has the flag --pace, and takes a text with it."""
-        said = self.ask("check", text, "--pace")
-        return said.status == 0
+        return self.has_pace and self.ask("check", text, "--pace").status == 0
 
 
 def read_program(path):
     """The text of a program's file, a byte a character."""
+    if path == "-":
+        raise OSError(2, NO_DASH, None)
     with open(path, "rb") as it:
         return it.read().decode("latin-1")
 
@@ -130,5 +137,6 @@ def guarded(main):
         print(f"{name}: {error}", file=sys.stderr)
         return 70
     except OSError as error:
-        print(f"{name}: {error.filename or ''}: {error.strerror}", file=sys.stderr)
+        where = f"{error.filename}: " if error.filename else ""
+        print(f"{name}: {where}{error.strerror}", file=sys.stderr)
         return 5

@@ -1,7 +1,7 @@
 """How the scripts show a place of a text: its line, or the part of a long line around it, with a caret."""
 import re
 
-from sigcmend import changed_lines
+from sigcedit import changed_lines
 
 WIDTH = 100
 

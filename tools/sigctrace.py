@@ -1,8 +1,7 @@
 """The trace of a run: what every signal of a program is at each instant.
 
-`sigc run` writes outputs without instants. So the program is written anew with its calls expanded and every signal an
-output, the first of them one that is present at every instant; what a run of that writes falls into instants. An input
-stays an input: it is present where a signal of the same clock is, and its values are those of its flow.
+`sigc run` writes outputs without instants. So a program is run that says all (sigcobserved.py), and what that writes falls
+into instants. An input is present where a signal of the same clock is, and its values are those of its flow.
 """
 import argparse
 import itertools
@@ -10,100 +9,13 @@ import re
 import sys
 
 import sigccall
-import sigcflat
 import sigcflows
 import sigclib
-from sigcplan import NAME, Classes
+from sigclaid import Laid
+from sigcplan import NAME
 
+PACE_HELP = "let clocks stay independent, as sigc --pace does: the flows have a line for each input pace_1 and so on that this adds"
 VALUE = re.compile(r"-?[0-9]+|true|false")
-END_AT = re.compile(r"(end: .* at )(\d+):(\d+)( after .*)")
-
-
-class Observed:
-    """A program that says all: its text, and how what it writes is read.
-
-    names maps each name that it writes to the signals that it speaks for: itself, or the inputs of one clock.
-    marker is the name that begins an instant, and places maps a place of the text to one of the program.
-    """
-
-    def __init__(self, flat, classes):
-        self.flat, self.inputs = flat, flat.inputs()
-        self.taken = {it.name for it in flat.signals}
-        self.spelled = {it.name: self.fresh(it.name) if it.copy else it.name for it in flat.signals}
-        self.names = {self.spelled[it.name]: [it.name] for it in flat.signals if it not in self.inputs}
-        self.added, self.marker = [], None
-        if any(it not in self.spelled for clock in classes for it in clock):
-            raise sigccall.Refused("sigc gives this program paces, and then its instants are not told")
-        for clock in classes:
-            self.see(clock)
-        self.mark(classes)
-        self.places = {}
-        self.text = self.written()
-
-    def fresh(self, name):
-        """A name that the language takes and that nothing else has."""
-        name = re.sub(r"[#.]", "_", name)
-        while name in self.taken:
-            name += "_"
-        self.taken.add(name)
-        return name
-
-    def see(self, clock):
-        """Lets one name speak for the inputs of a clock: a signal of it, or else a copy of the first of them."""
-        inputs = [it for it in self.inputs if it.name in clock]
-        if not inputs:
-            return
-        speaker = next((self.spelled[it] for it in clock if self.spelled[it] in self.names), None)
-        if speaker is None:
-            speaker = self.fresh(f"{inputs[0].name}_seen")
-            self.added.append((speaker, inputs[0].kind, inputs[0].name))
-        self.names[speaker] = self.names.get(speaker, []) + [it.name for it in inputs]
-
-    def mark(self, classes):
-        """Finds the name that begins an instant: one of the first class, or else the sum of the greatest clocks."""
-        root = set(classes[0])
-        self.marker = next((name for name, signals in self.names.items() if root & set(signals)), None)
-        if self.marker:
-            return
-        self.marker = self.fresh("instant")
-        tops = [self.spelled[it[0]] for it in classes.tops()]
-        self.added.append((self.marker, "event", " ^+ ".join(tops) if len(tops) > 1 else f"^{tops[0]}"))
-        self.names[self.marker] = []
-
-    def declared(self):
-        """The outputs, each with its kind and its init: the marker first."""
-        kinds = {name: (kind, "") for name, kind, _ in self.added}
-        for it in self.flat.signals:
-            init = f" init {''.join(word.text for word in it.init)}" if it.init else ""
-            kinds.setdefault(self.spelled[it.name], (it.kind, init))
-        order = [self.marker, *(it for it in self.names if it != self.marker)]
-        return [f"{kinds[it][0]} {it}{kinds[it][1]}" for it in order]
-
-    def written(self):
-        """The text. Each equation has a line; where a word stands is kept in places."""
-        inputs = "; ".join(f"{it.kind} {it.name}" for it in self.inputs)
-        outputs = ";\n   ".join(self.declared())
-        lines = f"process {self.flat.name} =\n  (? {inputs}\n ! {outputs})".split("\n")
-        mark = "(|"
-        for equation in self.flat.equations:
-            line, mark = mark, " |"
-            for word in equation.words:
-                line += " "
-                self.places[len(lines) + 1, len(line) + 1] = (word.line, word.col, equation.copy)
-                line += self.spelled[word.text] if word.is_signal else word.text
-            lines.append(line)
-        for name, _, right in self.added:
-            lines.append(f"{mark} {name} := {right}")
-            mark = " |"
-        return "\n".join([*lines, " |);"]) + "\n"
-
-    def end_of(self, line):
-        """A line `end:` with the place of the program, and the copy whose operator it names."""
-        found = END_AT.fullmatch(line)
-        if not found:
-            return line, ""
-        row, col, copy = self.places[int(found[2]), int(found[3])]
-        return f"{found[1]}{row}:{col}{found[4]}", copy
 
 
 class Run:
@@ -114,11 +26,10 @@ class Run:
     """
 
     def __init__(self, files, path, flows_path, words=()):
-        self.files, self.words = files, words
-        self.program = sigccall.Program(files, path)
-        self.classes = Classes(self.program.asked("tree", *(it for it in words if it == "--pace")))
-        self.flat = sigcflat.Expansion(self.program.text)
-        self.observed = Observed(self.flat, self.classes)
+        self.files, self.words = files, [it for it in words if it != "--pace"]
+        laid = Laid(files, path, "--pace" in words)
+        self.program, self.classes, self.flat, self.paces = laid.program, laid.classes, laid.flat, laid.paces
+        self.observed = laid.observed()
         self.flows_text = sigccall.text_of(flows_path)
         self.flows = files.copied(flows_path, self.flows_text)
         self.source = files.written("observed.sig", self.observed.text, path)
@@ -202,7 +113,7 @@ def add_window_words(words):
     words.add_argument("--from", metavar="I", dest="first", type=at_least(1), default=1, help="from this instant on, the first being 1")
     words.add_argument("--to", metavar="I", dest="last", type=at_least(1), help="up to this instant; the run goes on to its own end")
     words.add_argument("--instants", metavar="N", type=at_least(1), help="the most instants of the run, as of sigc run")
-    words.add_argument("--pace", action="store_true", help="handed on to sigc, which does not take it yet")
+    words.add_argument("--pace", action="store_true", help=PACE_HELP)
 
 
 def run_words(words):

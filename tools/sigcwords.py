@@ -2,7 +2,7 @@
 import re
 from typing import NamedTuple
 
-from sigchints import near
+from sigcnear import near
 
 
 class Command(NamedTuple):
@@ -33,6 +33,7 @@ OPTIONS = {
     "--capacity": Option(1, 65536, 16, "the items that a link holds"),
     "--instants": Option(1, 1000000000, 1000000, "the most instants of a run"),
 }
+PACED = ("check", "tree", "code", "run", "play")
 LETTERS = {"--workers": "W", "--capacity": "C", "--instants": "N"}
 STATUSES = (
     "0 done; 1 the program is refused; 2 the words are no command; 3 the run ended at an overflow or a division by zero; "
@@ -44,7 +45,7 @@ STATUSES = (
 def usage(name):
     command = COMMANDS[name]
     options = "".join(f" [{it} {LETTERS[it]}]" for it in command.options)
-    return f"sigc {name} {' '.join(command.files)}{options}"
+    return f"sigc {name} {' '.join(command.files)}{options}{' [--pace]' if name in PACED else ''}"
 
 
 def help_text():
@@ -53,6 +54,7 @@ def help_text():
     lines += [f"  {usage(it)}\n      {COMMANDS[it].does}" for it in COMMANDS]
     lines += ["", "options, anywhere behind the command:"]
     lines += [f"  {name} {LETTERS[name]}  {it.does}: {it.least} to {it.most}, else {it.usual}" for name, it in OPTIONS.items()]
+    lines += [f"  --pace  of {', '.join(PACED[:-1])} and {PACED[-1]}: independent clocks get a boolean input each, pace_1 and so on"]
     lines += ["", f"status: {STATUSES}", "", "docs/tutorial.md begins, docs/formats.md has all words, docs/errors.md each refusal with its mend."]
     return "\n".join(lines) + "\n"
 
@@ -77,7 +79,7 @@ def split(words):
 
 def option_hint(name, value, command):
     if name == "--pace":
-        return "`--pace` is not built yet, or not for this command"
+        return "`--pace` takes no value" if value and command in PACED else "" if command in PACED else f"`{command}` has no option --pace"
     if name not in OPTIONS:
         meant = near(name, list(OPTIONS)) or next((it for it in OPTIONS if it.startswith(name)), "")
         return f"there is no option {name}" + (f": did you mean `{meant}`?" if meant else "")
@@ -106,5 +108,5 @@ def words_hint(words):
     names = [it for it, _ in options]
     found += [f"{it} stands twice" for it in sorted(set(names)) if names.count(it) > 1]
     if len(plain) != len(COMMANDS[name].files):
-        found.append(f"`{name}` takes {' '.join(COMMANDS[name].files)}; {len(plain)} such word{'s' if len(plain) != 1 else ''} stand here")
+        found.append(f"`{name}` takes {' '.join(COMMANDS[name].files)}; {len(plain)} such word{'s stand' if len(plain) != 1 else ' stands'} here")
     return [*found, usage(name)]

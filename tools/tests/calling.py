@@ -1,7 +1,11 @@
 """What the tests of the scripts share: where things stand, the program sigc, and how a script is run."""
 import os
+import runpy
 import subprocess
 import sys
+import tempfile
+import threading
+import traceback
 import unittest
 from importlib.machinery import SourceFileLoader
 from importlib.util import module_from_spec, spec_from_loader
@@ -37,8 +41,40 @@ def module_of(script):
     return made
 
 
+def forked(script, *words):
+    """A script run to its end with an empty standard input, in a fork of this process: without starting Python anew."""
+    with tempfile.TemporaryFile() as out, tempfile.TemporaryFile() as err, open(os.devnull, "rb") as nothing:
+        child = os.fork()
+        if not child:
+            for number, it in enumerate((nothing, out, err)):
+                os.dup2(it.fileno(), number)
+            as_process([f"{TOOLS}/{script}", *words])
+        ended = os.waitstatus_to_exitcode(os.waitpid(child, 0)[1])
+        out.seek(0), err.seek(0)
+        return subprocess.CompletedProcess([script, *words], ended, out.read().decode("latin-1"), err.read().decode("latin-1"))
+
+
+def as_process(words):
+    """Runs a script as this process would, had it been started with these words, and ends this process."""
+    status, sys.argv = 1, words
+    sys.stdout, sys.stderr = (open(number, "w", encoding="latin-1", closefd=False) for number in (1, 2))
+    try:
+        runpy.run_path(words[0], run_name="__main__")
+        status = 0
+    except SystemExit as it:
+        status = it.code if isinstance(it.code, int) else int(it.code is not None)
+    except BaseException:
+        traceback.print_exc()
+    finally:
+        sys.stdout.flush()
+        sys.stderr.flush()
+        os._exit(status)
+
+
 def ran(script, *words, given=""):
     """A script run to its end."""
+    if not given and threading.current_thread() is threading.main_thread():
+        return forked(script, *words)
     how = {"input": given, "capture_output": True, "text": True, "encoding": "latin-1"}
     return subprocess.run([sys.executable, f"{TOOLS}/{script}", *words], **how)
 

@@ -5,11 +5,12 @@ import unittest
 
 from helping import NEEDS_SIGC, TOP, module_of, program, ran
 
+import sigcedit
 import sigcfiles
 import sigchints
 import sigclint
-import sigcmend
 import sigcmore
+import sigcnear
 import sigcread
 import sigcrun
 import sigcwords
@@ -90,7 +91,7 @@ class Hints(unittest.TestCase):
 
     def test_near_words(self):
         for word, words, meant in [("chek", sigcwords.COMMANDS, "check"), ("level", ["LEVEL"], "LEVEL"), ("A", ["B", "C"], ""), ("proces", ["process"], "process")]:
-            self.assertEqual(sigchints.near(word, list(words)), meant)
+            self.assertEqual(sigcnear.near(word, list(words)), meant)
 
 
 class Words(unittest.TestCase):
@@ -105,6 +106,9 @@ class Words(unittest.TestCase):
             (["check"], "`check` takes PROGRAM; 0 such words stand here"),
             (["p.sig"], "the command comes first: sigc check p.sig"),
             (["build", "p"], "`build` is not built yet"),
+            (["check", "--pace=1", "p"], "`--pace` takes no value"),
+            (["print", "p", "--pace"], "`print` has no option --pace"),
+            (["check", "--pace", "p", "--pace"], "--pace stands twice"),
             ([], "a command is wanted: check, tree, code, print, judge, run, play, load"),
         ]:
             self.assertIn(wanted, " ".join(sigcwords.words_hint(words)))
@@ -131,6 +135,8 @@ class Files(unittest.TestCase):
             ("% three\nA 1", "bad line", 1, 1, "no comments"),
             ("A 1, 2", "bad value", 1, 3, "not by `,`"),
             ("B 1 0", "bad value", 1, 3, "`true` or `false`"),
+            ("B true fals", "bad value", 1, 8, "`true` or `false`"),
+            ("A,1,2", "bad line", 1, 1, "not by `,`"),
             ("E false", "bad value", 1, 3, "`true` where it comes"),
             ("A 1 .", "bad value", 1, 5, "absences are left out"),
             ("A 3*2", "bad value", 1, 3, "`flows 2`"),
@@ -141,6 +147,8 @@ class Files(unittest.TestCase):
             ("A 1\xc2\xa02", "bad line", 1, 1, "column 4"),
             ("a 1", "not an input", 1, 1, "did you mean `A`?"),
             ("Q 1", "not an input", 1, 1, "the inputs are A, B, E"),
+            ("pace_1 true", "not an input", 1, 1, "run with --pace"),
+            ("pace_2 1", "bad value", 1, 8, "`true` or `false`"),
         ]:
             self.assertIn(wanted, self.said("flow", said, text, line, col), text)
 
@@ -171,6 +179,20 @@ class Lint(unittest.TestCase):
         for line, words in [(2, "A < 10 stands at 2:20 too"), (3, "A has to come as rarely as A when B here"), (7, "local U is not used"), (8, "process Q is not called"), (8, "input X is not used"), (5, "input A is taken where S > 0")]:
             self.assertTrue(any(at == line and it.startswith(words) for at, it in found), (words, found))
 
+    def test_a_boolean_that_nothing_asks(self):
+        text = "process C = (? boolean SENSED, PRESSED; integer POS ! integer LAST)\n(| SENSED ^= PRESSED\n | POS ^= when SENSED\n | LAST := POS cell ^SENSED init 0\n |);\n"
+        self.assertEqual([words.split(":")[0] for _, words in self.warned(text)], ["nothing asks the boolean input PRESSED"])
+        self.assertEqual(self.warned(text.replace(" |)", " | LAST ^= PRESSED |)")), [])
+
+    def test_no_state_of_an_automaton(self):
+        table = "automaton DOOR\ninput boolean OPEN, CALLED\noutput boolean MOVES\ntransitions {}\nstate | MOVES\nSHUT | true\nWIDE | false\nfrom | when | to\nSHUT | OPEN | WIDE\n"
+        automaton = module_of("sigc-automaton")
+        caller = "process P = (? boolean OPEN, CALLED ! boolean MOVES)\n(| (STATE, MOVES) := DOOR(OPEN, CALLED) |)\nwhere integer STATE; end;\n"
+        for mode in ("until", "unless"):
+            text = "\n".join(automaton.process_of(automaton.Automaton(table.format(mode)))) + "\n"
+            self.assertEqual(self.warned(text), [])
+            self.assertEqual(self.warned(caller + text), [])
+
     def test_what_is_not(self):
         self.assertEqual(self.warned("process P = (? integer A; boolean B ! integer Y)\n(| Y := (A when B) default (Z + 1)\n | Z := Y $ init 0\n | A ^= B ^= Z\n |)\nwhere integer Z; end;\n"), [])
 
@@ -195,7 +217,7 @@ class OverTheProgram(unittest.TestCase):
                 self.assertTrue(self.caret.explained(entry), entry)
                 self.assertTrue(hint.lines)
                 if mended:
-                    self.assertIn(mended, sigcmend.applied(text, hint.edits))
+                    self.assertIn(mended, sigcedit.applied(text, hint.edits))
 
     def test_the_reader_stops_where_sigc_does(self):
         for text in MISTAKES:
@@ -210,6 +232,45 @@ class OverTheProgram(unittest.TestCase):
         found = sigcmore.later_refusals(self.sigc, sigcread.read(text), first)
         self.assertEqual((first.line, first.col), (3, 2))
         self.assertEqual({(it.line, it.col, it.text) for it in found}, {(3, 12, "syntax"), (4, 13, "unknown name q"), (5, 11, "types clash"), (7, 18, "U is not defined")})
+
+    def hint(self, text):
+        refusal = self.sigc.check(text)
+        return refusal.text, sigchints.hint_of(text, sigcread.read(text), refusal).lines
+
+    def test_a_call_with_other_left_sides(self):
+        called = "\nprocess Q = {integer K} (? boolean B ! integer N; boolean U; event E)\n(| N := N $ init K | U := B | E := when B | N ^= B |);\n"
+        outputs = "Q has 3 outputs: integer N, boolean U, event E; "
+        for head, equation, wanted in [
+            ("? boolean B ! boolean U; event E", "(U, E) := Q{1}(B)", ("types clash", [outputs + "two left sides stand here"])),
+            ("? boolean B ! boolean U", "U := Q{1}(B)", ("types clash", [outputs + "one left side stands here"])),
+            ("? boolean B ! integer N; event E", "N := Q{1}(B)", ("E is not defined", [outputs + "one left side stands here, at 2:4"])),
+            ("? boolean B ! boolean U, N; event E", "(U, N, E) := Q{1}(B)", ("types clash", [outputs + "N goes to a signal of kind boolean"])),
+            ("? boolean B ! integer N; boolean U, E", "(N, U, E) := Q{1}(3 when B)", ("types clash", ["the input B of Q is boolean, and integer is given"])),
+            ("? boolean B ! integer N; boolean U, E", "(N, U, E) := Q{true}(B)", ("types clash", ["the parameter K of Q is integer, and boolean is given"])),
+        ]:
+            self.assertEqual(self.hint(f"process P = ({head})\n(| {equation} |);{called}"), wanted, equation)
+
+    def test_what_is_no_program_at_all(self):
+        for text, wanted in [("module M:\ninput A;\nend module\n", "begins with `process NAME"), ("node F(a) returns (y) let y = a tel\n", "begins with `process NAME"), ("automaton T\nstate\nA\n", "sigc-automaton")]:
+            self.assertIn(wanted, " ".join(self.hint(text)[1]))
+
+    def test_pragmas(self):
+        for pragma, wanted in [('RunOn {Y} "x"', "a number from 0 to 63"), ('RunOn {y} "1"', "did you mean `Y`?"), ('RunOn {Q} "1"', "Q is no signal of P"), ('RunOn {Y} "1" RunOn {Y} "2"', "Y stands in a pragma before")]:
+            said, lines = self.hint(f"process P = (? integer A ! integer Y)\npragmas {pragma} end pragmas\n(| Y := A |);\n")
+            self.assertEqual(said, "bad pragma")
+            self.assertIn(wanted, " ".join(lines))
+
+    def test_words_of_esterel_and_lustre(self):
+        for equation, wanted in [("Y := A when present B", "there is no `present`"), ("emit Y", "there is no `emit`"), ("await B; Y := A", "is a state"), ("Y := ?A", "a signal's name is its value"), ("Y := pre(A)", "`X $ init C`")]:
+            _, lines = self.hint(f"process P = (? integer A; boolean B ! integer Y)\n(| {equation} |);\n")
+            self.assertIn(wanted, " ".join(lines), equation)
+
+    def test_a_boolean_that_was_to_tell(self):
+        text = "process C = (? boolean SENSED, PRESSED; integer POS; event B ! event E; integer LAST)\n(| SENSED ^= PRESSED\n | POS ^= when SENSED\n | LAST := POS\n | E := B |);\n"
+        self.assertEqual(self.hint(text)[1], ["nothing asks the boolean PRESSED: is `B ^= when PRESSED` meant?"])
+
+    def test_two_inputs_that_nothing_ties(self):
+        self.assertIn("`A ^= B` where they come together", self.hint("process P = (? integer A, B ! integer Y, Z)\n(| Y := A | Z := B |);\n")[1][0])
 
     def later(self, text):
         found = sigcmore.later_refusals(self.sigc, sigcread.read(text), self.sigc.check(text))

@@ -87,6 +87,17 @@ class Tables(unittest.TestCase):
         with tempfile.TemporaryDirectory() as room:
             return ran("sigc-table", "flows", written(room, "t.csv", text), *words)
 
+    @needs_sigc
+    def test_booleans_that_tell_whether_others_come(self):
+        program = "process P = (? boolean SENSED, PRESSED; integer POS; event B ! integer LAST; event C)\n(| SENSED ^= PRESSED | POS ^= when SENSED | B ^= when PRESSED | LAST := POS | C := B |);\n"
+        with tempfile.TemporaryDirectory() as room:
+            path, table = written(room, "p.sig", program), written(room, "t.csv", "POS,B,LAST\n3,,3\n,true,\n4,true,4\n")
+            done = ran("sigc-table", "flows", table, "--program", path)
+            self.assertEqual(done.stdout, "SENSED true false true\nPRESSED false true true\nPOS 3 4\nB true true\n")
+            self.assertEqual(ran("sigc-table", "check", path, table).stdout, "3 rows as the program has them\n")
+            table = written(room, "t.csv", "POS,SENSED,B\n3,true,\n,false,true\n")
+            self.assertTrue(ran("sigc-table", "flows", table, "--program", path).stdout.startswith("SENSED true false\nPRESSED false true\n"))
+
     def test_flows(self):
         self.assertEqual(self.flows(PUMP).stdout, "FRONT true false\nA 40\nB 85\nPUMPING false true\n")
         self.assertEqual(self.flows(PUMP, "--program", f"{EXAMPLES}/pump.sig").stdout, "FRONT true false\nA 40\nB 85\n")

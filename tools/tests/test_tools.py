@@ -56,7 +56,7 @@ class Programs(unittest.TestCase):
     def test_what_is_no_token(self):
         for text in ("#", "% open", ": A", '"a\n"'):
             with self.assertRaises(sigclib.Unreadable):
-                sigclib.tokens_of(text)
+                list(sigclib.tokens_of(text))
 
     def test_every_example_is_read(self):
         for name in sorted(os.listdir(EXAMPLES)):
@@ -97,7 +97,7 @@ class Equations(unittest.TestCase):
         self.assertEqual((done.stdout, done.returncode), ("3 5:4 A ^= when (ZY <= 0)\n", 0))
 
     def test_a_file_that_is_not_there(self):
-        self.assertEqual(ran("sigc-equations", "nothing").returncode, 1)
+        self.assertEqual(ran("sigc-equations", "nothing").returncode, 5)
 
 
 class Header(unittest.TestCase):
@@ -168,9 +168,11 @@ class Caret(unittest.TestCase):
         for text in texts.split(";"):
             with self.subTest(text.strip()):
                 self.assertIn(self.caret.entry_of(text.strip()), headings)
-        with open(f"{TOOLS}/sigchints.py", encoding="utf-8") as it:
-            for entry in re.findall(r'\], "([a-z0-9-]+)"', it.read()):
-                self.assertIn(entry, headings)
+        for name in ("sigcsyntaxhints", "sigcnamehints", "sigcclockhints"):
+            with open(f"{TOOLS}/{name}.py", encoding="utf-8") as it:
+                entries = re.findall(r'\], "([a-z0-9-]+)"', it.read())
+            self.assertTrue(entries)
+            self.assertEqual([it for it in entries if it not in headings], [])
 
 
 def anchor(heading):

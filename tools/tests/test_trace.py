@@ -19,7 +19,7 @@ COUNTER = "process COUNT = (? boolean B; integer A ! integer N)\n(| N := (N $ in
 
 def text_of_trace(run):
     """The trace of a run, and what the run would write."""
-    names = [it.name for it in run.flat.signals]
+    names = [it.name for it in run.flat.signals if it.name not in run.paces]
     outputs = [it.name for it in run.flat.signals if it.role == "output" and not it.copy]
     rows, text = [names], []
     for instant in run:
@@ -30,14 +30,15 @@ def text_of_trace(run):
 
 def fault_of(program, flows):
     """What is wrong with the trace of a run, or nothing; Refused where sigc refuses the program."""
+    words = ["--pace"] if "pace_1 " in sigccall.text_of(flows) else []
     with sigccall.Files() as files:
-        run = sigctrace.Run(files, program, flows)
+        run = sigctrace.Run(files, program, flows, words)
         try:
             trace, text = text_of_trace(run)
         except sigccall.Refused as refusal:
             return f"as it is written anew: {refusal.line}"
         verdict = sigc("judge", program, files.written("drawn.trace", trace))
-        done = sigc("run", program, flows, "--workers", "0")
+        done = sigc("run", program, flows, "--workers", "0", *words)
     if verdict.stdout != "accepted\n":
         return f"judge: {verdict.stderr}"
     if (done.stdout, done.stderr, done.returncode) != (text, f"{run.end}\n", run.status):
@@ -112,15 +113,16 @@ class Words(unittest.TestCase):
         done = ran("sigc-trace", *self.watch, "--instants", "2")
         self.assertEqual((len(done.stdout.splitlines()), done.stderr), (3, "end: limit after 2 instants\n"))
 
-    def test_the_word_pace_is_handed_on(self):
-        done, own = ran("sigc-trace", *self.watch, "--pace"), sigc("run", *self.watch, "--pace")
-        self.assertEqual((done.stderr, done.returncode), (own.stderr, own.returncode))
-
     def test_what_sigc_refuses(self):
         for program, flows in ((f"{EXAMPLES}/operators.sig", self.watch[1]), (f"{EXAMPLES}/sum.sig", f"{EXAMPLES}/wrong.flows"), self.watch[::-1]):
             with self.subTest(program):
                 done, own = ran("sigc-trace", program, flows), sigc("run", program, flows)
                 self.assertEqual((done.stdout, done.stderr, done.returncode), ("", own.stderr, own.returncode))
+
+    def test_states_by_their_names(self):
+        words = [f"{TUTORIAL}/boiler.sig", f"{TUTORIAL}/boiler.flows", "--signals", "STATE,MODES#1.NEXT", "--from", "2", "--to", "3"]
+        self.assertEqual(ran("sigc-trace", *words).stdout, "STATE MODES#1.NEXT\n0     1\n1     1\n")
+        self.assertEqual(ran("sigc-trace", *words, "--states").stdout, "STATE MODES#1.NEXT\nREST  HEAT\nHEAT  HEAT\n")
 
     def test_signals_that_are_not_there(self):
         self.assertEqual(ran("sigc-trace", *self.watch, "--signals", "Q").returncode, 1)

@@ -6,7 +6,7 @@ import subprocess
 import tempfile
 import unittest
 
-from calling import EXAMPLES, needs_sigc, ran, written
+from calling import EXAMPLES, TUTORIAL, needs_sigc, ran, written
 
 BROWSER = shutil.which("chromium")
 FAULT = "process P = (? integer A ! integer Y)\n(| Y := F(A) |);\nprocess F = (? integer X ! integer Z)\n(| Z := 10 / (X - 1) |);\n"
@@ -21,7 +21,12 @@ def page_of(room, program, flows, *words):
 
 
 def opened(room, page, address=""):
-    """The page as it stands in a browser that has opened it."""
+    """The page as it stands in a browser that has opened it, where frames come by the clock of its timers."""
+    with open(page, encoding="utf-8") as it:
+        text = it.read().replace("<script", "<script>window.requestAnimationFrame = (it) => setTimeout(it, 0);</script><script", 1)
+    page = f"{room}/timed.html"
+    with open(page, "w", encoding="utf-8") as it:
+        it.write(text)
     how = ["--headless=new", "--no-sandbox", "--disable-gpu", "--disable-dev-shm-usage", "--window-size=1200,1600", "--virtual-time-budget=2000", f"--user-data-dir={room}/browser"]
     done = subprocess.run([BROWSER, *how, "--dump-dom", f"file://{page}{address}"], capture_output=True, timeout=120)
     return done.stdout.decode("utf-8")
@@ -63,6 +68,13 @@ class Pages(unittest.TestCase):
         self.assertEqual(marked(text), '<span data-at="4:12" class="place" id="place">/</span>')
         self.assertIn("end: division by zero at 4:12 after 1 instants (in the copy F#1)", text)
         self.assertIn('id="end" class="fault"', text)
+
+    def test_states_have_their_names(self):
+        page = page_of(self.room, f"{TUTORIAL}/boiler.sig", f"{TUTORIAL}/boiler.flows")
+        with open(page, encoding="utf-8") as it:
+            self.assertEqual(it.read().count('"states":["REST","HEAT","BROKEN"]'), 3)
+        if BROWSER:
+            self.assertIn(">HEAT</text>", row_of(opened(self.room, page), "STATE"))
 
     def test_the_text_of_the_program_is_whole(self):
         with open(self.thermostat(), encoding="utf-8") as it:

@@ -7,6 +7,9 @@ import unittest
 from helping import EXAMPLES, NEEDS_SIGC, program, ran
 
 import sigccause
+import sigcedit
+import sigchints
+import sigcloops
 import sigcmend
 import sigcread
 import sigcrun
@@ -28,6 +31,20 @@ where integer B, W;
    |)
   where boolean HIGH; integer CUT, M; end;
 end;
+"""
+# Bytes of bits, which come at every second half.
+BYTES = """process BYTES = (? boolean HALF ! boolean BIT; integer BYTE)
+(| FIRST := HALF and not WAS_FIRST
+ | WAS_FIRST := FIRST $ init false
+ | BIT := HALF when not FIRST
+ | VALUE := (2 * ZVALUE + 1 when BIT) default (2 * ZVALUE)
+ | ZVALUE := (0 when LAST) default (VALUE $ init 0)
+ | N := (0 when LAST) default (ZN + 1)
+ | ZN := N $ init 0
+ | LAST := ZN = 7
+ | BYTE := VALUE when LAST
+{} |)
+where boolean FIRST, WAS_FIRST, LAST; integer VALUE, ZVALUE, N, ZN; end;
 """
 
 
@@ -82,8 +99,8 @@ class Least(unittest.TestCase):
 
     def test_an_edit_between_two_texts(self):
         for old, new in [("abc", "abc"), ("abc", "axc"), ("aa", "aaa"), ("", "x"), ("x", ""), ("abab", "ab")]:
-            edit = sigcmend.difference(old, new)
-            self.assertEqual(sigcmend.applied(old, [edit]), new)
+            edit = sigcedit.difference(old, new)
+            self.assertEqual(sigcedit.applied(old, [edit]), new)
 
     def test_a_window_of_a_long_line(self):
         shown = sigcshow.pointed("x" * 300 + "q" + "x" * 300, 1, 301).split("\n")
@@ -136,10 +153,71 @@ class Causes(unittest.TestCase):
 
     def test_a_counter_in_a_called_process(self):
         text = "process P = (? event TICK; boolean R ! integer Y)\n(| R ^= TICK | Y := COUNT(R) |)\nwhere process COUNT = (? boolean S ! integer N)\n(| N := ZN + 1\n | ZN := N $ init 0\n |)\nwhere integer ZN; end;\nend;\n"
-        self.assertIn("Y ^= TICK", self.mend(text).text)
+        self.assertEqual(self.mend(text).words, "the clock equation N ^= S")
+        self.assertIn("| N ^= S\n |)\nwhere integer ZN; end;\nend;", self.mend(text).text)
+        hint = sigchints.hint_of(text, sigcread.read(text), self.sigc.check(text))
+        self.assertEqual(hint.lines, ["N of COUNT is made of its own past: say there when it comes, as N ^= S"])
+
+    def test_signals_that_are_made_of_their_own_past(self):
+        text = BYTES.format("")
+        self.assertEqual(self.mend(text).words, "the clock equation VALUE ^= N ^= BIT")
+        hint = sigchints.hint_of(text, sigcread.read(text), self.sigc.check(text))
+        self.assertEqual(hint.lines, ["VALUE and N are made of their own past: say when they come, as VALUE ^= N ^= BIT"])
+        self.assertEqual(self.mend(BYTES.format(" | VALUE ^= BIT\n")).words, "the clock equation N ^= VALUE")
+        self.assertIn("the clock equation VALUE ^= BIT", [it.words for it in sigcmend.mends_of(self.sigc, BYTES.format(" | N ^= BIT\n"), 3)])
+
+    def test_two_faults_of_different_sorts(self):
+        text = "process P = (? boolean LINE ! integer BYTE)\n(| IDLE := N = 0\n | N := (1 when BEGIN) default (ZN + 1)\n | ZN := N $ init 0\n | BEGIN := not LINE and IDLE\n | SHIFT := ((SHIFT $ init 0) + 1) when LINE\n | BYTE := SHIFT when BEGIN\n |)\nwhere boolean BEGIN, IDLE; integer N, ZN, SHIFT; end;\n"
+        refusal = self.sigc.check(text)
+        self.assertEqual(refusal.text, "clock of SHIFT is not determined")
+        self.assertEqual(sigchints.hint_of(text, sigcread.read(text), refusal).lines, ["SHIFT is made of its own past: say when it comes, as SHIFT ^= when LINE"])
+        self.assertTrue(self.mend(text).words.startswith("the clock equation SHIFT ^= when LINE; "))
+
+    def test_loops(self):
+        (process,) = sigcread.read(BYTES.format("")).processes
+        self.assertEqual([(sorted(it.names), it.name, it.others) for it in sigcloops.untied(process)], [(["VALUE", "ZVALUE"], "VALUE", ["BIT", "LAST"]), (["LAST", "N", "ZN"], "N", [])])
+        self.assertEqual([it.name for it in sigcloops.loops(process)], ["FIRST", "VALUE", "N"])
+
+    def test_two_inputs_that_come_by_themselves(self):
+        text = "process LIFT = (? integer POS; boolean B ! integer LAST; boolean ASKED)\n(| LAST := POS + 1\n | ASKED := B or (B $ init false)\n |);\n"
+        one, other = sigcmend.mends_of(self.sigc, text, 2)
+        self.assertIn("(? boolean POS_COMES, B_COMES; integer POS; boolean B !", one.text)
+        self.assertIn(" | POS_COMES ^= B_COMES\n | POS ^= when POS_COMES\n | B ^= when B_COMES\n |);", one.text)
+        self.assertEqual(other.words, "the clock equation POS ^= B")
+
+    def test_two_inputs_that_are_merged(self):
+        text = "process P = (? integer A; event B ! boolean C; integer Y)\n(| Y := A + 1\n | C := B default (false when ^A)\n |);\n"
+        self.assertIn(" | A_COMES ^= B_COMES\n | A ^= when A_COMES\n | B ^= when B_COMES\n", self.mend(text).text)
+        self.assertIn("`A ^= when A_COMES`", sigchints.hint_of(text, sigcread.read(text), self.sigc.check(text)).lines[0])
+
+    def test_events_that_are_all_asked(self):
+        text = "process P = (? event A, B, C ! event E; integer N)\n(| N := ((ZN + 5) when A) default ((ZN + 10) when B) default ((ZN - 15) when E) default ZN\n | ZN := N $ init 0\n | E := C when (ZN >= 15)\n |)\nwhere integer ZN; end;\n"
+        mended = self.mend(text).text
+        for equation in ("A_COMES ^= B_COMES", "A ^= when A_COMES", "B ^= when B_COMES", "C_COMES ^= A_COMES", "C ^= when C_COMES", "N ^= C_COMES"):
+            self.assertIn(f" | {equation}\n", mended)
+
+    def test_mends_that_begin_in_different_ways_come_first(self):
+        text = "process P = (? integer A, B, C ! integer Y, Z, W)\n(| Y := A | Z := B | W := C |);\n"
+        begins = [it.words.split(";")[0] for it in sigcmend.mends_of(self.sigc, text, 2)]
+        self.assertEqual(begins[1], "the clock equation A ^= B")
+
+    def test_two_inputs_that_meet(self):
+        text = "process P = (? boolean B; integer A ! integer Y)\n(| Y := A when B |);\n"
+        one, other = sigcmend.mends_of(self.sigc, text, 2)
+        self.assertEqual(one.words, "the clock equation B ^= A")
+        self.assertIn("(? boolean B_COMES, A_COMES, B; integer A !", other.text)
+
+    def test_an_input_that_a_boolean_was_to_tell(self):
+        for kind in ("event", "boolean"):
+            text = f"process C = (? boolean SENSED, PRESSED; integer POS; {kind} B ! integer N, LAST)\n(| SENSED ^= PRESSED\n | POS ^= when SENSED\n | N := ((ZN + 1) when ^B) default ZN\n | ZN := N $ init 0\n | LAST := POS cell ^SENSED init 0\n | N ^= SENSED\n |)\nwhere integer ZN; end;\n"
+            self.assertEqual(self.mend(text).words, "the clock equation B ^= when PRESSED")
+        text = "process C = (? boolean SENSED, PRESSED; integer POS; event B ! boolean KEPT)\n(| SENSED ^= PRESSED\n | POS ^= when SENSED\n | KEPT := B default (false when ^POS) default WAS\n | WAS := KEPT $ init false\n | KEPT ^= SENSED\n |)\nwhere boolean WAS; end;\n"
+        self.assertEqual(self.mend(text).words, "the clock equation B ^= when PRESSED")
 
     def test_three_roots(self):
         self.assertIsNone(self.sigc.check(self.mend("process P = (? integer A, B, C ! integer Y)\n(| Y := A |);\n").text))
+        mended = self.mend("process P = (? integer A, B, C ! integer Y, Z, W)\n(| Y := A | Z := B | W := C |);\n").text
+        self.assertIn("(? boolean C_COMES, A_COMES, B_COMES; integer A, B, C !", mended)
 
     def test_an_event_as_a_reset(self):
         text = "process P = (? event TICK, RESET ! integer N)\n(| N := (0 when RESET) default (ZN + 1)\n | ZN := N $ init 0\n | N ^= TICK\n |)\nwhere integer ZN; end;\n"

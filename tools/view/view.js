@@ -9,9 +9,10 @@ const view = { start: 0, span: Math.max(Math.min(run.count, FIRST_SPAN), LEAST_S
 const values = run.signals.map((it) => (it.kind === "integer" ? (it.values === "" ? [] : it.values.split(",")) : it.values));
 const WORDS = { t: "true", f: "false", ".": "" }, MANY = "many";
 
+// A value as a text; a state has its name.
 function valueAt(signal, instant) {
-  const value = values[signal][instant];
-  return run.signals[signal].kind === "integer" ? value || "" : WORDS[value] || "";
+  const value = values[signal][instant], { kind, states = [] } = run.signals[signal];
+  return kind === "integer" ? states[value] || value || "" : WORDS[value] || "";
 }
 
 // The stretches of equal values of a signal between two instants: [begin, end, value]. Where many instants share a
