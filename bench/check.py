@@ -8,9 +8,13 @@ Runs `SIGC check` on families of programs:
   cases       a chain of `(i when A = i) default ..`;
   sampled     n boolean inputs that sample one signal;
   stages      the generated programs of 1 to 12 stages of sampling and merging;
-  sums        512 signals in 64 clusters.
+  sums        512 signals in 64 clusters;
+  parts       so many small debouncers that share nothing, with the flag `--pace`;
+  inputs      so many inputs that come independently of each other, with the flag `--pace`;
+  hostile     small programs that cost much (bench/shapes.py), worst first, and `SIGC run` of flow files of many lines.
 
-Prints of each program its signals, its answer, the least processor time of three runs, its ratio to that of `SIGC print` of
+The last is tried where it is named. Of its programs the answer, which tells the nodes where they were used up, the processor
+time and the peak memory are printed, and one is too late past 20 s. Of the others: prints of each program its signals, its answer, the least processor time of three runs, its ratio to that of `SIGC print` of
 the same program in the same run, and the peak memory, which is at least that of this script where it starts them. A family
 ends where a check takes more than 20 s. The status is 1 where a check took more than 10 times `print` and more than 50 ms.
 """
@@ -21,6 +25,8 @@ import subprocess
 import sys
 import tempfile
 
+from shapes import SHAPES, many_inputs
+
 HERE = os.path.dirname(os.path.abspath(__file__))
 # the controllers, and of each the signal whose instants are those of the process
 CONTROLLERS = {
@@ -29,6 +35,7 @@ CONTROLLERS = {
 }
 SIGNALS = 512
 SECONDS = 20
+INPUTS = 510
 
 
 def declared(text):
@@ -106,6 +113,20 @@ def sums(count):
     )
 
 
+def parts(count):
+    """So many debouncers, each of an input of its own: CLEAN follows RAW once RAW has kept its value."""
+    numbers = range(1, count + 1)
+    lines = [f"CLEAN{i} := (RAW{i} when (RAW{i} = (RAW{i} $ init false))) default (CLEAN{i} $ init false) | CLEAN{i} ^= RAW{i}" for i in numbers]
+    raw, clean = (", ".join(f"{name}{i}" for i in numbers) for name in ("RAW", "CLEAN"))
+    return f"process PARTS = (? boolean {raw} ! boolean {clean})\n(| " + "\n | ".join(lines) + " |);\n"
+
+
+def inputs(count):
+    """So many inputs, of which one is used."""
+    names = ", ".join(f"A{i}" for i in range(1, count + 1))
+    return f"process INPUTS = (? integer {names} ! integer Y)\n(| Y := A1 + 1 |);\n"
+
+
 def growing():
     """1, 2, 3, 4, 6, 8, 12, .."""
     count = 1
@@ -117,8 +138,12 @@ def growing():
 
 
 FAMILIES = {name: (lambda count, name=name: copies(name, count)) for name in CONTROLLERS}
-FAMILIES |= {"chain": chain, "cases": cases, "sampled": sampled, "stages": stages, "sums": sums}
-COUNTS = {"chain": [4, 8, 16, 32, 64, 128], "stages": range(1, 13), "sums": [SIGNALS]}
+FAMILIES |= {"chain": chain, "cases": cases, "sampled": sampled, "stages": stages, "sums": sums, "parts": parts, "inputs": inputs}
+COUNTS = {
+    "chain": [4, 8, 16, 32, 64, 128], "stages": range(1, 13), "sums": [SIGNALS], "parts": [2, 4, 8, 15, 30, 60],
+    "inputs": [2, 10, 25, 50, 100],
+}
+FLAGS = {"parts": ["--pace"], "inputs": ["--pace"]}
 
 
 def timed(words, folder):
@@ -142,16 +167,46 @@ def measure(sigc, name, count, folder):
     """Checks one program and prints its line; tells the answer, and whether it was in time."""
     with open(os.path.join(folder, "program.sig"), "w", encoding="ascii") as file:
         file.write(FAMILIES[name](count))
-    answer, seconds, memory = least([sigc, "check", "program.sig"], folder)
+    answer, seconds, memory = least([sigc, "check", "program.sig"] + FLAGS.get(name, []), folder)
     _, base, _ = least([sigc, "print", "program.sig"], folder)
     print(f"{name} {count}: {answer}, {1000 * seconds:.1f} ms, {seconds / base:.1f} times print, {memory} KB", flush=True)
     return answer, seconds, seconds <= max(10 * base, 0.05)
 
 
+# flow files of many lines for 510 inputs: what a line is, and how many of them
+MANY_LINES = {"names": (f"A{INPUTS - 2}\n", 13_000_000), "values": (f"A{INPUTS - 2} 1\n", 3_999_999)}
+
+
+def measure_hostile(sigc, title, text, words, folder):
+    """Runs one command over a program and prints its line; tells whether it was too late."""
+    with open(os.path.join(folder, "program.sig"), "w", encoding="ascii") as file:
+        file.write(text)
+    answer, seconds, memory = least([sigc, *words], folder)
+    last = answer.split("\n")[-1]
+    print(f"{title}: {last}, {len(text)} bytes, {seconds:.2f} s, {memory // 1024} MB", flush=True)
+    return seconds > SECONDS
+
+
+def hostile(sigc, folder):
+    """Measures the small programs that cost much, and flow files of many lines; tells how many were too late."""
+    late = 0
+    for name, (shape, counts) in SHAPES.items():
+        for count in counts:
+            late += measure_hostile(sigc, f"{name} {count}", shape(count), ["check", "program.sig"], folder)
+    for name, (line, count) in MANY_LINES.items():
+        with open(os.path.join(folder, "many.flows"), "w", encoding="ascii") as file:
+            file.write(line * count)
+        words = ["run", "program.sig", "many.flows", "--workers", "0"]
+        late += measure_hostile(sigc, f"{count} lines of {name}", many_inputs(INPUTS - 1), words, folder)
+    return late
+
+
 def main():
     sigc, late = os.path.abspath(sys.argv[1]), 0
     with tempfile.TemporaryDirectory() as folder:
-        for name in sys.argv[2:] or FAMILIES:
+        if "hostile" in sys.argv[2:]:
+            late += hostile(sigc, folder)
+        for name in [it for it in sys.argv[2:] if it != "hostile"] or (FAMILIES if len(sys.argv) == 2 else []):
             for count in COUNTS.get(name) or growing():
                 answer, seconds, in_time = measure(sigc, name, count, folder)
                 late += not in_time
