@@ -1,23 +1,22 @@
 -- What the proofs of this crate cite of std, of the crates below and of its own specs, passed on from one place.
-pub use Rattle.std.proofs.Common.{All, BTreeSet, Bool, Contains, Err, HashMap, IfOk, IfSome, IsErrAnd, IsSomeAnd, IsTrue, List, None, Ok, OnErr, OnOk, Option, Ordering, Result, Some, [], add-mul, ap, append-nil, append_assoc, arith, cond, drop, drop-cons, eq-eqb, eqb, eqb-true, false, fold, get_or, get_or-set_other, get_or-set_same, if◌then◌else◌, inl, inr, is_eq, is_some, length, length-append, length-set, length-take, ltb-false, ltb-true, map, max, mul-le-mul, mul-suc, mul_assoc, nat_cmp, nat_eq, nat_lt, not, one-mul, option_map, position, pow-suc, pow_mono, refl, rules, set, slice_get, slice_index_or, subst, suc, suc-mul, sym, take, take-append-drop, true, true≢false, w64, zero, ℕ, ◌%◌, ◌&&◌, ◌*◌, ◌++◌, ◌+◌, ◌-◌, ◌<◌, ◌^◌, ◌||◌, ◌↔◌, ◌∙◌, ◌∷◌, ◌≡◌, ◌≢◌, ◌≤◌, ◌⊎◌}
+pub use Rattle.std.proofs.Common.{All, BTreeSet, Bool, Contains, Err, HashMap, IfOk, IfSome, IsErrAnd, IsSomeAnd, IsTrue, List, None, Ok, OnErr, OnOk, Option, Ordering, Result, Some, [], add-mul, ap, append-nil, append_assoc, arith, bit_or, cond, drop, drop-cons, eq-eqb, eqb, eqb-true, false, fold, get_or, get_or-set_other, get_or-set_same, if◌then◌else◌, inl, inr, is_eq, is_some, length, length-append, length-set, length-take, ltb-false, ltb-true, map, max, mul-le-mul, mul-suc, mul_assoc, nat_cmp, nat_eq, nat_lt, not, one-mul, option_map, position, pow-suc, pow_mono, refl, rules, set, slice_get, slice_index_or, subst, suc, suc-mul, sym, take, take-append-drop, take_all, true, true≢false, w64, zero, ℕ, ◌%◌, ◌&&◌, ◌*◌, ◌++◌, ◌+◌, ◌-◌, ◌<◌, ◌^◌, ◌||◌, ◌↔◌, ◌∙◌, ◌∷◌, ◌≡◌, ◌≢◌, ◌≤◌, ◌⊎◌}
 pub use Rattle.std.proofs.Math.Seq.{get_or-append_seam}
 pub use Rattle.std.proofs.lemmas.Bool.{cases_eq, cases_lt, eqb-false, false≢true}
 pub use Rattle.std.proofs.lemmas.Cmp.{nat_cmp_total}
-pub use Rattle.std.proofs.lemmas.List.{get_or_append_left, get_or_default, get_or_push, get_or_read, length-map, length_push}
+pub use Rattle.std.proofs.lemmas.List.{drop_all, get_or_append_left, get_or_default, get_or_push, get_or_read, length-map, length_push}
 pub use Rattle.std.proofs.lemmas.List.Elements.{Contains-append_left, Contains-push, Contains-push_cases}
 pub use Rattle.std.proofs.lemmas.List.Quantifiers.{position-Some}
 pub use Rattle.std.proofs.lemmas.List.Sums.{fold-append}
 pub use Rattle.std.proofs.lemmas.Map.Keys.{IsStrictlyIncreasing-from_sorted}
 pub use Rattle.std.proofs.lemmas.Map.Lookups.{exact_unsigned}
 pub use Rattle.std.proofs.lemmas.Map.Views.{btree_set_contains_iff}
-pub use Rattle.std.proofs.lemmas.Nat.Bits.{bit_at-lt, bit_at-zero, bit_at_or, bit_at_set_other, bit_at_set_same, shr_and_one}
+pub use Rattle.std.proofs.lemmas.Nat.Bits.{bit_at-lt, bit_at-zero, bit_at_or, bit_at_set_other, bit_at_set_same}
 pub use Rattle.std.proofs.lemmas.Option.{get_or_from_slice_get, slice_get-get_or, slice_get-map, slice_get_within}
 pub use Rattle.std.proofs.lemmas.Result.{IfErr-at_err}
 pub use Rattle.std.specs.BTreeMap.{is_at}
 pub use Rattle.std.specs.BTreeSet.{contains}
 pub use Rattle.std.specs.HashMap.{get}
 pub use Rattle.std.specs.Int.{bit_at}
-pub use Rattle.std.specs.Int.Bits.{bit_or}
 pub use Rattle.std.specs.List.{list_any}
 pub use Rattle.std.specs.List.Sorted.{IsStrictlyIncreasing}
 pub use Rattle.std.specs.Map.{lookup}
@@ -37,7 +36,7 @@ unfoldable pub use Rattle.sig_dd.specs.Products.{product_room}
 pub use Rattle.sig_dd.specs.Question.{AllStartFrom, HasVariable, HoldsAll, IsAnswer, IsHalf, IsSide, IsSplit, IsStep, IsTable, SomeHas, SomeTests, TestsOnly, asked, weight}
 pub use Rattle.sig_dd.specs.Renaming.{AreRenamed, IsChoiceBy, IsRenamed, RefTestsOnly, truth_in}
 pub use Rattle.sig_dd.specs.Shares.{HasAll, HoldAll, IsRefused, Share, Shares, SpanAll, Trail, refusal}
-pub use Rattle.sig_dd.specs.Supports.{AreMasks, AreSupports, AreTestedBelow, HasBit, IsMask, IsSupport, IsTestedBelow, added}
+pub use Rattle.sig_dd.specs.Supports.{AreMasks, AreTestedBelow, HasBit, IsMask, IsSupport, IsTestedBelow, added}
 pub use Rattle.sig_dd.specs.Walks.{Asks, IsIdle}
 pub use Rattle.sig_dd.specs.contracts.meets.PairPartialEq.TheImpl.{eq-value}
 pub use Rattle.sig_dd.specs.declared.answer.DdAnswer.{DdAnswer}

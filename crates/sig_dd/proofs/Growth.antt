@@ -131,9 +131,9 @@ not_among nodes n none i e = true≢false (sym (any_at (node_eq n) nodes i n e (
 
 -- the store once a node is inserted, where there is room
 pub IsStore-insert : (nodes : List Node) (m : ℕ) (n : Node)
-    → IsStore (record { nodes = nodes; made_for = m }) → IsNodeAt nodes (length nodes) n → length nodes < m → length nodes + 2 < 2 ^ 32
+    → IsStore (record { nodes = nodes; made_for = m }) → IsNodeAt nodes (length nodes) n → length nodes < m
     → IsStore (record { nodes = insert_key node_eq nodes n; made_for = m })
-IsStore-insert nodes m n old is room numbers = by (list_any (node_eq n) nodes) refl
+IsStore-insert nodes m n old is room = by (list_any (node_eq n) nodes) refl
   where
     by : (b : Bool) → list_any (node_eq n) nodes ≡ b → IsStore (record { nodes = insert_key node_eq nodes n; made_for = m })
     by true e = subst (λ c. IsStore (record { nodes = if c then nodes else nodes ++ n ∷ []; made_for = m })) (sym e) old
@@ -143,8 +143,16 @@ IsStore-insert nodes m n old is room numbers = by (list_any (node_eq n) nodes) r
         (record {
           reduced = IsReduced-push nodes n old.reduced is (not_among nodes n e);
           within = omega (arith, len);
-          numbered = omega (arith, len);
         })
+
+-- it has one node more at most
+pub length-insert : (nodes : List Node) (n : Node) → length (insert_key node_eq nodes n) ≤ length nodes + 1
+length-insert nodes n = by (list_any (node_eq n) nodes) refl
+  where
+    by : (b : Bool) → list_any (node_eq n) nodes ≡ b → length (insert_key node_eq nodes n) ≤ length nodes + 1
+    by true e = subst (λ c. length (if c then nodes else nodes ++ n ∷ []) ≤ length nodes + 1) (sym e) (omega arith)
+    by false e = let len : length (nodes ++ n ∷ []) ≡ length nodes + 1 = length_push nodes n in
+        subst (λ c. length (if c then nodes else nodes ++ n ∷ []) ≤ length nodes + 1) (sym e) (omega (arith, len))
 
 -- the list once a node is inserted
 pub nodes-insert : (nodes : List Node) (n : Node) → (more : List Node) × (insert_key node_eq nodes n ≡ nodes ++ more)

@@ -1,5 +1,5 @@
 -- What a store keeps of earlier calls.
-use Rattle.std.specs.Prelude.{List, Contains}
+use Rattle.std.specs.Prelude.{◌≤◌, ◌+◌, ◌^◌, List, length, Contains}
 use Rattle.sig_dd.specs.Nodes.{StoreView, IsStore}
 use Rattle.sig_dd.specs.Question.{HoldsAll, IsAnswer}
 use Rattle.sig_dd.specs.declared.cache.Choice.{Choice}
@@ -20,4 +20,5 @@ IsCache nodes entries =
 -- what holds of every store's fields
 pub record IsInside (s : StoreView) (entries : List (Choice × Ref)) : Type 0 where
   pub store : IsStore s
+  pub numbered : length s.nodes + 2 ≤ 2 ^ 32
   pub cache : IsCache s.nodes entries

@@ -55,11 +55,11 @@ pub record IsReduced (nodes : List Node) : Type 0 where
   pub each : (i : ℕ) (n : Node) → slice_get nodes i ≡ Some n → IsNodeAt nodes i n
   pub once : (i j : ℕ) (n : Node) → slice_get nodes i ≡ Some n → slice_get nodes j ≡ Some n → i ≡ j
 
--- what holds of every store
+-- A store: its nodes are reduced, and no more than it was made for. How many that may be is a matter of the type `Store`,
+-- whose references have 32 bits; what is said of guards holds in a store of whatever size.
 pub record IsStore (s : StoreView) : Type 0 where
   pub reduced : IsReduced s.nodes
   pub within : length s.nodes ≤ s.made_for
-  pub numbered : length s.nodes + 2 ≤ 2 ^ 32
 
 -- each older node stands at its number, behind it stand only newer ones, and the number that the store was made for stays
 pub record Keeps (old new : StoreView) : Type 0 where

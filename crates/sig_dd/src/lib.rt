@@ -27,7 +27,7 @@ pub use laws::{
     other_variables_make_no_difference, products_forget_their_variables,
     references_depend_as_their_functions, walks_ask_nothing_idle,
 };
-pub use node::Ref;
+pub use node::{Node, Ref};
 pub use steps::Steps;
 pub use store::Store;
 pub use supports::VariableList;

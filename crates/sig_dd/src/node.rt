@@ -14,9 +14,9 @@ pub struct Ref {
 /// A node: a variable, and the functions where it is false and where it is true.
 #[derive(Clone, Copy, Debug, PartialEq, Eq, Hash)]
 pub struct Node {
-    pub(crate) variable: u32,
-    pub(crate) low: Ref,
-    pub(crate) high: Ref,
+    pub variable: u32,
+    pub low: Ref,
+    pub high: Ref,
 }
 
 // A million nodes take 12 MB beside the table of their set.

@@ -1,6 +1,6 @@
 //! A store of diagrams.
 
-ghost use Rattle.std.specs.Prelude.{suc, ◌≡◌, ◌≢◌, ◌+◌, ◌<◌, ◌≤◌, ℕ, List, [], length, IfOk, IfSome, OnErr, Ok, Err, Some, None, if◌then◌else◌};
+ghost use Rattle.std.specs.Prelude.{suc, ◌≡◌, ◌≢◌, ◌+◌, ◌^◌, ◌<◌, ◌≤◌, ℕ, List, [], length, IfOk, IfSome, OnErr, Ok, Err, Some, None, if◌then◌else◌};
 ghost use Rattle.sig_dd.specs.Diagram.{value_at, truth_of, StartsFrom};
 ghost use Rattle.sig_dd.specs.Nodes.{StoreView, IsStore, IsRefOf, Holds, Keeps, node_of, diagram, test, IsFull, IsChoice};
 
@@ -77,13 +77,14 @@ impl Store {
 
     /// The allocator that the store was made with.
     pub(crate) fn allocator(&self) -> Global
-        ensures { IsStore self.now }
+        ensures store { IsStore self.now }
+        ensures numbered { length self.now.nodes + 2 ≤ 2 ^ 32 }
     {
         self.alloc
     }
 
-    /// The node that the reference names; a constant is none.
-    pub(crate) fn node(&self, r: Ref) -> Option<Node>
+    /// The node that a reference of the store names; a constant names none.
+    pub fn node(&self, r: Ref) -> Option<Node>
         requires { Holds self.now.nodes r }
         ensures store { IsStore self.now }
         ensures node { result ≡ node_of self.now.nodes r }

@@ -1,5 +1,6 @@
 -- What the proofs of this crate cite of std, of the crates below and of its own specs, passed on from one place.
 pub use Rattle.std.proofs.Common.{All, Bool, Bor, Err, IfErr, IfOk, IsErrAnd, IsTrue, List, MatchResult, None, Ok, Option, Result, Some, [], ap, append-nil, append_assoc, arith, bytes_eq, codes, cond, drop, eqb, ext_get_or, false, flat_map, get_or, get_or-drop, get_or-set_other, get_or-set_same, if◌then◌else◌, inl, inr, leb-true, length, length-drop, length-take-le, lt-ltb, ltb-true, map, nat_le, nat_lt, ne_eqb, neg_ℤ, pos, refl, replicate, rules, set, subst, suc, sum_by, sym, take, take-append-drop, take_all, to_z, true, vec_len, w64, zero, ℕ, ℤ, ⊎_elim, ◌&&◌, ◌*◌, ◌++◌, ◌+◌, ◌-◌, ◌<◌, ◌==◌, ◌^◌, ◌∙◌, ◌∷◌, ◌≡◌, ◌≢◌, ◌≤◌, ◌⊎◌}
+pub use Rattle.std.proofs.Math.Seq.{take-append_seam}
 pub use Rattle.std.proofs.lemmas.Bool.{and_from, cases_Bool, cases_eq, cases_lt, cases_order}
 pub use Rattle.std.proofs.lemmas.Bool.Decides.{nat_tests, not_from_Decides}
 pub use Rattle.std.proofs.lemmas.Grind.{common_steps}
@@ -11,6 +12,7 @@ pub use Rattle.std.proofs.lemmas.List.Folds.{list_all-append}
 pub use Rattle.std.proofs.lemmas.List.Splits.{length-slice_split, slice_split-cons_yes, slice_split_first, slice_split_none}
 pub use Rattle.std.proofs.lemmas.List.Sums.{passes_at_first, position_or_len_is, split_at_first, sum_by-cons}
 pub use Rattle.std.proofs.lemmas.Map.Keys.{apart_from_distinct}
+pub use Rattle.std.proofs.lemmas.Map.Text.{hash_map_updates_str}
 pub use Rattle.std.proofs.lemmas.Result.{err_from_is_err_and, on_ok_weaker}
 pub use Rattle.std.proofs.lemmas.Slice.Eq.{bytes_eq-Decides}
 pub use Rattle.std.proofs.lemmas.Str.Parse.{IsNumeralModel, digit_at, digits_value-take-le, digits_value_short, numerals_by_value, tells_all_ascii_digits}
@@ -28,7 +30,8 @@ pub use Rattle.sig_flow.specs.Bodies.{body_behind}
 pub use Rattle.sig_flow.specs.Digits.{IsShortNumber, is_digits, short_number}
 pub use Rattle.sig_flow.specs.Events.{AreEvents, IsFirstBadEvent, event_fault, event_judge, events_among}
 pub use Rattle.sig_flow.specs.First.{AllGood, IsFirst, Judge, first_fault}
-pub use Rattle.sig_flow.specs.Flows.{AreFlows, AreFlowsIn, Body, IsFirstBadPlace, IsFirstIn, body_of, file_body, flow_in, is_line_byte, is_name, is_name_byte, kind_named, line_judge, named_fault, text_fault, value_judge, values_for, values_of, word_fault, words_fault}
+pub use Rattle.sig_flow.specs.Flows.{AreFlows, AreFlowsIn, Body, IsFirstBadPlace, IsFirstIn, body_of, file_body, flow_in, is_line_byte, is_name, is_name_byte, kind_named, line_judge, named_fault, text_fault, value_judge, values_for, values_of, word_fault, words_count, words_fault}
+pub use Rattle.sig_flow.specs.Inputs.{ArePlaces, IsInput}
 pub use Rattle.sig_flow.specs.Lines.{Line, lines_of, numbered}
 pub use Rattle.sig_flow.specs.NextWords.{word_of, words_behind}
 pub use Rattle.sig_flow.specs.Values.{integer_of, integer_said, is_numeral, is_star, is_within, repeated, run_length, run_said, run_values, star_said, starred, times_said, value_said}

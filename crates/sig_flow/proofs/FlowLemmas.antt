@@ -1,5 +1,5 @@
 -- What the lines of a flow file give each input.
-use Rattle.sig_flow.proofs.Common.{◌≡◌, ◌≢◌, ◌<◌, ◌+◌, ℕ, ℤ, List, [], ◌∷◌, ◌++◌, length, get_or, set, map, Option, None, Some, Result, Ok, Err, bytes_eq, sym, refl, ◌∙◌, ap, subst, ⊎_elim, ◌⊎◌, inl, inr, arith, cases_eq, get_or_default, get_or-set_same, get_or-set_other, get_or-map, append-nil, ext_get_or, length-map, bytes_eq-Decides, IsDistinct, IfOk, IfErr, MatchResult, IsErrAnd, lines, Signal, FlowAnswer, OutOfMemory, Version, first_fault, AreFlows, AreFlowsIn, Body, IsFirstBadPlace, IsFirstIn, file_body, flow_in, line_judge, text_fault, values_for, values_of, Line, numbered, Word}
+use Rattle.sig_flow.proofs.Common.{◌≡◌, ◌≢◌, ◌<◌, ◌+◌, ℕ, ℤ, List, [], ◌∷◌, ◌++◌, length, get_or, set, map, Option, None, Some, Result, Ok, Err, bytes_eq, sym, refl, ◌∙◌, ap, subst, ⊎_elim, ◌⊎◌, inl, inr, arith, cases_eq, get_or_default, get_or-set_same, get_or-set_other, get_or-map, append-nil, ext_get_or, length-map, bytes_eq-Decides, IsDistinct, IfOk, IfErr, MatchResult, IsErrAnd, lines, Signal, FlowAnswer, OutOfMemory, Version, first_fault, AreFlows, AreFlowsIn, Body, IsFirstBadPlace, IsFirstIn, file_body, flow_in, line_judge, text_fault, values_for, values_of, words_count, words_of, Line, numbered, Word, append_assoc, take, drop, take-append_seam}
 use Rattle.sig_flow.proofs.FirstLemmas.{judged_at, good_from_none, first_from_some, not_both, one_first}
 use Rattle.sig_flow.proofs.InputLemmas.{differ_eq, names_differ, nobody}
 
@@ -39,6 +39,28 @@ module _ (version : Version) (inputs : List Signal) (rest line after : List ℕ)
   pub wrong_at : (old : ℕ) (fault : FlowAnswer) → text_fault version inputs number old line ≡ Some fault → first_fault (line_judge version inputs) old (numbered number (lines rest)) ≡ Some fault
   wrong_at old fault wrong =
       judged_at (line_judge version inputs) old (line_at number line) (numbered (number + 1) (lines after)) (numbered number (lines rest)) fault numbered_first wrong
+
+  -- behind a good line
+  pub behind_good : (old : ℕ) → text_fault version inputs number old line ≡ None → first_fault (line_judge version inputs) old (numbered number (lines rest)) ≡ first_fault (line_judge version inputs) (old + words_count version inputs (words_of line)) (numbered (number + 1) (lines after))
+  behind_good old good =
+      ap (first_fault (line_judge version inputs) old) numbered_first
+      ∙ rw good refl
+
+  -- what a line and those behind it give an input
+  pub flow_behind : (input : Signal) → flow_in version (numbered number (lines rest)) input ≡ values_for version input (words_of line) ++ flow_in version (numbered (number + 1) (lines after)) input
+  flow_behind input = ap (λ ls. flow_in version ls input) numbered_first
+
+  -- a flow with what the line gives it, and what the lines behind it give
+  pub flow_on : (old new : List ℤ) (input : Signal) → new ≡ old ++ values_for version input (words_of line) → new ++ flow_in version (numbered (number + 1) (lines after)) input ≡ old ++ flow_in version (numbered number (lines rest)) input
+  flow_on old new input is =
+      ap (λ vs. vs ++ flow_in version (numbered (number + 1) (lines after)) input) is
+      ∙ append_assoc old (values_for version input (words_of line)) (flow_in version (numbered (number + 1) (lines after)) input)
+      ∙ ap (λ vs. old ++ vs) (sym (flow_behind input))
+
+-- what is written over flows of the same number is all of them
+pub written_flows : (len : ℕ) (new items : List (List ℤ)) → length new ≡ length items → len ≡ length items → take len (new ++ drop (length new) items) ≡ new
+written_flows len new items same is =
+    ap (λ n. take n (new ++ drop (length new) items)) (is ∙ sym same) ∙ take-append_seam new (drop (length new) items)
 
 -- the first line that is wrong
 pub fault_here : (inputs : List Signal) (body : Body) (rest line after : List ℕ) (number before : ℕ) (fault : FlowAnswer) → lines rest ≡ line ∷ lines after → (fault ≡ OutOfMemory) ⊎ (text_fault body.version inputs number before line ≡ Some fault) → first_fault (line_judge body.version inputs) before (numbered number (lines rest)) ≡ first_fault (line_judge body.version inputs) 0 body.lines → (fault ≡ OutOfMemory) ⊎ IsFirstIn inputs body fault

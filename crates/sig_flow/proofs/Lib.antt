@@ -26,4 +26,4 @@ pub use Numerals.*
 pub use ShortNumbers.*
 pub use StarLemmas.*
 pub use TakenPieces.*
-pub use Rattle.sig_flow.proofs.FlowLemmas.{all_read, given, refused}
+pub use Rattle.sig_flow.proofs.FlowLemmas.{all_read, flow_on, given, refused, written_flows}

@@ -1,7 +1,6 @@
 -- The body of a flow file, as it is read.
-use Rattle.std.specs.Prelude.{◌≡◌, true, false, List, [], ◌∷◌}
-use Rattle.std.specs.Str.Lines.{lines}
-use Rattle.sig_base.specs.declared.signal.Signal.{Signal}
+use Rattle.std.specs.Prelude.{◌≡◌, ◌∷◌}
+use Rattle.sig_flow.specs.Prelude.{true, false, List, [], lines, Signal}
 use Rattle.sig_flow.specs.Flows.{Body, is_header}
 use Rattle.sig_flow.specs.Lines.{numbered}
 use Rattle.sig_flow.specs.Words.{Word}

@@ -1,7 +1,6 @@
 -- Runs of decimal digits.
-use Rattle.std.specs.Prelude.{◌≡◌, ◌<◌, ℕ, Bool, ◌&&◌, nat_lt, nat_le, List, length, Option, None, Some, IsTrue, if◌then◌else◌}
-use Rattle.std.specs.Str.{all_ascii_digits}
-use Rattle.std.specs.Str.Parse.{digits_value}
+use Rattle.std.specs.Prelude.{◌≡◌, ◌<◌, ◌&&◌, if◌then◌else◌}
+use Rattle.sig_flow.specs.Prelude.{ℕ, Bool, nat_lt, nat_le, List, length, Option, None, Some, IsTrue, all_ascii_digits, digits_value}
 
 -- digits, at least one
 abbrev pub is_digits : List ℕ → Bool

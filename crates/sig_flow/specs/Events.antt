@@ -1,6 +1,6 @@
 -- Event files: a line is an event, or holds nothing but blanks.
-use Rattle.std.specs.Prelude.{◌≡◌, ℕ, List, [], ◌∷◌, codes, bytes_eq, nat_lt, length, flat_map, Option, None, Some, option_to_list, if◌then◌else◌}
-use Rattle.sig_base.specs.declared.limits.TheConstants.{EVENTS}
+use Rattle.std.specs.Prelude.{◌≡◌, ◌∷◌, if◌then◌else◌}
+use Rattle.sig_flow.specs.Prelude.{ℕ, List, [], codes, bytes_eq, nat_lt, length, flat_map, Option, None, Some, option_to_list, EVENTS}
 use Rattle.sig_flow.specs.Digits.{short_number}
 use Rattle.sig_flow.specs.First.{Judge, AllGood, IsFirst}
 use Rattle.sig_flow.specs.Lines.{Line, lines_of}

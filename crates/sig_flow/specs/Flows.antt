@@ -1,11 +1,7 @@
 -- Flow files: the flows that the lines of a file give the inputs of a program, and the first place
 -- that offends.
-use Rattle.std.specs.Prelude.{◌≡◌, ℕ, ℤ, ◌+◌, Bool, false, ◌==◌, ◌||◌, ◌&&◌, nat_le, List, [], ◌∷◌, codes, bytes_eq, map, flat_map, sum_by, Option, None, Some, is_none, Result, Ok, Err, if◌then◌else◌}
-use Rattle.std.specs.List.{list_all}
-use Rattle.std.specs.Char.{is_ascii_alphabetic, is_ascii_alphanumeric}
-use Rattle.sig_base.specs.declared.ids.Kind.{Kind}
-use Rattle.sig_base.specs.declared.signal.Signal.{Signal}
-use Rattle.sig_base.specs.declared.limits.TheConstants.{VALUES}
+use Rattle.std.specs.Prelude.{◌≡◌, ◌+◌, ◌==◌, ◌||◌, ◌&&◌, ◌∷◌, if◌then◌else◌}
+use Rattle.sig_flow.specs.Prelude.{ℕ, ℤ, Bool, false, nat_le, List, [], codes, bytes_eq, map, flat_map, sum_by, Option, None, Some, is_none, Result, Ok, Err, list_all, is_ascii_alphabetic, is_ascii_alphanumeric, Kind, Signal, VALUES}
 use Rattle.sig_flow.specs.First.{Judge, AllGood, IsFirst, first_fault}
 use Rattle.sig_flow.specs.Lines.{Line, lines_of}
 use Rattle.sig_flow.specs.Values.{run_said, run_length, run_values}

@@ -1,3 +1,4 @@
+pub mod Prelude
 pub mod Bodies
 pub mod Digits
 pub mod Events

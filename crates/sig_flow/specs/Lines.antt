@@ -1,6 +1,6 @@
 -- The lines of a file, with their numbers.
-use Rattle.std.specs.Prelude.{ℕ, ◌+◌, List, [], ◌∷◌}
-use Rattle.std.specs.Str.Lines.{lines}
+use Rattle.std.specs.Prelude.{◌+◌, ◌∷◌}
+use Rattle.sig_flow.specs.Prelude.{ℕ, List, [], lines}
 
 -- a line, and its number, counted from 1
 pub record Line : Type 0 where

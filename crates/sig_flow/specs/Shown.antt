@@ -1,7 +1,7 @@
 -- The refusals of files as texts: what stands on standard error behind `error: ` and the file's name
 -- with a colon.
-use Rattle.std.specs.Prelude.{ℕ, ◌++◌, List, codes}
-use Rattle.std.specs.Fmt.{decimal}
+use Rattle.std.specs.Prelude.{◌++◌}
+use Rattle.sig_flow.specs.Prelude.{ℕ, List, codes, decimal}
 use Rattle.sig_flow.specs.declared.answer.EventAnswer.{EventAnswer}
 use Rattle.sig_flow.specs.declared.answer.FlowAnswer.{FlowAnswer}
 use Rattle.sig_flow.specs.declared.answer.EventAnswer.TheVariants.{BadEvent, TooMany as TooManyEvents, OutOfMemory as NoMemory}

@@ -1,10 +1,6 @@
 -- The values that a word of a flow file stands for.
-use Rattle.std.specs.Prelude.{ℕ, ℤ, Bool, false, ◌==◌, ◌&&◌, ◌^◌, nat_lt, nat_le, List, [], ◌∷◌, codes, bytes_eq, length, replicate, pos, neg_ℤ, Option, None, Some, Result, Ok, Err, if◌then◌else◌}
-use Rattle.std.specs.List.{before_first, after_first, position_or_len}
-use Rattle.std.specs.Str.Parse.{digits_value}
-use Rattle.sig_base.specs.declared.ids.Kind.{Kind}
-use Rattle.sig_base.specs.declared.ids.Kind.TheVariants.{Integer, Boolean, Event}
-use Rattle.sig_base.specs.declared.limits.TheConstants.{VALUES}
+use Rattle.std.specs.Prelude.{◌==◌, ◌&&◌, ◌^◌, ◌∷◌, if◌then◌else◌}
+use Rattle.sig_flow.specs.Prelude.{ℕ, ℤ, Bool, false, nat_lt, nat_le, List, [], codes, bytes_eq, length, replicate, pos, neg_ℤ, Option, None, Some, Result, Ok, Err, before_first, after_first, position_or_len, digits_value, Kind, Integer, Boolean, Event, VALUES}
 use Rattle.sig_flow.specs.Digits.{is_digits, short_number}
 use Rattle.sig_flow.specs.declared.version.Version.{Version}
 use Rattle.sig_flow.specs.declared.version.Version.TheVariants.{One, Two}

@@ -1,6 +1,6 @@
 -- The words of a line, with their columns.
-use Rattle.std.specs.Prelude.{ℕ, ◌+◌, ◌==◌, ◌||◌, Bool, List, [], ◌∷◌, length, if◌then◌else◌}
-use Rattle.std.specs.List.{slice_split}
+use Rattle.std.specs.Prelude.{◌+◌, ◌==◌, ◌||◌, ◌∷◌, if◌then◌else◌}
+use Rattle.sig_flow.specs.Prelude.{ℕ, Bool, List, [], length, slice_split}
 
 -- a blank between words: a space or a tab
 abbrev pub is_blank : ℕ → Bool

@@ -1,9 +1,7 @@
 //! Runs of decimal digits.
 
-ghost use Rattle.std.specs.Prelude.{◌≡◌, ◌<◌, ◌≤◌, IsTrue, MatchOption};
-ghost use Rattle.std.specs.Char.{is_ascii_digit};
-ghost use Rattle.std.specs.List.{list_all};
-ghost use Rattle.std.specs.Str.Parse.{digits_value};
+ghost use Rattle.std.specs.Prelude.{◌≡◌, ◌<◌, ◌≤◌};
+ghost use Rattle.sig_flow.specs.Prelude.{IsTrue, MatchOption, is_ascii_digit, list_all, digits_value};
 ghost use Rattle.sig_flow.specs.Digits.{is_digits, short_number};
 
 /// The magnitude of the least integer of 64 bits.

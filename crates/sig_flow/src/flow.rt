@@ -1,7 +1,7 @@
 //! The flows of the lines of a flow file.
 
-ghost use Rattle.std.specs.Prelude.{◌≡◌, ◌≤◌, ◌<◌, ◌+◌, ◌^◌, ◌⊎◌, ℕ, [], bytes_eq, length, map, vec_len, slice_index_or, IfOk, IfErr};
-ghost use Rattle.std.specs.List.{IsDistinct};
+ghost use Rattle.std.specs.Prelude.{◌≡◌, ◌≤◌, ◌<◌, ◌+◌, ◌^◌, ◌⊎◌};
+ghost use Rattle.sig_flow.specs.Prelude.{ℕ, [], bytes_eq, length, map, vec_len, slice_index_or, IfOk, IfErr, IsDistinct};
 ghost use Rattle.sig_flow.specs.Bodies.{body_behind};
 ghost use Rattle.sig_flow.specs.Flows.{AreFlowsIn, IsFirstIn};
 ghost use Rattle.sig_flow.specs.declared.answer.FlowAnswer.TheVariants.{OutOfMemory};
@@ -10,6 +10,7 @@ use crate::answer::FlowAnswer;
 use crate::body::Body;
 use crate::flow_line::{Context, read_line};
 use crate::line::next_line;
+use crate::names::Names;
 use sig_base::Signal;
 use sig_kernel::Flow;
 use std::alloc::{AllocFailed, Global};
@@ -21,6 +22,7 @@ pub fn flows_of(alloc: Global, body: Body, inputs: &[Signal]) -> Result<Vec<Flow
     ensures flows { IfOk result (λ flows. AreFlowsIn inputs.now (body_behind body.entry) flows.items) }
     ensures fault { IfErr result (λ answer. (answer ≡ OutOfMemory) ⊎ IsFirstIn inputs.now (body_behind body.entry) answer) }
 {
+    let names = Names::of(alloc, inputs)?;
     let mut flows = empty_flows(alloc, inputs.len())?;
     let mut rest = body.lines;
     let mut number = body.number;
@@ -32,7 +34,7 @@ pub fn flows_of(alloc: Global, body: Body, inputs: &[Signal]) -> Result<Vec<Flow
             number,
             before,
         };
-        before = read_line(line, context, inputs, &mut flows)?;
+        before = read_line(line, context, &names, inputs, &mut flows)?;
         number += 1;
         rest = after;
     }

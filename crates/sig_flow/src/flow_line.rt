@@ -1,8 +1,7 @@
 //! One line of a flow file: the name of an input, and its next values.
 
-ghost use Rattle.std.specs.Prelude.{◌≡◌, ◌≤◌, ◌<◌, ◌+◌, ◌++◌, ◌∷◌, ◌^◌, ◌⊎◌, ℕ, [], None, Some, bytes_eq, length, map, slice_index_or, sum_by, OnOk, IfOk, IfErr, IfSome, IfNone};
-ghost use Rattle.std.specs.List.{IsDistinct};
-ghost use Rattle.sig_base.specs.declared.signal.Signal.{Signal};
+ghost use Rattle.std.specs.Prelude.{◌≡◌, ◌≤◌, ◌<◌, ◌+◌, ◌++◌, ◌∷◌, ◌^◌, ◌⊎◌};
+ghost use Rattle.sig_flow.specs.Prelude.{ℕ, [], None, Some, bytes_eq, length, map, slice_index_or, sum_by, OnOk, IfOk, IfErr, IfSome, IfNone, IsDistinct, Signal};
 ghost use Rattle.sig_flow.specs.First.{first_fault};
 ghost use Rattle.sig_flow.specs.Flows.{text_fault, value_judge, values_for, values_of, word_fault, words_count, words_fault};
 ghost use Rattle.sig_flow.specs.NextWords.{word_of, words_behind};
@@ -11,7 +10,8 @@ ghost use Rattle.sig_flow.specs.Words.{words_from, words_of};
 ghost use Rattle.sig_flow.specs.declared.answer.FlowAnswer.TheVariants.{OutOfMemory};
 
 use crate::answer::FlowAnswer;
-use crate::named::{input_named, is_clean, is_name};
+use crate::named::{is_clean, is_name};
+use crate::names::Names;
 use crate::value::{Run, WordFault, run_of};
 use crate::version::Version;
 use crate::word::{Next, next_number, next_word};
@@ -34,9 +34,11 @@ pub struct Context {
 pub fn read_line(
     line: &[u8],
     context: Context,
+    names: &Names,
     inputs: &[Signal],
     flows: &mut [Flow],
 ) -> Result<usize, FlowAnswer>
+    requires names { names.now ≡ inputs.now }
     requires same_length { length flows.old ≡ length inputs.now }
     requires differ { IsDistinct bytes_eq (map (λ input. input.name) inputs.now) }
     requires few { context.before ≤ VALUES }
@@ -53,7 +55,7 @@ pub fn read_line(
     let Some(name) = next_word(line, 1) else {
         return Ok(context.before);
     };
-    match read_words(name, context, inputs, flows) {
+    match read_words(name, context, names, inputs, flows) {
         Ok(count) => Ok(count),
         Err(fault) if is_clean(line) => Err(fault),
         Err(_) => Err(FlowAnswer::BadLine(context.number)),
@@ -64,9 +66,11 @@ pub fn read_line(
 fn read_words(
     name: Next,
     context: Context,
+    names: &Names,
     inputs: &[Signal],
     flows: &mut [Flow],
 ) -> Result<usize, FlowAnswer>
+    requires names { names.now ≡ inputs.now }
     requires same_length { length flows.old ≡ length inputs.now }
     requires differ { IsDistinct bytes_eq (map (λ input. input.name) inputs.now) }
     requires few { context.before ≤ VALUES }
@@ -87,7 +91,7 @@ fn read_words(
     if !is_name(name.word) {
         return Err(FlowAnswer::BadLine(context.number));
     }
-    match input_named(inputs, name.word) {
+    match names.find(name.word) {
         Some(i) => read_values(
             name.rest,
             name.col + name.word.len(),

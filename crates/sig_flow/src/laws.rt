@@ -1,14 +1,11 @@
 //! Laws of the definitions of files.
 
-ghost use Rattle.std.specs.Prelude.{◌≡◌, ◌⊎◌, ◌↔◌, ℕ, ℤ, List, None, Some};
-ghost use Rattle.sig_base.specs.declared.signal.Signal.{Signal};
+ghost use Rattle.std.specs.Prelude.{◌≡◌, ◌⊎◌, ◌↔◌};
+ghost use Rattle.sig_flow.specs.Prelude.{ℕ, ℤ, List, None, Some, Signal, Kind, AreFlowsFor, inputs_of, Kernel};
 ghost use Rattle.sig_flow.specs.Events.{AreEvents, IsFirstBadEvent};
 ghost use Rattle.sig_flow.specs.Flows.{AreFlows, IsFirstBadPlace, value_judge};
 ghost use Rattle.sig_flow.specs.First.{AllGood, IsFirst, first_fault};
 ghost use Rattle.sig_flow.specs.Words.{Word};
-ghost use Rattle.sig_base.specs.declared.ids.Kind.{Kind};
-ghost use Rattle.sig_kernel.specs.Validity.{AreFlowsFor, inputs_of};
-ghost use Rattle.sig_kernel.specs.declared.kernel.Kernel.{Kernel};
 ghost use Rattle.sig_flow.specs.declared.version.Version.{Version};
 ghost use Rattle.sig_flow.specs.declared.answer.EventAnswer.{EventAnswer};
 ghost use Rattle.sig_flow.specs.declared.answer.FlowAnswer.{FlowAnswer};

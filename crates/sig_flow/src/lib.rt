@@ -12,6 +12,7 @@ mod flow_line;
 mod laws;
 mod line;
 mod named;
+mod names;
 mod pieces;
 mod put;
 mod read;

@@ -1,7 +1,7 @@
 //! Lines of a file.
 
-ghost use Rattle.std.specs.Prelude.{◌≡◌, ◌<◌, ◌∷◌, length};
-ghost use Rattle.std.specs.Str.Lines.{lines, strip_carriage_return};
+ghost use Rattle.std.specs.Prelude.{◌≡◌, ◌<◌, ◌∷◌};
+ghost use Rattle.sig_flow.specs.Prelude.{length, lines, strip_carriage_return};
 
 use memchr::memchr;
 

@@ -1,7 +1,7 @@
 //! Names of inputs.
 
-ghost use Rattle.std.specs.Prelude.{◌≡◌, ◌↔◌, IfSome, IfNone, IsTrue, None};
-ghost use Rattle.std.specs.List.{list_all};
+ghost use Rattle.std.specs.Prelude.{◌≡◌, ◌↔◌};
+ghost use Rattle.sig_flow.specs.Prelude.{IfSome, IfNone, IsTrue, None, list_all};
 ghost use Rattle.sig_flow.specs.Flows.{is_line_byte, is_name, is_name_byte, kind_named};
 ghost use Rattle.sig_flow.specs.Inputs.{IsInput};
 

@@ -1,8 +1,7 @@
 //! Writing several pieces, one after another.
 
-ghost use Rattle.std.specs.Prelude.{◌≤◌, OnOk, OnErr, flat_map};
-ghost use Rattle.sig_text.specs.Counts.{Rose};
-ghost use Rattle.sig_text.specs.Sink.{TookPrefix};
+ghost use Rattle.std.specs.Prelude.{◌≤◌};
+ghost use Rattle.sig_flow.specs.Prelude.{OnOk, OnErr, flat_map, Rose, TookPrefix};
 
 use sig_text::{Sink, WriteFault, put_all};
 

@@ -1,9 +1,7 @@
 //! One line of the output text.
 
-ghost use Rattle.std.specs.Prelude.{◌≡◌, ◌≤◌, OnOk, OnErr};
-ghost use Rattle.sig_text.specs.Counts.{Rose};
-ghost use Rattle.sig_text.specs.Sink.{TookPrefix};
-ghost use Rattle.sig_kernel.specs.OutputText.{line_of, line_with, truth_text};
+ghost use Rattle.std.specs.Prelude.{◌≡◌, ◌≤◌};
+ghost use Rattle.sig_flow.specs.Prelude.{OnOk, OnErr, Rose, TookPrefix, line_of, line_with, truth_text};
 
 use crate::pieces::put_pieces;
 use itoa::Buffer;

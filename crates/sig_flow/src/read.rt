@@ -1,8 +1,7 @@
 //! Flow files.
 
-ghost use Rattle.std.specs.Prelude.{◌≡◌, ◌⊎◌, ℤ, List, bytes_eq, map, IfOk, IfErr, IsErrAnd, MatchResult};
-ghost use Rattle.std.specs.List.{IsDistinct};
-ghost use Rattle.sig_kernel.specs.Validity.{inputs_of};
+ghost use Rattle.std.specs.Prelude.{◌≡◌, ◌⊎◌};
+ghost use Rattle.sig_flow.specs.Prelude.{ℤ, List, bytes_eq, map, IfOk, IfErr, IsErrAnd, MatchResult, IsDistinct, inputs_of};
 ghost use Rattle.sig_flow.specs.Flows.{AreFlows, IsFirstBadPlace};
 ghost use Rattle.sig_flow.specs.declared.answer.FlowAnswer.{FlowAnswer};
 

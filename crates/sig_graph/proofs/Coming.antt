@@ -1,22 +1,5 @@
 -- Which operations come before which.
-use Rattle.std.proofs.Common.{◌≡◌, ◌<◌, ◌+◌, ◌⊎◌, inl, inr, ◌↔◌, ℕ, Bool, true, false, List, [], ◌∷◌, ◌++◌, length, get_or, refl, sym, ap, ◌∙◌, subst, arith, Contains, IsTrue, eqb, eq-eqb}
-use Rattle.std.specs.Prelude.{zero, suc, Option, None, Some, slice_get, slice_index_or, take, ◌||◌}
-use Rattle.std.specs.List.{filter_map, list_any}
-use Rattle.std.proofs.lemmas.Bool.{cases_order, eqb-true, false≢true}
-use Rattle.std.proofs.lemmas.List.{get_or_append_left, get_or_push, length-take-le}
-use Rattle.std.proofs.lemmas.List.Elements.{Contains-append_left, Contains-push, Contains-push_cases}
-use Rattle.sig_base.specs.declared.ids.EqId.{EqId}
-use Rattle.sig_base.specs.declared.ids.SigId.{SigId}
-use Rattle.sig_dd.specs.Diagram.{Depends}
-use Rattle.sig_dd.specs.Nodes.{Overlap, test}
-use Rattle.sig_dd.specs.declared.node.Node.{Node}
-use Rattle.sig_plan.specs.Operations.{operation_in}
-use Rattle.sig_plan.specs.Order.{ComesBefore, Keeps, Needs}
-use Rattle.sig_plan.specs.declared.op.Op.{Op}
-use Rattle.sig_plan.specs.declared.op.OpKind.{OpKind}
-use Rattle.sig_plan.specs.declared.op.OpKind.TheVariants.{Read, Compute, Left, Right, DelayRead, Store}
-use Rattle.sig_graph.specs.Graphs.{IsBefore, added}
-use Rattle.sig_graph.specs.Memories.{keeps_memory}
+use Rattle.sig_graph.proofs.Common.{◌≡◌, ◌<◌, ◌+◌, ◌⊎◌, inl, inr, ◌↔◌, ℕ, Bool, true, false, List, [], ◌∷◌, ◌++◌, length, get_or, refl, sym, ap, ◌∙◌, subst, arith, Contains, IsTrue, eqb, eq-eqb, zero, suc, Option, None, Some, slice_get, slice_index_or, take, ◌||◌, filter_map, list_any, cases_order, eqb-true, false≢true, get_or_append_left, get_or_push, length-take-le, Contains-append_left, Contains-push, Contains-push_cases, EqId, SigId, Depends, Overlap, test, Node, operation_in, ComesBefore, Keeps, Needs, Op, OpKind, Read, Compute, Left, Right, DelayRead, Store, IsBefore, added, keeps_memory}
 use Rattle.sig_graph.proofs.Lists.{chosen, chosen_from, get_is, get_within, is_taken, taken_is}
 
 equation_same : (a b : EqId) → eqb a.0 b.0 ≡ true → a ≡ b

@@ -1,18 +1,5 @@
 -- How often numbers stand in lists, and how many of them are left.
-use Rattle.std.proofs.Common.{◌≡◌, ◌≢◌, ◌<◌, ◌≤◌, ◌+◌, ◌⊎◌, inl, inr, ◌↔◌, ℕ, Bool, true, false, List, [], ◌∷◌, ◌++◌, length, map, get_or, set, replicate, refl, sym, ap, ◌∙◌, subst, arith, Contains, eqb, eq-eqb, cond, Ordering}
-use Rattle.std.specs.Prelude.{zero, suc, not, take}
-use Rattle.std.specs.BTreeSet.{BTreeSet, contains}
-use Rattle.std.specs.Cmp.{nat_cmp_is}
-use Rattle.std.specs.Ordering.{nat_cmp, is_eq}
-use Rattle.std.specs.declared.cmp.Ordering.TheVariants.{Less, Equal, Greater}
-use Rattle.std.proofs.lemmas.Bool.{cases_order, eqb-true, ne_eqb, false≢true}
-use Rattle.std.proofs.lemmas.List.{get_or-map, get_or-set_other, get_or-set_same, get_or_past, get_or-take, length-map, length-set, take_more}
-use Rattle.std.proofs.lemmas.List.Elements.{Contains-append_cases, Contains-append_left, Contains-append_right}
-use Rattle.std.proofs.lemmas.List.Sums.{sum_by-append, sum_by-cons}
-use Rattle.std.proofs.lemmas.Map.Lookups.{exact_unsigned}
-use Rattle.sig_clock.specs.ClockRefusals.{IsLeast}
-use Rattle.sig_graph.specs.Counts.{Adds, AreSuccessors, Has, Releases, Takes, left_in, occurs}
-use Rattle.sig_graph.specs.Graphs.{Edge, IsOpen, mark_at}
+use Rattle.sig_graph.proofs.Common.{◌≡◌, ◌≢◌, ◌<◌, ◌≤◌, ◌+◌, ◌⊎◌, inl, inr, ◌↔◌, ℕ, Bool, true, false, List, [], ◌∷◌, ◌++◌, length, map, get_or, set, replicate, refl, sym, ap, ◌∙◌, subst, arith, Contains, eqb, eq-eqb, cond, Ordering, zero, suc, not, take, BTreeSet, contains, nat_cmp_is, nat_cmp, is_eq, Less, Equal, Greater, cases_order, eqb-true, ne_eqb, false≢true, get_or-map, get_or-set_other, get_or-set_same, get_or_past, get_or-take, length-map, length-set, take_more, Contains-append_cases, Contains-append_left, Contains-append_right, sum_by-append, sum_by-cons, exact_unsigned, IsLeast, Adds, AreSuccessors, Has, Releases, Takes, left_in, occurs, Edge, IsOpen, mark_at}
 use Rattle.sig_graph.proofs.Lists.{contains_none}
 use Rattle.sig_graph.proofs.Takings.{marked_more, no_mark, taking_begins, taking_goes_on}
 

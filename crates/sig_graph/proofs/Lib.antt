@@ -1,6 +1,14 @@
+pub mod Common
 pub mod Lists
 pub mod Coming
 pub mod Counting
 pub mod Takings
 pub mod Walking
 pub mod Relating
+pub use Common.*
+pub use Coming.*
+pub use Counting.*
+pub use Lists.*
+pub use Relating.*
+pub use Takings.*
+pub use Walking.*

@@ -1,8 +1,5 @@
 -- Elements of lists.
-use Rattle.std.proofs.Common.{◌≡◌, ◌<◌, ◌&&◌, ℕ, Bool, true, false, List, [], ◌∷◌, length, map, get_or, refl, sym, ap, ◌∙◌, arith, Contains}
-use Rattle.std.specs.Prelude.{zero, suc, Option, None, Some, slice_get, take}
-use Rattle.std.specs.List.{cons_option, filter_map, list_all}
-use Rattle.std.proofs.lemmas.Bool.{false≢true}
+use Rattle.sig_graph.proofs.Common.{◌≡◌, ◌<◌, ◌&&◌, ℕ, Bool, true, false, List, [], ◌∷◌, length, map, get_or, refl, sym, ap, ◌∙◌, arith, Contains, zero, suc, Option, None, Some, slice_get, take, cons_option, filter_map, list_all, false≢true}
 
 pub get_at : {X : Type 0} (xs : List X) (k : ℕ) (d : X) → k < length xs → slice_get xs k ≡ Some (get_or xs k d)
 get_at [] k d lt = absurd (omega (arith, lt))

@@ -1,17 +1,5 @@
 -- What a graph of operations says of them.
-use Rattle.std.proofs.Common.{◌≡◌, ◌<◌, inl, inr, ℕ, List, length, get_or, refl, sym, ap, ◌∙◌, subst, arith}
-use Rattle.std.specs.Prelude.{None, Some, slice_get, take}
-use Rattle.std.proofs.lemmas.List.{length-map}
-use Rattle.sig_base.specs.declared.ids.SigId.{SigId}
-use Rattle.sig_dd.specs.declared.node.Node.{Node}
-use Rattle.sig_plan.specs.Operations.{Operation, operation_in, operations_in}
-use Rattle.sig_plan.specs.Order.{ComesBefore, HasNoCycle, IsCycle, IsOnCycle, IsOrdered, IsReady, Precedes, Reaches, directly, onward}
-use Rattle.sig_plan.specs.declared.op.Op.{Op}
-use Rattle.sig_plan.specs.declared.op.OpKind.{OpKind}
-use Rattle.sig_plan.specs.declared.op.OpKind.TheVariants.{DelayRead, Store}
-use Rattle.sig_plan.proofs.Orders.{none_before_itself}
-use Rattle.sig_graph.specs.Graphs.{Edge, IsAcyclic, IsGraph, IsWithin}
-use Rattle.sig_graph.specs.Marks.{IsLeastOnCycle, WritesOnCycle}
+use Rattle.sig_graph.proofs.Common.{◌≡◌, ◌<◌, inl, inr, ℕ, List, length, get_or, refl, sym, ap, ◌∙◌, subst, arith, None, Some, slice_get, take, length-map, SigId, Node, Operation, operation_in, operations_in, ComesBefore, HasNoCycle, IsCycle, IsOnCycle, IsOrdered, IsReady, Precedes, Reaches, directly, onward, Op, OpKind, DelayRead, Store, none_before_itself, Edge, IsAcyclic, IsGraph, IsWithin, IsLeastOnCycle, WritesOnCycle}
 use Rattle.sig_graph.proofs.Counting.{edge_within}
 use Rattle.sig_graph.proofs.Lists.{get_map, get_some, get_within, map_get}
 

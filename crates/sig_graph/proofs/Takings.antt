@@ -1,16 +1,6 @@
 -- Numbers that are taken one after another.
-use Rattle.std.proofs.Common.{◌≡◌, ◌≢◌, ◌<◌, ◌≤◌, ◌+◌, ◌⊎◌, inl, inr, ◌↔◌, ℕ, Bool, true, false, List, [], ◌∷◌, ◌++◌, length, get_or, set, replicate, refl, sym, ap, ◌∙◌, subst, arith, Contains, get_or-set_same, get_or-set_other}
-use Rattle.std.specs.Prelude.{zero, suc, All, take, sum_by, fold, if◌then◌else◌}
-use Rattle.std.specs.List.{list_all}
-use Rattle.std.proofs.lemmas.Bool.{cases_order, false≢true}
-use Rattle.std.proofs.lemmas.List.{get_or_append_left, get_or_push, get_or_read, length-replicate, length-set, length_push, take-append-le, take_at}
-use Rattle.std.proofs.lemmas.List.Elements.{All-contains, Contains-append_left, Contains-get_or, Contains-push, Contains-push_cases}
-use Rattle.std.proofs.lemmas.List.Sums.{AllPass-from_list_all, sum_by-set, count_by-le-length}
-use Rattle.sig_clock.specs.ClockRefusals.{IsLeast}
-use Rattle.sig_plan.specs.Order.{IsOrdered, IsReady, Reaches, directly, onward}
-use Rattle.sig_graph.specs.Graphs.{Edge, IsAcyclic, IsOpen, IsTaken, IsTakenOut, IsWithin, mark_at, marked_count}
+use Rattle.sig_graph.proofs.Common.{◌≡◌, ◌≢◌, ◌<◌, ◌≤◌, ◌+◌, ◌⊎◌, inl, inr, ◌↔◌, ℕ, Bool, true, false, List, [], ◌∷◌, ◌++◌, length, get_or, set, replicate, refl, sym, ap, ◌∙◌, subst, arith, Contains, get_or-set_same, get_or-set_other, zero, suc, All, take, sum_by, fold, if◌then◌else◌, list_all, cases_order, false≢true, get_or_append_left, get_or_push, get_or_read, length-replicate, length-set, length_push, take-append-le, take_at, All-contains, Contains-append_left, Contains-get_or, Contains-push, Contains-push_cases, AllPass-from_list_all, sum_by-set, count_by-le-length, IsLeast, IsOrdered, IsReady, Reaches, directly, onward, Edge, IsAcyclic, IsOpen, IsTaken, IsTakenOut, IsWithin, mark_at, marked_count, two_are_same}
 use Rattle.sig_graph.proofs.Lists.{contains_none, failing}
-use Rattle.sig_plan.proofs.Pigeons.{two_are_same}
 
 pub no_mark : (n k : ℕ) → mark_at (replicate n false) k ≡ false
 no_mark zero k = refl

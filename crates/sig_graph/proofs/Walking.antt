@@ -1,16 +1,5 @@
 -- Walks over a graph against its edges.
-use Rattle.std.proofs.Common.{◌≡◌, ◌<◌, ◌≤◌, ◌+◌, ◌⊎◌, inl, inr, ℕ, Bool, true, false, List, [], ◌∷◌, ◌++◌, length, get_or, set, replicate, refl, sym, ap, ◌∙◌, subst, arith, Contains}
-use Rattle.std.specs.Prelude.{Option, None, Some, slice_get, nat_lt, if◌then◌else◌}
-use Rattle.std.proofs.lemmas.Bool.{ltb-false, ltb-true}
-use Rattle.sig_base.specs.declared.ids.SigId.{SigId}
-use Rattle.sig_clock.specs.ClockRefusals.{IsLeast}
-use Rattle.sig_plan.specs.declared.op.Op.{Op}
-use Rattle.std.proofs.lemmas.Bool.{cases_order, false≢true}
-use Rattle.std.proofs.lemmas.List.{length-replicate, length-set, length_push}
-use Rattle.std.proofs.lemmas.List.Elements.{Contains-append_cases, Contains-append_left, Contains-append_right, Contains-push, Contains-push_cases}
-use Rattle.sig_plan.specs.Order.{Reaches, directly, onward}
-use Rattle.sig_graph.specs.Graphs.{Edge, mark_at}
-use Rattle.sig_graph.specs.Marks.{AreReaching, IsLeastOnCycle, Visits, Walks, WritesOnCycle, lesser}
+use Rattle.sig_graph.proofs.Common.{◌≡◌, ◌<◌, ◌≤◌, ◌+◌, ◌⊎◌, inl, inr, ℕ, Bool, true, false, List, [], ◌∷◌, ◌++◌, length, get_or, set, replicate, refl, sym, ap, ◌∙◌, subst, arith, Contains, Option, None, Some, slice_get, nat_lt, if◌then◌else◌, ltb-false, ltb-true, SigId, IsLeast, Op, cases_order, false≢true, length-replicate, length-set, length_push, Contains-append_cases, Contains-append_left, Contains-append_right, Contains-push, Contains-push_cases, Reaches, directly, onward, Edge, mark_at, AreReaching, IsLeastOnCycle, Visits, Walks, WritesOnCycle, lesser}
 use Rattle.sig_graph.proofs.Lists.{contains_none}
 use Rattle.sig_graph.proofs.Takings.{marked_more, marked_within, no_mark, one_marked}
 

@@ -1,7 +1,6 @@
 -- How many predecessors of each number are not taken yet, and which numbers are ready.
-use Rattle.std.specs.Prelude.{◌≡◌, ◌≢◌, ◌<◌, ◌+◌, ◌⊎◌, ◌↔◌, ◌==◌, ℕ, Bool, true, List, [], length, not, slice_index_or, count_by, Contains, IsTrue}
-use Rattle.std.specs.BTreeSet.{BTreeSet, contains}
-use Rattle.std.specs.Ordering.{nat_cmp}
+use Rattle.std.specs.Prelude.{◌≡◌, ◌≢◌, ◌<◌, ◌+◌, ◌⊎◌, ◌↔◌, ◌==◌}
+use Rattle.sig_graph.specs.Prelude.{ℕ, Bool, true, List, [], length, not, slice_index_or, count_by, Contains, IsTrue, BTreeSet, contains, nat_cmp}
 use Rattle.sig_graph.specs.Graphs.{Edge, IsOpen, IsTaken, mark_at}
 
 -- how often a number stands in a list

@@ -1,11 +1,6 @@
 -- Graphs on the numbers below a count: to each number the list of those that precede it.
-use Rattle.std.specs.Prelude.{◌≡◌, ◌<◌, ◌↔◌, ℕ, Bool, true, false, List, [], ◌∷◌, ◌++◌, length, slice_get, slice_index_or, slice_index, take, count_by, Some, Contains}
-use Rattle.sig_base.specs.declared.ids.SigId.{SigId}
-use Rattle.sig_clock.specs.ClockRefusals.{IsLeast}
-use Rattle.sig_dd.specs.declared.node.Node.{Node}
-use Rattle.sig_plan.specs.Operations.{operation_in}
-use Rattle.sig_plan.specs.Order.{ComesBefore, IsReady, Reaches}
-use Rattle.sig_plan.specs.declared.op.Op.{Op}
+use Rattle.std.specs.Prelude.{◌≡◌, ◌<◌, ◌↔◌, ◌∷◌, ◌++◌}
+use Rattle.sig_graph.specs.Prelude.{ℕ, Bool, true, false, List, [], length, slice_get, slice_index_or, slice_index, take, count_by, Some, Contains, SigId, IsLeast, Node, operation_in, ComesBefore, IsReady, Reaches, Op}
 
 -- p precedes q
 abbrev pub Edge : List (List ℕ) → ℕ → ℕ → Type 0

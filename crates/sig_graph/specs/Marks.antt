@@ -1,10 +1,7 @@
 -- What a walk over a graph marks.
-use Rattle.std.specs.Prelude.{◌≡◌, ◌<◌, ◌+◌, ◌⊎◌, ◌↔◌, ℕ, Bool, true, List, length, slice_get, Option, None, Some, Contains, nat_lt, if◌then◌else◌}
-use Rattle.sig_base.specs.declared.ids.SigId.{SigId}
-use Rattle.sig_clock.specs.ClockRefusals.{IsLeast}
+use Rattle.std.specs.Prelude.{◌≡◌, ◌<◌, ◌+◌, ◌⊎◌, ◌↔◌, if◌then◌else◌}
+use Rattle.sig_graph.specs.Prelude.{ℕ, Bool, true, List, length, slice_get, Option, None, Some, Contains, nat_lt, SigId, IsLeast, Reaches, Op}
 use Rattle.sig_graph.specs.Graphs.{Edge, mark_at, marked_count}
-use Rattle.sig_plan.specs.Order.{Reaches}
-use Rattle.sig_plan.specs.declared.op.Op.{Op}
 
 -- the numbers of a list were marked, and those that were not marked before wait
 pub record Visits (before : List ℕ) (old new : List Bool) (waited waiting : List ℕ) : Type 0 where

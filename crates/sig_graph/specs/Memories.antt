@@ -1,8 +1,6 @@
 -- The read and the store of one delay.
-use Rattle.std.specs.Prelude.{Bool, false, ◌==◌, Option, None, Some}
-use Rattle.sig_base.specs.declared.ids.EqId.{EqId}
-use Rattle.sig_plan.specs.declared.op.OpKind.{OpKind}
-use Rattle.sig_plan.specs.declared.op.OpKind.TheVariants.{Read, Compute, Left, Right, DelayRead, Store}
+use Rattle.std.specs.Prelude.{◌==◌}
+use Rattle.sig_graph.specs.Prelude.{Bool, false, Option, None, Some, EqId, OpKind, Read, Compute, Left, Right, DelayRead, Store}
 
 abbrev pub is_equation : Option EqId → EqId → Bool
 is_equation None e = false

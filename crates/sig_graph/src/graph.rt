@@ -1,13 +1,9 @@
 //! Which operations precede which.
 
-ghost use Rattle.std.specs.Prelude.{◌≡◌, ◌↔◌, IfOk, OnOk, IsTrue, All, Contains, List, map, slice_get};
-ghost use Rattle.std.specs.List.{filter_map};
-ghost use Rattle.sig_base.specs.declared.ids.SigId.{SigId};
-ghost use Rattle.sig_dd.specs.Nodes.{Holds};
+ghost use Rattle.std.specs.Prelude.{◌≡◌, ◌↔◌};
+ghost use Rattle.sig_graph.specs.Prelude.{IfOk, OnOk, IsTrue, All, Contains, List, map, slice_get, filter_map, SigId, Holds, operation_in, ComesBefore, Needs};
 ghost use Rattle.sig_graph.specs.Graphs.{IsBefore, IsGraph, added};
 ghost use Rattle.sig_graph.specs.Memories.{is_equation, keeps_memory};
-ghost use Rattle.sig_plan.specs.Operations.{operation_in};
-ghost use Rattle.sig_plan.specs.Order.{ComesBefore, Needs};
 
 use crate::numbers::Numbers;
 use sig_base::{EqId, SigId};

@@ -1,13 +1,7 @@
 //! The compiled order.
 
-ghost use Rattle.std.specs.Prelude.{All, IfErr, IfOk};
-ghost use Rattle.sig_clock.specs.Clocks.{AreClocks};
-ghost use Rattle.sig_dd.specs.Nodes.{Holds};
+ghost use Rattle.sig_graph.specs.Prelude.{All, IfErr, IfOk, AreClocks, Holds, IsValid, AreOperations, operations_in, HasNoCycle, IsCompiledOrder, numbers_of};
 ghost use Rattle.sig_graph.specs.Answers.{IsRefusal};
-ghost use Rattle.sig_kernel.specs.Validity.{IsValid};
-ghost use Rattle.sig_plan.specs.Operations.{AreOperations, operations_in};
-ghost use Rattle.sig_plan.specs.Order.{HasNoCycle, IsCompiledOrder};
-ghost use Rattle.sig_plan.specs.Plans.{numbers_of};
 
 use crate::answer::GraphAnswer;
 use crate::cycles::least_on_cycle;

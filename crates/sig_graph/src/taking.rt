@@ -1,8 +1,8 @@
 //! Numbers taken in order, each behind those that precede it.
 
-ghost use Rattle.std.specs.Prelude.{◌^◌, ◌<◌, IfOk, length};
+ghost use Rattle.std.specs.Prelude.{◌^◌, ◌<◌};
+ghost use Rattle.sig_graph.specs.Prelude.{IfOk, length, numbers_of};
 ghost use Rattle.sig_graph.specs.Graphs.{IsTakenOut, IsWithin};
-ghost use Rattle.sig_plan.specs.Plans.{numbers_of};
 
 use crate::counts::{counts_of, ready_first, release};
 use crate::numbers::Numbers;

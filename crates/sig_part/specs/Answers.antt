@@ -1,12 +1,8 @@
 -- Why operations are not split.
-use Rattle.std.specs.Prelude.{◌≡◌, List}
-use Rattle.sig_base.specs.declared.ids.SigId.{SigId}
-use Rattle.sig_base.specs.declared.limits.TheConstants.{LINKS}
-use Rattle.sig_kernel.specs.declared.kernel.Kernel.{Kernel}
+use Rattle.std.specs.Prelude.{◌≡◌}
+use Rattle.sig_part.specs.Prelude.{List, SigId, LINKS, Kernel, Operation, NeedsTooManyLinks}
 use Rattle.sig_part.specs.declared.answer.PartAnswer.{PartAnswer}
 use Rattle.sig_part.specs.declared.answer.PartAnswer.TheVariants.{TooManyLinks, OutOfMemory}
-use Rattle.sig_plan.specs.Operations.{Operation}
-use Rattle.sig_plan.specs.Parts.{NeedsTooManyLinks}
 
 -- operations are not split where they need more links than are kept, or for want of memory
 abbrev pub IsRefusal : Kernel → List SigId → List Operation → PartAnswer → Type 0

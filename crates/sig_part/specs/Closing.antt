@@ -1,7 +1,6 @@
 -- Signals that are closed under what is needed for them, of those that pass a test.
-use Rattle.std.specs.Prelude.{◌≡◌, ◌+◌, ◌==◌, ◌⊎◌, ◌↔◌, ℕ, Bool, true, false, not, List, [], length, slice_get, slice_index_or, Option, None, Some, Contains}
-use Rattle.sig_base.specs.declared.ids.SigId.{SigId}
-use Rattle.sig_base.specs.declared.signal.Signal.{Signal}
+use Rattle.std.specs.Prelude.{◌≡◌, ◌+◌, ◌==◌, ◌⊎◌, ◌↔◌}
+use Rattle.sig_part.specs.Prelude.{ℕ, Bool, true, false, not, List, [], length, slice_get, slice_index_or, Option, None, Some, Contains, SigId, Signal}
 use Rattle.sig_part.specs.Marks.{mark_at, marked_count}
 
 abbrev pub is_other : ℕ → Option Signal → Bool

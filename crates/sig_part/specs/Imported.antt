@@ -1,11 +1,7 @@
 -- The imports of each actor as marks.
-use Rattle.std.specs.Prelude.{◌≡◌, ◌<◌, ◌↔◌, ℕ, Bool, true, List, [], length, slice_index_or}
-use Rattle.sig_base.specs.declared.ids.SigId.{SigId}
-use Rattle.sig_kernel.specs.declared.kernel.Kernel.{Kernel}
+use Rattle.std.specs.Prelude.{◌≡◌, ◌<◌, ◌↔◌}
+use Rattle.sig_part.specs.Prelude.{ℕ, Bool, true, List, [], length, slice_index_or, SigId, Kernel, AreWritten, Operation, Imports}
 use Rattle.sig_part.specs.Marks.{mark_at}
-use Rattle.sig_plan.specs.Written.{AreWritten}
-use Rattle.sig_plan.specs.Operations.{Operation}
-use Rattle.sig_plan.specs.Parts.{Imports}
 
 -- the marked signals are those that the actor imports
 pub record AreImported (kernel : Kernel) (conditions : List SigId) (operations : List Operation) (actor : ℕ) (marks : List Bool) : Type 0 where

@@ -1,12 +1,7 @@
 -- The links of signals that are marked for each actor as its imports.
-use Rattle.std.specs.Prelude.{◌≡◌, ◌<◌, ◌⊎◌, ◌++◌, ℕ, Bool, true, List, [], length, map, slice_get, slice_index_or, Some, Contains}
-use Rattle.std.specs.List.{range_with_len}
-use Rattle.sig_base.specs.declared.ids.SigId.{SigId}
-use Rattle.sig_base.specs.declared.signal.Signal.{Signal}
+use Rattle.std.specs.Prelude.{◌≡◌, ◌<◌, ◌⊎◌, ◌++◌}
+use Rattle.sig_part.specs.Prelude.{ℕ, Bool, true, List, [], length, map, slice_get, slice_index_or, Some, Contains, range_with_len, SigId, Signal, cluster_at, IsEarlierLink, report_link, LinkInfo}
 use Rattle.sig_part.specs.Marks.{mark_at}
-use Rattle.sig_plan.specs.Operations.{cluster_at}
-use Rattle.sig_plan.specs.Parts.{IsEarlierLink, report_link}
-use Rattle.sig_plan.specs.declared.parts.LinkInfo.{LinkInfo}
 
 -- the signal is marked for this actor
 abbrev pub IsMarkedFor : List (List Bool) → ℕ → SigId → Type 0

@@ -1,7 +1,6 @@
 -- Marks on signals, and the lists of those that are marked.
-use Rattle.std.specs.Prelude.{◌≡◌, ◌<◌, ◌↔◌, ℕ, Bool, true, false, List, [], length, slice_index_or, count_by, Contains}
-use Rattle.sig_base.specs.declared.ids.SigId.{SigId}
-use Rattle.sig_plan.specs.Parts.{AreIncreasing}
+use Rattle.std.specs.Prelude.{◌≡◌, ◌<◌, ◌↔◌}
+use Rattle.sig_part.specs.Prelude.{ℕ, Bool, true, false, List, [], length, slice_index_or, count_by, Contains, SigId, AreIncreasing}
 
 -- the mark of a signal
 abbrev pub mark_at : List Bool → ℕ → Bool

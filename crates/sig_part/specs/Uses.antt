@@ -1,10 +1,6 @@
 -- The conditions that the guards of listed operations need, and what the operations use.
-use Rattle.std.specs.Prelude.{◌≡◌, ◌<◌, ◌⊎◌, ◌↔◌, ℕ, List, [], length, slice_get, slice_index_or, Some, Contains}
-use Rattle.sig_base.specs.declared.ids.SigId.{SigId}
-use Rattle.sig_dd.specs.declared.node.Node.{Node}
-use Rattle.sig_plan.specs.Operations.{operation_in}
-use Rattle.sig_plan.specs.Order.{Needs}
-use Rattle.sig_plan.specs.declared.op.Op.{Op}
+use Rattle.std.specs.Prelude.{◌≡◌, ◌<◌, ◌⊎◌, ◌↔◌}
+use Rattle.sig_part.specs.Prelude.{ℕ, List, [], length, slice_get, slice_index_or, Some, Contains, SigId, Node, operation_in, Needs, Op}
 
 -- to each operation the conditions that its guard needs
 pub record AreNeeded (conditions : List SigId) (nodes : List Node) (ops : List Op) (needs : List (List SigId)) : Type 0 where

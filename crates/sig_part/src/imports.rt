@@ -1,12 +1,9 @@
 //! What each actor imports.
 
-ghost use Rattle.std.specs.Prelude.{◌≡◌, ◌+◌, ◌<◌, ◌^◌, ◌↔◌, List, IfOk, Contains, length};
-ghost use Rattle.sig_base.specs.declared.ids.SigId.{SigId};
-ghost use Rattle.sig_dd.specs.declared.node.Node.{Node};
+ghost use Rattle.std.specs.Prelude.{◌≡◌, ◌+◌, ◌<◌, ◌^◌, ◌↔◌};
+ghost use Rattle.sig_part.specs.Prelude.{List, IfOk, Contains, length, SigId, Node, operations_in, IsOutput, cluster_count};
 ghost use Rattle.sig_part.specs.Imported.{AreImportedBy};
 ghost use Rattle.sig_part.specs.Uses.{AreNeeded};
-ghost use Rattle.sig_plan.specs.Operations.{operations_in};
-ghost use Rattle.sig_plan.specs.Parts.{IsOutput, cluster_count};
 
 use crate::closing::closed;
 use crate::marks::Marks;

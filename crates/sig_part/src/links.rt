@@ -1,9 +1,8 @@
 //! The links between actors.
 
-ghost use Rattle.std.specs.Prelude.{◌≡◌, ◌≤◌, ◌^◌, ◌++◌, IfOk, OnOk, length, map};
-ghost use Rattle.std.specs.List.{range_with_len};
+ghost use Rattle.std.specs.Prelude.{◌≡◌, ◌≤◌, ◌^◌, ◌++◌};
+ghost use Rattle.sig_part.specs.Prelude.{IfOk, OnOk, length, map, range_with_len, report_link};
 ghost use Rattle.sig_part.specs.Linking.{AddsLinks, AreLinksOfMarks};
-ghost use Rattle.sig_plan.specs.Parts.{report_link};
 
 use crate::marks::Marks;
 use sig_base::{SigId, Signal};

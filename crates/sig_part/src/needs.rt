@@ -1,12 +1,8 @@
 //! The conditions that the guards of operations need.
 
-ghost use Rattle.std.specs.Prelude.{◌≡◌, ◌↔◌, IfOk, All, Contains, map, slice_get};
-ghost use Rattle.std.specs.List.{filter_map};
-ghost use Rattle.sig_base.specs.declared.ids.SigId.{SigId};
-ghost use Rattle.sig_dd.specs.Nodes.{Holds};
+ghost use Rattle.std.specs.Prelude.{◌≡◌, ◌↔◌};
+ghost use Rattle.sig_part.specs.Prelude.{IfOk, All, Contains, map, slice_get, filter_map, SigId, Holds, operation_in, Needs};
 ghost use Rattle.sig_part.specs.Uses.{AreNeeded};
-ghost use Rattle.sig_plan.specs.Operations.{operation_in};
-ghost use Rattle.sig_plan.specs.Order.{Needs};
 
 use sig_base::SigId;
 use sig_clock::Clocks;
@@ -22,8 +18,7 @@ pub(crate) struct Conditions {
 }
 
 impl Model for Conditions {
-    ghost use Rattle.std.specs.Prelude.{List};
-    ghost use Rattle.sig_base.specs.declared.ids.SigId.{SigId};
+    ghost use Rattle.sig_part.specs.Prelude.{List, SigId};
 
     ghost Value = { List SigId };
 

@@ -1,16 +1,8 @@
 //! The parts of a kernel.
 
-ghost use Rattle.std.specs.Prelude.{◌≡◌, ◌+◌, ◌^◌, ◌<◌, ◌≤◌, All, IfErr, IfOk, length};
-ghost use Rattle.sig_base.specs.declared.limits.TheConstants.{LINKS};
-ghost use Rattle.sig_clock.specs.Clocks.{AreClocks};
-ghost use Rattle.sig_dd.specs.Nodes.{Holds};
-ghost use Rattle.sig_kernel.specs.Validity.{IsValid};
+ghost use Rattle.std.specs.Prelude.{◌≡◌, ◌+◌, ◌^◌, ◌<◌, ◌≤◌};
+ghost use Rattle.sig_part.specs.Prelude.{All, IfErr, IfOk, length, LINKS, AreClocks, Holds, IsValid, AreWritten, AreOperations, operations_in, IsCompiledOrder, AreParts, cluster_count, numbers_of};
 ghost use Rattle.sig_part.specs.Answers.{IsRefusal};
-ghost use Rattle.sig_plan.specs.Written.{AreWritten};
-ghost use Rattle.sig_plan.specs.Operations.{AreOperations, operations_in};
-ghost use Rattle.sig_plan.specs.Order.{IsCompiledOrder};
-ghost use Rattle.sig_plan.specs.Parts.{AreParts, cluster_count};
-ghost use Rattle.sig_plan.specs.Plans.{numbers_of};
 
 use crate::answer::PartAnswer;
 use crate::imports::imported;

@@ -1,7 +1,7 @@
 //! What operations read and what their guards need, by cluster and by written signal.
 
-ghost use Rattle.std.specs.Prelude.{◌≡◌, ◌↔◌, IfOk, IsTrue, Contains, length};
-ghost use Rattle.sig_base.specs.declared.ids.SigId.{SigId};
+ghost use Rattle.std.specs.Prelude.{◌≡◌, ◌↔◌};
+ghost use Rattle.sig_part.specs.Prelude.{IfOk, IsTrue, Contains, length, SigId};
 ghost use Rattle.sig_part.specs.Uses.{AreNeededForEach, IsNeededWithin, IsUsedWithin};
 
 use crate::needs::Conditions;

@@ -1,22 +1,5 @@
 -- Calls that add nodes, one after another, and the share of a triangular kernel's system.
-use Rattle.std.proofs.Common.{◌≡◌, ◌≤◌, ◌<◌, ◌+◌, ◌-◌, ◌*◌, ◌^◌, ℕ, zero, suc, List, [], ◌∷◌, None, Some, Result, Ok, Err, IfErr, length, sym, subst, arith}
-use Rattle.std.specs.Result.{IsErrAnd}
-use Rattle.std.specs.List.{range_with_len}
-use Rattle.std.proofs.Math.Nat.{mul-le-mul_left, mul-le-mul_right, pow-suc}
-use Rattle.std.proofs.lemmas.List.FromFn.{length-range_with_len}
-use Rattle.sig_clock.proofs.Lists.{contains_head}
-use Rattle.sig_dd.specs.Nodes.{IsStore, Keeps, StoreView, allowance}
-use Rattle.sig_dd.specs.Shares.{IsRefused, Shares}
-use Rattle.sig_dd.specs.declared.answer.DdAnswer.{DdAnswer}
-use Rattle.sig_dd.specs.declared.answer.DdAnswer.TheVariants.{Budget as StoreBudget, OutOfMemory as NoMemory}
-use Rattle.sig_dd.proofs.CallerLemmas.{Keeps-itself, Keeps-trans}
-use Rattle.sig_kernel.specs.declared.kernel.Kernel.{Kernel}
-use Rattle.sig_clock.specs.Conditions.{conditions_of}
-use Rattle.sig_rel.specs.Answers.{IsFromStore}
-use Rattle.sig_rel.specs.FreeColumns.{Adds}
-use Rattle.sig_rel.specs.Shares.{KeepsToTriangularShare, Makes, triangular_share_of}
-use Rattle.sig_rel.specs.Substitutions.{no_ref}
-use Rattle.sig_rel.specs.declared.answer.RelAnswer.{RelAnswer}
+use Rattle.sig_rel.proofs.Common.{◌≡◌, ◌≤◌, ◌<◌, ◌+◌, ◌-◌, ◌*◌, ◌^◌, ℕ, zero, suc, List, [], ◌∷◌, None, Some, Result, Ok, Err, IfErr, length, sym, subst, arith, IsErrAnd, range_with_len, mul-le-mul_left, mul-le-mul_right, pow-suc, length-range_with_len, contains_head, IsStore, Keeps, StoreView, allowance, IsRefused, Shares, DdAnswer, Budget as StoreBudget, OutOfMemory as NoMemory, Keeps-itself, Keeps-trans, Kernel, conditions_of, IsFromStore, Adds, KeepsToTriangularShare, Makes, triangular_share_of, no_ref, RelAnswer}
 use Rattle.sig_rel.proofs.ShareLemmas.{refused_as}
 
 Done : Type 0

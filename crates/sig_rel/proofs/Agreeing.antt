@@ -1,24 +1,5 @@
 -- Values that keep to a schedule's equations are the reaction that its cuts and conditions fit.
-use Rattle.std.proofs.Common.{◌≡◌, ◌<◌, ℕ, zero, suc, Bool, true, List, length, get_or, map, take, Option, None, Some, refl, sym, ap, ◌∙◌, arith, Contains}
-use Rattle.std.specs.Prelude.{is_some, slice_get, option_map}
-use Rattle.std.specs.List.{range_with_len}
-use Rattle.std.proofs.lemmas.Bool.{false≢true}
-use Rattle.std.proofs.lemmas.List.{ext_get_or}
-use Rattle.std.proofs.lemmas.List.FromFn.{get_or-map-range_with_len, length-map-range_with_len}
-use Rattle.sig_kernel.specs.Validity.{IsValid}
-use Rattle.sig_kernel.specs.declared.equation.Equation.{Equation}
-use Rattle.sig_kernel.specs.declared.kernel.Kernel.{Kernel}
-use Rattle.sig_clock.specs.Reactions.{IsReaction, Reaction, Status, status_at, truth_of_status}
-use Rattle.sig_clock.proofs.Lists.{at_contained, contains_at}
-use Rattle.sig_rel.specs.Relations.{is_boolean}
-use Rattle.sig_rel.specs.Rules.{Values, value_status}
-use Rattle.sig_rel.specs.Schedules.{IsOrderOfWriting}
-use Rattle.sig_rel.specs.Substituted.{AreSubstituted, Fits, IsCutClass}
-use Rattle.sig_rel.specs.Triangles.{IsClass}
-use Rattle.sig_rel.specs.declared.elements.Element.{Element}
-use Rattle.sig_rel.specs.declared.elements.Element.TheVariants.{Presence, Truth}
-use Rattle.sig_rel.specs.declared.numbering.Unknowns.{Unknowns}
-use Rattle.sig_rel.specs.declared.rules.Rules.{Rules}
+use Rattle.sig_rel.proofs.Common.{◌≡◌, ◌<◌, ℕ, zero, suc, Bool, true, List, length, get_or, map, take, Option, None, Some, refl, sym, ap, ◌∙◌, arith, Contains, is_some, slice_get, option_map, range_with_len, false≢true, ext_get_or, get_or-map-range_with_len, length-map-range_with_len, IsValid, Equation, Kernel, IsReaction, Reaction, Status, status_at, truth_of_status, at_contained, contains_at, is_boolean, Values, value_status, IsOrderOfWriting, AreSubstituted, Fits, IsCutClass, IsClass, Element, Presence, Truth, Unknowns, Rules}
 use Rattle.sig_rel.proofs.ChosenTruths.{all_statuses}
 use Rattle.sig_rel.proofs.ClassLemmas.{least_own, least_within}
 use Rattle.sig_rel.proofs.PlacingLemmas.{past}

@@ -1,6 +1,5 @@
 -- The best of those signals that are such.
-use Rattle.std.proofs.Common.{◌≡◌, ◌<◌, ℕ, Bool, true, false, Option}
-use Rattle.std.specs.Prelude.{MatchOption}
+use Rattle.sig_rel.proofs.Common.{◌≡◌, ◌<◌, ℕ, Bool, true, false, Option, MatchOption}
 
 -- one of the signals is such, where one was found among the first; else none of these is
 abbrev pub IsBestBelow : (ℕ → Bool) → ℕ → ℕ → Option ℕ → Type 0

@@ -1,21 +1,6 @@
 -- Truths of the unknowns that are a given reaction.
-use Rattle.std.proofs.Common.{◌≡◌, ◌<◌, ◌+◌, ◌||◌, inl, inr, ℕ, zero, suc, Bool, true, false, List, [], ◌∷◌, length, get_or, map, eqb, Option, None, Some, refl, sym, ap, ◌∙◌, subst, arith, eq-eqb, if◌then◌else◌}
-use Rattle.std.specs.Prelude.{◌&&◌, is_some, slice_get}
-use Rattle.std.specs.List.{range_with_len}
-use Rattle.std.proofs.lemmas.Bool.{and_parts, eqb-true, false≢true}
-use Rattle.std.proofs.lemmas.List.{ext_get_or}
-use Rattle.std.proofs.lemmas.List.FromFn.{get_or-map-range_with_len}
-use Rattle.std.proofs.lemmas.Option.{get_or_from_slice_get, slice_get-get_or, slice_get_within}
-use Rattle.sig_base.specs.declared.ids.Kind.{Kind}
-use Rattle.sig_base.specs.declared.ids.Kind.TheVariants.{Integer, Boolean, Event}
-use Rattle.sig_base.specs.declared.signal.Signal.{Signal}
-use Rattle.sig_kernel.specs.Table.{kind_of}
-use Rattle.sig_kernel.specs.declared.kernel.Kernel.{Kernel}
-use Rattle.sig_clock.specs.Conditions.{conditions_of}
-use Rattle.sig_clock.specs.Reactions.{IsReaction, Reaction, Status, are_statuses, is_boolean_kind, is_present, is_status_of, status_at, truth_of_status}
-use Rattle.sig_clock.proofs.ReactionLemmas.{present_together}
-use Rattle.sig_dd.specs.Diagram.{truth_of}
-use Rattle.sig_rel.specs.Relations.{AreUnknowns, IsUsed, reaction_in, status_in, truth_in}
+use Rattle.sig_rel.proofs.Common.{◌≡◌, ◌<◌, ◌+◌, ◌||◌, inl, inr, ℕ, zero, suc, Bool, true, false, List, [], ◌∷◌, length, get_or, map, eqb, Option, None, Some, refl, sym, ap, ◌∙◌, subst, arith, eq-eqb, if◌then◌else◌, ◌&&◌, is_some, slice_get, range_with_len, and_parts, eqb-true, false≢true, ext_get_or, get_or-map-range_with_len, get_or_from_slice_get, slice_get-get_or, slice_get_within, Kind, Integer, Boolean, Signal, kind_of, Kernel, conditions_of, IsReaction, Reaction, Status, are_statuses, is_boolean_kind, is_present, is_status_of, status_at, truth_of_status, present_together, truth_of, AreUnknowns, IsUsed, reaction_in, status_in, truth_in}
+use Rattle.sig_base.specs.declared.ids.Kind.TheVariants.{Event}
 use Rattle.sig_rel.proofs.Reactions.{status_of_unknowns}
 
 abbrev is_unknown : ℕ → Option ℕ → Bool

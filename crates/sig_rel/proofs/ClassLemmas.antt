@@ -1,7 +1,6 @@
 -- The least signals of clock classes.
-use Rattle.std.proofs.Common.{◌≡◌, ◌<◌, ◌≤◌, ℕ, List, length, get_or, subst, arith}
-use Rattle.sig_kernel.specs.declared.kernel.Kernel.{Kernel}
-use Rattle.sig_clock.specs.SameClocks.{AreLeast, SameClock, itself, turned, joined}
+use Rattle.sig_rel.proofs.Common.{◌≡◌, ◌<◌, ◌≤◌, ℕ, List, length, get_or, subst, arith, Kernel, AreLeast, SameClock, turned, joined}
+use Rattle.sig_clock.specs.SameClocks.{itself}
 
 module _ (kernel : Kernel) (least : List ℕ) (is : AreLeast kernel least) where
   pub least_below : (s : ℕ) → s < length kernel.signals → get_or least s 0 ≤ s

@@ -1,10 +1,5 @@
 -- What columns span.
-use Rattle.std.proofs.Common.{◌≡◌, ℕ, List, subst, sym}
-use Rattle.sig_dd.specs.Nodes.{Spans}
-use Rattle.sig_dd.specs.declared.node.Node.{Node}
-use Rattle.sig_dd.specs.declared.node.Ref.{Ref}
-use Rattle.sig_rel.specs.Substitutions.{SpanColumns, present_at, truth_at}
-use Rattle.sig_rel.specs.declared.substitution.Columns.{Columns}
+use Rattle.sig_rel.proofs.Common.{◌≡◌, ℕ, List, subst, sym, Spans, Node, Ref, SpanColumns, present_at, truth_at, Columns}
 
 module _ (nodes : List Node) (columns : Columns) (vs : List ℕ) (span : SpanColumns nodes columns vs) where
   pub presence_spans : (r : Ref) (k : ℕ) → r ≡ present_at columns k → Spans nodes r vs

@@ -1,17 +1,6 @@
 -- The conditions of a kernel as a list.
-use Rattle.std.proofs.Common.{◌≡◌, ◌<◌, ◌≤◌, ◌+◌, inl, inr, ℕ, zero, suc, Bool, true, false, List, ◌∷◌, length, map, None, Some, refl, sym, ap, ◌∙◌, subst, arith, Contains, cond}
-use Rattle.std.specs.Prelude.{filter, slice_get}
-use Rattle.std.specs.List.{range_with_len}
-use Rattle.std.proofs.lemmas.Bool.{cases_Bool, cases_eq}
-use Rattle.sig_base.specs.declared.ids.SigId.{SigId}
-use Rattle.sig_kernel.specs.declared.kernel.Kernel.{Kernel}
-use Rattle.sig_clock.specs.Conditions.{conditions_of, is_condition, signal_id}
-use Rattle.sig_clock.proofs.Lists.{at_contained, contains_head, contains_later}
-use Rattle.sig_rel.specs.Systems.{AreConditions}
+use Rattle.sig_rel.proofs.Common.{◌≡◌, ◌<◌, ◌≤◌, ◌+◌, inl, inr, ℕ, zero, suc, Bool, true, false, List, ◌∷◌, length, map, None, Some, refl, sym, ap, ◌∙◌, subst, arith, Contains, cond, filter, slice_get, range_with_len, cases_Bool, cases_eq, SigId, Kernel, conditions_of, is_condition, signal_id, at_contained, contains_head, contains_later, AreConditions, is_boolean, is_free, and_parts}
 use Rattle.sig_rel.proofs.UnknownLemmas.{boolean_within}
-use Rattle.sig_rel.specs.Relations.{is_boolean}
-use Rattle.sig_clock.specs.Conditions.{is_free}
-use Rattle.std.proofs.lemmas.Bool.{and_parts}
 
 -- the numbers of a range that pass a test, as signals
 abbrev passing : (ℕ → Bool) → ℕ → ℕ → List SigId

@@ -1,15 +1,5 @@
 -- A schedule of which a boolean is cut: no equation gives it its truth any more.
-use Rattle.std.proofs.Common.{◌≡◌, inl, inr, ℕ, zero, suc, List, [], ◌∷◌, length, take, Option, None, Some, sym, ap, ◌∙◌, subst, Contains}
-use Rattle.std.specs.Prelude.{slice_get, slice_set}
-use Rattle.std.proofs.lemmas.Bool.{cases_eq}
-use Rattle.std.proofs.lemmas.List.{length-set}
-use Rattle.sig_kernel.specs.declared.kernel.Kernel.{Kernel}
-use Rattle.sig_clock.specs.SameClocks.{AreLeast}
-use Rattle.sig_rel.specs.Schedules.{AreNamed, IsOrderOfWriting, IsSchedule, ReadsBefore}
-use Rattle.sig_rel.specs.Triangles.{Governs, HasClasses, IsClass, operand_signals}
-use Rattle.sig_rel.specs.declared.elements.Element.{Element}
-use Rattle.sig_rel.specs.declared.elements.Element.TheVariants.{Presence, Truth}
-use Rattle.sig_rel.specs.declared.schedules.Schedule.{Schedule}
+use Rattle.sig_rel.proofs.Common.{◌≡◌, inl, inr, ℕ, zero, suc, List, [], ◌∷◌, length, take, Option, None, Some, sym, ap, ◌∙◌, subst, Contains, slice_get, slice_set, cases_eq, length-set, Kernel, AreLeast, AreNamed, IsOrderOfWriting, IsSchedule, ReadsBefore, Governs, HasClasses, IsClass, operand_signals, Element, Presence, Truth, Schedule}
 use Rattle.sig_rel.proofs.ScheduleLemmas.{set_other}
 
 -- a row that was emptied names no equation

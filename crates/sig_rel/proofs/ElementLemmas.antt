@@ -1,17 +1,5 @@
 -- Elements of columns, and what one of them is set to.
-use Rattle.std.proofs.Common.{◌≡◌, ◌<◌, ◌⊎◌, inl, inr, ℕ, Bool, true, List, length, get_or, replicate, sym, ap, ◌∙◌, subst, arith}
-use Rattle.std.specs.Prelude.{slice_set}
-use Rattle.std.proofs.lemmas.Bool.{cases_eq, cases_lt}
-use Rattle.std.proofs.lemmas.List.{get_or-replicate, get_or-set_other, get_or-set_same, get_or_past, length-replicate, length-set}
-use Rattle.sig_dd.specs.Nodes.{Holds, IsRefOf, Spans}
-use Rattle.sig_dd.specs.declared.node.Node.{Node}
-use Rattle.sig_dd.specs.declared.node.Ref.{Ref}
-use Rattle.sig_rel.specs.FreeColumns.{AreFresh}
-use Rattle.sig_rel.specs.Substitutions.{HoldColumns, IsSet, SpanColumns, present_at, ref_at, row_at, truth_at}
-use Rattle.sig_rel.specs.declared.elements.Element.{Element}
-use Rattle.sig_rel.specs.declared.elements.Element.TheVariants.{Presence, Truth}
-use Rattle.sig_rel.specs.declared.statuses.Known.{Known}
-use Rattle.sig_rel.specs.declared.substitution.Columns.{Columns}
+use Rattle.sig_rel.proofs.Common.{◌≡◌, ◌<◌, ◌⊎◌, inl, inr, ℕ, Bool, true, List, length, get_or, replicate, sym, ap, ◌∙◌, subst, arith, slice_set, cases_eq, cases_lt, get_or-replicate, get_or-set_other, get_or-set_same, get_or_past, length-replicate, length-set, Holds, IsRefOf, Spans, Node, Ref, AreFresh, HoldColumns, IsSet, SpanColumns, present_at, ref_at, row_at, truth_at, Element, Presence, Truth, Known, Columns}
 use Rattle.sig_rel.proofs.PlacingLemmas.{apart_kinds, presence_is, truth_is}
 
 same_element : (d e : Element) → (d ≡ e) ⊎ (d ≡ e → ⊥)

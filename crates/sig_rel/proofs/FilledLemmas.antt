@@ -1,35 +1,5 @@
 -- Columns with the proposals of a triangular kernel's conditions, before and after the others are written.
-use Rattle.std.proofs.Common.{◌≡◌, ◌<◌, ◌≤◌, ◌+◌, ◌⊎◌, inl, inr, ℕ, Bool, true, false, List, length, Some, refl, sym, ap, ◌∙◌, subst, arith, Contains}
-use Rattle.std.specs.Prelude.{slice_get}
-use Rattle.std.specs.List.{range_with_len}
-use Rattle.std.proofs.lemmas.Bool.{and_parts, cases_Bool, cases_eq, false≢true}
-use Rattle.std.proofs.lemmas.List.{get_or_past}
-use Rattle.sig_base.specs.declared.ids.SigId.{SigId}
-use Rattle.sig_kernel.specs.Validity.{IsValid}
-use Rattle.sig_kernel.specs.declared.equation.Form.{Form}
-use Rattle.sig_kernel.specs.declared.kernel.Kernel.{Kernel}
-use Rattle.sig_clock.specs.Conditions.{is_condition, is_free}
-use Rattle.sig_clock.proofs.Lists.{at_contained, contains_at}
-use Rattle.sig_dd.specs.Diagram.{truth_of}
-use Rattle.sig_dd.specs.Nodes.{Holds, IsRefOf, Keeps, Spans, StoreView, test}
-use Rattle.sig_dd.specs.declared.node.Node.{Node}
-use Rattle.sig_dd.specs.declared.node.Ref.{Ref}
-use Rattle.sig_dd.proofs.CallerLemmas.{IsRefOf-kept, Spans-of}
-use Rattle.sig_dd.proofs.Dependence.{variable_depends}
-use Rattle.sig_rel.specs.Elements.{IsCut}
-use Rattle.sig_rel.specs.FreeColumns.{AreFilled, AreFresh, IsProposal, IsProposalBelow}
-use Rattle.sig_rel.specs.Relations.{is_boolean}
-use Rattle.sig_rel.specs.Rules.{AreValues, presence_by}
-use Rattle.sig_rel.specs.Substitutions.{ArePlain, HoldColumns, IsWhollyWritten, SpanColumns, present_at, ref_at, truth_at, values_at}
-use Rattle.sig_rel.specs.Systems.{AreConditions}
-use Rattle.sig_rel.specs.Tables.{IsTriangleOf}
-use Rattle.sig_rel.specs.Triangles.{IsTriangle}
-use Rattle.sig_rel.specs.Variables.{AreVariables, IsVariableAt}
-use Rattle.sig_rel.specs.declared.elements.Element.{Element}
-use Rattle.sig_rel.specs.declared.elements.Element.TheVariants.{Presence, Truth}
-use Rattle.sig_rel.specs.declared.placing.Triangle.{Triangle}
-use Rattle.sig_rel.specs.declared.statuses.Known.{Known}
-use Rattle.sig_rel.specs.declared.substitution.Columns.{Columns}
+use Rattle.sig_rel.proofs.Common.{◌≡◌, ◌<◌, ◌≤◌, ◌+◌, ◌⊎◌, inl, inr, ℕ, Bool, true, false, List, length, Some, refl, sym, ap, ◌∙◌, subst, arith, Contains, slice_get, range_with_len, and_parts, cases_Bool, cases_eq, false≢true, get_or_past, SigId, IsValid, Form, Kernel, is_condition, is_free, at_contained, contains_at, truth_of, Holds, IsRefOf, Keeps, Spans, StoreView, test, Node, Ref, IsRefOf-kept, Spans-of, variable_depends, IsCut, AreFilled, AreFresh, IsProposal, IsProposalBelow, is_boolean, AreValues, presence_by, ArePlain, HoldColumns, IsWhollyWritten, SpanColumns, present_at, ref_at, truth_at, values_at, AreConditions, IsTriangleOf, IsTriangle, AreVariables, IsVariableAt, Element, Presence, Truth, Triangle, Known, Columns}
 use Rattle.sig_rel.proofs.ElementLemmas.{held_by, span_by}
 use Rattle.sig_rel.proofs.Makings.{constant_spans}
 use Rattle.sig_rel.proofs.OnceDefined.{got_within}

@@ -1,19 +1,5 @@
 -- Truths of the unknowns that fit a reaction, where a schedule writes nothing.
-use Rattle.std.proofs.Common.{◌≡◌, ◌<◌, inl, inr, ℕ, Bool, true, false, List, length, Option, None, Some, refl, sym, ap, ◌∙◌, arith, if◌then◌else◌}
-use Rattle.std.specs.Prelude.{slice_get, slice_index, slice_index_or}
-use Rattle.std.proofs.lemmas.Bool.{cases_eq}
-use Rattle.std.proofs.lemmas.Option.{slice_get-get_or}
-use Rattle.sig_kernel.specs.Validity.{IsValid}
-use Rattle.sig_kernel.specs.declared.kernel.Kernel.{Kernel}
-use Rattle.sig_clock.specs.Reactions.{IsReaction, Reaction, Status, status_at}
-use Rattle.sig_clock.specs.SameClocks.{AreLeast}
-use Rattle.sig_dd.specs.Diagram.{with_truth}
-use Rattle.sig_dd.proofs.Trees.{truth_of-with_other}
-use Rattle.sig_rel.specs.Relations.{AreUnknowns, is_boolean, truth_in}
-use Rattle.sig_rel.specs.Rules.{Values, has}
-use Rattle.sig_rel.specs.Substituted.{AreSubstituted, Fits}
-use Rattle.sig_rel.specs.declared.numbering.Unknowns.{Unknowns}
-use Rattle.sig_rel.specs.declared.rules.Rules.{Rules}
+use Rattle.sig_rel.proofs.Common.{◌≡◌, ◌<◌, inl, inr, ℕ, Bool, true, false, List, length, Option, None, Some, refl, sym, ap, ◌∙◌, arith, if◌then◌else◌, slice_get, slice_index, slice_index_or, cases_eq, slice_get-get_or, IsValid, Kernel, IsReaction, Reaction, Status, status_at, AreLeast, with_truth, truth_of-with_other, AreUnknowns, is_boolean, truth_in, Values, has, AreSubstituted, Fits, Unknowns, Rules}
 use Rattle.sig_rel.proofs.ChosenTruths.{choice_of_presence, choice_of_truth, choices}
 use Rattle.sig_rel.proofs.ValueReactions.{reaction, reaction_at, reaction_has}
 use Rattle.sig_rel.proofs.UnknownLemmas.{boolean_within}

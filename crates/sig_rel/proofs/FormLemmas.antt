@@ -1,15 +1,5 @@
 -- The forms of a kernel's equations: their signals are there, and a reaction meets them.
-use Rattle.std.proofs.Common.{◌≡◌, ◌<◌, ℕ, true, Option, None, Some, refl, subst, length}
-use Rattle.std.specs.Prelude.{◌&&◌, slice_get, option_map}
-use Rattle.std.proofs.lemmas.Bool.{and_parts, ltb-true}
-use Rattle.sig_base.specs.declared.ids.SigId.{SigId}
-use Rattle.sig_kernel.specs.Table.{form_fits}
-use Rattle.sig_kernel.specs.Validity.{IsValid, form_within, is_below}
-use Rattle.sig_kernel.specs.declared.equation.Equation.{Equation}
-use Rattle.sig_kernel.specs.declared.equation.Form.{Form}
-use Rattle.sig_kernel.specs.declared.kernel.Kernel.{Kernel}
-use Rattle.sig_clock.specs.Reactions.{IsReaction, Reaction, meets}
-use Rattle.sig_rel.specs.Triangles.{form_at}
+use Rattle.sig_rel.proofs.Common.{◌≡◌, ◌<◌, ℕ, true, Option, None, Some, refl, subst, length, ◌&&◌, slice_get, option_map, and_parts, ltb-true, SigId, form_fits, IsValid, form_within, is_below, Equation, Form, Kernel, IsReaction, Reaction, meets, form_at}
 use Rattle.sig_rel.proofs.OnceDefined.{fits_at, got_or, got_within, within_at}
 
 module _ (kernel : Kernel) where

@@ -1,35 +1,5 @@
 -- Columns that keep to the tables of a triangular kernel are its system.
-use Rattle.std.proofs.Common.{◌≡◌, ◌<◌, ◌≤◌, inl, inr, ℕ, Bool, true, false, cond, List, [], ◌∷◌, length, map, Option, None, Some, refl, sym, ap, ◌∙◌, subst, arith, Contains, if◌then◌else◌}
-use Rattle.std.specs.Prelude.{slice_get, slice_index, count_by, option_map}
-use Rattle.std.specs.List.{range_with_len}
-use Rattle.std.proofs.lemmas.Bool.{and_parts, cases_Bool, cases_eq, cases_lt}
-use Rattle.std.proofs.lemmas.List.{length-map}
-use Rattle.std.proofs.lemmas.List.Sums.{length-filter, sum_by-cons}
-use Rattle.std.proofs.lemmas.List.FromFn.{get_or-map-range_with_len, get_or-range_with_len, length-map-range_with_len, length-range_with_len}
-use Rattle.std.proofs.lemmas.Option.{get_or_from_slice_get, slice_get-map, slice_get_past, slice_get_within}
-use Rattle.std.specs.Prelude.{filter}
-use Rattle.sig_base.specs.declared.ids.SigId.{SigId}
-use Rattle.sig_kernel.specs.Validity.{IsValid}
-use Rattle.sig_kernel.specs.declared.kernel.Kernel.{Kernel}
-use Rattle.sig_clock.specs.ClockFunctions.{Allows, KeepsTo}
-use Rattle.sig_clock.specs.Conditions.{conditions_of, is_condition, is_free, signal_id}
-use Rattle.sig_clock.specs.Reactions.{Reaction, Speaks, Status, status_at, truth_of_status}
-use Rattle.sig_clock.proofs.Lists.{contains_at}
-use Rattle.sig_dd.specs.Diagram.{truth_of, with_truth}
-use Rattle.sig_dd.specs.Nodes.{Holds, IsRefOf, Spans, test}
-use Rattle.sig_dd.proofs.Trees.{truth_of-with_other}
-use Rattle.sig_dd.specs.declared.node.Node.{Node}
-use Rattle.sig_dd.specs.declared.node.Ref.{Ref}
-use Rattle.sig_rel.specs.Relations.{IsUnknownCount, is_boolean}
-use Rattle.sig_rel.specs.Rules.{AreValues, has, value_status}
-use Rattle.sig_rel.specs.FreeColumns.{IsSystemOf, truth_ref}
-use Rattle.sig_rel.specs.Substitutions.{HoldColumns, SpanColumns, present_at, truth_at, values_at}
-use Rattle.sig_rel.specs.Systems.{AreConditions, IsFreeSystem, IsOver, IsSolution, IsSystem, IsVariable, SystemView, proposed, reading, status_read, statuses_read}
-use Rattle.sig_rel.specs.Tables.{AreRulesOf}
-use Rattle.sig_rel.specs.Triangles.{IsTriangle}
-use Rattle.sig_rel.specs.declared.elements.Element.{Element}
-use Rattle.sig_rel.specs.declared.rules.Rules.{Rules}
-use Rattle.sig_rel.specs.declared.substitution.Columns.{Columns}
+use Rattle.sig_rel.proofs.Common.{◌≡◌, ◌<◌, ◌≤◌, inl, inr, ℕ, Bool, true, false, cond, List, [], ◌∷◌, length, map, Option, None, Some, refl, sym, ap, ◌∙◌, subst, arith, Contains, if◌then◌else◌, slice_get, slice_index, count_by, option_map, range_with_len, and_parts, cases_Bool, cases_eq, cases_lt, length-map, length-filter, sum_by-cons, get_or-map-range_with_len, get_or-range_with_len, length-map-range_with_len, length-range_with_len, get_or_from_slice_get, slice_get-map, slice_get_past, slice_get_within, filter, SigId, IsValid, Kernel, Allows, KeepsTo, conditions_of, is_condition, is_free, signal_id, Reaction, Speaks, Status, status_at, truth_of_status, contains_at, truth_of, with_truth, Holds, IsRefOf, Spans, test, truth_of-with_other, Node, Ref, IsUnknownCount, is_boolean, AreValues, has, value_status, IsSystemOf, truth_ref, HoldColumns, SpanColumns, present_at, truth_at, values_at, AreConditions, IsFreeSystem, IsOver, IsSolution, IsSystem, IsVariable, SystemView, proposed, reading, status_read, statuses_read, AreRulesOf, IsTriangle, Element, Rules, Columns}
 use Rattle.sig_rel.proofs.ClassLemmas.{least_of_class}
 use Rattle.sig_rel.proofs.OneReaction.{one_reaction}
 use Rattle.sig_rel.proofs.RuleLemmas.{got_map_range, map_range_got}

@@ -1,24 +1,5 @@
 -- The making of a kernel's system keeps to the share of its relation.
-use Rattle.std.proofs.Common.{◌≡◌, ◌≤◌, ◌+◌, ◌-◌, ◌*◌, ◌^◌, ℕ, zero, suc, List, Result, Ok, Err, length, sym, subst, arith}
-use Rattle.std.specs.Prelude.{count_by, slice_index, ◌==◌}
-use Rattle.std.specs.Result.{IsErrAnd}
-use Rattle.std.specs.List.{range_with_len}
-use Rattle.std.proofs.Math.Nat.{mul-le-mul_left, mul-le-mul_right}
-use Rattle.std.proofs.Math.Pow.{pow_mono}
-use Rattle.std.proofs.lemmas.Nat.{pow_pos}
-use Rattle.std.proofs.lemmas.List.FromFn.{length-range_with_len}
-use Rattle.sig_dd.specs.Nodes.{StoreView, allowance}
-use Rattle.sig_dd.specs.declared.answer.DdAnswer.{DdAnswer}
-use Rattle.sig_dd.specs.declared.node.Ref.{Ref}
-use Rattle.sig_kernel.specs.declared.kernel.Kernel.{Kernel}
-use Rattle.sig_clock.specs.SameClocks.{AreLeast}
-use Rattle.sig_rel.specs.Answers.{IsFromStore}
-use Rattle.sig_rel.specs.FreeColumns.{Adds}
-use Rattle.sig_rel.specs.GeneralColumns.{substituting}
-use Rattle.sig_rel.specs.OwnColumns.{classes_below}
-use Rattle.sig_rel.specs.Relations.{IsUnknownCount}
-use Rattle.sig_rel.specs.Shares.{IsRefusedFor, KeepsToShare, Makes, share_of}
-use Rattle.sig_rel.specs.declared.answer.RelAnswer.{RelAnswer}
+use Rattle.sig_rel.proofs.Common.{◌≡◌, ◌≤◌, ◌+◌, ◌-◌, ◌*◌, ◌^◌, ℕ, zero, suc, List, Result, Ok, Err, length, sym, subst, arith, count_by, slice_index, ◌==◌, IsErrAnd, range_with_len, mul-le-mul_left, mul-le-mul_right, pow_mono, pow_pos, length-range_with_len, StoreView, allowance, DdAnswer, Ref, Kernel, AreLeast, IsFromStore, Adds, substituting, classes_below, IsUnknownCount, IsRefusedFor, KeepsToShare, Makes, share_of, RelAnswer}
 use Rattle.sig_rel.specs.declared.answer.RelAnswer.TheVariants.{OutOfMemory}
 use Rattle.sig_rel.proofs.AddingLemmas.{refused_later}
 use Rattle.sig_rel.proofs.ShareLemmas.{refused_as}

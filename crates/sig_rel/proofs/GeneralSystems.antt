@@ -1,36 +1,5 @@
 -- Columns that were written by a schedule, with what is left to be met, are the system of a kernel's clocks.
-use Rattle.std.proofs.Common.{◌≡◌, ◌<◌, ◌≤◌, ◌+◌, ◌-◌, inl, inr, ℕ, suc, Bool, true, false, List, [], ◌∷◌, length, get_or, map, Option, None, Some, refl, sym, ap, ◌∙◌, subst, arith, Contains, if◌then◌else◌}
-use Rattle.std.specs.Prelude.{IsTrue, is_some, slice_get, slice_index, option_map}
-use Rattle.std.specs.List.{list_all, range_with_len}
-use Rattle.std.proofs.lemmas.Bool.{and_parts, cases_Bool, cases_lt, eq-eqb, eqb-true, false≢true}
-use Rattle.std.proofs.lemmas.List.{length-map}
-use Rattle.std.proofs.lemmas.List.FromFn.{get_or-range_with_len, length-map-range_with_len, length-range_with_len}
-use Rattle.std.proofs.lemmas.Option.{get_or_from_slice_get, slice_get-map, slice_get_past}
-use Rattle.sig_base.specs.declared.ids.SigId.{SigId}
-use Rattle.sig_kernel.specs.Validity.{IsValid}
-use Rattle.sig_kernel.specs.declared.equation.Equation.{Equation}
-use Rattle.sig_kernel.specs.declared.kernel.Kernel.{Kernel}
-use Rattle.sig_clock.specs.ClockFunctions.{Allows, KeepsTo}
-use Rattle.sig_clock.specs.Conditions.{is_condition, is_free}
-use Rattle.sig_clock.specs.Reactions.{IsReaction, Reaction, Speaks, Status, is_present, is_silent, status_at}
-use Rattle.sig_clock.proofs.Lists.{contains_at}
-use Rattle.sig_clock.proofs.ReactionLemmas.{absent_in_silence}
-use Rattle.sig_dd.specs.Diagram.{truth_of, with_truth}
-use Rattle.sig_dd.specs.Nodes.{Holds, Spans, test}
-use Rattle.sig_dd.specs.declared.node.Node.{Node}
-use Rattle.sig_dd.specs.declared.node.Ref.{Ref}
-use Rattle.sig_rel.specs.FreeColumns.{truth_ref}
-use Rattle.sig_rel.specs.Numberings.{number_of}
-use Rattle.sig_rel.specs.Relations.{AreUnknowns, IsUnknownCount, IsUsed, is_boolean, truth_in}
-use Rattle.sig_rel.specs.Residues.{IsPresentFrom, is_met}
-use Rattle.sig_rel.specs.Rules.{Values, has, value_status}
-use Rattle.sig_rel.specs.Schedules.{IsSchedule}
-use Rattle.sig_rel.specs.Substituted.{AreSubstituted, Fits, IsCutTruth}
-use Rattle.sig_rel.specs.Substitutions.{HoldColumns, SpanColumns, present_at, truth_at, values_at}
-use Rattle.sig_rel.specs.Systems.{AreConditions, IsOver, IsSolution, IsSystem, IsVariable, SystemView, proposed, reading, status_read, statuses_read}
-use Rattle.sig_rel.specs.declared.numbering.Unknowns.{Unknowns}
-use Rattle.sig_rel.specs.declared.schedules.Schedule.{Schedule}
-use Rattle.sig_rel.specs.declared.substitution.Columns.{Columns}
+use Rattle.sig_rel.proofs.Common.{◌≡◌, ◌<◌, ◌≤◌, ◌+◌, ◌-◌, inl, inr, ℕ, suc, Bool, true, false, List, [], ◌∷◌, length, get_or, map, Option, None, Some, refl, sym, ap, ◌∙◌, subst, arith, Contains, if◌then◌else◌, IsTrue, is_some, slice_get, slice_index, option_map, list_all, range_with_len, and_parts, cases_Bool, cases_lt, eq-eqb, eqb-true, false≢true, length-map, get_or-range_with_len, length-map-range_with_len, length-range_with_len, get_or_from_slice_get, slice_get-map, slice_get_past, SigId, IsValid, Equation, Kernel, Allows, KeepsTo, is_condition, is_free, IsReaction, Reaction, Speaks, Status, is_present, is_silent, status_at, contains_at, absent_in_silence, truth_of, with_truth, Holds, Spans, test, Node, Ref, truth_ref, number_of, AreUnknowns, IsUnknownCount, IsUsed, is_boolean, truth_in, IsPresentFrom, is_met, Values, has, value_status, IsSchedule, AreSubstituted, Fits, IsCutTruth, HoldColumns, SpanColumns, present_at, truth_at, values_at, AreConditions, IsOver, IsSolution, IsSystem, IsVariable, SystemView, proposed, reading, status_read, statuses_read, Unknowns, Schedule, Columns}
 use Rattle.sig_rel.proofs.Agreeing.{agreeing_all}
 use Rattle.sig_rel.proofs.ChosenTruths.{choices}
 use Rattle.sig_rel.proofs.ClassLemmas.{least_of_class, least_own, least_within}

@@ -1,15 +1,5 @@
 -- The numbers of classes and truths, as they are given.
-use Rattle.std.proofs.Common.{◌≡◌, ◌<◌, ◌≤◌, ◌+◌, ◌^◌, inl, inr, ℕ, suc, zero, List, length, get_or, Option, None, Some, refl, sym, ap, ◌∙◌, subst, arith}
-use Rattle.std.specs.Prelude.{is_some, slice_get, count_by, replicate, filter}
-use Rattle.std.specs.List.{range_with_len}
-use Rattle.std.proofs.lemmas.List.{length-map, length-replicate}
-use Rattle.std.proofs.lemmas.List.Sums.{length-filter, count_by-le-length}
-use Rattle.std.proofs.lemmas.List.FromFn.{length-range_with_len}
-use Rattle.sig_kernel.specs.Validity.{IsValid}
-use Rattle.sig_kernel.specs.declared.kernel.Kernel.{Kernel}
-use Rattle.sig_clock.specs.Conditions.{conditions_of, is_condition, signal_id}
-use Rattle.sig_rel.specs.Numberings.{AreGiven, AreNumbers, HasNumbers, IsBoolean, IsOwn, Retains, given_at, next_after}
-use Rattle.sig_rel.specs.declared.numbering.Numbering.{Numbering}
+use Rattle.sig_rel.proofs.Common.{◌≡◌, ◌<◌, ◌≤◌, ◌+◌, ◌^◌, inl, inr, ℕ, suc, zero, List, length, get_or, Option, None, Some, refl, sym, ap, ◌∙◌, subst, arith, is_some, slice_get, count_by, replicate, filter, range_with_len, length-map, length-replicate, length-filter, count_by-le-length, length-range_with_len, IsValid, Kernel, conditions_of, is_condition, signal_id, AreGiven, AreNumbers, HasNumbers, IsBoolean, IsOwn, Retains, given_at, next_after, Numbering}
 use Rattle.sig_rel.proofs.NumberLemmas.{count_after, given_numbers, given_there, got_given, kept_given, later_numbers, length_given, next_rises}
 
 -- there are no more conditions than signals

@@ -1,3 +1,4 @@
+pub mod Common
 pub mod Places
 pub mod ClassLemmas
 pub mod NumberLemmas
@@ -20,6 +21,7 @@ pub mod SoundValues
 pub mod OneReaction
 pub mod RuleLemmas
 pub mod Searches
+pub mod FirstRows
 pub mod PlacingLemmas
 pub mod ConditionLists
 pub mod ColumnLemmas
@@ -47,3 +49,39 @@ pub mod OwnLemmas
 pub mod OwnSpans
 pub mod CutLemmas
 pub mod MadeSystems
+unfoldable pub use Common.*
+pub use AddingLemmas.*
+pub use BestSignals.*
+pub use ChosenTruths.*
+pub use ClassLemmas.*
+pub use ColumnLemmas.*
+pub use ConditionLists.*
+pub use CutLemmas.*
+pub use FilledLemmas.*
+pub use FirstRows.*
+pub use FreeSystems.*
+pub use GeneralShares.*
+pub use GivenLemmas.*
+pub use MadeSystems.*
+pub use Makings.*
+pub use NewColumns.*
+pub use OwnLemmas.*
+pub use OwnSpans.*
+pub use PlacingLemmas.*
+pub use RelationLemmas.*
+pub use ResidueLemmas.*
+pub use RuleLemmas.*
+pub use ScheduleLemmas.*
+pub use Searches.*
+pub use SeenReactions.*
+pub use SignalNumbers.*
+pub use Staying.*
+pub use StepLemmas.*
+pub use SubstitutedColumns.*
+pub use TriangleOrders.*
+pub use UnknownLemmas.*
+pub use VariableLemmas.*
+pub use WritingLemmas.*
+pub use Rattle.sig_rel.proofs.GivenLemmas.{truth_given}
+pub use Rattle.sig_rel.proofs.OwnLemmas.{below_more}
+pub use Rattle.sig_rel.proofs.SignalNumbers.{GivesTruth, has_both}

@@ -1,28 +1,5 @@
 -- What is made of substituted columns is the system of a kernel's clocks.
-use Rattle.std.proofs.Common.{◌≡◌, ◌+◌, ◌*◌, ℕ, Bool, List, Result, Ok, length, sym, ap, ◌∙◌, subst}
-use Rattle.std.specs.Prelude.{IsTrue}
-use Rattle.std.specs.List.{list_all}
-use Rattle.sig_base.specs.declared.ids.SigId.{SigId}
-use Rattle.sig_kernel.specs.Validity.{IsValid}
-use Rattle.sig_kernel.specs.declared.equation.Equation.{Equation}
-use Rattle.sig_kernel.specs.declared.kernel.Kernel.{Kernel}
-use Rattle.sig_dd.specs.Diagram.{Agree}
-use Rattle.sig_dd.specs.Nodes.{StoreView, test}
-use Rattle.sig_dd.specs.declared.answer.DdAnswer.{DdAnswer}
-use Rattle.sig_rel.specs.GeneralColumns.{AreSubstitutedColumns, IsSystemWith, numbers_of}
-use Rattle.sig_rel.specs.OwnColumns.{classes_below}
-use Rattle.sig_rel.specs.Residues.{IsPresentFrom, IsSomePresent, is_met, left_refs}
-use Rattle.sig_rel.specs.Rules.{Values}
-use Rattle.sig_rel.specs.Schedules.{IsSchedule}
-use Rattle.sig_rel.specs.Shares.{Makes}
-use Rattle.sig_rel.specs.Statuses.{AreUnknownsOf, LieWithin}
-use Rattle.sig_rel.specs.Substituted.{AreSubstituted}
-use Rattle.sig_rel.specs.Substitutions.{SpanColumns, present_at, values_at}
-use Rattle.sig_rel.specs.Systems.{AreConditions, IsSystem, SystemView}
-use Rattle.sig_rel.specs.declared.general.Left.{Left}
-use Rattle.sig_rel.specs.declared.numbering.Unknowns.{Unknowns}
-use Rattle.sig_rel.specs.declared.schedules.Schedule.{Schedule}
-use Rattle.sig_rel.specs.declared.substitution.Columns.{Columns}
+use Rattle.sig_rel.proofs.Common.{◌≡◌, ◌+◌, ◌*◌, ℕ, Bool, List, Result, Ok, length, sym, ap, ◌∙◌, subst, IsTrue, list_all, SigId, IsValid, Equation, Kernel, Agree, StoreView, test, DdAnswer, AreSubstitutedColumns, IsSystemWith, numbers_of, classes_below, IsPresentFrom, IsSomePresent, is_met, left_refs, Values, IsSchedule, Makes, AreUnknownsOf, LieWithin, AreSubstituted, SpanColumns, present_at, values_at, AreConditions, IsSystem, SystemView, Left, Unknowns, Schedule, Columns}
 use Rattle.sig_rel.proofs.GeneralSystems.{is_system}
 use Rattle.sig_rel.proofs.ResidueLemmas.{columns_hold, columns_span, columns_values}
 use Rattle.sig_rel.proofs.Staying.{test_kept}

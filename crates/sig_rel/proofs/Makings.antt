@@ -1,19 +1,5 @@
 -- Calls that made references, one after another.
-use Rattle.std.proofs.Common.{◌≡◌, ◌≤◌, ◌+◌, ℕ, Bool, List, [], ◌∷◌, inl, inr, None, Some, Result, Ok, Err, IfOk, refl, sym, subst, arith, Contains, if◌then◌else◌}
-use Rattle.std.specs.Result.{IsErrAnd}
-use Rattle.std.proofs.Math.Nat.{mul-le-mul_right}
-use Rattle.sig_dd.specs.Diagram.{Depends, truth_of}
-use Rattle.sig_dd.specs.Nodes.{StoreView, IsRefOf, IsStore, Keeps, Spans, allowance, test}
-use Rattle.sig_dd.specs.Shares.{HasAll, HoldAll, Share, Shares, SpanAll, refusal}
-use Rattle.sig_dd.specs.declared.answer.DdAnswer.{DdAnswer}
-use Rattle.sig_dd.specs.declared.node.Node.{Node}
-use Rattle.sig_dd.specs.declared.node.Ref.{Ref}
-use Rattle.sig_dd.proofs.Adding.{Share-then, Share-wider}
-use Rattle.sig_dd.proofs.CallerLemmas.{Depends-of_one, Depends-of_two, Keeps-itself, Keeps-trans, Spans-of}
-use Rattle.sig_dd.proofs.Dependence.{choice_depends, variable_depends}
-use Rattle.sig_dd.proofs.Trails.{Trail-begins, Trail-next}
-use Rattle.sig_rel.specs.Shares.{Leads, Makes}
-use Rattle.sig_rel.specs.Statuses.{itself}
+use Rattle.sig_rel.proofs.Common.{◌≡◌, ◌≤◌, ◌+◌, ℕ, Bool, List, [], ◌∷◌, inl, inr, None, Some, Result, Ok, Err, IfOk, refl, sym, subst, arith, Contains, if◌then◌else◌, IsErrAnd, mul-le-mul_right, Depends, truth_of, StoreView, IsRefOf, IsStore, Keeps, Spans, allowance, test, HasAll, HoldAll, Share, Shares, SpanAll, refusal, DdAnswer, Node, Ref, Share-then, Share-wider, Depends-of_one, Depends-of_two, Keeps-itself, Keeps-trans, Spans-of, choice_depends, variable_depends, Trail-begins, Trail-next, Leads, Makes, itself}
 
 -- a call of the store that makes a function g
 module _ (fs : List Ref) (us : List ℕ) (g : List Bool → Bool) (IsWide : List ℕ → Type 0) (s t : StoreView) (store : IsStore t) (kept : Keeps s t)

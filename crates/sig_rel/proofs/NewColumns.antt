@@ -1,30 +1,5 @@
 -- What is written of an element, by the equation that its table has for it.
-use Rattle.std.proofs.Common.{◌≡◌, ◌<◌, ◌≤◌, ◌+◌, ◌*◌, ◌++◌, ℕ, Bool, List, [], ◌∷◌, length, take, get_or, Option, None, Some, Result, Ok, Err, refl, sym, ap, ◌∙◌, subst, arith}
-use Rattle.std.specs.Prelude.{option_map, slice_get}
-use Rattle.std.specs.Result.{IsErrAnd}
-use Rattle.sig_base.specs.declared.signal.Signal.{Signal}
-use Rattle.std.proofs.lemmas.Option.{slice_get_past, slice_get_read}
-use Rattle.std.proofs.lemmas.List.{take_more}
-use Rattle.std.proofs.lemmas.List.Sums.{sum_by_more, sum_by-take-le}
-use Rattle.sig_clock.proofs.Lists.{contains_at, get_at, get_within}
-use Rattle.sig_dd.specs.Nodes.{StoreView, test}
-use Rattle.sig_dd.specs.declared.answer.DdAnswer.{DdAnswer}
-use Rattle.sig_dd.specs.declared.node.Node.{Node}
-use Rattle.sig_dd.specs.declared.node.Ref.{Ref}
-use Rattle.sig_kernel.specs.declared.equation.Equation.{Equation}
-use Rattle.sig_kernel.specs.declared.equation.Form.{Form}
-use Rattle.sig_kernel.specs.declared.kernel.Kernel.{Kernel}
-use Rattle.sig_rel.specs.Elements.{IsCut, IsGiven, entry_of, signal_of}
-use Rattle.sig_rel.specs.Rules.{presence_by}
-use Rattle.sig_rel.specs.Shares.{Makes}
-use Rattle.sig_rel.specs.Statuses.{itself}
-use Rattle.sig_rel.specs.Substitutions.{Gives, GivesTruth, IsPartlyWritten, SpanColumns, given_by, no_ref, size_of, step_at, steps, values_at}
-use Rattle.sig_rel.specs.Schedules.{IsOrderOfWriting}
-use Rattle.sig_rel.specs.Triangles.{form_at}
-use Rattle.sig_rel.specs.declared.elements.Element.{Element}
-use Rattle.sig_rel.specs.declared.elements.Element.TheVariants.{Presence, Truth}
-use Rattle.sig_rel.specs.declared.rules.Rules.{Rules}
-use Rattle.sig_rel.specs.declared.substitution.Columns.{Columns}
+use Rattle.sig_rel.proofs.Common.{◌≡◌, ◌<◌, ◌≤◌, ◌+◌, ◌*◌, ◌++◌, ℕ, Bool, List, [], ◌∷◌, length, take, get_or, Option, None, Some, Result, Ok, Err, refl, sym, ap, ◌∙◌, subst, arith, option_map, slice_get, IsErrAnd, Signal, slice_get_past, slice_get_read, take_more, sum_by_more, sum_by-take-le, contains_at, get_at, get_within, StoreView, test, DdAnswer, Node, Ref, Equation, Form, Kernel, IsCut, IsGiven, entry_of, signal_of, presence_by, Makes, itself, Gives, GivesTruth, IsPartlyWritten, SpanColumns, given_by, no_ref, size_of, step_at, steps, values_at, IsOrderOfWriting, form_at, Element, Presence, Truth, Rules, Columns}
 use Rattle.sig_rel.proofs.Makings.{makes_err, makes_ok, makes_then}
 use Rattle.sig_rel.proofs.UnknownLemmas.{boolean_within}
 

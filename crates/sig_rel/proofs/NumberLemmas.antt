@@ -1,8 +1,5 @@
 -- One more number among those that were given.
-use Rattle.std.proofs.Common.{◌≡◌, ◌<◌, ◌≤◌, ◌+◌, ◌⊎◌, inl, inr, ℕ, List, length, get_or, set, Option, None, Some, refl, sym, ◌∙◌, subst, arith}
-use Rattle.std.specs.Prelude.{is_some, slice_get, count_by}
-use Rattle.std.proofs.lemmas.List.{length-set}
-use Rattle.sig_rel.specs.Numberings.{AreNumbers, given_at, next_after}
+use Rattle.sig_rel.proofs.Common.{◌≡◌, ◌<◌, ◌≤◌, ◌+◌, ◌⊎◌, inl, inr, ℕ, List, length, get_or, set, Option, None, Some, refl, sym, ◌∙◌, subst, arith, is_some, slice_get, count_by, length-set, AreNumbers, given_at, next_after}
 use Rattle.sig_rel.proofs.Places.{got_set, kept_set, set_there, found_there, count_set}
 
 pub next_rises : (o : Option ℕ) (next : ℕ) → next ≤ next_after o next

@@ -1,18 +1,5 @@
 -- Each signal is defined once, and a condition by an equation that frees it.
-use Rattle.std.proofs.Common.{◌≡◌, ◌<◌, ◌≤◌, inl, inr, ℕ, zero, suc, Bool, true, false, cond, List, [], ◌∷◌, length, get_or, None, Some, refl, sym, ap, ◌∙◌, subst, arith}
-use Rattle.std.specs.Prelude.{◌&&◌, ◌||◌, count_by, nat_lt, slice_get}
-use Rattle.std.specs.List.{list_any}
-use Rattle.std.proofs.lemmas.Bool.{and_parts, cases_Bool, cases_lt, eqb-true, false≢true, lt-ltb, ltb-true, or_cases, or_left, or_right}
-use Rattle.std.proofs.lemmas.List.Sums.{sum_by-cons}
-use Rattle.sig_base.specs.declared.signal.Signal.{Signal}
-use Rattle.sig_kernel.specs.Table.{form_fits, kind_at, operands_of, target_of}
-use Rattle.sig_kernel.specs.Validity.{IsValid, defines, form_within, is_signal, is_target, target_within}
-use Rattle.sig_kernel.specs.declared.equation.Equation.{Equation}
-use Rattle.sig_kernel.specs.declared.equation.Form.{Form}
-use Rattle.sig_kernel.specs.declared.equation.Form.TheVariants.{Fun, Delay, When, WhenConst, Default, Sync, Event}
-use Rattle.sig_kernel.specs.declared.kernel.Kernel.{Kernel}
-use Rattle.sig_clock.specs.Conditions.{freed, frees, is_condition, is_free, is_number, signal_id}
-use Rattle.sig_clock.specs.Reactions.{compares, is_boolean_kind}
+use Rattle.sig_rel.proofs.Common.{◌≡◌, ◌<◌, ◌≤◌, inl, inr, ℕ, zero, suc, Bool, true, false, cond, List, [], ◌∷◌, length, get_or, None, Some, refl, sym, ap, ◌∙◌, subst, arith, ◌&&◌, ◌||◌, count_by, nat_lt, slice_get, list_any, and_parts, cases_Bool, cases_lt, eqb-true, false≢true, lt-ltb, ltb-true, or_cases, or_left, or_right, sum_by-cons, Signal, form_fits, kind_at, operands_of, target_of, IsValid, defines, form_within, is_signal, is_target, target_within, Equation, Form, Fun, Delay, When, WhenConst, Default, Sync, Event, Kernel, freed, frees, is_condition, is_free, is_number, signal_id, compares, is_boolean_kind}
 
 abbrev one_where : Bool → ℕ
 one_where b = cond b 1 0

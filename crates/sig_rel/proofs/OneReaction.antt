@@ -1,29 +1,5 @@
 -- A reaction that keeps to a proposal is the one that the values are that keep to the tables of a triangular kernel.
-use Rattle.std.proofs.Common.{◌≡◌, ◌<◌, inl, inr, ℕ, zero, suc, Bool, true, false, List, [], ◌∷◌, length, get_or, map, take, Option, None, Some, refl, sym, ap, ◌∙◌, subst, arith, Contains}
-use Rattle.std.specs.Prelude.{◌||◌, is_some, slice_get, option_map}
-use Rattle.std.specs.List.{range_with_len}
-use Rattle.std.proofs.lemmas.Bool.{cases_Bool, false≢true}
-use Rattle.std.proofs.lemmas.List.{ext_get_or}
-use Rattle.std.proofs.lemmas.List.FromFn.{get_or-map-range_with_len, length-map-range_with_len}
-use Rattle.sig_base.specs.declared.ids.SigId.{SigId}
-use Rattle.sig_kernel.specs.Table.{kind_at}
-use Rattle.sig_kernel.specs.Validity.{IsValid}
-use Rattle.sig_kernel.specs.declared.equation.Equation.{Equation}
-use Rattle.sig_kernel.specs.declared.equation.Form.{Form}
-use Rattle.sig_kernel.specs.declared.equation.Form.TheVariants.{Fun, Delay, When, WhenConst, Default, Sync, Event}
-use Rattle.sig_kernel.specs.declared.kernel.Kernel.{Kernel}
-use Rattle.sig_clock.specs.ClockFunctions.{Allows, KeepsTo}
-use Rattle.sig_clock.specs.Conditions.{is_condition, signal_id}
-use Rattle.sig_clock.specs.Reactions.{Reaction, Speaks, Status, is_present, is_silent, status_at, truth_of_status, where_true, or_else, constant_truth}
-use Rattle.sig_clock.proofs.Lists.{at_contained, contains_at, contains_head, contains_later}
-use Rattle.sig_clock.proofs.ReactionLemmas.{statuses_are_same}
-use Rattle.sig_dd.specs.Diagram.{truth_of}
-use Rattle.sig_rel.specs.Relations.{is_boolean}
-use Rattle.sig_rel.specs.Rules.{AreRules, AreValues, Values, value_status}
-use Rattle.sig_rel.specs.Systems.{AreConditions}
-use Rattle.sig_rel.specs.Triangles.{Governs, IsTriangle, MayHold, form_at, operand_signals}
-use Rattle.sig_rel.specs.declared.elements.Element.{Element}
-use Rattle.sig_rel.specs.declared.elements.Element.TheVariants.{Presence, Truth}
+use Rattle.sig_rel.proofs.Common.{◌≡◌, ◌<◌, inl, inr, ℕ, zero, suc, Bool, true, false, List, [], ◌∷◌, length, get_or, map, take, Option, None, Some, refl, sym, ap, ◌∙◌, subst, arith, Contains, ◌||◌, is_some, slice_get, option_map, range_with_len, cases_Bool, false≢true, ext_get_or, get_or-map-range_with_len, length-map-range_with_len, SigId, kind_at, IsValid, Equation, Form, Fun, Delay, When, WhenConst, Default, Sync, Event, Kernel, Allows, KeepsTo, is_condition, signal_id, Reaction, Speaks, Status, is_present, is_silent, status_at, truth_of_status, where_true, or_else, constant_truth, at_contained, contains_at, contains_head, contains_later, statuses_are_same, truth_of, is_boolean, AreRules, AreValues, Values, value_status, AreConditions, Governs, IsTriangle, MayHold, form_at, operand_signals, Element, Presence, Truth}
 use Rattle.sig_rel.proofs.ChosenTruths.{all_statuses}
 use Rattle.sig_rel.proofs.ClassLemmas.{least_within, least_own}
 use Rattle.sig_rel.proofs.FormLemmas.{inside, met, three, two}

@@ -1,25 +1,5 @@
 -- Columns in which the elements of each signal are made their own unknowns, one signal after another.
-use Rattle.std.proofs.Common.{◌≡◌, ◌<◌, ◌≤◌, ◌+◌, ◌-◌, ◌⊎◌, inl, inr, ℕ, zero, suc, Bool, true, false, List, [], length, get_or, Option, None, Some, refl, sym, ap, ◌∙◌, subst, arith, if◌then◌else◌}
-use Rattle.std.specs.Prelude.{is_some, slice_get, slice_index, count_by}
-use Rattle.std.specs.List.{range_with_len}
-use Rattle.std.proofs.lemmas.Bool.{cases_eq, cases_lt}
-use Rattle.std.proofs.lemmas.List.{get_or_past, take_all}
-use Rattle.std.proofs.lemmas.List.Sums.{sum_by-cons, sum_by_more, sum_by-take-le}
-use Rattle.std.proofs.lemmas.Option.{get_or_from_slice_get}
-use Rattle.sig_clock.proofs.Lists.{get_at, get_within}
-use Rattle.sig_dd.specs.Nodes.{IsRefOf, Keeps, StoreView}
-use Rattle.sig_dd.specs.declared.node.Node.{Node}
-use Rattle.sig_dd.proofs.CallerLemmas.{IsRefOf-kept}
-use Rattle.sig_rel.specs.Elements.{signal_of}
-use Rattle.sig_rel.specs.FreeColumns.{AreFresh}
-use Rattle.sig_rel.specs.OwnColumns.{AreOwnColumns, IsUnknownWhere, classes_below, count_one, is_own, truths_below, unknown_of}
-use Rattle.sig_rel.specs.Relations.{truth_in}
-use Rattle.sig_rel.specs.Substitutions.{present_at, ref_at}
-use Rattle.sig_rel.specs.Variables.{AreVariables, IsVariableAt, IsVariableOf}
-use Rattle.sig_rel.specs.declared.elements.Element.{Element}
-use Rattle.sig_rel.specs.declared.elements.Element.TheVariants.{Presence, Truth}
-use Rattle.sig_rel.specs.declared.numbering.Unknowns.{Unknowns}
-use Rattle.sig_rel.specs.declared.substitution.Columns.{Columns}
+use Rattle.sig_rel.proofs.Common.{◌≡◌, ◌<◌, ◌≤◌, ◌+◌, ◌-◌, ◌⊎◌, inl, inr, ℕ, zero, suc, Bool, true, false, List, [], length, get_or, Option, None, Some, refl, sym, ap, ◌∙◌, subst, arith, if◌then◌else◌, is_some, slice_get, slice_index, count_by, range_with_len, cases_eq, cases_lt, get_or_past, take_all, sum_by-cons, sum_by_more, sum_by-take-le, get_or_from_slice_get, get_at, get_within, IsRefOf, Keeps, StoreView, Node, IsRefOf-kept, signal_of, AreFresh, AreOwnColumns, IsUnknownWhere, classes_below, count_one, is_own, truths_below, unknown_of, truth_in, present_at, ref_at, AreVariables, IsVariableAt, IsVariableOf, Element, Presence, Truth, Unknowns, Columns}
 use Rattle.sig_rel.proofs.PlacingLemmas.{apart_kinds}
 use Rattle.sig_rel.proofs.VariableLemmas.{variables_then}
 

@@ -1,29 +1,5 @@
 -- Columns that are the unknowns of a kernel hold and span these, and take no more nodes than there are unknowns.
-use Rattle.std.proofs.Common.{◌≡◌, ◌<◌, ◌≤◌, ◌+◌, ◌-◌, ◌*◌, ◌^◌, inl, inr, ℕ, Bool, true, false, List, length, get_or, Option, None, Some, Result, refl, sym, ap, ◌∙◌, subst, arith, Contains, if◌then◌else◌}
-use Rattle.std.specs.Prelude.{is_some, slice_get, slice_index, count_by, ◌==◌}
-use Rattle.std.specs.List.{range_with_len}
-use Rattle.std.proofs.Math.Nat.{mul-le-mul_left, pow-le-pow_right}
-use Rattle.std.proofs.lemmas.Bool.{cases_lt, false≢true}
-use Rattle.std.proofs.lemmas.List.{get_or_past, take_all}
-use Rattle.std.proofs.lemmas.List.FromFn.{length-range_with_len}
-use Rattle.sig_dd.specs.Diagram.{truth_of}
-use Rattle.sig_dd.specs.Nodes.{IsRefOf, Spans, StoreView, allowance}
-use Rattle.sig_dd.specs.declared.answer.DdAnswer.{DdAnswer}
-use Rattle.sig_dd.specs.declared.node.Node.{Node}
-use Rattle.sig_dd.proofs.CallerLemmas.{Spans-of}
-use Rattle.sig_dd.proofs.Dependence.{variable_depends}
-use Rattle.sig_kernel.specs.declared.kernel.Kernel.{Kernel}
-use Rattle.sig_clock.specs.SameClocks.{AreLeast}
-use Rattle.sig_rel.specs.FreeColumns.{Adds}
-use Rattle.sig_rel.specs.GeneralColumns.{numbers_of, substituting}
-use Rattle.sig_rel.specs.OwnColumns.{AreOwnColumns, classes_below, is_own, truths_below, unknown_of}
-use Rattle.sig_rel.specs.Relations.{AreUnknowns, IsUnknownCount, IsUsed, is_boolean, truth_in}
-use Rattle.sig_rel.specs.Statuses.{LieWithin}
-use Rattle.sig_rel.specs.Substitutions.{ArePlain, HoldColumns, SpanColumns, ref_at}
-use Rattle.sig_rel.specs.declared.elements.Element.{Element}
-use Rattle.sig_rel.specs.declared.elements.Element.TheVariants.{Presence, Truth}
-use Rattle.sig_rel.specs.declared.numbering.Unknowns.{Unknowns}
-use Rattle.sig_rel.specs.declared.substitution.Columns.{Columns}
+use Rattle.sig_rel.proofs.Common.{◌≡◌, ◌<◌, ◌≤◌, ◌+◌, ◌-◌, ◌*◌, ◌^◌, inl, inr, ℕ, Bool, true, false, List, length, get_or, Option, None, Some, Result, refl, sym, ap, ◌∙◌, subst, arith, Contains, if◌then◌else◌, is_some, slice_get, slice_index, count_by, ◌==◌, range_with_len, mul-le-mul_left, pow-le-pow_right, cases_lt, false≢true, get_or_past, take_all, length-range_with_len, truth_of, IsRefOf, Spans, StoreView, allowance, DdAnswer, Node, Spans-of, variable_depends, Kernel, AreLeast, Adds, numbers_of, substituting, AreOwnColumns, classes_below, is_own, truths_below, unknown_of, AreUnknowns, IsUnknownCount, IsUsed, is_boolean, truth_in, LieWithin, ArePlain, HoldColumns, SpanColumns, ref_at, Element, Presence, Truth, Unknowns, Columns}
 use Rattle.sig_rel.proofs.AddingLemmas.{adds_more}
 use Rattle.sig_rel.proofs.ElementLemmas.{held_by, span_by}
 use Rattle.sig_rel.proofs.Makings.{constant_spans}

@@ -1,8 +1,5 @@
 -- Lists of numbers of which some are given: what stands at a place, and how many are given.
-use Rattle.std.proofs.Common.{◌≡◌, ◌<◌, ◌≤◌, ◌+◌, ◌⊎◌, inl, inr, ℕ, suc, zero, Bool, true, List, [], ◌∷◌, length, get_or, set, cond, Option, None, Some, refl, ap, subst, arith}
-use Rattle.std.specs.Prelude.{is_some, slice_get, count_by}
-use Rattle.std.specs.List.{range_with_len}
-use Rattle.std.proofs.lemmas.List.Sums.{sum_by-cons, sum_by-set}
+use Rattle.sig_rel.proofs.Common.{◌≡◌, ◌<◌, ◌≤◌, ◌+◌, ◌⊎◌, inl, inr, ℕ, suc, zero, Bool, true, List, [], ◌∷◌, length, get_or, set, cond, Option, None, Some, refl, ap, subst, arith, is_some, slice_get, count_by, range_with_len, sum_by-cons, sum_by-set}
 
 -- what stands in a list after a number is set
 pub got_set : (numbers : List (Option ℕ)) (k j w v : ℕ) → slice_get (set numbers k (Some w)) j ≡ Some (Some v) → ((j ≡ k) × (v ≡ w)) ⊎ (slice_get numbers j ≡ Some (Some v))

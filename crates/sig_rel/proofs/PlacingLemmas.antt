@@ -1,29 +1,6 @@
 -- A list that is put together one element after another shows that a kernel is triangular where it is whole, and
 -- where nothing more may be placed and it is not whole, no list does.
-use Rattle.std.proofs.Common.{◌≡◌, ◌<◌, ◌+◌, ◌++◌, ◌⊎◌, inl, inr, ℕ, zero, suc, Bool, true, false, not, cond, List, [], ◌∷◌, length, get_or, take, Option, None, Some, refl, sym, ap, ◌∙◌, subst, arith, Contains}
-use Rattle.std.specs.Prelude.{◌&&◌, slice_get, slice_set, option_map, count_by, ◌==◌}
-use Rattle.std.specs.List.{list_all}
-use Rattle.std.proofs.lemmas.Bool.{and_parts, and_from, cases_Bool, cases_eq, eq-eqb, eqb-true, false≢true, ltb-true, not-true, or_cases, or_left, or_right}
-use Rattle.std.proofs.lemmas.List.{get_or-set_other, get_or-set_same, length-set, take-append-le, take_all}
-use Rattle.std.proofs.lemmas.List.Sums.{sum_by-set}
-use Rattle.sig_kernel.specs.Validity.{IsValid, defines, form_within, is_below}
-use Rattle.sig_kernel.specs.declared.equation.Equation.{Equation}
-use Rattle.sig_kernel.specs.declared.equation.Form.{Form}
-use Rattle.sig_kernel.specs.declared.equation.Form.TheVariants.{Fun, Delay, When, WhenConst, Default, Sync, Event}
-use Rattle.sig_kernel.specs.declared.equation.Operand.{Operand}
-use Rattle.sig_kernel.specs.declared.equation.Operand.TheVariants.{Sig, Const}
-use Rattle.sig_kernel.specs.declared.kernel.Kernel.{Kernel}
-use Rattle.sig_clock.specs.Conditions.{is_condition}
-use Rattle.sig_clock.specs.SameClocks.{signals_among}
-use Rattle.sig_clock.proofs.Lists.{at_contained, contains_at, contains_cons, contains_head, contains_later, contains_none}
-use Rattle.sig_rel.specs.Relations.{is_boolean}
-use Rattle.sig_rel.specs.Rules.{EntersAfter, HoldsAfter, StandsAfter}
-use Rattle.sig_rel.specs.Tables.{AreMarks, AreRulesOf, IsBegun, IsFreshWithin, IsMarkedWithin, IsPlaced, IsStuck, IsWithin, MayBePlaced, allows_top, boolean_ready, class_ready, has_class, has_operand, has_operand_of, has_truth_of, has_whole, governs, is_top_class, may_enter, may_hold, presence_ready, presence_ready_at, truth_ready, truth_ready_at, unmarked, with_class, with_truth_of}
-use Rattle.sig_rel.specs.Triangles.{Governs, HasClasses, HasOperandOf, HasTruths, IsClass, IsCounted, IsTop, IsTriangle, IsTriangular, MayHold, MayStand, form_at, operand_signals, tested}
-use Rattle.sig_rel.specs.declared.elements.Element.{Element}
-use Rattle.sig_rel.specs.declared.elements.Element.TheVariants.{Presence, Truth}
-use Rattle.sig_rel.specs.declared.placing.Placed.{Placed}
-use Rattle.sig_rel.specs.declared.rules.Rules.{Rules}
+use Rattle.sig_rel.proofs.Common.{◌≡◌, ◌<◌, ◌+◌, ◌++◌, ◌⊎◌, inl, inr, ℕ, zero, suc, Bool, true, false, not, cond, List, [], ◌∷◌, length, get_or, take, Option, None, Some, refl, sym, ap, ◌∙◌, subst, arith, Contains, ◌&&◌, slice_get, slice_set, option_map, count_by, ◌==◌, list_all, and_parts, and_from, cases_Bool, cases_eq, eq-eqb, eqb-true, false≢true, ltb-true, not-true, or_cases, or_left, or_right, get_or-set_other, get_or-set_same, length-set, take-append-le, take_all, sum_by-set, IsValid, defines, form_within, is_below, Equation, Form, Fun, Delay, When, WhenConst, Default, Sync, Event, Operand, Sig, Const, Kernel, is_condition, signals_among, at_contained, contains_at, contains_cons, contains_head, contains_later, contains_none, is_boolean, EntersAfter, HoldsAfter, StandsAfter, AreMarks, AreRulesOf, IsBegun, IsFreshWithin, IsMarkedWithin, IsPlaced, IsStuck, IsWithin, MayBePlaced, allows_top, boolean_ready, class_ready, has_class, has_operand, has_operand_of, has_truth_of, has_whole, governs, is_top_class, may_enter, may_hold, presence_ready, presence_ready_at, truth_ready, truth_ready_at, unmarked, with_class, with_truth_of, Governs, HasClasses, HasOperandOf, HasTruths, IsClass, IsCounted, IsTop, IsTriangle, IsTriangular, MayHold, MayStand, form_at, operand_signals, tested, Element, Presence, Truth, Placed, Rules}
 use Rattle.sig_rel.proofs.ClassLemmas.{least_own, least_within}
 use Rattle.sig_rel.proofs.OnceDefined.{defined_once, within_at}
 use Rattle.sig_rel.proofs.RuleLemmas.{all_at, all_from, governs_from, governs_true, operand_from, operand_true}

@@ -1,8 +1,5 @@
 -- The reaction that truths of unknowns are, signal by signal.
-use Rattle.std.proofs.Common.{◌≡◌, ℕ, zero, suc, Bool, List, [], ◌∷◌, Option, Some}
-use Rattle.std.specs.Prelude.{slice_get}
-use Rattle.sig_clock.specs.Reactions.{status_at}
-use Rattle.sig_rel.specs.Relations.{reaction_in, status_in}
+use Rattle.sig_rel.proofs.Common.{◌≡◌, ℕ, zero, suc, Bool, List, [], ◌∷◌, Option, Some, slice_get, status_at, reaction_in, status_in}
 
 pub status_of_unknowns : (truths : List Bool) (present : List ℕ) (truth : List (Option ℕ)) (s p : ℕ) (t : Option ℕ) → slice_get present s ≡ Some p → slice_get truth s ≡ Some t
     → status_at (reaction_in truths present truth) s ≡ status_in truths p t

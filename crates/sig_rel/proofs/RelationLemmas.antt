@@ -1,27 +1,5 @@
 -- What is left to be met where each class and each boolean is its own unknown is a kernel's relation.
-use Rattle.std.proofs.Common.{◌≡◌, ◌<◌, ℕ, Bool, true, false, List, length, get_or, None, Some, Ok, sym, ap, ◌∙◌, subst, arith, if◌then◌else◌}
-use Rattle.std.specs.List.{list_all, range_with_len}
-use Rattle.std.proofs.lemmas.Bool.{eq-eqb}
-use Rattle.std.proofs.lemmas.List.{ext_get_or}
-use Rattle.std.proofs.lemmas.List.FromFn.{length-map-range_with_len}
-use Rattle.sig_dd.specs.Diagram.{Agree, truth_of}
-use Rattle.sig_dd.specs.Nodes.{StoreView, test}
-use Rattle.sig_dd.specs.declared.node.Ref.{Ref}
-use Rattle.sig_kernel.specs.Validity.{IsValid}
-use Rattle.sig_kernel.specs.declared.equation.Equation.{Equation}
-use Rattle.sig_kernel.specs.declared.kernel.Kernel.{Kernel}
-use Rattle.sig_clock.specs.Reactions.{IsReaction, Reaction, status_at}
-use Rattle.sig_clock.specs.SameClocks.{AreLeast, turned}
-use Rattle.sig_rel.specs.OwnColumns.{AreOwnColumns}
-use Rattle.sig_rel.specs.Relations.{AreUnknowns, IsRelation, is_boolean, reaction_in}
-use Rattle.sig_rel.specs.Residues.{is_met}
-use Rattle.sig_rel.specs.Rules.{Values, has, value_status}
-use Rattle.sig_rel.specs.Shares.{Makes}
-use Rattle.sig_rel.specs.Statuses.{LieWithin, itself}
-use Rattle.sig_rel.specs.Substitutions.{SpanColumns, truth_at, values_at}
-use Rattle.sig_rel.specs.declared.elements.Element.TheVariants.{Truth}
-use Rattle.sig_rel.specs.declared.numbering.Unknowns.{Unknowns}
-use Rattle.sig_rel.specs.declared.substitution.Columns.{Columns}
+use Rattle.sig_rel.proofs.Common.{◌≡◌, ◌<◌, ℕ, Bool, true, false, List, length, get_or, None, Some, Ok, sym, ap, ◌∙◌, subst, arith, if◌then◌else◌, list_all, range_with_len, eq-eqb, ext_get_or, length-map-range_with_len, Agree, truth_of, StoreView, test, Ref, IsValid, Equation, Kernel, IsReaction, Reaction, status_at, AreLeast, turned, AreOwnColumns, AreUnknowns, IsRelation, is_boolean, reaction_in, is_met, Values, has, value_status, Makes, LieWithin, itself, SpanColumns, truth_at, values_at, Truth, Unknowns, Columns}
 use Rattle.sig_rel.proofs.ChosenTruths.{length_in}
 use Rattle.sig_rel.proofs.ClassLemmas.{least_own, least_within}
 use Rattle.sig_rel.proofs.Makings.{makes_spans}

@@ -1,28 +1,5 @@
 -- What is asked of columns where an equation is to be met.
-use Rattle.std.proofs.Common.{◌≡◌, ◌<◌, ◌≤◌, ◌+◌, ◌-◌, inl, inr, arith, ℕ, ℤ, Bool, true, false, List, length, get_or, take, None, Some, refl, sym, ap, ◌∙◌, subst, if◌then◌else◌}
-use Rattle.std.specs.Prelude.{◌&&◌, ◌||◌}
-use Rattle.std.specs.List.{list_all}
-use Rattle.std.proofs.lemmas.Bool.{and_from, and_parts, cases_eq, false≢true, or_cases}
-use Rattle.std.proofs.lemmas.List.Folds.{list_all_more}
-use Rattle.sig_base.specs.declared.ids.SigId.{SigId}
-use Rattle.sig_base.specs.declared.signal.Signal.{Signal}
-use Rattle.sig_kernel.specs.Table.{kind_at}
-use Rattle.sig_kernel.specs.declared.equation.Equation.{Equation}
-use Rattle.sig_kernel.specs.declared.equation.Form.{Form}
-use Rattle.sig_kernel.specs.declared.equation.Form.TheVariants.{When, WhenConst, Default}
-use Rattle.sig_clock.specs.Reactions.{Status, constant_truth, has_truth, same_status, where_true}
-use Rattle.sig_dd.specs.Nodes.{Holds, Keeps, Spans, StoreView, test}
-use Rattle.sig_dd.specs.Shares.{HoldAll, SpanAll}
-use Rattle.sig_dd.specs.declared.node.Node.{Node}
-use Rattle.sig_dd.specs.declared.node.Ref.{Ref}
-use Rattle.sig_dd.proofs.CallerLemmas.{Holds-kept, Spans-kept}
-use Rattle.sig_rel.specs.OwnColumns.{is_own}
-use Rattle.sig_rel.specs.Residues.{IsOwnStatus, IsSomePresent, is_met}
-use Rattle.sig_rel.specs.Rules.{Values, has, presence_by, truth_by_form, value_status}
-use Rattle.sig_rel.specs.Statuses.{refs_of, status_by}
-use Rattle.sig_rel.specs.Substitutions.{HoldColumns, SpanColumns, present_at, truth_at, values_at}
-use Rattle.sig_rel.specs.declared.statuses.Known.{Known}
-use Rattle.sig_rel.specs.declared.substitution.Columns.{Columns}
+use Rattle.sig_rel.proofs.Common.{◌≡◌, ◌<◌, ◌≤◌, ◌+◌, ◌-◌, inl, inr, arith, ℕ, ℤ, Bool, true, false, List, length, get_or, take, None, Some, refl, sym, ap, ◌∙◌, subst, if◌then◌else◌, ◌&&◌, ◌||◌, list_all, and_from, and_parts, cases_eq, false≢true, or_cases, list_all_more, SigId, Signal, kind_at, Equation, Form, When, WhenConst, Default, Status, constant_truth, has_truth, same_status, where_true, Holds, Keeps, Spans, StoreView, test, HoldAll, SpanAll, Node, Ref, Holds-kept, Spans-kept, is_own, IsOwnStatus, IsSomePresent, is_met, Values, has, presence_by, truth_by_form, value_status, refs_of, status_by, HoldColumns, SpanColumns, present_at, truth_at, values_at, Known, Columns}
 use Rattle.sig_rel.proofs.Staying.{or_else_is, status, test_kept, where_true_is}
 
 -- columns stay as a store grows

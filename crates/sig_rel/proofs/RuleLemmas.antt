@@ -1,27 +1,5 @@
 -- The tables of a kernel.
-use Rattle.std.proofs.Common.{◌≡◌, ◌<◌, ◌≤◌, ◌⊎◌, inl, inr, ℕ, zero, suc, Bool, true, false, not, List, [], ◌∷◌, length, get_or, map, Option, None, Some, refl, sym, ap, ◌∙◌, subst, arith, Contains, if◌then◌else◌}
-use Rattle.std.specs.Prelude.{◌&&◌, ◌||◌, ◌==◌, nat_lt, position, slice_get, option_map}
-use Rattle.std.specs.List.{list_all, list_any, position_or_len, range_with_len}
-use Rattle.std.proofs.lemmas.Bool.{and_parts, cases_Bool, cases_lt, cond-true, eq-eqb, eqb-true, false≢true, lt-ltb, not-true, or_cases, or_left, or_right}
-use Rattle.std.proofs.lemmas.List.FromFn.{get_or-map-range_with_len, length-map-range_with_len}
-use Rattle.std.proofs.lemmas.List.Quantifiers.{position-Some}
-use Rattle.std.proofs.lemmas.List.Sums.{fails_before_first}
-use Rattle.std.proofs.lemmas.Option.{get_or_from_slice_get, slice_get-get_or, slice_get_within}
-use Rattle.sig_base.specs.declared.ids.SigId.{SigId}
-use Rattle.sig_kernel.specs.Table.{target_of}
-use Rattle.sig_kernel.specs.Validity.{IsValid, defines, is_target}
-use Rattle.sig_kernel.specs.declared.equation.Equation.{Equation}
-use Rattle.sig_kernel.specs.declared.equation.Form.{Form}
-use Rattle.sig_kernel.specs.declared.equation.Form.TheVariants.{Fun, Delay, When, WhenConst, Default, Sync, Event}
-use Rattle.sig_kernel.specs.declared.kernel.Kernel.{Kernel}
-use Rattle.sig_clock.specs.Conditions.{is_condition, signal_id}
-use Rattle.sig_clock.specs.SameClocks.{AreLeast}
-use Rattle.sig_clock.proofs.Lists.{at_contained, contains_at}
-use Rattle.sig_rel.specs.Relations.{is_boolean}
-use Rattle.sig_rel.specs.Rules.{AreRules}
-use Rattle.sig_rel.specs.Systems.{AreConditions}
-use Rattle.sig_rel.specs.Tables.{counted_at, counted_for, counted_if, defined_for, gives, governs, has_operand_of, is_excused, is_numbered, repeats, target_number}
-use Rattle.sig_rel.specs.Triangles.{Governs, HasOperandOf, IsCounted, Repeats, form_at}
+use Rattle.sig_rel.proofs.Common.{◌≡◌, ◌<◌, ◌≤◌, ◌⊎◌, inl, inr, ℕ, zero, suc, Bool, true, false, not, List, [], ◌∷◌, length, get_or, map, Option, None, Some, refl, sym, ap, ◌∙◌, subst, arith, Contains, if◌then◌else◌, ◌&&◌, ◌||◌, ◌==◌, nat_lt, position, slice_get, option_map, list_all, list_any, position_or_len, range_with_len, and_parts, cases_Bool, cases_lt, cond-true, eq-eqb, eqb-true, false≢true, lt-ltb, not-true, or_cases, or_left, or_right, get_or-map-range_with_len, length-map-range_with_len, position-Some, fails_before_first, get_or_from_slice_get, slice_get-get_or, slice_get_within, SigId, target_of, IsValid, defines, is_target, Equation, Form, Fun, Delay, When, WhenConst, Default, Sync, Event, Kernel, is_condition, signal_id, AreLeast, at_contained, contains_at, is_boolean, AreRules, AreConditions, counted_at, counted_for, counted_if, defined_for, gives, governs, has_operand_of, is_excused, is_numbered, repeats, target_number, Governs, HasOperandOf, IsCounted, Repeats, form_at}
 use Rattle.sig_rel.proofs.OnceDefined.{any_place, any_there, defined_once, some_definition}
 use Rattle.sig_rel.proofs.UnknownLemmas.{boolean_within}
 

@@ -1,30 +1,5 @@
 -- A schedule that is put together one step after another.
-use Rattle.std.proofs.Common.{◌≡◌, ◌<◌, ◌++◌, ◌⊎◌, inl, inr, ℕ, zero, suc, Bool, true, false, not, List, [], ◌∷◌, length, get_or, map, replicate, take, Option, None, Some, refl, sym, ap, ◌∙◌, subst, arith, Contains}
-use Rattle.std.specs.Prelude.{◌&&◌, ◌==◌, slice_get, slice_set, slice_index, slice_index_or, option_map}
-use Rattle.std.specs.List.{range_with_len}
-use Rattle.std.proofs.lemmas.Bool.{and_parts, and_from, cases_eq, eq-eqb, eqb-true, false≢true, ltb-true, not-true, or_right}
-use Rattle.std.proofs.lemmas.List.{length-replicate, length-set, take-append-le, take_all}
-use Rattle.std.proofs.lemmas.Option.{get_or_from_slice_get}
-use Rattle.sig_base.specs.declared.ids.SigId.{SigId}
-use Rattle.sig_kernel.specs.Validity.{IsValid, form_within, is_below}
-use Rattle.sig_kernel.specs.declared.equation.Equation.{Equation}
-use Rattle.sig_kernel.specs.declared.equation.Form.{Form}
-use Rattle.sig_kernel.specs.declared.equation.Form.TheVariants.{Fun, Delay, When, WhenConst, Default, Sync, Event}
-use Rattle.sig_kernel.specs.declared.kernel.Kernel.{Kernel}
-use Rattle.sig_clock.specs.SameClocks.{AreLeast}
-use Rattle.sig_clock.proofs.Lists.{contains_at, contains_none}
-use Rattle.sig_rel.specs.Relations.{is_boolean}
-use Rattle.sig_rel.specs.Schedules.{AreNamed, HasPlace, IsOrderOfWriting, IsPlannedStep, IsSchedule, IsScheduling, IsStepBy, IsTaken, IsWhole, MayBeWritten, ReadsBefore, is_left, is_left_truth, with_counted, with_defined}
-use Rattle.sig_rel.specs.Systems.{AreConditions}
-use Rattle.sig_rel.specs.Tables.{AreMarks, IsFreshWithin, IsMarkedWithin, boolean_ready, counted_for, defined_for, governs, has_class, has_truth_of, may_hold, presence_ready, truth_ready, truth_ready_at}
-use Rattle.sig_rel.specs.Triangles.{Governs, HasClasses, HasTruths, IsClass, form_at, operand_signals, tested}
-use Rattle.sig_rel.specs.declared.elements.Element.{Element}
-use Rattle.sig_rel.specs.declared.elements.Element.TheVariants.{Presence, Truth}
-use Rattle.sig_rel.specs.declared.placing.Placed.{Placed}
-use Rattle.sig_rel.specs.declared.rules.Rules.{Rules}
-use Rattle.sig_rel.specs.declared.schedules.Schedule.{Schedule}
-use Rattle.sig_rel.specs.declared.schedules.Scheduling.{Scheduling}
-use Rattle.sig_rel.specs.declared.schedules.Step.{Step}
+use Rattle.sig_rel.proofs.Common.{◌≡◌, ◌<◌, ◌++◌, ◌⊎◌, inl, inr, ℕ, zero, suc, Bool, true, false, not, List, [], ◌∷◌, length, get_or, map, replicate, take, Option, None, Some, refl, sym, ap, ◌∙◌, subst, arith, Contains, ◌&&◌, ◌==◌, slice_get, slice_set, slice_index, slice_index_or, option_map, range_with_len, and_parts, and_from, cases_eq, eq-eqb, eqb-true, false≢true, ltb-true, not-true, or_right, length-replicate, length-set, take-append-le, take_all, get_or_from_slice_get, SigId, IsValid, form_within, is_below, Equation, Form, Fun, Delay, When, WhenConst, Default, Sync, Event, Kernel, AreLeast, contains_at, contains_none, is_boolean, AreNamed, HasPlace, IsOrderOfWriting, IsPlannedStep, IsSchedule, IsScheduling, IsStepBy, IsTaken, IsWhole, MayBeWritten, ReadsBefore, is_left, is_left_truth, with_counted, with_defined, AreConditions, AreMarks, IsFreshWithin, IsMarkedWithin, boolean_ready, counted_for, defined_for, governs, has_class, has_truth_of, may_hold, presence_ready, truth_ready, truth_ready_at, Governs, HasClasses, HasTruths, IsClass, form_at, operand_signals, tested, Element, Presence, Truth, Placed, Rules, Schedule, Scheduling, Step}
 use Rattle.sig_rel.proofs.ClassLemmas.{least_own, least_within}
 use Rattle.sig_rel.proofs.OnceDefined.{within_at}
 use Rattle.sig_rel.proofs.PlacingLemmas.{among_more, apart_kinds, both_said, got_more, marks_more, presence_is, presence_says, truth_is, truth_says}

@@ -1,13 +1,5 @@
 -- What loops over a list have found so far.
-use Rattle.std.proofs.Common.{◌≡◌, ◌<◌, ◌≤◌, ◌+◌, ◌++◌, [], ◌∷◌, inl, inr, ℕ, Bool, true, false, List, length, map, take, get_or, Option, None, Some, refl, sym, ap, ◌∙◌, arith}
-use Rattle.std.specs.Prelude.{◌&&◌, ◌||◌, not, position, slice_get}
-use Rattle.std.specs.List.{list_all, list_any}
-use Rattle.std.proofs.lemmas.Bool.{cases_eq, cases_lt, false≢true}
-use Rattle.std.proofs.lemmas.List.{map_push, take_more}
-use Rattle.std.proofs.lemmas.List.Quantifiers.{position-Some}
-use Rattle.std.proofs.lemmas.Option.{get_or_from_slice_get, slice_get-get_or, slice_get_within}
-use Rattle.sig_kernel.specs.declared.equation.Equation.{Equation}
-use Rattle.sig_rel.specs.Tables.{allows_top, gives, governs, has_operand_of}
+use Rattle.sig_rel.proofs.Common.{◌≡◌, ◌<◌, ◌≤◌, ◌+◌, ◌++◌, [], ◌∷◌, inl, inr, ℕ, Bool, true, false, List, length, map, take, get_or, Option, None, Some, refl, sym, ap, ◌∙◌, arith, ◌&&◌, ◌||◌, not, position, slice_get, list_all, list_any, cases_eq, cases_lt, false≢true, map_push, take_more, position-Some, get_or_from_slice_get, slice_get-get_or, slice_get_within, Equation, allows_top, gives, governs, has_operand_of}
 use Rattle.sig_rel.proofs.OnceDefined.{any_place}
 use Rattle.sig_rel.proofs.RuleLemmas.{all_at, all_from, position_found, position_place}
 

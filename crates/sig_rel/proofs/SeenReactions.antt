@@ -1,16 +1,5 @@
 -- A relation looks at the reaction alone that truths are.
-use Rattle.std.proofs.Common.{◌≡◌, ◌≢◌, ◌<◌, ℕ, Bool, true, false, List, length, get_or, Option, None, Some, refl, sym, ap, ◌∙◌, subst, arith, if◌then◌else◌, inl, inr}
-use Rattle.std.specs.Prelude.{slice_get, is_some}
-use Rattle.std.proofs.lemmas.Bool.{cases_eq}
-use Rattle.std.proofs.lemmas.List.{ext_get_or}
-use Rattle.std.proofs.lemmas.Option.{slice_get-get_or}
-use Rattle.sig_kernel.specs.declared.kernel.Kernel.{Kernel}
-use Rattle.sig_clock.specs.Reactions.{IsReaction, Status, is_present, status_at}
-use Rattle.sig_dd.specs.Diagram.{truth_of, with_truth}
-use Rattle.sig_dd.specs.Nodes.{test}
-use Rattle.sig_dd.specs.declared.node.Node.{Node}
-use Rattle.sig_dd.proofs.Trees.{truth_of-with_other}
-use Rattle.sig_rel.specs.Relations.{AreUnknowns, IsRelation, RelationView, reaction_in, status_in, truth_in}
+use Rattle.sig_rel.proofs.Common.{◌≡◌, ◌≢◌, ◌<◌, ℕ, Bool, true, false, List, length, get_or, Option, None, Some, refl, sym, ap, ◌∙◌, subst, arith, if◌then◌else◌, inl, inr, slice_get, is_some, cases_eq, ext_get_or, slice_get-get_or, Kernel, IsReaction, Status, is_present, status_at, truth_of, with_truth, test, Node, truth_of-with_other, AreUnknowns, IsRelation, RelationView, reaction_in, status_in, truth_in}
 use Rattle.sig_rel.proofs.ChosenTruths.{length_in}
 use Rattle.sig_rel.proofs.Reactions.{status_of_unknowns}
 

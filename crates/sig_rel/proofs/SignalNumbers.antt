@@ -1,12 +1,5 @@
 -- A signal's class is given a number, and then its truth.
-use Rattle.std.proofs.Common.{◌≡◌, ◌<◌, ℕ, false, List, length, get_or, None, Some, sym, ◌∙◌, arith}
-use Rattle.std.specs.Prelude.{slice_get}
-use Rattle.std.proofs.lemmas.Bool.{false≢true}
-use Rattle.sig_kernel.specs.declared.kernel.Kernel.{Kernel}
-use Rattle.sig_clock.specs.SameClocks.{AreLeast}
-use Rattle.sig_rel.specs.Numberings.{AreGiven, HasNumbers, IsBoolean, Retains, given_at, next_after}
-use Rattle.sig_rel.specs.Relations.{is_boolean}
-use Rattle.sig_rel.specs.declared.numbering.Numbering.{Numbering}
+use Rattle.sig_rel.proofs.Common.{◌≡◌, ◌<◌, ℕ, false, List, length, get_or, None, Some, sym, ◌∙◌, arith, slice_get, false≢true, Kernel, AreLeast, AreGiven, HasNumbers, IsBoolean, Retains, given_at, next_after, is_boolean, Numbering}
 use Rattle.sig_rel.proofs.ClassLemmas.{least_own, least_within}
 use Rattle.sig_rel.proofs.GivenLemmas.{class_given, class_retained, class_there, retained_then, truth_given, truth_retained, truth_there}
 

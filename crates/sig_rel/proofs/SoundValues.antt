@@ -1,28 +1,5 @@
 -- Values that keep to the tables of a triangular kernel are a reaction that is not silent.
-use Rattle.std.proofs.Common.{◌≡◌, ◌<◌, ◌⊎◌, inl, inr, ℕ, Bool, true, false, List, [], ◌∷◌, length, get_or, map, Option, None, Some, refl, sym, ap, ◌∙◌, subst, Contains, if◌then◌else◌}
-use Rattle.std.specs.Prelude.{◌||◌, slice_get, option_map}
-use Rattle.std.specs.List.{list_any}
-use Rattle.std.proofs.lemmas.Bool.{cases_Bool, eq-eqb}
-use Rattle.sig_base.specs.declared.ids.SigId.{SigId}
-use Rattle.sig_kernel.specs.Table.{kind_at, operands_of, target_of}
-use Rattle.sig_kernel.specs.Validity.{IsValid, defines, is_signal, is_target}
-use Rattle.sig_kernel.specs.declared.equation.Equation.{Equation}
-use Rattle.sig_kernel.specs.declared.equation.Form.{Form}
-use Rattle.sig_kernel.specs.declared.equation.Form.TheVariants.{Fun, Delay, When, WhenConst, Default, Sync, Event as EventOf}
-use Rattle.sig_kernel.specs.declared.equation.FunOp.{FunOp}
-use Rattle.sig_kernel.specs.declared.equation.Operand.{Operand}
-use Rattle.sig_kernel.specs.declared.kernel.Kernel.{Kernel}
-use Rattle.sig_clock.specs.Conditions.{freed, frees, is_number}
-use Rattle.sig_clock.specs.Reactions.{Reaction, Speaks, compares, is_silent, status_at, truth_function, constant_truth}
-use Rattle.sig_clock.specs.SameClocks.{related}
-use Rattle.sig_clock.proofs.Lists.{contains_head, contains_later}
-use Rattle.sig_clock.proofs.ReactionLemmas.{absent_in_silence}
-use Rattle.sig_rel.specs.Relations.{is_boolean}
-use Rattle.sig_rel.specs.Residues.{is_met}
-use Rattle.sig_rel.specs.Rules.{AreRules, AreValues, Values, has, operand_value, presence_by, truth_by_form, value_status}
-use Rattle.sig_rel.specs.Triangles.{Governs, HasOperandOf, IsTriangle, Repeats, form_at}
-use Rattle.sig_rel.specs.TruthFunctions.{truth_given}
-use Rattle.sig_rel.specs.declared.elements.Element.{Element}
+use Rattle.sig_rel.proofs.Common.{◌≡◌, ◌<◌, ◌⊎◌, inl, inr, ℕ, Bool, true, false, List, [], ◌∷◌, length, get_or, map, Option, None, Some, refl, sym, ap, ◌∙◌, subst, Contains, if◌then◌else◌, ◌||◌, slice_get, option_map, list_any, cases_Bool, eq-eqb, SigId, kind_at, operands_of, target_of, IsValid, defines, is_signal, is_target, Equation, Form, Fun, Delay, When, WhenConst, Default, Sync, Event as EventOf, FunOp, Operand, Kernel, freed, frees, is_number, Reaction, Speaks, compares, is_silent, status_at, truth_function, constant_truth, related, contains_head, contains_later, absent_in_silence, is_boolean, is_met, AreRules, AreValues, Values, has, operand_value, presence_by, truth_by_form, value_status, Governs, HasOperandOf, IsTriangle, Repeats, form_at, truth_given, Element}
 use Rattle.sig_rel.proofs.ClassLemmas.{least_own, least_within}
 use Rattle.sig_rel.proofs.FormLemmas.{at_form, fits, inside, three, two}
 use Rattle.sig_rel.proofs.OnceDefined.{defined_once, not_freed, speaks_at}

@@ -1,12 +1,5 @@
 -- Functions of truths, and what stays of them as a store grows.
-use Rattle.std.proofs.Common.{◌≡◌, ℕ, Bool, true, false, not, ◌&&◌, ◌||◌, List, [], ◌∷◌, None, Some, refl, if◌then◌else◌}
-use Rattle.sig_clock.specs.Reactions.{Status, has_truth, or_else, same_status, same_truth, where_present, where_true}
-use Rattle.sig_dd.specs.Nodes.{StoreView, Holds, Keeps, test}
-use Rattle.sig_dd.specs.Shares.{HoldAll, SpanAll}
-use Rattle.sig_dd.specs.declared.node.Ref.{Ref}
-use Rattle.sig_dd.proofs.CallerLemmas.{Agree-kept, Holds-kept, Spans-kept}
-use Rattle.sig_rel.specs.Statuses.{refs_of, status_by}
-use Rattle.sig_rel.specs.declared.statuses.Known.{Known}
+use Rattle.sig_rel.proofs.Common.{◌≡◌, ℕ, Bool, true, false, not, ◌&&◌, ◌||◌, List, [], ◌∷◌, None, Some, refl, if◌then◌else◌, Status, has_truth, or_else, same_status, same_truth, where_present, where_true, StoreView, Holds, Keeps, test, HoldAll, SpanAll, Ref, Agree-kept, Holds-kept, Spans-kept, refs_of, status_by, Known}
 
 module _ (s t : StoreView) (kept : Keeps s t) where
   -- references that are held still are

@@ -1,22 +1,5 @@
 -- How many elements of an order of writing an equation gives: at most two for each equation.
-use Rattle.std.proofs.Common.{◌≡◌, ◌<◌, ◌≤◌, ◌+◌, ◌*◌, inl, inr, ℕ, suc, Bool, true, false, List, [], ◌∷◌, length, Option, None, Some, refl, sym, ap, ◌∙◌, subst, arith, eqb}
-use Rattle.std.specs.Prelude.{slice_get, option_map}
-use Rattle.std.specs.List.{AllByRecursion, list_any, IsDistinct}
-use Rattle.std.proofs.lemmas.Bool.{eqb-true, false≢true, or_cases, or_parts}
-use Rattle.std.proofs.lemmas.List.Sums.{sum_by-cons}
-use Rattle.std.proofs.lemmas.Map.Steps.{length-le_from_distinct_below}
-use Rattle.sig_kernel.specs.Validity.{defines, is_target}
-use Rattle.sig_kernel.specs.Table.{target_of}
-use Rattle.sig_kernel.specs.declared.equation.Equation.{Equation}
-use Rattle.sig_kernel.specs.declared.equation.Form.{Form}
-use Rattle.sig_kernel.specs.declared.equation.Form.TheVariants.{Fun, Delay, When, WhenConst, Default, Sync, Event}
-use Rattle.sig_kernel.specs.declared.kernel.Kernel.{Kernel}
-use Rattle.sig_rel.specs.Substitutions.{size_of, step_at, steps}
-use Rattle.sig_rel.specs.Schedules.{IsOrderOfWriting}
-use Rattle.sig_rel.specs.Triangles.{Governs, form_at}
-use Rattle.sig_rel.specs.declared.elements.Element.{Element}
-use Rattle.sig_rel.specs.declared.elements.Element.TheVariants.{Presence, Truth}
-use Rattle.sig_rel.specs.declared.rules.Rules.{Rules}
+use Rattle.sig_rel.proofs.Common.{◌≡◌, ◌<◌, ◌≤◌, ◌+◌, ◌*◌, inl, inr, ℕ, suc, Bool, true, false, List, [], ◌∷◌, length, Option, None, Some, refl, sym, ap, ◌∙◌, subst, arith, eqb, slice_get, option_map, AllByRecursion, list_any, IsDistinct, eqb-true, false≢true, or_cases, or_parts, sum_by-cons, length-le_from_distinct_below, defines, is_target, target_of, Equation, Form, Fun, Delay, When, WhenConst, Default, Sync, Event, Kernel, size_of, step_at, steps, IsOrderOfWriting, Governs, form_at, Element, Presence, Truth, Rules}
 use Rattle.sig_rel.proofs.OnceDefined.{got_within}
 
 abbrev with_entry : Option (Option ℕ) → List ℕ → List ℕ

@@ -1,24 +1,5 @@
 -- Columns that were written in the order of a schedule are what its equations give, and else their own unknowns.
-use Rattle.std.proofs.Common.{◌≡◌, ◌<◌, ℕ, Bool, true, List, length, Option, None, Some, refl, sym, ap, ◌∙◌, arith, Contains}
-use Rattle.std.specs.Prelude.{slice_get, slice_index}
-use Rattle.std.proofs.lemmas.Bool.{eq-eqb}
-use Rattle.sig_kernel.specs.Validity.{IsValid}
-use Rattle.sig_kernel.specs.declared.kernel.Kernel.{Kernel}
-use Rattle.sig_dd.specs.Nodes.{Keeps, StoreView, test}
-use Rattle.sig_dd.specs.declared.node.Ref.{Ref}
-use Rattle.sig_rel.specs.Elements.{entry_of}
-use Rattle.sig_rel.specs.OwnColumns.{AreOwnColumns}
-use Rattle.sig_rel.specs.Relations.{AreUnknowns, is_boolean}
-use Rattle.sig_rel.specs.Rules.{presence_by}
-use Rattle.sig_rel.specs.Schedules.{IsOrderOfWriting}
-use Rattle.sig_rel.specs.Substituted.{AreSubstituted}
-use Rattle.sig_rel.specs.Substitutions.{HoldColumns, IsPartlyWritten, ref_at, values_at}
-use Rattle.sig_rel.specs.Triangles.{IsClass}
-use Rattle.sig_rel.specs.declared.elements.Element.{Element}
-use Rattle.sig_rel.specs.declared.elements.Element.TheVariants.{Presence, Truth}
-use Rattle.sig_rel.specs.declared.numbering.Unknowns.{Unknowns}
-use Rattle.sig_rel.specs.declared.rules.Rules.{Rules}
-use Rattle.sig_rel.specs.declared.substitution.Columns.{Columns}
+use Rattle.sig_rel.proofs.Common.{◌≡◌, ◌<◌, ℕ, Bool, true, List, length, Option, None, Some, refl, sym, ap, ◌∙◌, arith, Contains, slice_get, slice_index, eq-eqb, IsValid, Kernel, Keeps, StoreView, test, Ref, entry_of, AreOwnColumns, AreUnknowns, is_boolean, presence_by, IsOrderOfWriting, AreSubstituted, HoldColumns, IsPartlyWritten, ref_at, values_at, IsClass, Element, Presence, Truth, Unknowns, Rules, Columns}
 use Rattle.sig_rel.proofs.ElementLemmas.{held_at}
 use Rattle.sig_rel.proofs.OwnLemmas.{class_unknown}
 use Rattle.sig_rel.proofs.ScheduleLemmas.{named_class}

@@ -1,29 +1,5 @@
 -- What a reaction that is met has at an element, where values tell what it has at those that the element's equation reads.
-use Rattle.std.proofs.Common.{◌≡◌, ◌<◌, inl, inr, ℕ, Bool, true, false, List, [], ◌∷◌, length, get_or, map, None, Some, refl, sym, ap, ◌∙◌, Contains, if◌then◌else◌}
-use Rattle.std.specs.Prelude.{◌&&◌, ◌||◌, is_some}
-use Rattle.std.specs.List.{list_all}
-use Rattle.std.proofs.lemmas.Bool.{and_parts, cases_Bool, eqb-true, false≢true}
-use Rattle.sig_base.specs.declared.ids.Kind.TheVariants.{Boolean}
-use Rattle.sig_base.specs.declared.ids.SigId.{SigId}
-use Rattle.sig_kernel.specs.Table.{kind_at, kind_of, target_of}
-use Rattle.sig_kernel.specs.Validity.{IsValid, is_below, is_target, operand_within}
-use Rattle.sig_kernel.specs.declared.equation.Form.{Form}
-use Rattle.sig_kernel.specs.declared.equation.Form.TheVariants.{Fun, Delay, When, WhenConst, Default, Sync, Event}
-use Rattle.sig_kernel.specs.declared.equation.FunOp.{FunOp}
-use Rattle.sig_kernel.specs.declared.equation.Operand.{Operand}
-use Rattle.sig_kernel.specs.declared.equation.Operand.TheVariants.{Sig, Const}
-use Rattle.sig_kernel.specs.declared.kernel.Kernel.{Kernel}
-use Rattle.sig_clock.specs.Conditions.{freed, is_condition, is_number}
-use Rattle.sig_clock.specs.Reactions.{IsReaction, Reaction, Status, compares, function_truth, has_truth, is_boolean_kind, is_present, is_status_of, is_with, same_truth, operand_truth, status_at, truth_function, truth_of_status, where_present, where_true, or_else, constant_truth, same_status}
-use Rattle.sig_clock.specs.SameClocks.{AreLeast, signals_among}
-use Rattle.sig_clock.proofs.Lists.{contains_head, contains_later}
-use Rattle.sig_clock.proofs.ReactionLemmas.{present_together, statuses_are_same, truths_are_same}
-use Rattle.sig_rel.specs.Relations.{is_boolean}
-use Rattle.sig_rel.specs.Rules.{Values, has, operand_value, presence_by, truth_by_form, value_status}
-use Rattle.sig_rel.specs.Triangles.{Governs, HasClasses, HasTruths, form_at, operand_signals, tested}
-use Rattle.sig_rel.specs.TruthFunctions.{truth_given}
-use Rattle.sig_rel.specs.declared.elements.Element.{Element}
-use Rattle.sig_rel.specs.declared.elements.Element.TheVariants.{Presence, Truth}
+use Rattle.sig_rel.proofs.Common.{◌≡◌, ◌<◌, inl, inr, ℕ, Bool, true, false, List, [], ◌∷◌, length, get_or, map, None, Some, refl, sym, ap, ◌∙◌, Contains, if◌then◌else◌, ◌&&◌, ◌||◌, is_some, list_all, and_parts, cases_Bool, eqb-true, false≢true, Boolean, SigId, kind_at, kind_of, target_of, IsValid, is_below, is_target, operand_within, Form, Fun, Delay, When, WhenConst, Default, Sync, Event, FunOp, Operand, Sig, Const, Kernel, freed, is_condition, is_number, IsReaction, Reaction, Status, compares, function_truth, has_truth, is_boolean_kind, is_present, is_status_of, is_with, same_truth, operand_truth, status_at, truth_function, truth_of_status, where_present, where_true, or_else, constant_truth, same_status, AreLeast, signals_among, contains_head, contains_later, present_together, statuses_are_same, truths_are_same, is_boolean, Values, has, operand_value, presence_by, truth_by_form, value_status, Governs, HasClasses, HasTruths, form_at, operand_signals, tested, truth_given, Element, Presence, Truth}
 use Rattle.sig_rel.proofs.ChosenTruths.{found, status_fits_at, true_unless_boolean}
 use Rattle.sig_rel.proofs.FormLemmas.{at_form, below, fits, inside, met, three, two}
 use Rattle.sig_rel.proofs.OnceDefined.{condition_freed}

@@ -1,24 +1,7 @@
 -- What the table of kinds says of the operands of an equation that defines no boolean, and of functions of booleans.
-use Rattle.std.proofs.Common.{◌≡◌, ℤ, Bool, true, false, not, List, [], ◌∷◌, map, Option, None, Some, refl, sym, ap, ◌∙◌, inl, inr, if◌then◌else◌}
-use Rattle.std.specs.Prelude.{◌&&◌, ◌||◌}
-use Rattle.std.specs.List.{list_any}
-use Rattle.std.proofs.lemmas.Bool.{and_parts, false≢true, or_cases}
-use Rattle.sig_base.specs.declared.ids.Kind.{Kind}
-use Rattle.sig_base.specs.declared.ids.Kind.TheVariants.{Integer, Boolean, Event}
-use Rattle.sig_base.specs.declared.ids.SigId.{SigId}
-use Rattle.sig_base.specs.declared.signal.Signal.{Signal}
-use Rattle.sig_kernel.specs.Table.{form_fits, kind_at, operand_is}
-use Rattle.sig_kernel.specs.declared.equation.Form.TheVariants.{Fun, When, Default}
-use Rattle.sig_kernel.specs.Table.{operands_are}
-use Rattle.sig_kernel.specs.Validity.{is_signal}
-use Rattle.sig_kernel.specs.declared.equation.FunOp.{FunOp}
-use Rattle.sig_kernel.specs.declared.equation.FunOp.TheVariants.{Id, Neg, Not, And, Or, Xor, Eq, Ne, Lt, Le, Gt, Ge, Add, Sub, Mul, Div, Mod}
-use Rattle.sig_kernel.specs.declared.equation.Operand.{Operand}
-use Rattle.sig_kernel.specs.declared.equation.Operand.TheVariants.{Sig, Const}
-use Rattle.sig_kernel.specs.declared.table.Sort.{Sort}
-use Rattle.sig_kernel.specs.declared.table.Sort.TheVariants.{Integer as AnInteger, Truth}
-use Rattle.sig_clock.specs.Reactions.{compares, constant_truth, is_boolean_kind, same_truth, truth_function}
-use Rattle.sig_rel.specs.TruthFunctions.{truth_given}
+use Rattle.sig_rel.proofs.Common.{◌≡◌, ℤ, Bool, true, false, not, List, [], ◌∷◌, map, Option, None, Some, refl, sym, ap, ◌∙◌, inl, inr, if◌then◌else◌, ◌&&◌, ◌||◌, list_any, and_parts, false≢true, or_cases, Kind, Integer, Boolean, SigId, Signal, form_fits, kind_at, operand_is, Fun, When, Default, operands_are, is_signal, FunOp, Id, Neg, Not, And, Or, Xor, Eq, Ne, Lt, Le, Gt, Ge, Add, Sub, Mul, Div, Mod, Operand, Sig, Const, Sort, AnInteger, compares, constant_truth, is_boolean_kind, same_truth, truth_function, truth_given}
+use Rattle.sig_base.specs.declared.ids.Kind.TheVariants.{Event}
+use Rattle.sig_kernel.specs.declared.table.Sort.TheVariants.{Truth}
 
 module _ (signals : List Signal) (y x : SigId) where
   -- the first operand of a When

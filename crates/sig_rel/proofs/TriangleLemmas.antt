@@ -1,14 +1,5 @@
 -- What the list of a triangular kernel says of each of its classes.
-use Rattle.std.proofs.Common.{◌≡◌, ◌<◌, ◌⊎◌, inl, inr, ℕ, zero, suc, List, [], ◌∷◌, take, Option, None, Some, sym, ◌∙◌, subst, arith, Contains}
-use Rattle.std.specs.Prelude.{slice_get}
-use Rattle.sig_kernel.specs.declared.equation.Form.{Form}
-use Rattle.sig_kernel.specs.declared.equation.Form.TheVariants.{Fun, Delay, When, WhenConst, Default, Sync, Event}
-use Rattle.sig_kernel.specs.declared.kernel.Kernel.{Kernel}
-use Rattle.sig_clock.proofs.Lists.{at_contained, contains_at, contains_head, contains_later}
-use Rattle.sig_rel.specs.Rules.{AreRules}
-use Rattle.sig_rel.specs.Triangles.{HasClasses, HasOperandOf, IsClass, IsCounted, IsTriangle, MayEnter, operand_signals}
-use Rattle.sig_rel.specs.declared.elements.Element.{Element}
-use Rattle.sig_rel.specs.declared.elements.Element.TheVariants.{Presence}
+use Rattle.sig_rel.proofs.Common.{◌≡◌, ◌<◌, ◌⊎◌, inl, inr, ℕ, zero, suc, List, [], ◌∷◌, take, Option, None, Some, sym, ◌∙◌, subst, arith, Contains, slice_get, Form, Fun, Delay, When, WhenConst, Default, Sync, Event, Kernel, at_contained, contains_at, contains_head, contains_later, AreRules, HasClasses, HasOperandOf, IsClass, IsCounted, IsTriangle, MayEnter, operand_signals, Element, Presence}
 
 -- what is among the first elements stands before them
 pub place_in_take : {X : Type 0} (k : ℕ) (xs : List X) (j : ℕ) (x : X) → slice_get (take k xs) j ≡ Some x → (j < k) × (slice_get xs j ≡ Some x)

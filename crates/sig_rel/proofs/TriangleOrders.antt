@@ -1,18 +1,5 @@
 -- The list of a triangular kernel is an order of writing.
-use Rattle.std.proofs.Common.{◌≡◌, ℕ, zero, suc, List, take, Some, sym, ap, ◌∙◌, subst, arith}
-use Rattle.std.specs.Prelude.{slice_get, option_map}
-use Rattle.sig_kernel.specs.Validity.{IsValid}
-use Rattle.sig_kernel.specs.declared.equation.Equation.{Equation}
-use Rattle.sig_kernel.specs.declared.equation.Form.{Form}
-use Rattle.sig_kernel.specs.declared.kernel.Kernel.{Kernel}
-use Rattle.sig_clock.proofs.Lists.{contains_at}
-use Rattle.sig_rel.specs.Schedules.{AreNamed, IsOrderOfWriting, ReadsBefore}
-use Rattle.sig_rel.specs.Elements.{IsGivenBy}
-use Rattle.sig_rel.specs.Tables.{AreRulesOf}
-use Rattle.sig_rel.specs.Triangles.{HasClasses, HasTruths, IsTriangle, form_at, operand_signals, tested}
-use Rattle.sig_rel.specs.declared.elements.Element.{Element}
-use Rattle.sig_rel.specs.declared.elements.Element.TheVariants.{Presence, Truth}
-use Rattle.sig_rel.specs.declared.rules.Rules.{Rules}
+use Rattle.sig_rel.proofs.Common.{◌≡◌, ℕ, zero, suc, List, take, Some, sym, ap, ◌∙◌, subst, arith, slice_get, option_map, IsValid, Equation, Form, Kernel, contains_at, AreNamed, IsOrderOfWriting, ReadsBefore, IsGivenBy, AreRulesOf, HasClasses, HasTruths, IsTriangle, form_at, operand_signals, tested, Element, Presence, Truth, Rules}
 use Rattle.sig_rel.proofs.PlacingLemmas.{apart_kinds, presence_is}
 use Rattle.sig_rel.proofs.TriangleLemmas.{not_own, place_of_class}
 

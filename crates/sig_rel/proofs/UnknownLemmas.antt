@@ -1,20 +1,5 @@
 -- Numbers of all classes and booleans are unknowns.
-use Rattle.std.proofs.Common.{◌≡◌, ◌<◌, ◌≤◌, ◌+◌, inl, inr, ℕ, true, List, length, get_or, map, Option, Some, refl, sym, ap, ◌∙◌, subst, arith, eq-eqb}
-use Rattle.std.specs.Prelude.{option_map, slice_get, slice_index, count_by, ◌==◌}
-use Rattle.std.specs.List.{range_with_len}
-use Rattle.std.proofs.lemmas.Bool.{false≢true, cases_lt}
-use Rattle.std.proofs.lemmas.List.{length-map}
-use Rattle.std.proofs.lemmas.Option.{get_or_from_slice_get, slice_get-get_or, slice_get-map, slice_get_past, slice_get_within}
-use Rattle.sig_kernel.specs.Table.{kind_of}
-use Rattle.sig_kernel.specs.declared.kernel.Kernel.{Kernel}
-use Rattle.sig_clock.specs.Conditions.{conditions_of}
-use Rattle.sig_clock.specs.Reactions.{is_boolean_kind}
-use Rattle.sig_clock.specs.SameClocks.{AreLeast}
-use Rattle.sig_rel.specs.Numberings.{AreGiven, HasNumbers, number_of}
-use Rattle.sig_rel.specs.Relations.{AreUnknowns, IsUsed, is_boolean}
-use Rattle.sig_rel.specs.Statuses.{LieWithin}
-use Rattle.sig_rel.specs.declared.numbering.Numbering.{Numbering}
-use Rattle.sig_rel.specs.declared.numbering.Unknowns.{Unknowns}
+use Rattle.sig_rel.proofs.Common.{◌≡◌, ◌<◌, ◌≤◌, ◌+◌, inl, inr, ℕ, true, List, length, get_or, map, Option, Some, refl, sym, ap, ◌∙◌, subst, arith, eq-eqb, option_map, slice_get, slice_index, count_by, ◌==◌, range_with_len, false≢true, cases_lt, length-map, get_or_from_slice_get, slice_get-get_or, slice_get-map, slice_get_past, slice_get_within, kind_of, Kernel, conditions_of, is_boolean_kind, AreLeast, AreGiven, HasNumbers, number_of, AreUnknowns, IsUsed, is_boolean, LieWithin, Numbering, Unknowns}
 use Rattle.sig_rel.proofs.ClassLemmas.{class_of_least, least_of_class}
 use Rattle.sig_rel.proofs.Places.{count_given}
 use Rattle.sig_rel.proofs.UsedLemmas.{one_count}

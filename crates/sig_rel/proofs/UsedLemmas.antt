@@ -1,14 +1,5 @@
 -- The unknowns of a kernel as a list, and their count.
-use Rattle.std.proofs.Common.{◌≡◌, ◌<◌, ◌≤◌, ◌+◌, inl, inr, ℕ, zero, suc, List, [], ◌∷◌, length, get_or, Option, None, Some, sym, ap, ◌∙◌, subst, arith, Contains}
-use Rattle.std.specs.Prelude.{slice_get, count_by, slice_index, ◌==◌}
-use Rattle.std.specs.List.{range_with_len}
-use Rattle.std.proofs.lemmas.Bool.{cases_eq}
-use Rattle.std.proofs.lemmas.List.{ext_get_or}
-use Rattle.sig_kernel.specs.declared.kernel.Kernel.{Kernel}
-use Rattle.sig_clock.specs.Conditions.{conditions_of}
-use Rattle.sig_clock.specs.SameClocks.{AreLeast}
-use Rattle.sig_clock.proofs.Lists.{contains_cons, contains_head, contains_later, contains_none}
-use Rattle.sig_rel.specs.Relations.{AreUnknowns, IsUnknownCount, IsUsed, is_boolean}
+use Rattle.sig_rel.proofs.Common.{◌≡◌, ◌<◌, ◌≤◌, ◌+◌, inl, inr, ℕ, zero, suc, List, [], ◌∷◌, length, get_or, Option, None, Some, sym, ap, ◌∙◌, subst, arith, Contains, slice_get, count_by, slice_index, ◌==◌, range_with_len, cases_eq, ext_get_or, Kernel, conditions_of, AreLeast, contains_cons, contains_head, contains_later, contains_none, AreUnknowns, IsUnknownCount, IsUsed, is_boolean}
 
 abbrev pub truths_among : List (Option ℕ) → List ℕ
 truths_among [] = []

@@ -1,9 +1,5 @@
 -- Statuses that two truths give, against those that an equation asks for.
-use Rattle.std.proofs.Common.{◌≡◌, Bool, true, false, Option, None, Some, refl, sym, ap, if◌then◌else◌}
-use Rattle.std.specs.Prelude.{◌&&◌, ◌||◌, is_some}
-use Rattle.std.proofs.lemmas.Bool.{false≢true}
-use Rattle.sig_clock.specs.Reactions.{Status, has_truth, or_else, same_status, same_truth, where_present, where_true, truth_of_status}
-use Rattle.sig_clock.proofs.ReactionLemmas.{truths_are_same}
+use Rattle.sig_rel.proofs.Common.{◌≡◌, Bool, true, false, Option, None, Some, refl, sym, ap, if◌then◌else◌, ◌&&◌, ◌||◌, is_some, false≢true, Status, has_truth, or_else, same_status, same_truth, where_present, where_true, truth_of_status, truths_are_same}
 
 abbrev pub status : Bool → Bool → Status
 status present truth = if present then Some truth else None

@@ -1,28 +1,5 @@
 -- The reaction that values are meets the equations that the values meet.
-use Rattle.std.proofs.Common.{◌≡◌, ◌<◌, ℕ, suc, Bool, true, false, List, [], ◌∷◌, length, get_or, map, None, Some, refl, sym, ap, ◌∙◌, subst, arith, Contains, if◌then◌else◌}
-use Rattle.std.specs.Prelude.{◌&&◌, is_some, slice_get}
-use Rattle.std.specs.List.{list_all, range_with_len}
-use Rattle.std.proofs.lemmas.Bool.{and_parts}
-use Rattle.std.proofs.lemmas.List.FromFn.{get_or-map-range_with_len, length-map-range_with_len}
-use Rattle.sig_base.specs.declared.ids.Kind.{Kind}
-use Rattle.sig_base.specs.declared.ids.Kind.TheVariants.{Integer, Boolean, Event as EventKind}
-use Rattle.sig_base.specs.declared.signal.Signal.{Signal}
-use Rattle.sig_kernel.specs.Table.{kind_at, kind_of}
-use Rattle.sig_kernel.specs.Validity.{IsValid, form_within, is_below, operand_within}
-use Rattle.sig_kernel.specs.declared.equation.Equation.{Equation}
-use Rattle.sig_kernel.specs.declared.equation.Form.{Form}
-use Rattle.sig_kernel.specs.declared.equation.Form.TheVariants.{Fun, Delay, When, WhenConst, Default, Sync, Event}
-use Rattle.sig_kernel.specs.declared.equation.FunOp.{FunOp}
-use Rattle.sig_kernel.specs.declared.equation.Operand.{Operand}
-use Rattle.sig_kernel.specs.declared.equation.Operand.TheVariants.{Sig, Const}
-use Rattle.sig_kernel.specs.declared.kernel.Kernel.{Kernel}
-use Rattle.sig_clock.specs.Reactions.{IsReaction, Reaction, are_statuses, compares, constant_truth, function_truth, has_truth, is_boolean_kind, is_present, is_status_of, is_with, meets, operand_truth, or_else, same_status, same_truth, status_at, truth_function, truth_of_status, where_present, where_true}
-use Rattle.sig_clock.specs.SameClocks.{AreLeast, given, related, signals_among}
-use Rattle.sig_clock.proofs.Lists.{contains_head, contains_later, get_at}
-use Rattle.sig_rel.specs.Relations.{is_boolean}
-use Rattle.sig_rel.specs.Residues.{is_met}
-use Rattle.sig_rel.specs.Rules.{Values, has, operand_value, value_status}
-use Rattle.sig_rel.specs.TruthFunctions.{truth_given}
+use Rattle.sig_rel.proofs.Common.{◌≡◌, ◌<◌, ℕ, suc, Bool, true, false, List, [], ◌∷◌, length, get_or, map, None, Some, refl, sym, ap, ◌∙◌, subst, arith, Contains, if◌then◌else◌, ◌&&◌, is_some, slice_get, list_all, range_with_len, and_parts, get_or-map-range_with_len, length-map-range_with_len, Kind, Integer, Boolean, EventKind, Signal, kind_at, kind_of, IsValid, form_within, is_below, operand_within, Equation, Form, Fun, Delay, When, WhenConst, Default, Sync, Event, FunOp, Operand, Sig, Const, Kernel, IsReaction, Reaction, are_statuses, compares, constant_truth, function_truth, has_truth, is_boolean_kind, is_present, is_status_of, is_with, meets, operand_truth, or_else, same_status, same_truth, status_at, truth_function, truth_of_status, where_present, where_true, AreLeast, given, related, signals_among, contains_head, contains_later, get_at, is_boolean, is_met, Values, has, operand_value, value_status, truth_given}
 use Rattle.sig_rel.proofs.ClassLemmas.{least_of_class}
 use Rattle.sig_rel.proofs.FormLemmas.{below, three, two}
 use Rattle.sig_rel.proofs.OnceDefined.{got_or, got_within, within_at}

@@ -1,14 +1,5 @@
 -- Columns in which elements were made variables, one after another.
-use Rattle.std.proofs.Common.{◌≡◌, ◌⊎◌, inl, inr, ℕ, List, Option, None, Some, refl, sym, ap, ◌∙◌, subst}
-use Rattle.sig_dd.specs.Diagram.{truth_of}
-use Rattle.sig_dd.specs.Nodes.{Keeps, StoreView}
-use Rattle.sig_dd.specs.declared.node.Node.{Node}
-use Rattle.sig_dd.specs.declared.node.Ref.{Ref}
-use Rattle.sig_dd.proofs.CallerLemmas.{IsRefOf-kept}
-use Rattle.sig_rel.specs.Substitutions.{IsSet, ref_at}
-use Rattle.sig_rel.specs.Variables.{AreVariables, IsVariableAt, IsVariableOf}
-use Rattle.sig_rel.specs.declared.elements.Element.{Element}
-use Rattle.sig_rel.specs.declared.substitution.Columns.{Columns}
+use Rattle.sig_rel.proofs.Common.{◌≡◌, ◌⊎◌, inl, inr, ℕ, List, Option, None, Some, refl, sym, ap, ◌∙◌, subst, truth_of, Keeps, StoreView, Node, Ref, IsRefOf-kept, IsSet, ref_at, AreVariables, IsVariableAt, IsVariableOf, Element, Columns}
 
 pub no_variables : (nodes : List Node) (HasVariable : Element → ℕ → Type 0) (columns : Columns) → ((e : Element) (v : ℕ) → HasVariable e v → ⊥) → AreVariables nodes HasVariable columns columns
 no_variables nodes HasVariable columns none = record { always = refl; count = refl; own = λ e v is. absurd (none e v is); others = λ e never. refl }

@@ -1,30 +1,5 @@
 -- Columns that are written in an order in which each element stands behind what its equation reads.
-use Rattle.std.proofs.Common.{◌≡◌, ◌<◌, ◌≤◌, ◌++◌, ◌⊎◌, inl, inr, ℕ, Bool, true, false, List, [], ◌∷◌, length, get_or, map, take, Option, None, Some, refl, sym, ap, ◌∙◌, subst, arith, Contains, if◌then◌else◌}
-use Rattle.std.specs.Prelude.{◌&&◌, ◌||◌, slice_get}
-use Rattle.std.proofs.lemmas.Bool.{cases_Bool, false≢true}
-use Rattle.sig_base.specs.declared.signal.Signal.{Signal}
-use Rattle.sig_dd.specs.Nodes.{Holds, Keeps, Spans, StoreView, test}
-use Rattle.sig_dd.specs.declared.node.Node.{Node}
-use Rattle.sig_dd.specs.declared.node.Ref.{Ref}
-use Rattle.sig_dd.proofs.CallerLemmas.{Holds-kept, Spans-kept}
-use Rattle.sig_kernel.specs.declared.equation.Form.{Form}
-use Rattle.sig_kernel.specs.declared.equation.Form.TheVariants.{Fun, Delay, When, WhenConst, Default, Sync, Event}
-use Rattle.sig_kernel.specs.declared.equation.Operand.{Operand}
-use Rattle.sig_kernel.specs.declared.equation.Operand.TheVariants.{Sig, Const}
-use Rattle.sig_kernel.specs.declared.kernel.Kernel.{Kernel}
-use Rattle.sig_clock.specs.Reactions.{compares, truth_function}
-use Rattle.sig_clock.specs.SameClocks.{signals_among}
-use Rattle.sig_clock.proofs.Lists.{contains_at, contains_head, contains_later, contains_none}
-use Rattle.sig_rel.specs.Elements.{IsCut, IsGivenBy, entry_of, truths_read}
-use Rattle.sig_rel.specs.Relations.{is_boolean}
-use Rattle.sig_rel.specs.Rules.{Values, has, operand_value, presence_by, truth_by_form}
-use Rattle.sig_rel.specs.Substitutions.{ArePlain, AreWritten, Gives, HoldColumns, IsPartlyWritten, IsSet, IsWritten, SpanColumns, given_by, ref_at, truth_at, values_at}
-use Rattle.sig_rel.specs.Schedules.{IsOrderOfWriting}
-use Rattle.sig_rel.specs.Triangles.{form_at, operand_signals, tested}
-use Rattle.sig_rel.specs.declared.elements.Element.{Element}
-use Rattle.sig_rel.specs.declared.elements.Element.TheVariants.{Presence, Truth}
-use Rattle.sig_rel.specs.declared.rules.Rules.{Rules}
-use Rattle.sig_rel.specs.declared.substitution.Columns.{Columns}
+use Rattle.sig_rel.proofs.Common.{◌≡◌, ◌<◌, ◌≤◌, ◌++◌, ◌⊎◌, inl, inr, ℕ, Bool, true, false, List, [], ◌∷◌, length, get_or, map, take, Option, None, Some, refl, sym, ap, ◌∙◌, subst, arith, Contains, if◌then◌else◌, ◌&&◌, ◌||◌, slice_get, cases_Bool, false≢true, Signal, Holds, Keeps, Spans, StoreView, test, Node, Ref, Holds-kept, Spans-kept, Form, Fun, Delay, When, WhenConst, Default, Sync, Event, Operand, Sig, Const, Kernel, compares, truth_function, signals_among, contains_at, contains_head, contains_later, contains_none, IsCut, IsGivenBy, entry_of, truths_read, is_boolean, Values, has, operand_value, presence_by, truth_by_form, ArePlain, AreWritten, Gives, HoldColumns, IsPartlyWritten, IsSet, IsWritten, SpanColumns, given_by, ref_at, truth_at, values_at, IsOrderOfWriting, form_at, operand_signals, tested, Element, Presence, Truth, Rules, Columns}
 use Rattle.sig_rel.proofs.ElementLemmas.{held_at, held_by, set_ref, span_at, span_by}
 use Rattle.sig_rel.proofs.PlacingLemmas.{among_more}
 use Rattle.sig_rel.proofs.Staying.{test_kept}

@@ -1,7 +1,6 @@
 -- The refusals of a store as refusals of a relation.
 use Rattle.std.specs.Prelude.{◌≡◌}
-use Rattle.sig_dd.specs.declared.answer.DdAnswer.{DdAnswer}
-use Rattle.sig_dd.specs.declared.answer.DdAnswer.TheVariants.{Budget as StoreBudget, OutOfMemory as NoMemory}
+use Rattle.sig_rel.specs.Prelude.{DdAnswer, Budget as StoreBudget, OutOfMemory as NoMemory}
 use Rattle.sig_rel.specs.declared.answer.RelAnswer.{RelAnswer}
 use Rattle.sig_rel.specs.declared.answer.RelAnswer.TheVariants.{Budget, OutOfMemory}
 

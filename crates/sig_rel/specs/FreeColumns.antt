@@ -1,13 +1,6 @@
 -- Columns of a triangular kernel as its system.
-use Rattle.std.specs.Prelude.{◌≡◌, ◌+◌, ◌<◌, ◌≤◌, ℕ, Bool, true, List, length, map, Some, Result, IfErr, slice_get, slice_index, if◌then◌else◌}
-use Rattle.std.specs.List.{range_with_len}
-use Rattle.sig_base.specs.declared.ids.SigId.{SigId}
-use Rattle.sig_kernel.specs.declared.kernel.Kernel.{Kernel}
-use Rattle.sig_dd.specs.Nodes.{IsRefOf, IsStore, Keeps, StoreView}
-use Rattle.sig_dd.specs.Shares.{IsRefused}
-use Rattle.sig_dd.specs.declared.answer.DdAnswer.{DdAnswer}
-use Rattle.sig_dd.specs.declared.node.Node.{Node}
-use Rattle.sig_dd.specs.declared.node.Ref.{Ref}
+use Rattle.std.specs.Prelude.{◌≡◌, ◌+◌, ◌<◌, ◌≤◌, if◌then◌else◌}
+use Rattle.sig_rel.specs.Prelude.{ℕ, Bool, true, List, length, map, Some, Result, IfErr, slice_get, slice_index, range_with_len, SigId, Kernel, IsRefOf, IsStore, Keeps, StoreView, IsRefused, DdAnswer, Node, Ref}
 use Rattle.sig_rel.specs.Relations.{is_boolean}
 use Rattle.sig_rel.specs.Substitutions.{HoldColumns, SpanColumns, present_at, ref_at, truth_at, values_at}
 use Rattle.sig_rel.specs.Rules.{AreValues}

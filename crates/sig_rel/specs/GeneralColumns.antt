@@ -1,9 +1,6 @@
 -- Columns that were written by a schedule as a system.
-use Rattle.std.specs.Prelude.{◌≡◌, ◌-◌, ◌+◌, ◌*◌, ◌^◌, ℕ, Bool, List, length, map, slice_get, slice_index}
-use Rattle.std.specs.List.{range_with_len}
-use Rattle.sig_base.specs.declared.ids.SigId.{SigId}
-use Rattle.sig_kernel.specs.declared.kernel.Kernel.{Kernel}
-use Rattle.sig_dd.specs.declared.node.Node.{Node}
+use Rattle.std.specs.Prelude.{◌≡◌, ◌-◌, ◌+◌, ◌*◌, ◌^◌}
+use Rattle.sig_rel.specs.Prelude.{ℕ, Bool, List, length, map, slice_get, slice_index, range_with_len, SigId, Kernel, Node}
 use Rattle.sig_rel.specs.FreeColumns.{truth_ref}
 use Rattle.sig_rel.specs.Numberings.{number_of}
 use Rattle.sig_rel.specs.Substituted.{AreSubstituted}

@@ -1,3 +1,4 @@
+pub mod Prelude
 pub mod Answers
 pub mod Numberings
 pub mod Relations
@@ -8,6 +9,7 @@ pub mod Triangles
 pub mod Systems
 pub mod Rules
 pub mod Elements
+pub mod Firsts
 pub mod Tables
 pub mod Substitutions
 pub mod Variables

@@ -1,6 +1,6 @@
 -- Numbers that are given to unknowns, one after another.
-use Rattle.std.specs.Prelude.{◌≡◌, ◌+◌, ◌<◌, ◌≤◌, ℕ, true, List, length, Option, None, Some, is_some, slice_get, slice_index, slice_set, count_by}
-use Rattle.sig_kernel.specs.declared.kernel.Kernel.{Kernel}
+use Rattle.std.specs.Prelude.{◌≡◌, ◌+◌, ◌<◌, ◌≤◌}
+use Rattle.sig_rel.specs.Prelude.{ℕ, true, List, length, Option, None, Some, is_some, slice_get, slice_index, slice_set, count_by, Kernel}
 use Rattle.sig_rel.specs.Relations.{is_boolean}
 use Rattle.sig_rel.specs.declared.numbering.Numbering.{Numbering}
 

@@ -1,8 +1,6 @@
 -- Columns in which each class and each boolean is its own unknown: a variable.
-use Rattle.std.specs.Prelude.{◌≡◌, ℕ, Bool, List, length, take, Option, None, Some, is_some, slice_get, slice_index, slice_index_or, count_by, cond, ◌==◌, if◌then◌else◌}
-use Rattle.std.specs.List.{range_with_len}
-use Rattle.sig_dd.specs.Nodes.{IsRefOf}
-use Rattle.sig_dd.specs.declared.node.Node.{Node}
+use Rattle.std.specs.Prelude.{◌≡◌, ◌==◌, if◌then◌else◌}
+use Rattle.sig_rel.specs.Prelude.{ℕ, Bool, List, length, take, Option, None, Some, is_some, slice_get, slice_index, slice_index_or, count_by, cond, range_with_len, IsRefOf, Node}
 use Rattle.sig_rel.specs.Elements.{signal_of}
 use Rattle.sig_rel.specs.Relations.{truth_in}
 use Rattle.sig_rel.specs.Substitutions.{ref_at}

@@ -1,17 +1,7 @@
 -- The clock relation of a kernel: its abstract reactions as a test over unknowns. Signals of one clock class
 -- share the unknown of their presence, and each boolean has one of its truth.
-use Rattle.std.specs.Prelude.{◌≡◌, ◌+◌, ◌<◌, ◌≤◌, ◌⊎◌, ◌↔◌, ℕ, Bool, true, List, [], ◌∷◌, length, Option, None, Some, slice_index, slice_get, count_by, ◌==◌, IsTrue, if◌then◌else◌}
-use Rattle.std.specs.List.{range_with_len}
-use Rattle.sig_kernel.specs.Table.{kind_at}
-use Rattle.sig_kernel.specs.declared.kernel.Kernel.{Kernel}
-use Rattle.sig_clock.specs.Conditions.{conditions_of, signal_id}
-use Rattle.sig_clock.specs.Layers.{IsSignal}
-use Rattle.sig_clock.specs.Reactions.{Reaction, Status, IsReaction, is_boolean_kind}
-use Rattle.sig_clock.specs.SameClocks.{SameClock, AreLeast}
-use Rattle.sig_dd.specs.Diagram.{Depends, truth_of}
-use Rattle.sig_dd.specs.Nodes.{Holds, test}
-use Rattle.sig_dd.specs.declared.node.Node.{Node}
-use Rattle.sig_dd.specs.declared.node.Ref.{Ref}
+use Rattle.std.specs.Prelude.{◌≡◌, ◌+◌, ◌<◌, ◌≤◌, ◌⊎◌, ◌↔◌, ◌∷◌, ◌==◌, if◌then◌else◌}
+use Rattle.sig_rel.specs.Prelude.{ℕ, Bool, true, List, [], length, Option, None, Some, slice_index, slice_get, count_by, IsTrue, range_with_len, kind_at, Kernel, conditions_of, signal_id, IsSignal, Reaction, Status, IsReaction, is_boolean_kind, SameClock, AreLeast, Depends, truth_of, Holds, test, Node, Ref}
 
 pub record RelationView : Type 0 where
   -- the function of the unknowns

@@ -1,13 +1,6 @@
 -- What is left to be met of the equations, over the columns of a kernel.
-use Rattle.std.specs.Prelude.{◌≡◌, ◌<◌, ◌≤◌, ◌↔◌, ℕ, Bool, true, List, [], ◌∷◌, length, Some, slice_index, IsTrue}
-use Rattle.sig_base.specs.declared.signal.Signal.{Signal}
-use Rattle.sig_kernel.specs.Table.{kind_at}
-use Rattle.sig_kernel.specs.declared.equation.Form.{Form}
-use Rattle.sig_kernel.specs.declared.equation.Form.TheVariants.{Fun, Delay, When, WhenConst, Default, Sync, Event}
-use Rattle.sig_clock.specs.Reactions.{constant_truth, has_truth, or_else, same_status, where_present, where_true}
-use Rattle.sig_dd.specs.Nodes.{test}
-use Rattle.sig_dd.specs.declared.node.Node.{Node}
-use Rattle.sig_dd.specs.declared.node.Ref.{Ref}
+use Rattle.std.specs.Prelude.{◌≡◌, ◌<◌, ◌≤◌, ◌↔◌, ◌∷◌}
+use Rattle.sig_rel.specs.Prelude.{ℕ, Bool, true, List, [], length, Some, slice_index, IsTrue, Signal, kind_at, Form, Fun, Delay, When, WhenConst, Default, Sync, Event, constant_truth, has_truth, or_else, same_status, where_present, where_true, test, Node, Ref}
 use Rattle.sig_rel.specs.OwnColumns.{is_own}
 use Rattle.sig_rel.specs.Rules.{Values, operand_value, value_status}
 use Rattle.sig_rel.specs.Substitutions.{present_at, truth_at}

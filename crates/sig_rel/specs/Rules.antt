@@ -1,21 +1,6 @@
 -- What decides the clock classes and the booleans of a kernel, as tables of equations, and what they come to.
-use Rattle.std.specs.Prelude.{◌≡◌, ℕ, Bool, true, false, ◌&&◌, ◌||◌, List, length, Option, None, Some, slice_index, slice_get, Contains, if◌then◌else◌}
-use Rattle.std.specs.Ordering.{int_eq}
-use Rattle.std.specs.Prelude.{pos}
-use Rattle.sig_base.specs.declared.ids.SigId.{SigId}
-use Rattle.sig_base.specs.declared.signal.Signal.{Signal}
-use Rattle.sig_kernel.specs.Table.{kind_at}
-use Rattle.sig_kernel.specs.Validity.{defines}
-use Rattle.sig_kernel.specs.declared.equation.Equation.{Equation}
-use Rattle.sig_kernel.specs.declared.equation.Form.{Form}
-use Rattle.sig_kernel.specs.declared.equation.Form.TheVariants.{Fun, Delay, When, WhenConst, Default, Sync, Event}
-use Rattle.sig_kernel.specs.declared.equation.Operand.{Operand}
-use Rattle.sig_kernel.specs.declared.equation.Operand.TheVariants.{Sig, Const}
-use Rattle.sig_kernel.specs.declared.kernel.Kernel.{Kernel}
-use Rattle.sig_clock.specs.Conditions.{is_condition}
-use Rattle.sig_clock.specs.Reactions.{Status, constant_truth}
-use Rattle.sig_clock.specs.SameClocks.{AreLeast}
-use Rattle.sig_dd.specs.Diagram.{truth_of}
+use Rattle.std.specs.Prelude.{◌≡◌, ◌&&◌, ◌||◌, if◌then◌else◌}
+use Rattle.sig_rel.specs.Prelude.{ℕ, Bool, true, false, List, length, Option, None, Some, slice_index, slice_get, Contains, int_eq, pos, SigId, Signal, kind_at, defines, Equation, Form, Fun, Delay, When, WhenConst, Default, Sync, Event, Operand, Sig, Const, Kernel, is_condition, Status, constant_truth, AreLeast, truth_of}
 use Rattle.sig_rel.specs.Relations.{is_boolean}
 use Rattle.sig_rel.specs.Triangles.{HasClasses, HasOperandOf, HasTruths, IsClass, IsCounted, form_at, operand_signals, tested}
 use Rattle.sig_rel.specs.TruthFunctions.{truth_given}

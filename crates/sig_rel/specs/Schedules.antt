@@ -1,12 +1,7 @@
 -- The order in which the clocks of a kernel are written: each behind what its equation reads, where one writes it, and
 -- by a variable of its own where none does. Where everything waits for itself, something is cut: it gets a variable too.
-use Rattle.std.specs.Prelude.{◌≡◌, ◌<◌, ◌++◌, ◌&&◌, ◌==◌, not, ℕ, Bool, true, false, List, [], ◌∷◌, length, take, Option, None, Some, slice_index, slice_index_or, slice_get, slice_set, MatchOption, Contains}
-use Rattle.sig_kernel.specs.Validity.{defines}
-use Rattle.sig_kernel.specs.declared.equation.Equation.{Equation}
-use Rattle.sig_kernel.specs.declared.equation.Form.{Form}
-use Rattle.sig_kernel.specs.declared.kernel.Kernel.{Kernel}
-use Rattle.sig_clock.specs.Conditions.{is_condition}
-use Rattle.sig_clock.specs.SameClocks.{AreLeast}
+use Rattle.std.specs.Prelude.{◌≡◌, ◌<◌, ◌++◌, ◌&&◌, ◌==◌, ◌∷◌}
+use Rattle.sig_rel.specs.Prelude.{not, ℕ, Bool, true, false, List, [], length, take, Option, None, Some, slice_index, slice_index_or, slice_get, slice_set, MatchOption, Contains, defines, Equation, Form, Kernel, is_condition, AreLeast}
 use Rattle.sig_rel.specs.Elements.{entry_of, truths_read}
 use Rattle.sig_rel.specs.Relations.{is_boolean}
 use Rattle.sig_rel.specs.Tables.{AreMarks, IsFreshWithin, governs, has_class, has_truth_of, presence_ready, with_class, with_truth_of}
@@ -77,6 +72,10 @@ may_write kernel least placed class form = governs least class form && presence_
 -- the class was not scheduled, and an equation of this form may write it
 abbrev pub MayBeWritten : Kernel → Scheduling → Form → ℕ → Type 0
 MayBeWritten kernel scheduling form class = (is_left scheduling.rules.least.items scheduling.placed class ≡ true) × (may_write kernel scheduling.rules.least.items scheduling.placed class form ≡ true)
+
+-- and the equation is that of this number
+abbrev pub MayBeWrittenBy : Kernel → Scheduling → ℕ → ℕ → Type 0
+MayBeWrittenBy kernel scheduling number class = (equation : Equation) × (slice_get kernel.equations number ≡ Some equation) × MayBeWritten kernel scheduling equation.form class
 
 -- one of the signals is such a one, where one was found; else none is
 abbrev pub IsFoundAmong : Kernel → (ℕ → Bool) → Option ℕ → Type 0

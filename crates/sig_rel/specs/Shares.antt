@@ -1,16 +1,10 @@
 -- What the making of a relation may do to a store.
-use Rattle.std.specs.Prelude.{◌+◌, ◌*◌, ◌^◌, ◌<◌, ◌≤◌, ℕ, List, length, Result, Ok, Err, IfOk, IfErr}
-use Rattle.sig_dd.specs.Nodes.{StoreView, IsFull, IsStore, Keeps}
-use Rattle.sig_dd.specs.Shares.{HoldAll, Share, Trail}
-use Rattle.sig_dd.specs.declared.answer.DdAnswer.{DdAnswer}
-use Rattle.sig_dd.specs.declared.node.Ref.{Ref}
-use Rattle.sig_kernel.specs.declared.kernel.Kernel.{Kernel}
-use Rattle.sig_clock.specs.Conditions.{conditions_of}
+use Rattle.std.specs.Prelude.{◌+◌, ◌*◌, ◌^◌, ◌<◌, ◌≤◌}
+use Rattle.sig_rel.specs.Prelude.{ℕ, List, length, Result, Ok, Err, IfOk, IfErr, StoreView, IsFull, IsStore, Keeps, HoldAll, Share, Trail, DdAnswer, Ref, Kernel, conditions_of, Some}
 use Rattle.sig_rel.specs.Relations.{IsUnknownCount}
 use Rattle.sig_rel.specs.Triangles.{IsTriangular}
 use Rattle.sig_rel.specs.declared.answer.RelAnswer.{RelAnswer}
 use Rattle.sig_rel.specs.declared.answer.RelAnswer.TheVariants.{Budget, OutOfMemory}
-use Rattle.std.specs.Prelude.{Some}
 
 -- how many nodes the making of a kernel's relation may add, of so many unknowns
 abbrev pub share_of : Kernel → ℕ → ℕ

@@ -1,10 +1,6 @@
 -- Statuses of signals as functions of variables, and the unknowns of a kernel.
-use Rattle.std.specs.Prelude.{◌≡◌, ◌<◌, ◌≤◌, ◌+◌, ℕ, Bool, List, [], ◌∷◌, None, Some, if◌then◌else◌}
-use Rattle.sig_clock.specs.Reactions.{Status}
-use Rattle.sig_dd.specs.Nodes.{test}
-use Rattle.sig_dd.specs.declared.node.Node.{Node}
-use Rattle.sig_dd.specs.declared.node.Ref.{Ref}
-use Rattle.sig_kernel.specs.declared.kernel.Kernel.{Kernel}
+use Rattle.std.specs.Prelude.{◌≡◌, ◌<◌, ◌≤◌, ◌+◌, ◌∷◌, if◌then◌else◌}
+use Rattle.sig_rel.specs.Prelude.{ℕ, Bool, List, [], None, Some, Status, test, Node, Ref, Kernel}
 use Rattle.sig_rel.specs.Relations.{AreUnknowns, IsUnknownCount, IsUsed}
 use Rattle.sig_rel.specs.declared.numbering.Unknowns.{Unknowns}
 use Rattle.sig_rel.specs.declared.statuses.Known.{Known}

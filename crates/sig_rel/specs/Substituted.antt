@@ -1,9 +1,6 @@
 -- The columns of a kernel that were written by a schedule, at some truths; and truths that fit a reaction.
-use Rattle.std.specs.Prelude.{◌≡◌, ℕ, Bool, false, true, List, None, Some, slice_get, slice_index, slice_index_or}
-use Rattle.sig_clock.specs.Reactions.{Reaction, is_present, status_at}
-use Rattle.sig_dd.specs.Diagram.{truth_of}
-use Rattle.sig_kernel.specs.declared.equation.Form.{Form}
-use Rattle.sig_kernel.specs.declared.kernel.Kernel.{Kernel}
+use Rattle.std.specs.Prelude.{◌≡◌}
+use Rattle.sig_rel.specs.Prelude.{ℕ, Bool, false, true, List, None, Some, slice_get, slice_index, slice_index_or, Reaction, is_present, status_at, truth_of, Form, Kernel}
 use Rattle.sig_rel.specs.Relations.{is_boolean, truth_in}
 use Rattle.sig_rel.specs.Rules.{Values, presence_by, truth_by_form}
 use Rattle.sig_rel.specs.Elements.{IsGivenBy}

@@ -1,12 +1,6 @@
 -- Clocks of a kernel as they are written, one after another.
-use Rattle.std.specs.Prelude.{◌≡◌, ◌<◌, ◌⊎◌, ℕ, Bool, true, false, List, [], ◌∷◌, length, Option, None, Some, slice_index_or, slice_get, sum_by, Contains}
-use Rattle.sig_base.specs.declared.signal.Signal.{Signal}
-use Rattle.sig_kernel.specs.declared.equation.Form.{Form}
-use Rattle.sig_kernel.specs.declared.equation.Operand.{Operand}
-use Rattle.sig_dd.specs.Nodes.{Holds, Spans, test}
-use Rattle.sig_dd.specs.declared.node.Node.{Node}
-use Rattle.sig_dd.specs.declared.node.Ref.{Ref}
-use Rattle.sig_kernel.specs.declared.kernel.Kernel.{Kernel}
+use Rattle.std.specs.Prelude.{◌≡◌, ◌<◌, ◌⊎◌, ◌∷◌}
+use Rattle.sig_rel.specs.Prelude.{ℕ, Bool, true, false, List, [], length, Option, None, Some, slice_index_or, slice_get, sum_by, Contains, Signal, Form, Operand, Holds, Spans, test, Node, Ref, Kernel}
 use Rattle.sig_rel.specs.Elements.{IsGivenBy, IsCut, entry_of, signal_of}
 use Rattle.sig_rel.specs.Relations.{is_boolean}
 use Rattle.sig_rel.specs.Rules.{Values, operand_value, presence_by, truth_by_form}

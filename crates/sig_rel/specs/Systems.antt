@@ -1,18 +1,7 @@
 -- The system of a kernel's clocks: the presence of each class and the truth of each boolean as functions of a few
 -- variables, among them a proposal for each condition, and what is left to be met.
-use Rattle.std.specs.List.{range_with_len}
-use Rattle.std.specs.Prelude.{◌+◌, map, ◌≡◌, ◌<◌, ◌≤◌, ◌↔◌, ℕ, Bool, true, false, List, [], ◌∷◌, length, Some, None, slice_get, Contains, IsTrue, if◌then◌else◌}
-use Rattle.sig_base.specs.declared.ids.SigId.{SigId}
-use Rattle.sig_kernel.specs.declared.kernel.Kernel.{Kernel}
-use Rattle.sig_clock.specs.ClockFunctions.{KeepsTo}
-use Rattle.sig_clock.specs.Conditions.{conditions_of, is_condition}
-use Rattle.sig_clock.specs.Layers.{IsSignal}
-use Rattle.sig_clock.specs.Reactions.{Reaction, Status, Speaks, status_at}
-use Rattle.sig_clock.specs.SameClocks.{SameClock}
-use Rattle.sig_dd.specs.Diagram.{Agree, Depends, truth_of, with_truth}
-use Rattle.sig_dd.specs.Nodes.{Holds, test}
-use Rattle.sig_dd.specs.declared.node.Node.{Node}
-use Rattle.sig_dd.specs.declared.node.Ref.{Ref}
+use Rattle.std.specs.Prelude.{◌+◌, ◌≡◌, ◌<◌, ◌≤◌, ◌↔◌, ◌∷◌, if◌then◌else◌}
+use Rattle.sig_rel.specs.Prelude.{range_with_len, map, ℕ, Bool, true, false, List, [], length, Some, None, slice_get, Contains, IsTrue, SigId, Kernel, KeepsTo, conditions_of, is_condition, IsSignal, Reaction, Status, Speaks, status_at, SameClock, Agree, Depends, truth_of, with_truth, Holds, test, Node, Ref}
 use Rattle.sig_rel.specs.Relations.{IsUnknownCount, is_boolean}
 
 pub record SystemView : Type 0 where

@@ -1,14 +1,6 @@
 -- Tests by which the tables of a triangular kernel are made, and its list is put together.
-use Rattle.std.specs.Prelude.{◌≡◌, ◌<◌, ◌↔◌, ℕ, Bool, true, false, not, ◌&&◌, ◌||◌, ◌==◌, List, length, take, Option, None, Some, slice_index, slice_index_or, slice_get, slice_set, position, count_by, ◌+◌, Contains, if◌then◌else◌}
-use Rattle.std.specs.List.{list_all, list_any}
-use Rattle.sig_base.specs.declared.ids.SigId.{SigId}
-use Rattle.sig_kernel.specs.Validity.{defines}
-use Rattle.sig_kernel.specs.declared.equation.Equation.{Equation}
-use Rattle.sig_kernel.specs.declared.equation.Form.{Form}
-use Rattle.sig_kernel.specs.declared.equation.Form.TheVariants.{Fun, Delay, When, WhenConst, Default, Sync, Event}
-use Rattle.sig_kernel.specs.declared.equation.Operand.{Operand}
-use Rattle.sig_kernel.specs.declared.equation.Operand.TheVariants.{Sig, Const}
-use Rattle.sig_kernel.specs.declared.kernel.Kernel.{Kernel}
+use Rattle.std.specs.Prelude.{◌≡◌, ◌<◌, ◌↔◌, ◌&&◌, ◌||◌, ◌==◌, ◌+◌, if◌then◌else◌}
+use Rattle.sig_rel.specs.Prelude.{ℕ, Bool, true, false, not, List, length, take, Option, None, Some, slice_index, slice_index_or, slice_get, slice_set, position, count_by, Contains, list_all, list_any, SigId, defines, Equation, Form, Fun, Delay, When, WhenConst, Default, Sync, Event, Operand, Sig, Const, Kernel}
 use Rattle.sig_rel.specs.Relations.{is_boolean}
 use Rattle.sig_rel.specs.Rules.{AreRules, StandsAfter}
 use Rattle.sig_rel.specs.Triangles.{IsTop, IsTriangle}

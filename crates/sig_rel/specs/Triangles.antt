@@ -1,14 +1,7 @@
 -- Triangular kernels: their clock classes and their booleans can be put into one list in which each stands
 -- behind what decides it.
-use Rattle.std.specs.Prelude.{◌≡◌, ◌<◌, ◌⊎◌, ◌↔◌, ℕ, true, false, List, [], ◌∷◌, length, take, Option, Some, option_map, slice_index, slice_get, Contains}
-use Rattle.sig_kernel.specs.Table.{operands_of}
-use Rattle.sig_kernel.specs.Validity.{defines}
-use Rattle.sig_kernel.specs.declared.equation.Equation.{Equation}
-use Rattle.sig_kernel.specs.declared.equation.Form.{Form}
-use Rattle.sig_kernel.specs.declared.equation.Form.TheVariants.{Fun, Delay, When, WhenConst, Default, Sync, Event}
-use Rattle.sig_kernel.specs.declared.kernel.Kernel.{Kernel}
-use Rattle.sig_clock.specs.Conditions.{is_condition}
-use Rattle.sig_clock.specs.SameClocks.{AreLeast, signals_among}
+use Rattle.std.specs.Prelude.{◌≡◌, ◌<◌, ◌⊎◌, ◌↔◌, ◌∷◌}
+use Rattle.sig_rel.specs.Prelude.{ℕ, true, false, List, [], length, take, Option, Some, option_map, slice_index, slice_get, Contains, operands_of, defines, Equation, Form, Fun, Delay, When, WhenConst, Default, Sync, Event, Kernel, is_condition, AreLeast, signals_among}
 use Rattle.sig_rel.specs.Relations.{is_boolean}
 use Rattle.sig_rel.specs.declared.elements.Element.{Element}
 use Rattle.sig_rel.specs.declared.elements.Element.TheVariants.{Presence, Truth}

@@ -1,9 +1,6 @@
 -- Functions of truths, with their operands.
-use Rattle.std.specs.Prelude.{Bool, not, ◌&&◌, ◌||◌, List, map, Option, None, Some, if◌then◌else◌}
-use Rattle.sig_base.specs.declared.signal.Signal.{Signal}
-use Rattle.sig_kernel.specs.declared.equation.FunOp.{FunOp}
-use Rattle.sig_kernel.specs.declared.equation.Operand.{Operand}
-use Rattle.sig_clock.specs.Reactions.{compares, same_truth, truth_function}
+use Rattle.std.specs.Prelude.{◌&&◌, ◌||◌, if◌then◌else◌}
+use Rattle.sig_rel.specs.Prelude.{Bool, not, List, map, Option, None, Some, Signal, FunOp, Operand, compares, same_truth, truth_function}
 use Rattle.sig_rel.specs.declared.functions.TruthFunction.{TruthFunction}
 use Rattle.sig_rel.specs.declared.functions.TruthFunction.TheVariants.{Same, Not, And, Or, Equal, Differ}
 

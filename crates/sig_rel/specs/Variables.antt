@@ -1,9 +1,6 @@
 -- Columns in which elements were made variables.
-use Rattle.std.specs.Prelude.{◌≡◌, ℕ, List, length, Option, Some}
-use Rattle.sig_dd.specs.Diagram.{truth_of}
-use Rattle.sig_dd.specs.Nodes.{IsRefOf}
-use Rattle.sig_dd.specs.declared.node.Node.{Node}
-use Rattle.sig_dd.specs.declared.node.Ref.{Ref}
+use Rattle.std.specs.Prelude.{◌≡◌}
+use Rattle.sig_rel.specs.Prelude.{ℕ, List, length, Option, Some, truth_of, IsRefOf, Node, Ref}
 use Rattle.sig_rel.specs.Substitutions.{ref_at}
 use Rattle.sig_rel.specs.declared.elements.Element.{Element}
 use Rattle.sig_rel.specs.declared.substitution.Columns.{Columns}

@@ -1,8 +1,7 @@
 //! Why a relation is not made.
 
 ghost use Rattle.std.specs.Prelude.{◌≡◌};
-ghost use Rattle.sig_clock.specs.declared.answer.ClockBase.{ClockBase};
-ghost use Rattle.sig_dd.specs.declared.answer.DdAnswer.{DdAnswer};
+ghost use Rattle.sig_rel.specs.Prelude.{ClockBase, DdAnswer};
 ghost use Rattle.sig_rel.specs.Answers.{IsFromStore};
 ghost use Rattle.sig_rel.specs.declared.answer.RelAnswer.TheVariants.{OutOfMemory};
 

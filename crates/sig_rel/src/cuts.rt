@@ -1,7 +1,7 @@
 //! What is cut where no equation can write anything.
 
-ghost use Rattle.std.specs.Prelude.{◌≡◌, ◌⊎◌, Some, IfOk, MatchOption};
-ghost use Rattle.sig_kernel.specs.Validity.{IsValid};
+ghost use Rattle.std.specs.Prelude.{◌≡◌, ◌⊎◌};
+ghost use Rattle.sig_rel.specs.Prelude.{Some, IfOk, MatchOption, IsValid};
 ghost use Rattle.sig_rel.specs.Schedules.{IsFoundAmong, IsPlannedStep, IsScheduling, IsWhole, is_left, is_left_truth};
 
 use crate::elements::Element;

@@ -1,9 +1,7 @@
 //! The system of a triangular kernel's clocks.
 
-ghost use Rattle.std.specs.Prelude.{◌≡◌, ◌≤◌, length, map, slice_index, IfErr, IfOk, MatchOption, OnOk};
-ghost use Rattle.std.specs.List.{range_with_len};
-ghost use Rattle.sig_dd.specs.Nodes.{IsStore, Keeps};
-ghost use Rattle.sig_kernel.specs.Validity.{IsValid};
+ghost use Rattle.std.specs.Prelude.{◌≡◌, ◌≤◌};
+ghost use Rattle.sig_rel.specs.Prelude.{length, map, slice_index, IfErr, IfOk, MatchOption, OnOk, range_with_len, IsStore, Keeps, IsValid};
 ghost use Rattle.sig_rel.specs.FreeColumns.{Adds, AreFilled, AreFresh, IsSystemOf, truth_ref};
 ghost use Rattle.sig_rel.specs.Shares.{KeepsToTriangularShare, triangular_share_of};
 ghost use Rattle.sig_rel.specs.Substitutions.{present_at};

@@ -1,10 +1,7 @@
 //! Functions of truths among the functions of a kernel.
 
-ghost use Rattle.std.specs.Prelude.{◌≡◌, ◌∷◌, [], Bool, List, None, Some, if◌then◌else◌};
-ghost use Rattle.std.specs.List.{list_any};
-ghost use Rattle.sig_base.specs.declared.signal.Signal.{Signal};
-ghost use Rattle.sig_clock.specs.Reactions.{is_integer};
-ghost use Rattle.sig_kernel.specs.declared.equation.Operand.{Operand};
+ghost use Rattle.std.specs.Prelude.{◌≡◌, ◌∷◌, if◌then◌else◌};
+ghost use Rattle.sig_rel.specs.Prelude.{[], Bool, List, None, Some, list_any, Signal, is_integer, Operand};
 ghost use Rattle.sig_rel.specs.TruthFunctions.{truth_given, truth_of_some};
 
 use sig_base::{Kind, Signal};

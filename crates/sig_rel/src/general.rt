@@ -1,12 +1,8 @@
 //! The system of any kernel's clocks: what an equation determines is substituted, and what is left to
 //! be met is the residue.
 
-ghost use Rattle.std.specs.Prelude.{◌≡◌, ◌≤◌, ◌+◌, ◌*◌, ◌<◌, ◌&&◌, ◌||◌, ℕ, true, length, map, slice_get, IfOk, OnOk};
-ghost use Rattle.std.specs.List.{list_all};
-ghost use Rattle.sig_dd.specs.Diagram.{Agree};
-ghost use Rattle.sig_dd.specs.Nodes.{Holds, IsStore, Keeps, test};
-ghost use Rattle.sig_dd.specs.Shares.{SpanAll};
-ghost use Rattle.sig_kernel.specs.Validity.{IsValid};
+ghost use Rattle.std.specs.Prelude.{◌≡◌, ◌≤◌, ◌+◌, ◌*◌, ◌<◌, ◌&&◌, ◌||◌};
+ghost use Rattle.sig_rel.specs.Prelude.{ℕ, true, length, map, slice_get, IfOk, OnOk, list_all, Agree, Holds, IsStore, Keeps, test, SpanAll, IsValid};
 ghost use Rattle.sig_rel.specs.FreeColumns.{Adds, AreFresh};
 ghost use Rattle.sig_rel.specs.GeneralColumns.{AreSubstitutedColumns, IsSystemWith, substituting};
 ghost use Rattle.sig_rel.specs.Numberings.{number_of};

@@ -1,11 +1,7 @@
 //! Laws of relations. The function of a law does nothing when it runs.
 
-ghost use Rattle.std.specs.Prelude.{◌≡◌, ◌<◌, ℕ, Bool, false, List, Option, None, Some, length, slice_get, slice_index, slice_index_or};
-ghost use Rattle.sig_clock.specs.Reactions.{IsReaction, Reaction, is_present, status_at};
-ghost use Rattle.sig_dd.specs.Diagram.{truth_of, with_truth};
-ghost use Rattle.sig_dd.specs.Nodes.{test};
-ghost use Rattle.sig_dd.specs.declared.node.Node.{Node};
-ghost use Rattle.sig_kernel.specs.declared.kernel.Kernel.{Kernel};
+ghost use Rattle.std.specs.Prelude.{◌≡◌, ◌<◌};
+ghost use Rattle.sig_rel.specs.Prelude.{ℕ, Bool, false, List, Option, None, Some, length, slice_get, slice_index, slice_index_or, IsReaction, Reaction, is_present, status_at, truth_of, with_truth, test, Node, Kernel};
 ghost use Rattle.sig_rel.specs.Relations.{AreUnknowns, IsRelation, RelationView, reaction_in, status_in};
 
 /// A law: each abstract reaction of a kernel is one that truths of the unknowns are.

@@ -9,6 +9,7 @@ mod answer;
 mod arranging;
 mod cuts;
 mod elements;
+mod firsts;
 mod free;
 mod functions;
 mod general;

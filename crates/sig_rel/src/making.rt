@@ -1,9 +1,7 @@
 //! The relation of a kernel: what is left to be met where each class and each boolean is its own
 //! unknown.
 
-ghost use Rattle.std.specs.Prelude.{ℕ, IfOk};
-ghost use Rattle.sig_dd.specs.Nodes.{IsStore, Keeps};
-ghost use Rattle.sig_kernel.specs.Validity.{IsValid};
+ghost use Rattle.sig_rel.specs.Prelude.{ℕ, IfOk, IsStore, Keeps, IsValid};
 ghost use Rattle.sig_rel.specs.Relations.{IsRelation};
 ghost use Rattle.sig_rel.specs.Shares.{KeepsToShare};
 

@@ -1,10 +1,7 @@
 //! The unknowns of a kernel's abstract reactions.
 
-ghost use Rattle.std.specs.Prelude.{◌≡◌, ◌<◌, ◌+◌, ◌^◌, ℕ, true, None, length, map, replicate, slice_get, slice_index_or, vec_len, IfOk};
-ghost use Rattle.sig_clock.specs.Conditions.{conditions_of};
-ghost use Rattle.sig_clock.specs.SameClocks.{AreLeast};
-ghost use Rattle.sig_kernel.specs.Validity.{IsValid, form_within, operand_within};
-ghost use Rattle.std.specs.List.{list_all};
+ghost use Rattle.std.specs.Prelude.{◌≡◌, ◌<◌, ◌+◌, ◌^◌};
+ghost use Rattle.sig_rel.specs.Prelude.{ℕ, true, None, length, map, replicate, slice_get, slice_index_or, vec_len, IfOk, conditions_of, AreLeast, IsValid, form_within, operand_within, list_all};
 ghost use Rattle.sig_rel.specs.Numberings.{AreGiven, HasNumbers, Retains, given_at, next_after, number_of};
 ghost use Rattle.sig_rel.specs.Relations.{is_boolean};
 ghost use Rattle.sig_rel.specs.Statuses.{AreUnknownsOf, LieWithin};

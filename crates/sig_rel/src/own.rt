@@ -1,9 +1,8 @@
 //! Columns in which elements are variables: each class and each boolean its own unknown, or the
 //! conditions alone.
 
-ghost use Rattle.std.specs.Prelude.{◌≡◌, ◌<◌, ◌≤◌, ◌+◌, ℕ, Some, is_some, length, slice_get, IfOk, OnOk};
-ghost use Rattle.sig_base.specs.declared.ids.SigId.{SigId};
-ghost use Rattle.sig_dd.specs.Nodes.{IsStore};
+ghost use Rattle.std.specs.Prelude.{◌≡◌, ◌<◌, ◌≤◌, ◌+◌};
+ghost use Rattle.sig_rel.specs.Prelude.{ℕ, Some, is_some, length, slice_get, IfOk, OnOk, SigId, IsStore};
 ghost use Rattle.sig_rel.specs.Elements.{signal_of};
 ghost use Rattle.sig_rel.specs.FreeColumns.{Adds, AreFresh, IsProposal};
 ghost use Rattle.sig_rel.specs.OwnColumns.{AreOwnColumns, IsUnknownWhere, classes_below, count_one, truths_below, unknown_of};

@@ -1,8 +1,7 @@
 //! The list of a triangular kernel, put together one element after another.
 
-ghost use Rattle.std.specs.Prelude.{◌≡◌, ◌<◌, ◌≤◌, ◌∷◌, ◌++◌, [], ℕ, true, false, length, slice_index_or, IfOk, OnOk, MatchOption, MatchBool};
-ghost use Rattle.std.specs.List.{list_all};
-ghost use Rattle.sig_kernel.specs.Validity.{IsValid};
+ghost use Rattle.std.specs.Prelude.{◌≡◌, ◌<◌, ◌≤◌, ◌∷◌, ◌++◌};
+ghost use Rattle.sig_rel.specs.Prelude.{[], ℕ, true, false, length, slice_index_or, IfOk, OnOk, MatchOption, MatchBool, list_all, IsValid};
 ghost use Rattle.sig_rel.specs.Schedules.{is_left, may_write};
 ghost use Rattle.sig_rel.specs.Systems.{AreConditions};
 ghost use Rattle.sig_rel.specs.Tables.{AreMarks, AreRulesOf, IsPlaced, IsStuck, IsTriangleOf, IsWithin, MayBePlaced, has_both, has_class, has_operand, has_truth_of, has_whole, is_top_class, may_enter, may_hold, presence_ready, truth_ready, with_class, with_truth_of};
@@ -45,7 +44,8 @@ pub(crate) fn triangle_of(
         (IsTriangleOf kernel.now)) }
 {
     let rules = rules_of(alloc, kernel, conditions)?;
-    match top_of(kernel, rules.least.as_slice()) {
+    let top = top_of(alloc, kernel, rules.least.as_slice())?;
+    match top {
         Some(top) => Ok(placed_from(alloc, kernel, rules, top)?),
         None => Ok(None),
     }

@@ -1,11 +1,7 @@
 //! What is left to be met of the equations, over columns.
 
-ghost use Rattle.std.specs.Prelude.{◌≡◌, ◌*◌, ◌&&◌, ◌∷◌, [], ℕ, Bool, true, List, None, Some, length, if◌then◌else◌, IfOk};
-ghost use Rattle.std.specs.List.{list_all};
-ghost use Rattle.sig_clock.specs.Reactions.{has_truth, same_status, where_present};
-ghost use Rattle.sig_dd.specs.Diagram.{Agree};
-ghost use Rattle.sig_dd.specs.Nodes.{Holds, IsStore, test};
-ghost use Rattle.sig_dd.specs.Shares.{SpanAll};
+ghost use Rattle.std.specs.Prelude.{◌≡◌, ◌*◌, ◌&&◌, ◌∷◌, if◌then◌else◌};
+ghost use Rattle.sig_rel.specs.Prelude.{[], ℕ, Bool, true, List, None, Some, length, IfOk, list_all, has_truth, same_status, where_present, Agree, Holds, IsStore, test, SpanAll};
 ghost use Rattle.sig_rel.specs.Residues.{IsOwnStatus, is_met};
 ghost use Rattle.sig_rel.specs.Rules.{presence_by, truth_by_form, value_status};
 ghost use Rattle.sig_rel.specs.Shares.{Makes};

@@ -1,12 +1,13 @@
 //! What decides the clock classes and the booleans of a kernel.
 
-ghost use Rattle.std.specs.Prelude.{◌≡◌, ◌<◌, ◌^◌, ℕ, false, true, None, length, map, position, replicate, slice_index, IfOk, MatchOption};
-ghost use Rattle.std.specs.List.{list_all, list_any, range_with_len};
-ghost use Rattle.sig_kernel.specs.Validity.{IsValid, defines};
+ghost use Rattle.std.specs.Prelude.{◌≡◌, ◌<◌};
+ghost use Rattle.sig_rel.specs.Prelude.{ℕ, false, true, None, length, map, replicate, slice_index, IfOk, MatchOption, list_all, list_any, range_with_len, IsValid, defines};
+ghost use Rattle.sig_rel.specs.Firsts.{AreFirsts};
 ghost use Rattle.sig_rel.specs.Schedules.{AreNamed};
 ghost use Rattle.sig_rel.specs.Systems.{AreConditions};
 ghost use Rattle.sig_rel.specs.Tables.{AreRulesOf, allows_top, counted_for, defined_for, gives, governs, has_operand_of, is_excused, is_numbered, is_top_class, repeats, target_number};
 
+use crate::firsts::{first_defining, first_given, row, without_unexcused};
 use crate::numbering::is_boolean;
 use sig_base::SigId;
 use sig_clock::{ClockBase, same_clock};
@@ -65,80 +66,33 @@ pub(crate) fn defined_rules(
 }
 
 /// A table that names no equation.
-fn no_rows(alloc: Global, count: usize) -> Result<Vec<Option<u32>>, AllocError>
+pub(crate) fn no_rows(alloc: Global, count: usize) -> Result<Vec<Option<u32>>, AllocError>
     ensures { IfOk result (λ rows. rows.items ≡ replicate count None) }
 {
     vec![in alloc; None; count]
 }
 
-/// For each class the equation that is counted for it.
+/// For each class the equation that is counted for it: it gives the class its presence from those of
+/// other classes, and each other When, WhenConst or Default that defines a signal of the class repeats it.
 fn counted_of(alloc: Global, kernel: &Kernel, least: &[u32]) -> Result<Vec<Option<u32>>, AllocError>
     requires { IsValid kernel.now }
     ensures { IfOk result (λ counted. counted.items
         ≡ map (counted_for kernel.now least.now) (range_with_len 0 (length kernel.now.signals))) }
 {
-    let mut counted = Vec::new(alloc);
-    for class in 0..kernel.signals.as_slice().len() {
-        counted.push(counted_for(kernel, least, class))?;
-    }
+    let mut counted = first_given(alloc, kernel, least)?;
+    without_unexcused(&mut counted, kernel, least);
     Ok(counted)
 }
 
-/// The equation that is counted for a class: it gives the class its presence from those of other
-/// classes, and each other When, WhenConst or Default that defines a signal of the class repeats it.
-fn counted_for(kernel: &Kernel, least: &[u32], class: usize) -> Option<u32>
-    requires { IsValid kernel.now }
-    ensures { result ≡ counted_for kernel.now least.now class }
-{
-    let equations = kernel.equations.as_slice();
-    match first_given(equations, least, class) {
-        Some(number) => match equations.get(number) {
-            Some(counted) => {
-                if are_excused(equations, least, class, &counted.form) {
-                    Some(number as u32)
-                } else {
-                    None
-                }
-            }
-            None => None,
-        },
-        None => None,
-    }
-}
-
-/// The first equation that gives a class its presence from those of other classes.
-fn first_given(equations: &[Equation], least: &[u32], class: usize) -> Option<usize>
-    ensures { result ≡ position (gives least.now class) equations.now }
-{
-    for number in 0..equations.len() {
-        if gives(least, class, &equations[number]) {
-            return Some(number);
-        }
-    }
-    None
-}
-
-/// Whether each other equation leaves an equation of this form the counted one of a class.
-fn are_excused(equations: &[Equation], least: &[u32], class: usize, counted: &Form) -> bool
-    ensures { result ≡ list_all (is_excused least.now class counted.now) equations.now }
-{
-    for equation in equations {
-        if !is_excused(least, class, counted, equation) {
-            return false;
-        }
-    }
-    true
-}
-
 /// Whether an equation gives a class its presence from those of other classes.
-fn gives(least: &[u32], class: usize, equation: &Equation) -> bool
+pub(crate) fn gives(least: &[u32], class: usize, equation: &Equation) -> bool
     ensures { result ≡ gives least.now class equation.now }
 {
     governs(least, class, &equation.form) && !has_operand_of(least, class, &equation.form)
 }
 
 /// Whether an equation defines no signal of a class, or repeats the counted one, or is that one.
-fn is_excused(least: &[u32], class: usize, counted: &Form, equation: &Equation) -> bool
+pub(crate) fn is_excused(least: &[u32], class: usize, counted: &Form, equation: &Equation) -> bool
     ensures { result ≡ is_excused least.now class counted.now equation.now }
 {
     !governs(least, class, &equation.form)
@@ -226,7 +180,7 @@ pub(crate) fn target_number(form: &Form) -> u32
 }
 
 /// Whether an equation defines a signal.
-fn defines(equation: &Equation, signal: usize) -> bool
+pub(crate) fn defines(equation: &Equation, signal: usize) -> bool
     ensures { result ≡ defines signal equation.now }
 {
     match equation.form {
@@ -245,37 +199,31 @@ fn defined_of(
     ensures { IfOk result (λ defined. defined.items
         ≡ map (defined_for kernel.now conditions.now) (range_with_len 0 (length kernel.now.signals))) }
 {
+    let firsts = first_defining(alloc, kernel)?;
     let mut defined = Vec::new(alloc);
     for signal in 0..kernel.signals.as_slice().len() {
-        defined.push(defined_for(kernel, conditions, signal))?;
+        defined.push(defined_for(kernel, conditions, &firsts, signal))?;
     }
     Ok(defined)
 }
 
-/// The equation that defines a signal, where that is a boolean and no condition.
-fn defined_for(kernel: &Kernel, conditions: &[SigId], signal: usize) -> Option<u32>
-    requires { IsValid kernel.now }
+/// The equation that defines a signal, where that is a boolean and no condition. The first equation
+/// that defines each signal is given.
+fn defined_for(
+    kernel: &Kernel,
+    conditions: &[SigId],
+    firsts: &[Option<u32>],
+    signal: usize,
+) -> Option<u32>
+    requires firsts { AreFirsts defines kernel.now firsts.now }
+    requires signal { signal < length kernel.now.signals }
     ensures { result ≡ defined_for kernel.now conditions.now signal }
 {
-    if !is_boolean(kernel, signal) || is_listed(conditions, signal) {
-        return None;
+    if is_boolean(kernel, signal) && !is_listed(conditions, signal) {
+        row(firsts, signal)
+    } else {
+        None
     }
-    match first_defining(kernel.equations.as_slice(), signal) {
-        Some(number) => Some(number as u32),
-        None => None,
-    }
-}
-
-/// The first equation that defines a signal.
-fn first_defining(equations: &[Equation], signal: usize) -> Option<usize>
-    ensures { result ≡ position (defines signal) equations.now }
-{
-    for number in 0..equations.len() {
-        if defines(&equations[number], signal) {
-            return Some(number);
-        }
-    }
-    None
 }
 
 /// Whether a signal is among conditions.
@@ -291,32 +239,43 @@ pub(crate) fn is_listed(conditions: &[SigId], signal: usize) -> bool
 }
 
 /// The class that no equation gives its presence from those of other classes, if there is one.
-pub(crate) fn top_of(kernel: &Kernel, least: &[u32]) -> Option<usize>
-    ensures { MatchOption result
+pub(crate) fn top_of(
+    alloc: Global,
+    kernel: &Kernel,
+    least: &[u32],
+) -> Result<Option<usize>, AllocError>
+    requires valid { IsValid kernel.now }
+    requires count { length least.now ≡ length kernel.now.signals }
+    ensures { IfOk result (λ top. MatchOption top
         ((class : ℕ) → class < length least.now → is_top_class kernel.now least.now class ≡ false)
-        (λ top. (top < length least.now) × (is_top_class kernel.now least.now top ≡ true)) }
+        (λ top. (top < length least.now) × (is_top_class kernel.now least.now top ≡ true))) }
 {
+    let firsts = first_given(alloc, kernel, least)?;
     for class in 0..least.len() {
-        if is_top(kernel, least, class) {
-            return Some(class);
+        if is_top(kernel, least, &firsts, class) {
+            return Ok(Some(class));
         }
     }
-    None
+    Ok(None)
 }
 
 /// Whether a number is that of a class, and no equation gives that class its presence from those of
-/// other classes.
-pub(crate) fn is_top(kernel: &Kernel, least: &[u32], class: usize) -> bool
-    ensures { result ≡ is_top_class kernel.now least.now class }
+/// other classes. The first equation that gives each class its presence is given.
+fn is_top(_kernel: &Kernel, least: &[u32], firsts: &[Option<u32>], class: usize) -> bool
+    requires firsts { AreFirsts (gives least.now) _kernel.now firsts.now }
+    requires class { class < length _kernel.now.signals }
+    ensures { result ≡ is_top_class _kernel.now least.now class }
 {
-    least_of(least, class) == class && all_allow_top(kernel.equations.as_slice(), least, class)
+    least_of(least, class) == class && is_never_given(_kernel, least, firsts, class)
 }
 
-/// Whether no equation is a reason against a class being the top.
-fn all_allow_top(equations: &[Equation], least: &[u32], class: usize) -> bool
-    ensures { result ≡ list_all (allows_top least.now class) equations.now }
+/// Whether no equation gives a class its presence from those of other classes.
+fn is_never_given(_kernel: &Kernel, _least: &[u32], firsts: &[Option<u32>], class: usize) -> bool
+    requires firsts { AreFirsts (gives _least.now) _kernel.now firsts.now }
+    requires class { class < length _kernel.now.signals }
+    ensures { result ≡ list_all (allows_top _least.now class) _kernel.now.equations }
 {
-    match first_given(equations, least, class) {
+    match row(firsts, class) {
         Some(_) => false,
         None => true,
     }

@@ -1,16 +1,16 @@
 //! The order in which the clocks of a kernel are written, each behind what it is written from.
 
-ghost use Rattle.std.specs.Prelude.{◌≡◌, None, slice_index_or, IfOk, IfSome, MatchOption, OnOk};
-ghost use Rattle.sig_kernel.specs.Validity.{IsValid};
-ghost use Rattle.sig_kernel.specs.declared.kernel.Kernel.{Kernel};
-ghost use Rattle.sig_rel.specs.Schedules.{HasPlace, IsPlannedStep, IsSchedule, IsScheduling, IsTaken, IsWhole, MayBeWritten, is_left, is_left_truth};
+ghost use Rattle.std.specs.Prelude.{◌≡◌};
+ghost use Rattle.sig_rel.specs.Prelude.{None, slice_index_or, IfOk, IfSome, MatchOption, OnOk, IsValid, Kernel};
+ghost use Rattle.sig_rel.specs.Schedules.{HasPlace, IsPlannedStep, IsSchedule, IsScheduling, IsTaken, IsWhole, MayBeWritten, MayBeWrittenBy, is_left, is_left_truth};
 ghost use Rattle.sig_rel.specs.Systems.{AreConditions};
 
 use crate::elements::Element;
+use crate::firsts::{first_given, row};
 use crate::links::Links;
 use crate::numbering::is_boolean;
 use crate::placing::Placed;
-use crate::rules::{Rules, defined_rules, is_listed, is_top, least_of, target_number};
+use crate::rules::{Rules, defined_rules, is_listed, least_of, target_number};
 use crate::writing::form_for;
 use sig_base::SigId;
 use sig_clock::ClockBase;
@@ -34,11 +34,12 @@ pub(crate) struct Step {
     pub(crate) equation: Option<u32>,
 }
 
-/// What was scheduled so far.
+/// What was scheduled so far, and the equations that may write classes.
 #[derive(Drop)]
 pub(crate) struct Scheduling {
     pub(crate) rules: Rules,
     pub(crate) placed: Placed,
+    writers: Vec<u32>,
 }
 
 /// The schedule of a kernel, of which the conditions are given.
@@ -52,7 +53,7 @@ pub(crate) fn schedule_of(
     ensures { IfOk result (IsSchedule kernel.now) }
 {
     let mut scheduling = Scheduling::none(alloc, kernel, conditions)?;
-    scheduling.cut_tops(kernel)?;
+    scheduling.cut_tops(alloc, kernel)?;
     scheduling.schedule_all(alloc, kernel)?;
     let links = Links::none(alloc, kernel.signals.as_slice().len())?;
     let mut schedule = linked(scheduling, links);
@@ -166,6 +167,27 @@ fn is_condition(conditions: &[SigId], element: Element) -> bool {
     }
 }
 
+/// The equations that may write classes, by their numbers.
+fn writers_of(alloc: Global, kernel: &Kernel) -> Result<Vec<u32>, AllocError>
+    requires { IsValid kernel.now }
+{
+    let mut writers = Vec::new(alloc);
+    for (number, equation) in kernel.equations.as_slice().iter().enumerate() {
+        if may_write(&equation.form) {
+            writers.push(number as u32)?;
+        }
+    }
+    Ok(writers)
+}
+
+/// Whether a form may give a class its presence from those of others.
+fn may_write(form: &Form) -> bool {
+    match form {
+        Form::When(_, _, _) | Form::WhenConst(_, _, _) | Form::Default(_, _, _) => true,
+        Form::Fun(_, _, _) | Form::Delay(_, _, _) | Form::Sync(_, _) | Form::Event(_, _) => false,
+    }
+}
+
 /// A step that no equation makes.
 pub(crate) fn cut(element: Element) -> Step
     ensures element { result.element ≡ element }
@@ -186,17 +208,23 @@ impl Scheduling {
     {
         let rules = defined_rules(alloc, kernel, conditions)?;
         let placed = Placed::none(alloc, kernel.signals.as_slice().len())?;
-        Ok(Scheduling { rules, placed })
+        let writers = writers_of(alloc, kernel)?;
+        Ok(Scheduling {
+            rules,
+            placed,
+            writers,
+        })
     }
 
     /// Cuts the classes that no equation can ever write from other classes.
-    fn cut_tops(&mut self, kernel: &Kernel) -> Result<(), AllocError>
+    fn cut_tops(&mut self, alloc: Global, kernel: &Kernel) -> Result<(), AllocError>
         requires valid { IsValid kernel.now }
         requires scheduling { IsScheduling kernel.now self.old }
         ensures { OnOk result (IsScheduling kernel.now self.new) }
     {
+        let firsts = first_given(alloc, kernel, self.rules.least.as_slice())?;
         for class in 0..kernel.signals.as_slice().len() {
-            if self.is_left(class) && is_top(kernel, self.rules.least.as_slice(), class) {
+            if self.is_left(class) && row(&firsts, class).is_none() {
                 self.take(cut(Element::Presence(class as u32)))?;
             }
         }
@@ -250,16 +278,25 @@ impl Scheduling {
         requires scheduling { IsScheduling kernel.now self.now }
         ensures { IfSome result (IsPlannedStep kernel.now self.now) }
     {
-        let equations = kernel.equations.as_slice();
-        for number in 0..equations.len() {
-            if let Some(class) = self.written_class(kernel, &equations[number].form) {
+        for number in self.writers.as_slice() {
+            if let Some(class) = self.class_written_by(kernel, *number) {
                 return Some(Step {
                     element: Element::Presence(class as u32),
-                    equation: Some(number as u32),
+                    equation: Some(*number),
                 });
             }
         }
         None
+    }
+
+    /// The class that the equation of this number may write.
+    fn class_written_by(&self, kernel: &Kernel, number: u32) -> Option<usize>
+        ensures { IfSome result (MayBeWrittenBy kernel.now self.now number) }
+    {
+        match kernel.equations.as_slice().get(number as usize) {
+            Some(equation) => self.written_class(kernel, &equation.form),
+            None => None,
+        }
     }
 
     /// The class that an equation of this form may write.

@@ -1,10 +1,7 @@
 //! Statuses of signals as pairs of diagrams.
 
-ghost use Rattle.std.specs.Prelude.{◌∷◌, [], if◌then◌else◌, IfOk, true};
-ghost use Rattle.sig_clock.specs.Reactions.{same_status, same_truth};
-ghost use Rattle.sig_dd.specs.Nodes.{Holds, test};
-ghost use Rattle.sig_dd.specs.Diagram.{Agree};
-ghost use Rattle.sig_dd.specs.Shares.{SpanAll, HoldAll};
+ghost use Rattle.std.specs.Prelude.{◌∷◌, if◌then◌else◌};
+ghost use Rattle.sig_rel.specs.Prelude.{[], IfOk, true, same_status, same_truth, Holds, test, Agree, SpanAll, HoldAll};
 ghost use Rattle.sig_rel.specs.Shares.{Makes};
 ghost use Rattle.sig_rel.specs.Statuses.{itself, refs_of, status_by};
 

@@ -1,12 +1,8 @@
 //! Clocks of a kernel, substituted into one another.
 
-ghost use Rattle.std.specs.Prelude.{◌≡◌, ◌<◌, ◌∷◌, [], ◌&&◌, not, ℕ, List, Bool, Some, length, slice_index, IfOk};
-ghost use Rattle.sig_dd.specs.Diagram.{Agree};
-ghost use Rattle.sig_clock.specs.Reactions.{constant_truth, same_truth};
-ghost use Rattle.sig_dd.specs.Nodes.{Holds, IsStore, Spans, test};
-ghost use Rattle.sig_dd.specs.Shares.{SpanAll};
+ghost use Rattle.std.specs.Prelude.{◌≡◌, ◌<◌, ◌∷◌, ◌&&◌};
+ghost use Rattle.sig_rel.specs.Prelude.{[], not, ℕ, List, Bool, Some, length, slice_index, IfOk, Agree, constant_truth, same_truth, Holds, IsStore, Spans, test, SpanAll, kind_at};
 ghost use Rattle.sig_rel.specs.Elements.{signal_of};
-ghost use Rattle.sig_kernel.specs.Table.{kind_at};
 ghost use Rattle.sig_rel.specs.Rules.{presence_by};
 ghost use Rattle.sig_rel.specs.Shares.{Makes};
 ghost use Rattle.sig_rel.specs.Statuses.{itself};

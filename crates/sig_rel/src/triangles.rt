@@ -1,7 +1,7 @@
 //! Triangular kernels.
 
-ghost use Rattle.std.specs.Prelude.{◌≡◌, ◌≢◌, ℕ, IfOk, MatchOption, Err};
-ghost use Rattle.sig_kernel.specs.Validity.{IsValid};
+ghost use Rattle.std.specs.Prelude.{◌≡◌, ◌≢◌};
+ghost use Rattle.sig_rel.specs.Prelude.{ℕ, IfOk, MatchOption, Err, IsValid};
 ghost use Rattle.sig_rel.specs.Triangles.{AreClassesInOrder, IsTriangular};
 
 use crate::answer::RelAnswer;

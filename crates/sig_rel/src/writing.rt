@@ -1,8 +1,7 @@
 //! Columns, written in an order in which each class and boolean stands behind what its equation reads.
 
-ghost use Rattle.std.specs.Prelude.{◌≡◌, ◌*◌, ◌<◌, length, IfOk, MatchOption, OnOk};
-ghost use Rattle.sig_dd.specs.Nodes.{IsStore};
-ghost use Rattle.sig_kernel.specs.Validity.{IsValid};
+ghost use Rattle.std.specs.Prelude.{◌≡◌, ◌*◌, ◌<◌};
+ghost use Rattle.sig_rel.specs.Prelude.{length, IfOk, MatchOption, OnOk, IsStore, IsValid};
 ghost use Rattle.sig_rel.specs.Elements.{IsCut, IsGiven, signal_of};
 ghost use Rattle.sig_rel.specs.Shares.{Makes};
 ghost use Rattle.sig_rel.specs.Substitutions.{ArePlain, HoldColumns, IsPartlyWritten, IsWritten, SpanColumns, no_ref, step_at, steps};

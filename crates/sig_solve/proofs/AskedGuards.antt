@@ -1,25 +1,5 @@
 -- Lemmas on guards: the images of presences, with the proposals at the places of their conditions.
-use Rattle.std.proofs.Common.{◌≡◌, ◌≢◌, ◌<◌, ◌+◌, inl, inr, ℕ, Bool, true, List, length, map, get_or, set, replicate, sym, ap, ◌∙◌, subst, arith, IsTrue}
-use Rattle.std.specs.Prelude.{Some, Result, Ok, Err, IfOk, slice_get}
-use Rattle.std.proofs.Math.ListN.{length-set}
-use Rattle.std.proofs.lemmas.Bool.{cases_eq, cases_order}
-use Rattle.std.proofs.lemmas.List.{length-replicate}
-use Rattle.sig_base.specs.declared.ids.SigId.{SigId}
-use Rattle.sig_clock.specs.ClockFunctions.{Allows, KeepsTo}
-use Rattle.sig_clock.specs.Clocks.{AreInOrder}
-use Rattle.sig_clock.specs.Conditions.{is_condition}
-use Rattle.sig_clock.specs.Reactions.{Reaction, Speaks, is_present, status_at}
-use Rattle.sig_dd.specs.Diagram.{Depends, truth_of}
-use Rattle.sig_dd.specs.Nodes.{IsRefOf, Keeps, StoreView, test}
-use Rattle.sig_dd.specs.declared.answer.DdAnswer.{DdAnswer}
-use Rattle.sig_dd.specs.declared.node.Node.{Node}
-use Rattle.sig_dd.specs.declared.node.Ref.{Ref}
-use Rattle.sig_dd.proofs.CallerLemmas.{Holds-kept}
-use Rattle.sig_rel.specs.Systems.{SystemView, reading}
-use Rattle.sig_solve.specs.Asked.{AreProposed, ArePlaced, ForgetsAllBut, IsAskedIn, IsImage}
-use Rattle.sig_solve.specs.Guards.{IsGuard}
-use Rattle.sig_solve.specs.declared.asked.Asked.{Asked}
-use Rattle.sig_solve.specs.declared.frame.Frame.{Frame}
+use Rattle.sig_solve.proofs.Common.{◌≡◌, ◌≢◌, ◌<◌, ◌+◌, inl, inr, ℕ, Bool, true, List, length, map, get_or, set, replicate, sym, ap, ◌∙◌, subst, arith, IsTrue, Some, Result, Ok, Err, IfOk, slice_get, length-set, cases_eq, cases_order, length-replicate, SigId, Allows, KeepsTo, AreInOrder, is_condition, Reaction, Speaks, is_present, status_at, Depends, truth_of, IsRefOf, Keeps, StoreView, test, DdAnswer, Node, Ref, Holds-kept, SystemView, reading, AreProposed, ArePlaced, ForgetsAllBut, IsAskedIn, IsImage, IsGuard, Asked, Frame}
 use Rattle.sig_solve.proofs.AskedLemmas.{is_condition_at, kept_proposals, moved, number_of, speaks_read, variable_at}
 use Rattle.sig_solve.proofs.ListLemmas.{contains_get, get_at, get_set_other, get_set_same, get_within}
 use Rattle.sig_solve.proofs.PinnedLemmas.{not_both}

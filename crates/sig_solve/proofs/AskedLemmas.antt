@@ -1,27 +1,5 @@
 -- Lemmas on the solutions of a system, and on images of statements on reactions.
-use Rattle.std.proofs.Common.{◌≡◌, ◌≢◌, ◌<◌, ◌≤◌, ◌↔◌, ◌&&◌, inl, inr, ℕ, Bool, true, false, not, List, length, get_or, refl, sym, ap, ◌∙◌, subst, arith, Contains, IsTrue}
-use Rattle.std.specs.Prelude.{zero, suc, None, Some, Result, Ok, Err, IfOk, slice_get, if◌then◌else◌}
-use Rattle.std.proofs.lemmas.Bool.{cases_eq, false≢true}
-use Rattle.sig_base.specs.declared.ids.SigId.{SigId}
-use Rattle.sig_kernel.specs.Validity.{IsValid}
-use Rattle.sig_clock.specs.ClockFunctions.{Allows}
-use Rattle.sig_clock.specs.Conditions.{is_condition, signal_id}
-use Rattle.sig_clock.specs.Reactions.{Reaction, Status, Speaks, is_present, status_at}
-use Rattle.sig_clock.proofs.Lists.{at_contained}
-use Rattle.sig_dd.specs.Diagram.{truth_of, with_truth}
-use Rattle.sig_dd.specs.Nodes.{Holds, IsRefOf, IsStore, Keeps, Spans, StoreView, test}
-use Rattle.sig_dd.specs.Products.{AgreeBut, IsProduct}
-use Rattle.sig_dd.specs.declared.answer.DdAnswer.{DdAnswer}
-use Rattle.sig_dd.specs.declared.node.Node.{Node}
-use Rattle.sig_dd.specs.declared.node.Ref.{Ref}
-use Rattle.sig_dd.proofs.CallerLemmas.{Depends-of_one, Depends-of_two, Holds-kept}
-use Rattle.sig_dd.proofs.Dependence.{ref_depends}
-use Rattle.sig_dd.proofs.RelationalProducts.{product_forgets, product_spanned}
-use Rattle.sig_dd.proofs.Trees.{truth_of-with_other, truth_of-with_same}
-use Rattle.sig_rel.specs.Systems.{AreConditions, IsOver, IsSolution, IsSystem, IsVariable, SystemView, reading}
-use Rattle.sig_solve.specs.Asked.{AreProposed, ForgetsAllBut, IsAskedIn, IsImage, IsProposalOf, variables_of}
-use Rattle.sig_solve.specs.Frames.{IsFrame}
-use Rattle.sig_solve.specs.declared.asked.Asked.{Asked}
+use Rattle.sig_solve.proofs.Common.{◌≡◌, ◌≢◌, ◌<◌, ◌≤◌, ◌↔◌, ◌&&◌, inl, inr, ℕ, Bool, true, false, not, List, length, get_or, refl, sym, ap, ◌∙◌, subst, arith, Contains, IsTrue, zero, suc, None, Some, Result, Ok, Err, IfOk, slice_get, if◌then◌else◌, cases_eq, false≢true, SigId, IsValid, Allows, is_condition, signal_id, Reaction, Status, Speaks, is_present, status_at, at_contained, truth_of, with_truth, Holds, IsRefOf, IsStore, Keeps, Spans, StoreView, test, AgreeBut, IsProduct, DdAnswer, Node, Ref, Depends-of_one, Depends-of_two, Holds-kept, ref_depends, product_forgets, product_spanned, truth_of-with_other, truth_of-with_same, AreConditions, IsOver, IsSolution, IsSystem, IsVariable, SystemView, reading, AreProposed, ForgetsAllBut, IsAskedIn, IsImage, IsProposalOf, variables_of, IsFrame, Asked}
 use Rattle.sig_solve.proofs.ListLemmas.{contains_get, get_at, get_within}
 use Rattle.sig_solve.proofs.StoreLemmas.{older_test}
 use Rattle.sig_solve.proofs.SystemLemmas.{in_variables, keeps_at, of_variables, over_kept, presence_over, presence_read, status_is, truth_over, reading_kept, reading_same, solution_newer, solution_older, solution_same, system_kept}

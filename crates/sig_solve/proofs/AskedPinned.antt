@@ -1,25 +1,6 @@
 -- Lemmas on pinned conditions: what the images of the two halves of a condition say.
-use Rattle.std.proofs.Common.{◌≡◌, ◌≢◌, ◌<◌, ◌≤◌, ◌⊎◌, inl, inr, ℕ, Bool, true, false, not, eqb, List, take, refl, sym, ap, ◌∙◌, subst, arith, Contains, IsTrue}
-use Rattle.std.specs.Prelude.{zero, suc, None, Some, slice_get}
-use Rattle.std.proofs.lemmas.Bool.{cases_eq, cases_lt, cases_order, eq-eqb, eqb-true, false≢true}
-use Rattle.sig_base.specs.declared.ids.SigId.{SigId}
-use Rattle.sig_kernel.specs.declared.kernel.Kernel.{Kernel}
-use Rattle.sig_clock.specs.Clocks.{AreInOrder}
-use Rattle.sig_clock.specs.Conditions.{is_condition, signal_id}
-use Rattle.sig_clock.specs.Layers.{AgreeOn, EntersBy, HasLayer}
-use Rattle.sig_clock.specs.Reactions.{IsReaction, Reaction, Speaks, is_silent, status_at}
-use Rattle.sig_clock.proofs.LayerLemmas.{one_layer}
-use Rattle.sig_clock.proofs.ReactionLemmas.{absent_in_silence}
-use Rattle.sig_dd.specs.Diagram.{truth_of}
-use Rattle.sig_dd.specs.Nodes.{StoreView, diagram, test}
-use Rattle.sig_dd.specs.declared.node.Ref.{Ref}
-use Rattle.sig_dd.proofs.Canonical.{one_reference, proper, same_ref}
-use Rattle.sig_dd.proofs.Trees.{equal_or_differ}
-use Rattle.sig_rel.specs.Systems.{IsSolution, reading}
-use Rattle.sig_solve.specs.Asked.{AreHalves, ForgetsAllBut, IsAskedIn, IsImage}
-use Rattle.sig_solve.specs.Frames.{IsAmong}
-use Rattle.sig_solve.specs.Orders.{IsFreeBy, IsPinnedBy}
-use Rattle.sig_solve.specs.declared.asked.Asked.{Asked}
+use Rattle.sig_solve.proofs.Common.{◌≡◌, ◌≢◌, ◌<◌, ◌≤◌, ◌⊎◌, inl, inr, ℕ, Bool, true, false, not, eqb, List, take, refl, sym, ap, ◌∙◌, subst, arith, Contains, IsTrue, zero, suc, None, Some, slice_get, cases_eq, cases_lt, cases_order, eq-eqb, eqb-true, false≢true, SigId, Kernel, AreInOrder, is_condition, signal_id, AgreeOn, EntersBy, HasLayer, IsReaction, Reaction, Speaks, is_silent, status_at, one_layer, absent_in_silence, truth_of, StoreView, diagram, test, Ref, proper, same_ref, equal_or_differ, IsSolution, reading, AreHalves, ForgetsAllBut, IsAskedIn, IsImage, IsAmong, IsFreeBy, IsPinnedBy, Asked}
+use Rattle.sig_dd.proofs.Canonical.{one_reference}
 use Rattle.sig_solve.proofs.AskedLemmas.{speaks_read}
 use Rattle.sig_solve.proofs.AskedRounds.{agreeing, one_status}
 use Rattle.sig_solve.proofs.ListLemmas.{contains_get, get_at}

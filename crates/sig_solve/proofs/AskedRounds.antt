@@ -1,21 +1,5 @@
 -- Lemmas on rounds: where the proposals of known conditions are known, so are the conditions.
-use Rattle.std.proofs.Common.{◌≡◌, ◌≤◌, ◌↔◌, ℕ, Bool, true, false, List, get_or, refl, sym, ap, ◌∙◌, subst, arith, IsTrue}
-use Rattle.std.specs.Prelude.{zero, suc, None, Some, Result, Ok, Err, IfOk, is_some, slice_get}
-use Rattle.std.proofs.lemmas.Bool.{false≢true}
-use Rattle.sig_base.specs.declared.ids.SigId.{SigId}
-use Rattle.sig_clock.specs.ClockFunctions.{Allows}
-use Rattle.sig_clock.specs.Conditions.{is_condition, signal_id}
-use Rattle.sig_clock.specs.Layers.{AgreeOn, EntersBy, IsDetermined}
-use Rattle.sig_clock.specs.Reactions.{Reaction, Status, Speaks, is_present, status_at}
-use Rattle.sig_dd.specs.Diagram.{truth_of}
-use Rattle.sig_dd.specs.Nodes.{Overlap, StoreView}
-use Rattle.sig_dd.specs.declared.answer.DdAnswer.{DdAnswer}
-use Rattle.sig_dd.specs.declared.node.Ref.{Ref}
-use Rattle.sig_rel.specs.Systems.{IsSolution, reading}
-use Rattle.sig_solve.specs.Asked.{ForgetsAllBut, IsAskedIn, IsImage}
-use Rattle.sig_solve.specs.Frames.{IsAmong}
-use Rattle.sig_solve.specs.Rounds.{AreEntered, IsOpenAnswer}
-use Rattle.sig_solve.specs.declared.asked.Asked.{Asked}
+use Rattle.sig_solve.proofs.Common.{◌≡◌, ◌≤◌, ◌↔◌, ℕ, Bool, true, false, List, get_or, refl, sym, ap, ◌∙◌, subst, arith, IsTrue, zero, suc, None, Some, Result, Ok, Err, IfOk, is_some, slice_get, false≢true, SigId, Allows, is_condition, signal_id, AgreeOn, EntersBy, IsDetermined, Reaction, Status, Speaks, is_present, status_at, truth_of, Overlap, StoreView, DdAnswer, Ref, IsSolution, reading, ForgetsAllBut, IsAskedIn, IsImage, IsAmong, AreEntered, IsOpenAnswer, Asked}
 use Rattle.sig_solve.proofs.AskedLemmas.{is_condition_at, kept_known, kept_proposals, moved, number_of, speaks_read, variable_at}
 use Rattle.sig_solve.proofs.RoundLemmas.{enters_later}
 use Rattle.sig_solve.proofs.SystemLemmas.{keeps_at}

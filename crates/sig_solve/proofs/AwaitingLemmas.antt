@@ -1,23 +1,5 @@
 -- Lemmas on presences that wait for a condition.
-use Rattle.std.proofs.Common.{◌≡◌, ◌≢◌, ◌↔◌, ◌⊎◌, inl, inr, ℕ, Bool, true, false, List, [], ◌∷◌, length, get_or, set, replicate, refl, sym, ap, ◌∙◌, subst, arith, IsTrue}
-use Rattle.std.specs.Prelude.{zero, suc, Option, None, Some, Result, Ok, Err, IfOk, slice_get, if◌then◌else◌}
-use Rattle.std.proofs.lemmas.Bool.{false≢true}
-use Rattle.std.proofs.lemmas.List.{length-replicate, length-set}
-use Rattle.sig_base.specs.declared.ids.SigId.{SigId}
-use Rattle.sig_clock.specs.Layers.{AgreeOn, IsDetermined, IsSignal}
-use Rattle.sig_clock.specs.Reactions.{Reaction, Speaks, is_present, status_at}
-use Rattle.sig_dd.specs.Diagram.{truth_of}
-use Rattle.sig_dd.specs.Nodes.{IsRefOf, Keeps, Overlap, Spans, StoreView, test}
-use Rattle.sig_dd.specs.declared.answer.DdAnswer.{DdAnswer}
-use Rattle.sig_dd.specs.declared.node.Node.{Node}
-use Rattle.sig_dd.specs.declared.node.Ref.{Ref}
-use Rattle.sig_dd.proofs.CallerLemmas.{Holds-kept}
-use Rattle.sig_rel.specs.Systems.{IsSolution, reading}
-use Rattle.sig_solve.specs.Asked.{ForgetsAllBut, IsAskedIn, IsImage, IsProposalOf}
-use Rattle.sig_solve.specs.Awaiting.{AreAwaited, IsApart, IsRest}
-use Rattle.sig_solve.specs.Frames.{IsAmong}
-use Rattle.sig_solve.specs.Rounds.{AreEntered, IsOpenAnswer}
-use Rattle.sig_solve.specs.declared.asked.Asked.{Asked}
+use Rattle.sig_solve.proofs.Common.{◌≡◌, ◌≢◌, ◌↔◌, ◌⊎◌, inl, inr, ℕ, Bool, true, false, List, [], ◌∷◌, length, get_or, set, replicate, refl, sym, ap, ◌∙◌, subst, arith, IsTrue, zero, suc, Option, None, Some, Result, Ok, Err, IfOk, slice_get, if◌then◌else◌, false≢true, length-replicate, length-set, SigId, AgreeOn, IsDetermined, IsSignal, Reaction, Speaks, is_present, status_at, truth_of, IsRefOf, Keeps, Overlap, Spans, StoreView, test, DdAnswer, Node, Ref, Holds-kept, IsSolution, reading, ForgetsAllBut, IsAskedIn, IsImage, IsProposalOf, AreAwaited, IsApart, IsRest, IsAmong, AreEntered, IsOpenAnswer, Asked}
 use Rattle.sig_solve.proofs.AskedLemmas.{is_condition_at, speaks_read}
 use Rattle.sig_solve.proofs.AskedRounds.{agreeing, closed_rounds}
 use Rattle.sig_solve.proofs.ListLemmas.{contains_get}

@@ -1,28 +1,5 @@
 -- Lemmas on the classes of clocks.
-use Rattle.std.proofs.Common.{◌≡◌, ◌<◌, ◌≤◌, ◌⊎◌, inl, inr, ℕ, Bool, true, false, eqb, List, [], ◌∷◌, length, map, get_or, refl, sym, ap, ◌∙◌, subst, arith}
-use Rattle.std.specs.Prelude.{zero, suc, None, Some, slice_get}
-use Rattle.std.specs.List.{range_with_len}
-use Rattle.std.proofs.lemmas.Bool.{cases_eq, cases_lt, eq-eqb, eqb-true, false≢true}
-use Rattle.sig_base.specs.declared.ids.SigId.{SigId}
-use Rattle.sig_kernel.specs.declared.kernel.Kernel.{Kernel}
-use Rattle.sig_clock.specs.ClockFunctions.{Allows, IsClockFunction, KeepsTo}
-use Rattle.sig_clock.specs.ClockRefusals.{HasClocks}
-use Rattle.sig_clock.specs.Clocks.{AreClocks, AreInOrder, ClocksView, IsLeastOf}
-use Rattle.sig_clock.specs.Conditions.{signal_id}
-use Rattle.sig_clock.specs.Layers.{EntersBy, HasLayer, IsRoot}
-use Rattle.sig_clock.specs.Reactions.{Reaction, Status, Speaks, is_present, status_at, truth_of_status}
-use Rattle.sig_clock.proofs.LayerLemmas.{one_layer}
-use Rattle.sig_clock.proofs.ProposalLemmas.{one_presence, some_reaction}
-use Rattle.sig_clock.proofs.ReactionLemmas.{present_together}
-use Rattle.sig_dd.specs.Nodes.{StoreView, IsStore, test}
-use Rattle.sig_dd.specs.declared.node.Ref.{Ref}
-use Rattle.sig_dd.proofs.CallerLemmas.{one_reference}
-use Rattle.sig_solve.specs.Classes.{AreFirsts, AreMadeOf, guard_at}
-use Rattle.sig_solve.specs.Frames.{IsFrame}
-use Rattle.sig_solve.specs.Guards.{AreGuards, IsGuard}
-use Rattle.sig_solve.specs.Orders.{by_layer}
-use Rattle.sig_solve.specs.Rounds.{AreSettled, layer_in}
-use Rattle.sig_solve.specs.declared.frame.Frame.{Frame}
+use Rattle.sig_solve.proofs.Common.{◌≡◌, ◌<◌, ◌≤◌, ◌⊎◌, inl, inr, ℕ, Bool, true, false, eqb, List, [], ◌∷◌, length, map, get_or, refl, sym, ap, ◌∙◌, subst, arith, zero, suc, None, Some, slice_get, range_with_len, cases_eq, cases_lt, eq-eqb, eqb-true, false≢true, SigId, Kernel, Allows, IsClockFunction, KeepsTo, HasClocks, AreClocks, AreInOrder, ClocksView, IsLeastOf, signal_id, EntersBy, HasLayer, IsRoot, Reaction, Status, Speaks, is_present, status_at, truth_of_status, one_layer, one_presence, some_reaction, present_together, StoreView, IsStore, test, Ref, one_reference, AreFirsts, AreMadeOf, guard_at, IsFrame, AreGuards, IsGuard, by_layer, AreSettled, layer_in, Frame}
 use Rattle.sig_solve.proofs.FrameLemmas.{leader_in}
 use Rattle.sig_solve.proofs.ListLemmas.{get_at, get_is, get_within, map_length}
 use Rattle.sig_solve.proofs.OrderLemmas.{listed_signal, listed_within, signal_layer}

@@ -1,18 +1,5 @@
 -- Lemmas on the lists of a kernel's conditions: by number, and in their order.
-use Rattle.std.proofs.Common.{◌≡◌, ◌<◌, ◌≤◌, ◌+◌, ◌⊎◌, inl, inr, ℕ, Bool, true, false, cond, ltb, List, [], ◌∷◌, length, filter, refl, ap, ◌∙◌, arith, Contains, length-append}
-use Rattle.std.specs.Prelude.{zero, suc, Some, slice_get}
-use Rattle.std.proofs.lemmas.Bool.{cases_eq, cases_lt, eq-eqb, false≢true, lt-ltb, ltb-true}
-use Rattle.sig_base.specs.declared.ids.SigId.{SigId}
-use Rattle.sig_kernel.specs.declared.kernel.Kernel.{Kernel}
-use Rattle.sig_clock.specs.Clocks.{AreInOrder}
-use Rattle.sig_clock.specs.Conditions.{conditions_of}
-use Rattle.sig_clock.proofs.LayerLemmas.{one_layer}
-use Rattle.sig_clock.proofs.Lists.{contains_head, contains_later}
-use Rattle.sig_rel.specs.Systems.{AreConditions}
-use Rattle.sig_solve.specs.Frames.{IsFrame}
-use Rattle.sig_solve.specs.Orders.{by_layer, of_layer}
-use Rattle.sig_solve.specs.Rounds.{AreSettled, layer_in}
-use Rattle.sig_solve.specs.declared.frame.Frame.{Frame}
+use Rattle.sig_solve.proofs.Common.{◌≡◌, ◌<◌, ◌≤◌, ◌+◌, ◌⊎◌, inl, inr, ℕ, Bool, true, false, cond, ltb, List, [], ◌∷◌, length, filter, refl, ap, ◌∙◌, arith, Contains, length-append, zero, suc, Some, slice_get, cases_eq, cases_lt, eq-eqb, false≢true, lt-ltb, ltb-true, SigId, Kernel, AreInOrder, conditions_of, one_layer, contains_head, contains_later, AreConditions, IsFrame, by_layer, of_layer, AreSettled, layer_in, Frame}
 use Rattle.sig_solve.proofs.OrderLemmas.{by_fewer, conditions_in_order, signal_layer, sorted_at, sorted_conditions}
 use Rattle.sig_solve.proofs.ReactionLemmas.{condition_is_signal}
 use Rattle.sig_solve.proofs.RoundLemmas.{condition_listed, listed_condition}

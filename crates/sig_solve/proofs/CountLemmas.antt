@@ -1,26 +1,6 @@
 -- Lemmas on the share of solving.
-use Rattle.std.proofs.Common.{◌≡◌, ◌<◌, ◌≤◌, ◌+◌, ◌-◌, ◌*◌, ◌^◌, ◌⊎◌, inl, inr, ℕ, Bool, true, false, cond, eqb, count_by, List, [], ◌∷◌, length, filter, get_or, refl, sym, ap, ◌∙◌, subst, arith, Contains}
-use Rattle.std.specs.Prelude.{zero, suc, Result, Ok, Err, IfErr, IsErrAnd}
-use Rattle.std.specs.List.{range_with_len}
-use Rattle.std.proofs.Math.Nat.{mul-le-mul_left, mul-le-mul_right}
-use Rattle.std.proofs.Math.Pow.{pow_mono}
-use Rattle.std.proofs.lemmas.Bool.{cases_lt, false≢true}
-use Rattle.std.proofs.lemmas.List.Sums.{length-filter}
-use Rattle.sig_kernel.specs.declared.kernel.Kernel.{Kernel}
-use Rattle.sig_clock.specs.Conditions.{conditions_of, is_condition, signal_id}
-use Rattle.sig_clock.specs.SameClocks.{AreLeast}
-use Rattle.sig_dd.specs.Nodes.{StoreView, allowance}
-use Rattle.sig_dd.specs.Shares.{Share}
-use Rattle.sig_clock.proofs.Lists.{contains_head, contains_later}
-use Rattle.sig_rel.specs.Relations.{IsUnknownCount, is_boolean}
-use Rattle.sig_rel.specs.Shares.{IsRefusedFor}
-use Rattle.sig_rel.specs.declared.answer.RelAnswer.{RelAnswer}
-use Rattle.sig_rel.specs.declared.answer.RelAnswer.TheVariants.{Budget as RelationBudget, OutOfMemory as NoRelation}
-use Rattle.sig_solve.specs.Frames.{IsFrame}
-use Rattle.sig_solve.specs.declared.frame.Frame.{Frame}
-use Rattle.sig_solve.specs.Refusals.{HasNoRoom, IsFromRelation, IsWithin, calls_of, rest_of_share, share_of, store_refusal}
-use Rattle.sig_solve.specs.declared.answer.ClockAnswer.{ClockAnswer}
-use Rattle.sig_solve.specs.declared.answer.ClockAnswer.TheVariants.{Dead, MissingRoot, Unsolved, Pinned, Budget, OutOfMemory}
+use Rattle.sig_solve.proofs.Common.{◌≡◌, ◌<◌, ◌≤◌, ◌+◌, ◌-◌, ◌*◌, ◌^◌, ◌⊎◌, inl, inr, ℕ, Bool, true, false, cond, eqb, count_by, List, [], ◌∷◌, length, filter, get_or, refl, sym, ap, ◌∙◌, subst, arith, Contains, zero, suc, Result, Ok, Err, IfErr, IsErrAnd, range_with_len, mul-le-mul_left, mul-le-mul_right, pow_mono, cases_lt, false≢true, length-filter, Kernel, conditions_of, is_condition, signal_id, AreLeast, StoreView, allowance, Share, contains_head, contains_later, IsUnknownCount, is_boolean, IsRefusedFor, RelAnswer, RelationBudget, NoRelation, IsFrame, Frame, HasNoRoom, IsFromRelation, IsWithin, calls_of, rest_of_share, share_of, store_refusal, ClockAnswer, Dead, MissingRoot, Unsolved, Pinned}
+use Rattle.sig_solve.specs.declared.answer.ClockAnswer.TheVariants.{Budget, OutOfMemory}
 use Rattle.sig_solve.proofs.ListLemmas.{map_length, of_range}
 use Rattle.sig_solve.proofs.FrameLemmas.{leader_in}
 use Rattle.sig_solve.proofs.ReactionLemmas.{condition_is_boolean}

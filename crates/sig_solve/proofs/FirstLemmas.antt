@@ -1,12 +1,5 @@
 -- Lemmas on the first signals of classes.
-use Rattle.std.proofs.Common.{◌≡◌, ◌<◌, ◌≤◌, ◌+◌, ◌⊎◌, inl, inr, ℕ, List, [], ◌∷◌, ◌++◌, length, take, get_or, refl, sym, ap, ◌∙◌, subst, arith, Contains}
-use Rattle.std.specs.Prelude.{Some, slice_get}
-use Rattle.std.proofs.lemmas.Bool.{cases_eq}
-use Rattle.sig_base.specs.declared.ids.SigId.{SigId}
-use Rattle.sig_clock.proofs.Lists.{contains_none}
-use Rattle.sig_dd.specs.declared.node.Ref.{Ref}
-use Rattle.sig_solve.specs.Classes.{AreClasses, AreFirsts, IsPlace, Precedes, guard_at}
-use Rattle.sig_solve.specs.declared.frame.Frame.{Frame}
+use Rattle.sig_solve.proofs.Common.{◌≡◌, ◌<◌, ◌≤◌, ◌+◌, ◌⊎◌, inl, inr, ℕ, List, [], ◌∷◌, ◌++◌, length, take, get_or, refl, sym, ap, ◌∙◌, subst, arith, Contains, Some, slice_get, cases_eq, SigId, contains_none, Ref, AreClasses, AreFirsts, IsPlace, Precedes, guard_at, Frame}
 use Rattle.sig_solve.proofs.ListLemmas.{get_at, get_beyond, get_first, get_is, get_last, get_within}
 use Rattle.sig_solve.proofs.PinnedLemmas.{get_take}
 use Rattle.sig_solve.proofs.TruthLemmas.{contains_before, contains_end, contains_last}

@@ -1,11 +1,5 @@
 -- Lemmas on frames and their leaders.
-use Rattle.std.proofs.Common.{◌≡◌, ◌<◌, ℕ, eqb, List, length, get_or, sym, subst, arith, Contains}
-use Rattle.std.specs.List.{range_with_len}
-use Rattle.std.proofs.lemmas.Bool.{eq-eqb, eqb-true}
-use Rattle.sig_kernel.specs.declared.kernel.Kernel.{Kernel}
-use Rattle.sig_clock.specs.SameClocks.{AreLeast, itself, joined}
-use Rattle.sig_solve.specs.Frames.{IsFrame}
-use Rattle.sig_solve.specs.declared.frame.Frame.{Frame}
+use Rattle.sig_solve.proofs.Common.{◌≡◌, ◌<◌, ℕ, eqb, List, length, get_or, sym, subst, arith, Contains, range_with_len, eq-eqb, eqb-true, Kernel, AreLeast, itself, joined, IsFrame, Frame}
 use Rattle.sig_solve.proofs.ListLemmas.{in_filter, in_range, of_filter, of_range}
 
 -- the least signal of a class is its own least signal

@@ -1,31 +1,5 @@
 -- Lemmas on free systems: what their truths read off.
-use Rattle.std.proofs.Common.{◌≡◌, ◌≢◌, ◌<◌, ◌≤◌, ◌↔◌, inl, inr, ℕ, Bool, true, false, eqb, not, List, [], ◌∷◌, length, map, get_or, refl, sym, ap, ◌∙◌, subst, arith, Contains}
-use Rattle.std.specs.Prelude.{zero, suc, None, Some, slice_get, is_some}
-use Rattle.std.specs.List.{list_any, range_with_len}
-use Rattle.std.proofs.lemmas.List.FromFn.{get_or-range_with_len, length-range_with_len}
-use Rattle.std.proofs.lemmas.Bool.{cases_eq, eq-eqb, eqb-true, false≢true}
-use Rattle.sig_base.specs.declared.ids.SigId.{SigId}
-use Rattle.sig_kernel.specs.declared.kernel.Kernel.{Kernel}
-use Rattle.sig_clock.specs.ClockFunctions.{Allows, KeepsTo}
-use Rattle.sig_clock.specs.Conditions.{is_condition, signal_id}
-use Rattle.sig_clock.specs.Layers.{AgreeOn, EntersBy, HasLayer, IsDetermined, IsEarlier}
-use Rattle.sig_clock.specs.Pinned.{IsFree}
-use Rattle.sig_clock.specs.Reactions.{IsReaction, Reaction, Status, Speaks, is_present, is_silent, status_at}
-use Rattle.sig_clock.proofs.LayerLemmas.{enters_stays, one_layer}
-use Rattle.sig_clock.proofs.ReactionLemmas.{absent_in_silence}
-use Rattle.sig_dd.specs.Diagram.{Depends, truth_of, with_truth}
-use Rattle.sig_dd.specs.Nodes.{StoreView, IsStore, test}
-use Rattle.sig_dd.specs.declared.node.Node.{Node}
-use Rattle.sig_dd.specs.declared.node.Ref.{Ref}
-use Rattle.sig_dd.proofs.Trees.{truth_of-with_same, truth_of-with_other}
-use Rattle.sig_dd.proofs.Walks.{depends_agree}
-use Rattle.sig_clock.proofs.Lists.{at_contained}
-use Rattle.sig_rel.specs.Systems.{AreConditions, IsFreeSystem, IsOver, IsSolution, IsSystem, SystemView, reading}
-use Rattle.sig_solve.specs.Frames.{IsAmong, IsFrame}
-use Rattle.sig_solve.specs.Free.{IsFreeIn, is_unknown, is_unknown_to}
-use Rattle.sig_solve.specs.Guards.{AreGuards}
-use Rattle.sig_solve.specs.Rounds.{AreEntered, IsOpenAnswer}
-use Rattle.sig_solve.specs.declared.frame.Frame.{Frame}
+use Rattle.sig_solve.proofs.Common.{◌≡◌, ◌≢◌, ◌<◌, ◌≤◌, ◌↔◌, inl, inr, ℕ, Bool, true, false, eqb, not, List, [], ◌∷◌, length, map, get_or, refl, sym, ap, ◌∙◌, subst, arith, Contains, zero, suc, None, Some, slice_get, is_some, list_any, range_with_len, get_or-range_with_len, length-range_with_len, cases_eq, eq-eqb, eqb-true, false≢true, SigId, Kernel, Allows, KeepsTo, is_condition, signal_id, AgreeOn, EntersBy, HasLayer, IsDetermined, IsEarlier, IsFree, IsReaction, Reaction, Status, Speaks, is_present, is_silent, status_at, enters_stays, one_layer, absent_in_silence, Depends, truth_of, with_truth, StoreView, IsStore, test, Node, Ref, truth_of-with_same, truth_of-with_other, depends_agree, at_contained, AreConditions, IsFreeSystem, IsOver, IsSolution, IsSystem, SystemView, reading, IsAmong, IsFrame, IsFreeIn, is_unknown, is_unknown_to, AreGuards, AreEntered, IsOpenAnswer, Frame}
 use Rattle.sig_solve.proofs.FrameLemmas.{leader_is}
 use Rattle.sig_solve.proofs.ListLemmas.{any_is, contains_get, get_at, get_within, is_any}
 use Rattle.sig_solve.proofs.ReactionLemmas.{condition_is_signal}

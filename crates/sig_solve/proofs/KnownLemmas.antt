@@ -1,14 +1,5 @@
 -- Lemmas on known conditions, and on the variables that are forgotten beside their proposals.
-use Rattle.std.proofs.Common.{◌≡◌, ◌≢◌, ◌<◌, ◌+◌, inl, inr, ℕ, Bool, true, false, eqb, List, length, set, replicate, refl, sym, ap, ◌∙◌, subst, arith, Contains, get_or-set_same, get_or-set_other}
-use Rattle.std.specs.Prelude.{Some, slice_get}
-use Rattle.std.specs.List.{list_any}
-use Rattle.std.proofs.Math.ListN.{length-set}
-use Rattle.std.proofs.lemmas.Bool.{cases_eq, eq-eqb, eqb-true, false≢true}
-use Rattle.std.proofs.lemmas.List.{get_or-replicate, length-replicate}
-use Rattle.sig_base.specs.declared.ids.SigId.{SigId}
-use Rattle.sig_dd.specs.Diagram.{truth_of}
-use Rattle.sig_rel.specs.Systems.{SystemView}
-use Rattle.sig_solve.specs.Asked.{AreProposed, ForgetsAllBut, IsProposalOf}
+use Rattle.sig_solve.proofs.Common.{◌≡◌, ◌≢◌, ◌<◌, ◌+◌, inl, inr, ℕ, Bool, true, false, eqb, List, length, set, replicate, refl, sym, ap, ◌∙◌, subst, arith, Contains, get_or-set_same, get_or-set_other, Some, slice_get, list_any, length-set, cases_eq, eq-eqb, eqb-true, false≢true, get_or-replicate, length-replicate, SigId, truth_of, SystemView, AreProposed, ForgetsAllBut, IsProposalOf}
 use Rattle.sig_solve.proofs.ListLemmas.{any_is, get_within, is_any}
 
 -- a condition is among others

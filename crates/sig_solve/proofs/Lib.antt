@@ -1,3 +1,4 @@
+pub mod Common
 pub mod ListLemmas
 pub mod TruthLemmas
 pub mod StoreLemmas
@@ -24,3 +25,34 @@ pub mod TriangleLemmas
 pub mod ConditionLists
 pub mod RoomLemmas
 pub mod AwaitingLemmas
+pub mod NothingKnown
+unfoldable pub use Common.*
+pub use AskedGuards.*
+pub use AskedLemmas.*
+pub use AskedPinned.*
+pub use AwaitingLemmas.*
+pub use ClassLemmas.*
+pub use ConditionLists.*
+pub use CountLemmas.*
+pub use FirstLemmas.*
+pub use FrameLemmas.*
+pub use FreeLemmas.*
+pub use KnownLemmas.*
+pub use ListLemmas.*
+pub use NothingKnown.*
+pub use OrderLemmas.*
+pub use PinnedLemmas.*
+pub use ReactionLemmas.*
+pub use RoomLemmas.*
+pub use RootLemmas.*
+pub use RoundLemmas.*
+pub use SolveLemmas.*
+pub use StoreLemmas.*
+pub use SystemLemmas.*
+pub use SystemRooms.*
+pub use TriangleLemmas.*
+pub use WalkLemmas.*
+pub use Rattle.sig_solve.proofs.FreeLemmas.{number_of, speaks_read}
+pub use Rattle.sig_solve.proofs.ListLemmas.{in_range}
+pub use Rattle.sig_solve.proofs.RoundLemmas.{conditions_few}
+pub use Rattle.sig_solve.proofs.SystemLemmas.{presence_at, presence_over, presence_read}

@@ -1,12 +1,5 @@
 -- Lemmas on lists: what a filter keeps, and one more element.
-use Rattle.std.proofs.Common.{◌≡◌, ◌≢◌, ◌<◌, ◌+◌, ◌⊎◌, inl, inr, ℕ, Bool, true, false, cond, eqb, List, [], ◌∷◌, ◌++◌, length, map, get_or, get_or-set_same, get_or-set_other, set, take, refl, sym, ap, ◌∙◌, subst, arith, Contains}
-use Rattle.std.specs.Prelude.{zero, suc, filter, Option, None, Some, slice_get, ◌||◌}
-use Rattle.std.specs.List.{list_any, range_with_len}
-use Rattle.std.proofs.Math.ListN.{length-set}
-use Rattle.std.proofs.lemmas.Bool.{cases_eq, eqb-true, false≢true}
-use Rattle.std.proofs.lemmas.List.{append-nil, get_or_append_left, get_or_push, take_more}
-use Rattle.std.proofs.lemmas.List.Elements.{filter-append}
-use Rattle.sig_clock.proofs.Lists.{contains_cons, contains_head, contains_later, contains_none, range_from_zero}
+use Rattle.sig_solve.proofs.Common.{◌≡◌, ◌≢◌, ◌<◌, ◌+◌, ◌⊎◌, inl, inr, ℕ, Bool, true, false, cond, eqb, List, [], ◌∷◌, ◌++◌, length, map, get_or, get_or-set_same, get_or-set_other, set, take, refl, sym, ap, ◌∙◌, subst, arith, Contains, zero, suc, filter, Option, None, Some, slice_get, ◌||◌, list_any, range_with_len, length-set, cases_eq, eqb-true, false≢true, append-nil, get_or_append_left, get_or_push, take_more, filter-append, contains_cons, contains_head, contains_later, contains_none, range_from_zero}
 
 pub filter_keeps : {X : Type 0} (p : X → Bool) (xs : List X) (x : X) → p x ≡ true → filter p (xs ++ x ∷ []) ≡ filter p xs ++ x ∷ []
 filter_keeps p xs x is = filter-append p xs (x ∷ []) ∙ ap (λ b. filter p xs ++ cond b (x ∷ []) []) is

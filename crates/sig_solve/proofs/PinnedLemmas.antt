@@ -1,17 +1,5 @@
 -- Lemmas on pinned conditions.
-use Rattle.std.proofs.Common.{◌≡◌, ◌<◌, ◌⊎◌, inl, inr, ℕ, true, List, [], ◌∷◌, length, length-take, take, refl, sym, ap, ◌∙◌, subst, arith}
-use Rattle.std.specs.Prelude.{zero, suc, None, Some, slice_get}
-use Rattle.std.proofs.lemmas.Bool.{cases_order}
-use Rattle.sig_base.specs.declared.ids.SigId.{SigId}
-use Rattle.sig_kernel.specs.declared.kernel.Kernel.{Kernel}
-use Rattle.sig_clock.specs.Clocks.{AreInOrder}
-use Rattle.sig_clock.specs.Conditions.{is_condition, signal_id}
-use Rattle.sig_clock.specs.Layers.{IsEarlier}
-use Rattle.sig_clock.specs.Pinned.{IsFree, IsPinned}
-use Rattle.sig_clock.proofs.LayerLemmas.{one_layer}
-use Rattle.sig_solve.specs.Answers.{FindsPinned}
-use Rattle.sig_solve.specs.Frames.{IsAmong}
-use Rattle.sig_solve.specs.Orders.{IsFreeBy, IsPinnedBy}
+use Rattle.sig_solve.proofs.Common.{◌≡◌, ◌<◌, ◌⊎◌, inl, inr, ℕ, true, List, [], ◌∷◌, length, length-take, take, refl, sym, ap, ◌∙◌, subst, arith, zero, suc, None, Some, slice_get, cases_order, SigId, Kernel, AreInOrder, is_condition, signal_id, IsEarlier, IsFree, IsPinned, one_layer, FindsPinned, IsAmong, IsFreeBy, IsPinnedBy}
 use Rattle.sig_solve.proofs.ListLemmas.{contains_get, get_at}
 
 -- the conditions before a place are the earlier ones

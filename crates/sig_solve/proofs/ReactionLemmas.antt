@@ -1,12 +1,5 @@
 -- Lemmas on conditions as signals.
-use Rattle.std.proofs.Common.{◌≡◌, ◌<◌, ℕ, true, List, [], ◌∷◌, length, arith}
-use Rattle.std.specs.Prelude.{zero, suc, slice_get}
-use Rattle.std.proofs.lemmas.Bool.{and_parts, false≢true}
-use Rattle.sig_base.specs.declared.signal.Signal.{Signal}
-use Rattle.sig_kernel.specs.Table.{kind_at, kind_of}
-use Rattle.sig_kernel.specs.declared.kernel.Kernel.{Kernel}
-use Rattle.sig_clock.specs.Conditions.{is_condition, is_free, signal_id}
-use Rattle.sig_clock.specs.Reactions.{is_boolean_kind}
+use Rattle.sig_solve.proofs.Common.{◌≡◌, ◌<◌, ℕ, true, List, [], ◌∷◌, length, arith, zero, suc, slice_get, and_parts, false≢true, Signal, kind_at, kind_of, Kernel, is_condition, is_free, signal_id, is_boolean_kind}
 
 signal_at : (signals : List Signal) (k : ℕ) → is_boolean_kind (kind_of (slice_get signals k)) ≡ true → k < length signals
 signal_at [] k is = absurd (false≢true is)

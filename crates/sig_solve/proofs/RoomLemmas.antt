@@ -1,17 +1,7 @@
 -- Lemmas on the room of a triangular kernel's systems.
-use Rattle.std.proofs.Common.{◌≡◌, ◌≤◌, ◌+◌, ◌*◌, ◌^◌, inl, inr, ℕ, length, refl, sym, subst, arith}
-use Rattle.std.specs.Prelude.{Result, Ok, Err, IfErr, IsErrAnd}
-use Rattle.sig_kernel.specs.declared.kernel.Kernel.{Kernel}
-use Rattle.sig_dd.specs.Nodes.{StoreView}
-use Rattle.sig_dd.specs.declared.answer.DdAnswer.{DdAnswer}
-use Rattle.sig_dd.specs.declared.answer.DdAnswer.TheVariants.{Budget as StoreBudget, OutOfMemory as NoMemory}
-use Rattle.sig_clock.specs.Conditions.{conditions_of}
-use Rattle.sig_rel.specs.Shares.{IsRefusedFor, KeepsToShare, KeepsToTriangularShare, triangular_share_of as system_share_of}
-use Rattle.sig_rel.specs.Triangles.{IsTriangular}
-use Rattle.sig_rel.specs.declared.answer.RelAnswer.{RelAnswer}
-use Rattle.sig_solve.specs.Refusals.{HasNoRoom, IsFromRelation, IsFromStore, IsSystemRoom, IsWithin, triangular_share_of}
-use Rattle.sig_solve.specs.declared.answer.ClockAnswer.{ClockAnswer}
-use Rattle.sig_solve.specs.declared.answer.ClockAnswer.TheVariants.{Dead, MissingRoot, Unsolved, Pinned, Budget, OutOfMemory}
+use Rattle.sig_solve.proofs.Common.{◌≡◌, ◌≤◌, ◌+◌, ◌*◌, ◌^◌, inl, inr, ℕ, length, refl, sym, subst, arith, Result, Ok, Err, IfErr, IsErrAnd, Kernel, StoreView, DdAnswer, Budget as StoreBudget, OutOfMemory as NoMemory, conditions_of, IsRefusedFor, KeepsToShare, KeepsToTriangularShare, triangular_share_of as system_share_of, IsTriangular, RelAnswer, HasNoRoom, IsFromRelation, IsFromStore, IsSystemRoom, IsWithin, ClockAnswer, Dead, MissingRoot, Unsolved, Pinned}
+use Rattle.sig_solve.specs.Refusals.{triangular_share_of}
+use Rattle.sig_solve.specs.declared.answer.ClockAnswer.TheVariants.{Budget, OutOfMemory}
 use Rattle.sig_solve.proofs.CountLemmas.{within_equal, within_relation}
 
 module _ {T : Type 0} (kernel : Kernel) (room : ℕ) (is : IsSystemRoom kernel room) (triangular : IsTriangular kernel) (old new : StoreView) (result : Result T RelAnswer)

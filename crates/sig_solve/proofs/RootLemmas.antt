@@ -1,24 +1,5 @@
 -- Lemmas on roots, and on signals that are met in a part of the solutions.
-use Rattle.std.proofs.Common.{◌≡◌, ◌<◌, ◌≤◌, ◌⊎◌, inl, inr, ◌↔◌, ℕ, Bool, true, false, not, eqb, List, [], ◌∷◌, length, get_or, refl, sym, ap, ◌∙◌, subst, arith, Contains, IsTrue}
-use Rattle.std.specs.Prelude.{zero, suc, None, Some}
-use Rattle.std.specs.List.{AllPairs, range_with_len}
-use Rattle.std.proofs.lemmas.Bool.{cases_eq, cases_lt, false≢true}
-use Rattle.std.proofs.lemmas.List.{get_or_default}
-use Rattle.std.proofs.lemmas.List.Kept.{AllPairs-filter}
-use Rattle.std.proofs.lemmas.List.FromFn.{get_or-range_with_len, length-range_with_len}
-use Rattle.sig_kernel.specs.declared.kernel.Kernel.{Kernel}
-use Rattle.sig_clock.specs.SameClocks.{itself}
-use Rattle.sig_clock.specs.ClockRefusals.{HasNoRoot, IsLeast, IsMissingRoot}
-use Rattle.sig_clock.specs.Layers.{IsRoot}
-use Rattle.sig_clock.specs.Reactions.{Reaction, Speaks, is_present, is_silent}
-use Rattle.sig_dd.specs.Nodes.{StoreView, Implies, Overlap, test}
-use Rattle.sig_dd.specs.declared.node.Ref.{Ref}
-use Rattle.sig_rel.specs.Systems.{IsSolution, reading}
-use Rattle.sig_rel.proofs.ChosenTruths.{all_statuses}
-use Rattle.sig_solve.specs.Asked.{IsAskedIn, IsMet}
-use Rattle.sig_solve.specs.Frames.{IsFrame, leaders_of}
-use Rattle.sig_solve.specs.declared.frame.Frame.{Frame}
-use Rattle.sig_solve.specs.declared.asked.Asked.{Asked}
+use Rattle.sig_solve.proofs.Common.{◌≡◌, ◌<◌, ◌≤◌, ◌⊎◌, inl, inr, ◌↔◌, ℕ, Bool, true, false, not, eqb, List, [], ◌∷◌, length, get_or, refl, sym, ap, ◌∙◌, subst, arith, Contains, IsTrue, zero, suc, None, Some, AllPairs, range_with_len, cases_eq, cases_lt, false≢true, get_or_default, AllPairs-filter, get_or-range_with_len, length-range_with_len, Kernel, itself, HasNoRoot, IsLeast, IsMissingRoot, IsRoot, Reaction, Speaks, is_present, is_silent, StoreView, Implies, Overlap, test, Ref, IsSolution, reading, all_statuses, IsAskedIn, IsMet, IsFrame, leaders_of, Frame, Asked}
 use Rattle.sig_solve.proofs.FrameLemmas.{leader_in, leader_is, least_below}
 use Rattle.sig_solve.proofs.SystemLemmas.{presence_at, presence_read}
 

@@ -1,30 +1,10 @@
 -- Lemmas on rounds.
-use Rattle.std.proofs.Common.{◌≡◌, ◌≢◌, ◌<◌, ◌≤◌, ◌+◌, ◌⊎◌, inl, inr, ℕ, Bool, true, eqb, count_by, List, [], ◌∷◌, ◌++◌, length, get_or, set, drop, drop-cons, replicate, filter, sym, ap, ◌∙◌, subst, arith, Contains, get_or-set_same, get_or-set_other}
-use Rattle.std.specs.Prelude.{zero, suc}
-use Rattle.std.proofs.Math.ListN.{length-set}
-use Rattle.std.proofs.lemmas.Bool.{cases_eq, cases_lt, lt-ltb, ltb-true}
-use Rattle.std.specs.List.{range_with_len}
-use Rattle.std.proofs.lemmas.List.{get_or-replicate, length-replicate, length_push}
-use Rattle.std.proofs.lemmas.List.FromFn.{length-range_with_len}
-use Rattle.std.proofs.lemmas.List.Sums.{count_by-le-length, length-filter}
-use Rattle.std.proofs.lemmas.List.Quantifiers.{all_pairs_push}
-use Rattle.sig_base.specs.declared.ids.SigId.{SigId}
-use Rattle.sig_kernel.specs.declared.kernel.Kernel.{Kernel}
-use Rattle.sig_clock.specs.Conditions.{conditions_of, is_condition, signal_id}
-use Rattle.sig_clock.specs.Layers.{EntersBy, HasLayer, IsDetermined}
-use Rattle.sig_clock.specs.SameClocks.{SameClock, turned}
-use Rattle.sig_clock.proofs.LayerLemmas.{enters_stays}
-use Rattle.sig_clock.proofs.ReactionLemmas.{present_together}
-use Rattle.sig_clock.proofs.Lists.{contains_cons, contains_head, contains_later, contains_none}
-use Rattle.sig_solve.specs.Frames.{IsAmong}
-use Rattle.sig_solve.specs.Rounds.{AreEntered, AreIncreasing, ArePassed, AreRounds, AreSettled, has_entered}
-use Rattle.sig_solve.specs.declared.frame.Frame.{Frame}
+use Rattle.sig_solve.proofs.Common.{◌≡◌, ◌≢◌, ◌<◌, ◌≤◌, ◌+◌, ◌⊎◌, inl, inr, ℕ, Bool, true, eqb, count_by, List, [], ◌∷◌, ◌++◌, length, get_or, set, drop, drop-cons, replicate, filter, sym, ap, ◌∙◌, subst, arith, Contains, get_or-set_same, get_or-set_other, zero, suc, length-set, cases_eq, cases_lt, lt-ltb, ltb-true, range_with_len, get_or-replicate, length-replicate, length_push, length-range_with_len, count_by-le-length, length-filter, all_pairs_push, SigId, Kernel, conditions_of, is_condition, signal_id, EntersBy, HasLayer, IsDetermined, SameClock, turned, enters_stays, present_together, contains_cons, contains_head, contains_later, contains_none, IsAmong, AreEntered, AreIncreasing, ArePassed, AreRounds, AreSettled, has_entered, Frame, IsFrame}
 use Rattle.sig_solve.proofs.TruthLemmas.{contains_before, contains_end, contains_last}
 use Rattle.sig_solve.proofs.FrameLemmas.{leader_in, leader_is}
 use Rattle.sig_solve.proofs.ListLemmas.{in_filter, in_map, in_range, map_length, of_filter, of_map}
 use Rattle.sig_solve.proofs.ReactionLemmas.{condition_is_signal}
 use Rattle.sig_solve.proofs.RootLemmas.{ordered_leaders}
-use Rattle.sig_solve.specs.Frames.{IsFrame}
 
 -- signals of one clock enter together
 pub enters_same : (kernel : Kernel) (round s t : ℕ) → SameClock kernel s t → EntersBy kernel round s → EntersBy kernel round t

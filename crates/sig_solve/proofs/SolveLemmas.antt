@@ -1,22 +1,7 @@
 -- Lemmas on the steps of solving.
-use Rattle.std.proofs.Common.{◌≡◌, ◌≤◌, ◌+◌, ℕ, List, [], ◌∷◌, length, sym, ap, subst, arith}
-use Rattle.std.specs.Prelude.{Some, Result, Ok, Err, IfOk, IsErrAnd, slice_get}
-use Rattle.sig_base.specs.declared.ids.SigId.{SigId}
-use Rattle.sig_clock.specs.ClockRefusals.{AreSolved, HasRoot, IsFirstPinned, IsUnsolved}
-use Rattle.sig_clock.specs.Conditions.{conditions_of}
-use Rattle.sig_dd.specs.Nodes.{StoreView}
-use Rattle.sig_rel.specs.Relations.{IsUnknownCount}
+use Rattle.sig_solve.proofs.Common.{◌≡◌, ◌≤◌, ◌+◌, ℕ, List, [], ◌∷◌, length, sym, ap, subst, arith, Some, Result, Ok, Err, IfOk, IsErrAnd, slice_get, SigId, AreSolved, HasRoot, IsFirstPinned, IsUnsolved, conditions_of, StoreView, IsUnknownCount, Share, DdAnswer, Budget as StoreBudget, OutOfMemory as NoMemory, FindsPinned, IsFrame, HasNoRoom, IsFromStore, IsWithin, calls_of, rest_of_share, store_refusal, AreSettled, layer_in, ClockAnswer, Frame}
 use Rattle.sig_solve.specs.declared.answer.ClockAnswer.TheVariants.{OutOfMemory}
 use Rattle.sig_solve.proofs.CountLemmas.{calls_fit, classes_and_conditions, some_class, within_of_share}
-use Rattle.sig_dd.specs.Shares.{Share}
-use Rattle.sig_dd.specs.declared.answer.DdAnswer.{DdAnswer}
-use Rattle.sig_dd.specs.declared.answer.DdAnswer.TheVariants.{Budget as StoreBudget, OutOfMemory as NoMemory}
-use Rattle.sig_solve.specs.Answers.{FindsPinned}
-use Rattle.sig_solve.specs.Frames.{IsFrame}
-use Rattle.sig_solve.specs.Refusals.{HasNoRoom, IsFromStore, IsWithin, calls_of, rest_of_share, store_refusal}
-use Rattle.sig_solve.specs.Rounds.{AreSettled, layer_in}
-use Rattle.sig_solve.specs.declared.answer.ClockAnswer.{ClockAnswer}
-use Rattle.sig_solve.specs.declared.frame.Frame.{Frame}
 use Rattle.sig_solve.proofs.OrderLemmas.{signal_layer, unsolved_first}
 use Rattle.sig_solve.proofs.ReactionLemmas.{condition_is_signal}
 

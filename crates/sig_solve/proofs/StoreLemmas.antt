@@ -1,15 +1,5 @@
 -- Lemmas on calls of a store, one after another.
-use Rattle.std.proofs.Common.{◌≡◌, ◌<◌, ◌≤◌, ◌+◌, ◌*◌, ℕ, Bool, List, get_or, inl, inr, refl, sym, subst, arith}
-use Rattle.std.specs.Prelude.{Option, None, Some, Result, Ok, Err, IsErrAnd}
-use Rattle.std.proofs.lemmas.Bool.{cases_eq}
-use Rattle.std.proofs.Math.Nat.{mul-le-mul_left, mul-le-mul_right}
-use Rattle.sig_dd.specs.Nodes.{StoreView, Holds, Keeps, allowance, test}
-use Rattle.sig_dd.specs.Shares.{Share, refusal}
-use Rattle.sig_dd.specs.declared.answer.DdAnswer.{DdAnswer}
-use Rattle.sig_dd.specs.declared.answer.DdAnswer.TheVariants.{Budget, OutOfMemory}
-use Rattle.sig_dd.specs.declared.node.Ref.{Ref}
-use Rattle.sig_dd.proofs.Adding.{Share-none, Share-then, Share-wider, refusal_is}
-use Rattle.sig_dd.proofs.CallerLemmas.{Agree-kept}
+use Rattle.sig_solve.proofs.Common.{◌≡◌, ◌<◌, ◌≤◌, ◌+◌, ◌*◌, ℕ, Bool, List, get_or, inl, inr, refl, sym, subst, arith, Option, None, Some, Result, Ok, Err, IsErrAnd, cases_eq, mul-le-mul_left, mul-le-mul_right, StoreView, Holds, Keeps, allowance, test, Share, refusal, DdAnswer, Budget, OutOfMemory, Ref, Share-none, Share-then, Share-wider, refusal_is, Agree-kept}
 
 -- older truths stay
 pub older_test : (old new : StoreView) → Keeps old new → (f : Ref) → Holds old.nodes f → (truths : List Bool) → test new.nodes f truths ≡ test old.nodes f truths

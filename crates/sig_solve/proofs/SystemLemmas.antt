@@ -1,20 +1,5 @@
 -- Lemmas on systems: what their truths read off.
-use Rattle.std.proofs.Common.{◌≡◌, ◌<◌, ℕ, Bool, true, false, List, [], ◌∷◌, length, map, get_or, refl, sym, ap, ◌∙◌, subst, arith, Contains}
-use Rattle.std.specs.Prelude.{zero, suc, None, Some, slice_get, is_some, if◌then◌else◌}
-use Rattle.std.proofs.lemmas.List.FromFn.{get_or-range_with_len, length-range_with_len}
-use Rattle.sig_base.specs.declared.ids.SigId.{SigId}
-use Rattle.sig_kernel.specs.declared.kernel.Kernel.{Kernel}
-use Rattle.sig_clock.specs.ClockFunctions.{Allows, KeepsTo}
-use Rattle.sig_clock.specs.Reactions.{Speaks, is_present, status_at}
-use Rattle.sig_dd.specs.Diagram.{truth_of, with_truth}
-use Rattle.sig_dd.specs.Nodes.{IsStore, Keeps, StoreView, test}
-use Rattle.sig_dd.specs.declared.node.Node.{Node}
-use Rattle.sig_dd.specs.declared.node.Ref.{Ref}
-use Rattle.sig_dd.proofs.CallerLemmas.{Holds-kept}
-use Rattle.sig_dd.proofs.Walks.{depends_agree}
-use Rattle.sig_rel.specs.Systems.{IsOver, IsSolution, IsSystem, IsVariable, SystemView, proposed, reading, status_read, statuses_read}
-use Rattle.sig_rel.proofs.UsedLemmas.{in_range}
-use Rattle.sig_solve.specs.Asked.{variables_of}
+use Rattle.sig_solve.proofs.Common.{◌≡◌, ◌<◌, ℕ, Bool, true, false, List, [], ◌∷◌, length, map, get_or, refl, sym, ap, ◌∙◌, subst, arith, Contains, zero, suc, None, Some, slice_get, is_some, if◌then◌else◌, get_or-range_with_len, length-range_with_len, SigId, Kernel, Allows, KeepsTo, Speaks, is_present, status_at, truth_of, with_truth, IsStore, Keeps, StoreView, test, Node, Ref, Holds-kept, depends_agree, IsOver, IsSolution, IsSystem, IsVariable, SystemView, proposed, reading, status_read, statuses_read, in_range, variables_of}
 use Rattle.sig_solve.proofs.ListLemmas.{get_at}
 use Rattle.sig_solve.proofs.StoreLemmas.{older_test}
 

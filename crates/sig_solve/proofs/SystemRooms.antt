@@ -1,23 +1,7 @@
 -- Lemmas on the two shares of a triangular kernel's system: that over its conditions is within that over its unknowns.
-use Rattle.std.proofs.Common.{◌≡◌, ◌≤◌, ◌+◌, ◌*◌, ◌^◌, ℕ, zero, suc, Bool, true, cond, List, [], ◌∷◌, length, sym, ap, ◌∙◌, subst, inl, inr, arith, Contains}
-use Rattle.std.proofs.Math.Nat.{mul-le-mul_left, mul-le-mul_right}
-use Rattle.std.proofs.Math.Pow.{pow_mono}
-use Rattle.std.proofs.lemmas.Bool.{eq-eqb}
-use Rattle.std.proofs.lemmas.List.Sums.{sum_by-cons}
-use Rattle.std.specs.Prelude.{Result, Ok, Err, IfErr, IsErrAnd, count_by, ◌==◌, slice_index}
-use Rattle.std.specs.List.{range_with_len}
-use Rattle.sig_kernel.specs.declared.kernel.Kernel.{Kernel}
-use Rattle.sig_dd.specs.Nodes.{StoreView}
-use Rattle.sig_clock.specs.Conditions.{conditions_of}
-use Rattle.sig_clock.proofs.Lists.{contains_cons, contains_none}
-use Rattle.sig_rel.specs.Relations.{IsUnknownCount}
-use Rattle.sig_rel.specs.Shares.{IsRefusedFor, KeepsToShare, KeepsToTriangularShare, share_of, triangular_share_of}
-use Rattle.sig_rel.specs.Triangles.{IsTriangular}
-use Rattle.sig_rel.specs.declared.elements.Element.TheVariants.{Presence}
-use Rattle.sig_rel.specs.declared.answer.RelAnswer.{RelAnswer}
+use Rattle.sig_solve.proofs.Common.{◌≡◌, ◌≤◌, ◌+◌, ◌*◌, ◌^◌, ℕ, zero, suc, Bool, true, cond, List, [], ◌∷◌, length, sym, ap, ◌∙◌, subst, inl, inr, arith, Contains, mul-le-mul_left, mul-le-mul_right, pow_mono, eq-eqb, sum_by-cons, Result, Ok, Err, IfErr, IsErrAnd, count_by, ◌==◌, slice_index, range_with_len, Kernel, StoreView, conditions_of, contains_cons, contains_none, IsUnknownCount, IsRefusedFor, KeepsToShare, KeepsToTriangularShare, triangular_share_of, IsTriangular, Presence, RelAnswer, conditions_few, in_range, one_least}
+use Rattle.sig_rel.specs.Shares.{share_of}
 use Rattle.sig_rel.specs.declared.answer.RelAnswer.TheVariants.{Budget, OutOfMemory}
-use Rattle.sig_rel.proofs.FreeSystems.{conditions_few}
-use Rattle.sig_rel.proofs.UsedLemmas.{in_range, one_least}
 use Rattle.sig_solve.proofs.ListLemmas.{contains_get}
 
 -- ---- a triangular kernel has an unknown, that of its top

@@ -1,22 +1,5 @@
 -- The first class of a triangular kernel's list is a root.
-use Rattle.std.proofs.Common.{◌≡◌, ◌<◌, ◌⊎◌, inl, inr, ℕ, true, false, List, [], ◌∷◌, length, take, get_or, refl, sym, ap, ◌∙◌, subst, arith, Contains}
-use Rattle.std.specs.Prelude.{zero, suc, Option, None, Some, option_map, slice_get, is_some}
-use Rattle.std.proofs.lemmas.Bool.{and_parts, false≢true, ltb-true}
-use Rattle.sig_kernel.specs.Validity.{IsValid}
-use Rattle.sig_kernel.specs.declared.equation.Equation.{Equation}
-use Rattle.sig_kernel.specs.declared.equation.Form.{Form}
-use Rattle.sig_kernel.specs.declared.equation.Form.TheVariants.{Fun, Delay, When, WhenConst, Default, Sync, Event}
-use Rattle.sig_kernel.specs.declared.kernel.Kernel.{Kernel}
-use Rattle.sig_clock.specs.Layers.{IsRoot}
-use Rattle.sig_clock.specs.Reactions.{IsReaction, Reaction, Status, is_present, is_silent, meets, or_else, status_at, where_true}
-use Rattle.sig_clock.specs.SameClocks.{AreLeast}
-use Rattle.sig_clock.proofs.Lists.{at_contained, contains_head, contains_later}
-use Rattle.sig_clock.proofs.ReactionLemmas.{present_together, statuses_are_same}
-use Rattle.sig_rel.specs.Triangles.{AreClassesInOrder, Governs, IsTriangle, IsTriangular, MayStand, classes_among, form_at, operand_signals}
-use Rattle.sig_rel.specs.declared.elements.Element.{Element}
-use Rattle.sig_rel.specs.declared.elements.Element.TheVariants.{Presence, Truth}
-use Rattle.sig_rel.proofs.ChosenTruths.{all_statuses}
-use Rattle.sig_kernel.specs.Validity.{form_within}
+use Rattle.sig_solve.proofs.Common.{◌≡◌, ◌<◌, ◌⊎◌, inl, inr, ℕ, true, false, List, [], ◌∷◌, length, take, get_or, refl, sym, ap, ◌∙◌, subst, arith, Contains, zero, suc, Option, None, Some, option_map, slice_get, is_some, and_parts, false≢true, ltb-true, IsValid, Equation, Form, Fun, Delay, When, WhenConst, Default, Sync, Event, Kernel, IsRoot, IsReaction, Reaction, Status, is_present, is_silent, meets, or_else, status_at, where_true, AreLeast, at_contained, contains_head, contains_later, present_together, statuses_are_same, AreClassesInOrder, Governs, IsTriangle, IsTriangular, MayStand, classes_among, form_at, operand_signals, Element, Presence, Truth, all_statuses, form_within}
 use Rattle.sig_solve.proofs.FrameLemmas.{least_below, least_twice}
 use Rattle.sig_solve.proofs.ListLemmas.{contains_get, get_is, get_within}
 

@@ -1,9 +1,5 @@
 -- Lemmas on truths and on lists of variables.
-use Rattle.std.proofs.Common.{◌≡◌, ◌≢◌, ◌⊎◌, inl, inr, ℕ, Bool, List, [], ◌∷◌, ◌++◌, refl, sym, ◌∙◌, subst, Contains}
-use Rattle.std.proofs.lemmas.Bool.{cases_eq}
-use Rattle.sig_clock.proofs.Lists.{contains_cons, contains_head, contains_later, contains_none}
-use Rattle.sig_dd.specs.Diagram.{truth_of, with_truth}
-use Rattle.sig_dd.proofs.Trees.{truth_of-with_same, truth_of-with_other}
+use Rattle.sig_solve.proofs.Common.{◌≡◌, ◌≢◌, ◌⊎◌, inl, inr, ℕ, Bool, List, [], ◌∷◌, ◌++◌, refl, sym, ◌∙◌, subst, Contains, cases_eq, contains_cons, contains_head, contains_later, contains_none, truth_of, with_truth, truth_of-with_same, truth_of-with_other}
 
 -- a variable is in a list, or not
 pub is_in : (xs : List ℕ) (v : ℕ) → Contains xs v ⊎ (Contains xs v → ⊥)

@@ -1,21 +1,5 @@
 -- A walk asks for no variable that makes no difference below the truths that led to it.
-use Rattle.std.proofs.Common.{◌≡◌, ◌≢◌, ℕ, zero, suc, ◌<◌, ◌≤◌, Bool, true, false, cond, List, Some, None, refl, sym, ap, ◌∙◌, subst, inl, inr, arith}
-use Rattle.std.proofs.lemmas.Bool.{cases_eq}
-use Rattle.std.proofs.lemmas.Option.{slice_get_within}
-use Rattle.std.specs.Prelude.{slice_get}
-use Rattle.sig_base.specs.declared.ids.SigId.{SigId}
-use Rattle.sig_clock.proofs.ProposalLemmas.{absent_makes_none}
-use Rattle.sig_clock.specs.ClockFunctions.{KeepsTo}
-use Rattle.sig_clock.specs.ClockRefusals.{HasClocks}
-use Rattle.sig_clock.specs.Clocks.{AreClocks, ClocksView, guard_of}
-use Rattle.sig_clock.specs.Reactions.{Reaction, Speaks, status_at}
-use Rattle.sig_dd.proofs.Canonical.{proper}
-use Rattle.sig_dd.proofs.Trees.{IsProper, one_diagram, truth_of-with_other, truth_of-with_same, value_at-choice, value_at-chosen, value_at-earlier}
-use Rattle.sig_dd.specs.Diagram.{Diagram, Constant, Choice, StartsFrom, truth_of, value_at, with_truth}
-use Rattle.sig_dd.specs.Nodes.{IsStore, StoreView, diagram, test}
-use Rattle.sig_dd.specs.declared.node.Ref.{Ref}
-use Rattle.sig_kernel.specs.declared.kernel.Kernel.{Kernel}
-use Rattle.sig_solve.specs.Walks.{Asks}
+use Rattle.sig_solve.proofs.Common.{◌≡◌, ◌≢◌, ℕ, zero, suc, ◌<◌, ◌≤◌, Bool, true, false, cond, List, Some, None, refl, sym, ap, ◌∙◌, subst, inl, inr, arith, cases_eq, slice_get_within, slice_get, SigId, absent_makes_none, KeepsTo, HasClocks, AreClocks, ClocksView, guard_of, Reaction, Speaks, status_at, proper, IsProper, one_diagram, truth_of-with_other, truth_of-with_same, value_at-choice, value_at-chosen, value_at-earlier, Diagram, Constant, Choice, StartsFrom, truth_of, value_at, with_truth, IsStore, StoreView, diagram, test, Ref, Kernel, Asks}
 
 -- truths, with those of the first variables taken from others
 below : ℕ → List Bool → List Bool → List Bool

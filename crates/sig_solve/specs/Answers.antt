@@ -1,10 +1,6 @@
 -- What the questions that the solver asks are answered.
-use Rattle.std.specs.Prelude.{◌≡◌, ℕ, true, List, Option, None, Some}
-use Rattle.sig_base.specs.declared.ids.SigId.{SigId}
-use Rattle.sig_clock.specs.Conditions.{is_condition}
-use Rattle.sig_clock.specs.Layers.{IsEarlier}
-use Rattle.sig_clock.specs.Pinned.{IsFree, IsPinned}
-use Rattle.sig_kernel.specs.declared.kernel.Kernel.{Kernel}
+use Rattle.std.specs.Prelude.{◌≡◌}
+use Rattle.sig_solve.specs.Prelude.{ℕ, true, List, Option, None, Some, SigId, is_condition, IsEarlier, IsFree, IsPinned, Kernel}
 
 -- a condition that is pinned, and no earlier one is; or each one is free
 abbrev pub FindsPinned : Kernel → List SigId → Option SigId → Type 0

@@ -1,16 +1,6 @@
 -- The solutions of a kernel's system, and what is left of them where all variables but known proposals are forgotten.
-use Rattle.std.specs.Prelude.{◌≡◌, ◌↔◌, ℕ, Bool, true, false, List, length, slice_get, slice_index_or, Some, IsTrue, Contains}
-use Rattle.std.specs.List.{range_with_len}
-use Rattle.sig_base.specs.declared.ids.SigId.{SigId}
-use Rattle.sig_clock.specs.Layers.{IsSignal}
-use Rattle.sig_clock.specs.Reactions.{Reaction, status_at}
-use Rattle.sig_dd.specs.Diagram.{Depends, truth_of}
-use Rattle.sig_dd.specs.Nodes.{IsStore, Overlap, StoreView, test}
-use Rattle.sig_dd.specs.Products.{AgreeBut}
-use Rattle.sig_dd.specs.declared.node.Node.{Node}
-use Rattle.sig_dd.specs.declared.node.Ref.{Ref}
-use Rattle.sig_kernel.specs.Validity.{IsValid}
-use Rattle.sig_rel.specs.Systems.{AreConditions, IsOver, IsSolution, IsSystem, IsVariable, SystemView, reading}
+use Rattle.std.specs.Prelude.{◌≡◌, ◌↔◌}
+use Rattle.sig_solve.specs.Prelude.{ℕ, Bool, true, false, List, length, slice_get, slice_index_or, Some, IsTrue, Contains, range_with_len, SigId, IsSignal, Reaction, status_at, Depends, truth_of, IsStore, Overlap, StoreView, test, AgreeBut, Node, Ref, IsValid, AreConditions, IsOver, IsSolution, IsSystem, IsVariable, SystemView, reading}
 use Rattle.sig_solve.specs.Frames.{IsFrame}
 use Rattle.sig_solve.specs.declared.asked.Asked.{Asked}
 use Rattle.sig_solve.specs.declared.known.Known.{Known}

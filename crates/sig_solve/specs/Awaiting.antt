@@ -1,12 +1,6 @@
 -- Conditions for which presences wait: whatever else is known, a presence stays open until they are.
-use Rattle.std.specs.Prelude.{◌≡◌, ◌≢◌, ◌↔◌, ℕ, Bool, true, false, List, length, slice_get, Option, Some, IsTrue}
-use Rattle.sig_base.specs.declared.ids.SigId.{SigId}
-use Rattle.sig_clock.specs.Reactions.{is_present}
-use Rattle.sig_dd.specs.Diagram.{truth_of}
-use Rattle.sig_dd.specs.Nodes.{Holds, test}
-use Rattle.sig_dd.specs.declared.node.Node.{Node}
-use Rattle.sig_dd.specs.declared.node.Ref.{Ref}
-use Rattle.sig_rel.specs.Systems.{IsSolution, reading}
+use Rattle.std.specs.Prelude.{◌≡◌, ◌≢◌, ◌↔◌}
+use Rattle.sig_solve.specs.Prelude.{ℕ, Bool, true, false, List, length, slice_get, Option, Some, IsTrue, SigId, is_present, truth_of, Holds, test, Node, Ref, IsSolution, reading}
 use Rattle.sig_solve.specs.Asked.{IsProposalOf}
 use Rattle.sig_solve.specs.declared.asked.Asked.{Asked}
 

@@ -1,10 +1,6 @@
 -- Classes of signals with one guard, by their first signals.
-use Rattle.std.specs.Prelude.{◌≡◌, ◌<◌, ◌≤◌, ◌⊎◌, ℕ, List, length, map, Option, None, Some, slice_get, slice_index, Contains}
-use Rattle.std.specs.List.{range_with_len}
-use Rattle.sig_base.specs.declared.ids.SigId.{SigId}
-use Rattle.sig_clock.specs.Clocks.{ClocksView}
-use Rattle.sig_clock.specs.Conditions.{signal_id}
-use Rattle.sig_dd.specs.declared.node.Ref.{Ref}
+use Rattle.std.specs.Prelude.{◌≡◌, ◌<◌, ◌≤◌, ◌⊎◌}
+use Rattle.sig_solve.specs.Prelude.{ℕ, List, length, map, Option, None, Some, slice_get, slice_index, Contains, range_with_len, SigId, ClocksView, signal_id, Ref}
 use Rattle.sig_solve.specs.Orders.{by_layer}
 use Rattle.sig_solve.specs.Rounds.{layer_in}
 use Rattle.sig_solve.specs.declared.frame.Frame.{Frame}

@@ -1,9 +1,6 @@
 -- A kernel with its clock classes, as the solver keeps them.
-use Rattle.std.specs.Prelude.{◌≡◌, ◌==◌, ℕ, List, length, filter, slice_index, Contains}
-use Rattle.std.specs.List.{range_with_len}
-use Rattle.sig_base.specs.declared.ids.SigId.{SigId}
-use Rattle.sig_clock.specs.Conditions.{signal_id}
-use Rattle.sig_clock.specs.SameClocks.{AreLeast}
+use Rattle.std.specs.Prelude.{◌≡◌, ◌==◌}
+use Rattle.sig_solve.specs.Prelude.{ℕ, List, length, filter, slice_index, Contains, range_with_len, SigId, signal_id, AreLeast}
 use Rattle.sig_solve.specs.declared.frame.Frame.{Frame}
 
 -- the signals that are the least of their class

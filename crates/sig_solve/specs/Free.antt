@@ -1,12 +1,6 @@
 -- Free systems, and what the presence of a signal needs.
-use Rattle.std.specs.Prelude.{◌≡◌, ◌==◌, ◌<◌, ◌↔◌, ℕ, Bool, true, not, List, [], length, slice_get, slice_index_or, Option, None, Some, Contains}
-use Rattle.std.specs.List.{list_any}
-use Rattle.sig_base.specs.declared.ids.SigId.{SigId}
-use Rattle.sig_dd.specs.Diagram.{Depends}
-use Rattle.sig_dd.specs.Nodes.{IsStore, StoreView, test}
-use Rattle.sig_dd.specs.declared.node.Node.{Node}
-use Rattle.sig_kernel.specs.declared.kernel.Kernel.{Kernel}
-use Rattle.sig_rel.specs.Systems.{AreConditions, IsFreeSystem, IsSystem, SystemView}
+use Rattle.std.specs.Prelude.{◌≡◌, ◌==◌, ◌<◌, ◌↔◌}
+use Rattle.sig_solve.specs.Prelude.{ℕ, Bool, true, not, List, [], length, slice_get, slice_index_or, Option, None, Some, Contains, list_any, SigId, Depends, IsStore, StoreView, test, Node, Kernel, AreConditions, IsFreeSystem, IsSystem, SystemView}
 
 -- the store has the system of a kernel, and it is free: each list of truths for its conditions is a reaction
 pub record IsFreeIn (kernel : Kernel) (store : StoreView) (system : SystemView) : Type 0 where

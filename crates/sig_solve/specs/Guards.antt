@@ -1,12 +1,6 @@
 -- Guards: functions of proposals that tell where a signal is present.
-use Rattle.std.specs.Prelude.{◌≡◌, ◌<◌, ◌↔◌, ℕ, Bool, true, List, length, slice_get, Some, IsTrue, Contains}
-use Rattle.sig_base.specs.declared.ids.SigId.{SigId}
-use Rattle.sig_clock.specs.ClockFunctions.{KeepsTo}
-use Rattle.sig_clock.specs.Reactions.{Reaction, Speaks, is_present}
-use Rattle.sig_dd.specs.Diagram.{Depends}
-use Rattle.sig_dd.specs.Nodes.{Holds, test}
-use Rattle.sig_dd.specs.declared.node.Node.{Node}
-use Rattle.sig_dd.specs.declared.node.Ref.{Ref}
+use Rattle.std.specs.Prelude.{◌≡◌, ◌<◌, ◌↔◌}
+use Rattle.sig_solve.specs.Prelude.{ℕ, Bool, true, List, length, slice_get, Some, IsTrue, Contains, SigId, KeepsTo, Reaction, Speaks, is_present, Depends, Holds, test, Node, Ref}
 use Rattle.sig_solve.specs.declared.frame.Frame.{Frame}
 
 -- the guard of a signal: it is true at a proposal where some reaction that keeps to it has the signal

@@ -1,17 +1,6 @@
 -- Why a kernel has no clocks, and how many nodes solving may add.
-use Rattle.std.specs.Prelude.{◌≡◌, ◌+◌, ◌*◌, ◌^◌, ◌<◌, ◌≤◌, ◌⊎◌, ℕ, length, Option, None, Some, Result, Ok, Err, IfErr}
-use Rattle.sig_clock.specs.ClockRefusals.{IsFirstPinned, IsMissingRoot, IsUnsolved}
-use Rattle.sig_clock.specs.Layers.{IsDead}
-use Rattle.sig_dd.specs.Nodes.{StoreView, IsFull}
-use Rattle.sig_dd.specs.declared.answer.DdAnswer.{DdAnswer}
-use Rattle.sig_dd.specs.declared.answer.DdAnswer.TheVariants.{Budget as StoreBudget, OutOfMemory as NoMemory}
-use Rattle.sig_kernel.specs.declared.kernel.Kernel.{Kernel}
-use Rattle.sig_clock.specs.Conditions.{conditions_of}
-use Rattle.sig_rel.specs.Relations.{IsUnknownCount}
-use Rattle.sig_rel.specs.Shares.{triangular_share_of as system_share_of}
-use Rattle.sig_rel.specs.Triangles.{IsTriangular}
-use Rattle.sig_rel.specs.declared.answer.RelAnswer.{RelAnswer}
-use Rattle.sig_rel.specs.declared.answer.RelAnswer.TheVariants.{Budget as RelationBudget, OutOfMemory as NoRelation}
+use Rattle.std.specs.Prelude.{◌≡◌, ◌+◌, ◌*◌, ◌^◌, ◌<◌, ◌≤◌, ◌⊎◌}
+use Rattle.sig_solve.specs.Prelude.{ℕ, length, Option, None, Some, Result, Ok, Err, IfErr, IsFirstPinned, IsMissingRoot, IsUnsolved, IsDead, StoreView, IsFull, DdAnswer, Budget as StoreBudget, OutOfMemory as NoMemory, Kernel, conditions_of, IsUnknownCount, triangular_share_of as system_share_of, IsTriangular, RelAnswer, RelationBudget, NoRelation}
 use Rattle.sig_solve.specs.declared.answer.ClockAnswer.{ClockAnswer}
 use Rattle.sig_solve.specs.declared.answer.ClockAnswer.TheVariants.{Dead, MissingRoot, Unsolved, Pinned, Budget, OutOfMemory}
 

@@ -1,10 +1,6 @@
 -- Layers as far as some rounds tell, and where rounds bring nothing new.
-use Rattle.std.specs.Prelude.{◌≡◌, ◌<◌, ◌≤◌, ◌⊎◌, ◌↔◌, ℕ, suc, Bool, true, false, List, length, nat_lt, slice_index, Contains}
-use Rattle.std.specs.List.{AllPairs}
-use Rattle.sig_base.specs.declared.ids.SigId.{SigId}
-use Rattle.sig_clock.specs.Conditions.{is_condition}
-use Rattle.sig_clock.specs.Layers.{EntersBy, HasLayer, IsDetermined, NeverEnters}
-use Rattle.sig_kernel.specs.declared.kernel.Kernel.{Kernel}
+use Rattle.std.specs.Prelude.{◌≡◌, ◌<◌, ◌≤◌, ◌⊎◌, ◌↔◌}
+use Rattle.sig_solve.specs.Prelude.{ℕ, suc, Bool, true, false, List, length, nat_lt, slice_index, Contains, AllPairs, SigId, is_condition, EntersBy, HasLayer, IsDetermined, NeverEnters, Kernel}
 use Rattle.sig_solve.specs.Frames.{IsAmong}
 use Rattle.sig_solve.specs.declared.frame.Frame.{Frame}
 

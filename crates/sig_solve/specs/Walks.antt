@@ -1,6 +1,6 @@
 -- The walk over a diagram by some truths, from its top: which variables it asks for.
-use Rattle.std.specs.Prelude.{◌≡◌, ◌⊎◌, ℕ, Bool, true, false, List}
-use Rattle.sig_dd.specs.Diagram.{Diagram, Constant, Choice, truth_of}
+use Rattle.std.specs.Prelude.{◌≡◌, ◌⊎◌}
+use Rattle.sig_solve.specs.Prelude.{ℕ, Bool, true, false, List, Diagram, Constant, Choice, truth_of}
 
 -- the walk asks for the truth of a variable
 abbrev pub Asks : Diagram → List Bool → ℕ → Type 0

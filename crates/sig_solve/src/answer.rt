@@ -1,9 +1,7 @@
 //! Why a kernel has no clocks, or they are not told.
 
 ghost use Rattle.std.specs.Prelude.{◌≡◌};
-ghost use Rattle.sig_clock.specs.declared.answer.ClockBase.{ClockBase};
-ghost use Rattle.sig_dd.specs.declared.answer.DdAnswer.{DdAnswer};
-ghost use Rattle.sig_rel.specs.declared.answer.RelAnswer.{RelAnswer};
+ghost use Rattle.sig_solve.specs.Prelude.{ClockBase, DdAnswer, RelAnswer};
 ghost use Rattle.sig_solve.specs.Refusals.{IsFromRelation, IsFromStore};
 ghost use Rattle.sig_solve.specs.declared.answer.ClockAnswer.TheVariants.{OutOfMemory};
 

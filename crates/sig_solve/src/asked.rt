@@ -1,11 +1,7 @@
 //! A kernel with its system, and what is left of its solutions where variables are forgotten.
 
-ghost use Rattle.std.specs.Prelude.{◌≡◌, ◌+◌, ◌<◌, length, IfOk};
-ghost use Rattle.sig_dd.specs.Nodes.{IsStore, Keeps, test};
-ghost use Rattle.sig_dd.specs.Products.{IsProduct};
-ghost use Rattle.sig_dd.specs.Shares.{Share, refusal};
-ghost use Rattle.sig_kernel.specs.Validity.{IsValid};
-ghost use Rattle.sig_rel.specs.Systems.{AreConditions, IsOver, IsSystem};
+ghost use Rattle.std.specs.Prelude.{◌≡◌, ◌+◌, ◌<◌};
+ghost use Rattle.sig_solve.specs.Prelude.{length, IfOk, IsStore, Keeps, test, IsProduct, Share, refusal, IsValid, AreConditions, IsOver, IsSystem};
 ghost use Rattle.sig_solve.specs.Asked.{IsAskedIn, presence_in, truth_at, variables_of};
 ghost use Rattle.sig_solve.specs.Frames.{IsFrame};
 

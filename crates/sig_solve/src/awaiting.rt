@@ -1,11 +1,8 @@
 //! Whether known conditions leave a presence open. It is not asked in each round: where a presence stays
 //! open whatever is known beside the truth of one variable, it waits until that is known.
 
-ghost use Rattle.std.specs.Prelude.{◌≡◌, ◌≢◌, ◌+◌, ◌*◌, ◌<◌, ℕ, true, length, replicate, Err, None, Some, IfOk, OnOk, IsTrue, slice_get};
-ghost use Rattle.sig_clock.specs.Layers.{IsSignal};
-ghost use Rattle.sig_dd.specs.Diagram.{truth_of};
-ghost use Rattle.sig_dd.specs.Nodes.{IsStore, Keeps};
-ghost use Rattle.sig_dd.specs.Shares.{Share, refusal};
+ghost use Rattle.std.specs.Prelude.{◌≡◌, ◌≢◌, ◌&&◌, ◌+◌, ◌*◌, ◌<◌};
+ghost use Rattle.sig_solve.specs.Prelude.{not, ℕ, true, length, replicate, Err, None, Some, IfOk, OnOk, IsTrue, slice_get, IsSignal, truth_of, IsStore, Keeps, Share, refusal};
 ghost use Rattle.sig_solve.specs.Asked.{AreKnown, AreProposed, ForgetsAllBut, IsAskedIn, variables_of};
 ghost use Rattle.sig_solve.specs.Awaiting.{AreAwaited, IsApart, IsRest};
 ghost use Rattle.sig_solve.specs.Frames.{IsAmong};
@@ -13,8 +10,8 @@ ghost use Rattle.sig_solve.specs.Rounds.{AreEntered, IsOpenAnswer};
 
 use crate::asked::Asked;
 use crate::known::{Known, known_of};
-use crate::needs::{Needs, needs_of};
-use sig_dd::{DdAnswer, Ref, Store};
+use crate::needs::needs_of;
+use sig_dd::{DdAnswer, Ref, Store, VariableList};
 use sig_rel::System;
 use std::alloc::{AllocError, Global};
 
@@ -23,7 +20,7 @@ use std::alloc::{AllocError, Global};
 #[derive(Drop)]
 pub(crate) struct Guide {
     pub(crate) base: Vec<bool>,
-    needs: Vec<Needs>,
+    needs: Vec<VariableList>,
     depths: Vec<usize>,
 }
 
@@ -42,7 +39,7 @@ pub(crate) fn guide_of(alloc: Global, asked: &Asked, store: &Store) -> Result<Gu
     ensures no_budget { (n : ℕ) → result ≢ Err (DdAnswer.Budget n) }
 {
     let base = base_of(alloc, &asked.system)?;
-    let needs = needs_of(alloc, &asked.frame, &asked.system, store)?;
+    let needs = needs_of(&asked.frame, &asked.system, store)?;
     let depths = depths_of(alloc, &asked.system, needs.as_slice(), base.len())?;
     Ok(Guide {
         base,
@@ -65,7 +62,7 @@ fn base_of(alloc: Global, system: &System) -> Result<Vec<bool>, AllocError>
 fn depths_of(
     alloc: Global,
     system: &System,
-    needs: &[Needs],
+    needs: &[VariableList],
     count: usize,
 ) -> Result<Vec<usize>, AllocError> {
     (0..count)
@@ -74,7 +71,7 @@ fn depths_of(
 }
 
 /// On how many variables the presence of the condition depends of which this is the proposal.
-fn depth_of(system: &System, needs: &[Needs], variable: usize) -> usize {
+fn depth_of(system: &System, needs: &[VariableList], variable: usize) -> usize {
     let proposals = system.proposals.as_slice();
     match proposals.iter().position(|v| *v as usize == variable) {
         Some(place) => depth_at(system, needs, place),
@@ -83,7 +80,7 @@ fn depth_of(system: &System, needs: &[Needs], variable: usize) -> usize {
 }
 
 /// On how many variables the presence of the condition at a place depends.
-fn depth_at(system: &System, needs: &[Needs], place: usize) -> usize {
+fn depth_at(system: &System, needs: &[VariableList], place: usize) -> usize {
     match system.conditions.get(place) {
         Some(condition) => match needs.get(condition.0 as usize) {
             Some(variables) => variables.as_slice().len(),
@@ -174,7 +171,7 @@ pub(crate) fn stays_open(
         return Ok(true);
     }
     let hint = guide.hint(known, class);
-    let turn = turn_of(alloc, asked, store, known, guide, hint, class)?;
+    let turn = turn_at(alloc, asked, store, known, guide, hint, class)?;
     awaited[class as usize] = turn.awaits;
     Ok(turn.open)
 }
@@ -188,6 +185,66 @@ fn is_waiting(known: &Known, awaited: &[Option<u32>], class: u32) -> bool
         Some(Some(v)) => is_forgotten(known.forgotten.as_slice(), *v),
         Some(None) | None => false,
     }
+}
+
+/// What a round tells of the presence of a signal, with a variable for which it may wait. Where no
+/// condition is known, no variable is forgotten.
+fn turn_at(
+    alloc: Global,
+    asked: &Asked,
+    store: &mut Store,
+    known: &Known,
+    guide: &Guide,
+    hint: Option<u32>,
+    signal: u32,
+) -> Result<Turn, DdAnswer>
+    requires asked { IsAskedIn store.old asked.now }
+    requires known { AreKnown asked.now.system known.now }
+    requires entered { (round : ℕ)
+        × AreEntered asked.now.frame.kernel.now round known.now.conditions.items }
+    requires guide { ForgetsAllBut asked.now.system asked.now.system.conditions guide.now.base.items }
+    requires signal { IsSignal asked.now.frame.kernel.now signal }
+    ensures store { IsStore store.new }
+    ensures kept { Keeps store.old store.new }
+    ensures awaits { IfOk result (λ turn. (v : ℕ) → turn.awaits ≡ Some v
+        → IsApart store.new.nodes asked.now v signal) }
+    ensures value { IfOk result (λ turn.
+        IsOpenAnswer asked.now.frame.kernel.now (IsAmong known.now.conditions.items) signal turn.open) }
+    ensures share { Share (3 + 2 * asked.now.system.variables) (variables_of asked.now.system)
+        store.old store.new (refusal result) }
+{
+    if known.conditions.is_empty() {
+        return first_turn(asked, store, known, signal);
+    }
+    turn_of(alloc, asked, store, known, guide, hint, signal)
+}
+
+/// What a round tells of the presence of a signal where no condition is known: it is open where some
+/// reaction has the signal, and some has not. No node is made.
+fn first_turn(asked: &Asked, store: &Store, _known: &Known, signal: u32) -> Result<Turn, DdAnswer>
+    requires asked { IsAskedIn store.now asked.now }
+    requires none { length _known.now.conditions.items ≡ 0 }
+    requires signal { IsSignal asked.now.frame.kernel.now signal }
+    ensures awaits { IfOk result (λ turn. (v : ℕ) → turn.awaits ≡ Some v
+        → IsApart store.now.nodes asked.now v signal) }
+    ensures value { IfOk result (λ turn.
+        IsOpenAnswer asked.now.frame.kernel.now (IsAmong _known.now.conditions.items) signal turn.open) }
+    ensures no_budget { (n : ℕ) → result ≢ Err (DdAnswer.Budget n) }
+{
+    let present = asked.presence(signal);
+    let some = store.overlap(asked.solutions, present)?;
+    let all = store.within(asked.solutions, present)?;
+    Ok(Turn {
+        open: is_some_alone(some, all),
+        awaits: None,
+    })
+}
+
+/// Whether something holds of some and not of all.
+fn is_some_alone(some: bool, all: bool) -> bool
+    ensures { result ≡ (some && not all) }
+{
+    some && !all
 }
 
 /// What a round tells of the presence of a signal, with a variable for which it may wait.

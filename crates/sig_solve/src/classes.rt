@@ -1,8 +1,7 @@
 //! Classes of signals with one clock function.
 
-ghost use Rattle.std.specs.Prelude.{◌≡◌, ◌+◌, ◌^◌, ◌<◌, ◌≤◌, ℕ, [], length, map, Some, slice_get, IfOk};
-ghost use Rattle.sig_base.specs.declared.ids.SigId.{SigId};
-ghost use Rattle.sig_dd.specs.declared.node.Ref.{Ref};
+ghost use Rattle.std.specs.Prelude.{◌≡◌, ◌+◌, ◌^◌, ◌<◌, ◌≤◌};
+ghost use Rattle.sig_solve.specs.Prelude.{ℕ, [], length, map, Some, slice_get, IfOk, SigId, Ref};
 ghost use Rattle.sig_solve.specs.Classes.{AreClasses, AreFirsts, AreGuardsOf, AreMadeOf, IsPlace, Precedes, guard_at};
 ghost use Rattle.sig_solve.specs.Frames.{IsFrame};
 ghost use Rattle.sig_solve.specs.Rounds.{AreSettled, layer_in};

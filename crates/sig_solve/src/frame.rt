@@ -1,7 +1,7 @@
 //! A kernel with its clock classes.
 
-ghost use Rattle.std.specs.Prelude.{◌≡◌, ◌==◌, ◌≤◌, length, filter, slice_index, IfOk};
-ghost use Rattle.sig_kernel.specs.Validity.{IsValid};
+ghost use Rattle.std.specs.Prelude.{◌≡◌, ◌==◌, ◌≤◌};
+ghost use Rattle.sig_solve.specs.Prelude.{length, filter, slice_index, IfOk, IsValid};
 ghost use Rattle.sig_solve.specs.Frames.{IsFrame, leaders_of};
 
 use sig_clock::{ClockBase, same_clock};

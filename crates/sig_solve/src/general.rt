@@ -1,16 +1,7 @@
 //! The clocks of any kernel, by its system.
 
-ghost use Rattle.std.specs.Prelude.{◌≡◌, ◌+◌, ◌*◌, ◌≤◌, ℕ, true, [], length, IfErr, IfOk};
-ghost use Rattle.sig_clock.specs.ClockRefusals.{HasClocks, HasRoot};
-ghost use Rattle.sig_clock.specs.Clocks.{AreClocks, AreInOrder};
-ghost use Rattle.sig_clock.specs.Conditions.{conditions_of, is_condition};
-ghost use Rattle.sig_clock.specs.Layers.{IsRoot};
-ghost use Rattle.sig_clock.specs.Pinned.{IsFree};
-ghost use Rattle.sig_dd.specs.Nodes.{IsStore, Keeps};
-ghost use Rattle.sig_dd.specs.Shares.{Share};
-ghost use Rattle.sig_kernel.specs.Validity.{IsValid};
-ghost use Rattle.sig_rel.specs.Relations.{IsUnknownCount};
-ghost use Rattle.sig_rel.specs.Systems.{AreConditions, IsSystem};
+ghost use Rattle.std.specs.Prelude.{◌≡◌, ◌+◌, ◌*◌, ◌≤◌};
+ghost use Rattle.sig_solve.specs.Prelude.{ℕ, true, [], length, IfErr, IfOk, HasClocks, HasRoot, AreClocks, AreInOrder, conditions_of, is_condition, IsRoot, IsFree, IsStore, Keeps, Share, IsValid, IsUnknownCount, AreConditions, IsSystem};
 ghost use Rattle.sig_solve.specs.Asked.{IsAskedIn, variables_of};
 ghost use Rattle.sig_solve.specs.Refusals.{IsRefusalOf, IsWithin, KeepsToShare, calls_of, rest_of_share, store_refusal};
 ghost use Rattle.sig_solve.specs.Rounds.{AreSettled};

@@ -1,11 +1,7 @@
 //! Guards: where signals are present, as functions of the truths that are proposed for conditions.
 
-ghost use Rattle.std.specs.Prelude.{◌≡◌, ◌+◌, ◌*◌, ◌==◌, ◌≤◌, ℕ, true, length, slice_get, None, Some, IfOk, Contains, MatchOption};
-ghost use Rattle.sig_base.specs.declared.ids.SigId.{SigId};
-ghost use Rattle.sig_clock.specs.Clocks.{AreInOrder};
-ghost use Rattle.sig_clock.specs.Layers.{IsSignal};
-ghost use Rattle.sig_dd.specs.Nodes.{IsStore, Keeps};
-ghost use Rattle.sig_dd.specs.Shares.{Share, refusal};
+ghost use Rattle.std.specs.Prelude.{◌≡◌, ◌+◌, ◌*◌, ◌==◌, ◌≤◌};
+ghost use Rattle.sig_solve.specs.Prelude.{ℕ, true, length, slice_get, None, Some, IfOk, Contains, MatchOption, SigId, AreInOrder, IsSignal, IsStore, Keeps, Share, refusal};
 ghost use Rattle.sig_solve.specs.Asked.{AreProposed, ArePlaced, ForgetsAllBut, IsAskedIn, variables_of};
 ghost use Rattle.sig_solve.specs.Guards.{AreGuards, IsGuard};
 

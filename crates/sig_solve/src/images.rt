@@ -1,11 +1,8 @@
 //! What is left of the reactions in which a signal is present or absent, or has a truth, where
 //! variables are forgotten.
 
-ghost use Rattle.std.specs.Prelude.{◌≡◌, ◌+◌, true, false, Some, IfOk};
-ghost use Rattle.sig_clock.specs.Layers.{IsSignal};
-ghost use Rattle.sig_clock.specs.Reactions.{is_present, status_at};
-ghost use Rattle.sig_dd.specs.Nodes.{IsStore, Keeps};
-ghost use Rattle.sig_dd.specs.Shares.{Share, refusal};
+ghost use Rattle.std.specs.Prelude.{◌≡◌, ◌+◌};
+ghost use Rattle.sig_solve.specs.Prelude.{true, false, Some, IfOk, IsSignal, is_present, status_at, IsStore, Keeps, Share, refusal};
 ghost use Rattle.sig_solve.specs.Asked.{IsAskedIn, IsImage, variables_of};
 
 use crate::asked::Asked;

@@ -1,7 +1,7 @@
 //! Conditions that are known.
 
-ghost use Rattle.std.specs.Prelude.{◌≡◌, ◌==◌, IfOk};
-ghost use Rattle.std.specs.List.{list_any};
+ghost use Rattle.std.specs.Prelude.{◌≡◌, ◌==◌};
+ghost use Rattle.sig_solve.specs.Prelude.{IfOk, list_any};
 ghost use Rattle.sig_solve.specs.Asked.{AreProposed, ForgetsAllBut};
 
 use sig_base::SigId;

@@ -1,14 +1,7 @@
 //! What holds of the clocks of a kernel.
 
-ghost use Rattle.std.specs.Prelude.{◌≡◌, ◌≢◌, ℕ, Bool, List, None, Some, slice_get};
-ghost use Rattle.sig_base.specs.declared.ids.SigId.{SigId};
-ghost use Rattle.sig_clock.specs.ClockFunctions.{KeepsTo};
-ghost use Rattle.sig_clock.specs.ClockRefusals.{HasClocks};
-ghost use Rattle.sig_clock.specs.Clocks.{AreClocks, ClocksView};
-ghost use Rattle.sig_clock.specs.Reactions.{Reaction, Speaks, status_at};
-ghost use Rattle.sig_dd.specs.Nodes.{IsStore, StoreView, diagram};
-ghost use Rattle.sig_dd.specs.declared.node.Ref.{Ref};
-ghost use Rattle.sig_kernel.specs.declared.kernel.Kernel.{Kernel};
+ghost use Rattle.std.specs.Prelude.{◌≡◌, ◌≢◌};
+ghost use Rattle.sig_solve.specs.Prelude.{ℕ, Bool, List, None, Some, slice_get, SigId, KeepsTo, HasClocks, AreClocks, ClocksView, Reaction, Speaks, status_at, IsStore, StoreView, diagram, Ref, Kernel};
 ghost use Rattle.sig_solve.specs.Walks.{Asks};
 
 /// A law: in a kernel that has clocks, the walk of a guard from its top, by truths that a reaction keeps

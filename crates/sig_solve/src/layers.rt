@@ -1,9 +1,7 @@
 //! Rounds: in which signals enter, as conditions become known.
 
-ghost use Rattle.std.specs.Prelude.{◌≡◌, ◌+◌, ◌*◌, ◌<◌, ◌≤◌, ℕ, suc, length, slice_index, filter, replicate, IfOk, OnOk, Contains};
-ghost use Rattle.sig_clock.specs.Conditions.{conditions_of};
-ghost use Rattle.sig_dd.specs.Nodes.{IsStore, Keeps};
-ghost use Rattle.sig_dd.specs.Shares.{Share, refusal};
+ghost use Rattle.std.specs.Prelude.{◌≡◌, ◌+◌, ◌*◌, ◌<◌, ◌≤◌};
+ghost use Rattle.sig_solve.specs.Prelude.{ℕ, suc, length, slice_index, filter, replicate, IfOk, OnOk, Contains, conditions_of, IsStore, Keeps, Share, refusal};
 ghost use Rattle.sig_solve.specs.Asked.{AreKnown, ForgetsAllBut, IsAskedIn, variables_of};
 ghost use Rattle.sig_solve.specs.Awaiting.{AreAwaited};
 ghost use Rattle.sig_solve.specs.Rounds.{AreEntered, AreRounds, AreSettled, has_entered, layer_in};

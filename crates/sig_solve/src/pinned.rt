@@ -1,10 +1,7 @@
 //! Pinned conditions.
 
-ghost use Rattle.std.specs.Prelude.{◌≡◌, ◌+◌, ◌*◌, true, length, IfOk};
-ghost use Rattle.sig_clock.specs.Clocks.{AreInOrder};
-ghost use Rattle.sig_clock.specs.Conditions.{is_condition};
-ghost use Rattle.sig_dd.specs.Nodes.{IsStore, Keeps};
-ghost use Rattle.sig_dd.specs.Shares.{Share, refusal};
+ghost use Rattle.std.specs.Prelude.{◌≡◌, ◌+◌, ◌*◌};
+ghost use Rattle.sig_solve.specs.Prelude.{true, length, IfOk, AreInOrder, is_condition, IsStore, Keeps, Share, refusal};
 ghost use Rattle.sig_solve.specs.Answers.{FindsPinned};
 ghost use Rattle.sig_solve.specs.Asked.{AreHalves, IsAskedIn, variables_of};
 

@@ -1,10 +1,7 @@
 //! Roots, and what shows that there is none.
 
-ghost use Rattle.std.specs.Prelude.{◌≡◌, ◌≢◌, ℕ, MatchOption, IfErr, IfOk, Err};
-ghost use Rattle.sig_clock.specs.ClockRefusals.{HasNoRoot, IsAlive, IsLeast, IsMissingRoot};
-ghost use Rattle.sig_clock.specs.Layers.{IsRoot};
-ghost use Rattle.sig_dd.specs.Nodes.{Holds, IsStore, Keeps};
-ghost use Rattle.sig_dd.specs.Shares.{Share, refusal};
+ghost use Rattle.std.specs.Prelude.{◌≡◌, ◌≢◌};
+ghost use Rattle.sig_solve.specs.Prelude.{ℕ, MatchOption, IfErr, IfOk, Err, HasNoRoot, IsAlive, IsLeast, IsMissingRoot, IsRoot, Holds, IsStore, Keeps, Share, refusal};
 ghost use Rattle.sig_solve.specs.Asked.{IsAskedIn, IsMet, variables_of};
 ghost use Rattle.sig_solve.specs.Refusals.{IsRefusalOf, store_refusal};
 

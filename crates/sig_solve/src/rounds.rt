@@ -1,19 +1,16 @@
 //! The rounds of a kernel whose system is free: in which classes enter, as conditions become known.
 
-ghost use Rattle.std.specs.Prelude.{◌≡◌, ◌==◌, ◌≢◌, ◌<◌, ◌≤◌, ◌+◌, ℕ, suc, true, length, map, slice_index_or, Some, Err, IfOk, Contains};
-ghost use Rattle.std.specs.List.{list_any};
-ghost use Rattle.sig_clock.specs.Conditions.{conditions_of};
-ghost use Rattle.sig_clock.specs.Layers.{IsSignal};
-ghost use Rattle.sig_dd.specs.Nodes.{IsStore};
+ghost use Rattle.std.specs.Prelude.{◌≡◌, ◌==◌, ◌≢◌, ◌<◌, ◌≤◌, ◌+◌};
+ghost use Rattle.sig_solve.specs.Prelude.{ℕ, suc, true, length, map, slice_index_or, Some, Err, IfOk, Contains, list_any, conditions_of, IsSignal, IsStore};
 ghost use Rattle.sig_solve.specs.Frames.{IsAmong, IsFrame};
 ghost use Rattle.sig_solve.specs.Free.{AreNeeds, IsFreeIn, is_unknown_to};
 ghost use Rattle.sig_solve.specs.Rounds.{AreEntered, AreRounds, AreSettled, IsOpenAnswer};
 
 use crate::frame::Frame;
 use crate::layers::{Layers, entered, zeros};
-use crate::needs::{Needs, needs_of};
+use crate::needs::needs_of;
 use sig_base::SigId;
-use sig_dd::{DdAnswer, Store};
+use sig_dd::{DdAnswer, Store, VariableList};
 use sig_rel::System;
 use std::alloc::{AllocError, Global};
 
@@ -35,7 +32,7 @@ pub(crate) fn rounds_of(
     ensures no_budget { (n : ℕ) → result ≢ Err (DdAnswer.Budget n) }
 {
     let conditions = system.conditions.as_slice();
-    let needs = needs_of(alloc, frame, system, store)?;
+    let needs = needs_of(frame, system, store)?;
     let needs = needs.as_slice();
     let mut numbers = zeros(alloc, frame.least.len())?;
     let mut waiting = Vec::from_slice(alloc, frame.leaders.as_slice())?;
@@ -71,7 +68,7 @@ fn enter(
     frame: &Frame,
     system: &System,
     store: &Store,
-    needs: &[Needs],
+    needs: &[VariableList],
     known: &[SigId],
     round: u32,
     waiting: &[u32],
@@ -107,7 +104,7 @@ fn is_open(
     _frame: &Frame,
     _system: &System,
     _store: &Store,
-    needs: &[Needs],
+    needs: &[VariableList],
     _known: &[SigId],
     unknown: &[bool],
     signal: u32,

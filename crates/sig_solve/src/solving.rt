@@ -1,10 +1,7 @@
 //! The clocks of a kernel.
 
-ghost use Rattle.std.specs.Prelude.{◌≡◌, IfErr, IfOk};
-ghost use Rattle.sig_clock.specs.ClockRefusals.{HasClocks};
-ghost use Rattle.sig_clock.specs.Clocks.{AreClocks};
-ghost use Rattle.sig_dd.specs.Nodes.{IsStore, Keeps};
-ghost use Rattle.sig_kernel.specs.Validity.{IsValid};
+ghost use Rattle.std.specs.Prelude.{◌≡◌};
+ghost use Rattle.sig_solve.specs.Prelude.{IfErr, IfOk, HasClocks, AreClocks, IsStore, Keeps, IsValid};
 ghost use Rattle.sig_solve.specs.Refusals.{IsRefusalOf, KeepsToShare, KeepsToTriangularShare};
 
 use crate::answer::ClockAnswer;

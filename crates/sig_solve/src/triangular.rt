@@ -1,17 +1,8 @@
 //! The clocks of a triangular kernel: each list of truths for its conditions is a reaction, and the
 //! presences in its system are the guards.
 
-ghost use Rattle.std.specs.Prelude.{◌≡◌, ◌≤◌, ◌+◌, ℕ, true, [], length, IfErr, IfOk};
-ghost use Rattle.sig_clock.specs.ClockRefusals.{HasClocks, HasRoot, IsAlive};
-ghost use Rattle.sig_clock.specs.Clocks.{AreClocks, AreInOrder};
-ghost use Rattle.sig_clock.specs.Conditions.{is_condition};
-ghost use Rattle.sig_clock.specs.Layers.{IsRoot};
-ghost use Rattle.sig_clock.specs.Pinned.{IsFree};
-ghost use Rattle.sig_dd.specs.Nodes.{IsStore, Keeps};
-ghost use Rattle.sig_kernel.specs.Validity.{IsValid};
-ghost use Rattle.sig_rel.specs.Shares.{KeepsToShare, KeepsToTriangularShare};
-ghost use Rattle.sig_rel.specs.Systems.{AreConditions, IsFreeSystem, IsSystem};
-ghost use Rattle.sig_rel.specs.Triangles.{AreClassesInOrder, IsTriangular};
+ghost use Rattle.std.specs.Prelude.{◌≡◌, ◌≤◌, ◌+◌};
+ghost use Rattle.sig_solve.specs.Prelude.{ℕ, true, [], length, IfErr, IfOk, IsTrue, HasClocks, HasRoot, IsAlive, AreClocks, AreInOrder, is_condition, IsRoot, IsFree, IsStore, Keeps, IsValid, KeepsToShare, KeepsToTriangularShare, AreConditions, IsFreeSystem, IsSystem, AreClassesInOrder, IsTriangular};
 ghost use Rattle.sig_solve.specs.Frames.{IsFrame};
 ghost use Rattle.sig_solve.specs.Refusals.{IsRefusalOf, IsSystemRoom, IsWithin};
 ghost use Rattle.sig_solve.specs.Rounds.{AreSettled};
@@ -53,12 +44,55 @@ fn system(
     }
 }
 
+/// The system of a triangular kernel with its conditions in an order: one that is given, where it has
+/// them in that order.
+fn system_in(
+    alloc: Global,
+    kernel: &Kernel,
+    first: System,
+    conditions: &[SigId],
+    store: &mut Store,
+) -> Result<System, RelAnswer>
+    requires valid { IsValid kernel.now }
+    requires was_store { IsStore store.old }
+    requires first { IsSystem kernel.now store.old.nodes first }
+    requires first_free { IsFreeSystem store.old.nodes first }
+    requires conditions { AreConditions kernel.now conditions.now }
+    requires triangular { IsTriangular kernel.now }
+    ensures store { IsStore store.new }
+    ensures kept { Keeps store.old store.new }
+    ensures conditions { IfOk result (λ system. system.conditions ≡ conditions.now) }
+    ensures system { IfOk result (IsSystem kernel.now store.new.nodes) }
+    ensures free { IfOk result (IsFreeSystem store.new.nodes) }
+    ensures share { KeepsToShare kernel.now store.old store.new result }
+    ensures triangular { KeepsToTriangularShare kernel.now store.old store.new result }
+{
+    if are_same(first.conditions.as_slice(), conditions) {
+        return Ok(first);
+    }
+    system(alloc, kernel, conditions, store)
+}
+
+/// Whether two lists of conditions are the same.
+fn are_same(a: &[SigId], b: &[SigId]) -> bool
+    ensures { IsTrue result → a.now ≡ b.now }
+{
+    a == b
+}
+
+/// The layers of a triangular kernel, and its system with the conditions by number.
+#[derive(Drop)]
+struct Layered {
+    numbers: Vec<u32>,
+    system: System,
+}
+
 /// The layers of a triangular kernel: rounds over the system with the conditions by number.
 fn triangular_layers(
     alloc: Global,
     frame: &Frame,
     store: &mut Store,
-) -> Result<Vec<u32>, ClockAnswer>
+) -> Result<Layered, ClockAnswer>
     requires valid { IsValid frame.now.kernel.now }
     requires frame { IsFrame frame.now }
     requires store { IsStore store.old }
@@ -66,7 +100,9 @@ fn triangular_layers(
     requires root { HasRoot frame.now.kernel.now }
     ensures store { IsStore store.new }
     ensures kept { Keeps store.old store.new }
-    ensures value { IfOk result (λ layers. AreSettled frame.now layers.items []) }
+    ensures value { IfOk result (λ layered. AreSettled frame.now layered.numbers.items []) }
+    ensures system { IfOk result (λ layered. IsSystem frame.now.kernel.now store.new.nodes layered.system) }
+    ensures free_system { IfOk result (λ layered. IsFreeSystem store.new.nodes layered.system) }
     ensures free { IfOk result (λ _. IsAlive frame.now.kernel.now
         × ((c : ℕ) → is_condition frame.now.kernel.now c ≡ true → IsFree frame.now.kernel.now c)) }
     ensures refused { IfErr result (IsRefusalOf frame.now.kernel.now) }
@@ -79,7 +115,10 @@ fn triangular_layers(
     if let Some(signal) = layers.waiting.as_slice().first() {
         return Err(ClockAnswer::Unsolved(SigId(*signal)));
     }
-    Ok(layers.numbers)
+    Ok(Layered {
+        numbers: layers.numbers,
+        system,
+    })
 }
 
 /// The conditions in their order, from the layers.
@@ -101,18 +140,22 @@ fn ordered_conditions(
     Ok(ordered)
 }
 
-/// The clocks of a triangular kernel, from its layers and its conditions in their order. The guards
-/// are the presences in the system with the conditions in that order.
+/// The clocks of a triangular kernel, from its layers, its conditions in their order and a system of it.
+/// The guards are the presences in the system with the conditions in that order.
 fn clocks_in(
     alloc: Global,
     frame: &Frame,
     layers: &[u32],
     conditions: Vec<SigId>,
+    first: System,
     root: SigId,
     store: &mut Store,
 ) -> Result<Clocks, ClockAnswer>
     requires valid { IsValid frame.now.kernel.now }
     requires frame { IsFrame frame.now }
+    requires was_store { IsStore store.old }
+    requires first { IsSystem frame.now.kernel.now store.old.nodes first }
+    requires first_free { IsFreeSystem store.old.nodes first }
     requires triangular { IsTriangular frame.now.kernel.now }
     requires settled { AreSettled frame.now layers.now [] }
     requires order { AreInOrder frame.now.kernel.now conditions.items }
@@ -126,7 +169,7 @@ fn clocks_in(
     ensures share { (room : ℕ) → IsSystemRoom frame.now.kernel.now room
         → IsWithin room store.old store.new result }
 {
-    let system = system(alloc, frame.kernel, conditions.as_slice(), store)?;
+    let system = system_in(alloc, frame.kernel, first, conditions.as_slice(), store)?;
     let guards = system.present.as_slice();
     Ok(clocks_of(alloc, frame, layers, conditions, guards, root)?)
 }
@@ -151,10 +194,10 @@ fn solve_frame(
     ensures share { (room : ℕ) → IsSystemRoom frame.now.kernel.now room
         → IsWithin (room + room) store.old store.new result }
 {
-    let layers = triangular_layers(alloc, frame, store)?;
-    let layers = layers.as_slice();
+    let Layered { numbers, system } = triangular_layers(alloc, frame, store)?;
+    let layers = numbers.as_slice();
     let ordered = ordered_conditions(alloc, frame, layers)?;
-    clocks_in(alloc, frame, layers, ordered, root, store)
+    clocks_in(alloc, frame, layers, ordered, system, root, store)
 }
 
 /// The clocks of a triangular kernel, of which the classes are given in an order in which each may

@@ -1,6 +1,4 @@
-use Rattle.std.proofs.Common.{◌≡◌, ◌<◌, ℕ, ◌↔◌}
-use Rattle.std.specs.Prelude.{slice_index_or}
-use Rattle.sig_graph.specs.Counts.{Has}
+use Rattle.sig_graph.proofs.{◌≡◌, ◌<◌, ℕ, ◌↔◌, slice_index_or, Has}
 use Rattle.sig_graph.proofs.counts.ready_first.Given as goal
 
 abbrev pub invariant-loop-number : goal.invariant-loop-number

@@ -1,7 +1,4 @@
-use Rattle.std.proofs.Common.{ℕ, List, sym, subst, take, get_or, ◌∷◌, []}
-use Rattle.std.proofs.lemmas.List.{take_more}
-use Rattle.sig_graph.specs.Counts.{Releases}
-use Rattle.sig_graph.proofs.Counting.{releases_then, some_left}
+use Rattle.sig_graph.proofs.{ℕ, List, sym, subst, take, get_or, ◌∷◌, [], take_more, Releases, releases_then, some_left}
 use Rattle.sig_graph.proofs.counts.release.Goals as goal
 
 pub lower-requires-clause-enough : goal.lower-requires-clause-enough

@@ -1,5 +1,4 @@
-use Rattle.std.proofs.Common.{take}
-use Rattle.sig_graph.specs.Counts.{Releases}
+use Rattle.sig_graph.proofs.{take, Releases}
 use Rattle.sig_graph.proofs.counts.release.Given as goal
 
 abbrev pub invariant-loop-number : goal.invariant-loop-number

@@ -1,9 +1,4 @@
-use Rattle.std.proofs.Common.{◌≡◌, ◌<◌, ◌+◌, ℕ, Bool, get_or, sym, subst, ◌∙◌, length, arith, refl, true, false}
-use Rattle.std.proofs.lemmas.Bool.{false≢true}
-use Rattle.std.proofs.lemmas.List.{get_or_read}
-use Rattle.sig_graph.specs.Marks.{IsLeastOnCycle}
-use Rattle.sig_graph.proofs.Lists.{read_is}
-use Rattle.sig_graph.proofs.Walking.{least_not_here, least_with_here}
+use Rattle.sig_graph.proofs.{◌≡◌, ◌<◌, ◌+◌, ℕ, Bool, get_or, sym, subst, ◌∙◌, length, arith, refl, true, false, false≢true, get_or_read, IsLeastOnCycle, read_is, least_not_here, least_with_here}
 use Rattle.sig_graph.proofs.cycles.least_on_cycle.Goals as goal
 use Rattle.sig_graph.proofs.cycles.least_on_cycle.Goals.{then-index, else-index}
 

@@ -1,4 +1,4 @@
-use Rattle.sig_graph.specs.Marks.{IsLeastOnCycle}
+use Rattle.sig_graph.proofs.{IsLeastOnCycle}
 use Rattle.sig_graph.proofs.cycles.least_on_cycle.Given as goal
 
 abbrev pub invariant-loop-number : goal.invariant-loop-number

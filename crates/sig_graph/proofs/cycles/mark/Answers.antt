@@ -1,7 +1,4 @@
-use Rattle.std.proofs.Common.{ℕ, List, sym, subst, set, true}
-use Rattle.sig_graph.specs.Marks.{Visits}
-use Rattle.std.proofs.Common.{◌∷◌, []}
-use Rattle.sig_graph.proofs.Walking.{visits_new}
+use Rattle.sig_graph.proofs.{ℕ, List, sym, subst, set, true, Visits, ◌∷◌, [], visits_new}
 use Rattle.sig_graph.proofs.cycles.mark.Goals as goal
 
 pub returns : goal.returns

@@ -1,11 +1,4 @@
-use Rattle.std.proofs.Common.{◌≡◌, ◌<◌, ◌∙◌, ℕ, Bool, List, sym, ap, subst, length, refl, false, Contains, rules}
-use Rattle.std.specs.Prelude.{All}
-use Rattle.std.proofs.lemmas.List.{length-replicate, nil_from_length}
-use Rattle.std.proofs.lemmas.List.Elements.{Contains-push}
-use Rattle.sig_clock.proofs.Lists.{written}
-use Rattle.sig_graph.specs.Marks.{Walks}
-use Rattle.sig_graph.proofs.Takings.{edges_below, edges_read}
-use Rattle.sig_graph.proofs.Walking.{visits_as, waiting_below, walk_begins, walk_ends, walk_goes_on}
+use Rattle.sig_graph.proofs.{◌≡◌, ◌<◌, ◌∙◌, ℕ, Bool, List, sym, ap, subst, length, refl, false, Contains, rules, All, length-replicate, nil_from_length, Contains-push, written, Walks, edges_below, edges_read, visits_as, waiting_below, walk_begins, walk_ends, walk_goes_on}
 use Rattle.sig_graph.proofs.cycles.reaching.Goals as goal
 
 pub visit-requires : goal.visit-requires

@@ -1,7 +1,4 @@
-use Rattle.std.proofs.Common.{◌+◌, ◌-◌, length}
-use Rattle.std.specs.Prelude.{vec_len}
-use Rattle.sig_graph.specs.Graphs.{marked_count}
-use Rattle.sig_graph.specs.Marks.{Walks}
+use Rattle.sig_graph.proofs.{◌+◌, ◌-◌, length, vec_len, marked_count, Walks}
 use Rattle.sig_graph.proofs.cycles.reaching.Given as goal
 
 abbrev pub invariant-loop-number : goal.invariant-loop-number

@@ -1,7 +1,4 @@
-use Rattle.std.proofs.Common.{ℕ, List, sym, subst, take, get_or, ◌∷◌, []}
-use Rattle.std.proofs.lemmas.List.{take_more}
-use Rattle.sig_graph.specs.Marks.{Visits}
-use Rattle.sig_graph.proofs.Walking.{visits_then}
+use Rattle.sig_graph.proofs.{ℕ, List, sym, subst, take, get_or, ◌∷◌, [], take_more, Visits, visits_then}
 use Rattle.sig_graph.proofs.cycles.visit.Goals as goal
 
 pub loop-number-preserved : goal.loop-number-preserved

@@ -1,5 +1,4 @@
-use Rattle.std.proofs.Common.{take}
-use Rattle.sig_graph.specs.Marks.{Visits}
+use Rattle.sig_graph.proofs.{take, Visits}
 use Rattle.sig_graph.proofs.cycles.visit.Given as goal
 
 abbrev pub invariant-loop-number : goal.invariant-loop-number

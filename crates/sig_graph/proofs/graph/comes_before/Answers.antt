@@ -1,8 +1,4 @@
-use Rattle.std.proofs.Common.{List, sym, ◌∙◌, subst, Contains}
-use Rattle.std.proofs.lemmas.Bool.{false≢true}
-use Rattle.std.proofs.lemmas.Result.{IfOk-weaker}
-use Rattle.sig_base.specs.declared.ids.SigId.{SigId}
-use Rattle.sig_graph.proofs.Coming.{before_overlaps, feeds_before, found, not_before, not_found}
+use Rattle.sig_graph.proofs.{List, sym, ◌∙◌, subst, Contains, false≢true, IfOk-weaker, SigId, before_overlaps, feeds_before, found, not_before, not_found}
 use Rattle.sig_graph.proofs.graph.comes_before.Goals as goal
 
 pub returns-then-not-contains : goal.returns-then-not-contains

@@ -1,18 +1,4 @@
-use Rattle.std.proofs.Common.{◌≡◌, ◌<◌, ◌∙◌, ◌↔◌, Contains, ℕ, List, [], ap, sym, subst, arith, length, map, All, get_or}
-use Rattle.std.specs.Prelude.{Some, slice_get}
-use Rattle.std.specs.List.{filter_map}
-use Rattle.std.proofs.lemmas.List.{get_or_read, length-map, length_push}
-use Rattle.std.proofs.lemmas.List.Elements.{All-map}
-use Rattle.sig_clock.specs.Clocks.{ClocksView}
-use Rattle.sig_dd.specs.Nodes.{Holds}
-use Rattle.sig_dd.specs.Supports.{IsSupport}
-use Rattle.sig_dd.specs.declared.node.Ref.{Ref}
-use Rattle.sig_base.specs.declared.ids.SigId.{SigId}
-use Rattle.sig_plan.specs.Operations.{operation_in}
-use Rattle.sig_plan.specs.Order.{Needs}
-use Rattle.sig_plan.specs.declared.op.Op.{Op}
-use Rattle.sig_graph.proofs.Coming.{graph_more, needs_are}
-use Rattle.sig_graph.proofs.Lists.{get_map, get_within, read_is}
+use Rattle.sig_graph.proofs.{◌≡◌, ◌<◌, ◌∙◌, ◌↔◌, Contains, ℕ, List, [], ap, sym, subst, arith, length, map, All, get_or, Some, slice_get, filter_map, get_or_read, length-map, length_push, All-map, ClocksView, Holds, IsSupport, Ref, SigId, operation_in, Needs, Op, graph_more, needs_are, get_map, get_within, read_is}
 use Rattle.sig_graph.proofs.graph.graph_of.Goals as goal
 
 pub supports-requires : goal.supports-requires

@@ -1,7 +1,4 @@
-use Rattle.std.proofs.Common.{◌≡◌, ◌<◌, ℕ, []}
-use Rattle.std.specs.Prelude.{length, slice_get, slice_index_or, Some}
-use Rattle.sig_graph.specs.Graphs.{IsBefore}
-use Rattle.sig_plan.specs.declared.op.Op.{Op}
+use Rattle.sig_graph.proofs.{◌≡◌, ◌<◌, ℕ, [], length, slice_get, slice_index_or, Some, IsBefore, Op}
 use Rattle.sig_graph.proofs.graph.graph_of.Given as goal
 
 abbrev pub invariant-loop-number : goal.invariant-loop-number

@@ -1,7 +1,4 @@
-use Rattle.std.proofs.Common.{List, subst, take_all}
-use Rattle.sig_graph.specs.Graphs.{IsBefore}
-use Rattle.sig_plan.specs.declared.op.Op.{Op}
-use Rattle.sig_graph.proofs.Coming.{before_more}
+use Rattle.sig_graph.proofs.{List, subst, take_all, IsBefore, Op, before_more}
 use Rattle.sig_graph.proofs.graph.predecessors_of.Goals as goal
 
 pub loop-number-preserved : goal.loop-number-preserved

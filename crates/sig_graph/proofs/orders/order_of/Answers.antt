@@ -1,13 +1,4 @@
-use Rattle.std.proofs.Common.{◌≡◌, ◌∙◌, sym, subst, length, arith, rules, ℕ, List}
-use Rattle.std.specs.Prelude.{vec_len}
-use Rattle.std.proofs.lemmas.List.{length-map}
-use Rattle.sig_base.specs.declared.ids.OpId.{OpId}
-use Rattle.sig_graph.specs.Graphs.{IsGraph, IsTakenOut}
-use Rattle.sig_graph.specs.Marks.{IsLeastOnCycle}
-use Rattle.sig_plan.specs.Operations.{operations_in}
-use Rattle.sig_plan.specs.Plans.{numbers_of}
-use Rattle.sig_graph.proofs.Relating.{acyclic, cycle_is, graph_within, no_cycle, order_is, ordered_no_cycle}
-use Rattle.sig_graph.proofs.Takings.{taken_ordered, taking_ends}
+use Rattle.sig_graph.proofs.{◌≡◌, ◌∙◌, sym, subst, length, arith, rules, ℕ, List, vec_len, length-map, OpId, IsGraph, IsTakenOut, IsLeastOnCycle, operations_in, numbers_of, acyclic, cycle_is, graph_within, no_cycle, order_is, ordered_no_cycle, taken_ordered, taking_ends}
 use Rattle.sig_graph.proofs.orders.order_of.Goals as goal
 
 pub take_all-requires-clause-within : goal.take_all-requires-clause-within

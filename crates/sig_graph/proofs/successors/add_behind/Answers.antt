@@ -1,7 +1,4 @@
-use Rattle.std.proofs.Common.{◌<◌, ℕ, List, [], ◌∷◌, ◌++◌, ◌∙◌, sym, ap, subst, take, get_or, set, length, arith}
-use Rattle.std.proofs.lemmas.List.{get_or_read, take_more}
-use Rattle.sig_graph.specs.Counts.{Adds}
-use Rattle.sig_graph.proofs.Counting.{adds_then}
+use Rattle.sig_graph.proofs.{◌<◌, ℕ, List, [], ◌∷◌, ◌++◌, ◌∙◌, sym, ap, subst, take, get_or, set, length, arith, get_or_read, take_more, Adds, adds_then}
 use Rattle.sig_graph.proofs.successors.add_behind.Goals as goal
 
 pub loop-p-preserved : goal.loop-p-preserved

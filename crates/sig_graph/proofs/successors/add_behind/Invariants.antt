@@ -1,5 +1,4 @@
-use Rattle.std.proofs.Common.{take}
-use Rattle.sig_graph.specs.Counts.{Adds}
+use Rattle.sig_graph.proofs.{take, Adds}
 use Rattle.sig_graph.proofs.successors.add_behind.Given as goal
 
 abbrev pub invariant-loop-p : goal.invariant-loop-p

@@ -1,7 +1,4 @@
-use Rattle.std.proofs.Common.{ℕ, [], ◌∷◌, ◌++◌, sym, ap, subst, ◌∙◌, ◌≡◌, List, length, arith, get_or}
-use Rattle.std.proofs.lemmas.List.{length_push}
-use Rattle.sig_graph.specs.Counts.{occurs}
-use Rattle.sig_graph.proofs.Counting.{empty_more}
+use Rattle.sig_graph.proofs.{ℕ, [], ◌∷◌, ◌++◌, sym, ap, subst, ◌∙◌, ◌≡◌, List, length, arith, get_or, length_push, occurs, empty_more}
 use Rattle.sig_graph.proofs.successors.none_each.Goals as goal
 
 pub loop-preserved : goal.loop-preserved

@@ -1,5 +1,4 @@
-use Rattle.std.proofs.Common.{◌≡◌, ℕ, [], length}
-use Rattle.std.specs.Prelude.{slice_index_or}
+use Rattle.sig_graph.proofs.{◌≡◌, ℕ, [], length, slice_index_or}
 use Rattle.sig_graph.proofs.successors.none_each.Given as goal
 
 abbrev pub invariant-loop : goal.invariant-loop

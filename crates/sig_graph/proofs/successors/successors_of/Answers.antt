@@ -1,9 +1,4 @@
-use Rattle.std.proofs.Common.{◌≡◌, ◌<◌, ◌+◌, ◌∙◌, ℕ, List, [], sym, ap, subst, length, get_or, take}
-use Rattle.std.specs.Prelude.{All}
-use Rattle.sig_clock.proofs.Lists.{written}
-use Rattle.sig_graph.specs.Counts.{Adds, AreSuccessors}
-use Rattle.sig_graph.proofs.Counting.{successors_more}
-use Rattle.sig_graph.proofs.Takings.{edges_below, edges_read}
+use Rattle.sig_graph.proofs.{◌≡◌, ◌<◌, ◌+◌, ◌∙◌, ℕ, List, [], sym, ap, subst, length, get_or, take, All, written, Adds, AreSuccessors, successors_more, edges_below, edges_read}
 use Rattle.sig_graph.proofs.successors.successors_of.Goals as goal
 
 pub add_behind-requires : goal.add_behind-requires

@@ -1,5 +1,4 @@
-use Rattle.std.proofs.Common.{take, length}
-use Rattle.sig_graph.specs.Counts.{AreSuccessors}
+use Rattle.sig_graph.proofs.{take, length, AreSuccessors}
 use Rattle.sig_graph.proofs.successors.successors_of.Given as goal
 
 abbrev pub invariant-loop-number : goal.invariant-loop-number

@@ -1,14 +1,4 @@
-use Rattle.std.proofs.Common.{◌≡◌, ◌<◌, ◌≤◌, ◌∷◌, [], ◌∙◌, ℕ, List, sym, ap, subst, length, get_or, arith, rules, Contains}
-use Rattle.std.specs.Prelude.{vec_len}
-use Rattle.std.proofs.lemmas.List.{get_or_read, length-map, map-append}
-use Rattle.std.proofs.lemmas.List.Elements.{Contains-get_or}
-use Rattle.std.proofs.lemmas.Map.Keys.{le_from_not_gt}
-use Rattle.sig_base.specs.declared.ids.OpId.{OpId}
-use Rattle.sig_clock.proofs.Lists.{written}
-use Rattle.sig_graph.specs.Counts.{AreFirst, Releases, Takes, occurs}
-use Rattle.sig_plan.specs.Plans.{numbers_of}
-use Rattle.sig_graph.proofs.Counting.{enough_left, least_open, popped, successors_within, takes_begins, takes_goes_on}
-use Rattle.sig_graph.proofs.Takings.{room_left}
+use Rattle.sig_graph.proofs.{◌≡◌, ◌<◌, ◌≤◌, ◌∷◌, [], ◌∙◌, ℕ, List, sym, ap, subst, length, get_or, arith, rules, Contains, vec_len, get_or_read, length-map, map-append, Contains-get_or, le_from_not_gt, OpId, written, AreFirst, Releases, Takes, occurs, numbers_of, enough_left, least_open, popped, successors_within, takes_begins, takes_goes_on, room_left}
 use Rattle.sig_graph.proofs.taking.take_all.Goals as goal
 
 pub loop-number-init : goal.loop-number-init

@@ -1,7 +1,4 @@
-use Rattle.std.proofs.Common.{◌-◌, length}
-use Rattle.std.specs.Prelude.{vec_len}
-use Rattle.sig_graph.specs.Counts.{Takes}
-use Rattle.sig_plan.specs.Plans.{numbers_of}
+use Rattle.sig_graph.proofs.{◌-◌, length, vec_len, Takes, numbers_of}
 use Rattle.sig_graph.proofs.taking.take_all.Given as goal
 
 abbrev pub invariant-loop-number : goal.invariant-loop-number

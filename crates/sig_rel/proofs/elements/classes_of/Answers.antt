@@ -1,8 +1,4 @@
-use Rattle.std.proofs.Common.{◌≡◌, ◌+◌, ◌<◌, ◌++◌, ℕ, List, [], ◌∷◌, length, get_or, take, ap, sym, ◌∙◌, refl, arith}
-use Rattle.std.proofs.lemmas.List.{take_more}
-use Rattle.sig_rel.specs.Triangles.{classes_among}
-use Rattle.sig_rel.specs.declared.elements.Element.{Element}
-use Rattle.sig_rel.specs.declared.elements.Element.TheVariants.{Presence, Truth}
+use Rattle.sig_rel.proofs.{◌≡◌, ◌+◌, ◌<◌, ◌++◌, ℕ, List, [], ◌∷◌, length, get_or, take, ap, sym, ◌∙◌, refl, arith, take_more, classes_among, Element, Presence, Truth}
 use Rattle.sig_rel.proofs.elements.classes_of.Goals as goal
 
 among_append : (xs ys : List Element) → classes_among (xs ++ ys) ≡ classes_among xs ++ classes_among ys

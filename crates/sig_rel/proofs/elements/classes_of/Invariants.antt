@@ -1,5 +1,4 @@
-use Rattle.std.proofs.Common.{◌≡◌, take}
-use Rattle.sig_rel.specs.Triangles.{classes_among}
+use Rattle.sig_rel.proofs.{◌≡◌, take, classes_among}
 use Rattle.sig_rel.proofs.elements.classes_of.Given as goal
 
 abbrev pub invariant-loop-element : goal.invariant-loop-element

@@ -1,6 +1,4 @@
-use Rattle.std.proofs.Common.{arith}
-use Rattle.sig_rel.proofs.FreeSystems.{is_free_system, is_system}
-use Rattle.sig_rel.proofs.GivenLemmas.{conditions_within}
+use Rattle.sig_rel.proofs.{arith, is_free_system, is_system, conditions_within}
 use Rattle.sig_rel.proofs.free.substituted.Goals as goal
 
 pub system_of-requires : goal.system_of-requires

@@ -1,8 +1,4 @@
-use Rattle.std.proofs.Common.{arith}
-use Rattle.std.specs.Prelude.{slice_get}
-use Rattle.sig_base.specs.declared.ids.SigId.{SigId}
-use Rattle.sig_rel.specs.Numberings.{number_of}
-use Rattle.sig_rel.proofs.Searches.{mapped_more}
+use Rattle.sig_rel.proofs.{arith, slice_get, SigId, number_of, mapped_more}
 use Rattle.sig_rel.proofs.general.proposals_of.Goals as goal
 
 pub loop-condition-preserved : goal.loop-condition-preserved

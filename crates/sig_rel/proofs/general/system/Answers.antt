@@ -1,12 +1,4 @@
-use Rattle.std.proofs.Common.{◌-◌, ℕ, List, Result, Ok, Err, subst, arith}
-use Rattle.sig_dd.specs.declared.answer.DdAnswer.{DdAnswer}
-use Rattle.sig_dd.proofs.CallerLemmas.{Keeps-trans}
-use Rattle.sig_rel.specs.Shares.{Makes}
-use Rattle.sig_rel.specs.Residues.{left_refs}
-use Rattle.sig_rel.specs.Substitutions.{SpanColumns}
-use Rattle.sig_rel.specs.declared.general.Left.{Left}
-use Rattle.sig_rel.proofs.GeneralShares.{lacked_within_share, left_within_share, made_within_share, substituted_within_share}
-use Rattle.sig_rel.proofs.MadeSystems.{IsLeft, asking, made_system}
+use Rattle.sig_rel.proofs.{◌-◌, ℕ, List, Result, Ok, Err, subst, arith, DdAnswer, Keeps-trans, Makes, left_refs, SpanColumns, Left, lacked_within_share, left_within_share, made_within_share, substituted_within_share, IsLeft, asking, made_system}
 use Rattle.sig_rel.proofs.general.system.Goals as goal
 
 pub returns-in_err-substitute-clause-store : goal.returns-in_err-substitute-clause-store

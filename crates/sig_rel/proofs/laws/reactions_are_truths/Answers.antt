@@ -1,4 +1,4 @@
-use Rattle.sig_rel.proofs.ChosenTruths.{truths_of_reaction}
+use Rattle.sig_rel.proofs.{truths_of_reaction}
 use Rattle.sig_rel.proofs.laws.reactions_are_truths.Goals as goal
 
 pub returns : goal.returns

@@ -1,4 +1,4 @@
-use Rattle.sig_rel.proofs.SeenReactions.{reaction_stays, same_test}
+use Rattle.sig_rel.proofs.{reaction_stays, same_test}
 use Rattle.sig_rel.proofs.laws.relations_see_reactions.Goals as goal
 
 pub returns : goal.returns

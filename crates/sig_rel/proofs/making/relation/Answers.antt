@@ -1,17 +1,4 @@
-use Rattle.std.proofs.Common.{◌+◌, ◌-◌, ◌*◌, Ok, Err, length, ap, subst, arith}
-use Rattle.std.specs.List.{list_all}
-use Rattle.sig_dd.specs.Diagram.{Agree}
-use Rattle.sig_dd.specs.Nodes.{test}
-use Rattle.sig_kernel.specs.declared.equation.Equation.{Equation}
-use Rattle.sig_dd.proofs.CallerLemmas.{Keeps-trans}
-use Rattle.sig_rel.specs.FreeColumns.{Adds}
-use Rattle.sig_rel.specs.OwnColumns.{AreOwnColumns, classes_below, truths_below}
-use Rattle.sig_rel.specs.Residues.{is_met}
-use Rattle.sig_rel.specs.Statuses.{itself}
-use Rattle.sig_rel.specs.Substitutions.{SpanColumns, values_at}
-use Rattle.sig_rel.proofs.GeneralShares.{left_within_share, made_within_share, substituted_within_share}
-use Rattle.sig_rel.proofs.OwnSpans.{own_adds, own_columns_hold, own_columns_span}
-use Rattle.sig_rel.proofs.RelationLemmas.{is_relation}
+use Rattle.sig_rel.proofs.{◌+◌, ◌-◌, ◌*◌, Ok, Err, length, ap, subst, arith, list_all, Agree, test, Equation, Keeps-trans, Adds, AreOwnColumns, classes_below, truths_below, is_met, itself, SpanColumns, values_at, left_within_share, made_within_share, substituted_within_share, own_adds, own_columns_hold, own_columns_span, is_relation}
 use Rattle.sig_rel.proofs.making.relation.Goals as goal
 
 pub own-requires-clause-few : goal.own-requires-clause-few

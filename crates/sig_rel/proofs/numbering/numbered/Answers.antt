@@ -1,6 +1,4 @@
-use Rattle.std.proofs.Common.{ap, length, refl, ◌∙◌}
-use Rattle.sig_rel.proofs.GivenLemmas.{none_given}
-use Rattle.sig_rel.proofs.UnknownLemmas.{are_unknowns, lie_within}
+use Rattle.sig_rel.proofs.{ap, length, refl, ◌∙◌, none_given, are_unknowns, lie_within}
 use Rattle.sig_rel.proofs.numbering.numbered.Goals as goal
 
 pub number_elements-requires-clause-given : goal.number_elements-requires-clause-given

@@ -1,5 +1,4 @@
-use Rattle.std.proofs.Common.{ap, length, arith}
-use Rattle.sig_rel.proofs.GivenLemmas.{conditions_within}
+use Rattle.sig_rel.proofs.{ap, length, arith, conditions_within}
 use Rattle.sig_rel.proofs.numbering.unknowns_by.Goals as goal
 
 pub overflow_cast-first : goal.overflow_cast-first

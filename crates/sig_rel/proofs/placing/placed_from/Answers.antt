@@ -1,6 +1,4 @@
-use Rattle.std.proofs.Common.{ap, length, subst}
-use Rattle.sig_rel.specs.Tables.{AreMarks}
-use Rattle.sig_rel.proofs.PlacingLemmas.{begun_first, not_triangular, whole_list}
+use Rattle.sig_rel.proofs.{ap, length, subst, AreMarks, begun_first, not_triangular, whole_list}
 use Rattle.sig_rel.proofs.placing.placed_from.Goals as goal
 
 pub place_all-requires-clause-placed : goal.place_all-requires-clause-placed

@@ -1,10 +1,16 @@
-use Rattle.std.proofs.Common.{◌++◌, ◌∷◌, [], ◌∙◌, sym, arith}
-use Rattle.std.proofs.lemmas.List.FromFn.{map-range_with_len_more}
-use Rattle.sig_rel.specs.Tables.{counted_for}
+use Rattle.sig_rel.proofs.{◌≡◌, ◌∙◌, ℕ, List, Option, None, length, map, sym, ap, subst, range_with_len, length-map, length-range_with_len, written, counted_for, gives, AreFirsts}
 use Rattle.sig_rel.proofs.rules.counted_of.Goals as goal
 
-pub loop-class-preserved : goal.loop-class-preserved
-loop-class-preserved c =
-    let k = c.loop-class.class in
-    c.in_ok-push.ensures.items ∙ (λ j. c.loop-class.invariant j ++ c.counted_for.ensures j ∷ [])
-    ∙ sym (map-range_with_len_more (counted_for c.args.kernel.now c.args.least.now) 0 k k (omega arith))
+pub without_unexcused-requires : goal.without_unexcused-requires
+without_unexcused-requires c = subst (AreFirsts (gives c.args.least.now) c.args.kernel.now) (sym c.deref_mut.ensures.value) c.in_ok-counted.ensures
+
+pub returns : goal.returns
+returns c =
+    let kernel = c.args.kernel.now in
+    let f = counted_for kernel c.args.least.now in
+    let range = range_with_len 0 (length kernel.signals) in
+    let new = c.without_unexcused.new.firsts in
+    let items = c.in_ok-counted.counted.items in
+    let value = c.deref_mut.ensures.value in
+    let count : length new ≡ length items = ap length c.without_unexcused.ensures ∙ length-map range f ∙ length-range_with_len 0 (length kernel.signals) ∙ sym c.in_ok-counted.ensures.count in
+    written c.in_ok-counted.counted.len new items count (sym c.deref_mut.ensures.len ∙ ap length value) ∙ c.without_unexcused.ensures

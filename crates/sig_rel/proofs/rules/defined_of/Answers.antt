@@ -1,6 +1,4 @@
-use Rattle.std.proofs.Common.{◌++◌, ◌∷◌, [], ◌∙◌, sym, arith}
-use Rattle.std.proofs.lemmas.List.FromFn.{map-range_with_len_more}
-use Rattle.sig_rel.specs.Tables.{defined_for}
+use Rattle.sig_rel.proofs.{◌++◌, ◌∷◌, [], ◌∙◌, sym, arith, map-range_with_len_more, defined_for}
 use Rattle.sig_rel.proofs.rules.defined_of.Goals as goal
 
 pub loop-signal-preserved : goal.loop-signal-preserved

@@ -1,6 +1,4 @@
-use Rattle.std.proofs.Common.{◌≡◌, map}
-use Rattle.std.specs.List.{range_with_len}
-use Rattle.sig_rel.specs.Tables.{defined_for}
+use Rattle.sig_rel.proofs.{◌≡◌, map, range_with_len, defined_for}
 use Rattle.sig_rel.proofs.rules.defined_of.Given as goal
 
 abbrev pub invariant-loop-signal : goal.invariant-loop-signal

@@ -1,6 +1,4 @@
-use Rattle.std.proofs.Common.{ap, replicate, length, ◌∙◌, ℕ, List, Option, None}
-use Rattle.sig_base.specs.declared.signal.Signal.{Signal}
-use Rattle.sig_rel.proofs.ScheduleLemmas.{named_first}
+use Rattle.sig_rel.proofs.{ap, replicate, length, ◌∙◌, ℕ, List, Option, None, Signal, named_first}
 use Rattle.sig_rel.proofs.rules.defined_rules.Goals as goal
 
 pub returns : goal.returns

@@ -1,5 +1,4 @@
-use Rattle.sig_rel.specs.Tables.{is_numbered}
-use Rattle.sig_rel.proofs.Searches.{none_any}
+use Rattle.sig_rel.proofs.{is_numbered, none_any}
 use Rattle.sig_rel.proofs.rules.is_listed.Goals as goal
 
 pub returns : goal.returns

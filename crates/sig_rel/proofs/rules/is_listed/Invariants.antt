@@ -1,5 +1,4 @@
-use Rattle.sig_rel.specs.Tables.{is_numbered}
-use Rattle.sig_rel.proofs.Searches.{IsNoneBelow}
+use Rattle.sig_rel.proofs.{is_numbered, IsNoneBelow}
 use Rattle.sig_rel.proofs.rules.is_listed.Given as goal
 
 abbrev pub invariant-loop-condition : goal.invariant-loop-condition

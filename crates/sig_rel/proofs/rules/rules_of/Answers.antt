@@ -1,7 +1,4 @@
-use Rattle.std.proofs.Common.{◌≡◌, List, ℕ, length, map, subst}
-use Rattle.std.specs.List.{range_with_len}
-use Rattle.sig_rel.specs.Tables.{counted_for}
-use Rattle.sig_rel.proofs.RuleLemmas.{are_rules}
+use Rattle.sig_rel.proofs.{◌≡◌, List, ℕ, length, map, subst, range_with_len, counted_for, are_rules}
 use Rattle.sig_rel.proofs.rules.rules_of.Goals as goal
 
 pub returns : goal.returns

@@ -1,5 +1,4 @@
-use Rattle.std.proofs.Common.{◌≡◌, ◌<◌, ℕ, false}
-use Rattle.sig_rel.specs.Tables.{is_top_class}
+use Rattle.sig_rel.proofs.{◌≡◌, ◌<◌, ℕ, false, is_top_class}
 use Rattle.sig_rel.proofs.rules.top_of.Given as goal
 
 abbrev pub invariant-loop-class : goal.invariant-loop-class

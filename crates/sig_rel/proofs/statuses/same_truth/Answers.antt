@@ -1,11 +1,4 @@
-use Rattle.std.proofs.Common.{[], ◌∷◌, not, Ok, ◌∙◌, if◌then◌else◌}
-use Rattle.std.proofs.lemmas.Result.{IfOk-weaker}
-use Rattle.sig_dd.specs.Nodes.{test}
-use Rattle.sig_dd.specs.Shares.{SpanAll}
-use Rattle.sig_rel.specs.Statuses.{itself}
-use Rattle.sig_dd.proofs.CallerLemmas.{Spans-kept}
-use Rattle.sig_rel.proofs.Staying.{choice_is_same, test_kept}
-use Rattle.sig_rel.proofs.Makings.{made_choice, made_one, makes_then}
+use Rattle.sig_rel.proofs.{[], ◌∷◌, not, Ok, ◌∙◌, if◌then◌else◌, IfOk-weaker, test, SpanAll, itself, Spans-kept, choice_is_same, test_kept, made_choice, made_one, makes_then}
 use Rattle.sig_rel.proofs.statuses.same_truth.Goals as goal
 
 pub returns-clause-made : goal.returns-clause-made

@@ -1,10 +1,4 @@
-use Rattle.std.proofs.Common.{[], ◌∷◌, ◌&&◌, Ok, ◌∙◌}
-use Rattle.std.proofs.lemmas.Result.{IfOk-weaker}
-use Rattle.sig_dd.specs.Shares.{SpanAll}
-use Rattle.sig_rel.specs.Statuses.{itself}
-use Rattle.sig_dd.proofs.CallerLemmas.{Spans-kept}
-use Rattle.sig_rel.proofs.Staying.{test_kept}
-use Rattle.sig_rel.proofs.Makings.{made_two, makes_then}
+use Rattle.sig_rel.proofs.{[], ◌∷◌, ◌&&◌, Ok, ◌∙◌, IfOk-weaker, SpanAll, itself, Spans-kept, test_kept, made_two, makes_then}
 use Rattle.sig_rel.proofs.substitution.both_where.Goals as goal
 
 pub returns-clause-made : goal.returns-clause-made

@@ -1,8 +1,4 @@
-use Rattle.std.proofs.Common.{[], ◌∷◌, not, ap, ◌∙◌, arith}
-use Rattle.std.proofs.lemmas.Result.{IfOk-weaker}
-use Rattle.sig_dd.specs.Shares.{SpanAll}
-use Rattle.sig_rel.specs.Statuses.{itself}
-use Rattle.sig_rel.proofs.Makings.{made_one, makes_err, makes_then}
+use Rattle.sig_rel.proofs.{[], ◌∷◌, not, ap, ◌∙◌, arith, IfOk-weaker, SpanAll, itself, made_one, makes_err, makes_then}
 use Rattle.sig_rel.proofs.substitution.differ.Goals as goal
 
 pub returns-in_err-same-clause-made : goal.returns-in_err-same-clause-made

@@ -1,6 +1,4 @@
-use Rattle.std.proofs.Common.{sym, subst, ◌∙◌}
-use Rattle.sig_rel.specs.Systems.{AreConditions}
-use Rattle.sig_rel.proofs.ConditionLists.{conditions_are}
+use Rattle.sig_rel.proofs.{sym, subst, ◌∙◌, AreConditions, conditions_are}
 use Rattle.sig_rel.proofs.triangles.triangle.Goals as goal
 
 pub triangle_of-requires-clause-conditions : goal.triangle_of-requires-clause-conditions

@@ -1,7 +1,4 @@
-use Rattle.std.proofs.Common.{◌∙◌, List, subst, ap}
-use Rattle.sig_base.specs.declared.ids.SigId.{SigId}
-use Rattle.sig_rel.specs.Systems.{SystemView}
-use Rattle.sig_solve.specs.Asked.{ForgetsAllBut}
+use Rattle.sig_solve.proofs.{◌∙◌, List, subst, ap, SigId, SystemView, ForgetsAllBut}
 use Rattle.sig_solve.proofs.awaiting.base_of.Goals as goal
 
 pub returns : goal.returns

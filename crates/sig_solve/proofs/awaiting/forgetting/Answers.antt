@@ -1,5 +1,4 @@
-use Rattle.std.proofs.Common.{◌∙◌, Bool, List, true, false, set, ap, get_or-set_other}
-use Rattle.sig_dd.specs.Diagram.{truth_of}
+use Rattle.sig_solve.proofs.{◌∙◌, Bool, List, true, false, set, ap, get_or-set_other, truth_of}
 use Rattle.sig_solve.proofs.awaiting.forgetting.Goals as goal
 
 pub returns : goal.returns

@@ -1,4 +1,4 @@
-use Rattle.sig_solve.proofs.AskedLemmas.{are_proposed}
+use Rattle.sig_solve.proofs.{are_proposed}
 use Rattle.sig_solve.proofs.awaiting.guide_of.Goals as goal
 
 pub base_of-requires : goal.base_of-requires

@@ -1,13 +1,5 @@
-use Rattle.std.proofs.Common.{◌≡◌, ◌≢◌, ◌+◌, ◌∙◌, ℕ, Bool, List, length, ap, arith}
-use Rattle.std.specs.Prelude.{None}
-use Rattle.sig_dd.specs.Diagram.{truth_of}
-use Rattle.sig_dd.specs.declared.answer.DdAnswer.TheVariants.{OutOfMemory}
-use Rattle.sig_dd.proofs.Adding.{Share-none}
-use Rattle.sig_dd.proofs.CallerLemmas.{Holds-kept}
-use Rattle.sig_solve.specs.Asked.{variables_of}
-use Rattle.sig_solve.proofs.AskedLemmas.{asked_stays}
-use Rattle.sig_solve.proofs.AwaitingLemmas.{apart_ok, rest_kept, tried_keeps}
-use Rattle.sig_solve.proofs.StoreLemmas.{asked, more_calls, out_of_memory, refused}
+use Rattle.sig_solve.proofs.{◌≡◌, ◌≢◌, ◌+◌, ◌∙◌, ℕ, Bool, List, length, ap, arith, None, truth_of, OutOfMemory, Share-none, Holds-kept, variables_of, asked_stays, apart_ok, rest_kept, tried_keeps, more_calls, out_of_memory, refused}
+use Rattle.sig_solve.proofs.StoreLemmas.{asked}
 use Rattle.sig_solve.proofs.awaiting.is_apart.Goals as goal
 
 pub forgetting-requires : goal.forgetting-requires

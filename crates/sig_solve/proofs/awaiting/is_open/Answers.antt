@@ -1,9 +1,5 @@
-use Rattle.std.proofs.Common.{◌+◌, subst, sym}
-use Rattle.sig_dd.proofs.CallerLemmas.{Holds-kept}
-use Rattle.sig_solve.specs.Asked.{ForgetsAllBut, variables_of}
-use Rattle.sig_solve.proofs.AskedLemmas.{asked_stays}
-use Rattle.sig_solve.proofs.AwaitingLemmas.{open_rest, rest_kept}
-use Rattle.sig_solve.proofs.StoreLemmas.{asked, refused}
+use Rattle.sig_solve.proofs.{◌+◌, subst, sym, Holds-kept, ForgetsAllBut, variables_of, asked_stays, open_rest, rest_kept, refused}
+use Rattle.sig_solve.proofs.StoreLemmas.{asked}
 use Rattle.sig_solve.proofs.awaiting.is_open.Goals as goal
 
 pub returns-in_err-with-clause-share : goal.returns-in_err-with-clause-share

@@ -1,7 +1,4 @@
-use Rattle.std.proofs.Common.{false}
-use Rattle.sig_solve.specs.Asked.{variables_of}
-use Rattle.sig_solve.proofs.AskedLemmas.{over_spans, present_over}
-use Rattle.sig_solve.proofs.AwaitingLemmas.{constant_spans, rest_made}
+use Rattle.sig_solve.proofs.{false, variables_of, over_spans, present_over, constant_spans, rest_made}
 use Rattle.sig_solve.proofs.awaiting.rest_of.Goals as goal
 
 pub returns-clause-value : goal.returns-clause-value

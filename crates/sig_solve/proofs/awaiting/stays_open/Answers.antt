@@ -1,9 +1,4 @@
-use Rattle.std.proofs.Common.{◌+◌, ◌*◌, arith}
-use Rattle.std.specs.Prelude.{None}
-use Rattle.sig_dd.proofs.Adding.{Share-none}
-use Rattle.sig_solve.specs.Asked.{variables_of}
-use Rattle.sig_solve.proofs.AwaitingLemmas.{apart_open, awaited_set}
-use Rattle.sig_solve.proofs.StoreLemmas.{more_calls, refused}
+use Rattle.sig_solve.proofs.{◌+◌, ◌*◌, arith, None, Share-none, variables_of, apart_open, awaited_set, more_calls, refused}
 use Rattle.sig_solve.proofs.awaiting.stays_open.Goals as goal
 
 pub returns-then-is_waiting-clause-value : goal.returns-then-is_waiting-clause-value
@@ -19,11 +14,11 @@ returns-then-is_waiting-clause-share c =
 
 pub returns-in_err-turn-clause-share : goal.returns-in_err-turn-clause-share
 returns-in_err-turn-clause-share c =
-    refused (3 + 2 * c.args.asked.now.system.variables) (variables_of c.args.asked.now.system) c.args.store.now c.turn_of.new.store c.from_residual.result c.in_err-turn.field-0.0 c.from_residual.ensures.1 c.in_err-turn.ensures.share
+    refused (3 + 2 * c.args.asked.now.system.variables) (variables_of c.args.asked.now.system) c.args.store.now c.turn_at.new.store c.from_residual.result c.in_err-turn.field-0.0 c.from_residual.ensures.1 c.in_err-turn.ensures.share
 
 pub bounds-awaited-class : goal.bounds-awaited-class
 bounds-awaited-class c = let lt = c.requires.class in let count = c.requires.awaited.count in omega (arith, lt, count)
 
 pub returns-clause-awaited : goal.returns-clause-awaited
 returns-clause-awaited c =
-    awaited_set c.args.store.now c.args.asked.now c.requires.asked c.turn_of.new.store c.in_ok-turn.ensures.kept c.args.awaited.now c.args.class c.in_ok-turn.turn.awaits c.requires.awaited c.in_ok-turn.ensures.awaits
+    awaited_set c.args.store.now c.args.asked.now c.requires.asked c.turn_at.new.store c.in_ok-turn.ensures.kept c.args.awaited.now c.args.class c.in_ok-turn.turn.awaits c.requires.awaited c.in_ok-turn.ensures.awaits

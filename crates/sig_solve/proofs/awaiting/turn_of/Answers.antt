@@ -1,11 +1,4 @@
-use Rattle.std.proofs.Common.{◌≡◌, ◌+◌, ◌*◌, ◌∙◌, ℕ, subst, sym, arith}
-use Rattle.std.specs.Prelude.{None, Some}
-use Rattle.sig_dd.proofs.Adding.{Share-then}
-use Rattle.sig_solve.specs.Asked.{variables_of}
-use Rattle.sig_solve.specs.Awaiting.{IsApart}
-use Rattle.sig_solve.proofs.AskedLemmas.{asked_stays}
-use Rattle.sig_solve.proofs.AwaitingLemmas.{apart_open, rest_kept}
-use Rattle.sig_solve.proofs.StoreLemmas.{more_calls, refused}
+use Rattle.sig_solve.proofs.{◌≡◌, ◌+◌, ◌*◌, ◌∙◌, ℕ, subst, sym, arith, None, Some, Share-then, variables_of, IsApart, asked_stays, apart_open, rest_kept, more_calls, refused}
 use Rattle.sig_solve.proofs.awaiting.turn_of.Goals as goal
 
 pub returns-in_err-rest-clause-share : goal.returns-in_err-rest-clause-share

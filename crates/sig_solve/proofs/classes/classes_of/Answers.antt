@@ -1,8 +1,4 @@
-use Rattle.std.proofs.Common.{◌+◌, length, sym, ap, ◌∙◌, subst, arith}
-use Rattle.std.proofs.lemmas.List.{length_push}
-use Rattle.std.specs.Prelude.{Some}
-use Rattle.sig_solve.specs.Classes.{IsPlace}
-use Rattle.sig_solve.proofs.FirstLemmas.{classes_more}
+use Rattle.sig_solve.proofs.{◌+◌, length, sym, ap, ◌∙◌, subst, arith, length_push, Some, IsPlace, classes_more}
 use Rattle.sig_solve.proofs.classes.classes_of.Goals as goal
 
 pub unreachable-requires : goal.unreachable-requires

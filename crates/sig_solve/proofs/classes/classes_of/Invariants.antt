@@ -1,5 +1,4 @@
-use Rattle.std.proofs.Common.{◌≡◌, length}
-use Rattle.sig_solve.specs.Classes.{AreClasses}
+use Rattle.sig_solve.proofs.{◌≡◌, length, AreClasses}
 use Rattle.sig_solve.proofs.classes.classes_of.Given as goal
 
 abbrev pub invariant-loop-signal : goal.invariant-loop-signal

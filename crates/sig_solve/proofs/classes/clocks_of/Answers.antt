@@ -1,16 +1,4 @@
-use Rattle.std.proofs.Common.{◌≡◌, ◌<◌, ◌≤◌, ◌+◌, ◌*◌, ℕ, List, length, map, get_or, refl, sym, ap, ◌∙◌, subst, arith}
-use Rattle.std.specs.Prelude.{slice_get}
-use Rattle.std.specs.List.{range_with_len}
-use Rattle.std.proofs.lemmas.List.FromFn.{length-range_with_len}
-use Rattle.sig_base.specs.declared.ids.SigId.{SigId}
-use Rattle.sig_clock.specs.Conditions.{signal_id}
-use Rattle.sig_solve.specs.Classes.{AreClasses, AreFirsts, AreGuardsOf}
-use Rattle.sig_solve.specs.Rounds.{layer_in}
-use Rattle.sig_solve.specs.Orders.{by_layer}
-use Rattle.sig_solve.proofs.ListLemmas.{map_length}
-use Rattle.sig_solve.proofs.OrderLemmas.{by_fewer, by_order, listed_signal, sorted_signals}
-use Rattle.sig_solve.proofs.ClassLemmas.{first_within}
-use Rattle.sig_solve.proofs.RoundLemmas.{leaders_fewer}
+use Rattle.sig_solve.proofs.{◌≡◌, ◌<◌, ◌≤◌, ◌+◌, ◌*◌, ℕ, List, length, map, get_or, refl, sym, ap, ◌∙◌, subst, arith, slice_get, range_with_len, length-range_with_len, SigId, signal_id, AreClasses, AreFirsts, AreGuardsOf, layer_in, by_layer, map_length, by_fewer, by_order, listed_signal, sorted_signals, first_within, leaders_fewer}
 use Rattle.sig_solve.proofs.classes.clocks_of.Goals as goal
 use Rattle.sig_solve.proofs.classes.clocks_of.Goals.{In_ok-ordered, In_ok-firsts}
 

@@ -1,10 +1,4 @@
-use Rattle.std.proofs.Common.{◌≡◌, List, [], ◌∷◌, ◌++◌, length, take, sym, ap, ◌∙◌, subst, get_or, arith}
-use Rattle.std.proofs.lemmas.List.{length_push, take_all}
-use Rattle.std.specs.Prelude.{slice_get}
-use Rattle.sig_base.specs.declared.ids.SigId.{SigId}
-use Rattle.sig_solve.specs.Classes.{AreFirsts, Precedes}
-use Rattle.sig_solve.proofs.FirstLemmas.{before_place, firsts_begin, firsts_more, firsts_stay}
-use Rattle.sig_solve.proofs.ListLemmas.{get_at, take_next}
+use Rattle.sig_solve.proofs.{◌≡◌, List, [], ◌∷◌, ◌++◌, length, take, sym, ap, ◌∙◌, subst, get_or, arith, length_push, take_all, slice_get, SigId, AreFirsts, Precedes, before_place, firsts_begin, firsts_more, firsts_stay, get_at, take_next}
 use Rattle.sig_solve.proofs.classes.firsts_of.Goals as goal
 use Rattle.sig_solve.proofs.classes.firsts_of.Goals.{in-Some, in-None+in_ok-push-in-None}
 

@@ -1,5 +1,4 @@
-use Rattle.std.proofs.Common.{◌≤◌, ◌+◌, length, take}
-use Rattle.sig_solve.specs.Classes.{AreFirsts}
+use Rattle.sig_solve.proofs.{◌≤◌, ◌+◌, length, take, AreFirsts}
 use Rattle.sig_solve.proofs.classes.firsts_of.Given as goal
 
 abbrev pub invariant-loop-signal : goal.invariant-loop-signal

@@ -1,7 +1,4 @@
-use Rattle.std.proofs.Common.{◌≡◌, ◌<◌, ℕ, length}
-use Rattle.std.specs.Prelude.{Some, slice_get}
-use Rattle.sig_base.specs.declared.ids.SigId.{SigId}
-use Rattle.sig_solve.specs.Classes.{guard_at}
+use Rattle.sig_solve.proofs.{◌≡◌, ◌<◌, ℕ, length, Some, slice_get, SigId, guard_at}
 use Rattle.sig_solve.proofs.classes.guards_at.Given as goal
 
 abbrev pub invariant-loop-first : goal.invariant-loop-first

@@ -1,5 +1,4 @@
-use Rattle.std.proofs.Common.{◌≡◌, map, take}
-use Rattle.sig_solve.specs.Rounds.{layer_in}
+use Rattle.sig_solve.proofs.{◌≡◌, map, take, layer_in}
 use Rattle.sig_solve.proofs.classes.layers_at.Given as goal
 
 abbrev pub invariant-loop-first : goal.invariant-loop-first

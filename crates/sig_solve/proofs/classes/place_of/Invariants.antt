@@ -1,7 +1,4 @@
-use Rattle.std.proofs.Common.{◌≡◌, ◌<◌, ℕ}
-use Rattle.std.specs.Prelude.{Some, slice_get}
-use Rattle.sig_base.specs.declared.ids.SigId.{SigId}
-use Rattle.sig_solve.specs.Classes.{guard_at}
+use Rattle.sig_solve.proofs.{◌≡◌, ◌<◌, ℕ, Some, slice_get, SigId, guard_at}
 use Rattle.sig_solve.proofs.classes.place_of.Given as goal
 
 abbrev pub invariant-loop-place : goal.invariant-loop-place

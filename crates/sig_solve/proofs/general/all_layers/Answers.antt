@@ -1,6 +1,4 @@
-use Rattle.std.proofs.Common.{sym, ap, ◌∙◌}
-use Rattle.std.specs.Prelude.{slice_get}
-use Rattle.sig_solve.proofs.SolveLemmas.{unsolved_at}
+use Rattle.sig_solve.proofs.{sym, ap, ◌∙◌, slice_get, unsolved_at}
 use Rattle.sig_solve.proofs.general.all_layers.Goals as goal
 
 pub returns-in-Some-clause-refused : goal.returns-in-Some-clause-refused

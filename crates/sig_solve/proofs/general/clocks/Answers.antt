@@ -1,9 +1,4 @@
-use Rattle.std.proofs.Common.{length, sym, ap, ◌∙◌, subst, get_or, arith}
-use Rattle.std.specs.Prelude.{slice_get}
-use Rattle.sig_solve.specs.Guards.{AreGuards}
-use Rattle.sig_solve.proofs.ClassLemmas.{clocks_are}
-use Rattle.sig_solve.proofs.FrameLemmas.{leader_in}
-use Rattle.sig_solve.proofs.RoundLemmas.{conditions_few}
+use Rattle.sig_solve.proofs.{length, sym, ap, ◌∙◌, subst, get_or, arith, slice_get, AreGuards, clocks_are, leader_in, conditions_few}
 use Rattle.sig_solve.proofs.general.clocks.Goals as goal
 
 pub guards_of-requires-clause-few : goal.guards_of-requires-clause-few

@@ -1,16 +1,4 @@
-use Rattle.std.proofs.Common.{◌≡◌, ◌≤◌, ◌+◌, ◌*◌, List, length, ap, ◌∙◌, subst, arith}
-use Rattle.std.specs.Prelude.{None}
-use Rattle.std.proofs.Math.Nat.{mul-le-mul_left}
-use Rattle.sig_base.specs.declared.ids.SigId.{SigId}
-use Rattle.sig_clock.specs.Conditions.{conditions_of}
-use Rattle.sig_solve.specs.Answers.{FindsPinned}
-use Rattle.sig_solve.specs.Orders.{by_layer}
-use Rattle.sig_solve.specs.Asked.{variables_of}
-use Rattle.sig_solve.specs.declared.frame.Frame.{Frame}
-use Rattle.sig_solve.proofs.OrderLemmas.{by_fewer, conditions_in_order}
-use Rattle.sig_solve.proofs.RoundLemmas.{leaders_fewer}
-use Rattle.sig_solve.proofs.SolveLemmas.{pinned_at, refused_from}
-use Rattle.sig_solve.proofs.StoreLemmas.{more_calls}
+use Rattle.sig_solve.proofs.{◌≡◌, ◌≤◌, ◌+◌, ◌*◌, List, length, ap, ◌∙◌, subst, arith, None, mul-le-mul_left, SigId, conditions_of, FindsPinned, by_layer, variables_of, Frame, by_fewer, conditions_in_order, leaders_fewer, pinned_at, refused_from, more_calls}
 use Rattle.sig_solve.proofs.general.free_conditions.Goals as goal
 use Rattle.sig_solve.proofs.general.free_conditions.Goals.{In_ok-ordered}
 

@@ -1,14 +1,4 @@
-use Rattle.std.proofs.Common.{◌+◌, ◌*◌, length}
-use Rattle.std.specs.Prelude.{None}
-use Rattle.sig_clock.specs.ClockRefusals.{HasClocks}
-use Rattle.sig_clock.specs.Clocks.{AreClocks}
-use Rattle.sig_clock.specs.Conditions.{conditions_of}
-use Rattle.sig_dd.proofs.Adding.{Share-then}
-use Rattle.sig_dd.proofs.CallerLemmas.{Keeps-trans}
-use Rattle.sig_solve.specs.Asked.{variables_of}
-use Rattle.sig_solve.specs.Refusals.{store_refusal}
-use Rattle.sig_solve.proofs.AskedLemmas.{asked_stays}
-use Rattle.sig_solve.proofs.SolveLemmas.{solved, with_clocks}
+use Rattle.sig_solve.proofs.{◌+◌, ◌*◌, length, None, HasClocks, AreClocks, conditions_of, Share-then, Keeps-trans, variables_of, store_refusal, asked_stays, solved, with_clocks}
 use Rattle.sig_solve.proofs.general.solve_asked.Goals as goal
 
 pub all_layers-requires-clause-asked : goal.all_layers-requires-clause-asked

@@ -1,9 +1,4 @@
-use Rattle.std.proofs.Common.{◌+◌, ◌∙◌, subst, sym}
-use Rattle.sig_dd.proofs.CallerLemmas.{Keeps-trans}
-use Rattle.sig_rel.specs.Systems.{AreConditions}
-use Rattle.sig_solve.specs.Refusals.{rest_of_share, share_of}
-use Rattle.sig_solve.proofs.ConditionLists.{conditions_by_number}
-use Rattle.sig_solve.proofs.CountLemmas.{halves, within_equal, within_relation, within_then}
+use Rattle.sig_solve.proofs.{◌+◌, ◌∙◌, subst, sym, Keeps-trans, AreConditions, rest_of_share, share_of, conditions_by_number, halves, within_equal, within_relation, within_then}
 use Rattle.sig_solve.proofs.general.solve_by_system.Goals as goal
 
 pub system-requires-clause-conditions : goal.system-requires-clause-conditions

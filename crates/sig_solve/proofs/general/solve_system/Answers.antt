@@ -1,19 +1,4 @@
-use Rattle.std.proofs.Common.{◌≡◌, ◌+◌, length, sym, ap, ◌∙◌, subst, arith, IfOk}
-use Rattle.std.specs.Prelude.{IfErr, None}
-use Rattle.sig_clock.specs.ClockRefusals.{HasClocks}
-use Rattle.sig_clock.specs.Clocks.{AreClocks}
-use Rattle.sig_clock.specs.Conditions.{conditions_of}
-use Rattle.sig_dd.specs.Shares.{Share}
-use Rattle.sig_dd.proofs.Adding.{Share-then}
-use Rattle.sig_rel.specs.Relations.{IsUnknownCount}
-use Rattle.sig_rel.specs.Systems.{AreConditions, SystemView}
-use Rattle.sig_solve.specs.Asked.{variables_of}
-use Rattle.sig_solve.specs.Refusals.{IsRefusalOf, IsWithin, calls_of, rest_of_share, store_refusal}
-use Rattle.sig_solve.specs.declared.frame.Frame.{Frame}
-use Rattle.sig_solve.proofs.ConditionLists.{conditions_by_number}
-use Rattle.sig_solve.proofs.SolveLemmas.{refused_from, rest_within}
-use Rattle.sig_solve.proofs.StoreLemmas.{more_calls}
-use Rattle.sig_solve.proofs.SystemLemmas.{variables_count}
+use Rattle.sig_solve.proofs.{◌≡◌, ◌+◌, length, sym, ap, ◌∙◌, subst, arith, IfOk, IfErr, None, HasClocks, AreClocks, conditions_of, Share, Share-then, IsUnknownCount, AreConditions, SystemView, variables_of, IsRefusalOf, IsWithin, calls_of, rest_of_share, store_refusal, Frame, conditions_by_number, refused_from, rest_within, more_calls, variables_count}
 use Rattle.sig_solve.proofs.general.solve_system.Goals as goal
 use Rattle.sig_solve.proofs.general.solve_system.Goals.{In_ok-asked}
 

@@ -1,22 +1,4 @@
-use Rattle.std.proofs.Common.{◌≡◌, ◌≢◌, ◌<◌, ◌+◌, ◌*◌, inl, inr, ℕ, List, length, get_or, set, sym, ap, ◌∙◌, subst, arith, Contains}
-use Rattle.std.specs.Prelude.{None, Some, slice_get}
-use Rattle.std.proofs.Math.ListN.{length-set}
-use Rattle.std.proofs.lemmas.Bool.{cases_eq}
-use Rattle.std.proofs.lemmas.List.{get_or_default}
-use Rattle.sig_base.specs.declared.ids.SigId.{SigId}
-use Rattle.sig_dd.specs.Nodes.{StoreView, Keeps}
-use Rattle.sig_dd.specs.declared.node.Ref.{Ref}
-use Rattle.sig_dd.specs.declared.node.Node.{Node}
-use Rattle.sig_dd.proofs.CallerLemmas.{Keeps-trans}
-use Rattle.sig_solve.specs.Asked.{variables_of}
-use Rattle.sig_solve.specs.Frames.{leaders_of}
-use Rattle.sig_solve.specs.Guards.{IsGuard}
-use Rattle.sig_solve.specs.declared.frame.Frame.{Frame}
-use Rattle.sig_solve.proofs.AskedGuards.{guard_stays}
-use Rattle.sig_solve.proofs.AskedLemmas.{are_proposed, asked_stays}
-use Rattle.sig_solve.proofs.ListLemmas.{get_set_other, get_set_same}
-use Rattle.sig_solve.proofs.RootLemmas.{leader_at, ordered_leaders}
-use Rattle.sig_solve.proofs.StoreLemmas.{next_turn, refused, turn_within}
+use Rattle.sig_solve.proofs.{◌≡◌, ◌≢◌, ◌<◌, ◌+◌, ◌*◌, inl, inr, ℕ, List, length, get_or, set, sym, ap, ◌∙◌, subst, arith, Contains, None, Some, slice_get, length-set, cases_eq, get_or_default, SigId, StoreView, Keeps, Ref, Node, Keeps-trans, variables_of, leaders_of, IsGuard, Frame, guard_stays, are_proposed, asked_stays, get_set_other, get_set_same, leader_at, ordered_leaders, next_turn, refused, turn_within}
 use Rattle.sig_solve.proofs.guards.guards_of.Goals as goal
 
 pub places_of-requires-clause-proposed : goal.places_of-requires-clause-proposed

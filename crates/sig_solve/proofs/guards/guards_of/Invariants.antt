@@ -1,10 +1,4 @@
-use Rattle.std.proofs.Common.{◌≡◌, ◌<◌, ◌+◌, ◌*◌, ℕ, length, get_or}
-use Rattle.std.specs.Prelude.{None, Some, slice_get}
-use Rattle.sig_dd.specs.Nodes.{IsStore, Keeps}
-use Rattle.sig_dd.specs.Shares.{Share}
-use Rattle.sig_dd.specs.declared.node.Ref.{Ref}
-use Rattle.sig_solve.specs.Asked.{variables_of}
-use Rattle.sig_solve.specs.Guards.{IsGuard}
+use Rattle.sig_solve.proofs.{◌≡◌, ◌<◌, ◌+◌, ◌*◌, ℕ, length, get_or, None, Some, slice_get, IsStore, Keeps, Share, Ref, variables_of, IsGuard}
 use Rattle.sig_solve.proofs.guards.guards_of.Given as goal
 
 abbrev pub invariant-loop-leader : goal.invariant-loop-leader

@@ -1,6 +1,4 @@
-use Rattle.std.proofs.Common.{◌≡◌, ◌<◌, ℕ}
-use Rattle.sig_base.specs.declared.ids.SigId.{SigId}
-use Rattle.std.specs.Prelude.{Some, slice_get}
+use Rattle.sig_solve.proofs.{◌≡◌, ◌<◌, ℕ, SigId, Some, slice_get}
 use Rattle.sig_solve.proofs.guards.place_of.Given as goal
 
 abbrev pub invariant-loop-place : goal.invariant-loop-place

@@ -1,9 +1,4 @@
-use Rattle.std.proofs.Common.{◌≡◌, ◌<◌, ℕ, List, get_or, length, sym, ap, ◌∙◌, arith}
-use Rattle.std.specs.Prelude.{Some, slice_get}
-use Rattle.sig_base.specs.declared.ids.SigId.{SigId}
-use Rattle.sig_rel.specs.Systems.{SystemView}
-use Rattle.sig_solve.proofs.AskedGuards.{next_placed}
-use Rattle.sig_solve.proofs.ListLemmas.{contains_get, get_at}
+use Rattle.sig_solve.proofs.{◌≡◌, ◌<◌, ℕ, List, get_or, length, sym, ap, ◌∙◌, arith, Some, slice_get, SigId, SystemView, next_placed, contains_get, get_at}
 use Rattle.sig_solve.proofs.guards.places_of.Goals as goal
 
 pub place_of-requires-clause-there : goal.place_of-requires-clause-there

@@ -1,4 +1,4 @@
-use Rattle.sig_solve.proofs.AskedGuards.{ArePlacedTo}
+use Rattle.sig_solve.proofs.{ArePlacedTo}
 use Rattle.sig_solve.proofs.guards.places_of.Given as goal
 
 abbrev pub invariant-loop-number : goal.invariant-loop-number

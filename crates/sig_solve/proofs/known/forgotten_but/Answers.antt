@@ -1,9 +1,4 @@
-use Rattle.std.proofs.Common.{◌≡◌, ◌+◌, ◌<◌, ℕ, List, get_or, length, sym, ap, ◌∙◌, subst, arith}
-use Rattle.std.specs.Prelude.{Some, slice_get}
-use Rattle.sig_base.specs.declared.ids.SigId.{SigId}
-use Rattle.sig_rel.specs.Systems.{SystemView}
-use Rattle.sig_solve.proofs.KnownLemmas.{AreForgotten, among_is, among_not, next_known, next_other}
-use Rattle.sig_solve.proofs.ListLemmas.{get_at}
+use Rattle.sig_solve.proofs.{◌≡◌, ◌+◌, ◌<◌, ℕ, List, get_or, length, sym, ap, ◌∙◌, subst, arith, Some, slice_get, SigId, SystemView, AreForgotten, among_is, among_not, next_known, next_other, get_at}
 use Rattle.sig_solve.proofs.known.forgotten_but.Goals.{then-is_among, else-is_among}
 use Rattle.sig_solve.proofs.known.forgotten_but.Goals as goal
 

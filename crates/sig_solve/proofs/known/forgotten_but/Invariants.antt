@@ -1,4 +1,4 @@
-use Rattle.sig_solve.proofs.KnownLemmas.{AreForgotten}
+use Rattle.sig_solve.proofs.{AreForgotten}
 use Rattle.sig_solve.proofs.known.forgotten_but.Given as goal
 
 abbrev pub invariant-loop-place : goal.invariant-loop-place

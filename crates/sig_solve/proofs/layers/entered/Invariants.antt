@@ -1,5 +1,4 @@
-use Rattle.std.proofs.Common.{◌≡◌, filter, take}
-use Rattle.sig_solve.specs.Rounds.{has_entered}
+use Rattle.sig_solve.proofs.{◌≡◌, filter, take, has_entered}
 use Rattle.sig_solve.proofs.layers.entered.Given as goal
 
 abbrev pub invariant-loop-condition : goal.invariant-loop-condition

@@ -1,19 +1,5 @@
-use Rattle.std.proofs.Common.{◌≡◌, ◌<◌, ◌≤◌, ◌+◌, ◌*◌, ℕ, Bool, List, [], ◌∷◌, ◌++◌, length, true, false, get_or, drop, take, refl, sym, ap, ◌∙◌, subst, arith, Contains}
-use Rattle.std.specs.Prelude.{None, suc, Err}
-use Rattle.std.proofs.Math.Nat.{mul-le-mul_left}
-use Rattle.sig_clock.proofs.Lists.{written}
-use Rattle.sig_dd.specs.declared.answer.DdAnswer.TheVariants.{OutOfMemory}
-use Rattle.sig_dd.specs.Shares.{Share}
-use Rattle.sig_dd.proofs.Adding.{Share-none}
-use Rattle.sig_solve.specs.declared.awaiting.Guide.{Guide}
-use Rattle.sig_dd.proofs.CallerLemmas.{Keeps-itself, Keeps-trans}
-use Rattle.sig_solve.specs.Asked.{ForgetsAllBut, variables_of}
-use Rattle.sig_solve.specs.Rounds.{AreRounds, AreSettled, has_entered}
-use Rattle.sig_solve.specs.Awaiting.{AreAwaited}
-use Rattle.sig_solve.proofs.AskedLemmas.{are_proposed, asked_stays}
-use Rattle.sig_solve.proofs.AwaitingLemmas.{none_awaited as awaiting_begins}
-use Rattle.sig_solve.proofs.RoundLemmas.{entered_conditions, leaders_fewer, rounds_begin, rounds_stick}
-use Rattle.sig_solve.proofs.StoreLemmas.{asked, more_calls, next_turn, no_turns, out_of_memory, refused}
+use Rattle.sig_solve.proofs.{◌≡◌, ◌<◌, ◌≤◌, ◌+◌, ◌*◌, ℕ, Bool, List, [], ◌∷◌, ◌++◌, length, true, false, get_or, drop, take, refl, sym, ap, ◌∙◌, subst, arith, Contains, None, suc, Err, mul-le-mul_left, written, OutOfMemory, Share, Share-none, Guide, Keeps-itself, Keeps-trans, ForgetsAllBut, variables_of, AreRounds, AreSettled, has_entered, AreAwaited, are_proposed, asked_stays, none_awaited as awaiting_begins, entered_conditions, leaders_fewer, rounds_begin, rounds_stick, more_calls, next_turn, no_turns, out_of_memory, refused}
+use Rattle.sig_solve.proofs.StoreLemmas.{asked}
 use Rattle.sig_solve.proofs.layers.layers_of.Goals as goal
 
 pub overflow_cast-round-end : goal.overflow_cast-round-end
@@ -33,6 +19,22 @@ loop-round-init c =
       few = omega (arith, ap length waiting);
       share = no_turns ((3 + 2 * c.args.asked.now.system.variables) * length c.args.asked.now.frame.leaders.items) (variables_of c.args.asked.now.system) c.args.store.now;
     }
+
+pub returns-in_err-numbers-clause-share : goal.returns-in_err-numbers-clause-share
+returns-in_err-numbers-clause-share c =
+    let n = length c.args.asked.now.frame.leaders.items in
+    let m = (3 + 2 * c.args.asked.now.system.variables) * n * n in
+    let vs = variables_of c.args.asked.now.system in
+    let s = c.args.store.now in
+    refused m vs s s c.from_residual.result OutOfMemory c.from_residual.ensures.1 (out_of_memory m vs s s (more_calls 0 m vs s s None (omega arith) (Share-none s vs)))
+
+pub returns-in_err-waiting-clause-share : goal.returns-in_err-waiting-clause-share
+returns-in_err-waiting-clause-share c =
+    let n = length c.args.asked.now.frame.leaders.items in
+    let m = (3 + 2 * c.args.asked.now.system.variables) * n * n in
+    let vs = variables_of c.args.asked.now.system in
+    let s = c.args.store.now in
+    refused m vs s s c.from_residual-in_err-waiting.result OutOfMemory c.from_residual-in_err-waiting.ensures.1 (out_of_memory m vs s s (more_calls 0 m vs s s None (omega arith) (Share-none s vs)))
 
 pub returns-in_err-guide-clause-share : goal.returns-in_err-guide-clause-share
 returns-in_err-guide-clause-share c =
@@ -150,3 +152,33 @@ loop-round-preserved c =
       share = one_round u n c.loop-round.round (length c.as_slice-in-loop-round-2.result.now) vs c.args.store.now c.loop-round.store c.pass.new.store None (omega (arith, c.loop-round.invariant.few, ap length c.as_slice-in-loop-round-2.ensures.value))
           c.loop-round.invariant.share c.in_ok-still.ensures.share;
     }
+
+pub returns-in_err-entered-clause-store : goal.returns-in_err-entered-clause-store
+returns-in_err-entered-clause-store c = c.loop-round.invariant.store
+
+pub returns-in_err-entered-clause-kept : goal.returns-in_err-entered-clause-kept
+returns-in_err-entered-clause-kept c = c.loop-round.invariant.kept
+
+pub returns-in_err-known-clause-store : goal.returns-in_err-known-clause-store
+returns-in_err-known-clause-store c = c.loop-round.invariant.store
+
+pub returns-in_err-known-clause-kept : goal.returns-in_err-known-clause-kept
+returns-in_err-known-clause-kept c = c.loop-round.invariant.kept
+
+pub returns-in_err-still-clause-store : goal.returns-in_err-still-clause-store
+returns-in_err-still-clause-store c = c.in_err-still.ensures.store
+
+pub returns-in_err-still-clause-kept : goal.returns-in_err-still-clause-kept
+returns-in_err-still-clause-kept c = Keeps-trans c.args.store.now c.loop-round.store c.pass.new.store c.loop-round.invariant.kept c.in_err-still.ensures.kept
+
+pub returns-then-len-clause-store : goal.returns-then-len-clause-store
+returns-then-len-clause-store c = c.in_ok-still.ensures.store
+
+pub returns-then-len-clause-kept : goal.returns-then-len-clause-kept
+returns-then-len-clause-kept c = Keeps-trans c.args.store.now c.loop-round.store c.pass.new.store c.loop-round.invariant.kept c.in_ok-still.ensures.kept
+
+pub returns-clause-store : goal.returns-clause-store
+returns-clause-store c = c.loop-round.invariant.store
+
+pub returns-clause-kept : goal.returns-clause-kept
+returns-clause-kept c = c.loop-round.invariant.kept

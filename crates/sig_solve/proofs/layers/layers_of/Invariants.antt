@@ -1,10 +1,4 @@
-use Rattle.std.proofs.Common.{◌≤◌, ◌+◌, ◌*◌, length}
-use Rattle.std.specs.Prelude.{None}
-use Rattle.sig_dd.specs.Nodes.{IsStore, Keeps}
-use Rattle.sig_dd.specs.Shares.{Share}
-use Rattle.sig_solve.specs.Asked.{variables_of}
-use Rattle.sig_solve.specs.Awaiting.{AreAwaited}
-use Rattle.sig_solve.specs.Rounds.{AreRounds}
+use Rattle.sig_solve.proofs.{◌≤◌, ◌+◌, ◌*◌, length, None, IsStore, Keeps, Share, variables_of, AreAwaited, AreRounds}
 use Rattle.sig_solve.proofs.layers.layers_of.Given as goal
 
 abbrev pub invariant-loop-round : goal.invariant-loop-round

@@ -1,16 +1,4 @@
-use Rattle.std.proofs.Common.{◌≡◌, ◌<◌, ◌+◌, ◌*◌, ℕ, List, [], length, get_or, drop, sym, ap, ◌∙◌, subst, arith, Contains}
-use Rattle.std.specs.Prelude.{None}
-use Rattle.std.proofs.lemmas.List.{get_or_default, length_push}
-use Rattle.std.proofs.Math.Seq.{drop-length}
-use Rattle.sig_dd.specs.declared.answer.DdAnswer.TheVariants.{OutOfMemory}
-use Rattle.sig_dd.proofs.CallerLemmas.{Keeps-itself, Keeps-trans}
-use Rattle.sig_solve.specs.Frames.{IsAmong}
-use Rattle.sig_solve.specs.Rounds.{ArePassed, IsOpenAnswer}
-use Rattle.sig_solve.proofs.FrameLemmas.{leader_is}
-use Rattle.sig_solve.proofs.RoundLemmas.{determined_enters, enters_determined, pass_begins, pass_ends, stuck_more, turn_enters, turn_stays}
-use Rattle.sig_solve.specs.Asked.{variables_of}
-use Rattle.sig_solve.proofs.AskedLemmas.{asked_stays}
-use Rattle.sig_solve.proofs.StoreLemmas.{next_turn, no_turns, out_of_memory, refused, turn_within}
+use Rattle.sig_solve.proofs.{◌≡◌, ◌<◌, ◌+◌, ◌*◌, ℕ, List, [], length, get_or, drop, sym, ap, ◌∙◌, subst, arith, Contains, None, get_or_default, length_push, drop-length, OutOfMemory, Keeps-itself, Keeps-trans, IsAmong, ArePassed, IsOpenAnswer, leader_is, determined_enters, enters_determined, pass_begins, pass_ends, stuck_more, turn_enters, turn_stays, variables_of, asked_stays, next_turn, no_turns, out_of_memory, refused, turn_within}
 use Rattle.sig_solve.proofs.layers.pass.Goals as goal
 use Rattle.sig_solve.proofs.layers.pass.Goals.{then-branch+in_ok-push, else-branch}
 

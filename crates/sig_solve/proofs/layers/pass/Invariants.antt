@@ -1,10 +1,4 @@
-use Rattle.std.proofs.Common.{◌≡◌, ◌<◌, ◌≤◌, ◌+◌, ◌*◌, ℕ, length, get_or, drop, Contains}
-use Rattle.std.specs.Prelude.{None}
-use Rattle.sig_dd.specs.Nodes.{IsStore, Keeps}
-use Rattle.sig_dd.specs.Shares.{Share}
-use Rattle.sig_solve.specs.Asked.{variables_of}
-use Rattle.sig_solve.specs.Awaiting.{AreAwaited}
-use Rattle.sig_solve.specs.Rounds.{ArePassed}
+use Rattle.sig_solve.proofs.{◌≡◌, ◌<◌, ◌≤◌, ◌+◌, ◌*◌, ℕ, length, get_or, drop, Contains, None, IsStore, Keeps, Share, variables_of, AreAwaited, ArePassed}
 use Rattle.sig_solve.proofs.layers.pass.Given as goal
 
 abbrev pub invariant-loop-class : goal.invariant-loop-class

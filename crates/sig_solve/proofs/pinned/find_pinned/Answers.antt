@@ -1,16 +1,4 @@
-use Rattle.std.proofs.Common.{◌≡◌, ◌<◌, ◌+◌, ◌*◌, inl, inr, ℕ, List, length, get_or, sym, ap, ◌∙◌, subst, arith}
-use Rattle.std.specs.Prelude.{None, Some, slice_get}
-use Rattle.std.proofs.lemmas.Bool.{cases_eq}
-use Rattle.sig_base.specs.declared.ids.SigId.{SigId}
-use Rattle.sig_kernel.specs.declared.kernel.Kernel.{Kernel}
-use Rattle.sig_clock.specs.Pinned.{IsFree}
-use Rattle.sig_dd.proofs.CallerLemmas.{Keeps-trans}
-use Rattle.sig_solve.specs.Asked.{ForgetsAllBut, variables_of}
-use Rattle.sig_solve.proofs.AskedLemmas.{are_proposed, asked_stays}
-use Rattle.sig_solve.proofs.AskedPinned.{apart_pinned, refs_apart, refs_same, same_free}
-use Rattle.sig_solve.proofs.ListLemmas.{get_at}
-use Rattle.sig_solve.proofs.PinnedLemmas.{all_free, first_pinned, free_is}
-use Rattle.sig_solve.proofs.StoreLemmas.{next_turn, refused, turn_within}
+use Rattle.sig_solve.proofs.{◌≡◌, ◌<◌, ◌+◌, ◌*◌, inl, inr, ℕ, List, length, get_or, sym, ap, ◌∙◌, subst, arith, None, Some, slice_get, cases_eq, SigId, Kernel, IsFree, Keeps-trans, ForgetsAllBut, variables_of, are_proposed, asked_stays, apart_pinned, refs_apart, refs_same, same_free, get_at, all_free, first_pinned, free_is, next_turn, refused, turn_within}
 use Rattle.sig_solve.proofs.pinned.find_pinned.Goals as goal
 
 pub known_of-requires : goal.known_of-requires

@@ -1,10 +1,4 @@
-use Rattle.std.proofs.Common.{◌≡◌, ◌<◌, ◌+◌, ◌*◌, ℕ}
-use Rattle.std.specs.Prelude.{None, Some, slice_get}
-use Rattle.sig_base.specs.declared.ids.SigId.{SigId}
-use Rattle.sig_clock.specs.Pinned.{IsFree}
-use Rattle.sig_dd.specs.Nodes.{IsStore, Keeps}
-use Rattle.sig_dd.specs.Shares.{Share}
-use Rattle.sig_solve.specs.Asked.{variables_of}
+use Rattle.sig_solve.proofs.{◌≡◌, ◌<◌, ◌+◌, ◌*◌, ℕ, None, Some, slice_get, SigId, IsFree, IsStore, Keeps, Share, variables_of}
 use Rattle.sig_solve.proofs.pinned.find_pinned.Given as goal
 
 abbrev pub invariant-loop-place : goal.invariant-loop-place

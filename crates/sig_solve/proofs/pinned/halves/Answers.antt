@@ -1,9 +1,4 @@
-use Rattle.std.proofs.Common.{◌≡◌, true, subst}
-use Rattle.std.specs.Prelude.{Some}
-use Rattle.sig_clock.specs.Reactions.{status_at}
-use Rattle.sig_solve.specs.Asked.{AreHalves}
-use Rattle.sig_solve.proofs.AskedLemmas.{asked_stays, image_stays}
-use Rattle.sig_solve.proofs.ReactionLemmas.{condition_is_signal}
+use Rattle.sig_solve.proofs.{◌≡◌, true, subst, Some, status_at, AreHalves, asked_stays, image_stays, condition_is_signal}
 use Rattle.sig_solve.proofs.pinned.halves.Goals as goal
 
 pub where_true-requires-clause-signal : goal.where_true-requires-clause-signal

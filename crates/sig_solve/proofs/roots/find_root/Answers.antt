@@ -1,8 +1,4 @@
-use Rattle.std.proofs.Common.{get_or, subst, arith}
-use Rattle.sig_dd.specs.Nodes.{Implies}
-use Rattle.sig_dd.specs.declared.node.Ref.{Ref}
-use Rattle.sig_solve.proofs.AskedLemmas.{present_over}
-use Rattle.sig_solve.proofs.RootLemmas.{implied_root, leader_at, none_root}
+use Rattle.sig_solve.proofs.{get_or, subst, arith, Implies, Ref, present_over, implied_root, leader_at, none_root}
 use Rattle.sig_solve.proofs.roots.find_root.Goals as goal
 
 pub presence-requires : goal.presence-requires

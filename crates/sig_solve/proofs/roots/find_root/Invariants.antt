@@ -1,5 +1,4 @@
-use Rattle.std.proofs.Common.{ℕ, ◌<◌, get_or}
-use Rattle.sig_dd.specs.Nodes.{Implies}
+use Rattle.sig_solve.proofs.{ℕ, ◌<◌, get_or, Implies}
 use Rattle.sig_solve.proofs.roots.find_root.Given as goal
 
 abbrev pub invariant-loop-leader : goal.invariant-loop-leader

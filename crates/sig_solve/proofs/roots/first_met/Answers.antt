@@ -1,10 +1,4 @@
-use Rattle.std.proofs.Common.{get_or, sym, ◌∙◌, subst, arith}
-use Rattle.std.proofs.lemmas.Bool.{false≢true}
-use Rattle.sig_dd.specs.Nodes.{Overlap}
-use Rattle.sig_dd.specs.declared.node.Ref.{Ref}
-use Rattle.sig_solve.proofs.AskedLemmas.{present_over}
-use Rattle.sig_solve.proofs.RootLemmas.{first_is_least, leader_at, none_met}
-use Rattle.sig_solve.proofs.StoreLemmas.{below_more_of}
+use Rattle.sig_solve.proofs.{get_or, sym, ◌∙◌, subst, arith, false≢true, Overlap, Ref, present_over, first_is_least, leader_at, none_met, below_more_of}
 use Rattle.sig_solve.proofs.roots.first_met.Goals as goal
 
 pub presence-requires : goal.presence-requires

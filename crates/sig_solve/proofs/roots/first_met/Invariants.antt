@@ -1,5 +1,4 @@
-use Rattle.std.proofs.Common.{ℕ, ◌<◌, get_or}
-use Rattle.sig_dd.specs.Nodes.{Overlap}
+use Rattle.sig_solve.proofs.{ℕ, ◌<◌, get_or, Overlap}
 use Rattle.sig_solve.proofs.roots.first_met.Given as goal
 
 abbrev pub invariant-loop-leader : goal.invariant-loop-leader

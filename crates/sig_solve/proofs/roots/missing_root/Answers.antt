@@ -1,18 +1,5 @@
-use Rattle.std.proofs.Common.{◌≡◌, ◌<◌, ◌↔◌, Bool, List, false, not, length, subst, arith, IsTrue}
-use Rattle.std.specs.Prelude.{Err, None}
-use Rattle.sig_base.specs.declared.ids.SigId.{SigId}
-use Rattle.sig_clock.specs.Reactions.{is_present}
-use Rattle.sig_dd.specs.Nodes.{IsRefOf, Keeps, test}
-use Rattle.sig_dd.specs.Shares.{Share}
-use Rattle.sig_dd.specs.declared.node.Ref.{Ref}
-use Rattle.sig_dd.proofs.Adding.{Share-then}
-use Rattle.sig_dd.proofs.CallerLemmas.{Keeps-trans}
-use Rattle.sig_rel.specs.Systems.{IsOver, IsSolution, reading}
-use Rattle.sig_solve.specs.Asked.{IsAskedIn, variables_of}
-use Rattle.sig_solve.proofs.AskedLemmas.{asked_stays, over_one, over_spans, present_over, says_rest}
-use Rattle.sig_solve.proofs.RootLemmas.{least_possible, missing, rest_met, solutions_say, some_met}
-use Rattle.sig_solve.proofs.StoreLemmas.{asked, more_calls, refused}
-use Rattle.sig_solve.proofs.SystemLemmas.{over_kept}
+use Rattle.sig_solve.proofs.{◌≡◌, ◌<◌, ◌↔◌, Bool, List, false, not, length, subst, arith, IsTrue, Err, None, SigId, is_present, IsRefOf, Keeps, test, Share, Ref, Share-then, Keeps-trans, IsOver, IsSolution, reading, IsAskedIn, variables_of, asked_stays, over_one, over_spans, present_over, says_rest, least_possible, missing, rest_met, solutions_say, some_met, more_calls, refused, over_kept}
+use Rattle.sig_solve.proofs.StoreLemmas.{asked}
 use Rattle.sig_solve.proofs.roots.missing_root.Goals as goal
 use Rattle.sig_solve.proofs.roots.missing_root.Goals.{In_ok-x, In_ok-absent, In_ok-rest}
 

@@ -1,14 +1,4 @@
-use Rattle.std.proofs.Common.{◌≡◌, ◌<◌, ℕ, List, [], length, map, get_or, drop, sym, ap, ◌∙◌, subst, arith, Contains}
-use Rattle.std.proofs.lemmas.List.{get_or_default, length_push}
-use Rattle.std.proofs.Math.Seq.{drop-length}
-use Rattle.std.specs.Prelude.{Some}
-use Rattle.sig_base.specs.declared.ids.SigId.{SigId}
-use Rattle.sig_rel.specs.Systems.{SystemView}
-use Rattle.sig_solve.specs.Free.{is_unknown_to}
-use Rattle.sig_solve.specs.Frames.{IsAmong}
-use Rattle.sig_solve.specs.Rounds.{ArePassed, IsOpenAnswer}
-use Rattle.sig_solve.proofs.FrameLemmas.{leader_is}
-use Rattle.sig_solve.proofs.RoundLemmas.{determined_enters, enters_determined, pass_begins, pass_ends, stuck_more, turn_enters, turn_stays}
+use Rattle.sig_solve.proofs.{◌≡◌, ◌<◌, ℕ, List, [], length, map, get_or, drop, sym, ap, ◌∙◌, subst, arith, Contains, get_or_default, length_push, drop-length, Some, SigId, SystemView, is_unknown_to, IsAmong, ArePassed, IsOpenAnswer, leader_is, determined_enters, enters_determined, pass_begins, pass_ends, stuck_more, turn_enters, turn_stays}
 use Rattle.sig_solve.proofs.rounds.enter.Goals as goal
 use Rattle.sig_solve.proofs.rounds.enter.Goals.{then-is_open+in_ok-push, else-is_open}
 

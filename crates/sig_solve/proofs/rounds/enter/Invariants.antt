@@ -1,5 +1,4 @@
-use Rattle.std.proofs.Common.{◌≡◌, ◌<◌, ◌≤◌, ℕ, length, get_or, drop, Contains}
-use Rattle.sig_solve.specs.Rounds.{ArePassed}
+use Rattle.sig_solve.proofs.{◌≡◌, ◌<◌, ◌≤◌, ℕ, length, get_or, drop, Contains, ArePassed}
 use Rattle.sig_solve.proofs.rounds.enter.Given as goal
 
 abbrev pub invariant-loop-class : goal.invariant-loop-class

@@ -1,6 +1,4 @@
-use Rattle.std.proofs.Common.{◌<◌, [], length, get_or, ◌∙◌, arith}
-use Rattle.std.proofs.lemmas.List.{get_or_read}
-use Rattle.sig_solve.proofs.FreeLemmas.{marked_answer}
+use Rattle.sig_solve.proofs.{◌<◌, [], length, get_or, ◌∙◌, arith, get_or_read, marked_answer}
 use Rattle.sig_solve.proofs.rounds.is_open.Goals as goal
 
 pub bounds-needs-signal : goal.bounds-needs-signal

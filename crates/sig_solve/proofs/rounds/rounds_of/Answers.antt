@@ -1,10 +1,4 @@
-use Rattle.std.proofs.Common.{◌≡◌, ◌<◌, ◌+◌, ℕ, List, ◌++◌, length, drop, take, filter, sym, ap, ◌∙◌, subst, arith, Contains}
-use Rattle.std.specs.Prelude.{suc}
-use Rattle.sig_clock.proofs.Lists.{written}
-use Rattle.sig_rel.specs.Systems.{SystemView}
-use Rattle.sig_solve.specs.Free.{AreNeeds}
-use Rattle.sig_solve.specs.Rounds.{AreRounds, AreSettled, has_entered}
-use Rattle.sig_solve.proofs.RoundLemmas.{entered_conditions, leaders_fewer, rounds_begin, rounds_stick}
+use Rattle.sig_solve.proofs.{◌≡◌, ◌<◌, ◌+◌, ℕ, List, ◌++◌, length, drop, take, filter, sym, ap, ◌∙◌, subst, arith, Contains, suc, written, SystemView, AreNeeds, AreRounds, AreSettled, has_entered, entered_conditions, leaders_fewer, rounds_begin, rounds_stick}
 use Rattle.sig_solve.proofs.rounds.rounds_of.Goals as goal
 
 pub overflow_cast-round-end : goal.overflow_cast-round-end

@@ -1,5 +1,4 @@
-use Rattle.std.proofs.Common.{◌≤◌, ◌+◌, length}
-use Rattle.sig_solve.specs.Rounds.{AreRounds}
+use Rattle.sig_solve.proofs.{◌≤◌, ◌+◌, length, AreRounds}
 use Rattle.sig_solve.proofs.rounds.rounds_of.Given as goal
 
 abbrev pub invariant-loop-round : goal.invariant-loop-round

@@ -1,8 +1,5 @@
-use Rattle.std.proofs.Common.{◌+◌, inl, inr, refl}
-use Rattle.sig_solve.specs.Refusals.{rest_of_share, share_of, triangular_share_of}
-use Rattle.sig_rel.specs.Shares.{triangular_share_of as system_share_of}
-use Rattle.sig_solve.proofs.CountLemmas.{halves, within_equal}
-use Rattle.sig_solve.proofs.RoomLemmas.{two_systems, within_more}
+use Rattle.sig_solve.proofs.{◌+◌, inl, inr, refl, rest_of_share, share_of, triangular_share_of as system_share_of, halves, within_equal, two_systems, within_more}
+use Rattle.sig_solve.specs.Refusals.{triangular_share_of}
 use Rattle.sig_solve.proofs.solving.solve.Goals as goal
 
 pub returns-in-Some-clause-share : goal.returns-in-Some-clause-share

@@ -1,8 +1,4 @@
-use Rattle.std.proofs.Common.{ap, ◌∙◌, arith}
-use Rattle.sig_clock.specs.Conditions.{conditions_of}
-use Rattle.sig_solve.specs.Orders.{by_layer}
-use Rattle.sig_solve.proofs.ConditionLists.{conditions_listed}
-use Rattle.sig_solve.proofs.RoundLemmas.{leaders_fewer}
+use Rattle.sig_solve.proofs.{ap, ◌∙◌, arith, conditions_of, by_layer, conditions_listed, leaders_fewer}
 use Rattle.sig_solve.proofs.triangular.ordered_conditions.Goals as goal
 
 pub overflow_cast-last : goal.overflow_cast-last

@@ -1,12 +1,4 @@
-use Rattle.std.proofs.Common.{◌≡◌, ◌+◌, sym, ◌∙◌, subst, IfOk, arith}
-use Rattle.std.specs.Prelude.{IfErr, Some}
-use Rattle.sig_clock.specs.Layers.{IsRoot}
-use Rattle.sig_clock.specs.ClockRefusals.{HasClocks}
-use Rattle.sig_clock.specs.Clocks.{AreClocks}
-use Rattle.sig_rel.specs.Triangles.{IsTriangular}
-use Rattle.sig_solve.specs.Refusals.{IsRefusalOf, IsSystemRoom}
-use Rattle.sig_solve.proofs.RoomLemmas.{within_memory}
-use Rattle.sig_solve.proofs.TriangleLemmas.{first_is_root, is_triangular}
+use Rattle.sig_solve.proofs.{◌≡◌, ◌+◌, sym, ◌∙◌, subst, IfOk, arith, IfErr, Some, IsRoot, HasClocks, AreClocks, IsTriangular, IsRefusalOf, IsSystemRoom, within_memory, first_is_root, is_triangular}
 use Rattle.sig_solve.proofs.triangular.solve_triangular.Goals as goal
 
 pub solve_frame-requires-clause-triangular : goal.solve_frame-requires-clause-triangular

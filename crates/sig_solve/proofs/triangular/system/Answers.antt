@@ -1,5 +1,4 @@
-use Rattle.std.specs.Prelude.{Ok}
-use Rattle.sig_solve.proofs.SystemRooms.{keeps_passed, keeps_to_both}
+use Rattle.sig_solve.proofs.{Ok, keeps_passed, keeps_to_both}
 use Rattle.sig_solve.proofs.triangular.system.Goals as goal
 
 pub returns-in_err-system-clause-share : goal.returns-in_err-system-clause-share

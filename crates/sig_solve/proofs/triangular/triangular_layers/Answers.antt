@@ -1,11 +1,4 @@
-use Rattle.std.proofs.Common.{sym, ap, ◌∙◌, subst, arith}
-use Rattle.std.specs.Prelude.{Err, slice_get}
-use Rattle.sig_rel.specs.Systems.{AreConditions}
-use Rattle.sig_solve.specs.Free.{IsFreeIn}
-use Rattle.sig_solve.proofs.ConditionLists.{conditions_by_number}
-use Rattle.sig_solve.proofs.FreeLemmas.{alive, condition_free, free_in}
-use Rattle.sig_solve.proofs.RoomLemmas.{system_added, system_refused, within_memory, within_store, within_system}
-use Rattle.sig_solve.proofs.SolveLemmas.{unsolved_at}
+use Rattle.sig_solve.proofs.{sym, ap, ◌∙◌, subst, arith, Err, slice_get, AreConditions, IsFreeIn, conditions_by_number, alive, condition_free, free_in, system_added, system_refused, within_memory, within_store, within_system, unsolved_at}
 use Rattle.sig_solve.proofs.triangular.triangular_layers.Goals as goal
 use Rattle.sig_solve.proofs.triangular.triangular_layers.Goals.{In_ok-system}
 

@@ -1,4 +1,4 @@
-use Rattle.sig_dd.proofs.{◌≡◌, ap, sym, ◌∙◌, subst, arith, Some, length, ◌++◌, [], slice_get, append-nil, IsStore, IsNodeAt, IsChoice, StoreView, IsReduced, IsCache, Node, IsCache-append, IsStore-insert, IsNodeAt-next, IsChoice-same, IsChoice-node, nodes-insert, ref_apart, ref_same, node_eq-same, stands_at_position}
+use Rattle.sig_dd.proofs.{◌≡◌, ◌≤◌, ◌+◌, ◌^◌, ap, sym, ◌∙◌, subst, arith, Some, length, ◌++◌, [], slice_get, append-nil, IsStore, IsNodeAt, IsChoice, StoreView, IsReduced, IsCache, Node, IsCache-append, IsStore-insert, length-insert, IsNodeAt-next, IsChoice-same, IsChoice-node, nodes-insert, ref_apart, ref_same, node_eq-same, stands_at_position}
 use Rattle.sig_dd.proofs.store.Store.node_for.Goals as goal
 use Rattle.sig_dd.proofs.store.Store.node_for.Goals.{in-Some, in-None, in-None-2}
 
@@ -28,7 +28,15 @@ unfolding asked
 new c =
     let len = c.len-count.ensures.len in
     subst (λ ns. IsStore (record { nodes = ns; made_for = c.self.inside.made_for })) (sym c.in_ok-place.ensures.keys)
-    (IsStore-insert c.self.inside.nodes.keys c.self.inside.made_for (asked c) c.self.invariant.store (next c) (omega arith) (omega arith))
+    (IsStore-insert c.self.inside.nodes.keys c.self.inside.made_for (asked c) c.self.invariant.store (next c) (omega arith))
+
+-- its nodes keep numbers of 32 bits
+numbered : (c : goal.After-to_node) → length c.insert_full.new.self.keys + 2 ≤ 2 ^ 32
+unfolding asked
+numbered c =
+    let len = c.len-count.ensures.len in
+    let more = length-insert c.self.inside.nodes.keys (asked c) in
+    subst (λ ns. length ns + 2 ≤ 2 ^ 32) (sym c.in_ok-place.ensures.keys) (omega (arith, len, more))
 
 -- and what it keeps stays right
 kept : (c : goal.After-to_node) → IsCache c.insert_full.new.self.keys c.self.inside.cache.entries
@@ -39,7 +47,7 @@ kept c =
     (IsCache-append c.self.inside.nodes.keys more c.self.inside.cache.entries c.self.invariant.cache)
 
 pub invariant_of-self-then-count-lt-NUMBERS : goal.invariant_of-self-then-count-lt-NUMBERS
-invariant_of-self-then-count-lt-NUMBERS c = record { store = new c; cache = kept c }
+invariant_of-self-then-count-lt-NUMBERS c = record { store = new c; numbered = numbered c; cache = kept c }
 
 pub returns-then-count-lt-NUMBERS-clause-store : goal.returns-then-count-lt-NUMBERS-clause-store
 returns-then-count-lt-NUMBERS-clause-store c = new c

@@ -11,7 +11,7 @@ returns-clause-exact c v =
     let items : c.in_ok-collect.field-0.items ≡ c.collect_variables.new.variables.keys = search rules in
     let iff = btree_set_contains_iff nat_cmp_total exact_unsigned c.collect_variables.new.variables v in
     let nodes = c.args.self.now.nodes in
-    let reduced = c.allocator.ensures.reduced in (
+    let reduced = c.allocator.ensures.store.reduced in (
       λ among. Depends-Tests nodes reduced c.args.f c.requires v
           (elim (c.in_ok-collect_variables.ensures.collected.only v (iff.1 (subst (λ xs. Contains xs v) items among))) [
             | inl old ↦ absurd (true≢false (sym old ∙ ap (list_any (is_at (nat_cmp v))) c.new-variables.ensures.empty))

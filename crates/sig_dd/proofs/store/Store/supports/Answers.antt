@@ -1,5 +1,4 @@
-use Rattle.sig_dd.proofs.{◌≡◌, ◌+◌, ◌*◌, ◌++◌, ◌∙◌, ℕ, List, ap, sym, subst, arith, length, take, drop, append-nil, slice_get_within, get_or, Ref, AreMasks, AreTestedBelow, Holds, get_is, supported}
-use Rattle.std.proofs.lemmas.List.{drop_all, take_all}
+use Rattle.sig_dd.proofs.{◌≡◌, ◌+◌, ◌*◌, ◌++◌, ◌∙◌, ℕ, List, ap, sym, subst, arith, length, take, drop, append-nil, slice_get_within, get_or, Ref, AreMasks, AreTestedBelow, Holds, get_is, supported, drop_all, take_all}
 use Rattle.sig_dd.proofs.store.Store.supports.Goals as goal
 
 -- what is written over a list of the same length is all of it
@@ -56,7 +55,7 @@ returns-clause-value c =
           let number = ap (λ (q : Ref). q.number) here in
           let within = c.count_of-count.ensures.within i r lt in
           let held = subst (Holds nodes) here (c.requires i r lt) in
-          supported nodes c.allocator.ensures.reduced (c.loop-block.block * 64) r held
+          supported nodes c.allocator.ensures.store.reduced (c.loop-block.block * 64) r held
           (λ v tests. let less = c.blocks-block-end.ensures.all r (omega (arith, number, within)) v tests in omega (arith, less, last))
           (get_or c.loop-block.lists.items i _) (inv.each i r get);
     }

@@ -1,7 +1,4 @@
-use Rattle.std.proofs.Common.{get_or, sym, ◌∙◌, arith}
-use Rattle.sig_rel.proofs.ClassLemmas.{least_within}
-use Rattle.sig_rel.proofs.GivenLemmas.{room_for_next}
-use Rattle.sig_rel.proofs.SignalNumbers.{GivesClass, GivesTruth, given_both, given_class, has_alone, has_both, kept_both, kept_class}
+use Rattle.sig_rel.proofs.{get_or, sym, ◌∙◌, arith, least_within, room_for_next, GivesClass, GivesTruth, given_both, given_class, has_alone, has_both, kept_both, kept_class}
 use Rattle.sig_rel.proofs.numbering.Numbering.number.Goals as goal
 
 pub number_class-requires-clause-class : goal.number_class-requires-clause-class

@@ -1,6 +1,4 @@
-use Rattle.std.proofs.Common.{sym, ◌∙◌, arith}
-use Rattle.sig_rel.proofs.GivenLemmas.{room_for_next, truth_given}
-use Rattle.sig_rel.proofs.UnknownLemmas.{boolean_within}
+use Rattle.sig_rel.proofs.{sym, ◌∙◌, arith, room_for_next, truth_given, boolean_within}
 use Rattle.sig_rel.proofs.numbering.Numbering.number_boolean.Goals as goal
 
 pub number_truth-requires-clause-signal : goal.number_truth-requires-clause-signal

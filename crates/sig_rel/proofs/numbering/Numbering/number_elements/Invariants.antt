@@ -1,6 +1,4 @@
-use Rattle.std.proofs.Common.{length}
-use Rattle.sig_clock.specs.Conditions.{conditions_of}
-use Rattle.sig_rel.specs.Numberings.{AreGiven}
+use Rattle.sig_rel.proofs.{length, conditions_of, AreGiven}
 use Rattle.sig_rel.proofs.numbering.Numbering.number_elements.Given as goal
 
 abbrev pub invariant-loop-element : goal.invariant-loop-element

@@ -1,5 +1,5 @@
 use Rattle.std.proofs.Common.{below_more}
-use Rattle.sig_rel.proofs.GivenLemmas.{has_still}
+use Rattle.sig_rel.proofs.{has_still}
 use Rattle.sig_rel.proofs.numbering.Numbering.number_signals.Goals as goal
 
 pub loop-signal-preserved : goal.loop-signal-preserved

@@ -1,6 +1,4 @@
-use Rattle.std.proofs.Common.{ℕ, ◌<◌, length}
-use Rattle.sig_clock.specs.Conditions.{conditions_of}
-use Rattle.sig_rel.specs.Numberings.{AreGiven, HasNumbers}
+use Rattle.sig_rel.proofs.{ℕ, ◌<◌, length, conditions_of, AreGiven, HasNumbers}
 use Rattle.sig_rel.proofs.numbering.Numbering.number_signals.Given as goal
 
 abbrev pub invariant-loop-signal : goal.invariant-loop-signal

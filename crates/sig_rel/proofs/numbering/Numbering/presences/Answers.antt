@@ -1,7 +1,4 @@
-use Rattle.std.proofs.Common.{ℕ, arith}
-use Rattle.std.specs.Prelude.{slice_get}
-use Rattle.sig_rel.specs.Numberings.{number_of}
-use Rattle.sig_rel.proofs.Searches.{mapped_more}
+use Rattle.sig_rel.proofs.{ℕ, arith, slice_get, number_of, mapped_more}
 use Rattle.sig_rel.proofs.numbering.Numbering.presences.Goals as goal
 
 pub loop-class-preserved : goal.loop-class-preserved

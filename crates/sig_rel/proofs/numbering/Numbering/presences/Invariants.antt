@@ -1,6 +1,4 @@
-use Rattle.std.proofs.Common.{◌≡◌, ℕ, map, take}
-use Rattle.std.specs.Prelude.{slice_get}
-use Rattle.sig_rel.specs.Numberings.{number_of}
+use Rattle.sig_rel.proofs.{◌≡◌, ℕ, map, take, slice_get, number_of}
 use Rattle.sig_rel.proofs.numbering.Numbering.presences.Given as goal
 
 abbrev pub invariant-loop-class : goal.invariant-loop-class

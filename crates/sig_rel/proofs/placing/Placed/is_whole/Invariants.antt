@@ -1,4 +1,4 @@
-use Rattle.std.proofs.Common.{◌≡◌, ◌<◌, ℕ, true}
+use Rattle.sig_rel.proofs.{◌≡◌, ◌<◌, ℕ, true}
 use Rattle.sig_rel.specs.Tables.{has_both}
 use Rattle.sig_rel.proofs.placing.Placed.is_whole.Given as goal
 

@@ -1,5 +1,4 @@
-use Rattle.std.proofs.Common.{◌≡◌, ◌<◌, ℕ, false}
-use Rattle.sig_rel.specs.Tables.{may_enter}
+use Rattle.sig_rel.proofs.{◌≡◌, ◌<◌, ℕ, false, may_enter}
 use Rattle.sig_rel.proofs.placing.Placed.next_class.Given as goal
 
 abbrev pub invariant-loop-class : goal.invariant-loop-class

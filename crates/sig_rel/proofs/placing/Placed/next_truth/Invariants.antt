@@ -1,5 +1,4 @@
-use Rattle.std.proofs.Common.{◌≡◌, ◌<◌, ℕ, false}
-use Rattle.sig_rel.specs.Tables.{may_hold}
+use Rattle.sig_rel.proofs.{◌≡◌, ◌<◌, ℕ, false, may_hold}
 use Rattle.sig_rel.proofs.placing.Placed.next_truth.Given as goal
 
 abbrev pub invariant-loop-signal : goal.invariant-loop-signal

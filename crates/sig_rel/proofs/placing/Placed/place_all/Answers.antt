@@ -1,4 +1,4 @@
-use Rattle.sig_rel.proofs.PlacingLemmas.{placed_more}
+use Rattle.sig_rel.proofs.{placed_more}
 use Rattle.sig_rel.proofs.placing.Placed.place_all.Goals as goal
 
 pub loop-element-preserved : goal.loop-element-preserved

@@ -1,4 +1,4 @@
-use Rattle.sig_rel.specs.Tables.{IsPlaced, unmarked}
+use Rattle.sig_rel.proofs.{IsPlaced, unmarked}
 use Rattle.sig_rel.proofs.placing.Placed.place_all.Given as goal
 
 abbrev pub invariant-loop-element : goal.invariant-loop-element

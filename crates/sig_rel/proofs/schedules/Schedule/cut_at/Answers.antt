@@ -1,4 +1,4 @@
-use Rattle.sig_rel.proofs.CutLemmas.{schedule_stays}
+use Rattle.sig_rel.proofs.{schedule_stays}
 use Rattle.sig_rel.proofs.schedules.Schedule.cut_at.Goals as goal
 
 pub returns-in-Some : goal.returns-in-Some

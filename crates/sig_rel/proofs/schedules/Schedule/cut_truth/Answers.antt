@@ -1,5 +1,4 @@
-use Rattle.std.proofs.Common.{refl}
-use Rattle.sig_rel.proofs.CutLemmas.{schedule_with_cut}
+use Rattle.sig_rel.proofs.{refl, schedule_with_cut}
 use Rattle.sig_rel.proofs.schedules.Schedule.cut_truth.Goals as goal
 
 pub returns-then-signal-len : goal.returns-then-signal-len

@@ -1,5 +1,4 @@
-use Rattle.std.proofs.Common.{refl}
-use Rattle.sig_rel.proofs.CutLemmas.{schedule_stays}
+use Rattle.sig_rel.proofs.{refl, schedule_stays}
 use Rattle.sig_rel.proofs.schedules.Schedule.link_equations.Goals as goal
 
 pub loop-number-preserved : goal.loop-number-preserved

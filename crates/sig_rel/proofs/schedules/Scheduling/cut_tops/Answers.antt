@@ -1,7 +1,5 @@
-use Rattle.std.proofs.Common.{◌<◌, length, sym, ap, subst, arith, ◌∙◌}
-use Rattle.sig_rel.specs.Schedules.{IsScheduling}
-use Rattle.sig_rel.proofs.ScheduleLemmas.{planned_class_cut, scheduling_more}
-use Rattle.sig_rel.proofs.schedules.Scheduling.cut_tops.Goals.{then-is_left+then-is_top+in_ok-take, else-is_left}
+use Rattle.sig_rel.proofs.{◌<◌, length, sym, ap, subst, arith, ◌∙◌, IsScheduling, planned_class_cut, scheduling_more}
+use Rattle.sig_rel.proofs.schedules.Scheduling.cut_tops.Goals.{then-is_left+then-is_none+in_ok-take, else-is_left}
 use Rattle.sig_rel.proofs.schedules.Scheduling.cut_tops.Goals as goal
 
 pub loop-class-preserved : goal.loop-class-preserved
@@ -9,7 +7,7 @@ loop-class-preserved c =
     let kernel = c.args.kernel.now in
     let lt : c.loop-class.class < length kernel.signals = let e = ap length c.as_slice-class-end.ensures in let t = c.loop-class-test.true in omega (arith, e, t) in
     elim c.if-is_left.branch [
-      | then-is_left+then-is_top+in_ok-take w ↦
+      | then-is_left+then-is_none+in_ok-take w ↦
           let planned = planned_class_cut kernel c.requires.valid c.loop-class.self c.loop-class.invariant w.cut.result c.loop-class.class w.cut.ensures.element w.cut.ensures.equation lt (sym c.is_left.ensures ∙ w.if-is_left.true) in
           subst (IsScheduling kernel) (sym w.self-is) (scheduling_more kernel c.loop-class.self w.take.new.self w.cut.result c.loop-class.invariant planned w.in_ok-take.ensures)
       | else-is_left w ↦ subst (IsScheduling kernel) (sym w.self-is) c.loop-class.invariant

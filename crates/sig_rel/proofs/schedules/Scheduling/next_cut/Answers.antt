@@ -1,6 +1,4 @@
-use Rattle.std.proofs.Common.{◌<◌, ◌≡◌, ℕ, false, length, Option, subst}
-use Rattle.sig_rel.specs.Schedules.{IsFoundAmong, is_left, is_left_truth}
-use Rattle.sig_rel.proofs.ScheduleLemmas.{nothing_left}
+use Rattle.sig_rel.proofs.{◌<◌, ◌≡◌, ℕ, false, length, Option, subst, IsFoundAmong, is_left, is_left_truth, nothing_left}
 use Rattle.sig_rel.proofs.schedules.Scheduling.next_cut.Goals as goal
 
 pub returns-in-None-2 : goal.returns-in-None-2

@@ -1,5 +1,4 @@
-use Rattle.std.proofs.Common.{refl, sym, ◌∙◌}
-use Rattle.sig_rel.proofs.ScheduleLemmas.{planned_truth}
+use Rattle.sig_rel.proofs.{refl, sym, ◌∙◌, planned_truth}
 use Rattle.sig_rel.proofs.schedules.Scheduling.next_truth.Goals as goal
 
 pub returns-then-may_hold : goal.returns-then-may_hold

@@ -1,8 +1,4 @@
-use Rattle.std.proofs.Common.{Option, subst}
-use Rattle.std.specs.Prelude.{MatchOption}
-use Rattle.sig_rel.specs.Schedules.{IsPlannedStep, IsWhole}
-use Rattle.sig_rel.specs.declared.schedules.Step.{Step}
-use Rattle.sig_rel.proofs.ScheduleLemmas.{scheduling_more}
+use Rattle.sig_rel.proofs.{Option, subst, MatchOption, IsPlannedStep, IsWhole, Step, scheduling_more}
 use Rattle.sig_rel.proofs.schedules.Scheduling.schedule_all.Goals as goal
 
 pub loop-step-preserved : goal.loop-step-preserved

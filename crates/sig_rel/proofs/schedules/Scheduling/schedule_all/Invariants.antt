@@ -1,5 +1,4 @@
-use Rattle.sig_rel.specs.Schedules.{IsScheduling}
-use Rattle.sig_rel.specs.Tables.{unmarked}
+use Rattle.sig_rel.proofs.{IsScheduling, unmarked}
 use Rattle.sig_rel.proofs.schedules.Scheduling.schedule_all.Given as goal
 
 abbrev pub invariant-loop-step : goal.invariant-loop-step

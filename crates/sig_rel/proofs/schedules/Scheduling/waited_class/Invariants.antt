@@ -1,6 +1,4 @@
-use Rattle.std.specs.Prelude.{length}
-use Rattle.sig_rel.specs.Schedules.{is_left}
-use Rattle.sig_rel.proofs.BestSignals.{IsBestBelow}
+use Rattle.sig_rel.proofs.{length, is_left, IsBestBelow}
 use Rattle.sig_rel.proofs.schedules.Scheduling.waited_class.Given as goal
 
 abbrev pub invariant-loop-class : goal.invariant-loop-class

@@ -1,6 +1,4 @@
-use Rattle.std.specs.Prelude.{length}
-use Rattle.sig_rel.specs.Schedules.{is_left_truth}
-use Rattle.sig_rel.proofs.BestSignals.{IsBestBelow}
+use Rattle.sig_rel.proofs.{length, is_left_truth, IsBestBelow}
 use Rattle.sig_rel.proofs.schedules.Scheduling.waited_truth.Given as goal
 
 abbrev pub invariant-loop-signal : goal.invariant-loop-signal

@@ -1,10 +1,4 @@
-use Rattle.std.proofs.Common.{[], ◌∷◌, true, ◌∙◌, if◌then◌else◌}
-use Rattle.std.proofs.lemmas.Result.{IfOk-weaker}
-use Rattle.sig_dd.specs.Shares.{SpanAll}
-use Rattle.sig_rel.specs.Statuses.{itself}
-use Rattle.sig_dd.proofs.CallerLemmas.{Spans-kept}
-use Rattle.sig_rel.proofs.Staying.{test_kept}
-use Rattle.sig_rel.proofs.Makings.{constant_spans, made_choice, makes_then}
+use Rattle.sig_rel.proofs.{[], ◌∷◌, true, ◌∙◌, if◌then◌else◌, IfOk-weaker, SpanAll, itself, Spans-kept, test_kept, constant_spans, made_choice, makes_then}
 use Rattle.sig_rel.proofs.statuses.Known.may_have.Goals as goal
 
 pub returns-clause-made : goal.returns-clause-made

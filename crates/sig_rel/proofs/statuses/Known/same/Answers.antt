@@ -1,12 +1,4 @@
-use Rattle.std.proofs.Common.{[], ◌∷◌, ◌&&◌, not, Ok, Err, ◌∙◌, ap, arith, if◌then◌else◌}
-use Rattle.std.proofs.lemmas.Result.{IfOk-weaker}
-use Rattle.sig_clock.specs.Reactions.{same_truth}
-use Rattle.sig_dd.specs.Nodes.{test}
-use Rattle.sig_dd.specs.Shares.{SpanAll}
-use Rattle.sig_rel.specs.Statuses.{itself}
-use Rattle.sig_dd.proofs.CallerLemmas.{Keeps-trans, Spans-kept}
-use Rattle.sig_rel.proofs.Staying.{conj_is_choice, same_is, test_kept}
-use Rattle.sig_rel.proofs.Makings.{made_choice, made_one, made_two, makes_err, makes_spans, makes_then}
+use Rattle.sig_rel.proofs.{[], ◌∷◌, ◌&&◌, not, Ok, Err, ◌∙◌, ap, arith, if◌then◌else◌, IfOk-weaker, same_truth, test, SpanAll, itself, Keeps-trans, Spans-kept, conj_is_choice, same_is, test_kept, made_choice, made_one, made_two, makes_err, makes_spans, makes_then}
 use Rattle.sig_rel.proofs.statuses.Known.same.Goals as goal
 
 pub returns-in_err-alike-clause-made : goal.returns-in_err-alike-clause-made

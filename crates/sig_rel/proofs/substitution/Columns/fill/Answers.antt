@@ -1,15 +1,4 @@
-use Rattle.std.proofs.Common.{◌+◌, ◌*◌, length, arith, subst, sym}
-use Rattle.std.specs.List.{range_with_len}
-use Rattle.std.proofs.lemmas.Result.{on_ok_weaker}
-use Rattle.sig_dd.specs.Nodes.{allowance}
-use Rattle.sig_rel.specs.Schedules.{IsOrderOfWriting}
-use Rattle.sig_rel.specs.Shares.{Makes, triangular_share_of}
-use Rattle.sig_rel.specs.Substitutions.{IsPartlyWritten, SpanColumns, no_ref, steps}
-use Rattle.sig_rel.proofs.AddingLemmas.{adds_err, adds_makes, adds_more, adds_then, within_triangular_share}
-use Rattle.sig_rel.proofs.FilledLemmas.{are_filled, condition_within, proposed_count, proposed_hold, proposed_plain, proposed_span}
-use Rattle.sig_rel.proofs.GivenLemmas.{conditions_within}
-use Rattle.sig_rel.proofs.StepLemmas.{few_steps}
-use Rattle.sig_rel.proofs.TriangleOrders.{triangle_orders}
+use Rattle.sig_rel.proofs.{◌+◌, ◌*◌, length, arith, subst, sym, range_with_len, on_ok_weaker, allowance, IsOrderOfWriting, Makes, triangular_share_of, IsPartlyWritten, SpanColumns, no_ref, steps, adds_err, adds_makes, adds_more, adds_then, within_triangular_share, are_filled, condition_within, proposed_count, proposed_hold, proposed_plain, proposed_span, conditions_within, few_steps, triangle_orders}
 use Rattle.sig_rel.proofs.substitution.Columns.fill.Goals as goal
 
 pub propose-requires-clause-few : goal.propose-requires-clause-few

@@ -1,10 +1,4 @@
-use Rattle.std.proofs.Common.{[], ◌∷◌, ◌&&◌, ◌||◌, not, arith, ap, sym, ◌∙◌}
-use Rattle.std.proofs.lemmas.Result.{IfOk-weaker}
-use Rattle.sig_dd.specs.Shares.{SpanAll}
-use Rattle.sig_rel.specs.Statuses.{itself}
-use Rattle.sig_rel.specs.Substitutions.{SpanColumns, operand_at}
-use Rattle.sig_rel.specs.TruthFunctions.{truth_by}
-use Rattle.sig_rel.proofs.Makings.{made_none, made_one, made_two, makes_wider}
+use Rattle.sig_rel.proofs.{[], ◌∷◌, ◌&&◌, ◌||◌, not, arith, ap, sym, ◌∙◌, IfOk-weaker, SpanAll, itself, SpanColumns, operand_at, truth_by, made_none, made_one, made_two, makes_wider}
 use Rattle.sig_rel.proofs.substitution.Columns.function_value.Goals as goal
 
 pub returns-in-Same-clause-made : goal.returns-in-Same-clause-made

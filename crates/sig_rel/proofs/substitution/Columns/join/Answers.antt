@@ -1,11 +1,4 @@
-use Rattle.std.proofs.Common.{[], ◌∷◌, ◌&&◌, ◌∙◌}
-use Rattle.std.proofs.lemmas.Result.{IfOk-weaker}
-use Rattle.sig_dd.specs.Shares.{SpanAll}
-use Rattle.sig_dd.proofs.CallerLemmas.{Spans-kept}
-use Rattle.sig_rel.specs.Statuses.{itself}
-use Rattle.sig_rel.specs.Substitutions.{SpanColumns}
-use Rattle.sig_rel.proofs.Makings.{made_two, makes_then}
-use Rattle.sig_rel.proofs.Staying.{test_kept}
+use Rattle.sig_rel.proofs.{[], ◌∷◌, ◌&&◌, ◌∙◌, IfOk-weaker, SpanAll, Spans-kept, itself, SpanColumns, made_two, makes_then, test_kept}
 use Rattle.sig_rel.proofs.substitution.Columns.join.Goals as goal
 
 pub returns-clause-made : goal.returns-clause-made

@@ -1,12 +1,4 @@
-use Rattle.std.proofs.Common.{◌+◌, ◌*◌, [], ◌∷◌, Ok, Err, length, ◌∙◌, arith}
-use Rattle.sig_dd.proofs.CallerLemmas.{Spans-kept}
-use Rattle.sig_rel.specs.OwnColumns.{classes_below}
-use Rattle.sig_rel.specs.Residues.{left_refs}
-use Rattle.sig_rel.specs.Statuses.{itself}
-use Rattle.sig_rel.specs.Substitutions.{SpanColumns}
-use Rattle.sig_rel.proofs.Makings.{makes_err, makes_ok, makes_spans, makes_then}
-use Rattle.sig_rel.proofs.ResidueLemmas.{columns_span, some_of_kept}
-use Rattle.sig_rel.proofs.Staying.{HoldAll-kept, test_kept}
+use Rattle.sig_rel.proofs.{◌+◌, ◌*◌, [], ◌∷◌, Ok, Err, length, ◌∙◌, arith, Spans-kept, classes_below, left_refs, itself, SpanColumns, makes_err, makes_ok, makes_spans, makes_then, columns_span, some_of_kept, HoldAll-kept, test_kept}
 use Rattle.sig_rel.proofs.substitution.Columns.left.Goals as goal
 
 pub returns-in_err-speaks-clause-made : goal.returns-in_err-speaks-clause-made

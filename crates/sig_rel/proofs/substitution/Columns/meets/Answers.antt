@@ -1,10 +1,4 @@
-use Rattle.std.proofs.Common.{inl, inr, ap, sym, ◌∙◌}
-use Rattle.std.proofs.lemmas.Result.{IfOk-weaker}
-use Rattle.sig_dd.specs.Nodes.{test}
-use Rattle.sig_kernel.specs.declared.equation.Form.TheVariants.{Fun}
-use Rattle.sig_rel.specs.Residues.{is_met}
-use Rattle.sig_rel.specs.Substitutions.{values_at}
-use Rattle.sig_rel.proofs.ResidueLemmas.{constant_met, default_met, when_met}
+use Rattle.sig_rel.proofs.{inl, inr, ap, sym, ◌∙◌, IfOk-weaker, test, Fun, is_met, values_at, constant_met, default_met, when_met}
 use Rattle.sig_rel.proofs.substitution.Columns.meets.Goals as goal
 
 pub returns-in-Fun-clause-value : goal.returns-in-Fun-clause-value

@@ -1,17 +1,4 @@
-use Rattle.std.proofs.Common.{[], ◌∷◌, true, ap, sym, ◌∙◌, subst, arith}
-use Rattle.std.proofs.lemmas.Result.{IfOk-weaker}
-use Rattle.sig_clock.specs.Reactions.{same_status}
-use Rattle.sig_dd.specs.Nodes.{Holds, test}
-use Rattle.sig_dd.specs.Shares.{SpanAll}
-use Rattle.sig_dd.specs.declared.node.Ref.{Ref}
-use Rattle.std.specs.Prelude.{slice_index}
-use Rattle.sig_rel.specs.Rules.{has, value_status}
-use Rattle.sig_rel.specs.Statuses.{itself}
-use Rattle.sig_rel.specs.Substitutions.{SpanColumns, truth_at, values_at}
-use Rattle.sig_rel.proofs.ColumnLemmas.{presence_spans}
-use Rattle.sig_rel.proofs.Makings.{constant_spans, makes_wider}
-use Rattle.sig_rel.proofs.ResidueLemmas.{own_hold, own_span, own_status}
-use Rattle.sig_rel.proofs.Staying.{status, where_present_is}
+use Rattle.sig_rel.proofs.{[], ◌∷◌, true, ap, sym, ◌∙◌, subst, arith, IfOk-weaker, same_status, Holds, test, SpanAll, Ref, slice_index, has, value_status, itself, SpanColumns, truth_at, values_at, presence_spans, constant_spans, makes_wider, own_hold, own_span, own_status, status, where_present_is}
 use Rattle.sig_rel.proofs.substitution.Columns.meets_event.Goals as goal
 
 pub same-requires-clause-held : goal.same-requires-clause-held

@@ -1,14 +1,4 @@
-use Rattle.std.proofs.Common.{[], ◌∷◌, Some, sym, ap, ◌∙◌}
-use Rattle.std.proofs.lemmas.Result.{IfOk-weaker}
-use Rattle.sig_clock.specs.Reactions.{has_truth}
-use Rattle.sig_dd.specs.Nodes.{test}
-use Rattle.sig_dd.specs.Shares.{SpanAll}
-use Rattle.sig_rel.specs.Rules.{value_status}
-use Rattle.sig_rel.specs.Statuses.{itself}
-use Rattle.sig_rel.specs.Substitutions.{SpanColumns, operand_at}
-use Rattle.sig_rel.proofs.Makings.{makes_then}
-use Rattle.sig_rel.proofs.ResidueLemmas.{columns_span, columns_values, own_span, own_status}
-use Rattle.sig_rel.proofs.Staying.{has_truth_is}
+use Rattle.sig_rel.proofs.{[], ◌∷◌, Some, sym, ap, ◌∙◌, IfOk-weaker, has_truth, test, SpanAll, value_status, itself, SpanColumns, operand_at, makes_then, columns_span, columns_values, own_span, own_status, has_truth_is}
 use Rattle.sig_rel.proofs.substitution.Columns.meets_function.Goals as goal
 
 pub returns-in_ok-value-in-Some-clause-made : goal.returns-in_ok-value-in-Some-clause-made

@@ -1,14 +1,4 @@
-use Rattle.std.proofs.Common.{[], ◌∷◌, Ok, Err, ap, ◌∙◌, arith}
-use Rattle.std.proofs.lemmas.Result.{IfOk-weaker}
-use Rattle.sig_clock.specs.Reactions.{same_status}
-use Rattle.sig_dd.specs.Shares.{SpanAll}
-use Rattle.sig_dd.proofs.CallerLemmas.{Keeps-trans, Spans-kept}
-use Rattle.sig_rel.specs.Rules.{truth_by_form, value_status}
-use Rattle.sig_rel.specs.Statuses.{itself}
-use Rattle.sig_rel.specs.Substitutions.{SpanColumns}
-use Rattle.sig_rel.proofs.Makings.{makes_err, makes_spans, makes_then}
-use Rattle.sig_rel.proofs.ResidueLemmas.{columns_hold, columns_span, columns_values, own_hold, own_span, own_status}
-use Rattle.sig_rel.proofs.Staying.{HoldAll-kept, status, test_kept}
+use Rattle.sig_rel.proofs.{[], ◌∷◌, Ok, Err, ap, ◌∙◌, arith, IfOk-weaker, same_status, SpanAll, Keeps-trans, Spans-kept, truth_by_form, value_status, itself, SpanColumns, makes_err, makes_spans, makes_then, columns_hold, columns_span, columns_values, own_hold, own_span, own_status, HoldAll-kept, status, test_kept}
 use Rattle.sig_rel.proofs.substitution.Columns.meets_given.Goals as goal
 
 pub returns-in_err-present-clause-made : goal.returns-in_err-present-clause-made

@@ -1,6 +1,4 @@
-use Rattle.std.proofs.Common.{subst, sym}
-use Rattle.sig_dd.specs.Nodes.{Spans}
-use Rattle.sig_dd.specs.declared.node.Ref.{Ref}
+use Rattle.sig_rel.proofs.{subst, sym, Spans, Ref}
 use Rattle.sig_rel.proofs.substitution.Columns.operand.Goals as goal
 
 pub returns-in-Sig-clause-spans : goal.returns-in-Sig-clause-spans

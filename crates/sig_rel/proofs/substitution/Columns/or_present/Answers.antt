@@ -1,12 +1,4 @@
-use Rattle.std.proofs.Common.{[], ◌∷◌, ◌||◌, arith, sym, subst}
-use Rattle.std.proofs.lemmas.Bool.{eq-eqb}
-use Rattle.sig_dd.specs.Shares.{SpanAll}
-use Rattle.sig_rel.specs.OwnColumns.{count_one}
-use Rattle.sig_rel.specs.Shares.{Makes}
-use Rattle.sig_rel.specs.Statuses.{itself}
-use Rattle.sig_rel.specs.Substitutions.{SpanColumns}
-use Rattle.sig_rel.proofs.ColumnLemmas.{presence_spans}
-use Rattle.sig_rel.proofs.Makings.{made_two, makes_wider}
+use Rattle.sig_rel.proofs.{[], ◌∷◌, ◌||◌, arith, sym, subst, eq-eqb, SpanAll, count_one, Makes, itself, SpanColumns, presence_spans, made_two, makes_wider}
 use Rattle.sig_rel.proofs.substitution.Columns.or_present.Goals as goal
 
 pub returns-then-least-class-clause-made : goal.returns-then-least-class-clause-made

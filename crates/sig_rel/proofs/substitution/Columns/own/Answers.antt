@@ -1,12 +1,4 @@
-use Rattle.std.proofs.Common.{◌≡◌, ◌+◌, ◌<◌, Ok, Err, length, subst, sym, arith}
-use Rattle.std.specs.Prelude.{is_some}
-use Rattle.sig_rel.specs.FreeColumns.{Adds}
-use Rattle.sig_rel.specs.OwnColumns.{IsUnknownWhere, classes_below, count_one, truths_below, unknown_of}
-use Rattle.sig_rel.specs.Variables.{AreVariables}
-use Rattle.sig_rel.specs.declared.elements.Element.TheVariants.{Presence, Truth}
-use Rattle.sig_rel.proofs.AddingLemmas.{adds_err, adds_more, adds_none, adds_then}
-use Rattle.sig_rel.proofs.OwnLemmas.{are_own, below_more, own_more, own_within}
-use Rattle.sig_rel.proofs.VariableLemmas.{no_variables}
+use Rattle.sig_rel.proofs.{◌≡◌, ◌+◌, ◌<◌, Ok, Err, length, subst, sym, arith, is_some, Adds, IsUnknownWhere, classes_below, count_one, truths_below, unknown_of, AreVariables, Presence, Truth, adds_err, adds_more, adds_none, adds_then, are_own, below_more, own_more, own_within, no_variables}
 use Rattle.sig_rel.proofs.substitution.Columns.own.Goals as goal
 
 pub loop-signal-init : goal.loop-signal-init

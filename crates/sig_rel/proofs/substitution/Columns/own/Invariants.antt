@@ -1,7 +1,4 @@
-use Rattle.std.proofs.Common.{◌+◌, ◌<◌, Ok}
-use Rattle.sig_rel.specs.FreeColumns.{Adds}
-use Rattle.sig_rel.specs.OwnColumns.{IsUnknownWhere, classes_below, truths_below}
-use Rattle.sig_rel.specs.Variables.{AreVariables}
+use Rattle.sig_rel.proofs.{◌+◌, ◌<◌, Ok, Adds, IsUnknownWhere, classes_below, truths_below, AreVariables}
 use Rattle.sig_rel.proofs.substitution.Columns.own.Given as goal
 
 abbrev pub invariant-loop-signal : goal.invariant-loop-signal

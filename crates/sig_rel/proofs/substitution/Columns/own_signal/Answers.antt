@@ -1,12 +1,4 @@
-use Rattle.std.proofs.Common.{◌+◌, Ok, Err, subst, sym, arith}
-use Rattle.std.specs.Prelude.{is_some}
-use Rattle.sig_rel.specs.FreeColumns.{Adds}
-use Rattle.sig_rel.specs.OwnColumns.{count_one, unknown_of}
-use Rattle.sig_rel.specs.Variables.{AreVariables, IsVariableAt}
-use Rattle.std.proofs.lemmas.Result.{on_ok_weaker}
-use Rattle.sig_rel.specs.declared.elements.Element.TheVariants.{Presence, Truth}
-use Rattle.sig_rel.proofs.AddingLemmas.{adds_err, adds_then}
-use Rattle.sig_rel.proofs.OwnLemmas.{both_made}
+use Rattle.sig_rel.proofs.{◌+◌, Ok, Err, subst, sym, arith, is_some, Adds, count_one, unknown_of, AreVariables, IsVariableAt, on_ok_weaker, Presence, Truth, adds_err, adds_then, both_made}
 use Rattle.sig_rel.proofs.substitution.Columns.own_signal.Goals as goal
 
 pub returns-in_err-set_variable-clause-adds : goal.returns-in_err-set_variable-clause-adds

@@ -1,9 +1,4 @@
-use Rattle.std.proofs.Common.{[], ◌∷◌, ◌&&◌, ◌||◌, arith}
-use Rattle.sig_dd.specs.Shares.{SpanAll}
-use Rattle.sig_rel.specs.Statuses.{itself}
-use Rattle.sig_rel.specs.Substitutions.{SpanColumns}
-use Rattle.sig_rel.proofs.ColumnLemmas.{presence_spans, truth_spans}
-use Rattle.sig_rel.proofs.Makings.{made_two, makes_wider}
+use Rattle.sig_rel.proofs.{[], ◌∷◌, ◌&&◌, ◌||◌, arith, SpanAll, itself, SpanColumns, presence_spans, truth_spans, made_two, makes_wider}
 use Rattle.sig_rel.proofs.substitution.Columns.presence.Goals as goal
 
 pub returns-in-When-clause-made : goal.returns-in-When-clause-made

@@ -1,9 +1,4 @@
-use Rattle.std.proofs.Common.{◌≡◌, ◌+◌, Ok, Err, length, get_or, arith}
-use Rattle.sig_clock.proofs.Lists.{get_at}
-use Rattle.sig_rel.specs.FreeColumns.{IsProposalBelow}
-use Rattle.sig_rel.proofs.AddingLemmas.{adds_err, adds_more, adds_none, adds_then}
-use Rattle.sig_rel.proofs.FilledLemmas.{all_proposed, one_proposed}
-use Rattle.sig_rel.proofs.VariableLemmas.{no_variables}
+use Rattle.sig_rel.proofs.{◌≡◌, ◌+◌, Ok, Err, length, get_or, arith, get_at, IsProposalBelow, adds_err, adds_more, adds_none, adds_then, all_proposed, one_proposed, no_variables}
 use Rattle.sig_rel.proofs.substitution.Columns.propose.Goals as goal
 
 pub loop-v-init : goal.loop-v-init

@@ -1,6 +1,4 @@
-use Rattle.std.proofs.Common.{Ok}
-use Rattle.sig_rel.specs.FreeColumns.{Adds, IsProposalBelow}
-use Rattle.sig_rel.specs.Variables.{AreVariables}
+use Rattle.sig_rel.proofs.{Ok, Adds, IsProposalBelow, AreVariables}
 use Rattle.sig_rel.proofs.substitution.Columns.propose.Given as goal
 
 abbrev pub invariant-loop-v : goal.invariant-loop-v

@@ -1,13 +1,4 @@
-use Rattle.std.proofs.Common.{◌≡◌, ◌+◌, ◌*◌, ◌&&◌, Ok, Err, length, true, ap, ◌∙◌, subst, arith}
-use Rattle.sig_clock.proofs.Lists.{item_at}
-use Rattle.sig_dd.specs.Nodes.{test}
-use Rattle.sig_dd.specs.Shares.{SpanAll}
-use Rattle.sig_rel.specs.Residues.{is_met}
-use Rattle.sig_rel.specs.Shares.{Makes}
-use Rattle.sig_rel.specs.Statuses.{itself}
-use Rattle.sig_rel.specs.Substitutions.{SpanColumns, values_at}
-use Rattle.sig_rel.proofs.Makings.{constant_spans, made_none, makes_err, makes_then, makes_wider}
-use Rattle.sig_rel.proofs.ResidueLemmas.{columns_hold, columns_span, columns_values, one_more_asked}
+use Rattle.sig_rel.proofs.{◌≡◌, ◌+◌, ◌*◌, ◌&&◌, Ok, Err, length, true, ap, ◌∙◌, subst, arith, item_at, test, SpanAll, is_met, Makes, itself, SpanColumns, values_at, constant_spans, made_none, makes_err, makes_then, makes_wider, columns_hold, columns_span, columns_values, one_more_asked}
 use Rattle.sig_rel.proofs.substitution.Columns.residue.Goals as goal
 
 pub loop-equation-init : goal.loop-equation-init

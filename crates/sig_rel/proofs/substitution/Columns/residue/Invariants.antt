@@ -1,11 +1,4 @@
-use Rattle.std.proofs.Common.{◌*◌, Ok, take}
-use Rattle.std.specs.List.{list_all}
-use Rattle.sig_dd.specs.Diagram.{Agree}
-use Rattle.sig_dd.specs.Nodes.{test}
-use Rattle.sig_rel.specs.Residues.{is_met}
-use Rattle.sig_rel.specs.Shares.{Makes}
-use Rattle.sig_rel.specs.Statuses.{itself}
-use Rattle.sig_rel.specs.Substitutions.{SpanColumns, values_at}
+use Rattle.sig_rel.proofs.{◌*◌, Ok, take, list_all, Agree, test, is_met, Makes, itself, SpanColumns, values_at}
 use Rattle.sig_rel.proofs.substitution.Columns.residue.Given as goal
 
 abbrev pub invariant-loop-equation : goal.invariant-loop-equation

@@ -1,10 +1,4 @@
-use Rattle.std.proofs.Common.{None, Ok, sym, subst}
-use Rattle.std.specs.Prelude.{is_some}
-use Rattle.sig_rel.specs.FreeColumns.{Adds}
-use Rattle.sig_rel.specs.OwnColumns.{count_one}
-use Rattle.sig_rel.specs.Variables.{AreVariables, IsVariableAt}
-use Rattle.sig_rel.proofs.AddingLemmas.{adds_none, adds_variable, variable_refused}
-use Rattle.sig_rel.proofs.VariableLemmas.{no_variable, one_variable}
+use Rattle.sig_rel.proofs.{None, Ok, sym, subst, is_some, Adds, count_one, AreVariables, IsVariableAt, adds_none, adds_variable, variable_refused, no_variable, one_variable}
 use Rattle.sig_rel.proofs.substitution.Columns.set_variable.Goals as goal
 
 pub returns-in_err-value-in-Some-clause-adds : goal.returns-in_err-value-in-Some-clause-adds

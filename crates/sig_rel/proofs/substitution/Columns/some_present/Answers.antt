@@ -1,13 +1,4 @@
-use Rattle.std.proofs.Common.{◌≡◌, ◌+◌, ◌-◌, Ok, Err, false, length, sym, subst, arith}
-use Rattle.sig_dd.specs.Shares.{SpanAll}
-use Rattle.sig_rel.specs.OwnColumns.{classes_below, count_one, is_own}
-use Rattle.sig_rel.specs.Residues.{IsSomePresent}
-use Rattle.sig_rel.specs.Shares.{Makes}
-use Rattle.sig_rel.specs.Statuses.{itself}
-use Rattle.sig_rel.specs.Substitutions.{SpanColumns}
-use Rattle.sig_rel.proofs.Makings.{constant_spans, made_none, makes_err, makes_then, makes_wider}
-use Rattle.sig_rel.proofs.OwnLemmas.{classes_first, classes_from, classes_from_within}
-use Rattle.sig_rel.proofs.ResidueLemmas.{columns_hold, columns_span, none_present, one_more_present}
+use Rattle.sig_rel.proofs.{◌≡◌, ◌+◌, ◌-◌, Ok, Err, false, length, sym, subst, arith, SpanAll, classes_below, count_one, is_own, IsSomePresent, Makes, itself, SpanColumns, constant_spans, made_none, makes_err, makes_then, makes_wider, classes_first, classes_from, classes_from_within, columns_hold, columns_span, none_present, one_more_present}
 use Rattle.sig_rel.proofs.substitution.Columns.some_present.Goals as goal
 
 pub loop-class-init : goal.loop-class-init

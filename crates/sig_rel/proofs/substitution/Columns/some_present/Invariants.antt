@@ -1,9 +1,4 @@
-use Rattle.std.proofs.Common.{Ok}
-use Rattle.sig_rel.specs.Residues.{IsSomePresent}
-use Rattle.sig_rel.specs.Shares.{Makes}
-use Rattle.sig_rel.specs.Statuses.{itself}
-use Rattle.sig_rel.specs.Substitutions.{SpanColumns}
-use Rattle.sig_rel.proofs.OwnLemmas.{classes_from}
+use Rattle.sig_rel.proofs.{Ok, IsSomePresent, Makes, itself, SpanColumns, classes_from}
 use Rattle.sig_rel.proofs.substitution.Columns.some_present.Given as goal
 
 abbrev pub invariant-loop-class : goal.invariant-loop-class

@@ -1,16 +1,4 @@
-use Rattle.std.proofs.Common.{◌+◌, ◌*◌, Ok, Err, length, ap, sym, subst, arith}
-use Rattle.std.proofs.lemmas.Result.{on_ok_weaker}
-use Rattle.sig_dd.specs.Nodes.{allowance}
-use Rattle.sig_rel.specs.FreeColumns.{Adds}
-use Rattle.sig_rel.specs.GeneralColumns.{numbers_of, substituting}
-use Rattle.sig_rel.specs.OwnColumns.{AreOwnColumns, classes_below, truths_below}
-use Rattle.sig_rel.specs.Schedules.{IsOrderOfWriting}
-use Rattle.sig_rel.specs.Shares.{Makes}
-use Rattle.sig_rel.specs.Substitutions.{IsPartlyWritten, SpanColumns, no_ref, steps}
-use Rattle.sig_rel.proofs.AddingLemmas.{adds_err, adds_makes, adds_more, adds_then}
-use Rattle.sig_rel.proofs.OwnSpans.{own_columns_count, own_columns_hold, own_columns_plain, own_columns_span, within_share_of_own}
-use Rattle.sig_rel.proofs.StepLemmas.{few_steps}
-use Rattle.sig_rel.proofs.SubstitutedColumns.{columns_substituted}
+use Rattle.sig_rel.proofs.{◌+◌, ◌*◌, Ok, Err, length, ap, sym, subst, arith, on_ok_weaker, allowance, Adds, numbers_of, substituting, AreOwnColumns, classes_below, truths_below, IsOrderOfWriting, Makes, IsPartlyWritten, SpanColumns, no_ref, steps, adds_err, adds_makes, adds_more, adds_then, own_columns_count, own_columns_hold, own_columns_plain, own_columns_span, within_share_of_own, few_steps, columns_substituted}
 use Rattle.sig_rel.proofs.substitution.Columns.substitute.Goals as goal
 
 pub returns-in_err-own-clause-adds : goal.returns-in_err-own-clause-adds

@@ -1,12 +1,5 @@
-use Rattle.std.proofs.Common.{[], ◌∷◌, arith, ap, sym, ◌∙◌}
-use Rattle.std.proofs.lemmas.Result.{IfOk-weaker}
-use Rattle.sig_dd.specs.Shares.{SpanAll}
-use Rattle.sig_rel.specs.Rules.{truth_by_form}
-use Rattle.sig_rel.specs.Statuses.{itself}
-use Rattle.sig_rel.specs.Substitutions.{SpanColumns, operand_at, values_at}
+use Rattle.sig_rel.proofs.{[], ◌∷◌, arith, ap, sym, ◌∙◌, IfOk-weaker, SpanAll, truth_by_form, itself, SpanColumns, operand_at, values_at, presence_spans, truth_spans, made_choice, makes_wider}
 use Rattle.sig_rel.specs.TruthFunctions.{truth_given}
-use Rattle.sig_rel.proofs.ColumnLemmas.{presence_spans, truth_spans}
-use Rattle.sig_rel.proofs.Makings.{made_choice, makes_wider}
 use Rattle.sig_rel.proofs.substitution.Columns.truth.Goals as goal
 
 pub returns-in-Fun-clause-value : goal.returns-in-Fun-clause-value

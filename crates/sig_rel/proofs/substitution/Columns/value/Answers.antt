@@ -1,9 +1,4 @@
-use Rattle.std.proofs.Common.{arith}
-use Rattle.std.proofs.lemmas.Result.{IfOk-weaker}
-use Rattle.sig_rel.specs.Statuses.{itself}
-use Rattle.sig_rel.specs.Substitutions.{SpanColumns}
-use Rattle.sig_rel.proofs.Makings.{makes_wider}
-use Rattle.sig_rel.proofs.NewColumns.{presence_gives, truth_gives}
+use Rattle.sig_rel.proofs.{arith, IfOk-weaker, itself, SpanColumns, makes_wider, presence_gives, truth_gives}
 use Rattle.sig_rel.proofs.substitution.Columns.value.Goals as goal
 
 pub returns-in-Presence-clause-made : goal.returns-in-Presence-clause-made

@@ -1,9 +1,4 @@
-use Rattle.std.proofs.Common.{◌*◌, ◌∙◌}
-use Rattle.sig_rel.specs.Statuses.{itself}
-use Rattle.sig_rel.specs.Substitutions.{SpanColumns, given_by, no_ref, step_at, values_at}
-use Rattle.sig_rel.proofs.Makings.{made_none, makes_spans}
-use Rattle.sig_rel.proofs.NewColumns.{element_made, element_refused}
-use Rattle.sig_rel.proofs.WritingLemmas.{is_written, not_written}
+use Rattle.sig_rel.proofs.{◌*◌, ◌∙◌, itself, SpanColumns, given_by, no_ref, step_at, values_at, made_none, makes_spans, element_made, element_refused, is_written, not_written}
 use Rattle.sig_rel.proofs.substitution.Columns.write.Goals as goal
 
 pub returns-in_err-value-in-Some-clause-made : goal.returns-in_err-value-in-Some-clause-made

@@ -1,10 +1,4 @@
-use Rattle.std.proofs.Common.{◌*◌, ◌+◌, Err, Ok, arith, get_or, refl, subst, take}
-use Rattle.std.proofs.lemmas.List.{take_all}
-use Rattle.sig_rel.specs.Substitutions.{IsPartlyWritten, SpanColumns, no_ref, steps}
-use Rattle.sig_rel.specs.declared.elements.Element.TheVariants.{Presence}
-use Rattle.sig_rel.proofs.Makings.{made_none, makes_err, makes_wider}
-use Rattle.sig_rel.proofs.NewColumns.{element_at, has_row, made_more, next_written, steps_within}
-use Rattle.sig_rel.proofs.WritingLemmas.{none_written, partly_more}
+use Rattle.sig_rel.proofs.{◌*◌, ◌+◌, Err, Ok, arith, get_or, refl, subst, take, take_all, IsPartlyWritten, SpanColumns, no_ref, steps, Presence, made_none, makes_err, makes_wider, element_at, has_row, made_more, next_written, steps_within, none_written, partly_more}
 use Rattle.sig_rel.proofs.substitution.Columns.write_all.Goals as goal
 
 pub loop-element-init : goal.loop-element-init

@@ -1,6 +1,4 @@
-use Rattle.std.proofs.Common.{◌*◌, Ok, take}
-use Rattle.sig_rel.specs.Shares.{Makes}
-use Rattle.sig_rel.specs.Substitutions.{IsPartlyWritten, SpanColumns, no_ref, steps}
+use Rattle.sig_rel.proofs.{◌*◌, Ok, take, Makes, IsPartlyWritten, SpanColumns, no_ref, steps}
 use Rattle.sig_rel.proofs.substitution.Columns.write_all.Given as goal
 
 abbrev pub invariant-loop-element : goal.invariant-loop-element

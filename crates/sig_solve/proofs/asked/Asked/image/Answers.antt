@@ -1,9 +1,4 @@
-use Rattle.std.proofs.Common.{◌+◌, subst}
-use Rattle.sig_dd.specs.Shares.{Share, refusal}
-use Rattle.sig_dd.proofs.Functions.{IfOk-weaker}
-use Rattle.sig_solve.specs.Asked.{variables_of}
-use Rattle.sig_solve.proofs.AskedLemmas.{over_spans, product_over}
-use Rattle.sig_solve.proofs.SystemLemmas.{variables_count}
+use Rattle.sig_solve.proofs.{◌+◌, subst, Share, refusal, IfOk-weaker, variables_of, over_spans, product_over, variables_count}
 use Rattle.sig_solve.proofs.asked.Asked.image.Goals as goal
 
 pub returns-clause-over : goal.returns-clause-over

@@ -1,12 +1,4 @@
-use Rattle.std.proofs.Common.{◌≡◌, ◌+◌, false, not, arith, subst}
-use Rattle.sig_clock.specs.Reactions.{is_present}
-use Rattle.sig_dd.specs.Nodes.{IsRefOf, test}
-use Rattle.sig_dd.specs.Shares.{refusal}
-use Rattle.sig_dd.specs.declared.node.Ref.{Ref}
-use Rattle.sig_dd.proofs.Adding.{Share-then}
-use Rattle.sig_solve.specs.Asked.{variables_of}
-use Rattle.sig_solve.proofs.AskedLemmas.{asked_stays, imaged, over_one, over_spans, present_over, says_absent}
-use Rattle.sig_solve.proofs.StoreLemmas.{more_calls, refused}
+use Rattle.sig_solve.proofs.{◌≡◌, ◌+◌, false, not, arith, subst, is_present, IsRefOf, test, refusal, Ref, Share-then, variables_of, asked_stays, imaged, over_one, over_spans, present_over, says_absent, more_calls, refused}
 use Rattle.sig_solve.proofs.asked.Asked.where_absent.Goals as goal
 
 pub returns-in_err-absent-clause-share : goal.returns-in_err-absent-clause-share

@@ -1,15 +1,4 @@
-use Rattle.std.proofs.Common.{◌≡◌, ◌+◌, ◌&&◌, false, not, arith, subst}
-use Rattle.std.specs.Prelude.{None, Some}
-use Rattle.sig_clock.specs.Reactions.{status_at}
-use Rattle.sig_dd.specs.Nodes.{IsRefOf, test}
-use Rattle.sig_dd.specs.Shares.{refusal}
-use Rattle.sig_dd.specs.declared.node.Ref.{Ref}
-use Rattle.sig_dd.proofs.Adding.{Share-then}
-use Rattle.sig_dd.proofs.CallerLemmas.{Holds-kept, Keeps-trans}
-use Rattle.sig_solve.specs.Asked.{variables_of}
-use Rattle.sig_solve.proofs.AskedLemmas.{asked_stays, imaged, over_one, over_spans, over_two, present_over, says_false, truth_is_over}
-use Rattle.sig_solve.proofs.StoreLemmas.{more_calls, refused}
-use Rattle.sig_solve.proofs.SystemLemmas.{over_kept}
+use Rattle.sig_solve.proofs.{◌≡◌, ◌+◌, ◌&&◌, false, not, arith, subst, None, Some, status_at, IsRefOf, test, refusal, Ref, Share-then, Holds-kept, Keeps-trans, variables_of, asked_stays, imaged, over_one, over_spans, over_two, present_over, says_false, truth_is_over, more_calls, refused, over_kept}
 use Rattle.sig_solve.proofs.asked.Asked.where_false.Goals as goal
 use Rattle.sig_solve.proofs.asked.Asked.where_false.Goals.{In_ok-falsehood, In_ok-fails}
 

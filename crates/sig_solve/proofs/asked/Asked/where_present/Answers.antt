@@ -1,9 +1,4 @@
-use Rattle.std.proofs.Common.{◌≡◌, ◌↔◌, Bool, List, true, subst, sym, IsTrue}
-use Rattle.sig_clock.specs.Reactions.{is_present}
-use Rattle.sig_dd.specs.Nodes.{test}
-use Rattle.sig_dd.specs.declared.node.Ref.{Ref}
-use Rattle.sig_rel.specs.Systems.{reading}
-use Rattle.sig_solve.proofs.AskedLemmas.{imaged, present_over, says_present}
+use Rattle.sig_solve.proofs.{◌≡◌, ◌↔◌, Bool, List, true, subst, sym, IsTrue, is_present, test, Ref, reading, imaged, present_over, says_present}
 use Rattle.sig_solve.proofs.asked.Asked.where_present.Goals as goal
 
 pub image-requires-clause-part : goal.image-requires-clause-part

@@ -1,13 +1,4 @@
-use Rattle.std.proofs.Common.{◌≡◌, ◌+◌, ◌&&◌, true, arith, subst}
-use Rattle.std.specs.Prelude.{Some}
-use Rattle.sig_clock.specs.Reactions.{status_at}
-use Rattle.sig_dd.specs.Nodes.{IsRefOf, test}
-use Rattle.sig_dd.specs.Shares.{refusal}
-use Rattle.sig_dd.specs.declared.node.Ref.{Ref}
-use Rattle.sig_dd.proofs.Adding.{Share-then}
-use Rattle.sig_solve.specs.Asked.{truth_at, variables_of}
-use Rattle.sig_solve.proofs.AskedLemmas.{asked_stays, imaged, over_spans, over_two, present_over, says_true, truth_is_over}
-use Rattle.sig_solve.proofs.StoreLemmas.{more_calls, refused}
+use Rattle.sig_solve.proofs.{◌≡◌, ◌+◌, ◌&&◌, true, arith, subst, Some, status_at, IsRefOf, test, refusal, Ref, Share-then, truth_at, variables_of, asked_stays, imaged, over_spans, over_two, present_over, says_true, truth_is_over, more_calls, refused}
 use Rattle.sig_solve.proofs.asked.Asked.where_true.Goals as goal
 
 pub returns-in_err-holds-clause-share : goal.returns-in_err-holds-clause-share

@@ -1,0 +1,7 @@
+-- the inputs so far have their places
+use Rattle.sig_flow.proofs.{ℕ, List, bytes_eq, ArePlaces}
+use Rattle.std.specs.HashMap.{get_by}
+use Rattle.sig_flow.proofs.names.Names.of.Given as goal
+
+abbrev pub invariant-loop-i : goal.invariant-loop-i
+invariant-loop-i l = ArePlaces l.inputs l.i (λ (q : List ℕ). get_by (λ k. bytes_eq q k.now) l.places)
