@@ -1,42 +1,7 @@
 -- The end of a run that was reached.
-use Rattle.std.proofs.Common.{◌≡◌, ◌<◌, ◌≤◌, ◌-◌, ◌+◌, ◌++◌, ◌∙◌, inl, inr, ℕ, zero, suc, true, false, List, [], ◌∷◌, length, map, take, refl, sym, ap, subst, arith, append_assoc}
-use Rattle.std.specs.Prelude.{None, Option, Some, fold, slice_get}
-use Rattle.std.proofs.lemmas.List.{length-map, length-take}
-use Rattle.sig_base.specs.Traces.{Instant, Trace, seen_at}
-use Rattle.sig_base.specs.declared.place.Place.{Place}
-use Rattle.sig_clock.proofs.Lists.{get_at, get_within}
+use Rattle.sig_core.proofs.Common.{◌≡◌, ◌<◌, ◌≤◌, ◌-◌, ◌+◌, ◌++◌, ◌∙◌, inl, inr, ℕ, zero, suc, true, false, List, [], ◌∷◌, length, map, take, refl, sym, ap, subst, arith, append_assoc, None, Option, Some, fold, slice_get, length-map, length-take, Instant, Trace, seen_at, Place, get_at, get_within, IsCore, IsSameRun, Shows, given_of, HasEnded, IsEndOf, IsStill, LeadsTo, Led, TookBehind, TookRest, after_of, instants_by, instants_of, Core, output_text, some_at, fitting, at_most_or, some_reference, Actor, code_of, next_place, IsEnd, ModelCore, Given, IsEnabled, IsFinished, acted, after, cause_of, looked, reactions_text, stepped, IsOnReference, reactions_of, IsReference, reaction_in, Event, Act, Look, IsAccepted, Cause, Ended, some_enabled, after_begins, after_has_end, after_on, some_least, text_is, HasEnd, actor_of, ClusterState, TookPrefix, TookPrefix-longer, some_is, instant_of}
 use Rattle.sig_core.proofs.Finishing.{text_append}
 use Rattle.sig_core.proofs.Leaving.{get_map}
-use Rattle.sig_core.specs.Cores.{IsCore, IsSameRun, Shows, given_of}
-use Rattle.sig_core.specs.Finishing.{HasEnded, IsEndOf, IsStill, LeadsTo, Led, TookBehind, TookRest, after_of, instants_by, instants_of}
-use Rattle.sig_core.specs.declared.state.Core.{Core}
-use Rattle.sig_kernel.specs.OutputText.{output_text}
-use Rattle.sig_meaning.proofs.Agreement.{some_at}
-use Rattle.sig_meaning.proofs.Ending.{fitting}
-use Rattle.sig_meaning.proofs.Numbers.{at_most_or}
-use Rattle.sig_meaning.proofs.References.{some_reference}
-use Rattle.sig_model.specs.Actors.{Actor, code_of, next_place}
-use Rattle.sig_model.specs.Causes.{IsEnd}
-use Rattle.sig_model.specs.Cores.{Core as ModelCore, Given, IsEnabled, IsFinished, acted, after, cause_of, looked, reactions_text, stepped}
-use Rattle.sig_model.specs.Progress.{IsOnReference, reactions_of}
-use Rattle.sig_model.specs.References.{IsReference}
-use Rattle.sig_model.specs.Turns.{reaction_in}
-use Rattle.sig_model.specs.declared.event.Event.{Event}
-use Rattle.sig_model.specs.declared.event.Event.TheVariants.{Act, Look}
-use Rattle.sig_plan.specs.Plans.{IsAccepted}
-use Rattle.sig_plan.specs.declared.ended.Cause.{Cause}
-use Rattle.sig_plan.specs.declared.ended.Ended.{Ended}
-use Rattle.sig_schedules.proofs.Enabled.{some_enabled}
-use Rattle.sig_schedules.proofs.Finished.{after_begins, after_has_end}
-use Rattle.sig_schedules.proofs.Interleavings.{after_on}
-use Rattle.sig_schedules.proofs.Least.{some_least}
-use Rattle.sig_schedules.proofs.Texts.{text_is}
-use Rattle.sig_schedules.specs.Endings.{HasEnd}
-use Rattle.sig_step.specs.States.{actor_of}
-use Rattle.sig_step.specs.declared.state.ClusterState.{ClusterState}
-use Rattle.sig_text.specs.Sink.{TookPrefix, TookPrefix-longer}
-use Rattle.sig_values.proofs.Writing.{some_is}
-use Rattle.sig_values.specs.Values.{instant_of}
 
 get_past : {X : Type 0} (xs : List X) (k : ℕ) → length xs ≤ k → slice_get xs k ≡ None
 get_past [] k past = refl

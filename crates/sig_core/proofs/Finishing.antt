@@ -1,16 +1,6 @@
 -- Events one after another, to the end of a run.
-use Rattle.std.proofs.Common.{◌≡◌, ◌++◌, ◌∙◌, ℕ, List, [], ◌∷◌, refl, sym, ap, subst, append_assoc}
-use Rattle.std.specs.Prelude.{fold}
-use Rattle.std.proofs.lemmas.List.{append-nil}
-use Rattle.sig_core.specs.Cores.{Happened, IsReached, IsSameRun, Shows, TookMore, given_of}
-use Rattle.sig_core.specs.Finishing.{LeadsTo, after_of}
-use Rattle.sig_core.specs.declared.state.Core.{Core}
-use Rattle.sig_kernel.specs.OutputText.{outputs_of, seen_lines}
-use Rattle.sig_kernel.specs.declared.kernel.Kernel.{Kernel}
-use Rattle.sig_model.specs.Cores.{Core as ModelCore, Given, after, opening, reactions_text, stepped}
-use Rattle.sig_model.specs.Turns.{Reaction}
-use Rattle.sig_model.specs.declared.event.Event.{Event}
-use Rattle.sig_schedules.proofs.Lists.{joined_append}
+use Rattle.sig_core.proofs.Common.{◌≡◌, ◌++◌, ◌∙◌, ℕ, Bool, true, false, List, [], ◌∷◌, length, refl, sym, ap, subst, append_assoc, fold, append-nil, bounded_behind, AllFirst, Happened, IsReached, IsSameRun, Shows, TellsChange, TookMore, given_of, LeadsTo, LeadsWithin, RestBelow, SeesNothing, after_of, Core, IsAccepted, Actor, actor_of, outputs_of, seen_lines, Kernel, ModelCore, Given, after, opening, reactions_text, stepped, Reaction, Event, Act, joined_append}
+use Rattle.sig_core.proofs.Firsts.{ComesFirst, act_first, first_behind, first_change}
 
 fold_append : {A B : Type 0} (f : A → B → A) (z : A) (xs ys : List B) → fold f z (xs ++ ys) ≡ fold f (fold f z xs) ys
 fold_append f z [] ys = refl
@@ -32,13 +22,29 @@ more_then took also join kernel l m n first middle last one two = record {
       (join first middle last (reactions_text kernel one.more) (reactions_text kernel two.more) one.taken two.taken);
 }
 
--- one event leads to the next state
-pub event_leads : {S : Type 0} (took : S → List ℕ → S → Type 0) (e : Event) (old new : Core) (before after : S) → Happened took e old new before after → LeadsTo took old new before after
-event_leads took e old new before after happened m shows = record {
+-- one event that is the first leads to the next state
+pub event_leads : {S : Type 0} (took : S → List ℕ → S → Type 0) (e : Event) (old new : Core) (before after : S) → ComesFirst old e → Happened took e old new before after → LeadsTo took old new before after
+event_leads took e old new before after first happened m shows = record {
   events = e ∷ [];
+  first = (first m shows, tt);
   shows = (happened m shows).0;
   text = (happened m shows).1;
 }
+
+-- one that changes nothing leads nowhere
+pub still_leads : {S : Type 0} (took : S → List ℕ → S → Type 0) (e : Event) (old new : Core) (before after : S) → TellsChange old e false → Happened took e old new before after → LeadsTo took old new before after
+still_leads took e old new before after tells happened m shows = record {
+  events = [];
+  first = tt;
+  shows = subst (λ n. Shows n new) (tells m shows) (happened m shows).0;
+  text = subst (λ n. TookMore took old.plan.now.kernel m n before after) (tells m shows) (happened m shows).1;
+}
+
+-- a step of an actor, where lesser ones rest and its look changes nothing
+pub act_leads : {S : Type 0} (took : S → List ℕ → S → Type 0) (k : ℕ) (old new : Core) (before after : S) → RestBelow k old → SeesNothing k old
+    → (changed : Bool) → TellsChange old (Act k) changed → Happened took (Act k) old new before after → LeadsTo took old new before after
+act_leads took k old new before after rest sees true tells happened = event_leads took (Act k) old new before after (act_first old k rest sees tells) happened
+act_leads took k old new before after rest sees false tells happened = still_leads took (Act k) old new before after tells happened
 
 -- events that lead on
 pub leads_then : {S : Type 0} (took also : S → List ℕ → S → Type 0) → Join took also → (old mid new : Core) (first middle last : S) → IsSameRun old mid
@@ -52,6 +58,7 @@ leads_then {S} took also join old mid new first middle last same one two m shows
     let kernel : mid.plan.now.kernel ≡ old.plan.now.kernel = ap (λ (g : Given). g.plan.kernel) same in
     record {
       events = led.events ++ on.events;
+      first = first_behind (given_of old) led.events on.events m led.first (subst (λ (g : Given). AllFirst g there on.events) same on.first);
       shows = subst (λ n. Shows n new) end_is on.shows;
       text = subst (λ n. TookMore also old.plan.now.kernel m n first last) end_is
           (more_then took also join old.plan.now.kernel m there (fold (stepped (given_of mid)) there on.events) first middle last led.text
@@ -62,6 +69,7 @@ leads_then {S} took also join old mid new first middle last same one two m shows
 pub leads_nowhere : {S : Type 0} (took : S → List ℕ → S → Type 0) (old : Core) (first : S) → took first [] first → LeadsTo took old old first first
 leads_nowhere took old first nothing m shows = record {
   events = [];
+  first = tt;
   shows = shows;
   text = record { more = []; committed = sym (append-nil m.committed); taken = nothing };
 }
@@ -73,3 +81,17 @@ leads_reached took old new first last same leads (events, shows) =
     let is : fold (stepped (given_of old)) (after_of old events) led.events ≡ after_of new (events ++ led.events) =
     sym (fold_append (stepped (given_of old)) (opening old.plan.now) events led.events) ∙ ap (λ (g : Given). after g (events ++ led.events)) (sym same) in
     (events ++ led.events, subst (λ n. Shows n new) is led.shows)
+
+-- behind an event of a core that was reached so is the next one
+pub event_reached : {S : Type 0} (took : S → List ℕ → S → Type 0) (e : Event) (old new : Core) (before after_it : S) → IsSameRun old new → Happened took e old new before after_it → IsReached old → IsReached new
+event_reached took e old new before after_it same happened (events, shows) =
+    let is : stepped (given_of old) (after_of old events) e ≡ after_of new (events ++ e ∷ []) =
+    sym (fold_append (stepped (given_of old)) (opening old.plan.now) events (e ∷ [])) ∙ ap (λ (g : Given). after g (events ++ e ∷ [])) (sym same) in
+    (events ++ e ∷ [], subst (λ n. Shows n new) is (happened (after_of old events) shows).0)
+
+-- from a core that was reached no more events lead on than there are steps, times the limit, and actors
+pub leads_within : {S : Type 0} (took : S → List ℕ → S → Type 0) (old new : Core) (first last : S) → IsAccepted old.plan.now → IsReached old → LeadsTo took old new first last → LeadsWithin took old new first last
+leads_within took old new first last accepted (before, shown) leads m shows =
+    let led = leads m shows in
+    let actors : m.actors ≡ (after_of old before).actors = shows.actors ∙ sym shown.actors in
+    (led, bounded_behind (given_of old) accepted before m actors led.events (first_change (given_of old) led.events m led.first))

@@ -1,10 +1,6 @@
 -- Turns of one actor, one after another.
-use Rattle.std.proofs.Common.{◌≡◌, ◌<◌, ◌≤◌, ◌+◌, ◌*◌, ◌∙◌, inl, inr, ℕ, zero, suc, false, List, [], ◌∷◌, length, set, refl, sym, ap, subst, arith}
-use Rattle.std.specs.Prelude.{Option, Some, slice_get, slice_index_or}
-use Rattle.std.specs.Vec.{with_item}
-use Rattle.std.proofs.Math.Nat.{mul-le-mul_right}
-use Rattle.sig_base.specs.declared.place.Place.{Place}
-use Rattle.sig_core.proofs.Finishing.{Join, event_leads, leads_nowhere, leads_reached, leads_then}
+use Rattle.sig_core.proofs.Common.{◌≡◌, ◌<◌, ◌≤◌, ◌+◌, ◌*◌, ◌∙◌, inl, inr, ℕ, zero, suc, true, false, List, [], ◌∷◌, length, set, refl, sym, ap, subst, arith, Option, Some, slice_get, slice_index_or, with_item, mul-le-mul_right, Place, CommitsBy, TakesTurnAt, changes, IsFoundEmpty, IsFoundFull, no_past, told_queues, Happened, IsCore, IsReached, IsSameRun, IsWord, TellsChange, given_of, left_in, LeadsTo, DoesTurn, DoesTurns, IsStepBy, KeepsWord, StepsOn, TakesTurns, next_of, IsAlone, IsApart, IsLow, RestBelow, Serves, Touches, link_by, next_link, Lists, Core, outputs_of, seen_lines, Given, Act, IsAccepted, set_here, DoesStep, DoesSteps, last_reaction, Acted, Done, Empty, Full, Failed, ClusterState}
+use Rattle.sig_core.proofs.Finishing.{Join, act_leads, leads_nowhere, leads_reached, leads_then}
 use Rattle.sig_core.proofs.Happening.{commit_happened, kept_happened, state_there, step_kept}
 use Rattle.sig_core.proofs.Leaving.{set_there}
 use Rattle.sig_core.proofs.Looks.{no_word_looks}
@@ -12,23 +8,7 @@ use Rattle.sig_core.proofs.RunningOut.{accepted_on}
 use Rattle.sig_core.proofs.Serving.{at_end, none_rest, resting_serves, rests_on, stepped_serves}
 use Rattle.sig_core.proofs.Stepping.{place_of_step, step_commits, step_core, step_leaves, step_stepped, step_tells, word_by}
 use Rattle.sig_core.proofs.Touching.{touches_word, turn_touches}
-use Rattle.sig_core.specs.Acting.{CommitsBy, TakesTurnAt, no_past, told_queues}
-use Rattle.sig_core.specs.Cores.{Happened, IsCore, IsReached, IsSameRun, IsWord, TellsChange, given_of, left_in}
-use Rattle.sig_core.specs.Finishing.{LeadsTo}
-use Rattle.sig_core.specs.GoingOn.{DoesTurn, DoesTurns, IsStepBy, KeepsWord, StepsOn, TakesTurns, next_of}
-use Rattle.sig_core.specs.Resting.{IsAlone, IsApart, IsLow, RestBelow, Serves, Touches, link_by, next_link}
-use Rattle.sig_core.specs.declared.lists.Lists.{Lists}
-use Rattle.sig_core.specs.declared.state.Core.{Core}
-use Rattle.sig_kernel.specs.OutputText.{outputs_of, seen_lines}
-use Rattle.sig_model.specs.Cores.{Given}
-use Rattle.sig_model.specs.declared.event.Event.TheVariants.{Act}
-use Rattle.sig_plan.specs.Plans.{IsAccepted}
-use Rattle.sig_schedules.proofs.Lists.{set_here}
-use Rattle.sig_step.specs.GoingOn.{DoesStep, DoesSteps}
-use Rattle.sig_step.specs.States.{last_reaction}
-use Rattle.sig_step.specs.declared.answer.Acted.{Acted}
-use Rattle.sig_step.specs.declared.answer.Acted.TheVariants.{Done, Commit, Empty, Full, Failed, AtLimit, Stopped}
-use Rattle.sig_step.specs.declared.state.ClusterState.{ClusterState}
+use Rattle.sig_step.specs.declared.answer.Acted.TheVariants.{Commit, AtLimit, Stopped}
 
 set_twice : {X : Type 0} (xs : List X) (k : ℕ) (x y : X) → set (set xs k x) k y ≡ set xs k y
 set_twice [] k x y = refl
@@ -51,14 +31,14 @@ module _ (old : Core) (k : ℕ) (first : ClusterState) (at : slice_get old.state
 
   -- one step more is a turn
   pub turn_on : (n : ℕ) (mid s : ClusterState) (between lists : Lists) (b : Between n mid between) (acted : Acted) (one two : ℕ)
-      → DoesStep no_past told_queues same_count old.plan.now old.inputs.now acted mid s between lists one two
+      → DoesStep no_past told_queues IsFoundFull IsFoundEmpty same_count old.plan.now old.inputs.now acted mid s between lists one two
       → (new : Core) → new.states.items ≡ set old.states.items k s → new.lists ≡ lists → TakesTurnAt k acted b.core new
   turn_on n mid s between lists b acted one two step new items lists_is = subst (λ d. TakesTurnAt k acted d new) (sym b.stays) (there between lists (sym b.lists_are) (sym lists_is) step) where
-    there : (from to : Lists) → from ≡ b.core.lists → to ≡ new.lists → DoesStep no_past told_queues same_count old.plan.now old.inputs.now acted mid s from to one two
+    there : (from to : Lists) → from ≡ b.core.lists → to ≡ new.lists → DoesStep no_past told_queues IsFoundFull IsFoundEmpty same_count old.plan.now old.inputs.now acted mid s from to one two
         → TakesTurnAt k acted (record old { states = b.core.states; lists = b.core.lists }) new
     there from to from_is to_is does =
-        let does_here = subst (λ l. DoesStep no_past told_queues same_count old.plan.now old.inputs.now acted mid s l new.lists one two) from_is
-        (subst (λ l. DoesStep no_past told_queues same_count old.plan.now old.inputs.now acted mid s from l one two) to_is does) in
+        let does_here = subst (λ l. DoesStep no_past told_queues IsFoundFull IsFoundEmpty same_count old.plan.now old.inputs.now acted mid s l new.lists one two) from_is
+        (subst (λ l. DoesStep no_past told_queues IsFoundFull IsFoundEmpty same_count old.plan.now old.inputs.now acted mid s from l one two) to_is does) in
         record {
           before = mid;
           next = s;
@@ -70,7 +50,7 @@ module _ (old : Core) (k : ℕ) (first : ClusterState) (at : slice_get old.state
           count = does_here.ends;
         }
 
-  pub between_of : (n : ℕ) (s : ClusterState) (lists : Lists) (one two : ℕ) → DoesSteps no_past told_queues same_count old.plan.now old.inputs.now n first s old.lists lists one two → Between n s lists
+  pub between_of : (n : ℕ) (s : ClusterState) (lists : Lists) (one two : ℕ) → DoesSteps no_past told_queues IsFoundFull IsFoundEmpty same_count old.plan.now old.inputs.now n first s old.lists lists one two → Between n s lists
   between_of zero s lists one two (state, ends, counts) = record {
     core = old;
     done = refl;
@@ -143,7 +123,7 @@ module _ {S : Type 0} (took : S → List ℕ → S → Type 0) (join : Join took
     touches = turn_touches c d w.core accepted_c k Done t.turn
 
     leads_cd : LeadsTo took c d sink sink
-    leads_cd = event_leads took (Act k) c d sink sink (kept_happened took c d (Act k) sink nothing
+    leads_cd = act_leads took k c d sink sink w.rest_on (no_word_looks c k w.alone_on.word) true (step_tells c d w.core accepted_c k Done t.turn c.word words d t.stays) (kept_happened took c d (Act k) sink nothing
         (step_kept took c d k Done (λ same. let e : Done ≡ Commit = same in cc) (step_stepped c d w.core accepted_c k Done t.turn c.word words d t.stays) (step_commits c d w.core accepted_c k Done t.turn c.word words d t.stays)))
 
     reached_c : IsReached c
@@ -219,7 +199,7 @@ module _ {S : Type 0} (took : S → List ℕ → S → Type 0) (join : Join took
         (resting_serves took mid new w.core step.core step.run accepted_far reached_mid k there_mid w.rest_on (no_word_looks mid k w.alone_on.word) tells sink sink (kept other) stays)
 
     pub leads_last : (also : S → List ℕ → S → Type 0) → Join took also → (after : S) → Happened also (Act k) mid new sink after → LeadsTo also old new sink after
-    leads_last also join_also after happened = leads_then took also join_also old mid new sink sink after w.run w.leads (event_leads also (Act k) mid new sink after happened)
+    leads_last also join_also after happened = leads_then took also join_also old mid new sink sink after w.run w.leads (act_leads also k mid new sink after w.rest_on (no_word_looks mid k w.alone_on.word) (changes acted) step.answer happened)
 
   pub step_serves : k < length old.states.items → (mid new : Core) → Went mid → (acted : Acted) → IsStepBy k acted mid new → Serves k old new (next_of k acted)
   step_serves there mid new w Done step = gone there mid new w Done step step.word step.left

@@ -1,26 +1,7 @@
 -- Events of a core that happened.
-use Rattle.std.proofs.Common.{◌≡◌, ◌<◌, ◌≤◌, ◌++◌, ◌∙◌, ℕ, Bool, List, [], ◌∷◌, length, map, false, refl, sym, ap, subst, arith}
-use Rattle.std.specs.Prelude.{None, OnErr, OnOk, Option, Result, Ok, Err, Some, slice_get, slice_index_or}
-use Rattle.std.proofs.lemmas.List.{append-nil, length-map}
-use Rattle.std.proofs.lemmas.Option.{slice_get_past}
-use Rattle.sig_clock.proofs.Lists.{get_at}
-use Rattle.sig_core.proofs.Finishing.{event_leads, leads_reached}
-use Rattle.sig_core.specs.Acting.{CommitsAs, CommitsBy, IsStepped}
-use Rattle.sig_core.specs.Cores.{Happened, IsCore, IsReached, IsSameRun, Keeps, Shows, TellsChange, TookMore, given_of}
-use Rattle.sig_core.specs.Resting.{Touches}
-use Rattle.sig_core.specs.declared.state.Core.{Core}
-use Rattle.sig_kernel.specs.OutputText.{outputs_of, seen_lines}
-use Rattle.sig_kernel.specs.declared.kernel.Kernel.{Kernel}
-use Rattle.sig_model.specs.Actors.{Actor}
-use Rattle.sig_model.specs.Cores.{Core as ModelCore, Given, acted, looked, stepped}
-use Rattle.sig_model.specs.declared.event.Event.{Event}
-use Rattle.sig_model.specs.declared.event.Event.TheVariants.{Act, Look}
-use Rattle.sig_step.specs.States.{actor_of, last_reaction}
-use Rattle.sig_step.specs.declared.answer.Acted.{Acted}
-use Rattle.sig_step.specs.declared.answer.Acted.TheVariants.{Done, Commit, Empty, Full, Failed, AtLimit, Stopped}
-use Rattle.sig_step.specs.declared.state.ClusterState.{ClusterState}
-use Rattle.sig_text.specs.Sink.{TookPrefix}
-use Rattle.sig_text.specs.declared.sink.WriteFault.{WriteFault}
+use Rattle.sig_core.proofs.Common.{◌≡◌, ◌<◌, ◌≤◌, ◌++◌, ◌∙◌, ℕ, Bool, List, [], ◌∷◌, length, map, false, refl, sym, ap, subst, arith, None, OnErr, OnOk, Option, Result, Ok, Err, Some, slice_get, slice_index_or, append-nil, length-map, slice_get_past, get_at, CommitsAs, CommitsBy, IsStepped, Happened, IsCore, IsReached, IsSameRun, Keeps, Shows, TellsChange, TookMore, given_of, Touches, Core, outputs_of, seen_lines, Kernel, Actor, ModelCore, Given, acted, looked, stepped, Event, Act, Look, actor_of, last_reaction, Acted, Done, Empty, Full, Failed, ClusterState, TookPrefix, WriteFault}
+use Rattle.sig_core.proofs.Finishing.{event_reached}
+use Rattle.sig_step.specs.declared.answer.Acted.TheVariants.{Commit, AtLimit, Stopped}
 
 -- a step that answers something else than a commit commits nothing
 pub commits_nothing : (k : ℕ) (new : Core) (acted : Acted) (m n : ModelCore) → (acted ≡ Commit → ⊥) → CommitsAs k new acted m n → n.committed ≡ m.committed
@@ -94,5 +75,5 @@ state_there old new is_old is_new same k lt s is =
 -- an event happened, whatever became of its text: the core was reached if the one before it was
 pub reached_by : {S : Type 0} (took : S → List ℕ → S → Type 0) (e : Event) (old new : Core) (before after : S) → IsSameRun old new → (result : Result Bool WriteFault)
     → OnOk result (Happened took e old new before after) → OnErr result (Happened (TookPrefix took) e old new before after) → IsReached old → IsReached new
-reached_by took e old new before after same (Ok changed) ok err = leads_reached took old new before after same (event_leads took e old new before after ok)
-reached_by took e old new before after same (Err fault) ok err = leads_reached (TookPrefix took) old new before after same (event_leads (TookPrefix took) e old new before after err)
+reached_by took e old new before after same (Ok changed) ok err = event_reached took e old new before after same ok
+reached_by took e old new before after same (Err fault) ok err = event_reached (TookPrefix took) e old new before after same err

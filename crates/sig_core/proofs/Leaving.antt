@@ -1,12 +1,5 @@
 -- What actors have left, which falls as one goes on.
-use Rattle.std.proofs.Common.{◌≡◌, ◌<◌, ◌≤◌, ◌-◌, ◌+◌, ◌*◌, ◌∙◌, ℕ, zero, suc, false, List, [], ◌∷◌, length, map, set, refl, sym, ap, subst, arith}
-use Rattle.std.specs.Prelude.{None, Some, slice_get}
-use Rattle.std.proofs.Math.Nat.{suc-mul}
-use Rattle.sig_core.specs.Cores.{left_at, left_from, one_to_end}
-use Rattle.sig_model.specs.Actors.{Actor, code_of, ended_at, moved_on}
-use Rattle.sig_plan.specs.Plans.{PlanView}
-use Rattle.sig_schedules.proofs.Moved.{moved_cases}
-use Rattle.sig_values.proofs.Writing.{some_is}
+use Rattle.sig_core.proofs.Common.{◌≡◌, ◌<◌, ◌≤◌, ◌-◌, ◌+◌, ◌*◌, ◌∙◌, ℕ, zero, suc, false, List, [], ◌∷◌, length, map, set, refl, sym, ap, subst, arith, None, Some, slice_get, suc-mul, left_at, left_from, one_to_end, Actor, code_of, ended_at, moved_on, PlanView, moved_cases, some_is}
 
 -- one more event of an actor leaves less to it
 abbrev pub Falls : ℕ → ℕ → Actor → Actor → Type 0

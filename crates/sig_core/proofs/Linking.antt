@@ -1,9 +1,5 @@
 -- What links hold before and after they were asked.
-use Rattle.std.proofs.Common.{◌≡◌, ◌<◌, ◌≤◌, ◌∙◌, inl, inr, ℕ, ℤ, List, [], ◌∷◌, length, set, refl, sym, ap, subst, arith}
-use Rattle.std.specs.Prelude.{slice_index_or}
-use Rattle.std.proofs.lemmas.List.{get_or-set_other, get_or-set_same, length-append}
-use Rattle.sig_meaning.proofs.Numbers.{same_or_not}
-use Rattle.sig_step.specs.LinkEnds.{AllStay, Asked, FoundEmpty, FoundFull, LinkQueue, Nothing, OthersStay, Popped, Pushed, Queues, QueuesGoOn}
+use Rattle.sig_core.proofs.Common.{◌≡◌, ◌<◌, ◌≤◌, ◌∙◌, inl, inr, ℕ, ℤ, List, [], ◌∷◌, length, set, refl, sym, ap, subst, arith, slice_index_or, get_or-set_other, get_or-set_same, length-append, same_or_not, AllStay, Asked, FoundEmpty, FoundFull, LinkQueue, Nothing, OthersStay, Popped, Pushed, Queues, QueuesGoOn}
 
 module _ (q r : Queues) where
   abbrev HasRoom : LinkQueue → LinkQueue → Type 0

@@ -1,14 +1,5 @@
 -- What is told of links.
-use Rattle.std.proofs.Common.{◌≡◌, ◌≤◌, ◌∙◌, ℕ, ℤ, List, [], length, sym, ap, arith, Global}
-use Rattle.std.specs.Prelude.{None, Some, slice_get, slice_index_or}
-use Rattle.std.proofs.lemmas.Option.{slice_get_past}
-use Rattle.std.specs.declared.collections.VecDeque.{VecDeque}
-use Rattle.sig_clock.proofs.Lists.{get_at, get_within}
-use Rattle.sig_core.specs.Cores.{Shows}
-use Rattle.sig_core.specs.Lists.{queue_in}
-use Rattle.sig_core.specs.Telling.{length_in}
-use Rattle.sig_core.specs.declared.state.Core.{Core}
-use Rattle.sig_model.specs.Cores.{Core as ModelCore}
+use Rattle.sig_core.proofs.Common.{◌≡◌, ◌≤◌, ◌∙◌, ℕ, ℤ, List, [], length, sym, ap, arith, Global, None, Some, slice_get, slice_index_or, slice_get_past, VecDeque, get_at, get_within, Shows, queue_in, length_in, Core, ModelCore}
 
 pub length_told : (c : Core) (m : ModelCore) → Shows m c → (j : ℕ) (queue : VecDeque ℤ Global) → slice_get c.lists.queues.items j ≡ Some queue
     → (n : ℕ) → n ≡ length queue.items → Some n ≡ length_in (slice_get m.links j)

@@ -1,22 +1,7 @@
 -- What a look of an actor does to a core.
-use Rattle.std.proofs.Common.{◌≡◌, ◌<◌, ◌≤◌, ◌+◌, ◌^◌, ◌↔◌, ◌∙◌, inl, inr, ℕ, Bool, true, false, cond, List, length, map, set, if◌then◌else◌, refl, sym, ap, subst, arith, length-set}
-use Rattle.std.specs.Prelude.{None, Option, Some, IsTrue, slice_get}
-use Rattle.sig_base.specs.Places.{no_place, packed}
-use Rattle.sig_base.specs.declared.place.Place.{Place}
+use Rattle.sig_core.proofs.Common.{◌≡◌, ◌<◌, ◌≤◌, ◌+◌, ◌^◌, ◌↔◌, ◌∙◌, inl, inr, ℕ, Bool, true, false, cond, List, length, map, set, if◌then◌else◌, refl, sym, ap, subst, arith, length-set, None, Option, Some, IsTrue, slice_get, no_place, packed, Place, IsActorState, IsCore, Keeps, LeavesLess, Shows, TellsChange, given_of, left_from, Core, same_or_not, Actor, code_of, ended_at, next_place, position_of, ModelCore, Given, looked, stepped, with_actor, word_before, Look, PlanView, put_elsewhere, put_here, set_get, set_here, IsStateOf, actor_of, place_of, ClusterState, some_is, instant_of}
 use Rattle.sig_core.proofs.Leaving.{Falls, end_falls, get_map, left_falls, map_set, set_there}
 use Rattle.sig_core.proofs.Wording.{no_word_told, word_before_is}
-use Rattle.sig_core.specs.Cores.{IsActorState, IsCore, Keeps, LeavesLess, Shows, TellsChange, given_of, left_from}
-use Rattle.sig_core.specs.declared.state.Core.{Core}
-use Rattle.sig_meaning.proofs.Numbers.{same_or_not}
-use Rattle.sig_model.specs.Actors.{Actor, code_of, ended_at, next_place, position_of}
-use Rattle.sig_model.specs.Cores.{Core as ModelCore, Given, looked, stepped, with_actor, word_before}
-use Rattle.sig_model.specs.declared.event.Event.TheVariants.{Look}
-use Rattle.sig_plan.specs.Plans.{PlanView}
-use Rattle.sig_schedules.proofs.Lists.{put_elsewhere, put_here, set_get, set_here}
-use Rattle.sig_step.specs.States.{IsStateOf, actor_of, place_of}
-use Rattle.sig_step.specs.declared.state.ClusterState.{ClusterState}
-use Rattle.sig_values.proofs.Writing.{some_is}
-use Rattle.sig_values.specs.Values.{instant_of}
 
 -- where no failure is recorded, a look changes nothing
 module _ (c : Core) (k : ℕ) (none : c.word ≡ no_place) where
@@ -169,4 +154,5 @@ module _ (old : Core) (is : IsCore old) (k : ℕ) (s next : ClusterState) (at : 
     links = is.links;
     room = is.room;
     held = is.held;
+    word = is.word;
   } in c)

@@ -1,25 +1,5 @@
 -- The opening of a core.
-use Rattle.std.proofs.Common.{◌≡◌, ◌<◌, ◌≤◌, ◌+◌, ◌^◌, ◌++◌, ◌⊎◌, ◌∙◌, inl, inr, ℕ, zero, suc, ℤ, List, [], ◌∷◌, length, map, replicate, refl, sym, ap, subst, arith, length-append, Global}
-use Rattle.std.specs.Prelude.{None, Some, slice_get, slice_index_or}
-use Rattle.std.proofs.lemmas.List.{length-replicate}
-use Rattle.std.proofs.lemmas.Option.{slice_get_past}
-use Rattle.std.specs.VecDeque.{deque_capacity}
-use Rattle.std.specs.declared.collections.VecDeque.{VecDeque}
-use Rattle.sig_core.specs.Cores.{IsCore, Shows}
-use Rattle.sig_core.specs.Lists.{AreEmpty, queue_in, queues_of}
-use Rattle.sig_core.specs.Making.{AreOpened, IsOpened}
-use Rattle.sig_core.specs.declared.lists.Lists.{Lists}
-use Rattle.sig_core.specs.declared.state.Core.{Core}
-use Rattle.sig_base.specs.Places.{no_place}
-use Rattle.sig_kernel.specs.Validity.{AreFlowsFor}
-use Rattle.sig_meaning.proofs.Numbers.{at_most_or}
-use Rattle.sig_model.specs.Actors.{opening_actor}
-use Rattle.sig_model.specs.Cores.{opening}
-use Rattle.sig_plan.specs.Plans.{PlanView}
-use Rattle.sig_step.specs.LinkEnds.{LinkQueue}
-use Rattle.sig_step.specs.States.{actor_of}
-use Rattle.sig_step.specs.declared.state.ClusterState.{ClusterState}
-use Rattle.sig_values.proofs.Writing.{some_is}
+use Rattle.sig_core.proofs.Common.{◌≡◌, ◌<◌, ◌≤◌, ◌+◌, ◌^◌, ◌++◌, ◌⊎◌, ◌∙◌, inl, inr, ℕ, zero, suc, ℤ, List, [], ◌∷◌, length, map, replicate, refl, sym, ap, subst, arith, length-append, Global, None, Some, slice_get, slice_index_or, length-replicate, slice_get_past, deque_capacity, VecDeque, IsCore, Shows, AreEmpty, queue_in, queues_of, AreOpened, IsOpened, Lists, Core, no_place, AreFlowsFor, at_most_or, opening_actor, opening, PlanView, LinkQueue, actor_of, ClusterState, some_is}
 
 pub pushed_get : {X : Type 0} (xs : List X) (x : X) (k : ℕ) (y : X) → slice_get (xs ++ x ∷ []) k ≡ Some y → (slice_get xs k ≡ Some y) ⊎ ((k ≡ length xs) × (x ≡ y))
 pushed_get [] x zero y at = inr (refl, some_is x y at)
@@ -82,8 +62,8 @@ nothing_there (suc n) (suc j) = nothing_there n j
 
 module _ (c : Core) (fits : AreFlowsFor c.plan.now.kernel c.inputs.now) (limit : c.limit + 1 < 2 ^ 32) (capacity : 1 ≤ c.capacity) (small : c.capacity < 2 ^ 32)
     (are : AreOpened c.plan.now c.inputs.now c.limit (length c.plan.now.codes) c.states.items) (few : length c.states.items < 2 ^ 32) (empty : AreEmpty (length c.plan.now.links) c.capacity c.lists) where
-  pub opened_core : IsCore c
-  opened_core = record {
+  pub opened_core : c.word ≡ no_place → IsCore c
+  opened_core none = record {
     fits = fits;
     limit = limit;
     capacity = capacity;
@@ -94,6 +74,7 @@ module _ (c : Core) (fits : AreFlowsFor c.plan.now.kernel c.inputs.now) (limit :
     links = empty.count;
     room = λ j lt. ap (λ (l : LinkQueue). l.capacity) (empty.each j lt);
     held = λ j lt. (let none : length (queues_of c.lists j).items ≡ 0 = ap (λ (l : LinkQueue). length l.items) (empty.each j lt) in omega (arith, none));
+    word = (None, none);
   }
 
   items_none : (j : ℕ) → (queues_of c.lists j).items ≡ []

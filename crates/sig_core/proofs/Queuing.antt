@@ -1,18 +1,7 @@
 -- What pushes and pops do to the queues of links.
-use Rattle.std.proofs.Common.{◌≡◌, ◌≢◌, ◌<◌, ◌≤◌, ◌+◌, ◌++◌, ◌∙◌, inl, inr, ℕ, zero, suc, ℤ, List, [], ◌∷◌, length, set, drop, refl, sym, ap, subst, arith, Contains, Global}
-use Rattle.std.specs.Prelude.{None, Option, Some, option_to_list, slice_get, slice_index_or}
-use Rattle.std.specs.List.{range_with_len}
-use Rattle.std.specs.VecDeque.{deque_capacity}
-use Rattle.std.specs.declared.collections.VecDeque.{VecDeque}
-use Rattle.sig_clock.proofs.Lists.{at_contained, get_at, get_within}
+use Rattle.sig_core.proofs.Common.{◌≡◌, ◌≢◌, ◌<◌, ◌≤◌, ◌+◌, ◌++◌, ◌∙◌, inl, inr, ℕ, zero, suc, ℤ, List, [], ◌∷◌, length, set, drop, refl, sym, ap, subst, arith, Contains, Global, None, Option, Some, option_to_list, slice_get, slice_index_or, range_with_len, deque_capacity, VecDeque, at_contained, get_at, get_within, queue_in, Lists, same_or_not, set_here, FoundEmpty, FoundFull, LinkQueue, Popped, Pushed, Queues, QueuesGoOn, asked_to_pop, some_is}
 use Rattle.sig_core.proofs.Leaving.{set_there}
 use Rattle.sig_core.proofs.Using.{range_get}
-use Rattle.sig_core.specs.Lists.{queue_in}
-use Rattle.sig_core.specs.declared.lists.Lists.{Lists}
-use Rattle.sig_meaning.proofs.Numbers.{same_or_not}
-use Rattle.sig_schedules.proofs.Lists.{set_here}
-use Rattle.sig_step.specs.LinkEnds.{FoundEmpty, FoundFull, LinkQueue, Popped, Pushed, Queues, QueuesGoOn, asked_to_pop}
-use Rattle.sig_values.proofs.Writing.{some_is}
 
 pub set_past : {X : Type 0} (xs : List X) (k : ℕ) (x : X) (m : ℕ) → m ≢ k → slice_get (set xs k x) m ≡ slice_get xs m
 set_past [] k x m apart = refl

@@ -1,31 +1,7 @@
 -- An actor for which no event changes anything rests as long as its own state, its link and the word stay.
-use Rattle.std.proofs.Common.{◌≡◌, ◌<◌, ◌⊎◌, ◌++◌, ◌∙◌, inl, inr, ℕ, ℤ, Bool, true, false, cond, List, [], ◌∷◌, length, set, refl, sym, ap, subst, arith}
-use Rattle.std.specs.Prelude.{None, Option, Some, nat_lt, slice_get}
-use Rattle.sig_base.specs.declared.place.Place.{Place}
-use Rattle.sig_clock.proofs.Lists.{contains_at}
+use Rattle.sig_core.proofs.Common.{◌≡◌, ◌<◌, ◌⊎◌, ◌++◌, ◌∙◌, inl, inr, ℕ, ℤ, Bool, true, false, cond, List, [], ◌∷◌, length, set, refl, sym, ap, subst, arith, None, Option, Some, nat_lt, slice_get, Place, contains_at, left_at, link_at, link_of, Actor, code_of, ended_at, guard_holds, moved_on, next_place, ModelCore, Given, acted, items_on, looked, stepped, take_first, turned, with_actor, with_items, word_before, Faults, Gives, Outcome, outcome, AtLimit, Commits, Fails, Goes, Puts, Stopped, Takes, Turn, turn, turn_at, turn_by, turn_of_op, turn_with, Act, Look, Instruction, instructions_of, operations_in, IsAccepted, PlanView, numbers_of, Step, StepKind, Do, Send, Receive, Report, Collect, Commit, Op, LinkInfo, plan_operations, one_reader, one_writer, step_instruction, step_coded, set_here, some_is}
 use Rattle.sig_core.proofs.Leaving.{Falls, end_falls}
 use Rattle.sig_core.proofs.Turning.{IsTurnOf, turn_is}
-use Rattle.sig_core.specs.Cores.{left_at}
-use Rattle.sig_core.specs.Resting.{link_at, link_of}
-use Rattle.sig_model.specs.Actors.{Actor, code_of, ended_at, guard_holds, moved_on, next_place}
-use Rattle.sig_model.specs.Cores.{Core as ModelCore, Given, acted, items_on, looked, stepped, take_first, turned, with_actor, with_items, word_before}
-use Rattle.sig_model.specs.Operating.{Faults, Gives, Outcome, outcome}
-use Rattle.sig_model.specs.Turns.{AtLimit, Commits, Fails, Goes, Puts, Stopped, Takes, Turn, turn, turn_at, turn_by, turn_of_op, turn_with}
-use Rattle.sig_model.specs.declared.event.Event.TheVariants.{Act, Look}
-use Rattle.sig_plan.specs.Codes.{Instruction, instructions_of}
-use Rattle.sig_plan.specs.Operations.{operations_in}
-use Rattle.sig_plan.specs.Plans.{IsAccepted, PlanView, numbers_of}
-use Rattle.sig_plan.specs.declared.code.Step.{Step}
-use Rattle.sig_plan.specs.declared.code.StepKind.{StepKind}
-use Rattle.sig_plan.specs.declared.code.StepKind.TheVariants.{Do, Send, Receive, Report, Collect, Commit}
-use Rattle.sig_plan.specs.declared.op.Op.{Op}
-use Rattle.sig_plan.specs.declared.parts.LinkInfo.{LinkInfo}
-use Rattle.sig_plan.proofs.Accepted.{plan_operations}
-use Rattle.sig_plan.proofs.LinkEnds.{one_reader, one_writer}
-use Rattle.sig_plan.proofs.Naming.{step_instruction}
-use Rattle.sig_schedules.proofs.Coded.{step_coded}
-use Rattle.sig_schedules.proofs.Lists.{set_here}
-use Rattle.sig_values.proofs.Writing.{some_is}
 
 -- the turn asks no link but the one that is named
 abbrev pub UsesLink : Option ℕ → Turn → Type 0

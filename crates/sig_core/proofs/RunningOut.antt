@@ -1,19 +1,7 @@
 -- A run to its end, as it was served actor by actor.
-use Rattle.std.proofs.Common.{◌≡◌, ◌≤◌, ℕ, List, length, sym, subst, arith}
-use Rattle.sig_base.specs.Traces.{Trace}
-use Rattle.sig_base.specs.declared.place.Place.{Place}
-use Rattle.std.specs.Prelude.{Option}
+use Rattle.sig_core.proofs.Common.{◌≡◌, ◌≤◌, ℕ, List, length, sym, subst, arith, Trace, Place, Option, IsCore, IsReached, IsSameRun, Shows, HasEnded, IsEndOf, after_of, instants_of, RestBelow, Core, IsEnd, ModelCore, Given, cause_of, IsAccepted, Ended, Joins, TookPrefix, TookPrefix-then}
 use Rattle.sig_core.proofs.Ending.{all_ended, end_is}
 use Rattle.sig_core.proofs.Finishing.{Join}
-use Rattle.sig_core.specs.Cores.{IsCore, IsReached, IsSameRun, Shows}
-use Rattle.sig_core.specs.Finishing.{HasEnded, IsEndOf, after_of, instants_of}
-use Rattle.sig_core.specs.Resting.{RestBelow}
-use Rattle.sig_core.specs.declared.state.Core.{Core}
-use Rattle.sig_model.specs.Causes.{IsEnd}
-use Rattle.sig_model.specs.Cores.{Core as ModelCore, Given, cause_of}
-use Rattle.sig_plan.specs.Plans.{IsAccepted}
-use Rattle.sig_plan.specs.declared.ended.Ended.{Ended}
-use Rattle.sig_text.specs.Sink.{Joins, TookPrefix, TookPrefix-then}
 
 -- takings, and then a prefix of more
 pub join_part : {S : Type 0} (took : S → List ℕ → S → Type 0) → Joins took → Join took (TookPrefix took)

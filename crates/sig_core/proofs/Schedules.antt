@@ -1,14 +1,5 @@
 -- What holds of each state that events lead to.
-use Rattle.std.proofs.Common.{ℤ, List}
-use Rattle.sig_core.specs.Cores.{IsCore, given_of}
-use Rattle.sig_core.specs.Schedules.{AreBounded, BeginsTheText, GoesOn, HasTheEnd, HoldsOf, InEachRun, KeepsToTheReference, RecordsNoneBefore, run_of}
-use Rattle.sig_core.specs.declared.state.Core.{Core}
-use Rattle.sig_kernel.specs.Validity.{AreFlowsFor}
-use Rattle.sig_plan.specs.Plans.{IsAccepted, PlanView}
-use Rattle.sig_schedules.proofs.Bounds.{bounded_events}
-use Rattle.sig_schedules.proofs.Enabled.{after_enabled}
-use Rattle.sig_schedules.proofs.Finished.{after_begins, after_has_end}
-use Rattle.sig_schedules.proofs.Interleavings.{after_on}
+use Rattle.sig_core.proofs.Common.{ℤ, List, IsCore, given_of, AreBounded, BeginsTheText, GoesOn, HasTheEnd, HoldsOf, InEachRun, KeepsToTheReference, RecordsNoneBefore, run_of, Core, AreFlowsFor, IsAccepted, PlanView, bounded_events, after_enabled, after_begins, after_has_end, after_on}
 
 -- in each run of a plan
 module _ (plan : PlanView) (accepted : IsAccepted plan) (flows : List (List ℤ)) (fits : AreFlowsFor plan.kernel flows) where

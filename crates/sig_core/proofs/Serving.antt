@@ -1,32 +1,8 @@
 -- Actors of a core that rest.
-use Rattle.std.proofs.Common.{◌≡◌, ◌≢◌, ◌<◌, ◌≤◌, ◌-◌, ◌+◌, ◌*◌, ◌⊎◌, ◌∙◌, inl, inr, false, ℕ, zero, suc, List, [], ◌∷◌, length, map, refl, sym, ap, subst, arith}
-use Rattle.std.specs.Prelude.{None, Option, Some, min, slice_get}
-use Rattle.std.proofs.Math.Nat.{mul-le-mul_right, suc-mul}
+use Rattle.sig_core.proofs.Common.{◌≡◌, ◌≢◌, ◌<◌, ◌≤◌, ◌-◌, ◌+◌, ◌*◌, ◌⊎◌, ◌∙◌, inl, inr, false, ℕ, zero, suc, List, [], ◌∷◌, length, map, refl, sym, ap, subst, arith, None, Option, Some, min, slice_get, mul-le-mul_right, suc-mul, Happened, IsCore, IsReached, IsSameRun, IsWord, Shows, TellsChange, given_of, left_in, IsStill, after_of, queues_of, IsLow, RestBelow, Rests, SeesNothing, Serves, Touches, left_behind, link_at, link_by, link_of, next_link, Core, some_at, at_most_or, Actor, code_of, ModelCore, Given, acted, items_on, looked, stepped, Act, Look, NamesWithin, IsAccepted, PlanView, Step, StepKind, Do, Send, Receive, Report, Collect, Commit, LinkInfo, step_names, step_coded, LinkQueue, actor_of, ClusterState, some_is}
 use Rattle.sig_core.proofs.Leaving.{get_map}
 use Rattle.sig_core.proofs.Resting.{act_rests, has_end, look_rests}
 use Rattle.sig_core.proofs.Wording.{word_once}
-use Rattle.sig_core.specs.Cores.{Happened, IsCore, IsReached, IsSameRun, IsWord, Shows, TellsChange, given_of, left_in}
-use Rattle.sig_core.specs.Finishing.{IsStill, after_of}
-use Rattle.sig_core.specs.Lists.{queues_of}
-use Rattle.sig_core.specs.Resting.{IsLow, RestBelow, Rests, SeesNothing, Serves, Touches, left_behind, link_at, link_by, link_of, next_link}
-use Rattle.sig_core.specs.declared.state.Core.{Core}
-use Rattle.sig_meaning.proofs.Agreement.{some_at}
-use Rattle.sig_meaning.proofs.Numbers.{at_most_or}
-use Rattle.sig_model.specs.Actors.{Actor, code_of}
-use Rattle.sig_model.specs.Cores.{Core as ModelCore, Given, acted, items_on, looked, stepped}
-use Rattle.sig_model.specs.declared.event.Event.TheVariants.{Act, Look}
-use Rattle.sig_plan.specs.Instructions.{NamesWithin}
-use Rattle.sig_plan.specs.Plans.{IsAccepted, PlanView}
-use Rattle.sig_plan.specs.declared.code.Step.{Step}
-use Rattle.sig_plan.specs.declared.code.StepKind.{StepKind}
-use Rattle.sig_plan.specs.declared.code.StepKind.TheVariants.{Do, Send, Receive, Report, Collect, Commit}
-use Rattle.sig_plan.specs.declared.parts.LinkInfo.{LinkInfo}
-use Rattle.sig_plan.proofs.Naming.{step_names}
-use Rattle.sig_schedules.proofs.Coded.{step_coded}
-use Rattle.sig_step.specs.LinkEnds.{LinkQueue}
-use Rattle.sig_step.specs.States.{actor_of}
-use Rattle.sig_step.specs.declared.state.ClusterState.{ClusterState}
-use Rattle.sig_values.proofs.Writing.{some_is}
 
 get_map_none : {X Y : Type 0} (f : X → Y) (xs : List X) (k : ℕ) → slice_get xs k ≡ None → slice_get (map f xs) k ≡ None
 get_map_none f [] k none = refl

@@ -1,30 +1,9 @@
 -- What a step of an actor does to a core.
-use Rattle.std.proofs.Common.{◌≡◌, ◌<◌, ◌+◌, ◌++◌, ◌∙◌, inl, inr, ℕ, Bool, true, false, cond, List, [], ◌∷◌, length, map, set, refl, sym, ap, subst, arith, length-set}
-use Rattle.std.specs.Prelude.{Option, Some, nat_lt, slice_get, slice_index_or}
-use Rattle.std.proofs.lemmas.Bool.{lt-ltb, ltb-true}
-use Rattle.sig_base.specs.declared.place.Place.{Place}
+use Rattle.sig_core.proofs.Common.{◌≡◌, ◌<◌, ◌+◌, ◌++◌, ◌∙◌, inl, inr, ℕ, Bool, true, false, cond, List, [], ◌∷◌, length, map, set, refl, sym, ap, subst, arith, length-set, Option, Some, nat_lt, slice_get, slice_index_or, lt-ltb, ltb-true, Place, CommitsAs, CommitsBy, IsStepped, TakesTurnAt, changes, IsActorState, IsCore, IsWord, LeavesLess, Shows, TellsChange, given_of, left_from, left_at, queues_of, Core, Kernel, same_or_not, Actor, code_of, ended_at, ModelCore, Given, acted as acted_in, items_on, lesser, stepped, take_first, turned, with_actor, with_items, AtLimit, Commits, Fails, Goes, Puts, Reaction, Stopped, Takes, Turn, turn, Act, IsAccepted, PlanView, put_elsewhere, put_here, set_get, set_here, Acts, Asked, FoundEmpty, FoundFull, LinkQueue, Popped, Pushed, Queues, QueuesGoOn, actor_of, last_reaction, Acted, Done, Empty, Full, Failed, AtTheLimit, HasStopped, ClusterState, some_is}
 use Rattle.sig_core.proofs.Leaving.{Falls, get_map, left_falls, map_set, set_there}
 use Rattle.sig_core.proofs.Linking.{links_put, links_stay, room_stays}
 use Rattle.sig_core.proofs.Turning.{IsFailure, IsTurnOf, turn_is}
-use Rattle.sig_core.specs.Acting.{CommitsAs, CommitsBy, IsStepped, TakesTurnAt, changes}
-use Rattle.sig_core.specs.Cores.{IsActorState, IsCore, IsWord, LeavesLess, Shows, TellsChange, given_of, left_from, left_at}
-use Rattle.sig_core.specs.Lists.{queues_of}
-use Rattle.sig_core.specs.declared.state.Core.{Core}
-use Rattle.sig_kernel.specs.declared.kernel.Kernel.{Kernel}
-use Rattle.sig_meaning.proofs.Numbers.{same_or_not}
-use Rattle.sig_model.specs.Actors.{Actor, code_of, ended_at}
-use Rattle.sig_model.specs.Cores.{Core as ModelCore, Given, acted as acted_in, items_on, lesser, stepped, take_first, turned, with_actor, with_items}
-use Rattle.sig_model.specs.Turns.{AtLimit, Commits, Fails, Goes, Puts, Reaction, Stopped, Takes, Turn, turn}
-use Rattle.sig_model.specs.declared.event.Event.TheVariants.{Act}
-use Rattle.sig_plan.specs.Plans.{IsAccepted, PlanView}
-use Rattle.sig_schedules.proofs.Lists.{put_elsewhere, put_here, set_get, set_here}
-use Rattle.sig_step.specs.Acting.{Acts}
-use Rattle.sig_step.specs.LinkEnds.{Asked, FoundEmpty, FoundFull, LinkQueue, Popped, Pushed, Queues, QueuesGoOn}
-use Rattle.sig_step.specs.States.{actor_of, last_reaction}
-use Rattle.sig_step.specs.declared.answer.Acted.{Acted}
-use Rattle.sig_step.specs.declared.answer.Acted.TheVariants.{Done, Commit, Empty, Full, Failed, AtLimit as AtTheLimit, Stopped as HasStopped}
-use Rattle.sig_step.specs.declared.state.ClusterState.{ClusterState}
-use Rattle.sig_values.proofs.Writing.{some_is}
+use Rattle.sig_step.specs.declared.answer.Acted.TheVariants.{Commit}
 
 -- the word behind a step that answers this
 abbrev pub word_by : Acted → Option Place → Option Place
@@ -313,6 +292,7 @@ module _ (old mid : Core) (is : IsCore old) (accepted : IsAccepted old.plan.now)
           let now = stays.1 (omega (arith, held, capacity)) in
           let same = stays.0 in
           omega (arith, now, same, capacity);
+      word = (word_by acted is.word.0, words is.word.0 is.word.1);
     }
 
     pub stepped_behind : IsStepped (Act k) old behind

@@ -1,22 +1,8 @@
 -- A step of an actor touches no other actor, and no link but that of its step.
-use Rattle.std.proofs.Common.{◌≡◌, ◌≢◌, ◌∙◌, inl, inr, ℕ, List, sym, ap, subst}
-use Rattle.std.specs.Prelude.{Option, Some, slice_get}
+use Rattle.sig_core.proofs.Common.{◌≡◌, ◌≢◌, ◌∙◌, inl, inr, ℕ, List, sym, ap, subst, Option, Some, slice_get, TakesTurnAt, IsCore, given_of, queues_of, Touches, link_by, next_link, Core, Kernel, AtLimit, Commits, Fails, Goes, Puts, Stopped, Takes, Turn, turn, IsAccepted, Acts, Asked, FoundEmpty, FoundFull, Nothing, Popped, Pushed, Queues, QueuesGoOn, actor_of, Acted, ClusterState}
 use Rattle.sig_core.proofs.Queuing.{set_past}
 use Rattle.sig_core.proofs.Resting.{UsesLink, turn_uses}
 use Rattle.sig_core.proofs.Stepping.{acts, goes}
-use Rattle.sig_core.specs.Acting.{TakesTurnAt}
-use Rattle.sig_core.specs.Cores.{IsCore, given_of}
-use Rattle.sig_core.specs.Lists.{queues_of}
-use Rattle.sig_core.specs.Resting.{Touches, link_by, next_link}
-use Rattle.sig_core.specs.declared.state.Core.{Core}
-use Rattle.sig_kernel.specs.declared.kernel.Kernel.{Kernel}
-use Rattle.sig_model.specs.Turns.{AtLimit, Commits, Fails, Goes, Puts, Stopped, Takes, Turn, turn}
-use Rattle.sig_plan.specs.Plans.{IsAccepted}
-use Rattle.sig_step.specs.Acting.{Acts}
-use Rattle.sig_step.specs.LinkEnds.{Asked, FoundEmpty, FoundFull, Nothing, Popped, Pushed, Queues, QueuesGoOn}
-use Rattle.sig_step.specs.States.{actor_of}
-use Rattle.sig_step.specs.declared.answer.Acted.{Acted}
-use Rattle.sig_step.specs.declared.state.ClusterState.{ClusterState}
 
 module _ (kernel : Kernel) (named : Option ℕ) (acted : Acted) (old new : ClusterState) (q r : Queues) where
   as_asked : (asked other : Asked) → asked ≡ other → QueuesGoOn asked q r → QueuesGoOn other q r

@@ -1,21 +1,6 @@
 -- What a turn does to its actor, and which link it names.
-use Rattle.std.proofs.Common.{◌≡◌, ◌<◌, ◌≤◌, ℕ, ℤ, Bool, true, false, cond, length, refl}
-use Rattle.std.specs.Prelude.{None, Option, Some, nat_lt, slice_get}
-use Rattle.std.proofs.lemmas.Bool.{ltb-false}
-use Rattle.sig_base.specs.declared.place.Place.{Place}
+use Rattle.sig_core.proofs.Common.{◌≡◌, ◌<◌, ◌≤◌, ℕ, ℤ, Bool, true, false, cond, length, refl, None, Option, Some, nat_lt, slice_get, ltb-false, Place, Actor, code_of, ended_at, guard_holds, moved_on, next_place, Given, Faults, Gives, Outcome, operated, outcome, AtLimit, Commits, Fails, Goes, Puts, Stopped, Takes, Turn, carried, received, turn, turn_at, turn_by, turn_of_op, turn_with, NamesWithin, IsAccepted, PlanView, Step, StepKind, Do, Send, Receive, Report, Collect, Commit, Op, step_names, step_coded}
 use Rattle.sig_core.proofs.Leaving.{Falls, end_falls, moved_falls}
-use Rattle.sig_model.specs.Actors.{Actor, code_of, ended_at, guard_holds, moved_on, next_place}
-use Rattle.sig_model.specs.Cores.{Given}
-use Rattle.sig_model.specs.Operating.{Faults, Gives, Outcome, operated, outcome}
-use Rattle.sig_model.specs.Turns.{AtLimit, Commits, Fails, Goes, Puts, Stopped, Takes, Turn, carried, received, turn, turn_at, turn_by, turn_of_op, turn_with}
-use Rattle.sig_plan.specs.Instructions.{NamesWithin}
-use Rattle.sig_plan.specs.Plans.{IsAccepted, PlanView}
-use Rattle.sig_plan.specs.declared.code.Step.{Step}
-use Rattle.sig_plan.specs.declared.code.StepKind.{StepKind}
-use Rattle.sig_plan.specs.declared.code.StepKind.TheVariants.{Do, Send, Receive, Report, Collect, Commit}
-use Rattle.sig_plan.specs.declared.op.Op.{Op}
-use Rattle.sig_plan.proofs.Naming.{step_names}
-use Rattle.sig_schedules.proofs.Coded.{step_coded}
 
 -- the place of a failure of an actor within the limit
 pub record IsFailure (given : Given) (k : ℕ) (a : Actor) (place : Place) : Type 0 where

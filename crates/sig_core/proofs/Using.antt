@@ -1,16 +1,5 @@
 -- The links that the actors of a plan use.
-use Rattle.std.proofs.Common.{◌≡◌, ◌<◌, ◌+◌, ◌∙◌, ℕ, zero, suc, length, ap, arith, Contains}
-use Rattle.std.specs.Prelude.{Some, slice_get}
-use Rattle.std.specs.List.{range_with_len}
-use Rattle.sig_clock.proofs.Lists.{contains_at}
-use Rattle.sig_model.specs.Actors.{code_of}
-use Rattle.sig_plan.specs.Instructions.{NamesWithin}
-use Rattle.sig_plan.specs.Plans.{IsAccepted, PlanView}
-use Rattle.sig_plan.specs.declared.code.StepKind.{StepKind}
-use Rattle.sig_plan.specs.declared.code.StepKind.TheVariants.{Do, Send, Receive, Report, Collect, Commit}
-use Rattle.sig_plan.proofs.Naming.{step_names}
-use Rattle.sig_schedules.proofs.Coded.{step_coded}
-use Rattle.sig_step.specs.Acting.{MayDo, MayUse}
+use Rattle.sig_core.proofs.Common.{◌≡◌, ◌<◌, ◌+◌, ◌∙◌, ℕ, zero, suc, length, ap, arith, Contains, Some, slice_get, range_with_len, contains_at, code_of, NamesWithin, IsAccepted, PlanView, StepKind, Do, Send, Receive, Report, Collect, Commit, step_names, step_coded, MayDo, MayUse}
 
 pub range_get : (a n k : ℕ) → k < n → slice_get (range_with_len a n) k ≡ Some (a + k)
 range_get a zero k lt = absurd (omega (arith, lt))

@@ -1,11 +1,5 @@
 -- The failure word, as one number.
-use Rattle.std.proofs.Common.{◌≡◌, ◌<◌, ◌≤◌, ◌-◌, ◌^◌, ◌↔◌, ◌∙◌, inl, inr, ℕ, Bool, true, false, cond, refl, sym, ap, arith}
-use Rattle.std.specs.Prelude.{None, Option, Some, nat_lt, min, ◌==◌, ◌&&◌}
-use Rattle.std.proofs.lemmas.Bool.{and_from, and_parts, cases_order, eq-eqb, eqb-true, lt-ltb, ltb-true, or_cases, or_left, or_right}
-use Rattle.sig_base.specs.Places.{no_place, packed}
-use Rattle.sig_base.specs.declared.place.Place.{Place}
-use Rattle.sig_core.specs.Cores.{IsWord, IsWordOf}
-use Rattle.sig_model.specs.Cores.{is_before, lesser, word_before}
+use Rattle.sig_core.proofs.Common.{◌≡◌, ◌<◌, ◌≤◌, ◌-◌, ◌^◌, ◌↔◌, ◌∙◌, inl, inr, ℕ, Bool, true, false, cond, refl, sym, ap, arith, None, Option, Some, nat_lt, min, ◌==◌, ◌&&◌, and_from, and_parts, cases_order, eq-eqb, eqb-true, lt-ltb, ltb-true, or_cases, or_left, or_right, no_place, packed, Place, IsWord, IsWordOf, is_before, lesser, word_before}
 
 module _ (a b : Place) (fits_a : a.pos < 2 ^ 32) (fits_b : b.pos < 2 ^ 32) where
   pub less_packed : is_before a b ≡ true → packed a < packed b

@@ -1,20 +1,10 @@
 -- Steps of the actors of a core.
-use Rattle.std.specs.Prelude.{◌≡◌, ℕ, [], ◌∷◌, ◌++◌, Bool, true, false, length, slice_get, slice_set, Option, None, Some}
+use Rattle.std.specs.Prelude.{◌≡◌, ◌∷◌, ◌++◌}
+use Rattle.sig_core.specs.Prelude.{ℕ, [], Bool, true, false, length, slice_get, slice_set, Option, None, Some, Core as ModelCore, stepped, turn, Event, Act, TakesTurn, Past, Queues, IsSameActor, IsStateOf, actor_of, last_reaction, limit_of, number_of, Acted, Done, Commit, Empty, Full, Failed, AtLimit, Stopped, ClusterState}
 use Rattle.sig_core.specs.Cores.{Shows, given_of}
 use Rattle.sig_core.specs.Lists.{queues_of}
 use Rattle.sig_core.specs.declared.lists.Lists.{Lists}
 use Rattle.sig_core.specs.declared.state.Core.{Core}
-use Rattle.sig_model.specs.Cores.{Core as ModelCore, stepped}
-use Rattle.sig_model.specs.Turns.{turn}
-use Rattle.sig_model.specs.declared.event.Event.{Event}
-use Rattle.sig_model.specs.declared.event.Event.TheVariants.{Act}
-use Rattle.sig_step.specs.Acting.{TakesTurn}
-use Rattle.sig_step.specs.LinkEnds.{Past, Queues}
-use Rattle.sig_step.specs.Moving.{IsSameActor}
-use Rattle.sig_step.specs.States.{IsStateOf, actor_of, last_reaction, limit_of, number_of}
-use Rattle.sig_step.specs.declared.answer.Acted.{Acted}
-use Rattle.sig_step.specs.declared.answer.Acted.TheVariants.{Done, Commit, Empty, Full, Failed, AtLimit, Stopped}
-use Rattle.sig_step.specs.declared.state.ClusterState.{ClusterState}
 
 -- links in memory tell what they hold, and nothing else
 abbrev pub no_past : Lists → Option Past

@@ -1,18 +1,8 @@
 -- What the state of a core means: the actors, the links and the failure word of a state of sig_model.
-use Rattle.std.specs.Prelude.{◌≡◌, ◌<◌, ◌≤◌, ◌+◌, ◌-◌, ◌*◌, ◌^◌, ℕ, List, [], ◌∷◌, ◌++◌, length, map, slice_get, slice_index_or, Option, None, Some, Bool, true, false}
-use Rattle.sig_base.specs.Places.{no_place, packed}
-use Rattle.sig_base.specs.declared.place.Place.{Place}
+use Rattle.std.specs.Prelude.{◌≡◌, ◌<◌, ◌≤◌, ◌+◌, ◌-◌, ◌*◌, ◌^◌, ◌∷◌, ◌++◌}
+use Rattle.sig_core.specs.Prelude.{ℕ, List, [], length, map, slice_get, slice_index_or, Option, None, Some, Bool, true, false, no_place, packed, Place, AreFlowsFor, Kernel, Actor, code_of, Core as ModelCore, Given, IsEnabled, after, reactions_text, stepped, Reaction, Event, PlanView, IsStateOf, actor_of, limit_of, number_of, ClusterState}
 use Rattle.sig_core.specs.Lists.{queues_of}
 use Rattle.sig_core.specs.declared.state.Core.{Core}
-use Rattle.sig_kernel.specs.Validity.{AreFlowsFor}
-use Rattle.sig_kernel.specs.declared.kernel.Kernel.{Kernel}
-use Rattle.sig_model.specs.Actors.{Actor, code_of}
-use Rattle.sig_model.specs.Cores.{Core as ModelCore, Given, IsEnabled, after, reactions_text, stepped}
-use Rattle.sig_model.specs.Turns.{Reaction}
-use Rattle.sig_model.specs.declared.event.Event.{Event}
-use Rattle.sig_plan.specs.Plans.{PlanView}
-use Rattle.sig_step.specs.States.{IsStateOf, actor_of, limit_of, number_of}
-use Rattle.sig_step.specs.declared.state.ClusterState.{ClusterState}
 
 -- what the run of a core is given
 abbrev pub given_of : Core → Given
@@ -24,7 +14,18 @@ pub record IsActorState (given : Given) (k : ℕ) (s : ClusterState) : Type 0 wh
   pub number : number_of s ≡ k
   pub limit : limit_of s ≡ given.limit
 
--- A core has the states of all actors of its plan, and its links have their capacity.
+-- a word is that of the least place that was recorded, or of none
+pub record IsWordOf (place : Place) (word : ℕ) : Type 0 where
+  pub is : packed place ≡ word
+  pub position : place.pos < 2 ^ 32
+  pub instant : place.instant < 2 ^ 32 - 1
+
+abbrev pub IsWord : Option Place → ℕ → Type 0
+IsWord None word = word ≡ no_place
+IsWord (Some place) word = IsWordOf place word
+
+-- A core has the states of all actors of its plan, its links have their capacity, and its word is that of some place, or of
+-- none.
 pub record IsCore (c : Core) : Type 0 where
   pub fits : AreFlowsFor c.plan.now.kernel c.inputs.now
   pub limit : c.limit + 1 < 2 ^ 32
@@ -36,16 +37,7 @@ pub record IsCore (c : Core) : Type 0 where
   pub links : length c.lists.queues.items ≡ length c.plan.now.links
   pub room : (j : ℕ) → j < length c.plan.now.links → (queues_of c.lists j).capacity ≡ c.capacity
   pub held : (j : ℕ) → j < length c.plan.now.links → length (queues_of c.lists j).items ≤ c.capacity
-
--- a word is that of the least place that was recorded, or of none
-pub record IsWordOf (place : Place) (word : ℕ) : Type 0 where
-  pub is : packed place ≡ word
-  pub position : place.pos < 2 ^ 32
-  pub instant : place.instant < 2 ^ 32 - 1
-
-abbrev pub IsWord : Option Place → ℕ → Type 0
-IsWord None word = word ≡ no_place
-IsWord (Some place) word = IsWordOf place word
+  pub word : (place : Option Place) × IsWord place c.word
 
 -- A core is in this state, whatever is committed in it.
 pub record Shows (m : ModelCore) (c : Core) : Type 0 where

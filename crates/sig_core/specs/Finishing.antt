@@ -1,28 +1,25 @@
 -- A run to its end.
-use Rattle.std.specs.Prelude.{◌≡◌, ◌-◌, ◌++◌, ℕ, List, true, fold, length, slice_get, Option, None, Some}
-use Rattle.sig_base.specs.Traces.{Trace}
-use Rattle.sig_base.specs.declared.ids.OpId.{OpId}
-use Rattle.sig_base.specs.declared.place.Place.{Place}
+use Rattle.std.specs.Prelude.{◌≡◌, ◌≤◌, ◌+◌, ◌*◌, ◌-◌, ◌++◌}
+use Rattle.sig_core.specs.Prelude.{ℕ, List, true, fold, length, slice_get, Option, None, Some, Trace, OpId, Place, output_text, IsEnd, Core as ModelCore, after, cause_of_op, reactions_text, stepped, Event, Act, Look, Cause, Ended, steps_in, actor_of, ClusterState}
 use Rattle.sig_core.specs.Cores.{Shows, TookMore, given_of}
+use Rattle.sig_core.specs.First.{AllFirst}
 use Rattle.sig_core.specs.declared.state.Core.{Core}
-use Rattle.sig_kernel.specs.OutputText.{output_text}
-use Rattle.sig_model.specs.Causes.{IsEnd}
-use Rattle.sig_model.specs.Cores.{Core as ModelCore, after, cause_of_op, reactions_text, stepped}
-use Rattle.sig_model.specs.declared.event.Event.{Event}
-use Rattle.sig_model.specs.declared.event.Event.TheVariants.{Act, Look}
-use Rattle.sig_plan.specs.declared.ended.Cause.{Cause}
-use Rattle.sig_plan.specs.declared.ended.Ended.{Ended}
-use Rattle.sig_step.specs.States.{actor_of}
-use Rattle.sig_step.specs.declared.state.ClusterState.{ClusterState}
 
--- Events led from one state of a core to another, and a sink took the text of what they committed.
+-- Events led from one state of a core to another, each of them the first that changed the state, and a sink took the text of
+-- what they committed.
 pub record Led {S : Type 0} (took : S → List ℕ → S → Type 0) (m : ModelCore) (old new : Core) (before after : S) : Type 0 where
   pub events : List Event
+  pub first : AllFirst (given_of old) m events
   pub shows : Shows (fold (stepped (given_of old)) m events) new
   pub text : TookMore took old.plan.now.kernel m (fold (stepped (given_of old)) m events) before after
 
 abbrev pub LeadsTo : {S : Type 0} → (S → List ℕ → S → Type 0) → Core → Core → S → S → Type 0
 LeadsTo took old new before after = (m : ModelCore) → Shows m old → Led took m old new before after
+
+-- Such events, which are no more than the steps of all codes, times the limit, and the actors.
+abbrev pub LeadsWithin : {S : Type 0} → (S → List ℕ → S → Type 0) → Core → Core → S → S → Type 0
+LeadsWithin took old new before after = (m : ModelCore) → Shows m old → (led : Led took m old new before after)
+    × (length led.events ≤ old.limit * steps_in old.plan.now.codes + length old.plan.now.codes)
 
 -- no event of the actor k changes a state
 abbrev pub IsStill : Core → ModelCore → ℕ → Type 0

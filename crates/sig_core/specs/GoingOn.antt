@@ -1,12 +1,10 @@
 -- Turns of one actor, one after another.
-use Rattle.std.specs.Prelude.{◌≡◌, ◌+◌, ℕ, zero, suc}
+use Rattle.std.specs.Prelude.{◌≡◌, ◌+◌}
+use Rattle.sig_core.specs.Prelude.{ℕ, zero, suc, Act, Acted, Done, Commit, Empty, Full, Failed, AtLimit, Stopped}
 use Rattle.sig_core.specs.Acting.{CommitsBy, IsStepped, TakesTurnAt, changes}
 use Rattle.sig_core.specs.Cores.{IsCore, IsSameRun, LeavesLess, TellsChange}
 use Rattle.sig_core.specs.Resting.{Touches, next_link}
 use Rattle.sig_core.specs.declared.state.Core.{Core}
-use Rattle.sig_model.specs.declared.event.Event.TheVariants.{Act}
-use Rattle.sig_step.specs.declared.answer.Acted.{Acted}
-use Rattle.sig_step.specs.declared.answer.Acted.TheVariants.{Done, Commit, Empty, Full, Failed, AtLimit, Stopped}
 
 -- The turn of the actor k was done, and changed nothing but states and links.
 pub record DoesTurn (k : ℕ) (old new : Core) : Type 0 where

@@ -1,6 +1,8 @@
+pub mod Prelude
 pub mod Acting
 pub mod Cores
 pub mod Finishing
+pub mod First
 pub mod GoingOn
 pub mod Lists
 pub mod Making

@@ -1,9 +1,7 @@
 -- Links in memory.
-use Rattle.std.specs.Prelude.{◌≡◌, ◌<◌, ℕ, ℤ, [], length, slice_get, Option, None, Some}
-use Rattle.std.specs.VecDeque.{deque_capacity}
-use Rattle.std.specs.declared.collections.VecDeque.{VecDeque}
+use Rattle.std.specs.Prelude.{◌≡◌, ◌<◌, ◌≤◌}
+use Rattle.sig_core.specs.Prelude.{ℕ, ℤ, [], length, slice_get, Option, None, Some, deque_capacity, VecDeque, LinkQueue, Queues}
 use Rattle.sig_core.specs.declared.lists.Lists.{Lists}
-use Rattle.sig_step.specs.LinkEnds.{LinkQueue, Queues}
 
 -- what a queue holds, and how much it can hold
 abbrev pub queue_in : {Z : Type 0} → Option (VecDeque ℤ Z) → LinkQueue
@@ -13,6 +11,13 @@ queue_in (Some queue) = record { items = queue.items; capacity = deque_capacity 
 -- what each link holds
 abbrev pub queues_of : Lists → Queues
 queues_of lists j = queue_in (slice_get lists.queues.items j)
+
+-- a link in memory is found full where it holds as many items as it can, and empty where it holds none
+abbrev pub IsFoundFull : ℕ → Lists → Lists → Type 0
+IsFoundFull link old new = (queues_of old link).capacity ≤ length (queues_of old link).items
+
+abbrev pub IsFoundEmpty : ℕ → Lists → Lists → Type 0
+IsFoundEmpty link old new = (queues_of old link).items ≡ []
 
 -- so many links of a capacity, each of them empty
 pub record AreEmpty (links capacity : ℕ) (lists : Lists) : Type 0 where

@@ -1,9 +1,6 @@
 -- The making of a core.
-use Rattle.std.specs.Prelude.{◌≡◌, ℕ, ℤ, List, length, slice_get, Some}
-use Rattle.sig_model.specs.Actors.{opening_actor}
-use Rattle.sig_plan.specs.Plans.{PlanView}
-use Rattle.sig_step.specs.States.{IsStateOf, actor_of, limit_of, number_of}
-use Rattle.sig_step.specs.declared.state.ClusterState.{ClusterState}
+use Rattle.std.specs.Prelude.{◌≡◌}
+use Rattle.sig_core.specs.Prelude.{ℕ, ℤ, List, length, slice_get, Some, opening_actor, PlanView, IsStateOf, actor_of, limit_of, number_of, ClusterState}
 
 -- a state of the actor k at the opening
 pub record IsOpened (plan : PlanView) (flows : List (List ℤ)) (limit k : ℕ) (s : ClusterState) : Type 0 where

@@ -1,20 +1,11 @@
 -- Actors for which no event changes anything.
-use Rattle.std.specs.Prelude.{◌≡◌, ◌≢◌, ◌<◌, ◌≤◌, ◌-◌, ◌+◌, ◌*◌, ℕ, Option, None, Some, length, slice_get}
-use Rattle.sig_base.specs.Places.{no_place}
+use Rattle.std.specs.Prelude.{◌≡◌, ◌≢◌, ◌<◌, ◌≤◌, ◌-◌, ◌+◌, ◌*◌}
+use Rattle.sig_core.specs.Prelude.{ℕ, Option, None, Some, length, slice_get, no_place, code_of, Core as ModelCore, stepped, Look, PlanView, Step, StepKind, LinkInfo, Do, Send, Receive, Report, Collect, actor_of, ClusterState}
 use Rattle.sig_core.specs.Cores.{Shows, given_of, left_in}
 use Rattle.sig_core.specs.Finishing.{IsStill}
 use Rattle.sig_core.specs.Lists.{queues_of}
 use Rattle.sig_core.specs.declared.state.Core.{Core}
-use Rattle.sig_model.specs.Actors.{code_of}
-use Rattle.sig_model.specs.Cores.{Core as ModelCore, stepped}
-use Rattle.sig_model.specs.declared.event.Event.TheVariants.{Look}
-use Rattle.sig_plan.specs.Plans.{PlanView}
-use Rattle.sig_plan.specs.declared.code.Step.{Step}
-use Rattle.sig_plan.specs.declared.code.StepKind.{StepKind}
-use Rattle.sig_plan.specs.declared.parts.LinkInfo.{LinkInfo}
-use Rattle.sig_plan.specs.declared.code.StepKind.TheVariants.{Do, Send, Receive, Report, Collect, Commit}
-use Rattle.sig_step.specs.States.{actor_of}
-use Rattle.sig_step.specs.declared.state.ClusterState.{ClusterState}
+use Rattle.sig_plan.specs.declared.code.StepKind.TheVariants.{Commit}
 
 -- the link that a step of this kind uses
 abbrev pub link_of : StepKind → Option ℕ

@@ -1,19 +1,8 @@
 -- What holds of each state that events lead to, whichever they are.
-use Rattle.std.specs.Prelude.{◌+◌, ◌*◌, ◌≤◌, ℕ, ℤ, List, length, Option}
-use Rattle.sig_base.specs.Traces.{IsPrefixOf, Trace}
-use Rattle.sig_base.specs.declared.place.Place.{Place}
+use Rattle.std.specs.Prelude.{◌+◌, ◌*◌, ◌≤◌}
+use Rattle.sig_core.specs.Prelude.{ℕ, ℤ, List, length, Option, IsPrefixOf, Trace, Place, output_text, IsEnd, Core as ModelCore, Given, IsEnabled, IsFinished, after, opening, reactions_text, IsOnReference, IsReference, Event, PlanView, Ended, AllChange, steps_in, HasEnd, IsNotBefore}
 use Rattle.sig_core.specs.Cores.{Shows, given_of}
 use Rattle.sig_core.specs.declared.state.Core.{Core}
-use Rattle.sig_kernel.specs.OutputText.{output_text}
-use Rattle.sig_model.specs.Causes.{IsEnd}
-use Rattle.sig_model.specs.Cores.{Core as ModelCore, Given, IsEnabled, IsFinished, after, opening, reactions_text}
-use Rattle.sig_model.specs.Progress.{IsOnReference}
-use Rattle.sig_model.specs.References.{IsReference}
-use Rattle.sig_model.specs.declared.event.Event.{Event}
-use Rattle.sig_plan.specs.Plans.{PlanView}
-use Rattle.sig_plan.specs.declared.ended.Ended.{Ended}
-use Rattle.sig_schedules.specs.Changes.{AllChange, steps_in}
-use Rattle.sig_schedules.specs.Endings.{HasEnd, IsNotBefore}
 
 -- The text of what is committed begins that of the longest trace.
 abbrev pub BeginsTheText : Given → ModelCore → Type 0

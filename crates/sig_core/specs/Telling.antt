@@ -1,7 +1,6 @@
 -- What a core tells of its state.
-use Rattle.std.specs.Prelude.{ℕ, ℤ, List, length, Option, None, Some}
+use Rattle.sig_core.specs.Prelude.{ℕ, ℤ, List, length, Option, None, Some, Actor}
 use Rattle.sig_core.specs.declared.answer.ActorState.{ActorState}
-use Rattle.sig_model.specs.Actors.{Actor}
 
 -- how far an actor is
 abbrev pub state_in : Option Actor → Option ActorState

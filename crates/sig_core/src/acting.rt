@@ -1,12 +1,10 @@
 //! Steps of the actors.
 
-ghost use Rattle.std.specs.Prelude.{◌≡◌, ◌<◌, ◌≤◌, IfOk, OnErr, OnOk, length};
+ghost use Rattle.std.specs.Prelude.{◌≡◌, ◌<◌, ◌≤◌};
+ghost use Rattle.sig_core.specs.Prelude.{IfOk, OnErr, OnOk, length, true, Act, Rose, TookPrefix};
 ghost use Rattle.sig_core.specs.Acting.{CommitsBy, IsStepped, TakesTurnAt, changes};
 ghost use Rattle.sig_core.specs.Cores.{Happened, IsCore, IsSameRun, LeavesLess, TellsChange};
 ghost use Rattle.sig_core.specs.Resting.{Touches, next_link};
-ghost use Rattle.sig_model.specs.declared.event.Event.TheVariants.{Act};
-ghost use Rattle.sig_text.specs.Counts.{Rose};
-ghost use Rattle.sig_text.specs.Sink.{TookPrefix};
 
 use crate::plans::plans_are_accepted;
 use crate::state::Core;
@@ -26,6 +24,7 @@ impl<'a> Core<'a> {
         ensures happened { OnOk result (Happened S.took (Act k) self.old self.new sink.old sink.new) }
         ensures part { OnErr result (Happened (TookPrefix S.took) (Act k) self.old self.new sink.old sink.new) }
         ensures answer { IfOk result (TellsChange self.old (Act k)) }
+        ensures changed { OnErr result (TellsChange self.old (Act k) true) }
         ensures left { IfOk result (LeavesLess self.old self.new) }
         ensures touches { Touches k (next_link self.old k) self.old self.new }
         ensures failed { OnErr result (Rose (S.faults sink.old) (S.faults sink.new)) }

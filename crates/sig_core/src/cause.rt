@@ -1,9 +1,9 @@
 //! The end of a run.
 
-ghost use Rattle.std.specs.Prelude.{◌≡◌, ◌-◌, Some};
+ghost use Rattle.std.specs.Prelude.{◌≡◌, ◌-◌};
+ghost use Rattle.sig_core.specs.Prelude.{Some, Core as ModelCore, cause_of};
 ghost use Rattle.sig_core.specs.Cores.{IsCore, Shows, given_of};
 ghost use Rattle.sig_core.specs.Finishing.{cause_of_number, instants_of};
-ghost use Rattle.sig_model.specs.Cores.{Core as ModelCore, cause_of};
 
 use crate::plans::{ops_of, order_of};
 use crate::state::Core;

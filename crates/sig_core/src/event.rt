@@ -1,10 +1,9 @@
 //! Events of a core.
 
-ghost use Rattle.std.specs.Prelude.{◌≤◌, IfOk, OnErr, OnOk};
+ghost use Rattle.std.specs.Prelude.{◌≤◌};
+ghost use Rattle.sig_core.specs.Prelude.{IfOk, OnErr, OnOk, Rose, TookPrefix};
 ghost use Rattle.sig_core.specs.Cores.{Happened, IsCore, IsReached, IsSameRun, TellsChange};
 ghost use Rattle.sig_core.specs.Schedules.{BeginsTheText, GoesOn, HasTheEnd, HoldsOf, KeepsToTheReference, RecordsNoneBefore};
-ghost use Rattle.sig_text.specs.Counts.{Rose};
-ghost use Rattle.sig_text.specs.Sink.{TookPrefix};
 
 use crate::laws::cores_keep_to_the_plan;
 use crate::state::Core;

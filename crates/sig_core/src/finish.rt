@@ -1,11 +1,10 @@
 //! A run to its end.
 
-ghost use Rattle.std.specs.Prelude.{◌≤◌, IfOk, OnErr, OnOk};
+ghost use Rattle.std.specs.Prelude.{◌≤◌};
+ghost use Rattle.sig_core.specs.Prelude.{IfOk, OnErr, OnOk, Rose, TookPrefix};
 ghost use Rattle.sig_core.specs.Cores.{IsCore, IsReached, IsSameRun};
-ghost use Rattle.sig_core.specs.Finishing.{HasEnded, IsEndOf, LeadsTo, TookRest};
+ghost use Rattle.sig_core.specs.Finishing.{HasEnded, IsEndOf, LeadsWithin, TookRest};
 ghost use Rattle.sig_core.specs.Schedules.{BeginsTheText, GoesOn, HasTheEnd, HoldsOf, KeepsToTheReference, RecordsNoneBefore};
-ghost use Rattle.sig_text.specs.Counts.{Rose};
-ghost use Rattle.sig_text.specs.Sink.{TookPrefix};
 
 use crate::laws::cores_keep_to_the_plan;
 use crate::plans::plans_are_accepted;
@@ -15,7 +14,8 @@ use sig_text::{Sink, WriteFault};
 
 impl<'a> Core<'a> {
     /// Lets one event happen after another until all actors have ended: each time that of the least actor
-    /// for which one changes something, a look before a step. The rest of the text of the longest trace is
+    /// for which one changes something, a look before a step. These events are no more than the steps of all
+    /// codes, times the limit, and the actors. The rest of the text of the longest trace is
     /// appended to the sink, and the answer is the number of its instants with the named cause; after a
     /// fault of the sink a prefix of that rest was appended, and of the text of the events that happened. It
     /// takes no memory.
@@ -29,8 +29,8 @@ impl<'a> Core<'a> {
         ensures answer { IfOk result (IsEndOf self.old) }
         ensures rest { OnOk result (TookRest S.took self.old sink.old sink.new) }
         ensures part { OnErr result (TookRest (TookPrefix S.took) self.old sink.old sink.new) }
-        ensures leads { OnOk result (LeadsTo S.took self.old self.new sink.old sink.new) }
-        ensures led { OnErr result (LeadsTo (TookPrefix S.took) self.old self.new sink.old sink.new) }
+        ensures leads { OnOk result (LeadsWithin S.took self.old self.new sink.old sink.new) }
+        ensures led { OnErr result (LeadsWithin (TookPrefix S.took) self.old self.new sink.old sink.new) }
         ensures text { HoldsOf BeginsTheText self.new }
         ensures reference { HoldsOf KeepsToTheReference self.new }
         ensures word { HoldsOf RecordsNoneBefore self.new }
@@ -55,8 +55,8 @@ impl<'a> Core<'a> {
         ensures answer { IfOk result (IsEndOf self.old) }
         ensures rest { OnOk result (TookRest S.took self.old sink.old sink.new) }
         ensures part { OnErr result (TookRest (TookPrefix S.took) self.old sink.old sink.new) }
-        ensures leads { OnOk result (LeadsTo S.took self.old self.new sink.old sink.new) }
-        ensures led { OnErr result (LeadsTo (TookPrefix S.took) self.old self.new sink.old sink.new) }
+        ensures leads { OnOk result (LeadsWithin S.took self.old self.new sink.old sink.new) }
+        ensures led { OnErr result (LeadsWithin (TookPrefix S.took) self.old self.new sink.old sink.new) }
         ensures failed { OnErr result (Rose (S.faults sink.old) (S.faults sink.new)) }
         ensures faults_stay { S.faults sink.old ≤ S.faults sink.new }
     {

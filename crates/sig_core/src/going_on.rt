@@ -1,12 +1,11 @@
 //! Steps of an actor, one after another.
 
-ghost use Rattle.std.specs.Prelude.{◌≡◌, ◌+◌, ◌<◌, ◌≤◌, ◌^◌, IfOk, OnErr, OnOk, length};
+ghost use Rattle.std.specs.Prelude.{◌≡◌, ◌+◌, ◌<◌, ◌≤◌, ◌^◌};
+ghost use Rattle.sig_core.specs.Prelude.{IfOk, OnErr, OnOk, length, Rose, TookPrefix};
 ghost use Rattle.sig_core.specs.Cores.{IsCore, IsReached, IsSameRun};
 ghost use Rattle.sig_core.specs.Finishing.{LeadsTo};
 ghost use Rattle.sig_core.specs.GoingOn.{StepsOn, TakesTurns, next_of};
 ghost use Rattle.sig_core.specs.Resting.{IsAlone, RestBelow, Serves};
-ghost use Rattle.sig_text.specs.Counts.{Rose};
-ghost use Rattle.sig_text.specs.Sink.{TookPrefix};
 
 use crate::plans::plans_are_accepted;
 use crate::state::Core;

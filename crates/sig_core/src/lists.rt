@@ -28,10 +28,10 @@ impl Lists {
 }
 
 impl Ends for Lists {
-    ghost use Rattle.std.specs.Prelude.{◌≡◌, None, Some, length};
+    ghost use Rattle.std.specs.Prelude.{◌≡◌};
+    ghost use Rattle.sig_core.specs.Prelude.{None, Some, length, range_with_len};
     ghost use Rattle.std.proofs.Common.{inr, refl};
-    ghost use Rattle.std.specs.List.{range_with_len};
-    ghost use Rattle.sig_core.specs.Lists.{queues_of};
+    ghost use Rattle.sig_core.specs.Lists.{IsFoundEmpty, IsFoundFull, queues_of};
 
     ghost past = { λ lists. None };
 
@@ -40,6 +40,10 @@ impl Ends for Lists {
     ghost pushes = { λ lists. range_with_len 0 (length lists.queues.items) };
 
     ghost pops = { λ lists. range_with_len 0 (length lists.queues.items) };
+
+    ghost found_full = { IsFoundFull };
+
+    ghost found_empty = { IsFoundEmpty };
 
     ghost tells = { λ lists. inr refl };
 

@@ -1,9 +1,9 @@
 //! Looks at the failure word.
 
-ghost use Rattle.std.specs.Prelude.{◌≡◌, ◌<◌, ◌^◌, None};
+ghost use Rattle.std.specs.Prelude.{◌≡◌, ◌<◌, ◌^◌};
+ghost use Rattle.sig_core.specs.Prelude.{None, Look};
 ghost use Rattle.sig_core.specs.Cores.{IsCore, IsSameRun, Keeps, LeavesLess, TellsChange};
 ghost use Rattle.sig_core.specs.Resting.{Touches};
-ghost use Rattle.sig_model.specs.declared.event.Event.TheVariants.{Look};
 
 use crate::state::Core;
 

@@ -1,11 +1,10 @@
 //! The making of a core.
 
-ghost use Rattle.std.specs.Prelude.{◌≡◌, ◌≤◌, ◌<◌, ◌+◌, ◌^◌, IfOk, length};
+ghost use Rattle.std.specs.Prelude.{◌≡◌, ◌≤◌, ◌<◌, ◌+◌, ◌^◌};
+ghost use Rattle.sig_core.specs.Prelude.{IfOk, length, AreFlowsFor, opening};
 ghost use Rattle.sig_core.specs.Cores.{IsCore, IsReached, Shows, given_of};
 ghost use Rattle.sig_core.specs.Making.{AreOpened};
 ghost use Rattle.sig_core.specs.Schedules.{AreBounded, BeginsTheText, GoesOn, HasTheEnd, InEachRun, KeepsToTheReference, RecordsNoneBefore};
-ghost use Rattle.sig_kernel.specs.Validity.{AreFlowsFor};
-ghost use Rattle.sig_model.specs.Cores.{opening};
 
 use crate::answer::CoreAnswer;
 use crate::laws::runs_keep_to_the_plan;

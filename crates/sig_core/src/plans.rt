@@ -1,9 +1,8 @@
 //! The parts of a plan.
 
-ghost use Rattle.std.specs.Prelude.{◌≡◌, ◌<◌, length, slice_get, Some};
+ghost use Rattle.std.specs.Prelude.{◌≡◌, ◌<◌};
+ghost use Rattle.sig_core.specs.Prelude.{length, slice_get, Some, code_of, IsAccepted};
 ghost use Rattle.sig_core.specs.Resting.{link_at, link_of};
-ghost use Rattle.sig_model.specs.Actors.{code_of};
-ghost use Rattle.sig_plan.specs.Plans.{IsAccepted};
 
 use sig_base::OpId;
 use sig_plan::{LinkInfo, Op, Plan, StepKind};

@@ -1,11 +1,10 @@
 //! Events of the least actor that has one which changes something.
 
-ghost use Rattle.std.specs.Prelude.{◌≤◌, ◌<◌, IfOk, OnErr, OnOk, length};
+ghost use Rattle.std.specs.Prelude.{◌≤◌, ◌<◌};
+ghost use Rattle.sig_core.specs.Prelude.{IfOk, OnErr, OnOk, length, Rose, TookPrefix};
 ghost use Rattle.sig_core.specs.Cores.{IsCore, IsReached, IsSameRun};
 ghost use Rattle.sig_core.specs.Finishing.{LeadsTo};
 ghost use Rattle.sig_core.specs.Resting.{RestBelow, SeesNothing, Serves};
-ghost use Rattle.sig_text.specs.Counts.{Rose};
-ghost use Rattle.sig_text.specs.Sink.{TookPrefix};
 
 use crate::plans::plans_are_accepted;
 use crate::state::Core;

@@ -1,9 +1,9 @@
 //! What a core tells of its state.
 
-ghost use Rattle.std.specs.Prelude.{◌≡◌, slice_get};
+ghost use Rattle.std.specs.Prelude.{◌≡◌};
+ghost use Rattle.sig_core.specs.Prelude.{slice_get, Core as ModelCore};
 ghost use Rattle.sig_core.specs.Cores.{IsCore, Shows};
 ghost use Rattle.sig_core.specs.Telling.{length_in, state_in};
-ghost use Rattle.sig_model.specs.Cores.{Core as ModelCore};
 
 use crate::answer::ActorState;
 use crate::state::Core;

@@ -1,9 +1,9 @@
 //! Actors that wait at links.
 
-ghost use Rattle.std.specs.Prelude.{◌≡◌, ◌≢◌, ◌<◌, ◌↔◌, ℕ, IsTrue, Some, false, length, min, slice_get, true};
+ghost use Rattle.std.specs.Prelude.{◌≡◌, ◌≢◌, ◌<◌, ◌↔◌};
+ghost use Rattle.sig_core.specs.Prelude.{ℕ, IsTrue, Some, false, length, min, slice_get, true, LinkInfo};
 ghost use Rattle.sig_core.specs.Cores.{IsCore};
 ghost use Rattle.sig_core.specs.Resting.{IsAlone, IsApart, IsLow, next_link};
-ghost use Rattle.sig_plan.specs.declared.parts.LinkInfo.{LinkInfo};
 
 use crate::plans::{link_of, links_of, plans_are_accepted, step_at};
 use crate::state::Core;

@@ -1,8 +1,9 @@
 -- What a contract sees of the two ends of a link.
-use Rattle.std.specs.Prelude.{◌≡◌, ◌≤◌, ℕ, ℤ, List, ◌++◌, length}
+use Rattle.std.specs.Prelude.{◌≡◌, ◌≤◌, ◌+◌, ◌-◌, ◌^◌, ℕ, ℤ, List, ◌++◌, length, min}
 use Rattle.std.specs.Arc.{arc_value}
 use Rattle.crossbeam_queue.specs.Passes.{view, ruled_capacity}
 use Rattle.atomic_table.specs.Seated.{TableId}
+use Rattle.sig_link.specs.Rule.{WasEmpty, WasFull}
 use Rattle.sig_link.specs.declared.put.Put.{Put}
 use Rattle.sig_link.specs.declared.take.Take.{Take}
 
@@ -28,6 +29,32 @@ sent p = (view p.pass).sent
 -- all items that were taken, oldest first
 abbrev pub taken : Take → List ℤ
 taken t = (view t.pass).taken
+
+-- how often a call of the end found the link full, and how often one found it empty; each call that did counts, and the count
+-- stays at its greatest number
+abbrev pub times_full : Put → ℕ
+times_full p = p.times_full
+
+abbrev pub times_empty : Take → ℕ
+times_empty t = t.times_empty
+
+-- a count of 64 bits is one more, or stays at its greatest number
+abbrev pub CountsOne : ℕ → ℕ → Type 0
+CountsOne before after = after ≡ min (before + 1) (2 ^ 64 - 1)
+
+-- The link was found full at a step of the call that led from the one end to the other: that is counted, and what was sent
+-- stayed.
+pub record FoundFull (old new : Put) : Type 0 where
+  pub counts : CountsOne (times_full old) (times_full new)
+  pub stays : sent new ≡ sent old
+  pub full : WasFull (put_capacity old) (sent old)
+
+-- The link was found empty at a step of the call that led from the one end to the other: that is counted, and what was taken
+-- stayed.
+pub record FoundEmpty (old new : Take) : Type 0 where
+  pub counts : CountsOne (times_empty old) (times_empty new)
+  pub stays : taken new ≡ taken old
+  pub empty : WasEmpty (taken old)
 
 -- they are the ends of one link
 abbrev pub OfOneLink : Put → Take → Type 0

@@ -1,7 +1,7 @@
 //! The making of a link.
 
 ghost use Rattle.std.specs.Prelude.{◌≡◌, ◌≤◌, [], IfOk};
-ghost use Rattle.sig_link.specs.Ends.{put_capacity, sent, taken, OfOneLink};
+ghost use Rattle.sig_link.specs.Ends.{put_capacity, sent, taken, times_empty, times_full, OfOneLink};
 ghost use Rattle.sig_link.specs.declared.opening.LinkAnswer.TheVariants.{OutOfMemory};
 
 use super::put::Put;
@@ -33,6 +33,7 @@ pub fn link(alloc: Global, capacity: u32) -> Result<(Put, Take), LinkAnswer>
     requires { (1 ≤ capacity) × (capacity ≤ 65536) }
     ensures ends { IfOk result (λ ends. OfOneLink ends.0 ends.1 × (put_capacity ends.0 ≡ capacity)) }
     ensures empty { IfOk result (λ ends. (sent ends.0 ≡ []) × (taken ends.1 ≡ [])) }
+    ensures uncounted { IfOk result (λ ends. (times_full ends.0 ≡ 0) × (times_empty ends.1 ≡ 0)) }
 {
     let (queue, mut putter) = Line::ruled(alloc, capacity as usize)?;
     let taker = queue.another::<TwoEnds>(&mut putter);
@@ -41,10 +42,12 @@ pub fn link(alloc: Global, capacity: u32) -> Result<(Put, Take), LinkAnswer>
     let put = Put {
         line: mine,
         pass: putter,
+        times_full: 0,
     };
     let take = Take {
         line: theirs,
         pass: taker,
+        times_empty: 0,
     };
     Ok((put, take))
 }

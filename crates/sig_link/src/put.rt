@@ -3,7 +3,6 @@
 ghost use Rattle.std.specs.Prelude.{◌≡◌, ◌≤◌, [], ◌∷◌, ◌++◌, true, OnErr, OnOk};
 ghost use Rattle.std.specs.Arc.{arc_value};
 ghost use Rattle.crossbeam_queue.specs.Passes.{view, ruled_capacity, IsPassOf};
-ghost use Rattle.sig_link.specs.Rule.{WasFull};
 
 use super::rule::{Line, LinkPass};
 use super::steps::push_step;
@@ -16,22 +15,29 @@ use std::sync::{Arc, Wait};
 pub struct Put {
     pub(crate) line: Arc<Line, Global>,
     pub(crate) pass: LinkPass,
+    /// How many calls found the link full, up to the greatest number.
+    pub(crate) times_full: u64,
     ghost fits: { IsPassOf (arc_value line) pass },
     ghost puts: { (view pass).puts ≡ true },
     ghost sized: { ruled_capacity (arc_value line) ≤ 65536 },
 }
 
 impl Put {
-    ghost use Rattle.sig_link.specs.Ends.{put_capacity, sent, IsSamePut};
+    ghost use Rattle.sig_link.specs.Ends.{sent, times_full, FoundFull, IsSamePut};
 
     /// Puts the item last of what was sent. `Full` comes only where the queue was full at a step of
-    /// this call, and nothing then changed. It may wait for the other end to end a step.
+    /// this call, which is counted; nothing else then changed. It may wait for the other end to end a
+    /// step.
     pub fn push<R: Wait>(&mut self, rt: &R, item: i64) -> Result<(), Full>
         ensures end { IsSamePut self.old self.new }
         ensures ok { OnOk result (sent self.new ≡ sent self.old ++ item ∷ []) }
-        ensures full { OnErr result ((sent self.new ≡ sent self.old)
-            × WasFull (put_capacity self.old) (sent self.old)) }
+        ensures uncounted { OnOk result (times_full self.new ≡ times_full self.old) }
+        ensures full { OnErr result (FoundFull self.old self.new) }
     {
-        push_step(rt, &self.line, &mut self.pass, item)
+        let pushed = push_step(rt, &self.line, &mut self.pass, item);
+        if pushed.is_err() {
+            self.times_full = self.times_full.saturating_add(1);
+        }
+        pushed
     }
 }

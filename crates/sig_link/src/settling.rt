@@ -19,7 +19,7 @@ pub fn settle<R: Wait>(rt: &R, put: Put, take: Take) -> Settled
     requires { OfOneLink put take }
     ensures { IsSettled put take result.left }
 {
-    let Put { line, mut pass } = put;
+    let Put { line, mut pass, .. } = put;
     line.absorb::<OneHand>(&mut pass, take.pass);
     let left = line.len_as::<Whole, R>(rt, &mut pass);
     Settled { left: left as u32 }

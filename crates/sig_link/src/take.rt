@@ -3,7 +3,6 @@
 ghost use Rattle.std.specs.Prelude.{◌≡◌, [], ◌∷◌, ◌++◌, true, IfNone, IfSome};
 ghost use Rattle.std.specs.Arc.{arc_value};
 ghost use Rattle.crossbeam_queue.specs.Passes.{view, IsPassOf};
-ghost use Rattle.sig_link.specs.Rule.{WasEmpty};
 
 use super::rule::{Line, LinkPass};
 use super::steps::pop_step;
@@ -15,21 +14,28 @@ use std::sync::{Arc, Wait};
 pub struct Take {
     pub(crate) line: Arc<Line, Global>,
     pub(crate) pass: LinkPass,
+    /// How many calls found the link empty, up to the greatest number.
+    pub(crate) times_empty: u64,
     ghost fits: { IsPassOf (arc_value line) pass },
     ghost takes: { (view pass).takes ≡ true },
 }
 
 impl Take {
-    ghost use Rattle.sig_link.specs.Ends.{take_link, taken};
+    ghost use Rattle.sig_link.specs.Ends.{take_link, taken, times_empty, FoundEmpty};
 
     /// Takes the next item of what was sent. `None` comes only where the queue was empty at a step
-    /// of this call, and nothing then changed. It may wait for the other end to end a step.
+    /// of this call, which is counted; nothing else then changed. It may wait for the other end to end
+    /// a step.
     pub fn pop<R: Wait>(&mut self, rt: &R) -> Option<i64>
         ensures end { take_link self.new ≡ take_link self.old }
         ensures item { IfSome result (λ x. taken self.new ≡ taken self.old ++ x ∷ []) }
-        ensures empty { IfNone result ((taken self.new ≡ taken self.old)
-            × WasEmpty (taken self.old)) }
+        ensures uncounted { IfSome result (λ x. times_empty self.new ≡ times_empty self.old) }
+        ensures empty { IfNone result (FoundEmpty self.old self.new) }
     {
-        pop_step(rt, &self.line, &mut self.pass)
+        let popped = pop_step(rt, &self.line, &mut self.pass);
+        if popped.is_none() {
+            self.times_empty = self.times_empty.saturating_add(1);
+        }
+        popped
     }
 }

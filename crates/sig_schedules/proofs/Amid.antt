@@ -1,35 +1,7 @@
 -- An actor on the reference knows the guard of its next step, and has what the step needs.
-use Rattle.std.proofs.Common.{◌≡◌, ◌-◌, inl, inr, ℕ, ℤ, Bool, true, false, cond, List, length, take, refl, ap, sym, ◌∙◌, Contains}
-use Rattle.std.specs.Prelude.{None, Option, Some, is_some, option_and_then, slice_get, ◌&&◌}
-use Rattle.std.proofs.lemmas.Bool.{and_from, eq-eqb}
-use Rattle.sig_base.specs.Traces.{Instant, Seen, Trace, seen_at}
-use Rattle.sig_base.specs.declared.ids.OpId.{OpId}
-use Rattle.sig_base.specs.declared.ids.SigId.{SigId}
-use Rattle.sig_clock.specs.Abstractions.{abstraction_of}
-use Rattle.sig_clock.specs.Reactions.{Reaction, is_present}
-use Rattle.sig_dd.proofs.Walks.{depends_agree}
-use Rattle.sig_dd.specs.Diagram.{Depends}
-use Rattle.sig_dd.specs.Nodes.{test}
-use Rattle.sig_kernel.specs.KernelTraces.{Memory, remembered}
-use Rattle.sig_kernel.specs.Validity.{AreFlowsFor}
-use Rattle.sig_meaning.specs.Reactions.{IsNext}
-use Rattle.sig_meaning.proofs.Agreement.{some_at, truth_at}
-use Rattle.sig_meaning.proofs.Flows.{next_in}
-use Rattle.sig_meaning.proofs.Values.{none_where}
-use Rattle.sig_model.specs.Actors.{Actor, guard_holds, is_true, slot_holds, truths_of}
-use Rattle.sig_model.specs.Progress.{IsActorOn, fills, instant_at, is_filled, names, target_of_op}
-use Rattle.sig_model.specs.References.{IsReference}
-use Rattle.sig_plan.specs.Codes.{CodeView}
-use Rattle.sig_plan.specs.Guards.{of_slot}
-use Rattle.sig_plan.specs.Holding.{Gives, HasBefore, HasGuard}
-use Rattle.sig_plan.specs.Parts.{IsOutput}
-use Rattle.sig_plan.specs.Plans.{IsAccepted, PlanView}
-use Rattle.sig_plan.specs.declared.code.Step.{Step}
-use Rattle.sig_plan.specs.declared.code.StepKind.TheVariants.{Do, Send, Commit}
-use Rattle.sig_plan.specs.declared.op.Op.{Op}
-use Rattle.sig_plan.specs.declared.parts.LinkInfo.{LinkInfo}
-use Rattle.sig_plan.proofs.Holdings.{step_has_conditions, step_has_outputs, step_has_reads, step_has_sent}
-use Rattle.sig_plan.proofs.Slotted.{guard_alone, guard_held}
+use Rattle.sig_schedules.proofs.Common.{◌≡◌, ◌-◌, inl, inr, ℕ, ℤ, Bool, true, false, cond, List, length, take, refl, ap, sym, ◌∙◌, Contains, None, Option, Some, is_some, option_and_then, slice_get, ◌&&◌, and_from, eq-eqb, Instant, Seen, Trace, seen_at, OpId, SigId, abstraction_of, is_present, depends_agree, Depends, test, Memory, remembered, AreFlowsFor, IsNext, some_at, truth_at, next_in, none_where, Actor, guard_holds, is_true, slot_holds, truths_of, IsActorOn, fills, instant_at, is_filled, names, target_of_op, IsReference, CodeView, of_slot, HasBefore, HasGuard, IsOutput, IsAccepted, PlanView, Step, Do, Send, Commit, Op, LinkInfo, step_has_conditions, step_has_outputs, step_has_reads, step_has_sent, guard_alone, guard_held}
+use Rattle.sig_clock.specs.Reactions.{Reaction}
+use Rattle.sig_plan.specs.Holding.{Gives}
 use Rattle.sig_schedules.proofs.Done.{keeps, present_is, speaks}
 use Rattle.sig_schedules.proofs.Instants.{next_at}
 use Rattle.sig_schedules.proofs.Lists.{any_there, get_taken}

@@ -1,19 +1,5 @@
 -- Each actor of an accepted plan has an instruction.
-use Rattle.std.proofs.Common.{◌≡◌, ◌<◌, ◌≤◌, ◌+◌, ◌*◌, ◌⊎◌, ◌++◌, inl, inr, ℕ, List, [], ◌∷◌, length, map, refl, sym, subst, arith, Contains}
-use Rattle.std.specs.Prelude.{Some, slice_get, if◌then◌else◌}
-use Rattle.std.specs.List.{range_with_len}
-use Rattle.std.proofs.lemmas.List.Elements.{Contains-append_right}
-use Rattle.std.proofs.lemmas.List.FromFn.{get_or-map-range_with_len, length-map-range_with_len}
-use Rattle.sig_clock.proofs.Lists.{at_contained, contains_head}
-use Rattle.sig_meaning.proofs.Numbers.{same_or_not}
-use Rattle.sig_plan.specs.Codes.{CodeView, Instruction, at_end, instructions_of, over_order, report_links, reports_of, unguarded}
-use Rattle.sig_plan.specs.Operations.{Operation, operations_in}
-use Rattle.sig_plan.specs.Parts.{PartsView, report_link}
-use Rattle.sig_plan.specs.Plans.{IsAccepted, PlanView, numbers_of}
-use Rattle.sig_plan.specs.declared.code.StepKind.TheVariants.{Collect, Commit, Report}
-use Rattle.sig_plan.specs.declared.parts.LinkInfo.{LinkInfo}
-use Rattle.sig_plan.proofs.LinkEnds.{reports_there}
-use Rattle.sig_plan.proofs.Lists.{eq_true}
+use Rattle.sig_schedules.proofs.Common.{◌≡◌, ◌<◌, ◌≤◌, ◌+◌, ◌*◌, ◌⊎◌, ◌++◌, inl, inr, ℕ, List, [], ◌∷◌, length, map, refl, sym, subst, arith, Contains, Some, slice_get, if◌then◌else◌, range_with_len, Contains-append_right, get_or-map-range_with_len, length-map-range_with_len, at_contained, contains_head, same_or_not, CodeView, Instruction, at_end, instructions_of, over_order, report_links, reports_of, unguarded, Operation, operations_in, PartsView, report_link, IsAccepted, PlanView, numbers_of, Collect, Commit, Report, LinkInfo, reports_there, eq_true}
 
 -- the collector commits
 pub commits_there : (operations : List Operation) (order : List ℕ) (parts : PartsView) (actor : ℕ) → actor ≡ parts.clusters

@@ -1,26 +1,5 @@
 -- A list of events that each change the state is bounded: each moves one actor on, or ends one.
-use Rattle.std.proofs.Common.{◌≡◌, ◌<◌, ◌≤◌, ◌-◌, ◌+◌, ◌*◌, ◌++◌, ◌⊎◌, inl, inr, ℕ, zero, suc, ℤ, Bool, true, false, cond, List, [], ◌∷◌, length, set, refl, ap, sym, subst, ◌∙◌, arith}
-use Rattle.std.specs.Prelude.{None, Option, Some, fold, nat_lt, slice_get}
-use Rattle.std.proofs.Math.Nat.{mul-add, suc-mul}
-use Rattle.std.proofs.lemmas.Bool.{ltb-false}
-use Rattle.std.proofs.lemmas.List.{length-replicate, length-set}
-use Rattle.std.proofs.lemmas.Nat.{mul-le}
-use Rattle.sig_clock.proofs.Lists.{get_within}
-use Rattle.sig_meaning.proofs.Numbers.{same_or_not}
-use Rattle.sig_model.specs.Actors.{Actor, code_of, ended_at, guard_holds, moved_on, next_place, opening_actor}
-use Rattle.sig_model.specs.Cores.{Core, Given, IsEnabled, acted, after, items_on, looked, opening, stepped, take_first, turned, with_actor, with_items, word_before}
-use Rattle.sig_model.specs.Operating.{Faults, Gives, Outcome, operated, outcome}
-use Rattle.sig_model.specs.Turns.{AtLimit, Commits, Fails, Goes, Puts, Stopped, Takes, Turn, carried, received, turn, turn_at, turn_by, turn_of_op, turn_with}
-use Rattle.sig_model.specs.declared.event.Event.{Event}
-use Rattle.sig_model.specs.declared.event.Event.TheVariants.{Act, Look}
-use Rattle.sig_plan.specs.Codes.{CodeView}
-use Rattle.sig_plan.specs.Plans.{IsAccepted, PlanView}
-use Rattle.sig_plan.specs.declared.code.Step.{Step}
-use Rattle.sig_plan.specs.declared.code.StepKind.{StepKind}
-use Rattle.sig_plan.specs.declared.code.StepKind.TheVariants.{Do, Send, Receive, Report, Collect, Commit}
-use Rattle.sig_plan.specs.declared.op.Op.{Op}
-use Rattle.sig_plan.proofs.Counting.{one_of}
-use Rattle.sig_schedules.specs.Changes.{AllChange, all_gone, gone_by, steps_in}
+use Rattle.sig_schedules.proofs.Common.{◌≡◌, ◌<◌, ◌≤◌, ◌-◌, ◌+◌, ◌*◌, ◌++◌, ◌⊎◌, inl, inr, ℕ, zero, suc, ℤ, Bool, true, false, cond, List, [], ◌∷◌, length, set, refl, ap, sym, subst, ◌∙◌, arith, None, Option, Some, fold, nat_lt, slice_get, mul-add, suc-mul, ltb-false, length-replicate, length-set, mul-le, get_within, same_or_not, Actor, code_of, ended_at, guard_holds, moved_on, next_place, opening_actor, Core, Given, IsEnabled, acted, after, items_on, looked, opening, stepped, take_first, turned, with_actor, with_items, word_before, Faults, Gives, Outcome, operated, outcome, AtLimit, Commits, Fails, Goes, Puts, Stopped, Takes, Turn, carried, received, turn, turn_at, turn_by, turn_of_op, turn_with, Event, Act, Look, CodeView, IsAccepted, PlanView, Step, StepKind, Do, Send, Receive, Report, Collect, Commit, Op, one_of, AllChange, all_gone, gone_by, steps_in}
 use Rattle.sig_schedules.proofs.Coded.{actor_coded, code_is}
 use Rattle.sig_schedules.proofs.Lists.{put_elsewhere, put_here, set_get}
 use Rattle.sig_schedules.proofs.Moved.{moved_cases}
@@ -318,3 +297,14 @@ module _ (given : Given) where
 
     pub all_within : (events : List Event) → all_gone plan.codes (after given events).actors ≤ given.limit * steps_in plan.codes + length plan.codes
     all_within events = within (after given events) (after_kept events)
+
+    -- from a state with the actors of one that events reach
+    pub bounded_behind : (before : List Event) (core : Core) → core.actors ≡ (after given before).actors → (events : List Event) → AllChange given core events
+        → length events ≤ given.limit * steps_in plan.codes + length plan.codes
+    bounded_behind before core same events all =
+        let there = after_kept before in
+        let kept : AreKept core = record {
+          actors = ap (λ (xs : List Actor). length xs) same ∙ there.actors;
+          each = λ k a at. there.each k a (subst (λ (xs : List Actor). slice_get xs k ≡ Some a) same at);
+        } in
+        omega (arith, bounded_from events core kept all)

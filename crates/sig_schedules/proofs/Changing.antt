@@ -1,17 +1,5 @@
 -- A state in which one actor, the items of links, the word or what is committed changed, is on the reference.
-use Rattle.std.proofs.Common.{◌≡◌, ◌<◌, ◌≤◌, ◌-◌, ◌++◌, inl, inr, ℕ, ℤ, true, List, [], length, get_or, set, take, ap, sym, subst, ◌∙◌, arith}
-use Rattle.std.specs.Prelude.{Option, Some, slice_get}
-use Rattle.std.proofs.lemmas.List.{length-set}
-use Rattle.sig_base.specs.Traces.{Trace}
-use Rattle.sig_base.specs.declared.place.Place.{Place}
-use Rattle.sig_meaning.proofs.Numbers.{same_or_not}
-use Rattle.sig_model.specs.Actors.{Actor, code_of}
-use Rattle.sig_model.specs.Cores.{Core, Given}
-use Rattle.sig_model.specs.Progress.{HasReason, IsActorOn, IsLinkOn, IsOnReference, IsWordOn, Yield, reactions_of, yielded_before}
-use Rattle.sig_model.specs.Turns.{Reaction}
-use Rattle.sig_plan.specs.Codes.{CodeView}
-use Rattle.sig_plan.specs.Plans.{PlanView}
-use Rattle.sig_plan.specs.declared.parts.LinkInfo.{LinkInfo}
+use Rattle.sig_schedules.proofs.Common.{◌≡◌, ◌<◌, ◌≤◌, ◌-◌, ◌++◌, inl, inr, ℕ, ℤ, true, List, [], length, get_or, set, take, ap, sym, subst, ◌∙◌, arith, Option, Some, slice_get, length-set, Trace, Place, same_or_not, Actor, code_of, Core, Given, HasReason, IsActorOn, IsLinkOn, IsOnReference, IsWordOn, Yield, reactions_of, yielded_before, Reaction, CodeView, PlanView, LinkInfo}
 use Rattle.sig_schedules.proofs.Lists.{put, put_elsewhere, put_here, set_get}
 
 module _ (given : Given) (reference : Trace) (core : Core) (on : IsOnReference given reference core) (k : ℕ) (actor : Actor) (at_k : slice_get core.actors k ≡ Some actor) where

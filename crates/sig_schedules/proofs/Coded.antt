@@ -1,12 +1,5 @@
 -- The code of an actor.
-use Rattle.std.proofs.Common.{◌≡◌, ◌<◌, ℕ, length, refl, ap, sym, ◌∙◌}
-use Rattle.std.specs.Prelude.{Option, None, Some, slice_get, unwrap_or}
-use Rattle.sig_meaning.proofs.Agreement.{some_at}
-use Rattle.sig_model.specs.Actors.{code_of, no_code}
-use Rattle.sig_plan.specs.Codes.{CodeView}
-use Rattle.sig_plan.specs.Plans.{PlanView}
-use Rattle.sig_plan.specs.declared.code.Slot.{Slot}
-use Rattle.sig_plan.specs.declared.code.Step.{Step}
+use Rattle.sig_schedules.proofs.Common.{◌≡◌, ◌<◌, ℕ, length, refl, ap, sym, ◌∙◌, Option, None, Some, slice_get, unwrap_or, some_at, code_of, no_code, CodeView, PlanView, Slot, Step}
 
 -- a code that is there is that of its actor
 pub code_is : (plan : PlanView) (k : ℕ) (code : CodeView) → slice_get plan.codes k ≡ Some code → code_of plan k ≡ code

@@ -1,18 +1,5 @@
 -- The collector commits at its last step, and nobody else commits.
-use Rattle.std.proofs.Common.{◌≡◌, ◌<◌, ◌≤◌, ◌+◌, ◌*◌, ◌⊎◌, inl, inr, ℕ, zero, suc, true, List, ◌∷◌, length, map, refl, ap, sym, ◌∙◌, arith}
-use Rattle.std.specs.Prelude.{Some, slice_get}
-use Rattle.std.specs.List.{range_with_len}
-use Rattle.sig_clock.proofs.Lists.{get_within}
-use Rattle.sig_meaning.proofs.Agreement.{some_at}
-use Rattle.sig_meaning.proofs.Numbers.{at_most_or}
-use Rattle.sig_model.specs.Actors.{Registers, guard_holds, truths_of}
-use Rattle.sig_plan.specs.Codes.{CodeView, Instruction, unguarded}
-use Rattle.sig_plan.specs.Instructions.{IsFor, does, sends, receives, reports, collects, commits}
-use Rattle.sig_plan.specs.Operations.{Operation, operations_in}
-use Rattle.sig_plan.specs.Plans.{IsAccepted, PlanView, numbers_of}
-use Rattle.sig_plan.specs.declared.code.Step.{Step}
-use Rattle.sig_plan.specs.declared.code.StepKind.TheVariants.{Do, Send, Receive, Report, Collect, Commit}
-use Rattle.sig_plan.proofs.Positions.{positions_rise}
+use Rattle.sig_schedules.proofs.Common.{◌≡◌, ◌<◌, ◌≤◌, ◌+◌, ◌*◌, ◌⊎◌, inl, inr, ℕ, zero, suc, true, List, ◌∷◌, length, map, refl, ap, sym, ◌∙◌, arith, Some, slice_get, range_with_len, get_within, some_at, at_most_or, Registers, guard_holds, truths_of, CodeView, Instruction, unguarded, IsFor, does, sends, receives, reports, collects, commits, Operation, operations_in, IsAccepted, PlanView, numbers_of, Step, Do, Send, Receive, Report, Collect, Commit, positions_rise}
 use Rattle.sig_schedules.proofs.Beginnings.{commits_there}
 use Rattle.sig_schedules.proofs.Steps.{before_by_position, instruction_step, same_place, step_does}
 

@@ -1,18 +1,5 @@
 -- How many items an end of a link has given or taken before a step.
-use Rattle.std.proofs.Common.{◌≡◌, ◌<◌, ◌≤◌, ◌-◌, ◌+◌, ◌++◌, ℕ, zero, suc, ℤ, List, [], ◌∷◌, length, take, drop, ap, sym, ◌∙◌, arith}
-use Rattle.std.specs.Prelude.{None, Option, Some, flat_map, option_to_list, slice_get}
-use Rattle.std.specs.List.{cons_option, filter_map}
-use Rattle.std.proofs.lemmas.List.{length-append, take-append-drop}
-use Rattle.sig_base.specs.Traces.{Instant, Seen, Trace, seen_at}
-use Rattle.sig_base.specs.declared.ids.SigId.{SigId}
-use Rattle.sig_kernel.specs.Validity.{AreFlowsFor}
-use Rattle.sig_model.specs.Progress.{Yield, instant_at, yielded_before, yielded_in}
-use Rattle.sig_model.specs.References.{IsReference}
-use Rattle.sig_plan.specs.Codes.{CodeView}
-use Rattle.sig_plan.specs.Plans.{IsAccepted, PlanView}
-use Rattle.sig_plan.specs.declared.code.Step.{Step}
-use Rattle.sig_plan.specs.declared.code.StepKind.{StepKind}
-use Rattle.sig_plan.specs.declared.parts.LinkInfo.{LinkInfo}
+use Rattle.sig_schedules.proofs.Common.{◌≡◌, ◌<◌, ◌≤◌, ◌-◌, ◌+◌, ◌++◌, ℕ, zero, suc, ℤ, List, [], ◌∷◌, length, take, drop, ap, sym, ◌∙◌, arith, None, Option, Some, flat_map, option_to_list, slice_get, cons_option, filter_map, length-append, take-append-drop, Instant, Seen, Trace, seen_at, SigId, AreFlowsFor, Yield, instant_at, yielded_before, yielded_in, IsReference, CodeView, IsAccepted, PlanView, Step, StepKind, LinkInfo}
 use Rattle.sig_schedules.proofs.Ends.{IsLinkEnd, carried_at, in_instant}
 use Rattle.sig_schedules.proofs.Instants.{instants_to, next_at}
 use Rattle.sig_schedules.proofs.Lists.{chosen_append, chosen_push, get_taken, joined_push, joined_same, take_next, taken_get}

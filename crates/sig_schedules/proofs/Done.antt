@@ -1,24 +1,6 @@
 -- What is done at one instant of the reference.
-use Rattle.std.proofs.Common.{◌≡◌, ◌<◌, ℕ, ℤ, Bool, true, List, length, sym, subst, ◌∙◌, Contains}
-use Rattle.std.specs.Prelude.{Some, is_some, slice_get}
-use Rattle.sig_base.specs.Traces.{Instant, seen_at}
-use Rattle.sig_base.specs.declared.ids.SigId.{SigId}
-use Rattle.sig_clock.specs.Abstractions.{abstraction_of}
-use Rattle.sig_clock.specs.ClockFunctions.{KeepsTo}
-use Rattle.sig_clock.specs.Reactions.{Reaction, Speaks, is_present}
-use Rattle.sig_clock.proofs.Lists.{at_contained, contains_at, get_within}
-use Rattle.sig_kernel.specs.KernelTraces.{Memory}
-use Rattle.sig_kernel.specs.declared.kernel.Kernel.{Kernel}
-use Rattle.sig_meaning.specs.Reactions.{IsNext}
-use Rattle.sig_meaning.proofs.Accepted.{compiled}
-use Rattle.sig_meaning.proofs.Agreement.{Compiled, own_keeps, own_present, own_speaks, own_written}
-use Rattle.sig_model.specs.Actors.{truths_of}
-use Rattle.sig_plan.specs.Instructions.{StandsAt}
-use Rattle.sig_plan.specs.Operations.{Operation, operations_in, operations_of}
-use Rattle.sig_plan.specs.Order.{Precedes, Writes}
-use Rattle.sig_plan.specs.Plans.{IsAccepted, PlanView, numbers_of}
-use Rattle.sig_plan.proofs.Done.{written_by_one, written_present}
-use Rattle.sig_plan.proofs.Orders.{stands_somewhere}
+use Rattle.sig_schedules.proofs.Common.{◌≡◌, ◌<◌, ℕ, ℤ, Bool, true, List, length, sym, subst, ◌∙◌, Contains, Some, is_some, slice_get, Instant, seen_at, SigId, abstraction_of, KeepsTo, Speaks, is_present, at_contained, contains_at, get_within, Memory, Kernel, IsNext, compiled, Compiled, own_keeps, own_present, own_speaks, own_written, truths_of, StandsAt, Operation, operations_in, operations_of, Precedes, Writes, IsAccepted, PlanView, numbers_of, written_by_one, written_present, stands_somewhere}
+use Rattle.sig_clock.specs.Reactions.{Reaction}
 
 -- an operation stands at some place
 pub stands_of : (plan : PlanView) → IsAccepted plan → (number : ℕ) (p : Operation) → slice_get (operations_in plan.store.nodes plan.ops) number ≡ Some p

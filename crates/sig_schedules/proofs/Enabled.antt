@@ -1,30 +1,5 @@
 -- An event is enabled until all actors have ended.
-use Rattle.std.proofs.Common.{◌≡◌, ◌<◌, ◌≤◌, ◌+◌, ◌*◌, ◌⊎◌, inl, inr, ℕ, ℤ, Bool, true, false, cond, List, length, refl, ap, sym, subst, ◌∙◌, arith}
-use Rattle.std.specs.Prelude.{Some, slice_get}
-use Rattle.std.proofs.lemmas.Bool.{cases_lt}
-use Rattle.sig_base.specs.Traces.{Instant, Trace, seen_at}
-use Rattle.sig_base.specs.declared.place.Place.{Place}
-use Rattle.sig_clock.proofs.Lists.{get_at, get_within}
-use Rattle.sig_kernel.specs.Validity.{AreFlowsFor}
-use Rattle.sig_meaning.proofs.Agreement.{some_at}
-use Rattle.sig_meaning.proofs.Ending.{fitting}
-use Rattle.sig_meaning.proofs.References.{some_reference}
-use Rattle.sig_model.specs.Actors.{Actor, code_of, ended_at, next_place, position_of}
-use Rattle.sig_model.specs.Cores.{Core, Given, IsEnabled, IsFinished, acted, after, looked, turned, with_actor, word_before}
-use Rattle.sig_model.specs.Progress.{HasReason, IsActorOn, IsOnReference, instant_at, sent_on, taken_from}
-use Rattle.sig_model.specs.References.{IsReference}
-use Rattle.sig_model.specs.Turns.{turn}
-use Rattle.sig_model.specs.declared.event.Event.{Event}
-use Rattle.sig_model.specs.declared.event.Event.TheVariants.{Act, Look}
-use Rattle.sig_plan.specs.Codes.{Instruction, instructions_of}
-use Rattle.sig_plan.specs.Instructions.{IsFor}
-use Rattle.sig_plan.specs.Operations.{Operation, operations_in}
-use Rattle.sig_plan.specs.Plans.{IsAccepted, PlanView, numbers_of}
-use Rattle.sig_plan.specs.declared.code.Step.{Step}
-use Rattle.sig_plan.specs.declared.parts.LinkInfo.{LinkInfo}
-use Rattle.sig_plan.proofs.Accepted.{plan_operations}
-use Rattle.sig_plan.proofs.LinkEnds.{ends_within}
-use Rattle.sig_plan.proofs.Positions.{positions_rise}
+use Rattle.sig_schedules.proofs.Common.{◌≡◌, ◌<◌, ◌≤◌, ◌+◌, ◌*◌, ◌⊎◌, inl, inr, ℕ, ℤ, Bool, true, false, cond, List, length, refl, ap, sym, subst, ◌∙◌, arith, Some, slice_get, cases_lt, Instant, Trace, seen_at, Place, get_at, get_within, AreFlowsFor, some_at, fitting, some_reference, Actor, code_of, ended_at, next_place, position_of, Core, Given, IsEnabled, IsFinished, acted, after, looked, turned, with_actor, word_before, HasReason, IsActorOn, IsOnReference, instant_at, sent_on, taken_from, IsReference, turn, Event, Act, Look, Instruction, instructions_of, IsFor, Operation, operations_in, IsAccepted, PlanView, numbers_of, Step, LinkInfo, plan_operations, ends_within, positions_rise}
 use Rattle.sig_schedules.proofs.Interleavings.{after_on}
 use Rattle.sig_schedules.proofs.Keeping.{reader_is, writer_is}
 use Rattle.sig_schedules.proofs.Least.{IsLeast, some_least}

@@ -1,25 +1,5 @@
 -- The longest trace begins the reference, which has no fault there, and its first fault right behind.
-use Rattle.std.proofs.Common.{◌≡◌, ◌<◌, ◌≤◌, ◌-◌, ◌+◌, ◌*◌, ◌++◌, inl, inr, ℕ, ℤ, List, [], ◌∷◌, length, take, drop, refl, ap, sym, subst, ◌∙◌, arith}
-use Rattle.std.proofs.lemmas.List.{append_assoc, length-append, same_from_push, take-append-drop, take-append-le, take_at}
-use Rattle.sig_base.specs.Traces.{Instant, IsLongest, IsPrefixOf, Trace}
-use Rattle.sig_base.specs.declared.place.Place.{Place}
-use Rattle.sig_kernel.specs.KernelTraces.{IsKernelTrace}
-use Rattle.sig_kernel.specs.Validity.{AreFlowsFor}
-use Rattle.sig_kernel.specs.declared.kernel.Kernel.{Kernel}
-use Rattle.sig_meaning.specs.Ends.{StopsBefore}
-use Rattle.sig_meaning.specs.Faults.{IsFirstFault}
-use Rattle.sig_meaning.proofs.Accepted.{compiled}
-use Rattle.sig_meaning.proofs.Ending.{fitting}
-use Rattle.sig_meaning.proofs.Longest.{IsClean, clean, longest_cut}
-use Rattle.sig_meaning.proofs.Numbers.{at_most_or}
-use Rattle.sig_meaning.proofs.References.{Fitting, flow_count, reference_begins}
-use Rattle.sig_meaning.proofs.WithinBounds.{bounds_without_faults}
-use Rattle.sig_model.specs.Causes.{HasFault, place_at}
-use Rattle.sig_model.specs.Progress.{IsFaulty, instant_at}
-use Rattle.sig_model.specs.References.{IsReference}
-use Rattle.sig_plan.specs.Operations.{Operation, operations_in}
-use Rattle.sig_plan.specs.Plans.{IsAccepted, PlanView, numbers_of}
-use Rattle.sig_plan.specs.declared.ended.Cause.{Cause}
+use Rattle.sig_schedules.proofs.Common.{◌≡◌, ◌<◌, ◌≤◌, ◌-◌, ◌+◌, ◌*◌, ◌++◌, inl, inr, ℕ, ℤ, List, [], ◌∷◌, length, take, drop, refl, ap, sym, subst, ◌∙◌, arith, append_assoc, length-append, same_from_push, take-append-drop, take-append-le, take_at, Instant, IsLongest, IsPrefixOf, Trace, Place, IsKernelTrace, AreFlowsFor, Kernel, StopsBefore, IsFirstFault, compiled, fitting, IsClean, clean, longest_cut, at_most_or, Fitting, flow_count, reference_begins, bounds_without_faults, HasFault, place_at, IsFaulty, instant_at, IsReference, Operation, operations_in, IsAccepted, PlanView, numbers_of, Cause}
 use Rattle.sig_schedules.proofs.Instants.{instants_to}
 use Rattle.sig_schedules.proofs.Words.{NotAfter}
 

@@ -1,24 +1,5 @@
 -- What the two ends of a link send and take at an instant.
-use Rattle.std.proofs.Common.{◌≡◌, ◌+◌, ◌*◌, ◌⊎◌, inl, inr, ℕ, ℤ, pos, Bool, true, false, cond, List, [], ◌∷◌, length, refl, ap, sym, subst, ◌∙◌, Contains}
-use Rattle.std.specs.Prelude.{None, Option, Some, is_some, option_to_list, slice_get, unwrap_or}
-use Rattle.sig_base.specs.Traces.{Instant, Seen, seen_at}
-use Rattle.sig_base.specs.declared.ids.SigId.{SigId}
-use Rattle.sig_clock.proofs.Lists.{get_within}
-use Rattle.sig_kernel.specs.KernelTraces.{Memory}
-use Rattle.sig_meaning.specs.Reactions.{IsNext}
-use Rattle.sig_model.specs.Actors.{guard_holds, truths_of}
-use Rattle.sig_model.specs.Progress.{Yield, yielded_in}
-use Rattle.sig_model.specs.Turns.{item_of}
-use Rattle.sig_plan.specs.Codes.{CodeView, Instruction, instructions_of, under, unguarded}
-use Rattle.sig_plan.specs.Instructions.{IsFor, StandsAt}
-use Rattle.sig_plan.specs.Operations.{Operation, operations_in}
-use Rattle.sig_plan.specs.Order.{Writes}
-use Rattle.sig_plan.specs.Plans.{IsAccepted, PlanView, numbers_of}
-use Rattle.sig_plan.specs.declared.code.Step.{Step}
-use Rattle.sig_plan.specs.declared.code.StepKind.{StepKind}
-use Rattle.sig_plan.specs.declared.parts.LinkInfo.{LinkInfo}
-use Rattle.sig_plan.proofs.Accepted.{plan_operations}
-use Rattle.sig_plan.proofs.LinkEnds.{carrying_ends}
+use Rattle.sig_schedules.proofs.Common.{◌≡◌, ◌+◌, ◌*◌, ◌⊎◌, inl, inr, ℕ, ℤ, pos, Bool, true, false, cond, List, [], ◌∷◌, length, refl, ap, sym, subst, ◌∙◌, Contains, None, Option, Some, is_some, option_to_list, slice_get, unwrap_or, Instant, Seen, seen_at, SigId, get_within, Memory, IsNext, guard_holds, truths_of, Yield, yielded_in, item_of, CodeView, Instruction, instructions_of, under, unguarded, IsFor, StandsAt, Operation, operations_in, Writes, IsAccepted, PlanView, numbers_of, Step, StepKind, LinkInfo, plan_operations, carrying_ends}
 use Rattle.sig_schedules.proofs.Done.{done_once, done_there, stands_of, there_done}
 use Rattle.sig_schedules.proofs.Lists.{none_chosen, one_chosen}
 use Rattle.sig_schedules.proofs.Steps.{DoesStep, instruction_step, places_once, same_place, step_does}

@@ -1,44 +1,5 @@
 -- An operation that is passed over, or comes to a value, has no fault.
-use Rattle.std.proofs.Common.{◌≡◌, ◌<◌, ◌≤◌, ◌-◌, ◌*◌, ◌++◌, ◌⊎◌, inl, inr, ℕ, ℤ, Bool, true, false, List, [], ◌∷◌, length, map, get_or, take, refl, ap, sym, subst, ◌∙◌, arith, Contains}
-use Rattle.std.specs.Prelude.{None, Option, Some, is_some, option_to_list, slice_get}
-use Rattle.std.proofs.lemmas.List.{append-nil}
-use Rattle.sig_base.specs.Traces.{Instant, Seen, Trace, flow_of, seen_at}
-use Rattle.sig_base.specs.declared.ids.EqId.{EqId}
-use Rattle.sig_base.specs.declared.ids.OpId.{OpId}
-use Rattle.sig_base.specs.declared.ids.SigId.{SigId}
-use Rattle.sig_base.specs.declared.place.Place.{Place}
-use Rattle.sig_dd.specs.Nodes.{test}
-use Rattle.sig_doing.proofs.Operated.{gives_bounded, one_longer}
-use Rattle.sig_kernel.specs.KernelTraces.{function_of, remembered}
-use Rattle.sig_kernel.specs.Validity.{AreFlowsFor}
-use Rattle.sig_kernel.specs.declared.kernel.Kernel.{Kernel}
-use Rattle.sig_meaning.specs.Outcomes.{IsOutcome}
-use Rattle.sig_meaning.proofs.Accepted.{compiled}
-use Rattle.sig_meaning.proofs.Agreement.{Compiled}
-use Rattle.sig_meaning.proofs.FirstFaults.{one_either}
-use Rattle.sig_meaning.proofs.Flows.{flow_more, next_in}
-use Rattle.sig_meaning.proofs.Numbers.{at_most_or}
-use Rattle.sig_meaning.proofs.References.{got}
-use Rattle.sig_meaning.proofs.Values.{form_in, have_map, none_where, same_operands}
-use Rattle.sig_model.specs.Actors.{Actor, guard_holds, truths_of}
-use Rattle.sig_model.specs.Causes.{Computes, HasFault, Meets}
-use Rattle.sig_model.specs.Operating.{Faults, Gives, computed, computed_at, computed_by, computed_for, next_of, operand_in, outcome, outcome_by}
-use Rattle.sig_model.specs.Progress.{IsActorOn, IsFaulty, instant_at}
-use Rattle.sig_model.specs.References.{IsReference}
-use Rattle.sig_model.specs.Results.{divides_by_zero, has_64_bits}
-use Rattle.sig_plan.specs.Codes.{CodeView}
-use Rattle.sig_plan.specs.Operations.{Operation, operation_in, operations_in, signals_of}
-use Rattle.sig_plan.specs.Plans.{IsAccepted, PlanView, numbers_of}
-use Rattle.sig_plan.specs.declared.code.Step.{Step}
-use Rattle.sig_plan.specs.declared.code.StepKind.TheVariants.{Do}
-use Rattle.sig_plan.specs.declared.ended.Cause.{Cause}
-use Rattle.sig_plan.specs.declared.ended.Cause.TheVariants.{Exhausted, Limit, Overflow, ZeroDivisor}
-use Rattle.sig_plan.specs.declared.op.Op.{Op}
-use Rattle.sig_plan.specs.declared.op.OpKind.{OpKind}
-use Rattle.sig_plan.specs.declared.op.OpKind.TheVariants.{Compute, Read}
-use Rattle.sig_plan.proofs.Indices.{written_below}
-use Rattle.sig_plan.proofs.Lists.{get_map}
-use Rattle.sig_schedules.specs.Soundness.{IsSoundActor}
+use Rattle.sig_schedules.proofs.Common.{◌≡◌, ◌<◌, ◌≤◌, ◌-◌, ◌*◌, ◌++◌, ◌⊎◌, inl, inr, ℕ, ℤ, Bool, true, false, List, [], ◌∷◌, length, map, get_or, take, refl, ap, sym, subst, ◌∙◌, arith, Contains, None, Option, Some, is_some, option_to_list, slice_get, append-nil, Instant, Seen, Trace, flow_of, seen_at, EqId, OpId, SigId, Place, test, gives_bounded, one_longer, function_of, remembered, AreFlowsFor, Kernel, IsOutcome, compiled, Compiled, one_either, flow_more, next_in, at_most_or, got, form_in, have_map, none_where, same_operands, Actor, guard_holds, truths_of, Computes, HasFault, Meets, Faults, Gives, computed, computed_at, computed_by, computed_for, next_of, operand_in, outcome, outcome_by, IsActorOn, IsFaulty, instant_at, IsReference, divides_by_zero, has_64_bits, CodeView, Operation, operation_in, operations_in, signals_of, IsAccepted, PlanView, numbers_of, Step, Do, Cause, Exhausted, Limit, Overflow, ZeroDivisor, Op, OpKind, Compute, Read, written_below, get_map, IsSoundActor}
 use Rattle.sig_schedules.proofs.Amid.{next_now}
 use Rattle.sig_schedules.proofs.Done.{clock_is}
 use Rattle.sig_schedules.proofs.Going.{is_at, outcome_is, reads}

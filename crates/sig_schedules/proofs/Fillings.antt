@@ -1,29 +1,5 @@
 -- A condition that the guard of a step needs is filled by earlier steps alone.
-use Rattle.std.proofs.Common.{◌≡◌, ◌<◌, ◌≤◌, ◌+◌, ◌*◌, ◌⊎◌, inl, inr, ℕ, List, length, refl, ap, sym, subst, ◌∙◌, arith}
-use Rattle.std.specs.Prelude.{None, Option, Some, slice_get, option_and_then}
-use Rattle.std.proofs.lemmas.Bool.{cases_order}
-use Rattle.sig_base.specs.declared.ids.SigId.{SigId}
-use Rattle.sig_clock.proofs.Lists.{contains_at}
-use Rattle.sig_dd.proofs.Dependence.{ref_depends}
-use Rattle.sig_dd.specs.Diagram.{Depends}
-use Rattle.sig_dd.specs.Nodes.{IsRefOf, test}
-use Rattle.sig_meaning.proofs.References.{got}
-use Rattle.sig_model.specs.Progress.{fills, target_of_op}
-use Rattle.sig_plan.specs.Codes.{CodeView, Instruction, IsStepOf, instructions_of}
-use Rattle.sig_plan.specs.Instructions.{IsFor, StandsAt, does, sends, receives, reports, collects, commits}
-use Rattle.sig_plan.specs.Operations.{Operation, operation_in, operations_in}
-use Rattle.sig_plan.specs.Order.{Needs, Precedes, Writes}
-use Rattle.sig_plan.specs.Plans.{IsAccepted, PlanView, numbers_of}
-use Rattle.sig_plan.specs.declared.code.Slot.{Slot}
-use Rattle.sig_plan.specs.declared.code.Step.{Step}
-use Rattle.sig_plan.specs.declared.parts.LinkInfo.{LinkInfo}
-use Rattle.sig_plan.proofs.Accepted.{plan_operations}
-use Rattle.sig_plan.proofs.Earlier.{needed_earlier}
-use Rattle.sig_plan.proofs.Instructing.{instruction_for}
-use Rattle.sig_plan.proofs.Lists.{map_get}
-use Rattle.sig_plan.proofs.Naming.{step_instruction}
-use Rattle.sig_plan.proofs.Orders.{stands_once}
-use Rattle.sig_plan.proofs.Positions.{positions_rise}
+use Rattle.sig_schedules.proofs.Common.{◌≡◌, ◌<◌, ◌≤◌, ◌+◌, ◌*◌, ◌⊎◌, inl, inr, ℕ, List, length, refl, ap, sym, subst, ◌∙◌, arith, None, Option, Some, slice_get, option_and_then, cases_order, SigId, contains_at, ref_depends, Depends, IsRefOf, test, got, fills, target_of_op, CodeView, Instruction, IsStepOf, instructions_of, IsFor, StandsAt, does, sends, receives, reports, collects, commits, Operation, operation_in, operations_in, Needs, Precedes, Writes, IsAccepted, PlanView, numbers_of, Slot, Step, LinkInfo, plan_operations, needed_earlier, instruction_for, map_get, step_instruction, stands_once, positions_rise}
 
 -- an instruction fills a signal that is written at its place
 pub record FilledAt (operations : List Operation) (order : List ℕ) (i : Instruction) (x : SigId) : Type 0 where

@@ -1,41 +1,5 @@
 -- What an actor on the reference makes of its next step: it stays on the reference, or has a fault there.
-use Rattle.std.proofs.Common.{◌≡◌, ◌≤◌, ◌-◌, ◌+◌, ◌*◌, ◌++◌, inl, inr, ℕ, suc, ℤ, pos, Bool, true, false, cond, List, [], ◌∷◌, length, take, refl, ap, sym, subst, ◌∙◌, arith, Contains}
-use Rattle.std.specs.Prelude.{None, Option, Some, option_to_list, slice_get, unwrap_or, ◌&&◌}
-use Rattle.std.proofs.lemmas.Bool.{and_from, and_left, and_right, eq-eqb, ne_eqb}
-use Rattle.std.proofs.lemmas.List.{append-nil, length-append}
-use Rattle.sig_base.specs.Traces.{Instant, Seen, Trace, seen_at}
-use Rattle.sig_base.specs.declared.ids.OpId.{OpId}
-use Rattle.sig_base.specs.declared.ids.SigId.{SigId}
-use Rattle.sig_clock.proofs.Lists.{contains_head}
-use Rattle.sig_dd.specs.Nodes.{test}
-use Rattle.sig_doing.proofs.Defining.{defined_once, initial_is}
-use Rattle.sig_kernel.specs.KernelTraces.{last_of}
-use Rattle.sig_kernel.specs.Table.{target_of}
-use Rattle.sig_kernel.specs.Validity.{AreFlowsFor}
-use Rattle.sig_kernel.specs.declared.kernel.Kernel.{Kernel}
-use Rattle.sig_meaning.specs.Outcomes.{IsAt, IsOutcome}
-use Rattle.sig_meaning.proofs.Accepted.{compiled}
-use Rattle.sig_meaning.proofs.Agreement.{Compiled}
-use Rattle.sig_meaning.proofs.Ending.{fitting}
-use Rattle.sig_meaning.proofs.FirstFaults.{one_either}
-use Rattle.sig_meaning.proofs.Numbers.{same_or_not}
-use Rattle.sig_meaning.proofs.Outcomes.{reference_outcome}
-use Rattle.sig_model.specs.Actors.{Actor, Registers, guard_holds, initial_in, next_place, position_of, truths_of, with_at, with_signal}
-use Rattle.sig_model.specs.Causes.{HasFault, Meets}
-use Rattle.sig_model.specs.Operating.{Faults, Gives, first_in, operated, outcome, outcome_by, remembers, taken_by}
-use Rattle.sig_model.specs.Progress.{IsActorOn, IsFaulty, Yield, fills, input_of, instant_at, names, read_at, read_by, register_before, stored_at, stored_by, target_of_op, yielded_before}
-use Rattle.sig_model.specs.References.{IsReference}
-use Rattle.sig_model.specs.Turns.{carried, received}
-use Rattle.sig_plan.specs.Codes.{CodeView}
-use Rattle.sig_plan.specs.Operations.{Operation, operation_in, operations_in}
-use Rattle.sig_plan.specs.Plans.{IsAccepted, PlanView, numbers_of}
-use Rattle.sig_plan.specs.declared.code.Step.{Step}
-use Rattle.sig_plan.specs.declared.code.StepKind.TheVariants.{Do, Receive}
-use Rattle.sig_plan.specs.declared.ended.Cause.{Cause}
-use Rattle.sig_plan.specs.declared.op.Op.{Op}
-use Rattle.sig_plan.specs.declared.op.OpKind.{OpKind}
-use Rattle.sig_plan.specs.declared.op.OpKind.TheVariants.{Read, Compute, Left, Right, DelayRead, Store}
-use Rattle.sig_plan.proofs.Lists.{get_map}
+use Rattle.sig_schedules.proofs.Common.{◌≡◌, ◌≤◌, ◌-◌, ◌+◌, ◌*◌, ◌++◌, inl, inr, ℕ, suc, ℤ, pos, Bool, true, false, cond, List, [], ◌∷◌, length, take, refl, ap, sym, subst, ◌∙◌, arith, Contains, None, Option, Some, option_to_list, slice_get, unwrap_or, ◌&&◌, and_from, and_left, and_right, eq-eqb, ne_eqb, append-nil, length-append, Instant, Seen, Trace, seen_at, OpId, SigId, contains_head, test, defined_once, initial_is, last_of, target_of, AreFlowsFor, Kernel, IsAt, IsOutcome, compiled, Compiled, fitting, one_either, same_or_not, reference_outcome, Actor, Registers, guard_holds, initial_in, next_place, position_of, truths_of, with_at, with_signal, HasFault, Meets, Faults, Gives, first_in, operated, outcome, outcome_by, remembers, taken_by, IsActorOn, IsFaulty, Yield, fills, input_of, instant_at, names, read_at, read_by, register_before, stored_at, stored_by, target_of_op, yielded_before, IsReference, carried, received, CodeView, Operation, operation_in, operations_in, IsAccepted, PlanView, numbers_of, Step, Do, Receive, Cause, Op, OpKind, Read, Compute, Left, Right, DelayRead, Store, get_map}
 use Rattle.sig_schedules.proofs.Amid.{guard_known, reads_known}
 use Rattle.sig_schedules.proofs.Inputs.{done_by, in_kernel, read_before, stored_before, stores_delay}
 use Rattle.sig_schedules.proofs.Instants.{reference_to}

@@ -1,48 +1,5 @@
 -- What the steps of an actor read of an input, and store for a delay, are the values of its signal.
-use Rattle.std.proofs.Common.{◌≡◌, ◌<◌, ◌≤◌, ◌-◌, ◌*◌, ◌++◌, inr, ℕ, ℤ, Bool, true, false, cond, List, [], length, take, refl, ap, sym, subst, ◌∙◌, arith, Contains}
-use Rattle.std.specs.Prelude.{None, Option, Some, is_some, option_to_list, slice_get, slice_index}
-use Rattle.std.proofs.lemmas.Bool.{eq-eqb, eqb-true}
-use Rattle.std.proofs.lemmas.List.{append-nil}
-use Rattle.sig_base.specs.Traces.{Instant, Seen, Trace, flow_of, seen_at}
-use Rattle.sig_base.specs.declared.ids.EqId.{EqId}
-use Rattle.sig_base.specs.declared.ids.OpId.{OpId}
-use Rattle.sig_base.specs.declared.ids.SigId.{SigId}
-use Rattle.sig_dd.specs.Nodes.{test}
-use Rattle.sig_clock.proofs.Lists.{contains_at}
-use Rattle.sig_doing.proofs.Committing.{store_stands}
-use Rattle.sig_doing.proofs.Defining.{defined_once, one_memory, same_equation, same_signal}
-use Rattle.sig_doing.proofs.Knowing.{delayed_below, one_storing}
-use Rattle.sig_kernel.specs.KernelTraces.{Memory}
-use Rattle.sig_kernel.specs.Table.{target_of}
-use Rattle.sig_kernel.specs.Validity.{AreFlowsFor}
-use Rattle.sig_kernel.specs.declared.equation.Equation.{Equation}
-use Rattle.sig_kernel.specs.declared.equation.Form.TheVariants.{Delay}
-use Rattle.sig_kernel.specs.declared.kernel.Kernel.{Kernel}
-use Rattle.sig_meaning.specs.Reactions.{IsNext}
-use Rattle.sig_meaning.proofs.Accepted.{compiled}
-use Rattle.sig_meaning.proofs.Agreement.{Compiled}
-use Rattle.sig_meaning.proofs.FirstFaults.{one_either}
-use Rattle.sig_meaning.proofs.References.{got}
-use Rattle.sig_meaning.proofs.Storing.{stored}
-use Rattle.sig_meaning.proofs.Values.{form_for, form_in}
-use Rattle.sig_model.specs.Actors.{guard_holds, truths_of}
-use Rattle.sig_model.specs.Operating.{defined_by, first_in, remembers}
-use Rattle.sig_model.specs.Progress.{Yield, input_of, names, read_at, read_by, stored_at, stored_by, yielded_before, yielded_in, instant_at}
-use Rattle.sig_model.specs.References.{IsReference}
-use Rattle.sig_plan.specs.Codes.{CodeView, Instruction, op_id, under}
-use Rattle.sig_plan.specs.Operations.{Operation, cluster_of, operation_in, operations_in, operations_of}
-use Rattle.sig_plan.specs.Order.{Keeps, Precedes}
-use Rattle.sig_plan.specs.Plans.{IsAccepted, PlanView, numbers_of}
-use Rattle.sig_plan.specs.declared.code.Step.{Step}
-use Rattle.sig_plan.specs.declared.code.StepKind.{StepKind}
-use Rattle.sig_plan.specs.declared.code.StepKind.TheVariants.{Do, Send, Receive, Report, Collect, Commit}
-use Rattle.sig_plan.specs.declared.op.Op.{Op}
-use Rattle.sig_plan.specs.declared.op.OpKind.{OpKind}
-use Rattle.sig_plan.specs.declared.op.OpKind.TheVariants.{Read, Compute, Left, Right, DelayRead, Store}
-use Rattle.sig_plan.proofs.LinkEnds.{does_there}
-use Rattle.sig_plan.proofs.Lists.{get_map}
-use Rattle.sig_plan.proofs.Orders.{kept_order, stands_once}
-use Rattle.sig_plan.proofs.Writing.{operations_written}
+use Rattle.sig_schedules.proofs.Common.{◌≡◌, ◌<◌, ◌≤◌, ◌-◌, ◌*◌, ◌++◌, inr, ℕ, ℤ, Bool, true, false, cond, List, [], length, take, refl, ap, sym, subst, ◌∙◌, arith, Contains, None, Option, Some, is_some, option_to_list, slice_get, slice_index, eq-eqb, eqb-true, append-nil, Instant, Seen, Trace, flow_of, seen_at, EqId, OpId, SigId, test, contains_at, store_stands, defined_once, one_memory, same_equation, same_signal, delayed_below, one_storing, Memory, target_of, AreFlowsFor, Equation, Delay, Kernel, IsNext, compiled, Compiled, one_either, got, stored, form_for, form_in, guard_holds, truths_of, defined_by, first_in, remembers, Yield, input_of, names, read_at, read_by, stored_at, stored_by, yielded_before, yielded_in, instant_at, IsReference, CodeView, Instruction, op_id, under, Operation, cluster_of, operation_in, operations_in, operations_of, Keeps, Precedes, IsAccepted, PlanView, numbers_of, Step, StepKind, Do, Send, Receive, Report, Collect, Commit, Op, OpKind, Read, Compute, Left, Right, DelayRead, Store, does_there, get_map, kept_order, stands_once, operations_written}
 use Rattle.sig_schedules.proofs.Done.{clock_is, done_once}
 use Rattle.sig_schedules.proofs.Ends.{nothing_from}
 use Rattle.sig_schedules.proofs.Instants.{next_at, next_some}

@@ -1,18 +1,5 @@
 -- The instants of a reference.
-use Rattle.std.proofs.Common.{◌≡◌, ◌≤◌, ◌-◌, ◌++◌, ℕ, suc, ℤ, List, [], ◌∷◌, length, get_or, take, drop, ap, sym, subst, ◌∙◌, arith}
-use Rattle.std.specs.Prelude.{Some, slice_get}
-use Rattle.std.proofs.lemmas.List.{length-take-le, take-append-drop}
-use Rattle.sig_base.specs.Traces.{Instant, Trace}
-use Rattle.sig_clock.proofs.Lists.{get_at}
-use Rattle.sig_kernel.specs.KernelTraces.{Memory, remembered}
-use Rattle.sig_kernel.specs.Validity.{AreFlowsFor}
-use Rattle.sig_meaning.specs.Reactions.{IsNext}
-use Rattle.sig_meaning.proofs.Ending.{fitting}
-use Rattle.sig_meaning.proofs.Flows.{next_in}
-use Rattle.sig_meaning.proofs.References.{got, reference_front, reference_last}
-use Rattle.sig_model.specs.Progress.{instant_at}
-use Rattle.sig_model.specs.References.{IsReference}
-use Rattle.sig_plan.specs.Plans.{IsAccepted, PlanView}
+use Rattle.sig_schedules.proofs.Common.{◌≡◌, ◌≤◌, ◌-◌, ◌++◌, ℕ, suc, ℤ, List, [], ◌∷◌, length, get_or, take, drop, ap, sym, subst, ◌∙◌, arith, Some, slice_get, length-take-le, take-append-drop, Instant, Trace, get_at, Memory, remembered, AreFlowsFor, IsNext, fitting, next_in, got, reference_front, reference_last, instant_at, IsReference, IsAccepted, PlanView}
 use Rattle.sig_schedules.proofs.Lists.{take_next}
 
 pub instants_to : (reference : Trace) (i : ℕ) → 1 ≤ i → i ≤ length reference → take i reference ≡ take (i - 1) reference ++ instant_at reference i ∷ []

@@ -1,15 +1,5 @@
 -- Every interleaving leaves a state on the reference.
-use Rattle.std.proofs.Common.{◌≡◌, ◌≤◌, ◌+◌, inl, inr, List, [], ◌∷◌, length, sym, subst, arith}
-use Rattle.std.specs.Prelude.{None, Some, fold}
-use Rattle.sig_base.specs.Traces.{Trace}
-use Rattle.sig_kernel.specs.Validity.{AreFlowsFor}
-use Rattle.sig_model.specs.Actors.{code_of, opening_actor}
-use Rattle.sig_model.specs.Cores.{Core, Given, after, opening, stepped}
-use Rattle.sig_model.specs.Progress.{IsOnReference}
-use Rattle.sig_model.specs.References.{IsReference}
-use Rattle.sig_model.specs.declared.event.Event.{Event}
-use Rattle.sig_plan.specs.Plans.{IsAccepted}
-use Rattle.sig_schedules.specs.Soundness.{IsSound, IsSoundActor}
+use Rattle.sig_schedules.proofs.Common.{◌≡◌, ◌≤◌, ◌+◌, inl, inr, List, [], ◌∷◌, length, sym, subst, arith, None, Some, fold, Trace, AreFlowsFor, code_of, opening_actor, Core, Given, after, opening, stepped, IsOnReference, IsReference, Event, IsAccepted, IsSound, IsSoundActor}
 use Rattle.sig_schedules.proofs.Keeping.{stepped_on}
 use Rattle.sig_schedules.proofs.Opening.{opening_on, repeated}
 use Rattle.sig_schedules.proofs.Sound.{stepped_sound}

@@ -1,34 +1,5 @@
 -- Each event leaves a state on the reference.
-use Rattle.std.proofs.Common.{◌≡◌, ◌<◌, ◌≤◌, ◌-◌, ◌+◌, ◌++◌, ◌⊎◌, inl, inr, ℕ, suc, ℤ, pos, Bool, true, false, cond, List, [], ◌∷◌, length, refl, ap, sym, subst, ◌∙◌, arith, Contains}
-use Rattle.std.specs.Prelude.{None, Option, Some, is_some, nat_lt, slice_get, unwrap_or, ◌==◌}
-use Rattle.std.proofs.lemmas.Bool.{eq-eqb, ltb-false, ltb-true, ne_eqb}
-use Rattle.sig_base.specs.Traces.{Instant, IsPrefixOf, Seen, Trace, seen_at}
-use Rattle.sig_base.specs.declared.ids.OpId.{OpId}
-use Rattle.sig_base.specs.declared.ids.SigId.{SigId}
-use Rattle.sig_clock.specs.Conditions.{signal_id}
-use Rattle.sig_clock.proofs.Lists.{contains_at}
-use Rattle.sig_kernel.specs.Validity.{AreFlowsFor}
-use Rattle.sig_meaning.proofs.Agreement.{some_at}
-use Rattle.sig_meaning.proofs.Values.{where_some}
-use Rattle.sig_model.specs.Actors.{Actor, code_of, ended_at, guard_holds, moved_on, next_place, truths_of}
-use Rattle.sig_model.specs.Cores.{Core, Given, acted, items_on, looked, stepped, take_first, turned, with_actor, with_items, word_before}
-use Rattle.sig_model.specs.Operating.{Faults, Gives, Outcome, operated, outcome}
-use Rattle.sig_model.specs.Progress.{IsActorOn, IsOnReference, Yield, fills, instant_at, read_at, sent_on, stored_at, taken_from, yielded_before}
-use Rattle.sig_model.specs.Turns.{AtLimit, Goes, Stopped, carried, item_of, reaction_in, received, turn, turn_at, turn_by, turn_of_op, turn_with}
-use Rattle.sig_model.specs.declared.event.Event.{Event}
-use Rattle.sig_model.specs.declared.event.Event.TheVariants.{Act, Look}
-use Rattle.sig_plan.specs.Codes.{CodeView, Instruction, instructions_of}
-use Rattle.sig_plan.specs.Instructions.{IsFor, NamesWithin}
-use Rattle.sig_plan.specs.Operations.{Operation, operations_in}
-use Rattle.sig_plan.specs.Plans.{IsAccepted, PlanView, numbers_of}
-use Rattle.sig_plan.specs.declared.code.Step.{Step}
-use Rattle.sig_plan.specs.declared.code.StepKind.{StepKind}
-use Rattle.sig_plan.specs.declared.code.StepKind.TheVariants.{Do, Send, Receive, Report, Collect, Commit}
-use Rattle.sig_plan.specs.declared.op.Op.{Op}
-use Rattle.sig_plan.specs.declared.parts.LinkInfo.{LinkInfo}
-use Rattle.sig_plan.proofs.Accepted.{plan_operations}
-use Rattle.sig_plan.proofs.LinkEnds.{ends_within, one_reader, one_writer}
-use Rattle.sig_plan.proofs.Naming.{step_names}
+use Rattle.sig_schedules.proofs.Common.{◌≡◌, ◌<◌, ◌≤◌, ◌-◌, ◌+◌, ◌++◌, ◌⊎◌, inl, inr, ℕ, suc, ℤ, pos, Bool, true, false, cond, List, [], ◌∷◌, length, refl, ap, sym, subst, ◌∙◌, arith, Contains, None, Option, Some, is_some, nat_lt, slice_get, unwrap_or, ◌==◌, eq-eqb, ltb-false, ltb-true, ne_eqb, Instant, IsPrefixOf, Seen, Trace, seen_at, OpId, SigId, signal_id, contains_at, AreFlowsFor, some_at, where_some, Actor, code_of, ended_at, guard_holds, moved_on, next_place, truths_of, Core, Given, acted, items_on, looked, stepped, take_first, turned, with_actor, with_items, word_before, Faults, Gives, Outcome, operated, outcome, IsActorOn, IsOnReference, Yield, fills, instant_at, read_at, sent_on, stored_at, taken_from, yielded_before, AtLimit, Goes, Stopped, carried, item_of, reaction_in, received, turn, turn_at, turn_by, turn_of_op, turn_with, Event, Act, Look, CodeView, Instruction, instructions_of, IsFor, NamesWithin, Operation, operations_in, IsAccepted, PlanView, numbers_of, Step, StepKind, Do, Send, Receive, Report, Collect, Commit, Op, LinkInfo, plan_operations, ends_within, one_reader, one_writer, step_names}
 use Rattle.sig_schedules.proofs.Amid.{guard_known, next_now, outputs_known, sent_known}
 use Rattle.sig_schedules.proofs.Coded.{actor_coded}
 use Rattle.sig_schedules.proofs.Collecting.{another_follows, commit_holds, commit_last, commits_alone, mapped_same}

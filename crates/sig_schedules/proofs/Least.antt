@@ -1,8 +1,5 @@
 -- All actors have ended, or one that runs is at a least place.
-use Rattle.std.proofs.Common.{◌≡◌, ◌⊎◌, inl, inr, ℕ, zero, suc, Bool, true, false, List, [], ◌∷◌, refl, ap, sym, subst, ◌∙◌, arith}
-use Rattle.std.specs.Prelude.{None, Some, slice_get}
-use Rattle.sig_base.specs.declared.place.Place.{Place}
-use Rattle.sig_model.specs.Actors.{Actor}
+use Rattle.sig_schedules.proofs.Common.{◌≡◌, ◌⊎◌, inl, inr, ℕ, zero, suc, Bool, true, false, List, [], ◌∷◌, refl, ap, sym, subst, ◌∙◌, arith, None, Some, slice_get, Place, Actor}
 use Rattle.sig_schedules.proofs.Words.{NotAfter, not_after_onward, total_places}
 
 abbrev pub AllEnded : List Actor → Type 0

@@ -1,3 +1,4 @@
+pub mod Common
 pub mod Amid
 pub mod Beginnings
 pub mod Bounds
@@ -33,3 +34,13 @@ pub mod Texts
 pub mod Turning
 pub mod Waiting
 pub mod Words
+pub use Common.*
+pub use Bounds.*
+pub use Enabled.*
+pub use Finished.*
+pub use Interleavings.*
+pub use Keeping.*
+pub use Opening.*
+pub use Runnables.*
+pub use Sound.*
+pub use Texts.*

@@ -1,21 +1,5 @@
 -- The writer and the reader of a link are its two ends.
-use Rattle.std.proofs.Common.{◌≡◌, ◌+◌, ◌*◌, ◌⊎◌, inl, inr, ℕ, ℤ, pos, Bool, true, false, cond, List, length, refl, ap, sym, subst, ◌∙◌}
-use Rattle.std.specs.Prelude.{None, Option, Some, slice_get, option_and_then, ◌==◌}
-use Rattle.std.proofs.lemmas.Bool.{eq-eqb, eqb-true}
-use Rattle.sig_base.specs.Traces.{Instant, seen_at}
-use Rattle.sig_base.specs.declared.ids.SigId.{SigId}
-use Rattle.sig_model.specs.Progress.{sent_on, taken_from}
-use Rattle.sig_model.specs.Turns.{carried, item_of}
-use Rattle.sig_plan.specs.Codes.{Instruction, under, unguarded}
-use Rattle.sig_plan.specs.Instructions.{CarriesFrom, IsFor, StandsAt, does, sends, receives, reports, collects, commits}
-use Rattle.sig_plan.specs.Operations.{Operation, operations_in}
-use Rattle.sig_plan.specs.Order.{Writes}
-use Rattle.sig_plan.specs.Plans.{IsAccepted, PlanView, numbers_of}
-use Rattle.sig_plan.specs.declared.code.StepKind.{StepKind}
-use Rattle.sig_plan.specs.declared.code.StepKind.TheVariants.{Do, Send, Receive, Report, Collect, Commit}
-use Rattle.sig_plan.specs.declared.parts.LinkInfo.{LinkInfo}
-use Rattle.sig_plan.proofs.Accepted.{plan_operations}
-use Rattle.sig_plan.proofs.LinkEnds.{paired, report_paired}
+use Rattle.sig_schedules.proofs.Common.{◌≡◌, ◌+◌, ◌*◌, ◌⊎◌, inl, inr, ℕ, ℤ, pos, Bool, true, false, cond, List, length, refl, ap, sym, subst, ◌∙◌, None, Option, Some, slice_get, option_and_then, ◌==◌, eq-eqb, eqb-true, Instant, seen_at, SigId, sent_on, taken_from, carried, item_of, Instruction, under, unguarded, CarriesFrom, IsFor, StandsAt, does, sends, receives, reports, collects, commits, Operation, operations_in, Writes, IsAccepted, PlanView, numbers_of, StepKind, Do, Send, Receive, Report, Collect, Commit, LinkInfo, plan_operations, paired, report_paired}
 use Rattle.sig_schedules.proofs.Ends.{IsItem, IsLinkEnd}
 
 when_some : (b : Bool) (v w : ℤ) → (let chosen : Option ℤ = cond b (Some v) None in chosen) ≡ Some w → b ≡ true

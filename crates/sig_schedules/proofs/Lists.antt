@@ -1,10 +1,5 @@
 -- Lists: fronts, what is chosen of them, and what is put into them.
-use Rattle.std.proofs.Common.{◌≡◌, ◌<◌, ◌++◌, inl, inr, ℕ, zero, suc, Bool, true, false, cond, List, [], ◌∷◌, set, take, refl, ap, sym, ◌∙◌, arith}
-use Rattle.std.specs.Prelude.{None, Option, Some, flat_map, option_to_list, slice_get, ◌==◌, ◌||◌}
-use Rattle.std.specs.List.{cons_option, filter_map, list_any}
-use Rattle.std.proofs.lemmas.Bool.{eq-eqb, ne_eqb}
-use Rattle.std.proofs.lemmas.List.{append-nil, append_assoc}
-use Rattle.sig_meaning.proofs.Numbers.{same_or_not}
+use Rattle.sig_schedules.proofs.Common.{◌≡◌, ◌<◌, ◌++◌, inl, inr, ℕ, zero, suc, Bool, true, false, cond, List, [], ◌∷◌, set, take, refl, ap, sym, ◌∙◌, arith, None, Option, Some, flat_map, option_to_list, slice_get, ◌==◌, ◌||◌, cons_option, filter_map, list_any, eq-eqb, ne_eqb, append-nil, append_assoc, same_or_not}
 
 pub taken_get : {A : Type 0} (s : ℕ) (xs : List A) (i : ℕ) (x : A) → slice_get (take s xs) i ≡ Some x → (i < s) × (slice_get xs i ≡ Some x)
 taken_get {A} zero xs i x is = absurd (let e : None ≡ Some x = is in cc)

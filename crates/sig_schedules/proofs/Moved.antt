@@ -1,15 +1,5 @@
 -- An actor that goes on to its next step, or to the next instant.
-use Rattle.std.proofs.Common.{◌≡◌, ◌<◌, ◌≤◌, ◌-◌, ◌+◌, ◌++◌, ℕ, suc, ℤ, Bool, true, false, cond, List, length, take, refl, ap, sym, ◌∙◌, arith}
-use Rattle.std.specs.Prelude.{None, Option, Some, flat_map, nat_lt, option_to_list, slice_get, ◌||◌, ◌&&◌}
-use Rattle.std.proofs.lemmas.Bool.{ltb-false, ltb-true}
-use Rattle.std.proofs.lemmas.List.{append-nil, append_assoc, take_all}
-use Rattle.sig_base.specs.Traces.{Instant, Trace, seen_at}
-use Rattle.sig_kernel.specs.KernelTraces.{last_of}
-use Rattle.sig_model.specs.Actors.{Actor, guard_holds, initial_in, moved_on, no_registers}
-use Rattle.sig_model.specs.Progress.{IsActorOn, Yield, fills, instant_at, is_filled, names, read_at, register_before, stored_at, yielded_before, yielded_in}
-use Rattle.sig_plan.specs.Codes.{CodeView}
-use Rattle.sig_plan.specs.Plans.{PlanView}
-use Rattle.sig_plan.specs.declared.code.Step.{Step}
+use Rattle.sig_schedules.proofs.Common.{◌≡◌, ◌<◌, ◌≤◌, ◌-◌, ◌+◌, ◌++◌, ℕ, suc, ℤ, Bool, true, false, cond, List, length, take, refl, ap, sym, ◌∙◌, arith, None, Option, Some, flat_map, nat_lt, option_to_list, slice_get, ◌||◌, ◌&&◌, ltb-false, ltb-true, append-nil, append_assoc, take_all, Instant, Trace, seen_at, last_of, Actor, guard_holds, initial_in, moved_on, no_registers, IsActorOn, Yield, fills, instant_at, is_filled, names, read_at, register_before, stored_at, yielded_before, yielded_in, CodeView, PlanView, Step}
 use Rattle.sig_schedules.proofs.Instants.{instants_to}
 use Rattle.sig_schedules.proofs.Lists.{any_push, chosen_push, joined_push, take_next}
 

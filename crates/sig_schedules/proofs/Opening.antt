@@ -1,14 +1,5 @@
 -- The opening state is on the reference.
-use Rattle.std.proofs.Common.{◌≡◌, ◌<◌, ◌≤◌, ◌-◌, ℕ, zero, suc, ℤ, true, false, List, [], length, get_or, replicate, take, refl, ap, sym, subst, ◌∙◌, arith}
-use Rattle.std.specs.Prelude.{Some, slice_get}
-use Rattle.std.proofs.lemmas.List.{length-replicate}
-use Rattle.sig_base.specs.Traces.{Trace}
-use Rattle.sig_model.specs.Actors.{Actor, code_of, opening_actor}
-use Rattle.sig_model.specs.Cores.{Given, opening}
-use Rattle.sig_model.specs.Progress.{IsActorOn, IsLinkOn, IsOnReference, reactions_of}
-use Rattle.sig_model.specs.References.{IsReference}
-use Rattle.sig_plan.specs.Plans.{IsAccepted, PlanView}
-use Rattle.sig_plan.specs.declared.parts.LinkInfo.{LinkInfo}
+use Rattle.sig_schedules.proofs.Common.{◌≡◌, ◌<◌, ◌≤◌, ◌-◌, ℕ, zero, suc, ℤ, true, false, List, [], length, get_or, replicate, take, refl, ap, sym, subst, ◌∙◌, arith, Some, slice_get, length-replicate, Trace, Actor, code_of, opening_actor, Given, opening, IsActorOn, IsLinkOn, IsOnReference, reactions_of, IsReference, IsAccepted, PlanView, LinkInfo}
 use Rattle.sig_schedules.proofs.Runnables.{is_runnable}
 
 pub repeated : {A : Type 0} (n k : ℕ) (a x : A) → slice_get (replicate n a) k ≡ Some x → (k < n) × (x ≡ a)

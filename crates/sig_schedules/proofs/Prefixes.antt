@@ -1,18 +1,5 @@
 -- What an end of a link gives or takes before a step begins what the link carries over the reference.
-use Rattle.std.proofs.Common.{◌≡◌, ◌≤◌, ◌-◌, ◌++◌, ℕ, ℤ, List, [], ◌∷◌, length, take, drop, ap, sym, ◌∙◌}
-use Rattle.std.specs.Prelude.{None, Option, Some, flat_map, slice_get, if◌then◌else◌}
-use Rattle.std.specs.List.{filter_map}
-use Rattle.std.proofs.lemmas.List.{append_assoc, append_cancel_left, take-append-drop}
-use Rattle.sig_base.specs.Traces.{Instant, IsPrefixOf, Trace, seen_at}
-use Rattle.sig_kernel.specs.Validity.{AreFlowsFor}
-use Rattle.sig_model.specs.Actors.{guard_holds}
-use Rattle.sig_model.specs.Progress.{Yield, instant_at, yielded_before, yielded_in}
-use Rattle.sig_model.specs.References.{IsReference}
-use Rattle.sig_plan.specs.Codes.{CodeView}
-use Rattle.sig_plan.specs.Plans.{IsAccepted, PlanView}
-use Rattle.sig_plan.specs.declared.code.Step.{Step}
-use Rattle.sig_plan.specs.declared.code.StepKind.{StepKind}
-use Rattle.sig_plan.specs.declared.parts.LinkInfo.{LinkInfo}
+use Rattle.sig_schedules.proofs.Common.{◌≡◌, ◌≤◌, ◌-◌, ◌++◌, ℕ, ℤ, List, [], ◌∷◌, length, take, drop, ap, sym, ◌∙◌, None, Option, Some, flat_map, slice_get, if◌then◌else◌, filter_map, append_assoc, append_cancel_left, take-append-drop, Instant, IsPrefixOf, Trace, seen_at, AreFlowsFor, guard_holds, Yield, instant_at, yielded_before, yielded_in, IsReference, CodeView, IsAccepted, PlanView, Step, StepKind, LinkInfo}
 use Rattle.sig_schedules.proofs.Ends.{IsLinkEnd, carried_at, in_instant}
 use Rattle.sig_schedules.proofs.Instants.{instants_to, next_at, next_some}
 use Rattle.sig_schedules.proofs.Lists.{chosen_append, joined_append, joined_push, joined_same, taken_get}

@@ -1,17 +1,5 @@
 -- No instruction of an actor stands twice.
-use Rattle.std.proofs.Common.{◌≡◌, ◌<◌, ◌≤◌, ◌+◌, ◌*◌, ◌++◌, ◌⊎◌, inl, inr, ℕ, zero, suc, Bool, true, false, List, [], ◌∷◌, length, map, refl, ap, sym, subst, ◌∙◌, arith, Contains}
-use Rattle.std.specs.Prelude.{None, Option, Some, flat_map, slice_get, ◌==◌, if◌then◌else◌}
-use Rattle.std.specs.List.{cons_option, enumerate_from, filter_map}
-use Rattle.std.proofs.lemmas.Bool.{cases_order}
-use Rattle.sig_base.specs.declared.ids.SigId.{SigId}
-use Rattle.sig_clock.proofs.Lists.{contains_at, contains_cons, contains_head, contains_later, contains_none}
-use Rattle.sig_plan.specs.Codes.{Instruction, at_end, at_number, instructions_of, is_signal, links_of, links_to, op_id, over_order, report_links, reports_of, under, unguarded}
-use Rattle.sig_plan.specs.Operations.{Operation}
-use Rattle.sig_plan.specs.Parts.{PartsView}
-use Rattle.sig_plan.specs.declared.code.StepKind.{StepKind}
-use Rattle.sig_plan.specs.declared.code.StepKind.TheVariants.{Do, Send, Receive, Report, Collect, Commit}
-use Rattle.sig_plan.specs.declared.parts.LinkInfo.{LinkInfo}
-use Rattle.sig_plan.proofs.Lists.{contains_either, mapped_from}
+use Rattle.sig_schedules.proofs.Common.{◌≡◌, ◌<◌, ◌≤◌, ◌+◌, ◌*◌, ◌++◌, ◌⊎◌, inl, inr, ℕ, zero, suc, Bool, true, false, List, [], ◌∷◌, length, map, refl, ap, sym, subst, ◌∙◌, arith, Contains, None, Option, Some, flat_map, slice_get, ◌==◌, if◌then◌else◌, cons_option, enumerate_from, filter_map, cases_order, SigId, contains_at, contains_cons, contains_head, contains_later, contains_none, Instruction, at_end, at_number, instructions_of, is_signal, links_of, links_to, op_id, over_order, report_links, reports_of, under, unguarded, Operation, PartsView, StepKind, Do, Send, Receive, Report, Collect, Commit, LinkInfo, contains_either, mapped_from}
 
 -- the link that an instruction names
 abbrev link_in : StepKind → ℕ

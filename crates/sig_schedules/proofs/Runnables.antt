@@ -1,29 +1,5 @@
 -- An accepted plan has what the code of its actors asks of it.
-use Rattle.std.proofs.Common.{◌≡◌, ◌<◌, ℕ, List, length, refl, sym, subst}
-use Rattle.std.specs.Prelude.{None, Option, Some, slice_get, option_and_then}
-use Rattle.sig_base.specs.declared.ids.EqId.{EqId}
-use Rattle.sig_clock.proofs.Lists.{get_within}
-use Rattle.sig_doing.proofs.Defining.{defined_local}
-use Rattle.sig_kernel.specs.Table.{target_of}
-use Rattle.sig_kernel.specs.declared.equation.Equation.{Equation}
-use Rattle.sig_meaning.proofs.Agreement.{some_at}
-use Rattle.sig_model.specs.Actors.{code_of}
-use Rattle.sig_model.specs.Operating.{defined_by}
-use Rattle.sig_model.specs.Runnable.{IsRunnable, IsThere}
-use Rattle.sig_model.specs.Turns.{carried}
-use Rattle.sig_plan.specs.Codes.{CodeView, ImpliesSlot, IsLastBelow}
-use Rattle.sig_plan.specs.Guards.{of_slot}
-use Rattle.sig_plan.specs.Operations.{operation_in, operations_in}
-use Rattle.sig_plan.specs.Plans.{IsAccepted, PlanView}
-use Rattle.sig_plan.specs.declared.code.Slot.{Slot}
-use Rattle.sig_plan.specs.declared.op.Op.{Op}
-use Rattle.sig_plan.specs.declared.parts.LinkInfo.{LinkInfo}
-use Rattle.sig_plan.proofs.Accepted.{plan_operations}
-use Rattle.sig_plan.proofs.Indices.{written_below}
-use Rattle.sig_plan.proofs.LinkEnds.{carrying_ends}
-use Rattle.sig_plan.proofs.Lists.{get_map}
-use Rattle.sig_plan.proofs.Naming.{step_slot}
-use Rattle.sig_plan.proofs.Slotted.{guard_alone, guard_held}
+use Rattle.sig_schedules.proofs.Common.{◌≡◌, ◌<◌, ℕ, List, length, refl, sym, subst, None, Option, Some, slice_get, option_and_then, EqId, get_within, defined_local, target_of, Equation, some_at, code_of, defined_by, IsRunnable, IsThere, carried, CodeView, ImpliesSlot, IsLastBelow, of_slot, operation_in, operations_in, IsAccepted, PlanView, Slot, Op, LinkInfo, plan_operations, written_below, carrying_ends, get_map, step_slot, guard_alone, guard_held}
 use Rattle.sig_schedules.proofs.Beginnings.{code_begins}
 use Rattle.sig_schedules.proofs.Coded.{code_is, slot_coded, step_coded}
 use Rattle.sig_schedules.proofs.Fillings.{fills_earlier}

@@ -1,19 +1,5 @@
 -- What a reader waits for, the writer sends at an equal position.
-use Rattle.std.proofs.Common.{◌≡◌, ◌<◌, ◌≤◌, ◌+◌, ◌*◌, ◌⊎◌, inl, inr, ℕ, ℤ, pos, true, cond, List, length, ap, sym, subst, ◌∙◌, arith}
-use Rattle.std.specs.Prelude.{None, Some, slice_get}
-use Rattle.sig_base.specs.Traces.{Instant, Trace, seen_at}
-use Rattle.sig_model.specs.Actors.{guard_holds, truths_of}
-use Rattle.sig_model.specs.Progress.{sent_on}
-use Rattle.sig_model.specs.Turns.{item_of}
-use Rattle.sig_plan.specs.Codes.{CodeView, Instruction, under, unguarded}
-use Rattle.sig_plan.specs.Instructions.{CarriesFrom, IsFor, StandsAt, does, sends, receives, reports, collects, commits}
-use Rattle.sig_plan.specs.Operations.{Operation, operations_in}
-use Rattle.sig_plan.specs.Plans.{IsAccepted, PlanView, numbers_of}
-use Rattle.sig_plan.specs.declared.code.Step.{Step}
-use Rattle.sig_plan.specs.declared.code.StepKind.TheVariants.{Do, Send, Receive, Report, Collect, Commit}
-use Rattle.sig_plan.specs.declared.parts.LinkInfo.{LinkInfo}
-use Rattle.sig_plan.proofs.Accepted.{plan_operations}
-use Rattle.sig_plan.proofs.LinkEnds.{ends_within, writer_cluster}
+use Rattle.sig_schedules.proofs.Common.{◌≡◌, ◌<◌, ◌≤◌, ◌+◌, ◌*◌, ◌⊎◌, inl, inr, ℕ, ℤ, pos, true, cond, List, length, ap, sym, subst, ◌∙◌, arith, None, Some, slice_get, Instant, Trace, seen_at, guard_holds, truths_of, sent_on, item_of, CodeView, Instruction, under, unguarded, CarriesFrom, IsFor, StandsAt, does, sends, receives, reports, collects, commits, Operation, operations_in, IsAccepted, PlanView, numbers_of, Step, Do, Send, Receive, Report, Collect, Commit, LinkInfo, plan_operations, ends_within, writer_cluster}
 use Rattle.sig_schedules.proofs.Ends.{IsItem}
 use Rattle.sig_schedules.proofs.Linking.{writer_end}
 use Rattle.sig_schedules.proofs.Moved.{chosen_of}

@@ -1,30 +1,5 @@
 -- Each event leaves a sound state sound: no actor goes past a fault.
-use Rattle.std.proofs.Common.{◌≡◌, ◌<◌, ◌≤◌, ◌++◌, ◌⊎◌, inl, inr, ℕ, ℤ, Bool, true, false, cond, List, [], ◌∷◌, length, set, refl, ap, sym, subst, ◌∙◌, arith}
-use Rattle.std.specs.Prelude.{None, Option, Some, nat_lt, slice_get}
-use Rattle.std.proofs.lemmas.Bool.{ltb-false}
-use Rattle.sig_base.specs.Traces.{Instant, Trace, seen_at}
-use Rattle.sig_base.specs.declared.ids.OpId.{OpId}
-use Rattle.sig_base.specs.declared.place.Place.{Place}
-use Rattle.sig_clock.proofs.Lists.{get_within}
-use Rattle.sig_kernel.specs.Validity.{AreFlowsFor}
-use Rattle.sig_meaning.proofs.Agreement.{some_at}
-use Rattle.sig_meaning.proofs.Numbers.{at_most_or, same_or_not}
-use Rattle.sig_model.specs.Actors.{Actor, code_of, ended_at, guard_holds, moved_on, next_place}
-use Rattle.sig_model.specs.Cores.{Core, Given, acted, is_before, items_on, lesser, looked, stepped, take_first, turned, with_actor, with_items, word_before}
-use Rattle.sig_model.specs.Operating.{Faults, Gives, Outcome, operated, outcome}
-use Rattle.sig_model.specs.Progress.{IsActorOn, IsFaulty, IsOnReference, instant_at}
-use Rattle.sig_model.specs.Turns.{AtLimit, Goes, Stopped, carried, item_of, received, turn, turn_at, turn_by, turn_of_op, turn_with}
-use Rattle.sig_model.specs.declared.event.Event.{Event}
-use Rattle.sig_model.specs.declared.event.Event.TheVariants.{Act, Look}
-use Rattle.sig_plan.specs.Codes.{CodeView}
-use Rattle.sig_plan.specs.Instructions.{NamesWithin}
-use Rattle.sig_plan.specs.Plans.{IsAccepted, PlanView}
-use Rattle.sig_plan.specs.declared.code.Step.{Step}
-use Rattle.sig_plan.specs.declared.code.StepKind.{StepKind}
-use Rattle.sig_plan.specs.declared.code.StepKind.TheVariants.{Do, Send, Receive, Report, Collect, Commit}
-use Rattle.sig_plan.specs.declared.op.Op.{Op}
-use Rattle.sig_plan.proofs.Naming.{step_names}
-use Rattle.sig_schedules.specs.Soundness.{IsPast, IsSound, IsSoundActor}
+use Rattle.sig_schedules.proofs.Common.{◌≡◌, ◌<◌, ◌≤◌, ◌++◌, ◌⊎◌, inl, inr, ℕ, ℤ, Bool, true, false, cond, List, [], ◌∷◌, length, set, refl, ap, sym, subst, ◌∙◌, arith, None, Option, Some, nat_lt, slice_get, ltb-false, Instant, Trace, seen_at, OpId, Place, get_within, AreFlowsFor, some_at, at_most_or, same_or_not, Actor, code_of, ended_at, guard_holds, moved_on, next_place, Core, Given, acted, is_before, items_on, lesser, looked, stepped, take_first, turned, with_actor, with_items, word_before, Faults, Gives, Outcome, operated, outcome, IsActorOn, IsFaulty, IsOnReference, instant_at, AtLimit, Goes, Stopped, carried, item_of, received, turn, turn_at, turn_by, turn_of_op, turn_with, Event, Act, Look, CodeView, NamesWithin, IsAccepted, PlanView, Step, StepKind, Do, Send, Receive, Report, Collect, Commit, Op, step_names, IsPast, IsSound, IsSoundActor}
 use Rattle.sig_schedules.proofs.Amid.{guard_known}
 use Rattle.sig_schedules.proofs.Faultless.{done_fault, fault_here, passed_fault}
 use Rattle.sig_schedules.proofs.Lists.{put_elsewhere, put_here, set_get}

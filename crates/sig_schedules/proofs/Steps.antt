@@ -1,26 +1,5 @@
 -- The steps of an actor's code, and what they are for.
-use Rattle.std.proofs.Common.{◌≡◌, ◌<◌, ◌*◌, ◌⊎◌, inl, inr, ℕ, Bool, List, length, refl, ap, sym, subst, ◌∙◌, arith, Contains}
-use Rattle.std.specs.Prelude.{Some, slice_get}
-use Rattle.std.proofs.lemmas.Bool.{cases_order}
-use Rattle.sig_base.specs.declared.ids.OpId.{OpId}
-use Rattle.sig_clock.proofs.Lists.{at_contained, contains_at}
-use Rattle.sig_meaning.proofs.Agreement.{some_at}
-use Rattle.sig_meaning.proofs.References.{got}
-use Rattle.sig_model.specs.Actors.{Registers, guard_holds, slot_holds, truths_of}
-use Rattle.sig_plan.specs.Codes.{CodeView, Instruction, instructions_of}
-use Rattle.sig_plan.specs.Instructions.{IsFor, StandsAt, does, sends, receives, reports, collects, commits}
-use Rattle.sig_plan.specs.Operations.{Operation, operation_in, operations_in}
-use Rattle.sig_plan.specs.Order.{Precedes}
-use Rattle.sig_plan.specs.Plans.{IsAccepted, PlanView, numbers_of}
-use Rattle.sig_plan.specs.declared.code.Slot.{Slot}
-use Rattle.sig_plan.specs.declared.code.Step.{Step}
-use Rattle.sig_plan.specs.declared.code.StepKind.TheVariants.{Do, Send, Receive, Report, Collect, Commit}
-use Rattle.sig_plan.specs.declared.op.Op.{Op}
-use Rattle.sig_plan.proofs.Instructing.{instruction_for}
-use Rattle.sig_plan.proofs.Lists.{get_map}
-use Rattle.sig_plan.proofs.Naming.{step_instruction}
-use Rattle.sig_plan.proofs.Orders.{stands_once}
-use Rattle.sig_plan.proofs.Positions.{positions_rise}
+use Rattle.sig_schedules.proofs.Common.{◌≡◌, ◌<◌, ◌*◌, ◌⊎◌, inl, inr, ℕ, Bool, List, length, refl, ap, sym, subst, ◌∙◌, arith, Contains, Some, slice_get, cases_order, OpId, at_contained, contains_at, some_at, got, Registers, guard_holds, slot_holds, truths_of, CodeView, Instruction, instructions_of, IsFor, StandsAt, does, sends, receives, reports, collects, commits, Operation, operation_in, operations_in, Precedes, IsAccepted, PlanView, numbers_of, Slot, Step, Do, Send, Receive, Report, Collect, Commit, Op, instruction_for, get_map, step_instruction, stands_once, positions_rise}
 use Rattle.sig_schedules.proofs.Ranks.{instruction_once}
 
 do_same : (a b : OpId) → Do a ≡ Do b → a.0 ≡ b.0

@@ -1,23 +1,6 @@
 -- The memory of a delay is stored into by one operation, of the cluster of the delay's signal.
-use Rattle.std.proofs.Common.{◌≡◌, ◌<◌, ◌≤◌, ◌+◌, ◌++◌, inl, inr, ℕ, zero, suc, ℤ, Bool, true, false, List, [], ◌∷◌, map, refl, ap, sym, ◌∙◌, arith, Contains}
-use Rattle.std.specs.Prelude.{All, Some, slice_get, ◌==◌}
-use Rattle.std.specs.List.{range_with_len}
-use Rattle.std.proofs.lemmas.Bool.{eq-eqb, ne_eqb}
-use Rattle.std.proofs.lemmas.List.Elements.{All-cons, All-contains, All-nil}
-use Rattle.sig_base.specs.declared.ids.EqId.{EqId}
-use Rattle.sig_base.specs.declared.ids.SigId.{SigId}
-use Rattle.sig_clock.specs.Conditions.{signal_id}
-use Rattle.sig_kernel.specs.declared.equation.Equation.{Equation}
-use Rattle.sig_kernel.specs.declared.equation.Form.{Form}
-use Rattle.sig_kernel.specs.declared.equation.Form.TheVariants.{Fun, Delay, When, WhenConst, Default, Sync, Event}
-use Rattle.sig_kernel.specs.declared.kernel.Kernel.{Kernel}
-use Rattle.sig_meaning.proofs.Numbers.{same_or_not}
-use Rattle.sig_meaning.proofs.Values.{form_for, has_form}
-use Rattle.sig_plan.specs.Operations.{Operation, Presence, cluster_at, equation_id, of_each, operations_of, read_of, signals_of, store_of, stores_of, without, writes_of, writing}
-use Rattle.sig_plan.specs.declared.op.OpKind.{OpKind}
-use Rattle.sig_plan.specs.declared.op.OpKind.TheVariants.{Read, Compute, Left, Right, DelayRead, Store}
-use Rattle.sig_plan.proofs.Counting.{one_of, one_place, tally, tally_append, tally_cons, tally_none}
-use Rattle.sig_plan.proofs.EachOperation.{each_operation, only}
+use Rattle.sig_schedules.proofs.Common.{◌≡◌, ◌<◌, ◌≤◌, ◌+◌, ◌++◌, inl, inr, ℕ, zero, suc, ℤ, Bool, true, false, List, [], ◌∷◌, map, refl, ap, sym, ◌∙◌, arith, Contains, All, Some, slice_get, ◌==◌, range_with_len, eq-eqb, ne_eqb, All-cons, All-contains, All-nil, EqId, SigId, signal_id, Equation, Form, Fun, Delay, When, WhenConst, Default, Sync, Kernel, same_or_not, form_for, has_form, Operation, Presence, cluster_at, equation_id, of_each, operations_of, read_of, signals_of, store_of, stores_of, without, writes_of, writing, OpKind, Read, Compute, Left, Right, DelayRead, Store, one_of, one_place, tally, tally_append, tally_cons, tally_none, each_operation, only}
+use Rattle.sig_kernel.specs.declared.equation.Form.TheVariants.{Event}
 
 -- an operation stores into the memory of the delay of a number
 abbrev is_store : ℕ → OpKind → Bool

@@ -1,19 +1,5 @@
 -- The text that is committed begins that of the reference.
-use Rattle.std.proofs.Common.{◌≡◌, ◌-◌, ◌++◌, [], ◌∷◌, length, map, take, drop, refl, ap, sym, ◌∙◌, arith}
-use Rattle.std.specs.Prelude.{Some, slice_get}
-use Rattle.std.specs.List.{range_with_len}
-use Rattle.std.proofs.lemmas.List.{length-drop, length-take, take-append-drop}
-use Rattle.sig_base.specs.Traces.{Instant, IsPrefixOf, Trace, seen_at}
-use Rattle.sig_doing.proofs.Lines.{dropped_at, same_lines}
-use Rattle.sig_kernel.specs.OutputText.{instant_text, output_text, outputs_of, seen_lines}
-use Rattle.sig_kernel.specs.Validity.{IsValid}
-use Rattle.sig_kernel.specs.declared.kernel.Kernel.{Kernel}
-use Rattle.sig_meaning.proofs.Agreement.{some_at}
-use Rattle.sig_model.specs.Actors.{Actor}
-use Rattle.sig_model.specs.Cores.{Core, Given, reactions_text}
-use Rattle.sig_model.specs.Progress.{IsOnReference, reactions_of}
-use Rattle.sig_model.specs.Turns.{reaction_in}
-use Rattle.sig_plan.specs.Plans.{IsAccepted}
+use Rattle.sig_schedules.proofs.Common.{◌≡◌, ◌-◌, ◌++◌, [], ◌∷◌, length, map, take, drop, refl, ap, sym, ◌∙◌, arith, Some, slice_get, range_with_len, length-drop, length-take, take-append-drop, Instant, IsPrefixOf, Trace, seen_at, dropped_at, same_lines, instant_text, output_text, outputs_of, seen_lines, IsValid, Kernel, some_at, Actor, Core, Given, reactions_text, IsOnReference, reactions_of, reaction_in, IsAccepted}
 use Rattle.sig_schedules.proofs.Lists.{joined_append}
 
 module _ (kernel : Kernel) (valid : IsValid kernel) where

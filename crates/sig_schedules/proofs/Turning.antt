@@ -1,20 +1,5 @@
 -- A state stays on the reference where an actor ends, or goes on.
-use Rattle.std.proofs.Common.{◌≡◌, ◌<◌, ◌≤◌, ◌-◌, ◌+◌, ◌++◌, inl, inr, ℕ, suc, ℤ, true, false, List, [], ◌∷◌, length, get_or, set, take, refl, ap, sym, subst, ◌∙◌, arith}
-use Rattle.std.specs.Prelude.{None, Option, Some, option_to_list, slice_get}
-use Rattle.std.proofs.lemmas.List.{append_assoc, get_or-set_other, get_or-set_same, length-append, length-set, map_push}
-use Rattle.sig_base.specs.Traces.{Instant, Trace, seen_at}
-use Rattle.sig_base.specs.declared.place.Place.{Place}
-use Rattle.sig_clock.proofs.Lists.{get_within}
-use Rattle.sig_kernel.specs.Validity.{AreFlowsFor}
-use Rattle.sig_meaning.proofs.Numbers.{same_or_not}
-use Rattle.sig_model.specs.Actors.{Actor, code_of, ended_at, moved_on, next_place}
-use Rattle.sig_model.specs.Cores.{Core, Given, items_on, lesser, with_actor, with_items}
-use Rattle.sig_model.specs.Progress.{HasReason, IsActorOn, IsFaulty, IsLinkOn, IsOnReference, IsWordOn, Yield, instant_at, reactions_of, sent_on, taken_from, yielded_before}
-use Rattle.sig_model.specs.Turns.{Reaction, reaction_in}
-use Rattle.sig_plan.specs.Codes.{CodeView}
-use Rattle.sig_plan.specs.Plans.{IsAccepted, PlanView}
-use Rattle.sig_plan.specs.declared.code.Step.{Step}
-use Rattle.sig_plan.specs.declared.parts.LinkInfo.{LinkInfo}
+use Rattle.sig_schedules.proofs.Common.{◌≡◌, ◌<◌, ◌≤◌, ◌-◌, ◌+◌, ◌++◌, inl, inr, ℕ, suc, ℤ, true, false, List, [], ◌∷◌, length, get_or, set, take, refl, ap, sym, subst, ◌∙◌, arith, None, Option, Some, option_to_list, slice_get, append_assoc, get_or-set_other, get_or-set_same, length-append, length-set, map_push, Instant, Trace, seen_at, Place, get_within, AreFlowsFor, same_or_not, Actor, code_of, ended_at, moved_on, next_place, Core, Given, items_on, lesser, with_actor, with_items, HasReason, IsActorOn, IsFaulty, IsLinkOn, IsOnReference, IsWordOn, Yield, instant_at, reactions_of, sent_on, taken_from, yielded_before, Reaction, reaction_in, CodeView, IsAccepted, PlanView, Step, LinkInfo}
 use Rattle.sig_schedules.proofs.Changing.{IsChange, changed_on, commits_stay, same_actor, yields, yields_grow, yields_stay}
 use Rattle.sig_schedules.proofs.Coded.{actor_coded}
 use Rattle.sig_schedules.proofs.Going.{behind_is, behind_same}

@@ -1,26 +1,5 @@
 -- An actor that cannot go on waits for room on a link, or for an item.
-use Rattle.std.proofs.Common.{◌≡◌, ◌<◌, ◌≤◌, ◌+◌, ◌++◌, ◌⊎◌, inl, inr, ℕ, ℤ, pos, Bool, true, false, cond, List, [], ◌∷◌, length, set, refl, ap, sym, subst, ◌∙◌, arith}
-use Rattle.std.specs.Prelude.{None, Option, Some, nat_lt, slice_get}
-use Rattle.std.proofs.lemmas.Bool.{eq-eqb, ltb-false}
-use Rattle.std.proofs.lemmas.List.{length-append}
-use Rattle.sig_base.specs.Traces.{Instant, Trace, seen_at}
-use Rattle.sig_kernel.specs.Validity.{AreFlowsFor}
-use Rattle.sig_meaning.proofs.Agreement.{some_at}
-use Rattle.sig_meaning.proofs.Numbers.{at_most_or}
-use Rattle.sig_model.specs.Actors.{Actor, code_of, ended_at, guard_holds, moved_on}
-use Rattle.sig_model.specs.Cores.{Core, Given, items_on, take_first, turned, with_actor, with_items}
-use Rattle.sig_model.specs.Operating.{Faults, Gives, Outcome, operated, outcome}
-use Rattle.sig_model.specs.Progress.{IsActorOn, IsOnReference, Yield, instant_at, sent_on, taken_from, yielded_before}
-use Rattle.sig_model.specs.Turns.{AtLimit, Goes, Stopped, carried, item_of, received, turn, turn_at, turn_by, turn_of_op, turn_with}
-use Rattle.sig_plan.specs.Codes.{CodeView}
-use Rattle.sig_plan.specs.Instructions.{NamesWithin}
-use Rattle.sig_plan.specs.Plans.{IsAccepted, PlanView}
-use Rattle.sig_plan.specs.declared.code.Step.{Step}
-use Rattle.sig_plan.specs.declared.code.StepKind.{StepKind}
-use Rattle.sig_plan.specs.declared.code.StepKind.TheVariants.{Do, Send, Receive, Report, Collect, Commit}
-use Rattle.sig_plan.specs.declared.op.Op.{Op}
-use Rattle.sig_plan.specs.declared.parts.LinkInfo.{LinkInfo}
-use Rattle.sig_plan.proofs.Naming.{step_names}
+use Rattle.sig_schedules.proofs.Common.{◌≡◌, ◌<◌, ◌≤◌, ◌+◌, ◌++◌, ◌⊎◌, inl, inr, ℕ, ℤ, pos, Bool, true, false, cond, List, [], ◌∷◌, length, set, refl, ap, sym, subst, ◌∙◌, arith, None, Option, Some, nat_lt, slice_get, eq-eqb, ltb-false, length-append, Instant, Trace, seen_at, AreFlowsFor, some_at, at_most_or, Actor, code_of, ended_at, guard_holds, moved_on, Core, Given, items_on, take_first, turned, with_actor, with_items, Faults, Gives, Outcome, operated, outcome, IsActorOn, IsOnReference, Yield, instant_at, sent_on, taken_from, yielded_before, AtLimit, Goes, Stopped, carried, item_of, received, turn, turn_at, turn_by, turn_of_op, turn_with, CodeView, NamesWithin, IsAccepted, PlanView, Step, StepKind, Do, Send, Receive, Report, Collect, Commit, Op, LinkInfo, step_names}
 use Rattle.sig_schedules.proofs.Amid.{guard_known}
 use Rattle.sig_schedules.proofs.Counts.{all_given, carried_next, carried_rises, counted, given_behind, none_before}
 use Rattle.sig_schedules.proofs.Going.{done_chosen}

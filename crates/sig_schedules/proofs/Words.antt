@@ -1,13 +1,5 @@
 -- The failure word only becomes less.
-use Rattle.std.proofs.Common.{◌≡◌, ◌<◌, ◌≤◌, ◌⊎◌, inl, inr, Bool, true, false, not, cond, refl, ap, sym, ◌∙◌, arith}
-use Rattle.std.specs.Prelude.{None, Option, Some, nat_lt, ◌==◌, ◌&&◌}
-use Rattle.std.proofs.lemmas.Bool.{and_from, and_parts, cases_lt, cases_order, eq-eqb, eqb-true, false_from_ne_true, lt-ltb, ltb-true, or_cases, or_left, or_right}
-use Rattle.sig_base.specs.Traces.{Trace}
-use Rattle.sig_base.specs.declared.place.Place.{Place}
-use Rattle.sig_model.specs.Actors.{Actor, next_place}
-use Rattle.sig_model.specs.Cores.{Given, is_before, lesser, word_before}
-use Rattle.sig_model.specs.Progress.{HasReason, IsFaulty, IsWordOn, reached_by}
-use Rattle.sig_plan.specs.Codes.{CodeView}
+use Rattle.sig_schedules.proofs.Common.{◌≡◌, ◌<◌, ◌≤◌, ◌⊎◌, inl, inr, Bool, true, false, not, cond, refl, ap, sym, ◌∙◌, arith, None, Option, Some, nat_lt, ◌==◌, ◌&&◌, and_from, and_parts, cases_lt, cases_order, eq-eqb, eqb-true, false_from_ne_true, lt-ltb, ltb-true, or_cases, or_left, or_right, Trace, Place, Actor, next_place, Given, is_before, lesser, word_before, HasReason, IsFaulty, IsWordOn, reached_by, CodeView}
 
 abbrev Before : Place → Place → Type 0
 Before a b = (a.instant < b.instant) ⊎ ((a.instant ≡ b.instant) × (a.pos < b.pos))

@@ -1,9 +1,6 @@
 -- Events that change the state, and how far all actors have gone.
-use Rattle.std.specs.Prelude.{◌+◌, ◌-◌, ◌*◌, ℕ, List, [], ◌∷◌, length, ⊤, if◌then◌else◌}
-use Rattle.sig_model.specs.Actors.{Actor}
-use Rattle.sig_model.specs.Cores.{Core, Given, IsEnabled, stepped}
-use Rattle.sig_model.specs.declared.event.Event.{Event}
-use Rattle.sig_plan.specs.Codes.{CodeView}
+use Rattle.std.specs.Prelude.{◌+◌, ◌-◌, ◌*◌, ◌∷◌, if◌then◌else◌}
+use Rattle.sig_schedules.specs.Prelude.{ℕ, List, [], length, ⊤, Actor, Core, Given, IsEnabled, stepped, Event, CodeView}
 
 -- each event changes the state that those before it leave
 abbrev pub AllChange : Given → Core → List Event → Type 0

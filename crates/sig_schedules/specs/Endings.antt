@@ -1,10 +1,6 @@
 -- What a state has where all actors have ended.
-use Rattle.std.specs.Prelude.{◌≡◌, false, Option, None, Some}
-use Rattle.sig_base.specs.Traces.{Trace}
-use Rattle.sig_base.specs.declared.place.Place.{Place}
-use Rattle.sig_model.specs.Cores.{Core, Given, cause_of, is_before}
-use Rattle.sig_model.specs.Progress.{reactions_of}
-use Rattle.sig_plan.specs.declared.ended.Ended.{Ended}
+use Rattle.std.specs.Prelude.{◌≡◌}
+use Rattle.sig_schedules.specs.Prelude.{false, Option, None, Some, Trace, Place, Core, Given, cause_of, is_before, reactions_of, Ended}
 
 -- A state has an end: it has committed the trace, the word is the place of the cause, and names that cause.
 pub record HasEnd (given : Given) (core : Core) (trace : Trace) (place : Option Place) (ended : Ended) : Type 0 where

@@ -1,15 +1,6 @@
 -- Beside a state on the reference: no actor has gone past a fault.
-use Rattle.std.specs.Prelude.{◌≡◌, ◌<◌, ◌≤◌, ◌⊎◌, ℕ, ℤ, List, slice_get, Some}
-use Rattle.sig_base.specs.Traces.{Trace}
-use Rattle.sig_base.specs.declared.ids.OpId.{OpId}
-use Rattle.sig_base.specs.declared.place.Place.{Place}
-use Rattle.sig_model.specs.Actors.{Actor, code_of}
-use Rattle.sig_model.specs.Cores.{Core, Given}
-use Rattle.sig_model.specs.Progress.{IsFaulty}
-use Rattle.sig_plan.specs.Codes.{CodeView}
-use Rattle.sig_plan.specs.Plans.{PlanView}
-use Rattle.sig_plan.specs.declared.code.Step.{Step}
-use Rattle.sig_plan.specs.declared.code.StepKind.TheVariants.{Do}
+use Rattle.std.specs.Prelude.{◌≡◌, ◌<◌, ◌≤◌, ◌⊎◌}
+use Rattle.sig_schedules.specs.Prelude.{ℕ, ℤ, List, slice_get, Some, Trace, OpId, Place, Actor, code_of, Core, Given, IsFaulty, CodeView, PlanView, Step, Do}
 
 -- the actor is behind the step s of the instant i
 abbrev pub IsPast : ℕ → ℕ → Actor → Type 0

@@ -1,15 +1,8 @@
 //! Laws of all actors of an accepted plan, in any schedule: what each event keeps, and that events go on
 //! until all actors have ended. The function of a law does nothing when it runs.
 
-ghost use Rattle.std.specs.Prelude.{◌≡◌, ◌≤◌, ◌+◌, ◌*◌, ℕ, List, length};
-ghost use Rattle.sig_base.specs.Traces.{Trace};
-ghost use Rattle.sig_kernel.specs.Validity.{AreFlowsFor};
-ghost use Rattle.sig_model.specs.Cores.{Core, Given, IsEnabled, IsFinished, after, opening, stepped};
-ghost use Rattle.sig_model.specs.Progress.{IsOnReference};
-ghost use Rattle.sig_model.specs.References.{IsReference};
-ghost use Rattle.sig_model.specs.Runnable.{IsRunnable};
-ghost use Rattle.sig_model.specs.declared.event.Event.{Event};
-ghost use Rattle.sig_plan.specs.Plans.{IsAccepted, PlanView};
+ghost use Rattle.std.specs.Prelude.{◌≡◌, ◌≤◌, ◌+◌, ◌*◌};
+ghost use Rattle.sig_schedules.specs.Prelude.{ℕ, List, length, Trace, AreFlowsFor, Core, Given, IsEnabled, IsFinished, after, opening, stepped, IsOnReference, IsReference, IsRunnable, Event, IsAccepted, PlanView};
 ghost use Rattle.sig_schedules.specs.Changes.{AllChange, all_gone, steps_in};
 ghost use Rattle.sig_schedules.specs.Soundness.{IsSound};
 
@@ -68,10 +61,14 @@ pub fn events_are_enabled_until_all_have_ended()
 
 /// A law: an event that changes the state moves one actor on by a step, or ends one. So no list of events
 /// from the opening that each change it is longer than the steps of all codes, times the limit, and the
-/// actors; and behind every interleaving no more steps and ends are done than that.
+/// actors, nor is one from a state that has the actors of a reached one; and behind every interleaving no
+/// more steps and ends are done than that.
 pub fn lists_of_changes_are_bounded()
     ensures lists { (given : Given) → IsAccepted given.plan → (events : List Event)
         → AllChange given (opening given.plan) events
+        → length events ≤ given.limit * steps_in given.plan.codes + length given.plan.codes }
+    ensures behind { (given : Given) → IsAccepted given.plan → (before : List Event) (core : Core)
+        → core.actors ≡ (after given before).actors → (events : List Event) → AllChange given core events
         → length events ≤ given.limit * steps_in given.plan.codes + length given.plan.codes }
     ensures changes { (given : Given) → IsAccepted given.plan → (events : List Event) (event : Event)
         → IsEnabled given (after given events) event

@@ -1,18 +1,8 @@
 //! Laws of what is committed in any schedule, and of the end of a run. The function of a law does nothing
 //! when it runs.
 
-ghost use Rattle.std.specs.Prelude.{◌≡◌, ◌+◌, ◌-◌, ℕ, List, length, take, slice_get, Option, Some};
-ghost use Rattle.sig_base.specs.Traces.{IsPrefixOf, Trace};
-ghost use Rattle.sig_base.specs.declared.place.Place.{Place};
-ghost use Rattle.sig_kernel.specs.OutputText.{output_text};
-ghost use Rattle.sig_kernel.specs.Validity.{AreFlowsFor};
-ghost use Rattle.sig_model.specs.Actors.{Actor};
-ghost use Rattle.sig_model.specs.Causes.{IsEnd};
-ghost use Rattle.sig_model.specs.Cores.{Core, Given, IsFinished, after, reactions_text};
-ghost use Rattle.sig_model.specs.Progress.{IsOnReference, reactions_of};
-ghost use Rattle.sig_model.specs.declared.event.Event.{Event};
-ghost use Rattle.sig_plan.specs.Plans.{IsAccepted};
-ghost use Rattle.sig_plan.specs.declared.ended.Ended.{Ended};
+ghost use Rattle.std.specs.Prelude.{◌≡◌, ◌+◌, ◌-◌};
+ghost use Rattle.sig_schedules.specs.Prelude.{ℕ, List, length, take, slice_get, Option, Some, IsPrefixOf, Trace, Place, output_text, AreFlowsFor, Actor, IsEnd, Core, Given, IsFinished, after, reactions_text, IsOnReference, reactions_of, Event, IsAccepted, Ended};
 ghost use Rattle.sig_schedules.specs.Endings.{HasEnd, IsNotBefore};
 ghost use Rattle.sig_schedules.specs.Soundness.{IsSound};
 

@@ -1,28 +1,5 @@
 -- The actors do all their own steps, one at a time.
-use Rattle.std.proofs.Common.{◌≡◌, ◌<◌, ◌≤◌, ◌+◌, ◌++◌, ◌⊎◌, inl, inr, ℕ, zero, suc, ℤ, false, List, [], ◌∷◌, length, get_or, replicate, refl, ap, sym, subst, ◌∙◌, arith}
-use Rattle.std.specs.Prelude.{Some, fold, slice_get}
-use Rattle.std.proofs.lemmas.Bool.{cases_lt}
-use Rattle.std.proofs.lemmas.List.{append_cancel_left, ext_get_or, length-replicate}
-use Rattle.sig_base.specs.Traces.{Trace}
-use Rattle.sig_kernel.specs.Validity.{AreFlowsFor}
-use Rattle.sig_meaning.proofs.Agreement.{some_at}
-use Rattle.sig_meaning.proofs.Ending.{fitting}
-use Rattle.sig_meaning.proofs.Numbers.{same_or_not}
-use Rattle.sig_meaning.proofs.References.{some_reference}
-use Rattle.sig_base.specs.declared.place.Place.{Place}
-use Rattle.sig_model.specs.Actors.{Actor, code_of, opening_actor, with_at}
-use Rattle.sig_model.specs.Cores.{Core, Given, after, opening, stepped}
-use Rattle.sig_model.specs.Progress.{IsOnReference}
-use Rattle.sig_model.specs.References.{IsReference}
-use Rattle.sig_model.specs.declared.event.Event.TheVariants.{Act}
-use Rattle.sig_plan.specs.Codes.{CodeView}
-use Rattle.sig_plan.specs.Plans.{IsAccepted}
-use Rattle.sig_schedules.proofs.Keeping.{stepped_on}
-use Rattle.sig_schedules.proofs.Opening.{opening_on, repeated}
-use Rattle.sig_schedules.proofs.Turning.{coded}
-use Rattle.sig_schedules.proofs.Words.{NotAfter, not_after_onward}
-use Rattle.sig_settling.specs.OwnSteps.{LeadBy, Own, opening_own}
-use Rattle.sig_settling.specs.Settled.{AreBalanced, AreInOrder, HasActed, acts, collector_of}
+use Rattle.sig_settling.proofs.Common.{◌≡◌, ◌<◌, ◌≤◌, ◌+◌, ◌++◌, ◌⊎◌, inl, inr, ℕ, zero, suc, ℤ, Bool, true, false, cond, eq-eqb, ne_eqb, sum_by-cons, ◌==◌, List, [], ◌∷◌, length, get_or, replicate, refl, ap, sym, subst, ◌∙◌, arith, Some, fold, slice_get, cases_lt, append_cancel_left, ext_get_or, length-replicate, Trace, AreFlowsFor, some_at, fitting, same_or_not, some_reference, Place, Actor, code_of, opening_actor, with_at, AllChange, IsEnabled, Core, Given, after, opening, stepped, IsOnReference, IsReference, Act, CodeView, IsAccepted, stepped_on, opening_on, repeated, coded, NotAfter, not_after_onward, LeadBy, Own, opening_own, ActInOrder, AreBalanced, HasActed, acts, collector_of, times_among}
 use Rattle.sig_settling.proofs.Amid.{IsAmid, amid_next, at_here, at_other, ends_there}
 use Rattle.sig_settling.proofs.Failures.{least_same}
 use Rattle.sig_settling.proofs.Going.{CanAct, lead, rank, runs, some_acts}
@@ -30,6 +7,9 @@ use Rattle.sig_settling.proofs.Least.{LeastLeft, some_left}
 use Rattle.sig_settling.proofs.Moving.{left_runs, own_step_moves, rank_rises}
 use Rattle.sig_settling.proofs.Ordering.{InOrderFrom, NoneBelow, in_order, rank_of}
 use Rattle.sig_settling.proofs.Tells.{turn_tells}
+
+abbrev one_if : Bool → ℕ
+one_if b = cond b 1 0
 
 -- how many steps are left of so many actors
 abbrev pub total : (ℕ → ℕ) → ℕ → ℕ
@@ -77,6 +57,9 @@ module _ (given : Given) (accepted : IsAccepted given.plan) (fit : AreFlowsFor g
     -- in order, and of ranks that are not below those at which the actors stood that had steps left
     pub order : InOrderFrom given core numbers
     pub below : (low : Place) → NoneLower low start left → NoneBelow given low core numbers
+    -- each changes the state, and each actor does as many as it had left
+    pub change : AllChange given core (acts numbers)
+    pub once : (k : ℕ) → k < length given.plan.codes → times_among k numbers ≡ left k
     pub now : ℕ → Own
     pub more : ℕ → ℕ
     pub amid : IsAmid given final (fold (stepped given) core (acts numbers)) now more
@@ -130,6 +113,40 @@ module _ (given : Given) (accepted : IsAccepted given.plan) (fit : AreFlowsFor g
     at_next : slice_get (next core on now more amid can).actors can.k ≡ Some (path core on now more amid can).0.actor
     at_next = (next_amid core on now more amid can).actors can.k can.lt ∙ ap (λ (o : Own). Some o.actor) (at_here can.k (path core on now more amid can).0 now can.k refl)
 
+    -- the state is another one
+    changes : IsEnabled given core (Act can.k)
+    changes same = by (path core on now more amid can).0.actor.ended refl where
+      stays : (now can.k).actor ≡ (path core on now more amid can).0.actor
+      stays =
+          let e : Some (now can.k).actor ≡ Some (path core on now more amid can).0.actor =
+          sym (amid.actors can.k can.lt) ∙ sym (ap (λ (c : Core). slice_get c.actors can.k) same) ∙ at_next in
+          cc
+
+      by : (b : Bool) → (path core on now more amid can).0.actor.ended ≡ b → ⊥
+      by true ended = let clash : false ≡ true = sym (running core on now more amid can) ∙ ap (λ (a : Actor). a.ended) stays ∙ ended in cc
+      by false runs_on = elim (own_step_moves given can.k (now can.k) (path core on now more amid can).0 (path core on now more amid can).1 runs_on) [
+        | inl both ↦ let step = ap (λ (a : Actor). a.step) stays in let next_step = both.1 in omega (arith, step, next_step)
+        | inr next_instant ↦ let instant = ap (λ (a : Actor). a.instant) stays in omega (arith, instant, next_instant)
+      ]
+
+    -- each step is done once
+    once_more : (numbers : List ℕ) → ((m : ℕ) → m < length given.plan.codes → times_among m numbers ≡ more_later core on now more amid can m)
+        → (m : ℕ) → m < length given.plan.codes → times_among m (can.k ∷ numbers) ≡ more m
+    once_more numbers rest m lt =
+        let first = sum_by-cons (λ (n : ℕ). one_if (n == m)) can.k numbers in
+        let others = rest m lt in
+        elim (same_or_not m can.k) [
+          | inl same ↦
+              let one : one_if (can.k == m) ≡ 1 = ap one_if (eq-eqb can.k m (sym same)) in
+              let here : more_later core on now more amid can m ≡ can.left = at_here can.k can.left more m same in
+              let had : more m ≡ suc can.left = ap more same ∙ can.is in
+              omega (arith, first, others, one, here, had)
+          | inr apart ↦
+              let none : one_if (can.k == m) ≡ 0 = ap one_if (ne_eqb can.k m (λ e. apart (sym e))) in
+              let there : more_later core on now more amid can m ≡ more m = at_other can.k can.left more m apart in
+              omega (arith, first, others, none, there)
+        ]
+
     -- its own rank does not fall
     mine_rises : ((can.left ≡ 0) → ⊥) → NotAfter (rank_of code (now can.k).actor) (rank_of code (path core on now more amid can).0.actor)
     mine_rises some =
@@ -158,11 +175,11 @@ module _ (given : Given) (accepted : IsAccepted given.plan) (fit : AreFlowsFor g
 
   pub all_act : (steps : ℕ) (core : Core) (on : IsOnReference given reference core) (now : ℕ → Own) (more : ℕ → ℕ) → IsAmid given final core now more → total more (length given.plan.codes) ≡ steps → HaveDone core now more
   all_act zero core on now more amid none = elim (some_left (rank given accepted fit reference long room final links balanced core on now more amid) more (length given.plan.codes)) [
-    | inl all ↦ record { numbers = []; order = tt; below = λ low all. tt; now = now; more = more; amid = amid; on = on; all = all }
+    | inl all ↦ record { numbers = []; order = tt; below = λ low all. tt; change = tt; once = λ k lt. sym (all k lt); now = now; more = more; amid = amid; on = on; all = all }
     | inr least ↦ absurd (let f = fewer core on now more amid (some core on now more amid least) in omega (arith, none, f))
   ]
   all_act (suc n) core on now more amid count = elim (some_left (rank given accepted fit reference long room final links balanced core on now more amid) more (length given.plan.codes)) [
-    | inl all ↦ record { numbers = []; order = tt; below = λ low all. tt; now = now; more = more; amid = amid; on = on; all = all }
+    | inl all ↦ record { numbers = []; order = tt; below = λ low all. tt; change = tt; once = λ k lt. sym (all k lt); now = now; more = more; amid = amid; on = on; all = all }
     | inr least ↦
         let can = some core on now more amid least in
         let done = all_act n (next core on now more amid can) (next_on core on now more amid can) (now_later core on now more amid can) (more_later core on now more amid can) (next_amid core on now more amid can)
@@ -175,6 +192,8 @@ module _ (given : Given) (accepted : IsAccepted given.plan) (fit : AreFlowsFor g
             done.order,
           );
           below = λ low all. (λ actor at. acts_no_lower core on now more amid can low all actor at, done.below low (lower_later core on now more amid can low all));
+          change = (changes core on now more amid can, done.change);
+          once = once_more core on now more amid can done.numbers done.once;
           now = done.now;
           more = done.more;
           amid = done.amid;
@@ -240,18 +259,26 @@ module _ (given : Given) (accepted : IsAccepted given.plan) (fit : AreFlowsFor g
       committed = amid.committed ∙ ap (λ (o : Own). o.committed) (done (collector_of given) (let actors = accepted.codes.actors in omega (arith, actors)));
     }
 
-  pub acted : IsReference given.plan.kernel given.flows (length reference) reference → (numbers : List ℕ) × AreInOrder given numbers × HasActed given final links (after given (acts numbers)) × IsOnReference given reference (after given (acts numbers))
+  pub acted : IsReference given.plan.kernel given.flows (length reference) reference → (numbers : List ℕ) × ActInOrder given final links numbers × IsOnReference given reference (after given (acts numbers))
   acted is =
       let opened = opening_on given accepted reference is (omega (arith, long)) in
-      let end = all_act (total steps_of (length given.plan.codes)) (opening given.plan) opened (λ k. opening_own given.plan.kernel) steps_of opening_amid refl in
-      (end.numbers, in_order given end.numbers end.order, acted_all (fold (stepped given) (opening given.plan) (acts end.numbers)) end.on end.now end.more end.amid end.all, end.on)
+      let end = all_act (total steps_of (length given.plan.codes)) (opening given.plan) opened (λ k. opening_own given.plan.kernel) steps_of opening_amid refl in (
+        end.numbers,
+        record {
+          order = in_order given end.numbers end.order;
+          once = λ k lt. subst (λ n. LeadBy given k n (opening_own given.plan.kernel) (final k)) (sym (end.once k lt)) (lead_by k (cases_lt k (length given.plan.codes)) lt);
+          change = end.change;
+          come = acted_all (fold (stepped given) (opening given.plan) (acts end.numbers)) end.on end.now end.more end.amid end.all;
+        },
+        end.on,
+      )
 
 -- over a reference that is long enough
 pub own_acted : (given : Given) → IsAccepted given.plan → AreFlowsFor given.plan.kernel given.flows → 1 ≤ given.capacity → (own : ℕ → Own) (links : List (List ℤ)) → AreBalanced given own links
-    → (numbers : List ℕ) × AreInOrder given numbers × HasActed given own links (after given (acts numbers)) × (length (after given (acts numbers)).actors ≡ length given.plan.codes)
+    → (numbers : List ℕ) × ActInOrder given own links numbers × (length (after given (acts numbers)).actors ≡ length given.plan.codes)
 own_acted given accepted fit room own links balanced =
     let r = some_reference (fitting given.plan accepted given.flows fit) (given.limit + 1) in
     let exact = r.1.instants in
     let is : IsReference given.plan.kernel given.flows (length r.0) r.0 = subst (λ n. IsReference given.plan.kernel given.flows n r.0) (sym exact) r.1 in
     let found = acted given accepted fit r.0 (omega (arith, exact)) room own links balanced is in
-    (found.0, found.1, found.2, found.3.actors)
+    (found.0, found.1, found.2.actors)

@@ -1,25 +1,5 @@
 -- A state amid the own steps of its actors, and what one more own step leaves of it.
-use Rattle.std.proofs.Common.{◌≡◌, ◌<◌, ◌≤◌, ◌+◌, ◌++◌, inl, inr, ℕ, zero, suc, ℤ, true, false, cond, List, [], ◌∷◌, length, get_or, set, refl, ap, sym, subst, ◌∙◌, append_assoc, arith}
-use Rattle.std.specs.Prelude.{None, Option, Some, slice_get}
-use Rattle.std.proofs.lemmas.Bool.{eq-eqb, lt-ltb, ne_eqb}
-use Rattle.std.proofs.lemmas.List.{get_or-set_other, get_or-set_same}
-use Rattle.sig_base.specs.Traces.{IsPrefixOf, Trace}
-use Rattle.sig_clock.proofs.Lists.{get_within}
-use Rattle.sig_kernel.specs.Validity.{AreFlowsFor}
-use Rattle.sig_meaning.proofs.Numbers.{same_or_not}
-use Rattle.sig_model.specs.Actors.{Actor, ended_at, with_at}
-use Rattle.sig_model.specs.Cores.{Core, Given, acted, items_on, lesser, take_first, turned, with_actor, with_items}
-use Rattle.sig_model.specs.Progress.{IsOnReference}
-use Rattle.sig_model.specs.Turns.{AtLimit, Commits, Fails, Goes, Puts, Reaction, Stopped, Takes, Turn, turn}
-use Rattle.sig_plan.specs.Plans.{IsAccepted}
-use Rattle.sig_plan.specs.declared.parts.LinkInfo.{LinkInfo}
-use Rattle.sig_plan.proofs.Accepted.{plan_operations}
-use Rattle.sig_plan.proofs.LinkEnds.{ends_within}
-use Rattle.sig_plan.specs.Operations.{operations_in}
-use Rattle.sig_schedules.proofs.Lists.{set_here}
-use Rattle.sig_schedules.proofs.Prefixes.{same_next}
-use Rattle.sig_settling.specs.OwnSteps.{Grow, HasTurned, IsBehind, IsOwnStep, LeadBy, Own, Stay, UsesNone}
-use Rattle.sig_settling.specs.Settled.{AreBalanced, IsLeastFailure, collector_of}
+use Rattle.sig_settling.proofs.Common.{◌≡◌, ◌<◌, ◌≤◌, ◌+◌, ◌++◌, inl, inr, ℕ, zero, suc, ℤ, true, false, cond, List, [], ◌∷◌, length, get_or, set, refl, ap, sym, subst, ◌∙◌, append_assoc, arith, None, Option, Some, slice_get, eq-eqb, lt-ltb, ne_eqb, get_or-set_other, get_or-set_same, IsPrefixOf, Trace, get_within, AreFlowsFor, same_or_not, Actor, ended_at, with_at, Core, Given, acted, items_on, lesser, take_first, turned, with_actor, with_items, IsOnReference, AtLimit, Commits, Fails, Goes, Puts, Reaction, Stopped, Takes, Turn, turn, IsAccepted, LinkInfo, plan_operations, ends_within, operations_in, set_here, same_next, Grow, HasTurned, IsBehind, IsOwnStep, LeadBy, Own, Stay, UsesNone, AreBalanced, IsLeastFailure, collector_of}
 use Rattle.sig_settling.proofs.Failures.{least_lesser, least_same}
 use Rattle.sig_settling.proofs.Owning.{lead_begins}
 use Rattle.sig_settling.proofs.Tells.{Tells}

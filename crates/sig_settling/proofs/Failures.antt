@@ -1,11 +1,5 @@
 -- The least of the places at which actors failed.
-use Rattle.std.proofs.Common.{◌≡◌, ◌<◌, ◌⊎◌, inl, inr, ℕ, Bool, true, false, not, cond, refl, ap, sym, subst, ◌∙◌}
-use Rattle.std.specs.Prelude.{None, Option, Some}
-use Rattle.sig_base.specs.declared.place.Place.{Place}
-use Rattle.sig_meaning.proofs.Numbers.{same_or_not}
-use Rattle.sig_model.specs.Cores.{is_before, lesser}
-use Rattle.sig_schedules.proofs.Words.{NotAfter, before_onward, not_before_itself, reached_not_after, same_places}
-use Rattle.sig_settling.specs.Settled.{IsLeastFailure}
+use Rattle.sig_settling.proofs.Common.{◌≡◌, ◌<◌, ◌⊎◌, inl, inr, ℕ, Bool, true, false, not, cond, refl, ap, sym, subst, ◌∙◌, None, Option, Some, Place, same_or_not, is_before, lesser, NotAfter, before_onward, not_before_itself, reached_not_after, same_places, IsLeastFailure}
 
 both_ways : (b : Bool) → b ≡ true → b ≡ false → ⊥
 both_ways b one two = let clash : true ≡ false = sym one ∙ two in cc

@@ -1,35 +1,5 @@
 -- Where an actor has own steps left, one of the actors can do its next one.
-use Rattle.std.proofs.Common.{◌≡◌, ◌<◌, ◌≤◌, ◌+◌, ◌⊎◌, inl, inr, ℕ, zero, suc, ℤ, true, false, List, [], ◌∷◌, length, get_or, refl, ap, sym, subst, ◌∙◌, arith}
-use Rattle.std.specs.Prelude.{Some, slice_get}
-use Rattle.std.proofs.lemmas.Bool.{cases_lt}
-use Rattle.std.proofs.lemmas.List.{length-append}
-use Rattle.sig_base.specs.Traces.{Instant, Trace, seen_at}
-use Rattle.sig_base.specs.declared.place.Place.{Place}
-use Rattle.sig_clock.proofs.Lists.{get_within}
-use Rattle.sig_kernel.specs.Validity.{AreFlowsFor}
-use Rattle.sig_meaning.proofs.Agreement.{some_at}
-use Rattle.sig_model.specs.Actors.{Actor, code_of, next_place, position_of}
-use Rattle.sig_model.specs.Cores.{Core, Given, items_on}
-use Rattle.sig_model.specs.Progress.{IsActorOn, IsOnReference, instant_at, sent_on, taken_from}
-use Rattle.sig_model.specs.Turns.{AtLimit, Commits, Fails, Goes, Puts, Stopped, Takes, Turn, turn}
-use Rattle.sig_plan.specs.Codes.{Instruction, instructions_of}
-use Rattle.sig_plan.specs.Instructions.{IsFor}
-use Rattle.sig_plan.specs.Operations.{Operation, operations_in}
-use Rattle.sig_plan.specs.Plans.{IsAccepted, PlanView, numbers_of}
-use Rattle.sig_plan.specs.declared.code.Step.{Step}
-use Rattle.sig_plan.specs.declared.code.StepKind.{StepKind}
-use Rattle.sig_plan.specs.declared.code.StepKind.TheVariants.{Do, Send, Receive, Report, Collect, Commit}
-use Rattle.sig_plan.specs.declared.parts.LinkInfo.{LinkInfo}
-use Rattle.sig_plan.proofs.Positions.{positions_rise}
-use Rattle.sig_schedules.proofs.Linking.{reader_end}
-use Rattle.sig_schedules.proofs.Moved.{chosen_of}
-use Rattle.sig_schedules.proofs.Sending.{IsSending, sends_item, sends_report}
-use Rattle.sig_schedules.proofs.Steps.{DoesStep, step_does}
-use Rattle.sig_schedules.proofs.Turning.{coded}
-use Rattle.sig_schedules.proofs.Waiting.{reader_earlier, writer_no_later}
-use Rattle.sig_schedules.proofs.Words.{NotAfter}
-use Rattle.sig_settling.specs.OwnSteps.{Grow, HasTurned, LeadBy, Own}
-use Rattle.sig_settling.specs.Settled.{AreBalanced, is_next, is_such, takes_item}
+use Rattle.sig_settling.proofs.Common.{◌≡◌, ◌<◌, ◌≤◌, ◌+◌, ◌⊎◌, inl, inr, ℕ, zero, suc, ℤ, true, false, List, [], ◌∷◌, length, get_or, refl, ap, sym, subst, ◌∙◌, arith, Some, slice_get, cases_lt, length-append, Instant, Trace, seen_at, Place, get_within, AreFlowsFor, some_at, Actor, code_of, next_place, position_of, Core, Given, items_on, IsActorOn, IsOnReference, instant_at, sent_on, taken_from, AtLimit, Commits, Fails, Goes, Puts, Stopped, Takes, Turn, turn, Instruction, instructions_of, IsFor, Operation, operations_in, IsAccepted, PlanView, numbers_of, Step, StepKind, Do, Send, Receive, Report, Collect, Commit, LinkInfo, positions_rise, reader_end, chosen_of, IsSending, sends_item, sends_report, DoesStep, step_does, coded, reader_earlier, writer_no_later, NotAfter, Grow, HasTurned, LeadBy, Own, AreBalanced, is_next, is_such, takes_item}
 use Rattle.sig_settling.proofs.Amid.{CanHappen, IsAmid, ends_there}
 use Rattle.sig_settling.proofs.Least.{LeastLeft}
 use Rattle.sig_settling.proofs.Ordering.{rank_of, rank_place, takes_last}

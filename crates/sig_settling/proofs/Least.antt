@@ -1,8 +1,5 @@
 -- Of actors that have steps left, one is at a least place.
-use Rattle.std.proofs.Common.{◌≡◌, ◌<◌, ◌⊎◌, inl, inr, ℕ, zero, suc, refl, ap, sym, subst, ◌∙◌, arith}
-use Rattle.sig_base.specs.declared.place.Place.{Place}
-use Rattle.sig_meaning.proofs.Numbers.{same_or_not}
-use Rattle.sig_schedules.proofs.Words.{NotAfter, not_after_onward, total_places}
+use Rattle.sig_settling.proofs.Common.{◌≡◌, ◌<◌, ◌⊎◌, inl, inr, ℕ, zero, suc, refl, ap, sym, subst, ◌∙◌, arith, Place, same_or_not, NotAfter, not_after_onward, total_places}
 
 module _ (place : ℕ → Place) (more : ℕ → ℕ) where
   pub record LeastLeft (n : ℕ) : Type 0 where

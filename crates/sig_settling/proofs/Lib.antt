@@ -1,3 +1,4 @@
+pub mod Common
 mod Tells
 mod Owning
 mod Failures
@@ -8,3 +9,7 @@ mod Moving
 mod Going
 mod Acting
 mod Looking
+pub use Common.*
+pub use Acting.*
+pub use Looking.*
+pub use Rattle.sig_settling.proofs.Acting.{acted}

@@ -1,21 +1,5 @@
--- Each actor looks at the word once: those that were to end by a look have ended.
-use Rattle.std.proofs.Common.{◌≡◌, ◌<◌, ◌≤◌, ◌++◌, inl, inr, ℕ, zero, suc, ℤ, true, cond, List, [], ◌∷◌, length, get_or, refl, ap, sym, subst, ◌∙◌, arith}
-use Rattle.std.specs.Prelude.{Option, Some, fold, slice_get}
-use Rattle.std.proofs.lemmas.List.{length-set}
-use Rattle.std.proofs.lemmas.List.Sums.{fold-append}
-use Rattle.sig_base.specs.declared.place.Place.{Place}
-use Rattle.sig_clock.proofs.Lists.{get_at}
-use Rattle.sig_kernel.specs.Validity.{AreFlowsFor}
-use Rattle.sig_meaning.proofs.Agreement.{some_at}
-use Rattle.sig_meaning.proofs.Numbers.{same_or_not}
-use Rattle.sig_model.specs.Actors.{Actor, code_of, ended_at, next_place}
-use Rattle.sig_model.specs.Cores.{Core, Given, IsFinished, after, looked, opening, stepped, with_actor, word_before}
-use Rattle.sig_model.specs.declared.event.Event.{Event}
-use Rattle.sig_model.specs.declared.event.Event.TheVariants.{Look}
-use Rattle.sig_plan.specs.Plans.{IsAccepted}
-use Rattle.sig_schedules.proofs.Lists.{set_here}
-use Rattle.sig_settling.specs.OwnSteps.{Own}
-use Rattle.sig_settling.specs.Settled.{AreBalanced, AreInOrder, AreSettled, HasActed, HasEndedBy, acts, collector_of, looks}
+-- Those actors look at the word that a look ended: then all have ended.
+use Rattle.sig_settling.proofs.Common.{◌≡◌, ◌<◌, ◌≤◌, ◌++◌, inl, inr, ℕ, zero, suc, ℤ, Bool, true, false, cond, List, [], ◌∷◌, length, get_or, refl, ap, sym, subst, ◌∙◌, arith, Option, Some, fold, slice_get, length-set, fold-append, Place, get_at, AreFlowsFor, some_at, same_or_not, Actor, code_of, ended_at, next_place, AllChange, Core, Given, IsEnabled, IsFinished, after, looked, opening, stepped, with_actor, word_before, Event, Look, IsAccepted, set_here, Own, AreBalanced, ActInOrder, AreSettled, HasActed, HasEndedBy, LookBehind, acts, acts_then_looks, collector_of, looks}
 use Rattle.sig_settling.proofs.Acting.{own_acted}
 use Rattle.sig_settling.proofs.Amid.{set_apart}
 use Rattle.sig_settling.proofs.Failures.{one_least}
@@ -29,6 +13,24 @@ same_list {A} (x ∷ xs) (y ∷ ys) count each =
     let first : x ≡ y = cc in
     let rest = same_list xs ys (let one : suc (length xs) ≡ suc (length ys) = count in omega (arith, one)) (λ k lt. each (suc k) (omega (arith, lt))) in
     λ t. first t ∷ rest t
+
+looks_append : (xs ys : List ℕ) → looks (xs ++ ys) ≡ looks xs ++ looks ys
+looks_append [] ys = refl
+looks_append (x ∷ xs) ys = ap (λ (events : List Event). Look x ∷ events) (looks_append xs ys)
+
+-- changes, and then changes
+change_behind : (given : Given) (xs ys : List Event) (core : Core) → AllChange given core xs → AllChange given (fold (stepped given) core xs) ys → AllChange given core (xs ++ ys)
+change_behind given [] ys core first rest = rest
+change_behind given (x ∷ xs) ys core first rest = (first.0, change_behind given xs ys (stepped given core x) first.1 rest)
+
+-- the numbers of those among so many actors that no own step ended
+abbrev pub only_running : Bool → ℕ → List ℕ
+only_running true n = []
+only_running false n = n ∷ []
+
+abbrev pub running_below : (ℕ → Own) → ℕ → List ℕ
+running_below own zero = []
+running_below own (suc n) = running_below own n ++ only_running (own n).actor.ended n
 
 module _ (given : Given) (own : ℕ → Own) (links : List (List ℤ)) (word : Option Place) (actors : List Actor) (settled : AreSettled given own links word actors) (start : Core) (acted : HasActed given own links start)
     (count : length start.actors ≡ length given.plan.codes) where
@@ -72,41 +74,71 @@ module _ (given : Given) (own : ℕ → Own) (links : List (List ℤ)) (word : O
       before = λ k above. set_apart core.actors n a k (λ e. omega (arith, e, above)) ∙ have.before k (omega (arith, above));
     }
 
-    by_reason : (a : Actor) → slice_get actors n ≡ Some a → HasEndedBy word (code_of given.plan n) (own n) a → HaveLooked (suc n) (looked given.plan n core (Some (own n).actor))
-    by_reason a is (inl ended) =
-        subst (λ b. HaveLooked (suc n) (cond b core (cond (word_before core.word (next_place (code_of given.plan n) (own n).actor)) (with_actor n (ended_at (own n).actor) core) core))) (sym ended.0)
-        (next_stays (mine ∙ ap Some (sym ended.1) ∙ sym is))
-    by_reason a is (inr look) =
-        subst (λ b. HaveLooked (suc n) (cond b core (cond (word_before core.word (next_place (code_of given.plan n) (own n).actor)) (with_actor n (ended_at (own n).actor) core) core))) (sym look.0)
-        (subst (λ b. HaveLooked (suc n) (cond b (with_actor n (ended_at (own n).actor) core) core)) (sym (ap (λ (w : Option Place). word_before w (next_place (code_of given.plan n) (own n).actor)) (have.word_stays ∙ same_word) ∙ look.1))
-        (next_ends (ended_at (own n).actor) (is ∙ ap Some look.2)))
+    -- what the looks of this actor leave, if it has one
+    abbrev HaveNext : List ℕ → Type 0
+    HaveNext lookers = HaveLooked (suc n) (fold (stepped given) core (looks lookers)) × AllChange given core (looks lookers)
 
-    next_looked : HaveLooked (suc n) (stepped given core (Look n))
+    look_ends : (a : Actor) → slice_get actors n ≡ Some a → (own n).actor.ended ≡ false → word_before word (next_place (code_of given.plan n) (own n).actor) ≡ true → a ≡ ended_at (own n).actor
+        → stepped given core (Look n) ≡ with_actor n (ended_at (own n).actor) core
+    look_ends a is runs before ends =
+        ap (looked given.plan n core) mine
+        ∙ ap (λ b. cond b core (cond (word_before core.word (next_place (code_of given.plan n) (own n).actor)) (with_actor n (ended_at (own n).actor) core) core)) runs
+        ∙ ap (λ b. cond b (with_actor n (ended_at (own n).actor) core) core) (ap (λ (w : Option Place). word_before w (next_place (code_of given.plan n) (own n).actor)) (have.word_stays ∙ same_word) ∙ before)
+
+    look_changes : (own n).actor.ended ≡ false → stepped given core (Look n) ≡ with_actor n (ended_at (own n).actor) core → IsEnabled given core (Look n)
+    look_changes runs ends same =
+        let e : Some (own n).actor ≡ Some (ended_at (own n).actor) =
+        sym mine ∙ ap (λ (c : Core). slice_get c.actors n) (sym same ∙ ends) ∙ set_here core.actors n (ended_at (own n).actor) (own n).actor mine in
+        let stays : (own n).actor ≡ ended_at (own n).actor = cc in
+        let clash : false ≡ true = sym runs ∙ ap (λ (a : Actor). a.ended) stays in
+        cc
+
+    by_reason : (a : Actor) → slice_get actors n ≡ Some a → HasEndedBy word (code_of given.plan n) (own n) a → HaveNext (only_running (own n).actor.ended n)
+    by_reason a is (inl ended) = subst (λ b. HaveNext (only_running b n)) (sym ended.0) (next_stays (mine ∙ ap Some (sym ended.1) ∙ sym is), tt)
+    by_reason a is (inr look) =
+        let ends = look_ends a is look.0 look.1 look.2 in
+        subst (λ b. HaveNext (only_running b n)) (sym look.0)
+        (subst (HaveLooked (suc n)) (sym ends) (next_ends (ended_at (own n).actor) (is ∙ ap Some look.2)), (look_changes look.0 ends, tt))
+
+    next_looked : HaveNext (only_running (own n).actor.ended n)
     next_looked =
         let there = some_at actors n (let same = settled.count in omega (arith, lt, same)) in
-        subst (λ (o : Option Actor). HaveLooked (suc n) (looked given.plan n core o)) (sym mine) (by_reason there.0 there.1 (settled.each n there.0 there.1))
+        by_reason there.0 there.1 (settled.each n there.0 there.1)
 
-  have_looked : (n : ℕ) → n ≤ length given.plan.codes → HaveLooked n (fold (stepped given) start (looks n))
-  have_looked zero le = record {
-    same_count = count;
-    links_stay = refl;
-    word_stays = refl;
-    commits_stay = refl;
-    behind = λ k below. absurd (omega (arith, below));
-    before = λ k above. refl;
-  }
+  have_looked : (n : ℕ) → n ≤ length given.plan.codes → HaveLooked n (fold (stepped given) start (looks (running_below own n))) × AllChange given start (looks (running_below own n))
+  have_looked zero le = (
+    record {
+      same_count = count;
+      links_stay = refl;
+      word_stays = refl;
+      commits_stay = refl;
+      behind = λ k below. absurd (omega (arith, below));
+      before = λ k above. refl;
+    },
+    tt,
+  )
   have_looked (suc n) le =
-      subst (HaveLooked (suc n)) (sym (fold-append (stepped given) start (looks n) (Look n ∷ [])))
-      (next_looked n (omega (arith, le)) (fold (stepped given) start (looks n)) (have_looked n (omega (arith, le))))
+      let earlier = running_below own n in
+      let last = only_running (own n).actor.ended n in
+      let before = have_looked n (omega (arith, le)) in
+      let next = next_looked n (omega (arith, le)) (fold (stepped given) start (looks earlier)) before.0 in
+      subst (λ (events : List Event). HaveLooked (suc n) (fold (stepped given) start events) × AllChange given start events) (sym (looks_append earlier last))
+      (subst (HaveLooked (suc n)) (sym (fold-append (stepped given) start (looks earlier) (looks last))) next.0, change_behind given (looks earlier) (looks last) start before.1 next.1)
+
+  abbrev pub lookers : List ℕ
+  lookers = running_below own (length given.plan.codes)
 
   abbrev whole : Core
   whole = record { actors = actors; links = links; word = word; committed = (own (collector_of given)).committed }
 
-  pub all_looked : fold (stepped given) start (looks (length given.plan.codes)) ≡ whole
+  pub all_change : AllChange given start (looks lookers)
+  all_change = (have_looked (length given.plan.codes) (omega arith)).1
+
+  pub all_looked : fold (stepped given) start (looks lookers) ≡ whole
   all_looked =
-      let end = have_looked (length given.plan.codes) (omega arith) in
+      let end = (have_looked (length given.plan.codes) (omega arith)).0 in
       let same = settled.count in
-      let of_actors = same_list (fold (stepped given) start (looks (length given.plan.codes))).actors actors (end.same_count ∙ sym same) (λ k lt. end.behind k (omega (arith, lt, same))) in
+      let of_actors = same_list (fold (stepped given) start (looks lookers)).actors actors (end.same_count ∙ sym same) (λ k lt. end.behind k (omega (arith, lt, same))) in
       let of_links = end.links_stay ∙ acted.items in
       let of_word = end.word_stays ∙ same_word in
       let of_committed = end.commits_stay ∙ acted.committed in
@@ -122,19 +154,25 @@ module _ (given : Given) (own : ℕ → Own) (links : List (List ℤ)) (word : O
 -- the steps of actors in order, and then the looks
 pub acted_then_looked : (given : Given) → IsAccepted given.plan → AreFlowsFor given.plan.kernel given.flows → 1 ≤ given.capacity
     → (own : ℕ → Own) (links : List (List ℤ)) → AreBalanced given own links
-    → (numbers : List ℕ) × AreInOrder given numbers × HasActed given own links (after given (acts numbers))
+    → (numbers : List ℕ) × ActInOrder given own links numbers
     × ((word : Option Place) (actors : List Actor) → AreSettled given own links word actors
-    → (after given (acts numbers ++ looks (length given.plan.codes)) ≡ record { actors = actors; links = links; word = word; committed = (own (collector_of given)).committed })
-    × IsFinished (after given (acts numbers ++ looks (length given.plan.codes))))
+    → (lookers : List ℕ) × LookBehind given own links word actors numbers lookers)
 acted_then_looked given accepted fit room own links balanced =
     let found = own_acted given accepted fit room own links balanced in (
       found.0,
       found.1,
-      found.2,
       λ word actors settled.
-          let joined = fold-append (stepped given) (opening given.plan) (acts found.0) (looks (length given.plan.codes))
-          ∙ all_looked given own links word actors settled (after given (acts found.0)) found.2 found.3 in
-          (joined, subst (λ (c : Core). IsFinished c) (sym joined) (all_ended given own links word actors settled (after given (acts found.0)) found.2 found.3)),
+          let start = after given (acts found.0) in
+          let who = lookers given own links word actors settled start found.1.come found.2 in
+          let joined = fold-append (stepped given) (opening given.plan) (acts found.0) (looks who)
+          ∙ all_looked given own links word actors settled start found.1.come found.2 in (
+            who,
+            record {
+              change = change_behind given (acts found.0) (looks who) (opening given.plan) found.1.change (all_change given own links word actors settled start found.1.come found.2);
+              leave = joined;
+              finished = subst (λ (c : Core). IsFinished c) (sym joined) (all_ended given own links word actors settled start found.1.come found.2);
+            },
+          ),
     )
 
 pub settled_finished : (given : Given) → IsAccepted given.plan → AreFlowsFor given.plan.kernel given.flows → 1 ≤ given.capacity
@@ -144,5 +182,5 @@ pub settled_finished : (given : Given) → IsAccepted given.plan → AreFlowsFor
     × IsFinished (after given events)
 settled_finished given accepted fit room own links word actors settled =
     let found = acted_then_looked given accepted fit room own links settled.balanced in
-    let end = found.3 word actors settled in
-    (acts found.0 ++ looks (length given.plan.codes), end.0, end.1)
+    let end = found.2 word actors settled in
+    (acts_then_looks found.0 end.0, end.1.leave, end.1.finished)

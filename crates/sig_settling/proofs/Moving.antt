@@ -1,28 +1,5 @@
 -- A step of an actor's own does not lower its rank.
-use Rattle.std.proofs.Common.{◌≡◌, ◌<◌, ◌≤◌, ◌+◌, ◌*◌, ◌⊎◌, inl, inr, ℕ, zero, suc, ℤ, Bool, true, false, cond, List, length, refl, ap, sym, subst, ◌∙◌, arith}
-use Rattle.std.specs.Prelude.{None, Option, Some, nat_lt, slice_get}
-use Rattle.std.proofs.lemmas.Bool.{cases_lt}
-use Rattle.sig_clock.proofs.Lists.{get_within}
-use Rattle.sig_meaning.proofs.Agreement.{some_at}
-use Rattle.sig_model.specs.Actors.{Actor, code_of, ended_at, guard_holds, moved_on, next_place, position_of}
-use Rattle.sig_model.specs.Cores.{Given}
-use Rattle.sig_model.specs.Operating.{Faults, Gives, Outcome, operated, outcome}
-use Rattle.sig_model.specs.Turns.{AtLimit, Commits, Fails, Goes, Puts, Stopped, Takes, Turn, carried, received, turn, turn_at, turn_by, turn_of_op, turn_with}
-use Rattle.sig_plan.specs.Codes.{CodeView, Instruction}
-use Rattle.sig_plan.specs.Instructions.{IsFor, StandsAt, does, sends, receives, reports, collects, commits}
-use Rattle.sig_plan.specs.Operations.{Operation, operations_in}
-use Rattle.sig_plan.specs.Plans.{IsAccepted, PlanView, numbers_of}
-use Rattle.sig_plan.specs.declared.code.Step.{Step}
-use Rattle.sig_plan.specs.declared.code.StepKind.{StepKind}
-use Rattle.sig_plan.specs.declared.code.StepKind.TheVariants.{Do, Send, Receive, Report, Collect, Commit}
-use Rattle.sig_plan.specs.declared.op.Op.{Op}
-use Rattle.sig_plan.specs.declared.parts.LinkInfo.{LinkInfo}
-use Rattle.sig_plan.proofs.Positions.{positions_rise}
-use Rattle.sig_schedules.proofs.Moved.{moved_cases}
-use Rattle.sig_schedules.proofs.Steps.{DoesStep, step_does}
-use Rattle.sig_schedules.proofs.Words.{NotAfter}
-use Rattle.sig_settling.specs.OwnSteps.{HasTurned, IsOwnStep, LeadBy, Own}
-use Rattle.sig_settling.specs.Settled.{is_next, is_such, takes_item}
+use Rattle.sig_settling.proofs.Common.{◌≡◌, ◌<◌, ◌≤◌, ◌+◌, ◌*◌, ◌⊎◌, inl, inr, ℕ, zero, suc, ℤ, Bool, true, false, cond, List, length, refl, ap, sym, subst, ◌∙◌, arith, None, Option, Some, nat_lt, slice_get, cases_lt, get_within, some_at, Actor, code_of, ended_at, guard_holds, moved_on, next_place, position_of, Given, Faults, Gives, Outcome, operated, outcome, AtLimit, Commits, Fails, Goes, Puts, Stopped, Takes, Turn, carried, received, turn, turn_at, turn_by, turn_of_op, turn_with, CodeView, Instruction, IsFor, StandsAt, does, sends, receives, reports, collects, commits, Operation, operations_in, IsAccepted, PlanView, numbers_of, Step, StepKind, Do, Send, Receive, Report, Collect, Commit, Op, LinkInfo, positions_rise, moved_cases, DoesStep, step_does, NotAfter, HasTurned, IsOwnStep, LeadBy, Own, is_next, is_such, takes_item}
 use Rattle.sig_settling.proofs.Ordering.{flag, flag_most, rank_of}
 use Rattle.sig_settling.proofs.Owning.{step_runs}
 

@@ -1,17 +1,5 @@
 -- The order of steps: by place, and at one place those that take last.
-use Rattle.std.proofs.Common.{◌≡◌, ◌≤◌, ◌+◌, ◌*◌, ◌++◌, inl, inr, ℕ, Bool, true, false, List, [], ◌∷◌, refl, ap, subst, arith}
-use Rattle.std.specs.Prelude.{None, Option, Some, fold, slice_get}
-use Rattle.std.proofs.lemmas.Bool.{false_from_ne_true}
-use Rattle.sig_base.specs.declared.place.Place.{Place}
-use Rattle.sig_model.specs.Actors.{Actor, code_of, next_place}
-use Rattle.sig_model.specs.Cores.{Core, Given, is_before, opening, stepped}
-use Rattle.sig_model.specs.declared.event.Event.TheVariants.{Act}
-use Rattle.sig_plan.specs.Codes.{CodeView}
-use Rattle.sig_plan.specs.declared.code.Step.{Step}
-use Rattle.sig_plan.specs.declared.code.StepKind.{StepKind}
-use Rattle.sig_plan.specs.declared.code.StepKind.TheVariants.{Do, Send, Receive, Report, Collect, Commit}
-use Rattle.sig_schedules.proofs.Words.{NotAfter, after_or_before}
-use Rattle.sig_settling.specs.Settled.{AreInOrder, IsNoLater, acts, is_next, is_such, puts_item, takes_item}
+use Rattle.sig_settling.proofs.Common.{◌≡◌, ◌≤◌, ◌+◌, ◌*◌, ◌++◌, inl, inr, ℕ, Bool, true, false, List, [], ◌∷◌, refl, ap, subst, arith, None, Option, Some, fold, slice_get, false_from_ne_true, Place, Actor, code_of, next_place, Core, Given, is_before, opening, stepped, Act, CodeView, Step, StepKind, Do, Send, Receive, Report, Collect, Commit, NotAfter, after_or_before, AreInOrder, IsNoLater, acts, is_next, is_such, puts_item, takes_item}
 
 -- ---- ranks of next steps
 

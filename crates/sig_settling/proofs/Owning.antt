@@ -1,12 +1,5 @@
 -- Own steps: an actor that does one runs, and the items that it sent and took only become more.
-use Rattle.std.proofs.Common.{◌≡◌, ◌++◌, inl, inr, ℕ, zero, suc, ℤ, Bool, true, false, cond, List, [], ◌∷◌, refl, ap, sym, subst, ◌∙◌, append_assoc}
-use Rattle.std.specs.Prelude.{nat_lt, slice_get}
-use Rattle.std.proofs.lemmas.List.{append-nil}
-use Rattle.sig_meaning.proofs.Numbers.{same_or_not}
-use Rattle.sig_model.specs.Actors.{code_of}
-use Rattle.sig_model.specs.Cores.{Given}
-use Rattle.sig_model.specs.Turns.{AtLimit, Commits, Fails, Goes, Puts, Stopped, Takes, Turn, turn, turn_at}
-use Rattle.sig_settling.specs.OwnSteps.{Grow, HasTurned, IsOwnStep, Items, LeadBy, Own, Stay}
+use Rattle.sig_settling.proofs.Common.{◌≡◌, ◌++◌, inl, inr, ℕ, zero, suc, ℤ, Bool, true, false, cond, List, [], ◌∷◌, refl, ap, sym, subst, ◌∙◌, append_assoc, nat_lt, slice_get, append-nil, same_or_not, code_of, Given, AtLimit, Commits, Fails, Goes, Puts, Stopped, Takes, Turn, turn, turn_at, Grow, HasTurned, IsOwnStep, Items, LeadBy, Own, Stay}
 
 -- items stand in front of more
 abbrev pub Begin : Items → Items → Type 0

@@ -1,30 +1,5 @@
 -- What the turn of an actor on the reference tells of the links.
-use Rattle.std.proofs.Common.{◌≡◌, ◌≤◌, ◌+◌, ◌-◌, ◌⊎◌, inl, inr, ℕ, ℤ, pos, Bool, true, false, cond, length, refl, ap, sym, subst, ◌∙◌, arith}
-use Rattle.std.specs.Prelude.{None, Option, Some, nat_lt, slice_get}
-use Rattle.std.proofs.lemmas.Bool.{eq-eqb, ltb-false}
-use Rattle.sig_base.specs.Traces.{Instant, Trace, seen_at}
-use Rattle.sig_kernel.specs.Validity.{AreFlowsFor}
-use Rattle.sig_meaning.proofs.Agreement.{some_at}
-use Rattle.sig_model.specs.Actors.{Actor, code_of, guard_holds, moved_on}
-use Rattle.sig_model.specs.Cores.{Core, Given}
-use Rattle.sig_model.specs.Operating.{Faults, Gives, Outcome, outcome}
-use Rattle.sig_model.specs.Progress.{IsActorOn, IsOnReference, Yield, instant_at, sent_on, taken_from}
-use Rattle.sig_model.specs.Turns.{AtLimit, Commits, Fails, Goes, Puts, Stopped, Takes, Turn, carried, item_of, turn, turn_at, turn_by, turn_of_op, turn_with}
-use Rattle.sig_plan.specs.Codes.{CodeView}
-use Rattle.sig_plan.specs.Instructions.{NamesWithin}
-use Rattle.sig_plan.specs.Plans.{IsAccepted, PlanView}
-use Rattle.sig_plan.specs.declared.code.Step.{Step}
-use Rattle.sig_plan.specs.declared.code.StepKind.{StepKind}
-use Rattle.sig_plan.specs.declared.code.StepKind.TheVariants.{Do, Send, Receive, Report, Collect, Commit}
-use Rattle.sig_plan.specs.declared.op.Op.{Op}
-use Rattle.sig_plan.specs.declared.parts.LinkInfo.{LinkInfo}
-use Rattle.sig_plan.proofs.Naming.{step_names}
-use Rattle.sig_schedules.proofs.Amid.{guard_known}
-use Rattle.sig_schedules.proofs.Collecting.{commits_alone}
-use Rattle.sig_schedules.proofs.Going.{done_chosen}
-use Rattle.sig_schedules.proofs.Keeping.{reader_is, writer_is}
-use Rattle.sig_schedules.proofs.Moved.{chosen_of}
-use Rattle.sig_schedules.proofs.Turning.{actor_on, coded}
+use Rattle.sig_settling.proofs.Common.{◌≡◌, ◌≤◌, ◌+◌, ◌-◌, ◌⊎◌, inl, inr, ℕ, ℤ, pos, Bool, true, false, cond, length, refl, ap, sym, subst, ◌∙◌, arith, None, Option, Some, nat_lt, slice_get, eq-eqb, ltb-false, Instant, Trace, seen_at, AreFlowsFor, some_at, Actor, code_of, guard_holds, moved_on, Core, Given, Faults, Gives, Outcome, outcome, IsActorOn, IsOnReference, Yield, instant_at, sent_on, taken_from, AtLimit, Commits, Fails, Goes, Puts, Stopped, Takes, Turn, carried, item_of, turn, turn_at, turn_by, turn_of_op, turn_with, CodeView, NamesWithin, IsAccepted, PlanView, Step, StepKind, Do, Send, Receive, Report, Collect, Commit, Op, LinkInfo, step_names, guard_known, commits_alone, done_chosen, reader_is, writer_is, chosen_of, actor_on, coded}
 
 module _ (given : Given) (accepted : IsAccepted given.plan) (fit : AreFlowsFor given.plan.kernel given.flows) (reference : Trace) (long : given.limit + 1 ≤ length reference) (core : Core) (on : IsOnReference given reference core)
     (k : ℕ) (actor : Actor) (at_k : slice_get core.actors k ≡ Some actor) where

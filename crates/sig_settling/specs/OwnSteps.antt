@@ -1,10 +1,6 @@
 -- What one actor does by itself: its own steps, with the items that it takes and sends.
-use Rattle.std.specs.Prelude.{◌≡◌, ◌≢◌, ℕ, zero, suc, ℤ, List, [], ◌∷◌, ◌++◌, Option, None, Some}
-use Rattle.sig_base.specs.declared.place.Place.{Place}
-use Rattle.sig_kernel.specs.declared.kernel.Kernel.{Kernel}
-use Rattle.sig_model.specs.Actors.{Actor, ended_at, opening_actor}
-use Rattle.sig_model.specs.Cores.{Given}
-use Rattle.sig_model.specs.Turns.{AtLimit, Commits, Fails, Goes, Puts, Reaction, Stopped, Takes, Turn, turn}
+use Rattle.std.specs.Prelude.{◌≡◌, ◌≢◌, ◌∷◌, ◌++◌}
+use Rattle.sig_settling.specs.Prelude.{ℕ, zero, suc, ℤ, List, [], Option, None, Some, Place, Kernel, Actor, ended_at, opening_actor, Given, AtLimit, Commits, Fails, Goes, Puts, Reaction, Stopped, Takes, Turn, turn}
 
 -- items by the numbers of links
 abbrev pub Items : Type 0

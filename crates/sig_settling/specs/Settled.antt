@@ -1,16 +1,7 @@
 -- What actors that did their own steps by themselves have in common in the end.
-use Rattle.std.specs.Prelude.{◌≡◌, ◌<◌, ◌≤◌, ◌⊎◌, ◌-◌, ◌++◌, ℕ, zero, suc, ℤ, Bool, true, false, List, [], ◌∷◌, length, map, slice_get, slice_index_or, Option, None, Some}
-use Rattle.sig_base.specs.declared.place.Place.{Place}
-use Rattle.sig_model.specs.Actors.{Actor, code_of, ended_at, next_place}
-use Rattle.sig_model.specs.Cores.{Core, Given, after, is_before, word_before}
-use Rattle.sig_model.specs.declared.event.Event.{Event}
-use Rattle.sig_model.specs.declared.event.Event.TheVariants.{Act, Look}
-use Rattle.sig_plan.specs.Codes.{CodeView}
-use Rattle.sig_plan.specs.declared.code.Step.{Step}
-use Rattle.sig_plan.specs.declared.code.StepKind.{StepKind}
-use Rattle.sig_plan.specs.declared.code.StepKind.TheVariants.{Do, Send, Receive, Report, Collect, Commit}
-use Rattle.sig_plan.specs.declared.parts.LinkInfo.{LinkInfo}
-use Rattle.sig_settling.specs.OwnSteps.{IsOwn, Own}
+use Rattle.std.specs.Prelude.{◌≡◌, ◌<◌, ◌≤◌, ◌⊎◌, ◌-◌, ◌==◌, ◌++◌, ◌∷◌}
+use Rattle.sig_settling.specs.Prelude.{ℕ, ℤ, Bool, true, false, List, [], length, map, count_by, slice_get, slice_index_or, Option, None, Some, Place, Actor, code_of, ended_at, next_place, Core, Given, IsFinished, after, opening, is_before, word_before, Event, Act, Look, AllChange, CodeView, Step, StepKind, Do, Send, Receive, Report, Collect, Commit, LinkInfo}
+use Rattle.sig_settling.specs.OwnSteps.{IsOwn, LeadBy, Own, opening_own}
 
 -- a word is the least place at which one of so many actors failed, or none
 abbrev pub IsLeastFailure : ℕ → (ℕ → Option Place) → Option Place → Type 0
@@ -35,10 +26,17 @@ collector_of given = length given.plan.codes - 1
 abbrev pub acts : List ℕ → List Event
 acts numbers = map (λ k. Act k) numbers
 
--- a look of each of so many actors
-abbrev pub looks : ℕ → List Event
-looks zero = []
-looks (suc n) = looks n ++ Look n ∷ []
+-- looks of actors alone, by the numbers of the actors
+abbrev pub looks : List ℕ → List Event
+looks numbers = map (λ k. Look k) numbers
+
+-- steps of actors, and then looks
+abbrev pub acts_then_looks : List ℕ → List ℕ → List Event
+acts_then_looks numbers lookers = acts numbers ++ looks lookers
+
+-- how often a number stands among numbers
+abbrev pub times_among : ℕ → List ℕ → ℕ
+times_among k numbers = count_by (λ m. m == k) numbers
 
 -- a step that puts an item on a link
 abbrev pub puts_item : StepKind → Bool
@@ -99,3 +97,20 @@ pub record AreSettled (given : Given) (own : ℕ → Own) (links : List (List �
   pub least : IsLeastFailure (length given.plan.codes) (λ k. (own k).failed) word
   pub count : length actors ≡ length given.plan.codes
   pub each : (k : ℕ) (actor : Actor) → slice_get actors k ≡ Some actor → HasEndedBy word (code_of given.plan k) (own k) actor
+
+-- ---- one list of events
+
+-- Steps of actors that come to what each of them did. They are in the order of their places, each own step of an actor is
+-- among them once, and each changes the state.
+pub record ActInOrder (given : Given) (own : ℕ → Own) (links : List (List ℤ)) (numbers : List ℕ) : Type 0 where
+  pub order : AreInOrder given numbers
+  pub once : (k : ℕ) → k < length given.plan.codes → LeadBy given k (times_among k numbers) (opening_own given.plan.kernel) (own k)
+  pub change : AllChange given (opening given.plan) (acts numbers)
+  pub come : HasActed given own links (after given (acts numbers))
+
+-- Looks of actors behind such steps. Each of the steps and of the looks changes the state; behind them all actors have ended,
+-- and the state is exactly this.
+pub record LookBehind (given : Given) (own : ℕ → Own) (links : List (List ℤ)) (word : Option Place) (actors : List Actor) (numbers lookers : List ℕ) : Type 0 where
+  pub change : AllChange given (opening given.plan) (acts_then_looks numbers lookers)
+  pub leave : after given (acts_then_looks numbers lookers) ≡ record { actors = actors; links = links; word = word; committed = (own (collector_of given)).committed }
+  pub finished : IsFinished (after given (acts_then_looks numbers lookers))

@@ -1,14 +1,9 @@
 //! Laws of actors that did their own steps by themselves. The function of a law does nothing when it runs.
 
-ghost use Rattle.std.specs.Prelude.{◌≡◌, ◌≤◌, ◌<◌, ◌++◌, ℕ, ℤ, List, Option, length};
-ghost use Rattle.sig_base.specs.declared.place.Place.{Place};
-ghost use Rattle.sig_kernel.specs.Validity.{AreFlowsFor};
-ghost use Rattle.sig_model.specs.Actors.{Actor};
-ghost use Rattle.sig_model.specs.Cores.{Given, IsFinished, after};
-ghost use Rattle.sig_model.specs.declared.event.Event.{Event};
-ghost use Rattle.sig_plan.specs.Plans.{IsAccepted};
+ghost use Rattle.std.specs.Prelude.{◌≡◌, ◌≤◌};
+ghost use Rattle.sig_settling.specs.Prelude.{ℕ, ℤ, List, Option, Place, AreFlowsFor, Actor, Given, IsFinished, after, Event, IsAccepted};
 ghost use Rattle.sig_settling.specs.OwnSteps.{Own};
-ghost use Rattle.sig_settling.specs.Settled.{AreBalanced, AreInOrder, AreSettled, HasActed, acts, collector_of, looks};
+ghost use Rattle.sig_settling.specs.Settled.{ActInOrder, AreBalanced, AreSettled, HasActed, LookBehind, acts, collector_of};
 
 /// A law: where each actor of an accepted plan did its own steps, and each link holds what was sent on it
 /// and not taken, there are steps of the actors, one at a time, that come to the same.
@@ -29,13 +24,13 @@ pub fn settled_actors_are_finished()
 {}
 
 /// A law: both by one list, the steps of the actors in the order of their places, at one place those that send
-/// or report before those that receive or collect. These steps alone come to what each actor did; where all have
-/// ended, by themselves or by a look at the word, the steps and then a look of each actor leave exactly this.
+/// or report before those that receive or collect. Each own step of an actor is in it once, and each changes the
+/// state. These steps alone come to what each actor did; where all have ended, by themselves or by a look at the
+/// word, the steps and then looks, each of which changes the state, leave exactly this.
 pub fn settled_actors_have_acted_in_order()
     ensures { (given : Given) → IsAccepted given.plan → AreFlowsFor given.plan.kernel given.flows → 1 ≤ given.capacity
         → (own : ℕ → Own) (links : List (List ℤ)) → AreBalanced given own links
-        → (numbers : List ℕ) × AreInOrder given numbers × HasActed given own links (after given (acts numbers))
+        → (numbers : List ℕ) × ActInOrder given own links numbers
         × ((word : Option Place) (actors : List Actor) → AreSettled given own links word actors
-        → (after given (acts numbers ++ looks (length given.plan.codes)) ≡ record { actors = actors; links = links; word = word; committed = (own (collector_of given)).committed })
-        × IsFinished (after given (acts numbers ++ looks (length given.plan.codes)))) }
+        → (lookers : List ℕ) × LookBehind given own links word actors numbers lookers) }
 {}

@@ -1,14 +1,5 @@
 -- The state of an actor at the opening.
-use Rattle.std.proofs.Common.{◌≡◌, ◌<◌, ◌≤◌, ◌+◌, ◌^◌, ◌∙◌, ℕ, zero, suc, ℤ, false, List, length, replicate, slice_get, None, Some, sym, ap, subst, arith}
-use Rattle.std.proofs.lemmas.List.{length-replicate}
-use Rattle.sig_model.specs.Actors.{Registers, code_of, position_of}
-use Rattle.sig_model.specs.Runnable.{IsRunnable}
-use Rattle.sig_plan.specs.Plans.{PlanView}
-use Rattle.sig_step.specs.States.{AreMarksAt, IsStateOf}
-use Rattle.sig_step.specs.declared.state.ClusterState.{ClusterState}
-use Rattle.sig_step.specs.declared.state.Mark.{Mark}
-use Rattle.sig_values.proofs.Writing.{some_is}
-use Rattle.sig_values.specs.Values.{AreValuesOf, instant_of, seen_in}
+use Rattle.sig_step.proofs.Common.{◌≡◌, ◌<◌, ◌≤◌, ◌+◌, ◌^◌, ◌∙◌, ℕ, zero, suc, ℤ, false, List, length, replicate, slice_get, None, Some, sym, ap, subst, arith, length-replicate, Registers, code_of, position_of, IsRunnable, PlanView, AreMarksAt, IsStateOf, ClusterState, Mark, some_is, AreValuesOf, instant_of, seen_in}
 
 -- a guard that was not met yet
 abbrev pub unknown : Mark

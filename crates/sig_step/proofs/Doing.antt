@@ -1,30 +1,6 @@
 -- Operations that an actor does.
-use Rattle.std.proofs.Common.{◌≡◌, ◌∙◌, ℕ, ℤ, Bool, true, List, length, slice_get, Option, None, Some, refl, sym, ap, subst}
-use Rattle.sig_base.specs.declared.ids.OpId.{OpId}
-use Rattle.sig_base.specs.declared.ids.SigId.{SigId}
-use Rattle.sig_base.specs.declared.place.Place.{Place}
-use Rattle.sig_kernel.specs.declared.kernel.Kernel.{Kernel}
-use Rattle.sig_model.specs.Actors.{Actor, code_of, moved_on, next_place}
-use Rattle.sig_model.specs.Operating.{Faults, Gives, Outcome, memory_of, operated, outcome, outcome_by}
-use Rattle.sig_model.specs.Progress.{fills, target_of_op}
-use Rattle.sig_model.specs.Runnable.{FillsAt}
-use Rattle.sig_model.specs.Turns.{Fails, Goes, Turn, turn_by, turn_of_op, turn_with}
-use Rattle.sig_plan.specs.Plans.{PlanView}
-use Rattle.sig_plan.specs.declared.code.StepKind.TheVariants.{Do}
-use Rattle.sig_plan.specs.declared.ended.Cause.{Cause}
-use Rattle.sig_plan.specs.declared.op.Op.{Op}
-use Rattle.sig_plan.specs.declared.op.OpKind.{OpKind}
-use Rattle.sig_plan.specs.declared.op.OpKind.TheVariants.{Read, Compute, Left, Right, DelayRead, Store}
+use Rattle.sig_step.proofs.Common.{◌≡◌, ◌∙◌, ℕ, ℤ, Bool, true, List, length, slice_get, Option, None, Some, refl, sym, ap, subst, OpId, SigId, Place, Kernel, Actor, code_of, moved_on, next_place, Faults, Gives, Outcome, memory_of, operated, outcome, outcome_by, fills, target_of_op, FillsAt, Fails, Goes, Turn, turn_by, turn_of_op, turn_with, PlanView, Do, Cause, Op, OpKind, Read, Compute, Left, Right, DelayRead, Store, Acts, Nothing, IsReady, MayGoOn, MovesOn, actor_of, cause_by, cause_of_op, place_of, Acted, Done, Failed, ClusterState, AreValuesOf, actor_at, instant_of, Values}
 use Rattle.sig_step.proofs.StateLemmas.{may_with}
-use Rattle.sig_step.specs.Acting.{Acts}
-use Rattle.sig_step.specs.LinkEnds.{Nothing}
-use Rattle.sig_step.specs.Moving.{IsReady, MayGoOn, MovesOn}
-use Rattle.sig_step.specs.States.{actor_of, cause_by, cause_of_op, place_of}
-use Rattle.sig_step.specs.declared.answer.Acted.{Acted}
-use Rattle.sig_step.specs.declared.answer.Acted.TheVariants.{Done, Failed}
-use Rattle.sig_step.specs.declared.state.ClusterState.{ClusterState}
-use Rattle.sig_values.specs.Values.{AreValuesOf, actor_at, instant_of}
-use Rattle.sig_values.specs.declared.values.Values.{Values}
 
 -- what is remembered does not depend on whether the actor has ended
 same_memory : (actor : Actor) (ended : Bool) (y : Option SigId) → Gives (memory_of (record actor { ended = ended }) y) ≡ Gives (memory_of actor y)

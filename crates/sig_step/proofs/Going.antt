@@ -1,12 +1,5 @@
 -- How an actor goes on in its code.
-use Rattle.std.proofs.Common.{◌≡◌, ◌≤◌, ◌+◌, ◌∙◌, ℕ, ℤ, false, List, length, nat_lt, slice_get, ap, arith}
-use Rattle.sig_model.specs.Actors.{Actor, code_of, moved_on, position_of}
-use Rattle.sig_plan.specs.Plans.{PlanView}
-use Rattle.sig_step.specs.Moving.{MovesOn}
-use Rattle.sig_step.specs.States.{actor_of}
-use Rattle.sig_step.specs.declared.state.ClusterState.{ClusterState}
-use Rattle.sig_values.specs.Values.{AreValuesOf, actor_at, at_next, last_in, seen_in}
-use Rattle.sig_values.specs.declared.values.Values.{Values}
+use Rattle.sig_step.proofs.Common.{◌≡◌, ◌≤◌, ◌+◌, ◌∙◌, ℕ, ℤ, false, List, length, nat_lt, slice_get, ap, arith, Actor, code_of, moved_on, position_of, PlanView, MovesOn, actor_of, ClusterState, AreValuesOf, actor_at, at_next, last_in, seen_in, Values}
 
 pub no_further : (m n : ℕ) → n ≤ m → nat_lt m n ≡ false
 no_further m n more = grind (arith, more)

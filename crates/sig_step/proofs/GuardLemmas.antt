@@ -1,21 +1,5 @@
 -- The guards of an actor's slots, which are known in an instant once they were met.
-use Rattle.std.proofs.Common.{◌≡◌, ◌<◌, ◌≤◌, ◌⊎◌, ◌∙◌, ◌&&◌, ℕ, Bool, true, false, List, length, get_or, slice_get, set, Option, None, Some, refl, sym, ap, subst, inl, inr, arith, length-set}
-use Rattle.std.proofs.lemmas.Bool.Decides.{eqb_tells}
-use Rattle.std.proofs.lemmas.Option.{slice_get-get_or, slice_get_within}
-use Rattle.sig_base.specs.declared.ids.SigId.{SigId}
-use Rattle.sig_dd.specs.Nodes.{test}
-use Rattle.sig_model.specs.Actors.{code_of, slot_holds, truths_of}
-use Rattle.sig_model.specs.Runnable.{IsRunnable}
-use Rattle.sig_plan.specs.Plans.{PlanView}
-use Rattle.sig_plan.specs.declared.code.Slot.{Slot}
-use Rattle.sig_plan.specs.declared.code.Step.{Step}
-use Rattle.sig_values.proofs.Writing.{get_set_other, get_set_same, some_is}
-use Rattle.sig_values.specs.Values.{conditions_in, instant_of, seen_in}
-use Rattle.sig_step.specs.Acting.{CountsNeeds, CountsWalk}
-use Rattle.sig_step.specs.Moving.{IsSlotMet}
-use Rattle.sig_step.specs.States.{AreMarks, KnowsGuard, known_in, mark_holds, mark_is_met, parent_holds}
-use Rattle.sig_step.specs.declared.state.ClusterState.{ClusterState}
-use Rattle.sig_step.specs.declared.state.Mark.{Mark}
+use Rattle.sig_step.proofs.Common.{◌≡◌, ◌<◌, ◌≤◌, ◌⊎◌, ◌∙◌, ◌&&◌, ℕ, Bool, true, false, List, length, get_or, slice_get, set, Option, None, Some, refl, sym, ap, subst, inl, inr, arith, length-set, eqb_tells, slice_get-get_or, slice_get_within, SigId, test, code_of, slot_holds, truths_of, IsRunnable, PlanView, Slot, Step, get_set_other, get_set_same, some_is, conditions_in, instant_of, seen_in, CountsNeeds, CountsWalk, IsSlotMet, AreMarks, KnowsGuard, known_in, mark_holds, mark_is_met, parent_holds, ClusterState, Mark}
 
 and_drops : (p q : Bool) → (q ≡ true → p ≡ true) → (p && q) ≡ q
 and_drops true q h = refl

@@ -1,3 +1,4 @@
+pub mod Common
 pub mod Beginning
 pub mod Doing
 pub mod Going
@@ -10,3 +11,14 @@ pub mod Taking
 pub mod TruthLemmas
 pub mod Turning
 pub mod WalkLemmas
+unfoldable pub use Common.*
+pub use Beginning.*
+pub use Doing.*
+pub use Going.*
+pub use GuardLemmas.*
+pub use PlainSteps.*
+pub use Several.*
+pub use StateLemmas.*
+pub use Taking.*
+pub use Turning.*
+pub use WalkLemmas.*

@@ -1,19 +1,6 @@
 -- What is known of guards while an actor writes registers and goes on.
-use Rattle.std.proofs.Common.{◌≡◌, ◌≤◌, ◌+◌, ◌∙◌, ℕ, ℤ, Bool, true, false, List, length, nat_lt, slice_get, if◌then◌else◌, Option, None, Some, refl, sym, ap, subst, inl, inr, arith}
-use Rattle.std.proofs.lemmas.Bool.Decides.{eqb_tells}
-use Rattle.sig_base.specs.declared.ids.SigId.{SigId}
-use Rattle.sig_dd.specs.Nodes.{test}
-use Rattle.sig_model.specs.Actors.{Actor, Registers, code_of, no_registers, slot_holds, truths_of, with_at, with_signal}
-use Rattle.sig_model.specs.Runnable.{FillsAt, IsInSlot, IsRunnable}
-use Rattle.sig_plan.specs.Plans.{PlanView}
-use Rattle.sig_plan.specs.declared.code.Slot.{Slot}
-use Rattle.sig_plan.specs.declared.code.Step.{Step}
+use Rattle.sig_step.proofs.Common.{◌≡◌, ◌≤◌, ◌+◌, ◌∙◌, ℕ, ℤ, Bool, true, false, List, length, nat_lt, slice_get, if◌then◌else◌, Option, None, Some, refl, sym, ap, subst, inl, inr, arith, eqb_tells, SigId, test, Actor, Registers, code_of, no_registers, slot_holds, truths_of, with_at, with_signal, FillsAt, IsInSlot, IsRunnable, PlanView, Slot, Step, IsMet, MovesOn, AreMarks, AreMarksAt, actor_of, ClusterState, Mark, instant_of, seen_in}
 use Rattle.sig_step.proofs.TruthLemmas.{test_stays}
-use Rattle.sig_step.specs.Moving.{IsMet, MovesOn}
-use Rattle.sig_step.specs.States.{AreMarks, AreMarksAt, actor_of}
-use Rattle.sig_step.specs.declared.state.ClusterState.{ClusterState}
-use Rattle.sig_step.specs.declared.state.Mark.{Mark}
-use Rattle.sig_values.specs.Values.{instant_of, seen_in}
 
 id_is : (a b : SigId) → a.0 ≡ b.0 → a ≡ b
 id_is a b same = ap (λ n. let c : SigId = record { 0 = n } in c) same

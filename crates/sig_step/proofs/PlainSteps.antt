@@ -1,25 +1,7 @@
 -- Plain steps of an actor: those that ask no link and walk no guard.
-use Rattle.std.proofs.Common.{◌≡◌, ◌≤◌, ◌∙◌, ℕ, zero, suc, ℤ, Bool, true, false, List, length, nat_lt, slice_get, Option, None, Some, refl, sym, ap, subst, arith}
-use Rattle.std.specs.Prelude.{cond, IfErr, Result, Ok, Err}
-use Rattle.sig_base.specs.declared.place.Place.{Place}
-use Rattle.sig_kernel.specs.declared.kernel.Kernel.{Kernel}
-use Rattle.sig_model.specs.Actors.{Actor, code_of, moved_on, slot_holds, truths_of}
-use Rattle.sig_model.specs.Turns.{AtLimit, Goes, Stopped, Turn, turn, turn_at, turn_by}
-use Rattle.sig_plan.specs.Plans.{PlanView}
-use Rattle.sig_plan.specs.declared.code.Step.{Step}
-use Rattle.sig_plan.specs.declared.code.StepKind.{StepKind}
+use Rattle.sig_step.proofs.Common.{◌≡◌, ◌≤◌, ◌∙◌, ℕ, zero, suc, ℤ, Bool, true, false, List, length, nat_lt, slice_get, Option, None, Some, refl, sym, ap, subst, arith, cond, IfErr, Result, Ok, Err, Place, Kernel, Actor, code_of, moved_on, slot_holds, truths_of, AtLimit, Goes, Stopped, Turn, turn, turn_at, turn_by, PlanView, Step, StepKind, Acts, CountsAt, Nothing, IsReady, IsSameActor, IsSlotMet, CanRun, MayGoOn, MovesOn, DoesPlain, DoesPlainSteps, FailsAt, answered_as, AreMarks, IsStateOf, actor_of, Acted, Done, Failed, ClusterState, some_is, instant_of, seen_in}
 use Rattle.sig_step.proofs.Going.{no_further}
 use Rattle.sig_step.proofs.Several.{same_actor_then}
-use Rattle.sig_step.specs.Acting.{Acts, CountsAt}
-use Rattle.sig_step.specs.LinkEnds.{Nothing}
-use Rattle.sig_step.specs.Moving.{IsReady, IsSameActor, IsSlotMet, CanRun, MayGoOn, MovesOn}
-use Rattle.sig_step.specs.Plain.{DoesPlain, DoesPlainSteps, FailsAt, answered_as}
-use Rattle.sig_step.specs.States.{AreMarks, IsStateOf, actor_of}
-use Rattle.sig_step.specs.declared.answer.Acted.{Acted}
-use Rattle.sig_step.specs.declared.answer.Acted.TheVariants.{Done, Failed}
-use Rattle.sig_step.specs.declared.state.ClusterState.{ClusterState}
-use Rattle.sig_values.proofs.Writing.{some_is}
-use Rattle.sig_values.specs.Values.{instant_of, seen_in}
 
 -- a count that does not rise is that of any step
 no_count : (plan : PlanView) (s : ClusterState) (step : Option Step) (count : ℕ) → CountsAt plan s step count count

@@ -1,15 +1,6 @@
 -- A state stays one of its actor while the actor does its steps.
-use Rattle.std.proofs.Common.{◌≡◌, ◌<◌, ◌≤◌, ◌+◌, ◌∙◌, ◌^◌, ℕ, ℤ, Bool, true, false, List, length, nat_lt, slice_get, if◌then◌else◌, Option, Some, refl, sym, ap, subst, arith}
-use Rattle.sig_base.specs.declared.ids.SigId.{SigId}
-use Rattle.sig_model.specs.Actors.{Actor, code_of, no_registers, position_of, with_signal}
-use Rattle.sig_model.specs.Runnable.{FillsAt, IsRunnable}
-use Rattle.sig_plan.specs.Plans.{PlanView}
+use Rattle.sig_step.proofs.Common.{◌≡◌, ◌<◌, ◌≤◌, ◌+◌, ◌∙◌, ◌^◌, ℕ, ℤ, Bool, true, false, List, length, nat_lt, slice_get, if◌then◌else◌, Option, Some, refl, sym, ap, subst, arith, SigId, Actor, code_of, no_registers, position_of, with_signal, FillsAt, IsRunnable, PlanView, MayGoOn, MovesOn, IsStateOf, actor_of, ClusterState, AreValuesOf, instant_of, seen_in, Values}
 use Rattle.sig_step.proofs.MarkLemmas.{marks_filled, marks_moved, same_marks}
-use Rattle.sig_step.specs.Moving.{MayGoOn, MovesOn}
-use Rattle.sig_step.specs.States.{IsStateOf, actor_of}
-use Rattle.sig_step.specs.declared.state.ClusterState.{ClusterState}
-use Rattle.sig_values.specs.Values.{AreValuesOf, instant_of, seen_in}
-use Rattle.sig_values.specs.declared.values.Values.{Values}
 
 module _ (plan : PlanView) (flows : List (List ℤ)) (s new : ClusterState) (may : MayGoOn plan flows s) (moves : MovesOn plan s new) where
   next_in : (b : Bool) → nat_lt (s.step + 1) (length (code_of plan s.actor).steps) ≡ b

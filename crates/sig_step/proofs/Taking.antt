@@ -1,9 +1,5 @@
 -- Items that an actor takes.
-use Rattle.std.proofs.Common.{◌≡◌, ◌≤◌, ◌∙◌, ℤ, List, [], length, sym, subst}
-use Rattle.std.specs.Prelude.{slice_index_or}
-use Rattle.sig_plan.specs.Plans.{PlanView}
-use Rattle.sig_values.specs.Values.{AreAlike, AreValuesOf, taken_in}
-use Rattle.sig_values.specs.declared.values.Values.{Values}
+use Rattle.sig_step.proofs.Common.{◌≡◌, ◌≤◌, ◌∙◌, ℤ, List, [], length, sym, subst, slice_index_or, PlanView, AreAlike, AreValuesOf, taken_in, Values}
 
 -- values of which a register was written
 pub values_written : (plan : PlanView) (flows : List (List ℤ)) (old new : Values) → AreValuesOf plan flows old → AreAlike old new

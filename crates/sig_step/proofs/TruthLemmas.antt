@@ -1,10 +1,5 @@
 -- Truths that agree where a function depends on them, and guards that stay known while registers are written.
-use Rattle.std.proofs.Common.{◌≡◌, ◌≢◌, ◌⊎◌, ◌+◌, ◌∙◌, ◌++◌, ℕ, zero, suc, ℤ, Bool, true, false, List, [], ◌∷◌, length, map, slice_get, None, Some, refl, sym, ap, subst, inl, inr, arith, append_assoc, length-append}
-use Rattle.std.proofs.lemmas.Bool.Decides.{eqb_tells}
-use Rattle.sig_base.specs.declared.ids.SigId.{SigId}
-use Rattle.sig_dd.specs.Diagram.{Depends, with_truth}
-use Rattle.sig_model.specs.Actors.{Registers, is_true, truths_of, with_at}
-use Rattle.sig_values.proofs.Writing.{some_is}
+use Rattle.sig_step.proofs.Common.{◌≡◌, ◌≢◌, ◌⊎◌, ◌+◌, ◌∙◌, ◌++◌, ℕ, zero, suc, ℤ, Bool, true, false, List, [], ◌∷◌, length, map, slice_get, None, Some, refl, sym, ap, subst, inl, inr, arith, append_assoc, length-append, eqb_tells, SigId, Depends, with_truth, Registers, is_true, truths_of, with_at, some_is}
 
 with_truth_at : (pre : List Bool) (t b : Bool) (ts : List Bool) → with_truth (pre ++ t ∷ ts) (length pre) b ≡ pre ++ b ∷ ts
 unfolding with_truth

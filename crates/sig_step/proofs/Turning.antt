@@ -1,22 +1,5 @@
 -- What calls do, by the turn of their actor.
-use Rattle.std.proofs.Common.{◌≡◌, ◌<◌, ◌+◌, ◌∙◌, ℕ, suc, ℤ, Bool, true, false, List, length, nat_lt, get_or, slice_get, if◌then◌else◌, Option, None, Some, refl, sym, ap, arith}
-use Rattle.std.proofs.lemmas.Option.{slice_get-get_or}
-use Rattle.std.specs.Prelude.{unwrap_or}
-use Rattle.sig_kernel.specs.declared.kernel.Kernel.{Kernel}
-use Rattle.sig_model.specs.Actors.{Actor, code_of, no_code, no_registers}
-use Rattle.sig_model.specs.Turns.{Turn, reaction_in, turn_by}
-use Rattle.sig_plan.specs.Codes.{CodeView}
-use Rattle.sig_plan.specs.Plans.{PlanView}
-use Rattle.sig_plan.specs.declared.code.StepKind.TheVariants.{Commit}
-use Rattle.sig_schedules.proofs.Collecting.{commit_last}
-use Rattle.sig_step.specs.Acting.{Acts, TakesTurn}
-use Rattle.sig_step.specs.LinkEnds.{Asks, BothTell, Nothing, Past, PastGoesOn, Queues, QueuesGoOn}
-use Rattle.sig_step.specs.Moving.{IsReady, MovesOn}
-use Rattle.sig_step.specs.States.{actor_of}
-use Rattle.sig_step.specs.declared.answer.Acted.{Acted}
-use Rattle.sig_step.specs.declared.answer.Acted.TheVariants.{Commit as CommitDone}
-use Rattle.sig_step.specs.declared.state.ClusterState.{ClusterState}
-use Rattle.sig_values.specs.Values.{instant_of}
+use Rattle.sig_step.proofs.Common.{◌≡◌, ◌<◌, ◌+◌, ◌∙◌, ℕ, suc, ℤ, Bool, true, false, List, length, nat_lt, get_or, slice_get, if◌then◌else◌, Option, None, Some, refl, sym, ap, arith, slice_get-get_or, unwrap_or, Kernel, Actor, code_of, no_code, no_registers, Turn, reaction_in, turn_by, CodeView, PlanView, Commit, commit_last, Acts, TakesTurn, Asks, BothTell, Nothing, Past, PastGoesOn, Queues, QueuesGoOn, IsReady, MovesOn, actor_of, Finds, NamesNoLink, Acted, AtTheLimit, CommitDone, Done, Empty, Failed, Full, HasStopped, ClusterState, instant_of}
 
 -- ends that were asked nothing
 past_stays : (told : Option Past) → BothTell (PastGoesOn Nothing) told told
@@ -35,6 +18,16 @@ module _ {E : Type 0} (past : E → Option Past) (queues : E → Option Queues) 
   pub turn_alone : (kernel : Kernel) (t : Turn) (acted : Acted) (old new : ClusterState) (ends : E) → Acts kernel t acted old new Nothing
       → TakesTurn past queues kernel t acted old new ends ends
   turn_alone kernel t acted old new ends acts = record { asked = Nothing; acts = acts; asks = asks_nothing ends }
+
+-- an answer that names no link finds none
+pub finds_none : {E : Type 0} (found_full found_empty : ℕ → E → E → Type 0) (acted : Acted) → NamesNoLink acted → (ends : E) → Finds found_full found_empty acted ends ends
+finds_none found_full found_empty (Full j) names ends = absurd names
+finds_none found_full found_empty (Empty j) names ends = absurd names
+finds_none found_full found_empty Done names ends = tt
+finds_none found_full found_empty CommitDone names ends = tt
+finds_none found_full found_empty (Failed place) names ends = tt
+finds_none found_full found_empty AtTheLimit names ends = tt
+finds_none found_full found_empty HasStopped names ends = tt
 
 -- the code of an actor is there
 coded : (plan : PlanView) (k : ℕ) → k < length plan.codes → slice_get plan.codes k ≡ Some (code_of plan k)

@@ -1,17 +1,5 @@
 -- How many nodes the walk of a guard visits.
-use Rattle.std.proofs.Common.{◌≡◌, ◌≢◌, ◌<◌, ◌≤◌, ◌+◌, ◌∙◌, ℕ, zero, suc, Bool, true, false, List, [], ◌∷◌, length, map, get_or, slice_get, Contains, Some, if◌then◌else◌, refl, sym, ap, inl, inr, arith}
-use Rattle.std.proofs.lemmas.Option.{slice_get-get_or}
-use Rattle.sig_base.specs.declared.ids.SigId.{SigId}
-use Rattle.sig_dd.proofs.Canonical.{proper}
-use Rattle.sig_dd.proofs.Functions.{tests_spanned}
-use Rattle.sig_dd.proofs.Trees.{IsProper, Tests-later}
-use Rattle.sig_dd.specs.Diagram.{Choice, Constant, Diagram, Tests, truth_of, visited}
-use Rattle.sig_dd.specs.Nodes.{Holds, IsReduced, diagram}
-use Rattle.sig_dd.specs.declared.node.Node.{Node}
-use Rattle.sig_dd.specs.declared.node.Ref.{Ref}
-use Rattle.sig_model.specs.Actors.{Registers, truths_of}
-use Rattle.sig_values.proofs.Writing.{some_is}
-use Rattle.sig_step.specs.Acting.{CountsNeeds}
+use Rattle.sig_step.proofs.Common.{◌≡◌, ◌≢◌, ◌<◌, ◌≤◌, ◌+◌, ◌∙◌, ℕ, zero, suc, Bool, true, false, List, [], ◌∷◌, length, map, get_or, slice_get, Contains, Some, if◌then◌else◌, refl, sym, ap, inl, inr, arith, slice_get-get_or, SigId, proper, tests_spanned, IsProper, Tests-later, Choice, Constant, Diagram, Tests, truth_of, visited, Holds, IsReduced, diagram, Node, Ref, Registers, truths_of, some_is, CountsNeeds}
 
 -- a list without the item at a place
 drop_at : ℕ → List ℕ → List ℕ

@@ -1,16 +1,6 @@
 -- What a call of an actor's step leaves: its turn, done as the links answer.
-use Rattle.std.specs.Prelude.{◌≡◌, ◌≤◌, ◌+◌, ◌⊎◌, ℕ, ℤ, true, false, List, length, slice_get, Option, None, Some, Contains}
-use Rattle.sig_dd.specs.Nodes.{Spans}
-use Rattle.sig_dd.specs.declared.node.Node.{Node}
-use Rattle.sig_dd.specs.declared.node.Ref.{Ref}
-use Rattle.sig_kernel.specs.declared.kernel.Kernel.{Kernel}
-use Rattle.sig_model.specs.Actors.{Actor, code_of, ended_at}
-use Rattle.sig_model.specs.Turns.{AtLimit, Commits, Fails, Goes, Puts, Stopped, Takes, Turn}
-use Rattle.sig_plan.specs.Plans.{PlanView}
-use Rattle.sig_plan.specs.declared.code.Slot.{Slot}
-use Rattle.sig_plan.specs.declared.code.Step.{Step}
-use Rattle.sig_plan.specs.declared.code.StepKind.{StepKind}
-use Rattle.sig_plan.specs.declared.code.StepKind.TheVariants.{Do, Send, Receive, Report, Collect, Commit as CommitStep}
+use Rattle.std.specs.Prelude.{◌≡◌, ◌≤◌, ◌<◌, ◌+◌, ◌⊎◌}
+use Rattle.sig_step.specs.Prelude.{ℕ, ℤ, true, false, List, length, slice_get, Option, None, Some, Contains, Spans, Node, Ref, Kernel, Actor, code_of, ended_at, AtLimit, Commits, Fails, Goes, Puts, Stopped, Takes, Turn, PlanView, Slot, Step, StepKind, Do, Send, Receive, Report, Collect, Commit as CommitStep, instant_of}
 use Rattle.sig_step.specs.LinkEnds.{Asked, Asks, FoundEmpty, FoundFull, Nothing, Past, Popped, Pushed, Queues}
 use Rattle.sig_step.specs.States.{actor_of, is_met, last_reaction, parent_holds}
 use Rattle.sig_step.specs.declared.answer.Acted.{Acted}
@@ -44,6 +34,26 @@ pub record TakesTurn {E : Type 0} (past : E → Option Past) (queues : E → Opt
   pub acts : Acts kernel turn acted old new asked
   pub asks : Asks past queues asked before after
 
+-- A call that answers that a link had no room, or no item, found that link full, or empty.
+abbrev pub Finds : {E : Type 0} → (ℕ → E → E → Type 0) → (ℕ → E → E → Type 0) → Acted → E → E → Type 0
+Finds found_full found_empty (Full j) before after = found_full j before after
+Finds found_full found_empty (Empty j) before after = found_empty j before after
+Finds found_full found_empty Done before after = Unit {0}
+Finds found_full found_empty Commit before after = Unit {0}
+Finds found_full found_empty (Failed place) before after = Unit {0}
+Finds found_full found_empty AtTheLimit before after = Unit {0}
+Finds found_full found_empty HasStopped before after = Unit {0}
+
+-- an answer names no link
+abbrev pub NamesNoLink : Acted → Type 0
+NamesNoLink (Full j) = ⊥
+NamesNoLink (Empty j) = ⊥
+NamesNoLink Done = Unit {0}
+NamesNoLink Commit = Unit {0}
+NamesNoLink (Failed place) = Unit {0}
+NamesNoLink AtTheLimit = Unit {0}
+NamesNoLink HasStopped = Unit {0}
+
 -- a count of visited nodes rises by no more than the variables that a guard needs
 pub record CountsNeeds (nodes : List Node) (guard : Ref) (before after : ℕ) : Type 0 where
   pub grows : before ≤ after
@@ -64,6 +74,10 @@ CountsAt plan s (Some step) before after =
 -- The count of a call.
 abbrev pub Counts : PlanView → ClusterState → ℕ → ℕ → Type 0
 Counts plan s before after = CountsAt plan s (slice_get (code_of plan s.actor).steps s.step) before after
+
+-- a call that finds the actor ended, or its instant past the limit, walks no guard
+abbrev pub CountsNone : ClusterState → ℕ → ℕ → Type 0
+CountsNone s before after = (s.ended ≡ true) ⊎ (s.limit < instant_of s.values) → after ≡ before
 
 -- the links of an actor's steps are among those to which its ends can push, and those from which they can pop
 abbrev pub MayDo : List ℕ → List ℕ → StepKind → Type 0

@@ -1,6 +1,6 @@
 -- What the ends of links are asked, and what is told of them: what was sent and taken so far, or what each link holds.
-use Rattle.std.specs.Prelude.{◌≡◌, ◌≢◌, ◌<◌, ◌≤◌, ℕ, ℤ, List, [], ◌∷◌, ◌++◌, length, Option, None, Some, Result, Ok, Err}
-use Rattle.sig_base.specs.declared.ids.Full.{Full}
+use Rattle.std.specs.Prelude.{◌≡◌, ◌≢◌, ◌<◌, ◌≤◌, ◌∷◌, ◌++◌}
+use Rattle.sig_step.specs.Prelude.{ℕ, ℤ, List, [], length, Option, None, Some, Result, Ok, Err, Full}
 
 -- what was sent on a link and what was taken from it, as far as a party knows
 pub record LinkPast : Type 0 where

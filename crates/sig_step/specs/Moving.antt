@@ -1,16 +1,11 @@
 -- How a state goes on to the next step.
-use Rattle.std.specs.Prelude.{◌≡◌, ◌≤◌, ℕ, ℤ, List, false, length, slice_get, Some}
-use Rattle.sig_model.specs.Actors.{code_of, moved_on, position_of}
-use Rattle.sig_model.specs.Runnable.{IsRunnable}
-use Rattle.sig_plan.specs.Plans.{IsAccepted, PlanView}
-use Rattle.sig_plan.specs.declared.code.Step.{Step}
-use Rattle.sig_plan.specs.declared.code.StepKind.{StepKind}
+use Rattle.std.specs.Prelude.{◌≡◌, ◌≤◌}
+use Rattle.sig_step.specs.Prelude.{ℕ, ℤ, List, false, length, slice_get, Some, code_of, moved_on, position_of, IsRunnable, IsAccepted, PlanView, Step, StepKind, AreValuesOf, instant_of, last_in, seen_in}
 use Rattle.sig_step.specs.States.{IsStateOf, actor_of}
 use Rattle.sig_step.specs.declared.answer.Acted.{Acted}
 use Rattle.sig_step.specs.declared.answer.Acted.TheVariants.{Done, Commit, Empty, Full, Failed, AtLimit, Stopped}
 use Rattle.sig_step.specs.declared.state.ClusterState.{ClusterState}
 use Rattle.sig_step.specs.declared.state.Mark.{Mark}
-use Rattle.sig_values.specs.Values.{AreValuesOf, instant_of, last_in, seen_in}
 
 -- the slot of this number was met in this instant
 abbrev pub IsSlotMet : ClusterState → ℕ → Type 0

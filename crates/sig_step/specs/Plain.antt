@@ -1,8 +1,6 @@
 -- Plain steps of an actor: those that ask no link and walk no guard.
-use Rattle.std.specs.Prelude.{◌≡◌, ℕ, zero, suc, ℤ, Bool, true, false, List, Result, Ok, Err}
-use Rattle.sig_base.specs.declared.place.Place.{Place}
-use Rattle.sig_model.specs.Turns.{turn}
-use Rattle.sig_plan.specs.Plans.{PlanView}
+use Rattle.std.specs.Prelude.{◌≡◌}
+use Rattle.sig_step.specs.Prelude.{ℕ, zero, suc, ℤ, Bool, true, false, List, Result, Ok, Err, Place, turn, PlanView}
 use Rattle.sig_step.specs.Acting.{Acts, Counts}
 use Rattle.sig_step.specs.LinkEnds.{Nothing}
 use Rattle.sig_step.specs.Moving.{IsSameActor}

@@ -1,20 +1,8 @@
 -- What the state of an actor means, and when it is one of an actor of a plan.
-use Rattle.std.specs.Prelude.{◌≡◌, ◌<◌, ◌≤◌, ◌+◌, ◌^◌, ℕ, ℤ, Bool, true, List, ◌==◌, length, slice_get, Option, None, Some, if◌then◌else◌}
-use Rattle.sig_base.specs.declared.place.Place.{Place}
-use Rattle.sig_kernel.specs.declared.kernel.Kernel.{Kernel}
-use Rattle.sig_model.specs.Actors.{Actor, Registers, code_of, position_of, slot_holds, truths_of}
-use Rattle.sig_model.specs.Operating.{Faults, Gives, Outcome, outcome}
-use Rattle.sig_model.specs.Turns.{Reaction, reaction_in}
-use Rattle.sig_plan.specs.Plans.{PlanView}
-use Rattle.sig_plan.specs.declared.code.Step.{Step}
-use Rattle.sig_plan.specs.declared.code.StepKind.{StepKind}
-use Rattle.sig_plan.specs.declared.code.StepKind.TheVariants.{Do, Send, Receive, Report, Collect, Commit}
-use Rattle.sig_plan.specs.declared.ended.Cause.{Cause}
-use Rattle.sig_plan.specs.declared.ended.Cause.TheVariants.{Limit}
-use Rattle.sig_plan.specs.declared.op.Op.{Op}
+use Rattle.std.specs.Prelude.{◌≡◌, ◌<◌, ◌≤◌, ◌+◌, ◌^◌, ◌==◌, if◌then◌else◌}
+use Rattle.sig_step.specs.Prelude.{ℕ, ℤ, Bool, true, List, length, slice_get, Option, None, Some, Place, Kernel, Actor, Registers, code_of, position_of, slot_holds, truths_of, Faults, Gives, Outcome, outcome, Reaction, reaction_in, PlanView, Step, StepKind, Do, Send, Receive, Report, Collect, Commit, Cause, Limit, Op, AreValuesOf, actor_at, instant_of, last_in, seen_in}
 use Rattle.sig_step.specs.declared.state.ClusterState.{ClusterState}
 use Rattle.sig_step.specs.declared.state.Mark.{Mark}
-use Rattle.sig_values.specs.Values.{AreValuesOf, actor_at, instant_of, last_in, seen_in}
 
 -- the actor that a state is
 abbrev pub actor_of : ClusterState → Actor

@@ -30,7 +30,7 @@ impl ClusterState {
     ) -> Acted
         requires state { IsStateOf plan.now inputs.now self.old }
         requires links { MayUse plan.now self.old.actor (E.pushes ends.old) (E.pops ends.old) }
-        ensures steps { ActsOn E.past E.queues E.same plan.now inputs.now result self.old self.new ends.old ends.new steps.old steps.new }
+        ensures steps { ActsOn E.past E.queues E.found_full E.found_empty E.same plan.now inputs.now result self.old self.new ends.old ends.new steps.old steps.new }
         ensures state { IsStateOf plan.now inputs.now self.new }
         ensures same { IsSameActor self.old self.new }
         ensures pushes { E.pushes ends.new ≡ E.pushes ends.old }

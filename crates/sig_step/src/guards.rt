@@ -1,15 +1,10 @@
 //! The guards of an actor's steps.
 
-ghost use Rattle.std.specs.Prelude.{◌≡◌, ◌<◌, ◌&&◌, ℕ, false, length, slice_get, slice_set, Some};
-ghost use Rattle.sig_dd.specs.Diagram.{Depends};
-ghost use Rattle.sig_dd.specs.Nodes.{Holds, test};
-ghost use Rattle.sig_model.specs.Runnable.{IsRunnable};
-ghost use Rattle.sig_model.specs.Actors.{code_of, slot_holds, truths_of};
-ghost use Rattle.sig_plan.specs.declared.code.Step.{Step};
+ghost use Rattle.std.specs.Prelude.{◌≡◌, ◌<◌, ◌&&◌};
+ghost use Rattle.sig_step.specs.Prelude.{ℕ, false, length, slice_get, slice_set, Some, Depends, Holds, test, IsRunnable, code_of, slot_holds, truths_of, Step, conditions_in, instant_of, seen_in};
 ghost use Rattle.sig_step.specs.Acting.{CountsNeeds, CountsWalk};
 ghost use Rattle.sig_step.specs.Moving.{IsSlotMet};
 ghost use Rattle.sig_step.specs.States.{AreMarks, known_in, mark_holds, parent_holds};
-ghost use Rattle.sig_values.specs.Values.{conditions_in, instant_of, seen_in};
 
 use crate::plans::code_at;
 use crate::state::{ClusterState, Mark};

@@ -1,8 +1,7 @@
 //! The making of an actor's state.
 
-ghost use Rattle.std.specs.Prelude.{◌≡◌, ◌<◌, ◌+◌, ◌^◌, false, length, replicate, IfOk};
-ghost use Rattle.sig_kernel.specs.Validity.{AreFlowsFor};
-ghost use Rattle.sig_model.specs.Actors.{opening_actor};
+ghost use Rattle.std.specs.Prelude.{◌≡◌, ◌<◌, ◌+◌, ◌^◌};
+ghost use Rattle.sig_step.specs.Prelude.{false, length, replicate, IfOk, AreFlowsFor, opening_actor};
 ghost use Rattle.sig_step.specs.States.{IsStateOf, actor_of};
 
 use crate::answer::StepAnswer;

@@ -1,11 +1,9 @@
 //! How an actor goes on in its code.
 
-ghost use Rattle.std.specs.Prelude.{◌≡◌, ◌<◌, ◌+◌, ◌^◌, ℤ, List, length, slice_get, Some};
-ghost use Rattle.sig_model.specs.Actors.{code_of, moved_on, position_of};
-ghost use Rattle.sig_plan.specs.Plans.{PlanView};
+ghost use Rattle.std.specs.Prelude.{◌≡◌, ◌<◌, ◌+◌, ◌^◌};
+ghost use Rattle.sig_step.specs.Prelude.{ℤ, List, length, slice_get, Some, code_of, moved_on, position_of, PlanView, AreValuesOf, instant_of, last_in, seen_in};
 ghost use Rattle.sig_step.specs.Moving.{MayGoOn, MovesOn};
 ghost use Rattle.sig_step.specs.States.{IsStateOf, actor_of};
-ghost use Rattle.sig_values.specs.Values.{AreValuesOf, instant_of, last_in, seen_in};
 
 use crate::state::ClusterState;
 use sig_plan::{Plan, Step};

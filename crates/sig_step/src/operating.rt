@@ -1,10 +1,8 @@
 //! The operations of an actor.
 
-ghost use Rattle.std.specs.Prelude.{◌≡◌, false, Ok};
-ghost use Rattle.sig_model.specs.Actors.{code_of};
-ghost use Rattle.sig_model.specs.Turns.{turn_by};
-ghost use Rattle.sig_plan.specs.declared.code.StepKind.{StepKind};
-ghost use Rattle.sig_step.specs.Acting.{Acts};
+ghost use Rattle.std.specs.Prelude.{◌≡◌};
+ghost use Rattle.sig_step.specs.Prelude.{false, Ok, code_of, turn_by, StepKind};
+ghost use Rattle.sig_step.specs.Acting.{Acts, NamesNoLink};
 ghost use Rattle.sig_step.specs.LinkEnds.{Nothing};
 ghost use Rattle.sig_step.specs.Moving.{IsReady, IsSameActor, StaysMet};
 ghost use Rattle.sig_step.specs.Plain.{answered_as};
@@ -26,6 +24,7 @@ impl ClusterState {
         ensures state { IsStateOf plan.now inputs.now self.new }
         ensures same { IsSameActor self.old self.new }
         ensures met { StaysMet plan.now result self.new }
+        ensures alone { NamesNoLink result }
     {
         match self.do_operation(plan, inputs, o) {
             Ok(true) => Acted::Done,

@@ -1,14 +1,11 @@
 //! Plain steps of an actor: those that ask no link and walk no guard.
 
-ghost use Rattle.std.specs.Prelude.{◌≡◌, ◌<◌, ◌≤◌, ℕ, true, false, length, slice_get, IfErr, IfSome, None, Ok, OnOk, Some};
-ghost use Rattle.sig_model.specs.Actors.{code_of, slot_holds, truths_of};
-ghost use Rattle.sig_model.specs.Runnable.{IsRunnable};
-ghost use Rattle.sig_plan.specs.declared.code.Step.{Step};
+ghost use Rattle.std.specs.Prelude.{◌≡◌, ◌<◌, ◌≤◌};
+ghost use Rattle.sig_step.specs.Prelude.{ℕ, true, false, length, slice_get, IfErr, IfSome, None, Ok, OnOk, Some, code_of, slot_holds, truths_of, IsRunnable, Step, conditions_in, instant_of, seen_in};
 ghost use Rattle.sig_step.specs.Moving.{CanRun, IsSameActor, IsSlotMet};
 ghost use Rattle.sig_step.specs.Plain.{DoesPlain, DoesPlainSteps, FailsAt};
 ghost use Rattle.sig_step.specs.States.{AreMarks, IsStateOf};
 ghost use Rattle.sig_step.specs.declared.answer.Acted.TheVariants.{Done, Failed};
-ghost use Rattle.sig_values.specs.Values.{conditions_in, instant_of, seen_in};
 
 use crate::guards::slot_in;
 use crate::moving::step_in;

@@ -1,9 +1,7 @@
 //! The parts of a plan.
 
-ghost use Rattle.std.specs.Prelude.{◌≡◌, ◌<◌, length, slice_get};
-ghost use Rattle.sig_model.specs.Actors.{code_of};
-ghost use Rattle.sig_model.specs.Turns.{carried};
-ghost use Rattle.sig_plan.specs.Plans.{IsAccepted};
+ghost use Rattle.std.specs.Prelude.{◌≡◌, ◌<◌};
+ghost use Rattle.sig_step.specs.Prelude.{length, slice_get, code_of, carried, IsAccepted};
 ghost use Rattle.sig_step.specs.Moving.{CanRun};
 
 use sig_base::SigId;

@@ -1,12 +1,8 @@
 //! The text of a reaction.
 
-ghost use Rattle.std.specs.Prelude.{◌≤◌, ◌<◌, OnErr, OnOk, length};
-ghost use Rattle.sig_alone.specs.Lines.{line_at};
-ghost use Rattle.sig_kernel.specs.OutputText.{outputs_of, seen_lines};
+ghost use Rattle.std.specs.Prelude.{◌≤◌, ◌<◌};
+ghost use Rattle.sig_step.specs.Prelude.{OnErr, OnOk, length, line_at, outputs_of, seen_lines, Rose, TookPrefix, last_in};
 ghost use Rattle.sig_step.specs.States.{last_reaction};
-ghost use Rattle.sig_text.specs.Counts.{Rose};
-ghost use Rattle.sig_text.specs.Sink.{TookPrefix};
-ghost use Rattle.sig_values.specs.Values.{last_in};
 
 use crate::plans::kernel_of;
 use crate::state::ClusterState;

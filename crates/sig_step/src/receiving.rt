@@ -1,11 +1,8 @@
 //! The items that an actor takes.
 
-ghost use Rattle.std.specs.Prelude.{◌≡◌, ℤ, Contains, length, Some};
-ghost use Rattle.sig_base.specs.declared.ids.SigId.{SigId};
-ghost use Rattle.sig_model.specs.Actors.{code_of, moved_on};
-ghost use Rattle.sig_model.specs.Runnable.{FillsAt, IsThere, IsRunnable};
-ghost use Rattle.sig_model.specs.Turns.{Takes, received};
-ghost use Rattle.sig_step.specs.Acting.{TakesTurn};
+ghost use Rattle.std.specs.Prelude.{◌≡◌};
+ghost use Rattle.sig_step.specs.Prelude.{ℤ, Contains, length, Some, SigId, code_of, moved_on, FillsAt, IsThere, IsRunnable, Takes, received};
+ghost use Rattle.sig_step.specs.Acting.{Finds, TakesTurn};
 ghost use Rattle.sig_step.specs.Moving.{IsSameActor, MayGoOn, StaysMet};
 ghost use Rattle.sig_step.specs.States.{IsStateOf, actor_of};
 
@@ -37,6 +34,7 @@ impl ClusterState {
             result self.old self.new ends.old ends.new }
         ensures state { IsStateOf plan.now inputs.now self.new }
         ensures same { IsSameActor self.old self.new }
+        ensures found { Finds E.found_full E.found_empty result ends.old ends.new }
         ensures ends { E.same ends.old ends.new }
         ensures met { StaysMet plan.now result self.new }
         ensures pushes { E.pushes ends.new ≡ E.pushes ends.old }

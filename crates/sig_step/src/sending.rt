@@ -1,12 +1,10 @@
 //! The items that an actor sends.
 
-ghost use Rattle.std.specs.Prelude.{◌≡◌, Contains, length};
-ghost use Rattle.sig_model.specs.Actors.{code_of, moved_on};
-ghost use Rattle.sig_model.specs.Turns.{Puts, item_of};
-ghost use Rattle.sig_step.specs.Acting.{TakesTurn};
+ghost use Rattle.std.specs.Prelude.{◌≡◌};
+ghost use Rattle.sig_step.specs.Prelude.{Contains, length, code_of, moved_on, Puts, item_of, seen_in};
+ghost use Rattle.sig_step.specs.Acting.{Finds, TakesTurn};
 ghost use Rattle.sig_step.specs.Moving.{IsSameActor, MayGoOn, StaysMet};
 ghost use Rattle.sig_step.specs.States.{IsStateOf, actor_of};
-ghost use Rattle.sig_values.specs.Values.{seen_in};
 
 use crate::answer::Acted;
 use crate::ends::Ends;
@@ -43,6 +41,7 @@ impl ClusterState {
             result self.old self.new ends.old ends.new }
         ensures state { IsStateOf plan.now inputs.now self.new }
         ensures same { IsSameActor self.old self.new }
+        ensures found { Finds E.found_full E.found_empty result ends.old ends.new }
         ensures ends { E.same ends.old ends.new }
         ensures met { StaysMet plan.now result self.new }
         ensures pushes { E.pushes ends.new ≡ E.pushes ends.old }

@@ -1,9 +1,7 @@
 //! The state of one actor.
 
-ghost use Rattle.std.specs.Prelude.{◌≡◌, ◌<◌, ◌↔◌, ℤ, List, false, true, length, slice_get, IsTrue, Some, if◌then◌else◌};
-ghost use Rattle.sig_base.specs.Places.{packed};
-ghost use Rattle.sig_model.specs.Actors.{code_of};
-ghost use Rattle.sig_plan.specs.Plans.{PlanView};
+ghost use Rattle.std.specs.Prelude.{◌≡◌, ◌<◌, ◌↔◌, if◌then◌else◌};
+ghost use Rattle.sig_step.specs.Prelude.{ℤ, List, false, true, length, slice_get, IsTrue, Some, packed, code_of, PlanView};
 
 use crate::moving::step_in;
 use crate::plans::code_at;

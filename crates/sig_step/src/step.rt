@@ -1,12 +1,10 @@
 //! The next step of an actor.
 
-ghost use Rattle.std.specs.Prelude.{◌≡◌, ◌≤◌, ℕ, false, length, slice_get, if◌then◌else◌};
-ghost use Rattle.sig_model.specs.Actors.{code_of, moved_on};
-ghost use Rattle.sig_model.specs.Turns.{Goes, turn, turn_at, turn_by};
-ghost use Rattle.sig_step.specs.Acting.{Counts, MayDo, MayUse, TakesTurn};
+ghost use Rattle.std.specs.Prelude.{◌≡◌, ◌≤◌, if◌then◌else◌};
+ghost use Rattle.sig_step.specs.Prelude.{ℕ, false, length, slice_get, code_of, moved_on, Goes, turn, turn_at, turn_by, instant_of};
+ghost use Rattle.sig_step.specs.Acting.{Counts, CountsNone, Finds, MayDo, MayUse, TakesTurn};
 ghost use Rattle.sig_step.specs.Moving.{IsReady, IsSameActor, StaysMet};
 ghost use Rattle.sig_step.specs.States.{IsStateOf, actor_of};
-ghost use Rattle.sig_values.specs.Values.{instant_of};
 
 use crate::answer::Acted;
 use crate::ends::Ends;
@@ -19,8 +17,8 @@ use std::sync::ledger::Ledger;
 
 impl ClusterState {
     /// Does the next step of the actor, with its link ends, and counts the nodes that walks of guards
-    /// visit. A guard is walked once in an instant at most, and only where that of its parent holds. It
-    /// takes no memory.
+    /// visit. A guard is walked once in an instant at most, and only where that of its parent holds. Where
+    /// it answers that a link is full or empty, that link was found so in this call. It takes no memory.
     #[inline(always)]
     pub fn act<E: Ends, L: Ledger>(
         &mut self,
@@ -35,11 +33,13 @@ impl ClusterState {
         ensures same { IsSameActor self.old self.new }
         ensures turn { TakesTurn E.past E.queues plan.now.kernel (turn plan.now inputs.now self.old.limit self.old.actor (actor_of self.old))
             result self.old self.new ends.old ends.new }
+        ensures found { Finds E.found_full E.found_empty result ends.old ends.new }
         ensures ends { E.same ends.old ends.new }
         ensures met { StaysMet plan.now result self.new }
         ensures pushes { E.pushes ends.new ≡ E.pushes ends.old }
         ensures pops { E.pops ends.new ≡ E.pops ends.old }
         ensures counts { Counts plan.now self.old steps.old steps.new }
+        ensures idle { CountsNone self.old steps.old steps.new }
     {
         if self.ended {
             return Acted::Stopped;
@@ -68,6 +68,7 @@ impl ClusterState {
         ensures same { IsSameActor self.old self.new }
         ensures turn { TakesTurn E.past E.queues plan.now.kernel (turn_at plan.now inputs.now (code_of plan.now self.old.actor) (actor_of self.old) (slice_get (code_of plan.now self.old.actor).steps self.old.step))
             result self.old self.new ends.old ends.new }
+        ensures found { Finds E.found_full E.found_empty result ends.old ends.new }
         ensures ends { E.same ends.old ends.new }
         ensures met { StaysMet plan.now result self.new }
         ensures pushes { E.pushes ends.new ≡ E.pushes ends.old }
@@ -97,6 +98,7 @@ impl ClusterState {
         ensures turn { TakesTurn E.past E.queues plan.now.kernel
             (if holds then turn_by plan.now inputs.now (code_of plan.now self.old.actor) (actor_of self.old) kind else Goes (moved_on (length (code_of plan.now self.old.actor).steps) (actor_of self.old)))
             result self.old self.new ends.old ends.new }
+        ensures found { Finds E.found_full E.found_empty result ends.old ends.new }
         ensures ends { E.same ends.old ends.new }
         ensures met { StaysMet plan.now result self.new }
         ensures pushes { E.pushes ends.new ≡ E.pushes ends.old }
@@ -125,6 +127,7 @@ impl ClusterState {
         ensures same { IsSameActor self.old self.new }
         ensures turn { TakesTurn E.past E.queues plan.now.kernel (turn_by plan.now inputs.now (code_of plan.now self.old.actor) (actor_of self.old) kind)
             result self.old self.new ends.old ends.new }
+        ensures found { Finds E.found_full E.found_empty result ends.old ends.new }
         ensures ends { E.same ends.old ends.new }
         ensures met { StaysMet plan.now result self.new }
         ensures pushes { E.pushes ends.new ≡ E.pushes ends.old }

@@ -1,7 +1,5 @@
 -- Choices for each number below one, as a list.
-use Rattle.std.proofs.Common.{◌≡◌, ◌<◌, ℕ, zero, suc, List, [], ◌∷◌, length, refl, ap, subst, arith}
-use Rattle.std.specs.Prelude.{None, Some, slice_get}
-use Rattle.sig_values.proofs.Writing.{some_is}
+use Rattle.sig_work.proofs.Common.{◌≡◌, ◌<◌, ℕ, zero, suc, List, [], ◌∷◌, length, refl, ap, subst, arith, None, Some, slice_get, some_is}
 
 module _ {A : Type 0} where
   with_first : (P : ℕ → A → Type 0) (x : A) (xs : List A) → P 0 x → ((k : ℕ) (a : A) → slice_get xs k ≡ Some a → P (suc k) a)

@@ -1,12 +1,5 @@
 -- Members counted by their numbers: where a number is counted once, one member has it.
-use Rattle.std.proofs.Common.{◌≡◌, ◌≤◌, ◌∙◌, ℕ, zero, suc, Bool, true, false, cond, List, [], ◌∷◌, refl, ap, sym, subst, arith}
-use Rattle.std.specs.Prelude.{None, Some, slice_get, sum_by, ◌==◌}
-use Rattle.std.proofs.lemmas.Bool.{eq-eqb, eqb-true}
-use Rattle.std.proofs.lemmas.List.Sums.{sum_by-cons}
-use Rattle.sig_values.proofs.Writing.{some_is}
-use Rattle.sig_work.specs.Among.{IsAmong, times, times_in}
-use Rattle.sig_work.specs.declared.member.Member.{Member}
-use Rattle.sig_work.specs.declared.share.Share.{Share}
+use Rattle.sig_work.proofs.Common.{◌≡◌, ◌≤◌, ◌∙◌, ℕ, zero, suc, Bool, true, false, cond, List, [], ◌∷◌, refl, ap, sym, subst, arith, None, Some, slice_get, sum_by, ◌==◌, eq-eqb, eqb-true, sum_by-cons, some_is, IsAmong, times, times_in, Member, Share}
 
 module _ {A : Type 0} (f : A → ℕ) where
   -- an item counts no more than all

@@ -1,39 +1,8 @@
 -- Actors that were dealt to shares.
-use Rattle.std.proofs.Common.{◌≡◌, ◌<◌, ◌≤◌, ◌+◌, ◌-◌, ◌*◌, ◌/◌, ◌%◌, ◌++◌, ◌∙◌, inl, inr, ℕ, zero, suc, ℤ, Bool, true, false, cond, List, [], ◌∷◌, length, refl, ap, sym, subst, arith}
-use Rattle.std.specs.Prelude.{None, Option, Some, min, slice_get, sum_by, vec_capacity, ◌==◌, ◌||◌}
-use Rattle.std.proofs.lemmas.Bool.{eq-eqb, eqb-true}
-use Rattle.std.proofs.Math.Nat.{mod-eq_of_lt, mul_comm}
-use Rattle.std.proofs.lemmas.List.{length-append}
-use Rattle.std.proofs.lemmas.List.Sums.{sum_by-cons, sum_by_push}
-use Rattle.sig_base.specs.Places.{no_place}
-use Rattle.sig_clock.proofs.Lists.{get_within}
-use Rattle.sig_halt.specs.Seats.{IsSeatOf, halt_parts, parts, recorded, seen}
-use Rattle.sig_halt.specs.declared.halt.Halt.{Halt}
-use Rattle.sig_halt.specs.declared.halt_seat.HaltSeat.{HaltSeat}
-use Rattle.sig_link.specs.Ends.{OfOneLink}
-use Rattle.sig_link.specs.declared.put.Put.{Put}
-use Rattle.sig_link.specs.declared.take.Take.{Take}
-use Rattle.sig_meaning.proofs.Agreement.{some_at}
-use Rattle.sig_meaning.proofs.Numbers.{same_or_not}
-use Rattle.sig_model.specs.Actors.{Actor, opening_actor}
-use Rattle.sig_model.specs.Cores.{Given}
-use Rattle.sig_model.specs.Turns.{Reaction}
-use Rattle.sig_plan.specs.Plans.{IsAccepted, PlanView}
-use Rattle.sig_settling.specs.OwnSteps.{opening_own}
-use Rattle.sig_step.specs.States.{IsStateOf, actor_of, place_of}
-use Rattle.sig_step.specs.declared.state.ClusterState.{ClusterState}
-use Rattle.sig_values.proofs.Writing.{some_is}
+use Rattle.sig_work.proofs.Common.{◌≡◌, ◌<◌, ◌≤◌, ◌+◌, ◌-◌, ◌*◌, ◌/◌, ◌%◌, ◌++◌, ◌∙◌, inl, inr, ℕ, zero, suc, ℤ, Bool, true, false, cond, List, [], ◌∷◌, length, refl, ap, sym, subst, arith, None, Option, Some, min, slice_get, sum_by, vec_capacity, ◌==◌, ◌||◌, eq-eqb, eqb-true, mod-eq_of_lt, mul_comm, length-append, sum_by-cons, sum_by_push, no_place, get_within, IsSeatOf, halt_parts, parts, recorded, seen, Halt, HaltSeat, OfOneLink, Put, Take, some_at, same_or_not, Actor, opening_actor, Given, Reaction, IsAccepted, PlanView, opening_own, IsStateOf, actor_of, place_of, ClusterState, some_is, IsAmong, times, times_in, AreHandedFrom, AreJoined, AreNumbered, AreOpened, AreSeated, HasGiven, IsOpened, IsSameBare, share_for, HasEnds, HasNoEnds, sent_by, sent_of, taken_by, taken_of, AreDealt, IsFresh, IsShareOf, is_collector, EndsWith, HasDone, IsBehindSeen, IsMember, before_stop, commits_of, failure_in, own_of, word_of, AreServing, least_failed, Member, Share}
 use Rattle.sig_work.proofs.Giving.{placed_here, seats_here, times_here, times_others}
 use Rattle.sig_work.proofs.Leaving.{same_sums}
 use Rattle.sig_work.proofs.Placing.{get_more}
-use Rattle.sig_work.specs.Among.{IsAmong, times, times_in}
-use Rattle.sig_work.specs.Dealing.{AreHandedFrom, AreJoined, AreNumbered, AreOpened, AreSeated, HasGiven, IsOpened, IsSameBare, share_for}
-use Rattle.sig_work.specs.Ends.{HasEnds, HasNoEnds, sent_by, sent_of, taken_by, taken_of}
-use Rattle.sig_work.specs.Gathered.{AreDealt, IsFresh, IsShareOf}
-use Rattle.sig_work.specs.Members.{is_collector, EndsWith, HasDone, IsBehindSeen, IsMember, before_stop, commits_of, failure_in, own_of, word_of}
-use Rattle.sig_work.specs.Shares.{AreServing, least_failed}
-use Rattle.sig_work.specs.declared.member.Member.{Member}
-use Rattle.sig_work.specs.declared.share.Share.{Share}
 
 -- ---- opening
 

@@ -1,18 +1,5 @@
 -- The ends of an actor, with one of them changed.
-use Rattle.std.proofs.Common.{◌≡◌, ◌<◌, ◌≤◌, ◌+◌, ◌++◌, inl, inr, ℕ, zero, suc, ℤ, Bool, true, false, cond, List, [], ◌∷◌, length, get_or, set, Result, Ok, Err, refl, ap, sym, subst, ◌∙◌, arith, Contains}
-use Rattle.std.specs.Prelude.{IfNone, IfSome, None, OnErr, OnOk, Option, Some, slice_get}
-use Rattle.std.specs.List.{filter, range_with_len}
-use Rattle.std.proofs.lemmas.List.{length-set}
-use Rattle.sig_clock.proofs.Lists.{contains_cons, contains_head, contains_later, contains_none, get_at, get_within}
-use Rattle.sig_link.specs.Ends.{put_capacity, put_link, sent, take_link, taken}
-use Rattle.sig_link.specs.declared.put.Put.{Put}
-use Rattle.sig_link.specs.declared.take.Take.{Take}
-use Rattle.sig_meaning.proofs.Numbers.{same_or_not}
-use Rattle.sig_base.specs.declared.ids.Full.{Full}
-use Rattle.sig_schedules.proofs.Lists.{set_here}
-use Rattle.sig_step.specs.LinkEnds.{PastGoesOn, asked_to_pop, asked_to_push}
-use Rattle.sig_work.specs.Ends.{AreSameEnds, has_put, has_take, past_of, puts_of, sent_by, sent_of, taken_by, taken_of, takes_of}
-use Rattle.sig_work.specs.declared.ends.LinkEnds.{LinkEnds}
+use Rattle.sig_work.proofs.Common.{◌≡◌, ◌<◌, ◌≤◌, ◌+◌, ◌++◌, inl, inr, ℕ, zero, suc, ℤ, Bool, true, false, cond, List, [], ◌∷◌, length, get_or, set, Result, Ok, Err, refl, ap, sym, subst, ◌∙◌, arith, Contains, IfNone, IfSome, None, OnErr, OnOk, Option, Some, slice_get, filter, range_with_len, length-set, contains_cons, contains_head, contains_later, contains_none, get_at, get_within, put_capacity, put_link, sent, FoundEmpty, FoundFull, take_link, taken, Put, Take, same_or_not, Full, set_here, PastGoesOn, asked_to_pop, asked_to_push, AreSameEnds, HasFoundEmpty, HasFoundFull, has_put, has_take, past_of, puts_of, sent_by, sent_of, taken_by, taken_of, takes_of, LinkEnds}
 
 pub set_apart : {A : Type 0} (xs : List A) (k : ℕ) (x : A) (m : ℕ) → ((m ≡ k) → ⊥) → slice_get (set xs k x) m ≡ slice_get xs m
 set_apart {A} [] k x m apart = refl
@@ -257,10 +244,24 @@ module _ (ends later : LinkEnds) (link : ℕ) (old new : Take) (at : slice_get e
   pub popped_puts : puts_of later ≡ puts_of ends
   popped_puts = ap (λ ps. filter (λ j. has_put (slice_get ps.items j)) (range_with_len 0 (length ps.items))) puts_are
 
-pub none_first : {A : Type 0} (o : Option A) (P Q : Type 0) → IfNone o (P × Q) → IfNone o P
-none_first {A} None P Q both = both.0
-none_first {A} (Some x) P Q both = tt
+-- ---- a link that was found full, or empty
 
-pub err_first : {A B : Type 0} (result : Result A B) (P Q : Type 0) → OnErr result (P × Q) → OnErr result P
-err_first {A} {B} (Ok x) P Q both = tt
-err_first {A} {B} (Err e) P Q both = both.0
+pub full_stays : {U : Type 0} (result : Result U Full) (old new : Put) → OnErr result (FoundFull old new) → OnErr result (sent new ≡ sent old)
+full_stays {U} (Ok done) old new found = tt
+full_stays {U} (Err full) old new found = found.stays
+
+pub empty_stays : (o : Option ℤ) (old new : Take) → IfNone o (FoundEmpty old new) → IfNone o (taken new ≡ taken old)
+empty_stays (Some x) old new found = tt
+empty_stays None old new found = found.stays
+
+pub found_full_here : {U : Type 0} (result : Result U Full) (ends later : LinkEnds) (link : ℕ) (old new : Put) → slice_get ends.puts.items link ≡ Some (Some old) → later.puts.items ≡ set ends.puts.items link (Some new)
+    → OnErr result (FoundFull old new) → OnErr result (HasFoundFull link ends later)
+found_full_here {U} (Ok done) ends later link old new at puts_are found = tt
+found_full_here {U} (Err full) ends later link old new at puts_are found =
+    record { before = old; after = new; was = at; is = ap (λ (xs : List (Option Put)). slice_get xs link) puts_are ∙ set_here ends.puts.items link (Some new) (Some old) at; found = found }
+
+pub found_empty_here : (o : Option ℤ) (ends later : LinkEnds) (link : ℕ) (old new : Take) → slice_get ends.takes.items link ≡ Some (Some old) → later.takes.items ≡ set ends.takes.items link (Some new)
+    → IfNone o (FoundEmpty old new) → IfNone o (HasFoundEmpty link ends later)
+found_empty_here (Some x) ends later link old new at takes_are found = tt
+found_empty_here None ends later link old new at takes_are found =
+    record { before = old; after = new; was = at; is = ap (λ (xs : List (Option Take)). slice_get xs link) takes_are ∙ set_here ends.takes.items link (Some new) (Some old) at; found = found }

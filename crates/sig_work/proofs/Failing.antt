@@ -1,20 +1,6 @@
 -- An actor that failed did so within the limit; and the order of places as words.
-use Rattle.std.proofs.Common.{◌≡◌, ◌<◌, ◌≤◌, ◌^◌, ◌∙◌, inl, inr, ℕ, zero, suc, Bool, true, false, cond, length, refl, ap, sym, subst, arith}
-use Rattle.std.specs.Prelude.{None, Option, Some, nat_lt, slice_get}
-use Rattle.std.proofs.lemmas.Bool.{and_from, and_parts, cases_order, eq-eqb, eqb-true, lt-ltb, ltb-false, ltb-true, or_cases, or_left, or_right}
-use Rattle.std.specs.Prelude.{◌==◌, ◌&&◌}
-use Rattle.sig_base.specs.Places.{packed}
-use Rattle.sig_base.specs.declared.place.Place.{Place}
-use Rattle.sig_model.specs.Actors.{Actor, code_of, guard_holds, moved_on}
-use Rattle.sig_model.specs.Cores.{Given, is_before}
-use Rattle.sig_model.specs.Operating.{Faults, Gives, Outcome, outcome}
-use Rattle.sig_model.specs.Turns.{AtLimit, Commits, Fails, Goes, Puts, Stopped, Takes, Turn, turn, turn_at, turn_by, turn_of_op, turn_with}
-use Rattle.sig_plan.specs.declared.code.Step.{Step}
-use Rattle.sig_plan.specs.declared.code.StepKind.{StepKind}
-use Rattle.sig_plan.specs.declared.code.StepKind.TheVariants.{Do, Send, Receive, Report, Collect, Commit}
-use Rattle.sig_plan.specs.declared.op.Op.{Op}
-use Rattle.sig_settling.specs.OwnSteps.{HasTurned, IsOwn, IsOwnStep, LeadBy, Own, opening_own}
-use Rattle.sig_values.proofs.Writing.{some_is}
+use Rattle.sig_work.proofs.Common.{◌≡◌, ◌<◌, ◌≤◌, ◌^◌, ◌∙◌, inl, inr, ℕ, zero, suc, Bool, true, false, cond, length, refl, ap, sym, subst, arith, None, Option, Some, nat_lt, slice_get, and_from, and_parts, cases_order, eq-eqb, eqb-true, lt-ltb, ltb-false, ltb-true, or_cases, or_left, or_right, ◌==◌, ◌&&◌, packed, Place, Actor, code_of, guard_holds, moved_on, Given, is_before, Faults, Gives, Outcome, outcome, Commits, Fails, Goes, Puts, Stopped, Takes, Turn, turn, turn_at, turn_by, turn_of_op, turn_with, Step, StepKind, Do, Send, Receive, Report, Collect, Commit, Op, HasTurned, IsOwn, IsOwnStep, LeadBy, Own, opening_own, some_is}
+use Rattle.sig_model.specs.Turns.{AtLimit}
 
 -- ---- where an actor fails
 

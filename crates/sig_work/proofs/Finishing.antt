@@ -1,49 +1,11 @@
 -- Shares that were served to their end hold a finished state.
-use Rattle.std.proofs.Common.{◌≡◌, ◌<◌, ◌≤◌, ◌-◌, ◌+◌, ◌++◌, ◌^◌, ◌∙◌, ◌⊎◌, inl, inr, ℕ, suc, ℤ, true, false, List, [], ◌∷◌, length, take, refl, ap, sym, subst, arith}
-use Rattle.std.specs.Prelude.{None, Option, Some, min, slice_get, slice_index_or}
-use Rattle.std.proofs.lemmas.List.{length-map, length-take}
-use Rattle.sig_base.specs.Places.{no_place, packed}
-use Rattle.sig_base.specs.Traces.{Instant, Trace, seen_at}
-use Rattle.sig_base.specs.declared.place.Place.{Place}
-use Rattle.sig_halt.specs.Seats.{seen}
-use Rattle.sig_halt.specs.declared.halt.Halt.{Halt}
-use Rattle.sig_clock.proofs.Lists.{get_within}
-use Rattle.sig_meaning.proofs.Agreement.{some_at}
-use Rattle.sig_meaning.proofs.Ending.{fitting}
-use Rattle.sig_meaning.proofs.Numbers.{at_most_or}
-use Rattle.sig_meaning.proofs.References.{some_reference}
-use Rattle.sig_model.specs.Actors.{Actor, code_of, ended_at, next_place, position_of}
-use Rattle.sig_model.specs.Cores.{Core, Given, IsFinished, after, cause_of, word_before}
-use Rattle.sig_model.specs.Progress.{IsOnReference, reactions_of}
-use Rattle.sig_model.specs.References.{IsReference}
-use Rattle.sig_model.specs.Turns.{Reaction, reaction_in}
-use Rattle.sig_model.specs.declared.event.Event.{Event}
-use Rattle.sig_plan.specs.Plans.{IsAccepted}
-use Rattle.sig_plan.specs.declared.ended.Cause.{Cause}
+use Rattle.sig_work.proofs.Common.{◌≡◌, ◌<◌, ◌≤◌, ◌-◌, ◌+◌, ◌++◌, ◌^◌, ◌∙◌, ◌⊎◌, inl, inr, ℕ, suc, ℤ, true, false, List, [], ◌∷◌, length, take, refl, ap, sym, subst, arith, None, Option, Some, min, slice_get, slice_index_or, length-map, length-take, no_place, packed, Instant, Trace, seen_at, Place, seen, Halt, get_within, some_at, fitting, at_most_or, some_reference, Actor, code_of, ended_at, next_place, position_of, Core, Given, IsFinished, after, cause_of, word_before, IsOnReference, reactions_of, IsReference, Reaction, reaction_in, Event, IsAccepted, Cause, after_has_end, after_on, Own, ActInOrder, AreSettled, HasEndedBy, LeadBy, LookBehind, acts_then_looks, opening_own, times_among, IsLeastFailure, collector_of, actor_of, place_of, some_is, instant_of, IsAmong, taken_of, AreDone, AreTogether, HoldFinished, IsEndOfRun, EndsWith, HasDone, IsBehindSeen, before_stop, commits_of, failure_in, own_of, word_of, AreSettledBelow, least_failed, HasActors, IsClosed, IsLeastWord, IsWord, NamesCause, Ending, Failed, Looked, AtLimit, Faulted, Member, Share}
 use Rattle.sig_plan.specs.declared.ended.Ended.{Ended}
-use Rattle.sig_schedules.proofs.Finished.{after_has_end}
-use Rattle.sig_schedules.proofs.Interleavings.{after_on}
-use Rattle.sig_settling.specs.OwnSteps.{Own}
-use Rattle.sig_settling.specs.Settled.{AreSettled, HasEndedBy, IsLeastFailure, collector_of}
-use Rattle.sig_step.specs.States.{actor_of, place_of}
-use Rattle.sig_values.proofs.Writing.{some_is}
-use Rattle.sig_values.specs.Values.{instant_of}
 use Rattle.sig_work.proofs.Choosing.{chosen}
 use Rattle.sig_work.proofs.Failing.{not_before, own_failed, packed_before}
-use Rattle.sig_work.proofs.Settled.{SettledFinish, least_same}
+use Rattle.sig_work.proofs.Settled.{SettledInOrder, least_same}
 use Rattle.sig_work.proofs.Placing.{get_past}
 use Rattle.sig_work.proofs.Together.{balanced, done_of, links, one_among, own, own_commits, own_is, there, within}
-use Rattle.sig_work.specs.Among.{IsAmong}
-use Rattle.sig_work.specs.Ends.{taken_of}
-use Rattle.sig_work.specs.Gathered.{AreDone, AreTogether, HoldFinished, IsEndOfRun}
-use Rattle.sig_work.specs.Members.{EndsWith, HasDone, IsBehindSeen, before_stop, commits_of, failure_in, own_of, word_of}
-use Rattle.sig_work.specs.Settling.{AreSettledBelow}
-use Rattle.sig_work.specs.Shares.{least_failed}
-use Rattle.sig_work.specs.Words.{HasActors, IsClosed, IsLeastWord, IsWord, NamesCause}
-use Rattle.sig_work.specs.declared.member.Ending.{Ending}
-use Rattle.sig_work.specs.declared.member.Ending.TheVariants.{Failed, Looked, AtLimit, Faulted}
-use Rattle.sig_work.specs.declared.member.Member.{Member}
-use Rattle.sig_work.specs.declared.share.Share.{Share}
 
 -- where all were served, each is what its own steps leave
 pub done_run : (given : Given) (committed : List Reaction) (word : Halt) (shares : List Share) → AreDone given committed word shares → AreTogether given committed word shares
@@ -77,7 +39,7 @@ ended_is i j c d one two =
     ap (λ n. let e : Ended = record { instants = n; cause = c } in e) one ∙ ap (λ x. let e : Ended = record { instants = j; cause = x } in e) two
 
 module _ (given : Given) (accepted : IsAccepted given.plan) (committed : List Reaction) (halt : Halt) (shares : List Share) (done : AreDone given committed halt shares)
-    (settled : AreSettledBelow (length given.plan.links) given.plan.links shares) (word : ℕ) (least : IsLeastWord shares word) (closed : ℕ) (close : IsClosed shares closed) (law : SettledFinish) where
+    (settled : AreSettledBelow (length given.plan.links) given.plan.links shares) (word : ℕ) (least : IsLeastWord shares word) (closed : ℕ) (close : IsClosed shares closed) (law : SettledInOrder) where
   abbrev run : AreTogether given committed halt shares
   run = done_run given committed halt shares done
 
@@ -264,8 +226,14 @@ module _ (given : Given) (accepted : IsAccepted given.plan) (committed : List Re
   abbrev state : Core
   state = record { actors = all_actors.0; links = held; word = place; committed = (mine (collector_of given)).committed }
 
+  abbrev acted : (numbers : List ℕ) × ActInOrder given mine held numbers × ((w : Option Place) (actors : List Actor) → AreSettled given mine held w actors → (lookers : List ℕ) × LookBehind given mine held w actors numbers lookers)
+  acted = law given accepted done.fits done.room mine held are_settled.balanced
+
+  abbrev looked : (lookers : List ℕ) × LookBehind given mine held place all_actors.0 acted.0 lookers
+  looked = acted.2 place all_actors.0 are_settled
+
   abbrev reached : (events : List Event) × (after given events ≡ state) × IsFinished (after given events)
-  reached = law given accepted done.fits done.room mine held place all_actors.0 are_settled
+  reached = (acts_then_looks acted.0 looked.0, looked.1.leave, looked.1.finished)
 
   abbrev behind : Core
   behind = after given reached.0
@@ -282,7 +250,11 @@ module _ (given : Given) (accepted : IsAccepted given.plan) (committed : List Re
 
   pub holds_finished : HoldFinished given committed shares
   holds_finished = record {
-    events = reached.0;
+    numbers = acted.0;
+    lookers = looked.0;
+    order = acted.1.order;
+    once = λ k lt m one. subst (LeadBy given k (times_among k acted.0) (opening_own given.plan.kernel)) (own_is given accepted committed halt shares run k m one) (acted.1.once k lt);
+    change = looked.1.change;
     finished = reached.2;
     actors = λ k lt m one. actor_at_state k m one;
     links = λ link info at w one r two. (

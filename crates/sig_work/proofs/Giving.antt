@@ -1,18 +1,6 @@
 -- Members that are given to shares, one after another.
-use Rattle.std.proofs.Common.{◌≡◌, ◌<◌, ◌≤◌, ◌+◌, ◌++◌, ◌∙◌, ◌⊎◌, inl, inr, ℕ, zero, suc, Bool, true, false, cond, List, [], ◌∷◌, length, set, refl, ap, sym, subst, arith}
-use Rattle.std.specs.Prelude.{None, Some, slice_get, sum_by, vec_capacity, ◌==◌}
-use Rattle.std.proofs.lemmas.Bool.{eq-eqb, eqb-true}
-use Rattle.std.proofs.lemmas.List.{length-set, length-append}
-use Rattle.std.proofs.lemmas.List.Sums.{sum_by-cons, sum_by_push}
-use Rattle.sig_meaning.proofs.Agreement.{some_at}
-use Rattle.sig_meaning.proofs.Numbers.{same_or_not}
-use Rattle.sig_schedules.proofs.Lists.{set_here}
-use Rattle.sig_values.proofs.Writing.{some_is}
+use Rattle.sig_work.proofs.Common.{◌≡◌, ◌<◌, ◌≤◌, ◌+◌, ◌++◌, ◌∙◌, ◌⊎◌, inl, inr, ℕ, zero, suc, Bool, true, false, cond, List, [], ◌∷◌, length, set, refl, ap, sym, subst, arith, None, Some, slice_get, sum_by, vec_capacity, ◌==◌, eq-eqb, eqb-true, length-set, length-append, sum_by-cons, sum_by_push, some_at, same_or_not, set_here, some_is, times, times_in, HasGiven, HaveRoom, HaveSameSeats, Member, Share}
 use Rattle.sig_work.proofs.Placing.{get_more, set_apart}
-use Rattle.sig_work.specs.Among.{times, times_in}
-use Rattle.sig_work.specs.Dealing.{HasGiven, HaveRoom, HaveSameSeats}
-use Rattle.sig_work.specs.declared.member.Member.{Member}
-use Rattle.sig_work.specs.declared.share.Share.{Share}
 
 -- one share got a member
 pub given_share : (shares : List Share) (at : ℕ) (share new : Share) (member : Member) → slice_get shares at ≡ Some share → new.seat ≡ share.seat

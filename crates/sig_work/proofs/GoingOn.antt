@@ -1,21 +1,6 @@
 -- Reactions that were committed one behind another.
-use Rattle.std.proofs.Common.{◌≡◌, ◌++◌, ◌⊎◌, ◌∙◌, inl, inr, ℕ, ℤ, true, List, [], ◌∷◌, append_assoc, refl, ap, sym, subst}
-use Rattle.std.proofs.lemmas.List.{append-nil}
-use Rattle.sig_halt.specs.declared.halt.Halt.{Halt}
-use Rattle.sig_halt.specs.declared.halt_seat.HaltSeat.{HaltSeat}
-use Rattle.sig_kernel.specs.OutputText.{outputs_of, seen_lines}
-use Rattle.sig_kernel.specs.declared.kernel.Kernel.{Kernel}
-use Rattle.sig_model.specs.Cores.{Given, reactions_text}
-use Rattle.sig_model.specs.Turns.{Reaction}
-use Rattle.sig_plan.specs.Plans.{PlanView}
-use Rattle.sig_schedules.proofs.Lists.{joined_append}
-use Rattle.sig_text.specs.Sink.{Joins, TookPrefix, TookPrefix-then}
+use Rattle.sig_work.proofs.Common.{◌≡◌, ◌++◌, ◌⊎◌, ◌∙◌, inl, inr, ℕ, ℤ, true, List, [], ◌∷◌, append_assoc, refl, ap, sym, subst, append-nil, Halt, HaltSeat, outputs_of, seen_lines, Kernel, Given, reactions_text, Reaction, PlanView, joined_append, Joins, TookPrefix, TookPrefix-then, is_collector, run_of, GoesOn, IsOfRun, IsServed, IsServedInSome, IsShareOfSome, KeepsMember, KeepsShare, KeepsShares, ServesMember, ServesShare, ServesShares, AreOfRun, AreOfSomeRun, HasCollector, HaveCollector, Member, Share}
 use Rattle.sig_work.proofs.Keeping.{have_collector_on, has_collector_on, is_collector_on}
-use Rattle.sig_work.specs.Members.{is_collector, run_of}
-use Rattle.sig_work.specs.Rounds.{GoesOn, IsOfRun, IsServed, IsServedInSome, IsShareOfSome, KeepsMember, KeepsShare, KeepsShares, ServesMember, ServesShare, ServesShares}
-use Rattle.sig_work.specs.Shares.{AreOfRun, AreOfSomeRun, HasCollector, HaveCollector}
-use Rattle.sig_work.specs.declared.member.Member.{Member}
-use Rattle.sig_work.specs.declared.share.Share.{Share}
 
 -- a taking, and then one of another kind, are one of that kind
 abbrev pub JoinsTo : {S : Type 0} → (S → List ℕ → S → Type 0) → (S → List ℕ → S → Type 0) → Type 0

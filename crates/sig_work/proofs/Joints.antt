@@ -1,21 +1,6 @@
 -- Members that get the ends of links.
-use Rattle.std.proofs.Common.{◌≡◌, ◌<◌, ◌+◌, ◌∙◌, inl, inr, ℕ, List, [], length, set, refl, ap, sym, subst, arith}
-use Rattle.std.specs.Prelude.{Some, slice_get}
-use Rattle.std.proofs.lemmas.List.{length-set}
-use Rattle.sig_clock.proofs.Lists.{get_within}
-use Rattle.sig_link.specs.Ends.{OfOneLink, put_capacity, sent, taken}
-use Rattle.sig_link.specs.declared.put.Put.{Put}
-use Rattle.sig_link.specs.declared.take.Take.{Take}
-use Rattle.sig_meaning.proofs.Agreement.{some_at}
-use Rattle.sig_meaning.proofs.Numbers.{same_or_not}
-use Rattle.sig_plan.specs.declared.parts.LinkInfo.{LinkInfo}
-use Rattle.sig_schedules.proofs.Lists.{set_here}
-use Rattle.sig_values.proofs.Writing.{some_is}
+use Rattle.sig_work.proofs.Common.{◌≡◌, ◌<◌, ◌+◌, ◌∙◌, inl, inr, ℕ, List, [], length, set, refl, ap, sym, subst, arith, Some, slice_get, length-set, get_within, OfOneLink, put_capacity, sent, taken, Put, Take, some_at, same_or_not, LinkInfo, set_here, some_is, AreJoined, HasGivenPut, HasGivenTake, IsJoinedLink, IsSameBare, sent_by, taken_by, But, Each, IsLeftMember, Member}
 use Rattle.sig_work.proofs.Placing.{set_apart}
-use Rattle.sig_work.specs.Dealing.{AreJoined, HasGivenPut, HasGivenTake, IsJoinedLink, IsSameBare}
-use Rattle.sig_work.specs.Ends.{sent_by, taken_by}
-use Rattle.sig_work.specs.Settling.{But, Each, IsLeftMember}
-use Rattle.sig_work.specs.declared.member.Member.{Member}
 
 module _ (members : List Member) (k link : ℕ) where
   pub given_put : (put : Put) (old new : Member) → slice_get members k ≡ Some old → IsLeftMember (But link) Each old new → slice_get new.ends.puts.items link ≡ Some (Some put)

@@ -1,23 +1,6 @@
 -- What stays of members and shares: from one call to the next, and where one of several goes on.
-use Rattle.std.proofs.Common.{◌≡◌, ◌≢◌, ◌<◌, ◌≤◌, ◌+◌, ◌⊎◌, ◌∙◌, inl, inr, ℕ, true, List, length, set, refl, ap, sym, subst, arith}
-use Rattle.std.specs.Prelude.{Some, ◌==◌, slice_get}
-use Rattle.std.proofs.lemmas.List.{length-set}
-use Rattle.sig_clock.proofs.Lists.{get_within}
-use Rattle.sig_halt.specs.Seats.{IsSameSeat}
-use Rattle.sig_halt.specs.declared.halt_seat.HaltSeat.{HaltSeat}
-use Rattle.sig_meaning.proofs.Agreement.{some_at}
-use Rattle.sig_meaning.proofs.Numbers.{same_or_not}
-use Rattle.sig_model.specs.Cores.{Given}
-use Rattle.sig_schedules.proofs.Lists.{set_here}
-use Rattle.sig_values.proofs.Writing.{some_is}
+use Rattle.sig_work.proofs.Common.{◌≡◌, ◌≢◌, ◌<◌, ◌≤◌, ◌+◌, ◌⊎◌, ◌∙◌, inl, inr, ℕ, true, List, length, set, refl, ap, sym, subst, arith, Some, ◌==◌, slice_get, length-set, get_within, IsSameSeat, HaltSeat, some_at, same_or_not, Given, set_here, some_is, AreSameEnds, AreSameEnds-itself, IsSameMember, is_collector, HasEndedAt, HaveEndedAt, KeepsMember, KeepsSeat, KeepsShare, KeepsShares, AllEnded, AreSameShares, HasCollector, HaveCollector, HaveEnded, NoneFaulted, LinkEnds, Member, Share}
 use Rattle.sig_work.proofs.EndLemmas.{set_apart}
-use Rattle.sig_work.specs.Ends.{AreSameEnds, AreSameEnds-itself}
-use Rattle.sig_work.specs.Members.{IsSameMember, is_collector}
-use Rattle.sig_work.specs.Rounds.{HasEndedAt, HaveEndedAt, KeepsMember, KeepsSeat, KeepsShare, KeepsShares}
-use Rattle.sig_work.specs.Shares.{AllEnded, AreSameShares, HasCollector, HaveCollector, HaveEnded, NoneFaulted}
-use Rattle.sig_work.specs.declared.ends.LinkEnds.{LinkEnds}
-use Rattle.sig_work.specs.declared.member.Member.{Member}
-use Rattle.sig_work.specs.declared.share.Share.{Share}
 
 -- ---- one element of a list changed
 

@@ -1,30 +1,9 @@
 -- Shares of one run that change hands, and what their services come to together.
-use Rattle.std.proofs.Common.{◌≡◌, ◌+◌, ◌++◌, ◌∙◌, ◌⊎◌, inl, inr, ℕ, zero, suc, Bool, true, false, cond, List, [], ◌∷◌, length, refl, ap, sym, subst, arith, append_assoc}
-use Rattle.std.specs.Prelude.{None, Some, slice_get, sum_by, ◌==◌}
-use Rattle.std.proofs.lemmas.Bool.{eqb-true}
-use Rattle.std.proofs.lemmas.List.{length-append}
-use Rattle.std.proofs.lemmas.List.Concat.{flat_map-append}
-use Rattle.std.proofs.lemmas.List.Sums.{sum_by-append, sum_by_push}
-use Rattle.sig_clock.proofs.Lists.{get_within}
-use Rattle.sig_halt.specs.Seats.{parts}
-use Rattle.sig_halt.specs.declared.halt.Halt.{Halt}
-use Rattle.sig_kernel.specs.OutputText.{outputs_of, seen_lines}
-use Rattle.sig_kernel.specs.declared.kernel.Kernel.{Kernel}
-use Rattle.sig_meaning.proofs.Agreement.{some_at}
-use Rattle.sig_model.specs.Cores.{Given, reactions_text}
-use Rattle.sig_model.specs.Turns.{Reaction}
-use Rattle.sig_text.specs.Sink.{Joins, TookPrefix, TookPrefix-then}
-use Rattle.sig_values.proofs.Writing.{some_is}
+use Rattle.sig_work.proofs.Common.{◌≡◌, ◌+◌, ◌++◌, ◌∙◌, ◌⊎◌, inl, inr, ℕ, zero, suc, Bool, true, false, cond, List, [], ◌∷◌, length, refl, ap, sym, subst, arith, append_assoc, None, Some, slice_get, sum_by, ◌==◌, eqb-true, length-append, flat_map-append, sum_by-append, sum_by_push, get_within, parts, Halt, outputs_of, seen_lines, Kernel, some_at, Given, reactions_text, Reaction, Joins, TookPrefix, TookPrefix-then, some_is, AreSingle, times_in, HasDone, commits_of, is_collector, AreBegun, AreKept, IsOfClusters, IsOneOf, IsUnfaulted, WereHalted, WereRun, AreOfRun, AreSameShares, HasCollector, HaveDone, HaveOneCollector, IsSameShare, IsServing, WereServed, WereStopped, Member, Share}
 use Rattle.sig_work.proofs.Counting.{same_number, same_share}
 use Rattle.sig_work.proofs.Keeping.{same_member, same_member_then, same_seat_then}
 use Rattle.sig_work.proofs.Leaving.{same_sums}
 use Rattle.sig_work.proofs.Placing.{get_back, get_either, get_front}
-use Rattle.sig_work.specs.Among.{AreSingle, times_in}
-use Rattle.sig_work.specs.Members.{HasDone, commits_of, is_collector}
-use Rattle.sig_work.specs.Running.{AreBegun, AreKept, IsOfClusters, IsOneOf, IsUnfaulted, WereHalted, WereRun}
-use Rattle.sig_work.specs.Shares.{AreOfRun, AreSameShares, HasCollector, HaveDone, HaveOneCollector, IsSameShare, IsServing, WereServed, WereStopped}
-use Rattle.sig_work.specs.declared.member.Member.{Member}
-use Rattle.sig_work.specs.declared.share.Share.{Share}
 
 -- ---- one of a list
 

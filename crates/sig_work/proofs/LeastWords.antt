@@ -1,20 +1,6 @@
 -- The least word of members, joined part by part, and the seats of shares joined.
-use Rattle.std.proofs.Common.{◌≡◌, ◌<◌, ◌≤◌, ◌+◌, ◌++◌, ◌^◌, ◌∙◌, ◌⊎◌, inl, inr, ℕ, zero, suc, List, [], ◌∷◌, length, refl, ap, sym, subst, arith}
-use Rattle.std.specs.Prelude.{None, Some, min, slice_get}
-use Rattle.std.proofs.lemmas.List.Sums.{sum_by-cons}
-use Rattle.sig_base.specs.Places.{no_place}
-use Rattle.sig_clock.proofs.Lists.{get_within}
-use Rattle.sig_halt.specs.Seats.{parts, recorded, seen}
-use Rattle.sig_halt.specs.declared.halt_seat.HaltSeat.{HaltSeat}
-use Rattle.sig_meaning.proofs.Numbers.{at_most_or, same_or_not}
-use Rattle.sig_step.specs.States.{place_of}
-use Rattle.sig_values.proofs.Writing.{some_is}
+use Rattle.sig_work.proofs.Common.{◌≡◌, ◌<◌, ◌≤◌, ◌+◌, ◌++◌, ◌^◌, ◌∙◌, ◌⊎◌, inl, inr, ℕ, zero, suc, List, [], ◌∷◌, length, refl, ap, sym, subst, arith, None, Some, min, slice_get, sum_by-cons, no_place, get_within, parts, recorded, seen, HaltSeat, at_most_or, same_or_not, place_of, some_is, IsAmong, failure_in, word_of, IsClosed, IsIn, IsInFirst, IsJoined, IsLeastOf, IsLeastWord, IsOfFirst, Member, Share}
 use Rattle.sig_work.proofs.Placing.{get_more}
-use Rattle.sig_work.specs.Among.{IsAmong}
-use Rattle.sig_work.specs.Members.{failure_in, word_of}
-use Rattle.sig_work.specs.Words.{IsClosed, IsIn, IsInFirst, IsJoined, IsLeastOf, IsLeastWord, IsOfFirst}
-use Rattle.sig_work.specs.declared.member.Member.{Member}
-use Rattle.sig_work.specs.declared.share.Share.{Share}
 
 -- ---- the least word
 

@@ -1,29 +1,7 @@
 -- What is left of shares whose members give up ends.
-use Rattle.std.proofs.Common.{◌≡◌, ◌<◌, ◌+◌, ◌∙◌, inl, inr, ℕ, suc, cond, List, [], ◌∷◌, length, get_or, set, refl, ap, sym, subst, arith}
-use Rattle.std.specs.Prelude.{IfNone, IfSome, None, Option, Some, slice_get, sum_by, ◌==◌}
-use Rattle.std.proofs.lemmas.List.{length-set}
-use Rattle.std.proofs.lemmas.List.Sums.{sum_by-cons}
-use Rattle.sig_clock.proofs.Lists.{get_at, get_within}
-use Rattle.sig_halt.specs.Seats.{IsSeatOf, parts, recorded, seen}
-use Rattle.sig_halt.specs.declared.halt.Halt.{Halt}
-use Rattle.sig_halt.specs.declared.halt_seat.HaltSeat.{HaltSeat}
-use Rattle.sig_link.specs.Ends.{IsSettled}
-use Rattle.sig_link.specs.declared.put.Put.{Put}
-use Rattle.sig_link.specs.declared.take.Take.{Take}
-use Rattle.sig_meaning.proofs.Agreement.{some_at}
-use Rattle.sig_meaning.proofs.Numbers.{same_or_not}
-use Rattle.sig_plan.specs.declared.parts.LinkInfo.{LinkInfo}
-use Rattle.sig_schedules.proofs.Lists.{set_here}
-use Rattle.sig_values.proofs.Writing.{some_is}
+use Rattle.sig_work.proofs.Common.{◌≡◌, ◌<◌, ◌+◌, ◌∙◌, inl, inr, ℕ, suc, cond, List, [], ◌∷◌, length, get_or, set, refl, ap, sym, subst, arith, IfNone, IfSome, None, Option, Some, slice_get, sum_by, ◌==◌, length-set, sum_by-cons, get_at, get_within, IsSeatOf, parts, recorded, seen, Halt, HaltSeat, IsSettled, Put, Take, some_at, same_or_not, LinkInfo, set_here, some_is, AreSingle, IsAmong, StandsAt, times, times_in, AreLeft, AreLeftEnds, AreSettledBelow, But, Each, From, HasNoPut, HasNoTake, HaveRoomFor, IsLeftMember, IsLeftShare, IsLinked, IsPutOf, IsSettledLink, IsTakeOf, AreSeatsOf, IsClosed, LinkEnds, Spot, Member, Share}
 use Rattle.sig_work.proofs.Counting.{same_member}
 use Rattle.sig_work.proofs.Placing.{set_apart}
-use Rattle.sig_work.specs.Among.{AreSingle, IsAmong, StandsAt, times, times_in}
-use Rattle.sig_work.specs.Settling.{AreLeft, AreLeftEnds, AreSettledBelow, But, Each, From, HasNoPut, HasNoTake, HaveRoomFor, IsLeftMember, IsLeftShare, IsLinked, IsPutOf, IsSettledLink, IsTakeOf}
-use Rattle.sig_work.specs.Words.{AreSeatsOf, IsClosed}
-use Rattle.sig_work.specs.declared.ends.LinkEnds.{LinkEnds}
-use Rattle.sig_work.specs.declared.finding.Spot.{Spot}
-use Rattle.sig_work.specs.declared.member.Member.{Member}
-use Rattle.sig_work.specs.declared.share.Share.{Share}
 
 -- lists with equal counts at equal places count the same
 pub same_sums : {A : Type 0} (f : A → ℕ) (xs ys : List A) → length ys ≡ length xs

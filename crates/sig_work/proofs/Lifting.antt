@@ -1,26 +1,6 @@
 -- A share of which one member went on, and shares of which one went on.
-use Rattle.std.proofs.Common.{◌≡◌, ◌≢◌, ◌<◌, ◌≤◌, ◌+◌, ◌++◌, ◌⊎◌, ◌∙◌, inl, inr, ℕ, zero, suc, ℤ, Bool, true, false, cond, List, [], ◌∷◌, length, set, refl, ap, sym, subst, arith}
-use Rattle.std.specs.Prelude.{None, Option, Some, ◌==◌, min, slice_get}
-use Rattle.std.proofs.lemmas.List.{append-nil}
-use Rattle.sig_base.specs.Places.{no_place, packed}
-use Rattle.sig_base.specs.declared.place.Place.{Place}
-use Rattle.sig_halt.specs.Seats.{seen}
-use Rattle.sig_halt.specs.declared.halt.Halt.{Halt}
-use Rattle.sig_kernel.specs.declared.kernel.Kernel.{Kernel}
-use Rattle.sig_model.specs.Cores.{Given}
-use Rattle.sig_model.specs.Turns.{Reaction}
-use Rattle.sig_plan.specs.Plans.{PlanView}
-use Rattle.sig_schedules.proofs.Lists.{set_here}
-use Rattle.sig_step.specs.States.{place_of}
-use Rattle.sig_values.proofs.Writing.{some_is}
+use Rattle.sig_work.proofs.Common.{◌≡◌, ◌≢◌, ◌<◌, ◌≤◌, ◌+◌, ◌++◌, ◌⊎◌, ◌∙◌, inl, inr, ℕ, zero, suc, ℤ, Bool, true, false, cond, List, [], ◌∷◌, length, set, refl, ap, sym, subst, arith, None, Option, Some, ◌==◌, min, slice_get, append-nil, no_place, packed, Place, seen, Halt, Kernel, Given, Reaction, PlanView, set_here, place_of, some_is, HasDone, IsBehindSeen, commits_of, failure_in, is_collector, run_of, word_of, GoesOn, IsOfRun, IsServed, KeepsMember, KeepsSeat, KeepsShare, KeepsShares, ServesMember, ServesShare, ServesShares, AreOfRun, HasCollector, HasOneCollector, HasSeat, HaveCollector, IsServing, least_failed, Ending, Failed, Looked, AtLimit, Faulted, Member, Share}
 use Rattle.sig_work.proofs.Keeping.{at_set, had_collector, member_was, one_member, one_share, share_was, was_collector}
-use Rattle.sig_work.specs.Members.{HasDone, IsBehindSeen, commits_of, failure_in, is_collector, run_of, word_of}
-use Rattle.sig_work.specs.Rounds.{GoesOn, IsOfRun, IsServed, KeepsMember, KeepsSeat, KeepsShare, KeepsShares, ServesMember, ServesShare, ServesShares}
-use Rattle.sig_work.specs.Shares.{AreOfRun, HasCollector, HasOneCollector, HasSeat, HaveCollector, IsServing, least_failed}
-use Rattle.sig_work.specs.declared.member.Ending.{Ending}
-use Rattle.sig_work.specs.declared.member.Ending.TheVariants.{Failed, Looked, AtLimit, Faulted}
-use Rattle.sig_work.specs.declared.member.Member.{Member}
-use Rattle.sig_work.specs.declared.share.Share.{Share}
 
 -- ---- the least failure
 

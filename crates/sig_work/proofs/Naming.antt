@@ -1,20 +1,6 @@
 -- The cause that a word names, as one actor tells it.
-use Rattle.std.proofs.Common.{◌≡◌, ◌<◌, ◌^◌, ◌∙◌, ℕ, ℤ, List, refl, ap, sym, arith}
-use Rattle.std.specs.Prelude.{None, Some, slice_get}
-use Rattle.sig_base.specs.Places.{no_place, packed}
-use Rattle.sig_base.specs.declared.place.Place.{Place}
-use Rattle.sig_model.specs.Cores.{Core, cause_at, cause_in, cause_of, cause_of_op}
-use Rattle.sig_model.specs.Operating.{Faults, Gives, Outcome, outcome}
-use Rattle.sig_plan.specs.Plans.{PlanView}
-use Rattle.sig_plan.specs.declared.ended.Cause.{Cause}
-use Rattle.sig_plan.specs.declared.ended.Cause.TheVariants.{Limit}
-use Rattle.sig_plan.specs.declared.op.Op.{Op}
-use Rattle.sig_step.specs.States.{actor_of, cause_by, cause_of_op as cause_of_step}
+use Rattle.sig_work.proofs.Common.{◌≡◌, ◌<◌, ◌^◌, ◌∙◌, ℕ, ℤ, List, refl, ap, sym, arith, None, Some, slice_get, no_place, packed, Place, Core, cause_at, cause_in, cause_of, cause_of_op, Faults, Gives, Outcome, outcome, PlanView, Cause, Limit, Op, actor_of, cause_by, cause_of_step, HasNone, IsAmong, HasActors, NamesCause, Member, Share}
 use Rattle.sig_work.proofs.Failing.{packed_once}
-use Rattle.sig_work.specs.Among.{HasNone, IsAmong}
-use Rattle.sig_work.specs.Words.{HasActors, NamesCause}
-use Rattle.sig_work.specs.declared.member.Member.{Member}
-use Rattle.sig_work.specs.declared.share.Share.{Share}
 
 same_cause : (o : Outcome) → cause_by o ≡ cause_in o
 same_cause (Gives v) = refl

@@ -1,30 +1,9 @@
 -- What a step of a member leaves is what its own steps leave.
-use Rattle.std.proofs.Common.{◌≡◌, ◌<◌, ◌≤◌, ◌+◌, ◌++◌, ◌∙◌, inl, inr, ℕ, zero, suc, ℤ, true, false, cond, List, [], ◌∷◌, length, refl, ap, sym, subst}
-use Rattle.std.specs.Prelude.{None, Option, Some, nat_lt, slice_get}
-use Rattle.std.proofs.lemmas.Bool.{eq-eqb}
-use Rattle.sig_base.specs.declared.place.Place.{Place}
-use Rattle.sig_meaning.proofs.Numbers.{same_or_not}
-use Rattle.sig_model.specs.Actors.{Actor, code_of, ended_at, next_place, position_of}
-use Rattle.sig_model.specs.Cores.{Given}
-use Rattle.sig_model.specs.Turns.{AtLimit, Commits, Fails, Goes, Puts, Reaction, Stopped, Takes, Turn, turn, turn_at}
-use Rattle.sig_plan.specs.Plans.{IsAccepted, PlanView}
-use Rattle.sig_settling.specs.OwnSteps.{HasTurned, IsOwn, Own}
-use Rattle.sig_step.specs.Acting.{Acts, MayUse}
-use Rattle.sig_step.specs.GoingOn.{ActsOn, DoesStep, DoesSteps}
-use Rattle.sig_step.specs.LinkEnds.{AllStay, Asked, LinkPast, OthersStay, Past, PastGoesOn, Queues}
-use Rattle.sig_step.specs.Moving.{IsSameActor}
-use Rattle.sig_step.specs.States.{IsStateOf, actor_of, last_reaction, place_of}
-use Rattle.sig_step.specs.declared.answer.Acted.{Acted}
-use Rattle.sig_step.specs.declared.answer.Acted.TheVariants.{Done}
-use Rattle.sig_step.specs.declared.state.ClusterState.{ClusterState}
+use Rattle.sig_work.proofs.Common.{◌≡◌, ◌<◌, ◌≤◌, ◌+◌, ◌++◌, ◌∙◌, inl, inr, ℕ, zero, suc, ℤ, true, false, cond, List, [], ◌∷◌, length, refl, ap, sym, subst, None, Option, Some, nat_lt, slice_get, eq-eqb, Place, same_or_not, Actor, code_of, ended_at, next_place, position_of, Given, Commits, Fails, Goes, Puts, Reaction, Stopped, Takes, Turn, turn, turn_at, IsAccepted, PlanView, HasTurned, IsOwn, Own, Acts, MayUse, ActsOn, DoesSteps, AllStay, Asked, LinkPast, OthersStay, Past, PastGoesOn, Queues, IsSameActor, IsStateOf, actor_of, last_reaction, place_of, Acted, Done, ClusterState, AreSameEnds, AreSameEnds-itself, HasEnds, past_of, puts_of, sent_of, taken_of, takes_of, EndsWith, HasActedAs, HasDone, IsMember, before_stop, failure_in, own_of, LinkEnds, Ending, Failed, AtLimit as EndedAtLimit, Member}
+use Rattle.sig_model.specs.Turns.{AtLimit}
+use Rattle.sig_step.specs.GoingOn.{DoesStep}
 use Rattle.sig_work.proofs.Keeping.{same_ends_then}
 use Rattle.sig_work.proofs.OwnTurns.{IsTurn, is_turn, may_use, own_more}
-use Rattle.sig_work.specs.Ends.{AreSameEnds, AreSameEnds-itself, HasEnds, past_of, puts_of, sent_of, taken_of, takes_of}
-use Rattle.sig_work.specs.Members.{EndsWith, HasActedAs, HasDone, IsMember, before_stop, failure_in, own_of}
-use Rattle.sig_work.specs.declared.ends.LinkEnds.{LinkEnds}
-use Rattle.sig_work.specs.declared.member.Ending.{Ending}
-use Rattle.sig_work.specs.declared.member.Ending.TheVariants.{Failed, AtLimit as EndedAtLimit}
-use Rattle.sig_work.specs.declared.member.Member.{Member}
 
 -- the same links, with the same capacities
 pub has_ends : (plan : PlanView) (capacity k : ℕ) (old new : LinkEnds) → HasEnds plan capacity k old → AreSameEnds old new → HasEnds plan capacity k new
@@ -209,7 +188,7 @@ may_act given accepted m committed is =
 -- ---- several steps
 
 -- what so many steps left, each of them done
-module _ (given : Given) (accepted : IsAccepted given.plan) {E : Type 0} (ends_of : E → LinkEnds) (queues : E → Option Queues) (m : Member) where
+module _ (given : Given) (accepted : IsAccepted given.plan) {E : Type 0} (ends_of : E → LinkEnds) (queues : E → Option Queues) (found_full found_empty : ℕ → E → E → Type 0) (m : Member) where
   abbrev with_it : ClusterState → E → Member
   with_it t f = record m { state = t; ends = ends_of f }
 
@@ -219,28 +198,28 @@ module _ (given : Given) (accepted : IsAccepted given.plan) {E : Type 0} (ends_o
   abbrev same : E → E → Type 0
   same e f = AreSameEnds (ends_of e) (ends_of f)
 
-  one_step : (committed : List Reaction) (acted : Acted) (s t : ClusterState) (e f : E) (count_before count_after : ℕ) → DoesStep past queues same given.plan given.flows acted s t e f count_before count_after
+  one_step : (committed : List Reaction) (acted : Acted) (s t : ClusterState) (e f : E) (count_before count_after : ℕ) → DoesStep past queues found_full found_empty same given.plan given.flows acted s t e f count_before count_after
       → HasDone given committed (with_it s e) → HasActedAs given committed acted (with_it t f)
   one_step committed acted s t e f count_before count_after step is =
       acted_as given accepted (with_it s e) t (ends_of f) committed step.state step.actor step.ends acted step.takes.asked step.takes.acts step.takes.asks.tells_past is
 
-  several : (committed : List Reaction) (count : ℕ) (s t : ClusterState) (e f : E) (count_before count_after : ℕ) → DoesSteps past queues same given.plan given.flows count s t e f count_before count_after
+  several : (committed : List Reaction) (count : ℕ) (s t : ClusterState) (e f : E) (count_before count_after : ℕ) → DoesSteps past queues found_full found_empty same given.plan given.flows count s t e f count_before count_after
       → HasDone given committed (with_it s e) → HasDone given committed (with_it t f)
   several committed zero s t e f count_before count_after stays is =
       subst (λ (x : ClusterState). HasDone given committed (with_it x f)) (sym stays.0) (subst (λ (x : E). HasDone given committed (with_it s x)) (sym stays.1) is)
   several committed (suc count) s t e f count_before count_after done is =
       one_step committed Done done.0 t done.1 f done.2 count_after done.4 (several committed count s done.0 e done.1 count_before done.2 done.3 is)
 
-  same_ends_of : (count : ℕ) (s t : ClusterState) (e f : E) (count_before count_after : ℕ) → DoesSteps past queues same given.plan given.flows count s t e f count_before count_after → same e f
+  same_ends_of : (count : ℕ) (s t : ClusterState) (e f : E) (count_before count_after : ℕ) → DoesSteps past queues found_full found_empty same given.plan given.flows count s t e f count_before count_after → same e f
   same_ends_of zero s t e f count_before count_after stays = subst (λ (x : E). same e x) (sym stays.1) (AreSameEnds-itself (ends_of e))
   same_ends_of (suc count) s t e f count_before count_after done =
       same_ends_then (ends_of e) (ends_of done.1) (ends_of f) (same_ends_of count s done.0 e done.1 count_before done.2 done.3) done.4.ends
 
-  pub acted_on : (committed : List Reaction) {acted : Acted} {s t : ClusterState} {e f : E} {count_before count_after : ℕ} → ActsOn past queues same given.plan given.flows acted s t e f count_before count_after
+  pub acted_on : (committed : List Reaction) {acted : Acted} {s t : ClusterState} {e f : E} {count_before count_after : ℕ} → ActsOn past queues found_full found_empty same given.plan given.flows acted s t e f count_before count_after
       → HasDone given committed (with_it s e) → HasActedAs given committed acted (with_it t f)
   acted_on committed {acted} {s} {t} {e} {f} {count_before} {count_after} on is =
       one_step committed acted on.mid t on.between f on.amid count_after on.last (several committed on.count s on.mid e on.between count_before on.amid on.done is)
 
-  pub ends_stay : {acted : Acted} {s t : ClusterState} {e f : E} {count_before count_after : ℕ} → ActsOn past queues same given.plan given.flows acted s t e f count_before count_after → same e f
+  pub ends_stay : {acted : Acted} {s t : ClusterState} {e f : E} {count_before count_after : ℕ} → ActsOn past queues found_full found_empty same given.plan given.flows acted s t e f count_before count_after → same e f
   ends_stay {acted} {s} {t} {e} {f} {count_before} on =
       same_ends_then (ends_of e) (ends_of on.between) (ends_of f) (same_ends_of on.count s on.mid e on.between count_before on.amid on.done) on.last.ends

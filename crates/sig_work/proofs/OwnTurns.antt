@@ -1,33 +1,7 @@
 -- A step of a member is an own step of its actor.
-use Rattle.std.proofs.Common.{◌≡◌, ◌<◌, ◌≤◌, ◌+◌, ◌⊎◌, inl, inr, ℕ, zero, suc, ℤ, Bool, true, false, cond, List, length, refl, sym, subst, ◌∙◌, arith, Contains}
-use Rattle.std.specs.Prelude.{None, Option, Some, nat_lt, slice_get}
-use Rattle.std.proofs.lemmas.Bool.{ltb-false}
-use Rattle.sig_clock.proofs.Lists.{contains_at}
-use Rattle.sig_meaning.proofs.Agreement.{some_at}
-use Rattle.sig_model.specs.Actors.{Actor, code_of, guard_holds, moved_on, next_place, no_registers}
-use Rattle.sig_model.specs.Cores.{Given}
-use Rattle.sig_model.specs.Operating.{Faults, Gives, Outcome, operated, outcome}
-use Rattle.sig_model.specs.Turns.{AtLimit, Commits, Fails, Goes, Puts, Stopped, Takes, Turn, carried, received, turn, turn_at, turn_by, turn_of_op, turn_with}
-use Rattle.sig_plan.specs.Codes.{CodeView, instructions_of}
-use Rattle.sig_plan.specs.Instructions.{NamesWithin}
-use Rattle.sig_plan.specs.Operations.{Operation, operations_in}
-use Rattle.sig_plan.specs.Plans.{IsAccepted, PlanView, numbers_of}
-use Rattle.sig_plan.specs.declared.code.Step.{Step}
-use Rattle.sig_plan.specs.declared.code.StepKind.{StepKind}
-use Rattle.sig_plan.specs.declared.code.StepKind.TheVariants.{Do, Send, Receive, Report, Collect, Commit}
-use Rattle.sig_plan.specs.declared.op.Op.{Op}
-use Rattle.sig_plan.specs.declared.parts.LinkInfo.{LinkInfo}
-use Rattle.sig_plan.proofs.Accepted.{plan_operations}
-use Rattle.sig_plan.proofs.LinkEnds.{one_reader, one_writer}
-use Rattle.sig_plan.proofs.Naming.{step_names}
-use Rattle.sig_schedules.proofs.Coded.{actor_coded}
-use Rattle.sig_schedules.proofs.Collecting.{commits_alone}
-use Rattle.sig_schedules.proofs.Steps.{DoesStep, step_does}
-use Rattle.sig_settling.specs.OwnSteps.{IsOwn, IsOwnStep, LeadBy, Own, opening_own}
-use Rattle.sig_step.specs.Acting.{MayDo, MayUse}
+use Rattle.sig_work.proofs.Common.{◌≡◌, ◌<◌, ◌≤◌, ◌+◌, ◌⊎◌, inl, inr, ℕ, zero, suc, ℤ, Bool, true, false, cond, List, length, refl, sym, subst, ◌∙◌, arith, Contains, None, Option, Some, nat_lt, slice_get, ltb-false, contains_at, some_at, Actor, code_of, guard_holds, moved_on, next_place, no_registers, Given, Faults, Gives, Outcome, operated, outcome, Commits, Fails, Goes, Puts, Stopped, Takes, Turn, carried, received, turn, turn_at, turn_by, turn_of_op, turn_with, CodeView, instructions_of, NamesWithin, Operation, operations_in, IsAccepted, PlanView, numbers_of, Step, StepKind, Do, Send, Receive, Report, Collect, Commit, Op, LinkInfo, plan_operations, one_reader, one_writer, step_names, actor_coded, commits_alone, DoesStep, step_does, IsOwn, IsOwnStep, LeadBy, Own, opening_own, MayDo, MayUse, HasEnds, puts_of, takes_of, LinkEnds}
+use Rattle.sig_model.specs.Turns.{AtLimit}
 use Rattle.sig_work.proofs.EndLemmas.{there_put, there_take}
-use Rattle.sig_work.specs.Ends.{HasEnds, puts_of, takes_of}
-use Rattle.sig_work.specs.declared.ends.LinkEnds.{LinkEnds}
 
 -- ---- the code of an actor
 

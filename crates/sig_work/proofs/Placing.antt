@@ -1,8 +1,5 @@
 -- An item of a list put in place of another, and one more item.
-use Rattle.std.proofs.Common.{◌≡◌, ◌<◌, ◌≤◌, ◌+◌, ◌++◌, ◌∙◌, ◌⊎◌, inl, inr, ℕ, zero, suc, List, [], ◌∷◌, length, get_or, set, take, refl, ap, sym, subst, arith}
-use Rattle.std.specs.Prelude.{None, Some, slice_get}
-use Rattle.sig_clock.proofs.Lists.{get_at}
-use Rattle.sig_values.proofs.Writing.{some_is}
+use Rattle.sig_work.proofs.Common.{◌≡◌, ◌<◌, ◌≤◌, ◌+◌, ◌++◌, ◌∙◌, ◌⊎◌, inl, inr, ℕ, zero, suc, List, [], ◌∷◌, length, get_or, set, take, refl, ap, sym, subst, arith, None, Some, slice_get, get_at, some_is}
 
 module _ {A : Type 0} where
   pub set_apart : (xs : List A) (k : ℕ) (x : A) (m : ℕ) → ((m ≡ k) → ⊥) → slice_get (set xs k x) m ≡ slice_get xs m

@@ -1,25 +1,6 @@
 -- A member that did a step, which ended it or not.
-use Rattle.std.proofs.Common.{◌≡◌, ◌<◌, ◌≤◌, ◌+◌, ◌^◌, ◌∙◌, ℕ, ℤ, Bool, true, false, List, refl, ap, sym, subst, arith}
-use Rattle.std.specs.Prelude.{None, Option, Some, IsTrue, ◌↔◌, min}
-use Rattle.sig_base.specs.Places.{no_place, packed}
-use Rattle.sig_base.specs.declared.place.Place.{Place}
-use Rattle.sig_halt.specs.Seats.{IsSameSeat, recorded, seen}
-use Rattle.sig_halt.specs.declared.halt.Halt.{Halt}
-use Rattle.sig_halt.specs.declared.halt_seat.HaltSeat.{HaltSeat}
-use Rattle.sig_model.specs.Actors.{Actor}
-use Rattle.sig_model.specs.Cores.{Given}
-use Rattle.sig_model.specs.Turns.{Reaction}
-use Rattle.sig_plan.specs.Plans.{PlanView}
-use Rattle.sig_settling.specs.OwnSteps.{IsOwn, Own}
-use Rattle.sig_step.specs.States.{IsStateOf, actor_of, place_of}
-use Rattle.sig_step.specs.declared.state.ClusterState.{ClusterState}
+use Rattle.sig_work.proofs.Common.{◌≡◌, ◌<◌, ◌≤◌, ◌+◌, ◌^◌, ◌∙◌, ℕ, ℤ, Bool, true, false, List, refl, ap, sym, subst, arith, None, Option, Some, IsTrue, ◌↔◌, min, no_place, packed, Place, IsSameSeat, recorded, seen, Halt, HaltSeat, Actor, Given, Reaction, PlanView, IsOwn, Own, IsStateOf, actor_of, place_of, ClusterState, AreSameEnds-itself, sent_of, taken_of, EndsWith, HasDone, IsBehindSeen, before_stop, failure_in, own_of, word_of, HasStopped, IsServed, KeepsMember, KeepsSeat, Ending, Failed, Looked, AtLimit, Faulted, Member}
 use Rattle.sig_work.proofs.Lifting.{behind_lower}
-use Rattle.sig_work.specs.Ends.{AreSameEnds-itself, sent_of, taken_of}
-use Rattle.sig_work.specs.Members.{EndsWith, HasDone, IsBehindSeen, before_stop, failure_in, own_of, word_of}
-use Rattle.sig_work.specs.Rounds.{HasStopped, IsServed, KeepsMember, KeepsSeat}
-use Rattle.sig_work.specs.declared.member.Ending.{Ending}
-use Rattle.sig_work.specs.declared.member.Ending.TheVariants.{Failed, Looked, AtLimit, Faulted}
-use Rattle.sig_work.specs.declared.member.Member.{Member}
 
 -- a member whose actor runs has no ending
 pub no_ending : (ending : Option Ending) (ended : Bool) → EndsWith ending ended → ended ≡ false → ending ≡ None

@@ -1,14 +1,5 @@
 -- The laws of actors that were run by themselves, as facts to reason from.
-use Rattle.std.proofs.Common.{◌≡◌, ◌≤◌, ◌<◌, ℕ, ℤ, List, sym, ◌∙◌}
-use Rattle.std.specs.Prelude.{None, Option, Some}
-use Rattle.sig_base.specs.declared.place.Place.{Place}
-use Rattle.sig_kernel.specs.Validity.{AreFlowsFor}
-use Rattle.sig_model.specs.Actors.{Actor}
-use Rattle.sig_model.specs.Cores.{Given, IsFinished, after}
-use Rattle.sig_model.specs.declared.event.Event.{Event}
-use Rattle.sig_plan.specs.Plans.{IsAccepted}
-use Rattle.sig_settling.specs.OwnSteps.{Own}
-use Rattle.sig_settling.specs.Settled.{AreBalanced, AreSettled, HasActed, IsLeastFailure, acts, collector_of}
+use Rattle.sig_work.proofs.Common.{◌≡◌, ◌≤◌, ◌<◌, ℕ, ℤ, List, sym, ◌∙◌, None, Option, Some, Place, AreFlowsFor, Actor, Given, after, IsAccepted, Own, ActInOrder, AreBalanced, AreSettled, HasActed, IsLeastFailure, LookBehind, acts}
 
 -- own steps that are balanced are an interleaving
 abbrev pub StepsInterleave : Type 0
@@ -16,13 +7,13 @@ StepsInterleave = (given : Given) → IsAccepted given.plan → AreFlowsFor give
     → (own : ℕ → Own) (links : List (List ℤ)) → AreBalanced given own links
     → (numbers : List ℕ) × HasActed given own links (after given (acts numbers))
 
--- settled actors are finished
-abbrev pub SettledFinish : Type 0
-SettledFinish = (given : Given) → IsAccepted given.plan → AreFlowsFor given.plan.kernel given.flows → 1 ≤ given.capacity
-    → (own : ℕ → Own) (links : List (List ℤ)) (word : Option Place) (actors : List Actor) → AreSettled given own links word actors
-    → (events : List Event)
-    × (after given events ≡ record { actors = actors; links = links; word = word; committed = (own (collector_of given)).committed })
-    × IsFinished (after given events)
+-- so they have acted in order, and settled ones have looked behind that
+abbrev pub SettledInOrder : Type 0
+SettledInOrder = (given : Given) → IsAccepted given.plan → AreFlowsFor given.plan.kernel given.flows → 1 ≤ given.capacity
+    → (own : ℕ → Own) (links : List (List ℤ)) → AreBalanced given own links
+    → (numbers : List ℕ) × ActInOrder given own links numbers
+    × ((word : Option Place) (actors : List Actor) → AreSettled given own links word actors
+    → (lookers : List ℕ) × LookBehind given own links word actors numbers lookers)
 
 -- of failures that are the same the least is the same
 pub least_same : (count : ℕ) (f g : ℕ → Option Place) (word : Option Place) → ((k : ℕ) → k < count → g k ≡ f k) → IsLeastFailure count f word → IsLeastFailure count g word

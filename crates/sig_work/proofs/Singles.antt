@@ -1,20 +1,6 @@
 -- One share of clusters that was served by itself.
-use Rattle.std.proofs.Common.{◌≡◌, ◌+◌, ◌∙◌, ℕ, zero, suc, ℤ, List, [], ◌∷◌, length, get_or, refl, ap, sym, subst, arith}
-use Rattle.std.specs.Prelude.{Err, None, Ok, OnErr, OnOk, Result, Some, slice_get, ◌==◌}
-use Rattle.sig_clock.proofs.Lists.{get_at, get_within}
-use Rattle.sig_halt.specs.declared.halt.Halt.{Halt}
-use Rattle.sig_meaning.proofs.Agreement.{some_at}
-use Rattle.sig_model.specs.Cores.{Given}
-use Rattle.sig_model.specs.Turns.{Reaction}
-use Rattle.sig_plan.specs.Plans.{PlanView}
-use Rattle.sig_text.specs.Counts.{Rose}
-use Rattle.sig_values.proofs.Writing.{some_is}
+use Rattle.sig_work.proofs.Common.{◌≡◌, ◌+◌, ◌∙◌, ℕ, zero, suc, ℤ, List, [], ◌∷◌, length, get_or, refl, ap, sym, subst, arith, Err, None, Ok, OnErr, OnOk, Result, Some, slice_get, ◌==◌, get_at, get_within, Halt, some_at, Given, Reaction, PlanView, Rose, some_is, run_of, IsOfClusters, IsServedAs, AreOfRun, AreSameShares, HasCollector, IsSameShare, IsServing, WereServed, Member, Share}
 use Rattle.sig_work.proofs.Kept.{serves_clusters}
-use Rattle.sig_work.specs.Members.{run_of}
-use Rattle.sig_work.specs.Running.{IsOfClusters, IsServedAs}
-use Rattle.sig_work.specs.Shares.{AreOfRun, AreSameShares, HasCollector, IsSameShare, IsServing, WereServed}
-use Rattle.sig_work.specs.declared.member.Member.{Member}
-use Rattle.sig_work.specs.declared.share.Share.{Share}
 
 -- a sink that never fails has no fault
 pub only_ok : {X E : Type 0} (answer : Result X E) (P : Type 0) → OnErr answer (Rose 0 0) → OnOk answer P → P

@@ -1,15 +1,6 @@
 -- One thread more: what is required, and what all of it comes to.
-use Rattle.std.proofs.Common.{◌≡◌, ◌++◌, ℕ, suc, ℤ, List, [], ◌∷◌, length, refl, ap, sym, subst, arith}
-use Rattle.std.specs.Prelude.{Err, Ok, OnErr, OnOk, Result}
-use Rattle.sig_halt.specs.declared.halt.Halt.{Halt}
-use Rattle.sig_model.specs.Turns.{Reaction}
-use Rattle.sig_plan.specs.Plans.{PlanView}
-use Rattle.sig_text.specs.Sink.{Joins, TookPrefix}
+use Rattle.sig_work.proofs.Common.{◌≡◌, ◌++◌, ℕ, suc, ℤ, List, [], ◌∷◌, length, refl, ap, sym, subst, arith, Err, Ok, OnErr, OnOk, Result, Halt, Reaction, PlanView, Joins, TookPrefix, run_of, AreBegun, AreBegunInSome, AreKept, IsOfSomeClusters, IsServedAs, WereHalted, WereRun, AreOfRun, AreOfSomeRun, AreSameShares, WereServed, WereStopped, Share}
 use Rattle.sig_work.proofs.Kept.{begun_less, begun_moved, begun_run, halted_again, halted_base, halted_pushed, kept_moved, kept_pushed, kept_same, kept_single, kept_then, middle_is, one_collector, run_again, run_base, run_moved, run_pushed}
-use Rattle.sig_work.specs.Members.{run_of}
-use Rattle.sig_work.specs.Running.{AreBegun, AreBegunInSome, AreKept, IsOfSomeClusters, IsServedAs, WereHalted, WereRun}
-use Rattle.sig_work.specs.Shares.{AreOfRun, AreOfSomeRun, AreSameShares, WereServed, WereStopped}
-use Rattle.sig_work.specs.declared.share.Share.{Share}
 
 pub nil_of : (xs : List Share) → length xs ≡ 0 → xs ≡ []
 nil_of [] none = refl

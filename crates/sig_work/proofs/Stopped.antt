@@ -1,23 +1,7 @@
 -- Shares after a service, and after a stop.
-use Rattle.std.proofs.Common.{◌≡◌, ◌≤◌, ◌+◌, ◌∙◌, inl, inr, ℕ, List, [], length, set, refl, ap, sym, subst, arith}
-use Rattle.std.specs.Prelude.{Some, ◌++◌, if◌then◌else◌, slice_get}
-use Rattle.std.proofs.lemmas.List.{length-set}
-use Rattle.sig_clock.proofs.Lists.{get_within}
-use Rattle.sig_halt.specs.Seats.{IsSeatOf}
-use Rattle.sig_halt.specs.declared.halt.Halt.{Halt}
-use Rattle.sig_meaning.proofs.Agreement.{some_at}
-use Rattle.sig_meaning.proofs.Numbers.{same_or_not}
-use Rattle.sig_model.specs.Cores.{Given}
-use Rattle.sig_model.specs.Turns.{Reaction}
-use Rattle.sig_schedules.proofs.Lists.{set_here}
-use Rattle.sig_values.proofs.Writing.{some_is}
+use Rattle.sig_work.proofs.Common.{◌≡◌, ◌≤◌, ◌+◌, ◌∙◌, inl, inr, ℕ, List, [], length, set, refl, ap, sym, subst, arith, Some, ◌++◌, if◌then◌else◌, slice_get, length-set, get_within, IsSeatOf, Halt, some_at, same_or_not, Given, Reaction, set_here, some_is, HasDone, commits_of, is_collector, ArePastZero, ChangedBelow, GoesOn, HasStopped, IsPastZero, KeepsShare, KeepsShares, ShareStopped, SharesStopped, AreOfRun, AreSameShares, HaveCollector, HaveDone, HaveEnded, IsSameShare, WereServed, WereStopped, Member, Share}
 use Rattle.sig_work.proofs.EndLemmas.{set_apart}
 use Rattle.sig_work.proofs.Keeping.{none_faulted, same_member_then, same_seat_then}
-use Rattle.sig_work.specs.Members.{HasDone, commits_of, is_collector}
-use Rattle.sig_work.specs.Rounds.{ArePastZero, ChangedBelow, GoesOn, HasStopped, IsPastZero, KeepsShare, KeepsShares, ShareStopped, SharesStopped}
-use Rattle.sig_work.specs.Shares.{AreOfRun, AreSameShares, HaveCollector, HaveDone, HaveEnded, IsSameShare, WereServed, WereStopped}
-use Rattle.sig_work.specs.declared.member.Member.{Member}
-use Rattle.sig_work.specs.declared.share.Share.{Share}
 
 -- ---- one element after another
 

@@ -1,34 +1,8 @@
 -- The actors of all shares, put together: their links are balanced.
-use Rattle.std.proofs.Common.{◌≡◌, ◌<◌, ◌≤◌, ◌+◌, ◌++◌, ◌∙◌, inl, inr, ℕ, ℤ, cond, List, [], length, ap, sym, subst, arith}
-use Rattle.std.specs.Prelude.{None, Option, Some, slice_get, slice_index_or}
-use Rattle.std.proofs.lemmas.Bool.{eq-eqb}
-use Rattle.sig_base.specs.Traces.{IsPrefixOf}
-use Rattle.sig_clock.proofs.Lists.{get_at, get_within}
-use Rattle.sig_halt.specs.declared.halt.Halt.{Halt}
-use Rattle.sig_kernel.specs.OutputText.{output_text}
-use Rattle.sig_meaning.proofs.Agreement.{some_at}
-use Rattle.sig_meaning.proofs.Numbers.{at_most_or}
-use Rattle.sig_model.specs.Cores.{Given, reactions_text}
-use Rattle.sig_model.specs.Turns.{Reaction}
-use Rattle.sig_plan.proofs.Accepted.{plan_operations}
-use Rattle.sig_plan.proofs.LinkEnds.{ends_within}
-use Rattle.sig_plan.specs.Operations.{operations_in}
-use Rattle.sig_plan.specs.Plans.{IsAccepted, PlanView}
-use Rattle.sig_plan.specs.declared.parts.LinkInfo.{LinkInfo}
-use Rattle.sig_schedules.proofs.Finished.{after_begins}
-use Rattle.sig_settling.specs.OwnSteps.{IsOwn, Own, opening_own}
-use Rattle.sig_settling.specs.Settled.{AreBalanced, acts, collector_of}
-use Rattle.sig_values.proofs.Writing.{some_is}
+use Rattle.sig_work.proofs.Common.{◌≡◌, ◌<◌, ◌≤◌, ◌+◌, ◌++◌, ◌∙◌, inl, inr, ℕ, ℤ, cond, List, [], length, ap, sym, subst, arith, None, Option, Some, slice_get, slice_index_or, eq-eqb, IsPrefixOf, get_at, get_within, Halt, output_text, some_at, at_most_or, Given, reactions_text, Reaction, plan_operations, ends_within, operations_in, IsAccepted, PlanView, LinkInfo, after_begins, IsOwn, Own, opening_own, AreBalanced, acts, collector_of, some_is, AreSingle, IsAmong, times, sent_by, taken_by, AreAll, AreTogether, BeginsTheRun, HasDone, commits_of, own_of, AreSettledBelow, HaveRoomFor, Member, Share}
 use Rattle.sig_work.proofs.Choosing.{chosen}
 use Rattle.sig_work.proofs.Counting.{same_member, some_member}
 use Rattle.sig_work.proofs.Settled.{StepsInterleave}
-use Rattle.sig_work.specs.Among.{AreSingle, IsAmong, times}
-use Rattle.sig_work.specs.Ends.{sent_by, taken_by}
-use Rattle.sig_work.specs.Gathered.{AreAll, AreTogether, BeginsTheRun}
-use Rattle.sig_work.specs.Members.{HasDone, commits_of, own_of}
-use Rattle.sig_work.specs.Settling.{AreSettledBelow, HaveRoomFor}
-use Rattle.sig_work.specs.declared.member.Member.{Member}
-use Rattle.sig_work.specs.declared.share.Share.{Share}
 
 -- a number has one member
 pub one_among : (given : Given) (word : Halt) (shares : List Share) → AreAll given word shares → (k : ℕ) → k < length given.plan.codes

@@ -1,24 +1,8 @@
 -- What the arms of a member's turn come to.
-use Rattle.std.proofs.Common.{◌≡◌, ◌<◌, ◌≤◌, ◌^◌, ◌++◌, ◌⊎◌, ◌∙◌, inl, inr, ℕ, ℤ, true, false, List, [], ◌∷◌, sym, subst, arith}
-use Rattle.std.specs.Prelude.{Some, min}
-use Rattle.sig_base.specs.Places.{no_place, packed}
-use Rattle.sig_base.specs.declared.place.Place.{Place}
-use Rattle.sig_halt.specs.Seats.{recorded}
-use Rattle.sig_halt.specs.declared.halt.Halt.{Halt}
-use Rattle.sig_halt.specs.declared.halt_seat.HaltSeat.{HaltSeat}
-use Rattle.sig_kernel.specs.OutputText.{outputs_of, seen_lines}
-use Rattle.sig_model.specs.Cores.{Given}
-use Rattle.sig_model.specs.Turns.{Reaction}
-use Rattle.sig_plan.specs.Plans.{PlanView}
-use Rattle.sig_step.specs.States.{last_reaction, place_of}
+use Rattle.sig_work.proofs.Common.{◌≡◌, ◌<◌, ◌≤◌, ◌^◌, ◌++◌, ◌⊎◌, ◌∙◌, inl, inr, ℕ, ℤ, true, false, List, [], ◌∷◌, sym, subst, arith, Some, min, no_place, packed, Place, recorded, Halt, HaltSeat, outputs_of, seen_lines, Given, Reaction, PlanView, last_reaction, place_of, Acted, Empty, HasActedAs, HasDone, IsSameMember, is_collector, run_of, IsServed, KeepsMember, KeepsSeat, ServesMember, Failed, AtLimit, Member}
 use Rattle.sig_work.proofs.GoingOn.{none_more, one_more}
 use Rattle.sig_work.proofs.Served.{served_on, served_to_failure, served_to_limit, some_place}
-use Rattle.sig_step.specs.declared.answer.Acted.{Acted}
-use Rattle.sig_step.specs.declared.answer.Acted.TheVariants.{Empty, Full}
-use Rattle.sig_work.specs.Members.{HasActedAs, HasDone, IsSameMember, is_collector, run_of}
-use Rattle.sig_work.specs.Rounds.{IsServed, KeepsMember, KeepsSeat, ServesMember}
-use Rattle.sig_work.specs.declared.member.Ending.TheVariants.{Failed, AtLimit}
-use Rattle.sig_work.specs.declared.member.Member.{Member}
+use Rattle.sig_step.specs.declared.answer.Acted.TheVariants.{Full}
 
 -- a running member stays
 pub acted_keeps : (old new : Member) → old.state.ended ≡ false → IsSameMember old new → new.ending ≡ old.ending → KeepsMember old new

@@ -1,40 +1,8 @@
 -- A whole run: what was dealt and then served comes to the end of the run.
-use Rattle.std.proofs.Common.{◌≡◌, ◌<◌, ◌≤◌, ◌-◌, ◌+◌, ◌++◌, ◌∙◌, inl, inr, ℕ, ℤ, List, [], ◌∷◌, length, refl, ap, sym, subst, arith}
-use Rattle.std.specs.Prelude.{None, Option, Some, slice_get}
-use Rattle.std.proofs.lemmas.Bool.{eqb-true}
-use Rattle.std.proofs.lemmas.List.{length-append}
-use Rattle.sig_alone.specs.Runs.{IsWholeRun, TookSome}
-use Rattle.sig_base.specs.Traces.{IsLongest, Trace}
-use Rattle.sig_base.specs.declared.place.Place.{Place}
-use Rattle.sig_clock.proofs.Lists.{get_within}
-use Rattle.sig_halt.specs.declared.halt.Halt.{Halt}
-use Rattle.sig_kernel.specs.KernelTraces.{IsKernelTrace}
-use Rattle.sig_kernel.specs.OutputText.{output_text}
-use Rattle.sig_kernel.specs.Validity.{AreFlowsFor}
-use Rattle.sig_link.specs.Ends.{OfOneLink}
-use Rattle.sig_link.specs.declared.put.Put.{Put}
-use Rattle.sig_link.specs.declared.take.Take.{Take}
-use Rattle.sig_meaning.proofs.Agreement.{some_at}
-use Rattle.sig_meaning.proofs.Numbers.{at_most_or}
-use Rattle.sig_model.specs.Causes.{IsEnd}
-use Rattle.sig_model.specs.Cores.{Given, reactions_text}
-use Rattle.sig_model.specs.Turns.{Reaction}
-use Rattle.sig_plan.specs.Plans.{IsAccepted, PlanView}
+use Rattle.sig_work.proofs.Common.{◌≡◌, ◌<◌, ◌≤◌, ◌-◌, ◌+◌, ◌++◌, ◌∙◌, inl, inr, ℕ, ℤ, List, [], ◌∷◌, length, refl, ap, sym, subst, arith, None, Option, Some, slice_get, eqb-true, length-append, IsWholeRun, TookSome, IsLongest, Trace, Place, get_within, Halt, IsKernelTrace, output_text, AreFlowsFor, OfOneLink, Put, Take, some_at, at_most_or, IsEnd, Given, reactions_text, Reaction, IsAccepted, PlanView, LinkInfo, text_is, TookPrefix, TookPrefix-longer, some_is, AreSingle, IsAmong, times, AreAll, AreDealt, AreDone, AreTogether, BeginsTheRun, IsEndOfRun, IsSameMember, run_of, AreBegun, AreKept, IsOfClusters, WereHalted, WereRun, HaveEnded, IsServing, NoneFaulted, Faulted, Member, Share}
 use Rattle.sig_plan.specs.declared.ended.Ended.{Ended}
-use Rattle.sig_plan.specs.declared.parts.LinkInfo.{LinkInfo}
-use Rattle.sig_schedules.proofs.Texts.{text_is}
-use Rattle.sig_text.specs.Sink.{TookPrefix, TookPrefix-longer}
-use Rattle.sig_values.proofs.Writing.{some_is}
 use Rattle.sig_work.proofs.Counting.{some_member}
 use Rattle.sig_work.proofs.Placing.{get_front, get_last, get_more}
-use Rattle.sig_work.specs.Among.{AreSingle, IsAmong, times}
-use Rattle.sig_work.specs.Gathered.{AreAll, AreDealt, AreDone, AreTogether, BeginsTheRun, IsEndOfRun}
-use Rattle.sig_work.specs.Members.{IsSameMember, run_of}
-use Rattle.sig_work.specs.Running.{AreBegun, AreKept, IsOfClusters, WereHalted, WereRun}
-use Rattle.sig_work.specs.Shares.{HaveEnded, IsServing, NoneFaulted}
-use Rattle.sig_work.specs.declared.member.Ending.TheVariants.{Faulted}
-use Rattle.sig_work.specs.declared.member.Member.{Member}
-use Rattle.sig_work.specs.declared.share.Share.{Share}
 
 -- ---- all shares, as dealt and as kept
 

@@ -1,15 +1,6 @@
 -- The dealing of actors to shares, step by step.
-use Rattle.std.specs.Prelude.{◌≡◌, ◌≢◌, ◌<◌, ◌≤◌, ◌+◌, ◌-◌, ◌%◌, ◌==◌, ◌||◌, ◌⊎◌, ℕ, ℤ, List, [], ◌∷◌, ◌++◌, length, slice_get, sum_by, vec_capacity, None, Some, if◌then◌else◌}
-use Rattle.sig_base.specs.Places.{no_place}
-use Rattle.sig_halt.specs.Seats.{IsSeatOf, parts, recorded}
-use Rattle.sig_halt.specs.declared.halt.Halt.{Halt}
-use Rattle.sig_link.specs.Ends.{OfOneLink, put_capacity}
-use Rattle.sig_link.specs.declared.put.Put.{Put}
-use Rattle.sig_link.specs.declared.take.Take.{Take}
-use Rattle.sig_model.specs.Actors.{opening_actor}
-use Rattle.sig_plan.specs.Plans.{PlanView}
-use Rattle.sig_plan.specs.declared.parts.LinkInfo.{LinkInfo}
-use Rattle.sig_step.specs.States.{IsStateOf, actor_of}
+use Rattle.std.specs.Prelude.{◌≡◌, ◌≢◌, ◌<◌, ◌≤◌, ◌+◌, ◌-◌, ◌%◌, ◌==◌, ◌||◌, ◌⊎◌, ◌∷◌, ◌++◌, if◌then◌else◌}
+use Rattle.sig_work.specs.Prelude.{ℕ, ℤ, List, [], length, slice_get, sum_by, vec_capacity, None, Some, no_place, IsSeatOf, parts, recorded, Halt, OfOneLink, put_capacity, Put, Take, opening_actor, PlanView, LinkInfo, IsStateOf, actor_of}
 use Rattle.sig_work.specs.Among.{times}
 use Rattle.sig_work.specs.Ends.{HasNoEnds, sent_of, taken_of}
 use Rattle.sig_work.specs.Settling.{But, Each, IsLeftMember}

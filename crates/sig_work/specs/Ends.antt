@@ -1,14 +1,7 @@
 -- What the link ends of an actor know of the links.
-use Rattle.std.specs.Prelude.{◌≡◌, ◌<◌, ℕ, ℤ, Bool, true, false, List, [], length, slice_get, Option, None, Some}
+use Rattle.std.specs.Prelude.{◌≡◌, ◌<◌}
+use Rattle.sig_work.specs.Prelude.{ℕ, ℤ, Bool, true, false, List, [], length, slice_get, Option, None, Some, filter, range_with_len, put_capacity, put_link, sent, take_link, taken, FoundEmpty, FoundFull, Put, Take, PlanView, LinkInfo, Items, Past}
 use Rattle.std.proofs.Common.{refl}
-use Rattle.std.specs.List.{filter, range_with_len}
-use Rattle.sig_link.specs.Ends.{put_capacity, put_link, sent, take_link, taken}
-use Rattle.sig_link.specs.declared.put.Put.{Put}
-use Rattle.sig_link.specs.declared.take.Take.{Take}
-use Rattle.sig_plan.specs.Plans.{PlanView}
-use Rattle.sig_plan.specs.declared.parts.LinkInfo.{LinkInfo}
-use Rattle.sig_settling.specs.OwnSteps.{Items}
-use Rattle.sig_step.specs.LinkEnds.{Past}
 use Rattle.sig_work.specs.declared.ends.LinkEnds.{LinkEnds}
 
 -- what an end knows, where there is one
@@ -48,6 +41,21 @@ puts_of ends = filter (λ link. has_put (slice_get ends.puts.items link)) (range
 
 abbrev pub takes_of : LinkEnds → List ℕ
 takes_of ends = filter (λ link. has_take (slice_get ends.takes.items link)) (range_with_len 0 (length ends.takes.items))
+
+-- The end of a link was there, and found it full, or empty, at a step of the call that led from the one ends to the other.
+pub record HasFoundFull (link : ℕ) (old new : LinkEnds) : Type 0 where
+  pub before : Put
+  pub after : Put
+  pub was : slice_get old.puts.items link ≡ Some (Some before)
+  pub is : slice_get new.puts.items link ≡ Some (Some after)
+  pub found : FoundFull before after
+
+pub record HasFoundEmpty (link : ℕ) (old new : LinkEnds) : Type 0 where
+  pub before : Take
+  pub after : Take
+  pub was : slice_get old.takes.items link ≡ Some (Some before)
+  pub is : slice_get new.takes.items link ≡ Some (Some after)
+  pub found : FoundEmpty before after
 
 -- room for so many links, of which none has an end here
 pub record HasNoEnds (links : ℕ) (ends : LinkEnds) : Type 0 where

@@ -1,25 +1,9 @@
 -- What all shares of a run come to.
-use Rattle.std.specs.Prelude.{◌≡◌, ◌<◌, ◌≤◌, ◌-◌, ◌++◌, ◌+◌, ◌*◌, ◌⊎◌, ℕ, ℤ, List, [], length, min, slice_get, slice_index_or, Option, None, Some, sum_by}
-use Rattle.sig_base.specs.Traces.{IsPrefixOf, Trace}
-use Rattle.sig_base.specs.declared.place.Place.{Place}
-use Rattle.sig_halt.specs.Seats.{halt_parts, parts}
-use Rattle.sig_halt.specs.declared.halt.Halt.{Halt}
-use Rattle.sig_kernel.specs.OutputText.{output_text}
-use Rattle.sig_kernel.specs.Validity.{AreFlowsFor}
-use Rattle.sig_model.specs.Actors.{opening_actor}
-use Rattle.sig_model.specs.Causes.{IsEnd}
-use Rattle.sig_model.specs.Cores.{Given, IsFinished, after, reactions_text}
-use Rattle.sig_model.specs.Progress.{reactions_of}
-use Rattle.sig_model.specs.Turns.{Reaction}
-use Rattle.sig_model.specs.declared.event.Event.{Event}
-use Rattle.sig_plan.specs.Plans.{PlanView}
-use Rattle.sig_plan.specs.declared.ended.Ended.{Ended}
-use Rattle.sig_plan.specs.declared.parts.LinkInfo.{LinkInfo}
-use Rattle.sig_settling.specs.Settled.{IsLeastFailure}
-use Rattle.sig_step.specs.States.{actor_of}
+use Rattle.std.specs.Prelude.{◌≡◌, ◌<◌, ◌≤◌, ◌-◌, ◌++◌, ◌+◌, ◌*◌, ◌⊎◌}
+use Rattle.sig_work.specs.Prelude.{ℕ, ℤ, List, [], length, min, slice_get, slice_index_or, Option, None, Some, sum_by, IsPrefixOf, Trace, Place, halt_parts, parts, Halt, output_text, AreFlowsFor, opening_actor, IsEnd, AllChange, Given, IsFinished, after, opening, reactions_text, reactions_of, Reaction, PlanView, Ended, LinkInfo, AreInOrder, IsLeastFailure, LeadBy, acts_then_looks, opening_own, times_among, actor_of}
 use Rattle.sig_work.specs.Among.{Is, IsAmong, times}
 use Rattle.sig_work.specs.Ends.{sent_of, taken_of}
-use Rattle.sig_work.specs.Members.{failure_in, run_of}
+use Rattle.sig_work.specs.Members.{commits_of, failure_in, own_of, run_of}
 use Rattle.sig_work.specs.Settling.{IsLinked}
 use Rattle.sig_work.specs.Shares.{AreServing, HaveDone, HaveEnded, NoneFaulted}
 use Rattle.sig_work.specs.declared.member.Member.{Member}
@@ -101,15 +85,22 @@ BeginsTheRun given committed = (trace : Trace) (place : Option Place) (ended : E
 abbrev pub AreOfSomeWhole : PlanView → List (List ℤ) → Halt → List Share → Type 0
 AreOfSomeWhole plan flows word shares = (capacity : ℕ) × (limit : ℕ) × (committed : List Reaction) × AreDone (run_of plan flows capacity limit) committed word shares
 
--- What shares hold is a finished state that a list of events reaches: its actors are theirs, its links hold what was sent and not
--- taken, its word is the least place at which an actor failed, and the reactions are those that the collector committed.
+-- What shares hold is a finished state that a list of events reaches. The list has the own steps of the actors, each of them
+-- once and in the order of their places, and then looks; each of its events changes the state. The actors of the state are those
+-- of the shares, its links hold what was sent and not taken, its word is the least place at which an actor failed, and the
+-- reactions are those that the collector committed.
 pub record HoldFinished (given : Given) (committed : List Reaction) (shares : List Share) : Type 0 where
-  pub events : List Event
-  pub finished : IsFinished (after given events)
-  pub actors : (k : ℕ) → k < length given.plan.codes → Is shares k (λ m. slice_get (after given events).actors k ≡ Some (actor_of m.state))
+  pub numbers : List ℕ
+  pub lookers : List ℕ
+  pub order : AreInOrder given numbers
+  pub once : (k : ℕ) → k < length given.plan.codes
+      → Is shares k (λ m. LeadBy given k (times_among k numbers) (opening_own given.plan.kernel) (own_of m (commits_of given committed m)))
+  pub change : AllChange given (opening given.plan) (acts_then_looks numbers lookers)
+  pub finished : IsFinished (after given (acts_then_looks numbers lookers))
+  pub actors : (k : ℕ) → k < length given.plan.codes → Is shares k (λ m. slice_get (after given (acts_then_looks numbers lookers)).actors k ≡ Some (actor_of m.state))
   pub links : (link : ℕ) (info : LinkInfo) → slice_get given.plan.links link ≡ Some info
       → Is shares info.writer (λ writer. Is shares info.reader (λ reader.
-      sent_of writer.ends link ≡ taken_of reader.ends link ++ slice_index_or (after given events).links link []))
+      sent_of writer.ends link ≡ taken_of reader.ends link ++ slice_index_or (after given (acts_then_looks numbers lookers)).links link []))
   pub word : (failures : ℕ → Option Place) → ((k : ℕ) → k < length given.plan.codes → Is shares k (λ m. failures k ≡ failure_in m.ending))
-      → IsLeastFailure (length given.plan.codes) failures (after given events).word
-  pub commits : (after given events).committed ≡ committed
+      → IsLeastFailure (length given.plan.codes) failures (after given (acts_then_looks numbers lookers)).word
+  pub commits : (after given (acts_then_looks numbers lookers)).committed ≡ committed

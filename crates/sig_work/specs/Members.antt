@@ -1,15 +1,6 @@
 -- What one actor of a share has done.
-use Rattle.std.specs.Prelude.{◌≡◌, ◌<◌, ◌≤◌, ◌+◌, ◌==◌, ℕ, ℤ, Bool, true, false, List, [], ◌∷◌, ◌++◌, length, Option, None, Some, if◌then◌else◌}
-use Rattle.sig_base.specs.Places.{no_place, packed}
-use Rattle.sig_base.specs.declared.place.Place.{Place}
-use Rattle.sig_model.specs.Actors.{Actor}
-use Rattle.sig_model.specs.Cores.{Given}
-use Rattle.sig_model.specs.Turns.{Reaction}
-use Rattle.sig_settling.specs.OwnSteps.{IsOwn, Own}
-use Rattle.sig_plan.specs.Plans.{PlanView}
-use Rattle.sig_step.specs.States.{IsStateOf, actor_of, last_reaction, place_of}
-use Rattle.sig_step.specs.declared.answer.Acted.{Acted}
-use Rattle.sig_step.specs.declared.answer.Acted.TheVariants.{Done, Commit, Empty, Full, Failed as ActFailed, AtLimit as ActAtLimit, Stopped}
+use Rattle.std.specs.Prelude.{◌≡◌, ◌<◌, ◌≤◌, ◌+◌, ◌==◌, ◌∷◌, ◌++◌, if◌then◌else◌}
+use Rattle.sig_work.specs.Prelude.{ℕ, ℤ, Bool, true, false, List, [], length, Option, None, Some, no_place, packed, Place, Actor, Given, Reaction, IsOwn, Own, PlanView, IsStateOf, actor_of, last_reaction, place_of, Acted, Done, Commit, Empty, Full, Failed as ActFailed, AtLimit as ActAtLimit, Stopped}
 use Rattle.sig_work.specs.Ends.{AreSameEnds, HasEnds, sent_of, taken_of}
 use Rattle.sig_work.specs.declared.member.Ending.{Ending}
 use Rattle.sig_work.specs.declared.member.Ending.TheVariants.{Failed, Looked, AtLimit, Faulted}

@@ -1,14 +1,6 @@
 -- What the turns and rounds of a service do.
-use Rattle.std.specs.Prelude.{◌≡◌, ◌≤◌, ◌<◌, ◌⊎◌, ◌++◌, ℕ, ℤ, true, List, [], length, min, slice_get, Some}
-use Rattle.sig_base.specs.Places.{packed}
-use Rattle.sig_halt.specs.Seats.{IsSameSeat, IsSeatOf, recorded, seen}
-use Rattle.sig_halt.specs.declared.halt.Halt.{Halt}
-use Rattle.sig_halt.specs.declared.halt_seat.HaltSeat.{HaltSeat}
-use Rattle.sig_kernel.specs.declared.kernel.Kernel.{Kernel}
-use Rattle.sig_model.specs.Cores.{Given, reactions_text}
-use Rattle.sig_model.specs.Turns.{Reaction}
-use Rattle.sig_plan.specs.Plans.{PlanView}
-use Rattle.sig_step.specs.States.{place_of}
+use Rattle.std.specs.Prelude.{◌≡◌, ◌≤◌, ◌<◌, ◌⊎◌, ◌++◌}
+use Rattle.sig_work.specs.Prelude.{ℕ, ℤ, true, List, [], length, min, slice_get, Some, packed, IsSameSeat, IsSeatOf, recorded, seen, Halt, HaltSeat, Kernel, Given, reactions_text, Reaction, PlanView, place_of}
 use Rattle.sig_work.specs.Members.{HasDone, IsBehindSeen, IsSameMember, failure_in, is_collector, run_of, word_of}
 use Rattle.sig_work.specs.Shares.{AllEnded, AreOfRun, HasCollector, HasOneCollector, HaveCollector, IsServing}
 use Rattle.sig_work.specs.declared.member.Ending.TheVariants.{Faulted}

@@ -1,10 +1,6 @@
 -- Shares of one run, of which some are served on threads of their own.
-use Rattle.std.specs.Prelude.{◌≡◌, ◌≢◌, ◌++◌, ℕ, ℤ, List, [], length, slice_get, sum_by, Some}
-use Rattle.sig_halt.specs.Seats.{parts}
-use Rattle.sig_halt.specs.declared.halt.Halt.{Halt}
-use Rattle.sig_model.specs.Cores.{Given, reactions_text}
-use Rattle.sig_model.specs.Turns.{Reaction}
-use Rattle.sig_plan.specs.Plans.{PlanView}
+use Rattle.std.specs.Prelude.{◌≡◌, ◌≢◌, ◌++◌}
+use Rattle.sig_work.specs.Prelude.{ℕ, ℤ, List, [], length, slice_get, sum_by, Some, parts, Halt, Given, reactions_text, Reaction, PlanView}
 use Rattle.sig_work.specs.Among.{AreSingle, times}
 use Rattle.sig_work.specs.Members.{run_of}
 use Rattle.sig_work.specs.Shares.{AreServing, HasCollector, HaveDone, IsSameShare, IsServing, NoneFaulted}

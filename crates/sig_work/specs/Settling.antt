@@ -1,9 +1,6 @@
 -- The settling of links, whose ends the members of shares give up one after another.
-use Rattle.std.specs.Prelude.{◌≡◌, ◌≢◌, ◌<◌, ◌≤◌, ℕ, List, length, slice_get, None, Some}
-use Rattle.sig_link.specs.Ends.{IsSettled, OfOneLink}
-use Rattle.sig_link.specs.declared.put.Put.{Put}
-use Rattle.sig_link.specs.declared.take.Take.{Take}
-use Rattle.sig_plan.specs.declared.parts.LinkInfo.{LinkInfo}
+use Rattle.std.specs.Prelude.{◌≡◌, ◌≢◌, ◌<◌, ◌≤◌}
+use Rattle.sig_work.specs.Prelude.{ℕ, List, length, slice_get, None, Some, IsSettled, OfOneLink, Put, Take, LinkInfo}
 use Rattle.sig_work.specs.Among.{Is, IsAmong}
 use Rattle.sig_work.specs.declared.ends.LinkEnds.{LinkEnds}
 use Rattle.sig_work.specs.declared.member.Member.{Member}

@@ -1,12 +1,6 @@
 -- What the shares of a run hold.
-use Rattle.std.specs.Prelude.{◌≡◌, ◌≢◌, ◌⊎◌, ℕ, ℤ, true, List, [], ◌∷◌, ◌++◌, length, min, slice_get, Some}
-use Rattle.sig_base.specs.Places.{no_place}
-use Rattle.sig_halt.specs.Seats.{IsSameSeat, IsSeatOf, recorded, seen}
-use Rattle.sig_halt.specs.declared.halt.Halt.{Halt}
-use Rattle.sig_model.specs.Cores.{Given, reactions_text}
-use Rattle.sig_model.specs.Turns.{Reaction}
-use Rattle.sig_plan.specs.Plans.{PlanView}
-use Rattle.sig_step.specs.States.{place_of}
+use Rattle.std.specs.Prelude.{◌≡◌, ◌≢◌, ◌⊎◌, ◌∷◌, ◌++◌}
+use Rattle.sig_work.specs.Prelude.{ℕ, ℤ, true, List, [], length, min, slice_get, Some, no_place, IsSameSeat, IsSeatOf, recorded, seen, Halt, Given, reactions_text, Reaction, PlanView, place_of}
 use Rattle.sig_work.specs.Members.{HasDone, IsBehindSeen, IsSameMember, commits_of, failure_in, is_collector, run_of, word_of}
 use Rattle.sig_work.specs.declared.member.Ending.TheVariants.{Faulted}
 use Rattle.sig_work.specs.declared.member.Member.{Member}

@@ -1,14 +1,6 @@
 -- The failure word of all shares, and the cause that it names.
-use Rattle.std.specs.Prelude.{◌≡◌, ◌<◌, ◌≤◌, ◌^◌, ◌+◌, ◌⊎◌, ℕ, ℤ, List, sum_by, slice_get, Option, None, Some}
-use Rattle.sig_base.specs.Places.{no_place, packed}
-use Rattle.sig_base.specs.declared.place.Place.{Place}
-use Rattle.sig_halt.specs.Seats.{IsSeatOf, parts, recorded, seen}
-use Rattle.sig_halt.specs.declared.halt.Halt.{Halt}
-use Rattle.sig_halt.specs.declared.halt_seat.HaltSeat.{HaltSeat}
-use Rattle.sig_model.specs.Cores.{Core, cause_of}
-use Rattle.sig_plan.specs.Plans.{PlanView}
-use Rattle.sig_plan.specs.declared.ended.Cause.{Cause}
-use Rattle.sig_step.specs.States.{actor_of, place_of}
+use Rattle.std.specs.Prelude.{◌≡◌, ◌<◌, ◌≤◌, ◌^◌, ◌+◌, ◌⊎◌}
+use Rattle.sig_work.specs.Prelude.{ℕ, ℤ, List, sum_by, slice_get, Option, None, Some, no_place, packed, Place, IsSeatOf, parts, recorded, seen, Halt, HaltSeat, Core, cause_of, PlanView, Cause, actor_of, place_of}
 use Rattle.sig_work.specs.Among.{IsAmong}
 use Rattle.sig_work.specs.Members.{failure_in, word_of}
 use Rattle.sig_work.specs.declared.member.Member.{Member}

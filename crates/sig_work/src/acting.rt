@@ -1,7 +1,7 @@
 //! The steps of one actor of a share.
 
-ghost use Rattle.std.specs.Prelude.{◌≡◌, ◌<◌, ℕ, List};
-ghost use Rattle.sig_model.specs.Turns.{Reaction};
+ghost use Rattle.std.specs.Prelude.{◌≡◌, ◌<◌};
+ghost use Rattle.sig_work.specs.Prelude.{ℕ, List, Reaction};
 ghost use Rattle.sig_work.specs.Members.{HasActedAs, HasDone, IsOfSomeRun, IsSameMember, run_of};
 
 use crate::ends::Lent;

@@ -1,8 +1,7 @@
 //! The cause that the failure word names.
 
-ghost use Rattle.std.specs.Prelude.{◌≡◌, slice_get, IfNone, IfSome, None, Some};
-ghost use Rattle.sig_model.specs.Cores.{Core, cause_of, cause_of_op};
-ghost use Rattle.sig_plan.specs.declared.op.Op.{Op};
+ghost use Rattle.std.specs.Prelude.{◌≡◌};
+ghost use Rattle.sig_work.specs.Prelude.{slice_get, IfNone, IfSome, None, Some, Core, cause_of, cause_of_op, Op};
 ghost use Rattle.sig_work.specs.Words.{HasActors, NamesCause};
 
 use crate::finding::member_of;

@@ -1,7 +1,7 @@
 //! The dealing of a plan's actors to shares.
 
-ghost use Rattle.std.specs.Prelude.{◌≡◌, ◌≤◌, ◌<◌, ◌+◌, ◌^◌, IfOk, length};
-ghost use Rattle.sig_kernel.specs.Validity.{AreFlowsFor};
+ghost use Rattle.std.specs.Prelude.{◌≡◌, ◌≤◌, ◌<◌, ◌+◌, ◌^◌};
+ghost use Rattle.sig_work.specs.Prelude.{IfOk, length, AreFlowsFor};
 ghost use Rattle.sig_work.specs.Dealing.{AreOpened};
 ghost use Rattle.sig_work.specs.Gathered.{AreDealt};
 ghost use Rattle.sig_work.specs.Members.{run_of};

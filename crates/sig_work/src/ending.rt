@@ -1,10 +1,7 @@
 //! How an actor of a share ends, but at the limit.
 
-ghost use Rattle.std.specs.Prelude.{◌≡◌, ◌≢◌, ℕ, List, Some, min, true};
-ghost use Rattle.sig_base.specs.Places.{no_place, packed};
-ghost use Rattle.sig_halt.specs.Seats.{IsSeatOf, recorded};
-ghost use Rattle.sig_model.specs.Cores.{Given};
-ghost use Rattle.sig_model.specs.Turns.{Reaction};
+ghost use Rattle.std.specs.Prelude.{◌≡◌, ◌≢◌};
+ghost use Rattle.sig_work.specs.Prelude.{ℕ, List, Some, min, true, no_place, packed, IsSeatOf, recorded, Given, Reaction};
 ghost use Rattle.sig_work.specs.Rounds.{HasStopped, IsPastZero, IsServed, KeepsMember, KeepsSeat};
 ghost use Rattle.sig_work.specs.declared.member.Ending.TheVariants.{Failed};
 ghost use Rattle.sig_work.specs.declared.round.Round.TheVariants.{Ended};

@@ -58,7 +58,7 @@ pub(crate) struct Lent<'a, R> {
 impl<'a, R: Wait> Ends for Lent<'a, R> {
     ghost use Rattle.std.specs.Prelude.{None, Some};
     ghost use Rattle.std.proofs.Common.{inl, refl};
-    ghost use Rattle.sig_work.specs.Ends.{AreSameEnds, AreSameEnds-itself, past_of, puts_of, takes_of};
+    ghost use Rattle.sig_work.specs.Ends.{AreSameEnds, AreSameEnds-itself, HasFoundEmpty, HasFoundFull, past_of, puts_of, takes_of};
 
     ghost past = { λ lent. Some (past_of lent.ends) };
 
@@ -67,6 +67,10 @@ impl<'a, R: Wait> Ends for Lent<'a, R> {
     ghost pushes = { λ lent. puts_of lent.ends };
 
     ghost pops = { λ lent. takes_of lent.ends };
+
+    ghost found_full = { λ link old new. HasFoundFull link old.ends new.ends };
+
+    ghost found_empty = { λ link old new. HasFoundEmpty link old.ends new.ends };
 
     ghost tells = { λ lent. inl refl };
 

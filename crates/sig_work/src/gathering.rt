@@ -1,8 +1,7 @@
 //! What all shares of a run come to, once they were served.
 
-ghost use Rattle.std.specs.Prelude.{◌≡◌, ◌-◌, ℕ, List, length};
-ghost use Rattle.sig_model.specs.Turns.{Reaction};
-ghost use Rattle.sig_step.specs.States.{actor_of};
+ghost use Rattle.std.specs.Prelude.{◌≡◌, ◌-◌};
+ghost use Rattle.sig_work.specs.Prelude.{ℕ, List, length, Reaction, actor_of};
 ghost use Rattle.sig_work.specs.Among.{AreSingle, Is};
 ghost use Rattle.sig_work.specs.Gathered.{AreDone, AreOfSomeWhole, AreTogether, AreTogetherOfSome, BeginsTheRun, HoldFinished, IsEndOfRun};
 ghost use Rattle.sig_work.specs.Members.{run_of};
@@ -17,7 +16,7 @@ use crate::word::{close, least_failure};
 use sig_halt::Halt;
 use sig_kernel::Inputs;
 use sig_plan::{Ended, Plan};
-use sig_settling::{own_steps_are_an_interleaving, settled_actors_are_finished};
+use sig_settling::{own_steps_are_an_interleaving, settled_actors_have_acted_in_order};
 use std::sync::Wait;
 
 /// Settles all links, joins the seats and closes the word. The answer is the number of the instants that
@@ -36,7 +35,7 @@ pub fn gather<R: Wait>(
         → IsEndOfRun (run_of plan.now inputs.now capacity limit) committed result }
 {
     plans_are_accepted(plan);
-    settled_actors_are_finished();
+    settled_actors_have_acted_in_order();
     let ended = ended_by(plan, inputs, shares.as_slice());
     let shares = settle_links(rt, plan, shares);
     close(halt, shares);

@@ -1,8 +1,7 @@
 //! The handing out of members to shares.
 
-ghost use Rattle.std.specs.Prelude.{◌≡◌, ◌≤◌, ◌<◌, ◌+◌, ℕ, [], IfOk, length, slice_get, Some};
-ghost use Rattle.sig_base.specs.Places.{no_place};
-ghost use Rattle.sig_halt.specs.Seats.{IsSeatOf, parts, recorded};
+ghost use Rattle.std.specs.Prelude.{◌≡◌, ◌≤◌, ◌<◌, ◌+◌};
+ghost use Rattle.sig_work.specs.Prelude.{ℕ, [], IfOk, length, slice_get, Some, no_place, IsSeatOf, parts, recorded};
 ghost use Rattle.sig_work.specs.Dealing.{AreHanded, AreNumbered, AreSeated, HasGiven, HaveRoom, share_for};
 
 use crate::answer::DealAnswer;

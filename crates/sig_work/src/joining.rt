@@ -1,9 +1,9 @@
 //! The making of all links, and the giving of their ends to the actors.
 
-ghost use Rattle.std.specs.Prelude.{◌≡◌, ◌≤◌, ◌<◌, length, slice_get, OnOk, Some};
+ghost use Rattle.std.specs.Prelude.{◌≡◌, ◌≤◌, ◌<◌};
+ghost use Rattle.sig_work.specs.Prelude.{length, slice_get, OnOk, Some, put_capacity, sent, taken, OfOneLink};
 ghost use Rattle.sig_work.specs.Dealing.{AreJoined, HasGivenPut, HasGivenTake};
 ghost use Rattle.sig_work.specs.Settling.{AreLeftEnds, But, Each};
-ghost use Rattle.sig_link.specs.Ends.{put_capacity, sent, taken, OfOneLink};
 ghost use Rattle.sig_work.specs.declared.member.Member.{Member};
 
 use crate::answer::DealAnswer;

@@ -1,7 +1,7 @@
 //! The parts of a plan.
 
-ghost use Rattle.std.specs.Prelude.{◌≡◌, length};
-ghost use Rattle.sig_plan.specs.Plans.{IsAccepted};
+ghost use Rattle.std.specs.Prelude.{◌≡◌};
+ghost use Rattle.sig_work.specs.Prelude.{length, IsAccepted};
 
 use sig_base::OpId;
 use sig_plan::{LinkInfo, Op, Plan};

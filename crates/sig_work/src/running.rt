@@ -1,11 +1,7 @@
 //! A run with worker threads.
 
-ghost use Rattle.std.specs.Prelude.{◌≡◌, ◌≤◌, ◌<◌, ◌+◌, ◌++◌, ◌^◌, ℕ, List, Err, IfErr, IfOk, OnErr, OnOk, length, vec_capacity};
-ghost use Rattle.sig_alone.specs.Runs.{IsWholeRun, TookSome};
-ghost use Rattle.sig_kernel.specs.Validity.{AreFlowsFor};
-ghost use Rattle.sig_model.specs.Turns.{Reaction};
-ghost use Rattle.sig_text.specs.Counts.{Rose};
-ghost use Rattle.sig_text.specs.Sink.{TookPrefix};
+ghost use Rattle.std.specs.Prelude.{◌≡◌, ◌≤◌, ◌<◌, ◌+◌, ◌++◌, ◌^◌};
+ghost use Rattle.sig_work.specs.Prelude.{ℕ, List, Err, IfErr, IfOk, OnErr, OnOk, length, vec_capacity, IsWholeRun, TookSome, AreFlowsFor, Reaction, Rose, TookPrefix};
 ghost use Rattle.sig_work.specs.Gathered.{AreDealt};
 ghost use Rattle.sig_work.specs.Members.{run_of};
 ghost use Rattle.sig_work.specs.Running.{AreBegun, AreBegunInSome, AreKept, WereHalted, WereRun};

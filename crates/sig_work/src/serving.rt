@@ -1,9 +1,7 @@
 //! The serving of shares.
 
-ghost use Rattle.std.specs.Prelude.{◌≡◌, ◌≤◌, ◌<◌, ℕ, List, Ok, OnErr, OnOk, length};
-ghost use Rattle.sig_model.specs.Turns.{Reaction};
-ghost use Rattle.sig_text.specs.Counts.{Rose};
-ghost use Rattle.sig_text.specs.Sink.{TookPrefix};
+ghost use Rattle.std.specs.Prelude.{◌≡◌, ◌≤◌, ◌<◌};
+ghost use Rattle.sig_work.specs.Prelude.{ℕ, List, Ok, OnErr, OnOk, length, Reaction, Rose, TookPrefix};
 ghost use Rattle.sig_work.specs.Members.{run_of};
 ghost use Rattle.sig_work.specs.Rounds.{HasEndedAt, HaveEndedAt, IsShareOfSome, KeepsShare, KeepsShares, ServesShare, ServesShares};
 ghost use Rattle.sig_work.specs.Shares.{AllEnded, AreOfRun, AreOfSomeRun, AreSameShares, HaveEnded, WereServed, WereStopped};

@@ -1,7 +1,7 @@
 //! The end of a service after a fault of the sink.
 
-ghost use Rattle.sig_halt.specs.Seats.{IsSeatOf};
-ghost use Rattle.std.specs.Prelude.{ℕ, slice_get, ◌≡◌, Some};
+ghost use Rattle.std.specs.Prelude.{◌≡◌};
+ghost use Rattle.sig_work.specs.Prelude.{IsSeatOf, ℕ, slice_get, Some};
 ghost use Rattle.sig_work.specs.Rounds.{ArePastZero, ShareStopped, SharesStopped};
 ghost use Rattle.sig_work.specs.declared.share.Share.{Share};
 

@@ -1,8 +1,7 @@
 //! The turns of one actor of a share.
 
-ghost use Rattle.std.specs.Prelude.{◌≡◌, ◌≤◌, false, true, Ok, OnErr, OnOk};
-ghost use Rattle.sig_text.specs.Counts.{Rose};
-ghost use Rattle.sig_text.specs.Sink.{TookPrefix};
+ghost use Rattle.std.specs.Prelude.{◌≡◌, ◌≤◌};
+ghost use Rattle.sig_work.specs.Prelude.{false, true, Ok, OnErr, OnOk, Rose, TookPrefix};
 ghost use Rattle.sig_work.specs.Rounds.{IsServedInSome, KeepsMember, KeepsSeat, ServesMember};
 ghost use Rattle.sig_work.specs.declared.round.Round.TheVariants.{Ended};
 

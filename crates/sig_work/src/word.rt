@@ -1,8 +1,7 @@
 //! The failure word of all shares.
 
-ghost use Rattle.std.specs.Prelude.{◌≡◌, ◌≤◌, ◌<◌, ◌^◌, length, sum_by};
-ghost use Rattle.sig_halt.specs.Seats.{IsSeatOf, halt_parts, parts};
-ghost use Rattle.sig_step.specs.States.{place_of};
+ghost use Rattle.std.specs.Prelude.{◌≡◌, ◌≤◌, ◌<◌, ◌^◌};
+ghost use Rattle.sig_work.specs.Prelude.{length, sum_by, IsSeatOf, halt_parts, parts, place_of};
 ghost use Rattle.sig_work.specs.Members.{failure_in, word_of};
 ghost use Rattle.sig_work.specs.Words.{AreSeatsOf, IsClosed, IsIn, IsJoined, IsLeastOf, IsLeastWord};
 

@@ -1,9 +1,7 @@
 //! The threads of workers.
 
-ghost use Rattle.std.specs.Prelude.{◌≡◌, ◌≤◌, ◌+◌, ◌++◌, ℕ, List, OnErr, OnOk, length, vec_capacity};
-ghost use Rattle.sig_model.specs.Turns.{Reaction};
-ghost use Rattle.sig_text.specs.Counts.{Rose};
-ghost use Rattle.sig_text.specs.Sink.{TookPrefix};
+ghost use Rattle.std.specs.Prelude.{◌≡◌, ◌≤◌, ◌+◌, ◌++◌};
+ghost use Rattle.sig_work.specs.Prelude.{ℕ, List, OnErr, OnOk, length, vec_capacity, Reaction, Rose, TookPrefix};
 ghost use Rattle.sig_work.specs.Members.{run_of};
 ghost use Rattle.sig_work.specs.Running.{AreBegun, AreBegunInSome, AreKept, IsOfSomeClusters, IsServedAs, WereHalted, WereRun};
 

@@ -1,4 +1,4 @@
-use Rattle.sig_core.proofs.Schedules.{end_of, goes_on_of, reference_of, text_of, word_of}
+use Rattle.sig_core.proofs.{end_of, goes_on_of, reference_of, text_of, word_of}
 use Rattle.sig_core.proofs.laws.cores_keep_to_the_plan.Goals as goal
 
 pub returns-clause-text : goal.returns-clause-text

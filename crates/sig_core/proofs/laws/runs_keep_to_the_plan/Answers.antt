@@ -1,4 +1,4 @@
-use Rattle.sig_core.proofs.Schedules.{all_bounded, each_end, each_goes_on, each_reference, each_text, each_word}
+use Rattle.sig_core.proofs.{all_bounded, each_end, each_goes_on, each_reference, each_text, each_word}
 use Rattle.sig_core.proofs.laws.runs_keep_to_the_plan.Goals as goal
 
 pub returns-clause-text : goal.returns-clause-text

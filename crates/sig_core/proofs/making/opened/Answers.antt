@@ -1,7 +1,4 @@
-use Rattle.std.proofs.Common.{◌+◌, List, subst, sym}
-use Rattle.sig_core.proofs.Opening.{opened_more}
-use Rattle.sig_core.specs.Making.{AreOpened}
-use Rattle.sig_step.specs.declared.state.ClusterState.{ClusterState}
+use Rattle.sig_core.proofs.{◌+◌, List, subst, sym, opened_more, AreOpened, ClusterState}
 use Rattle.sig_core.proofs.making.opened.Goals as goal
 
 pub loop-actor-preserved : goal.loop-actor-preserved

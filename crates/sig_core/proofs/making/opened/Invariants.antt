@@ -1,4 +1,4 @@
-use Rattle.sig_core.specs.Making.{AreOpened}
+use Rattle.sig_core.proofs.{AreOpened}
 use Rattle.sig_core.proofs.making.opened.Given as goal
 
 abbrev pub invariant-loop-actor : goal.invariant-loop-actor

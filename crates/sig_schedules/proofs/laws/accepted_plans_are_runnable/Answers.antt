@@ -1,4 +1,4 @@
-use Rattle.sig_schedules.proofs.Runnables.{is_runnable}
+use Rattle.sig_schedules.proofs.{is_runnable}
 use Rattle.sig_schedules.proofs.laws.accepted_plans_are_runnable.Goals as goal
 
 pub returns : goal.returns

@@ -1,5 +1,4 @@
-use Rattle.sig_schedules.proofs.Interleavings.{after_sound}
-use Rattle.sig_schedules.proofs.Sound.{stepped_sound}
+use Rattle.sig_schedules.proofs.{after_sound, stepped_sound}
 use Rattle.sig_schedules.proofs.laws.actors_go_past_no_fault.Goals as goal
 
 pub returns-clause-event : goal.returns-clause-event

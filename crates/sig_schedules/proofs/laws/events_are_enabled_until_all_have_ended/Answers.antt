@@ -1,4 +1,4 @@
-use Rattle.sig_schedules.proofs.Enabled.{after_enabled, some_enabled}
+use Rattle.sig_schedules.proofs.{after_enabled, some_enabled}
 use Rattle.sig_schedules.proofs.laws.events_are_enabled_until_all_have_ended.Goals as goal
 
 pub returns-clause-state : goal.returns-clause-state

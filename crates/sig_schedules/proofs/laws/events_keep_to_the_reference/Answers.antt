@@ -1,4 +1,4 @@
-use Rattle.sig_schedules.proofs.Keeping.{stepped_on}
+use Rattle.sig_schedules.proofs.{stepped_on}
 use Rattle.sig_schedules.proofs.laws.events_keep_to_the_reference.Goals as goal
 
 pub returns : goal.returns

@@ -1,8 +1,11 @@
-use Rattle.sig_schedules.proofs.Bounds.{all_within, bounded_events, changes_go_on}
+use Rattle.sig_schedules.proofs.{all_within, bounded_behind, bounded_events, changes_go_on}
 use Rattle.sig_schedules.proofs.laws.lists_of_changes_are_bounded.Goals as goal
 
 pub returns-clause-lists : goal.returns-clause-lists
 returns-clause-lists c = bounded_events
+
+pub returns-clause-behind : goal.returns-clause-behind
+returns-clause-behind c = bounded_behind
 
 pub returns-clause-changes : goal.returns-clause-changes
 returns-clause-changes c = changes_go_on

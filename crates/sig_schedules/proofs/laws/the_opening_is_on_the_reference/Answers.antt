@@ -1,4 +1,4 @@
-use Rattle.sig_schedules.proofs.Opening.{opening_on}
+use Rattle.sig_schedules.proofs.{opening_on}
 use Rattle.sig_schedules.proofs.laws.the_opening_is_on_the_reference.Goals as goal
 
 pub returns : goal.returns

@@ -1,4 +1,4 @@
-use Rattle.sig_schedules.proofs.Texts.{committed_begins, committed_text}
+use Rattle.sig_schedules.proofs.{committed_begins, committed_text}
 use Rattle.sig_schedules.proofs.laws_ends.committed_texts_begin_the_reference.Goals as goal
 
 pub returns-clause-text : goal.returns-clause-text

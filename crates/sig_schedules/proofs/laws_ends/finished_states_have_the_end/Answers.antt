@@ -1,4 +1,4 @@
-use Rattle.sig_schedules.proofs.Finished.{after_has_end, finished_has_end}
+use Rattle.sig_schedules.proofs.{after_has_end, finished_has_end}
 use Rattle.sig_schedules.proofs.laws_ends.finished_states_have_the_end.Goals as goal
 
 pub returns-clause-state : goal.returns-clause-state

@@ -1,4 +1,4 @@
-use Rattle.sig_schedules.proofs.Finished.{after_begins, reactions_begin, text_begins, word_not_before}
+use Rattle.sig_schedules.proofs.{after_begins, reactions_begin, text_begins, word_not_before}
 use Rattle.sig_schedules.proofs.laws_ends.states_begin_the_longest_trace.Goals as goal
 
 pub returns-clause-reactions : goal.returns-clause-reactions

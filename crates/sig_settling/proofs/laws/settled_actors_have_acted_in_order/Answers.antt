@@ -1,4 +1,4 @@
-use Rattle.sig_settling.proofs.Looking.{acted_then_looked}
+use Rattle.sig_settling.proofs.{acted_then_looked}
 use Rattle.sig_settling.proofs.laws.settled_actors_have_acted_in_order.Goals as goal
 
 pub returns : goal.returns

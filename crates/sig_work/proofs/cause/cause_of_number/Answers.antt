@@ -1,6 +1,4 @@
-use Rattle.std.proofs.Common.{sym, subst}
-use Rattle.sig_work.proofs.Naming.{cause_missing}
-use Rattle.sig_work.specs.Among.{HasNone}
+use Rattle.sig_work.proofs.{sym, subst, cause_missing, HasNone}
 use Rattle.sig_work.proofs.cause.cause_of_number.Goals as goal
 
 pub returns-in-None : goal.returns-in-None

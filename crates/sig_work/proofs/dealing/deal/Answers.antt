@@ -1,13 +1,4 @@
-use Rattle.std.proofs.Common.{◌≡◌, ◌+◌, ◌-◌, ◌++◌, ap, sym, subst, drop, length, take, List, arith}
-use Rattle.std.specs.Prelude.{min}
-use Rattle.sig_halt.specs.Seats.{halt_parts}
-use Rattle.sig_work.proofs.Dealt.{dealt, joined_none, numbered}
-use Rattle.sig_work.proofs.Placing.{written_back}
-use Rattle.sig_work.specs.Dealing.{AreHandedFrom, AreJoined, AreSeated}
-use Rattle.sig_work.specs.Gathered.{AreDealt}
-use Rattle.sig_work.specs.Members.{run_of}
-use Rattle.sig_work.specs.declared.member.Member.{Member}
-use Rattle.sig_work.specs.declared.share.Share.{Share}
+use Rattle.sig_work.proofs.{◌≡◌, ◌+◌, ◌-◌, ◌++◌, ap, sym, subst, drop, length, take, List, arith, min, halt_parts, dealt, joined_none, numbered, written_back, AreHandedFrom, AreJoined, AreSeated, AreDealt, run_of, Member, Share}
 use Rattle.sig_work.proofs.dealing.deal.Goals as goal
 
 pub join_all-requires-clause-none : goal.join_all-requires-clause-none

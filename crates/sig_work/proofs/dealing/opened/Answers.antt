@@ -1,9 +1,4 @@
-use Rattle.std.proofs.Common.{◌+◌, List, length, ap, refl, subst, sym, rules}
-use Rattle.sig_plan.specs.declared.parts.LinkInfo.{LinkInfo}
-use Rattle.sig_work.proofs.Dealt.{opened_more}
-use Rattle.sig_work.specs.Dealing.{AreOpened}
-use Rattle.sig_work.specs.Ends.{HasNoEnds}
-use Rattle.sig_work.specs.declared.member.Member.{Member}
+use Rattle.sig_work.proofs.{◌+◌, List, length, ap, refl, subst, sym, rules, LinkInfo, opened_more, AreOpened, HasNoEnds, Member}
 use Rattle.sig_work.proofs.dealing.opened.Goals as goal
 
 pub loop-actor-preserved : goal.loop-actor-preserved

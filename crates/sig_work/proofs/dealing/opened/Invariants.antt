@@ -1,4 +1,4 @@
-use Rattle.sig_work.specs.Dealing.{AreOpened}
+use Rattle.sig_work.proofs.{AreOpened}
 use Rattle.sig_work.proofs.dealing.opened.Given as goal
 
 abbrev pub invariant-loop-actor : goal.invariant-loop-actor

@@ -1,11 +1,4 @@
-use Rattle.std.proofs.Common.{◌≡◌, inl, inr, sym, ap, subst, ◌∙◌, arith}
-use Rattle.std.specs.Prelude.{Some, slice_get}
-use Rattle.sig_clock.proofs.Lists.{get_within}
-use Rattle.sig_meaning.proofs.Numbers.{same_or_not}
-use Rattle.sig_values.proofs.Writing.{some_is}
-use Rattle.sig_work.proofs.Placing.{item_at}
-use Rattle.sig_work.specs.Among.{HasNoneIn}
-use Rattle.sig_work.specs.declared.share.Share.{Share}
+use Rattle.sig_work.proofs.{◌≡◌, inl, inr, sym, ap, subst, ◌∙◌, arith, Some, slice_get, get_within, same_or_not, some_is, item_at, HasNoneIn, Share}
 use Rattle.sig_work.proofs.finding.find.Goals as goal
 
 pub returns-in-Some-clause-some : goal.returns-in-Some-clause-some

@@ -1,7 +1,4 @@
-use Rattle.std.proofs.Common.{◌≡◌, ◌<◌, ℕ}
-use Rattle.std.specs.Prelude.{Some, slice_get}
-use Rattle.sig_work.specs.Among.{HasNoneIn}
-use Rattle.sig_work.specs.declared.share.Share.{Share}
+use Rattle.sig_work.proofs.{◌≡◌, ◌<◌, ℕ, Some, slice_get, HasNoneIn, Share}
 use Rattle.sig_work.proofs.finding.find.Given as goal
 
 abbrev pub invariant-loop-at : goal.invariant-loop-at

@@ -1,10 +1,4 @@
-use Rattle.std.proofs.Common.{◌≡◌, get_or, sym, subst, ◌∙◌}
-use Rattle.std.specs.Prelude.{Some, slice_get}
-use Rattle.sig_values.proofs.Writing.{some_is}
-use Rattle.sig_work.proofs.Leaving.{among_at, member_at, member_within}
-use Rattle.sig_work.proofs.Placing.{item_at}
-use Rattle.sig_work.specs.Among.{IsAmong}
-use Rattle.sig_work.specs.declared.member.Member.{Member}
+use Rattle.sig_work.proofs.{◌≡◌, get_or, sym, subst, ◌∙◌, Some, slice_get, some_is, among_at, member_at, member_within, item_at, IsAmong, Member}
 use Rattle.sig_work.proofs.finding.member_of.Goals as goal
 
 pub returns-clause-some : goal.returns-clause-some

@@ -1,14 +1,4 @@
-use Rattle.std.proofs.Common.{◌≡◌, ◌-◌, ◌∙◌, ℕ, List, length, sym, subst, arith}
-use Rattle.sig_clock.proofs.Lists.{get_within}
-use Rattle.sig_step.specs.States.{actor_of}
-use Rattle.sig_work.proofs.Finishing.{done_run, holds_finished, is_end}
-use Rattle.sig_work.proofs.Leaving.{closed_left, parts_left, seats_left}
-use Rattle.sig_work.proofs.Together.{all_room, all_single, there}
-use Rattle.sig_work.specs.Among.{AreSingle, Is}
-use Rattle.sig_work.specs.Members.{run_of}
-use Rattle.sig_work.specs.Settling.{From}
-use Rattle.sig_work.specs.Words.{IsClosed, IsLeastWord, NamesCause}
-use Rattle.sig_work.specs.declared.share.Share.{Share}
+use Rattle.sig_work.proofs.{◌≡◌, ◌-◌, ◌∙◌, ℕ, List, length, sym, subst, arith, get_within, actor_of, done_run, holds_finished, is_end, closed_left, parts_left, seats_left, all_room, all_single, there, AreSingle, Is, run_of, From, IsClosed, IsLeastWord, NamesCause, Share}
 use Rattle.sig_work.proofs.gathering.gather.Goals as goal
 
 pub ended_by-ended-requires : goal.ended_by-ended-requires
@@ -55,7 +45,7 @@ returns-clause-finished g c = λ capacity limit committed done. (
     let closed : IsClosed c.args.shares.items c.close.result =
     closed_left (From (length c.args.plan.now.links)) (From (length c.args.plan.now.links)) c.args.shares.items c.settle_links-shares.result.items c.settle_links-shares.ensures.left c.close.result c.close.ensures in
     holds_finished (run_of c.args.plan.now c.args.inputs.now capacity limit) c.plans_are_accepted.ensures committed c.args.halt c.args.shares.items done
-    c.settle_links-shares.ensures.settled cause.0 cause.1 c.close.result closed c.settled_actors_are_finished.ensures)
+    c.settle_links-shares.ensures.settled cause.0 cause.1 c.close.result closed c.settled_actors_have_acted_in_order.ensures)
 
 pub returns-clause-end : goal.returns-clause-end
 returns-clause-end g c = λ capacity limit committed done. (
@@ -63,6 +53,6 @@ returns-clause-end g c = λ capacity limit committed done. (
     let closed : IsClosed c.args.shares.items c.close.result =
     closed_left (From (length c.args.plan.now.links)) (From (length c.args.plan.now.links)) c.args.shares.items c.settle_links-shares.result.items c.settle_links-shares.ensures.left c.close.result c.close.ensures in
     is_end (run_of c.args.plan.now c.args.inputs.now capacity limit) c.plans_are_accepted.ensures committed c.args.halt c.args.shares.items done
-    c.settle_links-shares.ensures.settled cause.0 cause.1 c.close.result closed c.settled_actors_are_finished.ensures c.ended_by-ended.result
+    c.settle_links-shares.ensures.settled cause.0 cause.1 c.close.result closed c.settled_actors_have_acted_in_order.ensures c.ended_by-ended.result
     (subst (λ (xs : List Share). Is xs (length c.args.plan.now.codes - 1) (λ m. c.ended_by-ended.result.instants ≡ (actor_of m.state).instant - 1)) c.as_slice.ensures.value c.ended_by-ended.ensures.instants)
     cause.2)

@@ -1,5 +1,4 @@
-use Rattle.sig_work.proofs.Together.{all_room, all_single, begins_run}
-use Rattle.sig_work.specs.Members.{run_of}
+use Rattle.sig_work.proofs.{all_room, all_single, begins_run, run_of}
 use Rattle.sig_work.proofs.gathering.give_up.Goals as goal
 
 pub settle_links-requires-clause-linked : goal.settle_links-requires-clause-linked

@@ -1,8 +1,4 @@
-use Rattle.std.proofs.Common.{◌≡◌, ◌-◌, ◌∙◌, ap, subst, arith}
-use Rattle.sig_step.specs.States.{actor_of}
-use Rattle.sig_work.proofs.Counting.{same_member}
-use Rattle.sig_work.specs.Among.{HasNone, IsAmong}
-use Rattle.sig_work.specs.declared.member.Member.{Member}
+use Rattle.sig_work.proofs.{◌≡◌, ◌-◌, ◌∙◌, ap, subst, arith, actor_of, same_member, HasNone, IsAmong, Member}
 use Rattle.sig_work.proofs.gathering.instants_of.Goals as goal
 
 pub returns-in-Some : goal.returns-in-Some

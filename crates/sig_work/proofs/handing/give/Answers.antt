@@ -1,6 +1,4 @@
-use Rattle.std.proofs.Common.{get_or, refl}
-use Rattle.sig_clock.proofs.Lists.{get_at}
-use Rattle.sig_work.proofs.Giving.{given_share}
+use Rattle.sig_work.proofs.{get_or, refl, get_at, given_share}
 use Rattle.sig_work.proofs.handing.give.Goals as goal
 
 pub returns : goal.returns

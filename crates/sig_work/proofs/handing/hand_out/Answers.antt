@@ -1,11 +1,4 @@
-use Rattle.std.proofs.Common.{◌≡◌, ◌≤◌, ◌<◌, ◌+◌, ◌-◌, ◌++◌, ◌∷◌, [], ◌∙◌, ap, sym, subst, length, List, arith, rules}
-use Rattle.std.specs.Prelude.{Some, slice_get}
-use Rattle.std.proofs.lemmas.List.{length-append}
-use Rattle.sig_work.proofs.Dealt.{handed_more, handed_none}
-use Rattle.sig_work.proofs.Giving.{room_here}
-use Rattle.sig_work.proofs.Placing.{get_front, get_last}
-use Rattle.sig_work.specs.Dealing.{AreHandedFrom, HaveRoom, share_for}
-use Rattle.sig_work.specs.declared.member.Member.{Member}
+use Rattle.sig_work.proofs.{◌≡◌, ◌≤◌, ◌<◌, ◌+◌, ◌-◌, ◌++◌, ◌∷◌, [], ◌∙◌, ap, sym, subst, length, List, arith, rules, Some, slice_get, length-append, handed_more, handed_none, room_here, get_front, get_last, AreHandedFrom, HaveRoom, share_for, Member}
 use Rattle.sig_work.proofs.handing.hand_out.Goals as goal
 
 pub loop-member-init : goal.loop-member-init

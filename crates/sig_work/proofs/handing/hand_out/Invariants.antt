@@ -1,7 +1,4 @@
-use Rattle.std.proofs.Common.{◌≡◌, ◌≤◌, ℕ, length}
-use Rattle.std.specs.Prelude.{Some, slice_get}
-use Rattle.sig_work.specs.Dealing.{AreHandedFrom, HaveRoom}
-use Rattle.sig_work.specs.declared.member.Member.{Member}
+use Rattle.sig_work.proofs.{◌≡◌, ◌≤◌, ℕ, length, Some, slice_get, AreHandedFrom, HaveRoom, Member}
 use Rattle.sig_work.proofs.handing.hand_out.Given as goal
 
 abbrev pub invariant-loop-member : goal.invariant-loop-member

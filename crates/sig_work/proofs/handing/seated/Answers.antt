@@ -1,7 +1,4 @@
-use Rattle.std.proofs.Common.{◌≡◌, ◌+◌, ◌∙◌, List, sym, subst, arith}
-use Rattle.sig_work.proofs.Dealt.{seated_more}
-use Rattle.sig_work.specs.Dealing.{AreSeated}
-use Rattle.sig_work.specs.declared.share.Share.{Share}
+use Rattle.sig_work.proofs.{◌≡◌, ◌+◌, ◌∙◌, List, sym, subst, arith, seated_more, AreSeated, Share}
 use Rattle.sig_work.proofs.handing.seated.Goals as goal
 
 pub loop-preserved : goal.loop-preserved

@@ -1,7 +1,4 @@
-use Rattle.std.proofs.Common.{◌≡◌, ◌+◌}
-use Rattle.sig_base.specs.Places.{no_place}
-use Rattle.sig_halt.specs.Seats.{IsSeatOf, parts, recorded}
-use Rattle.sig_work.specs.Dealing.{AreSeated}
+use Rattle.sig_work.proofs.{◌≡◌, ◌+◌, no_place, IsSeatOf, parts, recorded, AreSeated}
 use Rattle.sig_work.proofs.handing.seated.Given as goal
 
 abbrev pub invariant-loop : goal.invariant-loop

@@ -1,6 +1,4 @@
-use Rattle.std.proofs.Common.{get_or, refl}
-use Rattle.sig_clock.proofs.Lists.{get_at}
-use Rattle.sig_work.proofs.Joints.{given_put}
+use Rattle.sig_work.proofs.{get_or, refl, get_at, given_put}
 use Rattle.sig_work.proofs.joining.give_put.Goals as goal
 
 pub returns : goal.returns

@@ -1,9 +1,5 @@
-use Rattle.std.proofs.Common.{◌≡◌, ◌<◌, ℕ, get_or, length, List, subst, arith}
-use Rattle.std.specs.Prelude.{None, Some, slice_get}
-use Rattle.sig_clock.proofs.Lists.{get_at}
-use Rattle.sig_plan.specs.declared.parts.LinkInfo.{LinkInfo}
-use Rattle.sig_work.proofs.Joints.{joined_more, put_room, take_room}
-use Rattle.sig_work.proofs.Together.{link_within}
+use Rattle.sig_work.proofs.{◌≡◌, ◌<◌, ℕ, get_or, length, List, subst, arith, None, Some, slice_get, get_at, LinkInfo, put_room, take_room, link_within}
+use Rattle.sig_work.proofs.Joints.{joined_more}
 use Rattle.sig_work.proofs.joining.join_all.Goals as goal
 
 abbrev none : LinkInfo

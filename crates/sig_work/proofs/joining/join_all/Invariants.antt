@@ -1,4 +1,4 @@
-use Rattle.sig_work.specs.Dealing.{AreJoined}
+use Rattle.sig_work.proofs.{AreJoined}
 use Rattle.sig_work.proofs.joining.join_all.Given as goal
 
 abbrev pub invariant-loop-number : goal.invariant-loop-number

@@ -1,5 +1,4 @@
-use Rattle.std.proofs.Common.{◌≡◌, ◌≤◌, length}
-use Rattle.std.specs.Prelude.{vec_capacity}
+use Rattle.sig_work.proofs.{◌≡◌, ◌≤◌, length, vec_capacity}
 use Rattle.sig_work.proofs.running.flags.Given as goal
 
 abbrev pub invariant-loop : goal.invariant-loop

@@ -1,12 +1,4 @@
-use Rattle.std.proofs.Common.{◌++◌, [], List, ap, subst, sym}
-use Rattle.sig_model.specs.Cores.{reactions_text}
-use Rattle.sig_text.specs.Sink.{TookPrefix}
-use Rattle.sig_work.proofs.Starting.{err_of, ok_of, one_of_length}
-use Rattle.sig_work.proofs.Wholes.{dealt_begun, halted_together, part_run, run_done, whole_run}
-use Rattle.sig_work.specs.Members.{run_of}
-use Rattle.sig_work.specs.Running.{AreBegun, AreBegunInSome, WereHalted, WereRun}
-use Rattle.sig_work.specs.Shares.{HaveEnded}
-use Rattle.sig_work.specs.declared.share.Share.{Share}
+use Rattle.sig_work.proofs.{◌++◌, [], List, ap, subst, sym, reactions_text, TookPrefix, err_of, ok_of, one_of_length, dealt_begun, halted_together, part_run, run_done, whole_run, run_of, AreBegun, AreBegunInSome, WereHalted, WereRun, HaveEnded, Share}
 use Rattle.sig_work.proofs.running.run.Goals as goal
 
 pub run_shares-shares-requires-clause-run : goal.run_shares-shares-requires-clause-run

@@ -1,9 +1,4 @@
-use Rattle.std.proofs.Common.{◌≡◌, ◌≤◌, ◌++◌, List, length, take, drop, ap, refl, subst, sym, arith}
-use Rattle.sig_text.specs.Counts.{Rose}
-use Rattle.sig_work.proofs.Placing.{written_back}
-use Rattle.sig_work.proofs.Starting.{again_kept, again_requires, again_served, again_stopped, always_ok, err_of, on_err}
-use Rattle.sig_work.specs.Shares.{HaveEnded}
-use Rattle.sig_work.specs.declared.share.Share.{Share}
+use Rattle.sig_work.proofs.{◌≡◌, ◌≤◌, ◌++◌, List, length, take, drop, ap, refl, subst, sym, arith, Rose, written_back, again_kept, again_requires, again_served, again_stopped, always_ok, err_of, on_err, HaveEnded, Share}
 use Rattle.sig_work.proofs.running.run_shares.Goals as goal
 
 pub serve-again-requires : goal.serve-again-requires

@@ -1,11 +1,4 @@
-use Rattle.std.proofs.Common.{◌≡◌, List, get_or, refl, set}
-use Rattle.std.specs.Prelude.{Some, slice_get}
-use Rattle.std.proofs.lemmas.Result.{on_err_weaker, on_ok_weaker}
-use Rattle.sig_clock.proofs.Lists.{get_at}
-use Rattle.sig_text.specs.Sink.{TookPrefix}
-use Rattle.sig_work.proofs.Keeping.{have_ended_here, one_share}
-use Rattle.sig_work.proofs.Lifting.{share_may, share_served}
-use Rattle.sig_work.specs.declared.share.Share.{Share}
+use Rattle.sig_work.proofs.{◌≡◌, List, get_or, refl, set, Some, slice_get, on_err_weaker, on_ok_weaker, get_at, TookPrefix, have_ended_here, one_share, share_may, share_served, Share}
 use Rattle.sig_work.proofs.serving.advance_at.Given.{Over}
 use Rattle.sig_work.proofs.serving.advance_at.Goals as goal
 

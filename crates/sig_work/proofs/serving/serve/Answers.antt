@@ -1,7 +1,4 @@
-use Rattle.sig_text.specs.Sink.{TookPrefix}
-use Rattle.sig_work.proofs.Keeping.{same_shares}
-use Rattle.sig_work.proofs.Stopped.{all_past_zero, all_seats, stopped_ended, stopped_same, were_served, were_stopped}
-use Rattle.sig_work.specs.Members.{run_of}
+use Rattle.sig_work.proofs.{TookPrefix, same_shares, all_past_zero, all_seats, stopped_ended, stopped_same, were_served, were_stopped, run_of}
 use Rattle.sig_work.proofs.serving.serve.Goals as goal
 
 pub stop_all-requires-clause-word : goal.stop_all-requires-clause-word

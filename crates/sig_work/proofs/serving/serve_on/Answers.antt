@@ -1,8 +1,4 @@
-use Rattle.std.proofs.Common.{arith}
-use Rattle.std.proofs.lemmas.Result.{err_from_is_err_and}
-use Rattle.sig_text.specs.Sink.{TookPrefix}
-use Rattle.sig_work.proofs.GoingOn.{joins_part, shares_some, shares_still, shares_then}
-use Rattle.sig_work.proofs.Keeping.{keeps_shares, shares_keep_then}
+use Rattle.sig_work.proofs.{arith, err_from_is_err_and, TookPrefix, joins_part, shares_some, shares_still, shares_then, keeps_shares, shares_keep_then}
 use Rattle.sig_work.proofs.serving.serve_on.Goals as goal
 
 pub rounds-init : goal.rounds-init

@@ -1,5 +1,4 @@
-use Rattle.std.proofs.Common.{◌≤◌}
-use Rattle.sig_work.specs.Rounds.{KeepsShares, ServesShares}
+use Rattle.sig_work.proofs.{◌≤◌, KeepsShares, ServesShares}
 use Rattle.sig_work.proofs.serving.serve_on.Given as goal
 
 abbrev pub invariant-rounds : goal.invariant-rounds

@@ -1,12 +1,4 @@
-use Rattle.std.proofs.Common.{◌≡◌, ap, arith}
-use Rattle.std.specs.Prelude.{Ok, Result}
-use Rattle.std.proofs.lemmas.Result.{err_from_is_err_and}
-use Rattle.sig_text.specs.Sink.{TookPrefix}
-use Rattle.sig_text.specs.declared.sink.WriteFault.{WriteFault}
-use Rattle.sig_work.proofs.GoingOn.{joins_part, shares_some, shares_still, shares_then}
-use Rattle.sig_work.proofs.Keeping.{have_all_ended, keeps_shares, more_have_ended, shares_keep_then}
-use Rattle.sig_work.specs.declared.round.Round.{Round}
-use Rattle.sig_work.specs.declared.round.Round.TheVariants.{Ended}
+use Rattle.sig_work.proofs.{◌≡◌, ap, arith, Ok, Result, err_from_is_err_and, TookPrefix, WriteFault, joins_part, shares_some, shares_still, shares_then, have_all_ended, keeps_shares, more_have_ended, shares_keep_then, Round, Ended}
 use Rattle.sig_work.proofs.serving.serve_round.Goals as goal
 
 pub loop-at-init : goal.loop-at-init

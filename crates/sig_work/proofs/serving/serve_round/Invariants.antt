@@ -1,6 +1,4 @@
-use Rattle.std.proofs.Common.{◌≡◌, ◌≤◌, ◌<◌, ℕ}
-use Rattle.sig_work.specs.Rounds.{HaveEndedAt, KeepsShares, ServesShares}
-use Rattle.sig_work.specs.declared.round.Round.TheVariants.{Ended}
+use Rattle.sig_work.proofs.{◌≡◌, ◌≤◌, ◌<◌, ℕ, HaveEndedAt, KeepsShares, ServesShares, Ended}
 use Rattle.sig_work.proofs.serving.serve_round.Given as goal
 
 abbrev pub invariant-loop-at : goal.invariant-loop-at

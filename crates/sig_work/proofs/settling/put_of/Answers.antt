@@ -1,6 +1,4 @@
-use Rattle.std.proofs.Common.{get_or}
-use Rattle.sig_work.proofs.Leaving.{left_one, member_within, put_none, put_some, room_at, share_at}
-use Rattle.sig_work.specs.Settling.{But, Each}
+use Rattle.sig_work.proofs.{get_or, left_one, member_within, put_none, put_some, room_at, share_at, But, Each}
 use Rattle.sig_work.proofs.settling.put_of.Goals as goal
 
 pub returns-in_err-spot-clause-none : goal.returns-in_err-spot-clause-none

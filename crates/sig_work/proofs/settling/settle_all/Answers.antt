@@ -1,9 +1,4 @@
-use Rattle.std.proofs.Common.{◌≡◌, get_or, subst, arith, length}
-use Rattle.std.specs.Prelude.{None}
-use Rattle.sig_clock.proofs.Lists.{get_at}
-use Rattle.sig_plan.specs.declared.parts.LinkInfo.{LinkInfo}
-use Rattle.sig_work.proofs.Leaving.{linked_left, more_left, more_settled, nothing_taken, room_left, single_left}
-use Rattle.sig_work.specs.Settling.{AreLeft, AreSettledBelow, From}
+use Rattle.sig_work.proofs.{◌≡◌, get_or, subst, arith, length, None, get_at, LinkInfo, linked_left, more_left, more_settled, nothing_taken, room_left, single_left, AreLeft, AreSettledBelow, From}
 use Rattle.sig_work.proofs.settling.settle_all.Goals as goal
 
 abbrev none : LinkInfo

@@ -1,4 +1,4 @@
-use Rattle.sig_work.specs.Settling.{AreLeft, AreSettledBelow, From}
+use Rattle.sig_work.proofs.{AreLeft, AreSettledBelow, From}
 use Rattle.sig_work.proofs.settling.settle_all.Given as goal
 
 abbrev pub invariant-loop-number : goal.invariant-loop-number

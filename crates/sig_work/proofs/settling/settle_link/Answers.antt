@@ -1,5 +1,4 @@
-use Rattle.sig_work.proofs.Leaving.{both_left, left_weaker, room_left, settled_both, settled_without_put, settled_without_take, single_left, take_before, take_none_before}
-use Rattle.sig_work.specs.Settling.{But, Each}
+use Rattle.sig_work.proofs.{both_left, left_weaker, room_left, settled_both, settled_without_put, settled_without_take, single_left, take_before, take_none_before, But, Each}
 use Rattle.sig_work.proofs.settling.settle_link.Goals as goal
 
 pub returns-in_default-clause-left : goal.returns-in_default-clause-left

@@ -1,10 +1,4 @@
-use Rattle.std.proofs.Common.{◌<◌, ℕ, List, length, drop, sym, subst, arith}
-use Rattle.sig_plan.specs.declared.parts.LinkInfo.{LinkInfo}
-use Rattle.sig_work.proofs.Placing.{written_back}
-use Rattle.sig_work.specs.Among.{AreSingle}
-use Rattle.sig_work.specs.Gathered.{AreLinked}
-use Rattle.sig_work.specs.Settling.{AreLeft, AreSettledBelow, From, HaveRoomFor}
-use Rattle.sig_work.specs.declared.share.Share.{Share}
+use Rattle.sig_work.proofs.{◌<◌, ℕ, List, length, drop, sym, subst, arith, LinkInfo, written_back, AreSingle, AreLinked, AreLeft, AreSettledBelow, From, HaveRoomFor, Share}
 use Rattle.sig_work.proofs.settling.settle_links.Goals as goal
 
 pub settle_all-requires-clause-linked : goal.settle_all-requires-clause-linked

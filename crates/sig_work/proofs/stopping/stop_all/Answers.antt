@@ -1,7 +1,4 @@
-use Rattle.std.proofs.Common.{◌<◌, arith, get_or, length, refl, set}
-use Rattle.sig_clock.proofs.Lists.{get_at}
-use Rattle.sig_work.proofs.Stopped.{all_changed, one_changed}
-use Rattle.sig_work.specs.Rounds.{ShareStopped}
+use Rattle.sig_work.proofs.{◌<◌, arith, get_or, length, refl, set, get_at, all_changed, one_changed, ShareStopped}
 use Rattle.sig_work.proofs.stopping.stop_all.Goals as goal
 
 pub loop-share-preserved : goal.loop-share-preserved

@@ -1,4 +1,4 @@
-use Rattle.sig_work.specs.Rounds.{ChangedBelow, ShareStopped}
+use Rattle.sig_work.proofs.{ChangedBelow, ShareStopped}
 use Rattle.sig_work.proofs.stopping.stop_all.Given as goal
 
 abbrev pub invariant-loop-share : goal.invariant-loop-share

@@ -1,7 +1,4 @@
-use Rattle.std.proofs.Common.{◌≡◌, ◌++◌, ◌∷◌, [], sym, subst, List, rules}
-use Rattle.sig_work.proofs.LeastWords.{closed_all}
-use Rattle.sig_work.specs.Words.{IsClosed}
-use Rattle.sig_work.specs.declared.share.Share.{Share}
+use Rattle.sig_work.proofs.{◌≡◌, ◌++◌, ◌∷◌, [], sym, subst, List, rules, closed_all, IsClosed, Share}
 use Rattle.sig_work.proofs.word.close.Goals as goal
 
 pub returns : goal.returns

@@ -1,6 +1,4 @@
-use Rattle.std.proofs.Common.{◌≡◌, ◌++◌, ◌∷◌, [], ◌∙◌, ap, List, append_assoc, rules}
-use Rattle.sig_work.proofs.LeastWords.{joined_more}
-use Rattle.sig_work.specs.declared.share.Share.{Share}
+use Rattle.sig_work.proofs.{◌≡◌, ◌++◌, ◌∷◌, [], ◌∙◌, ap, List, append_assoc, rules, joined_more, Share}
 use Rattle.sig_work.proofs.word.joined.Goals as goal
 
 pub loop-share-preserved : goal.loop-share-preserved

@@ -1,7 +1,4 @@
-use Rattle.std.proofs.Common.{◌≡◌, ◌++◌, List, length}
-use Rattle.sig_halt.specs.Seats.{IsSeatOf}
-use Rattle.sig_work.specs.Words.{IsJoined}
-use Rattle.sig_work.specs.declared.share.Share.{Share}
+use Rattle.sig_work.proofs.{◌≡◌, ◌++◌, List, length, IsSeatOf, IsJoined, Share}
 use Rattle.sig_work.proofs.word.joined.Given as goal
 
 -- the seats of those that are gone were joined

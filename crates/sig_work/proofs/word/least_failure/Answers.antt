@@ -1,5 +1,4 @@
-use Rattle.sig_work.proofs.LeastWords.{shares_all, shares_more}
-use Rattle.sig_work.proofs.Placing.{item_at}
+use Rattle.sig_work.proofs.{shares_all, shares_more, item_at}
 use Rattle.sig_work.proofs.word.least_failure.Goals as goal
 
 pub loop-share-preserved : goal.loop-share-preserved

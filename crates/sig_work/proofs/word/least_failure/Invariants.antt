@@ -1,4 +1,4 @@
-use Rattle.sig_work.specs.Words.{IsLeastOf, IsOfFirst}
+use Rattle.sig_work.proofs.{IsLeastOf, IsOfFirst}
 use Rattle.sig_work.proofs.word.least_failure.Given as goal
 
 abbrev pub invariant-loop-share : goal.invariant-loop-share

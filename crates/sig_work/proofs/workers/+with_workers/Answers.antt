@@ -1,8 +1,4 @@
-use Rattle.std.proofs.Common.{◌≡◌, ◌∙◌, ◌++◌, [], List, length, take, drop, ap, arith, rules}
-use Rattle.sig_work.proofs.Placing.{written_back}
-use Rattle.sig_work.proofs.Starting.{base_kept, base_requires, base_served, base_stopped, clusters_alike, moved_begun, moved_kept, moved_served, moved_stopped, nil_of, pushed_begun, pushed_kept, pushed_middle, pushed_served, pushed_stopped, served_alike}
-use Rattle.sig_work.specs.Running.{IsServedAs}
-use Rattle.sig_work.specs.declared.share.Share.{Share}
+use Rattle.sig_work.proofs.{◌≡◌, ◌∙◌, ◌++◌, [], List, length, take, drop, ap, arith, rules, written_back, base_kept, base_requires, base_served, base_stopped, clusters_alike, moved_begun, moved_kept, moved_served, moved_stopped, nil_of, pushed_begun, pushed_kept, pushed_middle, pushed_served, pushed_stopped, served_alike, IsServedAs, Share}
 use Rattle.sig_work.proofs.workers.+with_workers.Goals as goal
 
 pub serve-result-requires : goal.serve-result-requires

@@ -1,4 +1,4 @@
-use Rattle.std.proofs.Common.{length}
+use Rattle.sig_work.proofs.{length}
 use Rattle.sig_work.proofs.workers.+with_workers.Given as goal
 
 -- each call starts one thread

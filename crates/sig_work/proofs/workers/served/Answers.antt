@@ -1,8 +1,4 @@
-use Rattle.std.proofs.Common.{[], List, sym, subst}
-use Rattle.sig_work.proofs.Singles.{run_single, served_as}
-use Rattle.sig_work.specs.Members.{run_of}
-use Rattle.sig_work.specs.Shares.{AreOfRun}
-use Rattle.sig_work.specs.declared.share.Share.{Share}
+use Rattle.sig_work.proofs.{[], List, sym, subst, run_single, served_as, run_of, AreOfRun, Share}
 use Rattle.sig_work.proofs.workers.served.Goals as goal
 
 pub serve-quiet-requires : goal.serve-quiet-requires

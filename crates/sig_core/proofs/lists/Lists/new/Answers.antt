@@ -1,5 +1,4 @@
-use Rattle.sig_core.proofs.Opening.{empty_pushed}
-use Rattle.sig_core.specs.declared.lists.Lists.{Lists}
+use Rattle.sig_core.proofs.{empty_pushed, Lists}
 use Rattle.sig_core.proofs.lists.Lists.new.Goals as goal
 
 pub loop-preserved : goal.loop-preserved

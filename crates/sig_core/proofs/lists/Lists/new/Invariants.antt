@@ -1,5 +1,4 @@
-use Rattle.sig_core.specs.Lists.{AreEmpty}
-use Rattle.sig_core.specs.declared.lists.Lists.{Lists}
+use Rattle.sig_core.proofs.{AreEmpty, Lists}
 use Rattle.sig_core.proofs.lists.Lists.new.Given as goal
 
 -- so many links so far, each of them empty

@@ -1,5 +1,4 @@
-use Rattle.std.proofs.Common.{arith, length, refl}
-use Rattle.sig_core.proofs.Queuing.{popped_as, queue_there, within_range}
+use Rattle.sig_core.proofs.{arith, length, refl, popped_as, queue_there, within_range}
 use Rattle.sig_core.proofs.lists.ListsEnds.pop.Goals as goal
 
 pub index_mut-requires : goal.index_mut-requires

@@ -1,6 +1,4 @@
-use Rattle.std.proofs.Common.{◌∙◌, ◌++◌, ◌∷◌, [], arith, length, refl, ap, w64, ℤ}
-use Rattle.std.proofs.lemmas.Int.{to_z-of_z}
-use Rattle.sig_core.proofs.Queuing.{found_full, pushed, queue_there, within_range}
+use Rattle.sig_core.proofs.{◌∙◌, ◌++◌, ◌∷◌, [], arith, length, refl, ap, w64, ℤ, to_z-of_z, found_full, pushed, queue_there, within_range}
 use Rattle.sig_core.proofs.lists.ListsEnds.push.Goals as goal
 
 pub index_mut-queue-requires : goal.index_mut-queue-requires

@@ -1,13 +1,4 @@
-use Rattle.std.proofs.Common.{◌≡◌, ◌<◌, ◌≤◌, ℕ, arith, length, ap, refl}
-use Rattle.std.specs.Prelude.{Some, slice_get, slice_index_or}
-use Rattle.std.proofs.lemmas.Result.{err_from_is_err_and}
-use Rattle.sig_core.proofs.Happening.{commit_happened, kept_happened, past_act_keeps, past_act_tells, state_there}
-use Rattle.sig_core.specs.Cores.{IsCore, IsSameRun}
-use Rattle.sig_core.specs.declared.state.Core.{Core}
-use Rattle.sig_model.specs.Cores.{Given}
-use Rattle.sig_model.specs.declared.event.Event.TheVariants.{Act}
-use Rattle.sig_step.specs.declared.state.ClusterState.{ClusterState}
-use Rattle.sig_text.specs.Sink.{TookPrefix}
+use Rattle.sig_core.proofs.{◌≡◌, ◌<◌, ◌≤◌, ℕ, arith, length, ap, refl, Some, slice_get, slice_index_or, err_from_is_err_and, commit_happened, kept_happened, past_act_keeps, past_act_tells, state_there, IsCore, IsSameRun, Core, Given, Act, ClusterState, TookPrefix}
 use Rattle.sig_core.proofs.state.Core.act.Goals as goal
 
 past : (core : Core) (k len : ℕ) → len ≡ core.states.len → len ≤ k → length core.states.items ≤ k
@@ -30,6 +21,11 @@ returns-in_err-put_reaction-in-Commit-clause-part g c =
     rw p.1 (commit_happened (TookPrefix g.S.Sink.took) c.args.self.now c.step.new.self c.args.k c.index.result.now (there c.args.self.now c.step.new.self c.requires c.in-Commit.ensures.core c.in-Commit.ensures.run c.args.k c.len.result c.len.ensures c.if-k-len.false c.index.result.now c.index.ensures)
     c.step.new.self.plan.now.kernel refl (ap (λ (given : Given). given.plan.kernel) c.in-Commit.ensures.run)
     c.args.sink.now c.put_reaction.new.sink c.in_err-put_reaction-in-Commit.ensures.prefix c.in-Commit.ensures.stepped c.in-Commit.ensures.commits)
+
+pub returns-in_err-put_reaction-in-Commit-clause-changed : goal.returns-in_err-put_reaction-in-Commit-clause-changed
+returns-in_err-put_reaction-in-Commit-clause-changed g c =
+    let p = err_from_is_err_and c.from_residual.result c.from_residual.ensures.1 in
+    rw p.1 c.in-Commit.ensures.answer
 
 pub returns-in_ok-put_reaction-in-Commit-clause-happened : goal.returns-in_ok-put_reaction-in-Commit-clause-happened
 returns-in_ok-put_reaction-in-Commit-clause-happened g c =

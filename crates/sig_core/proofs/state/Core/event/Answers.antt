@@ -1,4 +1,4 @@
-use Rattle.sig_core.proofs.Happening.{reached_by}
+use Rattle.sig_core.proofs.{reached_by}
 use Rattle.sig_core.proofs.state.Core.event.Goals as goal
 
 pub returns-clause-reached : goal.returns-clause-reached

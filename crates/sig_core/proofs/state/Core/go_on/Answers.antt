@@ -1,11 +1,5 @@
-use Rattle.std.proofs.Common.{ap, arith, length, refl, subst, sym}
-use Rattle.std.proofs.lemmas.Result.{err_from_is_err_and}
-use Rattle.sig_core.proofs.GoingOn.{far_commits, far_kept, far_run, far_serves}
-use Rattle.sig_core.proofs.RunningOut.{join_part}
-use Rattle.sig_core.specs.Resting.{Serves}
-use Rattle.sig_model.specs.Cores.{Given}
+use Rattle.sig_core.proofs.{ap, arith, length, refl, subst, sym, err_from_is_err_and, far_commits, far_kept, far_run, far_serves, join_part, Serves, Given, TookPrefix}
 use Rattle.sig_step.specs.declared.answer.Acted.TheVariants.{Commit}
-use Rattle.sig_text.specs.Sink.{TookPrefix}
 use Rattle.sig_core.proofs.state.Core.go_on.Goals as goal
 
 pub index-requires : goal.index-requires

@@ -1,6 +1,4 @@
-use Rattle.std.proofs.Common.{◌≡◌, ◌-◌, ◌∙◌, arith, List, length, ap, sym}
-use Rattle.std.specs.Prelude.{Some, slice_get}
-use Rattle.sig_step.specs.declared.state.ClusterState.{ClusterState}
+use Rattle.sig_core.proofs.{◌≡◌, ◌-◌, ◌∙◌, arith, List, length, ap, sym, Some, slice_get, ClusterState}
 use Rattle.sig_core.proofs.state.Core.instants.Goals as goal
 
 pub overflow_sub-result : goal.overflow_sub-result

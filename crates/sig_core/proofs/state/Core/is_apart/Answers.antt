@@ -1,6 +1,4 @@
-use Rattle.std.proofs.Common.{◌≡◌, inl, inr, arith, subst}
-use Rattle.sig_core.specs.Resting.{IsApart}
-use Rattle.sig_meaning.proofs.Numbers.{at_most_or}
+use Rattle.sig_core.proofs.{◌≡◌, inl, inr, arith, subst, IsApart, at_most_or}
 use Rattle.sig_core.proofs.state.Core.is_apart.Goals as goal
 
 pub loop-i-init : goal.loop-i-init

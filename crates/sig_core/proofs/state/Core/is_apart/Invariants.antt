@@ -1,5 +1,4 @@
-use Rattle.std.proofs.Common.{◌<◌, ℕ}
-use Rattle.sig_core.specs.Resting.{IsApart}
+use Rattle.sig_core.proofs.{◌<◌, ℕ, IsApart}
 use Rattle.sig_core.proofs.state.Core.is_apart.Given as goal
 
 -- none of these waits at a link of the actor

@@ -1,11 +1,4 @@
-use Rattle.std.proofs.Common.{◌≡◌, ◌∙◌, arith, List, ℤ, Global, length, refl, ap, sym}
-use Rattle.std.specs.Prelude.{Some, slice_get}
-use Rattle.std.proofs.lemmas.Bool.{ltb-false}
-use Rattle.std.proofs.lemmas.Option.{slice_get_read}
-use Rattle.std.specs.declared.collections.VecDeque.{VecDeque}
-use Rattle.sig_clock.proofs.Lists.{get_within}
-use Rattle.sig_core.proofs.LinksTold.{length_told, none_told}
-use Rattle.sig_core.specs.Lists.{queue_in, queues_of}
+use Rattle.sig_core.proofs.{◌≡◌, ◌∙◌, arith, List, ℤ, Global, length, refl, ap, sym, Some, slice_get, ltb-false, slice_get_read, VecDeque, get_within, length_told, none_told, queue_in, queues_of}
 use Rattle.sig_core.proofs.state.Core.link_len.Goals as goal
 
 there : (c : goal.After-len) → slice_get c.args.self.now.lists.queues.items c.args.j ≡ Some c.in-Some.queue.now

@@ -1,4 +1,4 @@
-use Rattle.sig_core.proofs.Looks.{no_word_keeps, no_word_tells}
+use Rattle.sig_core.proofs.{no_word_keeps, no_word_tells}
 use Rattle.sig_core.proofs.state.Core.look.Goals as goal
 
 pub returns-then-self-clause-happened : goal.returns-then-self-clause-happened

@@ -1,14 +1,4 @@
-use Rattle.std.proofs.Common.{◌≡◌, ◌<◌, ◌≤◌, ◌∙◌, ◌^◌, ap, arith, refl, rules, sym}
-use Rattle.std.specs.Prelude.{Some, slice_get}
-use Rattle.std.specs.Vec.{with_item}
-use Rattle.std.proofs.lemmas.Option.{slice_get_read}
-use Rattle.sig_base.specs.Places.{no_place, packed}
-use Rattle.sig_base.specs.declared.place.Place.{Place}
-use Rattle.sig_core.proofs.Looks.{look_core, look_keeps, look_leaves, look_tells}
-use Rattle.sig_core.proofs.Queuing.{set_past}
-use Rattle.sig_core.specs.declared.state.Core.{Core}
-use Rattle.sig_step.specs.States.{place_of}
-use Rattle.sig_values.proofs.Writing.{some_is}
+use Rattle.sig_core.proofs.{◌≡◌, ◌<◌, ◌≤◌, ◌∙◌, ◌^◌, ap, arith, refl, rules, sym, Some, slice_get, with_item, slice_get_read, no_place, packed, Place, look_core, look_keeps, look_leaves, look_tells, set_past, Core, place_of, some_is}
 use Rattle.sig_core.proofs.state.Core.look_at_word.Goals as goal
 
 within : (c : goal.After-self-1) → c.args.k < c.args.self.now.states.len

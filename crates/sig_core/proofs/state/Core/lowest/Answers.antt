@@ -1,6 +1,4 @@
-use Rattle.std.proofs.Common.{◌≡◌, ◌∙◌, arith, false, sym, true}
-use Rattle.sig_clock.proofs.Lists.{get_within}
-use Rattle.sig_core.proofs.Serving.{at_end, low_alone, low_other, low_own}
+use Rattle.sig_core.proofs.{◌≡◌, ◌∙◌, arith, false, sym, true, get_within, at_end, low_alone, low_other, low_own}
 use Rattle.sig_core.proofs.state.Core.lowest.Goals as goal
 
 pub returns-in_default : goal.returns-in_default

@@ -1,12 +1,10 @@
-use Rattle.std.proofs.Common.{[], refl, subst}
-use Rattle.sig_core.proofs.Opening.{opened_core, opened_shows}
-use Rattle.sig_core.specs.Lists.{AreEmpty}
+use Rattle.sig_core.proofs.{[], refl, subst, opened_core, opened_shows, AreEmpty}
 use Rattle.sig_core.proofs.state.Core.new.Goals as goal
 
 pub returns-clause-core : goal.returns-clause-core
 returns-clause-core c =
     opened_core _ c.requires.fits c.requires.limit c.requires.capacity c.ranges.capacity.fits c.in_ok-opened.ensures.opened c.in_ok-opened.ensures.few
-    (subst (λ n. AreEmpty n c.args.capacity c.in_ok-new.field-0) c.links_in.ensures c.in_ok-new.ensures)
+    (subst (λ n. AreEmpty n c.args.capacity c.in_ok-new.field-0) c.links_in.ensures c.in_ok-new.ensures) refl
 
 pub returns-clause-opening : goal.returns-clause-opening
 returns-clause-opening c =

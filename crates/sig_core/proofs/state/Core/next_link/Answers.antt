@@ -1,8 +1,4 @@
-use Rattle.std.proofs.Common.{◌≡◌, ◌<◌, ◌∙◌, arith, length, ap, refl, sym, subst}
-use Rattle.std.specs.Prelude.{Some, slice_get}
-use Rattle.std.proofs.lemmas.Option.{slice_get_read}
-use Rattle.sig_core.specs.Resting.{link_at, link_by}
-use Rattle.sig_model.specs.Actors.{code_of}
+use Rattle.sig_core.proofs.{◌≡◌, ◌<◌, ◌∙◌, arith, length, ap, refl, sym, subst, Some, slice_get, slice_get_read, link_at, link_by, code_of}
 use Rattle.sig_core.proofs.state.Core.next_link.Goals as goal
 
 pub step_at-requires-clause-step : goal.step_at-requires-clause-step

@@ -1,11 +1,4 @@
-use Rattle.std.proofs.Common.{◌∙◌, arith}
-use Rattle.std.proofs.lemmas.Result.{err_from_is_err_and}
-use Rattle.sig_core.proofs.Ending.{took_part, took_whole}
-use Rattle.sig_core.proofs.Finishing.{leads_reached, leads_then}
-use Rattle.sig_core.proofs.RunningOut.{accepted_on, all_rest, end_of_run, join_part}
-use Rattle.sig_core.specs.Cores.{IsSameRun}
-use Rattle.sig_core.specs.Finishing.{HasEnded}
-use Rattle.sig_text.specs.Sink.{TookPrefix}
+use Rattle.sig_core.proofs.{◌∙◌, arith, err_from_is_err_and, took_part, took_whole, leads_reached, leads_then, leads_within, accepted_on, all_rest, end_of_run, join_part, IsSameRun, HasEnded, TookPrefix}
 use Rattle.sig_core.proofs.state.Core.run_out.Given.{Over}
 use Rattle.sig_core.proofs.state.Core.run_out.Goals as goal
 
@@ -24,8 +17,9 @@ returns-in_err-k-clause-part g c =
 pub returns-in_err-k-clause-led : goal.returns-in_err-k-clause-led
 returns-in_err-k-clause-led g c =
     let p = err_from_is_err_and c.from_residual.result c.from_residual.ensures.1 in
-    rw p.1 (leads_then g.S.Sink.took (TookPrefix g.S.Sink.took) (join_part g.S.Sink.took g.met.S.Sink.took_both) c.args.self.now c.events.self c.serve.new.self c.args.sink.now c.events.sink c.serve.new.sink
-    c.events.invariant.run c.events.invariant.leads c.in_err-k.ensures.part)
+    rw p.1 (leads_within (TookPrefix g.S.Sink.took) c.args.self.now c.serve.new.self c.args.sink.now c.serve.new.sink c.plans_are_accepted.ensures c.requires.reached
+    (leads_then g.S.Sink.took (TookPrefix g.S.Sink.took) (join_part g.S.Sink.took g.met.S.Sink.took_both) c.args.self.now c.events.self c.serve.new.self c.args.sink.now c.events.sink c.serve.new.sink
+    c.events.invariant.run c.events.invariant.leads c.in_err-k.ensures.part))
 
 pub events-preserved : goal.events-preserved
 events-preserved g c = record {
@@ -56,3 +50,7 @@ pub returns-clause-rest : goal.returns-clause-rest
 returns-clause-rest g c =
     took_whole g.S.Sink.took c.args.self.now c.events.self c.events.invariant.run c.args.sink.now c.events.sink c.events.invariant.core
     (accepted_on c.args.self.now c.events.self c.events.invariant.run c.plans_are_accepted.ensures) (ends g c) c.events.invariant.leads
+
+pub returns-clause-leads : goal.returns-clause-leads
+returns-clause-leads g c =
+    leads_within g.S.Sink.took c.args.self.now c.events.self c.args.sink.now c.events.sink c.plans_are_accepted.ensures c.requires.reached c.events.invariant.leads

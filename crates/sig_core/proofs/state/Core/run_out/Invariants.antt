@@ -1,7 +1,4 @@
-use Rattle.std.proofs.Common.{◌≤◌, length}
-use Rattle.sig_core.specs.Cores.{IsCore, IsReached, IsSameRun}
-use Rattle.sig_core.specs.Finishing.{LeadsTo}
-use Rattle.sig_core.specs.Resting.{RestBelow, left_behind}
+use Rattle.sig_core.proofs.{◌≤◌, length, IsCore, IsReached, IsSameRun, LeadsTo, RestBelow, left_behind}
 use Rattle.sig_core.proofs.state.Core.run_out.Given as goal
 
 -- the actors below the next one rest

@@ -1,12 +1,10 @@
-use Rattle.sig_core.proofs.Finishing.{event_leads}
-use Rattle.sig_core.proofs.Happening.{kept_happened}
-use Rattle.sig_core.proofs.Serving.{looked_serves}
-use Rattle.sig_model.specs.declared.event.Event.TheVariants.{Look}
+use Rattle.sig_core.proofs.{event_leads, kept_happened, look_first, looked_serves, Look}
 use Rattle.sig_core.proofs.state.Core.serve_event.Goals as goal
 
 pub returns-then-look-clause-leads : goal.returns-then-look-clause-leads
 returns-then-look-clause-leads g c =
     event_leads g.S.Sink.took (Look c.args.k) c.args.self.now c.look.new.self c.args.sink.now c.args.sink.now
+    (look_first c.args.self.now c.args.k c.requires.rest c.if-look.ensures.answer)
     (kept_happened g.S.Sink.took c.args.self.now c.look.new.self (Look c.args.k) c.args.sink.now (g.met.S.Sink.took_nothing c.args.sink.now) c.if-look.ensures.happened)
 
 pub returns-then-look-clause-serves : goal.returns-then-look-clause-serves

@@ -1,9 +1,4 @@
-use Rattle.std.proofs.Common.{◌≡◌, ◌∙◌, arith, refl, subst}
-use Rattle.std.proofs.lemmas.Result.{err_from_is_err_and}
-use Rattle.sig_core.proofs.Finishing.{leads_reached, leads_then}
-use Rattle.sig_core.proofs.RunningOut.{join_part}
-use Rattle.sig_core.specs.Resting.{left_behind}
-use Rattle.sig_text.specs.Sink.{TookPrefix}
+use Rattle.sig_core.proofs.{◌≡◌, ◌∙◌, arith, refl, subst, err_from_is_err_and, leads_reached, leads_then, join_part, left_behind, TookPrefix}
 use Rattle.sig_core.proofs.state.Core.serve_events.Goals as goal
 
 pub returns-in_err-next-clause-part : goal.returns-in_err-next-clause-part

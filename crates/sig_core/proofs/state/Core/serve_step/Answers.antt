@@ -1,16 +1,14 @@
-use Rattle.std.proofs.Common.{subst}
-use Rattle.std.proofs.lemmas.Result.{err_from_is_err_and}
-use Rattle.sig_core.proofs.Finishing.{event_leads}
-use Rattle.sig_core.proofs.Serving.{none_rest, resting_serves, stepped_serves}
-use Rattle.sig_core.specs.Cores.{LeavesLess, TellsChange}
-use Rattle.sig_model.specs.declared.event.Event.TheVariants.{Act}
-use Rattle.sig_text.specs.Sink.{TookPrefix}
+use Rattle.sig_core.proofs.{subst, err_from_is_err_and, act_leads, none_rest, resting_serves, stepped_serves, LeavesLess, TellsChange, Act, TookPrefix, true}
 use Rattle.sig_core.proofs.state.Core.serve_step.Goals as goal
 
 pub returns-in_err-act-clause-part : goal.returns-in_err-act-clause-part
 returns-in_err-act-clause-part g c =
     let p = err_from_is_err_and c.from_residual.result c.from_residual.ensures.1 in
-    rw p.1 (event_leads (TookPrefix g.S.Sink.took) (Act c.args.k) c.args.self.now c.act.new.self c.args.sink.now c.act.new.sink c.in_err-act.ensures.part)
+    rw p.1 (act_leads (TookPrefix g.S.Sink.took) c.args.k c.args.self.now c.act.new.self c.args.sink.now c.act.new.sink c.requires.rest c.requires.looked true c.in_err-act.ensures.changed c.in_err-act.ensures.part)
+
+pub returns-then-not-branch-clause-leads : goal.returns-then-not-branch-clause-leads
+returns-then-not-branch-clause-leads g c =
+    act_leads g.S.Sink.took c.args.k c.args.self.now c.act.new.self c.args.sink.now c.act.new.sink c.requires.rest c.requires.looked _ c.in_ok-act.ensures.answer c.in_ok-act.ensures.happened
 
 pub returns-then-not-branch-clause-serves : goal.returns-then-not-branch-clause-serves
 returns-then-not-branch-clause-serves g c =
@@ -19,7 +17,7 @@ returns-then-not-branch-clause-serves g c =
     (subst (LeavesLess c.args.self.now c.act.new.self) c.if-not-branch.true c.in_ok-act.ensures.left)
 
 pub returns-then-self-word-clause-leads : goal.returns-then-self-word-clause-leads
-returns-then-self-word-clause-leads g c = event_leads g.S.Sink.took (Act c.args.k) c.args.self.now c.act.new.self c.args.sink.now c.act.new.sink c.in_ok-act.ensures.happened
+returns-then-self-word-clause-leads g c = act_leads g.S.Sink.took c.args.k c.args.self.now c.act.new.self c.args.sink.now c.act.new.sink c.requires.rest c.requires.looked _ c.in_ok-act.ensures.answer c.in_ok-act.ensures.happened
 
 pub returns-then-self-word-clause-serves : goal.returns-then-self-word-clause-serves
 returns-then-self-word-clause-serves g c =
@@ -27,7 +25,7 @@ returns-then-self-word-clause-serves g c =
     c.lowest-low.result c.lowest-low.ensures c.in_ok-act.ensures.touches c.if-self-word.true (subst (LeavesLess c.args.self.now c.act.new.self) c.if-not-branch.false c.in_ok-act.ensures.left)
 
 pub returns-else-self-word-clause-leads : goal.returns-else-self-word-clause-leads
-returns-else-self-word-clause-leads g c = event_leads g.S.Sink.took (Act c.args.k) c.args.self.now c.act.new.self c.args.sink.now c.act.new.sink c.in_ok-act.ensures.happened
+returns-else-self-word-clause-leads g c = act_leads g.S.Sink.took c.args.k c.args.self.now c.act.new.self c.args.sink.now c.act.new.sink c.requires.rest c.requires.looked _ c.in_ok-act.ensures.answer c.in_ok-act.ensures.happened
 
 pub returns-else-self-word-clause-serves : goal.returns-else-self-word-clause-serves
 returns-else-self-word-clause-serves g c =

@@ -1,12 +1,4 @@
-use Rattle.std.proofs.Common.{◌≡◌, ◌<◌, ◌∙◌, ◌^◌, ℕ, arith, ap, rules, min}
-use Rattle.std.specs.Prelude.{Option}
-use Rattle.sig_base.specs.declared.place.Place.{Place}
-use Rattle.sig_core.proofs.Stepping.{place_of_step, step_commits, step_core, step_leaves, step_stepped, step_tells, word_by, word_stays}
-use Rattle.sig_core.proofs.Touching.{touches_word, turn_touches}
-use Rattle.sig_core.proofs.Wording.{word_lesser}
-use Rattle.sig_core.specs.Cores.{IsWord, given_of}
-use Rattle.sig_core.specs.declared.state.Core.{Core}
-use Rattle.sig_step.specs.declared.answer.Acted.TheVariants.{Failed}
+use Rattle.sig_core.proofs.{◌≡◌, ◌<◌, ◌∙◌, ◌^◌, ℕ, arith, ap, rules, min, Option, Place, place_of_step, step_commits, step_core, step_leaves, step_stepped, step_tells, word_by, word_stays, touches_word, turn_touches, word_lesser, IsWord, given_of, Core, Failed}
 use Rattle.sig_core.proofs.state.Core.step.Given.{Over}
 use Rattle.sig_core.proofs.state.Core.step.Goals as goal
 

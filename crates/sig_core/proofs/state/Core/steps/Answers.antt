@@ -1,13 +1,4 @@
-use Rattle.std.proofs.Common.{◌≡◌, ◌<◌, ◌∙◌, ◌^◌, ap, arith, min, rules, subst, sym}
-use Rattle.std.specs.Prelude.{Option}
-use Rattle.sig_base.specs.declared.place.Place.{Place}
-use Rattle.sig_core.proofs.GoingOn.{failed_within, keeps_word, steps_on}
-use Rattle.sig_core.proofs.Stepping.{word_by, word_stays}
-use Rattle.sig_core.proofs.Wording.{word_lesser}
-use Rattle.sig_core.specs.Cores.{IsWord}
-use Rattle.sig_core.specs.GoingOn.{StepsOn}
-use Rattle.sig_core.specs.declared.state.Core.{Core}
-use Rattle.sig_step.specs.declared.answer.Acted.TheVariants.{Failed}
+use Rattle.sig_core.proofs.{◌≡◌, ◌<◌, ◌∙◌, ◌^◌, ap, arith, min, rules, subst, sym, Option, Place, failed_within, keeps_word, steps_on, word_by, word_stays, word_lesser, IsWord, StepsOn, Core, Failed}
 use Rattle.sig_core.proofs.state.Core.steps.Given.{Over}
 use Rattle.sig_core.proofs.state.Core.steps.Goals as goal
 

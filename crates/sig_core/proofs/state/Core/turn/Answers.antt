@@ -1,8 +1,4 @@
-use Rattle.std.proofs.Common.{◌≡◌, ◌∙◌, length, refl, ap, sym}
-use Rattle.std.specs.Prelude.{Some, slice_get}
-use Rattle.std.proofs.lemmas.Option.{slice_get_read}
-use Rattle.sig_core.proofs.Queuing.{length_range}
-use Rattle.sig_core.proofs.Using.{may_use}
+use Rattle.sig_core.proofs.{◌≡◌, ◌∙◌, length, refl, ap, sym, Some, slice_get, slice_get_read, length_range, may_use}
 use Rattle.sig_core.proofs.state.Core.turn.Goals as goal
 
 pub act-requires-clause-state : goal.act-requires-clause-state

@@ -1,8 +1,4 @@
-use Rattle.std.proofs.Common.{◌≡◌, length, refl}
-use Rattle.std.specs.Prelude.{Some, slice_get}
-use Rattle.std.proofs.lemmas.Option.{slice_get_read}
-use Rattle.sig_core.proofs.GoingOn.{between_of, turn_on}
-use Rattle.sig_core.proofs.Using.{may_use}
+use Rattle.sig_core.proofs.{◌≡◌, length, refl, Some, slice_get, slice_get_read, between_of, turn_on, may_use}
 use Rattle.sig_core.proofs.state.Core.turns.Goals as goal
 
 pub act_on-requires-clause-state : goal.act_on-requires-clause-state

@@ -1,6 +1,4 @@
-use Rattle.std.proofs.Common.{◌∙◌, sym}
-use Rattle.sig_clock.proofs.Lists.{get_within}
-use Rattle.sig_core.proofs.Serving.{at_end}
+use Rattle.sig_core.proofs.{◌∙◌, sym, get_within, at_end}
 use Rattle.sig_core.proofs.state.Core.waits_at.Goals as goal
 
 pub has_end-requires : goal.has_end-requires

@@ -1,4 +1,4 @@
-use Rattle.sig_step.proofs.Going.{behind_last}
+use Rattle.sig_step.proofs.{behind_last}
 use Rattle.sig_step.proofs.state.ClusterState.advance.Goals as goal
 
 pub returns-else-self-count-clause-actor : goal.returns-else-self-count-clause-actor

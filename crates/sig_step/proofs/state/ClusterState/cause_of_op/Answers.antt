@@ -1,12 +1,4 @@
-use Rattle.std.proofs.Common.{◌≡◌, ℕ, ℤ, List, Some, refl, slice_get, subst}
-use Rattle.std.proofs.lemmas.Option.{slice_get_read}
-use Rattle.sig_kernel.specs.declared.kernel.Kernel.{Kernel}
-use Rattle.sig_model.specs.Operating.{Faults, Gives, Outcome, outcome}
-use Rattle.sig_plan.specs.declared.op.Op.{Op}
-use Rattle.sig_step.proofs.Doing.{cause_is}
-use Rattle.sig_values.proofs.Behind.{faults_it, gives_it}
-use Rattle.sig_values.specs.Values.{actor_at}
-use Rattle.sig_values.specs.declared.values.Values.{Values}
+use Rattle.sig_step.proofs.{◌≡◌, ℕ, ℤ, List, Some, refl, slice_get, subst, slice_get_read, Kernel, Faults, Gives, Outcome, outcome, Op, cause_is, faults_it, gives_it, actor_at, Values}
 use Rattle.sig_step.proofs.state.ClusterState.cause_of_op.Goals as goal
 
 -- the operation of a number is this one

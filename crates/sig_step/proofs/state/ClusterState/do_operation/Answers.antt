@@ -1,7 +1,4 @@
-use Rattle.std.proofs.Common.{◌≡◌, ℕ, List, Some, refl, slice_get, subst}
-use Rattle.std.proofs.lemmas.Option.{slice_get_read}
-use Rattle.sig_plan.specs.declared.op.Op.{Op}
-use Rattle.sig_step.proofs.Doing.{done_may_go_on, op_done, op_failed_with}
+use Rattle.sig_step.proofs.{◌≡◌, ℕ, List, Some, refl, slice_get, subst, slice_get_read, Op, done_may_go_on, op_done, op_failed_with}
 use Rattle.sig_step.proofs.state.ClusterState.do_operation.Goals as goal
 
 -- the operation of a number is this one

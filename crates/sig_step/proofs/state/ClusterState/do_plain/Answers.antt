@@ -1,13 +1,4 @@
-use Rattle.std.proofs.Common.{◌≡◌, ◌∙◌, ℕ, List, Some, ap, refl, slice_get, sym, subst, arith}
-use Rattle.sig_plan.specs.Codes.{CodeView}
-use Rattle.sig_plan.specs.declared.code.Step.{Step}
-use Rattle.sig_model.specs.Actors.{code_of}
-use Rattle.sig_model.specs.Turns.{turn_by}
-use Rattle.sig_step.proofs.PlainSteps.{done_by, failed_by, may_marked, operated_on, passed}
-use Rattle.sig_step.specs.Plain.{DoesPlain}
-use Rattle.sig_step.specs.States.{actor_of}
-use Rattle.sig_step.specs.declared.answer.Acted.{Acted}
-use Rattle.sig_step.specs.declared.answer.Acted.TheVariants.{Done}
+use Rattle.sig_step.proofs.{◌≡◌, ◌∙◌, ℕ, List, Some, ap, refl, slice_get, sym, subst, arith, CodeView, Step, code_of, turn_by, done_by, failed_by, may_marked, operated_on, passed, DoesPlain, actor_of, Acted, Done}
 use Rattle.sig_step.proofs.state.ClusterState.do_plain.Goals as goal
 
 -- the step of a number stands in the code

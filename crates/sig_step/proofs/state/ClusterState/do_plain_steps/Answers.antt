@@ -1,6 +1,4 @@
-use Rattle.std.proofs.Common.{Ok, ap}
-use Rattle.sig_step.proofs.PlainSteps.{fails_behind, one_more_plain}
-use Rattle.sig_step.proofs.Several.{same_actor_then}
+use Rattle.sig_step.proofs.{Ok, ap, fails_behind, one_more_plain, same_actor_then}
 use Rattle.sig_step.proofs.state.ClusterState.do_plain_steps.Goals as goal
 
 pub returns-in-Err-clause-failed : goal.returns-in-Err-clause-failed

@@ -1,7 +1,4 @@
-use Rattle.std.proofs.Common.{ℕ}
-use Rattle.sig_step.specs.Moving.{IsSameActor}
-use Rattle.sig_step.specs.Plain.{DoesPlainSteps}
-use Rattle.sig_step.specs.States.{IsStateOf}
+use Rattle.sig_step.proofs.{ℕ, IsSameActor, DoesPlainSteps, IsStateOf}
 use Rattle.sig_step.proofs.state.ClusterState.do_plain_steps.Given as goal
 
 abbrev pub invariant-loop : goal.invariant-loop

@@ -1,6 +1,4 @@
-use Rattle.std.proofs.Common.{◌<◌, ◌∙◌, List, length, sym, subst}
-use Rattle.sig_base.specs.declared.ids.SigId.{SigId}
-use Rattle.sig_step.proofs.GuardLemmas.{counts, noted, noted_met, walk_value}
+use Rattle.sig_step.proofs.{◌<◌, ◌∙◌, List, length, sym, subst, SigId, counts, noted, noted_met, walk_value}
 use Rattle.sig_step.proofs.state.ClusterState.holds.Goals as goal
 
 pub walk-holds-requires-clause-needs : goal.walk-holds-requires-clause-needs

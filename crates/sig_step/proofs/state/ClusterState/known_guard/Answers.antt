@@ -1,9 +1,4 @@
-use Rattle.std.proofs.Common.{◌≡◌, ◌∙◌, ◌&&◌, ℕ, Bool, List, Some, slice_get, sym, ap, subst}
-use Rattle.sig_dd.specs.Nodes.{test}
-use Rattle.sig_model.specs.Actors.{truths_of}
-use Rattle.sig_plan.specs.declared.code.Slot.{Slot}
-use Rattle.sig_step.proofs.GuardLemmas.{noted, noted_met, walk_value}
-use Rattle.sig_values.specs.Values.{conditions_in, seen_in}
+use Rattle.sig_step.proofs.{◌≡◌, ◌∙◌, ◌&&◌, ℕ, Bool, List, Some, slice_get, sym, ap, subst, test, truths_of, Slot, noted, noted_met, walk_value, conditions_in, seen_in}
 use Rattle.sig_step.proofs.state.ClusterState.known_guard.Goals as goal
 
 -- the slot of a number stands in the code

@@ -1,9 +1,4 @@
-use Rattle.std.proofs.Common.{◌≡◌, ◌<◌, ◌^◌, ◌∙◌, ap, arith, length, refl, replicate, slice_get, List}
-use Rattle.sig_model.specs.Actors.{Actor, code_of, position_of}
-use Rattle.sig_plan.specs.Codes.{CodeView}
-use Rattle.sig_plan.specs.declared.code.Slot.{Slot}
-use Rattle.sig_plan.specs.declared.code.Step.{Step}
-use Rattle.sig_step.proofs.Beginning.{opened, unknown}
+use Rattle.sig_step.proofs.{◌≡◌, ◌<◌, ◌^◌, ◌∙◌, ap, arith, length, refl, replicate, slice_get, List, Actor, code_of, position_of, CodeView, Slot, Step, opened, unknown}
 use Rattle.sig_step.proofs.state.ClusterState.new.Goals as goal
 
 pub returns-clause-state : goal.returns-clause-state

@@ -1,10 +1,4 @@
-use Rattle.std.proofs.Common.{◌<◌, ◌+◌, arith, length, sym, subst}
-use Rattle.std.proofs.lemmas.Result.{err_from_is_err_and}
-use Rattle.sig_alone.proofs.OutputLines.{interface_fits, line_more, lines_upto, prefix_of_lines}
-use Rattle.sig_alone.specs.Lines.{line_at, lines_of}
-use Rattle.sig_kernel.specs.declared.kernel.Kernel.{Kernel}
-use Rattle.sig_text.specs.Sink.{TookPrefix}
-use Rattle.sig_values.specs.Values.{last_in}
+use Rattle.sig_step.proofs.{◌<◌, ◌+◌, arith, length, sym, subst, err_from_is_err_and, interface_fits, line_more, lines_upto, prefix_of_lines, line_at, lines_of, Kernel, TookPrefix, last_in}
 use Rattle.sig_step.proofs.state.ClusterState.put_reaction.Goals as goal
 
 pub returns-in_err-put_signal-clause-prefix : goal.returns-in_err-put_signal-clause-prefix

@@ -1,6 +1,4 @@
-use Rattle.std.proofs.Common.{◌≤◌}
-use Rattle.sig_alone.proofs.OutputLines.{lines_upto}
-use Rattle.sig_values.specs.Values.{last_in}
+use Rattle.sig_step.proofs.{◌≤◌, lines_upto, last_in}
 use Rattle.sig_step.proofs.state.ClusterState.put_reaction.Given as goal
 
 abbrev pub invariant-loop-output : goal.invariant-loop-output

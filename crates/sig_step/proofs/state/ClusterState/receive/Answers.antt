@@ -1,5 +1,4 @@
-use Rattle.sig_step.proofs.StateLemmas.{may_with}
-use Rattle.sig_step.proofs.Taking.{values_written}
+use Rattle.sig_step.proofs.{may_with, values_written}
 use Rattle.sig_step.proofs.state.ClusterState.receive.Goals as goal
 
 pub move_on-requires : goal.move_on-requires

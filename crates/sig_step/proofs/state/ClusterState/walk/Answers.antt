@@ -1,11 +1,4 @@
-use Rattle.std.proofs.Common.{◌<◌, ◌∙◌, ℕ, ap, sym, subst, length}
-use Rattle.sig_dd.specs.Diagram.{Depends}
-use Rattle.sig_dd.specs.Nodes.{Holds, test}
-use Rattle.sig_dd.specs.declared.node.Ref.{Ref}
-use Rattle.sig_plan.specs.Plans.{PlanView}
-use Rattle.sig_step.proofs.WalkLemmas.{truths_length, walk_counts}
-use Rattle.sig_step.specs.Acting.{CountsNeeds}
-use Rattle.sig_values.specs.Values.{conditions_in, seen_in}
+use Rattle.sig_step.proofs.{◌<◌, ◌∙◌, ℕ, ap, sym, subst, length, Depends, Holds, test, Ref, PlanView, truths_length, walk_counts, CountsNeeds, conditions_in, seen_in}
 use Rattle.sig_step.proofs.state.ClusterState.walk.Goals as goal
 
 -- a guard of the store of a plan: it depends on a variable, it is held, and its walk counts

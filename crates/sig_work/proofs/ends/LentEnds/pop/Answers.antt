@@ -1,8 +1,4 @@
-use Rattle.std.proofs.Common.{◌≡◌, Some, arith, length, refl, rules}
-use Rattle.std.specs.Prelude.{vec_len}
-use Rattle.std.specs.Vec.{with_item}
-use Rattle.sig_clock.proofs.Lists.{get_within}
-use Rattle.sig_work.proofs.EndLemmas.{asked_pop, none_first, popped_ends, popped_takes, take_is, take_never_none, take_there}
+use Rattle.sig_work.proofs.{◌≡◌, Some, arith, length, refl, rules, vec_len, with_item, get_within, asked_pop, empty_stays, found_empty_here, popped_ends, popped_takes, take_is, take_never_none, take_there}
 use Rattle.sig_work.proofs.ends.LentEnds.pop.Goals as goal
 
 pub index_mut-requires : goal.index_mut-requires
@@ -18,7 +14,7 @@ pub returns-clause-asked : goal.returns-clause-asked
 returns-clause-asked g c = record {
   tells_past = asked_pop c.args.self.now.ends (record { takes = with_item c.args.self.now.ends.takes c.args.link (Some c.pop.new.self); puts = c.args.self.now.ends.puts }) c.args.link c.in-Some.take c.pop.new.self
       (take_is c.args.self.now.ends c.args.link c.index_mut.result.now c.in-Some.take c.requires.end c.index_mut.ensures.value c.in-Some.is) refl refl c.pop.result c.pop.ensures.item
-      (none_first c.pop.result _ _ c.pop.ensures.empty);
+      (empty_stays c.pop.result c.in-Some.take c.pop.new.self c.pop.ensures.empty);
   tells_queues = tt;
 }
 
@@ -31,3 +27,8 @@ pub returns-clause-pops : goal.returns-clause-pops
 returns-clause-pops g c =
     popped_takes c.args.self.now.ends (record { takes = with_item c.args.self.now.ends.takes c.args.link (Some c.pop.new.self); puts = c.args.self.now.ends.puts }) c.args.link c.in-Some.take c.pop.new.self
     (take_is c.args.self.now.ends c.args.link c.index_mut.result.now c.in-Some.take c.requires.end c.index_mut.ensures.value c.in-Some.is) refl refl
+
+pub returns-clause-empty : goal.returns-clause-empty
+returns-clause-empty g c =
+    found_empty_here c.pop.result c.args.self.now.ends (record { takes = with_item c.args.self.now.ends.takes c.args.link (Some c.pop.new.self); puts = c.args.self.now.ends.puts }) c.args.link c.in-Some.take c.pop.new.self
+    (take_is c.args.self.now.ends c.args.link c.index_mut.result.now c.in-Some.take c.requires.end c.index_mut.ensures.value c.in-Some.is) refl c.pop.ensures.empty

@@ -1,10 +1,4 @@
-use Rattle.std.proofs.Common.{◌≡◌, ◌++◌, ◌∷◌, [], Some, arith, length, refl, rules, subst, w64, ℤ}
-use Rattle.std.specs.Prelude.{OnOk, vec_len}
-use Rattle.std.proofs.lemmas.Int.{to_z-of_z}
-use Rattle.std.specs.Vec.{with_item}
-use Rattle.sig_clock.proofs.Lists.{get_within}
-use Rattle.sig_link.specs.Ends.{sent}
-use Rattle.sig_work.proofs.EndLemmas.{asked_push, err_first, pushed_ends, pushed_puts, put_is, put_never_none, put_there}
+use Rattle.sig_work.proofs.{◌≡◌, ◌++◌, ◌∷◌, [], Some, arith, length, refl, rules, subst, w64, ℤ, OnOk, vec_len, to_z-of_z, with_item, get_within, sent, asked_push, found_full_here, full_stays, pushed_ends, pushed_puts, put_is, put_never_none, put_there}
 use Rattle.sig_work.proofs.ends.LentEnds.push.Goals as goal
 
 pub index_mut-requires : goal.index_mut-requires
@@ -21,7 +15,7 @@ returns-clause-asked g c = record {
   tells_past = asked_push c.args.self.now.ends (record { puts = with_item c.args.self.now.ends.puts c.args.link (Some c.push.new.self); takes = c.args.self.now.ends.takes }) c.args.link c.in-Some.put c.push.new.self
       (put_is c.args.self.now.ends c.args.link c.index_mut.result.now c.in-Some.put c.requires.end c.index_mut.ensures.value c.in-Some.is) refl refl c.args.item c.push.result
       (subst (λ (item : ℤ). OnOk c.push.result (sent c.push.new.self ≡ sent c.in-Some.put ++ item ∷ [])) (to_z-of_z w64 c.args.item c.ranges.item) c.push.ensures.ok)
-      (err_first c.push.result _ _ c.push.ensures.full);
+      (full_stays c.push.result c.in-Some.put c.push.new.self c.push.ensures.full);
   tells_queues = tt;
 }
 
@@ -34,3 +28,8 @@ pub returns-clause-pushes : goal.returns-clause-pushes
 returns-clause-pushes g c =
     pushed_puts c.args.self.now.ends (record { puts = with_item c.args.self.now.ends.puts c.args.link (Some c.push.new.self); takes = c.args.self.now.ends.takes }) c.args.link c.in-Some.put c.push.new.self
     (put_is c.args.self.now.ends c.args.link c.index_mut.result.now c.in-Some.put c.requires.end c.index_mut.ensures.value c.in-Some.is) refl refl
+
+pub returns-clause-full : goal.returns-clause-full
+returns-clause-full g c =
+    found_full_here c.push.result c.args.self.now.ends (record { puts = with_item c.args.self.now.ends.puts c.args.link (Some c.push.new.self); takes = c.args.self.now.ends.takes }) c.args.link c.in-Some.put c.push.new.self
+    (put_is c.args.self.now.ends c.args.link c.index_mut.result.now c.in-Some.put c.requires.end c.index_mut.ensures.value c.in-Some.is) refl c.push.ensures.full

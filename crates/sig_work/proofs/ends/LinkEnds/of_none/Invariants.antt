@@ -1,7 +1,4 @@
-use Rattle.std.proofs.Common.{◌≤◌}
-use Rattle.std.specs.Prelude.{vec_capacity}
-use Rattle.sig_work.specs.Ends.{HasNoEnds}
-use Rattle.sig_work.specs.declared.ends.LinkEnds.{LinkEnds}
+use Rattle.sig_work.proofs.{◌≤◌, vec_capacity, HasNoEnds, LinkEnds}
 use Rattle.sig_work.proofs.ends.LinkEnds.of_none.Given as goal
 
 -- so many links so far, of which none has an end

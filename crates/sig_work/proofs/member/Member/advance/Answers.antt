@@ -1,9 +1,4 @@
-use Rattle.std.proofs.Common.{◌≡◌, arith}
-use Rattle.std.proofs.lemmas.Result.{err_from_is_err_and}
-use Rattle.sig_text.specs.Sink.{TookPrefix}
-use Rattle.sig_work.proofs.GoingOn.{joins_part, member_some, member_still, member_then}
-use Rattle.sig_work.proofs.Keeping.{keeps_member, keeps_seat, keeps_then, seat_then}
-use Rattle.sig_work.specs.declared.round.Round.TheVariants.{Ended, Moved, Still}
+use Rattle.sig_work.proofs.{◌≡◌, arith, err_from_is_err_and, TookPrefix, joins_part, member_some, member_still, member_then, keeps_member, keeps_seat, keeps_then, seat_then, Ended, Moved, Still}
 use Rattle.sig_work.proofs.member.Member.advance.Goals as goal
 
 pub loop-init : goal.loop-init

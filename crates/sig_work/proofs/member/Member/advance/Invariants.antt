@@ -1,6 +1,4 @@
-use Rattle.std.proofs.Common.{◌≢◌, ◌≤◌}
-use Rattle.sig_work.specs.Rounds.{KeepsMember, KeepsSeat, ServesMember}
-use Rattle.sig_work.specs.declared.round.Round.TheVariants.{Ended}
+use Rattle.sig_work.proofs.{◌≢◌, ◌≤◌, KeepsMember, KeepsSeat, ServesMember, Ended}
 use Rattle.sig_work.proofs.member.Member.advance.Given as goal
 
 abbrev pub invariant-loop : goal.invariant-loop

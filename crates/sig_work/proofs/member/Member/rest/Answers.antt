@@ -1,5 +1,4 @@
-use Rattle.std.proofs.Common.{arith}
-use Rattle.sig_work.proofs.Served.{keeps_looked, keeps_state, looked_served, unlooked_served}
+use Rattle.sig_work.proofs.{arith, keeps_looked, keeps_state, looked_served, unlooked_served}
 use Rattle.sig_work.proofs.member.Member.rest.Goals as goal
 
 pub returns-then-look-clause-keeps : goal.returns-then-look-clause-keeps

@@ -1,7 +1,4 @@
-use Rattle.std.proofs.Common.{◌<◌}
-use Rattle.sig_base.specs.Places.{packed}
-use Rattle.sig_step.specs.States.{place_of}
-use Rattle.sig_work.proofs.Served.{had_ended, stopped_before, stops}
+use Rattle.sig_work.proofs.{◌<◌, packed, place_of, had_ended, stopped_before, stops}
 use Rattle.sig_work.proofs.member.Member.stop.Goals as goal
 
 pub returns-then-look : goal.returns-then-look

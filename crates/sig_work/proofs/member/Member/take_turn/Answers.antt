@@ -1,10 +1,4 @@
-use Rattle.std.proofs.Common.{◌≡◌, ◌∙◌, ◌<◌, ◌^◌, arith, ap, rules}
-use Rattle.std.proofs.lemmas.Result.{err_from_is_err_and}
-use Rattle.sig_text.specs.Sink.{TookPrefix}
-use Rattle.sig_work.proofs.Keeping.{keeps_then}
-use Rattle.sig_work.proofs.Turned.{acted_keeps, commits, ends_at_limit, fails, goes_on, place_below, refused, rests}
-use Rattle.sig_work.specs.Members.{run_of}
-use Rattle.sig_work.specs.declared.member.Member.{Member}
+use Rattle.sig_work.proofs.{◌≡◌, ◌∙◌, ◌<◌, ◌^◌, arith, ap, rules, err_from_is_err_and, TookPrefix, keeps_then, acted_keeps, commits, ends_at_limit, fails, goes_on, place_below, refused, rests, run_of, Member}
 use Rattle.sig_work.proofs.member.Member.take_turn.Goals as goal
 
 -- the step noted nothing

@@ -1,12 +1,4 @@
-use Rattle.std.proofs.Common.{◌≡◌, ap, arith}
-use Rattle.std.specs.Prelude.{Ok, Result}
-use Rattle.std.proofs.lemmas.Result.{err_from_is_err_and}
-use Rattle.sig_text.specs.Sink.{TookPrefix}
-use Rattle.sig_text.specs.declared.sink.WriteFault.{WriteFault}
-use Rattle.sig_work.proofs.GoingOn.{joins_part, share_some, share_still, share_then}
-use Rattle.sig_work.proofs.Keeping.{all_have_ended, keeps_share, more_ended, share_keeps_then}
-use Rattle.sig_work.specs.declared.round.Round.{Round}
-use Rattle.sig_work.specs.declared.round.Round.TheVariants.{Ended}
+use Rattle.sig_work.proofs.{◌≡◌, ap, arith, Ok, Result, err_from_is_err_and, TookPrefix, WriteFault, joins_part, share_some, share_still, share_then, all_have_ended, keeps_share, more_ended, share_keeps_then, Round, Ended}
 use Rattle.sig_work.proofs.share.Share.advance.Goals as goal
 
 pub loop-number-init : goal.loop-number-init

@@ -1,6 +1,4 @@
-use Rattle.std.proofs.Common.{◌≡◌, ◌≤◌, ◌<◌, ℕ}
-use Rattle.sig_work.specs.Rounds.{HasEndedAt, KeepsShare, ServesShare}
-use Rattle.sig_work.specs.declared.round.Round.TheVariants.{Ended}
+use Rattle.sig_work.proofs.{◌≡◌, ◌≤◌, ◌<◌, ℕ, HasEndedAt, KeepsShare, ServesShare, Ended}
 use Rattle.sig_work.proofs.share.Share.advance.Given as goal
 
 abbrev pub invariant-loop-number : goal.invariant-loop-number

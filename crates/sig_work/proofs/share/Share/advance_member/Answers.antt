@@ -1,13 +1,4 @@
-use Rattle.std.proofs.Common.{◌≡◌, refl}
-use Rattle.std.specs.Prelude.{Some, slice_get}
-use Rattle.std.specs.Vec.{with_item}
-use Rattle.std.proofs.lemmas.Option.{slice_get_read}
-use Rattle.std.proofs.lemmas.Result.{on_err_weaker, on_ok_weaker}
-use Rattle.sig_text.specs.Sink.{TookPrefix}
-use Rattle.sig_work.proofs.Keeping.{ended_here, one_member}
-use Rattle.sig_work.proofs.Lifting.{least_but, member_may, member_served}
-use Rattle.sig_work.specs.Members.{commits_of, run_of}
-use Rattle.sig_work.specs.declared.share.Share.{Share}
+use Rattle.sig_work.proofs.{◌≡◌, refl, Some, slice_get, with_item, slice_get_read, on_err_weaker, on_ok_weaker, TookPrefix, ended_here, one_member, least_but, member_may, member_served, commits_of, run_of, Share}
 use Rattle.sig_work.proofs.share.Share.advance_member.Given.{Over}
 use Rattle.sig_work.proofs.share.Share.advance_member.Goals as goal
 

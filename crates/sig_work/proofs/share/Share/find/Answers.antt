@@ -1,10 +1,4 @@
-use Rattle.std.proofs.Common.{◌≡◌, inl, inr, sym, ap, subst, ◌∙◌, arith, length, List}
-use Rattle.std.specs.Prelude.{Some, slice_get}
-use Rattle.sig_clock.proofs.Lists.{get_within}
-use Rattle.sig_meaning.proofs.Numbers.{same_or_not}
-use Rattle.sig_values.proofs.Writing.{some_is}
-use Rattle.sig_work.proofs.Placing.{item_at}
-use Rattle.sig_work.specs.declared.member.Member.{Member}
+use Rattle.sig_work.proofs.{◌≡◌, inl, inr, sym, ap, subst, ◌∙◌, arith, length, List, Some, slice_get, get_within, same_or_not, some_is, item_at, Member}
 use Rattle.sig_work.proofs.share.Share.find.Goals as goal
 
 pub returns-then-member-number-clause-some : goal.returns-then-member-number-clause-some

@@ -1,6 +1,4 @@
-use Rattle.std.proofs.Common.{◌≡◌, ◌<◌, ℕ}
-use Rattle.std.specs.Prelude.{Some, slice_get}
-use Rattle.sig_work.specs.declared.member.Member.{Member}
+use Rattle.sig_work.proofs.{◌≡◌, ◌<◌, ℕ, Some, slice_get, Member}
 use Rattle.sig_work.proofs.share.Share.find.Given as goal
 
 abbrev pub invariant-loop-at : goal.invariant-loop-at

@@ -1,8 +1,4 @@
-use Rattle.std.proofs.Common.{◌≡◌, ap, subst, arith, length, List}
-use Rattle.std.specs.Prelude.{Some, slice_get}
-use Rattle.sig_work.proofs.LeastWords.{first_all, first_more}
-use Rattle.sig_work.proofs.Placing.{item_at}
-use Rattle.sig_work.specs.declared.member.Member.{Member}
+use Rattle.sig_work.proofs.{◌≡◌, ap, subst, arith, length, List, Some, slice_get, first_all, first_more, item_at, Member}
 use Rattle.sig_work.proofs.share.Share.least_failure.Goals as goal
 
 pub loop-member-preserved : goal.loop-member-preserved

@@ -1,4 +1,4 @@
-use Rattle.sig_work.specs.Words.{IsInFirst, IsLeastOf}
+use Rattle.sig_work.proofs.{IsInFirst, IsLeastOf}
 use Rattle.sig_work.proofs.share.Share.least_failure.Given as goal
 
 abbrev pub invariant-loop-member : goal.invariant-loop-member

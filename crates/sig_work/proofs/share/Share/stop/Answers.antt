@@ -1,9 +1,4 @@
-use Rattle.std.proofs.Common.{◌≡◌, ◌<◌, ◌++◌, ◌∙◌, ℕ, List, ap, arith, drop, get_or, length, refl, set, take}
-use Rattle.std.specs.Prelude.{slice_get}
-use Rattle.sig_clock.proofs.Lists.{get_at, written}
-use Rattle.sig_work.proofs.Stopped.{all_changed, one_changed}
-use Rattle.sig_work.specs.Rounds.{HasStopped}
-use Rattle.sig_work.specs.declared.member.Member.{Member}
+use Rattle.sig_work.proofs.{◌≡◌, ◌<◌, ◌++◌, ◌∙◌, ℕ, List, ap, arith, drop, get_or, length, refl, set, take, slice_get, get_at, written, all_changed, one_changed, HasStopped, Member}
 use Rattle.sig_work.proofs.share.Share.stop.Goals as goal
 
 pub loop-member-preserved : goal.loop-member-preserved

@@ -1,4 +1,4 @@
-use Rattle.sig_work.specs.Rounds.{ChangedBelow, HasStopped}
+use Rattle.sig_work.proofs.{ChangedBelow, HasStopped}
 use Rattle.sig_work.proofs.share.Share.stop.Given as goal
 
 abbrev pub invariant-loop-member : goal.invariant-loop-member

@@ -1,10 +1,4 @@
-use Rattle.std.proofs.Common.{refl, sym, ap, ◌≡◌, ◌∙◌}
-use Rattle.std.specs.Prelude.{slice_get}
-use Rattle.sig_values.proofs.Writing.{some_is}
-use Rattle.sig_work.proofs.Leaving.{left_share}
-use Rattle.sig_work.proofs.Placing.{item_at}
-use Rattle.sig_work.specs.Settling.{But, Each}
-use Rattle.sig_work.specs.declared.member.Member.{Member}
+use Rattle.sig_work.proofs.{refl, sym, ap, ◌≡◌, ◌∙◌, slice_get, some_is, left_share, item_at, But, Each, Member}
 use Rattle.sig_work.proofs.share.Share.take_take.Goals as goal
 
 pub returns-clause-left : goal.returns-clause-left
