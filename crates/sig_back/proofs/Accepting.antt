@@ -1,25 +1,5 @@
 -- What the passes give means that the kernel is accepted, and what they refuse that it is not.
-use Rattle.std.proofs.Common.{◌≡◌, ◌<◌, ℕ, List, [], ◌∷◌, length, slice_get, slice_index, refl, sym, ap, ◌∙◌, subst, arith}
-use Rattle.std.specs.Prelude.{zero, suc, Option, Some, Result, Ok, Err, IfErr, IfOk, IsErrAnd}
-use Rattle.sig_base.specs.declared.ids.SigId.{SigId}
-use Rattle.sig_back.specs.Answers.{IsRefusal, IsToldUnlessWanting, IsWanting, Tells}
-use Rattle.sig_back.specs.Faults.{said_of, told_as}
-use Rattle.sig_back.specs.declared.answer.BackAnswer.{BackAnswer}
-use Rattle.sig_back.specs.declared.answer.BackAnswer.TheVariants.{Refused, Budget, OutOfMemory}
-use Rattle.sig_back.specs.declared.fault.BackKind.{BackKind}
-use Rattle.sig_clock.specs.ClockFunctions.{IsClockFunction}
-use Rattle.sig_clock.specs.ClockRefusals.{HasClocks}
-use Rattle.sig_clock.specs.Clocks.{AreClocks, ClocksView, guard_of}
-use Rattle.sig_clock.specs.Conditions.{signal_id}
-use Rattle.sig_clock.specs.Layers.{IsSignal}
-use Rattle.sig_dd.specs.declared.node.Node.{Node}
-use Rattle.sig_dd.specs.declared.node.Ref.{Ref}
-use Rattle.sig_kernel.specs.Validity.{IsValid}
-use Rattle.sig_kernel.specs.declared.kernel.Kernel.{Kernel}
-use Rattle.sig_plan.proofs.FaultOnce.{accepted_or_refused, fault_once}
-use Rattle.sig_plan.specs.Acceptance.{HasOperations, IsAcceptedKernel, IsRefusedFor, KernelFault}
-use Rattle.sig_plan.specs.Operations.{AreOperations, function_in, operations_in, presence_in}
-use Rattle.sig_plan.specs.declared.op.Op.{Op}
+use Rattle.sig_back.proofs.Common.{◌≡◌, ◌<◌, ℕ, List, [], ◌∷◌, length, slice_get, slice_index, refl, sym, ap, ◌∙◌, subst, arith, zero, suc, Option, Some, Result, Ok, Err, IfErr, IfOk, IsErrAnd, SigId, IsRefusal, IsToldUnlessWanting, IsWanting, Tells, said_of, told_as, BackAnswer, Refused, Budget, OutOfMemory, BackKind, IsClockFunction, HasClocks, AreClocks, ClocksView, guard_of, signal_id, IsSignal, Node, Ref, IsValid, Kernel, accepted_or_refused, fault_once, HasOperations, IsAcceptedKernel, IsRefusedFor, KernelFault, AreOperations, function_in, operations_in, presence_in, Op}
 
 -- an answer that tells of a rule refuses the kernel that does not meet it
 pub refuses : (kernel : Kernel) (fault : KernelFault) (kind : BackKind) (signals : List SigId) (answer : BackAnswer) → IsRefusedFor kernel fault

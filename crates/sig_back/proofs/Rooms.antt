@@ -1,35 +1,7 @@
 -- A kernel within the bound does not run out of nodes.
-use Rattle.std.proofs.Common.{◌≡◌, ◌<◌, ◌≤◌, ◌+◌, ◌*◌, ◌^◌, ◌⊎◌, inl, inr, ℕ, Bool, true, false, eqb, List, [], length, map, filter, get_or, slice_get, sym, ap, ◌∙◌, subst, arith}
-use Rattle.std.specs.Prelude.{Some, Result}
-use Rattle.std.specs.List.{list_any, range_with_len}
-use Rattle.std.proofs.Math.Nat.{mul-le-mul_right}
-use Rattle.std.proofs.Math.Pow.{pow_mono}
-use Rattle.std.proofs.lemmas.Cmp.{nat_eq_equiv}
-use Rattle.std.proofs.lemmas.List.{get_or-map}
-use Rattle.std.proofs.lemmas.List.Sums.{length-filter}
-use Rattle.std.proofs.lemmas.Map.Keys.{IsDistinct-from_apart}
-use Rattle.std.proofs.lemmas.Map.Made.{length-le_from_is_member}
-use Rattle.sig_base.specs.declared.ids.SigId.{SigId}
-use Rattle.sig_base.specs.declared.limits.TheConstants.{NODES}
-use Rattle.sig_back.specs.Answers.{HasNoRoomFor, IsBeyondBound}
-use Rattle.sig_back.specs.Budgets.{Spends}
-use Rattle.sig_clock.specs.Clocks.{AreClocks, ClocksView}
-use Rattle.sig_clock.specs.Conditions.{conditions_of, is_condition, signal_id}
-use Rattle.sig_clock.specs.Layers.{HasLayer, IsEarlier}
-use Rattle.sig_clock.proofs.LayerLemmas.{one_layer}
-use Rattle.sig_dd.specs.Nodes.{Keeps, StoreView}
-use Rattle.sig_dd.specs.declared.node.Node.{Node}
-use Rattle.sig_kernel.specs.declared.kernel.Kernel.{Kernel}
+use Rattle.sig_back.proofs.Common.{◌≡◌, ◌<◌, ◌≤◌, ◌+◌, ◌*◌, ◌^◌, ◌⊎◌, inl, inr, ℕ, Bool, true, false, eqb, List, [], length, map, filter, get_or, slice_get, sym, ap, ◌∙◌, subst, arith, Some, Result, list_any, range_with_len, mul-le-mul_right, pow_mono, nat_eq_equiv, get_or-map, length-filter, IsDistinct-from_apart, length-le_from_is_member, SigId, NODES, HasNoRoomFor, IsBeyondBound, Spends, AreClocks, ClocksView, conditions_of, is_condition, signal_id, HasLayer, IsEarlier, one_layer, Keeps, StoreView, Node, Kernel, PlanAnswer, NoNodes, IsUnknownCount, is_boolean, IsTriangular, HasNoRoom, KeepsToShare, KeepsToTriangularShare, share_of, triangular_share_of, ClockAnswer, Dead, any_is, apart-eqb, get_at, in_filter, in_range, is_any, map_length, of_map, condition_is_boolean, condition_is_signal}
 use Rattle.sig_plan.specs.Shares.{IsRefusedFor}
-use Rattle.sig_plan.specs.declared.answer.PlanAnswer.{PlanAnswer}
-use Rattle.sig_plan.specs.declared.answer.PlanAnswer.TheVariants.{Budget as NoNodes}
-use Rattle.sig_rel.specs.Relations.{IsUnknownCount, is_boolean}
-use Rattle.sig_rel.specs.Triangles.{IsTriangular}
-use Rattle.sig_solve.specs.Refusals.{HasNoRoom, KeepsToShare, KeepsToTriangularShare, share_of, triangular_share_of}
-use Rattle.sig_solve.specs.declared.answer.ClockAnswer.{ClockAnswer}
-use Rattle.sig_solve.specs.declared.answer.ClockAnswer.TheVariants.{Dead, MissingRoot, Unsolved, Pinned, Budget, OutOfMemory}
-use Rattle.sig_solve.proofs.ListLemmas.{any_is, apart-eqb, get_at, in_filter, in_range, is_any, map_length, of_map}
-use Rattle.sig_solve.proofs.ReactionLemmas.{condition_is_boolean, condition_is_signal}
+use Rattle.sig_solve.specs.declared.answer.ClockAnswer.TheVariants.{MissingRoot, Unsolved, Pinned, Budget, OutOfMemory}
 
 number : SigId → ℕ
 number c = c.0

@@ -1,15 +1,12 @@
 -- Why a kernel has no plan, or it is not told.
-use Rattle.std.specs.Prelude.{◌≡◌, List}
-use Rattle.sig_base.specs.declared.ids.SigId.{SigId}
-use Rattle.sig_base.specs.declared.limits.TheConstants.{NODES}
+use Rattle.std.specs.Prelude.{◌≡◌}
+use Rattle.sig_back.specs.Prelude.{List, SigId, NODES, Kernel, ClockAnswer, Budget as NoNodes, OutOfMemory as NoMemory}
 use Rattle.sig_back.specs.Budgets.{MeetsBound}
 use Rattle.sig_back.specs.Faults.{FaultView, IsFaultOf, said_of}
 use Rattle.sig_back.specs.declared.answer.BackAnswer.{BackAnswer}
 use Rattle.sig_back.specs.declared.answer.BackAnswer.TheVariants.{Refused, Budget, OutOfMemory}
 use Rattle.sig_back.specs.declared.fault.BackKind.{BackKind}
-use Rattle.sig_kernel.specs.declared.kernel.Kernel.{Kernel}
-use Rattle.sig_solve.specs.declared.answer.ClockAnswer.{ClockAnswer}
-use Rattle.sig_solve.specs.declared.answer.ClockAnswer.TheVariants.{Dead, MissingRoot, Unsolved, Pinned, Budget as NoNodes, OutOfMemory as NoMemory}
+use Rattle.sig_solve.specs.declared.answer.ClockAnswer.TheVariants.{Dead, MissingRoot, Unsolved, Pinned}
 
 -- the kernel is not within the bound
 abbrev pub IsBeyondBound : Kernel → Type 0

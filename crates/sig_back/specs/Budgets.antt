@@ -1,12 +1,6 @@
 -- How small a kernel is for which the nodes of a store suffice.
-use Rattle.std.specs.Prelude.{◌≡◌, ◌+◌, ◌*◌, ◌^◌, ◌≤◌, ◌⊎◌, ℕ, length}
-use Rattle.sig_base.specs.declared.limits.TheConstants.{NODES}
-use Rattle.sig_clock.specs.Conditions.{conditions_of}
-use Rattle.sig_dd.specs.Nodes.{StoreView}
-use Rattle.sig_kernel.specs.declared.kernel.Kernel.{Kernel}
-use Rattle.sig_rel.specs.Relations.{IsUnknownCount}
-use Rattle.sig_rel.specs.Triangles.{IsTriangular}
-use Rattle.sig_solve.specs.Refusals.{share_of, triangular_share_of}
+use Rattle.std.specs.Prelude.{◌≡◌, ◌+◌, ◌*◌, ◌^◌, ◌≤◌, ◌⊎◌}
+use Rattle.sig_back.specs.Prelude.{ℕ, length, NODES, conditions_of, StoreView, Kernel, IsUnknownCount, IsTriangular, share_of, triangular_share_of}
 
 -- For u unknowns, one for each clock class and one for each boolean that is no event, and q equations, four times
 -- 2^u * 60 * (q + u*u*u) nodes are no more than a store has.

@@ -1,13 +1,9 @@
 -- How the reason is told for which a kernel is refused: with the names of the signals that it is said of, and the place of the
 -- first of them.
-use Rattle.std.specs.Prelude.{◌≡◌, ℕ, List, [], ◌∷◌, map, slice_get, Option, None, Some}
-use Rattle.sig_base.specs.declared.ids.SigId.{SigId}
-use Rattle.sig_base.specs.declared.signal.Signal.{Signal}
-use Rattle.sig_base.specs.declared.span.Span.{Span}
+use Rattle.std.specs.Prelude.{◌≡◌, ◌∷◌}
+use Rattle.sig_back.specs.Prelude.{ℕ, List, [], map, slice_get, Option, None, Some, SigId, Signal, Span, Kernel, IsRefusedFor, KernelFault, Dead, MissingRoot, Unsolved, Pinned, Cycle, TooManyLinks}
 use Rattle.sig_back.specs.declared.fault.BackKind.{BackKind}
 use Rattle.sig_back.specs.declared.fault.BackKind.TheVariants.{Dead as IsDead, MissingRoot as IsMissingRoot, Unsolved as IsUnsolved, Pinned as IsPinned, Cycle as IsCycle, TooManyLinks as AreTooManyLinks}
-use Rattle.sig_kernel.specs.declared.kernel.Kernel.{Kernel}
-use Rattle.sig_plan.specs.Acceptance.{IsRefusedFor, KernelFault, Dead, MissingRoot, Unsolved, Pinned, Cycle, TooManyLinks}
 
 pub record FaultView : Type 0 where
   pub kind : BackKind

@@ -1,9 +1,5 @@
 -- What the kernel of a plan does over flows.
-use Rattle.std.specs.Prelude.{ℕ, ℤ, List}
-use Rattle.sig_base.specs.Traces.{IsLongest, Trace}
-use Rattle.sig_kernel.specs.KernelTraces.{IsKernelTrace}
-use Rattle.sig_kernel.specs.Validity.{AreFlowsFor}
-use Rattle.sig_kernel.specs.declared.kernel.Kernel.{Kernel}
+use Rattle.sig_back.specs.Prelude.{ℕ, ℤ, List, IsLongest, Trace, IsKernelTrace, AreFlowsFor, Kernel}
 
 -- for all flows that fit and every limit of instants a kernel has a longest trace
 abbrev pub HasLongestTraces : Kernel → Type 0

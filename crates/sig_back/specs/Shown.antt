@@ -1,11 +1,6 @@
 -- The lines of refusals, each without its newline.
-use Rattle.std.specs.Prelude.{ℕ, ◌++◌, List, [], codes, slice_index_or, Option, None, Some}
-use Rattle.std.specs.Fmt.{decimal}
-use Rattle.std.specs.List.{flat_map}
-use Rattle.std.specs.Char.{encode_utf8}
-use Rattle.sig_base.specs.Lines.{refusal, refusal_at}
-use Rattle.sig_base.specs.declared.limits.TheConstants.{LINKS}
-use Rattle.sig_base.specs.declared.span.Span.{Span}
+use Rattle.std.specs.Prelude.{◌++◌}
+use Rattle.sig_back.specs.Prelude.{ℕ, List, [], codes, slice_index_or, Option, None, Some, decimal, flat_map, encode_utf8, refusal, refusal_at, LINKS, Span}
 use Rattle.sig_back.specs.Faults.{FaultView}
 use Rattle.sig_back.specs.declared.answer.BackAnswer.{BackAnswer}
 use Rattle.sig_back.specs.declared.answer.BackAnswer.TheVariants.{Refused, Budget, OutOfMemory}

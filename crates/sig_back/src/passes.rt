@@ -1,21 +1,11 @@
 //! From a kernel to its plan.
 
-ghost use Rattle.std.specs.Prelude.{◌≡◌, ◌≤◌, [], IfErr, IfOk, IsErrAnd, length};
+ghost use Rattle.std.specs.Prelude.{◌≡◌, ◌≤◌};
+ghost use Rattle.sig_back.specs.Prelude.{[], IfErr, IfOk, IsErrAnd, length, LINKS, NODES, HasClocks, AreClocks, IsStore, IsValid, HasOneReaction, IsAcceptedKernel, IsRefusedFor, KernelFault, AreOperations, operations_in, HasNoCycle, IsCompiledOrder, AreParts, numbers_of};
 ghost use Rattle.sig_back.specs.Answers.{IsRefusal, IsToldUnlessWanting, IsWanting};
 ghost use Rattle.sig_back.specs.Budgets.{Spends};
 ghost use Rattle.sig_back.specs.Faults.{told_as};
 ghost use Rattle.sig_back.specs.Reacting.{HasLongestTraces};
-ghost use Rattle.sig_base.specs.declared.limits.TheConstants.{LINKS, NODES};
-ghost use Rattle.sig_clock.specs.ClockRefusals.{HasClocks};
-ghost use Rattle.sig_clock.specs.Clocks.{AreClocks};
-ghost use Rattle.sig_dd.specs.Nodes.{IsStore};
-ghost use Rattle.sig_kernel.specs.Validity.{IsValid};
-ghost use Rattle.sig_meaning.specs.Reactions.{HasOneReaction};
-ghost use Rattle.sig_plan.specs.Acceptance.{IsAcceptedKernel, IsRefusedFor, KernelFault};
-ghost use Rattle.sig_plan.specs.Operations.{AreOperations, operations_in};
-ghost use Rattle.sig_plan.specs.Order.{HasNoCycle, IsCompiledOrder};
-ghost use Rattle.sig_plan.specs.Parts.{AreParts};
-ghost use Rattle.sig_plan.specs.Plans.{numbers_of};
 
 use crate::answer::BackAnswer;
 use crate::fault::BackKind;

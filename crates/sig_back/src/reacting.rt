@@ -3,7 +3,7 @@
 ghost use Rattle.sig_back.specs.Reacting.{HasLongestTraces};
 ghost use Rattle.sig_meaning.specs.Reactions.{HasOneReaction};
 
-use sig_meaning::{accepted_kernels_have_one_reaction, longest_traces_exist};
+use sig_meaning::{accepted_plans_have_one_reaction, longest_traces_exist};
 use sig_plan::Plan;
 
 /// A law: the kernel of a plan has one reaction, and so longest traces.
@@ -13,6 +13,6 @@ pub(crate) fn plans_react(plan: &Plan)
 {
     // What holds of every plan is known where its fields are read.
     let _kernel = &plan.kernel;
-    accepted_kernels_have_one_reaction();
+    accepted_plans_have_one_reaction();
     longest_traces_exist();
 }

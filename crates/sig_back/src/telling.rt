@@ -1,9 +1,9 @@
 //! How a refusal of a pass is told: with the names of its signals and their place.
 
-ghost use Rattle.std.specs.Prelude.{◌≡◌, IfOk};
+ghost use Rattle.std.specs.Prelude.{◌≡◌};
+ghost use Rattle.sig_back.specs.Prelude.{IfOk, IsRefusalOf};
 ghost use Rattle.sig_back.specs.Answers.{HasNoRoomFor, IsRefusal, Tells};
 ghost use Rattle.sig_back.specs.Faults.{first_place, name_at, said_of};
-ghost use Rattle.sig_solve.specs.Refusals.{IsRefusalOf};
 
 use crate::answer::BackAnswer;
 use crate::fault::{BackFault, BackKind};

@@ -1,15 +1,5 @@
 -- Each kernel is accepted or refused.
-use Rattle.std.proofs.Common.{◌⊎◌, inl, inr, List, length, refl}
-use Rattle.std.specs.Prelude.{All}
-use Rattle.std.proofs.lemmas.Bool.{cases_lt}
-use Rattle.sig_base.specs.declared.ids.SigId.{SigId}
-use Rattle.sig_base.specs.declared.limits.TheConstants.{LINKS}
-use Rattle.sig_clock.specs.ClockRefusals.{HasClocks}
-use Rattle.sig_clock.specs.Clocks.{AreInOrder}
-use Rattle.sig_kernel.specs.declared.kernel.Kernel.{Kernel}
-use Rattle.sig_plan.specs.Acceptance.{Cycle, HasOperations, IsAcceptedKernel, IsRefusedFor, KernelFault, TooManyLinks}
-use Rattle.sig_plan.specs.Operations.{Operation, operations_of}
-use Rattle.sig_plan.specs.Order.{HasNoCycle}
+use Rattle.sig_deciding.proofs.Common.{◌⊎◌, inl, inr, List, length, refl, All, cases_lt, SigId, LINKS, HasClocks, AreInOrder, Kernel, Cycle, HasOperations, IsAcceptedKernel, IsRefusedFor, KernelFault, TooManyLinks, Operation, operations_of, HasNoCycle}
 use Rattle.sig_deciding.proofs.Cycling.{acyclic_or_cycle}
 use Rattle.sig_deciding.proofs.Guarding.{IsSound, all_sound, presence_functions, presence_of}
 use Rattle.sig_deciding.proofs.Parting.{parts_exist}

@@ -1,27 +1,5 @@
 -- Where nodes hold the clock functions of a kernel's signals, they hold the guards of its clocks.
-use Rattle.std.proofs.Common.{◌≡◌, ◌<◌, ◌≤◌, ◌⊎◌, inl, inr, ◌↔◌, ℕ, zero, suc, Bool, true, false, List, length, map, get_or, refl, sym, ap, ◌∙◌, subst, arith, Contains}
-use Rattle.std.specs.Prelude.{None, Some, slice_get, slice_index}
-use Rattle.std.proofs.lemmas.Bool.{cases_lt, cases_order}
-use Rattle.std.proofs.lemmas.List.{length-map}
-use Rattle.sig_base.specs.declared.ids.SigId.{SigId}
-use Rattle.sig_clock.specs.ClockFunctions.{Allows, IsClockFunction, KeepsTo}
-use Rattle.sig_clock.specs.ClockRefusals.{HasClocks}
-use Rattle.sig_clock.specs.Clocks.{AreClocks, AreInOrder, ClocksView, IsLeastOf, guard_of}
-use Rattle.sig_clock.specs.Conditions.{signal_id}
-use Rattle.sig_clock.specs.Layers.{EntersBy, HasLayer, IsRoot, IsSignal}
-use Rattle.sig_clock.specs.Reactions.{Reaction, Speaks, Status, is_present, status_at, truth_of_status}
-use Rattle.sig_clock.proofs.LayerLemmas.{one_layer}
-use Rattle.sig_clock.proofs.Lists.{contains_at, at_contained, get_within}
-use Rattle.sig_clock.proofs.Ordered.{IsOrdered}
-use Rattle.sig_dd.specs.Diagram.{Agree, Depends, with_truth}
-use Rattle.sig_dd.specs.Nodes.{Holds, IsReduced, IsRefOf, test}
-use Rattle.sig_dd.specs.declared.node.Node.{Node}
-use Rattle.sig_dd.specs.declared.node.Ref.{Ref}
-use Rattle.sig_dd.proofs.Canonical.{one_ref}
-use Rattle.sig_dd.proofs.Trees.{truth_of-with_other}
-use Rattle.sig_kernel.specs.declared.kernel.Kernel.{Kernel}
-use Rattle.sig_plan.specs.Operations.{Guard}
-use Rattle.sig_plan.proofs.Lists.{get_map, get_some, map_get}
+use Rattle.sig_deciding.proofs.Common.{◌≡◌, ◌<◌, ◌≤◌, ◌⊎◌, inl, inr, ◌↔◌, ℕ, zero, suc, Bool, true, false, List, length, map, get_or, refl, sym, ap, ◌∙◌, subst, arith, Contains, None, Some, slice_get, slice_index, cases_lt, cases_order, length-map, SigId, Allows, IsClockFunction, KeepsTo, HasClocks, AreClocks, AreInOrder, ClocksView, IsLeastOf, guard_of, signal_id, EntersBy, HasLayer, IsRoot, IsSignal, Reaction, Speaks, Status, is_present, status_at, truth_of_status, one_layer, contains_at, at_contained, get_within, IsOrdered, Agree, Depends, with_truth, Holds, IsReduced, IsRefOf, test, Node, Ref, one_ref, truth_of-with_other, Kernel, Guard, get_map, get_some, map_get}
 use Rattle.sig_deciding.proofs.Coding.{dec_reference, value_there}
 use Rattle.sig_deciding.proofs.Deciding.{dec_both, dec_less, dec_not}
 use Rattle.sig_deciding.proofs.Guarding.{kept, presence_functions, presence_of, presence_sees}

@@ -1,5 +1,5 @@
 -- Statements on numbers below a bound that come to hold round after round: they come to stand still.
-use Rattle.std.proofs.Common.{◌<◌, ◌≤◌, ◌+◌, ◌⊎◌, inl, inr, ℕ, zero, suc, arith}
+use Rattle.sig_deciding.proofs.Common.{◌<◌, ◌≤◌, ◌+◌, ◌⊎◌, inl, inr, ℕ, zero, suc, arith}
 use Rattle.sig_deciding.proofs.Counting.{counted, counted_less, counted_most}
 use Rattle.sig_deciding.proofs.Deciding.{dec_as, dec_both, dec_either, dec_not}
 use Rattle.sig_deciding.proofs.Searching.{searched_below}

@@ -1,20 +1,5 @@
 -- Where a store holds the guards of operations, each actor has a code.
-use Rattle.std.proofs.Common.{◌≡◌, ◌<◌, ◌+◌, ℕ, zero, suc, Bool, true, List, [], ◌∷◌, length, refl, sym, ap, ◌∙◌, subst, arith, Contains}
-use Rattle.std.specs.Prelude.{Option, Some, slice_get, slice_index_or, if◌then◌else◌}
-use Rattle.sig_clock.proofs.Lists.{contains_head, contains_later, get_at, get_within}
-use Rattle.sig_dd.specs.Diagram.{Choice, Constant, Diagram, value_at}
-use Rattle.sig_dd.specs.Nodes.{Implies, IsRefOf, diagram, test}
-use Rattle.sig_dd.specs.declared.node.Node.{Node}
-use Rattle.sig_dd.specs.declared.node.Ref.{Ref}
-use Rattle.sig_dd.proofs.Listed.{diagram-true}
-use Rattle.sig_plan.specs.Codes.{AreCodes, AreSlots, CodeView, ImpliesSlot, Instruction, IsCode, IsLastBelow, IsStepOf, always, instructions_of, unguarded}
-use Rattle.sig_plan.specs.Instructions.{IsFor, collects, commits, does, receives, reports, sends}
-use Rattle.sig_plan.specs.Operations.{Operation}
-use Rattle.sig_plan.specs.Parts.{PartsView}
-use Rattle.sig_plan.specs.declared.code.Slot.{Slot}
-use Rattle.sig_plan.specs.declared.code.Step.{Step}
-use Rattle.sig_plan.specs.declared.code.StepKind.TheVariants.{Commit}
-use Rattle.sig_plan.proofs.Instructing.{instruction_for}
+use Rattle.sig_deciding.proofs.Common.{◌≡◌, ◌<◌, ◌+◌, ℕ, zero, suc, Bool, true, List, [], ◌∷◌, length, refl, sym, ap, ◌∙◌, subst, arith, Contains, Option, Some, slice_get, slice_index_or, if◌then◌else◌, contains_head, contains_later, get_at, get_within, Choice, Constant, Diagram, value_at, Implies, IsRefOf, diagram, test, Node, Ref, diagram-true, AreCodes, AreSlots, CodeView, ImpliesSlot, Instruction, IsCode, IsLastBelow, IsStepOf, always, instructions_of, unguarded, IsFor, collects, commits, does, receives, reports, sends, Operation, PartsView, Slot, Step, Commit, instruction_for}
 use Rattle.sig_deciding.proofs.Deciding.{dec_as, dec_both, dec_not, dec_number, dec_truth}
 use Rattle.sig_deciding.proofs.Guarding.{Sees}
 use Rattle.sig_deciding.proofs.Numbering.{AreNumbered, numbered_exist}
@@ -39,7 +24,7 @@ diagram_sees (Choice v low high) = at (diagram_sees low) (diagram_sees high) whe
         if agree v (omega arith) j then h.1 p q (λ u less. agree u (omega (arith, less))) j else l.1 p q (λ u less. agree u (omega (arith, less))) j,
   )
 
-dec_implied : (nodes : List Node) (f g : Ref) → Dec (Implies nodes f g)
+pub dec_implied : (nodes : List Node) (f g : Ref) → Dec (Implies nodes f g)
 dec_implied nodes f g = at (diagram_sees (diagram nodes f)) (diagram_sees (diagram nodes g)) where
   Parts : List Bool → Type 0
   Parts truths = (test nodes f truths ≡ true) × (test nodes g truths ≡ true → ⊥)

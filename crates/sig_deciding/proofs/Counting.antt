@@ -1,6 +1,5 @@
 -- How many numbers below a bound meet what is decided of each.
-use Rattle.std.proofs.Common.{◌<◌, ◌≤◌, ◌+◌, inl, inr, ℕ, zero, suc, subst, arith}
-use Rattle.std.proofs.lemmas.Bool.{cases_eq}
+use Rattle.sig_deciding.proofs.Common.{◌<◌, ◌≤◌, ◌+◌, inl, inr, ℕ, zero, suc, subst, arith, cases_eq}
 
 abbrev pub one_if : {A : Type 0} → Dec A → ℕ
 one_if (yes a) = 1

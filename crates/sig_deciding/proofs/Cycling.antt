@@ -1,12 +1,5 @@
 -- Operations have no cycle, or they have one, and some operation of it writes a least signal.
-use Rattle.std.proofs.Common.{◌≡◌, ◌<◌, ◌⊎◌, inl, inr, ℕ, List, length, subst, refl}
-use Rattle.std.specs.Prelude.{All, Some, slice_get}
-use Rattle.std.proofs.lemmas.List.Elements.{All-contains}
-use Rattle.sig_base.specs.declared.ids.SigId.{SigId}
-use Rattle.sig_clock.specs.Conditions.{signal_id}
-use Rattle.sig_clock.proofs.Lists.{contains_at, get_within}
-use Rattle.sig_plan.specs.Operations.{Operation}
-use Rattle.sig_plan.specs.Order.{ComesBefore, HasNoCycle, IsCycle, IsOnCycle, Precedes, Reaches, Writes, directly, onward}
+use Rattle.sig_deciding.proofs.Common.{◌≡◌, ◌<◌, ◌⊎◌, inl, inr, ℕ, List, length, subst, refl, All, Some, slice_get, All-contains, SigId, signal_id, contains_at, get_within, Operation, ComesBefore, HasNoCycle, IsCycle, IsOnCycle, Precedes, Reaches, Writes, directly, onward}
 use Rattle.sig_deciding.proofs.Closing.{dec_least}
 use Rattle.sig_deciding.proofs.Deciding.{dec_as, dec_both, dec_found, dec_number, dec_some}
 use Rattle.sig_deciding.proofs.Guarding.{IsSound}

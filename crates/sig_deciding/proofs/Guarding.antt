@@ -1,29 +1,6 @@
 -- The clock functions of a kernel that has clocks. They see a proposal as far as there are conditions, and so do
 -- the guards of its operations.
-use Rattle.std.proofs.Common.{◌≡◌, ◌<◌, ◌≤◌, ◌⊎◌, inl, inr, ℕ, Bool, false, not, List, [], ◌∷◌, length, refl, sym, ◌∙◌, subst, arith}
-use Rattle.std.specs.Prelude.{◌&&◌, All}
-use Rattle.std.proofs.lemmas.Bool.{cases_lt}
-use Rattle.std.proofs.lemmas.List.Elements.{All-cons, All-nil}
-use Rattle.sig_base.specs.declared.ids.EqId.{EqId}
-use Rattle.sig_base.specs.declared.ids.SigId.{SigId}
-use Rattle.sig_base.specs.declared.signal.Signal.{Signal}
-use Rattle.sig_clock.specs.ClockFunctions.{Allows, IsClockFunction, KeepsTo}
-use Rattle.sig_clock.specs.ClockRefusals.{HasClocks}
-use Rattle.sig_clock.specs.Clocks.{AreInOrder}
-use Rattle.sig_clock.specs.Conditions.{signal_id}
-use Rattle.sig_clock.specs.Layers.{IsSignal}
-use Rattle.sig_clock.specs.Reactions.{Reaction, Speaks, is_present, status_at}
-use Rattle.sig_clock.proofs.Lists.{get_within}
-use Rattle.sig_clock.proofs.ProposalLemmas.{one_presence, some_reaction}
-use Rattle.sig_dd.specs.Diagram.{truth_of}
-use Rattle.sig_kernel.specs.declared.equation.Form.{Form}
-use Rattle.sig_kernel.specs.declared.equation.Form.TheVariants.{Fun, Delay, When, WhenConst, Default, Sync, Event}
-use Rattle.sig_kernel.specs.declared.kernel.Kernel.{Kernel}
-use Rattle.sig_plan.specs.Operations.{Guard, Operation, Presence, operations_of, read_of, signals_of, store_of, stores_of, without, writes_of, writing}
-use Rattle.sig_plan.specs.Order.{Writes}
-use Rattle.sig_plan.specs.declared.op.OpKind.{OpKind}
-use Rattle.sig_plan.specs.declared.op.OpKind.TheVariants.{Compute, DelayRead, Left, Right, Store}
-use Rattle.sig_plan.proofs.EachOperation.{each_operation, only}
+use Rattle.sig_deciding.proofs.Common.{◌≡◌, ◌<◌, ◌≤◌, ◌⊎◌, inl, inr, ℕ, Bool, false, not, List, [], ◌∷◌, length, refl, sym, ◌∙◌, subst, arith, ◌&&◌, All, cases_lt, All-cons, All-nil, EqId, SigId, Signal, Allows, IsClockFunction, KeepsTo, HasClocks, AreInOrder, signal_id, IsSignal, Reaction, Speaks, is_present, status_at, get_within, one_presence, some_reaction, truth_of, Form, Fun, Delay, When, WhenConst, Default, Sync, Event, Kernel, Guard, Operation, Presence, operations_of, read_of, signals_of, store_of, stores_of, without, writes_of, writing, Writes, OpKind, Compute, DelayRead, Left, Right, Store, each_operation, only}
 use Rattle.sig_deciding.proofs.Reacting.{absent_beyond, reaction_count}
 
 abbrev pub AgreeBelow : ℕ → List Bool → List Bool → Type 0

@@ -1,7 +1,8 @@
+pub mod Common
 mod Deciding
-mod Searching
+pub mod Searching
 mod Sorting
-mod Tables
+pub mod Tables
 mod Counting
 mod Closing
 mod Reacting
@@ -15,9 +16,13 @@ mod Parting
 mod Accepting
 mod Taking
 mod Numbering
-mod Coding
+pub mod Coding
 mod Planning
 mod Building
 mod Classing
-mod Defining
 mod Fitting
+pub mod KernelRuns
+unfoldable pub use Common.*
+pub use Accepting.*
+pub use KernelRuns.*
+pub use Planning.*

@@ -1,9 +1,5 @@
 -- The different elements of a list, in the order in which they are met first, and the number of each.
-use Rattle.std.proofs.Common.{◌≡◌, ◌<◌, ◌⊎◌, inl, inr, ℕ, zero, suc, List, [], ◌∷◌, ◌++◌, length, refl, sym, ap, ◌∙◌, subst, arith, append-nil, append_assoc}
-use Rattle.std.specs.Prelude.{Some, slice_get}
-use Rattle.std.proofs.lemmas.Bool.{cases_eq}
-use Rattle.std.proofs.lemmas.List.{length_push}
-use Rattle.sig_clock.proofs.Lists.{at_contained, contains_at, get_within}
+use Rattle.sig_deciding.proofs.Common.{◌≡◌, ◌<◌, ◌⊎◌, inl, inr, ℕ, zero, suc, List, [], ◌∷◌, ◌++◌, length, refl, sym, ap, ◌∙◌, subst, arith, append-nil, append_assoc, Some, slice_get, cases_eq, length_push, at_contained, contains_at, get_within}
 use Rattle.sig_deciding.proofs.Deciding.{dec_contains}
 
 -- ---- elements of longer lists

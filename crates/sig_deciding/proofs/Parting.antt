@@ -1,19 +1,5 @@
 -- Each list of sound operations has parts: the imports of each actor, and the links.
-use Rattle.std.proofs.Common.{◌≡◌, ◌≢◌, ◌<◌, ◌≤◌, ◌+◌, ◌⊎◌, inl, inr, ℕ, zero, suc, List, [], ◌∷◌, ◌++◌, length, map, refl, sym, ap, ◌∙◌, subst, arith, Contains}
-use Rattle.std.specs.Prelude.{All, None, Option, Some, slice_index_or}
-use Rattle.std.specs.List.{range_with_len}
-use Rattle.std.proofs.lemmas.Bool.{cases_eq, cases_order}
-use Rattle.std.proofs.lemmas.List.Elements.{All-contains, Contains-append_left, Contains-append_right}
-use Rattle.sig_base.specs.declared.ids.SigId.{SigId}
-use Rattle.sig_base.specs.declared.signal.Signal.{Signal}
-use Rattle.sig_clock.specs.Conditions.{signal_id}
-use Rattle.sig_clock.proofs.Lists.{at_contained, contains_at, contains_cons, contains_none}
-use Rattle.sig_kernel.specs.declared.kernel.Kernel.{Kernel}
-use Rattle.sig_plan.specs.Operations.{Operation, cluster_at, cluster_of}
-use Rattle.sig_plan.specs.Order.{Needs, Writes}
-use Rattle.sig_plan.specs.Parts.{AreImports, AreParts, AreSignalLinks, Carries, Imports, used, output, guarded, IsEarlierLink, IsNeededFor, IsOperation, IsOutput, IsUsed, IsWrittenElsewhere, PartsView, cluster_count, report_link}
-use Rattle.sig_plan.specs.declared.parts.LinkInfo.{LinkInfo}
-use Rattle.sig_plan.proofs.Lists.{contains_either, contains_mapped, mapped_from, signal_same}
+use Rattle.sig_deciding.proofs.Common.{◌≡◌, ◌≢◌, ◌<◌, ◌≤◌, ◌+◌, ◌⊎◌, inl, inr, ℕ, zero, suc, List, [], ◌∷◌, ◌++◌, length, map, refl, sym, ap, ◌∙◌, subst, arith, Contains, All, None, Option, Some, slice_index_or, range_with_len, cases_eq, cases_order, All-contains, Contains-append_left, Contains-append_right, SigId, Signal, signal_id, at_contained, contains_at, contains_cons, contains_none, Kernel, Operation, cluster_at, cluster_of, Needs, Writes, AreImports, AreParts, AreSignalLinks, Carries, Imports, used, output, guarded, IsEarlierLink, IsNeededFor, IsOperation, IsOutput, IsUsed, IsWrittenElsewhere, PartsView, cluster_count, report_link, LinkInfo, contains_either, contains_mapped, mapped_from, signal_same}
 use Rattle.sig_deciding.proofs.Closing.{dec_least}
 use Rattle.sig_deciding.proofs.Deciding.{dec_as, dec_both, dec_contains, dec_either, dec_less, dec_most, dec_not, dec_number, dec_option, dec_signal}
 use Rattle.sig_deciding.proofs.Guarding.{IsSound}

@@ -1,17 +1,5 @@
 -- Where each signal is solved, the conditions have an order, and each is free or pinned.
-use Rattle.std.proofs.Common.{◌≡◌, ◌<◌, ◌⊎◌, inl, inr, ℕ, Bool, true, not, List, length, sym, ap, ◌∙◌, subst, arith, Contains}
-use Rattle.std.specs.Prelude.{Some, slice_get}
-use Rattle.std.proofs.lemmas.Bool.{cases_order}
-use Rattle.sig_base.specs.declared.ids.SigId.{SigId}
-use Rattle.sig_clock.specs.ClockRefusals.{AreSolved, HasClocks, HasRoot, IsAlive, IsFirstPinned}
-use Rattle.sig_clock.specs.Clocks.{AreInOrder}
-use Rattle.sig_clock.specs.Conditions.{is_condition, signal_id}
-use Rattle.sig_clock.specs.Layers.{AgreeOn, IsEarlier, IsSolved}
-use Rattle.sig_clock.specs.Pinned.{IsFree, IsPinned}
-use Rattle.sig_clock.specs.Reactions.{IsReaction, Reaction, status_at}
-use Rattle.sig_clock.proofs.LayerLemmas.{one_layer}
-use Rattle.sig_clock.proofs.Lists.{at_contained, get_within}
-use Rattle.sig_kernel.specs.declared.kernel.Kernel.{Kernel}
+use Rattle.sig_deciding.proofs.Common.{◌≡◌, ◌<◌, ◌⊎◌, inl, inr, ℕ, Bool, true, not, List, length, sym, ap, ◌∙◌, subst, arith, Contains, Some, slice_get, cases_order, SigId, AreSolved, HasClocks, HasRoot, IsAlive, IsFirstPinned, AreInOrder, is_condition, signal_id, AgreeOn, IsEarlier, IsSolved, IsFree, IsPinned, IsReaction, Reaction, status_at, one_layer, at_contained, get_within, Kernel}
 use Rattle.sig_deciding.proofs.Deciding.{dec_as, dec_both, dec_either, dec_less, dec_not, dec_number, dec_option, dec_some, dec_truth}
 use Rattle.sig_deciding.proofs.Reacting.{condition_is_signal, dec_agree, searched_reactions}
 use Rattle.sig_deciding.proofs.Searching.{first_below}

@@ -1,25 +1,5 @@
 -- An accepted kernel has a plan over each store that holds the guards of its operations.
-use Rattle.std.proofs.Common.{◌≡◌, ℕ, List, [], ◌∷◌, length, map, refl, sym, ap, subst}
-use Rattle.std.specs.Prelude.{All, Some, slice_get}
-use Rattle.std.proofs.lemmas.List.Elements.{All-contains}
-use Rattle.sig_base.specs.declared.ids.SigId.{SigId}
-use Rattle.sig_clock.specs.Clocks.{AreClocks, ClocksView}
-use Rattle.sig_clock.proofs.Lists.{contains_at}
-use Rattle.sig_dd.specs.Nodes.{Holds, IsRefOf, IsStore, StoreView}
-use Rattle.sig_dd.specs.declared.node.Node.{Node}
-use Rattle.sig_dd.specs.declared.node.Ref.{Ref}
-use Rattle.sig_kernel.specs.Validity.{IsValid}
-use Rattle.sig_kernel.specs.declared.kernel.Kernel.{Kernel}
-use Rattle.sig_plan.specs.Acceptance.{HasOperations, IsAcceptedKernel}
-use Rattle.sig_plan.specs.Codes.{op_id}
-use Rattle.sig_plan.specs.Operations.{AreOperations, Operation, operation_in, operations_in, operations_of}
-use Rattle.sig_plan.specs.Order.{HasNoCycle, IsCompiledOrder, Precedes}
-use Rattle.sig_plan.specs.Parts.{AreParts}
-use Rattle.sig_plan.specs.Plans.{IsAccepted, PlanView, numbers_of}
-use Rattle.sig_plan.specs.declared.op.Op.{Op}
-use Rattle.sig_plan.proofs.Accepted.{operations_made_are}
-use Rattle.sig_plan.proofs.Lists.{map_get}
-use Rattle.sig_plan.proofs.OperationsOnce.{operations_once}
+use Rattle.sig_deciding.proofs.Common.{◌≡◌, ℕ, List, [], ◌∷◌, length, map, refl, sym, ap, subst, All, Some, slice_get, All-contains, SigId, AreClocks, ClocksView, contains_at, Holds, IsRefOf, IsStore, StoreView, Node, Ref, IsValid, Kernel, HasOperations, IsAcceptedKernel, op_id, AreOperations, Operation, operation_in, operations_in, operations_of, HasNoCycle, IsCompiledOrder, Precedes, AreParts, IsAccepted, PlanView, numbers_of, Op, operations_made_are, map_get, operations_once}
 use Rattle.sig_deciding.proofs.Accepting.{has_operations}
 use Rattle.sig_deciding.proofs.Coding.{codes_exist}
 use Rattle.sig_deciding.proofs.Cycling.{dec_precedes, dec_reaches, precedes_within}

@@ -1,15 +1,5 @@
 -- Which operations come before which is decided.
-use Rattle.std.proofs.Common.{◌≡◌, ◌≢◌, inl, inr, ℕ, zero, suc, Bool, true, false, List, [], ◌∷◌, length, refl, sym, ap, ◌∙◌, subst, arith, Contains}
-use Rattle.std.specs.Prelude.{Some, slice_get}
-use Rattle.std.proofs.lemmas.Bool.{cases_eq}
-use Rattle.sig_base.specs.declared.ids.EqId.{EqId}
-use Rattle.sig_base.specs.declared.ids.SigId.{SigId}
-use Rattle.sig_clock.proofs.Lists.{get_within}
-use Rattle.sig_dd.specs.Diagram.{Depends, truth_of, with_truth}
-use Rattle.sig_plan.specs.Operations.{Guard, Operation}
-use Rattle.sig_plan.specs.Order.{ComesBefore, Decides, DoneTogether, Feeds, Keeps, Needs}
-use Rattle.sig_plan.specs.declared.op.OpKind.{OpKind}
-use Rattle.sig_plan.specs.declared.op.OpKind.TheVariants.{Compute, DelayRead, Left, Read, Right, Store}
+use Rattle.sig_deciding.proofs.Common.{◌≡◌, ◌≢◌, inl, inr, ℕ, zero, suc, Bool, true, false, List, [], ◌∷◌, length, refl, sym, ap, ◌∙◌, subst, arith, Contains, Some, slice_get, cases_eq, EqId, SigId, get_within, Depends, truth_of, with_truth, Guard, Operation, ComesBefore, Decides, DoneTogether, Feeds, Keeps, Needs, OpKind, Compute, DelayRead, Left, Read, Right, Store}
 use Rattle.sig_deciding.proofs.Deciding.{dec_as, dec_both, dec_contains, dec_either, dec_equation, dec_not, dec_option, dec_signal, dec_some, dec_truth}
 use Rattle.sig_deciding.proofs.Guarding.{AgreeBelow, IsSound, Sees}
 use Rattle.sig_deciding.proofs.Searching.{all_truths, searched_below, searched_lists}

@@ -1,17 +1,5 @@
 -- Reactions can be searched, and what is said of all of them is decided.
-use Rattle.std.proofs.Common.{◌≡◌, ◌<◌, ◌≤◌, ℕ, zero, suc, Bool, true, false, List, [], ◌∷◌, length, refl, sym, arith}
-use Rattle.std.specs.Prelude.{None, Some}
-use Rattle.std.specs.List.{list_all}
-use Rattle.std.proofs.lemmas.Bool.{and_parts, false≢true}
-use Rattle.std.proofs.lemmas.List.Sums.{AllPass-from_list_all, list_all-from_AllPass}
-use Rattle.sig_base.specs.declared.signal.Signal.{Signal}
-use Rattle.sig_clock.specs.Conditions.{is_condition, is_free, signal_id}
-use Rattle.sig_clock.specs.Layers.{AgreeOn}
-use Rattle.sig_clock.specs.Reactions.{IsReaction, Reaction, Speaks, are_statuses, is_boolean_kind, is_present, is_silent, is_status_of, meets, status_at}
-use Rattle.sig_kernel.specs.Table.{kind_at, kind_of}
-use Rattle.sig_kernel.specs.declared.equation.Equation.{Equation}
-use Rattle.sig_kernel.specs.declared.kernel.Kernel.{Kernel}
-use Rattle.std.specs.Prelude.{slice_get}
+use Rattle.sig_deciding.proofs.Common.{◌≡◌, ◌<◌, ◌≤◌, ℕ, zero, suc, Bool, true, false, List, [], ◌∷◌, length, refl, sym, arith, None, Some, list_all, and_parts, false≢true, AllPass-from_list_all, list_all-from_AllPass, Signal, is_condition, is_free, signal_id, AgreeOn, IsReaction, Reaction, Speaks, are_statuses, is_boolean_kind, is_present, is_silent, is_status_of, meets, status_at, kind_at, kind_of, Equation, Kernel, slice_get}
 use Rattle.sig_deciding.proofs.Deciding.{dec_as, dec_both, dec_implies, dec_option, dec_truth}
 use Rattle.sig_deciding.proofs.Searching.{Searched, all_options, all_truths, dec_each, searched_as, searched_below, searched_lists, searched_where}
 

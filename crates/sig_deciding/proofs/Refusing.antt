@@ -1,13 +1,5 @@
 -- A kernel has clocks, or it is refused for the first reason why it has none.
-use Rattle.std.proofs.Common.{◌≡◌, ◌<◌, ◌⊎◌, inl, inr, ℕ, true, false, length, arith}
-use Rattle.std.proofs.lemmas.Bool.{true_from_ne_false}
-use Rattle.sig_base.specs.declared.ids.SigId.{SigId}
-use Rattle.sig_clock.specs.ClockRefusals.{AreSolved, HasClocks, HasNoRoot, HasRoot, IsAlive, IsMissingRoot, IsOpen, IsPossible, IsPossibleWithout, IsUnsolved}
-use Rattle.sig_clock.specs.Conditions.{signal_id}
-use Rattle.sig_clock.specs.Layers.{IsDead, IsSignal, NeverEnters}
-use Rattle.sig_clock.specs.Reactions.{Reaction, Speaks, is_present, is_silent}
-use Rattle.sig_kernel.specs.declared.kernel.Kernel.{Kernel}
-use Rattle.sig_plan.specs.Acceptance.{Dead, IsRefusedFor, KernelFault, MissingRoot, Pinned, Unsolved}
+use Rattle.sig_deciding.proofs.Common.{◌≡◌, ◌<◌, ◌⊎◌, inl, inr, ℕ, true, false, length, arith, true_from_ne_false, SigId, AreSolved, HasClocks, HasNoRoot, HasRoot, IsAlive, IsMissingRoot, IsOpen, IsPossible, IsPossibleWithout, IsUnsolved, signal_id, IsDead, IsSignal, NeverEnters, Reaction, Speaks, is_present, is_silent, Kernel, Dead, IsRefusedFor, KernelFault, MissingRoot, Pinned, Unsolved}
 use Rattle.sig_deciding.proofs.Deciding.{dec_as, dec_both, dec_less, dec_then, dec_truth}
 use Rattle.sig_deciding.proofs.Pinning.{clocks_or_pinned, conditions_ordered}
 use Rattle.sig_deciding.proofs.Reacting.{present_within, reaction_count, searched_speaking, some_present}

@@ -1,11 +1,5 @@
 -- Whether a signal enters in some round is decided, since some round is still.
-use Rattle.std.proofs.Common.{◌≡◌, ◌<◌, ◌⊎◌, inl, inr, ℕ, zero, suc, true, length, arith}
-use Rattle.sig_clock.specs.ClockRefusals.{IsLeast}
-use Rattle.sig_clock.specs.Conditions.{is_condition}
-use Rattle.sig_clock.specs.Layers.{AgreeOn, EntersBy, HasLayer, IsDetermined, IsSolved, NeverEnters}
-use Rattle.sig_clock.specs.Reactions.{Reaction, Speaks, is_present}
-use Rattle.sig_clock.proofs.LayerLemmas.{enters_stays}
-use Rattle.sig_kernel.specs.declared.kernel.Kernel.{Kernel}
+use Rattle.sig_deciding.proofs.Common.{◌≡◌, ◌<◌, ◌⊎◌, inl, inr, ℕ, zero, suc, true, length, arith, IsLeast, is_condition, AgreeOn, EntersBy, HasLayer, IsDetermined, IsSolved, NeverEnters, Reaction, Speaks, is_present, enters_stays, Kernel}
 use Rattle.sig_deciding.proofs.Closing.{IsStill, still}
 use Rattle.sig_deciding.proofs.Deciding.{dec_as, dec_implies, dec_truth}
 use Rattle.sig_deciding.proofs.Reacting.{condition_is_signal, dec_agree, searched_speaking}

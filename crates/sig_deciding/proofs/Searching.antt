@@ -1,10 +1,5 @@
 -- What can be searched: whether something there meets what is decided of each is decided.
-use Rattle.std.proofs.Common.{◌≡◌, ◌<◌, ◌⊎◌, inl, inr, ℕ, zero, suc, Bool, true, false, List, [], ◌∷◌, length, refl, subst, arith, Contains}
-use Rattle.std.specs.Prelude.{Option, None, Some}
-use Rattle.std.proofs.lemmas.Bool.{cases_eq, cases_lt}
-use Rattle.sig_clock.specs.ClockRefusals.{IsLeast}
-use Rattle.sig_clock.proofs.Lists.{contains_cons, contains_head, contains_later, contains_none}
-use Rattle.sig_plan.specs.Codes.{IsLastBelow}
+use Rattle.sig_deciding.proofs.Common.{◌≡◌, ◌<◌, ◌⊎◌, inl, inr, ℕ, zero, suc, Bool, true, false, List, [], ◌∷◌, length, refl, subst, arith, Contains, Option, None, Some, cases_eq, cases_lt, IsLeast, contains_cons, contains_head, contains_later, contains_none, IsLastBelow}
 use Rattle.sig_deciding.proofs.Deciding.{dec_as, dec_not, dec_then}
 
 abbrev pub Searched : {X : Type 0} → (X → Type 0) → Type 1

@@ -1,10 +1,5 @@
 -- Lists in an order: what is decided of the elements of a list is true of those of a list that is in order.
-use Rattle.std.proofs.Common.{◌≡◌, ◌<◌, ◌⊎◌, inl, inr, ◌↔◌, ℕ, zero, suc, List, [], ◌∷◌, refl, sym, subst, arith, Contains}
-use Rattle.std.proofs.lemmas.Bool.{cases_eq}
-use Rattle.sig_base.specs.declared.ids.SigId.{SigId}
-use Rattle.sig_clock.specs.Conditions.{signal_id}
-use Rattle.sig_clock.proofs.Lists.{at_contained, contains_at, contains_cons, contains_head, contains_later, contains_none}
-use Rattle.sig_clock.proofs.Ordered.{IsOrdered}
+use Rattle.sig_deciding.proofs.Common.{◌≡◌, ◌<◌, ◌⊎◌, inl, inr, ◌↔◌, ℕ, zero, suc, List, [], ◌∷◌, refl, sym, subst, arith, Contains, cases_eq, SigId, signal_id, at_contained, contains_at, contains_cons, contains_head, contains_later, contains_none, IsOrdered}
 
 module _ {X : Type 0} (D : X → Type 0) (decide : (x : X) → Dec (D x)) where
   -- the elements of a list of which a statement holds

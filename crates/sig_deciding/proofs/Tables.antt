@@ -1,6 +1,5 @@
 -- Lists that a function of places gives.
-use Rattle.std.proofs.Common.{◌≡◌, ◌<◌, ℕ, zero, suc, List, [], ◌∷◌, length, refl, arith}
-use Rattle.std.specs.Prelude.{Some, slice_get, slice_index_or}
+use Rattle.sig_deciding.proofs.Common.{◌≡◌, ◌<◌, ℕ, zero, suc, List, [], ◌∷◌, length, refl, arith, Some, slice_get, slice_index_or}
 
 abbrev pub table : {X : Type 0} → (ℕ → X) → ℕ → List X
 table f zero = []

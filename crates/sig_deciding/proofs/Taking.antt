@@ -1,11 +1,6 @@
 -- Numbers that no relation leads back to themselves have an order.
-use Rattle.std.proofs.Common.{◌≡◌, ◌<◌, ◌≤◌, inl, inr, ℕ, zero, suc, List, [], ◌∷◌, ◌++◌, length, get_or, take, refl, sym, ap, ◌∙◌, subst, arith, Contains}
-use Rattle.std.specs.Prelude.{slice_index}
-use Rattle.std.proofs.lemmas.Bool.{cases_eq}
-use Rattle.std.proofs.lemmas.List.{get_or_append_left, get_or_default, get_or_push, length_push, take-append-le, take_at}
-use Rattle.sig_clock.specs.ClockRefusals.{IsLeast}
-use Rattle.sig_plan.specs.Order.{IsOrdered, IsReady, Reaches, directly, onward}
-use Rattle.sig_plan.proofs.Pigeons.{AreTwo, two_are_same}
+use Rattle.sig_deciding.proofs.Common.{◌≡◌, ◌<◌, ◌≤◌, inl, inr, ℕ, zero, suc, List, [], ◌∷◌, ◌++◌, length, get_or, take, refl, sym, ap, ◌∙◌, subst, arith, Contains, slice_index, cases_eq, get_or_append_left, get_or_default, get_or_push, length_push, take-append-le, take_at, IsLeast, IsReady, Reaches, directly, onward, AreTwo, two_are_same}
+use Rattle.sig_plan.specs.Order.{IsOrdered}
 use Rattle.sig_deciding.proofs.Counting.{counted, counted_less}
 use Rattle.sig_deciding.proofs.Deciding.{dec_as, dec_both, dec_contains, dec_implies, dec_less, dec_not, dec_number}
 use Rattle.sig_deciding.proofs.Searching.{dec_each, searched_below, some_least}

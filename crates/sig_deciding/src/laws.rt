@@ -1,15 +1,8 @@
 //! Laws of acceptance. The function of a law does nothing when it runs.
 
-ghost use Rattle.std.specs.Prelude.{◌≡◌, ◌≤◌, ◌⊎◌, List, length};
-ghost use Rattle.sig_base.specs.declared.ids.SigId.{SigId};
-ghost use Rattle.sig_clock.specs.Clocks.{AreClocks, AreInOrder, ClocksView};
-ghost use Rattle.sig_dd.specs.Nodes.{IsStore, StoreView};
-ghost use Rattle.sig_kernel.specs.Validity.{IsValid};
-ghost use Rattle.sig_kernel.specs.declared.kernel.Kernel.{Kernel};
-ghost use Rattle.sig_plan.specs.Acceptance.{IsAcceptedKernel, IsRefusedFor, KernelFault};
-ghost use Rattle.sig_plan.specs.Operations.{AreOperations};
-ghost use Rattle.sig_plan.specs.Plans.{IsAccepted, PlanView};
-ghost use Rattle.sig_plan.specs.declared.op.Op.{Op};
+ghost use Rattle.std.specs.Prelude.{◌≡◌, ◌⊎◌};
+ghost use Rattle.sig_deciding.specs.Prelude.{List, AreClocks, ClocksView, IsStore, StoreView, IsValid, Kernel, IsAcceptedKernel, IsRefusedFor, KernelFault, AreOperations, IsAccepted, PlanView, Op};
+ghost use Rattle.sig_deciding.specs.KernelRuns.{IsPlanOf};
 
 /// A law: each kernel, valid or not, is accepted, or it is refused for one of the reasons, with the
 /// signals that are named.
@@ -28,18 +21,8 @@ pub fn accepted_kernels_have_plans_where_guards_are_held()
         × (plan.clocks ≡ clocks) × (plan.ops ≡ ops) }
 {}
 
-/// A law: an accepted kernel has a plan, or no store holds the guards of its clocks and of its operations,
-/// since these need more than 2^32 - 2 nodes, the most that a store has.
-pub fn accepted_kernels_have_plans_or_no_store_holds_their_guards()
+/// A law: an accepted kernel has a plan. Its guards are held by some list of nodes, however long.
+pub fn accepted_kernels_have_plans()
     ensures { (kernel : Kernel) → IsValid kernel → IsAcceptedKernel kernel
-        → ((plan : PlanView) × IsAccepted plan × (plan.kernel ≡ kernel))
-        ⊎ ((store : StoreView) (clocks : ClocksView) (ops : List Op) → IsStore store
-        → AreClocks kernel store.nodes clocks → AreOperations kernel store.nodes clocks ops → ⊥) }
-{}
-
-/// A law: an accepted kernel with at most 20 conditions has a plan.
-pub fn accepted_kernels_of_few_conditions_have_plans()
-    ensures { (kernel : Kernel) → IsValid kernel → IsAcceptedKernel kernel
-        → (conditions : List SigId) → AreInOrder kernel conditions → length conditions ≤ 20
-        → (plan : PlanView) × IsAccepted plan × (plan.kernel ≡ kernel) }
+        → (plan : PlanView) × IsPlanOf kernel plan }
 {}

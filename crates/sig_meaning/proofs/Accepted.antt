@@ -1,16 +1,6 @@
 -- Accepted plans are compiled.
-use Rattle.std.proofs.Common.{◌≡◌, ℕ, List, [], ◌∷◌, refl, sym, subst, ◌∙◌, get_or}
-use Rattle.std.specs.Prelude.{Some, slice_get, zero, suc}
-use Rattle.sig_clock.proofs.Lists.{get_at, get_within}
-use Rattle.sig_dd.specs.Diagram.{Depends}
-use Rattle.sig_dd.specs.Nodes.{Holds, test}
-use Rattle.sig_dd.specs.declared.node.Node.{Node}
-use Rattle.sig_dd.proofs.Walks.{depends_agree}
+use Rattle.sig_meaning.proofs.Common.{◌≡◌, ℕ, List, [], ◌∷◌, refl, sym, subst, ◌∙◌, get_or, Some, slice_get, zero, suc, get_at, get_within, Depends, Holds, test, Node, depends_agree, plan_operations, Operation, operation_in, operations_in, IsAccepted, PlanView, numbers_of, Op}
 use Rattle.sig_meaning.proofs.Agreement.{Compiled}
-use Rattle.sig_plan.proofs.Accepted.{plan_operations}
-use Rattle.sig_plan.specs.Operations.{Operation, operation_in, operations_in}
-use Rattle.sig_plan.specs.Plans.{IsAccepted, PlanView, numbers_of}
-use Rattle.sig_plan.specs.declared.op.Op.{Op}
 
 made_of : (nodes : List Node) (ops : List Op) (number : ℕ) (p : Operation) → slice_get (operations_in nodes ops) number ≡ Some p
     → (op : Op) × (slice_get ops number ≡ Some op) × (p ≡ operation_in nodes op)

@@ -1,38 +1,8 @@
 -- Two instants of an accepted kernel with the same memories and next values agree, place by place of the compiled order.
-use Rattle.std.proofs.Common.{◌≡◌, ◌<◌, ◌≤◌, ◌⊎◌, inl, inr, ℕ, zero, suc, ℤ, Bool, true, false, List, [], ◌∷◌, length, map, refl, ap, sym, subst, ◌∙◌, arith, Contains}
-use Rattle.std.specs.Prelude.{Option, None, Some, is_some, slice_get, slice_index}
-use Rattle.std.proofs.lemmas.Bool.{and_parts}
-use Rattle.std.proofs.lemmas.List.{get_or_default, length-map}
-use Rattle.std.proofs.lemmas.List.Elements.{All-contains}
-use Rattle.sig_base.specs.Traces.{AreOfKinds, Instant, Range, Seen, Unbounded, seen_at}
-use Rattle.sig_base.specs.declared.ids.Kind.{Kind}
-use Rattle.sig_base.specs.declared.ids.Kind.TheVariants.{Integer, Boolean, Event}
-use Rattle.sig_base.specs.declared.ids.SigId.{SigId}
-use Rattle.sig_base.specs.declared.signal.Signal.{Signal}
-use Rattle.sig_clock.specs.Abstractions.{abstraction_of, status_of}
-use Rattle.sig_clock.specs.ClockFunctions.{Allows, KeepsTo}
-use Rattle.sig_clock.specs.Clocks.{AreInOrder}
-use Rattle.sig_clock.specs.Conditions.{is_condition, is_free, signal_id}
-use Rattle.sig_clock.specs.Reactions.{Reaction, Speaks, is_boolean_kind, is_present, status_at}
-use Rattle.sig_clock.proofs.AbstractLemmas.{abstract_presence, abstract_speaks, abstract_status}
-use Rattle.sig_clock.proofs.Lists.{contains_at, get_within}
-use Rattle.sig_dd.specs.Diagram.{Depends, truth_of}
-use Rattle.sig_kernel.specs.KernelTraces.{IsReaction, Memory}
-use Rattle.sig_kernel.specs.Table.{kind_at, kind_of}
-use Rattle.sig_kernel.specs.Validity.{IsValid}
-use Rattle.sig_kernel.specs.declared.kernel.Kernel.{Kernel}
-use Rattle.sig_meaning.specs.Reactions.{IsNext}
+use Rattle.sig_meaning.proofs.Common.{◌≡◌, ◌<◌, ◌≤◌, ◌⊎◌, inl, inr, ℕ, zero, suc, ℤ, Bool, true, false, List, [], ◌∷◌, length, map, refl, ap, sym, subst, ◌∙◌, arith, Contains, Option, None, Some, is_some, slice_get, slice_index, and_parts, get_or_default, length-map, All-contains, AreOfKinds, Instant, Range, Seen, Unbounded, seen_at, Kind, Integer, Boolean, SigId, Signal, abstraction_of, status_of, Allows, KeepsTo, AreInOrder, is_condition, is_free, signal_id, Reaction, Speaks, is_boolean_kind, is_present, status_at, abstract_presence, abstract_speaks, abstract_status, contains_at, get_within, Depends, truth_of, IsReaction, Memory, kind_at, kind_of, IsValid, Kernel, IsNext, Registers, is_true, truths_of, HasOperations, Operation, operations_of, IsCompiledOrder, Needs, Precedes, Writes, OpKind, Read, Compute, Left, Right, DelayRead, Store, present_written, guards_alone, needed_earlier, read_earlier, stands_somewhere}
+use Rattle.sig_base.specs.declared.ids.Kind.TheVariants.{Event}
 use Rattle.sig_meaning.proofs.Numbers.{same_or_not}
 use Rattle.sig_meaning.proofs.Values.{all_depend, all_seen, form_for, none_where, value, value_by}
-use Rattle.sig_model.specs.Actors.{Registers, is_true, truths_of}
-use Rattle.sig_plan.specs.Acceptance.{HasOperations}
-use Rattle.sig_plan.specs.Operations.{Operation, operations_of}
-use Rattle.sig_plan.specs.Order.{IsCompiledOrder, Needs, Precedes, Writes}
-use Rattle.sig_plan.specs.declared.op.OpKind.{OpKind}
-use Rattle.sig_plan.specs.declared.op.OpKind.TheVariants.{Read, Compute, Left, Right, DelayRead, Store}
-use Rattle.sig_plan.proofs.Done.{present_written}
-use Rattle.sig_plan.proofs.Earlier.{guards_alone, needed_earlier, read_earlier}
-use Rattle.sig_plan.proofs.Orders.{stands_somewhere}
 
 -- truths that agree on the variables on which a guard depends give it one value
 abbrev pub GuardsAgree : List Operation → Type 0

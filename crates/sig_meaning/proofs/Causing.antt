@@ -1,30 +1,5 @@
 -- The reference goes on within bounds, or has a first fault, which is the named cause.
-use Rattle.std.proofs.Common.{◌≡◌, ◌<◌, ◌≤◌, ◌+◌, ◌++◌, ◌⊎◌, inl, inr, ℕ, zero, suc, ℤ, Bool, true, false, List, [], ◌∷◌, length, map, get_or, refl, ap, sym, subst, ◌∙◌, arith, Contains}
-use Rattle.std.specs.Prelude.{None, Some, is_some, slice_get, slice_index, option_to_list}
-use Rattle.std.specs.List.{AllByRecursion, range_with_len}
-use Rattle.std.proofs.lemmas.List.{append-nil, length-append, length-map}
-use Rattle.std.proofs.lemmas.List.FromFn.{get_or-map-range_with_len, length-map-range_with_len}
-use Rattle.std.proofs.lemmas.List.Elements.{Contains-append_left, Contains-append_right}
-use Rattle.sig_base.specs.Traces.{AreOfKinds, Bounded, Instant, IsValue, Range, Seen, Trace, Unbounded, flow_of, has_64_bits, seen_at}
-use Rattle.sig_base.specs.declared.ids.Kind.{Kind}
-use Rattle.sig_base.specs.declared.ids.SigId.{SigId}
-use Rattle.sig_base.specs.declared.signal.Signal.{Signal}
-use Rattle.sig_base.proofs.TraceLemmas.{prefix_length}
-use Rattle.sig_clock.specs.Abstractions.{abstraction_of}
-use Rattle.sig_clock.specs.Conditions.{signal_id}
-use Rattle.sig_clock.proofs.Lists.{at_contained, contains_at, contains_head, get_at}
-use Rattle.sig_kernel.specs.KernelTraces.{Memory, function_of, remembered}
-use Rattle.sig_kernel.specs.Validity.{inputs_of}
-use Rattle.sig_kernel.specs.declared.equation.Equation.{Equation}
-use Rattle.sig_kernel.specs.declared.equation.Form.TheVariants.{Fun}
-use Rattle.sig_kernel.specs.declared.equation.Form.{Form}
-use Rattle.sig_kernel.specs.declared.equation.FunOp.{FunOp}
-use Rattle.sig_kernel.specs.declared.equation.Operand.{Operand}
-use Rattle.sig_kernel.specs.declared.kernel.Kernel.{Kernel}
-use Rattle.sig_kernel.proofs.ValueLemmas.{flow_values}
-use Rattle.sig_meaning.specs.Ends.{IsWithinBounds}
-use Rattle.sig_meaning.specs.Faults.{IsFaultAt, IsFirstFault}
-use Rattle.sig_meaning.specs.Reactions.{IsNext}
+use Rattle.sig_meaning.proofs.Common.{◌≡◌, ◌<◌, ◌≤◌, ◌+◌, ◌++◌, ◌⊎◌, inl, inr, ℕ, zero, suc, ℤ, Bool, true, false, List, [], ◌∷◌, length, map, get_or, refl, ap, sym, subst, ◌∙◌, arith, Contains, None, Some, is_some, slice_get, slice_index, option_to_list, AllByRecursion, range_with_len, append-nil, length-append, length-map, get_or-map-range_with_len, length-map-range_with_len, Contains-append_left, Contains-append_right, AreOfKinds, Bounded, Instant, IsValue, Range, Seen, Trace, Unbounded, flow_of, has_64_bits, seen_at, Kind, SigId, Signal, prefix_length, abstraction_of, signal_id, at_contained, contains_at, contains_head, get_at, Memory, function_of, remembered, inputs_of, Equation, Fun, Form, FunOp, Operand, Kernel, flow_values, IsWithinBounds, IsFaultAt, IsFirstFault, IsNext, truths_of, Computes, HasFault, IsPastEnd, MeetsFault, MeetsAt, IsReference, divides_by_zero, Operation, equation_id, of_each, operations_of, read_of, signals_of, stores_of, writes_of, writing, Writes, Cause, Exhausted, ZeroDivisor, Compute, read_earlier}
 use Rattle.sig_meaning.proofs.Agreement.{Compiled, own_keeps, own_present, own_speaks, own_written, some_at}
 use Rattle.sig_meaning.proofs.Doing.{place_of}
 use Rattle.sig_meaning.proofs.Numbers.{at_most_or}
@@ -34,16 +9,6 @@ use Rattle.sig_meaning.proofs.Flows.{flow_more, last_value, next_in}
 use Rattle.sig_meaning.proofs.Longest.{Decided, IsClean}
 use Rattle.sig_meaning.proofs.References.{Fitting, flow_count, got, reference_last, taken_at}
 use Rattle.sig_meaning.proofs.Small.{bounded_reaction, one_small, small_value}
-use Rattle.sig_model.specs.Actors.{truths_of}
-use Rattle.sig_model.specs.Causes.{Computes, HasFault, IsPastEnd, Meets as MeetsFault, MeetsAt}
-use Rattle.sig_model.specs.References.{IsReference}
-use Rattle.sig_model.specs.Results.{divides_by_zero}
-use Rattle.sig_plan.specs.Operations.{Operation, equation_id, of_each, operations_of, read_of, signals_of, stores_of, writes_of, writing}
-use Rattle.sig_plan.specs.Order.{Writes}
-use Rattle.sig_plan.specs.declared.ended.Cause.{Cause}
-use Rattle.sig_plan.specs.declared.ended.Cause.TheVariants.{Exhausted, ZeroDivisor}
-use Rattle.sig_plan.specs.declared.op.OpKind.TheVariants.{Compute}
-use Rattle.sig_plan.proofs.Earlier.{read_earlier}
 
 -- a place of the order at which an operation meets a fault
 pub meets_at : (operations : List Operation) (order : List ℕ) (k : ℕ) (q : Operation) (cause : Cause) → k < length order → slice_get operations (slice_index order k) ≡ Some q → MeetsFault q cause

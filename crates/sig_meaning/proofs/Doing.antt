@@ -1,25 +1,8 @@
 -- The operations of a compiled kernel, done in order.
-use Rattle.std.proofs.Common.{◌≡◌, ◌<◌, ◌≤◌, ◌⊎◌, inl, inr, ℕ, zero, suc, ℤ, Bool, true, false, cond, List, length, refl, ap, sym, ◌∙◌, arith, Contains}
-use Rattle.std.specs.Prelude.{Option, None, Some, is_some, slice_get, slice_index, ◌==◌}
-use Rattle.std.proofs.lemmas.Bool.{eqb-false, eqb-true}
-use Rattle.std.proofs.lemmas.List.{get_or_default}
-use Rattle.sig_base.specs.Traces.{Seen}
-use Rattle.sig_base.specs.declared.ids.SigId.{SigId}
-use Rattle.sig_clock.proofs.Lists.{get_within}
-use Rattle.sig_clock.proofs.ProposalLemmas.{some_reaction}
-use Rattle.sig_clock.specs.ClockFunctions.{KeepsTo}
-use Rattle.sig_clock.specs.Reactions.{Reaction, Speaks, is_present}
-use Rattle.sig_kernel.specs.KernelTraces.{Memory}
-use Rattle.sig_kernel.specs.declared.kernel.Kernel.{Kernel}
+use Rattle.sig_meaning.proofs.Common.{◌≡◌, ◌<◌, ◌≤◌, ◌⊎◌, inl, inr, ℕ, zero, suc, ℤ, Bool, true, false, cond, List, length, refl, ap, sym, ◌∙◌, arith, Contains, Option, None, Some, is_some, slice_get, slice_index, ◌==◌, eqb-false, eqb-true, get_or_default, Seen, SigId, get_within, some_reaction, KeepsTo, Reaction, Speaks, is_present, Memory, Kernel, Registers, is_true, no_registers, truths_of, with_at, with_signal, Operation, Needs, Precedes, Writes, present_written, written_by_one, written_present, guards_alone, needed_earlier, read_earlier, stands_once, stands_somewhere}
 use Rattle.sig_meaning.proofs.Agreement.{Compiled, some_at, truth_at, value_by_reads}
 use Rattle.sig_meaning.proofs.Numbers.{at_most_or}
 use Rattle.sig_meaning.proofs.Values.{value}
-use Rattle.sig_model.specs.Actors.{Registers, is_true, no_registers, truths_of, with_at, with_signal}
-use Rattle.sig_plan.specs.Operations.{Operation}
-use Rattle.sig_plan.specs.Order.{Needs, Precedes, Writes}
-use Rattle.sig_plan.proofs.Done.{present_written, written_by_one, written_present}
-use Rattle.sig_plan.proofs.Earlier.{guards_alone, needed_earlier, read_earlier}
-use Rattle.sig_plan.proofs.Orders.{stands_once, stands_somewhere}
 
 with_other : (y : SigId) (v : Seen) (f : Registers) (x : ℕ) → (y.0 ≡ x → ⊥) → with_at y.0 v f x ≡ f x
 with_other y v f x apart = by (x == y.0) refl where

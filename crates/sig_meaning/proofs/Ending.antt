@@ -1,22 +1,11 @@
 -- The end of a run of an accepted plan.
-use Rattle.std.proofs.Common.{◌≡◌, ◌<◌, ◌+◌, ◌++◌, ◌⊎◌, inl, inr, ℕ, suc, ℤ, List, [], ◌∷◌, length, refl, subst, arith}
-use Rattle.std.specs.Prelude.{None, Option, Some}
-use Rattle.sig_base.specs.Traces.{Instant, Trace}
-use Rattle.sig_base.specs.declared.place.Place.{Place}
-use Rattle.sig_kernel.specs.Validity.{AreFlowsFor}
-use Rattle.sig_meaning.specs.Ends.{StopsBefore}
+use Rattle.sig_meaning.proofs.Common.{◌≡◌, ◌<◌, ◌+◌, ◌++◌, ◌⊎◌, inl, inr, ℕ, suc, ℤ, List, [], ◌∷◌, length, refl, subst, arith, None, Option, Some, Instant, Trace, Place, AreFlowsFor, StopsBefore, IsEnd, place_at, IsReference, operations_in, IsAccepted, PlanView, numbers_of, Limit, Ended}
 use Rattle.sig_meaning.proofs.Accepted.{compiled}
 use Rattle.sig_meaning.proofs.Causing.{first_fault}
 use Rattle.sig_meaning.proofs.Longest.{IsClean, cut_longest, some_cut}
 use Rattle.sig_meaning.proofs.Naming.{first_cause}
 use Rattle.sig_meaning.proofs.Reacting.{one_reaction}
 use Rattle.sig_meaning.proofs.References.{Fitting}
-use Rattle.sig_model.specs.Causes.{IsEnd, place_at}
-use Rattle.sig_model.specs.References.{IsReference}
-use Rattle.sig_plan.specs.Operations.{operations_in}
-use Rattle.sig_plan.specs.Plans.{IsAccepted, PlanView, numbers_of}
-use Rattle.sig_plan.specs.declared.ended.Cause.TheVariants.{Limit}
-use Rattle.sig_plan.specs.declared.ended.Ended.{Ended}
 
 pub fitting : (plan : PlanView) → IsAccepted plan → (flows : List (List ℤ)) → AreFlowsFor plan.kernel flows → Fitting plan.kernel flows
 fitting plan accepted flows fit = record {

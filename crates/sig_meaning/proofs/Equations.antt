@@ -1,45 +1,10 @@
 -- Registers that hold what the operations write meet the equations of a kernel.
-use Rattle.std.proofs.Common.{◌≡◌, ◌<◌, ◌+◌, ℕ, zero, suc, ℤ, pos, Bool, true, false, not, cond, ◌&&◌, List, [], ◌∷◌, length, map, get_or, refl, ap, sym, subst, ◌∙◌, arith, Contains}
-use Rattle.std.specs.Prelude.{Option, None, Some, is_some, slice_get, unwrap_or}
-use Rattle.std.specs.List.{AllByRecursion, list_all, range_with_len}
-use Rattle.std.specs.Ordering.{int_eq}
-use Rattle.std.proofs.lemmas.Bool.{and_parts, false≢true}
-use Rattle.std.proofs.lemmas.List.{length-map}
-use Rattle.std.proofs.lemmas.List.Elements.{Contains-append_left, Contains-append_right}
-use Rattle.std.proofs.lemmas.List.FromFn.{get_or-map-range_with_len, length-map-range_with_len}
-use Rattle.sig_base.specs.Traces.{Instant, IsOfKind, Seen, Unbounded, is_silent, seen_at}
-use Rattle.sig_base.specs.declared.ids.EqId.{EqId}
-use Rattle.sig_base.specs.declared.ids.SigId.{SigId}
-use Rattle.sig_base.specs.declared.signal.Signal.{Signal}
-use Rattle.sig_base.proofs.TraceLemmas.{silent_at}
-use Rattle.sig_clock.specs.Abstractions.{truth_of_value}
-use Rattle.sig_clock.specs.Conditions.{signal_id}
-use Rattle.sig_clock.specs.Reactions.{IsReaction as IsAbstract, Reaction, Status, are_statuses, is_present, is_silent as is_silent_reaction, is_status_of, is_with, meets, or_else as status_or_else, function_truth, has_truth, same_truth, status_at, where_present as status_where_present, where_true as status_where_true, constant_truth}
-use Rattle.sig_clock.proofs.AbstractLemmas.{truth_is, where_rows}
-use Rattle.sig_clock.proofs.Lists.{contains_head, contains_later}
-use Rattle.sig_clock.proofs.ReactionLemmas.{truths_are_same}
-use Rattle.sig_kernel.specs.KernelTraces.{AreAbsent, HaveValues, IsFunction, IsReaction, Meets, Memory, function_of, or_else, where_present, where_true}
-use Rattle.sig_kernel.specs.Table.{defines_well, form_fits, kind_at, kind_fits, kind_is, kind_of, operand_is, target_fits}
-use Rattle.sig_kernel.specs.declared.table.Sort.TheVariants.{Truth}
-use Rattle.sig_kernel.specs.Validity.{IsValid, form_within, is_below, operand_within}
-use Rattle.sig_kernel.specs.declared.equation.Equation.{Equation}
-use Rattle.sig_kernel.specs.declared.equation.Form.{Form}
-use Rattle.sig_kernel.specs.declared.equation.Form.TheVariants.{Fun, Delay, When, WhenConst, Default, Sync, Event as EventOf}
-use Rattle.sig_kernel.specs.declared.equation.FunOp.{FunOp}
-use Rattle.sig_kernel.specs.declared.equation.Operand.{Operand}
-use Rattle.sig_kernel.specs.declared.equation.Operand.TheVariants.{Sig, Const}
-use Rattle.sig_kernel.specs.declared.kernel.Kernel.{Kernel}
-use Rattle.sig_meaning.specs.Reactions.{IsNext}
+use Rattle.sig_meaning.proofs.Common.{◌≡◌, ◌<◌, ◌+◌, ℕ, zero, suc, ℤ, pos, Bool, true, false, not, cond, ◌&&◌, List, [], ◌∷◌, length, map, get_or, refl, ap, sym, subst, ◌∙◌, arith, Contains, Option, None, Some, is_some, slice_get, unwrap_or, AllByRecursion, list_all, range_with_len, int_eq, and_parts, false≢true, length-map, Contains-append_left, Contains-append_right, get_or-map-range_with_len, length-map-range_with_len, Instant, IsOfKind, Seen, Unbounded, is_silent, seen_at, EqId, SigId, Signal, silent_at, truth_of_value, signal_id, IsAbstract, Reaction, Status, are_statuses, is_present, is_silent_reaction, is_status_of, is_with, meets, status_or_else, function_truth, has_truth, same_truth, status_at, where_present as status_where_present, where_true as status_where_true, constant_truth, truth_is, where_rows, contains_head, contains_later, truths_are_same, AreAbsent, HaveValues, IsFunction, IsReaction, Meets, Memory, function_of, or_else, defines_well, form_fits, kind_at, kind_fits, kind_is, kind_of, operand_is, target_fits, Truth, IsValid, form_within, is_below, operand_within, Equation, Form, Fun, Delay, When, WhenConst, Default, Sync, Event as EventOf, FunOp, Operand, Sig, Const, Kernel, IsNext, Registers, value_in, operand_in, Operation, Presence, equation_id, of_each, operations_of, read_of, signals_of, stores_of, without, writes_of, writing, Writes, Compute, DelayRead, Left, Right, first_below, operands_below, second_below, target_below}
+use Rattle.sig_kernel.specs.KernelTraces.{where_present, where_true}
 use Rattle.sig_meaning.proofs.Results.{given}
 use Rattle.sig_meaning.proofs.Steps.{AreKnown, instant_of, of_kinds, seen_of}
 use Rattle.sig_meaning.proofs.Truths.{no_status, operands_counted, sampled, statuses_equal}
 use Rattle.sig_meaning.proofs.Values.{computed, form_for, has_form, kept_in, none_where, value, where_some}
-use Rattle.sig_model.specs.Actors.{Registers, value_in}
-use Rattle.sig_model.specs.Operating.{operand_in}
-use Rattle.sig_plan.specs.Operations.{Operation, Presence, equation_id, of_each, operations_of, read_of, signals_of, stores_of, without, writes_of, writing}
-use Rattle.sig_plan.specs.Order.{Writes}
-use Rattle.sig_plan.specs.declared.op.OpKind.TheVariants.{Compute, DelayRead, Left, Right}
-use Rattle.sig_plan.proofs.EachOperation.{first_below, operands_below, second_below, target_below}
 
 -- what holds at each index
 pub from_index : (Q : Equation → Type 0) (equations : List Equation) → ((k : ℕ) (d : Equation) → k < length equations → Q (get_or equations k d)) → AllByRecursion Q equations

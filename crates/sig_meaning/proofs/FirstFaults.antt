@@ -1,32 +1,8 @@
 -- The first fault of the instant by which the reference goes on.
-use Rattle.std.proofs.Common.{◌≡◌, ◌<◌, ◌≤◌, ◌++◌, ◌⊎◌, inl, inr, ℤ, Bool, true, false, List, [], ◌∷◌, length, get_or, refl, ap, sym, subst, ◌∙◌, arith, Contains}
-use Rattle.std.specs.Prelude.{All, Option, None, Some, slice_get}
-use Rattle.std.proofs.lemmas.List.Elements.{All-cons, All-contains, All-nil}
-use Rattle.sig_base.specs.Traces.{Instant, Seen, Trace, Unbounded, flow_of, has_64_bits, seen_at}
-use Rattle.sig_base.specs.declared.ids.EqId.{EqId}
-use Rattle.sig_base.specs.declared.ids.SigId.{SigId}
-use Rattle.sig_clock.specs.Conditions.{signal_id}
-use Rattle.sig_clock.proofs.Lists.{contains_at}
-use Rattle.sig_kernel.specs.KernelTraces.{HaveValues, IsFunction, IsReaction, Meets, Memory, function_of}
-use Rattle.sig_kernel.specs.declared.equation.Equation.{Equation}
-use Rattle.sig_kernel.specs.declared.equation.Form.{Form}
-use Rattle.sig_kernel.specs.declared.equation.Form.TheVariants.{Fun, Delay, When, WhenConst, Default, Sync, Event}
-use Rattle.sig_kernel.specs.declared.equation.FunOp.{FunOp}
-use Rattle.sig_kernel.specs.declared.equation.Operand.{Operand}
-use Rattle.sig_kernel.specs.declared.kernel.Kernel.{Kernel}
-use Rattle.sig_kernel.proofs.DelayLemmas.{at_element}
+use Rattle.sig_meaning.proofs.Common.{◌≡◌, ◌<◌, ◌≤◌, ◌++◌, ◌⊎◌, inl, inr, ℤ, Bool, true, false, List, [], ◌∷◌, length, get_or, refl, ap, sym, subst, ◌∙◌, arith, Contains, All, Option, None, Some, slice_get, All-cons, All-contains, All-nil, Instant, Seen, Trace, Unbounded, flow_of, has_64_bits, seen_at, EqId, SigId, signal_id, contains_at, HaveValues, IsFunction, IsReaction, Meets, Memory, function_of, Equation, Form, Fun, Delay, When, WhenConst, Default, Sync, Event, FunOp, Operand, Kernel, at_element, Computes, HasFault, IsPastEnd, MeetsFault, divides_by_zero, Operation, Presence, operations_of, signals_of, stores_of, without, writes_of, writing, Writes, Cause, Exhausted, Overflow, ZeroDivisor, Limit, OpKind, Read, Compute, Left, Right, DelayRead, Store, each_operation, only}
 use Rattle.sig_meaning.proofs.Numbers.{at_most_or}
 use Rattle.sig_meaning.proofs.Longest.{Decided, same_values}
 use Rattle.sig_meaning.proofs.Values.{form_for, has_form}
-use Rattle.sig_model.specs.Causes.{Computes, HasFault, IsPastEnd, Meets as MeetsFault}
-use Rattle.sig_model.specs.Results.{divides_by_zero}
-use Rattle.sig_plan.specs.Operations.{Operation, Presence, operations_of, signals_of, stores_of, without, writes_of, writing}
-use Rattle.sig_plan.specs.Order.{Writes}
-use Rattle.sig_plan.specs.declared.ended.Cause.{Cause}
-use Rattle.sig_plan.specs.declared.ended.Cause.TheVariants.{Exhausted, Overflow, ZeroDivisor, Limit}
-use Rattle.sig_plan.specs.declared.op.OpKind.{OpKind}
-use Rattle.sig_plan.specs.declared.op.OpKind.TheVariants.{Read, Compute, Left, Right, DelayRead, Store}
-use Rattle.sig_plan.proofs.EachOperation.{each_operation, only}
 
 -- ---- operations by their kinds
 

@@ -1,14 +1,5 @@
 -- Lemmas on flows that are followed by one value for ever.
-use Rattle.std.proofs.Common.{◌≡◌, ◌≤◌, ◌<◌, ◌+◌, ◌++◌, ℕ, zero, suc, ℤ, pos, List, [], ◌∷◌, length, get_or, map, refl, ap, sym, subst, ◌∙◌, arith}
-use Rattle.std.specs.Prelude.{None, Some, Option, option_to_list, replicate, slice_get, ⊤}
-use Rattle.std.specs.List.{zip}
-use Rattle.std.proofs.lemmas.List.{append-nil, length-append}
-use Rattle.sig_base.specs.Traces.{Instant, Seen, Trace, Fits, IsPrefixOf, flow_of, seen_at}
-use Rattle.sig_base.specs.declared.signal.Signal.{Signal}
-use Rattle.sig_base.proofs.TraceLemmas.{flow_append}
-use Rattle.sig_kernel.specs.Validity.{inputs_of}
-use Rattle.sig_kernel.specs.declared.kernel.Kernel.{Kernel}
-use Rattle.sig_model.specs.References.{extended, extended_by, filler}
+use Rattle.sig_meaning.proofs.Common.{◌≡◌, ◌≤◌, ◌<◌, ◌+◌, ◌++◌, ℕ, zero, suc, ℤ, pos, List, [], ◌∷◌, length, get_or, map, refl, ap, sym, subst, ◌∙◌, arith, None, Some, Option, option_to_list, replicate, slice_get, ⊤, zip, append-nil, length-append, Instant, Seen, Trace, Fits, IsPrefixOf, flow_of, seen_at, Signal, flow_append, inputs_of, Kernel, extended, extended_by, filler}
 
 -- values that are those of a flow, and then one value for ever
 abbrev pub Continues : List ℤ → ℤ → List ℤ → Type 0

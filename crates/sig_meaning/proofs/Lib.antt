@@ -1,3 +1,4 @@
+pub mod Common
 pub mod Accepted
 pub mod Agreement
 pub mod Causing
@@ -20,3 +21,18 @@ pub mod Truths
 pub mod Uniqueness
 pub mod Values
 pub mod WithinBounds
+pub use Common.*
+pub use Accepted.*
+pub use Agreement.*
+pub use Causing.*
+pub use Ending.*
+pub use Longest.*
+pub use Outcomes.*
+pub use Reacting.*
+pub use References.*
+pub use Results.*
+pub use Storing.*
+pub use Uniqueness.*
+pub use Values.*
+pub use WithinBounds.*
+pub use Rattle.sig_meaning.proofs.Values.{computed}

@@ -1,28 +1,10 @@
 -- Lemmas on the longest trace of a kernel that has one reaction.
-use Rattle.std.proofs.Common.{◌≡◌, ◌≤◌, ◌<◌, ◌+◌, ◌++◌, ◌⊎◌, inl, inr, ℕ, zero, suc, ℤ, Bool, true, false, List, [], ◌∷◌, length, get_or, map, refl, ap, sym, subst, ◌∙◌, arith, append_assoc}
-use Rattle.std.specs.Prelude.{None, Some}
-use Rattle.std.specs.List.{AllByRecursion}
-use Rattle.sig_base.specs.Functions.{Function, Gives}
-use Rattle.sig_base.specs.Traces.{AreOfKinds, Bounded, Fits, Instant, IsLongest, IsOfKind, IsPrefixOf, NoneSilent, Seen, Trace, Unbounded, flow_of, has_64_bits, reduce, seen_at}
-use Rattle.sig_base.specs.declared.ids.Kind.{Kind}
-use Rattle.sig_base.specs.declared.ids.Kind.TheVariants.{Integer, Boolean, Event}
-use Rattle.sig_base.proofs.TraceLemmas.{fits_by_test, fits_reduced, prefix_fits, one_longest, speaks, prefix_length}
-use Rattle.sig_kernel.specs.KernelTraces.{HaveValues, IsFunction, IsKernelTrace, IsReaction, Meets, Memory, function_of, remembered}
-use Rattle.sig_kernel.specs.declared.equation.Equation.{Equation}
-use Rattle.sig_kernel.specs.declared.equation.Form.{Form}
-use Rattle.sig_kernel.specs.declared.equation.Form.TheVariants.{Fun, Delay, When, WhenConst, Default, Sync, Event as EventOf}
-use Rattle.sig_kernel.specs.declared.equation.Operand.{Operand}
-use Rattle.sig_kernel.specs.declared.equation.Operand.TheVariants.{Sig, Const}
-use Rattle.sig_kernel.specs.declared.kernel.Kernel.{Kernel}
-use Rattle.sig_kernel.proofs.TraceLemmas.{comes_from, goes_on, prefix_trace, reduced_trace}
-use Rattle.sig_kernel.proofs.RangeLemmas.{wide_trace}
-use Rattle.sig_meaning.specs.Ends.{IsCut, IsWithinBounds, StopsBefore}
+use Rattle.sig_meaning.proofs.Common.{◌≡◌, ◌≤◌, ◌<◌, ◌+◌, ◌++◌, ◌⊎◌, inl, inr, ℕ, zero, suc, ℤ, Bool, true, false, List, [], ◌∷◌, length, get_or, map, refl, ap, sym, subst, ◌∙◌, arith, append_assoc, None, Some, AllByRecursion, Function, Gives, AreOfKinds, Bounded, Fits, Instant, IsLongest, IsOfKind, IsPrefixOf, NoneSilent, Seen, Trace, Unbounded, flow_of, has_64_bits, reduce, seen_at, Kind, Integer, Boolean, fits_by_test, fits_reduced, prefix_fits, one_longest, speaks, prefix_length, HaveValues, IsFunction, IsKernelTrace, IsReaction, Meets, Memory, function_of, remembered, Equation, Form, Fun, Delay, When, WhenConst, Default, Sync, Event as EventOf, Operand, Sig, Const, Kernel, comes_from, goes_on, prefix_trace, reduced_trace, wide_trace, IsCut, IsWithinBounds, StopsBefore, IsReference, divides_by_zero}
+use Rattle.sig_base.specs.declared.ids.Kind.TheVariants.{Event}
 use Rattle.sig_meaning.proofs.Flows.{fits_follows, follows_fits, last_value, of_prefix, within_flow}
 use Rattle.sig_meaning.proofs.Numbers.{at_most_or, same_or_not}
 use Rattle.sig_meaning.proofs.References.{Fitting, reference_begins, some_reference, split_last}
 use Rattle.sig_meaning.proofs.Results.{bounded_gives, never_by_zero, within_bounds}
-use Rattle.sig_model.specs.References.{IsReference}
-use Rattle.sig_model.specs.Results.{divides_by_zero}
 
 abbrev pub Decided : Type 0 → Type 0
 Decided Statement = Statement ⊎ (Statement → ⊥)

@@ -1,21 +1,5 @@
 -- The first fault of the reference is the named cause.
-use Rattle.std.proofs.Common.{◌≡◌, ◌<◌, ◌≤◌, ◌+◌, ◌++◌, inl, inr, ℕ, suc, ℤ, Bool, true, List, [], ◌∷◌, length, get_or, refl, ap, sym, subst, ◌∙◌, arith, Contains}
-use Rattle.std.specs.Prelude.{None, Some, is_some, slice_get, slice_index, option_to_list, unwrap_or}
-use Rattle.std.proofs.lemmas.List.{append-nil, length-append}
-use Rattle.sig_base.specs.Traces.{Instant, IsPrefixOf, Seen, Trace, Unbounded, flow_of, has_64_bits, seen_at}
-use Rattle.sig_base.specs.declared.ids.EqId.{EqId}
-use Rattle.sig_base.specs.declared.ids.SigId.{SigId}
-use Rattle.sig_base.proofs.TraceLemmas.{prefix_length}
-use Rattle.sig_clock.specs.Abstractions.{abstraction_of}
-use Rattle.sig_clock.proofs.Lists.{contains_at, contains_head, contains_later}
-use Rattle.sig_kernel.specs.KernelTraces.{HaveValues, Memory, function_of, remembered}
-use Rattle.sig_kernel.specs.declared.equation.Form.TheVariants.{Fun}
-use Rattle.sig_kernel.specs.declared.equation.Operand.{Operand}
-use Rattle.sig_kernel.specs.declared.equation.Operand.TheVariants.{Sig, Const}
-use Rattle.sig_kernel.specs.declared.kernel.Kernel.{Kernel}
-use Rattle.sig_kernel.proofs.TraceLemmas.{comes_from}
-use Rattle.sig_meaning.specs.Faults.{IsFirstFault}
-use Rattle.sig_meaning.specs.Reactions.{IsNext}
+use Rattle.sig_meaning.proofs.Common.{◌≡◌, ◌<◌, ◌≤◌, ◌+◌, ◌++◌, inl, inr, ℕ, suc, ℤ, Bool, true, List, [], ◌∷◌, length, get_or, refl, ap, sym, subst, ◌∙◌, arith, Contains, None, Some, is_some, slice_get, slice_index, option_to_list, unwrap_or, append-nil, length-append, Instant, IsPrefixOf, Seen, Trace, Unbounded, flow_of, has_64_bits, seen_at, EqId, SigId, prefix_length, abstraction_of, contains_at, contains_head, contains_later, HaveValues, Memory, function_of, remembered, Fun, Operand, Sig, Const, Kernel, comes_from, IsFirstFault, IsNext, truths_of, AgreeSoFar, Computes, GoesOn, HasFault, IsFirstCause, IsPastEnd, MeetsFault, place_at, IsReference, divides_by_zero, Operation, operations_of, signals_of, Writes, Cause, Exhausted, Overflow, ZeroDivisor, Limit, Read, Compute, written_below}
 use Rattle.sig_meaning.proofs.Agreement.{Compiled, ReadsAgree, SameBefore, own_keeps, own_present, own_speaks, same_before, same_guard, same_reads, same_value}
 use Rattle.sig_meaning.proofs.Causing.{follows, meets_at, met_place, own_presence}
 use Rattle.sig_meaning.proofs.Numbers.{at_most_or}
@@ -24,16 +8,6 @@ use Rattle.sig_meaning.proofs.Flows.{Continues, fits_follows, flow_more, last_va
 use Rattle.sig_meaning.proofs.Longest.{IsClean}
 use Rattle.sig_meaning.proofs.References.{Fitting, flow_count}
 use Rattle.sig_meaning.proofs.Values.{form_for, form_in, where_some}
-use Rattle.sig_model.specs.Actors.{truths_of}
-use Rattle.sig_model.specs.Causes.{AgreeSoFar, Computes, GoesOn, HasFault, IsFirstCause, IsPastEnd, Meets as MeetsFault, place_at}
-use Rattle.sig_model.specs.References.{IsReference}
-use Rattle.sig_model.specs.Results.{divides_by_zero}
-use Rattle.sig_plan.specs.Operations.{Operation, operations_of, signals_of}
-use Rattle.sig_plan.specs.Order.{Writes}
-use Rattle.sig_plan.specs.declared.ended.Cause.{Cause}
-use Rattle.sig_plan.specs.declared.ended.Cause.TheVariants.{Exhausted, Overflow, ZeroDivisor, Limit}
-use Rattle.sig_plan.specs.declared.op.OpKind.TheVariants.{Read, Compute}
-use Rattle.sig_plan.proofs.Indices.{written_below}
 
 -- a value at which a flow goes on
 value_at : (values : List ℤ) (v : ℤ) (flow : List ℤ) (d : ℤ) → AgreeSoFar (values ++ v ∷ []) flow → length values < length flow → get_or flow (length values) d ≡ v

@@ -1,6 +1,5 @@
 -- Numbers and flows compared.
-use Rattle.std.proofs.Common.{◌≡◌, ◌<◌, ◌≤◌, ◌⊎◌, inl, inr, ℕ, zero, suc, Bool, true, false, not, refl, ap, arith}
-use Rattle.std.proofs.lemmas.Bool.{false≢true}
+use Rattle.sig_meaning.proofs.Common.{◌≡◌, ◌<◌, ◌≤◌, ◌⊎◌, inl, inr, ℕ, zero, suc, Bool, true, false, not, refl, ap, arith, false≢true}
 
 -- a number is at most another one, or not
 pub at_most_or : (a b : ℕ) → (a ≤ b) ⊎ (b < a)

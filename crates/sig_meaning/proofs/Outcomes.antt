@@ -1,43 +1,12 @@
 -- What an operation of an accepted plan comes to is what the instant by which the reference goes on has.
-use Rattle.std.proofs.Common.{◌≡◌, ◌<◌, ◌≤◌, ◌+◌, ◌++◌, ℕ, zero, suc, ℤ, Bool, true, false, cond, List, [], ◌∷◌, length, map, get_or, refl, ap, sym, subst, ◌∙◌, arith, Contains}
-use Rattle.std.specs.Prelude.{All, Option, None, Some, is_some, slice_get, option_to_list}
-use Rattle.std.proofs.lemmas.List.{length-append}
-use Rattle.std.proofs.lemmas.List.Elements.{All-cons, All-contains, All-nil}
-use Rattle.sig_base.specs.Traces.{Instant, Trace, Unbounded, flow_of, has_64_bits, seen_at}
-use Rattle.sig_base.specs.declared.ids.EqId.{EqId}
-use Rattle.sig_base.specs.declared.ids.SigId.{SigId}
-use Rattle.sig_clock.specs.Abstractions.{abstraction_of}
-use Rattle.sig_clock.specs.Conditions.{signal_id}
-use Rattle.sig_clock.proofs.Lists.{contains_at}
-use Rattle.sig_kernel.specs.KernelTraces.{HaveValues, IsFunction, Memory, Meets, function_of, remembered}
-use Rattle.sig_kernel.specs.declared.equation.Equation.{Equation}
-use Rattle.sig_kernel.specs.declared.equation.Form.{Form}
-use Rattle.sig_kernel.specs.declared.equation.Form.TheVariants.{Fun, Delay, When, WhenConst, Default, Sync, Event}
-use Rattle.sig_kernel.specs.declared.equation.FunOp.{FunOp}
-use Rattle.sig_kernel.specs.declared.equation.Operand.{Operand}
-use Rattle.sig_kernel.proofs.DelayLemmas.{at_element}
-use Rattle.sig_kernel.specs.declared.kernel.Kernel.{Kernel}
-use Rattle.sig_meaning.specs.Outcomes.{IsAt, IsOutcome}
-use Rattle.sig_meaning.specs.Reactions.{IsNext}
+use Rattle.sig_meaning.proofs.Common.{◌≡◌, ◌<◌, ◌≤◌, ◌+◌, ◌++◌, ℕ, zero, suc, ℤ, Bool, true, false, cond, List, [], ◌∷◌, length, map, get_or, refl, ap, sym, subst, ◌∙◌, arith, Contains, All, Option, None, Some, is_some, slice_get, option_to_list, length-append, All-cons, All-contains, All-nil, Instant, Trace, Unbounded, flow_of, has_64_bits, seen_at, EqId, SigId, abstraction_of, signal_id, contains_at, HaveValues, IsFunction, Memory, Meets, function_of, remembered, Equation, Form, Fun, Delay, When, WhenConst, Default, Sync, Event, FunOp, Operand, at_element, Kernel, IsAt, IsOutcome, IsNext, Actor, truths_of, Computes, Faults, bounded, computed, computed_at, computed_by, computed_for, first_in, memory_of, next_of, operand_in, outcome, outcome_by, IsReference, divides_by_zero, result_of, Operation, Presence, operation_in, operations_of, signals_of, store_of, stores_of, without, writes_of, writing, Writes, Overflow, ZeroDivisor, Op, OpKind, Read, Compute, Left, Right, DelayRead, Store, each_operation, only, Node}
 use Rattle.sig_meaning.proofs.Agreement.{Compiled, own_keeps, own_present, own_seen, own_speaks, value_by_reads}
 use Rattle.sig_meaning.proofs.FirstFaults.{one_either}
 use Rattle.sig_meaning.proofs.Flows.{flow_more, last_value, next_in}
 use Rattle.sig_meaning.proofs.Longest.{IsClean}
 use Rattle.sig_meaning.proofs.References.{Fitting, got, reference_last}
 use Rattle.sig_meaning.proofs.Values.{computed as computed_value, form_for, form_in, has_form, have_map, kept_in, same_operands, value, value_by, where_some}
-use Rattle.sig_model.specs.Actors.{Actor, truths_of}
-use Rattle.sig_model.specs.Causes.{Computes}
-use Rattle.sig_model.specs.Operating.{Faults, Gives, bounded, computed, computed_at, computed_by, computed_for, first_in, memory_of, next_of, operand_in, outcome, outcome_by}
-use Rattle.sig_model.specs.References.{IsReference}
-use Rattle.sig_model.specs.Results.{divides_by_zero, result_of}
-use Rattle.sig_plan.specs.Operations.{Operation, Presence, operation_in, operations_of, signals_of, store_of, stores_of, without, writes_of, writing}
-use Rattle.sig_plan.specs.Order.{Writes}
-use Rattle.sig_plan.specs.declared.ended.Cause.TheVariants.{Overflow, ZeroDivisor}
-use Rattle.sig_plan.specs.declared.op.Op.{Op}
-use Rattle.sig_plan.specs.declared.op.OpKind.{OpKind}
-use Rattle.sig_plan.specs.declared.op.OpKind.TheVariants.{Read, Compute, Left, Right, DelayRead, Store}
-use Rattle.sig_plan.proofs.EachOperation.{each_operation, only}
-use Rattle.sig_dd.specs.declared.node.Node.{Node}
+use Rattle.sig_model.specs.Operating.{Gives}
 
 -- ---- stores, and reads of delays
 

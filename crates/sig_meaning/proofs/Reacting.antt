@@ -1,20 +1,5 @@
 -- What the operations of a compiled kernel write, done in order, is an instant of the kernel.
-use Rattle.std.proofs.Common.{◌≡◌, ◌<◌, ◌≤◌, ◌⊎◌, inl, inr, ℕ, zero, suc, ℤ, Bool, true, false, List, length, refl, ap, sym, subst, ◌∙◌, arith, Contains}
-use Rattle.std.specs.Prelude.{Option, None, Some, is_some, slice_get, slice_index}
-use Rattle.sig_base.specs.Traces.{Instant, IsValue, Unbounded}
-use Rattle.sig_base.specs.declared.ids.Kind.{Kind}
-use Rattle.sig_base.specs.declared.ids.Kind.TheVariants.{Boolean}
-use Rattle.sig_base.specs.declared.ids.SigId.{SigId}
-use Rattle.sig_base.specs.declared.signal.Signal.{Signal}
-use Rattle.sig_clock.specs.Abstractions.{truth_of_value}
-use Rattle.sig_clock.specs.ClockFunctions.{Allows}
-use Rattle.sig_clock.specs.Conditions.{is_condition}
-use Rattle.sig_clock.specs.Reactions.{Reaction, Status, is_present, status_at}
-use Rattle.sig_clock.proofs.Lists.{at_contained, contains_at}
-use Rattle.sig_dd.specs.Diagram.{truth_of}
-use Rattle.sig_kernel.specs.KernelTraces.{Memory}
-use Rattle.sig_kernel.specs.declared.kernel.Kernel.{Kernel}
-use Rattle.sig_meaning.specs.Reactions.{HasNextValues, HasOneReaction, IsNext, RemembersValues}
+use Rattle.sig_meaning.proofs.Common.{◌≡◌, ◌<◌, ◌≤◌, ◌⊎◌, inl, inr, ℕ, zero, suc, ℤ, Bool, true, false, List, length, refl, ap, sym, subst, ◌∙◌, arith, Contains, Option, None, Some, is_some, slice_get, slice_index, Instant, IsValue, Unbounded, Kind, Boolean, SigId, Signal, truth_of_value, Allows, is_condition, Reaction, Status, is_present, status_at, at_contained, contains_at, truth_of, Memory, Kernel, HasNextValues, HasOneReaction, IsNext, RemembersValues, Registers, is_true, Operation, operations_of, Writes, written_present}
 use Rattle.sig_meaning.proofs.Agreement.{Compiled, condition_signal, same_instant, truth_at}
 use Rattle.sig_meaning.proofs.Doing.{WritesAt, final, finally_present, finally_written, guard_settled, place_of, reaction, read_there, run, run_none, truths, unchanged, written_stays}
 use Rattle.sig_meaning.proofs.Equations.{next_instant}
@@ -22,10 +7,6 @@ use Rattle.sig_meaning.proofs.Numbers.{same_or_not}
 use Rattle.sig_meaning.proofs.Steps.{AreKnown, instant_of, one_fit}
 use Rattle.sig_meaning.proofs.Truths.{some_status}
 use Rattle.sig_meaning.proofs.Values.{value}
-use Rattle.sig_model.specs.Actors.{Registers, is_true}
-use Rattle.sig_plan.specs.Operations.{Operation, operations_of}
-use Rattle.sig_plan.specs.Order.{Writes}
-use Rattle.sig_plan.proofs.Done.{written_present}
 
 module _ (kernel : Kernel) (conditions : List SigId) (operations : List Operation) (order : List ℕ) (memory : Memory) (next : ℕ → ℤ) (c : Compiled kernel conditions operations order)
     (memories : RemembersValues kernel memory) (nexts : HasNextValues kernel next) where

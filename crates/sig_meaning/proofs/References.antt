@@ -1,21 +1,7 @@
 -- Lemmas on extended references of a kernel that has one reaction.
-use Rattle.std.proofs.Common.{◌≡◌, ◌≤◌, ◌<◌, ◌++◌, inl, ℕ, zero, suc, ℤ, false, List, [], ◌∷◌, length, get_or, take, refl, ap, sym, subst, ◌∙◌, arith}
-use Rattle.std.specs.Prelude.{Some, slice_get}
-use Rattle.std.specs.List.{AllByRecursion}
-use Rattle.std.proofs.lemmas.List.{length-append, length-take}
-use Rattle.sig_base.specs.Traces.{Bounded, Instant, IsPrefixOf, IsValue, NoneSilent, Trace, Unbounded, flow_of, is_silent}
-use Rattle.sig_base.specs.declared.ids.Kind.{Kind}
-use Rattle.sig_base.specs.declared.ids.Kind.TheVariants.{Integer, Boolean, Event}
-use Rattle.sig_base.specs.declared.signal.Signal.{Signal}
-use Rattle.sig_base.proofs.TraceLemmas.{prefix_speaks}
-use Rattle.sig_kernel.specs.KernelTraces.{IsTraceIn, remembered}
-use Rattle.sig_kernel.specs.Validity.{AreFlowsFor, IsValid, inputs_of}
-use Rattle.sig_kernel.specs.declared.kernel.Kernel.{Kernel}
-use Rattle.sig_kernel.proofs.TraceLemmas.{comes_from, goes_on, no_instants, prefix_trace}
-use Rattle.sig_kernel.proofs.ValueLemmas.{flow_values, remembered_value}
-use Rattle.sig_meaning.specs.Reactions.{HasNextValues, HasOneReaction, IsNext, RemembersValues}
+use Rattle.sig_meaning.proofs.Common.{◌≡◌, ◌≤◌, ◌<◌, ◌++◌, inl, ℕ, zero, suc, ℤ, false, List, [], ◌∷◌, length, get_or, take, refl, ap, sym, subst, ◌∙◌, arith, Some, slice_get, AllByRecursion, length-append, length-take, Bounded, Instant, IsPrefixOf, IsValue, NoneSilent, Trace, Unbounded, flow_of, is_silent, Kind, Integer, Boolean, Signal, prefix_speaks, IsTraceIn, remembered, AreFlowsFor, IsValid, inputs_of, Kernel, comes_from, goes_on, no_instants, prefix_trace, flow_values, remembered_value, HasNextValues, HasOneReaction, IsNext, RemembersValues, IsReference, filler}
+use Rattle.sig_base.specs.declared.ids.Kind.TheVariants.{Event}
 use Rattle.sig_meaning.proofs.Flows.{fill, fits_follows, follows_fits, follows_front, follows_more, follows_takes, last_value, next_in}
-use Rattle.sig_model.specs.References.{IsReference, filler}
 
 pub wide : (kind : Kind) (v : ℤ) → IsValue Bounded kind v → IsValue Unbounded kind v
 wide Integer v is = tt

@@ -1,11 +1,5 @@
 -- Lemmas on the results of functions, whose integers are all whole numbers.
-use Rattle.std.proofs.Common.{◌≡◌, ◌≢◌, ◌⊎◌, inl, inr, ℤ, pos, Bool, true, false, not, ◌&&◌, ◌||◌, List, [], ◌∷◌, length, refl, arith, ◌<ℤ◌, ◌≤ℤ◌, int_lt, int_le}
-use Rattle.std.specs.Ordering.{int_eq}
-use Rattle.std.proofs.lemmas.Bool.Decides.{Decides-int_eq}
-use Rattle.std.proofs.lemmas.Int.{ints}
-use Rattle.sig_base.specs.Functions.{Function, Identity, Negative, Not, And, Or, Xor, Equal, NotEqual, Less, LessEqual, Greater, GreaterEqual, Sum, Difference, Product, Quotient, Remainder, Gives, Tells, operand_count}
-use Rattle.sig_base.specs.Traces.{Bounded, Unbounded}
-use Rattle.sig_model.specs.Results.{divides_by_zero, result_of, truth_value}
+use Rattle.sig_meaning.proofs.Common.{◌≡◌, ◌≢◌, ◌⊎◌, inl, inr, ℤ, pos, Bool, true, false, not, ◌&&◌, ◌||◌, List, [], ◌∷◌, length, refl, arith, ◌<ℤ◌, ◌≤ℤ◌, int_lt, int_le, int_eq, Decides-int_eq, ints, Function, Identity, Negative, Not, And, Or, Xor, Equal, NotEqual, Less, LessEqual, Greater, GreaterEqual, Sum, Difference, Product, Quotient, Remainder, Gives, Tells, operand_count, Bounded, Unbounded, divides_by_zero, result_of, truth_value}
 
 -- a test that decides a statement
 pub record Tests (b : Bool) (Statement : Type 0) : Type 0 where

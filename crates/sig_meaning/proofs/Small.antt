@@ -1,42 +1,9 @@
 -- Where no operation of an instant has a fault, its values have 64 bits and nothing is divided by 0.
-use Rattle.std.proofs.Common.{◌≡◌, ◌<◌, inl, inr, ℕ, suc, ℤ, pos, Bool, true, false, not, List, [], ◌∷◌, length, map, get_or, refl, ap, sym, subst, ◌∙◌, Contains}
-use Rattle.std.specs.Prelude.{All, Option, None, Some, is_some, slice_get}
-use Rattle.std.proofs.lemmas.Bool.{and_parts}
-use Rattle.std.proofs.lemmas.List.Elements.{All-cons, All-contains, All-nil}
-use Rattle.sig_base.specs.Traces.{AreOfKinds, Bounded, Instant, IsOfKind, IsValue, Seen, Trace, Unbounded, has_64_bits, seen_at}
-use Rattle.sig_base.specs.declared.ids.EqId.{EqId}
-use Rattle.sig_base.specs.declared.ids.Kind.{Kind}
-use Rattle.sig_base.specs.declared.ids.Kind.TheVariants.{Integer, Boolean, Event as AnEvent}
-use Rattle.sig_base.specs.declared.ids.SigId.{SigId}
-use Rattle.sig_base.specs.declared.signal.Signal.{Signal}
-use Rattle.sig_base.specs.declared.span.Span.{Span}
-use Rattle.sig_base.proofs.TraceLemmas.{fits_by_test}
-use Rattle.sig_clock.specs.Conditions.{signal_id}
-use Rattle.sig_clock.proofs.Lists.{contains_at, contains_head, get_at}
-use Rattle.sig_kernel.specs.KernelTraces.{IsFunction, IsReaction, IsTraceIn, Meets, function_of, or_else, remembered}
-use Rattle.sig_kernel.specs.Table.{form_fits, kind_of, target_fits}
-use Rattle.sig_kernel.specs.Validity.{IsValid, form_within}
-use Rattle.sig_kernel.specs.declared.equation.Equation.{Equation}
-use Rattle.sig_kernel.specs.declared.equation.Form.{Form}
-use Rattle.sig_kernel.specs.declared.equation.Form.TheVariants.{Fun, Delay, When, WhenConst, Default, Sync, Event}
-use Rattle.sig_kernel.specs.declared.equation.FunOp.{FunOp}
-use Rattle.sig_kernel.specs.declared.equation.Operand.TheVariants.{Sig, Const}
-use Rattle.sig_kernel.specs.declared.equation.Operand.{Operand}
-use Rattle.sig_kernel.specs.declared.kernel.Kernel.{Kernel}
-use Rattle.sig_kernel.proofs.DelayLemmas.{at_element}
-use Rattle.sig_kernel.proofs.ValueLemmas.{few_constants, remembered_value}
+use Rattle.sig_meaning.proofs.Common.{◌≡◌, ◌<◌, inl, inr, ℕ, suc, ℤ, pos, Bool, true, false, not, List, [], ◌∷◌, length, map, get_or, refl, ap, sym, subst, ◌∙◌, Contains, All, Option, None, Some, is_some, slice_get, and_parts, All-cons, All-contains, All-nil, AreOfKinds, Bounded, Instant, IsOfKind, IsValue, Seen, Trace, Unbounded, has_64_bits, seen_at, EqId, Kind, Integer, Boolean, AnEvent, SigId, Signal, Span, fits_by_test, signal_id, contains_at, contains_head, get_at, IsFunction, IsReaction, IsTraceIn, Meets, function_of, or_else, remembered, form_fits, kind_of, target_fits, IsValid, form_within, Equation, Form, Fun, Delay, When, WhenConst, Default, Sync, Event, FunOp, Sig, Const, Operand, Kernel, at_element, few_constants, remembered_value, Computes, HasFault, IsPastEnd, MeetsFault, divides_by_zero, Operation, Presence, equation_id, operations_of, signals_of, stores_of, without, writes_of, writing, Writes, Cause, Exhausted, Overflow, Compute, Left, Right, each_operation, first_below, only, operands_below}
 use Rattle.sig_meaning.proofs.Numbers.{not_true}
 use Rattle.sig_meaning.proofs.Equations.{from_index}
 use Rattle.sig_meaning.proofs.Results.{bounded_gives}
 use Rattle.sig_meaning.proofs.Values.{none_where, where_present_some, where_some, where_true_some}
-use Rattle.sig_model.specs.Causes.{Computes, HasFault, IsPastEnd, Meets as MeetsFault}
-use Rattle.sig_model.specs.Results.{divides_by_zero}
-use Rattle.sig_plan.specs.Operations.{Operation, Presence, equation_id, operations_of, signals_of, stores_of, without, writes_of, writing}
-use Rattle.sig_plan.specs.Order.{Writes}
-use Rattle.sig_plan.specs.declared.ended.Cause.{Cause}
-use Rattle.sig_plan.specs.declared.ended.Cause.TheVariants.{Exhausted, Overflow}
-use Rattle.sig_plan.specs.declared.op.OpKind.TheVariants.{Compute, Left, Right}
-use Rattle.sig_plan.proofs.EachOperation.{each_operation, first_below, only, operands_below}
 
 pub small_value : (kind : Kind) (v : ℤ) → IsValue Bounded kind v → has_64_bits v ≡ true
 small_value Integer v is = (fits_by_test v).1 is

@@ -1,52 +1,13 @@
 -- What an operation writes is of its signal's kind, and has the truth that an abstract reaction gives to the signal, where what
 -- it reads is and has.
-use Rattle.std.proofs.Common.{◌≡◌, ◌<◌, ◌≤◌, ◌+◌, inl, inr, ℕ, zero, suc, ℤ, pos, Bool, true, false, not, cond, ◌&&◌, ◌||◌, List, [], ◌∷◌, length, map, get_or, refl, ap, sym, subst, ◌∙◌, arith, Contains}
-use Rattle.std.specs.Prelude.{All, Option, None, Some, is_some, slice_get, unwrap_or, ◌==◌, nat_lt}
-use Rattle.std.specs.List.{list_all, list_any, range_with_len}
-use Rattle.std.specs.Ordering.{int_eq}
-use Rattle.std.proofs.lemmas.Bool.{and_parts, eqb-false, false≢true, lt-ltb}
-use Rattle.std.proofs.Math.Bool.{or-true}
-use Rattle.std.proofs.lemmas.List.{length-map}
-use Rattle.std.proofs.lemmas.List.Elements.{All-cons, All-contains, All-nil}
-use Rattle.std.proofs.lemmas.List.FromFn.{get_or-map-range_with_len}
-use Rattle.sig_base.specs.Functions.{Gives}
-use Rattle.sig_base.specs.Traces.{AreOfKinds, Instant, IsOfKind, IsValue, Seen, Unbounded, seen_at}
-use Rattle.sig_base.specs.declared.ids.EqId.{EqId}
-use Rattle.sig_base.specs.declared.ids.Kind.{Kind}
-use Rattle.sig_base.specs.declared.ids.Kind.TheVariants.{Integer, Boolean, Event}
-use Rattle.sig_base.specs.declared.ids.SigId.{SigId}
-use Rattle.sig_base.specs.declared.signal.Signal.{Signal}
-use Rattle.sig_base.specs.declared.span.Span.{Span}
-use Rattle.sig_clock.specs.Abstractions.{abstraction_of, status_of, truth_of_value}
-use Rattle.sig_clock.specs.Conditions.{freed, frees, is_condition, is_free, is_number, signal_id}
-use Rattle.sig_clock.specs.Reactions.{IsReaction, Reaction, Status, compares, constant_truth, function_truth, has_truth, is_boolean_kind, is_present, is_status_of, is_with, meets, operand_truth, or_else, same_truth, status_at, truth_function, truth_of_status, where_present, where_true}
-use Rattle.sig_clock.proofs.AbstractLemmas.{at as status_by_kind, function_met, handed_row, like, merged_rows, one_operand, sort_of, status_by, where_rows}
-use Rattle.sig_clock.proofs.Lists.{at_contained, contains_at, contains_head, contains_later, get_at, get_within}
-use Rattle.sig_clock.proofs.ReactionLemmas.{truths_are_same}
-use Rattle.sig_kernel.specs.KernelTraces.{HaveValues, Memory, function_of}
-use Rattle.sig_kernel.specs.Table.{defines_well, form_fits, function_rows, keeps_to_one, kind_at, kind_fits, kind_is, kind_of, operand_is, operands_of, target_fits}
-use Rattle.sig_kernel.specs.Validity.{IsValid, form_within, is_below, is_signal, operand_within}
-use Rattle.sig_kernel.specs.declared.equation.Form.{Form}
-use Rattle.sig_kernel.specs.declared.equation.Form.TheVariants.{Fun, Delay, When, WhenConst, Default, Sync, Event as EventOf}
-use Rattle.sig_kernel.specs.declared.equation.FunOp.{FunOp}
-use Rattle.sig_kernel.specs.declared.equation.FunOp.TheVariants.{Id}
-use Rattle.sig_kernel.specs.declared.equation.Operand.{Operand}
-use Rattle.sig_kernel.specs.declared.equation.Operand.TheVariants.{Sig, Const}
-use Rattle.sig_kernel.specs.declared.kernel.Kernel.{Kernel}
-use Rattle.sig_kernel.proofs.ValueLemmas.{sampled_value}
-use Rattle.sig_meaning.specs.Reactions.{HasNextValues, RemembersValues}
+use Rattle.sig_meaning.proofs.Common.{◌≡◌, ◌<◌, ◌≤◌, ◌+◌, inl, inr, ℕ, zero, suc, ℤ, pos, Bool, true, false, not, cond, ◌&&◌, ◌||◌, List, [], ◌∷◌, length, map, get_or, refl, ap, sym, subst, ◌∙◌, arith, Contains, All, Option, None, Some, is_some, slice_get, unwrap_or, ◌==◌, nat_lt, list_all, list_any, range_with_len, int_eq, and_parts, eqb-false, false≢true, lt-ltb, or-true, length-map, All-cons, All-contains, All-nil, get_or-map-range_with_len, Gives, AreOfKinds, Instant, IsOfKind, IsValue, Seen, Unbounded, seen_at, EqId, Kind, Integer, Boolean, SigId, Signal, Span, abstraction_of, status_of, truth_of_value, freed, frees, is_condition, is_free, is_number, signal_id, Reaction, Status, compares, constant_truth, function_truth, has_truth, is_boolean_kind, is_present, is_status_of, is_with, meets, operand_truth, same_truth, status_at, truth_function, truth_of_status, where_present, where_true, at as status_by_kind, function_met, handed_row, like, merged_rows, one_operand, sort_of, status_by, where_rows, at_contained, contains_at, contains_head, contains_later, get_at, get_within, truths_are_same, HaveValues, Memory, function_of, defines_well, form_fits, function_rows, keeps_to_one, kind_at, kind_fits, kind_is, kind_of, operand_is, operands_of, target_fits, IsValid, form_within, is_below, is_signal, operand_within, Form, Fun, Delay, When, WhenConst, Default, Sync, Event as EventOf, FunOp, Id, Operand, Sig, Const, Kernel, sampled_value, HasNextValues, RemembersValues, Registers, value_in, operand_in, result_of, Operation, Presence, operations_of, signals_of, stores_of, without, writes_of, writing, Writes, Left, Right, each_operation, first_below, only, operands_below, target_below}
+use Rattle.sig_base.specs.declared.ids.Kind.TheVariants.{Event}
+use Rattle.sig_clock.specs.Reactions.{IsReaction, or_else}
 use Rattle.sig_meaning.proofs.Numbers.{not_true}
 use Rattle.sig_meaning.proofs.References.{wide}
 use Rattle.sig_meaning.proofs.Results.{given}
 use Rattle.sig_meaning.proofs.Truths.{any_at, boolean_result, event_result, handed_value, no_status, operands_counted, plain, sampled, some_status, status_fits, statuses_equal, truth_told}
 use Rattle.sig_meaning.proofs.Values.{computed, form_for, has_form, kept_in, value, where_some}
-use Rattle.sig_model.specs.Actors.{Registers, value_in}
-use Rattle.sig_model.specs.Operating.{operand_in}
-use Rattle.sig_model.specs.Results.{result_of}
-use Rattle.sig_plan.specs.Operations.{Operation, Presence, operations_of, signals_of, stores_of, without, writes_of, writing}
-use Rattle.sig_plan.specs.Order.{Writes}
-use Rattle.sig_plan.specs.declared.op.OpKind.TheVariants.{Left, Right}
-use Rattle.sig_plan.proofs.EachOperation.{each_operation, first_below, only, operands_below, target_below}
 
 -- ---- the instant of registers
 

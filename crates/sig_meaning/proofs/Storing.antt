@@ -1,26 +1,7 @@
 -- What a store keeps is what the instant has of the signal that its delay delays.
-use Rattle.std.proofs.Common.{◌≡◌, ◌∙◌, ℕ, ℤ, pos, true, List, [], ◌∷◌, ap, subst, sym, Contains}
-use Rattle.std.specs.Prelude.{All, Some, slice_get, unwrap_or}
-use Rattle.std.proofs.lemmas.List.Elements.{All-cons, All-contains, All-nil}
-use Rattle.sig_base.specs.Traces.{Instant, Seen, seen_at}
-use Rattle.sig_base.specs.declared.ids.EqId.{EqId}
-use Rattle.sig_base.specs.declared.ids.SigId.{SigId}
-use Rattle.sig_clock.specs.Abstractions.{abstraction_of}
-use Rattle.sig_clock.specs.Conditions.{signal_id}
-use Rattle.sig_clock.proofs.Lists.{contains_at, contains_head}
-use Rattle.sig_kernel.specs.KernelTraces.{Memory}
-use Rattle.sig_kernel.specs.declared.equation.Form.{Form}
-use Rattle.sig_kernel.specs.declared.equation.Form.TheVariants.{Fun, Delay, When, WhenConst, Default, Sync, Event}
-use Rattle.sig_kernel.specs.declared.kernel.Kernel.{Kernel}
-use Rattle.sig_meaning.specs.Reactions.{IsNext}
+use Rattle.sig_meaning.proofs.Common.{◌≡◌, ◌∙◌, ℕ, ℤ, pos, true, List, [], ◌∷◌, ap, subst, sym, Contains, All, Some, slice_get, unwrap_or, All-cons, All-contains, All-nil, Instant, Seen, seen_at, EqId, SigId, abstraction_of, signal_id, contains_at, contains_head, Memory, Form, Fun, Delay, When, WhenConst, Default, Sync, Event, Kernel, IsNext, Registers, truths_of, first_in, Operation, Presence, operations_of, signals_of, store_of, stores_of, without, writes_of, writing, Compute, DelayRead, Left, Read, Right, Store, read_present, each_operation, only}
 use Rattle.sig_meaning.proofs.Agreement.{Compiled, own_keeps, own_present, own_speaks}
 use Rattle.sig_meaning.proofs.Values.{form_for, has_form, where_some}
-use Rattle.sig_model.specs.Actors.{Registers, truths_of}
-use Rattle.sig_model.specs.Operating.{first_in}
-use Rattle.sig_plan.specs.Operations.{Operation, Presence, operations_of, signals_of, store_of, stores_of, without, writes_of, writing}
-use Rattle.sig_plan.specs.declared.op.OpKind.TheVariants.{Compute, DelayRead, Left, Read, Right, Store}
-use Rattle.sig_plan.proofs.Done.{read_present}
-use Rattle.sig_plan.proofs.EachOperation.{each_operation, only}
 
 module _ (kernel : Kernel) (presence : Presence) where
   abbrev ReadsDelayed : Operation → Type 0

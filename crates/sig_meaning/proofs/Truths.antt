@@ -1,27 +1,7 @@
 -- What an operation writes is of its signal's kind, and has the truth that an abstract reaction gives to the signal.
-use Rattle.std.proofs.Common.{◌≡◌, ◌⊎◌, inl, inr, ℕ, zero, suc, ℤ, pos, Bool, true, false, not, int_le, int_lt, ◌&&◌, ◌||◌, List, [], ◌∷◌, length, refl, ap, sym, subst, ◌∙◌, arith}
-use Rattle.std.specs.Prelude.{None, Some, is_some, slice_get}
-use Rattle.std.specs.List.{list_any}
-use Rattle.std.specs.Ordering.{int_eq}
-use Rattle.std.proofs.lemmas.Bool.{and_parts, false≢true}
-use Rattle.std.proofs.Math.Bool.{or-false, or-true}
-use Rattle.sig_base.specs.Functions.{Function, Not as Negation, And as Conjunction, Or as Disjunction, Xor as Exclusive, Equal, NotEqual, Less, LessEqual, Greater, GreaterEqual, operand_count}
-use Rattle.sig_base.specs.Traces.{IsValue, Unbounded}
-use Rattle.sig_base.specs.declared.ids.Kind.{Kind}
-use Rattle.sig_base.specs.declared.ids.Kind.TheVariants.{Integer, Boolean, Event}
-use Rattle.sig_base.specs.declared.signal.Signal.{Signal}
-use Rattle.sig_clock.specs.Abstractions.{truth_of_value}
-use Rattle.sig_clock.specs.Reactions.{Reaction, Status, are_statuses, compares, is_status_of, same_status, same_truth, status_at, truth_function, where_true}
-use Rattle.sig_clock.proofs.AbstractLemmas.{boolean_row, equality_rows, handed_row, kind_bit, one_operand, sort_of, two_operands}
-use Rattle.sig_clock.proofs.ReactionLemmas.{truths_are_same}
-use Rattle.sig_kernel.specs.KernelTraces.{function_of}
-use Rattle.sig_kernel.specs.Table.{function_rows, is_kind, keeps_to_one, kind_is, operands_are}
-use Rattle.sig_kernel.specs.declared.table.Sort.{Sort}
-use Rattle.sig_kernel.specs.declared.table.Sort.TheVariants.{Integer as AnInteger, Truth}
-use Rattle.sig_kernel.specs.declared.equation.FunOp.{FunOp}
-use Rattle.sig_kernel.specs.declared.equation.FunOp.TheVariants.{Id, Neg, Not, And, Or, Xor, Eq, Ne, Lt, Le, Gt, Ge, Add, Sub, Mul, Div, Mod}
-use Rattle.sig_kernel.specs.declared.equation.Operand.{Operand}
-use Rattle.sig_model.specs.Results.{is_one, result_of, truth_value}
+use Rattle.sig_meaning.proofs.Common.{◌≡◌, ◌⊎◌, inl, inr, ℕ, zero, suc, ℤ, pos, Bool, true, false, not, int_le, int_lt, ◌&&◌, ◌||◌, List, [], ◌∷◌, length, refl, ap, sym, subst, ◌∙◌, arith, None, Some, is_some, slice_get, list_any, int_eq, and_parts, false≢true, or-false, or-true, Function, Not as Negation, And as Conjunction, Or as Disjunction, Xor as Exclusive, Equal, NotEqual, Less, LessEqual, Greater, GreaterEqual, operand_count, IsValue, Unbounded, Kind, Integer, Boolean, Signal, truth_of_value, Reaction, Status, are_statuses, compares, is_status_of, same_status, same_truth, status_at, truth_function, where_true, boolean_row, equality_rows, handed_row, kind_bit, one_operand, sort_of, two_operands, truths_are_same, function_of, function_rows, is_kind, keeps_to_one, kind_is, operands_are, Sort, AnInteger, Truth, FunOp, Id, Neg, Eq, Ne, Lt, Le, Gt, Ge, Add, Sub, Mul, Div, Mod, Operand, is_one, result_of, truth_value}
+use Rattle.sig_base.specs.declared.ids.Kind.TheVariants.{Event}
+use Rattle.sig_kernel.specs.declared.equation.FunOp.TheVariants.{Not, And, Or, Xor}
 
 -- ---- statuses
 

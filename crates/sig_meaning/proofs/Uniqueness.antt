@@ -1,23 +1,5 @@
 -- There is one named cause.
-use Rattle.std.proofs.Common.{◌≡◌, ◌<◌, ◌≤◌, ◌+◌, ◌++◌, ◌⊎◌, inl, inr, ℕ, suc, ℤ, pos, negsuc, neg_ℤ, true, false, List, [], ◌∷◌, length, refl, ap, sym, subst, ◌∙◌, arith}
-use Rattle.std.specs.Prelude.{None, Option, Some, slice_get}
-use Rattle.std.proofs.Math.Nat.{div-zero}
-use Rattle.sig_base.specs.Functions.{Function, Quotient, Remainder}
-use Rattle.sig_base.specs.Traces.{Instant, IsLongest, Trace, Unbounded, has_64_bits}
-use Rattle.sig_base.specs.declared.ids.EqId.{EqId}
-use Rattle.sig_base.specs.declared.place.Place.{Place}
-use Rattle.sig_base.proofs.TraceLemmas.{one_longest}
-use Rattle.sig_clock.proofs.Lists.{contains_at}
-use Rattle.sig_kernel.specs.KernelTraces.{IsFunction, IsKernelTrace, IsReaction, Meets, Memory, function_of, remembered}
-use Rattle.sig_kernel.specs.Validity.{AreFlowsFor}
-use Rattle.sig_kernel.specs.declared.equation.Equation.{Equation}
-use Rattle.sig_kernel.specs.declared.equation.Form.{Form}
-use Rattle.sig_kernel.specs.declared.equation.Form.TheVariants.{Fun}
-use Rattle.sig_kernel.specs.declared.kernel.Kernel.{Kernel}
-use Rattle.sig_kernel.proofs.DelayLemmas.{at_element}
-use Rattle.sig_kernel.proofs.TraceLemmas.{comes_from}
-use Rattle.sig_meaning.specs.Ends.{StopsBefore}
-use Rattle.sig_meaning.specs.Faults.{IsFirstFault}
+use Rattle.sig_meaning.proofs.Common.{◌≡◌, ◌<◌, ◌≤◌, ◌+◌, ◌++◌, ◌⊎◌, inl, inr, ℕ, suc, ℤ, pos, negsuc, neg_ℤ, true, false, List, [], ◌∷◌, length, refl, ap, sym, subst, ◌∙◌, arith, None, Option, Some, slice_get, div-zero, Function, Quotient, Remainder, Instant, IsLongest, Trace, Unbounded, has_64_bits, EqId, Place, one_longest, contains_at, IsFunction, IsKernelTrace, IsReaction, Meets, Memory, function_of, remembered, AreFlowsFor, Equation, Form, Fun, Kernel, at_element, comes_from, StopsBefore, IsFirstFault, Computes, GoesOn, HasFault, IsEnd, IsFirstCause, IsNamedCause, MeetsFault, MeetsAt, place_at, IsReference, divides_by_zero, result_of, Operation, operations_in, IsAccepted, PlanView, numbers_of, Cause, Exhausted, Overflow, ZeroDivisor, Limit, Ended, Read, Compute}
 use Rattle.sig_meaning.proofs.Accepted.{compiled}
 use Rattle.sig_meaning.proofs.Causing.{first_fault}
 use Rattle.sig_meaning.proofs.Ending.{fitting}
@@ -26,15 +8,6 @@ use Rattle.sig_meaning.proofs.Longest.{IsClean, longest_cut, same_values}
 use Rattle.sig_meaning.proofs.Longest.{clean as clean_of}
 use Rattle.sig_meaning.proofs.Naming.{first_cause, reference_goes_on}
 use Rattle.sig_meaning.proofs.Results.{determined, equal}
-use Rattle.sig_model.specs.Causes.{Computes, GoesOn, HasFault, IsEnd, IsFirstCause, IsNamedCause, Meets as MeetsFault, MeetsAt, place_at}
-use Rattle.sig_model.specs.References.{IsReference}
-use Rattle.sig_model.specs.Results.{divides_by_zero, result_of}
-use Rattle.sig_plan.specs.Operations.{Operation, operations_in}
-use Rattle.sig_plan.specs.Plans.{IsAccepted, PlanView, numbers_of}
-use Rattle.sig_plan.specs.declared.ended.Cause.{Cause}
-use Rattle.sig_plan.specs.declared.ended.Cause.TheVariants.{Exhausted, Overflow, ZeroDivisor, Limit}
-use Rattle.sig_plan.specs.declared.ended.Ended.{Ended}
-use Rattle.sig_plan.specs.declared.op.OpKind.TheVariants.{Read, Compute}
 
 -- a quotient or a remainder by 0 is 0
 by_zero_small : (a : ℤ) → has_64_bits (result_of Quotient (a ∷ pos 0 ∷ [])) ≡ true

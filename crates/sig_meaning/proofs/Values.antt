@@ -1,34 +1,8 @@
 -- The value that an operation writes, by what it reads.
-use Rattle.std.proofs.Common.{◌≡◌, ◌<◌, ℕ, ℤ, pos, Bool, true, false, not, List, [], ◌∷◌, length, map, get_or, refl, ap, sym, subst, ◌∙◌, arith, Contains}
-use Rattle.std.specs.Prelude.{All, Option, None, Some, is_some, slice_get, unwrap_or}
-use Rattle.std.specs.Ordering.{int_eq}
-use Rattle.std.proofs.lemmas.Bool.{and_parts}
-use Rattle.std.proofs.lemmas.List.Elements.{All-cons, All-nil}
-use Rattle.sig_base.specs.Functions.{Function}
-use Rattle.sig_base.specs.Traces.{Instant, Seen, Unbounded, seen_at}
-use Rattle.sig_base.specs.declared.ids.EqId.{EqId}
-use Rattle.sig_base.specs.declared.ids.SigId.{SigId}
-use Rattle.sig_clock.specs.Conditions.{signal_id}
-use Rattle.sig_clock.proofs.Lists.{contains_at, contains_head, contains_later, get_at}
-use Rattle.sig_kernel.specs.KernelTraces.{HaveValues, IsFunction, IsReaction, Meets, Memory, function_of, or_else, where_present, where_true}
-use Rattle.sig_kernel.specs.Validity.{IsValid, form_within}
-use Rattle.sig_kernel.specs.declared.equation.Equation.{Equation}
-use Rattle.sig_kernel.specs.declared.equation.Form.{Form}
-use Rattle.sig_kernel.specs.declared.equation.Form.TheVariants.{Fun, Delay, When, WhenConst, Default, Sync, Event}
-use Rattle.sig_kernel.specs.declared.equation.Operand.{Operand}
-use Rattle.sig_kernel.specs.declared.equation.Operand.TheVariants.{Sig, Const}
-use Rattle.sig_kernel.specs.declared.kernel.Kernel.{Kernel}
-use Rattle.sig_kernel.proofs.DelayLemmas.{at_element}
+use Rattle.sig_meaning.proofs.Common.{◌≡◌, ◌<◌, ℕ, ℤ, pos, Bool, true, false, not, List, [], ◌∷◌, length, map, get_or, refl, ap, sym, subst, ◌∙◌, arith, Contains, All, Option, None, Some, is_some, slice_get, unwrap_or, int_eq, and_parts, All-cons, All-nil, Function, Instant, Seen, Unbounded, seen_at, EqId, SigId, signal_id, contains_at, contains_head, contains_later, get_at, HaveValues, IsFunction, IsReaction, Meets, Memory, function_of, or_else, IsValid, form_within, Equation, Form, Fun, Delay, When, WhenConst, Default, Sync, Event, Operand, Sig, Const, Kernel, at_element, Registers, value_in, first_in, operand_in, result_of, Operation, Presence, equation_id, operations_of, signals_of, stores_of, without, writes_of, writing, Writes, OpKind, Read, Compute, Left, Right, DelayRead, Store, each_operation, first_below, only, operands_below, second_below, target_below}
+use Rattle.sig_kernel.specs.KernelTraces.{where_present, where_true}
 use Rattle.sig_meaning.proofs.Numbers.{not_true}
 use Rattle.sig_meaning.proofs.Results.{determined}
-use Rattle.sig_model.specs.Actors.{Registers, value_in}
-use Rattle.sig_model.specs.Operating.{first_in, operand_in}
-use Rattle.sig_model.specs.Results.{result_of}
-use Rattle.sig_plan.specs.Operations.{Operation, Presence, equation_id, operations_of, signals_of, stores_of, without, writes_of, writing}
-use Rattle.sig_plan.specs.Order.{Writes}
-use Rattle.sig_plan.specs.declared.op.OpKind.{OpKind}
-use Rattle.sig_plan.specs.declared.op.OpKind.TheVariants.{Read, Compute, Left, Right, DelayRead, Store}
-use Rattle.sig_plan.proofs.EachOperation.{each_operation, first_below, only, operands_below, second_below, target_below}
 
 abbrev pub form_in : Option Equation → Option Form
 form_in None = None

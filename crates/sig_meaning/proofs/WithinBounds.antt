@@ -1,34 +1,11 @@
 -- An instant that is within bounds has no fault.
-use Rattle.std.proofs.Common.{◌≡◌, ◌<◌, ℕ, ℤ, true, false, List, length, map, ap, sym, subst, ◌∙◌, arith, Contains}
-use Rattle.std.specs.Prelude.{Some}
-use Rattle.std.proofs.lemmas.List.{length-map}
-use Rattle.sig_base.specs.Functions.{Gives}
-use Rattle.sig_base.specs.Traces.{Bounded, Instant, IsOfKind, Trace, has_64_bits, seen_at}
-use Rattle.sig_base.specs.declared.ids.EqId.{EqId}
-use Rattle.sig_base.specs.declared.ids.SigId.{SigId}
-use Rattle.sig_base.specs.declared.signal.Signal.{Signal}
-use Rattle.sig_clock.proofs.AbstractLemmas.{of_kind}
-use Rattle.sig_clock.proofs.Lists.{contains_at}
-use Rattle.sig_kernel.specs.KernelTraces.{IsFunction, IsReaction, Meets, Memory, function_of, remembered}
-use Rattle.sig_kernel.specs.Table.{kind_of}
-use Rattle.sig_kernel.specs.declared.equation.Equation.{Equation}
-use Rattle.sig_kernel.specs.declared.equation.Form.{Form}
-use Rattle.sig_kernel.specs.declared.equation.Form.TheVariants.{Fun}
-use Rattle.sig_kernel.specs.declared.kernel.Kernel.{Kernel}
-use Rattle.sig_kernel.proofs.DelayLemmas.{at_element}
-use Rattle.sig_meaning.specs.Ends.{IsWithinBounds}
-use Rattle.sig_meaning.specs.Faults.{IsFaultAt}
+use Rattle.sig_meaning.proofs.Common.{◌≡◌, ◌<◌, ℕ, ℤ, true, false, List, length, map, ap, sym, subst, ◌∙◌, arith, Contains, Some, length-map, Gives, Bounded, Instant, IsOfKind, Trace, has_64_bits, seen_at, EqId, SigId, Signal, of_kind, contains_at, IsFunction, IsReaction, Meets, Memory, function_of, remembered, kind_of, Equation, Form, Fun, Kernel, at_element, IsWithinBounds, IsFaultAt, Computes, HasFault, MeetsFault, divides_by_zero, Operation, Cause, Exhausted, Overflow, ZeroDivisor, Limit}
 use Rattle.sig_meaning.proofs.Agreement.{Compiled, some_at}
 use Rattle.sig_meaning.proofs.Causing.{beyond_end, kinds_length}
 use Rattle.sig_meaning.proofs.FirstFaults.{one_either}
 use Rattle.sig_meaning.proofs.Longest.{same_values}
 use Rattle.sig_meaning.proofs.Results.{never_by_zero}
 use Rattle.sig_meaning.proofs.Small.{small_value}
-use Rattle.sig_model.specs.Causes.{Computes, HasFault, Meets as MeetsFault}
-use Rattle.sig_model.specs.Results.{divides_by_zero}
-use Rattle.sig_plan.specs.Operations.{Operation}
-use Rattle.sig_plan.specs.declared.ended.Cause.{Cause}
-use Rattle.sig_plan.specs.declared.ended.Cause.TheVariants.{Exhausted, Overflow, ZeroDivisor, Limit}
 
 module _ (kernel : Kernel) (memory : Memory) (instant : Instant) (is : IsReaction Bounded kernel memory instant) where
   small_result : (e : EqId) (c : Computes kernel instant e) → has_64_bits c.result ≡ true

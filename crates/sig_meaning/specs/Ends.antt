@@ -1,9 +1,6 @@
 -- Why a longest trace is not longer.
-use Rattle.std.specs.Prelude.{◌≡◌, ◌<◌, ◌≤◌, ◌+◌, ◌⊎◌, ℕ, ℤ, List, [], ◌∷◌, ◌++◌, length, slice_index_or}
-use Rattle.sig_base.specs.Traces.{Bounded, Instant, Trace, flow_of}
-use Rattle.sig_kernel.specs.KernelTraces.{IsReaction, remembered}
-use Rattle.sig_kernel.specs.declared.kernel.Kernel.{Kernel}
-use Rattle.sig_model.specs.References.{IsReference}
+use Rattle.std.specs.Prelude.{◌≡◌, ◌<◌, ◌≤◌, ◌+◌, ◌⊎◌, ◌∷◌, ◌++◌}
+use Rattle.sig_meaning.specs.Prelude.{ℕ, ℤ, List, [], length, slice_index_or, Bounded, Instant, Trace, flow_of, IsReaction, remembered, Kernel, IsReference}
 
 -- An instant behind a trace is within bounds: its integers have 64 bits, nothing is divided by 0, and no input has more
 -- values than its flow.

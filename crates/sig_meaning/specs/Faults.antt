@@ -1,10 +1,6 @@
 -- The faults of an instant, in the compiled order.
-use Rattle.std.specs.Prelude.{◌≤◌, ℕ, ℤ, List}
-use Rattle.sig_base.specs.Traces.{Instant, Trace}
-use Rattle.sig_kernel.specs.declared.kernel.Kernel.{Kernel}
-use Rattle.sig_model.specs.Causes.{HasFault, MeetsAt}
-use Rattle.sig_plan.specs.Operations.{Operation}
-use Rattle.sig_plan.specs.declared.ended.Cause.{Cause}
+use Rattle.std.specs.Prelude.{◌≤◌}
+use Rattle.sig_meaning.specs.Prelude.{ℕ, ℤ, List, Instant, Trace, Kernel, HasFault, MeetsAt, Operation, Cause}
 
 -- an instant behind a trace has a fault, which the operation at this place of the order meets
 pub record IsFaultAt (kernel : Kernel) (operations : List Operation) (order : List ℕ) (flows : List (List ℤ)) (trace : Trace) (instant : Instant) (place : ℕ) (cause : Cause) : Type 0 where

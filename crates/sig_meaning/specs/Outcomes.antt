@@ -1,18 +1,7 @@
 -- What an operation comes to at an actor, beside what the reference has.
-use Rattle.std.specs.Prelude.{◌≡◌, ℕ, ℤ, List, length, slice_get, Contains, Some}
-use Rattle.sig_base.specs.Traces.{Instant, Trace, flow_of, seen_at}
-use Rattle.sig_base.specs.declared.ids.SigId.{SigId}
-use Rattle.sig_kernel.specs.KernelTraces.{remembered}
-use Rattle.sig_kernel.specs.declared.equation.Equation.{Equation}
-use Rattle.sig_kernel.specs.declared.equation.Form.TheVariants.{Delay}
-use Rattle.sig_kernel.specs.declared.kernel.Kernel.{Kernel}
-use Rattle.sig_model.specs.Actors.{Actor}
-use Rattle.sig_model.specs.Causes.{HasFault, Meets}
-use Rattle.sig_model.specs.Operating.{Faults, Gives, Outcome}
-use Rattle.sig_plan.specs.Operations.{Operation}
-use Rattle.sig_plan.specs.Order.{Writes}
-use Rattle.sig_plan.specs.declared.op.Op.{Op}
-use Rattle.sig_plan.specs.declared.op.OpKind.TheVariants.{Read}
+use Rattle.std.specs.Prelude.{◌≡◌}
+use Rattle.sig_meaning.specs.Prelude.{ℕ, ℤ, List, length, slice_get, Contains, Some, Instant, Trace, flow_of, seen_at, SigId, remembered, Equation, Delay, Kernel, Actor, HasFault, Meets, Faults, Outcome, Operation, Writes, Op, Read}
+use Rattle.sig_model.specs.Operating.{Gives}
 
 -- An actor is at an operation, behind a trace and in an instant: it has what the operation reads there, remembers what the trace
 -- leaves, and has read what the trace took.

@@ -1,14 +1,6 @@
 -- A kernel has one reaction: what it remembers and what its inputs have next determine an instant.
-use Rattle.std.specs.Prelude.{◌≡◌, ◌<◌, ℕ, ℤ, false, Some, Contains, slice_get}
-use Rattle.sig_base.specs.Traces.{Instant, IsValue, Unbounded, is_silent, seen_at}
-use Rattle.sig_base.specs.declared.ids.Kind.{Kind}
-use Rattle.sig_base.specs.declared.ids.SigId.{SigId}
-use Rattle.sig_base.specs.declared.signal.Signal.{Signal}
-use Rattle.sig_base.specs.declared.span.Span.{Span}
-use Rattle.sig_kernel.specs.KernelTraces.{IsReaction, Memory}
-use Rattle.sig_kernel.specs.Table.{kind_at}
-use Rattle.sig_kernel.specs.declared.equation.Form.TheVariants.{Delay}
-use Rattle.sig_kernel.specs.declared.kernel.Kernel.{Kernel}
+use Rattle.std.specs.Prelude.{◌≡◌, ◌<◌}
+use Rattle.sig_meaning.specs.Prelude.{ℕ, ℤ, false, Some, Contains, slice_get, Instant, IsValue, Unbounded, is_silent, seen_at, Kind, SigId, Signal, Span, IsReaction, Memory, kind_at, Delay, Kernel}
 
 -- each delay remembers a value of the kind of the signal that it defines; its integers are all whole numbers
 abbrev pub RemembersValues : Kernel → Memory → Type 0

@@ -1,15 +1,9 @@
 //! Laws of kernels that have one reaction. The function of a law does nothing when it runs.
 
-ghost use Rattle.std.specs.Prelude.{◌≡◌, ◌≤◌, ℕ, ℤ, List, length};
-ghost use Rattle.sig_base.specs.Functions.{Function, Gives, operand_count};
-ghost use Rattle.sig_base.specs.Traces.{IsLongest, IsPrefixOf, Trace, Unbounded};
-ghost use Rattle.sig_kernel.specs.KernelTraces.{IsKernelTrace};
-ghost use Rattle.sig_kernel.specs.Validity.{AreFlowsFor, IsValid};
-ghost use Rattle.sig_kernel.specs.declared.kernel.Kernel.{Kernel};
+ghost use Rattle.std.specs.Prelude.{◌≡◌, ◌≤◌};
+ghost use Rattle.sig_meaning.specs.Prelude.{ℕ, ℤ, List, length, Function, Gives, operand_count, IsLongest, IsPrefixOf, Trace, Unbounded, IsKernelTrace, AreFlowsFor, IsValid, Kernel, IsReference, result_of};
 ghost use Rattle.sig_meaning.specs.Ends.{IsCut};
 ghost use Rattle.sig_meaning.specs.Reactions.{HasOneReaction};
-ghost use Rattle.sig_model.specs.References.{IsReference};
-ghost use Rattle.sig_model.specs.Results.{result_of};
 
 /// A law: the result of a function of as many values as it has operands is the one value that the
 /// function gives of them, where every whole number is an integer.

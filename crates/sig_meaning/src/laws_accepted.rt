@@ -1,33 +1,15 @@
 //! Laws of accepted plans and their runs. The function of a law does nothing when it runs.
 
-ghost use Rattle.std.specs.Prelude.{◌≡◌, ◌+◌, ◌++◌, ◌∷◌, [], ℕ, ℤ, true, List, length, slice_get, Contains, Option, Some};
-ghost use Rattle.sig_base.specs.Traces.{Fits, Instant, NoneSilent, Trace, seen_at};
-ghost use Rattle.sig_base.specs.declared.ids.EqId.{EqId};
-ghost use Rattle.sig_base.specs.declared.ids.SigId.{SigId};
-ghost use Rattle.sig_base.specs.declared.place.Place.{Place};
-ghost use Rattle.sig_kernel.specs.declared.equation.Equation.{Equation};
-ghost use Rattle.sig_kernel.specs.declared.equation.Form.TheVariants.{Delay};
-ghost use Rattle.sig_dd.specs.Nodes.{test};
-ghost use Rattle.sig_kernel.specs.KernelTraces.{IsKernelTrace, Memory};
-ghost use Rattle.sig_kernel.specs.Validity.{AreFlowsFor};
+ghost use Rattle.std.specs.Prelude.{◌≡◌, ◌+◌, ◌++◌, ◌∷◌};
+ghost use Rattle.sig_meaning.specs.Prelude.{[], ℕ, ℤ, true, List, length, slice_get, Contains, Option, Some, Fits, Instant, NoneSilent, Trace, seen_at, EqId, SigId, Place, Equation, Delay, test, IsKernelTrace, Memory, AreFlowsFor, Actor, Registers, truths_of, IsEnd, place_at, first_in, outcome, IsReference, Operation, operation_in, operations_in, IsAccepted, PlanView, numbers_of, Cause, Ended, Op, Store};
 ghost use Rattle.sig_meaning.specs.Ends.{IsWithinBounds, StopsBefore};
 ghost use Rattle.sig_meaning.specs.Faults.{IsFaultAt, IsFirstFault};
 ghost use Rattle.sig_meaning.specs.Outcomes.{IsAt, IsOutcome};
 ghost use Rattle.sig_meaning.specs.Reactions.{HasOneReaction, IsNext};
-ghost use Rattle.sig_model.specs.Actors.{Actor, Registers, truths_of};
-ghost use Rattle.sig_model.specs.Causes.{IsEnd, place_at};
-ghost use Rattle.sig_model.specs.Operating.{first_in, outcome};
-ghost use Rattle.sig_model.specs.References.{IsReference};
-ghost use Rattle.sig_plan.specs.Operations.{Operation, operation_in, operations_in};
-ghost use Rattle.sig_plan.specs.Plans.{IsAccepted, PlanView, numbers_of};
-ghost use Rattle.sig_plan.specs.declared.ended.Cause.{Cause};
-ghost use Rattle.sig_plan.specs.declared.ended.Ended.{Ended};
-ghost use Rattle.sig_plan.specs.declared.op.Op.{Op};
-ghost use Rattle.sig_plan.specs.declared.op.OpKind.TheVariants.{Store};
 
-/// A law: an accepted kernel has one reaction; and whatever its delays remember and its inputs have
+/// A law: the kernel of an accepted plan has one reaction; and whatever its delays remember and its inputs have
 /// next, it has no two.
-pub fn accepted_kernels_have_one_reaction()
+pub fn accepted_plans_have_one_reaction()
     ensures one { (plan : PlanView) → IsAccepted plan → HasOneReaction plan.kernel }
     ensures at_most { (plan : PlanView) → IsAccepted plan → (memory : Memory) (next : ℕ → ℤ) (a b : Instant)
         → IsNext plan.kernel memory next a → IsNext plan.kernel memory next b → a ≡ b }

@@ -8,6 +8,6 @@ mod laws_accepted;
 
 pub use laws::{functions_have_results, longest_traces_exist, references_exist_once};
 pub use laws_accepted::{
-    accepted_kernels_have_one_reaction, faults_are_out_of_bounds, named_causes_exist_once,
+    accepted_plans_have_one_reaction, faults_are_out_of_bounds, named_causes_exist_once,
     outcomes_are_of_the_reference, stores_keep_what_is_seen,
 };

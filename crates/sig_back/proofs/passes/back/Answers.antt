@@ -1,5 +1,4 @@
-use Rattle.std.specs.Prelude.{Err, Ok}
-use Rattle.sig_back.proofs.Accepting.{first, given}
+use Rattle.sig_back.proofs.{Err, Ok, first, given}
 use Rattle.sig_back.proofs.passes.back.Goals as goal
 
 pub returns-in-Ok-clause-first : goal.returns-in-Ok-clause-first

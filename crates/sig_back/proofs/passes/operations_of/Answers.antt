@@ -1,5 +1,4 @@
-use Rattle.std.proofs.Common.{refl}
-use Rattle.sig_back.proofs.Rooms.{no_room_for_operations}
+use Rattle.sig_back.proofs.{refl, no_room_for_operations}
 use Rattle.sig_back.proofs.passes.operations_of.Goals as goal
 
 pub returns-in-Err-Budget-clause-refused : goal.returns-in-Err-Budget-clause-refused

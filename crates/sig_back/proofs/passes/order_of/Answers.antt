@@ -1,9 +1,6 @@
-use Rattle.std.proofs.Common.{refl, subst, [], ◌∷◌}
-use Rattle.sig_back.proofs.Accepting.{operations, refuses}
-use Rattle.sig_back.specs.declared.fault.BackKind.TheVariants.{Cycle as IsCycle}
+use Rattle.sig_back.proofs.{refl, subst, [], ◌∷◌, operations, refuses, Cycle as IsCycle, operations_in}
 use Rattle.sig_graph.specs.Answers.{IsRefusal}
 use Rattle.sig_plan.specs.Acceptance.{Cycle}
-use Rattle.sig_plan.specs.Operations.{operations_in}
 use Rattle.sig_back.proofs.passes.order_of.Goals as goal
 
 pub returns-in-Err-Cycle-clause-refused : goal.returns-in-Err-Cycle-clause-refused

@@ -1,9 +1,6 @@
-use Rattle.std.proofs.Common.{refl, subst, []}
-use Rattle.sig_back.proofs.Accepting.{operations, refuses}
-use Rattle.sig_back.specs.declared.fault.BackKind.TheVariants.{TooManyLinks as AreTooManyLinks}
+use Rattle.sig_back.proofs.{refl, subst, [], operations, refuses, TooManyLinks as AreTooManyLinks, operations_in}
 use Rattle.sig_part.specs.Answers.{IsRefusal}
 use Rattle.sig_plan.specs.Acceptance.{TooManyLinks}
-use Rattle.sig_plan.specs.Operations.{operations_in}
 use Rattle.sig_back.proofs.passes.parts_of.Goals as goal
 
 pub returns-in-Err-TooManyLinks-clause-refused : goal.returns-in-Err-TooManyLinks-clause-refused

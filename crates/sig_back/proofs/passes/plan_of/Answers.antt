@@ -1,8 +1,4 @@
-use Rattle.std.proofs.Common.{subst}
-use Rattle.sig_back.proofs.Accepting.{operations}
-use Rattle.sig_plan.specs.Operations.{operations_in}
-use Rattle.sig_plan.specs.Order.{HasNoCycle}
-use Rattle.sig_plan.specs.Parts.{AreParts}
+use Rattle.sig_back.proofs.{subst, operations, operations_in, HasNoCycle, AreParts}
 use Rattle.sig_back.proofs.passes.plan_of.Goals as goal
 
 pub returns-clause-accepted : goal.returns-clause-accepted

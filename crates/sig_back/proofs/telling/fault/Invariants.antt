@@ -1,5 +1,4 @@
-use Rattle.std.proofs.Common.{◌≡◌, map, take}
-use Rattle.sig_back.specs.Faults.{name_at}
+use Rattle.sig_back.proofs.{◌≡◌, map, take, name_at}
 use Rattle.sig_back.proofs.telling.fault.Given as goal
 
 abbrev pub invariant-loop-x : goal.invariant-loop-x

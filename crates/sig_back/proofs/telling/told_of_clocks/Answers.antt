@@ -1,8 +1,5 @@
-use Rattle.std.proofs.Common.{refl, subst, [], ◌∷◌}
-use Rattle.sig_back.proofs.Accepting.{refuses}
-use Rattle.sig_back.specs.declared.fault.BackKind.TheVariants.{MissingRoot as IsMissingRoot, Unsolved as IsUnsolved, Pinned as IsPinned}
+use Rattle.sig_back.proofs.{refl, subst, [], ◌∷◌, refuses, MissingRoot as IsMissingRoot, Unsolved as IsUnsolved, Pinned as IsPinned, IsRefusalOf}
 use Rattle.sig_plan.specs.Acceptance.{MissingRoot, Unsolved, Pinned}
-use Rattle.sig_solve.specs.Refusals.{IsRefusalOf}
 use Rattle.sig_back.proofs.telling.told_of_clocks.Goals as goal
 
 pub returns-in-MissingRoot : goal.returns-in-MissingRoot

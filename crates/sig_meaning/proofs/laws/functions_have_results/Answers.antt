@@ -1,4 +1,4 @@
-use Rattle.sig_meaning.proofs.Results.{determined, given}
+use Rattle.sig_meaning.proofs.{determined, given}
 use Rattle.sig_meaning.proofs.laws.functions_have_results.Goals as goal
 
 pub returns : goal.returns

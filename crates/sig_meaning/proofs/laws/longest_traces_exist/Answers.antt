@@ -1,6 +1,4 @@
-use Rattle.sig_meaning.proofs.Longest.{longest_cut, some_longest}
-use Rattle.std.proofs.Common.{length}
-use Rattle.sig_meaning.proofs.References.{reference_begins}
+use Rattle.sig_meaning.proofs.{longest_cut, some_longest, length, reference_begins}
 use Rattle.sig_meaning.proofs.laws.longest_traces_exist.Goals as goal
 
 pub returns-clause-some : goal.returns-clause-some

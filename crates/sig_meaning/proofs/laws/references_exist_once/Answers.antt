@@ -1,4 +1,4 @@
-use Rattle.sig_meaning.proofs.References.{one_reference, reference_begins, some_reference}
+use Rattle.sig_meaning.proofs.{one_reference, reference_begins, some_reference}
 use Rattle.sig_meaning.proofs.laws.references_exist_once.Goals as goal
 
 pub returns-clause-some : goal.returns-clause-some

@@ -1,13 +1,4 @@
-use Rattle.std.proofs.Common.{◌++◌, ◌∷◌, [], subst, arith}
-use Rattle.sig_plan.specs.Operations.{operations_in}
-use Rattle.sig_plan.specs.Plans.{numbers_of}
-use Rattle.sig_model.specs.References.{IsReference}
-use Rattle.sig_meaning.proofs.Accepted.{compiled}
-use Rattle.sig_meaning.proofs.Causing.{first_fault}
-use Rattle.sig_meaning.proofs.Ending.{fitting}
-use Rattle.sig_meaning.proofs.Longest.{clean}
-use Rattle.sig_meaning.proofs.References.{flow_count}
-use Rattle.sig_meaning.proofs.WithinBounds.{bounds_without_faults}
+use Rattle.sig_meaning.proofs.{◌++◌, ◌∷◌, [], subst, arith, operations_in, numbers_of, IsReference, compiled, first_fault, fitting, clean, flow_count, bounds_without_faults}
 use Rattle.sig_meaning.proofs.laws_accepted.faults_are_out_of_bounds.Goals as goal
 
 pub returns-clause-none : goal.returns-clause-none

@@ -1,5 +1,4 @@
-use Rattle.sig_meaning.proofs.Ending.{some_end}
-use Rattle.sig_meaning.proofs.Uniqueness.{end_at_first, one_end}
+use Rattle.sig_meaning.proofs.{some_end, end_at_first, one_end}
 use Rattle.sig_meaning.proofs.laws_accepted.named_causes_exist_once.Goals as goal
 
 pub returns : goal.returns

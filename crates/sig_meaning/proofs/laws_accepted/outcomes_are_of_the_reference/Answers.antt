@@ -1,14 +1,4 @@
-use Rattle.std.proofs.Common.{◌≡◌, ℕ, zero, suc, ◌++◌, ◌∷◌, [], List, ap, subst, arith}
-use Rattle.std.specs.Prelude.{Some, slice_get}
-use Rattle.sig_dd.specs.declared.node.Node.{Node}
-use Rattle.sig_model.specs.References.{IsReference}
-use Rattle.sig_plan.specs.Operations.{operation_in, operations_in}
-use Rattle.sig_plan.specs.Plans.{numbers_of}
-use Rattle.sig_plan.specs.declared.op.Op.{Op}
-use Rattle.sig_meaning.proofs.Accepted.{compiled}
-use Rattle.sig_meaning.proofs.Ending.{fitting}
-use Rattle.sig_meaning.proofs.Longest.{clean}
-use Rattle.sig_meaning.proofs.Outcomes.{is_outcome}
+use Rattle.sig_meaning.proofs.{◌≡◌, ℕ, zero, suc, ◌++◌, ◌∷◌, [], List, ap, subst, arith, Some, slice_get, Node, IsReference, operation_in, operations_in, numbers_of, Op, compiled, fitting, clean, is_outcome}
 use Rattle.sig_meaning.proofs.laws_accepted.outcomes_are_of_the_reference.Goals as goal
 
 made_at : (nodes : List Node) (ops : List Op) (number : ℕ) (op : Op) → slice_get ops number ≡ Some op → slice_get (operations_in nodes ops) number ≡ Some (operation_in nodes op)

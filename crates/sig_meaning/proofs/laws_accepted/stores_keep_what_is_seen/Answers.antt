@@ -1,10 +1,4 @@
-use Rattle.std.proofs.Common.{ap, ◌∙◌}
-use Rattle.std.specs.Prelude.{Some}
-use Rattle.sig_plan.specs.Operations.{operations_in}
-use Rattle.sig_plan.specs.Plans.{numbers_of}
-use Rattle.sig_meaning.proofs.Accepted.{compiled}
-use Rattle.sig_meaning.proofs.Storing.{stored}
-use Rattle.sig_meaning.proofs.Values.{form_in}
+use Rattle.sig_meaning.proofs.{ap, ◌∙◌, Some, operations_in, numbers_of, compiled, stored, form_in}
 use Rattle.sig_meaning.proofs.laws_accepted.stores_keep_what_is_seen.Goals as goal
 
 pub returns : goal.returns

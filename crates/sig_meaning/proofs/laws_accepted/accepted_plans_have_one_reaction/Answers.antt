@@ -1,9 +1,5 @@
-use Rattle.sig_plan.specs.Operations.{operations_in}
-use Rattle.sig_plan.specs.Plans.{numbers_of}
-use Rattle.sig_meaning.proofs.Accepted.{compiled}
-use Rattle.sig_meaning.proofs.Agreement.{same_instant}
-use Rattle.sig_meaning.proofs.Reacting.{one_reaction}
-use Rattle.sig_meaning.proofs.laws_accepted.accepted_kernels_have_one_reaction.Goals as goal
+use Rattle.sig_meaning.proofs.{operations_in, numbers_of, compiled, same_instant, one_reaction}
+use Rattle.sig_meaning.proofs.laws_accepted.accepted_plans_have_one_reaction.Goals as goal
 
 pub returns : goal.returns
 returns c = record {
