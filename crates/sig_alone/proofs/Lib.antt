@@ -1,3 +1,6 @@
+pub mod Common
 pub mod OutputLines
 pub mod Running
-pub mod Stepping
+pub use Common.*
+pub use OutputLines.*
+pub use Running.*

@@ -1,15 +1,5 @@
 -- The lines of the first outputs.
-use Rattle.std.proofs.Common.{◌≡◌, ◌<◌, ◌≤◌, ◌+◌, ◌-◌, ◌∙◌, ℕ, zero, suc, List, [], ◌∷◌, ◌++◌, length, map, take, drop, append_assoc, refl, sym, ap, subst, arith}
-use Rattle.std.specs.Prelude.{Option, None, Some, slice_get}
-use Rattle.std.specs.List.{range_with_len}
-use Rattle.std.proofs.lemmas.List.{append-nil}
-use Rattle.sig_base.specs.declared.signal.Signal.{Signal}
-use Rattle.sig_kernel.specs.OutputText.{seen_line, seen_lines}
-use Rattle.sig_kernel.specs.declared.kernel.Kernel.{Kernel}
-use Rattle.sig_model.specs.Actors.{Registers}
-use Rattle.sig_alone.specs.Lines.{line_at, line_where, lines_of}
-use Rattle.sig_plan.specs.Plans.{IsAccepted, PlanView}
-use Rattle.sig_text.specs.Sink.{Joins, TookPrefix, TookPrefix-longer, TookPrefix-then}
+use Rattle.sig_alone.proofs.Common.{◌≡◌, ◌<◌, ◌≤◌, ◌+◌, ◌-◌, ◌∙◌, ℕ, zero, suc, List, [], ◌∷◌, ◌++◌, length, map, take, drop, append_assoc, refl, sym, ap, subst, arith, Option, None, Some, slice_get, range_with_len, append-nil, Signal, seen_line, seen_lines, Kernel, Registers, line_at, line_where, lines_of, IsAccepted, PlanView, Joins, TookPrefix, TookPrefix-longer, TookPrefix-then}
 
 -- the lines of so many outputs
 abbrev pub lines_upto : Kernel → Registers → ℕ → List ℕ

@@ -1,28 +1,9 @@
 -- A run, instant by instant.
-use Rattle.std.proofs.Common.{◌≡◌, ◌<◌, ◌≤◌, ◌+◌, ◌∙◌, ℕ, ℤ, List, [], ◌∷◌, ◌++◌, length, None, refl, sym, subst, arith, length-append}
-use Rattle.sig_doing.proofs.Committed.{begins_longest, limit_end, next_instant}
-use Rattle.sig_doing.proofs.Committing.{committed_more, next_amid, none_committed, opening_amid, text_is}
-use Rattle.sig_doing.specs.Commits.{IsCommitted}
-use Rattle.sig_doing.specs.Doing.{IsAmid}
-use Rattle.sig_kernel.proofs.TextLemmas.{text_prefix}
-use Rattle.sig_kernel.specs.OutputText.{output_text}
-use Rattle.sig_kernel.specs.Validity.{AreFlowsFor}
-use Rattle.sig_model.specs.Actors.{Actor, opening_actor}
-use Rattle.sig_model.specs.Causes.{IsEnd}
-use Rattle.sig_plan.specs.Plans.{IsAccepted, PlanView}
-use Rattle.sig_plan.specs.declared.ended.Cause.{Cause}
-use Rattle.sig_plan.specs.declared.ended.Cause.TheVariants.{Limit}
-use Rattle.sig_plan.specs.declared.ended.Ended.{Ended}
-use Rattle.sig_alone.specs.Instants.{EndsBy, GoesOn, ended_behind}
-use Rattle.sig_alone.specs.Lines.{lines_of}
-use Rattle.sig_alone.specs.Runs.{HasRun, IsWholeRun, TookSome}
-use Rattle.sig_text.specs.Sink.{Joins, TookPrefix, TookPrefix-longer, TookPrefix-then}
-use Rattle.sig_values.specs.Values.{actor_at, at_next, instant_of, seen_in}
-use Rattle.sig_values.specs.declared.values.Values.{Values}
+use Rattle.sig_alone.proofs.Common.{◌≡◌, ◌<◌, ◌≤◌, ◌+◌, ◌∙◌, ℕ, ℤ, List, [], ◌∷◌, ◌++◌, length, None, refl, sym, subst, arith, length-append, begins_longest, limit_end, next_instant, committed_more, next_amid, none_committed, opening_amid, text_is, IsCommitted, IsAmid, text_prefix, output_text, AreFlowsFor, Actor, opening_actor, IsEnd, IsAccepted, PlanView, Cause, Limit, Ended, EndsBy, GoesOn, ended_behind, lines_of, HasRun, IsWholeRun, TookSome, Joins, TookPrefix, TookPrefix-longer, TookPrefix-then, actor_at, at_next, registers_of, Machine}
 
 module _ (plan : PlanView) (accepted : IsAccepted plan) (flows : List (List ℤ)) (fit : AreFlowsFor plan.kernel flows) {S : Type 0} (took : S → List ℕ → S → Type 0) where
   -- at the opening
-  pub run_begins : (out : S) → took out [] out → (values : Values) → actor_at values 0 ≡ opening_actor plan.kernel → HasRun plan flows took out out 0 values
+  pub run_begins : (out : S) → took out [] out → (values : Machine) → actor_at values 0 ≡ opening_actor plan.kernel → HasRun plan flows took out out 0 values
   run_begins out nothing values opening =
       let (instant, reference) = next_instant plan accepted flows fit [] (none_committed plan.kernel flows) in
       record {
@@ -33,7 +14,7 @@ module _ (plan : PlanView) (accepted : IsAccepted plan) (flows : List (List ℤ)
         text = nothing;
       }
 
-  module _ (joins : Joins took) (out before after : S) (done : ℕ) (old whole : Values) (run : HasRun plan flows took out before done old)
+  module _ (joins : Joins took) (out before after : S) (done : ℕ) (old whole : Machine) (run : HasRun plan flows took out before done old)
       (goes : GoesOn plan flows old 0 whole (length plan.order)) where
     amid_all : IsAmid plan flows run.trace run.instant (actor_at whole (length plan.order))
     amid_all = goes run.trace run.instant run.amid
@@ -41,18 +22,18 @@ module _ (plan : PlanView) (accepted : IsAccepted plan) (flows : List (List ℤ)
     committed : IsCommitted plan.kernel flows (run.trace ++ run.instant ∷ [])
     committed = committed_more plan accepted flows fit run.trace run.instant (actor_at whole (length plan.order)) amid_all refl
 
-    text_more : output_text plan.kernel (run.trace ++ run.instant ∷ []) ≡ output_text plan.kernel run.trace ++ lines_of plan.kernel (seen_in whole)
+    text_more : output_text plan.kernel (run.trace ++ run.instant ∷ []) ≡ output_text plan.kernel run.trace ++ lines_of plan.kernel (registers_of whole)
     text_more = text_is plan accepted flows fit run.trace run.instant (actor_at whole (length plan.order)) amid_all refl
 
     count_more : length (run.trace ++ run.instant ∷ []) ≡ done + 1
     count_more = let h = length-append run.trace (run.instant ∷ []) in omega (arith, h, run.count)
 
     -- the number of the instant that is done
-    pub instant_is : instant_of whole ≡ done + 1
+    pub instant_is : whole.instant ≡ done + 1
     instant_is = let h = amid_all.number in omega (arith, h, run.count)
 
     -- one more instant is committed
-    pub run_more : took before (lines_of plan.kernel (seen_in whole)) after → (new : Values)
+    pub run_more : took before (lines_of plan.kernel (registers_of whole)) after → (new : Machine)
         → actor_at new 0 ≡ at_next (actor_at whole (length plan.order)) → HasRun plan flows took out after (done + 1) new
     run_more lines new next =
         let (other, reference) = next_instant plan accepted flows fit (run.trace ++ run.instant ∷ []) committed in
@@ -63,23 +44,23 @@ module _ (plan : PlanView) (accepted : IsAccepted plan) (flows : List (List ℤ)
           amid = subst (λ (a : Actor). IsAmid plan flows (run.trace ++ run.instant ∷ []) other a) (sym next)
               (next_amid plan accepted flows fit run.trace run.instant (actor_at whole (length plan.order)) amid_all refl other reference);
           text = subst (λ bytes. took out bytes after) (sym text_more)
-              (joins out before after (output_text plan.kernel run.trace) (lines_of plan.kernel (seen_in whole)) run.text lines);
+              (joins out before after (output_text plan.kernel run.trace) (lines_of plan.kernel (registers_of whole)) run.text lines);
         }
 
     -- its lines were not all taken
-    pub run_stops : (limit : ℕ) → done < limit → TookPrefix took before (lines_of plan.kernel (seen_in whole)) after → TookSome plan flows limit took out after
+    pub run_stops : (limit : ℕ) → done < limit → TookPrefix took before (lines_of plan.kernel (registers_of whole)) after → TookSome plan flows limit took out after
     run_stops limit below part longest is =
         let short : length (run.trace ++ run.instant ∷ []) ≤ limit = omega (arith, count_more, below) in
         let (back, text) = text_prefix plan.kernel (run.trace ++ run.instant ∷ []) longest
         (begins_longest plan.kernel flows limit (run.trace ++ run.instant ∷ []) longest committed short is) in
         let taken : TookPrefix took out (output_text plan.kernel (run.trace ++ run.instant ∷ [])) after =
         subst (λ bytes. TookPrefix took out bytes after) (sym text_more)
-        (TookPrefix-then took joins out before after (output_text plan.kernel run.trace) (lines_of plan.kernel (seen_in whole)) run.text part) in
+        (TookPrefix-then took joins out before after (output_text plan.kernel run.trace) (lines_of plan.kernel (registers_of whole)) run.text part) in
         subst (λ bytes. TookPrefix took out bytes after) (sym text)
         (TookPrefix-longer took out after (output_text plan.kernel (run.trace ++ run.instant ∷ [])) back taken)
 
   -- a run that meets a fault
-  pub run_fails : (out after : S) (done : ℕ) (values : Values) → HasRun plan flows took out after done values → (limit : ℕ) → done < limit → (cause : Cause)
+  pub run_fails : (out after : S) (done : ℕ) (values : Machine) → HasRun plan flows took out after done values → (limit : ℕ) → done < limit → (cause : Cause)
       → EndsBy plan flows values 0 cause → (ended : Ended) → ended.instants ≡ done → ended.cause ≡ cause → IsWholeRun plan flows limit took out after ended
   run_fails out after done values run limit below cause ends ended instants why =
       let (at, end) = ends run.trace run.instant run.amid limit (omega (arith, run.count, below)) in
@@ -88,7 +69,7 @@ module _ (plan : PlanView) (accepted : IsAccepted plan) (flows : List (List ℤ)
       record { trace = run.trace; place = at; end = subst (λ (e : Ended). IsEnd plan flows limit run.trace at e) same end; text = run.text }
 
   -- a run up to the limit
-  pub run_ends : (out after : S) (done : ℕ) (values : Values) → HasRun plan flows took out after done values → (limit : ℕ) → done ≡ limit → (ended : Ended) → ended.instants ≡ limit → ended.cause ≡ Limit
+  pub run_ends : (out after : S) (done : ℕ) (values : Machine) → HasRun plan flows took out after done values → (limit : ℕ) → done ≡ limit → (ended : Ended) → ended.instants ≡ limit → ended.cause ≡ Limit
       → IsWholeRun plan flows limit took out after ended
   run_ends out after done values run limit full ended instants why = record {
     trace = run.trace;

@@ -1,3 +1,3 @@
-pub mod Instants
+pub mod Prelude
 pub mod Lines
 pub mod Runs

@@ -1,11 +1,5 @@
 -- The lines of a reaction.
-use Rattle.std.specs.Prelude.{ℕ, List, [], slice_get, Option, None, Some}
-use Rattle.sig_base.specs.Traces.{Seen}
-use Rattle.sig_base.specs.declared.signal.Signal.{Signal}
-use Rattle.sig_kernel.specs.OutputText.{outputs_of, seen_line, seen_lines}
-use Rattle.sig_kernel.specs.declared.kernel.Kernel.{Kernel}
-use Rattle.sig_model.specs.Actors.{Registers}
-use Rattle.sig_model.specs.Turns.{reaction_in}
+use Rattle.sig_alone.specs.Prelude.{ℕ, List, [], slice_get, Option, None, Some, Seen, Signal, outputs_of, seen_line, seen_lines, Kernel, Registers, reaction_in}
 
 -- the line of a signal, where there is one and it is present
 abbrev pub line_where : Option Signal → Seen → List ℕ

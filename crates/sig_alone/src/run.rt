@@ -1,24 +1,19 @@
 //! A run.
 
-ghost use Rattle.std.specs.Prelude.{◌≡◌, ◌≤◌, ◌<◌, ◌+◌, ◌^◌, ℕ, ℤ, List, Err, IfOk, OnErr, OnOk};
+ghost use Rattle.std.specs.Prelude.{◌≡◌, ◌≤◌, ◌<◌, ◌+◌, ◌^◌};
+ghost use Rattle.sig_alone.specs.Prelude.{Err, IfOk, OnErr, OnOk, AreFlowsFor, opening_actor, Rose, TookPrefix, Lowers, IsMachineOf, actor_at, at_next, registers_of, ℕ};
 ghost use Rattle.sig_alone.specs.Lines.{lines_of};
 ghost use Rattle.sig_alone.specs.Runs.{IsWholeRun, TookSome};
 ghost use Rattle.sig_alone.specs.declared.answer.RunAnswer.{RunAnswer};
-ghost use Rattle.sig_kernel.specs.Validity.{AreFlowsFor};
-ghost use Rattle.sig_model.specs.Actors.{opening_actor};
-ghost use Rattle.sig_text.specs.Counts.{Rose};
-ghost use Rattle.sig_text.specs.Sink.{TookPrefix};
-ghost use Rattle.sig_values.specs.Values.{AreValuesOf, actor_at, at_next, instant_of, seen_in};
 
 use crate::answer::RunAnswer;
 use crate::gates::pass_all;
 use crate::plans::plans_are_accepted;
 use crate::putting::put_reaction;
-use crate::react::react;
 use sig_kernel::Inputs;
+use sig_machine::{Lowered, Machine, lower};
 use sig_plan::{Cause, Ended, Plan};
 use sig_text::{Gate, Sink, WriteFault};
-use sig_values::Values;
 use std::alloc::Global;
 
 /// Runs a plan over flows, up to a limit of instants. The text of each instant is appended to the sink once
@@ -42,10 +37,13 @@ pub fn run_alone<S: Sink, G: Gate>(
     ensures faults_stay { S.faults sink.old ≤ S.faults sink.new }
     ensures memory { result ≡ Err RunAnswer.OutOfMemory → sink.new ≡ sink.old }
 {
-    let Ok(mut values) = Values::new(alloc, plan, inputs) else {
+    let Ok(lowered) = lower(alloc, plan) else {
         return Err(RunAnswer::OutOfMemory);
     };
-    match run(&mut values, plan, inputs, limit, gate, sink) {
+    let Ok(mut machine) = Machine::new(alloc, plan, &lowered, inputs) else {
+        return Err(RunAnswer::OutOfMemory);
+    };
+    match run(&mut machine, plan, &lowered, inputs, limit, gate, sink) {
         Ok(ended) => Ok(ended),
         Err(WriteFault) => Err(RunAnswer::WriteFault),
     }
@@ -53,8 +51,9 @@ pub fn run_alone<S: Sink, G: Gate>(
 
 /// Runs from the opening.
 fn run<S: Sink, G: Gate>(
-    values: &mut Values,
+    machine: &mut Machine,
     plan: &Plan,
+    lowered: &Lowered,
     inputs: &Inputs,
     limit: u32,
     gate: &G,
@@ -62,8 +61,9 @@ fn run<S: Sink, G: Gate>(
 ) -> Result<Ended, WriteFault>
     requires fits { AreFlowsFor plan.now.kernel inputs.now }
     requires limit { limit + 1 < 2 ^ 32 }
-    requires values { AreValuesOf plan.now inputs.now values.old }
-    requires opening { actor_at values.old 0 ≡ opening_actor plan.now.kernel }
+    requires lowers { Lowers plan.now lowered.now }
+    requires machine { IsMachineOf plan.now lowered.now inputs.now machine.old }
+    requires opening { actor_at machine.old 0 ≡ opening_actor plan.now.kernel }
     ensures whole { IfOk result (IsWholeRun plan.now inputs.now limit S.took sink.old sink.new) }
     ensures prefix { OnErr result (TookSome plan.now inputs.now limit S.took sink.old sink.new) }
     ensures failed { OnErr result (Rose (S.faults sink.old) (S.faults sink.new)) }
@@ -72,13 +72,13 @@ fn run<S: Sink, G: Gate>(
     plans_are_accepted(plan);
     for done in 0..limit {
         pass_all(plan, gate, done + 1);
-        if let Err(cause) = react(values, plan, inputs) {
+        if let Err(cause) = machine.react(plan, lowered, inputs) {
             return Ok(Ended {
                 instants: done,
                 cause,
             });
         }
-        commit(values, plan, sink)?;
+        commit(machine, plan, lowered, inputs, sink)?;
     }
     pass_all(plan, gate, limit + 1);
     Ok(Ended {
@@ -88,16 +88,23 @@ fn run<S: Sink, G: Gate>(
 }
 
 /// Appends the lines of a reaction, and goes to the next instant.
-fn commit<S: Sink>(values: &mut Values, plan: &Plan, sink: &mut S) -> Result<(), WriteFault>
-    requires { instant_of values.old + 1 < 2 ^ 32 }
-    ensures all { OnOk result (S.took sink.old (lines_of plan.now.kernel (seen_in values.old)) sink.new) }
-    ensures next { OnOk result ((step : ℕ) → actor_at values.new 0 ≡ at_next (actor_at values.old step)) }
-    ensures values { OnOk result ((flows : List (List ℤ)) → AreValuesOf plan.now flows values.old → AreValuesOf plan.now flows values.new) }
-    ensures prefix { OnErr result (TookPrefix S.took sink.old (lines_of plan.now.kernel (seen_in values.old)) sink.new) }
+fn commit<S: Sink>(
+    machine: &mut Machine,
+    plan: &Plan,
+    _lowered: &Lowered,
+    _inputs: &Inputs,
+    sink: &mut S,
+) -> Result<(), WriteFault>
+    requires instant { machine.old.instant + 1 < 2 ^ 32 }
+    requires machine { IsMachineOf plan.now _lowered.now _inputs.now machine.old }
+    ensures all { OnOk result (S.took sink.old (lines_of plan.now.kernel (registers_of machine.old)) sink.new) }
+    ensures next { OnOk result ((step : ℕ) → actor_at machine.new 0 ≡ at_next (actor_at machine.old step)) }
+    ensures machine { OnOk result (IsMachineOf plan.now _lowered.now _inputs.now machine.new) }
+    ensures prefix { OnErr result (TookPrefix S.took sink.old (lines_of plan.now.kernel (registers_of machine.old)) sink.new) }
     ensures failed { OnErr result (Rose (S.faults sink.old) (S.faults sink.new)) }
     ensures faults_stay { S.faults sink.old ≤ S.faults sink.new }
 {
-    put_reaction(values, plan, sink)?;
-    values.next_instant();
+    put_reaction(machine, plan, sink)?;
+    machine.next_instant();
     Ok(())
 }

@@ -1,34 +1,6 @@
 -- Operations of a plan, done on the values of an actor of it.
-use Rattle.std.proofs.Common.{◌≡◌, ◌<◌, ◌≤◌, ◌+◌, ◌^◌, ◌∙◌, ℕ, zero, suc, ℤ, true, List, [], ◌∷◌, length, get_or, replicate, Option, None, Some, refl, sym, ap, subst, inl, inr, arith}
-use Rattle.std.specs.Prelude.{IfSome, Ok, Err, slice_get, slice_index_or}
-use Rattle.std.proofs.lemmas.Bool.{and_parts, ltb-true}
-use Rattle.std.proofs.lemmas.Bool.Decides.{eqb_tells}
-use Rattle.sig_base.specs.declared.ids.EqId.{EqId}
-use Rattle.sig_base.specs.declared.ids.SigId.{SigId}
-use Rattle.sig_clock.proofs.Lists.{get_at, get_within}
-use Rattle.sig_dd.specs.declared.node.Node.{Node}
-use Rattle.sig_kernel.specs.Table.{operands_of, target_of}
-use Rattle.sig_kernel.specs.Validity.{IsValid, form_within, is_below, operand_within, target_within}
-use Rattle.sig_kernel.specs.declared.equation.Equation.{Equation}
-use Rattle.sig_kernel.specs.declared.kernel.Kernel.{Kernel}
-use Rattle.std.specs.List.{list_all}
-use Rattle.sig_model.specs.Actors.{Actor}
-use Rattle.sig_model.specs.Operating.{Faults, Gives, Outcome, defined_by, next_of, operated, outcome, outcome_by, remembers, taken_by}
-use Rattle.sig_model.specs.Progress.{input_of}
-use Rattle.sig_plan.proofs.Accepted.{plan_operations}
-use Rattle.sig_plan.proofs.Indices.{written_below}
-use Rattle.sig_plan.specs.Operations.{operation_in, operations_in}
-use Rattle.sig_plan.specs.Plans.{IsAccepted, PlanView}
-use Rattle.sig_plan.specs.declared.ended.Cause.{Cause}
-use Rattle.sig_plan.specs.declared.ended.Cause.TheVariants.{Exhausted}
-use Rattle.sig_plan.specs.declared.op.Op.{Op}
-use Rattle.sig_plan.specs.declared.op.OpKind.{OpKind}
-use Rattle.sig_plan.specs.declared.op.OpKind.TheVariants.{Read, Compute, Left, Right, DelayRead, Store}
+use Rattle.sig_values.proofs.Common.{◌≡◌, ◌<◌, ◌≤◌, ◌+◌, ◌^◌, ◌∙◌, ℕ, zero, suc, ℤ, true, List, [], ◌∷◌, length, get_or, replicate, Option, None, Some, refl, sym, ap, subst, inl, inr, arith, IfSome, Ok, Err, slice_get, slice_index_or, and_parts, ltb-true, eqb_tells, EqId, SigId, get_at, get_within, Node, operands_of, target_of, IsValid, form_within, is_below, operand_within, target_within, Equation, Kernel, list_all, Actor, Faults, Gives, Outcome, defined_by, next_of, operated, outcome, outcome_by, remembers, taken_by, input_of, plan_operations, written_below, operation_in, operations_in, IsAccepted, PlanView, Cause, Exhausted, Op, OpKind, Read, Compute, Left, Right, DelayRead, Store, answered, count_of, AreAlike, AreValuesOf, HasPlaces, actor_at, taken_in, Values}
 use Rattle.sig_values.proofs.Writing.{some_is}
-use Rattle.sig_values.specs.Answers.{answered}
-use Rattle.sig_values.specs.Registers.{count_of}
-use Rattle.sig_values.specs.Values.{AreAlike, AreValuesOf, HasPlaces, actor_at, taken_in}
-use Rattle.sig_values.specs.declared.values.Values.{Values}
 
 -- answers tell outcomes
 pub gives_it : (o : Outcome) (v : ℤ) → Ok v ≡ answered o → o ≡ Gives v

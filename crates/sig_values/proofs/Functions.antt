@@ -1,11 +1,5 @@
 -- Functions of lists of values.
-use Rattle.std.proofs.Common.{◌≡◌, ◌<◌, ◌≤◌, ℤ, pos, List, [], ◌∷◌, length, map, get_or, refl, sym, ap, ◌∙◌, arith}
-use Rattle.sig_base.specs.declared.ids.EqId.{EqId}
-use Rattle.sig_kernel.specs.KernelTraces.{function_of}
-use Rattle.sig_kernel.specs.declared.equation.FunOp.{FunOp}
-use Rattle.sig_kernel.specs.declared.equation.FunOp.TheVariants.{Id, Neg, Not, And, Or, Xor, Eq, Ne, Lt, Le, Gt, Ge, Add, Sub, Mul, Div, Mod}
-use Rattle.sig_kernel.specs.declared.equation.Operand.{Operand}
-use Rattle.sig_model.specs.Operating.{Gives, computed}
+use Rattle.sig_values.proofs.Common.{◌≡◌, ◌<◌, ◌≤◌, ℤ, pos, List, [], ◌∷◌, length, map, get_or, refl, sym, ap, ◌∙◌, arith, EqId, function_of, FunOp, Id, Neg, Not, And, Or, Xor, Eq, Ne, Lt, Le, Gt, Ge, Add, Sub, Mul, Div, Mod, Operand, Gives, computed}
 
 -- no function takes three values
 of_three : (e : EqId) (function : FunOp) (a b c : ℤ) (more : List ℤ) → computed e (function_of function) (a ∷ b ∷ c ∷ more) ≡ Gives (pos 0)

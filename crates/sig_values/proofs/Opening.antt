@@ -1,28 +1,6 @@
 -- What values are at the opening.
-use Rattle.std.proofs.Common.{◌≡◌, ◌⊎◌, ◌<◌, ◌≤◌, ◌+◌, ◌-◌, ◌∙◌, ℕ, zero, suc, ℤ, pos, Bool, true, false, IsTrue, List, [], ◌∷◌, length, drop, replicate, get_or, set, Option, None, Some, refl, sym, ap, subst, inl, inr, arith, drop-cons, length-set}
-use Rattle.std.specs.Prelude.{slice_get}
-use Rattle.std.specs.List.{AllPass, list_all}
-use Rattle.std.proofs.lemmas.Bool.{and_parts, cases_order}
-use Rattle.std.proofs.lemmas.List.{length-replicate}
-use Rattle.std.proofs.lemmas.Bool.Decides.{eqb_tells}
-use Rattle.sig_base.specs.declared.ids.SigId.{SigId}
-use Rattle.sig_base.specs.declared.signal.Signal.{Signal}
-use Rattle.sig_clock.proofs.Lists.{contains_at, get_within}
-use Rattle.sig_clock.proofs.LayerLemmas.{one_layer}
-use Rattle.sig_clock.specs.Clocks.{AreInOrder}
-use Rattle.sig_clock.specs.Layers.{IsEarlier}
-use Rattle.sig_clock.specs.Conditions.{is_condition, is_free, signal_id}
-use Rattle.sig_clock.specs.Reactions.{is_boolean_kind}
-use Rattle.sig_kernel.specs.Table.{kind_at, kind_of, operands_of, target_of}
-use Rattle.sig_kernel.specs.Validity.{form_within, operand_within, target_within}
-use Rattle.sig_kernel.specs.declared.equation.Equation.{Equation}
-use Rattle.sig_kernel.specs.declared.kernel.Kernel.{Kernel}
-use Rattle.sig_model.specs.Actors.{initial_by, initial_in, no_registers, truths_of}
+use Rattle.sig_values.proofs.Common.{◌≡◌, ◌⊎◌, ◌<◌, ◌≤◌, ◌+◌, ◌-◌, ◌∙◌, ℕ, zero, suc, ℤ, pos, Bool, true, false, IsTrue, List, [], ◌∷◌, length, drop, replicate, get_or, set, Option, None, Some, refl, sym, ap, subst, inl, inr, arith, drop-cons, length-set, slice_get, AllPass, list_all, and_parts, cases_order, length-replicate, eqb_tells, SigId, Signal, contains_at, get_within, one_layer, AreInOrder, IsEarlier, is_condition, is_free, signal_id, is_boolean_kind, kind_at, kind_of, operands_of, target_of, form_within, operand_within, target_within, Equation, Kernel, initial_by, initial_in, no_registers, truths_of, AreDifferent, AreEntered, AreWithin, AreRegisters, AreVariables, held_in, registers_in, memories_in, Register}
 use Rattle.sig_values.proofs.Writing.{get_set_other, get_set_same, no_truths, some_is}
-use Rattle.sig_values.specs.Making.{AreDifferent, AreEntered, AreWithin}
-use Rattle.sig_values.specs.Registers.{AreRegisters, AreVariables, held_in, registers_in}
-use Rattle.sig_values.specs.Values.{memories_in}
-use Rattle.sig_values.specs.declared.registers.Register.{Register}
 
 -- no delay is met yet
 zero_at : (n signal : ℕ) → memories_in (replicate n (pos 0)) signal ≡ pos 0

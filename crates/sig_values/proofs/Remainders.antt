@@ -1,13 +1,5 @@
 -- Remainders, and numbers of 64 bits.
-use Rattle.std.proofs.Common.{◌≡◌, ◌<◌, ◌^◌, zero, suc, ℤ, pos, negsuc, ◌+ℤ◌, ◌-ℤ◌, ◌*ℤ◌, true, false, [], ◌∷◌, refl, ap, subst, arith, rules, FitsSigned, w64}
-use Rattle.std.specs.Prelude.{int_div, int_rem}
-use Rattle.std.specs.Ordering.{int_eq}
-use Rattle.std.proofs.lemmas.Int.{ints, quot-rem}
-use Rattle.sig_base.specs.Functions.{Remainder, remainder}
-use Rattle.sig_base.specs.declared.ids.EqId.{EqId}
-use Rattle.sig_model.specs.Operating.{Gives, computed}
-use Rattle.sig_model.specs.Results.{has_64_bits}
-use Rattle.sig_values.specs.Answers.{answered}
+use Rattle.sig_values.proofs.Common.{◌≡◌, ◌<◌, ◌^◌, zero, suc, ℤ, pos, negsuc, ◌+ℤ◌, ◌-ℤ◌, ◌*ℤ◌, true, false, [], ◌∷◌, refl, ap, subst, arith, rules, FitsSigned, w64, int_div, int_rem, int_eq, ints, quot-rem, Remainder, remainder, EqId, Gives, computed, has_64_bits, answered}
 
 -- what a division leaves
 left_over : (a q r : ℤ) → q +ℤ r ≡ a → r ≡ a -ℤ q

@@ -1,11 +1,5 @@
 -- Registers that are written, and those of a next instant.
-use Rattle.std.proofs.Common.{◌≡◌, ◌≢◌, ◌<◌, ◌≤◌, ◌+◌, ◌∙◌, ℕ, zero, suc, ℤ, Bool, false, List, [], ◌∷◌, length, map, replicate, Option, None, Some, slice_get, refl, sym, ap, subst, inl, inr, arith, eq-eqb, length-set, set}
-use Rattle.std.proofs.lemmas.Bool.Decides.{eqb_tells}
-use Rattle.sig_base.specs.declared.ids.SigId.{SigId}
-use Rattle.sig_model.specs.Actors.{Registers, is_true, no_registers, truths_of, with_at}
-use Rattle.sig_model.specs.Results.{is_one}
-use Rattle.sig_values.specs.Registers.{AreRegisters, AreVariables, AreWrittenBy, RegistersView, current, held_in, registers_in}
-use Rattle.sig_values.specs.declared.registers.Register.{Register}
+use Rattle.sig_values.proofs.Common.{◌≡◌, ◌≢◌, ◌<◌, ◌≤◌, ◌+◌, ◌∙◌, ℕ, zero, suc, ℤ, Bool, false, List, [], ◌∷◌, length, map, replicate, Option, None, Some, slice_get, refl, sym, ap, subst, inl, inr, arith, eq-eqb, length-set, set, eqb_tells, SigId, Registers, is_true, no_registers, truths_of, with_at, is_one, AreRegisters, AreVariables, AreWrittenBy, RegistersView, current, held_in, registers_in, Register}
 
 pub some_is : {A : Type 0} (a b : A) → Some a ≡ Some b → a ≡ b
 some_is {A} a b is = ap (λ o. from o) is where

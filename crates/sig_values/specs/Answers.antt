@@ -1,9 +1,6 @@
 -- What calls answer of the outcomes of operations.
-use Rattle.std.specs.Prelude.{◌≡◌, ℤ, Option, Result, Ok, Err, FitsSigned, SomeIff}
-use Rattle.std.specs.Int.{w64}
-use Rattle.sig_base.specs.declared.ids.EqId.{EqId}
-use Rattle.sig_model.specs.Operating.{Faults, Gives, Outcome, bounded}
-use Rattle.sig_plan.specs.declared.ended.Cause.{Cause}
+use Rattle.std.specs.Prelude.{◌≡◌}
+use Rattle.sig_values.specs.Prelude.{ℤ, Option, Result, Ok, Err, FitsSigned, SomeIff, w64, EqId, Faults, Gives, Outcome, bounded, Cause}
 
 -- an outcome as an answer
 abbrev pub answered : Outcome → Result ℤ Cause

@@ -1,6 +1,6 @@
 -- What values are made of.
-use Rattle.std.specs.Prelude.{◌≡◌, ◌<◌, ℕ, List, length, slice_get, Option, Some}
-use Rattle.sig_base.specs.declared.ids.SigId.{SigId}
+use Rattle.std.specs.Prelude.{◌≡◌, ◌<◌}
+use Rattle.sig_values.specs.Prelude.{ℕ, List, length, slice_get, Option, Some, SigId}
 
 -- the conditions are signals among so many
 abbrev pub AreWithin : ℕ → List SigId → Type 0

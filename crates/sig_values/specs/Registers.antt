@@ -1,8 +1,6 @@
 -- What an actor has of each signal, in the instant at which it is and in the one before.
-use Rattle.std.specs.Prelude.{◌≡◌, ◌≤◌, ◌-◌, ℕ, Bool, List, ◌==◌, length, slice_get, Option, None, Some, if◌then◌else◌}
-use Rattle.sig_base.specs.Traces.{Seen}
-use Rattle.sig_base.specs.declared.ids.SigId.{SigId}
-use Rattle.sig_model.specs.Actors.{Registers, truths_of}
+use Rattle.std.specs.Prelude.{◌≡◌, ◌≤◌, ◌-◌, ◌==◌, if◌then◌else◌}
+use Rattle.sig_values.specs.Prelude.{ℕ, Bool, List, length, slice_get, Option, None, Some, Seen, SigId, Registers, truths_of}
 use Rattle.sig_values.specs.declared.registers.Register.{Register}
 
 pub record RegistersView : Type 0 where

@@ -1,13 +1,6 @@
 -- The actor that values are, and when they are those of an actor of a plan.
-use Rattle.std.specs.Prelude.{◌≡◌, ◌<◌, ◌≤◌, ◌+◌, ◌^◌, ℕ, ℤ, pos, false, List, [], length, slice_index_or, Result, Ok, Err, IfSome}
-use Rattle.sig_base.specs.declared.ids.SigId.{SigId}
-use Rattle.sig_kernel.specs.declared.kernel.Kernel.{Kernel}
-use Rattle.sig_model.specs.Actors.{Actor, Registers, no_registers}
-use Rattle.sig_model.specs.Operating.{Faults, Gives, operated, outcome, remembers}
-use Rattle.sig_model.specs.Progress.{input_of}
-use Rattle.sig_plan.specs.Plans.{PlanView}
-use Rattle.sig_plan.specs.declared.ended.Cause.{Cause}
-use Rattle.sig_plan.specs.declared.op.Op.{Op}
+use Rattle.std.specs.Prelude.{◌≡◌, ◌<◌, ◌≤◌, ◌+◌, ◌^◌}
+use Rattle.sig_values.specs.Prelude.{ℕ, ℤ, pos, false, List, [], length, slice_index_or, Result, Ok, Err, IfSome, SigId, Kernel, Actor, Registers, no_registers, Faults, Gives, operated, outcome, remembers, input_of, PlanView, Cause, Op}
 use Rattle.sig_values.specs.Registers.{count_of, current, last}
 use Rattle.sig_values.specs.declared.values.Values.{Values}
 

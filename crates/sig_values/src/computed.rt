@@ -1,9 +1,7 @@
 //! What a function gives of the values of its operands.
 
-ghost use Rattle.std.specs.Prelude.{◌≡◌, List, [], ◌∷◌, pos, ℤ, ◌||◌, if◌then◌else◌};
-ghost use Rattle.sig_kernel.specs.KernelTraces.{function_of};
-ghost use Rattle.sig_model.specs.Operating.{bounded, computed};
-ghost use Rattle.sig_model.specs.Results.{truth_value};
+ghost use Rattle.std.specs.Prelude.{◌≡◌, ◌∷◌, ◌||◌, if◌then◌else◌};
+ghost use Rattle.sig_values.specs.Prelude.{List, [], pos, ℤ, function_of, bounded, computed, truth_value};
 ghost use Rattle.sig_values.specs.Answers.{IsWithin, answered};
 
 use sig_base::EqId;
@@ -11,7 +9,7 @@ use sig_kernel::FunOp;
 use sig_plan::Cause;
 
 /// What a function gives of one value, or why it gives none; `e` is its equation.
-pub(crate) fn computed_of_one(e: EqId, function: FunOp, a: i64) -> Result<i64, Cause>
+pub fn computed_of_one(e: EqId, function: FunOp, a: i64) -> Result<i64, Cause>
     ensures { result ≡ answered (computed e (function_of function) (a ∷ [])) }
 {
     match function {
@@ -23,7 +21,7 @@ pub(crate) fn computed_of_one(e: EqId, function: FunOp, a: i64) -> Result<i64, C
 }
 
 /// What a function gives of two values, or why it gives none; `e` is its equation.
-pub(crate) fn computed_of_two(e: EqId, function: FunOp, a: i64, b: i64) -> Result<i64, Cause>
+pub fn computed_of_two(e: EqId, function: FunOp, a: i64, b: i64) -> Result<i64, Cause>
     ensures { result ≡ answered (computed e (function_of function) (a ∷ b ∷ [])) }
 {
     match function {

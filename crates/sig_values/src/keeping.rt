@@ -1,10 +1,7 @@
 //! What operations leave in values.
 
-ghost use Rattle.std.specs.Prelude.{◌≡◌, ◌+◌, ◌<◌, ◌^◌, ℕ, length, IfSome, Some};
-ghost use Rattle.sig_kernel.specs.Table.{target_of};
-ghost use Rattle.sig_model.specs.Actors.{with_signal};
-ghost use Rattle.sig_model.specs.Operating.{defined_by, operated, remembers, taken_by};
-ghost use Rattle.sig_model.specs.Progress.{input_of};
+ghost use Rattle.std.specs.Prelude.{◌≡◌, ◌+◌, ◌<◌, ◌^◌};
+ghost use Rattle.sig_values.specs.Prelude.{ℕ, length, IfSome, Some, target_of, with_signal, defined_by, operated, remembers, taken_by, input_of};
 ghost use Rattle.sig_values.specs.Registers.{count_of};
 ghost use Rattle.sig_values.specs.Values.{AreAlike, HasPlaces, actor_at, memories_in, seen_in, taken_in};
 
@@ -14,7 +11,7 @@ use sig_kernel::{Form, Kernel};
 use sig_plan::{Op, OpKind};
 
 /// The signal that an equation defines, where there is one.
-fn defined_by(kernel: &Kernel, e: EqId) -> Option<SigId>
+pub fn defined_by(kernel: &Kernel, e: EqId) -> Option<SigId>
     ensures { result ≡ defined_by kernel.now e }
 {
     match kernel.equations.as_slice().get(e.0 as usize) {

@@ -11,4 +11,8 @@ mod plans;
 mod registers;
 mod values;
 
+pub use computed::{computed_of_one, computed_of_two};
+pub use keeping::defined_by;
+pub use making::initial_values;
+pub use operating::next_value;
 pub use values::Values;

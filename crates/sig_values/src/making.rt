@@ -1,10 +1,7 @@
 //! The making of values.
 
-ghost use Rattle.std.specs.Prelude.{◌≡◌, ℕ, IfOk, IsTrue, None, false, length, pos, replicate};
-ghost use Rattle.std.specs.List.{AllPass};
-ghost use Rattle.sig_kernel.specs.Table.{target_of};
-ghost use Rattle.sig_kernel.specs.Validity.{form_within, target_within};
-ghost use Rattle.sig_model.specs.Actors.{initial_by, initial_in, no_registers, opening_actor};
+ghost use Rattle.std.specs.Prelude.{◌≡◌};
+ghost use Rattle.sig_values.specs.Prelude.{ℕ, IfOk, IsTrue, None, false, length, pos, replicate, AllPass, target_of, form_within, target_within, initial_by, initial_in, no_registers, opening_actor};
 ghost use Rattle.sig_values.specs.Making.{AreDifferent, AreWithin};
 ghost use Rattle.sig_values.specs.Registers.{AreVariables, count_of, current};
 ghost use Rattle.sig_values.specs.Values.{AreValuesOf, actor_at, memories_in};
@@ -97,7 +94,7 @@ fn no_variables(alloc: Global, signals: usize) -> Result<Vec<Option<usize>>, All
 }
 
 /// The initial value of the delay that defines each of so many signals, and 0 for the others.
-fn initial_values(
+pub fn initial_values(
     alloc: Global,
     equations: &[Equation],
     signals: usize,

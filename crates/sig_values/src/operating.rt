@@ -1,10 +1,8 @@
 //! What operations come to.
 
-ghost use Rattle.std.specs.Prelude.{◌≡◌, ◌+◌, ◌<◌, ◌^◌, ℕ, List, [], map, slice_get, slice_index_or, IfOk, IfSome};
-ghost use Rattle.sig_model.specs.Progress.{input_of};
+ghost use Rattle.std.specs.Prelude.{◌≡◌, ◌+◌, ◌<◌, ◌^◌};
+ghost use Rattle.sig_values.specs.Prelude.{ℕ, List, [], map, slice_get, slice_index_or, IfOk, IfSome, input_of, function_of, computed, computed_by, computed_for, first_in, memory_of, next_of, operand_in, outcome};
 ghost use Rattle.sig_values.specs.Values.{actor_at, memories_in, taken_in};
-ghost use Rattle.sig_kernel.specs.KernelTraces.{function_of};
-ghost use Rattle.sig_model.specs.Operating.{computed, computed_by, computed_for, first_in, memory_of, next_of, operand_in, outcome};
 ghost use Rattle.sig_values.specs.Answers.{answered};
 ghost use Rattle.sig_values.specs.Registers.{current};
 
@@ -77,8 +75,8 @@ fn first(registers: &Registers, signals: &[SigId]) -> i64
     }
 }
 
-/// The next value of an input, of which so many were read.
-fn next_value(inputs: &Inputs, x: SigId, taken: usize) -> Result<i64, Cause>
+/// The next value of an input, of which so many were read, or that it has none.
+pub fn next_value(inputs: &Inputs, x: SigId, taken: usize) -> Result<i64, Cause>
     ensures value { result ≡ answered (next_of x (slice_get (slice_index_or inputs.now x.0 []) taken)) }
     ensures few { IfOk result (λ v. taken + 1 < 2 ^ 64) }
 {

@@ -1,7 +1,7 @@
 //! The parts of an accepted plan.
 
 ghost use Rattle.std.specs.Prelude.{◌≡◌};
-ghost use Rattle.sig_plan.specs.Plans.{IsAccepted};
+ghost use Rattle.sig_values.specs.Prelude.{IsAccepted};
 
 use sig_base::SigId;
 use sig_kernel::Kernel;

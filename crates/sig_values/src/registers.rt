@@ -1,8 +1,7 @@
 //! What an actor has of each signal.
 
-ghost use Rattle.std.specs.Prelude.{◌≡◌, ◌+◌, ◌<◌, ◌^◌, false, length, replicate, Some};
-ghost use Rattle.sig_model.specs.Actors.{no_registers, truths_of, value_in, with_at};
-ghost use Rattle.sig_model.specs.Results.{is_one};
+ghost use Rattle.std.specs.Prelude.{◌≡◌, ◌+◌, ◌<◌, ◌^◌};
+ghost use Rattle.sig_values.specs.Prelude.{false, length, replicate, Some, no_registers, truths_of, value_in, with_at, is_one};
 ghost use Rattle.sig_values.specs.Registers.{count_of, current, held_in, last};
 
 use sig_base::SigId;

@@ -1,8 +1,7 @@
 //! The values of an actor.
 
-ghost use Rattle.std.specs.Prelude.{◌≡◌, ◌+◌, ◌<◌, ◌^◌, ℕ, ℤ, List};
-ghost use Rattle.sig_model.specs.Actors.{truths_of};
-ghost use Rattle.sig_plan.specs.Plans.{PlanView};
+ghost use Rattle.std.specs.Prelude.{◌≡◌, ◌+◌, ◌<◌, ◌^◌};
+ghost use Rattle.sig_values.specs.Prelude.{ℕ, ℤ, List, truths_of, PlanView};
 ghost use Rattle.sig_values.specs.Values.{AreValuesOf, actor_at, at_next, conditions_in, instant_of, last_in, seen_in};
 
 use crate::registers::Registers;

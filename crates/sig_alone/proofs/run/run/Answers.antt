@@ -1,35 +1,33 @@
-use Rattle.std.proofs.Common.{arith, length, refl}
-use Rattle.std.proofs.lemmas.Result.{err_from_is_err_and}
-use Rattle.sig_alone.proofs.Running.{run_begins, run_ends, run_fails, run_more, run_stops}
+use Rattle.sig_alone.proofs.{arith, length, refl, err_from_is_err_and, run_begins, run_ends, run_fails, run_more, run_stops}
 use Rattle.sig_alone.proofs.run.run.Goals as goal
 
 pub loop-done-init : goal.loop-done-init
 loop-done-init g c = record {
-  values = c.requires.values;
-  run = run_begins c.args.plan.now c.plans_are_accepted.ensures c.args.inputs.now c.requires.fits g.S.Sink.took c.args.sink.now (g.met.S.Sink.took_nothing c.args.sink.now) c.args.values.now c.requires.opening;
+  machine = c.requires.machine;
+  run = run_begins c.args.plan.now c.plans_are_accepted.ensures c.args.inputs.now c.requires.fits g.S.Sink.took c.args.sink.now (g.met.S.Sink.took_nothing c.args.sink.now) c.args.machine.now c.requires.opening;
   faults = omega arith;
 }
 
 pub returns-in-Err-clause-whole : goal.returns-in-Err-clause-whole
 returns-in-Err-clause-whole g c =
-    run_fails c.args.plan.now c.plans_are_accepted.ensures c.args.inputs.now c.requires.fits g.S.Sink.took c.args.sink.now c.loop-done.sink c.loop-done.done c.loop-done.values
+    run_fails c.args.plan.now c.plans_are_accepted.ensures c.args.inputs.now c.requires.fits g.S.Sink.took c.args.sink.now c.loop-done.sink c.loop-done.done c.loop-done.machine
     c.loop-done.invariant.run c.args.limit c.loop-done-test.true c.in-Err.cause c.in-Err.ensures.fault _ refl refl
 
 pub returns-in_err-commit-clause-prefix : goal.returns-in_err-commit-clause-prefix
 returns-in_err-commit-clause-prefix g c =
     let p = err_from_is_err_and c.from_residual.result c.from_residual.ensures.1 in
     rw p.1 (run_stops c.args.plan.now c.plans_are_accepted.ensures c.args.inputs.now c.requires.fits g.S.Sink.took g.met.S.Sink.took_both c.args.sink.now c.loop-done.sink c.commit.new.sink c.loop-done.done
-    c.loop-done.values c.react.new.values c.loop-done.invariant.run c.in_default.ensures.done c.args.limit c.loop-done-test.true c.in_err-commit.ensures.prefix)
+    c.loop-done.machine c.react.new.self c.loop-done.invariant.run c.in_default.ensures.done c.args.limit c.loop-done-test.true c.in_err-commit.ensures.prefix)
 
 pub loop-done-preserved : goal.loop-done-preserved
 loop-done-preserved g c = record {
-  values = c.in_ok-commit.ensures.values c.args.inputs.now c.in_default.ensures.values;
+  machine = c.in_ok-commit.ensures.machine;
   run = run_more c.args.plan.now c.plans_are_accepted.ensures c.args.inputs.now c.requires.fits g.S.Sink.took g.met.S.Sink.took_both c.args.sink.now c.loop-done.sink c.commit.new.sink c.loop-done.done
-      c.loop-done.values c.react.new.values c.loop-done.invariant.run c.in_default.ensures.done c.in_ok-commit.ensures.all c.commit.new.values (c.in_ok-commit.ensures.next (length c.args.plan.now.order));
+      c.loop-done.machine c.react.new.self c.loop-done.invariant.run c.in_default.ensures.done c.in_ok-commit.ensures.all c.commit.new.machine (c.in_ok-commit.ensures.next (length c.args.plan.now.order));
   faults = omega (arith, c.loop-done.invariant.faults, c.in_ok-commit.ensures.faults_stay);
 }
 
 pub returns-clause-whole : goal.returns-clause-whole
 returns-clause-whole g c =
-    run_ends c.args.plan.now c.plans_are_accepted.ensures c.args.inputs.now c.requires.fits g.S.Sink.took c.args.sink.now c.loop-done.sink c.loop-done.done c.loop-done.values
+    run_ends c.args.plan.now c.plans_are_accepted.ensures c.args.inputs.now c.requires.fits g.S.Sink.took c.args.sink.now c.loop-done.sink c.loop-done.done c.loop-done.machine
     c.loop-done.invariant.run c.args.limit (omega (arith, c.loop-done-test.false, c.loop-done.auto.done-end)) _ refl refl

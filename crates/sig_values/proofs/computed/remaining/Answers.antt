@@ -1,8 +1,4 @@
-use Rattle.std.proofs.Common.{◌≡◌, ℤ, pos, ap, ◌∙◌, rules}
-use Rattle.std.proofs.lemmas.Int.{to_z-of_z}
-use Rattle.std.specs.Int.{w64, cast_unsigned}
-use Rattle.std.specs.Prelude.{FitsSigned, int_rem}
-use Rattle.sig_values.proofs.Remainders.{remainder_is, remaining_is}
+use Rattle.sig_values.proofs.{◌≡◌, ℤ, pos, ap, ◌∙◌, rules, to_z-of_z, w64, cast_unsigned, FitsSigned, int_rem, remainder_is, remaining_is}
 use Rattle.sig_values.proofs.computed.remaining.Goals as goal
 
 pub returns : goal.returns

@@ -1,10 +1,4 @@
-use Rattle.std.proofs.Common.{◌≡◌, ◌∙◌, ◌-◌, ap, arith, refl, drop, length}
-use Rattle.std.proofs.Common.{[], pos}
-use Rattle.std.proofs.Math.Seq.{drop-length}
-use Rattle.std.proofs.lemmas.List.{length-replicate}
-use Rattle.sig_model.specs.Actors.{initial_in}
-use Rattle.sig_values.specs.Values.{memories_in}
-use Rattle.sig_values.proofs.Opening.{none_met, one_met, target_is_within}
+use Rattle.sig_values.proofs.{◌≡◌, ◌∙◌, ◌-◌, ap, arith, refl, drop, length, [], pos, drop-length, length-replicate, initial_in, memories_in, none_met, one_met, target_is_within}
 use Rattle.sig_values.proofs.making.initial_values.Goals as goal
 
 pub put_initial-requires : goal.put_initial-requires

@@ -1,6 +1,4 @@
-use Rattle.std.proofs.Common.{◌≡◌, ◌-◌, drop, length}
-use Rattle.sig_model.specs.Actors.{initial_in}
-use Rattle.sig_values.specs.Values.{memories_in}
+use Rattle.sig_values.proofs.{◌≡◌, ◌-◌, drop, length, initial_in, memories_in}
 use Rattle.sig_values.proofs.making.initial_values.Given as goal
 
 abbrev pub invariant-loop-done : goal.invariant-loop-done

@@ -1,8 +1,4 @@
-use Rattle.std.proofs.Common.{◌≡◌, ◌<◌, arith, get_or, length}
-use Rattle.std.specs.Prelude.{Some, slice_get}
-use Rattle.sig_base.specs.declared.ids.SigId.{SigId}
-use Rattle.sig_clock.proofs.Lists.{get_at}
-use Rattle.sig_values.proofs.Opening.{all_entered, none_entered, one_entered}
+use Rattle.sig_values.proofs.{◌≡◌, ◌<◌, arith, get_or, length, Some, slice_get, SigId, get_at, all_entered, none_entered, one_entered}
 use Rattle.sig_values.proofs.making.variables_of.Goals as goal
 
 pub index_mut-requires : goal.index_mut-requires

@@ -1,4 +1,4 @@
-use Rattle.sig_values.specs.Making.{AreEntered}
+use Rattle.sig_values.proofs.{AreEntered}
 use Rattle.sig_values.proofs.making.variables_of.Given as goal
 
 abbrev pub invariant-loop-variable : goal.invariant-loop-variable

@@ -1,10 +1,5 @@
-use Rattle.std.proofs.Common.{◌≡◌, ◌∙◌, ℤ, List, [], ◌∷◌, ap, rules, FitsSigned, w64}
-use Rattle.std.proofs.lemmas.Int.{to_z-of_z}
-use Rattle.sig_kernel.specs.KernelTraces.{function_of}
-use Rattle.sig_model.specs.Operating.{computed, operand_in}
-use Rattle.sig_values.specs.Answers.{answered}
-use Rattle.sig_values.specs.Registers.{current}
-use Rattle.sig_values.proofs.Functions.{of_many, two_of}
+use Rattle.sig_values.proofs.{◌≡◌, ◌∙◌, ℤ, List, [], ◌∷◌, ap, rules, FitsSigned, w64, to_z-of_z, function_of, operand_in, answered, current, of_many, two_of}
+use Rattle.sig_model.specs.Operating.{computed}
 use Rattle.sig_values.proofs.operating.apply.Goals as goal
 
 pub returns-in-len2 : goal.returns-in-len2

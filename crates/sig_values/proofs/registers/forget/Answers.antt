@@ -1,5 +1,4 @@
-use Rattle.std.proofs.Common.{◌∙◌, ap, false, replicate, arith}
-use Rattle.sig_values.proofs.Writing.{all_false, one_more_false}
+use Rattle.sig_values.proofs.{◌∙◌, ap, false, replicate, arith, all_false, one_more_false}
 use Rattle.sig_values.proofs.registers.forget.Goals as goal
 
 pub loop-i-preserved : goal.loop-i-preserved

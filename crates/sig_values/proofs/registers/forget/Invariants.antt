@@ -1,4 +1,4 @@
-use Rattle.std.proofs.Common.{◌≡◌, ◌<◌, ℕ, false, slice_get, Some}
+use Rattle.sig_values.proofs.{◌≡◌, ◌<◌, ℕ, false, slice_get, Some}
 use Rattle.sig_values.proofs.registers.forget.Given as goal
 
 abbrev pub invariant-loop-i : goal.invariant-loop-i

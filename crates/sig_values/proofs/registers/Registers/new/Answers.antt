@@ -1,4 +1,4 @@
-use Rattle.sig_values.proofs.Opening.{none_written, opening_registers}
+use Rattle.sig_values.proofs.{none_written, opening_registers}
 use Rattle.sig_values.proofs.registers.Registers.new.Goals as goal
 
 pub invariant_of-result : goal.invariant_of-result

@@ -1,7 +1,4 @@
-use Rattle.std.proofs.Common.{◌≡◌, ◌∙◌, ◌++◌, ap, false, length, replicate, drop, take}
-use Rattle.std.proofs.lemmas.List.{take_at}
-use Rattle.sig_values.proofs.Writing.{next_registers, none_later}
-use Rattle.sig_values.specs.Registers.{RegistersView}
+use Rattle.sig_values.proofs.{◌≡◌, ◌∙◌, ◌++◌, ap, false, length, replicate, drop, take, take_at, next_registers, none_later, RegistersView}
 use Rattle.sig_values.proofs.registers.Registers.next_instant.Goals as goal
 
 pub invariant_of-self : goal.invariant_of-self

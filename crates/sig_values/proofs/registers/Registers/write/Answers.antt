@@ -1,10 +1,4 @@
-use Rattle.std.proofs.Common.{◌≡◌, ◌<◌, ◌∙◌, ℕ, ℤ, Some, length, set, slice_get, refl, sym, ap, subst, arith, w64}
-use Rattle.std.proofs.lemmas.Int.{to_z-of_z}
-use Rattle.std.proofs.lemmas.Option.{slice_get_read}
-use Rattle.sig_model.specs.Actors.{with_at}
-use Rattle.sig_model.specs.Results.{is_one}
-use Rattle.sig_values.proofs.Writing.{current_written, now_with, registers_written, registers_written_else, some_is}
-use Rattle.sig_values.specs.Registers.{RegistersView, current, registers_in}
+use Rattle.sig_values.proofs.{◌≡◌, ◌<◌, ◌∙◌, ℕ, ℤ, Some, length, set, slice_get, refl, sym, ap, subst, arith, w64, to_z-of_z, slice_get_read, with_at, is_one, current_written, now_with, registers_written, registers_written_else, some_is, RegistersView, current, registers_in}
 use Rattle.sig_values.proofs.registers.Registers.write.Goals as goal
 
 -- the register that is written is there

@@ -1,16 +1,4 @@
-use Rattle.std.proofs.Common.{◌≡◌, ◌≤◌, ◌∙◌, ℕ, ℤ, ap, arith, sym, subst, length, List, false, []}
-use Rattle.std.specs.Prelude.{slice_index_or}
-use Rattle.std.specs.List.{AllPass}
-use Rattle.sig_base.specs.declared.ids.SigId.{SigId}
-use Rattle.sig_kernel.specs.Validity.{form_within}
-use Rattle.sig_kernel.specs.declared.equation.Equation.{Equation}
-use Rattle.sig_kernel.specs.declared.kernel.Kernel.{Kernel}
-use Rattle.std.proofs.lemmas.List.{length-replicate}
-use Rattle.sig_model.specs.Actors.{Actor, Registers, initial_in}
-use Rattle.sig_values.proofs.Behind.{none_taken}
-use Rattle.sig_values.proofs.Opening.{conditions_differ, conditions_within}
-use Rattle.sig_values.specs.Making.{AreDifferent, AreWithin}
-use Rattle.sig_values.specs.Values.{taken_in}
+use Rattle.sig_values.proofs.{◌≡◌, ◌≤◌, ◌∙◌, ℕ, ℤ, ap, arith, sym, subst, length, List, false, [], slice_index_or, AllPass, SigId, form_within, Equation, Kernel, length-replicate, Actor, Registers, initial_in, none_taken, conditions_differ, conditions_within, AreDifferent, AreWithin, taken_in}
 use Rattle.sig_values.proofs.values.Values.new.Goals as goal
 
 abbrev signals_in : Kernel → ℕ

@@ -1,4 +1,4 @@
-use Rattle.std.proofs.Common.{◌∙◌}
+use Rattle.sig_values.proofs.{◌∙◌}
 use Rattle.sig_values.proofs.values.Values.next_instant.Goals as goal
 
 pub returns-clause-values : goal.returns-clause-values

@@ -1,11 +1,4 @@
-use Rattle.std.proofs.Common.{◌≡◌, ℕ, ℤ, sym, subst, List, rules, w64}
-use Rattle.std.proofs.lemmas.Int.{to_z-of_z}
-use Rattle.sig_kernel.specs.declared.kernel.Kernel.{Kernel}
-use Rattle.sig_model.specs.Operating.{Gives, operated, outcome}
-use Rattle.sig_plan.specs.declared.op.Op.{Op}
-use Rattle.sig_values.proofs.Behind.{gives_it, has_places, values_behind}
-use Rattle.sig_values.specs.Values.{HasPlaces, actor_at}
-use Rattle.sig_values.specs.declared.values.Values.{Values}
+use Rattle.sig_values.proofs.{◌≡◌, ℕ, ℤ, sym, subst, List, rules, w64, to_z-of_z, Kernel, Gives, operated, outcome, Op, gives_it, has_places, values_behind, HasPlaces, actor_at, Values}
 use Rattle.sig_values.proofs.values.Values.operate.Goals as goal
 
 abbrev PlacesBy : Op → Values → Kernel → Type 0

@@ -1,0 +1,94 @@
+use Rattle.sig_machine.proofs.{rules, w64, ◌≡◌, ◌≤◌, ◌∙◌, ℕ, ℤ, length, refl, sym, subst, arith, slice_get_read, to_z-of_z, IsKept, EndsBy, GoesOn, ends_by, goes_on, input_there, one_guard, reads_there, stamp_there, target_there, machine_behind, stands_somewhere}
+use Rattle.sig_machine.proofs.machine.Machine.do_run.Goals as goal
+
+ends_within : (a b n : ℕ) → a ≤ b → b ≤ n → a ≤ n
+ends_within a b n one two = omega (arith, one, two)
+
+pub come_to-requires : goal.come_to-requires
+come_to-requires c =
+    let place = c.loop-place.place in
+    let end = (let a = c.requires.run.leaves in let b = c.requires.run.within in ends_within _ _ _ a b) in
+    let test = c.loop-place-test.true in
+    let count = c.requires.lowers.count in
+    let at = slice_get_read c.args.lowered.now.instructions.items (length c.args.lowered.now.instructions.items) place c.index-instruction.result.now refl (omega (arith, end, test, count)) c.index-instruction.ensures in
+    reads_there c.args.plan.now c.plans_are_accepted.ensures c.args.inputs.now c.requires.fits c.args.lowered.now c.requires.lowers c.loop-place.self c.loop-place.invariant.machine place c.index-instruction.result.now at (omega (arith, end, test))
+
+pub keep-requires-clause-cells : goal.keep-requires-clause-cells
+keep-requires-clause-cells c =
+    let place = c.loop-place.place in
+    let end = (let a = c.requires.run.leaves in let b = c.requires.run.within in ends_within _ _ _ a b) in
+    let test = c.loop-place-test.true in
+    let count = c.requires.lowers.count in
+    let at = slice_get_read c.args.lowered.now.instructions.items (length c.args.lowered.now.instructions.items) place c.index-instruction.result.now refl (omega (arith, end, test, count)) c.index-instruction.ensures in
+    target_there c.args.plan.now c.plans_are_accepted.ensures c.args.inputs.now c.requires.fits c.args.lowered.now c.requires.lowers c.loop-place.self c.loop-place.invariant.machine place c.index-instruction.result.now at (omega (arith, end, test))
+
+pub keep-requires-clause-stamps : goal.keep-requires-clause-stamps
+keep-requires-clause-stamps c =
+    let place = c.loop-place.place in
+    let end = (let a = c.requires.run.leaves in let b = c.requires.run.within in ends_within _ _ _ a b) in
+    let test = c.loop-place-test.true in
+    let count = c.requires.lowers.count in
+    let at = slice_get_read c.args.lowered.now.instructions.items (length c.args.lowered.now.instructions.items) place c.index-instruction.result.now refl (omega (arith, end, test, count)) c.index-instruction.ensures in
+    stamp_there c.args.plan.now c.plans_are_accepted.ensures c.args.inputs.now c.requires.fits c.args.lowered.now c.requires.lowers c.loop-place.self c.loop-place.invariant.machine place c.index-instruction.result.now at (omega (arith, end, test))
+
+pub keep-requires-clause-input : goal.keep-requires-clause-input
+keep-requires-clause-input c =
+    let place = c.loop-place.place in
+    let end = (let a = c.requires.run.leaves in let b = c.requires.run.within in ends_within _ _ _ a b) in
+    let test = c.loop-place-test.true in
+    let count = c.requires.lowers.count in
+    let at = slice_get_read c.args.lowered.now.instructions.items (length c.args.lowered.now.instructions.items) place c.index-instruction.result.now refl (omega (arith, end, test, count)) c.index-instruction.ensures in
+    input_there c.args.plan.now c.plans_are_accepted.ensures c.args.inputs.now c.requires.fits c.args.lowered.now c.requires.lowers c.loop-place.self c.loop-place.invariant.machine place c.index-instruction.result.now at (omega (arith, end, test))
+
+pub returns-in-Err-clause-fault : goal.returns-in-Err-clause-fault
+returns-in-Err-clause-fault c =
+    let plan = c.args.plan.now in
+    let accepted = c.plans_are_accepted.ensures in
+    let flows = c.args.inputs.now in
+    let place = c.loop-place.place in
+    let end = (let a = c.requires.run.leaves in let b = c.requires.run.within in ends_within _ _ _ a b) in
+    let test = c.loop-place-test.true in
+    let count = c.requires.lowers.count in
+    let instruction = c.index-instruction.result.now in
+    let at = slice_get_read c.args.lowered.now.instructions.items (length c.args.lowered.now.instructions.items) place instruction refl (omega (arith, end, test, count)) c.index-instruction.ensures in
+    let op = c.op_at.result.now in
+    let stands = c.op_at.ensures.op in
+    subst (EndsBy plan flows c.args.self.now c.args.first) (sym c.named.ensures)
+    (λ trace instant began.
+    let amid = c.loop-place.invariant.goes trace instant began in
+    let on = one_guard plan accepted flows c.requires.fits c.args.self.now c.args.first c.args.run c.requires.run c.loop-place.self place c.loop-place.auto.place test op stands trace instant began amid ∙ c.requires.on in
+    ends_by plan accepted flows c.requires.fits c.args.lowered.now c.requires.lowers c.loop-place.self c.loop-place.invariant.machine place op stands on instruction
+    (c.requires.lowers.each place instruction at op stands) c.in-Err.cause c.in-Err.ensures.value trace instant amid)
+
+pub loop-place-preserved : goal.loop-place-preserved
+loop-place-preserved c =
+    let plan = c.args.plan.now in
+    let accepted = c.plans_are_accepted.ensures in
+    let flows = c.args.inputs.now in
+    let place = c.loop-place.place in
+    let end = (let a = c.requires.run.leaves in let b = c.requires.run.within in ends_within _ _ _ a b) in
+    let test = c.loop-place-test.true in
+    let count = c.requires.lowers.count in
+    let instruction = c.index-instruction.result.now in
+    let at = slice_get_read c.args.lowered.now.instructions.items (length c.args.lowered.now.instructions.items) place instruction refl (omega (arith, end, test, count)) c.index-instruction.ensures in
+    let (op, stands) = stands_somewhere plan accepted place (omega (arith, end, test)) in
+    let for_op = c.requires.lowers.each place instruction at op stands in
+    let within = input_there plan accepted flows c.requires.fits c.args.lowered.now c.requires.lowers c.loop-place.self c.loop-place.invariant.machine place instruction at (omega (arith, end, test)) in
+    let kept : IsKept instruction c.in-Ok.value c.loop-place.self c.keep.new.self =
+    subst (λ (z : ℤ). IsKept instruction z c.loop-place.self c.keep.new.self) (to_z-of_z w64 c.in-Ok.value (search rules)) c.keep.ensures in
+    record {
+      machine = machine_behind plan c.args.lowered.now c.requires.lowers flows c.loop-place.self c.loop-place.invariant.machine op instruction for_op.target c.in-Ok.value c.keep.new.self kept;
+      goes = λ trace instant began.
+          let amid = c.loop-place.invariant.goes trace instant began in
+          let on = one_guard plan accepted flows c.requires.fits c.args.self.now c.args.first c.args.run c.requires.run c.loop-place.self place c.loop-place.auto.place test op stands trace instant began amid ∙ c.requires.on in
+          goes_on plan accepted flows c.requires.fits c.args.lowered.now c.requires.lowers c.loop-place.self c.loop-place.invariant.machine place op stands on instruction for_op
+          c.in-Ok.value c.in-Ok.ensures.value c.keep.new.self kept within trace instant amid;
+    }
+
+pub returns-clause-done : goal.returns-clause-done
+returns-clause-done c =
+    let end = c.loop-place.auto.place-end in
+    let test = c.loop-place-test.false in
+    let later = c.requires.run.later in
+    let all : c.loop-place.place ≡ c.args.run.end = omega (arith, end, test, later) in
+    subst (GoesOn c.args.plan.now c.args.inputs.now c.args.self.now c.args.first c.loop-place.self) all c.loop-place.invariant.goes

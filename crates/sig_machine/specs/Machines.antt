@@ -1,0 +1,53 @@
+-- The actor that a machine is: its cells are those of the signals, then those of the delays, then constants.
+use Rattle.std.specs.Prelude.{◌≡◌, ◌≤◌, ◌<◌, ◌+◌, ◌==◌, if◌then◌else◌}
+use Rattle.sig_machine.specs.Prelude.{ℕ, ℤ, pos, false, List, length, nat_lt, slice_get, slice_index_or, Option, None, Some, Seen, PlanView, Actor, Registers}
+use Rattle.sig_machine.specs.declared.lowered.Lowered.{Lowered}
+use Rattle.sig_machine.specs.declared.machine.Machine.{Machine}
+
+abbrev pub cell : List ℤ → ℕ → ℤ
+cell cells number = slice_index_or cells number (pos 0)
+
+-- what a cell with a stamp holds of an instant: nothing, where it was written in another one
+abbrev pub stamped : ℕ → Option ℕ → ℤ → Seen
+stamped instant None value = None
+stamped instant (Some stamp) value = if stamp == instant then Some value else None
+
+-- what each signal is in the instant
+abbrev pub registers_of : Machine → Registers
+registers_of m signal =
+    if nat_lt signal m.signals then stamped m.instant (slice_get m.stamps.items signal) (cell m.cells.items signal) else None
+
+-- what is remembered for the delay that defines a signal, by the cells behind those of so many signals
+abbrev pub memories_at : ℕ → List ℤ → ℕ → ℤ
+memories_at signals cells signal = if nat_lt signal signals then cell cells (signals + signal) else pos 0
+
+abbrev pub memories_of : Machine → ℕ → ℤ
+memories_of m = memories_at m.signals m.cells.items
+
+abbrev pub taken_of : Machine → ℕ → ℕ
+taken_of m input = slice_index_or m.taken.items input 0
+
+-- the actor that has what the machine has, and stands before a step
+abbrev pub actor_at : Machine → ℕ → Actor
+actor_at m step = record {
+  instant = m.instant;
+  step = step;
+  registers = registers_of m;
+  memories = memories_of m;
+  taken = taken_of m;
+  ended = false;
+}
+
+-- the cells behind those of signals and delays hold the constants
+abbrev pub HaveConstants : ℕ → List ℤ → List ℤ → Type 0
+HaveConstants signals constants cells = (number : ℕ) → signals + signals ≤ number → number < length constants → cell cells number ≡ cell constants number
+
+-- A machine is one of a plan in this form, over these flows.
+pub record IsMachineOf (plan : PlanView) (lowered : Lowered) (flows : List (List ℤ)) (m : Machine) : Type 0 where
+  pub signals : m.signals ≡ length plan.kernel.signals
+  pub cells : length m.cells.items ≡ length lowered.cells.items
+  pub stamps : length m.stamps.items ≡ length lowered.cells.items
+  pub constants : HaveConstants m.signals lowered.cells.items m.cells.items
+  pub inputs : length m.taken.items ≡ length flows
+  -- no cell was written after the instant
+  pub past : (number stamp : ℕ) → slice_get m.stamps.items number ≡ Some stamp → stamp ≤ m.instant

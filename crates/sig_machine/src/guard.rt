@@ -1,0 +1,45 @@
+//! The guards of operations.
+
+ghost use Rattle.std.specs.Prelude.{◌≡◌, ◌<◌, ◌≤◌, if◌then◌else◌};
+ghost use Rattle.sig_machine.specs.Prelude.{ℕ, length, slice_get, Some, SigId, Depends, Holds, test, truths_of, is_true};
+ghost use Rattle.sig_machine.specs.Machines.{registers_of};
+
+use crate::machine::Machine;
+use sig_base::SigId;
+use sig_dd::{Node, Ref, Store};
+
+impl Machine {
+    /// Whether a guard is true of the conditions.
+    pub(crate) fn holds(&self, store: &Store, conditions: &[SigId], guard: Ref) -> bool
+        requires held { Holds store.now.nodes guard }
+        requires told { (v : ℕ) → Depends (test store.now.nodes guard) v → v < length conditions.now }
+        requires within { (v : ℕ) (c : SigId) → slice_get conditions.now v ≡ Some c → c.0 < self.now.signals }
+        requires cells { self.now.signals ≤ length self.now.cells.items }
+        requires stamps { self.now.signals ≤ length self.now.stamps.items }
+        ensures { result ≡ test store.now.nodes guard (truths_of conditions.now (registers_of self.now)) }
+    {
+        let mut r = guard;
+        while let Some(node) = store.node(r) {
+            let truth = self.is_true(conditions[node.variable as usize]);
+            r = child(node, truth);
+        }
+        r == store.constant(true)
+    }
+
+    /// Whether a signal is there and true.
+    fn is_true(&self, x: SigId) -> bool
+        requires within { x.0 < self.now.signals }
+        requires cells { self.now.signals ≤ length self.now.cells.items }
+        requires stamps { self.now.signals ≤ length self.now.stamps.items }
+        ensures { result ≡ is_true (registers_of self.now x.0) }
+    {
+        self.stamps[x.0 as usize] == self.instant && self.cells[x.0 as usize] == 1
+    }
+}
+
+/// The function of a node where its variable has the truth.
+fn child(node: Node, truth: bool) -> Ref
+    ensures { result ≡ (if truth then node.high else node.low) }
+{
+    if truth { node.high } else { node.low }
+}
