@@ -1,0 +1,7 @@
+use Rattle.sig_file.proofs.Common.{◌≡◌, ◌-◌, []}
+use Rattle.sig_file.specs.Fields.{memory_from}
+use Rattle.sig_file.specs.Reading.{several}
+use Rattle.sig_file.proofs.parts.memories_at.Given as goal
+
+abbrev pub invariant-loop : goal.invariant-loop
+invariant-loop l = several (λ before. memory_from) (l.count - l.counter) l.memories.items l.rest ≡ several (λ before. memory_from) l.count [] l.bytes

@@ -1,0 +1,6 @@
+use Rattle.sig_file.proofs.Common.{◌≡◌, ◌++◌, take, flat_map}
+use Rattle.sig_file.specs.Bytes.{node_bytes}
+use Rattle.sig_file.proofs.write.put_nodes.Given as goal
+
+abbrev pub invariant-loop-node : goal.invariant-loop-node
+invariant-loop-node l = l.out.items ≡ l.fn.out.items ++ flat_map node_bytes (take l.node-index l.nodes)
