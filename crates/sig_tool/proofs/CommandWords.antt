@@ -1,21 +1,5 @@
 -- Facts of the command that words are.
-use Rattle.std.proofs.Common.{◌≡◌, ℕ, List, [], Bool, Option, None, inl, inr, refl, sym, subst, arith}
-use Rattle.sig_text.specs.Files.{Contents}
-use Rattle.sig_words.specs.Readings.{Word}
-use Rattle.sig_words.specs.declared.command.Command.{Command}
-use Rattle.sig_words.specs.declared.command.Settings.{Settings}
-use Rattle.sig_words.specs.declared.command.Command.TheVariants.{Check, Code, Judge, Load, Play, Print, Run, Tree}
-use Rattle.sig_outcome.specs.Tasks.{IsRefusedBy, Performs, Stops, memory_line}
-use Rattle.sig_outcome.specs.Refusals.{status_of}
-use Rattle.sig_outcome.specs.declared.refusal.Refusal.{Refusal}
-use Rattle.sig_outcome.specs.declared.refusal.Refusal.TheVariants.{Missing, ReadFault, LongProgram, Program, Budget, TooManyItems, LongFile, Data, OutOfMemory}
-use Rattle.sig_outcome.proofs.Refused.{told}
-use Rattle.sig_outcome.proofs.Performing.{performs_refusal}
-use Rattle.sig_loads.specs.Loads.{IsLoadStatus, loading}
-use Rattle.sig_loads.specs.Refusals.{IsAboutLoad}
-use Rattle.sig_loads.proofs.OneLoad.{one_load_outcome}
-use Rattle.sig_tool.specs.Commands.{IsBuilt}
-use Rattle.sig_tool.specs.TopCall.{ComesTo, IfLoad, IsAbout, OfCommand}
+use Rattle.sig_tool.proofs.Common.{◌≡◌, ℕ, List, [], Bool, Option, None, inl, inr, refl, sym, subst, arith, Contents, Word, Command, Settings, Check, Code, Judge, Load, Play, Print, Run, Tree, IsRefusedBy, Performs, Stops, memory_line, status_of, Refusal, Missing, ReadFault, LongProgram, Program, Budget, TooManyItems, LongFile, Data, OutOfMemory, told, performs_refusal, IsLoadStatus, loading, IsAboutLoad, one_load_outcome, IsBuilt, ComesTo, IfLoad, IsAbout, OfCommand}
 
 -- what holds of the one command that the words are holds of each
 pub of_one : (words : List Word) (command : Command) (Fact : Command → Type 0) → OfCommand words (λ c. c ≡ command) → Fact command → OfCommand words Fact

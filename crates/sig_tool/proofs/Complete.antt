@@ -1,26 +1,9 @@
 -- A command whose files are good is done, if no call failed, memory was found, and the nodes of diagrams sufficed.
-use Rattle.std.proofs.Common.{◌≡◌, ◌⊎◌, ◌≤◌, ◌<◌, ℕ, List, Bool, Option, None, Some, IfSome, inl, inr, refl, ap, sym, subst, arith}
-use Rattle.sig_text.specs.Counts.{DidNotRise, raised}
-use Rattle.sig_text.specs.Files.{Contents}
-use Rattle.sig_words.specs.declared.command.Command.{Command}
-use Rattle.sig_words.specs.declared.command.Command.TheVariants.{Check, Code, Load, Play, Print, Run, Tree}
-use Rattle.sig_code.specs.Texts.{IsCodeText}
-use Rattle.sig_hier.specs.Texts.{IsTreeText}
-use Rattle.sig_outcome.specs.Outcomes.{Outcome}
-use Rattle.sig_outcome.specs.Refusals.{HasCount, IsOwn, outcome_of, status_of}
-use Rattle.sig_outcome.specs.Tasks.{IsDone, IsRefused, Owes, Performs, Task}
-use Rattle.sig_outcome.specs.declared.refusal.Refusal.{Refusal}
-use Rattle.sig_outcome.specs.declared.refusal.Refusal.TheVariants.{Missing, ReadFault, LongProgram, Program, Budget, TooManyItems, LongFile, Data, OutOfMemory}
-use Rattle.sig_outcome.proofs.Performing.{not_refused}
-use Rattle.sig_compile.specs.Compiling.{IsVerdictText}
+use Rattle.sig_tool.proofs.Common.{◌≡◌, ◌⊎◌, ◌≤◌, ◌<◌, ℕ, List, Bool, Option, None, Some, IfSome, inl, inr, refl, ap, arith, DidNotRise, raised, Contents, Command, Check, Code, Load, Play, Print, Run, Tree, IsCodeText, IsTreeText, Outcome, HasCount, IsOwn, outcome_of, status_of, IsDone, IsRefused, Owes, Performs, Task, Refusal, Missing, ReadFault, LongProgram, Program, Budget, TooManyItems, LongFile, Data, OutOfMemory, not_refused, IsVerdictText, CanLoad, loading, CanBeDone, ComesTo, IfLoad, IsStatus, task_of}
 use Rattle.sig_compile.proofs.Complete as compiles
-use Rattle.sig_loads.specs.Complete.{CanLoad}
-use Rattle.sig_loads.specs.Loads.{loading}
 use Rattle.sig_loads.proofs.Complete as loads
 use Rattle.sig_plays.proofs.Complete as plays
 use Rattle.sig_runs.proofs.Complete as runs
-use Rattle.sig_tool.specs.Complete.{CanBeDone}
-use Rattle.sig_tool.specs.TopCall.{ComesTo, IfLoad, IsStatus, task_of}
 use Rattle.sig_tool.proofs.TopClauses.{is_status}
 
 -- whatever such a command comes to, it is done

@@ -1,11 +1,5 @@
 -- The settings and the stages of a command are within their bounds.
-use Rattle.std.proofs.Common.{◌≡◌, ◌≤◌, ℕ, List, [], ◌∷◌, Bool, true, false, arith}
-use Rattle.sig_base.specs.declared.limits.TheConstants.{CAPACITY_DEFAULT, CAPACITY_MAX, INSTANTS_DEFAULT, INSTANTS_MAX, WORKERS_DEFAULT, WORKERS_MAX}
-use Rattle.sig_words.specs.Commands.{AreSeedAndStages, HasPlainWords, IsCommand, IsSetting, option_values, options_of, settings_of, verb_of}
-use Rattle.sig_words.specs.Readings.{Word}
-use Rattle.sig_words.specs.declared.command.Command.{Command}
-use Rattle.sig_words.specs.declared.command.Command.TheVariants.{Check, Print, Tree, Code, Run, Play, Load, Judge, Build, Exec}
-use Rattle.sig_tool.specs.Commands.{HasStages, IsLimited}
+use Rattle.sig_tool.proofs.Common.{◌≤◌, ℕ, List, [], ◌∷◌, Bool, true, false, arith, CAPACITY_DEFAULT, CAPACITY_MAX, INSTANTS_DEFAULT, INSTANTS_MAX, WORKERS_DEFAULT, WORKERS_MAX, AreSeedAndStages, HasPlainWords, IsCommand, IsSetting, option_values, options_of, settings_of, verb_of, Word, Command, Check, Print, Tree, Code, Run, Play, Load, Judge, Build, Exec, HasStages, IsLimited}
 
 -- a setting is within its bounds where its default is
 within : (has : Bool) (low high default : ℕ) (values : List Word) (n : ℕ) → low ≤ default → default ≤ high → IsSetting has low high default values n → (low ≤ n) × (n ≤ high)

@@ -1,11 +1,5 @@
 -- The statuses that are answered.
-use Rattle.std.proofs.Common.{◌≡◌, ◌⊎◌, ℕ, inl, inr}
-use Rattle.sig_words.specs.declared.command.Command.{Command}
-use Rattle.sig_words.specs.declared.command.Command.TheVariants.{Check, Code, Judge, Load, Play, Print, Run, Tree}
-use Rattle.sig_compile.specs.Compiling.{IsCompileStatus}
-use Rattle.sig_runs.specs.Runs.{IsRunStatus}
-use Rattle.sig_loads.specs.Loads.{IsLoadStatus}
-use Rattle.sig_tool.specs.TopCall.{IsStatus, IsStatusOf}
+use Rattle.sig_tool.proofs.Common.{ℕ, inl, inr, Command, Check, Code, Judge, Load, Play, Print, Run, Tree, IsCompileStatus, IsRunStatus, IsLoadStatus, IsStatus, IsStatusOf}
 
 compile_status : (status : ℕ) → IsCompileStatus status → IsStatus status
 compile_status status (inl is) = inl (inl (inl is))

@@ -1,9 +1,6 @@
 -- The commands that are built so far, among those of a command line.
-use Rattle.std.specs.Prelude.{◌≤◌, ⊤}
-use Rattle.sig_runs.specs.Runs.{AreWithinBounds}
-use Rattle.sig_words.specs.Commands.{settings_of}
-use Rattle.sig_words.specs.declared.command.Command.{Command}
-use Rattle.sig_words.specs.declared.command.Command.TheVariants.{Check, Code, Judge, Load, Play, Print, Run, Tree}
+use Rattle.std.specs.Prelude.{◌≤◌}
+use Rattle.sig_tool.specs.Prelude.{⊤, AreWithinBounds, settings_of, Command, Check, Code, Judge, Load, Play, Print, Run, Tree}
 
 -- a command is built: all but those of image files
 abbrev pub IsBuilt : Command → Type 0

@@ -1,3 +1,5 @@
+pub mod Prelude
 pub mod Commands
 pub mod Complete
 pub mod TopCall
+pub mod Headline

@@ -1,24 +1,6 @@
 -- What is said of a call of the top, for every command.
-use Rattle.std.specs.Prelude.{◌≡◌, ◌⊎◌, ⊤, ℕ, false, List, Option, IfSome}
-use Rattle.sig_text.specs.Files.{Contents, name_where_there}
-use Rattle.sig_words.specs.Commands.{IsCommand}
-use Rattle.sig_words.specs.Readings.{Word}
-use Rattle.sig_words.specs.declared.command.Command.{Command}
-use Rattle.sig_words.specs.declared.command.Settings.{Settings}
-use Rattle.sig_words.specs.declared.command.Command.TheVariants.{Check, Code, Judge, Load, Play, Print, Run, Tree}
-use Rattle.sig_outcome.specs.Outcomes.{Outcome}
-use Rattle.sig_outcome.specs.Tasks.{IsDone, IsRefused, Task}
-use Rattle.sig_outcome.specs.declared.refusal.Refusal.{Refusal}
-use Rattle.sig_code.specs.Texts.{IsCodeText}
-use Rattle.sig_hier.specs.Texts.{IsTreeText}
-use Rattle.sig_compile.specs.Compiling.{CompileComesTo, HoldsBeyondBound, IsBeyondBound, IsAboutPlan, IsCompileStatus, IsVerdictText}
-use Rattle.sig_compile.specs.Printing.{IsAboutText, IsPrintStatus, PrintComesTo}
-use Rattle.sig_judging.specs.Judging.{HasBegunJudge, IsAboutJudge, IsJudgeStatus, JudgeComesTo}
-use Rattle.sig_runs.specs.Runs.{HasBegunRun, IsAboutRun, IsRunStatus, RunComesTo}
-use Rattle.sig_load.specs.Program.{program as generated}
-use Rattle.sig_loads.specs.Loads.{IsLoadStatus, LoadComesTo}
-use Rattle.sig_loads.specs.Refusals.{IsAboutLoad}
-use Rattle.sig_plays.specs.Plays.{HasBegunPlay, IsAboutPlay, PlayComesTo}
+use Rattle.std.specs.Prelude.{◌≡◌, ◌⊎◌}
+use Rattle.sig_tool.specs.Prelude.{⊤, ℕ, false, List, Option, IfSome, Contents, name_where_there, IsCommand, Word, Command, Settings, Check, Code, Judge, Load, Play, Print, Run, Tree, Outcome, IsDone, IsRefused, Task, Refusal, IsCodeText, IsTreeText, CompileComesTo, HoldsBeyondBound, IsBeyondBound, IsAboutPlan, IsCompileStatus, IsVerdictText, IsAboutText, IsPrintStatus, PrintComesTo, HasBegunJudge, IsAboutJudge, IsJudgeStatus, JudgeComesTo, HasBegunRun, IsAboutRun, IsRunStatus, RunComesTo, program as generated, IsLoadStatus, LoadComesTo, IsAboutLoad, HasBegunPlay, IsAboutPlay, PlayComesTo}
 use Rattle.sig_tool.specs.Commands.{IsBuilt}
 
 -- ---- the command that the words are

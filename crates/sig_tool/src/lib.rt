@@ -1,17 +1,19 @@
 //! The top call of sigc: from the words of a command line, files and sinks to a status. It reads the
 //! words by sig_words and hands each command to the crate that promises what it does: sig_compile,
 //! sig_judging, sig_runs, sig_plays or sig_loads. What they promise has one form, the task of sig_outcome, of
-//! which each clause of `sig_main` is a part.
+//! which each clause of `sig_main` is a part. `specs/Headline.antt` has all that is promised on one page.
 #![tactic(auto)]
 
+mod headline;
 mod perform;
 mod top;
 mod words;
 
+pub use headline::accepted_programs_keep_the_headline;
 pub use sig_compile::{
     good_programs_compile, good_texts_print, kernels_have_a_verdict, one_verdict,
 };
-pub use sig_loads::good_loads_end;
-pub use sig_plays::good_plays_end;
-pub use sig_runs::good_runs_end;
+pub use sig_loads::{good_loads_end, loads_have_one_outcome};
+pub use sig_plays::{good_plays_end, plays_have_one_outcome};
+pub use sig_runs::{good_runs_end, runs_have_one_outcome};
 pub use top::{good_commands_are_done, one_outcome, sig_main};

@@ -1,15 +1,8 @@
 //! A command that is built, from its files to a status.
 
-ghost use Rattle.std.specs.Prelude.{◌≡◌, ◌≤◌, [], Option, None};
-ghost use Rattle.sig_base.specs.declared.limits.TheConstants.{WORKERS_MAX};
-ghost use Rattle.std.specs.List.{AllByRecursion};
-ghost use Rattle.std.specs.Str.{IsUtf8};
-ghost use Rattle.sig_loads.specs.Loads.{loading};
-ghost use Rattle.sig_outcome.specs.Tasks.{Performs, SaysLine};
-ghost use Rattle.sig_runs.specs.Runs.{AreWithinBounds, running};
-ghost use Rattle.sig_words.specs.Commands.{files_of};
+ghost use Rattle.std.specs.Prelude.{◌≡◌, ◌≤◌};
+ghost use Rattle.sig_tool.specs.Prelude.{[], Option, None, WORKERS_MAX, AllByRecursion, IsUtf8, loading, Performs, SaysLine, AreWithinBounds, running, files_of, Contents};
 ghost use Rattle.sig_tool.specs.Commands.{IsBuilt, IsLimited};
-ghost use Rattle.sig_text.specs.Files.{Contents};
 ghost use Rattle.sig_tool.specs.TopCall.{IfLoad, task_of};
 
 use sig_base::Text;

@@ -1,20 +1,10 @@
 //! The top call: from the words of a command line, files and sinks to a status.
 
-ghost use Rattle.std.specs.Prelude.{◌≡◌, ◌⊎◌, [], Option, None, IfSome, IsTrue};
-ghost use Rattle.sig_text.specs.Counts.{DidNotRise, Rose};
-ghost use Rattle.sig_text.specs.Files.{Contents};
-ghost use Rattle.sig_text.specs.Sink.{TookPrefix};
-ghost use Rattle.sig_words.specs.Commands.{files_of};
-ghost use Rattle.sig_words.specs.Readings.{texts};
-ghost use Rattle.sig_words.specs.declared.command.Command.{Command};
-ghost use Rattle.sig_outcome.specs.Outcomes.{Outcome};
-ghost use Rattle.sig_loads.specs.Complete.{CanLoad};
-ghost use Rattle.sig_loads.specs.Loads.{loading};
-ghost use Rattle.sig_plays.specs.Plays.{HasPlay};
-ghost use Rattle.sig_runs.specs.Runs.{HasRun};
-ghost use Rattle.sig_outcome.specs.Tasks.{IsCut, IsDone, IsDue, IsEnded, IsRefused, IsRefusedBy, MayAnswer, Performs, SaysLine, items_line, memory_line, words_line, write_line};
-ghost use Rattle.sig_tool.specs.Complete.{CanBeDone};
-ghost use Rattle.sig_tool.specs.TopCall.{AreNoCommand, ComesTo, CompilesBeyondBound, HasBegun, IfLoad, IsAbout, IsStatus, IsStatusOf, OfCommand, OfOutcome, OfPlay, OfRun};
+ghost use Rattle.std.specs.Prelude.{◌≡◌, ◌⊎◌};
+ghost use Rattle.sig_tool.specs.Prelude.{[], IsTrue, Rose, Contents, files_of, texts, Command, Outcome, IsDone, IsRefused, SaysLine, items_line, memory_line, words_line, write_line};
+ghost use Rattle.sig_tool.specs.Complete.{CanBeDone, HasGoodProgram};
+ghost use Rattle.sig_tool.specs.Headline.{AnswersTheOutcome, BeginsItsFiles, ExceedsBounds, HasOwnStatus, IsComplete, IsLoadComplete, LoadsWithoutFiles, SaysItsRefusal, WasCut, WritesPrefix, WritesThePlay, WritesTheTrace, WritesWhole};
+ghost use Rattle.sig_tool.specs.TopCall.{AreNoCommand, ComesTo, IsStatus, OfCommand};
 
 use crate::perform::perform;
 use crate::words::built_command;
@@ -45,6 +35,8 @@ use std::thread::Threads;
 /// | 7 | memory was wanting |
 /// | 8 | the nodes of diagrams do not suffice for a program that is to be compiled and is not within the bound |
 /// | 9 | the trace is not one of the program |
+///
+/// What is promised of it, and the sentence that sigc is for, are on one page: `specs/Headline.antt`.
 pub fn sig_main<R: Threads + Wait + Sync, F: Files, S: Sink, E: Sink, G: Gate + Sync>(
     rt: &R,
     alloc: Global,
@@ -57,54 +49,44 @@ pub fn sig_main<R: Threads + Wait + Sync, F: Files, S: Sink, E: Sink, G: Gate + 
     // The statuses, and those of each command that is built. Where the words are none of these, 2 comes,
     // unless memory was wanting to read them.
     ensures numbers { IsStatus result }
-    ensures numbers_of { OfCommand (texts words.now) (λ c. IsStatusOf c result) }
+    ensures numbers_of { HasOwnStatus (texts words.now) result }
     ensures no_command { AreNoCommand (texts words.now) → (result ≡ 2) ⊎ (result ≡ 7) }
 
     // Whatever the status, a prefix of the text that is due was appended.
-    ensures prefix { OfCommand (texts words.now) (λ c. OfOutcome (F.contents files.old) c (λ o.
-        TookPrefix S.took out.old o.text out.new)) }
+    ensures prefix { WritesPrefix (texts words.now) (F.contents files.old) S.took out.old out.new }
 
     // A command that is done wrote all of it, and said what ended it: a run wrote the text of the longest
     // trace, and named the first cause why that is not longer; a play wrote what its events commit, the state
     // that they leave and the rest of that text, and named the same cause.
-    ensures whole { IsDone result → OfCommand (texts words.now) (λ c. IfSome (F.contents files.old) (λ held.
-        IsDue (ComesTo held c) held (F.at files.old) (F.at files.new) result (λ text line.
-        S.took out.old text out.new × SaysLine E.took (E.faults err.old) (E.faults err.new) err.old err.new line))) }
-    ensures run { IsEnded result → OfRun (texts words.now) (λ program flows settings.
-        IfSome (F.contents files.old) (λ held. HasRun held program flows settings result
-        (λ text. S.took out.old text out.new) (SaysLine E.took (E.faults err.old) (E.faults err.new) err.old err.new))) }
-    ensures play { IsEnded result → OfPlay (texts words.now) (λ program flows events settings.
-        IfSome (F.contents files.old) (λ held. HasPlay held program flows events settings result
-        (λ text. S.took out.old text out.new) (SaysLine E.took (E.faults err.old) (E.faults err.new) err.old err.new))) }
+    ensures whole { WritesWhole (texts words.now) (F.contents files.old) (F.at files.old) (F.at files.new)
+        S.took out.old out.new (SaysLine E.took (E.faults err.old) (E.faults err.new) err.old err.new) result }
+    ensures run { WritesTheTrace (texts words.now) (F.contents files.old)
+        S.took out.old out.new (SaysLine E.took (E.faults err.old) (E.faults err.new) err.old err.new) result }
+    ensures play { WritesThePlay (texts words.now) (F.contents files.old)
+        S.took out.old out.new (SaysLine E.took (E.faults err.old) (E.faults err.new) err.old err.new) result }
     ensures flushed { IsDone result → IsTrue (S.clean out.new) }
 
     // The status is the one that the told contents call for, if no call failed, memory was found, and the nodes of
     // diagrams sufficed.
-    ensures status { OfCommand (texts words.now) (λ c. OfOutcome (F.contents files.old) c (λ o.
-        MayAnswer o.status result (Rose (F.faults files.old) (F.faults files.new))
-        (Rose (S.faults out.old) (S.faults out.new)))) }
+    ensures status { AnswersTheOutcome (texts words.now) (F.contents files.old)
+        (Rose (F.faults files.old) (F.faults files.new)) (Rose (S.faults out.old) (S.faults out.new)) result }
 
     // A command whose program is accepted and whose flows and events have a reading, or whose text has a tree
     // where it is printed, is done, if no call failed, memory was found, and the nodes of diagrams sufficed.
-    ensures complete { DidNotRise (F.faults files.old) (F.faults files.new)
-        → DidNotRise (S.faults out.old) (S.faults out.new) → OfCommand (texts words.now) (λ c.
-        IfSome (F.contents files.old) (λ held. CanBeDone held c →
-        IsDone result ⊎ ((result ≡ 7) ⊎ (result ≡ 8)))) }
+    ensures complete { IsComplete (texts words.now) (F.contents files.old)
+        (F.faults files.old) (F.faults files.new) (S.faults out.old) (S.faults out.new) result }
 
     // Why they did not suffice, and when a write failed.
-    ensures budget { result ≡ 8 → OfCommand (texts words.now) (λ c.
-        IfSome (F.contents files.old) (λ held. CompilesBeyondBound held c)) }
+    ensures budget { ExceedsBounds (texts words.now) (F.contents files.old) result }
     ensures failed { result ≡ 6 → Rose (S.faults out.old) (S.faults out.new) }
 
     // What a failed write leaves begins the text of what the command comes to, which was to be done.
-    ensures cut { result ≡ 6 → OfCommand (texts words.now) (λ c. IfSome (F.contents files.old) (λ held.
-        IsCut (ComesTo held c) S.took out.old out.new)) }
+    ensures cut { WasCut (texts words.now) (F.contents files.old) S.took out.old out.new result }
 
     // A refused command says one line, with its cause, and leaves the output as it was.
-    ensures refused { IsRefused result → OfCommand (texts words.now) (λ c.
-        IsRefusedBy (λ held. ComesTo held c) (IsAbout c) (F.contents files.old) (F.at files.old) (F.at files.new)
-        (F.misses files.old) (F.misses files.new) (F.faults files.old) (F.faults files.new) result
-        (SaysLine E.took (E.faults err.old) (E.faults err.new) err.old err.new)) }
+    ensures refused { SaysItsRefusal (texts words.now) (F.contents files.old) (F.at files.old) (F.at files.new)
+        (F.misses files.old) (F.misses files.new) (F.faults files.old) (F.faults files.new)
+        (SaysLine E.took (E.faults err.old) (E.faults err.new) err.old err.new) result }
     ensures words_line { AreNoCommand (texts words.now) → result ≡ 2 →
         SaysLine E.took (E.faults err.old) (E.faults err.new) err.old err.new words_line }
     ensures items_line { result ≡ 2 → OfCommand (texts words.now) (λ c.
@@ -117,20 +99,15 @@ pub fn sig_main<R: Threads + Wait + Sync, F: Files, S: Sink, E: Sink, G: Gate + 
 
     // The file that was begun last, if it is there, is one of the command's; or none was begun, since
     // memory was wanting to read the words.
-    ensures begun { OfCommand (texts words.now) (λ c.
-        IfSome (F.contents files.old) (λ held. HasBegun held c (F.at files.new))
-        ⊎ ((result ≡ 7) × (files.new ≡ files.old))) }
+    ensures begun { BeginsItsFiles (texts words.now) (F.contents files.old) (F.at files.new) files.old files.new result }
     ensures none_begun { AreNoCommand (texts words.now) → files.new ≡ files.old }
     ensures no_files { OfCommand (texts words.now) (λ c. files_of c ≡ [] → files.new ≡ files.old) }
 
     // A load asks for no file, so all of this holds of it whatever files would tell, and where they tell nothing.
-    ensures load { OfCommand (texts words.now) (λ c. IfLoad c (λ seed stages settings. (contents : Option Contents) →
-        Performs (loading seed stages settings) contents None None 0 0 0 0
-        S.took out.old out.new (S.faults out.old) (S.faults out.new) (S.clean out.new)
-        (SaysLine E.took (E.faults err.old) (E.faults err.new) err.old err.new) result)) }
-    ensures load_complete { DidNotRise (S.faults out.old) (S.faults out.new) → OfCommand (texts words.now) (λ c.
-        IfLoad c (λ seed stages settings. CanLoad seed stages settings →
-        IsDone result ⊎ ((result ≡ 7) ⊎ (result ≡ 8)))) }
+    ensures load { LoadsWithoutFiles (texts words.now) S.took out.old out.new
+        (S.faults out.old) (S.faults out.new) (S.clean out.new)
+        (SaysLine E.took (E.faults err.old) (E.faults err.new) err.old err.new) result }
+    ensures load_complete { IsLoadComplete (texts words.now) (S.faults out.old) (S.faults out.new) result }
 {
     match built_command(alloc, words) {
         Ok(command) => perform(rt, alloc, &command, files, out, err, gate),
@@ -145,10 +122,12 @@ pub fn sig_main<R: Threads + Wait + Sync, F: Files, S: Sink, E: Sink, G: Gate + 
     }
 }
 
-/// A law: a command over told contents comes to one outcome at most.
+/// A law: a command over told contents comes to one outcome at most; and to one where its program is
+/// accepted, or has a tree where it is printed, whatever its other files hold and whether they are there.
 pub fn one_outcome()
-    ensures { (held : Contents) (c : Command) (one other : Outcome) →
+    ensures one { (held : Contents) (c : Command) (one other : Outcome) →
         ComesTo held c one → ComesTo held c other → one ≡ other }
+    ensures some { (held : Contents) (c : Command) → HasGoodProgram held c → (o : Outcome) × ComesTo held c o }
 {}
 
 /// A law: whatever a command comes to whose files are good, it is done.

@@ -1,10 +1,7 @@
 //! The command that the words of a command line are.
 
-ghost use Rattle.std.specs.Prelude.{◌≡◌, ◌⊎◌, ◌↔◌, IfErr, IfOk, IsTrue};
-ghost use Rattle.std.specs.List.{AllByRecursion};
-ghost use Rattle.std.specs.Str.{IsUtf8};
-ghost use Rattle.sig_words.specs.Commands.{IsCommand, files_of};
-ghost use Rattle.sig_words.specs.Readings.{texts};
+ghost use Rattle.std.specs.Prelude.{◌≡◌, ◌⊎◌, ◌↔◌};
+ghost use Rattle.sig_tool.specs.Prelude.{IfErr, IfOk, IsTrue, AllByRecursion, IsUtf8, IsCommand, files_of, texts};
 ghost use Rattle.sig_tool.specs.Commands.{IsBuilt, IsLimited};
 ghost use Rattle.sig_tool.specs.TopCall.{AreNoCommand, OfCommand};
 

@@ -1,6 +1,4 @@
-use Rattle.std.proofs.Common.{None, subst}
-use Rattle.sig_words.specs.declared.command.Command.{Command}
-use Rattle.sig_tool.specs.Commands.{IsLimited}
+use Rattle.sig_tool.proofs.{None, subst, Command, IsLimited}
 use Rattle.sig_tool.proofs.perform.perform.Goals as goal
 
 pub run-requires-clause-bounds : goal.run-requires-clause-bounds

@@ -1,4 +1,4 @@
-use Rattle.sig_tool.proofs.Complete.{done_status}
+use Rattle.sig_tool.proofs.{done_status}
 use Rattle.sig_tool.proofs.top.good_commands_are_done.Goals as goal
 
 pub returns : goal.returns

@@ -1,23 +1,4 @@
-use Rattle.std.proofs.Common.{◌≡◌, ◌⊎◌, [], Option, None, inl, inr, refl, subst, sym}
-use Rattle.std.specs.Prelude.{IfSome}
-use Rattle.sig_text.specs.Counts.{Rose}
-use Rattle.sig_text.specs.Files.{Contents}
-use Rattle.sig_text.specs.Sink.{TookPrefix}
-use Rattle.sig_words.specs.Commands.{files_of}
-use Rattle.sig_words.specs.Readings.{texts}
-use Rattle.sig_outcome.specs.Tasks.{IsCut, IsDone, IsDue, IsRefusedBy, MayAnswer, Performs, SaysLine}
-use Rattle.sig_tool.specs.TopCall.{ComesTo, CompilesBeyondBound, HasBegun, IfLoad, IsAbout, IsStatusOf, OfOutcome}
-use Rattle.sig_words.specs.declared.command.Command.{Command}
-use Rattle.sig_words.specs.declared.command.Command.TheVariants.{Play, Run}
-use Rattle.sig_outcome.proofs.Refused.{told, told_both}
-use Rattle.sig_loads.specs.Complete.{CanLoad}
-use Rattle.sig_loads.specs.Loads.{loading}
-use Rattle.sig_plays.proofs.Ending.{has_play}
-use Rattle.sig_runs.proofs.Ending.{has_run}
-use Rattle.sig_tool.specs.Complete.{CanBeDone}
-use Rattle.sig_tool.proofs.Complete.{complete, load_complete, load_unread_complete}
-use Rattle.sig_tool.proofs.CommandWords.{load_unread, of_one, refused_unread}
-use Rattle.sig_tool.proofs.TopClauses.{is_status}
+use Rattle.sig_tool.proofs.{◌≡◌, ◌⊎◌, [], Option, None, inl, inr, refl, subst, sym, IfSome, Rose, Contents, TookPrefix, files_of, texts, IsCut, IsDone, IsDue, IsRefusedBy, MayAnswer, Performs, SaysLine, ComesTo, CompilesBeyondBound, HasBegun, IfLoad, IsAbout, IsStatusOf, OfOutcome, Command, Play, Run, told, told_both, CanLoad, loading, has_play, has_run, CanBeDone, complete, load_complete, load_unread_complete, load_unread, of_one, refused_unread, is_status}
 use Rattle.sig_tool.proofs.top.sig_main.Goals as goal
 
 -- ---- the words are a command, and each clause is a part of what is promised of it

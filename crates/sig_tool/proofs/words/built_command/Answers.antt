@@ -1,14 +1,5 @@
-use Rattle.std.proofs.Common.{◌≡◌, ◌∙◌, ◌⊎◌, List, true, inl, inr, refl, sym, subst}
-use Rattle.std.proofs.lemmas.Bool.{false≢true}
-use Rattle.std.proofs.lemmas.Result.{err_from_is_err_and}
-use Rattle.sig_words.specs.Commands.{IsCommand}
-use Rattle.sig_words.specs.Readings.{Word, texts}
-use Rattle.sig_words.specs.declared.answer.WordsAnswer.{WordsAnswer}
-use Rattle.sig_words.specs.declared.answer.WordsAnswer.TheVariants.{Refused, OutOfMemory}
-use Rattle.sig_words.specs.declared.command.Command.{Command}
-use Rattle.sig_tool.specs.Commands.{IsBuilt}
-use Rattle.sig_tool.specs.TopCall.{AreNoCommand}
-use Rattle.sig_tool.proofs.Limits.{limited}
+use Rattle.sig_tool.proofs.{◌≡◌, ◌∙◌, ◌⊎◌, List, true, inl, inr, refl, sym, subst, false≢true, err_from_is_err_and, IsCommand, Word, texts, WordsAnswer, Refused, Command, IsBuilt, AreNoCommand, limited}
+use Rattle.sig_words.specs.declared.answer.WordsAnswer.TheVariants.{OutOfMemory}
 use Rattle.sig_tool.proofs.words.built_command.Goals as goal
 
 -- where the words are a command, only memory was wanting

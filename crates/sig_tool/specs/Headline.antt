@@ -1,0 +1,176 @@
+-- What sigc promises, on one page: the sentence that it is for, and what its top call `sig_main` promises of every command.
+--
+--     If the compiler accepts a process, for all input flows and limits of instants its fitting traces, silent instants
+--     removed, are the prefixes of one trace; every interleaving of its clusters, over links of any capacity from one,
+--     writes a prefix of that trace's text and has an enabled event until finished; every finished run, threaded or not,
+--     wrote exactly that text and names the first cause of its end.
+--
+-- The first part of the page is this sentence, as the law `accepted_programs_keep_the_headline` (src/headline.rt) proves it.
+-- The second part is what `sig_main` (src/top.rt) promises: for each of its clauses a definition, and above it the sentence
+-- that it is. A clause that is one short fact is told in brackets, and stands in src/top.rt alone. docs/meaning.md tells the
+-- first part with an example, and docs/top-call.md how the definitions under the second part hang together.
+use Rattle.std.specs.Prelude.{◌≡◌, ◌⊎◌, ◌≤◌}
+use Rattle.sig_tool.specs.Prelude.{ℕ, ℤ, List, length, Option, None, IfSome, Bool, DidNotRise, IsPrefixOf, Trace, Fits, reduce, IsKernelTrace, output_text, Kernel, Place, Ended, IsKernelEnd, IsPlanOf, PlanView, Given, Core, Event, after, cause_of, reactions_text, run_of, IsEnabled, IsFinished, Contents, Word, TookPrefix, HasRun, HasPlay, IsCut, IsDone, IsDue, IsEnded, IsRefused, IsRefusedBy, MayAnswer, Performs, CanLoad, loading}
+use Rattle.sig_tool.specs.Complete.{CanBeDone}
+use Rattle.sig_tool.specs.TopCall.{ComesTo, CompilesBeyondBound, HasBegun, IfLoad, IsAbout, IsStatusOf, OfCommand, OfOutcome, OfPlay, OfRun}
+
+-- ==== the sentence ==================================================================================================
+
+-- "If the compiler accepts a process": `IsAcceptedProgram` of sig_compile, over the bytes of the program. The text has a
+-- tree by the grammar, is well formed, nothing in it is too large, and its kernel is accepted: it has a root, each of its
+-- clocks is determined, no condition is forced, no operation waits for itself. `check` and all commands that compile answer
+-- by this definition (clauses `whole` and `refused`), want of memory and of the nodes of diagrams aside.
+--
+-- "its traces": those of the program's kernel, by `IsKernelTrace`. Without the signals that the compiler made for operators
+-- they are exactly the traces of the process (`HasTracesOf` of sig_front, the law's clause `traces`); with the flag
+-- `--pace`, those of a kernel with paces are without them the old ones (`paced_kernels_have_the_old_traces` of sig_pace).
+--
+-- "all input flows": every list with one flow for each input, its values of the input's kind (`AreFlowsFor`).
+-- "limits of instants": every number. "silent": an instant at which no signal is present.
+
+-- "its fitting traces": the values of each input, in order, begin its flow, and no more instants than the limit are not silent
+pub record IsFitting (kernel : Kernel) (flows : List (List ℤ)) (limit : ℕ) (trace : Trace) : Type 0 where
+  pub is : IsKernelTrace kernel trace
+  pub fits : Fits flows trace
+  pub within : length (reduce trace) ≤ limit
+
+-- "its fitting traces, silent instants removed, are the prefixes of one trace"
+pub record AreItsPrefixes (kernel : Kernel) (flows : List (List ℤ)) (limit : ℕ) (trace : Trace) : Type 0 where
+  pub traces : (other : Trace) → IsFitting kernel flows limit other → IsPrefixOf (reduce other) trace
+  pub prefixes : (front : Trace) → IsPrefixOf front trace → IsFitting kernel flows limit front × (reduce front ≡ front)
+
+-- "every interleaving of its clusters, over links of any capacity from one": any list of events, each an actor that does its
+-- next step or looks whether it has to end, one after another, from the opening of any plan of the kernel. An event that
+-- cannot happen changes nothing. The state behind them has the actors, what the links hold, and what is written.
+abbrev pub OfEachInterleaving : Kernel → List (List ℤ) → ℕ → (Given → Core → Type 0) → Type 0
+OfEachInterleaving kernel flows limit Fact = (plan : PlanView) → IsPlanOf kernel plan → (capacity : ℕ) → 1 ≤ capacity → (events : List Event)
+    → Fact (run_of plan flows capacity limit) (after (run_of plan flows capacity limit) events)
+
+-- What is promised of such a state.
+pub record KeepsToTheTrace (kernel : Kernel) (trace : Trace) (place : Option Place) (end : Ended) (given : Given) (state : Core) : Type 0 where
+  -- "writes a prefix of that trace's text"
+  pub prefix : IsPrefixOf (reactions_text kernel state.committed) (output_text kernel trace)
+  -- "and has an enabled event until finished": one that changes the state, while not all actors have ended
+  pub enabled : (IsFinished state → ⊥) → (event : Event) × IsEnabled given state event
+  -- a finished one "wrote exactly that text"
+  pub whole : IsFinished state → reactions_text kernel state.committed ≡ output_text kernel trace
+  -- "and names the first cause of its end": its failure word is the place of that cause, and names it
+  pub word : IsFinished state → state.word ≡ place
+  pub cause : IsFinished state → cause_of given.plan given.flows state state.word ≡ end.cause
+
+-- The sentence, of the kernel of an accepted program, flows and a limit of instants.
+pub record KeepsHeadline (kernel : Kernel) (flows : List (List ℤ)) (limit : ℕ) : Type 0 where
+  -- "one trace"
+  pub trace : Trace
+  pub one : AreItsPrefixes kernel flows limit trace
+  -- "the first cause of its end": the limit, or the first operation in the compiled order that cannot be done in any instant
+  -- by which the trace could go on. The trace, the cause and its place are the only ones (`accepted_kernels_have_one_end`
+  -- of sig_deciding).
+  pub place : Option Place
+  pub end : Ended
+  pub ends : IsKernelEnd kernel flows limit trace place end
+  -- the kernel has a plan, so the interleavings are there
+  pub plan : PlanView
+  pub planned : IsPlanOf kernel plan
+  pub interleavings : OfEachInterleaving kernel flows limit (KeepsToTheTrace kernel trace place end)
+
+-- "every finished run, threaded or not": the commands `run`, with any number of workers, and `play`. What they promise are
+-- the clauses `run` and `play` below, over the same `IsKernelEnd`; so that trace, text and cause are these. With workers,
+-- what the threads did is a finished state of one of the interleavings above (`settled_actors_are_finished` of sig_settling,
+-- `gather` of sig_work).
+
+-- ==== what the top call promises ====================================================================================
+
+-- What the words of a command line ask for is a command (`IsCommand` of sig_words), and over told contents of its files a
+-- command comes to one outcome at most (`ComesTo`): the text that is due, the status, the line on standard error. In what
+-- follows `contents` are the contents of the files, where they are told, `at` is the file that was begun last, `out` the
+-- output, and `'` marks what is so after the call. A line that is said is said where the count of faults of standard error
+-- did not rise (`SaysLine`).
+
+-- ---- the text
+
+-- Clause `prefix`: whatever the status, what was appended to the output is a prefix of the text that is due.
+abbrev pub WritesPrefix : {S : Type 0} → List Word → Option Contents → (S → List ℕ → S → Type 0) → (out out' : S) → Type 0
+WritesPrefix words contents took out out' = OfCommand words (λ c. OfOutcome contents c (λ o. TookPrefix took out o.text out'))
+
+-- Clause `whole`: with status 0, 3 or 9 the command comes to an outcome of this status, wrote the whole text that is due, and
+-- said its line and no more: the `end:` line of a run, the broken equation of a trace, and else nothing. (Clause `flushed`:
+-- and it flushed the output.)
+abbrev pub WritesWhole : {S : Type 0} → List Word → Option Contents → (at at' : Option (List ℕ)) → (S → List ℕ → S → Type 0) → (out out' : S) → (Said : List ℕ → Type 0) → (status : ℕ) → Type 0
+WritesWhole words contents at at' took out out' Said status = IsDone status → OfCommand words (λ c. IfSome contents (λ held.
+    IsDue (ComesTo held c) held at at' status (λ text line. took out text out' × Said line)))
+
+-- Clause `run`: a run with status 0 or 3 wrote the text of the one trace of the accepted program that its file holds, for the
+-- flows that the flow file says and the limit of instants, and said the first cause of its end with the number of the
+-- trace's instants; the status is 3 exactly where that cause is an equation. The number of workers is no part of it.
+abbrev pub WritesTheTrace : {S : Type 0} → List Word → Option Contents → (S → List ℕ → S → Type 0) → (out out' : S) → (Said : List ℕ → Type 0) → (status : ℕ) → Type 0
+WritesTheTrace words contents took out out' Said status = IsEnded status → OfRun words (λ program flows settings. IfSome contents (λ held.
+    HasRun held program flows settings status (λ text. took out text out') Said))
+
+-- Clause `play`: a play with status 0 or 3 wrote what the events of its file commit, the state that they leave, and what was
+-- missing there of the text of the one trace; and it said the same cause.
+abbrev pub WritesThePlay : {S : Type 0} → List Word → Option Contents → (S → List ℕ → S → Type 0) → (out out' : S) → (Said : List ℕ → Type 0) → (status : ℕ) → Type 0
+WritesThePlay words contents took out out' Said status = IsEnded status → OfPlay words (λ program flows events settings. IfSome contents (λ held.
+    HasPlay held program flows events settings status (λ text. took out text out') Said))
+
+-- Clause `cut`: where a write failed, what was appended is a prefix of the text of the outcome, which was to be done.
+-- (Clauses `failed` and `fault_line`: that is status 6, it comes only where the count of faults of the output rose, and its
+-- line is said.)
+abbrev pub WasCut : {S : Type 0} → List Word → Option Contents → (S → List ℕ → S → Type 0) → (out out' : S) → (status : ℕ) → Type 0
+WasCut words contents took out out' status = status ≡ 6 → OfCommand words (λ c. IfSome contents (λ held. IsCut (ComesTo held c) took out out'))
+
+-- ---- the status
+
+-- Clause `numbers_of`: the status is one of the command's own. (Clause `numbers`: and no status but 0 to 9 is answered,
+-- whatever the words. Clauses `no_command`, `words_line` and `none_begun`: of words that are no command that is built it is
+-- 2, and their line is said, or 7 where memory was wanting to read them; and no file was touched.)
+abbrev pub HasOwnStatus : List Word → (status : ℕ) → Type 0
+HasOwnStatus words status = OfCommand words (λ c. IsStatusOf c status)
+
+-- Clause `status`: the status is the outcome's; or 5 where a call of the files failed, 6 where a write failed of a command
+-- that was to be done, 7, or 8.
+abbrev pub AnswersTheOutcome : List Word → Option Contents → (ReadFailed WriteFailed : Type 0) → (status : ℕ) → Type 0
+AnswersTheOutcome words contents ReadFailed WriteFailed status = OfCommand words (λ c. OfOutcome contents c (λ o. MayAnswer o.status status ReadFailed WriteFailed))
+
+-- a command is done, or memory or the nodes of diagrams were wanting
+abbrev pub IsDoneUnlessWanting : (status : ℕ) → Type 0
+IsDoneUnlessWanting status = IsDone status ⊎ ((status ≡ 7) ⊎ (status ≡ 8))
+
+-- Clause `complete`: where the program is accepted, its links do not hold too many items, and the flows and the events have a
+-- reading (or, of `print`, the text has a tree), and no call failed, the command is done, or the status is 7 or 8.
+abbrev pub IsComplete : List Word → Option Contents → (faults faults' wrote wrote' : ℕ) → (status : ℕ) → Type 0
+IsComplete words contents faults faults' wrote wrote' status = DidNotRise faults faults' → DidNotRise wrote wrote' → OfCommand words (λ c. IfSome contents (λ held.
+    CanBeDone held c → IsDoneUnlessWanting status))
+
+-- Clause `budget`: 8 comes only of a program that the passes up to its kernel do not refuse, and whose kernel is within none
+-- of the bounds for which the nodes of diagrams suffice; or, with the flag `--pace`, not within the bound for its pacing.
+abbrev pub ExceedsBounds : List Word → Option Contents → (status : ℕ) → Type 0
+ExceedsBounds words contents status = status ≡ 8 → OfCommand words (λ c. IfSome contents (λ held. CompilesBeyondBound held c))
+
+-- ---- refusals
+
+-- Clause `refused`: with status 1, 2, 4, 5, 7 or 8 there is one refusal, and its line is said. It is about a file of the
+-- command, the counts of misses and faults show its cause, and where the contents alone decide it is the command's outcome:
+-- so of 1 the line is that of the first rule that the program does not meet, and of 4 that of the first offending place.
+-- (Clause `untouched`: and the output is as it was. Clauses `items_line` and `memory_line`: the lines of 2 and of 7.)
+abbrev pub SaysItsRefusal : List Word → Option Contents → (at at' : Option (List ℕ)) → (misses misses' faults faults' : ℕ) → (Said : List ℕ → Type 0) → (status : ℕ) → Type 0
+SaysItsRefusal words contents at at' misses misses' faults faults' Said status = IsRefused status → OfCommand words (λ c.
+    IsRefusedBy (λ held. ComesTo held c) (IsAbout c) contents at at' misses misses' faults faults' status Said)
+
+-- ---- the files
+
+-- Clause `begun`: the file that was begun last, where it is there, is one of the command's; or none was begun, since memory
+-- was wanting to read the words. (Clause `no_files`: a command that names no file leaves the files as they were.)
+abbrev pub BeginsItsFiles : {F : Type 0} → List Word → Option Contents → (at' : Option (List ℕ)) → (files files' : F) → (status : ℕ) → Type 0
+BeginsItsFiles words contents at' files files' status = OfCommand words (λ c.
+    IfSome contents (λ held. HasBegun held c at') ⊎ ((status ≡ 7) × (files' ≡ files)))
+
+-- Clauses `load` and `load_complete`: a load asks for no file, so all that is said here of a command holds of it whatever
+-- contents files would tell, and where they tell nothing.
+abbrev pub LoadsWithoutFiles : {S : Type 0} → List Word → (S → List ℕ → S → Type 0) → (out out' : S) → (wrote wrote' : ℕ) → (clean : Bool) → (Said : List ℕ → Type 0) → (status : ℕ) → Type 0
+LoadsWithoutFiles words took out out' wrote wrote' clean Said status = OfCommand words (λ c. IfLoad c (λ seed stages settings. (contents : Option Contents) →
+    Performs (loading seed stages settings) contents None None 0 0 0 0 took out out' wrote wrote' clean Said status))
+
+abbrev pub IsLoadComplete : List Word → (wrote wrote' : ℕ) → (status : ℕ) → Type 0
+IsLoadComplete words wrote wrote' status = DidNotRise wrote wrote' → OfCommand words (λ c. IfLoad c (λ seed stages settings.
+    CanLoad seed stages settings → IsDoneUnlessWanting status))

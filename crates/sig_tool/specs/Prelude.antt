@@ -1,0 +1,29 @@
+-- What the definitions and the clauses of this crate cite of std and of the crates below, passed on from one place.
+pub use Rattle.std.specs.List.{AllByRecursion}
+pub use Rattle.std.specs.Prelude.{Bool, IfErr, IfOk, IfSome, IsTrue, IsUtf8, List, None, Option, [], false, length, ℕ, ℤ, ⊤, ◌↔◌, ◌≡◌, ◌≤◌, ◌⊎◌}
+pub use Rattle.sig_base.specs.Traces.{Fits, IsPrefixOf, reduce}
+pub use Rattle.sig_text.specs.Counts.{DidNotRise}
+pub use Rattle.sig_model.specs.Cores.{IsEnabled, IsFinished, cause_of}
+pub use Rattle.sig_model.specs.Prelude.{IsKernelTrace, Place}
+pub use Rattle.sig_front.specs.Kernels.{HasTracesOf}
+pub use Rattle.sig_words.specs.Commands.{IsCommand, files_of, settings_of}
+pub use Rattle.sig_words.specs.Readings.{Word, texts}
+pub use Rattle.sig_words.specs.declared.command.Command.{Command}
+pub use Rattle.sig_words.specs.declared.command.Command.TheVariants.{Check, Code, Judge, Load, Play, Print, Run, Tree}
+pub use Rattle.sig_load.specs.Program.{program}
+pub use Rattle.sig_outcome.specs.Tasks.{IsCut, IsDone, IsDue, IsRefused, IsRefusedBy, MayAnswer, items_line, words_line, write_line}
+pub use Rattle.sig_compile.specs.Acceptance.{HasOwnKernel, IsAcceptedProgram}
+pub use Rattle.sig_compile.specs.Compiling.{CompileComesTo, IsBeyondBound, IsCompileStatus, IsVerdictText}
+pub use Rattle.sig_compile.specs.Complete.{CanCompile, CanPrint}
+pub use Rattle.sig_compile.specs.Prelude.{IsCodeText, IsTreeText}
+pub use Rattle.sig_compile.specs.Printing.{IsAboutText, IsPrintStatus, PrintComesTo}
+pub use Rattle.sig_judging.specs.Judging.{HasBegunJudge, IsAboutJudge, IsJudgeStatus, JudgeComesTo}
+pub use Rattle.sig_runs.specs.Complete.{CanRun}
+pub use Rattle.sig_runs.specs.Prelude.{AreFlowsFor, Contents, Ended, HoldsBeyondBound, IsAboutPlan, IsEnded, IsKernelEnd, Kernel, Outcome, Performs, Refusal, Rose, SaysLine, Settings, Task, TookPrefix, Trace, WORKERS_MAX, memory_line, name_where_there, output_text}
+pub use Rattle.sig_runs.specs.Runs.{AreWithinBounds, HasBegunRun, HasRun, IsAboutRun, IsRunStatus, RunComesTo, running}
+pub use Rattle.sig_loads.specs.Complete.{CanLoad}
+pub use Rattle.sig_loads.specs.Loads.{IsLoadStatus, IsShortProgram, LoadComesTo, loading}
+pub use Rattle.sig_loads.specs.Refusals.{IsAboutLoad}
+pub use Rattle.sig_plays.specs.Complete.{CanPlay}
+pub use Rattle.sig_plays.specs.Prelude.{Core, Event, Given, IsPlanOf, PlanView, after, reactions_text, run_of}
+pub use Rattle.sig_plays.specs.Plays.{HasBegunPlay, HasPlay, IsAboutPlay, PlayComesTo}
