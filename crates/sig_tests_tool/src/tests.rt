@@ -17,6 +17,8 @@ mod hostile;
 mod judge;
 mod limits;
 mod load;
+mod paces;
+mod passes;
 mod plans;
 mod play;
 mod print;
@@ -135,13 +137,13 @@ fn answer<R: Threads + Wait + Sync + Abort + AllocGlobal, F: Files, S: Sink, E: 
     Ok(status)
 }
 
-fn status_of<R: Threads + Wait + Sync + AllocGlobal, F: Files, S: Sink, E: Sink>(
+fn status_of<R: Threads + Wait + Sync + AllocGlobal, F: Files, S: Sink, E: Sink, G: Gate + Sync>(
     rt: &R,
     words: &[String],
     files: &mut F,
     out: &mut S,
     err: &mut E,
-    gate: &Counting,
+    gate: &G,
 ) -> u8 {
     sig_main(rt, rt.alloc(), words, files, out, err, gate)
 }
@@ -183,14 +185,4 @@ fn run_line<R: Threads + Wait + Sync + Abort + AllocGlobal>(
     let mut files = files_of(rt.alloc(), program, flows)?;
     let mut out = MemSink::new(rt.alloc(), 5000)?;
     call(rt, line, &mut files, &mut out, wanted)
-}
-
-/// Calls with the words of a run.
-fn call_run<R: Threads + Wait + Sync + Abort + AllocGlobal>(
-    rt: &R,
-    files: &mut MemFiles,
-    out: &mut MemSink,
-    wanted: Wanted,
-) -> Result<(), Fail> {
-    call(rt, &["run", "P", "F"], files, out, wanted)
 }

@@ -1,6 +1,6 @@
 //! The clocks of small kernels, and why some have none.
 
-use super::texts::{DOWN, FORCED, TWO_ROOTS, kernel_of};
+use super::texts::{DOWN, FORCED, SAMPLED_BY_TWO, TWO_ROOTS, kernel_of};
 use sig_clock::Clocks;
 use sig_dd::Store;
 use sig_solve::{ClockAnswer, solve};
@@ -15,6 +15,14 @@ const SAMPLED_BY_AN_EVENT: &[u8] =
 
 const DEAD: &[u8] =
     b"process DIE = (? integer A; boolean B ! integer X, Z) (| X := A when B | Z := A when not B | X ^= Z | A ^= B |);";
+
+/// A condition that comes by another one, which is declared behind it.
+const LATER_FIRST: &[u8] =
+    b"process L = (? boolean A, B; integer N ! ) (| A ^= when B | X := N when A | B ^= N |) where integer X; end;";
+
+/// A clock that two equations decide, in the same way.
+const DECIDED_TWICE: &[u8] =
+    b"process TWICE = (? integer A; boolean B ! integer X, Z) (| X := A when B | Z := A when B | X ^= Z | A ^= B |);";
 
 /// The clocks of a program, or why it has none.
 fn clocks_of(alloc: Global, text: &[u8]) -> Result<Result<Clocks, ClockAnswer>, Fail> {
@@ -44,8 +52,17 @@ fn shown(alloc: Global, found: Result<Clocks, ClockAnswer>) -> Result<String, Fa
 #[test]
 fn kernels_have_clocks_or_none(rt: HostRuntime) -> Result<(), Fail> {
     let alloc = rt.alloc();
-    let rows: [(&[u8], &str); 6] = [
+    let rows: [(&[u8], &str); 9] = [
         (DOWN, "[1, 0, 0, 0, 0, 1] [1, 2] [SigId(4)] 2"),
+        (
+            SAMPLED_BY_TWO,
+            "[0, 0, 0, 1, 2, 3, 1] [1, 2, 2, 2] [SigId(0), SigId(1)] 4",
+        ),
+        (
+            LATER_FIRST,
+            "[1, 0, 0, 2, 1] [1, 2, 3] [SigId(1), SigId(0)] 3",
+        ),
+        (DECIDED_TWICE, "[0, 0, 1, 1] [1, 2] [SigId(1)] 2"),
         (TWO_ROOTS, "MissingRoot(SigId(0), SigId(1))"),
         (MERGED, "Unsolved(SigId(0))"),
         (SAMPLED_BY_AN_EVENT, "Unsolved(SigId(1))"),

@@ -218,6 +218,75 @@ fn counts_values(rt: HostRuntime) -> Result<(), Fail> {
     Ok(())
 }
 
+/// Nine inputs, of which some names begin others.
+const PREFIXES: &[u8] =
+    b"process PREFIXES = (? integer A, AB, ABC, A1, A10, A100, B, A1B, AB1 ! ) (| |);";
+
+#[test]
+fn finds_inputs_whose_names_begin_others(rt: HostRuntime) -> Result<(), Fail> {
+    let alloc = rt.alloc();
+    let inputs = flat_of(alloc, PREFIXES)?.signals;
+    let file = b"ABC 3\nA 1\nA100 6\nAB 2 22\nA10 5\nAB1 9\nA1 4\nA 11\nB 7\nA1B 8\n";
+    let flows = read_named(alloc, file, &inputs)?;
+    let wanted: [&[i64]; 9] = [&[1, 11], &[2, 22], &[3], &[4], &[5], &[6], &[7], &[8], &[9]];
+    assert_eq!(rt; flows.as_slice().len(), 9);
+    for (flow, values) in flows.as_slice().iter().zip(wanted) {
+        assert_eq!(rt; flow.as_slice(), values);
+    }
+    for unknown in [
+        b"AB 1\nABCD 1".as_slice(),
+        b"A 1\nA1000",
+        b"B\na",
+        b"A10\nA0 1",
+    ] {
+        assert_eq!(rt;
+            refusal(alloc, unknown, &inputs),
+            Some(FlowAnswer::NotAnInput(2))
+        );
+    }
+    Ok(())
+}
+
+/// A process of so many integer inputs.
+fn many_inputs(alloc: Global, count: usize) -> Result<Vec<u8>, Fail> {
+    let mut text = String::from_str(alloc, "process MANY = (? integer A0")?;
+    for i in 1..count {
+        text.push_str(format!(in alloc; ", A{i}")?.as_str())?;
+    }
+    text.push_str(" ! ) (| |);")?;
+    Ok(text.into_bytes())
+}
+
+#[test]
+fn finds_each_of_512_inputs(rt: HostRuntime) -> Result<(), Fail> {
+    let alloc = rt.alloc();
+    let inputs = flat_of(alloc, &many_inputs(alloc, 512)?)?.signals;
+    let mut file = String::new(alloc);
+    for i in (0..512usize).rev() {
+        file.push_str(format!(in alloc; "A{i} {i}\n")?.as_str())?;
+    }
+    let flows = read_named(alloc, file.as_bytes(), &inputs)?;
+    assert_eq!(rt; flows.as_slice().len(), 512);
+    for (i, flow) in flows.as_slice().iter().enumerate() {
+        assert_eq!(rt; flow.as_slice(), [i as i64].as_slice());
+    }
+    let unknown = refusal(alloc, b"A511\nA512 1", &inputs);
+    assert_eq!(rt; unknown, Some(FlowAnswer::NotAnInput(2)));
+    Ok(())
+}
+
+#[test]
+fn finds_nothing_where_there_is_no_input(rt: HostRuntime) -> Result<(), Fail> {
+    let alloc = rt.alloc();
+    let inputs = flat_of(alloc, b"process NONE = (? ! ) (| |);")?.signals;
+    assert_eq!(rt; read_named(alloc, b"\n \n", &inputs)?.as_slice().len(), 0);
+    assert_eq!(rt;
+        refusal(alloc, b"\nA 1", &inputs),
+        Some(FlowAnswer::NotAnInput(2))
+    );
+    Ok(())
+}
+
 const SUM: &[u8] = b"process SUM = (? integer A, B ! ) (| |);";
 
 #[test]

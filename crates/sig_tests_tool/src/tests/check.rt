@@ -64,8 +64,12 @@ fn refuses_what_the_front_refuses(rt: HostRuntime) -> Result<(), Fail> {
 }
 
 #[test]
-fn refuses_kernels(rt: HostRuntime) -> Result<(), Fail> {
-    let programs: [(&[u8], &'static [u8]); 7] = [
+fn refuses_whole_programs(rt: HostRuntime) -> Result<(), Fail> {
+    let programs: [(&[u8], &'static [u8]); 8] = [
+        (
+            b"process P = (? integer A ! integer Y) Y := Q{true}(A); process Q = {integer N} (? integer B ! integer Z) Z := B + N;",
+            b"error 1:46: types clash\n",
+        ),
         (
             b"process TWO = (? integer U, V ! integer Y, Z)\n(| Y := U + 1 | Z := V + 1 |);",
             b"error 1:26: no root: U and V are independent\n",

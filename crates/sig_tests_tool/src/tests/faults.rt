@@ -1,75 +1,53 @@
 //! Files and sinks that fail, and those of the outside.
 
+use super::limits::equal_lists;
 use super::*;
 
+// The program is read by the calls 1 to 3, and the flow file by those from 4 on; the call 0 is none.
 #[test]
 fn names_the_file_that_fails(rt: HostRuntime) -> Result<(), Fail> {
-    let mut files = MemFiles::new(rt.alloc());
-    let mut out = MemSink::new(rt.alloc(), 100)?;
-    let missing = Wanted {
-        out: b"",
-        err: b"error: P: not found\n",
-        status: 5,
-    };
-    call(&rt, &["run", "P", "F"], &mut files, &mut out, missing)?;
-    files.add("P", SUM)?;
-    let second = Wanted {
-        out: b"",
-        err: b"error: -: not found\n",
-        status: 5,
-    };
-    call(&rt, &["run", "P", "-"], &mut files, &mut out, second)?;
-    let mut files = files_of(rt.alloc(), SUM, b"A 1\nB 1")?;
-    files.fail_at(2)?;
-    let fault = Wanted {
-        out: b"",
-        err: b"error: P: read failed\n",
-        status: 5,
-    };
-    call(&rt, &["run", "P", "F"], &mut files, &mut out, fault)
-}
-
-#[test]
-fn tells_of_a_sink_that_fails(rt: HostRuntime) -> Result<(), Fail> {
-    let mut files = files_of(rt.alloc(), SUM, b"A 1 2 3\nB 10 20")?;
-    let mut short = MemSink::new(rt.alloc(), 7)?;
-    let cut = Wanted {
-        out: b"Y 11\nY ",
-        err: b"error: write failed\n",
-        status: 6,
-    };
-    call(&rt, &["run", "P", "F"], &mut files, &mut short, cut)?;
-    // Without a text the first call of the sink is the flush.
-    let mut sticky = MemSink::new(rt.alloc(), 100)?;
-    sticky.fail_at(1)?;
-    let mut files = files_of(rt.alloc(), SUM, b"")?;
-    let unflushed = Wanted {
-        out: b"",
-        err: b"error: write failed\n",
-        status: 6,
-    };
-    call(&rt, &["run", "P", "F"], &mut files, &mut sticky, unflushed)
-}
-
-#[test]
-fn names_the_flow_file_that_fails(rt: HostRuntime) -> Result<(), Fail> {
-    // The program is read by the calls 1 to 3, and the flow file by those from 4 on.
-    for (call, line) in [
-        (1, b"error: P: read failed\n".as_slice()),
-        (3, b"error: P: read failed\n"),
-        (4, b"error: F: read failed\n"),
-        (5, b"error: F: read failed\n"),
-        (6, b"error: F: read failed\n"),
-    ] {
+    let run: &[&str] = &["run", "P", "F"];
+    let rows: [(&[&str], u32, &'static [u8]); 8] = [
+        (&["run", "Q", "F"], 0, b"error: Q: not found\n"),
+        (&["run", "P", "-"], 0, b"error: -: not found\n"),
+        (run, 1, b"error: P: read failed\n"),
+        (run, 2, b"error: P: read failed\n"),
+        (run, 3, b"error: P: read failed\n"),
+        (run, 4, b"error: F: read failed\n"),
+        (run, 5, b"error: F: read failed\n"),
+        (run, 6, b"error: F: read failed\n"),
+    ];
+    for (line, failing, err) in rows {
         let mut files = files_of(rt.alloc(), SUM, b"A 1\nB 1")?;
-        files.fail_at(call)?;
+        files.fail_at(failing)?;
         let mut out = MemSink::new(rt.alloc(), 100)?;
         let wanted = Wanted {
             out: b"",
-            err: line,
+            err,
             status: 5,
         };
-        call_run(&rt, &mut files, &mut out, wanted)?;
+        call(&rt, line, &mut files, &mut out, wanted)?;
+    }
+    Ok(())
+}
+
+// Without a text the first call of the sink is the flush.
+#[test]
+fn tells_of_a_sink_that_fails(rt: HostRuntime) -> Result<(), Fail> {
+    let rows: [(&[u8], u32, u32, &'static [u8]); 2] = [
+        (b"A 1 2 3\nB 10 20", 7, 0, b"Y 11\nY "),
+        (b"", 100, 1, b""),
+    ];
+    for (flows, room, failing, text) in rows {
+        let mut files = files_of(rt.alloc(), SUM, flows)?;
+        let mut out = MemSink::new(rt.alloc(), room)?;
+        out.fail_at(failing)?;
+        let wanted = Wanted {
+            out: text,
+            err: b"error: write failed\n",
+            status: 6,
+        };
+        call(&rt, &["run", "P", "F"], &mut files, &mut out, wanted)?;
     }
     Ok(())
 }
@@ -109,8 +87,11 @@ fn keeps_its_status_where_err_fails(rt: HostRuntime) -> Result<(), Fail> {
     let flows = b"A 1 2 3\nB 10 20".as_slice();
     let least = b"A 9223372036854775807\nB 1".as_slice();
     let run: &[&str] = &["run", "P", "F"];
+    let nodes = equal_lists(rt.alloc(), 22)?;
     for (line, program, flows, room, status) in [
         (run, SUM, flows, 100, 0),
+        (run, nodes.as_bytes(), flows, 100, 8),
+        (&["judge", "P", "F"], SUM, b"A B Y\n1 10 12\n", 100, 9),
         (run, SUM, least, 100, 3),
         (run, b"no program".as_slice(), flows, 100, 1),
         (&["--help"], SUM, flows, 100, 2),

@@ -9,8 +9,7 @@ const VAIN: u64 = 200_000_000;
 /// The turns for which a cluster is held once the sink has a byte.
 const HELD_ON: u64 = 1_000_000;
 
-/// What is known of a cluster: whether it came to the gate at the first instant, and the last instant at
-/// which it returned from there.
+/// What is known of a cluster: how often it came to the gate, and at how many instants it returned from there.
 #[derive(Drop)]
 struct Party {
     came: AtomicU64,
@@ -26,8 +25,9 @@ impl Party {
     }
 }
 
-/// A gate for two clusters. At the first instant each waits for the other, which it cannot do on the thread
-/// of the other. At the second the cluster 1 waits for a byte of the sink, and then a while longer.
+/// A gate for the clusters 0 and 1, each of which passes at one instant after the other. At the first instant each
+/// waits for the other, which it cannot do on the thread of the other. At the second the cluster 1 waits for a byte of
+/// the sink, and then a while longer.
 #[derive(Drop)]
 struct Meeting {
     parties: (Party, Party),
@@ -59,6 +59,14 @@ impl Meeting {
         self.fail();
     }
 
+    /// Holds the cluster 1 until the sink has a byte, and then a while longer.
+    fn hold(&self) {
+        self.wait_for(&self.taken);
+        for _ in 0..HELD_ON {
+            self.taken.load(Ordering::SeqCst);
+        }
+    }
+
     /// The sink took so many bytes.
     fn note(&self, count: usize) {
         if count > 0 {
@@ -78,20 +86,19 @@ impl Meeting {
 
 impl Gate for Meeting {
     fn pass(&self, cluster: u32, instant: u32) {
-        let (own, other) = if cluster == 0 {
-            (&self.parties.0, &self.parties.1)
-        } else {
-            (&self.parties.1, &self.parties.0)
+        let (own, other) = match cluster {
+            0 => (&self.parties.0, &self.parties.1),
+            1 => (&self.parties.1, &self.parties.0),
+            _ => return self.fail(),
         };
-        if instant == 1 {
-            own.came.store(1, Ordering::SeqCst);
-            self.wait_for(&other.came);
+        let before = own.came.fetch_add(1, Ordering::SeqCst);
+        if before.saturating_add(1) != u64::from(instant) {
+            self.fail();
         }
-        if instant == 2 && cluster == 1 {
-            self.wait_for(&self.taken);
-            for _ in 0..HELD_ON {
-                self.taken.load(Ordering::SeqCst);
-            }
+        match (cluster, instant) {
+            (_, 1) => self.wait_for(&other.came),
+            (1, 2) => self.hold(),
+            _ => (),
         }
         own.passed.store(u64::from(instant), Ordering::SeqCst);
     }
@@ -105,23 +112,25 @@ struct Lines {
 }
 
 impl Lines {
-    /// Goes on by these bytes.
-    fn take(&mut self, bytes: &[u8]) {
-        for byte in bytes {
-            self.begun = *byte != b'\n';
-            if !self.begun {
-                self.whole = self.whole.saturating_add(1);
-            }
+    /// Goes on by a byte. Where it is the first one of an instant, that is the answer.
+    fn go_on(&mut self, byte: u8) -> Option<u64> {
+        let first = !self.begun && self.whole % 2 == 0;
+        let instant = self.whole / 2 + 1;
+        self.begun = byte != b'\n';
+        if !self.begun {
+            self.whole = self.whole.saturating_add(1);
         }
+        if first { Some(instant) } else { None }
     }
 
-    /// The instant whose first byte comes next, where one does.
-    fn next_instant(self) -> Option<u64> {
-        if self.begun || self.whole % 2 == 1 {
-            None
-        } else {
-            Some(self.whole / 2 + 1)
+    /// Goes on by these bytes, and tells the gate of each instant that they begin.
+    fn begin_each(mut self, piece: &[u8], meeting: &Meeting) -> Lines {
+        for byte in piece {
+            if let Some(instant) = self.go_on(*byte) {
+                meeting.begin(instant);
+            }
         }
+        self
     }
 }
 
@@ -141,12 +150,9 @@ impl<'a, S: Sink> Sink for Told<'a, S> {
     ghost clean = { λ told. S.clean told.sink };
 
     fn write(&mut self, piece: &[u8]) -> Wrote {
-        if let (Some(instant), false) = (self.lines.next_instant(), piece.is_empty()) {
-            self.meeting.begin(instant);
-        }
         let wrote = self.sink.write(piece);
         if let Wrote::Took(count) = wrote {
-            self.lines.take(&piece[..count]);
+            self.lines = self.lines.begin_each(&piece[..count], self.meeting);
             self.meeting.note(count);
         }
         wrote
@@ -177,15 +183,7 @@ fn gate_two(rt: HostRuntime) -> Result<(), Fail> {
         },
     };
     let mut err = MemSink::new(rt.alloc(), 100)?;
-    let status = sig_main(
-        &rt,
-        rt.alloc(),
-        &words,
-        &mut files,
-        &mut out,
-        &mut err,
-        &meeting,
-    );
+    let status = status_of(&rt, &words, &mut files, &mut out, &mut err, &meeting);
     assert_eq!(rt; status, 0);
     assert_eq!(rt;
         err.bytes(),

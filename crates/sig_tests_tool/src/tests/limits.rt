@@ -28,7 +28,7 @@ fn put_number(text: &mut String, number: u32) -> Result<(), AllocError> {
 
 /// `Y := X when ((A1 = B1) and .. )`: a clock that asks whether two lists of conditions are equal, where
 /// all of the one stand before all of the other, so that a diagram has a node for each first list.
-fn equal_lists(alloc: Global, count: u32) -> Result<String, AllocError> {
+pub fn equal_lists(alloc: Global, count: u32) -> Result<String, AllocError> {
     let mut text = String::from_str(alloc, "process EQUAL = (? boolean ")?;
     put_names(&mut text, 'A', count, ", ")?;
     text.push_str(", ")?;
@@ -76,12 +76,22 @@ fn put_samples(text: &mut String) -> Result<(), AllocError> {
     Ok(())
 }
 
-/// A program past the nodes is refused with 8, one past the links with 1, and nothing is written.
+/// A process of 513 inputs and an output.
+fn many_inputs(alloc: Global) -> Result<String, AllocError> {
+    let mut text = String::from_str(alloc, "process P = (? integer ")?;
+    put_names(&mut text, 'A', 513, ", ")?;
+    text.push_str(" ! integer Y) Y := A1 + A1;")?;
+    Ok(text)
+}
+
+/// A program past the nodes is refused with 8, one past the links or the signals with 1, and nothing is written.
 #[test]
 fn refuses_programs_past_a_limit(rt: HostRuntime) -> Result<(), Fail> {
-    let nodes = equal_lists(rt.alloc(), 24)?;
+    let inputs = many_inputs(rt.alloc())?;
+    let nodes = equal_lists(rt.alloc(), 22)?;
     let links = many_links(rt.alloc())?;
-    let rows: [(&[u8], &'static [u8], u8); 2] = [
+    let rows: [(&[u8], &'static [u8], u8); 3] = [
+        (inputs.as_bytes(), b"error: more than 512 signals\n", 1),
         (nodes.as_bytes(), b"error: 8000000 diagram nodes\n", 8),
         (links.as_bytes(), b"error: more than 4096 links\n", 1),
     ];

@@ -8,13 +8,15 @@ use super::*;
 fn counts_generated_runs(rt: HostRuntime) -> Result<(), Fail> {
     let three = b"stages 3\ninstants 20000\nbytes 137834\nsum 6685077\n".as_slice();
     let twelve = b"stages 12\ninstants 20000\nbytes 157865\nsum 7646580\n".as_slice();
-    let rows: [(&[&str], &'static [u8]); 6] = [
+    let rows: [(&[&str], &'static [u8]); 8] = [
         (&["load", "1", "3"], three),
         (&["load", "1", "3", "--workers", "0"], three),
         (&["load", "1", "3", "--workers", "8"], three),
         (&["load", "1", "3", "--capacity", "1"], three),
         (&["load", "1", "12", "--workers", "0"], twelve),
         (&["load", "1", "12", "--workers", "1"], twelve),
+        (&["load", "1", "12", "--workers", "2"], twelve),
+        (&["load", "1", "12", "--workers", "8"], twelve),
     ];
     for (line, out) in rows {
         let wanted = Wanted {

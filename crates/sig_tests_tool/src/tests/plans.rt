@@ -1,6 +1,7 @@
 //! Programs that are accepted, the hierarchies of their clocks, and their code.
 
 use super::*;
+use sig_load::program_text;
 
 /// Calls with these words for a program, and compares the text.
 fn write_product<R: Threads + Wait + Sync + Abort + AllocGlobal>(
@@ -25,12 +26,16 @@ fn accepts_programs(rt: HostRuntime) -> Result<(), Fail> {
     for program in [SUM, DOWN, CROSSED, MERGE, WATCH, counter] {
         write_product(&rt, &["check", "P"], program, b"accepted\n")?;
     }
-    Ok(())
+    let stages = program_text(rt.alloc(), 12)?;
+    write_product(&rt, &["check", "P"], stages.as_slice(), b"accepted\n")
 }
 
 #[test]
 fn writes_hierarchies(rt: HostRuntime) -> Result<(), Fail> {
-    write_product(&rt, &["tree", "P"], DOWN, b"Y ZY\n  A\n")
+    let never =
+        b"process D = (? integer V, A; boolean B ! integer X) (| X := A when (B and not B) | V ^= X | A ^= B |);";
+    write_product(&rt, &["tree", "P"], DOWN, b"Y ZY\n  A\n")?;
+    write_product(&rt, &["tree", "P"], never, b"A B\n  V X\n")
 }
 
 #[test]

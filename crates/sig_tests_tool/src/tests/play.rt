@@ -70,6 +70,20 @@ fn plays_events(rt: HostRuntime) -> Result<(), Fail> {
         },
         Row {
             line: wide,
+            program: BOTH,
+            flows: b"A 4000000000",
+            events: b"act 0\nact 0\nact 1\n",
+            wanted: caused,
+        },
+        Row {
+            line: wide,
+            program: BOTH,
+            flows: b"A 4000000000",
+            events: b"act 1\nact 0\nact 0\n",
+            wanted: caused,
+        },
+        Row {
+            line: wide,
             program: SUM,
             flows: b"A 1 2\nB 10 20",
             events: b"look 0\nlook 9\nact 999999999\n",

@@ -5,11 +5,15 @@ use super::*;
 #[test]
 fn refuses_programs(rt: HostRuntime) -> Result<(), Fail> {
     let long = vec![in rt.alloc(); b' '; 1_048_577]?;
-    let rows: [(&[u8], &'static [u8]); 4] = [
+    let rows: [(&[u8], &'static [u8]); 5] = [
         (b"", b"error 1:1: syntax\n"),
         (
             b"process P = (? integer A ! integer Y) Y := A + Q;",
             b"error 1:48: unknown name Q\n",
+        ),
+        (
+            b"process P = {integer N} (? integer A ! integer Y) Y := A + N;",
+            b"error 1:9: bad call of P\n",
         ),
         (
             b"process CYC = (? integer A ! integer X, Y)\n(| X := Y + 1 | Y := X - 1 | X ^= A |);",
@@ -30,29 +34,46 @@ fn refuses_programs(rt: HostRuntime) -> Result<(), Fail> {
 
 #[test]
 fn refuses_flow_files(rt: HostRuntime) -> Result<(), Fail> {
-    let bad: [(&[u8], &'static [u8]); 11] = [
-        (b"A 1x", b"error: F:1:3: bad value\n"),
-        (b"A 9223372036854775808", b"error: F:1:3: out of range\n"),
-        (b"A -9223372036854775809", b"error: F:1:3: out of range\n"),
-        (b"C 1", b"error: F:1: not an input\n"),
-        (b"A 1\r", b"error: F:1: bad line\n"),
-        (b"A \x80", b"error: F:1: bad line\n"),
-        (b"A +1", b"error: F:1:3: bad value\n"),
-        (b"A 1 -", b"error: F:1:5: bad value\n"),
-        (b"flows 2\nA 1*0", b"error: F:2:3: bad value\n"),
-        (b"A 1*3", b"error: F:1:3: bad value\n"),
+    let kept = b"process K = (? integer A ! integer Y) Y := A + 0;".as_slice();
+    let bad: [(&[u8], &[u8], &'static [u8]); 14] = [
         (
+            kept,
+            b"A 9223372036854775808",
+            b"error: F:1:3: out of range\n",
+        ),
+        (kept, b"C 1", b"error: F:1: not an input\n"),
+        (kept, b"A 1x", b"error: F:1:3: bad value\n"),
+        (SUM, b"A 1x", b"error: F:1:3: bad value\n"),
+        (
+            SUM,
+            b"A 9223372036854775808",
+            b"error: F:1:3: out of range\n",
+        ),
+        (
+            SUM,
+            b"A -9223372036854775809",
+            b"error: F:1:3: out of range\n",
+        ),
+        (SUM, b"C 1", b"error: F:1: not an input\n"),
+        (SUM, b"A 1\r", b"error: F:1: bad line\n"),
+        (SUM, b"A \x80", b"error: F:1: bad line\n"),
+        (SUM, b"A +1", b"error: F:1:3: bad value\n"),
+        (SUM, b"A 1 -", b"error: F:1:5: bad value\n"),
+        (SUM, b"flows 2\nA 1*0", b"error: F:2:3: bad value\n"),
+        (SUM, b"A 1*3", b"error: F:1:3: bad value\n"),
+        (
+            SUM,
             b"flows 2\nA 0*4000000\nB 1",
             b"error: F: more than 4000000 values\n",
         ),
     ];
-    for (flows, err) in bad {
+    for (program, flows, err) in bad {
         let wanted = Wanted {
             out: b"",
             err,
             status: 4,
         };
-        run_text(&rt, SUM, flows, wanted)?;
+        run_text(&rt, program, flows, wanted)?;
     }
     Ok(())
 }

@@ -152,21 +152,28 @@ fn ends_at_the_limit(rt: HostRuntime) -> Result<(), Fail> {
     let counted = ended(b"N 1\nN 2\nN 3\n", b"end: limit after 3 instants\n");
     let counter = b"process N = (? ! integer N) N := (N $ init 0) + 1;";
     let line: &[&str] = &["run", "P", "F", "--instants", "3"];
-    run_line(&rt, line, counter, b"", counted)?;
-    let mut flows = Vec::from_slice(rt.alloc(), b"A")?;
-    for _ in 0..1_000_001 {
+    run_line(&rt, line, counter, b"", counted)
+}
+
+/// A flow file of so many zeros.
+fn zeros(alloc: Global, count: u32) -> Result<Vec<u8>, Fail> {
+    let mut flows = Vec::from_slice(alloc, b"A")?;
+    for _ in 0..count {
         flows.extend_from_slice(b" 0")?;
     }
+    Ok(flows)
+}
+
+#[test]
+fn ends_after_a_million_instants(rt: HostRuntime) -> Result<(), Fail> {
+    let flows = zeros(rt.alloc(), 1_000_001)?;
     let mut files = files_of(rt.alloc(), TWICE, &flows)?;
     let mut out = MemSink::new(rt.alloc(), 4_000_000)?;
     let mut err = MemSink::new(rt.alloc(), 200)?;
     let line: &[&str] = &["run", "P", "F", "--workers", "0"];
     let status = answer(&rt, line, &mut files, &mut out, &mut err)?;
-    assert_eq!(rt; status, 0);
-    assert_eq!(rt;
-        err.bytes(),
-        b"end: limit after 1000000 instants\n".as_slice()
-    );
+    let told = b"end: limit after 1000000 instants\n".as_slice();
+    assert_eq!(rt; (status, err.bytes()), (0, told));
     assert_eq!(rt; out.bytes().len(), 4_000_000);
     assert!(rt;
         out.bytes()

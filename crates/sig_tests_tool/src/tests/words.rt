@@ -35,7 +35,7 @@ fn takes_options(rt: HostRuntime) -> Result<(), Fail> {
 /// Words that are no command, or none that is built.
 #[test]
 fn refuses_words(rt: HostRuntime) -> Result<(), Fail> {
-    let lines: [&[&str]; 17] = [
+    let lines: [&[&str]; 21] = [
         &[],
         &["run", "P"],
         &["run", "P", "F", "F"],
@@ -48,11 +48,15 @@ fn refuses_words(rt: HostRuntime) -> Result<(), Fail> {
         &["run", "P", "F", "--instants"],
         &["check", "P", "--pace=1"],
         &["check", "P", "--pace", "1"],
+        &["check", "--pace", "P", "--pace"],
+        &["print", "P", "--pace"],
+        &["judge", "P", "F", "--pace"],
+        &["load", "1", "3", "--pace"],
         &["load", "1", "13"],
         &["load", "1", "3", "--instants", "5"],
         &["exec", "P", "F"],
-        &["print", "P", "--pace"],
         &["run", "P", "F", "--pace=1"],
+        &["run", "P", "F", "--pace", "--instants", "--pace"],
     ];
     for line in lines {
         let mut files = files_of(rt.alloc(), SUM, b"A 1\nB 1")?;

@@ -1,0 +1,5 @@
+//! The tests of what runs a plan: sig_alone, sig_step, sig_core and sig_work. It has no function of its own.
+#![tactic(auto)]
+
+#[cfg(test)]
+mod tests;
