@@ -1,9 +1,5 @@
 -- Texts that differ from one another, and texts that are cut at the first of a byte.
-use Rattle.std.proofs.Common.{◌≡◌, ◌≢◌, ◌++◌, ℕ, List, [], ◌∷◌, Bool, true, false, map, refl}
-use Rattle.std.proofs.lemmas.List.{append_cancel_left}
-use Rattle.std.proofs.lemmas.Slice.Eq.{bytes_eq-Decides}
-use Rattle.std.specs.List.{AllByRecursion, IsDistinct}
-use Rattle.std.specs.Str.{bytes_eq}
+use Rattle.sig_call.proofs.Common.{◌≡◌, ◌≢◌, ◌++◌, ℕ, List, [], ◌∷◌, Bool, true, false, map, refl, append_cancel_left, bytes_eq-Decides, AllByRecursion, IsDistinct, bytes_eq}
 use Rattle.sig_call.proofs.Texts.{all_both}
 
 -- what holds of each, if something else does

@@ -1,13 +1,6 @@
 -- What the names of a copy are bound to.
-use Rattle.std.proofs.Common.{◌≡◌, ◌+◌, ◌≤◌, ◌++◌, ℕ, ℤ, suc, min, List, [], ◌∷◌, drop, length, arith, sym, ap, ◌∙◌, refl, append_assoc, add-zero, ◌⊎◌, inl, inr}
-use Rattle.std.proofs.lemmas.Bool.{cases_lt}
-use Rattle.std.proofs.lemmas.List.{drop_all, append-nil}
-use Rattle.sig_tree.specs.Syntax.{ProcessModel}
-use Rattle.sig_tree.specs.Declarations.{Declaration, params_of, inputs_of, outputs_of, locals_of}
-use Rattle.sig_tree.specs.FlatBody.{Binding as BoundTo, BoundSignal, bound_constants, bound_from, signals_declared}
+use Rattle.sig_call.proofs.Common.{◌≡◌, ◌+◌, ◌≤◌, ◌++◌, ℕ, ℤ, suc, min, List, [], ◌∷◌, drop, length, arith, sym, ap, ◌∙◌, refl, append_assoc, add-zero, ◌⊎◌, inl, inr, cases_lt, drop_all, append-nil, ProcessModel, Declaration, params_of, inputs_of, outputs_of, locals_of, Binding as BoundTo, BoundSignal, bound_constants, bound_from, signals_declared, declarations_in, bindings_of}
 use Rattle.sig_scope.specs.declared.declared.Declared.{Declared}
-use Rattle.sig_scope.specs.Declarations.{declarations_in}
-use Rattle.sig_call.specs.Bindings.{bindings_of}
 
 -- what stands for no list of constants
 pub no_constants : (params : List Declaration) → bound_constants params [] ≡ []

@@ -1,9 +1,5 @@
 -- Counting: elements that pass a test, and numbers below others.
-use Rattle.std.proofs.Common.{◌≡◌, ◌≢◌, ◌+◌, ◌-◌, ◌<◌, ◌++◌, ◌∙◌, ℕ, zero, suc, Bool, true, false, cond, List, [], ◌∷◌, map, length, get_or, count_by, Contains, refl, sym, ap, subst, arith}
-use Rattle.std.proofs.lemmas.List.Sums.{sum_by-append, sum_by-cons}
-use Rattle.std.proofs.lemmas.Slice.Eq.{bytes_eq-Decides}
-use Rattle.std.specs.List.{AllByRecursion}
-use Rattle.std.specs.Str.{bytes_eq}
+use Rattle.sig_call.proofs.Common.{◌≡◌, ◌≢◌, ◌+◌, ◌-◌, ◌<◌, ◌++◌, ◌∙◌, ℕ, zero, suc, Bool, true, false, cond, List, [], ◌∷◌, map, length, get_or, count_by, Contains, refl, sym, ap, subst, arith, sum_by-append, sum_by-cons, bytes_eq-Decides, AllByRecursion, bytes_eq}
 use Rattle.sig_call.proofs.Apart.{all_so, Apart}
 
 -- one where a number is below another, or else none

@@ -1,16 +1,7 @@
 -- How often the equations of an expansion define each signal: as often as the left sides of the copy stand
 -- for it, and once where the signal was made on the way.
-use Rattle.std.proofs.Common.{◌≡◌, ◌+◌, ◌++◌, ◌==◌, ◌∙◌, ℕ, suc, inl, inr, List, [], ◌∷◌, Some, false, map, length, count_by, refl, ap, arith}
-use Rattle.std.proofs.lemmas.Bool.{cases_eq, eq-eqb}
-use Rattle.std.proofs.lemmas.List.{length-append, length-map}
-use Rattle.std.specs.List.{AllByRecursion, flat_map}
-use Rattle.sig_tree.specs.declared.expr.Name.{Name}
-use Rattle.sig_tree.specs.Syntax.{Expression, Equations, ProcessModel}
-use Rattle.sig_tree.specs.FlatSyntax.{Sig, FlatEquation, Defines, Equal}
-use Rattle.sig_tree.specs.Declarations.{inputs_of, process_of, equations_of_model, left_sides}
-use Rattle.sig_tree.specs.FlatBody.{Copy, Progress, Expands, Ended, Defined, Equated, Expanded, flat_of, flat_right, inputs_defined, outputs_defined, called_copy, with_copy, signal_of, signals_declared}
-use Rattle.sig_tree.specs.Sound.{IsReady, AreExpandable}
-use Rattle.sig_tree.specs.WellMade.{defines}
+use Rattle.sig_call.proofs.Common.{◌≡◌, ◌+◌, ◌++◌, ◌==◌, ◌∙◌, ℕ, suc, inl, inr, List, [], ◌∷◌, Some, false, map, length, count_by, refl, ap, arith, cases_eq, eq-eqb, length-append, length-map, AllByRecursion, flat_map, Name, Expression, Equations, ProcessModel, Sig, FlatEquation, inputs_of, process_of, equations_of_model, left_sides, Copy, Progress, Expands, Ended, Defined, Equated, Expanded, flat_of, flat_right, inputs_defined, outputs_defined, called_copy, with_copy, signal_of, signals_declared, IsReady, AreExpandable, defines}
+use Rattle.sig_tree.specs.FlatSyntax.{Defines, Equal}
 use Rattle.sig_call.proofs.Counting.{below, tally, count_append, count_cons}
 use Rattle.sig_call.proofs.LeftSides.{DefinesOnce, left_count, no_number}
 use Rattle.sig_call.proofs.Readiness.{call_numbers}

@@ -1,17 +1,5 @@
 -- A well-formed program has a flat body: calls do not lead back, so each of them ends.
-use Rattle.std.proofs.Common.{◌≡◌, ◌⊎◌, ◌<◌, ◌≤◌, ℕ, zero, suc, List, [], ◌∷◌, None, Some, Option, Bool, true, false, cond, length, get_or, refl, sym, ap, subst, ◌∙◌, inl, inr, arith, Contains}
-use Rattle.std.proofs.lemmas.Slice.Eq.{bytes_eq-Decides}
-use Rattle.std.specs.List.{AllByRecursion, flat_map}
-use Rattle.std.specs.Str.{bytes_eq}
-use Rattle.sig_tree.specs.declared.expr.Name.{Name}
-use Rattle.sig_tree.specs.Syntax.{Expression, Computed, Called, Equations, Together, Defines, Equal, ProcessModel}
-use Rattle.sig_tree.specs.FlatSyntax.{FlatEquation, FlatBody}
-use Rattle.sig_tree.specs.Declarations.{name_of, inputs_of, outputs_of, process_of, all_processes, texts, called_in, called_by, equations_of_model}
-use Rattle.sig_tree.specs.FlatBody.{Copy, Progress, Expands, Ended, Defined, Equated, Expanded, IsFlatBody, called_copy, with_copy, first_copy, first_progress}
-use Rattle.sig_tree.specs.Candidates.{NoneHolds, candidate, each, Recursive}
-use Rattle.sig_tree.specs.Rules.{CallsByName, Reaches, Itself, ByCall}
-use Rattle.sig_tree.specs.WellFormed.{IsWellFormed}
-use Rattle.sig_tree.specs.Sound.{IsTree, IsReady, Fits, AreExpandable}
+use Rattle.sig_call.proofs.Common.{◌≡◌, ◌⊎◌, ◌<◌, ◌≤◌, ℕ, zero, suc, List, [], ◌∷◌, None, Some, Option, Bool, true, false, cond, length, get_or, refl, sym, ap, subst, ◌∙◌, inl, inr, arith, Contains, bytes_eq-Decides, AllByRecursion, flat_map, bytes_eq, Name, Expression, Computed, Called, Equations, Together, Defines, Equal, ProcessModel, FlatEquation, FlatBody, name_of, inputs_of, outputs_of, process_of, all_processes, texts, called_in, called_by, equations_of_model, Copy, Progress, Expands, Ended, Defined, Equated, Expanded, IsFlatBody, called_copy, with_copy, first_copy, first_progress, NoneHolds, candidate, each, Recursive, CallsByName, Reaches, Itself, ByCall, IsWellFormed, IsTree, IsReady, Fits, AreExpandable}
 use Rattle.sig_call.proofs.Expandable.{expandable, rules_hold, key_rules}
 use Rattle.sig_call.proofs.Whole.{first_found}
 

@@ -1,17 +1,6 @@
 -- The processes of a well-formed program can be expanded.
-use Rattle.std.proofs.Common.{◌≡◌, ◌≢◌, ◌++◌, ◌≤◌, ℕ, List, [], ◌∷◌, None, Some, Option, Bool, true, false, cond, length, find, refl, ap, subst, inl, inr, arith}
-use Rattle.std.proofs.lemmas.Bool.{cases_eq, cases_lt}
-use Rattle.std.specs.List.{AllByRecursion, flat_map}
-use Rattle.std.specs.Str.{bytes_eq}
-use Rattle.sig_tree.specs.declared.expr.Name.{Name}
-use Rattle.sig_tree.specs.declared.expr.Constant.{Constant}
-use Rattle.sig_tree.specs.Syntax.{Expression, Placement, Computed, Called, Equations, Together, Defines, Equal, Bodies, no_body, more_bodies, ProcessModel}
-use Rattle.sig_tree.specs.Declarations.{Declaration, declarations, name_of, inputs_of, outputs_of, locals_of, process_of, all_processes, behind, Use, uses_of_equation, uses_of_inits, uses_of_right, signals_used, body_of_model, equations_of_model, equations_in, equations_inside, pragmas_of_model}
-use Rattle.sig_tree.specs.Candidates.{Candidate, NoneHolds, each}
-use Rattle.sig_tree.specs.Rules.{unknown_use, unknown_names, declared_twice, inputs_defined, defined_twice, undefined, clashes, bare_constants, bad_calls, bad_calls_of, recursive_calls, bad_pragmas, bad_pragmas_of, missing_inits_in, DiffersFrom, IsCluster, number_of}
-use Rattle.sig_tree.specs.WellFormed.{IsWellFormed, rules_on}
-use Rattle.sig_tree.proofs.CandidateLemmas.{each_append, each_flat}
-use Rattle.sig_tree.specs.Sound.{IsRead, IsTree, IsReady, IsLow, Fits, AreExpandable}
+use Rattle.sig_call.proofs.Common.{◌≡◌, ◌≢◌, ◌++◌, ◌≤◌, ℕ, List, [], ◌∷◌, None, Some, Option, Bool, true, false, cond, length, find, refl, ap, subst, inl, inr, arith, cases_eq, cases_lt, AllByRecursion, flat_map, bytes_eq, Name, Constant, Expression, Placement, Computed, Called, Equations, Together, Defines, Equal, Bodies, no_body, more_bodies, ProcessModel, Declaration, declarations, name_of, inputs_of, outputs_of, locals_of, process_of, all_processes, behind, Use, uses_of_equation, uses_of_inits, uses_of_right, signals_used, body_of_model, equations_of_model, equations_in, equations_inside, pragmas_of_model, Candidate, NoneHolds, each, unknown_use, unknown_names, declared_twice, defined_twice, undefined, clashes, bare_constants, bad_calls, bad_calls_of, recursive_calls, bad_pragmas, bad_pragmas_of, missing_inits_in, DiffersFrom, IsCluster, number_of, IsWellFormed, rules_on, each_append, each_flat, IsRead, IsTree, IsReady, IsLow, Fits, AreExpandable}
+use Rattle.sig_tree.specs.Rules.{inputs_defined}
 
 -- candidates in two lists
 pub none_parts : (cs ds : List Candidate) → NoneHolds (cs ++ ds) → NoneHolds cs × NoneHolds ds

@@ -1,16 +1,5 @@
 -- What the names of a copy are bound to, by their declarations.
-use Rattle.std.proofs.Common.{◌≡◌, ◌++◌, ℕ, suc, ℤ, Bool, true, false, cond, List, [], ◌∷◌, map, find, length, Option, None, Some, option_map, refl, sym, ap, subst}
-use Rattle.std.specs.List.{AllByRecursion}
-use Rattle.std.specs.Str.{bytes_eq}
-use Rattle.sig_base.specs.declared.ids.Kind.{Kind}
-use Rattle.sig_base.specs.declared.signal.Signal.{Signal}
-use Rattle.sig_base.specs.Traces.{Bounded, IsValue}
-use Rattle.sig_tree.specs.Syntax.{ProcessModel}
-use Rattle.sig_tree.specs.Declarations.{Role, Parameter, Input, Output, Local, Declaration, declarations, declaration_of, params_of, inputs_of, outputs_of, locals_of, heading_of_model, locals_of_model}
-use Rattle.sig_tree.specs.Kinds.{kind_of_parameter}
-use Rattle.sig_tree.specs.FlatBody.{Binding as BoundTo, BoundSignal, BoundConstant, Copy, binding_of, bound_constants, bound_from, copied_signals, signals_declared}
-use Rattle.sig_call.specs.Bindings.{binding_found, bindings_of}
-use Rattle.sig_tree.specs.WellMade.{kind_numbered}
+use Rattle.sig_call.proofs.Common.{◌≡◌, ◌++◌, ℕ, suc, ℤ, Bool, true, false, cond, List, [], ◌∷◌, map, find, length, Option, None, Some, option_map, refl, sym, ap, subst, AllByRecursion, bytes_eq, Kind, Signal, Bounded, IsValue, ProcessModel, Role, Parameter, Input, Output, Local, Declaration, declarations, declaration_of, params_of, inputs_of, outputs_of, locals_of, heading_of_model, locals_of_model, kind_of_parameter, Binding as BoundTo, BoundSignal, BoundConstant, Copy, binding_of, bound_constants, bound_from, copied_signals, signals_declared, binding_found, bindings_of, kind_numbered}
 use Rattle.sig_call.proofs.Apart.{all_so}
 use Rattle.sig_call.proofs.Obeying.{roles}
 use Rattle.sig_call.proofs.Texts.{all_both}

@@ -1,28 +1,7 @@
 -- Expressions of a copy: their constants, and their kinds.
-use Rattle.std.proofs.Common.{◌≡◌, ◌⊎◌, ◌++◌, ◌<◌, ◌∙◌, ℕ, ℤ, Bool, true, false, List, length, Option, None, Some, option_map, refl, sym, ap, subst, inl, inr}
-use Rattle.std.proofs.lemmas.Option.{slice_get_within}
-use Rattle.std.specs.List.{AllByRecursion, slice_get}
-use Rattle.sig_base.specs.declared.ids.Kind.{Kind}
-use Rattle.sig_base.specs.declared.ids.Kind.TheVariants.{Integer, Boolean}
-use Rattle.sig_base.specs.declared.signal.Signal.{Signal}
-use Rattle.sig_base.specs.declared.span.Span.{Span}
-use Rattle.sig_base.specs.Traces.{Bounded, IsValue}
-use Rattle.sig_tree.specs.declared.expr.Name.{Name}
-use Rattle.sig_tree.specs.declared.expr.Constant.{Constant}
-use Rattle.sig_tree.specs.declared.expr.Constant.TheVariants.{Int, Bool as Truthful, Param}
-use Rattle.sig_tree.specs.declared.expr.UnOp.{UnOp}
-use Rattle.sig_tree.specs.declared.expr.UnOp.TheVariants.{Neg}
-use Rattle.sig_tree.specs.declared.expr.BinOp.{BinOp}
-use Rattle.sig_tree.specs.Syntax.{Expression, Named, Number, Truth, Unary as UnaryForm, Binary as BinaryForm, Delay as DelayForm, Cell as CellForm}
-use Rattle.sig_tree.specs.FlatSyntax.{FlatExpression, Unary, Binary, Delay, Cell}
-use Rattle.sig_tree.specs.Declarations.{Declaration, declarations, declaration_of, names_of_expression, names_of_init, names_of_constant}
-use Rattle.sig_tree.specs.Kinds.{NoConstant, unary_row, binary_row, delay_row, cell_row, unary_kind, binary_kind, stored, kind_of, kind_of_constant, kind_of_parameter, parameter_kind, is_parameter, is_constant as is_constant_in}
-use Rattle.sig_tree.specs.Candidates.{NoneHolds}
-use Rattle.sig_tree.specs.Rules.{IsUnfit, RefusesOne, RefusesTwo, clashes_of_expression, bare_in_expression, missing_inits}
-use Rattle.sig_tree.specs.FlatBody.{Binding as BoundTo, BoundSignal, BoundConstant, Copy, binding_of, flat_name, flat_of, truth_value, value_bound, value_of}
-use Rattle.sig_call.specs.Constants.{IsBoundedConstant, HasBoundedInits}
-use Rattle.sig_tree.specs.Sound.{IsSmall}
-use Rattle.sig_tree.specs.WellMade.{kind_numbered, flat_kind, is_constant, Allows, IsMade, MayBegin}
+use Rattle.sig_call.proofs.Common.{◌≡◌, ◌⊎◌, ◌++◌, ◌<◌, ◌∙◌, ℕ, ℤ, Bool, true, false, List, length, Option, None, Some, option_map, refl, sym, ap, subst, inl, inr, slice_get_within, AllByRecursion, slice_get, Kind, Integer, Boolean, Signal, Span, Bounded, IsValue, Name, Constant, Int, Truthful, Param, UnOp, Neg, BinOp, Expression, Named, Number, Truth, Unary as UnaryForm, Binary as BinaryForm, Delay as DelayForm, Cell as CellForm, FlatExpression, Declaration, declarations, declaration_of, names_of_expression, names_of_init, names_of_constant, NoConstant, unary_row, binary_row, delay_row, cell_row, unary_kind, binary_kind, stored, kind_of, kind_of_constant, kind_of_parameter, parameter_kind, is_parameter, is_constant as is_constant_in, NoneHolds, IsUnfit, RefusesOne, RefusesTwo, clashes_of_expression, bare_in_expression, missing_inits, Binding as BoundTo, BoundSignal, BoundConstant, Copy, binding_of, flat_name, flat_of, truth_value, value_bound, value_of, IsBoundedConstant, HasBoundedInits, IsSmall, kind_numbered, flat_kind, Allows, IsMade, MayBegin}
+use Rattle.sig_tree.specs.FlatSyntax.{Unary, Binary, Delay, Cell}
+use Rattle.sig_tree.specs.WellMade.{is_constant}
 use Rattle.sig_call.proofs.Expandable.{none_parts}
 use Rattle.sig_call.proofs.GoodCopies.{IsGoodCopy, Suits}
 use Rattle.sig_call.proofs.KindRules.{some_is, same_kind, fits_pos, fits_neg, Alike, unary_alike, binary_alike, allowed, not_constant}

@@ -1,15 +1,5 @@
 -- Bytes of names and numbers are printable and no blanks.
-use Rattle.std.proofs.Common.{◌≡◌, ◌⊎◌, ◌<◌, ◌≤◌, ◌^◌, ◌&&◌, ◌||◌, ◌==◌, ℕ, suc, Bool, true, false, List, [], ◌∷◌, length, decimal, refl, inl, inr, arith}
-use Rattle.std.proofs.lemmas.Bool.{eqb-true, leb-true}
-use Rattle.std.proofs.lemmas.Fmt.{decimal_is_IsNumeral_wide}
-use Rattle.std.proofs.lemmas.Str.Parse.{digit_from_value}
-use Rattle.std.specs.Char.{is_ascii_alphabetic, is_ascii_alphanumeric}
-use Rattle.std.specs.Int.{is_in_range}
-use Rattle.std.specs.List.{AllByRecursion, AllPass}
-use Rattle.std.specs.Str.Parse.{AllDigits}
-use Rattle.sig_lex.specs.Bytes.{first, is_name_byte}
-use Rattle.sig_lex.specs.Lexemes.{IsNameText}
-use Rattle.sig_tree.specs.SignalNames.{IsGraphic}
+use Rattle.sig_call.proofs.Common.{◌≡◌, ◌⊎◌, ◌<◌, ◌≤◌, ◌^◌, ◌&&◌, ◌||◌, ◌==◌, ℕ, suc, Bool, true, false, List, [], ◌∷◌, length, decimal, refl, inl, inr, arith, eqb-true, leb-true, decimal_is_IsNumeral_wide, digit_from_value, is_ascii_alphabetic, is_ascii_alphanumeric, is_in_range, AllByRecursion, AllPass, AllDigits, first, is_name_byte, IsNameText, IsGraphic}
 
 or_true : (a b : Bool) → (a || b) ≡ true → (a ≡ true) ⊎ (b ≡ true)
 or_true true b h = inl refl

@@ -1,10 +1,5 @@
 -- What follows where the rules on kinds do not refuse.
-use Rattle.std.proofs.Common.{◌≡◌, ◌≢◌, ◌⊎◌, ◌<◌, ◌^◌, ◌∙◌, ℕ, zero, suc, pos, neg_ℤ, Bool, true, false, if◌then◌else◌, Option, None, Some, refl, sym, ap, inl, inr, arith, FitsSigned, w64}
-use Rattle.sig_base.specs.declared.ids.Kind.{Kind}
-use Rattle.sig_base.specs.declared.ids.Kind.TheVariants.{Integer, Boolean, Event}
-use Rattle.sig_tree.specs.Kinds.{FormRow, ConstantRule, NoConstant, OneConstant, FirstConstant, accepts, kind_of_result, unary_kind, binary_kind, stored, Takes}
-use Rattle.sig_tree.specs.Rules.{RefusesOne, RefusesTwo, MayNotBeFirst, MayNotBeSecond}
-use Rattle.sig_tree.specs.WellMade.{Allows}
+use Rattle.sig_call.proofs.Common.{◌≡◌, ◌≢◌, ◌⊎◌, ◌<◌, ◌^◌, ◌∙◌, ℕ, zero, suc, pos, neg_ℤ, Bool, true, false, if◌then◌else◌, Option, None, Some, refl, sym, ap, inl, inr, arith, FitsSigned, w64, Kind, Integer, Boolean, Event, FormRow, ConstantRule, NoConstant, OneConstant, FirstConstant, accepts, kind_of_result, unary_kind, binary_kind, stored, Takes, RefusesOne, RefusesTwo, MayNotBeFirst, MayNotBeSecond, Allows}
 
 pub some_is : {A : Type 0} {a b : A} → Some a ≡ Some b → a ≡ b
 some_is {A} {a} {b} is = ap (λ o. from o) is where

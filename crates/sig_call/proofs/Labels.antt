@@ -1,16 +1,5 @@
 -- The numbers that labels write, and the clusters that pragmas give.
-use Rattle.std.proofs.Common.{◌≡◌, ◌+◌, ◌-◌, ◌*◌, ◌≤◌, ◌<◌, ℕ, zero, suc, List, [], ◌∷◌, fold, drop, map, length, get_or, arith, subst, sym, ap, ◌∙◌, refl}
-use Rattle.std.proofs.lemmas.List.{at_drop_more}
-use Rattle.std.specs.List.{AllByRecursion}
-use Rattle.sig_base.specs.declared.signal.Signal.{Signal}
-use Rattle.sig_tree.specs.declared.process.Process.{Process, out-Process}
-use Rattle.sig_tree.specs.declared.process.RunOn.{RunOn}
-use Rattle.sig_tree.specs.Syntax.{Placement, placement_of, model_of}
-use Rattle.sig_tree.specs.Declarations.{pragmas_of_model}
-use Rattle.sig_tree.specs.FlatBody.{cluster_at}
-use Rattle.sig_tree.specs.Rules.{number_of}
-use Rattle.sig_scope.proofs.Trees.{pragmas_are}
-use Rattle.sig_tree.specs.Sound.{IsLow}
+use Rattle.sig_call.proofs.Common.{◌≡◌, ◌+◌, ◌-◌, ◌*◌, ◌≤◌, ◌<◌, ℕ, zero, suc, List, [], ◌∷◌, fold, drop, map, length, get_or, arith, subst, sym, ap, ◌∙◌, refl, at_drop_more, AllByRecursion, Signal, Process, out-Process, RunOn, Placement, placement_of, model_of, pragmas_of_model, cluster_at, number_of, pragmas_are, IsLow}
 use Rattle.sig_call.proofs.Lists.{all_mapped}
 
 -- the number that digits write behind another

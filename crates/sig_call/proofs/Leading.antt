@@ -1,13 +1,5 @@
 -- How equations lead from one progress to another.
-use Rattle.std.proofs.Common.{◌≡◌, ◌++◌, ◌+◌, ◌<◌, ◌≤◌, ℕ, List, [], ◌∷◌, Option, None, Some, length, map, refl, sym, ap, subst, ◌∙◌, append_assoc, arith}
-use Rattle.std.proofs.lemmas.List.{append-nil, length-append}
-use Rattle.sig_tree.specs.declared.expr.Name.{Name}
-use Rattle.sig_tree.specs.declared.expr.Constant.{Constant}
-use Rattle.sig_tree.specs.Syntax.{Expression, Equations, Defines, Equal, Computed, Called, ProcessModel}
-use Rattle.sig_tree.specs.FlatSyntax.{FlatEquation, Defines as DefinesFlat, Equal as EqualFlat}
-use Rattle.sig_tree.specs.Declarations.{inputs_of, process_of, equations_of_model}
-use Rattle.sig_tree.specs.FlatBody.{Copy, Progress, Expands, Ended, Defined, Equated, Expanded, called_copy, with_copy, copied_signals, copy_prefix, cluster_of_call, inputs_defined, outputs_defined, signal_of, flat_right, flat_of}
-use Rattle.sig_call.specs.Making.{Made, with_equations, with_progress, Leads, Advances, NeedsMore}
+use Rattle.sig_call.proofs.Common.{◌≡◌, ◌++◌, ◌+◌, ◌<◌, ◌≤◌, ℕ, List, [], ◌∷◌, Option, None, Some, length, map, refl, sym, ap, subst, ◌∙◌, append_assoc, arith, append-nil, length-append, Name, Constant, Expression, Equations, Defines, Equal, Computed, Called, ProcessModel, FlatEquation, DefinesFlat, EqualFlat, inputs_of, process_of, equations_of_model, Copy, Progress, Expands, Ended, Defined, Equated, Expanded, called_copy, with_copy, copied_signals, copy_prefix, cluster_of_call, inputs_defined, outputs_defined, signal_of, flat_right, flat_of, Made, with_equations, with_progress, Leads, Advances, NeedsMore}
 
 some_is : {A : Type 0} {a b : A} → Some a ≡ Some b → a ≡ b
 some_is {A} {a} {b} is = ap (λ o. from o) is where

@@ -1,26 +1,6 @@
 -- How many bytes of a text the leaves of a tree are: no more than there are, and in each process more than its
 -- name, a declared name and 19 other bytes.
-use Rattle.std.proofs.Common.{◌≡◌, ◌++◌, ◌+◌, ◌-◌, ◌≤◌, ◌∙◌, ℕ, suc, List, [], ◌∷◌, length, drop, map, codes, sym, ap, subst, inl, inr, arith, slice_range, length-take}
-use Rattle.std.specs.List.{AllByRecursion, flat_map}
-use Rattle.std.specs.Option.{option_to_list, option_map}
-use Rattle.sig_base.specs.declared.span.Span.{Span}
-use Rattle.sig_base.specs.declared.ids.Kind.{Kind}
-use Rattle.sig_base.specs.declared.ids.Kind.TheVariants.{Integer, Boolean, Event}
-use Rattle.sig_lex.specs.declared.token.Token.{Token}
-use Rattle.sig_lex.specs.declared.token.TokenKind.{TokenKind}
-use Rattle.sig_lex.specs.declared.token.TokenKind.TheVariants.{Name as NameToken, Word, Number as NumberToken, Label, Mark, Last}
-use Rattle.sig_lex.specs.Slices.{InOrder}
-use Rattle.sig_lex.specs.Lexemes.{text_of}
-use Rattle.sig_tree.specs.declared.process.Item.{Item}
-use Rattle.sig_tree.specs.Syntax.{Declared, Equations, Together, Defines, Equal, Heading, Placement, ProcessModel, Modelled, ProcessModels, no_model, more_models}
-use Rattle.sig_tree.specs.Declarations.{Declaration, Role, Input, Output, Local, declared_as, name_of, with_inner, those_inner}
-use Rattle.sig_tree.specs.FlatBody.{signals_declared}
-use Rattle.sig_tree.specs.Terminals.{Terminal, name, word, number, label, mark, Leaf, leaf, kind_word}
-use Rattle.sig_tree.specs.Leaves.{terminal_of, leaf_of, leaves_of}
-use Rattle.sig_tree.specs.Limits.{Limits}
-use Rattle.sig_tree.specs.Repeated.{Each, Further, Separated, Between}
-use Rattle.sig_tree.specs.Equations.{IsBody}
-use Rattle.sig_tree.specs.Processes.{IsGroup, AreGroups, IsInterface, IsModel, IsProcess, IsLocalGroup, AreLocals, IsPlainItem, IsItem}
+use Rattle.sig_call.proofs.Common.{◌≡◌, ◌++◌, ◌+◌, ◌-◌, ◌≤◌, ◌∙◌, ℕ, suc, List, [], ◌∷◌, length, drop, map, codes, sym, ap, subst, inl, inr, arith, slice_range, length-take, AllByRecursion, flat_map, option_to_list, option_map, Span, Kind, Integer, Boolean, Event, Token, TokenKind, NameToken, Word, NumberToken, Label, Mark, Last, InOrder, text_of, Item, Declared, Equations, Together, Defines, Equal, Heading, Placement, ProcessModel, Modelled, ProcessModels, no_model, more_models, Declaration, Role, Input, Output, Local, declared_as, name_of, with_inner, those_inner, signals_declared, Terminal, name, word, number, label, mark, Leaf, leaf, kind_word, terminal_of, leaf_of, leaves_of, Limits, Each, Further, Separated, Between, IsBody, IsGroup, AreGroups, IsInterface, IsModel, IsProcess, IsLocalGroup, AreLocals, IsPlainItem, IsItem}
 use Rattle.sig_call.proofs.Apart.{all_so}
 use Rattle.sig_call.proofs.Texts.{all_both}
 

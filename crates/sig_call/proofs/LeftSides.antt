@@ -1,16 +1,6 @@
 -- The left sides of a process name its outputs and locals, each once: in a copy they stand for the numbers of
 -- the copy's signals that are no inputs.
-use Rattle.std.proofs.Common.{◌≡◌, ◌≢◌, ◌+◌, ◌-◌, ◌<◌, ◌==◌, ◌++◌, ◌∙◌, ℕ, ℤ, zero, suc, Bool, true, false, cond, List, [], ◌∷◌, map, find, length, get_or, count_by, Contains, Some, option_map, refl, sym, ap, subst, inl, inr, arith, eq-eqb, eqb-true}
-use Rattle.std.proofs.lemmas.Bool.{cases_eq, cases_lt}
-use Rattle.std.proofs.lemmas.List.{length-append, length-map, get_or-append-add, get_or_default}
-use Rattle.std.proofs.lemmas.Slice.Eq.{bytes_eq-Decides}
-use Rattle.std.specs.List.{AllByRecursion}
-use Rattle.std.specs.Str.{bytes_eq}
-use Rattle.sig_tree.specs.declared.expr.Name.{Name}
-use Rattle.sig_tree.specs.Syntax.{ProcessModel}
-use Rattle.sig_tree.specs.Declarations.{Declaration, params_of, inputs_of, outputs_of, locals_of, declarations, texts, left_sides_of}
-use Rattle.sig_tree.specs.FlatBody.{Binding as BoundTo, BoundSignal, Copy, bound_constants, bound_from, binding_of, signal_bound, signal_of, signals_declared}
-use Rattle.sig_call.specs.Bindings.{binding_found, bindings_of}
+use Rattle.sig_call.proofs.Common.{◌≡◌, ◌≢◌, ◌+◌, ◌-◌, ◌<◌, ◌==◌, ◌++◌, ◌∙◌, ℕ, ℤ, zero, suc, Bool, true, false, cond, List, [], ◌∷◌, map, find, length, get_or, count_by, Contains, Some, option_map, refl, sym, ap, subst, inl, inr, arith, eq-eqb, eqb-true, cases_eq, cases_lt, length-append, length-map, get_or-append-add, get_or_default, bytes_eq-Decides, AllByRecursion, bytes_eq, Name, ProcessModel, Declaration, params_of, inputs_of, outputs_of, locals_of, declarations, texts, left_sides_of, Binding as BoundTo, BoundSignal, Copy, bound_constants, bound_from, binding_of, signal_bound, signal_of, signals_declared, binding_found, bindings_of}
 use Rattle.sig_call.proofs.Apart.{all_so, Apart, apart_right}
 use Rattle.sig_call.proofs.Counting.{below, count_map, count_none, count_same, not_it, once, holds_at}
 use Rattle.sig_call.proofs.Named.{declared_texts, texts_append}

@@ -1,3 +1,4 @@
+pub mod Common
 pub mod Apart
 pub mod Bound
 pub mod Counting
@@ -26,3 +27,18 @@ pub mod Spelled
 pub mod Texts
 pub mod WellMadeBodies
 pub mod Whole
+unfoldable pub use Common.*
+pub use Bound.*
+pub use Existence.*
+pub use Expandable.*
+pub use Labels.*
+pub use Leading.*
+pub use Lists.*
+pub use Named.*
+pub use Readiness.*
+pub use SignalNaming.*
+pub use Size.*
+pub use Spelled.*
+pub use Texts.*
+pub use WellMadeBodies.*
+pub use Whole.*

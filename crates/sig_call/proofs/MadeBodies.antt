@@ -1,20 +1,5 @@
 -- The equations of an expansion, and flat bodies.
-use Rattle.std.proofs.Common.{◌≡◌, ◌+◌, ◌++◌, ◌∙◌, ℕ, suc, List, [], ◌∷◌, map, length, Some, refl, sym, ap, subst, inl, inr, arith}
-use Rattle.std.proofs.lemmas.List.{append_assoc, append-nil}
-use Rattle.std.proofs.lemmas.Bool.{cases_eq}
-use Rattle.std.specs.List.{AllByRecursion, flat_map}
-use Rattle.sig_base.specs.declared.signal.Signal.{Signal}
-use Rattle.sig_tree.specs.declared.expr.Name.{Name}
-use Rattle.sig_tree.specs.declared.expr.Constant.{Constant}
-use Rattle.sig_tree.specs.Syntax.{Expression, Called, Equations, Defines as DefinesNames, ProcessModel}
-use Rattle.sig_tree.specs.FlatSyntax.{FlatEquation}
-use Rattle.sig_tree.specs.Declarations.{Declaration, declarations, params_of, inputs_of, outputs_of, locals_of, process_of, names_of_expression, names_of_constant, signals_used, uses_of_right}
-use Rattle.sig_tree.specs.Candidates.{NoneHolds, each}
-use Rattle.sig_tree.specs.Rules.{DiffersFrom, bad_calls_of, clash_of_arguments, clashes_of_call, clashes_of_constants, clashes_of_expression, clashes_of_results}
-use Rattle.sig_tree.specs.FlatBody.{Copy, Progress, Expands, Ended, Defined, Equated, Expanded, inputs_defined, outputs_defined, called_copy, copied_signals, copy_prefix, cluster_of_call, signals_declared, value_of}
-use Rattle.sig_tree.proofs.CandidateLemmas.{each_append}
-use Rattle.sig_tree.specs.Sound.{IsReady, IsSmall}
-use Rattle.sig_tree.specs.WellMade.{IsMadeEquation}
+use Rattle.sig_call.proofs.Common.{◌≡◌, ◌+◌, ◌++◌, ◌∙◌, ℕ, suc, List, [], ◌∷◌, map, length, Some, refl, sym, ap, subst, inl, inr, arith, append_assoc, append-nil, cases_eq, AllByRecursion, flat_map, Signal, Name, Constant, Expression, Called, Equations, Defines as DefinesNames, ProcessModel, FlatEquation, Declaration, declarations, params_of, inputs_of, outputs_of, locals_of, process_of, names_of_expression, names_of_constant, signals_used, uses_of_right, NoneHolds, each, DiffersFrom, bad_calls_of, clash_of_arguments, clashes_of_call, clashes_of_constants, clashes_of_expression, clashes_of_results, Copy, Progress, Expands, Ended, Defined, Equated, Expanded, inputs_defined, outputs_defined, called_copy, copied_signals, copy_prefix, cluster_of_call, signals_declared, value_of, each_append, IsReady, IsSmall, IsMadeEquation}
 use Rattle.sig_call.proofs.Expandable.{none_parts, unknown_at}
 use Rattle.sig_call.proofs.GoodCopies.{AreNumbered, AreValues, IsGoodCopy, copied_numbered, good_copy}
 use Rattle.sig_call.proofs.GoodExpressions.{IsKnown}

@@ -1,22 +1,6 @@
 -- The equations of a copy, each by itself.
-use Rattle.std.proofs.Common.{◌≡◌, ◌⊎◌, ◌++◌, ◌<◌, ◌∙◌, ℕ, suc, Bool, true, List, [], ◌∷◌, map, zip, length, Option, None, Some, IsSome, Any, option_map, option_and_then, refl, sym, ap, subst, inl, inr, arith}
-use Rattle.std.specs.List.{AllByRecursion, flat_map}
-use Rattle.std.specs.Str.{bytes_eq}
-use Rattle.sig_base.specs.declared.ids.Kind.{Kind}
-use Rattle.sig_base.specs.declared.signal.Signal.{Signal}
-use Rattle.sig_base.specs.Traces.{Bounded, IsValue}
-use Rattle.sig_tree.specs.declared.expr.Name.{Name}
-use Rattle.sig_tree.specs.declared.expr.Constant.{Constant}
-use Rattle.sig_tree.specs.Syntax.{Expression, Delay as DelayForm}
-use Rattle.sig_tree.specs.FlatSyntax.{FlatExpression, Defines, Equal}
-use Rattle.sig_tree.specs.Declarations.{Role, Parameter, Input, Output, Local, Declaration, declarations, declaration_of, outputs_of, locals_of, names_of_expression}
-use Rattle.sig_tree.specs.Kinds.{delay_row, unary_kind, stored, kind_of, kind_of_name, is_constant as is_constant_in, Takes}
-use Rattle.sig_tree.specs.Candidates.{NoneHolds, each}
-use Rattle.sig_tree.specs.Rules.{IsGiven, HasInit, DoesNotTake, clash_of_init, clashes_of_constants, clashes_of_expression, clashes_of_results, bare_alone, bare_in_expression, missing_inits, missing_inits_of_right}
-use Rattle.sig_tree.specs.FlatBody.{Binding as BoundTo, BoundSignal, BoundConstant, Copy, binding_of, declared_init, flat_of, flat_right, init_value, inputs_defined, outputs_defined, signal_bound, signal_of, value_of}
-use Rattle.sig_call.specs.Constants.{IsBoundedConstant, IsBoundedInit, HasBoundedInits}
-use Rattle.sig_tree.specs.Sound.{IsSmall}
-use Rattle.sig_tree.specs.WellMade.{kind_numbered, IsMadeEquation, IsWhole}
+use Rattle.sig_call.proofs.Common.{◌≡◌, ◌⊎◌, ◌++◌, ◌<◌, ◌∙◌, ℕ, suc, Bool, true, List, [], ◌∷◌, map, zip, length, Option, None, Some, IsSome, Any, option_map, option_and_then, refl, sym, ap, subst, inl, inr, arith, AllByRecursion, flat_map, bytes_eq, Kind, Signal, Bounded, IsValue, Name, Constant, Expression, Delay as DelayForm, FlatExpression, Role, Parameter, Input, Output, Local, Declaration, declarations, declaration_of, outputs_of, locals_of, names_of_expression, delay_row, unary_kind, stored, kind_of, kind_of_name, is_constant as is_constant_in, Takes, NoneHolds, each, IsGiven, HasInit, DoesNotTake, clash_of_init, clashes_of_constants, clashes_of_expression, clashes_of_results, bare_alone, bare_in_expression, missing_inits, missing_inits_of_right, Binding as BoundTo, BoundSignal, BoundConstant, Copy, binding_of, declared_init, flat_of, flat_right, init_value, inputs_defined, outputs_defined, signal_bound, signal_of, value_of, IsBoundedConstant, IsBoundedInit, HasBoundedInits, IsSmall, kind_numbered, IsMadeEquation, IsWhole}
+use Rattle.sig_tree.specs.FlatSyntax.{Defines, Equal}
 use Rattle.sig_call.proofs.Expandable.{found_all, none_parts}
 use Rattle.sig_call.proofs.GoodCopies.{AreNumbered, AreValues, IsGoodCopy, Suits}
 use Rattle.sig_call.proofs.GoodExpressions.{Asked, IsGood, IsKnown, constant_fits, delay_good, good, numbered_within}

@@ -1,19 +1,5 @@
 -- The names of a flat body's signals differ.
-use Rattle.std.proofs.Common.{◌≡◌, ◌≢◌, ◌++◌, ◌<◌, ◌≤◌, ◌^◌, ℕ, suc, List, [], ◌∷◌, Some, length, map, refl, sym, ap, subst, ◌∙◌, inl, arith, Contains}
-use Rattle.std.proofs.lemmas.List.{map-append}
-use Rattle.std.proofs.lemmas.List.Elements.{Contains-append_left, Contains-push}
-use Rattle.std.specs.List.{AllByRecursion, IsDistinct}
-use Rattle.std.specs.Str.{bytes_eq}
-use Rattle.sig_base.specs.declared.signal.Signal.{Signal}
-use Rattle.sig_tree.specs.declared.expr.Name.{Name}
-use Rattle.sig_tree.specs.Syntax.{Equations, ProcessModel}
-use Rattle.sig_tree.specs.FlatSyntax.{FlatEquation, FlatBody}
-use Rattle.sig_tree.specs.Declarations.{Declaration, behind, declarations, params_of, name_of, process_of, texts, all_processes}
-use Rattle.sig_tree.specs.FlatBody.{Copy, Progress, Expands, Ended, Defined, Equated, Expanded, IsFlatBody, copied_signals, copy_prefix, cluster_of_call, first_progress, signals_declared, with_copy}
-use Rattle.sig_tree.specs.Candidates.{Offence, NoneHolds, DeclaredTwice, candidate, each}
-use Rattle.sig_tree.specs.Rules.{unknown_names, declared_twice}
-use Rattle.sig_tree.specs.WellFormed.{IsWellFormed}
-use Rattle.sig_tree.specs.Sound.{IsTree, IsReady, AreExpandable}
+use Rattle.sig_call.proofs.Common.{◌≡◌, ◌≢◌, ◌++◌, ◌<◌, ◌≤◌, ◌^◌, ℕ, suc, List, [], ◌∷◌, Some, length, map, refl, sym, ap, subst, ◌∙◌, inl, arith, Contains, map-append, Contains-append_left, Contains-push, AllByRecursion, IsDistinct, bytes_eq, Signal, Name, Equations, ProcessModel, FlatEquation, FlatBody, Declaration, behind, declarations, params_of, name_of, process_of, texts, all_processes, Copy, Progress, Expands, Ended, Defined, Equated, Expanded, IsFlatBody, copied_signals, copy_prefix, cluster_of_call, first_progress, signals_declared, with_copy, Offence, NoneHolds, DeclaredTwice, candidate, each, unknown_names, declared_twice, IsWellFormed, IsTree, IsReady, AreExpandable}
 use Rattle.sig_call.proofs.Apart.{all_so, prefixed, all_prefixed, all_texts, Apart, distinct, apart_both, apart_right, apart_prefixed, Lacks}
 use Rattle.sig_call.proofs.Existence.{found_name}
 use Rattle.sig_call.proofs.Expandable.{expandable, found_all, none_parts, rules_hold}

@@ -1,13 +1,5 @@
 -- Names of signals: those of a text, and those of copies, which tell the number of the call.
-use Rattle.std.proofs.Common.{◌≡◌, ◌≢◌, ◌⊎◌, ◌++◌, ◌<◌, ◌≤◌, ◌^◌, ℕ, suc, List, [], ◌∷◌, true, false, sym, ap, ◌∙◌, inl, inr, arith, append_assoc}
-use Rattle.std.proofs.lemmas.Fmt.{decimal_is_IsNumeral_wide}
-use Rattle.std.proofs.lemmas.Str.Parse.{digit_from_value}
-use Rattle.std.specs.Fmt.{decimal}
-use Rattle.std.specs.List.{AllPass}
-use Rattle.std.specs.Str.Parse.{AllDigits, digits_value}
-use Rattle.sig_lex.specs.Bytes.{is_name_byte}
-use Rattle.sig_tree.specs.declared.expr.Name.{Name}
-use Rattle.sig_tree.specs.FlatBody.{copy_prefix}
+use Rattle.sig_call.proofs.Common.{◌≡◌, ◌≢◌, ◌⊎◌, ◌++◌, ◌<◌, ◌≤◌, ◌^◌, ℕ, suc, List, [], ◌∷◌, true, false, sym, ap, ◌∙◌, inl, inr, arith, append_assoc, decimal_is_IsNumeral_wide, digit_from_value, decimal, AllPass, AllDigits, digits_value, is_name_byte, Name, copy_prefix}
 use Rattle.sig_call.proofs.Apart.{Lacks, cut, lacks_none}
 
 -- a byte that no name has

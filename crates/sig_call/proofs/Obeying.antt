@@ -1,18 +1,6 @@
 -- What the rules say of the processes of a well-formed program.
-use Rattle.std.proofs.Common.{◌≡◌, ◌⊎◌, ◌++◌, ◌<◌, ℕ, zero, suc, Bool, true, false, cond, List, [], ◌∷◌, None, Some, Option, map, length, get_or, Contains, refl, sym, subst, inl, inr, arith}
-use Rattle.std.proofs.lemmas.Slice.Eq.{bytes_eq-Decides}
-use Rattle.std.specs.List.{AllByRecursion, flat_map}
-use Rattle.std.specs.Str.{bytes_eq}
-use Rattle.sig_tree.specs.declared.expr.Name.{Name}
-use Rattle.sig_tree.specs.declared.process.Item.{Item}
-use Rattle.sig_tree.specs.Syntax.{Declared, Equations, Together, Defines, Equal, ProcessModel}
-use Rattle.sig_tree.specs.Declarations.{Role, Parameter, Input, Declaration, declared_as, heading_of_model, declarations, declaration_of, params_of, inputs_of, outputs_of, locals_of, name_of, process_of, all_processes, texts, left_sides, left_sides_of, equations_of_model, uses_of_equation, uses_of_right, signals_used}
-use Rattle.sig_tree.specs.Candidates.{Candidate, NoneHolds, candidate, each, DefinedTwice, Undefined, InputDefined}
-use Rattle.sig_tree.specs.Rules.{IsGiven, unknown_names, declared_twice, inputs_defined, defined_twice, undefined, clashes, clashes_of_equation, clashes_of_inits, clash_of_init, bare_constants, bare_in_equation, bad_calls, bad_calls_of, recursive_calls, bad_pragmas, missing_inits_in, missing_inits_of_equation}
-use Rattle.sig_tree.specs.WellFormed.{IsWellFormed, rules_on}
-use Rattle.sig_tree.proofs.CandidateLemmas.{each_append}
-use Rattle.sig_call.specs.Constants.{IsBounded, IsBoundedEquation, IsBoundedInit, IsBoundedProcess}
-use Rattle.sig_tree.specs.Sound.{IsTree, IsReady}
+use Rattle.sig_call.proofs.Common.{◌≡◌, ◌⊎◌, ◌++◌, ◌<◌, ℕ, zero, suc, Bool, true, false, cond, List, [], ◌∷◌, None, Some, Option, map, length, get_or, Contains, refl, sym, subst, inl, inr, arith, bytes_eq-Decides, AllByRecursion, flat_map, bytes_eq, Name, Item, Declared, Equations, Together, Defines, Equal, ProcessModel, Role, Parameter, Input, Declaration, declared_as, heading_of_model, declarations, declaration_of, params_of, inputs_of, outputs_of, locals_of, name_of, process_of, all_processes, texts, left_sides, left_sides_of, equations_of_model, uses_of_equation, uses_of_right, signals_used, Candidate, NoneHolds, candidate, each, DefinedTwice, Undefined, InputDefined, IsGiven, unknown_names, declared_twice, defined_twice, undefined, clashes, clashes_of_equation, clashes_of_inits, clash_of_init, bare_constants, bare_in_equation, bad_calls, bad_calls_of, recursive_calls, bad_pragmas, missing_inits_in, missing_inits_of_equation, IsWellFormed, rules_on, each_append, IsBounded, IsBoundedEquation, IsBoundedInit, IsBoundedProcess, IsTree, IsReady}
+use Rattle.sig_tree.specs.Rules.{inputs_defined}
 use Rattle.sig_call.proofs.Apart.{all_so}
 use Rattle.sig_call.proofs.Expandable.{expandable, found_all, known_in_equations, none_parts, rules_hold, unknown_at}
 use Rattle.sig_call.proofs.LeftSides.{DefinesOnce}

@@ -1,23 +1,5 @@
 -- The places of operators in the tree of a text.
-use Rattle.std.proofs.Common.{◌++◌, ◌+◌, ◌-◌, ◌≤◌, ◌==◌, ℕ, suc, not, List, [], ◌∷◌, None, Some, Option, length, take, count_by, refl, sym, subst, inl, inr, arith, length-take, length-drop}
-use Rattle.std.proofs.lemmas.List.Sums.{count_by-le-length}
-use Rattle.std.specs.List.{AllByRecursion, after_last, flat_map, suffix_len}
-use Rattle.std.specs.Option.{option_to_list, option_map}
-use Rattle.sig_base.specs.declared.span.Span.{Span}
-use Rattle.sig_lex.specs.declared.token.Token.{Token}
-use Rattle.sig_lex.specs.Lexemes.{text_of}
-use Rattle.sig_lex.specs.Places.{place_after}
-use Rattle.sig_lex.specs.Slices.{InOrder}
-use Rattle.sig_tree.specs.Syntax.{Expression, Named, Number, Truth, Unary, Binary, Delay, Cell, Declared, RightSide, Computed, Called, Equations, Together, Defines, Equal, Bodies, no_body, more_bodies, ProcessModel, Modelled, ProcessModels, no_model, more_models}
-use Rattle.sig_tree.specs.Declarations.{equations_in, equations_inside, equations_of_model, with_inner, those_inner}
-use Rattle.sig_tree.specs.Terminals.{Terminal, Leaf, leaf}
-use Rattle.sig_tree.specs.Leaves.{terminal_of, leaf_of, leaves_of}
-use Rattle.sig_tree.specs.Levels.{level_of}
-use Rattle.sig_tree.specs.Limits.{Limits}
-use Rattle.sig_tree.specs.Repeated.{Each}
-use Rattle.sig_tree.specs.Expressions.{IsBare, IsExpression}
-use Rattle.sig_tree.specs.Equations.{IsRight, IsClockEquation, IsBody, AreBodies, AreFurtherBodies}
-use Rattle.sig_tree.specs.Processes.{IsModel, AreLocals}
+use Rattle.sig_call.proofs.Common.{◌++◌, ◌+◌, ◌-◌, ◌≤◌, ◌==◌, ℕ, suc, not, List, [], ◌∷◌, None, Some, Option, length, take, count_by, refl, sym, subst, inl, inr, arith, length-take, length-drop, count_by-le-length, AllByRecursion, after_last, flat_map, suffix_len, option_to_list, option_map, Span, Token, text_of, place_after, InOrder, Expression, Named, Number, Truth, Unary, Binary, Delay, Cell, Declared, RightSide, Computed, Called, Equations, Together, Defines, Equal, Bodies, no_body, more_bodies, ProcessModel, Modelled, ProcessModels, no_model, more_models, equations_in, equations_inside, equations_of_model, with_inner, those_inner, Terminal, Leaf, leaf, terminal_of, leaf_of, leaves_of, level_of, Limits, Each, IsBare, IsExpression, IsRight, IsClockEquation, IsBody, AreBodies, AreFurtherBodies, IsModel, AreLocals}
 use Rattle.sig_call.proofs.Texts.{AllLeaves, leaves_left, leaves_right, leaves_behind, leaves_between, leaves_enclosed, separated_all, listed_all, all_both}
 
 -- what holds at the place of each operator of an expression

@@ -1,16 +1,5 @@
 -- What holds of equations that can be expanded.
-use Rattle.std.proofs.Common.{◌≡◌, ◌++◌, ◌+◌, ◌<◌, ◌≤◌, ℕ, suc, List, [], ◌∷◌, None, Some, length, get_or, sym, ap, subst, ◌∙◌, arith, Option, Result, Err}
-use Rattle.std.proofs.lemmas.List.{length-append, length-map}
-use Rattle.sig_tree.specs.declared.expr.Name.{Name}
-use Rattle.sig_tree.specs.declared.expr.Constant.{Constant}
-use Rattle.sig_tree.specs.Syntax.{Expression, Equations, Defines, Computed, Called, ProcessModel}
-use Rattle.sig_tree.specs.FlatSyntax.{Defines as DefinesFlat}
-use Rattle.sig_tree.specs.Declarations.{inputs_of, outputs_of, locals_of, process_of}
-use Rattle.sig_tree.specs.FlatBody.{Copy, Progress, signal_of, flat_right, with_copy, copied_signals, copy_prefix, cluster_of_call, signals_declared}
-use Rattle.sig_call.specs.Making.{Made, with_equations, Advances, IsRefused, IsRefusedBy}
-use Rattle.sig_tree.specs.Sound.{IsReady, Fits}
-use Rattle.sig_call.specs.declared.answer.CallAnswer.{CallAnswer}
-use Rattle.sig_call.specs.declared.answer.CallAnswer.TheVariants.{TooManySignals, OutOfMemory}
+use Rattle.sig_call.proofs.Common.{◌≡◌, ◌++◌, ◌+◌, ◌<◌, ◌≤◌, ℕ, suc, List, [], ◌∷◌, None, Some, length, get_or, sym, ap, subst, ◌∙◌, arith, Option, Result, Err, length-append, length-map, Name, Constant, Expression, Equations, Defines, Computed, Called, ProcessModel, DefinesFlat, inputs_of, outputs_of, locals_of, process_of, Copy, Progress, signal_of, flat_right, with_copy, copied_signals, copy_prefix, cluster_of_call, signals_declared, Made, with_equations, Advances, IsRefused, IsRefusedBy, IsReady, Fits, CallAnswer, TooManySignals, OutOfMemory}
 use Rattle.sig_call.proofs.Leading.{leads_defined, advances_by}
 
 -- a definition by an expression

@@ -1,26 +1,5 @@
 -- The names of a flat body's signals and of the intermediates of its operators, in a text within the limits.
-use Rattle.std.proofs.Common.{◌≡◌, ◌++◌, ◌+◌, ◌<◌, ◌≤◌, ◌∙◌, ℕ, suc, List, [], ◌∷◌, None, Some, Option, length, map, decimal, sym, ap, subst, arith}
-use Rattle.std.proofs.lemmas.Fmt.{length-decimal-le}
-use Rattle.std.proofs.lemmas.List.{length-append}
-use Rattle.std.specs.List.{AllByRecursion}
-use Rattle.std.specs.Str.{bytes_eq}
-use Rattle.sig_base.specs.declared.limits.TheConstants.{PROGRAM_BYTES, SIGNALS}
-use Rattle.sig_base.specs.declared.signal.Signal.{Signal}
-use Rattle.sig_base.specs.declared.span.Span.{Span}
-use Rattle.sig_tree.specs.declared.expr.Name.{Name}
-use Rattle.sig_tree.specs.declared.expr.UnOp.TheVariants.{Neg}
-use Rattle.sig_tree.specs.Syntax.{Expression, Named, Number, Truth, Unary as UnaryForm, Binary as BinaryForm, Delay as DelayForm, Cell as CellForm, Equations, ProcessModel}
-use Rattle.sig_tree.specs.FlatSyntax.{FlatEquation, FlatBody}
-use Rattle.sig_tree.specs.Declarations.{Declaration, inputs_of, outputs_of, locals_of, name_of, process_of, all_processes}
-use Rattle.sig_tree.specs.FlatBody.{Binding as BoundTo, BoundSignal, BoundConstant, Copy, Progress, Expands, Ended, Defined, Equated, Expanded, IsFlatBody, binding_of, copied_signals, copy_prefix, cluster_of_call, first_progress, flat_name, flat_of, flat_right, inputs_defined, outputs_defined, signals_declared, with_copy}
-use Rattle.sig_lex.specs.declared.token.Token.{Token}
-use Rattle.sig_lex.specs.Lexemes.{Lexeme, lexemes, the_end, IsSpelled}
-use Rattle.sig_lex.specs.Slices.{InOrder}
-use Rattle.sig_tree.specs.Leaves.{leaves_of}
-use Rattle.sig_tree.specs.Grammar.{HasTree}
-use Rattle.sig_tree.specs.WellFormed.{IsWellFormed}
-use Rattle.sig_tree.specs.SignalNames.{AtOperators, IsGraphic, IsSignalName, NamesOperators, placed_name}
-use Rattle.sig_tree.specs.Sound.{IsTree, IsReady, AreExpandable}
+use Rattle.sig_call.proofs.Common.{◌≡◌, ◌++◌, ◌+◌, ◌<◌, ◌≤◌, ◌∙◌, ℕ, suc, List, [], ◌∷◌, None, Some, Option, length, map, decimal, sym, ap, subst, arith, length-decimal-le, length-append, AllByRecursion, bytes_eq, PROGRAM_BYTES, SIGNALS, Signal, Span, Name, Neg, Expression, Named, Number, Truth, Unary as UnaryForm, Binary as BinaryForm, Delay as DelayForm, Cell as CellForm, Equations, ProcessModel, FlatEquation, FlatBody, Declaration, inputs_of, outputs_of, locals_of, name_of, process_of, all_processes, Binding as BoundTo, BoundSignal, BoundConstant, Copy, Progress, Expands, Ended, Defined, Equated, Expanded, IsFlatBody, binding_of, copied_signals, copy_prefix, cluster_of_call, first_progress, flat_name, flat_of, flat_right, inputs_defined, outputs_defined, signals_declared, with_copy, Token, Lexeme, lexemes, the_end, IsSpelled, InOrder, leaves_of, HasTree, IsWellFormed, AtOperators, IsGraphic, IsSignalName, NamesOperators, placed_name, IsTree, IsReady, AreExpandable}
 use Rattle.sig_call.proofs.Existence.{found_name}
 use Rattle.sig_call.proofs.Expandable.{expandable, found_all}
 use Rattle.sig_call.proofs.Graphic.{decimal_graphic, name_graphic, name_some}

@@ -1,16 +1,6 @@
 -- A flat body is no longer than its program's processes, once for the first and once for each signal.
-use Rattle.std.proofs.Common.{◌≡◌, ◌++◌, ◌+◌, ◌*◌, ◌<◌, ◌≤◌, ℕ, suc, List, [], ◌∷◌, Some, length, map, refl, ap, ◌∙◌, arith}
-use Rattle.std.proofs.Math.Nat.{mul-le-mul_left}
-use Rattle.std.proofs.lemmas.List.{length-map}
-use Rattle.std.specs.List.{AllByRecursion}
-use Rattle.std.specs.Str.{bytes_eq}
-use Rattle.sig_tree.specs.declared.expr.Name.{Name}
-use Rattle.sig_tree.specs.Syntax.{Expression, Equations, Equal, ProcessModel}
-use Rattle.sig_tree.specs.FlatSyntax.{FlatEquation, Defines, Equal as EqualFlat, FlatBody}
-use Rattle.sig_tree.specs.Declarations.{name_of, inputs_of, outputs_of, process_of, all_processes, equations_of_model}
-use Rattle.sig_tree.specs.FlatBody.{Copy, Progress, Expands, Ended, Defined, Equated, Expanded, IsFlatBody, flat_of, inputs_defined, outputs_defined, with_copy}
-use Rattle.sig_tree.specs.WellFormed.{IsWellFormed}
-use Rattle.sig_tree.specs.Sound.{IsTree, IsReady, IsSized, size_of, weight, weights, flat_weight, flat_weights, AreExpandable}
+use Rattle.sig_call.proofs.Common.{◌≡◌, ◌++◌, ◌+◌, ◌*◌, ◌<◌, ◌≤◌, ℕ, suc, List, [], ◌∷◌, Some, length, map, refl, ap, ◌∙◌, arith, mul-le-mul_left, length-map, AllByRecursion, bytes_eq, Name, Expression, Equations, Equal, ProcessModel, FlatEquation, EqualFlat, FlatBody, name_of, inputs_of, outputs_of, process_of, all_processes, equations_of_model, Copy, Progress, Expands, Ended, Defined, Equated, Expanded, IsFlatBody, flat_of, inputs_defined, outputs_defined, with_copy, IsWellFormed, IsTree, IsReady, IsSized, size_of, weight, weights, flat_weight, flat_weights, AreExpandable}
+use Rattle.sig_tree.specs.FlatSyntax.{Defines}
 use Rattle.sig_call.proofs.Expandable.{expandable, found_all}
 use Rattle.sig_call.proofs.Readiness.{call_adds, call_numbers}
 use Rattle.sig_call.proofs.Whole.{first_found}

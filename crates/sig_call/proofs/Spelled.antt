@@ -1,19 +1,5 @@
 -- The names that the processes of a text declare are spelled as names, and the inits beside them have 64 bits.
-use Rattle.std.proofs.Common.{◌≡◌, ◌++◌, ℕ, suc, List, [], ◌∷◌, map, refl, sym, subst, inl, inr}
-use Rattle.std.specs.List.{AllByRecursion, flat_map}
-use Rattle.sig_lex.specs.declared.token.Token.{Token}
-use Rattle.sig_lex.specs.Lexemes.{Lexeme, lexemes, the_end, IsNameText, IsSpelled}
-use Rattle.sig_tree.specs.declared.process.Item.{Item}
-use Rattle.sig_tree.specs.Syntax.{Declared, ProcessModel, Modelled, ProcessModels, no_model, more_models}
-use Rattle.sig_tree.specs.Declarations.{Declaration, Role, Input, Output, Local, declared_as, name_of, inputs_of, outputs_of, locals_of, with_inner, those_inner, all_processes}
-use Rattle.sig_tree.specs.FlatBody.{signals_declared}
-use Rattle.sig_tree.specs.Terminals.{Leaf}
-use Rattle.sig_tree.specs.Leaves.{leaves_of}
-use Rattle.sig_tree.specs.Limits.{Limits}
-use Rattle.sig_tree.specs.Repeated.{Each}
-use Rattle.sig_tree.specs.Processes.{IsGroup, AreGroups, IsInterface, IsModel, IsLocalGroup, AreLocals, IsPlainItem, IsItem}
-use Rattle.sig_tree.specs.Grammar.{HasTree}
-use Rattle.sig_call.specs.Constants.{IsBoundedInit, IsBoundedProcess}
+use Rattle.sig_call.proofs.Common.{◌≡◌, ◌++◌, ℕ, suc, List, [], ◌∷◌, map, refl, sym, subst, inl, inr, AllByRecursion, flat_map, Token, Lexeme, lexemes, the_end, IsNameText, IsSpelled, Item, Declared, ProcessModel, Modelled, ProcessModels, no_model, more_models, Declaration, Role, Input, Output, Local, declared_as, name_of, inputs_of, outputs_of, locals_of, with_inner, those_inner, all_processes, signals_declared, Leaf, leaves_of, Limits, Each, IsGroup, AreGroups, IsInterface, IsModel, IsLocalGroup, AreLocals, IsPlainItem, IsItem, HasTree, IsBoundedInit, IsBoundedProcess}
 use Rattle.sig_call.proofs.Texts.{SmallLeaf, Small, leaves_left, leaves_right, leaves_behind, leaves_between, separated_all, all_both, leaves_small, optional_init_bounded, HasBoundedEquations}
 
 -- the name of what is declared, and its init

@@ -1,34 +1,6 @@
 -- The trees of texts: their numbers are small, the integers among their constants have 64 bits, definitions have
 -- left sides, and processes are no longer than the text.
-use Rattle.std.proofs.Common.{◌≡◌, ◌≢◌, ◌++◌, ◌+◌, ◌<◌, ◌≤◌, ◌^◌, ℕ, zero, suc, List, [], ◌∷◌, None, Some, Option, length, map, refl, sym, ap, subst, ◌∙◌, inl, inr, arith, codes}
-use Rattle.std.proofs.lemmas.List.{length-append, length-map}
-use Rattle.std.specs.List.{AllByRecursion, flat_map}
-use Rattle.std.specs.Option.{option_to_list, option_map}
-use Rattle.sig_base.specs.declared.span.Span.{Span}
-use Rattle.sig_base.specs.Traces.{Bounded, IsInteger}
-use Rattle.sig_lex.specs.declared.token.Token.{Token}
-use Rattle.sig_lex.specs.declared.token.TokenKind.{TokenKind}
-use Rattle.sig_lex.specs.declared.token.TokenKind.TheVariants.{Name as NameToken, Word, Number as NumberToken, Label, Mark, Last}
-use Rattle.sig_lex.specs.Tokens.{token_at}
-use Rattle.sig_lex.specs.Slices.{InOrder, EndsOnce}
-use Rattle.sig_lex.specs.Lexemes.{Lexeme, lexeme_of, lexemes, text_of, the_end, IsNameText, Spells, IsSpelled}
-use Rattle.sig_tree.specs.declared.expr.Name.{Name}
-use Rattle.sig_tree.specs.declared.expr.Constant.{Constant}
-use Rattle.sig_tree.specs.declared.expr.Constant.TheVariants.{Int, Bool as Truthful, Param}
-use Rattle.sig_tree.specs.declared.process.Item.{Item}
-use Rattle.sig_tree.specs.Syntax.{Expression, Named, Number, Truth, Unary, Binary, Delay, Cell, Declared, RightSide, Computed, Called, Equations, Together, Defines, Equal, Bodies, no_body, more_bodies, Heading, ProcessModel, Modelled, ProcessModels, no_model, more_models}
-use Rattle.sig_tree.specs.Declarations.{Declaration, Role, Input, Output, declared_as, equations_in, equations_inside, equations_of_model, with_inner, those_inner, all_processes}
-use Rattle.sig_tree.specs.Terminals.{Terminal, name, word, number, label, mark, Leaf, leaf}
-use Rattle.sig_tree.specs.Leaves.{terminal_of, leaf_of, leaves_of}
-use Rattle.sig_tree.specs.Limits.{Limits}
-use Rattle.sig_tree.specs.Repeated.{Each, Further, Separated, Listed, Between}
-use Rattle.sig_tree.specs.Expressions.{Enclosed, IsBare, IsConstant, IsExpression, IsInit, IsOptionalInit}
-use Rattle.sig_tree.specs.Levels.{level_of}
-use Rattle.sig_tree.specs.Equations.{AreConstants, IsLeft, IsRight, IsDefinition, IsClockEquation, IsBody, AreBodies, AreFurtherBodies}
-use Rattle.sig_tree.specs.Processes.{IsGroup, AreGroups, IsInterface, IsModel, IsProcess, AreLocals, IsPlainItem, IsItem}
-use Rattle.sig_tree.specs.Grammar.{HasTree}
-use Rattle.sig_call.specs.Constants.{IsBoundedConstant, IsBoundedEquation, IsBoundedInit, IsBoundedRight, HasBoundedInits}
-use Rattle.sig_tree.specs.Sound.{IsSmall, IsSmallRight, IsRead, IsTree, IsSized, size_of, weights}
+use Rattle.sig_call.proofs.Common.{◌≡◌, ◌≢◌, ◌++◌, ◌+◌, ◌<◌, ◌≤◌, ◌^◌, ℕ, zero, suc, List, [], ◌∷◌, None, Some, Option, length, map, refl, sym, ap, subst, ◌∙◌, inl, inr, arith, codes, length-append, length-map, AllByRecursion, flat_map, option_to_list, option_map, Span, Bounded, IsInteger, Token, TokenKind, NameToken, Word, NumberToken, Label, Mark, Last, token_at, InOrder, EndsOnce, Lexeme, lexeme_of, lexemes, text_of, the_end, IsNameText, Spells, IsSpelled, Name, Constant, Int, Truthful, Param, Item, Expression, Named, Number, Truth, Unary, Binary, Delay, Cell, Declared, RightSide, Computed, Called, Equations, Together, Defines, Equal, Bodies, no_body, more_bodies, Heading, ProcessModel, Modelled, ProcessModels, no_model, more_models, Declaration, Role, Input, Output, declared_as, equations_in, equations_inside, equations_of_model, with_inner, those_inner, all_processes, Terminal, name, word, number, label, mark, Leaf, leaf, terminal_of, leaf_of, leaves_of, Limits, Each, Further, Separated, Listed, Between, Enclosed, IsBare, IsConstant, IsExpression, IsInit, IsOptionalInit, level_of, AreConstants, IsLeft, IsRight, IsDefinition, IsClockEquation, IsBody, AreBodies, AreFurtherBodies, IsGroup, AreGroups, IsInterface, IsModel, IsProcess, AreLocals, IsPlainItem, IsItem, HasTree, IsBoundedConstant, IsBoundedEquation, IsBoundedInit, IsBoundedRight, HasBoundedInits, IsSmall, IsSmallRight, IsRead, IsTree, IsSized, size_of, weights}
 use Rattle.sig_call.proofs.KindRules.{fits_neg, fits_pos}
 
 -- a leaf's number is small, and its name is spelled as one

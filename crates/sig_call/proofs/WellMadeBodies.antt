@@ -1,16 +1,5 @@
 -- The flat body of a well-formed program is well made.
-use Rattle.std.proofs.Common.{◌≡◌, ◌≢◌, ◌+◌, ◌++◌, ◌<◌, ◌≤◌, ◌∙◌, ℕ, List, [], ◌∷◌, length, count_by, Some, refl, sym, ap, subst, arith}
-use Rattle.std.proofs.lemmas.List.{append-nil, length-append, length-map}
-use Rattle.std.specs.List.{AllByRecursion}
-use Rattle.sig_base.specs.declared.signal.Signal.{Signal}
-use Rattle.sig_tree.specs.Syntax.{ProcessModel, Modelled}
-use Rattle.sig_tree.specs.FlatSyntax.{FlatEquation, FlatBody}
-use Rattle.sig_tree.specs.Declarations.{Declaration, name_of, params_of, inputs_of, outputs_of, locals_of, process_of, all_processes, equations_of_model}
-use Rattle.sig_tree.specs.WellFormed.{IsWellFormed, rules_on}
-use Rattle.sig_tree.specs.FlatBody.{IsFlatBody, Progress, copied_signals, first_copy, first_progress, signals_declared}
-use Rattle.sig_call.specs.Constants.{IsBounded}
-use Rattle.sig_tree.specs.Sound.{IsTree}
-use Rattle.sig_tree.specs.WellMade.{IsMadeEquation, IsWellMade, defines}
+use Rattle.sig_call.proofs.Common.{◌≡◌, ◌≢◌, ◌+◌, ◌++◌, ◌<◌, ◌≤◌, ◌∙◌, ℕ, List, [], ◌∷◌, length, count_by, Some, refl, sym, ap, subst, arith, append-nil, length-append, length-map, AllByRecursion, Signal, ProcessModel, Modelled, FlatEquation, FlatBody, Declaration, name_of, params_of, inputs_of, outputs_of, locals_of, process_of, all_processes, equations_of_model, IsWellFormed, rules_on, IsFlatBody, Progress, copied_signals, first_copy, first_progress, signals_declared, IsBounded, IsTree, IsMadeEquation, IsWellMade, defines}
 use Rattle.sig_call.proofs.Counting.{below}
 use Rattle.sig_call.proofs.DefinitionCounts.{counted, lefts_for}
 use Rattle.sig_call.proofs.Expandable.{expandable, none_parts}

@@ -1,16 +1,5 @@
 -- The flat body of a whole program, from its first process.
-use Rattle.std.proofs.Common.{◌≡◌, ◌≢◌, ◌++◌, ◌<◌, ◌≤◌, ℕ, List, [], ◌∷◌, Some, cond, true, length, get_or, refl, sym, ap, subst, ◌∙◌, arith}
-use Rattle.std.proofs.lemmas.List.{append-nil}
-use Rattle.std.proofs.lemmas.Slice.Eq.{bytes_eq-Decides}
-use Rattle.std.specs.List.{flat_map}
-use Rattle.std.specs.Str.{bytes_eq}
-use Rattle.sig_tree.specs.Syntax.{Equations, ProcessModel, Modelled, model_of}
-use Rattle.sig_tree.specs.FlatSyntax.{FlatBody, FlatEquation}
-use Rattle.sig_tree.specs.Declarations.{name_of, inputs_of, outputs_of, all_processes, with_inner, those_inner, process_of, equations_of_model}
-use Rattle.sig_tree.specs.FlatBody.{Copy, Progress, Expands, Ended, IsFlatBody, first_copy, first_progress, copied_signals}
-use Rattle.sig_scope.specs.declared.scope.Interface.{Interface}
-use Rattle.sig_scope.specs.Walked.{interface_models}
-use Rattle.sig_call.specs.Making.{Made, Advances, NeedsMore, NeedsTooMany}
+use Rattle.sig_call.proofs.Common.{◌≡◌, ◌≢◌, ◌++◌, ◌<◌, ◌≤◌, ℕ, List, [], ◌∷◌, Some, cond, true, length, get_or, refl, sym, ap, subst, ◌∙◌, arith, append-nil, bytes_eq-Decides, flat_map, bytes_eq, Equations, ProcessModel, Modelled, model_of, FlatBody, FlatEquation, name_of, inputs_of, outputs_of, all_processes, with_inner, those_inner, process_of, equations_of_model, Copy, Progress, Expands, Ended, IsFlatBody, first_copy, first_progress, copied_signals, Interface, interface_models, Made, Advances, NeedsMore, NeedsTooMany}
 use Rattle.sig_call.proofs.Leading.{grows_along}
 
 -- a process stands before those inside it

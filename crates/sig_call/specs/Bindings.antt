@@ -1,9 +1,6 @@
 -- What names stand for in a copy, as the definitions see it.
-use Rattle.std.specs.Prelude.{ℕ, ℤ, List, ◌++◌, map, find, Option, option_map}
-use Rattle.std.specs.Str.{bytes_eq}
-use Rattle.sig_tree.specs.Syntax.{ProcessModel}
-use Rattle.sig_tree.specs.Declarations.{params_of}
-use Rattle.sig_tree.specs.FlatBody.{Binding, BoundSignal, BoundConstant, bound_constants, bound_from, signals_declared}
+use Rattle.std.specs.Prelude.{◌++◌}
+use Rattle.sig_call.specs.Prelude.{ℕ, ℤ, List, map, find, Option, option_map, bytes_eq, ProcessModel, params_of, Binding, BoundSignal, BoundConstant, bound_constants, bound_from, signals_declared}
 use Rattle.sig_call.specs.declared.binding.Binding.{Binding as CodeBinding}
 use Rattle.sig_call.specs.declared.binding.Binding.TheVariants.{Signal, Constant}
 use Rattle.sig_call.specs.declared.binding.Bound.{Bound}

@@ -1,6 +1,5 @@
 -- Calls of the code, as the definitions see them.
-use Rattle.std.specs.Prelude.{map}
-use Rattle.sig_tree.specs.Syntax.{Equations, Defines, Called, expression_of}
+use Rattle.sig_call.specs.Prelude.{map, Equations, Defines, Called, expression_of}
 use Rattle.sig_call.specs.declared.calls.Call.{Call}
 
 abbrev pub call_of : Call → Equations

@@ -1,12 +1,8 @@
 -- What is asked of the constants of a program: their integers have 64 bits, as those of each tree that was
 -- read from a text.
-use Rattle.std.specs.Prelude.{◌++◌, List, Option, None, Some, ⊤}
-use Rattle.std.specs.List.{AllByRecursion}
-use Rattle.sig_base.specs.Traces.{Bounded, IsInteger}
-use Rattle.sig_tree.specs.declared.expr.Constant.{Constant}
-use Rattle.sig_tree.specs.declared.expr.Constant.TheVariants.{Int, Bool as Truthful, Param}
-use Rattle.sig_tree.specs.Syntax.{Expression, Named, Number, Truth, Unary, Binary, Delay, Cell, RightSide, Computed, Called, Equations, Together, Defines, Equal, ProcessModel}
-use Rattle.sig_tree.specs.Declarations.{outputs_of, locals_of, all_processes, equations_of_model}
+use Rattle.std.specs.Prelude.{◌++◌}
+use Rattle.sig_call.specs.Prelude.{List, Option, None, Some, ⊤, AllByRecursion, Bounded, IsInteger, Constant, Int, Bool as Truthful, Param, Expression, Named, Number, Truth, Unary, Binary, Delay, Cell, RightSide, Computed, Called, Equations, Together, Defines, ProcessModel, outputs_of, locals_of, all_processes, equations_of_model}
+use Rattle.sig_tree.specs.Syntax.{Equal}
 
 abbrev pub IsBoundedConstant : Constant → Type 0
 IsBoundedConstant (Int value at) = IsInteger Bounded value

@@ -1,6 +1,5 @@
 -- Copies of processes, as the definitions see them.
-use Rattle.sig_tree.specs.Syntax.{model_of}
-use Rattle.sig_tree.specs.FlatBody.{Copy}
+use Rattle.sig_call.specs.Prelude.{model_of, Copy}
 use Rattle.sig_call.specs.declared.copy.ProcessCopy.{ProcessCopy}
 
 abbrev pub copy_in : ProcessCopy → Copy

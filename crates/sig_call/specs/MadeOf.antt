@@ -1,6 +1,5 @@
 -- What the code has made of a flat body.
-use Rattle.std.specs.Prelude.{map}
-use Rattle.sig_tree.specs.FlatSyntax.{flat_equation_of}
+use Rattle.sig_call.specs.Prelude.{map, flat_equation_of}
 use Rattle.sig_call.specs.declared.expansion.Expansion.{Expansion}
 use Rattle.sig_call.specs.Making.{Made}
 

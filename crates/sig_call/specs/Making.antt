@@ -1,11 +1,6 @@
 -- A flat body as it is made.
-use Rattle.std.specs.Prelude.{◌≡◌, ◌++◌, ◌<◌, ◌≤◌, ℕ, List, map, length, Result, Ok, Err, ⊤}
-use Rattle.sig_base.specs.declared.limits.TheConstants.{SIGNALS}
-use Rattle.sig_base.specs.declared.signal.Signal.{Signal}
-use Rattle.sig_tree.specs.Syntax.{Equations, ProcessModel}
-use Rattle.sig_tree.specs.FlatSyntax.{FlatEquation, FlatBody}
-use Rattle.sig_tree.specs.Declarations.{Declaration, pragmas_of_model}
-use Rattle.sig_tree.specs.FlatBody.{Copy, Progress, Expands, IsFlatBody, cluster_of}
+use Rattle.std.specs.Prelude.{◌≡◌, ◌++◌, ◌<◌, ◌≤◌}
+use Rattle.sig_call.specs.Prelude.{ℕ, List, map, length, Result, Ok, Err, ⊤, SIGNALS, Signal, Equations, ProcessModel, FlatEquation, FlatBody, Declaration, pragmas_of_model, Copy, Progress, Expands, IsFlatBody, cluster_of}
 use Rattle.sig_call.specs.declared.answer.CallAnswer.{CallAnswer}
 use Rattle.sig_call.specs.declared.answer.CallAnswer.TheVariants.{TooManySignals, OutOfMemory}
 

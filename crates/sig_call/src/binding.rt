@@ -1,8 +1,7 @@
 //! What the names of a process stand for in a copy of it.
 
-ghost use Rattle.std.specs.Prelude.{◌≡◌, ◌++◌, ◌+◌, ◌<◌, ◌^◌, ℕ, List, IfOk, OnOk, option_map, length};
-ghost use Rattle.sig_tree.specs.FlatBody.{Binding as BoundTo, bound_from, bound_constants};
-ghost use Rattle.sig_scope.specs.Declarations.{declarations_in};
+ghost use Rattle.std.specs.Prelude.{◌≡◌, ◌++◌, ◌+◌, ◌<◌, ◌^◌};
+ghost use Rattle.sig_call.specs.Prelude.{ℕ, List, IfOk, OnOk, option_map, length, Binding as BoundTo, bound_from, bound_constants, declarations_in};
 ghost use Rattle.sig_call.specs.Bindings.{binding_in, bindings_in, texts_bound, binding_found};
 
 use sig_base::{Kind, SigId};

@@ -1,16 +1,11 @@
 //! Equations, of which each call is replaced by the body of what it calls.
 
-ghost use Rattle.std.specs.Prelude.{◌≡◌, ◌≢◌, ◌+◌, ◌++◌, ◌<◌, ◌≤◌, ◌∷◌, [], length, map, IfOk, OnOk};
-ghost use Rattle.std.specs.List.{AllByRecursion};
-ghost use Rattle.sig_tree.specs.Syntax.{model_of, equations_of, right_side_of, Defines};
-ghost use Rattle.sig_tree.specs.Declarations.{pragmas_of_model, outputs_of};
-ghost use Rattle.sig_tree.specs.FlatBody.{with_copy, called_copy};
-ghost use Rattle.sig_scope.specs.Walked.{interface_models, bodies_in};
+ghost use Rattle.std.specs.Prelude.{◌≡◌, ◌≢◌, ◌+◌, ◌++◌, ◌<◌, ◌≤◌, ◌∷◌};
+ghost use Rattle.sig_call.specs.Prelude.{[], length, map, IfOk, OnOk, AllByRecursion, model_of, equations_of, right_side_of, Defines, pragmas_of_model, outputs_of, with_copy, called_copy, interface_models, bodies_in, IsLow, IsReady, AreExpandable};
 ghost use Rattle.sig_call.specs.Calling.{call_of};
 ghost use Rattle.sig_call.specs.Copies.{copy_in};
 ghost use Rattle.sig_call.specs.MadeOf.{made_of};
 ghost use Rattle.sig_call.specs.Making.{IsRefused, Advances, NeedsMore, with_progress};
-ghost use Rattle.sig_tree.specs.Sound.{IsLow, IsReady, AreExpandable};
 
 use crate::answer::CallAnswer;
 use crate::copy::{ProcessCopy, prefix_of};

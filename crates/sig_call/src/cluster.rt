@@ -1,12 +1,7 @@
 //! The clusters of copied signals.
 
-ghost use Rattle.std.specs.Prelude.{◌≡◌, ◌↔◌, ◌≤◌, IsTrue};
-ghost use Rattle.std.specs.List.{AllByRecursion};
-ghost use Rattle.sig_tree.specs.Syntax.{model_of};
-ghost use Rattle.sig_tree.specs.Declarations.{pragmas_of_model};
-ghost use Rattle.sig_tree.specs.FlatBody.{cluster_of, is_named};
-ghost use Rattle.sig_tree.specs.Rules.{number_of};
-ghost use Rattle.sig_tree.specs.Sound.{IsLow};
+ghost use Rattle.std.specs.Prelude.{◌≡◌, ◌↔◌, ◌≤◌};
+ghost use Rattle.sig_call.specs.Prelude.{IsTrue, AllByRecursion, model_of, pragmas_of_model, cluster_of, is_named, number_of, IsLow};
 
 use sig_tree::{Name, Process};
 

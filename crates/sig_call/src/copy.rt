@@ -1,9 +1,7 @@
 //! Copies of processes.
 
-ghost use Rattle.std.specs.Prelude.{◌≡◌, ◌+◌, ◌<◌, ◌^◌, map, length, IfOk, option_map};
-ghost use Rattle.sig_tree.specs.Syntax.{model_of};
-ghost use Rattle.sig_tree.specs.Declarations.{declarations};
-ghost use Rattle.sig_tree.specs.FlatBody.{copy_of, copy_prefix, binding_of, signal_of, value_of, init_value, declared_init, signals_declared};
+ghost use Rattle.std.specs.Prelude.{◌≡◌, ◌+◌, ◌<◌, ◌^◌};
+ghost use Rattle.sig_call.specs.Prelude.{map, length, IfOk, option_map, model_of, declarations, copy_of, copy_prefix, binding_of, signal_of, value_of, init_value, declared_init, signals_declared};
 ghost use Rattle.sig_call.specs.Bindings.{binding_in, bindings_of};
 
 use crate::binding::{Binding, Bindings, bind_constants, bind_signals};

@@ -24,16 +24,10 @@ pub struct Expansion {
 }
 
 impl Expansion {
-    ghost use Rattle.std.specs.Prelude.{◌≡◌, ◌+◌, ◌++◌, ◌<◌, ◌^◌, ◌∷◌, [], ℕ, map, OnOk};
-    ghost use Rattle.std.specs.List.{AllByRecursion};
-    ghost use Rattle.sig_tree.specs.Syntax.{model_of, expression_of};
-    ghost use Rattle.sig_tree.specs.Declarations.{pragmas_of_model};
-    ghost use Rattle.sig_tree.specs.FlatSyntax.{flat_body_of, flat_equation_of, flat_expression_of, Defines as DefinesFlat, Equal as EqualFlat};
-    ghost use Rattle.sig_tree.specs.FlatBody.{cluster_at, cluster_of_call, copied_signals, flat_right, flat_of, inputs_defined, outputs_defined, signal_of};
-    ghost use Rattle.sig_scope.specs.Declarations.{declarations_in};
+    ghost use Rattle.std.specs.Prelude.{◌≡◌, ◌+◌, ◌++◌, ◌<◌, ◌^◌, ◌∷◌};
+    ghost use Rattle.sig_call.specs.Prelude.{[], ℕ, map, OnOk, AllByRecursion, model_of, expression_of, pragmas_of_model, flat_body_of, flat_equation_of, flat_expression_of, DefinesFlat, Equal as EqualFlat, cluster_at, cluster_of_call, copied_signals, flat_right, flat_of, inputs_defined, outputs_defined, signal_of, declarations_in, IsSmall, IsLow};
     ghost use Rattle.sig_call.specs.Copies.{copy_in};
     ghost use Rattle.sig_call.specs.Making.{Made, IsRefused, with_signals, with_equations, signals_copied};
-    ghost use Rattle.sig_tree.specs.Sound.{IsSmall, IsLow};
     ghost use Rattle.sig_call.specs.MadeOf.{made_of};
 
     /// No call, signal or equation.

@@ -1,12 +1,8 @@
 //! Expressions of a copy, with their names replaced.
 
-ghost use Rattle.std.specs.Prelude.{◌≡◌, map, IfOk};
-ghost use Rattle.std.specs.List.{AllByRecursion};
-ghost use Rattle.sig_tree.specs.Syntax.{expression_of};
-ghost use Rattle.sig_tree.specs.FlatSyntax.{flat_expression_of};
-ghost use Rattle.sig_tree.specs.FlatBody.{binding_of, flat_name, flat_unary, flat_of, flat_right};
+ghost use Rattle.std.specs.Prelude.{◌≡◌};
+ghost use Rattle.sig_call.specs.Prelude.{map, IfOk, AllByRecursion, expression_of, flat_expression_of, binding_of, flat_name, flat_unary, flat_of, flat_right, IsSmall};
 ghost use Rattle.sig_call.specs.Copies.{copy_in};
-ghost use Rattle.sig_tree.specs.Sound.{IsSmall};
 
 use crate::binding::Binding;
 use crate::copy::ProcessCopy;

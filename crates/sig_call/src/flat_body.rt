@@ -1,12 +1,8 @@
 //! The flat body of a program.
 
-ghost use Rattle.std.specs.Prelude.{◌≡◌, ◌≤◌, length, IfOk};
-ghost use Rattle.sig_tree.specs.Syntax.{program_of};
-ghost use Rattle.sig_tree.specs.FlatSyntax.{flat_body_of};
-ghost use Rattle.sig_tree.specs.FlatBody.{IsFlatBody};
-ghost use Rattle.sig_tree.specs.WellFormed.{IsWellFormed};
+ghost use Rattle.std.specs.Prelude.{◌≡◌, ◌≤◌};
+ghost use Rattle.sig_call.specs.Prelude.{length, IfOk, program_of, flat_body_of, IsFlatBody, IsWellFormed, IsTree};
 ghost use Rattle.sig_call.specs.Making.{IsRefused, NeedsTooMany};
-ghost use Rattle.sig_tree.specs.Sound.{IsTree};
 
 use crate::answer::CallAnswer;
 use crate::calls::expand;

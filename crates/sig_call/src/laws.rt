@@ -1,15 +1,8 @@
 //! What holds of trees that were read from texts, and of flat bodies of well-formed programs.
 
-ghost use Rattle.std.specs.Prelude.{◌+◌, ◌*◌, ◌^◌, ◌<◌, ◌≤◌, ℕ, List, map, length};
-ghost use Rattle.std.specs.List.{IsDistinct};
-ghost use Rattle.std.specs.Str.{bytes_eq};
-ghost use Rattle.sig_tree.specs.Syntax.{ProcessModel};
-ghost use Rattle.sig_tree.specs.FlatSyntax.{FlatBody, FlatEquation};
-ghost use Rattle.sig_tree.specs.FlatBody.{IsFlatBody};
-ghost use Rattle.sig_tree.specs.Grammar.{IsText};
-ghost use Rattle.sig_tree.specs.WellFormed.{IsWellFormed};
+ghost use Rattle.std.specs.Prelude.{◌+◌, ◌*◌, ◌^◌, ◌<◌, ◌≤◌};
+ghost use Rattle.sig_call.specs.Prelude.{ℕ, List, map, length, IsDistinct, bytes_eq, ProcessModel, FlatBody, FlatEquation, IsFlatBody, IsText, IsWellFormed, IsTree, IsSized, flat_weights};
 ghost use Rattle.sig_call.specs.Constants.{IsBounded};
-ghost use Rattle.sig_tree.specs.Sound.{IsTree, IsSized, flat_weights};
 
 use sig_lex::{each_token, slices_in_order};
 

@@ -1,14 +1,7 @@
 //! What the names of signals are, in the flat body of a text.
 
-ghost use Rattle.std.specs.Prelude.{◌≤◌, ℕ, List, length};
-ghost use Rattle.std.specs.List.{AllByRecursion};
-ghost use Rattle.sig_base.specs.declared.limits.TheConstants.{PROGRAM_BYTES, SIGNALS};
-ghost use Rattle.sig_tree.specs.Syntax.{ProcessModel};
-ghost use Rattle.sig_tree.specs.FlatSyntax.{FlatBody};
-ghost use Rattle.sig_tree.specs.FlatBody.{IsFlatBody};
-ghost use Rattle.sig_tree.specs.Grammar.{IsText};
-ghost use Rattle.sig_tree.specs.WellFormed.{IsWellFormed};
-ghost use Rattle.sig_tree.specs.SignalNames.{IsSignalName, NamesOperators};
+ghost use Rattle.std.specs.Prelude.{◌≤◌};
+ghost use Rattle.sig_call.specs.Prelude.{ℕ, List, length, AllByRecursion, PROGRAM_BYTES, SIGNALS, ProcessModel, FlatBody, IsFlatBody, IsText, IsWellFormed, IsSignalName, NamesOperators};
 
 use crate::laws::trees_of_texts;
 use sig_lex::{each_token, slices_in_order};

@@ -1,13 +1,7 @@
 //! What holds of flat bodies of well-formed programs, as far as kinds, constants and definitions go.
 
-ghost use Rattle.std.specs.Prelude.{List};
-ghost use Rattle.sig_tree.specs.Syntax.{ProcessModel};
-ghost use Rattle.sig_tree.specs.FlatSyntax.{FlatBody};
-ghost use Rattle.sig_tree.specs.FlatBody.{IsFlatBody};
-ghost use Rattle.sig_tree.specs.WellFormed.{IsWellFormed};
+ghost use Rattle.sig_call.specs.Prelude.{List, ProcessModel, FlatBody, IsFlatBody, IsWellFormed, IsTree, IsWellMade};
 ghost use Rattle.sig_call.specs.Constants.{IsBounded};
-ghost use Rattle.sig_tree.specs.Sound.{IsTree};
-ghost use Rattle.sig_tree.specs.WellMade.{IsWellMade};
 
 /// A law: the flat body of a well-formed program has kinds by the table of kinds, constants only where
 /// they may stand, and one definition of each signal that is no input.

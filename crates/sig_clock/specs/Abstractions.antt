@@ -1,10 +1,7 @@
 -- What is left of an instant of a kernel where the values of integers are left out.
-use Rattle.std.specs.Prelude.{ℤ, pos, Bool, true, List, [], ◌∷◌, Option, None, Some}
-use Rattle.std.specs.Ordering.{int_eq}
-use Rattle.sig_base.specs.Traces.{Instant, Seen}
-use Rattle.sig_base.specs.declared.ids.Kind.{Kind}
-use Rattle.sig_base.specs.declared.ids.Kind.TheVariants.{Integer, Boolean, Event}
-use Rattle.sig_base.specs.declared.signal.Signal.{Signal}
+use Rattle.std.specs.Prelude.{◌∷◌}
+use Rattle.sig_clock.specs.Prelude.{ℤ, pos, Bool, true, List, [], Option, None, Some, int_eq, Instant, Seen, Kind, Integer, Boolean, Signal}
+use Rattle.sig_base.specs.declared.ids.Kind.TheVariants.{Event}
 use Rattle.sig_clock.specs.Reactions.{Reaction, Status}
 
 -- the truth of a value: that of a boolean is whether it is 1

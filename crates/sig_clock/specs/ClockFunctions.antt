@@ -1,9 +1,7 @@
 -- Clock functions: the presence of a signal as a function of the truths of the conditions.
-use Rattle.std.specs.Prelude.{◌≡◌, ◌<◌, ℕ, Bool, true, List, length, Option, None, Some, slice_get, IfSome}
-use Rattle.sig_base.specs.declared.ids.SigId.{SigId}
+use Rattle.std.specs.Prelude.{◌≡◌, ◌<◌}
+use Rattle.sig_clock.specs.Prelude.{ℕ, Bool, true, List, length, Option, None, Some, slice_get, IfSome, SigId, truth_of, Kernel}
 use Rattle.sig_clock.specs.Reactions.{Reaction, Status, Speaks, is_present, status_at}
-use Rattle.sig_dd.specs.Diagram.{truth_of}
-use Rattle.sig_kernel.specs.declared.kernel.Kernel.{Kernel}
 
 -- a signal has the truth that is proposed, or is absent
 abbrev pub Allows : Status → Bool → Type 0

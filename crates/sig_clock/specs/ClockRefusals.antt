@@ -1,10 +1,10 @@
 -- Why a kernel has no clocks, with the signals that are named, in the order in which the reasons are tried.
-use Rattle.std.specs.Prelude.{◌≡◌, ◌≤◌, ℕ, true, false}
+use Rattle.std.specs.Prelude.{◌≡◌, ◌≤◌}
+use Rattle.sig_clock.specs.Prelude.{ℕ, true, false, Kernel}
 use Rattle.sig_clock.specs.Reactions.{Reaction, Speaks, is_present}
 use Rattle.sig_clock.specs.Conditions.{is_condition}
 use Rattle.sig_clock.specs.Layers.{HasLayer, IsDead, IsRoot, IsSignal, IsSolved, IsEarlier, NeverEnters}
 use Rattle.sig_clock.specs.Pinned.{IsFree, IsPinned}
-use Rattle.sig_kernel.specs.declared.kernel.Kernel.{Kernel}
 
 -- the number is the least one of which a statement holds
 pub record IsLeast (P : ℕ → Type 0) (number : ℕ) : Type 0 where

@@ -1,15 +1,9 @@
 -- What contracts see of the clocks of a kernel, and what holds of them.
-use Rattle.std.specs.Prelude.{◌≡◌, ◌≢◌, ◌<◌, ◌≤◌, ◌⊎◌, ◌↔◌, ℕ, true, List, length, slice_index, slice_get, Option, None, Some, Contains}
-use Rattle.std.specs.List.{AllByRecursion}
-use Rattle.sig_base.specs.declared.ids.SigId.{SigId}
+use Rattle.std.specs.Prelude.{◌≡◌, ◌≢◌, ◌<◌, ◌≤◌, ◌⊎◌, ◌↔◌}
+use Rattle.sig_clock.specs.Prelude.{ℕ, true, List, length, slice_index, slice_get, Option, None, Some, Contains, AllByRecursion, SigId, Agree, Depends, Holds, test, Node, Ref, Kernel}
 use Rattle.sig_clock.specs.Conditions.{is_condition}
 use Rattle.sig_clock.specs.ClockFunctions.{IsClockFunction}
 use Rattle.sig_clock.specs.Layers.{IsRoot, IsSignal, HasLayer, IsEarlier}
-use Rattle.sig_dd.specs.Diagram.{Agree, Depends}
-use Rattle.sig_dd.specs.Nodes.{Holds, test}
-use Rattle.sig_dd.specs.declared.node.Node.{Node}
-use Rattle.sig_dd.specs.declared.node.Ref.{Ref}
-use Rattle.sig_kernel.specs.declared.kernel.Kernel.{Kernel}
 
 pub record ClocksView : Type 0 where
   -- the class of each signal

@@ -1,14 +1,6 @@
 -- The conditions of a kernel: the booleans whose truth is free.
-use Rattle.std.specs.Prelude.{ℕ, Bool, true, false, ◌==◌, ◌&&◌, ◌||◌, nat_lt, List, [], ◌∷◌, ◌++◌, length, map, filter, Option, None, Some, ◌≡◌, ◌<◌, take, slice_index_or, slice_set, if◌then◌else◌}
-use Rattle.std.specs.List.{list_any, range_with_len}
-use Rattle.sig_base.specs.declared.ids.Kind.{Kind}
-use Rattle.sig_base.specs.declared.ids.SigId.{SigId}
-use Rattle.sig_base.specs.declared.signal.Signal.{Signal}
-use Rattle.sig_kernel.specs.Table.{kind_at}
-use Rattle.sig_kernel.specs.declared.equation.Form.{Form}
-use Rattle.sig_kernel.specs.declared.equation.Form.TheVariants.{Fun, Delay, When, WhenConst, Default, Sync, Event}
-use Rattle.sig_kernel.specs.declared.equation.Equation.{Equation}
-use Rattle.sig_kernel.specs.declared.kernel.Kernel.{Kernel}
+use Rattle.std.specs.Prelude.{◌==◌, ◌&&◌, ◌||◌, ◌∷◌, ◌++◌, ◌≡◌, ◌<◌, if◌then◌else◌}
+use Rattle.sig_clock.specs.Prelude.{ℕ, Bool, true, false, nat_lt, List, [], length, map, filter, Option, None, Some, take, slice_index_or, slice_set, list_any, range_with_len, Kind, SigId, Signal, kind_at, Form, Fun, Delay, When, WhenConst, Default, Sync, Event, Equation, Kernel}
 use Rattle.sig_clock.specs.Reactions.{compares, is_boolean_kind}
 
 -- the signal whose truth a form leaves free: one that a comparison of integers or a delay defines

@@ -1,8 +1,8 @@
 -- Roots, rounds and layers: in which order the presence of signals is known from the conditions that are known.
-use Rattle.std.specs.Prelude.{◌≡◌, ◌<◌, ◌⊎◌, ℕ, zero, suc, true, length}
+use Rattle.std.specs.Prelude.{◌≡◌, ◌<◌, ◌⊎◌}
+use Rattle.sig_clock.specs.Prelude.{ℕ, zero, suc, true, length, Kernel}
 use Rattle.sig_clock.specs.Reactions.{Reaction, Speaks, IsReaction, is_present, is_silent, status_at}
 use Rattle.sig_clock.specs.Conditions.{is_condition}
-use Rattle.sig_kernel.specs.declared.kernel.Kernel.{Kernel}
 
 -- the number is that of a signal
 abbrev pub IsSignal : Kernel → ℕ → Type 0

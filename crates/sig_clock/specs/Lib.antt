@@ -1,3 +1,4 @@
+pub mod Prelude
 pub mod Abstractions
 pub mod ClockFunctions
 pub mod ClockRefusals

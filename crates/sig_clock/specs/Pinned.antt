@@ -1,9 +1,9 @@
 -- Pinned conditions: those whose truth is forced by what is known earlier.
-use Rattle.std.specs.Prelude.{◌≡◌, ℕ, Bool, true, not, Some}
+use Rattle.std.specs.Prelude.{◌≡◌}
+use Rattle.sig_clock.specs.Prelude.{ℕ, Bool, true, not, Some, Kernel}
 use Rattle.sig_clock.specs.Reactions.{Reaction, IsReaction, status_at}
 use Rattle.sig_clock.specs.Conditions.{is_condition}
 use Rattle.sig_clock.specs.Layers.{AgreeOn, IsEarlier}
-use Rattle.sig_kernel.specs.declared.kernel.Kernel.{Kernel}
 
 -- A condition is pinned: some reaction has it present, and no reaction that agrees with that one on all earlier
 -- conditions gives it the other truth.

@@ -1,22 +1,9 @@
 -- Abstract reactions: what is left of an instant of a kernel where the values of integers are left out. Each
 -- signal is absent, or present with a truth. The clock calculus of Amagbegnon, Besnard and Le Guernic
 -- (PLDI 1995) works on them; here they are a set that a test on each equation gives.
-use Rattle.std.specs.Prelude.{◌≡◌, ℕ, ℤ, pos, Bool, true, false, not, ◌&&◌, ◌||◌, List, [], ◌∷◌, map, Option, None, Some, is_some, slice_get, slice_index_or, if◌then◌else◌}
-use Rattle.std.specs.List.{AllPass, list_all, list_any}
-use Rattle.std.specs.Ordering.{int_eq}
-use Rattle.sig_base.specs.declared.ids.Kind.{Kind}
-use Rattle.sig_base.specs.declared.ids.Kind.TheVariants.{Integer, Boolean, Event}
-use Rattle.sig_base.specs.declared.ids.SigId.{SigId}
-use Rattle.sig_base.specs.declared.signal.Signal.{Signal}
-use Rattle.sig_kernel.specs.Table.{kind_at}
-use Rattle.sig_kernel.specs.declared.equation.FunOp.{FunOp}
-use Rattle.sig_kernel.specs.declared.equation.FunOp.TheVariants.{Id, Neg, Not, And, Or, Xor, Eq, Ne, Lt, Le, Gt, Ge, Add, Sub, Mul, Div, Mod}
-use Rattle.sig_kernel.specs.declared.equation.Operand.{Operand}
-use Rattle.sig_kernel.specs.declared.equation.Operand.TheVariants.{Sig, Const}
-use Rattle.sig_kernel.specs.declared.equation.Form.{Form}
-use Rattle.sig_kernel.specs.declared.equation.Form.TheVariants.{Fun, Delay, When, WhenConst, Default, Sync, Event as EventOf}
-use Rattle.sig_kernel.specs.declared.equation.Equation.{Equation}
-use Rattle.sig_kernel.specs.declared.kernel.Kernel.{Kernel}
+use Rattle.std.specs.Prelude.{◌≡◌, ◌&&◌, ◌||◌, ◌∷◌, if◌then◌else◌}
+use Rattle.sig_clock.specs.Prelude.{ℕ, ℤ, pos, Bool, true, false, not, List, [], map, Option, None, Some, is_some, slice_get, slice_index_or, AllPass, list_all, list_any, int_eq, Kind, Integer, Boolean, SigId, Signal, kind_at, FunOp, Id, Neg, Not, And, Or, Xor, Eq, Ne, Lt, Le, Gt, Ge, Add, Sub, Mul, Div, Mod, Operand, Sig, Const, Form, Fun, Delay, When, WhenConst, Default, Sync, Event as EventOf, Equation, Kernel}
+use Rattle.sig_base.specs.declared.ids.Kind.TheVariants.{Event}
 
 -- what a signal is in an abstract reaction: absent, or present with a truth; the truth of an event is true, and
 -- so is, by convention, that of an integer

@@ -1,12 +1,7 @@
 -- Clock classes: the smallest equivalence that relates the signals of one function, delay, synchronisation or
 -- clock of a signal.
-use Rattle.std.specs.Prelude.{◌≡◌, ◌≤◌, ◌<◌, ℕ, List, [], ◌∷◌, length, Contains, slice_index, slice_index_or}
-use Rattle.sig_kernel.specs.declared.equation.Operand.{Operand}
-use Rattle.sig_kernel.specs.declared.equation.Operand.TheVariants.{Sig, Const}
-use Rattle.sig_kernel.specs.declared.equation.Form.{Form}
-use Rattle.sig_kernel.specs.declared.equation.Form.TheVariants.{Fun, Delay, When, WhenConst, Default, Sync, Event}
-use Rattle.sig_kernel.specs.declared.equation.Equation.{Equation}
-use Rattle.sig_kernel.specs.declared.kernel.Kernel.{Kernel}
+use Rattle.std.specs.Prelude.{◌≡◌, ◌≤◌, ◌<◌, ◌∷◌}
+use Rattle.sig_clock.specs.Prelude.{ℕ, List, [], length, Contains, slice_index, slice_index_or, Operand, Sig, Const, Form, Fun, Delay, When, WhenConst, Default, Sync, Event, Equation, Kernel}
 
 -- the signals among operands
 abbrev pub signals_among : List Operand → List ℕ

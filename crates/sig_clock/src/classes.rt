@@ -1,8 +1,7 @@
 //! Which signals have one clock because of the equations alone.
 
-ghost use Rattle.std.specs.Prelude.{◌≡◌, ◌≤◌, ◌<◌, ◌∷◌, [], ℕ, true, length, map, slice_index, IfOk};
-ghost use Rattle.std.specs.List.{list_all, range_with_len};
-ghost use Rattle.sig_kernel.specs.Validity.{IsValid, form_within, operand_within};
+ghost use Rattle.std.specs.Prelude.{◌≡◌, ◌≤◌, ◌<◌, ◌∷◌};
+ghost use Rattle.sig_clock.specs.Prelude.{[], ℕ, true, length, map, slice_index, IfOk, list_all, range_with_len, IsValid, form_within, operand_within};
 ghost use Rattle.sig_clock.specs.SameClocks.{AreLeast, signals_among, related};
 ghost use Rattle.sig_clock.specs.Links.{AreJoined, relabel_one};
 

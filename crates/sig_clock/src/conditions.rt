@@ -1,9 +1,7 @@
 //! The conditions of a kernel.
 
-ghost use Rattle.std.specs.Prelude.{◌≡◌, ◌<◌, ◌&&◌, false, map, length, nat_lt, slice_index_or, IfOk, IfSome, OnOk};
-ghost use Rattle.std.specs.List.{list_any, range_with_len};
-ghost use Rattle.sig_kernel.specs.Table.{kind_at};
-ghost use Rattle.sig_kernel.specs.Validity.{IsValid};
+ghost use Rattle.std.specs.Prelude.{◌≡◌, ◌<◌, ◌&&◌};
+ghost use Rattle.sig_clock.specs.Prelude.{false, map, length, nat_lt, slice_index_or, IfOk, IfSome, OnOk, list_any, range_with_len, kind_at, IsValid};
 ghost use Rattle.sig_clock.specs.Conditions.{AreFreeBy, added, conditions_of, freed, marked, signal_id};
 ghost use Rattle.sig_clock.specs.Reactions.{compares, is_boolean_kind, is_integer};
 

@@ -1,9 +1,7 @@
 //! Laws of the clock calculus. The function of a law does nothing when it runs.
 
-ghost use Rattle.std.specs.Prelude.{◌≡◌, ◌+◌, ◌<◌, ℕ, Bool, true, false, List, length, slice_get, None, Some, is_some};
-ghost use Rattle.sig_base.specs.declared.ids.SigId.{SigId};
-ghost use Rattle.sig_base.specs.Traces.{Instant, Range, is_silent as is_silent_instant, seen_at};
-ghost use Rattle.sig_base.specs.declared.signal.Signal.{Signal};
+ghost use Rattle.std.specs.Prelude.{◌≡◌, ◌+◌, ◌<◌};
+ghost use Rattle.sig_clock.specs.Prelude.{ℕ, Bool, true, false, List, length, slice_get, None, Some, is_some, SigId, Instant, Range, is_silent as is_silent_instant, seen_at, Signal, truth_of, with_truth, IsReaction as IsInstant, Memory, IsValid, Kernel};
 ghost use Rattle.sig_clock.specs.Abstractions.{abstraction_of, status_of};
 ghost use Rattle.sig_clock.specs.ClockFunctions.{IsClockFunction, KeepsTo};
 ghost use Rattle.sig_clock.specs.ClockRefusals.{HasClocks, IsFirstPinned, IsMissingRoot, IsUnsolved};
@@ -11,10 +9,6 @@ ghost use Rattle.sig_clock.specs.Clocks.{AreInOrder};
 ghost use Rattle.sig_clock.specs.Layers.{EntersBy, HasLayer, IsDead};
 ghost use Rattle.sig_clock.specs.Reactions.{IsReaction, Reaction, Speaks, is_present, is_silent, status_at};
 ghost use Rattle.sig_clock.specs.SameClocks.{SameClock};
-ghost use Rattle.sig_dd.specs.Diagram.{truth_of, with_truth};
-ghost use Rattle.sig_kernel.specs.KernelTraces.{IsReaction as IsInstant, Memory};
-ghost use Rattle.sig_kernel.specs.Validity.{IsValid};
-ghost use Rattle.sig_kernel.specs.declared.kernel.Kernel.{Kernel};
 
 /// A law: an instant of a valid kernel, whichever whole numbers are its integers and whatever its
 /// delays remember, is an abstract reaction once the values of integers are left out.

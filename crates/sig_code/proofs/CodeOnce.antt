@@ -1,21 +1,5 @@
 -- The text of a kernel's code is one.
-use Rattle.std.proofs.Common.{◌≡◌, ◌<◌, ◌+◌, ◌++◌, ℕ, List, [], ◌∷◌, length, refl, sym, ap, ◌∙◌, subst, arith}
-use Rattle.std.specs.Prelude.{zero, suc, Option, None, Some, true, codes, slice_get}
-use Rattle.std.specs.Fmt.{decimal}
-use Rattle.std.specs.List.{enumerate_from, flat_map}
-use Rattle.sig_code.specs.Texts.{act_text, actor_text, code_text_of, op_text, step_text, what_text}
-use Rattle.sig_dd.specs.declared.node.Node.{Node}
-use Rattle.sig_kernel.specs.declared.kernel.Kernel.{Kernel}
-use Rattle.sig_plan.specs.Codes.{CodeView, Instruction, instructions_of}
-use Rattle.sig_plan.specs.Operations.{Operation, operations_in}
-use Rattle.sig_plan.specs.Plans.{IsAccepted, PlanView, numbers_of}
-use Rattle.sig_plan.specs.declared.code.Step.{Step}
-use Rattle.sig_plan.specs.declared.code.StepKind.{StepKind}
-use Rattle.sig_plan.specs.declared.code.StepKind.TheVariants.{Do, Send, Receive, Report, Collect, Commit}
-use Rattle.sig_plan.specs.declared.op.Op.{Op}
-use Rattle.sig_plan.proofs.PlanOnce.{same_actors, same_instructions, same_operations}
-use Rattle.sig_clock.proofs.Lists.{get_at, get_within}
-use Rattle.sig_code.specs.Texts.{IsCodeText}
+use Rattle.sig_code.proofs.Common.{◌≡◌, ◌<◌, ◌+◌, ◌++◌, ℕ, List, [], ◌∷◌, length, refl, sym, ap, ◌∙◌, subst, arith, zero, suc, Option, None, Some, true, codes, slice_get, decimal, enumerate_from, flat_map, act_text, actor_text, code_text_of, op_text, step_text, what_text, Node, Kernel, CodeView, Instruction, instructions_of, Operation, operations_in, IsAccepted, PlanView, numbers_of, Step, StepKind, Do, Send, Receive, Report, Collect, Commit, Op, same_actors, same_instructions, same_operations, get_at, get_within, IsCodeText}
 
 -- ---- texts of lists
 

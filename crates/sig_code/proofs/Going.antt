@@ -1,23 +1,7 @@
 -- A code that goes on by one step.
-use Rattle.std.proofs.Common.{◌≡◌, ℕ, ◌<◌, ◌≤◌, true, List, ◌∷◌, ◌++◌, [], length, None, Some, Option, get_or, slice_get, refl, sym, ap, ◌∙◌, subst, inl, inr, arith, length-append}
-use Rattle.std.specs.Prelude.{position}
-use Rattle.std.specs.List.{position_or_len}
-use Rattle.std.proofs.lemmas.Bool.{cases_lt, eq-eqb, eqb-true, lt-ltb}
-use Rattle.std.proofs.lemmas.List.Elements.{All-push}
-use Rattle.std.proofs.lemmas.List.Quantifiers.{position-Some}
-use Rattle.std.proofs.lemmas.List.Sums.{fails_before_first}
-use Rattle.std.proofs.lemmas.Option.{get_or_from_slice_get, slice_get-get_or, slice_get_within}
-use Rattle.sig_code.specs.Coding.{Adds, AreHeld, FindsSlot, HasNoSlot, IsCodeOf, IsNewSlot, IsSlotOf, IsWithin, has_guard}
-use Rattle.sig_code.specs.Turns.{doing}
+use Rattle.sig_code.proofs.Common.{◌≡◌, ℕ, ◌<◌, ◌≤◌, true, List, ◌∷◌, ◌++◌, [], length, None, Some, Option, get_or, slice_get, refl, sym, ap, ◌∙◌, subst, inl, inr, arith, length-append, position, position_or_len, cases_lt, eq-eqb, eqb-true, lt-ltb, All-push, position-Some, fails_before_first, get_or_from_slice_get, slice_get-get_or, slice_get_within, Adds, AreHeld, FindsSlot, HasNoSlot, IsCodeOf, IsNewSlot, IsSlotOf, IsWithin, has_guard, doing, Holds, IsRefOf, test, Node, Ref, AreSlots, CodeView, ImpliesSlot, Instruction, IsLastBelow, IsStepOf, Slot, Step, StepKind}
 use Rattle.sig_code.proofs.Parents.{no_slot}
 use Rattle.sig_code.proofs.Pushing.{push_either, push_last, push_old}
-use Rattle.sig_dd.specs.Nodes.{Holds, IsRefOf, test}
-use Rattle.sig_dd.specs.declared.node.Node.{Node}
-use Rattle.sig_dd.specs.declared.node.Ref.{Ref}
-use Rattle.sig_plan.specs.Codes.{AreSlots, CodeView, ImpliesSlot, Instruction, IsLastBelow, IsStepOf}
-use Rattle.sig_plan.specs.declared.code.Slot.{Slot}
-use Rattle.sig_plan.specs.declared.code.Step.{Step}
-use Rattle.sig_plan.specs.declared.code.StepKind.{StepKind}
 
 -- a slot that was found has the guard
 pub slot_found : (slots : List Slot) (guard : Ref) (number : ℕ) → position (has_guard guard) slots ≡ Some number → IsSlotOf slots guard number

@@ -1,14 +1,6 @@
 -- Instructions that are added one after another.
-use Rattle.std.proofs.Common.{◌≡◌, ℕ, ◌+◌, ◌<◌, ◌≤◌, List, [], ◌∷◌, ◌++◌, length, map, take, get_or, Option, None, Some, refl, sym, ap, ◌∙◌, subst, append_assoc}
-use Rattle.std.specs.List.{cons_option, enumerate_from, filter_map}
-use Rattle.std.specs.Option.{option_to_list}
-use Rattle.std.proofs.lemmas.List.{append-nil, map-append, map_more, take_all, take_more}
-use Rattle.std.proofs.lemmas.List.Elements.{filter_map-append}
-use Rattle.sig_code.specs.Coding.{Adds, AreHeld, IsCodeOf}
+use Rattle.sig_code.proofs.Common.{◌≡◌, ℕ, ◌+◌, ◌<◌, ◌≤◌, List, [], ◌∷◌, ◌++◌, length, map, take, get_or, Option, None, Some, refl, sym, ap, ◌∙◌, subst, append_assoc, cons_option, enumerate_from, filter_map, option_to_list, append-nil, map-append, map_more, take_all, take_more, filter_map-append, Adds, AreHeld, IsCodeOf, Node, CodeView, Instruction, StepKind}
 use Rattle.sig_code.proofs.Numbered.{numbered_more}
-use Rattle.sig_dd.specs.declared.node.Node.{Node}
-use Rattle.sig_plan.specs.Codes.{CodeView, Instruction}
-use Rattle.sig_plan.specs.declared.code.StepKind.{StepKind}
 
 pub adds_none : (nodes : List Node) (code : CodeView) → AreHeld nodes code.slots → Adds nodes [] code code
 adds_none nodes code held = record {

@@ -1,3 +1,4 @@
+pub mod Common
 pub mod Going
 pub mod Joining
 pub mod Numbered
@@ -6,3 +7,11 @@ pub mod Planning
 pub mod Pushing
 pub mod Turning
 pub mod CodeOnce
+pub use Common.*
+pub use CodeOnce.*
+pub use Going.*
+pub use Joining.*
+pub use Numbered.*
+pub use Parents.*
+pub use Planning.*
+pub use Turning.*

@@ -1,7 +1,5 @@
 -- Lists whose elements are numbered by their places.
-use Rattle.std.proofs.Common.{◌≡◌, ℕ, zero, suc, ◌+◌, ◌<◌, List, [], ◌∷◌, ◌++◌, length, take, get_or, sym, ap, ◌∙◌, append_assoc, arith}
-use Rattle.std.specs.List.{enumerate_from, flat_map}
-use Rattle.std.proofs.lemmas.List.{flat_map_more}
+use Rattle.sig_code.proofs.Common.{◌≡◌, ℕ, zero, suc, ◌+◌, ◌<◌, List, [], ◌∷◌, ◌++◌, length, take, get_or, sym, ap, ◌∙◌, append_assoc, arith, enumerate_from, flat_map, flat_map_more}
 
 -- one more element, where the first has the number n
 more_from : {X : Type 0} (n : ℕ) (xs : List X) (i : ℕ) (d : X) → i < length xs

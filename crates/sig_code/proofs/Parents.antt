@@ -1,13 +1,5 @@
 -- The slot of a guard, and its parent.
-use Rattle.std.proofs.Common.{◌≡◌, ℕ, ◌-◌, ◌<◌, ◌≤◌, List, length, None, Some, get_or, sym, ap, ◌∙◌, subst, inl, inr, arith}
-use Rattle.std.proofs.lemmas.Bool.{cases_lt}
-use Rattle.std.proofs.lemmas.Option.{get_or_from_slice_get, slice_get-get_or}
-use Rattle.sig_code.specs.Coding.{IsWithin}
-use Rattle.sig_dd.specs.Nodes.{Implies}
-use Rattle.sig_dd.specs.declared.node.Node.{Node}
-use Rattle.sig_dd.specs.declared.node.Ref.{Ref}
-use Rattle.sig_plan.specs.Codes.{IsLastBelow}
-use Rattle.sig_plan.specs.declared.code.Slot.{Slot}
+use Rattle.sig_code.proofs.Common.{◌≡◌, ℕ, ◌-◌, ◌<◌, ◌≤◌, List, length, None, Some, get_or, sym, ap, ◌∙◌, subst, inl, inr, arith, cases_lt, get_or_from_slice_get, slice_get-get_or, IsWithin, Implies, Node, Ref, IsLastBelow, Slot}
 
 abbrev pub no_slot : Slot
 no_slot = record { guard = record { number = 0 }; parent = None }

@@ -1,20 +1,6 @@
 -- The codes of all actors, and the plan that they make whole.
-use Rattle.std.proofs.Common.{◌≡◌, ℕ, ◌+◌, ◌<◌, List, [], ◌∷◌, ◌++◌, All, length, get_or, sym, ap, ◌∙◌, subst, inl, inr, arith, length-append}
-use Rattle.std.proofs.lemmas.List.{get_or-map, length-map}
-use Rattle.std.proofs.lemmas.Option.{slice_get_within}
-use Rattle.sig_base.specs.declared.ids.OpId.{OpId}
-use Rattle.sig_base.specs.declared.ids.SigId.{SigId}
-use Rattle.sig_code.specs.Coding.{AreCodesOf, IsCodeOf}
-use Rattle.sig_code.specs.Turns.{parts_of}
+use Rattle.sig_code.proofs.Common.{◌≡◌, ℕ, ◌+◌, ◌<◌, List, [], ◌∷◌, ◌++◌, All, length, get_or, sym, ap, ◌∙◌, subst, inl, inr, arith, length-append, get_or-map, length-map, slice_get_within, OpId, SigId, AreCodesOf, IsCodeOf, parts_of, Node, AreCodes, CodeView, Instruction, instructions_of, Operation, operation_in, operations_in, HasNoCycle, IsCompiledOrder, Precedes, Reaches, directly, onward, PartsView, numbers_of, Op, none_before_itself}
 use Rattle.sig_code.proofs.Pushing.{push_either}
-use Rattle.sig_dd.specs.declared.node.Node.{Node}
-use Rattle.sig_plan.specs.Codes.{AreCodes, CodeView, Instruction, instructions_of}
-use Rattle.sig_plan.specs.Operations.{Operation, operation_in, operations_in}
-use Rattle.sig_plan.specs.Order.{HasNoCycle, IsCompiledOrder, Precedes, Reaches, directly, onward}
-use Rattle.sig_plan.specs.Parts.{PartsView}
-use Rattle.sig_plan.specs.Plans.{numbers_of}
-use Rattle.sig_plan.specs.declared.op.Op.{Op}
-use Rattle.sig_plan.proofs.Orders.{none_before_itself}
 
 pub codes_none : (nodes : List Node) (instructions : ℕ → List Instruction) (codes : List CodeView) → codes ≡ [] → AreCodesOf nodes instructions 0 codes
 codes_none nodes instructions codes none = record {

@@ -1,25 +1,6 @@
 -- What an actor does at a place of the order and at the end, link by link.
-use Rattle.std.proofs.Common.{◌≡◌, ℕ, ◌+◌, ◌*◌, ◌<◌, Bool, true, false, List, [], ◌∷◌, ◌++◌, map, length, Option, None, Some, slice_get, get_or, take, arith, refl, sym, ap, ◌∙◌}
-use Rattle.std.specs.Prelude.{if◌then◌else◌, ◌==◌}
-use Rattle.std.specs.List.{cons_option, filter_map}
-use Rattle.std.specs.Option.{option_map}
-use Rattle.std.proofs.lemmas.List.{get_or-map, length-map}
-use Rattle.std.proofs.lemmas.Option.{slice_get-map}
-use Rattle.sig_base.specs.declared.ids.OpId.{OpId}
-use Rattle.sig_base.specs.declared.ids.SigId.{SigId}
-use Rattle.sig_code.specs.Turns.{doing, ending, receiving, route_if, routes_of, sending}
-use Rattle.sig_code.specs.declared.routes.Route.{Route}
+use Rattle.sig_code.proofs.Common.{◌≡◌, ℕ, ◌+◌, ◌*◌, ◌<◌, Bool, true, false, List, [], ◌∷◌, ◌++◌, map, length, Option, None, Some, slice_get, get_or, take, arith, refl, sym, ap, ◌∙◌, if◌then◌else◌, ◌==◌, cons_option, filter_map, option_map, get_or-map, length-map, slice_get-map, OpId, SigId, doing, ending, receiving, route_if, routes_of, sending, Route, IsRefOf, test, Node, Ref, Instruction, always, at_end, at_number, is_signal, links_of, links_to, numbered, op_id, over_order, report_links, reports_of, under, unguarded, Guard, Operation, operation_in, operations_in, numbers_of, StepKind, Do, Send, Receive, Report, Collect, Commit, Op, LinkInfo}
 use Rattle.sig_code.proofs.Numbered.{joined_more}
-use Rattle.sig_dd.specs.Nodes.{IsRefOf, test}
-use Rattle.sig_dd.specs.declared.node.Node.{Node}
-use Rattle.sig_dd.specs.declared.node.Ref.{Ref}
-use Rattle.sig_plan.specs.Codes.{Instruction, always, at_end, at_number, is_signal, links_of, links_to, numbered, op_id, over_order, report_links, reports_of, under, unguarded}
-use Rattle.sig_plan.specs.Operations.{Guard, Operation, operation_in, operations_in}
-use Rattle.sig_plan.specs.Plans.{numbers_of}
-use Rattle.sig_plan.specs.declared.code.StepKind.{StepKind}
-use Rattle.sig_plan.specs.declared.code.StepKind.TheVariants.{Do, Send, Receive, Report, Collect, Commit}
-use Rattle.sig_plan.specs.declared.op.Op.{Op}
-use Rattle.sig_plan.specs.declared.parts.LinkInfo.{LinkInfo}
 
 map_cons : {Y W : Type 0} (f : Y → W) (o : Option Y) (ys : List Y) → map f (cons_option o ys) ≡ cons_option (option_map f o) (map f ys)
 map_cons f None ys = refl

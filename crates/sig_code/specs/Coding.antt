@@ -1,11 +1,6 @@
 -- How a code is made, one instruction after another.
-use Rattle.std.specs.Prelude.{◌≡◌, ◌⊎◌, ◌==◌, ℕ, Bool, List, [], ◌∷◌, ◌++◌, All, length, slice_get, Some}
-use Rattle.sig_dd.specs.Nodes.{Holds, Implies}
-use Rattle.sig_dd.specs.declared.node.Node.{Node}
-use Rattle.sig_dd.specs.declared.node.Ref.{Ref}
-use Rattle.sig_plan.specs.Codes.{AreSlots, CodeView, Instruction, IsLastBelow, IsStepOf}
-use Rattle.sig_plan.specs.declared.code.Slot.{Slot}
-use Rattle.sig_plan.specs.declared.code.Step.{Step}
+use Rattle.std.specs.Prelude.{◌≡◌, ◌⊎◌, ◌==◌, ◌∷◌, ◌++◌}
+use Rattle.sig_code.specs.Prelude.{ℕ, Bool, List, [], All, length, slice_get, Some, Holds, Implies, Node, Ref, AreSlots, CodeView, Instruction, IsLastBelow, IsStepOf, Slot, Step}
 
 -- the guards of slots are held by the store
 abbrev pub AreHeld : List Node → List Slot → Type 0

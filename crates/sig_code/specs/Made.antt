@@ -1,12 +1,6 @@
 -- The plan that is made of its parts.
-use Rattle.std.specs.Prelude.{◌≡◌, List}
-use Rattle.sig_base.specs.declared.ids.OpId.{OpId}
-use Rattle.sig_clock.specs.Clocks.{ClocksView}
-use Rattle.sig_dd.specs.Nodes.{StoreView}
-use Rattle.sig_kernel.specs.declared.kernel.Kernel.{Kernel}
-use Rattle.sig_plan.specs.Parts.{PartsView}
-use Rattle.sig_plan.specs.Plans.{PlanView}
-use Rattle.sig_plan.specs.declared.op.Op.{Op}
+use Rattle.std.specs.Prelude.{◌≡◌}
+use Rattle.sig_code.specs.Prelude.{List, OpId, ClocksView, StoreView, Kernel, PartsView, PlanView, Op}
 
 -- The plan holds what it was made of, of the parts the links. That its codes are those of these parts is part of its being accepted.
 pub record Holds (kernel : Kernel) (clocks : ClocksView) (store : StoreView) (ops : List Op) (order : List OpId) (parts : PartsView)

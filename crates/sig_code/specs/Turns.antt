@@ -1,18 +1,7 @@
 -- What an actor does with the links.
-use Rattle.std.specs.Prelude.{◌≡◌, ◌+◌, ◌*◌, ◌<◌, ◌^◌, ◌==◌, ℕ, List, [], All, length, map, Option, None, Some, if◌then◌else◌}
-use Rattle.std.specs.List.{filter_map}
-use Rattle.sig_base.specs.declared.ids.OpId.{OpId}
-use Rattle.sig_base.specs.declared.ids.SigId.{SigId}
+use Rattle.std.specs.Prelude.{◌≡◌, ◌+◌, ◌*◌, ◌<◌, ◌^◌, ◌==◌, if◌then◌else◌}
+use Rattle.sig_code.specs.Prelude.{ℕ, List, [], All, length, map, Option, None, Some, filter_map, OpId, SigId, Holds, IsRefOf, test, Node, Ref, Instruction, always, is_signal, numbered, PartsView, StepKind, Send, Receive, Report, Collect, Op, LinkInfo}
 use Rattle.sig_code.specs.declared.routes.Route.{Route}
-use Rattle.sig_dd.specs.Nodes.{Holds, IsRefOf, test}
-use Rattle.sig_dd.specs.declared.node.Node.{Node}
-use Rattle.sig_dd.specs.declared.node.Ref.{Ref}
-use Rattle.sig_plan.specs.Codes.{Instruction, always, is_signal, numbered}
-use Rattle.sig_plan.specs.Parts.{PartsView}
-use Rattle.sig_plan.specs.declared.code.StepKind.{StepKind}
-use Rattle.sig_plan.specs.declared.code.StepKind.TheVariants.{Send, Receive, Report, Collect}
-use Rattle.sig_plan.specs.declared.op.Op.{Op}
-use Rattle.sig_plan.specs.declared.parts.LinkInfo.{LinkInfo}
 
 -- a link and its number, where it carries what is written
 abbrev pub route_if : Option SigId → ℕ × LinkInfo → Option Route

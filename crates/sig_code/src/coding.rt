@@ -1,18 +1,10 @@
 //! The code of each actor, and the plan.
 
-ghost use Rattle.std.specs.Prelude.{◌≡◌, ◌+◌, ◌<◌, All, IfOk, length};
-ghost use Rattle.sig_clock.specs.ClockRefusals.{HasClocks};
-ghost use Rattle.sig_clock.specs.Clocks.{AreClocks};
+ghost use Rattle.std.specs.Prelude.{◌≡◌, ◌+◌, ◌<◌};
+ghost use Rattle.sig_code.specs.Prelude.{All, IfOk, length, HasClocks, AreClocks, Holds as HoldsRef, IsStore, IsValid, instructions_of, AreOperations, operations_in, IsCompiledOrder, AreParts, numbers_of};
 ghost use Rattle.sig_code.specs.Coding.{AreCodesOf};
 ghost use Rattle.sig_code.specs.Made.{Holds};
 ghost use Rattle.sig_code.specs.Turns.{parts_of};
-ghost use Rattle.sig_dd.specs.Nodes.{Holds as HoldsRef, IsStore};
-ghost use Rattle.sig_kernel.specs.Validity.{IsValid};
-ghost use Rattle.sig_plan.specs.Codes.{instructions_of};
-ghost use Rattle.sig_plan.specs.Operations.{AreOperations, operations_in};
-ghost use Rattle.sig_plan.specs.Order.{IsCompiledOrder};
-ghost use Rattle.sig_plan.specs.Parts.{AreParts};
-ghost use Rattle.sig_plan.specs.Plans.{numbers_of};
 
 use crate::answer::CodeAnswer;
 use crate::routes::routes_of_each;

@@ -1,11 +1,9 @@
 //! The steps of a code, and the slots of their guards.
 
-ghost use Rattle.std.specs.Prelude.{◌≡◌, ◌∷◌, [], ◌<◌, ◌^◌, IfOk, OnOk, length, map, position};
-ghost use Rattle.std.specs.Option.{option_to_list};
+ghost use Rattle.std.specs.Prelude.{◌≡◌, ◌∷◌, ◌<◌, ◌^◌};
+ghost use Rattle.sig_code.specs.Prelude.{[], IfOk, OnOk, length, map, position, option_to_list, Holds, IsLastBelow};
 ghost use Rattle.sig_code.specs.Coding.{Adds, AreHeld, FindsSlot, IsWithin, has_guard};
 ghost use Rattle.sig_code.specs.Turns.{doing};
-ghost use Rattle.sig_dd.specs.Nodes.{Holds};
-ghost use Rattle.sig_plan.specs.Codes.{IsLastBelow};
 
 use crate::answer::CodeAnswer;
 use sig_dd::{Ref, Store};

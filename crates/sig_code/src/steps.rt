@@ -1,13 +1,9 @@
 //! The steps of an actor.
 
-ghost use Rattle.std.specs.Prelude.{◌≡◌, ◌+◌, ◌*◌, ◌<◌, ◌^◌, ◌++◌, IfOk, OnOk, map, length, slice_get};
-ghost use Rattle.std.specs.List.{filter_map};
+ghost use Rattle.std.specs.Prelude.{◌≡◌, ◌+◌, ◌*◌, ◌<◌, ◌^◌, ◌++◌};
+ghost use Rattle.sig_code.specs.Prelude.{IfOk, OnOk, map, length, slice_get, filter_map, Holds, at_end, at_number, instructions_of, numbered, over_order, operations_in, numbers_of};
 ghost use Rattle.sig_code.specs.Coding.{Adds, AreCodesOf, AreHeld, IsCodeOf};
 ghost use Rattle.sig_code.specs.Turns.{AreReady, doing, ending, parts_of, receiving, sending};
-ghost use Rattle.sig_dd.specs.Nodes.{Holds};
-ghost use Rattle.sig_plan.specs.Codes.{at_end, at_number, instructions_of, numbered, over_order};
-ghost use Rattle.sig_plan.specs.Operations.{operations_in};
-ghost use Rattle.sig_plan.specs.Plans.{numbers_of};
 
 use crate::answer::CodeAnswer;
 use crate::routes::{Route, Routes};

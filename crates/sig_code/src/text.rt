@@ -1,7 +1,7 @@
 //! The text of a plan's code.
 
-ghost use Rattle.std.specs.Prelude.{◌≡◌, ◌++◌, IfOk, OnOk, decimal, slice_get};
-ghost use Rattle.std.specs.List.{enumerate_from, flat_map};
+ghost use Rattle.std.specs.Prelude.{◌≡◌, ◌++◌};
+ghost use Rattle.sig_code.specs.Prelude.{IfOk, OnOk, decimal, slice_get, enumerate_from, flat_map};
 ghost use Rattle.sig_code.specs.Texts.{act_text, actor_text, code_text_of, delayed_in, name_at, name_of, op_text, step_text, what_text};
 
 use crate::answer::CodeAnswer;

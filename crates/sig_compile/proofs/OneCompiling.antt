@@ -1,25 +1,6 @@
 -- The compiling and the printing of a program over told contents come to one outcome at most.
-use Rattle.std.proofs.Common.{◌≡◌, ◌∙◌, ◌⊎◌, ℕ, Bool, List, inl, inr, refl, sym, ap}
-use Rattle.sig_text.specs.Files.{Contents}
-use Rattle.sig_tree.specs.Grammar.{IsText}
-use Rattle.sig_tree.specs.Syntax.{ProcessModel}
-use Rattle.sig_print.specs.Canonical.{canonical_text}
-use Rattle.sig_front.specs.Shown.{front_line}
-use Rattle.sig_front.proofs.OneText.{tree_once, refusal_once, tree_or_refusal}
-use Rattle.sig_clock.specs.ClockRefusals.{HasClocks}
-use Rattle.sig_code.proofs.CodeOnce.{code_text_once}
-use Rattle.sig_hier.proofs.TreeOnce.{tree_text_once}
-use Rattle.sig_kernel.specs.declared.kernel.Kernel.{Kernel}
-use Rattle.sig_outcome.specs.Outcomes.{OneAtMost, WritesDue, done}
-use Rattle.sig_outcome.specs.Refusals.{status_of}
-use Rattle.sig_outcome.specs.declared.refusal.Refusal.{Refusal}
-use Rattle.sig_outcome.specs.declared.refusal.Refusal.TheVariants.{Missing, ReadFault, LongProgram, Program, Budget, TooManyItems, LongFile, Data, OutOfMemory}
-use Rattle.sig_outcome.proofs.Stages.{one_at_program}
-use Rattle.sig_compile.specs.Acceptance.{AreRefused, IsAcceptedAs}
-use Rattle.sig_compile.specs.Compiling.{CompileComesTo, IsAboutPlan, IsCompileStatus, IsDueOf}
-use Rattle.sig_compile.specs.Printing.{IsAboutText, IsPrintStatus, PrintComesTo, RefusesText}
-use Rattle.sig_compile.specs.declared.product.Product.{Product}
-use Rattle.sig_compile.specs.declared.product.Product.TheVariants.{Code, Tree, Verdict}
+use Rattle.sig_compile.proofs.Common.{◌≡◌, ◌∙◌, ℕ, Bool, List, inl, inr, refl, sym, ap, Contents, IsText, ProcessModel, canonical_text, front_line, tree_once, refusal_once, tree_or_refusal, HasClocks, code_text_once, tree_text_once, Kernel, OneAtMost, WritesDue, done, status_of, Refusal, Missing, ReadFault, LongProgram, Program, Budget, TooManyItems, LongFile, Data, one_at_program, AreRefused, IsAcceptedAs, CompileComesTo, IsAboutPlan, IsCompileStatus, IsDueOf, IsAboutText, IsPrintStatus, PrintComesTo, RefusesText, Product, Code, Tree, Verdict}
+use Rattle.sig_outcome.specs.declared.refusal.Refusal.TheVariants.{OutOfMemory}
 use Rattle.sig_compile.proofs.Verdicts.{accepted_once, accepted_or_refused, refused_once}
 
 -- ---- the products of a program

@@ -1,17 +1,5 @@
 -- What pacing makes of a kernel is one thing: a kernel, or one line that says why it gets no paces.
-use Rattle.std.proofs.Common.{◌≡◌, ◌<◌, ◌^◌, ◌⊎◌, ◌∙◌, ℕ, List, length, inl, inr, refl, sym, ap, subst}
-use Rattle.std.specs.Prelude.{Some, slice_get}
-use Rattle.sig_base.specs.declared.limits.TheConstants.{SIGNALS}
-use Rattle.sig_base.specs.declared.signal.Signal.{Signal}
-use Rattle.sig_front.specs.Shown.{front_line}
-use Rattle.sig_front.specs.declared.answer.FrontAnswer.{FrontAnswer}
-use Rattle.sig_front.specs.declared.answer.FrontAnswer.TheVariants.{TooManySignals}
-use Rattle.sig_kernel.specs.Validity.{IsValid}
-use Rattle.sig_kernel.specs.declared.kernel.Kernel.{Kernel}
-use Rattle.sig_pace.specs.Paced.{GetsPaces, IsPaced}
-use Rattle.sig_pace.specs.Refusals.{HasTooManySignals, IsNameTaken}
-use Rattle.sig_pace.proofs.Refusing.{many_or_paced, one_taken, taken_or_many, taken_or_paced}
-use Rattle.sig_compile.specs.Acceptance.{IsUnpaced, SaysNameTaken, SaysTooManySignals, taken_line}
+use Rattle.sig_compile.proofs.Common.{◌≡◌, ◌⊎◌, ◌∙◌, ℕ, List, inl, inr, refl, sym, ap, subst, Some, slice_get, SIGNALS, front_line, FrontAnswer, TooManySignals, IsValid, Kernel, GetsPaces, IsPaced, HasTooManySignals, IsNameTaken, many_or_paced, one_taken, taken_or_many, taken_or_paced, IsUnpaced, SaysNameTaken, SaysTooManySignals, taken_line}
 
 same_name : (own : Kernel) (l m : List ℕ) → SaysNameTaken own l → SaysNameTaken own m → l ≡ m
 same_name own l m one other =

@@ -1,30 +1,5 @@
 -- Why the bytes of a program are refused, and that the nodes do not suffice for it.
-use Rattle.std.proofs.Common.{◌≡◌, ◌≤◌, ◌<◌, ◌+◌, ◌⊎◌, ◌∙◌, ℕ, Bool, true, false, List, [], length, Some, inl, inr, ⊎_elim, refl, sym, ap, subst, arith}
-use Rattle.std.specs.Prelude.{slice_get}
-use Rattle.sig_base.specs.declared.limits.TheConstants.{NODES, SIGNALS}
-use Rattle.sig_base.specs.declared.signal.Signal.{Signal}
-use Rattle.sig_back.specs.Budgets.{MeetsUnknownBound}
-use Rattle.sig_back.specs.Faults.{FaultView, IsFaultOf}
-use Rattle.sig_back.specs.Shown.{fault_line}
-use Rattle.sig_dd.specs.Nodes.{IsFull, Keeps, StoreView}
-use Rattle.sig_front.specs.Kernels.{IsNoKernelText}
-use Rattle.sig_front.specs.Shown.{front_line}
-use Rattle.sig_front.specs.Texts.{IsNoText}
-use Rattle.sig_front.specs.declared.answer.FrontAnswer.{FrontAnswer}
-use Rattle.sig_front.specs.declared.answer.FrontAnswer.TheVariants.{OutOfMemory as FrontMemory, TooManySignals}
-use Rattle.sig_kernel.specs.declared.kernel.Kernel.{Kernel}
-use Rattle.sig_pace.specs.Refusals.{HasNoPaceRoom, HasTooManySignals, IsNameTaken, IsPaceRefusal}
-use Rattle.sig_pace.specs.declared.answer.PaceAnswer.{PaceAnswer}
-use Rattle.sig_pace.specs.declared.answer.PaceAnswer.TheVariants.{Budget as NoNodes, TooManySignals as TooManyPaced}
-use Rattle.sig_rel.specs.Relations.{IsUnknownCount}
-use Rattle.sig_solve.specs.Refusals.{share_of}
-use Rattle.sig_text.specs.Files.{Contents}
-use Rattle.sig_outcome.specs.Refusals.{IsOfProgram}
-use Rattle.sig_outcome.specs.declared.refusal.Refusal.{Refusal}
-use Rattle.sig_outcome.proofs.Refused.{of_more}
-use Rattle.sig_compile.specs.Acceptance.{AreRefused, HasKernel, HasOwnKernel, IsRefusedKernel, IsRefusedPace, IsRefusedText, IsUnpaced, SaysNameTaken, SaysTooManySignals, taken_line}
-use Rattle.sig_compile.specs.Compiling.{HoldsBeyondBound, IsBudget, IsPlanLine, LacksNodes}
-use Rattle.sig_compile.specs.Printing.{IsFrontLine, RefusesText}
+use Rattle.sig_compile.proofs.Common.{◌≡◌, ◌≤◌, ◌<◌, ◌+◌, ◌⊎◌, ◌∙◌, ℕ, Bool, true, false, List, [], length, Some, inl, inr, ⊎_elim, sym, ap, subst, arith, slice_get, NODES, SIGNALS, Signal, MeetsUnknownBound, FaultView, IsFaultOf, fault_line, IsFull, Keeps, StoreView, IsNoKernelText, front_line, IsNoText, FrontAnswer, OutOfMemory as FrontMemory, TooManySignals, Kernel, HasNoPaceRoom, HasTooManySignals, IsNameTaken, IsPaceRefusal, PaceAnswer, NoNodes, TooManyPaced, IsUnknownCount, share_of, Contents, IsOfProgram, Refusal, of_more, AreRefused, HasKernel, HasOwnKernel, IsRefusedKernel, IsRefusedPace, IsRefusedText, IsUnpaced, SaysNameTaken, SaysTooManySignals, taken_line, HoldsBeyondBound, IsBudget, IsPlanLine, LacksNodes, IsFrontLine, RefusesText}
 
 -- a refusal by the line of an answer of the passes is one of the bytes
 pub refused_front : (bytes : List ℕ) (answer : FrontAnswer) (r : Refusal) → IsNoKernelText bytes answer → IsOfProgram (λ line. line ≡ front_line answer) (λ nodes. ⊥) r → IsOfProgram (IsRefusedText bytes) (λ nodes. ⊥) r

@@ -1,16 +1,6 @@
 -- With the flag for paces and without it, no program is both accepted and refused, and a refused one has one line.
-use Rattle.std.proofs.Common.{◌≡◌, ◌≤◌, ◌⊎◌, ◌∙◌, ℕ, Bool, true, false, List, length, inl, inr, refl, sym, ap, subst, arith}
-use Rattle.sig_base.specs.declared.limits.TheConstants.{PROGRAM_BYTES}
-use Rattle.sig_back.specs.Faults.{IsFaultOf, told_as}
-use Rattle.sig_back.specs.Shown.{fault_line}
-use Rattle.sig_front.specs.Shown.{front_line}
-use Rattle.sig_front.proofs.OneKernel.{kernel_once, kernel_or_refusal, no_kernel_once}
-use Rattle.sig_kernel.specs.declared.kernel.Kernel.{Kernel}
-use Rattle.sig_pace.specs.Paced.{IsPaced}
-use Rattle.sig_pace.proofs.Refusing.{one_pacing}
+use Rattle.sig_compile.proofs.Common.{◌≡◌, ◌≤◌, ◌⊎◌, ◌∙◌, ℕ, Bool, true, false, List, length, inl, inr, refl, sym, ap, subst, arith, PROGRAM_BYTES, IsFaultOf, told_as, fault_line, front_line, kernel_once, kernel_or_refusal, no_kernel_once, Kernel, IsPaced, one_pacing, IsAcceptedKernel, IsRefusedFor, KernelFault, AreRefused, Becomes, HasKernel, HasOwnKernel, IsAcceptedAs, IsAcceptedProgram, IsRefusedKernel, IsRefusedPace, IsRefusedProgram, IsRefusedText, IsUnpaced}
 use Rattle.sig_plan.proofs.FaultOnce as faults
-use Rattle.sig_plan.specs.Acceptance.{IsAcceptedKernel, IsRefusedFor, KernelFault}
-use Rattle.sig_compile.specs.Acceptance.{AreRefused, Becomes, HasKernel, HasOwnKernel, IsAcceptedAs, IsAcceptedProgram, IsRefusedKernel, IsRefusedPace, IsRefusedProgram, IsRefusedText, IsUnpaced}
 use Rattle.sig_compile.proofs.Pacings.{IsPacedOrTold, paced_or_unpaced, unpaced_once}
 
 -- ---- the kernel of a program

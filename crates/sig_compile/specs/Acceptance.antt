@@ -12,22 +12,8 @@
 -- A program is refused for the first of these rules that it does not meet, with the line that names it: its length, the first
 -- refusal of the passes up to the kernel, a name that a pace takes or too many signals with the paces, or the first rule that
 -- its kernel does not meet. No program is both, and a refused one has one line (the law `one_verdict`).
-use Rattle.std.specs.Prelude.{◌≡◌, ◌⊎◌, ◌<◌, ◌≤◌, ◌++◌, ℕ, Bool, true, false, List, codes, length, Some, slice_get}
-use Rattle.sig_base.specs.Lines.{refusal_at}
-use Rattle.sig_base.specs.declared.limits.TheConstants.{PROGRAM_BYTES, SIGNALS}
-use Rattle.sig_base.specs.declared.signal.Signal.{Signal}
-use Rattle.sig_back.specs.Faults.{FaultView, IsFaultOf}
-use Rattle.sig_back.specs.Shown.{fault_line, shown}
-use Rattle.sig_front.specs.Kernels.{IsKernelText, IsNoKernelText}
-use Rattle.sig_front.specs.Shown.{front_line}
-use Rattle.sig_front.specs.declared.answer.FrontAnswer.{FrontAnswer}
-use Rattle.sig_front.specs.declared.answer.FrontAnswer.TheVariants.{TooManySignals}
-use Rattle.sig_kernel.specs.Validity.{IsValid}
-use Rattle.sig_kernel.specs.declared.kernel.Kernel.{Kernel}
-use Rattle.sig_outcome.specs.Outcomes.{long_program}
-use Rattle.sig_pace.specs.Paced.{IsPaced}
-use Rattle.sig_pace.specs.Refusals.{HasTooManySignals, IsNameTaken}
-use Rattle.sig_plan.specs.Acceptance.{IsAcceptedKernel}
+use Rattle.std.specs.Prelude.{◌≡◌, ◌⊎◌, ◌<◌, ◌≤◌, ◌++◌}
+use Rattle.sig_compile.specs.Prelude.{ℕ, Bool, true, false, List, codes, length, Some, slice_get, refusal_at, PROGRAM_BYTES, SIGNALS, Signal, FaultView, IsFaultOf, fault_line, shown, IsKernelText, IsNoKernelText, front_line, FrontAnswer, TooManySignals, IsValid, Kernel, long_program, IsPaced, HasTooManySignals, IsNameTaken, IsAcceptedKernel}
 
 -- the bytes are the text of a program with this kernel of its own, which is valid
 pub record HasOwnKernel (bytes : List ℕ) (own : Kernel) : Type 0 where

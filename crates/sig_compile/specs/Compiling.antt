@@ -1,21 +1,7 @@
 -- What the commands `check`, `tree` and `code` come to over told contents.
 -- The refusals of a command are tried in the order in which the equations below stand.
-use Rattle.std.specs.Prelude.{◌≡◌, ◌⊎◌, ℕ, Bool, true, false, List, Option, codes}
-use Rattle.sig_back.specs.Budgets.{MeetsBound, MeetsUnknownBound}
-use Rattle.sig_back.specs.Faults.{FaultView}
-use Rattle.sig_back.specs.Shown.{fault_line}
-use Rattle.sig_base.specs.declared.limits.TheConstants.{NODES, PROGRAM_BYTES}
-use Rattle.sig_base.specs.declared.signal.Signal.{Signal}
-use Rattle.sig_code.specs.Texts.{IsCodeText}
-use Rattle.sig_front.specs.Shown.{front_line}
-use Rattle.sig_front.specs.declared.answer.FrontAnswer.{FrontAnswer}
-use Rattle.sig_hier.specs.Texts.{IsTreeText}
-use Rattle.sig_kernel.specs.declared.kernel.Kernel.{Kernel}
-use Rattle.sig_text.specs.Files.{Contents, name_where_there}
-use Rattle.sig_outcome.specs.Outcomes.{AtProgram, FindsProgram, Found, Holds, Outcome, WritesDue}
-use Rattle.sig_outcome.specs.Refusals.{IsAboutProgram}
-use Rattle.sig_outcome.specs.Tasks.{Task}
-use Rattle.sig_outcome.specs.declared.refusal.Refusal.{Refusal}
+use Rattle.std.specs.Prelude.{◌≡◌, ◌⊎◌}
+use Rattle.sig_compile.specs.Prelude.{ℕ, Bool, true, false, List, Option, codes, MeetsBound, MeetsUnknownBound, FaultView, fault_line, NODES, PROGRAM_BYTES, Signal, IsCodeText, front_line, FrontAnswer, IsTreeText, Kernel, Contents, name_where_there, AtProgram, FindsProgram, Found, Holds, Outcome, WritesDue, IsAboutProgram, Task, Refusal}
 use Rattle.sig_compile.specs.Acceptance.{AreRefused, HasKernel, HasOwnKernel, IsAcceptedAs, taken_line}
 use Rattle.sig_compile.specs.declared.product.Product.{Product}
 use Rattle.sig_compile.specs.declared.product.Product.TheVariants.{Code, Tree, Verdict}
@@ -34,7 +20,8 @@ AtPlan pace held name Next o = AtProgram (IsAcceptedAs pace) (AreRefused pace) h
 abbrev pub IsVerdictText : Kernel → List ℕ → Type 0
 IsVerdictText kernel text = text ≡ codes "accepted\n"
 
--- the text that is due of a product
+-- The text that is due of a product. An accepted kernel has exactly one of each (the law `good_programs_compile`): the clocks and
+-- the plan of which the texts speak are there, and all of them give one text.
 abbrev pub IsDueOf : Product → Kernel → List ℕ → Type 0
 IsDueOf Verdict kernel text = IsVerdictText kernel text
 IsDueOf Tree kernel text = IsTreeText kernel text

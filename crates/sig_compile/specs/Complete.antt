@@ -1,12 +1,6 @@
 -- When nothing but want of memory or of nodes keeps a program from being compiled, and nothing but want of memory from being
 -- printed.
-use Rattle.std.specs.Prelude.{ℕ, Bool, List}
-use Rattle.sig_base.specs.declared.limits.TheConstants.{PROGRAM_BYTES}
-use Rattle.sig_text.specs.Files.{Contents}
-use Rattle.sig_kernel.specs.declared.kernel.Kernel.{Kernel}
-use Rattle.sig_tree.specs.Grammar.{IsText}
-use Rattle.sig_tree.specs.Syntax.{ProcessModel}
-use Rattle.sig_outcome.specs.Outcomes.{Holds}
+use Rattle.sig_compile.specs.Prelude.{ℕ, Bool, List, PROGRAM_BYTES, Contents, Kernel, IsText, ProcessModel, Holds}
 use Rattle.sig_compile.specs.Acceptance.{IsAcceptedAs}
 
 -- the file holds an accepted program

@@ -1,3 +1,4 @@
+pub mod Prelude
 pub mod Acceptance
 pub mod Compiling
 pub mod Complete

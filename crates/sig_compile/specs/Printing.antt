@@ -1,16 +1,6 @@
 -- What the command `print` comes to over told contents.
-use Rattle.std.specs.Prelude.{◌≡◌, ◌⊎◌, ℕ, List, Option}
-use Rattle.sig_front.specs.Shown.{front_line}
-use Rattle.sig_front.specs.Texts.{IsNoText}
-use Rattle.sig_front.specs.declared.answer.FrontAnswer.{FrontAnswer}
-use Rattle.sig_print.specs.Canonical.{canonical_text}
-use Rattle.sig_text.specs.Files.{Contents, name_where_there}
-use Rattle.sig_tree.specs.Grammar.{IsText}
-use Rattle.sig_tree.specs.Syntax.{ProcessModel}
-use Rattle.sig_outcome.specs.Outcomes.{AtProgram, Outcome, done}
-use Rattle.sig_outcome.specs.Refusals.{IsAboutProgram}
-use Rattle.sig_outcome.specs.Tasks.{Task}
-use Rattle.sig_outcome.specs.declared.refusal.Refusal.{Refusal}
+use Rattle.std.specs.Prelude.{◌≡◌, ◌⊎◌}
+use Rattle.sig_compile.specs.Prelude.{ℕ, List, front_line, IsNoText, FrontAnswer, canonical_text, Contents, name_where_there, IsText, ProcessModel, AtProgram, Outcome, done, IsAboutProgram, Task, Refusal}
 
 -- ---- the program file, for its text alone
 

@@ -1,9 +1,7 @@
 //! The commands `check`, `tree` and `code`: from the name of a program file to a status.
 
-ghost use Rattle.std.specs.Prelude.{◌≤◌, IfErr, IfOk, length};
-ghost use Rattle.sig_outcome.specs.Outcomes.{done};
-ghost use Rattle.sig_outcome.specs.Refusals.{IsOfProgram};
-ghost use Rattle.sig_outcome.specs.Tasks.{Performs, Reaches, SaysLine, Stops};
+ghost use Rattle.std.specs.Prelude.{◌≤◌};
+ghost use Rattle.sig_compile.specs.Prelude.{IfErr, IfOk, length, done, IsOfProgram, Performs, Reaches, SaysLine, Stops};
 ghost use Rattle.sig_compile.specs.Acceptance.{AreRefused};
 ghost use Rattle.sig_compile.specs.Compiling.{IsProductText, LacksNodes, compiling};
 

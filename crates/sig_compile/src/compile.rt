@@ -1,7 +1,7 @@
 //! From the text of a program to its plan.
 
-ghost use Rattle.std.specs.Prelude.{◌≤◌, IfErr, IfOk, length};
-ghost use Rattle.sig_outcome.specs.Refusals.{IsOfProgram};
+ghost use Rattle.std.specs.Prelude.{◌≤◌};
+ghost use Rattle.sig_compile.specs.Prelude.{IfErr, IfOk, length, IsOfProgram};
 ghost use Rattle.sig_compile.specs.Acceptance.{AreRefused, HasKernel, HasOwnKernel, IsAcceptedAs, IsRefusedText};
 ghost use Rattle.sig_compile.specs.Compiling.{LacksNodes};
 

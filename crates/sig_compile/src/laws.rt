@@ -1,15 +1,9 @@
 //! What is so of every program.
 
-ghost use Rattle.std.specs.Prelude.{◌≡◌, ◌⊎◌, ◌≤◌, ℕ, Bool, List, length};
-ghost use Rattle.sig_base.specs.declared.limits.TheConstants.{PROGRAM_BYTES};
-ghost use Rattle.sig_kernel.specs.declared.kernel.Kernel.{Kernel};
-ghost use Rattle.sig_text.specs.Files.{Contents};
-ghost use Rattle.sig_code.specs.Texts.{IsCodeText};
-ghost use Rattle.sig_plan.specs.Plans.{IsAccepted, PlanView};
-ghost use Rattle.sig_print.specs.Canonical.{canonical_text};
-ghost use Rattle.sig_outcome.specs.Outcomes.{Outcome, WritesDue, done};
+ghost use Rattle.std.specs.Prelude.{◌≡◌, ◌⊎◌, ◌≤◌};
+ghost use Rattle.sig_compile.specs.Prelude.{ℕ, Bool, List, length, PROGRAM_BYTES, Kernel, Contents, canonical_text, Outcome, WritesDue, done};
 ghost use Rattle.sig_compile.specs.Acceptance.{HasOwnKernel, IsAcceptedProgram, IsRefusedProgram};
-ghost use Rattle.sig_compile.specs.Compiling.{CompileComesTo, IsDueOf, IsVerdictText};
+ghost use Rattle.sig_compile.specs.Compiling.{CompileComesTo, IsDueOf};
 ghost use Rattle.sig_compile.specs.Complete.{CanCompile, CanPrint};
 ghost use Rattle.sig_compile.specs.Printing.{PrintComesTo};
 ghost use Rattle.sig_compile.specs.declared.product.Product.{Product};
@@ -38,19 +32,19 @@ pub fn kernels_have_a_verdict()
 }
 
 /// A law: a program that is accepted, with paces or without, is compiled. Whatever its compiling comes to has
-/// the text that is due of its kernel, with status 0. The verdict is there, and where its kernel has a plan,
-/// so is the code.
+/// the text that is due of its kernel, with status 0; and there is exactly one such outcome, of the verdict, of
+/// the tree of clocks and of the code. A program comes to no two outcomes, accepted or not.
 pub fn good_programs_compile()
     ensures only { (pace : Bool) (held : Contents) (program : List ℕ) → (can : CanCompile pace held program)
         → (product : Product) (o : Outcome) → CompileComesTo (IsDueOf product) pace held program o
         → WritesDue (IsDueOf product can.kernel) program o }
     ensures status { (pace : Bool) (held : Contents) (program : List ℕ) → CanCompile pace held program
         → (product : Product) (o : Outcome) → CompileComesTo (IsDueOf product) pace held program o → o.status ≡ 0 }
-    ensures verdict { (pace : Bool) (held : Contents) (program : List ℕ) → CanCompile pace held program
-        → (o : Outcome) × CompileComesTo IsVerdictText pace held program o }
-    ensures code { (pace : Bool) (held : Contents) (program : List ℕ) → (can : CanCompile pace held program)
-        → (plan : PlanView) → IsAccepted plan → plan.kernel ≡ can.kernel
-        → (o : Outcome) × CompileComesTo IsCodeText pace held program o }
+    ensures some { (pace : Bool) (held : Contents) (program : List ℕ) → CanCompile pace held program
+        → (product : Product) → (o : Outcome) × CompileComesTo (IsDueOf product) pace held program o }
+    ensures one { (pace : Bool) (held : Contents) (program : List ℕ) (product : Product) (o other : Outcome)
+        → CompileComesTo (IsDueOf product) pace held program o
+        → CompileComesTo (IsDueOf product) pace held program other → o ≡ other }
 {}
 
 /// A law: a program whose text has a tree is printed, as its canonical text and as nothing else.

@@ -1,9 +1,7 @@
 //! Reading the file of a program, up to its plan.
 
-ghost use Rattle.std.specs.Prelude.{◌≡◌, Some, IfErr, IfOk, IfSome};
-ghost use Rattle.sig_outcome.specs.Outcomes.{Good};
-ghost use Rattle.sig_outcome.specs.Reading.{Reads};
-ghost use Rattle.sig_outcome.specs.Refusals.{HasCount, IsOwn, outcome_of, status_of};
+ghost use Rattle.std.specs.Prelude.{◌≡◌};
+ghost use Rattle.sig_compile.specs.Prelude.{Some, IfErr, IfOk, IfSome, Good, Reads, HasCount, IsOwn, outcome_of, status_of};
 ghost use Rattle.sig_compile.specs.Compiling.{AtPlan, FindsAccepted, HoldsBeyondBound, IsAboutPlan};
 
 use crate::compile::plan_of;

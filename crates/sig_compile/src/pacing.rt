@@ -1,11 +1,7 @@
 //! The kernel of a program with paces.
 
-ghost use Rattle.std.specs.Prelude.{◌≡◌, ◌≤◌, true, [], Some, IfErr, IfOk, length, slice_get};
-ghost use Rattle.sig_base.specs.declared.limits.TheConstants.{NODES};
-ghost use Rattle.sig_base.specs.declared.signal.Signal.{Signal};
-ghost use Rattle.sig_kernel.specs.declared.kernel.Kernel.{Kernel};
-ghost use Rattle.sig_outcome.specs.Refusals.{IsOfProgram};
-ghost use Rattle.sig_pace.specs.Refusals.{IsNameTaken};
+ghost use Rattle.std.specs.Prelude.{◌≡◌, ◌≤◌};
+ghost use Rattle.sig_compile.specs.Prelude.{true, [], Some, IfErr, IfOk, length, slice_get, NODES, Signal, Kernel, IsOfProgram, IsNameTaken};
 ghost use Rattle.sig_compile.specs.Acceptance.{AreRefused, HasKernel, HasOwnKernel, taken_line};
 ghost use Rattle.sig_compile.specs.Compiling.{LacksNodes};
 

@@ -1,11 +1,7 @@
 //! The command `print`: from the name of a program file to a status.
 
-ghost use Rattle.std.specs.Prelude.{◌≤◌, IfErr, IfOk, length};
-ghost use Rattle.sig_tree.specs.Grammar.{IsText};
-ghost use Rattle.sig_tree.specs.Syntax.{program_of};
-ghost use Rattle.sig_outcome.specs.Outcomes.{done};
-ghost use Rattle.sig_outcome.specs.Refusals.{IsOfProgram};
-ghost use Rattle.sig_outcome.specs.Tasks.{Performs, Reaches, SaysLine, Stops};
+ghost use Rattle.std.specs.Prelude.{◌≤◌};
+ghost use Rattle.sig_compile.specs.Prelude.{IfErr, IfOk, length, IsText, program_of, done, IsOfProgram, Performs, Reaches, SaysLine, Stops};
 ghost use Rattle.sig_compile.specs.Printing.{IsPrintedText, RefusesText, printing};
 
 use sig_base::limits::PROGRAM_BYTES;

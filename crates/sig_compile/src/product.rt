@@ -1,8 +1,6 @@
 //! What is made of the plan of a program, as a text.
 
-ghost use Rattle.std.specs.Prelude.{IfOk};
-ghost use Rattle.sig_code.specs.Texts.{IsCodeText};
-ghost use Rattle.sig_hier.specs.Texts.{IsTreeText};
+ghost use Rattle.sig_compile.specs.Prelude.{IfOk, IsCodeText, IsTreeText};
 ghost use Rattle.sig_compile.specs.Compiling.{IsDueOf};
 
 use sig_code::{CodeAnswer, code_text};

@@ -1,7 +1,6 @@
 //! A name that a pace would take.
 
-ghost use Rattle.std.specs.Prelude.{Some};
-ghost use Rattle.sig_back.specs.Shown.{shown};
+ghost use Rattle.sig_compile.specs.Prelude.{Some, shown};
 ghost use Rattle.sig_compile.specs.Acceptance.{said_taken, taken_line};
 
 use sig_base::Signal;

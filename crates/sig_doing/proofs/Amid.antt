@@ -1,34 +1,7 @@
 -- An actor amid an instant knows the guard at its place, and has what the operation there reads.
-use Rattle.std.proofs.Common.{◌≡◌, ◌<◌, ◌≤◌, ◌+◌, ◌⊎◌, inl, inr, ℕ, ℤ, Bool, true, false, List, length, refl, ap, sym, subst, ◌∙◌, arith, Contains}
-use Rattle.std.specs.Prelude.{Some, is_some, slice_get, slice_index}
-use Rattle.sig_base.specs.Traces.{Instant, Trace, seen_at}
-use Rattle.sig_base.specs.declared.ids.SigId.{SigId}
-use Rattle.sig_clock.proofs.Lists.{get_within}
-use Rattle.sig_dd.specs.Nodes.{test}
-use Rattle.sig_doing.specs.Doing.{AreAlike, IsAmid}
-use Rattle.sig_doing.specs.Places.{IsWrittenBefore, StandsAt, StandsBefore}
+use Rattle.sig_doing.proofs.Common.{◌≡◌, ◌<◌, ◌≤◌, ◌+◌, ◌⊎◌, inl, inr, ℕ, ℤ, Bool, true, false, List, length, refl, ap, sym, subst, ◌∙◌, arith, Contains, Some, is_some, slice_get, slice_index, Instant, Trace, seen_at, SigId, get_within, test, AreAlike, IsAmid, IsWrittenBefore, StandsAt, StandsBefore, IsFaultAt, met_place, at_most_or, HasFault, Meets, Cause, Memory, remembered, AreFlowsFor, Kernel, compiled, Compiled, condition_signal, own_written, some_at, truth_at, next_in, none_where, Actor, is_true, truths_of, Operation, operation_in, operations_in, Needs, IsAccepted, PlanView, numbers_of, Op, OpKind, Read, Store, guards_alone, needed_earlier, read_earlier}
 use Rattle.sig_doing.proofs.Knowing.{is_next, written_at, written_is_there}
 use Rattle.sig_doing.proofs.Places.{at_place}
-use Rattle.sig_meaning.specs.Faults.{IsFaultAt}
-use Rattle.sig_meaning.proofs.Causing.{met_place}
-use Rattle.sig_meaning.proofs.Numbers.{at_most_or}
-use Rattle.sig_model.specs.Causes.{HasFault, Meets}
-use Rattle.sig_plan.specs.declared.ended.Cause.{Cause}
-use Rattle.sig_kernel.specs.KernelTraces.{Memory, remembered}
-use Rattle.sig_kernel.specs.Validity.{AreFlowsFor}
-use Rattle.sig_kernel.specs.declared.kernel.Kernel.{Kernel}
-use Rattle.sig_meaning.proofs.Accepted.{compiled}
-use Rattle.sig_meaning.proofs.Agreement.{Compiled, condition_signal, own_written, some_at, truth_at}
-use Rattle.sig_meaning.proofs.Flows.{next_in}
-use Rattle.sig_meaning.proofs.Values.{none_where}
-use Rattle.sig_model.specs.Actors.{Actor, is_true, truths_of}
-use Rattle.sig_plan.specs.Operations.{Operation, operation_in, operations_in}
-use Rattle.sig_plan.specs.Order.{Needs}
-use Rattle.sig_plan.specs.Plans.{IsAccepted, PlanView, numbers_of}
-use Rattle.sig_plan.specs.declared.op.Op.{Op}
-use Rattle.sig_plan.specs.declared.op.OpKind.{OpKind}
-use Rattle.sig_plan.specs.declared.op.OpKind.TheVariants.{Read, Store}
-use Rattle.sig_plan.proofs.Earlier.{guards_alone, needed_earlier, read_earlier}
 
 -- actors that are alike are amid alike
 pub amid_alike : (plan : PlanView) (flows : List (List ℤ)) (trace : Trace) (instant : Instant) (a b : Actor) → AreAlike a b → IsAmid plan flows trace instant b → IsAmid plan flows trace instant a

@@ -1,21 +1,5 @@
 -- What is committed is a reference, goes on, begins the longest trace, and is it at the limit.
-use Rattle.std.proofs.Common.{◌≡◌, ◌≤◌, ◌+◌, ◌++◌, inl, ℕ, suc, ℤ, List, [], ◌∷◌, length, ap, sym, subst, ◌∙◌, arith}
-use Rattle.std.specs.Prelude.{None}
-use Rattle.sig_base.specs.Traces.{Instant, IsLongest, IsPrefixOf, Trace}
-use Rattle.sig_base.proofs.TraceLemmas.{reduced}
-use Rattle.sig_doing.specs.Commits.{IsCommitted}
-use Rattle.sig_kernel.specs.KernelTraces.{IsKernelTrace, remembered}
-use Rattle.sig_kernel.specs.Validity.{AreFlowsFor}
-use Rattle.sig_kernel.specs.declared.kernel.Kernel.{Kernel}
-use Rattle.sig_meaning.proofs.Ending.{fitting}
-use Rattle.sig_meaning.proofs.Flows.{next_in}
-use Rattle.sig_meaning.proofs.Longest.{IsClean, clean, cut_longest}
-use Rattle.sig_meaning.proofs.References.{memory_values, next_values, reference_more}
-use Rattle.sig_model.specs.Causes.{IsEnd}
-use Rattle.sig_model.specs.References.{IsReference}
-use Rattle.sig_plan.specs.Plans.{IsAccepted, PlanView}
-use Rattle.sig_plan.specs.declared.ended.Cause.TheVariants.{Limit}
-use Rattle.sig_plan.specs.declared.ended.Ended.{Ended}
+use Rattle.sig_doing.proofs.Common.{◌≡◌, ◌≤◌, ◌+◌, ◌++◌, inl, ℕ, suc, ℤ, List, [], ◌∷◌, length, ap, sym, subst, ◌∙◌, arith, None, Instant, IsLongest, IsPrefixOf, Trace, reduced, IsCommitted, IsKernelTrace, remembered, AreFlowsFor, Kernel, fitting, next_in, IsClean, clean, cut_longest, memory_values, next_values, reference_more, IsEnd, IsReference, IsAccepted, PlanView, Limit, Ended}
 
 -- within the limit, it begins the longest trace
 pub begins_longest : (kernel : Kernel) (flows : List (List ℤ)) (limit : ℕ) (trace longest : Trace) → IsCommitted kernel flows trace → length trace ≤ limit

@@ -1,48 +1,10 @@
 -- An actor behind the last place: its instant is committed, and it goes on with the next one.
-use Rattle.std.proofs.Common.{◌≡◌, ◌<◌, ◌+◌, ◌++◌, ℕ, suc, ℤ, pos, Bool, true, false, List, [], ◌∷◌, length, map, get_or, drop, refl, ap, sym, subst, ◌∙◌, arith, Contains}
-use Rattle.std.specs.Prelude.{Some, is_some, slice_get}
-use Rattle.std.specs.List.{range_with_len}
-use Rattle.std.proofs.lemmas.List.{length-append, length-drop, length-take}
-use Rattle.std.proofs.lemmas.List.Elements.{Contains-append_left, Contains-append_right}
-use Rattle.std.proofs.lemmas.List.FromFn.{get_or-map-range_with_len, length-map-range_with_len}
-use Rattle.sig_base.specs.Traces.{Bounded, Instant, Trace, seen_at}
-use Rattle.sig_base.specs.declared.ids.EqId.{EqId}
-use Rattle.sig_base.specs.declared.ids.SigId.{SigId}
-use Rattle.sig_clock.specs.Conditions.{signal_id}
-use Rattle.sig_clock.proofs.Lists.{at_contained, contains_head}
-use Rattle.sig_doing.specs.Commits.{IsCommitted}
-use Rattle.sig_doing.specs.Doing.{IsAmid, instant_behind}
-use Rattle.sig_doing.specs.Places.{IsWrittenBefore, StandsBefore}
+use Rattle.sig_doing.proofs.Common.{◌≡◌, ◌<◌, ◌+◌, ◌++◌, ℕ, suc, ℤ, pos, Bool, true, false, List, [], ◌∷◌, length, map, get_or, drop, refl, ap, sym, subst, ◌∙◌, arith, Contains, Some, is_some, slice_get, range_with_len, length-append, length-drop, length-take, Contains-append_left, Contains-append_right, get_or-map-range_with_len, length-map-range_with_len, Bounded, Instant, Trace, seen_at, EqId, SigId, signal_id, at_contained, contains_head, IsCommitted, IsAmid, instant_behind, IsWrittenBefore, StandsBefore, instant_text, output_text, outputs_of, seen_lines, target_of, AreFlowsFor, Equation, Form, Delay, Kernel, no_instants, IsWithinBounds, compiled, Compiled, without_faults, place_of, fitting, among_each, IsClean, clean_more, got, none_where, Actor, opening_actor, IsReference, reaction_in, Operation, equation_id, of_each, operations_in, operations_of, read_of, store_of, stores_of, writes_of, IsAccepted, PlanView, numbers_of, OpKind, Read, Store}
 use Rattle.sig_doing.proofs.Committed.{committed_clean}
 use Rattle.sig_doing.proofs.Defining.{defined_once, initial_is}
 use Rattle.sig_doing.proofs.Knowing.{goes_on, written_is_there, written_somewhere}
 use Rattle.sig_doing.proofs.Lines.{dropped_at, same_lines, text_more}
 use Rattle.sig_doing.proofs.Places.{places, to_place}
-use Rattle.sig_kernel.specs.OutputText.{instant_text, output_text, outputs_of, seen_lines}
-use Rattle.sig_kernel.specs.Table.{target_of}
-use Rattle.sig_kernel.specs.Validity.{AreFlowsFor}
-use Rattle.sig_kernel.specs.declared.equation.Equation.{Equation}
-use Rattle.sig_kernel.specs.declared.equation.Form.{Form}
-use Rattle.sig_kernel.specs.declared.equation.Form.TheVariants.{Delay}
-use Rattle.sig_kernel.specs.declared.kernel.Kernel.{Kernel}
-use Rattle.sig_kernel.proofs.TraceLemmas.{no_instants}
-use Rattle.sig_meaning.specs.Ends.{IsWithinBounds}
-use Rattle.sig_meaning.proofs.Accepted.{compiled}
-use Rattle.sig_meaning.proofs.Agreement.{Compiled}
-use Rattle.sig_meaning.proofs.Causing.{without_faults}
-use Rattle.sig_meaning.proofs.Doing.{place_of}
-use Rattle.sig_meaning.proofs.Ending.{fitting}
-use Rattle.sig_meaning.proofs.Equations.{among_each}
-use Rattle.sig_meaning.proofs.Longest.{IsClean, clean_more}
-use Rattle.sig_meaning.proofs.References.{got}
-use Rattle.sig_meaning.proofs.Values.{none_where}
-use Rattle.sig_model.specs.Actors.{Actor, opening_actor}
-use Rattle.sig_model.specs.References.{IsReference}
-use Rattle.sig_model.specs.Turns.{reaction_in}
-use Rattle.sig_plan.specs.Operations.{Operation, equation_id, of_each, operations_in, operations_of, read_of, store_of, stores_of, writes_of}
-use Rattle.sig_plan.specs.Plans.{IsAccepted, PlanView, numbers_of}
-use Rattle.sig_plan.specs.declared.op.OpKind.{OpKind}
-use Rattle.sig_plan.specs.declared.op.OpKind.TheVariants.{Read, Store}
 
 -- ---- the operations of inputs and delays stand in the order
 

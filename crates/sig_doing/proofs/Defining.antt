@@ -1,27 +1,5 @@
 -- A signal is defined once: by one equation, and where that is a delay, it is written by the delay's read alone.
-use Rattle.std.proofs.Common.{◌≡◌, ◌<◌, ◌≤◌, ◌⊎◌, inl, inr, ℕ, zero, suc, ℤ, Bool, true, false, cond, List, [], ◌∷◌, length, refl, ap, sym, subst, ◌∙◌, arith, Contains}
-use Rattle.std.specs.Prelude.{All, Option, None, Some, slice_get, ◌==◌}
-use Rattle.std.specs.List.{count_by}
-use Rattle.std.proofs.lemmas.Bool.{eq-eqb, eqb-true}
-use Rattle.std.proofs.lemmas.List.Elements.{All-cons, All-contains, All-nil}
-use Rattle.sig_base.specs.declared.ids.EqId.{EqId}
-use Rattle.sig_base.specs.declared.ids.SigId.{SigId}
-use Rattle.sig_clock.specs.Conditions.{signal_id}
-use Rattle.sig_kernel.specs.Table.{target_of}
-use Rattle.sig_kernel.specs.Validity.{IsValid, defines, form_within, is_target, target_within}
-use Rattle.sig_kernel.specs.declared.equation.Equation.{Equation}
-use Rattle.sig_kernel.specs.declared.equation.Form.{Form}
-use Rattle.sig_kernel.specs.declared.equation.Form.TheVariants.{Fun, Delay, When, WhenConst, Default, Sync, Event}
-use Rattle.sig_kernel.specs.declared.kernel.Kernel.{Kernel}
-use Rattle.sig_meaning.proofs.Numbers.{at_most_or}
-use Rattle.sig_meaning.proofs.References.{got}
-use Rattle.sig_meaning.proofs.Values.{form_for, form_in, has_form}
-use Rattle.sig_model.specs.Actors.{initial_by, initial_in}
-use Rattle.sig_plan.specs.Operations.{Operation, Presence, operations_of, signals_of, store_of, stores_of, without, writes_of, writing}
-use Rattle.sig_plan.specs.Order.{Writes}
-use Rattle.sig_plan.specs.declared.op.OpKind.TheVariants.{Compute, DelayRead, Left, Right}
-use Rattle.sig_plan.proofs.Counting.{counted, fold_tally, one_place, tally}
-use Rattle.sig_plan.proofs.EachOperation.{each_operation, only, target_below}
+use Rattle.sig_doing.proofs.Common.{◌≡◌, ◌<◌, ◌≤◌, ◌⊎◌, inl, inr, ℕ, zero, suc, ℤ, Bool, true, false, cond, List, [], ◌∷◌, length, refl, ap, sym, subst, ◌∙◌, arith, Contains, All, Option, None, Some, slice_get, ◌==◌, count_by, eq-eqb, eqb-true, All-cons, All-contains, All-nil, EqId, SigId, signal_id, target_of, IsValid, defines, form_within, is_target, target_within, Equation, Form, Fun, Delay, When, WhenConst, Default, Sync, Event, Kernel, at_most_or, got, form_for, form_in, has_form, initial_by, initial_in, Operation, Presence, operations_of, signals_of, store_of, stores_of, without, writes_of, writing, Writes, Compute, DelayRead, Left, Right, counted, fold_tally, one_place, tally, each_operation, only, target_below}
 
 pub same_signal : (x y : SigId) → x.0 ≡ y.0 → x ≡ y
 same_signal x y e = λ j. record { 0 = e j }

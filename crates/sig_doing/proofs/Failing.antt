@@ -1,35 +1,9 @@
 -- An operation that is done and comes to a fault ends a run.
-use Rattle.std.proofs.Common.{◌≡◌, ◌<◌, ◌+◌, inl, inr, ℕ, ℤ, true, List, length, sym, subst}
-use Rattle.std.specs.Prelude.{Some}
-use Rattle.sig_base.specs.Traces.{Instant, Trace}
-use Rattle.sig_dd.specs.Nodes.{test}
-use Rattle.sig_doing.specs.Doing.{IsAmid}
-use Rattle.sig_doing.specs.Places.{StandsAt}
+use Rattle.sig_doing.proofs.Common.{◌≡◌, ◌<◌, ◌+◌, inl, inr, ℕ, ℤ, true, List, length, sym, subst, Some, Instant, Trace, test, IsAmid, StandsAt, AreFlowsFor, Kernel, StopsBefore, IsFaultAt, IsFirstFault, IsOutcome, compiled, meets_at, fitting, cut_longest, first_cause, at_most_or, flow_count, bounds_without_faults, Actor, truths_of, HasFault, IsEnd, IsNamedCause, Meets, place_at, Faults, outcome, Operation, operation_in, operations_in, IsAccepted, PlanView, numbers_of, Cause, Ended, Op}
 use Rattle.sig_doing.proofs.Amid.{here}
 use Rattle.sig_doing.proofs.Committed.{committed_clean}
 use Rattle.sig_doing.proofs.Knowing.{goes_on}
 use Rattle.sig_doing.proofs.Operated.{outcome_is}
-use Rattle.sig_kernel.specs.Validity.{AreFlowsFor}
-use Rattle.sig_kernel.specs.declared.kernel.Kernel.{Kernel}
-use Rattle.sig_meaning.specs.Ends.{StopsBefore}
-use Rattle.sig_meaning.specs.Faults.{IsFaultAt, IsFirstFault}
-use Rattle.sig_meaning.specs.Outcomes.{IsOutcome}
-use Rattle.sig_meaning.proofs.Accepted.{compiled}
-use Rattle.sig_meaning.proofs.Causing.{meets_at}
-use Rattle.sig_meaning.proofs.Ending.{fitting}
-use Rattle.sig_meaning.proofs.Longest.{cut_longest}
-use Rattle.sig_meaning.proofs.Naming.{first_cause}
-use Rattle.sig_meaning.proofs.Numbers.{at_most_or}
-use Rattle.sig_meaning.proofs.References.{flow_count}
-use Rattle.sig_meaning.proofs.WithinBounds.{bounds_without_faults}
-use Rattle.sig_model.specs.Actors.{Actor, truths_of}
-use Rattle.sig_model.specs.Causes.{HasFault, IsEnd, IsNamedCause, Meets, place_at}
-use Rattle.sig_model.specs.Operating.{Faults, outcome}
-use Rattle.sig_plan.specs.Operations.{Operation, operation_in, operations_in}
-use Rattle.sig_plan.specs.Plans.{IsAccepted, PlanView, numbers_of}
-use Rattle.sig_plan.specs.declared.ended.Cause.{Cause}
-use Rattle.sig_plan.specs.declared.ended.Ended.{Ended}
-use Rattle.sig_plan.specs.declared.op.Op.{Op}
 
 module _ (plan : PlanView) (accepted : IsAccepted plan) (flows : List (List ℤ)) (fit : AreFlowsFor plan.kernel flows) (trace : Trace) (instant : Instant)
     (actor : Actor) (amid : IsAmid plan flows trace instant actor) (op : Op) (stands : StandsAt plan actor.step op)

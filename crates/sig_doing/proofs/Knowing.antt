@@ -1,49 +1,7 @@
 -- What the operations of an accepted plan have to do with the instant by which the reference goes on.
-use Rattle.std.proofs.Common.{◌≡◌, ◌<◌, ◌+◌, ◌++◌, ℕ, suc, ℤ, Bool, true, List, [], ◌∷◌, length, refl, ap, sym, subst, ◌∙◌, arith, Contains}
-use Rattle.std.specs.Prelude.{All, None, Some, is_some, slice_get, slice_index, option_to_list}
-use Rattle.std.proofs.lemmas.List.{append-nil}
-use Rattle.std.proofs.lemmas.List.Elements.{All-cons, All-contains, All-nil}
-use Rattle.sig_base.specs.Traces.{Instant, Trace, flow_of, seen_at}
-use Rattle.sig_base.specs.declared.ids.EqId.{EqId}
-use Rattle.sig_base.specs.declared.ids.SigId.{SigId}
-use Rattle.sig_clock.specs.Abstractions.{abstraction_of}
-use Rattle.sig_clock.specs.ClockFunctions.{KeepsTo}
-use Rattle.sig_clock.specs.Conditions.{signal_id}
-use Rattle.sig_clock.specs.Reactions.{Reaction, Speaks}
-use Rattle.sig_clock.proofs.Lists.{contains_at}
-use Rattle.sig_dd.specs.Nodes.{test}
-use Rattle.sig_doing.specs.Commits.{IsCommitted}
-use Rattle.sig_doing.specs.Places.{IsWrittenBefore, StandsAt}
+use Rattle.sig_doing.proofs.Common.{◌≡◌, ◌<◌, ◌+◌, ◌++◌, ℕ, suc, ℤ, Bool, true, List, [], ◌∷◌, length, refl, ap, sym, subst, ◌∙◌, arith, Contains, All, None, Some, is_some, slice_get, slice_index, option_to_list, append-nil, All-cons, All-contains, All-nil, Instant, Trace, flow_of, seen_at, EqId, SigId, abstraction_of, KeepsTo, signal_id, Reaction, Speaks, contains_at, test, IsCommitted, IsWrittenBefore, StandsAt, Memory, last_of, remembered, AreFlowsFor, IsValid, form_within, Equation, Form, Fun, Delay, When, WhenConst, Default, Sync, Event, Kernel, IsNext, compiled, Compiled, own_keeps, own_present, own_speaks, own_written, follows, own_presence, place_of, fitting, one_either, flow_more, next_in, IsClean, Fitting, got, form_for, form_in, has_form, truths_of, Computes, IsReference, Operation, Presence, operation_in, operations_in, operations_of, signals_of, store_of, stores_of, without, writes_of, writing, Writes, IsAccepted, PlanView, numbers_of, Op, Compute, DelayRead, Left, Read, Right, Store, written_present, each_operation, first_below, only, operands_below, written_below}
 use Rattle.sig_doing.proofs.Committed.{committed_clean}
 use Rattle.sig_doing.proofs.Places.{at_place, to_place}
-use Rattle.sig_kernel.specs.KernelTraces.{Memory, last_of, remembered}
-use Rattle.sig_kernel.specs.Validity.{AreFlowsFor, IsValid, form_within}
-use Rattle.sig_kernel.specs.declared.equation.Equation.{Equation}
-use Rattle.sig_kernel.specs.declared.equation.Form.{Form}
-use Rattle.sig_kernel.specs.declared.equation.Form.TheVariants.{Fun, Delay, When, WhenConst, Default, Sync, Event}
-use Rattle.sig_kernel.specs.declared.kernel.Kernel.{Kernel}
-use Rattle.sig_meaning.specs.Reactions.{IsNext}
-use Rattle.sig_meaning.proofs.Accepted.{compiled}
-use Rattle.sig_meaning.proofs.Agreement.{Compiled, own_keeps, own_present, own_speaks, own_written}
-use Rattle.sig_meaning.proofs.Causing.{follows, own_presence}
-use Rattle.sig_meaning.proofs.Doing.{place_of}
-use Rattle.sig_meaning.proofs.Ending.{fitting}
-use Rattle.sig_meaning.proofs.FirstFaults.{one_either}
-use Rattle.sig_meaning.proofs.Flows.{flow_more, next_in}
-use Rattle.sig_meaning.proofs.Longest.{IsClean}
-use Rattle.sig_meaning.proofs.References.{Fitting, got}
-use Rattle.sig_meaning.proofs.Values.{form_for, form_in, has_form}
-use Rattle.sig_model.specs.Actors.{truths_of}
-use Rattle.sig_model.specs.Causes.{Computes}
-use Rattle.sig_model.specs.References.{IsReference}
-use Rattle.sig_plan.specs.Operations.{Operation, Presence, operation_in, operations_in, operations_of, signals_of, store_of, stores_of, without, writes_of, writing}
-use Rattle.sig_plan.specs.Order.{Writes}
-use Rattle.sig_plan.specs.Plans.{IsAccepted, PlanView, numbers_of}
-use Rattle.sig_plan.specs.declared.op.Op.{Op}
-use Rattle.sig_plan.specs.declared.op.OpKind.TheVariants.{Compute, DelayRead, Left, Read, Right, Store}
-use Rattle.sig_plan.proofs.Done.{written_present}
-use Rattle.sig_plan.proofs.EachOperation.{each_operation, first_below, only, operands_below}
-use Rattle.sig_plan.proofs.Indices.{written_below}
 
 -- ---- what is remembered behind one instant more
 

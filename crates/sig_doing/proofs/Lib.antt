@@ -1,3 +1,4 @@
+pub mod Common
 pub mod Amid
 pub mod Committed
 pub mod Committing
@@ -8,3 +9,10 @@ pub mod Lines
 pub mod Operated
 pub mod Passing
 pub mod Places
+pub use Common.*
+pub use Amid.*
+pub use Committed.*
+pub use Committing.*
+pub use Failing.*
+pub use Operated.*
+pub use Passing.*

@@ -1,12 +1,5 @@
 -- The lines of registers that have what an instant has.
-use Rattle.std.proofs.Common.{◌≡◌, ◌<◌, ◌+◌, ◌++◌, ℕ, zero, suc, List, [], ◌∷◌, length, map, drop, refl, ap, sym, ◌∙◌, arith, append_assoc}
-use Rattle.std.specs.List.{range_with_len}
-use Rattle.std.proofs.lemmas.List.{append-nil}
-use Rattle.sig_base.specs.Traces.{Instant, Seen, Trace, seen_at}
-use Rattle.sig_base.specs.declared.signal.Signal.{Signal}
-use Rattle.sig_kernel.specs.OutputText.{instant_text, output_text, seen_line, seen_lines}
-use Rattle.sig_kernel.specs.declared.kernel.Kernel.{Kernel}
-use Rattle.sig_model.specs.Actors.{Registers}
+use Rattle.sig_doing.proofs.Common.{◌≡◌, ◌<◌, ◌+◌, ◌++◌, ℕ, zero, suc, List, [], ◌∷◌, length, map, drop, refl, ap, sym, ◌∙◌, arith, append_assoc, range_with_len, append-nil, Instant, Seen, Trace, seen_at, Signal, instant_text, output_text, seen_line, seen_lines, Kernel, Registers}
 
 pub dropped_at : (n : ℕ) (t : Instant) (k : ℕ) → seen_at (drop n t) k ≡ seen_at t (n + k)
 dropped_at zero t k = ap (seen_at t) (omega arith)

@@ -1,51 +1,10 @@
 -- An operation that is done and comes to a value meets no fault, and leaves an actor amid the instant.
-use Rattle.std.proofs.Common.{◌≡◌, ◌<◌, ◌≤◌, ◌+◌, ◌++◌, ◌⊎◌, inl, inr, ℕ, ℤ, Bool, true, false, cond, List, [], ◌∷◌, length, map, get_or, refl, ap, sym, subst, ◌∙◌, arith, Contains}
-use Rattle.std.specs.Prelude.{Option, None, Some, slice_get, slice_index, option_to_list, ◌==◌}
-use Rattle.std.proofs.lemmas.Bool.{eq-eqb, eqb-true}
-use Rattle.std.proofs.lemmas.List.{length-append}
-use Rattle.sig_base.specs.Functions.{Function}
-use Rattle.sig_base.specs.Traces.{Instant, Seen, Trace, flow_of, seen_at}
-use Rattle.sig_base.specs.declared.ids.EqId.{EqId}
-use Rattle.sig_base.specs.declared.ids.SigId.{SigId}
-use Rattle.sig_clock.specs.Abstractions.{abstraction_of}
-use Rattle.sig_dd.specs.Nodes.{test}
-use Rattle.sig_doing.specs.Doing.{IsAmid, stepped}
-use Rattle.sig_doing.specs.Places.{IsDone, IsWrittenBefore, StandsAt, StandsBefore}
+use Rattle.sig_doing.proofs.Common.{◌≡◌, ◌<◌, ◌≤◌, ◌+◌, ◌++◌, ◌⊎◌, inl, inr, ℕ, ℤ, Bool, true, false, cond, List, [], ◌∷◌, length, map, get_or, refl, ap, sym, subst, ◌∙◌, arith, Contains, Option, None, Some, slice_get, slice_index, option_to_list, ◌==◌, eq-eqb, eqb-true, length-append, Function, Instant, Seen, Trace, flow_of, seen_at, EqId, SigId, abstraction_of, test, IsAmid, stepped, IsDone, IsWrittenBefore, StandsAt, StandsBefore, Memory, function_of, remembered, target_of, AreFlowsFor, Equation, Delay, Kernel, IsAt, IsOutcome, compiled, Compiled, fitting, flow_more, next_in, same_or_not, is_outcome, Fitting, got, stored, form_in, have_map, same_operands, Actor, truths_of, with_at, with_signal, Computes, HasFault, Meets, Faults, Gives, bounded, computed, computed_at, computed_by, computed_for, defined_by, first_in, next_of, operand_in, operated, outcome, outcome_by, remembers, taken_by, divides_by_zero, has_64_bits, result_of, Operation, operation_in, operations_in, Keeps, Precedes, IsAccepted, PlanView, numbers_of, Cause, Exhausted, Limit, Overflow, ZeroDivisor, Op, OpKind, Compute, DelayRead, Left, Read, Right, Store, written_by_one, kept_order, stands_once}
 use Rattle.sig_doing.proofs.Amid.{guard_known, here, place_within, reads_known, sound_next}
 use Rattle.sig_doing.proofs.Committed.{committed_clean}
 use Rattle.sig_doing.proofs.Defining.{defined_once, one_memory, same_equation, same_signal}
 use Rattle.sig_doing.proofs.Knowing.{among, compute_is, goes_on, is_next, keeps, read_is, remembered_present, speaks}
 use Rattle.sig_doing.proofs.Places.{at_place, places, stands_before_or_here, stands_here, stands_later, written_before_or_here, written_here, written_later}
-use Rattle.sig_kernel.specs.KernelTraces.{Memory, function_of, remembered}
-use Rattle.sig_kernel.specs.Table.{target_of}
-use Rattle.sig_kernel.specs.Validity.{AreFlowsFor}
-use Rattle.sig_kernel.specs.declared.equation.Equation.{Equation}
-use Rattle.sig_kernel.specs.declared.equation.Form.TheVariants.{Delay}
-use Rattle.sig_kernel.specs.declared.kernel.Kernel.{Kernel}
-use Rattle.sig_meaning.specs.Outcomes.{IsAt, IsOutcome}
-use Rattle.sig_meaning.proofs.Accepted.{compiled}
-use Rattle.sig_meaning.proofs.Agreement.{Compiled}
-use Rattle.sig_meaning.proofs.Ending.{fitting}
-use Rattle.sig_meaning.proofs.Flows.{flow_more, next_in}
-use Rattle.sig_meaning.proofs.Numbers.{same_or_not}
-use Rattle.sig_meaning.proofs.Outcomes.{is_outcome}
-use Rattle.sig_meaning.proofs.References.{Fitting, got}
-use Rattle.sig_meaning.proofs.Storing.{stored}
-use Rattle.sig_meaning.proofs.Values.{form_in, have_map, same_operands}
-use Rattle.sig_model.specs.Actors.{Actor, truths_of, with_at, with_signal}
-use Rattle.sig_model.specs.Causes.{Computes, HasFault, Meets}
-use Rattle.sig_model.specs.Operating.{Faults, Gives, bounded, computed, computed_at, computed_by, computed_for, defined_by, first_in, next_of, operand_in, operated, outcome, outcome_by, remembers, taken_by}
-use Rattle.sig_model.specs.Results.{divides_by_zero, has_64_bits, result_of}
-use Rattle.sig_plan.specs.Operations.{Operation, operation_in, operations_in}
-use Rattle.sig_plan.specs.Order.{Keeps, Precedes}
-use Rattle.sig_plan.specs.Plans.{IsAccepted, PlanView, numbers_of}
-use Rattle.sig_plan.specs.declared.ended.Cause.{Cause}
-use Rattle.sig_plan.specs.declared.ended.Cause.TheVariants.{Exhausted, Limit, Overflow, ZeroDivisor}
-use Rattle.sig_plan.specs.declared.op.Op.{Op}
-use Rattle.sig_plan.specs.declared.op.OpKind.{OpKind}
-use Rattle.sig_plan.specs.declared.op.OpKind.TheVariants.{Compute, DelayRead, Left, Read, Right, Store}
-use Rattle.sig_plan.proofs.Done.{written_by_one}
-use Rattle.sig_plan.proofs.Orders.{kept_order, stands_once}
 
 -- ---- functions with another value at one number
 

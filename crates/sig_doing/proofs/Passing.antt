@@ -1,34 +1,8 @@
 -- An operation that is not done meets no fault, and leaves an actor amid the instant.
-use Rattle.std.proofs.Common.{◌≡◌, ◌<◌, ◌++◌, ◌⊎◌, inl, inr, ℕ, ℤ, Bool, true, false, List, [], ◌∷◌, length, get_or, ap, sym, ◌∙◌, arith}
-use Rattle.std.specs.Prelude.{None, Some, slice_get, option_to_list}
-use Rattle.std.proofs.lemmas.List.{append-nil}
-use Rattle.sig_base.specs.Traces.{Instant, Trace, flow_of, seen_at}
-use Rattle.sig_base.specs.declared.ids.EqId.{EqId}
-use Rattle.sig_base.specs.declared.ids.SigId.{SigId}
-use Rattle.sig_base.proofs.TraceLemmas.{prefix_length}
-use Rattle.sig_dd.specs.Nodes.{test}
-use Rattle.sig_doing.specs.Doing.{IsAmid, stepped}
-use Rattle.sig_doing.specs.Places.{IsDone, IsWrittenBefore, StandsAt, StandsBefore}
+use Rattle.sig_doing.proofs.Common.{◌≡◌, ◌<◌, ◌++◌, ◌⊎◌, inl, inr, ℕ, ℤ, Bool, true, false, List, [], ◌∷◌, length, get_or, ap, sym, ◌∙◌, arith, None, Some, slice_get, option_to_list, append-nil, Instant, Trace, flow_of, seen_at, EqId, SigId, prefix_length, test, IsAmid, stepped, IsDone, IsWrittenBefore, StandsAt, StandsBefore, remembered, AreFlowsFor, Equation, Delay, fitting, flow_more, Decided, flow_count, none_where, Actor, truths_of, HasFault, Meets, operation_in, IsAccepted, PlanView, numbers_of, Cause, Exhausted, Limit, Overflow, ZeroDivisor, Op, Read, Store}
 use Rattle.sig_doing.proofs.Amid.{guard_known, here, sound_next}
 use Rattle.sig_doing.proofs.Knowing.{compute_is, read_is, remembered_absent, store_is, delayed_below}
 use Rattle.sig_doing.proofs.Places.{decide_before, decide_read, decide_store, places, stands_before_or_here, stands_later, written_before_or_here, written_later}
-use Rattle.sig_kernel.specs.KernelTraces.{remembered}
-use Rattle.sig_kernel.specs.Validity.{AreFlowsFor}
-use Rattle.sig_kernel.specs.declared.equation.Equation.{Equation}
-use Rattle.sig_kernel.specs.declared.equation.Form.TheVariants.{Delay}
-use Rattle.sig_meaning.proofs.Ending.{fitting}
-use Rattle.sig_meaning.proofs.Flows.{flow_more}
-use Rattle.sig_meaning.proofs.Longest.{Decided}
-use Rattle.sig_meaning.proofs.References.{flow_count}
-use Rattle.sig_meaning.proofs.Values.{none_where}
-use Rattle.sig_model.specs.Actors.{Actor, truths_of}
-use Rattle.sig_model.specs.Causes.{HasFault, Meets}
-use Rattle.sig_plan.specs.Operations.{operation_in}
-use Rattle.sig_plan.specs.Plans.{IsAccepted, PlanView, numbers_of}
-use Rattle.sig_plan.specs.declared.ended.Cause.{Cause}
-use Rattle.sig_plan.specs.declared.ended.Cause.TheVariants.{Exhausted, Limit, Overflow, ZeroDivisor}
-use Rattle.sig_plan.specs.declared.op.Op.{Op}
-use Rattle.sig_plan.specs.declared.op.OpKind.TheVariants.{Read, Store}
 
 pub flow_absent : (trace : Trace) (instant : Instant) (x : ℕ) → seen_at instant x ≡ None → flow_of x (trace ++ instant ∷ []) ≡ flow_of x trace
 flow_absent trace instant x none = flow_more x trace instant ∙ ap (λ s. flow_of x trace ++ option_to_list s) none ∙ append-nil (flow_of x trace)

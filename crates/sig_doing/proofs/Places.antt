@@ -1,23 +1,5 @@
 -- The operations at the places of a plan's order.
-use Rattle.std.proofs.Common.{◌≡◌, ◌<◌, ◌≤◌, ◌+◌, ◌⊎◌, inl, inr, ℕ, zero, suc, List, [], ◌∷◌, length, refl, ap, sym, subst, ◌∙◌, arith}
-use Rattle.std.specs.Prelude.{Some, slice_get, slice_index}
-use Rattle.std.proofs.lemmas.List.{length-map}
-use Rattle.sig_base.specs.Traces.{Instant}
-use Rattle.sig_base.specs.declared.ids.EqId.{EqId}
-use Rattle.sig_base.specs.declared.ids.OpId.{OpId}
-use Rattle.sig_base.specs.declared.ids.SigId.{SigId}
-use Rattle.sig_clock.proofs.Lists.{get_at}
-use Rattle.sig_dd.specs.declared.node.Node.{Node}
-use Rattle.sig_doing.specs.Places.{IsDone, IsWrittenBefore, StandsAt, StandsBefore}
-use Rattle.sig_meaning.proofs.Agreement.{some_at}
-use Rattle.sig_meaning.proofs.Longest.{Decided}
-use Rattle.sig_meaning.proofs.Numbers.{at_most_or, same_or_not}
-use Rattle.sig_meaning.proofs.References.{got}
-use Rattle.sig_plan.specs.Operations.{Operation, operation_in, operations_in}
-use Rattle.sig_plan.specs.Plans.{IsAccepted, PlanView, numbers_of}
-use Rattle.sig_plan.specs.declared.op.Op.{Op}
-use Rattle.sig_plan.specs.declared.op.OpKind.{OpKind}
-use Rattle.sig_plan.specs.declared.op.OpKind.TheVariants.{Compute, DelayRead, Left, Read, Right, Store}
+use Rattle.sig_doing.proofs.Common.{◌≡◌, ◌<◌, ◌≤◌, ◌+◌, ◌⊎◌, inl, inr, ℕ, zero, suc, List, [], ◌∷◌, length, refl, ap, sym, subst, ◌∙◌, arith, Some, slice_get, slice_index, length-map, Instant, EqId, OpId, SigId, get_at, Node, IsDone, IsWrittenBefore, StandsAt, StandsBefore, some_at, Decided, at_most_or, same_or_not, got, Operation, operation_in, operations_in, IsAccepted, PlanView, numbers_of, Op, OpKind, Compute, DelayRead, Left, Read, Right, Store}
 
 -- ---- operations, and their numbers
 

@@ -1,20 +1,8 @@
 -- An actor that does all operations of a plan, one after another in the compiled order, in an instant.
-use Rattle.std.specs.Prelude.{◌≡◌, ◌<◌, ◌≤◌, ◌+◌, ℕ, ℤ, List, [], ◌∷◌, ◌++◌, length, slice_get, None, Some}
-use Rattle.sig_base.specs.Traces.{Instant, Trace, flow_of, seen_at}
-use Rattle.sig_base.specs.declared.ids.EqId.{EqId}
-use Rattle.sig_base.specs.declared.ids.SigId.{SigId}
+use Rattle.std.specs.Prelude.{◌≡◌, ◌<◌, ◌≤◌, ◌+◌, ◌∷◌, ◌++◌}
+use Rattle.sig_doing.specs.Prelude.{ℕ, ℤ, List, [], length, slice_get, None, Some, Instant, Trace, flow_of, seen_at, EqId, SigId, remembered, Equation, Delay, IsFaultAt, Actor, no_registers, IsReference, operations_in, PlanView, numbers_of, Cause, Read, Store}
 use Rattle.sig_doing.specs.Commits.{IsCommitted}
 use Rattle.sig_doing.specs.Places.{IsWrittenBefore, StandsBefore}
-use Rattle.sig_kernel.specs.KernelTraces.{remembered}
-use Rattle.sig_kernel.specs.declared.equation.Equation.{Equation}
-use Rattle.sig_kernel.specs.declared.equation.Form.TheVariants.{Delay}
-use Rattle.sig_meaning.specs.Faults.{IsFaultAt}
-use Rattle.sig_model.specs.Actors.{Actor, no_registers}
-use Rattle.sig_model.specs.References.{IsReference}
-use Rattle.sig_plan.specs.Operations.{operations_in}
-use Rattle.sig_plan.specs.Plans.{PlanView, numbers_of}
-use Rattle.sig_plan.specs.declared.ended.Cause.{Cause}
-use Rattle.sig_plan.specs.declared.op.OpKind.TheVariants.{Read, Store}
 
 -- An actor is amid an instant behind a committed trace: the reference goes on by the instant, and the actor is before a place
 -- of the order.

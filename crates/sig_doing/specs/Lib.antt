@@ -1,3 +1,4 @@
+pub mod Prelude
 pub mod Commits
 pub mod Doing
 pub mod Places

@@ -1,13 +1,6 @@
 -- What stands at the places of a plan's order, and what is done there at an instant.
-use Rattle.std.specs.Prelude.{◌≡◌, ◌<◌, ℕ, true, slice_get, Some}
-use Rattle.sig_base.specs.Traces.{Instant, seen_at}
-use Rattle.sig_base.specs.declared.ids.OpId.{OpId}
-use Rattle.sig_base.specs.declared.ids.SigId.{SigId}
-use Rattle.sig_dd.specs.Nodes.{test}
-use Rattle.sig_model.specs.Actors.{truths_of}
-use Rattle.sig_plan.specs.Plans.{PlanView}
-use Rattle.sig_plan.specs.declared.op.Op.{Op}
-use Rattle.sig_plan.specs.declared.op.OpKind.{OpKind}
+use Rattle.std.specs.Prelude.{◌≡◌, ◌<◌}
+use Rattle.sig_doing.specs.Prelude.{ℕ, true, slice_get, Some, Instant, seen_at, OpId, SigId, test, truths_of, PlanView, Op, OpKind}
 
 -- an operation stands at a place of the order
 pub record StandsAt (plan : PlanView) (place : ℕ) (op : Op) : Type 0 where

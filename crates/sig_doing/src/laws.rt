@@ -1,25 +1,11 @@
 //! Laws of an actor that does all operations of an accepted plan, over flows that fit. The function of a
 //! law does nothing when it runs.
 
-ghost use Rattle.std.specs.Prelude.{◌≡◌, ◌≤◌, ◌<◌, ◌+◌, ◌++◌, ◌∷◌, [], ℕ, ℤ, true, false, List, length, None, Some};
-ghost use Rattle.sig_base.specs.Traces.{Instant, IsLongest, IsPrefixOf, Trace, seen_at};
-ghost use Rattle.sig_dd.specs.Nodes.{test};
+ghost use Rattle.std.specs.Prelude.{◌≡◌, ◌≤◌, ◌<◌, ◌+◌, ◌++◌, ◌∷◌};
+ghost use Rattle.sig_doing.specs.Prelude.{[], ℕ, ℤ, true, false, List, length, None, Some, Instant, IsLongest, IsPrefixOf, Trace, seen_at, test, IsKernelTrace, instant_text, output_text, outputs_of, seen_lines, AreFlowsFor, Actor, opening_actor, truths_of, IsEnd, place_at, Faults, Gives, operated, outcome, IsReference, reaction_in, IsAccepted, PlanView, Cause, Limit, Ended, Op};
 ghost use Rattle.sig_doing.specs.Commits.{IsCommitted};
 ghost use Rattle.sig_doing.specs.Doing.{AreAlike, IsAmid, instant_behind, stepped};
 ghost use Rattle.sig_doing.specs.Places.{StandsAt};
-ghost use Rattle.sig_kernel.specs.KernelTraces.{IsKernelTrace};
-ghost use Rattle.sig_kernel.specs.OutputText.{instant_text, output_text, outputs_of, seen_lines};
-ghost use Rattle.sig_kernel.specs.Validity.{AreFlowsFor};
-ghost use Rattle.sig_model.specs.Actors.{Actor, opening_actor, truths_of};
-ghost use Rattle.sig_model.specs.Causes.{IsEnd, place_at};
-ghost use Rattle.sig_model.specs.Operating.{Faults, Gives, operated, outcome};
-ghost use Rattle.sig_model.specs.References.{IsReference};
-ghost use Rattle.sig_model.specs.Turns.{reaction_in};
-ghost use Rattle.sig_plan.specs.Plans.{IsAccepted, PlanView};
-ghost use Rattle.sig_plan.specs.declared.ended.Cause.{Cause};
-ghost use Rattle.sig_plan.specs.declared.ended.Cause.TheVariants.{Limit};
-ghost use Rattle.sig_plan.specs.declared.ended.Ended.{Ended};
-ghost use Rattle.sig_plan.specs.declared.op.Op.{Op};
 
 /// A law: behind a committed trace the extended reference goes on by an instant.
 pub fn next_instants_exist()

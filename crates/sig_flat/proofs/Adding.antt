@@ -1,16 +1,6 @@
 -- Instants that say of signals behind those that are there what these are.
-use Rattle.std.proofs.Common.{◌≡◌, ◌≤◌, ◌<◌, ◌+◌, ◌++◌, ℕ, suc, List, [], ◌∷◌, Option, None, Some, length, refl, sym, ap, subst, ◌∙◌, arith, append_assoc, ⊎_elim}
-use Rattle.std.proofs.lemmas.Bool.{cases_order}
-use Rattle.std.proofs.lemmas.List.{length-append}
-use Rattle.std.specs.Prelude.{◌⊎◌}
-use Rattle.sig_base.specs.declared.ids.Kind.{Kind}
-use Rattle.sig_base.specs.declared.ids.Kind.TheVariants.{Event}
-use Rattle.sig_base.specs.declared.signal.Signal.{Signal as Declared}
-use Rattle.sig_base.specs.declared.span.Span.{Span}
-use Rattle.sig_base.specs.Traces.{Seen, Instant, Bounded, IsOfKind, AreOfKinds, seen_at}
-use Rattle.sig_tree.specs.Operators.{Operand as Found, Signal, clock_of}
-use Rattle.sig_tree.specs.ProcessTraces.{kinds_of}
-use Rattle.sig_flat.specs.KernelOf.{Site, Made, with_signal, with_own, with_clocks, own, next as next_signal}
+use Rattle.sig_flat.proofs.Common.{◌≡◌, ◌≤◌, ◌<◌, ◌+◌, ◌++◌, ℕ, suc, List, [], ◌∷◌, Option, None, Some, length, refl, sym, ap, subst, ◌∙◌, arith, append_assoc, ⊎_elim, cases_order, length-append, ◌⊎◌, Kind, Event, Signal as Declared, Span, Seen, Instant, Bounded, IsOfKind, AreOfKinds, seen_at, Found, clock_of, kinds_of, Site, Made, with_signal, with_own, with_clocks, own, next as next_signal}
+use Rattle.sig_tree.specs.Operators.{Signal}
 use Rattle.sig_flat.proofs.Agreeing.{Agree, seen_before, seen_last, one_longer, kinds_length, kinds_more}
 use Rattle.sig_flat.proofs.Growing.{Grows}
 use Rattle.sig_flat.proofs.Kinded.{clock_kind}

@@ -1,13 +1,5 @@
 -- Instants that agree on the signals with the first numbers, and instants of the kinds of signals.
-use Rattle.std.proofs.Common.{◌≡◌, ◌≤◌, ◌<◌, ◌++◌, ℕ, zero, suc, pos, List, [], ◌∷◌, None, Some, length, take, refl, sym, ap, subst, ◌∙◌, arith, inl, inr}
-use Rattle.std.specs.Prelude.{FitsSigned, ℤ}
-use Rattle.std.specs.Int.{w64}
-use Rattle.sig_base.specs.declared.ids.Kind.{Kind}
-use Rattle.sig_base.specs.declared.ids.Kind.TheVariants.{Integer, Boolean, Event}
-use Rattle.sig_base.specs.declared.signal.Signal.{Signal}
-use Rattle.sig_base.specs.Traces.{Seen, Instant, Bounded, IsValue, IsOfKind, AreOfKinds, seen_at}
-use Rattle.sig_tree.specs.ProcessTraces.{kinds_of}
-use Rattle.sig_tree.specs.WellMade.{kind_numbered}
+use Rattle.sig_flat.proofs.Common.{◌≡◌, ◌≤◌, ◌<◌, ◌++◌, ℕ, zero, suc, pos, List, [], ◌∷◌, None, Some, length, take, refl, sym, ap, subst, ◌∙◌, arith, inl, inr, FitsSigned, ℤ, w64, Kind, Integer, Boolean, Event, Signal, Seen, Instant, Bounded, IsValue, IsOfKind, AreOfKinds, seen_at, kinds_of, kind_numbered}
 
 abbrev pub Agree : ℕ → Instant → Instant → Type 0
 Agree count a b = (x : ℕ) → x < count → seen_at a x ≡ seen_at b x

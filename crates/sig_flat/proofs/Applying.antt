@@ -1,13 +1,8 @@
 -- What functions of operands are, as equations and as operators.
-use Rattle.std.proofs.Common.{◌≡◌, ℤ, List, [], ◌∷◌, None, Some, refl, sym, ap, subst, ◌∙◌, pos, inl, inr}
-use Rattle.sig_base.specs.declared.ids.Kind.TheVariants.{Integer}
-use Rattle.sig_base.specs.declared.ids.SigId.{SigId}
-use Rattle.sig_base.specs.Functions.{Function, Not, Gives}
-use Rattle.sig_base.specs.Traces.{Seen, Instant, Bounded, IsOfKind, seen_at}
-use Rattle.sig_kernel.specs.KernelTraces.{HaveValues, IsFunction, where_present}
-use Rattle.sig_kernel.specs.declared.equation.Operand.{Operand}
-use Rattle.sig_kernel.specs.declared.equation.Operand.TheVariants.{Sig, Const}
-use Rattle.sig_tree.specs.Operators.{Signal, Constant, AppliesToOne, AppliesToBoth, clock_of}
+use Rattle.sig_flat.proofs.Common.{◌≡◌, ℤ, List, [], ◌∷◌, None, Some, refl, sym, ap, subst, ◌∙◌, pos, inl, inr, Integer, SigId, Function, Gives, Seen, Instant, Bounded, IsOfKind, seen_at, HaveValues, IsFunction, where_present, Operand, Sig, Constant, AppliesToOne, AppliesToBoth, clock_of}
+use Rattle.sig_base.specs.Functions.{Not}
+use Rattle.sig_kernel.specs.declared.equation.Operand.TheVariants.{Const}
+use Rattle.sig_tree.specs.Operators.{Signal}
 
 one_value : (instant : Instant) (x : SigId) (values : List ℤ) → HaveValues instant (Sig x ∷ []) values → (a : ℤ) × (values ≡ a ∷ []) × (seen_at instant x.0 ≡ Some a)
 one_value instant x [] h = absurd h

@@ -1,13 +1,5 @@
 -- An operator of two operands, from what its operands are.
-use Rattle.std.proofs.Common.{◌≡◌, ℕ, Option, None, Some, Result, Ok, Err, IfOk, refl, ap, ◌∙◌}
-use Rattle.sig_base.specs.declared.span.Span.{Span}
-use Rattle.sig_tree.specs.declared.expr.BinOp.{BinOp}
-use Rattle.sig_tree.specs.declared.expr.BinOp.TheVariants.{Default, When, Plus, Meet, Less, Or, Xor, And, Eq, Ne, Lt, Le, Gt, Ge, Add, Sub, Mul, Div, Mod}
-use Rattle.sig_tree.specs.declared.flat.FlatExpr.{FlatExpr}
-use Rattle.sig_tree.specs.FlatSyntax.{FlatExpression, Binary, flat_expression_of}
-use Rattle.sig_flat.specs.KernelOf.{Site, Made, Translated, binary, translate}
-use Rattle.sig_flat.specs.Drafts.{translated}
-use Rattle.sig_flat.specs.declared.term.Term.{Term}
+use Rattle.sig_flat.proofs.Common.{◌≡◌, ℕ, Option, None, Some, Result, Ok, Err, IfOk, refl, ap, ◌∙◌, Span, BinOp, Default, When, Plus, Meet, Less, Or, Xor, And, Eq, Ne, Lt, Le, Gt, Ge, Add, Sub, Mul, Div, Mod, FlatExpr, FlatExpression, Binary, flat_expression_of, Site, Made, Translated, binary, translate, translated, Term}
 
 -- what was made for the second operand is what the operator adds to
 first_made : (left : Option ℕ) (site : Site) (op : BinOp) (at : Span) (u : Term) (a b : Made) (v : Translated) → binary left site op at (translated u a) v ≡ binary left site op at (translated u b) v

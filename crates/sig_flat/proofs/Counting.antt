@@ -1,7 +1,5 @@
 -- How often a number stands in a list, and in a range of numbers.
-use Rattle.std.proofs.Common.{◌≡◌, ◌≢◌, ◌++◌, ◌+◌, ◌<◌, ◌≤◌, ℕ, zero, suc, Bool, true, false, List, [], ◌∷◌, refl, ap, ◌∙◌, inl, inr, arith, if◌then◌else◌, nat_eq}
-use Rattle.std.proofs.lemmas.Bool.Decides.{eqb_tells}
-use Rattle.std.specs.List.{range_with_len}
+use Rattle.sig_flat.proofs.Common.{◌≡◌, ◌≢◌, ◌++◌, ◌+◌, ◌<◌, ◌≤◌, ℕ, zero, suc, Bool, true, false, List, [], ◌∷◌, refl, ap, ◌∙◌, inl, inr, arith, if◌then◌else◌, nat_eq, eqb_tells, range_with_len}
 
 -- how often a number stands in a list
 abbrev pub times : ℕ → List ℕ → ℕ

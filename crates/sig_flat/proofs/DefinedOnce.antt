@@ -1,18 +1,5 @@
 -- The kernel of a well-made flat body defines no input, and each other signal once.
-use Rattle.std.proofs.Common.{◌≡◌, ◌++◌, ◌+◌, ◌<◌, ◌≤◌, ℕ, Bool, true, false, List, [], ◌∷◌, length, Option, None, Some, refl, sym, ap, ◌∙◌, inl, inr, arith, if◌then◌else◌, nat_eq, count_by}
-use Rattle.std.proofs.lemmas.List.Recursion.{is_count_by}
-use Rattle.std.proofs.lemmas.Bool.{cases_lt, ne_eqb}
-use Rattle.std.specs.List.{AllByRecursion, range_with_len}
-use Rattle.sig_base.specs.declared.ids.SigId.{SigId}
-use Rattle.sig_base.specs.declared.signal.Signal.{Signal}
-use Rattle.sig_base.specs.declared.span.Span.{Span}
-use Rattle.sig_tree.specs.WellMade.{IsMadeEquation, defines as defines_flat, IsWellMade}
-use Rattle.sig_tree.specs.FlatSyntax.{FlatExpression, FlatEquation, Defines, Equal, FlatBody}
-use Rattle.sig_kernel.specs.declared.equation.Equation.{Equation}
-use Rattle.sig_kernel.specs.declared.equation.Form.TheVariants.{Sync}
-use Rattle.sig_kernel.specs.Table.{target_of}
-use Rattle.sig_kernel.specs.Validity.{DefinesEach, defines, is_target}
-use Rattle.sig_flat.specs.KernelOf.{Site, Made, Together, with_equation, cluster_at, translate, operands_from, with_syncs, with_all_syncs, with_flat_equation, with_flat_equations, made_of, kernel_of}
+use Rattle.sig_flat.proofs.Common.{◌≡◌, ◌++◌, ◌+◌, ◌<◌, ◌≤◌, ℕ, Bool, true, false, List, [], ◌∷◌, length, Option, None, Some, refl, sym, ap, ◌∙◌, inl, inr, arith, if◌then◌else◌, nat_eq, count_by, is_count_by, cases_lt, ne_eqb, AllByRecursion, range_with_len, SigId, Signal, Span, IsMadeEquation, defines_flat, IsWellMade, FlatExpression, FlatEquation, Defines, Equal, FlatBody, Equation, Sync, target_of, DefinesEach, defines, is_target, Site, Made, Together, with_equation, cluster_at, translate, operands_from, with_syncs, with_all_syncs, with_flat_equation, with_flat_equations, made_of, kernel_of}
 use Rattle.sig_flat.proofs.Counting.{times, times_append, range_append, times_before, times_within}
 use Rattle.sig_flat.proofs.NumberedKinds.{kind_below}
 use Rattle.sig_flat.proofs.Targets.{target_list, targets, targets_added, Plain, Around, none_made, plain_then, translate_plain, translate_around}

@@ -1,22 +1,7 @@
 -- What an operator's operands are, and what the operator makes of them, determines its intermediates.
-use Rattle.std.proofs.Common.{◌≡◌, ℕ, suc, ℤ, pos, false, Option, None, Some, refl, sym, ap, subst, ◌∙◌, arith, inl}
-use Rattle.sig_base.specs.declared.ids.Kind.{Kind}
-use Rattle.sig_base.specs.declared.ids.Kind.TheVariants.{Boolean, Event}
-use Rattle.sig_base.specs.declared.ids.SigId.{SigId}
-use Rattle.sig_base.specs.declared.span.Span.{Span}
-use Rattle.sig_base.specs.Traces.{Seen, Instant, Bounded, IsValue, IsOfKind, AreOfKinds, seen_at}
-use Rattle.sig_kernel.specs.KernelTraces.{Meets, where_present}
-use Rattle.sig_kernel.specs.declared.equation.Form.{Form}
+use Rattle.sig_flat.proofs.Common.{◌≡◌, ℕ, suc, ℤ, pos, false, Option, None, Some, refl, sym, ap, subst, ◌∙◌, arith, inl, Kind, Boolean, Event, SigId, Span, Seen, Instant, Bounded, IsValue, IsOfKind, AreOfKinds, seen_at, Meets, where_present, Form, Operand, BinOp, Plus, Meet, Less, binary_row, kind_of_result, stored, Found, Combines, clock_of, sampled, delayed, held as held_value, kinds_of, Allows, found_at, Site, Made, Translated, with_signal, with_own, with_clocks, own, next as next_signal, by_one, binary_form, signal_in, signal_id, less, binary, cell}
 use Rattle.sig_kernel.specs.declared.equation.Form.TheVariants.{When, Default}
-use Rattle.sig_kernel.specs.declared.equation.Operand.{Operand}
-use Rattle.sig_tree.specs.declared.expr.BinOp.{BinOp}
-use Rattle.sig_tree.specs.declared.expr.BinOp.TheVariants.{Plus, Meet, Less}
-use Rattle.sig_tree.specs.Kinds.{binary_row, kind_of_result, stored}
-use Rattle.sig_tree.specs.Operators.{Operand as Found, Signal, Combines, clock_of, merged, sampled, delayed, held as held_value}
-use Rattle.sig_tree.specs.ProcessTraces.{kinds_of}
-use Rattle.sig_tree.specs.WellMade.{Allows}
-use Rattle.sig_flat.specs.Rows.{found_at}
-use Rattle.sig_flat.specs.KernelOf.{Site, Made, Translated, with_signal, with_own, with_clocks, own, next as next_signal, by_one, binary_form, signal_in, signal_id, less, binary, cell}
+use Rattle.sig_tree.specs.Operators.{Signal, merged}
 use Rattle.sig_flat.proofs.Meeting.{less_row, cell_row}
 use Rattle.sig_flat.proofs.Agreeing.{Agree, Fitting}
 use Rattle.sig_flat.proofs.Instants.{at_first}

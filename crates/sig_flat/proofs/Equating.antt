@@ -1,18 +1,6 @@
 -- Instants that meet the equations of a flat equation's translation.
-use Rattle.std.proofs.Common.{◌≡◌, ℕ, ℤ, Bool, true, false, List, [], ◌∷◌, None, Some, is_some, length, refl, sym, ap, subst, ◌∙◌, inl, inr}
-use Rattle.std.specs.Prelude.{◌⊎◌}
-use Rattle.std.specs.List.{AllByRecursion, AllZip}
-use Rattle.sig_base.specs.declared.ids.Kind.{Kind}
-use Rattle.sig_base.specs.declared.ids.SigId.{SigId}
-use Rattle.sig_base.specs.declared.signal.Signal.{Signal as Declared}
-use Rattle.sig_base.specs.declared.span.Span.{Span}
-use Rattle.sig_base.specs.Traces.{Seen, Instant, seen_at}
-use Rattle.sig_kernel.specs.declared.equation.Form.TheVariants.{Sync}
-use Rattle.sig_tree.specs.FlatSyntax.{FlatExpression, FlatEquation, Defines, Equal}
+use Rattle.sig_flat.proofs.Common.{◌≡◌, ℕ, ℤ, Bool, true, false, List, [], ◌∷◌, None, Some, is_some, length, refl, sym, ap, subst, ◌∙◌, inl, inr, ◌⊎◌, AllByRecursion, AllZip, Kind, SigId, Signal as Declared, Span, Seen, Instant, seen_at, Sync, FlatExpression, FlatEquation, Defines, Equal, Steps, IsWhole, Site, Made, Translated, Together, with_equation, signal_in, place_of, translate, operands_from, with_syncs, with_all_syncs, cluster_at, with_flat_equation, with_flat_equations}
 use Rattle.sig_tree.specs.Operators.{Signal}
-use Rattle.sig_tree.specs.Steps.{Steps}
-use Rattle.sig_tree.specs.WellMade.{IsWhole}
-use Rattle.sig_flat.specs.KernelOf.{Site, Made, Translated, Together, with_equation, signal_in, place_of, translate, operands_from, with_syncs, with_all_syncs, cluster_at, with_flat_equation, with_flat_equations}
 use Rattle.sig_flat.proofs.Agreeing.{Agree}
 use Rattle.sig_flat.proofs.Growing.{Grows, equation_grows}
 use Rattle.sig_flat.proofs.Instants.{behind_made}

@@ -1,26 +1,6 @@
 -- What an expression is at an instant determines the intermediates of its translation.
-use Rattle.std.proofs.Common.{◌≡◌, ◌≤◌, ◌<◌, ℕ, zero, suc, false, List, [], ◌∷◌, ◌++◌, Option, None, Some, length, refl, sym, ap, subst, ◌∙◌, arith}
-use Rattle.sig_base.specs.declared.ids.Kind.{Kind}
-use Rattle.sig_base.specs.declared.ids.Kind.TheVariants.{Integer}
-use Rattle.sig_base.specs.declared.ids.SigId.{SigId}
-use Rattle.sig_base.specs.declared.signal.Signal.{Signal as Declared}
-use Rattle.sig_base.specs.declared.span.Span.{Span}
-use Rattle.sig_base.specs.Functions.{Identity}
-use Rattle.sig_base.specs.Traces.{Seen, Instant, Bounded, IsValue, IsOfKind, AreOfKinds, seen_at}
-use Rattle.sig_kernel.specs.declared.equation.Form.{Form}
-use Rattle.sig_kernel.specs.declared.equation.Form.TheVariants.{Fun, Delay}
-use Rattle.sig_kernel.specs.declared.equation.FunOp.TheVariants.{Id}
-use Rattle.sig_kernel.specs.declared.equation.Operand.TheVariants.{Sig}
-use Rattle.sig_tree.specs.declared.expr.BinOp.{BinOp}
-use Rattle.sig_tree.specs.declared.expr.BinOp.TheVariants.{Plus, Meet, Less}
-use Rattle.sig_tree.specs.FlatSyntax.{FlatExpression, Sig as SigOf, Const as ConstOf, Unary, Binary, Delay as DelayOf, Cell}
-use Rattle.sig_tree.specs.Kinds.{unary_row, binary_row, delay_row, cell_row, kind_of_result, stored}
-use Rattle.sig_tree.specs.Operators.{Operand as Found, Signal, AppliesToOne, delayed, held as held_value}
-use Rattle.sig_tree.specs.ProcessTraces.{kinds_of}
-use Rattle.sig_tree.specs.Steps.{Steps}
-use Rattle.sig_tree.specs.WellMade.{Allows, IsMade, flat_kind, kind_numbered}
-use Rattle.sig_flat.specs.Rows.{found_at}
-use Rattle.sig_flat.specs.KernelOf.{Site, Made, Translated, own, next as next_signal, unary_form, signal_in, signal_id, binary, kind_at}
+use Rattle.sig_flat.proofs.Common.{◌≡◌, ◌≤◌, ◌<◌, ℕ, zero, suc, false, List, [], ◌∷◌, ◌++◌, Option, None, Some, length, refl, sym, ap, subst, ◌∙◌, arith, Kind, Integer, SigId, Signal as Declared, Span, Identity, Seen, Instant, Bounded, IsValue, IsOfKind, AreOfKinds, seen_at, Form, Fun, Delay, Id, Sig, BinOp, Plus, Meet, Less, FlatExpression, SigOf, Const as ConstOf, Unary, Binary, DelayOf, Cell, unary_row, binary_row, delay_row, cell_row, kind_of_result, stored, Found, AppliesToOne, delayed, held as held_value, kinds_of, Steps, Allows, IsMade, flat_kind, kind_numbered, found_at, Site, Made, Translated, own, next as next_signal, unary_form, signal_in, signal_id, binary, kind_at}
+use Rattle.sig_tree.specs.Operators.{Signal}
 use Rattle.sig_flat.proofs.Meeting.{one_row, delay_row as delay_equation}
 use Rattle.sig_flat.proofs.Agreeing.{Agree, agree_less, Fitting, Suits, suits as suits_over}
 use Rattle.sig_flat.proofs.Growing.{Grows, translate_grows}

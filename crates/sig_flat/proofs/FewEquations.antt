@@ -1,21 +1,6 @@
 -- A kernel has few equations beside its signals.
-use Rattle.std.proofs.Common.{◌≡◌, ◌++◌, ◌+◌, ◌*◌, ◌≤◌, ℕ, suc, ℤ, pos, List, [], ◌∷◌, length, Option, None, Some, refl, ap, arith}
-use Rattle.std.proofs.lemmas.List.{length-append}
-use Rattle.sig_base.specs.declared.ids.Kind.{Kind}
-use Rattle.sig_base.specs.declared.ids.Kind.TheVariants.{Boolean, Event}
-use Rattle.sig_base.specs.declared.ids.SigId.{SigId}
-use Rattle.sig_base.specs.declared.span.Span.{Span}
-use Rattle.sig_tree.specs.Sound.{flat_weight, flat_weights}
-use Rattle.sig_tree.specs.declared.expr.BinOp.{BinOp}
-use Rattle.sig_tree.specs.declared.expr.BinOp.TheVariants.{Default as DefaultOf, When as Sampled, Plus, Meet, Less, Or as OrOf, Xor as XorOf, And as AndOf, Eq as EqOf, Ne as NeOf, Lt as LtOf, Le as LeOf, Gt as GtOf, Ge as GeOf, Add as AddOf, Sub as SubOf, Mul as MulOf, Div as DivOf, Mod as ModOf}
-use Rattle.sig_tree.specs.FlatSyntax.{FlatExpression, Sig as SigOf, Const as ConstOf, Unary, Binary, Delay as DelayOf, Cell, FlatEquation, Defines, Equal, FlatBody}
-use Rattle.sig_tree.specs.Kinds.{unary_row, binary_row, kind_of_result, stored}
-use Rattle.sig_kernel.specs.declared.equation.FunOp.TheVariants.{Id, Not}
-use Rattle.sig_kernel.specs.declared.equation.Operand.{Operand}
-use Rattle.sig_kernel.specs.declared.equation.Operand.TheVariants.{Sig}
-use Rattle.sig_kernel.specs.declared.equation.Form.{Form}
-use Rattle.sig_kernel.specs.declared.equation.Form.TheVariants.{Fun, Delay, When, WhenConst, Default, Sync, Event as EventOf}
-use Rattle.sig_flat.specs.KernelOf.{Site, Made, Translated, Together, signal_id, signal_in, with_equation, with_signal, with_own, with_clocks, with_clock_equations, by_one, own, next, unary_form, binary_form, kind_at, cluster_at, plus, meet, less, binary, cell, translate, operands_from, with_syncs, with_all_syncs, with_flat_equation, with_flat_equations, made_of, kernel_of}
+use Rattle.sig_flat.proofs.Common.{◌≡◌, ◌++◌, ◌+◌, ◌*◌, ◌≤◌, ℕ, suc, ℤ, pos, List, [], ◌∷◌, length, Option, None, Some, refl, ap, arith, length-append, Kind, Boolean, Event, SigId, Span, flat_weight, flat_weights, BinOp, Default as DefaultOf, When as Sampled, Plus, Meet, Less, Or as OrOf, Xor as XorOf, And as AndOf, Eq as EqOf, Ne as NeOf, Lt as LtOf, Le as LeOf, Gt as GtOf, Ge as GeOf, Add as AddOf, Sub as SubOf, Mul as MulOf, Div as DivOf, Mod as ModOf, FlatExpression, SigOf, Const as ConstOf, Unary, Binary, DelayOf, Cell, FlatEquation, Defines, Equal, FlatBody, unary_row, binary_row, kind_of_result, stored, Id, Not, Operand, Sig, Form, Fun, Delay, WhenConst, Sync, EventOf, Site, Made, Translated, Together, signal_id, signal_in, with_equation, with_signal, with_own, with_clocks, with_clock_equations, by_one, own, next, unary_form, binary_form, kind_at, cluster_at, plus, meet, less, binary, cell, translate, operands_from, with_syncs, with_all_syncs, with_flat_equation, with_flat_equations, made_of, kernel_of}
+use Rattle.sig_kernel.specs.declared.equation.Form.TheVariants.{When, Default}
 
 -- at most two equations for each signal that was made, and so many more
 record Few (extra : ℕ) (a b : Made) : Type 0 where

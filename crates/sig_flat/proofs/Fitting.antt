@@ -1,28 +1,6 @@
 -- The equations of the kernel of a well-made flat body keep to the table of kinds. What is said of signals is
 -- said of the whole kernel's, which those made so far begin.
-use Rattle.std.proofs.Common.{◌≡◌, ◌++◌, ◌&&◌, ℕ, ℤ, Bool, true, false, List, [], ◌∷◌, length, Option, None, Some, refl, sym, ap, subst, ◌∙◌, append_assoc}
-use Rattle.std.proofs.lemmas.List.{append-nil}
-use Rattle.std.proofs.lemmas.List.Sums.{AllPass-from_list_all}
-use Rattle.std.specs.List.{AllByRecursion, AllPass, list_all}
-use Rattle.std.specs.Option.{unwrap_or}
-use Rattle.sig_base.specs.declared.ids.Kind.{Kind}
-use Rattle.sig_base.specs.declared.ids.Kind.TheVariants.{Integer, Boolean, Event}
-use Rattle.sig_base.specs.declared.ids.SigId.{SigId}
-use Rattle.sig_base.specs.declared.signal.Signal.{Signal}
-use Rattle.sig_base.specs.declared.span.Span.{Span}
-use Rattle.sig_base.specs.Traces.{Bounded, IsPrefixOf, IsValue}
-use Rattle.sig_tree.specs.WellMade.{kind_numbered, flat_kind, is_constant, Allows, MayBegin, IsMade, IsWhole, IsMadeEquation}
-use Rattle.sig_tree.specs.declared.expr.UnOp.{UnOp}
-use Rattle.sig_tree.specs.declared.expr.BinOp.{BinOp}
-use Rattle.sig_tree.specs.declared.expr.BinOp.TheVariants.{Default as DefaultOf, When as Sampled, Plus, Meet, Less, Or as OrOf, Xor as XorOf, And as AndOf, Eq as EqOf, Ne as NeOf, Lt as LtOf, Le as LeOf, Gt as GtOf, Ge as GeOf, Add as AddOf, Sub as SubOf, Mul as MulOf, Div as DivOf, Mod as ModOf}
-use Rattle.sig_tree.specs.FlatSyntax.{FlatExpression, Sig as SigOf, Const as ConstOf, Unary, Binary, Delay as DelayOf, Cell, FlatEquation, Defines, Equal, FlatBody}
-use Rattle.sig_tree.specs.Kinds.{FormRow, unary_row, binary_row, cell_row, delay_row, accepts, kind_of_result, merged, stored}
-use Rattle.sig_kernel.specs.declared.equation.Equation.{Equation}
-use Rattle.sig_kernel.specs.declared.equation.FunOp.TheVariants.{Id}
-use Rattle.sig_kernel.specs.declared.equation.Operand.TheVariants.{Sig}
-use Rattle.sig_kernel.specs.declared.equation.Form.TheVariants.{Fun, Delay, Sync}
-use Rattle.sig_kernel.specs.Table.{form_fits}
-use Rattle.sig_flat.specs.KernelOf.{Site, Made, Translated, Together, signal_id, signal_in, with_equation, with_signal, with_own, with_clocks, by_one, unary_form, binary_form, cluster_at, binary, cell, translate, operands_from, with_syncs, with_all_syncs, with_flat_equation, with_flat_equations, made_of, kernel_of}
+use Rattle.sig_flat.proofs.Common.{◌≡◌, ◌++◌, ◌&&◌, ℕ, ℤ, Bool, true, false, List, [], ◌∷◌, length, Option, None, Some, refl, sym, ap, subst, ◌∙◌, append_assoc, append-nil, AllPass-from_list_all, AllByRecursion, AllPass, list_all, unwrap_or, Kind, Integer, Boolean, Event, SigId, Signal, Span, Bounded, IsPrefixOf, IsValue, kind_numbered, flat_kind, is_constant, Allows, MayBegin, IsMade, IsWhole, IsMadeEquation, UnOp, BinOp, Default as DefaultOf, When as Sampled, Plus, Meet, Less, Or as OrOf, Xor as XorOf, And as AndOf, Eq as EqOf, Ne as NeOf, Lt as LtOf, Le as LeOf, Gt as GtOf, Ge as GeOf, Add as AddOf, Sub as SubOf, Mul as MulOf, Div as DivOf, Mod as ModOf, FlatExpression, SigOf, Const as ConstOf, Unary, Binary, DelayOf, Cell, FlatEquation, Defines, Equal, FlatBody, FormRow, unary_row, binary_row, cell_row, delay_row, accepts, kind_of_result, merged, stored, Equation, Id, Sig, Fun, Delay, Sync, form_fits, Site, Made, Translated, Together, signal_id, signal_in, with_equation, with_signal, with_own, with_clocks, by_one, unary_form, binary_form, cluster_at, binary, cell, translate, operands_from, with_syncs, with_all_syncs, with_flat_equation, with_flat_equations, made_of, kernel_of}
 use Rattle.sig_flat.proofs.Growing.{Grows, translate_grows, binary_grows, cell_grows, operands_grow, all_syncs_grow, equation_grows, equations_grow}
 use Rattle.sig_flat.proofs.NumberedKinds.{kind_stays, kind_as_made}
 use Rattle.sig_flat.proofs.FittingForms.{IsOperandOf, of_signal, of_constant, taken, unary_fits, id_fits, delay_fits}

@@ -1,24 +1,9 @@
 -- Forms whose operands have kinds that a row of the table takes.
-use Rattle.std.proofs.Common.{◌≡◌, ◌⊎◌, ◌++◌, ◌&&◌, ◌||◌, ℤ, pos, Bool, true, false, List, [], ◌∷◌, None, Some, refl, ap, ◌∙◌, inl, inr}
-use Rattle.std.proofs.lemmas.Bool.{false≢true}
-use Rattle.sig_base.proofs.TraceLemmas.{fits_by_test}
-use Rattle.sig_base.specs.declared.ids.Kind.{Kind}
-use Rattle.sig_base.specs.declared.ids.Kind.TheVariants.{Integer, Boolean, Event}
-use Rattle.sig_base.specs.declared.ids.SigId.{SigId}
-use Rattle.sig_base.specs.declared.signal.Signal.{Signal}
-use Rattle.sig_base.specs.Traces.{Bounded, IsValue}
-use Rattle.sig_tree.specs.declared.expr.UnOp.{UnOp}
-use Rattle.sig_tree.specs.declared.expr.UnOp.TheVariants.{Not as NotOf, Neg as NegOf, When as WhenOf, Clock}
-use Rattle.sig_tree.specs.Kinds.{Integers, Truths, Alike, AnyThenTruth, accepts, kind_of_result, merged, stored, unary_row, Takes}
-use Rattle.sig_kernel.specs.declared.equation.FunOp.{FunOp}
-use Rattle.sig_kernel.specs.declared.equation.FunOp.TheVariants.{Id, Neg, Not}
-use Rattle.sig_kernel.specs.declared.equation.Form.TheVariants.{Fun, Delay, When, WhenConst, Default, Event as EventOf}
-use Rattle.sig_kernel.specs.declared.equation.Operand.{Operand}
-use Rattle.sig_kernel.specs.declared.equation.Operand.TheVariants.{Sig, Const}
-use Rattle.sig_kernel.specs.declared.table.Sort.{Sort}
-use Rattle.sig_kernel.specs.declared.table.Sort.TheVariants.{Integer as AnInteger, Truth, Event as AnEvent, Any}
-use Rattle.sig_kernel.specs.Table.{Row, row, is_kind, kind_is, kind_fits, kind_at, constant_is, operand_is, keeps_to, keeps_to_one, function_rows, arithmetic, connective, comparison, equality, handed_on, handed_on_where, kept, merged as merged_rows, target_fits, form_fits}
-use Rattle.sig_flat.specs.KernelOf.{signal_in, unary_form}
+use Rattle.sig_flat.proofs.Common.{◌≡◌, ◌⊎◌, ◌++◌, ◌&&◌, ◌||◌, ℤ, pos, Bool, true, false, List, [], ◌∷◌, None, Some, refl, ap, ◌∙◌, inl, inr, false≢true, fits_by_test, Kind, Integer, Boolean, Event, SigId, Signal, Bounded, IsValue, UnOp, NotOf, Neg as NegOf, WhenOf, Clock, Integers, Truths, Alike, AnyThenTruth, accepts, kind_of_result, merged, stored, unary_row, Takes, FunOp, Id, Not, Fun, Delay, WhenConst, EventOf, Operand, Sig, Sort, AnInteger, Truth, AnEvent, Any, Row, row, is_kind, kind_is, kind_fits, constant_is, operand_is, keeps_to, keeps_to_one, function_rows, arithmetic, connective, comparison, equality, handed_on, handed_on_where, merged_rows, target_fits, form_fits, signal_in, unary_form}
+use Rattle.sig_kernel.specs.declared.equation.FunOp.TheVariants.{Neg}
+use Rattle.sig_kernel.specs.declared.equation.Form.TheVariants.{When, Default}
+use Rattle.sig_kernel.specs.declared.equation.Operand.TheVariants.{Const}
+use Rattle.sig_kernel.specs.Table.{kind_at, kept}
 
 -- an operand of a kind: a signal, or a constant that is a value of the kind
 pub data IsOperandOf (signals : List Signal) (kind : Kind) : Bool → Operand → Type 0 where

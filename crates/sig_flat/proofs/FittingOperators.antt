@@ -1,28 +1,8 @@
 -- The equations of operators keep to the table of kinds. What is said of signals is said of the whole kernel's,
 -- which those made so far begin.
-use Rattle.std.proofs.Common.{◌≡◌, ◌++◌, ℕ, suc, ℤ, pos, Bool, true, false, List, [], ◌∷◌, length, Option, None, Some, refl, sym, ap, subst, ◌∙◌, append_assoc, if◌then◌else◌}
-use Rattle.std.specs.Bool.{⊤}
-use Rattle.std.proofs.lemmas.Option.{none-some}
-use Rattle.std.specs.List.{AllByRecursion}
-use Rattle.std.specs.Option.{unwrap_or}
-use Rattle.sig_base.specs.declared.ids.Kind.{Kind}
-use Rattle.sig_base.specs.declared.ids.Kind.TheVariants.{Integer, Boolean, Event}
-use Rattle.sig_base.specs.declared.ids.SigId.{SigId}
-use Rattle.sig_base.specs.declared.signal.Signal.{Signal}
-use Rattle.sig_base.specs.declared.span.Span.{Span}
-use Rattle.sig_base.specs.Traces.{Bounded, IsPrefixOf, IsValue}
-use Rattle.sig_tree.specs.WellMade.{kind_numbered, Allows}
-use Rattle.sig_tree.specs.declared.expr.BinOp.{BinOp}
-use Rattle.sig_tree.specs.declared.expr.BinOp.TheVariants.{Default as DefaultOf, When as Sampled, Plus, Meet, Less, Or as OrOf, Xor as XorOf, And as AndOf, Eq as EqOf, Ne as NeOf, Lt as LtOf, Le as LeOf, Gt as GtOf, Ge as GeOf, Add as AddOf, Sub as SubOf, Mul as MulOf, Div as DivOf, Mod as ModOf}
-use Rattle.sig_tree.specs.Kinds.{FormRow, binary_row, accepts, kind_of_result, merged, unary_kind, binary_kind, stored, Alike, AnyThenTruth}
-use Rattle.sig_kernel.specs.declared.equation.Equation.{Equation}
-use Rattle.sig_kernel.specs.declared.equation.FunOp.TheVariants.{Not}
-use Rattle.sig_kernel.specs.declared.equation.Operand.{Operand}
-use Rattle.sig_kernel.specs.declared.equation.Operand.TheVariants.{Sig}
-use Rattle.sig_kernel.specs.declared.equation.Form.{Form}
-use Rattle.sig_kernel.specs.declared.equation.Form.TheVariants.{Fun, Delay, When, WhenConst, Default, Sync, Event as EventOf}
-use Rattle.sig_kernel.specs.Table.{kind_at, form_fits}
-use Rattle.sig_flat.specs.KernelOf.{Site, Made, Translated, signal_id, signal_in, with_equation, with_signal, with_own, with_clocks, with_clock_equations, by_one, own, next, binary_form, plus, meet, less, cell}
+use Rattle.sig_flat.proofs.Common.{◌≡◌, ◌++◌, ℕ, suc, ℤ, pos, Bool, true, false, List, [], ◌∷◌, length, Option, None, Some, refl, sym, ap, subst, ◌∙◌, append_assoc, if◌then◌else◌, ⊤, none-some, AllByRecursion, unwrap_or, Kind, Integer, Boolean, Event, SigId, Signal, Span, Bounded, IsPrefixOf, IsValue, kind_numbered, Allows, BinOp, Default as DefaultOf, When as Sampled, Plus, Meet, Less, Or as OrOf, Xor as XorOf, And as AndOf, Eq as EqOf, Ne as NeOf, Lt as LtOf, Le as LeOf, Gt as GtOf, Ge as GeOf, Add as AddOf, Sub as SubOf, Mul as MulOf, Div as DivOf, Mod as ModOf, FormRow, binary_row, accepts, kind_of_result, merged, unary_kind, binary_kind, stored, Alike, AnyThenTruth, Equation, Not, Operand, Sig, Form, Fun, Delay, WhenConst, Sync, EventOf, form_fits, Site, Made, Translated, signal_id, signal_in, with_equation, with_signal, with_own, with_clocks, with_clock_equations, by_one, own, next, binary_form, plus, meet, less, cell}
+use Rattle.sig_kernel.specs.declared.equation.Form.TheVariants.{When, Default}
+use Rattle.sig_kernel.specs.Table.{kind_at}
 use Rattle.sig_flat.proofs.Growing.{Grows, own_grows}
 use Rattle.sig_flat.proofs.NumberedKinds.{kind_stays, kind_added, kind_in_kernel}
 use Rattle.sig_flat.proofs.FittingForms.{IsOperandOf, of_signal, of_constant, takes, takes_itself, takes_stored, event_fits, when_fits, when_const_fits, default_fits, delay_fits, arithmetic_fits, comparison_fits, connective_fits, equality_fits, not_fits, second_truth}

@@ -1,22 +1,5 @@
 -- A translation adds signals behind those that are there.
-use Rattle.std.proofs.Common.{◌≡◌, ◌++◌, ℕ, ℤ, List, [], ◌∷◌, Option, None, Some, refl, sym, ap, ◌∙◌, append_assoc}
-use Rattle.std.proofs.lemmas.List.{append-nil}
-use Rattle.sig_base.specs.declared.ids.Kind.{Kind}
-use Rattle.sig_base.specs.declared.ids.Kind.TheVariants.{Boolean, Event}
-use Rattle.sig_base.specs.declared.ids.SigId.{SigId}
-use Rattle.sig_base.specs.declared.signal.Signal.{Signal}
-use Rattle.sig_base.specs.declared.span.Span.{Span}
-use Rattle.sig_base.specs.Traces.{IsPrefixOf}
-use Rattle.sig_tree.specs.declared.expr.BinOp.{BinOp}
-use Rattle.sig_tree.specs.declared.expr.BinOp.TheVariants.{Default, When, Plus, Meet, Less, Or, Xor, And, Eq, Ne, Lt, Le, Gt, Ge, Add, Sub, Mul, Div, Mod}
-use Rattle.sig_tree.specs.FlatSyntax.{FlatExpression, Sig as SigOf, Const as ConstOf, Unary, Binary, Delay as DelayOf, Cell, FlatEquation, Defines, Equal, FlatBody}
-use Rattle.sig_kernel.specs.declared.equation.Form.{Form}
-use Rattle.sig_kernel.specs.declared.equation.Form.TheVariants.{Fun, Delay}
-use Rattle.sig_kernel.specs.declared.equation.FunOp.TheVariants.{Id}
-use Rattle.sig_kernel.specs.declared.equation.Operand.{Operand}
-use Rattle.sig_kernel.specs.declared.equation.Operand.TheVariants.{Sig}
-use Rattle.sig_tree.specs.Kinds.{stored, unary_row, binary_row, kind_of_result}
-use Rattle.sig_flat.specs.KernelOf.{Site, Made, Translated, Together, with_signal, with_equation, with_own, with_clocks, by_one, unary_form, binary_form, kind_at, signal_in, signal_id, plus, meet, less, binary, cell, translate, operands_from, with_syncs, with_all_syncs, with_flat_equation, with_flat_equations, made_of}
+use Rattle.sig_flat.proofs.Common.{◌≡◌, ◌++◌, ℕ, ℤ, List, [], ◌∷◌, Option, None, Some, refl, sym, ap, ◌∙◌, append_assoc, append-nil, Kind, Boolean, Event, SigId, Signal, Span, IsPrefixOf, BinOp, Default, When, Plus, Meet, Less, Or, Xor, And, Eq, Ne, Lt, Le, Gt, Ge, Add, Sub, Mul, Div, Mod, FlatExpression, SigOf, Const as ConstOf, Unary, Binary, DelayOf, Cell, FlatEquation, Defines, Equal, FlatBody, Form, Fun, Delay, Id, Operand, Sig, stored, unary_row, binary_row, kind_of_result, Site, Made, Translated, Together, with_signal, with_equation, with_own, with_clocks, by_one, unary_form, binary_form, kind_at, signal_in, signal_id, plus, meet, less, binary, cell, translate, operands_from, with_syncs, with_all_syncs, with_flat_equation, with_flat_equations, made_of}
 
 pub record Grows (before after : Made) : Type 0 where
   pub more : List Signal

@@ -1,17 +1,6 @@
 -- The traces of a kernel, one instant at a time: behind an instant, each delay begins with what it keeps there.
-use Rattle.std.proofs.Common.{◌≡◌, ◌↔◌, ◌++◌, ℤ, List, [], ◌∷◌, None, Some, map, refl, sym, ap, subst, ◌∙◌}
-use Rattle.std.specs.Prelude.{option_to_list}
-use Rattle.std.specs.List.{AllByRecursion}
-use Rattle.sig_base.specs.declared.ids.Kind.{Kind}
-use Rattle.sig_base.specs.Traces.{Seen, Instant, Trace, Bounded, AreOfKinds, seen_at, flow_of}
-use Rattle.sig_kernel.specs.KernelTraces.{Memory, Meets, last_of, remembered, where_present, IsKernelTrace}
-use Rattle.sig_kernel.specs.declared.equation.Equation.{Equation}
-use Rattle.sig_kernel.specs.declared.equation.Form.{Form}
-use Rattle.sig_kernel.specs.declared.equation.Form.TheVariants.{Fun, Delay, When, WhenConst, Default, Sync, Event as EventOf}
-use Rattle.sig_kernel.specs.declared.kernel.Kernel.{Kernel}
-use Rattle.sig_tree.specs.Steps.{kept}
-use Rattle.sig_tree.specs.ProcessTraces.{kinds_of}
-use Rattle.sig_flat.specs.KernelOf.{Made, Translated}
+use Rattle.sig_flat.proofs.Common.{◌≡◌, ◌↔◌, ◌++◌, ℤ, List, [], ◌∷◌, None, Some, map, refl, sym, ap, subst, ◌∙◌, option_to_list, AllByRecursion, Kind, Seen, Instant, Trace, Bounded, AreOfKinds, seen_at, flow_of, Memory, Meets, last_of, remembered, where_present, IsKernelTrace, Equation, Form, Fun, Delay, WhenConst, Sync, EventOf, Kernel, kept, kinds_of, Made, Translated}
+use Rattle.sig_kernel.specs.declared.equation.Form.TheVariants.{When, Default}
 
 -- what delays remember where nothing was before: their initial values
 abbrev pub at_first : Memory

@@ -1,22 +1,7 @@
 -- What an expression is at an instant is of the expression's kind, and behind the instant it is as well made.
-use Rattle.std.proofs.Common.{◌≡◌, ℤ, pos, Bool, true, false, List, [], ◌∷◌, Option, None, Some, length, if◌then◌else◌, refl, sym, ap, subst, ◌∙◌, inl, inr}
-use Rattle.std.specs.Prelude.{FitsSigned}
-use Rattle.std.specs.Int.{w64}
-use Rattle.sig_base.specs.declared.ids.Kind.{Kind}
-use Rattle.sig_base.specs.declared.ids.Kind.TheVariants.{Integer, Boolean, Event}
-use Rattle.sig_base.specs.declared.signal.Signal.{Signal as Declared}
-use Rattle.sig_base.specs.Functions.{Function, Negative, Not as FunctionNot, And as FunctionAnd, Or as FunctionOr, Xor as FunctionXor, Equal, NotEqual, Less as FunctionLess, LessEqual, Greater, GreaterEqual, Sum, Difference, Product, Quotient, Remainder, Gives, Tells}
-use Rattle.sig_base.specs.Traces.{Seen, Instant, Bounded, IsValue, IsOfKind}
-use Rattle.sig_tree.specs.declared.expr.UnOp.{UnOp}
-use Rattle.sig_tree.specs.declared.expr.UnOp.TheVariants.{Not as NotOf, Neg as NegOf, When as WhenOf, Clock}
-use Rattle.sig_tree.specs.declared.expr.BinOp.{BinOp}
-use Rattle.sig_tree.specs.declared.expr.BinOp.TheVariants.{Default as DefaultOf, When as Sampled, Plus, Meet, Less, Or as OrOf, Xor as XorOf, And as AndOf, Eq as EqOf, Ne as NeOf, Lt as LtOf, Le as LeOf, Gt as GtOf, Ge as GeOf, Add as AddOf, Sub as SubOf, Mul as MulOf, Div as DivOf, Mod as ModOf}
-use Rattle.sig_tree.specs.FlatSyntax.{FlatExpression, Sig as SigOf, Const as ConstOf, Unary, Binary, Delay as DelayOf, Cell}
-use Rattle.sig_tree.specs.Kinds.{FormRow, Alike, unary_row, binary_row, delay_row, cell_row, unary_kind, binary_kind, accepts, kind_of_result, stored, merged as merged_kind}
-use Rattle.sig_tree.specs.Operators.{Operand as Found, Signal, Constant, AppliesToOne, AppliesToBoth, Changes, Combines, sampled, merged, clock_of, both_of, without, delayed, held as held_value, is_true}
-use Rattle.sig_tree.specs.Steps.{Steps, kept}
-use Rattle.sig_tree.specs.WellMade.{flat_kind, is_constant, IsMade, MayBegin}
-use Rattle.sig_flat.specs.KernelOf.{place_of}
+use Rattle.sig_flat.proofs.Common.{◌≡◌, ℤ, pos, Bool, true, false, List, [], ◌∷◌, Option, None, Some, length, if◌then◌else◌, refl, sym, ap, subst, ◌∙◌, inl, inr, FitsSigned, w64, Kind, Integer, Boolean, Event, Signal as Declared, Function, Negative, FunctionNot, FunctionAnd, FunctionOr, FunctionXor, NotEqual, FunctionLess, LessEqual, Greater, GreaterEqual, Sum, Difference, Product, Quotient, Remainder, Gives, Tells, Seen, Instant, Bounded, IsValue, IsOfKind, UnOp, NotOf, Neg as NegOf, WhenOf, Clock, BinOp, Default as DefaultOf, When as Sampled, Plus, Meet, Less, Or as OrOf, Xor as XorOf, And as AndOf, Eq as EqOf, Ne as NeOf, Lt as LtOf, Le as LeOf, Gt as GtOf, Ge as GeOf, Add as AddOf, Sub as SubOf, Mul as MulOf, Div as DivOf, Mod as ModOf, FlatExpression, SigOf, Const as ConstOf, Unary, Binary, DelayOf, Cell, FormRow, Alike, unary_row, binary_row, delay_row, cell_row, unary_kind, binary_kind, accepts, kind_of_result, stored, merged as merged_kind, Found, Constant, AppliesToOne, AppliesToBoth, Changes, Combines, sampled, clock_of, both_of, without, delayed, held as held_value, is_true, Steps, kept, flat_kind, is_constant, IsMade, MayBegin, place_of}
+use Rattle.sig_base.specs.Functions.{Equal}
+use Rattle.sig_tree.specs.Operators.{Signal, merged}
 use Rattle.sig_flat.proofs.Agreeing.{Suits, Agree}
 
 abbrev pub HasKind : Kind → Found → Type 0

@@ -1,3 +1,4 @@
+pub mod Common
 mod Adding
 mod Agreeing
 mod Applying
@@ -32,3 +33,19 @@ mod Tracing
 mod Translating
 mod Validating
 mod WellMadeNames
+pub use Common.*
+pub use Binaries.*
+pub use FewEquations.*
+pub use Growing.*
+pub use Meeting.*
+pub use Naming.*
+pub use Parts.*
+pub use Reading.*
+pub use Restricting.*
+pub use SignalNames.*
+pub use Sizes.*
+pub use Speaking.*
+pub use Stepping.*
+pub use Tracing.*
+pub use Validating.*
+pub use Rattle.sig_flat.proofs.Meeting.{cell_row, delay_row}

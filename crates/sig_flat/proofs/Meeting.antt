@@ -1,19 +1,8 @@
 -- An instant meets the equations of an operator exactly where the operator is what it has to be.
-use Rattle.std.proofs.Common.{◌≡◌, ◌↔◌, ◌||◌, ℤ, pos, true, [], ◌∷◌, Some, is_some, refl, sym, ap, ◌∙◌}
-use Rattle.sig_base.specs.declared.ids.Kind.TheVariants.{Integer}
-use Rattle.sig_base.specs.declared.ids.SigId.{SigId}
-use Rattle.sig_base.specs.Traces.{Bounded, Instant, IsOfKind, seen_at}
-use Rattle.sig_kernel.specs.KernelTraces.{Meets, Memory, function_of, where_present, where_true, or_else}
-use Rattle.sig_kernel.specs.Validity.{is_signal}
-use Rattle.sig_kernel.specs.declared.equation.Form.TheVariants.{Default, Delay, Event, Fun, Sync, When, WhenConst}
-use Rattle.sig_kernel.specs.declared.equation.FunOp.{FunOp}
-use Rattle.sig_kernel.specs.declared.equation.FunOp.TheVariants.{Not}
-use Rattle.sig_kernel.specs.declared.equation.Operand.{Operand}
-use Rattle.sig_kernel.specs.declared.equation.Operand.TheVariants.{Sig, Const}
-use Rattle.sig_tree.specs.declared.expr.BinOp.TheVariants.{Default as DefaultOf, Less, Meet, Plus, When as Sampled}
-use Rattle.sig_tree.specs.declared.expr.UnOp.TheVariants.{Clock}
-use Rattle.sig_tree.specs.Operators.{AppliesToBoth, AppliesToOne, Changes, Combines, Constant, Signal, clock_of, delayed, held, merged, sampled}
-use Rattle.sig_flat.specs.Rows.{AreMet, found_at}
+use Rattle.sig_flat.proofs.Common.{◌≡◌, ◌↔◌, ◌||◌, ℤ, pos, true, [], ◌∷◌, Some, is_some, refl, sym, ap, ◌∙◌, Integer, SigId, Bounded, Instant, IsOfKind, seen_at, Meets, Memory, function_of, where_present, where_true, or_else, is_signal, Delay, Fun, Sync, WhenConst, FunOp, Not, Operand, Sig, Default as DefaultOf, Less, Meet, Plus, When as Sampled, Clock, AppliesToBoth, AppliesToOne, Changes, Combines, Constant, clock_of, delayed, held, sampled, AreMet, found_at}
+use Rattle.sig_kernel.specs.declared.equation.Form.TheVariants.{Default, Event, When}
+use Rattle.sig_kernel.specs.declared.equation.Operand.TheVariants.{Const}
+use Rattle.sig_tree.specs.Operators.{Signal, merged}
 use Rattle.sig_flat.proofs.Applying.{one_to, one_from, both_to, both_from, first_to, first_from, second_to, second_from, not_to, not_from}
 use Rattle.sig_flat.proofs.Operating.{when_is, clock_is, merge_is, delay_is, plus_is, meet_is, less_is, cell_to, cell_value, cell_present}
 

@@ -1,13 +1,6 @@
 -- Kinds of signals by their numbers.
-use Rattle.std.proofs.Common.{◌≡◌, ◌++◌, ◌<◌, ℕ, zero, suc, List, [], ◌∷◌, length, Option, None, Some, refl, ap, ◌∙◌, arith}
-use Rattle.std.proofs.lemmas.Option.{none-some}
-use Rattle.std.specs.List.{slice_get}
-use Rattle.std.specs.Option.{option_map, unwrap_or}
-use Rattle.sig_base.specs.declared.ids.Kind.{Kind}
-use Rattle.sig_base.specs.declared.signal.Signal.{Signal}
-use Rattle.sig_tree.specs.WellMade.{kind_numbered}
-use Rattle.sig_kernel.specs.Table.{kind_of, kind_at}
-use Rattle.sig_flat.specs.KernelOf.{signal_id, kind_at as kind_made}
+use Rattle.sig_flat.proofs.Common.{◌≡◌, ◌++◌, ◌<◌, ℕ, zero, suc, List, [], ◌∷◌, length, Option, None, Some, refl, ap, ◌∙◌, arith, none-some, slice_get, option_map, unwrap_or, Kind, Signal, kind_numbered, kind_of, signal_id, kind_at as kind_made}
+use Rattle.sig_kernel.specs.Table.{kind_at}
 
 -- the kind of a number stays as signals are added
 pub kind_stays : (signals more : List Signal) (number : ℕ) (kind : Kind)

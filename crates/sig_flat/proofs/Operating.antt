@@ -1,9 +1,6 @@
 -- The equations of an operator say what the operator says.
-use Rattle.std.proofs.Common.{◌≡◌, ℤ, pos, Bool, true, false, None, Some, is_some, if◌then◌else◌, refl}
-use Rattle.std.specs.Ordering.{int_eq}
-use Rattle.sig_base.specs.Traces.{Seen}
-use Rattle.sig_kernel.specs.KernelTraces.{where_present, where_true, or_else}
-use Rattle.sig_tree.specs.Operators.{sampled, merged, clock_of, either_of, both_of, without, delayed, held}
+use Rattle.sig_flat.proofs.Common.{◌≡◌, ℤ, pos, Bool, true, false, None, Some, is_some, if◌then◌else◌, refl, int_eq, Seen, where_present, where_true, or_else, sampled, clock_of, either_of, both_of, without, delayed, held}
+use Rattle.sig_tree.specs.Operators.{merged}
 
 pub when_is : (b x : Seen) → where_true b x ≡ sampled x b
 when_is None x = refl

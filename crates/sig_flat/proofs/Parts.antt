@@ -1,10 +1,5 @@
 -- The parts of a kernel.
-use Rattle.std.proofs.Common.{◌≡◌, ◌≤◌, ◌<◌, ◌+◌, ◌^◌, [], length, take, ap, ◌∙◌}
-use Rattle.std.proofs.lemmas.List.{take-append-le}
-use Rattle.sig_base.specs.declared.limits.TheConstants.{SIGNALS}
-use Rattle.sig_tree.specs.FlatSyntax.{FlatBody}
-use Rattle.sig_kernel.specs.Validity.{HasParts, inputs_of}
-use Rattle.sig_flat.specs.KernelOf.{kernel_of}
+use Rattle.sig_flat.proofs.Common.{◌≡◌, ◌≤◌, ◌<◌, ◌+◌, ◌^◌, [], length, take, ap, ◌∙◌, take-append-le, SIGNALS, FlatBody, HasParts, inputs_of, kernel_of}
 use Rattle.sig_flat.proofs.Growing.{begins}
 use Rattle.sig_flat.proofs.Sizes.{equations_no_less}
 

@@ -1,18 +1,6 @@
 -- Instants that meet the equations of a flat body's translation.
-use Rattle.std.proofs.Common.{◌≡◌, ◌≤◌, ◌<◌, ℕ, zero, suc, Bool, false, List, [], ◌∷◌, None, Some, is_some, length, refl, sym, ap, subst, ◌∙◌, arith}
-use Rattle.std.specs.List.{AllByRecursion}
-use Rattle.sig_base.specs.declared.ids.Kind.{Kind}
-use Rattle.sig_base.specs.declared.ids.SigId.{SigId}
-use Rattle.sig_base.specs.declared.signal.Signal.{Signal as Declared}
-use Rattle.sig_base.specs.declared.span.Span.{Span}
-use Rattle.sig_base.specs.Traces.{Seen, Instant, Bounded, AreOfKinds, seen_at}
-use Rattle.sig_tree.specs.FlatSyntax.{FlatExpression, FlatEquation, Defines, Equal}
-use Rattle.sig_tree.specs.Operators.{Operand as Found, Signal}
-use Rattle.sig_tree.specs.ProcessTraces.{kinds_of}
-use Rattle.sig_tree.specs.Steps.{Steps, EquationSteps, BodySteps}
-use Rattle.sig_tree.specs.WellMade.{IsWhole, IsMadeEquation, kind_numbered}
-use Rattle.sig_flat.specs.Rows.{found_at}
-use Rattle.sig_flat.specs.KernelOf.{Site, Made, Translated, Together, next as next_signal, signal_in, place_of, with_all_syncs}
+use Rattle.sig_flat.proofs.Common.{◌≡◌, ◌≤◌, ◌<◌, ℕ, zero, suc, Bool, false, List, [], ◌∷◌, None, Some, is_some, length, refl, sym, ap, subst, ◌∙◌, arith, AllByRecursion, Kind, SigId, Signal as Declared, Span, Seen, Instant, Bounded, AreOfKinds, seen_at, FlatExpression, FlatEquation, Defines, Equal, Found, kinds_of, Steps, EquationSteps, BodySteps, IsWhole, IsMadeEquation, kind_numbered, found_at, Site, Made, Translated, Together, next as next_signal, signal_in, place_of, with_all_syncs}
+use Rattle.sig_tree.specs.Operators.{Signal}
 use Rattle.sig_flat.proofs.Agreeing.{Agree, agree_less, Fitting, Suits}
 use Rattle.sig_flat.proofs.Instants.{behind_made}
 use Rattle.sig_flat.proofs.Kinded.{stays_made, steps_same}

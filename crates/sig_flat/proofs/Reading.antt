@@ -1,8 +1,5 @@
 -- The kind and the cluster of the signal of a number.
-use Rattle.std.proofs.Common.{◌≡◌, ◌<◌, ◌≤◌, ℕ, zero, suc, List, [], ◌∷◌, length, get_or, refl, ap, arith}
-use Rattle.sig_base.specs.declared.ids.Kind.TheVariants.{Integer}
-use Rattle.sig_base.specs.declared.signal.Signal.{Signal}
-use Rattle.sig_flat.specs.KernelOf.{kind_at, cluster_at}
+use Rattle.sig_flat.proofs.Common.{◌≡◌, ◌<◌, ◌≤◌, ℕ, zero, suc, List, [], ◌∷◌, length, get_or, refl, ap, arith, Integer, Signal, kind_at, cluster_at}
 
 pub kind_here : (signals : List Signal) (n : ℕ) (s : Signal) → n < length signals → s ≡ get_or signals n s → s.kind ≡ kind_at signals n
 kind_here [] n s h e = let m : n < 0 = h in absurd (omega arith)

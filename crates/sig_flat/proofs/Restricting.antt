@@ -1,17 +1,5 @@
 -- Lemmas on traces of a kernel without its intermediates.
-use Rattle.std.proofs.Common.{◌≡◌, ◌≤◌, ◌<◌, ◌+◌, ◌-◌, ◌++◌, ◌↔◌, ℕ, zero, suc, ℤ, min, Bool, true, false, List, [], ◌∷◌, length, take, drop, map, replicate, refl, ap, sym, subst, ◌∙◌, arith, append_assoc}
-use Rattle.std.specs.Prelude.{Option, None, Some, option_to_list, slice_index_or}
-use Rattle.std.specs.List.{AllByRecursion}
-use Rattle.std.proofs.lemmas.List.{append-nil, drop-take, get_or-take, length-append, length-map, length-replicate, length-take, length-take-le, take-append-drop, take-replicate, take_at}
-use Rattle.sig_base.specs.Traces.{Trace, Instant, Seen, Range, Bounded, AreOfKinds, Fits, IsLongest, IsPrefixOf, NoneSilent, flow_of, is_silent, reduce, seen_at}
-use Rattle.sig_base.specs.declared.signal.Signal.{Signal}
-use Rattle.sig_flat.specs.KernelOf.{kernel_of}
-use Rattle.sig_flat.specs.Restricted.{restricted}
-use Rattle.sig_kernel.specs.KernelTraces.{IsKernelTrace}
-use Rattle.sig_kernel.specs.OutputText.{instant_text, output_text, outputs_of, seen_line, seen_lines}
-use Rattle.sig_kernel.specs.declared.kernel.Kernel.{Kernel}
-use Rattle.sig_tree.specs.FlatSyntax.{FlatBody}
-use Rattle.sig_tree.specs.ProcessTraces.{IsProcessTrace}
+use Rattle.sig_flat.proofs.Common.{◌≡◌, ◌≤◌, ◌<◌, ◌+◌, ◌-◌, ◌++◌, ◌↔◌, ℕ, zero, suc, ℤ, min, Bool, true, false, List, [], ◌∷◌, length, take, drop, map, replicate, refl, ap, sym, subst, ◌∙◌, arith, append_assoc, Option, None, Some, option_to_list, slice_index_or, AllByRecursion, append-nil, drop-take, get_or-take, length-append, length-map, length-replicate, length-take, length-take-le, take-append-drop, take-replicate, take_at, Trace, Instant, Seen, Range, Bounded, AreOfKinds, Fits, IsLongest, IsPrefixOf, NoneSilent, flow_of, is_silent, reduce, seen_at, Signal, kernel_of, restricted, IsKernelTrace, instant_text, output_text, outputs_of, seen_line, seen_lines, Kernel, FlatBody, IsProcessTrace}
 
 -- what is known of the traces of a kernel
 pub record Known (flat : FlatBody) : Type 0 where

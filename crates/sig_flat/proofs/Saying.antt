@@ -1,30 +1,9 @@
 -- What an instant that meets the equations of an expression makes of the expression.
-use Rattle.std.proofs.Common.{◌≡◌, ◌↔◌, ◌&&◌, ◌||◌, ℕ, suc, ℤ, pos, true, false, List, [], ◌∷◌, Option, None, Some, map, refl, sym, ap, subst, ◌∙◌}
-use Rattle.sig_base.specs.declared.ids.Kind.{Kind}
-use Rattle.sig_base.specs.declared.ids.Kind.TheVariants.{Boolean, Event}
-use Rattle.sig_base.specs.declared.ids.SigId.{SigId}
-use Rattle.sig_base.specs.declared.signal.Signal.{Signal as Declared}
-use Rattle.sig_base.specs.declared.span.Span.{Span}
-use Rattle.sig_base.specs.Functions.{Identity}
-use Rattle.sig_base.specs.Traces.{Seen, Instant, Bounded, seen_at}
-use Rattle.sig_kernel.specs.KernelTraces.{Memory, Meets}
-use Rattle.sig_kernel.specs.Validity.{is_signal}
-use Rattle.sig_kernel.specs.declared.equation.Form.{Form}
-use Rattle.sig_kernel.specs.declared.equation.Form.TheVariants.{Fun, Delay, When, WhenConst, Default, Sync, Event as EventOf}
-use Rattle.sig_kernel.specs.declared.equation.FunOp.TheVariants.{Id, Neg, Not, And, Or, Xor, Eq, Ne, Lt, Le, Gt, Ge, Add, Sub, Mul, Div, Mod}
-use Rattle.sig_kernel.specs.declared.equation.Operand.{Operand}
-use Rattle.sig_kernel.specs.declared.equation.Operand.TheVariants.{Sig, Const}
-use Rattle.sig_tree.specs.declared.expr.UnOp.{UnOp}
-use Rattle.sig_tree.specs.declared.expr.UnOp.TheVariants.{Not as NotOf, Neg as NegOf, When as WhenOf, Clock}
-use Rattle.sig_tree.specs.declared.expr.BinOp.{BinOp}
-use Rattle.sig_tree.specs.declared.expr.BinOp.TheVariants.{Default as DefaultOf, When as Sampled, Plus, Meet, Less, Or as OrOf, Xor as XorOf, And as AndOf, Eq as EqOf, Ne as NeOf, Lt as LtOf, Le as LeOf, Gt as GtOf, Ge as GeOf, Add as AddOf, Sub as SubOf, Mul as MulOf, Div as DivOf, Mod as ModOf}
-use Rattle.sig_tree.specs.FlatSyntax.{FlatExpression, Sig as SigOf, Const as ConstOf, Unary, Binary, Delay as DelayOf, Cell}
-use Rattle.sig_tree.specs.Kinds.{unary_row, binary_row, kind_of_result, stored}
-use Rattle.sig_tree.specs.Operators.{AppliesToOne, Changes, Combines, Signal, clock_of, held as held_value}
-use Rattle.sig_tree.specs.Steps.{Steps, kept}
-use Rattle.sig_tree.specs.WellMade.{Allows, IsMade}
-use Rattle.sig_flat.specs.Rows.{AreMet, found_at}
-use Rattle.sig_flat.specs.KernelOf.{Site, Made, Translated, with_signal, with_equation, with_own, with_clocks, own, next as next_signal, by_one, unary_form, binary_form, signal_in, signal_id, made_signal, less, binary, cell}
+use Rattle.sig_flat.proofs.Common.{◌≡◌, ◌↔◌, ◌&&◌, ◌||◌, ℕ, suc, ℤ, pos, true, false, List, [], ◌∷◌, Option, None, Some, map, refl, sym, ap, subst, ◌∙◌, Kind, Boolean, Event, SigId, Signal as Declared, Span, Identity, Seen, Instant, Bounded, seen_at, Memory, Meets, is_signal, Form, Fun, Delay, WhenConst, Sync, EventOf, Id, Not, Operand, Sig, UnOp, NotOf, Neg as NegOf, WhenOf, Clock, BinOp, Default as DefaultOf, When as Sampled, Plus, Meet, Less, Or as OrOf, Xor as XorOf, And as AndOf, Eq as EqOf, Ne as NeOf, Lt as LtOf, Le as LeOf, Gt as GtOf, Ge as GeOf, Add as AddOf, Sub as SubOf, Mul as MulOf, Div as DivOf, Mod as ModOf, FlatExpression, SigOf, Const as ConstOf, Unary, Binary, DelayOf, Cell, unary_row, binary_row, kind_of_result, stored, AppliesToOne, Changes, Combines, clock_of, held as held_value, Steps, kept, Allows, IsMade, AreMet, found_at, Site, Made, Translated, with_signal, with_equation, with_own, with_clocks, own, next as next_signal, by_one, unary_form, binary_form, signal_in, signal_id, made_signal, less, binary, cell}
+use Rattle.sig_kernel.specs.declared.equation.Form.TheVariants.{When, Default}
+use Rattle.sig_kernel.specs.declared.equation.FunOp.TheVariants.{Neg, And, Or, Xor, Eq, Ne, Lt, Le, Gt, Ge, Add, Sub, Mul, Div, Mod}
+use Rattle.sig_kernel.specs.declared.equation.Operand.TheVariants.{Const}
+use Rattle.sig_tree.specs.Operators.{Signal}
 use Rattle.sig_flat.proofs.Meeting.{one_row, both_row, delay_row, when_row, constant_row, default_row, clock_row, plus_row, meet_row, less_row, cell_row}
 use Rattle.sig_flat.proofs.Agreeing.{Fitting}
 use Rattle.sig_flat.proofs.Instants.{at_first, behind_form, behind_made, behind_translated}

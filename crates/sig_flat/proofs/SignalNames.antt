@@ -1,17 +1,5 @@
 -- The signals of a kernel have names wherever those of the flat body and the intermediates of its operators have.
-use Rattle.std.proofs.Common.{◌≡◌, ◌++◌, ℕ, ℤ, List, [], ◌∷◌, Option, None, Some}
-use Rattle.std.specs.List.{AllByRecursion}
-use Rattle.sig_base.specs.declared.ids.Kind.{Kind}
-use Rattle.sig_base.specs.declared.ids.Kind.TheVariants.{Boolean, Event}
-use Rattle.sig_base.specs.declared.ids.SigId.{SigId}
-use Rattle.sig_base.specs.declared.signal.Signal.{Signal}
-use Rattle.sig_base.specs.declared.span.Span.{Span}
-use Rattle.sig_tree.specs.SignalNames.{IsSignalName, placed_name, AtOperators, NamesOperators}
-use Rattle.sig_tree.specs.declared.expr.BinOp.{BinOp}
-use Rattle.sig_tree.specs.declared.expr.BinOp.TheVariants.{Default as DefaultOf, When as Sampled, Plus, Meet, Less, Or as OrOf, Xor as XorOf, And as AndOf, Eq as EqOf, Ne as NeOf, Lt as LtOf, Le as LeOf, Gt as GtOf, Ge as GeOf, Add as AddOf, Sub as SubOf, Mul as MulOf, Div as DivOf, Mod as ModOf}
-use Rattle.sig_tree.specs.FlatSyntax.{FlatExpression, Sig as SigOf, Const as ConstOf, Unary, Binary, Delay as DelayOf, Cell, FlatEquation, Defines, Equal, FlatBody}
-use Rattle.sig_tree.specs.Kinds.{unary_row, binary_row, kind_of_result, stored}
-use Rattle.sig_flat.specs.KernelOf.{Site, Made, Translated, Together, with_signal, with_own, with_clocks, binary, cell, cluster_at, translate, operands_from, with_syncs, with_all_syncs, with_flat_equation, with_flat_equations, kernel_of}
+use Rattle.sig_flat.proofs.Common.{◌≡◌, ◌++◌, ℕ, ℤ, List, [], ◌∷◌, Option, None, Some, AllByRecursion, Kind, Boolean, Event, SigId, Signal, Span, IsSignalName, placed_name, AtOperators, NamesOperators, BinOp, Default as DefaultOf, When as Sampled, Plus, Meet, Less, Or as OrOf, Xor as XorOf, And as AndOf, Eq as EqOf, Ne as NeOf, Lt as LtOf, Le as LeOf, Gt as GtOf, Ge as GeOf, Add as AddOf, Sub as SubOf, Mul as MulOf, Div as DivOf, Mod as ModOf, FlatExpression, SigOf, Const as ConstOf, Unary, Binary, DelayOf, Cell, FlatEquation, Defines, Equal, FlatBody, unary_row, binary_row, kind_of_result, stored, Site, Made, Translated, Together, with_signal, with_own, with_clocks, binary, cell, cluster_at, translate, operands_from, with_syncs, with_all_syncs, with_flat_equation, with_flat_equations, kernel_of}
 
 -- each signal has a name
 abbrev Named : List Signal → Type 0

@@ -1,14 +1,5 @@
 -- No translation makes the signals fewer.
-use Rattle.std.proofs.Common.{◌≡◌, ◌≤◌, ◌+◌, ◌<◌, ℕ, suc, ℤ, List, ◌∷◌, Option, None, Some, length, map, drop, get_or, sym, ap, ◌∙◌, arith, drop-cons}
-use Rattle.std.proofs.lemmas.List.{length-append}
-use Rattle.sig_base.specs.declared.ids.Kind.{Kind}
-use Rattle.sig_base.specs.declared.ids.SigId.{SigId}
-use Rattle.sig_base.specs.declared.span.Span.{Span}
-use Rattle.sig_tree.specs.declared.expr.BinOp.{BinOp}
-use Rattle.sig_tree.specs.FlatSyntax.{FlatExpression, Binary, Cell, FlatEquation, Equal, flat_expression_of, flat_equation_of}
-use Rattle.sig_tree.specs.declared.flat.FlatExpr.{FlatExpr}
-use Rattle.sig_tree.specs.declared.flat.FlatEq.{FlatEq}
-use Rattle.sig_flat.specs.KernelOf.{Site, Made, Translated, Together, with_own, translate, operands_from, with_flat_equation, with_flat_equations}
+use Rattle.sig_flat.proofs.Common.{◌≡◌, ◌≤◌, ◌+◌, ◌<◌, ℕ, suc, ℤ, List, ◌∷◌, Option, None, Some, length, map, drop, get_or, sym, ap, ◌∙◌, arith, drop-cons, length-append, Kind, SigId, Span, BinOp, FlatExpression, Binary, Cell, FlatEquation, Equal, flat_expression_of, flat_equation_of, FlatExpr, FlatEq, Site, Made, Translated, Together, with_own, translate, operands_from, with_flat_equation, with_flat_equations}
 use Rattle.sig_flat.proofs.Stepping.{behind}
 use Rattle.sig_flat.proofs.Growing.{Grows, then, own_grows, binary_grows, cell_grows, translate_grows, operands_grow, all_syncs_grow, equation_grows, equations_grow}
 

@@ -1,26 +1,6 @@
 -- The equations of a kernel have a signal among their operands.
-use Rattle.std.proofs.Common.{◌≡◌, ◌⊎◌, ◌++◌, ◌&&◌, ◌||◌, ℕ, ℤ, true, List, [], ◌∷◌, Option, None, Some, refl, ap, ◌∙◌, inl, inr}
-use Rattle.std.proofs.lemmas.List.Sums.{AllPass-from_list_all}
-use Rattle.std.specs.List.{AllByRecursion, AllPass, list_all, list_any}
-use Rattle.sig_base.specs.declared.ids.Kind.{Kind}
-use Rattle.sig_base.specs.declared.ids.SigId.{SigId}
-use Rattle.sig_base.specs.declared.span.Span.{Span}
-use Rattle.sig_tree.specs.declared.expr.UnOp.{UnOp}
-use Rattle.sig_tree.specs.declared.expr.UnOp.TheVariants.{Not as NotOf, Neg as NegOf, When as WhenOf, Clock}
-use Rattle.sig_tree.specs.declared.expr.BinOp.{BinOp}
-use Rattle.sig_tree.specs.declared.expr.BinOp.TheVariants.{Default as DefaultOf, When as Sampled, Plus, Meet, Less, Or, Xor, And, Eq, Ne, Lt, Le, Gt, Ge, Add, Sub, Mul, Div, Mod}
-use Rattle.sig_tree.specs.FlatSyntax.{FlatExpression, Sig as SigOf, Const as ConstOf, Unary, Binary, Delay as DelayOf, Cell, FlatEquation, Defines, Equal, FlatBody}
-use Rattle.sig_tree.specs.Kinds.{unary_row, binary_row, kind_of_result, stored}
-use Rattle.sig_kernel.specs.Table.{operands_of}
-use Rattle.sig_kernel.specs.Validity.{is_signal}
-use Rattle.sig_kernel.specs.declared.equation.Equation.{Equation}
-use Rattle.sig_kernel.specs.declared.equation.FunOp.TheVariants.{Id}
-use Rattle.sig_kernel.specs.declared.equation.Operand.{Operand}
-use Rattle.sig_kernel.specs.declared.equation.Operand.TheVariants.{Sig, Const}
-use Rattle.sig_kernel.specs.declared.equation.Form.{Form}
-use Rattle.sig_kernel.specs.declared.equation.Form.TheVariants.{Fun, Delay, Sync}
-use Rattle.sig_flat.specs.KernelOf.{Site, Made, Translated, Together, with_equation, with_own, by_one, unary_form, sampled_form, binary_form, kind_at, cluster_at, own, signal_in, signal_id, binary, cell, translate, operands_from, with_syncs, with_all_syncs, with_flat_equation, with_flat_equations, made_of, kernel_of}
-use Rattle.sig_flat.specs.Bodies.{IsSignal, Speaks, EquationSpeaks}
+use Rattle.sig_flat.proofs.Common.{◌≡◌, ◌⊎◌, ◌++◌, ◌&&◌, ◌||◌, ℕ, ℤ, true, List, [], ◌∷◌, Option, None, Some, refl, ap, ◌∙◌, inl, inr, AllPass-from_list_all, AllByRecursion, AllPass, list_all, list_any, Kind, SigId, Span, UnOp, NotOf, Neg as NegOf, WhenOf, Clock, BinOp, Default as DefaultOf, When as Sampled, Plus, Meet, Less, Or, Xor, And, Eq, Ne, Lt, Le, Gt, Ge, Add, Sub, Mul, Div, Mod, FlatExpression, SigOf, Const as ConstOf, Unary, Binary, DelayOf, Cell, FlatEquation, Defines, Equal, FlatBody, unary_row, binary_row, kind_of_result, stored, operands_of, is_signal, Equation, Id, Operand, Sig, Form, Fun, Delay, Sync, Site, Made, Translated, Together, with_equation, with_own, by_one, unary_form, sampled_form, binary_form, kind_at, cluster_at, own, signal_in, signal_id, binary, cell, translate, operands_from, with_syncs, with_all_syncs, with_flat_equation, with_flat_equations, made_of, kernel_of, IsSignal, Speaks, EquationSpeaks}
+use Rattle.sig_kernel.specs.declared.equation.Operand.TheVariants.{Const}
 
 abbrev Tells : Form → Type 0
 Tells form = list_any is_signal (operands_of form) ≡ true

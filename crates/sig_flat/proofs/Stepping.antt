@@ -1,8 +1,5 @@
 -- What is left of a list, as it is gone through.
-use Rattle.std.proofs.Common.{◌++◌, List, Option, None, Some}
-use Rattle.sig_base.specs.declared.ids.SigId.{SigId}
-use Rattle.sig_base.specs.declared.span.Span.{Span}
-use Rattle.sig_flat.specs.KernelOf.{Made, Together, with_syncs, with_all_syncs}
+use Rattle.sig_flat.proofs.Common.{◌++◌, List, Option, None, Some, SigId, Span, Made, Together, with_syncs, with_all_syncs}
 
 -- each of these and the next one, and what stands before them and the first
 abbrev pub syncs_after : Option SigId → List (SigId × Span) → Made → Made

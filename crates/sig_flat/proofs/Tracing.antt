@@ -1,16 +1,5 @@
 -- The traces of a kernel and those of the flat body, one instant after another.
-use Rattle.std.proofs.Common.{◌≡◌, ◌≤◌, ◌<◌, ℕ, zero, suc, List, [], ◌∷◌, length, take, refl, sym, ap, subst, ◌∙◌, arith}
-use Rattle.std.proofs.lemmas.List.{append-nil}
-use Rattle.std.specs.List.{AllByRecursion}
-use Rattle.sig_base.specs.declared.signal.Signal.{Signal as Declared}
-use Rattle.sig_base.specs.Traces.{Instant, Trace, Bounded, AreOfKinds}
-use Rattle.sig_kernel.specs.KernelTraces.{IsKernelTrace}
-use Rattle.sig_tree.specs.FlatSyntax.{FlatEquation, FlatBody}
-use Rattle.sig_tree.specs.ProcessTraces.{kinds_of, HoldsAt, HoldThroughout, IsTraceOf, IsProcessTrace}
-use Rattle.sig_tree.specs.Steps.{EquationSteps, BodySteps}
-use Rattle.sig_tree.specs.WellMade.{IsWellMade}
-use Rattle.sig_flat.specs.KernelOf.{Made, next as next_signal, kernel_of}
-use Rattle.sig_flat.specs.Restricted.{restricted}
+use Rattle.sig_flat.proofs.Common.{◌≡◌, ◌≤◌, ◌<◌, ℕ, zero, suc, List, [], ◌∷◌, length, take, refl, sym, ap, subst, ◌∙◌, arith, append-nil, AllByRecursion, Signal as Declared, Instant, Trace, Bounded, AreOfKinds, IsKernelTrace, FlatEquation, FlatBody, kinds_of, HoldsAt, HoldThroughout, IsTraceOf, IsProcessTrace, EquationSteps, BodySteps, IsWellMade, Made, next as next_signal, kernel_of, restricted}
 use Rattle.sig_flat.proofs.Agreeing.{Agree, agree_then, agree_back, Fitting, fitting, Suits, kinds_length, kinds_begin, take_agrees, begins_with, same_instant}
 use Rattle.sig_flat.proofs.Growing.{Grows, equations_grow}
 use Rattle.sig_flat.proofs.Instants.{behind_made, Runs, runs_from, trace_from}

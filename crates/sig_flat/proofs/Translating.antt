@@ -1,25 +1,7 @@
 -- Translations once more, by cases on the expression alone, and what a translation adds to what was made.
-use Rattle.std.proofs.Common.{◌≡◌, ◌↔◌, ◌++◌, ℕ, ℤ, Bool, true, false, List, [], ◌∷◌, Option, None, Some, map, refl, ap, ◌∙◌}
-use Rattle.std.specs.List.{AllByRecursion}
-use Rattle.sig_base.specs.declared.ids.Kind.{Kind}
-use Rattle.sig_base.specs.declared.span.Span.{Span}
-use Rattle.sig_base.specs.Traces.{Instant, Bounded, seen_at}
-use Rattle.sig_kernel.specs.KernelTraces.{Meets}
-use Rattle.sig_kernel.specs.declared.equation.Equation.{Equation}
-use Rattle.sig_kernel.specs.declared.equation.Form.{Form}
-use Rattle.sig_kernel.specs.declared.equation.Form.TheVariants.{Fun, Delay}
-use Rattle.sig_kernel.specs.declared.equation.FunOp.TheVariants.{Id}
-use Rattle.sig_kernel.specs.declared.equation.Operand.{Operand}
-use Rattle.sig_kernel.specs.declared.equation.Operand.TheVariants.{Sig, Const}
-use Rattle.sig_tree.specs.declared.expr.UnOp.{UnOp}
-use Rattle.sig_tree.specs.declared.expr.BinOp.{BinOp}
-use Rattle.sig_tree.specs.declared.expr.BinOp.TheVariants.{Plus, Meet, Less}
-use Rattle.sig_tree.specs.FlatSyntax.{FlatExpression, Sig as SigOf, Const as ConstOf, Unary, Binary, Delay as DelayOf, Cell}
-use Rattle.sig_tree.specs.Kinds.{unary_row, kind_of_result, stored}
+use Rattle.sig_flat.proofs.Common.{◌≡◌, ◌↔◌, ◌++◌, ℕ, ℤ, Bool, true, false, List, [], ◌∷◌, Option, None, Some, map, refl, ap, ◌∙◌, AllByRecursion, Kind, Span, Instant, Bounded, seen_at, Meets, Equation, Form, Fun, Delay, Id, Operand, Sig, UnOp, BinOp, Plus, Meet, Less, FlatExpression, SigOf, Const as ConstOf, Unary, Binary, DelayOf, Cell, unary_row, kind_of_result, stored, is_constant, AreMet, found_at, Site, Made, Translated, with_equation, with_own, own, by_one, unary_form, kind_at, signal_in, signal_id, made_signal, binary, cell, translate}
+use Rattle.sig_kernel.specs.declared.equation.Operand.TheVariants.{Const}
 use Rattle.sig_tree.specs.Operators.{Signal}
-use Rattle.sig_tree.specs.WellMade.{is_constant}
-use Rattle.sig_flat.specs.Rows.{AreMet, found_at}
-use Rattle.sig_flat.specs.KernelOf.{Site, Made, Translated, with_equation, with_own, own, by_one, unary_form, kind_at, signal_in, signal_id, made_signal, binary, cell, translate}
 use Rattle.sig_flat.proofs.Instants.{at_first, behind_form, behind_equation, behind_equations, MeetAll, behind_made}
 
 abbrev pub named : Option ℕ → Site → ℕ → Span → Made → Translated

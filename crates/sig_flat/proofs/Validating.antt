@@ -1,14 +1,5 @@
 -- The kernel of a well-made flat body is valid.
-use Rattle.std.proofs.Common.{◌≡◌, ◌^◌, ◌<◌, ◌≤◌, List, [], ◌∷◌, length, map, take, bytes_eq, refl, sym, ap, subst, arith}
-use Rattle.std.specs.List.{AllByRecursion, AllPass, IsDistinct, list_all}
-use Rattle.std.proofs.lemmas.List.Sums.{AllPass-from_list_all}
-use Rattle.sig_base.specs.declared.limits.TheConstants.{SIGNALS}
-use Rattle.sig_base.specs.declared.signal.Signal.{Signal}
-use Rattle.sig_tree.specs.WellMade.{IsMadeEquation, IsWellMade}
-use Rattle.sig_tree.specs.FlatSyntax.{FlatEquation, Defines, Equal, FlatBody}
-use Rattle.sig_kernel.specs.Validity.{IsValid, form_within}
-use Rattle.sig_kernel.specs.declared.equation.Equation.{Equation}
-use Rattle.sig_flat.specs.KernelOf.{Made, with_flat_equations, made_of, kernel_of}
+use Rattle.sig_flat.proofs.Common.{◌≡◌, ◌^◌, ◌<◌, ◌≤◌, List, [], ◌∷◌, length, map, take, bytes_eq, refl, sym, ap, subst, arith, AllByRecursion, AllPass, IsDistinct, list_all, AllPass-from_list_all, SIGNALS, Signal, IsMadeEquation, IsWellMade, FlatEquation, Defines, Equal, FlatBody, IsValid, form_within, Equation, Made, with_flat_equations, made_of, kernel_of}
 use Rattle.sig_flat.proofs.DefinedOnce.{defines_each}
 use Rattle.sig_flat.proofs.Fitting.{forms_fit}
 use Rattle.sig_flat.proofs.Naming.{within}

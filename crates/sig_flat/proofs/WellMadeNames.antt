@@ -1,13 +1,6 @@
 -- A well-made flat body names its signals, and each of its operators has an operand that is no constant.
-use Rattle.std.proofs.Common.{◌≡◌, ◌⊎◌, Bool, true, false, List, [], ◌∷◌, length, refl, sym, inl, inr, arith}
-use Rattle.std.proofs.lemmas.Bool.{false≢true}
-use Rattle.std.specs.List.{AllByRecursion}
-use Rattle.sig_base.specs.declared.ids.Kind.{Kind}
-use Rattle.sig_base.specs.declared.signal.Signal.{Signal}
-use Rattle.sig_tree.specs.WellMade.{is_constant, Allows, IsMade, IsWhole, IsMadeEquation}
-use Rattle.sig_tree.specs.FlatSyntax.{FlatExpression, Sig, Const, Unary, Binary, Delay, Cell, FlatEquation, Defines, Equal}
-use Rattle.sig_tree.specs.Kinds.{ConstantRule, NoConstant, OneConstant, FirstConstant, binary_row}
-use Rattle.sig_flat.specs.Bodies.{NamesBelow, IsBelow, IsSignal, Speaks, EquationSpeaks}
+use Rattle.sig_flat.proofs.Common.{◌≡◌, ◌⊎◌, Bool, true, false, List, [], ◌∷◌, length, refl, sym, inl, inr, arith, false≢true, AllByRecursion, Kind, Signal, is_constant, Allows, IsMade, IsWhole, IsMadeEquation, FlatExpression, Const, Unary, Binary, Cell, FlatEquation, Defines, Equal, ConstantRule, NoConstant, OneConstant, FirstConstant, binary_row, NamesBelow, IsBelow, IsSignal, Speaks, EquationSpeaks}
+use Rattle.sig_tree.specs.FlatSyntax.{Sig, Delay}
 use Rattle.sig_flat.proofs.NumberedKinds.{kind_below}
 
 pub names_below : (signals : List Signal) (e : FlatExpression) → IsMade signals e → NamesBelow (length signals) e

@@ -1,7 +1,6 @@
 -- What refusals say, and when they are given.
-use Rattle.std.specs.Prelude.{◌≡◌, ◌++◌, ℕ, List, Result, Ok, Err, ⊤, codes}
-use Rattle.std.specs.Fmt.{decimal}
-use Rattle.sig_base.specs.declared.limits.TheConstants.{SIGNALS}
+use Rattle.std.specs.Prelude.{◌≡◌, ◌++◌}
+use Rattle.sig_flat.specs.Prelude.{ℕ, List, Result, Ok, Err, ⊤, codes, decimal, SIGNALS}
 use Rattle.sig_flat.specs.declared.answer.FlatAnswer.{FlatAnswer}
 use Rattle.sig_flat.specs.declared.answer.FlatAnswer.TheVariants.{TooManySignals, OutOfMemory}
 

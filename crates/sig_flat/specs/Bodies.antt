@@ -1,7 +1,7 @@
 -- What the flat body of a well-formed program is.
-use Rattle.std.specs.Prelude.{◌<◌, ◌⊎◌, ℕ, length, ⊤}
-use Rattle.std.specs.List.{AllByRecursion}
-use Rattle.sig_tree.specs.FlatSyntax.{FlatExpression, Sig, Const, Unary, Binary, Delay, Cell, FlatEquation, Defines, Equal, FlatBody}
+use Rattle.std.specs.Prelude.{◌<◌, ◌⊎◌}
+use Rattle.sig_flat.specs.Prelude.{ℕ, length, ⊤, AllByRecursion, FlatExpression, Unary, Binary, Cell, FlatEquation, Defines, Equal, FlatBody}
+use Rattle.sig_tree.specs.FlatSyntax.{Sig, Const, Delay}
 
 -- an expression names signals whose numbers are below the count
 abbrev pub NamesBelow : ℕ → FlatExpression → Type 0

@@ -1,7 +1,5 @@
 -- What the code has of a kernel as it is made.
-use Rattle.std.specs.Prelude.{ℕ, List, Option, None, Some}
-use Rattle.sig_base.specs.declared.ids.SigId.{SigId}
-use Rattle.sig_base.specs.declared.span.Span.{Span}
+use Rattle.sig_flat.specs.Prelude.{ℕ, List, Option, None, Some, SigId, Span}
 use Rattle.sig_flat.specs.KernelOf.{Made, Translated, Together}
 use Rattle.sig_flat.specs.declared.term.Term.{Term}
 

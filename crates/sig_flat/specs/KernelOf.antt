@@ -1,25 +1,10 @@
 -- The kernel of a flat body. Its signals are those of the flat body, and then an intermediate for each
 -- expression that is neither a name nor a whole right side, and what derived operators need beside it. Its
 -- equations stand in the order of the flat body, operands first.
-use Rattle.std.specs.Prelude.{◌++◌, ℕ, zero, suc, ℤ, pos, List, [], ◌∷◌, length, Option, None, Some, codes, decimal}
-use Rattle.sig_base.specs.declared.ids.Kind.{Kind}
-use Rattle.sig_base.specs.declared.ids.Kind.TheVariants.{Integer, Boolean, Event}
-use Rattle.sig_base.specs.declared.ids.SigId.{SigId}
-use Rattle.sig_base.specs.declared.span.Span.{Span}
+use Rattle.std.specs.Prelude.{◌++◌, ◌∷◌}
+use Rattle.sig_flat.specs.Prelude.{ℕ, zero, suc, ℤ, pos, List, [], length, Option, None, Some, codes, decimal, Kind, Integer, Boolean, SigId, Span, UnOp, NotOf, NegOf, WhenOf, Clock, BinOp, DefaultOf, Sampled, Plus, Meet, Less, OrOf, XorOf, AndOf, EqOf, NeOf, LtOf, LeOf, GtOf, GeOf, AddOf, SubOf, MulOf, DivOf, ModOf, FlatExpression, SigOf, ConstOf, Unary, Binary, DelayOf, Cell, FlatEquation, Defines, Equal, FlatBody, unary_row, binary_row, kind_of_result, stored, Id, Neg, Not, And, Or, Xor, Eq, Ne, Lt, Le, Gt, Ge, Add, Sub, Mul, Div, Mod, Operand, Sig, Const, Form, Fun, Delay, When, WhenConst, Default, Sync, Event as EventOf, Equation, Kernel}
+use Rattle.sig_base.specs.declared.ids.Kind.TheVariants.{Event}
 use Rattle.sig_base.specs.declared.signal.Signal.{Signal}
-use Rattle.sig_tree.specs.declared.expr.UnOp.{UnOp}
-use Rattle.sig_tree.specs.declared.expr.UnOp.TheVariants.{Not as NotOf, Neg as NegOf, When as WhenOf, Clock}
-use Rattle.sig_tree.specs.declared.expr.BinOp.{BinOp}
-use Rattle.sig_tree.specs.declared.expr.BinOp.TheVariants.{Default as DefaultOf, When as Sampled, Plus, Meet, Less, Or as OrOf, Xor as XorOf, And as AndOf, Eq as EqOf, Ne as NeOf, Lt as LtOf, Le as LeOf, Gt as GtOf, Ge as GeOf, Add as AddOf, Sub as SubOf, Mul as MulOf, Div as DivOf, Mod as ModOf}
-use Rattle.sig_tree.specs.FlatSyntax.{FlatExpression, Sig as SigOf, Const as ConstOf, Unary, Binary, Delay as DelayOf, Cell, FlatEquation, Defines, Equal, FlatBody}
-use Rattle.sig_tree.specs.Kinds.{unary_row, binary_row, kind_of_result, stored}
-use Rattle.sig_kernel.specs.declared.equation.FunOp.TheVariants.{Id, Neg, Not, And, Or, Xor, Eq, Ne, Lt, Le, Gt, Ge, Add, Sub, Mul, Div, Mod}
-use Rattle.sig_kernel.specs.declared.equation.Operand.{Operand}
-use Rattle.sig_kernel.specs.declared.equation.Operand.TheVariants.{Sig, Const}
-use Rattle.sig_kernel.specs.declared.equation.Form.{Form}
-use Rattle.sig_kernel.specs.declared.equation.Form.TheVariants.{Fun, Delay, When, WhenConst, Default, Sync, Event as EventOf}
-use Rattle.sig_kernel.specs.declared.equation.Equation.{Equation}
-use Rattle.sig_kernel.specs.declared.kernel.Kernel.{Kernel}
 
 -- where an expression is written: the cluster of its intermediates, and the prefix of their names
 pub record Site : Type 0 where

@@ -1,6 +1,5 @@
 -- Traces restricted to some of the signals.
-use Rattle.std.specs.Prelude.{ℕ, map, take}
-use Rattle.sig_base.specs.Traces.{Trace}
+use Rattle.sig_flat.specs.Prelude.{ℕ, map, take, Trace}
 
 -- what a trace says of the signals with the first numbers
 abbrev pub restricted : ℕ → Trace → Trace

@@ -1,12 +1,10 @@
 //! Expressions, to the equations that they need.
 
-ghost use Rattle.std.specs.Prelude.{◌≡◌, ◌<◌, ◌++◌, None, Some, length, map, IfOk, OnOk};
+ghost use Rattle.std.specs.Prelude.{◌≡◌, ◌<◌, ◌++◌};
+ghost use Rattle.sig_flat.specs.Prelude.{None, Some, length, map, IfOk, OnOk, Delay, SigOf, flat_expression_of, kind_of_result, stored, unary_row};
 ghost use Rattle.sig_flat.specs.Answers.{IsRefused};
 ghost use Rattle.sig_flat.specs.Drafts.{left_of, translated, together};
 ghost use Rattle.sig_flat.specs.KernelOf.{Site as Place, binary, by_one, operands_from, place_of, signal_in, translate, unary_form};
-ghost use Rattle.sig_kernel.specs.declared.equation.Form.TheVariants.{Delay};
-ghost use Rattle.sig_tree.specs.FlatSyntax.{Sig as SigOf, flat_expression_of};
-ghost use Rattle.sig_tree.specs.Kinds.{kind_of_result, stored, unary_row};
 
 use crate::answer::FlatAnswer;
 use crate::derived::{cell, less, meet, plus};

@@ -1,9 +1,9 @@
 //! The equations of a flat body.
 
-ghost use Rattle.std.specs.Prelude.{◌≡◌, ◌<◌, length, map, OnOk};
+ghost use Rattle.std.specs.Prelude.{◌≡◌, ◌<◌};
+ghost use Rattle.sig_flat.specs.Prelude.{length, map, OnOk, flat_equation_of};
 ghost use Rattle.sig_flat.specs.Answers.{IsRefused};
 ghost use Rattle.sig_flat.specs.KernelOf.{with_all_syncs, with_flat_equation, with_flat_equations};
-ghost use Rattle.sig_tree.specs.FlatSyntax.{flat_equation_of};
 
 use crate::answer::FlatAnswer;
 use crate::draft::Draft;

@@ -1,9 +1,9 @@
 //! The kernel of a flat body.
 
-ghost use Rattle.std.specs.Prelude.{◌≡◌, ◌<◌, ◌≤◌, length, IfOk};
+ghost use Rattle.std.specs.Prelude.{◌≡◌, ◌<◌, ◌≤◌};
+ghost use Rattle.sig_flat.specs.Prelude.{length, IfOk, flat_body_of};
 ghost use Rattle.sig_flat.specs.Answers.{IsRefused};
 ghost use Rattle.sig_flat.specs.KernelOf.{kernel_of};
-ghost use Rattle.sig_tree.specs.FlatSyntax.{flat_body_of};
 
 use crate::answer::FlatAnswer;
 use crate::draft::Draft;

@@ -1,25 +1,9 @@
 //! What holds of the kernels of flat bodies.
 
-ghost use Rattle.std.specs.Prelude.{◌≡◌, ◌↔◌, ◌||◌, ◌+◌, ◌^◌, ◌<◌, ◌≤◌, take, ℤ, pos, true, [], ◌∷◌, length};
-ghost use Rattle.std.specs.List.{AllByRecursion, AllPass, list_any};
-ghost use Rattle.sig_base.specs.Traces.{Bounded, Instant, IsOfKind, IsPrefixOf, seen_at};
-ghost use Rattle.sig_base.specs.declared.ids.Kind.TheVariants.{Integer};
-ghost use Rattle.sig_base.specs.declared.limits.TheConstants.{SIGNALS};
-ghost use Rattle.sig_base.specs.declared.ids.SigId.{SigId};
-ghost use Rattle.sig_kernel.specs.KernelTraces.{Meets, Memory, function_of, where_present};
-ghost use Rattle.sig_kernel.specs.Table.{operands_of};
-ghost use Rattle.sig_kernel.specs.Validity.{HasParts, form_within, inputs_of, is_signal};
-ghost use Rattle.sig_kernel.specs.declared.equation.Equation.{Equation};
-ghost use Rattle.sig_kernel.specs.declared.equation.Form.TheVariants.{Default, Delay, Event, Fun, Sync, When, WhenConst};
-ghost use Rattle.sig_kernel.specs.declared.equation.FunOp.{FunOp};
-ghost use Rattle.sig_kernel.specs.declared.equation.FunOp.TheVariants.{Not};
-ghost use Rattle.sig_kernel.specs.declared.equation.Operand.{Operand};
-ghost use Rattle.sig_kernel.specs.declared.equation.Operand.TheVariants.{Sig};
-ghost use Rattle.sig_tree.specs.declared.expr.BinOp.TheVariants.{Default as DefaultOf, Less, Meet, Plus, When as Sampled};
-ghost use Rattle.sig_tree.specs.declared.expr.UnOp.TheVariants.{Clock, When as WhenOf};
-ghost use Rattle.sig_tree.specs.Operators.{AppliesToBoth, AppliesToOne, Changes, Combines, Constant, Signal, clock_of, delayed, held, merged, sampled};
+ghost use Rattle.std.specs.Prelude.{◌≡◌, ◌↔◌, ◌||◌, ◌+◌, ◌^◌, ◌<◌, ◌≤◌, ◌∷◌};
+ghost use Rattle.sig_flat.specs.Prelude.{take, ℤ, pos, true, [], length, AllByRecursion, AllPass, list_any, Bounded, Instant, IsOfKind, IsPrefixOf, seen_at, Integer, SIGNALS, SigId, Meets, Memory, function_of, where_present, operands_of, HasParts, form_within, inputs_of, is_signal, Equation, Default, Delay, Event, Fun, Sync, When, WhenConst, FunOp, Not, Operand, Sig, DefaultOf, Less, Meet, Plus, Sampled, Clock, WhenOf, AppliesToBoth, AppliesToOne, Changes, Combines, Constant, Signal, clock_of, delayed, held, sampled, FlatBody};
+ghost use Rattle.sig_tree.specs.Operators.{merged};
 ghost use Rattle.sig_flat.specs.Rows.{AreMet, found_at};
-ghost use Rattle.sig_tree.specs.FlatSyntax.{FlatBody};
 ghost use Rattle.sig_flat.specs.Bodies.{EquationSpeaks, NamesItsSignals};
 ghost use Rattle.sig_flat.specs.KernelOf.{kernel_of};
 

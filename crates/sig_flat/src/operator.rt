@@ -1,9 +1,8 @@
 //! The operators that are one equation: their kinds and their forms.
 
-ghost use Rattle.std.specs.Prelude.{◌≡◌, ◌≢◌, [], ◌∷◌, None, Some, IfOk};
+ghost use Rattle.std.specs.Prelude.{◌≡◌, ◌≢◌, ◌∷◌};
+ghost use Rattle.sig_flat.specs.Prelude.{[], None, Some, IfOk, Fun, binary_row, kind_of_result, merged, stored, unary_row};
 ghost use Rattle.sig_flat.specs.KernelOf.{binary_form, sampled_form, unary_form};
-ghost use Rattle.sig_kernel.specs.declared.equation.Form.TheVariants.{Fun};
-ghost use Rattle.sig_tree.specs.Kinds.{binary_row, kind_of_result, merged, stored, unary_row};
 
 use crate::term::signal_in;
 use sig_base::{Kind, SigId};

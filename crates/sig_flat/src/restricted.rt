@@ -1,15 +1,9 @@
 //! What is left of the traces of a kernel where its intermediates are left out.
 
-ghost use Rattle.std.specs.Prelude.{◌≡◌, ◌≤◌, ◌<◌, ◌+◌, ◌↔◌, ℕ, ℤ, List, length};
-ghost use Rattle.sig_base.specs.Traces.{Fits, IsLongest, Trace, flow_of, reduce};
-ghost use Rattle.sig_tree.specs.WellMade.{IsWellMade};
+ghost use Rattle.std.specs.Prelude.{◌≡◌, ◌≤◌, ◌<◌, ◌+◌, ◌↔◌};
+ghost use Rattle.sig_flat.specs.Prelude.{ℕ, ℤ, List, length, Fits, IsLongest, Trace, flow_of, reduce, IsWellMade, IsKernelTrace, output_text, Kernel, FlatBody, IsProcessTrace};
 ghost use Rattle.sig_flat.specs.KernelOf.{kernel_of};
 ghost use Rattle.sig_flat.specs.Restricted.{restricted};
-ghost use Rattle.sig_kernel.specs.KernelTraces.{IsKernelTrace};
-ghost use Rattle.sig_kernel.specs.OutputText.{output_text};
-ghost use Rattle.sig_kernel.specs.declared.kernel.Kernel.{Kernel};
-ghost use Rattle.sig_tree.specs.FlatSyntax.{FlatBody};
-ghost use Rattle.sig_tree.specs.ProcessTraces.{IsProcessTrace};
 
 use crate::laws::kernels_keep_signals;
 use crate::traces::kernel_traces_are_process_traces;

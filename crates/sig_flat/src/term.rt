@@ -1,8 +1,8 @@
 //! Operands of equations, with their kinds.
 
 ghost use Rattle.std.specs.Prelude.{◌≡◌};
+ghost use Rattle.sig_flat.specs.Prelude.{Sig};
 ghost use Rattle.sig_flat.specs.KernelOf.{signal_in};
-ghost use Rattle.sig_kernel.specs.declared.equation.Operand.TheVariants.{Sig};
 
 use sig_base::{Kind, SigId};
 use sig_kernel::Operand;

@@ -1,13 +1,9 @@
 //! The traces of the kernel of a flat body are those of the flat body.
 
-ghost use Rattle.std.specs.Prelude.{◌≡◌, length};
-ghost use Rattle.sig_base.specs.Traces.{Trace};
-ghost use Rattle.sig_tree.specs.WellMade.{IsWellMade};
+ghost use Rattle.std.specs.Prelude.{◌≡◌};
+ghost use Rattle.sig_flat.specs.Prelude.{length, Trace, IsWellMade, IsKernelTrace, FlatBody, IsProcessTrace};
 ghost use Rattle.sig_flat.specs.KernelOf.{kernel_of};
 ghost use Rattle.sig_flat.specs.Restricted.{restricted};
-ghost use Rattle.sig_kernel.specs.KernelTraces.{IsKernelTrace};
-ghost use Rattle.sig_tree.specs.FlatSyntax.{FlatBody};
-ghost use Rattle.sig_tree.specs.ProcessTraces.{IsProcessTrace};
 
 use sig_tree::{equations_step, expressions_step};
 

@@ -1,14 +1,8 @@
 //! That the kernels of well-made flat bodies are valid.
 
-ghost use Rattle.std.specs.Prelude.{◌≡◌, ◌<◌, ◌≤◌, ◌+◌, ◌*◌, ◌^◌, bytes_eq, length, map, take};
-ghost use Rattle.std.specs.List.{AllByRecursion, IsDistinct};
-ghost use Rattle.sig_base.specs.declared.limits.TheConstants.{SIGNALS};
-ghost use Rattle.sig_tree.specs.SignalNames.{IsSignalName, NamesOperators};
-ghost use Rattle.sig_tree.specs.Sound.{flat_weights};
-ghost use Rattle.sig_tree.specs.WellMade.{IsWellMade};
+ghost use Rattle.std.specs.Prelude.{◌≡◌, ◌<◌, ◌≤◌, ◌+◌, ◌*◌, ◌^◌};
+ghost use Rattle.sig_flat.specs.Prelude.{bytes_eq, length, map, take, AllByRecursion, IsDistinct, SIGNALS, IsSignalName, NamesOperators, flat_weights, IsWellMade, IsValid, FlatBody};
 ghost use Rattle.sig_flat.specs.KernelOf.{kernel_of};
-ghost use Rattle.sig_kernel.specs.Validity.{IsValid};
-ghost use Rattle.sig_tree.specs.FlatSyntax.{FlatBody};
 
 /// A law: the kernel of a well-made flat body, whose inputs have names that differ, is valid, unless
 /// a limit is passed.

@@ -1,6 +1,5 @@
 -- The first of some distinct names are distinct.
-use Rattle.std.proofs.Common.{ℕ, zero, suc, Bool, false, List, [], ◌∷◌, map, take, ◌≡◌}
-use Rattle.std.specs.List.{AllByRecursion, IsDistinct}
+use Rattle.sig_front.proofs.Common.{ℕ, zero, suc, Bool, false, List, [], ◌∷◌, map, take, ◌≡◌, AllByRecursion, IsDistinct}
 
 all_first : {A B : Type 0} (P : B → Type 0) (f : A → B) (n : ℕ) (xs : List A) → AllByRecursion P (map f xs) → AllByRecursion P (map f (take n xs))
 all_first P f zero xs all = tt

@@ -1,8 +1,5 @@
 -- Where what is said and what is refused are one thing each, and never both, an answer is the one.
-use Rattle.std.proofs.Common.{◌≡◌, ◌⊎◌, ⊎_elim, inl, inr}
-use Rattle.std.specs.Prelude.{Result, Ok, Err, IfOk, IfErr, IsErrAnd, MatchResult}
-use Rattle.sig_front.specs.declared.answer.FrontAnswer.{FrontAnswer}
-use Rattle.sig_front.specs.declared.answer.FrontAnswer.TheVariants.{OutOfMemory}
+use Rattle.sig_front.proofs.Common.{◌≡◌, ◌⊎◌, ⊎_elim, inl, inr, Result, Ok, Err, IfOk, IfErr, IsErrAnd, MatchResult, FrontAnswer, OutOfMemory}
 
 module _ {V M : Type 0} (view : V → M) (Says : M → Type 0) (Refuses : FrontAnswer → Type 0) where
   pub given : ((a b : M) → Says a → Says b → a ≡ b) → ((a : M) (answer : FrontAnswer) → Says a → Refuses answer → ⊥)

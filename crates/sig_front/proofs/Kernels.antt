@@ -1,26 +1,5 @@
 -- The kernel of a text is valid, has few equations and has the traces of the program.
-use Rattle.std.proofs.Common.{◌≡◌, ◌<◌, ◌≤◌, ◌+◌, ◌*◌, ◌^◌, ◌∙◌, ℕ, List, length, map, take, bytes_eq, sym, ap, subst, arith}
-use Rattle.std.specs.List.{AllByRecursion, IsDistinct}
-use Rattle.sig_base.specs.declared.limits.TheConstants.{SIGNALS}
-use Rattle.sig_base.specs.declared.signal.Signal.{Signal}
-use Rattle.sig_base.specs.Traces.{Trace}
-use Rattle.sig_tree.specs.FlatBody.{IsFlatBody}
-use Rattle.sig_tree.specs.FlatSyntax.{FlatBody}
-use Rattle.sig_tree.specs.Grammar.{IsText}
-use Rattle.sig_tree.specs.ProcessTraces.{IsProcessTrace}
-use Rattle.sig_tree.specs.Syntax.{ProcessModel}
-use Rattle.sig_tree.specs.WellFormed.{IsWellFormed}
-use Rattle.sig_call.specs.Constants.{IsBounded}
-use Rattle.sig_tree.specs.SignalNames.{IsSignalName, NamesOperators}
-use Rattle.sig_tree.specs.Sound.{IsTree, IsSized, flat_weights}
-use Rattle.sig_tree.specs.WellMade.{IsWellMade}
-use Rattle.sig_kernel.specs.KernelTraces.{IsKernelTrace}
-use Rattle.sig_kernel.specs.Validity.{IsValid}
-use Rattle.sig_kernel.specs.declared.kernel.Kernel.{Kernel}
-use Rattle.sig_flat.specs.KernelOf.{kernel_of}
-use Rattle.sig_flat.specs.Restricted.{restricted}
-use Rattle.sig_front.specs.Flats.{IsFlatText}
-use Rattle.sig_front.specs.Kernels.{HasTracesOf, IsKernelText}
+use Rattle.sig_front.proofs.Common.{◌≡◌, ◌<◌, ◌≤◌, ◌+◌, ◌*◌, ◌^◌, ◌∙◌, ℕ, List, length, map, take, bytes_eq, sym, ap, subst, arith, AllByRecursion, IsDistinct, SIGNALS, Signal, Trace, IsFlatBody, FlatBody, IsText, IsProcessTrace, ProcessModel, IsWellFormed, IsBounded, IsSignalName, NamesOperators, IsTree, IsSized, flat_weights, IsWellMade, IsKernelTrace, IsValid, Kernel, kernel_of, restricted, IsFlatText, HasTracesOf, IsKernelText}
 use Rattle.sig_front.proofs.Distinct.{first_distinct}
 use Rattle.sig_front.proofs.OneFlat.{flat_once}
 use Rattle.sig_front.proofs.SmallBodies.{product}

@@ -1,3 +1,4 @@
+pub mod Common
 pub mod Distinct
 pub mod Given
 pub mod Kernels
@@ -7,3 +8,13 @@ pub mod OneText
 pub mod Results
 pub mod SmallBodies
 pub mod TextRefusals
+unfoldable pub use Common.*
+pub use Given.*
+pub use Kernels.*
+pub use OneFlat.*
+pub use OneKernel.*
+pub use OneText.*
+pub use Results.*
+pub use SmallBodies.*
+pub use Rattle.sig_front.proofs.OneText.{tree_once}
+pub use Rattle.sig_front.proofs.SmallBodies.{names}

@@ -1,25 +1,5 @@
 -- A text has one flat body that is kept or one refusal, at most, and not both.
-use Rattle.std.proofs.Common.{◌≡◌, ◌<◌, ◌∙◌, ◌⊎◌, ℕ, List, length, sym, ap, subst, refl, arith, ⊎_elim, inl, inr}
-use Rattle.std.specs.Prelude.{MatchOption, ⊤}
-use Rattle.sig_tree.specs.Candidates.{Offence}
-use Rattle.sig_tree.specs.Declarations.{all_processes}
-use Rattle.sig_tree.specs.FlatBody.{IsFlatBody}
-use Rattle.sig_tree.specs.FlatSyntax.{FlatBody}
-use Rattle.sig_tree.specs.Grammar.{IsText}
-use Rattle.sig_tree.specs.Syntax.{ProcessModel}
-use Rattle.sig_tree.specs.WellFormed.{IsWellFormed, IsFirstOffence, rules_of}
-use Rattle.sig_tree.proofs.CandidateLemmas.{one_first, none_first}
-use Rattle.sig_tree.proofs.OneExpansion.{one_body}
-use Rattle.sig_type.specs.Answers.{offence_of}
-use Rattle.sig_type.specs.declared.answer.TypeAnswer.{TypeAnswer}
-use Rattle.sig_type.specs.declared.answer.TypeAnswer.TheVariants.{Unknown, DeclaredTwice, InputDefined, DefinedTwice, Undefined, Clash, BareConstant, BadCall, Recursive, BadPragma, NoInit, OutOfMemory as TypeMemory}
-use Rattle.sig_call.specs.Making.{IsRefusedBy, NeedsTooMany}
-use Rattle.sig_call.specs.declared.answer.CallAnswer.{CallAnswer}
-use Rattle.sig_call.specs.declared.answer.CallAnswer.TheVariants.{TooManySignals as TooMany, OutOfMemory as CallMemory}
-use Rattle.sig_front.specs.Flats.{IsFlatText, IsGood, IsNoFlatText, IsTooLarge, Offends, answer_for, of_call, of_type}
-use Rattle.sig_front.specs.Texts.{IsNoText}
-use Rattle.sig_front.specs.declared.answer.FrontAnswer.{FrontAnswer}
-use Rattle.sig_front.specs.declared.answer.FrontAnswer.TheVariants.{Lex, Parse, «Type» as TypeRefused, TooManySignals, OutOfMemory}
+use Rattle.sig_front.proofs.Common.{◌≡◌, ◌<◌, ◌∙◌, ◌⊎◌, ℕ, List, length, sym, ap, subst, refl, arith, ⊎_elim, inl, inr, MatchOption, ⊤, Offence, all_processes, IsFlatBody, FlatBody, IsText, ProcessModel, IsWellFormed, IsFirstOffence, rules_of, one_first, none_first, one_body, offence_of, TypeAnswer, Unknown, DeclaredTwice, InputDefined, DefinedTwice, Undefined, Clash, BareConstant, BadCall, Recursive, BadPragma, NoInit, TypeMemory, IsRefusedBy, NeedsTooMany, CallAnswer, TooMany, CallMemory, IsFlatText, IsGood, IsNoFlatText, IsTooLarge, Offends, answer_for, of_call, of_type, IsNoText, FrontAnswer, Lex, Parse, «Type» as TypeRefused, TooManySignals, OutOfMemory}
 use Rattle.sig_front.proofs.OneText.{tree_once, refusal_once, tree_or_refusal}
 
 -- ---- a flat body

@@ -1,15 +1,6 @@
 -- A text has one kernel that is kept or one refusal, at most, and not both.
-use Rattle.std.proofs.Common.{◌≡◌, ◌⊎◌, ◌<◌, ◌≤◌, ◌∙◌, ℕ, List, length, sym, ap, subst, refl, arith, ⊎_elim, inl, inr}
-use Rattle.sig_tree.specs.FlatSyntax.{FlatBody}
-use Rattle.sig_kernel.specs.declared.kernel.Kernel.{Kernel}
+use Rattle.sig_front.proofs.Common.{◌≡◌, ◌⊎◌, ◌<◌, ◌≤◌, ◌∙◌, ℕ, List, length, sym, ap, subst, refl, arith, ⊎_elim, inl, inr, FlatBody, Kernel, kernel_of, FlatAnswer, TooManyMade, FlatMemory, IsFlatText, IsNoFlatText, IsTooLarge, of_flat, HasLargeKernel, IsKernelText, IsNoKernelText, FrontAnswer, Lex, Parse, «Type» as TypeRefused, TooManySignals, OutOfMemory}
 use Rattle.sig_flat.specs.Answers.{IsRefusedBy}
-use Rattle.sig_flat.specs.KernelOf.{kernel_of}
-use Rattle.sig_flat.specs.declared.answer.FlatAnswer.{FlatAnswer}
-use Rattle.sig_flat.specs.declared.answer.FlatAnswer.TheVariants.{TooManySignals as TooManyMade, OutOfMemory as FlatMemory}
-use Rattle.sig_front.specs.Flats.{IsFlatText, IsNoFlatText, IsTooLarge, of_flat}
-use Rattle.sig_front.specs.Kernels.{HasLargeKernel, IsKernelText, IsNoKernelText}
-use Rattle.sig_front.specs.declared.answer.FrontAnswer.{FrontAnswer}
-use Rattle.sig_front.specs.declared.answer.FrontAnswer.TheVariants.{Lex, Parse, «Type» as TypeRefused, TooManySignals, OutOfMemory}
 use Rattle.sig_front.proofs.OneFlat.{flat_once, flat_or_refusal, no_flat_once}
 
 pub kernel_once : (text : List ℕ) (a b : Kernel) → IsKernelText text a → IsKernelText text b → a ≡ b

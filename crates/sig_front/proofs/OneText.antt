@@ -1,18 +1,5 @@
 -- A text is that of one program or has one refusal, at most, and not both.
-use Rattle.std.proofs.Common.{◌≡◌, ℕ, List, ap, subst}
-use Rattle.sig_lex.proofs.Unique.{one_list, one_first_fault, list_or_fault}
-use Rattle.sig_lex.specs.declared.token.Token.{Token}
-use Rattle.sig_parse.proofs.RefusedPrograms.{one_answer as one_refusal, no_answer as no_refusal}
-use Rattle.sig_parse.specs.Exact.{IsFirstRefusal}
-use Rattle.sig_parse.specs.Refused.{end_of}
-use Rattle.sig_tree.proofs.ReadProcesses.{tree_once as one_tree}
-use Rattle.sig_tree.specs.Grammar.{HasTree, IsText}
-use Rattle.sig_tree.specs.Leaves.{leaves_of}
-use Rattle.sig_tree.specs.Limits.{both_limits}
-use Rattle.sig_tree.specs.Syntax.{ProcessModel}
-use Rattle.sig_front.specs.Texts.{IsNoText}
-use Rattle.sig_front.specs.declared.answer.FrontAnswer.{FrontAnswer}
-use Rattle.sig_front.specs.declared.answer.FrontAnswer.TheVariants.{Lex, Parse, «Type» as TypeRefused, TooManySignals, OutOfMemory}
+use Rattle.sig_front.proofs.Common.{◌≡◌, ℕ, List, ap, subst, one_list, one_first_fault, list_or_fault, Token, one_answer as one_refusal, no_answer as no_refusal, IsFirstRefusal, end_of, tree_once as one_tree, HasTree, IsText, leaves_of, both_limits, ProcessModel, IsNoText, FrontAnswer, Lex, Parse, «Type» as TypeRefused, TooManySignals, OutOfMemory}
 
 pub tree_once : (text : List ℕ) (a b : List ProcessModel) → IsText text a → IsText text b → a ≡ b
 tree_once text a b (tokens, are, has) (others, also, has_other) =

@@ -1,17 +1,5 @@
 -- A flat body of a text has few equations, and signals of different names.
-use Rattle.std.proofs.Common.{◌≡◌, ◌<◌, ◌≤◌, ◌+◌, ◌*◌, ◌^◌, ℕ, List, length, map, bytes_eq, arith, mul-le-mul}
-use Rattle.sig_tree.specs.FlatBody.{IsFlatBody}
-use Rattle.std.proofs.lemmas.List.{length-map}
-use Rattle.std.specs.List.{IsDistinct}
-use Rattle.std.specs.Prelude.{Result, Ok, Err, IfOk}
-use Rattle.sig_tree.specs.declared.flat.Flat.{Flat}
-use Rattle.sig_front.specs.declared.answer.FrontAnswer.{FrontAnswer}
-use Rattle.sig_tree.specs.FlatSyntax.{FlatBody, FlatEquation, flat_body_of, flat_equation_of}
-use Rattle.sig_tree.specs.Grammar.{IsText}
-use Rattle.sig_tree.specs.Syntax.{ProcessModel}
-use Rattle.sig_tree.specs.WellFormed.{IsWellFormed}
-use Rattle.sig_tree.specs.Sound.{IsTree, IsSized, flat_weights}
-use Rattle.sig_front.specs.Flats.{IsFlatText}
+use Rattle.sig_front.proofs.Common.{◌≡◌, ◌<◌, ◌≤◌, ◌+◌, ◌*◌, ◌^◌, ℕ, List, length, map, bytes_eq, arith, mul-le-mul, IsFlatBody, length-map, IsDistinct, Result, Ok, Err, IfOk, Flat, FrontAnswer, FlatBody, FlatEquation, flat_body_of, flat_equation_of, IsText, ProcessModel, IsWellFormed, IsTree, IsSized, flat_weights, IsFlatText}
 
 -- a product of bounded numbers
 pub product : (size signals bytes most : ℕ) → size ≤ bytes → signals ≤ most → size * signals ≤ bytes * most

@@ -1,16 +1,5 @@
 -- The refusals of the lexer and of the parser, as those of a text.
-use Rattle.std.proofs.Common.{◌≡◌, ◌⊎◌, ℕ, List, ⊎_elim, inl, inr, refl}
-use Rattle.sig_lex.specs.declared.answer.LexAnswer.{LexAnswer}
-use Rattle.sig_lex.specs.declared.answer.LexAnswer.TheVariants.{BadByte, OpenComment, LongNumber, OutOfMemory as LexMemory}
-use Rattle.sig_lex.specs.declared.token.Token.{Token}
-use Rattle.sig_lex.specs.Tokens.{AreTokens, IsFirstFault}
-use Rattle.sig_parse.specs.declared.parse_answer.ParseAnswer.{ParseAnswer}
-use Rattle.sig_parse.specs.declared.parse_answer.ParseAnswer.TheVariants.{Syntax, Nesting, OutOfMemory as ParseMemory}
-use Rattle.sig_parse.specs.Exact.{IsFirstRefusal}
-use Rattle.sig_parse.specs.Refused.{end_of}
-use Rattle.sig_tree.specs.Leaves.{leaves_of}
-use Rattle.sig_front.specs.Texts.{IsNoText, of_lex, of_parse}
-use Rattle.sig_front.specs.declared.answer.FrontAnswer.TheVariants.{OutOfMemory}
+use Rattle.sig_front.proofs.Common.{◌≡◌, ◌⊎◌, ℕ, List, ⊎_elim, inl, inr, refl, LexAnswer, BadByte, OpenComment, LongNumber, LexMemory, Token, AreTokens, IsFirstFault, ParseAnswer, Syntax, Nesting, ParseMemory, IsFirstRefusal, end_of, leaves_of, IsNoText, of_lex, of_parse, OutOfMemory}
 
 pub lex_refuses : (text : List ℕ) (a : LexAnswer) → (a ≡ LexMemory) ⊎ IsFirstFault text a → (of_lex a ≡ OutOfMemory) ⊎ IsNoText text (of_lex a)
 lex_refuses text (BadByte at) why = ⊎_elim (λ memory. cc) (λ fault. inr fault) why

@@ -1,18 +1,7 @@
 -- The flat body of a text, and what a text is refused for that has none that is kept.
-use Rattle.std.specs.Prelude.{◌≡◌, ◌<◌, ◌≤◌, ℕ, List, length}
-use Rattle.sig_base.specs.declared.limits.TheConstants.{SIGNALS}
-use Rattle.sig_tree.specs.Candidates.{Offence, Unknown as UnknownName, DeclaredTwice as TwiceDeclared, InputDefined as GivenDefined, DefinedTwice as TwiceDefined, Undefined as NotDefined, Clash as KindsClash, BareConstant as ConstantAlone, BadCall as CallDiffers, Recursive as CallsItself, BadPragma as PragmaIsBad, NoInit as InitIsMissing}
-use Rattle.sig_tree.specs.FlatBody.{IsFlatBody}
-use Rattle.sig_tree.specs.FlatSyntax.{FlatBody}
-use Rattle.sig_tree.specs.Grammar.{IsText}
-use Rattle.sig_tree.specs.Syntax.{ProcessModel}
-use Rattle.sig_tree.specs.WellFormed.{IsWellFormed, IsFirstOffence}
-use Rattle.sig_type.specs.declared.answer.TypeAnswer.{TypeAnswer}
-use Rattle.sig_type.specs.declared.answer.TypeAnswer.TheVariants.{Unknown, DeclaredTwice, InputDefined, DefinedTwice, Undefined, Clash, BareConstant, BadCall, Recursive, BadPragma, NoInit, OutOfMemory as TypeMemory}
-use Rattle.sig_call.specs.declared.answer.CallAnswer.{CallAnswer}
-use Rattle.sig_call.specs.declared.answer.CallAnswer.TheVariants.{TooManySignals as TooMany, OutOfMemory as CallMemory}
-use Rattle.sig_flat.specs.declared.answer.FlatAnswer.{FlatAnswer}
-use Rattle.sig_flat.specs.declared.answer.FlatAnswer.TheVariants.{TooManySignals as TooManyMade, OutOfMemory as FlatMemory}
+use Rattle.std.specs.Prelude.{◌≡◌, ◌<◌, ◌≤◌}
+use Rattle.sig_front.specs.Prelude.{ℕ, List, length, SIGNALS, Offence, Unknown as UnknownName, DeclaredTwice as TwiceDeclared, InputDefined as GivenDefined, DefinedTwice as TwiceDefined, Undefined as NotDefined, Clash as KindsClash, BareConstant as ConstantAlone, BadCall as CallDiffers, Recursive as CallsItself, BadPragma as PragmaIsBad, NoInit as InitIsMissing, IsFlatBody, FlatBody, IsText, ProcessModel, IsWellFormed, IsFirstOffence, TypeAnswer, TypeMemory, CallAnswer, TooManySignals as TooMany, OutOfMemory as CallMemory, FlatAnswer, TooManyMade, FlatMemory}
+use Rattle.sig_type.specs.declared.answer.TypeAnswer.TheVariants.{Unknown, DeclaredTwice, InputDefined, DefinedTwice, Undefined, Clash, BareConstant, BadCall, Recursive, BadPragma, NoInit}
 use Rattle.sig_front.specs.Texts.{IsNoText}
 use Rattle.sig_front.specs.declared.answer.FrontAnswer.{FrontAnswer}
 use Rattle.sig_front.specs.declared.answer.FrontAnswer.TheVariants.{Lex, Parse, «Type» as TypeRefused, TooManySignals, OutOfMemory}

@@ -1,14 +1,7 @@
 -- The kernel of a text, and what a text is refused for that has none that is kept: the rules of acceptance that
 -- speak of the program, over its bytes.
-use Rattle.std.specs.Prelude.{◌≡◌, ◌⊎◌, ◌<◌, ◌≤◌, ℕ, List, length}
-use Rattle.sig_base.specs.Traces.{Trace}
-use Rattle.sig_base.specs.declared.limits.TheConstants.{SIGNALS}
-use Rattle.sig_tree.specs.FlatSyntax.{FlatBody}
-use Rattle.sig_tree.specs.ProcessTraces.{IsProcessTrace}
-use Rattle.sig_kernel.specs.KernelTraces.{IsKernelTrace}
-use Rattle.sig_kernel.specs.declared.kernel.Kernel.{Kernel}
-use Rattle.sig_flat.specs.KernelOf.{kernel_of}
-use Rattle.sig_flat.specs.Restricted.{restricted}
+use Rattle.std.specs.Prelude.{◌≡◌, ◌⊎◌, ◌<◌, ◌≤◌}
+use Rattle.sig_front.specs.Prelude.{ℕ, List, length, Trace, SIGNALS, FlatBody, IsProcessTrace, IsKernelTrace, Kernel, kernel_of, restricted}
 use Rattle.sig_front.specs.Flats.{IsFlatText, IsNoFlatText, IsTooLarge}
 use Rattle.sig_front.specs.declared.answer.FrontAnswer.{FrontAnswer}
 use Rattle.sig_front.specs.declared.answer.FrontAnswer.TheVariants.{Lex, Parse, «Type» as TypeRefused, TooManySignals, OutOfMemory}

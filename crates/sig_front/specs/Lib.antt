@@ -1,3 +1,4 @@
+pub mod Prelude
 pub mod Flats
 pub mod Kernels
 pub mod Shown

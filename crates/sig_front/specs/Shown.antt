@@ -1,10 +1,6 @@
 -- The lines of refusals, each without its newline.
-use Rattle.std.specs.Prelude.{ℕ, ◌++◌, List, codes}
-use Rattle.std.specs.Fmt.{decimal}
-use Rattle.sig_base.specs.Lines.{refusal}
-use Rattle.sig_lex.specs.Shown.{fault_line}
-use Rattle.sig_parse.specs.Lines.{answer_line}
-use Rattle.sig_type.specs.Answers.{answer_line as type_line}
+use Rattle.std.specs.Prelude.{◌++◌}
+use Rattle.sig_front.specs.Prelude.{ℕ, List, codes, decimal, refusal, fault_line, answer_line, type_line}
 use Rattle.sig_front.specs.declared.answer.FrontAnswer.{FrontAnswer}
 use Rattle.sig_front.specs.declared.answer.FrontAnswer.TheVariants.{Lex, Parse, «Type» as TypeRefused, TooManySignals, OutOfMemory}
 

@@ -1,14 +1,5 @@
 -- What a text is refused for, before anything is asked of its tree.
-use Rattle.std.specs.Prelude.{ℕ, List}
-use Rattle.sig_lex.specs.declared.answer.LexAnswer.{LexAnswer}
-use Rattle.sig_lex.specs.declared.answer.LexAnswer.TheVariants.{BadByte, OpenComment, LongNumber, OutOfMemory as LexMemory}
-use Rattle.sig_lex.specs.declared.token.Token.{Token}
-use Rattle.sig_lex.specs.Tokens.{AreTokens, IsFirstFault}
-use Rattle.sig_parse.specs.declared.parse_answer.ParseAnswer.{ParseAnswer}
-use Rattle.sig_parse.specs.declared.parse_answer.ParseAnswer.TheVariants.{Syntax, Nesting, OutOfMemory as ParseMemory}
-use Rattle.sig_parse.specs.Exact.{IsFirstRefusal}
-use Rattle.sig_parse.specs.Refused.{end_of}
-use Rattle.sig_tree.specs.Leaves.{leaves_of}
+use Rattle.sig_front.specs.Prelude.{ℕ, List, LexAnswer, BadByte, OpenComment, LongNumber, LexMemory, Token, AreTokens, IsFirstFault, ParseAnswer, Syntax, Nesting, ParseMemory, IsFirstRefusal, end_of, leaves_of}
 use Rattle.sig_front.specs.declared.answer.FrontAnswer.{FrontAnswer}
 use Rattle.sig_front.specs.declared.answer.FrontAnswer.TheVariants.{Lex, Parse, OutOfMemory}
 

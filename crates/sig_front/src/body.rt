@@ -1,11 +1,7 @@
 //! From a text to its flat body.
 
-ghost use Rattle.std.specs.Prelude.{◌≡◌, ◌<◌, ◌≤◌, ◌^◌, ◌⊎◌, ℕ, List, IfOk, IfErr, IsErrAnd, MatchResult, bytes_eq, length, map};
-ghost use Rattle.std.specs.List.{IsDistinct};
-ghost use Rattle.sig_tree.specs.Sound.{IsTree};
-ghost use Rattle.sig_tree.specs.FlatSyntax.{FlatBody, flat_body_of};
-ghost use Rattle.sig_tree.specs.Grammar.{IsText};
-ghost use Rattle.sig_tree.specs.Syntax.{program_of};
+ghost use Rattle.std.specs.Prelude.{◌≡◌, ◌<◌, ◌≤◌, ◌^◌, ◌⊎◌};
+ghost use Rattle.sig_front.specs.Prelude.{ℕ, List, IfOk, IfErr, IsErrAnd, MatchResult, bytes_eq, length, map, IsDistinct, IsTree, FlatBody, flat_body_of, IsText, program_of};
 ghost use Rattle.sig_front.specs.Flats.{IsFlatText, IsNoFlatText};
 ghost use Rattle.sig_front.specs.declared.answer.FrontAnswer.{FrontAnswer};
 

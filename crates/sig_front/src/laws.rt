@@ -1,14 +1,7 @@
 //! Laws of texts.
 
-ghost use Rattle.std.specs.Prelude.{◌≡◌, ◌<◌, ◌≤◌, ◌^◌, ℕ, List, length};
-ghost use Rattle.std.specs.List.{AllByRecursion};
-ghost use Rattle.sig_base.specs.declared.limits.TheConstants.{PROGRAM_BYTES};
-ghost use Rattle.sig_tree.specs.SignalNames.{IsSignalName};
-ghost use Rattle.sig_tree.specs.Grammar.{IsText};
-ghost use Rattle.sig_tree.specs.Syntax.{ProcessModel};
-ghost use Rattle.sig_tree.specs.FlatSyntax.{FlatBody};
-ghost use Rattle.sig_kernel.specs.Validity.{IsValid};
-ghost use Rattle.sig_kernel.specs.declared.kernel.Kernel.{Kernel};
+ghost use Rattle.std.specs.Prelude.{◌≡◌, ◌<◌, ◌≤◌, ◌^◌};
+ghost use Rattle.sig_front.specs.Prelude.{ℕ, List, length, AllByRecursion, PROGRAM_BYTES, IsSignalName, IsText, ProcessModel, FlatBody, IsValid, Kernel};
 ghost use Rattle.sig_front.specs.Flats.{IsFlatText, IsNoFlatText};
 ghost use Rattle.sig_front.specs.Kernels.{HasTracesOf, IsKernelText, IsNoKernelText};
 ghost use Rattle.sig_front.specs.Texts.{IsNoText};

@@ -1,8 +1,7 @@
 //! From a text to its tree.
 
-ghost use Rattle.std.specs.Prelude.{◌≡◌, ◌≤◌, ◌⊎◌, List, IfOk, IfErr, IsErrAnd, MatchResult, length};
-ghost use Rattle.sig_tree.specs.Grammar.{IsText};
-ghost use Rattle.sig_tree.specs.Syntax.{ProcessModel, program_of};
+ghost use Rattle.std.specs.Prelude.{◌≡◌, ◌≤◌, ◌⊎◌};
+ghost use Rattle.sig_front.specs.Prelude.{List, IfOk, IfErr, IsErrAnd, MatchResult, length, IsText, ProcessModel, program_of};
 ghost use Rattle.sig_front.specs.Texts.{IsNoText};
 ghost use Rattle.sig_front.specs.declared.answer.FrontAnswer.{FrontAnswer};
 

@@ -1,12 +1,5 @@
 -- If each of the first numbers is an element of a list, there are no more of them than elements.
-use Rattle.std.proofs.Common.{◌≡◌, ◌⊎◌, ℕ, zero, suc, ◌+◌, ◌<◌, ◌≤◌, Bool, true, false, ◌||◌, List, length, inl, inr, refl, sym, arith, get_or, eqb, eq-eqb}
-use Rattle.std.specs.List.{AllByRecursion, IsDistinct, list_any, range_with_len}
-use Rattle.std.proofs.lemmas.Bool.Decides.{nat_tests}
-use Rattle.std.proofs.lemmas.Cmp.{nat_eq_equiv}
-use Rattle.std.proofs.lemmas.List.Folds.{list_any_at}
-use Rattle.std.proofs.lemmas.List.FromFn.{length-range_with_len}
-use Rattle.std.proofs.lemmas.Map.Keys.{IsDistinct-cons}
-use Rattle.std.proofs.lemmas.Map.Made.{length-le_from_is_member}
+use Rattle.sig_hier.proofs.Common.{◌≡◌, ◌⊎◌, ℕ, zero, suc, ◌+◌, ◌<◌, ◌≤◌, Bool, true, false, ◌||◌, List, length, inl, inr, refl, sym, arith, get_or, eqb, eq-eqb, AllByRecursion, IsDistinct, list_any, range_with_len, nat_tests, nat_eq_equiv, list_any_at, length-range_with_len, IsDistinct-cons, length-le_from_is_member}
 
 differ : (a b : ℕ) → a < b → eqb a b ≡ false
 differ a b lt = grind (arith, nat_tests)

@@ -1,14 +1,5 @@
 -- In a preorder a class stands as often as its parent does, and so once.
-use Rattle.std.proofs.Common.{◌≡◌, ℕ, zero, suc, ◌+◌, ◌<◌, ◌≤◌, Bool, true, false, cond, List, [], ◌∷◌, length, filter, None, Some, Option, inl, inr, refl, ap, sym, ◌∙◌, subst, arith, eqb, eq-eqb, slice_index_or, sum_by}
-use Rattle.std.specs.List.{flat_map, range_with_len}
-use Rattle.std.proofs.lemmas.Bool.{cases_Bool, cases_lt, ne_eqb}
-use Rattle.std.proofs.lemmas.List.Sums.{sum_by-append, sum_by-cons}
-use Rattle.std.proofs.lemmas.Option.{get_or_from_slice_get}
-use Rattle.sig_clock.specs.Clocks.{ClocksView}
-use Rattle.sig_dd.specs.declared.node.Node.{Node}
-use Rattle.sig_hier.specs.Texts.{children, is_parent, preorder_from}
-use Rattle.sig_hier.specs.Trees.{IsTree}
-use Rattle.sig_hier.specs.declared.preorder.Line.{Line}
+use Rattle.sig_hier.proofs.Common.{◌≡◌, ℕ, zero, suc, ◌+◌, ◌<◌, ◌≤◌, Bool, true, false, cond, List, [], ◌∷◌, length, filter, None, Some, Option, inl, inr, refl, ap, sym, ◌∙◌, subst, arith, eqb, eq-eqb, slice_index_or, sum_by, flat_map, range_with_len, cases_Bool, cases_lt, ne_eqb, sum_by-append, sum_by-cons, get_or_from_slice_get, ClocksView, Node, children, is_parent, preorder_from, IsTree, Line}
 
 -- 1 where a number is another one
 abbrev one_at : ℕ → ℕ → ℕ

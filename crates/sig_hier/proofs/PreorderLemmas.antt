@@ -1,12 +1,5 @@
 -- The classes below a class, when the children among so many first classes are listed.
-use Rattle.std.proofs.Common.{◌≡◌, ℕ, zero, suc, ◌+◌, ◌-◌, ◌<◌, Bool, true, false, cond, List, [], ◌∷◌, ◌++◌, length, filter, None, Option, refl, ap, append_assoc, sym, ◌∙◌, arith, slice_index_or}
-use Rattle.std.proofs.lemmas.Grind.{flat_map-append}
-use Rattle.std.proofs.lemmas.List.{append-nil}
-use Rattle.std.proofs.lemmas.List.Elements.{filter-append}
-use Rattle.std.specs.List.{flat_map, range_with_len}
-use Rattle.sig_clock.proofs.Lists.{range_from_zero}
-use Rattle.sig_hier.specs.Texts.{children, is_parent, preorder_from}
-use Rattle.sig_hier.specs.declared.preorder.Line.{Line}
+use Rattle.sig_hier.proofs.Common.{◌≡◌, ℕ, zero, suc, ◌+◌, ◌-◌, ◌<◌, Bool, true, false, cond, List, [], ◌∷◌, ◌++◌, length, filter, None, Option, refl, ap, append_assoc, sym, ◌∙◌, arith, slice_index_or, flat_map-append, append-nil, filter-append, flat_map, range_with_len, range_from_zero, children, is_parent, preorder_from, Line}
 
 abbrev pub is_child : List (Option ℕ) → ℕ → ℕ → Bool
 is_child tree class other = is_parent (slice_index_or tree other None) class

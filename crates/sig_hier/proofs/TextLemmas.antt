@@ -1,9 +1,5 @@
 -- One more level, and one more name.
-use Rattle.std.proofs.Common.{◌≡◌, ℕ, zero, suc, ◌+◌, ◌<◌, List, [], ◌∷◌, ◌++◌, length, take, get_or, refl, ap, add-one, append_assoc, sym}
-use Rattle.std.proofs.Math.Seq.{take-suc}
-use Rattle.std.proofs.lemmas.List.{flat_map_more}
-use Rattle.std.specs.List.{flat_map}
-use Rattle.sig_hier.specs.Texts.{indent}
+use Rattle.sig_hier.proofs.Common.{◌≡◌, ℕ, zero, suc, ◌+◌, ◌<◌, List, [], ◌∷◌, ◌++◌, length, take, get_or, refl, ap, add-one, append_assoc, sym, take-suc, flat_map_more, flat_map, indent}
 
 indent-suc : (n : ℕ) → indent (suc n) ≡ indent n ++ (32 ∷ 32 ∷ [])
 indent-suc zero = refl

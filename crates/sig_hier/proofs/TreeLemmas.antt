@@ -1,17 +1,6 @@
 -- Parents of classes, and why each class of a kernel but the root's has one.
-use Rattle.std.proofs.Common.{◌≡◌, ℕ, ◌-◌, ◌<◌, ◌≤◌, ◌^◌, Bool, true, List, length, None, Some, Option, refl, ap, sym, ◌∙◌, subst, inl, inr, arith, get_or, slice_get, slice_index_or}
-use Rattle.std.proofs.lemmas.Bool.{cases_lt}
-use Rattle.std.proofs.lemmas.Option.{get_or_from_slice_get, slice_get-get_or}
-use Rattle.sig_clock.proofs.ProposalLemmas.{some_reaction}
-use Rattle.sig_clock.specs.ClockRefusals.{HasClocks}
-use Rattle.sig_clock.specs.Clocks.{AreClocks, ClocksView}
-use Rattle.sig_dd.specs.Nodes.{Implies, test}
-use Rattle.sig_dd.specs.declared.node.Node.{Node}
-use Rattle.sig_dd.specs.declared.node.Ref.{Ref}
+use Rattle.sig_hier.proofs.Common.{◌≡◌, ℕ, ◌-◌, ◌<◌, ◌≤◌, ◌^◌, Bool, true, List, length, None, Some, Option, refl, ap, sym, ◌∙◌, subst, inl, inr, arith, get_or, slice_get, slice_index_or, cases_lt, get_or_from_slice_get, slice_get-get_or, some_reaction, HasClocks, AreClocks, ClocksView, Implies, test, Node, Ref, AreParents, HasParent, HaveKernel, IsParent, IsParentIfAny, IsTree, IsWithin, IsValid, Kernel}
 use Rattle.sig_hier.proofs.CountLemmas.{count_within}
-use Rattle.sig_hier.specs.Trees.{AreParents, HasParent, HaveKernel, IsParent, IsParentIfAny, IsTree, IsWithin}
-use Rattle.sig_kernel.specs.Validity.{IsValid}
-use Rattle.sig_kernel.specs.declared.kernel.Kernel.{Kernel}
 
 abbrev pub guard_at : List Ref → ℕ → Ref
 guard_at guards class = get_or guards class (record { number = 0 })

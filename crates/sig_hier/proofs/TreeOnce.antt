@@ -1,25 +1,5 @@
 -- The text of the hierarchy of a kernel's clocks is one.
-use Rattle.std.proofs.Common.{◌≡◌, ◌<◌, ◌≤◌, ◌⊎◌, inl, inr, ⊎_elim, ℕ, Bool, true, false, List, [], ◌∷◌, length, map, get_or, refl, sym, ap, ◌∙◌, subst, arith, Contains}
-use Rattle.std.specs.Prelude.{zero, suc, ◌==◌, Option, None, Some, IsTrue, slice_get, if◌then◌else◌}
-use Rattle.std.specs.List.{flat_map, range_with_len}
-use Rattle.std.proofs.lemmas.Bool.{cases_order}
-use Rattle.std.proofs.lemmas.List.{ext_get_or}
-use Rattle.std.proofs.lemmas.List.FromFn.{get_or-map-range_with_len, length-map-range_with_len}
-use Rattle.std.proofs.lemmas.Option.{slice_get_past}
-use Rattle.sig_clock.specs.ClockFunctions.{IsClockFunction}
-use Rattle.sig_clock.specs.ClockRefusals.{HasClocks}
-use Rattle.sig_clock.specs.Clocks.{AreClocks, ClocksView, IsLeastOf}
-use Rattle.sig_clock.specs.Layers.{HasLayer, IsRoot, IsSignal}
-use Rattle.sig_clock.proofs.LayerLemmas.{one_layer}
-use Rattle.sig_dd.specs.Nodes.{test}
-use Rattle.sig_dd.specs.declared.node.Node.{Node}
-use Rattle.sig_dd.specs.declared.node.Ref.{Ref}
-use Rattle.sig_hier.specs.Texts.{IsTreeText, line_text, preorder, text_of}
-use Rattle.sig_hier.specs.Trees.{IsTree, IsWithin}
-use Rattle.sig_kernel.specs.declared.kernel.Kernel.{Kernel}
-use Rattle.sig_clock.proofs.Lists.{at_contained, contains_at, get_at, get_within}
-use Rattle.sig_clock.proofs.OnceLemmas.{conditions_once, function_once}
-use Rattle.sig_clock.proofs.Ordered.{same_list}
+use Rattle.sig_hier.proofs.Common.{◌≡◌, ◌<◌, ◌≤◌, ◌⊎◌, inl, inr, ⊎_elim, ℕ, Bool, true, false, List, [], ◌∷◌, length, map, get_or, refl, sym, ap, ◌∙◌, subst, arith, Contains, zero, suc, ◌==◌, Option, None, Some, IsTrue, slice_get, if◌then◌else◌, flat_map, range_with_len, cases_order, ext_get_or, get_or-map-range_with_len, length-map-range_with_len, slice_get_past, IsClockFunction, HasClocks, AreClocks, ClocksView, IsLeastOf, HasLayer, IsRoot, IsSignal, one_layer, test, Node, Ref, IsTreeText, line_text, preorder, text_of, IsTree, IsWithin, Kernel, at_contained, contains_at, get_at, get_within, conditions_once, function_once, same_list}
 
 -- ---- the place of the first of some numbers that is this one
 

@@ -1,13 +1,9 @@
 -- The text of a clock hierarchy: a line for each class, in preorder, with two blanks for each level and the declared
 -- signals of the class.
-use Rattle.std.specs.Prelude.{◌≡◌, ℕ, zero, suc, ◌+◌, ◌==◌, Bool, false, List, [], ◌∷◌, ◌++◌, length, filter, slice_get, slice_index, slice_index_or, Option, None, Some, codes}
-use Rattle.std.specs.List.{flat_map, range_with_len}
-use Rattle.sig_base.specs.declared.signal.Signal.{Signal}
-use Rattle.sig_clock.specs.Clocks.{AreClocks, ClocksView}
-use Rattle.sig_dd.specs.declared.node.Node.{Node}
+use Rattle.std.specs.Prelude.{◌≡◌, ◌+◌, ◌==◌, ◌∷◌, ◌++◌}
+use Rattle.sig_hier.specs.Prelude.{ℕ, zero, suc, Bool, false, List, [], length, filter, slice_get, slice_index, slice_index_or, Option, None, Some, codes, flat_map, range_with_len, Signal, AreClocks, ClocksView, Node, Kernel}
 use Rattle.sig_hier.specs.Trees.{IsTree}
 use Rattle.sig_hier.specs.declared.preorder.Line.{Line}
-use Rattle.sig_kernel.specs.declared.kernel.Kernel.{Kernel}
 
 abbrev pub is_parent : Option ℕ → ℕ → Bool
 is_parent None class = false

@@ -1,12 +1,6 @@
 -- The clock hierarchy of classes: the parent of a class is a class whose signals are present wherever its own are.
-use Rattle.std.specs.Prelude.{◌≡◌, ◌<◌, ◌≤◌, ℕ, List, length, slice_get, slice_index_or, Option, None, Some}
-use Rattle.sig_clock.specs.ClockRefusals.{HasClocks}
-use Rattle.sig_clock.specs.Clocks.{AreClocks, ClocksView}
-use Rattle.sig_dd.specs.Nodes.{Holds, Implies}
-use Rattle.sig_dd.specs.declared.node.Node.{Node}
-use Rattle.sig_dd.specs.declared.node.Ref.{Ref}
-use Rattle.sig_kernel.specs.Validity.{IsValid}
-use Rattle.sig_kernel.specs.declared.kernel.Kernel.{Kernel}
+use Rattle.std.specs.Prelude.{◌≡◌, ◌<◌, ◌≤◌}
+use Rattle.sig_hier.specs.Prelude.{ℕ, List, length, slice_get, slice_index_or, Option, None, Some, HasClocks, AreClocks, ClocksView, Holds, Implies, Node, Ref, IsValid, Kernel}
 
 -- guards are references of a store
 abbrev pub AreHeld : List Node → List Ref → Type 0

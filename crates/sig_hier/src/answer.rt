@@ -1,7 +1,7 @@
 //! Why a hierarchy or its text is not made.
 
 ghost use Rattle.std.specs.Prelude.{◌≡◌};
-ghost use Rattle.sig_dd.specs.declared.answer.DdAnswer.{DdAnswer};
+ghost use Rattle.sig_hier.specs.Prelude.{DdAnswer};
 ghost use Rattle.sig_hier.specs.declared.answer.TreeAnswer.TheVariants.{OutOfMemory};
 
 use sig_dd::DdAnswer;

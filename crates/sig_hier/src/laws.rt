@@ -1,12 +1,9 @@
 //! Laws of hierarchies. The function of a law does nothing when it runs.
 
-ghost use Rattle.std.specs.Prelude.{◌≡◌, ◌==◌, ◌<◌, ℕ, List, Option, count_by, length};
-ghost use Rattle.sig_clock.specs.ClockRefusals.{HasClocks};
-ghost use Rattle.sig_clock.specs.Clocks.{ClocksView};
-ghost use Rattle.sig_dd.specs.declared.node.Node.{Node};
+ghost use Rattle.std.specs.Prelude.{◌≡◌, ◌==◌, ◌<◌};
+ghost use Rattle.sig_hier.specs.Prelude.{ℕ, List, Option, count_by, length, HasClocks, ClocksView, Node, Kernel};
 ghost use Rattle.sig_hier.specs.Texts.{IsTreeText, preorder};
 ghost use Rattle.sig_hier.specs.Trees.{IsTree};
-ghost use Rattle.sig_kernel.specs.declared.kernel.Kernel.{Kernel};
 
 /// A law: the text of a hierarchy has one line for each class.
 pub fn each_class_has_one_line()

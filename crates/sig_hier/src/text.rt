@@ -1,7 +1,7 @@
 //! The text of a hierarchy.
 
-ghost use Rattle.std.specs.Prelude.{◌≡◌, ◌==◌, ◌++◌, IfOk, OnOk, slice_index};
-ghost use Rattle.std.specs.List.{flat_map};
+ghost use Rattle.std.specs.Prelude.{◌≡◌, ◌==◌, ◌++◌};
+ghost use Rattle.sig_hier.specs.Prelude.{IfOk, OnOk, slice_index, flat_map};
 ghost use Rattle.sig_hier.specs.Texts.{indent, line_text, members, name_at, names_text, others_text, text_of};
 
 use crate::answer::TreeAnswer;

@@ -1,9 +1,5 @@
 -- Operands that agree, and equations of them.
-use Rattle.std.proofs.Common.{Bool, true, false, List, [], refl}
-use Rattle.sig_base.specs.Traces.{Instant}
-use Rattle.sig_tree.specs.FlatSyntax.{FlatExpression, Equal}
-use Rattle.sig_tree.specs.Steps.{EquationSteps}
-use Rattle.sig_judge.specs.Decides.{Agree, DecidesWhether}
+use Rattle.sig_judge.proofs.Common.{Bool, true, false, List, [], refl, Instant, FlatExpression, Equal, EquationSteps, Agree, DecidesWhether}
 
 pub equal_whether : (now : Instant) (es : List FlatExpression) (result : Bool) (nexts : List FlatExpression) → DecidesWhether (Agree now es) result nexts → DecidesWhether (EquationSteps now (Equal es [])) result (Equal nexts [])
 equal_whether now es true nexts h = (nexts, h, refl)

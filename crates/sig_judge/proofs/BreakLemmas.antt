@@ -1,11 +1,5 @@
 -- The first equation that an instant does not satisfy.
-use Rattle.std.proofs.Common.{◌<◌, ◌++◌, ℕ, suc, List, ◌∷◌, length, map, take, drop, get_or, sym, ap, ◌∙◌, arith}
-use Rattle.std.proofs.Math.Seq.{drop-cons}
-use Rattle.std.proofs.lemmas.List.{take-append-drop, length-take-le, length-map, map-append}
-use Rattle.sig_base.specs.Traces.{Instant}
-use Rattle.sig_tree.specs.FlatSyntax.{FlatEquation}
-use Rattle.sig_tree.specs.Steps.{EquationSteps, BodySteps}
-use Rattle.sig_judge.specs.Decides.{BreaksAt}
+use Rattle.sig_judge.proofs.Common.{◌<◌, ◌++◌, ℕ, suc, List, ◌∷◌, length, map, take, drop, get_or, sym, ap, ◌∙◌, arith, drop-cons, take-append-drop, length-take-le, length-map, map-append, Instant, FlatEquation, EquationSteps, BodySteps, BreaksAt}
 
 pub breaks_here : {A : Type 0} (f : A → FlatEquation) (now : Instant) (xs ys : List A) (i : ℕ) (d : A) → i < length xs → BodySteps now (map f (take i xs)) (map f (take i ys))
     → ((next : FlatEquation) → EquationSteps now (f (get_or xs i d)) next → ⊥) → BreaksAt now (map f xs) i

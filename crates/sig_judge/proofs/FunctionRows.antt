@@ -1,17 +1,9 @@
 -- The rows of functions, and what is decided of a value that is present.
-use Rattle.std.proofs.Common.{◌≡◌, ℤ, pos, negsuc, zero, suc, ◌+ℤ◌, ◌-ℤ◌, ◌*ℤ◌, true, Option, None, Some, refl, sym, subst, arith, option_map}
-use Rattle.std.specs.Prelude.{int_div, int_rem}
-use Rattle.std.proofs.lemmas.Int.{ints, quot-rem}
-use Rattle.sig_base.specs.Traces.{Seen as SeenAt}
-use Rattle.sig_base.specs.Functions.{Function, And as FunctionAnd, Or as FunctionOr, Xor as FunctionXor, Equal, NotEqual, Less as FunctionLess, LessEqual, Greater, GreaterEqual, Sum, Difference, Product, Quotient, Remainder, remainder}
-use Rattle.sig_tree.specs.declared.expr.BinOp.{BinOp}
-use Rattle.sig_tree.specs.declared.expr.BinOp.TheVariants.{Default, When, Plus, Meet, Less, Or, Xor, And, Eq, Ne, Lt, Le, Gt, Ge, Add, Sub, Mul, Div, Mod}
-use Rattle.sig_tree.specs.Constants.{is_function}
-use Rattle.sig_tree.specs.Operators.{Operand, Signal, Constant, AppliesToBoth, Combines}
-use Rattle.sig_judge.specs.Decides.{DecidesSeen, DecidesValue}
-use Rattle.sig_judge.specs.Rows.{seen_of}
+use Rattle.sig_judge.proofs.Common.{◌≡◌, ℤ, pos, negsuc, zero, suc, ◌+ℤ◌, ◌-ℤ◌, ◌*ℤ◌, true, Option, None, Some, refl, sym, subst, arith, option_map, int_div, int_rem, ints, quot-rem, Seen as SeenAt, Function, And as FunctionAnd, Or as FunctionOr, Xor as FunctionXor, NotEqual, Less as FunctionLess, LessEqual, Greater, GreaterEqual, Sum, Difference, Product, Quotient, Remainder, remainder, BinOp, Default, When, Plus, Meet, Eq, Ne, Lt, Le, Gt, Ge, Add, Sub, Mul, Div, Mod, is_function, Operand, Constant, AppliesToBoth, Combines, DecidesSeen, DecidesValue, seen_of, Value}
+use Rattle.sig_base.specs.Functions.{Equal}
+use Rattle.sig_tree.specs.declared.expr.BinOp.TheVariants.{Less, Or, Xor, And}
+use Rattle.sig_tree.specs.Operators.{Signal}
 use Rattle.sig_judge.specs.declared.trace.Seen.{Seen}
-use Rattle.sig_judge.specs.declared.trace.Seen.TheVariants.{Value}
 
 -- an operator that is a function is the function of its row
 abbrev IsRow : BinOp → Function → Type 0

@@ -1,10 +1,5 @@
 -- The first line with words, found line by line.
-use Rattle.std.proofs.Common.{◌≡◌, ◌+◌, ℕ, List, [], ◌∷◌, length, Option, None, Some, refl, sym, ap, ◌∙◌, arith}
-use Rattle.std.specs.Str.Lines.{lines}
-use Rattle.sig_flow.specs.Lines.{numbered}
-use Rattle.sig_flow.specs.Words.{Word, words_of}
-use Rattle.sig_judge.specs.Headers.{line_of}
-use Rattle.sig_judge.specs.TraceFiles.{Body, body_at, body_of}
+use Rattle.sig_judge.proofs.Common.{◌≡◌, ◌+◌, ℕ, List, [], ◌∷◌, length, Option, None, Some, refl, sym, ap, ◌∙◌, arith, lines, numbered, Word, words_of, line_of, Body, body_at, body_of}
 
 abbrev pub body_from : ℕ → List ℕ → Option Body
 body_from number rest = body_of (numbered number (lines rest))

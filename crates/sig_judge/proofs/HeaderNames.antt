@@ -1,19 +1,6 @@
 -- The names of a header, and the places at which signals are named.
-use Rattle.std.proofs.Common.{◌≡◌, ◌≢◌, ◌<◌, ◌+◌, ◌++◌, ◌&&◌, ℕ, Bool, true, false, cond, not, List, [], ◌∷◌, length, map, get_or, set, Option, None, Some, bytes_eq, is_some, unwrap_or, refl, sym, ap, ◌∙◌, subst, arith, ⊎_elim, append_assoc}
-use Rattle.std.proofs.lemmas.Bool.{cases_Bool, cases_eq, ne_eqb, eq-eqb, false≢true}
-use Rattle.std.proofs.lemmas.List.{get_or_default, get_or-set_same, get_or-set_other, get_or-map, ext_get_or, length-map, length-set, map-append, append-nil}
-use Rattle.std.proofs.lemmas.List.Folds.{list_all-append, list_all_at}
-use Rattle.std.proofs.lemmas.List.Sums.{sum_by-append, sum_by-cons, list_all-from_AllPass}
-use Rattle.std.proofs.lemmas.Slice.Eq.{bytes_eq-Decides}
-use Rattle.std.specs.List.{IsDistinct, count_by, list_all, position_or_len}
-use Rattle.sig_base.specs.declared.ids.Kind.{Kind}
-use Rattle.sig_base.specs.declared.ids.Kind.TheVariants.{Integer}
-use Rattle.sig_base.specs.declared.signal.Signal.{Signal}
-use Rattle.sig_flow.specs.Flows.{kind_named}
-use Rattle.sig_flow.specs.Words.{Word, words_from, words_of}
-use Rattle.sig_flow.proofs.InputLemmas.{differ_eq, names_differ, nobody}
-use Rattle.sig_judge.specs.Headers.{IsPlace, Named}
-use Rattle.sig_judge.specs.TraceFiles.{are_names, column_of, is_header, is_named_once, kinds_named, texts_of}
+use Rattle.sig_judge.proofs.Common.{◌≡◌, ◌≢◌, ◌<◌, ◌+◌, ◌++◌, ◌&&◌, ℕ, Bool, true, false, cond, not, List, [], ◌∷◌, length, map, get_or, set, Option, None, Some, bytes_eq, is_some, unwrap_or, refl, sym, ap, ◌∙◌, subst, arith, ⊎_elim, append_assoc, cases_Bool, cases_eq, ne_eqb, eq-eqb, false≢true, get_or_default, get_or-set_same, get_or-set_other, ext_get_or, length-map, length-set, map-append, append-nil, list_all-append, list_all_at, sum_by-append, sum_by-cons, list_all-from_AllPass, bytes_eq-Decides, IsDistinct, count_by, list_all, position_or_len, Kind, Integer, Signal, kind_named, Word, words_from, words_of, differ_eq, names_differ, nobody, IsPlace, Named, are_names, column_of, is_header, is_named_once, kinds_named, texts_of}
+use Rattle.std.proofs.lemmas.List.{get_or-map}
 
 module _ {X : Type 0} (p : X → Bool) where
   -- how many pass, with one more in front

@@ -1,13 +1,5 @@
 -- Instants of signals of their kinds.
-use Rattle.std.proofs.Common.{◌≡◌, ◌<◌, ◌+◌, ◌++◌, ℕ, zero, suc, List, [], ◌∷◌, length, map, take, get_or, refl, sym, ap, subst, arith}
-use Rattle.std.specs.List.{AllByRecursion}
-use Rattle.std.proofs.Math.ListN.{get_or-map}
-use Rattle.std.proofs.lemmas.List.{take_more, map-append}
-use Rattle.sig_base.specs.declared.ids.Kind.{Kind}
-use Rattle.sig_base.specs.declared.signal.Signal.{Signal}
-use Rattle.sig_base.specs.Traces.{Seen as SeenAt, Instant, Bounded, IsOfKind, AreOfKinds}
-use Rattle.sig_tree.specs.ProcessTraces.{kinds_of}
-use Rattle.sig_judge.specs.Rows.{seen_of}
+use Rattle.sig_judge.proofs.Common.{◌≡◌, ◌<◌, ◌+◌, ◌++◌, ℕ, zero, suc, List, [], ◌∷◌, length, map, take, get_or, refl, sym, ap, subst, arith, AllByRecursion, get_or-map, take_more, map-append, Kind, Signal, Seen as SeenAt, Instant, Bounded, IsOfKind, AreOfKinds, kinds_of, seen_of}
 use Rattle.sig_judge.specs.declared.trace.Seen.{Seen}
 
 pub kinds_length : (kinds : List Kind) (row : Instant) → AreOfKinds Bounded kinds row → length row ≡ length kinds

@@ -1,3 +1,4 @@
+pub mod Common
 pub mod AgreeAnswers
 pub mod BreakLemmas
 pub mod FunctionRows
@@ -10,3 +11,17 @@ pub mod RowLemmas
 pub mod ValueKinds
 pub mod VerdictLemmas
 pub mod ZipLemmas
+pub use Common.*
+pub use AgreeAnswers.*
+pub use BreakLemmas.*
+pub use FunctionRows.*
+pub use HeaderFaults.*
+pub use HeaderLines.*
+pub use HeaderNames.*
+pub use KindLemmas.*
+pub use ReadLemmas.*
+pub use RowLemmas.*
+pub use VerdictLemmas.*
+pub use ZipLemmas.*
+pub use Rattle.sig_judge.proofs.HeaderFaults.{no_header}
+pub use Rattle.sig_judge.proofs.ReadLemmas.{not_both}

@@ -1,28 +1,6 @@
 -- Trace files, their instants of kinds, and that each has one reading.
-use Rattle.std.proofs.Common.{◌≡◌, ◌<◌, ◌++◌, ◌&&◌, ◌⊎◌, ℕ, suc, Bool, true, false, List, [], ◌∷◌, length, map, get_or, Option, None, Some, Result, Ok, Err, bytes_eq, unwrap_or, refl, sym, ap, ◌∙◌, subst, ⊎_elim, inl, inr, arith}
-use Rattle.std.proofs.lemmas.Bool.{eqb-true, false≢true}
-use Rattle.std.proofs.lemmas.List.{get_or-map, length-map, get_or_default}
-use Rattle.std.proofs.lemmas.List.Concat.{flat_map-cons}
-use Rattle.std.proofs.lemmas.List.Sums.{AllPass-from_list_all, passes_at_first}
-use Rattle.std.proofs.lemmas.Slice.Eq.{bytes_eq-Decides}
-use Rattle.std.specs.Prelude.{IfOk, IfErr, IsErrAnd, MatchResult}
-use Rattle.std.specs.List.{IsDistinct, count_by, flat_map, list_all}
-use Rattle.sig_base.specs.Traces.{Seen as SeenAt, Instant, Trace, Bounded, AreOfKinds, IsOfKind}
-use Rattle.sig_base.specs.declared.ids.Kind.{Kind}
-use Rattle.sig_base.specs.declared.ids.Kind.TheVariants.{Integer}
-use Rattle.sig_base.specs.declared.signal.Signal.{Signal}
-use Rattle.sig_tree.specs.ProcessTraces.{IsTraceOf}
-use Rattle.sig_flow.specs.First.{AllGood, IsFirst}
-use Rattle.sig_flow.specs.Flows.{is_line_byte, kind_named}
-use Rattle.sig_flow.specs.Lines.{Line, lines_of}
-use Rattle.sig_flow.specs.Words.{Word, words_of}
-use Rattle.sig_flow.proofs.FirstLemmas.{not_both as good_and_wrong, one_first}
-use Rattle.sig_flow.proofs.InputLemmas.{kind_at, names_differ}
-use Rattle.sig_judge.specs.declared.header.Header.{Header}
-use Rattle.sig_judge.specs.declared.trace_answer.TraceAnswer.{TraceAnswer}
-use Rattle.sig_judge.specs.declared.trace_answer.TraceAnswer.TheVariants.{BadHeader, BadLine, OutOfMemory}
-use Rattle.sig_judge.specs.Headers.{IsHeaderOf, instants_in}
-use Rattle.sig_judge.specs.TraceFiles.{Body, IsFirstBadPlace, IsTraceFile, are_names, bad_header, bad_row, body_of, cells_said, column_of, header_fault, instants_said, is_header, is_named_once, kinds_named, names_in, no_header, row_judge}
+use Rattle.sig_judge.proofs.Common.{◌≡◌, ◌<◌, ◌++◌, ◌&&◌, ◌⊎◌, ℕ, suc, Bool, true, false, List, [], ◌∷◌, length, map, get_or, Option, None, Some, Result, Ok, Err, bytes_eq, unwrap_or, refl, sym, ap, ◌∙◌, subst, ⊎_elim, inl, inr, arith, eqb-true, false≢true, length-map, get_or_default, flat_map-cons, AllPass-from_list_all, passes_at_first, bytes_eq-Decides, IfOk, IfErr, IsErrAnd, MatchResult, IsDistinct, count_by, flat_map, list_all, Seen as SeenAt, Instant, Trace, Bounded, AreOfKinds, IsOfKind, Kind, Integer, Signal, IsTraceOf, AllGood, IsFirst, is_line_byte, kind_named, Line, lines_of, Word, words_of, not_both as good_and_wrong, one_first, kind_at, names_differ, Header, TraceAnswer, BadHeader, BadLine, OutOfMemory, IsHeaderOf, instants_in, Body, IsFirstBadPlace, IsTraceFile, are_names, bad_header, bad_row, body_of, cells_said, column_of, header_fault, instants_said, is_header, is_named_once, kinds_named, names_in, no_header, row_judge}
+use Rattle.std.proofs.lemmas.List.{get_or-map}
 use Rattle.sig_judge.proofs.HeaderNames.{placed_within}
 use Rattle.sig_judge.proofs.ValueKinds.{cell_at_of_kind}
 

@@ -1,22 +1,6 @@
 -- The instants of a trace file, line by line and word by word.
-use Rattle.std.proofs.Common.{◌≡◌, ◌<◌, ◌+◌, ◌++◌, ◌⊎◌, ℕ, List, [], ◌∷◌, length, map, drop, get_or, Option, None, Some, sym, ap, ◌∙◌, subst, ⊎_elim, inl, inr, arith, append_assoc, length-append}
-use Rattle.std.proofs.lemmas.List.{append-nil, drop_more, map-append}
-use Rattle.std.specs.List.{flat_map}
-use Rattle.std.specs.Str.Lines.{lines}
-use Rattle.sig_base.specs.Traces.{Seen as SeenAt, Instant}
-use Rattle.sig_base.specs.declared.ids.Kind.{Kind}
-use Rattle.sig_base.specs.declared.ids.Kind.TheVariants.{Integer}
-use Rattle.sig_flow.specs.First.{AllGood, IsFirst, first_fault}
-use Rattle.sig_flow.specs.Lines.{Line, numbered}
-use Rattle.sig_flow.specs.Words.{Word, words_of}
-use Rattle.sig_flow.proofs.FirstLemmas.{judged_behind, judged_at, good_from_none, first_from_some}
-use Rattle.sig_judge.specs.declared.header.Header.{Header}
+use Rattle.sig_judge.proofs.Common.{◌≡◌, ◌<◌, ◌+◌, ◌++◌, ◌⊎◌, ℕ, List, [], ◌∷◌, length, map, drop, get_or, Option, None, Some, sym, ap, ◌∙◌, subst, ⊎_elim, inl, inr, arith, append_assoc, length-append, append-nil, drop_more, map-append, flat_map, lines, Seen as SeenAt, Instant, Kind, Integer, AllGood, IsFirst, first_fault, Line, numbered, Word, words_of, judged_behind, judged_at, good_from_none, first_from_some, Header, TraceAnswer, OutOfMemory, instants_in, line_of, seen_of, cell_fault, cell_said, cells_fault, cells_said, row_judge, seen_said, text_fault}
 use Rattle.sig_judge.specs.declared.trace.Seen.{Seen}
-use Rattle.sig_judge.specs.declared.trace_answer.TraceAnswer.{TraceAnswer}
-use Rattle.sig_judge.specs.declared.trace_answer.TraceAnswer.TheVariants.{OutOfMemory}
-use Rattle.sig_judge.specs.Headers.{instants_in, line_of}
-use Rattle.sig_judge.specs.Rows.{seen_of}
-use Rattle.sig_judge.specs.TraceFiles.{cell_fault, cell_said, cells_fault, cells_said, row_judge, seen_said, text_fault}
 
 module _ (kinds : List Kind) (n : ℕ) (words : List Word) (word : Word) (behind : List Word) (lt : n < length kinds) (are : words ≡ word ∷ behind) where
   abbrev here : Kind

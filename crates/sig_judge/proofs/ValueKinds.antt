@@ -1,16 +1,5 @@
 -- What words say is of the kind for which they say it.
-use Rattle.std.proofs.Common.{◌≡◌, ◌<◌, ◌≤◌, ◌^◌, ℕ, ℤ, zero, suc, pos, neg_ℤ, Bool, true, false, eqb, List, [], ◌∷◌, length, get_or, None, Result, bytes_eq, codes, refl, inl, inr, arith}
-use Rattle.std.proofs.lemmas.Bool.{ltb-true, leb-true, false≢true}
-use Rattle.std.specs.Prelude.{FitsSigned}
-use Rattle.std.specs.Int.{w64}
-use Rattle.std.specs.Str.Parse.{digits_value}
-use Rattle.sig_base.specs.Traces.{Bounded, IsOfKind}
-use Rattle.sig_base.specs.declared.ids.Kind.{Kind}
-use Rattle.sig_base.specs.declared.ids.Kind.TheVariants.{Integer, Boolean, Event}
-use Rattle.sig_flow.specs.Values.{boolean_said, event_said, integer_of, integer_said, is_numeral, is_within, value_said}
-use Rattle.sig_flow.specs.Words.{Word}
-use Rattle.sig_flow.specs.declared.value.WordFault.{WordFault}
-use Rattle.sig_judge.specs.TraceFiles.{cell_said, cells_said, present_with, seen_said}
+use Rattle.sig_judge.proofs.Common.{◌≡◌, ◌<◌, ◌≤◌, ◌^◌, ℕ, ℤ, zero, suc, pos, neg_ℤ, Bool, true, false, eqb, List, [], ◌∷◌, length, get_or, None, Result, bytes_eq, codes, refl, inl, inr, arith, ltb-true, leb-true, false≢true, FitsSigned, w64, digits_value, Bounded, IsOfKind, Kind, Integer, Boolean, Event, boolean_said, event_said, integer_of, integer_said, is_numeral, is_within, value_said, Word, WordFault, cell_said, cells_said, present_with, seen_said}
 
 fits_pos : (n : ℕ) → n < 2 ^ 63 → FitsSigned w64 (pos n)
 fits_pos n lt = record { sfits = lt }

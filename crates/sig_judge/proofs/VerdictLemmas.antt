@@ -1,21 +1,5 @@
 -- What the equations of a flat body lead to decides the verdict.
-use Rattle.std.proofs.Common.{◌≡◌, ◌<◌, ◌≤◌, ◌+◌, ◌++◌, ◌⊎◌, ℕ, suc, List, [], ◌∷◌, length, map, take, drop, get_or, refl, sym, ap, subst, ◌∙◌, arith, ⊎_elim, length-append}
-use Rattle.std.specs.List.{AllByRecursion, AllZip}
-use Rattle.std.proofs.Math.ListN.{get_or-append}
-use Rattle.std.proofs.Math.Seq.{drop-cons}
-use Rattle.std.proofs.lemmas.Bool.{cases_order}
-use Rattle.std.proofs.lemmas.List.{take-append-drop, take_all, length-take-le, length-map}
-use Rattle.sig_base.specs.Traces.{Instant, Trace, Bounded, AreOfKinds}
-use Rattle.sig_tree.specs.FlatSyntax.{FlatEquation, Defines, Equal, FlatBody}
-use Rattle.sig_tree.specs.Meaning.{instant_at}
-use Rattle.sig_tree.specs.ProcessTraces.{HoldsAt, HoldThroughout, IsTraceOf, IsProcessTrace, kinds_of}
-use Rattle.sig_tree.specs.Steps.{EquationSteps, Leads, HoldsBehind}
-use Rattle.sig_tree.proofs.UpTo.{holds_up_to}
-use Rattle.sig_judge.specs.Decides.{BreaksAt}
-use Rattle.sig_judge.specs.Nodes.{without_prefix}
-use Rattle.sig_judge.specs.Verdicts.{IsBroken, IsVerdict}
-use Rattle.sig_judge.specs.declared.verdict.Verdict.{Verdict}
-use Rattle.sig_judge.specs.declared.verdict.Verdict.TheVariants.{Accepted, Broken}
+use Rattle.sig_judge.proofs.Common.{◌≡◌, ◌<◌, ◌≤◌, ◌+◌, ◌++◌, ◌⊎◌, ℕ, suc, List, [], ◌∷◌, length, map, take, drop, get_or, refl, sym, ap, subst, ◌∙◌, arith, ⊎_elim, length-append, AllByRecursion, AllZip, get_or-append, drop-cons, cases_order, take-append-drop, take_all, length-take-le, length-map, Instant, Trace, Bounded, AreOfKinds, FlatEquation, Defines, Equal, FlatBody, instant_at, HoldsAt, HoldThroughout, IsTraceOf, IsProcessTrace, kinds_of, EquationSteps, Leads, HoldsBehind, holds_up_to, BreaksAt, without_prefix, IsBroken, IsVerdict, Verdict, Accepted, Broken}
 use Rattle.sig_judge.proofs.ZipLemmas.{Splits, zip_split, zip_map_left, zip_left, zip_back, zip_length, all_at, all_map, all_front}
 
 -- laws of process traces

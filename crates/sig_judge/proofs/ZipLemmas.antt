@@ -1,11 +1,5 @@
 -- Lists whose elements are related one by one.
-use Rattle.std.proofs.Common.{◌≡◌, ◌<◌, ◌+◌, ◌++◌, ◌⊎◌, ℕ, zero, suc, Bool, true, false, List, [], ◌∷◌, length, map, take, get_or, Option, None, Some, refl, sym, ap, subst, ◌∙◌, arith, inl, inr}
-use Rattle.std.specs.List.{AllByRecursion, AllZip}
-use Rattle.std.proofs.Math.ListN.{set, get_or-map}
-use Rattle.std.proofs.lemmas.List.{take_more, take_more_set, map-append, length-map, length-take-le, get_or-take}
-use Rattle.sig_base.specs.Traces.{Instant}
-use Rattle.sig_tree.specs.FlatSyntax.{FlatExpression}
-use Rattle.sig_judge.specs.Decides.{HasPresence, Agree}
+use Rattle.sig_judge.proofs.Common.{◌≡◌, ◌<◌, ◌+◌, ◌++◌, ◌⊎◌, ℕ, zero, suc, Bool, true, false, List, [], ◌∷◌, length, map, take, get_or, Option, None, Some, refl, sym, ap, subst, ◌∙◌, arith, inl, inr, AllByRecursion, AllZip, set, get_or-map, take_more, take_more_set, map-append, length-map, length-take-le, get_or-take, Instant, FlatExpression, HasPresence, Agree}
 
 pub zip_append : {A B : Type 0} (R : A → B → Type 0) → (xs : List A) (ys : List B) (x : A) (y : B) → AllZip R xs ys → R x y → AllZip R (xs ++ x ∷ []) (ys ++ y ∷ [])
 zip_append R [] [] x y h r = (r, tt)

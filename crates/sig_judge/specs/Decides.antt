@@ -1,10 +1,6 @@
 -- Answers that decide whether something is there: `Some` tells what it is, `None` that there is nothing.
-use Rattle.std.specs.Prelude.{◌≡◌, ◌⊎◌, ◌++◌, ℕ, ℤ, Bool, true, false, Option, None, Some, List, ◌∷◌, length}
-use Rattle.std.specs.List.{AllZip}
-use Rattle.sig_base.specs.Traces.{Seen as SeenAt, Instant}
-use Rattle.sig_tree.specs.FlatSyntax.{FlatExpression, FlatEquation}
-use Rattle.sig_tree.specs.Operators.{Operand, Signal, Constant}
-use Rattle.sig_tree.specs.Steps.{Steps, EquationSteps, BodySteps}
+use Rattle.std.specs.Prelude.{◌≡◌, ◌⊎◌, ◌++◌, ◌∷◌}
+use Rattle.sig_judge.specs.Prelude.{ℕ, ℤ, Bool, true, false, Option, None, Some, List, length, AllZip, Seen as SeenAt, Instant, FlatExpression, FlatEquation, Operand, Signal, Constant, Steps, EquationSteps, BodySteps}
 use Rattle.sig_judge.specs.Rows.{seen_of}
 use Rattle.sig_judge.specs.declared.operator.Found.{Found}
 use Rattle.sig_judge.specs.declared.operator.Found.TheVariants.{Signal as FoundSignal, Constant as FoundConstant}

@@ -1,11 +1,7 @@
 -- Headers and lines, as they are read.
-use Rattle.std.specs.Prelude.{◌≡◌, ◌+◌, ◌<◌, ◌++◌, ℕ, true, List, [], ◌∷◌, Option, None, Some, bytes_eq, length, map, count_by, slice_index_or}
-use Rattle.std.specs.Str.Lines.{lines}
-use Rattle.sig_base.specs.declared.ids.Kind.{Kind}
+use Rattle.std.specs.Prelude.{◌≡◌, ◌+◌, ◌<◌, ◌++◌, ◌∷◌}
+use Rattle.sig_judge.specs.Prelude.{ℕ, true, List, [], Option, None, Some, bytes_eq, length, map, count_by, slice_index_or, lines, Kind, Instant, Line, numbered, Word, words_from, words_of}
 use Rattle.sig_base.specs.declared.signal.Signal.{Signal}
-use Rattle.sig_base.specs.Traces.{Instant}
-use Rattle.sig_flow.specs.Lines.{Line, numbered}
-use Rattle.sig_flow.specs.Words.{Word, words_from, words_of}
 use Rattle.sig_judge.specs.TraceFiles.{Body, are_names, cells_said, column_of, kinds_named, texts_of}
 use Rattle.sig_judge.specs.declared.header.Header.{Header}
 use Rattle.sig_judge.specs.declared.header.Start.{Start}

@@ -1,3 +1,4 @@
+pub mod Prelude
 pub mod Decides
 pub mod Headers
 pub mod Nodes

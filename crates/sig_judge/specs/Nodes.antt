@@ -1,6 +1,5 @@
 -- The expressions and equations that the judge keeps, as those of flat bodies. They keep no prefixes.
-use Rattle.std.specs.Prelude.{[], map, Option, None, Some}
-use Rattle.sig_tree.specs.FlatSyntax.{FlatExpression, Sig, Const, Unary, Binary, Delay, Cell, FlatEquation, Defines, Equal}
+use Rattle.sig_judge.specs.Prelude.{[], map, Option, None, Some, FlatExpression, Sig, Const, Unary, Binary, Delay, Cell, FlatEquation, Defines, Equal}
 use Rattle.sig_judge.specs.declared.equation.Equation.{Equation}
 use Rattle.sig_judge.specs.declared.equation.Equation.TheVariants.{Defines as NodeDefines, Equal as NodeEqual}
 use Rattle.sig_judge.specs.declared.node.Node.{Node, Sig as NodeSig, Const as NodeConst, Unary', Binary', Delay', Cell'}

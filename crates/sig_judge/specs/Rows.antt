@@ -1,6 +1,5 @@
 -- What the code sees of a signal, as the definition of traces has it.
-use Rattle.std.specs.Prelude.{None, Some}
-use Rattle.sig_base.specs.Traces.{Seen as SeenAt}
+use Rattle.sig_judge.specs.Prelude.{None, Some, Seen as SeenAt}
 use Rattle.sig_judge.specs.declared.trace.Seen.{Seen}
 use Rattle.sig_judge.specs.declared.trace.Seen.TheVariants.{Absent, Value}
 

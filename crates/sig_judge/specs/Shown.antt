@@ -1,7 +1,7 @@
 -- The refusals of trace files as texts: what stands on standard error behind `error: ` and the file's
 -- name with a colon.
-use Rattle.std.specs.Prelude.{ℕ, ◌++◌, List, codes}
-use Rattle.std.specs.Fmt.{decimal}
+use Rattle.std.specs.Prelude.{◌++◌}
+use Rattle.sig_judge.specs.Prelude.{ℕ, List, codes, decimal}
 use Rattle.sig_judge.specs.declared.trace_answer.TraceAnswer.{TraceAnswer}
 use Rattle.sig_judge.specs.declared.trace_answer.TraceAnswer.TheVariants.{BadLine, BadHeader, BadWidth, BadValue, OutOfRange, TooMany, OutOfMemory}
 

@@ -1,19 +1,8 @@
 -- Trace files: the first line with words names each signal once, and each later line with words is an
 -- instant, with one word for each name.
-use Rattle.std.specs.Prelude.{◌≡◌, ℕ, ℤ, ◌+◌, Bool, ◌==◌, ◌&&◌, nat_lt, List, [], ◌∷◌, codes, bytes_eq, map, length, count_by, slice_index_or, flat_map, Option, None, Some, is_some, unwrap_or, Result, Ok, Err, if◌then◌else◌}
-use Rattle.std.specs.List.{list_all, position_or_len}
-use Rattle.sig_base.specs.declared.ids.Kind.{Kind}
-use Rattle.sig_base.specs.declared.ids.Kind.TheVariants.{Integer}
+use Rattle.std.specs.Prelude.{◌≡◌, ◌+◌, ◌==◌, ◌&&◌, ◌∷◌, if◌then◌else◌}
+use Rattle.sig_judge.specs.Prelude.{ℕ, ℤ, Bool, nat_lt, List, [], codes, bytes_eq, map, length, count_by, slice_index_or, flat_map, Option, None, Some, is_some, unwrap_or, Result, Ok, Err, list_all, position_or_len, Kind, Integer, VALUES, Seen, Instant, Trace, Judge, AllGood, IsFirst, is_line_byte, kind_named, Line, lines_of, value_said, Word, words_of, WordFault, Bad, Outside}
 use Rattle.sig_base.specs.declared.signal.Signal.{Signal}
-use Rattle.sig_base.specs.declared.limits.TheConstants.{VALUES}
-use Rattle.sig_base.specs.Traces.{Seen, Instant, Trace}
-use Rattle.sig_flow.specs.First.{Judge, AllGood, IsFirst}
-use Rattle.sig_flow.specs.Flows.{is_line_byte, kind_named}
-use Rattle.sig_flow.specs.Lines.{Line, lines_of}
-use Rattle.sig_flow.specs.Values.{value_said}
-use Rattle.sig_flow.specs.Words.{Word, words_of}
-use Rattle.sig_flow.specs.declared.value.WordFault.{WordFault}
-use Rattle.sig_flow.specs.declared.value.WordFault.TheVariants.{Bad, Outside}
 use Rattle.sig_judge.specs.declared.trace_answer.TraceAnswer.{TraceAnswer}
 use Rattle.sig_judge.specs.declared.trace_answer.TraceAnswer.TheVariants.{BadLine, BadHeader, BadWidth, BadValue, OutOfRange, TooMany}
 

@@ -1,9 +1,6 @@
 -- Where a trace stops being one of a process.
-use Rattle.std.specs.Prelude.{◌≡◌, ◌+◌, ◌++◌, ℕ, List, ◌∷◌, length}
-use Rattle.std.specs.List.{AllByRecursion}
-use Rattle.sig_base.specs.Traces.{Instant, Trace}
-use Rattle.sig_tree.specs.FlatSyntax.{FlatEquation, FlatBody}
-use Rattle.sig_tree.specs.ProcessTraces.{HoldsAt, IsProcessTrace}
+use Rattle.std.specs.Prelude.{◌≡◌, ◌+◌, ◌++◌, ◌∷◌}
+use Rattle.sig_judge.specs.Prelude.{ℕ, List, length, AllByRecursion, Instant, Trace, FlatEquation, FlatBody, HoldsAt, IsProcessTrace}
 use Rattle.sig_judge.specs.declared.verdict.Verdict.{Verdict}
 use Rattle.sig_judge.specs.declared.verdict.Verdict.TheVariants.{Accepted, Broken}
 

@@ -1,8 +1,7 @@
 //! The equations of a flat body, read one instant at a time.
 
-ghost use Rattle.std.specs.Prelude.{◌≡◌, ◌<◌, IfOk, IfNone, IfSome, length, map, vec_len};
-ghost use Rattle.sig_tree.specs.FlatSyntax.{flat_equation_of};
-ghost use Rattle.sig_tree.specs.Steps.{BodySteps};
+ghost use Rattle.std.specs.Prelude.{◌≡◌, ◌<◌};
+ghost use Rattle.sig_judge.specs.Prelude.{IfOk, IfNone, IfSome, length, map, vec_len, flat_equation_of, BodySteps};
 ghost use Rattle.sig_judge.specs.Decides.{BreaksAt};
 ghost use Rattle.sig_judge.specs.Nodes.{equation_of, without_prefix};
 

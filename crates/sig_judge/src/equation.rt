@@ -1,9 +1,7 @@
 //! Equations with the values that their expressions keep.
 
-ghost use Rattle.std.specs.Prelude.{◌≡◌, ◌⊎◌, ◌↔◌, None, Some, IfOk, IsTrue, length, map};
-ghost use Rattle.sig_tree.specs.FlatSyntax.{flat_equation_of, flat_expression_of};
-ghost use Rattle.sig_tree.specs.Operators.{Signal};
-ghost use Rattle.sig_tree.specs.Steps.{EquationSteps, Steps};
+ghost use Rattle.std.specs.Prelude.{◌≡◌, ◌⊎◌, ◌↔◌};
+ghost use Rattle.sig_judge.specs.Prelude.{None, Some, IfOk, IsTrue, length, map, flat_equation_of, flat_expression_of, Signal, EquationSteps, Steps};
 ghost use Rattle.sig_judge.specs.Decides.{Agree, DecidesPresence, DecidesWhether};
 ghost use Rattle.sig_judge.specs.Nodes.{equation_of, node_expression, without_prefix};
 ghost use Rattle.sig_judge.specs.Rows.{seen_of};

@@ -1,8 +1,7 @@
 //! Functions of values.
 
-ghost use Rattle.std.specs.Prelude.{◌≡◌, ◌↔◌, pos, None, Some, true, IsTrue, if◌then◌else◌};
-ghost use Rattle.sig_tree.specs.Constants.{is_function};
-ghost use Rattle.sig_tree.specs.Operators.{Combines, Signal};
+ghost use Rattle.std.specs.Prelude.{◌≡◌, ◌↔◌, if◌then◌else◌};
+ghost use Rattle.sig_judge.specs.Prelude.{pos, None, Some, true, IsTrue, is_function, Combines, Signal};
 ghost use Rattle.sig_judge.specs.Decides.{DecidesValue};
 
 use sig_tree::BinOp;

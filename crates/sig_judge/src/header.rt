@@ -1,9 +1,7 @@
 //! The header of a trace file.
 
-ghost use Rattle.std.specs.Prelude.{◌≡◌, ◌≤◌, ◌+◌, ◌^◌, ◌<◌, ◌⊎◌, ℕ, None, Some, IfOk, IfErr, IfNone, IfSome, OnOk, bytes_eq, length, map, slice_index_or, vec_len};
-ghost use Rattle.std.specs.List.{IsDistinct};
-ghost use Rattle.sig_flow.specs.Lines.{lines_of};
-ghost use Rattle.sig_flow.specs.Words.{words_of};
+ghost use Rattle.std.specs.Prelude.{◌≡◌, ◌≤◌, ◌+◌, ◌^◌, ◌<◌, ◌⊎◌};
+ghost use Rattle.sig_judge.specs.Prelude.{ℕ, None, Some, IfOk, IfErr, IfNone, IfSome, OnOk, bytes_eq, length, map, slice_index_or, vec_len, IsDistinct, lines_of, words_of};
 ghost use Rattle.sig_judge.specs.Headers.{IsHeaderOf, Named, body_behind, header_line};
 ghost use Rattle.sig_judge.specs.TraceFiles.{body_of, header_fault, names_in};
 ghost use Rattle.sig_judge.specs.declared.trace_answer.TraceAnswer.TheVariants.{OutOfMemory};

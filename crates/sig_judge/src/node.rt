@@ -1,9 +1,7 @@
 //! Expressions with the values that their delays and cells keep.
 
-ghost use Rattle.std.specs.Prelude.{◌≡◌, IfOk};
-ghost use Rattle.sig_tree.specs.FlatSyntax.{flat_expression_of};
-ghost use Rattle.sig_tree.specs.Operators.{delayed, held};
-ghost use Rattle.sig_tree.specs.Steps.{kept};
+ghost use Rattle.std.specs.Prelude.{◌≡◌};
+ghost use Rattle.sig_judge.specs.Prelude.{IfOk, flat_expression_of, delayed, held, kept};
 ghost use Rattle.sig_judge.specs.Decides.{DecidesStep};
 ghost use Rattle.sig_judge.specs.Nodes.{node_expression, signal_found};
 ghost use Rattle.sig_judge.specs.Rows.{seen_of};

@@ -1,8 +1,7 @@
 //! What operators make of their operands at an instant.
 
-ghost use Rattle.std.specs.Prelude.{◌≡◌, true, option_map};
-ghost use Rattle.sig_tree.specs.Constants.{is_function};
-ghost use Rattle.sig_tree.specs.Operators.{Changes, Combines, Constant, Signal};
+ghost use Rattle.std.specs.Prelude.{◌≡◌};
+ghost use Rattle.sig_judge.specs.Prelude.{true, option_map, is_function, Changes, Combines, Constant, Signal};
 ghost use Rattle.sig_judge.specs.Decides.{DecidesSeen, operand_of};
 ghost use Rattle.sig_judge.specs.Rows.{seen_of};
 ghost use Rattle.sig_judge.specs.declared.trace.Seen.TheVariants.{Value};

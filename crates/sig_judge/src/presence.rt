@@ -1,7 +1,7 @@
 //! What operators that need no value make of what signals are.
 
 ghost use Rattle.std.specs.Prelude.{◌≡◌};
-ghost use Rattle.sig_tree.specs.Operators.{both_of, clock_of, held, merged, sampled, without};
+ghost use Rattle.sig_judge.specs.Prelude.{both_of, clock_of, held, merged, sampled, without};
 ghost use Rattle.sig_judge.specs.Rows.{seen_of};
 
 use crate::trace::Seen;

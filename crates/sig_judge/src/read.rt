@@ -1,9 +1,7 @@
 //! Trace files.
 
-ghost use Rattle.std.specs.Prelude.{◌≡◌, ◌≤◌, ◌⊎◌, bytes_eq, length, map, IfOk, IfErr, IsErrAnd, MatchResult};
-ghost use Rattle.std.specs.List.{IsDistinct};
-ghost use Rattle.sig_base.specs.Traces.{Trace as TraceSeen};
-ghost use Rattle.sig_tree.specs.ProcessTraces.{IsTraceOf};
+ghost use Rattle.std.specs.Prelude.{◌≡◌, ◌≤◌, ◌⊎◌};
+ghost use Rattle.sig_judge.specs.Prelude.{bytes_eq, length, map, IfOk, IfErr, IsErrAnd, MatchResult, IsDistinct, Trace as TraceSeen, IsTraceOf};
 ghost use Rattle.sig_judge.specs.TraceFiles.{IsFirstBadPlace, IsTraceFile};
 ghost use Rattle.sig_judge.specs.declared.trace_answer.TraceAnswer.{TraceAnswer};
 

@@ -1,10 +1,7 @@
 //! The instants of a trace file.
 
-ghost use Rattle.std.specs.Prelude.{◌≡◌, ◌<◌, ◌≤◌, ◌+◌, ◌++◌, ◌^◌, ◌⊎◌, None, Some, Ok, Err, IfOk, IfErr, MatchResult, OnOk, flat_map, length, map, option_to_list, slice_index_or};
-ghost use Rattle.std.specs.Str.Lines.{lines};
-ghost use Rattle.sig_flow.specs.First.{AllGood, IsFirst};
-ghost use Rattle.sig_flow.specs.Lines.{numbered};
-ghost use Rattle.sig_flow.specs.Words.{words_from, words_of};
+ghost use Rattle.std.specs.Prelude.{◌≡◌, ◌<◌, ◌≤◌, ◌+◌, ◌++◌, ◌^◌, ◌⊎◌};
+ghost use Rattle.sig_judge.specs.Prelude.{None, Some, Ok, Err, IfOk, IfErr, MatchResult, OnOk, flat_map, length, map, option_to_list, slice_index_or, lines, AllGood, IsFirst, numbered, words_from, words_of};
 ghost use Rattle.sig_judge.specs.Headers.{instants_in};
 ghost use Rattle.sig_judge.specs.Rows.{seen_of};
 ghost use Rattle.sig_judge.specs.TraceFiles.{cell_fault, cell_said, cells_fault, cells_said, row_judge, seen_said, text_fault};

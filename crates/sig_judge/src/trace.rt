@@ -1,8 +1,7 @@
 //! Traces, instant by instant.
 
-ghost use Rattle.std.specs.Prelude.{◌≡◌, ◌↔◌, IsTrue, map};
-ghost use Rattle.sig_base.specs.Traces.{AreOfKinds, Bounded, Instant, IsOfKind, seen_at};
-ghost use Rattle.sig_tree.specs.ProcessTraces.{IsTraceOf, kinds_of};
+ghost use Rattle.std.specs.Prelude.{◌≡◌, ◌↔◌};
+ghost use Rattle.sig_judge.specs.Prelude.{IsTrue, map, AreOfKinds, Bounded, Instant, IsOfKind, seen_at, IsTraceOf, kinds_of};
 ghost use Rattle.sig_judge.specs.Rows.{seen_of};
 
 use sig_base::{Kind, SigId, Signal};

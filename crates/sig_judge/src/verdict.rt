@@ -1,8 +1,7 @@
 //! The judge.
 
-ghost use Rattle.std.specs.Prelude.{◌≡◌, ◌<◌, ◌^◌, ◌↔◌, ℕ, IfOk, length};
-ghost use Rattle.sig_tree.specs.FlatSyntax.{flat_body_of};
-ghost use Rattle.sig_tree.specs.ProcessTraces.{IsProcessTrace, IsTraceOf};
+ghost use Rattle.std.specs.Prelude.{◌≡◌, ◌<◌, ◌^◌, ◌↔◌};
+ghost use Rattle.sig_judge.specs.Prelude.{ℕ, IfOk, length, flat_body_of, IsProcessTrace, IsTraceOf};
 ghost use Rattle.sig_judge.specs.Verdicts.{IsBroken, IsVerdict};
 
 use crate::answer::JudgeAnswer;

@@ -1,21 +1,6 @@
 -- What the files of a program and of a trace call for.
-use Rattle.std.proofs.Common.{◌≡◌, ◌≤◌, ◌∙◌, ◌⊎◌, ℕ, List, Option, Some, IfSome, ⊎_elim, inl, inr, refl, sym, ap, subst, arith}
-use Rattle.std.specs.Prelude.{string_bytes}
-use Rattle.sig_base.specs.Traces.{Trace}
-use Rattle.sig_base.specs.declared.signal.Signal.{Signal}
-use Rattle.sig_text.specs.Files.{Contents, name_where_there}
-use Rattle.sig_tree.specs.FlatSyntax.{FlatBody}
-use Rattle.sig_judge.specs.TraceFiles.{IsFirstBadPlace}
-use Rattle.sig_judge.specs.Verdicts.{IsVerdict}
-use Rattle.sig_judge.specs.declared.trace_answer.TraceAnswer.{TraceAnswer}
-use Rattle.sig_judge.specs.declared.verdict.Verdict.{Verdict}
-use Rattle.sig_outcome.specs.Outcomes.{Good}
-use Rattle.sig_outcome.specs.Refusals.{HasCount, IsOfData, IsOwn, outcome_of, status_of}
-use Rattle.sig_outcome.specs.Tasks.{Reaches, Stops}
-use Rattle.sig_outcome.specs.declared.refusal.Refusal.{Refusal}
-use Rattle.sig_outcome.specs.declared.refusal.Refusal.TheVariants.{Missing, ReadFault, LongProgram, Program, Budget, TooManyItems, LongFile, Data, OutOfMemory}
-use Rattle.sig_outcome.proofs.Refused.{later_count, later_own, told_both}
-use Rattle.sig_judging.specs.Judging.{AtFlat, AtTrace, FindsFlat, FindsTrace, IsAboutFlat, IsAboutJudge, IsAboutTrace, IsJudgeStatus, JudgeComesTo, judged, judging}
+use Rattle.sig_judging.proofs.Common.{◌≡◌, ◌≤◌, ◌∙◌, ◌⊎◌, ℕ, List, Option, Some, IfSome, ⊎_elim, inl, inr, refl, sym, ap, subst, arith, string_bytes, Trace, Signal, Contents, name_where_there, FlatBody, IsFirstBadPlace, IsVerdict, TraceAnswer, Verdict, Good, HasCount, IsOfData, IsOwn, outcome_of, status_of, Reaches, Stops, Refusal, Missing, ReadFault, LongProgram, Program, Budget, TooManyItems, LongFile, Data, later_count, later_own, told_both, AtFlat, AtTrace, FindsFlat, FindsTrace, IsAboutFlat, IsAboutJudge, IsAboutTrace, IsJudgeStatus, JudgeComesTo, judged, judging}
+use Rattle.sig_outcome.specs.declared.refusal.Refusal.TheVariants.{OutOfMemory}
 use Rattle.sig_judging.proofs.OneJudging.{flat_refuses, judges, trace_refuses}
 
 -- a refusal of the judge has one of its statuses, which is never 8

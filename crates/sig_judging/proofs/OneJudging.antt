@@ -1,23 +1,5 @@
 -- The judging of a trace over told contents comes to one outcome at most.
-use Rattle.std.proofs.Common.{◌≡◌, ◌∙◌, ◌⊎◌, ◌↔◌, ℕ, List, Option, IfSome, inl, inr, sym, refl, ap}
-use Rattle.sig_base.specs.Traces.{Trace}
-use Rattle.sig_base.specs.declared.signal.Signal.{Signal}
-use Rattle.sig_text.specs.Files.{Contents}
-use Rattle.sig_tree.specs.FlatSyntax.{FlatBody}
-use Rattle.sig_tree.specs.ProcessTraces.{IsProcessTrace}
-use Rattle.sig_front.specs.Flats.{IsFlatText}
-use Rattle.sig_front.specs.Shown.{front_line}
-use Rattle.sig_front.proofs.OneFlat.{flat_once, no_flat_once, flat_or_refusal}
-use Rattle.sig_judge.specs.TraceFiles.{IsTraceFile}
-use Rattle.sig_judge.specs.Verdicts.{IsBroken, IsVerdict}
-use Rattle.sig_judge.specs.declared.verdict.Verdict.{Verdict}
-use Rattle.sig_judge.specs.declared.verdict.Verdict.TheVariants.{Accepted, Broken}
-use Rattle.sig_judge.proofs.ReadLemmas.{one_trace, one_fault, not_both as trace_or_fault}
-use Rattle.sig_judge.proofs.VerdictLemmas.{one_verdict_of}
-use Rattle.sig_outcome.specs.Outcomes.{Good, OneAtMost, Outcome, long_file, long_program}
-use Rattle.sig_outcome.specs.Tasks.{IsDone}
-use Rattle.sig_outcome.proofs.Stages.{at_file_ends, one_at_data, one_at_program}
-use Rattle.sig_judging.specs.Judging.{AtFlat, AtTrace, FindsFlat, FindsTrace, IsJudgeStatus, JudgeComesTo, JudgesTo, RefusesFlat, RefusesTrace, bad_trace, judged, verdict_status}
+use Rattle.sig_judging.proofs.Common.{◌≡◌, ◌∙◌, ◌⊎◌, ◌↔◌, ℕ, List, Option, IfSome, inl, inr, sym, refl, ap, Trace, Signal, Contents, FlatBody, IsProcessTrace, IsFlatText, front_line, flat_once, no_flat_once, flat_or_refusal, IsTraceFile, IsBroken, IsVerdict, Verdict, Accepted, Broken, one_trace, one_fault, not_both as trace_or_fault, one_verdict_of, Good, OneAtMost, Outcome, long_file, long_program, IsDone, at_file_ends, one_at_data, one_at_program, AtFlat, AtTrace, FindsFlat, FindsTrace, IsJudgeStatus, JudgeComesTo, JudgesTo, RefusesFlat, RefusesTrace, bad_trace, judged, verdict_status}
 
 no_flat_line : (bytes l m : List ℕ) → RefusesFlat bytes l → RefusesFlat bytes m → l ≡ m
 no_flat_line bytes l m x y = x.says ∙ ap front_line (no_flat_once bytes x.answer y.answer x.none y.none) ∙ sym y.says

@@ -1,11 +1,8 @@
 -- The traces of a kernel: at each instant every signal is absent or has a value of its kind, and every
 -- equation is met. There is one case for each form of an equation. What a function, a delay, `when` and
 -- `default` are is the SIGNAL V4 reference manual's.
-use Rattle.std.specs.Prelude.{◌≡◌, ℕ, ℤ, pos, List, [], ◌∷◌, ◌++◌, map, None, Some, is_some, ⊤, if◌then◌else◌}
-use Rattle.std.specs.List.{AllByRecursion}
-use Rattle.std.specs.Ordering.{int_eq}
-use Rattle.sig_base.specs.Functions.{Function, Identity, Negative, Not as Negation, And as Conjunction, Or as Disjunction, Xor as Exclusive, Equal, NotEqual, Less, LessEqual, Greater, GreaterEqual, Sum, Difference, Product, Quotient, Remainder, Gives}
-use Rattle.sig_base.specs.Traces.{Seen, Instant, Trace, Range, Bounded, AreOfKinds, seen_at, flow_of}
+use Rattle.std.specs.Prelude.{◌≡◌, ◌∷◌, ◌++◌, if◌then◌else◌}
+use Rattle.sig_kernel.specs.Prelude.{ℕ, ℤ, pos, List, [], map, None, Some, is_some, ⊤, AllByRecursion, int_eq, Function, Identity, Negative, Not as Negation, And as Conjunction, Or as Disjunction, Xor as Exclusive, Equal, NotEqual, Less, LessEqual, Greater, GreaterEqual, Sum, Difference, Product, Quotient, Remainder, Gives, Seen, Instant, Trace, Range, Bounded, AreOfKinds, seen_at, flow_of}
 use Rattle.sig_kernel.specs.declared.equation.FunOp.{FunOp}
 use Rattle.sig_kernel.specs.declared.equation.FunOp.TheVariants.{Id, Neg, Not, And, Or, Xor, Eq, Ne, Lt, Le, Gt, Ge, Add, Sub, Mul, Div, Mod}
 use Rattle.sig_kernel.specs.declared.equation.Operand.{Operand}

@@ -1,3 +1,4 @@
+pub mod Prelude
 pub mod KernelTraces
 pub mod OutputText
 pub mod Table

@@ -1,11 +1,6 @@
 -- The text of a run: a line for each output that is present, instant by instant.
-use Rattle.std.specs.Prelude.{ℕ, ℤ, List, [], ◌∷◌, ◌++◌, codes, flat_map, pos, take, drop, None, Some, if◌then◌else◌}
-use Rattle.std.specs.Fmt.{signed_decimal}
-use Rattle.std.specs.Ordering.{int_eq}
-use Rattle.sig_base.specs.declared.ids.Kind.{Kind}
-use Rattle.sig_base.specs.declared.ids.Kind.TheVariants.{Integer, Boolean, Event}
-use Rattle.sig_base.specs.declared.signal.Signal.{Signal}
-use Rattle.sig_base.specs.Traces.{Seen, Instant, Trace}
+use Rattle.std.specs.Prelude.{◌∷◌, ◌++◌, if◌then◌else◌}
+use Rattle.sig_kernel.specs.Prelude.{ℕ, ℤ, List, [], codes, flat_map, pos, take, drop, None, Some, signed_decimal, int_eq, Kind, Integer, Boolean, Event, Signal, Seen, Instant, Trace}
 use Rattle.sig_kernel.specs.declared.kernel.Kernel.{Kernel}
 
 -- a truth: 0 is false

@@ -1,13 +1,7 @@
 -- The table of kinds: for each form of an equation, and for each function, what its operands are and of
 -- which kind the signal is that it defines. An equation keeps to one of the rows of its form.
-use Rattle.std.specs.Prelude.{ℤ, pos, Bool, true, false, ◌&&◌, ◌||◌, List, [], ◌∷◌, Option, None, Some, slice_get}
-use Rattle.std.specs.List.{list_any}
-use Rattle.std.specs.Ordering.{int_eq}
-use Rattle.sig_base.specs.declared.ids.Kind.{Kind}
-use Rattle.sig_base.specs.declared.ids.Kind.TheVariants.{Integer, Boolean, Event}
-use Rattle.sig_base.specs.declared.ids.SigId.{SigId}
-use Rattle.sig_base.specs.declared.signal.Signal.{Signal}
-use Rattle.sig_base.specs.Traces.{has_64_bits}
+use Rattle.std.specs.Prelude.{◌&&◌, ◌||◌, ◌∷◌}
+use Rattle.sig_kernel.specs.Prelude.{ℤ, pos, Bool, true, false, List, [], Option, None, Some, slice_get, list_any, int_eq, Kind, Integer, Boolean, Event, SigId, Signal, has_64_bits}
 use Rattle.sig_kernel.specs.declared.equation.FunOp.{FunOp}
 use Rattle.sig_kernel.specs.declared.equation.FunOp.TheVariants.{Id, Neg, Not, And, Or, Xor, Eq, Ne, Lt, Le, Gt, Ge, Add, Sub, Mul, Div, Mod}
 use Rattle.sig_kernel.specs.declared.equation.Operand.{Operand}

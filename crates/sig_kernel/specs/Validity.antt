@@ -1,13 +1,6 @@
 -- What a valid kernel is, and which flows fit it.
-use Rattle.std.specs.Prelude.{◌≡◌, ◌<◌, ◌≤◌, ◌+◌, ◌^◌, ℕ, ℤ, Bool, true, false, ◌==◌, ◌&&◌, ◌||◌, pos, List, [], length, take, slice_index_or, map, bytes_eq, count_by, nat_lt, Option, None, Some}
-use Rattle.std.specs.List.{AllPass, IsDistinct, list_all, list_any}
-use Rattle.std.specs.Ordering.{int_eq}
-use Rattle.sig_base.specs.declared.ids.Kind.{Kind}
-use Rattle.sig_base.specs.declared.ids.Kind.TheVariants.{Integer, Boolean, Event}
-use Rattle.sig_base.specs.declared.ids.SigId.{SigId}
-use Rattle.sig_base.specs.declared.limits.TheConstants.{SIGNALS}
-use Rattle.sig_base.specs.declared.signal.Signal.{Signal}
-use Rattle.sig_base.specs.Traces.{has_64_bits}
+use Rattle.std.specs.Prelude.{◌≡◌, ◌<◌, ◌≤◌, ◌+◌, ◌^◌, ◌==◌, ◌&&◌, ◌||◌}
+use Rattle.sig_kernel.specs.Prelude.{ℕ, ℤ, Bool, true, false, pos, List, [], length, take, slice_index_or, map, bytes_eq, count_by, nat_lt, Option, None, Some, AllPass, IsDistinct, list_all, list_any, int_eq, Kind, Integer, Boolean, Event, SigId, SIGNALS, Signal, has_64_bits}
 use Rattle.sig_kernel.specs.Table.{operands_of, target_of, form_fits}
 use Rattle.sig_kernel.specs.declared.equation.Equation.{Equation}
 use Rattle.sig_kernel.specs.declared.equation.Form.{Form}

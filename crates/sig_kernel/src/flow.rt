@@ -1,7 +1,7 @@
 //! Flows of values.
 
-ghost use Rattle.std.specs.Prelude.{◌≡◌, ◌↔◌, ℤ, List, IsTrue};
-ghost use Rattle.std.specs.List.{list_all};
+ghost use Rattle.std.specs.Prelude.{◌≡◌, ◌↔◌};
+ghost use Rattle.sig_kernel.specs.Prelude.{ℤ, List, IsTrue, list_all};
 ghost use Rattle.sig_kernel.specs.Validity.{AreFlowsFor, value_is};
 
 use crate::kernel::Kernel;

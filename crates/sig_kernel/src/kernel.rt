@@ -13,8 +13,7 @@ pub struct Signals {
 }
 
 impl Model for Signals {
-    ghost use Rattle.std.specs.Prelude.{List};
-    ghost use Rattle.sig_base.specs.declared.signal.Signal.{Signal};
+    ghost use Rattle.sig_kernel.specs.Prelude.{List, Signal};
 
     ghost Value = { List Signal };
 

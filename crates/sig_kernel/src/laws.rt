@@ -1,14 +1,9 @@
 //! Laws of kernels and their traces. The function of a law does nothing when it runs.
 
-ghost use Rattle.std.specs.Prelude.{◌≡◌, ℕ, ℤ, List, [], ◌∷◌, ◌++◌, true, length, take, Contains, None, Some, ◌<◌, slice_index_or};
-ghost use Rattle.std.specs.List.{AllByRecursion};
-ghost use Rattle.sig_base.specs.Traces.{Bounded, Instant, IsInteger, IsLongest, IsValue, IsPrefixOf, Range, Trace, Unbounded, flow_of, is_silent, reduce, seen_at};
-ghost use Rattle.sig_base.specs.declared.ids.SigId.{SigId};
-ghost use Rattle.sig_base.specs.declared.span.Span.{Span};
+ghost use Rattle.std.specs.Prelude.{◌≡◌, ◌∷◌, ◌++◌, ◌<◌};
+ghost use Rattle.sig_kernel.specs.Prelude.{ℕ, ℤ, List, [], true, length, take, Contains, None, Some, slice_index_or, AllByRecursion, Bounded, Instant, IsInteger, IsLongest, IsValue, IsPrefixOf, Range, Trace, Unbounded, flow_of, is_silent, reduce, seen_at, SigId, Span, Kind, Signal};
 ghost use Rattle.sig_kernel.specs.KernelTraces.{IsKernelTrace, IsReaction, IsTraceIn, Memory, remembered};
 ghost use Rattle.sig_kernel.specs.OutputText.{output_text};
-ghost use Rattle.sig_base.specs.declared.ids.Kind.{Kind};
-ghost use Rattle.sig_base.specs.declared.signal.Signal.{Signal};
 ghost use Rattle.sig_kernel.specs.Table.{kind_at, operands_of};
 ghost use Rattle.sig_kernel.specs.Validity.{AreFlowsFor, IsValid, inputs_of};
 ghost use Rattle.sig_kernel.specs.declared.equation.Equation.{Equation};

@@ -1,7 +1,7 @@
 //! Which kernels are valid.
 
-ghost use Rattle.std.specs.Prelude.{◌≡◌, ◌↔◌, IsTrue, bytes_eq, count_by, map};
-ghost use Rattle.std.specs.List.{IsDistinct, list_all, list_any};
+ghost use Rattle.std.specs.Prelude.{◌≡◌, ◌↔◌};
+ghost use Rattle.sig_kernel.specs.Prelude.{IsTrue, bytes_eq, count_by, map, IsDistinct, list_all, list_any};
 ghost use Rattle.sig_kernel.specs.Table.{operands_of};
 ghost use Rattle.sig_kernel.specs.Validity.{AreWellMade, DefinesEach, HasParts, defines, form_within, is_below, is_signal, operand_within};
 

@@ -1,7 +1,5 @@
 -- Lists that are made from behind.
-use Rattle.std.proofs.Common.{◌≡◌, ◌++◌, List, [], ◌∷◌, refl, ap, sym, ◌∙◌, map, reverse, append_assoc, Result, Ok, Err, OnOk}
-use Rattle.std.proofs.lemmas.List.{map-append, reverse-append}
-use Rattle.std.specs.List.{flat_map}
+use Rattle.sig_kinds.proofs.Common.{◌≡◌, ◌++◌, List, [], ◌∷◌, refl, ap, sym, ◌∙◌, map, reverse, append_assoc, Result, Ok, Err, OnOk, map-append, reverse-append, flat_map}
 
 -- a form behind its two operands, and the other way round
 pub behind_two : {A B : Type 0} (f : A → B) (start one two now : List B) (x : A) (ls rs : List A) (k : B) → one ≡ start ++ reverse (map f rs) → two ≡ one ++ reverse (map f ls) → now ≡ two ++ k ∷ [] → k ≡ f x

@@ -1,9 +1,5 @@
 -- Operands that a form refuses.
-use Rattle.std.proofs.Common.{◌≡◌, ◌↔◌, refl, ap, sym, ◌∙◌, subst, Bool, true, false, not, IsTrue, Option, None, Some}
-use Rattle.sig_base.specs.declared.ids.Kind.{Kind}
-use Rattle.sig_tree.specs.Kinds.{FormRow, accepts, binary_kind}
-use Rattle.sig_tree.specs.Rules.{RefusesOne, RefusesTwo}
-use Rattle.sig_kinds.specs.Forms.{unary_refused, binary_refused}
+use Rattle.sig_kinds.proofs.Common.{◌≡◌, ◌↔◌, refl, ap, sym, ◌∙◌, subst, Bool, true, false, not, IsTrue, Option, None, Some, Kind, FormRow, accepts, binary_kind, RefusesOne, RefusesTwo, unary_refused, binary_refused}
 
 not_false : (b : Bool) → IsTrue (not b) → b ≡ false
 not_false true e = absurd cc

@@ -1,19 +1,5 @@
 -- In a well-formed program each expression has a kind.
-use Rattle.std.proofs.Common.{◌≡◌, ◌++◌, List, [], ◌∷◌, refl, ap, sym, ◌∙◌, subst, Bool, true, false, cond, Option, None, Some, option_map, map, append_assoc}
-use Rattle.std.proofs.lemmas.List.{append-nil, map-append}
-use Rattle.std.proofs.lemmas.Simd.{map-map}
-use Rattle.std.specs.List.{AllByRecursion, flat_map}
-use Rattle.sig_base.specs.declared.ids.Kind.{Kind}
-use Rattle.sig_base.specs.declared.ids.Kind.TheVariants.{Integer, Boolean}
-use Rattle.sig_tree.specs.declared.expr.Name.{Name}
-use Rattle.sig_tree.specs.declared.expr.Constant.{Constant}
-use Rattle.sig_tree.specs.Syntax.{Expression, Named, Number, Truth, Unary, Binary, Delay, Cell, Computed, Called, Equations, Together, Defines, Equal, ProcessModel}
-use Rattle.sig_tree.specs.Declarations.{Declaration, declarations, declaration_of, process_of, outputs_of, locals_of, inputs_of, params_of, names_of_expression, names_of_constant, names_of_init, Use, OfProcess, signals_used, uses_of_inits, uses_of_equation, uses_of, equations_of_model, all_processes, behind}
-use Rattle.sig_tree.specs.Candidates.{Candidate, candidate, Clash, NoneHolds, each}
-use Rattle.sig_tree.specs.Kinds.{FormRow, accepts, unary_row, binary_row, delay_row, cell_row, unary_kind, binary_kind, kind_of_result, stored, kind_of}
-use Rattle.sig_tree.specs.Rules.{unknown_use, unknown_names, RefusesOne, RefusesTwo, clash_of_init, clash_of_left, clashes_of_results, clash_of_arguments, clashes_of_constants, clashes_of_expression, clashes_of_call, clashes_of_equation, clashes_of_inits, clashes, declared_twice, inputs_defined, defined_twice, undefined}
-use Rattle.sig_tree.specs.WellFormed.{IsWellFormed, rules_on}
-use Rattle.sig_scope.specs.Typed.{nodes, expressions_of, kinds_in, kinds_of_model, kinds_of_program, AreKinds, known}
+use Rattle.sig_kinds.proofs.Common.{◌≡◌, ◌++◌, List, [], ◌∷◌, refl, ap, sym, ◌∙◌, subst, Bool, true, false, cond, Option, None, Some, option_map, map, append_assoc, append-nil, map-append, map-map, AllByRecursion, flat_map, Kind, Integer, Boolean, Name, Constant, Expression, Named, Number, Truth, Unary, Binary, Delay, Cell, Computed, Called, Equations, Together, Defines, Equal, ProcessModel, Declaration, declarations, declaration_of, process_of, outputs_of, locals_of, inputs_of, params_of, names_of_expression, names_of_constant, names_of_init, Use, OfProcess, signals_used, uses_of_inits, uses_of_equation, uses_of, equations_of_model, all_processes, behind, Candidate, candidate, Clash, NoneHolds, each, FormRow, accepts, unary_row, binary_row, delay_row, cell_row, unary_kind, binary_kind, kind_of_result, stored, kind_of, unknown_use, unknown_names, RefusesOne, RefusesTwo, clash_of_init, clash_of_left, clashes_of_results, clash_of_arguments, clashes_of_constants, clashes_of_expression, clashes_of_call, clashes_of_equation, clashes_of_inits, clashes, declared_twice, inputs_defined, defined_twice, undefined, IsWellFormed, rules_on, nodes, expressions_of, kinds_in, kinds_of_model, kinds_of_program, AreKinds, known}
 
 none_left : (ps qs : List Candidate) → NoneHolds (ps ++ qs) → NoneHolds ps
 none_left [] qs n = tt

@@ -1,6 +1,6 @@
 -- Kinds of bytes. Every byte above 127 is of none.
-use Rattle.std.specs.Prelude.{ℕ, Bool, ◌&&◌, ◌||◌, not, ◌==◌, nat_le, List, slice_index}
-use Rattle.std.specs.Char.{is_ascii_alphanumeric}
+use Rattle.std.specs.Prelude.{◌&&◌, ◌||◌, ◌==◌}
+use Rattle.sig_lex.specs.Prelude.{ℕ, Bool, not, nat_le, List, slice_index, is_ascii_alphanumeric}
 
 -- the byte at the front, or 0 where there is none
 abbrev pub first : List ℕ → ℕ

@@ -1,8 +1,6 @@
 -- Tokens by their kinds and their texts, their places aside.
-use Rattle.std.specs.Prelude.{◌≡◌, ℕ, ◌<◌, ◌≤◌, ◌⊎◌, true, List, [], ◌∷◌, ◌++◌, length, map, slice_range}
-use Rattle.std.specs.List.{AllPass}
-use Rattle.std.specs.Char.{is_ascii_alphabetic, is_ascii_digit}
-use Rattle.std.specs.Str.Parse.{digits_value}
+use Rattle.std.specs.Prelude.{◌≡◌, ◌<◌, ◌≤◌, ◌⊎◌, ◌∷◌, ◌++◌}
+use Rattle.sig_lex.specs.Prelude.{ℕ, true, List, [], length, map, slice_range, AllPass, is_ascii_alphabetic, is_ascii_digit, digits_value}
 use Rattle.sig_lex.specs.declared.token.Token.{Token}
 use Rattle.sig_lex.specs.declared.token.TokenKind.{TokenKind}
 use Rattle.sig_lex.specs.declared.token.TokenKind.TheVariants.{Name, Word, Number, Label, Mark, Last}

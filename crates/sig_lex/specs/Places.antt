@@ -1,7 +1,6 @@
 -- Places in a text.
-use Rattle.std.specs.Prelude.{ℕ, ◌+◌, ◌==◌, List, length, count_by}
-use Rattle.std.specs.List.{after_last}
-use Rattle.sig_base.specs.declared.span.Span.{Span}
+use Rattle.std.specs.Prelude.{◌+◌, ◌==◌}
+use Rattle.sig_lex.specs.Prelude.{ℕ, List, length, count_by, after_last, Span}
 
 -- The place of what follows these bytes: one more line than they have newlines, and one more column
 -- than they have bytes after their last newline.

@@ -1,6 +1,5 @@
 -- The lines of faults, each without its newline.
-use Rattle.std.specs.Prelude.{ℕ, List, codes}
-use Rattle.sig_base.specs.Lines.{refusal_at, refusal}
+use Rattle.sig_lex.specs.Prelude.{ℕ, List, codes, refusal_at, refusal}
 use Rattle.sig_lex.specs.declared.answer.LexAnswer.{LexAnswer}
 use Rattle.sig_lex.specs.declared.answer.LexAnswer.TheVariants.{BadByte, OpenComment, LongNumber, OutOfMemory}
 

@@ -1,6 +1,6 @@
 -- Tokens as slices of a text.
-use Rattle.std.specs.Prelude.{◌≡◌, ◌≢◌, ℕ, ◌<◌, ◌≤◌, List, [], ◌∷◌, ◌++◌, length, take}
-use Rattle.std.specs.List.{AllByRecursion}
+use Rattle.std.specs.Prelude.{◌≡◌, ◌≢◌, ◌<◌, ◌≤◌, ◌∷◌, ◌++◌}
+use Rattle.sig_lex.specs.Prelude.{ℕ, List, [], length, take, AllByRecursion}
 use Rattle.sig_lex.specs.declared.token.Token.{Token}
 use Rattle.sig_lex.specs.declared.token.TokenKind.TheVariants.{Last}
 use Rattle.sig_lex.specs.Places.{place_after}

@@ -1,9 +1,6 @@
 -- The tokens of a text, by the longest pieces that it falls into.
-use Rattle.std.specs.Prelude.{◌≡◌, ℕ, ◌+◌, ◌-◌, ◌<◌, ◌≤◌, ◌⊎◌, true, false, List, [], ◌∷◌, ◌++◌, length, take, drop, not, slice_index, Option, None, Some, option_to_list, option_map}
-use Rattle.std.specs.List.{prefix_len}
-use Rattle.std.specs.Char.{is_ascii_alphabetic, is_ascii_digit}
-use Rattle.std.specs.Str.Parse.{digits_value}
-use Rattle.sig_base.specs.declared.span.Span.{Span}
+use Rattle.std.specs.Prelude.{◌≡◌, ◌+◌, ◌-◌, ◌<◌, ◌≤◌, ◌⊎◌, ◌∷◌, ◌++◌}
+use Rattle.sig_lex.specs.Prelude.{ℕ, true, false, List, [], length, take, drop, not, slice_index, Option, None, Some, option_to_list, option_map, prefix_len, is_ascii_alphabetic, is_ascii_digit, digits_value, Span}
 use Rattle.sig_lex.specs.declared.answer.LexAnswer.{LexAnswer}
 use Rattle.sig_lex.specs.declared.answer.LexAnswer.TheVariants.{BadByte, OpenComment, LongNumber, OutOfMemory}
 use Rattle.sig_lex.specs.declared.token.Token.{Token}

@@ -1,7 +1,7 @@
 //! Laws of the definition of tokens.
 
-ghost use Rattle.std.specs.Prelude.{◌≡◌, ◌≢◌, ◌↔◌, ℕ, ◌+◌, ◌<◌, ◌⊎◌, List, [], ◌∷◌, ◌++◌, All, length, take, map, slice_index_or};
-ghost use Rattle.std.specs.List.{AllByRecursion};
+ghost use Rattle.std.specs.Prelude.{◌≡◌, ◌≢◌, ◌↔◌, ◌+◌, ◌<◌, ◌⊎◌, ◌∷◌, ◌++◌};
+ghost use Rattle.sig_lex.specs.Prelude.{ℕ, List, [], All, length, take, map, slice_index_or, AllByRecursion};
 ghost use Rattle.sig_lex.specs.declared.token.Token.{Token};
 ghost use Rattle.sig_lex.specs.declared.token.TokenKind.{TokenKind};
 ghost use Rattle.sig_lex.specs.declared.token.TokenKind.TheVariants.{Last};

@@ -1,10 +1,7 @@
 //! Pieces: what a text begins with.
 
-ghost use Rattle.std.specs.Prelude.{◌≡◌, ℕ, ◌+◌, ◌<◌, ◌≤◌, ◌^◌, ◌↔◌, length, take, IfOk, IfErr, IsTrue, true};
-ghost use Rattle.std.specs.List.{AllPass};
-ghost use Rattle.std.specs.Option.{SomeIff};
-ghost use Rattle.std.specs.Char.{is_ascii_alphabetic, is_ascii_digit};
-ghost use Rattle.std.specs.Str.Parse.{digits_value};
+ghost use Rattle.std.specs.Prelude.{◌≡◌, ◌+◌, ◌<◌, ◌≤◌, ◌^◌, ◌↔◌};
+ghost use Rattle.sig_lex.specs.Prelude.{ℕ, length, take, IfOk, IfErr, IsTrue, true, AllPass, SomeIff, is_ascii_alphabetic, is_ascii_digit, digits_value};
 ghost use Rattle.sig_lex.specs.Bytes.{first, is_percent, is_quote};
 ghost use Rattle.sig_lex.specs.Tables.{IsMark};
 ghost use Rattle.sig_lex.specs.Tokens.{IsPiece, BeginsWithFault, IsOther, greatest_number};

@@ -1,7 +1,7 @@
 //! Places: the line and the column of a byte of a text.
 
-ghost use Rattle.std.specs.Prelude.{◌≡◌, ◌≤◌, length, take};
-ghost use Rattle.sig_base.specs.declared.limits.TheConstants.{PROGRAM_BYTES};
+ghost use Rattle.std.specs.Prelude.{◌≡◌, ◌≤◌};
+ghost use Rattle.sig_lex.specs.Prelude.{length, take, PROGRAM_BYTES};
 ghost use Rattle.sig_lex.specs.Places.{place_after};
 
 use sig_base::Span;

@@ -1,8 +1,7 @@
 //! Runs: how many bytes at the front of a text are of one kind.
 
-ghost use Rattle.std.specs.Prelude.{◌≡◌, ◌≤◌, length};
-ghost use Rattle.std.specs.List.{prefix_len};
-ghost use Rattle.std.specs.Char.{is_ascii_digit};
+ghost use Rattle.std.specs.Prelude.{◌≡◌, ◌≤◌};
+ghost use Rattle.sig_lex.specs.Prelude.{length, prefix_len, is_ascii_digit};
 ghost use Rattle.sig_lex.specs.Bytes.{is_name_byte, is_label_byte};
 
 /// Bytes with which a name goes on: letters, digits and `_`.

@@ -1,7 +1,7 @@
 //! The scan of a text from its first byte to its last.
 
-ghost use Rattle.std.specs.Prelude.{◌≡◌, ℕ, ◌+◌, ◌<◌, ◌≤◌, ◌^◌, ◌++◌, List, OnOk, IfOk, IfErr, IsErrAnd, MatchResult, length, take, drop, ◌⊎◌, option_to_list, option_map};
-ghost use Rattle.sig_base.specs.declared.limits.TheConstants.{PROGRAM_BYTES};
+ghost use Rattle.std.specs.Prelude.{◌≡◌, ◌+◌, ◌<◌, ◌≤◌, ◌^◌, ◌++◌, ◌⊎◌};
+ghost use Rattle.sig_lex.specs.Prelude.{ℕ, List, OnOk, IfOk, IfErr, IsErrAnd, MatchResult, length, take, drop, option_to_list, option_map, PROGRAM_BYTES};
 ghost use Rattle.sig_lex.specs.declared.token.Token.{Token};
 ghost use Rattle.sig_lex.specs.declared.answer.LexAnswer.{LexAnswer};
 ghost use Rattle.sig_lex.specs.Places.{place_after};

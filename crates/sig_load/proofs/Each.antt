@@ -1,8 +1,5 @@
 -- Pieces one after another, and draws.
-use Rattle.std.proofs.Common.{◌≡◌, ℕ, zero, suc, ◌+◌, List, ◌++◌, refl, sym, ap, ◌∙◌, add-one, add-zero, add-suc, append_assoc}
-use Rattle.std.proofs.lemmas.List.{append-nil}
-use Rattle.sig_load.specs.Draws.{next_state, state_after}
-use Rattle.sig_load.specs.Pieces.{Appends, each}
+use Rattle.sig_load.proofs.Common.{◌≡◌, ℕ, zero, suc, ◌+◌, List, ◌++◌, refl, sym, ap, ◌∙◌, add-one, add-zero, add-suc, append_assoc, append-nil, next_state, state_after, Appends, each}
 
 -- a piece, and another behind it
 pub behind : {a p b q c : List ℕ} → Appends a p b → Appends b q c → Appends a (p ++ q) c

@@ -1,24 +1,28 @@
--- A generated program that can be run over its flows comes to the end of its load.
-use Rattle.std.proofs.Common.{◌≡◌, ◌⊎◌, ℕ, ℤ, false, List, None, inl, inr, refl, sym, ap, subst, arith}
-use Rattle.sig_base.specs.declared.limits.TheConstants.{INSTANTS_DEFAULT}
-use Rattle.sig_kernel.specs.Validity.{AreFlowsFor, inputs_of}
-use Rattle.sig_kernel.specs.declared.kernel.Kernel.{Kernel}
-use Rattle.sig_plan.specs.Plans.{PlanView}
-use Rattle.sig_meaning.proofs.Ending.{some_end}
-use Rattle.sig_flow.proofs.FittingFlows.{read_fit}
-use Rattle.sig_load.specs.Flows.{flows}
-use Rattle.sig_load.specs.Program.{program}
-use Rattle.sig_words.specs.declared.command.Settings.{Settings}
-use Rattle.sig_outcome.specs.Outcomes.{Outcome}
-use Rattle.sig_outcome.specs.Tasks.{IsEnded}
-use Rattle.sig_compile.proofs.Verdicts.{accepted_once, program_apart}
-use Rattle.sig_runs.specs.Runs.{AtLinks, IsPlanOf}
-use Rattle.sig_runs.proofs.Complete.{few_items}
-use Rattle.sig_runs.proofs.OneRun.{flows_apart, one_flows}
-use Rattle.sig_runs.proofs.Written.{is_ended}
-use Rattle.sig_loads.specs.Complete.{CanLoad}
-use Rattle.sig_loads.specs.Loads.{AtFlowsText, AtProgramText, LoadComesTo, LoadsTo, counted}
-use Rattle.sig_loads.specs.Refusals.{flows_name}
+-- A generated program that is accepted comes to an outcome, and one that can be run over its flows to the end of its load.
+use Rattle.sig_loads.proofs.Common.{◌⊎◌, ◌<◌, ◌≤◌, ℕ, ℤ, false, List, length, None, ⊎_elim, inl, inr, refl, sym, ap, subst, arith, cases_lt, FLOW_BYTES, INSTANTS_DEFAULT, AreFlows, inputs_of, Kernel, some_kernel_end, read_fit, flows, program, Settings, Outcome, long_file, refused, too_many_items, IsEnded, accepted_once, program_apart, AtLinks, HoldFew, items_are, RefusesFlows, flows_apart, flows_either, one_flows, is_ended, CanLoad, IsShortProgram, AtFlowsText, AtProgramText, LoadComesTo, LoadsTo, counted, flows_name}
+
+-- a generated program that is accepted comes to an outcome, whatever its flows are
+module _ (seed stages : ℕ) (settings : Settings) (kernel : Kernel) (accepted : IsShortProgram (program stages) kernel) where
+  over : (values : List (List ℤ)) → AreFlows (inputs_of kernel) (flows seed stages) values → (o : Outcome) × LoadsTo stages kernel values o
+  over values read =
+      let end = some_kernel_end kernel accepted.1.has.valid accepted.1.accepted values (read_fit kernel (flows seed stages) values read) INSTANTS_DEFAULT in
+      (counted stages kernel end.0 end.2, record { trace = end.0; place = end.1; end = end.2; ends = end.3; is = refl })
+
+  by_flows : (FLOW_BYTES < length (flows seed stages)) ⊎ (length (flows seed stages) ≤ FLOW_BYTES)
+      → ((values : List (List ℤ)) × AreFlows (inputs_of kernel) (flows seed stages) values) ⊎ ((line : List ℕ) × RefusesFlows flows_name (inputs_of kernel) (flows seed stages) line)
+      → (o : Outcome) × AtFlowsText kernel (flows seed stages) (LoadsTo stages kernel) o
+  by_flows (inl long) of = (refused 4 (long_file flows_name) None, inl (long, refl))
+  by_flows (inr short) (inl good) = let behind = over good.0 good.1 in (behind.0, inr (inr (good.0, (short, good.1), behind.1)))
+  by_flows (inr short) (inr bad) = (refused 4 bad.0 None, inr (inl (bad.0, short, bad.1, refl)))
+
+  few_load : HoldFew kernel settings.capacity → (o : Outcome) × LoadComesTo seed stages settings o
+  few_load few =
+      let behind = by_flows (cases_lt FLOW_BYTES (length (flows seed stages))) (flows_either flows_name (inputs_of kernel) (flows seed stages)) in
+      (behind.0, inr (kernel, accepted, inr (few, behind.1)))
+
+  pub some_outcome : (o : Outcome) × LoadComesTo seed stages settings o
+  some_outcome =
+      ⊎_elim (λ many. (refused 2 too_many_items None, inr (kernel, accepted, inl (many, refl)))) few_load (items_are kernel accepted.1.accepted settings.capacity)
 
 module _ (seed stages : ℕ) (settings : Settings) (can : CanLoad seed stages settings) where
   abbrev AtKernel : Kernel → Outcome → Type 0
@@ -44,22 +48,5 @@ module _ (seed stages : ℕ) (settings : Settings) (can : CanLoad seed stages se
   pub end_status_is : (o : Outcome) → LoadComesTo seed stages settings o → IsEnded o.status
   end_status_is o x = let load = only_end o x in subst IsEnded (sym (ap (λ (q : Outcome). q.status) load.is)) (is_ended load.end.cause)
 
-  pub some_load : (plan : PlanView) → IsPlanOf can.kernel plan → (o : Outcome) × LoadComesTo seed stages settings o
-  some_load plan planned =
-      let fit : AreFlowsFor plan.kernel can.values =
-      subst (λ (k : Kernel). AreFlowsFor k can.values) (sym planned.same) (read_fit can.kernel (flows seed stages) can.values can.read.1) in
-      let end = some_end plan planned.accepted can.values fit INSTANTS_DEFAULT in (
-        counted stages can.kernel end.0 end.2,
-        inr (
-          can.kernel,
-          can.accepted,
-          inr (
-            few_items can.kernel settings.capacity plan planned can.few,
-            inr (inr (
-              can.values,
-              can.read,
-              record { plan = plan; planned = planned; trace = end.0; place = end.1; end = end.2; ends = end.3; is = refl },
-            )),
-          ),
-        ),
-      )
+  pub some_load : (o : Outcome) × LoadComesTo seed stages settings o
+  some_load = some_outcome seed stages settings can.kernel can.accepted

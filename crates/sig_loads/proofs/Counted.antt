@@ -1,28 +1,5 @@
 -- What is promised of a load follows from what was counted and what was written.
-use Rattle.std.proofs.Common.{◌≡◌, ◌∙◌, ◌⊎◌, ◌<◌, ◌%◌, ◌^◌, ℕ, ℤ, List, [], Bool, Option, None, IfSome, length, inl, inr, refl, sym, ap, subst, arith}
-use Rattle.std.specs.Prelude.{IsTrue, flat_map, sum}
-use Rattle.sig_alone.specs.Runs.{IsWholeRun}
-use Rattle.sig_base.specs.declared.limits.TheConstants.{INSTANTS_DEFAULT}
-use Rattle.sig_kernel.specs.OutputText.{output_text}
-use Rattle.sig_kernel.specs.declared.kernel.Kernel.{Kernel}
-use Rattle.sig_load.specs.Flows.{flows}
-use Rattle.sig_load.specs.Program.{program}
-use Rattle.sig_load.specs.Tally.{Tallied, Tally}
-use Rattle.sig_text.specs.Counts.{Rose}
-use Rattle.sig_text.specs.Files.{Contents}
-use Rattle.sig_text.specs.Sink.{TookPrefix}
-use Rattle.sig_plan.specs.Plans.{IsAccepted, PlanView}
-use Rattle.sig_plan.specs.declared.ended.Ended.{Ended}
-use Rattle.sig_words.specs.declared.command.Settings.{Settings}
-use Rattle.sig_outcome.specs.Tasks.{Performs, Reaches, write_line}
-use Rattle.sig_outcome.specs.declared.refusal.Refusal.TheVariants.{OutOfMemory}
-use Rattle.sig_outcome.proofs.Performing.{performs_outcome, performs_refusal}
-use Rattle.sig_outcome.proofs.Refused.{told}
-use Rattle.sig_runs.specs.Ends.{end_line, end_status}
-use Rattle.sig_runs.specs.Runs.{HoldFew, LacksMemory}
-use Rattle.sig_runs.proofs.Written.{is_ended, no_six}
-use Rattle.sig_loads.specs.Loads.{IsShortFlows, IsShortProgram, WritesLoad, counted, loading}
-use Rattle.sig_loads.specs.Summaries.{summary, summary_pieces}
+use Rattle.sig_loads.proofs.Common.{◌≡◌, ◌∙◌, ◌⊎◌, ◌<◌, ◌%◌, ◌^◌, ℕ, ℤ, List, [], Bool, Option, length, inl, inr, refl, sym, ap, subst, arith, IsTrue, flat_map, sum, IsWholeRun, INSTANTS_DEFAULT, output_text, Kernel, flows, program, Tallied, Tally, Rose, Contents, TookPrefix, IsAccepted, PlanView, Ended, kernel_end, Settings, Performs, write_line, OutOfMemory, performs_outcome, performs_refusal, told, end_line, end_status, HoldFew, LacksMemory, is_ended, no_six, IsShortFlows, IsShortProgram, WritesLoad, counted, loading, summary, summary_pieces}
 use Rattle.sig_loads.proofs.OneLoad.{one_load_outcome}
 use Rattle.sig_loads.proofs.Stopped.{load_number, stops_memory}
 
@@ -50,12 +27,10 @@ module _ {S : Type 0} (stages : ℕ) (plan : PlanView) (accepted : IsAccepted pl
       → IsTrue clean → Said (end_line plan.kernel end) → status ≡ end_status end.cause
       → WritesLoad stages plan.kernel values took out out' wrote wrote' clean Said status
   wrote_whole whole prefix flushed said is = record {
-    plan = plan;
-    planned = record { accepted = accepted; same = refl };
     trace = run.trace;
     place = run.place;
     end = end;
-    ends = run.end;
+    ends = kernel_end plan accepted values INSTANTS_DEFAULT run.trace run.place end run.end;
     writes = record {
       numbers = inl is;
       prefix = subst (λ (text : List ℕ). TookPrefix took out text out') due prefix;
@@ -71,12 +46,10 @@ module _ {S : Type 0} (stages : ℕ) (plan : PlanView) (accepted : IsAccepted pl
   pub wrote_part : TookPrefix took out (flat_map (λ piece. piece) (summary_pieces stages end.instants tally.bytes tally.sum)) out'
       → Rose wrote wrote' → Said write_line → status ≡ 6 → WritesLoad stages plan.kernel values took out out' wrote wrote' clean Said status
   wrote_part prefix rose said six = record {
-    plan = plan;
-    planned = record { accepted = accepted; same = refl };
     trace = run.trace;
     place = run.place;
     end = end;
-    ends = run.end;
+    ends = kernel_end plan accepted values INSTANTS_DEFAULT run.trace run.place end run.end;
     writes = record {
       numbers = inr six;
       prefix = subst (λ (text : List ℕ). TookPrefix took out text out') due prefix;
@@ -109,8 +82,6 @@ module _ (seed stages : ℕ) (settings : Settings) (contents : Option Contents) 
               values,
               read,
               record {
-                plan = load.plan;
-                planned = load.planned;
                 trace = load.trace;
                 place = load.place;
                 end = load.end;

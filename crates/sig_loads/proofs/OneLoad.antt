@@ -1,25 +1,8 @@
 -- A load comes to one outcome at most.
-use Rattle.std.proofs.Common.{◌≡◌, ◌∙◌, ◌⊎◌, ℕ, ℤ, false, List, length, None, inl, inr, sym, ap, subst, arith}
-use Rattle.sig_base.specs.Traces.{Trace}
-use Rattle.sig_base.specs.declared.limits.TheConstants.{INSTANTS_DEFAULT}
-use Rattle.sig_kernel.specs.Validity.{AreFlowsFor, inputs_of}
-use Rattle.sig_kernel.specs.declared.kernel.Kernel.{Kernel}
-use Rattle.sig_plan.specs.declared.ended.Ended.{Ended}
-use Rattle.sig_meaning.proofs.Uniqueness.{one_end}
-use Rattle.sig_flow.specs.Flows.{AreFlows}
-use Rattle.sig_flow.proofs.FittingFlows.{read_fit}
-use Rattle.sig_load.specs.Flows.{flows}
-use Rattle.sig_load.specs.Program.{program}
-use Rattle.sig_words.specs.declared.command.Settings.{Settings}
-use Rattle.sig_outcome.specs.Outcomes.{OneAtMost, Outcome, refused}
-use Rattle.sig_compile.proofs.Verdicts.{accepted_once, program_apart, program_once}
-use Rattle.sig_runs.proofs.OneRun.{flows_apart, no_flows_line, one_at_links, one_flows}
-use Rattle.sig_runs.proofs.Plans.{same_end}
-use Rattle.sig_loads.specs.Loads.{AtFlowsText, AtProgramText, LoadComesTo, LoadsTo, counted}
-use Rattle.sig_loads.specs.Refusals.{flows_name}
+use Rattle.sig_loads.proofs.Common.{◌∙◌, ℕ, ℤ, false, List, None, inl, inr, sym, ap, subst, arith, Trace, INSTANTS_DEFAULT, AreFlowsFor, inputs_of, Kernel, Ended, IsValid, IsAcceptedKernel, IsAcceptedAs, one_kernel_end, AreFlows, read_fit, flows, program, Settings, OneAtMost, Outcome, refused, accepted_once, program_apart, program_once, flows_apart, no_flows_line, one_at_links, one_flows, AtFlowsText, AtProgramText, LoadComesTo, LoadsTo, counted, flows_name}
 
 -- bytes are one program, or are refused with one line
-one_at_program : (bytes : List ℕ) (Next : Kernel → Outcome → Type 0) → ((kernel : Kernel) → OneAtMost (Next kernel)) → OneAtMost (AtProgramText bytes Next)
+one_at_program : (bytes : List ℕ) (Next : Kernel → Outcome → Type 0) → ((kernel : Kernel) → IsAcceptedAs false bytes kernel → OneAtMost (Next kernel)) → OneAtMost (AtProgramText bytes Next)
 one_at_program bytes Next one o p (inl x) (inl y) =
     x.2 ∙ ap (λ (line : List ℕ). refused 1 line None) (program_once false bytes x.0 y.0 x.1 y.1) ∙ sym y.2
 one_at_program bytes Next one o p (inl x) (inr y) =
@@ -27,7 +10,7 @@ one_at_program bytes Next one o p (inl x) (inr y) =
 one_at_program bytes Next one o p (inr x) (inl y) =
     absurd (program_apart false bytes y.0 (record { short = x.1.0; kernel = x.0; is = x.1.1 }) y.1)
 one_at_program bytes Next one o p (inr x) (inr y) =
-    one x.0 o p x.2 (subst (λ (kernel : Kernel). Next kernel p) (accepted_once false bytes y.0 x.0 y.1.1 x.1.1) y.2)
+    one x.0 x.1.1 o p x.2 (subst (λ (kernel : Kernel). Next kernel p) (accepted_once false bytes y.0 x.0 y.1.1 x.1.1) y.2)
 
 -- and one list of flows, or are refused with one line
 one_at_flows : (kernel : Kernel) (bytes : List ℕ) (Next : List (List ℤ) → Outcome → Type 0)
@@ -45,16 +28,14 @@ one_at_flows kernel bytes Next one o p (inr (inr x)) (inr (inr y)) =
     one x.0 x.1.1 o p x.2 (subst (λ (values : List (List ℤ)). Next values p) (one_flows (inputs_of kernel) bytes y.0 x.0 y.1.1 x.1.1) y.2)
 
 -- a run has one end
-one_count : (stages : ℕ) (kernel : Kernel) (values : List (List ℤ)) → AreFlowsFor kernel values → OneAtMost (LoadsTo stages kernel values)
-one_count stages kernel values fit o p x y =
-    let fits : AreFlowsFor x.plan.kernel values = subst (λ (k : Kernel). AreFlowsFor k values) (sym x.planned.same) fit in
-    let same = one_end x.plan x.planned.accepted values fits INSTANTS_DEFAULT x.trace y.trace x.place y.place x.end y.end x.ends
-    (same_end kernel x.plan y.plan x.planned y.planned values INSTANTS_DEFAULT y.trace y.place y.end y.ends) in
+one_count : (stages : ℕ) (kernel : Kernel) → IsValid kernel → IsAcceptedKernel kernel → (values : List (List ℤ)) → AreFlowsFor kernel values → OneAtMost (LoadsTo stages kernel values)
+one_count stages kernel valid accepted values fit o p x y =
+    let same = one_kernel_end kernel valid accepted values fit INSTANTS_DEFAULT x.trace y.trace x.place y.place x.end y.end x.ends y.ends in
     x.is ∙ ap (λ (t : Trace). counted stages kernel t x.end) same.0 ∙ ap (λ (e : Ended). counted stages kernel y.trace e) same.2 ∙ sym y.is
 
 pub one_load_outcome : (seed stages : ℕ) (settings : Settings) → OneAtMost (LoadComesTo seed stages settings)
 one_load_outcome seed stages settings =
     one_at_program (program stages) _
-    (λ kernel. one_at_links kernel settings.capacity None (AtFlowsText kernel (flows seed stages) (LoadsTo stages kernel))
+    (λ kernel is. one_at_links kernel is.has.valid settings.capacity None (AtFlowsText kernel (flows seed stages) (LoadsTo stages kernel))
     (one_at_flows kernel (flows seed stages) (LoadsTo stages kernel)
-    (λ values read. one_count stages kernel values (read_fit kernel (flows seed stages) values read))))
+    (λ values read. one_count stages kernel is.has.valid is.accepted values (read_fit kernel (flows seed stages) values read))))

@@ -1,26 +1,5 @@
 -- The refusals of a load.
-use Rattle.std.proofs.Common.{◌≡◌, ◌≤◌, ◌⊎◌, ℕ, false, List, Option, None, length, inl, inr, refl, ap, sym, subst, arith}
-use Rattle.std.specs.Prelude.{string_bytes}
-use Rattle.sig_base.specs.declared.limits.TheConstants.{FLOW_BYTES, PROGRAM_BYTES}
-use Rattle.sig_kernel.specs.Validity.{inputs_of}
-use Rattle.sig_kernel.specs.declared.kernel.Kernel.{Kernel}
-use Rattle.sig_load.specs.Flows.{flows}
-use Rattle.sig_load.specs.Program.{program}
-use Rattle.sig_text.specs.Files.{Contents}
-use Rattle.sig_outcome.specs.Outcomes.{long_file, long_program, refused}
-use Rattle.sig_outcome.specs.Refusals.{HasCount, IsOfData, IsOfProgram, IsOwn, outcome_of, status_of}
-use Rattle.sig_outcome.specs.declared.refusal.Refusal.{Refusal}
-use Rattle.sig_outcome.specs.declared.refusal.Refusal.TheVariants.{Missing, ReadFault, LongProgram, Program, Budget, TooManyItems, LongFile, Data, OutOfMemory}
-use Rattle.sig_outcome.proofs.Refused.{told}
-use Rattle.sig_compile.specs.Acceptance.{AreRefused}
-use Rattle.sig_compile.specs.Compiling.{IsBeyondBound, LacksNodes}
-use Rattle.sig_compile.proofs.Rooms.{plan_line}
-use Rattle.sig_runs.specs.Runs.{HoldFew, HoldTooMany, RefusesFlows}
-use Rattle.sig_runs.proofs.FlowLines.{flow_line}
-use Rattle.sig_words.specs.declared.command.Settings.{Settings}
-use Rattle.sig_loads.specs.Loads.{IsLoadStatus, IsShortProgram, LoadComesTo}
-use Rattle.sig_loads.specs.Refusals.{IsAboutLoad, IsOfFlowsText, IsOfProgramText, flows_name}
-use Rattle.sig_loads.specs.Stopping.{StopsLoad}
+use Rattle.sig_loads.proofs.Common.{◌≡◌, ◌≤◌, ℕ, false, List, Option, None, length, inl, inr, refl, ap, sym, subst, arith, string_bytes, FLOW_BYTES, PROGRAM_BYTES, inputs_of, Kernel, flows, program, Contents, long_file, long_program, refused, HasCount, IsOfData, IsOfProgram, IsOwn, outcome_of, status_of, Refusal, Missing, ReadFault, LongProgram, Program, Budget, TooManyItems, LongFile, Data, OutOfMemory, told, AreRefused, IsBeyondBound, LacksNodes, plan_line, HoldFew, HoldTooMany, RefusesFlows, flow_line, Settings, IsLoadStatus, IsShortProgram, LoadComesTo, IsAboutLoad, IsOfFlowsText, IsOfProgramText, flows_name, StopsLoad}
 
 -- a refusal of a load has a status of a load
 pub load_number : (r : Refusal) → IsAboutLoad r → IsLoadStatus (status_of r)

@@ -1,25 +1,7 @@
 -- What the command `load` comes to: a generated program is run over generated flows, and its text is counted.
 -- The refusals of the command are tried in the order in which the equations below stand. It asks for no file.
-use Rattle.std.specs.Prelude.{◌≡◌, ◌⊎◌, ◌≤◌, ◌<◌, ⊤, ℕ, ℤ, Bool, false, List, codes, length, Option, None}
-use Rattle.sig_base.specs.Traces.{Trace}
-use Rattle.sig_base.specs.declared.limits.TheConstants.{FLOW_BYTES, INSTANTS_DEFAULT, PROGRAM_BYTES}
-use Rattle.sig_base.specs.declared.place.Place.{Place}
-use Rattle.sig_kernel.specs.OutputText.{output_text}
-use Rattle.sig_kernel.specs.Validity.{inputs_of}
-use Rattle.sig_kernel.specs.declared.kernel.Kernel.{Kernel}
-use Rattle.sig_plan.specs.Plans.{PlanView}
-use Rattle.sig_plan.specs.declared.ended.Ended.{Ended}
-use Rattle.sig_model.specs.Causes.{IsEnd}
-use Rattle.sig_flow.specs.Flows.{AreFlows}
-use Rattle.sig_load.specs.Flows.{flows}
-use Rattle.sig_load.specs.Program.{program}
-use Rattle.sig_words.specs.declared.command.Settings.{Settings}
-use Rattle.sig_outcome.specs.Outcomes.{Outcome, long_file, refused}
-use Rattle.sig_outcome.specs.Tasks.{IsEnded, Task, Writes}
-use Rattle.sig_compile.specs.Acceptance.{IsAcceptedAs, IsRefusedProgram}
-use Rattle.sig_compile.specs.Compiling.{IsBeyondBound}
-use Rattle.sig_runs.specs.Ends.{end_line, end_status}
-use Rattle.sig_runs.specs.Runs.{AtLinks, IsPlanOf, RefusesFlows}
+use Rattle.std.specs.Prelude.{◌≡◌, ◌⊎◌, ◌≤◌, ◌<◌}
+use Rattle.sig_loads.specs.Prelude.{⊤, ℕ, ℤ, Bool, false, List, length, Option, None, Trace, FLOW_BYTES, INSTANTS_DEFAULT, PROGRAM_BYTES, Place, output_text, inputs_of, Kernel, Ended, IsKernelEnd, AreFlows, flows, program, Settings, Outcome, long_file, refused, IsEnded, Task, Writes, IsAcceptedAs, IsRefusedProgram, IsBeyondBound, end_line, end_status, AtLinks, RefusesFlows}
 use Rattle.sig_loads.specs.Refusals.{IsAboutLoad, flows_name}
 use Rattle.sig_loads.specs.Summaries.{summary}
 
@@ -56,12 +38,10 @@ counted stages kernel trace end =
 -- The run of a kernel over flows, for at most 1,000,000 instants: the text of the longest trace is counted, and the line names
 -- the cause why that is not longer.
 pub record LoadsTo (stages : ℕ) (kernel : Kernel) (values : List (List ℤ)) (o : Outcome) : Type 0 where
-  pub plan : PlanView
-  pub planned : IsPlanOf kernel plan
   pub trace : Trace
   pub place : Option Place
   pub end : Ended
-  pub ends : IsEnd plan values INSTANTS_DEFAULT trace place end
+  pub ends : IsKernelEnd kernel values INSTANTS_DEFAULT trace place end
   pub is : o ≡ counted stages kernel trace end
 
 -- ---- the command
@@ -90,10 +70,8 @@ loading seed stages settings = record {
 
 -- the summary of a run of a kernel and the line of the run's end were written, or a write failed
 pub record WritesLoad {S : Type 0} (stages : ℕ) (kernel : Kernel) (values : List (List ℤ)) (took : S → List ℕ → S → Type 0) (out out' : S) (wrote wrote' : ℕ) (clean : Bool) (Said : List ℕ → Type 0) (status : ℕ) : Type 0 where
-  pub plan : PlanView
-  pub planned : IsPlanOf kernel plan
   pub trace : Trace
   pub place : Option Place
   pub end : Ended
-  pub ends : IsEnd plan values INSTANTS_DEFAULT trace place end
+  pub ends : IsKernelEnd kernel values INSTANTS_DEFAULT trace place end
   pub writes : Writes (summary stages end.instants (output_text kernel trace)) (end_line kernel end) (end_status end.cause) took out out' wrote wrote' clean Said status

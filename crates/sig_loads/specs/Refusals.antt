@@ -1,13 +1,6 @@
 -- The refusals of generated texts.
-use Rattle.std.specs.Prelude.{◌≡◌, ◌≤◌, ◌<◌, ⊤, ℕ, false, List, codes, length, string_bytes}
-use Rattle.sig_base.specs.declared.limits.TheConstants.{FLOW_BYTES, PROGRAM_BYTES}
-use Rattle.sig_kernel.specs.Validity.{inputs_of}
-use Rattle.sig_kernel.specs.declared.kernel.Kernel.{Kernel}
-use Rattle.sig_outcome.specs.declared.refusal.Refusal.{Refusal}
-use Rattle.sig_outcome.specs.declared.refusal.Refusal.TheVariants.{Missing, ReadFault, LongProgram, Program, Budget, TooManyItems, LongFile, Data, OutOfMemory}
-use Rattle.sig_compile.specs.Acceptance.{AreRefused}
-use Rattle.sig_compile.specs.Compiling.{IsBudget, IsPlanLine, LacksNodes}
-use Rattle.sig_runs.specs.Runs.{IsFlowLine, RefusesFlows}
+use Rattle.std.specs.Prelude.{◌≡◌, ◌≤◌, ◌<◌}
+use Rattle.sig_loads.specs.Prelude.{⊤, ℕ, false, List, codes, length, string_bytes, FLOW_BYTES, PROGRAM_BYTES, inputs_of, Kernel, Refusal, Missing, ReadFault, LongProgram, Program, Budget, TooManyItems, LongFile, Data, OutOfMemory, AreRefused, IsBudget, IsPlanLine, LacksNodes, IsFlowLine, RefusesFlows}
 
 -- the name by which a refusal calls the generated flows
 abbrev pub flows_name : List ℕ

@@ -1,9 +1,6 @@
 -- What ends a load before its run.
-use Rattle.std.specs.Prelude.{◌≡◌, ℕ, List, Option}
-use Rattle.sig_text.specs.Files.{Contents}
-use Rattle.sig_words.specs.declared.command.Settings.{Settings}
-use Rattle.sig_outcome.specs.Tasks.{Stops}
-use Rattle.sig_outcome.specs.declared.refusal.Refusal.{Refusal}
+use Rattle.std.specs.Prelude.{◌≡◌}
+use Rattle.sig_loads.specs.Prelude.{ℕ, List, Option, Contents, Settings, Stops, Refusal}
 use Rattle.sig_loads.specs.Loads.{loading}
 
 -- a refusal ends a load with links of this capacity, whatever the files hold

@@ -1,6 +1,6 @@
 -- The summary of a generated run.
-use Rattle.std.specs.Fmt.{decimal}
-use Rattle.std.specs.Prelude.{◌%◌, ◌^◌, ℕ, List, [], ◌∷◌, codes, flat_map, length, sum}
+use Rattle.std.specs.Prelude.{◌%◌, ◌^◌, ◌∷◌}
+use Rattle.sig_loads.specs.Prelude.{decimal, ℕ, List, [], codes, flat_map, length, sum}
 
 -- its pieces: the stages, the instants, and the number and the sum of the bytes of the run's text
 abbrev pub summary_pieces : (stages instants bytes total : ℕ) → List (List ℕ)

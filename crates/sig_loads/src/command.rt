@@ -1,11 +1,8 @@
 //! The command `load`: from a seed and a number of stages to a status.
 
-ghost use Rattle.std.specs.Prelude.{◌≤◌, ◌⊎◌, ℕ, List, Option};
-ghost use Rattle.sig_kernel.specs.Validity.{AreFlowsFor};
+ghost use Rattle.std.specs.Prelude.{◌≤◌, ◌⊎◌};
+ghost use Rattle.sig_loads.specs.Prelude.{ℕ, List, Option, AreFlowsFor, Performs, SaysLine, AreWithinBounds, LacksMemory, Contents};
 ghost use Rattle.sig_loads.specs.Loads.{WritesLoad, loading};
-ghost use Rattle.sig_outcome.specs.Tasks.{Performs, SaysLine};
-ghost use Rattle.sig_runs.specs.Runs.{AreWithinBounds, LacksMemory};
-ghost use Rattle.sig_text.specs.Files.{Contents};
 
 use crate::generated::generated;
 use crate::summary::put_summary;

@@ -1,17 +1,10 @@
 //! The generated program and its flows.
 
-ghost use Rattle.std.specs.Prelude.{◌≡◌, ◌≤◌, IfErr, IfOk};
-ghost use Rattle.sig_compile.specs.Acceptance.{IsAcceptedAs};
-ghost use Rattle.sig_flow.specs.Flows.{AreFlows};
-ghost use Rattle.sig_kernel.specs.Validity.{AreFlowsFor, inputs_of};
-ghost use Rattle.sig_load.specs.Flows.{flows};
-ghost use Rattle.sig_load.specs.Program.{program};
+ghost use Rattle.std.specs.Prelude.{◌≡◌, ◌≤◌};
+ghost use Rattle.sig_loads.specs.Prelude.{IfErr, IfOk, IsAcceptedAs, AreFlows, AreFlowsFor, inputs_of, flows, program, HoldFew, IsDistinct, bytes_eq, map};
 ghost use Rattle.sig_loads.specs.Loads.{IsShortFlows, IsShortProgram};
 ghost use Rattle.sig_loads.specs.Refusals.{IsOfFlowsText, IsOfProgramText};
 ghost use Rattle.sig_loads.specs.Stopping.{StopsLoad};
-ghost use Rattle.sig_runs.specs.Runs.{HoldFew};
-ghost use Rattle.std.specs.List.{IsDistinct};
-ghost use Rattle.std.specs.Prelude.{bytes_eq, map};
 
 use sig_base::limits::{FLOW_BYTES, PROGRAM_BYTES};
 use sig_compile::plan_of;

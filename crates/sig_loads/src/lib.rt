@@ -10,4 +10,4 @@ mod laws;
 mod summary;
 
 pub use command::load_command;
-pub use laws::good_loads_end;
+pub use laws::{good_loads_end, loads_have_one_outcome};

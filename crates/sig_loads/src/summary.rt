@@ -1,9 +1,8 @@
 //! The summary of a run.
 
-ghost use Rattle.std.specs.Prelude.{◌≤◌, OnErr, OnOk, IsTrue, flat_map};
+ghost use Rattle.std.specs.Prelude.{◌≤◌};
+ghost use Rattle.sig_loads.specs.Prelude.{OnErr, OnOk, IsTrue, flat_map, Rose, TookPrefix};
 ghost use Rattle.sig_loads.specs.Summaries.{summary_pieces};
-ghost use Rattle.sig_text.specs.Counts.{Rose};
-ghost use Rattle.sig_text.specs.Sink.{TookPrefix};
 
 use itoa::Buffer;
 use sig_outcome::put_pieces;

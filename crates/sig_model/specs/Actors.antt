@@ -1,19 +1,7 @@
 -- The state of one actor: how far it is in its code, and what it has of the signals, the delays and the inputs.
-use Rattle.std.specs.Prelude.{ℕ, ◌+◌, ℤ, pos, Bool, true, false, ◌==◌, nat_lt, List, [], ◌∷◌, map, slice_get, Option, None, Some, unwrap_or, if◌then◌else◌}
-use Rattle.sig_base.specs.Traces.{Seen}
-use Rattle.sig_base.specs.declared.ids.SigId.{SigId}
-use Rattle.sig_base.specs.declared.place.Place.{Place}
-use Rattle.sig_dd.specs.Nodes.{test}
-use Rattle.sig_dd.specs.declared.node.Node.{Node}
-use Rattle.sig_kernel.specs.declared.equation.Equation.{Equation}
-use Rattle.sig_kernel.specs.declared.equation.Form.{Form}
-use Rattle.sig_kernel.specs.declared.equation.Form.TheVariants.{Fun, Delay, When, WhenConst, Default, Sync, Event}
-use Rattle.sig_kernel.specs.declared.kernel.Kernel.{Kernel}
+use Rattle.std.specs.Prelude.{◌+◌, ◌==◌, ◌∷◌, if◌then◌else◌}
+use Rattle.sig_model.specs.Prelude.{ℕ, ℤ, pos, Bool, true, false, nat_lt, List, [], map, slice_get, Option, None, Some, unwrap_or, Seen, SigId, Place, test, Node, Equation, Form, Fun, Delay, When, WhenConst, Default, Sync, Event, Kernel, CodeView, PlanView, Slot, Step}
 use Rattle.sig_model.specs.Results.{is_one}
-use Rattle.sig_plan.specs.Codes.{CodeView}
-use Rattle.sig_plan.specs.Plans.{PlanView}
-use Rattle.sig_plan.specs.declared.code.Slot.{Slot}
-use Rattle.sig_plan.specs.declared.code.Step.{Step}
 
 -- what an actor has of each signal in an instant: absent as long as it has not written or received it there
 abbrev pub Registers : Type 0

@@ -1,22 +1,7 @@
 -- Why the longest trace is not longer: the named cause, and its place.
-use Rattle.std.specs.Prelude.{◌≡◌, ◌<◌, ◌≤◌, ◌+◌, ◌*◌, ◌⊎◌, ℕ, ℤ, true, false, List, [], ◌∷◌, ◌++◌, length, slice_get, slice_index_or, Option, None, Some}
-use Rattle.sig_base.specs.Traces.{Instant, Trace, Unbounded, IsLongest, IsPrefixOf, flow_of, is_silent, seen_at}
-use Rattle.sig_base.specs.declared.ids.EqId.{EqId}
-use Rattle.sig_base.specs.declared.ids.SigId.{SigId}
-use Rattle.sig_base.specs.declared.place.Place.{Place}
-use Rattle.sig_kernel.specs.KernelTraces.{HaveValues, IsKernelTrace, IsTraceIn, function_of}
-use Rattle.sig_kernel.specs.declared.equation.Equation.{Equation}
-use Rattle.sig_kernel.specs.declared.equation.Form.TheVariants.{Fun}
-use Rattle.sig_kernel.specs.declared.equation.FunOp.{FunOp}
-use Rattle.sig_kernel.specs.declared.equation.Operand.{Operand}
-use Rattle.sig_kernel.specs.declared.kernel.Kernel.{Kernel}
+use Rattle.std.specs.Prelude.{◌≡◌, ◌<◌, ◌≤◌, ◌+◌, ◌*◌, ◌⊎◌, ◌∷◌, ◌++◌}
+use Rattle.sig_model.specs.Prelude.{ℕ, ℤ, true, false, List, [], length, slice_get, slice_index_or, Option, None, Some, Instant, Trace, Unbounded, IsLongest, IsPrefixOf, flow_of, is_silent, seen_at, EqId, SigId, Place, HaveValues, IsKernelTrace, IsTraceIn, function_of, Equation, Fun, FunOp, Operand, Kernel, Operation, operations_in, PlanView, numbers_of, Cause, Exhausted, Overflow, ZeroDivisor, Limit, Ended, Read, Compute}
 use Rattle.sig_model.specs.Results.{divides_by_zero, has_64_bits}
-use Rattle.sig_plan.specs.Operations.{Operation, operations_in}
-use Rattle.sig_plan.specs.Plans.{PlanView, numbers_of}
-use Rattle.sig_plan.specs.declared.ended.Cause.{Cause}
-use Rattle.sig_plan.specs.declared.ended.Cause.TheVariants.{Exhausted, Overflow, ZeroDivisor, Limit}
-use Rattle.sig_plan.specs.declared.ended.Ended.{Ended}
-use Rattle.sig_plan.specs.declared.op.OpKind.TheVariants.{Read, Compute}
 
 -- one of two lists begins the other
 abbrev pub AgreeSoFar : List ℤ → List ℤ → Type 0

@@ -1,17 +1,11 @@
 -- All actors of a plan, their links and the failure word; events, and what a list of events leaves.
-use Rattle.std.specs.Prelude.{◌≡◌, ◌≢◌, ℕ, ℤ, ◌/◌, Bool, true, false, ◌==◌, ◌&&◌, ◌||◌, nat_lt, List, [], ◌∷◌, ◌++◌, length, replicate, fold, flat_map, All, slice_get, slice_index_or, slice_set, Option, None, Some, option_and_then, if◌then◌else◌}
-use Rattle.sig_base.specs.declared.place.Place.{Place}
-use Rattle.sig_kernel.specs.OutputText.{outputs_of, seen_lines}
-use Rattle.sig_kernel.specs.declared.kernel.Kernel.{Kernel}
+use Rattle.std.specs.Prelude.{◌≡◌, ◌≢◌, ◌/◌, ◌==◌, ◌&&◌, ◌||◌, ◌∷◌, ◌++◌, if◌then◌else◌}
+use Rattle.sig_model.specs.Prelude.{ℕ, ℤ, Bool, true, false, nat_lt, List, [], length, replicate, fold, flat_map, All, slice_get, slice_index_or, slice_set, Option, None, Some, option_and_then, Place, outputs_of, seen_lines, Kernel, PlanView, Cause, Limit, Op}
 use Rattle.sig_model.specs.Actors.{Actor, code_of, ended_at, next_place, opening_actor}
 use Rattle.sig_model.specs.Operating.{Faults, Gives, Outcome, outcome}
 use Rattle.sig_model.specs.Turns.{AtLimit, Commits, Fails, Goes, Puts, Reaction, Stopped, Takes, Turn, turn}
 use Rattle.sig_model.specs.declared.event.Event.{Event}
 use Rattle.sig_model.specs.declared.event.Event.TheVariants.{Act, Look}
-use Rattle.sig_plan.specs.Plans.{PlanView}
-use Rattle.sig_plan.specs.declared.ended.Cause.{Cause}
-use Rattle.sig_plan.specs.declared.ended.Cause.TheVariants.{Limit}
-use Rattle.sig_plan.specs.declared.op.Op.{Op}
 
 -- what a run is given
 pub record Given : Type 0 where

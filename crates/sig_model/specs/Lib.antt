@@ -1,3 +1,4 @@
+pub mod Prelude
 pub mod Actors
 pub mod Causes
 pub mod Cores

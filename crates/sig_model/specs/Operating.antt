@@ -1,23 +1,8 @@
 -- What an operation comes to, and what it leaves.
-use Rattle.std.specs.Prelude.{ℕ, ◌+◌, ℤ, pos, List, [], ◌∷◌, map, slice_get, slice_index_or, Option, None, Some, option_and_then, if◌then◌else◌}
-use Rattle.sig_base.specs.Functions.{Function}
-use Rattle.sig_base.specs.declared.ids.EqId.{EqId}
-use Rattle.sig_base.specs.declared.ids.SigId.{SigId}
-use Rattle.sig_kernel.specs.KernelTraces.{function_of}
-use Rattle.sig_kernel.specs.Table.{target_of}
-use Rattle.sig_kernel.specs.declared.equation.Equation.{Equation}
-use Rattle.sig_kernel.specs.declared.equation.Form.{Form}
-use Rattle.sig_kernel.specs.declared.equation.Form.TheVariants.{Fun, Delay, When, WhenConst, Default, Sync, Event}
-use Rattle.sig_kernel.specs.declared.equation.Operand.{Operand}
-use Rattle.sig_kernel.specs.declared.equation.Operand.TheVariants.{Sig, Const}
-use Rattle.sig_kernel.specs.declared.kernel.Kernel.{Kernel}
+use Rattle.std.specs.Prelude.{◌+◌, ◌∷◌, if◌then◌else◌}
+use Rattle.sig_model.specs.Prelude.{ℕ, ℤ, pos, List, [], map, slice_get, slice_index_or, Option, None, Some, option_and_then, Function, EqId, SigId, function_of, target_of, Equation, Form, Fun, Delay, When, WhenConst, Default, Sync, Event, Operand, Sig, Const, Kernel, Cause, Exhausted, Overflow, ZeroDivisor, Op, OpKind, Read, Compute, Left, Right, DelayRead, Store}
 use Rattle.sig_model.specs.Actors.{Actor, Registers, value_in, with_at, with_signal}
 use Rattle.sig_model.specs.Results.{divides_by_zero, has_64_bits, result_of}
-use Rattle.sig_plan.specs.declared.ended.Cause.{Cause}
-use Rattle.sig_plan.specs.declared.ended.Cause.TheVariants.{Exhausted, Overflow, ZeroDivisor}
-use Rattle.sig_plan.specs.declared.op.Op.{Op}
-use Rattle.sig_plan.specs.declared.op.OpKind.{OpKind}
-use Rattle.sig_plan.specs.declared.op.OpKind.TheVariants.{Read, Compute, Left, Right, DelayRead, Store}
 
 -- a value, or the reason why there is none
 pub data Outcome : Type 0 where

@@ -1,28 +1,12 @@
 -- A state on the reference: what every state that events reach has to do with the extended reference.
-use Rattle.std.specs.Prelude.{◌≡◌, ◌<◌, ◌≤◌, ◌-◌, ◌⊎◌, ℕ, ℤ, pos, Bool, true, false, not, ◌==◌, ◌&&◌, List, [], ◌++◌, length, map, take, flat_map, slice_get, slice_index_or, Option, None, Some, if◌then◌else◌}
-use Rattle.std.specs.List.{filter_map, list_any}
-use Rattle.sig_base.specs.Traces.{Instant, Seen, Trace, seen_at}
-use Rattle.sig_base.specs.declared.ids.SigId.{SigId}
-use Rattle.sig_base.specs.declared.place.Place.{Place}
-use Rattle.sig_kernel.specs.KernelTraces.{last_of}
-use Rattle.sig_kernel.specs.declared.kernel.Kernel.{Kernel}
+use Rattle.std.specs.Prelude.{◌≡◌, ◌<◌, ◌≤◌, ◌-◌, ◌⊎◌, ◌==◌, ◌&&◌, ◌++◌, if◌then◌else◌}
+use Rattle.sig_model.specs.Prelude.{ℕ, ℤ, pos, Bool, true, false, not, List, [], length, map, take, flat_map, slice_get, slice_index_or, Option, None, Some, filter_map, list_any, Instant, Seen, Trace, seen_at, SigId, Place, last_of, Kernel, CodeView, operations_in, PlanView, numbers_of, Step, StepKind, Do, Send, Receive, Report, Collect, Commit, Cause, Op, OpKind, Read, Compute, Left, Right, DelayRead, Store, LinkInfo}
 use Rattle.sig_model.specs.Actors.{Actor, code_of, guard_holds, initial_in, next_place}
 use Rattle.sig_model.specs.Causes.{HasFault, MeetsAt, place_at}
 use Rattle.sig_model.specs.Cores.{Core, Given, is_before, word_before}
 use Rattle.sig_model.specs.Operating.{first_in, remembers}
 use Rattle.sig_model.specs.References.{IsReference}
 use Rattle.sig_model.specs.Turns.{carried, item_of, reaction_in}
-use Rattle.sig_plan.specs.Codes.{CodeView}
-use Rattle.sig_plan.specs.Operations.{operations_in}
-use Rattle.sig_plan.specs.Plans.{PlanView, numbers_of}
-use Rattle.sig_plan.specs.declared.code.Step.{Step}
-use Rattle.sig_plan.specs.declared.code.StepKind.{StepKind}
-use Rattle.sig_plan.specs.declared.code.StepKind.TheVariants.{Do, Send, Receive, Report, Collect, Commit}
-use Rattle.sig_plan.specs.declared.ended.Cause.{Cause}
-use Rattle.sig_plan.specs.declared.op.Op.{Op}
-use Rattle.sig_plan.specs.declared.op.OpKind.{OpKind}
-use Rattle.sig_plan.specs.declared.op.OpKind.TheVariants.{Read, Compute, Left, Right, DelayRead, Store}
-use Rattle.sig_plan.specs.declared.parts.LinkInfo.{LinkInfo}
 
 -- What a step gives at an instant of the reference, if it is done there: a value, or nothing.
 abbrev pub Yield : Type 0

@@ -1,14 +1,8 @@
 -- The extended reference: what a kernel does over flows that never end, its integers being all whole numbers. Of an accepted
 -- kernel there is one such trace of each length, and the longest trace within 64 bits begins it.
-use Rattle.std.specs.Prelude.{◌≡◌, ℕ, ℤ, pos, List, ◌++◌, length, map, replicate}
-use Rattle.std.specs.List.{zip}
-use Rattle.sig_base.specs.Traces.{Trace, Unbounded, Fits, NoneSilent}
-use Rattle.sig_base.specs.declared.ids.Kind.{Kind}
-use Rattle.sig_base.specs.declared.ids.Kind.TheVariants.{Integer, Boolean, Event}
-use Rattle.sig_base.specs.declared.signal.Signal.{Signal}
-use Rattle.sig_kernel.specs.KernelTraces.{IsTraceIn}
-use Rattle.sig_kernel.specs.Validity.{inputs_of}
-use Rattle.sig_kernel.specs.declared.kernel.Kernel.{Kernel}
+use Rattle.std.specs.Prelude.{◌≡◌, ◌++◌}
+use Rattle.sig_model.specs.Prelude.{ℕ, ℤ, pos, List, length, map, replicate, zip, Trace, Unbounded, Fits, NoneSilent, Kind, Integer, Boolean, Signal, IsTraceIn, inputs_of, Kernel}
+use Rattle.sig_base.specs.declared.ids.Kind.TheVariants.{Event}
 
 -- the value that follows the end of a flow for ever
 abbrev pub filler : Kind → ℤ

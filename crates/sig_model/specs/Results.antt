@@ -1,7 +1,6 @@
 -- What a function gives of its operands' values, in whole numbers, and where that is no result. Truths are 0 and 1.
-use Rattle.std.specs.Prelude.{ℤ, pos, negsuc, ◌+ℤ◌, ◌-ℤ◌, ◌*ℤ◌, neg_ℤ, ◌^◌, Bool, true, false, not, ◌&&◌, ◌||◌, nat_lt, int_lt, int_le, List, [], ◌∷◌}
-use Rattle.std.specs.Ordering.{int_eq}
-use Rattle.sig_base.specs.Functions.{Function, Identity, Negative, Not, And, Or, Xor, Equal, NotEqual, Less, LessEqual, Greater, GreaterEqual, Sum, Difference, Product, Quotient, Remainder, quotient, remainder}
+use Rattle.std.specs.Prelude.{◌+ℤ◌, ◌-ℤ◌, ◌*ℤ◌, ◌^◌, ◌&&◌, ◌||◌, ◌∷◌}
+use Rattle.sig_model.specs.Prelude.{ℤ, pos, negsuc, neg_ℤ, Bool, true, false, not, nat_lt, int_lt, int_le, List, [], int_eq, Function, Identity, Negative, Not, And, Or, Xor, Equal, NotEqual, Less, LessEqual, Greater, GreaterEqual, Sum, Difference, Product, Quotient, Remainder, quotient, remainder}
 
 -- a truth as a value
 abbrev pub truth_value : Bool → ℤ

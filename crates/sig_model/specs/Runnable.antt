@@ -1,17 +1,10 @@
 -- What every accepted plan gives to those who run it.
-use Rattle.std.specs.Prelude.{◌≡◌, ◌<◌, ℕ, length, slice_get, Option, Some}
-use Rattle.sig_base.specs.declared.ids.EqId.{EqId}
-use Rattle.sig_base.specs.declared.ids.SigId.{SigId}
-use Rattle.sig_dd.specs.Diagram.{Depends}
-use Rattle.sig_dd.specs.Nodes.{Holds, Implies, test}
+use Rattle.std.specs.Prelude.{◌≡◌, ◌<◌}
+use Rattle.sig_model.specs.Prelude.{ℕ, length, slice_get, Option, Some, EqId, SigId, Depends, Holds, Implies, test, PlanView, Slot, Step, Op}
 use Rattle.sig_model.specs.Actors.{code_of}
 use Rattle.sig_model.specs.Operating.{defined_by}
 use Rattle.sig_model.specs.Progress.{fills}
 use Rattle.sig_model.specs.Turns.{carried}
-use Rattle.sig_plan.specs.Plans.{PlanView}
-use Rattle.sig_plan.specs.declared.code.Slot.{Slot}
-use Rattle.sig_plan.specs.declared.code.Step.{Step}
-use Rattle.sig_plan.specs.declared.op.Op.{Op}
 
 -- a signal of a plan is there, where there is one
 abbrev pub IsThere : PlanView → Option SigId → Type 0

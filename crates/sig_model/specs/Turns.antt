@@ -1,19 +1,8 @@
 -- The turn of one actor: what it does next. Its own state determines it; of a link it waits for an answer alone.
-use Rattle.std.specs.Prelude.{ℕ, ℤ, pos, List, length, map, nat_lt, slice_get, Option, None, Some, option_and_then, if◌then◌else◌}
-use Rattle.std.specs.List.{range_with_len}
-use Rattle.sig_base.specs.Traces.{Seen}
-use Rattle.sig_base.specs.declared.ids.SigId.{SigId}
-use Rattle.sig_base.specs.declared.place.Place.{Place}
-use Rattle.sig_kernel.specs.declared.kernel.Kernel.{Kernel}
+use Rattle.std.specs.Prelude.{if◌then◌else◌}
+use Rattle.sig_model.specs.Prelude.{ℕ, ℤ, pos, List, length, map, nat_lt, slice_get, Option, None, Some, option_and_then, range_with_len, Seen, SigId, Place, Kernel, CodeView, PlanView, Step, StepKind, Do, Send, Receive, Report, Collect, Commit, Op, LinkInfo}
 use Rattle.sig_model.specs.Actors.{Actor, Registers, code_of, guard_holds, moved_on, next_place, value_in, with_signal}
 use Rattle.sig_model.specs.Operating.{Faults, Gives, Outcome, operated, outcome}
-use Rattle.sig_plan.specs.Codes.{CodeView}
-use Rattle.sig_plan.specs.Plans.{PlanView}
-use Rattle.sig_plan.specs.declared.code.Step.{Step}
-use Rattle.sig_plan.specs.declared.code.StepKind.{StepKind}
-use Rattle.sig_plan.specs.declared.code.StepKind.TheVariants.{Do, Send, Receive, Report, Collect, Commit}
-use Rattle.sig_plan.specs.declared.op.Op.{Op}
-use Rattle.sig_plan.specs.declared.parts.LinkInfo.{LinkInfo}
 
 -- a reaction: what each output is
 abbrev pub Reaction : Type 0

@@ -1,20 +1,7 @@
 -- Instants, and abstract reactions, that agree along a renumbering of signals meet the same equations.
-use Rattle.std.proofs.Common.{◌≡◌, ◌<◌, ◌∙◌, ℕ, ℤ, pos, true, List, [], ◌∷◌, length, map, refl, sym, ap, subst, arith, Option, None, Some, is_some}
-use Rattle.std.specs.List.{list_all}
-use Rattle.std.specs.Prelude.{slice_index_or}
-use Rattle.std.proofs.lemmas.Bool.{and_parts, ltb-true}
-use Rattle.std.proofs.lemmas.List.FromFn.{get_or-map-range_with_len, length-map-range_with_len}
-use Rattle.sig_base.specs.Functions.{Function, Gives}
-use Rattle.sig_base.specs.Traces.{Instant, Range, Seen, seen_at}
-use Rattle.sig_base.specs.declared.ids.SigId.{SigId}
-use Rattle.sig_kernel.specs.KernelTraces.{AreAbsent, HaveValues, IsFunction, Meets, Memory, function_of, or_else, where_present, where_true}
-use Rattle.sig_kernel.specs.Validity.{form_within, is_below, operand_within}
-use Rattle.sig_kernel.specs.declared.equation.Form.{Form}
-use Rattle.sig_kernel.specs.declared.equation.Form.TheVariants.{Default, Delay, Event, Fun, Sync, When, WhenConst}
-use Rattle.sig_kernel.specs.declared.equation.Operand.{Operand}
-use Rattle.sig_kernel.specs.declared.equation.Operand.TheVariants.{Const, Sig}
-use Rattle.sig_pace.specs.Renumbering.{renumbered_form, renumbered_operand}
-use Rattle.sig_pace.specs.Restriction.{restricted}
+use Rattle.sig_pace.proofs.Common.{◌≡◌, ◌<◌, ◌∙◌, ℕ, ℤ, pos, true, List, [], ◌∷◌, length, map, refl, sym, ap, subst, arith, Option, None, Some, is_some, list_all, slice_index_or, and_parts, ltb-true, get_or-map-range_with_len, length-map-range_with_len, Function, Gives, Instant, Range, Seen, seen_at, SigId, AreAbsent, HaveValues, IsFunction, Meets, Memory, function_of, where_true, form_within, is_below, operand_within, Form, Default, Delay, Fun, Sync, When, WhenConst, Operand, Const, Sig, renumbered_form, renumbered_operand, restricted}
+use Rattle.sig_kernel.specs.KernelTraces.{or_else, where_present}
+use Rattle.sig_kernel.specs.declared.equation.Form.TheVariants.{Event}
 
 -- what each of so many signals is, the signal at its place is too
 abbrev pub Agrees : {A : Type 0} → (ℕ → ℕ) → ℕ → List (Option A) → List (Option A) → Type 0

@@ -1,20 +1,5 @@
 -- Presences and reactions in the store, and what they say of a kernel's signals.
-use Rattle.std.proofs.Common.{◌≡◌, ◌↔◌, ◌&&◌, ℕ, Bool, true, false, List, refl, sym, ap, ◌∙◌, IsTrue}
-use Rattle.std.proofs.lemmas.Bool.{false≢true}
-use Rattle.sig_clock.specs.ClockRefusals.{IsPossible}
-use Rattle.sig_clock.specs.Layers.{IsSignal}
-use Rattle.sig_clock.specs.Reactions.{Reaction, Speaks, is_present}
-use Rattle.sig_dd.specs.Nodes.{Holds, Implies, IsRefOf, IsStore, Keeps, Overlap, Spans, StoreView, test}
-use Rattle.sig_dd.specs.declared.node.Node.{Node}
-use Rattle.sig_dd.specs.declared.node.Ref.{Ref}
-use Rattle.sig_dd.proofs.CallerLemmas.{Holds-kept}
-use Rattle.sig_rel.specs.Systems.{IsOver, IsSystem, SystemView, reading}
-use Rattle.sig_solve.proofs.AskedLemmas.{over_two}
-use Rattle.sig_solve.proofs.StoreLemmas.{older_test}
-use Rattle.sig_solve.proofs.SystemLemmas.{in_variables, presence_over, presence_read, solution_newer, solution_older, system_kept}
-use Rattle.sig_pace.specs.Asked.{HoldsPresences, IsAskedIn, IsCandidate, presence_in, reactions_in, variables_of}
-use Rattle.sig_pace.specs.MaximalClocks.{IsBelow}
-use Rattle.sig_pace.specs.declared.asked.Asked.{Asked}
+use Rattle.sig_pace.proofs.Common.{◌≡◌, ◌↔◌, ◌&&◌, ℕ, Bool, true, false, List, refl, sym, ap, ◌∙◌, IsTrue, false≢true, IsPossible, IsSignal, Reaction, Speaks, is_present, Holds, Implies, IsRefOf, IsStore, Keeps, Overlap, Spans, StoreView, test, Node, Ref, Holds-kept, IsOver, IsSystem, SystemView, reading, over_two, older_test, in_variables, presence_over, presence_read, solution_newer, solution_older, system_kept, HoldsPresences, IsAskedIn, IsCandidate, presence_in, reactions_in, variables_of, IsBelow, Asked}
 
 pub over_spans : (nodes : List Node) (system : SystemView) (r : Ref) → IsOver nodes system r → Spans nodes r (variables_of system)
 over_spans nodes system r over v d = in_variables system v (over.within v d)

@@ -1,17 +1,5 @@
 -- Lists of candidates, one after another.
-use Rattle.std.proofs.Common.{◌≡◌, ◌<◌, ◌+◌, ◌⊎◌, inl, inr, ℕ, List, [], ◌∷◌, ◌++◌, length, length-append, get_or, map, refl, sym, ap, ◌∙◌, subst, arith, Contains}
-use Rattle.std.specs.Prelude.{zero, suc, None, Some, slice_get}
-use Rattle.std.proofs.lemmas.List.Elements.{Contains-get_or}
-use Rattle.sig_clock.specs.Layers.{IsSignal}
-use Rattle.sig_clock.proofs.Lists.{at_contained}
-use Rattle.sig_dd.specs.Nodes.{IsRefOf, Keeps, StoreView}
-use Rattle.sig_dd.proofs.CallerLemmas.{IsRefOf-kept}
-use Rattle.sig_solve.proofs.ListLemmas.{map_length}
-use Rattle.sig_pace.specs.Asked.{AreCandidates, IsAskedIn, reactions_in}
-use Rattle.sig_pace.specs.Leaders.{AreIncreasing}
-use Rattle.sig_pace.specs.Tops.{AreByNumber, signals_of}
-use Rattle.sig_pace.specs.declared.asked.Asked.{Asked}
-use Rattle.sig_pace.specs.declared.candidates.Candidate.{Candidate}
+use Rattle.sig_pace.proofs.Common.{◌≡◌, ◌<◌, ◌+◌, ◌⊎◌, inl, inr, ℕ, List, [], ◌∷◌, ◌++◌, length, length-append, get_or, map, refl, sym, ap, ◌∙◌, subst, arith, Contains, zero, suc, None, Some, slice_get, Contains-get_or, IsSignal, at_contained, IsRefOf, Keeps, StoreView, IsRefOf-kept, map_length, AreCandidates, IsAskedIn, reactions_in, AreIncreasing, AreByNumber, signals_of, Asked, Candidate}
 use Rattle.sig_pace.proofs.AskedLemmas.{candidate_is, presences_kept}
 
 get_pushed : {X : Type 0} (xs : List X) (x : X) (k : ℕ) (y : X) → slice_get (xs ++ x ∷ []) k ≡ Some y → (slice_get xs k ≡ Some y) ⊎ ((k ≡ length xs) × (x ≡ y))

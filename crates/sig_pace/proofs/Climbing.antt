@@ -1,11 +1,5 @@
 -- Above each signal that is possible there is a maximal clock: it cannot be that there is none.
-use Rattle.std.proofs.Common.{◌<◌, ◌≤◌, inl, inr, ℕ, zero, suc, length, sym, subst, ◌∙◌, arith}
-use Rattle.std.proofs.lemmas.Bool.{cases_eq, cases_lt, false≢true, true_from_ne_false}
-use Rattle.sig_clock.specs.ClockRefusals.{IsPossible}
-use Rattle.sig_clock.specs.Layers.{IsSignal}
-use Rattle.sig_clock.specs.Reactions.{is_present}
-use Rattle.sig_kernel.specs.declared.kernel.Kernel.{Kernel}
-use Rattle.sig_pace.specs.MaximalClocks.{AreOfOneClock, IsBelow, IsLeastMaximal}
+use Rattle.sig_pace.proofs.Common.{◌<◌, ◌≤◌, inl, inr, ℕ, zero, suc, length, sym, subst, ◌∙◌, arith, cases_eq, cases_lt, false≢true, true_from_ne_false, IsPossible, IsSignal, is_present, Kernel, AreOfOneClock, IsBelow, IsLeastMaximal}
 
 module _ (kernel : Kernel) where
   pub below_itself : (x : ℕ) → IsBelow kernel x x

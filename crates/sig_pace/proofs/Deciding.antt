@@ -1,13 +1,5 @@
 -- What is asked of the signals and of the reactions of a kernel is decided, since these are finitely many.
-use Rattle.std.proofs.Common.{◌≡◌, ◌<◌, ◌≤◌, ◌+◌, inl, inr, ℕ, zero, suc, Bool, true, false, List, [], ◌∷◌, length, refl, sym, subst, arith, bytes_eq, Option, None, Some}
-use Rattle.std.specs.List.{list_all}
-use Rattle.std.proofs.lemmas.Bool.{cases_eq, cases_lt, false≢true}
-use Rattle.std.proofs.lemmas.List.Sums.{AllPass-from_list_all, list_all-from_AllPass}
-use Rattle.std.proofs.lemmas.Slice.Eq.{bytes_eq-Decides}
-use Rattle.sig_clock.specs.ClockRefusals.{IsLeast}
-use Rattle.sig_clock.specs.Reactions.{IsReaction, Reaction, Speaks, are_statuses, is_silent, meets}
-use Rattle.sig_kernel.specs.declared.equation.Equation.{Equation}
-use Rattle.sig_kernel.specs.declared.kernel.Kernel.{Kernel}
+use Rattle.sig_pace.proofs.Common.{◌≡◌, ◌<◌, ◌≤◌, ◌+◌, inl, inr, ℕ, zero, suc, Bool, true, false, List, [], ◌∷◌, length, refl, sym, subst, arith, bytes_eq, Option, None, Some, list_all, cases_eq, cases_lt, false≢true, AllPass-from_list_all, list_all-from_AllPass, bytes_eq-Decides, IsLeast, IsReaction, Reaction, Speaks, are_statuses, is_silent, meets, Equation, Kernel}
 use Rattle.sig_pace.proofs.Rooms.{next_offset}
 use Rattle.sig_pace.proofs.Standing.{statuses_count}
 

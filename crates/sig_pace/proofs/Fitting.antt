@@ -1,11 +1,5 @@
 -- A trace of a paced kernel fits flows where it fits those of the old inputs and those of the paces.
-use Rattle.std.proofs.Common.{◌≡◌, ◌<◌, ◌≤◌, ◌+◌, ◌-◌, ◌++◌, ◌↔◌, ◌∙◌, inl, inr, ℕ, ℤ, List, [], length, map, get_or, sym, ap, subst, arith}
-use Rattle.std.proofs.lemmas.Bool.{cases_lt}
-use Rattle.std.proofs.lemmas.List.{get_or-append-add, get_or_append_left, length-append}
-use Rattle.sig_base.specs.Traces.{Fits, IsPrefixOf, Trace, flow_of}
-use Rattle.sig_kernel.specs.Validity.{IsValid}
-use Rattle.sig_kernel.specs.declared.kernel.Kernel.{Kernel}
-use Rattle.sig_pace.specs.Restriction.{FitPaces, without_paces}
+use Rattle.sig_pace.proofs.Common.{◌≡◌, ◌<◌, ◌≤◌, ◌+◌, ◌-◌, ◌++◌, ◌↔◌, ◌∙◌, inl, inr, ℕ, ℤ, List, [], length, map, get_or, sym, ap, subst, arith, cases_lt, get_or-append-add, get_or_append_left, length-append, Fits, IsPrefixOf, Trace, flow_of, IsValid, Kernel, FitPaces, without_paces}
 use Rattle.sig_pace.proofs.Rooms.{moved_below}
 use Rattle.sig_pace.proofs.Tracing.{flow_alike}
 

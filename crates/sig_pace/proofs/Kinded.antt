@@ -1,9 +1,5 @@
 -- Instants of the kinds of signals, by places and in parts.
-use Rattle.std.proofs.Common.{◌≡◌, ◌++◌, ℕ, zero, suc, List, [], ◌∷◌, length, map, take, drop, refl, subst, arith, Some, None}
-use Rattle.std.specs.Prelude.{slice_get}
-use Rattle.sig_base.specs.Traces.{AreOfKinds, Instant, IsOfKind, Range, seen_at}
-use Rattle.sig_base.specs.declared.ids.Kind.{Kind}
-use Rattle.sig_base.specs.declared.signal.Signal.{Signal}
+use Rattle.sig_pace.proofs.Common.{◌≡◌, ◌++◌, ℕ, zero, suc, List, [], ◌∷◌, length, map, take, drop, refl, subst, arith, Some, None, slice_get, AreOfKinds, Instant, IsOfKind, Range, seen_at, Kind, Signal}
 
 abbrev pub kinds_of : List Signal → List Kind
 kinds_of signals = map (λ signal. signal.kind) signals

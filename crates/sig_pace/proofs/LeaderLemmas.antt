@@ -1,18 +1,5 @@
 -- The least signals of the clock classes are no more than the unknowns.
-use Rattle.std.proofs.Common.{◌≡◌, ◌<◌, ◌≤◌, ◌⊎◌, inl, inr, ℕ, Bool, true, false, cond, eqb, count_by, filter, List, [], ◌∷◌, length, get_or, refl, sym, ap, ◌∙◌, subst, arith, Contains}
-use Rattle.std.specs.Prelude.{suc}
-use Rattle.std.specs.List.{range_with_len}
-use Rattle.std.proofs.lemmas.Bool.{cases_lt, eq-eqb, false≢true}
-use Rattle.std.proofs.lemmas.List.Sums.{length-filter}
-use Rattle.sig_clock.specs.SameClocks.{AreLeast, itself}
-use Rattle.sig_clock.proofs.Lists.{contains_head, contains_later}
-use Rattle.sig_kernel.specs.declared.kernel.Kernel.{Kernel}
-use Rattle.sig_rel.specs.Relations.{IsUnknownCount, is_boolean}
-use Rattle.sig_solve.specs.Frames.{leaders_of}
-use Rattle.sig_solve.proofs.FrameLemmas.{least_below, least_twice}
-use Rattle.sig_solve.proofs.ListLemmas.{in_filter, in_range, of_filter, of_range}
-use Rattle.sig_solve.proofs.RootLemmas.{ordered_leaders}
-use Rattle.sig_pace.specs.Leaders.{AreLeaders}
+use Rattle.sig_pace.proofs.Common.{◌≡◌, ◌<◌, ◌≤◌, ◌⊎◌, inl, inr, ℕ, Bool, true, false, cond, eqb, count_by, filter, List, [], ◌∷◌, length, get_or, refl, sym, ap, ◌∙◌, subst, arith, Contains, suc, range_with_len, cases_lt, eq-eqb, false≢true, length-filter, AreLeast, itself, contains_head, contains_later, Kernel, IsUnknownCount, is_boolean, leaders_of, least_below, least_twice, in_filter, in_range, of_filter, of_range, ordered_leaders, AreLeaders}
 
 filter_same : (p q : ℕ → Bool) (xs : List ℕ) → ((x : ℕ) → Contains xs x → p x ≡ q x) → length (filter p xs) ≡ length (filter q xs)
 filter_same p q [] same = refl

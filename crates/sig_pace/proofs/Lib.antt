@@ -1,3 +1,4 @@
+pub mod Common
 pub mod Agreeing
 pub mod AskedLemmas
 pub mod CandidateLemmas
@@ -21,3 +22,19 @@ pub mod Telling
 pub mod TopLemmas
 pub mod Tracing
 pub mod Validating
+unfoldable pub use Common.*
+pub use AskedLemmas.*
+pub use CandidateLemmas.*
+pub use Fitting.*
+pub use LeaderLemmas.*
+pub use MaximaLemmas.*
+pub use PacedLemmas.*
+pub use PacedOrRefused.*
+pub use Places.*
+pub use Refusing.*
+pub use Rooting.*
+pub use ShareLemmas.*
+pub use Telling.*
+pub use TopLemmas.*
+pub use Tracing.*
+pub use Validating.*

@@ -1,10 +1,5 @@
 -- Lemmas on lists, and on what holds of each element.
-use Rattle.std.proofs.Common.{◌≡◌, ◌++◌, ◌∙◌, ℕ, Bool, true, List, [], ◌∷◌, slice_get, sym, Contains, Some}
-use Rattle.std.specs.List.{AllByRecursion, list_all}
-use Rattle.std.specs.Prelude.{slice_index_or}
-use Rattle.std.proofs.lemmas.Bool.{and_from}
-use Rattle.std.proofs.lemmas.List.Folds.{list_all-append}
-use Rattle.sig_clock.proofs.Lists.{contains_head, contains_later, get_at, get_within}
+use Rattle.sig_pace.proofs.Common.{◌≡◌, ◌++◌, ◌∙◌, ℕ, Bool, true, List, [], ◌∷◌, slice_get, sym, Contains, Some, AllByRecursion, list_all, slice_index_or, and_from, list_all-append, contains_head, contains_later, get_at, get_within}
 
 pub all_joined : {X : Type 0} (P : X → Type 0) (xs ys : List X) → AllByRecursion P xs → AllByRecursion P ys → AllByRecursion P (xs ++ ys)
 all_joined P [] ys first second = second

@@ -1,22 +1,7 @@
 -- The tops among the least signals of all clock classes are the least signals of the maximal clocks. There are two of
 -- them or more exactly where a kernel needs paces.
-use Rattle.std.proofs.Common.{◌≡◌, ◌<◌, ◌≤◌, ◌⊎◌, inl, inr, ℕ, Bool, true, false, List, [], ◌∷◌, length, get_or, map, refl, sym, ap, ◌∙◌, subst, arith, Contains}
-use Rattle.std.specs.Prelude.{zero, suc, None, Some, slice_get}
-use Rattle.std.proofs.lemmas.Bool.{false≢true}
-use Rattle.sig_clock.specs.ClockRefusals.{IsPossible}
-use Rattle.sig_clock.specs.Layers.{IsDead, IsRoot, IsSignal}
-use Rattle.sig_clock.specs.Reactions.{Reaction, is_present, is_silent}
-use Rattle.sig_clock.specs.SameClocks.{SameClock}
-use Rattle.sig_clock.proofs.Lists.{contains_cons, contains_head, contains_later, contains_none}
-use Rattle.sig_clock.proofs.ReactionLemmas.{present_together}
-use Rattle.sig_kernel.specs.declared.kernel.Kernel.{Kernel}
-use Rattle.sig_rel.proofs.ChosenTruths.{all_statuses}
-use Rattle.sig_solve.proofs.ListLemmas.{get_at, get_is, get_within, in_map, of_map}
-use Rattle.sig_pace.specs.Leaders.{AreLeaders}
-use Rattle.sig_pace.specs.MaximalClocks.{AreMaximalClocks, IsBelow, IsLeastMaximal}
-use Rattle.sig_pace.specs.Paced.{NeedsNoPaces, NeedsPaces}
-use Rattle.sig_pace.specs.Tops.{AreMaxima, AreTops, IsCover, signals_of}
-use Rattle.sig_pace.specs.declared.candidates.Candidate.{Candidate}
+use Rattle.sig_pace.proofs.Common.{◌≡◌, ◌<◌, ◌≤◌, ◌⊎◌, inl, inr, ℕ, Bool, true, false, List, [], ◌∷◌, length, get_or, map, refl, sym, ap, ◌∙◌, subst, arith, Contains, zero, suc, None, Some, slice_get, false≢true, IsPossible, IsDead, IsRoot, IsSignal, Reaction, is_present, is_silent, SameClock, contains_cons, contains_head, contains_later, contains_none, present_together, Kernel, all_statuses, get_is, in_map, of_map, AreLeaders, AreMaximalClocks, IsBelow, IsLeastMaximal, NeedsNoPaces, NeedsPaces, AreMaxima, AreTops, IsCover, signals_of, Candidate}
+use Rattle.sig_solve.proofs.ListLemmas.{get_at, get_within}
 use Rattle.sig_pace.proofs.TopLemmas.{below_through}
 
 -- ---- what is present

@@ -1,14 +1,5 @@
 -- The names of paces: which declared signal is the first that has one.
-use Rattle.std.proofs.Common.{◌≡◌, ◌<◌, ◌≤◌, ◌+◌, ◌⊎◌, inl, inr, ◌||◌, ℕ, Bool, true, false, List, [], ◌∷◌, length, take, sym, ap, ◌∙◌, refl, arith}
-use Rattle.std.specs.Prelude.{zero, suc, None, Some, bytes_eq, slice_get}
-use Rattle.std.proofs.lemmas.Bool.{cases_lt, false≢true}
-use Rattle.std.proofs.lemmas.Slice.Eq.{bytes_eq-Decides}
-use Rattle.sig_base.specs.declared.ids.SigId.{SigId}
-use Rattle.sig_base.specs.declared.signal.Signal.{Signal}
-use Rattle.sig_kernel.specs.declared.kernel.Kernel.{Kernel}
-use Rattle.sig_pace.specs.Names.{FindsNamed, is_named}
-use Rattle.sig_pace.specs.Paced.{IsTaken, NeedsPaces, pace_name, paces_from}
-use Rattle.sig_pace.specs.Refusals.{IsNameTaken}
+use Rattle.sig_pace.proofs.Common.{◌≡◌, ◌<◌, ◌≤◌, ◌+◌, ◌⊎◌, inl, inr, ◌||◌, ℕ, Bool, true, false, List, [], ◌∷◌, length, take, sym, ap, ◌∙◌, refl, arith, zero, suc, None, Some, bytes_eq, slice_get, cases_lt, false≢true, bytes_eq-Decides, SigId, Signal, Kernel, FindsNamed, is_named, IsTaken, NeedsPaces, pace_name, paces_from, IsNameTaken}
 
 -- ---- names
 

@@ -1,16 +1,6 @@
 -- Each kernel is paced or refused, since what is asked of its reactions is decided.
-use Rattle.std.proofs.Common.{◌≡◌, ◌<◌, ◌≤◌, ◌+◌, ◌⊎◌, inl, inr, ℕ, suc, true, List, length, slice_get, refl, arith}
-use Rattle.std.proofs.lemmas.Bool.{cases_lt, true_from_ne_false}
-use Rattle.sig_base.specs.declared.limits.TheConstants.{SIGNALS}
-use Rattle.sig_base.specs.declared.signal.Signal.{Signal}
-use Rattle.sig_clock.specs.ClockRefusals.{HasNoRoot, HasRoot, IsAlive, IsPossible}
-use Rattle.sig_clock.specs.Layers.{IsDead, IsSignal}
-use Rattle.sig_clock.specs.Reactions.{Reaction, Speaks, is_present, is_silent}
-use Rattle.sig_kernel.specs.declared.kernel.Kernel.{Kernel}
+use Rattle.sig_pace.proofs.Common.{◌≡◌, ◌<◌, ◌≤◌, ◌+◌, ◌⊎◌, inl, inr, ℕ, suc, true, List, length, slice_get, refl, arith, cases_lt, true_from_ne_false, SIGNALS, Signal, HasNoRoot, HasRoot, IsAlive, IsPossible, IsDead, IsSignal, Reaction, Speaks, is_present, is_silent, Kernel, AreMaximalClocks, AreOfOneClock, IsBelow, IsLeastMaximal, IsMaximal, IsPaced, IsTaken, NeedsPaces, pace_name, paced_kernel, HasTooManySignals, IsNameTaken}
 use Rattle.sig_pace.proofs.Deciding.{dec_as, dec_both, dec_each, dec_implies, dec_most, dec_some, dec_text, dec_truth, searched_below, searched_speaking, some_least}
-use Rattle.sig_pace.specs.MaximalClocks.{AreMaximalClocks, AreOfOneClock, IsBelow, IsLeastMaximal, IsMaximal}
-use Rattle.sig_pace.specs.Paced.{IsPaced, IsTaken, NeedsPaces, pace_name, paced_kernel}
-use Rattle.sig_pace.specs.Refusals.{HasTooManySignals, IsNameTaken}
 use Rattle.sig_pace.proofs.Rising.{AreChosen, chosen}
 
 module _ (kernel : Kernel) where

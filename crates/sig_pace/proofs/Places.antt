@@ -1,13 +1,5 @@
 -- Where the signals of a paced kernel stand.
-use Rattle.std.proofs.Common.{◌≡◌, ◌<◌, ◌≤◌, ◌+◌, ◌∙◌, ℕ, zero, suc, List, [], ◌∷◌, length, slice_get, refl, sym, ap, subst, arith, None, Some}
-use Rattle.sig_base.specs.declared.ids.Kind.TheVariants.{Boolean, Event}
-use Rattle.sig_clock.specs.Layers.{IsSignal}
-use Rattle.sig_clock.proofs.Lists.{get_within}
-use Rattle.sig_kernel.specs.Table.{kind_of}
-use Rattle.sig_kernel.specs.Validity.{IsValid}
-use Rattle.sig_kernel.specs.declared.kernel.Kernel.{Kernel}
-use Rattle.sig_pace.specs.Paced.{marks_from, pace_name, paced_kernel, paces_from, place_of}
-use Rattle.sig_pace.specs.Renumbering.{moved}
+use Rattle.sig_pace.proofs.Common.{◌≡◌, ◌<◌, ◌≤◌, ◌+◌, ◌∙◌, ℕ, zero, suc, List, [], ◌∷◌, length, slice_get, refl, sym, ap, subst, arith, None, Some, Boolean, Event, IsSignal, get_within, kind_of, IsValid, Kernel, marks_from, pace_name, paced_kernel, paces_from, place_of, moved}
 use Rattle.sig_pace.proofs.Rooms.{last_found, more_found, next_offset, no_offset, old_found, room_length}
 use Rattle.sig_pace.proofs.Standing.{StandAt}
 

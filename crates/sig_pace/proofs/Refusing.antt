@@ -1,11 +1,5 @@
 -- A kernel is paced in one way, or refused for one reason.
-use Rattle.std.proofs.Common.{◌≡◌, ◌∙◌, inl, inr, ℕ, List, length, sym, ap, subst, arith}
-use Rattle.std.proofs.lemmas.Bool.{false≢true}
-use Rattle.sig_clock.specs.ClockRefusals.{IsLeast}
-use Rattle.sig_kernel.specs.declared.kernel.Kernel.{Kernel}
-use Rattle.sig_pace.specs.MaximalClocks.{AreMaximalClocks}
-use Rattle.sig_pace.specs.Paced.{IsPaced, IsTaken, NeedsNoPaces, NeedsPaces, paced_kernel}
-use Rattle.sig_pace.specs.Refusals.{HasTooManySignals, IsNameTaken}
+use Rattle.sig_pace.proofs.Common.{◌≡◌, ◌∙◌, inl, inr, ℕ, List, length, sym, ap, subst, arith, false≢true, IsLeast, Kernel, AreMaximalClocks, IsPaced, IsTaken, NeedsNoPaces, NeedsPaces, paced_kernel, HasTooManySignals, IsNameTaken}
 use Rattle.sig_pace.proofs.Rising.{one_rising}
 
 module _ (kernel : Kernel) where

@@ -1,7 +1,5 @@
 -- Lists of numbers that rise: one list has the members, and those numbers that meet what is decided are such a list.
-use Rattle.std.proofs.Common.{◌≡◌, ◌<◌, ◌≤◌, ◌+◌, ◌⊎◌, inl, inr, ℕ, zero, suc, List, [], ◌∷◌, slice_get, refl, sym, subst, arith, Contains, Some}
-use Rattle.std.proofs.lemmas.Bool.{cases_eq}
-use Rattle.sig_clock.proofs.Lists.{at_contained, contains_at, contains_cons, contains_head, contains_later, contains_none}
+use Rattle.sig_pace.proofs.Common.{◌≡◌, ◌<◌, ◌≤◌, ◌+◌, ◌⊎◌, inl, inr, ℕ, zero, suc, List, [], ◌∷◌, slice_get, refl, sym, subst, arith, Contains, Some, cases_eq, at_contained, contains_at, contains_cons, contains_head, contains_later, contains_none}
 
 abbrev pub IsRising : List ℕ → Type 0
 IsRising list = (i j x y : ℕ) → i < j → slice_get list i ≡ Some x → slice_get list j ≡ Some y → x < y

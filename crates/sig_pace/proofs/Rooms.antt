@@ -1,9 +1,5 @@
 -- Room for more in a list: some behind its first elements, and some at its end.
-use Rattle.std.proofs.Common.{◌≡◌, ◌<◌, ◌≤◌, ◌+◌, ◌-◌, ◌++◌, ◌⊎◌, inl, inr, ℕ, suc, List, [], ◌∷◌, length, take, drop, cond, get_or, slice_get, refl, sym, ap, ◌∙◌, arith, Some}
-use Rattle.std.proofs.lemmas.Bool.{cases_lt, le-ltb, lt-ltb}
-use Rattle.std.proofs.lemmas.List.{get_or-append-add, get_or-drop, get_or-take, get_or_append_left, length-append, length-drop, length-take-le}
-use Rattle.sig_clock.proofs.Lists.{get_at}
-use Rattle.sig_pace.specs.Renumbering.{moved}
+use Rattle.sig_pace.proofs.Common.{◌≡◌, ◌<◌, ◌≤◌, ◌+◌, ◌-◌, ◌++◌, ◌⊎◌, inl, inr, ℕ, suc, List, [], ◌∷◌, length, take, drop, cond, get_or, slice_get, refl, sym, ap, ◌∙◌, arith, Some, cases_lt, le-ltb, lt-ltb, get_or-append-add, get_or-drop, get_or-take, get_or_append_left, length-append, length-drop, length-take-le, get_at, moved}
 
 -- ---- numbers
 

@@ -1,22 +1,6 @@
 -- A paced kernel has a root: its first pace is present wherever something is.
-use Rattle.std.proofs.Common.{◌≡◌, ◌<◌, ◌≤◌, ◌+◌, ◌++◌, ◌&&◌, ◌∙◌, inl, inr, ℕ, zero, suc, Bool, true, false, List, [], ◌∷◌, length, map, get_or, slice_get, refl, sym, ap, subst, arith, Contains, None, Some, is_some, pos}
-use Rattle.std.specs.List.{list_all}
-use Rattle.std.proofs.lemmas.Bool.{and_parts, cases_lt, false≢true, true_from_ne_false}
-use Rattle.std.proofs.lemmas.List.Folds.{list_all-append}
-use Rattle.std.proofs.lemmas.List.Sums.{AllPass-from_list_all, list_all-from_AllPass}
-use Rattle.sig_clock.specs.ClockRefusals.{HasRoot}
-use Rattle.sig_clock.specs.Layers.{IsSignal}
-use Rattle.sig_clock.specs.Reactions.{IsReaction, Reaction, Speaks, Status, constant_truth, is_present, is_silent, is_status_of, meets, same_status, same_truth, status_at, where_true}
-use Rattle.sig_clock.proofs.Lists.{get_at, get_within}
-use Rattle.sig_clock.proofs.ReactionLemmas.{absent_in_silence, statuses_are_same, truths_are_same}
-use Rattle.sig_base.specs.declared.signal.Signal.{Signal}
-use Rattle.sig_kernel.specs.Table.{kind_at}
-use Rattle.sig_kernel.specs.Validity.{IsValid, form_within}
-use Rattle.sig_kernel.specs.declared.equation.Equation.{Equation}
-use Rattle.sig_kernel.specs.declared.kernel.Kernel.{Kernel}
-use Rattle.sig_pace.specs.Paced.{GetsPaces, NeedsPaces, marked_from, others_together, paced_kernel, together_from}
-use Rattle.sig_pace.specs.Renumbering.{moved, renumbered_equation}
-use Rattle.sig_pace.specs.Restriction.{restricted}
+use Rattle.sig_pace.proofs.Common.{◌≡◌, ◌<◌, ◌≤◌, ◌+◌, ◌++◌, ◌&&◌, ◌∙◌, inl, inr, ℕ, zero, suc, Bool, true, false, List, [], ◌∷◌, length, map, get_or, slice_get, refl, sym, ap, subst, arith, Contains, None, Some, is_some, pos, list_all, and_parts, cases_lt, false≢true, true_from_ne_false, list_all-append, AllPass-from_list_all, list_all-from_AllPass, HasRoot, IsSignal, IsReaction, Reaction, Speaks, Status, constant_truth, is_present, is_silent, is_status_of, meets, same_status, same_truth, status_at, get_at, get_within, absent_in_silence, statuses_are_same, truths_are_same, Signal, kind_at, IsValid, form_within, Equation, Kernel, GetsPaces, NeedsPaces, marked_from, others_together, paced_kernel, together_from, moved, renumbered_equation, restricted}
+use Rattle.sig_clock.specs.Reactions.{where_true}
 use Rattle.sig_pace.proofs.Agreeing.{Agrees, how_many_left, what_is_left}
 use Rattle.sig_pace.proofs.Climbing.{maximal_above}
 use Rattle.sig_pace.proofs.Places.{paced_count, stand}

@@ -1,26 +1,5 @@
 -- Finding the maximal clocks keeps to its share, and so does pacing.
-use Rattle.std.proofs.Common.{◌≡◌, ◌<◌, ◌≤◌, ◌+◌, ◌*◌, ◌^◌, ◌⊎◌, ℕ, List, length, sym, subst, arith}
-use Rattle.std.specs.Prelude.{Option, None, Some, Result, Ok, Err, IfErr, IfSome, IsErrAnd}
-use Rattle.std.proofs.Math.Nat.{mul-le-mul_right}
-use Rattle.sig_dd.specs.Nodes.{StoreView, allowance}
-use Rattle.sig_dd.specs.Shares.{IsRefused, Share}
-use Rattle.sig_dd.specs.declared.answer.DdAnswer.{DdAnswer}
-use Rattle.sig_dd.specs.declared.answer.DdAnswer.TheVariants.{Budget as StoreBudget, OutOfMemory as NoStore}
-use Rattle.sig_kernel.specs.declared.kernel.Kernel.{Kernel}
-use Rattle.sig_rel.specs.Answers.{IsFromStore}
-use Rattle.sig_rel.specs.Relations.{IsUnknownCount}
-use Rattle.sig_rel.specs.Shares.{IsRefusedFor, KeepsToShare}
-use Rattle.sig_rel.specs.Systems.{SystemView}
-use Rattle.sig_rel.specs.declared.answer.RelAnswer.{RelAnswer}
-use Rattle.sig_rel.specs.declared.answer.RelAnswer.TheVariants.{Budget as SystemBudget, OutOfMemory as NoMemory}
-use Rattle.sig_solve.specs.Refusals.{calls_of, rest_of_share, share_of}
-use Rattle.sig_solve.proofs.CountLemmas.{calls_fit, halves}
-use Rattle.sig_solve.proofs.SystemLemmas.{variables_count}
-use Rattle.sig_pace.specs.Answers.{IsFromSystem}
-use Rattle.sig_pace.specs.Asked.{variables_of}
-use Rattle.sig_pace.specs.Leaders.{AreLeaders}
-use Rattle.sig_pace.specs.Refusals.{HasNoPaceRoom, KeepsToPaceShare, KeepsToSystemShare}
-use Rattle.sig_pace.specs.declared.answer.PaceAnswer.{PaceAnswer}
+use Rattle.sig_pace.proofs.Common.{◌≡◌, ◌<◌, ◌≤◌, ◌+◌, ◌*◌, ◌^◌, ◌⊎◌, ℕ, List, length, sym, subst, arith, Option, None, Some, Result, Ok, Err, IfErr, IfSome, IsErrAnd, mul-le-mul_right, StoreView, allowance, IsRefused, Share, DdAnswer, Budget as StoreBudget, OutOfMemory as NoStore, Kernel, IsFromStore, IsUnknownCount, IsRefusedFor, KeepsToShare, SystemView, RelAnswer, SystemBudget, NoMemory, calls_of, rest_of_share, share_of, calls_fit, halves, variables_count, IsFromSystem, variables_of, AreLeaders, HasNoPaceRoom, KeepsToPaceShare, KeepsToSystemShare, PaceAnswer}
 
 -- ---- the calls
 

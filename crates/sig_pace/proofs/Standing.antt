@@ -1,21 +1,7 @@
 -- Signals that stand elsewhere: equations keep to the same rows, and abstract reactions meet them alike.
-use Rattle.std.proofs.Common.{◌≡◌, ◌<◌, ◌&&◌, ◌||◌, ◌∙◌, ℕ, zero, suc, pos, Bool, true, false, cond, int_eq, List, [], ◌∷◌, length, map, refl, sym, ap, subst, arith, Option, None, Some, is_some, slice_get}
-use Rattle.std.specs.List.{list_all, list_any}
-use Rattle.std.proofs.lemmas.Bool.{and_from, and_parts, false≢true, ltb-true}
-use Rattle.sig_base.specs.declared.ids.Kind.{Kind}
-use Rattle.sig_base.specs.declared.ids.SigId.{SigId}
-use Rattle.sig_base.specs.declared.signal.Signal.{Signal}
-use Rattle.sig_clock.specs.Reactions.{Reaction, are_statuses, compares, constant_truth, function_truth, has_truth, is_integer, is_integer_kind, is_present, is_status_of, is_with, meets, operand_truth, or_else, same_status, same_truth, status_at, truth_function, truth_of_status, where_present, where_true}
-use Rattle.sig_kernel.specs.Table.{Row, form_fits, is_kind, keeps_to_one, kind_at, kind_fits, kind_of, operand_is, operands_are, operands_of, rows_of, target_fits}
-use Rattle.sig_kernel.specs.Validity.{form_within, is_below, operand_within}
-use Rattle.sig_kernel.specs.declared.equation.Form.{Form}
-use Rattle.sig_kernel.specs.declared.equation.Form.TheVariants.{Default, Delay, Event, Fun, Sync, When, WhenConst}
-use Rattle.sig_kernel.specs.declared.equation.FunOp.{FunOp}
-use Rattle.sig_kernel.specs.declared.equation.FunOp.TheVariants.{Eq, Ne}
-use Rattle.sig_kernel.specs.declared.equation.Operand.{Operand}
-use Rattle.sig_kernel.specs.declared.equation.Operand.TheVariants.{Const, Sig}
-use Rattle.sig_kernel.specs.declared.table.Sort.{Sort}
-use Rattle.sig_pace.specs.Renumbering.{renumbered, renumbered_form, renumbered_operand}
+use Rattle.sig_pace.proofs.Common.{◌≡◌, ◌<◌, ◌&&◌, ◌||◌, ◌∙◌, ℕ, zero, suc, pos, Bool, true, false, cond, int_eq, List, [], ◌∷◌, length, map, refl, sym, ap, subst, arith, Option, None, Some, is_some, slice_get, list_all, list_any, and_from, and_parts, false≢true, ltb-true, Kind, SigId, Signal, Reaction, are_statuses, compares, constant_truth, function_truth, has_truth, is_integer, is_integer_kind, is_present, is_status_of, is_with, meets, operand_truth, or_else, same_status, same_truth, status_at, truth_function, truth_of_status, where_present, Row, form_fits, is_kind, keeps_to_one, kind_at, kind_fits, kind_of, operand_is, operands_are, operands_of, rows_of, target_fits, form_within, is_below, operand_within, Form, Default, Delay, Fun, Sync, When, WhenConst, FunOp, Eq, Ne, Operand, Const, Sig, Sort, renumbered, renumbered_form, renumbered_operand}
+use Rattle.sig_clock.specs.Reactions.{where_true}
+use Rattle.sig_kernel.specs.declared.equation.Form.TheVariants.{Event}
 use Rattle.sig_pace.proofs.Agreeing.{Agrees}
 
 -- each of so many signals stands at its place

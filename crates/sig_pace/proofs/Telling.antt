@@ -1,17 +1,6 @@
 -- At each instant of a trace of a paced kernel a clock is present where its pace is true.
-use Rattle.std.proofs.Common.{◌≡◌, ◌+◌, ◌++◌, ◌↔◌, ◌∙◌, ℕ, zero, suc, pos, Bool, true, false, cond, int_eq, List, [], ◌∷◌, length, map, slice_get, refl, sym, ap, subst, None, Some, is_some}
-use Rattle.std.specs.List.{AllByRecursion}
-use Rattle.std.proofs.lemmas.Bool.{false≢true}
-use Rattle.std.proofs.lemmas.Bool.Decides.{Decides-int_eq}
-use Rattle.sig_base.specs.Traces.{Instant, Range, Seen, Trace, seen_at}
-use Rattle.sig_clock.specs.Layers.{IsSignal}
-use Rattle.sig_kernel.specs.KernelTraces.{IsReaction, IsTraceIn, Meets, Memory, remembered, where_true}
-use Rattle.sig_kernel.specs.declared.equation.Equation.{Equation}
-use Rattle.sig_kernel.specs.declared.kernel.Kernel.{Kernel}
-use Rattle.sig_kernel.proofs.TraceLemmas.{Runs, runs_from_trace}
-use Rattle.sig_pace.specs.Paced.{marked_from, others_together, paced_kernel}
-use Rattle.sig_pace.specs.Renumbering.{moved, renumbered_equation}
-use Rattle.sig_pace.specs.Restriction.{without_paces}
+use Rattle.sig_pace.proofs.Common.{◌≡◌, ◌+◌, ◌++◌, ◌↔◌, ◌∙◌, ℕ, zero, suc, pos, Bool, true, false, cond, int_eq, List, [], ◌∷◌, length, map, slice_get, refl, sym, ap, subst, None, Some, is_some, AllByRecursion, false≢true, Decides-int_eq, Instant, Range, Seen, Trace, seen_at, IsSignal, IsTraceIn, Meets, Memory, remembered, where_true, Equation, Kernel, Runs, runs_from_trace, marked_from, others_together, paced_kernel, moved, renumbered_equation, without_paces}
+use Rattle.sig_kernel.specs.KernelTraces.{IsReaction}
 use Rattle.sig_pace.proofs.Agreeing.{what_is_left}
 use Rattle.sig_pace.proofs.Listed.{all_back}
 use Rattle.sig_pace.proofs.Rooms.{next_offset, no_offset}

@@ -1,16 +1,5 @@
 -- Lemmas on the tops among signals.
-use Rattle.std.proofs.Common.{◌≡◌, ◌<◌, ◌≤◌, ◌+◌, ◌⊎◌, inl, inr, ℕ, List, [], ◌∷◌, ◌++◌, length, get_or, take, take_all, length-take-le, length-append, sym, ◌∙◌, subst, arith, Contains, AllPairs}
-use Rattle.std.specs.Prelude.{zero, suc}
-use Rattle.std.proofs.lemmas.List.{get_or_default, take_more}
-use Rattle.std.proofs.lemmas.List.Elements.{Contains-append_left, Contains-push, Contains-push_cases}
-use Rattle.std.proofs.lemmas.List.Quantifiers.{all_pairs_push}
-use Rattle.sig_clock.specs.ClockRefusals.{IsPossible}
-use Rattle.sig_clock.proofs.Lists.{contains_none}
-use Rattle.sig_kernel.specs.declared.kernel.Kernel.{Kernel}
-use Rattle.sig_pace.specs.Leaders.{AreIncreasing}
-use Rattle.sig_pace.specs.MaximalClocks.{IsBelow}
-use Rattle.sig_pace.specs.Tops.{AddsTop, AreByNumber, AreNotBelow, AreTops, IsBelowCandidate, IsBelowOne, IsCover}
-use Rattle.sig_pace.specs.declared.candidates.Candidate.{Candidate}
+use Rattle.sig_pace.proofs.Common.{◌≡◌, ◌<◌, ◌≤◌, ◌+◌, ◌⊎◌, inl, inr, ℕ, List, [], ◌∷◌, ◌++◌, length, get_or, take, take_all, length-take-le, length-append, sym, ◌∙◌, subst, arith, Contains, AllPairs, zero, suc, get_or_default, take_more, Contains-append_left, Contains-push, Contains-push_cases, all_pairs_push, IsPossible, contains_none, Kernel, AreIncreasing, IsBelow, AddsTop, AreByNumber, AreNotBelow, AreTops, IsBelowCandidate, IsBelowOne, IsCover, Candidate}
 
 -- ---- lists
 

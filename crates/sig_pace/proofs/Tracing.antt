@@ -1,23 +1,7 @@
 -- The traces of a paced kernel, without the paces, are those of the old one.
-use Rattle.std.proofs.Common.{◌≡◌, ◌<◌, ◌≤◌, ◌+◌, ◌++◌, inl, inr, ℕ, zero, suc, pos, Bool, true, false, cond, not, List, [], ◌∷◌, length, map, take, drop, get_or, slice_get, refl, sym, ap, ◌∙◌, subst, arith, Contains, None, Some, is_some}
-use Rattle.std.specs.List.{AllByRecursion, list_all}
-use Rattle.std.specs.Prelude.{option_to_list, slice_index_or}
-use Rattle.std.proofs.lemmas.Bool.{and_parts}
-use Rattle.std.proofs.lemmas.List.{ext_get_or, get_or-map, length-map, map-append}
-use Rattle.std.proofs.lemmas.List.Sums.{list_all-from_AllPass}
-use Rattle.sig_base.specs.Traces.{AreOfKinds, Instant, IsOfKind, Range, Seen, Trace, flow_of, is_silent, seen_at}
-use Rattle.sig_base.specs.declared.ids.Kind.TheVariants.{Boolean, Event}
-use Rattle.sig_base.proofs.TraceLemmas.{silent_at}
-use Rattle.sig_clock.specs.Layers.{IsSignal}
-use Rattle.sig_clock.proofs.Lists.{contains_at, get_at, get_within}
-use Rattle.sig_kernel.specs.KernelTraces.{IsReaction, Meets, Memory, last_of, remembered, where_true}
-use Rattle.sig_kernel.specs.Validity.{IsValid, form_within}
-use Rattle.sig_kernel.specs.declared.equation.Equation.{Equation}
-use Rattle.sig_kernel.specs.declared.kernel.Kernel.{Kernel}
-use Rattle.sig_kernel.proofs.TraceLemmas.{Runs, runs_from_trace, trace_from_runs}
-use Rattle.sig_pace.specs.Paced.{marked_from, marks_from, others_together, paced_kernel, paces_from, together_from}
-use Rattle.sig_pace.specs.Renumbering.{moved, renumbered_equation}
-use Rattle.sig_pace.specs.Restriction.{HasTracesOf, paced_seen, without_paces}
+use Rattle.sig_pace.proofs.Common.{◌≡◌, ◌<◌, ◌≤◌, ◌+◌, ◌++◌, inl, inr, ℕ, zero, suc, pos, Bool, true, false, cond, not, List, [], ◌∷◌, length, map, take, drop, get_or, slice_get, refl, sym, ap, ◌∙◌, subst, arith, Contains, None, Some, is_some, AllByRecursion, list_all, option_to_list, slice_index_or, and_parts, ext_get_or, get_or-map, length-map, map-append, list_all-from_AllPass, AreOfKinds, Instant, IsOfKind, Range, Seen, Trace, flow_of, seen_at, Boolean, Event, silent_at, IsSignal, contains_at, get_at, get_within, Meets, Memory, last_of, remembered, where_true, IsValid, form_within, Equation, Kernel, Runs, runs_from_trace, trace_from_runs, marked_from, marks_from, others_together, paced_kernel, paces_from, together_from, moved, renumbered_equation, HasTracesOf, paced_seen, without_paces}
+use Rattle.sig_base.specs.Traces.{is_silent}
+use Rattle.sig_kernel.specs.KernelTraces.{IsReaction}
 use Rattle.sig_pace.proofs.Agreeing.{Agrees, RememberAlike, how_many_left, meets_back, meets_to, what_is_left}
 use Rattle.sig_pace.proofs.Kinded.{kind_there, kinds_dropped, kinds_from_places, kinds_joined, kinds_length, kinds_of, kinds_taken}
 use Rattle.sig_pace.proofs.Listed.{all_front, all_joined, value_found}

@@ -1,31 +1,6 @@
 -- The paced kernel of a valid kernel is valid.
-use Rattle.std.proofs.Common.{◌≡◌, ◌<◌, ◌≤◌, ◌+◌, ◌-◌, ◌++◌, ◌&&◌, ◌||◌, ◌==◌, ◌∙◌, ◌^◌, inl, inr, ℕ, zero, suc, Bool, true, false, cond, List, [], ◌∷◌, length, map, take, drop, slice_get, refl, sym, ap, subst, arith, Contains, Some, pos, bytes_eq, count_by, sum_by}
-use Rattle.std.specs.List.{IsDistinct, list_all, list_any}
-use Rattle.std.specs.Prelude.{codes, decimal}
-use Rattle.std.proofs.lemmas.Bool.{and_from, and_parts, cases_eq, cases_lt, eq-eqb, false_from_ne_true, lt-ltb, ltb-true, ne_eqb}
-use Rattle.std.proofs.lemmas.Fmt.{decimal_injective}
-use Rattle.std.proofs.lemmas.List.{append_assoc, append_cancel_left, length-append, length-map, length-take-le, map-append, take_at}
-use Rattle.std.proofs.lemmas.List.Sums.{AllPass-from_list_all, list_all-from_AllPass, sum_by-append, sum_by-cons}
-use Rattle.std.proofs.lemmas.Map.Keys.{IsDistinct-cons, IsDistinct-head, IsDistinct-tail}
-use Rattle.std.proofs.lemmas.Slice.Eq.{bytes_eq-Decides}
-use Rattle.sig_base.specs.declared.ids.Kind.TheVariants.{Boolean, Event as EventKind}
-use Rattle.sig_base.specs.declared.ids.SigId.{SigId}
-use Rattle.sig_base.specs.declared.limits.TheConstants.{SIGNALS}
-use Rattle.sig_base.specs.declared.signal.Signal.{Signal}
-use Rattle.sig_base.specs.declared.span.Span.{Span}
-use Rattle.sig_clock.specs.Layers.{IsSignal}
-use Rattle.sig_clock.proofs.Lists.{contains_cons, contains_head, contains_later, contains_none}
-use Rattle.sig_kernel.specs.Table.{form_fits, kind_at, kind_fits, operands_of, target_fits, target_of}
-use Rattle.sig_kernel.specs.Validity.{AreWellMade, DefinesEach, HasParts, IsValid, defines, form_within, inputs_of, is_below, is_signal, is_target, operand_within, target_within}
-use Rattle.sig_kernel.specs.declared.equation.Equation.{Equation}
-use Rattle.sig_kernel.specs.declared.equation.Form.{Form}
-use Rattle.sig_kernel.specs.declared.equation.Form.TheVariants.{Default, Delay, Event, Fun, Sync, When, WhenConst}
-use Rattle.sig_kernel.specs.declared.equation.Operand.{Operand}
-use Rattle.sig_kernel.specs.declared.equation.Operand.TheVariants.{Const, Sig}
-use Rattle.sig_kernel.specs.declared.kernel.Kernel.{Kernel}
-use Rattle.sig_kernel.specs.declared.table.Sort.TheVariants.{Truth}
-use Rattle.sig_pace.specs.Paced.{GetsPaces, IsTaken, marked_from, marks_from, others_together, pace_name, paced_kernel, paces_from, place_of, together_from}
-use Rattle.sig_pace.specs.Renumbering.{moved, renumbered, renumbered_equation, renumbered_form, renumbered_operand}
+use Rattle.sig_pace.proofs.Common.{◌≡◌, ◌<◌, ◌≤◌, ◌+◌, ◌-◌, ◌++◌, ◌&&◌, ◌||◌, ◌==◌, ◌∙◌, ◌^◌, inl, inr, ℕ, zero, suc, Bool, true, false, cond, List, [], ◌∷◌, length, map, take, drop, slice_get, refl, sym, ap, subst, arith, Contains, Some, pos, bytes_eq, count_by, sum_by, IsDistinct, list_all, list_any, codes, decimal, and_from, and_parts, cases_eq, cases_lt, eq-eqb, false_from_ne_true, lt-ltb, ltb-true, ne_eqb, decimal_injective, append_assoc, append_cancel_left, length-append, length-map, length-take-le, map-append, take_at, AllPass-from_list_all, list_all-from_AllPass, sum_by-append, sum_by-cons, IsDistinct-cons, IsDistinct-head, IsDistinct-tail, bytes_eq-Decides, Boolean, Event as EventKind, SigId, SIGNALS, Signal, Span, IsSignal, contains_cons, contains_head, contains_later, contains_none, form_fits, kind_at, kind_fits, operands_of, target_fits, target_of, AreWellMade, DefinesEach, HasParts, IsValid, defines, form_within, inputs_of, is_below, is_signal, is_target, operand_within, target_within, Equation, Form, Default, Delay, Fun, Sync, When, WhenConst, Operand, Const, Sig, Kernel, Truth, GetsPaces, IsTaken, marked_from, marks_from, others_together, pace_name, paced_kernel, paces_from, place_of, together_from, moved, renumbered, renumbered_equation, renumbered_form, renumbered_operand}
+use Rattle.sig_kernel.specs.declared.equation.Form.TheVariants.{Event}
 use Rattle.sig_pace.proofs.Listed.{all_joined, all_members, three_pass}
 use Rattle.sig_pace.proofs.Places.{kind_of_mark, kind_of_pace, paced_count, paces_count, stand}
 use Rattle.sig_pace.proofs.Rooms.{IsPlace, is_last, is_new, is_old, moved_apart, moved_before, moved_below, moved_outside, next_offset, no_offset, place_cases, same_at}

@@ -1,7 +1,6 @@
 -- The refusals of a system as refusals of pacing.
 use Rattle.std.specs.Prelude.{◌≡◌}
-use Rattle.sig_rel.specs.declared.answer.RelAnswer.{RelAnswer}
-use Rattle.sig_rel.specs.declared.answer.RelAnswer.TheVariants.{Budget as SystemBudget, OutOfMemory as NoMemory}
+use Rattle.sig_pace.specs.Prelude.{RelAnswer, Budget as SystemBudget, OutOfMemory as NoMemory}
 use Rattle.sig_pace.specs.declared.answer.PaceAnswer.{PaceAnswer}
 use Rattle.sig_pace.specs.declared.answer.PaceAnswer.TheVariants.{Budget, OutOfMemory}
 

@@ -1,15 +1,9 @@
 -- A kernel's system in a store, with its solutions, and signals with the reactions in which they are present.
-use Rattle.std.specs.Prelude.{◌≡◌, ◌↔◌, ◌&&◌, ℕ, Bool, List, length, slice_index_or, IsTrue, Contains}
-use Rattle.std.specs.List.{range_with_len}
-use Rattle.sig_clock.specs.ClockRefusals.{IsPossible}
-use Rattle.sig_clock.specs.Layers.{IsSignal}
-use Rattle.sig_dd.specs.Nodes.{Holds, Implies, IsStore, Overlap, StoreView, test}
-use Rattle.sig_dd.specs.declared.node.Node.{Node}
-use Rattle.sig_dd.specs.declared.node.Ref.{Ref}
+use Rattle.std.specs.Prelude.{◌≡◌, ◌↔◌, ◌&&◌}
+use Rattle.sig_pace.specs.Prelude.{ℕ, Bool, List, length, slice_index_or, IsTrue, Contains, range_with_len, IsPossible, IsSignal, Holds, Implies, IsStore, Overlap, StoreView, test, Node, Ref, IsOver, IsSolution, IsSystem, SystemView}
 use Rattle.sig_pace.specs.MaximalClocks.{IsBelow}
 use Rattle.sig_pace.specs.declared.asked.Asked.{Asked}
 use Rattle.sig_pace.specs.declared.candidates.Candidate.{Candidate}
-use Rattle.sig_rel.specs.Systems.{IsOver, IsSolution, IsSystem, SystemView}
 
 -- the variables of a system
 abbrev pub variables_of : SystemView → List ℕ

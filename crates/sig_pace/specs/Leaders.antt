@@ -1,10 +1,6 @@
 -- The least signals of a kernel's clock classes.
-use Rattle.std.specs.Prelude.{◌≡◌, ◌<◌, ◌≤◌, ◌⊎◌, ℕ, List, length, Contains}
-use Rattle.std.specs.List.{AllPairs}
-use Rattle.sig_clock.specs.Layers.{IsSignal}
-use Rattle.sig_clock.specs.SameClocks.{SameClock}
-use Rattle.sig_kernel.specs.declared.kernel.Kernel.{Kernel}
-use Rattle.sig_rel.specs.Relations.{IsUnknownCount}
+use Rattle.std.specs.Prelude.{◌≡◌, ◌<◌, ◌≤◌, ◌⊎◌}
+use Rattle.sig_pace.specs.Prelude.{ℕ, List, length, Contains, AllPairs, IsSignal, SameClock, Kernel, IsUnknownCount}
 
 -- the numbers stand in increasing order
 abbrev pub AreIncreasing : List ℕ → Type 0

@@ -1,9 +1,6 @@
 -- The maximal clocks of a kernel: those that lie below no other clock. A kernel that has a root has one of them.
-use Rattle.std.specs.Prelude.{◌≡◌, ◌≤◌, ◌<◌, ◌↔◌, ℕ, true, List, slice_get, Some, Contains}
-use Rattle.sig_clock.specs.ClockRefusals.{IsPossible}
-use Rattle.sig_clock.specs.Layers.{IsSignal}
-use Rattle.sig_clock.specs.Reactions.{Reaction, Speaks, is_present}
-use Rattle.sig_kernel.specs.declared.kernel.Kernel.{Kernel}
+use Rattle.std.specs.Prelude.{◌≡◌, ◌≤◌, ◌<◌, ◌↔◌}
+use Rattle.sig_pace.specs.Prelude.{ℕ, true, List, slice_get, Some, Contains, IsPossible, IsSignal, Reaction, Speaks, is_present, Kernel}
 
 -- each reaction that has x has y
 abbrev pub IsBelow : Kernel → ℕ → ℕ → Type 0

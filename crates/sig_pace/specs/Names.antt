@@ -1,8 +1,6 @@
 -- Signals that have the name of one of some others.
-use Rattle.std.specs.Prelude.{◌≡◌, ◌<◌, ℕ, true, false, Bool, List, Option, None, Some, bytes_eq, slice_get}
-use Rattle.std.specs.List.{list_any}
-use Rattle.sig_base.specs.declared.ids.SigId.{SigId}
-use Rattle.sig_base.specs.declared.signal.Signal.{Signal}
+use Rattle.std.specs.Prelude.{◌≡◌, ◌<◌}
+use Rattle.sig_pace.specs.Prelude.{ℕ, true, false, Bool, List, Option, None, Some, bytes_eq, slice_get, list_any, SigId, Signal}
 
 abbrev pub is_named : List Signal → Signal → Bool
 is_named others signal = list_any (λ other. bytes_eq signal.name other.name) others

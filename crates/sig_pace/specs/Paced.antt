@@ -1,15 +1,7 @@
 -- The paced kernel: one boolean input for each maximal clock, which says whether that clock is present. These inputs
 -- come together, so each of them is a root.
-use Rattle.std.specs.Prelude.{◌≡◌, ◌≤◌, ◌⊎◌, ◌+◌, ◌++◌, ℕ, suc, pos, List, [], ◌∷◌, length, map, take, drop, Option, None, Some, slice_get, codes, decimal}
-use Rattle.sig_base.specs.declared.ids.Kind.TheVariants.{Boolean, Event as EventKind}
-use Rattle.sig_base.specs.declared.limits.TheConstants.{SIGNALS}
-use Rattle.sig_base.specs.declared.signal.Signal.{Signal}
-use Rattle.sig_base.specs.declared.span.Span.{Span}
-use Rattle.sig_clock.specs.ClockRefusals.{HasNoRoot, HasRoot, IsAlive}
-use Rattle.sig_clock.specs.Layers.{IsDead}
-use Rattle.sig_kernel.specs.declared.equation.Form.TheVariants.{WhenConst, Sync}
-use Rattle.sig_kernel.specs.declared.equation.Equation.{Equation}
-use Rattle.sig_kernel.specs.declared.kernel.Kernel.{Kernel}
+use Rattle.std.specs.Prelude.{◌≡◌, ◌≤◌, ◌⊎◌, ◌+◌, ◌++◌, ◌∷◌}
+use Rattle.sig_pace.specs.Prelude.{ℕ, suc, pos, List, [], length, map, take, drop, Option, None, Some, slice_get, codes, decimal, Boolean, Event as EventKind, SIGNALS, Signal, Span, HasNoRoot, HasRoot, IsAlive, IsDead, WhenConst, Sync, Equation, Kernel}
 use Rattle.sig_pace.specs.MaximalClocks.{AreMaximalClocks}
 use Rattle.sig_pace.specs.Renumbering.{moved, renumbered_equation}
 

@@ -1,16 +1,9 @@
 -- Why a kernel gets no paces, and how many nodes pacing may add.
-use Rattle.std.specs.Prelude.{◌≡◌, ◌≤◌, ◌<◌, ◌+◌, ℕ, List, length, Result, IfErr}
-use Rattle.sig_base.specs.declared.limits.TheConstants.{SIGNALS}
-use Rattle.sig_clock.specs.ClockRefusals.{IsLeast}
-use Rattle.sig_dd.specs.Nodes.{StoreView, IsFull}
-use Rattle.sig_kernel.specs.declared.kernel.Kernel.{Kernel}
+use Rattle.std.specs.Prelude.{◌≡◌, ◌≤◌, ◌<◌, ◌+◌}
+use Rattle.sig_pace.specs.Prelude.{ℕ, List, length, Result, IfErr, SIGNALS, IsLeast, StoreView, IsFull, Kernel, IsUnknownCount, IsRefusedFor, RelAnswer, share_of}
 use Rattle.sig_pace.specs.Paced.{IsTaken, NeedsPaces}
 use Rattle.sig_pace.specs.declared.answer.PaceAnswer.{PaceAnswer}
 use Rattle.sig_pace.specs.declared.answer.PaceAnswer.TheVariants.{NameTaken, TooManySignals, Budget, OutOfMemory}
-use Rattle.sig_rel.specs.Relations.{IsUnknownCount}
-use Rattle.sig_rel.specs.Shares.{IsRefusedFor}
-use Rattle.sig_rel.specs.declared.answer.RelAnswer.{RelAnswer}
-use Rattle.sig_solve.specs.Refusals.{share_of}
 
 -- the least declared signal that has the name of a pace
 pub record IsNameTaken (kernel : Kernel) (signal : ℕ) : Type 0 where

@@ -1,11 +1,7 @@
 -- Room for more inputs: the signals behind the inputs move up by so many numbers, and a kernel's equations with them.
-use Rattle.std.specs.Prelude.{ℕ, ◌+◌, nat_lt, map, if◌then◌else◌}
-use Rattle.sig_base.specs.declared.ids.SigId.{SigId}
-use Rattle.sig_kernel.specs.declared.equation.Operand.{Operand}
-use Rattle.sig_kernel.specs.declared.equation.Operand.TheVariants.{Sig, Const}
-use Rattle.sig_kernel.specs.declared.equation.Form.{Form}
-use Rattle.sig_kernel.specs.declared.equation.Form.TheVariants.{Fun, Delay, When, WhenConst, Default, Sync, Event}
-use Rattle.sig_kernel.specs.declared.equation.Equation.{Equation}
+use Rattle.std.specs.Prelude.{◌+◌, if◌then◌else◌}
+use Rattle.sig_pace.specs.Prelude.{ℕ, nat_lt, map, SigId, Operand, Sig, Const, Form, Fun, Delay, When, WhenConst, Default, Sync, Equation}
+use Rattle.sig_kernel.specs.declared.equation.Form.TheVariants.{Event}
 
 -- where a signal stands once there are so many more inputs
 abbrev pub moved : ℕ → ℕ → ℕ → ℕ

@@ -1,9 +1,6 @@
 -- A kernel and its paced one: what is left of the traces of the paced kernel where the paces are left out.
-use Rattle.std.specs.Prelude.{◌≡◌, ◌<◌, ◌+◌, ℕ, ℤ, pos, List, [], length, map, Option, None, Some, is_some, slice_get, slice_index_or, if◌then◌else◌}
-use Rattle.std.specs.List.{range_with_len}
-use Rattle.sig_base.specs.Traces.{Instant, IsPrefixOf, Range, Seen, Trace, flow_of, is_silent, seen_at}
-use Rattle.sig_kernel.specs.KernelTraces.{IsTraceIn}
-use Rattle.sig_kernel.specs.declared.kernel.Kernel.{Kernel}
+use Rattle.std.specs.Prelude.{◌≡◌, ◌<◌, ◌+◌, if◌then◌else◌}
+use Rattle.sig_pace.specs.Prelude.{ℕ, ℤ, pos, List, [], length, map, Option, None, Some, is_some, slice_get, slice_index_or, range_with_len, Instant, IsPrefixOf, Range, Seen, Trace, flow_of, is_silent, seen_at, IsTraceIn, Kernel}
 use Rattle.sig_pace.specs.Paced.{paced_kernel}
 use Rattle.sig_pace.specs.Renumbering.{moved}
 

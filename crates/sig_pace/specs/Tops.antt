@@ -1,8 +1,6 @@
 -- The tops among some signals: those below no other one, each clock by its least signal.
-use Rattle.std.specs.Prelude.{◌≡◌, ◌≤◌, ◌<◌, ◌⊎◌, ℕ, List, length, map, Contains}
-use Rattle.std.specs.List.{AllPairs}
-use Rattle.sig_clock.specs.ClockRefusals.{IsPossible}
-use Rattle.sig_kernel.specs.declared.kernel.Kernel.{Kernel}
+use Rattle.std.specs.Prelude.{◌≡◌, ◌≤◌, ◌<◌, ◌⊎◌}
+use Rattle.sig_pace.specs.Prelude.{ℕ, List, length, map, Contains, AllPairs, IsPossible, Kernel}
 use Rattle.sig_pace.specs.Leaders.{AreIncreasing}
 use Rattle.sig_pace.specs.MaximalClocks.{AreMaximalClocks, IsBelow}
 use Rattle.sig_pace.specs.declared.candidates.Candidate.{Candidate}

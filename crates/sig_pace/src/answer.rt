@@ -1,9 +1,9 @@
 //! Why a kernel gets no paces.
 
 ghost use Rattle.std.specs.Prelude.{◌≡◌};
+ghost use Rattle.sig_pace.specs.Prelude.{RelAnswer};
 ghost use Rattle.sig_pace.specs.Answers.{IsFromSystem};
 ghost use Rattle.sig_pace.specs.declared.answer.PaceAnswer.TheVariants.{OutOfMemory};
-ghost use Rattle.sig_rel.specs.declared.answer.RelAnswer.{RelAnswer};
 
 use sig_base::SigId;
 use sig_rel::RelAnswer;

@@ -1,10 +1,8 @@
 //! A kernel with its system and its solutions.
 
-ghost use Rattle.std.specs.Prelude.{◌≡◌, ◌<◌, length, IfOk};
-ghost use Rattle.sig_dd.specs.Nodes.{IsStore, Keeps};
-ghost use Rattle.sig_dd.specs.Shares.{Share, refusal};
+ghost use Rattle.std.specs.Prelude.{◌≡◌, ◌<◌};
+ghost use Rattle.sig_pace.specs.Prelude.{length, IfOk, IsStore, Keeps, Share, refusal, IsSystem};
 ghost use Rattle.sig_pace.specs.Asked.{IsAskedIn, presence_in, variables_of};
-ghost use Rattle.sig_rel.specs.Systems.{IsSystem};
 
 use sig_dd::{DdAnswer, Ref, Store};
 use sig_kernel::Kernel;

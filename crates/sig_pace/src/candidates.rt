@@ -1,9 +1,7 @@
 //! Signals with the reactions in which they are present.
 
-ghost use Rattle.std.specs.Prelude.{◌≡◌, ℕ, length, IfOk, Contains};
-ghost use Rattle.sig_clock.specs.Layers.{IsSignal};
-ghost use Rattle.sig_dd.specs.Nodes.{IsStore, Keeps};
-ghost use Rattle.sig_dd.specs.Shares.{Share, refusal};
+ghost use Rattle.std.specs.Prelude.{◌≡◌};
+ghost use Rattle.sig_pace.specs.Prelude.{ℕ, length, IfOk, Contains, IsSignal, IsStore, Keeps, Share, refusal};
 ghost use Rattle.sig_pace.specs.Asked.{AreCandidates, IsAskedIn, variables_of};
 ghost use Rattle.sig_pace.specs.Tops.{signals_of};
 

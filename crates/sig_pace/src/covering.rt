@@ -1,7 +1,7 @@
 //! Signals whose presences lie within those of lesser ones, whatever is left to be met.
 
-ghost use Rattle.std.specs.Prelude.{◌≡◌, ◌≢◌, ℕ, true, IfOk, Err, Contains};
-ghost use Rattle.sig_clock.specs.Layers.{IsSignal};
+ghost use Rattle.std.specs.Prelude.{◌≡◌, ◌≢◌};
+ghost use Rattle.sig_pace.specs.Prelude.{ℕ, true, IfOk, Err, Contains, IsSignal};
 ghost use Rattle.sig_pace.specs.Asked.{IsAskedIn};
 ghost use Rattle.sig_pace.specs.Leaders.{AreIncreasing};
 ghost use Rattle.sig_pace.specs.Tops.{IsBelowOne, IsCover};

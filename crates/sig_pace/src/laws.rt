@@ -1,13 +1,7 @@
 //! Laws of pacing. The function of a law does nothing when it runs.
 
-ghost use Rattle.std.specs.Prelude.{◌<◌, ◌^◌, ◌≡◌, ◌⊎◌, ◌↔◌, ◌+◌, ◌++◌, ℕ, ℤ, pos, true, List, Contains, length, map, slice_get, Some, is_some};
-ghost use Rattle.sig_base.specs.declared.ids.Kind.TheVariants.{Boolean};
-ghost use Rattle.sig_base.specs.Traces.{Fits, Instant, Range, Trace, seen_at};
-ghost use Rattle.sig_clock.specs.ClockRefusals.{HasRoot, IsMissingRoot};
-ghost use Rattle.sig_clock.specs.Layers.{IsSignal};
-ghost use Rattle.sig_kernel.specs.KernelTraces.{IsTraceIn};
-ghost use Rattle.sig_kernel.specs.Validity.{IsValid};
-ghost use Rattle.sig_kernel.specs.declared.kernel.Kernel.{Kernel};
+ghost use Rattle.std.specs.Prelude.{◌<◌, ◌^◌, ◌≡◌, ◌⊎◌, ◌↔◌, ◌+◌, ◌++◌};
+ghost use Rattle.sig_pace.specs.Prelude.{ℕ, ℤ, pos, true, List, Contains, length, map, slice_get, Some, is_some, Boolean, Fits, Instant, Range, Trace, seen_at, HasRoot, IsMissingRoot, IsSignal, IsTraceIn, IsValid, Kernel};
 ghost use Rattle.sig_pace.specs.MaximalClocks.{AreMaximalClocks};
 ghost use Rattle.sig_pace.specs.Paced.{GetsPaces, IsPaced, pace_name, paced_kernel, place_of};
 ghost use Rattle.sig_pace.specs.Renumbering.{moved};

@@ -1,9 +1,8 @@
 //! The least signals of the clock classes.
 
-ghost use Rattle.std.specs.Prelude.{◌≡◌, ◌≤◌, length, IfOk};
-ghost use Rattle.sig_kernel.specs.Validity.{IsValid};
+ghost use Rattle.std.specs.Prelude.{◌≡◌, ◌≤◌};
+ghost use Rattle.sig_pace.specs.Prelude.{length, IfOk, IsValid, leaders_of};
 ghost use Rattle.sig_pace.specs.Leaders.{AreLeaders};
-ghost use Rattle.sig_solve.specs.Frames.{leaders_of};
 
 use sig_clock::{ClockBase, same_clock};
 use sig_kernel::Kernel;

@@ -1,14 +1,11 @@
 //! The maximal clocks of a kernel.
 
-ghost use Rattle.std.specs.Prelude.{◌≡◌, ◌+◌, ◌≤◌, ℕ, length, IfErr, IfOk};
-ghost use Rattle.sig_dd.specs.Nodes.{IsStore, Keeps};
-ghost use Rattle.sig_dd.specs.Shares.{Share, refusal};
-ghost use Rattle.sig_kernel.specs.Validity.{IsValid};
+ghost use Rattle.std.specs.Prelude.{◌≡◌, ◌+◌, ◌≤◌};
+ghost use Rattle.sig_pace.specs.Prelude.{ℕ, length, IfErr, IfOk, IsStore, Keeps, Share, refusal, IsValid, IsSystem};
 ghost use Rattle.sig_pace.specs.Asked.{IsAskedIn, variables_of};
 ghost use Rattle.sig_pace.specs.Leaders.{AreLeaders};
 ghost use Rattle.sig_pace.specs.Refusals.{KeepsToSystemShare};
 ghost use Rattle.sig_pace.specs.Tops.{AreMaxima, signals_of};
-ghost use Rattle.sig_rel.specs.Systems.{IsSystem};
 
 use crate::asked::{Asked, asked_of};
 use crate::candidates::{Candidate, candidates_of};

@@ -1,7 +1,7 @@
 //! The names of paces.
 
-ghost use Rattle.std.specs.Prelude.{◌≡◌, ◌<◌, ◌^◌, ◌++◌, bytes_eq, decimal, length, IfOk};
-ghost use Rattle.std.specs.List.{list_any};
+ghost use Rattle.std.specs.Prelude.{◌≡◌, ◌<◌, ◌^◌, ◌++◌};
+ghost use Rattle.sig_pace.specs.Prelude.{bytes_eq, decimal, length, IfOk, list_any};
 ghost use Rattle.sig_pace.specs.Names.{FindsNamed};
 
 use itoa::Buffer;

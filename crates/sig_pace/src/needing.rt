@@ -1,9 +1,7 @@
 //! Which kernels need paces.
 
-ghost use Rattle.std.specs.Prelude.{◌≡◌, ◌≢◌, ℕ, true, List, Err, IfErr, IfOk, MatchOption};
-ghost use Rattle.sig_clock.specs.ClockRefusals.{HasRoot};
-ghost use Rattle.sig_dd.specs.Nodes.{IsStore, Keeps};
-ghost use Rattle.sig_kernel.specs.Validity.{IsValid};
+ghost use Rattle.std.specs.Prelude.{◌≡◌, ◌≢◌};
+ghost use Rattle.sig_pace.specs.Prelude.{ℕ, true, List, Err, IfErr, IfOk, MatchOption, HasRoot, IsStore, Keeps, IsValid};
 ghost use Rattle.sig_pace.specs.Paced.{GetsPaces, NeedsNoPaces};
 ghost use Rattle.sig_pace.specs.Refusals.{IsPaceRefusal, KeepsToPaceShare};
 

@@ -1,8 +1,7 @@
 //! The paced kernel of a kernel that needs paces.
 
-ghost use Rattle.std.specs.Prelude.{◌≡◌, ◌≢◌, ◌≤◌, ◌<◌, ◌↔◌, ◌+◌, ◌++◌, ℕ, drop, length, map, take, Contains, Err, IfErr, IfOk, IsTrue, OnOk};
-ghost use Rattle.sig_base.specs.declared.limits.TheConstants.{SIGNALS};
-ghost use Rattle.sig_kernel.specs.Validity.{IsValid};
+ghost use Rattle.std.specs.Prelude.{◌≡◌, ◌≢◌, ◌≤◌, ◌<◌, ◌↔◌, ◌+◌, ◌++◌};
+ghost use Rattle.sig_pace.specs.Prelude.{ℕ, drop, length, map, take, Contains, Err, IfErr, IfOk, IsTrue, OnOk, SIGNALS, IsValid};
 ghost use Rattle.sig_pace.specs.Names.{FindsNamed};
 ghost use Rattle.sig_pace.specs.Paced.{GetsPaces, IsTaken, NeedsPaces, marked_from, marks_from, others_together, paced_kernel, paces_from};
 ghost use Rattle.sig_pace.specs.Refusals.{IsPaceRefusal};

@@ -1,10 +1,7 @@
 //! The paced kernel.
 
-ghost use Rattle.std.specs.Prelude.{◌<◌, ◌^◌, ◌⊎◌, ◌≡◌, ℕ, List, length, IfErr, IfOk};
-ghost use Rattle.sig_clock.specs.ClockRefusals.{HasRoot};
-ghost use Rattle.sig_clock.specs.Layers.{IsDead};
-ghost use Rattle.sig_dd.specs.Nodes.{IsStore, Keeps};
-ghost use Rattle.sig_kernel.specs.Validity.{IsValid};
+ghost use Rattle.std.specs.Prelude.{◌<◌, ◌^◌, ◌⊎◌, ◌≡◌};
+ghost use Rattle.sig_pace.specs.Prelude.{ℕ, List, length, IfErr, IfOk, HasRoot, IsDead, IsStore, Keeps, IsValid};
 ghost use Rattle.sig_pace.specs.Paced.{GetsPaces, IsPaced};
 ghost use Rattle.sig_pace.specs.Refusals.{IsPaceRefusal, KeepsToPaceShare};
 ghost use Rattle.sig_pace.specs.Restriction.{HasTracesOf};

@@ -1,8 +1,7 @@
 //! Signals and equations with room for more inputs.
 
-ghost use Rattle.std.specs.Prelude.{◌≡◌, ◌+◌, ◌<◌, ◌^◌, true, map, IfOk};
-ghost use Rattle.std.specs.List.{list_all};
-ghost use Rattle.sig_kernel.specs.Validity.{form_within, operand_within};
+ghost use Rattle.std.specs.Prelude.{◌≡◌, ◌+◌, ◌<◌, ◌^◌};
+ghost use Rattle.sig_pace.specs.Prelude.{true, map, IfOk, list_all, form_within, operand_within};
 ghost use Rattle.sig_pace.specs.Renumbering.{moved, renumbered, renumbered_equation, renumbered_form, renumbered_operand};
 
 use sig_base::SigId;

@@ -1,8 +1,7 @@
 //! The equations that tie paces to clocks.
 
-ghost use Rattle.std.specs.Prelude.{◌≡◌, ◌+◌, ◌<◌, ◌^◌, ◌++◌, ◌∷◌, [], ℕ, pos, suc, length, Contains, OnOk};
-ghost use Rattle.sig_base.specs.declared.ids.SigId.{SigId};
-ghost use Rattle.sig_kernel.specs.declared.equation.Form.TheVariants.{Sync, WhenConst};
+ghost use Rattle.std.specs.Prelude.{◌≡◌, ◌+◌, ◌<◌, ◌^◌, ◌++◌, ◌∷◌};
+ghost use Rattle.sig_pace.specs.Prelude.{[], ℕ, pos, suc, length, Contains, OnOk, SigId, Sync, WhenConst};
 ghost use Rattle.sig_pace.specs.Paced.{marked_from, others_together, place_of, together_from};
 ghost use Rattle.sig_pace.specs.Renumbering.{moved};
 

@@ -1,7 +1,7 @@
 //! The tops among some signals: those below no other one, each clock by its least signal.
 
-ghost use Rattle.std.specs.Prelude.{◌≢◌, ◌↔◌, ℕ, IfOk, Err, IsTrue};
-ghost use Rattle.sig_clock.specs.Layers.{IsSignal};
+ghost use Rattle.std.specs.Prelude.{◌≢◌, ◌↔◌};
+ghost use Rattle.sig_pace.specs.Prelude.{ℕ, IfOk, Err, IsTrue, IsSignal};
 ghost use Rattle.sig_pace.specs.Asked.{AreCandidates, IsCandidate};
 ghost use Rattle.sig_pace.specs.Tops.{AddsTop, AreByNumber, AreNotBelow, AreTops, IsBelowCandidate};
 

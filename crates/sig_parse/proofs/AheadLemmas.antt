@@ -1,22 +1,7 @@
 -- What begins a definition begins no clock equation.
-use Rattle.std.proofs.Common.{◌≡◌, ◌++◌, ℕ, suc, zero, List, [], ◌∷◌, true, false, codes, None, Some, inl, inr, refl, sym, ap, ◌∙◌, subst}
-use Rattle.sig_base.specs.declared.span.Span.{Span}
-use Rattle.sig_tree.specs.declared.expr.Name.{Name}
-use Rattle.sig_tree.specs.Syntax.{Expression, Named, Number, Truth, Unary, Binary, Delay, Cell, RightSide}
-use Rattle.sig_tree.specs.Terminals.{Terminal, Leaf, leaf, name_leaf, name, number, word, mark}
-use Rattle.sig_tree.specs.Levels.{default_level, mixed_level, delay_level, level_of, left_level}
-use Rattle.sig_tree.specs.Limits.{Limits, no_limits, MayStandInside}
-use Rattle.sig_tree.specs.Expressions.{IsBare, Enclosed}
-use Rattle.sig_tree.specs.Equations.{IsLeft, IsDefinition, IsClockEquation}
-use Rattle.sig_tree.specs.Beginning.{StartsWith, BeginsExpression}
-use Rattle.sig_tree.proofs.Settling.{◌>>=◌, Settles, settles_now, settles_next, settles_bind}
-use Rattle.sig_tree.proofs.Operators.{different}
-use Rattle.sig_tree.proofs.Reader.{From, Behind, run, closed}
-use Rattle.sig_tree.proofs.ReadExpressions.{expression_read}
-use Rattle.sig_tree.proofs.FirstLeaves.{expression_begins}
-use Rattle.sig_tree.proofs.Combining.{append_to}
-use Rattle.sig_tree.proofs.ReadEquations.{mark_apart, named_alone}
-use Rattle.sig_parse.specs.Ahead.{BeginsDefinition}
+use Rattle.sig_parse.proofs.Common.{◌≡◌, ◌++◌, ℕ, suc, zero, List, [], ◌∷◌, true, false, codes, None, Some, inl, inr, refl, sym, ap, ◌∙◌, subst, Span, Name, Expression, Named, Number, Truth, Unary, RightSide, Terminal, Leaf, leaf, name_leaf, name, number, word, mark, default_level, mixed_level, delay_level, level_of, left_level, Limits, no_limits, MayStandInside, IsBare, Enclosed, IsLeft, IsDefinition, IsClockEquation, StartsWith, BeginsExpression, ◌>>=◌, settles_now, settles_next, settles_bind, different, From, Behind, run, closed, expression_read, expression_begins, append_to, mark_apart, named_alone, BeginsDefinition}
+use Rattle.sig_tree.specs.Syntax.{Binary, Delay, Cell}
+use Rattle.sig_tree.proofs.Settling.{Settles}
 
 none_no_some : {A : Type 0} (x : A) → None ≡ Some x → ⊥
 none_no_some x e = cc

@@ -1,17 +1,6 @@
 -- Bodies from their parts.
 use mathlib.Core.Former.{Count}
-use Rattle.std.proofs.Common.{◌≡◌, ◌++◌, ◌≤◌, ◌<◌, ℕ, suc, List, [], ◌∷◌, codes, length, map, sum_by, refl, sym, ap, ◌∙◌, subst, append_assoc, arith, Vec, Global}
-use Rattle.sig_base.specs.declared.span.Span.{Span}
-use Rattle.sig_tree.specs.declared.expr.Name.{Name}
-use Rattle.sig_tree.specs.declared.process.Body.{Body, All, All', Row_of-Body, end_of-Body, more_of-Body, items-the_row-Body, items_hidden-the_row-Body-0}
-use Rattle.sig_tree.specs.Syntax.{Expression, RightSide, Equations, Defines, equations_of, bodies_of}
-use Rattle.sig_tree.specs.Terminals.{Leaf, leaf, mark}
-use Rattle.sig_tree.specs.Limits.{both_limits, operators, right_operators}
-use Rattle.sig_tree.specs.Repeated.{Further, Separated, Listed}
-use Rattle.sig_tree.specs.Expressions.{IsExpression}
-use Rattle.sig_tree.specs.Equations.{IsLeft, IsRight, IsClockEquation, IsBody, AreBodies, AreFurtherBodies}
-use Rattle.sig_parse.specs.State.{State}
-use Rattle.sig_parse.specs.Reads.{Reads, Covers, IsLeaf}
+use Rattle.sig_parse.proofs.Common.{◌≡◌, ◌++◌, ◌≤◌, ◌<◌, ℕ, suc, List, [], ◌∷◌, codes, length, map, sum_by, refl, sym, ap, ◌∙◌, subst, append_assoc, arith, Vec, Global, Span, Name, Body, All, All', Row_of-Body, end_of-Body, more_of-Body, items-the_row-Body, items_hidden-the_row-Body-0, Expression, RightSide, Equations, Defines, equations_of, bodies_of, Leaf, leaf, mark, both_limits, operators, right_operators, Further, Separated, Listed, IsExpression, IsLeft, IsRight, IsClockEquation, IsBody, AreBodies, AreFurtherBodies, State, Reads, Covers, IsLeaf}
 use Rattle.sig_parse.proofs.Covering.{seen_as, between_marks}
 
 -- a left side, `:=` and a right side

@@ -1,20 +1,5 @@
 -- Lists with separators up to what closes them.
-use Rattle.std.proofs.Common.{◌≡◌, ◌++◌, ◌+◌, ℕ, List, [], ◌∷◌, inl, inr, refl, sym, ap, ◌∙◌, subst, append_assoc}
-use Rattle.std.proofs.lemmas.List.{append-nil}
-use Rattle.sig_base.specs.declared.span.Span.{Span}
-use Rattle.sig_tree.specs.Terminals.{Terminal, Leaf, leaf}
-use Rattle.sig_tree.specs.Limits.{Limits}
-use Rattle.sig_tree.specs.Repeated.{Further, Listed}
-use Rattle.sig_tree.specs.Beginning.{StartsWith}
-use Rattle.sig_tree.specs.Readings.{StopsBefore}
-use Rattle.sig_tree.specs.Continuing.{ContinuesNothing, ContinuesList}
-use Rattle.sig_tree.specs.Unplaced.{no_place}
-use Rattle.sig_tree.proofs.Combining.{append_to}
-use Rattle.sig_tree.proofs.ReadEquations.{stops_nothing}
-use Rattle.sig_parse.specs.Refusals.{Cause, Agrees, Refuses}
-use Rattle.sig_parse.specs.Languages.{InLeaf, counted}
-use Rattle.sig_parse.specs.Settling.{Closes}
-use Rattle.sig_parse.specs.Parts.{UpTo}
+use Rattle.sig_parse.proofs.Common.{◌≡◌, ◌++◌, ◌+◌, ℕ, List, [], ◌∷◌, inl, inr, refl, sym, ap, ◌∙◌, subst, append_assoc, append-nil, Span, Terminal, Leaf, leaf, Limits, Further, Listed, StartsWith, StopsBefore, ContinuesNothing, ContinuesList, no_place, append_to, stops_nothing, Cause, Agrees, Refuses, InLeaf, counted, Closes, UpTo}
 use Rattle.sig_parse.proofs.Refusing.{SameFirst, refuses_first}
 use Rattle.sig_parse.proofs.AheadLemmas.{leaf_is}
 use Rattle.sig_parse.proofs.Leading.{Leads, leads_refuses, same_behind, starts_or_stops}

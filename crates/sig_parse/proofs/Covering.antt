@@ -1,12 +1,5 @@
 -- Reading one thing after another, where the operators are not counted.
-use Rattle.std.proofs.Common.{◌≡◌, ◌++◌, ◌≤◌, ℕ, List, [], ◌∷◌, refl, sym, ap, ◌∙◌, subst, append_assoc, arith, length, length-append}
-use Rattle.std.proofs.lemmas.List.{append-nil, map-append}
-use Rattle.std.proofs.Common.{map}
-use Rattle.sig_base.specs.declared.span.Span.{Span}
-use Rattle.sig_tree.specs.Terminals.{Terminal, Leaf, leaf}
-use Rattle.sig_tree.specs.Repeated.{Between, Each, Separated}
-use Rattle.sig_parse.specs.State.{State}
-use Rattle.sig_parse.specs.Reads.{Reads, Covers, IsLeaf}
+use Rattle.sig_parse.proofs.Common.{◌≡◌, ◌++◌, ◌≤◌, ℕ, List, [], ◌∷◌, refl, sym, ap, ◌∙◌, subst, append_assoc, arith, length, length-append, append-nil, map-append, map, Span, Terminal, Leaf, leaf, Between, Each, Separated, State, Reads, Covers, IsLeaf}
 use Rattle.sig_parse.proofs.Lists.{separated_one, separated_more, each_more}
 
 pub covered : {A : List Leaf → Type 0} {n : ℕ} {s t : State} → Reads A n s t → Covers A s t

@@ -1,16 +1,5 @@
 -- What stands between two marks, from its parts.
-use Rattle.std.proofs.Common.{◌≡◌, ◌++◌, codes, ℕ, List, [], ◌∷◌, refl, ap, arith}
-use Rattle.sig_base.specs.declared.span.Span.{Span}
-use Rattle.sig_tree.specs.Terminals.{Terminal, Leaf, leaf, name_leaf, word, mark}
-use Rattle.sig_tree.specs.declared.expr.Name.{Name}
-use Rattle.sig_tree.specs.declared.expr.Constant.{Constant}
-use Rattle.sig_tree.specs.Syntax.{Expression, Called}
-use Rattle.sig_tree.specs.Limits.{both_limits, right_operators}
-use Rattle.sig_tree.specs.Repeated.{Between}
-use Rattle.sig_tree.specs.Equations.{IsName, AreConstants, AreArguments, IsRight}
-use Rattle.sig_parse.specs.Declarations.{IsTitle}
-use Rattle.sig_parse.specs.State.{State}
-use Rattle.sig_parse.specs.Reads.{Reads, IsLeaf}
+use Rattle.sig_parse.proofs.Common.{◌≡◌, ◌++◌, codes, ℕ, List, [], ◌∷◌, refl, ap, arith, Span, Terminal, Leaf, leaf, name_leaf, word, mark, Name, Constant, Expression, Called, both_limits, right_operators, Between, IsName, AreConstants, AreArguments, IsRight, IsTitle, State, Reads, IsLeaf}
 use Rattle.sig_parse.proofs.Joins.{joined, after_leaf}
 
 pub between : (opening closing : Terminal) (Is : List Leaf → Type 0) (n : ℕ) (opened closed : Span) {s t u v : State}

@@ -1,21 +1,5 @@
 -- What stands up to a terminal, what stands there any number of times, and what may be missing.
-use Rattle.std.proofs.Common.{◌≡◌, ◌++◌, ◌⊎◌, List, [], ◌∷◌, inl, inr, refl, sym, ap, ◌∙◌, subst, append_assoc}
-use Rattle.sig_base.specs.declared.span.Span.{Span}
-use Rattle.sig_tree.specs.Terminals.{Terminal, Leaf, leaf}
-use Rattle.sig_tree.specs.Limits.{Limits, no_limits}
-use Rattle.sig_tree.specs.Repeated.{Each}
-use Rattle.sig_tree.specs.Beginning.{StartsWith}
-use Rattle.sig_tree.specs.Readings.{StopsBefore, OneReading}
-use Rattle.sig_tree.specs.Continuing.{ContinuesNothing, ContinuesOptional}
-use Rattle.sig_tree.specs.Unplaced.{no_place}
-use Rattle.sig_tree.proofs.FirstLeaves.{starts_longer}
-use Rattle.sig_tree.proofs.Combining.{cons_same, append_to, part_at}
-use Rattle.sig_tree.proofs.ReadEquations.{stops_nothing}
-use Rattle.sig_parse.specs.State.{State}
-use Rattle.sig_parse.specs.Reads.{Covers, IsLeaf}
-use Rattle.sig_parse.specs.Refusals.{Cause, Refuses}
-use Rattle.sig_parse.specs.Settling.{Settles}
-use Rattle.sig_parse.specs.Parts.{InSome, UpTo}
+use Rattle.sig_parse.proofs.Common.{◌≡◌, ◌++◌, ◌⊎◌, List, [], ◌∷◌, inl, inr, refl, sym, ap, ◌∙◌, subst, append_assoc, Span, Terminal, Leaf, leaf, Limits, no_limits, Each, StartsWith, StopsBefore, OneReading, ContinuesNothing, ContinuesOptional, no_place, starts_longer, cons_same, append_to, part_at, stops_nothing, State, Covers, IsLeaf, Cause, Refuses, Settles, InSome, UpTo}
 use Rattle.sig_parse.proofs.Refusing.{SameFirst, agrees_first}
 use Rattle.sig_parse.proofs.Leading.{Leads, Then, refuses_where, leads_where, settles_where, apart_nothing, then_first, leads_alone, starts_or_stops, starts_same}
 use Rattle.sig_parse.proofs.RefusedDeclarations.{Always}

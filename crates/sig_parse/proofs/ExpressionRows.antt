@@ -1,23 +1,5 @@
 -- Expressions with a separator between them, from the trace of a parser that read them one after another.
-use Rattle.std.proofs.Common.{◌≡◌, ◌≤◌, ℕ, List, arith}
-use Rattle.sig_tree.specs.declared.expr.Expr.{Expr}
-use Rattle.sig_tree.specs.Syntax.{expression_of}
-use Rattle.sig_tree.specs.Terminals.{Terminal, Leaf}
-use Rattle.sig_tree.specs.Levels.{default_level}
-use Rattle.sig_tree.specs.Limits.{Limits, both_limits, no_limits, MayHave, operators}
-use Rattle.sig_tree.specs.Expressions.{IsExpression}
-use Rattle.sig_tree.specs.Readings.{StopsBefore}
-use Rattle.sig_tree.specs.Continuing.{ContinuesNothing, ContinuesList, ContinuesExpression}
-use Rattle.sig_tree.proofs.Unlimited.{expression_unlimited, expression_within}
-use Rattle.sig_tree.proofs.ReadExpressions.{expression_once}
-use Rattle.sig_parse.specs.declared.refusal.Refusal.{Refusal}
-use Rattle.sig_parse.specs.State.{State}
-use Rattle.sig_parse.specs.Reads.{Reads}
-use Rattle.sig_parse.specs.Refusals.{RefusedBy}
-use Rattle.sig_parse.specs.Settling.{Settles, Closes}
-use Rattle.sig_parse.specs.Languages.{InLevel}
-use Rattle.sig_parse.specs.Parts.{InAny}
-use Rattle.sig_parse.specs.Repeats.{ReadsParts, ReadsSeparated, RefusesSeparated}
+use Rattle.sig_parse.proofs.Common.{◌≡◌, ◌≤◌, ℕ, List, arith, Expr, expression_of, Terminal, Leaf, default_level, Limits, both_limits, no_limits, MayHave, operators, IsExpression, StopsBefore, ContinuesNothing, ContinuesList, ContinuesExpression, expression_unlimited, expression_within, expression_once, Refusal, State, Reads, RefusedBy, Settles, Closes, InLevel, InAny, ReadsParts, ReadsSeparated, RefusesSeparated}
 use Rattle.sig_parse.proofs.Covering.{covered}
 use Rattle.sig_parse.proofs.Leading.{settled_once}
 use Rattle.sig_parse.proofs.RefusedLevels.{fewer}

@@ -1,23 +1,5 @@
 -- Declarations and pragmas from their parts.
-use Rattle.std.proofs.Common.{◌≡◌, ◌≢◌, ◌++◌, ℕ, List, [], ◌∷◌, codes, Option, None, refl, sym, ap, subst, inl, inr}
-use Rattle.std.proofs.lemmas.List.{append-nil}
-use Rattle.sig_base.specs.declared.span.Span.{Span}
-use Rattle.sig_base.specs.declared.ids.Kind.{Kind}
-use Rattle.sig_base.specs.declared.ids.Kind.TheVariants.{Event}
-use Rattle.sig_tree.specs.declared.expr.Name.{Name}
-use Rattle.sig_tree.specs.declared.expr.Constant.{Constant}
-use Rattle.sig_tree.specs.declared.process.Item.{Item}
-use Rattle.sig_tree.specs.Syntax.{Declared, Placement}
-use Rattle.sig_tree.specs.Terminals.{Leaf, leaf, kind_word, name, word, label, mark}
-use Rattle.sig_tree.specs.Repeated.{Between, Each, Separated}
-use Rattle.sig_tree.specs.Expressions.{IsOptionalInit}
-use Rattle.sig_tree.specs.Equations.{IsName}
-use Rattle.sig_tree.specs.Processes.{IsPlainItem, IsItem, IsGroup, IsParam, AreGroups, AreParams, IsInterface, IsPlacement, ArePragmas, IsLocalGroup}
-use Rattle.sig_parse.specs.declared.declaration.Declares.{Declares}
-use Rattle.sig_parse.specs.declared.declaration.Declares.TheVariants.{Parameters, Inputs, Signals}
-use Rattle.sig_parse.specs.Declarations.{IsItemOf, IsGroupOf}
-use Rattle.sig_parse.specs.State.{State}
-use Rattle.sig_parse.specs.Reads.{Reads, IsLeaf}
+use Rattle.sig_parse.proofs.Common.{◌≡◌, ◌≢◌, ◌++◌, ℕ, List, [], ◌∷◌, codes, Option, None, refl, sym, ap, subst, inl, inr, append-nil, Span, Kind, Event, Name, Constant, Item, Declared, Placement, Leaf, leaf, kind_word, name, word, label, mark, Between, Each, Separated, IsOptionalInit, IsName, IsPlainItem, IsItem, IsGroup, IsParam, AreGroups, AreParams, IsInterface, IsPlacement, ArePragmas, IsLocalGroup, Declares, Parameters, Inputs, Signals, IsItemOf, IsGroupOf, State, Reads, IsLeaf}
 use Rattle.sig_parse.proofs.Joins.{joined, viewed, after_leaf}
 use Rattle.sig_parse.proofs.Enclosing.{between}
 

@@ -1,13 +1,6 @@
 -- Keywords and the terminals that they are.
-use Rattle.std.proofs.Common.{◌≡◌, List, [], ◌∷◌, Option, None, Some, Bool, true, false, cond, refl, sym, ap, ◌∙◌, subst}
-use Rattle.std.specs.Prelude.{◌↔◌, IsTrue, MatchBool}
-use Rattle.sig_tree.specs.Terminals.{Terminal, Leaf}
-use Rattle.sig_tree.specs.Readings.{StopsBefore}
-use Rattle.sig_tree.specs.Beginning.{StartsWith}
-use Rattle.sig_tree.proofs.Operators.{is_terminal}
-use Rattle.sig_parse.specs.declared.keyword.Keyword.{Keyword}
-use Rattle.sig_parse.specs.declared.keyword.Keyword.TheVariants.{Process, Where, End, Integer, Boolean, Event, Init, When, Default, Cell, Not, And, Or, Xor, Modulo, True, False, Pragmas, BodyOpen, BodyClose, Bar, Open, Close, BraceOpen, BraceClose, Comma, Semicolon, Question, Exclamation, Define, SameClock, ClockPlus, ClockMeet, ClockLess, Clock, Dollar, Equal, NotEqual, Less, LessEqual, Greater, GreaterEqual, Plus, Minus, Times, Divide}
-use Rattle.sig_parse.specs.Keywords.{terminal_of}
+use Rattle.sig_parse.proofs.Common.{◌≡◌, List, [], ◌∷◌, Option, None, Some, Bool, true, false, cond, refl, sym, ap, ◌∙◌, subst, ◌↔◌, IsTrue, MatchBool, Terminal, Leaf, StopsBefore, StartsWith, is_terminal, Keyword, Process, Where, End, Init, And, Or, Xor, Modulo, True, False, Pragmas, BodyOpen, BodyClose, Bar, Open, Close, BraceOpen, BraceClose, Comma, Semicolon, Question, Exclamation, Define, SameClock, ClockPlus, ClockMeet, ClockLess, Dollar, NotEqual, Less, LessEqual, Greater, GreaterEqual, Plus, Minus, Times, Divide, terminal_of}
+use Rattle.sig_parse.specs.declared.keyword.Keyword.TheVariants.{Integer, Boolean, Event, When, Default, Cell, Not, Clock, Equal}
 
 keywords : List Keyword
 keywords = Process ∷ Where ∷ End ∷ Integer ∷ Boolean ∷ Event ∷ Init ∷ When ∷ Default ∷ Cell ∷ Not ∷ And ∷ Or ∷ Xor ∷ Modulo ∷ True ∷ False ∷ Pragmas

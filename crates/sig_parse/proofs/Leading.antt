@@ -1,19 +1,5 @@
 -- What was passed leads from a language to what is left of it.
-use Rattle.std.proofs.Common.{◌≡◌, ◌++◌, List, [], ◌∷◌, refl, sym, ap, ◌∙◌, subst, append_assoc}
-use Rattle.std.proofs.lemmas.List.{append-nil, append_cancel_left, append_cancel_right}
-use Rattle.sig_base.specs.declared.span.Span.{Span}
-use Rattle.sig_tree.specs.Terminals.{Terminal, Leaf, leaf}
-use Rattle.sig_tree.specs.Limits.{Limits, both_limits, no_limits}
-use Rattle.sig_tree.specs.Readings.{StopsBefore, OneReading}
-use Rattle.sig_tree.specs.Beginning.{StartsWith}
-use Rattle.sig_tree.specs.Continuing.{ContinuesNothing}
-use Rattle.sig_tree.proofs.Combining.{cons_same, append_to}
-use Rattle.sig_tree.proofs.ReadEquations.{stops_nothing}
-use Rattle.sig_parse.specs.State.{State}
-use Rattle.sig_parse.specs.Reads.{Covers, IsLeaf}
-use Rattle.sig_parse.specs.Refusals.{Cause, Agrees, Refuses}
-use Rattle.sig_parse.specs.Settling.{Settles}
-use Rattle.sig_parse.specs.Parts.{InAny}
+use Rattle.sig_parse.proofs.Common.{◌≡◌, ◌++◌, List, [], ◌∷◌, refl, sym, ap, ◌∙◌, subst, append_assoc, append-nil, append_cancel_left, append_cancel_right, Span, Terminal, Leaf, leaf, Limits, both_limits, no_limits, StopsBefore, OneReading, StartsWith, ContinuesNothing, cons_same, append_to, stops_nothing, State, Covers, IsLeaf, Cause, Agrees, Refuses, Settles, InAny}
 use Rattle.sig_parse.proofs.Refusing.{SameFirst, agrees_first, first_stops, refuses_inside, refuses_first}
 
 -- Behind what was passed, some of the one language is what stands in the other.

@@ -1,12 +1,6 @@
 -- The leaves of one more token.
-use Rattle.std.proofs.Common.{◌≡◌, ◌++◌, ◌+◌, ◌<◌, ℕ, List, [], ◌∷◌, length, map, take, get_or, Option, Some, None, refl, sym, ap, ◌∙◌}
-use Rattle.std.specs.Prelude.{option_map, option_to_list}
-use Rattle.std.proofs.lemmas.List.{append-nil, map-append, take_more}
-use Rattle.std.proofs.lemmas.List.Concat.{flat_map-append}
-use Rattle.sig_lex.specs.declared.token.Token.{Token}
-use Rattle.sig_tree.specs.Leaves.{leaf_of, leaves_of}
+use Rattle.sig_parse.proofs.Common.{◌≡◌, ◌++◌, ◌+◌, ◌<◌, ℕ, List, [], ◌∷◌, length, map, take, get_or, Option, Some, None, refl, sym, ap, ◌∙◌, option_map, option_to_list, append-nil, map-append, take_more, flat_map-append, Token, leaf_of, leaves_of, leaf_seen}
 use Rattle.sig_parse.specs.declared.leaf.Leaf.{Leaf}
-use Rattle.sig_parse.specs.Seen.{leaf_seen}
 
 seen : (o : Option Leaf) → map leaf_seen (option_to_list o) ≡ option_to_list (option_map leaf_seen o)
 seen None = refl

@@ -1,3 +1,4 @@
+pub mod Common
 -- Lemmas of this crate.
 pub mod BodyLemmas
 pub mod Covering
@@ -51,3 +52,49 @@ pub mod RefusedTogether
 pub mod RefusedDefinitions
 pub mod Outcomes
 pub mod RefusedPrograms
+unfoldable pub use Common.*
+pub use BodyLemmas.*
+pub use ClosedRows.*
+pub use Covering.*
+pub use Enclosing.*
+pub use ExpressionRows.*
+pub use GroupLemmas.*
+pub use Joins.*
+pub use KeywordLemmas.*
+pub use Leading.*
+pub use LeafLists.*
+pub use Lifting.*
+pub use Lists.*
+pub use OperatorLemmas.*
+pub use Outcomes.*
+pub use Passing.*
+pub use ProcessLemmas.*
+pub use RefusedCalls.*
+pub use RefusedChoice.*
+pub use RefusedConstants.*
+pub use RefusedDeclarations.*
+pub use RefusedDefinitions.*
+pub use RefusedDelays.*
+pub use RefusedEquations.*
+pub use RefusedExpressions.*
+pub use RefusedGroups.*
+pub use RefusedHeadings.*
+pub use RefusedLevels.*
+pub use RefusedModels.*
+pub use RefusedNames.*
+pub use RefusedPragmas.*
+pub use RefusedProcesses.*
+pub use RefusedPrograms.*
+pub use RefusedTexts.*
+pub use RefusedTogether.*
+pub use RefusedTokens.*
+pub use Relaying.*
+pub use Repeating.*
+pub use SettledBodies.*
+pub use Steps.*
+pub use Tables.*
+pub use Rattle.sig_parse.proofs.ExpressionRows.{Enclosed}
+pub use Rattle.sig_parse.proofs.Leading.{settles_once}
+pub use Rattle.sig_parse.proofs.Lifting.{one_more}
+pub use Rattle.sig_parse.proofs.RefusedExpressions.{step_stops}
+pub use Rattle.sig_parse.proofs.Steps.{prefix_first, whole}

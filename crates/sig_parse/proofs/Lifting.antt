@@ -1,16 +1,5 @@
 -- A refusal of a part as one of what the part stands in, where the parser stands.
-use Rattle.std.proofs.Common.{◌≡◌, ◌++◌, ℕ, suc, List, ◌∷◌, arith, sym, ap, ◌∙◌, subst, Result, Ok, Err, IfErr}
-use Rattle.std.specs.Result.{IsErr, IsErrAnd}
-use Rattle.sig_base.specs.declared.span.Span.{Span}
-use Rattle.sig_tree.specs.Terminals.{Terminal, Leaf, leaf}
-use Rattle.sig_tree.specs.Limits.{Limits}
-use Rattle.sig_tree.specs.Readings.{StopsBefore}
-use Rattle.sig_parse.specs.declared.refusal.Refusal.{Refusal}
-use Rattle.sig_parse.specs.declared.refusal.Refusal.TheVariants.{Syntax, Nesting, Operators}
-use Rattle.sig_parse.specs.State.{State}
-use Rattle.sig_parse.specs.Reads.{Reads, IsLeaf}
-use Rattle.sig_parse.specs.Refusals.{IsOfText}
-use Rattle.sig_parse.specs.Refusals.{Cause, Wrong, TooDeep, TooMany, cause_of, Refuses}
+use Rattle.sig_parse.proofs.Common.{◌≡◌, ◌++◌, ℕ, suc, List, ◌∷◌, arith, sym, ap, ◌∙◌, subst, Result, Ok, Err, IfErr, IsErr, IsErrAnd, Span, Terminal, Leaf, leaf, Limits, StopsBefore, Refusal, Syntax, Nesting, Operators, State, Reads, IsLeaf, IsOfText, Cause, Wrong, TooDeep, TooMany, cause_of, Refuses}
 
 -- What is refused of the part here is refused of the whole, from before it on.
 abbrev pub Lifts : (Part : Limits → List Leaf → Type 0) (PartContinues : Terminal → Type 0) (here : List Leaf) (Whole : Limits → List Leaf → Type 0) (Continues : Terminal → Type 0) (before : List Leaf) → Type 0

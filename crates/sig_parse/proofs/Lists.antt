@@ -1,12 +1,5 @@
 -- Lists with separators, from their parts.
-use Rattle.std.proofs.Common.{◌≡◌, ◌++◌, ◌+◌, ◌≤◌, ℕ, List, [], ◌∷◌, length, map, sum_by, refl, sym, ap, ◌∙◌, subst, append_assoc, length-append, arith}
-use Rattle.std.proofs.lemmas.List.{append-nil, map-append}
-use Rattle.std.proofs.lemmas.List.Sums.{sum_by_push}
-use Rattle.sig_base.specs.declared.span.Span.{Span}
-use Rattle.sig_tree.specs.Terminals.{Terminal, Leaf, leaf}
-use Rattle.sig_tree.specs.Repeated.{Each, Further, Separated, Listed}
-use Rattle.sig_parse.specs.State.{State}
-use Rattle.sig_parse.specs.Reads.{Reads, IsLeaf}
+use Rattle.sig_parse.proofs.Common.{◌≡◌, ◌++◌, ◌+◌, ◌≤◌, ℕ, List, [], ◌∷◌, length, map, sum_by, refl, sym, ap, ◌∙◌, subst, append_assoc, length-append, arith, append-nil, map-append, sum_by_push, Span, Terminal, Leaf, leaf, Each, Further, Separated, Listed, State, Reads, IsLeaf}
 use Rattle.sig_parse.proofs.Joins.{joined, viewed, nothing, after_leaf}
 
 module _ {A : Type 0} (Is : A → List Leaf → Type 0) (separator : Terminal) where

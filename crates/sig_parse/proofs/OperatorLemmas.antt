@@ -1,24 +1,7 @@
 -- The operators of the parser as those of the grammar, and what stands behind them.
-use Rattle.std.proofs.Common.{◌≡◌, ◌≤◌, ℕ, suc, List, [], ◌∷◌, cond, eqb, inl, inr, ◌⊎◌, refl, sym, ap, ◌∙◌, subst, arith}
-use Rattle.sig_tree.specs.declared.expr.BinOp.{BinOp}
-use Rattle.sig_tree.specs.declared.expr.BinOp.TheVariants.{Default as OpDefault, When as OpWhen, Plus as OpPlus, Meet as OpMeet, Less as OpLess, Or as OpOr, Xor as OpXor, And as OpAnd, Eq, Ne, Lt, Le, Gt, Ge, Add, Sub, Mul, Div, Mod}
-use Rattle.sig_tree.specs.declared.expr.UnOp.{UnOp}
-use Rattle.sig_tree.specs.declared.expr.UnOp.TheVariants.{Not as UnaryNot, Neg, When as UnaryWhen, Clock as UnaryClock}
-use Rattle.sig_tree.specs.Terminals.{Terminal, Leaf, unary_terminal}
-use Rattle.sig_tree.specs.Levels.{delay_level, unary_level, operand_level}
-use Rattle.sig_tree.specs.Readings.{StopsBefore}
-use Rattle.sig_tree.specs.Beginning.{StartsWith}
-use Rattle.sig_tree.specs.Continuing.{ContinuesDelay, ContinuesExpression}
-use Rattle.sig_tree.proofs.Operators.{Infix as TreeInfix, OfTwo, OfCell, OfDelay, infix_terminal as tree_terminal, infix_level as tree_level, infix_seen, infix_stands, not_tighter}
-use Rattle.sig_tree.proofs.ReadSpines.{infix_same}
-use Rattle.sig_parse.specs.declared.keyword.Keyword.{Keyword}
+use Rattle.sig_parse.proofs.Common.{◌≡◌, ◌≤◌, ℕ, suc, List, [], ◌∷◌, cond, eqb, inl, inr, ◌⊎◌, refl, sym, ap, ◌∙◌, subst, arith, BinOp, Default as OpDefault, OpWhen, OpPlus, Meet as OpMeet, OpLess, OpOr, OpXor, OpAnd, Eq, Ne, Lt, Le, Gt, Ge, Add, Sub, Mul, Div, Mod, UnOp, Not as UnaryNot, Neg, When as UnaryWhen, Clock as UnaryClock, Terminal, Leaf, unary_terminal, delay_level, unary_level, operand_level, StopsBefore, StartsWith, ContinuesDelay, ContinuesExpression, TreeInfix, OfTwo, OfCell, OfDelay, tree_terminal, tree_level, infix_seen, infix_stands, not_tighter, infix_same, Keyword, Level, Mixed, Relation, Sum, Product, Primary, Infix, Binary, Cell, Delay as DelayOp, terminal_of, IsKeyword, level_number, infix_terminal, infix_level, IsOperator, IsOperatorOf, ContinuesStep}
 use Rattle.sig_parse.specs.declared.keyword.Keyword.TheVariants as K
-use Rattle.sig_parse.specs.declared.operator.Level.{Level}
-use Rattle.sig_parse.specs.declared.operator.Level.TheVariants.{Default, Mixed, Clock, Or, And, Not, Relation, Sum, Product, Minus, Delay, Primary}
-use Rattle.sig_parse.specs.declared.operator.Infix.{Infix}
-use Rattle.sig_parse.specs.declared.operator.Infix.TheVariants.{Binary, Cell, Delay as DelayOp}
-use Rattle.sig_parse.specs.Keywords.{terminal_of, IsKeyword}
-use Rattle.sig_parse.specs.Operators.{level_number, infix_terminal, infix_level, IsOperator, IsOperatorOf, ContinuesStep}
+use Rattle.sig_parse.specs.declared.operator.Level.TheVariants.{Default, Clock, Or, And, Not, Minus, Delay}
 use Rattle.sig_parse.proofs.RefusedLevels.{IsOfLevel}
 
 -- the operator as the grammar's lemmas have it

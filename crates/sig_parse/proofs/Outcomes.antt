@@ -1,6 +1,5 @@
 -- What follows from several clauses of one call.
-use Rattle.std.proofs.Common.{Result, Ok, Err, IfOk}
-use Rattle.std.specs.Prelude.{OnOk}
+use Rattle.sig_parse.proofs.Common.{Result, Ok, Err, IfOk, OnOk}
 
 pub on_ok : {T E Q R : Type 0} (P : T → Type 0) (r : Result T E) → IfOk r P → OnOk r Q → ((x : T) → P x → Q → R) → OnOk r R
 on_ok P (Ok x) p q f = f x p q

@@ -1,14 +1,6 @@
 -- Passing the next leaf.
-use Rattle.std.proofs.Common.{◌≡◌, ℕ, ◌+◌, ◌<◌, ◌≤◌, suc, List, [], ◌∷◌, length, map, get_or, drop, drop-cons, length-drop, Bool, true, false, refl, sym, ap, ◌∙◌, arith}
-use Rattle.std.proofs.Math.Dec.{leb}
-use Rattle.std.proofs.lemmas.List.{length-map}
-use Rattle.std.proofs.lemmas.Bool.{leb-true, leb-false}
-use Rattle.std.specs.Prelude.{MatchBool}
-use Rattle.sig_tree.specs.Terminals.{Terminal, leaf}
+use Rattle.sig_parse.proofs.Common.{◌≡◌, ℕ, ◌+◌, ◌<◌, ◌≤◌, suc, List, [], ◌∷◌, length, map, get_or, drop, drop-cons, length-drop, Bool, true, false, refl, sym, ap, ◌∙◌, arith, leb, length-map, leb-true, leb-false, MatchBool, Terminal, leaf, leaf_seen, terminal_seen, State, Reads, Shorter, IsLeaf}
 use Rattle.sig_parse.specs.declared.leaf.Leaf.{Leaf}
-use Rattle.sig_parse.specs.Seen.{leaf_seen, terminal_seen}
-use Rattle.sig_parse.specs.State.{State}
-use Rattle.sig_parse.specs.Reads.{Reads, Shorter, IsLeaf}
 
 -- the state at an index
 abbrev pub state_at : List Leaf → ℕ → ℕ → State

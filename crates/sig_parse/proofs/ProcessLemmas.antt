@@ -1,22 +1,8 @@
 -- Processes from their parts.
 use mathlib.Core.Former.{Count}
 use denote.Hole.Carrier.{roll}
-use Rattle.std.proofs.Common.{◌≡◌, ◌++◌, ℕ, List, [], ◌∷◌, codes, map, refl, sym, ap, ◌∙◌, subst, inl, inr, append_assoc, Vec, Global}
-use Rattle.std.proofs.lemmas.List.{append-nil, map-append}
-use Rattle.sig_base.specs.declared.span.Span.{Span}
-use Rattle.sig_tree.specs.declared.expr.Name.{Name}
-use Rattle.sig_tree.specs.declared.process.Group.{Group}
-use Rattle.sig_tree.specs.declared.process.RunOn.{RunOn}
-use Rattle.sig_tree.specs.declared.process.Body.{Body}
-use Rattle.sig_tree.specs.declared.process.Process.{Process, Process', Row_of-Process, end_of-Process, more_of-Process, items-the_row-Process, items_hidden-the_row-Process-0, roll-Process}
-use Rattle.sig_tree.specs.Syntax.{Declared, Placement, Equations, Heading, ProcessModel, declared_of, placement_of, equations_of, heading_of, model_of, models_of, no_model}
-use Rattle.sig_tree.specs.Terminals.{Leaf, leaf, name_leaf, word, mark}
-use Rattle.sig_tree.specs.Limits.{both_limits}
-use Rattle.sig_tree.specs.Equations.{IsBody}
-use Rattle.sig_tree.specs.Processes.{IsLocalGroup, IsWhere, IsProcess, IsModel, AreLocals, AreParams, IsInterface, ArePragmas}
-use Rattle.sig_parse.specs.Declarations.{IsTitle, IsInnerProcess, AreDeclared, AreBehindWhere}
-use Rattle.sig_parse.specs.State.{State}
-use Rattle.sig_parse.specs.Reads.{Covers, IsLeaf}
+use Rattle.sig_parse.proofs.Common.{◌≡◌, ◌++◌, ℕ, List, [], ◌∷◌, codes, map, refl, sym, ap, ◌∙◌, subst, inl, inr, append_assoc, Vec, Global, append-nil, map-append, Span, Name, Group, RunOn, Body, Process', Row_of-Process, end_of-Process, more_of-Process, items-the_row-Process, items_hidden-the_row-Process-0, roll-Process, Declared, Placement, Equations, Heading, ProcessModel, declared_of, placement_of, equations_of, heading_of, model_of, models_of, no_model, Leaf, leaf, name_leaf, word, mark, both_limits, IsBody, IsLocalGroup, IsWhere, IsProcess, IsModel, AreLocals, AreParams, IsInterface, ArePragmas, IsTitle, IsInnerProcess, AreDeclared, AreBehindWhere, State, Covers, IsLeaf}
+use Rattle.sig_tree.specs.declared.process.Process.{Process}
 use Rattle.sig_parse.proofs.Covering.{Both, and_then, seen_as}
 
 -- declarations, whose first is a group or a process

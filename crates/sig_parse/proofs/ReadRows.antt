@@ -1,19 +1,5 @@
 -- Lists with separators, from the trace of a parser that read their parts one after another.
-use Rattle.std.proofs.Common.{◌≡◌, ◌++◌, ◌≤◌, ◌⊎◌, ℕ, List, [], ◌∷◌, map, sum_by, inl, inr, refl, sym, subst, arith}
-use Rattle.std.proofs.lemmas.List.{map-id}
-use Rattle.sig_base.specs.declared.span.Span.{Span}
-use Rattle.sig_tree.specs.Terminals.{Terminal, Leaf}
-use Rattle.sig_tree.specs.Limits.{Limits, both_limits, no_limits}
-use Rattle.sig_tree.specs.Repeated.{Separated, Listed}
-use Rattle.sig_tree.specs.Readings.{StopsBefore}
-use Rattle.sig_tree.specs.Continuing.{ContinuesNothing, ContinuesList}
-use Rattle.sig_parse.specs.declared.refusal.Refusal.{Refusal}
-use Rattle.sig_parse.specs.State.{State}
-use Rattle.sig_parse.specs.Reads.{Reads, IsLeaf}
-use Rattle.sig_parse.specs.Refusals.{IsOfText, cause_of, Refuses, RefusedBy}
-use Rattle.sig_parse.specs.Settling.{Settles, Closes}
-use Rattle.sig_parse.specs.Repeats.{ReadsParts, ReadsSeparated, RefusesSeparated}
-use Rattle.sig_parse.specs.Parts.{InAny, InSome, UpTo}
+use Rattle.sig_parse.proofs.Common.{◌≡◌, ◌++◌, ◌≤◌, ◌⊎◌, ℕ, List, [], ◌∷◌, map, sum_by, inl, inr, refl, sym, subst, arith, map-id, Span, Terminal, Leaf, Limits, both_limits, no_limits, Separated, Listed, StopsBefore, ContinuesNothing, ContinuesList, Refusal, State, Reads, IsLeaf, IsOfText, cause_of, Refuses, RefusedBy, Settles, Closes, ReadsParts, ReadsSeparated, RefusesSeparated, InAny, InSome, UpTo}
 use Rattle.sig_parse.proofs.Covering.{covered}
 use Rattle.sig_parse.proofs.Lists.{counted_one, counted_more}
 use Rattle.sig_parse.proofs.Leading.{Leads, leads_on, leads_refuses, settles_on, refuses_as, settles_as}

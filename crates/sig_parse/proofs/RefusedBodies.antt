@@ -1,21 +1,5 @@
 -- What is refused of bodies in brackets, from what is refused of their parts.
-use Rattle.std.proofs.Common.{◌≡◌, ◌++◌, ◌≤◌, ◌<◌, ℕ, suc, List, [], ◌∷◌, codes, inl, refl, sym, ◌∙◌, arith}
-use Rattle.sig_base.specs.declared.span.Span.{Span}
-use Rattle.sig_tree.specs.Syntax.{Named, Computed, Equations, Together, Defines, Equal, Bodies, no_body, more_bodies}
-use Rattle.sig_tree.specs.Terminals.{Leaf, leaf, mark}
-use Rattle.sig_tree.specs.Levels.{default_level}
-use Rattle.sig_tree.specs.Limits.{Limits, both_limits, nesting_limit, MayStandInside}
-use Rattle.sig_tree.specs.Repeated.{Further, Listed}
-use Rattle.sig_tree.specs.Equations.{IsBody, AreBodies, AreFurtherBodies}
-use Rattle.sig_tree.specs.Beginning.{StartsWith, BeginsExpression}
-use Rattle.sig_tree.specs.Continuing.{ContinuesBody}
-use Rattle.sig_tree.specs.Unplaced.{no_place}
-use Rattle.sig_tree.proofs.FirstLeaves.{clock_equation_begins}
-use Rattle.sig_tree.proofs.Combining.{cons_same, append_to}
-use Rattle.sig_tree.proofs.ReadEquations.{starts_conflict}
-use Rattle.sig_tree.proofs.ReadBodies.{together_apart, definition_starts}
-use Rattle.sig_parse.specs.Refusals.{TooDeep, Refuses}
-use Rattle.sig_parse.specs.Parts.{InBody}
+use Rattle.sig_parse.proofs.Common.{◌≡◌, ◌++◌, ◌≤◌, ◌<◌, ℕ, suc, List, [], ◌∷◌, codes, inl, refl, sym, ◌∙◌, arith, Span, Named, Computed, Equations, Together, Defines, Equal, Bodies, no_body, more_bodies, Leaf, leaf, mark, default_level, Limits, both_limits, nesting_limit, MayStandInside, Further, Listed, IsBody, AreBodies, AreFurtherBodies, StartsWith, BeginsExpression, ContinuesBody, no_place, clock_equation_begins, cons_same, append_to, starts_conflict, together_apart, definition_starts, TooDeep, Refuses, InBody}
 use Rattle.sig_parse.proofs.RefusedConstants.{some_name, some_leaf}
 
 abbrev pub Body_of : (depth : ℕ) → Limits → Equations → List Leaf → Type 0

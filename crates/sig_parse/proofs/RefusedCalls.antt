@@ -1,35 +1,5 @@
 -- What is refused of calls, of their constants and of their arguments, where the parser stands.
-use Rattle.std.proofs.Common.{◌≡◌, ◌++◌, ◌+◌, ◌≤◌, ◌<◌, ℕ, List, [], ◌∷◌, codes, map, sum_by, true, false, inl, inr, ◌⊎◌, refl, sym, ap, ◌∙◌, subst, arith}
-use Rattle.std.proofs.lemmas.List.{append-nil}
-use Rattle.sig_base.specs.declared.span.Span.{Span}
-use Rattle.sig_tree.specs.declared.expr.Name.{Name}
-use Rattle.sig_tree.specs.declared.expr.Constant.{Constant}
-use Rattle.sig_tree.specs.declared.expr.Expr.{Expr}
-use Rattle.sig_tree.specs.Syntax.{expression_of, RightSide, Computed, Called}
-use Rattle.sig_tree.specs.Terminals.{Leaf, leaf, mark, name_leaf}
-use Rattle.sig_tree.specs.Levels.{default_level}
-use Rattle.sig_tree.specs.Limits.{Limits, both_limits, MayHave, operators, right_operators}
-use Rattle.sig_tree.specs.Repeated.{Between, Listed, Separated}
-use Rattle.sig_tree.specs.Expressions.{IsConstant, IsExpression}
-use Rattle.sig_tree.specs.Equations.{IsName, AreConstants, IsRight}
-use Rattle.sig_tree.specs.Beginning.{StartsWith, BeginsName, BeginsConstant, BeginsLeft}
-use Rattle.sig_tree.specs.Readings.{StopsBefore, OneReading}
-use Rattle.sig_tree.specs.Continuing.{ContinuesNothing, ContinuesOptional, ContinuesEach, ContinuesList, ContinuesExpression, ContinuesDefinition}
-use Rattle.sig_tree.specs.Unplaced.{no_place}
-use Rattle.sig_tree.proofs.Operators.{different}
-use Rattle.sig_tree.proofs.ReadExpressions.{constant_once}
-use Rattle.sig_tree.proofs.Combining.{cons_same, between_once, listed_once}
-use Rattle.sig_tree.proofs.FirstLeaves.{constant_begins}
-use Rattle.sig_tree.proofs.ReadEquations.{mark_apart, stops_nothing, names_once, call_or_expression, Opens}
-use Rattle.sig_parse.specs.declared.refusal.Refusal.{Refusal}
-use Rattle.sig_parse.specs.State.{State}
-use Rattle.sig_parse.specs.Reads.{Reads, IsLeaf}
-use Rattle.sig_parse.specs.Refusals.{Cause, Wrong, TooDeep, Refuses, RefusedBy}
-use Rattle.sig_parse.specs.Settling.{Settles, Closes}
-use Rattle.sig_parse.specs.Ahead.{BeginsCall}
-use Rattle.sig_parse.specs.Languages.{InLeaf, InOne, counted, InConstant, InConstantList, InConstants, InLevel, InArgumentList, InArguments, InRight, InLeft}
-use Rattle.sig_parse.specs.Parts.{InSome, UpTo, InNames}
-use Rattle.sig_parse.specs.Repeats.{ReadsSeparated, RefusesSeparated}
+use Rattle.sig_parse.proofs.Common.{◌≡◌, ◌++◌, ◌+◌, ◌≤◌, ◌<◌, ℕ, List, [], ◌∷◌, codes, map, sum_by, true, false, inl, inr, ◌⊎◌, refl, sym, ap, ◌∙◌, subst, arith, append-nil, Span, Name, Constant, Expr, expression_of, RightSide, Computed, Called, Leaf, leaf, mark, name_leaf, default_level, Limits, both_limits, MayHave, operators, right_operators, Between, Listed, Separated, IsConstant, IsExpression, IsName, AreConstants, IsRight, StartsWith, BeginsName, BeginsConstant, BeginsLeft, StopsBefore, OneReading, ContinuesNothing, ContinuesOptional, ContinuesEach, ContinuesList, ContinuesExpression, ContinuesDefinition, no_place, different, constant_once, cons_same, between_once, listed_once, constant_begins, mark_apart, stops_nothing, names_once, call_or_expression, Opens, Refusal, State, Reads, IsLeaf, Cause, Wrong, TooDeep, Refuses, RefusedBy, Settles, Closes, BeginsCall, InLeaf, InOne, counted, InConstant, InConstantList, InConstants, InLevel, InArgumentList, InArguments, InRight, InLeft, InSome, UpTo, InNames, ReadsSeparated, RefusesSeparated}
 use Rattle.sig_parse.proofs.Refusing.{SameFirst, refuses_first}
 use Rattle.sig_parse.proofs.Covering.{covered}
 use Rattle.sig_parse.proofs.Lifting.{Lifts, leaf_split}

@@ -1,32 +1,5 @@
 -- What is refused of a body, where its first leaves tell whether it is a definition or a clock equation.
-use Rattle.std.proofs.Common.{◌≡◌, ◌++◌, ◌⊎◌, ℕ, List, [], ◌∷◌, codes, None, Some, inl, inr, refl, sym, ap, ◌∙◌, subst, append_assoc, arith}
-use Rattle.std.proofs.lemmas.List.{append-nil}
-use Rattle.sig_base.specs.declared.span.Span.{Span}
-use Rattle.sig_tree.specs.declared.expr.Name.{Name}
-use Rattle.sig_tree.specs.Syntax.{Expression, Named, Computed, Equations, Together, Defines, Equal}
-use Rattle.sig_tree.specs.Terminals.{Terminal, Leaf, leaf, mark, name_leaf}
-use Rattle.sig_tree.specs.Levels.{default_level}
-use Rattle.sig_tree.specs.Limits.{Limits, both_limits, nesting_limit, no_limits, MayStandInside}
-use Rattle.sig_tree.specs.Expressions.{IsExpression}
-use Rattle.sig_tree.specs.Equations.{IsClockEquation, IsBody}
-use Rattle.sig_tree.specs.Beginning.{StartsWith, BeginsExpression}
-use Rattle.sig_tree.specs.Readings.{StopsBefore}
-use Rattle.sig_tree.specs.Continuing.{ContinuesExpression, ContinuesDefinition, ContinuesClockEquation, ContinuesBody}
-use Rattle.sig_tree.specs.Unplaced.{no_place}
-use Rattle.sig_tree.proofs.Stopping.{stops_smaller}
-use Rattle.sig_tree.proofs.Operators.{different}
-use Rattle.sig_tree.proofs.Unlimited.{clock_equation_unlimited}
-use Rattle.sig_tree.proofs.ReadExpressions.{expression_read, expression_once}
-use Rattle.sig_tree.proofs.Settling.{Settles as ReadSettles, settles_once}
-use Rattle.sig_tree.proofs.Reader.{From, run}
-use Rattle.sig_tree.proofs.FirstLeaves.{clock_equation_begins}
-use Rattle.sig_tree.proofs.Combining.{cons_same, append_to, part_at}
-use Rattle.sig_tree.proofs.ReadEquations.{mark_apart, named_alone}
-use Rattle.sig_tree.proofs.ReadBodies.{definition_starts}
-use Rattle.sig_parse.specs.Ahead.{BeginsDefinition}
-use Rattle.sig_parse.specs.Refusals.{Cause, Wrong, TooDeep, TooMany, refused_within, ReachesNext, IsAllowed, Agrees, Refuses}
-use Rattle.sig_parse.specs.Languages.{InDefinition, InClockEquation}
-use Rattle.sig_parse.specs.Parts.{InBody}
+use Rattle.sig_parse.proofs.Common.{◌≡◌, ◌++◌, ◌⊎◌, ℕ, List, [], ◌∷◌, codes, None, Some, inl, inr, refl, sym, ap, ◌∙◌, subst, append_assoc, arith, append-nil, Span, Name, Expression, Named, Computed, Equations, Together, Defines, Equal, Terminal, Leaf, leaf, mark, name_leaf, default_level, Limits, both_limits, nesting_limit, no_limits, MayStandInside, IsExpression, IsClockEquation, IsBody, StartsWith, BeginsExpression, StopsBefore, ContinuesExpression, ContinuesDefinition, ContinuesClockEquation, ContinuesBody, no_place, stops_smaller, different, clock_equation_unlimited, expression_read, expression_once, ReadSettles, settles_once, From, run, clock_equation_begins, cons_same, append_to, part_at, mark_apart, named_alone, definition_starts, BeginsDefinition, Cause, Wrong, TooDeep, TooMany, refused_within, ReachesNext, IsAllowed, Agrees, Refuses, InDefinition, InClockEquation, InBody}
 use Rattle.sig_parse.proofs.Refusing.{SameFirst, agrees_first}
 use Rattle.sig_parse.proofs.RefusedConstants.{some_name, some_leaf}
 use Rattle.sig_parse.proofs.RefusedSides.{counted_sum}

@@ -1,25 +1,5 @@
 -- What the parts of the parser refuse: constants and inits.
-use Rattle.std.proofs.Common.{◌≡◌, ◌++◌, ℕ, List, [], ◌∷◌, true, false, Option, None, Some, codes, inl, inr, refl, sym, ap, ◌∙◌, subst}
-use Rattle.std.specs.Prelude.{pos, neg_ℤ}
-use Rattle.std.proofs.lemmas.List.{append-nil}
-use Rattle.sig_base.specs.declared.span.Span.{Span}
-use Rattle.sig_tree.specs.declared.expr.Name.{Name}
-use Rattle.sig_tree.specs.declared.expr.Constant.{Constant}
-use Rattle.sig_tree.specs.declared.expr.Constant.TheVariants.{Int, Bool as BoolConstant, Param}
-use Rattle.sig_tree.specs.Terminals.{Terminal, Leaf, leaf, name, number, word, mark, name_leaf}
-use Rattle.sig_tree.specs.Limits.{no_limits}
-use Rattle.sig_tree.specs.Expressions.{IsConstant, IsInit, IsOptionalInit}
-use Rattle.sig_tree.specs.Readings.{StopsBefore}
-use Rattle.sig_tree.specs.Beginning.{StartsWith, BeginsConstant, BeginsName}
-use Rattle.sig_tree.specs.Continuing.{ContinuesNothing, ContinuesInit}
-use Rattle.sig_tree.specs.Unplaced.{no_place}
-use Rattle.sig_tree.proofs.Operators.{different}
-use Rattle.sig_tree.proofs.Combining.{cons_same}
-use Rattle.sig_tree.proofs.FirstLeaves.{constant_begins}
-use Rattle.sig_tree.proofs.ReadEquations.{stops_nothing}
-use Rattle.sig_tree.proofs.ReadExpressions.{init_once}
-use Rattle.sig_parse.specs.Refusals.{Cause, Wrong, Agrees, Refuses}
-use Rattle.sig_parse.specs.Languages.{InLeaf, InNumber, InConstant, InInit, InOptionalInit}
+use Rattle.sig_parse.proofs.Common.{◌≡◌, ◌++◌, ℕ, List, [], ◌∷◌, true, false, Option, None, Some, codes, inl, inr, refl, sym, ap, ◌∙◌, subst, pos, neg_ℤ, append-nil, Span, Name, Constant, Int, BoolConstant, Param, Terminal, Leaf, leaf, name, number, word, mark, name_leaf, no_limits, IsConstant, IsInit, IsOptionalInit, StopsBefore, StartsWith, BeginsConstant, BeginsName, ContinuesNothing, ContinuesInit, no_place, different, cons_same, constant_begins, stops_nothing, init_once, Cause, Wrong, Agrees, Refuses, InLeaf, InNumber, InConstant, InInit, InOptionalInit}
 use Rattle.sig_parse.proofs.Leading.{behind_agrees}
 use Rattle.sig_parse.proofs.Refusing.{SameFirst, refuses_inside, refuses_first, refuses_at_once}
 

@@ -1,33 +1,5 @@
 -- What is refused of declarations, and what was read of them, from their parts.
-use Rattle.std.proofs.Common.{◌≡◌, ◌≢◌, ◌++◌, List, [], ◌∷◌, codes, None, refl, sym, ap, ◌∙◌, subst}
-use Rattle.sig_base.specs.declared.span.Span.{Span}
-use Rattle.sig_base.specs.declared.ids.Kind.{Kind}
-use Rattle.sig_base.specs.declared.ids.Kind.TheVariants.{Integer, Boolean, Event}
-use Rattle.sig_tree.specs.declared.expr.Name.{Name}
-use Rattle.sig_tree.specs.declared.process.Item.{Item}
-use Rattle.sig_tree.specs.Terminals.{Terminal, Leaf, leaf, name_leaf, kind_word, word, mark}
-use Rattle.sig_tree.specs.Limits.{Limits, no_limits}
-use Rattle.sig_tree.specs.Repeated.{Separated}
-use Rattle.sig_tree.specs.Equations.{IsName}
-use Rattle.sig_tree.specs.Beginning.{StartsWith}
-use Rattle.sig_tree.specs.Readings.{StopsBefore, OneReading}
-use Rattle.sig_tree.specs.Continuing.{ContinuesNothing, ContinuesInit}
-use Rattle.sig_tree.specs.Unplaced.{no_place}
-use Rattle.sig_tree.proofs.Operators.{different}
-use Rattle.sig_tree.proofs.Combining.{cons_same}
-use Rattle.sig_tree.proofs.ReadEquations.{name_once, stops_nothing}
-use Rattle.sig_parse.specs.declared.declaration.Declares.{Declares}
-use Rattle.sig_parse.specs.declared.declaration.Declares.TheVariants.{Parameters, Inputs, Signals}
-use Rattle.sig_parse.specs.Declarations.{IsItemOf}
-use Rattle.sig_parse.specs.declared.refusal.Refusal.{Refusal}
-use Rattle.sig_parse.specs.declared.refusal.Refusal.TheVariants.{Syntax}
-use Rattle.sig_parse.specs.State.{State}
-use Rattle.sig_parse.specs.Reads.{Reads, Covers, IsLeaf}
-use Rattle.sig_parse.specs.Repeats.{ReadsSeparated, RefusesSeparated}
-use Rattle.sig_parse.specs.Refusals.{Cause, Wrong, cause_of, Refuses, RefusedBy}
-use Rattle.sig_parse.specs.Settling.{Settles}
-use Rattle.sig_parse.specs.Languages.{InLeaf, InOptionalInit}
-use Rattle.sig_parse.specs.Parts.{InSome, IsKindOf, InKind, InItem, InItems, InGroup, ContinuesItem, ContinuesItems}
+use Rattle.sig_parse.proofs.Common.{◌≡◌, ◌≢◌, ◌++◌, List, [], ◌∷◌, codes, None, refl, sym, ap, ◌∙◌, subst, Span, Kind, Integer, Boolean, Event, Name, Item, Terminal, Leaf, leaf, name_leaf, kind_word, word, mark, Limits, no_limits, Separated, IsName, StartsWith, StopsBefore, OneReading, ContinuesNothing, ContinuesInit, no_place, different, cons_same, name_once, stops_nothing, Declares, Parameters, Inputs, Signals, IsItemOf, Refusal, Syntax, State, Reads, Covers, IsLeaf, ReadsSeparated, RefusesSeparated, Cause, Wrong, cause_of, Refuses, RefusedBy, Settles, InLeaf, InOptionalInit, InSome, IsKindOf, InKind, InItem, InItems, InGroup, ContinuesItem, ContinuesItems}
 use Rattle.sig_parse.proofs.Refusing.{SameFirst, refuses_at_once}
 use Rattle.sig_parse.proofs.RefusedConstants.{some_name, some_leaf}
 use Rattle.sig_parse.proofs.Leading.{Leads, Then, leads_refuses, settles_on, refuses_where, settles_where, apart_nothing, then_first, leads_alone, settled_once, starts_or_stops}

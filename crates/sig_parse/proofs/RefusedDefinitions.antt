@@ -1,28 +1,5 @@
 -- What is refused of definitions and clock equations, where the parser stands.
-use Rattle.std.proofs.Common.{◌≡◌, ◌++◌, ◌+◌, ◌≤◌, ◌<◌, ℕ, List, [], ◌∷◌, length, codes, map, sum_by, inl, inr, refl, sym, ap, subst, arith}
-use Rattle.std.proofs.lemmas.List.Sums.{sum_by_push}
-use Rattle.sig_base.specs.declared.span.Span.{Span}
-use Rattle.sig_tree.specs.declared.expr.Name.{Name}
-use Rattle.sig_tree.specs.declared.expr.Expr.{Expr}
-use Rattle.sig_tree.specs.Syntax.{Expression, expression_of, Named, Computed}
-use Rattle.sig_tree.specs.Terminals.{Terminal, Leaf, leaf, mark}
-use Rattle.sig_tree.specs.Levels.{default_level}
-use Rattle.sig_tree.specs.Limits.{Limits, both_limits, no_limits, MayHave, operators}
-use Rattle.sig_tree.specs.Repeated.{Separated}
-use Rattle.sig_tree.specs.Expressions.{IsExpression}
-use Rattle.sig_tree.specs.Equations.{IsLeft, IsClockEquation}
-use Rattle.sig_tree.specs.Readings.{StopsBefore}
-use Rattle.sig_tree.specs.Continuing.{ContinuesNothing, ContinuesExpression, ContinuesDefinition, ContinuesClockEquation}
-use Rattle.sig_tree.specs.Unplaced.{no_place}
-use Rattle.sig_tree.proofs.Unlimited.{left_unlimited, left_within}
-use Rattle.sig_tree.proofs.ReadEquations.{named_alone, left_once}
-use Rattle.sig_parse.specs.declared.refusal.Refusal.{Refusal}
-use Rattle.sig_parse.specs.State.{State}
-use Rattle.sig_parse.specs.Reads.{Covers, IsLeaf}
-use Rattle.sig_parse.specs.Refusals.{Cause, Wrong, cause_of, Refuses, RefusedBy}
-use Rattle.sig_parse.specs.Settling.{Settles}
-use Rattle.sig_parse.specs.Languages.{InLeaf, counted, InLeft, InRight, InDefinition, InClockEquation}
-use Rattle.sig_parse.specs.Repeats.{ReadsSeparated, RefusesSeparated}
+use Rattle.sig_parse.proofs.Common.{◌≡◌, ◌++◌, ◌+◌, ◌≤◌, ◌<◌, ℕ, List, [], ◌∷◌, length, codes, map, sum_by, inl, inr, refl, sym, ap, subst, arith, sum_by_push, Span, Name, Expr, Expression, expression_of, Named, Computed, Terminal, Leaf, leaf, mark, default_level, Limits, both_limits, no_limits, MayHave, operators, Separated, IsExpression, IsLeft, IsClockEquation, StopsBefore, ContinuesNothing, ContinuesExpression, ContinuesDefinition, ContinuesClockEquation, no_place, left_unlimited, left_within, named_alone, left_once, Refusal, State, Covers, IsLeaf, Cause, Wrong, cause_of, Refuses, RefusedBy, Settles, InLeaf, counted, InLeft, InRight, InDefinition, InClockEquation, ReadsSeparated, RefusesSeparated}
 use Rattle.sig_parse.proofs.Refusing.{refuses_first}
 use Rattle.sig_parse.proofs.Lists.{separated_more}
 use Rattle.sig_parse.proofs.RefusedConstants.{some_name, some_leaf}

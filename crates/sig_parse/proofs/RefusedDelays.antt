@@ -1,30 +1,5 @@
 -- What is refused and what is settled of delays and cells, whose end is not told by what an operand is.
-use Rattle.std.proofs.Common.{◌≡◌, ◌++◌, ◌≤◌, ℕ, suc, List, [], ◌∷◌, codes, Option, None, Some, inl, inr, refl, sym, ap, ◌∙◌, subst, append_assoc, arith}
-use Rattle.std.proofs.lemmas.List.{append-nil, append_cancel_left}
-use Rattle.sig_base.specs.declared.span.Span.{Span}
-use Rattle.sig_tree.specs.declared.expr.Constant.{Constant}
-use Rattle.sig_tree.specs.Syntax.{Expression}
-use Rattle.sig_tree.specs.Terminals.{Terminal, Leaf, leaf, number, word, mark}
-use Rattle.sig_tree.specs.Levels.{delay_level, primary_level}
-use Rattle.sig_tree.specs.Limits.{Limits, both_limits, no_limits}
-use Rattle.sig_tree.specs.Expressions.{IsInit, IsOptionalInit, IsOptionalOne, IsAtLevel}
-use Rattle.sig_tree.specs.Readings.{StopsBefore}
-use Rattle.sig_tree.specs.Beginning.{StartsWith}
-use Rattle.sig_tree.specs.Continuing.{ContinuesInit, ContinuesExpression}
-use Rattle.sig_tree.specs.Spines.{Step, WithOperand, WithCell, WithDelay, IsStep}
-use Rattle.sig_tree.proofs.Stopping.{stops_smaller}
-use Rattle.sig_tree.proofs.Operators.{OfCell, OfDelay, Tighter}
-use Rattle.sig_tree.proofs.Unlimited.{expression_unlimited}
-use Rattle.sig_tree.proofs.Combining.{cons_same, append_to, part_at}
-use Rattle.sig_tree.proofs.ReadEquations.{stops_nothing}
-use Rattle.sig_tree.proofs.ReadExpressions.{expression_once, init_once}
-use Rattle.sig_parse.specs.State.{State}
-use Rattle.std.specs.Prelude.{MatchOption}
-use Rattle.sig_parse.specs.declared.natural.Natural.{Natural}
-use Rattle.sig_parse.specs.Reads.{Reads, Shorter, IsLeaf}
-use Rattle.sig_parse.specs.Refusals.{Cause, Wrong, Reaches, Refuses}
-use Rattle.sig_parse.specs.Settling.{Settles}
-use Rattle.sig_parse.specs.Languages.{InOptionalOne, InOptionalInit, InStep}
+use Rattle.sig_parse.proofs.Common.{◌≡◌, ◌++◌, ◌≤◌, ℕ, suc, List, [], ◌∷◌, codes, Option, None, Some, inl, inr, refl, sym, ap, ◌∙◌, subst, append_assoc, arith, append-nil, append_cancel_left, Span, Constant, Expression, Terminal, Leaf, leaf, number, word, mark, delay_level, primary_level, Limits, both_limits, no_limits, IsInit, IsOptionalInit, IsOptionalOne, IsAtLevel, StopsBefore, StartsWith, ContinuesInit, ContinuesExpression, Step, WithOperand, WithCell, WithDelay, IsStep, stops_smaller, OfCell, OfDelay, Tighter, expression_unlimited, cons_same, append_to, part_at, stops_nothing, expression_once, init_once, State, MatchOption, Natural, Reads, Shorter, IsLeaf, Cause, Wrong, Reaches, Refuses, Settles, InOptionalOne, InOptionalInit, InStep}
 use Rattle.sig_parse.proofs.Refusing.{SameFirst, refuses_inside}
 use Rattle.sig_parse.proofs.Leading.{behind_agrees, agrees_behind, same_behind}
 use Rattle.sig_parse.proofs.RefusedSteps.{no_primary, two_no_cell, two_no_delay, cell_no_delay, step_operator}

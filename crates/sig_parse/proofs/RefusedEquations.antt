@@ -1,22 +1,5 @@
 -- What is refused of definitions and clock equations, from what is refused of their parts.
-use Rattle.std.proofs.Common.{◌≡◌, ◌++◌, ◌+◌, ◌≤◌, ℕ, List, [], ◌∷◌, codes, refl, sym, ap, ◌∙◌, subst, arith}
-use Rattle.std.specs.Prelude.{sum_by}
-use Rattle.sig_base.specs.declared.span.Span.{Span}
-use Rattle.sig_tree.specs.Syntax.{Expression, Named}
-use Rattle.sig_tree.specs.Terminals.{Leaf, leaf, mark}
-use Rattle.sig_tree.specs.Levels.{default_level}
-use Rattle.sig_tree.specs.Limits.{Limits, both_limits, no_limits, MayHave, operators}
-use Rattle.sig_tree.specs.Repeated.{Further}
-use Rattle.sig_tree.specs.Expressions.{IsExpression}
-use Rattle.sig_tree.specs.Equations.{IsClockEquation}
-use Rattle.sig_tree.specs.Readings.{StopsBefore}
-use Rattle.sig_tree.specs.Continuing.{ContinuesNothing, ContinuesExpression, ContinuesClockEquation}
-use Rattle.sig_tree.proofs.Unlimited.{expression_unlimited, expression_within}
-use Rattle.sig_tree.proofs.ReadExpressions.{expression_once}
-use Rattle.sig_tree.proofs.Combining.{append_to, part_at}
-use Rattle.sig_tree.proofs.ReadEquations.{mark_apart, stops_nothing}
-use Rattle.sig_parse.specs.Refusals.{Cause, Refuses}
-use Rattle.sig_parse.specs.Languages.{InLeaf, counted, InClockEquation}
+use Rattle.sig_parse.proofs.Common.{◌≡◌, ◌++◌, ◌+◌, ◌≤◌, ℕ, List, [], ◌∷◌, codes, refl, sym, ap, ◌∙◌, subst, arith, sum_by, Span, Expression, Named, Leaf, leaf, mark, default_level, Limits, both_limits, no_limits, MayHave, operators, Further, IsExpression, IsClockEquation, StopsBefore, ContinuesNothing, ContinuesExpression, ContinuesClockEquation, expression_unlimited, expression_within, expression_once, append_to, part_at, mark_apart, stops_nothing, Cause, Refuses, InLeaf, counted, InClockEquation}
 use Rattle.sig_parse.proofs.Refusing.{first_stops, refuses_inside}
 use Rattle.sig_parse.proofs.RefusedConstants.{some_name, some_leaf}
 use Rattle.sig_parse.proofs.RefusedLevels.{fewer}

@@ -1,36 +1,6 @@
 -- Refusals of the parts of expressions, where the parser stands.
-use Rattle.std.proofs.Common.{◌≡◌, ◌++◌, ◌+◌, ◌≤◌, ◌<◌, ℕ, suc, List, [], ◌∷◌, codes, Option, inl, inr, ◌⊎◌, refl, sym, ap, ◌∙◌, subst, append_assoc, arith}
-use Rattle.std.proofs.lemmas.List.{append-nil, append_cancel_right}
-use Rattle.sig_base.specs.declared.span.Span.{Span}
-use Rattle.sig_tree.specs.declared.expr.Constant.{Constant}
-use Rattle.sig_tree.specs.declared.expr.UnOp.{UnOp}
-use Rattle.sig_tree.specs.declared.expr.UnOp.TheVariants.{Not as UnaryNot, Neg, When as UnaryWhen, Clock as UnaryClock}
-use Rattle.sig_tree.specs.declared.expr.BinOp.{BinOp}
-use Rattle.sig_tree.specs.declared.expr.BinOp.TheVariants.{Default as OpDefault}
-use Rattle.sig_tree.specs.Syntax.{Expression, Unary}
-use Rattle.sig_tree.specs.Terminals.{Terminal, Leaf, leaf, number, word, mark, unary_terminal}
-use Rattle.sig_tree.specs.Levels.{default_level, mixed_level, relation_level, delay_level, primary_level, unary_level, operand_level, binary_level, right_level}
-use Rattle.sig_tree.specs.Limits.{Limits, both_limits, operators}
-use Rattle.sig_tree.specs.Expressions.{IsInit, IsOptionalInit, IsOptionalOne, IsAtLevel}
-use Rattle.sig_tree.specs.Readings.{StopsBefore}
-use Rattle.sig_tree.specs.Beginning.{StartsWith, BeginsExpression}
-use Rattle.sig_tree.specs.Continuing.{IsInfix as StandsBehind, ContinuesNothing, ContinuesInit, ContinuesExpression}
-use Rattle.sig_tree.specs.Spines.{IsAtom, IsOperand, WithOperand, WithCell, WithDelay, IsStep, AreSoMany}
-use Rattle.sig_tree.proofs.Stopping.{stops_smaller}
-use Rattle.sig_tree.proofs.Operators.{tighter_continues, not_tighter}
-use Rattle.sig_parse.specs.declared.refusal.Refusal.{Refusal}
-use Rattle.sig_parse.specs.declared.refusal.Refusal.TheVariants.{Syntax, Nesting, Operators}
-use Rattle.sig_parse.specs.declared.operator.Level.{Level}
-use Rattle.sig_parse.specs.declared.operator.Level.TheVariants.{Relation, Primary}
-use Rattle.sig_parse.specs.declared.operator.Infix.{Infix}
-use Rattle.sig_parse.specs.declared.operator.Infix.TheVariants.{Binary, Cell, Delay as DelayOp}
-use Rattle.sig_parse.specs.State.{State}
-use Rattle.sig_parse.specs.Reads.{Reads, Shorter, IsLeaf}
-use Rattle.sig_parse.specs.Refusals.{Cause, Wrong, TooDeep, TooMany, cause_of, Refuses}
-use Rattle.sig_parse.specs.Refusals.{IsOfText}
-use Rattle.sig_parse.specs.Settling.{Settles}
-use Rattle.sig_parse.specs.Languages.{InLeaf, InInit, InOptionalInit, InOptionalOne, InLevel, InOperand, InStep, InSteps}
-use Rattle.sig_parse.specs.Operators.{level_number, first_level, infix_terminal, infix_level, IsOperatorOf, ContinuesStep, BeginsAtom, IsTighter, ReadsStep, Completes}
+use Rattle.sig_parse.proofs.Common.{◌≡◌, ◌++◌, ◌+◌, ◌≤◌, ◌<◌, ℕ, suc, List, [], ◌∷◌, codes, Option, inl, inr, ◌⊎◌, refl, sym, ap, ◌∙◌, subst, append_assoc, arith, append-nil, append_cancel_right, Span, Constant, UnOp, Not as UnaryNot, Neg, When as UnaryWhen, Clock as UnaryClock, BinOp, Default as OpDefault, Expression, Unary, Terminal, Leaf, leaf, number, word, mark, unary_terminal, default_level, mixed_level, relation_level, delay_level, primary_level, unary_level, operand_level, binary_level, right_level, Limits, both_limits, operators, IsInit, IsOptionalInit, IsOptionalOne, IsAtLevel, StopsBefore, StartsWith, BeginsExpression, ContinuesNothing, ContinuesInit, ContinuesExpression, IsAtom, IsOperand, WithOperand, WithCell, WithDelay, IsStep, AreSoMany, stops_smaller, tighter_continues, not_tighter, Refusal, Syntax, Nesting, Operators, Level, Relation, Primary, Infix, Binary, Cell, Delay as DelayOp, State, Reads, Shorter, IsLeaf, Cause, Wrong, TooDeep, TooMany, cause_of, Refuses, IsOfText, Settles, InLeaf, InInit, InOptionalInit, InOptionalOne, InLevel, InOperand, InStep, InSteps, level_number, first_level, infix_terminal, infix_level, IsOperatorOf, ContinuesStep, BeginsAtom, IsTighter, ReadsStep, Completes}
+use Rattle.sig_tree.specs.Continuing.{IsInfix as StandsBehind}
 use Rattle.sig_parse.proofs.Joins.{joined, viewed, after_leaf}
 use Rattle.sig_parse.proofs.Lifting.{Lifts, leaf_split, wrong}
 use Rattle.sig_parse.proofs.OperatorLemmas.{in_tree, same_terminal, same_level, of_level, one_level, operator_continues, operand_continues_more}

@@ -1,27 +1,5 @@
 -- What is refused of groups up to the mark that ends them, from their parts.
-use Rattle.std.proofs.Common.{◌≡◌, ◌++◌, ◌⊎◌, List, [], ◌∷◌, codes, inl, inr, refl, sym, ap, ◌∙◌, subst, append_assoc}
-use Rattle.sig_base.specs.declared.span.Span.{Span}
-use Rattle.sig_base.specs.declared.ids.Kind.TheVariants.{Integer, Boolean, Event}
-use Rattle.sig_tree.specs.Syntax.{Declared}
-use Rattle.sig_tree.specs.Terminals.{Terminal, Leaf, leaf, word, mark}
-use Rattle.sig_tree.specs.Limits.{Limits}
-use Rattle.sig_tree.specs.Repeated.{Further}
-use Rattle.sig_tree.specs.Processes.{AreGroups}
-use Rattle.sig_tree.specs.Beginning.{StartsWith, BeginsGroup}
-use Rattle.sig_tree.specs.Readings.{StopsBefore}
-use Rattle.sig_tree.specs.Continuing.{ContinuesNothing}
-use Rattle.sig_tree.specs.Unplaced.{no_place}
-use Rattle.sig_tree.proofs.Operators.{different}
-use Rattle.sig_tree.proofs.Combining.{cons_same, append_to}
-use Rattle.sig_parse.specs.declared.declaration.Declares.{Declares}
-use Rattle.sig_parse.specs.declared.declaration.Declares.TheVariants.{Parameters, Inputs, Signals}
-use Rattle.sig_parse.specs.Declarations.{IsGroupOf}
-use Rattle.sig_parse.specs.State.{State}
-use Rattle.sig_parse.specs.Reads.{Covers, IsLeaf}
-use Rattle.sig_parse.specs.Refusals.{Cause, Refuses}
-use Rattle.sig_parse.specs.Settling.{Settles, Closes}
-use Rattle.sig_parse.specs.Languages.{InLeaf}
-use Rattle.sig_parse.specs.Parts.{InSome, UpTo, InGroup, InGroups, ContinuesItem, ContinuesItems, EndsGroups}
+use Rattle.sig_parse.proofs.Common.{◌≡◌, ◌++◌, ◌⊎◌, List, [], ◌∷◌, codes, inl, inr, refl, sym, ap, ◌∙◌, subst, append_assoc, Span, Integer, Boolean, Event, Declared, Terminal, Leaf, leaf, word, mark, Limits, Further, AreGroups, StartsWith, BeginsGroup, StopsBefore, ContinuesNothing, no_place, different, cons_same, append_to, Declares, Parameters, Inputs, Signals, IsGroupOf, State, Covers, IsLeaf, Cause, Refuses, Settles, Closes, InLeaf, InSome, UpTo, InGroup, InGroups, ContinuesItem, ContinuesItems, EndsGroups}
 use Rattle.sig_parse.proofs.Refusing.{SameFirst}
 use Rattle.sig_parse.proofs.ClosedRows.{closes_next}
 use Rattle.sig_parse.proofs.Leading.{Leads, Then, Apart, leads_refuses, leads_on, refuses_where, leads_where, then_first, leads_settled, starts_or_stops}

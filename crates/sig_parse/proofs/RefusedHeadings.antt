@@ -1,28 +1,6 @@
 -- What is refused of the headings of processes and of local groups, and what was read of them, from their
 -- parts.
-use Rattle.std.proofs.Common.{◌≡◌, ◌++◌, ◌⊎◌, List, [], ◌∷◌, codes, inl, inr, refl, sym, ap, ◌∙◌, subst, append_assoc}
-use Rattle.sig_base.specs.declared.span.Span.{Span}
-use Rattle.sig_tree.specs.declared.expr.Name.{Name}
-use Rattle.sig_tree.specs.Syntax.{Declared}
-use Rattle.sig_tree.specs.Terminals.{Terminal, Leaf, leaf, name_leaf, word, mark}
-use Rattle.sig_tree.specs.Limits.{Limits}
-use Rattle.sig_tree.specs.Equations.{IsName}
-use Rattle.sig_tree.specs.Processes.{AreGroups}
-use Rattle.sig_tree.specs.Beginning.{StartsWith}
-use Rattle.sig_tree.specs.Readings.{StopsBefore, OneReading}
-use Rattle.sig_tree.specs.Continuing.{ContinuesNothing, ContinuesOptional, ContinuesGroups}
-use Rattle.sig_tree.specs.Unplaced.{no_place}
-use Rattle.sig_tree.proofs.ReadEquations.{name_once, stops_nothing}
-use Rattle.sig_tree.proofs.ReadDeclarations.{param_groups_once, plain_groups_once, item_groups_once}
-use Rattle.sig_parse.specs.declared.declaration.Declares.{Declares}
-use Rattle.sig_parse.specs.declared.declaration.Declares.TheVariants.{Parameters, Inputs, Signals}
-use Rattle.sig_parse.specs.Declarations.{IsGroupOf}
-use Rattle.sig_parse.specs.State.{State}
-use Rattle.sig_parse.specs.Reads.{Covers, IsLeaf}
-use Rattle.sig_parse.specs.Refusals.{Cause, Refuses}
-use Rattle.sig_parse.specs.Settling.{Settles}
-use Rattle.sig_parse.specs.Languages.{InLeaf, InName}
-use Rattle.sig_parse.specs.Parts.{UpTo, InGroup, InGroups, ContinuesItems, EndsGroups, InParams, InInterface, InTitle, InLocalGroup}
+use Rattle.sig_parse.proofs.Common.{◌≡◌, ◌++◌, ◌⊎◌, List, [], ◌∷◌, codes, inl, inr, refl, sym, ap, ◌∙◌, subst, append_assoc, Span, Name, Declared, Terminal, Leaf, leaf, name_leaf, word, mark, Limits, IsName, AreGroups, StartsWith, StopsBefore, OneReading, ContinuesNothing, ContinuesOptional, ContinuesGroups, no_place, name_once, stops_nothing, param_groups_once, plain_groups_once, item_groups_once, Declares, Parameters, Inputs, Signals, IsGroupOf, State, Covers, IsLeaf, Cause, Refuses, Settles, InLeaf, InName, UpTo, InGroup, InGroups, ContinuesItems, EndsGroups, InParams, InInterface, InTitle, InLocalGroup}
 use Rattle.sig_parse.proofs.RefusedConstants.{some_name, some_leaf}
 use Rattle.sig_parse.proofs.Leading.{Leads, Then, Apart, leads_refuses, leads_on, settles_on, refuses_where, apart_nothing, then_first, leads_settled, leads_alone, settled_once, Leaf_of, leads_leaf}
 use Rattle.sig_parse.proofs.RefusedDeclarations.{Always}

@@ -1,26 +1,7 @@
 -- What the parts of the parser refuse: expressions of a level, from their first operand and the operators
 -- behind it.
-use Rattle.std.proofs.Common.{◌≡◌, ◌++◌, ◌+◌, ◌≤◌, ℕ, suc, List, [], ◌∷◌, length, codes, None, inl, inr, ◌⊎◌, refl, sym, ap, ◌∙◌, subst, arith}
-use Rattle.std.proofs.lemmas.List.{append-nil}
-use Rattle.sig_base.specs.declared.span.Span.{Span}
-use Rattle.sig_tree.specs.declared.expr.Constant.TheVariants.{Param}
-use Rattle.sig_tree.specs.declared.expr.BinOp.{BinOp}
-use Rattle.sig_tree.specs.Syntax.{Expression, Named}
-use Rattle.sig_tree.specs.Terminals.{Terminal, Leaf, leaf, word}
-use Rattle.sig_tree.specs.Levels.{primary_level, right_level}
-use Rattle.sig_tree.specs.Limits.{Limits, both_limits, nesting_limit, no_limits, MayHave, operators}
-use Rattle.sig_tree.specs.Repeated.{Each}
-use Rattle.sig_tree.specs.Expressions.{IsAtLevel}
-use Rattle.sig_tree.specs.Readings.{StopsBefore}
-use Rattle.sig_tree.specs.Continuing.{ContinuesExpression}
-use Rattle.sig_tree.specs.Spines.{IsOperand, Step, WithOperand, WithCell, WithDelay, stepped, stepped_all, IsStep, AreSoMany}
-use Rattle.sig_tree.specs.Unplaced.{no_place}
-use Rattle.sig_tree.proofs.Operators.{Infix, OfTwo, OfCell, OfDelay, infix_terminal, infix_level, infix_stands, Tighter}
-use Rattle.sig_tree.proofs.Combining.{append_to, part_at}
-use Rattle.sig_tree.proofs.Spines.{spine_of, spine_at, operand_at, operand_unlimited, operand_within, step_unlimited, step_within}
-use Rattle.sig_tree.proofs.ReadSpines.{infix_of_step, place_of_step, step_seen, operand_once, step_once, operand_stops, step_stops}
-use Rattle.sig_parse.specs.Refusals.{Cause, Wrong, TooMany, Refuses}
-use Rattle.sig_parse.specs.Languages.{InLevel, InOperand, InStep, InSteps, step_operators, steps_operators}
+use Rattle.sig_parse.proofs.Common.{◌≡◌, ◌++◌, ◌+◌, ◌≤◌, ℕ, suc, List, [], ◌∷◌, length, codes, None, inl, inr, ◌⊎◌, refl, sym, ap, ◌∙◌, subst, arith, append-nil, Span, Param, BinOp, Expression, Named, Terminal, Leaf, leaf, word, primary_level, right_level, Limits, both_limits, nesting_limit, no_limits, MayHave, operators, Each, IsAtLevel, StopsBefore, ContinuesExpression, IsOperand, Step, WithOperand, WithCell, WithDelay, stepped, stepped_all, IsStep, AreSoMany, no_place, OfTwo, OfCell, OfDelay, infix_stands, Tighter, append_to, part_at, spine_of, spine_at, operand_at, operand_unlimited, operand_within, step_unlimited, step_within, infix_of_step, place_of_step, step_seen, operand_once, step_once, operand_stops, step_stops, Cause, Wrong, TooMany, Refuses, InLevel, InOperand, InStep, InSteps, step_operators, steps_operators}
+use Rattle.sig_tree.proofs.Operators.{Infix, infix_terminal, infix_level}
 use Rattle.sig_parse.proofs.Refusing.{SameFirst, agrees_first, first_stops, refuses_inside, refuses_first, refuses_second}
 use Rattle.sig_parse.proofs.RefusedConstants.{some_name, some_leaf}
 

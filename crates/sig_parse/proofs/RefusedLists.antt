@@ -1,18 +1,6 @@
 -- What is refused of lists with separators, and of what stands in brackets, from what is refused of their
 -- parts.
-use Rattle.std.proofs.Common.{◌≡◌, ◌++◌, ◌+◌, ◌≤◌, ℕ, List, [], ◌∷◌, refl, sym, ap, ◌∙◌, append_assoc}
-use Rattle.std.proofs.lemmas.List.{append-nil}
-use Rattle.sig_base.specs.declared.span.Span.{Span}
-use Rattle.sig_tree.specs.Terminals.{Terminal, Leaf, leaf}
-use Rattle.sig_tree.specs.Limits.{Limits, both_limits, no_limits}
-use Rattle.sig_tree.specs.Repeated.{Between, Separated, Listed}
-use Rattle.sig_tree.specs.Readings.{StopsBefore, OneReading}
-use Rattle.sig_tree.specs.Continuing.{ContinuesNothing}
-use Rattle.sig_tree.specs.Unplaced.{no_place}
-use Rattle.sig_tree.proofs.Combining.{cons_same, append_to, part_at}
-use Rattle.sig_tree.proofs.ReadEquations.{stops_nothing}
-use Rattle.sig_parse.specs.Refusals.{Cause, Refuses}
-use Rattle.sig_parse.specs.Languages.{InLeaf, InOne}
+use Rattle.sig_parse.proofs.Common.{◌≡◌, ◌++◌, ◌+◌, ◌≤◌, ℕ, List, [], ◌∷◌, refl, sym, ap, ◌∙◌, append_assoc, append-nil, Span, Terminal, Leaf, leaf, Limits, both_limits, no_limits, Between, Separated, Listed, StopsBefore, OneReading, ContinuesNothing, no_place, cons_same, append_to, part_at, stops_nothing, Cause, Refuses, InLeaf, InOne}
 use Rattle.sig_parse.proofs.Refusing.{first_stops, refuses_inside, refuses_first}
 
 -- leaves and the one that closes them

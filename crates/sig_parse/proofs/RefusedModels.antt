@@ -1,32 +1,5 @@
 -- What is refused of a whole process, from its parts.
-use Rattle.std.proofs.Common.{◌≡◌, ◌++◌, ◌≤◌, ◌<◌, ℕ, suc, List, [], ◌∷◌, codes, inl, inr, refl, sym, ap, ◌∙◌, subst, arith}
-use Rattle.std.proofs.lemmas.List.{append-nil}
-use Rattle.sig_base.specs.declared.span.Span.{Span}
-use Rattle.sig_tree.specs.declared.expr.Name.{Name}
-use Rattle.sig_tree.specs.Syntax.{Declared, Placement, Named, Computed, Equations, Defines, ProcessModel, Modelled, ProcessModels, no_model, more_models}
-use Rattle.sig_tree.specs.Terminals.{Leaf, leaf, name_leaf, word, mark}
-use Rattle.sig_tree.specs.Limits.{Limits, both_limits, nesting_limit, no_limits}
-use Rattle.sig_tree.specs.Equations.{IsBody}
-use Rattle.sig_tree.specs.Processes.{AreParams, ArePragmas}
-use Rattle.sig_tree.specs.Beginning.{StartsWith, BeginsBody, BeginsProcess}
-use Rattle.sig_tree.specs.Readings.{StopsBefore}
-use Rattle.sig_tree.specs.Continuing.{ContinuesNothing, ContinuesOptional, ContinuesBody}
-use Rattle.sig_tree.specs.Unplaced.{no_place}
-use Rattle.sig_tree.proofs.Operators.{different}
-use Rattle.sig_tree.proofs.Unlimited.{body_unlimited, body_within}
-use Rattle.sig_tree.proofs.FirstLeaves.{body_begins}
-use Rattle.sig_tree.proofs.Combining.{append_to, starts_apart}
-use Rattle.sig_tree.proofs.ReadEquations.{named_alone}
-use Rattle.sig_tree.proofs.ReadDeclarations.{interface_once}
-use Rattle.sig_parse.specs.Declarations.{IsTitle, HasSides, AreBehindWhere}
-use Rattle.sig_parse.specs.declared.refusal.Refusal.{Refusal}
-use Rattle.sig_parse.specs.declared.refusal.Refusal.TheVariants.{Nesting}
-use Rattle.sig_parse.specs.State.{State}
-use Rattle.sig_parse.specs.Reads.{Covers}
-use Rattle.sig_parse.specs.Refusals.{Cause, TooDeep, cause_of, Refuses, RefusedBy}
-use Rattle.sig_parse.specs.Settling.{Settles}
-use Rattle.sig_parse.specs.Languages.{InLeaf}
-use Rattle.sig_parse.specs.Parts.{InBody, InTitle, InParams, InInterface, InPragmas, InProcess, InDeclared, IsWherePart, InWhere}
+use Rattle.sig_parse.proofs.Common.{◌≡◌, ◌++◌, ◌≤◌, ◌<◌, ℕ, suc, List, [], ◌∷◌, codes, inl, inr, refl, sym, ap, ◌∙◌, subst, arith, append-nil, Span, Name, Declared, Placement, Named, Computed, Equations, Defines, ProcessModel, Modelled, ProcessModels, no_model, more_models, Leaf, leaf, name_leaf, word, mark, Limits, both_limits, nesting_limit, no_limits, IsBody, AreParams, ArePragmas, StartsWith, BeginsBody, BeginsProcess, StopsBefore, ContinuesNothing, ContinuesOptional, ContinuesBody, no_place, different, body_unlimited, body_within, body_begins, append_to, starts_apart, named_alone, interface_once, IsTitle, HasSides, AreBehindWhere, Refusal, Nesting, State, Covers, Cause, TooDeep, cause_of, Refuses, RefusedBy, Settles, InLeaf, InBody, InTitle, InParams, InInterface, InPragmas, InProcess, InDeclared, IsWherePart, InWhere}
 use Rattle.sig_parse.proofs.Refusing.{SameFirst, agrees_first}
 use Rattle.sig_parse.proofs.RefusedConstants.{some_name, some_leaf}
 use Rattle.sig_parse.proofs.Leading.{Leads, Then, Apart, leads_refuses, leads_on, refuses_where, apart_nothing, then_first, leads_settled, leads_alone}

@@ -1,21 +1,5 @@
 -- Names with commas between them, and what is refused of them.
-use Rattle.std.proofs.Common.{◌≡◌, List, codes, inl, inr, arith}
-use Rattle.sig_tree.specs.declared.expr.Name.{Name}
-use Rattle.sig_tree.specs.Terminals.{Terminal, Leaf, mark}
-use Rattle.sig_tree.specs.Repeated.{Separated}
-use Rattle.sig_tree.specs.Equations.{IsName}
-use Rattle.sig_tree.specs.Readings.{StopsBefore}
-use Rattle.sig_tree.specs.Continuing.{ContinuesNothing, ContinuesList}
-use Rattle.sig_tree.proofs.Stopping.{stops_smaller}
-use Rattle.sig_tree.proofs.ReadEquations.{name_once, stops_nothing}
-use Rattle.sig_parse.specs.declared.refusal.Refusal.{Refusal}
-use Rattle.sig_parse.specs.State.{State}
-use Rattle.sig_parse.specs.Reads.{Reads}
-use Rattle.sig_parse.specs.Refusals.{Cause, Refuses, RefusedBy}
-use Rattle.sig_parse.specs.Settling.{Settles}
-use Rattle.sig_parse.specs.Languages.{InName, InOne, counted}
-use Rattle.sig_parse.specs.Parts.{InSome, InNames}
-use Rattle.sig_parse.specs.Repeats.{ReadsSeparated, RefusesSeparated}
+use Rattle.sig_parse.proofs.Common.{◌≡◌, List, codes, inl, inr, arith, Name, Terminal, Leaf, mark, Separated, IsName, StopsBefore, ContinuesNothing, ContinuesList, stops_smaller, name_once, stops_nothing, Refusal, State, Reads, Cause, Refuses, RefusedBy, Settles, InName, InOne, counted, InSome, InNames, ReadsSeparated, RefusesSeparated}
 use Rattle.sig_parse.proofs.Covering.{covered}
 use Rattle.sig_parse.proofs.RefusedLists.{List_of}
 use Rattle.sig_parse.proofs.RefusedSides.{Name_of, no_operators}

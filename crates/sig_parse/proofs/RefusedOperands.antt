@@ -1,23 +1,5 @@
 -- What the parts of the parser refuse: operands, and what an operator takes.
-use Rattle.std.proofs.Common.{◌≡◌, ◌++◌, ◌+◌, ◌≤◌, ◌<◌, ℕ, suc, List, [], ◌∷◌, inl, inr, ◌⊎◌, refl, sym, ap, ◌∙◌, subst, arith}
-use Rattle.std.proofs.lemmas.List.{append-nil}
-use Rattle.sig_base.specs.declared.span.Span.{Span}
-use Rattle.sig_tree.specs.declared.expr.UnOp.{UnOp}
-use Rattle.sig_tree.specs.declared.expr.UnOp.TheVariants.{Not}
-use Rattle.sig_tree.specs.Syntax.{Expression, Named, Unary}
-use Rattle.sig_tree.specs.Terminals.{Leaf, leaf, unary_terminal}
-use Rattle.sig_tree.specs.Levels.{primary_level, unary_level, operand_level}
-use Rattle.sig_tree.specs.Limits.{Limits, both_limits, nesting_limit, no_limits, MayStandInside, MayHave, operators}
-use Rattle.sig_tree.specs.Expressions.{IsAtLevel}
-use Rattle.sig_tree.specs.Readings.{StopsBefore}
-use Rattle.sig_tree.specs.Beginning.{StartsWith, BeginsExpression}
-use Rattle.sig_tree.specs.Continuing.{ContinuesExpression}
-use Rattle.sig_tree.specs.Spines.{IsOperand}
-use Rattle.sig_tree.proofs.Stopping.{stops_smaller}
-use Rattle.sig_tree.proofs.Combining.{cons_same}
-use Rattle.sig_tree.proofs.ReadSpines.{unary_same, prefix_no_inner, operand_tighter, inner_begins}
-use Rattle.sig_parse.specs.Refusals.{Cause, TooDeep, TooMany, Refuses}
-use Rattle.sig_parse.specs.Languages.{InLevel, InOperand}
+use Rattle.sig_parse.proofs.Common.{◌≡◌, ◌++◌, ◌+◌, ◌≤◌, ◌<◌, ℕ, suc, List, [], ◌∷◌, inl, inr, ◌⊎◌, refl, sym, ap, ◌∙◌, subst, arith, append-nil, Span, UnOp, Not, Expression, Named, Unary, Leaf, leaf, unary_terminal, primary_level, unary_level, operand_level, Limits, both_limits, nesting_limit, no_limits, MayStandInside, MayHave, operators, IsAtLevel, StopsBefore, StartsWith, BeginsExpression, ContinuesExpression, IsOperand, stops_smaller, cons_same, unary_same, prefix_no_inner, operand_tighter, inner_begins, Cause, TooDeep, TooMany, Refuses, InLevel, InOperand}
 use Rattle.sig_parse.proofs.Refusing.{SameFirst, refuses_inside, refuses_first}
 use Rattle.sig_parse.proofs.RefusedConstants.{some_name, some_leaf}
 use Rattle.sig_parse.proofs.RefusedLevels.{fewer}

@@ -1,27 +1,5 @@
 -- What is refused of pragmas, and what was read of them, from their parts.
-use Rattle.std.proofs.Common.{◌≡◌, ◌++◌, ◌⊎◌, List, [], ◌∷◌, codes, inl, inr, refl, sym, ap, ◌∙◌, subst, append_assoc}
-use Rattle.sig_base.specs.declared.span.Span.{Span}
-use Rattle.sig_tree.specs.declared.expr.Name.{Name}
-use Rattle.sig_tree.specs.Syntax.{Placement}
-use Rattle.sig_tree.specs.Terminals.{Terminal, Leaf, leaf, name, word, mark, label}
-use Rattle.sig_tree.specs.Limits.{Limits}
-use Rattle.sig_tree.specs.Repeated.{Each, Separated}
-use Rattle.sig_tree.specs.Equations.{IsName}
-use Rattle.sig_tree.specs.Processes.{IsPlacement}
-use Rattle.sig_tree.specs.Beginning.{StartsWith, BeginsPlacement}
-use Rattle.sig_tree.specs.Readings.{StopsBefore, OneReading}
-use Rattle.sig_tree.specs.Continuing.{ContinuesNothing, ContinuesList, ContinuesOptional, ContinuesPlacements}
-use Rattle.sig_tree.specs.Unplaced.{no_place}
-use Rattle.sig_tree.proofs.Operators.{different}
-use Rattle.sig_tree.proofs.Combining.{between_once}
-use Rattle.sig_tree.proofs.ReadEquations.{names_once, stops_nothing}
-use Rattle.sig_tree.proofs.ReadDeclarations.{placement_once, pragma_list_once}
-use Rattle.sig_parse.specs.State.{State}
-use Rattle.sig_parse.specs.Reads.{Covers, IsLeaf}
-use Rattle.sig_parse.specs.Refusals.{Cause, Refuses}
-use Rattle.sig_parse.specs.Settling.{Settles, Closes}
-use Rattle.sig_parse.specs.Languages.{InLeaf, InLabel}
-use Rattle.sig_parse.specs.Parts.{UpTo, InNames, IsBraced, InBraced, InPragma, InPragmaList, InPragmas}
+use Rattle.sig_parse.proofs.Common.{◌≡◌, ◌++◌, ◌⊎◌, List, [], ◌∷◌, codes, inl, inr, refl, sym, ap, ◌∙◌, subst, append_assoc, Span, Name, Placement, Terminal, Leaf, leaf, name, word, mark, label, Limits, Each, Separated, IsName, IsPlacement, StartsWith, BeginsPlacement, StopsBefore, OneReading, ContinuesNothing, ContinuesList, ContinuesOptional, ContinuesPlacements, no_place, different, between_once, names_once, stops_nothing, placement_once, pragma_list_once, State, Covers, IsLeaf, Cause, Refuses, Settles, Closes, InLeaf, InLabel, UpTo, InNames, IsBraced, InBraced, InPragma, InPragmaList, InPragmas}
 use Rattle.sig_parse.proofs.RefusedConstants.{some_name, some_leaf}
 use Rattle.sig_parse.proofs.Leading.{Leads, Then, leads_refuses, settles_on, refuses_where, apart_nothing, then_first, leads_stopped, leads_alone, settled_once, Leaf_of, leaf_once, leads_leaf}
 use Rattle.sig_parse.proofs.RefusedDeclarations.{Always}

@@ -1,27 +1,6 @@
 -- What the parts of the parser refuse: names, numbers, truths and parentheses.
-use Rattle.std.proofs.Common.{◌≡◌, ◌++◌, ◌+◌, ◌≤◌, ◌<◌, ℕ, suc, List, [], ◌∷◌, codes, inl, inr, refl, sym, ap, ◌∙◌, subst, arith}
-use Rattle.std.proofs.lemmas.List.{append-nil}
-use Rattle.sig_base.specs.declared.span.Span.{Span}
-use Rattle.sig_tree.specs.declared.expr.UnOp.{UnOp}
-use Rattle.sig_tree.specs.Syntax.{Expression, Named, Number, Truth, Unary, Binary, Delay, Cell}
-use Rattle.sig_tree.specs.Terminals.{Leaf, leaf, name, number, mark, truth_word, unary_terminal}
-use Rattle.sig_tree.specs.Levels.{default_level, primary_level}
-use Rattle.sig_tree.specs.Limits.{Limits, both_limits, nesting_limit, no_limits, MayStandInside, operators}
-use Rattle.sig_tree.specs.Expressions.{IsAtLevel}
-use Rattle.sig_tree.specs.Readings.{StopsBefore}
-use Rattle.sig_tree.specs.Beginning.{BeginsExpression}
-use Rattle.sig_tree.specs.Continuing.{ContinuesNothing, ContinuesExpression}
-use Rattle.sig_tree.specs.Spines.{IsAtom, IsOperand}
-use Rattle.sig_tree.specs.Unplaced.{no_place}
-use Rattle.sig_tree.proofs.Reader.{AtTruth, AtOpening, AtPrefix, first_of}
-use Rattle.sig_tree.proofs.Unlimited.{expression_unlimited, expression_within}
-use Rattle.sig_tree.proofs.ReadExpressions.{prefix_first, truth_first, expression_once}
-use Rattle.sig_tree.proofs.FirstLeaves.{expression_begins}
-use Rattle.sig_tree.proofs.Combining.{cons_same, append_to, part_at}
-use Rattle.sig_tree.proofs.ReadEquations.{mark_apart, stops_nothing}
-use Rattle.sig_tree.proofs.Spines.{operand_at}
-use Rattle.sig_parse.specs.Refusals.{Cause, Wrong, TooDeep, Refuses}
-use Rattle.sig_parse.specs.Languages.{InLeaf, InLevel, InOperand}
+use Rattle.sig_parse.proofs.Common.{◌≡◌, ◌++◌, ◌+◌, ◌≤◌, ◌<◌, ℕ, suc, List, [], ◌∷◌, codes, inl, inr, refl, sym, ap, ◌∙◌, subst, arith, append-nil, Span, UnOp, Expression, Named, Number, Truth, Unary, Leaf, leaf, name, number, mark, truth_word, unary_terminal, default_level, primary_level, Limits, both_limits, nesting_limit, no_limits, MayStandInside, operators, IsAtLevel, StopsBefore, BeginsExpression, ContinuesNothing, ContinuesExpression, IsAtom, IsOperand, no_place, AtTruth, AtOpening, AtPrefix, first_of, expression_unlimited, expression_within, prefix_first, truth_first, expression_once, expression_begins, cons_same, append_to, part_at, mark_apart, stops_nothing, operand_at, Cause, Wrong, TooDeep, Refuses, InLeaf, InLevel, InOperand}
+use Rattle.sig_tree.specs.Syntax.{Binary, Delay, Cell}
 use Rattle.sig_parse.proofs.Refusing.{first_stops, refuses_inside, refuses_at_once}
 use Rattle.sig_parse.proofs.RefusedConstants.{some_name, some_leaf}
 use Rattle.sig_parse.proofs.RefusedOperands.{named_operand}

@@ -1,30 +1,5 @@
 -- What is refused of processes, from their parts.
-use Rattle.std.proofs.Common.{◌≡◌, ◌++◌, ◌⊎◌, ◌<◌, ℕ, suc, List, [], ◌∷◌, true, false, codes, None, inl, inr, refl, sym, ap, ◌∙◌, subst, append_assoc}
-use Rattle.sig_base.specs.declared.span.Span.{Span}
-use Rattle.sig_base.specs.declared.ids.Kind.TheVariants.{Integer, Boolean, Event}
-use Rattle.sig_tree.specs.declared.expr.UnOp.TheVariants.{Not, Neg, When as UnaryWhen, Clock}
-use Rattle.sig_tree.specs.Syntax.{Declared, ProcessModel, ProcessModels, no_model, more_models}
-use Rattle.sig_tree.specs.Terminals.{Terminal, Leaf, leaf, name_leaf, number, word, mark}
-use Rattle.sig_tree.specs.Levels.{default_level}
-use Rattle.sig_tree.specs.Limits.{Limits, both_limits, no_limits, MayStandInside}
-use Rattle.sig_tree.specs.Processes.{IsLocalGroup, IsModel, AreLocals}
-use Rattle.sig_tree.specs.Beginning.{StartsWith, BeginsBody, BeginsGroup, BeginsProcess}
-use Rattle.sig_tree.specs.Readings.{StopsBefore, OneReading}
-use Rattle.sig_tree.specs.Continuing.{ContinuesNothing, ContinuesOptional, ContinuesBody, ContinuesLocals}
-use Rattle.sig_tree.specs.Unplaced.{no_place}
-use Rattle.sig_tree.proofs.Operators.{different, infix_of, no_infix}
-use Rattle.sig_tree.proofs.Unlimited.{model_unlimited, model_within}
-use Rattle.sig_tree.proofs.FirstLeaves.{local_group_begins, model_begins}
-use Rattle.sig_tree.proofs.Combining.{cons_same, append_to}
-use Rattle.sig_tree.proofs.ReadEquations.{mark_apart, stops_nothing, name_same}
-use Rattle.sig_tree.proofs.ReadDeclarations.{local_group_once}
-use Rattle.sig_tree.proofs.ReadProcesses.{model_once, locals_at}
-use Rattle.sig_parse.specs.Declarations.{IsTitle, IsInnerProcess, AreDeclared}
-use Rattle.sig_parse.specs.State.{State}
-use Rattle.sig_parse.specs.Reads.{Covers, IsLeaf}
-use Rattle.sig_parse.specs.Refusals.{Cause, Refuses}
-use Rattle.sig_parse.specs.Settling.{Settles}
-use Rattle.sig_parse.specs.Parts.{InAny, UpTo, InLocalGroup, InProcess, IsDeclared, InDeclared, InWhere}
+use Rattle.sig_parse.proofs.Common.{◌≡◌, ◌++◌, ◌⊎◌, ◌<◌, ℕ, suc, List, [], ◌∷◌, true, false, codes, None, inl, inr, refl, sym, ap, ◌∙◌, subst, append_assoc, Span, Integer, Boolean, Event, Not, Neg, When as UnaryWhen, Clock, Declared, ProcessModel, ProcessModels, no_model, more_models, Terminal, Leaf, leaf, name_leaf, number, word, mark, default_level, Limits, both_limits, no_limits, MayStandInside, IsLocalGroup, IsModel, AreLocals, StartsWith, BeginsBody, BeginsGroup, BeginsProcess, StopsBefore, OneReading, ContinuesNothing, ContinuesOptional, ContinuesBody, ContinuesLocals, no_place, different, infix_of, no_infix, model_unlimited, model_within, local_group_begins, model_begins, cons_same, append_to, mark_apart, stops_nothing, name_same, local_group_once, model_once, locals_at, IsTitle, IsInnerProcess, AreDeclared, State, Covers, IsLeaf, Cause, Refuses, Settles, InAny, UpTo, InLocalGroup, InProcess, IsDeclared, InDeclared, InWhere}
 use Rattle.sig_parse.proofs.Refusing.{SameFirst}
 use Rattle.sig_parse.proofs.Leading.{Leads, Then, leads_refuses, settles_on, refuses_where, leads_where, apart_nothing, then_first, leads_alone, settled_once, Leaf_of, leads_leaf, starts_or_stops, starts_same}
 use Rattle.sig_parse.proofs.RefusedDeclarations.{Always}

@@ -1,27 +1,6 @@
 -- What is refused of programs, from what is refused of their processes.
-use Rattle.std.proofs.Common.{◌≡◌, ◌≢◌, ◌++◌, ◌⊎◌, List, [], ◌∷◌, inl, inr, refl, sym, ap, ◌∙◌, subst, append_assoc}
-use Rattle.std.proofs.lemmas.List.{append-nil}
-use Rattle.sig_base.specs.declared.span.Span.{Span}
-use Rattle.sig_tree.specs.Syntax.{ProcessModel}
-use Rattle.sig_tree.specs.Terminals.{Leaf}
-use Rattle.sig_tree.specs.Limits.{Limits, both_limits, nesting_limit, no_limits}
-use Rattle.sig_tree.specs.Repeated.{Each}
-use Rattle.sig_tree.specs.Processes.{IsModel}
-use Rattle.sig_tree.specs.Grammar.{IsProgram, Begins, HasTree}
-use Rattle.sig_tree.specs.Readings.{StopsBefore}
-use Rattle.sig_tree.specs.Continuing.{ContinuesNothing}
-use Rattle.sig_tree.proofs.Unlimited.{model_unlimited, model_within, program_unlimited, program_within}
-use Rattle.sig_tree.proofs.ReadProcesses.{model_once}
-use Rattle.sig_parse.specs.declared.refusal.Refusal.{Refusal}
-use Rattle.sig_parse.specs.declared.refusal.Refusal.TheVariants.{Syntax, Nesting, Operators, OutOfMemory}
-use Rattle.sig_parse.specs.declared.parse_answer.ParseAnswer.{ParseAnswer}
-use Rattle.sig_parse.specs.declared.parse_answer.ParseAnswer.TheVariants.{OutOfMemory as NoMemory}
-use Rattle.sig_parse.specs.State.{State}
-use Rattle.sig_parse.specs.Reads.{Covers}
-use Rattle.sig_parse.specs.Refusals.{Cause, Wrong, TooDeep, TooMany, refused_within, Agrees, ReachesNext, IsAllowed, Refuses, RefusedBy}
-use Rattle.sig_parse.specs.Refused.{place_of, answer_of}
-use Rattle.sig_parse.specs.Exact.{GoesOn, GoesOnOtherwise, IsRefused, answer_for, IsAnswerOf, IsFirstRefusal}
-use Rattle.sig_parse.specs.Parts.{InProcess, InProgram, IsAnything}
+use Rattle.sig_parse.proofs.Common.{◌≡◌, ◌≢◌, ◌++◌, ◌⊎◌, List, [], ◌∷◌, inl, inr, refl, sym, ap, ◌∙◌, subst, append_assoc, append-nil, Span, ProcessModel, Leaf, Limits, both_limits, nesting_limit, no_limits, Each, IsModel, IsProgram, Begins, HasTree, StopsBefore, ContinuesNothing, model_unlimited, model_within, program_unlimited, program_within, model_once, Refusal, Syntax, Nesting, Operators, ParseAnswer, OutOfMemory as NoMemory, State, Covers, Cause, Wrong, TooDeep, TooMany, refused_within, Agrees, ReachesNext, IsAllowed, Refuses, RefusedBy, place_of, answer_of, GoesOn, GoesOnOtherwise, IsRefused, answer_for, IsAnswerOf, IsFirstRefusal, InProcess, InProgram, IsAnything}
+use Rattle.sig_parse.specs.declared.refusal.Refusal.TheVariants.{OutOfMemory}
 use Rattle.sig_parse.proofs.Refusing.{SameFirst}
 use Rattle.sig_parse.proofs.Leading.{Leads, Then, leads_refuses, leads_on, refuses_where, leads_where, apart_nothing, then_first, leads_alone}
 

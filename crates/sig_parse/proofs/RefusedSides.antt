@@ -1,28 +1,5 @@
 -- What is refused of left and right sides, from what is refused of their parts.
-use Rattle.std.proofs.Common.{◌≡◌, ◌++◌, ◌+◌, ◌≤◌, ◌<◌, ℕ, List, [], ◌∷◌, codes, inl, inr, refl, sym, ap, ◌∙◌, subst, append_assoc, arith}
-use Rattle.std.proofs.lemmas.List.{append-nil}
-use Rattle.std.proofs.lemmas.List.Sums.{sum_by-cons}
-use Rattle.std.specs.Prelude.{sum_by}
-use Rattle.sig_base.specs.declared.span.Span.{Span}
-use Rattle.sig_tree.specs.declared.expr.Name.{Name}
-use Rattle.sig_tree.specs.declared.expr.Constant.{Constant}
-use Rattle.sig_tree.specs.Syntax.{Expression, Named, RightSide, Computed, Called}
-use Rattle.sig_tree.specs.Terminals.{Leaf, leaf, mark, name_leaf}
-use Rattle.sig_tree.specs.Levels.{default_level}
-use Rattle.sig_tree.specs.Limits.{Limits, nesting_limit, no_limits, MayStandInside, MayHave, operators, right_operators}
-use Rattle.sig_tree.specs.Repeated.{Separated, Listed}
-use Rattle.sig_tree.specs.Expressions.{IsConstant, IsExpression}
-use Rattle.sig_tree.specs.Equations.{IsName, IsLeft, AreConstants, AreArguments, IsRight}
-use Rattle.sig_tree.specs.Readings.{StopsBefore}
-use Rattle.sig_tree.specs.Beginning.{BeginsLeft}
-use Rattle.sig_tree.specs.Continuing.{ContinuesNothing, ContinuesOptional, ContinuesExpression, ContinuesDefinition}
-use Rattle.sig_tree.specs.Unplaced.{no_place}
-use Rattle.sig_tree.proofs.Stopping.{stops_smaller}
-use Rattle.sig_tree.proofs.FirstLeaves.{left_begins}
-use Rattle.sig_tree.proofs.Combining.{cons_same, append_to, starts_apart}
-use Rattle.sig_tree.proofs.ReadEquations.{stops_nothing, name_no_mark, call_opens, Opens, opens_apart, named_alone}
-use Rattle.sig_parse.specs.Refusals.{Cause, Wrong, TooDeep, Refuses}
-use Rattle.sig_parse.specs.Languages.{InOne, counted, InLevel, InLeft, InConstants, InRight}
+use Rattle.sig_parse.proofs.Common.{◌≡◌, ◌++◌, ◌+◌, ◌≤◌, ◌<◌, ℕ, List, [], ◌∷◌, codes, inl, inr, refl, sym, ap, ◌∙◌, subst, append_assoc, arith, append-nil, sum_by-cons, sum_by, Span, Name, Constant, Expression, Named, RightSide, Computed, Called, Leaf, leaf, mark, name_leaf, default_level, Limits, nesting_limit, no_limits, MayStandInside, MayHave, operators, right_operators, Separated, Listed, IsConstant, IsExpression, IsName, IsLeft, AreConstants, AreArguments, IsRight, StopsBefore, BeginsLeft, ContinuesNothing, ContinuesOptional, ContinuesExpression, ContinuesDefinition, no_place, stops_smaller, left_begins, cons_same, append_to, starts_apart, stops_nothing, name_no_mark, call_opens, Opens, opens_apart, named_alone, Cause, Wrong, TooDeep, Refuses, InOne, counted, InLevel, InLeft, InConstants, InRight}
 use Rattle.sig_parse.proofs.Refusing.{refuses_inside, refuses_first, refuses_at_once}
 use Rattle.sig_parse.proofs.RefusedConstants.{some_name, some_leaf}
 use Rattle.sig_parse.proofs.RefusedLevels.{fewer}

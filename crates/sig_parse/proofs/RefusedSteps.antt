@@ -1,27 +1,6 @@
 -- What the parts of the parser refuse: what an operator behind an operand takes.
-use Rattle.std.proofs.Common.{◌≡◌, ◌++◌, ◌+◌, ◌≤◌, ℕ, suc, List, [], ◌∷◌, codes, refl, sym, ap, ◌∙◌, subst, arith}
-use Rattle.std.proofs.lemmas.List.{append-nil}
-use Rattle.sig_base.specs.declared.span.Span.{Span}
-use Rattle.sig_tree.specs.declared.expr.Constant.TheVariants.{Param}
-use Rattle.sig_tree.specs.declared.expr.BinOp.{BinOp}
-use Rattle.sig_tree.specs.Syntax.{Expression}
-use Rattle.sig_tree.specs.Terminals.{Terminal, Leaf, leaf, word, binary_terminal}
-use Rattle.sig_tree.specs.Levels.{mixed_level, primary_level, binary_level, right_level}
-use Rattle.sig_tree.specs.Limits.{Limits, both_limits, no_limits, MayHave, operators}
-use Rattle.sig_tree.specs.Expressions.{IsInit, IsAtLevel}
-use Rattle.sig_tree.specs.Readings.{StopsBefore}
-use Rattle.sig_tree.specs.Continuing.{ContinuesNothing, ContinuesExpression}
-use Rattle.sig_tree.specs.Spines.{Step, WithOperand, WithCell, WithDelay, IsStep}
-use Rattle.sig_tree.specs.Unplaced.{no_place}
-use Rattle.sig_tree.proofs.Stopping.{stops_smaller}
-use Rattle.sig_tree.proofs.Operators.{Infix, OfTwo, OfCell, OfDelay, infix_terminal, Tighter, two_levels, continues_tighter}
-use Rattle.sig_tree.proofs.Unlimited.{expression_unlimited, expression_within}
-use Rattle.sig_tree.proofs.ReadExpressions.{expression_once}
-use Rattle.sig_tree.proofs.Combining.{cons_same, append_to, part_at}
-use Rattle.sig_tree.proofs.ReadEquations.{stops_nothing}
-use Rattle.sig_tree.proofs.ReadSpines.{infix_same, infix_of_step, step_seen, primary_ends}
-use Rattle.sig_parse.specs.Refusals.{Cause, Refuses}
-use Rattle.sig_parse.specs.Languages.{InInit, InLevel, InStep, step_operators}
+use Rattle.sig_parse.proofs.Common.{◌≡◌, ◌++◌, ◌+◌, ◌≤◌, ℕ, suc, List, [], ◌∷◌, codes, refl, sym, ap, ◌∙◌, subst, arith, append-nil, Span, Param, BinOp, Expression, Terminal, Leaf, leaf, word, binary_terminal, mixed_level, primary_level, binary_level, right_level, Limits, both_limits, no_limits, MayHave, operators, IsInit, IsAtLevel, StopsBefore, ContinuesNothing, ContinuesExpression, Step, WithOperand, WithCell, WithDelay, IsStep, no_place, stops_smaller, OfTwo, OfCell, OfDelay, Tighter, two_levels, continues_tighter, expression_unlimited, expression_within, expression_once, cons_same, append_to, part_at, stops_nothing, infix_same, infix_of_step, step_seen, primary_ends, Cause, Refuses, InInit, InLevel, InStep, step_operators}
+use Rattle.sig_tree.proofs.Operators.{Infix, infix_terminal}
 use Rattle.sig_parse.proofs.Refusing.{refuses_inside}
 use Rattle.sig_parse.proofs.RefusedConstants.{some_name, some_leaf}
 use Rattle.sig_parse.proofs.RefusedLevels.{fewer}

@@ -1,11 +1,5 @@
 -- The refusal of a text stands behind leaves with which some program begins.
-use Rattle.std.proofs.Common.{sym, subst, List, inl, inr}
-use Rattle.sig_base.specs.declared.span.Span.{Span}
-use Rattle.sig_tree.specs.Terminals.{Leaf}
-use Rattle.sig_parse.specs.declared.parse_answer.ParseAnswer.{ParseAnswer}
-use Rattle.sig_parse.specs.Refusals.{Cause, Wrong, TooDeep, TooMany}
-use Rattle.sig_parse.specs.Refused.{StandsBehind, IsRefusal}
-use Rattle.sig_parse.specs.Exact.{IsAnswerOf, answer_for}
+use Rattle.sig_parse.proofs.Common.{sym, subst, List, inl, inr, Span, Leaf, ParseAnswer, Cause, Wrong, TooDeep, TooMany, StandsBehind, IsRefusal, IsAnswerOf, answer_for}
 
 behind : (leaves : List Leaf) (end : Span) (cause : Cause) (at : Span) → StandsBehind leaves end at → IsRefusal leaves end (answer_for cause at)
 behind leaves end Wrong at s = s

@@ -1,26 +1,5 @@
 -- What is refused of bodies one behind another, from their parts.
-use Rattle.std.proofs.Common.{◌≡◌, ◌++◌, ◌≤◌, ◌<◌, ℕ, suc, List, [], ◌∷◌, codes, refl, sym, ap, ◌∙◌, subst}
-use Rattle.sig_base.specs.declared.span.Span.{Span}
-use Rattle.sig_tree.specs.Syntax.{Equations, Together, Defines, Equal}
-use Rattle.sig_tree.specs.Terminals.{Leaf, leaf, mark}
-use Rattle.sig_tree.specs.Levels.{default_level}
-use Rattle.sig_tree.specs.Limits.{Limits, both_limits}
-use Rattle.sig_tree.specs.Equations.{IsBody}
-use Rattle.sig_tree.specs.Beginning.{StartsWith, BeginsExpression}
-use Rattle.sig_tree.specs.Readings.{StopsBefore}
-use Rattle.sig_tree.specs.Continuing.{ContinuesNothing, ContinuesList, ContinuesBody}
-use Rattle.sig_tree.proofs.Operators.{different}
-use Rattle.sig_tree.proofs.Unlimited.{body_unlimited, body_within}
-use Rattle.sig_tree.proofs.FirstLeaves.{clock_equation_begins, starts_longer}
-use Rattle.sig_tree.proofs.ReadEquations.{mark_apart, stops_nothing}
-use Rattle.sig_tree.proofs.ReadBodies.{together_apart, definition_starts, bar_apart}
-use Rattle.sig_parse.specs.declared.refusal.Refusal.{Refusal}
-use Rattle.sig_parse.specs.declared.refusal.Refusal.TheVariants.{Nesting}
-use Rattle.sig_parse.specs.State.{State}
-use Rattle.sig_parse.specs.Reads.{Covers, IsLeaf}
-use Rattle.sig_parse.specs.Refusals.{Cause, cause_of, Refuses, RefusedBy}
-use Rattle.sig_parse.specs.Settling.{Settles, Closes}
-use Rattle.sig_parse.specs.Parts.{InBody, Body_at, InBodies}
+use Rattle.sig_parse.proofs.Common.{◌≡◌, ◌++◌, ◌≤◌, ◌<◌, ℕ, suc, List, [], ◌∷◌, codes, refl, sym, ap, ◌∙◌, subst, Span, Equations, Together, Defines, Equal, Leaf, leaf, mark, default_level, Limits, both_limits, IsBody, StartsWith, BeginsExpression, StopsBefore, ContinuesNothing, ContinuesList, ContinuesBody, different, body_unlimited, body_within, clock_equation_begins, starts_longer, mark_apart, stops_nothing, together_apart, definition_starts, bar_apart, Refusal, Nesting, State, Covers, IsLeaf, Cause, cause_of, Refuses, RefusedBy, Settles, Closes, InBody, Body_at, InBodies}
 use Rattle.sig_parse.proofs.Refusing.{SameFirst}
 use Rattle.sig_parse.proofs.RefusedBodies.{to_list, from_list, bodies_list, list_bodies, together_too_deep}
 use Rattle.sig_parse.proofs.Leading.{Leads, Then, leads_refuses, leads_on, refuses_as, refuses_where, Leaf_of, leads_leaf, starts_same}

@@ -1,15 +1,5 @@
 -- What is refused where one token is read.
-use Rattle.std.proofs.Common.{◌≡◌, ℕ, List, [], ◌∷◌, refl, sym, subst}
-use Rattle.sig_tree.specs.Terminals.{Terminal, Leaf, leaf, label}
-use Rattle.sig_tree.specs.Limits.{Limits, no_limits}
-use Rattle.sig_tree.specs.Readings.{StopsBefore}
-use Rattle.sig_tree.specs.Beginning.{StartsWith, BeginsName}
-use Rattle.sig_tree.specs.Continuing.{ContinuesNothing}
-use Rattle.sig_tree.specs.Unplaced.{no_place}
-use Rattle.sig_parse.specs.declared.refusal.Refusal.TheVariants.{Syntax}
-use Rattle.sig_parse.specs.State.{State}
-use Rattle.sig_parse.specs.Languages.{InLeaf, InLabel, InName}
-use Rattle.sig_parse.specs.Refusals.{Wrong, Refuses, RefusedBy}
+use Rattle.sig_parse.proofs.Common.{◌≡◌, ℕ, List, [], ◌∷◌, refl, sym, subst, Terminal, Leaf, leaf, label, Limits, no_limits, StopsBefore, StartsWith, BeginsName, ContinuesNothing, no_place, Syntax, State, InLeaf, InLabel, InName, Wrong, Refuses, RefusedBy}
 use Rattle.sig_parse.proofs.Refusing.{refuses_at_once}
 use Rattle.sig_parse.proofs.RefusedConstants.{some_name, some_leaf, leaf_refused}
 

@@ -1,12 +1,5 @@
 -- A refusal of a part is one of what the part stands in.
-use Rattle.std.proofs.Common.{◌≡◌, ◌++◌, List, [], ◌∷◌, refl, sym, ap, ◌∙◌, subst, append_assoc}
-use Rattle.std.proofs.lemmas.List.{append-nil}
-use Rattle.sig_tree.specs.Terminals.{Terminal, Leaf}
-use Rattle.sig_tree.specs.Limits.{Limits, both_limits, nesting_limit, no_limits}
-use Rattle.sig_tree.specs.Readings.{StopsBefore, OneReading}
-use Rattle.sig_tree.specs.Beginning.{StartsWith}
-use Rattle.sig_tree.proofs.Combining.{part_at}
-use Rattle.sig_parse.specs.Refusals.{Cause, Wrong, TooDeep, TooMany, refused_within, Reaches, ReachesNext, IsAllowed, Agrees, Refuses}
+use Rattle.sig_parse.proofs.Common.{◌≡◌, ◌++◌, List, [], ◌∷◌, refl, sym, ap, ◌∙◌, subst, append_assoc, append-nil, Terminal, Leaf, Limits, both_limits, nesting_limit, no_limits, StopsBefore, OneReading, StartsWith, part_at, Cause, Wrong, TooDeep, TooMany, refused_within, Reaches, ReachesNext, IsAllowed, Agrees, Refuses}
 
 -- both lists are empty, or both begin with the same leaf
 abbrev pub SameFirst : List Leaf → List Leaf → Type 0

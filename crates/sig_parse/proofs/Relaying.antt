@@ -1,8 +1,5 @@
 -- A refusal that is handed on.
-use Rattle.std.proofs.Common.{◌≡◌, sym, subst, Result, Ok, Err, IfErr}
-use Rattle.std.specs.Result.{IsErr, IsErrAnd}
-use Rattle.sig_parse.specs.declared.refusal.Refusal.{Refusal}
-use Rattle.sig_parse.specs.Refusals.{IsOfText}
+use Rattle.sig_parse.proofs.Common.{◌≡◌, sym, subst, Result, Ok, Err, IfErr, IsErr, IsErrAnd, Refusal, IsOfText}
 
 -- and what is said of it
 pub handed : {T : Type 0} (P : Refusal → Type 0) (r : Result T Refusal) (e : Refusal) → IsErr r × IsErrAnd r (λ f. f ≡ e) → P e → IfErr r P

@@ -1,11 +1,5 @@
 -- Parts that are read one after another, as more of them are read.
-use Rattle.std.proofs.Common.{◌≡◌, ◌++◌, List, [], ◌∷◌, refl, sym, subst, append_assoc}
-use Rattle.std.proofs.lemmas.List.{append-nil}
-use Rattle.sig_base.specs.declared.span.Span.{Span}
-use Rattle.sig_tree.specs.Terminals.{Terminal}
-use Rattle.sig_parse.specs.State.{State}
-use Rattle.sig_parse.specs.Reads.{Reads, IsLeaf}
-use Rattle.sig_parse.specs.Repeats.{ReadsFurther, ReadsParts}
+use Rattle.sig_parse.proofs.Common.{◌≡◌, ◌++◌, List, [], ◌∷◌, refl, sym, subst, append_assoc, append-nil, Span, Terminal, State, Reads, IsLeaf, ReadsFurther, ReadsParts}
 
 module _ {A : Type 0} (Part : A → State → State → Type 0) (separator : Terminal) where
   further_more : (xs : List A) (x : A) (at : Span) (s t u v : State) → ReadsFurther Part separator xs s t → Reads (IsLeaf separator at) 0 t u → Part x u v → ReadsFurther Part separator (xs ++ x ∷ []) s v

@@ -1,21 +1,5 @@
 -- Lists with separators, whose items have operators, as the leaves of them are passed one after another.
-use Rattle.std.proofs.Common.{◌≡◌, ◌++◌, ◌+◌, ◌≤◌, ℕ, List, [], ◌∷◌, inl, inr, refl, sym, ap, ◌∙◌, subst, sum_by, arith}
-use Rattle.std.proofs.lemmas.List.{append_cancel_left, append_cancel_right}
-use Rattle.std.proofs.lemmas.List.Sums.{sum_by-cons}
-use Rattle.sig_base.specs.declared.span.Span.{Span}
-use Rattle.sig_tree.specs.Terminals.{Terminal, Leaf, leaf}
-use Rattle.sig_tree.specs.Limits.{Limits, both_limits, no_limits}
-use Rattle.sig_tree.specs.Repeated.{Further, Separated}
-use Rattle.sig_tree.specs.Readings.{StopsBefore, OneReading}
-use Rattle.sig_tree.specs.Continuing.{ContinuesList}
-use Rattle.sig_tree.proofs.Stopping.{stops_smaller}
-use Rattle.sig_tree.proofs.Combining.{cons_same, append_to}
-use Rattle.sig_parse.specs.State.{State}
-use Rattle.sig_parse.specs.Reads.{Covers, IsLeaf}
-use Rattle.sig_parse.specs.Refusals.{Cause, Agrees, Refuses}
-use Rattle.sig_parse.specs.Settling.{Settles}
-use Rattle.sig_parse.specs.Languages.{counted}
-use Rattle.sig_parse.specs.Parts.{InAny}
+use Rattle.sig_parse.proofs.Common.{◌≡◌, ◌++◌, ◌+◌, ◌≤◌, ℕ, List, [], ◌∷◌, inl, inr, refl, sym, ap, ◌∙◌, subst, sum_by, arith, append_cancel_left, append_cancel_right, sum_by-cons, Span, Terminal, Leaf, leaf, Limits, both_limits, no_limits, Further, Separated, StopsBefore, OneReading, ContinuesList, stops_smaller, cons_same, append_to, State, Covers, IsLeaf, Cause, Agrees, Refuses, Settles, counted, InAny}
 use Rattle.sig_parse.proofs.Refusing.{SameFirst, agrees_first, refuses_first}
 use Rattle.sig_parse.proofs.Leading.{Leads, agrees_behind, starts_or_stops}
 

@@ -1,35 +1,6 @@
 -- Right sides, definitions, clock equations and bodies are read so far and no further, whatever stands
 -- behind the next leaf.
-use Rattle.std.proofs.Common.{◌≡◌, ◌++◌, ◌+◌, ℕ, suc, List, [], ◌∷◌, true, false, codes, inl, inr, refl, sym, ap, ◌∙◌, subst, arith}
-use Rattle.std.proofs.lemmas.List.{append_cancel_right}
-use Rattle.sig_base.specs.declared.span.Span.{Span}
-use Rattle.sig_tree.specs.declared.expr.Name.{Name}
-use Rattle.sig_tree.specs.declared.expr.Constant.{Constant}
-use Rattle.sig_tree.specs.declared.expr.UnOp.TheVariants.{Not, Neg, When as UnaryWhen, Clock}
-use Rattle.sig_tree.specs.Syntax.{Expression, Named, RightSide, Computed, Called, Equations, Together, Defines, Equal, Bodies}
-use Rattle.sig_tree.specs.Terminals.{Terminal, Leaf, leaf, mark, name_leaf}
-use Rattle.sig_tree.specs.Levels.{default_level}
-use Rattle.sig_tree.specs.Limits.{Limits, both_limits, no_limits, right_operators}
-use Rattle.sig_tree.specs.Expressions.{IsExpression}
-use Rattle.sig_tree.specs.Equations.{IsLeft, AreConstants, AreArguments, IsRight, IsDefinition, IsClockEquation, IsBody, AreBodies}
-use Rattle.sig_tree.specs.Beginning.{StartsWith, BeginsName, BeginsExpression, BeginsBody}
-use Rattle.sig_tree.specs.Readings.{StopsBefore}
-use Rattle.sig_tree.specs.Continuing.{ContinuesOptional, ContinuesExpression, ContinuesDefinition, ContinuesClockEquation, ContinuesBody, ContinuesBodies}
-use Rattle.sig_tree.proofs.Stopping.{stops_smaller}
-use Rattle.sig_tree.proofs.Operators.{different}
-use Rattle.sig_tree.proofs.Unlimited.{expression_unlimited, left_unlimited, left_within, right_unlimited, definition_unlimited, clock_equation_unlimited, body_unlimited}
-use Rattle.sig_tree.proofs.ReadExpressions.{expression_once}
-use Rattle.sig_tree.proofs.FirstLeaves.{clock_equation_begins, starts_longer}
-use Rattle.sig_tree.proofs.Combining.{cons_same, append_to, part_at, starts_apart, between_at}
-use Rattle.sig_tree.proofs.ReadEquations.{mark_apart, stops_nothing, named_alone, Opens, opens_apart, call_opens, call_or_expression, constants_once, arguments_once, left_once, starts_conflict}
-use Rattle.sig_tree.proofs.ReadBodies.{together_apart, definition_starts, clock_equation_once, bodies_once}
-use Rattle.sig_parse.specs.State.{State}
-use Rattle.sig_parse.specs.Reads.{Covers, IsLeaf}
-use Rattle.sig_parse.specs.Ahead.{BeginsCall, BeginsDefinition}
-use Rattle.sig_parse.specs.Refusals.{Agrees}
-use Rattle.sig_parse.specs.Settling.{Settles}
-use Rattle.sig_parse.specs.Languages.{InRight, InDefinition, InClockEquation}
-use Rattle.sig_parse.specs.Parts.{InBody}
+use Rattle.sig_parse.proofs.Common.{◌≡◌, ◌++◌, ◌+◌, ℕ, suc, List, [], ◌∷◌, true, false, codes, inl, inr, refl, sym, ap, ◌∙◌, subst, arith, append_cancel_right, Span, Name, Constant, Not, Neg, When as UnaryWhen, Clock, Expression, Named, RightSide, Computed, Called, Equations, Together, Defines, Equal, Bodies, Terminal, Leaf, leaf, mark, name_leaf, default_level, Limits, both_limits, no_limits, right_operators, IsExpression, IsLeft, AreConstants, AreArguments, IsRight, IsDefinition, IsClockEquation, IsBody, AreBodies, StartsWith, BeginsName, BeginsExpression, BeginsBody, StopsBefore, ContinuesOptional, ContinuesExpression, ContinuesDefinition, ContinuesClockEquation, ContinuesBody, ContinuesBodies, stops_smaller, different, expression_unlimited, left_unlimited, left_within, right_unlimited, definition_unlimited, clock_equation_unlimited, body_unlimited, expression_once, clock_equation_begins, starts_longer, cons_same, append_to, part_at, starts_apart, between_at, mark_apart, stops_nothing, named_alone, Opens, opens_apart, call_opens, call_or_expression, constants_once, arguments_once, left_once, starts_conflict, together_apart, definition_starts, clock_equation_once, bodies_once, State, Covers, IsLeaf, BeginsCall, BeginsDefinition, Agrees, Settles, InRight, InDefinition, InClockEquation, InBody}
 use Rattle.sig_parse.proofs.Refusing.{SameFirst, first_stops}
 use Rattle.sig_parse.proofs.RefusedLevels.{fewer}
 use Rattle.sig_parse.proofs.Leading.{Then, settles_on, settles_where, leads_alone, leads_leaf, Leaf_of, behind_agrees, settled_once, starts_same}

@@ -1,19 +1,6 @@
 -- Expressions from their parts.
-use Rattle.std.proofs.Common.{◌++◌, ◌≤◌, ◌<◌, ℕ, zero, suc, List, [], ◌∷◌, codes, Option, refl, sym, ap, ◌∙◌, append_assoc, arith}
-use Rattle.sig_base.specs.declared.span.Span.{Span}
-use Rattle.sig_tree.specs.declared.expr.Constant.{Constant}
-use Rattle.sig_tree.specs.declared.expr.UnOp.{UnOp}
-use Rattle.sig_tree.specs.declared.expr.BinOp.{BinOp}
-use Rattle.sig_tree.specs.Syntax.{Expression, Unary, Binary, Delay, Cell}
-use Rattle.sig_tree.specs.Terminals.{Leaf, leaf, mark, unary_terminal}
-use Rattle.sig_tree.specs.Levels.{default_level, primary_level, unary_level, operand_level, right_level, level_of}
-use Rattle.sig_tree.specs.Limits.{both_limits, operators}
-use Rattle.sig_tree.specs.Expressions.{IsInit, IsOptionalInit, IsOptionalOne, Enclosed, IsBare, IsAtLevel}
-use Rattle.sig_parse.specs.declared.operator.Infix.{Infix}
-use Rattle.sig_parse.specs.declared.operator.Infix.TheVariants.{Binary as BinaryOp, Cell as CellOp, Delay as DelayOp}
-use Rattle.sig_parse.specs.State.{State}
-use Rattle.sig_parse.specs.Reads.{Reads, IsLeaf}
-use Rattle.sig_parse.specs.Operators.{infix_terminal, infix_level, infix_left, Completes}
+use Rattle.sig_parse.proofs.Common.{◌++◌, ◌≤◌, ◌<◌, ℕ, zero, suc, List, [], ◌∷◌, codes, Option, refl, sym, ap, ◌∙◌, append_assoc, arith, Span, Constant, UnOp, BinOp, Expression, Unary, Leaf, leaf, mark, unary_terminal, default_level, primary_level, unary_level, operand_level, right_level, level_of, both_limits, operators, IsInit, IsOptionalInit, IsOptionalOne, Enclosed, IsBare, IsAtLevel, Infix, Binary as BinaryOp, Cell as CellOp, Delay as DelayOp, State, Reads, IsLeaf, infix_terminal, infix_level, infix_left, Completes}
+use Rattle.sig_tree.specs.Syntax.{Binary, Delay, Cell}
 
 enclosed_looser : (level : ℕ) (Is : ℕ → List Leaf → Type 0) (parentheses v w depth : ℕ) (ls : List Leaf) → v ≤ w
     → Enclosed both_limits level Is parentheses w depth ls → Enclosed both_limits level Is parentheses v depth ls

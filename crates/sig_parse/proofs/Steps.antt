@@ -1,22 +1,6 @@
 -- The steps of reading an expression.
-use Rattle.std.proofs.Common.{◌≡◌, ◌++◌, ◌+◌, ◌≤◌, ◌<◌, ℕ, suc, List, [], ◌∷◌, codes, length, length-append, Option, refl, sym, ap, subst, arith}
-use Rattle.sig_base.specs.declared.span.Span.{Span}
-use Rattle.sig_tree.specs.declared.expr.Constant.{Constant}
-use Rattle.sig_tree.specs.declared.expr.UnOp.{UnOp}
-use Rattle.sig_tree.specs.declared.expr.UnOp.TheVariants.{Not, Neg, When, Clock}
-use Rattle.sig_tree.specs.declared.expr.BinOp.{BinOp}
-use Rattle.sig_tree.specs.Syntax.{Expression, Unary, Binary, Delay, Cell}
-use Rattle.sig_tree.specs.Terminals.{Leaf, leaf, mark, unary_terminal}
-use Rattle.sig_tree.specs.Levels.{default_level, primary_level, unary_level, operand_level, right_level}
-use Rattle.sig_tree.specs.Limits.{both_limits, operators}
-use Rattle.sig_tree.specs.Expressions.{IsInit, IsOptionalInit, IsOptionalOne, IsAtLevel}
-use Rattle.sig_parse.specs.declared.operator.Level.{Level}
-use Rattle.sig_parse.specs.declared.operator.Level.TheVariants.{Relation}
-use Rattle.sig_parse.specs.declared.operator.Infix.{Infix}
-use Rattle.sig_parse.specs.declared.operator.Infix.TheVariants.{Binary as BinaryOp, Cell as CellOp, Delay as DelayOp}
-use Rattle.sig_parse.specs.State.{State}
-use Rattle.sig_parse.specs.Reads.{Reads, Shorter, IsLeaf}
-use Rattle.sig_parse.specs.Operators.{level_number, first_level, infix_terminal, IsTighter, IsInfix, Completes}
+use Rattle.sig_parse.proofs.Common.{◌≡◌, ◌++◌, ◌+◌, ◌≤◌, ◌<◌, ℕ, suc, List, [], ◌∷◌, codes, length, length-append, Option, refl, sym, ap, subst, arith, Span, Constant, UnOp, Not, Neg, When, Clock, BinOp, Expression, Unary, Leaf, leaf, mark, unary_terminal, default_level, primary_level, unary_level, operand_level, right_level, both_limits, operators, IsInit, IsOptionalInit, IsOptionalOne, IsAtLevel, Level, Relation, Infix, Binary as BinaryOp, Cell as CellOp, Delay as DelayOp, State, Reads, Shorter, IsLeaf, level_number, first_level, infix_terminal, IsTighter, IsInfix, Completes}
+use Rattle.sig_tree.specs.Syntax.{Binary, Delay, Cell}
 use Rattle.sig_parse.proofs.Joins.{joined, viewed, after_leaf, no_longer}
 use Rattle.sig_parse.proofs.Standing.{looser, parenthesised, unary, completes_binary, completes_cell, completes_delay, completed}
 

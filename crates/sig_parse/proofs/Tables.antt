@@ -1,10 +1,5 @@
 -- The tables of keywords as those of reserved words and of marks.
-use Rattle.std.proofs.Common.{◌≡◌, ℕ, zero, suc, ◌<◌, List, [], ◌∷◌, length, map, get_or, refl, sym, ap, ◌∙◌, arith}
-use Rattle.sig_tree.specs.Terminals.{word, mark}
-use Rattle.sig_lex.specs.Tables.{words, marks}
-use Rattle.sig_parse.specs.declared.keyword.Keyword.{Keyword}
-use Rattle.sig_parse.specs.declared.keyword.TheConstants.{WORDS, MARKS}
-use Rattle.sig_parse.specs.Keywords.{terminal_of, spelling_of}
+use Rattle.sig_parse.proofs.Common.{◌≡◌, ℕ, zero, suc, ◌<◌, List, [], ◌∷◌, length, map, get_or, refl, sym, ap, ◌∙◌, arith, word, mark, words, marks, Keyword, WORDS, MARKS, terminal_of, spelling_of}
 
 -- an entry of a list that is mapped
 pub at_map : {A B : Type 0} (f : A → B) (xs : List A) (i : ℕ) (d : A) (e : B) → i < length xs → get_or (map f xs) i e ≡ f (get_or xs i d)

@@ -1,8 +1,6 @@
 -- What begins with the next leaves, where one of them does not tell.
-use Rattle.std.specs.Prelude.{◌≡◌, ◌⊎◌, ℕ, List, [], ◌∷◌, codes, MatchOption}
-use Rattle.std.specs.List.{slice_get}
-use Rattle.sig_tree.specs.Terminals.{Terminal, Leaf, mark}
-use Rattle.sig_tree.specs.Beginning.{StartsWith, BeginsName}
+use Rattle.std.specs.Prelude.{◌≡◌, ◌⊎◌, ◌∷◌}
+use Rattle.sig_parse.specs.Prelude.{ℕ, List, [], codes, MatchOption, slice_get, Terminal, Leaf, mark, StartsWith, BeginsName}
 
 -- the first leaf is in the set, and those behind it are so
 abbrev pub StartsThen : (Terminal → Type 0) → (List Leaf → Type 0) → List Leaf → Type 0

@@ -1,12 +1,5 @@
 -- What the parser reads of a process up to its body.
-use Rattle.std.specs.Prelude.{ℕ, List, codes}
-use Rattle.sig_tree.specs.declared.expr.Name.{Name}
-use Rattle.sig_tree.specs.Syntax.{Declared, Placement, Equations}
-use Rattle.sig_tree.specs.Terminals.{word, mark}
-use Rattle.sig_tree.specs.Limits.{both_limits}
-use Rattle.sig_tree.specs.Equations.{IsBody}
-use Rattle.sig_tree.specs.Processes.{AreParams, IsInterface, ArePragmas}
-use Rattle.sig_tree.specs.Continuing.{ContinuesOptional, ContinuesBody}
+use Rattle.sig_parse.specs.Prelude.{ℕ, List, codes, Name, Declared, Placement, Equations, word, mark, both_limits, IsBody, AreParams, IsInterface, ArePragmas, ContinuesOptional, ContinuesBody}
 use Rattle.sig_parse.specs.Declarations.{IsTitle}
 use Rattle.sig_parse.specs.State.{State}
 use Rattle.sig_parse.specs.Reads.{Covers}

@@ -1,13 +1,6 @@
 -- What the parser reads of declarations, bodies and processes, in the terms of the grammar.
-use Rattle.std.specs.Prelude.{◌≡◌, ◌++◌, ◌⊎◌, ℕ, suc, List, [], ◌∷◌, codes}
-use Rattle.sig_tree.specs.declared.process.Item.{Item}
-use Rattle.sig_tree.specs.Syntax.{Declared, ProcessModel}
-use Rattle.sig_tree.specs.Terminals.{Leaf, leaf, name_leaf, word, mark}
-use Rattle.sig_base.specs.declared.span.Span.{Span}
-use Rattle.sig_tree.specs.declared.expr.Name.{Name}
-use Rattle.sig_tree.specs.Limits.{both_limits, MayStandInside}
-use Rattle.sig_tree.specs.Repeated.{Between, Each}
-use Rattle.sig_tree.specs.Processes.{IsPlainItem, IsItem, IsGroup, IsParam, IsInterface, IsLocalGroup, IsModel}
+use Rattle.std.specs.Prelude.{◌≡◌, ◌++◌, ◌⊎◌, ◌∷◌}
+use Rattle.sig_parse.specs.Prelude.{ℕ, suc, List, [], codes, Item, Declared, ProcessModel, Leaf, leaf, name_leaf, word, mark, Span, Name, both_limits, MayStandInside, Between, Each, IsPlainItem, IsItem, IsGroup, IsParam, IsInterface, IsLocalGroup, IsModel}
 use Rattle.sig_parse.specs.declared.declaration.Declares.{Declares}
 use Rattle.sig_parse.specs.declared.declaration.Declares.TheVariants.{Parameters, Inputs, Signals}
 

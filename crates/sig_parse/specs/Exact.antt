@@ -1,11 +1,6 @@
 -- Which token of a text is refused, and why.
-use Rattle.std.specs.Prelude.{◌≡◌, ◌≢◌, ◌++◌, ◌⊎◌, List, [], ◌∷◌}
-use Rattle.sig_base.specs.declared.limits.TheConstants.{NESTING, OPERATORS}
-use Rattle.sig_base.specs.declared.span.Span.{Span}
-use Rattle.sig_tree.specs.Syntax.{ProcessModel}
-use Rattle.sig_tree.specs.Terminals.{Leaf}
-use Rattle.sig_tree.specs.Limits.{Limits, both_limits, nesting_limit, no_limits}
-use Rattle.sig_tree.specs.Grammar.{IsProgram, Begins}
+use Rattle.std.specs.Prelude.{◌≡◌, ◌≢◌, ◌++◌, ◌⊎◌, ◌∷◌}
+use Rattle.sig_parse.specs.Prelude.{List, [], NESTING, OPERATORS, Span, ProcessModel, Leaf, Limits, both_limits, nesting_limit, no_limits, IsProgram, Begins}
 use Rattle.sig_parse.specs.declared.parse_answer.ParseAnswer.{ParseAnswer}
 use Rattle.sig_parse.specs.declared.parse_answer.ParseAnswer.TheVariants.{Syntax, Nesting, OutOfMemory}
 use Rattle.sig_parse.specs.Refusals.{Cause, Wrong, TooDeep, TooMany, refused_within}

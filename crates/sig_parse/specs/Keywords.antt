@@ -1,6 +1,6 @@
 -- The reserved words and the marks of the parser, as terminals.
-use Rattle.std.specs.Prelude.{◌≡◌, ℕ, List, codes}
-use Rattle.sig_tree.specs.Terminals.{Terminal, word, mark}
+use Rattle.std.specs.Prelude.{◌≡◌}
+use Rattle.sig_parse.specs.Prelude.{ℕ, List, codes, Terminal, word, mark}
 use Rattle.sig_parse.specs.declared.keyword.Keyword.{Keyword}
 use Rattle.sig_parse.specs.declared.keyword.Keyword.TheVariants.{Process, Where, End, Integer, Boolean, Event, Init, When, Default, Cell, Not, And, Or, Xor, Modulo, True, False, Pragmas, BodyOpen, BodyClose, Bar, Open, Close, BraceOpen, BraceClose, Comma, Semicolon, Question, Exclamation, Define, SameClock, ClockPlus, ClockMeet, ClockLess, Clock, Dollar, Equal, NotEqual, Less, LessEqual, Greater, GreaterEqual, Plus, Minus, Times, Divide}
 

@@ -1,16 +1,7 @@
 -- The languages of the parts of the parser: leaves that are something of the grammar within limits, in
 -- an equation that has so many operators before them.
-use Rattle.std.specs.Prelude.{◌≡◌, ◌++◌, ◌+◌, ℕ, suc, List, [], ◌∷◌, length, codes, Option}
-use Rattle.sig_tree.specs.declared.expr.Constant.{Constant}
-use Rattle.sig_tree.specs.declared.expr.Name.{Name}
-use Rattle.sig_tree.specs.Syntax.{Expression, RightSide}
-use Rattle.sig_base.specs.declared.span.Span.{Span}
-use Rattle.sig_tree.specs.Terminals.{Terminal, Leaf, leaf, number, label, mark}
-use Rattle.sig_tree.specs.Limits.{Limits, MayHave, operators, right_operators}
-use Rattle.sig_tree.specs.Repeated.{Each, Listed}
-use Rattle.sig_tree.specs.Expressions.{IsConstant, IsInit, IsOptionalInit, IsOptionalOne, IsAtLevel, IsExpression}
-use Rattle.sig_tree.specs.Equations.{IsName, IsLeft, AreConstants, AreArguments, IsRight, IsDefinition, IsClockEquation}
-use Rattle.sig_tree.specs.Spines.{Step, WithOperand, WithCell, WithDelay, IsOperand, IsStep, AreSoMany}
+use Rattle.std.specs.Prelude.{◌≡◌, ◌++◌, ◌+◌, ◌∷◌}
+use Rattle.sig_parse.specs.Prelude.{ℕ, suc, List, [], length, codes, Option, Constant, Name, Expression, RightSide, Span, Terminal, Leaf, leaf, number, label, mark, Limits, MayHave, operators, right_operators, Each, Listed, IsConstant, IsInit, IsOptionalInit, IsOptionalOne, IsAtLevel, IsExpression, IsName, IsLeft, AreConstants, AreArguments, IsRight, IsDefinition, IsClockEquation, Step, WithOperand, WithCell, WithDelay, IsOperand, IsStep, AreSoMany}
 
 -- something of these, with its operators
 abbrev pub InOne : {A : Type 0} → (Limits → A → List Leaf → Type 0) → (A → ℕ) → (used : ℕ) → Limits → List Leaf → Type 0

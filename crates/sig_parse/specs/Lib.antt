@@ -1,3 +1,4 @@
+pub mod Prelude
 pub mod Ahead
 pub mod Beginnings
 pub mod Declarations

@@ -1,8 +1,6 @@
 -- The lines of the parser's answers, each without its newline.
-use Rattle.std.specs.Prelude.{ℕ, ◌++◌, ◌==◌, List, codes, if◌then◌else◌}
-use Rattle.std.specs.Fmt.{decimal}
-use Rattle.sig_base.specs.Lines.{refusal_at, refusal}
-use Rattle.sig_base.specs.declared.limits.TheConstants.{OPERATORS}
+use Rattle.std.specs.Prelude.{◌++◌, ◌==◌, if◌then◌else◌}
+use Rattle.sig_parse.specs.Prelude.{ℕ, List, codes, decimal, refusal_at, refusal, OPERATORS}
 use Rattle.sig_parse.specs.declared.parse_answer.ParseAnswer.{ParseAnswer}
 use Rattle.sig_parse.specs.declared.parse_answer.ParseAnswer.TheVariants.{Syntax, Nesting, OutOfMemory}
 

@@ -1,16 +1,6 @@
 -- The levels and the operators of expressions as the parser has them, in the terms of the grammar.
-use Rattle.std.specs.Prelude.{◌≡◌, ◌++◌, ◌+◌, ◌≤◌, ◌⊎◌, ℕ, suc, Bool, List, ◌∷◌, codes}
-use Rattle.sig_base.specs.declared.limits.TheConstants.{OPERATORS}
-use Rattle.sig_base.specs.declared.span.Span.{Span}
-use Rattle.sig_tree.specs.Terminals.{Terminal, Leaf, leaf, number, word, mark, truth_word, binary_terminal}
-use Rattle.sig_tree.specs.declared.expr.Constant.{Constant}
-use Rattle.sig_tree.specs.Beginning.{BeginsName, StartsWith}
-use Rattle.sig_tree.specs.Continuing.{IsInfix as StandsBehind, ContinuesNothing, ContinuesDelay}
-use Rattle.sig_tree.specs.Spines.{Step, IsStep}
-use Rattle.sig_tree.specs.Syntax.{Expression}
-use Rattle.sig_tree.specs.Levels.{default_level, mixed_level, clock_level, or_level, and_level, not_level, relation_level, sum_level, product_level, minus_level, delay_level, primary_level, left_level, binary_level}
-use Rattle.sig_tree.specs.Limits.{both_limits, operators}
-use Rattle.sig_tree.specs.Expressions.{IsInit, IsAtLevel}
+use Rattle.std.specs.Prelude.{◌≡◌, ◌++◌, ◌+◌, ◌≤◌, ◌⊎◌, ◌∷◌}
+use Rattle.sig_parse.specs.Prelude.{ℕ, suc, Bool, List, codes, OPERATORS, Span, Terminal, Leaf, leaf, number, word, mark, truth_word, binary_terminal, Constant, BeginsName, StartsWith, IsInfix as StandsBehind, ContinuesNothing, ContinuesDelay, Step, IsStep, Expression, default_level, mixed_level, clock_level, or_level, and_level, not_level, relation_level, sum_level, product_level, minus_level, delay_level, primary_level, left_level, binary_level, both_limits, operators, IsInit, IsAtLevel}
 use Rattle.sig_parse.specs.declared.operator.Level.{Level}
 use Rattle.sig_parse.specs.declared.operator.Level.TheVariants.{Default, Mixed, Clock, Or, And, Not, Relation, Sum, Product, Minus, Delay, Primary}
 use Rattle.sig_parse.specs.declared.operator.Infix.{Infix}

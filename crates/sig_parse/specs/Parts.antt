@@ -1,17 +1,6 @@
 -- Languages of declarations, pragmas, processes and programs.
-use Rattle.std.specs.Prelude.{◌≡◌, ◌≢◌, ◌++◌, ◌⊎◌, ℕ, suc, List, [], ◌∷◌, codes}
-use Rattle.sig_base.specs.declared.span.Span.{Span}
-use Rattle.sig_base.specs.declared.ids.Kind.{Kind}
-use Rattle.sig_base.specs.declared.ids.Kind.TheVariants.{Event}
-use Rattle.sig_tree.specs.declared.expr.Name.{Name}
-use Rattle.sig_tree.specs.Syntax.{Declared, Equations, ProcessModel, ProcessModels}
-use Rattle.sig_tree.specs.Terminals.{Terminal, Leaf, leaf, kind_word, word, mark}
-use Rattle.sig_tree.specs.Limits.{Limits, MayStandInside}
-use Rattle.sig_tree.specs.Repeated.{Between, Each, Separated, Listed}
-use Rattle.sig_tree.specs.Equations.{IsName, IsBody}
-use Rattle.sig_tree.specs.Processes.{AreParams, AreGroups, IsPlacement, ArePragmas, IsLocalGroup, IsModel, AreLocals, IsWhere}
-use Rattle.sig_tree.specs.Grammar.{IsProgram}
-use Rattle.sig_tree.specs.Continuing.{ContinuesNothing, ContinuesInit, ContinuesList}
+use Rattle.std.specs.Prelude.{◌≡◌, ◌≢◌, ◌++◌, ◌⊎◌, ◌∷◌}
+use Rattle.sig_parse.specs.Prelude.{ℕ, suc, List, [], codes, Span, Kind, Event, Name, Declared, Equations, ProcessModel, ProcessModels, Terminal, Leaf, leaf, kind_word, word, mark, Limits, MayStandInside, Between, Each, Separated, Listed, IsName, IsBody, AreParams, AreGroups, IsPlacement, ArePragmas, IsLocalGroup, IsModel, AreLocals, IsWhere, IsProgram, ContinuesNothing, ContinuesInit, ContinuesList}
 use Rattle.sig_parse.specs.declared.declaration.Declares.{Declares}
 use Rattle.sig_parse.specs.declared.declaration.Declares.TheVariants.{Parameters, Inputs, Signals}
 use Rattle.sig_parse.specs.Declarations.{IsItemOf, IsGroupOf, IsTitle, HasSides}

@@ -1,8 +1,6 @@
 -- What a part of the parser reads.
-use Rattle.std.specs.Prelude.{◌≡◌, ◌++◌, ◌+◌, ◌≤◌, ◌<◌, ℕ, List, [], ◌∷◌, length}
-use Rattle.sig_base.specs.declared.limits.TheConstants.{OPERATORS}
-use Rattle.sig_base.specs.declared.span.Span.{Span}
-use Rattle.sig_tree.specs.Terminals.{Terminal, Leaf, leaf}
+use Rattle.std.specs.Prelude.{◌≡◌, ◌++◌, ◌+◌, ◌≤◌, ◌<◌, ◌∷◌}
+use Rattle.sig_parse.specs.Prelude.{ℕ, List, [], length, OPERATORS, Span, Terminal, Leaf, leaf}
 use Rattle.sig_parse.specs.State.{State}
 
 -- The leaves that were read are in a language, with so many operators, of which there are not too many.

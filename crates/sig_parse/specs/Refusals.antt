@@ -1,8 +1,6 @@
 -- Why a part of the parser refuses a token, in the terms of the grammar.
-use Rattle.std.specs.Prelude.{◌≡◌, ◌≢◌, ◌++◌, List, [], ◌∷◌}
-use Rattle.sig_tree.specs.Terminals.{Terminal, Leaf}
-use Rattle.sig_tree.specs.Limits.{Limits, both_limits, nesting_limit, no_limits}
-use Rattle.sig_tree.specs.Readings.{StopsBefore}
+use Rattle.std.specs.Prelude.{◌≡◌, ◌≢◌, ◌++◌, ◌∷◌}
+use Rattle.sig_parse.specs.Prelude.{List, [], Terminal, Leaf, Limits, both_limits, nesting_limit, no_limits, StopsBefore}
 use Rattle.sig_parse.specs.declared.refusal.Refusal.{Refusal}
 use Rattle.sig_parse.specs.declared.refusal.Refusal.TheVariants.{Syntax, Nesting, Operators, OutOfMemory}
 use Rattle.sig_parse.specs.State.{State}

@@ -1,11 +1,6 @@
 -- What a refusal of a text says.
-use Rattle.std.specs.Prelude.{◌≡◌, ◌++◌, ◌-◌, List, [], ◌∷◌, length, slice_get, option_map, unwrap_or}
-use Rattle.sig_base.specs.declared.limits.TheConstants.{NESTING, OPERATORS}
-use Rattle.sig_base.specs.declared.span.Span.{Span}
-use Rattle.sig_lex.specs.declared.token.Token.{Token}
-use Rattle.sig_tree.specs.Terminals.{Leaf}
-use Rattle.sig_tree.specs.Limits.{both_limits}
-use Rattle.sig_tree.specs.Grammar.{Begins}
+use Rattle.std.specs.Prelude.{◌≡◌, ◌++◌, ◌-◌, ◌∷◌}
+use Rattle.sig_parse.specs.Prelude.{List, [], length, slice_get, option_map, unwrap_or, NESTING, OPERATORS, Span, Token, Leaf, both_limits, Begins}
 use Rattle.sig_parse.specs.declared.refusal.Refusal.{Refusal}
 use Rattle.sig_parse.specs.declared.refusal.Refusal.TheVariants.{Syntax as RefusalSyntax, Nesting as RefusalNesting, Operators, OutOfMemory as RefusalOutOfMemory}
 use Rattle.sig_parse.specs.declared.parse_answer.ParseAnswer.{ParseAnswer}

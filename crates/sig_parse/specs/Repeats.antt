@@ -1,8 +1,6 @@
 -- Parts that are read one after another, with a separator between them.
-use Rattle.std.specs.Prelude.{◌≡◌, ◌⊎◌, List, [], ◌∷◌}
-use Rattle.sig_base.specs.declared.span.Span.{Span}
-use Rattle.sig_tree.specs.Terminals.{Terminal}
-use Rattle.sig_tree.specs.Readings.{StopsBefore}
+use Rattle.std.specs.Prelude.{◌≡◌, ◌⊎◌, ◌∷◌}
+use Rattle.sig_parse.specs.Prelude.{List, [], Span, Terminal, StopsBefore}
 use Rattle.sig_parse.specs.declared.refusal.Refusal.{Refusal}
 use Rattle.sig_parse.specs.State.{State}
 use Rattle.sig_parse.specs.Reads.{Reads, IsLeaf}

@@ -1,9 +1,6 @@
 -- What a part of the parser has passed when it has read something.
-use Rattle.std.specs.Prelude.{◌≡◌, ◌++◌, List}
-use Rattle.sig_tree.specs.Terminals.{Terminal, Leaf}
-use Rattle.sig_tree.specs.Limits.{Limits, no_limits}
-use Rattle.sig_tree.specs.Readings.{StopsBefore}
-use Rattle.sig_tree.specs.Continuing.{ContinuesNothing}
+use Rattle.std.specs.Prelude.{◌≡◌, ◌++◌}
+use Rattle.sig_parse.specs.Prelude.{List, Terminal, Leaf, Limits, no_limits, StopsBefore, ContinuesNothing}
 use Rattle.sig_parse.specs.Refusals.{Cause, Agrees, Refuses}
 use Rattle.sig_parse.specs.Languages.{InLeaf}
 

@@ -1,7 +1,7 @@
 //! What begins with the next tokens, where one of them does not tell.
 
-ghost use Rattle.std.specs.Prelude.{◌≡◌, map, MatchBool};
-ghost use Rattle.sig_tree.specs.Beginning.{BeginsName};
+ghost use Rattle.std.specs.Prelude.{◌≡◌};
+ghost use Rattle.sig_parse.specs.Prelude.{map, MatchBool, BeginsName};
 ghost use Rattle.sig_parse.specs.Ahead.{StandsAt, BeginsCall, BeginsDefinition};
 ghost use Rattle.sig_parse.specs.Keywords.{terminal_of};
 ghost use Rattle.sig_parse.specs.Seen.{leaf_seen};

@@ -1,14 +1,7 @@
 //! Definitions, clock equations and bodies.
 
-ghost use Rattle.std.specs.Prelude.{◌≡◌, codes, map, IfOk, OnOk, IfErr};
-ghost use Rattle.sig_tree.specs.Syntax.{expression_of, equations_of};
-ghost use Rattle.sig_tree.specs.Terminals.{mark};
-ghost use Rattle.sig_tree.specs.Limits.{both_limits};
-ghost use Rattle.sig_tree.specs.Repeated.{Listed};
-ghost use Rattle.sig_tree.specs.Equations.{IsClockEquation, IsBody};
-ghost use Rattle.sig_tree.specs.Beginning.{StartsWith};
-ghost use Rattle.sig_tree.specs.Readings.{StopsBefore};
-ghost use Rattle.sig_tree.specs.Continuing.{ContinuesNothing, ContinuesDefinition, ContinuesClockEquation, ContinuesBody};
+ghost use Rattle.std.specs.Prelude.{◌≡◌};
+ghost use Rattle.sig_parse.specs.Prelude.{codes, map, IfOk, OnOk, IfErr, expression_of, equations_of, mark, both_limits, Listed, IsClockEquation, IsBody, StartsWith, StopsBefore, ContinuesNothing, ContinuesDefinition, ContinuesClockEquation, ContinuesBody};
 ghost use Rattle.sig_parse.specs.Languages.{InDefinition, InClockEquation};
 ghost use Rattle.sig_parse.specs.Parts.{InBody, InBodies};
 ghost use Rattle.sig_parse.specs.Reads.{Covers};

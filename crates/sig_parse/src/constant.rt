@@ -1,11 +1,9 @@
 //! Constants and inits.
 
-ghost use Rattle.std.specs.Prelude.{◌∷◌, codes, IfOk, OnOk, ◌≡◌, IfErr, OnErr};
-ghost use Rattle.sig_tree.specs.Terminals.{leaf, mark};
-ghost use Rattle.sig_tree.specs.Expressions.{IsConstant, IsInit, IsOptionalInit};
+ghost use Rattle.std.specs.Prelude.{◌∷◌, ◌≡◌};
+ghost use Rattle.sig_parse.specs.Prelude.{codes, IfOk, OnOk, IfErr, OnErr, leaf, mark, IsConstant, IsInit, IsOptionalInit, ContinuesNothing, ContinuesInit};
 ghost use Rattle.sig_parse.specs.Reads.{Reads, Shorter};
 ghost use Rattle.sig_parse.specs.Refusals.{IsOfText};
-ghost use Rattle.sig_tree.specs.Continuing.{ContinuesNothing, ContinuesInit};
 ghost use Rattle.sig_parse.specs.Languages.{InNumber, InConstant, InInit, InOptionalInit};
 ghost use Rattle.sig_parse.specs.Refusals.{RefusedBy};
 ghost use Rattle.sig_parse.specs.Settling.{Settles};

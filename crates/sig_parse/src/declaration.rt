@@ -1,12 +1,7 @@
 //! Declarations.
 
-ghost use Rattle.std.specs.Prelude.{◌≡◌, ◌≢◌, codes, map, IfOk, OnOk, IfErr, OnErr};
-ghost use Rattle.sig_base.specs.declared.ids.Kind.TheVariants.{Event};
-ghost use Rattle.sig_tree.specs.Syntax.{declared_of};
-ghost use Rattle.sig_tree.specs.Terminals.{kind_word, mark};
-ghost use Rattle.sig_tree.specs.Repeated.{Separated};
-ghost use Rattle.sig_tree.specs.Processes.{AreGroups};
-ghost use Rattle.sig_tree.specs.Continuing.{ContinuesNothing};
+ghost use Rattle.std.specs.Prelude.{◌≡◌, ◌≢◌};
+ghost use Rattle.sig_parse.specs.Prelude.{codes, map, IfOk, OnOk, IfErr, OnErr, Event, declared_of, kind_word, mark, Separated, AreGroups, ContinuesNothing};
 ghost use Rattle.sig_parse.specs.Declarations.{IsItemOf, IsGroupOf};
 ghost use Rattle.sig_parse.specs.Keywords.{terminal_of};
 ghost use Rattle.sig_parse.specs.Parts.{InKind, InItem, InItems, InGroup, InGroups, ContinuesItem, ContinuesItems, EndsGroups};

@@ -1,17 +1,7 @@
 //! Expressions, by the levels of their operators.
 
-ghost use Rattle.std.specs.Prelude.{◌≡◌, ◌<◌, ◌≤◌, ◌⊎◌, ◌∷◌, ℕ, suc, codes, IfOk, OnOk, MatchOption, MatchBool, IfSome, IfErr, OnErr};
-ghost use Rattle.sig_tree.specs.declared.expr.UnOp.{UnOp};
-ghost use Rattle.sig_tree.specs.declared.expr.Constant.{Constant};
-ghost use Rattle.sig_tree.specs.Syntax.{expression_of, Binary, Cell};
-ghost use Rattle.sig_tree.specs.Terminals.{leaf, mark, unary_terminal};
-ghost use Rattle.sig_tree.specs.Levels.{default_level, mixed_level, relation_level, delay_level, primary_level, unary_level};
-ghost use Rattle.sig_tree.specs.Limits.{both_limits, operators};
-ghost use Rattle.sig_tree.specs.Expressions.{IsInit, IsAtLevel, IsExpression};
-ghost use Rattle.sig_tree.specs.Readings.{StopsBefore};
-ghost use Rattle.sig_tree.specs.Beginning.{StartsWith};
-ghost use Rattle.sig_tree.specs.Continuing.{ContinuesDelay, ContinuesExpression};
-ghost use Rattle.sig_tree.specs.Spines.{IsAtom, IsOperand};
+ghost use Rattle.std.specs.Prelude.{◌≡◌, ◌<◌, ◌≤◌, ◌⊎◌, ◌∷◌};
+ghost use Rattle.sig_parse.specs.Prelude.{ℕ, suc, codes, IfOk, OnOk, MatchOption, MatchBool, IfSome, IfErr, OnErr, UnOp, Constant, expression_of, Binary, Cell, leaf, mark, unary_terminal, default_level, mixed_level, relation_level, delay_level, primary_level, unary_level, both_limits, operators, IsInit, IsAtLevel, IsExpression, StopsBefore, StartsWith, ContinuesDelay, ContinuesExpression, IsAtom, IsOperand};
 ghost use Rattle.sig_parse.specs.Operators.{level_number, first_level, infix_terminal, infix_level, IsOperator, IsOperatorOf, IsInfix, ContinuesStep, BeginsAtom, Completes, ReadsStep, RefusesInit};
 ghost use Rattle.sig_parse.specs.Reads.{Reads, Shorter, IsLeaf};
 ghost use Rattle.sig_parse.specs.Refusals.{IsOfText};

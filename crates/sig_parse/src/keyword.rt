@@ -1,8 +1,7 @@
 //! The reserved words and the marks.
 
-ghost use Rattle.std.specs.Prelude.{◌≡◌, ◌↔◌, IsTrue};
-ghost use Rattle.sig_lex.specs.Tables.{IsWord, IsMark};
-ghost use Rattle.sig_tree.specs.Terminals.{word, mark};
+ghost use Rattle.std.specs.Prelude.{◌≡◌, ◌↔◌};
+ghost use Rattle.sig_parse.specs.Prelude.{IsTrue, IsWord, IsMark, word, mark};
 ghost use Rattle.sig_parse.specs.Keywords.{terminal_of, spelling_of};
 
 /// A reserved word or a mark.

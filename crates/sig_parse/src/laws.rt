@@ -1,10 +1,7 @@
 //! Laws of refusals.
 
-ghost use Rattle.std.specs.Prelude.{◌≡◌, List};
-ghost use Rattle.sig_base.specs.declared.span.Span.{Span};
-ghost use Rattle.sig_tree.specs.Grammar.{HasTree};
-ghost use Rattle.sig_tree.specs.Syntax.{ProcessModel};
-ghost use Rattle.sig_tree.specs.Terminals.{Leaf};
+ghost use Rattle.std.specs.Prelude.{◌≡◌};
+ghost use Rattle.sig_parse.specs.Prelude.{List, Span, HasTree, ProcessModel, Leaf};
 ghost use Rattle.sig_parse.specs.Exact.{IsFirstRefusal};
 ghost use Rattle.sig_parse.specs.declared.parse_answer.ParseAnswer.{ParseAnswer};
 

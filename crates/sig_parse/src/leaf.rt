@@ -1,11 +1,7 @@
 //! The leaves of a text: its tokens as terminals.
 
-ghost use Rattle.std.specs.Prelude.{◌≡◌, ◌≢◌, IfOk, map, option_map};
-ghost use Rattle.sig_lex.specs.Lexemes.{Spells, text_of};
-ghost use Rattle.sig_lex.specs.Slices.{StandsIn};
-ghost use Rattle.sig_lex.specs.Tokens.{AreTokens};
-ghost use Rattle.sig_lex.specs.declared.token.TokenKind.TheVariants.{Last};
-ghost use Rattle.sig_tree.specs.Leaves.{terminal_of, leaf_of, leaves_of};
+ghost use Rattle.std.specs.Prelude.{◌≡◌, ◌≢◌};
+ghost use Rattle.sig_parse.specs.Prelude.{IfOk, map, option_map, Spells, text_of, StandsIn, AreTokens, Last, terminal_of, leaf_of, leaves_of};
 ghost use Rattle.sig_parse.specs.Seen.{terminal_seen, leaf_seen};
 
 use crate::keyword::{Keyword, reserved, sign};

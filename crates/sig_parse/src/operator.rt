@@ -1,9 +1,7 @@
 //! The levels and the operators of expressions.
 
-ghost use Rattle.std.specs.Prelude.{◌≡◌, IfSome, IfNone, MatchOption};
-ghost use Rattle.sig_tree.specs.declared.expr.UnOp.{UnOp};
-ghost use Rattle.sig_tree.specs.Levels.{unary_level, operand_level, right_level};
-ghost use Rattle.sig_tree.specs.Terminals.{unary_terminal};
+ghost use Rattle.std.specs.Prelude.{◌≡◌};
+ghost use Rattle.sig_parse.specs.Prelude.{IfSome, IfNone, MatchOption, UnOp, unary_level, operand_level, right_level, unary_terminal};
 ghost use Rattle.sig_parse.specs.declared.operator.Infix.{Infix};
 ghost use Rattle.sig_parse.specs.Keywords.{terminal_of};
 ghost use Rattle.sig_parse.specs.Operators.{level_number, first_level, infix_terminal, infix_level, infix_left, IsTighter};

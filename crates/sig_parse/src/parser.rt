@@ -1,12 +1,7 @@
 //! Where the parser stands in the leaves of a text.
 
-ghost use Rattle.std.specs.Prelude.{◌≡◌, ◌≤◌, ◌<◌, ℕ, List, suc, true, [], ◌∷◌, codes, map, IfOk, IfErr, OnOk, MatchOption, MatchBool, OnErr, length};
-ghost use Rattle.sig_tree.specs.Terminals.{name, number, label};
-ghost use Rattle.sig_tree.specs.Readings.{StopsBefore};
-ghost use Rattle.sig_tree.specs.Beginning.{StartsWith, BeginsName};
-ghost use Rattle.sig_tree.specs.Continuing.{ContinuesNothing};
-ghost use Rattle.sig_tree.specs.Equations.{IsName};
-ghost use Rattle.sig_tree.specs.Expressions.{IsOptionalOne};
+ghost use Rattle.std.specs.Prelude.{◌≡◌, ◌≤◌, ◌<◌, ◌∷◌};
+ghost use Rattle.sig_parse.specs.Prelude.{ℕ, List, suc, true, [], codes, map, IfOk, IfErr, OnOk, MatchOption, MatchBool, OnErr, length, name, number, label, StopsBefore, StartsWith, BeginsName, ContinuesNothing, IsName, IsOptionalOne};
 ghost use Rattle.sig_parse.specs.Keywords.{terminal_of, IsKeyword};
 ghost use Rattle.sig_parse.specs.Languages.{InLeaf, InLabel, InName, InOptionalOne};
 ghost use Rattle.sig_parse.specs.Refusals.{RefusedBy};

@@ -1,12 +1,6 @@
 //! Pragmas.
 
-ghost use Rattle.std.specs.Prelude.{codes, map, IfOk, OnOk, IfErr};
-ghost use Rattle.sig_tree.specs.Syntax.{placement_of};
-ghost use Rattle.sig_tree.specs.Terminals.{mark, word};
-ghost use Rattle.sig_tree.specs.Repeated.{Between, Each, Separated};
-ghost use Rattle.sig_tree.specs.Equations.{IsName};
-ghost use Rattle.sig_tree.specs.Processes.{IsPlacement, ArePragmas};
-ghost use Rattle.sig_tree.specs.Continuing.{ContinuesNothing, ContinuesOptional};
+ghost use Rattle.sig_parse.specs.Prelude.{codes, map, IfOk, OnOk, IfErr, placement_of, mark, word, Between, Each, Separated, IsName, IsPlacement, ArePragmas, ContinuesNothing, ContinuesOptional};
 ghost use Rattle.sig_parse.specs.Parts.{InBraced, InPragma, InPragmaList, InPragmas};
 ghost use Rattle.sig_parse.specs.Reads.{Reads, Shorter};
 ghost use Rattle.sig_parse.specs.Refusals.{RefusedBy};

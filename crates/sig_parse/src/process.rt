@@ -1,15 +1,8 @@
 //! Processes.
 
-ghost use Rattle.std.specs.Prelude.{◌≡◌, ◌∷◌, [], codes, map, IfOk, OnOk, IfErr};
-ghost use Rattle.sig_base.specs.declared.span.Span.{Span};
-ghost use Rattle.sig_tree.specs.declared.process.Process.{roll-Process};
-ghost use Rattle.sig_tree.specs.Syntax.{declared_of, equations_of, model_of, placement_of};
-ghost use Rattle.sig_tree.specs.Terminals.{leaf, name_leaf, word, mark};
-ghost use Rattle.sig_tree.specs.Limits.{both_limits};
-ghost use Rattle.sig_tree.specs.Processes.{AreParams, IsInterface, IsLocalGroup, IsModel};
+ghost use Rattle.std.specs.Prelude.{◌≡◌, ◌∷◌};
+ghost use Rattle.sig_parse.specs.Prelude.{[], codes, map, IfOk, OnOk, IfErr, Span, roll-Process, declared_of, equations_of, model_of, placement_of, leaf, name_leaf, word, mark, both_limits, AreParams, IsInterface, IsLocalGroup, IsModel, StartsWith, BeginsProcess, ContinuesNothing, ContinuesOptional};
 ghost use Rattle.sig_parse.specs.Declarations.{IsTitle, HasSides, HasDeclared, HasBehindWhere, AreDeclared, AreBehindWhere, IsInnerProcess};
-ghost use Rattle.sig_tree.specs.Beginning.{StartsWith, BeginsProcess};
-ghost use Rattle.sig_tree.specs.Continuing.{ContinuesNothing, ContinuesOptional};
 ghost use Rattle.sig_parse.specs.Parts.{InParams, InInterface, InTitle, InLocalGroup, InProcess, InDeclared, InWhere};
 ghost use Rattle.sig_parse.specs.Beginnings.{ReadsBeginning};
 ghost use Rattle.sig_parse.specs.Reads.{Reads, Covers, Shorter};

@@ -1,16 +1,12 @@
 //! Programs.
 
-ghost use Rattle.std.specs.Prelude.{◌≡◌, ◌⊎◌, List, map, IfOk, IfErr};
-ghost use Rattle.sig_base.specs.declared.span.Span.{Span};
-ghost use Rattle.sig_tree.specs.Syntax.{ProcessModel, model_of, program_of};
-ghost use Rattle.sig_tree.specs.Leaves.{leaves_of};
-ghost use Rattle.sig_tree.specs.Grammar.{HasTree};
+ghost use Rattle.std.specs.Prelude.{◌≡◌, ◌⊎◌};
+ghost use Rattle.sig_parse.specs.Prelude.{List, map, IfOk, IfErr, Span, ProcessModel, model_of, program_of, leaves_of, HasTree, AreTokens};
 ghost use Rattle.sig_parse.specs.Refused.{end_of, place_of, answer_of, IsRefusal};
 ghost use Rattle.sig_parse.specs.Refusals.{Cause, RefusedBy};
 ghost use Rattle.sig_parse.specs.Exact.{IsRefused, IsAnswerOf, answer_for};
 ghost use Rattle.sig_parse.specs.Parts.{InProgram, IsAnything};
 ghost use Rattle.sig_parse.specs.Refusals.{IsOfText};
-ghost use Rattle.sig_lex.specs.Tokens.{AreTokens};
 
 use crate::leaf::into_leaves;
 use crate::parse_answer::ParseAnswer;

@@ -1,14 +1,7 @@
 //! The sides of definitions.
 
-ghost use Rattle.std.specs.Prelude.{◌≤◌, codes, map, sum_by, IfOk, OnOk, IfErr};
-ghost use Rattle.sig_tree.specs.Syntax.{expression_of, right_side_of};
-ghost use Rattle.sig_tree.specs.Terminals.{mark};
-ghost use Rattle.sig_tree.specs.Limits.{both_limits, operators, right_operators};
-ghost use Rattle.sig_tree.specs.Repeated.{Separated, Listed};
-ghost use Rattle.sig_tree.specs.Expressions.{IsConstant, IsExpression};
-ghost use Rattle.sig_tree.specs.Equations.{IsName, IsLeft, AreConstants, AreArguments, IsRight};
-ghost use Rattle.sig_tree.specs.Readings.{StopsBefore};
-ghost use Rattle.sig_tree.specs.Continuing.{ContinuesNothing, ContinuesOptional, ContinuesList, ContinuesDefinition};
+ghost use Rattle.std.specs.Prelude.{◌≤◌};
+ghost use Rattle.sig_parse.specs.Prelude.{codes, map, sum_by, IfOk, OnOk, IfErr, expression_of, right_side_of, mark, both_limits, operators, right_operators, Separated, Listed, IsConstant, IsExpression, IsName, IsLeft, AreConstants, AreArguments, IsRight, StopsBefore, ContinuesNothing, ContinuesOptional, ContinuesList, ContinuesDefinition};
 ghost use Rattle.sig_parse.specs.Ahead.{BeginsCall};
 ghost use Rattle.sig_parse.specs.Languages.{InName, InConstant, InLeft, InConstantList, InConstants, InArgumentList, InArguments, InRight};
 ghost use Rattle.sig_parse.specs.Parts.{InNames};

@@ -1,8 +1,8 @@
 -- What the proofs of this crate cite of std, of the crates below and of its own specs, passed on from one place.
 pub use Rattle.std.proofs.Common.{All, Bool, Contains, Err, IfErr, IfSome, IsErrAnd, List, None, Ok, OnOk, Option, Result, Some, [], ap, append-nil, append_assoc, arith, cond, count_by, eqb-true, ext_get_or, false, filter_map, flat_map, fold, get_or, get_or-take, if◌then◌else◌, inl, inr, is_some, length, length-take-le, ltb-true, map, max, mul-le-mul_left, mul-le-mul_right, nat_lt, not, refl, slice_get, slice_index, subst, suc, sym, take, take_all, true, zero, ℕ, ℤ, ◌&&◌, ◌*◌, ◌++◌, ◌+◌, ◌-◌, ◌<◌, ◌==◌, ◌^◌, ◌||◌, ◌∙◌, ◌∷◌, ◌≡◌, ◌≢◌, ◌≤◌, ◌⊎◌}
 pub use Rattle.std.proofs.Math.Nat.{le-max_left, le-max_right}
-pub use Rattle.std.proofs.lemmas.List.{get_or_push, map-append, take_more}
-pub use Rattle.std.proofs.lemmas.List.Elements.{All-append, All-cons, All-contains, All-from_get_or, All-head, All-map, All-nil, All-push, All-tail, All-weaker, Contains-append_left, Contains-append_right}
+pub use Rattle.std.proofs.lemmas.List.{map-append, take_more}
+pub use Rattle.std.proofs.lemmas.List.Elements.{All-append, All-cons, All-contains, All-from_get_or, All-head, All-map, All-nil, All-push, All-tail, All-weaker, Contains-append_right}
 pub use Rattle.std.proofs.lemmas.List.FromFn.{get_or-range_with_len, length-range_with_len, map-range_with_len_more}
 pub use Rattle.std.proofs.lemmas.Result.{IfOk-weaker, on_ok_weaker}
 pub use Rattle.std.specs.List.{cons_option, enumerate_from}
@@ -16,7 +16,7 @@ pub use Rattle.sig_dd.specs.declared.node.Node.{Node}
 pub use Rattle.sig_dd.specs.declared.node.Ref.{Ref}
 pub use Rattle.sig_dd.proofs.Adding.{Share-then}
 pub use Rattle.sig_dd.proofs.CallerLemmas.{Agree-kept, Depends-of_one, Depends-of_two, Holds-kept, Keeps-trans, Spans-kept, Spans-of, one_reference}
-pub use Rattle.sig_dd.proofs.Common.{Agree, Asks, Depends, Holds, IsIdle, IsRefOf, IsRefused, IsStore, Keeps, Share, Spans, StoreView, allowance, cases_eq, cases_lt, diagram, eqb-false, get_or_append_left, length-map, test}
+pub use Rattle.sig_dd.proofs.Common.{Agree, Asks, Contains-append_left, Depends, Holds, IsIdle, IsRefOf, IsRefused, IsStore, Keeps, Share, Spans, StoreView, allowance, cases_eq, cases_lt, diagram, eqb-false, get_or_append_left, get_or_push, length-map, test}
 pub use Rattle.sig_dd.proofs.Dependence.{allowance_rises, ref_depends}
 pub use Rattle.sig_dd.proofs.Trees.{truth_of-with_other}
 pub use Rattle.sig_dd.proofs.Walks.{asked_agree, asks_depends, asks_no_idle}

@@ -1,14 +1,7 @@
 -- Which kernels are accepted, and why one is refused: the rules of acceptance that speak of the kernel, in the order in
 -- which they are tried.
-use Rattle.std.specs.Prelude.{◌≡◌, ◌≤◌, ℕ, List, length}
-use Rattle.sig_base.specs.declared.ids.SigId.{SigId}
-use Rattle.sig_base.specs.declared.limits.TheConstants.{LINKS}
-use Rattle.sig_clock.specs.ClockFunctions.{IsClockFunction}
-use Rattle.sig_clock.specs.ClockRefusals.{HasClocks, IsFirstPinned, IsMissingRoot, IsUnsolved}
-use Rattle.sig_clock.specs.Clocks.{AreInOrder}
-use Rattle.sig_clock.specs.Conditions.{signal_id}
-use Rattle.sig_clock.specs.Layers.{IsDead, IsSignal}
-use Rattle.sig_kernel.specs.declared.kernel.Kernel.{Kernel}
+use Rattle.std.specs.Prelude.{◌≡◌, ◌≤◌}
+use Rattle.sig_plan.specs.Prelude.{ℕ, List, length, SigId, LINKS, IsClockFunction, HasClocks, IsFirstPinned, IsMissingRoot, IsUnsolved, AreInOrder, signal_id, IsDead, IsSignal, Kernel}
 use Rattle.sig_plan.specs.Operations.{Operation, Presence, operations_of}
 use Rattle.sig_plan.specs.Order.{HasNoCycle, IsCycle}
 use Rattle.sig_plan.specs.Parts.{AreParts, NeedsTooManyLinks, PartsView}

@@ -1,8 +1,6 @@
 -- Codes that differ in the references of their guards alone.
-use Rattle.std.specs.Prelude.{◌≡◌, ℕ, List, length, slice_get, Some}
-use Rattle.sig_dd.specs.Diagram.{Agree}
-use Rattle.sig_dd.specs.Nodes.{test}
-use Rattle.sig_dd.specs.declared.node.Node.{Node}
+use Rattle.std.specs.Prelude.{◌≡◌}
+use Rattle.sig_plan.specs.Prelude.{ℕ, List, length, slice_get, Some, Agree, test, Node}
 use Rattle.sig_plan.specs.Codes.{CodeView}
 use Rattle.sig_plan.specs.declared.code.Slot.{Slot}
 

@@ -1,7 +1,6 @@
 -- The refusals of a store as refusals of operations.
 use Rattle.std.specs.Prelude.{◌≡◌}
-use Rattle.sig_dd.specs.declared.answer.DdAnswer.{DdAnswer}
-use Rattle.sig_dd.specs.declared.answer.DdAnswer.TheVariants.{Budget as StoreBudget, OutOfMemory as NoMemory}
+use Rattle.sig_plan.specs.Prelude.{DdAnswer, Budget as StoreBudget, OutOfMemory as NoMemory}
 use Rattle.sig_plan.specs.declared.answer.PlanAnswer.{PlanAnswer}
 use Rattle.sig_plan.specs.declared.answer.PlanAnswer.TheVariants.{Budget, OutOfMemory}
 

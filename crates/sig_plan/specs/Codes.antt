@@ -1,10 +1,6 @@
 -- The code of each actor: its steps with their positions, and the slots of their guards.
-use Rattle.std.specs.Prelude.{◌≡◌, ◌+◌, ◌*◌, ◌<◌, ◌==◌, ℕ, Bool, true, false, List, [], ◌∷◌, ◌++◌, length, map, flat_map, slice_get, Option, None, Some, if◌then◌else◌}
-use Rattle.std.specs.List.{enumerate_from, filter_map}
-use Rattle.sig_base.specs.declared.ids.OpId.{OpId}
-use Rattle.sig_base.specs.declared.ids.SigId.{SigId}
-use Rattle.sig_dd.specs.Nodes.{IsRefOf, Implies}
-use Rattle.sig_dd.specs.declared.node.Node.{Node}
+use Rattle.std.specs.Prelude.{◌≡◌, ◌+◌, ◌*◌, ◌<◌, ◌==◌, ◌∷◌, ◌++◌, if◌then◌else◌}
+use Rattle.sig_plan.specs.Prelude.{ℕ, Bool, true, false, List, [], length, map, flat_map, slice_get, Option, None, Some, enumerate_from, filter_map, OpId, SigId, IsRefOf, Implies, Node}
 use Rattle.sig_plan.specs.Operations.{Guard, Operation}
 use Rattle.sig_plan.specs.Parts.{PartsView}
 use Rattle.sig_plan.specs.declared.code.Slot.{Slot}

@@ -1,6 +1,6 @@
 -- The guards of a plan.
-use Rattle.std.specs.Prelude.{◌≡◌, ℕ, slice_get, Some}
-use Rattle.sig_dd.specs.declared.node.Ref.{Ref}
+use Rattle.std.specs.Prelude.{◌≡◌}
+use Rattle.sig_plan.specs.Prelude.{ℕ, slice_get, Some, Ref}
 use Rattle.sig_plan.specs.Codes.{CodeView}
 use Rattle.sig_plan.specs.Plans.{PlanView}
 use Rattle.sig_plan.specs.declared.code.Slot.{Slot}

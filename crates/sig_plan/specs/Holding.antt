@@ -1,7 +1,6 @@
 -- What an actor has of signals before a step of its code.
-use Rattle.std.specs.Prelude.{◌≡◌, ◌<◌, ◌⊎◌, ℕ, Bool, true, List, slice_get, Some}
-use Rattle.sig_base.specs.declared.ids.SigId.{SigId}
-use Rattle.sig_dd.specs.Nodes.{test}
+use Rattle.std.specs.Prelude.{◌≡◌, ◌<◌, ◌⊎◌}
+use Rattle.sig_plan.specs.Prelude.{ℕ, Bool, true, List, slice_get, Some, SigId, test}
 use Rattle.sig_plan.specs.Codes.{CodeView, op_id}
 use Rattle.sig_plan.specs.Plans.{PlanView}
 use Rattle.sig_plan.specs.declared.code.Slot.{Slot}

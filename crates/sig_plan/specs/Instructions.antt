@@ -1,6 +1,6 @@
 -- What each instruction of an actor is for.
-use Rattle.std.specs.Prelude.{◌≡◌, ◌≢◌, ◌<◌, ◌⊎◌, ◌+◌, ◌*◌, ℕ, Bool, true, List, length, slice_get, None, Some}
-use Rattle.sig_base.specs.declared.ids.SigId.{SigId}
+use Rattle.std.specs.Prelude.{◌≡◌, ◌≢◌, ◌<◌, ◌⊎◌, ◌+◌, ◌*◌}
+use Rattle.sig_plan.specs.Prelude.{ℕ, Bool, true, List, length, slice_get, None, Some, SigId}
 use Rattle.sig_plan.specs.Codes.{Instruction, op_id, under, unguarded}
 use Rattle.sig_plan.specs.Operations.{Operation}
 use Rattle.sig_plan.specs.Order.{Writes}

@@ -1,9 +1,6 @@
 -- How the operations of a kernel are made one after another.
-use Rattle.std.specs.Prelude.{◌≡◌, ◌*◌, ◌<◌, ℕ, List, ◌++◌, All, Contains, Result, length, slice_index}
-use Rattle.sig_clock.specs.Clocks.{ClocksView}
-use Rattle.sig_dd.specs.Nodes.{Holds, IsStore, Keeps, Spans, StoreView, allowance}
-use Rattle.sig_dd.specs.declared.node.Node.{Node}
-use Rattle.sig_dd.specs.declared.node.Ref.{Ref}
+use Rattle.std.specs.Prelude.{◌≡◌, ◌*◌, ◌<◌, ◌++◌}
+use Rattle.sig_plan.specs.Prelude.{ℕ, List, All, Contains, Result, length, slice_index, ClocksView, Holds, IsStore, Keeps, Spans, StoreView, allowance, Node, Ref}
 use Rattle.sig_plan.specs.Operations.{Operation, Presence, operation_in, operations_in, presence_in}
 use Rattle.sig_plan.specs.Shares.{KeepsToShare}
 use Rattle.sig_plan.specs.declared.answer.PlanAnswer.{PlanAnswer}

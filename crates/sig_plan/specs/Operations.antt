@@ -1,20 +1,6 @@
 -- The operations of a kernel: what is done at an instant, each under a guard.
-use Rattle.std.specs.Prelude.{◌≡◌, ◌+◌, ℕ, Bool, false, not, ◌&&◌, List, [], ◌∷◌, ◌++◌, All, map, Option, None, Some, slice_get}
-use Rattle.std.specs.List.{filter_map, range_with_len}
-use Rattle.sig_base.specs.declared.ids.EqId.{EqId}
-use Rattle.sig_base.specs.declared.ids.SigId.{SigId}
-use Rattle.sig_base.specs.declared.signal.Signal.{Signal}
-use Rattle.sig_clock.specs.Clocks.{ClocksView, guard_of}
-use Rattle.sig_clock.specs.Conditions.{signal_id}
-use Rattle.sig_dd.specs.Nodes.{Holds, test}
-use Rattle.sig_dd.specs.declared.node.Node.{Node}
-use Rattle.sig_dd.specs.declared.node.Ref.{Ref}
-use Rattle.sig_kernel.specs.declared.equation.Equation.{Equation}
-use Rattle.sig_kernel.specs.declared.equation.Form.{Form}
-use Rattle.sig_kernel.specs.declared.equation.Form.TheVariants.{Fun, Delay, When, WhenConst, Default, Sync, Event}
-use Rattle.sig_kernel.specs.declared.equation.Operand.{Operand}
-use Rattle.sig_kernel.specs.declared.equation.Operand.TheVariants.{Sig, Const}
-use Rattle.sig_kernel.specs.declared.kernel.Kernel.{Kernel}
+use Rattle.std.specs.Prelude.{◌≡◌, ◌+◌, ◌&&◌, ◌∷◌, ◌++◌}
+use Rattle.sig_plan.specs.Prelude.{ℕ, Bool, false, not, List, [], All, map, Option, None, Some, slice_get, filter_map, range_with_len, EqId, SigId, Signal, ClocksView, guard_of, signal_id, Holds, test, Node, Ref, Equation, Form, Fun, Delay, When, WhenConst, Default, Sync, Event, Operand, Sig, Const, Kernel}
 use Rattle.sig_plan.specs.declared.op.Op.{Op}
 use Rattle.sig_plan.specs.declared.op.OpKind.{OpKind}
 use Rattle.sig_plan.specs.declared.op.OpKind.TheVariants.{Read, Compute, Left, Right, DelayRead, Store}

@@ -1,9 +1,6 @@
 -- Which operations precede which, and the compiled order.
-use Rattle.std.specs.Prelude.{◌≡◌, ◌<◌, ◌⊎◌, ℕ, Bool, true, List, length, take, slice_index, slice_get, Some, Contains}
-use Rattle.sig_base.specs.declared.ids.EqId.{EqId}
-use Rattle.sig_base.specs.declared.ids.SigId.{SigId}
-use Rattle.sig_clock.specs.ClockRefusals.{IsLeast}
-use Rattle.sig_dd.specs.Diagram.{Depends}
+use Rattle.std.specs.Prelude.{◌≡◌, ◌<◌, ◌⊎◌}
+use Rattle.sig_plan.specs.Prelude.{ℕ, Bool, true, List, length, take, slice_index, slice_get, Some, Contains, EqId, SigId, IsLeast, Depends}
 use Rattle.sig_plan.specs.Operations.{Operation}
 use Rattle.sig_plan.specs.declared.op.OpKind.TheVariants.{DelayRead, Store}
 

@@ -1,10 +1,6 @@
 -- How operations are split: the clusters, what each actor imports, and the links in order.
-use Rattle.std.specs.Prelude.{◌≡◌, ◌≢◌, ◌+◌, ◌<◌, ◌≤◌, ◌⊎◌, ◌↔◌, ℕ, List, [], ◌++◌, length, map, fold, max, slice_get, slice_index_or, None, Some, Contains}
-use Rattle.std.specs.List.{range_with_len}
-use Rattle.sig_base.specs.declared.ids.SigId.{SigId}
-use Rattle.sig_base.specs.declared.limits.TheConstants.{LINKS}
-use Rattle.sig_base.specs.declared.signal.Signal.{Signal}
-use Rattle.sig_kernel.specs.declared.kernel.Kernel.{Kernel}
+use Rattle.std.specs.Prelude.{◌≡◌, ◌≢◌, ◌+◌, ◌<◌, ◌≤◌, ◌⊎◌, ◌↔◌, ◌++◌}
+use Rattle.sig_plan.specs.Prelude.{ℕ, List, [], length, map, fold, max, slice_get, slice_index_or, None, Some, Contains, range_with_len, SigId, LINKS, Signal, Kernel}
 use Rattle.sig_plan.specs.Operations.{Operation}
 use Rattle.sig_plan.specs.Order.{Needs, Writes}
 use Rattle.sig_plan.specs.declared.parts.LinkInfo.{LinkInfo}

@@ -1,11 +1,6 @@
 -- Accepted plans: all that is derived from a kernel.
-use Rattle.std.specs.Prelude.{◌≡◌, ℕ, List, map}
-use Rattle.sig_base.specs.declared.ids.OpId.{OpId}
-use Rattle.sig_clock.specs.ClockRefusals.{HasClocks}
-use Rattle.sig_clock.specs.Clocks.{AreClocks, ClocksView}
-use Rattle.sig_dd.specs.Nodes.{IsStore, StoreView}
-use Rattle.sig_kernel.specs.Validity.{IsValid}
-use Rattle.sig_kernel.specs.declared.kernel.Kernel.{Kernel}
+use Rattle.std.specs.Prelude.{◌≡◌}
+use Rattle.sig_plan.specs.Prelude.{ℕ, List, map, OpId, HasClocks, AreClocks, ClocksView, IsStore, StoreView, IsValid, Kernel}
 use Rattle.sig_plan.specs.Codes.{AreCodes, CodeView}
 use Rattle.sig_plan.specs.Operations.{AreOperations, operations_in}
 use Rattle.sig_plan.specs.Order.{HasNoCycle, IsCompiledOrder}

@@ -1,9 +1,6 @@
 -- What the making of operations may do to a store.
-use Rattle.std.specs.Prelude.{◌+◌, ◌*◌, ◌<◌, ◌≤◌, ℕ, List, length, Result, IfErr}
-use Rattle.std.specs.List.{range_with_len}
-use Rattle.sig_base.specs.declared.ids.SigId.{SigId}
-use Rattle.sig_dd.specs.Nodes.{StoreView, IsFull, allowance}
-use Rattle.sig_kernel.specs.declared.kernel.Kernel.{Kernel}
+use Rattle.std.specs.Prelude.{◌+◌, ◌*◌, ◌<◌, ◌≤◌}
+use Rattle.sig_plan.specs.Prelude.{ℕ, List, length, Result, IfErr, range_with_len, SigId, StoreView, IsFull, allowance, Kernel}
 use Rattle.sig_plan.specs.declared.answer.PlanAnswer.{PlanAnswer}
 use Rattle.sig_plan.specs.declared.answer.PlanAnswer.TheVariants.{Budget, OutOfMemory}
 

@@ -1,7 +1,6 @@
 -- Operations that write the signals of a kernel.
-use Rattle.std.specs.Prelude.{◌≡◌, ◌<◌, List, length, slice_get, Some}
-use Rattle.sig_base.specs.declared.ids.SigId.{SigId}
-use Rattle.sig_base.specs.declared.signal.Signal.{Signal}
+use Rattle.std.specs.Prelude.{◌≡◌, ◌<◌}
+use Rattle.sig_plan.specs.Prelude.{List, length, slice_get, Some, SigId, Signal}
 use Rattle.sig_plan.specs.Operations.{Operation}
 use Rattle.sig_plan.specs.Order.{Writes}
 use Rattle.sig_plan.specs.Parts.{IsOperation}

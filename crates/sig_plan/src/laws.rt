@@ -1,11 +1,7 @@
 //! Laws of plans. The function of a law does nothing when it runs.
 
-ghost use Rattle.std.specs.Prelude.{◌≡◌, ◌+◌, ◌*◌, ◌^◌, ◌<◌, ◌≤◌, ℕ, List, Contains, length, slice_index};
-ghost use Rattle.sig_base.specs.declared.ids.SigId.{SigId};
-ghost use Rattle.sig_clock.specs.Clocks.{AreClocks, ClocksView};
-ghost use Rattle.sig_dd.specs.Nodes.{Keeps, StoreView};
-ghost use Rattle.sig_kernel.specs.Validity.{IsValid};
-ghost use Rattle.sig_kernel.specs.declared.kernel.Kernel.{Kernel};
+ghost use Rattle.std.specs.Prelude.{◌≡◌, ◌+◌, ◌*◌, ◌^◌, ◌<◌, ◌≤◌};
+ghost use Rattle.sig_plan.specs.Prelude.{ℕ, List, Contains, length, slice_index, SigId, AreClocks, ClocksView, Keeps, StoreView, IsValid, Kernel};
 ghost use Rattle.sig_plan.specs.Acceptance.{HasOperations, IsAcceptedKernel, IsRefusedFor, KernelFault};
 ghost use Rattle.sig_plan.specs.Operations.{Operation, presence_in};
 ghost use Rattle.sig_plan.specs.Order.{IsCompiledOrder, Precedes, Reaches};

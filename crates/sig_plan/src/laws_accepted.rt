@@ -1,18 +1,7 @@
 //! Laws of accepted plans. The function of a law does nothing when it runs.
 
-ghost use Rattle.std.specs.Prelude.{◌≡◌, ◌≢◌, ◌<◌, ℕ, Bool, true, List, length, slice_get, None, Some, Contains};
-ghost use Rattle.sig_base.specs.declared.ids.SigId.{SigId};
-ghost use Rattle.sig_clock.specs.ClockRefusals.{HasClocks};
-ghost use Rattle.sig_clock.specs.Clocks.{AreClocks, ClocksView};
-ghost use Rattle.sig_clock.specs.ClockFunctions.{KeepsTo};
-ghost use Rattle.sig_clock.specs.Reactions.{Reaction, Speaks, is_present, status_at};
-ghost use Rattle.sig_dd.specs.Diagram.{Depends, truth_of};
-ghost use Rattle.sig_dd.specs.Nodes.{Holds, diagram, test};
-ghost use Rattle.sig_dd.specs.Walks.{Asks};
-ghost use Rattle.sig_dd.specs.declared.node.Node.{Node};
-ghost use Rattle.sig_dd.specs.declared.node.Ref.{Ref};
-ghost use Rattle.sig_kernel.specs.Validity.{IsValid};
-ghost use Rattle.sig_kernel.specs.declared.kernel.Kernel.{Kernel};
+ghost use Rattle.std.specs.Prelude.{◌≡◌, ◌≢◌, ◌<◌};
+ghost use Rattle.sig_plan.specs.Prelude.{ℕ, Bool, true, List, length, slice_get, None, Some, Contains, SigId, HasClocks, AreClocks, ClocksView, KeepsTo, Reaction, Speaks, is_present, status_at, Depends, truth_of, Holds, diagram, test, Asks, Node, Ref, IsValid, Kernel};
 ghost use Rattle.sig_plan.specs.Acceptance.{HasOperations};
 ghost use Rattle.sig_plan.specs.Alike.{AreAlike};
 ghost use Rattle.sig_plan.specs.Codes.{CodeView, Instruction, IsStepOf, instructions_of, op_id};

@@ -1,15 +1,8 @@
 //! Laws of what is done at an instant, for a proposal of truths for the conditions. An operation is done
 //! where its guard is true. The function of a law does nothing when it runs.
 
-ghost use Rattle.std.specs.Prelude.{◌≡◌, ◌<◌, ℕ, Bool, true, List, length, slice_get, slice_index, None, Some, Contains};
-ghost use Rattle.sig_base.specs.declared.ids.EqId.{EqId};
-ghost use Rattle.sig_base.specs.declared.ids.SigId.{SigId};
-ghost use Rattle.sig_clock.specs.ClockFunctions.{KeepsTo};
-ghost use Rattle.sig_clock.specs.Reactions.{Reaction, Speaks, is_present, status_at};
-ghost use Rattle.sig_dd.specs.Diagram.{Depends};
-ghost use Rattle.sig_dd.specs.Walks.{IsIdle};
-ghost use Rattle.sig_kernel.specs.Validity.{IsValid};
-ghost use Rattle.sig_kernel.specs.declared.kernel.Kernel.{Kernel};
+ghost use Rattle.std.specs.Prelude.{◌≡◌, ◌<◌};
+ghost use Rattle.sig_plan.specs.Prelude.{ℕ, Bool, true, List, length, slice_get, slice_index, None, Some, Contains, EqId, SigId, KeepsTo, Reaction, Speaks, is_present, status_at, Depends, IsIdle, IsValid, Kernel};
 ghost use Rattle.sig_plan.specs.Acceptance.{HasOperations};
 ghost use Rattle.sig_plan.specs.Operations.{Operation};
 ghost use Rattle.sig_plan.specs.Order.{IsCompiledOrder, Needs, Writes};

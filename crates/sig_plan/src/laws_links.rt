@@ -1,13 +1,8 @@
 //! Laws of the links of a kernel and of the instructions that use them. The function of a law does
 //! nothing when it runs.
 
-ghost use Rattle.std.specs.Prelude.{◌≡◌, ◌≢◌, ◌<◌, ◌≤◌, ◌+◌, ◌*◌, ◌⊎◌, ℕ, Bool, true, List, length, slice_get, None, Some, Contains};
-ghost use Rattle.sig_base.specs.declared.ids.SigId.{SigId};
-ghost use Rattle.sig_clock.specs.ClockFunctions.{KeepsTo};
-ghost use Rattle.sig_clock.specs.Reactions.{Reaction, Speaks, is_present};
-ghost use Rattle.sig_dd.specs.Diagram.{Depends};
-ghost use Rattle.sig_kernel.specs.Validity.{IsValid};
-ghost use Rattle.sig_kernel.specs.declared.kernel.Kernel.{Kernel};
+ghost use Rattle.std.specs.Prelude.{◌≡◌, ◌≢◌, ◌<◌, ◌≤◌, ◌+◌, ◌*◌, ◌⊎◌};
+ghost use Rattle.sig_plan.specs.Prelude.{ℕ, Bool, true, List, length, slice_get, None, Some, Contains, SigId, KeepsTo, Reaction, Speaks, is_present, Depends, IsValid, Kernel};
 ghost use Rattle.sig_plan.specs.Acceptance.{HasOperations};
 ghost use Rattle.sig_plan.specs.Codes.{Instruction, instructions_of, op_id, under, unguarded};
 ghost use Rattle.sig_plan.specs.Instructions.{CarriesFrom, IsProvidedBefore, StandsAt};

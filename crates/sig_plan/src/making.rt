@@ -1,11 +1,7 @@
 //! The operations of a kernel.
 
-ghost use Rattle.std.specs.Prelude.{◌≡◌, ◌*◌, ◌^◌, ◌<◌, ◌≤◌, ◌++◌, ◌∷◌, [], IfErr, IfOk, OnOk, length, map, true};
-ghost use Rattle.std.specs.List.{AllPass, range_with_len};
-ghost use Rattle.sig_clock.specs.Clocks.{AreClocks};
-ghost use Rattle.sig_clock.specs.Conditions.{signal_id};
-ghost use Rattle.sig_dd.specs.Nodes.{IsStore, Keeps};
-ghost use Rattle.sig_kernel.specs.Validity.{IsValid, form_within};
+ghost use Rattle.std.specs.Prelude.{◌≡◌, ◌*◌, ◌^◌, ◌<◌, ◌≤◌, ◌++◌, ◌∷◌};
+ghost use Rattle.sig_plan.specs.Prelude.{[], IfErr, IfOk, OnOk, length, map, true, AllPass, range_with_len, AreClocks, signal_id, IsStore, Keeps, IsValid, form_within};
 ghost use Rattle.sig_plan.specs.Making.{Adds, AreHeld, Extends, HaveGuards, HoldGuards, Spends};
 ghost use Rattle.sig_plan.specs.Operations.{AreOperations, default_of, of_each, read_of, stores_of, writes_of};
 ghost use Rattle.sig_plan.specs.Shares.{KeepsToShare, share_of};

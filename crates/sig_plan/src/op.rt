@@ -26,8 +26,7 @@ pub struct Reads {
 }
 
 impl Model for Reads {
-    ghost use Rattle.std.specs.Prelude.{List};
-    ghost use Rattle.sig_base.specs.declared.ids.SigId.{SigId};
+    ghost use Rattle.sig_plan.specs.Prelude.{List, SigId};
 
     ghost Value = { List SigId };
 

@@ -21,8 +21,7 @@ pub struct Imports {
 }
 
 impl Model for Imports {
-    ghost use Rattle.std.specs.Prelude.{List};
-    ghost use Rattle.sig_base.specs.declared.ids.SigId.{SigId};
+    ghost use Rattle.sig_plan.specs.Prelude.{List, SigId};
 
     ghost Value = { List SigId };
 

@@ -1,9 +1,7 @@
 //! What the operations of a kernel are made of.
 
-ghost use Rattle.std.specs.Prelude.{◌≡◌, ◌<◌, ◌∷◌, [], ℕ, List, Some, None, IfOk, Contains, length};
-ghost use Rattle.sig_clock.specs.Clocks.{guard_of};
-ghost use Rattle.sig_dd.specs.Nodes.{Holds, IsRefOf, IsStore, Keeps, Spans, test};
-ghost use Rattle.sig_dd.specs.Shares.{Share, refusal};
+ghost use Rattle.std.specs.Prelude.{◌≡◌, ◌<◌, ◌∷◌};
+ghost use Rattle.sig_plan.specs.Prelude.{[], ℕ, List, Some, None, IfOk, Contains, length, guard_of, Holds, IsRefOf, IsStore, Keeps, Spans, test, Share, refusal};
 ghost use Rattle.sig_plan.specs.Making.{HaveGuards, IsMade};
 ghost use Rattle.sig_plan.specs.Operations.{cluster_at, read_of, signal_in, signals_of, store_of, without, writing};
 

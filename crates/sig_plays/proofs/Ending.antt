@@ -1,16 +1,5 @@
 -- A play with status 0 or 3 is one of an accepted program over flows of its inputs, with events of a file.
-use Rattle.std.proofs.Common.{◌≡◌, ◌∙◌, ◌⊎◌, ℕ, ℤ, List, Option, Some, inl, inr, refl, sym, ap, subst, arith}
-use Rattle.sig_flow.specs.declared.event.FileEvent.{FileEvent}
-use Rattle.sig_kernel.specs.Validity.{inputs_of}
-use Rattle.sig_kernel.specs.declared.kernel.Kernel.{Kernel}
-use Rattle.sig_text.specs.Files.{Contents}
-use Rattle.sig_words.specs.declared.command.Settings.{Settings}
-use Rattle.sig_outcome.specs.Outcomes.{Absent, AtFile, Bad, Found, Good, Long, Outcome, long_file, long_program}
-use Rattle.sig_outcome.specs.Tasks.{IsDue, IsEnded}
-use Rattle.sig_compile.specs.Compiling.{FindsAccepted}
-use Rattle.sig_runs.specs.Runs.{AtFlows, AtLinks, FindsFlows}
-use Rattle.sig_plays.specs.EventFiles.{AtEvents, FindsEvents}
-use Rattle.sig_plays.specs.Plays.{HasPlay, PlayComesTo, PlaysTo}
+use Rattle.sig_plays.proofs.Common.{◌≡◌, ◌∙◌, ℕ, ℤ, List, Option, Some, inl, inr, sym, ap, subst, arith, FileEvent, inputs_of, Kernel, Contents, Settings, Absent, AtFile, Bad, Found, Good, Long, Outcome, long_file, long_program, IsDue, IsEnded, FindsAccepted, AtFlows, AtLinks, FindsFlows, AtEvents, FindsEvents, HasPlay, PlayComesTo, PlaysTo}
 
 -- a status of a refusal is none of a play that came to its end
 ended_one : (status n : ℕ) → IsEnded status → status ≡ n → (n ≡ 0 → ⊥) → (n ≡ 3 → ⊥) → ⊥

@@ -1,13 +1,6 @@
 -- The line of an event file that is refused tells of a fault of its bytes, and not of memory that was wanting.
-use Rattle.std.proofs.Common.{◌≡◌, ◌≢◌, ◌∙◌, ℕ, Bool, true, false, List, [], ◌∷◌, Option, None, Some, ap, subst}
-use Rattle.std.specs.Prelude.{⊤, nat_lt, if◌then◌else◌}
-use Rattle.sig_base.specs.declared.limits.TheConstants.{EVENTS}
-use Rattle.sig_flow.specs.Events.{IsFirstBadEvent, event_fault, event_of}
-use Rattle.sig_flow.specs.Words.{Word, words_of}
-use Rattle.sig_flow.specs.declared.answer.EventAnswer.{EventAnswer}
-use Rattle.sig_flow.specs.declared.answer.EventAnswer.TheVariants.{BadEvent, TooMany, OutOfMemory}
-use Rattle.sig_flow.specs.declared.event.FileEvent.{FileEvent}
-use Rattle.sig_plays.specs.EventFiles.{IsEventLine, RefusesEvents}
+use Rattle.sig_plays.proofs.Common.{◌≢◌, ◌∙◌, ℕ, Bool, true, false, List, [], ◌∷◌, Option, None, Some, ap, subst, ⊤, nat_lt, if◌then◌else◌, EVENTS, IsFirstBadEvent, event_fault, event_of, Word, words_of, EventAnswer, BadEvent, TooMany, FileEvent, IsEventLine, RefusesEvents}
+use Rattle.sig_flow.specs.declared.answer.EventAnswer.TheVariants.{OutOfMemory}
 
 -- a fault, if there is one, is none of memory
 abbrev Tells : Option EventAnswer → Type 0

@@ -1,14 +1,5 @@
 -- An event takes back nothing of what is committed.
-use Rattle.std.proofs.Common.{◌≡◌, ◌∙◌, ◌++◌, ℕ, ℤ, List, [], ◌∷◌, Bool, true, false, refl, sym, ap, append_assoc}
-use Rattle.std.specs.Prelude.{Option, None, Some, fold, length, nat_lt, slice_get, if◌then◌else◌}
-use Rattle.std.proofs.lemmas.List.{append-nil}
-use Rattle.sig_base.specs.Traces.{IsPrefixOf}
-use Rattle.sig_model.specs.Actors.{Actor, code_of, ended_at, next_place}
-use Rattle.sig_model.specs.Cores.{Core, Given, acted, items_on, looked, stepped, take_first, turned, with_actor, with_items, word_before}
-use Rattle.sig_model.specs.Turns.{AtLimit, Commits, Fails, Goes, Puts, Reaction, Stopped, Takes, Turn, turn}
-use Rattle.sig_model.specs.declared.event.Event.{Event}
-use Rattle.sig_model.specs.declared.event.Event.TheVariants.{Act, Look}
-use Rattle.sig_plan.specs.Plans.{PlanView}
+use Rattle.sig_plays.proofs.Common.{◌≡◌, ◌∙◌, ◌++◌, ℕ, ℤ, List, [], ◌∷◌, Bool, true, false, refl, sym, ap, append_assoc, Option, None, Some, fold, length, nat_lt, slice_get, if◌then◌else◌, append-nil, IsPrefixOf, Actor, code_of, ended_at, next_place, Core, Given, acted, items_on, looked, stepped, take_first, turned, with_actor, with_items, word_before, AtLimit, Commits, Fails, Goes, Puts, Stopped, Takes, Turn, turn, Event, Act, Look, PlanView}
 
 -- a state has committed what another one has, and maybe more
 abbrev Grows : Core → Core → Type 0

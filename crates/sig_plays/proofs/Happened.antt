@@ -1,18 +1,7 @@
 -- Events one after another, and what a sink took of them.
-use Rattle.std.proofs.Common.{◌≡◌, ◌<◌, ◌+◌, ◌++◌, ◌∙◌, ℕ, List, [], ◌∷◌, length, map, take, drop, get_or, refl, sym, ap, subst, append_assoc}
-use Rattle.std.specs.Prelude.{fold}
-use Rattle.std.proofs.lemmas.List.{append-nil, drop_more, map-append, take-append-drop, take_more}
-use Rattle.sig_core.proofs.Finishing.{Join, more_then, text_append}
-use Rattle.sig_core.specs.Cores.{Happened, IsSameRun, Shows, TookMore, given_of}
+use Rattle.sig_plays.proofs.Common.{◌≡◌, ◌<◌, ◌+◌, ◌++◌, ◌∙◌, ℕ, List, [], ◌∷◌, length, map, take, drop, get_or, refl, sym, ap, subst, append_assoc, fold, append-nil, map-append, take-append-drop, take_more, Join, more_then, text_append, Happened, IsSameRun, Shows, TookMore, given_of, FileEvent, Kernel, Core as ModelCore, Given, reactions_text, stepped, Event, happens, AllHappened, PartHappened, behind, TookPrefix, TookPrefix-longer}
 use Rattle.sig_core.specs.declared.state.Core.{Core}
-use Rattle.sig_flow.specs.declared.event.FileEvent.{FileEvent}
-use Rattle.sig_kernel.specs.declared.kernel.Kernel.{Kernel}
-use Rattle.sig_model.specs.Cores.{Core as ModelCore, Given, reactions_text, stepped}
-use Rattle.sig_model.specs.declared.event.Event.{Event}
-use Rattle.sig_plays.specs.EventFiles.{happens}
-use Rattle.sig_plays.specs.Happening.{AllHappened, PartHappened, behind}
 use Rattle.sig_plays.proofs.Growing.{grows}
-use Rattle.sig_text.specs.Sink.{Joins, TookPrefix, TookPrefix-longer}
 
 pub fold_append : {A B : Type 0} (f : A → B → A) (z : A) (xs ys : List B) → fold f z (xs ++ ys) ≡ fold f (fold f z xs) ys
 fold_append f z [] ys = refl

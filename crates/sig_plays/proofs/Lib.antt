@@ -1,3 +1,4 @@
+pub mod Common
 pub mod Complete
 pub mod Ending
 mod EventLines
@@ -10,3 +11,14 @@ mod Playing
 mod SamePlans
 mod StateTaken
 mod Written
+pub use Common.*
+pub use Complete.*
+pub use EventLines.*
+pub use Happened.*
+pub use Lining.*
+pub use Loads.*
+pub use OnePlay.*
+pub use Playing.*
+pub use StateTaken.*
+pub use Written.*
+pub use Rattle.sig_plays.proofs.Written.{few_links}

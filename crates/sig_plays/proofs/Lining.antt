@@ -1,9 +1,5 @@
 -- Lines of a list, one after another.
-use Rattle.std.proofs.Common.{◌≡◌, ◌≤◌, ◌<◌, ◌+◌, ◌∙◌, ◌++◌, ℕ, List, [], ◌∷◌, length, take, refl, sym, ap, subst, append_assoc, arith}
-use Rattle.std.specs.Prelude.{zero, suc, Option, None, Some, slice_get}
-use Rattle.std.proofs.lemmas.List.{append-nil}
-use Rattle.sig_plays.specs.StateLines.{lines_from}
-use Rattle.sig_text.specs.Sink.{Joins, TookPrefix, TookPrefix-longer, TookPrefix-then}
+use Rattle.sig_plays.proofs.Common.{◌≡◌, ◌≤◌, ◌+◌, ◌∙◌, ◌++◌, ℕ, List, [], ◌∷◌, length, take, refl, sym, ap, subst, append_assoc, arith, zero, suc, None, Some, slice_get, append-nil, lines_from, Joins, TookPrefix, TookPrefix-longer, TookPrefix-then}
 
 -- one more line
 line_next : {A : Type 0} (line : ℕ → A → List ℕ) (number k : ℕ) (xs : List A) (x : A) → slice_get xs k ≡ Some x

@@ -1,21 +1,5 @@
 -- What the files of a play call for.
-use Rattle.std.proofs.Common.{◌≡◌, ◌∙◌, ◌≤◌, ℕ, ℤ, List, Option, Some, IfSome, inl, inr, refl, sym, ap, subst, arith}
-use Rattle.sig_kernel.specs.Validity.{inputs_of}
-use Rattle.sig_kernel.specs.declared.kernel.Kernel.{Kernel}
-use Rattle.sig_flow.specs.declared.event.FileEvent.{FileEvent}
-use Rattle.sig_text.specs.Files.{Contents, name_where_there}
-use Rattle.sig_words.specs.declared.command.Settings.{Settings}
-use Rattle.sig_outcome.specs.Outcomes.{Good, Outcome}
-use Rattle.sig_outcome.specs.Refusals.{HasCount, IsOwn, outcome_of, status_of}
-use Rattle.sig_outcome.specs.Tasks.{IsEnded, Reaches, Stops, begun_after}
-use Rattle.sig_outcome.specs.declared.refusal.Refusal.{Refusal}
-use Rattle.sig_outcome.specs.declared.refusal.Refusal.TheVariants.{Missing, ReadFault, LongProgram, Program, Budget, TooManyItems, LongFile, Data, OutOfMemory}
-use Rattle.sig_outcome.proofs.Refused.{later_count, later_own, told, told_both}
-use Rattle.sig_compile.specs.Compiling.{FindsAccepted}
-use Rattle.sig_runs.specs.Runs.{FindsFlows, HoldFew, IsRunStatus, RunComesTo, RunsTo, running}
-use Rattle.sig_runs.proofs.Written.{is_ended}
-use Rattle.sig_plays.specs.EventFiles.{AtEvents, FindsEvents, IsAboutEvents}
-use Rattle.sig_plays.specs.Plays.{IsAboutPlay, PlayComesTo, PlaysTo, playing}
+use Rattle.sig_plays.proofs.Common.{◌≡◌, ◌∙◌, ◌≤◌, ℕ, ℤ, List, Option, Some, IfSome, inl, inr, refl, sym, ap, subst, arith, inputs_of, Kernel, FileEvent, Contents, name_where_there, Settings, Good, Outcome, HasCount, IsOwn, outcome_of, status_of, IsEnded, Reaches, Stops, begun_after, Refusal, Missing, ReadFault, LongProgram, Program, Budget, TooManyItems, LongFile, Data, OutOfMemory, later_count, later_own, told, told_both, FindsAccepted, FindsFlows, HoldFew, IsRunStatus, RunsTo, running, is_ended, AtEvents, FindsEvents, IsAboutEvents, IsAboutPlay, PlayComesTo, PlaysTo, playing}
 use Rattle.sig_plays.proofs.OnePlay.{events_refuse, plays, run_refuses}
 
 -- a refusal of a play has a status of a run

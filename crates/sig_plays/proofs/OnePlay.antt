@@ -1,31 +1,5 @@
 -- A play over told contents comes to one outcome at most, and what it comes to.
-use Rattle.std.proofs.Common.{◌≡◌, ◌∙◌, ◌⊎◌, ◌++◌, ℕ, ℤ, List, map, Option, Some, inl, inr, sym, refl, ap, subst, arith}
-use Rattle.std.proofs.lemmas.List.{append_cancel_left}
-use Rattle.sig_base.specs.Traces.{Trace}
-use Rattle.sig_text.specs.Files.{Contents}
-use Rattle.sig_kernel.specs.OutputText.{output_text}
-use Rattle.sig_kernel.specs.Validity.{AreFlowsFor, inputs_of}
-use Rattle.sig_kernel.specs.declared.kernel.Kernel.{Kernel}
-use Rattle.sig_plan.specs.declared.ended.Ended.{Ended}
-use Rattle.sig_model.specs.Cores.{Core, reactions_text}
-use Rattle.sig_meaning.proofs.Uniqueness.{one_end}
-use Rattle.sig_flow.specs.Events.{AreEvents, event_judge}
-use Rattle.sig_flow.specs.Flows.{AreFlows}
-use Rattle.sig_flow.specs.Lines.{lines_of}
-use Rattle.sig_flow.specs.declared.event.FileEvent.{FileEvent}
-use Rattle.sig_flow.proofs.FirstLemmas.{not_both, one_first}
-use Rattle.sig_flow.proofs.FittingFlows.{read_fit}
-use Rattle.sig_words.specs.declared.command.Settings.{Settings}
-use Rattle.sig_outcome.specs.Outcomes.{Absent, AtFile, Bad, Found, Good, Long, OneAtMost, Outcome, long_file, long_program}
-use Rattle.sig_outcome.proofs.Stages.{at_file_ends, one_at_data, one_at_program}
-use Rattle.sig_compile.specs.Acceptance.{AreRefused, IsAcceptedAs}
-use Rattle.sig_compile.specs.Compiling.{AtPlan, FindsAccepted}
-use Rattle.sig_compile.proofs.Verdicts.{accepted_once, accepted_or_refused, refused_once}
-use Rattle.sig_runs.specs.Runs.{AtFlows, AtLinks, FindsFlows, HoldFew, RefusesFlows, RunComesTo, RunsTo}
-use Rattle.sig_runs.proofs.OneRun.{flows_apart, no_flows_line, one_at_links, one_flows}
-use Rattle.sig_runs.proofs.Plans.{same_end}
-use Rattle.sig_plays.specs.EventFiles.{AtEvents, FindsEvents, RefusesEvents, bad_events, happens}
-use Rattle.sig_plays.specs.Plays.{PlayComesTo, PlaysTo, left_by, played}
+use Rattle.sig_plays.proofs.Common.{◌≡◌, ◌∙◌, ◌++◌, ℕ, ℤ, List, map, Some, inl, inr, sym, ap, subst, append_cancel_left, Trace, Contents, output_text, AreFlowsFor, inputs_of, Kernel, Ended, Core, reactions_text, IsValid, IsAcceptedKernel, one_kernel_end, AreEvents, event_judge, AreFlows, lines_of, FileEvent, not_both, one_first, read_fit, Settings, Absent, AtFile, Bad, Found, Good, Long, OneAtMost, Outcome, long_file, long_program, at_file_ends, one_at_data, one_at_program, AreRefused, IsAcceptedAs, FindsAccepted, accepted_once, accepted_or_refused, refused_once, AtFlows, AtLinks, FindsFlows, HoldFew, RefusesFlows, RunComesTo, RunsTo, flows_apart, no_flows_line, one_at_links, one_flows, AtEvents, FindsEvents, RefusesEvents, bad_events, happens, PlayComesTo, PlaysTo, left_by, played}
 use Rattle.sig_plays.proofs.SamePlans.{same_after}
 
 -- ---- the event file
@@ -43,11 +17,10 @@ events_apart name bytes events l says refuses = not_both event_judge 0 (lines_of
 -- ---- one outcome
 
 -- a play has one text and one end
-one_play : (kernel : Kernel) (values : List (List ℤ)) (capacity limit : ℕ) (file : List ℕ) (events : List FileEvent) → AreFlowsFor kernel values → OneAtMost (PlaysTo kernel values capacity limit file events)
-one_play kernel values capacity limit file events fit o p x y =
-    let fits : AreFlowsFor x.plan.kernel values = subst (λ (k : Kernel). AreFlowsFor k values) (sym x.planned.same) fit in
-    let same = one_end x.plan x.planned.accepted values fits limit x.trace y.trace x.place y.place x.end y.end x.ends
-    (same_end kernel x.plan y.plan x.planned y.planned values limit y.trace y.place y.end y.ends) in
+one_play : (kernel : Kernel) → IsValid kernel → IsAcceptedKernel kernel → (values : List (List ℤ)) (capacity limit : ℕ) (file : List ℕ) (events : List FileEvent) → AreFlowsFor kernel values
+    → OneAtMost (PlaysTo kernel values capacity limit file events)
+one_play kernel valid accepted values capacity limit file events fit o p x y =
+    let same = one_kernel_end kernel valid accepted values fit limit x.trace y.trace x.place y.place x.end y.end x.ends y.ends in
     let left : left_by x.plan values capacity limit events ≡ left_by y.plan values capacity limit events =
     same_after x.plan y.plan x.planned.accepted y.planned.accepted (x.planned.same ∙ sym y.planned.same) values capacity limit (map happens events) in
     let missing : reactions_text kernel (left_by y.plan values capacity limit events).committed ++ x.rest ≡ output_text kernel y.trace =
@@ -79,13 +52,13 @@ module _ (program flows events : List ℕ) (settings : Settings) where
   one_play_outcome held =
       one_at_program (IsAcceptedAs settings.pace) (AreRefused settings.pace) (accepted_once settings.pace) (refused_once settings.pace) (accepted_or_refused settings.pace) held program (λ kernel. AtKernel held kernel)
       (λ kernel bytes is.
-      one_at_links kernel settings.capacity (Some program) (λ q. AtInputs held kernel q)
+      one_at_links kernel is.has.valid settings.capacity (Some program) (λ q. AtInputs held kernel q)
       (one_at_data (AreFlows (inputs_of kernel)) (RefusesFlows flows (inputs_of kernel)) (one_flows (inputs_of kernel)) (no_flows_line flows (inputs_of kernel)) (flows_apart flows (inputs_of kernel)) held flows
       (λ values. AtScript held kernel values)
       (λ values data_bytes read.
       one_at_data AreEvents (RefusesEvents events) one_events (no_events_line events) (events_apart events) held events
       (λ happening. Plays kernel values happening)
-      (λ happening event_bytes said. one_play kernel values settings.capacity settings.instants events happening (read_fit kernel data_bytes values read)))))
+      (λ happening event_bytes said. one_play kernel is.has.valid is.accepted values settings.capacity settings.instants events happening (read_fit kernel data_bytes values read)))))
 
   module _ (held : Contents) where
     -- what refuses a run over the same program and flows refuses the play

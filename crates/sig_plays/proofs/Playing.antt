@@ -1,20 +1,6 @@
 -- What a sink took of a play.
-use Rattle.std.proofs.Common.{◌≡◌, ◌∙◌, ◌++◌, ℕ, List, [], ◌∷◌, refl, sym, ap, subst, append_assoc}
-use Rattle.std.specs.Prelude.{Option, fold}
-use Rattle.std.proofs.lemmas.List.{append-nil, append_cancel_left}
-use Rattle.sig_base.specs.Traces.{Trace}
-use Rattle.sig_base.specs.declared.place.Place.{Place}
-use Rattle.sig_core.specs.Cores.{IsReached, IsSameRun, Shows, given_of}
-use Rattle.sig_core.specs.Finishing.{IsEndOf, TookRest}
+use Rattle.sig_plays.proofs.Common.{◌≡◌, ◌∙◌, ◌++◌, ℕ, List, [], sym, ap, subst, Option, append-nil, append_cancel_left, Trace, Place, IsReached, IsSameRun, Shows, given_of, IsEndOf, TookRest, output_text, IsEnd, Core as ModelCore, Given, after, opening, reactions_text, Event, Ended, AllHappened, IsEndIn, IsRest, PartHappened, TookOf, TookPlay, state_text, Joins, TookPrefix, TookPrefix-longer, TookPrefix-then, TookPrefix-whole}
 use Rattle.sig_core.specs.declared.state.Core.{Core}
-use Rattle.sig_kernel.specs.OutputText.{output_text}
-use Rattle.sig_model.specs.Causes.{IsEnd}
-use Rattle.sig_model.specs.Cores.{Core as ModelCore, Given, after, opening, reactions_text}
-use Rattle.sig_model.specs.declared.event.Event.{Event}
-use Rattle.sig_plan.specs.declared.ended.Ended.{Ended}
-use Rattle.sig_plays.specs.Happening.{AllHappened, IsEndIn, IsRest, PartHappened, TookOf, TookPlay, played_text}
-use Rattle.sig_plays.specs.StateLines.{state_text}
-use Rattle.sig_text.specs.Sink.{Joins, TookPrefix, TookPrefix-longer, TookPrefix-then, TookPrefix-whole}
 
 module _ {S : Type 0} (took : S → List ℕ → S → Type 0) (joins : Joins took) (c : Core) (opened : Shows (opening c.plan.now) c) (events : List Event) where
   abbrev given : Given

@@ -1,34 +1,6 @@
 -- The plans of a kernel have the same states behind the same events: they differ in the references of guards alone.
-use Rattle.std.proofs.Common.{◌≡◌, ◌<◌, ◌∙◌, ℕ, ℤ, List, [], ◌∷◌, Bool, length, map, replicate, refl, sym, ap, subst, arith}
-use Rattle.std.specs.Prelude.{Option, None, Some, fold, nat_lt, pos, slice_get, unwrap_or, if◌then◌else◌}
-use Rattle.sig_base.specs.declared.ids.OpId.{OpId}
-use Rattle.sig_base.specs.declared.ids.SigId.{SigId}
-use Rattle.sig_clock.proofs.Lists.{get_within}
-use Rattle.sig_core.specs.Schedules.{run_of}
-use Rattle.sig_dd.specs.declared.node.Ref.{Ref}
-use Rattle.sig_kernel.specs.declared.kernel.Kernel.{Kernel}
-use Rattle.sig_meaning.proofs.Agreement.{some_at}
-use Rattle.sig_model.specs.Actors.{Actor, Registers, code_of, ended_at, guard_holds, moved_on, no_code, opening_actor, position_of, slot_holds, truths_of}
-use Rattle.sig_model.specs.Cores.{Core, Given, acted, after, looked, opening, stepped, turned, with_actor, word_before}
-use Rattle.sig_model.specs.Operating.{Faults, Gives, Outcome, operated, outcome, outcome_by}
-use Rattle.sig_model.specs.Turns.{AtLimit, Commits, Fails, Goes, Puts, Reaction, Stopped, Takes, Turn, carried, item_of, reaction_in, received, turn, turn_at, turn_by, turn_in, turn_of_op, turn_with}
-use Rattle.sig_model.specs.declared.event.Event.{Event}
-use Rattle.sig_model.specs.declared.event.Event.TheVariants.{Act, Look}
-use Rattle.sig_plan.specs.Alike.{AreAlike}
-use Rattle.sig_plan.specs.Codes.{CodeView}
-use Rattle.sig_plan.specs.Operations.{Operation, operation_in, operations_in}
-use Rattle.sig_plan.specs.Plans.{IsAccepted, PlanView}
-use Rattle.sig_plan.specs.declared.code.Slot.{Slot}
-use Rattle.sig_plan.specs.declared.code.Step.{Step}
-use Rattle.sig_plan.specs.declared.code.StepKind.{StepKind}
-use Rattle.sig_plan.specs.declared.code.StepKind.TheVariants.{Do, Send, Receive, Report, Collect, Commit}
-use Rattle.sig_plan.specs.declared.op.Op.{Op}
-use Rattle.sig_plan.specs.declared.op.OpKind.{OpKind}
-use Rattle.sig_plan.specs.declared.op.OpKind.TheVariants.{Read, Compute, Left, Right, DelayRead, Store}
-use Rattle.sig_plan.specs.declared.parts.LinkInfo.{LinkInfo}
-use Rattle.sig_plan.proofs.Lists.{get_map, map_get}
-use Rattle.sig_values.proofs.Writing.{some_is}
-use Rattle.sig_plan.proofs.PlanOnce.{codes_alike, same_actors, same_conditions, same_links, same_operations}
+use Rattle.sig_plays.proofs.Common.{◌≡◌, ◌∙◌, ℕ, ℤ, List, [], ◌∷◌, Bool, length, replicate, refl, sym, ap, arith, Option, None, Some, fold, nat_lt, pos, slice_get, unwrap_or, if◌then◌else◌, SigId, get_within, run_of, Ref, Kernel, some_at, Actor, code_of, ended_at, guard_holds, moved_on, no_code, opening_actor, position_of, slot_holds, truths_of, Core, Given, acted, after, looked, opening, stepped, turned, with_actor, word_before, Faults, Gives, operated, outcome, outcome_by, AtLimit, Commits, Fails, Goes, Puts, Stopped, Takes, Turn, carried, item_of, reaction_in, received, turn, turn_at, turn_by, turn_of_op, turn_with, Event, Act, Look, AreAlike, CodeView, Operation, operation_in, operations_in, IsAccepted, PlanView, Slot, Step, StepKind, Do, Send, Receive, Report, Collect, Commit, Op, OpKind, Read, Compute, Left, Right, DelayRead, Store, get_map, map_get, some_is, codes_alike, same_actors, same_conditions, same_links, same_operations}
+use Rattle.sig_model.specs.Operating.{Outcome}
 
 none_some : {X : Type 0} (x : X) → None ≡ Some x → ⊥
 none_some x same = let e : None ≡ Some x = same in cc

@@ -1,19 +1,6 @@
 -- What a sink took of the text of a state.
-use Rattle.std.proofs.Common.{◌≡◌, ◌≤◌, ◌<◌, ◌∙◌, ◌++◌, ◌^◌, ℕ, ℤ, List, [], ◌∷◌, Bool, length, map, refl, sym, ap, subst, arith}
-use Rattle.std.specs.Prelude.{Option, None, Some, codes, flat_map, slice_get}
-use Rattle.std.proofs.lemmas.List.{length-map}
-use Rattle.sig_base.specs.declared.place.Place.{Place}
-use Rattle.sig_core.specs.Cores.{IsCore, Shows}
-use Rattle.sig_core.specs.Telling.{length_in, state_in}
-use Rattle.sig_core.specs.declared.answer.ActorState.{ActorState}
+use Rattle.sig_plays.proofs.Common.{◌≡◌, ◌≤◌, ◌<◌, ◌++◌, ◌^◌, ℕ, ℤ, List, length, refl, ap, subst, arith, Option, None, Some, codes, flat_map, length-map, Place, IsCore, Shows, length_in, state_in, ActorState, Actor, Core as ModelCore, TookOf, actor_line, actor_pieces, lines_from, link_line, link_pieces, state_text, word_line, actor_of, Joins, TookPrefix, TookPrefix-longer, TookPrefix-then, some_is}
 use Rattle.sig_core.specs.declared.state.Core.{Core}
-use Rattle.sig_model.specs.Actors.{Actor}
-use Rattle.sig_model.specs.Cores.{Core as ModelCore}
-use Rattle.sig_plays.specs.Happening.{TookOf}
-use Rattle.sig_plays.specs.StateLines.{actor_line, actor_pieces, lines_from, link_line, link_pieces, state_text, word_line}
-use Rattle.sig_step.specs.States.{actor_of}
-use Rattle.sig_text.specs.Sink.{Joins, TookPrefix, TookPrefix-longer, TookPrefix-then}
-use Rattle.sig_values.proofs.Writing.{some_is}
 
 -- ---- actors and links that a core tells of
 

@@ -1,37 +1,5 @@
 -- What is promised of a play follows from what its files gave and what was written.
-use Rattle.std.proofs.Common.{◌≡◌, ◌∙◌, ◌⊎◌, ◌≤◌, ◌*◌, ◌++◌, ℕ, ℤ, List, [], Bool, map, Option, IfSome, length, inl, inr, refl, sym, ap, subst, arith}
-use Rattle.std.specs.Prelude.{IsTrue, Some}
-use Rattle.std.proofs.Math.Nat.{mul-le-mul_left}
-use Rattle.sig_base.specs.Traces.{IsPrefixOf, Trace}
-use Rattle.sig_base.specs.declared.limits.TheConstants.{ITEMS}
-use Rattle.sig_base.specs.declared.place.Place.{Place}
-use Rattle.sig_core.specs.Schedules.{run_of}
-use Rattle.sig_flow.specs.declared.event.FileEvent.{FileEvent}
-use Rattle.sig_kernel.specs.OutputText.{output_text}
-use Rattle.sig_kernel.specs.Validity.{AreFlowsFor, inputs_of}
-use Rattle.sig_kernel.specs.declared.kernel.Kernel.{Kernel}
-use Rattle.sig_text.specs.Counts.{Rose}
-use Rattle.sig_text.specs.Files.{Contents, name_where_there}
-use Rattle.sig_text.specs.Sink.{TookPrefix, TookPrefix-whole}
-use Rattle.sig_plan.specs.Plans.{IsAccepted, PlanView}
-use Rattle.sig_plan.specs.declared.ended.Ended.{Ended}
-use Rattle.sig_plan.specs.declared.parts.LinkInfo.{LinkInfo}
-use Rattle.sig_meaning.proofs.Ending.{some_end}
-use Rattle.sig_model.specs.Cores.{after, reactions_text}
-use Rattle.sig_schedules.proofs.Finished.{after_begins}
-use Rattle.sig_words.specs.declared.command.Settings.{Settings}
-use Rattle.sig_outcome.specs.Outcomes.{Good}
-use Rattle.sig_outcome.specs.Tasks.{Performs, write_line}
-use Rattle.sig_outcome.specs.declared.refusal.Refusal.TheVariants.{OutOfMemory}
-use Rattle.sig_outcome.proofs.Performing.{performs_outcome, performs_refusal}
-use Rattle.sig_compile.specs.Compiling.{FindsAccepted}
-use Rattle.sig_runs.specs.Ends.{IsOfKernel, end_line, end_status}
-use Rattle.sig_runs.specs.Runs.{FindsFlows, HoldFew, LacksMemory}
-use Rattle.sig_runs.proofs.Plans.{end_there, same_links}
-use Rattle.sig_runs.proofs.Written.{is_ended, no_six}
-use Rattle.sig_plays.specs.EventFiles.{FindsEvents, happens}
-use Rattle.sig_plays.specs.Happening.{IsEndIn, TookPlay}
-use Rattle.sig_plays.specs.Plays.{PlaysTo, WritesPlay, left_by, played, playing}
+use Rattle.sig_plays.proofs.Common.{◌≡◌, ◌∙◌, ◌⊎◌, ◌≤◌, ◌*◌, ℕ, ℤ, List, [], Bool, map, Option, IfSome, length, inl, inr, refl, sym, ap, subst, arith, IsTrue, mul-le-mul_left, ITEMS, run_of, FileEvent, AreFlowsFor, inputs_of, Kernel, Rose, Contents, name_where_there, TookPrefix, TookPrefix-whole, IsAccepted, PlanView, Ended, LinkInfo, some_end, kernel_end, links_once, plan_links, after_begins, Settings, Good, Performs, write_line, OutOfMemory, performs_outcome, performs_refusal, FindsAccepted, IsOfKernel, end_line, end_status, FindsFlows, HoldFew, LacksMemory, end_there, is_ended, no_six, FindsEvents, happens, IsEndIn, TookPlay, WritesPlay, left_by, played, playing}
 use Rattle.sig_plays.proofs.Loads.{play_number, reaches_end, stops_memory}
 use Rattle.sig_plays.proofs.OnePlay.{one_play_outcome}
 
@@ -39,7 +7,7 @@ use Rattle.sig_plays.proofs.OnePlay.{one_play_outcome}
 
 pub few_links : (plan : PlanView) (capacity : ℕ) → IsAccepted plan → 1 ≤ capacity → HoldFew plan.kernel capacity → length plan.links ≤ ITEMS
 few_links plan capacity accepted some few =
-    let same : length few.plan.links ≡ length plan.links = ap (λ (links : List LinkInfo). length links) (same_links plan.kernel few.plan plan few.planned (record { accepted = accepted; same = refl })) in
+    let same : length few.links ≡ length plan.links = ap (λ (links : List LinkInfo). length links) (links_once plan.kernel accepted.valid few.links plan.links few.are (plan_links plan accepted)) in
     let within : length plan.links * capacity ≤ ITEMS = subst (λ n. n * capacity ≤ ITEMS) same few.fact in
     let each : length plan.links * 1 ≤ length plan.links * capacity = mul-le-mul_left (length plan.links) some in
     omega (arith, within, each)
@@ -69,7 +37,7 @@ module _ (plan : PlanView) (accepted : IsAccepted plan) (flows : List (List ℤ)
           trace = some.0;
           place = some.1;
           end = some.2;
-          ends = some.3;
+          ends = kernel_end plan accepted flows limit some.0 some.1 some.2 some.3;
           rest = begins.0;
           missing = sym begins.1;
           writes = record {
@@ -96,7 +64,7 @@ module _ (plan : PlanView) (accepted : IsAccepted plan) (flows : List (List ℤ)
           trace = some.0;
           place = some.1;
           end = some.2;
-          ends = some.3;
+          ends = kernel_end plan accepted flows limit some.0 some.1 some.2 some.3;
           rest = begins.0;
           missing = sym begins.1;
           writes = record {

@@ -1,18 +1,7 @@
 -- The event file of a play, and the events that its lines stand for.
-use Rattle.std.specs.Prelude.{◌≡◌, ◌≢◌, ◌++◌, ℕ, List, codes, Option}
-use Rattle.sig_base.specs.Lines.{refusal}
-use Rattle.sig_text.specs.Files.{Contents}
-use Rattle.sig_model.specs.declared.event.Event.{Event}
+use Rattle.std.specs.Prelude.{◌≡◌, ◌≢◌, ◌++◌}
+use Rattle.sig_plays.specs.Prelude.{ℕ, List, codes, Option, refusal, Contents, Event, AreEvents, IsFirstBadEvent, event_text, EventAnswer, OutOfMemory, FileEvent, Act, Look, AtData, FindsData, Found, Outcome, IsAboutData, Refusal}
 use Rattle.sig_model.specs.declared.event.Event.TheVariants as event
-use Rattle.sig_flow.specs.Events.{AreEvents, IsFirstBadEvent}
-use Rattle.sig_flow.specs.Shown.{event_text}
-use Rattle.sig_flow.specs.declared.answer.EventAnswer.{EventAnswer}
-use Rattle.sig_flow.specs.declared.answer.EventAnswer.TheVariants.{OutOfMemory}
-use Rattle.sig_flow.specs.declared.event.FileEvent.{FileEvent}
-use Rattle.sig_flow.specs.declared.event.FileEvent.TheVariants.{Act, Look}
-use Rattle.sig_outcome.specs.Outcomes.{AtData, FindsData, Found, Outcome}
-use Rattle.sig_outcome.specs.Refusals.{IsAboutData}
-use Rattle.sig_outcome.specs.declared.refusal.Refusal.{Refusal}
 
 -- the event of the core that an event of a file stands for
 abbrev pub happens : FileEvent → Event

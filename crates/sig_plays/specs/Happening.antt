@@ -1,15 +1,7 @@
 -- What a list of events does to a core and a sink, and what a play does.
-use Rattle.std.specs.Prelude.{◌≡◌, ◌++◌, ℕ, List, fold, Option}
-use Rattle.sig_base.specs.Traces.{Trace}
-use Rattle.sig_base.specs.declared.place.Place.{Place}
-use Rattle.sig_core.specs.Cores.{Shows, TookMore, given_of}
+use Rattle.std.specs.Prelude.{◌≡◌, ◌++◌}
+use Rattle.sig_plays.specs.Prelude.{ℕ, List, fold, Option, Trace, Place, Shows, TookMore, given_of, output_text, Kernel, IsEnd, Core as ModelCore, Given, after, reactions_text, stepped, Event, Ended}
 use Rattle.sig_core.specs.declared.state.Core.{Core}
-use Rattle.sig_kernel.specs.OutputText.{output_text}
-use Rattle.sig_kernel.specs.declared.kernel.Kernel.{Kernel}
-use Rattle.sig_model.specs.Causes.{IsEnd}
-use Rattle.sig_model.specs.Cores.{Core as ModelCore, Given, after, reactions_text, stepped}
-use Rattle.sig_model.specs.declared.event.Event.{Event}
-use Rattle.sig_plan.specs.declared.ended.Ended.{Ended}
 use Rattle.sig_plays.specs.StateLines.{state_text}
 
 -- the state behind events

@@ -1,3 +1,4 @@
+pub mod Prelude
 pub mod Complete
 pub mod EventFiles
 pub mod Happening

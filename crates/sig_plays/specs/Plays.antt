@@ -1,29 +1,8 @@
 -- What the command `play` comes to over told contents: events of all actors happen one after another, the state that they
 -- leave is written, and the run is finished from there.
 -- The refusals of the command are tried in the order in which the equations below stand.
-use Rattle.std.specs.Prelude.{◌≡◌, ◌⊎◌, ℕ, ℤ, Bool, List, map, Option, Some}
-use Rattle.sig_base.specs.Traces.{Trace}
-use Rattle.sig_base.specs.declared.limits.TheConstants.{FLOW_BYTES, PROGRAM_BYTES}
-use Rattle.sig_base.specs.declared.place.Place.{Place}
-use Rattle.sig_text.specs.Files.{Contents, name_where_there}
-use Rattle.sig_kernel.specs.Validity.{inputs_of}
-use Rattle.sig_kernel.specs.declared.kernel.Kernel.{Kernel}
-use Rattle.sig_plan.specs.Plans.{PlanView}
-use Rattle.sig_plan.specs.declared.ended.Ended.{Ended}
-use Rattle.sig_model.specs.Causes.{IsEnd}
-use Rattle.sig_model.specs.Cores.{Core, after}
-use Rattle.sig_core.specs.Schedules.{run_of}
-use Rattle.sig_flow.specs.Events.{AreEvents}
-use Rattle.sig_flow.specs.Flows.{AreFlows}
-use Rattle.sig_flow.specs.declared.event.FileEvent.{FileEvent}
-use Rattle.sig_words.specs.declared.command.Settings.{Settings}
-use Rattle.sig_outcome.specs.Outcomes.{Holds, Outcome}
-use Rattle.sig_outcome.specs.Tasks.{Task, Writes}
-use Rattle.sig_outcome.specs.declared.refusal.Refusal.{Refusal}
-use Rattle.sig_compile.specs.Acceptance.{IsAcceptedAs}
-use Rattle.sig_compile.specs.Compiling.{AtPlan, HoldsBeyondBound}
-use Rattle.sig_runs.specs.Ends.{end_line, end_status}
-use Rattle.sig_runs.specs.Runs.{AtFlows, AtLinks, HasBegunRun, IsAboutRun, IsPlanOf, IsRunStatus}
+use Rattle.std.specs.Prelude.{◌≡◌, ◌⊎◌}
+use Rattle.sig_plays.specs.Prelude.{ℕ, ℤ, Bool, List, map, Option, Some, Trace, FLOW_BYTES, PROGRAM_BYTES, Place, Contents, name_where_there, inputs_of, Kernel, PlanView, Ended, IsKernelEnd, IsPlanOf, Core, after, run_of, AreEvents, AreFlows, FileEvent, Settings, Holds, Outcome, Task, Writes, Refusal, IsAcceptedAs, AtPlan, HoldsBeyondBound, end_line, end_status, AtFlows, AtLinks, HasBegunRun, IsAboutRun, IsRunStatus}
 use Rattle.sig_plays.specs.EventFiles.{AtEvents, IsAboutEvents, happens}
 use Rattle.sig_plays.specs.Happening.{IsRest, played_text}
 
@@ -39,14 +18,16 @@ played kernel left rest end file =
     record { text = played_text kernel left rest; status = end_status end.cause; line = end_line kernel end; file = Some file }
 
 -- The play of events at the actors of a kernel over flows. Its text is what the events commit, the state that they leave and
--- what is missing there of the text of the longest trace; its line names the cause why that trace is not longer.
+-- what is missing there of the text of the longest trace; its line names the cause why that trace is not longer. The events
+-- happen at a plan of the kernel: each accepted kernel has one, and they leave one state at all of them, since plans differ in
+-- the references of their guards alone.
 pub record PlaysTo (kernel : Kernel) (flows : List (List ℤ)) (capacity limit : ℕ) (file : List ℕ) (events : List FileEvent) (o : Outcome) : Type 0 where
   pub plan : PlanView
   pub planned : IsPlanOf kernel plan
   pub trace : Trace
   pub place : Option Place
   pub end : Ended
-  pub ends : IsEnd plan flows limit trace place end
+  pub ends : IsKernelEnd kernel flows limit trace place end
   pub rest : List ℕ
   pub missing : IsRest kernel (left_by plan flows capacity limit events) trace rest
   pub is : o ≡ played kernel (left_by plan flows capacity limit events) rest end file
@@ -86,7 +67,7 @@ pub record WritesPlay {S : Type 0} (kernel : Kernel) (flows : List (List ℤ)) (
   pub trace : Trace
   pub place : Option Place
   pub end : Ended
-  pub ends : IsEnd plan flows limit trace place end
+  pub ends : IsKernelEnd kernel flows limit trace place end
   pub rest : List ℕ
   pub missing : IsRest kernel (left_by plan flows capacity limit events) trace rest
   pub writes : Writes (played_text kernel (left_by plan flows capacity limit events) rest) (end_line kernel end) (end_status end.cause) took out out' wrote wrote' clean Said status
@@ -106,7 +87,7 @@ pub record HasPlay (held : Contents) (program flows events : List ℕ) (settings
   pub trace : Trace
   pub place : Option Place
   pub end : Ended
-  pub ends : IsEnd plan values settings.instants trace place end
+  pub ends : IsKernelEnd kernel values settings.instants trace place end
   pub rest : List ℕ
   pub missing : IsRest kernel (left_by plan values settings.capacity settings.instants happening) trace rest
   pub numbered : status ≡ end_status end.cause

@@ -1,9 +1,6 @@
 -- The text of a state: a line for each actor and each link, and one for the failure word.
-use Rattle.std.specs.Fmt.{decimal}
-use Rattle.std.specs.Prelude.{◌+◌, ◌++◌, ℕ, ℤ, Bool, true, false, List, [], ◌∷◌, codes, flat_map, length, Option, None, Some}
-use Rattle.sig_base.specs.declared.place.Place.{Place}
-use Rattle.sig_model.specs.Actors.{Actor}
-use Rattle.sig_model.specs.Cores.{Core}
+use Rattle.std.specs.Prelude.{◌+◌, ◌++◌, ◌∷◌}
+use Rattle.sig_plays.specs.Prelude.{decimal, ℕ, ℤ, Bool, true, false, List, [], codes, flat_map, length, Option, None, Some, Place, Actor, Core}
 
 -- whether an actor has ended
 abbrev pub end_word : Bool → List ℕ

@@ -1,14 +1,8 @@
 //! The command `play`: from the names of three files to a status.
 
-ghost use Rattle.std.specs.Prelude.{◌≡◌, ◌⊎◌, ◌≤◌, length};
-ghost use Rattle.sig_base.specs.declared.limits.TheConstants.{ITEMS};
-ghost use Rattle.sig_core.specs.Cores.{IsCore, Shows};
-ghost use Rattle.sig_kernel.specs.Validity.{AreFlowsFor};
-ghost use Rattle.sig_model.specs.Cores.{opening};
-ghost use Rattle.sig_outcome.specs.Tasks.{Performs, SaysLine};
-ghost use Rattle.sig_plan.specs.Plans.{IsAccepted};
+ghost use Rattle.std.specs.Prelude.{◌≡◌, ◌⊎◌, ◌≤◌};
+ghost use Rattle.sig_plays.specs.Prelude.{length, ITEMS, IsCore, Shows, AreFlowsFor, opening, Performs, SaysLine, IsAccepted, HoldFew, LacksMemory};
 ghost use Rattle.sig_plays.specs.Plays.{WritesPlay, playing};
-ghost use Rattle.sig_runs.specs.Runs.{HoldFew, LacksMemory};
 
 use crate::load::{Script, load_script};
 use crate::writing::play_out;

@@ -1,10 +1,7 @@
 //! Reading the event file of a play.
 
-ghost use Rattle.std.specs.Prelude.{◌≡◌, ◌≢◌, ◌≤◌, Some, IfErr, IfOk, IfSome, length};
-ghost use Rattle.sig_flow.specs.Events.{AreEvents};
-ghost use Rattle.sig_outcome.specs.Outcomes.{Good};
-ghost use Rattle.sig_outcome.specs.Reading.{Reads};
-ghost use Rattle.sig_outcome.specs.Refusals.{HasCount, IsOfData, IsOwn, outcome_of};
+ghost use Rattle.std.specs.Prelude.{◌≡◌, ◌≢◌, ◌≤◌};
+ghost use Rattle.sig_plays.specs.Prelude.{Some, IfErr, IfOk, IfSome, length, AreEvents, Good, Reads, HasCount, IsOfData, IsOwn, outcome_of};
 ghost use Rattle.sig_plays.specs.EventFiles.{AtEvents, FindsEvents, IsAboutEvents, RefusesEvents, bad_events};
 
 use sig_flow::{EventAnswer, FileEvent, read_events};

@@ -1,11 +1,9 @@
 //! Events of a file, one after another.
 
-ghost use Rattle.std.specs.Prelude.{◌≡◌, ◌≤◌, OnErr, OnOk, map};
-ghost use Rattle.sig_core.specs.Cores.{IsCore, IsSameRun};
+ghost use Rattle.std.specs.Prelude.{◌≡◌, ◌≤◌};
+ghost use Rattle.sig_plays.specs.Prelude.{OnErr, OnOk, map, IsCore, IsSameRun, Rose, TookPrefix};
 ghost use Rattle.sig_plays.specs.EventFiles.{happens};
 ghost use Rattle.sig_plays.specs.Happening.{AllHappened, PartHappened};
-ghost use Rattle.sig_text.specs.Counts.{Rose};
-ghost use Rattle.sig_text.specs.Sink.{TookPrefix};
 
 use sig_core::{Core, Event};
 use sig_flow::FileEvent;

@@ -13,4 +13,4 @@ mod state;
 mod writing;
 
 pub use command::play_command;
-pub use laws::good_plays_end;
+pub use laws::{good_plays_end, plays_have_one_outcome};

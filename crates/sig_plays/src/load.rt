@@ -1,14 +1,9 @@
 //! Reading the files of a play.
 
-ghost use Rattle.std.specs.Prelude.{◌≡◌, IfErr, IfOk, IfSome};
-ghost use Rattle.sig_compile.specs.Compiling.{FindsAccepted};
-ghost use Rattle.sig_kernel.specs.Validity.{AreFlowsFor, inputs_of};
-ghost use Rattle.sig_outcome.specs.Outcomes.{Good};
-ghost use Rattle.sig_outcome.specs.Tasks.{Stops};
+ghost use Rattle.std.specs.Prelude.{◌≡◌};
+ghost use Rattle.sig_plays.specs.Prelude.{IfErr, IfOk, IfSome, FindsAccepted, AreFlowsFor, inputs_of, Good, Stops, FindsFlows, HoldFew, name_where_there};
 ghost use Rattle.sig_plays.specs.EventFiles.{FindsEvents};
 ghost use Rattle.sig_plays.specs.Plays.{playing};
-ghost use Rattle.sig_runs.specs.Runs.{FindsFlows, HoldFew};
-ghost use Rattle.sig_text.specs.Files.{name_where_there};
 
 use crate::event_file::load_events;
 use sig_flow::FileEvent;

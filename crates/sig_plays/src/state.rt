@@ -1,12 +1,9 @@
 //! The lines of a state.
 
-ghost use Rattle.std.specs.Prelude.{◌≡◌, ◌≤◌, OnErr, OnOk, flat_map, length};
-ghost use Rattle.sig_base.specs.declared.limits.TheConstants.{ITEMS};
-ghost use Rattle.sig_core.specs.Cores.{IsCore};
+ghost use Rattle.std.specs.Prelude.{◌≡◌, ◌≤◌};
+ghost use Rattle.sig_plays.specs.Prelude.{OnErr, OnOk, flat_map, length, ITEMS, IsCore, Rose, TookPrefix};
 ghost use Rattle.sig_plays.specs.Happening.{TookOf};
 ghost use Rattle.sig_plays.specs.StateLines.{actor_line, actor_pieces, end_word, lines_from, link_line, link_pieces, place_pieces, state_text, word_line};
-ghost use Rattle.sig_text.specs.Counts.{Rose};
-ghost use Rattle.sig_text.specs.Sink.{TookPrefix};
 
 use itoa::Buffer;
 use sig_base::Place;

@@ -1,13 +1,9 @@
 //! What a play writes.
 
-ghost use Rattle.std.specs.Prelude.{◌≤◌, IfOk, IsTrue, OnErr, OnOk, length, map};
-ghost use Rattle.sig_base.specs.declared.limits.TheConstants.{ITEMS};
-ghost use Rattle.sig_core.specs.Cores.{IsCore, Shows, given_of};
-ghost use Rattle.sig_model.specs.Cores.{opening};
+ghost use Rattle.std.specs.Prelude.{◌≤◌};
+ghost use Rattle.sig_plays.specs.Prelude.{IfOk, IsTrue, OnErr, OnOk, length, map, ITEMS, IsCore, Shows, given_of, opening, Rose, TookPrefix};
 ghost use Rattle.sig_plays.specs.EventFiles.{happens};
 ghost use Rattle.sig_plays.specs.Happening.{IsEndIn, TookPlay};
-ghost use Rattle.sig_text.specs.Counts.{Rose};
-ghost use Rattle.sig_text.specs.Sink.{TookPrefix};
 
 use crate::events::play_events;
 use crate::state::put_state;

@@ -5,21 +5,13 @@ pub use Rattle.std.proofs.lemmas.List.{get_or_default}
 pub use Rattle.std.proofs.lemmas.List.Concat.{flat_map-append}
 pub use Rattle.std.proofs.lemmas.List.Elements.{All-cons, All-head, All-nil, All-tail}
 pub use Rattle.std.proofs.lemmas.List.Folds.{flat_map-map}
-pub use Rattle.sig_base.specs.declared.ids.Kind.{Kind}
-pub use Rattle.sig_base.specs.declared.ids.Kind.TheVariants.{Boolean, Event, Integer}
-pub use Rattle.sig_lex.specs.declared.token.Token.{Token}
 pub use Rattle.sig_lex.specs.declared.token.TokenKind.{TokenKind}
 pub use Rattle.sig_lex.specs.declared.token.TokenKind.TheVariants.{Label, Last, Mark, Word}
 pub use Rattle.sig_lex.proofs.Common.{AllByRecursion, AllPass, IsInRange, IsMark, IsPrintable, IsWord, Lexeme, Spaced, Span, Spells, greatest_number, is_ascii_digit, is_label_byte, lexemes, map-append, nat_tests, numerals_by_value, spaced_text, take_more, tells_by_index, text_of, the_end, word_of}
-pub use Rattle.sig_tree.specs.Equations.{AreArguments, AreBodies, AreConstants, AreFurtherBodies, IsBody, IsClockEquation, IsDefinition, IsLeft, IsName, IsRight}
-pub use Rattle.sig_tree.specs.Expressions.{Enclosed, IsAtLevel, IsBare, IsConstant, IsExpression, IsInit, IsOptionalInit, IsOptionalOne, Stands}
-pub use Rattle.sig_tree.specs.Leaves.{leaves_of, terminal_of}
-pub use Rattle.sig_tree.specs.Levels.{default_level, delay_level, left_level, level_of, mixed_level, operand_level, primary_level, right_level}
-pub use Rattle.sig_tree.specs.Limits.{Limits, MayHave, MayStandInside, both_limits, operators, right_operators}
-pub use Rattle.sig_tree.specs.Processes.{AreGroups, AreLocals, AreParams, ArePragmas, IsGroup, IsInterface, IsItem, IsLocalGroup, IsModel, IsParam, IsPlacement, IsPlainItem, IsWhere}
-pub use Rattle.sig_tree.specs.Repeated.{Between, Each, Further, Listed, Separated}
-pub use Rattle.sig_tree.specs.Syntax.{Binary, Bodies, Called, Cell, Computed, Declared, Defines, Delay, Equal, Equations, Expression, Heading, Modelled, Named, Number, Placement, ProcessModel, ProcessModels, RightSide, Together, Truth, Unary, bodies_of, declared_of, equations_of, expression_of, heading_of, model_of, models_of, more_bodies, more_models, no_body, no_model, placement_of}
-pub use Rattle.sig_tree.specs.Terminals.{Leaf, Terminal, binary_terminal, kind_word as kind_terminal, label as label_terminal, leaf, mark as mark_terminal, name as name_terminal, name_leaf, number, truth_word, unary_terminal, word}
+pub use Rattle.sig_tree.specs.Leaves.{terminal_of}
+pub use Rattle.sig_tree.specs.Limits.{operators, right_operators}
+pub use Rattle.sig_tree.specs.Syntax.{Defines, Equal, bodies_of, declared_of, equations_of, expression_of, heading_of, model_of, models_of, placement_of}
+pub use Rattle.sig_tree.specs.Terminals.{kind_word as kind_terminal, label as label_terminal, mark as mark_terminal, name as name_terminal}
 pub use Rattle.sig_tree.specs.Unplaced.{no_place, unplaced, unplaced_bodies, unplaced_constant, unplaced_declared, unplaced_equations, unplaced_expression, unplaced_init, unplaced_item, unplaced_leaf, unplaced_leaves, unplaced_model, unplaced_models, unplaced_name, unplaced_placement, unplaced_right}
 pub use Rattle.sig_tree.specs.declared.expr.BinOp.{BinOp}
 pub use Rattle.sig_tree.specs.declared.expr.BinOp.TheVariants.{Add, And, Default, Div, Eq, Ge, Gt, Le, Less, Lt, Meet, Mod, Mul, Ne, Or, Plus, Sub, When, Xor}
@@ -34,6 +26,7 @@ pub use Rattle.sig_tree.specs.declared.process.Item.{Item}
 pub use Rattle.sig_tree.specs.declared.process.Process.{Process, Process', Row_of-Process, end_of-Process, items-the_row-Process, items_shown-the_row-Process-0, more_of-Process}
 unfoldable pub use Rattle.sig_tree.specs.declared.process.Process.{out-Process}
 pub use Rattle.sig_tree.specs.declared.process.RunOn.{RunOn}
+pub use Rattle.sig_tree.proofs.Common.{AreArguments, AreBodies, AreConstants, AreFurtherBodies, AreGroups, AreLocals, AreParams, ArePragmas, Between, Binary, Bodies, Boolean, Called, Cell, Computed, Declared, Delay, Each, Enclosed, Equations, Event, Expression, Further, Heading, Integer, IsAtLevel, IsBare, IsBody, IsClockEquation, IsConstant, IsDefinition, IsExpression, IsGroup, IsInit, IsInterface, IsItem, IsLeft, IsLocalGroup, IsModel, IsName, IsOptionalInit, IsOptionalOne, IsParam, IsPlacement, IsPlainItem, IsRight, IsWhere, Kind, Leaf, Limits, Listed, MayHave, MayStandInside, Modelled, Named, Number, Placement, ProcessModel, ProcessModels, RightSide, Separated, Stands, Terminal, Together, Token, Truth, Unary, binary_terminal, both_limits, default_level, delay_level, leaf, leaves_of, left_level, level_of, mixed_level, more_bodies, more_models, name_leaf, no_body, no_model, number, operand_level, primary_level, right_level, truth_word, unary_terminal, word}
 pub use Rattle.sig_print.specs.Canonical.{bare_words, bodies_words, body_list_words, body_words, canonical_text, constant_words, constants_words, expression_words, fitted, further, further_bodies_words, group_words, groups_words, heading_in, heading_words, init_words, integer_words, item_words, left_words, local_words, names_words, optional_init_words, params_words, pragma_words, pragmas_words, process_words, processes_words, right_words, separated, where_words}
 pub use Rattle.sig_print.specs.Prints.{Adds}
 pub use Rattle.sig_print.specs.Words.{after_blank, binary_word, kind_word, label, mark, name, number as number_of, on_new_line, one, reserved, truth, unary_word}

@@ -1,14 +1,8 @@
 -- The canonical words of a program: one text for each tree. A parenthesis stands exactly where the
 -- grammar needs it.
-use Rattle.std.specs.Prelude.{ℕ, ℤ, pos, negsuc, suc, ◌++◌, List, [], ◌∷◌, codes, Option, None, Some, if◌then◌else◌, nat_lt, flat_map}
-use Rattle.sig_lex.specs.Lexemes.{Spaced, printed_text}
-use Rattle.sig_lex.specs.declared.token.TokenKind.TheVariants.{Name, Word, Mark}
-use Rattle.sig_tree.specs.declared.expr.Name.{Name as TreeName}
-use Rattle.sig_tree.specs.declared.expr.Constant.{Constant}
-use Rattle.sig_tree.specs.declared.expr.Constant.TheVariants.{Int, Bool, Param}
-use Rattle.sig_tree.specs.declared.process.Item.{Item}
-use Rattle.sig_tree.specs.Syntax.{Expression, Named, Number, Truth, Unary, Binary, Delay, Cell, Declared, Placement, RightSide, Computed, Called, Equations, Together, Defines, Equal, Bodies, no_body, more_bodies, Heading, ProcessModel, Modelled, ProcessModels, no_model, more_models}
-use Rattle.sig_tree.specs.Levels.{default_level, mixed_level, delay_level, primary_level, operand_level, left_level, right_level, level_of}
+use Rattle.std.specs.Prelude.{◌++◌, ◌∷◌, if◌then◌else◌}
+use Rattle.sig_print.specs.Prelude.{ℕ, ℤ, pos, negsuc, suc, List, [], codes, Option, None, Some, nat_lt, flat_map, Spaced, printed_text, Name, Word, Mark, TreeName, Constant, Int, Bool, Param, Item, Expression, Named, Truth, Unary, Binary, Delay, Cell, Declared, Placement, RightSide, Computed, Called, Equations, Together, Defines, Equal, Bodies, no_body, more_bodies, Heading, ProcessModel, Modelled, ProcessModels, no_model, more_models, default_level, mixed_level, delay_level, primary_level, operand_level, left_level, right_level, level_of}
+use Rattle.sig_tree.specs.Syntax.{Number}
 use Rattle.sig_print.specs.Words.{after_blank, on_new_line, mark, reserved, name, number, one, label, truth, kind_word, unary_word, binary_word}
 
 -- X { separator X }, and nothing for no X

@@ -1,6 +1,5 @@
 -- The levels of the printer as the numbers of the grammar.
-use Rattle.std.specs.Prelude.{ℕ}
-use Rattle.sig_tree.specs.Levels.{default_level, mixed_level, clock_level, or_level, and_level, not_level, relation_level, sum_level, product_level, minus_level, delay_level, primary_level}
+use Rattle.sig_print.specs.Prelude.{ℕ, default_level, mixed_level, clock_level, or_level, and_level, not_level, relation_level, sum_level, product_level, minus_level, delay_level, primary_level}
 use Rattle.sig_print.specs.declared.level.Level.{Level}
 use Rattle.sig_print.specs.declared.level.Level.TheVariants.{Default, Mixed, Clock, Or, And, Not, Relation, Sum, Product, Minus, Delay, Primary}
 

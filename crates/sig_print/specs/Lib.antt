@@ -1,3 +1,4 @@
+pub mod Prelude
 pub mod Canonical
 pub mod Levels
 pub mod Prints

@@ -1,6 +1,6 @@
 -- What a call adds to a text.
-use Rattle.std.specs.Prelude.{◌≡◌, ◌++◌, ℕ, List, Result, OnOk}
-use Rattle.sig_lex.specs.Lexemes.{Spaced, spaced_text}
+use Rattle.std.specs.Prelude.{◌≡◌, ◌++◌}
+use Rattle.sig_print.specs.Prelude.{ℕ, List, Result, OnOk, Spaced, spaced_text}
 
 -- where the call succeeded, these words stand at the end of the text, each after its blank
 abbrev pub Adds : {T E : Type 0} → List ℕ → List ℕ → Result T E → List Spaced → Type 0

@@ -1,16 +1,6 @@
 -- The words of a printed text, each with the blank byte that stands before it.
-use Rattle.std.specs.Prelude.{ℕ, Bool, ◌++◌, List, [], ◌∷◌, codes, if◌then◌else◌}
-use Rattle.std.specs.Fmt.{decimal}
-use Rattle.sig_base.specs.declared.ids.Kind.{Kind}
-use Rattle.sig_base.specs.declared.ids.Kind.TheVariants.{Integer, Boolean, Event}
-use Rattle.sig_lex.specs.declared.token.TokenKind.{TokenKind}
-use Rattle.sig_lex.specs.declared.token.TokenKind.TheVariants.{Name, Word, Number, Label, Mark}
-use Rattle.sig_lex.specs.Lexemes.{Spaced}
-use Rattle.sig_tree.specs.declared.expr.Name.{Name as TreeName}
-use Rattle.sig_tree.specs.declared.expr.UnOp.{UnOp}
-use Rattle.sig_tree.specs.declared.expr.UnOp.TheVariants.{Not, Neg, When as UnaryWhen, Clock}
-use Rattle.sig_tree.specs.declared.expr.BinOp.{BinOp}
-use Rattle.sig_tree.specs.declared.expr.BinOp.TheVariants.{Default, When, Plus, Meet, Less, Or, Xor, And, Eq, Ne, Lt, Le, Gt, Ge, Add, Sub, Mul, Div, Mod}
+use Rattle.sig_print.specs.Prelude.{ℕ, List, [], codes, decimal, Kind, Integer, Boolean, Event, TokenKind, Name, Word, Number, Label, Mark, Spaced, TreeName, UnOp, Not, Neg, UnaryWhen, Clock, BinOp, Default, When, Plus, Meet, Less, Or, Xor, And, Eq, Ne, Lt, Le, Gt, Ge, Add, Sub, Mul, Div, Mod}
+use Rattle.std.specs.Prelude.{◌++◌, ◌∷◌, if◌then◌else◌, Bool}
 
 -- a word of this kind after a blank, and at the beginning of a line
 abbrev pub after_blank : TokenKind → List ℕ → Spaced

@@ -1,9 +1,7 @@
 //! The words of definitions, clock equations and bodies.
 
-ghost use Rattle.std.specs.Prelude.{map, [], ◌∷◌, codes};
-ghost use Rattle.sig_lex.specs.declared.token.TokenKind.TheVariants.{Mark};
-ghost use Rattle.sig_tree.specs.Levels.{default_level};
-ghost use Rattle.sig_tree.specs.Syntax.{expression_of, right_side_of, equations_of};
+ghost use Rattle.std.specs.Prelude.{◌∷◌};
+ghost use Rattle.sig_print.specs.Prelude.{map, [], codes, Mark, default_level, expression_of, right_side_of, equations_of};
 ghost use Rattle.sig_print.specs.Canonical.{body_list_words, body_words, constant_words, constants_words, expression_words, further, left_words, names_words, right_words, separated};
 ghost use Rattle.sig_print.specs.Prints.{Adds};
 ghost use Rattle.sig_print.specs.Words.{mark, name, on_new_line};

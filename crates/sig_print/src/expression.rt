@@ -1,7 +1,7 @@
 //! The words of constants and expressions.
 
-ghost use Rattle.std.specs.Prelude.{◌≡◌, ◌++◌, ◌∷◌, [], if◌then◌else◌, codes};
-ghost use Rattle.sig_tree.specs.Syntax.{expression_of};
+ghost use Rattle.std.specs.Prelude.{◌≡◌, ◌++◌, ◌∷◌, if◌then◌else◌};
+ghost use Rattle.sig_print.specs.Prelude.{[], codes, expression_of};
 ghost use Rattle.sig_print.specs.Canonical.{constant_words, init_words, optional_init_words, expression_words, bare_words};
 ghost use Rattle.sig_print.specs.Levels.{level_number};
 ghost use Rattle.sig_print.specs.Prints.{Adds};

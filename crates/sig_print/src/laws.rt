@@ -1,14 +1,7 @@
 //! Laws of the canonical text.
 
-ghost use Rattle.std.specs.Prelude.{◌≡◌, ℕ, List, [], ◌∷◌, ◌++◌, map};
-ghost use Rattle.std.specs.List.{AllByRecursion, flat_map};
-ghost use Rattle.sig_lex.specs.declared.token.Token.{Token};
-ghost use Rattle.sig_lex.specs.Lexemes.{IsPrintable, lexemes, the_end, word_of};
-ghost use Rattle.sig_lex.specs.Tokens.{AreTokens};
-ghost use Rattle.sig_tree.specs.Grammar.{HasTree, IsText};
-ghost use Rattle.sig_tree.specs.Leaves.{leaves_of};
-ghost use Rattle.sig_tree.specs.Syntax.{ProcessModel};
-ghost use Rattle.sig_tree.specs.Unplaced.{unplaced, unplaced_leaves};
+ghost use Rattle.std.specs.Prelude.{◌≡◌, ◌∷◌, ◌++◌};
+ghost use Rattle.sig_print.specs.Prelude.{ℕ, List, [], map, AllByRecursion, flat_map, Token, IsPrintable, lexemes, the_end, word_of, AreTokens, HasTree, IsText, leaves_of, ProcessModel, unplaced, unplaced_leaves};
 ghost use Rattle.sig_print.specs.Canonical.{canonical_text, process_words};
 
 use sig_lex::{each_token, tokens_of_words};

@@ -1,8 +1,7 @@
 //! The levels of expressions, from the loosest to the tightest.
 
-ghost use Rattle.std.specs.Prelude.{◌≡◌, nat_lt};
-ghost use Rattle.sig_tree.specs.Levels.{unary_level, operand_level, binary_level, left_level, right_level, level_of};
-ghost use Rattle.sig_tree.specs.Syntax.{expression_of};
+ghost use Rattle.std.specs.Prelude.{◌≡◌};
+ghost use Rattle.sig_print.specs.Prelude.{nat_lt, unary_level, operand_level, binary_level, left_level, right_level, level_of, expression_of};
 ghost use Rattle.sig_print.specs.Levels.{level_number};
 
 use sig_tree::{BinOp, Expr, UnOp};

@@ -1,7 +1,7 @@
 //! The text that is printed: words, each after a blank.
 
-ghost use Rattle.std.specs.Prelude.{◌≡◌, ◌<◌, ◌^◌, ◌++◌, ℕ, List, [], ◌∷◌, IfOk, OnOk, drop};
-ghost use Rattle.std.specs.Fmt.{decimal};
+ghost use Rattle.std.specs.Prelude.{◌≡◌, ◌<◌, ◌^◌, ◌++◌, ◌∷◌};
+ghost use Rattle.sig_print.specs.Prelude.{ℕ, List, [], IfOk, OnOk, drop, decimal};
 
 use crate::answer::PrintAnswer;
 use itoa::Buffer;

@@ -1,18 +1,5 @@
 -- Calls by names and by places.
-use Rattle.std.proofs.Common.{◌≡◌, ◌⊎◌, ◌↔◌, ℕ, List, [], ◌∷◌, refl, ap, sym, ◌∙◌, subst, inl, inr, Bool, true, false, cond, IsTrue, Option, None, Some, map, length, get_or, ◌<◌, arith, Contains, find, zero, suc}
-use Rattle.std.specs.Global.{Vec}
-use Rattle.std.specs.Str.{bytes_eq}
-use Rattle.std.proofs.lemmas.Slice.Eq.{bytes_eq-Decides}
-use Rattle.std.proofs.lemmas.List.{get_or-map, get_or_default, length-map, map-id}
-use Rattle.std.proofs.lemmas.List.Elements.{Contains-append_left, Contains-append_right, Contains-append_cases, Contains-push, Contains-push_cases}
-use Rattle.sig_tree.specs.declared.expr.Name.{Name}
-use Rattle.sig_tree.specs.Syntax.{ProcessModel}
-use Rattle.sig_tree.specs.Declarations.{name_of, process_of, called_by, texts}
-use Rattle.sig_tree.specs.Rules.{Reaches, Itself, ByCall}
-use Rattle.sig_scope.specs.Places.{place_of}
-use Rattle.sig_scope.specs.Walked.{process_texts}
-use Rattle.sig_recursion.specs.Calls.{list_of, places_called, graph_of, graph_in, callees_at, IsGraph, Path, Here, There}
-use Rattle.sig_scope.proofs.Placing.{find_some, find_none, within}
+use Rattle.sig_recursion.proofs.Common.{◌≡◌, ◌⊎◌, ◌↔◌, ℕ, List, [], ◌∷◌, refl, ap, sym, ◌∙◌, subst, inl, inr, Bool, true, false, cond, IsTrue, Option, None, Some, map, length, get_or, ◌<◌, arith, Contains, find, zero, suc, Vec, bytes_eq, bytes_eq-Decides, get_or-map, get_or_default, length-map, map-id, Contains-append_left, Contains-append_right, Contains-append_cases, Contains-push, Contains-push_cases, Name, ProcessModel, name_of, process_of, called_by, texts, Reaches, Itself, ByCall, place_of, process_texts, list_of, places_called, graph_of, graph_in, callees_at, IsGraph, Path, Here, There, find_some, find_none, within}
 
 none_at : {A : Type 0} (t : A) → Contains [] t → ⊥
 none_at t c = let h : c.0 < 0 = c.1 in omega arith

@@ -1,15 +1,5 @@
 -- Ranks that fall along calls.
-use Rattle.std.proofs.Common.{◌≡◌, ◌⊎◌, ℕ, List, [], ◌∷◌, ◌∙◌, subst, inl, inr, false, Option, Some, length, get_or, ◌+◌, ◌<◌, ◌≤◌, arith, Contains, leb}
-use Rattle.std.specs.Global.{Vec}
-use Rattle.std.specs.List.{All}
-use Rattle.std.proofs.lemmas.List.{get_or_past, length-map}
-use Rattle.std.proofs.lemmas.List.Elements.{All-contains}
-use Rattle.std.proofs.lemmas.Bool.{cases_lt, leb-false}
-use Rattle.sig_tree.specs.Syntax.{ProcessModel}
-use Rattle.sig_tree.specs.Rules.{Reaches}
-use Rattle.sig_recursion.specs.Calls.{callees_at, graph_in, graph_of, rank_of, IsFalling, Path, Here, There}
-use Rattle.sig_scope.specs.Places.{place_of}
-use Rattle.sig_scope.specs.Walked.{process_texts}
+use Rattle.sig_recursion.proofs.Common.{◌≡◌, ◌⊎◌, ℕ, List, [], ◌∷◌, ◌∙◌, subst, inl, inr, false, Option, Some, length, get_or, ◌+◌, ◌<◌, ◌≤◌, arith, Contains, leb, Vec, All, get_or_past, length-map, All-contains, cases_lt, leb-false, ProcessModel, Reaches, callees_at, graph_in, graph_of, rank_of, IsFalling, Path, Here, There, place_of, process_texts}
 use Rattle.sig_recursion.proofs.Calling.{reaches_same}
 use Rattle.sig_recursion.proofs.Walking.{callees_are}
 

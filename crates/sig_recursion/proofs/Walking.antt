@@ -1,13 +1,5 @@
 -- A walk over a graph of calls.
-use Rattle.std.proofs.Common.{◌≡◌, ◌≢◌, ◌++◌, ◌⊎◌, ℕ, List, [], ◌∷◌, refl, ap, sym, ◌∙◌, subst, inl, inr, Bool, true, false, not, cond, take, drop, length, get_or, ◌+◌, ◌<◌, ◌≤◌, arith, Contains, count_by}
-use Rattle.std.specs.Global.{Vec}
-use Rattle.std.specs.List.{All}
-use Rattle.std.proofs.lemmas.Bool.{cases_eq}
-use Rattle.std.proofs.Math.ListN.{set}
-use Rattle.std.proofs.lemmas.List.{append-nil, take_more, take_all, drop_all, length-set, length-append, get_or-set_same, get_or-set_other, get_or-map, length-map}
-use Rattle.std.proofs.lemmas.List.Elements.{Contains-append_left, Contains-get_or, Contains-push, Contains-push_cases}
-use Rattle.std.proofs.lemmas.List.Sums.{sum_by-set}
-use Rattle.sig_recursion.specs.Calls.{callees_at, graph_in, IsGraph, Path, Here, There, IsVisited, IsPassed, IsCovered, Visits, IsWalk}
+use Rattle.sig_recursion.proofs.Common.{◌≡◌, ◌≢◌, ◌++◌, ◌⊎◌, ℕ, List, [], ◌∷◌, refl, ap, sym, ◌∙◌, subst, inl, inr, Bool, true, false, not, cond, take, drop, length, get_or, ◌+◌, ◌<◌, ◌≤◌, arith, Contains, count_by, Vec, All, cases_eq, set, append-nil, take_more, take_all, drop_all, length-set, length-append, get_or-set_same, get_or-set_other, get_or-map, length-map, Contains-append_left, Contains-get_or, Contains-push, Contains-push_cases, sum_by-set, callees_at, graph_in, IsGraph, Path, Here, There, IsVisited, IsPassed, IsCovered, Visits, IsWalk}
 
 none_of : (t : ℕ) → Contains [] t → ⊥
 none_of t c = let h : c.0 < 0 = c.1 in omega arith

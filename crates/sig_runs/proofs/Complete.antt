@@ -1,32 +1,32 @@
--- A program that can be run over flows comes to the end of its run.
-use Rattle.std.proofs.Common.{◌≡◌, ◌∙◌, ◌⊎◌, ◌*◌, ℕ, ℤ, List, length, Some, ⊎_elim, inl, inr, refl, sym, ap, subst}
-use Rattle.std.proofs.lemmas.Bool.{cases_lt}
-use Rattle.sig_base.specs.declared.limits.TheConstants.{ITEMS}
-use Rattle.sig_text.specs.Files.{Contents}
-use Rattle.sig_kernel.specs.Validity.{AreFlowsFor, inputs_of}
-use Rattle.sig_kernel.specs.declared.kernel.Kernel.{Kernel}
-use Rattle.sig_plan.specs.Plans.{PlanView}
-use Rattle.sig_meaning.proofs.Ending.{some_end}
-use Rattle.sig_flow.specs.Flows.{AreFlows}
-use Rattle.sig_flow.proofs.FittingFlows.{read_fit}
-use Rattle.sig_words.specs.declared.command.Settings.{Settings}
-use Rattle.sig_outcome.specs.Outcomes.{Outcome}
-use Rattle.sig_outcome.specs.Tasks.{IsEnded}
-use Rattle.sig_outcome.proofs.Stages.{behind_data, behind_program}
-use Rattle.sig_compile.specs.Acceptance.{AreRefused, IsAcceptedAs}
-use Rattle.sig_compile.specs.Compiling.{AtPlan}
-use Rattle.sig_compile.proofs.Verdicts.{accepted_once, accepted_or_refused, refused_once}
-use Rattle.sig_runs.specs.Complete.{CanRun}
-use Rattle.sig_runs.specs.Runs.{AtFlows, AtLinks, HoldFew, HoldTooMany, IsPlanOf, RefusesFlows, RunComesTo, RunsTo, ended}
-use Rattle.sig_runs.proofs.OneRun.{flows_apart, no_flows_line, one_flows, runs}
+-- An accepted program comes to an outcome, and one that can be run over flows to the end of its run.
+use Rattle.sig_runs.proofs.Common.{◌⊎◌, ℕ, ℤ, List, Some, ⊎_elim, inl, inr, refl, sym, ap, subst, PROGRAM_BYTES, Contents, inputs_of, Kernel, Signal, some_kernel_end, AreFlows, flows_or_fault, read_fit, Settings, Good, Holds, Outcome, refused, too_many_items, IsEnded, behind_data, behind_program, AreRefused, IsAcceptedAs, AtPlan, accepted_once, accepted_or_refused, refused_once, CanRun, AtFlows, AtLinks, HoldFew, RefusesFlows, RunComesTo, RunsTo, bad_flows, ended}
+use Rattle.sig_runs.proofs.Finding.{some_at_data}
+use Rattle.sig_runs.proofs.OneRun.{flows_apart, links_refuse, no_flows_line, one_flows}
+use Rattle.sig_runs.proofs.Plans.{items_are}
 use Rattle.sig_runs.proofs.Written.{is_ended}
 
--- links that do not hold too many items hold few
-pub few_items : (kernel : Kernel) (capacity : ℕ) (plan : PlanView) → IsPlanOf kernel plan → (HoldTooMany kernel capacity → ⊥) → HoldFew kernel capacity
-few_items kernel capacity plan planned none =
-    ⊎_elim (λ many. absurd (none (record { plan = plan; planned = planned; fact = many })))
-    (λ few. record { plan = plan; planned = planned; fact = few })
-    (cases_lt ITEMS (length plan.links * capacity))
+-- bytes have a reading as flows, or are refused with a line
+pub flows_either : (name : List ℕ) (inputs : List Signal) (bytes : List ℕ) → ((values : List (List ℤ)) × AreFlows inputs bytes values) ⊎ ((line : List ℕ) × RefusesFlows name inputs bytes line)
+flows_either name inputs bytes =
+    ⊎_elim (λ good. inl good) (λ bad. inr (bad_flows name bad.0, record { answer = bad.0; none = bad.1; says = refl })) (flows_or_fault inputs bytes _ refl)
+
+-- an accepted program comes to an outcome, whatever the flow file holds
+module _ (held : Contents) (program flows : List ℕ) (settings : Settings) (kernel : Kernel) (accepted : Holds (held program) PROGRAM_BYTES (λ bytes. IsAcceptedAs settings.pace bytes kernel)) where
+  some_end : (values : List (List ℤ)) (bytes : List ℕ) → AreFlows (inputs_of kernel) bytes values → (o : Outcome) × RunsTo kernel values settings.instants flows o
+  some_end values bytes read =
+      let end = some_kernel_end kernel accepted.good.has.valid accepted.good.accepted values (read_fit kernel bytes values read) settings.instants in
+      (ended kernel end.0 end.2 flows, record { trace = end.0; place = end.1; end = end.2; ends = end.3; is = refl })
+
+  few_run : HoldFew kernel settings.capacity → (o : Outcome) × RunComesTo held program flows settings o
+  few_run few =
+      let behind = some_at_data (AreFlows (inputs_of kernel)) (RefusesFlows flows (inputs_of kernel)) (flows_either flows (inputs_of kernel)) held flows
+      (λ values. RunsTo kernel values settings.instants flows) some_end in
+      (behind.0, (Good kernel, accepted, inr (few, behind.1)))
+
+  pub some_outcome : (o : Outcome) × RunComesTo held program flows settings o
+  some_outcome =
+      ⊎_elim (λ many. (refused 2 too_many_items (Some program), links_refuse program flows settings held kernel accepted many)) few_run
+      (items_are kernel accepted.good.accepted settings.capacity)
 
 module _ (held : Contents) (program flows : List ℕ) (settings : Settings) (can : CanRun held program flows settings) where
   -- what comes behind its files comes to what is due of its kernel and its values
@@ -53,18 +53,5 @@ module _ (held : Contents) (program flows : List ℕ) (settings : Settings) (can
   pub end_status_is : (o : Outcome) → RunComesTo held program flows settings o → IsEnded o.status
   end_status_is o x = let run = only_end o x in subst IsEnded (sym (ap (λ (q : Outcome). q.status) run.is)) (is_ended run.end.cause)
 
-  pub fit : AreFlowsFor can.kernel can.values
-  fit = read_fit can.kernel can.read.bytes can.values can.read.good
-
-  module _ (plan : PlanView) (planned : IsPlanOf can.kernel plan) where
-    pub fits : AreFlowsFor plan.kernel can.values
-    fits = subst (λ (k : Kernel). AreFlowsFor k can.values) (sym planned.same) fit
-
-    pub some_run : (o : Outcome) × RunComesTo held program flows settings o
-    some_run =
-        let end = some_end plan planned.accepted can.values fits settings.instants in (
-          ended can.kernel end.0 end.2 flows,
-          runs program flows settings held can.kernel can.accepted (few_items can.kernel settings.capacity plan planned can.few) can.values can.read
-              (ended can.kernel end.0 end.2 flows)
-              (record { plan = plan; planned = planned; trace = end.0; place = end.1; end = end.2; ends = end.3; is = refl }),
-        )
+  pub some_run : (o : Outcome) × RunComesTo held program flows settings o
+  some_run = some_outcome held program flows settings can.kernel can.accepted

@@ -1,13 +1,6 @@
 -- A run with status 0 or 3 is one of an accepted program over flows of its inputs.
-use Rattle.std.proofs.Common.{◌≡◌, ◌∙◌, ◌⊎◌, ℕ, ℤ, List, Option, Some, inl, inr, refl, ap, subst, arith}
-use Rattle.sig_kernel.specs.Validity.{inputs_of}
-use Rattle.sig_kernel.specs.declared.kernel.Kernel.{Kernel}
-use Rattle.sig_text.specs.Files.{Contents}
-use Rattle.sig_words.specs.declared.command.Settings.{Settings}
-use Rattle.sig_outcome.specs.Outcomes.{Absent, AtFile, Bad, Found, Good, Long, Outcome, long_file, long_program}
-use Rattle.sig_outcome.specs.Tasks.{IsDue, IsEnded}
-use Rattle.sig_compile.specs.Compiling.{FindsAccepted}
-use Rattle.sig_runs.specs.Runs.{AtFlows, AtLinks, FindsFlows, HasRun, RunComesTo, RunsTo}
+use Rattle.sig_runs.proofs.Common.{◌≡◌, ◌∙◌, ◌⊎◌, ℕ, ℤ, List, Option, Some, inl, inr, refl, ap, subst, arith, inputs_of, Kernel, Contents, Settings, Absent, AtFile, Found, Good, Long, Outcome, long_file, long_program, IsDue, IsEnded, FindsAccepted, AtFlows, AtLinks, FindsFlows, HasRun, RunComesTo, RunsTo}
+use Rattle.sig_outcome.specs.Outcomes.{Bad}
 
 -- a status of a refusal is none of a run that came to its end
 not_ended : (status n : ℕ) → IsEnded status → status ≡ n → (n ≡ 1) ⊎ ((n ≡ 2) ⊎ ((n ≡ 4) ⊎ (n ≡ 5))) → ⊥
@@ -32,8 +25,6 @@ module _ (held : Contents) (program flows : List ℕ) (settings : Settings) (bef
     accepted = accepted;
     values = values;
     read = read;
-    plan = run.plan;
-    planned = run.planned;
     trace = run.trace;
     place = run.place;
     end = run.end;

@@ -1,21 +1,5 @@
 -- The line of a flow file that is refused tells of a fault of its bytes, and not of memory that was wanting.
-use Rattle.std.proofs.Common.{◌≡◌, ◌≢◌, ◌∙◌, ◌+◌, ℕ, Bool, true, false, List, [], ◌∷◌, Option, None, Some, Result, Ok, Err, ap, subst, sum_by}
-use Rattle.std.specs.Prelude.{⊤, nat_le, if◌then◌else◌}
-use Rattle.std.specs.List.{list_all}
-use Rattle.sig_base.specs.declared.ids.Kind.{Kind}
-use Rattle.sig_base.specs.declared.signal.Signal.{Signal}
-use Rattle.sig_base.specs.declared.limits.TheConstants.{VALUES}
-use Rattle.sig_flow.specs.Flows.{IsFirstBadPlace, file_body, is_line_byte, is_name, kind_named, named_fault, text_fault, value_judge, word_fault, words_fault}
-use Rattle.sig_flow.specs.Values.{run_said}
-use Rattle.sig_flow.specs.Words.{Word, words_of}
-use Rattle.sig_flow.specs.declared.answer.FlowAnswer.{FlowAnswer}
-use Rattle.sig_flow.specs.declared.answer.FlowAnswer.TheVariants.{BadLine, NotAnInput, BadValue, OutOfRange, TooMany, OutOfMemory}
-use Rattle.sig_flow.specs.declared.value.Run.{Run}
-use Rattle.sig_flow.specs.declared.value.WordFault.{WordFault}
-use Rattle.sig_flow.specs.declared.value.WordFault.TheVariants.{Bad, Outside}
-use Rattle.sig_flow.specs.declared.version.Version.{Version}
-use Rattle.sig_flow.proofs.FirstLemmas.{first_from_some}
-use Rattle.sig_runs.specs.Runs.{IsFlowLine, RefusesFlows}
+use Rattle.sig_runs.proofs.Common.{◌≡◌, ◌≢◌, ◌∙◌, ◌+◌, ℕ, Bool, true, false, List, [], ◌∷◌, Option, None, Some, Result, Ok, Err, ap, subst, sum_by, ⊤, nat_le, if◌then◌else◌, list_all, Kind, Signal, VALUES, IsFirstBadPlace, file_body, is_line_byte, is_name, kind_named, named_fault, text_fault, value_judge, word_fault, words_fault, run_said, Word, words_of, FlowAnswer, BadLine, NotAnInput, BadValue, OutOfRange, TooMany, OutOfMemory, Run, WordFault, Bad, Outside, Version, first_from_some, IsFlowLine, RefusesFlows}
 
 -- a fault, if there is one, is none of memory
 abbrev Tells : Option FlowAnswer → Type 0

@@ -1,7 +1,16 @@
+pub mod Common
 pub mod Plans
 pub mod FlowLines
 pub mod OneRun
+pub mod Finding
 mod Loads
 pub mod Written
 pub mod Ending
 pub mod Complete
+pub use Common.*
+pub use Complete.*
+pub use FlowLines.*
+pub use Loads.*
+pub use OneRun.*
+pub use Plans.*
+pub use Written.*

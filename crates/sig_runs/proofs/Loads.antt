@@ -1,19 +1,6 @@
 -- What the files of a run call for.
-use Rattle.std.proofs.Common.{◌≡◌, ◌≤◌, ℕ, ℤ, List, Option, Some, IfSome, ⊎_elim, inl, inr, refl, subst, arith}
-use Rattle.sig_base.specs.Traces.{Trace}
-use Rattle.sig_kernel.specs.Validity.{inputs_of}
-use Rattle.sig_kernel.specs.declared.kernel.Kernel.{Kernel}
-use Rattle.sig_plan.specs.declared.ended.Ended.{Ended}
-use Rattle.sig_text.specs.Files.{Contents, name_where_there}
-use Rattle.sig_words.specs.declared.command.Settings.{Settings}
-use Rattle.sig_outcome.specs.Outcomes.{Good}
-use Rattle.sig_outcome.specs.Refusals.{HasCount, IsOwn, outcome_of, status_of}
-use Rattle.sig_outcome.specs.Tasks.{Reaches, Stops}
-use Rattle.sig_outcome.specs.declared.refusal.Refusal.{Refusal}
-use Rattle.sig_outcome.specs.declared.refusal.Refusal.TheVariants.{Missing, ReadFault, LongProgram, Program, Budget, TooManyItems, LongFile, Data, OutOfMemory}
-use Rattle.sig_outcome.proofs.Refused.{later_count, later_own, told, told_both}
-use Rattle.sig_compile.specs.Compiling.{AtPlan, FindsAccepted, HoldsBeyondBound, IsAboutPlan}
-use Rattle.sig_runs.specs.Runs.{AtFlows, FindsFlows, HoldFew, HoldTooMany, IsAboutFlows, IsAboutRun, IsRunStatus, RunComesTo, RunsTo, ended, running}
+use Rattle.sig_runs.proofs.Common.{◌≡◌, ◌≤◌, ℕ, ℤ, List, Option, Some, IfSome, inl, inr, refl, subst, arith, Trace, inputs_of, Kernel, Ended, Contents, name_where_there, Settings, Good, HasCount, IsOwn, outcome_of, status_of, Reaches, Stops, Refusal, Missing, ReadFault, LongProgram, Program, Budget, TooManyItems, LongFile, Data, later_count, later_own, told, told_both, AtPlan, FindsAccepted, HoldsBeyondBound, IsAboutPlan, AtFlows, FindsFlows, HoldFew, HoldTooMany, IsAboutFlows, IsAboutRun, IsRunStatus, RunComesTo, RunsTo, ended, running}
+use Rattle.sig_outcome.specs.declared.refusal.Refusal.TheVariants.{OutOfMemory}
 use Rattle.sig_runs.proofs.OneRun.{flows_refuse, links_refuse, program_refuses, runs}
 
 -- a refusal of a run has a status of a run

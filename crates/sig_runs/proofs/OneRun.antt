@@ -1,23 +1,6 @@
 -- A run over told contents comes to one outcome at most, and what it comes to.
-use Rattle.std.proofs.Common.{◌≡◌, ◌∙◌, ◌⊎◌, ℕ, ℤ, List, Option, Some, inl, inr, sym, refl, ap, subst}
-use Rattle.sig_base.specs.Traces.{Trace}
-use Rattle.sig_base.specs.declared.signal.Signal.{Signal}
-use Rattle.sig_text.specs.Files.{Contents}
-use Rattle.sig_kernel.specs.Validity.{AreFlowsFor, inputs_of}
-use Rattle.sig_kernel.specs.declared.kernel.Kernel.{Kernel}
-use Rattle.sig_plan.specs.declared.ended.Ended.{Ended}
-use Rattle.sig_meaning.proofs.Uniqueness.{one_end}
-use Rattle.sig_flow.specs.Flows.{AreFlows}
-use Rattle.sig_flow.proofs.FittingFlows.{read_fit}
-use Rattle.sig_flow.proofs.FlowLemmas.{flows_and_fault, one_place}
-use Rattle.sig_words.specs.declared.command.Settings.{Settings}
-use Rattle.sig_outcome.specs.Outcomes.{Good, OneAtMost, Outcome, long_file, long_program, refused, too_many_items}
-use Rattle.sig_outcome.proofs.Stages.{at_file_ends, one_at_data, one_at_program}
-use Rattle.sig_compile.specs.Acceptance.{AreRefused, IsAcceptedAs}
-use Rattle.sig_compile.specs.Compiling.{AtPlan, FindsAccepted}
-use Rattle.sig_compile.proofs.Verdicts.{accepted_once, accepted_or_refused, refused_once}
-use Rattle.sig_runs.specs.Runs.{AtFlows, AtLinks, FindsFlows, HoldFew, HoldTooMany, RefusesFlows, RunComesTo, RunsTo, bad_flows, ended}
-use Rattle.sig_runs.proofs.Plans.{items_apart, same_end}
+use Rattle.sig_runs.proofs.Common.{◌≡◌, ◌∙◌, ℕ, ℤ, List, Option, Some, inl, inr, sym, refl, ap, Trace, Signal, Contents, AreFlowsFor, inputs_of, Kernel, Ended, IsValid, IsAcceptedKernel, one_kernel_end, AreFlows, read_fit, flows_and_fault, one_place, Settings, Good, OneAtMost, Outcome, long_file, long_program, refused, too_many_items, at_file_ends, one_at_data, one_at_program, AreRefused, IsAcceptedAs, AtPlan, FindsAccepted, accepted_once, accepted_or_refused, refused_once, AtFlows, AtLinks, FindsFlows, HoldFew, HoldTooMany, RefusesFlows, RunComesTo, RunsTo, bad_flows, ended}
+use Rattle.sig_runs.proofs.Plans.{items_apart}
 
 -- ---- the flow file
 
@@ -34,19 +17,17 @@ flows_apart name inputs bytes values l says refuses = flows_and_fault inputs byt
 -- ---- one outcome
 
 -- a run has one end
-pub one_run : (kernel : Kernel) (values : List (List ℤ)) (limit : ℕ) (file : List ℕ) → AreFlowsFor kernel values → OneAtMost (RunsTo kernel values limit file)
-one_run kernel values limit file fit o p x y =
-    let fits : AreFlowsFor x.plan.kernel values = subst (λ (k : Kernel). AreFlowsFor k values) (sym x.planned.same) fit in
-    let same = one_end x.plan x.planned.accepted values fits limit x.trace y.trace x.place y.place x.end y.end x.ends
-    (same_end kernel x.plan y.plan x.planned y.planned values limit y.trace y.place y.end y.ends) in
+pub one_run : (kernel : Kernel) → IsValid kernel → IsAcceptedKernel kernel → (values : List (List ℤ)) (limit : ℕ) (file : List ℕ) → AreFlowsFor kernel values → OneAtMost (RunsTo kernel values limit file)
+one_run kernel valid accepted values limit file fit o p x y =
+    let same = one_kernel_end kernel valid accepted values fit limit x.trace y.trace x.place y.place x.end y.end x.ends y.ends in
     x.is ∙ ap (λ (t : Trace). ended kernel t x.end file) same.0 ∙ ap (λ (e : Ended). ended kernel y.trace e file) same.2 ∙ sym y.is
 
 -- the links hold too many items or few
-pub one_at_links : (kernel : Kernel) (capacity : ℕ) (file : Option (List ℕ)) (Next : Outcome → Type 0) → OneAtMost Next → OneAtMost (AtLinks kernel capacity file Next)
-one_at_links kernel capacity file Next one o p (inl x) (inl y) = x.1 ∙ sym y.1
-one_at_links kernel capacity file Next one o p (inl x) (inr y) = absurd (items_apart kernel capacity x.0 y.0)
-one_at_links kernel capacity file Next one o p (inr x) (inl y) = absurd (items_apart kernel capacity y.0 x.0)
-one_at_links kernel capacity file Next one o p (inr x) (inr y) = one o p x.1 y.1
+pub one_at_links : (kernel : Kernel) → IsValid kernel → (capacity : ℕ) (file : Option (List ℕ)) (Next : Outcome → Type 0) → OneAtMost Next → OneAtMost (AtLinks kernel capacity file Next)
+one_at_links kernel valid capacity file Next one o p (inl x) (inl y) = x.1 ∙ sym y.1
+one_at_links kernel valid capacity file Next one o p (inl x) (inr y) = absurd (items_apart kernel valid capacity x.0 y.0)
+one_at_links kernel valid capacity file Next one o p (inr x) (inl y) = absurd (items_apart kernel valid capacity y.0 x.0)
+one_at_links kernel valid capacity file Next one o p (inr x) (inr y) = one o p x.1 y.1
 
 module _ (program flows : List ℕ) (settings : Settings) where
   -- what comes behind a program that is accepted, and behind links that hold few items
@@ -61,10 +42,10 @@ module _ (program flows : List ℕ) (settings : Settings) where
   one_run_outcome held =
       one_at_program (IsAcceptedAs settings.pace) (AreRefused settings.pace) (accepted_once settings.pace) (refused_once settings.pace) (accepted_or_refused settings.pace) held program (λ kernel. AtKernel held kernel)
       (λ kernel bytes is.
-      one_at_links kernel settings.capacity (Some program) (λ q. AtInputs held kernel q)
+      one_at_links kernel is.has.valid settings.capacity (Some program) (λ q. AtInputs held kernel q)
       (one_at_data (AreFlows (inputs_of kernel)) (RefusesFlows flows (inputs_of kernel)) (one_flows (inputs_of kernel)) (no_flows_line flows (inputs_of kernel)) (flows_apart flows (inputs_of kernel)) held flows
       (λ values. RunsTo kernel values settings.instants flows)
-      (λ values data_bytes read. one_run kernel values settings.instants flows (read_fit kernel data_bytes values read))))
+      (λ values data_bytes read. one_run kernel is.has.valid is.accepted values settings.instants flows (read_fit kernel data_bytes values read))))
 
   module _ (held : Contents) where
     -- a program file that gives no plan ends it

@@ -1,28 +1,6 @@
 -- What is promised of a run follows from what its files gave and what was written.
-use Rattle.std.proofs.Common.{◌≡◌, ◌∙◌, ◌⊎◌, ℕ, ℤ, List, [], Bool, Option, IfSome, inl, inr, refl, sym, subst, arith}
-use Rattle.std.specs.Prelude.{IsTrue}
-use Rattle.sig_alone.specs.Runs.{IsWholeRun}
-use Rattle.sig_base.specs.Traces.{IsLongest, Trace}
-use Rattle.sig_kernel.specs.KernelTraces.{IsKernelTrace}
-use Rattle.sig_kernel.specs.OutputText.{output_text}
-use Rattle.sig_kernel.specs.Validity.{AreFlowsFor, inputs_of}
-use Rattle.sig_kernel.specs.declared.kernel.Kernel.{Kernel}
-use Rattle.sig_text.specs.Counts.{Rose}
-use Rattle.sig_text.specs.Files.{Contents, name_where_there}
-use Rattle.sig_text.specs.Sink.{TookPrefix, TookPrefix-whole}
-use Rattle.sig_plan.specs.Plans.{IsAccepted, PlanView}
-use Rattle.sig_plan.specs.declared.ended.Cause.{Cause}
-use Rattle.sig_plan.specs.declared.ended.Cause.TheVariants.{Exhausted, Overflow, ZeroDivisor, Limit}
-use Rattle.sig_plan.specs.declared.ended.Ended.{Ended}
-use Rattle.sig_meaning.proofs.Ending.{some_end}
-use Rattle.sig_words.specs.declared.command.Settings.{Settings}
-use Rattle.sig_outcome.specs.Outcomes.{Good}
-use Rattle.sig_outcome.specs.Tasks.{IsEnded, Performs, write_line}
+use Rattle.sig_runs.proofs.Common.{◌≡◌, ◌∙◌, ◌⊎◌, ℕ, ℤ, List, [], Bool, Option, IfSome, inl, inr, refl, sym, subst, arith, IsTrue, IsWholeRun, IsLongest, Trace, IsKernelTrace, output_text, AreFlowsFor, inputs_of, Kernel, Rose, Contents, name_where_there, TookPrefix, TookPrefix-whole, IsAccepted, PlanView, Cause, Exhausted, Overflow, ZeroDivisor, Limit, Ended, some_end, kernel_end, Settings, Good, IsEnded, Performs, write_line, performs_outcome, performs_refusal, FindsAccepted, end_line, end_status, FindsFlows, HoldFew, LacksMemory, WritesRun, ended, running}
 use Rattle.sig_outcome.specs.declared.refusal.Refusal.TheVariants.{OutOfMemory}
-use Rattle.sig_outcome.proofs.Performing.{performs_outcome, performs_refusal}
-use Rattle.sig_compile.specs.Compiling.{FindsAccepted}
-use Rattle.sig_runs.specs.Ends.{end_line, end_status}
-use Rattle.sig_runs.specs.Runs.{FindsFlows, HoldFew, LacksMemory, WritesRun, ended, running}
 use Rattle.sig_runs.proofs.Loads.{reaches_end, run_number, stops_memory}
 use Rattle.sig_runs.proofs.OneRun.{one_run_outcome}
 
@@ -47,12 +25,10 @@ module _ {S : Type 0} (plan : PlanView) (accepted : IsAccepted plan) (flows : Li
   pub wrote_whole : (end : Ended) → IsWholeRun plan flows limit took out out' end → IsTrue clean → Said (end_line plan.kernel end) → status ≡ end_status end.cause
       → WritesRun plan.kernel flows limit took out out' wrote wrote' clean Said status
   wrote_whole end whole flushed said is = record {
-    plan = plan;
-    planned = record { accepted = accepted; same = refl };
     trace = whole.trace;
     place = whole.place;
     end = end;
-    ends = whole.end;
+    ends = kernel_end plan accepted flows limit whole.trace whole.place end whole.end;
     writes = record {
       numbers = inl is;
       prefix = TookPrefix-whole took out out' (output_text plan.kernel whole.trace) whole.text;
@@ -70,12 +46,10 @@ module _ {S : Type 0} (plan : PlanView) (accepted : IsAccepted plan) (flows : Li
   wrote_part fit prefix rose said six =
       let some = some_end plan accepted flows fit limit in
       record {
-        plan = plan;
-        planned = record { accepted = accepted; same = refl };
         trace = some.0;
         place = some.1;
         end = some.2;
-        ends = some.3;
+        ends = kernel_end plan accepted flows limit some.0 some.1 some.2 some.3;
         writes = record {
           numbers = inr six;
           prefix = prefix some.0 some.3.longest;
@@ -101,8 +75,6 @@ module _ (contents : Option Contents) (before at : Option (List ℕ)) (misses mi
       (inl (is_ended wrote_run.end.cause)) (inl (is_ended wrote_run.end.cause)) (inr (inl refl))
       (reaches_end contents before at misses misses misses' faults faults faults' program flows settings kernel good few values wrote_run.trace wrote_run.end read
       (record {
-        plan = wrote_run.plan;
-        planned = wrote_run.planned;
         trace = wrote_run.trace;
         place = wrote_run.place;
         end = wrote_run.end;

@@ -1,13 +1,5 @@
 -- When nothing but want of memory or of nodes keeps a run from its end.
-use Rattle.std.specs.Prelude.{ℕ, ℤ, List}
-use Rattle.sig_base.specs.declared.limits.TheConstants.{FLOW_BYTES, PROGRAM_BYTES}
-use Rattle.sig_text.specs.Files.{Contents}
-use Rattle.sig_kernel.specs.Validity.{inputs_of}
-use Rattle.sig_kernel.specs.declared.kernel.Kernel.{Kernel}
-use Rattle.sig_flow.specs.Flows.{AreFlows}
-use Rattle.sig_words.specs.declared.command.Settings.{Settings}
-use Rattle.sig_outcome.specs.Outcomes.{Holds}
-use Rattle.sig_compile.specs.Acceptance.{IsAcceptedAs}
+use Rattle.sig_runs.specs.Prelude.{ℕ, ℤ, List, FLOW_BYTES, PROGRAM_BYTES, Contents, inputs_of, Kernel, AreFlows, Settings, Holds, IsAcceptedAs}
 use Rattle.sig_runs.specs.Runs.{HoldTooMany}
 
 -- A program can be run over flows: its file holds an accepted program, the links of that do not hold too many items, and the

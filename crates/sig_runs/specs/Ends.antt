@@ -1,12 +1,6 @@
 -- What ends a run, as its line on standard error and its status say it.
-use Rattle.std.specs.Prelude.{◌<◌, ⊤, ℕ, List, [], ◌∷◌, length, map, flat_map, codes, slice_index_or}
-use Rattle.std.specs.Fmt.{decimal}
-use Rattle.sig_base.specs.declared.ids.EqId.{EqId}
-use Rattle.sig_base.specs.declared.ids.SigId.{SigId}
-use Rattle.sig_kernel.specs.declared.kernel.Kernel.{Kernel}
-use Rattle.sig_plan.specs.declared.ended.Cause.{Cause}
-use Rattle.sig_plan.specs.declared.ended.Cause.TheVariants.{Exhausted, Overflow, ZeroDivisor, Limit}
-use Rattle.sig_plan.specs.declared.ended.Ended.{Ended}
+use Rattle.std.specs.Prelude.{◌<◌, ◌∷◌}
+use Rattle.sig_runs.specs.Prelude.{⊤, ℕ, List, [], length, map, flat_map, codes, slice_index_or, decimal, EqId, SigId, Kernel, Cause, Exhausted, Overflow, ZeroDivisor, Limit, Ended}
 
 -- a cause names a signal or an equation of the kernel
 abbrev pub IsOfKernel : Kernel → Cause → Type 0

@@ -1,3 +1,4 @@
+pub mod Prelude
 pub mod Complete
 pub mod Ends
 pub mod Runs

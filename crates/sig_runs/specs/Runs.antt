@@ -1,29 +1,7 @@
 -- What the command `run` comes to over told contents.
 -- The refusals of the command are tried in the order in which the equations below stand.
-use Rattle.std.specs.Prelude.{◌≡◌, ◌≢◌, ◌⊎◌, ◌≤◌, ◌<◌, ◌*◌, ◌++◌, ℕ, ℤ, Bool, List, codes, length, Option, Some}
-use Rattle.sig_base.specs.Lines.{refusal}
-use Rattle.sig_base.specs.Traces.{Trace}
-use Rattle.sig_base.specs.declared.limits.TheConstants.{CAPACITY_MAX, FLOW_BYTES, INSTANTS_MAX, ITEMS, PROGRAM_BYTES, WORKERS_MAX}
-use Rattle.sig_base.specs.declared.place.Place.{Place}
-use Rattle.sig_base.specs.declared.signal.Signal.{Signal}
-use Rattle.sig_text.specs.Files.{Contents, name_where_there}
-use Rattle.sig_kernel.specs.OutputText.{output_text}
-use Rattle.sig_kernel.specs.Validity.{inputs_of}
-use Rattle.sig_kernel.specs.declared.kernel.Kernel.{Kernel}
-use Rattle.sig_plan.specs.Plans.{IsAccepted, PlanView}
-use Rattle.sig_plan.specs.declared.ended.Ended.{Ended}
-use Rattle.sig_model.specs.Causes.{IsEnd}
-use Rattle.sig_flow.specs.Flows.{AreFlows, IsFirstBadPlace}
-use Rattle.sig_flow.specs.Shown.{flow_text}
-use Rattle.sig_flow.specs.declared.answer.FlowAnswer.{FlowAnswer}
-use Rattle.sig_flow.specs.declared.answer.FlowAnswer.TheVariants.{OutOfMemory}
-use Rattle.sig_words.specs.declared.command.Settings.{Settings}
-use Rattle.sig_outcome.specs.Outcomes.{AtData, FindsData, Found, Holds, Outcome, refused, too_many_items}
-use Rattle.sig_outcome.specs.Refusals.{IsAboutData, IsAboutLinks}
-use Rattle.sig_outcome.specs.Tasks.{IsEnded, Task, Writes, memory_line}
-use Rattle.sig_outcome.specs.declared.refusal.Refusal.{Refusal}
-use Rattle.sig_compile.specs.Acceptance.{IsAcceptedAs}
-use Rattle.sig_compile.specs.Compiling.{AtPlan, HoldsBeyondBound, IsAboutPlan}
+use Rattle.std.specs.Prelude.{◌≡◌, ◌≢◌, ◌⊎◌, ◌≤◌, ◌<◌, ◌*◌, ◌++◌}
+use Rattle.sig_runs.specs.Prelude.{ℕ, ℤ, Bool, List, codes, length, Option, Some, refusal, Trace, CAPACITY_MAX, FLOW_BYTES, INSTANTS_MAX, ITEMS, PROGRAM_BYTES, WORKERS_MAX, Place, Signal, Contents, name_where_there, output_text, inputs_of, Kernel, LinkInfo, AreKernelLinks, Ended, IsKernelEnd, AreFlows, IsFirstBadPlace, flow_text, FlowAnswer, OutOfMemory, Settings, AtData, FindsData, Found, Holds, Outcome, refused, too_many_items, IsAboutData, IsAboutLinks, IsEnded, Task, Writes, memory_line, Refusal, IsAcceptedAs, AtPlan, HoldsBeyondBound, IsAboutPlan}
 use Rattle.sig_runs.specs.Ends.{end_line, end_status}
 
 -- ---- the settings
@@ -36,16 +14,11 @@ pub record AreWithinBounds (settings : Settings) : Type 0 where
 
 -- ---- the links of the program
 
--- A plan of a kernel: the plans of a kernel differ in the references of their guards alone.
-pub record IsPlanOf (kernel : Kernel) (plan : PlanView) : Type 0 where
-  pub accepted : IsAccepted plan
-  pub same : plan.kernel ≡ kernel
-
--- the links of a kernel's plan, each of which holds so many items, hold together a number of items of which a fact holds
+-- the links of a kernel, each of which holds so many items, hold together a number of items of which a fact holds
 pub record HoldItems (kernel : Kernel) (capacity : ℕ) (Fact : ℕ → Type 0) : Type 0 where
-  pub plan : PlanView
-  pub planned : IsPlanOf kernel plan
-  pub fact : Fact (length plan.links * capacity)
+  pub links : List LinkInfo
+  pub are : AreKernelLinks kernel links
+  pub fact : Fact (length links * capacity)
 
 abbrev pub HoldTooMany : Kernel → ℕ → Type 0
 HoldTooMany kernel capacity = HoldItems kernel capacity (λ items. ITEMS < items)
@@ -90,12 +63,10 @@ ended kernel trace end file =
 -- The run of a kernel over flows, for at most so many instants: its text is that of the longest trace, and its line names
 -- the cause why that is not longer.
 pub record RunsTo (kernel : Kernel) (flows : List (List ℤ)) (limit : ℕ) (file : List ℕ) (o : Outcome) : Type 0 where
-  pub plan : PlanView
-  pub planned : IsPlanOf kernel plan
   pub trace : Trace
   pub place : Option Place
   pub end : Ended
-  pub ends : IsEnd plan flows limit trace place end
+  pub ends : IsKernelEnd kernel flows limit trace place end
   pub is : o ≡ ended kernel trace end file
 
 -- ---- the command
@@ -135,12 +106,10 @@ running program flows settings = record {
 
 -- the text of the longest trace of a kernel and the line of the run's end were written, or a write failed
 pub record WritesRun {S : Type 0} (kernel : Kernel) (flows : List (List ℤ)) (limit : ℕ) (took : S → List ℕ → S → Type 0) (out out' : S) (wrote wrote' : ℕ) (clean : Bool) (Said : List ℕ → Type 0) (status : ℕ) : Type 0 where
-  pub plan : PlanView
-  pub planned : IsPlanOf kernel plan
   pub trace : Trace
   pub place : Option Place
   pub end : Ended
-  pub ends : IsEnd plan flows limit trace place end
+  pub ends : IsKernelEnd kernel flows limit trace place end
   pub writes : Writes (output_text kernel trace) (end_line kernel end) (end_status end.cause) took out out' wrote wrote' clean Said status
 
 -- there was no memory for a run: nothing was written, and a line says so
@@ -156,12 +125,10 @@ pub record HasRun (held : Contents) (program flows : List ℕ) (settings : Setti
   pub accepted : Holds (held program) PROGRAM_BYTES (λ bytes. IsAcceptedAs settings.pace bytes kernel)
   pub values : List (List ℤ)
   pub read : Holds (held flows) FLOW_BYTES (λ bytes. AreFlows (inputs_of kernel) bytes values)
-  pub plan : PlanView
-  pub planned : IsPlanOf kernel plan
   pub trace : Trace
   pub place : Option Place
   pub end : Ended
-  pub ends : IsEnd plan values settings.instants trace place end
+  pub ends : IsKernelEnd kernel values settings.instants trace place end
   pub numbered : status ≡ end_status end.cause
   pub text : Took (output_text kernel trace)
   pub line : Said (end_line kernel end)

@@ -1,14 +1,7 @@
 //! The command `run`: from the names of two files to a status.
 
-ghost use Rattle.std.specs.Prelude.{◌≡◌, ◌⊎◌, IfOk, IsErrOf, IsTrue, OnOk};
-ghost use Rattle.sig_alone.specs.Runs.{IsWholeRun};
-ghost use Rattle.sig_base.specs.Traces.{IsLongest, Trace};
-ghost use Rattle.sig_kernel.specs.KernelTraces.{IsKernelTrace};
-ghost use Rattle.sig_kernel.specs.OutputText.{output_text};
-ghost use Rattle.sig_kernel.specs.Validity.{AreFlowsFor};
-ghost use Rattle.sig_text.specs.Counts.{Rose};
-ghost use Rattle.sig_text.specs.Sink.{TookPrefix};
-ghost use Rattle.sig_outcome.specs.Tasks.{Performs, SaysLine};
+ghost use Rattle.std.specs.Prelude.{◌≡◌, ◌⊎◌};
+ghost use Rattle.sig_runs.specs.Prelude.{IfOk, IsErrOf, IsTrue, OnOk, IsWholeRun, IsLongest, Trace, IsKernelTrace, output_text, AreFlowsFor, Rose, TookPrefix, Performs, SaysLine};
 ghost use Rattle.sig_runs.specs.Ends.{end_status};
 ghost use Rattle.sig_runs.specs.Runs.{AreWithinBounds, LacksMemory, WritesRun, running};
 

@@ -1,17 +1,22 @@
 //! What is so of every run.
 
-ghost use Rattle.std.specs.Prelude.{ℕ, List};
-ghost use Rattle.sig_text.specs.Files.{Contents};
-ghost use Rattle.sig_plan.specs.Plans.{PlanView};
-ghost use Rattle.sig_words.specs.declared.command.Settings.{Settings};
-ghost use Rattle.sig_outcome.specs.Outcomes.{Outcome};
-ghost use Rattle.sig_outcome.specs.Tasks.{IsEnded};
+ghost use Rattle.std.specs.Prelude.{◌≡◌};
+ghost use Rattle.sig_runs.specs.Prelude.{ℕ, List, PROGRAM_BYTES, Contents, Kernel, Settings, Holds, Outcome, IsEnded, IsAcceptedAs};
 ghost use Rattle.sig_runs.specs.Complete.{CanRun};
-ghost use Rattle.sig_runs.specs.Runs.{IsPlanOf, RunComesTo, RunsTo};
+ghost use Rattle.sig_runs.specs.Runs.{RunComesTo, RunsTo};
 
-/// A law: a program that can be run over flows comes to the end of its run. Whatever it comes to has the
-/// text of the longest trace, with the named cause and status 0 or 3; and where its kernel has a plan, it
-/// comes to that.
+/// A law: an accepted program comes to exactly one outcome, whatever the flow file holds and whether it is
+/// there; and no run over told contents comes to two.
+pub fn runs_have_one_outcome()
+    ensures some { (held : Contents) (program flows : List ℕ) (settings : Settings) (kernel : Kernel)
+        → Holds (held program) PROGRAM_BYTES (λ bytes. IsAcceptedAs settings.pace bytes kernel)
+        → (o : Outcome) × RunComesTo held program flows settings o }
+    ensures one { (held : Contents) (program flows : List ℕ) (settings : Settings) (o other : Outcome)
+        → RunComesTo held program flows settings o → RunComesTo held program flows settings other → o ≡ other }
+{}
+
+/// A law: a program that can be run over flows comes to the end of its run: that, and nothing else, is what
+/// it comes to, with the text of the longest trace, the named cause, and status 0 or 3.
 pub fn good_runs_end()
     ensures only { (held : Contents) (program flows : List ℕ) (settings : Settings)
         → (can : CanRun held program flows settings) → (o : Outcome) → RunComesTo held program flows settings o
@@ -20,6 +25,5 @@ pub fn good_runs_end()
         → CanRun held program flows settings → (o : Outcome) → RunComesTo held program flows settings o
         → IsEnded o.status }
     ensures some { (held : Contents) (program flows : List ℕ) (settings : Settings)
-        → (can : CanRun held program flows settings) → (plan : PlanView) → IsPlanOf can.kernel plan
-        → (o : Outcome) × RunComesTo held program flows settings o }
+        → CanRun held program flows settings → (o : Outcome) × RunComesTo held program flows settings o }
 {}

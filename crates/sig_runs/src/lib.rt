@@ -11,7 +11,7 @@ mod report;
 mod run;
 
 pub use command::{end_status, run_command};
-pub use laws::good_runs_end;
+pub use laws::{good_runs_end, runs_have_one_outcome};
 pub use load::{Loaded, flows_of, hold_too_many, load as load_run};
 pub use report::say_end;
 pub use run::run_plan;

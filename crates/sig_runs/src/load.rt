@@ -1,15 +1,7 @@
 //! Reading the files of a run.
 
-ghost use Rattle.std.specs.Prelude.{◌≡◌, ◌≢◌, ◌≤◌, Some, IfErr, IfOk, IfSome, OnOk, bytes_eq, length, map, true, false};
-ghost use Rattle.std.specs.List.{IsDistinct};
-ghost use Rattle.sig_flow.specs.Flows.{AreFlows};
-ghost use Rattle.sig_kernel.specs.Validity.{AreFlowsFor, inputs_of};
-ghost use Rattle.sig_text.specs.Files.{name_where_there};
-ghost use Rattle.sig_outcome.specs.Outcomes.{Good};
-ghost use Rattle.sig_outcome.specs.Reading.{Reads};
-ghost use Rattle.sig_outcome.specs.Refusals.{HasCount, IsOfData, IsOwn, outcome_of};
-ghost use Rattle.sig_outcome.specs.Tasks.{Stops};
-ghost use Rattle.sig_compile.specs.Compiling.{FindsAccepted};
+ghost use Rattle.std.specs.Prelude.{◌≡◌, ◌≢◌, ◌≤◌};
+ghost use Rattle.sig_runs.specs.Prelude.{Some, IfErr, IfOk, IfSome, OnOk, bytes_eq, length, map, true, false, IsDistinct, AreFlows, AreFlowsFor, inputs_of, name_where_there, Good, Reads, HasCount, IsOfData, IsOwn, outcome_of, Stops, FindsAccepted};
 ghost use Rattle.sig_runs.specs.Runs.{AtFlows, FindsFlows, HoldFew, HoldTooMany, IsAboutFlows, RefusesFlows, bad_flows, running};
 
 use sig_base::limits::{FLOW_BYTES, ITEMS};

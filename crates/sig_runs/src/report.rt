@@ -1,7 +1,7 @@
 //! The line on `err` that says what ended a run.
 
-ghost use Rattle.std.specs.Prelude.{◌≡◌, ◌<◌, flat_map, length};
-ghost use Rattle.sig_outcome.specs.Tasks.{SaysLine};
+ghost use Rattle.std.specs.Prelude.{◌≡◌, ◌<◌};
+ghost use Rattle.sig_runs.specs.Prelude.{flat_map, length, SaysLine};
 ghost use Rattle.sig_runs.specs.Ends.{IsOfKernel, col_at, end_line, line_at, name_at, pieces_at};
 
 use itoa::Buffer;

@@ -1,10 +1,7 @@
 //! The run of a plan, on this thread or with workers.
 
-ghost use Rattle.std.specs.Prelude.{◌≡◌, ◌≤◌, Err, IfOk};
-ghost use Rattle.sig_alone.specs.Runs.{IsWholeRun, TookSome};
-ghost use Rattle.sig_alone.specs.declared.answer.RunAnswer.{RunAnswer};
-ghost use Rattle.sig_kernel.specs.Validity.{AreFlowsFor};
-ghost use Rattle.sig_text.specs.Counts.{Rose};
+ghost use Rattle.std.specs.Prelude.{◌≡◌, ◌≤◌};
+ghost use Rattle.sig_runs.specs.Prelude.{Err, IfOk, IsWholeRun, TookSome, RunAnswer, AreFlowsFor, Rose};
 ghost use Rattle.sig_runs.specs.Runs.{AreWithinBounds};
 
 use sig_alone::{RunAnswer, run_alone};

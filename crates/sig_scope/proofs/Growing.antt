@@ -1,9 +1,5 @@
 -- Lists that a loop makes longer.
-use Rattle.std.proofs.Common.{◌≡◌, ◌++◌, ℕ, List, [], ◌∷◌, refl, ap, sym, ◌∙◌, map, take, length, get_or, ◌+◌, ◌<◌, ◌≤◌, append_assoc}
-use Rattle.std.proofs.lemmas.List.{append-nil, take_more, take_all, get_or_default, map-append}
-use Rattle.std.proofs.lemmas.List.Concat.{flat_map-append}
-use Rattle.std.proofs.lemmas.List.Folds.{flat_map-map}
-use Rattle.std.specs.List.{flat_map}
+use Rattle.sig_scope.proofs.Common.{◌≡◌, ◌++◌, ℕ, List, [], ◌∷◌, refl, ap, sym, ◌∙◌, map, take, length, get_or, ◌+◌, ◌<◌, ◌≤◌, append_assoc, append-nil, take_more, take_all, get_or_default, map-append, flat_map-append, flat_map-map, flat_map}
 
 -- one turn, which adds what the thing stands for
 pub grows : {A B : Type 0} (of : A → List B) (before old new : List B) (xs : List A) (i : ℕ) (x : A) → x ≡ get_or xs i x → i < length xs

@@ -1,8 +1,5 @@
 -- Lemmas on the first place of a text.
-use Rattle.std.proofs.Common.{◌≡◌, ◌++◌, ◌<◌, ℕ, suc, zero, List, [], ◌∷◌, refl, ap, sym, ◌∙◌, inl, inr, ◌⊎◌, Bool, true, false, cond, IsTrue, Option, None, Some, option_map, map, length, get_or, ◌↔◌, arith, is_some, Contains, find}
-use Rattle.std.specs.Str.{bytes_eq}
-use Rattle.std.proofs.lemmas.Slice.Eq.{bytes_eq-Decides}
-use Rattle.sig_scope.specs.Places.{place_of}
+use Rattle.sig_scope.proofs.Common.{◌≡◌, ◌++◌, ◌<◌, ℕ, suc, zero, List, [], ◌∷◌, refl, ap, sym, ◌∙◌, inl, inr, ◌⊎◌, Bool, true, false, cond, IsTrue, Option, None, Some, option_map, map, length, get_or, ◌↔◌, arith, is_some, Contains, find, bytes_eq, bytes_eq-Decides, place_of}
 
 is_some_suc : (o : Option ℕ) → is_some (option_map suc o) ≡ is_some o
 is_some_suc None = refl

@@ -1,9 +1,5 @@
 -- Declarations that are found by their names.
-use Rattle.std.proofs.Common.{◌≡◌, ap, ℕ, List, [], ◌∷◌, map, Some, length, get_or, ◌<◌, arith, zero, suc}
-use Rattle.std.proofs.lemmas.List.{length-map}
-use Rattle.sig_scope.specs.declared.declared.Declared.{Declared}
-use Rattle.sig_scope.specs.Places.{place_of}
-use Rattle.sig_scope.specs.Declarations.{declaration_in, declarations_in, texts_in}
+use Rattle.sig_scope.proofs.Common.{◌≡◌, ap, ℕ, List, [], ◌∷◌, map, Some, length, get_or, ◌<◌, arith, zero, suc, length-map, Declared, place_of, declaration_in, declarations_in, texts_in}
 use Rattle.sig_scope.proofs.Placing.{within}
 
 pub within_declared : (names : List (List ℕ)) (ds : List Declared) (t : List ℕ) (i : ℕ) → names ≡ texts_in (declarations_in ds) → Some i ≡ place_of names t → i < length ds

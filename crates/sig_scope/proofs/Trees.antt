@@ -1,12 +1,7 @@
 -- Processes and bodies of the code, as the definitions see them.
 use mathlib.Core.Former.{Count}
 use denote.Hole.Carrier.{out}
-use Rattle.std.proofs.Common.{◌≡◌, ◌++◌, ◌∷◌, [], List, refl, ap, sym, ◌∙◌, map, Vec, Global, append_assoc}
-use Rattle.std.specs.List.{flat_map}
-use Rattle.sig_tree.specs.declared.process.Process.{Process, Process', Row_of-Process, end_of-Process, more_of-Process, items-the_row-Process, items_shown-the_row-Process-0, out-Process}
-use Rattle.sig_tree.specs.declared.process.Body.{Body, All, All', Row_of-Body, end_of-Body, more_of-Body, items-the_row-Body, items_hidden-the_row-Body-0}
-use Rattle.sig_tree.specs.Syntax.{declared_of, placement_of, equations_of, bodies_of, model_of, models_of, ProcessModel}
-use Rattle.sig_tree.specs.Declarations.{Parameter, Input, Output, Local, declared_as, params_of, inputs_of, outputs_of, locals_of, name_of, pragmas_of_model, equations_of_model, with_inner, those_inner, equations_in, equations_inside}
+use Rattle.sig_scope.proofs.Common.{◌≡◌, ◌++◌, ◌∷◌, [], List, refl, ap, sym, ◌∙◌, map, Vec, Global, append_assoc, flat_map, Process, Process', Row_of-Process, end_of-Process, more_of-Process, items-the_row-Process, items_shown-the_row-Process-0, out-Process, Body, All, All', Row_of-Body, end_of-Body, more_of-Body, items-the_row-Body, items_hidden-the_row-Body-0, declared_of, placement_of, equations_of, bodies_of, model_of, models_of, ProcessModel, Parameter, Input, Output, Local, declared_as, params_of, inputs_of, outputs_of, locals_of, name_of, pragmas_of_model, equations_of_model, with_inner, those_inner, equations_in, equations_inside}
 
 row_models : (n : _) (row : Row_of-Process n) → those_inner (models_of row) ≡ flat_map with_inner (map model_of (items-the_row-Process n row))
 row_models n end_of-Process = refl

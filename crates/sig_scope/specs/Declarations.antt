@@ -1,8 +1,5 @@
 -- Declarations of the code, as the definitions see them.
-use Rattle.std.specs.Prelude.{ℕ, List, map}
-use Rattle.sig_base.specs.declared.ids.Kind.{Kind}
-use Rattle.sig_tree.specs.declared.process.Item.{Item}
-use Rattle.sig_tree.specs.Declarations.{Declaration, Role, Parameter as AsParameter, Input as AsInput, Output as AsOutput, Local as AsLocal}
+use Rattle.sig_scope.specs.Prelude.{ℕ, List, map, Kind, Item, Declaration, Role, Parameter as AsParameter, Input as AsInput, Output as AsOutput, Local as AsLocal}
 use Rattle.sig_scope.specs.declared.declared.Role.{Role as CodeRole}
 use Rattle.sig_scope.specs.declared.declared.Role.TheVariants.{Parameter, Input, Output, Local}
 use Rattle.sig_scope.specs.declared.declared.Declared.{Declared}

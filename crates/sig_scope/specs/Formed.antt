@@ -1,10 +1,7 @@
 -- That a program is well formed is a fact: there is at most one proof of it.
 use mathlib.Core.HLevel.{×_prop, Unit-prop, ¬_prop}
-use Rattle.std.specs.Prelude.{List, [], ◌∷◌}
-use Rattle.sig_tree.specs.Syntax.{ProcessModel}
-use Rattle.sig_tree.specs.Declarations.{all_processes}
-use Rattle.sig_tree.specs.Candidates.{Candidate, NoneHolds}
-use Rattle.sig_tree.specs.WellFormed.{IsWellFormed, rules_of}
+use Rattle.std.specs.Prelude.{◌∷◌}
+use Rattle.sig_scope.specs.Prelude.{List, [], ProcessModel, all_processes, Candidate, NoneHolds, IsWellFormed, rules_of}
 
 pub NoneHolds-prop : (cs : List Candidate) → IsProp (NoneHolds cs)
 NoneHolds-prop [] = Unit-prop

@@ -1,3 +1,4 @@
+pub mod Prelude
 pub mod Declarations
 pub mod Formed
 pub mod Places

@@ -1,6 +1,6 @@
 -- The first place of a text in a list.
-use Rattle.std.specs.Prelude.{ℕ, suc, List, [], ◌∷◌, cond, Option, None, Some, option_map}
-use Rattle.std.specs.Str.{bytes_eq}
+use Rattle.std.specs.Prelude.{◌∷◌}
+use Rattle.sig_scope.specs.Prelude.{ℕ, suc, List, [], cond, Option, None, Some, option_map, bytes_eq}
 
 abbrev pub place_of : List (List ℕ) → List ℕ → Option ℕ
 place_of [] text = None

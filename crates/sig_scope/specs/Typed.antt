@@ -1,10 +1,6 @@
 -- The kinds of a program's expressions.
-use Rattle.std.specs.Prelude.{◌≡◌, ◌++◌, List, [], ◌∷◌, map, flat_map, Option, None, Some}
-use Rattle.sig_base.specs.declared.ids.Kind.{Kind}
-use Rattle.sig_base.specs.declared.ids.Kind.TheVariants.{Integer}
-use Rattle.sig_tree.specs.Syntax.{Expression, Named, Number, Truth, Unary, Binary, Delay, Cell, Computed, Called, Equations, Together, Defines, Equal, ProcessModel}
-use Rattle.sig_tree.specs.Declarations.{Declaration, declarations, equations_of_model, all_processes}
-use Rattle.sig_tree.specs.Kinds.{kind_of}
+use Rattle.std.specs.Prelude.{◌≡◌, ◌++◌, ◌∷◌}
+use Rattle.sig_scope.specs.Prelude.{List, [], map, flat_map, Option, None, Some, Kind, Integer, Expression, Named, Number, Truth, Unary, Binary, Delay, Cell, Computed, Called, Equations, Together, Defines, Equal, ProcessModel, Declaration, declarations, equations_of_model, all_processes, kind_of}
 
 -- an expression with those inside it, each before its operands
 abbrev pub nodes : Expression → List Expression

@@ -1,11 +1,6 @@
 -- Lists of references into a program, as the definitions see them.
-use Rattle.std.specs.Prelude.{ℕ, List, map}
+use Rattle.sig_scope.specs.Prelude.{ℕ, List, map, Name, Body, Process, Equations, equations_of, ProcessModel, model_of, name_of}
 use denote.Ref.{Bor}
-use Rattle.sig_tree.specs.declared.expr.Name.{Name}
-use Rattle.sig_tree.specs.declared.process.Body.{Body}
-use Rattle.sig_tree.specs.declared.process.Process.{Process}
-use Rattle.sig_tree.specs.Syntax.{Equations, equations_of, ProcessModel, model_of}
-use Rattle.sig_tree.specs.Declarations.{name_of}
 use Rattle.sig_scope.specs.declared.scope.Interface.{Interface}
 
 abbrev pub names_in : List (Bor Name) → List Name

@@ -1,8 +1,7 @@
 //! What the groups of a process declare.
 
-ghost use Rattle.std.specs.Prelude.{◌≡◌, ◌++◌, map, IfOk, OnOk};
-ghost use Rattle.sig_tree.specs.Syntax.{declared_of};
-ghost use Rattle.sig_tree.specs.Declarations.{declared_as};
+ghost use Rattle.std.specs.Prelude.{◌≡◌, ◌++◌};
+ghost use Rattle.sig_scope.specs.Prelude.{map, IfOk, OnOk, declared_of, declared_as};
 ghost use Rattle.sig_scope.specs.Declarations.{declaration_in, declarations_in, role_in, item_in};
 
 use sig_base::Kind;

@@ -1,8 +1,7 @@
 //! The equations of a body, in the order of the text.
 
-ghost use Rattle.std.specs.Prelude.{◌≡◌, ◌++◌, IfOk, OnOk};
-ghost use Rattle.sig_tree.specs.Syntax.{equations_of};
-ghost use Rattle.sig_tree.specs.Declarations.{equations_in};
+ghost use Rattle.std.specs.Prelude.{◌≡◌, ◌++◌};
+ghost use Rattle.sig_scope.specs.Prelude.{IfOk, OnOk, equations_of, equations_in};
 ghost use Rattle.sig_scope.specs.Walked.{bodies_in};
 
 use sig_tree::Body;

@@ -1,8 +1,7 @@
 //! The processes of a program, in the order of the text, each found by its name.
 
-ghost use Rattle.std.specs.Prelude.{◌≡◌, ◌++◌, ◌↔◌, IfOk, OnOk, IsTrue, option_map};
-ghost use Rattle.sig_tree.specs.Syntax.{model_of, program_of};
-ghost use Rattle.sig_tree.specs.Declarations.{all_processes, with_inner, process_of};
+ghost use Rattle.std.specs.Prelude.{◌≡◌, ◌++◌, ◌↔◌};
+ghost use Rattle.sig_scope.specs.Prelude.{IfOk, OnOk, IsTrue, option_map, model_of, program_of, all_processes, with_inner, process_of};
 ghost use Rattle.sig_scope.specs.Places.{place_of};
 ghost use Rattle.sig_scope.specs.Walked.{models_in, interface_models, process_texts};
 

@@ -1,11 +1,7 @@
 //! What a process declares, found by its name.
 
-ghost use Rattle.std.specs.Prelude.{◌≡◌, ◌++◌, map, List, IfOk, OnOk, IsTrue, ◌↔◌, option_map, Option};
-ghost use Rattle.sig_base.specs.declared.ids.Kind.{Kind as KindOfValues};
-ghost use Rattle.sig_tree.specs.Syntax.{model_of, declared_of};
-ghost use Rattle.sig_tree.specs.Declarations.{Declaration, declarations, declaration_of, params_of, inputs_of, outputs_of, locals_of};
-ghost use Rattle.sig_tree.specs.Kinds.{kind_of_name, parameter_kind, kind_of_constant};
-ghost use Rattle.sig_tree.specs.Rules.{IsGiven, IsSignal, HasInit};
+ghost use Rattle.std.specs.Prelude.{◌≡◌, ◌++◌, ◌↔◌};
+ghost use Rattle.sig_scope.specs.Prelude.{map, List, IfOk, OnOk, IsTrue, option_map, Option, Kind as KindOfValues, model_of, declared_of, Declaration, declarations, declaration_of, params_of, inputs_of, outputs_of, locals_of, kind_of_name, parameter_kind, kind_of_constant, IsGiven, IsSignal, HasInit};
 ghost use Rattle.sig_scope.specs.Declarations.{declaration_in, declarations_in, texts_in};
 
 use crate::declared::{Declared, Role, declared_by};

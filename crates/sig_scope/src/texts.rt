@@ -1,7 +1,7 @@
 //! Texts in a row, each found by its first place.
 
-ghost use Rattle.std.specs.Prelude.{◌≡◌, ◌↔◌, ◌++◌, ◌∷◌, [], ℕ, List, length, map, IfOk, OnOk, IsTrue, IfSome, ◌<◌, Contains};
-ghost use Rattle.std.specs.Str.{bytes_eq};
+ghost use Rattle.std.specs.Prelude.{◌≡◌, ◌↔◌, ◌++◌, ◌∷◌, ◌<◌};
+ghost use Rattle.sig_scope.specs.Prelude.{[], ℕ, List, length, map, IfOk, OnOk, IsTrue, IfSome, Contains, bytes_eq};
 ghost use Rattle.std.specs.HashMap as hash;
 ghost use Rattle.sig_scope.specs.Places.{place_of};
 

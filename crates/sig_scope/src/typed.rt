@@ -1,7 +1,6 @@
 //! Programs that are well formed, with the kinds of their expressions.
 
-ghost use Rattle.sig_tree.specs.Syntax.{program_of};
-ghost use Rattle.sig_tree.specs.WellFormed.{IsWellFormed};
+ghost use Rattle.sig_scope.specs.Prelude.{program_of, IsWellFormed};
 ghost use Rattle.sig_scope.specs.Formed.{IsWellFormed-prop};
 ghost use Rattle.sig_scope.specs.Typed.{AreKinds};
 

@@ -1,7 +1,5 @@
 -- Lemmas on lists of candidates.
-use Rattle.std.proofs.Common.{◌≡◌, ◌++◌, ◌∙◌, List, [], ◌∷◌, refl, ap, sym, inl, inr, map, append_assoc}
-use Rattle.std.specs.List.{flat_map}
-use Rattle.sig_tree.specs.Candidates.{Candidate, Offence, NoneHolds, IsFirst, each}
+use Rattle.sig_tree.proofs.Common.{◌≡◌, ◌++◌, ◌∙◌, List, [], ◌∷◌, refl, ap, sym, inl, inr, map, append_assoc, flat_map, Candidate, Offence, NoneHolds, IsFirst, each}
 
 pub one_first : (cs : List Candidate) (a b : Offence) → IsFirst cs a → IsFirst cs b → a ≡ b
 one_first [] a b f g = elim f [ ]

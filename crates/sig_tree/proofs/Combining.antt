@@ -1,11 +1,5 @@
 -- One reading of what is put together of parts with one reading.
-use Rattle.std.proofs.Common.{◌≡◌, ◌++◌, List, [], ◌∷◌, refl, sym, ap, ◌∙◌, subst, inl, inr, append_assoc}
-use Rattle.std.proofs.lemmas.List.{append_cancel_left}
-use Rattle.sig_tree.specs.Terminals.{Terminal, Leaf, leaf}
-use Rattle.sig_tree.specs.Repeated.{Between, Each, Further, Separated, Listed}
-use Rattle.sig_tree.specs.Readings.{StopsBefore, OneReading}
-use Rattle.sig_tree.specs.Beginning.{StartsWith}
-use Rattle.sig_tree.specs.Continuing.{ContinuesNothing, ContinuesList, ContinuesEach}
+use Rattle.sig_tree.proofs.Common.{◌≡◌, ◌++◌, List, [], ◌∷◌, refl, sym, ap, ◌∙◌, subst, inl, inr, append_assoc, append_cancel_left, Terminal, Leaf, leaf, Between, Each, Further, Separated, Listed, StopsBefore, OneReading, StartsWith, ContinuesNothing, ContinuesList, ContinuesEach}
 use Rattle.sig_tree.proofs.Stopping.{stops_smaller}
 
 -- one reading, of one tree

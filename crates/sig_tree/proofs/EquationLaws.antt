@@ -1,13 +1,5 @@
 -- Equations read one instant at a time hold where they hold over a trace.
-use Rattle.std.proofs.Common.{◌≡◌, ◌+◌, ◌++◌, ℕ, zero, suc, ℤ, List, [], ◌∷◌, length, None, Some, refl, sym, subst, arith, inl, inr}
-use Rattle.std.specs.Prelude.{◌⊎◌}
-use Rattle.std.specs.List.{AllByRecursion, AllZip}
-use Rattle.sig_base.specs.Traces.{Instant, Trace, seen_at}
-use Rattle.sig_tree.specs.FlatSyntax.{FlatExpression, FlatEquation, Defines, Equal}
-use Rattle.sig_tree.specs.Operators.{Operand, Signal}
-use Rattle.sig_tree.specs.Meaning.{IsOperand}
-use Rattle.sig_tree.specs.ProcessTraces.{HoldsAt, HoldThroughout}
-use Rattle.sig_tree.specs.Steps.{Steps, EquationSteps, BodySteps, Leads, HoldsBehind}
+use Rattle.sig_tree.proofs.Common.{◌≡◌, ◌+◌, ◌++◌, ℕ, zero, suc, ℤ, List, [], ◌∷◌, length, None, Some, refl, sym, subst, arith, inl, inr, ◌⊎◌, AllByRecursion, AllZip, Instant, Trace, seen_at, FlatExpression, FlatEquation, Defines, Equal, Operand, Signal, IsOperand, HoldsAt, HoldThroughout, Steps, EquationSteps, BodySteps, Leads, HoldsBehind}
 use Rattle.sig_tree.proofs.OneMeaning.{OneValue}
 use Rattle.sig_tree.proofs.StepLaws.{first_step, step_first, next_after, next_before}
 

@@ -1,18 +1,6 @@
 -- What a part of the grammar begins with.
-use Rattle.std.proofs.Common.{◌≡◌, ℕ, zero, suc, ◌≤◌, ◌++◌, List, [], ◌∷◌, refl, sym, subst, inl, inr, arith}
-use Rattle.sig_tree.specs.declared.expr.Name.{Name}
-use Rattle.sig_tree.specs.declared.expr.Constant.{Constant}
-use Rattle.sig_tree.specs.declared.expr.Constant.TheVariants.{Int, Bool as BoolConstant, Param}
-use Rattle.sig_tree.specs.declared.process.Item.{Item}
-use Rattle.sig_tree.specs.Syntax.{Expression, Named, Number, Truth, Unary, Binary, Delay, Cell, Declared, Placement, RightSide, Computed, Called, Equations, Together, Defines, Equal, ProcessModel, Modelled}
-use Rattle.sig_tree.specs.Terminals.{Terminal, Leaf}
-use Rattle.sig_tree.specs.Levels.{default_level, mixed_level, delay_level, primary_level, binary_level, left_level, level_of}
-use Rattle.sig_tree.specs.Limits.{Limits}
-use Rattle.sig_tree.specs.Expressions.{IsConstant, Enclosed, IsBare, IsAtLevel}
-use Rattle.sig_tree.specs.Equations.{IsLeft, IsRight, IsDefinition, IsClockEquation, IsBody}
-use Rattle.sig_tree.specs.Processes.{IsGroup, IsLocalGroup, IsPlacement, IsModel}
-use Rattle.sig_tree.specs.Grammar.{IsProgram}
-use Rattle.sig_tree.specs.Beginning.{StartsWith, BeginsName, BeginsConstant, BeginsExpression, BeginsLeft, BeginsBody, BeginsGroup, BeginsPlacement, BeginsProcess}
+use Rattle.sig_tree.proofs.Common.{◌≡◌, ℕ, zero, suc, ◌≤◌, ◌++◌, List, [], ◌∷◌, refl, sym, subst, inl, inr, arith, Name, Constant, Int, BoolConstant, Param, Item, Expression, Named, Number, Truth, Unary, Binary, Delay, Cell, Declared, Placement, RightSide, Computed, Called, Equations, Together, ProcessModel, Modelled, Terminal, Leaf, default_level, mixed_level, delay_level, primary_level, binary_level, left_level, level_of, Limits, IsConstant, Enclosed, IsBare, IsAtLevel, IsLeft, IsRight, IsDefinition, IsClockEquation, IsBody, IsGroup, IsLocalGroup, IsPlacement, IsModel, IsProgram, StartsWith, BeginsName, BeginsConstant, BeginsExpression, BeginsLeft, BeginsBody, BeginsGroup, BeginsPlacement, BeginsProcess}
+use Rattle.sig_tree.specs.Syntax.{Defines, Equal}
 use Rattle.sig_tree.proofs.Operators.{two_levels}
 
 pub starts_longer : (Begins : Terminal → Type 0) (front back : List Leaf) → StartsWith Begins front → StartsWith Begins (front ++ back)

@@ -1,3 +1,4 @@
+pub mod Common
 pub mod CandidateLemmas
 pub mod Combining
 pub mod EquationLaws
@@ -21,3 +22,21 @@ pub mod StepLaws
 pub mod Stopping
 pub mod Unlimited
 pub mod UpTo
+pub use Common.*
+pub use CandidateLemmas.*
+pub use EquationLaws.*
+pub use FirstLeaves.*
+pub use OneExpansion.*
+pub use OneMeaning.*
+pub use PrefixLaws.*
+pub use ReadBodies.*
+pub use ReadDeclarations.*
+pub use ReadEquations.*
+pub use ReadExpressions.*
+pub use ReadProcesses.*
+pub use ReadSpines.*
+pub use Silence.*
+pub use Spines.*
+pub use StepLaws.*
+pub use Unlimited.*
+pub use UpTo.*

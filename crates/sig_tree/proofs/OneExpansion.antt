@@ -1,10 +1,5 @@
 -- A list of equations has one expansion.
-use Rattle.std.proofs.Common.{◌≡◌, ◌++◌, ◌+◌, List, [], ◌∷◌, Option, None, Some, length, refl, sym, ap, subst, ◌∙◌}
-use Rattle.sig_tree.specs.declared.expr.Name.{Name}
-use Rattle.sig_tree.specs.Syntax.{Expression, Equations, ProcessModel}
-use Rattle.sig_tree.specs.FlatSyntax.{FlatEquation, FlatBody as FlatBodyRecord}
-use Rattle.sig_tree.specs.Declarations.{inputs_of, outputs_of, equations_of_model}
-use Rattle.sig_tree.specs.FlatBody.{Copy, Progress, Expands, Ended, Defined, Equated, Expanded, IsFlatBody, called_copy, with_copy, inputs_defined, outputs_defined}
+use Rattle.sig_tree.proofs.Common.{◌≡◌, ◌++◌, ◌+◌, List, [], ◌∷◌, Option, None, Some, length, refl, sym, ap, subst, ◌∙◌, Name, Expression, Equations, ProcessModel, FlatEquation, FlatBody as FlatBodyRecord, inputs_of, outputs_of, equations_of_model, Copy, Progress, Expands, Ended, Defined, Equated, Expanded, IsFlatBody, called_copy, with_copy, inputs_defined, outputs_defined}
 
 -- what an expansion gives: the progress behind it, and the equations
 abbrev pub Given : Type 0

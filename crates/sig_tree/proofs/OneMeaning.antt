@@ -1,16 +1,9 @@
 -- An expression means at most one thing at an instant.
-use Rattle.std.proofs.Common.{◌≡◌, ◌<◌, ◌≤◌, ℕ, zero, suc, ℤ, pos, List, [], ◌∷◌, None, Some, sym, ap, subst, ◌∙◌, arith, inl, inr, ⊎_elim}
-use Rattle.std.specs.Prelude.{◌⊎◌}
-use Rattle.std.proofs.lemmas.Bool.{cases_order}
-use Rattle.sig_base.specs.Traces.{Seen, Trace, Range, Bounded}
-use Rattle.sig_base.specs.Functions.{Function, Negative, Not as FunctionNot, And as FunctionAnd, Or as FunctionOr, Xor as FunctionXor, Equal, NotEqual, Less as FunctionLess, LessEqual, Greater, GreaterEqual, Sum, Difference, Product, Quotient, Remainder, Gives}
-use Rattle.sig_tree.specs.declared.expr.UnOp.{UnOp}
-use Rattle.sig_tree.specs.declared.expr.UnOp.TheVariants.{Not, Neg, When as UnaryWhen, Clock}
-use Rattle.sig_tree.specs.declared.expr.BinOp.{BinOp}
-use Rattle.sig_tree.specs.declared.expr.BinOp.TheVariants.{Default, When, Plus, Meet, Less, Or, Xor, And, Eq, Ne, Lt, Le, Gt, Ge, Add, Sub, Mul, Div, Mod}
-use Rattle.sig_tree.specs.FlatSyntax.{FlatExpression, Sig, Const, Unary, Binary, Delay, Cell}
-use Rattle.sig_tree.specs.Operators.{Operand, Signal, Constant, Yields, AppliesToOne, AppliesToBoth, OfOne, OfBoth, Samples, Changes, Combines, sampled, merged, clock_of, either_of, both_of, without, delayed, held}
-use Rattle.sig_tree.specs.Meaning.{IsPrevious, IsDelayed, IsHeld, IsCell, IsOperand}
+use Rattle.sig_tree.proofs.Common.{◌≡◌, ◌<◌, ◌≤◌, ℕ, zero, suc, ℤ, pos, List, [], ◌∷◌, None, Some, sym, ap, subst, ◌∙◌, arith, inl, inr, ⊎_elim, ◌⊎◌, cases_order, Seen, Trace, Range, Bounded, Function, Negative, FunctionNot, FunctionAnd, FunctionOr, FunctionXor, NotEqual, FunctionLess, LessEqual, Greater, GreaterEqual, Sum, Difference, Product, Quotient, Remainder, Gives, UnOp, Not, Neg, When as UnaryWhen, Clock, BinOp, Default, Plus, Meet, Less, Or, Xor, And, Eq, Ne, Lt, Le, Gt, Ge, Add, Sub, Mul, Div, Mod, FlatExpression, Sig, Const, Operand, Signal, Yields, AppliesToOne, AppliesToBoth, OfOne, OfBoth, Samples, Changes, Combines, sampled, merged, clock_of, either_of, both_of, without, delayed, held, IsPrevious, IsDelayed, IsHeld, IsCell, IsOperand}
+use Rattle.sig_base.specs.Functions.{Equal}
+use Rattle.sig_tree.specs.declared.expr.BinOp.TheVariants.{When}
+use Rattle.sig_tree.specs.FlatSyntax.{Unary, Binary, Delay, Cell}
+use Rattle.sig_tree.specs.Operators.{Constant}
 
 -- a function gives of operands at most one value
 abbrev pub OneValue : Type 0

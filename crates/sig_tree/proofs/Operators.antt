@@ -1,14 +1,6 @@
 -- The operators that stand behind an operand, and the terminals that begin an expression, as tables.
-use Rattle.std.proofs.Common.{◌≡◌, ℕ, suc, ◌≤◌, List, [], ◌∷◌, Bool, true, false, refl, sym, ap, ◌∙◌, codes, Option, None, Some, inl, inr, ◌⊎◌, cond, arith}
-use Rattle.std.specs.Prelude.{bytes_eq}
-use Rattle.std.proofs.lemmas.Slice.Eq.{bytes_eq-Decides}
-use Rattle.sig_tree.specs.declared.expr.UnOp.{UnOp}
-use Rattle.sig_tree.specs.declared.expr.UnOp.TheVariants.{Not, Neg, When as UnaryWhen, Clock}
-use Rattle.sig_tree.specs.declared.expr.BinOp.{BinOp}
-use Rattle.sig_tree.specs.declared.expr.BinOp.TheVariants.{Default, When, Plus, Meet, Less, Or, Xor, And, Eq, Ne, Lt, Le, Gt, Ge, Add, Sub, Mul, Div, Mod}
-use Rattle.sig_tree.specs.Terminals.{Terminal, word, mark, binary_terminal}
-use Rattle.sig_tree.specs.Levels.{mixed_level, delay_level, unary_level, operand_level, binary_level, left_level, right_level}
-use Rattle.sig_tree.specs.Continuing.{IsInfix, ContinuesDelay, ContinuesExpression}
+use Rattle.sig_tree.proofs.Common.{◌≡◌, ℕ, suc, ◌≤◌, List, [], ◌∷◌, Bool, true, false, refl, sym, ap, ◌∙◌, codes, Option, None, Some, inl, inr, ◌⊎◌, cond, arith, bytes_eq, bytes_eq-Decides, UnOp, Not, Neg, When as UnaryWhen, Clock, BinOp, Default, Plus, Meet, Less, Or, Xor, And, Eq, Ne, Lt, Le, Gt, Ge, Add, Sub, Mul, Div, Mod, Terminal, word, mark, binary_terminal, mixed_level, delay_level, unary_level, operand_level, binary_level, left_level, right_level, IsInfix, ContinuesDelay, ContinuesExpression}
+use Rattle.sig_tree.specs.declared.expr.BinOp.TheVariants.{When}
 
 -- whether two terminals are the same reserved word or mark
 abbrev pub is_terminal : Terminal → Terminal → Bool

@@ -1,9 +1,5 @@
 -- What begins a trace of a process is one, and two longest traces are one.
-use Rattle.std.proofs.Common.{◌≡◌, ◌≤◌, ◌++◌, ℕ, ℤ, List, [], ◌∷◌, length, sym, subst, arith, length-append}
-use Rattle.std.specs.List.{AllByRecursion}
-use Rattle.sig_base.specs.Traces.{Instant, Trace, reduce, NoneSilent, IsPrefixOf, IsLongest}
-use Rattle.sig_tree.specs.FlatSyntax.{FlatEquation, FlatBody}
-use Rattle.sig_tree.specs.ProcessTraces.{HoldsAt, HoldThroughout, IsProcessTrace}
+use Rattle.sig_tree.proofs.Common.{◌≡◌, ◌≤◌, ◌++◌, ℕ, ℤ, List, [], ◌∷◌, length, sym, subst, arith, length-append, AllByRecursion, Instant, Trace, reduce, NoneSilent, IsPrefixOf, IsLongest, FlatEquation, FlatBody, HoldsAt, HoldThroughout, IsProcessTrace}
 use Rattle.sig_tree.proofs.UpTo.{holds_up_to, same_in_front}
 
 each_front : (P : Instant → Type 0) (t u : Trace) → AllByRecursion P (t ++ u) → AllByRecursion P t

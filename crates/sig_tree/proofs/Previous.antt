@@ -1,9 +1,5 @@
 -- The previous value, where a trace is read from its first instant on.
-use Rattle.std.proofs.Common.{◌≡◌, ◌<◌, ℕ, zero, suc, ℤ, None, Some, refl, sym, ap, subst, ◌∙◌, arith, inl, inr}
-use Rattle.sig_base.specs.Traces.{Seen}
-use Rattle.sig_tree.specs.Operators.{Operand, Signal}
-use Rattle.sig_tree.specs.Meaning.{IsPrevious}
-use Rattle.sig_tree.specs.Steps.{kept}
+use Rattle.sig_tree.proofs.Common.{◌≡◌, ◌<◌, ℕ, zero, suc, ℤ, None, Some, refl, sym, ap, subst, ◌∙◌, arith, inl, inr, Seen, Operand, Signal, IsPrevious, kept}
 use Rattle.sig_tree.proofs.OneMeaning.{same_signal}
 
 -- at the first instant it is the init

@@ -1,18 +1,6 @@
 -- One reading of definitions, clock equations and bodies.
-use Rattle.std.proofs.Common.{◌≡◌, ℕ, suc, ◌++◌, List, [], ◌∷◌, true, false, refl, sym, ap, ◌∙◌, subst, codes, None, Some, inl, inr, arith}
-use Rattle.sig_base.specs.declared.span.Span.{Span}
-use Rattle.sig_tree.specs.declared.expr.Name.{Name}
-use Rattle.sig_tree.specs.declared.expr.UnOp.TheVariants.{Not, Neg, When as UnaryWhen, Clock}
-use Rattle.sig_tree.specs.Syntax.{Expression, Named, RightSide, Equations, Together, Defines, Equal, Bodies, no_body, more_bodies}
-use Rattle.sig_tree.specs.Terminals.{Terminal, Leaf, leaf, mark, name_leaf}
-use Rattle.sig_tree.specs.Levels.{default_level}
-use Rattle.sig_tree.specs.Limits.{Limits}
-use Rattle.sig_tree.specs.Repeated.{Separated}
-use Rattle.sig_tree.specs.Expressions.{IsExpression}
-use Rattle.sig_tree.specs.Equations.{IsLeft, IsDefinition, IsClockEquation, IsBody, AreBodies, AreFurtherBodies}
-use Rattle.sig_tree.specs.Beginning.{StartsWith, BeginsExpression, BeginsLeft, BeginsBody}
-use Rattle.sig_tree.specs.Readings.{StopsBefore, OneReading}
-use Rattle.sig_tree.specs.Continuing.{ContinuesNothing, ContinuesExpression, ContinuesDefinition, ContinuesClockEquation, ContinuesBody, ContinuesFurtherBodies, ContinuesBodies}
+use Rattle.sig_tree.proofs.Common.{◌≡◌, ℕ, suc, ◌++◌, List, [], ◌∷◌, true, false, refl, sym, ap, ◌∙◌, subst, codes, None, Some, inl, inr, arith, Span, Name, Not, Neg, When as UnaryWhen, Clock, Expression, Named, RightSide, Equations, Together, Bodies, no_body, more_bodies, Terminal, Leaf, leaf, mark, name_leaf, default_level, Limits, Separated, IsExpression, IsLeft, IsDefinition, IsClockEquation, IsBody, AreBodies, AreFurtherBodies, StartsWith, BeginsExpression, BeginsLeft, BeginsBody, StopsBefore, OneReading, ContinuesNothing, ContinuesExpression, ContinuesDefinition, ContinuesClockEquation, ContinuesBody, ContinuesFurtherBodies, ContinuesBodies}
+use Rattle.sig_tree.specs.Syntax.{Defines, Equal}
 use Rattle.sig_tree.proofs.Settling.{◌>>=◌, Settles, settles_now, settles_next, settles_bind, settles_once}
 use Rattle.sig_tree.proofs.Stopping.{stops_smaller}
 use Rattle.sig_tree.proofs.Operators.{different}

@@ -1,17 +1,5 @@
 -- One reading of declarations, interfaces and pragmas.
-use Rattle.std.proofs.Common.{◌≡◌, ℕ, ◌++◌, List, [], ◌∷◌, refl, sym, ap, ◌∙◌, subst, codes, inl, inr, ◌⊎◌}
-use Rattle.sig_base.specs.declared.span.Span.{Span}
-use Rattle.sig_base.specs.declared.ids.Kind.{Kind}
-use Rattle.sig_base.specs.declared.ids.Kind.TheVariants.{Integer, Boolean, Event}
-use Rattle.sig_tree.specs.declared.process.Item.{Item}
-use Rattle.sig_tree.specs.Syntax.{Declared}
-use Rattle.sig_tree.specs.Terminals.{Terminal, Leaf, leaf, name, word, label, mark, name_leaf, kind_word}
-use Rattle.sig_tree.specs.Repeated.{Between, Each, Further, Separated}
-use Rattle.sig_tree.specs.Equations.{IsName}
-use Rattle.sig_tree.specs.Processes.{IsPlainItem, IsItem, IsGroup, IsParam, AreGroups, AreParams, IsInterface, IsPlacement, ArePragmas, IsLocalGroup}
-use Rattle.sig_tree.specs.Beginning.{StartsWith, BeginsGroup, BeginsPlacement}
-use Rattle.sig_tree.specs.Readings.{StopsBefore, OneReading}
-use Rattle.sig_tree.specs.Continuing.{ContinuesNothing, ContinuesOptional, ContinuesInit, ContinuesList, ContinuesEach, ContinuesParam, ContinuesGroup, ContinuesGroups, ContinuesPlacements}
+use Rattle.sig_tree.proofs.Common.{◌≡◌, ℕ, ◌++◌, List, [], ◌∷◌, refl, sym, ap, ◌∙◌, subst, codes, inl, inr, ◌⊎◌, Span, Kind, Integer, Boolean, Event, Item, Declared, Terminal, Leaf, leaf, name, word, label, mark, name_leaf, kind_word, Between, Each, Further, Separated, IsName, IsPlainItem, IsItem, IsGroup, IsParam, AreGroups, AreParams, IsInterface, IsPlacement, ArePragmas, IsLocalGroup, StartsWith, BeginsGroup, BeginsPlacement, StopsBefore, OneReading, ContinuesNothing, ContinuesOptional, ContinuesInit, ContinuesList, ContinuesEach, ContinuesParam, ContinuesGroup, ContinuesGroups, ContinuesPlacements}
 use Rattle.sig_tree.proofs.Stopping.{stops_smaller}
 use Rattle.sig_tree.proofs.Operators.{different}
 use Rattle.sig_tree.proofs.ReadExpressions.{optional_init_once}

@@ -1,19 +1,5 @@
 -- One reading of names, left and right sides, definitions, clock equations and bodies.
-use Rattle.std.proofs.Common.{◌≡◌, ℕ, ◌++◌, List, [], ◌∷◌, true, false, refl, sym, ap, ◌∙◌, subst, codes, None, inl, inr, ◌⊎◌, arith}
-use Rattle.sig_base.specs.declared.span.Span.{Span}
-use Rattle.sig_tree.specs.declared.expr.Name.{Name}
-use Rattle.sig_tree.specs.declared.expr.Constant.{Constant}
-use Rattle.sig_tree.specs.declared.expr.UnOp.TheVariants.{Not, Neg, When as UnaryWhen, Clock}
-use Rattle.sig_tree.specs.Syntax.{Expression, Named, Computed, Called}
-use Rattle.sig_tree.specs.Terminals.{Terminal, Leaf, leaf, name, mark, name_leaf}
-use Rattle.sig_tree.specs.Levels.{default_level}
-use Rattle.sig_tree.specs.Limits.{Limits}
-use Rattle.sig_tree.specs.Repeated.{Between, Separated, Listed}
-use Rattle.sig_tree.specs.Expressions.{IsConstant, IsExpression}
-use Rattle.sig_tree.specs.Equations.{IsName, IsLeft, AreConstants, AreArguments, IsRight}
-use Rattle.sig_tree.specs.Beginning.{StartsWith, BeginsConstant, BeginsExpression}
-use Rattle.sig_tree.specs.Readings.{StopsBefore, OneReading}
-use Rattle.sig_tree.specs.Continuing.{ContinuesNothing, ContinuesOptional, ContinuesExpression, ContinuesList, ContinuesEach, ContinuesDefinition}
+use Rattle.sig_tree.proofs.Common.{◌≡◌, ℕ, ◌++◌, List, [], ◌∷◌, true, false, refl, sym, ap, ◌∙◌, subst, codes, None, inl, inr, ◌⊎◌, arith, Span, Name, Constant, Not, Neg, When as UnaryWhen, Clock, Expression, Named, Computed, Called, Terminal, Leaf, leaf, name, mark, name_leaf, default_level, Limits, Between, Separated, Listed, IsConstant, IsExpression, IsName, IsLeft, AreConstants, AreArguments, IsRight, StartsWith, BeginsConstant, BeginsExpression, StopsBefore, OneReading, ContinuesNothing, ContinuesOptional, ContinuesExpression, ContinuesList, ContinuesEach, ContinuesDefinition}
 use Rattle.sig_tree.proofs.Stopping.{stops_smaller}
 use Rattle.sig_tree.proofs.Operators.{different, infix_of, no_infix}
 use Rattle.sig_tree.proofs.Reader.{closed}

@@ -1,18 +1,6 @@
 -- The reader gives an expression from its leaves, whatever stands behind them, as long as that does not
 -- continue it.
-use Rattle.std.proofs.Common.{◌≡◌, ℕ, zero, suc, ◌≤◌, ◌++◌, List, [], ◌∷◌, Bool, true, false, refl, sym, ap, ◌∙◌, subst, codes, Option, None, Some, inl, inr, cond, arith, append_assoc}
-use Rattle.std.proofs.lemmas.Bool.{le-leb, lt-leb}
-use Rattle.sig_base.specs.declared.span.Span.{Span}
-use Rattle.sig_tree.specs.declared.expr.Constant.{Constant}
-use Rattle.sig_tree.specs.declared.expr.UnOp.{UnOp}
-use Rattle.sig_tree.specs.declared.expr.UnOp.TheVariants.{Not}
-use Rattle.sig_tree.specs.Syntax.{Expression, Named, Number, Truth, Unary, Binary, Delay, Cell}
-use Rattle.sig_tree.specs.Terminals.{Terminal, Leaf, leaf, word, number, mark, truth_word, unary_terminal, binary_terminal}
-use Rattle.sig_tree.specs.Levels.{default_level, mixed_level, delay_level, primary_level, unary_level, operand_level, binary_level, left_level, right_level, level_of}
-use Rattle.sig_tree.specs.Limits.{Limits}
-use Rattle.sig_tree.specs.Expressions.{IsConstant, IsInit, IsOptionalInit, Enclosed, Stands, IsBare, IsAtLevel}
-use Rattle.sig_tree.specs.Readings.{StopsBefore, OneReading}
-use Rattle.sig_tree.specs.Continuing.{ContinuesNothing, ContinuesInit, ContinuesDelay, ContinuesExpression}
+use Rattle.sig_tree.proofs.Common.{◌≡◌, ℕ, zero, suc, ◌≤◌, ◌++◌, List, [], ◌∷◌, Bool, true, false, refl, sym, ap, ◌∙◌, subst, codes, Option, None, Some, inl, inr, cond, arith, append_assoc, le-leb, lt-leb, Span, Constant, UnOp, Not, Expression, Named, Number, Truth, Unary, Binary, Delay, Cell, Terminal, Leaf, leaf, word, number, mark, truth_word, unary_terminal, binary_terminal, default_level, mixed_level, delay_level, primary_level, unary_level, operand_level, binary_level, left_level, right_level, level_of, Limits, IsConstant, IsInit, IsOptionalInit, Enclosed, Stands, IsBare, IsAtLevel, StopsBefore, OneReading, ContinuesNothing, ContinuesInit, ContinuesDelay, ContinuesExpression}
 use Rattle.sig_tree.proofs.Settling.{◌>>=◌, Settles, settles_now, settles_next, settles_bind, settles_once}
 use Rattle.sig_tree.proofs.Stopping.{stops_smaller, one_by_reader}
 use Rattle.sig_tree.proofs.Operators.{Infix, OfTwo, OfCell, OfDelay, infix_terminal, infix_level, infix_of, infix_is, infix_found, infix_stands, no_infix, Tighter, not_tighter, tighter_grows, continues_tighter, tighter_continues, two_levels, one_level, operand_continues}

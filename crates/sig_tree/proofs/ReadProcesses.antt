@@ -1,20 +1,5 @@
 -- One reading of processes and programs.
-use Rattle.std.proofs.Common.{◌≡◌, ℕ, suc, ◌++◌, List, [], ◌∷◌, true, false, refl, sym, ap, ◌∙◌, subst, codes, None, inl, inr, append_assoc}
-use Rattle.std.proofs.lemmas.List.{append_cancel_left}
-use Rattle.sig_base.specs.declared.span.Span.{Span}
-use Rattle.sig_base.specs.declared.ids.Kind.TheVariants.{Integer, Boolean, Event}
-use Rattle.sig_tree.specs.declared.expr.UnOp.TheVariants.{Not, Neg, When as UnaryWhen, Clock}
-use Rattle.sig_tree.specs.Syntax.{Declared, Heading, ProcessModel, Modelled, ProcessModels, no_model, more_models}
-use Rattle.sig_tree.specs.Terminals.{Terminal, Leaf, leaf, word, mark, number, name_leaf}
-use Rattle.sig_tree.specs.Levels.{default_level}
-use Rattle.sig_tree.specs.Limits.{Limits}
-use Rattle.sig_tree.specs.Repeated.{Each}
-use Rattle.sig_tree.specs.Equations.{IsBody}
-use Rattle.sig_tree.specs.Processes.{AreParams, IsInterface, ArePragmas, IsLocalGroup, IsWhere, IsModel, AreLocals}
-use Rattle.sig_tree.specs.Grammar.{IsProgram}
-use Rattle.sig_tree.specs.Beginning.{BeginsBody, BeginsGroup, BeginsProcess}
-use Rattle.sig_tree.specs.Readings.{StopsBefore, OneReading}
-use Rattle.sig_tree.specs.Continuing.{ContinuesNothing, ContinuesOptional, ContinuesEach, ContinuesBody, ContinuesLocals, ContinuesProgram}
+use Rattle.sig_tree.proofs.Common.{◌≡◌, ℕ, suc, ◌++◌, List, [], ◌∷◌, true, false, refl, sym, ap, ◌∙◌, subst, codes, None, inl, inr, append_assoc, append_cancel_left, Span, Integer, Boolean, Event, Not, Neg, When as UnaryWhen, Clock, Declared, Heading, ProcessModel, Modelled, ProcessModels, no_model, more_models, Terminal, Leaf, leaf, word, mark, number, name_leaf, default_level, Limits, Each, IsBody, AreParams, IsInterface, ArePragmas, IsLocalGroup, IsWhere, IsModel, AreLocals, IsProgram, BeginsBody, BeginsGroup, BeginsProcess, StopsBefore, OneReading, ContinuesNothing, ContinuesOptional, ContinuesEach, ContinuesBody, ContinuesLocals, ContinuesProgram}
 use Rattle.sig_tree.proofs.Stopping.{stops_smaller}
 use Rattle.sig_tree.proofs.Operators.{different, infix_of, no_infix}
 use Rattle.sig_tree.proofs.FirstLeaves.{local_group_begins, body_begins, model_begins}

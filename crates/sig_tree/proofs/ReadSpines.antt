@@ -1,20 +1,6 @@
 -- One reading of operands and of the operators behind them.
-use Rattle.std.proofs.Common.{◌≡◌, ℕ, suc, ◌≤◌, ◌++◌, List, [], ◌∷◌, Some, refl, sym, ap, ◌∙◌, subst, codes, inl, inr, arith}
-use Rattle.std.proofs.lemmas.List.{append_cancel_right}
-use Rattle.sig_base.specs.declared.span.Span.{Span}
-use Rattle.sig_tree.specs.declared.expr.UnOp.{UnOp}
-use Rattle.sig_tree.specs.declared.expr.UnOp.TheVariants.{Not}
-use Rattle.sig_tree.specs.declared.expr.BinOp.{BinOp}
-use Rattle.sig_tree.specs.Syntax.{Expression, Named, Number, Truth, Unary, Binary, Delay, Cell}
-use Rattle.sig_tree.specs.Terminals.{Terminal, Leaf, leaf, word, mark, unary_terminal, binary_terminal}
-use Rattle.sig_tree.specs.Levels.{delay_level, primary_level, unary_level, operand_level, binary_level, right_level}
-use Rattle.sig_tree.specs.Limits.{Limits}
-use Rattle.sig_tree.specs.Repeated.{Each}
-use Rattle.sig_tree.specs.Expressions.{IsAtLevel}
-use Rattle.sig_tree.specs.Beginning.{StartsWith, BeginsExpression}
-use Rattle.sig_tree.specs.Readings.{StopsBefore, OneReading}
-use Rattle.sig_tree.specs.Continuing.{ContinuesDelay, ContinuesExpression}
-use Rattle.sig_tree.specs.Spines.{IsAtom, IsInner, IsOperand, Step, WithOperand, WithCell, WithDelay, IsStep}
+use Rattle.sig_tree.proofs.Common.{◌≡◌, ℕ, suc, ◌≤◌, ◌++◌, List, [], ◌∷◌, Some, refl, sym, ap, ◌∙◌, subst, codes, inl, inr, arith, append_cancel_right, Span, UnOp, Not, BinOp, Expression, Named, Number, Truth, Unary, Binary, Delay, Cell, Terminal, Leaf, leaf, word, mark, unary_terminal, binary_terminal, delay_level, primary_level, unary_level, operand_level, binary_level, right_level, Limits, Each, IsAtLevel, StartsWith, BeginsExpression, StopsBefore, OneReading, ContinuesDelay, ContinuesExpression, IsAtom, IsInner, Step, WithOperand, WithCell, WithDelay, IsStep}
+use Rattle.sig_tree.specs.Spines.{IsOperand}
 use Rattle.sig_tree.proofs.Stopping.{stops_smaller, pair_same}
 use Rattle.sig_tree.proofs.Operators.{Infix, OfTwo, OfCell, OfDelay, infix_terminal, infix_level, infix_of, infix_found, infix_seen, Tighter, not_tighter, continues_tighter, tighter_continues, two_levels, operand_continues}
 use Rattle.sig_tree.proofs.Reader.{AtName, AtNumber, AtTruth, AtOpening, AtPrefix, first_of, delay_read, optional_init_at, skip_one}

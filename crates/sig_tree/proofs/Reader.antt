@@ -1,18 +1,6 @@
 -- A reader of constants and expressions. It reads what the grammar's expressions stand as, and more,
 -- and goes down no deeper than a bound. It serves to show that they have one reading.
-use Rattle.std.proofs.Common.{◌≡◌, ℕ, zero, suc, ◌++◌, List, [], ◌∷◌, Bool, true, false, leb, refl, sym, ap, ◌∙◌, codes, Option, None, Some, inl, inr, cond}
-use Rattle.std.specs.Prelude.{pos, neg_ℤ}
-use Rattle.sig_base.specs.declared.span.Span.{Span}
-use Rattle.sig_tree.specs.declared.expr.Constant.{Constant}
-use Rattle.sig_tree.specs.declared.expr.Constant.TheVariants.{Int, Bool as BoolConstant, Param}
-use Rattle.sig_tree.specs.declared.expr.UnOp.{UnOp}
-use Rattle.sig_tree.specs.declared.expr.UnOp.TheVariants.{Not, Neg, When as UnaryWhen, Clock}
-use Rattle.sig_tree.specs.Syntax.{Expression, Named, Number, Truth, Unary, Binary, Delay, Cell}
-use Rattle.sig_tree.specs.Terminals.{Terminal, Leaf, name, word, number, label, mark, truth_word, unary_terminal}
-use Rattle.sig_tree.specs.Levels.{default_level, primary_level, operand_level, right_level}
-use Rattle.sig_tree.specs.Expressions.{IsConstant, IsInit, IsOptionalOne, IsOptionalInit}
-use Rattle.sig_tree.specs.Readings.{StopsBefore}
-use Rattle.sig_tree.specs.Continuing.{ContinuesDelay, ContinuesInit}
+use Rattle.sig_tree.proofs.Common.{◌≡◌, ℕ, zero, suc, ◌++◌, List, [], ◌∷◌, Bool, true, false, leb, refl, sym, ap, ◌∙◌, codes, Option, None, Some, inl, inr, cond, pos, neg_ℤ, Span, Constant, Int, BoolConstant, Param, UnOp, Not, Neg, When as UnaryWhen, Clock, Expression, Named, Number, Truth, Unary, Binary, Delay, Cell, Terminal, Leaf, name, word, number, label, mark, truth_word, unary_terminal, default_level, primary_level, operand_level, right_level, IsConstant, IsInit, IsOptionalOne, IsOptionalInit, StopsBefore, ContinuesDelay, ContinuesInit}
 use Rattle.sig_tree.proofs.Stopping.{stops_smaller}
 use Rattle.sig_tree.proofs.Settling.{◌>>=◌}
 use Rattle.sig_tree.proofs.Operators.{is_terminal, terminal_same, Infix, OfTwo, OfCell, OfDelay, infix_level, infix_of}

@@ -1,5 +1,5 @@
 -- Functions of a bound that keep one value from some bound on.
-use Rattle.std.proofs.Common.{◌≡◌, ℕ, zero, suc, ◌+◌, ◌≤◌, Option, None, Some, refl, sym, ◌∙◌, ap, arith}
+use Rattle.sig_tree.proofs.Common.{◌≡◌, ℕ, zero, suc, ◌+◌, ◌≤◌, Option, None, Some, refl, sym, ◌∙◌, ap, arith}
 
 infixl 10 ◌>>=◌
 abbrev pub ◌>>=◌ : {A B : Type 0} → Option A → (A → Option B) → Option B

@@ -1,17 +1,8 @@
 -- Silent instants may be put into a trace of a process and taken out of it.
-use Rattle.std.proofs.Common.{◌≡◌, ℕ, zero, suc, ℤ, Bool, true, false, List, [], ◌∷◌, None, Some, refl, sym, ap, subst, inl, inr}
-use Rattle.std.specs.Prelude.{◌⊎◌}
-use Rattle.std.specs.List.{AllByRecursion, AllZip}
-use Rattle.sig_base.specs.Traces.{Instant, Trace, seen_at, is_silent, reduce}
-use Rattle.sig_tree.specs.declared.expr.UnOp.{UnOp}
-use Rattle.sig_tree.specs.declared.expr.UnOp.TheVariants.{Not, Neg, When as UnaryWhen, Clock}
-use Rattle.sig_tree.specs.declared.expr.BinOp.{BinOp}
-use Rattle.sig_tree.specs.declared.expr.BinOp.TheVariants.{Default, When, Plus, Meet, Less, Or, Xor, And, Eq, Ne, Lt, Le, Gt, Ge, Add, Sub, Mul, Div, Mod}
-use Rattle.sig_tree.specs.Constants.{is_function, is_constant, IsSignals, AreSignals}
-use Rattle.sig_tree.specs.FlatSyntax.{FlatExpression, Sig, Const, Unary, Binary, Delay, Cell, FlatEquation, Defines, Equal}
-use Rattle.sig_tree.specs.Operators.{Operand, Signal, Constant, Changes, Combines}
-use Rattle.sig_tree.specs.ProcessTraces.{HoldThroughout}
-use Rattle.sig_tree.specs.Steps.{Steps, EquationSteps, BodySteps}
+use Rattle.sig_tree.proofs.Common.{◌≡◌, ℕ, zero, suc, ℤ, Bool, true, false, List, [], ◌∷◌, None, Some, refl, sym, ap, subst, inl, inr, ◌⊎◌, AllByRecursion, AllZip, Instant, Trace, seen_at, is_silent, reduce, UnOp, Not, Neg, When as UnaryWhen, Clock, BinOp, Default, Plus, Meet, Less, Or, Xor, And, Eq, Ne, Lt, Le, Gt, Ge, Add, Sub, Mul, Div, Mod, is_function, is_constant, IsSignals, AreSignals, FlatExpression, Sig, Const, FlatEquation, Defines, Equal, Operand, Signal, Changes, Combines, HoldThroughout, Steps, EquationSteps, BodySteps}
+use Rattle.sig_tree.specs.declared.expr.BinOp.TheVariants.{When}
+use Rattle.sig_tree.specs.FlatSyntax.{Unary, Binary, Delay, Cell}
+use Rattle.sig_tree.specs.Operators.{Constant}
 use Rattle.sig_tree.proofs.OneMeaning.{OneValue}
 use Rattle.sig_tree.proofs.EquationLaws.{through_first, through_rest, through_cons, zip_over}
 

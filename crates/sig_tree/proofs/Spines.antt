@@ -1,19 +1,8 @@
 -- An expression of a level is a first operand and the operators of the level behind it.
-use Rattle.std.proofs.Common.{◌≡◌, ℕ, zero, suc, ◌≤◌, ◌<◌, ◌++◌, List, [], ◌∷◌, length, refl, sym, ap, ◌∙◌, subst, codes, inl, inr, ◌⊎◌, ⊎_elim, arith, append_assoc}
-use Rattle.std.proofs.lemmas.Bool.{cases_lt}
-use Rattle.std.proofs.lemmas.List.{append-nil}
-use Rattle.sig_tree.specs.declared.expr.UnOp.{UnOp}
-use Rattle.sig_tree.specs.declared.expr.UnOp.TheVariants.{Not}
-use Rattle.sig_tree.specs.declared.expr.BinOp.{BinOp}
-use Rattle.sig_tree.specs.declared.expr.BinOp.TheVariants.{Default, When, Plus, Meet, Less, Or, Xor, And, Add, Sub, Mul, Div, Mod}
-use Rattle.sig_tree.specs.Syntax.{Expression, Named, Number, Truth, Unary, Binary, Delay, Cell}
-use Rattle.sig_tree.specs.Terminals.{Leaf, leaf, word, mark, binary_terminal}
-use Rattle.sig_tree.specs.Levels.{default_level, mixed_level, relation_level, sum_level, delay_level, primary_level, unary_level, operand_level, binary_level, left_level, right_level, level_of}
-use Rattle.sig_tree.specs.Limits.{Limits, both_limits, no_limits, MayStandInside}
-use Rattle.sig_tree.specs.Repeated.{Each}
-use Rattle.sig_tree.specs.Expressions.{Enclosed, IsBare, IsAtLevel}
+use Rattle.sig_tree.proofs.Common.{◌≡◌, ℕ, zero, suc, ◌≤◌, ◌<◌, ◌++◌, List, [], ◌∷◌, length, refl, sym, ap, ◌∙◌, subst, codes, inl, inr, ◌⊎◌, ⊎_elim, arith, append_assoc, cases_lt, append-nil, UnOp, Not, BinOp, Default, Plus, Meet, Less, Or, Xor, And, Add, Sub, Mul, Div, Mod, Expression, Named, Number, Truth, Unary, Binary, Delay, Cell, Leaf, leaf, word, mark, binary_terminal, default_level, mixed_level, relation_level, sum_level, delay_level, primary_level, unary_level, operand_level, binary_level, left_level, right_level, level_of, Limits, both_limits, no_limits, MayStandInside, Each, Enclosed, IsBare, IsAtLevel, IsAtom, Step, WithOperand, WithCell, WithDelay, stepped, stepped_all, IsStep, AreSoMany, IsSpine}
+use Rattle.sig_tree.specs.declared.expr.BinOp.TheVariants.{When}
 use Rattle.sig_tree.proofs.Unlimited.{expression_unlimited, expression_within}
-use Rattle.sig_tree.specs.Spines.{IsAtom, IsOperand, Step, WithOperand, WithCell, WithDelay, stepped, stepped_all, IsStep, AreSoMany, IsSpine}
+use Rattle.sig_tree.specs.Spines.{IsOperand}
 
 -- a relation's left operand is tighter, and no other's
 left_cases : (op : BinOp) → ((binary_level op ≡ relation_level) × (left_level op ≡ suc (binary_level op))) ⊎ ((binary_level op ≡ relation_level → ⊥) × (left_level op ≡ binary_level op))

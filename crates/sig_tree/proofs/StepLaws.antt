@@ -1,10 +1,6 @@
 -- Expressions read one instant at a time mean what they mean over a trace.
-use Rattle.std.proofs.Common.{◌≡◌, ◌≤◌, ℕ, zero, suc, ◌∷◌, refl, sym, ap, subst, ◌∙◌, arith}
-use Rattle.sig_base.specs.Traces.{Seen, Instant, Trace}
-use Rattle.sig_tree.specs.FlatSyntax.{FlatExpression, Sig, Const, Unary, Binary, Delay, Cell}
-use Rattle.sig_tree.specs.Operators.{Operand, Signal, delayed, held}
-use Rattle.sig_tree.specs.Meaning.{IsHeld, IsOperand}
-use Rattle.sig_tree.specs.Steps.{kept, Steps}
+use Rattle.sig_tree.proofs.Common.{◌≡◌, ◌≤◌, ℕ, zero, suc, ◌∷◌, refl, sym, ap, subst, ◌∙◌, arith, Seen, Instant, Trace, FlatExpression, Sig, Const, Operand, Signal, delayed, held, IsHeld, IsOperand, kept, Steps}
+use Rattle.sig_tree.specs.FlatSyntax.{Unary, Binary, Delay, Cell}
 use Rattle.sig_tree.proofs.OneMeaning.{OneValue, operand_one, same_signal}
 use Rattle.sig_tree.proofs.Previous.{at_first, first_is_init, from_zero, previous_after, previous_before}
 

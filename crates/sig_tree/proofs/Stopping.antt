@@ -1,8 +1,5 @@
 -- Lists of leaves that begin with nothing of a set.
-use Rattle.std.proofs.Common.{◌≡◌, ◌++◌, List, [], ◌∷◌, sym, ◌∙◌, ap, subst, Some, None, Option}
-use Rattle.std.proofs.lemmas.List.{append_cancel_right}
-use Rattle.sig_tree.specs.Terminals.{Terminal, Leaf}
-use Rattle.sig_tree.specs.Readings.{StopsBefore, OneReading}
+use Rattle.sig_tree.proofs.Common.{◌≡◌, ◌++◌, List, [], ◌∷◌, sym, ◌∙◌, ap, subst, Some, None, Option, append_cancel_right, Terminal, Leaf, StopsBefore, OneReading}
 
 -- of a smaller set too
 pub stops_smaller : (Large Small : Terminal → Type 0) → ((t : Terminal) → Small t → Large t) → (leaves : List Leaf) → StopsBefore Large leaves → StopsBefore Small leaves

@@ -1,16 +1,7 @@
 -- What is in the grammar within limits is in it without them, at any depth, and what is in it within
 -- both limits is so within any.
-use Rattle.std.proofs.Common.{◌≡◌, ℕ, zero, suc, ◌<◌, List, [], ◌∷◌, refl, ap, subst, inl, inr, codes}
-use Rattle.sig_tree.specs.declared.expr.Name.{Name}
-use Rattle.sig_tree.specs.Syntax.{Expression, Named, Number, Truth, Unary, Binary, Delay, Cell, Declared, RightSide, Computed, Called, Equations, Together, Defines, Equal, Bodies, no_body, more_bodies, ProcessModel, Modelled, ProcessModels, no_model, more_models}
-use Rattle.sig_tree.specs.Terminals.{Terminal, Leaf, mark}
-use Rattle.sig_tree.specs.Levels.{default_level, mixed_level, delay_level, primary_level, operand_level, left_level, right_level, level_of}
-use Rattle.sig_tree.specs.Limits.{Limits, both_limits, no_limits, MayStandInside, MayHave}
-use Rattle.sig_tree.specs.Repeated.{Each, Further, Separated, Listed}
-use Rattle.sig_tree.specs.Expressions.{Enclosed, IsBare, IsAtLevel, IsExpression}
-use Rattle.sig_tree.specs.Equations.{IsLeft, IsRight, IsDefinition, IsClockEquation, IsBody, AreBodies, AreFurtherBodies}
-use Rattle.sig_tree.specs.Processes.{IsModel, AreLocals, IsWhere}
-use Rattle.sig_tree.specs.Grammar.{IsProgram}
+use Rattle.sig_tree.proofs.Common.{◌≡◌, ℕ, zero, suc, ◌<◌, List, [], ◌∷◌, refl, ap, subst, inl, inr, codes, Name, Expression, Named, Number, Truth, Unary, Binary, Delay, Cell, Declared, RightSide, Computed, Called, Equations, Together, Bodies, no_body, more_bodies, ProcessModel, Modelled, ProcessModels, no_model, more_models, Terminal, Leaf, mark, default_level, mixed_level, delay_level, primary_level, operand_level, left_level, right_level, level_of, Limits, both_limits, no_limits, MayStandInside, MayHave, Each, Further, Separated, Listed, Enclosed, IsBare, IsAtLevel, IsExpression, IsLeft, IsRight, IsDefinition, IsClockEquation, IsBody, AreBodies, AreFurtherBodies, IsModel, AreLocals, IsWhere, IsProgram}
+use Rattle.sig_tree.specs.Syntax.{Defines, Equal}
 
 module _ {A : Type 0} (Was Is : A → List Leaf → Type 0) (same : (x : A) (leaves : List Leaf) → Was x leaves → Is x leaves) where
   pub each_same : (xs : List A) (leaves : List Leaf) → Each Was xs leaves → Each Is xs leaves

@@ -1,11 +1,6 @@
 -- What an expression means at an instant depends only on the trace up to there.
-use Rattle.std.proofs.Common.{◌≡◌, ◌<◌, ◌≤◌, ◌++◌, ℕ, zero, suc, ℤ, List, [], ◌∷◌, length, None, Some, refl, ap, subst, ◌∙◌, arith, inl, inr}
-use Rattle.std.specs.List.{AllByRecursion}
-use Rattle.sig_base.specs.Traces.{Instant, Trace, seen_at}
-use Rattle.sig_tree.specs.FlatSyntax.{FlatExpression, Sig, Const, Unary, Binary, Delay, Cell, FlatEquation, Defines, Equal}
-use Rattle.sig_tree.specs.Operators.{Operand, Signal}
-use Rattle.sig_tree.specs.Meaning.{IsPrevious, IsOperand, instant_at}
-use Rattle.sig_tree.specs.ProcessTraces.{HoldsAt}
+use Rattle.sig_tree.proofs.Common.{◌≡◌, ◌<◌, ◌≤◌, ◌++◌, ℕ, zero, suc, ℤ, List, [], ◌∷◌, length, None, Some, refl, ap, subst, ◌∙◌, arith, inl, inr, AllByRecursion, Instant, Trace, seen_at, FlatExpression, Sig, Const, FlatEquation, Defines, Equal, Operand, Signal, IsPrevious, IsOperand, instant_at, HoldsAt}
+use Rattle.sig_tree.specs.FlatSyntax.{Unary, Binary, Delay, Cell}
 
 -- two traces are the same up to an instant
 abbrev pub SameUpTo : Trace → Trace → ℕ → Type 0

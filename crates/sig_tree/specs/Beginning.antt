@@ -1,6 +1,6 @@
 -- The terminals that a part of the grammar may begin with.
-use Rattle.std.specs.Prelude.{◌≡◌, ◌≤◌, ◌⊎◌, ℕ, Bool, List, [], ◌∷◌, codes}
-use Rattle.sig_base.specs.declared.ids.Kind.{Kind}
+use Rattle.std.specs.Prelude.{◌≡◌, ◌≤◌, ◌⊎◌, ◌∷◌}
+use Rattle.sig_tree.specs.Prelude.{ℕ, Bool, List, [], codes, Kind}
 use Rattle.sig_tree.specs.declared.expr.UnOp.{UnOp}
 use Rattle.sig_tree.specs.Terminals.{Terminal, Leaf, name, word, number, mark, kind_word, truth_word, unary_terminal}
 use Rattle.sig_tree.specs.Levels.{default_level, unary_level}

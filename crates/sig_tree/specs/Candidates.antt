@@ -1,6 +1,6 @@
 -- What may be wrong, in the order in which it is asked for.
-use Rattle.std.specs.Prelude.{◌≡◌, ◌⊎◌, ◌++◌, List, [], ◌∷◌, ⊤}
-use Rattle.sig_base.specs.declared.span.Span.{Span}
+use Rattle.std.specs.Prelude.{◌≡◌, ◌⊎◌, ◌++◌, ◌∷◌}
+use Rattle.sig_tree.specs.Prelude.{List, [], ⊤, Span}
 use Rattle.sig_tree.specs.declared.expr.Name.{Name}
 
 -- what is refused of a program, with the name or the place that is said of it

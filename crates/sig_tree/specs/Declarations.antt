@@ -1,7 +1,6 @@
 -- What a program's processes declare and use, in the order of the text.
-use Rattle.std.specs.Prelude.{ℕ, List, [], ◌∷◌, ◌++◌, map, flat_map, find, Option, None, Some}
-use Rattle.std.specs.Str.{bytes_eq}
-use Rattle.sig_base.specs.declared.ids.Kind.{Kind}
+use Rattle.std.specs.Prelude.{◌∷◌, ◌++◌}
+use Rattle.sig_tree.specs.Prelude.{ℕ, List, [], map, flat_map, find, Option, None, Some, bytes_eq, Kind}
 use Rattle.sig_tree.specs.declared.expr.Name.{Name}
 use Rattle.sig_tree.specs.declared.expr.Constant.{Constant}
 use Rattle.sig_tree.specs.declared.expr.Constant.TheVariants.{Int, Bool as Truthful, Param}

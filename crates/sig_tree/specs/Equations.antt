@@ -1,6 +1,6 @@
 -- Definitions, clock equations and bodies: the leaves that they stand as.
-use Rattle.std.specs.Prelude.{◌≡◌, ◌++◌, ◌⊎◌, ℕ, suc, List, [], ◌∷◌, codes, sum_by}
-use Rattle.sig_base.specs.declared.span.Span.{Span}
+use Rattle.std.specs.Prelude.{◌≡◌, ◌++◌, ◌⊎◌, ◌∷◌}
+use Rattle.sig_tree.specs.Prelude.{ℕ, suc, List, [], codes, sum_by, Span}
 use Rattle.sig_tree.specs.declared.expr.Name.{Name}
 use Rattle.sig_tree.specs.declared.expr.Constant.{Constant}
 use Rattle.sig_tree.specs.Syntax.{Expression, RightSide, Computed, Called, Equations, Together, Defines, Equal, Bodies, no_body, more_bodies}

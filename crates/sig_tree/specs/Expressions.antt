@@ -1,6 +1,6 @@
 -- Constants and expressions: the leaves that they stand as.
-use Rattle.std.specs.Prelude.{◌≡◌, ◌++◌, ◌≤◌, ◌⊎◌, ℕ, zero, suc, pos, neg_ℤ, List, [], ◌∷◌, codes, Option, None, Some}
-use Rattle.sig_base.specs.declared.span.Span.{Span}
+use Rattle.std.specs.Prelude.{◌≡◌, ◌++◌, ◌≤◌, ◌⊎◌, ◌∷◌}
+use Rattle.sig_tree.specs.Prelude.{ℕ, zero, suc, pos, neg_ℤ, List, [], codes, Option, None, Some, Span}
 use Rattle.sig_tree.specs.declared.expr.Constant.{Constant}
 use Rattle.sig_tree.specs.declared.expr.Constant.TheVariants.{Int, Bool, Param}
 use Rattle.sig_tree.specs.Syntax.{Expression, Named, Number, Truth, Unary, Binary, Delay, Cell}

@@ -1,11 +1,7 @@
 -- The flat body of a program: the body of its first process after every call is replaced by the body of what
 -- it calls. The calls are numbered from 1 as they are met, a call before those inside the called body.
-use Rattle.std.specs.Prelude.{◌≡◌, ◌+◌, ◌++◌, ℕ, zero, suc, ℤ, pos, neg_ℤ, Bool, true, false, List, [], ◌∷◌, map, length, find, zip, Option, None, Some, unwrap_or, option_map, option_and_then, codes, decimal, if◌then◌else◌}
-use Rattle.std.specs.Str.{bytes_eq}
-use Rattle.sig_base.specs.declared.ids.Kind.{Kind}
-use Rattle.sig_base.specs.declared.ids.Kind.TheVariants.{Integer, Boolean}
-use Rattle.sig_base.specs.declared.span.Span.{Span}
-use Rattle.sig_base.specs.declared.signal.Signal.{Signal}
+use Rattle.std.specs.Prelude.{◌≡◌, ◌+◌, ◌++◌, ◌∷◌, if◌then◌else◌}
+use Rattle.sig_tree.specs.Prelude.{ℕ, zero, suc, ℤ, pos, neg_ℤ, Bool, true, false, List, [], map, length, find, zip, Option, None, Some, unwrap_or, option_map, option_and_then, codes, decimal, bytes_eq, Kind, Integer, Boolean, Span, Signal}
 use Rattle.sig_tree.specs.declared.expr.Name.{Name}
 use Rattle.sig_tree.specs.declared.expr.Constant.{Constant}
 use Rattle.sig_tree.specs.declared.expr.Constant.TheVariants.{Int, Bool as Truthful, Param}

@@ -1,8 +1,5 @@
 -- Flat bodies as contracts see them: the trees of the code, without where they lie in memory.
-use Rattle.std.specs.Prelude.{ℕ, ℤ, List, map}
-use Rattle.sig_base.specs.declared.span.Span.{Span}
-use Rattle.sig_base.specs.declared.ids.Kind.{Kind}
-use Rattle.sig_base.specs.declared.signal.Signal.{Signal}
+use Rattle.sig_tree.specs.Prelude.{ℕ, ℤ, List, map, Span, Kind, Signal}
 use Rattle.sig_tree.specs.declared.expr.UnOp.{UnOp}
 use Rattle.sig_tree.specs.declared.expr.BinOp.{BinOp}
 use Rattle.sig_tree.specs.declared.flat.FlatExpr.{FlatExpr, Sig as SigExpr, Const as ConstExpr, Unary', Binary', Delay', Cell'}

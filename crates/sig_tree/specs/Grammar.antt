@@ -1,7 +1,6 @@
 -- The grammar: programs, sentences and what a sentence begins with.
-use Rattle.std.specs.Prelude.{◌≢◌, ℕ, ◌++◌, List, []}
-use Rattle.sig_lex.specs.declared.token.Token.{Token}
-use Rattle.sig_lex.specs.Tokens.{AreTokens}
+use Rattle.std.specs.Prelude.{◌≢◌, ◌++◌}
+use Rattle.sig_tree.specs.Prelude.{ℕ, List, [], Token, AreTokens}
 use Rattle.sig_tree.specs.Syntax.{ProcessModel}
 use Rattle.sig_tree.specs.Terminals.{Leaf}
 use Rattle.sig_tree.specs.Leaves.{leaves_of}

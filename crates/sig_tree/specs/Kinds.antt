@@ -1,7 +1,6 @@
 -- The kinds of expressions, by one table of their forms. "Truth" means boolean or event.
-use Rattle.std.specs.Prelude.{◌≡◌, ◌⊎◌, ◌&&◌, ◌||◌, ℕ, Bool, true, false, List, Option, None, Some, if◌then◌else◌, option_map}
-use Rattle.sig_base.specs.declared.ids.Kind.{Kind}
-use Rattle.sig_base.specs.declared.ids.Kind.TheVariants.{Integer, Boolean, Event}
+use Rattle.std.specs.Prelude.{◌≡◌, ◌⊎◌, ◌&&◌, ◌||◌, if◌then◌else◌}
+use Rattle.sig_tree.specs.Prelude.{ℕ, Bool, true, false, List, Option, None, Some, option_map, Kind, Integer, Boolean, Event}
 use Rattle.sig_tree.specs.declared.expr.Constant.{Constant}
 use Rattle.sig_tree.specs.declared.expr.Constant.TheVariants.{Int, Bool as Truthful, Param}
 use Rattle.sig_tree.specs.declared.expr.UnOp.{UnOp}

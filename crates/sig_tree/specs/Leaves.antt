@@ -1,9 +1,6 @@
 -- The leaves of a text: its tokens, as the terminals of the grammar.
-use Rattle.std.specs.Prelude.{ℕ, ◌-◌, List, length, flat_map, slice_range, Option, None, Some, option_to_list, option_map}
-use Rattle.sig_lex.specs.declared.token.Token.{Token}
-use Rattle.sig_lex.specs.declared.token.TokenKind.{TokenKind}
-use Rattle.sig_lex.specs.declared.token.TokenKind.TheVariants.{Name, Word, Number, Label, Mark, Last}
-use Rattle.sig_lex.specs.Lexemes.{text_of}
+use Rattle.std.specs.Prelude.{◌-◌}
+use Rattle.sig_tree.specs.Prelude.{ℕ, List, length, flat_map, slice_range, Option, None, Some, option_to_list, option_map, Token, TokenKind, Name, Word, Number, Label, Mark, Last, text_of}
 use Rattle.sig_tree.specs.Terminals.{Terminal, name, word, number, label, mark, Leaf, leaf}
 
 -- what a token of this kind and text says; the end of the text says nothing

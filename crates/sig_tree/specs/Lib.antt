@@ -1,3 +1,4 @@
+pub mod Prelude
 pub mod Beginning
 pub mod Candidates
 pub mod Constants

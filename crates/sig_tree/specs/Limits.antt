@@ -1,6 +1,6 @@
 -- The limits of nesting and of operators.
-use Rattle.std.specs.Prelude.{◌≡◌, ◌+◌, ◌<◌, ◌≤◌, ℕ, Bool, true, false, sum_by}
-use Rattle.sig_base.specs.declared.limits.TheConstants.{NESTING, OPERATORS}
+use Rattle.std.specs.Prelude.{◌≡◌, ◌+◌, ◌<◌, ◌≤◌}
+use Rattle.sig_tree.specs.Prelude.{ℕ, Bool, true, false, sum_by, NESTING, OPERATORS}
 use Rattle.sig_tree.specs.Syntax.{Expression, Named, Number, Truth, Unary, Binary, Delay, Cell, RightSide, Computed, Called}
 
 -- which of the two limits are kept

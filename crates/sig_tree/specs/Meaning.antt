@@ -1,7 +1,7 @@
 -- What an expression means: at an instant of a trace it is absent or has a value, or it has no meaning
 -- there. Where an operand has none, the expression has none.
-use Rattle.std.specs.Prelude.{◌≡◌, ◌⊎◌, ◌<◌, ◌≤◌, ℕ, ℤ, slice_index_or, [], None, Some}
-use Rattle.sig_base.specs.Traces.{Seen, Instant, Trace, seen_at}
+use Rattle.std.specs.Prelude.{◌≡◌, ◌⊎◌, ◌<◌, ◌≤◌}
+use Rattle.sig_tree.specs.Prelude.{ℕ, ℤ, slice_index_or, [], None, Some, Seen, Instant, Trace, seen_at}
 use Rattle.sig_tree.specs.FlatSyntax.{FlatExpression, Sig, Const, Unary, Binary, Delay, Cell}
 use Rattle.sig_tree.specs.Operators.{Operand, Signal, Constant, Changes, Combines, delayed, held}
 

@@ -1,11 +1,8 @@
 -- What the operators of expressions say of one instant. Each row tells where the result is present and
 -- with what value, by what the operands are there (SIGNAL V4 reference manual for functions, `when` and
 -- `default`; the operators on clocks are this project's own).
-use Rattle.std.specs.Prelude.{◌≡◌, ℤ, pos, Bool, false, List, [], ◌∷◌, None, Some, if◌then◌else◌, FitsSigned}
-use Rattle.std.specs.Int.{w64}
-use Rattle.std.specs.Ordering.{int_eq}
-use Rattle.sig_base.specs.Traces.{Seen, Bounded}
-use Rattle.sig_base.specs.Functions.{Function, Negative, Not as FunctionNot, And as FunctionAnd, Or as FunctionOr, Xor as FunctionXor, Equal, NotEqual, Less as FunctionLess, LessEqual, Greater, GreaterEqual, Sum, Difference, Product, Quotient, Remainder, Gives}
+use Rattle.std.specs.Prelude.{◌≡◌, ◌∷◌, if◌then◌else◌}
+use Rattle.sig_tree.specs.Prelude.{ℤ, pos, Bool, false, List, [], None, Some, FitsSigned, w64, int_eq, Seen, Bounded, Function, Negative, Not as FunctionNot, And as FunctionAnd, Or as FunctionOr, Xor as FunctionXor, Equal, NotEqual, Less as FunctionLess, LessEqual, Greater, GreaterEqual, Sum, Difference, Product, Quotient, Remainder, Gives}
 use Rattle.sig_tree.specs.declared.expr.UnOp.{UnOp}
 use Rattle.sig_tree.specs.declared.expr.UnOp.TheVariants.{Not, Neg, When as UnaryWhen, Clock}
 use Rattle.sig_tree.specs.declared.expr.BinOp.{BinOp}

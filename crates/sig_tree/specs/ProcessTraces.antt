@@ -1,9 +1,6 @@
 -- The traces of a process: each of its definitions and clock equations holds at each instant.
-use Rattle.std.specs.Prelude.{◌⊎◌, ◌<◌, ℕ, ℤ, List, length, map, None, Some}
-use Rattle.std.specs.List.{AllByRecursion}
-use Rattle.sig_base.specs.declared.ids.Kind.{Kind}
-use Rattle.sig_base.specs.declared.signal.Signal.{Signal}
-use Rattle.sig_base.specs.Traces.{Trace, Bounded, AreOfKinds, seen_at}
+use Rattle.std.specs.Prelude.{◌⊎◌, ◌<◌}
+use Rattle.sig_tree.specs.Prelude.{ℕ, ℤ, List, length, map, None, Some, AllByRecursion, Kind, Signal, Trace, Bounded, AreOfKinds, seen_at}
 use Rattle.sig_tree.specs.FlatSyntax.{FlatEquation, Defines, Equal, FlatBody}
 use Rattle.sig_tree.specs.Meaning.{Means, instant_at}
 

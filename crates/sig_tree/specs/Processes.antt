@@ -1,7 +1,6 @@
 -- Declarations, pragmas and processes: the leaves that they stand as.
-use Rattle.std.specs.Prelude.{◌≡◌, ◌≢◌, ◌++◌, ◌⊎◌, ℕ, suc, List, [], ◌∷◌, codes, None}
-use Rattle.sig_base.specs.declared.span.Span.{Span}
-use Rattle.sig_base.specs.declared.ids.Kind.TheVariants.{Event}
+use Rattle.std.specs.Prelude.{◌≡◌, ◌≢◌, ◌++◌, ◌⊎◌, ◌∷◌}
+use Rattle.sig_tree.specs.Prelude.{ℕ, suc, List, [], codes, None, Span, Event}
 use Rattle.sig_tree.specs.declared.process.Item.{Item}
 use Rattle.sig_tree.specs.Syntax.{Declared, Placement, Equations, Heading, ProcessModel, Modelled, ProcessModels, no_model, more_models}
 use Rattle.sig_tree.specs.Terminals.{Leaf, leaf, name_leaf, kind_word, name, word, label, mark}

@@ -1,6 +1,6 @@
 -- What stands one or more times, or any number of times, in a list of leaves.
-use Rattle.std.specs.Prelude.{◌≡◌, ◌++◌, List, [], ◌∷◌}
-use Rattle.sig_base.specs.declared.span.Span.{Span}
+use Rattle.std.specs.Prelude.{◌≡◌, ◌++◌, ◌∷◌}
+use Rattle.sig_tree.specs.Prelude.{List, [], Span}
 use Rattle.sig_tree.specs.Terminals.{Leaf, Terminal, leaf}
 
 -- { X }

@@ -1,9 +1,7 @@
 -- The rules on a process by itself and among the others, one after another. Each lists what may be wrong
 -- in the order of the text. `all` are the program's processes in the order of the text.
-use Rattle.std.specs.Prelude.{◌≡◌, ◌≢◌, ◌⊎◌, ◌≤◌, ◌+◌, ◌*◌, ◌-◌, ◌++◌, ℕ, true, false, List, [], ◌∷◌, map, length, fold, zip, Option, None, Some, IsSome, Contains, Any, ⊤}
-use Rattle.std.specs.List.{AllByRecursion}
-use Rattle.sig_base.specs.declared.span.Span.{Span}
-use Rattle.sig_base.specs.declared.ids.Kind.{Kind}
+use Rattle.std.specs.Prelude.{◌≡◌, ◌≢◌, ◌⊎◌, ◌≤◌, ◌+◌, ◌*◌, ◌-◌, ◌++◌, ◌∷◌}
+use Rattle.sig_tree.specs.Prelude.{ℕ, true, false, List, [], map, length, fold, zip, Option, None, Some, IsSome, Contains, Any, ⊤, AllByRecursion, Span, Kind}
 use Rattle.sig_tree.specs.declared.expr.Name.{Name}
 use Rattle.sig_tree.specs.declared.expr.Constant.{Constant}
 use Rattle.sig_tree.specs.declared.expr.Constant.TheVariants.{Int, Bool as Truthful, Param}

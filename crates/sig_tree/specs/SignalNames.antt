@@ -1,8 +1,6 @@
 -- Names of signals: those of a flat body, and those of the intermediates that its kernel adds for operators.
-use Rattle.std.specs.Prelude.{◌++◌, ◌≤◌, ℕ, List, length, codes, decimal, ⊤}
-use Rattle.std.specs.List.{AllByRecursion}
-use Rattle.sig_base.specs.declared.limits.TheConstants.{PROGRAM_BYTES}
-use Rattle.sig_base.specs.declared.span.Span.{Span}
+use Rattle.std.specs.Prelude.{◌++◌, ◌≤◌}
+use Rattle.sig_tree.specs.Prelude.{ℕ, List, length, codes, decimal, ⊤, AllByRecursion, PROGRAM_BYTES, Span}
 use Rattle.sig_tree.specs.FlatSyntax.{FlatExpression, Sig, Const, Unary, Binary, Delay, Cell, FlatEquation, Defines, Equal}
 
 -- the bytes of printable ASCII but the blank

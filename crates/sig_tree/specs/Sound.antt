@@ -1,7 +1,7 @@
 -- What is asked of a program whose calls are expanded, beyond the rules on well-formed programs: what holds
 -- of each tree that was read from a text.
-use Rattle.std.specs.Prelude.{◌≡◌, ◌≢◌, ◌+◌, ◌<◌, ◌≤◌, ◌^◌, ℕ, suc, List, [], ◌∷◌, length, Option, None, Some, ⊤}
-use Rattle.std.specs.List.{AllByRecursion}
+use Rattle.std.specs.Prelude.{◌≡◌, ◌≢◌, ◌+◌, ◌<◌, ◌≤◌, ◌^◌, ◌∷◌}
+use Rattle.sig_tree.specs.Prelude.{ℕ, suc, List, [], length, Option, None, Some, ⊤, AllByRecursion}
 use Rattle.sig_tree.specs.declared.expr.Name.{Name}
 use Rattle.sig_tree.specs.Syntax.{Expression, Named, Number, Truth, Unary, Binary, Delay, Cell, Placement, RightSide, Computed, Called, Equations, Together, Defines, Equal, ProcessModel}
 use Rattle.sig_tree.specs.FlatSyntax.{FlatEquation, Defines as DefinesFlat, Equal as EqualFlat}

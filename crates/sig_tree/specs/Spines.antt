@@ -1,7 +1,7 @@
 -- An expression of a level as a reader from the left meets it: a first operand, and behind it the
 -- operators of the level, each with what it takes.
-use Rattle.std.specs.Prelude.{◌≡◌, ◌++◌, ◌≤◌, ◌⊎◌, ℕ, suc, List, [], ◌∷◌, length, codes, Option}
-use Rattle.sig_base.specs.declared.span.Span.{Span}
+use Rattle.std.specs.Prelude.{◌≡◌, ◌++◌, ◌≤◌, ◌⊎◌, ◌∷◌}
+use Rattle.sig_tree.specs.Prelude.{ℕ, suc, List, [], length, codes, Option, Span}
 use Rattle.sig_tree.specs.declared.expr.Constant.{Constant}
 use Rattle.sig_tree.specs.declared.expr.UnOp.{UnOp}
 use Rattle.sig_tree.specs.declared.expr.BinOp.{BinOp}

@@ -1,8 +1,7 @@
 -- Expressions and equations read one instant at a time: what they are at an instant, and the expression or
 -- equation that means behind it what they would mean there. Only the inits of delays and cells change.
-use Rattle.std.specs.Prelude.{◌≡◌, ◌⊎◌, ◌+◌, ◌++◌, ℕ, ℤ, List, [], ◌∷◌, length, None, Some}
-use Rattle.std.specs.List.{AllZip}
-use Rattle.sig_base.specs.Traces.{Seen, Instant, Trace, seen_at}
+use Rattle.std.specs.Prelude.{◌≡◌, ◌⊎◌, ◌+◌, ◌++◌, ◌∷◌}
+use Rattle.sig_tree.specs.Prelude.{ℕ, ℤ, List, [], length, None, Some, AllZip, Seen, Instant, Trace, seen_at}
 use Rattle.sig_tree.specs.FlatSyntax.{FlatExpression, Sig, Const, Unary, Binary, Delay, Cell, FlatEquation, Defines, Equal}
 use Rattle.sig_tree.specs.Operators.{Operand, Signal, Constant, Changes, Combines, delayed, held}
 use Rattle.sig_tree.specs.ProcessTraces.{HoldsAt}

@@ -1,7 +1,5 @@
 -- Syntax trees as contracts see them: the trees of the code, without where they lie in memory.
-use Rattle.std.specs.Prelude.{ℕ, Bool, List, map, Option}
-use Rattle.sig_base.specs.declared.span.Span.{Span}
-use Rattle.sig_base.specs.declared.ids.Kind.{Kind}
+use Rattle.sig_tree.specs.Prelude.{ℕ, Bool, List, map, Option, Span, Kind}
 use Rattle.sig_tree.specs.declared.expr.Name.{Name}
 use Rattle.sig_tree.specs.declared.expr.Constant.{Constant}
 use Rattle.sig_tree.specs.declared.expr.UnOp.{UnOp}

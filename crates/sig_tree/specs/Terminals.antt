@@ -1,8 +1,6 @@
 -- The terminals of the grammar: what the tokens of a program say, without blanks and comments.
-use Rattle.std.specs.Prelude.{ℕ, Bool, List, codes, if◌then◌else◌}
-use Rattle.sig_base.specs.declared.span.Span.{Span}
-use Rattle.sig_base.specs.declared.ids.Kind.{Kind}
-use Rattle.sig_base.specs.declared.ids.Kind.TheVariants.{Integer, Boolean, Event}
+use Rattle.std.specs.Prelude.{if◌then◌else◌}
+use Rattle.sig_tree.specs.Prelude.{ℕ, Bool, List, codes, Span, Kind, Integer, Boolean, Event}
 use Rattle.sig_tree.specs.declared.expr.Name.{Name}
 use Rattle.sig_tree.specs.declared.expr.UnOp.{UnOp}
 use Rattle.sig_tree.specs.declared.expr.UnOp.TheVariants.{Not, Neg, When as UnaryWhen, Clock}

@@ -1,6 +1,5 @@
 -- Trees and leaves with their places left out: each stands at 1:1.
-use Rattle.std.specs.Prelude.{List, map, Option, None, Some}
-use Rattle.sig_base.specs.declared.span.Span.{Span}
+use Rattle.sig_tree.specs.Prelude.{List, map, Option, None, Some, Span}
 use Rattle.sig_tree.specs.declared.expr.Name.{Name}
 use Rattle.sig_tree.specs.declared.expr.Constant.{Constant}
 use Rattle.sig_tree.specs.declared.expr.Constant.TheVariants.{Int, Bool, Param}

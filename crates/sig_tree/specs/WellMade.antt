@@ -1,10 +1,7 @@
 -- What the flat body of a well-formed program is: its expressions have kinds by the table of kinds, constants
 -- stand only where they may, and each signal that is no input is defined once.
-use Rattle.std.specs.Prelude.{◌≡◌, ◌+◌, ◌<◌, ◌≤◌, ℕ, ℤ, Bool, true, false, ◌&&◌, ◌==◌, List, length, count_by, Option, Some, option_map, slice_get}
-use Rattle.std.specs.List.{AllByRecursion}
-use Rattle.sig_base.specs.declared.ids.Kind.{Kind}
-use Rattle.sig_base.specs.declared.signal.Signal.{Signal}
-use Rattle.sig_base.specs.Traces.{Bounded, IsValue}
+use Rattle.std.specs.Prelude.{◌≡◌, ◌+◌, ◌<◌, ◌≤◌, ◌&&◌, ◌==◌}
+use Rattle.sig_tree.specs.Prelude.{ℕ, ℤ, Bool, true, false, List, length, count_by, Option, Some, option_map, slice_get, AllByRecursion, Kind, Signal, Bounded, IsValue}
 use Rattle.sig_tree.specs.FlatSyntax.{FlatExpression, Sig, Const, Unary, Binary, Delay, Cell, FlatEquation, Defines, Equal, FlatBody}
 use Rattle.sig_tree.specs.Kinds.{ConstantRule, NoConstant, OneConstant, FirstConstant, unary_row, binary_row, delay_row, cell_row, unary_kind, binary_kind, stored, Takes}
 

@@ -1,8 +1,7 @@
 //! What holds of the meaning of expressions, and of the traces of a process.
 
-ghost use Rattle.std.specs.Prelude.{◌≡◌, ◌≤◌, ◌++◌, ℕ, ℤ, List};
-ghost use Rattle.std.specs.List.{AllByRecursion};
-ghost use Rattle.sig_base.specs.Traces.{Seen, Trace, reduce, IsLongest};
+ghost use Rattle.std.specs.Prelude.{◌≡◌, ◌≤◌, ◌++◌};
+ghost use Rattle.sig_tree.specs.Prelude.{ℕ, ℤ, List, AllByRecursion, Seen, Trace, reduce, IsLongest};
 ghost use Rattle.sig_tree.specs.Constants.{AreSignals};
 ghost use Rattle.sig_tree.specs.FlatSyntax.{FlatExpression, FlatEquation, FlatBody};
 ghost use Rattle.sig_tree.specs.Meaning.{Means, instant_at};

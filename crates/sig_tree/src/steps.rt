@@ -1,8 +1,7 @@
 //! What holds of expressions and equations that are read one instant at a time.
 
-ghost use Rattle.std.specs.Prelude.{◌≡◌, ◌++◌, ℕ, suc, List, [], ◌∷◌};
-ghost use Rattle.std.specs.List.{AllZip};
-ghost use Rattle.sig_base.specs.Traces.{Instant, Trace};
+ghost use Rattle.std.specs.Prelude.{◌≡◌, ◌++◌, ◌∷◌};
+ghost use Rattle.sig_tree.specs.Prelude.{ℕ, suc, List, [], AllZip, Instant, Trace};
 ghost use Rattle.sig_tree.specs.FlatSyntax.{FlatExpression, FlatEquation};
 ghost use Rattle.sig_tree.specs.Meaning.{IsOperand};
 ghost use Rattle.sig_tree.specs.Operators.{Operand};

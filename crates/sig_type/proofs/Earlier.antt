@@ -1,18 +1,6 @@
 -- Names that are named before.
-use Rattle.std.proofs.Common.{◌≡◌, ◌++◌, ◌⊎◌, ℕ, List, [], ◌∷◌, refl, ap, sym, ◌∙◌, subst, map, take, length, get_or, ◌+◌, ◌<◌, append_assoc, Contains, IsTrue, ◌↔◌, Bool, inl, inr}
-use Rattle.std.proofs.lemmas.List.{append-nil, take_more, map-append}
-use Rattle.std.proofs.lemmas.List.Concat.{flat_map-append}
-use Rattle.std.specs.List.{flat_map}
-use Rattle.sig_tree.specs.declared.expr.Name.{Name}
-use Rattle.sig_tree.specs.Candidates.{Candidate, candidate, Offence, BadPragma, each}
-use Rattle.sig_tree.specs.Declarations.{Declaration, declaration_of, texts, behind}
-use Rattle.sig_tree.specs.Syntax.{Placement}
-use Rattle.sig_tree.specs.Rules.{IsSignal, IsCluster, bad_pragmas_of}
-use Rattle.sig_type.specs.declared.finding.First.{First}
-use Rattle.sig_type.specs.Findings.{Finds}
-use Rattle.sig_type.specs.Asked.{repeated, placed_twice}
+use Rattle.sig_type.proofs.Common.{◌≡◌, ◌++◌, ◌⊎◌, ℕ, List, [], ◌∷◌, refl, ap, sym, ◌∙◌, subst, map, take, length, get_or, ◌+◌, ◌<◌, append_assoc, Contains, IsTrue, ◌↔◌, Bool, inl, inr, append-nil, take_more, map-append, flat_map-append, flat_map, Name, Candidate, candidate, Offence, BadPragma, each, Declaration, declaration_of, texts, behind, Placement, IsSignal, IsCluster, bad_pragmas_of, First, Finds, repeated, placed_twice, each_append}
 use Rattle.sig_type.proofs.Sequences.{finds_then, finds_as, finds_same}
-use Rattle.sig_tree.proofs.CandidateLemmas.{each_append}
 
 pub behind_append : {A : Type 0} (earlier xs : List A) (x : A) → behind earlier (xs ++ x ∷ []) ≡ behind earlier xs ++ (earlier ++ xs, x) ∷ []
 behind_append earlier [] x = ap (λ e. (e, x) ∷ []) (sym (append-nil earlier))

@@ -1,3 +1,4 @@
+pub mod Common
 pub mod Earlier
 pub mod Recursing
 pub mod Sequences
@@ -6,3 +7,12 @@ pub mod Small
 pub mod Uses
 pub mod Whole
 pub mod Zipping
+pub use Common.*
+pub use Earlier.*
+pub use Recursing.*
+pub use Sequences.*
+pub use Showing.*
+pub use Small.*
+pub use Uses.*
+pub use Whole.*
+pub use Zipping.*

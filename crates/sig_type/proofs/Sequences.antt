@@ -1,12 +1,5 @@
 -- What is found of candidates that are asked for in a row.
-use Rattle.std.proofs.Common.{◌≡◌, ◌++◌, ℕ, List, [], ◌∷◌, refl, ap, sym, ◌∙◌, subst, inl, inr, Option, None, Some, map, take, drop, length, get_or, ◌+◌, ◌<◌, ◌≤◌, ◌↔◌}
-use Rattle.std.proofs.lemmas.List.{append-nil, take_more, take_all, take-append-drop, get_or_default}
-use Rattle.std.specs.List.{flat_map}
-use Rattle.sig_tree.proofs.CandidateLemmas.{each_append, each_map, each_flat}
-use Rattle.sig_tree.specs.Candidates.{Candidate, candidate, Offence, each, NoneHolds, IsFirst}
-use Rattle.sig_type.specs.declared.finding.Finding.{Finding}
-use Rattle.sig_type.specs.declared.finding.First.{First}
-use Rattle.sig_type.specs.Findings.{offence_in, IsFoundOf, IsKept, Finds, sooner}
+use Rattle.sig_type.proofs.Common.{◌≡◌, ◌++◌, ℕ, List, [], ◌∷◌, refl, ap, sym, ◌∙◌, subst, inl, inr, Option, None, Some, map, take, drop, length, get_or, ◌+◌, ◌<◌, ◌≤◌, ◌↔◌, append-nil, take_more, take_all, take-append-drop, get_or_default, flat_map, each_append, each_map, each_flat, Candidate, candidate, Offence, each, NoneHolds, IsFirst, Finding, First, offence_in, IsFoundOf, IsKept, Finds, sooner}
 
 none_append : (ps qs : List Candidate) → NoneHolds ps → NoneHolds qs → NoneHolds (ps ++ qs)
 none_append [] qs n m = m

@@ -1,9 +1,5 @@
 -- Texts that are shown byte by byte.
-use Rattle.std.proofs.Common.{◌≡◌, ◌++◌, ℕ, List, [], ◌∷◌, ap, sym, ◌∙◌, take, length, get_or, ◌+◌, ◌<◌}
-use Rattle.std.proofs.lemmas.List.{append-nil, take_more}
-use Rattle.std.proofs.lemmas.List.Concat.{flat_map-append}
-use Rattle.std.specs.Char.{encode_utf8}
-use Rattle.sig_type.specs.Answers.{shown}
+use Rattle.sig_type.proofs.Common.{◌≡◌, ◌++◌, ℕ, List, [], ◌∷◌, ap, sym, ◌∙◌, take, length, get_or, ◌+◌, ◌<◌, append-nil, take_more, flat_map-append, encode_utf8, shown}
 
 -- one byte more
 pub shown_more : (bytes : List ℕ) (i d : ℕ) → i < length bytes → shown (take i bytes) ++ encode_utf8 (get_or bytes i d) ≡ shown (take (i + 1) bytes)

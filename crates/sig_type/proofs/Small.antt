@@ -1,10 +1,5 @@
 -- Small equivalences.
-use Rattle.std.proofs.Common.{◌≡◌, ◌↔◌, refl, true, false, not, Bool, IsTrue, Option, None, Some}
-use Rattle.sig_base.specs.declared.span.Span.{Span}
-use Rattle.sig_tree.specs.declared.expr.Constant.{Constant}
-use Rattle.sig_tree.specs.Rules.{missing_init}
-use Rattle.sig_type.specs.declared.finding.First.{First}
-use Rattle.sig_type.specs.Findings.{Finds}
+use Rattle.sig_type.proofs.Common.{◌≡◌, ◌↔◌, refl, true, false, not, Bool, IsTrue, Option, None, Some, Span, Constant, missing_init, First, Finds}
 use Rattle.sig_type.proofs.Sequences.{finds_same}
 
 pub true_trivially : IsTrue true ↔ Unit {0}

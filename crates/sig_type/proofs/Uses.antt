@@ -1,16 +1,6 @@
 -- Names that are used for signals, among all uses.
-use Rattle.std.proofs.Common.{List, sym}
-use Rattle.sig_tree.specs.declared.expr.Name.{Name}
-use Rattle.sig_tree.specs.Syntax.{ProcessModel}
-use Rattle.sig_tree.specs.Declarations.{Declaration, signals_used, OfSignal, Use}
-use Rattle.sig_tree.specs.Candidates.{Candidate}
-use Rattle.sig_tree.specs.Rules.{unknown_use}
-use Rattle.sig_type.specs.declared.finding.First.{First}
-use Rattle.sig_type.specs.Findings.{Finds}
-use Rattle.sig_type.specs.Unknown.{unknown_signals, unknown_uses}
-use Rattle.std.proofs.Common.{[], ◌∷◌, ◌++◌}
+use Rattle.sig_type.proofs.Common.{List, sym, Name, ProcessModel, Declaration, signals_used, OfSignal, Use, Candidate, unknown_use, First, Finds, unknown_signals, unknown_uses, [], ◌∷◌, ◌++◌, each_map}
 use Rattle.sig_type.proofs.Sequences.{finds_as, finds_both}
-use Rattle.sig_tree.proofs.CandidateLemmas.{each_map}
 
 pub finds_signals : {a b : First} (all : List ProcessModel) (scope : List Declaration) (names : List Name) → Finds a b (unknown_signals scope names) → Finds a b (unknown_uses all scope (signals_used names))
 finds_signals all scope names h = finds_as (sym (each_map (λ u. unknown_use all scope u ∷ []) OfSignal names)) h

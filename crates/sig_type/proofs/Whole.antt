@@ -1,24 +1,6 @@
 -- All rules on a process, joined.
-use Rattle.std.proofs.Common.{◌≡◌, ◌++◌, List, [], ◌∷◌, refl, ap, sym, ◌∙◌, subst, append_assoc, Contains, map, ℕ, ◌+◌, ◌<◌, ◌≤◌, take, drop, length, get_or, Option, None, Some, ◌≢◌, ◌↔◌, Bool, IsTrue, slice_get, zero, suc, arith, is_some, inl, inr, true, false}
-use Rattle.std.proofs.lemmas.Option.{slice_get_cases, get_or_from_slice_get}
-use Rattle.sig_scope.specs.Places.{place_of}
-use Rattle.sig_scope.specs.Walked.{process_texts}
-use Rattle.sig_scope.proofs.Placing.{place_found}
-use Rattle.std.proofs.lemmas.List.{get_or-map, length-map, append-nil, take_more, take_all, take-append-drop}
-use Rattle.std.specs.List.{flat_map}
-use Rattle.sig_tree.specs.declared.expr.Name.{Name}
-use Rattle.sig_tree.specs.Syntax.{ProcessModel, Equations, Placement}
-use Rattle.sig_tree.specs.Candidates.{Candidate, candidate, DeclaredTwice, DefinedTwice, Undefined, BadCall, each}
-use Rattle.sig_tree.specs.Declarations.{Declaration, declarations, outputs_of, locals_of, equations_of_model, pragmas_of_model, name_of, params_of, texts, behind, left_sides, called_in}
-use Rattle.sig_tree.specs.Rules.{unknown_names, declared_twice, inputs_defined, defined_twice, undefined, clashes, bare_constants, bad_calls, recursive_calls, bad_pragmas, missing_inits_in, bad_calls_of, bare_in_equation, bad_pragmas_of, missing_inits_of_equation}
-use Rattle.sig_tree.specs.WellFormed.{rules_on, rules_of}
-use Rattle.sig_type.specs.declared.finding.Finding.{Finding}
-use Rattle.sig_type.specs.declared.finding.First.{First}
-use Rattle.sig_type.specs.Findings.{Finds, IsKept, IsFoundOf}
-use Rattle.sig_type.specs.Asked.{repeated, given_in, undefined_in, recursive_in, clashes_in, definitions_in, calls_in}
-use Rattle.sig_type.specs.Unknown.{unknown_in}
+use Rattle.sig_type.proofs.Common.{◌≡◌, ◌++◌, List, [], ◌∷◌, refl, ap, sym, ◌∙◌, subst, append_assoc, Contains, map, ℕ, ◌+◌, ◌<◌, ◌≤◌, take, drop, length, get_or, Option, None, Some, ◌≢◌, ◌↔◌, Bool, IsTrue, slice_get, zero, suc, arith, is_some, inl, inr, true, false, slice_get_cases, get_or_from_slice_get, place_of, process_texts, place_found, get_or-map, length-map, append-nil, take_more, take_all, take-append-drop, flat_map, Name, ProcessModel, Equations, Placement, Candidate, candidate, DeclaredTwice, DefinedTwice, Undefined, BadCall, each, Declaration, declarations, outputs_of, locals_of, equations_of_model, pragmas_of_model, name_of, params_of, texts, behind, left_sides, called_in, unknown_names, declared_twice, inputs_defined, defined_twice, undefined, clashes, bare_constants, bad_calls, recursive_calls, bad_pragmas, missing_inits_in, bad_calls_of, bare_in_equation, bad_pragmas_of, missing_inits_of_equation, rules_on, rules_of, Finding, First, Finds, IsKept, IsFoundOf, repeated, given_in, undefined_in, recursive_in, clashes_in, definitions_in, calls_in, unknown_in, each_append}
 use Rattle.sig_type.proofs.Sequences.{finds_as, finds_same, finds_both, finds_then, finds_stop}
-use Rattle.sig_tree.proofs.CandidateLemmas.{each_append}
 use Rattle.sig_type.proofs.Earlier.{behind_append}
 
 join : (u t i d n c b k r p m : List Candidate)

@@ -1,17 +1,5 @@
 -- Parts of a call beside what the called process declares, as far as both lists go.
-use Rattle.std.proofs.Common.{◌≡◌, ◌++◌, ◌⊎◌, ℕ, zero, suc, List, [], ◌∷◌, refl, ap, sym, ◌∙◌, subst, inl, inr, map, take, length, get_or, ◌+◌, ◌<◌, ◌≤◌, ◌↔◌, Option, None, Some, option_map, slice_get, arith, zip, Any, Bool, true, false, IsTrue}
-use Rattle.std.proofs.lemmas.List.{take_more, take_all, length-take-le, length-map, map-append}
-use Rattle.sig_base.specs.declared.ids.Kind.{Kind}
-use Rattle.sig_tree.specs.declared.expr.Name.{Name}
-use Rattle.sig_tree.specs.declared.expr.Constant.{Constant}
-use Rattle.sig_tree.specs.declared.expr.Expr.{Expr}
-use Rattle.sig_tree.specs.Syntax.{Expression, expression_of}
-use Rattle.sig_tree.specs.Declarations.{Declaration}
-use Rattle.sig_tree.specs.Kinds.{kind_of}
-use Rattle.sig_tree.specs.Rules.{clash_of_left, clash_of_constant, clashes_of_results, clashes_of_constants, DoesNotTake}
-use Rattle.sig_type.specs.declared.finding.First.{First}
-use Rattle.sig_type.specs.Findings.{Finds}
-use Rattle.sig_type.specs.Asked.{result_at}
+use Rattle.sig_type.proofs.Common.{◌≡◌, ◌++◌, ◌⊎◌, ℕ, zero, suc, List, [], ◌∷◌, refl, ap, sym, ◌∙◌, subst, inl, inr, map, take, length, get_or, ◌+◌, ◌<◌, ◌≤◌, ◌↔◌, Option, None, Some, option_map, slice_get, arith, zip, Any, Bool, true, false, IsTrue, take_more, take_all, length-take-le, length-map, map-append, Kind, Name, Constant, Expr, Expression, expression_of, Declaration, kind_of, clash_of_left, clash_of_constant, clashes_of_results, clashes_of_constants, DoesNotTake, First, Finds, result_at}
 use Rattle.sig_type.proofs.Sequences.{finds_then, finds_as}
 
 -- the kind of a declaration, where there is one

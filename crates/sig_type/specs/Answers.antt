@@ -1,9 +1,6 @@
 -- What the answers of the check say.
-use Rattle.std.specs.Prelude.{ℕ, ◌++◌, List, codes, Option, None, Some}
-use Rattle.std.specs.List.{flat_map}
-use Rattle.std.specs.Char.{encode_utf8}
-use Rattle.sig_base.specs.Lines.{refusal_at, refusal}
-use Rattle.sig_tree.specs.Candidates.{Offence, Unknown as UnknownName, DeclaredTwice as TwiceDeclared, InputDefined as GivenDefined, DefinedTwice as TwiceDefined, Undefined as NotDefined, Clash as KindsClash, BareConstant as ConstantAlone, BadCall as CallDiffers, Recursive as CallsItself, BadPragma as PragmaIsBad, NoInit as InitIsMissing}
+use Rattle.std.specs.Prelude.{◌++◌}
+use Rattle.sig_type.specs.Prelude.{ℕ, List, codes, Option, None, Some, flat_map, encode_utf8, refusal_at, refusal, Offence, Unknown as UnknownName, DeclaredTwice as TwiceDeclared, InputDefined as GivenDefined, DefinedTwice as TwiceDefined, Undefined as NotDefined, Clash as KindsClash, BareConstant as ConstantAlone, BadCall as CallDiffers, Recursive as CallsItself, BadPragma as PragmaIsBad, NoInit as InitIsMissing}
 use Rattle.sig_type.specs.declared.answer.TypeAnswer.{TypeAnswer}
 use Rattle.sig_type.specs.declared.answer.TypeAnswer.TheVariants.{Unknown, DeclaredTwice, InputDefined, DefinedTwice, Undefined, Clash, BareConstant, BadCall, Recursive, BadPragma, NoInit, OutOfMemory}
 

@@ -1,11 +1,6 @@
 -- What is asked for of parts of a process.
-use Rattle.std.specs.Prelude.{◌≡◌, ◌≢◌, ◌⊎◌, ℕ, ◌++◌, List, [], ◌∷◌, Option, None, Some, Contains, flat_map}
-use Rattle.sig_base.specs.declared.ids.Kind.{Kind}
-use Rattle.sig_tree.specs.declared.expr.Name.{Name}
-use Rattle.sig_tree.specs.Syntax.{Equations, ProcessModel}
-use Rattle.sig_tree.specs.Declarations.{Declaration, declaration_of, texts, with_earlier, left_sides, called_in, name_of, params_of}
-use Rattle.sig_tree.specs.Candidates.{Offence, InputDefined, DefinedTwice, Undefined, BadCall, Recursive, BadPragma, Candidate, candidate, each}
-use Rattle.sig_tree.specs.Rules.{IsGiven, IsSignal, clash_of_left, clashes_of_inits, clashes_of_equation, bad_calls_of, Reaches}
+use Rattle.std.specs.Prelude.{◌≡◌, ◌≢◌, ◌⊎◌, ◌++◌, ◌∷◌}
+use Rattle.sig_type.specs.Prelude.{ℕ, List, [], Option, None, Some, Contains, flat_map, Kind, Name, Equations, ProcessModel, Declaration, declaration_of, texts, with_earlier, left_sides, called_in, name_of, params_of, Offence, InputDefined, DefinedTwice, Undefined, BadCall, Recursive, BadPragma, Candidate, candidate, each, IsGiven, IsSignal, clash_of_left, clashes_of_inits, clashes_of_equation, bad_calls_of, Reaches}
 
 -- names that are named before
 abbrev pub repeated : (Name → Offence) → List Name → List Candidate

@@ -1,6 +1,6 @@
 -- What was found, of what was asked for.
-use Rattle.std.specs.Prelude.{◌≡◌, Option, None, Some, List}
-use Rattle.sig_tree.specs.Candidates.{Candidate, NoneHolds, IsFirst, Offence, Unknown as UnknownName, DeclaredTwice as TwiceDeclared, InputDefined as GivenDefined, DefinedTwice as TwiceDefined, Undefined as NotDefined, Clash as KindsClash, BareConstant as ConstantAlone, BadCall as CallDiffers, Recursive as CallsItself, BadPragma as PragmaIsBad, NoInit as InitIsMissing}
+use Rattle.std.specs.Prelude.{◌≡◌}
+use Rattle.sig_type.specs.Prelude.{Option, None, Some, List, Candidate, NoneHolds, IsFirst, Offence, Unknown as UnknownName, DeclaredTwice as TwiceDeclared, InputDefined as GivenDefined, DefinedTwice as TwiceDefined, Undefined as NotDefined, Clash as KindsClash, BareConstant as ConstantAlone, BadCall as CallDiffers, Recursive as CallsItself, BadPragma as PragmaIsBad, NoInit as InitIsMissing}
 use Rattle.sig_type.specs.declared.finding.Finding.{Finding}
 use Rattle.sig_type.specs.declared.finding.Finding.TheVariants.{Unknown, DeclaredTwice, InputDefined, DefinedTwice, Undefined, Clash, BareConstant, BadCall, Recursive, BadPragma, NoInit}
 use Rattle.sig_type.specs.declared.finding.First.{First}

@@ -1,10 +1,6 @@
 -- Names that are used for signals, and all uses.
-use Rattle.std.specs.Prelude.{◌≡◌, ◌++◌, List, [], ◌∷◌, None, flat_map}
-use Rattle.sig_tree.specs.declared.expr.Name.{Name}
-use Rattle.sig_tree.specs.Syntax.{ProcessModel, Equations}
-use Rattle.sig_tree.specs.Declarations.{Declaration, declaration_of, Use, uses_of_inits, uses_of_equation}
-use Rattle.sig_tree.specs.Candidates.{Unknown, Candidate, candidate, each}
-use Rattle.sig_tree.specs.Rules.{unknown_use}
+use Rattle.std.specs.Prelude.{◌≡◌, ◌++◌, ◌∷◌}
+use Rattle.sig_type.specs.Prelude.{List, [], None, flat_map, Name, ProcessModel, Equations, Declaration, declaration_of, Use, uses_of_inits, uses_of_equation, Unknown, Candidate, candidate, each, unknown_use}
 
 abbrev pub unknown_signals : List Declaration → List Name → List Candidate
 unknown_signals declared names = each (λ name. candidate (Unknown name) (declaration_of declared name.text ≡ None) ∷ []) names

@@ -1,7 +1,7 @@
 //! Why a program is not well formed.
 
-ghost use Rattle.std.specs.Prelude.{◌≡◌, Some};
-ghost use Rattle.std.specs.Fmt.{WritesOnOk};
+ghost use Rattle.std.specs.Prelude.{◌≡◌};
+ghost use Rattle.sig_type.specs.Prelude.{Some, WritesOnOk};
 ghost use Rattle.sig_type.specs.Answers.{answer_line, shown};
 ghost use Rattle.sig_type.specs.declared.answer.TypeAnswer.TheVariants.{OutOfMemory};
 

@@ -1,14 +1,9 @@
 //! Constants that stand where none may.
 
-ghost use Rattle.std.specs.Prelude.{◌≡◌, ◌↔◌, ◌∷◌, [], List, IsTrue, true, false, map};
-ghost use Rattle.sig_tree.specs.declared.expr.Name.{Name};
-ghost use Rattle.sig_tree.specs.Syntax.{expression_of, equations_of, right_side_of, Defines};
-ghost use Rattle.sig_tree.specs.Candidates.{each};
-ghost use Rattle.sig_tree.specs.Kinds.{is_constant, is_negative_number};
-ghost use Rattle.sig_tree.specs.Rules.{MayNotBeFirst, MayNotBeSecond, place_of, bare_operands, bare_in_expression, bare_alone, bare_in_equation};
+ghost use Rattle.std.specs.Prelude.{◌≡◌, ◌↔◌, ◌∷◌};
+ghost use Rattle.sig_type.specs.Prelude.{[], List, IsTrue, true, false, map, Name, expression_of, equations_of, right_side_of, Defines, each, is_constant, is_negative_number, MayNotBeFirst, MayNotBeSecond, bare_operands, bare_in_expression, bare_alone, bare_in_equation, form_in, bodies_in};
+ghost use Rattle.sig_tree.specs.Rules.{place_of};
 ghost use Rattle.sig_type.specs.Findings.{Finds};
-ghost use Rattle.sig_kinds.specs.Forms.{form_in};
-ghost use Rattle.sig_scope.specs.Walked.{bodies_in};
 
 use crate::finding::{Finding, First};
 use sig_base::Span;

@@ -1,12 +1,8 @@
 //! The numbers of constants, arguments and left sides.
 
-ghost use Rattle.std.specs.Prelude.{◌≡◌, ◌≢◌, ◌↔◌, ◌∷◌, [], IsTrue, Some, map};
-ghost use Rattle.sig_tree.specs.Syntax.{expression_of, right_side_of, equations_of, model_of, Defines};
-ghost use Rattle.sig_tree.specs.Candidates.{BadCall, candidate, each};
-ghost use Rattle.sig_tree.specs.Declarations.{process_of};
-ghost use Rattle.sig_tree.specs.Rules.{DiffersFrom, bad_calls_of};
+ghost use Rattle.std.specs.Prelude.{◌≡◌, ◌≢◌, ◌↔◌, ◌∷◌};
+ghost use Rattle.sig_type.specs.Prelude.{[], IsTrue, Some, map, expression_of, right_side_of, equations_of, model_of, Defines, BadCall, candidate, each, process_of, DiffersFrom, bad_calls_of, bodies_in, interface_models};
 ghost use Rattle.sig_type.specs.Findings.{Finds};
-ghost use Rattle.sig_scope.specs.Walked.{bodies_in, interface_models};
 
 use crate::finding::{Finding, First};
 use sig_scope::{Interface, Processes};

@@ -1,7 +1,7 @@
 //! What was found wrong, in the order in which it is asked for.
 
-ghost use Rattle.std.specs.Prelude.{◌≡◌, IsTrue, IfOk, [], ◌∷◌, MatchOption, ⊤};
-ghost use Rattle.sig_tree.specs.Candidates.{candidate};
+ghost use Rattle.std.specs.Prelude.{◌≡◌, ◌∷◌};
+ghost use Rattle.sig_type.specs.Prelude.{IsTrue, IfOk, [], MatchOption, ⊤, candidate};
 ghost use Rattle.sig_type.specs.Answers.{offence_of};
 ghost use Rattle.sig_type.specs.Findings.{Finds, offence_in, sooner};
 

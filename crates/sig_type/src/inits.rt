@@ -1,13 +1,8 @@
 //! Delays without an init.
 
-ghost use Rattle.std.specs.Prelude.{◌≡◌, ◌↔◌, IsTrue, map};
-ghost use Rattle.std.specs.List.{AllByRecursion};
-ghost use Rattle.sig_tree.specs.Syntax.{expression_of, equations_of, right_side_of, Defines};
-ghost use Rattle.sig_tree.specs.Candidates.{each};
-ghost use Rattle.sig_tree.specs.Declarations.{declaration_of};
-ghost use Rattle.sig_tree.specs.Rules.{HasInit, missing_init, missing_inits, missing_inits_of_right, missing_inits_of_equation};
+ghost use Rattle.std.specs.Prelude.{◌≡◌, ◌↔◌};
+ghost use Rattle.sig_type.specs.Prelude.{IsTrue, map, AllByRecursion, expression_of, equations_of, right_side_of, Defines, each, declaration_of, HasInit, missing_init, missing_inits, missing_inits_of_right, missing_inits_of_equation, bodies_in};
 ghost use Rattle.sig_type.specs.Findings.{Finds};
-ghost use Rattle.sig_scope.specs.Walked.{bodies_in};
 
 use crate::finding::{Finding, First};
 use sig_base::Span;

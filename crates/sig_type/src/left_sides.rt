@@ -1,9 +1,7 @@
 //! The left sides of equations.
 
-ghost use Rattle.std.specs.Prelude.{◌≡◌, ◌++◌, IfOk, OnOk};
-ghost use Rattle.std.specs.List.{flat_map};
-ghost use Rattle.sig_tree.specs.Declarations.{left_sides};
-ghost use Rattle.sig_scope.specs.Walked.{bodies_in, names_in};
+ghost use Rattle.std.specs.Prelude.{◌≡◌, ◌++◌};
+ghost use Rattle.sig_type.specs.Prelude.{IfOk, OnOk, flat_map, left_sides, bodies_in, names_in};
 
 use sig_tree::{Body, Name};
 use std::alloc::{AllocError, Global};

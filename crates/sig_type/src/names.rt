@@ -1,14 +1,9 @@
 //! The names that a process uses, each of which has to be known.
 
-ghost use Rattle.std.specs.Prelude.{◌≡◌, ◌∷◌, [], map, List};
-ghost use Rattle.std.specs.List.{flat_map};
-ghost use Rattle.sig_tree.specs.Syntax.{expression_of, right_side_of, equations_of, model_of};
-ghost use Rattle.sig_tree.specs.Candidates.{each};
-ghost use Rattle.sig_tree.specs.Declarations.{names_of_constant, names_of_init, names_of_expression, uses_of_right, uses_of_equation, uses_of_inits};
-ghost use Rattle.sig_scope.specs.Declarations.{declarations_in};
+ghost use Rattle.std.specs.Prelude.{◌≡◌, ◌∷◌};
+ghost use Rattle.sig_type.specs.Prelude.{[], map, List, flat_map, expression_of, right_side_of, equations_of, model_of, each, names_of_constant, names_of_init, names_of_expression, uses_of_right, uses_of_equation, uses_of_inits, declarations_in, bodies_in, interface_models};
 ghost use Rattle.sig_type.specs.Findings.{Finds};
 ghost use Rattle.sig_type.specs.Unknown.{unknown_signals, unknown_uses, unknown_in};
-ghost use Rattle.sig_scope.specs.Walked.{bodies_in, interface_models};
 
 use crate::finding::{Finding, First};
 use sig_scope::{Declared, Interface, Processes, Scope};

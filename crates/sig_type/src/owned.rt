@@ -1,8 +1,7 @@
 //! Programs that are checked and given back.
 
-ghost use Rattle.std.specs.Prelude.{◌≡◌, IfOk, IfErr, MatchOption, ⊤};
-ghost use Rattle.sig_tree.specs.Syntax.{program_of};
-ghost use Rattle.sig_tree.specs.WellFormed.{IsFirstOffence};
+ghost use Rattle.std.specs.Prelude.{◌≡◌};
+ghost use Rattle.sig_type.specs.Prelude.{IfOk, IfErr, MatchOption, ⊤, program_of, IsFirstOffence};
 ghost use Rattle.sig_type.specs.Answers.{offence_of};
 
 use crate::answer::TypeAnswer;

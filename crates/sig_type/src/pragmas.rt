@@ -1,10 +1,7 @@
 //! The pragmas of a process.
 
-ghost use Rattle.std.specs.Prelude.{◌≡◌, ◌↔◌, ◌⊎◌, ◌++◌, ◌≤◌, [], IsTrue, OnOk, length, map};
-ghost use Rattle.std.specs.List.{AllByRecursion};
-ghost use Rattle.sig_tree.specs.Syntax.{placement_of};
-ghost use Rattle.sig_tree.specs.Declarations.{declaration_of, texts};
-ghost use Rattle.sig_tree.specs.Rules.{IsSignal, IsDigit, number_of, IsCluster, bad_pragmas_of};
+ghost use Rattle.std.specs.Prelude.{◌≡◌, ◌↔◌, ◌⊎◌, ◌++◌, ◌≤◌};
+ghost use Rattle.sig_type.specs.Prelude.{[], IsTrue, OnOk, length, map, AllByRecursion, placement_of, declaration_of, texts, IsSignal, IsDigit, number_of, IsCluster, bad_pragmas_of};
 ghost use Rattle.sig_type.specs.Asked.{placed_twice};
 ghost use Rattle.sig_type.specs.Findings.{Finds};
 

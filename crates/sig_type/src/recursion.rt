@@ -1,9 +1,7 @@
 //! Calls that lead back to the process in which they stand.
 
-ghost use Rattle.std.specs.Prelude.{◌≡◌, Some, OnOk};
-ghost use Rattle.sig_recursion.specs.Calls.{graph_of, graph_in};
-ghost use Rattle.sig_scope.specs.Places.{place_of};
-ghost use Rattle.sig_scope.specs.Walked.{names_in, interface_models, process_texts};
+ghost use Rattle.std.specs.Prelude.{◌≡◌};
+ghost use Rattle.sig_type.specs.Prelude.{Some, OnOk, graph_of, graph_in, place_of, names_in, interface_models, process_texts};
 ghost use Rattle.sig_type.specs.Asked.{recursive_in};
 ghost use Rattle.sig_type.specs.Findings.{Finds};
 

@@ -1,12 +1,9 @@
 //! How often the names of a process are declared and defined.
 
-ghost use Rattle.std.specs.Prelude.{◌≡◌, OnOk, IfOk, map};
-ghost use Rattle.sig_tree.specs.Candidates.{DeclaredTwice, DefinedTwice};
-ghost use Rattle.sig_tree.specs.Declarations.{texts};
+ghost use Rattle.std.specs.Prelude.{◌≡◌};
+ghost use Rattle.sig_type.specs.Prelude.{OnOk, IfOk, map, DeclaredTwice, DefinedTwice, texts, declarations_in, names_in};
 ghost use Rattle.sig_type.specs.Asked.{repeated, given_in, undefined_in};
-ghost use Rattle.sig_scope.specs.Declarations.{declarations_in};
 ghost use Rattle.sig_type.specs.Findings.{Finds};
-ghost use Rattle.sig_scope.specs.Walked.{names_in};
 
 use crate::finding::{Finding, First};
 use sig_scope::{Declared, Role, Scope, Texts};

@@ -1,15 +1,10 @@
 //! The check of a program by the eleven rules.
 
-ghost use Rattle.std.specs.Prelude.{◌≡◌, ◌≢◌, ◌↔◌, [], Some, slice_get, MatchOption, IfOk, IfErr, OnOk, IsTrue, Contains, length, map, take, ⊤};
-ghost use Rattle.sig_tree.specs.Declarations.{all_processes, name_of, texts};
-ghost use Rattle.sig_tree.specs.Syntax.{program_of, model_of};
-ghost use Rattle.sig_tree.specs.WellFormed.{IsWellFormed, IsFirstOffence, rules_of, rules_on};
+ghost use Rattle.std.specs.Prelude.{◌≡◌, ◌≢◌, ◌↔◌};
+ghost use Rattle.sig_type.specs.Prelude.{[], Some, slice_get, MatchOption, IfOk, IfErr, OnOk, IsTrue, Contains, length, map, take, ⊤, all_processes, name_of, texts, program_of, model_of, IsWellFormed, IsFirstOffence, rules_of, rules_on, graph_of, graph_in, declarations_in, bodies_in, interface_models};
 ghost use Rattle.sig_type.specs.Answers.{offence_of};
 ghost use Rattle.sig_type.specs.Asked.{definitions_in, calls_in};
-ghost use Rattle.sig_recursion.specs.Calls.{graph_of, graph_in};
-ghost use Rattle.sig_scope.specs.Declarations.{declarations_in};
 ghost use Rattle.sig_type.specs.Findings.{Finds, IsFoundOf};
-ghost use Rattle.sig_scope.specs.Walked.{bodies_in, interface_models};
 
 use crate::answer::TypeAnswer;
 use crate::bare::bare_constants;

@@ -1,15 +1,6 @@
 -- The command as `clap` builds it, and what its walk over the words stands at between two words.
-use Rattle.std.specs.Prelude.{◌≡◌, Bool, true, false, List, [], ◌∷◌, Option, Some, None, codes}
-use Rattle.std.proofs.Common.{refl}
-use Rattle.clap.specs.Faults.{is_simple_and_free, settle_fault}
-use Rattle.clap.specs.Kinds.{Kinds}
-use Rattle.clap.specs.Simple.{App, Shape, built, is_simple}
-use Rattle.clap.specs.Walk.{Held, Row, Rule, Text, Waiting, Walk, settled_rows}
-use Rattle.clap.specs.declared.builder.action.ArgAction.TheVariants.{Set}
+use Rattle.sig_words.proofs.Common.{◌≡◌, Bool, true, false, List, [], ◌∷◌, Option, Some, None, codes, refl, is_simple_and_free, settle_fault, Kinds, App, Shape, built, is_simple, Held, Row, Rule, Text, Waiting, Walk, settled_rows, Set, command_line, line_shape, option_rule, pace_rule, plain_rule, OptionName, Workers, Capacity, Instants}
 use Rattle.clap.specs.declared.builder.value_parser.ValueParser.TheVariants as parser
-use Rattle.sig_words.specs.Lines.{command_line, line_shape, option_rule, pace_rule, plain_rule}
-use Rattle.sig_words.specs.declared.option.OptionName.{OptionName}
-use Rattle.sig_words.specs.declared.option.OptionName.TheVariants.{Workers, Capacity, Instants}
 
 abbrev pub plain_built : Rule
 plain_built = record plain_rule {

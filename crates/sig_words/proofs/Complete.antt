@@ -1,18 +1,7 @@
 -- A reading of the words is what they are read as.
-use Rattle.std.proofs.Common.{◌≡◌, ℕ, ◌+◌, ◌≤◌, Bool, true, false, List, [], ◌∷◌, ◌++◌, length, refl, sym, ap, ◌∙◌, arith, Option, Some, None, option_to_list, cond, eqb}
-use Rattle.std.specs.Prelude.{codes, option_map, option_and_then}
-use Rattle.std.specs.List.{AllByRecursion, flat_map}
-use Rattle.std.specs.Str.{bytes_eq}
-use Rattle.std.proofs.lemmas.Bool.{false≢true}
-use Rattle.std.proofs.lemmas.Bool.Decides.{nat_tests}
-use Rattle.std.proofs.lemmas.List.{append-nil}
-use Rattle.std.proofs.lemmas.Slice.Eq.{bytes_eq-Decides}
-use Rattle.sig_words.specs.Readings.{Word, Item, Plain, Joined, Apart, Pace, Reading, IsGood, is_plain, name_of, values_of, paces, written, written_behind}
-use Rattle.sig_words.specs.Said.{HasPlainValue, Said}
+use Rattle.sig_words.proofs.Common.{◌≡◌, ℕ, ◌+◌, ◌≤◌, Bool, true, false, List, [], ◌∷◌, ◌++◌, length, refl, sym, ap, ◌∙◌, arith, Option, Some, None, option_to_list, cond, eqb, codes, option_map, option_and_then, AllByRecursion, flat_map, bytes_eq, false≢true, nat_tests, append-nil, bytes_eq-Decides, Word, Item, Plain, Joined, Apart, Pace, Reading, IsGood, is_plain, name_of, values_of, paces, written, written_behind, HasPlainValue, Said, OptionName, Workers, Capacity, Instants}
 use Rattle.sig_words.proofs.Steps.{State, any_next, any_step, run, with_pace, with_plain, with_value}
 use Rattle.sig_words.proofs.Steps as next
-use Rattle.sig_words.specs.declared.option.OptionName.{OptionName}
-use Rattle.sig_words.specs.declared.option.OptionName.TheVariants.{Workers, Capacity, Instants}
 use Rattle.sig_words.proofs.Sound.{option_word, run_plain}
 use Rattle.sig_words.proofs.Summary.{Adds, Adds-apart, Adds-joined, Adds-pace, Adds-plain, said_paces, with_item}
 

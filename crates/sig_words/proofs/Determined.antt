@@ -1,18 +1,6 @@
 -- What the words of a command say.
-use Rattle.std.proofs.Common.{refl, ◌≡◌, ℕ, ◌≤◌, ◌<◌, ◌||◌, not, eqb, Bool, true, false, List, [], ◌∷◌, length, sym, ◌∙◌, arith, inl, inr, subst}
-use Rattle.std.specs.Char.{digit_value}
-use Rattle.std.specs.List.{AllByRecursion, flat_map}
-use Rattle.std.proofs.lemmas.Bool.Decides.{nat_tests}
-use Rattle.sig_words.specs.Readings.{Word, Item, Plain, Joined, Apart, Pace, Reading, IsReading, is_plain, values_in, values_of, paces}
-use Rattle.sig_words.specs.Numbers.{IsNumber}
-use Rattle.sig_words.specs.Commands.{AreSettings, HasPlainWords, IsCommand, IsFlag, IsSetting, option_values, options_of, settings_of, spelling, verb_of}
-use Rattle.sig_words.specs.Said.{HasPlainValue, IsMadeWith, IsSaid, Said, said_values}
+use Rattle.sig_words.proofs.Common.{refl, ◌≡◌, ℕ, ◌≤◌, ◌<◌, ◌||◌, not, eqb, Bool, true, false, List, [], ◌∷◌, length, sym, ◌∙◌, arith, inl, inr, subst, digit_value, AllByRecursion, flat_map, nat_tests, Word, Item, Plain, Joined, Apart, Pace, Reading, IsReading, is_plain, values_in, values_of, paces, IsNumber, AreSettings, HasPlainWords, IsCommand, IsFlag, IsSetting, option_values, options_of, settings_of, spelling, verb_of, HasPlainValue, IsMadeWith, IsSaid, Said, said_values, Workers, Capacity, Instants, Options, Verb, Settings, Command}
 use Rattle.sig_words.proofs.Steps.{nothing}
-use Rattle.sig_words.specs.declared.option.OptionName.TheVariants.{Workers, Capacity, Instants}
-use Rattle.sig_words.specs.declared.verb.Options.{Options}
-use Rattle.sig_words.specs.declared.verb.Verb.{Verb}
-use Rattle.sig_words.specs.declared.command.Settings.{Settings}
-use Rattle.sig_words.specs.declared.command.Command.{Command}
 use Rattle.sig_words.proofs.Complete.{Fits, complete}
 use Rattle.sig_words.proofs.Says.{said_once, same_values}
 use Rattle.sig_words.proofs.Made.{command_same, kept, settings_same, verb_same}

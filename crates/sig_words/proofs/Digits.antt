@@ -1,9 +1,5 @@
 -- The test of decimal digits.
-use Rattle.std.proofs.Common.{◌≡◌, ℕ, List, true, rules}
-use Rattle.std.specs.Char.{is_ascii_digit}
-use Rattle.std.specs.List.{list_all}
-use Rattle.std.specs.Str.Parse.{AllDigits, digits_value}
-use Rattle.std.proofs.lemmas.Str.Parse.{IsNumeralModel, numerals_by_value}
+use Rattle.sig_words.proofs.Common.{◌≡◌, ℕ, List, true, rules, is_ascii_digit, list_all, AllDigits, digits_value, IsNumeralModel, numerals_by_value}
 
 own : IsNumeralModel (λ ds. list_all is_ascii_digit ds ≡ true) (digits_value 10)
 own = numerals_by_value _ (search rules)

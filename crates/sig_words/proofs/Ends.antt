@@ -1,14 +1,6 @@
 -- What the whole walk of `clap` comes to, and what our steps come to.
-use Rattle.std.proofs.Common.{◌≡◌, ◌≢◌, ◌⊎◌, inl, inr, Bool, true, false, ◌||◌, List, [], ◌∷◌, refl, sym, ◌∙◌, Option, Some, None, subst}
-use Rattle.std.specs.Prelude.{fold, option_and_then}
-use Rattle.std.specs.List.{AllByRecursion}
-use Rattle.std.specs.Str.{IsUtf8}
-use Rattle.clap.specs.Faults.{settle_fault, turn_fault, walk_fault}
-use Rattle.clap.specs.Kinds.{Kinds, or_else}
-use Rattle.clap.specs.Walk.{Row, Text, Waiting, Walk, settled, walked}
-use Rattle.sig_words.specs.Readings.{Word}
+use Rattle.sig_words.proofs.Common.{◌≡◌, ◌≢◌, ◌⊎◌, inl, inr, Bool, true, false, ◌||◌, List, [], ◌∷◌, refl, sym, ◌∙◌, Option, Some, None, subst, fold, option_and_then, AllByRecursion, IsUtf8, settle_fault, turn_fault, walk_fault, Kinds, or_else, Row, Text, Waiting, Walk, settled, walked, Word, Said}
 use Rattle.sig_words.proofs.Steps as step
-use Rattle.sig_words.specs.Said.{Said}
 use Rattle.sig_words.proofs.Steps.{Next, State, run}
 use Rattle.sig_words.proofs.Built.{at, pending_fault, rules, top}
 use Rattle.sig_words.proofs.Follows.{Follows, Lost, Stands, faulty_flag, faulty_option, follows, or_left, or_more, or_none, pending_none}

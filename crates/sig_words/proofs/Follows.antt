@@ -1,17 +1,7 @@
 -- The walk of `clap` follows our steps, word by word.
-use Rattle.std.proofs.Common.{◌≡◌, ◌≢◌, ◌⊎◌, inl, inr, Bool, true, false, ◌||◌, List, [], ◌∷◌, ◌++◌, refl, sym, ap, ◌∙◌, cond, Option, Some, None, subst}
-use Rattle.std.specs.Prelude.{codes, is_some, option_map}
-use Rattle.std.specs.Str.{IsUtf8, bytes_eq}
-use Rattle.clap.specs.Faults.{turn_fault}
-use Rattle.clap.specs.Kinds.{Kinds, or_else}
-use Rattle.clap.specs.Lexer.{long_of, short_of}
-use Rattle.clap.specs.Walk.{Row, Text, Waiting, Walk, has_row, idle, option, positional, settled, used, walked}
-use Rattle.sig_words.specs.Readings.{Word, is_plain, name_of}
+use Rattle.sig_words.proofs.Common.{◌≡◌, ◌≢◌, ◌⊎◌, inl, inr, Bool, true, false, ◌||◌, List, [], ◌∷◌, ◌++◌, refl, sym, ap, ◌∙◌, cond, Option, Some, None, subst, codes, is_some, option_map, IsUtf8, bytes_eq, turn_fault, Kinds, or_else, long_of, short_of, Row, Text, Waiting, Walk, has_row, idle, option, positional, settled, used, walked, Word, is_plain, name_of, Said, OptionName, Workers, Capacity, Instants}
 use Rattle.sig_words.proofs.Steps as step
-use Rattle.sig_words.specs.Said.{Said}
 use Rattle.sig_words.proofs.Steps.{Next, State, any_next, any_step, run, with_pace, with_plain, with_value}
-use Rattle.sig_words.specs.declared.option.OptionName.{OptionName}
-use Rattle.sig_words.specs.declared.option.OptionName.TheVariants.{Workers, Capacity, Instants}
 use Rattle.sig_words.proofs.Built.{at, option_built, pace_built, pending_fault, rows_settled, rules, top}
 use Rattle.sig_words.proofs.Complete.{apart_step, joined_step, not_empty, pace_step, plain_step}
 use Rattle.sig_words.proofs.Holds.{Holds, holds_pace, holds_plain, holds_value, pace_row, value_row}

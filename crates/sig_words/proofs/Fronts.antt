@@ -1,6 +1,5 @@
 -- What follows a front in a word.
-use Rattle.std.proofs.Common.{◌≡◌, ℕ, Bool, true, false, eqb, List, [], ◌∷◌, ◌++◌, refl, cond, arith, Some, None}
-use Rattle.std.proofs.lemmas.Bool.Decides.{nat_tests}
+use Rattle.sig_words.proofs.Common.{◌≡◌, ℕ, Bool, true, false, eqb, List, [], ◌∷◌, ◌++◌, refl, cond, arith, Some, None, nat_tests}
 use Rattle.sig_words.proofs.Steps.{after_front}
 
 -- it stands where it is found

@@ -1,15 +1,6 @@
 -- Rows that hold what was said, and how each use of an argument changes both.
-use Rattle.std.proofs.Common.{◌≡◌, Bool, true, false, List, [], ◌∷◌, ◌++◌, refl, ap, ◌∙◌, cond, Option, Some, None}
-use Rattle.std.specs.Prelude.{codes, is_some, option_map, unwrap_or}
-use Rattle.std.specs.Str.{bytes_eq}
-use Rattle.clap.specs.Walk.{Row, Text, all_of, has_row, used, with_values, without}
-use Rattle.clap.specs.declared.builder.value_parser.Reading.TheVariants.{AsWritten}
-use Rattle.clap.specs.declared.parser.matches.ValueSource.TheVariants.{CommandLine}
-use Rattle.sig_words.specs.Readings.{Word, name_of}
-use Rattle.sig_words.specs.Said.{Said}
+use Rattle.sig_words.proofs.Common.{◌≡◌, Bool, true, false, List, [], ◌∷◌, ◌++◌, refl, ap, ◌∙◌, cond, Option, Some, None, codes, is_some, option_map, unwrap_or, bytes_eq, Row, Text, all_of, has_row, used, with_values, without, AsWritten, CommandLine, Word, name_of, Said, OptionName, Workers, Capacity, Instants}
 use Rattle.sig_words.proofs.Steps.{with_pace, with_plain, with_value}
-use Rattle.sig_words.specs.declared.option.OptionName.{OptionName}
-use Rattle.sig_words.specs.declared.option.OptionName.TheVariants.{Workers, Capacity, Instants}
 use Rattle.sig_words.proofs.Built.{option_built, pace_built, plain_built}
 use Rattle.sig_words.proofs.Summary.{once, once_false}
 use Rattle.sig_words.proofs.Rows.{AreWritten, has_row_all, values_other, values_same, values_written, without_absent}

@@ -1,3 +1,4 @@
+pub mod Common
 pub mod Built
 pub mod Determined
 pub mod Digits
@@ -16,3 +17,11 @@ pub mod Steps
 pub mod Summary
 pub mod Turns
 pub mod WordKinds
+unfoldable pub use Common.*
+pub use Built.*
+pub use Determined.*
+pub use Digits.*
+pub use Names.*
+pub use Parsed.*
+pub use Says.*
+pub use Rattle.sig_words.proofs.Built.{rules}

@@ -1,18 +1,6 @@
 -- A command is determined by its verb, its plain words and its settings.
-use Rattle.std.proofs.Common.{◌≡◌, ℕ, Bool, true, false, List, [], ◌∷◌, refl, sym, ap, ◌∙◌, arith, inl, inr, slice_index}
-use Rattle.std.specs.Prelude.{if◌then◌else◌, ◌==◌}
-use Rattle.std.specs.Str.Parse.{digits_value}
-use Rattle.std.proofs.lemmas.Bool.{false≢true}
-use Rattle.sig_words.specs.Numbers.{IsNumberWithin}
-use Rattle.sig_words.specs.Readings.{Word}
-use Rattle.sig_words.specs.Commands.{AreSettings, AreSeedAndStages, OptionValues, HasPlainWords, IsFlag, IsSetting, options_of, settings_of, spelling, verb_of}
-use Rattle.sig_words.specs.Said.{IsMadeWith}
-use Rattle.sig_words.specs.declared.verb.Options.{Options}
-use Rattle.sig_words.specs.declared.verb.Verb.{Verb}
+use Rattle.sig_words.proofs.Common.{◌≡◌, ℕ, Bool, true, false, List, [], ◌∷◌, refl, sym, ap, ◌∙◌, arith, inl, inr, slice_index, if◌then◌else◌, ◌==◌, digits_value, false≢true, IsNumberWithin, Word, AreSettings, AreSeedAndStages, OptionValues, HasPlainWords, IsFlag, IsSetting, options_of, settings_of, spelling, verb_of, IsMadeWith, Options, Verb, Settings, Command, Check, Print, Tree, Code, Run, Play, Load, Judge, Build, Exec}
 use Rattle.sig_words.specs.declared.verb.Verb.TheVariants as verb
-use Rattle.sig_words.specs.declared.command.Settings.{Settings}
-use Rattle.sig_words.specs.declared.command.Command.{Command}
-use Rattle.sig_words.specs.declared.command.Command.TheVariants.{Check, Print, Tree, Code, Run, Play, Load, Judge, Build, Exec}
 
 -- ---- settings
 

@@ -1,14 +1,5 @@
 -- What holds of all words holds of the files that they name.
-use Rattle.std.proofs.Common.{List, [], ◌∷◌, ◌++◌, Option, Some, None, subst}
-use Rattle.std.specs.Prelude.{String}
-use Rattle.std.specs.declared.alloc.Global.{Global}
-use Rattle.std.specs.List.{AllByRecursion, flat_map}
-use Rattle.std.specs.Str.{IsUtf8}
-use Rattle.std.proofs.lemmas.Str.{IsUtf8-string_bytes}
-use Rattle.sig_words.specs.Readings.{Word, Item, Plain, Joined, Apart, Pace, plain_in, plain_words, texts, written, written_behind}
-use Rattle.sig_words.specs.Commands.{HasPlainWords, IsCommand, files_of}
-use Rattle.sig_words.specs.declared.command.Command.{Command}
-use Rattle.sig_words.specs.declared.command.Command.TheVariants.{Check, Print, Tree, Code, Run, Play, Load, Judge, Build, Exec}
+use Rattle.sig_words.proofs.Common.{List, [], ◌∷◌, ◌++◌, Option, Some, None, subst, String, Global, AllByRecursion, flat_map, IsUtf8, IsUtf8-string_bytes, Word, Item, Plain, Joined, Apart, Pace, plain_in, plain_words, texts, written, written_behind, HasPlainWords, IsCommand, files_of, Command, Check, Print, Tree, Code, Run, Play, Load, Judge, Build, Exec}
 
 first_all : (P : Word → Type 0) (xs ys : List Word) → AllByRecursion P (xs ++ ys) → AllByRecursion P xs
 first_all P [] ys all = tt

@@ -1,24 +1,6 @@
 -- What `clap` answers to the words, by what our steps come to.
-use Rattle.std.proofs.Common.{◌≡◌, ◌≢◌, ◌⊎◌, inl, inr, Bool, true, false, ◌||◌, List, [], ◌∷◌, ◌++◌, refl, sym, ap, ◌∙◌, cond, Option, Some, None, subst}
-use Rattle.std.specs.Prelude.{codes, fold, find, option_and_then, option_map, slice_get, unwrap_or}
-use Rattle.std.specs.List.{AllByRecursion}
-use Rattle.std.specs.Str.{IsUtf8, bytes_eq}
-use Rattle.std.proofs.lemmas.Option.{none-some}
-use Rattle.clap.specs.Faults.{default_fault, defaults_fault, fault_of, given_default_fault, settle_fault, walk_fault}
-use Rattle.clap.specs.Kinds.{HasKind, IsAmong, Kinds, or_else}
-use Rattle.clap.specs.Simple.{App, matches_of}
-use Rattle.clap.specs.Values.{kind_of}
-use Rattle.clap.specs.Walk.{Row, Rule, Text, Walk, all_of, first_of, has_row, idle, is_empty, settled, with_default, with_values}
-use Rattle.clap.specs.declared.builder.value_parser.Reading.TheVariants.{AsWritten}
-use Rattle.clap.specs.declared.error.Error.{Error}
-use Rattle.clap.specs.declared.error.kind.ErrorKind.{ErrorKind}
-use Rattle.clap.specs.declared.error.kind.ErrorKind.TheVariants.{OutOfMemory}
-use Rattle.clap.specs.declared.parser.matches.ValueSource.TheVariants.{DefaultValue}
-use Rattle.sig_words.specs.Lines.{Shows, command_line}
-use Rattle.sig_words.specs.Readings.{Word, name_of}
-use Rattle.sig_words.specs.Said.{IsSaid, Said}
+use Rattle.sig_words.proofs.Common.{◌≡◌, ◌≢◌, ◌⊎◌, inl, inr, Bool, true, false, ◌||◌, List, [], ◌∷◌, ◌++◌, refl, sym, ap, ◌∙◌, cond, Option, Some, None, subst, codes, fold, find, option_and_then, option_map, slice_get, unwrap_or, AllByRecursion, IsUtf8, bytes_eq, none-some, default_fault, defaults_fault, fault_of, given_default_fault, settle_fault, walk_fault, HasKind, IsAmong, Kinds, or_else, App, matches_of, kind_of, Row, Rule, Text, Walk, all_of, first_of, has_row, idle, is_empty, settled, with_default, with_values, AsWritten, Error, ErrorKind, OutOfMemory, DefaultValue, Shows, command_line, Word, name_of, IsSaid, Said, Workers, Capacity, Instants}
 use Rattle.sig_words.proofs.Steps.{Any, nothing, run}
-use Rattle.sig_words.specs.declared.option.OptionName.TheVariants.{Workers, Capacity, Instants}
 use Rattle.sig_words.proofs.Built.{at, option_built, pace_built, plain_built, rules, top}
 use Rattle.sig_words.proofs.Says.{run_said, said_run}
 use Rattle.sig_words.proofs.Ends.{Ends, Passes, ends, walk_end}

@@ -1,15 +1,6 @@
 -- The values under an id in the rows of matches, and what a use of an argument changes.
-use Rattle.std.proofs.Common.{◌≡◌, Bool, true, false, List, [], ◌∷◌, ◌++◌, refl, sym, ap, cond, Some, None}
-use Rattle.std.specs.Prelude.{find, is_some, option_map, slice_get, unwrap_or}
-use Rattle.std.specs.List.{AllByRecursion}
-use Rattle.std.specs.Str.{bytes_eq}
-use Rattle.std.proofs.lemmas.Option.{none-some}
-use Rattle.std.proofs.lemmas.Slice.Eq.{bytes_eq-Decides}
-use Rattle.clap.specs.Walk.{Row, Text, all_of, first_of, has_row, one_of, with_values, without}
-use Rattle.clap.specs.Values.{read_as}
+use Rattle.sig_words.proofs.Common.{◌≡◌, Bool, true, false, List, [], ◌∷◌, ◌++◌, refl, sym, ap, cond, Some, None, find, is_some, option_map, slice_get, unwrap_or, AllByRecursion, bytes_eq, none-some, bytes_eq-Decides, Row, Text, all_of, first_of, has_row, one_of, with_values, without, read_as, AsWritten, ValueSource}
 use Rattle.clap.specs.declared.builder.value_parser.Reading.{Reading}
-use Rattle.clap.specs.declared.builder.value_parser.Reading.TheVariants.{AsWritten}
-use Rattle.clap.specs.declared.parser.matches.ValueSource.{ValueSource}
 
 -- a row that a new id gets
 abbrev new_row : Text → Reading → ValueSource → List Text → Row

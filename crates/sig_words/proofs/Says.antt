@@ -1,11 +1,6 @@
 -- What words say is what they are read as.
-use Rattle.std.proofs.Common.{refl, ◌≡◌, ℕ, ◌≤◌, Bool, true, false, List, length, sym, ap, ◌∙◌, arith, cond, Option, Some, None, option_to_list, subst}
-use Rattle.std.proofs.lemmas.Option.{same_Some}
-use Rattle.sig_words.specs.Readings.{Word, Reading, values_of, paces}
-use Rattle.sig_words.specs.Commands.{OptionValues, option_values}
-use Rattle.sig_words.specs.Said.{IsSaid, Said, said_values}
+use Rattle.sig_words.proofs.Common.{refl, ◌≡◌, ℕ, ◌≤◌, Bool, true, false, List, length, sym, ap, ◌∙◌, arith, cond, Option, Some, None, option_to_list, subst, same_Some, Word, Reading, values_of, paces, OptionValues, option_values, IsSaid, Said, said_values, Workers, Capacity, Instants}
 use Rattle.sig_words.proofs.Steps.{Any, nothing, run}
-use Rattle.sig_words.specs.declared.option.OptionName.TheVariants.{Workers, Capacity, Instants}
 use Rattle.sig_words.proofs.Complete.{Fits, complete}
 use Rattle.sig_words.proofs.Sound.{sound}
 use Rattle.sig_words.proofs.Summary.{Adds}

@@ -1,18 +1,7 @@
 -- What the words are read as is a reading of them.
-use Rattle.std.proofs.Common.{◌≡◌, Bool, true, false, List, [], ◌∷◌, ◌++◌, append_assoc, refl, sym, ap, ◌∙◌, cond, arith, Option, Some, None, eqb, subst, option_to_list}
-use Rattle.std.specs.Prelude.{codes, option_map, option_and_then}
-use Rattle.std.specs.List.{AllByRecursion}
-use Rattle.std.specs.Str.{bytes_eq}
-use Rattle.std.proofs.lemmas.Bool.Decides.{nat_tests}
-use Rattle.std.proofs.lemmas.List.{append-nil}
-use Rattle.std.proofs.lemmas.Option.{none-some, same_Some, some_pair_parts}
-use Rattle.std.proofs.lemmas.Slice.Eq.{bytes_eq-Decides}
-use Rattle.sig_words.specs.Readings.{Word, Plain, Joined, Apart, Pace, Reading, IsReading, is_plain, name_of}
-use Rattle.sig_words.specs.Said.{HasPlainValue, Said}
+use Rattle.sig_words.proofs.Common.{◌≡◌, Bool, true, false, List, [], ◌∷◌, ◌++◌, append_assoc, refl, sym, ap, ◌∙◌, cond, arith, Option, Some, None, eqb, subst, option_to_list, codes, option_map, option_and_then, AllByRecursion, bytes_eq, nat_tests, append-nil, none-some, same_Some, some_pair_parts, bytes_eq-Decides, Word, Plain, Joined, Apart, Pace, Reading, IsReading, is_plain, name_of, HasPlainValue, Said, OptionName, Workers, Capacity, Instants}
 use Rattle.sig_words.proofs.Steps.{Next, State, any_next, option_said, option_step, or_else, run, said_as, step, value_in_rest, after_front, with_pace, with_option, with_plain, with_value}
 use Rattle.sig_words.proofs.Steps as next
-use Rattle.sig_words.specs.declared.option.OptionName.{OptionName}
-use Rattle.sig_words.specs.declared.option.OptionName.TheVariants.{Workers, Capacity, Instants}
 use Rattle.sig_words.proofs.Fronts.{front_found}
 use Rattle.sig_words.proofs.Summary.{Adds, Adds-apart, Adds-joined, Adds-pace, Adds-plain, with_item}
 

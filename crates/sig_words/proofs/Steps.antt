@@ -1,9 +1,5 @@
 -- How the words after a command's name are read, one after another, with what was said so far.
-use Rattle.std.specs.Prelude.{◌==◌, true, false, List, [], ◌∷◌, ◌++◌, Option, None, Some, option_map, option_and_then, is_some, codes, bytes_eq, if◌then◌else◌}
-use Rattle.sig_words.specs.Readings.{Word, is_plain, name_of}
-use Rattle.sig_words.specs.Said.{Said}
-use Rattle.sig_words.specs.declared.option.OptionName.{OptionName}
-use Rattle.sig_words.specs.declared.option.OptionName.TheVariants.{Workers, Capacity, Instants}
+use Rattle.sig_words.proofs.Common.{◌==◌, true, false, List, [], ◌∷◌, ◌++◌, Option, None, Some, option_map, option_and_then, is_some, codes, bytes_eq, if◌then◌else◌, Word, is_plain, name_of, Said, OptionName, Workers, Capacity, Instants}
 
 -- what a next word is: a plain word, an option, the flag or `--`; the value of an option; or a plain word,
 -- since `--` stands before it

@@ -1,11 +1,6 @@
 -- What a reading adds to what was said before its words.
-use Rattle.std.proofs.Common.{◌≡◌, ℕ, ◌+◌, Bool, true, false, [], ◌∷◌, ◌++◌, append_assoc, refl, ◌∙◌, cond, arith, Option, Some, None, option_to_list, subst}
-use Rattle.std.specs.Option.{is_some}
-use Rattle.sig_words.specs.Readings.{Word, Item, Plain, Joined, Apart, Pace, Reading, plain_words, values_of, paces}
-use Rattle.sig_words.specs.Said.{Said}
+use Rattle.sig_words.proofs.Common.{◌≡◌, ℕ, ◌+◌, Bool, true, false, [], ◌∷◌, ◌++◌, append_assoc, refl, ◌∙◌, cond, arith, Option, Some, None, option_to_list, subst, is_some, Word, Item, Plain, Joined, Apart, Pace, Reading, plain_words, values_of, paces, Said, OptionName, Workers, Capacity, Instants}
 use Rattle.sig_words.proofs.Steps.{with_plain, with_value, with_pace}
-use Rattle.sig_words.specs.declared.option.OptionName.{OptionName}
-use Rattle.sig_words.specs.declared.option.OptionName.TheVariants.{Workers, Capacity, Instants}
 
 -- how often the flag was said
 abbrev pub said_paces : Said → ℕ

@@ -1,15 +1,5 @@
 -- One turn of the walk of `clap`: what comes of a word, and where the walk stands behind it.
-use Rattle.std.proofs.Common.{◌≡◌, ◌≢◌, ◌&&◌, Bool, true, false, List, [], ◌∷◌, refl, sym, ap, ◌∙◌, Option, Some, None}
-use Rattle.std.specs.Prelude.{codes}
-use Rattle.std.specs.Str.{bytes_eq}
-use Rattle.clap.specs.Faults.{other_fault, repeat_fault, step_fault, turn_fault}
-use Rattle.clap.specs.Kinds.{Kinds, or_else}
-use Rattle.clap.specs.Lexer.{long_of, short_of}
-use Rattle.clap.specs.Walk.{Held, Row, Step, Text, Waiting, after_step, idle, option, positional, subcommand_or_other, used, walked}
-use Rattle.clap.specs.declared.error.kind.ErrorKind.TheVariants.{TooManyValues, UnknownArgument}
-use Rattle.sig_words.specs.Readings.{Word, name_of}
-use Rattle.sig_words.specs.declared.option.OptionName.{OptionName}
-use Rattle.sig_words.specs.declared.option.OptionName.TheVariants.{Workers, Capacity, Instants}
+use Rattle.sig_words.proofs.Common.{◌≡◌, ◌≢◌, ◌&&◌, Bool, true, false, List, [], ◌∷◌, refl, sym, ap, ◌∙◌, Option, Some, None, codes, bytes_eq, other_fault, repeat_fault, step_fault, turn_fault, Kinds, or_else, long_of, short_of, Held, Row, Step, Text, Waiting, after_step, idle, option, positional, subcommand_or_other, used, walked, TooManyValues, UnknownArgument, Word, name_of, OptionName, Workers, Capacity, Instants}
 use Rattle.sig_words.proofs.Built.{at, held, option_built, pace_built, pending_fault, rows_settled, rules, top}
 use Rattle.sig_words.proofs.Sound.{option_word}
 use Rattle.sig_words.proofs.WordKinds.{flag_word}

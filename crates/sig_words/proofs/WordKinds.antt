@@ -1,21 +1,6 @@
 -- What a word is to `clap` and to us.
-use Rattle.std.proofs.Common.{◌≡◌, ℕ, suc, ◌+◌, Bool, true, false, List, [], ◌∷◌, ◌++◌, length, take, drop, refl, sym, ap, ◌∙◌, cond, arith, Option, Some, None, eqb, subst}
-use Rattle.std.specs.Prelude.{codes, slice_get}
-use Rattle.std.specs.List.{position_or_len}
-use Rattle.std.specs.Str.{IsUtf8, bytes_eq, chars, encode_utf8_all}
-use Rattle.std.proofs.lemmas.Bool.{false≢true}
-use Rattle.std.proofs.lemmas.Bool.Decides.{nat_tests}
-use Rattle.std.proofs.lemmas.List.{append-nil}
-use Rattle.std.proofs.lemmas.Slice.Eq.{bytes_eq-Decides}
-use Rattle.std.proofs.lemmas.Str.{IsCharBoundary-after_ascii, IsUtf8-drop, encodes-chars}
-use Rattle.clap.specs.Faults.{bundle_step_fault, flags_fault, long_fault, other_fault}
-use Rattle.clap.specs.Lexer.{has_byte, long_of, name_and_value, short_of}
-use Rattle.clap.specs.Walk.{Held, Row, Rule, Text, arg_by_long}
-use Rattle.clap.specs.declared.error.kind.ErrorKind.TheVariants.{UnknownArgument}
-use Rattle.sig_words.specs.Readings.{Word, is_plain, name_of}
+use Rattle.sig_words.proofs.Common.{◌≡◌, ℕ, suc, ◌+◌, Bool, true, false, List, [], ◌∷◌, ◌++◌, length, take, drop, refl, sym, ap, ◌∙◌, cond, arith, Option, Some, None, eqb, subst, codes, slice_get, position_or_len, IsUtf8, bytes_eq, chars, encode_utf8_all, false≢true, nat_tests, append-nil, bytes_eq-Decides, IsCharBoundary-after_ascii, IsUtf8-drop, encodes-chars, bundle_step_fault, flags_fault, long_fault, other_fault, has_byte, long_of, name_and_value, short_of, Held, Row, Rule, Text, arg_by_long, UnknownArgument, Word, is_plain, name_of, OptionName, Workers, Capacity, Instants}
 use Rattle.sig_words.proofs.Steps.{option_said}
-use Rattle.sig_words.specs.declared.option.OptionName.{OptionName}
-use Rattle.sig_words.specs.declared.option.OptionName.TheVariants.{Workers, Capacity, Instants}
 use Rattle.sig_words.proofs.Built.{held, rules, top}
 use Rattle.sig_words.proofs.Complete.{not_empty}
 use Rattle.sig_words.proofs.Sound.{option_said_word, option_word}

@@ -1,7 +1,4 @@
-use Rattle.std.proofs.Common.{length}
-use Rattle.std.proofs.lemmas.Slice.Zip.{zip_end}
-use Rattle.sig_call.specs.Bindings.{bindings_in}
-use Rattle.sig_call.proofs.Bound.{constants_end}
+use Rattle.sig_call.proofs.{length, zip_end, bindings_in, constants_end}
 use Rattle.sig_call.proofs.binding.bind_constants.Goals as goal
 
 pub returns : goal.returns

@@ -1,8 +1,5 @@
 -- those so far are bound, and the others are left
-use Rattle.std.proofs.Common.{◌≡◌, ◌+◌, ◌++◌, drop}
-use Rattle.sig_tree.specs.FlatBody.{bound_from}
-use Rattle.sig_scope.specs.Declarations.{declarations_in}
-use Rattle.sig_call.specs.Bindings.{bindings_in}
+use Rattle.sig_call.proofs.{◌≡◌, ◌+◌, ◌++◌, drop, bound_from, declarations_in, bindings_in}
 use Rattle.sig_call.proofs.binding.bind_signals.Given as goal
 
 abbrev pub invariant-loop-signal : goal.invariant-loop-signal

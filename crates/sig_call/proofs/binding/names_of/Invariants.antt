@@ -1,5 +1,4 @@
-use Rattle.std.proofs.Common.{◌≡◌, take}
-use Rattle.sig_call.specs.Bindings.{bindings_in, texts_bound}
+use Rattle.sig_call.proofs.{◌≡◌, take, bindings_in, texts_bound}
 use Rattle.sig_call.proofs.binding.names_of.Given as goal
 
 abbrev pub invariant-loop-one : goal.invariant-loop-one

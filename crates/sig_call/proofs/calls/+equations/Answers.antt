@@ -1,21 +1,4 @@
-use Rattle.std.proofs.Common.{◌≡◌, ◌+◌, ◌*◌, ◌-◌, ◌<◌, ◌≤◌, ◌++◌, ◌∷◌, [], length, map, drop, take, sym, ap, subst, ◌∙◌, arith, Some, Bor, suc}
-use Rattle.std.specs.List.{AllByRecursion}
-use Rattle.std.proofs.lemmas.List.{length-map}
-use Rattle.std.proofs.lemmas.Result.{err_from_is_err_and}
-use Rattle.sig_tree.specs.declared.process.Body.{Body}
-use Rattle.sig_tree.specs.Syntax.{model_of, expression_of, equations_of, right_side_of, Equations, Defines, Equal}
-use Rattle.sig_tree.specs.Declarations.{inputs_of, process_of, equations_of_model}
-use Rattle.sig_tree.specs.FlatBody.{with_copy}
-use Rattle.sig_scope.specs.Declarations.{declaration_in}
-use Rattle.sig_scope.specs.Walked.{interface_models, bodies_in}
-use Rattle.sig_scope.proofs.Trees.{body_is}
-use Rattle.sig_call.specs.Copies.{copy_in}
-use Rattle.sig_call.specs.MadeOf.{made_of}
-use Rattle.sig_call.specs.Making.{Made, Advances, NeedsMore}
-use Rattle.sig_tree.specs.Sound.{IsReady}
-use Rattle.sig_call.proofs.Leading.{needs_entering, needs_inside, needs_later, advances_called, advances_by, leads_equated}
-use Rattle.sig_call.proofs.Readiness.{advances_defined, call_adds, call_numbers, call_room, refused_by}
-use Rattle.sig_call.proofs.Lists.{all_mapped, split_at}
+use Rattle.sig_call.proofs.{◌≡◌, ◌+◌, ◌*◌, ◌-◌, ◌<◌, ◌≤◌, ◌++◌, ◌∷◌, [], length, map, drop, take, sym, ap, subst, ◌∙◌, arith, Some, Bor, suc, AllByRecursion, length-map, err_from_is_err_and, Body, model_of, expression_of, equations_of, right_side_of, Equations, Defines, Equal, inputs_of, process_of, equations_of_model, with_copy, declaration_in, interface_models, bodies_in, body_is, copy_in, made_of, Made, Advances, NeedsMore, IsReady, needs_entering, needs_inside, needs_later, advances_called, advances_by, leads_equated, advances_defined, call_adds, call_numbers, call_room, refused_by, all_mapped, split_at}
 use Rattle.sig_call.proofs.calls.+equations.Goals as goal
 
 pub expand-expand_equation-requires : goal.expand-expand_equation-requires

@@ -1,10 +1,6 @@
 -- A call adds a signal, so the room that is left falls from a body to those inside it. The equations so far are
 -- expanded.
-use Rattle.std.proofs.Common.{◌+◌, ◌-◌, ◌*◌, length, take}
-use Rattle.sig_scope.specs.Walked.{interface_models, bodies_in}
-use Rattle.sig_call.specs.Copies.{copy_in}
-use Rattle.sig_call.specs.MadeOf.{made_of}
-use Rattle.sig_call.specs.Making.{Advances}
+use Rattle.sig_call.proofs.{◌+◌, ◌-◌, ◌*◌, length, take, interface_models, bodies_in, copy_in, made_of, Advances}
 use Rattle.sig_call.proofs.calls.+equations.Given as goal
 
 abbrev pub decreases-expand : goal.decreases-expand

@@ -1,9 +1,4 @@
-use Rattle.std.proofs.Common.{◌∙◌, ◌≤◌, ap, sym, map, arith}
-use Rattle.sig_tree.specs.FlatBody.{cluster_of}
-use Rattle.sig_tree.specs.Rules.{number_of}
-use Rattle.sig_tree.specs.Syntax.{placement_of}
-use Rattle.sig_scope.proofs.Trees.{pragmas_are}
-use Rattle.sig_call.proofs.Labels.{low_at}
+use Rattle.sig_call.proofs.{◌∙◌, ◌≤◌, ap, sym, map, arith, cluster_of, number_of, placement_of, pragmas_are, low_at}
 use Rattle.sig_call.proofs.cluster.cluster_of.Goals as goal
 
 pub loop-pragma-init : goal.loop-pragma-init

@@ -1,8 +1,5 @@
 -- none so far names the signal
-use Rattle.std.proofs.Common.{◌≡◌, drop, map}
-use Rattle.sig_tree.specs.FlatBody.{cluster_of}
-use Rattle.sig_tree.specs.Syntax.{model_of, placement_of}
-use Rattle.sig_tree.specs.Declarations.{pragmas_of_model}
+use Rattle.sig_call.proofs.{◌≡◌, drop, map, cluster_of, model_of, placement_of, pragmas_of_model}
 use Rattle.sig_call.proofs.cluster.cluster_of.Given as goal
 
 abbrev pub invariant-loop-pragma : goal.invariant-loop-pragma

@@ -1,6 +1,5 @@
 -- none so far has the name
-use Rattle.std.proofs.Common.{◌≡◌, drop}
-use Rattle.sig_tree.specs.FlatBody.{is_named}
+use Rattle.sig_call.proofs.{◌≡◌, drop, is_named}
 use Rattle.sig_call.proofs.cluster.is_named.Given as goal
 
 abbrev pub invariant-loop-name : goal.invariant-loop-name

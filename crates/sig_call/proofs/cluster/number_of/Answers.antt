@@ -1,6 +1,4 @@
-use Rattle.std.proofs.Common.{arith, ◌≤◌, ◌+◌, ◌*◌, ◌-◌, get_or}
-use Rattle.sig_tree.specs.Rules.{number_of}
-use Rattle.sig_call.proofs.Labels.{number_within}
+use Rattle.sig_call.proofs.{arith, ◌≤◌, ◌+◌, ◌*◌, ◌-◌, get_or, number_of, number_within}
 use Rattle.sig_call.proofs.cluster.number_of.Goals as goal
 
 pub overflow_mul-number : goal.overflow_mul-number

@@ -1,7 +1,5 @@
 -- the digits that are left end in the whole number
-use Rattle.std.proofs.Common.{◌≡◌, drop}
-use Rattle.sig_tree.specs.Rules.{number_of}
-use Rattle.sig_call.proofs.Labels.{number_from}
+use Rattle.sig_call.proofs.{◌≡◌, drop, number_of, number_from}
 use Rattle.sig_call.proofs.cluster.number_of.Given as goal
 
 abbrev pub invariant-loop-digit : goal.invariant-loop-digit

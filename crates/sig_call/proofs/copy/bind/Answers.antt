@@ -1,9 +1,4 @@
-use Rattle.std.proofs.Common.{◌≡◌, ◌+◌, ◌∙◌, ap, sym, length}
-use Rattle.std.proofs.lemmas.List.{length-map}
-use Rattle.sig_scope.specs.Declarations.{declarations_in, declaration_in}
-use Rattle.sig_call.specs.Bindings.{bindings_in}
-use Rattle.sig_call.proofs.Bound.{bound_whole}
-use Rattle.sig_tree.specs.Syntax.{model_of}
+use Rattle.sig_call.proofs.{◌≡◌, ◌+◌, ◌∙◌, ap, sym, length, length-map, declarations_in, declaration_in, bindings_in, bound_whole, model_of}
 use Rattle.sig_call.proofs.copy.bind.Goals as goal
 
 pub returns : goal.returns

@@ -1,8 +1,4 @@
-use Rattle.std.proofs.Common.{◌≡◌, map, take}
-use Rattle.sig_tree.specs.FlatBody.{flat_of}
-use Rattle.sig_tree.specs.FlatSyntax.{flat_expression_of}
-use Rattle.sig_tree.specs.Syntax.{expression_of}
-use Rattle.sig_call.specs.Copies.{copy_in}
+use Rattle.sig_call.proofs.{◌≡◌, map, take, flat_of, flat_expression_of, expression_of, copy_in}
 use Rattle.sig_call.proofs.expression.flat_expressions.Given as goal
 
 abbrev pub invariant-loop-e : goal.invariant-loop-e

@@ -1,22 +1,4 @@
-use Rattle.std.proofs.Common.{◌≡◌, ◌∙◌, ◌≤◌, ◌+◌, [], ap, sym, subst, length, arith, List, Some}
-use Rattle.std.specs.List.{AllByRecursion}
-use Rattle.std.proofs.lemmas.List.{length-map}
-use Rattle.std.proofs.lemmas.Result.{err_from_is_err_and}
-use Rattle.sig_tree.specs.Syntax.{model_of, program_of, ProcessModel}
-use Rattle.sig_tree.specs.Declarations.{name_of, inputs_of, outputs_of, locals_of, all_processes, equations_of_model, process_of}
-use Rattle.sig_tree.specs.FlatBody.{Progress, copy_of, copied_signals, first_copy, first_progress}
-use Rattle.sig_tree.specs.FlatSyntax.{flat_body_of}
-use Rattle.sig_scope.specs.Declarations.{declaration_in}
-use Rattle.sig_scope.specs.Walked.{interface_models, bodies_in}
-use Rattle.sig_scope.proofs.Trees.{body_is}
-use Rattle.sig_call.specs.Copies.{copy_in}
-use Rattle.sig_call.specs.MadeOf.{made_of}
-use Rattle.sig_call.specs.Making.{Made, with_signals}
-use Rattle.sig_tree.specs.Sound.{IsReady, AreExpandable}
-use Rattle.sig_call.proofs.Existence.{some_body}
-use Rattle.sig_call.proofs.Expandable.{expandable}
-use Rattle.sig_call.proofs.Readiness.{refused_by, copied_length}
-use Rattle.sig_call.proofs.Whole.{head_is, some_interface, first_found, too_many_declared, too_many_inside, whole_body}
+use Rattle.sig_call.proofs.{◌≡◌, ◌∙◌, ◌≤◌, ◌+◌, [], ap, sym, subst, length, arith, List, Some, AllByRecursion, length-map, err_from_is_err_and, model_of, program_of, ProcessModel, name_of, inputs_of, outputs_of, locals_of, all_processes, equations_of_model, process_of, Progress, copy_of, copied_signals, first_copy, first_progress, flat_body_of, declaration_in, interface_models, bodies_in, body_is, copy_in, made_of, Made, with_signals, IsReady, AreExpandable, some_body, expandable, refused_by, copied_length, head_is, some_interface, first_found, too_many_declared, too_many_inside, whole_body}
 use Rattle.sig_call.proofs.flat_body.inline_program.Goals as goal
 
 pub unreachable-requires : goal.unreachable-requires

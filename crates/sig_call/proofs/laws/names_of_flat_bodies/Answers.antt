@@ -1,5 +1,4 @@
-use Rattle.sig_call.proofs.Named.{names_differ}
-use Rattle.sig_call.proofs.Spelled.{all_spelled}
+use Rattle.sig_call.proofs.{names_differ, all_spelled}
 use Rattle.sig_call.proofs.laws.names_of_flat_bodies.Goals as goal
 
 pub returns : goal.returns

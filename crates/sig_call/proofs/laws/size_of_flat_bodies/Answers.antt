@@ -1,4 +1,4 @@
-use Rattle.sig_call.proofs.Size.{body_size, no_more}
+use Rattle.sig_call.proofs.{body_size, no_more}
 use Rattle.sig_call.proofs.laws.size_of_flat_bodies.Goals as goal
 
 pub returns-clause-weights : goal.returns-clause-weights

@@ -1,4 +1,4 @@
-use Rattle.sig_call.proofs.Existence.{some_body}
+use Rattle.sig_call.proofs.{some_body}
 use Rattle.sig_call.proofs.laws.some_flat_body.Goals as goal
 
 pub returns : goal.returns

@@ -1,6 +1,4 @@
-use Rattle.sig_call.proofs.Spelled.{all_processes_bounded, all_spelled}
-use Rattle.sig_call.proofs.Texts.{tree_of_text}
-use Rattle.sig_tree.specs.Declarations.{all_processes}
+use Rattle.sig_call.proofs.{all_processes_bounded, all_spelled, tree_of_text, all_processes}
 use Rattle.sig_call.proofs.laws.trees_of_texts.Goals as goal
 
 pub returns-clause-tree : goal.returns-clause-tree

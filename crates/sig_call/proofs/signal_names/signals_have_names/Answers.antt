@@ -1,4 +1,4 @@
-use Rattle.sig_call.proofs.SignalNaming.{named_body, nameable_text}
+use Rattle.sig_call.proofs.{named_body, nameable_text}
 use Rattle.sig_call.proofs.signal_names.signals_have_names.Goals as goal
 
 pub returns-clause-signals : goal.returns-clause-signals

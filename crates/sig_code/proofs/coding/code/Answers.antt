@@ -1,13 +1,4 @@
-use Rattle.std.proofs.Common.{◌≡◌, ◌∙◌, ◌+◌, ◌<◌, All, List, ap, length, subst, sym}
-use Rattle.sig_base.specs.declared.ids.OpId.{OpId}
-use Rattle.sig_plan.specs.declared.op.Op.{Op}
-use Rattle.sig_code.specs.Coding.{AreCodesOf}
-use Rattle.sig_code.specs.Turns.{parts_of}
-use Rattle.sig_code.proofs.Planning.{are_codes, no_cycle, order_within}
-use Rattle.sig_plan.specs.Codes.{instructions_of}
-use Rattle.sig_plan.specs.Operations.{operations_in}
-use Rattle.sig_plan.specs.Parts.{PartsView}
-use Rattle.sig_plan.specs.Plans.{numbers_of}
+use Rattle.sig_code.proofs.{◌≡◌, ◌∙◌, ◌+◌, ◌<◌, All, List, ap, length, subst, sym, OpId, Op, AreCodesOf, parts_of, are_codes, no_cycle, order_within, instructions_of, operations_in, PartsView, numbers_of}
 use Rattle.sig_code.proofs.coding.code.Goals as goal
 
 pub codes_of-requires-clause-within : goal.codes_of-requires-clause-within

@@ -1,5 +1,4 @@
-use Rattle.std.proofs.Common.{◌≡◌, map, take}
-use Rattle.sig_code.specs.Turns.{routes_of}
+use Rattle.sig_code.proofs.{◌≡◌, map, take, routes_of}
 use Rattle.sig_code.proofs.routes.routes_of_each.Given as goal
 
 abbrev pub invariant-loop-op : goal.invariant-loop-op

@@ -1,8 +1,4 @@
-use Rattle.std.proofs.Common.{[], ◌∷◌, refl, subst, sym}
-use Rattle.sig_code.specs.Coding.{Adds, AreHeld}
-use Rattle.sig_code.specs.Turns.{doing}
-use Rattle.sig_code.proofs.Going.{adds_step}
-use Rattle.sig_plan.specs.Codes.{CodeView}
+use Rattle.sig_code.proofs.{[], ◌∷◌, refl, subst, sym, Adds, AreHeld, doing, adds_step, CodeView}
 use Rattle.sig_code.proofs.slots.add.Goals as goal
 
 pub returns : goal.returns

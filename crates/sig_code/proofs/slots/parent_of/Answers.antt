@@ -1,5 +1,4 @@
-use Rattle.std.proofs.Common.{arith}
-use Rattle.sig_code.proofs.Parents.{none_more, parent_found}
+use Rattle.sig_code.proofs.{arith, none_more, parent_found}
 use Rattle.sig_code.proofs.slots.parent_of.Goals as goal
 
 pub returns-then-branch : goal.returns-then-branch

@@ -1,5 +1,4 @@
-use Rattle.std.proofs.Common.{ℕ, ◌<◌, ◌≤◌, length}
-use Rattle.sig_code.specs.Coding.{IsWithin}
+use Rattle.sig_code.proofs.{ℕ, ◌<◌, ◌≤◌, length, IsWithin}
 use Rattle.sig_code.proofs.slots.parent_of.Given as goal
 
 abbrev pub invariant-loop-number : goal.invariant-loop-number

@@ -1,8 +1,4 @@
-use Rattle.std.proofs.Common.{List, length, refl, inl, inr, subst, arith}
-use Rattle.sig_code.specs.Coding.{IsWithin}
-use Rattle.sig_code.proofs.Going.{none_found, slot_found}
-use Rattle.sig_plan.specs.Codes.{IsLastBelow}
-use Rattle.sig_plan.specs.declared.code.Slot.{Slot}
+use Rattle.sig_code.proofs.{List, length, refl, inl, inr, subst, arith, IsWithin, none_found, slot_found, IsLastBelow, Slot}
 use Rattle.sig_code.proofs.slots.slot_of.Goals as goal
 
 pub returns-in-Some : goal.returns-in-Some

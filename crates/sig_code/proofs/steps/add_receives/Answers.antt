@@ -1,5 +1,4 @@
-use Rattle.sig_code.specs.Turns.{doing, receiving}
-use Rattle.sig_code.proofs.Joining.{adds_chosen}
+use Rattle.sig_code.proofs.{doing, receiving, adds_chosen}
 use Rattle.sig_code.proofs.steps.add_receives.Goals as goal
 
 pub loop-route-preserved : goal.loop-route-preserved

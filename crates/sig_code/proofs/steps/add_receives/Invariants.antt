@@ -1,7 +1,4 @@
-use Rattle.std.proofs.Common.{map, take}
-use Rattle.std.specs.List.{filter_map}
-use Rattle.sig_code.specs.Coding.{Adds}
-use Rattle.sig_code.specs.Turns.{doing, receiving}
+use Rattle.sig_code.proofs.{map, take, filter_map, Adds, doing, receiving}
 use Rattle.sig_code.proofs.steps.add_receives.Given as goal
 
 abbrev pub invariant-loop-route : goal.invariant-loop-route

@@ -1,7 +1,4 @@
-use Rattle.std.proofs.Common.{arith}
-use Rattle.sig_code.specs.Turns.{doing, sending}
-use Rattle.sig_code.specs.declared.routes.Route.{Route}
-use Rattle.sig_code.proofs.Joining.{adds_each, all_added}
+use Rattle.sig_code.proofs.{arith, doing, sending, Route, adds_each, all_added}
 use Rattle.sig_code.proofs.steps.add_sends.Goals as goal
 
 pub loop-route-preserved : goal.loop-route-preserved

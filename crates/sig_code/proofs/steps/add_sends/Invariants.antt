@@ -1,6 +1,4 @@
-use Rattle.std.proofs.Common.{map, take}
-use Rattle.sig_code.specs.Coding.{Adds}
-use Rattle.sig_code.specs.Turns.{doing, sending}
+use Rattle.sig_code.proofs.{map, take, Adds, doing, sending}
 use Rattle.sig_code.proofs.steps.add_sends.Given as goal
 
 abbrev pub invariant-loop-route : goal.invariant-loop-route

@@ -1,7 +1,4 @@
-use Rattle.std.proofs.Common.{ℕ, List, ◌++◌, ◌∙◌, ap}
-use Rattle.sig_plan.specs.Codes.{CodeView}
-use Rattle.sig_code.specs.Texts.{actor_text}
-use Rattle.sig_code.proofs.Numbered.{lines_more}
+use Rattle.sig_code.proofs.{ℕ, List, ◌++◌, ◌∙◌, ap, CodeView, actor_text, lines_more}
 use Rattle.sig_code.proofs.text.put_actors.Goals as goal
 
 pub loop-actor-preserved : goal.loop-actor-preserved

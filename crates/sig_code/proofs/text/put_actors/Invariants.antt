@@ -1,6 +1,4 @@
-use Rattle.std.proofs.Common.{◌≡◌, ◌++◌, take}
-use Rattle.std.specs.List.{enumerate_from, flat_map}
-use Rattle.sig_code.specs.Texts.{actor_text}
+use Rattle.sig_code.proofs.{◌≡◌, ◌++◌, take, enumerate_from, flat_map, actor_text}
 use Rattle.sig_code.proofs.text.put_actors.Given as goal
 
 abbrev pub invariant-loop-actor : goal.invariant-loop-actor

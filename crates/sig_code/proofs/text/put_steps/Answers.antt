@@ -1,5 +1,4 @@
-use Rattle.sig_code.specs.Texts.{step_text}
-use Rattle.sig_code.proofs.Numbered.{lines_more}
+use Rattle.sig_code.proofs.{step_text, lines_more}
 use Rattle.sig_code.proofs.text.put_steps.Goals as goal
 
 pub loop-index-preserved : goal.loop-index-preserved

@@ -1,9 +1,4 @@
-use Rattle.std.proofs.Common.{inl, inr, refl}
-use Rattle.sig_outcome.specs.Outcomes.{done}
-use Rattle.sig_outcome.specs.Tasks.{SaysLine}
-use Rattle.sig_outcome.proofs.Performing.{performs_outcome, performs_refusal}
-use Rattle.sig_compile.specs.Compiling.{compiling}
-use Rattle.sig_compile.proofs.OneCompiling.{compile_number, one_compile_outcome}
+use Rattle.sig_compile.proofs.{inl, inr, refl, done, SaysLine, performs_outcome, performs_refusal, compiling, compile_number, one_compile_outcome}
 use Rattle.sig_compile.proofs.check.compile_command.Goals as goal
 
 pub returns-in-Ok : goal.returns-in-Ok

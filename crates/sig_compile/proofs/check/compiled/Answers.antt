@@ -1,11 +1,4 @@
-use Rattle.std.proofs.Common.{◌≤◌, ap, arith, length, refl}
-use Rattle.std.proofs.lemmas.Result.{err_from_is_err_and}
-use Rattle.sig_outcome.specs.Outcomes.{WritesDue}
-use Rattle.sig_outcome.proofs.OneFile.{reaches_text, stops_bytes, stops_unread}
-use Rattle.sig_outcome.proofs.Refused.{on_err, on_ok}
-use Rattle.sig_compile.specs.Acceptance.{AreRefused, IsAcceptedAs}
-use Rattle.sig_compile.specs.Compiling.{HoldsBeyondBound, IsBudget, IsCompileStatus, IsDueOf, IsPlanLine, LacksNodes}
-use Rattle.sig_compile.proofs.Rooms.{budget_number, holds_beyond, plan_line}
+use Rattle.sig_compile.proofs.{◌≤◌, ap, arith, length, refl, err_from_is_err_and, WritesDue, reaches_text, stops_bytes, stops_unread, on_err, on_ok, AreRefused, IsAcceptedAs, HoldsBeyondBound, IsBudget, IsCompileStatus, IsDueOf, IsPlanLine, LacksNodes, budget_number, holds_beyond, plan_line}
 use Rattle.sig_compile.proofs.check.compiled.Goals as goal
 
 pub returns-in_err-bytes-clause-stops : goal.returns-in_err-bytes-clause-stops

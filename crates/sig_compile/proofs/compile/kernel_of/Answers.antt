@@ -1,7 +1,4 @@
-use Rattle.std.proofs.Common.{false, refl}
-use Rattle.std.proofs.lemmas.Result.{err_from_is_err_and}
-use Rattle.sig_compile.specs.Acceptance.{HasKernel}
-use Rattle.sig_compile.proofs.Rooms.{refused_own}
+use Rattle.sig_compile.proofs.{false, refl, err_from_is_err_and, HasKernel, refused_own}
 use Rattle.sig_compile.proofs.compile.kernel_of.Goals as goal
 
 pub returns-in_err-own-clause-refused : goal.returns-in_err-own-clause-refused

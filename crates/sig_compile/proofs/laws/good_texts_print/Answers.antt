@@ -1,4 +1,4 @@
-use Rattle.sig_compile.proofs.Complete.{only_print, some_print}
+use Rattle.sig_compile.proofs.{only_print, some_print}
 use Rattle.sig_compile.proofs.laws.good_texts_print.Goals as goal
 
 pub returns-clause-only : goal.returns-clause-only

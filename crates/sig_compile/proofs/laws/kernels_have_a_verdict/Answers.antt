@@ -1,6 +1,4 @@
-use Rattle.std.proofs.Common.{◌<◌, ◌^◌, length, arith}
-use Rattle.sig_compile.proofs.Pacings.{told_or_paced}
-use Rattle.sig_compile.proofs.Verdicts.{with_verdict}
+use Rattle.sig_compile.proofs.{◌<◌, ◌^◌, length, arith, told_or_paced, with_verdict}
 use Rattle.sig_compile.proofs.laws.kernels_have_a_verdict.Goals as goal
 
 pub returns : goal.returns

@@ -1,4 +1,4 @@
-use Rattle.sig_compile.proofs.Verdicts.{program_apart, program_once}
+use Rattle.sig_compile.proofs.{program_apart, program_once}
 use Rattle.sig_compile.proofs.laws.one_verdict.Goals as goal
 
 pub returns-clause-apart : goal.returns-clause-apart

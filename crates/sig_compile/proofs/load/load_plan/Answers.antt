@@ -1,10 +1,4 @@
-use Rattle.std.proofs.Common.{◌≤◌, ap, arith, length}
-use Rattle.std.proofs.lemmas.Option.{IfSome_then}
-use Rattle.std.proofs.lemmas.Result.{err_from_is_err_and}
-use Rattle.sig_outcome.proofs.Refused.{about_bytes, budget_of, count_of_program, no_eight, on_err, refused_program, told}
-use Rattle.sig_compile.specs.Acceptance.{AreRefused, IsAcceptedAs}
-use Rattle.sig_compile.specs.Compiling.{HoldsBeyondBound, IsBudget, IsPlanLine, LacksNodes}
-use Rattle.sig_compile.proofs.Rooms.{budget_number, holds_beyond, plan_line}
+use Rattle.sig_compile.proofs.{◌≤◌, ap, arith, length, IfSome_then, err_from_is_err_and, about_bytes, budget_of, no_eight, on_err, refused_program, told, AreRefused, IsAcceptedAs, IsBudget, IsPlanLine, LacksNodes, budget_number, holds_beyond, plan_line}
 use Rattle.sig_compile.proofs.load.load_plan.Goals as goal
 
 pub returns-in_err-bytes-clause-budget : goal.returns-in_err-bytes-clause-budget

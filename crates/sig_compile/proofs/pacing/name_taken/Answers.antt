@@ -1,5 +1,4 @@
-use Rattle.sig_compile.proofs.Rooms.{refused_own, refused_taken}
-use Rattle.std.proofs.Common.{true}
+use Rattle.sig_compile.proofs.{refused_own, refused_taken, true}
 use Rattle.sig_compile.proofs.pacing.name_taken.Goals as goal
 
 pub returns-in-Ok : goal.returns-in-Ok

@@ -1,8 +1,4 @@
-use Rattle.std.proofs.Common.{◌<◌, ◌^◌, inl, length, refl, subst, arith}
-use Rattle.sig_kernel.specs.declared.kernel.Kernel.{Kernel}
-use Rattle.sig_pace.specs.Refusals.{IsNameTaken, IsPaceRefusal}
-use Rattle.sig_compile.proofs.Rooms.{no_pace_room, refused_many}
-use Rattle.sig_compile.proofs.Verdicts.{own_once}
+use Rattle.sig_compile.proofs.{inl, refl, subst, arith, Kernel, IsNameTaken, IsPaceRefusal, no_pace_room, refused_many, own_once}
 use Rattle.sig_compile.proofs.pacing.paced_over.Goals as goal
 
 pub pace-requires-clause-few : goal.pace-requires-clause-few

@@ -1,12 +1,4 @@
-use Rattle.std.proofs.Common.{◌≡◌, ◌≤◌, ap, arith, length}
-use Rattle.std.proofs.lemmas.Result.{err_from_is_err_and}
-use Rattle.sig_tree.specs.Grammar.{IsText}
-use Rattle.sig_print.specs.Canonical.{canonical_text}
-use Rattle.sig_outcome.specs.Outcomes.{done}
-use Rattle.sig_outcome.proofs.OneFile.{reaches_text, stops_bytes, stops_unread}
-use Rattle.sig_outcome.proofs.Refused.{on_err, on_ok}
-use Rattle.sig_compile.specs.Printing.{IsFrontLine, IsPrintStatus, RefusesText}
-use Rattle.sig_compile.proofs.Rooms.{front_text_line}
+use Rattle.sig_compile.proofs.{◌≡◌, ◌≤◌, ap, arith, length, err_from_is_err_and, IsText, canonical_text, done, reaches_text, stops_bytes, stops_unread, on_err, on_ok, IsFrontLine, IsPrintStatus, RefusesText, front_text_line}
 use Rattle.sig_compile.proofs.print.canonical.Goals as goal
 
 pub returns-in_err-bytes-clause-stops : goal.returns-in_err-bytes-clause-stops

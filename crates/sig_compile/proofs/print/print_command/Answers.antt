@@ -1,9 +1,4 @@
-use Rattle.std.proofs.Common.{inl, inr, refl}
-use Rattle.sig_outcome.specs.Outcomes.{done}
-use Rattle.sig_outcome.specs.Tasks.{SaysLine}
-use Rattle.sig_outcome.proofs.Performing.{performs_outcome, performs_refusal}
-use Rattle.sig_compile.specs.Printing.{printing}
-use Rattle.sig_compile.proofs.OneCompiling.{print_number, one_print_outcome}
+use Rattle.sig_compile.proofs.{inl, inr, refl, done, SaysLine, performs_outcome, performs_refusal, printing, print_number, one_print_outcome}
 use Rattle.sig_compile.proofs.print.print_command.Goals as goal
 
 pub returns-in-Ok : goal.returns-in-Ok

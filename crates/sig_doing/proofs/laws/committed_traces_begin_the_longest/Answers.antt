@@ -1,6 +1,5 @@
-use Rattle.sig_doing.proofs.Committed.{begins_longest}
+use Rattle.sig_doing.proofs.{begins_longest, text_prefix}
 use Rattle.sig_doing.proofs.laws.committed_traces_begin_the_longest.Goals as goal
-use Rattle.sig_kernel.proofs.TextLemmas.{text_prefix}
 
 pub returns-clause-trace : goal.returns-clause-trace
 returns-clause-trace c = λ plan. begins_longest plan.kernel

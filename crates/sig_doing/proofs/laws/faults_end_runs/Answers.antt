@@ -1,4 +1,4 @@
-use Rattle.sig_doing.proofs.Failing.{fault_end}
+use Rattle.sig_doing.proofs.{fault_end}
 use Rattle.sig_doing.proofs.laws.faults_end_runs.Goals as goal
 
 pub returns : goal.returns

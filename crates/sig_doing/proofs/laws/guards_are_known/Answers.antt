@@ -1,4 +1,4 @@
-use Rattle.sig_doing.proofs.Amid.{guard_known}
+use Rattle.sig_doing.proofs.{guard_known}
 use Rattle.sig_doing.proofs.laws.guards_are_known.Goals as goal
 
 pub returns : goal.returns

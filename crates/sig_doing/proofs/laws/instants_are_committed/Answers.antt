@@ -1,7 +1,4 @@
-use Rattle.sig_doing.specs.Doing.{instant_behind}
-use Rattle.std.proofs.Common.{◌++◌, ◌∷◌, []}
-use Rattle.sig_doing.proofs.Amid.{amid_alike}
-use Rattle.sig_doing.proofs.Committing.{committed_more, lines_are, next_amid, text_is}
+use Rattle.sig_doing.proofs.{instant_behind, ◌++◌, ◌∷◌, [], amid_alike, committed_more, lines_are, next_amid, text_is}
 use Rattle.sig_doing.proofs.laws.instants_are_committed.Goals as goal
 
 pub returns-clause-committed : goal.returns-clause-committed

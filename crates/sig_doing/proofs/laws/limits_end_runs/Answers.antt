@@ -1,4 +1,4 @@
-use Rattle.sig_doing.proofs.Committed.{limit_end}
+use Rattle.sig_doing.proofs.{limit_end}
 use Rattle.sig_doing.proofs.laws.limits_end_runs.Goals as goal
 
 pub returns : goal.returns

@@ -1,4 +1,4 @@
-use Rattle.sig_doing.proofs.Committed.{next_instant}
+use Rattle.sig_doing.proofs.{next_instant}
 use Rattle.sig_doing.proofs.laws.next_instants_exist.Goals as goal
 
 pub returns : goal.returns

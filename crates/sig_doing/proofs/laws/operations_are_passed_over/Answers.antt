@@ -1,6 +1,4 @@
-use Rattle.sig_doing.specs.Doing.{stepped}
-use Rattle.sig_doing.proofs.Amid.{amid_alike}
-use Rattle.sig_doing.proofs.Passing.{passed_over}
+use Rattle.sig_doing.proofs.{stepped, amid_alike, passed_over}
 use Rattle.sig_doing.proofs.laws.operations_are_passed_over.Goals as goal
 
 pub returns : goal.returns

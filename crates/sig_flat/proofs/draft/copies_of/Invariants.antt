@@ -1,4 +1,4 @@
-use Rattle.std.proofs.Common.{◌≡◌, take}
+use Rattle.sig_flat.proofs.{◌≡◌, take}
 use Rattle.sig_flat.proofs.draft.copies_of.Given as goal
 
 abbrev pub invariant-loop-signal : goal.invariant-loop-signal

@@ -1,9 +1,4 @@
-use Rattle.std.proofs.Common.{arith}
-use Rattle.std.proofs.lemmas.Grind.{common_steps}
-use Rattle.sig_tree.specs.FlatSyntax.{flat_expression_of}
-use Rattle.sig_flat.specs.Drafts.{left_of}
-use Rattle.sig_flat.proofs.Binaries.{binary_is, ok_then}
-use Rattle.sig_flat.proofs.Sizes.{cell_no_less}
+use Rattle.sig_flat.proofs.{arith, common_steps, flat_expression_of, left_of, binary_is, ok_then, cell_no_less}
 use Rattle.sig_flat.proofs.expression.+translate.Goals as goal
 
 pub returns-in_ok-v-in-Binary-clause-made : goal.returns-in_ok-v-in-Binary-clause-made

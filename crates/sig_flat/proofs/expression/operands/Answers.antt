@@ -1,6 +1,4 @@
-use Rattle.std.proofs.Common.{arith}
-use Rattle.std.proofs.lemmas.Grind.{common_steps}
-use Rattle.sig_flat.proofs.Sizes.{operand_left}
+use Rattle.sig_flat.proofs.{arith, common_steps, operand_left}
 use Rattle.sig_flat.proofs.expression.operands.Goals as goal
 
 pub returns-in_err-x-clause-refused : goal.returns-in_err-x-clause-refused

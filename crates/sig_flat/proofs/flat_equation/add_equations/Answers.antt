@@ -1,6 +1,4 @@
-use Rattle.std.proofs.Common.{arith}
-use Rattle.std.proofs.lemmas.Grind.{common_steps}
-use Rattle.sig_flat.proofs.Sizes.{equation_left}
+use Rattle.sig_flat.proofs.{arith, common_steps, equation_left}
 use Rattle.sig_flat.proofs.flat_equation.add_equations.Goals as goal
 
 pub returns-in_err-add_equation-clause-refused : goal.returns-in_err-add_equation-clause-refused

@@ -1,7 +1,5 @@
 -- those so far were added, and the others are left
-use Rattle.std.proofs.Common.{◌≡◌, drop, map}
-use Rattle.sig_tree.specs.FlatSyntax.{flat_equation_of}
-use Rattle.sig_flat.specs.KernelOf.{with_flat_equations}
+use Rattle.sig_flat.proofs.{◌≡◌, drop, map, flat_equation_of, with_flat_equations}
 use Rattle.sig_flat.proofs.flat_equation.add_equations.Given as goal
 
 abbrev pub invariant-loop-equation : goal.invariant-loop-equation

@@ -1,7 +1,5 @@
 -- those so far were added, and the others are left
-use Rattle.std.proofs.Common.{◌≡◌, drop}
-use Rattle.sig_flat.specs.KernelOf.{with_all_syncs}
-use Rattle.sig_flat.proofs.Stepping.{syncs_after}
+use Rattle.sig_flat.proofs.{◌≡◌, drop, with_all_syncs, syncs_after}
 use Rattle.sig_flat.proofs.flat_equation.add_syncs.Given as goal
 
 abbrev pub invariant-loop-next : goal.invariant-loop-next

@@ -1,4 +1,4 @@
-use Rattle.sig_flat.proofs.Meeting.{plus_row, meet_row, less_row, cell_row}
+use Rattle.sig_flat.proofs.{plus_row, meet_row, less_row, cell_row}
 use Rattle.sig_flat.proofs.laws.derived_equations_mean_operators.Goals as goal
 
 pub returns-clause-plus : goal.returns-clause-plus

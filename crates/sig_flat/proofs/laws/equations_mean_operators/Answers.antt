@@ -1,5 +1,4 @@
-use Rattle.sig_flat.proofs.Meeting.{one_row, both_row, delay_row, when_row, constant_row, default_row, clock_row}
-use Rattle.std.proofs.Common.{pos}
+use Rattle.sig_flat.proofs.{one_row, both_row, delay_row, when_row, constant_row, default_row, clock_row, pos}
 use Rattle.sig_flat.proofs.laws.equations_mean_operators.Goals as goal
 
 pub returns-clause-one : goal.returns-clause-one

@@ -1,4 +1,4 @@
-use Rattle.sig_flat.proofs.Parts.{parts, same_inputs}
+use Rattle.sig_flat.proofs.{parts, same_inputs}
 use Rattle.sig_flat.proofs.laws.kernels_have_their_parts.Goals as goal
 
 pub returns-clause-parts : goal.returns-clause-parts

@@ -1,4 +1,4 @@
-use Rattle.sig_flat.proofs.Growing.{begins}
+use Rattle.sig_flat.proofs.{begins}
 use Rattle.sig_flat.proofs.laws.kernels_keep_signals.Goals as goal
 
 -- src/laws.rt:10:1

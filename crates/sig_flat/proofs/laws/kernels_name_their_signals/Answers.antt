@@ -1,5 +1,4 @@
-use Rattle.sig_flat.proofs.Naming.{within}
-use Rattle.sig_flat.proofs.Speaking.{speak}
+use Rattle.sig_flat.proofs.{within, speak}
 use Rattle.sig_flat.proofs.laws.kernels_name_their_signals.Goals as goal
 
 pub returns-clause-within : goal.returns-clause-within

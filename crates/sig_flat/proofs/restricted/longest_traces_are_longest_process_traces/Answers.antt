@@ -1,8 +1,4 @@
-use Rattle.sig_base.specs.Traces.{Bounded}
-use Rattle.sig_tree.specs.WellMade.{IsWellMade}
-use Rattle.sig_flat.specs.KernelOf.{kernel_of}
-use Rattle.sig_tree.specs.FlatSyntax.{FlatBody}
-use Rattle.sig_flat.proofs.Restricting.{Known, longest_extended, longest_restricted}
+use Rattle.sig_flat.proofs.{Bounded, IsWellMade, kernel_of, FlatBody, Known, longest_extended, longest_restricted}
 use Rattle.sig_flat.proofs.restricted.longest_traces_are_longest_process_traces.Goals as goal
 
 known : (c : goal.After-kernel_traces_are_process_traces) → (flat : FlatBody) → IsWellMade flat → Known flat

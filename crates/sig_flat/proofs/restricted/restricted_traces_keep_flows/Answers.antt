@@ -1,4 +1,4 @@
-use Rattle.sig_flat.proofs.Restricting.{fits_restricted, flow_restricted, text_restricted}
+use Rattle.sig_flat.proofs.{fits_restricted, flow_restricted, text_restricted}
 use Rattle.sig_flat.proofs.restricted.restricted_traces_keep_flows.Goals as goal
 
 pub returns-clause-flow : goal.returns-clause-flow

@@ -1,4 +1,4 @@
-use Rattle.sig_flat.proofs.Tracing.{process_trace, kernel_trace, one_kernel_trace, ReadByInstants}
+use Rattle.sig_flat.proofs.{process_trace, kernel_trace, one_kernel_trace, ReadByInstants}
 use Rattle.sig_flat.proofs.traces.kernel_traces_are_process_traces.Goals as goal
 
 read : goal.After-equations_step → ReadByInstants

@@ -1,4 +1,4 @@
-use Rattle.sig_flat.proofs.FewEquations.{few_equations}
+use Rattle.sig_flat.proofs.{few_equations}
 use Rattle.sig_flat.proofs.valid.kernels_have_few_equations.Goals as goal
 
 pub returns : goal.returns

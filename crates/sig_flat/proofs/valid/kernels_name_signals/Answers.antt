@@ -1,4 +1,4 @@
-use Rattle.sig_flat.proofs.SignalNames.{signals_named}
+use Rattle.sig_flat.proofs.{signals_named}
 use Rattle.sig_flat.proofs.valid.kernels_name_signals.Goals as goal
 
 pub returns : goal.returns

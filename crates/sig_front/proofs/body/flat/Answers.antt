@@ -1,8 +1,4 @@
-use Rattle.sig_tree.specs.FlatSyntax.{flat_body_of}
-use Rattle.sig_front.specs.Flats.{IsFlatText, IsNoFlatText}
-use Rattle.sig_front.proofs.Given.{given, refused}
-use Rattle.sig_front.proofs.OneFlat.{flat_once, no_flat_once, flat_or_refusal}
-use Rattle.sig_front.proofs.SmallBodies.{names, small}
+use Rattle.sig_front.proofs.{flat_body_of, IsFlatText, IsNoFlatText, given, refused, flat_once, no_flat_once, flat_or_refusal, names, small}
 use Rattle.sig_front.proofs.body.flat.Goals as goal
 
 pub returns-clause-given : goal.returns-clause-given

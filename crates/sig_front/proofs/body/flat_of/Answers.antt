@@ -1,9 +1,4 @@
-use Rattle.std.proofs.Common.{◌≡◌, ◌⊎◌, sym, subst}
-use Rattle.std.proofs.lemmas.Result.{err_from_is_err_and}
-use Rattle.sig_tree.specs.Syntax.{program_of}
-use Rattle.sig_front.specs.Flats.{IsNoFlatText}
-use Rattle.sig_front.specs.declared.answer.FrontAnswer.{FrontAnswer}
-use Rattle.sig_front.specs.declared.answer.FrontAnswer.TheVariants.{OutOfMemory}
+use Rattle.sig_front.proofs.{◌≡◌, ◌⊎◌, sym, subst, err_from_is_err_and, program_of, IsNoFlatText, FrontAnswer, OutOfMemory}
 use Rattle.sig_front.proofs.body.flat_of.Goals as goal
 
 pub returns-in_err-typed-clause-fault : goal.returns-in_err-typed-clause-fault

@@ -1,7 +1,4 @@
-use Rattle.sig_front.specs.Kernels.{IsKernelText, IsNoKernelText}
-use Rattle.sig_front.proofs.Given.{given, refused}
-use Rattle.sig_front.proofs.OneKernel.{kernel_once, kernel_or_refusal, no_kernel_once}
-use Rattle.sig_front.proofs.Results.{of_ok}
+use Rattle.sig_front.proofs.{IsKernelText, IsNoKernelText, given, refused, kernel_once, kernel_or_refusal, no_kernel_once, of_ok}
 use Rattle.sig_front.proofs.kernel.front.Goals as goal
 
 pub returns-clause-valid : goal.returns-clause-valid

@@ -1,4 +1,4 @@
-use Rattle.sig_front.proofs.OneFlat.{flat_once, no_flat_once, flat_or_refusal}
+use Rattle.sig_front.proofs.{flat_once, no_flat_once, flat_or_refusal}
 use Rattle.sig_front.proofs.laws.one_flat_text.Goals as goal
 
 pub returns-clause-flat : goal.returns-clause-flat

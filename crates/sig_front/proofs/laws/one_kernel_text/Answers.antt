@@ -1,4 +1,4 @@
-use Rattle.sig_front.proofs.OneKernel.{kernel_once, no_kernel_once, kernel_or_refusal}
+use Rattle.sig_front.proofs.{kernel_once, no_kernel_once, kernel_or_refusal}
 use Rattle.sig_front.proofs.laws.one_kernel_text.Goals as goal
 
 pub returns-clause-kernel : goal.returns-clause-kernel

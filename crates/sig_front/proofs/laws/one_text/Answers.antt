@@ -1,4 +1,4 @@
-use Rattle.sig_front.proofs.OneText.{tree_once, refusal_once, tree_or_refusal}
+use Rattle.sig_front.proofs.{tree_once, refusal_once, tree_or_refusal}
 use Rattle.sig_front.proofs.laws.one_text.Goals as goal
 
 pub returns-clause-tree : goal.returns-clause-tree

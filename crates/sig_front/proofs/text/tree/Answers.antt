@@ -1,8 +1,4 @@
-use Rattle.sig_tree.specs.Grammar.{IsText}
-use Rattle.sig_tree.specs.Syntax.{program_of}
-use Rattle.sig_front.specs.Texts.{IsNoText}
-use Rattle.sig_front.proofs.Given.{given, refused}
-use Rattle.sig_front.proofs.OneText.{tree_once, refusal_once, tree_or_refusal}
+use Rattle.sig_front.proofs.{IsText, program_of, IsNoText, given, refused, tree_once, refusal_once, tree_or_refusal}
 use Rattle.sig_front.proofs.text.tree.Goals as goal
 
 pub returns-clause-given : goal.returns-clause-given

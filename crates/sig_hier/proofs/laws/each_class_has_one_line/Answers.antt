@@ -1,4 +1,4 @@
-use Rattle.sig_hier.proofs.Once.{once}
+use Rattle.sig_hier.proofs.{once}
 use Rattle.sig_hier.proofs.laws.each_class_has_one_line.Goals as goal
 
 pub returns : goal.returns

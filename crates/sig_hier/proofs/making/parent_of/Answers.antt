@@ -1,5 +1,4 @@
-use Rattle.std.proofs.Common.{arith}
-use Rattle.sig_hier.proofs.TreeLemmas.{none_more, parent_found}
+use Rattle.sig_hier.proofs.{arith, none_more, parent_found}
 use Rattle.sig_hier.proofs.making.parent_of.Goals as goal
 
 pub returns-then-branch : goal.returns-then-branch

@@ -1,5 +1,4 @@
-use Rattle.std.proofs.Common.{ℕ, ◌<◌, ◌≤◌}
-use Rattle.sig_hier.specs.Trees.{IsWithin}
+use Rattle.sig_hier.proofs.{ℕ, ◌<◌, ◌≤◌, IsWithin}
 use Rattle.sig_hier.proofs.making.parent_of.Given as goal
 
 abbrev pub invariant-loop-other : goal.invariant-loop-other

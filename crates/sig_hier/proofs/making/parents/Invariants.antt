@@ -1,4 +1,4 @@
-use Rattle.sig_hier.specs.Trees.{AreParents}
+use Rattle.sig_hier.proofs.{AreParents}
 use Rattle.sig_hier.proofs.making.parents.Given as goal
 
 abbrev pub invariant-loop-class : goal.invariant-loop-class

@@ -1,8 +1,5 @@
-use Rattle.std.proofs.Common.{◌≡◌, ◌∙◌, List, ap, arith, length, subst}
-use Rattle.sig_dd.specs.declared.node.Ref.{Ref}
-use Rattle.sig_hier.proofs.TreeLemmas.{few_classes, parents_are_tree}
+use Rattle.sig_hier.proofs.{◌≡◌, ◌∙◌, List, ap, arith, length, subst, Ref, few_classes, parents_are_tree, AreParents}
 use Rattle.sig_hier.proofs.making.tree.Goals as goal
-use Rattle.sig_hier.specs.Trees.{AreParents}
 
 pub parents-requires-clause-fits : goal.parents-requires-clause-fits
 parents-requires-clause-fits c =

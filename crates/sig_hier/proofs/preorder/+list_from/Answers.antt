@@ -1,6 +1,4 @@
-use Rattle.std.proofs.Common.{true, false, ap, sym, ◌∙◌, arith}
-use Rattle.std.proofs.lemmas.List.{append-nil}
-use Rattle.sig_hier.proofs.PreorderLemmas.{below_all, below_more}
+use Rattle.sig_hier.proofs.{true, false, ap, sym, ◌∙◌, arith, append-nil, below_all, below_more}
 use Rattle.sig_hier.proofs.preorder.+list_from.Goals as goal
 use Rattle.sig_hier.proofs.preorder.+list_from.Goals.{then-is_parent+in_ok-list_from, else-is_parent}
 

@@ -1,5 +1,4 @@
-use Rattle.std.proofs.Common.{◌≡◌, ◌++◌}
-use Rattle.sig_hier.proofs.PreorderLemmas.{below}
+use Rattle.sig_hier.proofs.{◌≡◌, ◌++◌, below}
 use Rattle.sig_hier.proofs.preorder.+list_from.Given as goal
 
 abbrev pub decreases-list_from : goal.decreases-list_from

@@ -1,6 +1,4 @@
-use Rattle.std.proofs.Common.{◌≡◌, take}
-use Rattle.std.specs.List.{flat_map}
-use Rattle.sig_hier.specs.Texts.{line_text}
+use Rattle.sig_hier.proofs.{◌≡◌, take, flat_map, line_text}
 use Rattle.sig_hier.proofs.text.tree_text.Given as goal
 
 abbrev pub invariant-loop-line : goal.invariant-loop-line

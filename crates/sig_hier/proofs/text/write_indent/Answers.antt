@@ -1,5 +1,4 @@
-use Rattle.std.proofs.Common.{◌++◌, [], ◌∷◌, ap, ◌∙◌}
-use Rattle.sig_hier.proofs.TextLemmas.{indent_more}
+use Rattle.sig_hier.proofs.{◌++◌, [], ◌∷◌, ap, ◌∙◌, indent_more}
 use Rattle.sig_hier.proofs.text.write_indent.Goals as goal
 
 pub loop-level-preserved : goal.loop-level-preserved

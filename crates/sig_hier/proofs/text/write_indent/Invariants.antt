@@ -1,5 +1,4 @@
-use Rattle.std.proofs.Common.{◌≡◌, ◌++◌}
-use Rattle.sig_hier.specs.Texts.{indent}
+use Rattle.sig_hier.proofs.{◌≡◌, ◌++◌, indent}
 use Rattle.sig_hier.proofs.text.write_indent.Given as goal
 
 abbrev pub invariant-loop-level : goal.invariant-loop-level

@@ -1,5 +1,4 @@
-use Rattle.std.proofs.Common.{◌≡◌, ◌++◌, take}
-use Rattle.sig_hier.specs.Texts.{others_text}
+use Rattle.sig_hier.proofs.{◌≡◌, ◌++◌, take, others_text}
 use Rattle.sig_hier.proofs.text.write_others.Given as goal
 
 abbrev pub invariant-loop-other : goal.invariant-loop-other

@@ -1,11 +1,4 @@
-use Rattle.std.proofs.Common.{◌≡◌, ◌<◌, length, get_or, subst, ◌∙◌, arith, get_or-set_other}
-use Rattle.std.proofs.lemmas.List.{length-set}
-use Rattle.sig_tree.specs.FlatSyntax.{FlatEquation}
-use Rattle.sig_tree.specs.Steps.{EquationSteps}
-use Rattle.sig_judge.specs.Nodes.{equation_of}
-use Rattle.sig_judge.specs.declared.equation.Equation.{Equation}
-use Rattle.sig_judge.proofs.BreakLemmas.{breaks_here}
-use Rattle.sig_judge.proofs.ZipLemmas.{zip_more}
+use Rattle.sig_judge.proofs.{◌≡◌, ◌<◌, length, get_or, subst, ◌∙◌, arith, get_or-set_other, length-set, FlatEquation, EquationSteps, equation_of, Equation, breaks_here, zip_more}
 use Rattle.sig_judge.proofs.body.first_broken.Goals as goal
 
 pub returns-then-not-step-clause-some : goal.returns-then-not-step-clause-some

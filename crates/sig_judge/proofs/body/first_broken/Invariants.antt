@@ -1,8 +1,5 @@
 -- those so far hold, and the others are as they were
-use Rattle.std.proofs.Common.{◌≡◌, ◌≤◌, ℕ, length, map, take, get_or}
-use Rattle.sig_tree.specs.Steps.{BodySteps}
-use Rattle.sig_judge.specs.declared.equation.Equation.{Equation}
-use Rattle.sig_judge.specs.Nodes.{equation_of}
+use Rattle.sig_judge.proofs.{◌≡◌, ◌≤◌, ℕ, length, map, take, get_or, BodySteps, Equation, equation_of}
 use Rattle.sig_judge.proofs.body.first_broken.Given as goal
 
 abbrev pub invariant-loop-i : goal.invariant-loop-i

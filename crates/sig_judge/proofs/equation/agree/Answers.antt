@@ -1,12 +1,4 @@
-use Rattle.std.proofs.Common.{◌≡◌, ◌<◌, ◌≤◌, ◌⊎◌, true, false, List, None, Some, length, map, take, get_or, sym, ap, subst, ◌∙◌, arith, inr, get_or-set_other}
-use Rattle.std.proofs.lemmas.List.{length-map, take_all, length-set}
-use Rattle.std.proofs.Math.ListN.{get_or-map}
-use Rattle.std.specs.List.{AllZip}
-use Rattle.sig_tree.specs.FlatSyntax.{FlatExpression}
-use Rattle.sig_judge.specs.Decides.{HasPresence}
-use Rattle.sig_judge.specs.Nodes.{node_expression}
-use Rattle.sig_judge.specs.declared.node.Node.{Node}
-use Rattle.sig_judge.proofs.ZipLemmas.{AgreesWith, none_agrees, disagreed, all_agree, one_more, zip_same, zip_more}
+use Rattle.sig_judge.proofs.{◌≡◌, ◌<◌, ◌≤◌, ◌⊎◌, true, false, List, None, Some, length, map, take, get_or, sym, ap, subst, ◌∙◌, arith, inr, get_or-set_other, length-map, take_all, length-set, get_or-map, AllZip, FlatExpression, HasPresence, node_expression, Node, AgreesWith, none_agrees, disagreed, all_agree, one_more, zip_same, zip_more}
 use Rattle.sig_judge.proofs.equation.agree.Goals as goal
 
 pub returns-in_default : goal.returns-in_default

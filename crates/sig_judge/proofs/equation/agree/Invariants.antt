@@ -1,9 +1,5 @@
 -- those so far agree, and the others are as they were
-use Rattle.std.proofs.Common.{◌≡◌, ◌<◌, ◌≤◌, ◌⊎◌, ℕ, None, length, map, take, get_or}
-use Rattle.std.specs.List.{AllZip}
-use Rattle.sig_judge.specs.declared.node.Node.{Node}
-use Rattle.sig_judge.specs.Nodes.{node_expression}
-use Rattle.sig_judge.proofs.ZipLemmas.{AgreesWith}
+use Rattle.sig_judge.proofs.{◌≡◌, ◌<◌, ◌≤◌, ◌⊎◌, ℕ, None, length, map, take, get_or, AllZip, Node, node_expression, AgreesWith}
 use Rattle.sig_judge.proofs.equation.agree.Given as goal
 
 abbrev pub invariant-loop-i : goal.invariant-loop-i

@@ -1,7 +1,5 @@
 -- those so far are kept
-use Rattle.std.proofs.Common.{◌≡◌, map, take}
-use Rattle.sig_tree.specs.FlatSyntax.{flat_expression_of}
-use Rattle.sig_judge.specs.Nodes.{node_expression}
+use Rattle.sig_judge.proofs.{◌≡◌, map, take, flat_expression_of, node_expression}
 use Rattle.sig_judge.proofs.equation.nodes_of.Given as goal
 
 abbrev pub invariant-loop-operand : goal.invariant-loop-operand

@@ -1,9 +1,5 @@
-use Rattle.std.proofs.Common.{Some, sym, subst}
-use Rattle.std.proofs.lemmas.Int.{to_z-of_z}
-use Rattle.std.specs.Int.{w64}
-use Rattle.sig_tree.specs.declared.expr.BinOp.{BinOp}
-use Rattle.sig_tree.specs.Operators.{Combines, Signal}
-use Rattle.sig_judge.specs.Decides.{DecidesValue}
+use Rattle.sig_judge.proofs.{Some, sym, subst, to_z-of_z, w64, BinOp, Combines, DecidesValue}
+use Rattle.sig_tree.specs.Operators.{Signal}
 use Rattle.sig_judge.proofs.function.function_of_two.Goals as goal
 
 pub returns-in-Mod : goal.returns-in-Mod

@@ -1,9 +1,4 @@
-use Rattle.std.proofs.Common.{◌≡◌, ℤ, pos, Some, ap, ◌∙◌, rules}
-use Rattle.std.proofs.lemmas.Int.{to_z-of_z}
-use Rattle.std.specs.Int.{w64}
-use Rattle.std.specs.Prelude.{FitsSigned, int_rem}
-use Rattle.std.specs.Int.{cast_unsigned}
-use Rattle.sig_judge.proofs.FunctionRows.{remainder_is}
+use Rattle.sig_judge.proofs.{◌≡◌, ℤ, pos, Some, ap, ◌∙◌, rules, to_z-of_z, w64, FitsSigned, int_rem, cast_unsigned, remainder_is}
 use Rattle.sig_judge.proofs.function.remainder.Goals as goal
 
 pub returns-else-divisor-eq0 : goal.returns-else-divisor-eq0

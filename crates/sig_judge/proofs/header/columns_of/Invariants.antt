@@ -1,5 +1,5 @@
 -- the places so far are there
-use Rattle.std.proofs.Common.{◌≡◌, Some, map, take}
+use Rattle.sig_judge.proofs.{◌≡◌, Some, map, take}
 use Rattle.sig_judge.proofs.header.columns_of.Given as goal
 
 abbrev pub invariant-loop-place : goal.invariant-loop-place

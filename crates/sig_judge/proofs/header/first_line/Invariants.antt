@@ -1,6 +1,5 @@
 -- the lines so far are blank
-use Rattle.std.proofs.Common.{◌≡◌, ◌≤◌, ◌+◌, length}
-use Rattle.sig_judge.proofs.HeaderLines.{body_from}
+use Rattle.sig_judge.proofs.{◌≡◌, ◌≤◌, ◌+◌, length, body_from}
 use Rattle.sig_judge.proofs.header.first_line.Given as goal
 
 abbrev pub invariant-loop-rest : goal.invariant-loop-rest

@@ -1,14 +1,4 @@
-use Rattle.std.proofs.Common.{◌≡◌, ◌<◌, ◌+◌, ◌++◌, ◌∙◌, ℕ, [], ◌∷◌, None, Some, true, get_or, length, map, set, inr, sym, ap, subst, arith, is_some, rules}
-use Rattle.std.proofs.lemmas.List.{get_or_default}
-use Rattle.std.specs.List.{list_all}
-use Rattle.sig_base.specs.declared.signal.Signal.{Signal}
-use Rattle.sig_flow.specs.Flows.{is_line_byte}
-use Rattle.sig_flow.specs.NextWords.{word_of, words_behind}
-use Rattle.sig_flow.specs.Words.{words_from}
-use Rattle.sig_flow.proofs.InputLemmas.{nobody}
-use Rattle.sig_judge.specs.Headers.{Named}
-use Rattle.sig_judge.proofs.HeaderFaults.{no_header, good_header}
-use Rattle.sig_judge.proofs.HeaderNames.{nothing_there, twice_named, not_named, named_on, all_named, kinds_named_all, columns_all}
+use Rattle.sig_judge.proofs.{◌≡◌, ◌<◌, ◌+◌, ◌++◌, ◌∙◌, ℕ, [], ◌∷◌, None, Some, true, get_or, length, map, set, inr, sym, ap, subst, arith, is_some, rules, get_or_default, list_all, Signal, is_line_byte, word_of, words_behind, words_from, nobody, Named, no_header, good_header, nothing_there, twice_named, not_named, named_on, all_named, kinds_named_all, columns_all}
 use Rattle.sig_judge.proofs.header.header_of.Goals as goal
 
 pub returns-then-is_some-clause-fault : goal.returns-then-is_some-clause-fault

@@ -1,6 +1,5 @@
 -- what the names so far say
-use Rattle.std.proofs.Common.{◌≤◌, ◌+◌, length}
-use Rattle.sig_judge.specs.Headers.{Named}
+use Rattle.sig_judge.proofs.{◌≤◌, ◌+◌, length, Named}
 use Rattle.sig_judge.proofs.header.header_of.Given as goal
 
 abbrev pub invariant-loop-next : goal.invariant-loop-next

@@ -1,4 +1,4 @@
-use Rattle.std.proofs.Common.{◌≡◌, ℕ, None, vec_len, get_or}
+use Rattle.sig_judge.proofs.{◌≡◌, ℕ, None, vec_len, get_or}
 use Rattle.sig_judge.proofs.header.no_places.Given as goal
 
 abbrev pub invariant-loop : goal.invariant-loop

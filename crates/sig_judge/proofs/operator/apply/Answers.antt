@@ -1,8 +1,4 @@
-use Rattle.std.proofs.Common.{rules}
-use Rattle.std.proofs.lemmas.Int.{to_z-of_z}
-use Rattle.std.specs.Int.{w64}
-use Rattle.std.specs.Prelude.{FitsSigned}
-use Rattle.sig_judge.proofs.FunctionRows.{both_given}
+use Rattle.sig_judge.proofs.{rules, to_z-of_z, w64, FitsSigned, both_given}
 use Rattle.sig_judge.proofs.operator.apply.Goals as goal
 
 pub returns-in-Value-Value : goal.returns-in-Value-Value

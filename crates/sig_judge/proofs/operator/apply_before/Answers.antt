@@ -1,8 +1,4 @@
-use Rattle.std.proofs.Common.{sym, ◌∙◌, rules}
-use Rattle.std.proofs.lemmas.Int.{to_z-of_z}
-use Rattle.std.specs.Int.{w64}
-use Rattle.std.specs.Prelude.{FitsSigned}
-use Rattle.sig_judge.proofs.FunctionRows.{behind_given}
+use Rattle.sig_judge.proofs.{sym, ◌∙◌, rules, to_z-of_z, w64, FitsSigned, behind_given}
 use Rattle.sig_judge.proofs.operator.apply_before.Goals as goal
 
 pub returns-in-Value : goal.returns-in-Value

@@ -1,11 +1,5 @@
-use Rattle.std.proofs.Common.{sym, subst, rules}
-use Rattle.std.proofs.lemmas.Int.{to_z-of_z}
-use Rattle.std.specs.Int.{w64}
-use Rattle.std.specs.Prelude.{FitsSigned}
-use Rattle.sig_tree.specs.Operators.{Combines, Constant, Signal}
-use Rattle.sig_judge.specs.Decides.{DecidesSeen, operand_of}
-use Rattle.sig_judge.specs.Rows.{seen_of}
-use Rattle.sig_judge.specs.declared.operator.Found.{Found}
+use Rattle.sig_judge.proofs.{sym, subst, rules, to_z-of_z, w64, FitsSigned, Combines, Constant, DecidesSeen, operand_of, seen_of, Found}
+use Rattle.sig_tree.specs.Operators.{Signal}
 use Rattle.sig_judge.proofs.operator.combine.Goals as goal
 
 pub returns-in-Constant-y : goal.returns-in-Constant-y

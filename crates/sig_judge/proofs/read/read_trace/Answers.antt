@@ -1,4 +1,4 @@
-use Rattle.sig_judge.proofs.ReadLemmas.{given, refused}
+use Rattle.sig_judge.proofs.{given, refused}
 use Rattle.sig_judge.proofs.read.read_trace.Goals as goal
 
 pub returns-clause-given : goal.returns-clause-given

@@ -1,10 +1,4 @@
-use Rattle.std.proofs.Common.{◌≡◌, ◌⊎◌, sym, subst}
-use Rattle.std.proofs.lemmas.Result.{err_from_is_err_and}
-use Rattle.sig_judge.specs.declared.trace_answer.TraceAnswer.{TraceAnswer}
-use Rattle.sig_judge.specs.declared.trace_answer.TraceAnswer.TheVariants.{OutOfMemory}
-use Rattle.sig_judge.specs.Headers.{body_behind}
-use Rattle.sig_judge.specs.TraceFiles.{IsFirstBadPlace, IsTraceFile}
-use Rattle.sig_judge.proofs.ReadLemmas.{a_trace, a_bad_header, a_bad_row, kinds_of_file}
+use Rattle.sig_judge.proofs.{◌≡◌, ◌⊎◌, sym, subst, err_from_is_err_and, TraceAnswer, OutOfMemory, body_behind, IsFirstBadPlace, IsTraceFile, a_trace, a_bad_header, a_bad_row, kinds_of_file}
 use Rattle.sig_judge.proofs.read.trace_of.Goals as goal
 
 pub returns-in_err-header-clause-fault : goal.returns-in_err-header-clause-fault

@@ -1,5 +1,4 @@
-use Rattle.std.proofs.Common.{◌≡◌, None, map, take, get_or}
-use Rattle.sig_judge.specs.Rows.{seen_of}
+use Rattle.sig_judge.proofs.{◌≡◌, None, map, take, get_or, seen_of}
 use Rattle.sig_judge.proofs.row.arranged.Given as goal
 
 abbrev pub invariant-loop-column : goal.invariant-loop-column

@@ -1,7 +1,4 @@
-use Rattle.std.proofs.Common.{◌≡◌, ◌+◌, ◌++◌, ◌∙◌, [], ◌∷◌, length, ap, arith, rules, length-append}
-use Rattle.sig_flow.specs.NextWords.{word_of, words_behind}
-use Rattle.sig_flow.specs.Words.{words_from}
-use Rattle.sig_judge.proofs.RowLemmas.{cells_on, said_on}
+use Rattle.sig_judge.proofs.{◌≡◌, ◌+◌, ◌++◌, ◌∙◌, [], ◌∷◌, length, ap, arith, rules, length-append, word_of, words_behind, words_from, cells_on, said_on}
 use Rattle.sig_judge.proofs.row.cells_in.Goals as goal
 
 pub loop-next-preserved : goal.loop-next-preserved

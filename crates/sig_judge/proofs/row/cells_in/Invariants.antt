@@ -1,8 +1,5 @@
 -- what is read and what is left are the whole line
-use Rattle.std.proofs.Common.{◌≡◌, ◌≤◌, ◌+◌, ◌++◌, length, map, drop}
-use Rattle.sig_flow.specs.Words.{words_from, words_of}
-use Rattle.sig_judge.specs.Rows.{seen_of}
-use Rattle.sig_judge.specs.TraceFiles.{cells_fault, cells_said}
+use Rattle.sig_judge.proofs.{◌≡◌, ◌≤◌, ◌+◌, ◌++◌, length, map, drop, words_from, words_of, seen_of, cells_fault, cells_said}
 use Rattle.sig_judge.proofs.row.cells_in.Given as goal
 
 abbrev pub invariant-loop-next : goal.invariant-loop-next

@@ -1,13 +1,4 @@
-use Rattle.std.proofs.Common.{◌≡◌, ◌⊎◌, length, arith, sym, subst}
-use Rattle.std.proofs.lemmas.Grind.{common_steps}
-use Rattle.std.proofs.lemmas.Result.{err_from_is_err_and}
-use Rattle.std.specs.Str.Lines.{lines}
-use Rattle.sig_flow.specs.First.{IsFirst}
-use Rattle.sig_flow.specs.Lines.{numbered}
-use Rattle.sig_judge.specs.declared.trace_answer.TraceAnswer.{TraceAnswer}
-use Rattle.sig_judge.specs.declared.trace_answer.TraceAnswer.TheVariants.{OutOfMemory}
-use Rattle.sig_judge.specs.TraceFiles.{row_judge}
-use Rattle.sig_judge.proofs.RowLemmas.{wrong_line, all_good}
+use Rattle.sig_judge.proofs.{◌≡◌, ◌⊎◌, length, arith, sym, subst, common_steps, err_from_is_err_and, lines, IsFirst, numbered, TraceAnswer, OutOfMemory, row_judge, wrong_line, all_good}
 use Rattle.sig_judge.proofs.row.rows_of.Goals as goal
 
 pub returns-in_err-read-clause-fault : goal.returns-in_err-read-clause-fault

@@ -1,12 +1,5 @@
 -- what is read and what is left are all lines
-use Rattle.std.proofs.Common.{◌≡◌, ◌≤◌, ◌+◌, ◌++◌, length}
-use Rattle.std.specs.List.{flat_map}
-use Rattle.std.specs.Str.Lines.{lines}
-use Rattle.sig_flow.specs.First.{first_fault}
-use Rattle.sig_flow.specs.Lines.{numbered}
-use Rattle.sig_flow.specs.Words.{words_of}
-use Rattle.sig_judge.specs.Headers.{instants_in}
-use Rattle.sig_judge.specs.TraceFiles.{row_judge}
+use Rattle.sig_judge.proofs.{◌≡◌, ◌≤◌, ◌+◌, ◌++◌, length, flat_map, lines, first_fault, numbered, words_of, instants_in, row_judge}
 use Rattle.sig_judge.proofs.row.rows_of.Given as goal
 
 abbrev pub invariant-loop-rest : goal.invariant-loop-rest

@@ -1,6 +1,5 @@
 -- the words so far and those that are left are all words
-use Rattle.std.proofs.Common.{◌≡◌, ◌≤◌, ◌+◌, length}
-use Rattle.sig_flow.specs.Words.{words_from, words_of}
+use Rattle.sig_judge.proofs.{◌≡◌, ◌≤◌, ◌+◌, length, words_from, words_of}
 use Rattle.sig_judge.proofs.row.word_count.Given as goal
 
 abbrev pub invariant-loop-next : goal.invariant-loop-next

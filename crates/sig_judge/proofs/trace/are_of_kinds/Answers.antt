@@ -1,11 +1,4 @@
-use Rattle.std.proofs.Common.{◌≡◌, ◌<◌, length, map, get_or, true, false, sym, subst, arith}
-use Rattle.std.proofs.lemmas.List.{length-map}
-use Rattle.sig_base.specs.declared.signal.Signal.{Signal}
-use Rattle.sig_base.specs.Traces.{Bounded, IsOfKind}
-use Rattle.sig_tree.specs.ProcessTraces.{kinds_of}
-use Rattle.sig_judge.specs.Rows.{seen_of}
-use Rattle.sig_judge.specs.declared.trace.Seen.TheVariants.{Absent}
-use Rattle.sig_judge.proofs.KindLemmas.{kinds_length, kinds_more, kind_of_signal}
+use Rattle.sig_judge.proofs.{◌≡◌, ◌<◌, length, map, get_or, true, false, sym, subst, arith, length-map, Signal, Bounded, IsOfKind, kinds_of, seen_of, Absent, kinds_length, kinds_more, kind_of_signal}
 use Rattle.sig_judge.proofs.trace.are_of_kinds.Goals as goal
 
 pub returns-then-seen-signals : goal.returns-then-seen-signals

@@ -1,5 +1,4 @@
-use Rattle.sig_tree.specs.FlatSyntax.{flat_body_of}
-use Rattle.sig_judge.proofs.VerdictLemmas.{accepted_exactly, broken_exactly}
+use Rattle.sig_judge.proofs.{flat_body_of, accepted_exactly, broken_exactly}
 use Rattle.sig_judge.proofs.verdict.judge.Goals as goal
 
 pub returns-clause-accepted : goal.returns-clause-accepted

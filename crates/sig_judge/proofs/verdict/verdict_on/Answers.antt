@@ -1,11 +1,4 @@
-use Rattle.std.proofs.Common.{◌≡◌, ◌<◌, ◌≤◌, length, map, take, get_or, sym, ap, subst, ◌∙◌, arith}
-use Rattle.std.proofs.lemmas.List.{take_more}
-use Rattle.sig_base.specs.Traces.{Instant, Trace}
-use Rattle.sig_tree.specs.FlatSyntax.{flat_equation_of, flat_body_of}
-use Rattle.sig_tree.specs.Steps.{BodySteps, Leads}
-use Rattle.sig_judge.specs.Decides.{BreaksAt}
-use Rattle.sig_judge.specs.Nodes.{equation_of, without_prefix}
-use Rattle.sig_judge.proofs.VerdictLemmas.{within_body, broken_here, accepted_here}
+use Rattle.sig_judge.proofs.{◌≡◌, ◌<◌, ◌≤◌, length, map, take, get_or, sym, ap, subst, ◌∙◌, arith, take_more, Instant, Trace, flat_equation_of, flat_body_of, BodySteps, Leads, BreaksAt, equation_of, without_prefix, within_body, broken_here, accepted_here}
 use Rattle.sig_judge.proofs.verdict.verdict_on.Goals as goal
 
 pub overflow_cast-result-in-Some : goal.overflow_cast-result-in-Some

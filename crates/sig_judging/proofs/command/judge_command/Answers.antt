@@ -1,9 +1,4 @@
-use Rattle.std.proofs.Common.{inl, inr, refl}
-use Rattle.sig_outcome.specs.Tasks.{SaysLine}
-use Rattle.sig_outcome.proofs.Performing.{performs_outcome, performs_refusal}
-use Rattle.sig_judging.specs.Judging.{judged, judging}
-use Rattle.sig_judging.proofs.JudgeFiles.{judge_number}
-use Rattle.sig_judging.proofs.OneJudging.{one_judge_outcome, verdict_done, verdict_number}
+use Rattle.sig_judging.proofs.{inl, inr, refl, SaysLine, performs_outcome, performs_refusal, judged, judging, judge_number, one_judge_outcome, verdict_done, verdict_number}
 use Rattle.sig_judging.proofs.command.judge_command.Goals as goal
 
 pub returns-in-Ok : goal.returns-in-Ok

@@ -1,7 +1,4 @@
-use Rattle.std.proofs.lemmas.Result.{err_from_is_err_and}
-use Rattle.sig_tree.specs.FlatSyntax.{flat_body_of}
-use Rattle.sig_judging.proofs.JudgeFiles.{reaches_verdict, stops_flat, stops_trace}
-use Rattle.sig_judging.proofs.OneJudging.{verdict_holds}
+use Rattle.sig_judging.proofs.{err_from_is_err_and, flat_body_of, reaches_verdict, stops_flat, stops_trace, verdict_holds}
 use Rattle.sig_judging.proofs.command.verdict_of.Goals as goal
 
 pub returns-in_err-flat-clause-stops : goal.returns-in_err-flat-clause-stops

@@ -1,8 +1,4 @@
-use Rattle.std.proofs.Common.{◌≤◌, ap, arith, length}
-use Rattle.std.proofs.lemmas.Option.{IfSome_then}
-use Rattle.sig_front.specs.Flats.{IsFlatText}
-use Rattle.sig_outcome.proofs.Refused.{on_err, refused_program}
-use Rattle.sig_judging.specs.Judging.{RefusesFlat}
+use Rattle.sig_judging.proofs.{◌≤◌, ap, arith, length, IfSome_then, IsFlatText, on_err, refused_program, RefusesFlat}
 use Rattle.sig_judging.proofs.load.load_flat.Goals as goal
 
 pub returns-clause-refused : goal.returns-clause-refused

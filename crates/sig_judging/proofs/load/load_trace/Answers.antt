@@ -1,8 +1,4 @@
-use Rattle.std.proofs.Common.{◌≤◌, ap, arith, length}
-use Rattle.std.proofs.lemmas.Option.{IfSome_then}
-use Rattle.sig_judge.specs.TraceFiles.{IsTraceFile}
-use Rattle.sig_outcome.proofs.Refused.{on_err, refused_data}
-use Rattle.sig_judging.specs.Judging.{RefusesTrace}
+use Rattle.sig_judging.proofs.{◌≤◌, ap, arith, length, IfSome_then, IsTraceFile, on_err, refused_data, RefusesTrace}
 use Rattle.sig_judging.proofs.load.load_trace.Goals as goal
 
 pub returns-clause-refused : goal.returns-clause-refused

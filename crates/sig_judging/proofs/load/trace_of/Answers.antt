@@ -1,7 +1,4 @@
-use Rattle.std.proofs.Common.{◌≡◌, ◌≢◌, ⊎_elim}
-use Rattle.sig_judge.specs.declared.trace_answer.TraceAnswer.TheVariants.{OutOfMemory}
-use Rattle.sig_outcome.proofs.Refused.{of_more_data}
-use Rattle.sig_judging.specs.Judging.{RefusesTrace, bad_trace}
+use Rattle.sig_judging.proofs.{◌≡◌, ◌≢◌, ⊎_elim, OutOfMemory, of_more_data, RefusesTrace, bad_trace}
 use Rattle.sig_judging.proofs.load.trace_of.Goals as goal
 
 pub returns-in-Err-clause-refused : goal.returns-in-Err-clause-refused

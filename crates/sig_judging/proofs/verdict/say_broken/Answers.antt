@@ -1,4 +1,4 @@
-use Rattle.std.proofs.Common.{append_assoc}
+use Rattle.sig_judging.proofs.{append_assoc}
 use Rattle.sig_judging.proofs.verdict.say_broken.Goals as goal
 
 pub returns : goal.returns

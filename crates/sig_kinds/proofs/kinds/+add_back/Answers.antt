@@ -1,9 +1,4 @@
-use Rattle.std.proofs.Common.{ap}
-use Rattle.sig_tree.specs.Kinds.{kind_of}
-use Rattle.sig_tree.specs.Syntax.{Expression, Binary, Cell, expression_of}
-use Rattle.sig_kinds.proofs.Backwards.{behind_two, on_added}
-use Rattle.sig_kinds.proofs.Refusals.{kind_of_both}
-use Rattle.sig_scope.specs.Typed.{known, nodes}
+use Rattle.sig_kinds.proofs.{ap, kind_of, Expression, Binary, Cell, expression_of, behind_two, on_added, kind_of_both, known, nodes}
 use Rattle.sig_kinds.proofs.kinds.+add_back.Goals as goal
 
 pub returns-in_ok-first-in-Binary-clause-added : goal.returns-in_ok-first-in-Binary-clause-added

@@ -1,10 +1,4 @@
-use Rattle.std.proofs.Common.{map, ap, ◌∙◌, ◌++◌, Bor}
-use Rattle.sig_tree.specs.Syntax.{Equations, equations_of}
-use Rattle.sig_tree.specs.declared.process.Body.{Body}
-use Rattle.sig_scope.proofs.Growing.{grown}
-use Rattle.sig_kinds.proofs.Typing.{kinds_flat}
-use Rattle.sig_scope.specs.Typed.{known, kinds_in, expressions_of}
-use Rattle.sig_scope.specs.Walked.{bodies_in}
+use Rattle.sig_kinds.proofs.{map, ap, ◌∙◌, ◌++◌, Bor, Equations, equations_of, Body, grown, kinds_flat, known, kinds_in, expressions_of, bodies_in}
 use Rattle.sig_kinds.proofs.kinds.add_equations.Goals as goal
 
 pub returns : goal.returns

@@ -1,7 +1,4 @@
-use Rattle.std.proofs.Common.{◌≡◌, ◌++◌, map, take}
-use Rattle.std.specs.List.{flat_map}
-use Rattle.sig_tree.specs.Syntax.{equations_of}
-use Rattle.sig_scope.specs.Typed.{known, kinds_in, expressions_of}
+use Rattle.sig_kinds.proofs.{◌≡◌, ◌++◌, map, take, flat_map, equations_of, known, kinds_in, expressions_of}
 use Rattle.sig_kinds.proofs.kinds.add_equations.Given as goal
 
 abbrev pub invariant-loop-equation : goal.invariant-loop-equation

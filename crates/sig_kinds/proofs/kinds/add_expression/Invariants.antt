@@ -1,4 +1,4 @@
-use Rattle.std.proofs.Common.{◌≡◌, ◌++◌, reverse, length}
+use Rattle.sig_kinds.proofs.{◌≡◌, ◌++◌, reverse, length}
 use Rattle.sig_kinds.proofs.kinds.add_expression.Given as goal
 
 abbrev pub invariant-loop-kind : goal.invariant-loop-kind

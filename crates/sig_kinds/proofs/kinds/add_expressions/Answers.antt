@@ -1,12 +1,4 @@
-use Rattle.std.proofs.Common.{map, ap, ◌∙◌, sym, ◌++◌}
-use Rattle.std.specs.List.{flat_map}
-use Rattle.sig_tree.specs.Kinds.{kind_of}
-use Rattle.sig_tree.specs.Syntax.{Expression, expression_of}
-use Rattle.sig_tree.specs.declared.expr.Expr.{Expr}
-use Rattle.sig_scope.proofs.Growing.{grows, grown}
-use Rattle.sig_kinds.proofs.Backwards.{pieces}
-use Rattle.sig_scope.specs.Typed.{known, nodes}
-use Rattle.std.proofs.lemmas.Simd.{map-map}
+use Rattle.sig_kinds.proofs.{map, ap, ◌∙◌, sym, ◌++◌, flat_map, kind_of, Expression, expression_of, Expr, grows, grown, pieces, known, nodes, map-map}
 use Rattle.sig_kinds.proofs.kinds.add_expressions.Goals as goal
 
 pub loop-e-preserved : goal.loop-e-preserved

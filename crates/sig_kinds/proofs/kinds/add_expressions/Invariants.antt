@@ -1,8 +1,4 @@
-use Rattle.std.proofs.Common.{◌≡◌, ◌++◌, map, take}
-use Rattle.std.specs.List.{flat_map}
-use Rattle.sig_tree.specs.Kinds.{kind_of}
-use Rattle.sig_tree.specs.Syntax.{expression_of}
-use Rattle.sig_scope.specs.Typed.{known, nodes}
+use Rattle.sig_kinds.proofs.{◌≡◌, ◌++◌, map, take, flat_map, kind_of, expression_of, known, nodes}
 use Rattle.sig_kinds.proofs.kinds.add_expressions.Given as goal
 
 abbrev pub invariant-loop-e : goal.invariant-loop-e

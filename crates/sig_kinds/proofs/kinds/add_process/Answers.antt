@@ -1,10 +1,4 @@
-use Rattle.std.proofs.Common.{map, ap, ◌∙◌, sym, ◌++◌}
-use Rattle.std.specs.List.{flat_map}
-use Rattle.sig_tree.specs.Declarations.{equations_of_model}
-use Rattle.sig_tree.specs.Syntax.{model_of}
-use Rattle.sig_scope.proofs.Trees.{body_is}
-use Rattle.sig_scope.specs.Typed.{known, kinds_in, expressions_of}
-use Rattle.sig_scope.specs.Walked.{bodies_in}
+use Rattle.sig_kinds.proofs.{map, ap, ◌∙◌, sym, ◌++◌, flat_map, equations_of_model, model_of, body_is, known, kinds_in, expressions_of, bodies_in}
 use Rattle.sig_kinds.proofs.kinds.add_process.Goals as goal
 
 pub returns : goal.returns

@@ -1,6 +1,4 @@
-use Rattle.std.proofs.Common.{ap, ◌∙◌, ◌++◌}
-use Rattle.sig_tree.specs.Syntax.{expression_of}
-use Rattle.sig_kinds.proofs.Typing.{kinds_of_one}
+use Rattle.sig_kinds.proofs.{ap, ◌∙◌, ◌++◌, expression_of, kinds_of_one}
 use Rattle.sig_kinds.proofs.kinds.add_right.Goals as goal
 
 pub returns-in_ok-add_expression-in-Value : goal.returns-in_ok-add_expression-in-Value

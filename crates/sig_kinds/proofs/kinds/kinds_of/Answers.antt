@@ -1,12 +1,4 @@
-use Rattle.std.proofs.Common.{map, ap, ◌∙◌, []}
-use Rattle.std.specs.List.{flat_map}
-use Rattle.sig_tree.specs.Declarations.{all_processes}
-use Rattle.sig_tree.specs.Syntax.{ProcessModel, model_of, program_of}
-use Rattle.sig_scope.proofs.Growing.{grows, grown}
-use Rattle.sig_kinds.proofs.Backwards.{pieces}
-use Rattle.sig_scope.specs.Typed.{known, kinds_of_model}
-use Rattle.sig_scope.specs.Walked.{interface_models}
-use Rattle.sig_scope.specs.declared.scope.Interface.{Interface}
+use Rattle.sig_kinds.proofs.{map, ap, ◌∙◌, [], flat_map, all_processes, ProcessModel, model_of, program_of, grows, grown, pieces, known, kinds_of_model, interface_models, Interface}
 use Rattle.sig_kinds.proofs.kinds.kinds_of.Goals as goal
 
 pub loop-interface-preserved : goal.loop-interface-preserved

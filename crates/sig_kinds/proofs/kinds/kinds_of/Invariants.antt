@@ -1,7 +1,4 @@
-use Rattle.std.proofs.Common.{◌≡◌, map, take}
-use Rattle.std.specs.List.{flat_map}
-use Rattle.sig_tree.specs.Syntax.{model_of}
-use Rattle.sig_scope.specs.Typed.{known, kinds_of_model}
+use Rattle.sig_kinds.proofs.{◌≡◌, map, take, flat_map, model_of, known, kinds_of_model}
 use Rattle.sig_kinds.proofs.kinds.kinds_of.Given as goal
 
 abbrev pub invariant-loop-interface : goal.invariant-loop-interface

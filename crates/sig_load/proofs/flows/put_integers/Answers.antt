@@ -1,9 +1,4 @@
-use Rattle.std.proofs.Common.{◌≡◌, ℕ, ◌+◌, ◌/◌, ◌^◌, sym, ap, ◌∙◌, arith, subst}
-use Rattle.sig_load.specs.Draws.{draw, next_state, state_after}
-use Rattle.sig_load.specs.Flows.{integer_value}
-use Rattle.sig_load.specs.Pieces.{Appends, each}
-use Rattle.sig_load.specs.declared.flows.TheConstants.{FLOW_VALUES}
-use Rattle.sig_load.proofs.Each.{each_more, each_none, state_more, state_none}
+use Rattle.sig_load.proofs.{◌≡◌, ℕ, ◌+◌, ◌/◌, ◌^◌, sym, ap, ◌∙◌, arith, subst, draw, next_state, state_after, integer_value, Appends, each, FLOW_VALUES, each_more, each_none, state_more, state_none}
 use Rattle.sig_load.proofs.flows.put_integers.Goals as goal
 
 pub loop-init : goal.loop-init

@@ -1,8 +1,5 @@
 -- the values of the draws so far are there
-use Rattle.std.proofs.Common.{◌≡◌}
-use Rattle.sig_load.specs.Draws.{draw, state_after}
-use Rattle.sig_load.specs.Flows.{integer_value}
-use Rattle.sig_load.specs.Pieces.{Appends, each}
+use Rattle.sig_load.proofs.{◌≡◌, draw, state_after, integer_value, Appends, each}
 use Rattle.sig_load.proofs.flows.put_integers.Given as goal
 
 abbrev pub invariant-loop : goal.invariant-loop

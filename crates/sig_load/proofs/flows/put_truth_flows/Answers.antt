@@ -1,10 +1,4 @@
-use Rattle.std.proofs.Common.{◌≡◌, ℕ, ◌+◌, ◌*◌, ◌/◌, ◌^◌, ◌++◌, List, ap, ◌∙◌, arith, subst}
-use Rattle.std.specs.Prelude.{codes}
-use Rattle.sig_load.specs.Draws.{draw, state_after}
-use Rattle.sig_load.specs.Flows.{truth_value, truths, truths_from}
-use Rattle.sig_load.specs.Pieces.{Appends, each, numbered}
-use Rattle.sig_load.specs.declared.flows.TheConstants.{FLOW_VALUES}
-use Rattle.sig_load.proofs.Each.{each_more, each_none, each_same, state_later}
+use Rattle.sig_load.proofs.{◌≡◌, ℕ, ◌+◌, ◌*◌, ◌/◌, ◌^◌, ◌++◌, List, ap, ◌∙◌, arith, subst, codes, draw, state_after, truth_value, truths, truths_from, Appends, each, numbered, FLOW_VALUES, each_more, each_none, each_same, state_later}
 use Rattle.sig_load.proofs.flows.put_truth_flows.Goals as goal
 
 -- a condition's flow from the state that the draws before it leave

@@ -1,9 +1,5 @@
 -- where the draws began behind those of the integer input, the flows of the conditions so far are there
-use Rattle.std.proofs.Common.{◌≡◌, ℕ, ◌+◌, ◌*◌}
-use Rattle.sig_load.specs.Draws.{state_after}
-use Rattle.sig_load.specs.Flows.{truths}
-use Rattle.sig_load.specs.Pieces.{Appends, each}
-use Rattle.sig_load.specs.declared.flows.TheConstants.{FLOW_VALUES}
+use Rattle.sig_load.proofs.{◌≡◌, ℕ, ◌+◌, ◌*◌, state_after, truths, Appends, each, FLOW_VALUES}
 use Rattle.sig_load.proofs.flows.put_truth_flows.Given as goal
 
 abbrev pub invariant-loop-before : goal.invariant-loop-before

@@ -1,8 +1,4 @@
-use Rattle.std.proofs.Common.{◌≡◌, ℕ, arith, subst}
-use Rattle.std.proofs.lemmas.Result.{on_ok_weaker}
-use Rattle.sig_load.specs.Pieces.{Appends, each}
-use Rattle.sig_load.specs.Program.{cluster}
-use Rattle.sig_load.proofs.Each.{behind, each_more, each_none}
+use Rattle.sig_load.proofs.{◌≡◌, ℕ, arith, subst, on_ok_weaker, Appends, each, cluster, behind, each_more, each_none}
 use Rattle.sig_load.proofs.program.put_clusters.Goals as goal
 
 pub loop-before-init : goal.loop-before-init

@@ -1,5 +1,4 @@
-use Rattle.sig_load.specs.Program.{further}
-use Rattle.sig_load.proofs.Each.{behind, each_more, each_none}
+use Rattle.sig_load.proofs.{further, behind, each_more, each_none}
 use Rattle.sig_load.proofs.program.put_further.Goals as goal
 
 pub loop-before-init : goal.loop-before-init

@@ -1,6 +1,5 @@
 -- the pieces of the numbers so far are there
-use Rattle.sig_load.specs.Pieces.{Appends, each}
-use Rattle.sig_load.specs.Program.{further}
+use Rattle.sig_load.proofs.{Appends, each, further}
 use Rattle.sig_load.proofs.program.put_further.Given as goal
 
 abbrev pub invariant-loop-before : goal.invariant-loop-before

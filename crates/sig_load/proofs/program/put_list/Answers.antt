@@ -1,5 +1,4 @@
-use Rattle.sig_load.specs.Program.{listed}
-use Rattle.sig_load.proofs.Each.{each_more, each_none}
+use Rattle.sig_load.proofs.{listed, each_more, each_none}
 use Rattle.sig_load.proofs.program.put_list.Goals as goal
 
 pub loop-before-init : goal.loop-before-init

@@ -1,5 +1,4 @@
-use Rattle.std.proofs.lemmas.Result.{on_ok_weaker}
-use Rattle.sig_load.proofs.Each.{behind}
+use Rattle.sig_load.proofs.{on_ok_weaker, behind}
 use Rattle.sig_load.proofs.program.put_sample.Goals as goal
 
 pub returns : goal.returns

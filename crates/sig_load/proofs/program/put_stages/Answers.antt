@@ -1,5 +1,4 @@
-use Rattle.sig_load.specs.Program.{stage}
-use Rattle.sig_load.proofs.Each.{each_more, each_none}
+use Rattle.sig_load.proofs.{stage, each_more, each_none}
 use Rattle.sig_load.proofs.program.put_stages.Goals as goal
 
 pub loop-before-init : goal.loop-before-init

@@ -1,6 +1,5 @@
 -- the pieces of the numbers so far are there
-use Rattle.sig_load.specs.Pieces.{Appends, each}
-use Rattle.sig_load.specs.Program.{stage}
+use Rattle.sig_load.proofs.{Appends, each, stage}
 use Rattle.sig_load.proofs.program.put_stages.Given as goal
 
 abbrev pub invariant-loop-before : goal.invariant-loop-before

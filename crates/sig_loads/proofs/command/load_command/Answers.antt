@@ -1,10 +1,4 @@
-use Rattle.std.proofs.Common.{refl}
-use Rattle.sig_outcome.specs.Tasks.{SaysLine}
-use Rattle.sig_outcome.proofs.Performing.{performs_refusal}
-use Rattle.sig_loads.specs.Loads.{loading}
-use Rattle.sig_loads.proofs.Counted.{performs_load}
-use Rattle.sig_loads.proofs.OneLoad.{one_load_outcome}
-use Rattle.sig_loads.proofs.Stopped.{load_number}
+use Rattle.sig_loads.proofs.{refl, SaysLine, performs_refusal, loading, performs_load, one_load_outcome, load_number}
 use Rattle.sig_loads.proofs.command.load_command.Goals as goal
 
 pub returns-in-Ok : goal.returns-in-Ok

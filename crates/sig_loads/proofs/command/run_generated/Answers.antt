@@ -1,13 +1,4 @@
-use Rattle.std.proofs.Common.{◌<◌, ◌^◌, ℕ, inl, refl, subst, sym}
-use Rattle.sig_alone.specs.Runs.{IsWholeRun}
-use Rattle.sig_base.specs.declared.limits.TheConstants.{INSTANTS_DEFAULT}
-use Rattle.sig_load.specs.Tally.{Tallied, Tally}
-use Rattle.sig_plan.specs.Plans.{IsAccepted}
-use Rattle.sig_outcome.specs.Tasks.{SaysLine}
-use Rattle.sig_runs.specs.Ends.{IsOfKernel, end_line}
-use Rattle.sig_runs.specs.declared.load.Loaded.{Loaded}
-use Rattle.sig_runs.proofs.Plans.{end_there}
-use Rattle.sig_loads.proofs.Counted.{wrote_part, wrote_whole}
+use Rattle.sig_loads.proofs.{◌<◌, ◌^◌, ℕ, inl, refl, subst, sym, IsWholeRun, INSTANTS_DEFAULT, Tallied, Tally, IsAccepted, SaysLine, IsOfKernel, end_line, Loaded, end_there, wrote_part, wrote_whole}
 use Rattle.sig_loads.proofs.command.run_generated.Goals as goal
 
 pub say_end-requires : goal.say_end-requires

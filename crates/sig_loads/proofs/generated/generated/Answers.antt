@@ -1,9 +1,4 @@
-use Rattle.std.proofs.Common.{◌≡◌, subst}
-use Rattle.std.proofs.lemmas.Result.{err_from_is_err_and}
-use Rattle.sig_load.specs.Flows.{flows}
-use Rattle.sig_plan.specs.Plans.{PlanView}
-use Rattle.sig_loads.specs.Refusals.{IsOfFlowsText}
-use Rattle.sig_loads.proofs.Stopped.{stops_flows, stops_items, stops_program}
+use Rattle.sig_loads.proofs.{subst, err_from_is_err_and, flows, PlanView, IsOfFlowsText, stops_flows, stops_items, stops_program}
 use Rattle.sig_loads.proofs.generated.generated.Goals as goal
 
 pub returns-in_err-plan-clause-stops : goal.returns-in_err-plan-clause-stops

@@ -1,8 +1,4 @@
-use Rattle.std.proofs.Common.{◌≤◌, length, rules}
-use Rattle.sig_base.specs.declared.limits.TheConstants.{PROGRAM_BYTES}
-use Rattle.sig_load.specs.Program.{program}
-use Rattle.sig_outcome.proofs.Refused.{on_err, on_ok}
-use Rattle.sig_loads.proofs.Stopped.{of_program}
+use Rattle.sig_loads.proofs.{◌≤◌, length, rules, PROGRAM_BYTES, program, on_err, on_ok, of_program}
 use Rattle.sig_loads.proofs.generated.generated_plan.Goals as goal
 
 pub returns-clause-program : goal.returns-clause-program

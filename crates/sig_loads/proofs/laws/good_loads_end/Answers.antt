@@ -1,4 +1,4 @@
-use Rattle.sig_loads.proofs.Complete.{end_status_is, only_end, some_load}
+use Rattle.sig_loads.proofs.{end_status_is, only_end, some_load}
 use Rattle.sig_loads.proofs.laws.good_loads_end.Goals as goal
 
 pub returns-clause-only : goal.returns-clause-only

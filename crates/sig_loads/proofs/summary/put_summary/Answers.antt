@@ -1,7 +1,4 @@
-use Rattle.std.specs.Prelude.{flat_map}
-use Rattle.sig_text.specs.Sink.{TookPrefix-whole}
-use Rattle.sig_outcome.proofs.TakenPieces.{flushed}
-use Rattle.sig_loads.specs.Summaries.{summary_pieces}
+use Rattle.sig_loads.proofs.{flat_map, TookPrefix-whole, flushed, summary_pieces}
 use Rattle.sig_loads.proofs.summary.put_summary.Goals as goal
 
 pub returns-in_err-flush-clause-prefix : goal.returns-in_err-flush-clause-prefix

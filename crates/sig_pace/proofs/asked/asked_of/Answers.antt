@@ -1,10 +1,4 @@
-use Rattle.std.proofs.Common.{refl, ap, subst, sym, ◌&&◌}
-use Rattle.sig_dd.specs.Nodes.{IsRefOf, Spans, test}
-use Rattle.sig_dd.specs.declared.node.Ref.{Ref}
-use Rattle.sig_rel.specs.Systems.{SystemView}
-use Rattle.sig_pace.specs.Asked.{variables_of}
-use Rattle.sig_pace.proofs.AskedLemmas.{asked_is, over_spans}
-use Rattle.sig_solve.proofs.StoreLemmas.{refused}
+use Rattle.sig_pace.proofs.{refl, ap, subst, sym, ◌&&◌, IsRefOf, Spans, test, Ref, SystemView, variables_of, asked_is, over_spans, refused}
 use Rattle.sig_pace.proofs.asked.asked_of.Goals as goal
 
 pub returns-in_err-solutions-clause-share : goal.returns-in_err-solutions-clause-share

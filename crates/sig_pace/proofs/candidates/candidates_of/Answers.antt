@@ -1,18 +1,4 @@
-use Rattle.std.proofs.Common.{◌≡◌, ◌+◌, ◌<◌, ◌≤◌, ℕ, List, get_or, length, sym, ap, subst, arith}
-use Rattle.std.specs.Prelude.{Option, None}
-use Rattle.std.proofs.lemmas.List.Elements.{Contains-get_or}
-use Rattle.sig_dd.specs.Nodes.{Holds, Spans, StoreView}
-use Rattle.sig_dd.specs.Shares.{Share}
-use Rattle.sig_dd.specs.declared.answer.DdAnswer.{DdAnswer}
-use Rattle.sig_dd.specs.declared.answer.DdAnswer.TheVariants.{OutOfMemory}
-use Rattle.sig_dd.specs.declared.node.Ref.{Ref}
-use Rattle.sig_dd.proofs.Adding.{Share-then}
-use Rattle.sig_dd.proofs.CallerLemmas.{Holds-kept, Keeps-trans, Spans-kept}
-use Rattle.sig_solve.proofs.StoreLemmas.{more_calls, out_of_memory, refused}
-use Rattle.sig_pace.specs.Asked.{presence_in, variables_of}
-use Rattle.sig_pace.specs.declared.candidates.Candidate.{Candidate}
-use Rattle.sig_pace.proofs.AskedLemmas.{older_reactions, over_spans, presence_held, presence_spans}
-use Rattle.sig_pace.proofs.CandidateLemmas.{AreMade, candidates_are, one_more_made, pushed_count, signals_are}
+use Rattle.sig_pace.proofs.{◌≡◌, ◌+◌, ◌<◌, ◌≤◌, ℕ, List, get_or, length, sym, ap, subst, arith, Option, None, Contains-get_or, Holds, Spans, StoreView, Share, DdAnswer, OutOfMemory, Ref, Share-then, Holds-kept, Keeps-trans, Spans-kept, more_calls, out_of_memory, refused, presence_in, variables_of, Candidate, older_reactions, over_spans, presence_held, presence_spans, AreMade, candidates_are, one_more_made, pushed_count, signals_are}
 use Rattle.sig_pace.proofs.candidates.candidates_of.Goals as goal
 
 pub presence-requires : goal.presence-requires

@@ -1,9 +1,4 @@
-use Rattle.std.proofs.Common.{◌≡◌, ℕ, length, get_or}
-use Rattle.std.specs.Prelude.{None, Some, slice_get}
-use Rattle.sig_dd.specs.Nodes.{IsRefOf, IsStore, Keeps}
-use Rattle.sig_dd.specs.Shares.{Share}
-use Rattle.sig_pace.specs.Asked.{reactions_in, variables_of}
-use Rattle.sig_pace.specs.declared.candidates.Candidate.{Candidate}
+use Rattle.sig_pace.proofs.{◌≡◌, ℕ, length, get_or, None, Some, slice_get, IsRefOf, IsStore, Keeps, Share, reactions_in, variables_of, Candidate}
 use Rattle.sig_pace.proofs.candidates.candidates_of.Given as goal
 
 abbrev pub invariant-loop-signal : goal.invariant-loop-signal

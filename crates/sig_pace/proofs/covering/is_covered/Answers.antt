@@ -1,9 +1,4 @@
-use Rattle.std.proofs.Common.{get_or, sym, subst, arith}
-use Rattle.std.proofs.lemmas.List.Elements.{Contains-get_or}
-use Rattle.sig_dd.specs.Nodes.{Holds, Implies}
-use Rattle.sig_dd.specs.declared.node.Ref.{Ref}
-use Rattle.sig_pace.specs.Asked.{presence_in}
-use Rattle.sig_pace.proofs.AskedLemmas.{covered_below, presence_held}
+use Rattle.sig_pace.proofs.{get_or, sym, subst, arith, Contains-get_or, Holds, Implies, Ref, presence_in, covered_below, presence_held}
 use Rattle.sig_pace.proofs.covering.is_covered.Goals as goal
 
 pub presence-present-requires : goal.presence-present-requires

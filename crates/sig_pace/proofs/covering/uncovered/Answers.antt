@@ -1,7 +1,4 @@
-use Rattle.std.proofs.Common.{◌+◌, ℕ, List, Contains, get_or, take, take_all, sym, ap, ◌∙◌, subst}
-use Rattle.std.proofs.lemmas.List.Elements.{Contains-get_or}
-use Rattle.sig_pace.specs.Tops.{IsBelowOne, IsCover}
-use Rattle.sig_pace.proofs.TopLemmas.{cover_none, cover_push, cover_skip, taken_whole}
+use Rattle.sig_pace.proofs.{◌+◌, ℕ, List, Contains, get_or, take, take_all, sym, ap, ◌∙◌, subst, Contains-get_or, IsBelowOne, IsCover, cover_none, cover_push, cover_skip, taken_whole}
 use Rattle.sig_pace.proofs.covering.uncovered.Goals as goal
 use Rattle.sig_pace.proofs.covering.uncovered.Goals.{then-not-branch+in_ok-push, else-not-branch}
 

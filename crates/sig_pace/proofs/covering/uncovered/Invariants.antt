@@ -1,5 +1,4 @@
-use Rattle.std.proofs.Common.{take}
-use Rattle.sig_pace.specs.Tops.{IsCover}
+use Rattle.sig_pace.proofs.{take, IsCover}
 use Rattle.sig_pace.proofs.covering.uncovered.Given as goal
 
 abbrev pub invariant-loop-signal : goal.invariant-loop-signal

@@ -1,4 +1,4 @@
-use Rattle.sig_pace.proofs.Refusing.{many_or_paced, one_pacing, one_taken, same_clocks, taken_or_many, taken_or_paced}
+use Rattle.sig_pace.proofs.{many_or_paced, one_pacing, one_taken, same_clocks, taken_or_many, taken_or_paced}
 use Rattle.sig_pace.proofs.laws.a_kernel_has_one_pacing.Goals as goal
 
 pub returns : goal.returns

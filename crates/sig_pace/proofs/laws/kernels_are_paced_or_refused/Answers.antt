@@ -1,4 +1,4 @@
-use Rattle.sig_pace.proofs.PacedOrRefused.{paced_or_refused}
+use Rattle.sig_pace.proofs.{paced_or_refused}
 use Rattle.sig_pace.proofs.laws.kernels_are_paced_or_refused.Goals as goal
 
 pub returns : goal.returns

@@ -1,4 +1,4 @@
-use Rattle.sig_pace.proofs.Validating.{valid_with_paces}
+use Rattle.sig_pace.proofs.{valid_with_paces}
 use Rattle.sig_pace.proofs.laws.paced_kernels_are_valid.Goals as goal
 
 pub returns : goal.returns

@@ -1,4 +1,4 @@
-use Rattle.sig_pace.proofs.Rooting.{has_root}
+use Rattle.sig_pace.proofs.{has_root}
 use Rattle.sig_pace.proofs.laws.paced_kernels_have_a_root.Goals as goal
 
 pub returns-clause-root : goal.returns-clause-root

@@ -1,4 +1,4 @@
-use Rattle.sig_pace.proofs.Places.{old_signals, pace_signals}
+use Rattle.sig_pace.proofs.{old_signals, pace_signals}
 use Rattle.sig_pace.proofs.laws.signals_are_what_they_were.Goals as goal
 
 pub returns-clause-old : goal.returns-clause-old

@@ -1,4 +1,4 @@
-use Rattle.sig_pace.proofs.Fitting.{fits_in_parts}
+use Rattle.sig_pace.proofs.{fits_in_parts}
 use Rattle.sig_pace.proofs.laws.traces_fit_the_flows_of_paces.Goals as goal
 
 pub returns : goal.returns

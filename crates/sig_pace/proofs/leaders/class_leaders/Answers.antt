@@ -1,6 +1,4 @@
-use Rattle.std.proofs.Common.{ap, ◌∙◌}
-use Rattle.sig_solve.specs.Frames.{leaders_of}
-use Rattle.sig_pace.proofs.LeaderLemmas.{leaders_are}
+use Rattle.sig_pace.proofs.{ap, ◌∙◌, leaders_of, leaders_are}
 use Rattle.sig_pace.proofs.leaders.class_leaders.Goals as goal
 
 pub returns : goal.returns

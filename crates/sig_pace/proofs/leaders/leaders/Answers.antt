@@ -1,7 +1,4 @@
-use Rattle.std.proofs.Common.{ℕ, eqb, [], ◌∷◌, ◌++◌, sym, ap, ◌∙◌, get_or, eq-eqb, filter}
-use Rattle.std.specs.List.{range_with_len}
-use Rattle.sig_solve.proofs.ListLemmas.{apart-eqb}
-use Rattle.sig_solve.proofs.ListLemmas.{range_drops, range_keeps}
+use Rattle.sig_pace.proofs.{ℕ, eqb, [], ◌∷◌, ◌++◌, sym, ap, ◌∙◌, get_or, eq-eqb, filter, range_with_len, apart-eqb, range_drops, range_keeps}
 use Rattle.sig_pace.proofs.leaders.leaders.Goals as goal
 use Rattle.sig_pace.proofs.leaders.leaders.Goals.{then-class-signal+in_ok-push, else-class-signal}
 

@@ -1,6 +1,4 @@
-use Rattle.std.proofs.Common.{◌≡◌, ◌==◌, slice_index}
-use Rattle.std.specs.Prelude.{filter}
-use Rattle.std.specs.List.{range_with_len}
+use Rattle.sig_pace.proofs.{◌≡◌, ◌==◌, slice_index, filter, range_with_len}
 use Rattle.sig_pace.proofs.leaders.leaders.Given as goal
 
 abbrev pub invariant-loop-signal : goal.invariant-loop-signal

@@ -1,9 +1,4 @@
-use Rattle.std.proofs.Common.{◌∙◌, List, ℕ, Contains, ap, sym, subst}
-use Rattle.sig_pace.specs.Leaders.{AreIncreasing}
-use Rattle.sig_pace.specs.Tops.{AreByNumber, AreTops, signals_of}
-use Rattle.sig_pace.specs.declared.candidates.Candidate.{Candidate}
-use Rattle.sig_pace.proofs.CandidateLemmas.{by_number}
-use Rattle.sig_pace.proofs.MaximaLemmas.{maxima_asked}
+use Rattle.sig_pace.proofs.{◌∙◌, List, ℕ, Contains, ap, sym, subst, AreIncreasing, AreByNumber, AreTops, signals_of, Candidate, by_number, maxima_asked}
 use Rattle.sig_pace.proofs.maximal.maxima_asked.Goals as goal
 
 pub candidates_of-requires-clause-signals : goal.candidates_of-requires-clause-signals

@@ -1,9 +1,4 @@
-use Rattle.std.proofs.Common.{◌∙◌, sym, subst}
-use Rattle.std.specs.Prelude.{None}
-use Rattle.sig_rel.specs.Systems.{AreConditions}
-use Rattle.sig_solve.proofs.ConditionLists.{conditions_by_number}
-use Rattle.sig_pace.specs.Leaders.{AreLeaders}
-use Rattle.sig_pace.proofs.ShareLemmas.{calls_added, keeps_refused, keeps_system}
+use Rattle.sig_pace.proofs.{◌∙◌, sym, subst, None, AreConditions, conditions_by_number, AreLeaders, calls_added, keeps_refused, keeps_system}
 use Rattle.sig_pace.proofs.maximal.maximal_clocks.Goals as goal
 
 pub system-requires-clause-conditions : goal.system-requires-clause-conditions

@@ -1,4 +1,4 @@
-use Rattle.sig_pace.specs.Names.{NoneNamedBelow}
+use Rattle.sig_pace.proofs.{NoneNamedBelow}
 use Rattle.sig_pace.proofs.names.first_named.Given as goal
 
 abbrev pub invariant-loop-number : goal.invariant-loop-number

@@ -1,7 +1,4 @@
-use Rattle.std.proofs.Common.{subst}
-use Rattle.std.specs.Prelude.{MatchOption}
-use Rattle.sig_rel.specs.Triangles.{AreClassesInOrder, IsTriangular}
-use Rattle.sig_solve.proofs.TriangleLemmas.{first_is_root}
+use Rattle.sig_pace.proofs.{subst, MatchOption, AreClassesInOrder, IsTriangular, first_is_root}
 use Rattle.sig_pace.proofs.needing.is_triangular.Goals as goal
 
 pub returns-in-Some-clause-root : goal.returns-in-Some-clause-root

@@ -1,8 +1,4 @@
-use Rattle.std.proofs.Common.{sym, subst}
-use Rattle.sig_pace.specs.MaximalClocks.{AreMaximalClocks}
-use Rattle.sig_pace.specs.Tops.{AreMaxima}
-use Rattle.sig_pace.proofs.MaximaLemmas.{few_need_none, many_need_paces}
-use Rattle.sig_pace.proofs.ShareLemmas.{keeps_maximal}
+use Rattle.sig_pace.proofs.{sym, subst, AreMaximalClocks, AreMaxima, few_need_none, many_need_paces, keeps_maximal}
 use Rattle.sig_pace.proofs.needing.paced_where_needed.Goals as goal
 
 pub returns-in_err-maxima-clause-share : goal.returns-in_err-maxima-clause-share

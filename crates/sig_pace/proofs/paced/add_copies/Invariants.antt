@@ -1,4 +1,4 @@
-use Rattle.std.proofs.Common.{◌≡◌, ◌++◌, take}
+use Rattle.sig_pace.proofs.{◌≡◌, ◌++◌, take}
 use Rattle.sig_pace.proofs.paced.add_copies.Given as goal
 
 abbrev pub invariant-loop-other : goal.invariant-loop-other

@@ -1,5 +1,4 @@
-use Rattle.std.proofs.Common.{◌≡◌, map, take}
-use Rattle.sig_pace.specs.Renumbering.{moved, renumbered_equation}
+use Rattle.sig_pace.proofs.{◌≡◌, map, take, moved, renumbered_equation}
 use Rattle.sig_pace.proofs.paced.moved_equations.Given as goal
 
 abbrev pub invariant-loop-equation : goal.invariant-loop-equation

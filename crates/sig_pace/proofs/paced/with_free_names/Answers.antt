@@ -1,7 +1,4 @@
-use Rattle.std.proofs.Common.{◌≤◌, ◌+◌, ◌∙◌, inl, inr, length, refl, sym, arith}
-use Rattle.std.proofs.lemmas.Bool.{cases_lt, false≢true}
-use Rattle.sig_base.specs.declared.limits.TheConstants.{SIGNALS}
-use Rattle.sig_pace.proofs.MaximaLemmas.{few_maximal, maximal_signal}
+use Rattle.sig_pace.proofs.{◌≤◌, ◌+◌, ◌∙◌, inl, inr, length, refl, sym, arith, cases_lt, false≢true, SIGNALS, few_maximal, maximal_signal}
 use Rattle.sig_pace.proofs.paced.with_free_names.Goals as goal
 
 pub are_too_many-requires-clause-few : goal.are_too_many-requires-clause-few

@@ -1,9 +1,4 @@
-use Rattle.std.proofs.Common.{◌≤◌, ◌∙◌, List, length, subst, take, arith}
-use Rattle.std.specs.Prelude.{None, Some}
-use Rattle.sig_base.specs.declared.signal.Signal.{Signal}
-use Rattle.sig_pace.specs.Names.{FindsNamed}
-use Rattle.sig_pace.proofs.MaximaLemmas.{few_maximal}
-use Rattle.sig_pace.proofs.PacedLemmas.{first_taken, none_taken}
+use Rattle.sig_pace.proofs.{◌≤◌, ◌∙◌, List, length, subst, take, arith, None, Some, Signal, FindsNamed, few_maximal, first_taken, none_taken}
 use Rattle.sig_pace.proofs.paced.with_paces.Goals as goal
 
 pub paces_of-requires : goal.paces_of-requires

@@ -1,5 +1,4 @@
-use Rattle.std.proofs.Common.{◌≡◌, ◌+◌, ◌++◌, drop}
-use Rattle.sig_pace.specs.Paced.{paces_from}
+use Rattle.sig_pace.proofs.{◌≡◌, ◌+◌, ◌++◌, drop, paces_from}
 use Rattle.sig_pace.proofs.paces.paces_of.Given as goal
 
 abbrev pub invariant-loop-number : goal.invariant-loop-number

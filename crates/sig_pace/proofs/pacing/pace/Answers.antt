@@ -1,7 +1,4 @@
-use Rattle.std.proofs.Common.{ℕ, List, inl, subst}
-use Rattle.std.specs.Prelude.{MatchOption}
-use Rattle.sig_pace.specs.Paced.{GetsPaces, NeedsNoPaces}
-use Rattle.sig_pace.proofs.ShareLemmas.{keeps_passed}
+use Rattle.sig_pace.proofs.{ℕ, List, inl, subst, MatchOption, GetsPaces, NeedsNoPaces, keeps_passed}
 use Rattle.sig_pace.proofs.pacing.pace.Goals as goal
 
 pub returns-in_err-found-clause-share : goal.returns-in_err-found-clause-share

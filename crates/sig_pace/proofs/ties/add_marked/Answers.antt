@@ -1,5 +1,4 @@
-use Rattle.std.proofs.Common.{get_or, arith}
-use Rattle.std.proofs.lemmas.List.Elements.{Contains-get_or}
+use Rattle.sig_pace.proofs.{get_or, arith, Contains-get_or}
 use Rattle.sig_pace.proofs.ties.add_marked.Goals as goal
 
 pub add_mark-requires-clause-within : goal.add_mark-requires-clause-within

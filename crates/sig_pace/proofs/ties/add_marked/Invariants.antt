@@ -1,6 +1,4 @@
-use Rattle.std.proofs.Common.{◌≡◌, ◌+◌, ◌++◌, drop}
-use Rattle.sig_pace.specs.Paced.{marked_from}
-use Rattle.sig_pace.specs.Renumbering.{moved}
+use Rattle.sig_pace.proofs.{◌≡◌, ◌+◌, ◌++◌, drop, marked_from, moved}
 use Rattle.sig_pace.proofs.ties.add_marked.Given as goal
 
 abbrev pub invariant-loop-number : goal.invariant-loop-number

@@ -1,6 +1,4 @@
-use Rattle.std.proofs.Common.{◌≡◌, ◌+◌, ◌++◌, drop}
-use Rattle.std.specs.Prelude.{suc}
-use Rattle.sig_pace.specs.Paced.{together_from}
+use Rattle.sig_pace.proofs.{◌≡◌, ◌+◌, ◌++◌, drop, suc, together_from}
 use Rattle.sig_pace.proofs.ties.add_others.Given as goal
 
 abbrev pub invariant-loop-number : goal.invariant-loop-number

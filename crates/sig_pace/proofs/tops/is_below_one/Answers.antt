@@ -1,11 +1,4 @@
-use Rattle.std.proofs.Common.{Contains, get_or, inl, inr, refl, take_all, sym, ◌∙◌, subst, arith}
-use Rattle.std.proofs.lemmas.Bool.{false≢true}
-use Rattle.std.proofs.lemmas.List.Elements.{Contains-get_or}
-use Rattle.sig_dd.specs.Nodes.{Holds, Implies}
-use Rattle.sig_dd.specs.declared.node.Ref.{Ref}
-use Rattle.sig_pace.specs.MaximalClocks.{IsBelow}
-use Rattle.sig_pace.specs.declared.candidates.Candidate.{Candidate}
-use Rattle.sig_pace.proofs.TopLemmas.{nothing, taken_cases}
+use Rattle.sig_pace.proofs.{Contains, get_or, inl, inr, refl, take_all, sym, ◌∙◌, subst, arith, false≢true, Contains-get_or, Holds, Implies, Ref, IsBelow, Candidate, nothing, taken_cases}
 use Rattle.sig_pace.proofs.tops.is_below_one.Goals as goal
 
 pub presence-requires : goal.presence-requires

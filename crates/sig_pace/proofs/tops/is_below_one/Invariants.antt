@@ -1,6 +1,4 @@
-use Rattle.std.proofs.Common.{take, Contains}
-use Rattle.sig_pace.specs.MaximalClocks.{IsBelow}
-use Rattle.sig_pace.specs.declared.candidates.Candidate.{Candidate}
+use Rattle.sig_pace.proofs.{take, Contains, IsBelow, Candidate}
 use Rattle.sig_pace.proofs.tops.is_below_one.Given as goal
 
 abbrev pub invariant-loop-other : goal.invariant-loop-other

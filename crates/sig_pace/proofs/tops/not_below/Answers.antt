@@ -1,9 +1,4 @@
-use Rattle.std.proofs.Common.{◌+◌, get_or, sym, ap, ◌∙◌, subst, arith}
-use Rattle.std.proofs.lemmas.Bool.{false≢true}
-use Rattle.std.proofs.lemmas.List.Elements.{Contains-get_or}
-use Rattle.sig_dd.specs.Nodes.{Implies}
-use Rattle.sig_dd.specs.declared.node.Ref.{Ref}
-use Rattle.sig_pace.proofs.TopLemmas.{AreNotBelowYet, all_passed, drop_below, keep_other, nothing}
+use Rattle.sig_pace.proofs.{◌+◌, get_or, sym, ap, ◌∙◌, subst, arith, false≢true, Contains-get_or, Implies, Ref, AreNotBelowYet, all_passed, drop_below, keep_other, nothing}
 use Rattle.sig_pace.proofs.tops.not_below.Goals as goal
 use Rattle.sig_pace.proofs.tops.not_below.Goals.{then-not-branch+in_ok-push, else-not-branch}
 

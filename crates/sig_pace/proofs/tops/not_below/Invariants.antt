@@ -1,4 +1,4 @@
-use Rattle.sig_pace.proofs.TopLemmas.{AreNotBelowYet}
+use Rattle.sig_pace.proofs.{AreNotBelowYet}
 use Rattle.sig_pace.proofs.tops.not_below.Given as goal
 
 abbrev pub invariant-loop-candidate : goal.invariant-loop-candidate

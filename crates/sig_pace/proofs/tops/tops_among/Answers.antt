@@ -1,6 +1,4 @@
-use Rattle.std.proofs.Common.{get_or}
-use Rattle.std.proofs.lemmas.List.Elements.{Contains-get_or}
-use Rattle.sig_pace.proofs.TopLemmas.{nothing, one_more_top, taken_whole}
+use Rattle.sig_pace.proofs.{get_or, Contains-get_or, nothing, one_more_top, taken_whole}
 use Rattle.sig_pace.proofs.tops.tops_among.Goals as goal
 
 pub tops_with-requires-clause-tops : goal.tops_with-requires-clause-tops

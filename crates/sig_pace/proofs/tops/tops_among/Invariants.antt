@@ -1,5 +1,4 @@
-use Rattle.std.proofs.Common.{take}
-use Rattle.sig_pace.specs.Tops.{AreTops}
+use Rattle.sig_pace.proofs.{take, AreTops}
 use Rattle.sig_pace.proofs.tops.tops_among.Given as goal
 
 abbrev pub invariant-loop-candidate : goal.invariant-loop-candidate

@@ -1,8 +1,4 @@
-use Rattle.std.proofs.Common.{List, sym, ◌∙◌, subst}
-use Rattle.std.proofs.lemmas.Bool.{false≢true}
-use Rattle.sig_pace.specs.Tops.{AddsTop, AreNotBelow, IsBelowCandidate}
-use Rattle.sig_pace.specs.declared.candidates.Candidate.{Candidate}
-use Rattle.sig_pace.proofs.TopLemmas.{push_top, skip_below, skip_never}
+use Rattle.sig_pace.proofs.{List, sym, ◌∙◌, subst, false≢true, AddsTop, AreNotBelow, IsBelowCandidate, Candidate, push_top, skip_below, skip_never}
 use Rattle.sig_pace.proofs.tops.tops_with.Goals as goal
 
 pub returns-then-not-branch-clause-value : goal.returns-then-not-branch-clause-value

@@ -1,21 +1,4 @@
-use Rattle.std.proofs.Common.{codes, subst, sym}
-use Rattle.sig_tree.specs.Terminals.{mark}
-use Rattle.sig_tree.specs.Syntax.{equations_of}
-use Rattle.sig_tree.specs.Limits.{both_limits}
-use Rattle.sig_tree.specs.Equations.{IsBody}
-use Rattle.sig_parse.proofs.Covering.{covered, one_item_more, first_item}
-use Rattle.sig_parse.proofs.BodyLemmas.{together}
-use Rattle.sig_parse.proofs.Relaying.{handed, since_refused}
-use Rattle.sig_parse.proofs.Outcomes.{on_ok}
-use Rattle.sig_parse.proofs.SettledBodies.{body_defined, body_equated, body_together}
-use Rattle.sig_parse.proofs.RefusedChoice.{body_from_definition, body_from_clock_equation}
-use Rattle.sig_parse.proofs.RefusedTogether.{together_deep, together_inside, bodies_begun, bodies_more, bodies_first, bodies_over, bodies_next}
-use Rattle.sig_parse.proofs.ClosedRows.{next_not_refused, closes_next}
-use Rattle.sig_parse.proofs.Lists.{first_pushed}
-use Rattle.sig_parse.specs.State.{State}
-use Rattle.sig_parse.specs.Settling.{Closes}
-use Rattle.sig_parse.specs.Parts.{InBodies}
-use Rattle.sig_tree.specs.declared.process.Body.{All}
+use Rattle.sig_parse.proofs.{codes, subst, sym, mark, equations_of, both_limits, IsBody, covered, one_item_more, first_item, together, handed, since_refused, on_ok, body_defined, body_equated, body_together, body_from_definition, body_from_clock_equation, together_deep, together_inside, bodies_begun, bodies_more, bodies_first, bodies_over, bodies_next, next_not_refused, closes_next, first_pushed, State, Closes, InBodies, All}
 use Rattle.sig_parse.proofs.bodies.+body.Goals as goal
 
 pub together-returns-clause-reads : goal.together-returns-clause-reads

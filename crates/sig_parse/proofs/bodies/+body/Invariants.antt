@@ -1,11 +1,4 @@
-use Rattle.std.proofs.Common.{◌+◌, ◌*◌, ◌-◌, codes, length, map}
-use Rattle.sig_tree.specs.Syntax.{equations_of}
-use Rattle.sig_tree.specs.Terminals.{mark}
-use Rattle.sig_tree.specs.Limits.{both_limits}
-use Rattle.sig_tree.specs.Repeated.{Separated}
-use Rattle.sig_tree.specs.Equations.{IsBody}
-use Rattle.sig_parse.specs.Reads.{Covers}
-use Rattle.sig_parse.proofs.RefusedTogether.{LeadsBodies}
+use Rattle.sig_parse.proofs.{◌+◌, ◌*◌, ◌-◌, codes, length, map, equations_of, mark, both_limits, Separated, IsBody, Covers, LeadsBodies}
 use Rattle.sig_parse.proofs.bodies.+body.Given as goal
 
 abbrev pub decreases-bodies-loop-all : goal.decreases-bodies-loop-all

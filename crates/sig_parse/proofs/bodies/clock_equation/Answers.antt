@@ -1,8 +1,4 @@
-use Rattle.sig_tree.specs.Syntax.{expression_of}
-use Rattle.sig_parse.proofs.Relaying.{handed}
-use Rattle.sig_parse.proofs.RefusedDefinitions.{fresh_refuses, fresh_settles}
-use Rattle.sig_parse.proofs.SettledBodies.{operands_settled}
-use Rattle.std.proofs.Common.{map}
+use Rattle.sig_parse.proofs.{expression_of, handed, fresh_refuses, fresh_settles, operands_settled, map}
 use Rattle.sig_parse.proofs.bodies.clock_equation.Goals as goal
 
 pub returns-in_err-operands-clause-refuses : goal.returns-in_err-operands-clause-refuses

@@ -1,9 +1,4 @@
-use Rattle.sig_tree.specs.Syntax.{right_side_of}
-use Rattle.sig_parse.proofs.BodyLemmas.{definition}
-use Rattle.sig_parse.proofs.Relaying.{handed}
-use Rattle.sig_parse.proofs.Covering.{covered}
-use Rattle.sig_parse.proofs.RefusedDefinitions.{definition_left, definition_define, definition_right, definition_settled, fresh_refuses, fresh_settles, fresh_none}
-use Rattle.std.proofs.Common.{arith, ◌≡◌}
+use Rattle.sig_parse.proofs.{right_side_of, definition, handed, covered, definition_left, definition_define, definition_right, definition_settled, fresh_refuses, fresh_settles, fresh_none, arith, ◌≡◌}
 use Rattle.sig_parse.proofs.bodies.definition.Goals as goal
 
 pub returns-clause-reads : goal.returns-clause-reads

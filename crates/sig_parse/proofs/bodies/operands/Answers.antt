@@ -1,11 +1,4 @@
-use Rattle.std.proofs.Common.{codes, map, arith}
-use Rattle.sig_tree.specs.Terminals.{mark}
-use Rattle.sig_tree.specs.Syntax.{expression_of}
-use Rattle.sig_parse.proofs.Relaying.{handed}
-use Rattle.sig_parse.proofs.BodyLemmas.{clock_equation}
-use Rattle.sig_parse.proofs.RefusedEquations.{apart}
-use Rattle.sig_parse.proofs.ExpressionRows.{expressions_so_far, last_stops}
-use Rattle.sig_parse.proofs.RefusedDefinitions.{clock_refused, clock_alone, clock_stops, two_mapped}
+use Rattle.sig_parse.proofs.{codes, map, arith, mark, expression_of, handed, clock_equation, apart, expressions_so_far, last_stops, clock_refused, clock_alone, clock_stops, two_mapped}
 use Rattle.sig_parse.proofs.bodies.operands.Goals as goal
 
 pub returns-in_err-all-clause-refuses : goal.returns-in_err-all-clause-refuses

@@ -1,8 +1,4 @@
-use Rattle.std.proofs.Common.{◌≡◌, ◌∙◌, rules}
-use Rattle.sig_parse.proofs.Steps.{begins_at}
-use Rattle.sig_parse.proofs.Lifting.{raised_last, behind_one, leaf_split, wrong_here, handed_on}
-use Rattle.sig_parse.proofs.Lifting.{stops_same}
-use Rattle.sig_parse.proofs.RefusedConstants.{no_constant, constant_refused, negative_refused}
+use Rattle.sig_parse.proofs.{◌≡◌, ◌∙◌, rules, begins_at, raised_last, behind_one, leaf_split, wrong_here, handed_on, stops_same, no_constant, constant_refused, negative_refused}
 use Rattle.sig_parse.proofs.constant.constant.Goals as goal
 
 pub returns-in-Some-take-3-clause-refuses : goal.returns-in-Some-take-3-clause-refuses

@@ -1,9 +1,4 @@
-use Rattle.std.proofs.Common.{refl}
-use Rattle.std.proofs.lemmas.Result.{IfOk-weaker}
-use Rattle.sig_tree.specs.Expressions.{IsInit}
-use Rattle.sig_parse.proofs.Joins.{after_leaf}
-use Rattle.sig_parse.proofs.Lifting.{raised, raised_last, behind_one, leaf_split}
-use Rattle.sig_parse.proofs.RefusedConstants.{init_refused, init_sign}
+use Rattle.sig_parse.proofs.{refl, IfOk-weaker, IsInit, after_leaf, raised, raised_last, behind_one, leaf_split, init_refused, init_sign}
 use Rattle.sig_parse.proofs.constant.init.Goals as goal
 
 pub returns-clause-reads : goal.returns-clause-reads

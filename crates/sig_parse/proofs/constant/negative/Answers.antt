@@ -1,7 +1,4 @@
-use Rattle.sig_tree.specs.Continuing.{ContinuesNothing}
-use Rattle.sig_parse.specs.Languages.{InNumber}
-use Rattle.sig_parse.proofs.RefusedTokens.{refused_here}
-use Rattle.sig_parse.proofs.RefusedConstants.{number_refused}
+use Rattle.sig_parse.proofs.{ContinuesNothing, InNumber, refused_here, number_refused}
 use Rattle.sig_parse.proofs.constant.negative.Goals as goal
 
 pub returns-in-None-clause-refuses : goal.returns-in-None-clause-refuses

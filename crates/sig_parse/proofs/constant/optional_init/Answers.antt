@@ -1,5 +1,4 @@
-use Rattle.sig_parse.proofs.Lifting.{raised}
-use Rattle.sig_parse.proofs.RefusedConstants.{optional_refused, init_settles}
+use Rattle.sig_parse.proofs.{raised, optional_refused, init_settles}
 use Rattle.sig_parse.proofs.constant.optional_init.Goals as goal
 
 pub returns-in_err-init-clause-refuses : goal.returns-in_err-init-clause-refuses

@@ -1,7 +1,4 @@
-use Rattle.sig_parse.proofs.GroupLemmas.{group_of}
-use Rattle.sig_parse.proofs.Relaying.{handed}
-use Rattle.sig_parse.proofs.Covering.{covered}
-use Rattle.sig_parse.proofs.RefusedDeclarations.{group_from_kind, group_from_items, group_settled}
+use Rattle.sig_parse.proofs.{group_of, handed, covered, group_from_kind, group_from_items, group_settled}
 use Rattle.sig_parse.proofs.declaration.group.Goals as goal
 
 pub returns-clause-reads : goal.returns-clause-reads

@@ -1,18 +1,4 @@
-use Rattle.std.proofs.Common.{codes, map, arith, subst, sym}
-use Rattle.sig_tree.specs.Terminals.{mark}
-use Rattle.sig_tree.specs.Syntax.{declared_of}
-use Rattle.sig_parse.specs.Declarations.{IsGroupOf}
-use Rattle.sig_parse.proofs.Lists.{views_more, views_one, first_pushed}
-use Rattle.sig_parse.proofs.Steps.{ends_at}
-use Rattle.sig_parse.proofs.GroupLemmas.{groups_plain, groups_marked}
-use Rattle.sig_parse.proofs.Relaying.{handed}
-use Rattle.sig_parse.proofs.Covering.{covered}
-use Rattle.sig_parse.proofs.Leading.{leads_refuses, leads_on}
-use Rattle.sig_parse.proofs.RefusedGroups.{groups_first, groups_next, groups_end, groups_over, groups_begun}
-use Rattle.sig_parse.specs.Keywords.{terminal_of}
-use Rattle.sig_parse.specs.State.{State}
-use Rattle.sig_parse.specs.Settling.{Closes}
-use Rattle.sig_parse.specs.Parts.{InGroups}
+use Rattle.sig_parse.proofs.{codes, map, arith, subst, sym, mark, declared_of, IsGroupOf, views_more, views_one, first_pushed, ends_at, groups_plain, groups_marked, handed, covered, leads_refuses, leads_on, groups_first, groups_next, groups_end, groups_over, groups_begun, terminal_of, State, Closes, InGroups}
 use Rattle.sig_parse.proofs.declaration.groups.Goals as goal
 
 pub returns-in_default-clause-reads : goal.returns-in_default-clause-reads

@@ -1,11 +1,4 @@
-use Rattle.std.proofs.Common.{codes, length, map}
-use Rattle.sig_tree.specs.Syntax.{declared_of}
-use Rattle.sig_tree.specs.Terminals.{mark}
-use Rattle.sig_tree.specs.Repeated.{Separated}
-use Rattle.sig_parse.specs.Declarations.{IsGroupOf}
-use Rattle.sig_parse.specs.Reads.{Reads}
-use Rattle.sig_parse.proofs.RefusedGroups.{LeadsGroups}
-use Rattle.sig_parse.specs.Keywords.{terminal_of}
+use Rattle.sig_parse.proofs.{codes, length, map, declared_of, mark, Separated, IsGroupOf, Reads, LeadsGroups, terminal_of}
 use Rattle.sig_parse.proofs.declaration.groups.Given as goal
 
 abbrev pub decreases-loop-all : goal.decreases-loop-all

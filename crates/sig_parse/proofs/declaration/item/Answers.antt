@@ -1,10 +1,5 @@
-use Rattle.std.proofs.Common.{rules, sym, ◌∙◌}
+use Rattle.sig_parse.proofs.{rules, sym, ◌∙◌, the_type, item_with_init, plain_item, handed, covered, item_from_name, item_from_init, item_settled, plain_settled}
 use denote.Enum.Bare.{same_true, same_false}
-use Rattle.sig_parse.specs.contracts.declaration.Declares.{the_type}
-use Rattle.sig_parse.proofs.GroupLemmas.{item_with_init, plain_item}
-use Rattle.sig_parse.proofs.Relaying.{handed}
-use Rattle.sig_parse.proofs.Covering.{covered}
-use Rattle.sig_parse.proofs.RefusedDeclarations.{item_from_name, item_from_init, item_settled, plain_settled}
 use Rattle.sig_parse.proofs.declaration.item.Goals as goal
 
 pub returns-in_ok-init-clause-reads : goal.returns-in_ok-init-clause-reads

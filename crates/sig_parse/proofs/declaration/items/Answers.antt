@@ -1,7 +1,4 @@
-use Rattle.std.proofs.lemmas.Result.{IfOk-weaker}
-use Rattle.sig_parse.proofs.Outcomes.{ok_since}
-use Rattle.sig_parse.proofs.Relaying.{since_refused}
-use Rattle.sig_parse.proofs.RefusedDeclarations.{items_read, items_settled, items_refused}
+use Rattle.sig_parse.proofs.{IfOk-weaker, ok_since, since_refused, items_read, items_settled, items_refused}
 use Rattle.sig_parse.proofs.declaration.items.Goals as goal
 
 pub returns-clause-reads : goal.returns-clause-reads

@@ -1,8 +1,5 @@
-use Rattle.std.proofs.Common.{rules, sym, ◌∙◌}
+use Rattle.sig_parse.proofs.{rules, sym, ◌∙◌, the_type, handed, no_parameter, no_event}
 use denote.Enum.Bare.{same_true, same_false}
-use Rattle.sig_parse.specs.contracts.declaration.Declares.{the_type}
-use Rattle.sig_parse.proofs.Relaying.{handed}
-use Rattle.sig_parse.proofs.RefusedDeclarations.{no_parameter, no_event}
 use Rattle.sig_parse.proofs.declaration.kind.Goals as goal
 
 pub returns-then-eq-clause-refuses : goal.returns-then-eq-clause-refuses

@@ -1,20 +1,6 @@
-use Rattle.std.proofs.Common.{◌≡◌, ℕ, suc, rules, refl, sym, ap, ◌∙◌, subst}
-use Rattle.std.proofs.lemmas.Result.{IfOk-weaker}
+use Rattle.sig_parse.proofs.{◌≡◌, ℕ, suc, rules, refl, sym, ap, ◌∙◌, subst, IfOk-weaker, expression_of, whole, step, again, step_shorter, ends_at, begins_at, at_binary, at_cell, enclosed, prefixed, of_tighter, mixed_level, delay_level, level_number, ContinuesStep, IsOperatorOf, on_ok, ok_since, on_each_ok, handed, since_refused, since_both, StopsBefore, Relation, Cell, Delay as DelayOp, wrong, wrong_here, deep_here, too_many, same_after, stops_again, one_more, level_ends, level_from_operand, binary_stops, binary_reads, cell_reads, binary_lifts, held_lifts, cell_refuses, completes_as, completes_at, step_at, delay_refuses, step_stops, prefix_here, prefix_lifts, prefix_stops, prefixed_operand, tighter_reads, tighter_refuses, primary_refuses, no_atom_here, opening_too_deep, starts_and_stops, inside_lifts, closing_lifts, parenthesised_operand, atom_operand, behind_operand, behind_more, behind_operator, tighter_wrong, relation_wrong, too_many_here, any_number, at_most_one, within_levels}
 use denote.Enum.Bare.{same_false, same_true}
-use Rattle.sig_tree.specs.Syntax.{expression_of}
 use Rattle.sig_parse.specs.contracts.operator.Level.{the_type}
-use Rattle.sig_parse.proofs.Steps.{whole, step, again, step_shorter, ends_at, begins_at, at_binary, at_cell, enclosed, prefixed, of_tighter}
-use Rattle.sig_tree.specs.Levels.{mixed_level, delay_level}
-use Rattle.sig_parse.specs.Operators.{level_number, ContinuesStep, IsOperatorOf}
-use Rattle.sig_parse.proofs.Outcomes.{on_ok, ok_since, on_each_ok}
-use Rattle.sig_parse.proofs.Relaying.{handed, since_refused, since_both}
-use Rattle.sig_tree.specs.Readings.{StopsBefore}
-use Rattle.sig_parse.specs.declared.operator.Level.TheVariants.{Relation}
-use Rattle.sig_parse.specs.declared.operator.Infix.TheVariants.{Cell, Delay as DelayOp}
-use Rattle.sig_parse.proofs.Lifting.{wrong, wrong_here, deep_here, too_many, same_after, stops_again, one_more}
-use Rattle.sig_parse.proofs.OperatorLemmas.{level_ends}
-use Rattle.sig_parse.proofs.RefusedLevels.{level_from_operand}
-use Rattle.sig_parse.proofs.RefusedExpressions.{binary_stops, binary_reads, cell_reads, binary_lifts, held_lifts, cell_refuses, completes_as, completes_at, step_at, delay_refuses, step_stops, prefix_here, prefix_lifts, prefix_stops, prefixed_operand, tighter_reads, tighter_refuses, primary_refuses, no_atom_here, opening_too_deep, starts_and_stops, inside_lifts, closing_lifts, parenthesised_operand, atom_operand, behind_operand, behind_more, behind_operator, tighter_wrong, relation_wrong, too_many_here, any_number, at_most_one, within_levels}
 use Rattle.sig_parse.proofs.expression.+expression.Goals as goal
 
 pub at_level-returns-in_default-clause-reads : goal.at_level-returns-in_default-clause-reads

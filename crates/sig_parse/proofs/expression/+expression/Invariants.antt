@@ -1,7 +1,4 @@
-use Rattle.std.proofs.Common.{◌+◌, ◌*◌, ◌-◌, length}
-use Rattle.sig_tree.specs.Syntax.{expression_of}
-use Rattle.sig_parse.specs.Operators.{level_number}
-use Rattle.sig_parse.proofs.RefusedExpressions.{Climbs}
+use Rattle.sig_parse.proofs.{◌+◌, ◌*◌, ◌-◌, length, expression_of, level_number, Climbs}
 use Rattle.sig_parse.proofs.expression.+expression.Given as goal
 
 abbrev pub invariant-at_level-loop-left : goal.invariant-at_level-loop-left

@@ -1,4 +1,4 @@
-use Rattle.sig_parse.proofs.Relaying.{handed}
+use Rattle.sig_parse.proofs.{handed}
 use Rattle.sig_parse.proofs.expression.cell.Goals as goal
 
 pub returns-in_err-constant-clause-refuses : goal.returns-in_err-constant-clause-refuses

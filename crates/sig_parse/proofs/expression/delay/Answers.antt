@@ -1,10 +1,4 @@
-use Rattle.std.proofs.Common.{ap, refl}
-use Rattle.sig_tree.specs.Syntax.{expression_of}
-use Rattle.sig_parse.specs.declared.operator.Infix.TheVariants.{Delay as DelayOp}
-use Rattle.sig_parse.proofs.Steps.{at_delay}
-use Rattle.sig_parse.proofs.Relaying.{handed}
-use Rattle.sig_parse.proofs.Lifting.{wrong}
-use Rattle.sig_parse.proofs.RefusedExpressions.{delay_reads, delay_lifts, delay_wrong}
+use Rattle.sig_parse.proofs.{ap, refl, expression_of, Delay as DelayOp, at_delay, handed, wrong, delay_reads, delay_lifts, delay_wrong}
 use Rattle.sig_parse.proofs.expression.delay.Goals as goal
 
 pub returns-clause-completes : goal.returns-clause-completes

@@ -1,8 +1,6 @@
-use Rattle.std.proofs.Common.{refl, sym, ◌∙◌}
+use Rattle.sig_parse.proofs.{refl, sym, ◌∙◌, level_number, none_of_level, no_operator, starts_operator, other_level, one_level}
 use denote.Enum.Bare.{same_false}
 use Rattle.sig_parse.specs.contracts.operator.Level.{the_type}
-use Rattle.sig_parse.specs.Operators.{level_number}
-use Rattle.sig_parse.proofs.OperatorLemmas.{none_of_level, no_operator, starts_operator, other_level, one_level}
 use Rattle.sig_parse.proofs.expression.infix.Goals as goal
 
 pub returns-in_default-clause-reads : goal.returns-in_default-clause-reads

@@ -1,5 +1,4 @@
-use Rattle.std.proofs.Common.{inl, inr}
-use Rattle.sig_parse.proofs.Relaying.{handed}
+use Rattle.sig_parse.proofs.{inl, inr, handed}
 use Rattle.sig_parse.proofs.expression.last_init.Goals as goal
 
 pub returns-in_err-constant-clause-refuses : goal.returns-in_err-constant-clause-refuses

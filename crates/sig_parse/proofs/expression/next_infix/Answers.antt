@@ -1,4 +1,4 @@
-use Rattle.sig_parse.proofs.OperatorLemmas.{no_operator}
+use Rattle.sig_parse.proofs.{no_operator}
 use Rattle.sig_parse.proofs.expression.next_infix.Goals as goal
 
 pub returns-in-None : goal.returns-in-None

@@ -1,6 +1,4 @@
-use Rattle.std.proofs.Common.{◌≤◌, arith}
-use Rattle.sig_parse.specs.Operators.{level_number, infix_level}
-use Rattle.sig_parse.proofs.OperatorLemmas.{nothing_behind, looser_behind}
+use Rattle.sig_parse.proofs.{◌≤◌, arith, level_number, infix_level, nothing_behind, looser_behind}
 use Rattle.sig_parse.proofs.expression.nothing_tighter.Goals as goal
 
 pub returns-in_default-clause-stops : goal.returns-in_default-clause-stops

@@ -1,5 +1,4 @@
-use Rattle.std.proofs.Common.{refl}
-use Rattle.sig_parse.proofs.OperatorLemmas.{no_prefix, not_prefix}
+use Rattle.sig_parse.proofs.{refl, no_prefix, not_prefix}
 use Rattle.sig_parse.proofs.expression.prefix.Goals as goal
 
 pub returns-in_default-clause-reads : goal.returns-in_default-clause-reads

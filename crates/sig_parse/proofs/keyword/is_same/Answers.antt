@@ -1,4 +1,4 @@
-use Rattle.std.proofs.Common.{rules, sym, ◌∙◌}
+use Rattle.sig_parse.proofs.{rules, sym, ◌∙◌}
 use denote.Enum.Bare.{same_true, true_same}
 use Rattle.sig_parse.specs.contracts.keyword.Keyword.{the_type}
 use Rattle.sig_parse.proofs.keyword.is_same.Goals as goal

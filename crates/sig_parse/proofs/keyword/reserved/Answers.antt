@@ -1,7 +1,5 @@
-use Rattle.std.proofs.Common.{below_more, ap, sym, ◌∙◌, arith}
+use Rattle.sig_parse.proofs.{below_more, ap, sym, ◌∙◌, arith, word, word_at, word_said}
 use lib.Pointwise.{bytes_decides}
-use Rattle.sig_tree.specs.Terminals.{word}
-use Rattle.sig_parse.proofs.Tables.{word_at, word_said}
 use Rattle.sig_parse.proofs.keyword.reserved.Goals as goal
 
 pub returns-then-eq : goal.returns-then-eq

@@ -1,5 +1,4 @@
-use Rattle.std.proofs.Common.{◌≡◌, ℕ, ◌<◌, get_or}
-use Rattle.sig_lex.specs.Tables.{words}
+use Rattle.sig_parse.proofs.{◌≡◌, ℕ, ◌<◌, get_or, words}
 use Rattle.sig_parse.proofs.keyword.reserved.Given as goal
 
 abbrev pub invariant-loop-keyword : goal.invariant-loop-keyword

@@ -1,7 +1,5 @@
-use Rattle.std.proofs.Common.{below_more, ap, sym, ◌∙◌, arith}
+use Rattle.sig_parse.proofs.{below_more, ap, sym, ◌∙◌, arith, mark, mark_at, mark_said}
 use lib.Pointwise.{bytes_decides}
-use Rattle.sig_tree.specs.Terminals.{mark}
-use Rattle.sig_parse.proofs.Tables.{mark_at, mark_said}
 use Rattle.sig_parse.proofs.keyword.sign.Goals as goal
 
 pub returns-then-eq : goal.returns-then-eq

@@ -1,4 +1,4 @@
-use Rattle.sig_parse.proofs.RefusedPrograms.{one_answer, no_answer}
+use Rattle.sig_parse.proofs.{one_answer, no_answer}
 use Rattle.sig_parse.proofs.laws.one_refusal.Goals as goal
 
 pub returns-clause-one : goal.returns-clause-one

@@ -1,6 +1,4 @@
-use Rattle.std.proofs.Common.{◌++◌, ap, sym, ◌∙◌, Vec, Global}
-use Rattle.std.specs.Prelude.{option_to_list}
-use Rattle.std.proofs.lemmas.List.{append-nil}
+use Rattle.sig_parse.proofs.{◌++◌, ap, sym, ◌∙◌, Vec, Global, option_to_list, append-nil}
 use Rattle.sig_parse.specs.declared.leaf.Leaf.{Leaf}
 use Rattle.sig_parse.proofs.LeafLists.{one_more}
 use Rattle.sig_parse.proofs.leaf.leaves.Goals as goal

@@ -1,6 +1,4 @@
-use Rattle.std.proofs.Common.{◌≡◌, map, take}
-use Rattle.sig_tree.specs.Leaves.{leaves_of}
-use Rattle.sig_parse.specs.Seen.{leaf_seen}
+use Rattle.sig_parse.proofs.{◌≡◌, map, take, leaves_of, leaf_seen}
 use Rattle.sig_parse.proofs.leaf.leaves.Given as goal
 
 abbrev pub invariant-loop-token : goal.invariant-loop-token

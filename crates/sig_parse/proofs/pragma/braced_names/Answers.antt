@@ -1,11 +1,4 @@
-use Rattle.std.proofs.Common.{codes}
-use Rattle.sig_tree.specs.Terminals.{mark}
-use Rattle.sig_tree.specs.Repeated.{Separated}
-use Rattle.sig_tree.specs.Equations.{IsName}
-use Rattle.sig_parse.proofs.Enclosing.{between}
-use Rattle.sig_parse.proofs.Relaying.{handed}
-use Rattle.sig_parse.proofs.Covering.{covered}
-use Rattle.sig_parse.proofs.RefusedPragmas.{braced_open, braced_inside, braced_close}
+use Rattle.sig_parse.proofs.{codes, mark, Separated, IsName, between, handed, covered, braced_open, braced_inside, braced_close}
 use Rattle.sig_parse.proofs.pragma.braced_names.Goals as goal
 
 pub returns-clause-reads : goal.returns-clause-reads

@@ -1,7 +1,4 @@
-use Rattle.sig_parse.proofs.GroupLemmas.{placement}
-use Rattle.sig_parse.proofs.Relaying.{handed}
-use Rattle.sig_parse.proofs.Covering.{covered}
-use Rattle.sig_parse.proofs.RefusedPragmas.{pragma_first, pragma_names, pragma_label}
+use Rattle.sig_parse.proofs.{placement, handed, covered, pragma_first, pragma_names, pragma_label}
 use Rattle.sig_parse.proofs.pragma.pragma.Goals as goal
 
 pub returns-clause-reads : goal.returns-clause-reads

@@ -1,12 +1,4 @@
-use Rattle.sig_tree.specs.Syntax.{placement_of}
-use Rattle.sig_tree.specs.Processes.{IsPlacement}
-use Rattle.sig_parse.proofs.Lists.{reads_each_more, reads_none}
-use Rattle.sig_parse.proofs.Relaying.{handed}
-use Rattle.sig_parse.proofs.Covering.{covered}
-use Rattle.sig_parse.proofs.Leading.{leads_on, leads_refuses, leads_nowhere}
-use Rattle.sig_parse.proofs.RefusedPragmas.{pragma_list_more, pragma_list_ends, pragma_list_item}
-use Rattle.sig_parse.specs.Parts.{InPragmaList}
-use Rattle.sig_tree.specs.Continuing.{ContinuesNothing}
+use Rattle.sig_parse.proofs.{placement_of, IsPlacement, reads_each_more, reads_none, handed, covered, leads_on, leads_refuses, leads_nowhere, pragma_list_more, pragma_list_ends, pragma_list_item, InPragmaList, ContinuesNothing}
 use Rattle.sig_parse.proofs.pragma.pragma_list.Goals as goal
 
 pub loop-alloc-preserved : goal.loop-alloc-preserved

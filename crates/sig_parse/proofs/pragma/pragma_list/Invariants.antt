@@ -1,9 +1,4 @@
-use Rattle.std.proofs.Common.{length, map}
-use Rattle.sig_tree.specs.Syntax.{placement_of}
-use Rattle.sig_tree.specs.Repeated.{Each}
-use Rattle.sig_tree.specs.Processes.{IsPlacement}
-use Rattle.sig_parse.specs.Reads.{Reads}
-use Rattle.sig_parse.proofs.RefusedPragmas.{LeadsPragmas}
+use Rattle.sig_parse.proofs.{length, map, placement_of, Each, IsPlacement, Reads, LeadsPragmas}
 use Rattle.sig_parse.proofs.pragma.pragma_list.Given as goal
 
 abbrev pub decreases-loop-alloc : goal.decreases-loop-alloc

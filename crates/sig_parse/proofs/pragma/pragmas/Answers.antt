@@ -1,14 +1,4 @@
-use Rattle.std.proofs.Common.{map, subst, sym, codes}
-use Rattle.sig_tree.specs.Syntax.{placement_of}
-use Rattle.sig_parse.proofs.GroupLemmas.{pragmas_between}
-use Rattle.sig_parse.proofs.Relaying.{handed}
-use Rattle.sig_parse.proofs.Covering.{covered}
-use Rattle.sig_parse.proofs.RefusedPragmas.{pragmas_missing, pragmas_inside, pragmas_last, pragmas_settled}
-use Rattle.sig_parse.specs.State.{State}
-use Rattle.sig_parse.specs.Settling.{Settles}
-use Rattle.sig_parse.specs.Parts.{InPragmas}
-use Rattle.sig_tree.specs.Continuing.{ContinuesOptional}
-use Rattle.sig_tree.specs.Terminals.{word}
+use Rattle.sig_parse.proofs.{map, subst, sym, codes, placement_of, pragmas_between, handed, covered, pragmas_missing, pragmas_inside, pragmas_last, pragmas_settled, State, Settles, InPragmas, ContinuesOptional, word}
 use Rattle.sig_parse.proofs.pragma.pragmas.Goals as goal
 
 pub returns-clause-reads : goal.returns-clause-reads

@@ -1,18 +1,5 @@
-use Rattle.std.proofs.Common.{codes, map, inr, subst, sym, arith}
-use Rattle.sig_tree.specs.Terminals.{word}
-use Rattle.sig_tree.specs.Syntax.{declared_of, model_of}
-use Rattle.sig_parse.specs.Declarations.{AreDeclared, AreBehindWhere}
-use Rattle.sig_parse.proofs.Covering.{covered, no_more, seen_as, between_marks}
-use Rattle.sig_parse.proofs.ProcessLemmas.{ended, one_group_more, one_process_more, in_parts, whole, modelled, nothing_begun}
-use Rattle.sig_parse.proofs.Relaying.{handed, since_refused}
-use Rattle.sig_parse.proofs.ClosedRows.{closes_next}
-use Rattle.sig_parse.proofs.Leading.{leads_on, leads_refuses, leads_nowhere}
-use Rattle.sig_parse.specs.Parts.{InDeclared, InWhere}
-use Rattle.sig_tree.specs.Continuing.{ContinuesNothing, ContinuesOptional}
-use Rattle.sig_parse.proofs.RefusedModels.{process_where, process_end, inner_too_deep, inner_refused}
-use Rattle.sig_parse.proofs.RefusedProcesses.{declared_group, group_declared, process_declared, where_missing, where_inside, where_settled}
-use Rattle.sig_parse.specs.State.{State}
-use Rattle.sig_parse.specs.Settling.{Settles}
+use Rattle.sig_parse.proofs.{codes, map, inr, subst, sym, arith, word, declared_of, model_of, AreDeclared, AreBehindWhere, covered, no_more, seen_as, between_marks, ended, one_group_more, one_process_more, in_parts, modelled, nothing_begun, handed, since_refused, closes_next, leads_on, leads_refuses, leads_nowhere, InDeclared, InWhere, ContinuesNothing, ContinuesOptional, process_where, process_end, inner_too_deep, inner_refused, declared_group, group_declared, process_declared, where_missing, where_inside, where_settled, State, Settles}
+use Rattle.sig_parse.proofs.ProcessLemmas.{whole}
 use Rattle.sig_parse.proofs.process.+process.Goals as goal
 
 pub process-returns-clause-reads : goal.process-returns-clause-reads

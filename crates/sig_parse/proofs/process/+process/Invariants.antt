@@ -1,7 +1,4 @@
-use Rattle.std.proofs.Common.{◌+◌, ◌*◌, ◌-◌, length, map}
-use Rattle.sig_tree.specs.Syntax.{declared_of, model_of}
-use Rattle.sig_parse.proofs.ProcessLemmas.{Begun}
-use Rattle.sig_parse.proofs.RefusedProcesses.{LeadsDeclared}
+use Rattle.sig_parse.proofs.{◌+◌, ◌*◌, ◌-◌, length, map, declared_of, model_of, Begun, LeadsDeclared}
 use Rattle.sig_parse.proofs.process.+process.Given as goal
 
 abbrev pub decreases-entries-loop-alloc : goal.decreases-entries-loop-alloc

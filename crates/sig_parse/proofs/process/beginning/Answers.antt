@@ -1,8 +1,4 @@
-use Rattle.std.proofs.Common.{map, arith}
-use Rattle.sig_tree.specs.Syntax.{declared_of, placement_of}
-use Rattle.sig_parse.proofs.Covering.{covered, no_more}
-use Rattle.sig_parse.proofs.Relaying.{handed}
-use Rattle.sig_parse.proofs.RefusedModels.{process_title, process_params, process_interface, process_pragmas, process_body}
+use Rattle.sig_parse.proofs.{map, arith, declared_of, placement_of, covered, no_more, handed, process_title, process_params, process_interface, process_pragmas, process_body}
 use Rattle.sig_parse.proofs.process.beginning.Goals as goal
 
 pub returns-clause-reads : goal.returns-clause-reads

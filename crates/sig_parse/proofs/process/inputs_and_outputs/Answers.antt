@@ -1,9 +1,4 @@
-use Rattle.std.proofs.Common.{map}
-use Rattle.sig_tree.specs.Syntax.{declared_of}
-use Rattle.sig_parse.proofs.GroupLemmas.{interface}
-use Rattle.sig_parse.proofs.Relaying.{handed}
-use Rattle.sig_parse.proofs.Covering.{covered}
-use Rattle.sig_parse.proofs.RefusedHeadings.{interface_open, interface_asked, interface_inputs, interface_outputs}
+use Rattle.sig_parse.proofs.{map, declared_of, interface, handed, covered, interface_open, interface_asked, interface_inputs, interface_outputs}
 use Rattle.sig_parse.proofs.process.inputs_and_outputs.Goals as goal
 
 pub returns-clause-reads : goal.returns-clause-reads

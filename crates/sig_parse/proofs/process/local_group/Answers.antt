@@ -1,8 +1,4 @@
-use Rattle.sig_tree.specs.Syntax.{declared_of}
-use Rattle.sig_parse.proofs.GroupLemmas.{local_group}
-use Rattle.sig_parse.proofs.Relaying.{handed}
-use Rattle.sig_parse.proofs.Covering.{covered}
-use Rattle.sig_parse.proofs.RefusedHeadings.{local_group_inside, local_group_end}
+use Rattle.sig_parse.proofs.{declared_of, local_group, handed, covered, local_group_inside, local_group_end}
 use Rattle.sig_parse.proofs.process.local_group.Goals as goal
 
 pub returns-clause-reads : goal.returns-clause-reads

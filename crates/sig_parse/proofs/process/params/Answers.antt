@@ -1,14 +1,4 @@
-use Rattle.std.proofs.Common.{map, subst, sym, codes}
-use Rattle.sig_tree.specs.Syntax.{declared_of}
-use Rattle.sig_parse.proofs.GroupLemmas.{params_between}
-use Rattle.sig_parse.proofs.Relaying.{handed}
-use Rattle.sig_parse.proofs.Covering.{covered}
-use Rattle.sig_parse.proofs.RefusedHeadings.{params_missing, params_inside, params_settled}
-use Rattle.sig_parse.specs.State.{State}
-use Rattle.sig_parse.specs.Settling.{Settles}
-use Rattle.sig_parse.specs.Parts.{InParams}
-use Rattle.sig_tree.specs.Continuing.{ContinuesOptional}
-use Rattle.sig_tree.specs.Terminals.{mark}
+use Rattle.sig_parse.proofs.{map, subst, sym, codes, declared_of, params_between, handed, covered, params_missing, params_inside, params_settled, State, Settles, InParams, ContinuesOptional, mark}
 use Rattle.sig_parse.proofs.process.params.Goals as goal
 
 pub returns-clause-reads : goal.returns-clause-reads

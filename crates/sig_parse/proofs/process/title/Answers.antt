@@ -1,7 +1,4 @@
-use Rattle.sig_parse.proofs.Enclosing.{title}
-use Rattle.sig_parse.proofs.Relaying.{handed}
-use Rattle.sig_parse.proofs.Covering.{covered}
-use Rattle.sig_parse.proofs.RefusedHeadings.{title_begun, title_name, title_equals}
+use Rattle.sig_parse.proofs.{title, handed, covered, title_begun, title_name, title_equals}
 use Rattle.sig_parse.proofs.process.title.Goals as goal
 
 pub returns-clause-reads : goal.returns-clause-reads

@@ -1,9 +1,4 @@
-use Rattle.std.proofs.Common.{◌≡◌, rules, IfOk, subst}
-use Rattle.sig_base.specs.declared.span.Span.{Span}
-use Rattle.sig_tree.specs.Leaves.{leaves_of}
-use Rattle.sig_parse.specs.Refused.{end_of}
-use Rattle.sig_parse.specs.Refusals.{Cause}
-use Rattle.sig_parse.specs.Exact.{IsRefused}
+use Rattle.sig_parse.proofs.{◌≡◌, rules, IfOk, subst, Span, leaves_of, end_of, Cause, IsRefused}
 use Rattle.sig_parse.proofs.program.parse.Goals as goal
 
 pub returns-clause-accepted : goal.returns-clause-accepted

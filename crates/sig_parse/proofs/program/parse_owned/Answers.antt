@@ -1,12 +1,4 @@
-use Rattle.std.proofs.Common.{◌≡◌, ◌∙◌, ap, rules, map, subst, sym}
-use Rattle.sig_tree.specs.Syntax.{model_of}
-use Rattle.sig_tree.specs.Leaves.{leaves_of}
-use Rattle.sig_tree.specs.Grammar.{HasTree}
-use Rattle.sig_parse.specs.Refused.{end_of, place_of}
-use Rattle.sig_parse.specs.declared.parse_answer.ParseAnswer.{ParseAnswer}
-use Rattle.sig_parse.proofs.RefusedTexts.{stands_behind}
-use Rattle.sig_parse.proofs.RefusedPrograms.{answered, no_other, given_tree, not_refused}
-use Rattle.sig_parse.specs.Exact.{IsAnswerOf}
+use Rattle.sig_parse.proofs.{◌≡◌, ◌∙◌, ap, rules, map, subst, sym, model_of, leaves_of, HasTree, end_of, place_of, ParseAnswer, stands_behind, answered, no_other, given_tree, not_refused, IsAnswerOf}
 use Rattle.sig_parse.proofs.program.parse_owned.Goals as goal
 
 pub returns-in-Ok-clause-only : goal.returns-in-Ok-clause-only

@@ -1,12 +1,4 @@
-use Rattle.sig_tree.specs.Syntax.{model_of}
-use Rattle.sig_tree.specs.Limits.{both_limits}
-use Rattle.sig_tree.specs.Processes.{IsModel}
-use Rattle.sig_parse.proofs.Covering.{one_each_more, all_read, stays}
-use Rattle.sig_parse.proofs.Lists.{more_items, first_pushed}
-use Rattle.std.proofs.Common.{length, ap, refl, arith, []}
-use Rattle.sig_parse.proofs.Relaying.{handed}
-use Rattle.sig_parse.proofs.RefusedPrograms.{program_first, program_next, program_more, program_begun}
-use Rattle.sig_tree.specs.Repeated.{Each}
+use Rattle.sig_parse.proofs.{model_of, both_limits, IsModel, one_each_more, all_read, stays, more_items, first_pushed, length, ap, refl, arith, [], handed, program_first, program_next, program_more, program_begun, Each}
 use Rattle.sig_parse.proofs.program.processes.Goals as goal
 
 pub loop-alloc-preserved : goal.loop-alloc-preserved

@@ -1,10 +1,4 @@
-use Rattle.std.proofs.Common.{◌≤◌, length, map}
-use Rattle.sig_tree.specs.Syntax.{model_of}
-use Rattle.sig_tree.specs.Limits.{both_limits}
-use Rattle.sig_tree.specs.Repeated.{Each}
-use Rattle.sig_tree.specs.Processes.{IsModel}
-use Rattle.sig_parse.specs.Reads.{Covers}
-use Rattle.sig_parse.proofs.RefusedPrograms.{LeadsProgram}
+use Rattle.sig_parse.proofs.{◌≤◌, length, map, model_of, both_limits, Each, IsModel, Covers, LeadsProgram}
 use Rattle.sig_parse.proofs.program.processes.Given as goal
 
 abbrev pub decreases-loop-alloc : goal.decreases-loop-alloc

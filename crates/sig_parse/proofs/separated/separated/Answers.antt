@@ -1,8 +1,4 @@
-use Rattle.std.proofs.Common.{inl, inr}
-use Rattle.sig_parse.specs.Keywords.{terminal_of}
-use Rattle.sig_parse.proofs.Lists.{first_pushed}
-use Rattle.sig_parse.proofs.Relaying.{handed}
-use Rattle.sig_parse.proofs.Repeating.{parts_one, parts_more}
+use Rattle.sig_parse.proofs.{inl, inr, terminal_of, first_pushed, handed, parts_one, parts_more}
 use Rattle.sig_parse.proofs.separated.separated.Goals as goal
 
 pub loop-all-init : goal.loop-all-init

@@ -1,6 +1,4 @@
-use Rattle.std.proofs.Common.{length}
-use Rattle.sig_parse.specs.Keywords.{terminal_of}
-use Rattle.sig_parse.specs.Repeats.{ReadsParts}
+use Rattle.sig_parse.proofs.{length, terminal_of, ReadsParts}
 use Rattle.sig_parse.proofs.separated.separated.Given as goal
 
 abbrev pub decreases-loop-all : goal.decreases-loop-all

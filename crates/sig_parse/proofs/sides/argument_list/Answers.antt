@@ -1,11 +1,4 @@
-use Rattle.std.proofs.Common.{codes}
-use Rattle.std.proofs.lemmas.Result.{IfOk-weaker}
-use Rattle.sig_tree.specs.Terminals.{mark}
-use Rattle.sig_parse.specs.Languages.{InArgumentList}
-use Rattle.sig_parse.proofs.ClosedRows.{closes_next}
-use Rattle.sig_parse.proofs.Outcomes.{ok_since}
-use Rattle.sig_parse.proofs.Relaying.{since_refused}
-use Rattle.sig_parse.proofs.RefusedCalls.{arguments_read, arguments_refused, arguments_end}
+use Rattle.sig_parse.proofs.{codes, IfOk-weaker, mark, InArgumentList, closes_next, ok_since, since_refused, arguments_read, arguments_refused, arguments_end}
 use Rattle.sig_parse.proofs.sides.argument_list.Goals as goal
 
 pub returns-then-is-clause-closes : goal.returns-then-is-clause-closes

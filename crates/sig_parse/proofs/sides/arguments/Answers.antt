@@ -1,12 +1,4 @@
-use Rattle.std.proofs.Common.{codes, map, sum_by}
-use Rattle.sig_tree.specs.Terminals.{mark}
-use Rattle.sig_tree.specs.Syntax.{expression_of}
-use Rattle.sig_tree.specs.Limits.{both_limits, operators}
-use Rattle.sig_tree.specs.Repeated.{Listed}
-use Rattle.sig_tree.specs.Expressions.{IsExpression}
-use Rattle.sig_parse.proofs.Enclosing.{between}
-use Rattle.sig_parse.proofs.Relaying.{handed}
-use Rattle.sig_parse.proofs.RefusedCalls.{arguments_opening, arguments_lift, arguments_close}
+use Rattle.sig_parse.proofs.{codes, map, sum_by, mark, expression_of, both_limits, operators, Listed, IsExpression, between, handed, arguments_opening, arguments_lift, arguments_close}
 use Rattle.sig_parse.proofs.sides.arguments.Goals as goal
 
 pub returns-clause-reads : goal.returns-clause-reads

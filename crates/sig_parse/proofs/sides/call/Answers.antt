@@ -1,11 +1,4 @@
-use Rattle.std.proofs.Common.{map}
-use Rattle.sig_tree.specs.Syntax.{expression_of}
-use Rattle.sig_parse.proofs.Enclosing.{call}
-use Rattle.sig_parse.proofs.Relaying.{handed}
-use Rattle.sig_parse.proofs.RefusedCalls.{call_begun, call_constants_refused, call_arguments_refused, call_is_named, call_opens_behind, same_count}
-use Rattle.sig_parse.proofs.RefusedExpressions.{starts_and_stops}
-use Rattle.sig_parse.proofs.SettledBodies.{right_settles_call}
-use Rattle.sig_parse.proofs.Covering.{covered}
+use Rattle.sig_parse.proofs.{map, expression_of, call, handed, call_begun, call_constants_refused, call_arguments_refused, call_is_named, call_opens_behind, same_count, starts_and_stops, right_settles_call, covered}
 use Rattle.sig_parse.proofs.sides.call.Goals as goal
 
 pub returns-clause-reads : goal.returns-clause-reads

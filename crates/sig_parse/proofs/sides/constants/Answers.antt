@@ -1,12 +1,4 @@
-use Rattle.std.proofs.Common.{codes, inr}
-use Rattle.sig_tree.specs.Terminals.{mark}
-use Rattle.sig_tree.specs.Repeated.{Listed}
-use Rattle.sig_tree.specs.Expressions.{IsConstant}
-use Rattle.sig_tree.specs.Equations.{AreConstants}
-use Rattle.sig_parse.proofs.Joins.{viewed}
-use Rattle.sig_parse.proofs.Enclosing.{between}
-use Rattle.sig_parse.proofs.Relaying.{handed}
-use Rattle.sig_parse.proofs.RefusedCalls.{constants_lifts, constants_close, some_constants}
+use Rattle.sig_parse.proofs.{codes, inr, mark, Listed, IsConstant, AreConstants, viewed, between, handed, constants_lifts, constants_close, some_constants}
 use Rattle.sig_parse.proofs.sides.constants.Goals as goal
 
 pub returns-clause-reads : goal.returns-clause-reads

@@ -1,13 +1,4 @@
-use Rattle.std.proofs.Common.{codes, inr}
-use Rattle.sig_tree.specs.Terminals.{mark}
-use Rattle.sig_tree.specs.Limits.{both_limits}
-use Rattle.sig_tree.specs.Repeated.{Separated}
-use Rattle.sig_tree.specs.Equations.{IsName, IsLeft}
-use Rattle.sig_parse.proofs.Joins.{viewed}
-use Rattle.sig_parse.proofs.Enclosing.{between}
-use Rattle.sig_parse.proofs.Relaying.{handed}
-use Rattle.sig_parse.proofs.Lifting.{deep_here, wrong_here}
-use Rattle.sig_parse.proofs.RefusedCalls.{left_deep, left_names_refused, left_close_refused, left_here}
+use Rattle.sig_parse.proofs.{codes, inr, mark, both_limits, Separated, IsName, IsLeft, viewed, between, handed, deep_here, wrong_here, left_deep, left_names_refused, left_close_refused, left_here}
 use Rattle.sig_parse.proofs.sides.left_side.Goals as goal
 
 pub returns-in_ok-_closed-clause-reads : goal.returns-in_ok-_closed-clause-reads

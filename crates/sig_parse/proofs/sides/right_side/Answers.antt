@@ -1,8 +1,4 @@
-use Rattle.sig_tree.specs.Syntax.{expression_of}
-use Rattle.sig_parse.proofs.Relaying.{handed, since_refused}
-use Rattle.sig_parse.proofs.RefusedCalls.{right_lifts}
-use Rattle.sig_parse.proofs.SettledBodies.{right_settles_expression}
-use Rattle.sig_parse.proofs.Covering.{covered}
+use Rattle.sig_parse.proofs.{expression_of, handed, since_refused, right_lifts, right_settles_expression, covered}
 use Rattle.sig_parse.proofs.sides.right_side.Goals as goal
 
 pub returns-in_err-expression-clause-refuses : goal.returns-in_err-expression-clause-refuses

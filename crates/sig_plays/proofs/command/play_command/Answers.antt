@@ -1,9 +1,4 @@
-use Rattle.sig_outcome.specs.Tasks.{SaysLine}
-use Rattle.sig_outcome.proofs.Performing.{performs_refusal}
-use Rattle.sig_plays.specs.Plays.{playing}
-use Rattle.sig_plays.proofs.Loads.{play_number}
-use Rattle.sig_plays.proofs.OnePlay.{one_play_outcome}
-use Rattle.sig_plays.proofs.Written.{performs_play}
+use Rattle.sig_plays.proofs.{SaysLine, performs_refusal, playing, play_number, one_play_outcome, performs_play}
 use Rattle.sig_plays.proofs.command.play_command.Goals as goal
 
 pub returns-in-Ok : goal.returns-in-Ok

@@ -1,8 +1,4 @@
-use Rattle.std.proofs.Common.{ap, refl, subst, sym}
-use Rattle.sig_kernel.specs.declared.kernel.Kernel.{Kernel}
-use Rattle.sig_outcome.specs.Tasks.{SaysLine}
-use Rattle.sig_runs.specs.Ends.{IsOfKernel, end_line}
-use Rattle.sig_plays.proofs.Written.{end_named, wrote_part, wrote_whole}
+use Rattle.sig_plays.proofs.{refl, subst, sym, Kernel, SaysLine, IsOfKernel, end_line, end_named, wrote_part, wrote_whole}
 use Rattle.sig_plays.proofs.command.play_core.Goals as goal
 
 pub say_end-requires : goal.say_end-requires

@@ -1,11 +1,4 @@
-use Rattle.std.proofs.Common.{◌≡◌, ◌≤◌, ◌∙◌, ap, inl, length, subst, sym}
-use Rattle.sig_base.specs.declared.limits.TheConstants.{ITEMS}
-use Rattle.sig_core.specs.Cores.{Shows}
-use Rattle.sig_model.specs.Cores.{Given, opening}
-use Rattle.sig_outcome.specs.Tasks.{SaysLine}
-use Rattle.sig_plan.specs.Plans.{IsAccepted, PlanView}
-use Rattle.sig_plays.specs.Plays.{WritesPlay}
-use Rattle.sig_plays.proofs.Written.{few_links}
+use Rattle.sig_plays.proofs.{◌≡◌, ◌≤◌, ◌∙◌, ap, inl, length, subst, sym, ITEMS, Shows, Given, opening, SaysLine, IsAccepted, PlanView, WritesPlay, few_links}
 use Rattle.sig_plays.proofs.command.play_script.Goals as goal
 
 pub play_core-requires-clause-opening : goal.play_core-requires-clause-opening

@@ -1,9 +1,4 @@
-use Rattle.std.proofs.Common.{◌≤◌, ap, arith, length}
-use Rattle.std.proofs.lemmas.Option.{IfSome_then}
-use Rattle.sig_flow.specs.Events.{AreEvents}
-use Rattle.sig_outcome.proofs.Refused.{about_data, on_err, refused_data}
-use Rattle.sig_plays.specs.EventFiles.{IsEventLine, RefusesEvents}
-use Rattle.sig_plays.proofs.EventLines.{event_line}
+use Rattle.sig_plays.proofs.{◌≤◌, ap, arith, length, IfSome_then, AreEvents, about_data, on_err, refused_data, IsEventLine, RefusesEvents, event_line}
 use Rattle.sig_plays.proofs.event_file.load_events.Goals as goal
 
 pub returns-clause-refused : goal.returns-clause-refused

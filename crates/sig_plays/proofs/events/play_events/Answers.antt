@@ -1,8 +1,4 @@
-use Rattle.std.proofs.Common.{◌∙◌, ◌+◌, arith}
-use Rattle.std.proofs.lemmas.Result.{err_from_is_err_and}
-use Rattle.sig_core.proofs.RunningOut.{join_part}
-use Rattle.sig_plays.proofs.Happened.{first_part, next_happened, none_happened}
-use Rattle.sig_text.specs.Sink.{TookPrefix}
+use Rattle.sig_plays.proofs.{◌∙◌, ◌+◌, arith, err_from_is_err_and, join_part, first_part, next_happened, TookPrefix}
 use Rattle.sig_plays.proofs.events.play_events.Goals as goal
 
 pub returns-in_err-event-clause-part : goal.returns-in_err-event-clause-part

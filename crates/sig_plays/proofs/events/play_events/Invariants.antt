@@ -1,8 +1,5 @@
 -- the events so far happened
-use Rattle.std.proofs.Common.{◌≤◌, map, take}
-use Rattle.sig_core.specs.Cores.{IsCore, IsSameRun}
-use Rattle.sig_plays.specs.EventFiles.{happens}
-use Rattle.sig_plays.specs.Happening.{AllHappened}
+use Rattle.sig_plays.proofs.{◌≤◌, map, take, IsCore, IsSameRun, happens, AllHappened}
 use Rattle.sig_plays.proofs.events.play_events.Given as goal
 
 abbrev pub invariant-loop-event : goal.invariant-loop-event

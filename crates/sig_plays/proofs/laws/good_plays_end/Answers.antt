@@ -1,4 +1,4 @@
-use Rattle.sig_plays.proofs.Complete.{end_status_is, only_end, some_play}
+use Rattle.sig_plays.proofs.{end_status_is, only_end, some_play}
 use Rattle.sig_plays.proofs.laws.good_plays_end.Goals as goal
 
 pub returns-clause-only : goal.returns-clause-only

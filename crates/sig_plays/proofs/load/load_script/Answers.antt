@@ -1,5 +1,4 @@
-use Rattle.std.proofs.lemmas.Result.{err_from_is_err_and}
-use Rattle.sig_plays.proofs.Loads.{stops_events, stops_run}
+use Rattle.sig_plays.proofs.{err_from_is_err_and, stops_events, stops_run}
 use Rattle.sig_plays.proofs.load.load_script.Goals as goal
 
 pub returns-in_err-loaded-clause-stops : goal.returns-in_err-loaded-clause-stops

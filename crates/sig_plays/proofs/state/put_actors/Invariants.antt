@@ -1,7 +1,5 @@
 -- the lines of the actors so far were taken
-use Rattle.std.proofs.Common.{◌≤◌, take}
-use Rattle.sig_plays.specs.Happening.{TookOf}
-use Rattle.sig_plays.specs.StateLines.{actor_line, lines_from}
+use Rattle.sig_plays.proofs.{◌≤◌, take, TookOf, actor_line, lines_from}
 use Rattle.sig_plays.proofs.state.put_actors.Given as goal
 
 abbrev pub invariant-loop-k : goal.invariant-loop-k

@@ -1,10 +1,4 @@
-use Rattle.std.proofs.Common.{List, ℕ, arith, subst}
-use Rattle.std.specs.Prelude.{slice_get}
-use Rattle.std.proofs.lemmas.Result.{err_from_is_err_and}
-use Rattle.sig_plays.proofs.Lining.{more_of_lines, part_of_lines}
-use Rattle.sig_plays.proofs.StateTaken.{link_there}
-use Rattle.sig_plays.specs.StateLines.{link_line}
-use Rattle.sig_text.specs.Sink.{TookPrefix}
+use Rattle.sig_plays.proofs.{List, ℕ, arith, subst, slice_get, err_from_is_err_and, more_of_lines, part_of_lines, link_there, link_line, TookPrefix}
 use Rattle.sig_plays.proofs.state.put_links.Goals as goal
 
 pub returns-in_err-put_link-clause-prefix : goal.returns-in_err-put_link-clause-prefix

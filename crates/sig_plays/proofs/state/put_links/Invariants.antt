@@ -1,7 +1,5 @@
 -- the lines of the links so far were taken
-use Rattle.std.proofs.Common.{◌≤◌, take}
-use Rattle.sig_plays.specs.Happening.{TookOf}
-use Rattle.sig_plays.specs.StateLines.{link_line, lines_from}
+use Rattle.sig_plays.proofs.{◌≤◌, take, TookOf, link_line, lines_from}
 use Rattle.sig_plays.proofs.state.put_links.Given as goal
 
 abbrev pub invariant-loop-j : goal.invariant-loop-j

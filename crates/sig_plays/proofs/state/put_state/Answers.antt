@@ -1,6 +1,4 @@
-use Rattle.std.proofs.lemmas.Result.{err_from_is_err_and}
-use Rattle.sig_outcome.proofs.Refused.{on_err, on_ok}
-use Rattle.sig_plays.proofs.StateTaken.{part_actors, part_begin, part_end, part_links, part_word, whole_state}
+use Rattle.sig_plays.proofs.{err_from_is_err_and, on_err, on_ok, part_actors, part_begin, part_end, part_links, part_word, whole_state}
 use Rattle.sig_plays.proofs.state.put_state.Goals as goal
 
 pub returns-in_err-put_all-clause-prefix : goal.returns-in_err-put_all-clause-prefix

@@ -1,8 +1,4 @@
-use Rattle.std.proofs.Common.{List, map}
-use Rattle.std.proofs.lemmas.Result.{err_from_is_err_and}
-use Rattle.sig_model.specs.declared.event.Event.{Event}
-use Rattle.sig_plays.specs.EventFiles.{happens}
-use Rattle.sig_plays.proofs.Playing.{end_of_play, part_events, part_flush, part_rest, part_state, reached, whole_play}
+use Rattle.sig_plays.proofs.{map, err_from_is_err_and, happens, end_of_play, part_events, part_flush, part_rest, part_state, reached, whole_play}
 use Rattle.sig_plays.proofs.writing.play_out.Goals as goal
 
 pub returns-in_err-play_events-clause-prefix : goal.returns-in_err-play_events-clause-prefix

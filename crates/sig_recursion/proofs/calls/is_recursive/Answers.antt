@@ -1,10 +1,4 @@
-use Rattle.sig_tree.specs.Declarations.{name_of}
-use Rattle.sig_tree.specs.Syntax.{ProcessModel}
-use Rattle.sig_recursion.proofs.Calling.{graph_is, found_same, reaches_none, calls_size}
-use Rattle.sig_scope.proofs.Placing.{within}
-use Rattle.sig_recursion.specs.Calls.{IsGraph}
-use Rattle.sig_scope.specs.Walked.{interface_models, process_texts}
-use Rattle.std.proofs.Common.{ℕ, List, subst, sym, refl, ◌<◌, length, arith}
+use Rattle.sig_recursion.proofs.{name_of, ProcessModel, graph_is, found_same, reaches_none, calls_size, within, IsGraph, interface_models, process_texts, ℕ, List, subst, sym, refl, ◌<◌, length, arith}
 use Rattle.sig_recursion.proofs.calls.is_recursive.Goals as goal
 
 pub reaches-requires-clause-graph : goal.reaches-requires-clause-graph

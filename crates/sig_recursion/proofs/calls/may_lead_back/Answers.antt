@@ -1,8 +1,4 @@
-use Rattle.std.proofs.Common.{◌<◌}
-use Rattle.sig_recursion.proofs.Calling.{reaches_none}
-use Rattle.sig_recursion.proofs.Ranking.{rises_apart, ranked_below}
-use Rattle.sig_recursion.specs.Calls.{rank_of}
-use Rattle.sig_scope.specs.Walked.{interface_models}
+use Rattle.sig_recursion.proofs.{◌<◌, reaches_none, rises_apart, ranked_below, rank_of, interface_models}
 use Rattle.sig_recursion.proofs.calls.may_lead_back.Goals as goal
 
 pub returns-in-Some : goal.returns-in-Some

@@ -1,9 +1,4 @@
-use Rattle.sig_tree.specs.declared.expr.Name.{Name}
-use Rattle.sig_scope.proofs.Growing.{grown}
-use Rattle.sig_recursion.specs.Calls.{list_of}
-use Rattle.sig_scope.specs.Places.{place_of}
-use Rattle.sig_scope.specs.Walked.{process_texts, interface_models}
-use Rattle.std.proofs.Common.{[], Bor}
+use Rattle.sig_recursion.proofs.{Name, grown, list_of, place_of, process_texts, interface_models, [], Bor}
 use Rattle.sig_recursion.proofs.calls.places_of.Goals as goal
 
 pub returns : goal.returns

@@ -1,5 +1,4 @@
-use Rattle.sig_recursion.proofs.Walking.{walk_begins, walk_goes, walk_covers, waits_within, start_within, callees_within, callees_are, covered_misses}
-use Rattle.std.proofs.Common.{◌∙◌, refl, arith}
+use Rattle.sig_recursion.proofs.{walk_begins, walk_goes, walk_covers, waits_within, start_within, callees_within, callees_are, covered_misses, ◌∙◌, refl, arith}
 use Rattle.sig_recursion.proofs.calls.reaches.Goals as goal
 
 pub loop-next-init : goal.loop-next-init

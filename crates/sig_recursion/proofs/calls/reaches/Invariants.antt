@@ -1,5 +1,4 @@
-use Rattle.sig_recursion.specs.Calls.{IsWalk, graph_in}
-use Rattle.std.proofs.Common.{◌≡◌, ◌+◌, length, not, count_by}
+use Rattle.sig_recursion.proofs.{IsWalk, graph_in, ◌≡◌, ◌+◌, length, not, count_by}
 use Rattle.sig_recursion.proofs.calls.reaches.Given as goal
 
 abbrev pub invariant-loop-next : goal.invariant-loop-next

@@ -1,7 +1,5 @@
-use Rattle.sig_recursion.proofs.Walking.{visits_more, visits_seen}
+use Rattle.sig_recursion.proofs.{visits_more, visits_seen, arith, get_or_default}
 use Rattle.sig_recursion.proofs.calls.visit.Goals.{then-not-visited-place+in_ok-push, else-not-visited-place}
-use Rattle.std.proofs.Common.{arith}
-use Rattle.std.proofs.lemmas.List.{get_or_default}
 use Rattle.sig_recursion.proofs.calls.visit.Goals as goal
 
 pub loop-place-preserved : goal.loop-place-preserved

@@ -1,5 +1,4 @@
-use Rattle.sig_recursion.specs.Calls.{Visits}
-use Rattle.std.proofs.Common.{take}
+use Rattle.sig_recursion.proofs.{Visits, take}
 use Rattle.sig_recursion.proofs.calls.visit.Given as goal
 
 abbrev pub invariant-loop-place : goal.invariant-loop-place

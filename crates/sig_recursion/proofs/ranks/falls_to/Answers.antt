@@ -1,8 +1,4 @@
-use Rattle.std.proofs.Common.{ℕ, List, ◌≤◌, subst, arith}
-use Rattle.std.specs.List.{All}
-use Rattle.std.proofs.lemmas.List.{take_all}
-use Rattle.std.proofs.lemmas.List.Elements.{All-more}
-use Rattle.sig_recursion.specs.Calls.{rank_of}
+use Rattle.sig_recursion.proofs.{ℕ, List, ◌≤◌, subst, arith, All, take_all, All-more, rank_of}
 use Rattle.sig_recursion.proofs.ranks.falls_to.Goals as goal
 
 pub loop-callee-preserved : goal.loop-callee-preserved

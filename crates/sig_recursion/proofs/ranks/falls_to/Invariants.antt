@@ -1,6 +1,4 @@
-use Rattle.std.proofs.Common.{◌≤◌, take}
-use Rattle.std.specs.List.{All}
-use Rattle.sig_recursion.specs.Calls.{rank_of}
+use Rattle.sig_recursion.proofs.{◌≤◌, take, All, rank_of}
 use Rattle.sig_recursion.proofs.ranks.falls_to.Given as goal
 
 abbrev pub invariant-loop-callee : goal.invariant-loop-callee

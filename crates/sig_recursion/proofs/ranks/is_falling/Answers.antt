@@ -1,4 +1,4 @@
-use Rattle.sig_recursion.proofs.Ranking.{falls_more, falls_all}
+use Rattle.sig_recursion.proofs.{falls_more, falls_all}
 use Rattle.sig_recursion.proofs.ranks.is_falling.Goals as goal
 
 pub loop-place-preserved : goal.loop-place-preserved

@@ -1,5 +1,4 @@
-use Rattle.sig_recursion.specs.Calls.{graph_in}
-use Rattle.sig_recursion.proofs.Ranking.{FallsBelow}
+use Rattle.sig_recursion.proofs.{graph_in, FallsBelow}
 use Rattle.sig_recursion.proofs.ranks.is_falling.Given as goal
 
 abbrev pub invariant-loop-place : goal.invariant-loop-place

@@ -1,9 +1,4 @@
-use Rattle.sig_outcome.specs.Tasks.{SaysLine}
-use Rattle.sig_outcome.proofs.Performing.{performs_refusal}
-use Rattle.sig_runs.specs.Runs.{running}
-use Rattle.sig_runs.proofs.Loads.{run_number}
-use Rattle.sig_runs.proofs.OneRun.{one_run_outcome}
-use Rattle.sig_runs.proofs.Written.{performs_run}
+use Rattle.sig_runs.proofs.{SaysLine, performs_refusal, running, run_number, one_run_outcome, performs_run}
 use Rattle.sig_runs.proofs.command.run_command.Goals as goal
 
 pub returns-in-Ok : goal.returns-in-Ok

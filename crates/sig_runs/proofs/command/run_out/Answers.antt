@@ -1,10 +1,4 @@
-use Rattle.std.proofs.Common.{subst}
-use Rattle.sig_base.proofs.TraceLemmas.{one_longest}
-use Rattle.sig_base.specs.Traces.{Trace}
-use Rattle.sig_kernel.specs.KernelTraces.{IsKernelTrace}
-use Rattle.sig_kernel.specs.OutputText.{output_text}
-use Rattle.sig_text.specs.Sink.{TookPrefix-whole}
-use Rattle.sig_outcome.proofs.TakenPieces.{flushed}
+use Rattle.sig_runs.proofs.{subst, one_longest, Trace, IsKernelTrace, output_text, TookPrefix-whole, flushed}
 use Rattle.sig_runs.proofs.command.run_out.Goals as goal
 
 pub returns-in-Ok-clause-whole : goal.returns-in-Ok-clause-whole

@@ -1,4 +1,4 @@
-use Rattle.sig_runs.proofs.Complete.{end_status_is, only_end, some_run}
+use Rattle.sig_runs.proofs.{end_status_is, only_end, some_run}
 use Rattle.sig_runs.proofs.laws.good_runs_end.Goals as goal
 
 pub returns-clause-only : goal.returns-clause-only

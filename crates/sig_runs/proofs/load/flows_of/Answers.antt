@@ -1,8 +1,4 @@
-use Rattle.std.proofs.Common.{◌≡◌, ◌≢◌, ⊎_elim}
-use Rattle.sig_flow.specs.declared.answer.FlowAnswer.TheVariants.{OutOfMemory}
-use Rattle.sig_kernel.specs.Validity.{inputs_of}
-use Rattle.sig_outcome.proofs.Refused.{of_more_data}
-use Rattle.sig_runs.specs.Runs.{RefusesFlows, bad_flows}
+use Rattle.sig_runs.proofs.{◌≡◌, ◌≢◌, ⊎_elim, OutOfMemory, inputs_of, of_more_data, RefusesFlows, bad_flows}
 use Rattle.sig_runs.proofs.load.flows_of.Goals as goal
 
 pub returns-in-Err-clause-refused : goal.returns-in-Err-clause-refused

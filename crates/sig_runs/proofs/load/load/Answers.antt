@@ -1,10 +1,4 @@
-use Rattle.std.proofs.Common.{◌≡◌, IfSome, Some, subst}
-use Rattle.std.proofs.lemmas.Result.{err_from_is_err_and}
-use Rattle.sig_kernel.specs.Validity.{inputs_of}
-use Rattle.sig_plan.specs.Plans.{PlanView}
-use Rattle.sig_outcome.specs.Refusals.{IsOwn, outcome_of}
-use Rattle.sig_runs.specs.Runs.{AtFlows}
-use Rattle.sig_runs.proofs.Loads.{stops_flows, stops_items, stops_program}
+use Rattle.sig_runs.proofs.{IfSome, Some, subst, err_from_is_err_and, inputs_of, PlanView, IsOwn, outcome_of, AtFlows, stops_flows, stops_items, stops_program}
 use Rattle.sig_runs.proofs.load.load.Goals as goal
 
 pub returns-in_err-plan-clause-stops : goal.returns-in_err-plan-clause-stops

@@ -1,10 +1,4 @@
-use Rattle.std.proofs.Common.{◌≤◌, ap, arith, length}
-use Rattle.std.proofs.lemmas.Option.{IfSome_then}
-use Rattle.sig_flow.specs.Flows.{AreFlows}
-use Rattle.sig_kernel.specs.Validity.{inputs_of}
-use Rattle.sig_outcome.proofs.Refused.{about_data, on_err, refused_data}
-use Rattle.sig_runs.specs.Runs.{IsFlowLine, RefusesFlows}
-use Rattle.sig_runs.proofs.FlowLines.{flow_line}
+use Rattle.sig_runs.proofs.{◌≤◌, ap, arith, length, IfSome_then, AreFlows, inputs_of, about_data, on_err, refused_data, IsFlowLine, RefusesFlows, flow_line}
 use Rattle.sig_runs.proofs.load.load_flows.Goals as goal
 
 pub returns-clause-refused : goal.returns-clause-refused

@@ -1,5 +1,4 @@
-use Rattle.sig_scope.specs.Declarations.{declarations_in, item_in, role_in}
-use Rattle.std.proofs.Common.{map, take, ◌++◌, ◌≡◌}
+use Rattle.sig_scope.proofs.{declarations_in, item_in, role_in, map, take, ◌++◌, ◌≡◌}
 use Rattle.sig_scope.proofs.declared.add_items.Given as goal
 
 abbrev pub invariant-loop-item : goal.invariant-loop-item

@@ -1,7 +1,5 @@
-use Rattle.std.proofs.Common.{map, []}
-use Rattle.sig_tree.specs.Syntax.{Declared, declared_of}
-use Rattle.sig_scope.specs.Declarations.{role_in, item_in}
-use Rattle.sig_scope.proofs.Growing.{grown}
+use Rattle.sig_scope.proofs.{map, [], declared_of, role_in, item_in, grown}
+use Rattle.sig_tree.specs.Syntax.{Declared}
 use Rattle.sig_scope.proofs.declared.declared_by.Goals as goal
 
 pub returns : goal.returns

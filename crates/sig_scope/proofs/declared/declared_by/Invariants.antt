@@ -1,6 +1,4 @@
-use Rattle.sig_scope.specs.Declarations.{declarations_in, item_in, role_in}
-use Rattle.std.proofs.Common.{map, take, ◌≡◌}
-use Rattle.std.specs.List.{flat_map}
+use Rattle.sig_scope.proofs.{declarations_in, item_in, role_in, map, take, ◌≡◌, flat_map}
 use Rattle.sig_scope.proofs.declared.declared_by.Given as goal
 
 abbrev pub invariant-loop-group : goal.invariant-loop-group

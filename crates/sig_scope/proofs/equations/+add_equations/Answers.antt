@@ -1,10 +1,4 @@
-use Rattle.sig_tree.specs.Declarations.{equations_in}
-use Rattle.sig_tree.specs.Syntax.{equations_of}
-use Rattle.sig_scope.proofs.Growing.{grown}
-use Rattle.sig_scope.proofs.Trees.{together_is}
-use Rattle.sig_scope.specs.Walked.{bodies_in}
-use Rattle.std.proofs.Common.{map, ap, sym, ◌≡◌, ◌∙◌, ◌++◌}
-use Rattle.std.specs.List.{flat_map}
+use Rattle.sig_scope.proofs.{equations_in, equations_of, grown, together_is, bodies_in, map, ap, sym, ◌≡◌, ◌∙◌, ◌++◌, flat_map}
 use Rattle.sig_scope.proofs.equations.+add_equations.Goals as goal
 
 pub returns-after-loop-one : goal.returns-after-loop-one

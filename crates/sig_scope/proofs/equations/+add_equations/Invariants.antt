@@ -1,8 +1,4 @@
-use Rattle.sig_tree.specs.Declarations.{equations_in}
-use Rattle.sig_tree.specs.Syntax.{equations_of}
-use Rattle.sig_scope.specs.Walked.{bodies_in}
-use Rattle.std.proofs.Common.{take, ◌++◌, ◌≡◌}
-use Rattle.std.specs.List.{flat_map}
+use Rattle.sig_scope.proofs.{equations_in, equations_of, bodies_in, take, ◌++◌, ◌≡◌, flat_map}
 use Rattle.sig_scope.proofs.equations.+add_equations.Given as goal
 
 abbrev pub invariant-loop-one : goal.invariant-loop-one

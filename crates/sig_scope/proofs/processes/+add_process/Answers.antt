@@ -1,12 +1,4 @@
-use Rattle.sig_tree.specs.Declarations.{with_inner}
-use Rattle.sig_tree.specs.Syntax.{model_of}
-use Rattle.sig_tree.specs.declared.process.Process.{Process}
-use Rattle.sig_scope.proofs.Growing.{grown}
-use Rattle.sig_scope.proofs.Trees.{add_is}
-use Rattle.sig_scope.specs.Walked.{models_in}
-use Rattle.std.proofs.Common.{map, ap, Bor, ◌≡◌, ◌∙◌, ◌++◌, ◌∷◌, []}
-use Rattle.std.proofs.lemmas.List.{map-append}
-use Rattle.std.specs.List.{flat_map}
+use Rattle.sig_scope.proofs.{with_inner, model_of, Process, grown, add_is, models_in, map, ap, Bor, ◌≡◌, ◌∙◌, ◌++◌, ◌∷◌, [], map-append, flat_map}
 use Rattle.sig_scope.proofs.processes.+add_process.Goals as goal
 
 pub returns : goal.returns

@@ -1,6 +1,4 @@
-use Rattle.sig_tree.specs.Syntax.{model_of}
-use Rattle.sig_scope.specs.Walked.{interface_models}
-use Rattle.std.proofs.Common.{map, take, ◌≡◌}
+use Rattle.sig_scope.proofs.{model_of, interface_models, map, take, ◌≡◌}
 use Rattle.sig_scope.proofs.processes.interfaces_of.Given as goal
 
 abbrev pub invariant-loop-process : goal.invariant-loop-process

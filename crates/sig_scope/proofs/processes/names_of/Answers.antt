@@ -1,12 +1,4 @@
-use Rattle.sig_tree.specs.Declarations.{name_of}
-use Rattle.sig_tree.specs.Syntax.{model_of}
-use Rattle.sig_tree.specs.declared.expr.Name.{Name}
-use Rattle.sig_tree.specs.declared.process.Process.{Process}
-use Rattle.sig_scope.proofs.Growing.{appends}
-use Rattle.sig_scope.proofs.Trees.{name_is}
-use Rattle.std.proofs.Common.{map, ap, sym, Bor, ◌∙◌}
-use Rattle.std.proofs.lemmas.List.{take_all}
-use Rattle.std.proofs.lemmas.Simd.{map-map}
+use Rattle.sig_scope.proofs.{name_of, model_of, Name, Process, appends, name_is, map, ap, sym, Bor, ◌∙◌, take_all, map-map}
 use Rattle.sig_scope.proofs.processes.names_of.Goals as goal
 
 pub loop-process-preserved : goal.loop-process-preserved

@@ -1,6 +1,4 @@
-use Rattle.std.proofs.Common.{◌≡◌, map, take}
-use Rattle.sig_tree.specs.Declarations.{name_of}
-use Rattle.sig_tree.specs.Syntax.{model_of}
+use Rattle.sig_scope.proofs.{◌≡◌, map, take, name_of, model_of}
 use Rattle.sig_scope.proofs.processes.names_of.Given as goal
 
 abbrev pub invariant-loop-process : goal.invariant-loop-process

@@ -1,5 +1,4 @@
-use Rattle.sig_scope.specs.Declarations.{declaration_in, declarations_in}
-use Rattle.std.proofs.Common.{map, take, ◌++◌, ◌≡◌}
+use Rattle.sig_scope.proofs.{declaration_in, declarations_in, map, take, ◌++◌, ◌≡◌}
 use Rattle.sig_scope.proofs.scope.add_declared.Given as goal
 
 abbrev pub invariant-loop-one : goal.invariant-loop-one

@@ -1,5 +1,4 @@
-use Rattle.sig_scope.specs.Declarations.{declarations_in, texts_in}
-use Rattle.std.proofs.Common.{take, ◌≡◌}
+use Rattle.sig_scope.proofs.{declarations_in, texts_in, take, ◌≡◌}
 use Rattle.sig_scope.proofs.scope.names_of.Given as goal
 
 abbrev pub invariant-loop-one : goal.invariant-loop-one

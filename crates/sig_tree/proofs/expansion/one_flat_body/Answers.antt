@@ -1,4 +1,4 @@
-use Rattle.sig_tree.proofs.OneExpansion.{one_body}
+use Rattle.sig_tree.proofs.{one_body}
 use Rattle.sig_tree.proofs.expansion.one_flat_body.Goals as goal
 
 -- src/expansion.rt:9:1

@@ -1,5 +1,4 @@
-use Rattle.sig_tree.specs.Processes.{IsPlainItem, IsItem}
-use Rattle.sig_tree.proofs.FirstLeaves.{constant_begins, expression_begins, left_begins, right_begins, definition_begins, clock_equation_begins, body_begins, group_begins, placement_begins, model_begins, program_begins}
+use Rattle.sig_tree.proofs.{IsPlainItem, IsItem, constant_begins, expression_begins, left_begins, right_begins, definition_begins, clock_equation_begins, body_begins, group_begins, placement_begins, model_begins, program_begins}
 use Rattle.sig_tree.proofs.laws.beginnings.Goals as goal
 
 pub returns-clause-constant : goal.returns-clause-constant

@@ -1,4 +1,4 @@
-use Rattle.sig_tree.proofs.ReadDeclarations.{item_once, item_group_once, plain_group_once, item_groups_once, plain_groups_once, param_groups_once, params_once, interface_once, placement_once, pragmas_once, local_group_once}
+use Rattle.sig_tree.proofs.{item_once, item_group_once, plain_group_once, item_groups_once, plain_groups_once, param_groups_once, params_once, interface_once, placement_once, pragmas_once, local_group_once}
 use Rattle.sig_tree.proofs.laws.one_declaration.Goals as goal
 
 pub returns-clause-item : goal.returns-clause-item

@@ -1,5 +1,4 @@
-use Rattle.sig_tree.proofs.ReadEquations.{name_once, left_once, constants_once, arguments_once, right_once}
-use Rattle.sig_tree.proofs.ReadBodies.{definition_once, clock_equation_once, body_once, bodies_once, further_bodies_once}
+use Rattle.sig_tree.proofs.{name_once, left_once, constants_once, arguments_once, right_once, definition_once, clock_equation_once, body_once, bodies_once, further_bodies_once}
 use Rattle.sig_tree.proofs.laws.one_equation.Goals as goal
 
 pub returns-clause-name : goal.returns-clause-name

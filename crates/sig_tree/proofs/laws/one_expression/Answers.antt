@@ -1,4 +1,4 @@
-use Rattle.sig_tree.proofs.ReadExpressions.{constant_once, init_once, optional_init_once, expression_once}
+use Rattle.sig_tree.proofs.{constant_once, init_once, optional_init_once, expression_once}
 use Rattle.sig_tree.proofs.laws.one_expression.Goals as goal
 
 pub returns-clause-constant : goal.returns-clause-constant

@@ -1,4 +1,4 @@
-use Rattle.sig_tree.proofs.ReadProcesses.{model_once, program_once}
+use Rattle.sig_tree.proofs.{model_once, program_once}
 use Rattle.sig_tree.proofs.laws.one_process.Goals as goal
 
 pub returns-clause-process : goal.returns-clause-process

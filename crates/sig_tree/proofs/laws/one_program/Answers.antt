@@ -1,7 +1,4 @@
-use Rattle.std.proofs.Common.{subst, sym, List}
-use Rattle.sig_lex.specs.declared.token.Token.{Token}
-use Rattle.sig_tree.specs.Leaves.{leaves_of}
-use Rattle.sig_tree.specs.Grammar.{HasTree}
+use Rattle.sig_tree.proofs.{subst, sym, List, Token, leaves_of, HasTree}
 use Rattle.sig_tree.proofs.laws.one_program.Goals as goal
 
 pub returns : goal.returns

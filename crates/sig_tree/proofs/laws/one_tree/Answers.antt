@@ -1,5 +1,4 @@
-use Rattle.sig_tree.specs.Limits.{both_limits, no_limits}
-use Rattle.sig_tree.proofs.ReadProcesses.{tree_once}
+use Rattle.sig_tree.proofs.{both_limits, no_limits, tree_once}
 use Rattle.sig_tree.proofs.laws.one_tree.Goals as goal
 
 pub returns-clause-tree : goal.returns-clause-tree

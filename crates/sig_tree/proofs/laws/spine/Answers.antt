@@ -1,5 +1,4 @@
-use Rattle.sig_tree.proofs.Spines.{spine_of, of_spine}
-use Rattle.sig_tree.proofs.ReadSpines.{operand_once}
+use Rattle.sig_tree.proofs.{spine_of, of_spine, operand_once}
 use Rattle.sig_tree.proofs.laws.spine.Goals as goal
 
 pub returns-clause-reads : goal.returns-clause-reads

@@ -1,4 +1,4 @@
-use Rattle.sig_tree.proofs.Unlimited.{expression_within, left_within, right_within, definition_within, clock_equation_within, body_within, bodies_within, further_bodies_within, model_within, program_within}
+use Rattle.sig_tree.proofs.{expression_within, left_within, right_within, definition_within, clock_equation_within, body_within, bodies_within, further_bodies_within, model_within, program_within}
 use Rattle.sig_tree.proofs.laws.within_both_limits.Goals as goal
 
 pub returns-clause-expression : goal.returns-clause-expression

@@ -1,4 +1,4 @@
-use Rattle.sig_tree.proofs.Unlimited.{expression_unlimited, left_unlimited, right_unlimited, definition_unlimited, clock_equation_unlimited, body_unlimited, model_unlimited, program_unlimited}
+use Rattle.sig_tree.proofs.{expression_unlimited, left_unlimited, right_unlimited, definition_unlimited, clock_equation_unlimited, body_unlimited, model_unlimited, program_unlimited}
 use Rattle.sig_tree.proofs.laws.within_no_limits.Goals as goal
 
 pub returns-clause-expression : goal.returns-clause-expression

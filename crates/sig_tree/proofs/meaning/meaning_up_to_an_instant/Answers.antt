@@ -1,5 +1,4 @@
-use Rattle.sig_tree.specs.Operators.{Signal}
-use Rattle.sig_tree.proofs.UpTo.{operand_up_to, holds_up_to}
+use Rattle.sig_tree.proofs.{Signal, operand_up_to, holds_up_to}
 use Rattle.sig_tree.proofs.meaning.meaning_up_to_an_instant.Goals as goal
 
 pub returns-clause-means : goal.returns-clause-means

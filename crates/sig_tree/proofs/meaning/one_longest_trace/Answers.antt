@@ -1,5 +1,4 @@
-use Rattle.sig_tree.specs.ProcessTraces.{IsProcessTrace}
-use Rattle.sig_tree.proofs.PrefixLaws.{longest_within}
+use Rattle.sig_tree.proofs.{IsProcessTrace, longest_within}
 use Rattle.sig_tree.proofs.meaning.one_longest_trace.Goals as goal
 
 pub returns : goal.returns

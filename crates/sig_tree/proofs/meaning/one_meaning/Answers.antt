@@ -1,4 +1,4 @@
-use Rattle.sig_tree.proofs.OneMeaning.{same_signal, operand_one}
+use Rattle.sig_tree.proofs.{same_signal, operand_one}
 use Rattle.sig_tree.proofs.meaning.one_meaning.Goals as goal
 
 -- src/meaning.rt:10:1

@@ -1,4 +1,4 @@
-use Rattle.sig_tree.proofs.PrefixLaws.{front_is_trace}
+use Rattle.sig_tree.proofs.{front_is_trace}
 use Rattle.sig_tree.proofs.meaning.prefixes_of_traces.Goals as goal
 
 pub returns : goal.returns

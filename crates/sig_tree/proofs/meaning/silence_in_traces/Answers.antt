@@ -1,4 +1,4 @@
-use Rattle.sig_tree.proofs.Silence.{without_silence, with_silence, each_reduced}
+use Rattle.sig_tree.proofs.{without_silence, with_silence, each_reduced}
 use Rattle.sig_tree.proofs.meaning.silence_in_traces.Goals as goal
 
 pub returns-clause-out : goal.returns-clause-out

@@ -1,4 +1,4 @@
-use Rattle.sig_tree.proofs.EquationLaws.{hold_step, step_hold, hold_after, hold_before}
+use Rattle.sig_tree.proofs.{hold_step, step_hold, hold_after, hold_before}
 use Rattle.sig_tree.proofs.steps.equations_step.Goals as goal
 
 pub returns-clause-first : goal.returns-clause-first

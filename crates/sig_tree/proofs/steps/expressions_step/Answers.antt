@@ -1,5 +1,4 @@
-use Rattle.std.proofs.Common.{[]}
-use Rattle.sig_tree.proofs.StepLaws.{first_step, step_first, first_is, next_after, next_before}
+use Rattle.sig_tree.proofs.{[], first_step, step_first, first_is, next_after, next_before}
 use Rattle.sig_tree.proofs.steps.expressions_step.Goals as goal
 
 pub returns-clause-first : goal.returns-clause-first

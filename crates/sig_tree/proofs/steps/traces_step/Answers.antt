@@ -1,4 +1,4 @@
-use Rattle.sig_tree.proofs.EquationLaws.{leads_through, through_leads, same_behind, leads_more}
+use Rattle.sig_tree.proofs.{leads_through, through_leads, same_behind, leads_more}
 use Rattle.sig_tree.proofs.steps.traces_step.Goals as goal
 
 pub returns-clause-leads : goal.returns-clause-leads

@@ -1,6 +1,4 @@
-use Rattle.sig_tree.specs.Declarations.{all_processes}
-use Rattle.sig_tree.specs.WellFormed.{rules_of}
-use Rattle.sig_tree.proofs.CandidateLemmas.{one_first, none_first}
+use Rattle.sig_tree.proofs.{all_processes, rules_of, one_first, none_first}
 use Rattle.sig_tree.proofs.well_formed.one_offence.Goals as goal
 
 -- src/well_formed.rt:9:1

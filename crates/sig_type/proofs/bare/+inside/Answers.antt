@@ -1,9 +1,4 @@
-use Rattle.std.proofs.Common.{ap, []}
-use Rattle.sig_tree.specs.Syntax.{expression_of}
-use Rattle.sig_tree.specs.Kinds.{FormRow}
-use Rattle.sig_tree.specs.Rules.{bare_operands}
-use Rattle.sig_type.proofs.Sequences.{finds_as}
-use Rattle.sig_type.proofs.Sequences.{finds_then, finds_same}
+use Rattle.sig_type.proofs.{ap, [], expression_of, FormRow, bare_operands, finds_as, finds_then, finds_same}
 use Rattle.sig_type.proofs.bare.+inside.Goals as goal
 
 pub returns-in-Unary : goal.returns-in-Unary

@@ -1,4 +1,4 @@
-use Rattle.sig_type.proofs.Sequences.{finds_then}
+use Rattle.sig_type.proofs.{finds_then}
 use Rattle.sig_type.proofs.bare.alone.Goals as goal
 
 pub returns : goal.returns

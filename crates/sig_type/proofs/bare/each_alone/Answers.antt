@@ -1,7 +1,4 @@
-use Rattle.sig_tree.specs.declared.expr.Expr.{Expr}
-use Rattle.sig_tree.specs.Rules.{bare_alone}
-use Rattle.sig_tree.specs.Syntax.{expression_of}
-use Rattle.sig_type.proofs.Sequences.{finds_more, finds_mapped}
+use Rattle.sig_type.proofs.{Expr, bare_alone, expression_of, finds_more, finds_mapped}
 use Rattle.sig_type.proofs.bare.each_alone.Goals as goal
 
 pub loop-one-preserved : goal.loop-one-preserved

@@ -1,8 +1,4 @@
-use Rattle.sig_tree.specs.Candidates.{each}
-use Rattle.sig_tree.specs.Rules.{bare_alone}
-use Rattle.sig_tree.specs.Syntax.{expression_of}
-use Rattle.sig_type.specs.Findings.{Finds}
-use Rattle.std.proofs.Common.{take}
+use Rattle.sig_type.proofs.{each, bare_alone, expression_of, Finds, take}
 use Rattle.sig_type.proofs.bare.each_alone.Given as goal
 
 abbrev pub invariant-loop-one : goal.invariant-loop-one

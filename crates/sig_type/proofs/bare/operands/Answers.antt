@@ -1,4 +1,4 @@
-use Rattle.sig_type.proofs.Sequences.{finds_then, finds_same}
+use Rattle.sig_type.proofs.{finds_then, finds_same}
 use Rattle.sig_type.proofs.bare.operands.Goals as goal
 
 pub returns : goal.returns

@@ -1,9 +1,4 @@
-use Rattle.sig_tree.specs.Rules.{bad_calls_of}
-use Rattle.sig_tree.specs.Syntax.{equations_of}
-use Rattle.sig_tree.specs.declared.process.Body.{Body}
-use Rattle.sig_type.proofs.Sequences.{finds_more, finds_mapped}
-use Rattle.sig_scope.specs.Walked.{interface_models}
-use Rattle.std.proofs.Common.{Bor}
+use Rattle.sig_type.proofs.{bad_calls_of, equations_of, Body, finds_more, finds_mapped, interface_models, Bor}
 use Rattle.sig_type.proofs.calls.bad_calls.Goals as goal
 
 pub loop-one-preserved : goal.loop-one-preserved

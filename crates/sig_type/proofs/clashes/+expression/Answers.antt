@@ -1,5 +1,4 @@
-use Rattle.sig_type.proofs.Sequences.{finds_then, finds_same, finds_later}
-use Rattle.sig_kinds.proofs.Refusals.{refused_one, refused_two}
+use Rattle.sig_type.proofs.{finds_then, finds_same, finds_later, refused_one, refused_two}
 use Rattle.sig_type.proofs.clashes.+expression.Goals as goal
 
 pub returns-in-Unary-clause-clashes : goal.returns-in-Unary-clause-clashes

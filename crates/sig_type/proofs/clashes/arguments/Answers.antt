@@ -1,10 +1,4 @@
-use Rattle.sig_tree.specs.Rules.{clashes_of_expression}
-use Rattle.sig_tree.specs.Syntax.{expression_of}
-use Rattle.sig_tree.specs.declared.expr.Expr.{Expr}
-use Rattle.sig_type.proofs.Sequences.{finds_more, finds_mapped}
-use Rattle.sig_type.proofs.Zipping.{either_true, either_other, refused_more, refused_all}
-use Rattle.sig_scope.specs.Declarations.{declarations_in}
-use Rattle.std.proofs.Common.{IsTrue, ◌↔◌, ◌⊎◌, ◌∙◌}
+use Rattle.sig_type.proofs.{clashes_of_expression, expression_of, Expr, finds_more, finds_mapped, either_true, either_other, refused_more, refused_all, declarations_in, IsTrue, ◌↔◌, ◌⊎◌, ◌∙◌}
 use Rattle.sig_type.proofs.clashes.arguments.Goals.{then-unfit, else-unfit}
 use Rattle.sig_type.proofs.clashes.arguments.Goals as goal
 

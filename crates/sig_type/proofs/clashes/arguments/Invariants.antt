@@ -1,10 +1,4 @@
-use Rattle.sig_tree.specs.Candidates.{each}
-use Rattle.sig_tree.specs.Rules.{clashes_of_expression}
-use Rattle.sig_tree.specs.Syntax.{expression_of}
-use Rattle.sig_type.proofs.Zipping.{AnyRefused}
-use Rattle.sig_scope.specs.Declarations.{declarations_in}
-use Rattle.sig_type.specs.Findings.{Finds}
-use Rattle.std.proofs.Common.{IsTrue, map, take, ◌↔◌}
+use Rattle.sig_type.proofs.{each, clashes_of_expression, expression_of, AnyRefused, declarations_in, Finds, IsTrue, map, take, ◌↔◌}
 use Rattle.sig_type.proofs.clashes.arguments.Given as goal
 
 abbrev pub invariant-loop-place : goal.invariant-loop-place

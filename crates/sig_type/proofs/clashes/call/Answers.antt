@@ -1,4 +1,4 @@
-use Rattle.sig_type.proofs.Sequences.{finds_then, finds_same, finds_later}
+use Rattle.sig_type.proofs.{finds_then, finds_same, finds_later}
 use Rattle.sig_type.proofs.clashes.call.Goals as goal
 
 pub returns : goal.returns

@@ -1,9 +1,4 @@
-use Rattle.sig_tree.specs.Rules.{clashes_of_constants}
-use Rattle.sig_type.proofs.Sequences.{finds_as}
-use Rattle.sig_type.proofs.Zipping.{constants_more}
-use Rattle.sig_scope.specs.Declarations.{declarations_in}
-use Rattle.std.proofs.Common.{ap}
-use Rattle.std.proofs.lemmas.List.{take_all}
+use Rattle.sig_type.proofs.{clashes_of_constants, finds_as, constants_more, declarations_in, ap, take_all}
 use Rattle.sig_type.proofs.clashes.constants.Goals as goal
 
 pub loop-place-preserved : goal.loop-place-preserved

@@ -1,8 +1,4 @@
-use Rattle.sig_tree.specs.Declarations.{Declaration}
-use Rattle.sig_tree.specs.Rules.{clash_of_init}
-use Rattle.sig_type.proofs.Sequences.{finds_more, finds_mapped}
-use Rattle.sig_scope.specs.Declarations.{declaration_in}
-use Rattle.std.proofs.Common.{Some}
+use Rattle.sig_type.proofs.{Declaration, clash_of_init, finds_more, finds_mapped, declaration_in, Some}
 use Rattle.sig_type.proofs.clashes.inits.Goals as goal
 
 pub loop-one-preserved : goal.loop-one-preserved

@@ -1,7 +1,4 @@
-use Rattle.sig_tree.specs.Rules.{clash_of_init}
-use Rattle.sig_tree.specs.Candidates.{each}
-use Rattle.sig_type.specs.Findings.{Finds}
-use Rattle.std.proofs.Common.{take, Some}
+use Rattle.sig_type.proofs.{clash_of_init, each, Finds, take, Some}
 use Rattle.sig_type.proofs.clashes.inits.Given as goal
 
 abbrev pub invariant-loop-one : goal.invariant-loop-one

@@ -1,4 +1,4 @@
-use Rattle.sig_type.proofs.Sequences.{finds_same}
+use Rattle.sig_type.proofs.{finds_same}
 use Rattle.sig_type.proofs.clashes.left_side.Goals as goal
 
 pub returns : goal.returns

@@ -1,7 +1,4 @@
-use Rattle.sig_tree.specs.declared.expr.Name.{Name}
-use Rattle.sig_tree.specs.Rules.{clash_of_left}
-use Rattle.sig_type.proofs.Sequences.{finds_more, finds_all}
-use Rattle.std.proofs.Common.{◌∷◌, []}
+use Rattle.sig_type.proofs.{Name, clash_of_left, finds_more, finds_all, ◌∷◌, []}
 use Rattle.sig_type.proofs.clashes.left_sides.Goals as goal
 
 pub loop-name-preserved : goal.loop-name-preserved

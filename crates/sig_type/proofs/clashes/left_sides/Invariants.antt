@@ -1,6 +1,4 @@
-use Rattle.sig_type.specs.Asked.{lefts_given}
-use Rattle.sig_type.specs.Findings.{Finds}
-use Rattle.std.proofs.Common.{take}
+use Rattle.sig_type.proofs.{lefts_given, Finds, take}
 use Rattle.sig_type.proofs.clashes.left_sides.Given as goal
 
 abbrev pub invariant-loop-name : goal.invariant-loop-name

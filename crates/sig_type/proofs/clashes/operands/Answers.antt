@@ -1,6 +1,4 @@
-use Rattle.sig_tree.specs.Rules.{clashes_of_expression}
-use Rattle.sig_tree.specs.Syntax.{expression_of}
-use Rattle.sig_type.proofs.Sequences.{finds_more, finds_mapped}
+use Rattle.sig_type.proofs.{clashes_of_expression, expression_of, finds_more, finds_mapped}
 use Rattle.sig_type.proofs.clashes.operands.Goals as goal
 
 pub loop-one-preserved : goal.loop-one-preserved

@@ -1,8 +1,4 @@
-use Rattle.sig_tree.specs.Candidates.{each}
-use Rattle.sig_tree.specs.Rules.{clashes_of_expression}
-use Rattle.sig_tree.specs.Syntax.{expression_of}
-use Rattle.sig_type.specs.Findings.{Finds}
-use Rattle.std.proofs.Common.{take}
+use Rattle.sig_type.proofs.{each, clashes_of_expression, expression_of, Finds, take}
 use Rattle.sig_type.proofs.clashes.operands.Given as goal
 
 abbrev pub invariant-loop-one : goal.invariant-loop-one

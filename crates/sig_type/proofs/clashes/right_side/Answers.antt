@@ -1,4 +1,4 @@
-use Rattle.sig_type.proofs.Sequences.{finds_then, finds_later}
+use Rattle.sig_type.proofs.{finds_then, finds_later}
 use Rattle.sig_type.proofs.clashes.right_side.Goals as goal
 
 pub returns-in-Value : goal.returns-in-Value

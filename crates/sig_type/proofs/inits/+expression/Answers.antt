@@ -1,5 +1,4 @@
-use Rattle.sig_type.proofs.Sequences.{finds_then}
-use Rattle.sig_type.proofs.Small.{missing_same, true_trivially}
+use Rattle.sig_type.proofs.{finds_then, missing_same, true_trivially}
 use Rattle.sig_type.proofs.inits.+expression.Goals as goal
 
 pub returns-in-Binary : goal.returns-in-Binary

@@ -1,6 +1,4 @@
-use Rattle.sig_tree.specs.Rules.{missing_inits}
-use Rattle.sig_tree.specs.Syntax.{expression_of}
-use Rattle.sig_type.proofs.Sequences.{finds_more, finds_mapped}
+use Rattle.sig_type.proofs.{missing_inits, expression_of, finds_more, finds_mapped}
 use Rattle.sig_type.proofs.inits.expressions.Goals as goal
 
 pub loop-one-preserved : goal.loop-one-preserved

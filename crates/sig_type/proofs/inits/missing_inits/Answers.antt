@@ -1,8 +1,4 @@
-use Rattle.sig_tree.specs.Rules.{missing_inits_of_equation}
-use Rattle.sig_tree.specs.Syntax.{equations_of}
-use Rattle.sig_tree.specs.declared.process.Body.{Body}
-use Rattle.sig_type.proofs.Sequences.{finds_more, finds_mapped}
-use Rattle.std.proofs.Common.{Bor}
+use Rattle.sig_type.proofs.{missing_inits_of_equation, equations_of, Body, finds_more, finds_mapped, Bor}
 use Rattle.sig_type.proofs.inits.missing_inits.Goals as goal
 
 pub loop-one-preserved : goal.loop-one-preserved

@@ -1,5 +1,4 @@
-use Rattle.sig_type.proofs.Sequences.{finds_then}
-use Rattle.sig_type.proofs.Small.{missing_same, not_is}
+use Rattle.sig_type.proofs.{finds_then, missing_same, not_is}
 use Rattle.sig_type.proofs.inits.right_side.Goals as goal
 
 pub returns-in-Delay : goal.returns-in-Delay

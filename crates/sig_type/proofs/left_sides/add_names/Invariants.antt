@@ -1,5 +1,4 @@
-use Rattle.sig_scope.specs.Walked.{names_in}
-use Rattle.std.proofs.Common.{map, take, ◌++◌, ◌≡◌}
+use Rattle.sig_type.proofs.{names_in, map, take, ◌++◌, ◌≡◌}
 use Rattle.sig_type.proofs.left_sides.add_names.Given as goal
 
 abbrev pub invariant-loop-name : goal.invariant-loop-name

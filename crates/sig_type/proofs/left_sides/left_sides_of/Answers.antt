@@ -1,8 +1,5 @@
-use Rattle.std.proofs.Common.{[], Bor}
-use Rattle.sig_tree.specs.declared.process.Body.{Body}
-use Rattle.sig_tree.specs.Syntax.{equations_of}
+use Rattle.sig_type.proofs.{[], Bor, Body, equations_of, grown}
 use Rattle.sig_tree.specs.Declarations.{left_sides}
-use Rattle.sig_scope.proofs.Growing.{grown}
 use Rattle.sig_type.proofs.left_sides.left_sides_of.Goals as goal
 
 pub returns : goal.returns

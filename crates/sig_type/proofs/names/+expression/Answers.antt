@@ -1,7 +1,4 @@
-use Rattle.sig_tree.specs.Declarations.{names_of_constant, names_of_expression, names_of_init, names_of_constant}
-use Rattle.sig_tree.specs.Syntax.{expression_of}
-use Rattle.sig_type.proofs.Uses.{unknown_both}
-use Rattle.std.proofs.Common.{◌++◌}
+use Rattle.sig_type.proofs.{names_of_constant, names_of_expression, names_of_init, expression_of, unknown_both, ◌++◌}
 use Rattle.sig_type.proofs.names.+expression.Goals as goal
 
 pub returns-in-Binary : goal.returns-in-Binary

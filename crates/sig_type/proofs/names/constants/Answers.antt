@@ -1,6 +1,4 @@
-use Rattle.sig_tree.specs.Declarations.{names_of_constant, names_of_constant}
-use Rattle.sig_type.proofs.Sequences.{finds_more, finds_spread}
-use Rattle.sig_type.proofs.Uses.{unknown_one}
+use Rattle.sig_type.proofs.{names_of_constant, finds_more, finds_spread, unknown_one}
 use Rattle.sig_type.proofs.names.constants.Goals as goal
 
 pub loop-one-preserved : goal.loop-one-preserved

@@ -1,9 +1,4 @@
-use Rattle.sig_tree.specs.Declarations.{names_of_expression, signals_used, uses_of_right}
-use Rattle.sig_tree.specs.Syntax.{expression_of, right_side_of}
-use Rattle.sig_type.proofs.Uses.{finds_signals, uses_both}
-use Rattle.sig_scope.specs.Walked.{interface_models}
-use Rattle.std.proofs.Common.{map}
-use Rattle.std.specs.List.{flat_map}
+use Rattle.sig_type.proofs.{names_of_expression, signals_used, uses_of_right, expression_of, right_side_of, finds_signals, uses_both, interface_models, map, flat_map}
 use Rattle.sig_type.proofs.names.equation.Goals as goal
 
 pub returns-in-Def : goal.returns-in-Def

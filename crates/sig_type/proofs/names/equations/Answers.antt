@@ -1,10 +1,4 @@
-use Rattle.sig_tree.specs.Declarations.{uses_of_equation}
-use Rattle.sig_tree.specs.Syntax.{equations_of}
-use Rattle.sig_tree.specs.declared.process.Body.{Body}
-use Rattle.sig_type.proofs.Sequences.{finds_more, finds_flat}
-use Rattle.sig_type.proofs.Uses.{unknown_at}
-use Rattle.sig_scope.specs.Walked.{interface_models}
-use Rattle.std.proofs.Common.{Bor}
+use Rattle.sig_type.proofs.{uses_of_equation, equations_of, Body, finds_more, finds_flat, unknown_at, interface_models, Bor}
 use Rattle.sig_type.proofs.names.equations.Goals as goal
 
 pub loop-one-preserved : goal.loop-one-preserved

@@ -1,10 +1,4 @@
-use Rattle.sig_tree.specs.Candidates.{each}
-use Rattle.sig_tree.specs.Declarations.{uses_of_equation}
-use Rattle.sig_tree.specs.Syntax.{equations_of}
-use Rattle.sig_type.specs.Findings.{Finds}
-use Rattle.sig_type.specs.Unknown.{unknown_uses}
-use Rattle.sig_scope.specs.Walked.{interface_models}
-use Rattle.std.proofs.Common.{take}
+use Rattle.sig_type.proofs.{each, uses_of_equation, equations_of, Finds, unknown_uses, interface_models, take}
 use Rattle.sig_type.proofs.names.equations.Given as goal
 
 abbrev pub invariant-loop-one : goal.invariant-loop-one

@@ -1,7 +1,4 @@
-use Rattle.sig_tree.specs.Declarations.{names_of_expression}
-use Rattle.sig_tree.specs.Syntax.{expression_of}
-use Rattle.sig_type.proofs.Sequences.{finds_more, finds_flat}
-use Rattle.sig_type.proofs.Uses.{unknown_one}
+use Rattle.sig_type.proofs.{names_of_expression, expression_of, finds_more, finds_flat, unknown_one}
 use Rattle.sig_type.proofs.names.expressions.Goals as goal
 
 pub loop-one-preserved : goal.loop-one-preserved

@@ -1,7 +1,4 @@
-use Rattle.sig_tree.specs.Declarations.{names_of_init, Declaration}
-use Rattle.sig_type.proofs.Sequences.{finds_more, finds_flat}
-use Rattle.sig_type.proofs.Uses.{unknown_one}
-use Rattle.sig_scope.specs.Declarations.{declaration_in}
+use Rattle.sig_type.proofs.{names_of_init, Declaration, finds_more, finds_flat, unknown_one, declaration_in}
 use Rattle.sig_type.proofs.names.inits.Goals as goal
 
 pub loop-one-preserved : goal.loop-one-preserved

@@ -1,8 +1,4 @@
-use Rattle.sig_tree.specs.Candidates.{each}
-use Rattle.sig_tree.specs.Declarations.{names_of_init}
-use Rattle.sig_type.specs.Findings.{Finds}
-use Rattle.sig_type.specs.Unknown.{unknown_signals}
-use Rattle.std.proofs.Common.{take}
+use Rattle.sig_type.proofs.{each, names_of_init, Finds, unknown_signals, take}
 use Rattle.sig_type.proofs.names.inits.Given as goal
 
 abbrev pub invariant-loop-one : goal.invariant-loop-one

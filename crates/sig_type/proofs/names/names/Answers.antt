@@ -1,5 +1,4 @@
-use Rattle.sig_type.proofs.Sequences.{finds_more, finds_all}
-use Rattle.sig_type.proofs.Uses.{unknown_one}
+use Rattle.sig_type.proofs.{finds_more, finds_all, unknown_one}
 use Rattle.sig_type.proofs.names.names.Goals as goal
 
 pub loop-one-preserved : goal.loop-one-preserved

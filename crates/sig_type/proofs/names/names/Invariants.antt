@@ -1,6 +1,4 @@
-use Rattle.sig_type.specs.Findings.{Finds}
-use Rattle.sig_type.specs.Unknown.{unknown_signals}
-use Rattle.std.proofs.Common.{take}
+use Rattle.sig_type.proofs.{Finds, unknown_signals, take}
 use Rattle.sig_type.proofs.names.names.Given as goal
 
 abbrev pub invariant-loop-one : goal.invariant-loop-one

@@ -1,10 +1,4 @@
-use Rattle.sig_tree.specs.Declarations.{names_of_constant, names_of_expression, names_of_constant}
-use Rattle.sig_tree.specs.Syntax.{expression_of}
-use Rattle.sig_type.proofs.Sequences.{finds_then, finds_same}
-use Rattle.sig_type.proofs.Uses.{finds_signals, unknown_both}
-use Rattle.sig_scope.specs.Walked.{interface_models}
-use Rattle.std.proofs.Common.{map, ◌++◌}
-use Rattle.std.specs.List.{flat_map}
+use Rattle.sig_type.proofs.{names_of_constant, names_of_expression, expression_of, finds_then, finds_same, finds_signals, unknown_both, interface_models, map, ◌++◌, flat_map}
 use Rattle.sig_type.proofs.names.right_side.Goals as goal
 
 pub returns-in-Value : goal.returns-in-Value

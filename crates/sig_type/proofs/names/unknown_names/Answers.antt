@@ -1,9 +1,4 @@
-use Rattle.sig_tree.specs.Declarations.{names_of_init, uses_of_equation, Declaration, signals_used}
-use Rattle.sig_type.proofs.Uses.{finds_signals, uses_both}
-use Rattle.sig_scope.specs.Declarations.{declarations_in}
-use Rattle.sig_scope.specs.Walked.{bodies_in, interface_models}
-use Rattle.std.proofs.Common.{◌++◌}
-use Rattle.std.specs.List.{flat_map}
+use Rattle.sig_type.proofs.{names_of_init, uses_of_equation, Declaration, signals_used, finds_signals, uses_both, declarations_in, bodies_in, interface_models, ◌++◌, flat_map}
 use Rattle.sig_type.proofs.names.unknown_names.Goals as goal
 
 pub returns : goal.returns

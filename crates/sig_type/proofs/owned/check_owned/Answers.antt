@@ -1,5 +1,4 @@
-use Rattle.sig_tree.specs.Syntax.{program_of}
-use Rattle.sig_kinds.proofs.Typing.{are_kinds}
+use Rattle.sig_type.proofs.{program_of, are_kinds}
 use Rattle.sig_type.proofs.owned.check_owned.Goals as goal
 
 pub invariant_of-result : goal.invariant_of-result

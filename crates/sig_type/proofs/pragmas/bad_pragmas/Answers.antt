@@ -1,10 +1,4 @@
-use Rattle.sig_tree.specs.Rules.{IsCluster, bad_pragmas_of}
-use Rattle.sig_tree.specs.Syntax.{placement_of}
-use Rattle.sig_type.proofs.Earlier.{pragmas_turn, pragmas_texts}
-use Rattle.sig_type.proofs.Sequences.{finds_as, finds_same}
-use Rattle.sig_type.proofs.Small.{not_is}
-use Rattle.std.proofs.Common.{ap, map, []}
-use Rattle.std.proofs.lemmas.List.{take_all}
+use Rattle.sig_type.proofs.{IsCluster, bad_pragmas_of, placement_of, pragmas_turn, pragmas_texts, finds_as, finds_same, not_is, ap, map, [], take_all}
 use Rattle.sig_type.proofs.pragmas.bad_pragmas.Goals as goal
 
 pub loop-pragma-preserved : goal.loop-pragma-preserved

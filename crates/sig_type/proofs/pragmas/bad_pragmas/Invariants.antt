@@ -1,9 +1,4 @@
-use Rattle.sig_tree.specs.Declarations.{texts}
-use Rattle.sig_tree.specs.Rules.{bad_pragmas_of}
-use Rattle.sig_tree.specs.Syntax.{placement_of}
-use Rattle.sig_type.proofs.Earlier.{names_placed}
-use Rattle.sig_type.specs.Findings.{Finds}
-use Rattle.std.proofs.Common.{map, take, [], ◌≡◌}
+use Rattle.sig_type.proofs.{texts, bad_pragmas_of, placement_of, names_placed, Finds, map, take, [], ◌≡◌}
 use Rattle.sig_type.proofs.pragmas.bad_pragmas.Given as goal
 
 abbrev pub invariant-loop-pragma : goal.invariant-loop-pragma

@@ -1,9 +1,4 @@
-use Rattle.sig_tree.specs.Declarations.{texts}
-use Rattle.sig_type.specs.Asked.{placed_twice}
-use Rattle.sig_type.proofs.Earlier.{placed_turn, placed_texts}
-use Rattle.sig_type.proofs.Sequences.{finds_as}
-use Rattle.std.proofs.Common.{ap, ◌∙◌, ◌++◌}
-use Rattle.std.proofs.lemmas.List.{take_all}
+use Rattle.sig_type.proofs.{texts, placed_twice, placed_turn, placed_texts, finds_as, ap, ◌∙◌, ◌++◌, take_all}
 use Rattle.sig_type.proofs.pragmas.names.Goals as goal
 
 pub loop-name-preserved : goal.loop-name-preserved

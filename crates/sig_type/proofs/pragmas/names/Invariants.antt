@@ -1,7 +1,4 @@
-use Rattle.sig_tree.specs.Declarations.{texts}
-use Rattle.sig_type.specs.Asked.{placed_twice}
-use Rattle.sig_type.specs.Findings.{Finds}
-use Rattle.std.proofs.Common.{take, ◌++◌, ◌≡◌}
+use Rattle.sig_type.proofs.{texts, placed_twice, Finds, take, ◌++◌, ◌≡◌}
 use Rattle.sig_type.proofs.pragmas.names.Given as goal
 
 abbrev pub invariant-loop-name : goal.invariant-loop-name

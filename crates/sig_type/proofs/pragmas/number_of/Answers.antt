@@ -1,5 +1,4 @@
-use Rattle.std.proofs.Common.{ℕ, ◌≡◌, ◌*◌, ◌^◌, ◌<◌, ◌≤◌, refl, lit<, arith}
-use Rattle.std.proofs.Math.Nat.{pow-le-pow_right}
+use Rattle.sig_type.proofs.{ℕ, ◌≡◌, ◌*◌, ◌^◌, ◌<◌, ◌≤◌, refl, lit<, arith, pow-le-pow_right}
 use Rattle.sig_type.proofs.pragmas.number_of.Goals as goal
 
 -- at most 9 digits, before the last

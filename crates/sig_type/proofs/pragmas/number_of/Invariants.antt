@@ -1,5 +1,4 @@
-use Rattle.sig_tree.specs.Rules.{number_of}
-use Rattle.std.proofs.Common.{take, ◌<◌, ◌^◌, ◌≡◌}
+use Rattle.sig_type.proofs.{number_of, take, ◌<◌, ◌^◌, ◌≡◌}
 use Rattle.sig_type.proofs.pragmas.number_of.Given as goal
 
 abbrev pub invariant-loop-digit : goal.invariant-loop-digit

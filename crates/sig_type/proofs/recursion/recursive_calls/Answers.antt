@@ -1,11 +1,4 @@
-use Rattle.sig_tree.specs.Candidates.{Recursive, candidate}
-use Rattle.sig_tree.specs.Rules.{Reaches}
-use Rattle.sig_tree.specs.declared.expr.Name.{Name}
-use Rattle.sig_type.proofs.Sequences.{finds_more, finds_same, finds_mapped, finds_early, finds_none, asked_found}
-use Rattle.sig_type.proofs.Recursing.{none_recursive}
-use Rattle.sig_recursion.proofs.Walking.{written}
-use Rattle.sig_scope.specs.Walked.{interface_models}
-use Rattle.std.proofs.Common.{Bor, ◌∷◌, [], ◌≡◌, ◌∙◌, length, ap, sym, inl, inr, true, false}
+use Rattle.sig_type.proofs.{Recursive, candidate, Reaches, Name, finds_more, finds_same, finds_mapped, finds_early, finds_none, asked_found, none_recursive, written, interface_models, Bor, ◌∷◌, [], ◌≡◌, ◌∙◌, length, ap, sym, inl, inr, true, false}
 use Rattle.sig_type.proofs.recursion.recursive_calls.Goals as goal
 
 pub loop-name-preserved : goal.loop-name-preserved

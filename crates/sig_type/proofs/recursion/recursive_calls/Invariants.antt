@@ -1,9 +1,4 @@
-use Rattle.sig_tree.specs.Candidates.{Recursive, candidate, each}
-use Rattle.sig_tree.specs.Rules.{Reaches}
-use Rattle.sig_recursion.specs.Calls.{IsCovered, graph_in}
-use Rattle.sig_type.specs.Findings.{Finds}
-use Rattle.sig_scope.specs.Walked.{interface_models}
-use Rattle.std.proofs.Common.{take, length, ◌≡◌, ◌∷◌, []}
+use Rattle.sig_type.proofs.{Recursive, candidate, each, Reaches, IsCovered, graph_in, Finds, interface_models, take, length, ◌≡◌, ◌∷◌, []}
 use Rattle.sig_type.proofs.recursion.recursive_calls.Given as goal
 
 abbrev pub invariant-loop-name : goal.invariant-loop-name

@@ -1,13 +1,4 @@
-use Rattle.sig_tree.specs.Candidates.{DeclaredTwice}
-use Rattle.sig_tree.specs.Declarations.{Declaration}
-use Rattle.sig_type.proofs.Earlier.{repeats, texts_more}
-use Rattle.sig_type.proofs.Sequences.{finds_as}
-use Rattle.sig_type.specs.Asked.{repeated}
-use Rattle.sig_scope.specs.Declarations.{declaration_in, declarations_in}
-use Rattle.sig_scope.specs.declared.declared.Declared.{Declared}
-use Rattle.std.proofs.Common.{map, ap, sym, take, ◌≡◌, ◌∙◌}
-use Rattle.std.proofs.lemmas.List.{take_all}
-use Rattle.std.proofs.lemmas.Simd.{map-map}
+use Rattle.sig_type.proofs.{DeclaredTwice, Declaration, repeats, texts_more, finds_as, repeated, declaration_in, declarations_in, Declared, map, ap, sym, take, ◌≡◌, ◌∙◌, take_all, map-map}
 use Rattle.sig_type.proofs.signals.declared_twice.Goals as goal
 
 pub loop-one-preserved : goal.loop-one-preserved

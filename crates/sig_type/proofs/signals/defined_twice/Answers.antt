@@ -1,12 +1,4 @@
-use Rattle.sig_tree.specs.Candidates.{DefinedTwice}
-use Rattle.sig_tree.specs.Declarations.{texts}
-use Rattle.sig_tree.specs.declared.expr.Name.{Name}
-use Rattle.sig_type.proofs.Earlier.{repeats, texts_more}
-use Rattle.sig_type.proofs.Sequences.{finds_as}
-use Rattle.sig_type.specs.Asked.{repeated}
-use Rattle.sig_scope.specs.Walked.{names_in}
-use Rattle.std.proofs.Common.{ap, Bor, ◌∙◌}
-use Rattle.std.proofs.lemmas.List.{take_all}
+use Rattle.sig_type.proofs.{DefinedTwice, texts, Name, repeats, texts_more, finds_as, repeated, names_in, ap, Bor, ◌∙◌, take_all}
 use Rattle.sig_type.proofs.signals.defined_twice.Goals as goal
 
 pub loop-name-preserved : goal.loop-name-preserved

@@ -1,8 +1,4 @@
-use Rattle.sig_tree.specs.Candidates.{DefinedTwice}
-use Rattle.sig_tree.specs.Declarations.{texts}
-use Rattle.sig_type.specs.Asked.{repeated}
-use Rattle.sig_type.specs.Findings.{Finds}
-use Rattle.std.proofs.Common.{map, take, ◌≡◌}
+use Rattle.sig_type.proofs.{DefinedTwice, texts, repeated, Finds, map, take, ◌≡◌}
 use Rattle.sig_type.proofs.signals.defined_twice.Given as goal
 
 abbrev pub invariant-loop-name : goal.invariant-loop-name

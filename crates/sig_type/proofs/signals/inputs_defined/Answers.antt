@@ -1,7 +1,4 @@
-use Rattle.sig_tree.specs.declared.expr.Name.{Name}
-use Rattle.sig_type.proofs.Sequences.{finds_same, finds_more, finds_mapped}
-use Rattle.sig_type.specs.Asked.{given_in}
-use Rattle.std.proofs.Common.{Bor, ◌∷◌, []}
+use Rattle.sig_type.proofs.{Name, finds_same, finds_more, finds_mapped, given_in, Bor, ◌∷◌, []}
 use Rattle.sig_type.proofs.signals.inputs_defined.Goals as goal
 
 pub loop-name-preserved : goal.loop-name-preserved

@@ -1,7 +1,4 @@
-use Rattle.std.proofs.Common.{take, [], ◌∷◌}
-use Rattle.sig_tree.specs.Candidates.{each}
-use Rattle.sig_type.specs.Asked.{given_in}
-use Rattle.sig_type.specs.Findings.{Finds}
+use Rattle.sig_type.proofs.{take, [], ◌∷◌, each, given_in, Finds}
 use Rattle.sig_type.proofs.signals.inputs_defined.Given as goal
 
 abbrev pub invariant-loop-name : goal.invariant-loop-name

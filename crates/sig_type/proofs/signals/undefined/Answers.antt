@@ -1,10 +1,4 @@
-use Rattle.sig_scope.specs.declared.declared.Declared.{Declared}
-use Rattle.sig_tree.specs.Declarations.{Declaration}
-use Rattle.sig_type.proofs.Sequences.{finds_same, finds_more, finds_mapped}
-use Rattle.sig_type.proofs.Small.{not_is}
-use Rattle.sig_type.specs.Asked.{undefined_in}
-use Rattle.sig_scope.specs.Declarations.{declaration_in}
-use Rattle.std.proofs.Common.{◌∷◌, []}
+use Rattle.sig_type.proofs.{Declared, Declaration, finds_same, finds_more, finds_mapped, not_is, undefined_in, declaration_in, ◌∷◌, []}
 use Rattle.sig_type.proofs.signals.undefined.Goals as goal
 
 pub loop-one-preserved : goal.loop-one-preserved

@@ -1,8 +1,4 @@
-use Rattle.std.proofs.Common.{take, [], ◌∷◌}
-use Rattle.sig_tree.specs.Candidates.{each}
-use Rattle.sig_type.specs.Asked.{undefined_in}
-use Rattle.sig_scope.specs.Declarations.{declaration_in}
-use Rattle.sig_type.specs.Findings.{Finds}
+use Rattle.sig_type.proofs.{take, [], ◌∷◌, each, undefined_in, declaration_in, Finds}
 use Rattle.sig_type.proofs.signals.undefined.Given as goal
 
 abbrev pub invariant-loop-one : goal.invariant-loop-one

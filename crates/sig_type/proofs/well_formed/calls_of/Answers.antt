@@ -1,10 +1,4 @@
-use Rattle.sig_tree.specs.Syntax.{model_of}
-use Rattle.sig_tree.specs.declared.expr.Name.{Name}
-use Rattle.sig_scope.proofs.Trees.{name_is}
-use Rattle.sig_type.proofs.Whole.{calls_join, first_same, has_place}
-use Rattle.sig_scope.specs.Declarations.{declarations_in}
-use Rattle.sig_scope.specs.Walked.{bodies_in, names_in, interface_models}
-use Rattle.std.proofs.Common.{ap, sym, ◌∙◌, take}
+use Rattle.sig_type.proofs.{model_of, Name, name_is, calls_join, first_same, has_place, declarations_in, bodies_in, names_in, interface_models, ap, sym, ◌∙◌, take}
 use Rattle.sig_type.proofs.well_formed.calls_of.Goals as goal
 
 pub recursive_calls-requires-clause-target : goal.recursive_calls-requires-clause-target

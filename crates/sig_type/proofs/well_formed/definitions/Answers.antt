@@ -1,7 +1,4 @@
-use Rattle.sig_type.proofs.Whole.{definitions_join}
-use Rattle.sig_scope.specs.Declarations.{declarations_in}
-use Rattle.sig_scope.specs.Walked.{bodies_in, names_in}
-use Rattle.std.proofs.Common.{ap, ◌∙◌}
+use Rattle.sig_type.proofs.{definitions_join, declarations_in, bodies_in, names_in, ap, ◌∙◌}
 use Rattle.sig_type.proofs.well_formed.definitions.Goals as goal
 
 pub returns : goal.returns

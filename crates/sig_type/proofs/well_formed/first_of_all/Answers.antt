@@ -1,15 +1,4 @@
-use Rattle.sig_tree.specs.Declarations.{name_of}
-use Rattle.sig_tree.specs.Syntax.{model_of}
-use Rattle.sig_tree.specs.declared.expr.Name.{Name}
-use Rattle.sig_type.proofs.Earlier.{texts_more}
-use Rattle.sig_scope.proofs.Scopes.{read_mapped}
-use Rattle.sig_scope.proofs.Trees.{name_is}
-use Rattle.sig_type.proofs.Whole.{again_same, rules_more, rules_until, rules_all}
-use Rattle.sig_scope.specs.Walked.{interface_models}
-use Rattle.sig_scope.specs.declared.scope.Interface.{Interface}
-use Rattle.std.proofs.Common.{ap, sym, ◌∙◌, ◌≡◌, ◌<◌, ◌+◌, ◌++◌, ◌∷◌, [], length, arith, is_some, true, false}
-use Rattle.std.proofs.lemmas.List.{length-map}
-use Rattle.std.proofs.lemmas.Option.{slice_get_read}
+use Rattle.sig_type.proofs.{name_of, model_of, Name, texts_more, read_mapped, name_is, again_same, rules_more, rules_until, rules_all, interface_models, Interface, ap, sym, ◌∙◌, ◌≡◌, ◌<◌, ◌+◌, ◌++◌, ◌∷◌, [], length, arith, is_some, true, false, length-map, slice_get_read}
 use Rattle.sig_type.proofs.well_formed.first_of_all.Goals as goal
 
 pub first_of_process-requires-clause-here : goal.first_of_process-requires-clause-here

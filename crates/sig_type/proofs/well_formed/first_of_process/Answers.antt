@@ -1,14 +1,4 @@
-use Rattle.sig_tree.specs.Candidates.{candidate, DeclaredTwice}
-use Rattle.sig_tree.specs.Declarations.{Declaration, name_of, texts}
-use Rattle.sig_tree.specs.Syntax.{model_of}
-use Rattle.sig_tree.specs.declared.expr.Name.{Name}
-use Rattle.sig_type.proofs.Sequences.{finds_as, finds_same, finds_then}
-use Rattle.sig_scope.proofs.Trees.{name_is, body_is, pragmas_are}
-use Rattle.sig_type.proofs.Whole.{joined}
-use Rattle.sig_type.specs.Asked.{repeated}
-use Rattle.sig_scope.specs.Declarations.{declarations_in}
-use Rattle.sig_scope.specs.Walked.{bodies_in, interface_models}
-use Rattle.std.proofs.Common.{ap, sym, ◌∙◌, map, take, ◌∷◌, [], Contains}
+use Rattle.sig_type.proofs.{candidate, DeclaredTwice, Declaration, name_of, texts, model_of, Name, finds_as, finds_same, finds_then, name_is, body_is, pragmas_are, joined, repeated, declarations_in, bodies_in, interface_models, ap, sym, ◌∙◌, map, take, ◌∷◌, [], Contains}
 use Rattle.sig_type.proofs.well_formed.first_of_process.Goals as goal
 
 pub returns : goal.returns

@@ -1,11 +1,6 @@
-use Rattle.std.proofs.Common.{rules, true, ◌≡◌, ◌∙◌, ap, ap₂}
-use Rattle.std.specs.Prelude.{codes}
-use Rattle.clap.specs.Walk.{rule_of}
-use Rattle.clap.specs.Simple.{App, app_of, app_of_fields, new_app, on_top, with_rule}
+use Rattle.sig_words.proofs.{true, ◌≡◌, ◌∙◌, ap, ap₂, codes, rule_of, App, app_of, app_of_fields, new_app, on_top, with_rule, Command-F, option_rule, pace_rule, plain_rule, Workers, Capacity, Instants}
+use Rattle.std.proofs.Common.{rules}
 use Rattle.clap.specs.declared.builder.command.Command.{Command}
-use Rattle.clap.specs.declared.builder.command.Command.TheOpen.{Command-F}
-use Rattle.sig_words.specs.Lines.{option_rule, pace_rule, plain_rule}
-use Rattle.sig_words.specs.declared.option.OptionName.TheVariants.{Workers, Capacity, Instants}
 use Rattle.sig_words.proofs.given.command_line.Goals as goal
 
 -- the settings of the command

@@ -1,14 +1,4 @@
-use Rattle.std.proofs.Common.{◌∙◌, ap, inl, inr}
-use Rattle.std.proofs.lemmas.Result.{err_from_is_err_and}
-use Rattle.clap.specs.Faults.{is_simple_and_free}
-use Rattle.clap.specs.Matches.{found_of}
-use Rattle.clap.specs.Simple.{app_of, is_simple}
-use Rattle.clap.specs.Walk.{rows_of}
-use Rattle.sig_words.specs.Readings.{texts}
-use Rattle.sig_words.specs.Said.{said_by}
-use Rattle.sig_words.proofs.Built.{simple, simple_and_free}
-use Rattle.sig_words.proofs.Names.{strings}
-use Rattle.sig_words.proofs.Parsed.{not_parsed, parsed}
+use Rattle.sig_words.proofs.{◌∙◌, ap, inl, inr, err_from_is_err_and, is_simple_and_free, found_of, app_of, is_simple, rows_of, texts, said_by, simple, simple_and_free, strings, not_parsed, parsed}
 use Rattle.sig_words.proofs.given.gather.Goals as goal
 
 -- the words are not parsed

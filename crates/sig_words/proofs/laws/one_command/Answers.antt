@@ -1,4 +1,4 @@
-use Rattle.sig_words.proofs.Determined.{one}
+use Rattle.sig_words.proofs.{one}
 use Rattle.sig_words.proofs.laws.one_command.Goals as goal
 
 pub returns : goal.returns

@@ -1,6 +1,4 @@
-use Rattle.std.proofs.Common.{◌∙◌}
-use Rattle.std.proofs.lemmas.Bool.{false≢true}
-use Rattle.sig_words.proofs.Digits.{digits_pass}
+use Rattle.sig_words.proofs.{◌∙◌, false≢true, digits_pass}
 use Rattle.sig_words.proofs.number.number.Goals as goal
 
 -- a byte that is no digit stands in no number

@@ -1,18 +1,4 @@
-use Rattle.std.proofs.Common.{◌≡◌, ◌∙◌, sym, List, ◌∷◌, Result, Ok, Err, IfOk, IfErr, MatchResult, inl, inr, ap}
-use Rattle.std.specs.Prelude.{string_bytes}
-use Rattle.std.proofs.lemmas.Result.{err_from_is_err_and}
-use Rattle.std.specs.Prelude.{String}
-use Rattle.std.specs.declared.alloc.Global.{Global}
-use Rattle.sig_words.specs.Readings.{Word, texts}
-use Rattle.sig_words.specs.Commands.{settings_of, spelling}
-use Rattle.sig_words.specs.Said.{said_by}
-use Rattle.sig_words.specs.declared.answer.WordsAnswer.{WordsAnswer}
-use Rattle.sig_words.specs.declared.command.Command.{Command}
-use Rattle.sig_words.specs.declared.verb.Verb.{Verb}
-use Rattle.std.specs.Str.{IsUtf8}
-use Rattle.sig_words.proofs.Determined.{determined, makes, only_made}
-use Rattle.sig_words.proofs.Says.{said_once}
-use Rattle.sig_words.proofs.Names.{of_command, strings}
+use Rattle.sig_words.proofs.{◌≡◌, ◌∙◌, sym, List, ◌∷◌, Result, Ok, Err, IfOk, IfErr, MatchResult, inl, inr, ap, string_bytes, err_from_is_err_and, String, Global, Word, texts, settings_of, spelling, said_by, WordsAnswer, Command, Verb, IsUtf8, determined, makes, only_made, said_once, of_command, strings}
 use Rattle.sig_words.proofs.read.read_words.Goals as goal
 
 -- what holds of the command in an `Ok`, from three clauses on it

@@ -1,9 +1,4 @@
-use Rattle.std.proofs.Common.{◌≡◌, ◌∙◌, ap, ℕ, List, length, ◌<◌, arith, option_map}
-use Rattle.std.proofs.lemmas.List.{length-map}
-use Rattle.sig_tree.specs.FlatBody.{Binding as BoundTo}
-use Rattle.sig_scope.proofs.Placing.{within, is_found, is_missing}
-use Rattle.sig_scope.proofs.Scopes.{read_mapped}
-use Rattle.sig_call.specs.Bindings.{bound_in, bindings_in, binding_found}
+use Rattle.sig_call.proofs.{◌≡◌, ◌∙◌, ap, ℕ, List, length, ◌<◌, arith, option_map, length-map, Binding as BoundTo, within, is_found, is_missing, read_mapped, bound_in, bindings_in, binding_found}
 use Rattle.sig_call.proofs.binding.Bindings.get.Goals as goal
 
 pub index-requires : goal.index-requires

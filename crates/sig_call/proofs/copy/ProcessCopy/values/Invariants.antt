@@ -1,6 +1,4 @@
-use Rattle.std.proofs.Common.{◌≡◌, map, take}
-use Rattle.sig_tree.specs.FlatBody.{value_of}
-use Rattle.sig_call.specs.Copies.{copy_in}
+use Rattle.sig_call.proofs.{◌≡◌, map, take, value_of, copy_in}
 use Rattle.sig_call.proofs.copy.ProcessCopy.values.Given as goal
 
 abbrev pub invariant-loop-constant : goal.invariant-loop-constant

@@ -1,6 +1,4 @@
-use Rattle.std.proofs.Common.{◌∙◌, ap}
-use Rattle.sig_tree.specs.FlatBody.{cluster_at}
-use Rattle.sig_call.proofs.Labels.{cluster_here, cluster_past}
+use Rattle.sig_call.proofs.{◌∙◌, ap, cluster_at, cluster_here, cluster_past}
 use Rattle.sig_call.proofs.expansion.Expansion.cluster_at.Goals as goal
 
 pub returns-in-Some : goal.returns-in-Some

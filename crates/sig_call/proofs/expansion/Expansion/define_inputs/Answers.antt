@@ -1,6 +1,4 @@
-use Rattle.sig_tree.specs.Syntax.{expression_of}
-use Rattle.sig_tree.specs.Sound.{IsSmall}
-use Rattle.sig_call.proofs.Lists.{all_mapped}
+use Rattle.sig_call.proofs.{expression_of, IsSmall, all_mapped}
 use Rattle.sig_call.proofs.expansion.Expansion.define_inputs.Goals as goal
 
 pub flat_expression-requires : goal.flat_expression-requires

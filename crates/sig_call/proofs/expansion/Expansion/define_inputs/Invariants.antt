@@ -1,10 +1,5 @@
 -- those so far are defined, and the others are left
-use Rattle.std.proofs.Common.{◌≡◌, ◌+◌, drop, map}
-use Rattle.sig_tree.specs.FlatBody.{inputs_defined}
-use Rattle.sig_tree.specs.Syntax.{expression_of}
-use Rattle.sig_call.specs.Copies.{copy_in}
-use Rattle.sig_call.specs.MadeOf.{made_of}
-use Rattle.sig_call.specs.Making.{with_equations}
+use Rattle.sig_call.proofs.{◌≡◌, ◌+◌, drop, map, inputs_defined, expression_of, copy_in, made_of, with_equations}
 use Rattle.sig_call.proofs.expansion.Expansion.define_inputs.Given as goal
 
 abbrev pub invariant-loop-argument : goal.invariant-loop-argument

@@ -1,9 +1,5 @@
 -- those so far are defined, and the others are left
-use Rattle.std.proofs.Common.{◌≡◌, ◌+◌, drop}
-use Rattle.sig_tree.specs.FlatBody.{outputs_defined}
-use Rattle.sig_call.specs.Copies.{copy_in}
-use Rattle.sig_call.specs.MadeOf.{made_of}
-use Rattle.sig_call.specs.Making.{with_equations}
+use Rattle.sig_call.proofs.{◌≡◌, ◌+◌, drop, outputs_defined, copy_in, made_of, with_equations}
 use Rattle.sig_call.proofs.expansion.Expansion.define_outputs.Given as goal
 
 abbrev pub invariant-loop-name : goal.invariant-loop-name

@@ -1,7 +1,4 @@
-use Rattle.std.proofs.Common.{length}
-use Rattle.std.proofs.lemmas.Bool.{eq-eqb, ne_eqb}
-use Rattle.sig_code.proofs.Joining.{adds_same, adds_then}
-use Rattle.sig_code.proofs.Turning.{cluster_is, collector_is}
+use Rattle.sig_code.proofs.{length, eq-eqb, ne_eqb, adds_same, adds_then, cluster_is, collector_is}
 use Rattle.sig_code.proofs.steps.Source.add_end.Goals as goal
 
 pub returns-in_ok-add : goal.returns-in_ok-add

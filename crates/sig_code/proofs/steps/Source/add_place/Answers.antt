@@ -1,15 +1,4 @@
-use Rattle.std.proofs.Common.{◌≡◌, ◌∙◌, ◌+◌, ◌*◌, List, [], ◌∷◌, ◌++◌, ap, false, get_or, map, slice_get, Some, true}
-use Rattle.std.specs.Prelude.{◌==◌}
-use Rattle.std.specs.List.{filter_map}
-use Rattle.std.proofs.lemmas.Bool.{eq-eqb, ne_eqb}
-use Rattle.std.proofs.lemmas.Option.{slice_get-get_or}
-use Rattle.std.proofs.lemmas.Result.{on_ok_weaker}
-use Rattle.sig_code.specs.Turns.{doing, receiving, routes_of, sending}
-use Rattle.sig_code.specs.declared.routes.Route.{Route}
-use Rattle.sig_code.proofs.Joining.{adds_same, adds_then}
-use Rattle.sig_code.proofs.Turning.{other_is, own_is, routes_at}
-use Rattle.sig_plan.specs.declared.code.StepKind.TheVariants.{Do}
-use Rattle.sig_plan.specs.declared.op.Op.{Op}
+use Rattle.sig_code.proofs.{◌≡◌, ◌∙◌, ◌+◌, ◌*◌, List, [], ◌∷◌, ◌++◌, ap, false, get_or, map, slice_get, Some, true, ◌==◌, filter_map, eq-eqb, ne_eqb, slice_get-get_or, on_ok_weaker, doing, receiving, routes_of, sending, Route, adds_same, adds_then, other_is, own_is, routes_at, Do, Op}
 use Rattle.sig_code.proofs.steps.Source.add_place.Goals as goal
 
 pub returns-in_ok-add : goal.returns-in_ok-add

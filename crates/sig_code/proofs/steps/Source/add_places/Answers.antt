@@ -1,6 +1,4 @@
-use Rattle.sig_code.proofs.Joining.{adds_then}
-use Rattle.sig_code.proofs.Turning.{over_more}
-use Rattle.sig_plan.specs.Operations.{operations_in}
+use Rattle.sig_code.proofs.{adds_then, over_more, operations_in}
 use Rattle.sig_code.proofs.steps.Source.add_places.Goals as goal
 
 pub loop-place-preserved : goal.loop-place-preserved

@@ -1,8 +1,4 @@
-use Rattle.std.proofs.Common.{take}
-use Rattle.sig_code.specs.Coding.{Adds}
-use Rattle.sig_plan.specs.Codes.{over_order}
-use Rattle.sig_plan.specs.Operations.{operations_in}
-use Rattle.sig_plan.specs.Plans.{numbers_of}
+use Rattle.sig_code.proofs.{take, Adds, over_order, operations_in, numbers_of}
 use Rattle.sig_code.proofs.steps.Source.add_places.Given as goal
 
 abbrev pub invariant-loop-place : goal.invariant-loop-place

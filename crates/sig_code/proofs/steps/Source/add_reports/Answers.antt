@@ -1,5 +1,4 @@
-use Rattle.sig_code.specs.Turns.{doing, ending}
-use Rattle.sig_code.proofs.Joining.{adds_numbered}
+use Rattle.sig_code.proofs.{doing, ending, adds_numbered}
 use Rattle.sig_code.proofs.steps.Source.add_reports.Goals as goal
 
 pub loop-number-preserved : goal.loop-number-preserved

@@ -1,8 +1,4 @@
-use Rattle.std.proofs.Common.{map, take}
-use Rattle.std.specs.List.{filter_map}
-use Rattle.sig_code.specs.Coding.{Adds}
-use Rattle.sig_code.specs.Turns.{doing, ending}
-use Rattle.sig_plan.specs.Codes.{numbered}
+use Rattle.sig_code.proofs.{map, take, filter_map, Adds, doing, ending, numbered}
 use Rattle.sig_code.proofs.steps.Source.add_reports.Given as goal
 
 abbrev pub invariant-loop-number : goal.invariant-loop-number

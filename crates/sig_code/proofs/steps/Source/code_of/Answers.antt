@@ -1,10 +1,4 @@
-use Rattle.std.proofs.Common.{ℕ, [], ◌++◌, ap, sym}
-use Rattle.std.proofs.lemmas.List.{length-map}
-use Rattle.sig_code.proofs.Going.{empty_code}
-use Rattle.sig_code.proofs.Joining.{adds_then}
-use Rattle.sig_plan.specs.Codes.{CodeView, at_end, over_order}
-use Rattle.sig_plan.specs.Operations.{operation_in, operations_in}
-use Rattle.sig_plan.specs.Plans.{numbers_of}
+use Rattle.sig_code.proofs.{ℕ, [], ◌++◌, ap, sym, length-map, empty_code, adds_then, CodeView, at_end, over_order, operation_in, operations_in, numbers_of}
 use Rattle.sig_code.proofs.steps.Source.code_of.Goals as goal
 
 pub returns : goal.returns

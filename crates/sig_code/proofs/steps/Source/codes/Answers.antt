@@ -1,10 +1,4 @@
-use Rattle.std.proofs.Common.{◌≡◌, ℕ, List, arith, subst}
-use Rattle.sig_code.specs.Coding.{AreCodesOf}
-use Rattle.sig_code.specs.Turns.{parts_of}
-use Rattle.sig_code.proofs.Planning.{codes_more, codes_none}
-use Rattle.sig_plan.specs.Codes.{Instruction, instructions_of}
-use Rattle.sig_plan.specs.Operations.{operations_in}
-use Rattle.sig_plan.specs.Plans.{numbers_of}
+use Rattle.sig_code.proofs.{◌≡◌, ℕ, List, arith, subst, AreCodesOf, parts_of, codes_more, codes_none, Instruction, instructions_of, operations_in, numbers_of}
 use Rattle.sig_code.proofs.steps.Source.codes.Goals as goal
 
 pub loop-cluster-init : goal.loop-cluster-init

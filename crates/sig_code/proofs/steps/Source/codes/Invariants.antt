@@ -1,8 +1,4 @@
-use Rattle.sig_code.specs.Coding.{AreCodesOf}
-use Rattle.sig_code.specs.Turns.{parts_of}
-use Rattle.sig_plan.specs.Codes.{instructions_of}
-use Rattle.sig_plan.specs.Operations.{operations_in}
-use Rattle.sig_plan.specs.Plans.{numbers_of}
+use Rattle.sig_code.proofs.{AreCodesOf, parts_of, instructions_of, operations_in, numbers_of}
 use Rattle.sig_code.proofs.steps.Source.codes.Given as goal
 
 abbrev pub invariant-loop-cluster : goal.invariant-loop-cluster

@@ -1,6 +1,4 @@
-use Rattle.std.proofs.Common.{◌≡◌, ◌∙◌, ap}
-use Rattle.sig_flat.specs.KernelOf.{Made, cluster_at}
-use Rattle.sig_flat.proofs.Reading.{cluster_here, cluster_past}
+use Rattle.sig_flat.proofs.{◌≡◌, ◌∙◌, ap, Made, cluster_at, cluster_here, cluster_past}
 use Rattle.sig_flat.proofs.draft.Draft.cluster.Goals as goal
 
 pub returns-in-Some : goal.returns-in-Some

@@ -1,6 +1,4 @@
-use Rattle.std.proofs.Common.{◌≡◌, ◌∙◌, ap}
-use Rattle.sig_flat.specs.KernelOf.{Made, kind_at}
-use Rattle.sig_flat.proofs.Reading.{kind_here, kind_past}
+use Rattle.sig_flat.proofs.{◌≡◌, ◌∙◌, ap, Made, kind_at, kind_here, kind_past}
 use Rattle.sig_flat.proofs.draft.Draft.kind.Goals as goal
 
 pub returns-in-Some : goal.returns-in-Some

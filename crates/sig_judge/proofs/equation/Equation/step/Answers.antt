@@ -1,10 +1,4 @@
-use Rattle.std.proofs.Common.{[], map, sym, subst}
-use Rattle.sig_tree.specs.FlatSyntax.{Equal}
-use Rattle.sig_tree.specs.Steps.{EquationSteps}
-use Rattle.sig_judge.specs.Decides.{DecidesWhether}
-use Rattle.sig_judge.specs.Nodes.{equation_of, node_expression}
-use Rattle.sig_judge.specs.declared.equation.Equation.{Equation}
-use Rattle.sig_judge.proofs.AgreeAnswers.{equal_whether}
+use Rattle.sig_judge.proofs.{[], map, sym, subst, Equal, EquationSteps, DecidesWhether, equation_of, node_expression, Equation, equal_whether}
 use Rattle.sig_judge.proofs.equation.Equation.step.Goals as goal
 
 pub returns-in-Equal : goal.returns-in-Equal

@@ -1,6 +1,5 @@
 -- those so far are of the signals' kinds
-use Rattle.std.proofs.Common.{take}
-use Rattle.sig_tree.specs.ProcessTraces.{IsTraceOf}
+use Rattle.sig_judge.proofs.{take, IsTraceOf}
 use Rattle.sig_judge.proofs.trace.Trace.is_of.Given as goal
 
 abbrev pub invariant-loop-row : goal.invariant-loop-row

@@ -1,4 +1,4 @@
-use Rattle.std.proofs.Common.{append_assoc}
+use Rattle.sig_judge.proofs.{append_assoc}
 use Rattle.sig_judge.proofs.trace_answer.TraceAnswerDisplay.fmt.Goals as goal
 
 pub returns-in-OutOfRange-clause-writes : goal.returns-in-OutOfRange-clause-writes

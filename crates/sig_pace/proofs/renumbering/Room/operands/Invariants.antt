@@ -1,5 +1,4 @@
-use Rattle.std.proofs.Common.{◌≡◌, map, take}
-use Rattle.sig_pace.specs.Renumbering.{moved, renumbered_operand}
+use Rattle.sig_pace.proofs.{◌≡◌, map, take, moved, renumbered_operand}
 use Rattle.sig_pace.proofs.renumbering.Room.operands.Given as goal
 
 abbrev pub invariant-loop-operand : goal.invariant-loop-operand

@@ -1,11 +1,5 @@
-use Rattle.std.proofs.Common.{◌≡◌, ◌++◌, ℕ, codes, ap, ◌∙◌, append_assoc}
-use Rattle.std.specs.Prelude.{if◌then◌else◌}
-use Rattle.std.specs.Fmt.{decimal}
-use Rattle.std.proofs.lemmas.Bool.{ne_eqb}
-use Rattle.sig_base.specs.Lines.{refusal_at}
-use Rattle.sig_base.specs.declared.span.Span.{Span}
+use Rattle.sig_parse.proofs.{◌≡◌, ◌++◌, ℕ, codes, ap, ◌∙◌, append_assoc, if◌then◌else◌, decimal, ne_eqb, refusal_at, Span, answer_line}
 use Rattle.sig_parse.specs.declared.parse_answer.ParseAnswer.TheVariants.{Nesting}
-use Rattle.sig_parse.specs.Lines.{answer_line}
 use Rattle.sig_parse.proofs.parse_answer.ParseAnswerDisplay.fmt.Goals as goal
 
 -- the line of a limit of nesting

@@ -1,5 +1,4 @@
-use Rattle.sig_parse.specs.Keywords.{terminal_of}
-use Rattle.sig_parse.proofs.RefusedTokens.{leaf_missing}
+use Rattle.sig_parse.proofs.{terminal_of, leaf_missing}
 use Rattle.sig_parse.proofs.parser.Parser.expect.Goals as goal
 
 pub returns-in-None-clause-refuses : goal.returns-in-None-clause-refuses

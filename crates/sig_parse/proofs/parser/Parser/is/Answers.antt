@@ -1,4 +1,4 @@
-use Rattle.sig_parse.proofs.KeywordLemmas.{whether}
+use Rattle.sig_parse.proofs.{whether}
 use Rattle.sig_parse.proofs.parser.Parser.is.Goals as goal
 
 pub returns-in-Some : goal.returns-in-Some

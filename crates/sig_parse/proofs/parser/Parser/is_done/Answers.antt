@@ -1,5 +1,4 @@
-use Rattle.std.proofs.Common.{refl}
-use Rattle.sig_parse.proofs.Passing.{whether_left}
+use Rattle.sig_parse.proofs.{refl, whether_left}
 use Rattle.sig_parse.proofs.parser.Parser.is_done.Goals as goal
 
 pub returns : goal.returns

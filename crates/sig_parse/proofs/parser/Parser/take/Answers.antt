@@ -1,7 +1,4 @@
-use Rattle.std.proofs.Common.{ap, ◌∙◌}
-use Rattle.sig_parse.specs.Keywords.{terminal_of}
-use Rattle.sig_parse.specs.Seen.{terminal_seen}
-use Rattle.sig_parse.proofs.Passing.{passed}
+use Rattle.sig_parse.proofs.{ap, ◌∙◌, terminal_of, terminal_seen, passed}
 use Rattle.sig_parse.proofs.parser.Parser.take.Goals as goal
 
 pub returns : goal.returns

@@ -1,6 +1,4 @@
-use Rattle.std.proofs.Common.{ap}
-use Rattle.sig_parse.specs.Seen.{terminal_seen}
-use Rattle.sig_parse.proofs.Passing.{passed}
+use Rattle.sig_parse.proofs.{ap, terminal_seen, passed}
 use Rattle.sig_parse.proofs.parser.Parser.take_number.Goals as goal
 
 pub returns-in-Number : goal.returns-in-Number

@@ -1,7 +1,4 @@
-use Rattle.std.proofs.Common.{inr}
-use Rattle.sig_tree.specs.Expressions.{IsOptionalOne}
-use Rattle.sig_parse.proofs.Joins.{viewed}
-use Rattle.sig_parse.proofs.RefusedDelays.{one_passed, one_taken}
+use Rattle.sig_parse.proofs.{inr, IsOptionalOne, viewed, one_passed, one_taken}
 use Rattle.sig_parse.proofs.parser.Parser.take_one.Goals as goal
 
 pub returns-then-is_one : goal.returns-then-is_one

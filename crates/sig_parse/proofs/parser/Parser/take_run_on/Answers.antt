@@ -1,8 +1,5 @@
-use Rattle.std.proofs.Common.{ap, ◌∙◌, sym}
+use Rattle.sig_parse.proofs.{ap, ◌∙◌, sym, name, terminal_seen, passed}
 use lib.Pointwise.{bytes_decides}
-use Rattle.sig_tree.specs.Terminals.{name}
-use Rattle.sig_parse.specs.Seen.{terminal_seen}
-use Rattle.sig_parse.proofs.Passing.{passed}
 use Rattle.sig_parse.proofs.parser.Parser.take_run_on.Goals as goal
 
 pub returns-then-eq : goal.returns-then-eq

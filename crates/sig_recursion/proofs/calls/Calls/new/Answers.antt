@@ -1,15 +1,4 @@
-use Rattle.sig_tree.specs.Declarations.{called_in, called_by}
-use Rattle.sig_tree.specs.Syntax.{model_of, ProcessModel}
-use Rattle.sig_scope.proofs.Growing.{lengthens}
-use Rattle.sig_scope.proofs.Trees.{body_is}
-use Rattle.sig_recursion.specs.Calls.{places_called}
-use Rattle.sig_scope.specs.Walked.{bodies_in, names_in, process_texts, interface_models}
-use Rattle.sig_scope.specs.declared.scope.Interface.{Interface}
-use Rattle.std.proofs.Common.{ℕ, [], ap, sym, ◌∙◌, map}
-use Rattle.std.proofs.lemmas.List.{take_all}
-use Rattle.std.proofs.lemmas.Simd.{map-map}
-use Rattle.std.specs.Global.{Vec}
-use Rattle.std.specs.List.{flat_map}
+use Rattle.sig_recursion.proofs.{called_in, called_by, model_of, ProcessModel, lengthens, body_is, places_called, bodies_in, names_in, process_texts, interface_models, Interface, ℕ, [], ap, sym, ◌∙◌, map, take_all, map-map, Vec, flat_map}
 use Rattle.sig_recursion.proofs.calls.Calls.new.Goals as goal
 
 pub loop-interface-preserved : goal.loop-interface-preserved

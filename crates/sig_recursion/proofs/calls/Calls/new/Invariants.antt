@@ -1,8 +1,4 @@
-use Rattle.sig_tree.specs.Declarations.{called_by}
-use Rattle.sig_tree.specs.Syntax.{model_of}
-use Rattle.sig_recursion.specs.Calls.{graph_in, places_called}
-use Rattle.sig_scope.specs.Walked.{process_texts, interface_models}
-use Rattle.std.proofs.Common.{map, take, ◌≡◌}
+use Rattle.sig_recursion.proofs.{called_by, model_of, graph_in, places_called, process_texts, interface_models, map, take, ◌≡◌}
 use Rattle.sig_recursion.proofs.calls.Calls.new.Given as goal
 
 abbrev pub invariant-loop-interface : goal.invariant-loop-interface

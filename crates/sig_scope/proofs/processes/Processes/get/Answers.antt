@@ -1,11 +1,4 @@
-use Rattle.sig_tree.specs.Declarations.{name_of}
-use Rattle.sig_tree.specs.Syntax.{model_of}
-use Rattle.sig_scope.proofs.Placing.{within, is_found, is_missing}
-use Rattle.sig_scope.proofs.Scopes.{read_mapped}
-use Rattle.sig_scope.specs.Walked.{interface_models}
-use Rattle.std.proofs.Common.{arith, length, ◌≡◌, ◌<◌}
-use Rattle.std.proofs.lemmas.List.{length-map}
-use Rattle.sig_scope.specs.declared.scope.Interface.{Interface}
+use Rattle.sig_scope.proofs.{name_of, model_of, within, is_found, is_missing, read_mapped, interface_models, arith, length, ◌≡◌, ◌<◌, length-map, Interface}
 use Rattle.sig_scope.proofs.processes.Processes.get.Goals as goal
 
 pub index-requires : goal.index-requires

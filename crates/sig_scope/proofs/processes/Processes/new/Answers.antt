@@ -1,9 +1,4 @@
-use Rattle.sig_tree.specs.Declarations.{with_inner}
-use Rattle.sig_tree.specs.Syntax.{model_of}
-use Rattle.sig_scope.proofs.Growing.{grown}
-use Rattle.sig_scope.specs.Walked.{models_in}
-use Rattle.std.proofs.Common.{map, ap, ◌≡◌, ◌∙◌, []}
-use Rattle.std.specs.List.{flat_map}
+use Rattle.sig_scope.proofs.{with_inner, model_of, grown, models_in, map, ap, ◌≡◌, ◌∙◌, [], flat_map}
 use Rattle.sig_scope.proofs.processes.Processes.new.Goals as goal
 
 pub returns : goal.returns

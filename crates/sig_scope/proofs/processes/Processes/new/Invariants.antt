@@ -1,8 +1,4 @@
-use Rattle.sig_tree.specs.Declarations.{with_inner}
-use Rattle.sig_tree.specs.Syntax.{model_of}
-use Rattle.sig_scope.specs.Walked.{models_in}
-use Rattle.std.proofs.Common.{take, ◌≡◌}
-use Rattle.std.specs.List.{flat_map}
+use Rattle.sig_scope.proofs.{with_inner, model_of, models_in, take, ◌≡◌, flat_map}
 use Rattle.sig_scope.proofs.processes.Processes.new.Given as goal
 
 abbrev pub invariant-loop-process : goal.invariant-loop-process

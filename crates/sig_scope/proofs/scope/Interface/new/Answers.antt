@@ -1,4 +1,4 @@
-use Rattle.sig_scope.proofs.Trees.{params_are, inputs_are, outputs_are, locals_are}
+use Rattle.sig_scope.proofs.{params_are, inputs_are, outputs_are, locals_are}
 use Rattle.sig_scope.proofs.scope.Interface.new.Goals as goal
 
 pub invariant_of-result : goal.invariant_of-result

@@ -1,8 +1,4 @@
-use Rattle.std.proofs.Common.{◌≡◌, ◌∙◌, ap, length, ◌<◌, arith}
-use Rattle.sig_tree.specs.Declarations.{Declaration, declaration_of}
-use Rattle.sig_scope.specs.Declarations.{declaration_in, declarations_in}
-use Rattle.sig_scope.proofs.Placing.{is_found, is_missing}
-use Rattle.sig_scope.proofs.Scopes.{read_declared, within_declared}
+use Rattle.sig_scope.proofs.{◌≡◌, ◌∙◌, ap, length, ◌<◌, arith, Declaration, declaration_of, declaration_in, declarations_in, is_found, is_missing, read_declared, within_declared}
 use Rattle.sig_scope.proofs.scope.Scope.get.Goals as goal
 
 pub index-requires : goal.index-requires

@@ -1,7 +1,4 @@
-use Rattle.std.proofs.Common.{◌≡◌, ◌++◌, ◌∷◌, [], ◌∙◌, ap, sym, subst, arith, ℕ, List, length, map, Bor, Contains, true, false}
-use Rattle.std.proofs.lemmas.List.{map-append, length-map}
-use Rattle.std.proofs.lemmas.Map.Text.{hash_map_updates_str}
-use Rattle.sig_scope.proofs.Placing.{places_again, places_new}
+use Rattle.sig_scope.proofs.{◌≡◌, ◌++◌, ◌∷◌, [], ◌∙◌, ap, sym, subst, arith, ℕ, List, length, map, Bor, Contains, true, false, map-append, length-map, hash_map_updates_str, places_again, places_new}
 use Rattle.sig_scope.proofs.texts.Texts.add.Goals as goal
 
 abbrev bytes : List (Bor (List ℕ)) → List (List ℕ)

@@ -1,6 +1,4 @@
-use Rattle.std.proofs.Common.{◌≡◌, ◌↔◌, IsTrue, Bool, Contains, is_some, subst, sym, ap, ◌∙◌}
-use Rattle.sig_scope.specs.Places.{place_of}
-use Rattle.sig_scope.proofs.Placing.{place_found}
+use Rattle.sig_scope.proofs.{◌≡◌, ◌↔◌, IsTrue, Bool, Contains, is_some, subst, sym, ap, ◌∙◌, place_of, place_found}
 use Rattle.sig_scope.proofs.texts.Texts.has.Goals as goal
 
 pub returns : goal.returns

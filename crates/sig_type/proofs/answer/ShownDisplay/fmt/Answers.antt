@@ -1,8 +1,4 @@
-use Rattle.std.proofs.Common.{ap, ◌∙◌, ◌++◌, take, refl, encode_utf8}
-use Rattle.std.proofs.Output.{writes_in_calls_nil, has_written_append, has_written_of_eq}
-use Rattle.std.proofs.lemmas.List.{take_all}
-use Rattle.sig_type.specs.Answers.{shown}
-use Rattle.sig_type.proofs.Showing.{shown_more}
+use Rattle.sig_type.proofs.{ap, ◌∙◌, ◌++◌, take, refl, encode_utf8, writes_in_calls_nil, has_written_append, has_written_of_eq, take_all, shown, shown_more}
 use Rattle.sig_type.proofs.answer.ShownDisplay.fmt.Goals as goal
 
 pub loop-byte-init : goal.loop-byte-init

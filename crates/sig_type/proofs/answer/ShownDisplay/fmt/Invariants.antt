@@ -1,6 +1,4 @@
-use Rattle.std.proofs.Common.{take}
-use Rattle.std.specs.Fmt.{HasWritten, IsPlainFormatter}
-use Rattle.sig_type.specs.Answers.{shown}
+use Rattle.sig_type.proofs.{take, HasWritten, IsPlainFormatter, shown}
 use Rattle.sig_type.proofs.answer.ShownDisplay.fmt.Given as goal
 
 abbrev pub invariant-loop-byte : goal.invariant-loop-byte

@@ -1,4 +1,4 @@
-use Rattle.std.proofs.Common.{append_assoc}
+use Rattle.sig_type.proofs.{append_assoc}
 use Rattle.sig_type.proofs.answer.TypeAnswerDisplay.fmt.Goals as goal
 
 pub returns-in-Unknown-clause-writes : goal.returns-in-Unknown-clause-writes

@@ -1,11 +1,4 @@
-use Rattle.std.proofs.Common.{◌≡◌, ◌∙◌, ap, refl, Bool, true, false, List, [], ◌++◌, Option, Some, None}
-use Rattle.std.specs.Prelude.{codes, if◌then◌else◌, option_map, unwrap_or}
-use Rattle.std.specs.Borrow.{Bor}
-use Rattle.clap.specs.Matches.{found_of, one_text}
-use Rattle.clap.specs.Walk.{Text, first_of, rows_of}
-use Rattle.clap.proofs.WalkLemmas.{first_value-rows, one_text-rows, raw_values-rows}
-use Rattle.sig_words.specs.Readings.{Word}
-use Rattle.sig_words.specs.Said.{Said, referents}
+use Rattle.sig_words.proofs.{◌≡◌, ◌∙◌, ap, refl, Bool, true, false, List, [], ◌++◌, Option, Some, None, codes, if◌then◌else◌, option_map, unwrap_or, Bor, found_of, one_text, Text, first_of, rows_of, first_value-rows, one_text-rows, raw_values-rows, Word, Said, referents}
 use Rattle.sig_words.proofs.given.Given.of_matches.Goals as goal
 
 said_same : (s : Said) (plain : List Word) (workers capacity instants : Option Word) (pace : Bool) → plain ≡ s.plain → workers ≡ s.workers → capacity ≡ s.capacity

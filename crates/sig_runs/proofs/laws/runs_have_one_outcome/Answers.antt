@@ -1,0 +1,8 @@
+use Rattle.sig_runs.proofs.{one_run_outcome, some_outcome}
+use Rattle.sig_runs.proofs.laws.runs_have_one_outcome.Goals as goal
+
+pub returns-clause-some : goal.returns-clause-some
+returns-clause-some c = some_outcome
+
+pub returns-clause-one : goal.returns-clause-one
+returns-clause-one c = λ held program flows settings. one_run_outcome program flows settings held
