@@ -1,13 +1,13 @@
 // The baselines of run.py: the same job as `sigc run` of one program, written by hand. A flow file is read whole, its
 // values by strtoll; text goes out in pieces, its numbers by a formatter of its own.
-// usage: run PROGRAM FLOWS, where PROGRAM is sum, thermostat, watch, controller or stages
+// usage: run PROGRAM FLOWS, where PROGRAM is sum, thermostat, watch, controller, heavy or stages
 #include <stdio.h>
 #include <stdlib.h>
 #include <string.h>
 
 typedef long long Integer;
 
-enum { STAGES = 12, INPUTS = STAGES + 1, PIECE = 65536, LINE = 64 };
+enum { STAGES = 12, INPUTS = STAGES + 1, CHAINS = 4, SUMS = 64, PIECE = 65536, LINE = 64 };
 
 typedef struct {
     Integer *values;
@@ -130,6 +130,28 @@ static void controller(void) {
     }
 }
 
+static void heavy(void) {
+    static const char *const names[CHAINS] = {"X0n64", "X1n64", "X2n64", "X3n64"};
+    Integer x[CHAINS];
+    for (;;) {
+        for (int i = 0; i < CHAINS; i++) {
+            if (!take(i, &x[i])) {
+                return;
+            }
+        }
+        for (int i = 0; i < CHAINS; i++) {
+            for (int j = 1; j <= SUMS; j++) {
+                if (__builtin_add_overflow(x[i], j, &x[i])) {
+                    return;
+                }
+            }
+        }
+        for (int i = 0; i < CHAINS; i++) {
+            put_integer(names[i], x[i]);
+        }
+    }
+}
+
 static void stages(void) {
     Integer x, y, b;
     while (take(0, &x)) {
@@ -202,6 +224,8 @@ int main(int count, char **words) {
         watch();
     } else if (strcmp(words[1], "controller") == 0) {
         controller();
+    } else if (strcmp(words[1], "heavy") == 0) {
+        heavy();
     } else {
         stages();
     }

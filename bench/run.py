@@ -1,9 +1,10 @@
 #!/usr/bin/env python3
 """run.py SIGC [PART..]: how long a run takes, beside a plain C program written by hand for the same job, and with workers.
 
-Part `run`: `SIGC run --workers 0` on a sum, a thermostat, a watchdog (1,000,000 instants each) and the generated program of
-12 stages (200,000 instants), files and text included, and bench/run.c, compiled by gcc -O2, on the same flows. The texts are
-compared. Prints of each the least processor time of five runs, their ratio, the time of an instant and the peak memory.
+Part `run`: `SIGC run --workers 0` on a sum, a thermostat, a watchdog, bench/controller.sig with ten outputs (1,000,000 instants
+each), four chains of 64 sums and the generated program of 12 stages (200,000 instants each), files and text included, and
+bench/run.c, compiled by gcc -O2, on the same flows. The texts are compared. Prints of each the least processor time of five
+runs, their ratio, the time of an instant and the peak memory.
 
 Part `play`: the same of `SIGC play` with no events, which finishes the run step by step of its actors, over links of 16
 items: the watchdog, bench/controller.sig with ten outputs (1,000,000 instants each) and the 12 stages (20,000 instants). Prints
@@ -12,8 +13,12 @@ also the time of a step, of which each instant has as many as `SIGC code` shows,
 Part `workers`: the 12 stages and a program of four clusters of 64 operations each with 0, 1, 2 and 4 workers. Compares the
 texts, and prints the least wall time of five runs, its ratio to that of 0 workers, and the processor time.
 
-Part `items`: a program that hands 32 signals from one cluster to another, and the same in one cluster, with 1 and 2 workers:
-the difference of the two wall times, for one signal and instant, is what an item of a link costs.
+Part `items`: a program that hands 32 signals from one cluster to another, and the same in one cluster, with 1 and 2 workers
+at the capacities 1, 16 and 64: the difference of the two wall times, for one signal and instant, is what an item of a link costs.
+
+Part `pay`: chains of 1 to 250 sums, and of as many remainders, in one, two and four clusters that share nothing but their
+clock, without workers and with as many as there are clusters, and the longest ones with 1, 2, 4 and 8 workers at the capacities
+1, 16 and 256. Prints each ratio of wall times, and from how many operations a cluster a run with workers is the faster one.
 """
 import os
 import random
@@ -31,6 +36,9 @@ STAGES = 12
 CLUSTERS = 4
 OPERATIONS = 64
 HANDED = 32
+# how many operations each of so many clusters has, up to the most that 512 signals allow
+CHAINS = {1: (1, 16, 64, 128, 250), 2: (1, 16, 64, 128, 250), 4: (1, 16, 32, 64, 125)}
+CAPACITIES = (1, 16, 256)
 ROUNDS = 5
 
 
@@ -76,25 +84,39 @@ def stages_flows(draws, instants=INSTANTS // 5):
     return flows
 
 
-def heavy():
-    """Clusters that share nothing but their clock, each with a chain of sums."""
+def chains(count, operations, operation):
+    """Clusters that share nothing but their clock, each with a chain of operations: `operation(before, j)` is the j-th."""
     name = lambda i, j: f"X{i}n{j}" if j else f"A{i}"
-    clusters = range(CLUSTERS)
-    inputs, outputs = ", ".join(f"A{i}" for i in clusters), ", ".join(name(i, OPERATIONS) for i in clusters)
+    clusters = range(count)
+    inputs, outputs = ", ".join(f"A{i}" for i in clusters), ", ".join(name(i, operations) for i in clusters)
     pragmas = "\n".join(
-        f'RunOn {{{", ".join(name(i, j) for j in range(OPERATIONS + 1))}}} "{i}"' for i in clusters
+        f'RunOn {{{", ".join(name(i, j) for j in range(operations + 1))}}} "{i}"' for i in clusters
     )
-    sums = "\n | ".join(f"{name(i, j)} := {name(i, j - 1)} + {j}" for i in clusters for j in range(1, OPERATIONS + 1))
-    locals_ = ", ".join(name(i, j) for i in clusters for j in range(1, OPERATIONS))
-    clock = " ^= ".join(f"A{i}" for i in clusters)
+    equations = [f"{name(i, j)} := {operation(name(i, j - 1), j)}" for i in clusters for j in range(1, operations + 1)]
+    if count > 1:
+        equations.append(" ^= ".join(f"A{i}" for i in clusters))
+    locals_ = ", ".join(name(i, j) for i in clusters for j in range(1, operations))
+    where = f"where integer {locals_}; end" if locals_ else ""
     return (
-        f"process HEAVY = (? integer {inputs} ! integer {outputs})\npragmas\n{pragmas}\nend pragmas\n"
-        f"(| {sums}\n | {clock}\n |)\nwhere integer {locals_}; end;\n"
+        f"process CHAINS = (? integer {inputs} ! integer {outputs})\npragmas\n{pragmas}\nend pragmas\n"
+        "(| " + "\n | ".join(equations) + f"\n |)\n{where};\n"
     )
 
 
-def heavy_flows(draws):
-    return {f"A{i}": [str(draws.randrange(1000)) for _ in range(INSTANTS // 5)] for i in range(CLUSTERS)}
+def chains_flows(count, instants=INSTANTS // 5):
+    return lambda draws: {f"A{i}": [str(draws.randrange(1000)) for _ in range(instants)] for i in range(count)}
+
+
+def one_more(before, j):
+    return f"{before} + {j}"
+
+
+def remainder(before, j):
+    return f"{before} modulo {1_000 + j}"
+
+
+def heavy():
+    return chains(CLUSTERS, OPERATIONS, one_more)
 
 
 def handing(apart):
@@ -126,12 +148,14 @@ PROGRAMS = {
     "sum": (lambda: example("sum"), sum_flows),
     "thermostat": (lambda: example("thermostat"), thermostat_flows),
     "watch": (lambda: example("watch"), watch_flows),
+    "controller": (lambda: program_of(HERE, "controller"), controller_flows),
+    "heavy": (heavy, chains_flows(CLUSTERS)),
     "stages": (lambda: stages(STAGES), stages_flows),
 }
 
 PLAYS = {
     "watch": PROGRAMS["watch"],
-    "controller": (lambda: program_of(HERE, "controller"), controller_flows),
+    "controller": PROGRAMS["controller"],
     "stages": (lambda: stages(STAGES), lambda draws: stages_flows(draws, INSTANTS // 50)),
 }
 
@@ -165,8 +189,8 @@ def put_files(folder, program, made):
     return max(map(len, made.values()))
 
 
-def run_words(sigc, workers):
-    return [sigc, "run", "program.sig", "flows", "--workers", str(workers)]
+def run_words(sigc, workers, capacity=16):
+    return [sigc, "run", "program.sig", "flows", "--workers", str(workers), "--capacity", str(capacity)]
 
 
 def plain_program(folder):
@@ -215,7 +239,7 @@ def played_beside_c(sigc, folder):
 
 
 def with_workers(sigc, folder):
-    for name, program, flows in (("stages", stages(STAGES), stages_flows), ("heavy", heavy(), heavy_flows)):
+    for name, program, flows in (("stages", stages(STAGES), stages_flows), ("heavy", heavy(), chains_flows(CLUSTERS))):
         instants = put_files(folder, program, flows(random.Random(1)))
         alone = None
         for workers in (0, 1, 2, 4):
@@ -230,16 +254,42 @@ def with_workers(sigc, folder):
 
 def items(sigc, folder):
     walls = {}
+    tried = [(workers, capacity) for workers in (1, 2) for capacity in (1, 16, 64)]
     for apart in (False, True):
         instants = put_files(folder, handing(apart), handing_flows(random.Random(1)))
-        for workers in (1, 2):
-            _, walls[apart, workers], _ = measured(run_words(sigc, workers), folder, "own")
-    for workers in (1, 2):
-        cost = (walls[True, workers] - walls[False, workers]) / (instants * HANDED)
-        print(f"an item of a link, {workers} workers: {1e9 * cost:.0f} ns")
+        for workers, capacity in tried:
+            _, walls[apart, workers, capacity], _ = measured(run_words(sigc, workers, capacity), folder, "own")
+    for workers, capacity in tried:
+        cost = (walls[True, workers, capacity] - walls[False, workers, capacity]) / (instants * HANDED)
+        print(f"an item of a link, {workers} workers, capacity {capacity}: {1e9 * cost:.0f} ns")
 
 
-PARTS = {"run": beside_c, "play": played_beside_c, "workers": with_workers, "items": items}
+def ratio_of(sigc, folder, workers, capacity, alone):
+    """The wall time of a run with workers, over that of one without, whose text it must give."""
+    _, wall, _ = measured(run_words(sigc, workers, capacity), folder, "own")
+    assert read(folder, "own") == read(folder, "alone"), "the texts differ"
+    return wall / alone
+
+
+def paying(sigc, folder):
+    for kind, operation in (("sums", one_more), ("remainders", remainder)):
+        for count, lengths in CHAINS.items():
+            ratios = {}
+            for operations in lengths:
+                put_files(folder, chains(count, operations, operation), chains_flows(count, INSTANTS // 20)(random.Random(1)))
+                _, alone, _ = measured(run_words(sigc, 0), folder, "alone")
+                ratios[operations] = ratio_of(sigc, folder, count, 16, alone)
+            row = ", ".join(f"{operations}: {ratio:.2f}" for operations, ratio in ratios.items())
+            least = min((operations for operations, ratio in ratios.items() if ratio < 1), default=None)
+            pays = f"pays from {least}" if least else "does not pay"
+            print(f"{count} clusters of {kind} with {count} workers, wall time over that without, by operations a cluster: {row}; {pays}")
+            if count > 1:
+                for workers in (1, 2, 4, 8):
+                    row = ", ".join(f"{it}: {ratio_of(sigc, folder, workers, it, alone):.2f}" for it in CAPACITIES)
+                    print(f"    {lengths[-1]} {kind} in each of {count} clusters with {workers} workers, by capacity: {row}")
+
+
+PARTS = {"run": beside_c, "play": played_beside_c, "workers": with_workers, "items": items, "pay": paying}
 
 
 def main():

@@ -13,7 +13,8 @@ In a document (README.md, docs/*.md, examples/README.md, tools/README.md)
 
 Commands run in the document's folder, in which `examples` and `tools` are those of the repository, and `sigc` is
 the program. A ```signal fence without a name, or one that no command of its document names, is a failure, and so is
-a link between the pages that leads nowhere, or a program of examples/ that its README does not run. The last line is `N passed, M failed`.
+a link between the pages that leads nowhere, a program of examples/ that its README does not run, or a test that the page of sig_tests_tool
+names and that is not there. The last line is `N passed, M failed`.
 """
 import argparse
 import glob
@@ -223,6 +224,28 @@ def unnamed_examples():
     return [it for it in sorted(os.listdir(f"{TOP}/examples")) if it.endswith(".sig") and f"examples/{it}" not in text]
 
 
+def missing_tests():
+    """The tests that the page of sig_tests_tool names and that are not there: (crate, MODULE::FUNCTION)."""
+    with open(f"{TOP}/crates/sig_tests_tool/README.md", encoding="utf-8") as it:
+        rows = re.findall(r"^\| .* \| (.*) \|$", it.read(), flags=re.M)
+    for row in rows:
+        crate = "sig_tests_tool"
+        for word in re.findall(r"`(\w+(?:::\w+)?)`", row):
+            module, _, name = word.partition("::")
+            if word.startswith("sig_tests_"):
+                crate = word
+            elif name and f"#[test]\nfn {name}(" not in text_of(f"{TOP}/crates/{crate}/src/tests/{module}.rt"):
+                yield crate, word
+
+
+def text_of(path):
+    """The text of a file; nothing where there is none."""
+    if not os.path.isfile(path):
+        return ""
+    with open(path, encoding="utf-8") as it:
+        return it.read()
+
+
 def main():
     words = argparse.ArgumentParser(description=__doc__, formatter_class=argparse.RawDescriptionHelpFormatter)
     words.add_argument("program", nargs="?", default=default_program(), help="the program sigc (default: the one in crates/sigc/out)")
@@ -241,6 +264,8 @@ def main():
                 run.fail("examples/README.md", f"no command names examples/{it}")
             for page, target in broken_links():
                 run.fail(page, f"this link leads nowhere: {target}")
+            for crate, test in missing_tests():
+                run.fail("crates/sig_tests_tool/README.md", f"there is no test {test} in {crate}")
     print(f"{run.passed} passed, {run.failed} failed")
     return 1 if run.failed or not run.passed else 0
 
