@@ -1,8 +1,9 @@
 //! The parts of an accepted plan.
 
 ghost use Rattle.std.specs.Prelude.{◌≡◌};
-ghost use Rattle.sig_alone.specs.Prelude.{IsAccepted};
+ghost use Rattle.sig_alone.specs.Prelude.{IsAccepted, outputs_of};
 
+use sig_base::Signal;
 use sig_kernel::Kernel;
 use sig_plan::Plan;
 
@@ -20,4 +21,14 @@ pub(crate) fn kernel_of(plan: &Plan) -> &Kernel
     ensures accepted { IsAccepted plan.now }
 {
     &plan.kernel
+}
+
+/// The outputs of a plan, in order.
+pub(crate) fn outputs_of(plan: &Plan) -> &[Signal]
+    ensures { result.now ≡ outputs_of plan.now.kernel }
+{
+    let kernel = kernel_of(plan);
+    let (_, behind) = kernel.signals.as_slice().split_at(kernel.inputs as usize);
+    let (outputs, _) = behind.split_at(kernel.outputs as usize);
+    outputs
 }

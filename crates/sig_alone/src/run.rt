@@ -1,15 +1,16 @@
 //! A run.
 
 ghost use Rattle.std.specs.Prelude.{◌≡◌, ◌≤◌, ◌<◌, ◌+◌, ◌^◌};
-ghost use Rattle.sig_alone.specs.Prelude.{Err, IfOk, OnErr, OnOk, AreFlowsFor, opening_actor, Rose, TookPrefix, Lowers, IsMachineOf, actor_at, at_next, registers_of, ℕ};
+ghost use Rattle.sig_alone.specs.Prelude.{Err, IfOk, OnErr, OnOk, AreFlowsFor, opening_actor, Rose, TookPrefix, Lowers, IsMachineOf, actor_at, at_next, longest_lines, outputs_of, registers_of, ℕ};
 ghost use Rattle.sig_alone.specs.Lines.{lines_of};
 ghost use Rattle.sig_alone.specs.Runs.{IsWholeRun, TookSome};
 ghost use Rattle.sig_alone.specs.declared.answer.RunAnswer.{RunAnswer};
 
 use crate::answer::RunAnswer;
 use crate::gates::pass_all;
-use crate::plans::plans_are_accepted;
+use crate::plans::{outputs_of, plans_are_accepted};
 use crate::putting::put_reaction;
+use sig_flow::OutputLines;
 use sig_kernel::Inputs;
 use sig_machine::{Lowered, Machine, lower};
 use sig_plan::{Cause, Ended, Plan};
@@ -43,7 +44,19 @@ pub fn run_alone<S: Sink, G: Gate>(
     let Ok(mut machine) = Machine::new(alloc, plan, &lowered, inputs) else {
         return Err(RunAnswer::OutOfMemory);
     };
-    match run(&mut machine, plan, &lowered, inputs, limit, gate, sink) {
+    let Ok(mut lines) = OutputLines::new(alloc, outputs_of(plan)) else {
+        return Err(RunAnswer::OutOfMemory);
+    };
+    match run(
+        &mut machine,
+        plan,
+        &lowered,
+        inputs,
+        limit,
+        gate,
+        &mut lines,
+        sink,
+    ) {
         Ok(ended) => Ok(ended),
         Err(WriteFault) => Err(RunAnswer::WriteFault),
     }
@@ -57,6 +70,7 @@ fn run<S: Sink, G: Gate>(
     inputs: &Inputs,
     limit: u32,
     gate: &G,
+    lines: &mut OutputLines,
     sink: &mut S,
 ) -> Result<Ended, WriteFault>
     requires fits { AreFlowsFor plan.now.kernel inputs.now }
@@ -64,6 +78,7 @@ fn run<S: Sink, G: Gate>(
     requires lowers { Lowers plan.now lowered.now }
     requires machine { IsMachineOf plan.now lowered.now inputs.now machine.old }
     requires opening { actor_at machine.old 0 ≡ opening_actor plan.now.kernel }
+    requires room { longest_lines (outputs_of plan.now.kernel) ≤ lines.old.size }
     ensures whole { IfOk result (IsWholeRun plan.now inputs.now limit S.took sink.old sink.new) }
     ensures prefix { OnErr result (TookSome plan.now inputs.now limit S.took sink.old sink.new) }
     ensures failed { OnErr result (Rose (S.faults sink.old) (S.faults sink.new)) }
@@ -78,7 +93,7 @@ fn run<S: Sink, G: Gate>(
                 cause,
             });
         }
-        commit(machine, plan, lowered, inputs, sink)?;
+        commit(machine, plan, lowered, inputs, lines, sink)?;
     }
     pass_all(plan, gate, limit + 1);
     Ok(Ended {
@@ -93,10 +108,13 @@ fn commit<S: Sink>(
     plan: &Plan,
     _lowered: &Lowered,
     _inputs: &Inputs,
+    lines: &mut OutputLines,
     sink: &mut S,
 ) -> Result<(), WriteFault>
     requires instant { machine.old.instant + 1 < 2 ^ 32 }
     requires machine { IsMachineOf plan.now _lowered.now _inputs.now machine.old }
+    requires room { longest_lines (outputs_of plan.now.kernel) ≤ lines.old.size }
+    ensures size { lines.new.size ≡ lines.old.size }
     ensures all { OnOk result (S.took sink.old (lines_of plan.now.kernel (registers_of machine.old)) sink.new) }
     ensures next { OnOk result ((step : ℕ) → actor_at machine.new 0 ≡ at_next (actor_at machine.old step)) }
     ensures machine { OnOk result (IsMachineOf plan.now _lowered.now _inputs.now machine.new) }
@@ -104,7 +122,7 @@ fn commit<S: Sink>(
     ensures failed { OnErr result (Rose (S.faults sink.old) (S.faults sink.new)) }
     ensures faults_stay { S.faults sink.old ≤ S.faults sink.new }
 {
-    put_reaction(machine, plan, sink)?;
+    put_reaction(machine, plan, lines, sink)?;
     machine.next_instant();
     Ok(())
 }

@@ -1,12 +1,13 @@
 -- What the proofs of this crate cite of std, of the crates below and of its own specs, passed on from one place.
-pub use Rattle.std.proofs.Common.{All, Bool, Bor, Err, IfErr, IfOk, IsErrAnd, IsTrue, List, MatchResult, None, Ok, Option, Result, Some, [], ap, append-nil, append_assoc, arith, bytes_eq, codes, cond, drop, eqb, ext_get_or, false, flat_map, get_or, get_or-drop, get_or-set_other, get_or-set_same, if◌then◌else◌, inl, inr, leb-true, length, length-drop, length-take-le, lt-ltb, ltb-true, map, nat_le, nat_lt, ne_eqb, neg_ℤ, pos, refl, replicate, rules, set, subst, suc, sum_by, sym, take, take-append-drop, take_all, to_z, true, vec_len, w64, zero, ℕ, ℤ, ⊎_elim, ◌&&◌, ◌*◌, ◌++◌, ◌+◌, ◌-◌, ◌<◌, ◌==◌, ◌^◌, ◌∙◌, ◌∷◌, ◌≡◌, ◌≢◌, ◌≤◌, ◌⊎◌}
+pub use Rattle.std.proofs.Common.{All, Bool, Bor, Err, FitsSigned, IfErr, IfOk, IsErrAnd, IsTrue, List, MatchResult, None, Ok, Option, Result, Some, [], ap, append-nil, append_assoc, arith, bytes_eq, codes, cond, drop, eqb, ext_get_or, false, flat_map, get_or, get_or-drop, get_or-set_other, get_or-set_same, if◌then◌else◌, inl, inr, int_eq, int_le, leb-true, length, length-append, length-drop, length-set, length-take-le, lt-ltb, ltb-true, map, nat_le, nat_lt, ne_eqb, neg_ℤ, negsuc, pos, refl, replicate, rules, set, subst, suc, sum_by, sym, take, take-append-drop, take_all, to_z, to_z-of_z, true, true≢false, unsigned_abs, vec_len, w64, zero, ℕ, ℤ, ⊎_elim, ◌&&◌, ◌*◌, ◌++◌, ◌+◌, ◌-◌, ◌<◌, ◌==◌, ◌^◌, ◌∙◌, ◌∷◌, ◌≡◌, ◌≢◌, ◌≤◌, ◌⊎◌}
 pub use Rattle.std.proofs.Math.Seq.{take-append_seam}
 pub use Rattle.std.proofs.lemmas.Bool.{and_from, cases_Bool, cases_eq, cases_lt, cases_order}
 pub use Rattle.std.proofs.lemmas.Bool.Decides.{nat_tests, not_from_Decides}
+pub use Rattle.std.proofs.lemmas.Fmt.{length-decimal-le, length_signed_le}
 pub use Rattle.std.proofs.lemmas.Grind.{common_steps}
 pub use Rattle.std.proofs.lemmas.Int.{to_z_pos}
 pub use Rattle.std.proofs.lemmas.Int.Digits.{digits_more, digits_value_more}
-pub use Rattle.std.proofs.lemmas.List.{drop_all, drop_more, get_or-map, length-map}
+pub use Rattle.std.proofs.lemmas.List.{drop-set, drop_all, drop_more, get_or-map, length-map}
 pub use Rattle.std.proofs.lemmas.List.Concat.{flat_map-append}
 pub use Rattle.std.proofs.lemmas.List.Folds.{list_all-append}
 pub use Rattle.std.proofs.lemmas.List.Splits.{length-slice_split, slice_split-cons_yes, slice_split_first, slice_split_none}
@@ -17,13 +18,16 @@ pub use Rattle.std.proofs.lemmas.Result.{err_from_is_err_and, on_ok_weaker}
 pub use Rattle.std.proofs.lemmas.Slice.Eq.{bytes_eq-Decides}
 pub use Rattle.std.proofs.lemmas.Str.Parse.{IsNumeralModel, digit_at, digits_value-take-le, digits_value_short, numerals_by_value, tells_all_ascii_digits}
 pub use Rattle.std.specs.Char.{digit_value, is_ascii_alphabetic}
+pub use Rattle.std.specs.Fmt.{decimal, signed_decimal}
 pub use Rattle.std.specs.Int.{IsInRange}
 pub use Rattle.std.specs.List.{after_first, before_first, onto_first, position_or_len, slice_split}
 pub use Rattle.std.specs.Str.{all_ascii_digits}
 pub use Rattle.std.specs.Str.Lines.{lines, lines_of_parts, strip_carriage_return}
 pub use Rattle.std.specs.Str.Parse.{AllDigits, digits_value}
+pub use lib.Dec.{leb-zero}
 pub use Rattle.sig_base.specs.declared.ids.Kind.TheVariants.{Event}
 pub use Rattle.sig_text.specs.Sink.{Joins, TookPrefix, TookPrefix-longer, TookPrefix-then}
+pub use Rattle.sig_kernel.specs.OutputText.{line_with, truth_text, value_text}
 pub use Rattle.sig_kernel.specs.declared.kernel.Kernel.{Kernel}
 pub use Rattle.sig_kernel.proofs.Common.{AllByRecursion, AllPass-from_list_all, AreFlowsFor, Boolean, Integer, IsDistinct, Kind, Signal, false≢true, get_or_default, has_64_bits, inputs_of, list_all, value_is}
 pub use Rattle.sig_flow.specs.Bodies.{body_behind}

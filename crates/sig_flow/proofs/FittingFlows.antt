@@ -1,5 +1,5 @@
 -- Lemmas: the values that are read are of the kinds of their inputs.
-use Rattle.sig_flow.proofs.Common.{◌≡◌, ◌<◌, ◌≤◌, ◌+◌, ◌++◌, ◌^◌, ℕ, zero, suc, ℤ, pos, neg_ℤ, Bool, true, false, ◌&&◌, List, [], ◌∷◌, length, map, get_or, replicate, refl, sym, ap, ◌∙◌, subst, arith, Option, None, Some, Result, Ok, Err, bytes_eq, codes, flat_map, nat_le, nat_lt, if◌then◌else◌, ◌==◌, list_all, before_first, after_first, position_or_len, digits_value, false≢true, leb-true, lt-ltb, get_or-map, length-map, AllPass-from_list_all, has_64_bits, Kind, Integer, Boolean, Event, Signal, AreFlowsFor, inputs_of, value_is, Kernel, AreFlows, file_body, flow_in, values_for, values_of, Line, integer_of, integer_said, is_numeral, is_star, is_within, repeated, run_said, run_values, star_said, starred, times_said, value_said, Word, words_of, Version, One, Two, Run, WordFault, Bad, Outside}
+use Rattle.sig_flow.proofs.Common.{◌≡◌, ◌≤◌, ◌++◌, ◌^◌, ℕ, zero, suc, ℤ, pos, neg_ℤ, Bool, true, false, ◌&&◌, List, [], ◌∷◌, length, get_or, replicate, refl, sym, ap, ◌∙◌, subst, arith, Option, None, Some, Result, Ok, Err, bytes_eq, codes, flat_map, nat_le, nat_lt, if◌then◌else◌, ◌==◌, list_all, before_first, after_first, position_or_len, digits_value, false≢true, leb-true, lt-ltb, get_or-map, length-map, AllPass-from_list_all, has_64_bits, Kind, Integer, Boolean, Event, Signal, AreFlowsFor, inputs_of, value_is, Kernel, AreFlows, file_body, flow_in, values_for, values_of, Line, integer_of, is_numeral, is_star, is_within, repeated, run_said, run_values, starred, times_said, value_said, Word, words_of, Version, One, Two, WordFault, Bad, Outside}
 
 -- where a word has a value, it is one of the kind
 abbrev IsGood : Kind → Result ℤ WordFault → Type 0

@@ -12,6 +12,7 @@ mod Numerals
 mod ShortNumbers
 mod StarLemmas
 mod TakenPieces
+mod WrittenLines
 pub use Common.*
 pub use BodyLemmas.*
 pub use CleanLines.*
@@ -26,4 +27,5 @@ pub use Numerals.*
 pub use ShortNumbers.*
 pub use StarLemmas.*
 pub use TakenPieces.*
+pub use WrittenLines.*
 pub use Rattle.sig_flow.proofs.FlowLemmas.{all_read, flow_on, given, refused, written_flows}

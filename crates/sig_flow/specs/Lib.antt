@@ -7,6 +7,7 @@ pub mod Flows
 pub mod Inputs
 pub mod Lines
 pub mod NextWords
+pub mod OutputLines
 pub mod Shown
 pub mod Values
 pub mod Words

@@ -4,6 +4,7 @@
 #![tactic(auto)]
 
 mod answer;
+mod backward;
 mod body;
 mod digits;
 mod event;
@@ -13,6 +14,7 @@ mod laws;
 mod line;
 mod named;
 mod names;
+mod output_lines;
 mod pieces;
 mod put;
 mod read;
@@ -25,6 +27,7 @@ pub use event::{FileEvent, read_events};
 pub use laws::{first_wrong_word, flows_that_are_read_fit, one_event_reading, one_flow_reading};
 pub use line::next_line;
 pub use named::{input_named, is_clean};
+pub use output_lines::OutputLines;
 pub use put::put_value;
 pub use read::{read_flows, read_named};
 pub use value::{WordFault, value_of};

@@ -25,7 +25,7 @@ pub use Rattle.sig_machine.specs.Instants.{EndsBy, GoesOn, ended_behind}
 pub use Rattle.sig_machine.specs.Lowerings.{AreRuns, HasReads, HasShape, IsFor, IsLeft, IsRun, IsTarget, IsWorkOf, Lowers, taken_by_form}
 pub use Rattle.sig_machine.specs.Machines.{HaveConstants, IsMachineOf, actor_at, cell, memories_at, memories_of, registers_of, stamped, taken_of}
 pub use Rattle.sig_machine.specs.Sources.{AreBelow, Grows, IsCellOf, IsConstant, IsSource}
-pub use Rattle.sig_machine.specs.Works.{IsKept, ReadsWithin, as_named, came_to, input_taken, named, no_equation, taken_after}
+pub use Rattle.sig_machine.specs.Works.{IsFollowed, IsKept, IsPut, ReadsWithin, as_named, came_to, input_id, input_taken, named, no_equation, taken_after}
 pub use Rattle.sig_machine.specs.declared.instruction.Instruction.{Instruction}
 pub use Rattle.sig_machine.specs.declared.instruction.Work.{Work}
 pub use Rattle.sig_machine.specs.declared.instruction.Work.TheVariants.{Copy, Next, One, Two}

@@ -1,5 +1,6 @@
 pub mod Common
 pub mod Doing
+pub mod Following
 pub mod ForOperations
 pub mod Growing
 pub mod Guards
@@ -11,6 +12,7 @@ pub mod Standing
 pub mod Working
 pub use Common.*
 pub use Doing.*
+pub use Following.*
 pub use ForOperations.*
 pub use Growing.*
 pub use Guards.*

@@ -1,6 +1,6 @@
 -- What an instruction comes to.
 use Rattle.std.specs.Prelude.{◌≡◌, ◌<◌, ◌+◌, ◌∷◌}
-use Rattle.sig_machine.specs.Prelude.{ℕ, ℤ, List, [], slice_get, slice_set, slice_index_or, Option, None, Some, EqId, SigId, function_of, Cause, Exhausted, Limit, Overflow, ZeroDivisor, Faults, Gives, Outcome, computed, next_of}
+use Rattle.sig_machine.specs.Prelude.{ℕ, ℤ, List, [], slice_get, slice_set, slice_index_or, Option, None, Some, Ok, IfSome, SomeIff, FitsSigned, w64, answered, bounded, EqId, SigId, function_of, Cause, Exhausted, Limit, Overflow, ZeroDivisor, Faults, Gives, Outcome, computed, next_of}
 use Rattle.sig_machine.specs.Machines.{cell, taken_of}
 use Rattle.sig_machine.specs.declared.instruction.Instruction.{Instruction}
 use Rattle.sig_machine.specs.declared.instruction.Work.{Work}
@@ -60,3 +60,21 @@ pub record IsKept (instruction : Instruction) (value : ℤ) (old new : Machine) 
   pub cells : new.cells.items ≡ slice_set old.cells.items instruction.target value
   pub stamps : new.stamps.items ≡ slice_set old.stamps.items instruction.target old.instant
   pub taken : new.taken.items ≡ taken_after instruction.work old.taken.items
+
+-- a value is in a cell, with the stamp of the instant, and no input was taken
+pub record IsPut (target : ℕ) (value : ℤ) (old new : Machine) : Type 0 where
+  pub signals : new.signals ≡ old.signals
+  pub instant : new.instant ≡ old.instant
+  pub cells : new.cells.items ≡ slice_set old.cells.items target value
+  pub stamps : new.stamps.items ≡ slice_set old.stamps.items target old.instant
+  pub taken : new.taken.items ≡ old.taken.items
+
+-- an instruction was done: the value that it comes to is in its cell
+pub record IsFollowed (flows : List (List ℤ)) (instruction : Instruction) (old new : Machine) : Type 0 where
+  pub value : ℤ
+  pub gives : Ok value ≡ answered (came_to flows old instruction.work)
+  pub kept : IsKept instruction value old new
+
+-- an option holds what a whole number comes to as a result, if that has 64 bits
+abbrev pub IsFitting : Option ℤ → Option ℤ → Type 0
+IsFitting value answer = (v : ℤ) → SomeIff value (FitsSigned w64 v) v → IfSome answer (λ w. Ok w ≡ answered (bounded no_equation v))

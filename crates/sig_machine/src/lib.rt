@@ -9,6 +9,7 @@ mod lowered;
 mod lowering;
 mod machine;
 mod plans;
+mod quick;
 mod react;
 mod runs;
 mod sources;

@@ -69,9 +69,8 @@ impl Machine {
         plans_are_accepted(plan);
         for place in first..run.end {
             let instruction = lowered.instructions[place];
-            match self.come_to(instruction.work, inputs) {
-                Ok(value) => self.keep(instruction, value),
-                Err(cause) => return Err(named(op_at(plan, place).eq, cause)),
+            if let Err(cause) = self.follow(instruction, inputs) {
+                return Err(named(op_at(plan, place).eq, cause));
             }
         }
         Ok(())

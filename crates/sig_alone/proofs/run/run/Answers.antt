@@ -5,6 +5,7 @@ pub loop-done-init : goal.loop-done-init
 loop-done-init g c = record {
   machine = c.requires.machine;
   run = run_begins c.args.plan.now c.plans_are_accepted.ensures c.args.inputs.now c.requires.fits g.S.Sink.took c.args.sink.now (g.met.S.Sink.took_nothing c.args.sink.now) c.args.machine.now c.requires.opening;
+  room = c.requires.room;
   faults = omega arith;
 }
 
@@ -24,6 +25,7 @@ loop-done-preserved g c = record {
   machine = c.in_ok-commit.ensures.machine;
   run = run_more c.args.plan.now c.plans_are_accepted.ensures c.args.inputs.now c.requires.fits g.S.Sink.took g.met.S.Sink.took_both c.args.sink.now c.loop-done.sink c.commit.new.sink c.loop-done.done
       c.loop-done.machine c.react.new.self c.loop-done.invariant.run c.in_default.ensures.done c.in_ok-commit.ensures.all c.commit.new.machine (c.in_ok-commit.ensures.next (length c.args.plan.now.order));
+  room = let room = c.loop-done.invariant.room in let size = c.in_ok-commit.ensures.size in omega (arith, room, size);
   faults = omega (arith, c.loop-done.invariant.faults, c.in_ok-commit.ensures.faults_stay);
 }
 

@@ -1,11 +1,11 @@
-use Rattle.sig_machine.proofs.{rules, w64, ◌≡◌, ◌≤◌, ◌∙◌, ℕ, ℤ, length, refl, sym, subst, arith, slice_get_read, to_z-of_z, IsKept, EndsBy, GoesOn, ends_by, goes_on, input_there, one_guard, reads_there, stamp_there, target_there, machine_behind, stands_somewhere}
+use Rattle.sig_machine.proofs.{◌≡◌, ◌≤◌, ◌∙◌, ℕ, length, refl, sym, subst, arith, slice_get_read, EndsBy, GoesOn, IsMachineOf, Machine, ends_by, goes_on, input_there, one_guard, reads_there, stamp_there, target_there, machine_behind, stands_somewhere}
 use Rattle.sig_machine.proofs.machine.Machine.do_run.Goals as goal
 
 ends_within : (a b n : ℕ) → a ≤ b → b ≤ n → a ≤ n
 ends_within a b n one two = omega (arith, one, two)
 
-pub come_to-requires : goal.come_to-requires
-come_to-requires c =
+pub follow-requires-clause-reads : goal.follow-requires-clause-reads
+follow-requires-clause-reads c =
     let place = c.loop-place.place in
     let end = (let a = c.requires.run.leaves in let b = c.requires.run.within in ends_within _ _ _ a b) in
     let test = c.loop-place-test.true in
@@ -13,8 +13,8 @@ come_to-requires c =
     let at = slice_get_read c.args.lowered.now.instructions.items (length c.args.lowered.now.instructions.items) place c.index-instruction.result.now refl (omega (arith, end, test, count)) c.index-instruction.ensures in
     reads_there c.args.plan.now c.plans_are_accepted.ensures c.args.inputs.now c.requires.fits c.args.lowered.now c.requires.lowers c.loop-place.self c.loop-place.invariant.machine place c.index-instruction.result.now at (omega (arith, end, test))
 
-pub keep-requires-clause-cells : goal.keep-requires-clause-cells
-keep-requires-clause-cells c =
+pub follow-requires-clause-cells : goal.follow-requires-clause-cells
+follow-requires-clause-cells c =
     let place = c.loop-place.place in
     let end = (let a = c.requires.run.leaves in let b = c.requires.run.within in ends_within _ _ _ a b) in
     let test = c.loop-place-test.true in
@@ -22,8 +22,8 @@ keep-requires-clause-cells c =
     let at = slice_get_read c.args.lowered.now.instructions.items (length c.args.lowered.now.instructions.items) place c.index-instruction.result.now refl (omega (arith, end, test, count)) c.index-instruction.ensures in
     target_there c.args.plan.now c.plans_are_accepted.ensures c.args.inputs.now c.requires.fits c.args.lowered.now c.requires.lowers c.loop-place.self c.loop-place.invariant.machine place c.index-instruction.result.now at (omega (arith, end, test))
 
-pub keep-requires-clause-stamps : goal.keep-requires-clause-stamps
-keep-requires-clause-stamps c =
+pub follow-requires-clause-stamps : goal.follow-requires-clause-stamps
+follow-requires-clause-stamps c =
     let place = c.loop-place.place in
     let end = (let a = c.requires.run.leaves in let b = c.requires.run.within in ends_within _ _ _ a b) in
     let test = c.loop-place-test.true in
@@ -31,8 +31,8 @@ keep-requires-clause-stamps c =
     let at = slice_get_read c.args.lowered.now.instructions.items (length c.args.lowered.now.instructions.items) place c.index-instruction.result.now refl (omega (arith, end, test, count)) c.index-instruction.ensures in
     stamp_there c.args.plan.now c.plans_are_accepted.ensures c.args.inputs.now c.requires.fits c.args.lowered.now c.requires.lowers c.loop-place.self c.loop-place.invariant.machine place c.index-instruction.result.now at (omega (arith, end, test))
 
-pub keep-requires-clause-input : goal.keep-requires-clause-input
-keep-requires-clause-input c =
+pub follow-requires-clause-input : goal.follow-requires-clause-input
+follow-requires-clause-input c =
     let place = c.loop-place.place in
     let end = (let a = c.requires.run.leaves in let b = c.requires.run.within in ends_within _ _ _ a b) in
     let test = c.loop-place-test.true in
@@ -58,7 +58,11 @@ returns-in-Err-clause-fault c =
     let amid = c.loop-place.invariant.goes trace instant began in
     let on = one_guard plan accepted flows c.requires.fits c.args.self.now c.args.first c.args.run c.requires.run c.loop-place.self place c.loop-place.auto.place test op stands trace instant began amid ∙ c.requires.on in
     ends_by plan accepted flows c.requires.fits c.args.lowered.now c.requires.lowers c.loop-place.self c.loop-place.invariant.machine place op stands on instruction
-    (c.requires.lowers.each place instruction at op stands) c.in-Err.cause c.in-Err.ensures.value trace instant amid)
+    (c.requires.lowers.each place instruction at op stands) c.in-Err.cause c.in-Err.ensures.fault trace instant amid)
+
+pub returns-in-Err-clause-machine : goal.returns-in-Err-clause-machine
+returns-in-Err-clause-machine c =
+    subst (λ (m : Machine). IsMachineOf c.args.plan.now c.args.lowered.now c.args.inputs.now m) (sym c.in-Err.ensures.same) c.loop-place.invariant.machine
 
 pub loop-place-preserved : goal.loop-place-preserved
 loop-place-preserved c =
@@ -74,15 +78,15 @@ loop-place-preserved c =
     let (op, stands) = stands_somewhere plan accepted place (omega (arith, end, test)) in
     let for_op = c.requires.lowers.each place instruction at op stands in
     let within = input_there plan accepted flows c.requires.fits c.args.lowered.now c.requires.lowers c.loop-place.self c.loop-place.invariant.machine place instruction at (omega (arith, end, test)) in
-    let kept : IsKept instruction c.in-Ok.value c.loop-place.self c.keep.new.self =
-    subst (λ (z : ℤ). IsKept instruction z c.loop-place.self c.keep.new.self) (to_z-of_z w64 c.in-Ok.value (search rules)) c.keep.ensures in
+    let followed = c.in_default.ensures.done in
+    let new = c.follow.new.self in
     record {
-      machine = machine_behind plan c.args.lowered.now c.requires.lowers flows c.loop-place.self c.loop-place.invariant.machine op instruction for_op.target c.in-Ok.value c.keep.new.self kept;
+      machine = machine_behind plan c.args.lowered.now c.requires.lowers flows c.loop-place.self c.loop-place.invariant.machine op instruction for_op.target followed.value new followed.kept;
       goes = λ trace instant began.
           let amid = c.loop-place.invariant.goes trace instant began in
           let on = one_guard plan accepted flows c.requires.fits c.args.self.now c.args.first c.args.run c.requires.run c.loop-place.self place c.loop-place.auto.place test op stands trace instant began amid ∙ c.requires.on in
           goes_on plan accepted flows c.requires.fits c.args.lowered.now c.requires.lowers c.loop-place.self c.loop-place.invariant.machine place op stands on instruction for_op
-          c.in-Ok.value c.in-Ok.ensures.value c.keep.new.self kept within trace instant amid;
+          followed.value followed.gives new followed.kept within trace instant amid;
     }
 
 pub returns-clause-done : goal.returns-clause-done
