@@ -5,7 +5,7 @@ use std::hint;
 use std::sync::Wait;
 
 /// How often in a row it only spins, before it rests.
-const SPINS: u32 = 128;
+const SPINS: u32 = 12;
 
 /// How often something is done before threads that rest are told.
 const MOVES: u32 = 16;
