@@ -32,7 +32,7 @@ pub use Rattle.sig_front.proofs.OneText.{refusal_once, tree_once, tree_or_refusa
 pub use Rattle.sig_outcome.specs.Outcomes.{WritesDue}
 pub use Rattle.sig_outcome.specs.Tasks.{SaysLine}
 pub use Rattle.sig_outcome.specs.declared.refusal.Refusal.{Refusal}
-pub use Rattle.sig_outcome.specs.declared.refusal.Refusal.TheVariants.{Budget, Data, LongFile, LongProgram, Missing, Program, ReadFault, TooManyItems}
+pub use Rattle.sig_outcome.specs.declared.refusal.Refusal.TheVariants.{Budget, Data, LongFile, LongImage, LongProgram, Missing, Program, ReadFault, TooManyItems}
 pub use Rattle.sig_outcome.proofs.Common.{Contents, Good, IsOfProgram, OneAtMost, Outcome, done, status_of}
 pub use Rattle.sig_outcome.proofs.OneFile.{reaches_text, stops_bytes, stops_unread}
 pub use Rattle.sig_outcome.proofs.Performing.{performs_outcome, performs_refusal}

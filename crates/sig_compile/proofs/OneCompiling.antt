@@ -1,5 +1,5 @@
 -- The compiling and the printing of a program over told contents come to one outcome at most.
-use Rattle.sig_compile.proofs.Common.{◌≡◌, ◌∙◌, ℕ, Bool, List, inl, inr, refl, sym, ap, Contents, IsText, ProcessModel, canonical_text, front_line, tree_once, refusal_once, tree_or_refusal, HasClocks, code_text_once, tree_text_once, Kernel, OneAtMost, WritesDue, done, status_of, Refusal, Missing, ReadFault, LongProgram, Program, Budget, TooManyItems, LongFile, Data, one_at_program, AreRefused, IsAcceptedAs, CompileComesTo, IsAboutPlan, IsCompileStatus, IsDueOf, IsAboutText, IsPrintStatus, PrintComesTo, RefusesText, Product, Code, Tree, Verdict}
+use Rattle.sig_compile.proofs.Common.{◌≡◌, ◌∙◌, ℕ, Bool, List, inl, inr, refl, sym, ap, Contents, IsText, ProcessModel, canonical_text, front_line, tree_once, refusal_once, tree_or_refusal, HasClocks, code_text_once, tree_text_once, Kernel, OneAtMost, WritesDue, done, status_of, Refusal, Missing, ReadFault, LongProgram, Program, Budget, TooManyItems, LongFile, Data, LongImage, one_at_program, AreRefused, IsAcceptedAs, CompileComesTo, IsAboutPlan, IsCompileStatus, IsDueOf, IsAboutText, IsPrintStatus, PrintComesTo, RefusesText, Product, Code, Tree, Verdict}
 use Rattle.sig_outcome.specs.declared.refusal.Refusal.TheVariants.{OutOfMemory}
 use Rattle.sig_compile.proofs.Verdicts.{accepted_once, accepted_or_refused, refused_once}
 
@@ -28,6 +28,7 @@ compile_number program (Budget nodes) about = inr (inr (inr (inr (inr refl))))
 compile_number program TooManyItems about = absurd about
 compile_number program (LongFile n) about = absurd about
 compile_number program (Data line) about = absurd about
+compile_number program LongImage about = absurd about
 compile_number program OutOfMemory about = inr (inr (inr (inr (inl refl))))
 
 -- ---- the canonical text
@@ -52,4 +53,5 @@ print_number program (Budget nodes) about = absurd about
 print_number program TooManyItems about = absurd about
 print_number program (LongFile n) about = absurd about
 print_number program (Data line) about = absurd about
+print_number program LongImage about = absurd about
 print_number program OutOfMemory about = inr (inr (inr (inr refl)))

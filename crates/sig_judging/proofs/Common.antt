@@ -13,7 +13,7 @@ pub use Rattle.sig_front.specs.Shown.{front_line}
 pub use Rattle.sig_front.proofs.OneFlat.{flat_once, flat_or_refusal, no_flat_once}
 pub use Rattle.sig_outcome.specs.Tasks.{SaysLine}
 pub use Rattle.sig_outcome.specs.declared.refusal.Refusal.{Refusal}
-pub use Rattle.sig_outcome.specs.declared.refusal.Refusal.TheVariants.{Budget, Data, LongFile, LongProgram, Missing, Program, ReadFault, TooManyItems}
+pub use Rattle.sig_outcome.specs.declared.refusal.Refusal.TheVariants.{Budget, Data, LongFile, LongImage, LongProgram, Missing, Program, ReadFault, TooManyItems}
 pub use Rattle.sig_outcome.proofs.Common.{Contents, Good, HasCount, IsDone, IsOfData, IsOwn, OneAtMost, Outcome, Reaches, Stops, long_file, long_program, name_where_there, outcome_of, status_of}
 pub use Rattle.sig_outcome.proofs.Performing.{performs_outcome, performs_refusal}
 pub use Rattle.sig_outcome.proofs.Refused.{later_count, later_own, of_more_data, on_err, refused_data, refused_program, told_both}

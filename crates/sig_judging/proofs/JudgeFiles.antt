@@ -1,5 +1,5 @@
 -- What the files of a program and of a trace call for.
-use Rattle.sig_judging.proofs.Common.{◌≡◌, ◌≤◌, ◌∙◌, ◌⊎◌, ℕ, List, Option, Some, IfSome, ⊎_elim, inl, inr, refl, sym, ap, subst, arith, string_bytes, Trace, Signal, Contents, name_where_there, FlatBody, IsFirstBadPlace, IsVerdict, TraceAnswer, Verdict, Good, HasCount, IsOfData, IsOwn, outcome_of, status_of, Reaches, Stops, Refusal, Missing, ReadFault, LongProgram, Program, Budget, TooManyItems, LongFile, Data, later_count, later_own, told_both, AtFlat, AtTrace, FindsFlat, FindsTrace, IsAboutFlat, IsAboutJudge, IsAboutTrace, IsJudgeStatus, JudgeComesTo, judged, judging}
+use Rattle.sig_judging.proofs.Common.{◌≡◌, ◌≤◌, ◌∙◌, ◌⊎◌, ℕ, List, Option, Some, IfSome, ⊎_elim, inl, inr, refl, sym, ap, subst, arith, string_bytes, Trace, Signal, Contents, name_where_there, FlatBody, IsFirstBadPlace, IsVerdict, TraceAnswer, Verdict, Good, HasCount, IsOfData, IsOwn, outcome_of, status_of, Reaches, Stops, Refusal, Missing, ReadFault, LongProgram, Program, Budget, TooManyItems, LongFile, Data, LongImage, later_count, later_own, told_both, AtFlat, AtTrace, FindsFlat, FindsTrace, IsAboutFlat, IsAboutJudge, IsAboutTrace, IsJudgeStatus, JudgeComesTo, judged, judging}
 use Rattle.sig_outcome.specs.declared.refusal.Refusal.TheVariants.{OutOfMemory}
 use Rattle.sig_judging.proofs.OneJudging.{flat_refuses, judges, trace_refuses}
 
@@ -13,6 +13,7 @@ judge_number program traces (Budget nodes) about = absurd (⊎_elim (λ x. x) (�
 judge_number program traces TooManyItems about = absurd (⊎_elim (λ x. x) (λ x. x) about)
 judge_number program traces (LongFile n) about = inr (inr (inr (inl refl)))
 judge_number program traces (Data line) about = inr (inr (inr (inl refl)))
+judge_number program traces LongImage about = absurd (⊎_elim (λ x. x) (λ x. x) about)
 judge_number program traces OutOfMemory about = inr (inr (inr (inr (inr refl))))
 
 no_budget : (program traces : List ℕ) (r : Refusal) → IsAboutJudge program traces r → status_of r ≡ 8 → ⊥
@@ -24,6 +25,7 @@ no_budget program traces (Budget nodes) about eight = ⊎_elim (λ x. x) (λ x. 
 no_budget program traces TooManyItems about eight = omega (arith, eight)
 no_budget program traces (LongFile n) about eight = omega (arith, eight)
 no_budget program traces (Data line) about eight = omega (arith, eight)
+no_budget program traces LongImage about eight = omega (arith, eight)
 no_budget program traces OutOfMemory about eight = omega (arith, eight)
 
 module _ (contents : Option Contents) (before at : Option (List ℕ)) (m0 m1 m2 f0 f1 f2 : ℕ) (program traces : List ℕ) (r : Refusal) where

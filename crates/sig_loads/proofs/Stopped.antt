@@ -1,5 +1,5 @@
 -- The refusals of a load.
-use Rattle.sig_loads.proofs.Common.{◌≡◌, ◌≤◌, ℕ, false, List, Option, None, length, inl, inr, refl, ap, sym, subst, arith, string_bytes, FLOW_BYTES, PROGRAM_BYTES, inputs_of, Kernel, flows, program, Contents, long_file, long_program, refused, HasCount, IsOfData, IsOfProgram, IsOwn, outcome_of, status_of, Refusal, Missing, ReadFault, LongProgram, Program, Budget, TooManyItems, LongFile, Data, OutOfMemory, told, AreRefused, IsBeyondBound, LacksNodes, plan_line, HoldFew, HoldTooMany, RefusesFlows, flow_line, Settings, IsLoadStatus, IsShortProgram, LoadComesTo, IsAboutLoad, IsOfFlowsText, IsOfProgramText, flows_name, StopsLoad}
+use Rattle.sig_loads.proofs.Common.{◌≡◌, ◌≤◌, ℕ, false, List, Option, None, length, inl, inr, refl, ap, sym, subst, arith, string_bytes, FLOW_BYTES, PROGRAM_BYTES, inputs_of, Kernel, flows, program, Contents, long_file, long_program, refused, HasCount, IsOfData, IsOfProgram, IsOwn, outcome_of, status_of, Refusal, Missing, ReadFault, LongProgram, Program, Budget, TooManyItems, LongFile, Data, LongImage, OutOfMemory, told, AreRefused, IsBeyondBound, LacksNodes, plan_line, HoldFew, HoldTooMany, RefusesFlows, flow_line, Settings, IsLoadStatus, IsShortProgram, LoadComesTo, IsAboutLoad, IsOfFlowsText, IsOfProgramText, flows_name, StopsLoad}
 
 -- a refusal of a load has a status of a load
 pub load_number : (r : Refusal) → IsAboutLoad r → IsLoadStatus (status_of r)
@@ -11,6 +11,7 @@ load_number (Budget nodes) about = inr (inr (inr (inr (inr (inr refl)))))
 load_number TooManyItems about = inr (inr (inr (inl refl)))
 load_number (LongFile name) about = inr (inr (inr (inr (inl refl))))
 load_number (Data line) about = inr (inr (inr (inr (inl refl))))
+load_number LongImage about = absurd about
 load_number OutOfMemory about = inr (inr (inr (inr (inr (inl refl)))))
 
 -- a refusal that may be one of a load has no cause in the counts
@@ -23,6 +24,7 @@ no_count contents at misses faults (Budget nodes) about = tt
 no_count contents at misses faults TooManyItems about = tt
 no_count contents at misses faults (LongFile name) about = tt
 no_count contents at misses faults (Data line) about = tt
+no_count contents at misses faults LongImage about = tt
 no_count contents at misses faults OutOfMemory about = tt
 
 module _ (seed stages capacity : ℕ) where
@@ -51,6 +53,7 @@ module _ (seed stages capacity : ℕ) where
   about_text TooManyItems of = absurd of
   about_text (LongFile name) of = absurd of
   about_text (Data line) of = absurd of
+  about_text LongImage of = absurd of
   about_text OutOfMemory of = tt
 
   beyond_text : (r : Refusal) → IsOfProgramText (program stages) r → status_of r ≡ 8 → IsBeyondBound false (program stages)
@@ -62,6 +65,7 @@ module _ (seed stages capacity : ℕ) where
   beyond_text TooManyItems of eight = absurd of
   beyond_text (LongFile name) of eight = absurd of
   beyond_text (Data line) of eight = absurd of
+  beyond_text LongImage of eight = absurd of
   beyond_text OutOfMemory of eight = absurd (omega (arith, eight))
 
   text_refuses : (settings : Settings) (faults : ℕ) (r : Refusal) → IsOfProgramText (program stages) r → IsOwn r faults faults → LoadComesTo seed stages settings (outcome_of r None)
@@ -73,6 +77,7 @@ module _ (seed stages capacity : ℕ) where
   text_refuses settings faults TooManyItems of own = absurd of
   text_refuses settings faults (LongFile name) of own = absurd of
   text_refuses settings faults (Data line) of own = absurd of
+  text_refuses settings faults LongImage of own = absurd of
   text_refuses settings faults OutOfMemory of own = absurd own
 
   pub stops_program : (r : Refusal) → IsOfProgramText (program stages) r → StopsLoad seed stages capacity r
@@ -98,6 +103,7 @@ module _ (seed stages capacity : ℕ) where
       about_flows TooManyItems of = tt
       about_flows (LongFile name) of = of.0
       about_flows (Data line) of = flow_line flows_name (inputs_of kernel) (flows seed stages) (string_bytes line) of.1
+      about_flows LongImage of = absurd of
       about_flows OutOfMemory of = tt
 
       no_budget : (r : Refusal) → IsOfFlowsText kernel (flows seed stages) r → status_of r ≡ 8 → IsBeyondBound false (program stages)
@@ -109,6 +115,7 @@ module _ (seed stages capacity : ℕ) where
       no_budget TooManyItems of eight = absurd of
       no_budget (LongFile name) of eight = absurd (omega (arith, eight))
       no_budget (Data line) of eight = absurd (omega (arith, eight))
+      no_budget LongImage of eight = absurd of
       no_budget OutOfMemory of eight = absurd (omega (arith, eight))
 
       flows_refuse : (settings : Settings) (faults : ℕ) → settings.capacity ≡ capacity → (r : Refusal) → IsOfFlowsText kernel (flows seed stages) r → IsOwn r faults faults
@@ -123,6 +130,7 @@ module _ (seed stages capacity : ℕ) where
           inr (kernel, is, inr (subst (λ n. HoldFew kernel n) (sym same) few, inl (of.1, ap (λ (n : List ℕ). refused 4 (long_file n) None) of.0)))
       flows_refuse settings faults same (Data line) of own =
           inr (kernel, is, inr (subst (λ n. HoldFew kernel n) (sym same) few, inr (inl (string_bytes line, of.0, of.1, refl))))
+      flows_refuse settings faults same LongImage of own = absurd of
       flows_refuse settings faults same OutOfMemory of own = absurd own
 
       pub stops_flows : (r : Refusal) → IsOfFlowsText kernel (flows seed stages) r → StopsLoad seed stages capacity r
@@ -139,6 +147,7 @@ of_program bytes short (Budget nodes) of = of
 of_program bytes short TooManyItems of = absurd of
 of_program bytes short (LongFile name) of = absurd of
 of_program bytes short (Data line) of = absurd of
+of_program bytes short LongImage of = absurd of
 of_program bytes short OutOfMemory of = tt
 
 pub of_flows : (kernel : Kernel) (bytes : List ℕ) → length bytes ≤ FLOW_BYTES → (r : Refusal) → IsOfData (λ line. RefusesFlows flows_name (inputs_of kernel) bytes line) r → IsOfFlowsText kernel bytes r
@@ -150,4 +159,5 @@ of_flows kernel bytes short (Budget nodes) of = absurd of
 of_flows kernel bytes short TooManyItems of = absurd of
 of_flows kernel bytes short (LongFile name) of = absurd of
 of_flows kernel bytes short (Data line) of = (short, of)
+of_flows kernel bytes short LongImage of = absurd of
 of_flows kernel bytes short OutOfMemory of = tt

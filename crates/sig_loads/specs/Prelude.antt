@@ -4,7 +4,7 @@ pub use Rattle.sig_base.specs.declared.limits.TheConstants.{INSTANTS_DEFAULT}
 pub use Rattle.sig_load.specs.Flows.{flows}
 pub use Rattle.sig_load.specs.Program.{program}
 pub use Rattle.sig_outcome.specs.Outcomes.{long_file}
-pub use Rattle.sig_outcome.specs.declared.refusal.Refusal.TheVariants.{Budget, Data, LongFile, LongProgram, Missing, OutOfMemory, Program, ReadFault, TooManyItems}
+pub use Rattle.sig_outcome.specs.declared.refusal.Refusal.TheVariants.{Budget, Data, LongFile, LongImage, LongProgram, Missing, OutOfMemory, Program, ReadFault, TooManyItems}
 pub use Rattle.sig_compile.specs.Acceptance.{AreRefused, IsRefusedProgram}
 pub use Rattle.sig_compile.specs.Compiling.{IsBeyondBound, IsBudget, IsPlanLine, LacksNodes}
 pub use Rattle.sig_runs.specs.Ends.{end_line, end_status}

@@ -1,6 +1,6 @@
 -- The refusals of generated texts.
 use Rattle.std.specs.Prelude.{◌≡◌, ◌≤◌, ◌<◌}
-use Rattle.sig_loads.specs.Prelude.{⊤, ℕ, false, List, codes, length, string_bytes, FLOW_BYTES, PROGRAM_BYTES, inputs_of, Kernel, Refusal, Missing, ReadFault, LongProgram, Program, Budget, TooManyItems, LongFile, Data, OutOfMemory, AreRefused, IsBudget, IsPlanLine, LacksNodes, IsFlowLine, RefusesFlows}
+use Rattle.sig_loads.specs.Prelude.{⊤, ℕ, false, List, codes, length, string_bytes, FLOW_BYTES, PROGRAM_BYTES, inputs_of, Kernel, Refusal, Missing, ReadFault, LongProgram, Program, Budget, TooManyItems, LongFile, Data, LongImage, OutOfMemory, AreRefused, IsBudget, IsPlanLine, LacksNodes, IsFlowLine, RefusesFlows}
 
 -- the name by which a refusal calls the generated flows
 abbrev pub flows_name : List ℕ
@@ -16,6 +16,7 @@ IsAboutLoad (Budget nodes) = IsBudget nodes
 IsAboutLoad TooManyItems = ⊤
 IsAboutLoad (LongFile name) = name.now ≡ flows_name
 IsAboutLoad (Data line) = IsFlowLine flows_name (string_bytes line)
+IsAboutLoad LongImage = ⊥
 IsAboutLoad OutOfMemory = ⊤
 
 -- a refusal is that of bytes as a program
@@ -28,6 +29,7 @@ IsOfProgramText bytes (Budget nodes) = LacksNodes false bytes nodes
 IsOfProgramText bytes TooManyItems = ⊥
 IsOfProgramText bytes (LongFile name) = ⊥
 IsOfProgramText bytes (Data line) = ⊥
+IsOfProgramText bytes LongImage = ⊥
 IsOfProgramText bytes OutOfMemory = ⊤
 
 -- a refusal is that of bytes as flows of a kernel's inputs
@@ -40,4 +42,5 @@ IsOfFlowsText kernel bytes (Budget nodes) = ⊥
 IsOfFlowsText kernel bytes TooManyItems = ⊥
 IsOfFlowsText kernel bytes (LongFile name) = (name.now ≡ flows_name) × (FLOW_BYTES < length bytes)
 IsOfFlowsText kernel bytes (Data line) = (length bytes ≤ FLOW_BYTES) × RefusesFlows flows_name (inputs_of kernel) bytes (string_bytes line)
+IsOfFlowsText kernel bytes LongImage = ⊥
 IsOfFlowsText kernel bytes OutOfMemory = ⊤

@@ -8,8 +8,8 @@ pub use Rattle.sig_text.specs.Counts.{Rose, raised}
 pub use Rattle.sig_text.specs.Files.{Contents, name_where_there}
 pub use Rattle.sig_text.specs.Read.{IsLongerThan}
 pub use Rattle.sig_text.specs.Sink.{Joins, TookPrefix, TookPrefix-longer, TookPrefix-then, TookPrefix-whole}
-pub use Rattle.sig_outcome.specs.Outcomes.{Absent, AtData, AtFile, AtProgram, Bad, Finds, FindsData, FindsProgram, Found, Good, Holds, Long, OneAtMost, Outcome, done, long_file, long_program}
-pub use Rattle.sig_outcome.specs.Refusals.{AtNoBytes, HasCount, IsAboutData, IsAboutProgram, IsOfData, IsOfProgram, IsOwn, line_of, outcome_of, status_of}
-pub use Rattle.sig_outcome.specs.Tasks.{IsCut, IsDone, IsDue, IsRefused, MayAnswer, Owes, Performs, Reaches, Stops, Task, Writes, items_line, memory_line, write_line}
+pub use Rattle.sig_outcome.specs.Outcomes.{Absent, AtData, AtFile, AtProgram, Bad, Finds, FindsData, FindsProgram, Found, Good, Holds, Long, OneAtMost, Outcome, done, long_file, long_image, long_program}
+pub use Rattle.sig_outcome.specs.Refusals.{AtNoBytes, HasCount, IsAboutData, IsAboutImage, IsAboutProgram, IsOfData, IsOfImage, IsOfLength, IsOfProgram, IsOwn, line_of, outcome_of, status_of}
+pub use Rattle.sig_outcome.specs.Tasks.{IsCut, IsDone, IsDue, IsRefused, MayAnswer, Owes, Performs, Reaches, Stops, Task, Writes, image_line, items_line, memory_line, write_line}
 pub use Rattle.sig_outcome.specs.declared.refusal.Refusal.{Refusal}
-pub use Rattle.sig_outcome.specs.declared.refusal.Refusal.TheVariants.{Budget, Data, LongFile, LongProgram, Missing, OutOfMemory, Program, ReadFault, TooManyItems}
+pub use Rattle.sig_outcome.specs.declared.refusal.Refusal.TheVariants.{Budget, Data, LongFile, LongImage, LongProgram, Missing, OutOfMemory, Program, ReadFault, TooManyItems}

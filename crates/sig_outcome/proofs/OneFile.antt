@@ -1,5 +1,5 @@
 -- What the file of a program calls for, of a task that asks for this file alone.
-use Rattle.sig_outcome.proofs.Common.{◌≡◌, ◌≤◌, ℕ, List, Option, Some, IfSome, length, Contents, name_where_there, AtProgram, Good, Outcome, done, long_program, AtNoBytes, HasCount, IsAboutProgram, IsOfProgram, IsOwn, outcome_of, status_of, Reaches, Stops, Task, Refusal}
+use Rattle.sig_outcome.proofs.Common.{◌≡◌, ◌≤◌, ℕ, List, Option, Some, IfSome, length, Contents, name_where_there, AtProgram, Good, Outcome, done, long_program, AtNoBytes, HasCount, IsAboutProgram, IsOfProgram, IsOwn, outcome_of, Reaches, Stops, Task, Refusal}
 use Rattle.sig_outcome.proofs.Refused.{about_bytes, about_more, budget_of, count_of_program, no_eight, no_program, refused_program, told_both}
 
 module _ {A : Type 0} (Says : List ℕ → A → Type 0) (Refuses : List ℕ → List ℕ → Type 0) (Next : A → Outcome → Type 0) (Statuses : ℕ → Type 0) (MayBe : List ℕ → Type 0) (MayLack : ℕ → Type 0) (Beyond : Contents → Type 0) (name : List ℕ) where

@@ -1,5 +1,5 @@
 -- What is promised of a call follows from what its files gave and what was written.
-use Rattle.sig_outcome.proofs.Common.{◌≡◌, ◌∙◌, ◌⊎◌, ◌++◌, ℕ, List, [], Bool, Option, IfSome, inl, inr, ⊎_elim, refl, sym, ap, subst, arith, cases_lt, IsTrue, codes, Rose, raised, Contents, name_where_there, TookPrefix, OneAtMost, Outcome, HasCount, IsOwn, line_of, outcome_of, status_of, IsCut, IsDone, IsDue, IsRefused, MayAnswer, Owes, Performs, Reaches, Stops, Task, Writes, items_line, memory_line, write_line, Refusal, Missing, ReadFault, LongProgram, Program, Budget, TooManyItems, LongFile, Data, OutOfMemory}
+use Rattle.sig_outcome.proofs.Common.{◌≡◌, ◌∙◌, ◌⊎◌, ◌++◌, ℕ, List, [], Bool, Option, IfSome, inl, inr, ⊎_elim, refl, sym, ap, subst, arith, cases_lt, IsTrue, codes, Rose, raised, Contents, TookPrefix, OneAtMost, Outcome, HasCount, IsOwn, line_of, outcome_of, status_of, IsCut, IsDone, IsDue, IsRefused, MayAnswer, Owes, Performs, Reaches, Stops, Task, Writes, image_line, items_line, memory_line, write_line, Refusal, Missing, ReadFault, LongProgram, Program, Budget, TooManyItems, LongFile, Data, LongImage, OutOfMemory}
 use Rattle.sig_outcome.proofs.Refused.{told, told_both}
 
 -- ---- statuses
@@ -27,10 +27,11 @@ refused_status (Missing name) = inr (inr (inr (inl refl)))
 refused_status (ReadFault name) = inr (inr (inr (inl refl)))
 refused_status LongProgram = inl refl
 refused_status (Program line) = inl refl
-refused_status (Budget nodes) = inr (inr (inr (inr (inr refl))))
+refused_status (Budget nodes) = inr (inr (inr (inr (inr (inl refl)))))
 refused_status TooManyItems = inr (inl refl)
 refused_status (LongFile name) = inr (inr (inl refl))
 refused_status (Data line) = inr (inr (inl refl))
+refused_status LongImage = inr (inr (inr (inr (inr (inr refl)))))
 refused_status OutOfMemory = inr (inr (inr (inr (inl refl))))
 
 memory_said : (r : Refusal) (Said : List ℕ → Type 0) → status_of r ≡ 7 → Said (line_of r ++ codes "\n") → Said memory_line
@@ -42,6 +43,7 @@ memory_said (Budget nodes) Said is line = absurd (omega (arith, is))
 memory_said TooManyItems Said is line = absurd (omega (arith, is))
 memory_said (LongFile name) Said is line = absurd (omega (arith, is))
 memory_said (Data text) Said is line = absurd (omega (arith, is))
+memory_said LongImage Said is line = absurd (omega (arith, is))
 memory_said OutOfMemory Said is line = line
 
 items_said : (r : Refusal) (Said : List ℕ → Type 0) → status_of r ≡ 2 → Said (line_of r ++ codes "\n") → Said items_line
@@ -53,7 +55,20 @@ items_said (Budget nodes) Said is line = absurd (omega (arith, is))
 items_said TooManyItems Said is line = line
 items_said (LongFile name) Said is line = absurd (omega (arith, is))
 items_said (Data text) Said is line = absurd (omega (arith, is))
+items_said LongImage Said is line = absurd (omega (arith, is))
 items_said OutOfMemory Said is line = absurd (omega (arith, is))
+
+image_said : (r : Refusal) (Said : List ℕ → Type 0) → status_of r ≡ 10 → Said (line_of r ++ codes "\n") → Said image_line
+image_said (Missing name) Said is line = absurd (omega (arith, is))
+image_said (ReadFault name) Said is line = absurd (omega (arith, is))
+image_said LongProgram Said is line = absurd (omega (arith, is))
+image_said (Program text) Said is line = absurd (omega (arith, is))
+image_said (Budget nodes) Said is line = absurd (omega (arith, is))
+image_said TooManyItems Said is line = absurd (omega (arith, is))
+image_said (LongFile name) Said is line = absurd (omega (arith, is))
+image_said (Data text) Said is line = absurd (omega (arith, is))
+image_said LongImage Said is line = line
+image_said OutOfMemory Said is line = absurd (omega (arith, is))
 
 module _ (task : Task) (contents : Option Contents) (before at : Option (List ℕ)) (misses misses' faults faults' : ℕ) (once : (held : Contents) → OneAtMost (task.comes held)) where
   -- ---- what was to be done
@@ -77,7 +92,7 @@ module _ (task : Task) (contents : Option Contents) (before at : Option (List �
         (λ is. told_both contents _ _ _ (λ held due p. λ o comes. inl (may_answer status wrote wrote' held _ o due comes)) (whole is) prefix)
         (λ six. told_both contents _ _ _ (λ held p q. λ o comes. inr (inr (inl (six, (p o comes).1, failed six)))) prefix prefix)
         ends;
-    budget = λ eight. absurd (not_refused status ends (inr (inr (inr (inr (inr eight))))));
+    budget = λ eight. absurd (not_refused status ends (inr (inr (inr (inr (inr (inl eight)))))));
     refused = λ refuses. absurd (not_refused status ends refuses);
     untouched = λ refuses. absurd (not_refused status ends refuses);
     begun = begun;
@@ -86,6 +101,7 @@ module _ (task : Task) (contents : Option Contents) (before at : Option (List �
     fault_line = said;
     memory_line = λ seven. absurd (not_refused status ends (inr (inr (inr (inr (inl seven))))));
     items_line = λ two. absurd (not_refused status ends (inr (inl two)));
+    image_line = λ ten. absurd (not_refused status ends (inr (inr (inr (inr (inr (inr ten)))))));
   }
 
   pub performs_outcome : {S : Type 0} (took : S → List ℕ → S → Type 0) (out out' : S) (wrote wrote' : ℕ) (clean : Bool) (Said : List ℕ → Type 0) (status : ℕ) (o : Outcome)
@@ -136,6 +152,7 @@ module _ (task : Task) (contents : Option Contents) (before at : Option (List �
   own_status contents held WriteFailed TooManyItems o count owes comes = inl (by_owed held TooManyItems o (owes tt) comes)
   own_status contents held WriteFailed (LongFile name) o count owes comes = inl (by_owed held (LongFile name) o (owes tt) comes)
   own_status contents held WriteFailed (Data line) o count owes comes = inl (by_owed held (Data line) o (owes tt) comes)
+  own_status contents held WriteFailed LongImage o count owes comes = inl (by_owed held LongImage o (owes tt) comes)
   own_status contents held WriteFailed OutOfMemory o count owes comes = inr (inr (inr (inl refl)))
 
   pub performs_refusal : {S : Type 0} (took : S → List ℕ → S → Type 0) (out : S) (wrote wrote' : ℕ) (clean : Bool) (Said : List ℕ → Type 0) (status : ℕ) (r : Refusal)
@@ -168,4 +185,5 @@ module _ (task : Task) (contents : Option Contents) (before at : Option (List �
         fault_line = λ six. absurd (not_refused status (inr six) refuses);
         memory_line = λ seven. memory_said r Said (sym is ∙ seven) said;
         items_line = λ two. items_said r Said (sym is ∙ two) said;
+        image_line = λ ten. image_said r Said (sym is ∙ ten) said;
       }

@@ -1,5 +1,5 @@
 -- What a file that gives nothing ends a command with.
-use Rattle.sig_outcome.proofs.Common.{◌≡◌, ◌≤◌, ℕ, List, Option, None, Some, IfSome, Result, Ok, Err, length, inl, inr, refl, arith, IfErr, IfOk, string_bytes, Contents, Absent, AtData, AtProgram, Bad, Long, Outcome, long_program, AtNoBytes, HasCount, IsAboutData, IsAboutProgram, IsOfData, IsOfProgram, IsOwn, outcome_of, status_of, Refusal, Missing, ReadFault, LongProgram, Program, Budget, TooManyItems, LongFile, Data, OutOfMemory}
+use Rattle.sig_outcome.proofs.Common.{◌≡◌, ◌≤◌, ℕ, List, Option, None, Some, IfSome, Result, Ok, Err, length, inl, inr, refl, arith, IfErr, IfOk, string_bytes, Contents, Absent, AtData, AtProgram, Bad, Long, Outcome, long_program, AtNoBytes, HasCount, IsAboutData, IsAboutImage, IsAboutProgram, IsOfData, IsOfImage, IsOfLength, IsOfProgram, IsOwn, outcome_of, status_of, Refusal, Missing, ReadFault, LongProgram, Program, Budget, TooManyItems, LongFile, Data, LongImage, OutOfMemory}
 
 -- what holds of one result holds of another one that is told by it
 pub on_err : {T E : Type 0} (result : Result T E) (P Q : E → Type 0) → ((e : E) → P e → Q e) → IfErr result P → IfErr result Q
@@ -38,6 +38,7 @@ module _ {A : Type 0} (Says : List ℕ → A → Type 0) (Refuses : List ℕ →
   refused_program short IsBudget TooManyItems faults faults' is own = absurd is
   refused_program short IsBudget (LongFile n) faults faults' is own = absurd is
   refused_program short IsBudget (Data line) faults faults' is own = absurd is
+  refused_program short IsBudget LongImage faults faults' is own = absurd is
   refused_program short IsBudget OutOfMemory faults faults' is own = absurd own
 
   pub refused_data : length bytes ≤ 67108864 → (r : Refusal) (faults faults' : ℕ) → IsOfData (Refuses bytes) r → IsOwn r faults faults' → AtData Says Refuses held name Next (outcome_of r (Some name))
@@ -50,7 +51,21 @@ module _ {A : Type 0} (Says : List ℕ → A → Type 0) (Refuses : List ℕ →
   refused_data short (LongFile n) faults faults' is own = absurd is
   refused_data short (Data line) faults faults' is own =
       (Bad (string_bytes line), record { bytes = bytes; there = there; short = short; good = is }, refl)
+  refused_data short LongImage faults faults' is own = absurd is
   refused_data short OutOfMemory faults faults' is own = absurd own
+
+  pub refused_image : length bytes ≤ 67108864 → (IsBudget : ℕ → Type 0) (r : Refusal) (faults faults' : ℕ) → IsOfImage (Refuses bytes) IsBudget r → IsOwn r faults faults' → AtData Says Refuses held name Next (outcome_of r (Some name))
+  refused_image short IsBudget (Missing n) faults faults' is own = absurd is
+  refused_image short IsBudget (ReadFault n) faults faults' is own = absurd is
+  refused_image short IsBudget LongProgram faults faults' is own = absurd is
+  refused_image short IsBudget (Program line) faults faults' is own = absurd is
+  refused_image short IsBudget (Budget nodes) faults faults' is own = absurd own
+  refused_image short IsBudget TooManyItems faults faults' is own = absurd is
+  refused_image short IsBudget (LongFile n) faults faults' is own = absurd is
+  refused_image short IsBudget (Data line) faults faults' is own =
+      (Bad (string_bytes line), record { bytes = bytes; there = there; short = short; good = is }, refl)
+  refused_image short IsBudget LongImage faults faults' is own = absurd is
+  refused_image short IsBudget OutOfMemory faults faults' is own = absurd own
 
 -- ---- which refusals these are
 
@@ -65,6 +80,7 @@ module _ (IsLine : List ℕ → Type 0) (IsBudget : ℕ → Type 0) where
   count_of_program contents at misses misses' faults faults' TooManyItems is = absurd is
   count_of_program contents at misses misses' faults faults' (LongFile n) is = tt
   count_of_program contents at misses misses' faults faults' (Data line) is = tt
+  count_of_program contents at misses misses' faults faults' LongImage is = tt
   count_of_program contents at misses misses' faults faults' OutOfMemory is = tt
 
   pub about_bytes : (program : List ℕ) (MayBe : List ℕ → Type 0) (MayLack : ℕ → Type 0) → ((line : List ℕ) → IsLine line → MayBe line) → ((nodes : ℕ) → IsBudget nodes → MayLack nodes) → (r : Refusal) → IsOfProgram IsLine IsBudget r → IsAboutProgram program MayBe MayLack r
@@ -76,6 +92,7 @@ module _ (IsLine : List ℕ → Type 0) (IsBudget : ℕ → Type 0) where
   about_bytes program MayBe MayLack lines nodes TooManyItems is = absurd is
   about_bytes program MayBe MayLack lines nodes (LongFile n) is = absurd is
   about_bytes program MayBe MayLack lines nodes (Data line) is = absurd is
+  about_bytes program MayBe MayLack lines nodes LongImage is = absurd is
   about_bytes program MayBe MayLack lines nodes OutOfMemory is = tt
 
   -- status 8 is that of nodes that do not suffice
@@ -88,6 +105,7 @@ module _ (IsLine : List ℕ → Type 0) (IsBudget : ℕ → Type 0) where
   budget_of TooManyItems is eight = absurd is
   budget_of (LongFile n) is eight = absurd is
   budget_of (Data line) is eight = absurd is
+  budget_of LongImage is eight = absurd is
   budget_of OutOfMemory is eight = absurd (omega (arith, eight))
 
 -- what may be a refusal of a program file, may be one with more lines
@@ -100,6 +118,7 @@ about_more program Less More Few Many lines nodes (Budget n) is = nodes n is
 about_more program Less More Few Many lines nodes TooManyItems is = absurd is
 about_more program Less More Few Many lines nodes (LongFile n) is = absurd is
 about_more program Less More Few Many lines nodes (Data line) is = absurd is
+about_more program Less More Few Many lines nodes LongImage is = absurd is
 about_more program Less More Few Many lines nodes OutOfMemory is = tt
 
 -- a refusal of the bytes of a flow file or a trace file has no count, and may be one of that file
@@ -113,7 +132,85 @@ module _ (IsLine : List ℕ → Type 0) where
   about_data name MayBe lines TooManyItems is = absurd is
   about_data name MayBe lines (LongFile n) is = absurd is
   about_data name MayBe lines (Data line) is = lines (string_bytes line) is
+  about_data name MayBe lines LongImage is = absurd is
   about_data name MayBe lines OutOfMemory is = tt
+
+-- a refusal of the bytes of an image file has no count, and may be one of that file
+module _ (IsLine : List ℕ → Type 0) (IsBudget : ℕ → Type 0) where
+  pub count_of_image : (contents : Option Contents) (at : Option (List ℕ)) (misses misses' faults faults' : ℕ) (r : Refusal) → IsOfImage IsLine IsBudget r → HasCount contents at misses misses' faults faults' r
+  count_of_image contents at misses misses' faults faults' (Missing n) is = absurd is
+  count_of_image contents at misses misses' faults faults' (ReadFault n) is = absurd is
+  count_of_image contents at misses misses' faults faults' LongProgram is = tt
+  count_of_image contents at misses misses' faults faults' (Program line) is = tt
+  count_of_image contents at misses misses' faults faults' (Budget nodes) is = tt
+  count_of_image contents at misses misses' faults faults' TooManyItems is = tt
+  count_of_image contents at misses misses' faults faults' (LongFile n) is = tt
+  count_of_image contents at misses misses' faults faults' (Data line) is = tt
+  count_of_image contents at misses misses' faults faults' LongImage is = tt
+  count_of_image contents at misses misses' faults faults' OutOfMemory is = tt
+
+  pub about_image : (name : List ℕ) (MayBe : List ℕ → Type 0) (MayLack : ℕ → Type 0) → ((line : List ℕ) → IsLine line → MayBe line) → ((nodes : ℕ) → IsBudget nodes → MayLack nodes) → (r : Refusal) → IsOfImage IsLine IsBudget r → IsAboutImage name MayBe MayLack r
+  about_image name MayBe MayLack lines nodes (Missing n) is = absurd is
+  about_image name MayBe MayLack lines nodes (ReadFault n) is = absurd is
+  about_image name MayBe MayLack lines nodes LongProgram is = absurd is
+  about_image name MayBe MayLack lines nodes (Program line) is = absurd is
+  about_image name MayBe MayLack lines nodes (Budget n) is = nodes n is
+  about_image name MayBe MayLack lines nodes TooManyItems is = absurd is
+  about_image name MayBe MayLack lines nodes (LongFile n) is = absurd is
+  about_image name MayBe MayLack lines nodes (Data line) is = lines (string_bytes line) is
+  about_image name MayBe MayLack lines nodes LongImage is = absurd is
+  about_image name MayBe MayLack lines nodes OutOfMemory is = tt
+
+  -- status 8 is that of nodes that do not suffice
+  pub budget_of_image : (r : Refusal) → IsOfImage IsLine IsBudget r → status_of r ≡ 8 → (nodes : ℕ) × IsBudget nodes
+  budget_of_image (Missing n) is eight = absurd is
+  budget_of_image (ReadFault n) is eight = absurd is
+  budget_of_image LongProgram is eight = absurd is
+  budget_of_image (Program line) is eight = absurd is
+  budget_of_image (Budget nodes) is eight = (nodes, is)
+  budget_of_image TooManyItems is eight = absurd is
+  budget_of_image (LongFile n) is eight = absurd is
+  budget_of_image (Data line) is eight = absurd (omega (arith, eight))
+  budget_of_image LongImage is eight = absurd is
+  budget_of_image OutOfMemory is eight = absurd (omega (arith, eight))
+
+-- what may be a refusal of a flow file or a trace file, may be one of an image file
+pub image_of_data : (name : List ℕ) (IsLine : List ℕ → Type 0) (IsBudget : ℕ → Type 0) (r : Refusal) → IsAboutData name IsLine r → IsAboutImage name IsLine IsBudget r
+image_of_data name IsLine IsBudget (Missing n) is = is
+image_of_data name IsLine IsBudget (ReadFault n) is = is
+image_of_data name IsLine IsBudget LongProgram is = absurd is
+image_of_data name IsLine IsBudget (Program line) is = absurd is
+image_of_data name IsLine IsBudget (Budget n) is = absurd is
+image_of_data name IsLine IsBudget TooManyItems is = absurd is
+image_of_data name IsLine IsBudget (LongFile n) is = is
+image_of_data name IsLine IsBudget (Data line) is = is
+image_of_data name IsLine IsBudget LongImage is = absurd is
+image_of_data name IsLine IsBudget OutOfMemory is = tt
+
+-- a refusal of an image that is too long has no count, and its status is another one than 8
+pub count_of_length : (IsLong : Type 0) (contents : Option Contents) (at : Option (List ℕ)) (misses misses' faults faults' : ℕ) (r : Refusal) → IsOfLength IsLong r → HasCount contents at misses misses' faults faults' r
+count_of_length IsLong contents at misses misses' faults faults' (Missing n) is = absurd is
+count_of_length IsLong contents at misses misses' faults faults' (ReadFault n) is = absurd is
+count_of_length IsLong contents at misses misses' faults faults' LongProgram is = tt
+count_of_length IsLong contents at misses misses' faults faults' (Program line) is = tt
+count_of_length IsLong contents at misses misses' faults faults' (Budget nodes) is = tt
+count_of_length IsLong contents at misses misses' faults faults' TooManyItems is = tt
+count_of_length IsLong contents at misses misses' faults faults' (LongFile n) is = tt
+count_of_length IsLong contents at misses misses' faults faults' (Data line) is = tt
+count_of_length IsLong contents at misses misses' faults faults' LongImage is = tt
+count_of_length IsLong contents at misses misses' faults faults' OutOfMemory is = tt
+
+pub no_budget_of_length : (IsLong : Type 0) (r : Refusal) → IsOfLength IsLong r → status_of r ≡ 8 → ⊥
+no_budget_of_length IsLong (Missing n) is eight = absurd is
+no_budget_of_length IsLong (ReadFault n) is eight = absurd is
+no_budget_of_length IsLong LongProgram is eight = absurd is
+no_budget_of_length IsLong (Program line) is eight = absurd is
+no_budget_of_length IsLong (Budget nodes) is eight = absurd is
+no_budget_of_length IsLong TooManyItems is eight = absurd is
+no_budget_of_length IsLong (LongFile n) is eight = absurd is
+no_budget_of_length IsLong (Data line) is eight = absurd is
+no_budget_of_length IsLong LongImage is eight = omega (arith, eight)
+no_budget_of_length IsLong OutOfMemory is eight = omega (arith, eight)
 
 -- a count that did not rise since an earlier moment did not rise since a later one
 pub later_own : (r : Refusal) (first middle last : ℕ) → first ≤ middle → IsOwn r first last → IsOwn r middle last
@@ -125,6 +222,7 @@ later_own (Budget nodes) first middle last le own = own
 later_own TooManyItems first middle last le own = own
 later_own (LongFile name) first middle last le own = own
 later_own (Data line) first middle last le own = own
+later_own LongImage first middle last le own = own
 later_own OutOfMemory first middle last le own = own
 
 -- and a cause in counts since a later moment is one since an earlier moment
@@ -137,6 +235,7 @@ later_count contents at m0 m1 m2 f0 f1 f2 le_m le_f (Budget nodes) count = tt
 later_count contents at m0 m1 m2 f0 f1 f2 le_m le_f TooManyItems count = tt
 later_count contents at m0 m1 m2 f0 f1 f2 le_m le_f (LongFile n) count = tt
 later_count contents at m0 m1 m2 f0 f1 f2 le_m le_f (Data line) count = tt
+later_count contents at m0 m1 m2 f0 f1 f2 le_m le_f LongImage count = tt
 later_count contents at m0 m1 m2 f0 f1 f2 le_m le_f OutOfMemory count = tt
 
 -- a refusal of bytes by one line is one by each line that is told by it
@@ -149,6 +248,7 @@ of_more Less More Few Many lines nodes (Budget n) is = nodes n is
 of_more Less More Few Many lines nodes TooManyItems is = absurd is
 of_more Less More Few Many lines nodes (LongFile n) is = absurd is
 of_more Less More Few Many lines nodes (Data line) is = absurd is
+of_more Less More Few Many lines nodes LongImage is = absurd is
 of_more Less More Few Many lines nodes OutOfMemory is = tt
 
 pub of_more_data : (Less More : List ℕ → Type 0) → ((line : List ℕ) → Less line → More line) → (r : Refusal) → IsOfData Less r → IsOfData More r
@@ -160,7 +260,20 @@ of_more_data Less More lines (Budget n) is = absurd is
 of_more_data Less More lines TooManyItems is = absurd is
 of_more_data Less More lines (LongFile n) is = absurd is
 of_more_data Less More lines (Data line) is = lines (string_bytes line) is
+of_more_data Less More lines LongImage is = absurd is
 of_more_data Less More lines OutOfMemory is = tt
+
+pub of_more_image : (Less More : List ℕ → Type 0) (Few Many : ℕ → Type 0) → ((line : List ℕ) → Less line → More line) → ((nodes : ℕ) → Few nodes → Many nodes) → (r : Refusal) → IsOfImage Less Few r → IsOfImage More Many r
+of_more_image Less More Few Many lines nodes (Missing n) is = absurd is
+of_more_image Less More Few Many lines nodes (ReadFault n) is = absurd is
+of_more_image Less More Few Many lines nodes LongProgram is = absurd is
+of_more_image Less More Few Many lines nodes (Program line) is = absurd is
+of_more_image Less More Few Many lines nodes (Budget n) is = nodes n is
+of_more_image Less More Few Many lines nodes TooManyItems is = absurd is
+of_more_image Less More Few Many lines nodes (LongFile n) is = absurd is
+of_more_image Less More Few Many lines nodes (Data line) is = lines (string_bytes line) is
+of_more_image Less More Few Many lines nodes LongImage is = absurd is
+of_more_image Less More Few Many lines nodes OutOfMemory is = tt
 
 -- a refusal of a program file without a budget has another status than 8
 pub no_eight : (program : List ℕ) (IsLine : List ℕ → Type 0) (r : Refusal) → IsAboutProgram program IsLine (λ nodes. ⊥) r → status_of r ≡ 8 → ⊥
@@ -172,4 +285,5 @@ no_eight program IsLine (Budget n) is eight = is
 no_eight program IsLine TooManyItems is eight = absurd is
 no_eight program IsLine (LongFile n) is eight = absurd is
 no_eight program IsLine (Data line) is eight = absurd is
+no_eight program IsLine LongImage is eight = absurd is
 no_eight program IsLine OutOfMemory is eight = omega (arith, eight)

@@ -49,6 +49,9 @@ too_many_items = refusal (codes "links times capacity above 16777216")
 abbrev pub long_file : List ℕ → List ℕ
 long_file name = refusal (name ++ codes ": longer than 67108864 bytes")
 
+abbrev pub long_image : List ℕ
+long_image = refusal (codes "image longer than 67108864 bytes")
+
 abbrev pub out_of_memory : List ℕ
 out_of_memory = refusal (codes "out of memory")
 
@@ -91,7 +94,7 @@ abbrev pub AtProgram : {A : Type 0} → (List ℕ → A → Type 0) → (List �
 AtProgram {A} Says Refuses held name Next o =
     (found : Found A) × FindsProgram Says Refuses (held name) found × AtFile 1 long_program name found Next o
 
--- what a flow file or a trace file gives
+-- what a flow file, a trace file or an image file gives
 abbrev pub FindsData : {A : Type 0} → (List ℕ → A → Type 0) → (List ℕ → List ℕ → Type 0) → Option (List ℕ) → Found A → Type 0
 FindsData Says Refuses held found = Finds held 67108864 Says Refuses found
 

@@ -4,7 +4,7 @@ use Rattle.sig_base.specs.Lines.{refusal}
 use Rattle.sig_text.specs.Counts.{DidNotRise, Rose}
 use Rattle.sig_text.specs.Files.{Contents, name_where_there}
 use Rattle.sig_text.specs.Sink.{TookPrefix}
-use Rattle.sig_outcome.specs.Outcomes.{Outcome, out_of_memory, too_many_items}
+use Rattle.sig_outcome.specs.Outcomes.{Outcome, long_image, out_of_memory, too_many_items}
 use Rattle.sig_outcome.specs.Refusals.{IsOwn, HasCount, line_of, outcome_of, status_of}
 use Rattle.sig_outcome.specs.declared.refusal.Refusal.{Refusal}
 
@@ -20,7 +20,7 @@ IsDone status = IsEnded status ⊎ (status ≡ 9)
 
 -- a command that was refused: nothing was written
 abbrev pub IsRefused : ℕ → Type 0
-IsRefused status = (status ≡ 1) ⊎ ((status ≡ 2) ⊎ ((status ≡ 4) ⊎ ((status ≡ 5) ⊎ ((status ≡ 7) ⊎ (status ≡ 8)))))
+IsRefused status = (status ≡ 1) ⊎ ((status ≡ 2) ⊎ ((status ≡ 4) ⊎ ((status ≡ 5) ⊎ ((status ≡ 7) ⊎ ((status ≡ 8) ⊎ (status ≡ 10))))))
 
 -- the status that is answered where another is owed: that one; or 5, where a call of the files failed;
 -- or 6, where a write failed of a command that was to be done; or 7; or 8, whose cause is the task's `beyond`
@@ -46,6 +46,9 @@ memory_line = out_of_memory ++ codes "\n"
 
 abbrev pub items_line : List ℕ
 items_line = too_many_items ++ codes "\n"
+
+abbrev pub image_line : List ℕ
+image_line = long_image ++ codes "\n"
 
 -- ---- a command that is done, and one that is refused
 
@@ -115,6 +118,7 @@ pub record Performs {S : Type 0} (task : Task) (contents : Option Contents) (bef
   pub fault_line : status ≡ 6 → Said write_line
   pub memory_line : status ≡ 7 → Said memory_line
   pub items_line : status ≡ 2 → Said items_line
+  pub image_line : status ≡ 10 → Said image_line
 
 -- ---- what the parts of such a call promise
 

@@ -36,7 +36,7 @@ pub fn read_program<'a, F: Files>(
     }
 }
 
-/// The bytes of the flow file or trace file of this name.
+/// The bytes of the flow file, trace file or image file of this name.
 pub fn read_data<'a, F: Files>(
     alloc: Global,
     files: &mut F,

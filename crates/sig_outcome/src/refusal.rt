@@ -17,14 +17,16 @@ pub enum Refusal<'a> {
     LongProgram,
     /// The bytes of the program file are refused with this line.
     Program(String),
-    /// The diagrams of the program need more than this many nodes.
+    /// The diagrams of the program, or of the image, need more than this many nodes.
     Budget(u32),
     /// The links of the program would hold too many items.
     TooManyItems,
-    /// The flow file or trace file of this name has too many bytes.
+    /// The flow file, trace file or image file of this name has too many bytes.
     LongFile(&'a str),
-    /// The bytes of the flow file or trace file are refused with this line.
+    /// The bytes of the flow file, trace file or image file are refused with this line.
     Data(String),
+    /// The image of the program would have too many bytes.
+    LongImage,
     /// There is no memory for what the files say, or for the line that refuses them.
     OutOfMemory,
 }
@@ -43,6 +45,7 @@ impl Refusal<'_> {
             Refusal::Missing(_) | Refusal::ReadFault(_) => 5,
             Refusal::OutOfMemory => 7,
             Refusal::Budget(_) => 8,
+            Refusal::LongImage => 10,
         }
     }
 }

@@ -60,6 +60,7 @@ pub fn refuse<E: Sink>(refusal: &Refusal<'_>, err: &mut E) -> u8
         Refusal::Program(line) | Refusal::Data(line) => say(err, &[line.as_bytes(), b"\n"]),
         Refusal::Budget(nodes) => say_budget(err, *nodes),
         Refusal::TooManyItems => say(err, &[b"error: links times capacity above 16777216\n"]),
+        Refusal::LongImage => say(err, &[b"error: image longer than 67108864 bytes\n"]),
         Refusal::OutOfMemory => say_no_memory(err),
     }
     refusal.status()

@@ -1,5 +1,5 @@
 -- What the files of a play call for.
-use Rattle.sig_plays.proofs.Common.{◌≡◌, ◌∙◌, ◌≤◌, ℕ, ℤ, List, Option, Some, IfSome, inl, inr, refl, sym, ap, subst, arith, inputs_of, Kernel, FileEvent, Contents, name_where_there, Settings, Good, Outcome, HasCount, IsOwn, outcome_of, status_of, IsEnded, Reaches, Stops, begun_after, Refusal, Missing, ReadFault, LongProgram, Program, Budget, TooManyItems, LongFile, Data, OutOfMemory, later_count, later_own, told, told_both, FindsAccepted, FindsFlows, HoldFew, IsRunStatus, RunsTo, running, is_ended, AtEvents, FindsEvents, IsAboutEvents, IsAboutPlay, PlayComesTo, PlaysTo, playing}
+use Rattle.sig_plays.proofs.Common.{◌≡◌, ◌∙◌, ◌≤◌, ℕ, ℤ, List, Option, Some, IfSome, inl, inr, ⊎_elim, refl, sym, ap, subst, arith, inputs_of, Kernel, FileEvent, Contents, name_where_there, Settings, Good, Outcome, HasCount, IsOwn, outcome_of, status_of, IsEnded, Reaches, Stops, begun_after, Refusal, Missing, ReadFault, LongProgram, Program, Budget, TooManyItems, LongFile, Data, LongImage, OutOfMemory, later_count, later_own, told, told_both, FindsAccepted, FindsFlows, HoldFew, IsRunStatus, RunsTo, running, is_ended, AtEvents, FindsEvents, IsAboutEvents, IsAboutPlay, PlayComesTo, PlaysTo, playing}
 use Rattle.sig_plays.proofs.OnePlay.{events_refuse, plays, run_refuses}
 
 -- a refusal of a play has a status of a run
@@ -12,6 +12,7 @@ play_number program flows events (Budget nodes) about = inr (inr (inr (inr (inr 
 play_number program flows events TooManyItems about = inr (inr (inr (inl refl)))
 play_number program flows events (LongFile n) about = inr (inr (inr (inr (inl refl))))
 play_number program flows events (Data line) about = inr (inr (inr (inr (inl refl))))
+play_number program flows events LongImage about = absurd (⊎_elim (⊎_elim (λ x. x) (⊎_elim (λ x. x) (λ x. x))) (λ x. x) about)
 play_number program flows events OutOfMemory about = inr (inr (inr (inr (inr (inr (inl refl))))))
 
 -- a refusal of the event file is none for nodes that do not suffice
@@ -24,6 +25,7 @@ no_budget events (Budget nodes) about eight = about
 no_budget events TooManyItems about eight = omega (arith, eight)
 no_budget events (LongFile n) about eight = omega (arith, eight)
 no_budget events (Data line) about eight = omega (arith, eight)
+no_budget events LongImage about eight = omega (arith, eight)
 no_budget events OutOfMemory about eight = omega (arith, eight)
 
 -- no refusal is the end of a run
@@ -40,6 +42,7 @@ no_end (Budget nodes) ends = ended_one 8 ends 8 refl (λ is. omega (arith, is)) 
 no_end TooManyItems ends = ended_one 2 ends 2 refl (λ is. omega (arith, is)) (λ is. omega (arith, is))
 no_end (LongFile n) ends = ended_one 4 ends 4 refl (λ is. omega (arith, is)) (λ is. omega (arith, is))
 no_end (Data line) ends = ended_one 4 ends 4 refl (λ is. omega (arith, is)) (λ is. omega (arith, is))
+no_end LongImage ends = ended_one 10 ends 10 refl (λ is. omega (arith, is)) (λ is. omega (arith, is))
 no_end OutOfMemory ends = ended_one 7 ends 7 refl (λ is. omega (arith, is)) (λ is. omega (arith, is))
 
 not_run : (r : Refusal) (file : Option (List ℕ)) (kernel : Kernel) (values : List (List ℤ)) (limit : ℕ) (flows : List ℕ) → RunsTo kernel values limit flows (outcome_of r file) → ⊥

@@ -1,5 +1,5 @@
 -- What the files of a run call for.
-use Rattle.sig_runs.proofs.Common.{◌≡◌, ◌≤◌, ℕ, ℤ, List, Option, Some, IfSome, inl, inr, refl, subst, arith, Trace, inputs_of, Kernel, Ended, Contents, name_where_there, Settings, Good, HasCount, IsOwn, outcome_of, status_of, Reaches, Stops, Refusal, Missing, ReadFault, LongProgram, Program, Budget, TooManyItems, LongFile, Data, later_count, later_own, told, told_both, AtPlan, FindsAccepted, HoldsBeyondBound, IsAboutPlan, AtFlows, FindsFlows, HoldFew, HoldTooMany, IsAboutFlows, IsAboutRun, IsRunStatus, RunComesTo, RunsTo, ended, running}
+use Rattle.sig_runs.proofs.Common.{◌≡◌, ◌≤◌, ℕ, ℤ, List, Option, Some, IfSome, inl, inr, ⊎_elim, refl, subst, arith, Trace, inputs_of, Kernel, Ended, Contents, name_where_there, Settings, Good, HasCount, IsOwn, outcome_of, status_of, Reaches, Stops, Refusal, Missing, ReadFault, LongProgram, Program, Budget, TooManyItems, LongFile, Data, LongImage, later_count, later_own, told, told_both, AtPlan, FindsAccepted, HoldsBeyondBound, IsAboutPlan, AtFlows, FindsFlows, HoldFew, HoldTooMany, IsAboutFlows, IsAboutRun, IsRunStatus, RunComesTo, RunsTo, ended, running}
 use Rattle.sig_outcome.specs.declared.refusal.Refusal.TheVariants.{OutOfMemory}
 use Rattle.sig_runs.proofs.OneRun.{flows_refuse, links_refuse, program_refuses, runs}
 
@@ -13,6 +13,7 @@ run_number program flows (Budget nodes) about = inr (inr (inr (inr (inr (inr (in
 run_number program flows TooManyItems about = inr (inr (inr (inl refl)))
 run_number program flows (LongFile n) about = inr (inr (inr (inr (inl refl))))
 run_number program flows (Data line) about = inr (inr (inr (inr (inl refl))))
+run_number program flows LongImage about = absurd (⊎_elim (λ x. x) (⊎_elim (λ x. x) (λ x. x)) about)
 run_number program flows OutOfMemory about = inr (inr (inr (inr (inr (inr (inl refl))))))
 
 -- a refusal of the flow file is none for nodes that do not suffice
@@ -25,6 +26,7 @@ no_budget flows (Budget nodes) about eight = about
 no_budget flows TooManyItems about eight = omega (arith, eight)
 no_budget flows (LongFile n) about eight = omega (arith, eight)
 no_budget flows (Data line) about eight = omega (arith, eight)
+no_budget flows LongImage about eight = omega (arith, eight)
 no_budget flows OutOfMemory about eight = omega (arith, eight)
 
 module _ (contents : Option Contents) (before at : Option (List ℕ)) (m0 m1 m2 f0 f1 f2 : ℕ) (program flows : List ℕ) (settings : Settings) where

@@ -12,6 +12,6 @@ mod run;
 
 pub use command::{end_status, run_command};
 pub use laws::{good_runs_end, runs_have_one_outcome};
-pub use load::{Loaded, flows_of, hold_too_many, load as load_run};
-pub use report::say_end;
+pub use load::{Loaded, flows_of, hold_too_many, load as load_run, refused_flows};
+pub use report::{say_end, say_place};
 pub use run::run_plan;

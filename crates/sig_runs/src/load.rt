@@ -107,7 +107,7 @@ pub fn flows_of<'a>(
 }
 
 /// The refusal of a flow file by an answer, or want of memory for its line.
-fn refused_flows<'a>(alloc: Global, name: &str, answer: FlowAnswer) -> Refusal<'a>
+pub fn refused_flows<'a>(alloc: Global, name: &str, answer: FlowAnswer) -> Refusal<'a>
     ensures { IsOfData (λ line. (answer ≢ FlowAnswer.OutOfMemory) × (line ≡ bad_flows name.now answer)) result }
 {
     match answer {

@@ -32,14 +32,14 @@ pub fn say_end<E: Sink>(err: &mut E, kernel: &Kernel, end: Ended)
                 ],
             );
         }
-        Cause::Overflow(e) => say_equation(err, b"overflow", place_of(kernel, e), count),
-        Cause::ZeroDivisor(e) => say_equation(err, b"division by zero", place_of(kernel, e), count),
+        Cause::Overflow(e) => say_place(err, b"overflow", place_of(kernel, e), count),
+        Cause::ZeroDivisor(e) => say_place(err, b"division by zero", place_of(kernel, e), count),
         Cause::Limit => say(err, &[b"end: limit after ", count, b" instants\n"]),
     }
 }
 
-/// Appends the line that says how the equation at this place ended a run of as many instants.
-fn say_equation<E: Sink>(err: &mut E, what: &[u8], at: Span, count: &[u8])
+/// Appends the line that says how what stands at this place ended a run of as many instants.
+pub fn say_place<E: Sink>(err: &mut E, what: &[u8], at: Span, count: &[u8])
     ensures { SaysLine E.took (E.faults err.old) (E.faults err.new) err.old err.new
         (flat_map (λ piece. piece) (pieces_at what.now count.now at.line at.col)) }
 {
