@@ -1,0 +1,11 @@
+pub mod Asks
+pub mod Calls
+pub mod Found
+pub mod GuardNodes
+pub mod Joined
+pub mod Sound
+pub mod Spent
+pub mod Stays
+pub mod Tables
+pub mod Taken
+pub mod Walked

@@ -1,0 +1,61 @@
+-- What stays as diagrams are made.
+use Rattle.std.proofs.Common.{◌≡◌, ℕ, Bool, true, List, Option, None, Some, refl, sym, subst, ◌∙◌}
+use Rattle.std.specs.HashMap.{HashMap, get}
+use Rattle.std.specs.Prelude.{IfSome, nat_eq, slice_get}
+use Rattle.sig_verify.specs.Asking.{AreGood, AreOf, AreTold, IsGood, IsScene, IsTold, all_asked, asked, asked_of, guard_at, is_written, true_at}
+use Rattle.sig_verify.specs.Diagrams.{Follows, IsOf}
+use Rattle.sig_verify.specs.Prelude.{ImageView, Ref, SigId}
+use Rattle.sig_verify.specs.declared.diagrams.Diagrams.{Diagrams}
+use Rattle.sig_verify.specs.declared.walk.Told.{Told}
+use Rattle.sig_verify.proofs.Calls.{for_kept, of_kept, test_kept}
+
+-- what holds of the entry of a table, if there is one
+pub if_some : {A : Type 0} (P Q : A → Type 0) → ((x : A) → P x → Q x) → (o : Option A) → IfSome o P → IfSome o Q
+if_some P Q f None h = tt
+if_some P Q f (Some x) h = f x h
+
+module _ (n : ℕ) (old new : Diagrams) (follows : Follows n old new) where
+  pub are_of_kept : {S : Type 0} (written : HashMap ℕ Ref S) → AreOf old written → AreOf new written
+  are_of_kept written of x = if_some (IsOf old) (IsOf new) (of_kept n old new follows) (get nat_eq written x) (of x)
+
+  true_kept : (o : Option Ref) → IfSome o (IsOf old) → (truths : List Bool) → true_at new.store.nodes o truths ≡ true_at old.store.nodes o truths
+  true_kept None of truths = refl
+  true_kept (Some r) of truths = test_kept n old new follows r of truths
+
+  pub written_kept : {S : Type 0} (written : HashMap ℕ Ref S) → AreOf old written → (x : ℕ) (truths : List Bool) → is_written new.store.nodes written x truths ≡ is_written old.store.nodes written x truths
+  written_kept written of x truths = true_kept (get nat_eq written x) (of x) truths
+
+  asked_of_kept : {S : Type 0} (written : HashMap ℕ Ref S) → AreOf old written → (o : Option SigId) (truths : List Bool) → asked_of new.store.nodes written o truths ≡ asked_of old.store.nodes written o truths
+  asked_of_kept written of None truths = refl
+  asked_of_kept written of (Some x) truths = written_kept written of x.0 truths
+
+  pub asked_kept : {S : Type 0} (image : ImageView) (written : HashMap ℕ Ref S) → AreOf old written → asked new image written ≡ asked old image written
+  asked_kept image written of = λ j v truths. asked_of_kept written of (slice_get image.conditions v) truths j
+
+  pub scene_kept : {S : Type 0} (image : ImageView) (written : HashMap ℕ Ref S) → IsScene old image written → IsScene new image written
+  scene_kept image written scene = record {
+    right = follows.right;
+    conditions = follows.conditions ∙ scene.conditions;
+    of = are_of_kept written scene.of;
+  }
+
+  pub is_told_kept : (image : ImageView) (was is : ℕ → List Bool → Bool) → is ≡ was → (k : ℕ) (told : Told) → IsTold old image was k told → IsTold new image is k told
+  is_told_kept image was is same k told h = subst (λ w. IsTold new image w k told) (sym same) (record {
+    function = for_kept n old new follows _ told.function h.function;
+    written = for_kept n old new follows _ told.written h.written;
+  })
+
+  pub are_told_kept : {S T : Type 0} (image : ImageView) (written : HashMap ℕ Ref S) → AreOf old written → (table : HashMap ℕ Told T)
+      → AreTold old image (asked old image written) table → AreTold new image (asked new image written) table
+  are_told_kept image written of table are k =
+      if_some (IsTold old image (asked old image written) k) (IsTold new image (asked new image written) k)
+      (is_told_kept image (asked old image written) (asked new image written) (asked_kept image written of) k) (get nat_eq table k) (are k)
+
+  pub good_kept : {S : Type 0} (image : ImageView) (written : HashMap ℕ Ref S) → AreOf old written → (k : ℕ) (r : Ref) → IsGood old image written k r → IsGood new image written k r
+  good_kept image written of k r h = record {
+    function = for_kept n old new follows _ r h.function;
+    asks = subst (λ w. (truths : List Bool) → all_asked w (guard_at image k) truths ≡ true) (sym (asked_kept image written of)) h.asks;
+  }
+
+  pub are_good_kept : {S T : Type 0} (image : ImageView) (written : HashMap ℕ Ref S) → AreOf old written → (guards : HashMap ℕ Ref T) → AreGood old image written guards → AreGood new image written guards
+  are_good_kept image written of guards are k = if_some (IsGood old image written k) (IsGood new image written k) (good_kept image written of k) (get nat_eq guards k) (are k)

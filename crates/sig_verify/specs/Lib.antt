@@ -1,0 +1,5 @@
+pub mod Asking
+pub mod Diagrams
+pub mod Known
+pub mod Prelude
+pub mod Verifying

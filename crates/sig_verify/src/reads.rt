@@ -1,0 +1,107 @@
+//! What operations read and write.
+
+ghost use Rattle.std.specs.Prelude.{◌≡◌, ◌↔◌};
+ghost use Rattle.sig_verify.specs.Prelude.{Contains, IfErr, IfOk, IsTrue, ImageOpKind, Operand, Reads, Sig, SigId};
+ghost use Rattle.sig_verify.specs.Asking.{AreOf, IsWrittenWhere, target_of};
+ghost use Rattle.sig_verify.specs.Diagrams.{IsOf};
+
+use crate::diagrams::Diagrams;
+use crate::written::{Written, written_at};
+use sig_base::SigId;
+use sig_dd::{DdAnswer, Ref};
+use sig_file::ImageOpKind;
+use sig_kernel::Operand;
+
+/// The signal that an operation writes.
+pub(crate) fn target(kind: &ImageOpKind) -> Option<SigId>
+    ensures { result ≡ target_of kind.now }
+{
+    match kind {
+        ImageOpKind::Read(x) => Some(*x),
+        ImageOpKind::Fun(y, _, _) => Some(*y),
+        ImageOpKind::Copy(y, _) => Some(*y),
+        ImageOpKind::Const(y, _) => Some(*y),
+        ImageOpKind::DelayRead(y, _) => Some(*y),
+        ImageOpKind::Store(_, _) => None,
+    }
+}
+
+/// Whether a signal was written wherever the guard is true.
+fn signal_written(
+    diagrams: &Diagrams,
+    written: &Written,
+    guard: Ref,
+    x: SigId,
+) -> Result<bool, DdAnswer>
+    requires written { AreOf diagrams.now written.now }
+    requires guard { IsOf diagrams.now guard }
+    ensures value { IfOk result (λ yes. IsTrue yes ↔ IsWrittenWhere diagrams.now.store.nodes written.now guard x) }
+    ensures memory { IfErr result (λ answer. answer ≡ DdAnswer.OutOfMemory) }
+{
+    diagrams.within(guard, written_at(diagrams, written, x))
+}
+
+/// Whether an operand is a constant, or a signal that was written wherever the guard is true.
+fn operand_written(
+    diagrams: &Diagrams,
+    written: &Written,
+    guard: Ref,
+    operand: Operand,
+) -> Result<bool, DdAnswer>
+    requires written { AreOf diagrams.now written.now }
+    requires guard { IsOf diagrams.now guard }
+    ensures value { IfOk result (λ yes. IsTrue yes
+        ↔ ((x : SigId) → operand ≡ Sig x → IsWrittenWhere diagrams.now.store.nodes written.now guard x)) }
+    ensures memory { IfErr result (λ answer. answer ≡ DdAnswer.OutOfMemory) }
+{
+    match operand {
+        Operand::Sig(x) => signal_written(diagrams, written, guard, x),
+        Operand::Const(_) => Ok(true),
+    }
+}
+
+/// Whether each operand is a constant, or a signal that was written wherever the guard is true.
+fn operands_written(
+    diagrams: &Diagrams,
+    written: &Written,
+    guard: Ref,
+    operands: &[Operand],
+) -> Result<bool, DdAnswer>
+    requires written { AreOf diagrams.now written.now }
+    requires guard { IsOf diagrams.now guard }
+    ensures value { IfOk result (λ yes. IsTrue yes
+        ↔ ((x : SigId) → Contains operands.now (Sig x) → IsWrittenWhere diagrams.now.store.nodes written.now guard x)) }
+    ensures memory { IfErr result (λ answer. answer ≡ DdAnswer.OutOfMemory) }
+{
+    for operand in operands {
+        if !operand_written(diagrams, written, guard, *operand)? {
+            return Ok(false);
+        }
+    }
+    Ok(true)
+}
+
+/// Whether each signal that an operation reads was written wherever the guard is true.
+pub(crate) fn reads_written(
+    diagrams: &Diagrams,
+    written: &Written,
+    guard: Ref,
+    kind: &ImageOpKind,
+) -> Result<bool, DdAnswer>
+    requires written { AreOf diagrams.now written.now }
+    requires guard { IsOf diagrams.now guard }
+    ensures value { IfOk result (λ yes. IsTrue yes
+        ↔ ((x : SigId) → Reads kind.now x → IsWrittenWhere diagrams.now.store.nodes written.now guard x)) }
+    ensures memory { IfErr result (λ answer. answer ≡ DdAnswer.OutOfMemory) }
+{
+    match kind {
+        ImageOpKind::Fun(_, _, operands) => {
+            operands_written(diagrams, written, guard, operands.as_slice())
+        }
+        ImageOpKind::Copy(_, x) => signal_written(diagrams, written, guard, *x),
+        ImageOpKind::Store(_, x) => signal_written(diagrams, written, guard, *x),
+        ImageOpKind::Read(_) => Ok(true),
+        ImageOpKind::Const(_, _) => Ok(true),
+        ImageOpKind::DelayRead(_, _) => Ok(true),
+    }
+}

@@ -1,0 +1,124 @@
+//! What is known behind the first operations of an image.
+
+ghost use Rattle.std.specs.Prelude.{◌≡◌, ◌<◌, ◌+◌, ◌*◌, ◌↔◌};
+ghost use Rattle.sig_verify.specs.Prelude.{IfErr, IfOk, IsTrue, OnOk, OutOfMemory, SigId, Some, length};
+ghost use Rattle.sig_verify.specs.Asking.{AreGood, AreOf, IsGuard, IsScene, choices, guard_at};
+ghost use Rattle.sig_verify.specs.Diagrams.{AreDiagrams, Follows, IsOf, IsRefusal};
+ghost use Rattle.sig_verify.specs.Known.{IsFree, IsKnown, IsSoundAt, IsTakenIn, IsWant};
+
+use crate::diagrams::Diagrams;
+use crate::parts::{conditions_of, op_at};
+use crate::reads::{reads_written, target};
+use crate::walk::walk;
+use crate::written::{Written, keep, written_at};
+use sig_base::SigId;
+use sig_dd::{DdAnswer, Ref};
+use sig_file::Image;
+use std::alloc::Global;
+use std::collections::HashMap;
+
+/// What is known behind the first operations of an image: for which proposals each signal was written, and the guards
+/// whose walks ask only for conditions that were written.
+#[derive(Drop)]
+pub(crate) struct Verifier {
+    pub(crate) diagrams: Diagrams,
+    pub(crate) written: Written,
+    pub(crate) guards: HashMap<u32, Ref>,
+    alloc: Global,
+}
+
+impl Verifier {
+    /// Nothing was written yet.
+    pub(crate) fn new(alloc: Global, image: &Image) -> Result<Verifier, DdAnswer>
+        ensures known { IfOk result (IsKnown image.now 0) }
+        ensures memory { IfErr result (λ answer. answer ≡ OutOfMemory) }
+    {
+        Ok(Verifier {
+            diagrams: Diagrams::new(alloc, conditions_of(image))?,
+            written: HashMap::new(alloc),
+            guards: HashMap::new(alloc),
+            alloc,
+        })
+    }
+
+    /// The function of a guard, or none where its walk asks, for some proposal, for a condition that was not written.
+    fn guard(&mut self, image: &Image, n: u32) -> Result<Option<Ref>, DdAnswer>
+        requires scene { IsScene self.old.diagrams image.now self.old.written }
+        requires good { AreGood self.old.diagrams image.now self.old.written self.old.guards }
+        requires n { n < length image.now.nodes + 2 }
+        ensures next { Follows (5 * choices (guard_at image.now n)) self.old.diagrams self.new.diagrams }
+        ensures written { self.new.written ≡ self.old.written }
+        ensures good { OnOk result (AreGood self.new.diagrams image.now self.new.written self.new.guards) }
+        ensures value { IfOk result (IsGuard self.new.diagrams image.now self.new.written n) }
+        ensures refused { IfErr result (IsRefusal self.old.diagrams (5 * choices (guard_at image.now n))) }
+    {
+        if let Some(known) = self.guards.get(&n) {
+            return Ok(Some(*known));
+        }
+        let mut told = HashMap::new(self.alloc);
+        let own = walk(&mut self.diagrams, image, &self.written, &mut told, n)?;
+        if !self.diagrams.is_true(own.written) {
+            return Ok(None);
+        }
+        keep(&mut self.guards, n, own.function)?;
+        Ok(Some(own.function))
+    }
+
+    /// Takes in that a signal is written where the guard is true, unless it was written already for one of these
+    /// proposals.
+    fn write(&mut self, y: SigId, guard: Ref) -> Result<bool, DdAnswer>
+        requires right { AreDiagrams self.old.diagrams }
+        requires written { AreOf self.old.diagrams self.old.written }
+        requires guard { IsOf self.old.diagrams guard }
+        ensures next { Follows 1 self.old.diagrams self.new.diagrams }
+        ensures guards { self.new.guards ≡ self.old.guards }
+        ensures value { IfOk result (λ yes. IsTrue yes ↔ IsFree self.old y guard) }
+        ensures taken { IfOk result (λ yes. IsTrue yes → IsTakenIn self.old self.new (Some y) guard) }
+        ensures refused { IfErr result (IsRefusal self.old.diagrams 1) }
+    {
+        let before = written_at(&self.diagrams, &self.written, y);
+        if self.diagrams.overlap(before, guard)? {
+            return Ok(false);
+        }
+        let now = self.diagrams.either(before, guard)?;
+        keep(&mut self.written, y.0, now)?;
+        Ok(true)
+    }
+
+    /// Takes in what an operation writes, unless it was written already for one of the proposals of its guard.
+    fn write_target(&mut self, target: Option<SigId>, guard: Ref) -> Result<bool, DdAnswer>
+        requires right { AreDiagrams self.old.diagrams }
+        requires written { AreOf self.old.diagrams self.old.written }
+        requires guard { IsOf self.old.diagrams guard }
+        ensures next { Follows 1 self.old.diagrams self.new.diagrams }
+        ensures guards { self.new.guards ≡ self.old.guards }
+        ensures value { IfOk result (λ yes. IsTrue yes ↔ ((y : SigId) → target ≡ Some y → IsFree self.old y guard)) }
+        ensures taken { IfOk result (λ yes. IsTrue yes → IsTakenIn self.old self.new target guard) }
+        ensures refused { IfErr result (IsRefusal self.old.diagrams 1) }
+    {
+        match target {
+            Some(y) => self.write(y, guard),
+            None => Ok(true),
+        }
+    }
+
+    /// Whether the next operation is sound; where it is, it is taken in.
+    pub(crate) fn take(&mut self, image: &Image, n: usize) -> Result<bool, DdAnswer>
+        requires known { IsKnown image.now n self.old }
+        requires n { n < length image.now.ops }
+        ensures value { IfOk result (λ sound. IsTrue sound ↔ IsSoundAt image.now n) }
+        ensures known { IfOk result (λ sound. IsTrue sound → IsKnown image.now (n + 1) self.new) }
+        ensures want { IfErr result (IsWant image.now) }
+    {
+        let op = op_at(image, n);
+        let found = self.guard(image, op.guard)?;
+        let Some(guard) = found else {
+            return Ok(false);
+        };
+        let read = reads_written(&self.diagrams, &self.written, guard, &op.kind)?;
+        if !read {
+            return Ok(false);
+        }
+        self.write_target(target(&op.kind), guard)
+    }
+}
