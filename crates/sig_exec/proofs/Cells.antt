@@ -1,0 +1,149 @@
+-- What an instruction keeps of cells, stamps and counts.
+use Rattle.std.proofs.Common.{if◌then◌else◌, ◌≡◌, ◌<◌, ◌≤◌, ◌+◌, inl, inr, ℕ, zero, suc, ℤ, Bool, true, false, List, [], ◌∷◌, length, set, take, drop, None, Some, refl, sym, ap, ◌∙◌, arith, eq-eqb}
+use Rattle.std.specs.Prelude.{slice_index_or, ◌==◌}
+use Rattle.std.proofs.Math.Seq.{take-set-lt}
+use Rattle.std.proofs.lemmas.List.{drop-set-lt, drop-set-add, take-set-le, get_or-take, get_or_past, length-take-le}
+use Rattle.std.proofs.lemmas.Bool.{cases_lt}
+use Rattle.sig_base.specs.Traces.{Seen, seen_at}
+use Rattle.sig_file.specs.Images.{ImageView}
+use Rattle.sig_exec.specs.Lowerings.{cell}
+use Rattle.sig_exec.specs.Machines.{HasCells, IsKept, left_of, registers_of, seen_in, shown, shown_all, taken_after}
+use Rattle.sig_exec.specs.declared.instruction.Instruction.{Instruction}
+use Rattle.sig_exec.specs.declared.instruction.Work.{Work}
+use Rattle.sig_exec.specs.declared.instruction.Work.TheVariants.{Next}
+use Rattle.sig_exec.specs.declared.machine.Machine.{Machine}
+use Rattle.sig_exec.proofs.Operating.{behind_first, value_in}
+
+-- ---- what is shown
+
+shown_itself : (instant : ℕ) (v : ℤ) → shown instant instant v ≡ Some v
+shown_itself instant v = rw (eq-eqb instant instant refl) refl
+
+shown_set : (instant : ℕ) (stamps : List ℕ) (cells : List ℤ) (x : ℕ) (v : ℤ) → x < length stamps → x < length cells
+    → shown_all instant (set stamps x instant) (set cells x v) ≡ set (shown_all instant stamps cells) x (Some v)
+shown_set instant [] cells x v a b = absurd (omega (arith, a))
+shown_set instant (t ∷ stamps) [] x v a b = absurd (omega (arith, b))
+shown_set instant (t ∷ stamps) (w ∷ cells) zero v a b = ap (λ (o : Seen). o ∷ shown_all instant stamps cells) (shown_itself instant v)
+shown_set instant (t ∷ stamps) (w ∷ cells) (suc x) v a b =
+    ap (λ (l : List Seen). shown instant t w ∷ l) (shown_set instant stamps cells x v (omega (arith, a)) (omega (arith, b)))
+
+shown_at : (instant : ℕ) (stamps : List ℕ) (cells : List ℤ) (x : ℕ) → x < length stamps → x < length cells
+    → seen_at (shown_all instant stamps cells) x ≡ shown instant (slice_index_or stamps x 0) (cell cells x)
+shown_at instant [] cells x a b = absurd (omega (arith, a))
+shown_at instant (t ∷ stamps) [] x a b = absurd (omega (arith, b))
+shown_at instant (t ∷ stamps) (w ∷ cells) zero a b = refl
+shown_at instant (t ∷ stamps) (w ∷ cells) (suc x) a b = shown_at instant stamps cells x (omega (arith, a)) (omega (arith, b))
+
+shown_length : (instant : ℕ) (stamps : List ℕ) (cells : List ℤ) (n : ℕ) → n ≤ length stamps → n ≤ length cells → n ≤ length (shown_all instant stamps cells)
+shown_length instant stamps cells zero a b = omega arith
+shown_length instant [] cells (suc n) a b = absurd (omega (arith, a))
+shown_length instant (t ∷ stamps) [] (suc n) a b = absurd (omega (arith, b))
+shown_length instant (t ∷ stamps) (w ∷ cells) (suc n) a b = let h = shown_length instant stamps cells n (omega (arith, a)) (omega (arith, b)) in omega (arith, h)
+
+-- what a signal is
+pub registers_at : (image : ImageView) (m : Machine) → HasCells image m → (x : ℕ) → x < length image.signals → seen_at (registers_of image m) x ≡ seen_in m x
+registers_at image m has x below =
+    let a = has.stamps in let b = has.cells in
+    get_or-take (length image.signals) (shown_all m.instant m.stamps.items m.cells.items) x None below
+    ∙ shown_at m.instant m.stamps.items m.cells.items x (omega (arith, a, below)) (omega (arith, b, below))
+
+pub registers_length : (image : ImageView) (m : Machine) → HasCells image m → length (registers_of image m) ≡ length image.signals
+registers_length image m has =
+    length-take-le (length image.signals) (shown_all m.instant m.stamps.items m.cells.items) (shown_length m.instant m.stamps.items m.cells.items (length image.signals) has.stamps has.cells)
+
+shown_value : (b : Bool) (c v : ℤ) → (if b then Some c else None) ≡ Some v → c ≡ v
+shown_value true c v e = cc
+shown_value false c v e = absurd (let f : None ≡ Some v = e in cc)
+
+-- a signal that was written has the value of its cell
+pub cell_of_seen : (image : ImageView) (m : Machine) → HasCells image m → (x : ℕ) → ((v : ℤ) × (seen_at (registers_of image m) x ≡ Some v))
+    → (x < length image.signals) × (cell m.cells.items x ≡ value_in (seen_at (registers_of image m) x))
+cell_of_seen image m has x (v, is) = elim (cases_lt x (length image.signals)) [
+  | inl below ↦
+      let e = shown_value (slice_index_or m.stamps.items x 0 == m.instant) (cell m.cells.items x) v (sym (registers_at image m has x below) ∙ is) in
+      (below, e ∙ sym (ap value_in is))
+  | inr past ↦
+      let count = registers_length image m has in
+      let none : seen_at (registers_of image m) x ≡ None = get_or_past (registers_of image m) x None (omega (arith, past, count)) in
+      absurd (let f : None ≡ Some v = sym none ∙ is in cc)
+]
+
+-- ---- what is left of the flows
+
+drop_next : (t : ℕ) (flow : List ℤ) → drop (suc t) flow ≡ behind_first (drop t flow)
+drop_next zero [] = refl
+drop_next zero (v ∷ flow) = refl
+drop_next (suc t) [] = refl
+drop_next (suc t) (v ∷ flow) = drop_next t flow
+
+left_set : (taken : List ℕ) (flows : List (List ℤ)) (x : ℕ)
+    → left_of (set taken x (slice_index_or taken x 0 + 1)) flows ≡ set (left_of taken flows) x (behind_first (slice_index_or (left_of taken flows) x []))
+left_set [] flows x = refl
+left_set (t ∷ taken) [] zero = refl
+left_set (t ∷ taken) [] (suc x) = refl
+left_set (t ∷ taken) (flow ∷ flows) zero =
+    ap (λ (l : List ℤ). l ∷ left_of taken flows) (ap (λ (k : ℕ). drop k flow) (let e : t + 1 ≡ suc t = omega arith in e) ∙ drop_next t flow)
+left_set (t ∷ taken) (flow ∷ flows) (suc x) = ap (λ (l : List (List ℤ)). drop t flow ∷ l) (left_set taken flows x)
+
+pub left_at : (taken : List ℕ) (flows : List (List ℤ)) (x : ℕ) → length taken ≡ length flows → x < length flows
+    → slice_index_or (left_of taken flows) x [] ≡ drop (slice_index_or taken x 0) (slice_index_or flows x [])
+left_at [] [] x same below = absurd (omega (arith, below))
+left_at [] (flow ∷ flows) x same below = absurd (omega (arith, same))
+left_at (t ∷ taken) [] x same below = absurd (omega (arith, below))
+left_at (t ∷ taken) (flow ∷ flows) zero same below = refl
+left_at (t ∷ taken) (flow ∷ flows) (suc x) same below = left_at taken flows x (omega (arith, same)) (omega (arith, below))
+
+pub left_length : (taken : List ℕ) (flows : List (List ℤ)) → length taken ≡ length flows → length (left_of taken flows) ≡ length flows
+left_length [] [] same = refl
+left_length [] (flow ∷ flows) same = absurd (omega (arith, same))
+left_length (t ∷ taken) [] same = absurd (omega (arith, same))
+left_length (t ∷ taken) (flow ∷ flows) same = let e = left_length taken flows (omega (arith, same)) in omega (arith, e)
+
+-- ---- the state behind an instruction
+
+module _ (image : ImageView) (flows : List (List ℤ)) (instruction : Instruction) (v : ℤ) (old new : Machine) (kept : IsKept instruction v old new) where
+  abbrev at : ℕ
+  at = instruction.target
+
+  abbrev n : ℕ
+  n = length image.signals
+
+  shows : at < length old.stamps.items → at < length old.cells.items → registers_of image new ≡ take n (set (shown_all old.instant old.stamps.items old.cells.items) at (Some v))
+  shows stamps cells =
+      ap (λ (k : ℕ). take n (shown_all k new.stamps.items new.cells.items)) kept.instant
+      ∙ ap (λ (l : List ℕ). take n (shown_all old.instant l new.cells.items)) kept.stamps
+      ∙ ap (λ (l : List ℤ). take n (shown_all old.instant (set old.stamps.items at old.instant) l)) kept.cells
+      ∙ ap (λ (l : List Seen). take n l) (shown_set old.instant old.stamps.items old.cells.items at v stamps cells)
+
+  abbrev memories : Machine → List ℤ
+  memories m = take (length image.memories) (drop n m.cells.items)
+
+  module _ (stamps : at < length old.stamps.items) (cells : at < length old.cells.items) where
+    pub signal_registers : (x : ℕ) → at ≡ x → x < n → registers_of image new ≡ set (registers_of image old) x (Some v)
+    signal_registers x is below =
+        shows stamps cells ∙ take-set-lt n (shown_all old.instant old.stamps.items old.cells.items) at (Some v) (omega (arith, is, below))
+        ∙ ap (λ (k : ℕ). set (registers_of image old) k (Some v)) is
+
+    pub signal_memories : (x : ℕ) → at ≡ x → x < n → memories new ≡ memories old
+    signal_memories x is below =
+        ap (λ (l : List ℤ). take (length image.memories) (drop n l)) kept.cells
+        ∙ ap (take (length image.memories)) (drop-set-lt n old.cells.items at v (omega (arith, is, below)))
+
+    pub memory_registers : (m : ℕ) → at ≡ n + m → registers_of image new ≡ registers_of image old
+    memory_registers m is = shows stamps cells ∙ take-set-le n (shown_all old.instant old.stamps.items old.cells.items) at (Some v) (omega (arith, is))
+
+    pub memory_memories : (m : ℕ) → at ≡ n + m → m < length image.memories → memories new ≡ set (memories old) m v
+    memory_memories m is below =
+        ap (λ (l : List ℤ). take (length image.memories) (drop n l)) kept.cells
+        ∙ ap (λ (k : ℕ). take (length image.memories) (drop n (set old.cells.items k v))) is
+        ∙ ap (take (length image.memories)) (drop-set-add n old.cells.items m v)
+        ∙ take-set-lt (length image.memories) (drop n old.cells.items) m v below
+
+  pub flows_same : taken_after instruction.work old.taken.items ≡ old.taken.items → left_of new.taken.items flows ≡ left_of old.taken.items flows
+  flows_same same = ap (λ (l : List ℕ). left_of l flows) (kept.taken ∙ same)
+
+  pub flows_read : (x : ℕ) → instruction.work ≡ Next x
+      → left_of new.taken.items flows ≡ set (left_of old.taken.items flows) x (behind_first (slice_index_or (left_of old.taken.items flows) x []))
+  flows_read x is =
+      ap (λ (l : List ℕ). left_of l flows) (kept.taken ∙ ap (λ (w : Work). taken_after w old.taken.items) is)
+      ∙ left_set old.taken.items flows x

@@ -1,0 +1,86 @@
+-- An instruction whose guard holds does what its operation does.
+use Rattle.std.proofs.Common.{◌≡◌, ◌<◌, ◌+◌, ℕ, ℤ, true, List, length, Some, Result, Ok, Err, sym, subst, ◌∙◌}
+use Rattle.std.specs.Prelude.{slice_get}
+use Rattle.sig_dd.specs.Nodes.{test}
+use Rattle.sig_file.specs.Guarded.{IsSoundImage, guarded_in, nodes_in}
+use Rattle.sig_file.specs.Images.{ImageView, IsImage, MayDo, scope_of}
+use Rattle.sig_file.specs.ImageRuns.{Does, Ends, State, proposal_of}
+use Rattle.sig_file.specs.declared.images.ImageOp.{ImageOp}
+use Rattle.sig_exec.specs.Instants.{DoesAt, EndsAt, IsAmid, reference}
+use Rattle.sig_exec.specs.Lowerings.{IsFor, Lowers}
+use Rattle.sig_exec.specs.Machines.{IsKept, IsMachineOf, ReadsWithin, came_to, state_of, truths_of}
+use Rattle.sig_exec.specs.Outcomes.{cause_of}
+use Rattle.sig_exec.specs.declared.fault.Fault.{Fault}
+use Rattle.sig_exec.specs.declared.instruction.Instruction.{Instruction}
+use Rattle.sig_exec.specs.declared.lowered.Lowered.{Lowered}
+use Rattle.sig_exec.specs.declared.machine.Machine.{Machine}
+use Rattle.sig_exec.proofs.Amid.{IsOn, behind_done, reads_there, still_done}
+use Rattle.sig_exec.proofs.Operating.{Comes, HasPlaces, HasReads, comes, operated}
+use Rattle.sig_exec.proofs.Places.{guarded_at, has_places, operation_at}
+use Rattle.sig_exec.proofs.Working.{Fits, fits, machine_kept, state_kept, target_cell, target_stamp}
+
+some_is : {A : Type 0} (a b : A) → Some a ≡ Some b → a ≡ b
+some_is a b e = cc
+
+module _ (image : ImageView) (right : IsImage image) (sound : IsSoundImage image) (lowered : Lowered) (lowers : Lowers image lowered) (flows : List (List ℤ)) (m : Machine) (is : IsMachineOf image lowered flows m)
+    (place : ℕ) (amid : IsAmid image place (state_of image flows m)) (instruction : Instruction) (at : slice_get lowered.instructions.items place ≡ Some instruction)
+    (on : test (nodes_in image.nodes) (reference instruction.guard) (truths_of image m) ≡ true) (op : ImageOp) (there : slice_get image.ops place ≡ Some op) where
+  abbrev s : State
+  s = state_of image flows m
+
+  for : IsFor image lowered.cells.items op instruction
+  for = lowers.each place instruction op at there
+
+  may : MayDo (scope_of image) op.kind
+  may = (operation_at image right place op there).kind
+
+  guarded_on : IsOn image right sound (guarded_in image.nodes op) s
+  guarded_on = subst (λ (g : ℕ). test (nodes_in image.nodes) (reference g) (truths_of image m) ≡ true) for.guard on
+
+  reads : HasReads op.kind s
+  reads = reads_there image right sound place (guarded_in image.nodes op) (guarded_at image right place op there) s amid guarded_on
+
+  places : HasPlaces op.kind s
+  places = has_places image right op.kind may place s amid
+
+  fit : Fits image lowered lowers flows m is op.kind instruction.work
+  fit = fits image lowered lowers flows m is op.kind instruction.work for.work places reads
+
+  pub reads_within : ReadsWithin (length m.taken.items) (length m.cells.items) instruction.work
+  reads_within = fit.reads
+
+  pub target_in_cells : instruction.target < length m.cells.items
+  target_in_cells = target_cell image lowered lowers flows m is right op may instruction for
+
+  pub target_in_stamps : instruction.target < length m.stamps.items
+  target_in_stamps = target_stamp image lowered lowers flows m is right op may instruction for
+
+  came : (r : Result ℤ Fault) → r ≡ came_to flows m instruction.work → Comes op.kind op.at s r
+  came r e = subst (Comes op.kind op.at s) (sym (e ∙ fit.value)) (comes op.kind op.at s places reads)
+
+  pub ended : (fault : Fault) → Err fault ≡ came_to flows m instruction.work → EndsAt image place s (cause_of op.at fault)
+  ended fault e other here = subst (λ (o : ImageOp). Ends o.kind o.at s (cause_of op.at fault)) (some_is op other (sym there ∙ here)) (came (Err fault) e)
+
+  module _ (v : ℤ) (new : Machine) (kept : IsKept instruction v m new) where
+    state : state_of image flows new ≡ operated op.kind v s
+    state = state_kept image lowered lowers flows m is right op may instruction for v new kept
+
+    pub done : Ok v ≡ came_to flows m instruction.work → DoesAt image place s (state_of image flows new)
+    done e other here =
+        subst (λ (o : ImageOp). Does o.kind s (state_of image flows new)) (some_is op other (sym there ∙ here))
+        (subst (λ (t : State). Does op.kind s t) (sym state) (came (Ok v) e))
+
+    pub amid_more : IsAmid image (place + 1) (state_of image flows new)
+    amid_more =
+        subst (λ (t : State). IsAmid image (place + 1) t) (sym state)
+        (behind_done image right sound place (guarded_in image.nodes op) (guarded_at image right place op there) s amid guarded_on v)
+
+    -- its guard still holds
+    pub still_on : test (nodes_in image.nodes) (reference instruction.guard) (truths_of image new) ≡ true
+    still_on =
+        subst (λ (g : ℕ). test (nodes_in image.nodes) (reference g) (truths_of image new) ≡ true) (sym for.guard)
+        (subst (λ (t : State). test (nodes_in image.nodes) (reference op.guard) (proposal_of image.conditions t.registers) ≡ true) (sym state)
+        (still_done image right sound place (guarded_in image.nodes op) (guarded_at image right place op there) s amid guarded_on v))
+
+    pub machine_more : IsMachineOf image lowered flows new
+    machine_more = machine_kept image lowered lowers flows m is right op may instruction for v new kept

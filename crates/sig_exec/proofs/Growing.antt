@@ -1,0 +1,82 @@
+-- Instructions stay right where cells of constants are added.
+use Rattle.std.proofs.Common.{◌≡◌, ◌<◌, ◌≤◌, ◌++◌, ◌⊎◌, inl, inr, ℕ, zero, suc, ℤ, pos, List, [], ◌∷◌, length, replicate, None, Some, refl, sym, ap, subst, ◌∙◌, arith, append_assoc, length-append}
+use Rattle.std.specs.Prelude.{slice_get}
+use Rattle.std.proofs.lemmas.List.{length-map, length-replicate}
+use Rattle.sig_kernel.specs.declared.equation.FunOp.{FunOp}
+use Rattle.sig_kernel.specs.declared.equation.Operand.{Operand}
+use Rattle.sig_kernel.specs.declared.equation.Operand.TheVariants.{Const, Sig}
+use Rattle.sig_file.specs.Images.{ImageView}
+use Rattle.sig_file.specs.declared.images.ImageMemory.{ImageMemory}
+use Rattle.sig_file.specs.declared.images.ImageOp.{ImageOp}
+use Rattle.sig_file.specs.declared.images.ImageOpKind.{ImageOpKind}
+use Rattle.sig_file.specs.declared.images.ImageOpKind.TheVariants as does
+use Rattle.sig_exec.specs.Lowerings.{AreFor, BeginWith, Grows, IsCellOf, IsConstant, IsFor, IsFunctionWork, IsWorkOf, bound_of, cell, inits_of}
+use Rattle.sig_exec.specs.declared.instruction.Instruction.{Instruction}
+use Rattle.sig_exec.specs.declared.instruction.Work.{Work}
+
+-- signals and memories have their cells
+pub begin_room : (image : ImageView) (cells : List ℤ) → BeginWith image cells → bound_of image ≤ length cells
+begin_room image cells (more, all) =
+    let first = ap (λ (l : List ℤ). length l) all in
+    let second = length-append (replicate (length image.signals) (pos 0) ++ inits_of image) more in
+    let third = length-append (replicate (length image.signals) (pos 0)) (inits_of image) in
+    let fourth = length-replicate (length image.signals) (pos 0) in
+    let fifth = length-map image.memories (λ (memory : ImageMemory). memory.init) in
+    omega (arith, first, second, third, fourth, fifth)
+
+pub grow_begin : (image : ImageView) (old new : List ℤ) → BeginWith image old → Grows old new → BeginWith image new
+grow_begin image old new (more, all) (added, grown) =
+    let front = replicate (length image.signals) (pos 0) ++ inits_of image in
+    (more ++ added, grown ∙ ap (λ (l : List ℤ). l ++ added) all ∙ append_assoc front more added)
+
+-- cells in front stay
+cell_front : (first more : List ℤ) (n : ℕ) → n < length first → cell (first ++ more) n ≡ cell first n
+cell_front [] more n less = absurd (omega (arith, less))
+cell_front (a ∷ first) more zero less = refl
+cell_front (a ∷ first) more (suc n) less = cell_front first more n (omega (arith, less))
+
+constant_grows : (bound : ℕ) (cells more : List ℤ) (value : ℤ) (n : ℕ) → IsConstant bound cells value n → IsConstant bound (cells ++ more) value n
+constant_grows bound cells more value n (behind, within, holds) =
+    let longer = length-append cells more in (behind, omega (arith, within, longer), cell_front cells more n within ∙ holds)
+
+cell_grows : (bound : ℕ) (cells more : List ℤ) (operand : Operand) (n : ℕ) → IsCellOf bound cells operand n → IsCellOf bound (cells ++ more) operand n
+cell_grows bound cells more (Sig x) n is = is
+cell_grows bound cells more (Const value) n is = constant_grows bound cells more value n is
+
+function_grows : (bound : ℕ) (cells more : List ℤ) (op : FunOp) (operands : List Operand) (work : Work) → IsFunctionWork bound cells op operands work → IsFunctionWork bound (cells ++ more) op operands work
+function_grows bound cells more op [] work is = is
+function_grows bound cells more op (a ∷ []) work (m, first, e) = (m, cell_grows bound cells more a m first, e)
+function_grows bound cells more op (a ∷ b ∷ []) work (m, n, first, second, e) = (m, n, cell_grows bound cells more a m first, cell_grows bound cells more b n second, e)
+function_grows bound cells more op (a ∷ b ∷ c ∷ operands) work is = is
+
+work_grows : (image : ImageView) (cells more : List ℤ) (kind : ImageOpKind) (work : Work) → IsWorkOf image cells kind work → IsWorkOf image (cells ++ more) kind work
+work_grows image cells more (does.Read x) work is = is
+work_grows image cells more (does.Fun y op operands) work is = function_grows (bound_of image) cells more op operands work is
+work_grows image cells more (does.Copy y x) work is = is
+work_grows image cells more (does.Const y value) work (n, constant, e) = (n, constant_grows (bound_of image) cells more value n constant, e)
+work_grows image cells more (does.DelayRead y memory) work is = is
+work_grows image cells more (does.Store memory x) work is = is
+
+for_grows : (image : ImageView) (cells more : List ℤ) (op : ImageOp) (instruction : Instruction) → IsFor image cells op instruction → IsFor image (cells ++ more) op instruction
+for_grows image cells more op instruction is = record { work = work_grows image cells more op.kind instruction.work is.work; target = is.target; guard = is.guard }
+
+get_push : {A : Type 0} (xs : List A) (y x : A) (n : ℕ) → slice_get (xs ++ y ∷ []) n ≡ Some x → (slice_get xs n ≡ Some x) ⊎ ((n ≡ length xs) × (y ≡ x))
+get_push [] y x zero e = inr (refl, cc)
+get_push [] y x (suc n) e = absurd (let f : None ≡ Some x = e in cc)
+get_push (z ∷ xs) y x zero e = inl e
+get_push (z ∷ xs) y x (suc n) e = elim (get_push xs y x n e) [
+  | inl before ↦ inl before
+  | inr (last, same) ↦ inr (omega (arith, last), same)
+]
+
+some_is : {A : Type 0} (a b : A) → Some a ≡ Some b → a ≡ b
+some_is a b e = cc
+
+pub one_more : (image : ImageView) (old new : List ℤ) (instructions : List Instruction) (instruction : Instruction) (op : ImageOp) → AreFor image old instructions → Grows old new
+    → slice_get image.ops (length instructions) ≡ Some op → IsFor image new op instruction → AreFor image new (instructions ++ instruction ∷ [])
+one_more image old new instructions instruction op are (more, grown) there is = λ place other that at here. elim (get_push instructions instruction other place at) [
+  | inl before ↦ subst (λ (cells : List ℤ). IsFor image cells that other) (sym grown) (for_grows image old more that other (are place other that before here))
+  | inr (last, same) ↦
+      let one : op ≡ that = some_is op that (sym there ∙ ap (slice_get image.ops) (sym last) ∙ here) in
+      subst (λ (i : Instruction). IsFor image new that i) same (subst (λ (o : ImageOp). IsFor image new o instruction) one is)
+]

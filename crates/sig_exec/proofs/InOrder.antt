@@ -1,0 +1,60 @@
+-- The operations of an instant, one after another.
+use Rattle.std.proofs.Common.{◌≡◌, ◌≤◌, ◌+◌, inl, inr, ℕ, zero, suc, true, false, List, [], ◌∷◌, length, take, None, Some, refl, sym, ap, subst, arith}
+use Rattle.std.specs.Prelude.{slice_get}
+use Rattle.sig_file.specs.Guarded.{Guarded, Guards, guarded_in, guards_of}
+use Rattle.sig_file.specs.Images.{ImageView, IsImage}
+use Rattle.sig_file.specs.ImageRuns.{Ends, EndsIn, Handles, HandlesAll, State, holds}
+use Rattle.sig_file.specs.declared.images.ImageOp.{ImageOp}
+use Rattle.sig_file.specs.declared.run.ImageCause.{ImageCause}
+use Rattle.sig_exec.specs.Instants.{DoesAt, EndsAt, HandlesEach, HandlesFirst}
+use Rattle.sig_exec.proofs.Places.{guarded_at}
+
+-- one more at the end
+then_one : (guards : Guards) (ops : List Guarded) (n : ℕ) (op : Guarded) (s t u : State) → slice_get ops n ≡ Some op → HandlesAll guards (take n ops) s t → Handles guards op t u
+    → HandlesAll guards (take (suc n) ops) s u
+then_one guards [] n op s t u is all one = absurd (let f : None ≡ Some op = is in cc)
+then_one guards (o ∷ ops) zero op s t u is all one =
+    let same : o ≡ op = cc in
+    (u, subst (λ (x : Guarded). Handles guards x s u) (sym same) (subst (λ (x : State). Handles guards op x u) all one), refl)
+then_one guards (o ∷ ops) (suc n) op s t u is (middle, first, rest) one = (middle, first, then_one guards ops n op middle t u is rest one)
+
+-- the first operations, and then one that ends the run
+then_ends : (guards : Guards) (ops : List Guarded) (n : ℕ) (op : Guarded) (s t : State) (cause : ImageCause) → slice_get ops n ≡ Some op → HandlesAll guards (take n ops) s t
+    → holds guards op t ≡ true → Ends op.kind op.at t cause → EndsIn guards ops s cause
+then_ends guards [] n op s t cause is all on ends = absurd (let f : None ≡ Some op = is in cc)
+then_ends guards (o ∷ ops) zero op s t cause is all on ends =
+    let same : o ≡ op = cc in
+    inl (
+      subst (λ (x : Guarded). holds guards x s ≡ true) (sym same) (subst (λ (x : State). holds guards op x ≡ true) all on),
+      subst (λ (x : Guarded). Ends x.kind x.at s cause) (sym same) (subst (λ (x : State). Ends op.kind op.at x cause) all ends),
+    )
+then_ends guards (o ∷ ops) (suc n) op s t cause is (middle, first, rest) on ends = inr (middle, first, then_ends guards ops n op middle t cause is rest on ends)
+
+all_taken : (ops : List Guarded) (n : ℕ) → length ops ≤ n → take n ops ≡ ops
+all_taken [] zero few = refl
+all_taken [] (suc n) few = refl
+all_taken (op ∷ ops) zero few = absurd (omega (arith, few))
+all_taken (op ∷ ops) (suc n) few = ap (λ (l : List Guarded). op ∷ l) (all_taken ops n (omega (arith, few)))
+
+module _ (image : ImageView) (right : IsImage image) (n : ℕ) (op : ImageOp) (is : slice_get image.ops n ≡ Some op) (s t : State) (first : HandlesFirst image n s t) where
+  abbrev guarded : Guarded
+  guarded = guarded_in image.nodes op
+
+  add_one : (m : ℕ) → m ≡ n + 1 → m ≡ suc n
+  add_one m e = omega (arith, e)
+
+  pub first_done : holds (guards_of image) guarded t ≡ true → (u : State) → DoesAt image n t u → HandlesFirst image (n + 1) s u
+  first_done on u did =
+      subst (λ (m : ℕ). HandlesFirst image m s u) (sym (add_one (n + 1) refl))
+      (then_one (guards_of image) (guards_of image).ops n guarded s t u (guarded_at image right n op is) first (inl (on, did op is)))
+
+  pub first_passed : holds (guards_of image) guarded t ≡ false → HandlesFirst image (n + 1) s t
+  first_passed off =
+      subst (λ (m : ℕ). HandlesFirst image m s t) (sym (add_one (n + 1) refl))
+      (then_one (guards_of image) (guards_of image).ops n guarded s t t (guarded_at image right n op is) first (inr (off, refl)))
+
+  pub first_ends : holds (guards_of image) guarded t ≡ true → (cause : ImageCause) → EndsAt image n t cause → EndsIn (guards_of image) (guards_of image).ops s cause
+  first_ends on cause ends = then_ends (guards_of image) (guards_of image).ops n guarded s t cause (guarded_at image right n op is) first on (ends op is)
+
+pub first_all : (image : ImageView) (n : ℕ) (s t : State) → length (guards_of image).ops ≤ n → HandlesFirst image n s t → HandlesEach image s t
+first_all image n s t few first = subst (λ (l : List Guarded). HandlesAll (guards_of image) l s t) (all_taken (guards_of image).ops n few) first

@@ -1,0 +1,8 @@
+use Rattle.std.proofs.Common.{subst}
+use Rattle.sig_file.specs.Images.{ImageView}
+use Rattle.sig_exec.specs.Running.{TookSome}
+use Rattle.sig_exec.proofs.execute.exec.Goals as goal
+
+pub returns-clause-prefix : goal.returns-clause-prefix
+returns-clause-prefix g c = λ same.
+    subst (λ (image : ImageView). TookSome image c.args.inputs.now c.args.limit g.S.Sink.took c.args.sink.now c.run.new.sink) c.image_of-image.ensures.image c.in-Err.ensures.prefix

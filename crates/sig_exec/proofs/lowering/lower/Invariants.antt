@@ -1,0 +1,10 @@
+use Rattle.std.proofs.Common.{◌≡◌, length}
+use Rattle.sig_exec.specs.Lowerings.{AreFor, BeginWith}
+use Rattle.sig_exec.proofs.lowering.lower.Given as goal
+
+abbrev pub invariant-loop-place : goal.invariant-loop-place
+invariant-loop-place l = record {
+  count : length l.instructions.items ≡ l.place;
+  each : AreFor l.image l.cells.items l.instructions.items;
+  opening : BeginWith l.image l.cells.items;
+}

@@ -1,0 +1,16 @@
+use Rattle.std.proofs.Common.{◌≡◌, ◌<◌, ◌+◌, length}
+use Rattle.sig_dd.specs.Nodes.{test}
+use Rattle.sig_file.specs.Guarded.{nodes_in}
+use Rattle.sig_exec.specs.Instants.{reference}
+use Rattle.sig_exec.specs.Machines.{truths_of}
+use Rattle.sig_exec.proofs.machine.Machine.holds.Given as goal
+
+-- the walk keeps the value, and goes to earlier nodes
+abbrev pub invariant-loop-r : goal.invariant-loop-r
+invariant-loop-r l = record {
+  held : l.r < length l.image.nodes + 2;
+  value : test (nodes_in l.image.nodes) (reference l.r) (truths_of l.image l.self) ≡ test (nodes_in l.image.nodes) (reference l.fn.guard) (truths_of l.image l.self);
+}
+
+abbrev pub decreases-loop-r : goal.decreases-loop-r
+decreases-loop-r l = l.r

@@ -1,0 +1,16 @@
+//! What holds of the runs of images.
+
+ghost use Rattle.std.specs.Prelude.{◌≡◌, ◌≤◌};
+ghost use Rattle.sig_exec.specs.Prelude.{ℕ, ℤ, List, IsImage, IsImageRun, IsSoundImage, ImageEnd, ImageView};
+ghost use Rattle.sig_exec.specs.Running.{AreFlowsOf};
+
+/// A law: over given flows and up to a limit an image has at most one run, of at most as many instants; and an image that is
+/// sound has one.
+pub fn images_have_one_run()
+    ensures one { (image : ImageView) (flows : List (List ℤ)) (limit : ℕ) (text other : List ℕ) (end last : ImageEnd)
+        → IsImageRun image flows limit text end → IsImageRun image flows limit other last → (text ≡ other) × (end ≡ last) }
+    ensures some { (image : ImageView) (flows : List (List ℤ)) (limit : ℕ) → IsImage image → IsSoundImage image → AreFlowsOf image flows
+        → (text : List ℕ) × (end : ImageEnd) × IsImageRun image flows limit text end }
+    ensures within { (image : ImageView) (flows : List (List ℤ)) (limit : ℕ) (text : List ℕ) (end : ImageEnd)
+        → IsImageRun image flows limit text end → end.instants ≤ limit }
+{}
