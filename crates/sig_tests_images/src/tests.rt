@@ -1,4 +1,7 @@
-//! The tests of sig_file in a module of its name, and those of the images of plans.
+//! The tests of sig_file, of sig_verify and of sig_exec in modules of their names, and those of the images of plans.
 
+mod exec;
 mod file;
+mod flows;
 mod plans;
+mod verify;

@@ -1,5 +1,5 @@
 -- Facts of the command that words are.
-use Rattle.sig_tool.proofs.Common.{◌≡◌, ℕ, List, [], Bool, Option, None, inl, inr, refl, sym, subst, arith, Contents, Word, Command, Settings, Check, Code, Judge, Load, Play, Print, Run, Tree, IsRefusedBy, Performs, Stops, memory_line, status_of, Refusal, Missing, ReadFault, LongProgram, Program, Budget, TooManyItems, LongFile, Data, OutOfMemory, told, performs_refusal, IsLoadStatus, loading, IsAboutLoad, one_load_outcome, IsBuilt, ComesTo, IfLoad, IsAbout, OfCommand}
+use Rattle.sig_tool.proofs.Common.{◌≡◌, ℕ, List, [], Bool, Option, None, inl, inr, refl, sym, subst, arith, Contents, Word, Command, Settings, Check, Code, Judge, Load, Play, Print, Run, Tree, IsRefusedBy, Performs, Stops, memory_line, status_of, Refusal, Missing, ReadFault, LongProgram, Program, Budget, TooManyItems, LongFile, Data, LongImage, OutOfMemory, told, performs_refusal, IsLoadStatus, loading, IsAboutLoad, one_load_outcome, IsBuilt, ComesTo, IfLoad, IsAbout, OfCommand}
 
 -- what holds of the one command that the words are holds of each
 pub of_one : (words : List Word) (command : Command) (Fact : Command → Type 0) → OfCommand words (λ c. c ≡ command) → Fact command → OfCommand words Fact
@@ -38,6 +38,7 @@ load_number (Budget nodes) about = inr (inr (inr (inr (inr (inr refl)))))
 load_number TooManyItems about = inr (inr (inr (inl refl)))
 load_number (LongFile name) about = inr (inr (inr (inr (inl refl))))
 load_number (Data line) about = inr (inr (inr (inr (inl refl))))
+load_number LongImage about = absurd about
 load_number OutOfMemory about = inr (inr (inr (inr (inr (inl refl)))))
 
 unread : (seed stages : ℕ) (settings : Settings) (contents : Option Contents) → Stops (loading seed stages settings) contents None None 0 0 0 0 OutOfMemory

@@ -20,7 +20,7 @@ pub use Rattle.sig_judging.proofs.OneJudging.{one_judge_outcome}
 pub use Rattle.sig_runs.proofs.Common.{IsDue, IsRunStatus, Stops, told_both}
 pub use Rattle.sig_runs.proofs.Ending.{has_run}
 pub use Rattle.sig_runs.proofs.OneRun.{one_run_outcome}
-pub use Rattle.sig_loads.proofs.Common.{Budget, CanLoad, Contents, Data, HasCount, INSTANTS_DEFAULT, IsAboutLoad, IsLoadStatus, IsOwn, LongFile, LongProgram, Missing, OutOfMemory, Outcome, Performs, Program, ReadFault, Refusal, Rose, SaysLine, Settings, TooManyItems, TookPrefix, err_from_is_err_and, loading, outcome_of, performs_refusal, status_of, told}
+pub use Rattle.sig_loads.proofs.Common.{Budget, CanLoad, Contents, Data, HasCount, INSTANTS_DEFAULT, IsAboutLoad, IsLoadStatus, IsOwn, LongFile, LongImage, LongProgram, Missing, OutOfMemory, Outcome, Performs, Program, ReadFault, Refusal, Rose, SaysLine, Settings, TooManyItems, TookPrefix, err_from_is_err_and, loading, outcome_of, performs_refusal, status_of, told}
 pub use Rattle.sig_loads.proofs.OneLoad.{one_load_outcome}
 pub use Rattle.sig_plays.proofs.Ending.{has_play}
 pub use Rattle.sig_plays.proofs.OnePlay.{one_play_outcome}

@@ -1,5 +1,5 @@
 -- A command whose files are good is done, if no call failed, memory was found, and the nodes of diagrams sufficed.
-use Rattle.sig_tool.proofs.Common.{◌≡◌, ◌⊎◌, ◌≤◌, ◌<◌, ℕ, List, Bool, Option, None, Some, IfSome, inl, inr, refl, ap, arith, DidNotRise, raised, Contents, Command, Check, Code, Load, Play, Print, Run, Tree, IsCodeText, IsTreeText, Outcome, HasCount, IsOwn, outcome_of, status_of, IsDone, IsRefused, Owes, Performs, Task, Refusal, Missing, ReadFault, LongProgram, Program, Budget, TooManyItems, LongFile, Data, OutOfMemory, not_refused, IsVerdictText, CanLoad, loading, CanBeDone, ComesTo, IfLoad, IsStatus, task_of}
+use Rattle.sig_tool.proofs.Common.{◌≡◌, ◌⊎◌, ◌≤◌, ◌<◌, ℕ, List, Bool, Option, None, Some, IfSome, inl, inr, refl, ap, arith, DidNotRise, raised, Contents, Command, Check, Code, Load, Play, Print, Run, Tree, IsCodeText, IsTreeText, Outcome, HasCount, IsOwn, outcome_of, status_of, IsDone, IsRefused, Owes, Performs, Task, Refusal, Missing, ReadFault, LongProgram, Program, Budget, TooManyItems, LongFile, Data, LongImage, OutOfMemory, not_refused, IsVerdictText, CanLoad, loading, CanBeDone, ComesTo, IfLoad, IsStatus, task_of}
 use Rattle.sig_compile.proofs.Complete as compiles
 use Rattle.sig_loads.proofs.Complete as loads
 use Rattle.sig_plays.proofs.Complete as plays
@@ -35,6 +35,7 @@ module _ (task : Task) (held : Contents) (before at : Option (List ℕ)) (misses
   by_refusal TooManyItems is count owed kept = absurd (owed_refusal TooManyItems (inr (inl refl)) (owed tt))
   by_refusal (LongFile name) is count owed kept = absurd (owed_refusal (LongFile name) (inr (inr (inl refl))) (owed tt))
   by_refusal (Data line) is count owed kept = absurd (owed_refusal (Data line) (inr (inr (inl refl))) (owed tt))
+  by_refusal LongImage is count owed kept = absurd (owed_refusal LongImage (inr (inr (inr (inr (inr (inr refl)))))) (owed tt))
   by_refusal OutOfMemory is count owed kept = inl is
 
   module _ {S : Type 0} (took : S → List ℕ → S → Type 0) (out out' : S) (wrote wrote' : ℕ) (clean : Bool) (Said : List ℕ → Type 0)

@@ -7,7 +7,7 @@ compile_status status (inr (inl is)) = inr (inr is)
 compile_status status (inr (inr (inl is))) = inr (inl (inl is))
 compile_status status (inr (inr (inr (inl is)))) = inr (inl (inr (inr (inr (inl is)))))
 compile_status status (inr (inr (inr (inr (inl is))))) = inr (inl (inr (inr (inr (inr (inl is))))))
-compile_status status (inr (inr (inr (inr (inr is))))) = inr (inl (inr (inr (inr (inr (inr is))))))
+compile_status status (inr (inr (inr (inr (inr is))))) = inr (inl (inr (inr (inr (inr (inr (inl is)))))))
 
 run_status : (status : ℕ) → IsRunStatus status → IsStatus status
 run_status status (inl ends) = inl (inl ends)
@@ -17,7 +17,7 @@ run_status status (inr (inr (inr (inl is)))) = inr (inl (inr (inl is)))
 run_status status (inr (inr (inr (inr (inl is))))) = inr (inl (inr (inr (inl is))))
 run_status status (inr (inr (inr (inr (inr (inl is)))))) = inr (inl (inr (inr (inr (inl is)))))
 run_status status (inr (inr (inr (inr (inr (inr (inl is))))))) = inr (inl (inr (inr (inr (inr (inl is))))))
-run_status status (inr (inr (inr (inr (inr (inr (inr is))))))) = inr (inl (inr (inr (inr (inr (inr is))))))
+run_status status (inr (inr (inr (inr (inr (inr (inr is))))))) = inr (inl (inr (inr (inr (inr (inr (inl is)))))))
 
 load_status : (status : ℕ) → IsLoadStatus status → IsStatus status
 load_status status (inl ends) = inl (inl ends)
@@ -26,7 +26,7 @@ load_status status (inr (inr (inl is))) = inr (inl (inl is))
 load_status status (inr (inr (inr (inl is)))) = inr (inl (inr (inl is)))
 load_status status (inr (inr (inr (inr (inl is))))) = inr (inl (inr (inr (inl is))))
 load_status status (inr (inr (inr (inr (inr (inl is)))))) = inr (inl (inr (inr (inr (inr (inl is))))))
-load_status status (inr (inr (inr (inr (inr (inr is)))))) = inr (inl (inr (inr (inr (inr (inr is))))))
+load_status status (inr (inr (inr (inr (inr (inr is)))))) = inr (inl (inr (inr (inr (inr (inr (inl is)))))))
 
 -- a status of a command is one of those that are answered
 pub is_status : (c : Command) (status : ℕ) → IsStatusOf c status → IsStatus status

@@ -1,0 +1,11 @@
+pub mod Causes
+pub mod Complete
+pub mod Ending
+pub mod FileOnce
+pub mod ImageRuns
+pub mod ImageOnce
+pub mod Inputs
+pub mod Loads
+pub mod OneBuild
+pub mod OneExec
+pub mod Written

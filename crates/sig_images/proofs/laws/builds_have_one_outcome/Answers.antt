@@ -1,0 +1,9 @@
+use Rattle.sig_images.proofs.Complete.{some_build}
+use Rattle.sig_images.proofs.OneBuild.{one_build_outcome}
+use Rattle.sig_images.proofs.laws.builds_have_one_outcome.Goals as goal
+
+pub returns-clause-some : goal.returns-clause-some
+returns-clause-some c = some_build
+
+pub returns-clause-one : goal.returns-clause-one
+returns-clause-one c = λ held program. one_build_outcome program held

@@ -1,0 +1,9 @@
+use Rattle.sig_images.proofs.Complete.{some_exec}
+use Rattle.sig_images.proofs.OneExec.{one_exec_outcome}
+use Rattle.sig_images.proofs.laws.execs_have_one_outcome.Goals as goal
+
+pub returns-clause-some : goal.returns-clause-some
+returns-clause-some c = some_exec
+
+pub returns-clause-one : goal.returns-clause-one
+returns-clause-one c = λ held file flows settings. one_exec_outcome file flows settings held

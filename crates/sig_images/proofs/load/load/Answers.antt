@@ -1,0 +1,23 @@
+use Rattle.std.proofs.lemmas.Result.{err_from_is_err_and}
+use Rattle.sig_images.proofs.Loads.{stops_image, stops_inputs}
+use Rattle.sig_images.proofs.load.load.Goals as goal
+
+pub returns-in_err-image-clause-stops : goal.returns-in_err-image-clause-stops
+returns-in_err-image-clause-stops g c =
+    let p = err_from_is_err_and c.from_residual.result c.from_residual.ensures.1 in
+    rw (p.1, p.2) (stops_image (g.F.Files.contents c.args.files.now) (g.F.Files.at c.args.files.now) (g.F.Files.at c.load_image.new.files)
+    (g.F.Files.misses c.args.files.now) (g.F.Files.misses c.load_image.new.files) (g.F.Files.misses c.load_image.new.files)
+    (g.F.Files.faults c.args.files.now) (g.F.Files.faults c.load_image.new.files) (g.F.Files.faults c.load_image.new.files)
+    c.args.image.now c.args.flows.now c.args.settings c.in_err-image.field-0.0
+    c.in_err-image.ensures.about c.in_err-image.ensures.counted c.in_err-image.ensures.refused c.in_err-image.ensures.budget c.in_err-image.ensures.read.told)
+
+pub returns-in_err-inputs-clause-stops : goal.returns-in_err-inputs-clause-stops
+returns-in_err-inputs-clause-stops g c =
+    let p = err_from_is_err_and c.from_residual-in_err-inputs.result c.from_residual-in_err-inputs.ensures.1 in
+    rw (p.1, p.2) (stops_inputs (g.F.Files.contents c.args.files.now) (g.F.Files.at c.args.files.now) (g.F.Files.at c.load_flows.new.files)
+    (g.F.Files.misses c.args.files.now) (g.F.Files.misses c.load_image.new.files) (g.F.Files.misses c.load_flows.new.files)
+    (g.F.Files.faults c.args.files.now) (g.F.Files.faults c.load_image.new.files) (g.F.Files.faults c.load_flows.new.files)
+    c.args.image.now c.args.flows.now c.args.settings c.in_ok-image.image c.in_ok-image.ensures.image
+    (g.F.Files.contents c.load_image.new.files) c.in_err-inputs.field-0.0
+    c.in_ok-image.ensures.read.contents_stay c.in_ok-image.ensures.read.misses_stay c.in_ok-image.ensures.read.faults_stay
+    c.in_err-inputs.ensures.about c.in_err-inputs.ensures.counted c.in_err-inputs.ensures.refused c.in_err-inputs.ensures.read.told)

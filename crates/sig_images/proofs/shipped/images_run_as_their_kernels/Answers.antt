@@ -1,0 +1,29 @@
+use Rattle.std.proofs.Common.{ℕ, ℤ, List, Option, sym, subst}
+use Rattle.sig_base.specs.Traces.{Trace}
+use Rattle.sig_base.specs.declared.place.Place.{Place}
+use Rattle.sig_kernel.specs.OutputText.{output_text}
+use Rattle.sig_kernel.specs.Validity.{AreFlowsFor}
+use Rattle.sig_kernel.specs.declared.kernel.Kernel.{Kernel}
+use Rattle.sig_plan.specs.declared.ended.Ended.{Ended}
+use Rattle.sig_deciding.specs.KernelRuns.{IsKernelEnd}
+use Rattle.sig_deciding.proofs.KernelRuns.{plan_end}
+use Rattle.sig_file.specs.Guarded.{IsSoundImage}
+use Rattle.sig_file.specs.ImageRuns.{IsImageRun}
+use Rattle.sig_file.specs.Images.{ImageView}
+use Rattle.sig_file.specs.PlanImages.{image_of}
+use Rattle.sig_shipped.specs.Ends.{end_in}
+use Rattle.sig_shipped.proofs.Running.{runs_as}
+use Rattle.sig_shipped.proofs.Sound.{sound}
+use Rattle.sig_images.specs.Builds.{IsKernelImage}
+use Rattle.sig_images.proofs.shipped.images_run_as_their_kernels.Goals as goal
+
+pub returns-clause-sound : goal.returns-clause-sound
+returns-clause-sound c = λ kernel image of. subst IsSoundImage (sym of.is) (sound of.plan of.of.accepted)
+
+pub returns-clause-runs : goal.returns-clause-runs
+returns-clause-runs c = λ kernel image of flows fit limit trace place ended ends.
+    let same = of.of.same in
+    let end = plan_end of.plan of.of.accepted flows limit trace place ended (subst (λ (k : Kernel). IsKernelEnd k flows limit trace place ended) (sym same) ends) in
+    let runs = runs_as of.plan of.of.accepted flows (subst (λ (k : Kernel). AreFlowsFor k flows) (sym same) fit) limit trace place ended end in
+    subst (λ (i : ImageView). IsImageRun i flows limit (output_text kernel trace) (end_in kernel ended)) (sym of.is)
+    (subst (λ (k : Kernel). IsImageRun (image_of of.plan) flows limit (output_text k trace) (end_in k ended)) same runs)

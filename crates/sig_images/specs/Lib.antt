@@ -1,0 +1,5 @@
+pub mod Builds
+pub mod Complete
+pub mod ExecEnds
+pub mod Execs
+pub mod ImageFiles

@@ -1,0 +1,69 @@
+//! The command `build`: from the name of a program file to a status.
+
+ghost use Rattle.std.specs.Prelude.{IfErr, IfOk};
+ghost use Rattle.sig_file.specs.Bytes.{image_bytes};
+ghost use Rattle.sig_file.specs.PlanImages.{image_of};
+ghost use Rattle.sig_plan.specs.Plans.{IsAccepted};
+ghost use Rattle.sig_outcome.specs.Outcomes.{done};
+ghost use Rattle.sig_outcome.specs.Refusals.{IsOfLength};
+ghost use Rattle.sig_outcome.specs.Tasks.{Performs, Reaches, SaysLine, Stops};
+ghost use Rattle.sig_images.specs.Builds.{AreImageBytes, AreManyBytes, building};
+
+use sig_compile::load_plan;
+use sig_file::{FileAnswer, has_names, image, write_image};
+use sig_outcome::{Refusal, put_due, refuse};
+use sig_plan::Plan;
+use sig_text::{Files, Sink};
+use std::alloc::Global;
+
+/// Writes the bytes of the image of the program that the file of this name holds.
+pub fn build_command<F: Files, S: Sink, E: Sink>(
+    alloc: Global,
+    program: &str,
+    files: &mut F,
+    out: &mut S,
+    err: &mut E,
+) -> u8
+    ensures { Performs (building program.now)
+        (F.contents files.old) (F.at files.old) (F.at files.new)
+        (F.misses files.old) (F.misses files.new) (F.faults files.old) (F.faults files.new)
+        S.took out.old out.new (S.faults out.old) (S.faults out.new) (S.clean out.new)
+        (SaysLine E.took (E.faults err.old) (E.faults err.new) err.old err.new) result }
+{
+    match built(alloc, files, program) {
+        Ok(bytes) => put_due(&bytes, out, err),
+        Err(refusal) => refuse(&refusal, err),
+    }
+}
+
+/// The bytes of the image of the program that the file of this name holds.
+fn built<'a, F: Files>(alloc: Global, files: &mut F, name: &'a str) -> Result<Vec<u8>, Refusal<'a>>
+    ensures bytes { IfOk result (λ bytes. Reaches (building name.now)
+        (F.contents files.old) (F.at files.old) (F.at files.new) (done bytes.items name.now)) }
+    ensures stops { IfErr result (Stops (building name.now)
+        (F.contents files.old) (F.at files.old) (F.at files.new)
+        (F.misses files.old) (F.misses files.new) (F.faults files.old) (F.faults files.new)) }
+{
+    let plan = load_plan(alloc, files, name, false)?;
+    bytes_of(alloc, &plan)
+}
+
+/// The bytes of the image of a plan, unless they are too many.
+fn bytes_of<'a>(alloc: Global, plan: &Plan) -> Result<Vec<u8>, Refusal<'a>>
+    ensures bytes { IfOk result (λ bytes. AreImageBytes plan.now bytes.items) }
+    ensures accepted { IsAccepted plan.now }
+    ensures refused { IfErr result (IsOfLength (AreManyBytes (image_bytes (image_of plan.now)))) }
+{
+    if !has_names(&plan.kernel) {
+        return Err(Refusal::OutOfMemory);
+    }
+    let image = match image(alloc, plan) {
+        Ok(image) => image,
+        Err(FileAnswer::TooLong(_)) => return Err(Refusal::LongImage),
+        Err(FileAnswer::OutOfMemory) => return Err(Refusal::OutOfMemory),
+    };
+    match write_image(alloc, &image) {
+        Ok(bytes) => Ok(bytes),
+        Err(_) => Err(Refusal::OutOfMemory),
+    }
+}

@@ -1,0 +1,67 @@
+//! What is so of every build, and of every run of an image.
+
+ghost use Rattle.std.specs.Prelude.{◌≡◌, ℕ, false, List};
+ghost use Rattle.sig_base.specs.declared.limits.TheConstants.{PROGRAM_BYTES};
+ghost use Rattle.sig_text.specs.Files.{Contents};
+ghost use Rattle.sig_kernel.specs.declared.kernel.Kernel.{Kernel};
+ghost use Rattle.sig_kernel.specs.Validity.{IsValid};
+ghost use Rattle.sig_plan.specs.Acceptance.{IsAcceptedKernel};
+ghost use Rattle.sig_words.specs.declared.command.Settings.{Settings};
+ghost use Rattle.sig_file.specs.Bytes.{image_bytes};
+ghost use Rattle.sig_file.specs.Images.{ImageView};
+ghost use Rattle.sig_file.specs.declared.limits.TheConstants.{IMAGE_BYTES};
+ghost use Rattle.sig_outcome.specs.Outcomes.{Holds, Outcome, done};
+ghost use Rattle.sig_outcome.specs.Tasks.{IsEnded};
+ghost use Rattle.sig_compile.specs.Acceptance.{IsAcceptedAs};
+ghost use Rattle.sig_images.specs.Builds.{BuildComesTo, IsKernelImage};
+ghost use Rattle.sig_images.specs.Complete.{CanBuild, CanExec};
+ghost use Rattle.sig_images.specs.Execs.{ExecComesTo, ExecutesTo};
+ghost use Rattle.sig_images.specs.ImageFiles.{IsSoundFile};
+
+/// A law: an accepted kernel has one image, whichever of its plans it is made of.
+pub fn images_of_kernels_are_one()
+    ensures some { (kernel : Kernel) → IsValid kernel → IsAcceptedKernel kernel → (image : ImageView) × IsKernelImage kernel image }
+    ensures one { (kernel : Kernel) (a b : ImageView) → IsKernelImage kernel a → IsKernelImage kernel b → a ≡ b }
+{}
+
+/// A law: an accepted program comes to exactly one outcome of `build`; and no build over told contents comes
+/// to two.
+pub fn builds_have_one_outcome()
+    ensures some { (held : Contents) (program : List ℕ) (kernel : Kernel)
+        → Holds (held program) PROGRAM_BYTES (λ bytes. IsAcceptedAs false bytes kernel)
+        → (o : Outcome) × BuildComesTo held program o }
+    ensures one { (held : Contents) (program : List ℕ) (o other : Outcome)
+        → BuildComesTo held program o → BuildComesTo held program other → o ≡ other }
+{}
+
+/// A law: an accepted program whose image has few enough bytes comes to these bytes with status 0, and to
+/// nothing else.
+pub fn good_builds_are_done()
+    ensures only { (held : Contents) (program : List ℕ) → (can : CanBuild held program) → (o : Outcome) → BuildComesTo held program o
+        → o ≡ done (image_bytes can.few.image) program }
+    ensures some { (held : Contents) (program : List ℕ) → (can : CanBuild held program)
+        → BuildComesTo held program (done (image_bytes can.few.image) program) }
+{}
+
+/// A law: a sound image comes to exactly one outcome of `exec`, whatever the flow file holds and whether it is
+/// there; and no run over told contents comes to two.
+pub fn execs_have_one_outcome()
+    ensures some { (held : Contents) (file flows : List ℕ) (settings : Settings) (image : ImageView)
+        → Holds (held file) IMAGE_BYTES (λ bytes. IsSoundFile bytes image)
+        → (o : Outcome) × ExecComesTo held file flows settings o }
+    ensures one { (held : Contents) (file flows : List ℕ) (settings : Settings) (o other : Outcome)
+        → ExecComesTo held file flows settings o → ExecComesTo held file flows settings other → o ≡ other }
+{}
+
+/// A law: a sound image that can be run over flows comes to the end of its run: that, and nothing else, is
+/// what it comes to, with the text of the run, its cause, and status 0 or 3.
+pub fn good_execs_end()
+    ensures only { (held : Contents) (file flows : List ℕ) (settings : Settings)
+        → (can : CanExec held file flows) → (o : Outcome) → ExecComesTo held file flows settings o
+        → ExecutesTo can.image can.values settings.instants flows o }
+    ensures status { (held : Contents) (file flows : List ℕ) (settings : Settings)
+        → CanExec held file flows → (o : Outcome) → ExecComesTo held file flows settings o
+        → IsEnded o.status }
+    ensures some { (held : Contents) (file flows : List ℕ) (settings : Settings)
+        → CanExec held file flows → (o : Outcome) × ExecComesTo held file flows settings o }
+{}
