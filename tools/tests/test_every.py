@@ -27,6 +27,7 @@ WAYS = {
     "sigc-caret": [("check", "--lint", "--explain", "FILE"), ("run", "PROGRAM", "FILE"), ("run", "--lint", "FILE", "FLOWS"), ("judge", "PROGRAM", "FILE"), ("play", "PROGRAM", "FLOWS", "FILE")],
     "sigc-equations": [("FILE",)],
     "sigc-header": [("FILE",)],
+    "sigc-image": [("FILE",)],
     "sigc-install": [],
     "sigc-lsp": [],
     "sigc-run": [("FILE", "FLOWS"), ("PROGRAM", "FILE"), ("PROGRAM", "FLOWS", "--want", "FILE")],
