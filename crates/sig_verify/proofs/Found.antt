@@ -1,5 +1,5 @@
 -- What is found out of an operation, and of all.
-use Rattle.std.proofs.Common.{◌≡◌, ℕ, ◌+◌, ◌*◌, ◌<◌, ◌≤◌, Bool, true, false, List, [], length, Option, None, Some, Result, Ok, Err, inl, inr, sym, subst, ◌∙◌, arith}
+use Rattle.std.proofs.Common.{◌≡◌, ℕ, ◌+◌, ◌*◌, ◌<◌, ◌≤◌, Bool, true, false, List, [], length, ◌^◌, ◌⊎◌, Option, None, Some, Result, Ok, Err, inl, inr, sym, ap, subst, ◌∙◌, arith}
 use Rattle.std.proofs.lemmas.Bool.{cases_lt}
 use Rattle.std.proofs.lemmas.List.{length-map}
 use Rattle.std.proofs.lemmas.Option.{slice_get_cases, slice_get_within}
@@ -15,28 +15,32 @@ use Rattle.sig_file.specs.Guarded.{IsSoundImage, IsSoundOperation, Reads, guarde
 use Rattle.sig_file.specs.Images.{ImageView, IsImage, IsOperation, scope_of}
 use Rattle.sig_file.specs.declared.images.ImageOp.{ImageOp}
 use Rattle.sig_file.proofs.Behind.{each_at}
-use Rattle.sig_verify.specs.Asking.{AreGood, AreOf, IsGood, IsGuard, IsTold, IsWrittenWhere, all_asked, asked, choices, guard_at, target_of}
+use Rattle.sig_verify.specs.Asking.{AreGood, AreOf, AreTold, IsGood, IsGuard, IsTold, IsWrittenWhere, all_asked, asked, choices, guard_at, operands_of, target_of}
 use Rattle.sig_verify.specs.Diagrams.{Follows, IsRefusal}
 use Rattle.sig_verify.specs.Known.{IsFree, IsKnown, IsSoundAt, IsTakenIn, IsWant}
 use Rattle.sig_verify.specs.Verifying.{IsFirstUnsound}
 use Rattle.sig_verify.specs.Prelude.{DdAnswer, OutOfMemory, Ref, SigId, test}
 use Rattle.sig_verify.specs.declared.diagrams.Diagrams.{Diagrams}
+use Rattle.sig_verify.specs.Pairs.{IsTired}
+use Rattle.sig_verify.specs.declared.pairs.Work.{Work}
 use Rattle.sig_verify.specs.declared.verifier.Verifier.{Verifier}
 use Rattle.sig_verify.specs.declared.walk.Told.{Told}
 use Rattle.sig_verify.proofs.Sound.{asks_all, op_sound, reads_all, target_free}
 use Rattle.sig_verify.proofs.Stays.{are_good_kept}
 use Rattle.sig_verify.proofs.Tables.{entry_added}
+use Rattle.sig_verify.proofs.Tiring.{few_operands, reads_room, tired_wants, write_room}
 use Rattle.sig_verify.proofs.Taken.{calls_for, known_next, told_mid, wants}
 
 -- ---- a guard
 
-module _ (d : Diagrams) (image : ImageView) {S : Type 0} (written : HashMap ℕ Ref S) (n : ℕ) (told : Told) (is : IsTold d image (asked d image written) n told)
+module _ (exact : Bool) (d : Diagrams) (image : ImageView) {S : Type 0} (written : HashMap ℕ Ref S) (n : ℕ) (told : Told) (is : IsTold exact d image (asked d image written) n told)
     (always : Bool) (test_is : IsTrue always ↔ ((truths : List Bool) → test d.store.nodes told.written truths ≡ true)) where
-  pub not_good : always ≡ false → ((truths : List Bool) → all_asked (asked d image written) (guard_at image n) truths ≡ true) → ⊥
-  not_good never all = let held : always ≡ true = test_is.1 (λ truths. is.written.is.function truths ∙ all truths) in absurd cc
+  -- a guard of which that is told exactly is not good where it is not told of all proposals
+  pub not_good : exact ≡ true → always ≡ false → ((truths : List Bool) → all_asked (asked d image written) (guard_at image n) truths ≡ true) → ⊥
+  not_good now never all = let held : always ≡ true = test_is.1 (λ truths. is.all now truths (all truths)) in absurd cc
 
   pub told_good : always ≡ true → IsGood d image written n told.function
-  told_good held = record { function = is.function; asks = λ truths. sym (is.written.is.function truths) ∙ test_is.0 held truths }
+  told_good held = record { function = is.function; asks = λ truths. is.sure truths (test_is.0 held truths) }
 
 pub good_added : {S T : Type 0} (c : ℕ) (old new : Diagrams) → Follows c old new → (image : ImageView) (written : HashMap ℕ Ref S) → AreOf old written
     → (was is : HashMap ℕ Ref T) → AreGood old image written was → (n : ℕ) (r : Ref) → IsGood new image written n r
@@ -53,49 +57,76 @@ module _ (image : ImageView) (n : ℕ) (op : ImageOp) (at : slice_get image.ops 
   pub guard_within : IsImage image → op.guard < length image.nodes + 2
   guard_within is = (each_at (λ before. IsOperation (scope_of image)) [] image.ops n op is.ops at).guard
 
-  pub guard_wants : IsImage image → n < length image.ops → (answer : DdAnswer) → IsRefusal old.diagrams (5 * choices (guard_at image op.guard)) answer → IsWant image answer
+  pub guard_wants : IsImage image → n < length image.ops → (answer : DdAnswer) → IsRefusal old.diagrams (10 * choices (guard_at image op.guard)) answer → IsWant image answer
   guard_wants is lt answer h =
       let few = calls_for image is n op.guard old.diagrams.calls (guard_within is) known.calls in
-      wants image n lt old.diagrams (5 * choices (guard_at image op.guard)) known.scene.conditions (omega (arith, few)) answer h
+      wants image n lt old.diagrams (10 * choices (guard_at image op.guard)) known.scene.conditions (omega (arith, few)) answer h
 
-  module _ (mid : Verifier) (follows : Follows (5 * choices (guard_at image op.guard)) old.diagrams mid.diagrams) (same : mid.written ≡ old.written) where
-    pub write_wants : IsImage image → n < length image.ops → (answer : DdAnswer) → IsRefusal mid.diagrams 1 answer → IsWant image answer
+  module _ (mid : Verifier) (follows : Follows (10 * choices (guard_at image op.guard)) old.diagrams mid.diagrams) (same : mid.written ≡ old.written) where
+    write_wants : IsImage image → n < length image.ops → (answer : DdAnswer) → IsRefusal mid.diagrams 1 answer → IsWant image answer
     write_wants is lt answer h =
         let few = calls_for image is n op.guard old.diagrams.calls (guard_within is) known.calls in
         let more = follows.counted in
         wants image n lt mid.diagrams 1 (follows.conditions ∙ known.scene.conditions) (omega (arith, few, more)) answer h
 
+    proposals : 2 ^ mid.diagrams.conditions ≡ 2 ^ length image.conditions
+    proposals = ap (λ k. 2 ^ k) (follows.conditions ∙ known.scene.conditions)
+
+    module _ (is : IsImage image) (same_work : mid.work ≡ old.work) where
+      few_before : mid.work.pairs ≤ n * (3 * 2 ^ length image.conditions)
+      few_before = subst (λ (w : Work). w.pairs ≤ n * (3 * 2 ^ length image.conditions)) (sym same_work) known.pairs
+
+      pub reads_wants : n < length image.ops → (answer : DdAnswer) → IsTired mid.work (operands_of op.kind * 2 ^ mid.diagrams.conditions) answer → IsWant image answer
+      reads_wants lt answer =
+          tired_wants image n lt mid.work (operands_of op.kind * 2 ^ mid.diagrams.conditions)
+          (reads_room n (operands_of op.kind) mid.work.pairs (2 ^ mid.diagrams.conditions) (2 ^ length image.conditions) proposals (few_operands image is n op at) few_before) answer
+
+      module _ (read : Work) (counted : read.pairs ≤ mid.work.pairs + operands_of op.kind * 2 ^ mid.diagrams.conditions) where
+        pub written_wants : n < length image.ops → (answer : DdAnswer) → IsRefusal mid.diagrams 1 answer ⊎ IsTired read (2 ^ mid.diagrams.conditions) answer → IsWant image answer
+        written_wants lt answer (inl h) = write_wants is lt answer h
+        written_wants lt answer (inr h) =
+            tired_wants image n lt read (2 ^ mid.diagrams.conditions)
+            (write_room n (operands_of op.kind) mid.work.pairs read.pairs (2 ^ mid.diagrams.conditions) (2 ^ length image.conditions) proposals (few_operands image is n op at) few_before counted) answer h
+
+        pub few_behind : (last : Work) → last.pairs ≤ read.pairs + 2 ^ mid.diagrams.conditions → last.pairs ≤ (n + 1) * (3 * 2 ^ length image.conditions)
+        few_behind last more =
+            let room = write_room n (operands_of op.kind) mid.work.pairs read.pairs (2 ^ mid.diagrams.conditions) (2 ^ length image.conditions) proposals (few_operands image is n op at) few_before counted in
+            omega (arith, room, more)
+
     pub guard_unsound : IsGuard mid.diagrams image mid.written op.guard None → IsSoundAt image n → ⊥
     guard_unsound none sound =
-        none (asks_all image n op at mid.diagrams mid.written (told_mid image n op at old mid known (5 * choices (guard_at image op.guard)) follows same) sound)
+        none (asks_all image n op at mid.diagrams mid.written (told_mid image n op at old mid known (10 * choices (guard_at image op.guard)) follows same) sound)
 
     module _ (r : Ref) (good : IsGood mid.diagrams image mid.written op.guard r) where
       pub reads_unsound : (all : Bool) → all ≡ false → IsTrue all ↔ ((x : SigId) → Reads op.kind x → IsWrittenWhere mid.diagrams.store.nodes mid.written r x) → IsSoundAt image n → ⊥
       reads_unsound all some h sound =
-          let held : all ≡ true = h.1 (reads_all image n op at mid.diagrams mid.written (told_mid image n op at old mid known (5 * choices (guard_at image op.guard)) follows same) r good sound) in
+          let held : all ≡ true = h.1 (reads_all image n op at mid.diagrams mid.written (told_mid image n op at old mid known (10 * choices (guard_at image op.guard)) follows same) r good sound) in
           absurd cc
 
       module _ (reads : (x : SigId) → Reads op.kind x → IsWrittenWhere mid.diagrams.store.nodes mid.written r x) (target : Option SigId) (is_target : target ≡ target_of op.kind) where
-        free_sound : (yes : Bool) → IsTrue yes ↔ ((y : SigId) → target ≡ Some y → IsFree mid y r) → IsTrue yes ↔ IsSoundAt image n
+        free_sound : (yes : Bool) → IsTrue yes ↔ ((y : SigId) → target ≡ Some y → IsFree mid.diagrams mid.written y r) → IsTrue yes ↔ IsSoundAt image n
         free_sound answer h =
-            let told = told_mid image n op at old mid known (5 * choices (guard_at image op.guard)) follows same in (
+            let told = told_mid image n op at old mid known (10 * choices (guard_at image op.guard)) follows same in (
               λ free. op_sound image n op at mid.diagrams mid.written told r good reads (λ y e. h.0 free y (is_target ∙ e)),
               λ sound. h.1 (λ y e. target_free image n op at mid.diagrams mid.written told r good sound y (sym is_target ∙ e)),
             )
 
-        pub write_sound : (result : Result Bool DdAnswer) → IfOk result (λ yes. IsTrue yes ↔ ((y : SigId) → target ≡ Some y → IsFree mid y r)) → IfOk result (λ yes. IsTrue yes ↔ IsSoundAt image n)
-        write_sound result = IfOk-weaker (λ yes. IsTrue yes ↔ ((y : SigId) → target ≡ Some y → IsFree mid y r)) (λ yes. IsTrue yes ↔ IsSoundAt image n) result free_sound
+        pub write_sound : (result : Result Bool DdAnswer) → IfOk result (λ yes. IsTrue yes ↔ ((y : SigId) → target ≡ Some y → IsFree mid.diagrams mid.written y r)) → IfOk result (λ yes. IsTrue yes ↔ IsSoundAt image n)
+        write_sound result = IfOk-weaker (λ yes. IsTrue yes ↔ ((y : SigId) → target ≡ Some y → IsFree mid.diagrams mid.written y r)) (λ yes. IsTrue yes ↔ IsSoundAt image n) result free_sound
 
-        pub write_known : IsImage image → AreGood mid.diagrams image mid.written mid.guards → (new : Verifier) → Follows 1 mid.diagrams new.diagrams → new.guards ≡ mid.guards
-            → (result : Result Bool DdAnswer) → IfOk result (λ yes. IsTrue yes → IsTakenIn mid new target r) → IfOk result (λ yes. IsTrue yes → IsKnown image (n + 1) new)
-        write_known is all_good new followed guards result =
-            IfOk-weaker (λ yes. IsTrue yes → IsTakenIn mid new target r) (λ yes. IsTrue yes → IsKnown image (n + 1) new) result (λ yes taken holds.
-            known_next image n op at old mid known (5 * choices (guard_at image op.guard)) follows same all_good r good new followed guards
-            (subst (λ o. IsTakenIn mid new o r) is_target (taken holds))
+        pub write_known : IsImage image → AreGood mid.diagrams image mid.written mid.guards → AreTold false mid.diagrams image (asked mid.diagrams image mid.written) mid.told → (new : Verifier)
+            → Follows 1 mid.diagrams new.diagrams → new.guards ≡ mid.guards → new.told ≡ mid.told
+            → (result : Result Bool DdAnswer) → IfOk result (λ yes. IsTrue yes → IsTakenIn mid.diagrams mid.written new.diagrams new.written target r)
+            → new.work.pairs ≤ (n + 1) * (3 * 2 ^ length image.conditions) → IfOk result (λ yes. IsTrue yes → IsKnown image (n + 1) new)
+        write_known is all_good all_told new followed guards tells result was few_pairs =
+            IfOk-weaker (λ yes. IsTrue yes → IsTakenIn mid.diagrams mid.written new.diagrams new.written target r) (λ yes. IsTrue yes → IsKnown image (n + 1) new) result (λ yes taken holds.
+            known_next image n op at old mid known (10 * choices (guard_at image op.guard)) follows same all_good all_told r good new followed guards tells
+            (subst (λ o. IsTakenIn mid.diagrams mid.written new.diagrams new.written o r) is_target (taken holds))
             (let few = calls_for image is n op.guard old.diagrams.calls (guard_within is) known.calls in
             let more = follows.counted in
             let last = followed.counted in
-            omega (arith, few, more, last)))
+            omega (arith, few, more, last))
+            few_pairs) was
 
 -- what an operation does, if it is a function
 pub fun_reads : (kind : ImageOpKind) (y : SigId) (f : FunOp) (operands list : List Operand) → kind ≡ does.Fun y f operands → list ≡ operands → (W : SigId → Type 0) (result : Result Bool DdAnswer)
@@ -104,7 +135,7 @@ fun_reads kind y f operands list is same W result h =
     subst (λ (k : ImageOpKind). IfOk result (λ yes. IsTrue yes ↔ ((x : SigId) → Reads k x → W x))) (sym is)
     (subst (λ (l : List Operand). IfOk result (λ yes. IsTrue yes ↔ ((x : SigId) → Contains l (Sig x) → W x))) same h)
 
-pub err_weaker : (P Q : DdAnswer → Type 0) (result : Result Bool DdAnswer) → ((e : DdAnswer) → P e → Q e) → IfErr result P → IfErr result Q
+pub err_weaker : {T : Type 0} (P Q : DdAnswer → Type 0) (result : Result T DdAnswer) → ((e : DdAnswer) → P e → Q e) → IfErr result P → IfErr result Q
 err_weaker P Q (Ok x) f h = tt
 err_weaker P Q (Err e) f h = f e h
 

@@ -22,10 +22,17 @@ use Rattle.sig_file.proofs.Reduced.{reduced}
 use Rattle.sig_verify.specs.Asking.{choices, guard_at}
 use Rattle.sig_verify.specs.Prelude.{Choice, Constant, Diagram, Holds, slice_get}
 
-starts_anywhere : (d : Diagram) → StartsFrom 0 d
+pub starts_anywhere : (d : Diagram) → StartsFrom 0 d
 unfolding StartsFrom
 starts_anywhere (Constant b) = tt
 starts_anywhere (Choice v low high) = omega arith
+
+-- two halves of what is left
+pub doubled : (k b v : ℕ) → b ≤ v → v < k → 2 ^ (k - suc v) + 2 ^ (k - suc v) ≤ 2 ^ (k - b)
+doubled k b v le lt =
+    let twice = pow-suc 2 (k - suc v) in
+    let more : 2 ^ suc (k - suc v) ≤ 2 ^ (k - b) = pow_mono (omega arith) in
+    omega (arith, twice, more)
 
 -- the constants are no nodes
 pub guard_false : (image : ImageView) → guard_at image 0 ≡ Constant false
@@ -82,12 +89,6 @@ module _ (image : ImageView) (is : IsImage image) where
   few_in_constant : (n b : ℕ) (c : Bool) → guard_at image n ≡ Constant c → choices (guard_at image n) + 1 ≤ 2 ^ (length image.conditions - b)
   unfolding choices
   few_in_constant n b c same = let none : choices (guard_at image n) ≡ 0 = ap choices same in let some = pow_pos (length image.conditions - b) in omega (arith, none, some)
-
-  doubled : (k b v : ℕ) → b ≤ v → v < k → 2 ^ (k - suc v) + 2 ^ (k - suc v) ≤ 2 ^ (k - b)
-  doubled k b v le lt =
-      let twice = pow-suc 2 (k - suc v) in
-      let more : 2 ^ suc (k - suc v) ≤ 2 ^ (k - b) = pow_mono (omega arith) in
-      omega (arith, twice, more)
 
   few_in_choice : (d : Diagram) (v b : ℕ) (low high : Diagram) → d ≡ Choice v low high → StartsFrom b d → v < length image.conditions
       → choices low + 1 ≤ 2 ^ (length image.conditions - suc v) → choices high + 1 ≤ 2 ^ (length image.conditions - suc v) → choices d + 1 ≤ 2 ^ (length image.conditions - b)

@@ -1,5 +1,7 @@
 pub mod Asks
 pub mod Calls
+pub mod Compared
+pub mod Decided
 pub mod Found
 pub mod GuardNodes
 pub mod Joined
@@ -8,4 +10,6 @@ pub mod Spent
 pub mod Stays
 pub mod Tables
 pub mod Taken
+pub mod Tiring
+pub mod Verdict
 pub mod Walked

@@ -34,6 +34,10 @@ refusal_then m n old mid follows (Budget nodes) h =
     (h.0, beyond_more NODES (mid.calls + n) (old.calls + (m + n)) old.conditions (omega (arith, few)) (subst (λ k. NODES < (mid.calls + n) * 2 ^ k) follows.conditions h.1))
 refusal_then m n old mid follows OutOfMemory h = tt
 
+-- of two rows of calls the second was refused
+pub again_refused : (c : ℕ) (old mid : Diagrams) → Follows (5 * c) old mid → (answer : DdAnswer) → IsRefusal mid (5 * c) answer → IsRefusal old (10 * c) answer
+again_refused c old mid follows answer h = refusal_more (5 * c + 5 * c) (10 * c) (omega arith) old answer (refusal_then (5 * c) (5 * c) old mid follows answer h)
+
 -- what holds of an error does of what a `?` returns for it
 pub pass_on : {T : Type 0} (P : DdAnswer → Type 0) (result : Result T DdAnswer) (answer : DdAnswer) → IsErrAnd result (λ e. e ≡ answer) → P answer → IfErr result P
 pass_on P (Ok x) answer h p = absurd h

@@ -39,17 +39,22 @@ module _ (n : ℕ) (old new : Diagrams) (follows : Follows n old new) where
     of = are_of_kept written scene.of;
   }
 
-  pub is_told_kept : (image : ImageView) (was is : ℕ → List Bool → Bool) → is ≡ was → (k : ℕ) (told : Told) → IsTold old image was k told → IsTold new image is k told
-  is_told_kept image was is same k told h = subst (λ w. IsTold new image w k told) (sym same) (record {
+  told_still : (exact : Bool) (image : ImageView) (w : ℕ → List Bool → Bool) (k : ℕ) (told : Told) → IsTold exact old image w k told → IsTold exact new image w k told
+  told_still exact image w k told h = record {
     function = for_kept n old new follows _ told.function h.function;
-    written = for_kept n old new follows _ told.written h.written;
-  })
+    of = of_kept n old new follows told.written h.of;
+    sure = λ ts e. h.sure ts (sym (test_kept n old new follows told.written h.of ts) ∙ e);
+    all = λ e ts a. test_kept n old new follows told.written h.of ts ∙ h.all e ts a;
+  }
 
-  pub are_told_kept : {S T : Type 0} (image : ImageView) (written : HashMap ℕ Ref S) → AreOf old written → (table : HashMap ℕ Told T)
-      → AreTold old image (asked old image written) table → AreTold new image (asked new image written) table
-  are_told_kept image written of table are k =
-      if_some (IsTold old image (asked old image written) k) (IsTold new image (asked new image written) k)
-      (is_told_kept image (asked old image written) (asked new image written) (asked_kept image written of) k) (get nat_eq table k) (are k)
+  pub is_told_kept : (exact : Bool) (image : ImageView) (was is : ℕ → List Bool → Bool) → is ≡ was → (k : ℕ) (told : Told) → IsTold exact old image was k told → IsTold exact new image is k told
+  is_told_kept exact image was is same k told h = subst (λ w. IsTold exact new image w k told) (sym same) (told_still exact image was k told h)
+
+  pub are_told_kept : {S T : Type 0} (exact : Bool) (image : ImageView) (written : HashMap ℕ Ref S) → AreOf old written → (table : HashMap ℕ Told T)
+      → AreTold exact old image (asked old image written) table → AreTold exact new image (asked new image written) table
+  are_told_kept exact image written of table are k =
+      if_some (IsTold exact old image (asked old image written) k) (IsTold exact new image (asked new image written) k)
+      (is_told_kept exact image (asked old image written) (asked new image written) (asked_kept image written of) k) (get nat_eq table k) (are k)
 
   pub good_kept : {S : Type 0} (image : ImageView) (written : HashMap ℕ Ref S) → AreOf old written → (k : ℕ) (r : Ref) → IsGood old image written k r → IsGood new image written k r
   good_kept image written of k r h = record {

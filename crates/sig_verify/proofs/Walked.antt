@@ -10,6 +10,7 @@ use Rattle.sig_verify.specs.Prelude.{Constant, DdAnswer, Diagram, ImageView, IsI
 use Rattle.sig_dd.specs.Diagram.{value_at}
 use Rattle.sig_verify.specs.declared.diagrams.Diagrams.{Diagrams}
 use Rattle.sig_verify.specs.declared.walk.Told.{Told}
+use Rattle.sig_verify.proofs.Asks.{both, both_true}
 use Rattle.sig_verify.proofs.Calls.{for_same}
 use Rattle.sig_verify.proofs.GuardNodes.{guard_choice, guard_false, guard_true}
 use Rattle.sig_verify.proofs.Spent.{follows_more, follows_then, refusal_more, refusal_then}
@@ -17,22 +18,37 @@ use Rattle.sig_verify.proofs.Stays.{asked_kept, is_told_kept}
 
 -- ---- constants
 
-told_constant : (d : Diagrams) (image : ImageView) (w : ℕ → List Bool → Bool) (n : ℕ) (b : Bool) → guard_at image n ≡ Constant b → nat_eq n 1 ≡ b → (told : Told)
-    → IsFor d (λ _. nat_eq n 1) told.function → IsFor d (λ _. true) told.written → IsTold d image w n told
-unfolding value_at all_asked
-told_constant d image w n b same is told function written = record {
-  function = for_same d (λ _. nat_eq n 1) (value_at (guard_at image n)) (λ ts. is ∙ ap (λ (e : Diagram). value_at e ts) (sym same)) told.function function;
-  written = for_same d (λ _. true) (all_asked w (guard_at image n)) (λ ts. ap (λ (e : Diagram). all_asked w e ts) (sym same)) told.written written;
+-- what is told by all that is written now is exact
+told_now : (exact : Bool) (d : Diagrams) (image : ImageView) (w : ℕ → List Bool → Bool) (n : ℕ) (told : Told) → IsFor d (value_at (guard_at image n)) told.function
+    → IsFor d (all_asked w (guard_at image n)) told.written → IsTold exact d image w n told
+told_now exact d image w n told function written = record {
+  function = function;
+  of = written.of;
+  sure = λ ts e. sym (written.is.function ts) ∙ e;
+  all = λ e ts a. written.is.function ts ∙ a;
 }
 
-pub constant_is_told : (d : Diagrams) (image : ImageView) (w : ℕ → List Bool → Bool) (n : ℕ) → n < 2 → (told : Told)
-    → IsFor d (λ _. nat_eq n 1) told.function → IsFor d (λ _. true) told.written → IsTold d image w n told
-constant_is_told d image w n lt told function written = elim (cases_eq n 0) [
-  | inl none ↦ told_constant d image w n false (subst (λ k. guard_at image k ≡ Constant false) (sym none) (guard_false image)) (ap (λ k. nat_eq k 1) none) told function written
+told_constant : (exact : Bool) (d : Diagrams) (image : ImageView) (w : ℕ → List Bool → Bool) (n : ℕ) (b : Bool) → guard_at image n ≡ Constant b → nat_eq n 1 ≡ b → (told : Told)
+    → IsFor d (λ _. nat_eq n 1) told.function → IsFor d (λ _. true) told.written → IsTold exact d image w n told
+unfolding value_at all_asked
+told_constant exact d image w n b same is told function written =
+    told_now exact d image w n told
+    (for_same d (λ _. nat_eq n 1) (value_at (guard_at image n)) (λ ts. is ∙ ap (λ (e : Diagram). value_at e ts) (sym same)) told.function function)
+    (for_same d (λ _. true) (all_asked w (guard_at image n)) (λ ts. ap (λ (e : Diagram). all_asked w e ts) (sym same)) told.written written)
+
+pub constant_is_told : (exact : Bool) (d : Diagrams) (image : ImageView) (w : ℕ → List Bool → Bool) (n : ℕ) → n < 2 → (told : Told)
+    → IsFor d (λ _. nat_eq n 1) told.function → IsFor d (λ _. true) told.written → IsTold exact d image w n told
+constant_is_told exact d image w n lt told function written = elim (cases_eq n 0) [
+  | inl none ↦ told_constant exact d image w n false (subst (λ k. guard_at image k ≡ Constant false) (sym none) (guard_false image)) (ap (λ k. nat_eq k 1) none) told function written
   | inr some ↦
       let one : n ≡ 1 = omega arith in
-      told_constant d image w n true (subst (λ k. guard_at image k ≡ Constant true) (sym one) (guard_true image)) (ap (λ k. nat_eq k 1) one) told function written
+      told_constant exact d image w n true (subst (λ k. guard_at image k ≡ Constant true) (sym one) (guard_true image)) (ap (λ k. nat_eq k 1) one) told function written
 ]
+
+-- what implies another choice by the same truth
+chosen_more : (x a b c d : Bool) → (a ≡ true → c ≡ true) → (b ≡ true → d ≡ true) → (if x then a else b) ≡ true → (if x then c else d) ≡ true
+chosen_more true a b c d high low h = high h
+chosen_more false a b c d high low h = low h
 
 -- ---- nodes
 
@@ -75,14 +91,14 @@ module _ (image : ImageView) (is : IsImage image) (n : ℕ) (node : ImageNode) (
       refusal_more (5 * choices (guard_at image node.low) + (5 * choices (guard_at image node.high) + 5)) (5 * choices (guard_at image n)) (omega (arith, all)) old answer
       (refusal_then (5 * choices (guard_at image node.low)) (5 * choices (guard_at image node.high) + 5) old mid a answer (refusal_then (5 * choices (guard_at image node.high)) 5 mid high b answer h))
 
-  module _ {S : Type 0} (written : HashMap ℕ Ref S) (mid high new : Diagrams) (of : AreOf high written) (mid_of : AreOf mid written)
+  module _ {S : Type 0} (exact : Bool) (written : HashMap ℕ Ref S) (mid high new : Diagrams) (of : AreOf high written) (mid_of : AreOf mid written)
       (more : Follows (5 * choices (guard_at image node.high)) mid high) (last : Follows 5 high new) (low_told high_told own : Told)
-      (low_is : IsTold mid image (asked mid image written) node.low low_told) (high_is : IsTold high image (asked high image written) node.high high_told)
+      (low_is : IsTold exact mid image (asked mid image written) node.low low_told) (high_is : IsTold exact high image (asked high image written) node.high high_told)
       (function : IsFor new (λ ts. if truth_of ts node.variable then test high.store.nodes high_told.function ts else test high.store.nodes low_told.function ts) own.function)
       (asks : IsFor new (λ ts. asked high image written node.variable ts && (if truth_of ts node.variable then test high.store.nodes high_told.written ts else test high.store.nodes low_told.written ts)) own.written) where
-    low_still : IsTold high image (asked high image written) node.low low_told
+    low_still : IsTold exact high image (asked high image written) node.low low_told
     low_still =
-        is_told_kept (5 * choices (guard_at image node.high)) mid high more image (asked mid image written) (asked high image written)
+        is_told_kept (5 * choices (guard_at image node.high)) mid high more exact image (asked mid image written) (asked high image written)
         (asked_kept (5 * choices (guard_at image node.high)) mid high more image written mid_of) node.low low_told low_is
 
     function_is : IsFor new (value_at (guard_at image n)) own.function
@@ -92,15 +108,32 @@ module _ (image : ImageView) (is : IsImage image) (n : ℕ) (node : ImageNode) (
         ∙ ap (λ b. if truth_of ts node.variable then value_at (guard_at image node.high) ts else b) (low_still.function.is.function ts)
         ∙ ap (λ (d : Diagram). value_at d ts) (sym (guard_choice image is n node two at))) own.function function
 
-    written_was : IsFor new (all_asked (asked high image written) (guard_at image n)) own.written
+    -- what the walk from the node asks, by its children
+    all_by_children : (ts : List Bool) → all_asked (asked high image written) (guard_at image n) ts
+        ≡ (asked high image written node.variable ts && (if truth_of ts node.variable then all_asked (asked high image written) (guard_at image node.high) ts else all_asked (asked high image written) (guard_at image node.low) ts))
     unfolding all_asked
-    written_was = for_same new _ (all_asked (asked high image written) (guard_at image n)) (λ ts.
-        ap (λ b. asked high image written node.variable ts && (if truth_of ts node.variable then b else test high.store.nodes low_told.written ts)) (high_is.written.is.function ts)
-        ∙ ap (λ b. asked high image written node.variable ts && (if truth_of ts node.variable then all_asked (asked high image written) (guard_at image node.high) ts else b)) (low_still.written.is.function ts)
-        ∙ ap (λ (d : Diagram). all_asked (asked high image written) d ts) (sym (guard_choice image is n node two at))) own.written asks
+    all_by_children ts = ap (λ (d : Diagram). all_asked (asked high image written) d ts) (guard_choice image is n node two at)
 
-    pub node_is_told : IsTold new image (asked new image written) n own
-    node_is_told = record {
+    own_sure : (ts : List Bool) → test new.store.nodes own.written ts ≡ true → all_asked (asked high image written) (guard_at image n) ts ≡ true
+    own_sure ts e =
+        let parts = both (asked high image written node.variable ts) (if truth_of ts node.variable then test high.store.nodes high_told.written ts else test high.store.nodes low_told.written ts)
+        (sym (asks.is.function ts) ∙ e) in
+        all_by_children ts ∙ both_true (asked high image written node.variable ts) _ parts.0
+        (chosen_more (truth_of ts node.variable) (test high.store.nodes high_told.written ts) (test high.store.nodes low_told.written ts) _ _ (high_is.sure ts) (low_still.sure ts) parts.1)
+
+    own_all : exact ≡ true → (ts : List Bool) → all_asked (asked high image written) (guard_at image n) ts ≡ true → test new.store.nodes own.written ts ≡ true
+    own_all e ts a =
+        let parts = both (asked high image written node.variable ts)
+        (if truth_of ts node.variable then all_asked (asked high image written) (guard_at image node.high) ts else all_asked (asked high image written) (guard_at image node.low) ts)
+        (sym (all_by_children ts) ∙ a) in
+        asks.is.function ts ∙ both_true (asked high image written node.variable ts) _ parts.0
+        (chosen_more (truth_of ts node.variable) (all_asked (asked high image written) (guard_at image node.high) ts) (all_asked (asked high image written) (guard_at image node.low) ts) _ _
+        (high_is.all e ts) (low_still.all e ts) parts.1)
+
+    pub node_is_told : IsTold exact new image (asked new image written) n own
+    node_is_told = subst (λ w. IsTold exact new image w n own) (sym (asked_kept 5 high new last image written of)) (record {
       function = function_is;
-      written = subst (λ w. IsFor new (all_asked w (guard_at image n)) own.written) (sym (asked_kept 5 high new last image written of)) written_was;
-    }
+      of = asks.of;
+      sure = own_sure;
+      all = own_all;
+    })

@@ -55,13 +55,16 @@ choices (Choice v low high) = choices low + choices high + 1
 abbrev pub guard_at : ImageView → ℕ → Diagram
 guard_at image n = diagram (nodes_in image.nodes) (record { number = n })
 
--- what is told of a guard, or of a node below one, is its function, and where all that its walk asks for was written
-pub record IsTold (diagrams : Diagrams) (image : ImageView) (before : ℕ → List Bool → Bool) (n : ℕ) (told : Told) : Type 0 where
+-- What is told of a guard, or of a node below one: its function, and where all that its walk asks for was written. That may be
+-- told of fewer proposals than there are, where more was written since; it is exact where it was told by what is written now.
+pub record IsTold (exact : Bool) (diagrams : Diagrams) (image : ImageView) (before : ℕ → List Bool → Bool) (n : ℕ) (told : Told) : Type 0 where
   pub function : IsFor diagrams (value_at (guard_at image n)) told.function
-  pub written : IsFor diagrams (all_asked before (guard_at image n)) told.written
+  pub of : IsOf diagrams told.written
+  pub sure : (truths : List Bool) → test diagrams.store.nodes told.written truths ≡ true → all_asked before (guard_at image n) truths ≡ true
+  pub all : exact ≡ true → (truths : List Bool) → all_asked before (guard_at image n) truths ≡ true → test diagrams.store.nodes told.written truths ≡ true
 
-abbrev pub AreTold : {S : Type 0} → Diagrams → ImageView → (ℕ → List Bool → Bool) → HashMap ℕ Told S → Type 0
-AreTold diagrams image before told = (n : ℕ) → IfSome (get nat_eq told n) (IsTold diagrams image before n)
+abbrev pub AreTold : {S : Type 0} → Bool → Diagrams → ImageView → (ℕ → List Bool → Bool) → HashMap ℕ Told S → Type 0
+AreTold exact diagrams image before told = (n : ℕ) → IfSome (get nat_eq told n) (IsTold exact diagrams image before n)
 
 -- a reference to the function of a guard whose walk asks only for what was written
 pub record IsGood {S : Type 0} (diagrams : Diagrams) (image : ImageView) (written : HashMap ℕ Ref S) (n : ℕ) (r : Ref) : Type 0 where
@@ -86,3 +89,8 @@ target_of (does.Copy y x) = Some y
 target_of (does.Const y value) = Some y
 target_of (does.DelayRead y memory) = Some y
 target_of (does.Store memory x) = None
+
+-- of how many operands it is asked at most whether they were written
+abbrev pub operands_of : ImageOpKind → ℕ
+operands_of (does.Fun y op operands) = length operands
+operands_of kind = 1

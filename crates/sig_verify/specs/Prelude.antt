@@ -1,11 +1,13 @@
 -- What the definitions and the clauses of this crate cite of std and of the crates below, passed on from one place.
 pub use Rattle.std.specs.HashMap.{HashMap, get}
+pub use Rattle.std.specs.HashSet.{HashSet, contains}
 pub use Rattle.std.specs.List.{range_with_len}
 pub use Rattle.std.specs.Prelude.{Bool, Contains, IfErr, IfOk, IfSome, IsErrAnd, IsTrue, List, None, OnErr, OnOk, Option, Some, false, length, nat_eq, slice_get, suc, true, zero, ℕ}
 pub use Rattle.sig_base.specs.declared.ids.SigId.{SigId}
 pub use Rattle.sig_base.specs.declared.limits.TheConstants.{NODES}
-pub use Rattle.sig_dd.specs.Diagram.{Choice, Constant, Diagram, truth_of, value_at}
+pub use Rattle.sig_dd.specs.Diagram.{Choice, Constant, Diagram, StartsFrom, Tests, truth_of, value_at}
 pub use Rattle.sig_dd.specs.Nodes.{Holds, Implies, IsRefOf, IsStore, Keeps, Overlap, Spans, diagram, test}
+pub use Rattle.sig_dd.specs.Operand.{earlier_of, side_of}
 pub use Rattle.sig_dd.specs.Walks.{Asks}
 pub use Rattle.sig_dd.specs.declared.answer.DdAnswer.{DdAnswer}
 pub use Rattle.sig_dd.specs.declared.answer.DdAnswer.TheVariants.{Budget, OutOfMemory}

@@ -1,15 +1,17 @@
 //! Diagrams over the conditions of an image.
 
-ghost use Rattle.std.specs.Prelude.{◌≡◌, ◌↔◌, ◌+◌, ◌<◌, ◌&&◌, ◌||◌, if◌then◌else◌};
+ghost use Rattle.std.specs.Prelude.{◌≡◌, ◌↔◌, ◌+◌, ◌<◌, ◌≤◌, ◌^◌, ◌&&◌, ◌||◌, if◌then◌else◌};
 ghost use Rattle.sig_verify.specs.Prelude.{Bool, List, IfErr, IfOk, IsTrue, OnErr, OnOk, true, NODES, Implies, Overlap, test, truth_of};
 ghost use Rattle.sig_verify.specs.Diagrams.{AreDiagrams, Follows, IsFor, IsOf, IsRefusal};
+ghost use Rattle.sig_verify.specs.Pairs.{IsTired};
 
+use crate::pairs::Work;
 use sig_base::limits::NODES;
 use sig_dd::{DdAnswer, Ref, Store};
 use std::alloc::Global;
 
 /// The most calls that make diagrams. So many are needed only where the nodes of diagrams might not suffice either.
-const CALLS: u32 = 16_000_000;
+const CALLS: u32 = 32_000_000;
 
 /// A store of diagrams over so many conditions, and how many calls have made diagrams in it.
 #[derive(Drop)]
@@ -50,23 +52,25 @@ impl Diagrams {
     }
 
     /// Whether the second function is true wherever the first is.
-    pub(crate) fn within(&self, f: Ref, g: Ref) -> Result<bool, DdAnswer>
+    pub(crate) fn within(&self, work: &mut Work, f: Ref, g: Ref) -> Result<bool, DdAnswer>
         requires f { IsOf self.now f }
         requires g { IsOf self.now g }
         ensures value { IfOk result (λ holds. IsTrue holds ↔ Implies self.now.store.nodes f g) }
-        ensures memory { IfErr result (λ answer. answer ≡ DdAnswer.OutOfMemory) }
+        ensures counted { work.new.pairs ≤ work.old.pairs + 2 ^ self.now.conditions }
+        ensures refused { IfErr result (IsTired work.old (2 ^ self.now.conditions)) }
     {
-        self.store.within(f, g)
+        Ok(!self.meets(work, f, g, false)?)
     }
 
     /// Whether some proposal makes both functions true.
-    pub(crate) fn overlap(&self, f: Ref, g: Ref) -> Result<bool, DdAnswer>
+    pub(crate) fn overlap(&self, work: &mut Work, f: Ref, g: Ref) -> Result<bool, DdAnswer>
         requires f { IsOf self.now f }
         requires g { IsOf self.now g }
         ensures value { IfOk result (λ holds. IsTrue holds ↔ Overlap self.now.store.nodes f g) }
-        ensures memory { IfErr result (λ answer. answer ≡ DdAnswer.OutOfMemory) }
+        ensures counted { work.new.pairs ≤ work.old.pairs + 2 ^ self.now.conditions }
+        ensures refused { IfErr result (IsTired work.old (2 ^ self.now.conditions)) }
     {
-        self.store.overlap(f, g)
+        self.meets(work, f, g, true)
     }
 
     /// One more call, unless there were too many.

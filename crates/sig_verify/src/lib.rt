@@ -5,6 +5,8 @@
 
 mod answer;
 mod diagrams;
+mod laws;
+mod pairs;
 mod parts;
 mod reads;
 mod verified;
@@ -14,5 +16,6 @@ mod walk;
 mod written;
 
 pub use answer::VerifyAnswer;
+pub use laws::images_are_sound_or_not;
 pub use verified::Verified;
 pub use verifying::verify;

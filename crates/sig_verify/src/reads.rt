@@ -1,11 +1,13 @@
 //! What operations read and write.
 
-ghost use Rattle.std.specs.Prelude.{◌≡◌, ◌↔◌};
-ghost use Rattle.sig_verify.specs.Prelude.{Contains, IfErr, IfOk, IsTrue, ImageOpKind, Operand, Reads, Sig, SigId};
-ghost use Rattle.sig_verify.specs.Asking.{AreOf, IsWrittenWhere, target_of};
+ghost use Rattle.std.specs.Prelude.{◌≡◌, ◌↔◌, ◌≤◌, ◌+◌, ◌*◌, ◌^◌};
+ghost use Rattle.sig_verify.specs.Prelude.{Contains, IfErr, IfOk, IsTrue, ImageOpKind, Operand, Reads, Sig, SigId, length};
+ghost use Rattle.sig_verify.specs.Asking.{AreOf, IsWrittenWhere, operands_of, target_of};
 ghost use Rattle.sig_verify.specs.Diagrams.{IsOf};
+ghost use Rattle.sig_verify.specs.Pairs.{IsTired};
 
 use crate::diagrams::Diagrams;
+use crate::pairs::Work;
 use crate::written::{Written, written_at};
 use sig_base::SigId;
 use sig_dd::{DdAnswer, Ref};
@@ -29,6 +31,7 @@ pub(crate) fn target(kind: &ImageOpKind) -> Option<SigId>
 /// Whether a signal was written wherever the guard is true.
 fn signal_written(
     diagrams: &Diagrams,
+    work: &mut Work,
     written: &Written,
     guard: Ref,
     x: SigId,
@@ -36,14 +39,16 @@ fn signal_written(
     requires written { AreOf diagrams.now written.now }
     requires guard { IsOf diagrams.now guard }
     ensures value { IfOk result (λ yes. IsTrue yes ↔ IsWrittenWhere diagrams.now.store.nodes written.now guard x) }
-    ensures memory { IfErr result (λ answer. answer ≡ DdAnswer.OutOfMemory) }
+    ensures counted { work.new.pairs ≤ work.old.pairs + 2 ^ diagrams.now.conditions }
+    ensures refused { IfErr result (IsTired work.old (2 ^ diagrams.now.conditions)) }
 {
-    diagrams.within(guard, written_at(diagrams, written, x))
+    diagrams.within(work, guard, written_at(diagrams, written, x))
 }
 
 /// Whether an operand is a constant, or a signal that was written wherever the guard is true.
 fn operand_written(
     diagrams: &Diagrams,
+    work: &mut Work,
     written: &Written,
     guard: Ref,
     operand: Operand,
@@ -52,10 +57,11 @@ fn operand_written(
     requires guard { IsOf diagrams.now guard }
     ensures value { IfOk result (λ yes. IsTrue yes
         ↔ ((x : SigId) → operand ≡ Sig x → IsWrittenWhere diagrams.now.store.nodes written.now guard x)) }
-    ensures memory { IfErr result (λ answer. answer ≡ DdAnswer.OutOfMemory) }
+    ensures counted { work.new.pairs ≤ work.old.pairs + 2 ^ diagrams.now.conditions }
+    ensures refused { IfErr result (IsTired work.old (2 ^ diagrams.now.conditions)) }
 {
     match operand {
-        Operand::Sig(x) => signal_written(diagrams, written, guard, x),
+        Operand::Sig(x) => signal_written(diagrams, work, written, guard, x),
         Operand::Const(_) => Ok(true),
     }
 }
@@ -63,6 +69,7 @@ fn operand_written(
 /// Whether each operand is a constant, or a signal that was written wherever the guard is true.
 fn operands_written(
     diagrams: &Diagrams,
+    work: &mut Work,
     written: &Written,
     guard: Ref,
     operands: &[Operand],
@@ -71,10 +78,11 @@ fn operands_written(
     requires guard { IsOf diagrams.now guard }
     ensures value { IfOk result (λ yes. IsTrue yes
         ↔ ((x : SigId) → Contains operands.now (Sig x) → IsWrittenWhere diagrams.now.store.nodes written.now guard x)) }
-    ensures memory { IfErr result (λ answer. answer ≡ DdAnswer.OutOfMemory) }
+    ensures counted { work.new.pairs ≤ work.old.pairs + length operands.now * 2 ^ diagrams.now.conditions }
+    ensures refused { IfErr result (IsTired work.old (length operands.now * 2 ^ diagrams.now.conditions)) }
 {
     for operand in operands {
-        if !operand_written(diagrams, written, guard, *operand)? {
+        if !operand_written(diagrams, work, written, guard, *operand)? {
             return Ok(false);
         }
     }
@@ -84,6 +92,7 @@ fn operands_written(
 /// Whether each signal that an operation reads was written wherever the guard is true.
 pub(crate) fn reads_written(
     diagrams: &Diagrams,
+    work: &mut Work,
     written: &Written,
     guard: Ref,
     kind: &ImageOpKind,
@@ -92,14 +101,15 @@ pub(crate) fn reads_written(
     requires guard { IsOf diagrams.now guard }
     ensures value { IfOk result (λ yes. IsTrue yes
         ↔ ((x : SigId) → Reads kind.now x → IsWrittenWhere diagrams.now.store.nodes written.now guard x)) }
-    ensures memory { IfErr result (λ answer. answer ≡ DdAnswer.OutOfMemory) }
+    ensures counted { work.new.pairs ≤ work.old.pairs + operands_of kind.now * 2 ^ diagrams.now.conditions }
+    ensures refused { IfErr result (IsTired work.old (operands_of kind.now * 2 ^ diagrams.now.conditions)) }
 {
     match kind {
         ImageOpKind::Fun(_, _, operands) => {
-            operands_written(diagrams, written, guard, operands.as_slice())
+            operands_written(diagrams, work, written, guard, operands.as_slice())
         }
-        ImageOpKind::Copy(_, x) => signal_written(diagrams, written, guard, *x),
-        ImageOpKind::Store(_, x) => signal_written(diagrams, written, guard, *x),
+        ImageOpKind::Copy(_, x) => signal_written(diagrams, work, written, guard, *x),
+        ImageOpKind::Store(_, x) => signal_written(diagrams, work, written, guard, *x),
         ImageOpKind::Read(_) => Ok(true),
         ImageOpKind::Const(_, _) => Ok(true),
         ImageOpKind::DelayRead(_, _) => Ok(true),

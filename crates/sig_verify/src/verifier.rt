@@ -1,15 +1,17 @@
 //! What is known behind the first operations of an image.
 
-ghost use Rattle.std.specs.Prelude.{◌≡◌, ◌<◌, ◌+◌, ◌*◌, ◌↔◌};
-ghost use Rattle.sig_verify.specs.Prelude.{IfErr, IfOk, IsTrue, OnOk, OutOfMemory, SigId, Some, length};
-ghost use Rattle.sig_verify.specs.Asking.{AreGood, AreOf, IsGuard, IsScene, choices, guard_at};
+ghost use Rattle.std.specs.Prelude.{◌≡◌, ◌<◌, ◌≤◌, ◌+◌, ◌*◌, ◌^◌, ◌↔◌, ◌⊎◌};
+ghost use Rattle.sig_verify.specs.Prelude.{IfErr, IfOk, IfSome, IsTrue, OnOk, OutOfMemory, SigId, Some, false, length, true};
+ghost use Rattle.sig_verify.specs.Asking.{AreGood, AreOf, AreTold, IsGood, IsGuard, IsScene, asked, choices, guard_at};
 ghost use Rattle.sig_verify.specs.Diagrams.{AreDiagrams, Follows, IsOf, IsRefusal};
+ghost use Rattle.sig_verify.specs.Pairs.{IsTired};
 ghost use Rattle.sig_verify.specs.Known.{IsFree, IsKnown, IsSoundAt, IsTakenIn, IsWant};
 
 use crate::diagrams::Diagrams;
+use crate::pairs::Work;
 use crate::parts::{conditions_of, op_at};
 use crate::reads::{reads_written, target};
-use crate::walk::walk;
+use crate::walk::{Told, walk};
 use crate::written::{Written, keep, written_at};
 use sig_base::SigId;
 use sig_dd::{DdAnswer, Ref};
@@ -17,13 +19,15 @@ use sig_file::Image;
 use std::alloc::Global;
 use std::collections::HashMap;
 
-/// What is known behind the first operations of an image: for which proposals each signal was written, and the guards
-/// whose walks ask only for conditions that were written.
+/// What is known behind the first operations of an image: for which proposals each signal was written, the guards whose
+/// walks ask only for conditions that were written, and what was told of the nodes below these.
 #[derive(Drop)]
 pub(crate) struct Verifier {
     pub(crate) diagrams: Diagrams,
+    pub(crate) work: Work,
     pub(crate) written: Written,
     pub(crate) guards: HashMap<u32, Ref>,
+    pub(crate) told: HashMap<u32, Told>,
     alloc: Global,
 }
 
@@ -35,33 +39,83 @@ impl Verifier {
     {
         Ok(Verifier {
             diagrams: Diagrams::new(alloc, conditions_of(image))?,
+            work: Work::new(alloc),
             written: HashMap::new(alloc),
             guards: HashMap::new(alloc),
+            told: HashMap::new(alloc),
             alloc,
         })
     }
 
+    /// The function of a guard, where what is told says that its walk asks only for conditions that were written. It
+    /// always does where the guard is one whose walk asks only for these, if all that was told before is exact.
+    fn tell(&mut self, image: &Image, n: u32) -> Result<Option<Ref>, DdAnswer>
+        requires scene { IsScene self.old.diagrams image.now self.old.written }
+        requires told { AreTold false self.old.diagrams image.now (asked self.old.diagrams image.now self.old.written) self.old.told }
+        requires n { n < length image.now.nodes + 2 }
+        ensures next { Follows (5 * choices (guard_at image.now n)) self.old.diagrams self.new.diagrams }
+        ensures work { self.new.work ≡ self.old.work }
+        ensures written { self.new.written ≡ self.old.written }
+        ensures guards { self.new.guards ≡ self.old.guards }
+        ensures told { OnOk result (AreTold false self.new.diagrams image.now (asked self.new.diagrams image.now self.new.written) self.new.told) }
+        ensures good { IfOk result (λ found. IfSome found (IsGood self.new.diagrams image.now self.new.written n)) }
+        ensures exact { AreTold true self.old.diagrams image.now (asked self.old.diagrams image.now self.old.written) self.old.told
+            → IfOk result (IsGuard self.new.diagrams image.now self.new.written n) }
+        ensures refused { IfErr result (IsRefusal self.old.diagrams (5 * choices (guard_at image.now n))) }
+    {
+        let own = walk(&mut self.diagrams, image, &self.written, &mut self.told, n)?;
+        if !self.diagrams.is_true(own.written) {
+            return Ok(None);
+        }
+        Ok(Some(own.function))
+    }
+
     /// The function of a guard, or none where its walk asks, for some proposal, for a condition that was not written.
+    fn find(&mut self, image: &Image, n: u32) -> Result<Option<Ref>, DdAnswer>
+        requires scene { IsScene self.old.diagrams image.now self.old.written }
+        requires told { AreTold false self.old.diagrams image.now (asked self.old.diagrams image.now self.old.written) self.old.told }
+        requires n { n < length image.now.nodes + 2 }
+        ensures next { Follows (10 * choices (guard_at image.now n)) self.old.diagrams self.new.diagrams }
+        ensures work { self.new.work ≡ self.old.work }
+        ensures written { self.new.written ≡ self.old.written }
+        ensures guards { self.new.guards ≡ self.old.guards }
+        ensures told { OnOk result (AreTold false self.new.diagrams image.now (asked self.new.diagrams image.now self.new.written) self.new.told) }
+        ensures value { IfOk result (IsGuard self.new.diagrams image.now self.new.written n) }
+        ensures refused { IfErr result (IsRefusal self.old.diagrams (10 * choices (guard_at image.now n))) }
+    {
+        let found = self.tell(image, n)?;
+        if let Some(function) = found {
+            return Ok(Some(function));
+        }
+        // More may have been written since the nodes were walked. No image of a plan comes here: each of its conditions is
+        // written by one operation.
+        self.told = HashMap::new(self.alloc);
+        self.tell(image, n)
+    }
+
+    /// The same, where some guards are known.
     fn guard(&mut self, image: &Image, n: u32) -> Result<Option<Ref>, DdAnswer>
         requires scene { IsScene self.old.diagrams image.now self.old.written }
         requires good { AreGood self.old.diagrams image.now self.old.written self.old.guards }
+        requires told { AreTold false self.old.diagrams image.now (asked self.old.diagrams image.now self.old.written) self.old.told }
         requires n { n < length image.now.nodes + 2 }
-        ensures next { Follows (5 * choices (guard_at image.now n)) self.old.diagrams self.new.diagrams }
+        ensures next { Follows (10 * choices (guard_at image.now n)) self.old.diagrams self.new.diagrams }
+        ensures work { self.new.work ≡ self.old.work }
         ensures written { self.new.written ≡ self.old.written }
         ensures good { OnOk result (AreGood self.new.diagrams image.now self.new.written self.new.guards) }
+        ensures told { OnOk result (AreTold false self.new.diagrams image.now (asked self.new.diagrams image.now self.new.written) self.new.told) }
         ensures value { IfOk result (IsGuard self.new.diagrams image.now self.new.written n) }
-        ensures refused { IfErr result (IsRefusal self.old.diagrams (5 * choices (guard_at image.now n))) }
+        ensures refused { IfErr result (IsRefusal self.old.diagrams (10 * choices (guard_at image.now n))) }
     {
         if let Some(known) = self.guards.get(&n) {
             return Ok(Some(*known));
         }
-        let mut told = HashMap::new(self.alloc);
-        let own = walk(&mut self.diagrams, image, &self.written, &mut told, n)?;
-        if !self.diagrams.is_true(own.written) {
+        let found = self.find(image, n)?;
+        let Some(function) = found else {
             return Ok(None);
-        }
-        keep(&mut self.guards, n, own.function)?;
-        Ok(Some(own.function))
+        };
+        keep(&mut self.guards, n, function)?;
+        Ok(Some(function))
     }
 
     /// Takes in that a signal is written where the guard is true, unless it was written already for one of these
@@ -72,12 +126,14 @@ impl Verifier {
         requires guard { IsOf self.old.diagrams guard }
         ensures next { Follows 1 self.old.diagrams self.new.diagrams }
         ensures guards { self.new.guards ≡ self.old.guards }
-        ensures value { IfOk result (λ yes. IsTrue yes ↔ IsFree self.old y guard) }
-        ensures taken { IfOk result (λ yes. IsTrue yes → IsTakenIn self.old self.new (Some y) guard) }
-        ensures refused { IfErr result (IsRefusal self.old.diagrams 1) }
+        ensures told { self.new.told ≡ self.old.told }
+        ensures value { IfOk result (λ yes. IsTrue yes ↔ IsFree self.old.diagrams self.old.written y guard) }
+        ensures taken { IfOk result (λ yes. IsTrue yes → IsTakenIn self.old.diagrams self.old.written self.new.diagrams self.new.written (Some y) guard) }
+        ensures counted { self.new.work.pairs ≤ self.old.work.pairs + 2 ^ self.old.diagrams.conditions }
+        ensures refused { IfErr result (λ answer. IsRefusal self.old.diagrams 1 answer ⊎ IsTired self.old.work (2 ^ self.old.diagrams.conditions) answer) }
     {
         let before = written_at(&self.diagrams, &self.written, y);
-        if self.diagrams.overlap(before, guard)? {
+        if self.diagrams.overlap(&mut self.work, before, guard)? {
             return Ok(false);
         }
         let now = self.diagrams.either(before, guard)?;
@@ -92,9 +148,11 @@ impl Verifier {
         requires guard { IsOf self.old.diagrams guard }
         ensures next { Follows 1 self.old.diagrams self.new.diagrams }
         ensures guards { self.new.guards ≡ self.old.guards }
-        ensures value { IfOk result (λ yes. IsTrue yes ↔ ((y : SigId) → target ≡ Some y → IsFree self.old y guard)) }
-        ensures taken { IfOk result (λ yes. IsTrue yes → IsTakenIn self.old self.new target guard) }
-        ensures refused { IfErr result (IsRefusal self.old.diagrams 1) }
+        ensures told { self.new.told ≡ self.old.told }
+        ensures value { IfOk result (λ yes. IsTrue yes ↔ ((y : SigId) → target ≡ Some y → IsFree self.old.diagrams self.old.written y guard)) }
+        ensures taken { IfOk result (λ yes. IsTrue yes → IsTakenIn self.old.diagrams self.old.written self.new.diagrams self.new.written target guard) }
+        ensures counted { self.new.work.pairs ≤ self.old.work.pairs + 2 ^ self.old.diagrams.conditions }
+        ensures refused { IfErr result (λ answer. IsRefusal self.old.diagrams 1 answer ⊎ IsTired self.old.work (2 ^ self.old.diagrams.conditions) answer) }
     {
         match target {
             Some(y) => self.write(y, guard),
@@ -115,7 +173,13 @@ impl Verifier {
         let Some(guard) = found else {
             return Ok(false);
         };
-        let read = reads_written(&self.diagrams, &self.written, guard, &op.kind)?;
+        let read = reads_written(
+            &self.diagrams,
+            &mut self.work,
+            &self.written,
+            guard,
+            &op.kind,
+        )?;
         if !read {
             return Ok(false);
         }

@@ -1,7 +1,7 @@
 //! What is told of the nodes of an image.
 
 ghost use Rattle.std.specs.Prelude.{◌≡◌, ◌<◌, ◌+◌, ◌*◌, ◌&&◌, if◌then◌else◌};
-ghost use Rattle.sig_verify.specs.Prelude.{ℕ, Bool, List, IfErr, IfOk, ImageView, OnOk, length, test, true, truth_of};
+ghost use Rattle.sig_verify.specs.Prelude.{ℕ, Bool, List, IfErr, IfOk, ImageView, OnOk, false, length, test, true, truth_of};
 ghost use Rattle.sig_verify.specs.Asking.{AreTold, IsScene, IsTold, asked, choices, guard_at};
 ghost use Rattle.sig_verify.specs.Diagrams.{Follows, IsFor, IsOf, IsRefusal};
 ghost use Rattle.sig_verify.specs.declared.diagrams.Diagrams.{Diagrams};
@@ -15,7 +15,7 @@ use std::alloc::AllocError;
 use std::collections::HashMap;
 
 /// What is told of a node: its function, and the proposals for which each condition that the walk from it asks was
-/// written.
+/// written when the node was walked.
 #[derive(Clone, Copy)]
 pub(crate) struct Told {
     pub(crate) function: Ref,
@@ -74,10 +74,14 @@ pub(crate) fn walk(
 ) -> Result<Told, DdAnswer>
     requires scene { IsScene diagrams.old image.now written.now }
     requires n { n < length image.now.nodes + 2 }
-    requires told { AreTold diagrams.old image.now (asked diagrams.old image.now written.now) told.old }
+    requires told { AreTold false diagrams.old image.now (asked diagrams.old image.now written.now) told.old }
     ensures next { Follows (5 * choices (guard_at image.now n)) diagrams.old diagrams.new }
-    ensures told { OnOk result (AreTold diagrams.new image.now (asked diagrams.new image.now written.now) told.new) }
-    ensures value { IfOk result (IsTold diagrams.new image.now (asked diagrams.new image.now written.now) n) }
+
+    // What is told is exact where all that was told before is.
+    ensures told { OnOk result ((exact : Bool) → AreTold exact diagrams.old image.now (asked diagrams.old image.now written.now) told.old
+        → AreTold exact diagrams.new image.now (asked diagrams.new image.now written.now) told.new) }
+    ensures value { IfOk result (λ own. (exact : Bool) → AreTold exact diagrams.old image.now (asked diagrams.old image.now written.now) told.old
+        → IsTold exact diagrams.new image.now (asked diagrams.new image.now written.now) n own) }
     ensures refused { IfErr result (IsRefusal diagrams.old (5 * choices (guard_at image.now n))) }
 {
     if n < 2 {
@@ -96,8 +100,8 @@ pub(crate) fn walk(
 
 /// Keeps what is told of a node.
 fn keep_told(told: &mut HashMap<u32, Told>, n: u32, own: Told) -> Result<(), AllocError>
-    ensures { OnOk result ((diagrams : Diagrams) (image : ImageView) (written : ℕ → List Bool → Bool) → IsTold diagrams image written n own
-        → AreTold diagrams image written told.old → AreTold diagrams image written told.new) }
+    ensures { OnOk result ((exact : Bool) (diagrams : Diagrams) (image : ImageView) (written : ℕ → List Bool → Bool)
+        → IsTold exact diagrams image written n own → AreTold exact diagrams image written told.old → AreTold exact diagrams image written told.new) }
 {
     told.insert(n, own)?;
     Ok(())

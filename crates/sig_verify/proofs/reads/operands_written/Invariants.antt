@@ -1,9 +1,12 @@
--- The signals among the operands so far were written.
-use Rattle.std.proofs.Common.{◌≡◌, ℕ, ◌<◌}
+-- The signals among the operands so far were written, and each was compared once.
+use Rattle.std.proofs.Common.{◌≡◌, ℕ, ◌+◌, ◌*◌, ◌^◌, ◌<◌, ◌≤◌}
 use Rattle.std.specs.Prelude.{slice_index_or}
 use Rattle.sig_verify.specs.Asking.{IsWrittenWhere}
 use Rattle.sig_verify.specs.Prelude.{Sig, SigId}
 use Rattle.sig_verify.proofs.reads.operands_written.Given as goal
 
 abbrev pub invariant-loop-operand : goal.invariant-loop-operand
-invariant-loop-operand l = (x : SigId) (k : ℕ) → k < l.operand-index → slice_index_or l.operands k (Sig x) ≡ Sig x → IsWrittenWhere l.diagrams.store.nodes l.written l.guard x
+invariant-loop-operand l = record {
+  written : (x : SigId) (k : ℕ) → k < l.operand-index → slice_index_or l.operands k (Sig x) ≡ Sig x → IsWrittenWhere l.diagrams.store.nodes l.written l.guard x;
+  counted : l.work.pairs ≤ l.initial.work.pairs + l.operand-index * 2 ^ l.diagrams.conditions;
+}

@@ -1,4 +1,4 @@
-use Rattle.std.proofs.Common.{◌*◌, arith, ◌∙◌}
+use Rattle.std.proofs.Common.{◌*◌, arith, false, ◌∙◌}
 use Rattle.sig_verify.specs.Asking.{asked, choices, guard_at}
 use Rattle.sig_verify.specs.Diagrams.{IsRefusal}
 use Rattle.sig_verify.proofs.Calls.{of_kept}
@@ -9,8 +9,8 @@ use Rattle.sig_verify.proofs.Walked.{constant_is_told, high_next, high_refused, 
 use Rattle.sig_verify.proofs.walk.+walk.Goals as goal
 
 pub returns-then-n-lt2-clause-value : goal.returns-then-n-lt2-clause-value
-returns-then-n-lt2-clause-value t c =
-    constant_is_told c.args.diagrams.now c.args.image.now (asked c.args.diagrams.now c.args.image.now c.args.written.now) c.args.n c.if-n-lt2.true c.constant_told.result
+returns-then-n-lt2-clause-value t c = λ exact was.
+    constant_is_told exact c.args.diagrams.now c.args.image.now (asked c.args.diagrams.now c.args.image.now c.args.written.now) c.args.n c.if-n-lt2.true c.constant_told.result
     c.constant_told.ensures.function c.constant_told.ensures.written
 
 pub walk-requires : goal.walk-requires
@@ -37,7 +37,7 @@ walk-requires-2 t c =
       omega (arith, less),
       (
         scene_kept (5 * choices (guard_at image node.low)) c.args.diagrams.now c.walk.new.diagrams c.in_ok-low.ensures.next image c.args.written.now c.requires.scene,
-        (high_within image c.node_at-node.ensures.right c.args.n node c.if-n-lt2.false c.node_at-node.ensures.node, c.in_ok-low.ensures.told),
+        (high_within image c.node_at-node.ensures.right c.args.n node c.if-n-lt2.false c.node_at-node.ensures.node, c.in_ok-low.ensures.told false c.requires.told),
       ),
     )
 
@@ -67,11 +67,17 @@ node_told-requires-clause-v t c =
 
 pub node_told-requires-clause-low_function : goal.node_told-requires-clause-low_function
 node_told-requires-clause-low_function t c =
-    of_kept (5 * choices (guard_at c.args.image.now c.node_at-node.result.high)) c.walk.new.diagrams c.walk-2.new.diagrams c.in_ok-high.ensures.next c.in_ok-low.low.function c.in_ok-low.ensures.value.function.of
+    of_kept (5 * choices (guard_at c.args.image.now c.node_at-node.result.high)) c.walk.new.diagrams c.walk-2.new.diagrams c.in_ok-high.ensures.next c.in_ok-low.low.function (c.in_ok-low.ensures.value false c.requires.told).function.of
 
 pub node_told-requires-clause-low_written : goal.node_told-requires-clause-low_written
 node_told-requires-clause-low_written t c =
-    of_kept (5 * choices (guard_at c.args.image.now c.node_at-node.result.high)) c.walk.new.diagrams c.walk-2.new.diagrams c.in_ok-high.ensures.next c.in_ok-low.low.written c.in_ok-low.ensures.value.written.of
+    of_kept (5 * choices (guard_at c.args.image.now c.node_at-node.result.high)) c.walk.new.diagrams c.walk-2.new.diagrams c.in_ok-high.ensures.next c.in_ok-low.low.written (c.in_ok-low.ensures.value false c.requires.told).of
+
+pub node_told-requires-clause-high_function : goal.node_told-requires-clause-high_function
+node_told-requires-clause-high_function t c = (c.in_ok-high.ensures.value false (c.in_ok-low.ensures.told false c.requires.told)).function.of
+
+pub node_told-requires-clause-high_written : goal.node_told-requires-clause-high_written
+node_told-requires-clause-high_written t c = (c.in_ok-high.ensures.value false (c.in_ok-low.ensures.told false c.requires.told)).of
 
 pub returns-in_err-own-clause-next : goal.returns-in_err-own-clause-next
 returns-in_err-own-clause-next t c =
@@ -95,23 +101,24 @@ returns-clause-next t c =
     c.node_told.new.diagrams c.in_ok-low.ensures.next c.in_ok-high.ensures.next c.in_ok-own.ensures.next
 
 pub returns-clause-told : goal.returns-clause-told
-returns-clause-told t c =
+returns-clause-told t c = λ exact was.
     let image = c.args.image.now in
     let node = c.node_at-node.result in
     let mid_scene = scene_kept (5 * choices (guard_at image node.low)) c.args.diagrams.now c.walk.new.diagrams c.in_ok-low.ensures.next image c.args.written.now c.requires.scene in
     let high_scene = scene_kept (5 * choices (guard_at image node.high)) c.walk.new.diagrams c.walk-2.new.diagrams c.in_ok-high.ensures.next image c.args.written.now mid_scene in
-    c.in_ok-keep_told.ensures c.node_told.new.diagrams image (asked c.node_told.new.diagrams image c.args.written.now)
-    (node_is_told image c.node_at-node.ensures.right c.args.n node c.if-n-lt2.false c.node_at-node.ensures.node c.args.written.now c.walk.new.diagrams c.walk-2.new.diagrams c.node_told.new.diagrams
-    high_scene.of mid_scene.of c.in_ok-high.ensures.next c.in_ok-own.ensures.next c.in_ok-low.low c.in_ok-high.high c.in_ok-own.own c.in_ok-low.ensures.value c.in_ok-high.ensures.value
+    let low_table = c.in_ok-low.ensures.told exact was in
+    c.in_ok-keep_told.ensures exact c.node_told.new.diagrams image (asked c.node_told.new.diagrams image c.args.written.now)
+    (node_is_told image c.node_at-node.ensures.right c.args.n node c.if-n-lt2.false c.node_at-node.ensures.node exact c.args.written.now c.walk.new.diagrams c.walk-2.new.diagrams c.node_told.new.diagrams
+    high_scene.of mid_scene.of c.in_ok-high.ensures.next c.in_ok-own.ensures.next c.in_ok-low.low c.in_ok-high.high c.in_ok-own.own (c.in_ok-low.ensures.value exact was) (c.in_ok-high.ensures.value exact low_table)
     c.in_ok-own.ensures.function c.in_ok-own.ensures.written)
-    (are_told_kept 5 c.walk-2.new.diagrams c.node_told.new.diagrams c.in_ok-own.ensures.next image c.args.written.now high_scene.of c.walk-2.new.told c.in_ok-high.ensures.told)
+    (are_told_kept 5 c.walk-2.new.diagrams c.node_told.new.diagrams c.in_ok-own.ensures.next exact image c.args.written.now high_scene.of c.walk-2.new.told (c.in_ok-high.ensures.told exact low_table))
 
 pub returns-clause-value : goal.returns-clause-value
-returns-clause-value t c =
+returns-clause-value t c = λ exact was.
     let image = c.args.image.now in
     let node = c.node_at-node.result in
     let mid_scene = scene_kept (5 * choices (guard_at image node.low)) c.args.diagrams.now c.walk.new.diagrams c.in_ok-low.ensures.next image c.args.written.now c.requires.scene in
     let high_scene = scene_kept (5 * choices (guard_at image node.high)) c.walk.new.diagrams c.walk-2.new.diagrams c.in_ok-high.ensures.next image c.args.written.now mid_scene in
-    node_is_told image c.node_at-node.ensures.right c.args.n node c.if-n-lt2.false c.node_at-node.ensures.node c.args.written.now c.walk.new.diagrams c.walk-2.new.diagrams c.node_told.new.diagrams
-    high_scene.of mid_scene.of c.in_ok-high.ensures.next c.in_ok-own.ensures.next c.in_ok-low.low c.in_ok-high.high c.in_ok-own.own c.in_ok-low.ensures.value c.in_ok-high.ensures.value
-    c.in_ok-own.ensures.function c.in_ok-own.ensures.written
+    node_is_told image c.node_at-node.ensures.right c.args.n node c.if-n-lt2.false c.node_at-node.ensures.node exact c.args.written.now c.walk.new.diagrams c.walk-2.new.diagrams c.node_told.new.diagrams
+    high_scene.of mid_scene.of c.in_ok-high.ensures.next c.in_ok-own.ensures.next c.in_ok-low.low c.in_ok-high.high c.in_ok-own.own (c.in_ok-low.ensures.value exact was)
+    (c.in_ok-high.ensures.value exact (c.in_ok-low.ensures.told exact was)) c.in_ok-own.ensures.function c.in_ok-own.ensures.written
