@@ -1,10 +1,16 @@
 pub mod Causes
 pub mod Complete
 pub mod Ending
+pub mod EndsAlike
 pub mod FileOnce
+pub mod FileVerdict
+pub mod FlowsAlike
 pub mod ImageRuns
+pub mod ImageTaken
 pub mod ImageOnce
 pub mod Inputs
+pub mod KernelImage
+pub mod LastBegun
 pub mod Loads
 pub mod OneBuild
 pub mod OneExec

@@ -1,5 +1,5 @@
 -- What an image file gives: the sound image that its bytes are, or the line by which they are refused.
-use Rattle.std.specs.Prelude.{◌≡◌, ◌⊎◌, ◌++◌, ℕ, List, codes, Option}
+use Rattle.std.specs.Prelude.{◌≡◌, ◌⊎◌, ◌++◌, ◌<◌, ◌≤◌, ◌^◌, ℕ, List, length, codes, slice_index_or, Option}
 use Rattle.std.specs.Fmt.{decimal}
 use Rattle.sig_base.specs.Lines.{refusal}
 use Rattle.sig_base.specs.declared.limits.TheConstants.{NODES}
@@ -13,6 +13,10 @@ use Rattle.sig_verify.specs.Verifying.{IsBeyondBound, IsFirstUnsound}
 use Rattle.sig_outcome.specs.Outcomes.{AtData, FindsData, Found, Holds, Outcome}
 use Rattle.sig_outcome.specs.Refusals.{IsAboutImage}
 use Rattle.sig_outcome.specs.declared.refusal.Refusal.{Refusal}
+
+-- each is a byte
+abbrev pub AreBytes : List ℕ → Type 0
+AreBytes bytes = (place : ℕ) → slice_index_or bytes place 0 < 2 ^ 8
 
 -- the bytes are those of this image
 pub record IsFileOf (bytes : List ℕ) (image : ImageView) : Type 0 where
@@ -28,6 +32,14 @@ pub record IsSoundFile (bytes : List ℕ) (image : ImageView) : Type 0 where
 pub record HoldsSoundImage (held : Option (List ℕ)) : Type 0 where
   pub image : ImageView
   pub sound : Holds held IMAGE_BYTES (λ bytes. IsSoundFile bytes image)
+
+-- the bytes of a sound image were taken, and they are few enough for a file of one
+pub record TookSoundImage (Took : List ℕ → Type 0) : Type 0 where
+  pub image : ImageView
+  pub right : IsImage image
+  pub sound : IsSoundImage image
+  pub few : length (image_bytes image) ≤ IMAGE_BYTES
+  pub took : Took (image_bytes image)
 
 -- ---- lines, without their newlines
 

@@ -1,10 +1,11 @@
 //! The command `exec`: from the names of two files to a status.
 
-ghost use Rattle.std.specs.Prelude.{◌≡◌, ◌⊎◌, IfOk, IsErrOf, IsTrue, OnOk};
+ghost use Rattle.std.specs.Prelude.{◌≡◌, ◌⊎◌, IfOk, IfSome, IsErrOf, IsTrue, OnOk};
 ghost use Rattle.sig_exec.specs.Running.{AreFlowsOf, TookRun, TookSome};
 ghost use Rattle.sig_outcome.specs.Tasks.{Performs, SaysLine};
 ghost use Rattle.sig_runs.specs.Runs.{LacksMemory};
 ghost use Rattle.sig_text.specs.Counts.{Rose};
+ghost use Rattle.sig_text.specs.Files.{name_where_there};
 ghost use Rattle.sig_images.specs.Execs.{WritesExec, executing};
 
 use crate::image_file::image_in;
@@ -29,11 +30,14 @@ pub fn exec_command<F: Files, S: Sink, E: Sink>(
     out: &mut S,
     err: &mut E,
 ) -> u8
-    ensures { Performs (executing image.now flows.now settings)
+    ensures performs { Performs (executing image.now flows.now settings)
         (F.contents files.old) (F.at files.old) (F.at files.new)
         (F.misses files.old) (F.misses files.new) (F.faults files.old) (F.faults files.new)
         S.took out.old out.new (S.faults out.old) (S.faults out.new) (S.clean out.new)
         (SaysLine E.took (E.faults err.old) (E.faults err.new) err.old err.new) result }
+
+    // Where nodes do not suffice, the image file is the one that was begun last.
+    ensures last { IfSome (F.contents files.old) (λ held. result ≡ 8 → F.at files.new ≡ name_where_there held image.now) }
 {
     match load(alloc, files, image, flows, settings) {
         Ok(loaded) => exec_loaded(alloc, &loaded, settings.instants, out, err),

@@ -1,6 +1,6 @@
 //! What is so of every build, and of every run of an image.
 
-ghost use Rattle.std.specs.Prelude.{◌≡◌, ℕ, false, List};
+ghost use Rattle.std.specs.Prelude.{◌≡◌, ◌≤◌, ◌⊎◌, ℕ, false, List, length};
 ghost use Rattle.sig_base.specs.declared.limits.TheConstants.{PROGRAM_BYTES};
 ghost use Rattle.sig_text.specs.Files.{Contents};
 ghost use Rattle.sig_kernel.specs.declared.kernel.Kernel.{Kernel};
@@ -9,20 +9,36 @@ ghost use Rattle.sig_plan.specs.Acceptance.{IsAcceptedKernel};
 ghost use Rattle.sig_words.specs.declared.command.Settings.{Settings};
 ghost use Rattle.sig_file.specs.Bytes.{image_bytes};
 ghost use Rattle.sig_file.specs.Images.{ImageView};
+ghost use Rattle.sig_file.specs.Spelled.{HavePlaces};
 ghost use Rattle.sig_file.specs.declared.limits.TheConstants.{IMAGE_BYTES};
 ghost use Rattle.sig_outcome.specs.Outcomes.{Holds, Outcome, done};
 ghost use Rattle.sig_outcome.specs.Tasks.{IsEnded};
 ghost use Rattle.sig_compile.specs.Acceptance.{IsAcceptedAs};
-ghost use Rattle.sig_images.specs.Builds.{BuildComesTo, IsKernelImage};
+ghost use Rattle.sig_images.specs.Builds.{AreFewBytes, BuildComesTo, IsKernelImage};
 ghost use Rattle.sig_images.specs.Complete.{CanBuild, CanExec};
 ghost use Rattle.sig_images.specs.Execs.{ExecComesTo, ExecutesTo};
-ghost use Rattle.sig_images.specs.ImageFiles.{IsSoundFile};
+ghost use Rattle.sig_images.specs.ImageFiles.{AreBytes, IsSoundFile, RefusesImage};
+
+use sig_file::images_of_plans_are_right;
+use sig_front::kernels_of_texts;
+use sig_shipped::images_of_plans_are_sound;
 
 /// A law: an accepted kernel has one image, whichever of its plans it is made of.
 pub fn images_of_kernels_are_one()
     ensures some { (kernel : Kernel) → IsValid kernel → IsAcceptedKernel kernel → (image : ImageView) × IsKernelImage kernel image }
     ensures one { (kernel : Kernel) (a b : ImageView) → IsKernelImage kernel a → IsKernelImage kernel b → a ≡ b }
 {}
+
+/// A law: the bytes of the image of an accepted program, if they are few enough, are those of a sound image, where its
+/// places have 32 bits, as those that a build writes have: so the file of a build is not refused as damaged.
+pub fn images_of_kernels_are_right()
+    ensures { (bytes : List ℕ) (kernel : Kernel) (image : ImageView) → length bytes ≤ PROGRAM_BYTES → IsAcceptedAs false bytes kernel
+        → IsKernelImage kernel image → HavePlaces image.ops → AreFewBytes (image_bytes image) → IsSoundFile (image_bytes image) image }
+{
+    kernels_of_texts();
+    images_of_plans_are_right();
+    images_of_plans_are_sound();
+}
 
 /// A law: an accepted program comes to exactly one outcome of `build`; and no build over told contents comes
 /// to two.
@@ -64,4 +80,14 @@ pub fn good_execs_end()
         → IsEnded o.status }
     ensures some { (held : Contents) (file flows : List ℕ) (settings : Settings)
         → CanExec held file flows → (o : Outcome) × ExecComesTo held file flows settings o }
+{}
+
+/// A law: bytes of a file are those of a sound image, or they are refused with a line, which names the first byte of the
+/// first broken field, or the first operation that is not sound; and it is one image, or one line, and not both.
+pub fn image_files_have_a_verdict()
+    ensures some { (name bytes : List ℕ) → AreBytes bytes
+        → ((image : ImageView) × IsSoundFile bytes image) ⊎ ((line : List ℕ) × RefusesImage name bytes line) }
+    ensures image { (bytes : List ℕ) (image other : ImageView) → IsSoundFile bytes image → IsSoundFile bytes other → image ≡ other }
+    ensures line { (name bytes line other : List ℕ) → RefusesImage name bytes line → RefusesImage name bytes other → line ≡ other }
+    ensures apart { (name bytes : List ℕ) (image : ImageView) (line : List ℕ) → IsSoundFile bytes image → RefusesImage name bytes line → ⊥ }
 {}

@@ -51,6 +51,10 @@ pub fn load<'a, F: Files>(
     ensures read { OnOk result (Reads (F.contents files.old) (F.contents files.new) (F.at files.new)
         (F.misses files.old) (F.misses files.new) (F.faults files.old) (F.faults files.new) flows.now) }
 
+    // Where nodes do not suffice, no other file than the image was begun.
+    ensures budget { IfSome (F.contents files.old) (λ held. IfErr result (λ refusal.
+        status_of refusal ≡ 8 → F.at files.new ≡ name_where_there held image.now)) }
+
     // A refusal is the one that told contents call for, if they alone decide it.
     ensures stops { IfErr result (Stops (executing image.now flows.now settings)
         (F.contents files.old) (F.at files.old) (F.at files.new)

@@ -1,5 +1,6 @@
 use Rattle.std.proofs.lemmas.Result.{err_from_is_err_and}
 use Rattle.sig_outcome.proofs.Refused.{on_err, on_ok}
+use Rattle.sig_images.proofs.ImageTaken.{of_plan, ok_both}
 use Rattle.sig_images.proofs.Loads.{reaches_image, stops_length, stops_plan}
 use Rattle.sig_images.proofs.build.built.Goals as goal
 
@@ -26,3 +27,7 @@ returns-clause-bytes g c =
     (g.F.Files.misses c.args.files.now) (g.F.Files.misses c.load_plan.new.files) (g.F.Files.faults c.args.files.now) (g.F.Files.faults c.load_plan.new.files)
     c.args.name.now c.in_ok-plan.plan c.bytes_of.ensures.accepted c.in_ok-plan.ensures.plan c.in_ok-plan.ensures.read.told bytes.items is.are is.few)
     c.bytes_of.ensures.bytes
+
+pub returns-clause-image : goal.returns-clause-image
+returns-clause-image g c =
+    ok_both c.bytes_of.result _ _ _ (λ bytes are right. of_plan c.in_ok-plan.plan c.bytes_of.ensures.accepted bytes.items are right) c.bytes_of.ensures.bytes c.bytes_of.ensures.right

@@ -1,4 +1,8 @@
+use Rattle.std.proofs.Common.{◌≡◌}
 use Rattle.std.proofs.lemmas.Result.{err_from_is_err_and}
+use Rattle.sig_text.specs.Files.{name_where_there}
+use Rattle.sig_outcome.specs.Refusals.{status_of}
+use Rattle.sig_images.proofs.LastBegun.{no_flow_budget, told_always, told_never}
 use Rattle.sig_images.proofs.Loads.{stops_image, stops_inputs}
 use Rattle.sig_images.proofs.load.load.Goals as goal
 
@@ -21,3 +25,15 @@ returns-in_err-inputs-clause-stops g c =
     (g.F.Files.contents c.load_image.new.files) c.in_err-inputs.field-0.0
     c.in_ok-image.ensures.read.contents_stay c.in_ok-image.ensures.read.misses_stay c.in_ok-image.ensures.read.faults_stay
     c.in_err-inputs.ensures.about c.in_err-inputs.ensures.counted c.in_err-inputs.ensures.refused c.in_err-inputs.ensures.read.told)
+
+pub returns-in_err-image-clause-budget : goal.returns-in_err-image-clause-budget
+returns-in_err-image-clause-budget g c =
+    let p = err_from_is_err_and c.from_residual.result c.from_residual.ensures.1 in
+    rw (p.1, p.2) (told_always (g.F.Files.contents c.args.files.now) (status_of c.in_err-image.field-0.0) (λ held. g.F.Files.at c.load_image.new.files ≡ name_where_there held c.args.image.now)
+    c.in_err-image.ensures.read.told)
+
+pub returns-in_err-inputs-clause-budget : goal.returns-in_err-inputs-clause-budget
+returns-in_err-inputs-clause-budget g c =
+    let p = err_from_is_err_and c.from_residual-in_err-inputs.result c.from_residual-in_err-inputs.ensures.1 in
+    rw (p.1, p.2) (told_never (g.F.Files.contents c.args.files.now) (status_of c.in_err-inputs.field-0.0) (λ held. g.F.Files.at c.load_flows.new.files ≡ name_where_there held c.args.image.now)
+    (no_flow_budget c.args.flows.now c.in_err-inputs.field-0.0 c.in_err-inputs.ensures.about))

@@ -1,0 +1,59 @@
+-- The image of an accepted program is right: its signals have names of the form that an image asks for.
+use Rattle.std.proofs.Common.{◌≡◌, ◌≤◌, ◌+◌, ◌<◌, ◌^◌, ◌∷◌, ◌&&◌, ℕ, zero, suc, Bool, true, false, List, [], length, refl, sym, subst, arith}
+use Rattle.std.specs.List.{AllByRecursion}
+use Rattle.std.specs.Prelude.{Contains, IsTrue, nat_lt}
+use Rattle.std.proofs.lemmas.Bool.{le-leb, lt-ltb}
+use Rattle.sig_base.specs.declared.limits.TheConstants.{PROGRAM_BYTES}
+use Rattle.sig_base.specs.declared.signal.Signal.{Signal}
+use Rattle.sig_front.specs.Prelude.{IsSignalName}
+use Rattle.sig_kernel.specs.declared.kernel.Kernel.{Kernel}
+use Rattle.sig_plan.specs.Plans.{IsAccepted, PlanView}
+use Rattle.sig_front.specs.Kernels.{IsKernelText}
+use Rattle.sig_file.specs.Bytes.{image_bytes}
+use Rattle.sig_file.specs.Guarded.{IsSoundImage}
+use Rattle.sig_file.specs.Images.{ImageView, IsImage, is_name}
+use Rattle.sig_file.specs.PlanImages.{image_of}
+use Rattle.sig_file.specs.Spelled.{HasName, HasNames, HavePlaces}
+use Rattle.sig_file.specs.declared.limits.TheConstants.{IMAGE_BYTES}
+use Rattle.sig_compile.specs.Acceptance.{IsAcceptedAs}
+use Rattle.sig_verify.proofs.Asks.{both_true}
+use Rattle.sig_images.specs.Builds.{AreFewBytes, IsKernelImage}
+use Rattle.sig_images.specs.ImageFiles.{IsSoundFile}
+
+printable : (name : List ℕ) → AllByRecursion (λ byte. (33 ≤ byte) × (byte ≤ 126)) name → is_name name ≡ true
+printable [] all = refl
+printable (byte ∷ name) all =
+    both_true (nat_lt 32 byte && nat_lt byte 127) (is_name name)
+    (both_true (nat_lt 32 byte) (nat_lt byte 127) (lt-ltb 32 byte (let from = all.0.0 in omega (arith, from))) (lt-ltb byte 127 (let to = all.0.1 in omega (arith, to))))
+    (printable name all.1)
+
+has_name : (signal : Signal) → IsSignalName signal.name → HasName signal
+has_name signal is =
+    let some = is.some in
+    let few = is.few in
+    record {
+      long = both_true _ _ (lt-ltb 0 (length signal.name) (omega (arith, some))) (le-leb (length signal.name) 1048576 (omega (arith, few)));
+      printable = printable signal.name is.graphic;
+    }
+
+named : (signals : List Signal) → AllByRecursion (λ (signal : Signal). IsSignalName signal.name) signals → (signal : Signal) → Contains signals signal → IsSignalName signal.name
+named [] all signal (place, lt, e) = absurd (omega (arith, lt))
+named (first ∷ signals) all signal (zero, lt, e) = subst (λ (s : Signal). IsSignalName s.name) e all.0
+named (first ∷ signals) all signal (suc place, lt, e) = named signals all.1 signal (place, omega (arith, lt), e)
+
+pub of_kernel : ((text : List ℕ) (kernel : Kernel) → length text ≤ PROGRAM_BYTES → IsKernelText text kernel → AllByRecursion (λ (signal : Signal). IsSignalName signal.name) kernel.signals)
+    → ((plan : PlanView) → IsAccepted plan → HasNames plan.kernel → HavePlaces (image_of plan).ops → length (image_bytes (image_of plan)) ≤ IMAGE_BYTES → IsImage (image_of plan))
+    → ((plan : PlanView) → IsAccepted plan → IsSoundImage (image_of plan))
+    → (bytes : List ℕ) (kernel : Kernel) (image : ImageView) → length bytes ≤ PROGRAM_BYTES → IsAcceptedAs false bytes kernel
+    → IsKernelImage kernel image → HavePlaces image.ops → AreFewBytes (image_bytes image) → IsSoundFile (image_bytes image) image
+of_kernel names right sound bytes kernel image short accepted of places few =
+    let own = accepted.has.has.text in
+    let texts : IsKernelText bytes kernel = subst (IsKernelText bytes) (sym accepted.has.becomes) own in
+    let have : HasNames kernel = λ signal is. has_name signal (named kernel.signals (names bytes kernel short texts) signal is) in
+    let plan_names = subst HasNames (sym of.of.same) have in
+    let plan_places = subst (λ (i : ImageView). HavePlaces i.ops) of.is places in
+    let plan_few = subst (λ (i : ImageView). length (image_bytes i) ≤ IMAGE_BYTES) of.is few in
+    record {
+      file = record { right = subst IsImage (sym of.is) (right of.plan of.of.accepted plan_names plan_places plan_few); spelled = refl };
+      sound = subst IsSoundImage (sym of.is) (sound of.plan of.of.accepted);
+    }

@@ -1,0 +1,6 @@
+use Rattle.std.proofs.Common.{subst}
+use Rattle.sig_file.specs.Images.{IsImage}
+use Rattle.sig_images.proofs.build.bytes_of.Goals as goal
+
+pub returns-in-Ok-write_image-clause-right : goal.returns-in-Ok-write_image-clause-right
+returns-in-Ok-write_image-clause-right c = subst IsImage c.in-Ok.ensures.image c.in-Ok.ensures.right
