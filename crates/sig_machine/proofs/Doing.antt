@@ -1,14 +1,14 @@
 -- One instruction of a machine that is amid an instant.
 use Rattle.sig_machine.proofs.Common.{Bool, true, false, inl, inr, ◌≡◌, ◌<◌, ◌≤◌, ◌+◌, ◌∙◌, ℕ, zero, suc, ℤ, List, length, Some, Ok, Err, is_some, IfSome, refl, sym, ap, subst, Contains, slice_get, arith, SigId, Instant, Trace, AreFlowsFor, test, IsAccepted, PlanView, numbers_of, operation_in, operations_in, Cause, Op, Actor, truths_of, place_at, Faults, Gives, Outcome, outcome, own_present, abstraction_of, read_present, seen_at, answered, IsAmid, stepped, StandsAt, guard_known, here, reads_known, compiled, fault_end, is_next, keeps, speaks, done_behind, passed_over, EndsBy, GoesOn, ended_behind, HasReads, IsFor, IsRun, IsTarget, Lowers, IsMachineOf, actor_at, registers_of, IsKept, ReadsWithin, as_named, came_to, input_taken, named, Instruction, Lowered, Run, Machine, fitting, flow_count, Ref, Work, Next, Copy, One, Two}
-use Rattle.sig_machine.proofs.Keeping.{behind, register_value}
+use Rattle.sig_machine.proofs.Keeping.{behind, register_value, room_of}
 use Rattle.sig_machine.proofs.Standing.{stands_somewhere}
 
 -- answers tell outcomes
-gives_it : (o : Outcome) (v : ℤ) → Ok v ≡ answered o → o ≡ Gives v
+pub gives_it : (o : Outcome) (v : ℤ) → Ok v ≡ answered o → o ≡ Gives v
 gives_it (Gives w) v is = let e : Ok v ≡ Ok w = is in let same : w ≡ v = cc in ap Gives same
 gives_it (Faults cause) v is = absurd (let e : Ok v ≡ Err cause = is in cc)
 
-faults_it : (o : Outcome) (cause : Cause) → Err cause ≡ answered o → o ≡ Faults cause
+pub faults_it : (o : Outcome) (cause : Cause) → Err cause ≡ answered o → o ≡ Faults cause
 faults_it (Gives w) cause is = absurd (let e : Err cause ≡ Ok w = is in cc)
 faults_it (Faults other) cause is = let e : Err cause ≡ Err other = is in let same : other ≡ cause = cc in ap Faults same
 
@@ -52,7 +52,7 @@ module _ (plan : PlanView) (accepted : IsAccepted plan) (flows : List (List ℤ)
         → GoesOn plan flows m place new (place + 1)
     goes_on v gave new kept within trace instant amid =
         let value : outcome plan.kernel flows (actor_at m place) op ≡ Gives v = sym (comes trace instant amid) ∙ ap (as_named op.eq) (gives_it (came_to flows m instruction.work) v gave) in
-        subst (λ (a : Actor). IsAmid plan flows trace instant (stepped a)) (sym (behind plan lowered lowers flows m is op instruction for_op.target v new kept for_op.work.takes within place))
+        subst (λ (a : Actor). IsAmid plan flows trace instant (stepped a)) (sym (behind plan.kernel lowered.cells.items (room_of plan lowered lowers) flows m is op instruction for_op.target v new kept for_op.work.takes within place))
         (done_behind plan accepted flows fit trace instant (actor_at m place) amid op stands on v value)
 
     pub ends_by : (cause : Cause) → Err cause ≡ answered (came_to flows m instruction.work) → EndsBy plan flows m place (named op.eq cause)

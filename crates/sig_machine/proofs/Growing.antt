@@ -14,7 +14,7 @@ constants_fewer signals cells more own have number behind within =
     let longer = length-append cells more in
     have number behind (omega (arith, within, longer)) ∙ cell_front cells more number within
 
-for_grows : (kernel : Kernel) (cells more : List ℤ) (op : Op) (instruction : Instruction) → IsFor kernel cells op instruction → IsFor kernel (cells ++ more) op instruction
+pub for_grows : (kernel : Kernel) (cells more : List ℤ) (op : Op) (instruction : Instruction) → IsFor kernel cells op instruction → IsFor kernel (cells ++ more) op instruction
 for_grows kernel cells more op instruction is =
     let longer = length-append cells more in
     record {

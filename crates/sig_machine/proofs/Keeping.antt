@@ -1,5 +1,5 @@
 -- What the value of an instruction leaves is what its operation leaves.
-use Rattle.sig_machine.proofs.Common.{if◌then◌else◌, Bool, true, false, inl, inr, ◌≡◌, ◌<◌, ◌≤◌, ◌+◌, ◌==◌, ◌∙◌, ℕ, zero, suc, ℤ, pos, List, [], ◌∷◌, length, set, nat_lt, None, Option, Some, IfSome, is_some, refl, sym, ap, slice_get, slice_index_or, ltb-true, ltb-false, eqb-true, eq-eqb, length-set, arith, SigId, PlanView, Op, OpKind, Read, Compute, Left, Right, DelayRead, Store, Actor, with_at, with_signal, operated, remembers, taken_by, input_of, IsTarget, Lowers, IsMachineOf, actor_at, cell, memories_at, memories_of, registers_of, stamped, taken_of, IsKept, input_taken, taken_after, Instruction, Work, Next, Copy, One, Two, Lowered, Machine}
+use Rattle.sig_machine.proofs.Common.{if◌then◌else◌, Bool, true, false, inl, inr, ◌≡◌, ◌<◌, ◌≤◌, ◌+◌, ◌==◌, ◌∙◌, ℕ, zero, suc, ℤ, pos, List, [], ◌∷◌, length, set, nat_lt, None, Option, Some, IfSome, is_some, refl, sym, ap, slice_get, slice_index_or, ltb-true, ltb-false, eqb-true, eq-eqb, length-set, arith, SigId, Kernel, PlanView, Op, OpKind, Read, Compute, Left, Right, DelayRead, Store, Actor, with_at, with_signal, operated, remembers, taken_by, input_of, IsTarget, Lowers, IsMachineFor, actor_at, cell, memories_at, memories_of, registers_of, stamped, taken_of, IsKept, input_taken, taken_after, Instruction, Work, Next, Copy, One, Two, Lowered, Machine}
 
 -- ---- lists with another item
 
@@ -56,22 +56,27 @@ register_value m signal some = by (nat_lt signal m.signals) refl where
   by true e = rw e (stamped_value m.instant (slice_get m.stamps.items signal) (cell m.cells.items signal) (rw e at some))
   by false e = absurd (let clash : false ≡ true = rw e at some in cc)
 
-module _ (plan : PlanView) (lowered : Lowered) (lowers : Lowers plan lowered) (flows : List (List ℤ)) (old : Machine) (is : IsMachineOf plan lowered flows old)
-    (op : Op) (instruction : Instruction) (target : IsTarget plan.kernel op instruction.target) (v : ℤ) (new : Machine) (kept : IsKept instruction v old new) where
+-- there is room for signals and delays
+pub room_of : (plan : PlanView) (lowered : Lowered) → Lowers plan lowered → length plan.kernel.signals + length plan.kernel.signals ≤ length lowered.cells.items
+room_of plan lowered lowers = let d = lowers.cells in let s = lowers.signals in omega (arith, d, s)
+
+module _ (kernel : Kernel) (constants : List ℤ) (room : length kernel.signals + length kernel.signals ≤ length constants) (flows : List (List ℤ))
+    (old : Machine) (is : IsMachineFor (length kernel.signals) constants flows old)
+    (op : Op) (instruction : Instruction) (target : IsTarget kernel op instruction.target) (v : ℤ) (new : Machine) (kept : IsKept instruction v old new) where
   abbrev n : ℕ
-  n = length plan.kernel.signals
+  n = length kernel.signals
 
   abbrev at : ℕ
   at = instruction.target
 
   at_below : at < n + n
   at_below = by target where
-    by : IsTarget plan.kernel op at → at < n + n
+    by : IsTarget kernel op at → at < n + n
     by (inl (x, writes, none, below, same)) = omega (arith, below, same)
     by (inr (y, writes, some, below, same)) = omega (arith, below, same)
 
   pub target_within : at < length old.cells.items
-  target_within = let a = at_below in let b = is.cells in let d = lowers.cells in let s = lowers.signals in omega (arith, a, b, d, s)
+  target_within = let a = at_below in let b = is.cells in omega (arith, a, b, room)
 
   pub target_stamped : at < length old.stamps.items
   target_stamped = let a = target_within in let b = is.cells in let d = is.stamps in omega (arith, a, b, d)
@@ -113,7 +118,7 @@ module _ (plan : PlanView) (lowered : Lowered) (lowers : Lowers plan lowered) (f
 
   registers : registers_of new ≡ with_signal op.writes (Some v) (registers_of old)
   registers = by target where
-    by : IsTarget plan.kernel op at → registers_of new ≡ with_signal op.writes (Some v) (registers_of old)
+    by : IsTarget kernel op at → registers_of new ≡ with_signal op.writes (Some v) (registers_of old)
     by (inl (x, writes, none, below, same)) =
         let each : (signal : ℕ) → registers_of new signal ≡ with_at x.0 (Some v) (registers_of old) signal = λ signal. by_equal (λ b. registers_of new signal ≡ (if b then Some v else registers_of old signal)) signal x.0
         (λ e. own_register signal (omega (arith, e, below)) (e ∙ sym same)) (λ apart. other_register signal (λ less e. apart (e ∙ same))) in
@@ -141,9 +146,9 @@ module _ (plan : PlanView) (lowered : Lowered) (lowers : Lowers plan lowered) (f
       ∙ by_below (λ b. (if b then cell (set old.cells.items at v) (n + signal) else pos 0) ≡ v) signal n
       (λ below. ap (cell (set old.cells.items at v)) same ∙ or_same old.cells.items at v (pos 0) target_within) (λ most. absurd (omega (arith, less, most)))
 
-  memories : memories_of new ≡ with_signal (remembers plan.kernel op.kind) v (memories_of old)
+  memories : memories_of new ≡ with_signal (remembers kernel op.kind) v (memories_of old)
   memories = by target where
-    by : IsTarget plan.kernel op at → memories_of new ≡ with_signal (remembers plan.kernel op.kind) v (memories_of old)
+    by : IsTarget kernel op at → memories_of new ≡ with_signal (remembers kernel op.kind) v (memories_of old)
     by (inl (x, writes, none, below, same)) =
         let each : (signal : ℕ) → memories_of new signal ≡ memories_of old signal = λ signal. other_memory signal (λ less e. omega (arith, below, e, same)) in
         (λ j signal. each signal j) ∙ ap (λ o. with_signal o v (memories_of old)) (sym none)
@@ -185,7 +190,7 @@ module _ (plan : PlanView) (lowered : Lowered) (lowers : Lowers plan lowered) (f
         ∙ sym (by_kind op.kind (taken_of old))
 
     -- the actor behind the operation
-    pub behind : (step : ℕ) → actor_at new step ≡ operated plan.kernel op v (actor_at old step)
+    pub behind : (step : ℕ) → actor_at new step ≡ operated kernel op v (actor_at old step)
     behind step = λ j. let a : Actor = record {
       instant = kept.instant j;
       step = step;
@@ -209,7 +214,7 @@ module _ (plan : PlanView) (lowered : Lowered) (lowers : Lowers plan lowered) (f
       let one : old.instant ≡ stamp = cc in omega (arith, one))
       (λ apart. is.past number stamp (sym (get_other old.stamps.items at number old.instant apart) ∙ there))
 
-  pub machine_behind : IsMachineOf plan lowered flows new
+  pub machine_behind : IsMachineFor (length kernel.signals) constants flows new
   machine_behind = record {
     signals = kept.signals ∙ is.signals;
     cells = ap length kept.cells ∙ length-set old.cells.items at v ∙ is.cells;

@@ -1,6 +1,9 @@
 pub mod Prelude
-pub mod Works
-pub mod Machines
-pub mod Lowerings
-pub mod Sources
+pub mod ActorMachines
 pub mod Instants
+pub mod Lowerings
+pub mod Machines
+pub mod Present
+pub mod Sources
+pub mod Truths
+pub mod Works

@@ -17,6 +17,11 @@ abbrev pub registers_of : Machine → Registers
 registers_of m signal =
     if nat_lt signal m.signals then stamped m.instant (slice_get m.stamps.items signal) (cell m.cells.items signal) else None
 
+-- what each signal was when it was written last, as far as that was in this instant
+abbrev pub registers_at : ℕ → Machine → Registers
+registers_at instant m signal =
+    if nat_lt signal m.signals then stamped instant (slice_get m.stamps.items signal) (cell m.cells.items signal) else None
+
 -- what is remembered for the delay that defines a signal, by the cells behind those of so many signals
 abbrev pub memories_at : ℕ → List ℤ → ℕ → ℤ
 memories_at signals cells signal = if nat_lt signal signals then cell cells (signals + signal) else pos 0
@@ -42,12 +47,16 @@ actor_at m step = record {
 abbrev pub HaveConstants : ℕ → List ℤ → List ℤ → Type 0
 HaveConstants signals constants cells = (number : ℕ) → signals + signals ≤ number → number < length constants → cell cells number ≡ cell constants number
 
--- A machine is one of a plan in this form, over these flows.
-pub record IsMachineOf (plan : PlanView) (lowered : Lowered) (flows : List (List ℤ)) (m : Machine) : Type 0 where
-  pub signals : m.signals ≡ length plan.kernel.signals
-  pub cells : length m.cells.items ≡ length lowered.cells.items
-  pub stamps : length m.stamps.items ≡ length lowered.cells.items
-  pub constants : HaveConstants m.signals lowered.cells.items m.cells.items
+-- A machine has so many signals and these constants, and is one over these flows.
+pub record IsMachineFor (count : ℕ) (held : List ℤ) (flows : List (List ℤ)) (m : Machine) : Type 0 where
+  pub signals : m.signals ≡ count
+  pub cells : length m.cells.items ≡ length held
+  pub stamps : length m.stamps.items ≡ length held
+  pub constants : HaveConstants m.signals held m.cells.items
   pub inputs : length m.taken.items ≡ length flows
   -- no cell was written after the instant
   pub past : (number stamp : ℕ) → slice_get m.stamps.items number ≡ Some stamp → stamp ≤ m.instant
+
+-- A machine is one of a plan in this form, over these flows.
+abbrev pub IsMachineOf : PlanView → Lowered → List (List ℤ) → Machine → Type 0
+IsMachineOf plan lowered flows m = IsMachineFor (length plan.kernel.signals) lowered.cells.items flows m

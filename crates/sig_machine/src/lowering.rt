@@ -39,7 +39,7 @@ pub fn lower(alloc: Global, plan: &Plan) -> Result<Lowered, AllocError>
 }
 
 /// The cells of the signals, and those of the delays with their initial values.
-fn opening_cells(alloc: Global, kernel: &Kernel) -> Result<Vec<i64>, AllocError>
+pub(crate) fn opening_cells(alloc: Global, kernel: &Kernel) -> Result<Vec<i64>, AllocError>
     requires { IsValid kernel.now }
     ensures count { IfOk result (λ cells. length cells.items ≡ length kernel.now.signals + length kernel.now.signals) }
     ensures opening { IfOk result (λ cells. memories_at (length kernel.now.signals) cells.items ≡ initial_in kernel.now.equations) }
@@ -59,7 +59,7 @@ fn zeros(alloc: Global, count: usize) -> Result<Vec<i64>, AllocError>
 }
 
 /// The cell that an operation writes.
-fn target_of(kernel: &Kernel, op: &Op) -> u32
+pub(crate) fn target_of(kernel: &Kernel, op: &Op) -> u32
     requires valid { IsValid kernel.now }
     requires shape { HasShape kernel.now op.now }
     ensures { IsTarget kernel.now op.now result }
@@ -84,7 +84,7 @@ fn memory_cell(kernel: &Kernel, y: SigId) -> u32
 }
 
 /// What gives the value of an operation.
-fn work_of(kernel: &Kernel, op: &Op, cells: &mut Vec<i64>) -> Result<Work, AllocError>
+pub(crate) fn work_of(kernel: &Kernel, op: &Op, cells: &mut Vec<i64>) -> Result<Work, AllocError>
     requires valid { IsValid kernel.now }
     requires shape { HasShape kernel.now op.now }
     requires cells { length kernel.now.signals + length kernel.now.signals ≤ length cells.old.items }

@@ -2,7 +2,7 @@
 
 ghost use Rattle.std.specs.Prelude.{◌≡◌, ◌+◌, ◌<◌, ◌^◌};
 ghost use Rattle.sig_machine.specs.Prelude.{ℕ, ℤ, List, IfOk, replicate, AreFlowsFor, opening_actor, PlanView, at_next};
-ghost use Rattle.sig_machine.specs.Machines.{IsMachineOf, actor_at, cell, registers_of};
+ghost use Rattle.sig_machine.specs.Machines.{IsMachineOf, actor_at, cell, registers_at, registers_of};
 ghost use Rattle.sig_machine.specs.Lowerings.{Lowers};
 ghost use Rattle.sig_machine.specs.declared.lowered.Lowered.{Lowered};
 
@@ -50,22 +50,29 @@ impl Machine {
     pub fn seen(&self, x: SigId) -> Option<i64>
         ensures { result ≡ registers_of self.now x.0 }
     {
+        self.seen_at(x, self.instant)
+    }
+
+    /// What a signal of the plan was when it was written last, if that was in this instant.
+    pub(crate) fn seen_at(&self, x: SigId, instant: u32) -> Option<i64>
+        ensures { result ≡ registers_at instant self.now x.0 }
+    {
         if x.0 as usize >= self.signals {
             return None;
         }
         let stamp = self.stamps.as_slice().get(x.0 as usize)?;
-        if *stamp == self.instant {
-            Some(self.cell(x.0))
+        if *stamp == instant {
+            Some(self.cell(x.0 as usize))
         } else {
             None
         }
     }
 
     /// The value of a cell.
-    fn cell(&self, number: u32) -> i64
+    pub(crate) fn cell(&self, number: usize) -> i64
         ensures { result ≡ cell self.now.cells.items number }
     {
-        match self.cells.as_slice().get(number as usize) {
+        match self.cells.as_slice().get(number) {
             Some(value) => *value,
             None => 0,
         }
@@ -84,14 +91,14 @@ impl Machine {
 }
 
 /// So many stamps of which none is that of an instant.
-fn unwritten(alloc: Global, count: usize) -> Result<Vec<u32>, AllocError>
+pub(crate) fn unwritten(alloc: Global, count: usize) -> Result<Vec<u32>, AllocError>
     ensures { IfOk result (λ stamps. stamps.items ≡ replicate count 0) }
 {
     vec![in alloc; 0; count]
 }
 
 /// So many counts of nothing.
-fn untaken(alloc: Global, count: usize) -> Result<Vec<usize>, AllocError>
+pub(crate) fn untaken(alloc: Global, count: usize) -> Result<Vec<usize>, AllocError>
     ensures { IfOk result (λ counts. counts.items ≡ replicate count 0) }
 {
     vec![in alloc; 0; count]

@@ -1,14 +1,14 @@
 //! The parts of a plan.
 
 ghost use Rattle.std.specs.Prelude.{◌≡◌, ◌<◌};
-ghost use Rattle.sig_machine.specs.Prelude.{length, IsAccepted, StandsAt};
+ghost use Rattle.sig_machine.specs.Prelude.{IfNone, IfSome, None, Some, length, slice_get, IsAccepted, StandsAt, code_of};
 ghost use Rattle.sig_machine.specs.Lowerings.{HasShape};
 ghost use Rattle.sig_machine.specs.Works.{named};
 
 use sig_base::{EqId, OpId, SigId};
 use sig_dd::Store;
 use sig_kernel::Kernel;
-use sig_plan::{Cause, Op, Plan};
+use sig_plan::{Cause, Op, Plan, Step};
 
 /// A law: each plan is an accepted one.
 pub(crate) fn plans_are_accepted(plan: &Plan)
@@ -65,6 +65,26 @@ pub(crate) fn op_at(plan: &Plan, place: usize) -> &Op
     let order = order_of(plan);
     let ops = ops_of(plan);
     &ops[order[place].0 as usize]
+}
+
+/// The operation of a number, where there is one.
+pub(crate) fn op_of(plan: &Plan, o: OpId) -> Option<&Op>
+    ensures op { IfSome result (λ op. slice_get plan.now.ops o.0 ≡ Some op.now) }
+    ensures shape { IfSome result (λ op. HasShape plan.now.kernel op.now) }
+    ensures none { IfNone result (slice_get plan.now.ops o.0 ≡ None) }
+{
+    match ops_of(plan).get(o.0 as usize) {
+        Some(op) => Some(op),
+        None => None,
+    }
+}
+
+/// The steps of the code of an actor.
+pub(crate) fn steps_of(plan: &Plan, actor: u32) -> &[Step]
+    requires { actor < length plan.now.codes }
+    ensures { result.now ≡ (code_of plan.now actor).steps }
+{
+    plan.codes[actor as usize].steps()
 }
 
 /// A cause, with an equation in place of the one that it names.

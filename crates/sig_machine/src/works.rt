@@ -14,7 +14,7 @@ use sig_plan::Cause;
 use sig_values::{computed_of_one, computed_of_two, next_value};
 
 /// An instruction does not know its equation.
-const NO_EQUATION: EqId = EqId(0);
+pub(crate) const NO_EQUATION: EqId = EqId(0);
 
 impl Machine {
     /// Does an instruction, or tells why it has no value.
@@ -78,7 +78,7 @@ impl Machine {
 
     /// Puts a value into a cell.
     #[inline(always)]
-    fn put(&mut self, target: u32, value: i64)
+    pub(crate) fn put(&mut self, target: u32, value: i64)
         requires cells { target < length self.old.cells.items }
         requires stamps { target < length self.old.stamps.items }
         ensures { IsPut target value self.old self.new }
@@ -111,7 +111,7 @@ impl Machine {
     }
 
     /// Keeps the value of an instruction.
-    fn keep(&mut self, instruction: Instruction, value: i64)
+    pub(crate) fn keep(&mut self, instruction: Instruction, value: i64)
         requires cells { instruction.target < length self.old.cells.items }
         requires stamps { instruction.target < length self.old.stamps.items }
         requires input { IfSome (input_taken instruction.work) (λ x. x.0 < length self.old.taken.items) }

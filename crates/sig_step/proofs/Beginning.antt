@@ -1,5 +1,5 @@
 -- The state of an actor at the opening.
-use Rattle.sig_step.proofs.Common.{◌≡◌, ◌<◌, ◌≤◌, ◌+◌, ◌^◌, ◌∙◌, ℕ, zero, suc, ℤ, false, List, length, replicate, slice_get, None, Some, sym, ap, subst, arith, length-replicate, Registers, code_of, position_of, IsRunnable, PlanView, AreMarksAt, IsStateOf, ClusterState, Mark, some_is, AreValuesOf, instant_of, seen_in}
+use Rattle.sig_step.proofs.Common.{◌≡◌, ◌<◌, ◌≤◌, ◌+◌, ◌^◌, ◌∙◌, ℕ, zero, suc, ℤ, false, List, length, replicate, slice_get, None, Some, sym, ap, subst, arith, length-replicate, Registers, code_of, position_of, IsRunnable, PlanView, AreMarksAt, IsStateOf, ClusterState, Mark, some_is, IsMachineOfActor, instant_of, seen_in}
 
 -- a guard that was not met yet
 abbrev pub unknown : Mark
@@ -24,7 +24,7 @@ none_known plan actor instant registers marks later is =
 
 pub opened : (plan : PlanView) (flows : List (List ℤ)) (s : ClusterState) → IsRunnable plan → s.actor < length plan.codes → s.limit + 1 < 2 ^ 32
     → s.step ≡ 0 → length (code_of plan s.actor).steps < 2 ^ 32 → s.pos ≡ position_of (slice_get (code_of plan s.actor).steps 0)
-    → AreValuesOf plan flows s.values → instant_of s.values ≡ 1 → s.marks.items ≡ replicate (length (code_of plan s.actor).slots) unknown
+    → IsMachineOfActor plan s.actor flows s.values → instant_of s.values ≡ 1 → s.marks.items ≡ replicate (length (code_of plan s.actor).slots) unknown
     → IsStateOf plan flows s
 opened plan flows s runnable actor limit first short position values opening marks =
     let later : 1 ≤ instant_of s.values = omega (arith, opening) in

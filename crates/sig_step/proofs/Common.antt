@@ -1,6 +1,7 @@
 -- What the proofs of this crate cite of std, of the crates below and of its own specs, passed on from one place.
-pub use Rattle.std.proofs.Common.{Bool, Contains, Err, IfErr, List, None, Ok, Option, Result, Some, [], ap, append_assoc, arith, cond, false, get_or, if◌then◌else◌, inl, inr, length, length-append, length-set, map, nat_lt, refl, replicate, set, slice_get, slice_index_or, subst, suc, sym, true, unwrap_or, zero, ℕ, ℤ, ◌&&◌, ◌++◌, ◌+◌, ◌<◌, ◌^◌, ◌∙◌, ◌∷◌, ◌≡◌, ◌≢◌, ◌≤◌, ◌⊎◌}
+pub use Rattle.std.proofs.Common.{Bool, Contains, Err, IfErr, IfSome, List, None, Ok, Option, Result, Some, [], ap, append_assoc, arith, cond, false, get_or, if◌then◌else◌, inl, inr, length, length-append, length-set, map, nat_lt, refl, replicate, rules, set, slice_get, slice_index_or, subst, suc, sym, true, unwrap_or, w64, zero, ℕ, ℤ, ◌&&◌, ◌++◌, ◌+◌, ◌<◌, ◌^◌, ◌∙◌, ◌∷◌, ◌≡◌, ◌≢◌, ◌≤◌, ◌⊎◌}
 pub use Rattle.std.proofs.lemmas.Bool.Decides.{eqb_tells}
+pub use Rattle.std.proofs.lemmas.Int.{to_z-of_z}
 pub use Rattle.std.proofs.lemmas.Option.{slice_get-get_or, slice_get_read, slice_get_within}
 pub use Rattle.sig_dd.specs.Diagram.{Choice, Constant, Diagram}
 unfoldable pub use Rattle.sig_dd.specs.Diagram.{Tests, visited, with_truth}
@@ -8,19 +9,22 @@ pub use Rattle.sig_dd.specs.Nodes.{IsReduced, diagram}
 pub use Rattle.sig_dd.proofs.Canonical.{proper}
 pub use Rattle.sig_dd.proofs.Functions.{tests_spanned}
 pub use Rattle.sig_dd.proofs.Trees.{IsProper, Tests-later}
-pub use Rattle.sig_model.specs.Runnable.{FillsAt, IsInSlot}
-pub use Rattle.sig_values.specs.Values.{AreAlike, AreValuesOf, actor_at, conditions_in, instant_of, last_in, seen_in, taken_in}
-pub use Rattle.sig_values.specs.declared.values.Values.{Values}
-pub use Rattle.sig_values.proofs.Behind.{faults_it, gives_it}
-pub use Rattle.sig_values.proofs.Writing.{get_set_other, get_set_same, some_is}
+pub use Rattle.sig_model.specs.Runnable.{FillsAt, IsInSlot, IsThere}
+pub use Rattle.sig_machine.specs.ActorMachines.{IsMachineOfActor, IsOpOfStep, IsStepDone, actor_in, instant_of, last_in, seen_in, truths_in}
+pub use Rattle.sig_machine.specs.declared.actor.ActorMachine.{ActorMachine}
+pub use Rattle.sig_machine.proofs.Doing.{faults_it, gives_it}
+pub use Rattle.sig_machine.proofs.Insides.{told_truths}
+pub use Rattle.sig_machine.proofs.Lists.{get_set_other, get_set_same, some_is}
 pub use Rattle.sig_meaning.proofs.Common.{Node, memory_of, truth_of}
+pub use Rattle.sig_plan.proofs.Common.{NamesWithin}
+pub use Rattle.sig_plan.proofs.Naming.{step_names}
 pub use Rattle.sig_schedules.proofs.Collecting.{commit_last}
-pub use Rattle.sig_schedules.proofs.Common.{Actor, AtLimit, Cause, CodeView, Commit, Compute, DelayRead, Depends, Do, Fails, Faults, Gives, Goes, IsRunnable, Kernel, Left, Op, OpId, OpKind, Outcome, Place, PlanView, Read, Registers, Right, SigId, Slot, Step, StepKind, Stopped, Store, Turn, code_of, fills, is_true, length-replicate, moved_on, next_place, no_code, no_registers, operated, outcome, outcome_by, position_of, reaction_in, slot_holds, target_of_op, test, truths_of, turn, turn_at, turn_by, turn_of_op, turn_with, with_at, with_signal}
+pub use Rattle.sig_schedules.proofs.Common.{Actor, AtLimit, Cause, CodeView, Commit, Compute, DelayRead, Depends, Do, Fails, Faults, Gives, Goes, IsRunnable, Kernel, Left, Op, OpId, OpKind, Outcome, Place, PlanView, Read, Registers, Right, SigId, Slot, Step, StepKind, Stopped, Store, Takes, Turn, code_of, fills, is_true, length-replicate, moved_on, next_place, no_code, no_registers, operated, outcome, outcome_by, position_of, reaction_in, received, slot_holds, target_of_op, test, truths_of, turn, turn_at, turn_by, turn_of_op, turn_with, with_at, with_signal}
 pub use Rattle.sig_step.specs.Acting.{Acts, CountsAt, CountsNeeds, CountsWalk, Finds, NamesNoLink, TakesTurn}
 pub use Rattle.sig_step.specs.GoingOn.{ActsOn, DoesStep, DoesSteps}
-pub use Rattle.sig_step.specs.LinkEnds.{Asks, BothTell, Nothing, Past, PastGoesOn, Queues, QueuesGoOn}
+pub use Rattle.sig_step.specs.LinkEnds.{Asks, BothTell, Nothing, Past, PastGoesOn, Popped, Queues, QueuesGoOn}
 pub use Rattle.sig_step.specs.Moving.{CanRun, IsMet, IsReady, IsSameActor, IsSlotMet, MayGoOn, MovesOn, StaysMet}
-pub use Rattle.sig_step.specs.Plain.{DoesPlain, DoesPlainSteps, FailsAt, answered_as}
+pub use Rattle.sig_step.specs.Plain.{DoesPlain, DoesPlainSteps, FailsAt, answered_as, done_as}
 pub use Rattle.sig_step.specs.States.{AreMarks, AreMarksAt, IsStateOf, KnowsGuard, actor_of, cause_by, cause_of_op, known_in, mark_holds, mark_is_met, parent_holds, place_of}
 pub use Rattle.sig_step.specs.declared.answer.Acted.{Acted}
 pub use Rattle.sig_step.specs.declared.answer.Acted.TheVariants.{AtLimit as AtTheLimit, Commit as CommitDone, Done, Empty, Failed, Full, Stopped as HasStopped}

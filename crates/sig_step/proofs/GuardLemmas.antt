@@ -1,5 +1,5 @@
 -- The guards of an actor's slots, which are known in an instant once they were met.
-use Rattle.sig_step.proofs.Common.{◌≡◌, ◌<◌, ◌≤◌, ◌⊎◌, ◌∙◌, ◌&&◌, ℕ, Bool, true, false, List, length, get_or, slice_get, set, Option, None, Some, refl, sym, ap, subst, inl, inr, arith, length-set, eqb_tells, slice_get-get_or, slice_get_within, SigId, test, code_of, slot_holds, truths_of, IsRunnable, PlanView, Slot, Step, get_set_other, get_set_same, some_is, conditions_in, instant_of, seen_in, CountsNeeds, CountsWalk, IsSlotMet, AreMarks, KnowsGuard, known_in, mark_holds, mark_is_met, parent_holds, ClusterState, Mark}
+use Rattle.sig_step.proofs.Common.{◌≡◌, ◌<◌, ◌≤◌, ◌⊎◌, ◌∙◌, ◌&&◌, ℕ, Bool, true, false, List, length, get_or, slice_get, set, Option, None, Some, refl, sym, ap, subst, inl, inr, arith, length-set, eqb_tells, slice_get-get_or, slice_get_within, test, code_of, slot_holds, truths_of, IsRunnable, PlanView, Slot, Step, get_set_other, get_set_same, some_is, instant_of, seen_in, CountsNeeds, CountsWalk, IsSlotMet, AreMarks, KnowsGuard, known_in, mark_holds, mark_is_met, parent_holds, ClusterState, Mark}
 
 and_drops : (p q : Bool) → (q ≡ true → p ≡ true) → (p && q) ≡ q
 and_drops true q h = refl
@@ -35,11 +35,11 @@ module _ (plan : PlanView) (s : ClusterState) (runnable : IsRunnable plan) (mark
       let above_holds : test plan.store.nodes above.guard (truths_of plan.clocks.conditions (seen_in s.values)) ≡ true = implies (truths_of plan.clocks.conditions (seen_in s.values)) holds in
       ap mark_holds marked_p ∙ known ∙ ap (slot_holds plan.store.nodes (truths_of plan.clocks.conditions (seen_in s.values))) above_is ∙ above_holds
 
-  pub walk_value : (result : Bool) → (conditions_in s.values) ≡ plan.clocks.conditions
-      → result ≡ (parent_holds s slot.parent && test plan.store.nodes slot.guard (truths_of (conditions_in s.values) (seen_in s.values)))
+  pub walk_value : (result : Bool)
+      → result ≡ (parent_holds s slot.parent && test plan.store.nodes slot.guard (truths_of plan.clocks.conditions (seen_in s.values)))
       → result ≡ slot_holds plan.store.nodes (truths_of plan.clocks.conditions (seen_in s.values)) (slice_get (code_of plan s.actor).slots number)
-  walk_value result same is =
-      is ∙ ap (λ (cs : List SigId). parent_holds s slot.parent && test plan.store.nodes slot.guard (truths_of cs (seen_in s.values))) same
+  walk_value result is =
+      is
       ∙ and_drops (parent_holds s slot.parent) (test plan.store.nodes slot.guard (truths_of plan.clocks.conditions (seen_in s.values))) (parent_known slot.parent refl)
       ∙ sym (ap (slot_holds plan.store.nodes (truths_of plan.clocks.conditions (seen_in s.values))) there)
 

@@ -1,7 +1,6 @@
 -- Plain steps of an actor: those that ask no link and walk no guard.
-use Rattle.sig_step.proofs.Common.{◌≡◌, ◌≤◌, ◌∙◌, ℕ, zero, suc, ℤ, Bool, true, false, List, length, nat_lt, slice_get, Option, None, Some, refl, sym, ap, subst, arith, cond, IfErr, Result, Ok, Err, Place, Kernel, Actor, code_of, moved_on, slot_holds, truths_of, AtLimit, Goes, Stopped, Turn, turn, turn_at, turn_by, PlanView, Step, StepKind, Acts, CountsAt, Nothing, IsReady, IsSameActor, IsSlotMet, CanRun, MayGoOn, MovesOn, DoesPlain, DoesPlainSteps, FailsAt, answered_as, AreMarks, IsStateOf, actor_of, Acted, Done, Failed, ClusterState, some_is, instant_of, seen_in}
+use Rattle.sig_step.proofs.Common.{◌≡◌, ◌≤◌, ◌∙◌, ℕ, suc, ℤ, Bool, true, false, List, length, nat_lt, slice_get, Option, None, Some, refl, sym, ap, subst, arith, cond, IfErr, Result, Ok, Err, Place, Kernel, Actor, code_of, moved_on, slot_holds, truths_of, AtLimit, Goes, Stopped, Turn, turn, turn_at, turn_by, PlanView, Step, Acts, CountsAt, Nothing, IsSameActor, IsSlotMet, MayGoOn, MovesOn, DoesPlain, DoesPlainSteps, FailsAt, answered_as, AreMarks, IsStateOf, actor_of, Acted, Done, Failed, ClusterState, some_is, instant_of, seen_in}
 use Rattle.sig_step.proofs.Going.{no_further}
-use Rattle.sig_step.proofs.Several.{same_actor_then}
 
 -- a count that does not rise is that of any step
 no_count : (plan : PlanView) (s : ClusterState) (step : Option Step) (count : ℕ) → CountsAt plan s step count count

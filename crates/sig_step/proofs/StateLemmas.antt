@@ -1,5 +1,5 @@
 -- A state stays one of its actor while the actor does its steps.
-use Rattle.sig_step.proofs.Common.{◌≡◌, ◌<◌, ◌≤◌, ◌+◌, ◌∙◌, ◌^◌, ℕ, ℤ, Bool, true, false, List, length, nat_lt, slice_get, if◌then◌else◌, Option, Some, refl, sym, ap, subst, arith, SigId, Actor, code_of, no_registers, position_of, with_signal, FillsAt, IsRunnable, PlanView, MayGoOn, MovesOn, IsStateOf, actor_of, ClusterState, AreValuesOf, instant_of, seen_in, Values}
+use Rattle.sig_step.proofs.Common.{◌≡◌, ◌<◌, ◌≤◌, ◌+◌, ◌∙◌, ◌^◌, ℕ, ℤ, Bool, true, false, List, length, nat_lt, slice_get, if◌then◌else◌, IfSome, IsThere, None, Option, Some, refl, sym, ap, subst, arith, SigId, Actor, code_of, no_registers, position_of, with_signal, FillsAt, IsRunnable, PlanView, MayGoOn, MovesOn, IsStateOf, actor_of, ClusterState, IsMachineOfActor, instant_of, seen_in, ActorMachine}
 use Rattle.sig_step.proofs.MarkLemmas.{marks_filled, marks_moved, same_marks}
 
 module _ (plan : PlanView) (flows : List (List ℤ)) (s new : ClusterState) (may : MayGoOn plan flows s) (moves : MovesOn plan s new) where
@@ -27,13 +27,13 @@ module _ (plan : PlanView) (flows : List (List ℤ)) (s new : ClusterState) (may
         step = subst (λ (k : ℕ). new.step < length (code_of plan k).steps) (sym same) below;
         short = subst (λ (k : ℕ). length (code_of plan k).steps < 2 ^ 32) (sym same) may.state.short;
         position = moves.position ∙ ap (λ (k : ℕ). position_of (slice_get (code_of plan k).steps new.step)) (sym same);
-        values = moves.values flows may.state.values;
+        values = subst (λ (k : ℕ). IsMachineOfActor plan k flows new.values) (sym same) (moves.values flows may.state.values);
         marks = marks_moved plan s new may.state.marks may.met moves;
       }
 
 -- an actor may go on with values in which the signal of its step is filled, if there is one
 pub may_with : (plan : PlanView) (flows : List (List ℤ)) (s : ClusterState) → IsRunnable plan → MayGoOn plan flows s
-    → (v : Values) → AreValuesOf plan flows v → instant_of v ≡ instant_of s.values
+    → (v : ActorMachine) → IsMachineOfActor plan s.actor flows v → instant_of v ≡ instant_of s.values
     → (target : Option SigId) (value : ℤ) → seen_in v ≡ with_signal target (Some value) (seen_in s.values)
     → ((x : SigId) → target ≡ Some x → FillsAt plan s.actor s.step x) → MayGoOn plan flows (record s { values = v })
 may_with plan flows s runnable may v are same target value seen filled = record {
@@ -52,3 +52,24 @@ may_with plan flows s runnable may v are same target value seen filled = record 
   runs = subst (λ (n : ℕ). n ≤ s.limit) (sym same) may.runs;
   met = λ step at. let (mark, marked, now) = may.met step at in (mark, marked, now ∙ sym same);
 }
+
+-- a state that has ended is one of its actor still
+pub state_ended : (plan : PlanView) (flows : List (List ℤ)) (s : ClusterState) → IsStateOf plan flows s → (v : ActorMachine) → v ≡ s.values
+    → IsStateOf plan flows (record s { values = v; ended = true })
+state_ended plan flows s state v same =
+    subst (λ (w : ActorMachine). IsStateOf plan flows (record s { values = w; ended = true })) (sym same) (record {
+      actor = state.actor;
+      limit = state.limit;
+      from = state.from;
+      within = state.within;
+      step = state.step;
+      short = state.short;
+      position = state.position;
+      values = state.values;
+      marks = state.marks;
+    })
+
+-- a signal that is there, where there is one
+pub if_signal : (plan : PlanView) (target : Option SigId) → IsThere plan target → IfSome target (λ x. x.0 < length plan.kernel.signals)
+if_signal plan None there = tt
+if_signal plan (Some x) there = there x refl

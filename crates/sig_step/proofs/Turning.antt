@@ -30,7 +30,7 @@ finds_none found_full found_empty AtTheLimit names ends = tt
 finds_none found_full found_empty HasStopped names ends = tt
 
 -- the code of an actor is there
-coded : (plan : PlanView) (k : ℕ) → k < length plan.codes → slice_get plan.codes k ≡ Some (code_of plan k)
+pub coded : (plan : PlanView) (k : ℕ) → k < length plan.codes → slice_get plan.codes k ≡ Some (code_of plan k)
 coded plan k below =
     let there : slice_get plan.codes k ≡ Some (get_or plan.codes k no_code) = slice_get-get_or plan.codes k no_code below in
     there ∙ ap Some (sym (ap (λ (o : Option CodeView). unwrap_or o no_code) there))

@@ -1,6 +1,6 @@
 -- How a state goes on to the next step.
 use Rattle.std.specs.Prelude.{◌≡◌, ◌≤◌}
-use Rattle.sig_step.specs.Prelude.{ℕ, ℤ, List, false, length, slice_get, Some, code_of, moved_on, position_of, IsRunnable, IsAccepted, PlanView, Step, StepKind, AreValuesOf, instant_of, last_in, seen_in}
+use Rattle.sig_step.specs.Prelude.{ℕ, ℤ, List, false, length, slice_get, Some, code_of, moved_on, position_of, IsRunnable, IsAccepted, PlanView, Step, StepKind, IsMachineOfActor, instant_of, last_in, seen_in}
 use Rattle.sig_step.specs.States.{IsStateOf, actor_of}
 use Rattle.sig_step.specs.declared.answer.Acted.{Acted}
 use Rattle.sig_step.specs.declared.answer.Acted.TheVariants.{Done, Commit, Empty, Full, Failed, AtLimit, Stopped}
@@ -55,7 +55,7 @@ pub record MovesOn (plan : PlanView) (old new : ClusterState) : Type 0 where
   pub actor : actor_of new ≡ moved_on (length (code_of plan old.actor).steps) (actor_of old)
   pub same : IsSameActor old new
   pub position : new.pos ≡ position_of (slice_get (code_of plan old.actor).steps new.step)
-  pub values : (flows : List (List ℤ)) → AreValuesOf plan flows old.values → AreValuesOf plan flows new.values
+  pub values : (flows : List (List ℤ)) → IsMachineOfActor plan old.actor flows old.values → IsMachineOfActor plan old.actor flows new.values
   pub marks : new.marks ≡ old.marks
   -- at a next instant what was seen in this one is what was seen last
   pub last : new.step ≡ 0 → last_in new.values ≡ seen_in old.values

@@ -15,6 +15,11 @@ answered_as (Ok true) = Done
 answered_as (Ok false) = Stopped
 answered_as (Err place) = Failed place
 
+-- what it answers of an operation that is there
+abbrev pub done_as : {U : Type 0} → Result U Place → Acted
+done_as (Ok done) = Done
+done_as (Err place) = Failed place
+
 -- one plain step, as a call of `act` does it that answers this
 pub record DoesPlain (plan : PlanView) (flows : List (List ℤ)) (acted : Acted) (old new : ClusterState) : Type 0 where
   pub state : IsStateOf plan flows new

@@ -8,6 +8,6 @@ pub use Rattle.sig_model.specs.Operating.{Faults, Gives, Outcome, outcome}
 pub use Rattle.sig_model.specs.Prelude.{Cause, Collect, Commit, Depends, Do, Holds, Kernel, Limit, Node, Op, Place, PlanView, Receive, Report, Send, SigId, Slot, Step, StepKind, outputs_of, seen_lines, test}
 pub use Rattle.sig_model.specs.Runnable.{FillsAt, IsRunnable, IsThere}
 pub use Rattle.sig_model.specs.Turns.{AtLimit, Commits, Fails, Goes, Puts, Reaction, Stopped, Takes, Turn, carried, item_of, received, turn, turn_at, turn_by}
-pub use Rattle.sig_values.specs.Values.{AreValuesOf, actor_at, conditions_in, instant_of, last_in, seen_in}
+pub use Rattle.sig_machine.specs.ActorMachines.{IsMachineOfActor, actor_in, instant_of, last_in, seen_in, truths_in}
 pub use Rattle.sig_alone.specs.Lines.{line_at}
 pub use Rattle.sig_alone.specs.Prelude.{AreFlowsFor, IsAccepted, Registers, Rose, TookPrefix, opening_actor, reaction_in, truths_of}

@@ -1,12 +1,12 @@
 -- What the state of an actor means, and when it is one of an actor of a plan.
 use Rattle.std.specs.Prelude.{◌≡◌, ◌<◌, ◌≤◌, ◌+◌, ◌^◌, ◌==◌, if◌then◌else◌}
-use Rattle.sig_step.specs.Prelude.{ℕ, ℤ, Bool, true, List, length, slice_get, Option, None, Some, Place, Kernel, Actor, Registers, code_of, position_of, slot_holds, truths_of, Faults, Gives, Outcome, outcome, Reaction, reaction_in, PlanView, Step, StepKind, Do, Send, Receive, Report, Collect, Commit, Cause, Limit, Op, AreValuesOf, actor_at, instant_of, last_in, seen_in}
+use Rattle.sig_step.specs.Prelude.{ℕ, ℤ, Bool, true, List, length, slice_get, Option, None, Some, Place, Kernel, Actor, Registers, code_of, position_of, slot_holds, truths_of, Faults, Gives, Outcome, outcome, Reaction, reaction_in, PlanView, Step, StepKind, Do, Send, Receive, Report, Collect, Commit, Cause, Limit, Op, IsMachineOfActor, actor_in, instant_of, last_in, seen_in}
 use Rattle.sig_step.specs.declared.state.ClusterState.{ClusterState}
 use Rattle.sig_step.specs.declared.state.Mark.{Mark}
 
 -- the actor that a state is
 abbrev pub actor_of : ClusterState → Actor
-actor_of s = record (actor_at s.values s.step) { ended = s.ended }
+actor_of s = record (actor_in s.values s.step) { ended = s.ended }
 
 -- which actor of the plan it is, and up to which instant it runs
 abbrev pub number_of : ClusterState → ℕ
@@ -50,7 +50,7 @@ pub record IsStateOf (plan : PlanView) (flows : List (List ℤ)) (s : ClusterSta
   pub step : s.step < length (code_of plan s.actor).steps
   pub short : length (code_of plan s.actor).steps < 2 ^ 32
   pub position : s.pos ≡ position_of (slice_get (code_of plan s.actor).steps s.step)
-  pub values : AreValuesOf plan flows s.values
+  pub values : IsMachineOfActor plan s.actor flows s.values
   pub marks : AreMarks plan s
 
 -- whether a guard holds, where that is known in this instant

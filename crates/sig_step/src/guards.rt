@@ -1,7 +1,7 @@
 //! The guards of an actor's steps.
 
 ghost use Rattle.std.specs.Prelude.{◌≡◌, ◌<◌, ◌&&◌};
-ghost use Rattle.sig_step.specs.Prelude.{ℕ, false, length, slice_get, slice_set, Some, Depends, Holds, test, IsRunnable, code_of, slot_holds, truths_of, Step, conditions_in, instant_of, seen_in};
+ghost use Rattle.sig_step.specs.Prelude.{ℕ, false, length, slice_get, slice_set, Some, Depends, Holds, test, IsRunnable, code_of, slot_holds, truths_of, Step, instant_of, seen_in, truths_in};
 ghost use Rattle.sig_step.specs.Acting.{CountsNeeds, CountsWalk};
 ghost use Rattle.sig_step.specs.Moving.{IsSlotMet};
 ghost use Rattle.sig_step.specs.States.{AreMarks, known_in, mark_holds, parent_holds};
@@ -32,7 +32,7 @@ impl ClusterState {
         steps: &mut Steps<L>,
     ) -> bool
         requires actor { self.old.actor < length plan.now.codes }
-        requires conditions { conditions_in self.old.values ≡ plan.now.clocks.conditions }
+        requires told { truths_in self.old.values ≡ truths_of plan.now.clocks.conditions (seen_in self.old.values) }
         requires marks { AreMarks plan.now self.old }
         requires runnable { IsRunnable plan.now }
         requires step { (step : Step) × (slice_get (code_of plan.now self.old.actor).steps self.old.step ≡ Some step) × (step.slot ≡ number) }
@@ -89,9 +89,10 @@ impl ClusterState {
     #[inline(always)]
     fn walk<L: Ledger>(&self, plan: &Plan, slot: Slot, steps: &mut Steps<L>) -> bool
         requires held { Holds plan.now.store.nodes slot.guard }
-        requires needs { (v : ℕ) → Depends (test plan.now.store.nodes slot.guard) v → v < length (conditions_in self.now.values) }
+        requires needs { (v : ℕ) → Depends (test plan.now.store.nodes slot.guard) v → v < length plan.now.clocks.conditions }
+        requires told { truths_in self.now.values ≡ truths_of plan.now.clocks.conditions (seen_in self.now.values) }
         ensures value { result ≡ (parent_holds self.now slot.parent
-            && test plan.now.store.nodes slot.guard (truths_of (conditions_in self.now.values) (seen_in self.now.values))) }
+            && test plan.now.store.nodes slot.guard (truths_of plan.now.clocks.conditions (seen_in self.now.values))) }
         ensures needs { CountsNeeds plan.now.store.nodes slot.guard steps.old steps.new }
         ensures parent { parent_holds self.now slot.parent ≡ false → steps.new ≡ steps.old }
     {

@@ -9,8 +9,8 @@ use crate::moving::position_of;
 use crate::plans::{code_at, plans_can_run};
 use crate::state::{ClusterState, Mark};
 use sig_kernel::Inputs;
+use sig_machine::ActorMachine;
 use sig_plan::Plan;
-use sig_values::Values;
 use std::alloc::{AllocError, Global};
 
 impl ClusterState {
@@ -42,7 +42,7 @@ impl ClusterState {
             step: 0,
             pos: position_of(code.steps(), 0),
             ended: false,
-            values: Values::new(alloc, plan, inputs)?,
+            values: ActorMachine::new(alloc, plan, actor, inputs)?,
             marks: unknown(alloc, code.slots().len())?,
         })
     }

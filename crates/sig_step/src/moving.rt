@@ -1,7 +1,7 @@
 //! How an actor goes on in its code.
 
 ghost use Rattle.std.specs.Prelude.{◌≡◌, ◌<◌, ◌+◌, ◌^◌};
-ghost use Rattle.sig_step.specs.Prelude.{ℤ, List, length, slice_get, Some, code_of, moved_on, position_of, PlanView, AreValuesOf, instant_of, last_in, seen_in};
+ghost use Rattle.sig_step.specs.Prelude.{ℕ, ℤ, List, length, slice_get, Some, code_of, moved_on, position_of, PlanView, IsMachineOfActor, instant_of, last_in, seen_in};
 ghost use Rattle.sig_step.specs.Moving.{MayGoOn, MovesOn};
 ghost use Rattle.sig_step.specs.States.{IsStateOf, actor_of};
 
@@ -58,9 +58,11 @@ impl ClusterState {
         requires step { self.old.step < count }
         requires short { count < 2 ^ 32 }
         requires instant { instant_of self.old.values + 1 < 2 ^ 32 }
+        requires machine { (plan : PlanView) × (k : ℕ) × (flows : List (List ℤ)) × IsMachineOfActor plan k flows self.old.values }
         ensures actor { actor_of self.new ≡ moved_on count (actor_of self.old) }
         ensures last { self.new.step ≡ 0 → last_in self.new.values ≡ seen_in self.old.values }
-        ensures values { (plan : PlanView) (flows : List (List ℤ)) → AreValuesOf plan flows self.old.values → AreValuesOf plan flows self.new.values }
+        ensures values { (plan : PlanView) (k : ℕ) (flows : List (List ℤ)) → IsMachineOfActor plan k flows self.old.values
+            → IsMachineOfActor plan k flows self.new.values }
         ensures stays { self.new ≡ record self.old { step = self.new.step; values = self.new.values } }
     {
         if self.step as usize + 1 < count {

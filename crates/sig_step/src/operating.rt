@@ -5,15 +5,14 @@ ghost use Rattle.sig_step.specs.Prelude.{false, Ok, code_of, turn_by, StepKind};
 ghost use Rattle.sig_step.specs.Acting.{Acts, NamesNoLink};
 ghost use Rattle.sig_step.specs.LinkEnds.{Nothing};
 ghost use Rattle.sig_step.specs.Moving.{IsReady, IsSameActor, StaysMet};
-ghost use Rattle.sig_step.specs.Plain.{answered_as};
+ghost use Rattle.sig_step.specs.Plain.{answered_as, done_as};
 ghost use Rattle.sig_step.specs.States.{IsStateOf, actor_of};
 
 use crate::answer::Acted;
-use crate::plans::ops_of;
 use crate::state::ClusterState;
 use sig_base::{OpId, Place};
 use sig_kernel::Inputs;
-use sig_plan::{Plan, StepKind};
+use sig_plan::{Plan, Step, StepKind};
 
 impl ClusterState {
     /// Does an operation, or ends where it has no value.
@@ -26,9 +25,9 @@ impl ClusterState {
         ensures met { StaysMet plan.now result self.new }
         ensures alone { NamesNoLink result }
     {
-        match self.do_operation(plan, inputs, o) {
-            Ok(true) => Acted::Done,
-            Ok(false) => Acted::Stopped,
+        let steps = self.code(plan);
+        match self.do_operation(plan, inputs, steps, o) {
+            Ok(()) => Acted::Done,
             Err(place) => Acted::Failed(place),
         }
     }
@@ -40,41 +39,46 @@ impl ClusterState {
         &mut self,
         plan: &Plan,
         inputs: &Inputs,
+        steps: &[Step],
         kind: StepKind,
     ) -> Result<bool, Place>
-        requires { IsReady plan.now inputs.now self.old kind }
+        requires ready { IsReady plan.now inputs.now self.old kind }
+        requires steps { steps.now ≡ (code_of plan.now self.old.actor).steps }
         ensures acts { (result ≡ Ok false → ⊥) → Acts plan.now.kernel (turn_by plan.now inputs.now (code_of plan.now self.old.actor) (actor_of self.old) kind) (answered_as result) self.old self.new Nothing }
         ensures left { result ≡ Ok false → self.new ≡ self.old }
         ensures state { IsStateOf plan.now inputs.now self.new }
         ensures same { IsSameActor self.old self.new }
     {
         match kind {
-            StepKind::Do(o) => self.do_operation(plan, inputs, o),
+            StepKind::Do(o) => match self.do_operation(plan, inputs, steps, o) {
+                Ok(()) => Ok(true),
+                Err(place) => Err(place),
+            },
             _ => Ok(false),
         }
     }
 
-    /// Does an operation, where there is one of this number, or ends where it has no value.
+    /// Does the operation of the next step, or ends where it has no value.
     #[inline(always)]
-    fn do_operation(&mut self, plan: &Plan, inputs: &Inputs, o: OpId) -> Result<bool, Place>
-        requires { IsReady plan.now inputs.now self.old (StepKind.Do o) }
-        ensures acts { Acts plan.now.kernel (turn_by plan.now inputs.now (code_of plan.now self.old.actor) (actor_of self.old) (StepKind.Do o)) (answered_as result) self.old self.new Nothing }
-        ensures left { result ≡ Ok false → self.new ≡ self.old }
+    fn do_operation(
+        &mut self,
+        plan: &Plan,
+        inputs: &Inputs,
+        steps: &[Step],
+        _o: OpId,
+    ) -> Result<(), Place>
+        requires ready { IsReady plan.now inputs.now self.old (StepKind.Do _o) }
+        requires steps { steps.now ≡ (code_of plan.now self.old.actor).steps }
+        ensures acts { Acts plan.now.kernel (turn_by plan.now inputs.now (code_of plan.now self.old.actor) (actor_of self.old) (StepKind.Do _o)) (done_as result) self.old self.new Nothing }
         ensures state { IsStateOf plan.now inputs.now self.new }
         ensures same { IsSameActor self.old self.new }
     {
-        let Some(op) = ops_of(plan).get(o.0 as usize) else {
-            return Ok(false);
-        };
-        match self.values.operate(plan, inputs, op) {
-            Ok(()) => {
-                self.move_on(plan);
-                Ok(true)
-            }
-            Err(_) => {
-                self.ended = true;
-                Err(self.next_place())
-            }
+        if self.values.follow(plan, self.actor, self.step, inputs) {
+            self.move_on_in(plan, steps);
+            Ok(())
+        } else {
+            self.ended = true;
+            Err(self.next_place())
         }
     }
 }

@@ -1,7 +1,7 @@
 //! Plain steps of an actor: those that ask no link and walk no guard.
 
 ghost use Rattle.std.specs.Prelude.{◌≡◌, ◌<◌, ◌≤◌};
-ghost use Rattle.sig_step.specs.Prelude.{ℕ, true, false, length, slice_get, IfErr, IfSome, None, Ok, OnOk, Some, code_of, slot_holds, truths_of, IsRunnable, Step, conditions_in, instant_of, seen_in};
+ghost use Rattle.sig_step.specs.Prelude.{ℕ, true, false, length, slice_get, IfErr, IfSome, None, Ok, OnOk, Some, code_of, slot_holds, truths_of, IsRunnable, Step, instant_of, seen_in, truths_in};
 ghost use Rattle.sig_step.specs.Moving.{CanRun, IsSameActor, IsSlotMet};
 ghost use Rattle.sig_step.specs.Plain.{DoesPlain, DoesPlainSteps, FailsAt};
 ghost use Rattle.sig_step.specs.States.{AreMarks, IsStateOf};
@@ -63,7 +63,7 @@ impl ClusterState {
             return Ok(false);
         };
         if holds {
-            return self.do_kind(plan, inputs, step.kind);
+            return self.do_kind(plan, inputs, steps, step.kind);
         }
         self.move_on_in(plan, steps);
         Ok(true)
@@ -74,7 +74,7 @@ impl ClusterState {
     #[inline(always)]
     fn known_guard(&mut self, plan: &Plan, slots: &[Slot], number: u32) -> Option<bool>
         requires actor { self.old.actor < length plan.now.codes }
-        requires conditions { conditions_in self.old.values ≡ plan.now.clocks.conditions }
+        requires told { truths_in self.old.values ≡ truths_of plan.now.clocks.conditions (seen_in self.old.values) }
         requires marks { AreMarks plan.now self.old }
         requires runnable { IsRunnable plan.now }
         requires step { (step : Step) × (slice_get (code_of plan.now self.old.actor).steps self.old.step ≡ Some step) × (step.slot ≡ number) }

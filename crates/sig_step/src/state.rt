@@ -6,8 +6,8 @@ ghost use Rattle.sig_step.specs.Prelude.{ℤ, List, false, true, length, slice_g
 use crate::moving::step_in;
 use crate::plans::code_at;
 use sig_base::Place;
+use sig_machine::ActorMachine;
 use sig_plan::{Plan, Step};
-use sig_values::Values;
 
 /// What is known of the guard of a slot.
 #[derive(Clone, Copy, Debug, PartialEq, Eq)]
@@ -28,7 +28,7 @@ pub struct ClusterState {
     /// The position of the next step.
     pub(crate) pos: u32,
     pub(crate) ended: bool,
-    pub(crate) values: Values,
+    pub(crate) values: ActorMachine,
     /// By slot.
     pub(crate) marks: Vec<Mark>,
 }

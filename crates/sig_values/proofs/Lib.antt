@@ -1,12 +1,8 @@
 pub mod Common
-pub mod Behind
 pub mod Functions
 pub mod Opening
 pub mod Remainders
-pub mod Writing
 pub use Common.*
-pub use Behind.*
 pub use Functions.*
 pub use Opening.*
 pub use Remainders.*
-pub use Writing.*

@@ -1,4 +1,4 @@
-use Rattle.sig_machine.proofs.{◌≡◌, ◌≤◌, ◌∙◌, ℕ, length, refl, sym, subst, arith, slice_get_read, EndsBy, GoesOn, IsMachineOf, Machine, ends_by, goes_on, input_there, one_guard, reads_there, stamp_there, target_there, machine_behind, stands_somewhere}
+use Rattle.sig_machine.proofs.{◌≡◌, ◌≤◌, ◌∙◌, ℕ, length, refl, sym, subst, arith, slice_get_read, EndsBy, GoesOn, IsMachineOf, Machine, ends_by, goes_on, input_there, one_guard, reads_there, stamp_there, target_there, machine_behind, room_of, stands_somewhere}
 use Rattle.sig_machine.proofs.machine.Machine.do_run.Goals as goal
 
 ends_within : (a b n : ℕ) → a ≤ b → b ≤ n → a ≤ n
@@ -81,7 +81,7 @@ loop-place-preserved c =
     let followed = c.in_default.ensures.done in
     let new = c.follow.new.self in
     record {
-      machine = machine_behind plan c.args.lowered.now c.requires.lowers flows c.loop-place.self c.loop-place.invariant.machine op instruction for_op.target followed.value new followed.kept;
+      machine = machine_behind plan.kernel c.args.lowered.now.cells.items (room_of plan c.args.lowered.now c.requires.lowers) flows c.loop-place.self c.loop-place.invariant.machine op instruction for_op.target followed.value new followed.kept;
       goes = λ trace instant began.
           let amid = c.loop-place.invariant.goes trace instant began in
           let on = one_guard plan accepted flows c.requires.fits c.args.self.now c.args.first c.args.run c.requires.run c.loop-place.self place c.loop-place.auto.place test op stands trace instant began amid ∙ c.requires.on in

@@ -1,40 +1,48 @@
-use Rattle.sig_step.proofs.{◌≡◌, ℕ, List, Some, refl, slice_get, subst, slice_get_read, Op, done_may_go_on, op_done, op_failed_with}
+use Rattle.sig_step.proofs.{subst, IsStepDone, does_op, done_may_go_on, op_done, op_failed_with, op_there, state_ended}
 use Rattle.sig_step.proofs.state.ClusterState.do_operation.Goals as goal
 
--- the operation of a number is this one
-abbrev IsOpAt : ℕ → Op → List Op → Type 0
-IsOpAt number op ops = slice_get ops number ≡ Some op
+pub follow-requires-clause-op : goal.follow-requires-clause-op
+follow-requires-clause-op c =
+    let (op, there) = op_there c.args.plan.now c.args.inputs.now c.args.self.now c.args._o c.requires.ready in
+    (op, does_op c.args.plan.now c.args.inputs.now c.args.self.now c.args._o c.requires.ready op there)
 
-pub move_on-requires : goal.move_on-requires
-move_on-requires c =
-    let found = c.in-Some.ensures.lookup in
-    let op = c.in-Some.op.now in
-    let there = subst (IsOpAt c.args.o.0 op) c.ops_of.ensures (slice_get_read c.ops_of.result.now _ c.args.o.0 op refl found.3.0 found.1) in
-    let done = c.in-Ok.ensures.done in
-    (c.args.inputs.now, done_may_go_on c.args.plan.now c.args.inputs.now c.args.self.now c.args.o c.requires op there c.operate.new.self done.0 done.2 c.in-Ok.ensures.values)
+pub move_on_in-requires-clause-may : goal.move_on_in-requires-clause-may
+move_on_in-requires-clause-may c =
+    let plan = c.args.plan.now in
+    let s = c.args.self.now in
+    let (op, there) = op_there plan c.args.inputs.now s c.args._o c.requires.ready in
+    let done = subst (λ b. IsStepDone plan.kernel c.args.inputs.now op b s.values c.follow.new.self) c.if-follow.true (c.follow.ensures.done op (does_op plan c.args.inputs.now s c.args._o c.requires.ready op there)) in
+    (c.args.inputs.now, done_may_go_on plan c.args.inputs.now s c.args._o c.requires.ready op there c.follow.new.self done.0 done.2 c.follow.ensures.machine)
 
-pub returns-in-Ok-clause-acts : goal.returns-in-Ok-clause-acts
-returns-in-Ok-clause-acts c =
-    let found = c.in-Some.ensures.lookup in
-    let op = c.in-Some.op.now in
-    let there = subst (IsOpAt c.args.o.0 op) c.ops_of.ensures (slice_get_read c.ops_of.result.now _ c.args.o.0 op refl found.3.0 found.1) in
-    let done = c.in-Ok.ensures.done in
-    op_done c.args.plan.now c.args.inputs.now c.args.self.now c.args.o c.requires op there c.operate.new.self done.0 done.2 done.1 c.move_on.new.self c.move_on.ensures.moves
+pub returns-then-follow-clause-acts : goal.returns-then-follow-clause-acts
+returns-then-follow-clause-acts c =
+    let plan = c.args.plan.now in
+    let s = c.args.self.now in
+    let (op, there) = op_there plan c.args.inputs.now s c.args._o c.requires.ready in
+    let done = subst (λ b. IsStepDone plan.kernel c.args.inputs.now op b s.values c.follow.new.self) c.if-follow.true (c.follow.ensures.done op (does_op plan c.args.inputs.now s c.args._o c.requires.ready op there)) in
+    op_done plan c.args.inputs.now s c.args._o c.requires.ready op there c.follow.new.self done.0 done.2 done.1 c.move_on_in.new.self c.move_on_in.ensures.moves
 
-pub returns-in-Ok-clause-state : goal.returns-in-Ok-clause-state
-returns-in-Ok-clause-state c =
-    let found = c.in-Some.ensures.lookup in
-    let op = c.in-Some.op.now in
-    let there = subst (IsOpAt c.args.o.0 op) c.ops_of.ensures (slice_get_read c.ops_of.result.now _ c.args.o.0 op refl found.3.0 found.1) in
-    let done = c.in-Ok.ensures.done in
-    c.move_on.ensures.state c.args.inputs.now
-    (done_may_go_on c.args.plan.now c.args.inputs.now c.args.self.now c.args.o c.requires op there c.operate.new.self done.0 done.2 c.in-Ok.ensures.values)
+pub returns-then-follow-clause-state : goal.returns-then-follow-clause-state
+returns-then-follow-clause-state c =
+    let plan = c.args.plan.now in
+    let s = c.args.self.now in
+    let (op, there) = op_there plan c.args.inputs.now s c.args._o c.requires.ready in
+    let done = subst (λ b. IsStepDone plan.kernel c.args.inputs.now op b s.values c.follow.new.self) c.if-follow.true (c.follow.ensures.done op (does_op plan c.args.inputs.now s c.args._o c.requires.ready op there)) in
+    c.move_on_in.ensures.state c.args.inputs.now
+    (done_may_go_on plan c.args.inputs.now s c.args._o c.requires.ready op there c.follow.new.self done.0 done.2 c.follow.ensures.machine)
 
-pub returns-in-Err-clause-acts : goal.returns-in-Err-clause-acts
-returns-in-Err-clause-acts c =
-    let found = c.in-Some.ensures.lookup in
-    let op = c.in-Some.op.now in
-    let there = subst (IsOpAt c.args.o.0 op) c.ops_of.ensures (slice_get_read c.ops_of.result.now _ c.args.o.0 op refl found.3.0 found.1) in
-    let done = c.in-Err.ensures.done in
-    op_failed_with c.args.plan.now c.args.inputs.now c.args.self.now c.args.o c.requires op there c.in-Err.field-0 done.0 c.operate.new.self done.1
-    c.next_place.result c.next_place.ensures
+pub returns-else-follow-clause-acts : goal.returns-else-follow-clause-acts
+returns-else-follow-clause-acts c =
+    let plan = c.args.plan.now in
+    let s = c.args.self.now in
+    let (op, there) = op_there plan c.args.inputs.now s c.args._o c.requires.ready in
+    let done = subst (λ b. IsStepDone plan.kernel c.args.inputs.now op b s.values c.follow.new.self) c.if-follow.false (c.follow.ensures.done op (does_op plan c.args.inputs.now s c.args._o c.requires.ready op there)) in
+    op_failed_with plan c.args.inputs.now s c.args._o c.requires.ready op there done.0 done.1 c.follow.new.self done.2 c.next_place.result c.next_place.ensures
+
+pub returns-else-follow-clause-state : goal.returns-else-follow-clause-state
+returns-else-follow-clause-state c =
+    let plan = c.args.plan.now in
+    let s = c.args.self.now in
+    let (op, there) = op_there plan c.args.inputs.now s c.args._o c.requires.ready in
+    let done = subst (λ b. IsStepDone plan.kernel c.args.inputs.now op b s.values c.follow.new.self) c.if-follow.false (c.follow.ensures.done op (does_op plan c.args.inputs.now s c.args._o c.requires.ready op there)) in
+    state_ended plan c.args.inputs.now s c.requires.ready.may.state c.follow.new.self done.2

@@ -1,4 +1,4 @@
-use Rattle.sig_step.proofs.{◌≡◌, ◌∙◌, ℕ, List, Some, ap, refl, slice_get, sym, subst, arith, CodeView, Step, code_of, turn_by, done_by, failed_by, may_marked, operated_on, passed, DoesPlain, actor_of, Acted, Done}
+use Rattle.sig_step.proofs.{◌≡◌, ◌∙◌, ℕ, List, Some, ap, slice_get, sym, subst, arith, CodeView, Step, code_of, turn_by, done_by, failed_by, may_marked, operated_on, passed, told_truths, DoesPlain, actor_of, Acted, Done}
 use Rattle.sig_step.proofs.state.ClusterState.do_plain.Goals as goal
 
 -- the step of a number stands in the code
@@ -54,3 +54,6 @@ returns-clause-done c =
     passed c.args.plan.now c.args.inputs.now s c.requires.state c.if-self.false (omega (arith, c.if-instant-self.false, c.instant.ensures)) c.step_in-step.result at
     c.known_guard.new.self c.known_guard.ensures.stays c.known_guard.ensures.marks c.in-Some.ensures.met
     (sym c.if-holds.false ∙ c.in-Some.ensures.value) c.move_on_in.new.self c.move_on_in.ensures.moves (returns-clause-state c)
+
+pub known_guard-requires-clause-told : goal.known_guard-requires-clause-told
+known_guard-requires-clause-told c = told_truths c.args.plan.now c.args.self.now.actor c.args.inputs.now c.args.self.now.values c.requires.state.values

@@ -1,15 +1,13 @@
-use Rattle.sig_step.proofs.{◌<◌, ◌∙◌, List, length, sym, subst, SigId, counts, noted, noted_met, walk_value}
+use Rattle.sig_step.proofs.{◌∙◌, counts, noted, noted_met, walk_value}
 use Rattle.sig_step.proofs.state.ClusterState.holds.Goals as goal
 
 pub walk-holds-requires-clause-needs : goal.walk-holds-requires-clause-needs
-walk-holds-requires-clause-needs g c = λ v depends.
-    subst (λ (conditions : List SigId). v < length conditions) (sym c.requires.conditions)
-    (c.requires.runnable.needs c.args.self.now.actor c.args.number c.slot_at-slot.result c.slot_at-slot.ensures v depends)
+walk-holds-requires-clause-needs g c = λ v depends. c.requires.runnable.needs c.args.self.now.actor c.args.number c.slot_at-slot.result c.slot_at-slot.ensures v depends
 
 pub returns-clause-value : goal.returns-clause-value
 returns-clause-value g c =
     walk_value c.args.plan.now c.args.self.now c.requires.runnable c.requires.marks c.args.number c.slot_at-slot.result c.slot_at-slot.ensures c.requires.step
-    c.walk-holds.result c.requires.conditions c.walk-holds.ensures.value
+    c.walk-holds.result c.walk-holds.ensures.value
 
 pub returns-clause-marks : goal.returns-clause-marks
 returns-clause-marks g c =

@@ -1,4 +1,4 @@
-use Rattle.sig_step.proofs.{◌≡◌, ◌∙◌, ◌&&◌, ℕ, Bool, List, Some, slice_get, sym, ap, subst, test, truths_of, Slot, noted, noted_met, walk_value, conditions_in, seen_in}
+use Rattle.sig_step.proofs.{◌≡◌, ◌∙◌, ◌&&◌, ℕ, Bool, List, Some, slice_get, sym, ap, subst, test, truths_of, Slot, noted, noted_met, walk_value, seen_in}
 use Rattle.sig_step.proofs.state.ClusterState.known_guard.Goals as goal
 
 -- the slot of a number stands in the code
@@ -10,8 +10,8 @@ returns-clause-value c =
     let there = subst (IsSlotAt c.args.number c.slot_in-slot.result) c.requires.slots c.slot_in-slot.ensures in
     let s = c.args.self.now in
     walk_value c.args.plan.now s c.requires.runnable c.requires.marks c.args.number c.slot_in-slot.result there c.requires.step
-    _ c.requires.conditions
-    (sym (ap (λ (b : Bool). b && test c.args.plan.now.store.nodes c.slot_in-slot.result.guard (truths_of (conditions_in s.values) (seen_in s.values)))
+    _
+    (sym (ap (λ (b : Bool). b && test c.args.plan.now.store.nodes c.slot_in-slot.result.guard (truths_of c.args.plan.now.clocks.conditions (seen_in s.values)))
     (sym c.parent_holds.ensures ∙ c.if-parent_holds.false)))
 
 pub returns-clause-marks : goal.returns-clause-marks

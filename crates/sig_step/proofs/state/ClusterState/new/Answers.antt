@@ -10,5 +10,5 @@ returns-clause-state c =
     let slots = c.slots.ensures ∙ ap (λ (code : CodeView). code.slots) c.code_at-code.ensures in
     opened plan c.args.inputs.now _ c.plans_can_run.ensures.runnable c.requires.actor c.requires.limit refl short
     (c.position_of.ensures ∙ ap (λ (steps : List Step). position_of (slice_get steps 0)) steps)
-    c.in_ok-new.ensures.values (ap (λ (a : Actor). a.instant) c.in_ok-new.ensures.opening)
+    c.in_ok-new.ensures.machine (ap (λ (a : Actor). a.instant) c.in_ok-new.ensures.opening)
     (c.in_ok-unknown.ensures ∙ ap (λ (slots : List Slot). replicate (length slots) unknown) slots)

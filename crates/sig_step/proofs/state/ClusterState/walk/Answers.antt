@@ -1,4 +1,4 @@
-use Rattle.sig_step.proofs.{◌<◌, ◌∙◌, ℕ, ap, sym, subst, length, Depends, Holds, test, Ref, PlanView, truths_length, walk_counts, CountsNeeds, conditions_in, seen_in}
+use Rattle.sig_step.proofs.{◌<◌, ◌∙◌, ℕ, ap, sym, subst, length, Depends, Holds, test, Ref, PlanView, truths_length, walk_counts, CountsNeeds, seen_in}
 use Rattle.sig_step.proofs.state.ClusterState.walk.Goals as goal
 
 -- a guard of the store of a plan: it depends on a variable, it is held, and its walk counts
@@ -13,7 +13,7 @@ CountsIn guard before after plan = CountsNeeds plan.store.nodes guard before aft
 
 pub eval-requires-clause-told : goal.eval-requires-clause-told
 eval-requires-clause-told g c = λ v depends.
-    subst (λ (n : ℕ). v < n) (sym (ap length c.truths.ensures ∙ truths_length (conditions_in c.args.self.now.values) (seen_in c.args.self.now.values)))
+    subst (λ (n : ℕ). v < n) (sym (ap length (c.truths.ensures ∙ c.requires.told) ∙ truths_length c.args.plan.now.clocks.conditions (seen_in c.args.self.now.values)))
     (c.requires.needs v (subst (DependsIn c.args.slot.guard v) c.plan.view_is depends))
 
 pub returns-then-parent_holds-clause-needs : goal.returns-then-parent_holds-clause-needs

@@ -1,5 +1,0 @@
-use Rattle.sig_values.proofs.{AreEntered}
-use Rattle.sig_values.proofs.making.variables_of.Given as goal
-
-abbrev pub invariant-loop-variable : goal.invariant-loop-variable
-invariant-loop-variable l = AreEntered l.conditions l.signals l.variable l.variables.items
