@@ -15,6 +15,12 @@ texts, and prints the least wall time of five runs, its ratio to that of 0 worke
 
 Part `items`: a program that hands 32 signals from one cluster to another, and the same in one cluster, with 1 and 2 workers
 at the capacities 1, 16 and 64: the difference of the two wall times, for one signal and instant, is what an item of a link costs.
+Then the same of a program of which a cluster gives a signal to another that gives one back in the same instant: what a refused
+item costs, for which an actor waits.
+
+Part `crowd`: 64 clusters of one operation each over links of one item, without workers and with 2, 8 and 64 of them, on all
+processors, on one, and beside twelve busy processes. Compares the texts, and prints the processor times, which are to be at
+most 30 times that without workers.
 
 Part `pay`: chains of 1 to 250 sums, and of as many remainders, in one, two and four clusters that share nothing but their
 clock, without workers and with as many as there are clusters, and the longest ones with 1, 2, 4 and 8 workers at the capacities
@@ -36,6 +42,9 @@ STAGES = 12
 CLUSTERS = 4
 OPERATIONS = 64
 HANDED = 32
+CROWD = 64
+BUSY = 12
+MOST_RATIO = 30
 # how many operations each of so many clusters has, up to the most that 512 signals allow
 CHAINS = {1: (1, 16, 64, 128, 250), 2: (1, 16, 64, 128, 250), 4: (1, 16, 32, 64, 125)}
 CAPACITIES = (1, 16, 256)
@@ -128,6 +137,15 @@ def handing(apart):
     return (
         f"process HAND = (? integer A ! integer Y)\n{pragma}(| {sums}\n | Y := {' + '.join(f'Z{i}' for i in numbers)}\n |)\n"
         f"where integer {', '.join(f'X{i}' for i in numbers)}, {taken}; end;\n"
+    )
+
+
+def returning(apart):
+    """A signal that goes to another cluster and comes back in the same instant, or stays in one."""
+    pragma = 'pragmas RunOn {Z} "1" end pragmas\n' if apart else ""
+    return (
+        f"process BACK = (? integer A ! integer Y)\n{pragma}(| X := A + 1 | Z := X + 1 | Y := Z + 1 |)\n"
+        "where integer X, Z; end;\n"
     )
 
 
@@ -252,16 +270,44 @@ def with_workers(sigc, folder):
             )
 
 
-def items(sigc, folder):
+def cost_apart(sigc, folder, program, tried):
+    """The wall time of an instant of a program in two clusters, over that of it in one, by workers and capacity."""
     walls = {}
-    tried = [(workers, capacity) for workers in (1, 2) for capacity in (1, 16, 64)]
     for apart in (False, True):
-        instants = put_files(folder, handing(apart), handing_flows(random.Random(1)))
+        instants = put_files(folder, program(apart), handing_flows(random.Random(1)))
         for workers, capacity in tried:
             _, walls[apart, workers, capacity], _ = measured(run_words(sigc, workers, capacity), folder, "own")
-    for workers, capacity in tried:
-        cost = (walls[True, workers, capacity] - walls[False, workers, capacity]) / (instants * HANDED)
-        print(f"an item of a link, {workers} workers, capacity {capacity}: {1e9 * cost:.0f} ns")
+    return {it: (walls[(True, *it)] - walls[(False, *it)]) / instants for it in tried}
+
+
+def items(sigc, folder):
+    tried = [(workers, capacity) for workers in (1, 2) for capacity in (1, 16, 64)]
+    for (workers, capacity), cost in cost_apart(sigc, folder, handing, tried).items():
+        print(f"an item of a link, {workers} workers, capacity {capacity}: {1e9 * cost / HANDED:.0f} ns")
+    for (workers, _), cost in cost_apart(sigc, folder, returning, ((1, 16), (2, 16))).items():
+        print(f"an item that an actor waits for, {workers} workers: {1e9 * cost / 2:.0f} ns")
+
+
+def busy(count):
+    return [subprocess.Popen([sys.executable, "-c", "while True: pass"]) for _ in range(count)]
+
+
+def crowd(sigc, folder):
+    put_files(folder, chains(CROWD, 1, one_more), chains_flows(CROWD, INSTANTS // 500)(random.Random(1)))
+    for setting, before, beside in (("all processors", [], 0), ("one processor", ["taskset", "-c", "0"], 0), (f"{BUSY} busy processes beside", [], BUSY)):
+        others = busy(beside)
+        try:
+            alone = None
+            for workers in (0, 2, 8, 64):
+                spent, wall, _ = measured([*before, *run_words(sigc, workers, 1)], folder, str(workers))
+                assert read(folder, str(workers)) == read(folder, "0"), "the texts differ"
+                alone = alone or spent
+                held = "" if spent <= MOST_RATIO * alone else f", more than {MOST_RATIO}"
+                print(f"{CROWD} clusters, {setting}, {workers} workers: processors {spent:.3f} s, ratio {spent / alone:.1f}{held}; wall {wall:.3f} s")
+        finally:
+            for other in others:
+                other.kill()
+                other.wait()
 
 
 def ratio_of(sigc, folder, workers, capacity, alone):
@@ -289,7 +335,7 @@ def paying(sigc, folder):
                     print(f"    {lengths[-1]} {kind} in each of {count} clusters with {workers} workers, by capacity: {row}")
 
 
-PARTS = {"run": beside_c, "play": played_beside_c, "workers": with_workers, "items": items, "pay": paying}
+PARTS = {"run": beside_c, "play": played_beside_c, "workers": with_workers, "items": items, "crowd": crowd, "pay": paying}
 
 
 def main():

@@ -4,8 +4,8 @@ ghost use Rattle.std.specs.Prelude.{◌≡◌};
 ghost use Rattle.sig_halt.specs.declared.halt.HaltAnswer.TheVariants.{OutOfMemory};
 
 use super::halt_seat::HaltSeat;
+use super::resting::Beds;
 use super::rule::Word;
-use crossbeam_utils::sync::EventCount;
 use std::alloc::{AllocError, Global};
 use thiserror::Error;
 
@@ -30,7 +30,7 @@ impl From<AllocError> for HaltAnswer {
 pub struct Halt {
     pub(crate) table: Word,
     /// Where threads rest that find nothing to do.
-    pub(crate) resting: EventCount,
+    pub(crate) beds: Beds,
     ghost one_word: { table.shared.table_id.words ≡ 1 },
     ghost no_slots: { table.shared.table_id.slots ≡ 0 },
 }
@@ -48,9 +48,9 @@ impl Halt {
         ensures all { IfOk result (λ made. parts_of made.1 ≡ parts) }
         ensures none { IfOk result (λ made. (recorded made.1 ≡ no_place) × (seen made.1 ≡ no_place)) }
     {
+        let beds = Beds::new(alloc, parts)?;
         let (table, seat) = Word::of_words(alloc, &[u64::MAX], &parts)?;
-        let resting = EventCount::new();
-        Ok((Halt { table, resting }, HaltSeat { seat }))
+        Ok((Halt { table, beds }, HaltSeat { seat }))
     }
 
     /// The last word, with the seat that holds all parts: the least packed place that this seat and

@@ -8,6 +8,7 @@ mod halt;
 mod halt_seat;
 mod laws;
 mod rest;
+mod resting;
 mod rule;
 mod steps;
 

@@ -6,8 +6,10 @@ ghost use Rattle.sig_work.specs.Members.{HasActedAs, HasDone, IsOfSomeRun, IsSam
 
 use crate::ends::Lent;
 use crate::member::Member;
+use crate::neighbours::Neighbours;
 use crate::plans::{actors_in, plans_are_accepted};
 use sig_dd::Steps;
+use sig_halt::Halt;
 use sig_kernel::Inputs;
 use sig_plan::Plan;
 use sig_step::Acted;
@@ -40,6 +42,7 @@ impl Member {
         rt: &R,
         plan: &Plan,
         inputs: &Inputs,
+        halt: &Halt,
         blank: Blank,
     ) -> Acted
         requires run { IsOfSomeRun plan.now inputs.now self.old }
@@ -55,6 +58,7 @@ impl Member {
         let mut steps = Steps::<L>::new(blank);
         let mut lent = Lent {
             rt,
+            neighbours: Neighbours { plan, halt },
             ends: self.ends.take(),
         };
         let acted = self

@@ -26,7 +26,6 @@ impl Member {
         let word = seat.look(halt);
         if self.state.look(word) {
             self.ending = Some(Ending::Looked);
-            halt.wake();
             return Round::Ended;
         }
         Round::of_refused(moved)

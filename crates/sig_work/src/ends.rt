@@ -3,6 +3,7 @@
 ghost use Rattle.std.specs.Prelude.{◌≡◌, IfOk};
 ghost use Rattle.sig_work.specs.Ends.{HasNoEnds};
 
+use crate::neighbours::Neighbours;
 use sig_base::Full;
 use sig_link::{Put, Take};
 use sig_step::Ends;
@@ -52,6 +53,7 @@ impl LinkEnds {
 #[derive(Drop)]
 pub(crate) struct Lent<'a, R> {
     pub(crate) rt: &'a R,
+    pub(crate) neighbours: Neighbours<'a>,
     pub(crate) ends: LinkEnds,
 }
 
@@ -80,14 +82,22 @@ impl<'a, R: Wait> Ends for Lent<'a, R> {
 
     fn push(&mut self, link: u32, item: i64) -> Result<(), Full> {
         match &mut self.ends.puts[link as usize] {
-            Some(put) => put.push(self.rt, item),
+            Some(put) => {
+                let pushed = put.push(self.rt, item);
+                self.neighbours.note_put(link, pushed.is_ok());
+                pushed
+            }
             None => unreachable!(),
         }
     }
 
     fn pop(&mut self, link: u32) -> Option<i64> {
         match &mut self.ends.takes[link as usize] {
-            Some(take) => take.pop(self.rt),
+            Some(take) => {
+                let popped = take.pop(self.rt);
+                self.neighbours.note_take(link, popped.is_some());
+                popped
+            }
             None => unreachable!(),
         }
     }

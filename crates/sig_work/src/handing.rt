@@ -53,7 +53,7 @@ pub(crate) fn hand_out(mut members: Vec<Member>, shares: &mut [Share])
 }
 
 /// The number of the share of a member.
-fn share_for(served: usize, last: usize, number: usize) -> usize
+pub(crate) fn share_for(served: usize, last: usize, number: usize) -> usize
     ensures is { result ≡ share_for served last number }
     ensures within { result ≤ served }
 {

@@ -16,6 +16,7 @@ mod handing;
 mod joining;
 pub mod laws;
 mod member;
+mod neighbours;
 mod patience;
 mod plans;
 mod round;

@@ -1,11 +1,16 @@
 //! How a thread waits that finds nothing to do.
 
+use crate::neighbours::Neighbours;
+use crate::share::Share;
 use sig_halt::{Halt, Rest};
+use sig_plan::Plan;
 use std::hint;
 use std::sync::Wait;
 
-/// How often in a row it only spins, before it rests.
-const SPINS: u32 = 12;
+/// How often in a row it only spins before it rests, where that helps, and where it does not.
+const MOST_SPINS: u32 = 12;
+
+const LEAST_SPINS: u32 = 2;
 
 /// How often something is done before threads that rest are told.
 const MOVES: u32 = 16;
@@ -13,19 +18,27 @@ const MOVES: u32 = 16;
 /// The waiting of a thread that finds nothing to do, one time after another.
 #[derive(Drop)]
 pub(crate) struct Patience<'a> {
-    halt: &'a Halt,
-    /// How often nothing was found to do, since something was done.
+    neighbours: Neighbours<'a>,
+    /// Where the thread rests.
+    bed: usize,
+    /// How often nothing was found to do, since something was done or the thread rested.
     rounds: u32,
+    /// How often in a row it spins.
+    spins: u32,
     /// How often something was done, since others were told.
     moves: u32,
     rest: Option<Rest<'a>>,
 }
 
 impl<'a> Patience<'a> {
-    pub(crate) fn new(halt: &'a Halt) -> Patience<'a> {
+    /// That of the thread that serves these shares.
+    pub(crate) fn new(plan: &'a Plan, halt: &'a Halt, shares: &[Share]) -> Patience<'a> {
+        let neighbours = Neighbours { plan, halt };
         Patience {
-            halt,
+            neighbours,
+            bed: neighbours.bed_for(shares),
             rounds: 0,
+            spins: MOST_SPINS,
             moves: 0,
             rest: None,
         }
@@ -33,39 +46,56 @@ impl<'a> Patience<'a> {
 
     /// Something was done, which may give threads that rest something to do: they are told of it now and then.
     pub(crate) fn renew(&mut self) {
+        self.spun();
         self.rounds = 0;
-        self.rest = None;
         if self.moves < MOVES {
             self.moves += 1;
         } else {
-            self.moves = 0;
-            self.halt.wake();
+            self.tell();
         }
+    }
+
+    /// Where it found something to do while it spun, or had announced a rest, it spins for longer from now on.
+    fn spun(&mut self) {
+        let rest = self.rest.take();
+        if self.rounds > 0 || rest.is_some() {
+            self.spins = MOST_SPINS.min(self.spins.saturating_mul(2));
+        }
+        if let Some(rest) = rest {
+            rest.give_up();
+        }
+    }
+
+    fn tell(&mut self) {
+        self.moves = 0;
+        self.neighbours.halt.tell();
     }
 
     /// Waits: it tells those that rest of all that was done before, and spins, a little longer each time; then it
-    /// announces a rest, and the next time it rests until another thread has done something. It never yields:
-    /// beside other programs a yield may cost it a whole time slice.
-    pub(crate) fn wait<R: Wait>(&mut self, rt: &R) {
-        if self.rounds == 0 {
-            self.halt.wake();
-        }
-        if self.rounds < SPINS {
+    /// announces a rest, and the next time it rests until another thread has done something for it. It never
+    /// yields: beside other programs a yield may cost it a whole time slice.
+    pub(crate) fn wait<R: Wait>(&mut self, rt: &R, shares: &[Share]) {
+        self.tell();
+        if self.rounds < self.spins {
             spin(1 + self.rounds / 4);
             self.rounds += 1;
         } else {
-            self.rest(rt);
+            self.rest(rt, shares);
         }
     }
 
-    /// Announces a rest, or rests where it is announced. A thread that was woken spins again before it rests.
-    fn rest<R: Wait>(&mut self, rt: &R) {
+    /// Announces a rest, or rests where it is announced; it spins for less time from then on.
+    fn rest<R: Wait>(&mut self, rt: &R, shares: &[Share]) {
         match self.rest.take() {
             Some(rest) => {
                 rest.sleep(rt);
-                self.rounds = 1;
+                self.rounds = 0;
+                self.spins = LEAST_SPINS.max(self.spins / 2);
             }
-            None => self.rest = Some(self.halt.rest()),
+            None => {
+                let link = self.neighbours.link_for(shares);
+                self.rest = Some(self.neighbours.halt.rest_in(self.bed, link));
+            }
         }
     }
 }

@@ -41,7 +41,7 @@ pub fn serve<R: Wait, S: Sink, G: Gate>(
 {
     match serve_on(rt, plan, inputs, halt, shares, gate, sink) {
         Ok(()) => {
-            halt.wake();
+            halt.tell();
             Ok(())
         }
         Err(fault) => {
@@ -70,11 +70,11 @@ fn serve_on<R: Wait, S: Sink, G: Gate>(
     ensures failed { OnErr result (Rose (S.faults sink.old) (S.faults sink.new)) }
     ensures faults_stay { S.faults sink.old ≤ S.faults sink.new }
 {
-    let mut patience = Patience::new(halt);
+    let mut patience = Patience::new(plan, halt, shares);
     'rounds: for _ in rt.forever() {
         match serve_round(rt, plan, inputs, halt, shares, gate, sink)? {
             Round::Ended => return Ok(()),
-            Round::Still => patience.wait(rt),
+            Round::Still => patience.wait(rt, shares),
             Round::Moved | Round::Stuck => patience.renew(),
         }
     }

@@ -102,7 +102,7 @@ impl Member {
         ensures faults_stay { S.faults sink.old ≤ S.faults sink.new }
     {
         let step = self.state.step();
-        match self.act::<R, Brand>(rt, plan, inputs, Blank::new(1)) {
+        match self.act::<R, Brand>(rt, plan, inputs, halt, Blank::new(1)) {
             Acted::Done => Ok(Round::Moved),
             Acted::Commit => {
                 self.state.put_reaction(plan, sink)?;
@@ -115,7 +115,6 @@ impl Member {
             }
             Acted::AtLimit => {
                 self.ending = Some(Ending::AtLimit);
-                halt.wake();
                 Ok(Round::Ended)
             }
             Acted::Stopped => Ok(Round::Ended),

@@ -75,6 +75,28 @@ fn a_rest_ends_behind_a_wake(rt: HostRuntime) -> Result<(), Fail> {
     Ok(())
 }
 
+#[test]
+fn a_rest_for_a_link_ends_where_its_use_is_told(rt: HostRuntime) -> Result<(), Fail> {
+    let (halt, _seat) = Halt::new(rt.alloc(), 2)?;
+    let rest = halt.rest_in(1, Some(7));
+    halt.note(1, 7);
+    halt.tell();
+    rest.sleep(&rt);
+    Ok(())
+}
+
+#[test]
+fn a_rest_for_any_link_ends_where_a_bed_with_it_is_told(rt: HostRuntime) -> Result<(), Fail> {
+    let (halt, _seat) = Halt::new(rt.alloc(), 3)?;
+    halt.share_bed(0, 2);
+    halt.rest_in(2, Some(7)).give_up();
+    let rest = halt.rest_in(2, None);
+    halt.note(0, 3);
+    halt.tell();
+    rest.sleep(&rt);
+    Ok(())
+}
+
 // Sleeps until it is woken, and tells so.
 fn sleep_once<R: Wait>(rt: &R, halt: &Halt, woken: &AtomicBool) {
     halt.rest().sleep(rt);

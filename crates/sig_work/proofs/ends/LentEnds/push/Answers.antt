@@ -12,24 +12,24 @@ unreachable-requires g c = put_never_none c.args.self.now.ends c.args.link c.ind
 
 pub returns-clause-asked : goal.returns-clause-asked
 returns-clause-asked g c = record {
-  tells_past = asked_push c.args.self.now.ends (record { puts = with_item c.args.self.now.ends.puts c.args.link (Some c.push.new.self); takes = c.args.self.now.ends.takes }) c.args.link c.in-Some.put c.push.new.self
-      (put_is c.args.self.now.ends c.args.link c.index_mut.result.now c.in-Some.put c.requires.end c.index_mut.ensures.value c.in-Some.is) refl refl c.args.item c.push.result
-      (subst (λ (item : ℤ). OnOk c.push.result (sent c.push.new.self ≡ sent c.in-Some.put ++ item ∷ [])) (to_z-of_z w64 c.args.item c.ranges.item) c.push.ensures.ok)
-      (full_stays c.push.result c.in-Some.put c.push.new.self c.push.ensures.full);
+  tells_past = asked_push c.args.self.now.ends (record { puts = with_item c.args.self.now.ends.puts c.args.link (Some c.push-pushed.new.self); takes = c.args.self.now.ends.takes }) c.args.link c.in-Some.put c.push-pushed.new.self
+      (put_is c.args.self.now.ends c.args.link c.index_mut.result.now c.in-Some.put c.requires.end c.index_mut.ensures.value c.in-Some.is) refl refl c.args.item c.push-pushed.result
+      (subst (λ (item : ℤ). OnOk c.push-pushed.result (sent c.push-pushed.new.self ≡ sent c.in-Some.put ++ item ∷ [])) (to_z-of_z w64 c.args.item c.ranges.item) c.push-pushed.ensures.ok)
+      (full_stays c.push-pushed.result c.in-Some.put c.push-pushed.new.self c.push-pushed.ensures.full);
   tells_queues = tt;
 }
 
 pub returns-clause-links : goal.returns-clause-links
 returns-clause-links g c =
-    pushed_ends c.args.self.now.ends (record { puts = with_item c.args.self.now.ends.puts c.args.link (Some c.push.new.self); takes = c.args.self.now.ends.takes }) c.args.link c.in-Some.put c.push.new.self
-    (put_is c.args.self.now.ends c.args.link c.index_mut.result.now c.in-Some.put c.requires.end c.index_mut.ensures.value c.in-Some.is) refl refl c.push.ensures.end.0 c.push.ensures.end.1
+    pushed_ends c.args.self.now.ends (record { puts = with_item c.args.self.now.ends.puts c.args.link (Some c.push-pushed.new.self); takes = c.args.self.now.ends.takes }) c.args.link c.in-Some.put c.push-pushed.new.self
+    (put_is c.args.self.now.ends c.args.link c.index_mut.result.now c.in-Some.put c.requires.end c.index_mut.ensures.value c.in-Some.is) refl refl c.push-pushed.ensures.end.0 c.push-pushed.ensures.end.1
 
 pub returns-clause-pushes : goal.returns-clause-pushes
 returns-clause-pushes g c =
-    pushed_puts c.args.self.now.ends (record { puts = with_item c.args.self.now.ends.puts c.args.link (Some c.push.new.self); takes = c.args.self.now.ends.takes }) c.args.link c.in-Some.put c.push.new.self
+    pushed_puts c.args.self.now.ends (record { puts = with_item c.args.self.now.ends.puts c.args.link (Some c.push-pushed.new.self); takes = c.args.self.now.ends.takes }) c.args.link c.in-Some.put c.push-pushed.new.self
     (put_is c.args.self.now.ends c.args.link c.index_mut.result.now c.in-Some.put c.requires.end c.index_mut.ensures.value c.in-Some.is) refl refl
 
 pub returns-clause-full : goal.returns-clause-full
 returns-clause-full g c =
-    found_full_here c.push.result c.args.self.now.ends (record { puts = with_item c.args.self.now.ends.puts c.args.link (Some c.push.new.self); takes = c.args.self.now.ends.takes }) c.args.link c.in-Some.put c.push.new.self
-    (put_is c.args.self.now.ends c.args.link c.index_mut.result.now c.in-Some.put c.requires.end c.index_mut.ensures.value c.in-Some.is) refl c.push.ensures.full
+    found_full_here c.push-pushed.result c.args.self.now.ends (record { puts = with_item c.args.self.now.ends.puts c.args.link (Some c.push-pushed.new.self); takes = c.args.self.now.ends.takes }) c.args.link c.in-Some.put c.push-pushed.new.self
+    (put_is c.args.self.now.ends c.args.link c.index_mut.result.now c.in-Some.put c.requires.end c.index_mut.ensures.value c.in-Some.is) refl c.push-pushed.ensures.full
