@@ -26,6 +26,8 @@ COMMANDS = {
     "judge": Command(("PROGRAM", "TRACE"), (), "says whether a written trace is one of the program"),
     "run": Command(("PROGRAM", "FLOWS"), ("--workers", "--capacity", "--instants"), "runs the program over the values of its inputs"),
     "play": Command(("PROGRAM", "FLOWS", "EVENTS"), ("--capacity", "--instants"), "lets the actors do given steps, writes their state, and finishes the run"),
+    "build": Command(("PROGRAM",), (), "writes the image of the program, which exec runs"),
+    "exec": Command(("IMAGE", "FLOWS"), ("--instants",), "runs an image over the values of its inputs, without compiling"),
     "load": Command(("SEED", "STAGES"), ("--workers", "--capacity"), "runs a program that is made from a number, and counts what it writes"),
 }
 OPTIONS = {
@@ -37,8 +39,8 @@ PACED = ("check", "tree", "code", "run", "play")
 LETTERS = {"--workers": "W", "--capacity": "C", "--instants": "N"}
 STATUSES = (
     "0 done; 1 the program is refused; 2 the words are no command; 3 the run ended at an overflow or a division by zero; "
-    "4 a flow, event or trace file is refused; 5 a file was not read; 6 a write failed; 7 memory was wanting; "
-    "8 too many diagram nodes; 9 the trace is none of the program"
+    "4 a flow, event, trace or image file is refused; 5 a file was not read; 6 a write failed; 7 memory was wanting; "
+    "8 too many diagram nodes; 9 the trace is none of the program; 10 the image would be too long"
 )
 
 
@@ -96,8 +98,6 @@ def words_hint(words):
     if not words:
         return ["a command is wanted: " + ", ".join(COMMANDS)]
     name = words[0]
-    if name in ("build", "exec"):
-        return [f"`{name}` is not built yet"]
     if name not in COMMANDS:
         meant = near(name, list(COMMANDS))
         if not meant and name.endswith(".sig"):

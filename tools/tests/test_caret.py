@@ -105,11 +105,11 @@ class Words(unittest.TestCase):
             (["run", "p", "f", "--capacity=1", "--capacity=2"], "--capacity stands twice"),
             (["check"], "`check` takes PROGRAM; 0 such words stand here"),
             (["p.sig"], "the command comes first: sigc check p.sig"),
-            (["build", "p"], "`build` is not built yet"),
+            (["build", "p", "q"], "`build` takes PROGRAM; 2 such words stand here"),
             (["check", "--pace=1", "p"], "`--pace` takes no value"),
             (["print", "p", "--pace"], "`print` has no option --pace"),
             (["check", "--pace", "p", "--pace"], "--pace stands twice"),
-            ([], "a command is wanted: check, tree, code, print, judge, run, play, load"),
+            ([], "a command is wanted: check, tree, code, print, judge, run, play, build, exec, load"),
         ]:
             self.assertIn(wanted, " ".join(sigcwords.words_hint(words)))
 

@@ -1,8 +1,9 @@
 """sigc-image: the parts of an image, and the first broken byte of a file that is none."""
+import subprocess
 import tempfile
 import unittest
 
-from calling import ran
+from calling import EXAMPLES, SIGC, needs_sigc, ran
 
 import sigcimage
 
@@ -94,3 +95,10 @@ class Showing(unittest.TestCase):
         _, text, _ = self.shown(PARTS)
         wanted = ["0 boolean false", "0 C ? always : never", "1 2:2 B := memory 0", "2 3:3 node 0: E := true", "3 4:4 node 0: memory 0 := E", "4 5:5 never: B := true = C"]
         self.assertEqual([it for it in wanted if it not in text.splitlines()], [])
+
+    @needs_sigc
+    def test_images_that_sigc_makes(self):
+        for name in ("down", "watch", "thermostat"):
+            with self.subTest(name):
+                done = subprocess.run([SIGC, "build", f"{EXAMPLES}/{name}.sig"], capture_output=True)
+                self.assertEqual((done.returncode, broken_at(done.stdout)), (0, None))

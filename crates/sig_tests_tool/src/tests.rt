@@ -14,6 +14,7 @@ mod check;
 mod faults;
 mod gate;
 mod hostile;
+mod images;
 mod judge;
 mod limits;
 mod load;

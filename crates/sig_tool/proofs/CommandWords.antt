@@ -1,28 +1,35 @@
 -- Facts of the command that words are.
-use Rattle.sig_tool.proofs.Common.{◌≡◌, ℕ, List, [], Bool, Option, None, inl, inr, refl, sym, subst, arith, Contents, Word, Command, Settings, Check, Code, Judge, Load, Play, Print, Run, Tree, IsRefusedBy, Performs, Stops, memory_line, status_of, Refusal, Missing, ReadFault, LongProgram, Program, Budget, TooManyItems, LongFile, Data, LongImage, OutOfMemory, told, performs_refusal, IsLoadStatus, loading, IsAboutLoad, one_load_outcome, IsBuilt, ComesTo, IfLoad, IsAbout, OfCommand}
+use Rattle.sig_words.specs.declared.answer.WordsAnswer.TheVariants.{OutOfMemory as NoMemory}
+use Rattle.sig_tool.proofs.Common.{◌≡◌, ◌⊎◌, ◌∙◌, ℕ, List, [], Bool, Option, None, inl, inr, refl, sym, subst, arith, Contents, Word, Command, Settings, Build, Check, Code, Exec, Judge, Load, Play, Print, Run, Tree, IsRefusedBy, Performs, Stops, memory_line, status_of, WordsAnswer, Refused, AreNoCommand, Refusal, Missing, ReadFault, LongProgram, Program, Budget, TooManyItems, LongFile, Data, LongImage, OutOfMemory, told, performs_refusal, IsLoadStatus, loading, IsAboutLoad, one_load_outcome, ComesTo, IfLoad, IsAbout, OfCommand}
 
 -- what holds of the one command that the words are holds of each
 pub of_one : (words : List Word) (command : Command) (Fact : Command → Type 0) → OfCommand words (λ c. c ≡ command) → Fact command → OfCommand words Fact
-of_one words command Fact only fact = λ c is built. subst Fact (sym (only c is built)) fact
+of_one words command Fact only fact = λ c is. subst Fact (sym (only c is)) fact
+
+-- words that are refused are no command
+pub no_command : (words : List Word) (answer : WordsAnswer) → answer ≡ Refused → ((answer ≡ NoMemory) ⊎ AreNoCommand words) → AreNoCommand words
+no_command words answer refused (inl none) = λ c is. let same : Refused ≡ NoMemory = sym refused ∙ none in cc
+no_command words answer refused (inr none) = none
 
 -- a command for whose words there was no memory was refused for that
-about_none : (c : Command) → IsBuilt c → IsAbout c OutOfMemory
-about_none (Run program flows settings) built = inl tt
-about_none (Play program flows events settings) built = inl (inl tt)
-about_none (Check program pace) built = tt
-about_none (Tree program pace) built = tt
-about_none (Code program pace) built = tt
-about_none (Print program) built = tt
-about_none (Judge program traces) built = inl tt
-about_none (Load seed stages settings) built = tt
-about_none _ built = absurd built
+about_none : (c : Command) → IsAbout c OutOfMemory
+about_none (Run program flows settings) = inl tt
+about_none (Play program flows events settings) = inl (inl tt)
+about_none (Check program pace) = tt
+about_none (Tree program pace) = tt
+about_none (Code program pace) = tt
+about_none (Print program) = tt
+about_none (Judge program traces) = inl tt
+about_none (Load seed stages settings) = tt
+about_none (Build program) = inl tt
+about_none (Exec image flows settings) = inl tt
 
-pub refused_unread : (contents : Option Contents) (c : Command) (before at : Option (List ℕ)) (misses misses' faults faults' : ℕ) (Said : List ℕ → Type 0) → IsBuilt c → Said memory_line → IsRefusedBy (λ held. ComesTo held c) (IsAbout c) contents before at misses misses' faults faults' 7 Said
-refused_unread contents c before at misses misses' faults faults' Said built line = record {
+pub refused_unread : (contents : Option Contents) (c : Command) (before at : Option (List ℕ)) (misses misses' faults faults' : ℕ) (Said : List ℕ → Type 0) → Said memory_line → IsRefusedBy (λ held. ComesTo held c) (IsAbout c) contents before at misses misses' faults faults' 7 Said
+refused_unread contents c before at misses misses' faults faults' Said line = record {
   refusal = OutOfMemory;
   numbered = refl;
   line = line;
-  about = about_none c built;
+  about = about_none c;
   count = tt;
   owed = λ own. absurd own;
 }

@@ -24,8 +24,13 @@ pub use Rattle.sig_loads.proofs.Common.{Budget, CanLoad, Contents, Data, HasCoun
 pub use Rattle.sig_loads.proofs.OneLoad.{one_load_outcome}
 pub use Rattle.sig_plays.proofs.Ending.{has_play}
 pub use Rattle.sig_plays.proofs.OnePlay.{one_play_outcome}
-pub use Rattle.sig_tool.specs.Commands.{HasStages, IsBuilt, IsLimited}
+pub use Rattle.sig_images.specs.Builds.{IsBuildStatus}
+pub use Rattle.sig_images.specs.Execs.{IsExecStatus}
+pub use Rattle.sig_images.proofs.Ending.{has_built, has_executed, has_long_image}
+pub use Rattle.sig_images.proofs.OneBuild.{one_build_outcome}
+pub use Rattle.sig_images.proofs.OneExec.{one_exec_outcome}
+pub use Rattle.sig_tool.specs.Commands.{HasStages, IsLimited}
 pub use Rattle.sig_tool.specs.Complete.{CanBeDone, HasGoodProgram}
 pub use Rattle.sig_tool.specs.Headline.{AreItsPrefixes, IsFitting, KeepsToTheTrace}
 pub use Rattle.sig_tool.specs.Prelude.{AreFlowsFor, Core, Ended, Event, Given, IsEnabled, IsFinished, IsKernelEnd, IsKernelTrace, Kernel, Place, Trace, after, output_text, reactions_text, run_of}
-pub use Rattle.sig_tool.specs.TopCall.{AreNoCommand, ComesTo, CompilesBeyondBound, HasBegun, IfLoad, IsAbout, IsStatus, IsStatusOf, OfCommand, OfOutcome, task_of}
+pub use Rattle.sig_tool.specs.TopCall.{AreNoCommand, ComesTo, NeedsBeyondBound, HasBegun, IfLoad, IsAbout, IsStatus, IsStatusOf, OfCommand, OfOutcome, task_of}

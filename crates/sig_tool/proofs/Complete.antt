@@ -1,6 +1,7 @@
 -- A command whose files are good is done, if no call failed, memory was found, and the nodes of diagrams sufficed.
-use Rattle.sig_tool.proofs.Common.{◌≡◌, ◌⊎◌, ◌≤◌, ◌<◌, ℕ, List, Bool, Option, None, Some, IfSome, inl, inr, refl, ap, arith, DidNotRise, raised, Contents, Command, Check, Code, Load, Play, Print, Run, Tree, IsCodeText, IsTreeText, Outcome, HasCount, IsOwn, outcome_of, status_of, IsDone, IsRefused, Owes, Performs, Task, Refusal, Missing, ReadFault, LongProgram, Program, Budget, TooManyItems, LongFile, Data, LongImage, OutOfMemory, not_refused, IsVerdictText, CanLoad, loading, CanBeDone, ComesTo, IfLoad, IsStatus, task_of}
+use Rattle.sig_tool.proofs.Common.{◌≡◌, ◌⊎◌, ◌≤◌, ◌<◌, ℕ, List, Bool, Option, None, Some, IfSome, inl, inr, refl, ap, arith, DidNotRise, raised, Contents, Command, Build, Check, Code, Exec, Load, Play, Print, Run, Tree, IsCodeText, IsTreeText, Outcome, HasCount, IsOwn, outcome_of, status_of, IsDone, IsRefused, Owes, Performs, Task, Refusal, Missing, ReadFault, LongProgram, Program, Budget, TooManyItems, LongFile, Data, LongImage, OutOfMemory, not_refused, IsVerdictText, CanLoad, loading, CanBeDone, ComesTo, IfLoad, IsStatus, task_of}
 use Rattle.sig_compile.proofs.Complete as compiles
+use Rattle.sig_images.proofs.Complete as images
 use Rattle.sig_loads.proofs.Complete as loads
 use Rattle.sig_plays.proofs.Complete as plays
 use Rattle.sig_runs.proofs.Complete as runs
@@ -15,6 +16,8 @@ done_status held (Tree program pace) can o x = inl (inl (compiles.done_status he
 done_status held (Code program pace) can o x = inl (inl (compiles.done_status held program pace can IsCodeText o x))
 done_status held (Print program) can o x = inl (inl (ap (λ (q : Outcome). q.status) (compiles.only_print held program can o x)))
 done_status held (Load seed stages settings) can o x = inl (loads.end_status_is seed stages settings can o x)
+done_status held (Build program) can o x = inl (inl (images.build_status_is held program can o x))
+done_status held (Exec image flows settings) can o x = inl (images.exec_status_is held image flows settings can o x)
 done_status held _ can o x = absurd can
 
 clash : (a b : ℕ) → a ≤ b → b < a → ⊥

@@ -1,18 +1,6 @@
--- The commands that are built so far, among those of a command line.
+-- What is known of the numbers of a command.
 use Rattle.std.specs.Prelude.{◌≤◌}
-use Rattle.sig_tool.specs.Prelude.{⊤, AreWithinBounds, settings_of, Command, Check, Code, Judge, Load, Play, Print, Run, Tree}
-
--- a command is built: all but those of image files
-abbrev pub IsBuilt : Command → Type 0
-IsBuilt (Run program flows settings) = ⊤
-IsBuilt (Play program flows events settings) = ⊤
-IsBuilt (Check program pace) = ⊤
-IsBuilt (Tree program pace) = ⊤
-IsBuilt (Code program pace) = ⊤
-IsBuilt (Print program) = ⊤
-IsBuilt (Judge program traces) = ⊤
-IsBuilt (Load seed stages settings) = ⊤
-IsBuilt _ = ⊥
+use Rattle.sig_tool.specs.Prelude.{⊤, AreWithinBounds, settings_of, Command, Load}
 
 -- a load has from 1 to 12 stages
 abbrev pub HasStages : Command → Type 0

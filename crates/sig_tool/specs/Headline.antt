@@ -10,9 +10,9 @@
 -- that it is. A clause that is one short fact is told in brackets, and stands in src/top.rt alone. docs/meaning.md tells the
 -- first part with an example, and docs/top-call.md how the definitions under the second part hang together.
 use Rattle.std.specs.Prelude.{◌≡◌, ◌⊎◌, ◌≤◌}
-use Rattle.sig_tool.specs.Prelude.{ℕ, ℤ, List, length, Option, None, IfSome, Bool, DidNotRise, IsPrefixOf, Trace, Fits, reduce, IsKernelTrace, output_text, Kernel, Place, Ended, IsKernelEnd, IsPlanOf, PlanView, Given, Core, Event, after, cause_of, reactions_text, run_of, IsEnabled, IsFinished, Contents, Word, TookPrefix, HasRun, HasPlay, IsCut, IsDone, IsDue, IsEnded, IsRefused, IsRefusedBy, MayAnswer, Performs, CanLoad, loading}
+use Rattle.sig_tool.specs.Prelude.{ℕ, ℤ, List, length, Option, None, IfSome, Bool, DidNotRise, IsPrefixOf, Trace, Fits, reduce, IsKernelTrace, output_text, Kernel, Place, Ended, IsKernelEnd, IsPlanOf, PlanView, Given, Core, Event, after, cause_of, reactions_text, run_of, IsEnabled, IsFinished, Contents, Word, TookPrefix, HasRun, HasPlay, HasBuilt, HasExecuted, HasLongImage, IsCut, IsDone, IsDue, IsEnded, IsRefused, IsRefusedBy, MayAnswer, Performs, CanLoad, loading}
 use Rattle.sig_tool.specs.Complete.{CanBeDone}
-use Rattle.sig_tool.specs.TopCall.{ComesTo, CompilesBeyondBound, HasBegun, IfLoad, IsAbout, IsStatusOf, OfCommand, OfOutcome, OfPlay, OfRun}
+use Rattle.sig_tool.specs.TopCall.{ComesTo, NeedsBeyondBound, HasBegun, IfLoad, IsAbout, IsStatusOf, OfBuild, OfCommand, OfExec, OfOutcome, OfPlay, OfRun}
 
 -- ==== the sentence ==================================================================================================
 
@@ -94,8 +94,8 @@ abbrev pub WritesPrefix : {S : Type 0} → List Word → Option Contents → (S 
 WritesPrefix words contents took out out' = OfCommand words (λ c. OfOutcome contents c (λ o. TookPrefix took out o.text out'))
 
 -- Clause `whole`: with status 0, 3 or 9 the command comes to an outcome of this status, wrote the whole text that is due, and
--- said its line and no more: the `end:` line of a run, the broken equation of a trace, and else nothing. (Clause `flushed`:
--- and it flushed the output.)
+-- said its line and no more: the `end:` line of a run, also of an image, the broken equation of a trace, and else nothing.
+-- (Clause `flushed`: and it flushed the output.)
 abbrev pub WritesWhole : {S : Type 0} → List Word → Option Contents → (at at' : Option (List ℕ)) → (S → List ℕ → S → Type 0) → (out out' : S) → (Said : List ℕ → Type 0) → (status : ℕ) → Type 0
 WritesWhole words contents at at' took out out' Said status = IsDone status → OfCommand words (λ c. IfSome contents (λ held.
     IsDue (ComesTo held c) held at at' status (λ text line. took out text out' × Said line)))
@@ -113,6 +113,20 @@ abbrev pub WritesThePlay : {S : Type 0} → List Word → Option Contents → (S
 WritesThePlay words contents took out out' Said status = IsEnded status → OfPlay words (λ program flows events settings. IfSome contents (λ held.
     HasPlay held program flows events settings status (λ text. took out text out') Said))
 
+-- Clause `build`: a build with status 0 wrote the bytes of the image of the accepted program that its file holds, no more than
+-- 67,108,864. All plans of a kernel have one image (`images_of_kernels_are_one` of sig_images); by
+-- `images_run_as_their_kernels` of sig_images it is sound, and its run over flows that fit has the text of the one trace.
+abbrev pub WritesTheImage : {S : Type 0} → List Word → Option Contents → (S → List ℕ → S → Type 0) → (out out' : S) → (status : ℕ) → Type 0
+WritesTheImage words contents took out out' status = status ≡ 0 → OfBuild words (λ program. IfSome contents (λ held.
+    HasBuilt held program (λ text. took out text out')))
+
+-- Clause `exec`: a run of an image with status 0 or 3 wrote the text of the run (`IsImageRun` of sig_file) of the sound image
+-- that its file holds, for the flows that the flow file says and the limit of instants, and said its cause with the number of
+-- committed instants; the status is 3 exactly where that is an overflow or a division by zero.
+abbrev pub WritesTheImageRun : {S : Type 0} → List Word → Option Contents → (S → List ℕ → S → Type 0) → (out out' : S) → (Said : List ℕ → Type 0) → (status : ℕ) → Type 0
+WritesTheImageRun words contents took out out' Said status = IsEnded status → OfExec words (λ image flows settings. IfSome contents (λ held.
+    HasExecuted held image flows settings status (λ text. took out text out') Said))
+
 -- Clause `cut`: where a write failed, what was appended is a prefix of the text of the outcome, which was to be done.
 -- (Clauses `failed` and `fault_line`: that is status 6, it comes only where the count of faults of the output rose, and its
 -- line is said.)
@@ -121,9 +135,9 @@ WasCut words contents took out out' status = status ≡ 6 → OfCommand words (�
 
 -- ---- the status
 
--- Clause `numbers_of`: the status is one of the command's own. (Clause `numbers`: and no status but 0 to 9 is answered,
--- whatever the words. Clauses `no_command`, `words_line` and `none_begun`: of words that are no command that is built it is
--- 2, and their line is said, or 7 where memory was wanting to read them; and no file was touched.)
+-- Clause `numbers_of`: the status is one of the command's own. (Clause `numbers`: and no status but 0 to 10 is answered,
+-- whatever the words. Clauses `no_command`, `words_line` and `none_begun`: of words that are no command it is 2, and their
+-- line is said, or 7 where memory was wanting to read them; and no file was touched.)
 abbrev pub HasOwnStatus : List Word → (status : ℕ) → Type 0
 HasOwnStatus words status = OfCommand words (λ c. IsStatusOf c status)
 
@@ -137,25 +151,33 @@ abbrev pub IsDoneUnlessWanting : (status : ℕ) → Type 0
 IsDoneUnlessWanting status = IsDone status ⊎ ((status ≡ 7) ⊎ (status ≡ 8))
 
 -- Clause `complete`: where the program is accepted, its links do not hold too many items, and the flows and the events have a
--- reading (or, of `print`, the text has a tree), and no call failed, the command is done, or the status is 7 or 8.
+-- reading (or, of `print`, the text has a tree; of `build`, the image is not too long; of `exec`, the image is sound and the
+-- flows have a reading), and no call failed, the command is done, or the status is 7 or 8.
 abbrev pub IsComplete : List Word → Option Contents → (faults faults' wrote wrote' : ℕ) → (status : ℕ) → Type 0
 IsComplete words contents faults faults' wrote wrote' status = DidNotRise faults faults' → DidNotRise wrote wrote' → OfCommand words (λ c. IfSome contents (λ held.
     CanBeDone held c → IsDoneUnlessWanting status))
 
 -- Clause `budget`: 8 comes only of a program that the passes up to its kernel do not refuse, and whose kernel is within none
--- of the bounds for which the nodes of diagrams suffice; or, with the flag `--pace`, not within the bound for its pacing.
+-- of the bounds for which the nodes of diagrams suffice; or, with the flag `--pace`, not within the bound for its pacing; or, of
+-- `exec`, of an image that is not within the bound for verifying it (`IsBeyondBound` of sig_verify).
 abbrev pub ExceedsBounds : List Word → Option Contents → (status : ℕ) → Type 0
-ExceedsBounds words contents status = status ≡ 8 → OfCommand words (λ c. IfSome contents (λ held. CompilesBeyondBound held c))
+ExceedsBounds words contents status = status ≡ 8 → OfCommand words (λ c. IfSome contents (λ held. NeedsBeyondBound held c))
 
 -- ---- refusals
 
--- Clause `refused`: with status 1, 2, 4, 5, 7 or 8 there is one refusal, and its line is said. It is about a file of the
+-- Clause `refused`: with status 1, 2, 4, 5, 7, 8 or 10 there is one refusal, and its line is said. It is about a file of the
 -- command, the counts of misses and faults show its cause, and where the contents alone decide it is the command's outcome:
 -- so of 1 the line is that of the first rule that the program does not meet, and of 4 that of the first offending place.
--- (Clause `untouched`: and the output is as it was. Clauses `items_line` and `memory_line`: the lines of 2 and of 7.)
+-- (Clause `untouched`: and the output is as it was. Clauses `items_line`, `memory_line` and `image_line`: the lines of 2, of 7
+-- and of 10.)
 abbrev pub SaysItsRefusal : List Word → Option Contents → (at at' : Option (List ℕ)) → (misses misses' faults faults' : ℕ) → (Said : List ℕ → Type 0) → (status : ℕ) → Type 0
 SaysItsRefusal words contents at at' misses misses' faults faults' Said status = IsRefused status → OfCommand words (λ c.
     IsRefusedBy (λ held. ComesTo held c) (IsAbout c) contents at at' misses misses' faults faults' status Said)
+
+-- Clause `too_long`: 10 comes only of a build of an accepted program whose image has more than 67,108,864 bytes. (It is no status
+-- of another command, and by clause `status` the one of such a build, unless 5, 7 or 8 comes.)
+abbrev pub HasTooLongImage : List Word → Option Contents → (status : ℕ) → Type 0
+HasTooLongImage words contents status = status ≡ 10 → OfBuild words (λ program. IfSome contents (λ held. HasLongImage held program))
 
 -- ---- the files
 

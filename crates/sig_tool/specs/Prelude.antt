@@ -9,9 +9,9 @@ pub use Rattle.sig_front.specs.Kernels.{HasTracesOf}
 pub use Rattle.sig_words.specs.Commands.{IsCommand, files_of, settings_of}
 pub use Rattle.sig_words.specs.Readings.{Word, texts}
 pub use Rattle.sig_words.specs.declared.command.Command.{Command}
-pub use Rattle.sig_words.specs.declared.command.Command.TheVariants.{Check, Code, Judge, Load, Play, Print, Run, Tree}
+pub use Rattle.sig_words.specs.declared.command.Command.TheVariants.{Build, Check, Code, Exec, Judge, Load, Play, Print, Run, Tree}
 pub use Rattle.sig_load.specs.Program.{program}
-pub use Rattle.sig_outcome.specs.Tasks.{IsCut, IsDone, IsDue, IsRefused, IsRefusedBy, MayAnswer, items_line, words_line, write_line}
+pub use Rattle.sig_outcome.specs.Tasks.{IsCut, IsDone, IsDue, IsRefused, IsRefusedBy, MayAnswer, image_line, items_line, words_line, write_line}
 pub use Rattle.sig_compile.specs.Acceptance.{HasOwnKernel, IsAcceptedProgram}
 pub use Rattle.sig_compile.specs.Compiling.{CompileComesTo, IsBeyondBound, IsCompileStatus, IsVerdictText}
 pub use Rattle.sig_compile.specs.Complete.{CanCompile, CanPrint}
@@ -27,3 +27,7 @@ pub use Rattle.sig_loads.specs.Refusals.{IsAboutLoad}
 pub use Rattle.sig_plays.specs.Complete.{CanPlay}
 pub use Rattle.sig_plays.specs.Prelude.{Core, Event, Given, IsPlanOf, PlanView, after, reactions_text, run_of}
 pub use Rattle.sig_plays.specs.Plays.{HasBegunPlay, HasPlay, IsAboutPlay, PlayComesTo}
+pub use Rattle.sig_images.specs.Builds.{BuildComesTo, HasBuilt, HasLongImage, IsAboutBuild, IsBuildStatus, building}
+pub use Rattle.sig_images.specs.Complete.{CanBuild, CanExec}
+pub use Rattle.sig_images.specs.Execs.{ExecComesTo, HasBegunExec, HasExecuted, IsAboutExec, IsExecStatus, executing}
+pub use Rattle.sig_images.specs.ImageFiles.{HoldsBeyondVerifying, HoldsSoundImage}

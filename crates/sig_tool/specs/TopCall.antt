@@ -1,25 +1,32 @@
 -- What is said of a call of the top, for every command.
 use Rattle.std.specs.Prelude.{◌≡◌, ◌⊎◌}
-use Rattle.sig_tool.specs.Prelude.{⊤, ℕ, false, List, Option, IfSome, Contents, name_where_there, IsCommand, Word, Command, Settings, Check, Code, Judge, Load, Play, Print, Run, Tree, Outcome, IsDone, IsRefused, Task, Refusal, IsCodeText, IsTreeText, CompileComesTo, HoldsBeyondBound, IsBeyondBound, IsAboutPlan, IsCompileStatus, IsVerdictText, IsAboutText, IsPrintStatus, PrintComesTo, HasBegunJudge, IsAboutJudge, IsJudgeStatus, JudgeComesTo, HasBegunRun, IsAboutRun, IsRunStatus, RunComesTo, program as generated, IsLoadStatus, LoadComesTo, IsAboutLoad, HasBegunPlay, IsAboutPlay, PlayComesTo}
-use Rattle.sig_tool.specs.Commands.{IsBuilt}
+use Rattle.sig_tool.specs.Prelude.{⊤, ℕ, false, List, Option, IfSome, Contents, name_where_there, IsCommand, Word, Command, Settings, Build, Check, Code, Exec, Judge, Load, Play, Print, Run, Tree, Outcome, IsDone, IsRefused, Task, Refusal, IsCodeText, IsTreeText, CompileComesTo, HoldsBeyondBound, IsBeyondBound, IsAboutPlan, IsCompileStatus, IsVerdictText, IsAboutText, IsPrintStatus, PrintComesTo, HasBegunJudge, IsAboutJudge, IsJudgeStatus, JudgeComesTo, HasBegunRun, IsAboutRun, IsRunStatus, RunComesTo, program as generated, IsLoadStatus, LoadComesTo, IsAboutLoad, HasBegunPlay, IsAboutPlay, PlayComesTo, BuildComesTo, IsAboutBuild, IsBuildStatus, ExecComesTo, HasBegunExec, HoldsBeyondVerifying, IsAboutExec, IsExecStatus}
 
 -- ---- the command that the words are
 
--- the words are no command that is built
+-- the words are no command
 abbrev pub AreNoCommand : List Word → Type 0
-AreNoCommand words = (c : Command) → IsCommand words c → ¬ IsBuilt c
+AreNoCommand words = (c : Command) → ¬ IsCommand words c
 
--- a fact of the command that the words are, if it is built
+-- a fact of the command that the words are
 abbrev pub OfCommand : List Word → (Command → Type 0) → Type 0
-OfCommand words Fact = (c : Command) → IsCommand words c → IsBuilt c → Fact c
+OfCommand words Fact = (c : Command) → IsCommand words c → Fact c
 
 -- a fact of a run, if the words are one
 abbrev pub OfRun : List Word → ((program flows : List ℕ) → Settings → Type 0) → Type 0
-OfRun words Fact = (program flows : List ℕ) (settings : Settings) → IsCommand words (Run program flows settings) → IsBuilt (Run program flows settings) → Fact program flows settings
+OfRun words Fact = (program flows : List ℕ) (settings : Settings) → IsCommand words (Run program flows settings) → Fact program flows settings
 
 -- and of a play
 abbrev pub OfPlay : List Word → ((program flows events : List ℕ) → Settings → Type 0) → Type 0
-OfPlay words Fact = (program flows events : List ℕ) (settings : Settings) → IsCommand words (Play program flows events settings) → IsBuilt (Play program flows events settings) → Fact program flows events settings
+OfPlay words Fact = (program flows events : List ℕ) (settings : Settings) → IsCommand words (Play program flows events settings) → Fact program flows events settings
+
+-- of a build
+abbrev pub OfBuild : List Word → ((program : List ℕ) → Type 0) → Type 0
+OfBuild words Fact = (program : List ℕ) → IsCommand words (Build program) → Fact program
+
+-- and of a run of an image
+abbrev pub OfExec : List Word → ((image flows : List ℕ) → Settings → Type 0) → Type 0
+OfExec words Fact = (image flows : List ℕ) (settings : Settings) → IsCommand words (Exec image flows settings) → Fact image flows settings
 
 -- a fact of a command that is a load
 abbrev pub IfLoad : Command → ((seed stages : ℕ) → Settings → Type 0) → Type 0
@@ -28,7 +35,7 @@ IfLoad _ Fact = ⊤
 
 -- ---- what a command means
 
--- a command over told contents comes to this; a command without an equation comes to nothing
+-- a command over told contents comes to this
 abbrev pub ComesTo : Contents → Command → Outcome → Type 0
 ComesTo held (Run program flows settings) o = RunComesTo held program flows settings o
 ComesTo held (Play program flows events settings) o = PlayComesTo held program flows events settings o
@@ -38,7 +45,8 @@ ComesTo held (Code program pace) o = CompileComesTo IsCodeText pace held program
 ComesTo held (Print program) o = PrintComesTo held program o
 ComesTo held (Judge program traces) o = JudgeComesTo held program traces o
 ComesTo held (Load seed stages settings) o = LoadComesTo seed stages settings o
-ComesTo held _ o = ⊥
+ComesTo held (Build program) o = BuildComesTo held program o
+ComesTo held (Exec image flows settings) o = ExecComesTo held image flows settings o
 
 -- a fact of what a command with told contents comes to
 abbrev pub OfOutcome : Option Contents → Command → (Outcome → Type 0) → Type 0
@@ -57,7 +65,8 @@ IsStatusOf (Code program pace) status = IsCompileStatus status
 IsStatusOf (Print program) status = IsPrintStatus status
 IsStatusOf (Judge program traces) status = IsJudgeStatus status
 IsStatusOf (Load seed stages settings) status = IsLoadStatus status
-IsStatusOf _ status = ⊥
+IsStatusOf (Build program) status = IsBuildStatus status
+IsStatusOf (Exec image flows settings) status = IsExecStatus status
 
 -- a refusal may be one of a command
 abbrev pub IsAbout : Command → Refusal → Type 0
@@ -69,7 +78,8 @@ IsAbout (Code program pace) r = IsAboutPlan program r
 IsAbout (Print program) r = IsAboutText program r
 IsAbout (Judge program traces) r = IsAboutJudge program traces r
 IsAbout (Load seed stages settings) r = IsAboutLoad r
-IsAbout _ r = ⊥
+IsAbout (Build program) r = IsAboutBuild program r
+IsAbout (Exec image flows settings) r = IsAboutExec image flows r
 
 -- the file that was begun last is one of the command's; one that names none begins none
 abbrev pub HasBegun : Contents → Command → Option (List ℕ) → Type 0
@@ -81,17 +91,21 @@ HasBegun held (Code program pace) at = at ≡ name_where_there held program
 HasBegun held (Print program) at = at ≡ name_where_there held program
 HasBegun held (Judge program traces) at = HasBegunJudge held program traces at
 HasBegun held (Load seed stages settings) at = ⊤
-HasBegun held _ at = ⊥
+HasBegun held (Build program) at = at ≡ name_where_there held program
+HasBegun held (Exec image flows settings) at = HasBegunExec held image flows at
 
--- the program which a command compiles is not within the bound for which the nodes of a store suffice
-abbrev pub CompilesBeyondBound : Contents → Command → Type 0
-CompilesBeyondBound held (Run program flows settings) = HoldsBeyondBound settings.pace (held program)
-CompilesBeyondBound held (Play program flows events settings) = HoldsBeyondBound settings.pace (held program)
-CompilesBeyondBound held (Check program pace) = HoldsBeyondBound pace (held program)
-CompilesBeyondBound held (Tree program pace) = HoldsBeyondBound pace (held program)
-CompilesBeyondBound held (Code program pace) = HoldsBeyondBound pace (held program)
-CompilesBeyondBound held (Load seed stages settings) = IsBeyondBound false (generated stages)
-CompilesBeyondBound held _ = ⊥
+-- the program which a command compiles, or the image which it verifies, is not within the bound for which the nodes of a store
+-- suffice
+abbrev pub NeedsBeyondBound : Contents → Command → Type 0
+NeedsBeyondBound held (Run program flows settings) = HoldsBeyondBound settings.pace (held program)
+NeedsBeyondBound held (Play program flows events settings) = HoldsBeyondBound settings.pace (held program)
+NeedsBeyondBound held (Check program pace) = HoldsBeyondBound pace (held program)
+NeedsBeyondBound held (Tree program pace) = HoldsBeyondBound pace (held program)
+NeedsBeyondBound held (Code program pace) = HoldsBeyondBound pace (held program)
+NeedsBeyondBound held (Load seed stages settings) = IsBeyondBound false (generated stages)
+NeedsBeyondBound held (Build program) = HoldsBeyondBound false (held program)
+NeedsBeyondBound held (Exec image flows settings) = HoldsBeyondVerifying (held image)
+NeedsBeyondBound held _ = ⊥
 
 -- all of this, as what is asked for
 abbrev pub task_of : Command → Task
@@ -100,5 +114,5 @@ task_of c = record {
   statuses = λ status. IsStatusOf c status;
   about = λ r. IsAbout c r;
   begun = λ held at. HasBegun held c at;
-  beyond = λ held. CompilesBeyondBound held c;
+  beyond = λ held. NeedsBeyondBound held c;
 }

@@ -1,7 +1,7 @@
 //! The top call of sigc: from the words of a command line, files and sinks to a status. It reads the
 //! words by sig_words and hands each command to the crate that promises what it does: sig_compile,
-//! sig_judging, sig_runs, sig_plays or sig_loads. What they promise has one form, the task of sig_outcome, of
-//! which each clause of `sig_main` is a part. `specs/Headline.antt` has all that is promised on one page.
+//! sig_judging, sig_runs, sig_plays, sig_loads or sig_images. What they promise has one form, the task of
+//! sig_outcome, of which each clause of `sig_main` is a part. `specs/Headline.antt` has all that is promised on one page.
 #![tactic(auto)]
 
 mod headline;
@@ -12,6 +12,10 @@ mod words;
 pub use headline::accepted_programs_keep_the_headline;
 pub use sig_compile::{
     good_programs_compile, good_texts_print, kernels_have_a_verdict, one_verdict,
+};
+pub use sig_images::{
+    builds_have_one_outcome, execs_have_one_outcome, good_builds_are_done, good_execs_end,
+    images_of_kernels_are_one, images_run_as_their_kernels,
 };
 pub use sig_loads::{good_loads_end, loads_have_one_outcome};
 pub use sig_plays::{good_plays_end, plays_have_one_outcome};

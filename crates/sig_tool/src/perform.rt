@@ -1,12 +1,13 @@
-//! A command that is built, from its files to a status.
+//! A command, from its files to a status.
 
 ghost use Rattle.std.specs.Prelude.{◌≡◌, ◌≤◌};
 ghost use Rattle.sig_tool.specs.Prelude.{[], Option, None, WORKERS_MAX, AllByRecursion, IsUtf8, loading, Performs, SaysLine, AreWithinBounds, running, files_of, Contents};
-ghost use Rattle.sig_tool.specs.Commands.{IsBuilt, IsLimited};
+ghost use Rattle.sig_tool.specs.Commands.{IsLimited};
 ghost use Rattle.sig_tool.specs.TopCall.{IfLoad, task_of};
 
 use sig_base::Text;
 use sig_compile::{Product, compile_command, print_command};
+use sig_images::{build_command, exec_command};
 use sig_judging::judge_command;
 use sig_loads::load_command;
 use sig_plays::play_command;
@@ -28,7 +29,6 @@ pub fn perform<R: Threads + Wait + Sync, F: Files, S: Sink, E: Sink, G: Gate + S
     err: &mut E,
     gate: &G,
 ) -> u8
-    requires built { IsBuilt command.now }
     requires names { AllByRecursion IsUtf8 (files_of command.now) }
     requires limited { IsLimited command.now }
     ensures performs { Performs (task_of command.now)
@@ -94,7 +94,11 @@ pub fn perform<R: Threads + Wait + Sync, F: Files, S: Sink, E: Sink, G: Gate + S
             load_command(rt, alloc, *seed, *stages, *settings, out, err, gate)
         }
         Command::Print(program) => print_command(alloc, name_of(program), files, out, err),
-        _ => unreachable!(),
+        Command::Build(program) => build_command(alloc, name_of(program), files, out, err),
+        Command::Exec(image, flows, settings) => {
+            let (image, flows) = (name_of(image), name_of(flows));
+            exec_command(alloc, image, flows, *settings, files, out, err)
+        }
     }
 }
 

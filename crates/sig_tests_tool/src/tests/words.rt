@@ -32,10 +32,10 @@ fn takes_options(rt: HostRuntime) -> Result<(), Fail> {
     Ok(())
 }
 
-/// Words that are no command, or none that is built.
+/// Words that are no command.
 #[test]
 fn refuses_words(rt: HostRuntime) -> Result<(), Fail> {
-    let lines: [&[&str]; 21] = [
+    let lines: [&[&str]; 24] = [
         &[],
         &["run", "P"],
         &["run", "P", "F", "F"],
@@ -54,7 +54,10 @@ fn refuses_words(rt: HostRuntime) -> Result<(), Fail> {
         &["load", "1", "3", "--pace"],
         &["load", "1", "13"],
         &["load", "1", "3", "--instants", "5"],
-        &["exec", "P", "F"],
+        &["exec", "P"],
+        &["exec", "P", "F", "--workers", "1"],
+        &["build", "P", "F"],
+        &["build", "P", "--pace"],
         &["run", "P", "F", "--pace=1"],
         &["run", "P", "F", "--pace", "--instants", "--pace"],
     ];

@@ -47,6 +47,12 @@ returns-in-Tree-clause-performs g c = rw c.in-Tree.is (rw c.name_of-in-Tree.ensu
 pub returns-in-Code-clause-performs : goal.returns-in-Code-clause-performs
 returns-in-Code-clause-performs g c = rw c.in-Code.is (rw c.name_of-in-Code.ensures at c.compile_command-in-Code.ensures)
 
+pub returns-in-Build-clause-performs : goal.returns-in-Build-clause-performs
+returns-in-Build-clause-performs g c = rw c.in-Build.is (rw c.name_of-in-Build.ensures at c.build_command.ensures.performs)
+
+pub returns-in-Exec-clause-performs : goal.returns-in-Exec-clause-performs
+returns-in-Exec-clause-performs g c = rw c.in-Exec.is (rw (c.name_of-image.ensures, c.name_of-flows-in-Exec.ensures) at c.exec_command.ensures.performs)
+
 -- a load asks for no file
 
 pub returns-in-Load-clause-load : goal.returns-in-Load-clause-load
@@ -72,3 +78,9 @@ returns-in-Tree-clause-load g c = rw c.in-Tree.is tt
 
 pub returns-in-Code-clause-load : goal.returns-in-Code-clause-load
 returns-in-Code-clause-load g c = rw c.in-Code.is tt
+
+pub returns-in-Build-clause-load : goal.returns-in-Build-clause-load
+returns-in-Build-clause-load g c = rw c.in-Build.is tt
+
+pub returns-in-Exec-clause-load : goal.returns-in-Exec-clause-load
+returns-in-Exec-clause-load g c = rw c.in-Exec.is tt
