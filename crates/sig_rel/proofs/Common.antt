@@ -41,7 +41,7 @@ pub use Rattle.sig_rel.specs.Relations.{AreUnknowns, IsRelation, IsUnknownCount,
 pub use Rattle.sig_rel.specs.Residues.{IsOwnStatus, IsPresentFrom, IsSomePresent, is_met, left_refs}
 pub use Rattle.sig_rel.specs.Rules.{AreRules, AreValues, EntersAfter, HoldsAfter, StandsAfter, Values, has, operand_value, presence_by, truth_by_form, value_status}
 pub use Rattle.sig_rel.specs.Firsts.{AreCounted, AreFirsts, first_or, first_where, is_unexcused, is_unexcused_by, kept_by}
-pub use Rattle.sig_rel.specs.Schedules.{AreNamed, HasPlace, IsFoundAmong, IsOrderOfWriting, IsPlannedStep, IsSchedule, IsScheduling, IsStepBy, IsTaken, IsWhole, MayBeWritten, MayBeWrittenBy, ReadsBefore, is_left, is_left_truth, with_counted, with_defined}
+pub use Rattle.sig_rel.specs.Schedules.{AreNamed, HasPlace, IsFoundAmong, IsOrderOfWriting, IsPlannedStep, IsSchedule, IsScheduling, IsStepBy, IsTaken, IsWhole, MayBeWritten, ReadsBefore, is_left, is_left_truth, is_waiting, with_counted, with_defined}
 pub use Rattle.sig_rel.specs.Shares.{IsRefusedFor, KeepsToShare, KeepsToTriangularShare, Leads, Makes, share_of, triangular_share_of}
 pub use Rattle.sig_rel.specs.Statuses.{AreUnknownsOf, LieWithin, itself, refs_of, status_by}
 pub use Rattle.sig_rel.specs.Substituted.{AreSubstituted, Fits, IsCutClass, IsCutTruth}

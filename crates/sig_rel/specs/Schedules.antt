@@ -65,6 +65,11 @@ is_left least placed class = (slice_index least class == class) && not (slice_in
 abbrev pub is_left_truth : Kernel → List ℕ → Placed → ℕ → Bool
 is_left_truth kernel least placed signal = (is_boolean kernel signal && has_class least placed signal) && not (has_truth_of kernel placed signal)
 
+-- an element of one kind is left: a boolean of a class that was scheduled, or a class
+abbrev pub is_waiting : Kernel → Scheduling → Bool → ℕ → Bool
+is_waiting kernel scheduling true signal = is_left_truth kernel scheduling.rules.least.items scheduling.placed signal
+is_waiting kernel scheduling false class = is_left scheduling.rules.least.items scheduling.placed class
+
 -- an equation of this form gives a class its presence from what was scheduled
 abbrev pub may_write : Kernel → List ℕ → Placed → ℕ → Form → Bool
 may_write kernel least placed class form = governs least class form && presence_ready kernel least placed form
@@ -72,10 +77,6 @@ may_write kernel least placed class form = governs least class form && presence_
 -- the class was not scheduled, and an equation of this form may write it
 abbrev pub MayBeWritten : Kernel → Scheduling → Form → ℕ → Type 0
 MayBeWritten kernel scheduling form class = (is_left scheduling.rules.least.items scheduling.placed class ≡ true) × (may_write kernel scheduling.rules.least.items scheduling.placed class form ≡ true)
-
--- and the equation is that of this number
-abbrev pub MayBeWrittenBy : Kernel → Scheduling → ℕ → ℕ → Type 0
-MayBeWrittenBy kernel scheduling number class = (equation : Equation) × (slice_get kernel.equations number ≡ Some equation) × MayBeWritten kernel scheduling equation.form class
 
 -- one of the signals is such a one, where one was found; else none is
 abbrev pub IsFoundAmong : Kernel → (ℕ → Bool) → Option ℕ → Type 0

@@ -107,9 +107,10 @@ fn system_of(
     requires { length conditions.now ≤ 512 }
     ensures { IfOk result (IsSystemOf kernel.now rules.now columns.now conditions.now) }
 {
+    let (present, truth) = rows_of(alloc, kernel, rules, columns)?;
     Ok(System {
-        present: presences(alloc, kernel, rules, columns)?,
-        truth: truths(alloc, kernel, rules, columns)?,
+        present,
+        truth,
         residue: columns.always,
         speaks: columns.always,
         conditions: Vec::from_slice(alloc, conditions)?,
@@ -126,35 +127,27 @@ fn first_numbers(alloc: Global, count: u32) -> Result<Vec<u32>, AllocError>
     (0..count).map(|number| number).collect(alloc)
 }
 
-/// The presence of each signal: that of its class.
-pub(crate) fn presences(
+/// The presence of each signal, that of its class, and the truth of each.
+pub(crate) fn rows_of(
     alloc: Global,
     kernel: &Kernel,
     rules: &Rules,
     columns: &Columns,
-) -> Result<Vec<Ref>, AllocError>
-    ensures { IfOk result (λ present. present.items
+) -> Result<(Vec<Ref>, Vec<Ref>), AllocError>
+    ensures present { IfOk result (λ rows. rows.0.items
         ≡ map (λ signal. present_at columns.now (slice_index rules.now.least.items signal))
         (range_with_len 0 (length kernel.now.signals))) }
-{
-    (0..kernel.signals.as_slice().len())
-        .map(|signal| columns.present_at(least_of(rules.least.as_slice(), signal)))
-        .collect(alloc)
-}
-
-/// The truth of each signal.
-pub(crate) fn truths(
-    alloc: Global,
-    kernel: &Kernel,
-    rules: &Rules,
-    columns: &Columns,
-) -> Result<Vec<Ref>, AllocError>
-    ensures { IfOk result (λ truth. truth.items
+    ensures truth { IfOk result (λ rows. rows.1.items
         ≡ map (truth_ref kernel.now rules.now columns.now) (range_with_len 0 (length kernel.now.signals))) }
 {
-    (0..kernel.signals.as_slice().len())
-        .map(|signal| truth_of(kernel, rules, columns, signal))
-        .collect(alloc)
+    let least = rules.least.as_slice();
+    let mut present = Vec::new(alloc);
+    let mut truth = Vec::new(alloc);
+    for signal in 0..kernel.signals.as_slice().len() {
+        present.push(columns.present_at(least_of(least, signal)))?;
+        truth.push(truth_of(kernel, rules, columns, signal))?;
+    }
+    Ok((present, truth))
 }
 
 /// The truth of a signal: that of a boolean, and the presence of another signal.

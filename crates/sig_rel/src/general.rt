@@ -17,8 +17,8 @@ ghost use Rattle.sig_rel.specs.Systems.{AreConditions, IsSystem};
 
 use crate::answer::RelAnswer;
 use crate::arranging::arranged;
-use crate::free::{presences, truths};
-use crate::numbering::{Unknowns, unknowns_by, unknowns_of};
+use crate::free::rows_of;
+use crate::numbering::{Unknowns, number_in, unknowns_by};
 use crate::rules::Rules;
 use crate::schedules::{Schedule, schedule_of};
 use crate::substitution::Columns;
@@ -80,7 +80,7 @@ fn arranged_unknowns(
     ensures unknowns { IfOk result (AreUnknownsOf kernel.now) }
     ensures within { IfOk result (LieWithin kernel.now) }
 {
-    let named = unknowns_of(alloc, kernel)?;
+    let named = unknowns_by(alloc, kernel, &[])?;
     let order = arranged(alloc, &schedule.links, &named)?;
     unknowns_by(alloc, kernel, order.as_slice())
 }
@@ -182,9 +182,10 @@ fn system_with(
     requires { unknowns.now.first ≤ unknowns.now.end }
     ensures { IfOk result (IsSystemWith kernel.now rules.now columns.now unknowns.now conditions.now left) }
 {
+    let (present, truth) = rows_of(alloc, kernel, rules, columns)?;
     Ok(System {
-        present: presences(alloc, kernel, rules, columns)?,
-        truth: truths(alloc, kernel, rules, columns)?,
+        present,
+        truth,
         residue: left.residue,
         speaks: left.speaks,
         conditions: Vec::from_slice(alloc, conditions)?,
@@ -205,17 +206,7 @@ fn proposals_of(
 {
     let mut proposals = Vec::new(alloc);
     for condition in conditions {
-        proposals.push(proposal_of(unknowns, *condition))?;
+        proposals.push(number_in(unknowns.truth.as_slice(), condition.0 as usize))?;
     }
     Ok(proposals)
-}
-
-/// The variable of a boolean's truth.
-fn proposal_of(unknowns: &Unknowns, signal: SigId) -> u32
-    ensures { result ≡ number_of (slice_get unknowns.now.truth.items signal.0) }
-{
-    match unknowns.truth.get(signal.0 as usize) {
-        Some(Some(v)) => *v,
-        Some(None) | None => 0,
-    }
 }

@@ -4,247 +4,153 @@
 use crate::elements::Element;
 use crate::functions::truth_function;
 use crate::numbering::is_boolean;
-use crate::rules::{Rules, class_of, least_of, target_number};
+use crate::rules::{Rules, is_listed, least_of, target_number};
 use sig_base::SigId;
-use sig_kernel::{Equation, Form, Kernel, Operand};
+use sig_kernel::{Form, Kernel, Operand};
 use std::alloc::{AllocError, Global};
 
 /// From how many unknowns an element may be written in a circle; else it keeps its own.
 const MOST: usize = 8;
 
-/// An element of a link.
+/// An element of a link, by its place among those that are linked.
 #[derive(Clone, Copy)]
 pub(crate) struct Pin {
     pub(crate) link: usize,
     pub(crate) element: usize,
 }
 
-/// Links between elements, which are numbered; and to each element the range of those among the
-/// members from which it is written: itself alone where it keeps its own unknown, or would be written
-/// from many.
+/// A range of members.
+#[derive(Clone, Copy)]
+struct Range {
+    start: usize,
+    end: usize,
+}
+
+/// Links between elements that have unknowns of their own; and to each element the range of those among
+/// the members from which it is written: itself alone where it keeps its own unknown, or would be
+/// written from many.
 #[derive(Drop)]
 pub(crate) struct Links {
     pub(crate) pins: Vec<Pin>,
     pub(crate) count: usize,
-    pub(crate) linked: Vec<usize>,
+    pub(crate) linked: Vec<Element>,
     members: Vec<usize>,
-    starts: Vec<usize>,
-    ends: Vec<usize>,
+    ranges: Vec<Range>,
     circular: bool,
-}
-
-/// The number of an element.
-pub(crate) fn number_of(element: Element) -> usize {
-    match element {
-        Element::Presence(class) => (class as usize).saturating_mul(2),
-        Element::Truth(signal) => (signal as usize).saturating_mul(2).saturating_add(1),
-    }
 }
 
 impl Links {
     /// No links, of so many signals.
     pub(crate) fn none(alloc: Global, count: usize) -> Result<Links, AllocError> {
-        let numbers = count.saturating_mul(2);
         Ok(Links {
             pins: Vec::new(alloc),
             count: 0,
             linked: Vec::new(alloc),
             members: Vec::new(alloc),
-            starts: vec![in alloc; 0usize; numbers]?,
-            ends: vec![in alloc; 0usize; numbers]?,
+            ranges: vec![in alloc; Range { start: 0, end: 0 }; count.saturating_mul(2)]?,
             circular: false,
         })
     }
 
-    /// Takes the next element that is written by an equation of this form, or by none. Whether it is
-    /// to keep its own unknown: where a boolean in a circle would be written from many.
+    /// Takes the next element, which an equation of this form writes, or none. The boolean, if it is one
+    /// that is to be cut: it would be written from many, in a circle.
     pub(crate) fn take(
         &mut self,
-        alloc: Global,
         least: &[u32],
+        conditions: &[SigId],
         element: Element,
         form: Option<&Form>,
-        is_condition: bool,
-    ) -> Result<bool, AllocError> {
-        let number = number_of(element);
+    ) -> Result<Option<u32>, AllocError> {
+        let start = self.members.len();
         let Some(form) = form else {
-            self.circular = self.circular || (is_truth(element) && !is_condition);
-            self.keep_own(number)?;
-            return Ok(false);
+            self.circular = self.circular || is_open(conditions, element);
+            self.keep(element, start, true)?;
+            return Ok(None);
         };
-        let mut found = Vec::new(alloc);
-        self.gather(&mut found, least, element, form)?;
-        if found.len() <= MOST {
-            self.keep(number, found.as_slice())?;
-            return Ok(false);
+        self.gather(start, &reads(least, element, form))?;
+        let is_wide = self.members.len().saturating_sub(start) > MOST;
+        self.keep(element, start, is_wide)?;
+        match element {
+            Element::Truth(signal) if is_wide && self.circular => Ok(Some(signal)),
+            _ if is_wide => {
+                self.link(start)?;
+                Ok(None)
+            }
+            _ => Ok(None),
         }
-        let cut = self.circular && is_truth(element);
-        if !cut {
-            found.push(number)?;
-            self.link(found.as_slice())?;
-        }
-        self.keep_own(number)?;
-        Ok(cut)
     }
 
     /// Links what an equation that is left to be met asks of.
     pub(crate) fn link_equation(
         &mut self,
-        alloc: Global,
         kernel: &Kernel,
         rules: &Rules,
         number: usize,
-        equation: &Equation,
+        form: &Form,
     ) -> Result<(), AllocError> {
-        let form = &equation.form;
         if is_used(kernel, rules, number, form) {
             return Ok(());
         }
         let least = rules.least.as_slice();
         let target = SigId(target_number(form));
-        let mut found = Vec::new(alloc);
-        self.gather_class(&mut found, least, target)?;
-        self.gather_truth(&mut found, target)?;
-        self.gather(&mut found, least, Element::Presence(target.0), form)?;
-        self.gather(&mut found, least, Element::Truth(target.0), form)?;
-        if found.len() > 1 {
-            self.link(found.as_slice())?;
-        }
-        Ok(())
+        let start = self.members.len();
+        let (class, truth) = (class_at(least, target), Element::Truth(target.0));
+        let [a, b, c] = reads(least, class, form);
+        let [d, e, f] = reads(least, truth, form);
+        self.gather(start, &[Some(class), Some(truth), a, b, c, d, e, f])?;
+        self.link(start)
     }
 
-    /// Adds the elements from which an equation of this form writes an element.
-    fn gather(
-        &self,
-        found: &mut Vec<usize>,
-        least: &[u32],
-        element: Element,
-        form: &Form,
-    ) -> Result<(), AllocError> {
-        match element {
-            Element::Presence(_) => self.gather_presence(found, least, form),
-            Element::Truth(_) => self.gather_given(found, least, form),
-        }
-    }
-
-    fn gather_presence(
-        &self,
-        found: &mut Vec<usize>,
-        least: &[u32],
-        form: &Form,
-    ) -> Result<(), AllocError> {
-        match form {
-            Form::When(_, x, b) => {
-                self.gather_class(found, least, *x)?;
-                self.gather_class(found, least, *b)?;
-                self.gather_truth(found, *b)
-            }
-            Form::WhenConst(_, _, b) => {
-                self.gather_class(found, least, *b)?;
-                self.gather_truth(found, *b)
-            }
-            Form::Default(_, u, v) => {
-                self.gather_class(found, least, *u)?;
-                self.gather_class(found, least, *v)
-            }
-            Form::Fun(_, _, _) | Form::Delay(_, _, _) | Form::Sync(_, _) | Form::Event(_, _) => {
-                Ok(())
-            }
-        }
-    }
-
-    fn gather_given(
-        &self,
-        found: &mut Vec<usize>,
-        least: &[u32],
-        form: &Form,
-    ) -> Result<(), AllocError> {
-        match form {
-            Form::Fun(_, _, operands) => self.gather_operands(found, operands.as_slice()),
-            Form::When(_, x, _) => self.gather_truth(found, *x),
-            Form::Default(_, u, v) => {
-                self.gather_class(found, least, *u)?;
-                self.gather_truth(found, *u)?;
-                self.gather_truth(found, *v)
-            }
-            Form::WhenConst(_, _, _)
-            | Form::Delay(_, _, _)
-            | Form::Sync(_, _)
-            | Form::Event(_, _) => Ok(()),
-        }
-    }
-
-    fn gather_operands(
-        &self,
-        found: &mut Vec<usize>,
-        operands: &[Operand],
-    ) -> Result<(), AllocError> {
-        for operand in operands {
-            if let Operand::Sig(x) = operand {
-                self.gather_truth(found, *x)?;
+    /// Adds the members from which elements are written, those that are not there yet from a start on.
+    fn gather(&mut self, start: usize, elements: &[Option<Element>]) -> Result<(), AllocError> {
+        for element in elements {
+            if let Some(element) = element {
+                self.gather_one(start, *element)?;
             }
         }
         Ok(())
     }
 
-    fn gather_class(
-        &self,
-        found: &mut Vec<usize>,
-        least: &[u32],
-        x: SigId,
-    ) -> Result<(), AllocError> {
-        self.gather_members(found, class_of(least, x).saturating_mul(2))
-    }
-
-    fn gather_truth(&self, found: &mut Vec<usize>, x: SigId) -> Result<(), AllocError> {
-        self.gather_members(found, number_of(Element::Truth(x.0)))
-    }
-
-    /// Adds the elements from which that of a number is written, those that are not there yet.
-    fn gather_members(&self, found: &mut Vec<usize>, number: usize) -> Result<(), AllocError> {
-        let start = number_at(self.starts.as_slice(), number);
-        let end = number_at(self.ends.as_slice(), number);
-        for place in start..end {
+    /// Adds the members from which an element is written, those that are not there yet from a start on.
+    fn gather_one(&mut self, start: usize, element: Element) -> Result<(), AllocError> {
+        let Some(range) = self.ranges.get(number_of(element)).copied() else {
+            return Ok(());
+        };
+        for place in range.start..range.end {
             let member = number_at(self.members.as_slice(), place);
-            if !has(found.as_slice(), member) {
-                found.push(member)?;
+            if !has(self.members.as_slice(), start, member) {
+                self.members.push(member)?;
             }
         }
         Ok(())
     }
 
-    /// Keeps that an element has its own unknown, or is named in the place of many.
-    fn keep_own(&mut self, number: usize) -> Result<(), AllocError> {
-        self.linked.push(number)?;
-        let start = self.members.len();
-        self.members.push(number)?;
-        self.keep_range(number, start);
-        Ok(())
-    }
-
-    /// Keeps the elements from which one is written.
-    fn keep(&mut self, number: usize, found: &[usize]) -> Result<(), AllocError> {
-        let start = self.members.len();
-        for member in found {
-            self.members.push(*member)?;
+    /// Keeps for an element the members from a start on; itself alone, where it has its own unknown or
+    /// is named in the place of many.
+    fn keep(&mut self, element: Element, start: usize, is_own: bool) -> Result<(), AllocError> {
+        let mut start = start;
+        if is_own {
+            start = self.members.len();
+            self.members.push(self.linked.len())?;
+            self.linked.push(element)?;
         }
-        self.keep_range(number, start);
+        let end = self.members.len();
+        let number = number_of(element);
+        if number < self.ranges.len() {
+            self.ranges[number] = Range { start, end };
+        }
         Ok(())
     }
 
-    /// Keeps the range from a start up to the last member for an element.
-    fn keep_range(&mut self, number: usize, start: usize) {
-        let end = self.members.len();
-        put(self.starts.as_mut_slice(), number, start);
-        put(self.ends.as_mut_slice(), number, end);
-    }
-
-    /// Adds a link of these elements.
-    fn link(&mut self, found: &[usize]) -> Result<(), AllocError> {
-        for element in found {
+    /// Adds a link of the members from a start on, if there are several.
+    fn link(&mut self, start: usize) -> Result<(), AllocError> {
+        if self.members.len().saturating_sub(start) < 2 {
+            return Ok(());
+        }
+        for place in start..self.members.len() {
             self.pins.push(Pin {
                 link: self.count,
-                element: *element,
+                element: number_at(self.members.as_slice(), place),
             })?;
         }
         self.count = self.count.saturating_add(1);
@@ -252,11 +158,65 @@ impl Links {
     }
 }
 
-/// Whether an element is a truth.
-fn is_truth(element: Element) -> bool {
+/// The elements from which an equation of this form writes an element. A function of truths has at most
+/// two operands.
+fn reads(least: &[u32], element: Element, form: &Form) -> [Option<Element>; 3] {
+    match (element, form) {
+        (Element::Presence(_), Form::When(_, x, b)) => [
+            Some(class_at(least, *x)),
+            Some(class_at(least, *b)),
+            Some(Element::Truth(b.0)),
+        ],
+        (Element::Presence(_), Form::WhenConst(_, _, b)) => {
+            [Some(class_at(least, *b)), Some(Element::Truth(b.0)), None]
+        }
+        (Element::Presence(_), Form::Default(_, u, v)) => {
+            [Some(class_at(least, *u)), Some(class_at(least, *v)), None]
+        }
+        (Element::Truth(_), Form::Fun(_, _, operands)) => [
+            truth_at(operands.as_slice(), 0),
+            truth_at(operands.as_slice(), 1),
+            None,
+        ],
+        (Element::Truth(_), Form::When(_, x, _)) => [Some(Element::Truth(x.0)), None, None],
+        (Element::Truth(_), Form::Default(_, u, v)) => [
+            Some(class_at(least, *u)),
+            Some(Element::Truth(u.0)),
+            Some(Element::Truth(v.0)),
+        ],
+        _ => [None, None, None],
+    }
+}
+
+/// The presence of a signal's class.
+fn class_at(least: &[u32], x: SigId) -> Element {
+    Element::Presence(match least.get(x.0 as usize) {
+        Some(class) => *class,
+        None => 0,
+    })
+}
+
+/// The truth of the operand at a place, if that is a signal.
+fn truth_at(operands: &[Operand], place: usize) -> Option<Element> {
+    match operands.get(place) {
+        Some(Operand::Sig(x)) => Some(Element::Truth(x.0)),
+        _ => None,
+    }
+}
+
+/// Whether an element is the truth of a signal that is no condition.
+fn is_open(conditions: &[SigId], element: Element) -> bool {
     match element {
         Element::Presence(_) => false,
-        Element::Truth(_) => true,
+        Element::Truth(signal) => !is_listed(conditions, signal as usize),
+    }
+}
+
+/// The number of an element.
+fn number_of(element: Element) -> usize {
+    match element {
+        Element::Presence(class) => (class as usize).saturating_mul(2),
+        Element::Truth(signal) => (signal as usize).saturating_mul(2).saturating_add(1),
     }
 }
 
@@ -286,9 +246,14 @@ fn is_entry(table: &[Option<u32>], place: usize, number: usize) -> bool {
     }
 }
 
-/// Whether a number is among others.
-fn has(numbers: &[usize], number: usize) -> bool {
-    numbers.iter().any(|other| *other == number)
+/// Whether a number is among others from a start on.
+fn has(numbers: &[usize], start: usize, number: usize) -> bool {
+    for place in start..numbers.len() {
+        if numbers[place] == number {
+            return true;
+        }
+    }
+    false
 }
 
 /// The number at a place; 0 past the end.
@@ -296,12 +261,5 @@ pub(crate) fn number_at(numbers: &[usize], place: usize) -> usize {
     match numbers.get(place) {
         Some(number) => *number,
         None => 0,
-    }
-}
-
-/// Puts a number at a place, if there is such a place.
-pub(crate) fn put(numbers: &mut [usize], place: usize, number: usize) {
-    if place < numbers.len() {
-        numbers[place] = number;
     }
 }

@@ -6,7 +6,7 @@ ghost use Rattle.sig_rel.specs.Relations.{IsRelation};
 ghost use Rattle.sig_rel.specs.Shares.{KeepsToShare};
 
 use crate::answer::RelAnswer;
-use crate::numbering::unknowns_of;
+use crate::numbering::unknowns_by;
 use crate::relations::Relation;
 use crate::substitution::Columns;
 use sig_clock::same_clock;
@@ -25,7 +25,7 @@ pub fn relation(alloc: Global, kernel: &Kernel, store: &mut Store) -> Result<Rel
 {
     let _nodes = store.len();
     let least = same_clock(alloc, kernel)?;
-    let unknowns = unknowns_of(alloc, kernel)?;
+    let unknowns = unknowns_by(alloc, kernel, &[])?;
     let mut columns = Columns::fresh(alloc, store, kernel.signals.as_slice().len())?;
     columns.own(store, least.as_slice(), &unknowns)?;
     let whole = columns.residue(store, kernel, least.as_slice())?;

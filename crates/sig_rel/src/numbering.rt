@@ -31,17 +31,6 @@ struct Numbering {
     next: u32,
 }
 
-/// The unknowns of a kernel, numbered from the count of its conditions on, in the order in which the
-/// equations name them.
-pub(crate) fn unknowns_of(alloc: Global, kernel: &Kernel) -> Result<Unknowns, ClockBase>
-    requires { IsValid kernel.now }
-    ensures unknowns { IfOk result (AreUnknownsOf kernel.now) }
-    ensures within { IfOk result (LieWithin kernel.now) }
-{
-    let order = Vec::new(alloc);
-    unknowns_by(alloc, kernel, order.as_slice())
-}
-
 /// The unknowns of a kernel, numbered from the count of its conditions on: first those of these
 /// elements, in their order, and the others in the order in which the equations name them.
 pub(crate) fn unknowns_by(
@@ -285,19 +274,19 @@ impl Numbering {
     {
         let mut present = Vec::new(alloc);
         for class in least {
-            present.push(self.class_number(*class as usize))?;
+            present.push(number_in(self.class.as_slice(), *class as usize))?;
         }
         Ok(present)
     }
+}
 
-    /// The number of a class.
-    fn class_number(&self, class: usize) -> u32
-        ensures { result ≡ number_of (slice_get self.now.class.items class) }
-    {
-        match self.class.get(class) {
-            Some(Some(number)) => *number,
-            _ => 0,
-        }
+/// The number at a place; 0 where none is given.
+pub(crate) fn number_in(rows: &[Option<u32>], place: usize) -> u32
+    ensures { result ≡ number_of (slice_get rows.now place) }
+{
+    match rows.get(place) {
+        Some(Some(number)) => *number,
+        Some(None) | None => 0,
     }
 }
 

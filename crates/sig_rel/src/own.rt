@@ -9,6 +9,7 @@ ghost use Rattle.sig_rel.specs.OwnColumns.{AreOwnColumns, IsUnknownWhere, classe
 ghost use Rattle.sig_rel.specs.Variables.{AreVariables, IsVariableAt};
 
 use crate::elements::Element;
+use crate::firsts::row;
 use crate::numbering::Unknowns;
 use crate::rules::least_of;
 use crate::statuses::Known;
@@ -134,9 +135,6 @@ fn unknown_of(least: &[u32], unknowns: &Unknowns, element: Element) -> Option<u3
                 None
             }
         }
-        Element::Truth(signal) => match unknowns.truth.get(signal as usize) {
-            Some(unknown) => *unknown,
-            None => None,
-        },
+        Element::Truth(signal) => row(unknowns.truth.as_slice(), signal as usize),
     }
 }

@@ -1,10 +1,10 @@
 //! The list of a triangular kernel, put together one element after another.
 
 ghost use Rattle.std.specs.Prelude.{◌≡◌, ◌<◌, ◌≤◌, ◌∷◌, ◌++◌};
-ghost use Rattle.sig_rel.specs.Prelude.{[], ℕ, true, false, length, slice_index_or, IfOk, OnOk, MatchOption, MatchBool, list_all, IsValid};
+ghost use Rattle.sig_rel.specs.Prelude.{[], ℕ, true, false, length, slice_get, slice_index_or, IfOk, OnOk, MatchOption, MatchBool, list_all, IsValid};
 ghost use Rattle.sig_rel.specs.Schedules.{is_left, may_write};
 ghost use Rattle.sig_rel.specs.Systems.{AreConditions};
-ghost use Rattle.sig_rel.specs.Tables.{AreMarks, AreRulesOf, IsPlaced, IsStuck, IsTriangleOf, IsWithin, MayBePlaced, has_both, has_class, has_operand, has_truth_of, has_whole, is_top_class, may_enter, may_hold, presence_ready, truth_ready, with_class, with_truth_of};
+ghost use Rattle.sig_rel.specs.Tables.{AreMarks, AreRulesOf, IsPlaced, IsStuck, IsTriangleOf, IsWithin, MayBePlaced, boolean_ready, has_both, has_class, has_operand, has_truth_of, has_whole, is_top_class, may_enter, may_hold, presence_ready, truth_ready, with_class, with_truth_of};
 ghost use Rattle.sig_rel.specs.Triangles.{IsTriangular};
 
 use crate::elements::Element;
@@ -65,7 +65,8 @@ fn placed_from(
     ensures { IfOk result (λ triangle. MatchOption triangle (IsTriangular kernel.now → ⊥)
         (IsTriangleOf kernel.now)) }
 {
-    let mut placed = Placed::with_top(alloc, kernel.signals.as_slice().len(), top)?;
+    let mut placed = Placed::none(alloc, kernel.signals.as_slice().len())?;
+    placed.place(Element::Presence(top as u32))?;
     placed.place_all(kernel, &rules)?;
     if placed.is_whole(kernel, &rules) {
         Ok(Some(Triangle {
@@ -109,22 +110,6 @@ impl Placed {
         ensures { result ≡ may_write kernel.now least.now self.now class form.now }
     {
         governs(least, class, form) && self.presence_ready(kernel, least, form)
-    }
-
-    /// The top alone, of so many signals.
-    fn with_top(alloc: Global, count: usize, top: usize) -> Result<Placed, AllocError>
-        requires top { top < count }
-        requires few { count ≤ 512 }
-        ensures list { IfOk result (λ placed. placed.list.items ≡ Element.Presence top ∷ []) }
-        ensures marks { IfOk result (AreMarks count) }
-    {
-        let mut placed = Placed {
-            list: Vec::new(alloc),
-            classes: vec![in alloc; false; count]?,
-            truths: vec![in alloc; false; count]?,
-        };
-        placed.place(Element::Presence(top as u32))?;
-        Ok(placed)
     }
 
     /// Places elements as long as one may stand behind those that were placed.
@@ -221,12 +206,16 @@ impl Placed {
     pub(crate) fn may_hold(&self, kernel: &Kernel, rules: &Rules, signal: usize) -> bool
         ensures { result ≡ may_hold kernel.now rules.now self.now signal }
     {
-        if !is_boolean(kernel, signal) || is_marked(self.truths.as_slice(), signal) {
-            return false;
-        }
-        if !self.has_class(rules.least.as_slice(), signal) {
-            return false;
-        }
+        (is_boolean(kernel, signal) && !is_marked(self.truths.as_slice(), signal))
+            && (self.has_class(rules.least.as_slice(), signal)
+                && self.is_ready(kernel, rules, signal))
+    }
+
+    /// Whether what the equation of a boolean reads was placed, if it has one.
+    fn is_ready(&self, kernel: &Kernel, rules: &Rules, signal: usize) -> bool
+        ensures { result
+            ≡ boolean_ready kernel.now rules.now.least.items self.now (slice_get rules.now.defined.items signal) }
+    {
         match rules.defined.get(signal) {
             Some(Some(number)) => match kernel.equations.as_slice().get(*number as usize) {
                 Some(equation) => self.truth_ready(kernel, rules.least.as_slice(), &equation.form),

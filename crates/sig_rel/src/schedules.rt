@@ -2,7 +2,7 @@
 
 ghost use Rattle.std.specs.Prelude.{◌≡◌};
 ghost use Rattle.sig_rel.specs.Prelude.{None, slice_index_or, IfOk, IfSome, MatchOption, OnOk, IsValid, Kernel};
-ghost use Rattle.sig_rel.specs.Schedules.{HasPlace, IsPlannedStep, IsSchedule, IsScheduling, IsTaken, IsWhole, MayBeWritten, MayBeWrittenBy, is_left, is_left_truth};
+ghost use Rattle.sig_rel.specs.Schedules.{HasPlace, IsPlannedStep, IsSchedule, IsScheduling, IsTaken, IsWhole, MayBeWritten, is_left, is_waiting};
 ghost use Rattle.sig_rel.specs.Systems.{AreConditions};
 
 use crate::elements::Element;
@@ -10,7 +10,7 @@ use crate::firsts::{first_given, row};
 use crate::links::Links;
 use crate::numbering::is_boolean;
 use crate::placing::Placed;
-use crate::rules::{Rules, defined_rules, is_listed, least_of, target_number};
+use crate::rules::{Rules, defined_rules, least_of, target_number};
 use crate::writing::form_for;
 use sig_base::SigId;
 use sig_clock::ClockBase;
@@ -34,12 +34,11 @@ pub(crate) struct Step {
     pub(crate) equation: Option<u32>,
 }
 
-/// What was scheduled so far, and the equations that may write classes.
+/// What was scheduled so far.
 #[derive(Drop)]
 pub(crate) struct Scheduling {
     pub(crate) rules: Rules,
     pub(crate) placed: Placed,
-    writers: Vec<u32>,
 }
 
 /// The schedule of a kernel, of which the conditions are given.
@@ -57,8 +56,8 @@ pub(crate) fn schedule_of(
     scheduling.schedule_all(alloc, kernel)?;
     let links = Links::none(alloc, kernel.signals.as_slice().len())?;
     let mut schedule = linked(scheduling, links);
-    schedule.cut_wide(alloc, kernel, conditions)?;
-    schedule.link_equations(alloc, kernel)?;
+    schedule.cut_wide(kernel, conditions)?;
+    schedule.link_equations(kernel)?;
     Ok(schedule)
 }
 
@@ -77,25 +76,20 @@ fn linked(scheduling: Scheduling, links: Links) -> Schedule
 impl Schedule {
     /// Cuts the booleans of circles that would be written from many unknowns, and links those from
     /// which others are written.
-    fn cut_wide(
-        &mut self,
-        alloc: Global,
-        kernel: &Kernel,
-        conditions: &[SigId],
-    ) -> Result<(), AllocError>
+    fn cut_wide(&mut self, kernel: &Kernel, conditions: &[SigId]) -> Result<(), AllocError>
         requires { IsSchedule kernel.now self.old }
         ensures { OnOk result (IsSchedule kernel.now self.new) }
     {
         for place in 0..self.list.len() {
-            self.cut_at(alloc, kernel, conditions, place)?;
+            self.cut_at(kernel, conditions, place)?;
         }
         Ok(())
     }
 
-    /// Links the element at a place, and cuts it where it is one that is to be cut.
+    /// Links the element at a place to those from which it is written, and cuts it where it is one that
+    /// is to be cut.
     fn cut_at(
         &mut self,
-        alloc: Global,
         kernel: &Kernel,
         conditions: &[SigId],
         place: usize,
@@ -103,37 +97,17 @@ impl Schedule {
         requires { IsSchedule kernel.now self.old }
         ensures { OnOk result (IsSchedule kernel.now self.new) }
     {
-        match self.wide_at(alloc, kernel, conditions, place)? {
+        let Some(element) = self.list.get(place).copied() else {
+            return Ok(());
+        };
+        let form = form_for(kernel, &self.rules, element);
+        let least = self.rules.least.as_slice();
+        match self.links.take(least, conditions, element, form)? {
             Some(signal) => {
                 self.cut_truth(signal as usize);
                 Ok(())
             }
             None => Ok(()),
-        }
-    }
-
-    /// Links the element at a place to those from which it is written. The boolean, if it is one that is
-    /// to be cut.
-    fn wide_at(
-        &mut self,
-        alloc: Global,
-        kernel: &Kernel,
-        conditions: &[SigId],
-        place: usize,
-    ) -> Result<Option<u32>, AllocError>
-        ensures rules { self.new.rules ≡ self.old.rules }
-        ensures list { self.new.list ≡ self.old.list }
-    {
-        let Some(element) = self.list.get(place).copied() else {
-            return Ok(None);
-        };
-        let form = form_for(kernel, &self.rules, element);
-        let is_condition = is_condition(conditions, element);
-        let least = self.rules.least.as_slice();
-        let is_wide = self.links.take(alloc, least, element, form, is_condition)?;
-        match element {
-            Element::Truth(signal) if is_wide => Ok(Some(signal)),
-            _ => Ok(None),
         }
     }
 
@@ -147,44 +121,15 @@ impl Schedule {
     }
 
     /// Links what the equations ask that are left to be met.
-    fn link_equations(&mut self, alloc: Global, kernel: &Kernel) -> Result<(), AllocError>
+    fn link_equations(&mut self, kernel: &Kernel) -> Result<(), AllocError>
         requires { IsSchedule kernel.now self.old }
         ensures { OnOk result (IsSchedule kernel.now self.new) }
     {
         for (number, equation) in kernel.equations.as_slice().iter().enumerate() {
             self.links
-                .link_equation(alloc, kernel, &self.rules, number, equation)?;
+                .link_equation(kernel, &self.rules, number, &equation.form)?;
         }
         Ok(())
-    }
-}
-
-/// Whether an element is the truth of a condition.
-fn is_condition(conditions: &[SigId], element: Element) -> bool {
-    match element {
-        Element::Presence(_) => false,
-        Element::Truth(signal) => is_listed(conditions, signal as usize),
-    }
-}
-
-/// The equations that may write classes, by their numbers.
-fn writers_of(alloc: Global, kernel: &Kernel) -> Result<Vec<u32>, AllocError>
-    requires { IsValid kernel.now }
-{
-    let mut writers = Vec::new(alloc);
-    for (number, equation) in kernel.equations.as_slice().iter().enumerate() {
-        if may_write(&equation.form) {
-            writers.push(number as u32)?;
-        }
-    }
-    Ok(writers)
-}
-
-/// Whether a form may give a class its presence from those of others.
-fn may_write(form: &Form) -> bool {
-    match form {
-        Form::When(_, _, _) | Form::WhenConst(_, _, _) | Form::Default(_, _, _) => true,
-        Form::Fun(_, _, _) | Form::Delay(_, _, _) | Form::Sync(_, _) | Form::Event(_, _) => false,
     }
 }
 
@@ -208,12 +153,7 @@ impl Scheduling {
     {
         let rules = defined_rules(alloc, kernel, conditions)?;
         let placed = Placed::none(alloc, kernel.signals.as_slice().len())?;
-        let writers = writers_of(alloc, kernel)?;
-        Ok(Scheduling {
-            rules,
-            placed,
-            writers,
-        })
+        Ok(Scheduling { rules, placed })
     }
 
     /// Cuts the classes that no equation can ever write from other classes.
@@ -278,25 +218,16 @@ impl Scheduling {
         requires scheduling { IsScheduling kernel.now self.now }
         ensures { IfSome result (IsPlannedStep kernel.now self.now) }
     {
-        for number in self.writers.as_slice() {
-            if let Some(class) = self.class_written_by(kernel, *number) {
+        let equations = kernel.equations.as_slice();
+        for number in 0..equations.len() {
+            if let Some(class) = self.written_class(kernel, &equations[number].form) {
                 return Some(Step {
                     element: Element::Presence(class as u32),
-                    equation: Some(*number),
+                    equation: Some(number as u32),
                 });
             }
         }
         None
-    }
-
-    /// The class that the equation of this number may write.
-    fn class_written_by(&self, kernel: &Kernel, number: u32) -> Option<usize>
-        ensures { IfSome result (MayBeWrittenBy kernel.now self.now number) }
-    {
-        match kernel.equations.as_slice().get(number as usize) {
-            Some(equation) => self.written_class(kernel, &equation.form),
-            None => None,
-        }
     }
 
     /// The class that an equation of this form may write.
@@ -346,12 +277,16 @@ impl Scheduling {
         self.placed.is_left(self.rules.least.as_slice(), class)
     }
 
-    /// Whether a boolean was not written, but its class was.
-    pub(crate) fn is_left_truth(&self, kernel: &Kernel, signal: usize) -> bool
-        ensures { result ≡ is_left_truth kernel.now self.now.rules.least.items self.now.placed signal }
+    /// Whether an element of one kind is left: a boolean of a class that was written, or a class.
+    pub(crate) fn is_waiting(&self, kernel: &Kernel, truths: bool, signal: usize) -> bool
+        ensures { result ≡ is_waiting kernel.now self.now truths signal }
     {
-        is_boolean(kernel, signal)
-            && self.placed.has_class(self.rules.least.as_slice(), signal)
-            && !self.placed.has_truth_of(kernel, signal)
+        if truths {
+            is_boolean(kernel, signal)
+                && self.placed.has_class(self.rules.least.as_slice(), signal)
+                && !self.placed.has_truth_of(kernel, signal)
+        } else {
+            self.is_left(signal)
+        }
     }
 }

@@ -1,5 +1,12 @@
-use Rattle.sig_rel.proofs.{[], ◌∷◌, ◌&&◌, ◌∙◌, IfOk-weaker, SpanAll, Spans-kept, itself, SpanColumns, made_two, makes_then, test_kept}
+use Rattle.sig_rel.proofs.{[], ◌∷◌, ◌&&◌, ◌∙◌, arith, IfOk-weaker, SpanAll, Spans-kept, itself, SpanColumns, made_two, makes_err, makes_then, test_kept}
 use Rattle.sig_rel.proofs.substitution.Columns.join.Goals as goal
+
+pub returns-in_err-met-clause-made : goal.returns-in_err-met-clause-made
+returns-in_err-met-clause-made c =
+    let r = c.args.store.now in
+    let u = c.args.self.now in
+    makes_err 10 11 (λ vs. SpanColumns r.nodes u vs × SpanAll r.nodes (itself c.args.whole) vs) (SpanColumns r.nodes u) r c.meets.new.store itself itself c.in_err-met.field-0.0 c.from_residual.result
+    c.in_err-met.ensures.made (omega arith) (λ vs wide. wide.0) c.from_residual.ensures.1
 
 pub returns-clause-made : goal.returns-clause-made
 returns-clause-made c =

@@ -1,6 +1,15 @@
 use Rattle.sig_rel.proofs.{◌+◌, ◌*◌, [], ◌∷◌, Ok, Err, length, ◌∙◌, arith, Spans-kept, classes_below, left_refs, itself, SpanColumns, makes_err, makes_ok, makes_spans, makes_then, columns_span, some_of_kept, HoldAll-kept, test_kept}
 use Rattle.sig_rel.proofs.substitution.Columns.left.Goals as goal
 
+pub returns-in_err-residue-clause-made : goal.returns-in_err-residue-clause-made
+returns-in_err-residue-clause-made c =
+    let r = c.args.store.now in
+    let u = c.args.self.now in
+    let m = 11 * length c.args.kernel.now.equations in
+    let n = classes_below c.args.least.now (length c.args.least.now) in
+    makes_err m (m + n) (SpanColumns r.nodes u) (SpanColumns r.nodes u) r c.residue.new.store itself left_refs c.in_err-residue.field-0.0 c.from_residual.result
+    c.in_err-residue.ensures.made (omega arith) (λ vs wide. wide) c.from_residual.ensures.1
+
 pub returns-in_err-speaks-clause-made : goal.returns-in_err-speaks-clause-made
 returns-in_err-speaks-clause-made c =
     let r = c.args.store.now in

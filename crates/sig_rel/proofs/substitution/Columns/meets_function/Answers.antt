@@ -1,5 +1,12 @@
-use Rattle.sig_rel.proofs.{[], ◌∷◌, Some, sym, ap, ◌∙◌, IfOk-weaker, has_truth, test, SpanAll, value_status, itself, SpanColumns, operand_at, makes_then, columns_span, columns_values, own_span, own_status, has_truth_is}
+use Rattle.sig_rel.proofs.{[], ◌∷◌, Some, sym, ap, ◌∙◌, arith, IfOk-weaker, has_truth, test, SpanAll, value_status, itself, SpanColumns, operand_at, makes_err, makes_then, columns_span, columns_values, own_span, own_status, has_truth_is}
 use Rattle.sig_rel.proofs.substitution.Columns.meets_function.Goals as goal
+
+pub returns-in_err-value-in-Some-clause-made : goal.returns-in_err-value-in-Some-clause-made
+returns-in_err-value-in-Some-clause-made c =
+    let r = c.args.store.now in
+    let u = c.args.self.now in
+    makes_err 3 6 (SpanColumns r.nodes u) (SpanColumns r.nodes u) r c.function_value.new.store itself itself c.in_err-value-in-Some.field-0.0 c.from_residual.result
+    c.in_err-value-in-Some.ensures.made (omega arith) (λ vs wide. wide) c.from_residual.ensures.1
 
 pub returns-in_ok-value-in-Some-clause-made : goal.returns-in_ok-value-in-Some-clause-made
 returns-in_ok-value-in-Some-clause-made c =
