@@ -2,9 +2,11 @@ pub mod Common
 pub mod Apart
 pub mod Bound
 pub mod Counting
+pub mod Declaring
 pub mod DefinitionCounts
 pub mod Existence
 pub mod Expandable
+pub mod FlatPlaces
 pub mod GoodCopies
 pub mod GoodExpressions
 pub mod Graphic
@@ -30,6 +32,7 @@ pub mod Whole
 unfoldable pub use Common.*
 pub use Bound.*
 pub use Existence.*
+pub use FlatPlaces.*
 pub use Expandable.*
 pub use Labels.*
 pub use Leading.*

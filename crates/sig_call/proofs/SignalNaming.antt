@@ -1,12 +1,13 @@
 -- The names of a flat body's signals and of the intermediates of its operators, in a text within the limits.
-use Rattle.sig_call.proofs.Common.{◌≡◌, ◌++◌, ◌+◌, ◌<◌, ◌≤◌, ◌∙◌, ℕ, suc, List, [], ◌∷◌, None, Some, Option, length, map, decimal, sym, ap, subst, arith, length-decimal-le, length-append, AllByRecursion, bytes_eq, PROGRAM_BYTES, SIGNALS, Signal, Span, Name, Neg, Expression, Named, Number, Truth, Unary as UnaryForm, Binary as BinaryForm, Delay as DelayForm, Cell as CellForm, Equations, ProcessModel, FlatEquation, FlatBody, Declaration, inputs_of, outputs_of, locals_of, name_of, process_of, all_processes, Binding as BoundTo, BoundSignal, BoundConstant, Copy, Progress, Expands, Ended, Defined, Equated, Expanded, IsFlatBody, binding_of, copied_signals, copy_prefix, cluster_of_call, first_progress, flat_name, flat_of, flat_right, inputs_defined, outputs_defined, signals_declared, with_copy, Token, Lexeme, lexemes, the_end, IsSpelled, InOrder, leaves_of, HasTree, IsWellFormed, AtOperators, IsGraphic, IsSignalName, NamesOperators, placed_name, IsTree, IsReady, AreExpandable}
+use Rattle.sig_call.proofs.Common.{◌≡◌, ◌++◌, ◌+◌, ◌<◌, ◌≤◌, ◌∙◌, ℕ, suc, List, [], ◌∷◌, Some, length, map, decimal, sym, ap, subst, arith, length-decimal-le, length-append, AllByRecursion, bytes_eq, PROGRAM_BYTES, SIGNALS, Signal, Span, Name, Expression, Equations, ProcessModel, FlatEquation, FlatBody, Declaration, inputs_of, outputs_of, locals_of, name_of, process_of, all_processes, Copy, Progress, Expands, Ended, Defined, Equated, Expanded, IsFlatBody, copied_signals, copy_prefix, cluster_of_call, first_progress, flat_of, flat_right, inputs_defined, outputs_defined, signals_declared, with_copy, Token, Lexeme, lexemes, the_end, IsSpelled, InOrder, leaves_of, HasTree, IsWellFormed, AtOperators, IsGraphic, IsSignalName, NamesOperators, placed_name, IsTree, IsReady, AreExpandable, IsWithin}
 use Rattle.sig_call.proofs.Existence.{found_name}
 use Rattle.sig_call.proofs.Expandable.{expandable, found_all}
+use Rattle.sig_call.proofs.FlatPlaces.{flat_at, operators_of, right_at}
 use Rattle.sig_call.proofs.Graphic.{decimal_graphic, name_graphic, name_some}
 use Rattle.sig_call.proofs.Leading.{grows_along}
 use Rattle.sig_call.proofs.Apart.{all_so}
 use Rattle.sig_call.proofs.Obeying.{all_map, all_parts}
-use Rattle.sig_call.proofs.Places.{AtOperatorsOf, ArePlaced, IsPlaced, IsWithin, StandsAt, each_placed, leaves_placed}
+use Rattle.sig_call.proofs.Places.{AtPlacesOf, ArePlaced, IsPlaced, StandsAt, all_placed, leaves_placed}
 use Rattle.sig_call.proofs.Readiness.{call_adds, call_numbers, some_names}
 use Rattle.sig_call.proofs.Spelled.{IsNamed, Spelled, all_spelled}
 use Rattle.sig_call.proofs.Texts.{all_both}
@@ -38,30 +39,17 @@ place_name prefix fits at place =
     }
 
 -- expressions
-name_operators : (Q : Span → Type 0) (bound : Option BoundTo) (at : Span) → AtOperators Q (flat_name bound at)
-name_operators Q None at = tt
-name_operators Q (Some (BoundSignal number)) at = tt
-name_operators Q (Some (BoundConstant value kind)) at = tt
+flat_operators : (P Q : Span → Type 0) → ((at : Span) → P at → Q at) → (copy : Copy) (e : Expression) → AtPlacesOf P e → AtOperators Q (flat_of copy e)
+flat_operators P Q so copy e h = operators_of P Q so (flat_of copy e) (flat_at P copy e h)
 
-flat_operators : (P Q : Span → Type 0) → ((at : Span) → P at → Q at) → (copy : Copy) (e : Expression) → AtOperatorsOf P e → AtOperators Q (flat_of copy e)
-flat_operators P Q so copy (Named name) h = name_operators Q (binding_of copy name.text) name.at
-flat_operators P Q so copy (Number value at) h = tt
-flat_operators P Q so copy (Truth truth at) h = tt
-flat_operators P Q so copy (UnaryForm Neg (Number value number_at) at) h = tt
-flat_operators P Q so copy (UnaryForm op operand at) h = (so at h.0, flat_operators P Q so copy operand h.1)
-flat_operators P Q so copy (BinaryForm op left right at) h = (so at h.0, flat_operators P Q so copy left h.1, flat_operators P Q so copy right h.2)
-flat_operators P Q so copy (DelayForm operand init at) h = (so at h.0, flat_operators P Q so copy operand h.1)
-flat_operators P Q so copy (CellForm operand held init at) h = (so at h.0, flat_operators P Q so copy operand h.1, flat_operators P Q so copy held h.2)
+right_operators : (P Q : Span → Type 0) → ((at : Span) → P at → Q at) → (copy : Copy) (left : Name) (e : Expression) → AtPlacesOf P e → AtOperators Q (flat_right copy left e)
+right_operators P Q so copy left e h = operators_of P Q so (flat_right copy left e) (right_at P copy left e h)
 
-right_operators : (P Q : Span → Type 0) → ((at : Span) → P at → Q at) → (copy : Copy) (left : Name) (e : Expression) → AtOperatorsOf P e → AtOperators Q (flat_right copy left e)
-right_operators P Q so copy left (DelayForm operand None at) h = (so at h.0, flat_operators P Q so copy operand h.1)
-right_operators P Q so copy left e h = flat_operators P Q so copy e h
-
-operands_operators : (P Q : Span → Type 0) → ((at : Span) → P at → Q at) → (copy : Copy) (es : List Expression) → AllByRecursion (AtOperatorsOf P) es → AllByRecursion (AtOperators Q) (map (flat_of copy) es)
+operands_operators : (P Q : Span → Type 0) → ((at : Span) → P at → Q at) → (copy : Copy) (es : List Expression) → AllByRecursion (AtPlacesOf P) es → AllByRecursion (AtOperators Q) (map (flat_of copy) es)
 operands_operators P Q so copy [] h = tt
 operands_operators P Q so copy (e ∷ es) h = (flat_operators P Q so copy e h.0, operands_operators P Q so copy es h.1)
 
-inputs_operators : (copy : Copy) → IsPrefix copy.prefix → (base : ℕ) (es : List Expression) → AllByRecursion (AtOperatorsOf IsPlace) es → AllByRecursion NamesOperators (inputs_defined copy base es)
+inputs_operators : (copy : Copy) → IsPrefix copy.prefix → (base : ℕ) (es : List Expression) → AllByRecursion (AtPlacesOf IsPlace) es → AllByRecursion NamesOperators (inputs_defined copy base es)
 inputs_operators copy fits base [] h = tt
 inputs_operators copy fits base (e ∷ es) h = (flat_operators IsPlace (λ at. IsSignalName (placed_name copy.prefix at)) (place_name copy.prefix fits) copy e h.0, inputs_operators copy fits (suc base) es h.1)
 
@@ -148,7 +136,7 @@ naming {copy = copy} sound nameable ready placed fits few named calls (Defined n
     let rest = naming sound nameable ready.1 placed.1 fits few named calls behind in
     record {
       signals = rest.signals;
-      operators = (right_operators IsPlace (λ at. IsSignalName (placed_name copy.prefix at)) (place_name copy.prefix fits) copy name e placed.0, rest.operators);
+      operators = (right_operators IsPlace (λ at. IsSignalName (placed_name copy.prefix at)) (place_name copy.prefix fits) copy name e placed.0.1, rest.operators);
       calls = rest.calls;
     }
 naming {copy = copy} sound nameable ready placed fits few named calls (Equated operands behind) =
@@ -169,13 +157,13 @@ naming {all = all} {copy = copy} {before = before} {after = after} sound nameabl
     let same = found_name all name.text called found in
     let outputs : length names ≡ length (outputs_of called) = (call_numbers all names name constants arguments called ready.0 found).outputs in
     let some : 1 ≤ length names = some_names all names name constants arguments ready.0 in
-    let body_named = naming sound nameable (sound name.text called found).equations own.placed (call_prefix called name n same own (omega arith) (omega arith)) (omega arith)
+    let body_named = naming sound nameable (sound name.text called found).equations own.placed.equations (call_prefix called name n same own (omega arith) (omega arith)) (omega arith)
     (all_both (λ (signal : Signal). IsSignalName signal.name) before.signals new named (call_signals called name n (cluster_of_call copy before.signals names) same own (omega arith))) (omega arith) inside in
     let rest = naming sound nameable ready.1 placed.1 fits few body_named.signals body_named.calls behind in
     let output = base + length (inputs_of called) in
     record {
       signals = rest.signals;
-      operators = all_both NamesOperators (inputs_defined copy base arguments) (body ++ (outputs_defined copy names output ++ later)) (inputs_operators copy fits base arguments placed.0)
+      operators = all_both NamesOperators (inputs_defined copy base arguments) (body ++ (outputs_defined copy names output ++ later)) (inputs_operators copy fits base arguments placed.0.1)
           (all_both NamesOperators body (outputs_defined copy names output ++ later) body_named.operators
           (all_both NamesOperators (outputs_defined copy names output) later (outputs_operators copy names output) rest.operators));
       calls = rest.calls;
@@ -209,7 +197,7 @@ named_body (p ∷ ps) flat tree well nameable is few =
     let small : length after.signals ≤ 512 = (let within : length flat.signals ≤ 512 = few in omega arith) in
     let first : IsPrefix [] = record { graphic = tt; short = omega arith } in
     let none : 0 ≤ length (first_progress p).signals = omega arith in
-    let named = naming sound each (sound (name_of p).text p found).equations own.placed first small (first_signals p own) none is.2 in
+    let named = naming sound each (sound (name_of p).text p found).equations own.placed.equations first small (first_signals p own) none is.2 in
     named_parts after is.1 flat (length (inputs_of p)) (length (outputs_of p)) named is.3
 
 -- the processes of a text within the limit
@@ -231,4 +219,4 @@ nameable_text text tokens words program is spelled order tree few =
     let within : leaf_bytes leaves ≤ PROGRAM_BYTES = omega arith in
     let placed : AllByRecursion (StandsAt IsPlace) leaves =
     all_so (StandsAt (IsWithin (length text))) (StandsAt IsPlace) (λ l h. place_more (length text) few l.at h) leaves (leaves_placed text tokens 0 order) in
-    all_nameable (all_processes program) (all_spelled text tokens words program is spelled tree) (each_roomy _ program leaves PROGRAM_BYTES tree.1 within) (each_placed IsPlace _ program leaves tree.1 (record { all = placed }))
+    all_nameable (all_processes program) (all_spelled text tokens words program is spelled tree) (each_roomy _ program leaves PROGRAM_BYTES tree.1 within) (all_placed IsPlace program leaves tree placed)

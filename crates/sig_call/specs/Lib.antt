@@ -5,3 +5,4 @@ pub mod Constants
 pub mod Copies
 pub mod MadeOf
 pub mod Making
+pub mod Places

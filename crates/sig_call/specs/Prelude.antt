@@ -4,6 +4,7 @@ pub use Rattle.std.specs.Prelude.{Err, IfOk, IsTrue, List, None, Ok, OnOk, Optio
 pub use Rattle.sig_base.specs.Traces.{Bounded, IsInteger}
 pub use Rattle.sig_base.specs.declared.limits.TheConstants.{PROGRAM_BYTES, SIGNALS}
 pub use Rattle.sig_base.specs.declared.signal.Signal.{Signal}
+pub use Rattle.sig_base.specs.declared.span.Span.{Span}
 pub use Rattle.sig_tree.specs.Declarations.{Declaration, all_processes, declarations, equations_of_model, locals_of, outputs_of, params_of, pragmas_of_model}
 pub use Rattle.sig_tree.specs.FlatBody.{Binding, BoundConstant, BoundSignal, Copy, Expands, IsFlatBody, Progress, binding_of, bound_constants, bound_from, called_copy, cluster_at, cluster_of, cluster_of_call, copied_signals, copy_of, copy_prefix, declared_init, flat_name, flat_of, flat_right, flat_unary, init_value, inputs_defined, is_named, outputs_defined, signal_of, signals_declared, value_of, with_copy}
 pub use Rattle.sig_tree.specs.FlatSyntax.{Defines as DefinesFlat, Equal, FlatBody, FlatEquation, flat_body_of, flat_equation_of, flat_expression_of}

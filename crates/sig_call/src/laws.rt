@@ -3,6 +3,7 @@
 ghost use Rattle.std.specs.Prelude.{◌+◌, ◌*◌, ◌^◌, ◌<◌, ◌≤◌};
 ghost use Rattle.sig_call.specs.Prelude.{ℕ, List, map, length, IsDistinct, bytes_eq, ProcessModel, FlatBody, FlatEquation, IsFlatBody, IsText, IsWellFormed, IsTree, IsSized, flat_weights};
 ghost use Rattle.sig_call.specs.Constants.{IsBounded};
+ghost use Rattle.sig_call.specs.Places.{AtPlacesOfBody, IsWithin};
 
 use sig_lex::{each_token, slices_in_order};
 
@@ -40,4 +41,13 @@ pub fn names_of_flat_bodies()
 {
     each_token();
     trees_of_texts();
+}
+
+/// A law: in the flat body of a text, the place of each signal, and of each name, constant and operator
+/// of its equations, has a line and a column that are at most one more than the bytes of the text.
+pub fn places_of_flat_bodies()
+    ensures { (text : List ℕ) (program : List ProcessModel) (flat : FlatBody) → IsText text program → IsFlatBody program flat
+        → AtPlacesOfBody (IsWithin (length text)) flat }
+{
+    slices_in_order();
 }

@@ -18,6 +18,9 @@ mod well_made;
 
 pub use answer::CallAnswer;
 pub use flat_body::inline;
-pub use laws::{names_of_flat_bodies, size_of_flat_bodies, some_flat_body, trees_of_texts};
+pub use laws::{
+    names_of_flat_bodies, places_of_flat_bodies, size_of_flat_bodies, some_flat_body,
+    trees_of_texts,
+};
 pub use signal_names::signals_have_names;
 pub use well_made::flat_bodies_are_well_made;

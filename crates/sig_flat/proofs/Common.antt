@@ -6,7 +6,7 @@ pub use Rattle.std.proofs.lemmas.List.{drop-take, length-map, length-replicate, 
 pub use Rattle.std.proofs.lemmas.List.Recursion.{is_count_by}
 pub use Rattle.std.proofs.lemmas.Option.{none-some}
 pub use Rattle.std.specs.List.{range_with_len}
-pub use Rattle.std.specs.Prelude.{⊤}
+pub use Rattle.std.specs.Prelude.{IsTrue, ⊤}
 pub use Rattle.sig_base.specs.Functions.{Identity, Tells}
 pub use Rattle.sig_base.specs.Traces.{Fits}
 pub use Rattle.sig_base.specs.declared.limits.TheConstants.{SIGNALS}

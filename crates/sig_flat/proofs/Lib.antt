@@ -14,12 +14,14 @@ mod FittingForms
 mod FittingOperators
 mod Growing
 mod Instants
+mod Kept
 mod Kinded
 mod Meeting
 mod Naming
 mod NumberedKinds
 mod Operating
 mod Parts
+mod Places
 mod Reacting
 mod Reading
 mod Restricting
@@ -40,6 +42,7 @@ pub use Growing.*
 pub use Meeting.*
 pub use Naming.*
 pub use Parts.*
+pub use Places.*
 pub use Reading.*
 pub use Restricting.*
 pub use SignalNames.*

@@ -3,5 +3,6 @@ pub mod Answers
 pub mod Bodies
 pub mod Drafts
 pub mod KernelOf
+pub mod Places
 pub mod Restricted
 pub mod Rows

@@ -1,11 +1,12 @@
 //! What holds of the kernels of flat bodies.
 
-ghost use Rattle.std.specs.Prelude.{◌≡◌, ◌↔◌, ◌||◌, ◌+◌, ◌^◌, ◌<◌, ◌≤◌, ◌∷◌};
-ghost use Rattle.sig_flat.specs.Prelude.{take, ℤ, pos, true, [], length, AllByRecursion, AllPass, list_any, Bounded, Instant, IsOfKind, IsPrefixOf, seen_at, Integer, SIGNALS, SigId, Meets, Memory, function_of, where_present, operands_of, HasParts, form_within, inputs_of, is_signal, Equation, Default, Delay, Event, Fun, Sync, When, WhenConst, FunOp, Not, Operand, Sig, DefaultOf, Less, Meet, Plus, Sampled, Clock, WhenOf, AppliesToBoth, AppliesToOne, Changes, Combines, Constant, Signal, clock_of, delayed, held, sampled, FlatBody};
+ghost use Rattle.std.specs.Prelude.{Bool, IsTrue, ◌≡◌, ◌↔◌, ◌||◌, ◌+◌, ◌^◌, ◌<◌, ◌≤◌, ◌∷◌};
+ghost use Rattle.sig_flat.specs.Prelude.{take, ℤ, pos, true, [], length, AllByRecursion, AllPass, list_any, Bounded, Instant, IsOfKind, IsPrefixOf, Span, seen_at, Integer, SIGNALS, SigId, Meets, Memory, function_of, where_present, operands_of, HasParts, form_within, inputs_of, is_signal, Equation, Default, Delay, Event, Fun, Sync, When, WhenConst, FunOp, Not, Operand, Sig, DefaultOf, Less, Meet, Plus, Sampled, Clock, WhenOf, AppliesToBoth, AppliesToOne, Changes, Combines, Constant, Signal, clock_of, delayed, held, sampled, FlatBody};
 ghost use Rattle.sig_tree.specs.Operators.{merged};
 ghost use Rattle.sig_flat.specs.Rows.{AreMet, found_at};
 ghost use Rattle.sig_flat.specs.Bodies.{EquationSpeaks, NamesItsSignals};
 ghost use Rattle.sig_flat.specs.KernelOf.{kernel_of};
+ghost use Rattle.sig_flat.specs.Places.{AtPlacesOfKernel, AtTakenOfBody};
 
 /// A law: the signals of the kernel of a flat body begin with those of the flat body, which are the
 /// declared ones, and its inputs and outputs are the same.
@@ -80,4 +81,11 @@ pub fn kernels_have_their_parts()
     ensures parts { (flat : FlatBody) → flat.inputs + flat.outputs ≤ length flat.signals
         → length (kernel_of flat).signals ≤ SIGNALS → length (kernel_of flat).equations < 2 ^ 32 → HasParts (kernel_of flat) }
     ensures inputs { (flat : FlatBody) → flat.inputs ≤ length flat.signals → inputs_of (kernel_of flat) ≡ take flat.inputs flat.signals }
+{}
+
+/// A law: what holds at the place of each signal of a flat body, of each operator and of each whole
+/// expression of its equations holds at the place of each signal and of each equation of its kernel.
+pub fn kernels_keep_places()
+    ensures { (holds : Span → Bool) (flat : FlatBody) → AtTakenOfBody (λ at. IsTrue (holds at)) flat
+        → AtPlacesOfKernel (λ at. IsTrue (holds at)) (kernel_of flat) }
 {}

@@ -21,7 +21,7 @@ pub use answer::FlatAnswer;
 pub use kernel::to_kernel;
 pub use laws::{
     derived_equations_mean_operators, equations_mean_operators, kernels_have_their_parts,
-    kernels_keep_signals, kernels_name_their_signals,
+    kernels_keep_places, kernels_keep_signals, kernels_name_their_signals,
 };
 pub use restricted::{
     longest_traces_are_longest_process_traces, restricted_traces_keep_flows,

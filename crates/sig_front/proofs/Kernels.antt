@@ -1,5 +1,5 @@
 -- The kernel of a text is valid, has few equations and has the traces of the program.
-use Rattle.sig_front.proofs.Common.{◌≡◌, ◌<◌, ◌≤◌, ◌+◌, ◌*◌, ◌^◌, ◌∙◌, ℕ, List, length, map, take, bytes_eq, sym, ap, subst, arith, AllByRecursion, IsDistinct, SIGNALS, Signal, Trace, IsFlatBody, FlatBody, IsText, IsProcessTrace, ProcessModel, IsWellFormed, IsBounded, IsSignalName, NamesOperators, IsTree, IsSized, flat_weights, IsWellMade, IsKernelTrace, IsValid, Kernel, kernel_of, restricted, IsFlatText, HasTracesOf, IsKernelText}
+use Rattle.sig_front.proofs.Common.{◌≡◌, ◌<◌, ◌≤◌, ◌+◌, ◌*◌, ◌^◌, ℕ, List, length, map, take, bytes_eq, sym, subst, arith, AllByRecursion, IsDistinct, SIGNALS, Signal, Trace, IsFlatBody, FlatBody, IsText, IsProcessTrace, ProcessModel, IsWellFormed, IsBounded, IsSignalName, NamesOperators, IsTree, IsSized, flat_weights, IsWellMade, IsKernelTrace, IsValid, Kernel, kernel_of, restricted, IsFlatText, HasTracesOf, IsKernelText}
 use Rattle.sig_front.proofs.Distinct.{first_distinct}
 use Rattle.sig_front.proofs.OneFlat.{flat_once}
 use Rattle.sig_front.proofs.SmallBodies.{product}

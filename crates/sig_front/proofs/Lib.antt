@@ -5,6 +5,7 @@ pub mod Kernels
 pub mod OneFlat
 pub mod OneKernel
 pub mod OneText
+pub mod Places
 pub mod Results
 pub mod SmallBodies
 pub mod TextRefusals
@@ -14,6 +15,7 @@ pub use Kernels.*
 pub use OneFlat.*
 pub use OneKernel.*
 pub use OneText.*
+pub use Places.*
 pub use Results.*
 pub use SmallBodies.*
 pub use Rattle.sig_front.proofs.OneText.{tree_once}

@@ -1,5 +1,5 @@
 -- A flat body of a text has few equations, and signals of different names.
-use Rattle.sig_front.proofs.Common.{◌≡◌, ◌<◌, ◌≤◌, ◌+◌, ◌*◌, ◌^◌, ℕ, List, length, map, bytes_eq, arith, mul-le-mul, IsFlatBody, length-map, IsDistinct, Result, Ok, Err, IfOk, Flat, FrontAnswer, FlatBody, FlatEquation, flat_body_of, flat_equation_of, IsText, ProcessModel, IsWellFormed, IsTree, IsSized, flat_weights, IsFlatText}
+use Rattle.sig_front.proofs.Common.{◌<◌, ◌≤◌, ◌+◌, ◌*◌, ◌^◌, ℕ, List, length, map, bytes_eq, arith, mul-le-mul, IsFlatBody, length-map, IsDistinct, Result, Ok, Err, IfOk, Flat, FrontAnswer, FlatBody, FlatEquation, flat_body_of, flat_equation_of, IsText, ProcessModel, IsWellFormed, IsTree, IsSized, flat_weights, IsFlatText}
 
 -- a product of bounded numbers
 pub product : (size signals bytes most : ℕ) → size ≤ bytes → signals ≤ most → size * signals ≤ bytes * most

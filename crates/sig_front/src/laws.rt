@@ -1,19 +1,19 @@
 //! Laws of texts.
 
 ghost use Rattle.std.specs.Prelude.{◌≡◌, ◌<◌, ◌≤◌, ◌^◌};
-ghost use Rattle.sig_front.specs.Prelude.{ℕ, List, length, AllByRecursion, PROGRAM_BYTES, IsSignalName, IsText, ProcessModel, FlatBody, IsValid, Kernel};
+ghost use Rattle.sig_front.specs.Prelude.{ℕ, List, length, AllByRecursion, PROGRAM_BYTES, IsSignalName, IsText, IsWithin, ProcessModel, FlatBody, IsValid, Kernel, AtPlacesOfKernel};
 ghost use Rattle.sig_front.specs.Flats.{IsFlatText, IsNoFlatText};
 ghost use Rattle.sig_front.specs.Kernels.{HasTracesOf, IsKernelText, IsNoKernelText};
 ghost use Rattle.sig_front.specs.Texts.{IsNoText};
 ghost use Rattle.sig_front.specs.declared.answer.FrontAnswer.{FrontAnswer};
 
 use sig_call::{
-    flat_bodies_are_well_made, names_of_flat_bodies, signals_have_names, size_of_flat_bodies,
-    trees_of_texts,
+    flat_bodies_are_well_made, names_of_flat_bodies, places_of_flat_bodies, signals_have_names,
+    size_of_flat_bodies, trees_of_texts,
 };
 use sig_flat::{
     kernel_traces_are_process_traces, kernels_are_valid, kernels_have_few_equations,
-    kernels_name_signals,
+    kernels_keep_places, kernels_name_signals,
 };
 
 /// A law: a text is that of one program or has one refusal, at most, and not both.
@@ -37,8 +37,10 @@ pub fn one_kernel_text()
     ensures apart { (text : List ℕ) (kernel : Kernel) (answer : FrontAnswer) → IsKernelText text kernel → IsNoKernelText text answer → ⊥ }
 {}
 
-/// A law: the kernel of a text has the traces of the text's program. Where the text is not too long,
-/// the kernel is valid, and its signals have names of 1 to 1,048,576 bytes of printable ASCII without blanks.
+/// A law: the kernel of a text has the traces of the text's program, and the places of its signals and
+/// equations have lines and columns that are at most one more than the bytes of the text. Where the text
+/// is not too long, the kernel is valid, and its signals have names of 1 to 1,048,576 bytes of printable
+/// ASCII without blanks.
 pub fn kernels_of_texts()
     ensures traces { (text : List ℕ) (kernel : Kernel) → IsKernelText text kernel → HasTracesOf text kernel }
     ensures valid { (text : List ℕ) (kernel : Kernel) → length text ≤ PROGRAM_BYTES → IsKernelText text kernel → IsValid kernel }
@@ -46,14 +48,17 @@ pub fn kernels_of_texts()
         → length kernel.equations < 2 ^ 30 }
     ensures names { (text : List ℕ) (kernel : Kernel) → length text ≤ PROGRAM_BYTES → IsKernelText text kernel
         → AllByRecursion (λ signal. IsSignalName signal.name) kernel.signals }
+    ensures places { (text : List ℕ) (kernel : Kernel) → IsKernelText text kernel → AtPlacesOfKernel (IsWithin (length text)) kernel }
 {
     trees_of_texts();
     size_of_flat_bodies();
     names_of_flat_bodies();
     signals_have_names();
+    places_of_flat_bodies();
     flat_bodies_are_well_made();
     kernels_are_valid();
     kernels_have_few_equations();
     kernels_name_signals();
+    kernels_keep_places();
     kernel_traces_are_process_traces();
 }

@@ -1,5 +1,6 @@
 use Rattle.sig_front.proofs.{few_equations, is_valid, traces}
 use Rattle.sig_front.proofs.Kernels.{names}
+use Rattle.sig_front.proofs.Places.{places}
 use Rattle.sig_front.proofs.laws.kernels_of_texts.Goals as goal
 
 pub returns-clause-traces : goal.returns-clause-traces
@@ -20,3 +21,6 @@ returns-clause-small c =
 
 pub returns-clause-names : goal.returns-clause-names
 returns-clause-names c = names c.signals_have_names.ensures.signals c.signals_have_names.ensures.operators c.kernels_name_signals.ensures
+
+pub returns-clause-places : goal.returns-clause-places
+returns-clause-places c = places c.places_of_flat_bodies.ensures c.kernels_keep_places.ensures
