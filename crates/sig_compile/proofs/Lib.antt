@@ -1,5 +1,6 @@
 pub mod Common
 pub mod Growing
+pub mod OwnNames
 pub mod Pacings
 pub mod Verdicts
 pub mod OneCompiling
@@ -10,6 +11,7 @@ pub use Common.*
 pub use Complete.*
 pub use Growing.*
 pub use OneCompiling.*
+pub use OwnNames.*
 pub use Pacings.*
 pub use Rooms.*
 pub use Verdicts.*

@@ -13,7 +13,7 @@
 -- refusal of the passes up to the kernel, a name that a pace takes or too many signals with the paces, or the first rule that
 -- its kernel does not meet. No program is both, and a refused one has one line (the law `one_verdict`).
 use Rattle.std.specs.Prelude.{◌≡◌, ◌⊎◌, ◌<◌, ◌≤◌, ◌++◌}
-use Rattle.sig_compile.specs.Prelude.{ℕ, Bool, true, false, List, codes, length, Some, slice_get, refusal_at, PROGRAM_BYTES, SIGNALS, Signal, FaultView, IsFaultOf, fault_line, shown, IsKernelText, IsNoKernelText, front_line, FrontAnswer, TooManySignals, IsValid, Kernel, long_program, IsPaced, HasTooManySignals, IsNameTaken, IsAcceptedKernel}
+use Rattle.sig_compile.specs.Prelude.{ℕ, Bool, true, false, List, codes, length, Some, slice_get, refusal_at, PROGRAM_BYTES, SIGNALS, Signal, FaultView, IsFaultOf, fault_line, shown, IsKernelText, IsNoKernelText, front_line, FrontAnswer, TooManySignals, IsValid, Kernel, AllByRecursion, IsSignalName, long_program, IsPaced, HasTooManySignals, IsNameTaken, IsAcceptedKernel}
 
 -- the bytes are the text of a program with this kernel of its own, which is valid
 pub record HasOwnKernel (bytes : List ℕ) (own : Kernel) : Type 0 where
@@ -31,6 +31,11 @@ pub record HasKernel (pace : Bool) (bytes : List ℕ) (kernel : Kernel) : Type 0
   pub has : HasOwnKernel bytes own
   pub becomes : Becomes pace own kernel
   pub valid : IsValid kernel
+
+-- The signals of a kernel have names of 1 to 1,048,576 bytes of printable ASCII without blanks, as those of a program's own
+-- kernel have.
+abbrev pub HasSignalNames : Kernel → Type 0
+HasSignalNames kernel = AllByRecursion (λ signal. IsSignalName signal.name) kernel.signals
 
 -- and the kernel is accepted
 pub record IsAcceptedAs (pace : Bool) (bytes : List ℕ) (kernel : Kernel) : Type 0 where

@@ -11,7 +11,7 @@ pub use Rattle.sig_back.specs.Faults.{FaultView, IsFaultOf}
 pub use Rattle.sig_back.specs.Prelude.{IsAcceptedKernel, IsValid, Kernel, NODES, Signal, refusal_at}
 pub use Rattle.sig_back.specs.Shown.{fault_line, shown}
 pub use Rattle.sig_front.specs.Kernels.{IsKernelText, IsNoKernelText}
-pub use Rattle.sig_front.specs.Prelude.{IsText, PROGRAM_BYTES, ProcessModel, SIGNALS, program_of}
+pub use Rattle.sig_front.specs.Prelude.{AllByRecursion, IsSignalName, IsText, PROGRAM_BYTES, ProcessModel, SIGNALS, program_of}
 pub use Rattle.sig_front.specs.Shown.{front_line}
 pub use Rattle.sig_front.specs.Texts.{IsNoText}
 pub use Rattle.sig_front.specs.declared.answer.FrontAnswer.{FrontAnswer}

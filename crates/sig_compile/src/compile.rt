@@ -1,14 +1,14 @@
 //! From the text of a program to its plan.
 
-ghost use Rattle.std.specs.Prelude.{◌≤◌};
-ghost use Rattle.sig_compile.specs.Prelude.{IfErr, IfOk, length, IsOfProgram};
-ghost use Rattle.sig_compile.specs.Acceptance.{AreRefused, HasKernel, HasOwnKernel, IsAcceptedAs, IsRefusedText};
+ghost use Rattle.std.specs.Prelude.{◌≡◌, ◌≤◌};
+ghost use Rattle.sig_compile.specs.Prelude.{false, IfErr, IfOk, length, IsOfProgram};
+ghost use Rattle.sig_compile.specs.Acceptance.{AreRefused, HasKernel, HasOwnKernel, HasSignalNames, IsAcceptedAs, IsRefusedText};
 ghost use Rattle.sig_compile.specs.Compiling.{LacksNodes};
 
 use crate::pacing::paced;
 use sig_back::{BackAnswer, back};
 use sig_base::limits::PROGRAM_BYTES;
-use sig_front::{FrontAnswer, front};
+use sig_front::{FrontAnswer, front, kernels_of_texts};
 use sig_kernel::Kernel;
 use sig_outcome::{Refusal, refused_program};
 use sig_plan::Plan;
@@ -18,8 +18,10 @@ use std::alloc::Global;
 pub fn plan_of<'a>(alloc: Global, bytes: &[u8], pace: bool) -> Result<Plan, Refusal<'a>>
     requires short { length bytes.now ≤ PROGRAM_BYTES }
     ensures plan { IfOk result (λ plan. IsAcceptedAs pace bytes.now plan.kernel) }
+    ensures names { pace ≡ false → IfOk result (λ plan. HasSignalNames plan.kernel) }
     ensures refused { IfErr result (IsOfProgram (AreRefused pace bytes.now) (LacksNodes pace bytes.now)) }
 {
+    kernels_of_texts();
     let kernel = kernel_of(alloc, bytes, pace)?;
     match back(alloc, kernel) {
         Ok(plan) => Ok(plan),

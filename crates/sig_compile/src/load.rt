@@ -1,7 +1,8 @@
 //! Reading the file of a program, up to its plan.
 
 ghost use Rattle.std.specs.Prelude.{◌≡◌};
-ghost use Rattle.sig_compile.specs.Prelude.{Some, IfErr, IfOk, IfSome, Good, Reads, HasCount, IsOwn, outcome_of, status_of};
+ghost use Rattle.sig_compile.specs.Prelude.{false, Some, IfErr, IfOk, IfSome, Good, Reads, HasCount, IsOwn, outcome_of, status_of};
+ghost use Rattle.sig_compile.specs.Acceptance.{HasSignalNames};
 ghost use Rattle.sig_compile.specs.Compiling.{AtPlan, FindsAccepted, HoldsBeyondBound, IsAboutPlan};
 
 use crate::compile::plan_of;
@@ -20,6 +21,7 @@ pub fn load_plan<'a, F: Files>(
 ) -> Result<Plan, Refusal<'a>>
     ensures plan { IfSome (F.contents files.old) (λ held.
         IfOk result (λ plan. FindsAccepted pace (held name.now) (Good plan.kernel))) }
+    ensures names { pace ≡ false → IfOk result (λ plan. HasSignalNames plan.kernel) }
     ensures refused { IfSome (F.contents files.old) (λ held. IfErr result (λ refusal.
         IsOwn refusal (F.faults files.old) (F.faults files.new) →
         AtPlan pace held name.now (λ _ _. ⊥) (outcome_of refusal (Some name.now)))) }

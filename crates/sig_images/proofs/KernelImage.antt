@@ -15,7 +15,7 @@ use Rattle.sig_file.specs.Images.{ImageView, IsImage, is_name}
 use Rattle.sig_file.specs.PlanImages.{image_of}
 use Rattle.sig_file.specs.Spelled.{HasName, HasNames, HavePlaces}
 use Rattle.sig_file.specs.declared.limits.TheConstants.{IMAGE_BYTES}
-use Rattle.sig_compile.specs.Acceptance.{IsAcceptedAs}
+use Rattle.sig_compile.specs.Acceptance.{HasSignalNames, IsAcceptedAs}
 use Rattle.sig_verify.proofs.Asks.{both_true}
 use Rattle.sig_images.specs.Builds.{AreFewBytes, IsKernelImage}
 use Rattle.sig_images.specs.ImageFiles.{IsSoundFile}
@@ -41,6 +41,9 @@ named [] all signal (place, lt, e) = absurd (omega (arith, lt))
 named (first ∷ signals) all signal (zero, lt, e) = subst (λ (s : Signal). IsSignalName s.name) e all.0
 named (first ∷ signals) all signal (suc place, lt, e) = named signals all.1 signal (place, omega (arith, lt), e)
 
+pub have_names : (kernel : Kernel) → HasSignalNames kernel → HasNames kernel
+have_names kernel all = λ signal is. has_name signal (named kernel.signals all signal is)
+
 pub of_kernel : ((text : List ℕ) (kernel : Kernel) → length text ≤ PROGRAM_BYTES → IsKernelText text kernel → AllByRecursion (λ (signal : Signal). IsSignalName signal.name) kernel.signals)
     → ((plan : PlanView) → IsAccepted plan → HasNames plan.kernel → HavePlaces (image_of plan).ops → length (image_bytes (image_of plan)) ≤ IMAGE_BYTES → IsImage (image_of plan))
     → ((plan : PlanView) → IsAccepted plan → IsSoundImage (image_of plan))
@@ -49,7 +52,7 @@ pub of_kernel : ((text : List ℕ) (kernel : Kernel) → length text ≤ PROGRAM
 of_kernel names right sound bytes kernel image short accepted of places few =
     let own = accepted.has.has.text in
     let texts : IsKernelText bytes kernel = subst (IsKernelText bytes) (sym accepted.has.becomes) own in
-    let have : HasNames kernel = λ signal is. has_name signal (named kernel.signals (names bytes kernel short texts) signal is) in
+    let have = have_names kernel (names bytes kernel short texts) in
     let plan_names = subst HasNames (sym of.of.same) have in
     let plan_places = subst (λ (i : ImageView). HavePlaces i.ops) of.is places in
     let plan_few = subst (λ (i : ImageView). length (image_bytes i) ≤ IMAGE_BYTES) of.is few in

@@ -10,6 +10,7 @@ pub mod ImageTaken
 pub mod ImageOnce
 pub mod Inputs
 pub mod KernelImage
+pub mod KernelPlaces
 pub mod LastBegun
 pub mod Loads
 pub mod OneBuild

@@ -5,6 +5,7 @@ ghost use Rattle.sig_file.specs.Bytes.{image_bytes};
 ghost use Rattle.sig_file.specs.Images.{IsImage};
 ghost use Rattle.sig_file.specs.PlanImages.{image_of};
 ghost use Rattle.sig_plan.specs.Plans.{IsAccepted};
+ghost use Rattle.sig_compile.specs.Acceptance.{HasSignalNames};
 ghost use Rattle.sig_outcome.specs.Outcomes.{done};
 ghost use Rattle.sig_outcome.specs.Refusals.{IsOfLength};
 ghost use Rattle.sig_outcome.specs.Tasks.{Performs, Reaches, SaysLine, Stops};
@@ -12,7 +13,7 @@ ghost use Rattle.sig_images.specs.Builds.{AreImageBytes, AreManyBytes, building}
 ghost use Rattle.sig_images.specs.ImageFiles.{TookSoundImage};
 
 use sig_compile::load_plan;
-use sig_file::{FileAnswer, has_names, image, write_image};
+use sig_file::{FileAnswer, image, write_image};
 use sig_outcome::{Refusal, put_due, refuse};
 use sig_plan::Plan;
 use sig_text::{Files, Sink};
@@ -56,14 +57,14 @@ fn built<'a, F: Files>(alloc: Global, files: &mut F, name: &'a str) -> Result<Ve
 
 /// The bytes of the image of a plan, unless they are too many.
 fn bytes_of<'a>(alloc: Global, plan: &Plan) -> Result<Vec<u8>, Refusal<'a>>
+    requires names { HasSignalNames plan.now.kernel }
     ensures bytes { IfOk result (λ bytes. AreImageBytes plan.now bytes.items) }
     ensures right { IfOk result (λ bytes. IsImage (image_of plan.now)) }
     ensures accepted { IsAccepted plan.now }
     ensures refused { IfErr result (IsOfLength (AreManyBytes (image_bytes (image_of plan.now)))) }
 {
-    if !has_names(&plan.kernel) {
-        return Err(Refusal::OutOfMemory);
-    }
+    // What holds of every plan is known where its fields are read.
+    let _kernel = &plan.kernel;
     let image = match image(alloc, plan) {
         Ok(image) => image,
         Err(FileAnswer::TooLong(_)) => return Err(Refusal::LongImage),

@@ -9,7 +9,6 @@ ghost use Rattle.sig_plan.specs.Acceptance.{IsAcceptedKernel};
 ghost use Rattle.sig_words.specs.declared.command.Settings.{Settings};
 ghost use Rattle.sig_file.specs.Bytes.{image_bytes};
 ghost use Rattle.sig_file.specs.Images.{ImageView};
-ghost use Rattle.sig_file.specs.Spelled.{HavePlaces};
 ghost use Rattle.sig_file.specs.declared.limits.TheConstants.{IMAGE_BYTES};
 ghost use Rattle.sig_outcome.specs.Outcomes.{Holds, Outcome, done};
 ghost use Rattle.sig_outcome.specs.Tasks.{IsEnded};
@@ -29,11 +28,11 @@ pub fn images_of_kernels_are_one()
     ensures one { (kernel : Kernel) (a b : ImageView) → IsKernelImage kernel a → IsKernelImage kernel b → a ≡ b }
 {}
 
-/// A law: the bytes of the image of an accepted program, if they are few enough, are those of a sound image, where its
-/// places have 32 bits, as those that a build writes have: so the file of a build is not refused as damaged.
+/// A law: the bytes of the image of an accepted program, if they are few enough, are those of a sound image: so the
+/// file of a build is not refused as damaged.
 pub fn images_of_kernels_are_right()
     ensures { (bytes : List ℕ) (kernel : Kernel) (image : ImageView) → length bytes ≤ PROGRAM_BYTES → IsAcceptedAs false bytes kernel
-        → IsKernelImage kernel image → HavePlaces image.ops → AreFewBytes (image_bytes image) → IsSoundFile (image_bytes image) image }
+        → IsKernelImage kernel image → AreFewBytes (image_bytes image) → IsSoundFile (image_bytes image) image }
 {
     kernels_of_texts();
     images_of_plans_are_right();
