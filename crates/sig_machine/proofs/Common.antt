@@ -1,5 +1,5 @@
 -- What the proofs of this crate cite of std, of the crates below and of its own specs, passed on from one place.
-pub use Rattle.std.proofs.Common.{All, Bool, Contains, Err, FitsSigned, IfOk, IfSome, IsTrue, List, None, Ok, Option, Result, Some, [], ap, append_assoc, arith, cond, drop, eq-eqb, eqb, eqb-true, false, get_or, if◌then◌else◌, inl, inr, is_some, length, length-append, length-set, ltb-false, ltb-true, map, nat_lt, pos, refl, replicate, rules, set, slice_get, slice_index_or, subst, suc, sym, take, take_at, true, unwrap_or, w64, zero, ℕ, ℤ, ◌++◌, ◌+◌, ◌-◌, ◌<◌, ◌==◌, ◌∙◌, ◌∷◌, ◌≡◌, ◌≢◌, ◌≤◌, ◌⊎◌}
+pub use Rattle.std.proofs.Common.{All, Bool, Contains, Err, FitsSigned, IfOk, IfSome, IsSomeAnd, IsTrue, List, None, Ok, Option, Result, Some, [], ap, append_assoc, arith, cond, drop, eq-eqb, eqb, eqb-true, false, get_or, if◌then◌else◌, inl, inr, is_some, length, length-append, length-set, ltb-false, ltb-true, map, nat_lt, not, pos, refl, replicate, rules, set, slice_get, slice_index_or, subst, suc, sym, take, take_at, true, unwrap_or, w64, zero, ℕ, ℤ, ◌++◌, ◌+◌, ◌-◌, ◌<◌, ◌==◌, ◌∙◌, ◌∷◌, ◌≡◌, ◌≢◌, ◌≤◌, ◌⊎◌, ◌&&◌}
 pub use Rattle.std.proofs.lemmas.Bool.Decides.{eqb_tells}
 pub use Rattle.std.proofs.lemmas.List.{length-replicate}
 pub use Rattle.std.proofs.lemmas.Option.{slice_get_past}
@@ -36,14 +36,20 @@ unfoldable pub use Rattle.sig_machine.specs.ActorMachines.{IsMachineOfActor}
 pub use Rattle.sig_machine.specs.Instants.{EndsBy, GoesOn, ended_behind}
 pub use Rattle.sig_machine.specs.Lowerings.{AreRuns, HasReads, HasShape, IsFor, IsLeft, IsRun, IsTarget, IsWorkOf, Lowers, taken_by_form}
 pub use Rattle.sig_machine.specs.Machines.{HaveConstants, IsMachineFor, IsMachineOf, actor_at, cell, memories_at, memories_of, registers_of, stamped, taken_of}
+pub use Rattle.sig_machine.specs.Opcodes.{AreCoded, ComesTo, IsCoded, work_of}
 pub use Rattle.sig_machine.specs.Present.{FaultsWith, IsDoneWith, given, present_cell}
 pub use Rattle.sig_machine.specs.Sources.{AreBelow, Grows, IsCellOf, IsConstant, IsSource}
+pub use Rattle.sig_machine.specs.Tests.{AreTests, IsJoined, IsTest, literal_holds}
 pub use Rattle.sig_machine.specs.Truths.{AreDifferent, AreEntered, AreVariables, AreWithin, told_at}
 pub use Rattle.sig_machine.specs.Works.{IsFollowed, IsKept, IsPut, ReadsWithin, as_named, came_to, input_id, input_taken, named, no_equation, taken_after}
 pub use Rattle.sig_machine.specs.declared.actor.ActorMachine.{ActorMachine}
+pub use Rattle.sig_machine.specs.declared.coded.Coded.{Coded}
+pub use Rattle.sig_machine.specs.declared.coded.Opcode.{Opcode}
 pub use Rattle.sig_machine.specs.declared.instruction.Instruction.{Instruction}
 pub use Rattle.sig_machine.specs.declared.instruction.Work.{Work}
 pub use Rattle.sig_machine.specs.declared.instruction.Work.TheVariants.{Copy, Next, One, Two}
+pub use Rattle.sig_machine.specs.declared.lowered.Literal.{Literal}
 pub use Rattle.sig_machine.specs.declared.lowered.Lowered.{Lowered}
 pub use Rattle.sig_machine.specs.declared.lowered.Run.{Run}
+pub use Rattle.sig_machine.specs.declared.lowered.Test.{Test}
 pub use Rattle.sig_machine.specs.declared.machine.Machine.{Machine}

@@ -11,11 +11,13 @@ pub mod Insides
 pub mod Keeping
 pub mod Lists
 pub mod Openings
+pub mod Pairs
 pub mod Presence
 pub mod Shapes
 pub mod Standing
 pub mod StepsGrowing
 pub mod Tables
+pub mod Telling
 pub mod Told
 pub mod Working
 pub use Common.*
@@ -31,11 +33,13 @@ pub use Insides.*
 pub use Keeping.*
 pub use Lists.*
 pub use Openings.*
+pub use Pairs.*
 pub use Presence.*
 pub use Shapes.*
 pub use Standing.*
 pub use StepsGrowing.*
 pub use Tables.*
+pub use Telling.*
 pub use Told.*
 pub use Working.*
 pub use Rattle.sig_machine.proofs.Keeping.{target_within}

@@ -3,7 +3,9 @@ pub mod ActorMachines
 pub mod Instants
 pub mod Lowerings
 pub mod Machines
+pub mod Opcodes
 pub mod Present
 pub mod Sources
+pub mod Tests
 pub mod Truths
 pub mod Works

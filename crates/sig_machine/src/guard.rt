@@ -1,9 +1,11 @@
 //! The guards of operations.
 
-ghost use Rattle.std.specs.Prelude.{◌≡◌, ◌<◌, ◌≤◌, if◌then◌else◌};
+ghost use Rattle.std.specs.Prelude.{◌≡◌, ◌<◌, ◌≤◌, ◌&&◌, if◌then◌else◌};
 ghost use Rattle.sig_machine.specs.Prelude.{ℕ, length, slice_get, Some, SigId, Depends, Holds, test, truths_of, is_true};
 ghost use Rattle.sig_machine.specs.Machines.{registers_of};
+ghost use Rattle.sig_machine.specs.Tests.{literal_holds};
 
+use crate::lowered::Literal;
 use crate::machine::Machine;
 use sig_base::SigId;
 use sig_dd::{Node, Ref, Store};
@@ -26,8 +28,35 @@ impl Machine {
         r == store.constant(true)
     }
 
+    /// Whether two literals hold.
+    #[inline(always)]
+    pub(crate) fn hold(&self, a: Literal, b: Literal) -> bool
+        requires first { a.signal.0 < self.now.signals }
+        requires second { b.signal.0 < self.now.signals }
+        requires cells { self.now.signals ≤ length self.now.cells.items }
+        requires stamps { self.now.signals ≤ length self.now.stamps.items }
+        ensures { result ≡ (literal_holds a (registers_of self.now) && literal_holds b (registers_of self.now)) }
+    {
+        self.literal_holds(a) && self.literal_holds(b)
+    }
+
+    /// Whether a literal holds.
+    #[inline(always)]
+    fn literal_holds(&self, literal: Literal) -> bool
+        requires within { literal.signal.0 < self.now.signals }
+        requires cells { self.now.signals ≤ length self.now.cells.items }
+        requires stamps { self.now.signals ≤ length self.now.stamps.items }
+        ensures { result ≡ literal_holds literal (registers_of self.now) }
+    {
+        if literal.positive {
+            self.is_true(literal.signal)
+        } else {
+            !self.is_true(literal.signal)
+        }
+    }
+
     /// Whether a signal is there and true.
-    fn is_true(&self, x: SigId) -> bool
+    pub(crate) fn is_true(&self, x: SigId) -> bool
         requires within { x.0 < self.now.signals }
         requires cells { self.now.signals ≤ length self.now.cells.items }
         requires stamps { self.now.signals ≤ length self.now.stamps.items }

@@ -5,6 +5,7 @@
 
 mod acting;
 mod actor;
+mod coded;
 mod guard;
 mod instruction;
 mod lowered;
@@ -19,11 +20,13 @@ mod react;
 mod runs;
 mod sources;
 mod steps;
+mod tests;
 mod truths;
 mod works;
 
 pub use actor::ActorMachine;
+pub use coded::{Coded, Opcode};
 pub use instruction::{Instruction, Work};
-pub use lowered::{Lowered, Run};
+pub use lowered::{Literal, Lowered, Run, Test};
 pub use lowering::lower;
 pub use machine::Machine;

@@ -1,6 +1,8 @@
 //! A plan as instructions.
 
+use crate::coded::Coded;
 use crate::instruction::Instruction;
+use sig_base::SigId;
 use sig_dd::Ref;
 
 /// The guard of the operation at a place of the order, the place up to which the operations behind it have the same, and
@@ -12,12 +14,32 @@ pub struct Run {
     pub skip: usize,
 }
 
+/// A literal: a signal that is true, or one that is not.
+#[derive(Clone, Copy, Debug, PartialEq, Eq)]
+pub struct Literal {
+    pub signal: SigId,
+    pub positive: bool,
+}
+
+/// How the guard of a run is told: it always holds, it is the truth of a signal, or that of its negation, or two literals
+/// tell it, or a walk.
+#[derive(Clone, Copy, Debug, PartialEq, Eq)]
+pub enum Test {
+    Always,
+    Is(SigId),
+    IsNot(SigId),
+    Both(Literal, Literal),
+    Walk,
+}
+
 /// A plan as instructions, one for each place of its order. The cells are those of its signals, then those of its delays,
 /// by the signals that they define, then constants; here they have what they have at the opening.
 #[derive(Drop)]
 pub struct Lowered {
     pub(crate) signals: usize,
     pub(crate) instructions: Vec<Instruction>,
+    pub(crate) coded: Vec<Coded>,
     pub(crate) runs: Vec<Run>,
+    pub(crate) tests: Vec<Test>,
     pub(crate) cells: Vec<i64>,
 }

@@ -6,11 +6,13 @@ ghost use Rattle.sig_machine.specs.Lowerings.{HasShape, IsTarget, IsWorkOf, Lowe
 ghost use Rattle.sig_machine.specs.Machines.{memories_at};
 ghost use Rattle.sig_machine.specs.Sources.{Grows};
 
+use crate::coded::all_coded;
 use crate::instruction::{Instruction, Work};
 use crate::lowered::Lowered;
 use crate::plans::{kernel_of, op_at, order_of};
 use crate::runs::runs_of;
 use crate::sources::{constant, work_of_form};
+use crate::tests::tests_of;
 use sig_base::SigId;
 use sig_kernel::Kernel;
 use sig_plan::{Op, OpKind, Plan};
@@ -30,10 +32,15 @@ pub fn lower(alloc: Global, plan: &Plan) -> Result<Lowered, AllocError>
         let target = target_of(kernel, op);
         instructions.push(Instruction { work, target })?;
     }
+    let coded = all_coded(alloc, &instructions)?;
+    let runs = runs_of(alloc, plan)?;
+    let tests = tests_of(alloc, plan, &runs)?;
     Ok(Lowered {
-        signals: kernel.signals.as_slice().len(),
+        signals: signal_count(kernel),
         instructions,
-        runs: runs_of(alloc, plan)?,
+        coded,
+        runs,
+        tests,
         cells,
     })
 }
@@ -49,6 +56,13 @@ pub(crate) fn opening_cells(alloc: Global, kernel: &Kernel) -> Result<Vec<i64>, 
     let memories = initial_values(alloc, kernel.equations.as_slice(), signals)?;
     cells.extend_from_slice(memories.as_slice())?;
     Ok(cells)
+}
+
+/// How many signals a kernel has.
+fn signal_count(kernel: &Kernel) -> usize
+    ensures { result ≡ length kernel.now.signals }
+{
+    kernel.signals.as_slice().len()
 }
 
 /// So many zeros.

@@ -5,8 +5,9 @@ ghost use Rattle.sig_machine.specs.Prelude.{ℕ, true, IfErr, IfOk, OnOk, length
 ghost use Rattle.sig_machine.specs.Instants.{EndsBy, GoesOn};
 ghost use Rattle.sig_machine.specs.Lowerings.{IsRun, Lowers};
 ghost use Rattle.sig_machine.specs.Machines.{IsMachineOf, registers_of};
+ghost use Rattle.sig_machine.specs.Tests.{IsTest};
 
-use crate::lowered::{Lowered, Run};
+use crate::lowered::{Lowered, Run, Test};
 use crate::machine::Machine;
 use crate::plans::{conditions_of, named, op_at, order_of, plans_are_accepted, store_of};
 use sig_kernel::Inputs;
@@ -27,7 +28,8 @@ impl Machine {
         let mut place = 0;
         while place < places {
             let run = lowered.runs[place];
-            if self.is_on(plan, run) {
+            let how = lowered.tests[place];
+            if self.is_on(plan, run, how) {
                 self.do_run(plan, lowered, inputs, place, run)?;
                 place = run.end;
             } else {
@@ -38,14 +40,21 @@ impl Machine {
     }
 
     /// Whether the guard of a run is true.
-    fn is_on(&self, plan: &Plan, run: Run) -> bool
+    fn is_on(&self, plan: &Plan, run: Run, how: Test) -> bool
         requires signals { self.now.signals ≡ length plan.now.kernel.signals }
         requires cells { self.now.signals ≤ length self.now.cells.items }
         requires stamps { self.now.signals ≤ length self.now.stamps.items }
         requires run { (place : ℕ) × IsRun plan.now place run }
+        requires how { IsTest plan.now run.guard how }
         ensures { result ≡ test plan.now.store.nodes run.guard (truths_of plan.now.clocks.conditions (registers_of self.now)) }
     {
-        self.holds(store_of(plan), conditions_of(plan), run.guard)
+        match how {
+            Test::Always => true,
+            Test::Is(x) => self.is_true(x),
+            Test::IsNot(x) => !self.is_true(x),
+            Test::Both(a, b) => self.hold(a, b),
+            Test::Walk => self.holds(store_of(plan), conditions_of(plan), run.guard),
+        }
     }
 
     /// Does the operations of a run whose guard is true.
@@ -69,7 +78,8 @@ impl Machine {
         plans_are_accepted(plan);
         for place in first..run.end {
             let instruction = lowered.instructions[place];
-            if let Err(cause) = self.follow(instruction, inputs) {
+            let coded = lowered.coded[place];
+            if let Err(cause) = self.follow(coded, lowered, place, instruction, inputs) {
                 return Err(named(op_at(plan, place).eq, cause));
             }
         }

@@ -27,7 +27,7 @@ returns c =
     let plan = c.args.plan.now in
     let kernel = c.kernel_of-kernel.result.now in
     let same : kernel ≡ plan.kernel = c.kernel_of-kernel.ensures.kernel in
-    let signals : length c.as_slice.result.now ≡ length kernel.signals = ap length c.as_slice.ensures in
+    let signals : c.signal_count.result ≡ length kernel.signals = c.signal_count.ensures in
     let all : length c.order_of-place-end.result.now ≡ length plan.order = ap (λ (order : List OpId). length order) c.order_of-place-end.ensures in
     let count : length c.loop-place.instructions.items ≡ length plan.order =
     let end = c.loop-place.auto.place-end in let test = c.loop-place-test.false in omega (arith, end, test, all, c.loop-place.invariant.count) in
@@ -37,6 +37,11 @@ returns c =
       opening = ap (λ n. memories_at n c.loop-place.cells.items) signals ∙ c.loop-place.invariant.opening ∙ ap (λ (k : Kernel). initial_in k.equations) same;
       count = count;
       each = subst (λ (k : Kernel). AreFor plan k c.loop-place.cells.items c.loop-place.instructions.items) same c.loop-place.invariant.each;
-      runs = c.in_ok-runs_of.ensures.count;
-      run = c.in_ok-runs_of.ensures.each;
+      runs = c.in_ok-runs.ensures.count;
+      run = c.in_ok-runs.ensures.each;
+      coded = c.in_ok-coded.ensures;
+      tests = c.in_ok-tests.ensures;
     }
+
+pub tests_of-requires : goal.tests_of-requires
+tests_of-requires c = c.in_ok-runs.ensures.each

@@ -96,3 +96,25 @@ returns-clause-done c =
     let later = c.requires.run.later in
     let all : c.loop-place.place ≡ c.args.run.end = omega (arith, end, test, later) in
     subst (GoesOn c.args.plan.now c.args.inputs.now c.args.self.now c.args.first c.loop-place.self) all c.loop-place.invariant.goes
+
+pub follow-requires-clause-coded : goal.follow-requires-clause-coded
+follow-requires-clause-coded c =
+    let lowers = c.requires.lowers in
+    let place = c.loop-place.place in
+    let end = (let a = c.requires.run.leaves in let b = c.requires.run.within in ends_within _ _ _ a b) in
+    let test = c.loop-place-test.true in
+    let count = lowers.count in
+    let all = lowers.coded.count in
+    let instructions = c.args.lowered.now.instructions.items in
+    let coded = c.args.lowered.now.coded.items in
+    lowers.coded.each place c.index-instruction.result.now c.index-coded.result.now
+    (slice_get_read instructions (length instructions) place c.index-instruction.result.now refl (omega (arith, end, test, count)) c.index-instruction.ensures)
+    (slice_get_read coded (length coded) place c.index-coded.result.now refl (omega (arith, end, test, count, all)) c.index-coded.ensures)
+
+pub follow-requires-clause-at : goal.follow-requires-clause-at
+follow-requires-clause-at c =
+    let end = (let a = c.requires.run.leaves in let b = c.requires.run.within in ends_within _ _ _ a b) in
+    let test = c.loop-place-test.true in
+    let count = c.requires.lowers.count in
+    let instructions = c.args.lowered.now.instructions.items in
+    slice_get_read instructions (length instructions) c.loop-place.place c.index-instruction.result.now refl (omega (arith, end, test, count)) c.index-instruction.ensures

@@ -1,12 +1,16 @@
-use Rattle.sig_machine.proofs.{rules, w64, ℤ, subst, to_z-of_z, IsPut, kept_by}
+use Rattle.sig_machine.proofs.{rules, w64, ℕ, ℤ, subst, to_z-of_z, ComesTo, IsPut, comes_to, kept_by, work_of}
 use Rattle.sig_machine.proofs.machine.Machine.follow.Goals as goal
 
 pub returns-in-Some-clause-done : goal.returns-in-Some-clause-done
 returns-in-Some-clause-done c =
-    let put : IsPut c.args.instruction.target c.in-Some.value c.args.self.now c.put.new.self =
-    subst (λ (z : ℤ). IsPut c.args.instruction.target z c.args.self.now c.put.new.self) (to_z-of_z w64 c.in-Some.value (search rules)) c.put.ensures in
+    let old = c.args.self.now in
+    let new = c.put.new.self in
+    let put : IsPut c.args.coded.target c.in-Some.value old new =
+    subst (λ (z : ℤ). IsPut c.args.coded.target z old new) (to_z-of_z w64 c.in-Some.value (search rules)) c.put.ensures in
+    let comes : ComesTo old c.in-Some.value c.args._instruction.work =
+    comes_to (work_of c.args.coded.opcode c.args.coded.a c.args.coded.b) old c.in-Some.value c.args._instruction.work c.requires.coded.work c.in-Some.ensures in
     record {
       value = c.in-Some.value;
-      gives = c.in-Some.ensures.value c.args.inputs.now;
-      kept = kept_by c.args.instruction c.in-Some.value c.args.self.now c.put.new.self put c.in-Some.ensures.stays;
+      gives = comes.value c.args.inputs.now;
+      kept = kept_by c.args._instruction c.in-Some.value old new (subst (λ (n : ℕ). IsPut n c.in-Some.value old new) c.requires.coded.target put) comes.stays;
     }

@@ -68,3 +68,15 @@ returns-clause-done c =
     let within = c.loop-place.invariant.within in
     let end : c.loop-place.place ≡ length c.args.plan.now.order = omega (arith, test, all, within) in
     subst (GoesOn c.args.plan.now c.args.inputs.now c.args.self.now 0 c.loop-place.self) end c.loop-place.invariant.goes
+
+pub is_on-requires-clause-how : goal.is_on-requires-clause-how
+is_on-requires-clause-how c =
+    let test = c.loop-place-test.true in
+    let all = ap (λ (order : List OpId). length order) c.order_of-places.ensures in
+    let runs = c.args.lowered.now.runs.items in
+    let tests = c.args.lowered.now.tests.items in
+    let n = c.requires.lowers.runs in
+    let count = c.requires.lowers.tests.count in
+    c.requires.lowers.tests.each c.loop-place.place c.index-run.result.now c.index-how.result.now
+    (slice_get_read runs (length runs) c.loop-place.place c.index-run.result.now refl (omega (arith, test, all, n)) c.index-run.ensures)
+    (slice_get_read tests (length tests) c.loop-place.place c.index-how.result.now refl (omega (arith, test, all, n, count)) c.index-how.ensures)

@@ -1,0 +1,96 @@
+-- Guards that one condition tells.
+use Rattle.sig_machine.proofs.Common.{subst, IsSide, ◌&&◌, Depends-Tests, Tests-Depends, IsJoined, ◌<◌, length, slice_index_or, Depends, IsAccepted, ◌≡◌, ◌∙◌, ℕ, Bool, true, false, not, List, Some, refl, sym, ap, SigId, Registers, is_true, truth_of, truths_of, PlanView, Holds, IsReduced, IsRefOf, IsSide-child, node_of, test, Node, Ref, IsTest, Run, Test, if◌then◌else◌}
+use Rattle.sig_machine.proofs.Guards.{condition_at, conditions_below, truth_at, variable_within}
+
+-- a test tells the guard of a run
+abbrev pub TellsRun : PlanView → Run → Test → Type 0
+TellsRun plan run t = IsTest plan run.guard t
+
+module _ (nodes : List Node) (reduced : IsReduced nodes) (r : Ref) (held : Holds nodes r) (n : Node) (is : Some n ≡ node_of nodes r) (truths : List Bool) where
+  -- a node has the truth of that child to which the truth of its variable leads
+  by_child : (b : Bool) → truth_of truths n.variable ≡ b → (c : Ref) → c ≡ (if b then n.high else n.low) → (t : Bool) → IsRefOf nodes (λ _. t) c → test nodes r truths ≡ t
+  by_child b at c child t leaf = sym ((IsSide-child nodes reduced r held n is b c child).function truths at) ∙ leaf.function truths
+
+  pub is_variable : IsRefOf nodes (λ _. false) n.low → IsRefOf nodes (λ _. true) n.high → test nodes r truths ≡ truth_of truths n.variable
+  is_variable low high = by (truth_of truths n.variable) refl where
+    by : (b : Bool) → truth_of truths n.variable ≡ b → test nodes r truths ≡ truth_of truths n.variable
+    by true at = by_child true at n.high refl true high ∙ sym at
+    by false at = by_child false at n.low refl false low ∙ sym at
+
+  pub is_other : IsRefOf nodes (λ _. true) n.low → IsRefOf nodes (λ _. false) n.high → test nodes r truths ≡ not (truth_of truths n.variable)
+  is_other low high = by (truth_of truths n.variable) refl where
+    by : (b : Bool) → truth_of truths n.variable ≡ b → test nodes r truths ≡ not (truth_of truths n.variable)
+    by true at = by_child true at n.high refl false high ∙ ap not (sym at)
+    by false at = by_child false at n.low refl true low ∙ ap not (sym at)
+
+-- a guard of a plan whose node leads to constants alone
+module _ (plan : PlanView) (accepted : IsAccepted plan) (guard : Ref) (held : Holds plan.store.nodes guard)
+    (told : (v : ℕ) → Depends (test plan.store.nodes guard) v → v < length plan.clocks.conditions) (n : Node) (is : Some n ≡ node_of plan.store.nodes guard) where
+  pub variable_there : n.variable < length plan.clocks.conditions
+  variable_there = variable_within plan.store.nodes accepted.store.reduced guard held n is (length plan.clocks.conditions) told
+
+  abbrev pub condition : SigId
+  condition = slice_index_or plan.clocks.conditions n.variable (record { 0 = 0 })
+
+  below : condition.0 < length plan.kernel.signals
+  below = conditions_below plan accepted n.variable condition (condition_at plan.clocks.conditions n.variable (record { 0 = 0 }) variable_there)
+
+  pub told_plain : IsRefOf plan.store.nodes (λ _. false) n.low → IsRefOf plan.store.nodes (λ _. true) n.high
+      → (condition.0 < length plan.kernel.signals)
+      × ((registers : Registers) → test plan.store.nodes guard (truths_of plan.clocks.conditions registers) ≡ is_true (registers condition.0))
+  told_plain low high = (
+    below,
+    λ registers.
+        is_variable plan.store.nodes accepted.store.reduced guard held n is (truths_of plan.clocks.conditions registers) low high
+        ∙ truth_at plan.clocks.conditions registers n.variable (record { 0 = 0 }) variable_there,
+  )
+
+  pub told_turned : IsRefOf plan.store.nodes (λ _. true) n.low → IsRefOf plan.store.nodes (λ _. false) n.high
+      → (condition.0 < length plan.kernel.signals)
+      × ((registers : Registers) → test plan.store.nodes guard (truths_of plan.clocks.conditions registers) ≡ not (is_true (registers condition.0)))
+  told_turned low high = (
+    below,
+    λ registers.
+        is_other plan.store.nodes accepted.store.reduced guard held n is (truths_of plan.clocks.conditions registers) low high
+        ∙ ap not (truth_at plan.clocks.conditions registers n.variable (record { 0 = 0 }) variable_there),
+  )
+
+  -- the function of the child to which a truth leads
+  abbrev pub child : Bool → Ref
+  child b = if b then n.high else n.low
+
+  side : (b : Bool) → IsSide plan.store.nodes guard n.variable b (child b)
+  side b = IsSide-child plan.store.nodes accepted.store.reduced guard held n is b (child b) refl
+
+  pub child_held : (b : Bool) → Holds plan.store.nodes (child b)
+  child_held b = (side b).holds
+
+  pub child_told : (b : Bool) (v : ℕ) → Depends (test plan.store.nodes (child b)) v → v < length plan.clocks.conditions
+  child_told b v depends =
+      told v (Depends-Tests plan.store.nodes accepted.store.reduced guard held v
+      ((side b).tests v (Tests-Depends plan.store.nodes accepted.store.reduced (child b) (side b).holds v depends)))
+
+  module _ (registers : Registers) where
+    abbrev truths : List Bool
+    truths = truths_of plan.clocks.conditions registers
+
+    known : truth_of truths n.variable ≡ is_true (registers condition.0)
+    known = truth_at plan.clocks.conditions registers n.variable (record { 0 = 0 }) variable_there
+
+    high_joined : IsRefOf plan.store.nodes (λ _. false) n.low → test plan.store.nodes guard truths ≡ (is_true (registers condition.0) && test plan.store.nodes n.high truths)
+    high_joined off = by (is_true (registers condition.0)) refl where
+      by : (b : Bool) → is_true (registers condition.0) ≡ b → test plan.store.nodes guard truths ≡ (is_true (registers condition.0) && test plan.store.nodes n.high truths)
+      by true one = subst (λ z. test plan.store.nodes guard truths ≡ (z && test plan.store.nodes n.high truths)) (sym one) (sym ((side true).function truths (known ∙ one)))
+      by false one = subst (λ z. test plan.store.nodes guard truths ≡ (z && test plan.store.nodes n.high truths)) (sym one) (sym ((side false).function truths (known ∙ one)) ∙ off.function truths)
+
+    low_joined : IsRefOf plan.store.nodes (λ _. false) n.high → test plan.store.nodes guard truths ≡ (not (is_true (registers condition.0)) && test plan.store.nodes n.low truths)
+    low_joined off = by (is_true (registers condition.0)) refl where
+      by : (b : Bool) → is_true (registers condition.0) ≡ b → test plan.store.nodes guard truths ≡ (not (is_true (registers condition.0)) && test plan.store.nodes n.low truths)
+      by true one = subst (λ z. test plan.store.nodes guard truths ≡ (not z && test plan.store.nodes n.low truths)) (sym one) (sym ((side true).function truths (known ∙ one)) ∙ off.function truths)
+      by false one = subst (λ z. test plan.store.nodes guard truths ≡ (not z && test plan.store.nodes n.low truths)) (sym one) (sym ((side false).function truths (known ∙ one)))
+
+  pub joined_high : IsRefOf plan.store.nodes (λ _. false) n.low → IsJoined plan guard (record { signal = condition; positive = true }) n.high
+  joined_high off = (below, λ registers. high_joined registers off)
+
+  pub joined_low : IsRefOf plan.store.nodes (λ _. false) n.high → IsJoined plan guard (record { signal = condition; positive = false }) n.low
+  joined_low off = (below, λ registers. low_joined registers off)
