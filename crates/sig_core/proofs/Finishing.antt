@@ -1,5 +1,5 @@
 -- Events one after another, to the end of a run.
-use Rattle.sig_core.proofs.Common.{◌≡◌, ◌++◌, ◌∙◌, ℕ, Bool, true, false, List, [], ◌∷◌, length, refl, sym, ap, subst, append_assoc, fold, append-nil, bounded_behind, AllFirst, Happened, IsReached, IsSameRun, Shows, TellsChange, TookMore, given_of, LeadsTo, LeadsWithin, RestBelow, SeesNothing, after_of, Core, IsAccepted, Actor, actor_of, outputs_of, seen_lines, Kernel, ModelCore, Given, after, opening, reactions_text, stepped, Reaction, Event, Act, joined_append}
+use Rattle.sig_core.proofs.Common.{◌≡◌, ◌++◌, ◌∙◌, ℕ, Bool, true, false, List, [], ◌∷◌, refl, sym, ap, subst, append_assoc, fold, append-nil, bounded_behind, AllFirst, Happened, IsReached, IsSameRun, Shows, TellsChange, TookMore, given_of, LeadsTo, LeadsWithin, RestBelow, SeesNothing, after_of, Core, IsAccepted, outputs_of, seen_lines, Kernel, ModelCore, Given, after, opening, reactions_text, stepped, Reaction, Event, Act, joined_append}
 use Rattle.sig_core.proofs.Firsts.{ComesFirst, act_first, first_behind, first_change}
 
 fold_append : {A B : Type 0} (f : A → B → A) (z : A) (xs ys : List B) → fold f z (xs ++ ys) ≡ fold f (fold f z xs) ys

@@ -1,5 +1,5 @@
 -- Where lesser actors rest, an event of an actor that changes the state is the first.
-use Rattle.sig_core.proofs.Common.{◌≡◌, ◌≤◌, ◌++◌, ◌∙◌, inl, inr, ℕ, true, List, [], ◌∷◌, subst, fold, at_most_or, AllFirst, IsFirst, actor_in, Shows, TellsChange, given_of, RestBelow, SeesNothing, Core, ModelCore, Given, IsEnabled, stepped, AllChange, Event, Act, Look}
+use Rattle.sig_core.proofs.Common.{◌≡◌, ◌≤◌, ◌++◌, inl, inr, ℕ, true, List, [], ◌∷◌, subst, fold, at_most_or, AllFirst, IsFirst, actor_in, Shows, TellsChange, given_of, RestBelow, SeesNothing, Core, ModelCore, Given, IsEnabled, stepped, AllChange, Event, Act, Look}
 
 -- an event is the first in each state in which a core is
 abbrev pub ComesFirst : Core → Event → Type 0

@@ -9,6 +9,7 @@ pub mod Linking
 pub mod LinksTold
 pub mod Looks
 pub mod Opening
+pub mod Parts
 pub mod Queuing
 pub mod Resting
 pub mod RunningOut
@@ -18,6 +19,8 @@ pub mod Stepping
 pub mod Touching
 pub mod Turning
 pub mod Using
+pub mod UnderWatch
+pub mod Calling
 pub mod Wording
 pub use Common.*
 pub use Ending.*
@@ -28,6 +31,7 @@ pub use Happening.*
 pub use LinksTold.*
 pub use Looks.*
 pub use Opening.*
+pub use Parts.*
 pub use Queuing.*
 pub use RunningOut.*
 pub use Schedules.*
@@ -35,4 +39,6 @@ pub use Serving.*
 pub use Stepping.*
 pub use Touching.*
 pub use Using.*
+pub use UnderWatch.*
+pub use Calling.*
 pub use Wording.*

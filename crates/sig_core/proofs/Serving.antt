@@ -1,5 +1,5 @@
 -- Actors of a core that rest.
-use Rattle.sig_core.proofs.Common.{◌≡◌, ◌≢◌, ◌<◌, ◌≤◌, ◌-◌, ◌+◌, ◌*◌, ◌⊎◌, ◌∙◌, inl, inr, false, ℕ, zero, suc, List, [], ◌∷◌, length, map, refl, sym, ap, subst, arith, None, Option, Some, min, slice_get, mul-le-mul_right, suc-mul, Happened, IsCore, IsReached, IsSameRun, IsWord, Shows, TellsChange, given_of, left_in, IsStill, after_of, queues_of, IsLow, RestBelow, Rests, SeesNothing, Serves, Touches, left_behind, link_at, link_by, link_of, next_link, Core, some_at, at_most_or, Actor, code_of, ModelCore, Given, acted, items_on, looked, stepped, Act, Look, NamesWithin, IsAccepted, PlanView, Step, StepKind, Do, Send, Receive, Report, Collect, Commit, LinkInfo, step_names, step_coded, LinkQueue, actor_of, ClusterState, some_is}
+use Rattle.sig_core.proofs.Common.{◌≡◌, ◌≢◌, ◌<◌, ◌≤◌, ◌-◌, ◌+◌, ◌*◌, ◌⊎◌, ◌∙◌, inl, inr, false, ℕ, zero, suc, List, [], ◌∷◌, length, map, refl, sym, ap, subst, arith, None, Option, Some, min, slice_get, mul-le-mul_right, suc-mul, Happened, IsCore, IsReached, IsSameRun, IsWord, Shows, TellsChange, given_of, left_in, IsStill, after_of, queues_of, IsLow, KeepsBelow, RestBelow, Rests, SeesNothing, Serves, Touches, left_behind, link_at, link_by, link_of, next_link, Core, some_at, at_most_or, Actor, code_of, ModelCore, Given, acted, items_on, looked, stepped, Act, Look, NamesWithin, IsAccepted, PlanView, Step, StepKind, Do, Send, Receive, Report, Collect, Commit, LinkInfo, step_names, step_coded, LinkQueue, actor_of, ClusterState, some_is}
 use Rattle.sig_core.proofs.Leaving.{get_map}
 use Rattle.sig_core.proofs.Resting.{act_rests, has_end, look_rests}
 use Rattle.sig_core.proofs.Wording.{word_once}
@@ -96,6 +96,11 @@ pub rests_on : (old new : Core) → IsCore old → IsSameRun old new → IsAccep
 rests_on old new is same accepted m shows k link touches word i other apart before n shows_n =
     still_on old new is same accepted m shows word i (touches.states i other) (λ j names. touches.links j (λ here. apart j here names)) n shows_n before
 
+-- so it does where the link that its next step uses stays as it is
+pub rests_where : (old new : Core) → IsCore old → IsSameRun old new → IsAccepted old.plan.now → (m : ModelCore) → Shows m old → new.word ≡ old.word
+    → (i : ℕ) → slice_get new.states.items i ≡ slice_get old.states.items i → ((j : ℕ) → next_link old i ≡ Some j → queues_of new.lists j ≡ queues_of old.lists j) → IsStill old m i → Rests new i
+rests_where old new is same accepted m shows word i own link before n shows_n = still_on old new is same accepted m shows word i own link n shows_n before
+
 suc-mul' : (a n : ℕ) → (a + 1) * n ≡ a * n + n
 suc-mul' a n = ap (λ x. x * n) (let e : a + 1 ≡ suc a = omega arith in e) ∙ suc-mul a n
 
@@ -145,6 +150,15 @@ module _ {S : Type 0} (took : S → List ℕ → S → Type 0) (old new : Core) 
         let own = is_low.own in
         rests_on old new is_old same accepted m shows k (next_link old k) touches word i (λ e. omega (arith, e, lt, own)) (λ j names names_i. is_low.apart i lt j names names_i)
         (rest i (omega (arith, lt, own)) m shows);
+    less = left_falls_by old new k low count less;
+  }
+
+  -- it did a step for which no actor below a number waits
+  pub kept_serves : (low : ℕ) → low ≤ k → (link : Option ℕ) → Touches k link old new → KeepsBelow low old new → new.word ≡ old.word → left_in new < left_in old → Serves k old new low
+  kept_serves low own link touches keeps word less = record {
+    within = (let c = count in omega (arith, c, there, own));
+    rest = λ i lt.
+        rests_where old new is_old same accepted m shows word i (touches.states i (λ e. omega (arith, e, lt, own))) (keeps i lt) (rest i (omega (arith, lt, own)) m shows);
     less = left_falls_by old new k low count less;
   }
 

@@ -9,3 +9,4 @@ pub mod Making
 pub mod Resting
 pub mod Schedules
 pub mod Telling
+pub mod Watching

@@ -1,6 +1,6 @@
 -- Actors for which no event changes anything.
 use Rattle.std.specs.Prelude.{◌≡◌, ◌≢◌, ◌<◌, ◌≤◌, ◌-◌, ◌+◌, ◌*◌}
-use Rattle.sig_core.specs.Prelude.{ℕ, Option, None, Some, length, slice_get, no_place, code_of, Core as ModelCore, stepped, Look, PlanView, Step, StepKind, LinkInfo, Do, Send, Receive, Report, Collect, actor_of, ClusterState}
+use Rattle.sig_core.specs.Prelude.{ℕ, Option, None, Some, length, slice_get, code_of, Core as ModelCore, stepped, Look, PlanView, Step, StepKind, Do, Send, Receive, Report, Collect, actor_of, ClusterState}
 use Rattle.sig_core.specs.Cores.{Shows, given_of, left_in}
 use Rattle.sig_core.specs.Finishing.{IsStill}
 use Rattle.sig_core.specs.Lists.{queues_of}
@@ -49,15 +49,6 @@ pub record Touches (k : ℕ) (link : Option ℕ) (old new : Core) : Type 0 where
 pub record IsLow (c : Core) (k low : ℕ) : Type 0 where
   pub own : low ≤ k
   pub apart : (i : ℕ) → i < low → (j : ℕ) → next_link c k ≡ Some j → next_link c i ≡ Some j → ⊥
-
--- The next step of the actor i uses no link of the actor k.
-abbrev pub IsApart : Core → ℕ → ℕ → Type 0
-IsApart c k i = (j : ℕ) (link : LinkInfo) → next_link c i ≡ Some j → slice_get c.plan.now.links j ≡ Some link → (k ≢ link.writer) × (k ≢ link.reader)
-
--- No failure is recorded, and no lesser actor uses at its next step a link of the actor k.
-pub record IsAlone (c : Core) (k : ℕ) : Type 0 where
-  pub word : c.word ≡ no_place
-  pub apart : (i : ℕ) → i < k → IsApart c k i
 
 -- what is left where the actors below a number rest
 abbrev pub left_behind : Core → ℕ → ℕ

@@ -16,6 +16,8 @@ mod serve;
 mod state;
 mod telling;
 mod waiting;
+mod watched;
+mod watching;
 
 pub use answer::{ActorState, CoreAnswer};
 pub use laws::{cores_keep_to_the_plan, runs_keep_to_the_plan};

@@ -52,6 +52,20 @@ pub(crate) fn links_of(plan: &Plan) -> &[LinkInfo]
     plan.links.as_slice()
 }
 
+/// The link that a step of an actor uses, where there is such a step, and it uses one.
+#[inline(always)]
+pub(crate) fn link_at(plan: &Plan, actor: u32, step: u32) -> Option<u32>
+    ensures { result ≡ link_at (slice_get (code_of plan.now actor).steps step) }
+{
+    match plan.codes.get(actor as usize) {
+        Some(code) => match code.steps().get(step as usize) {
+            Some(step) => link_of(step.kind),
+            None => None,
+        },
+        None => None,
+    }
+}
+
 /// What a step of an actor is for.
 #[inline(always)]
 pub(crate) fn step_at(plan: &Plan, actor: u32, step: u32) -> StepKind

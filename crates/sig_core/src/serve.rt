@@ -27,7 +27,7 @@ impl<'a> Core<'a> {
         ensures failed { OnErr result (Rose (S.faults sink.old) (S.faults sink.new)) }
         ensures faults_stay { S.faults sink.old ≤ S.faults sink.new }
     {
-        if self.goes_alone(k) {
+        if self.word == u64::MAX {
             self.go_on(k, sink)
         } else {
             self.serve_events(k, sink)

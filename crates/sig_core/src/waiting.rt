@@ -1,66 +1,14 @@
 //! Actors that wait at links.
 
-ghost use Rattle.std.specs.Prelude.{◌≡◌, ◌≢◌, ◌<◌, ◌↔◌};
-ghost use Rattle.sig_core.specs.Prelude.{ℕ, IsTrue, Some, false, length, min, slice_get, true, LinkInfo};
+ghost use Rattle.std.specs.Prelude.{◌≡◌, ◌<◌, ◌↔◌};
+ghost use Rattle.sig_core.specs.Prelude.{IsTrue, Some, length, min, slice_get, LinkInfo};
 ghost use Rattle.sig_core.specs.Cores.{IsCore};
-ghost use Rattle.sig_core.specs.Resting.{IsAlone, IsApart, IsLow, next_link};
+ghost use Rattle.sig_core.specs.Resting.{IsLow, next_link};
 
 use crate::plans::{link_of, links_of, plans_are_accepted, step_at};
 use crate::state::Core;
 
 impl<'a> Core<'a> {
-    /// Whether no failure is recorded, and no lesser actor uses at its next step a link of this one.
-    #[inline(always)]
-    pub(crate) fn goes_alone(&self, k: u32) -> bool
-        requires core { IsCore self.now }
-        requires actor { k < length self.now.states.items }
-        ensures { result ≡ true → IsAlone self.now k }
-    {
-        if self.word != u64::MAX {
-            return false;
-        }
-        self.is_apart(k)
-    }
-
-    /// Whether no lesser actor uses at its next step a link of this one.
-    #[inline(always)]
-    fn is_apart(&self, k: u32) -> bool
-        requires core { IsCore self.now }
-        requires actor { k < length self.now.states.items }
-        ensures { result ≡ true → (i : ℕ) → i < k → IsApart self.now k i }
-    {
-        for i in 0..k {
-            if self.waits_at(i, k) {
-                return false;
-            }
-        }
-        true
-    }
-
-    /// Whether the next step of an actor uses a link of another one.
-    #[inline(always)]
-    fn waits_at(&self, i: u32, k: u32) -> bool
-        requires core { IsCore self.now }
-        requires actor { i < length self.now.states.items }
-        ensures { result ≡ false → IsApart self.now k i }
-    {
-        plans_are_accepted(self.plan);
-        match self.next_link(i) {
-            Some(j) => self.has_end(k, j),
-            None => false,
-        }
-    }
-
-    /// Whether an actor has an end of a link.
-    #[inline(always)]
-    fn has_end(&self, k: u32, j: u32) -> bool
-        requires link { j < length self.now.plan.now.links }
-        ensures { result ≡ false → (link : LinkInfo) → slice_get self.now.plan.now.links j ≡ Some link → (k ≢ link.writer) × (k ≢ link.reader) }
-    {
-        let link = links_of(self.plan)[j as usize];
-        k == link.writer || k == link.reader
-    }
-
     /// The least of an actor and the one at the other end of the link that its next step uses, where the next
     /// step of that one uses this link too.
     #[inline(always)]

@@ -9,7 +9,10 @@ pub use Rattle.sig_dd.specs.Nodes.{IsReduced, diagram}
 pub use Rattle.sig_dd.proofs.Canonical.{proper}
 pub use Rattle.sig_dd.proofs.Functions.{tests_spanned}
 pub use Rattle.sig_dd.proofs.Trees.{IsProper, Tests-later}
+pub use Rattle.sig_model.specs.Actors.{guard_holds}
+pub use Rattle.sig_model.specs.Prelude.{Collect, Receive, Report, Send}
 pub use Rattle.sig_model.specs.Runnable.{FillsAt, IsInSlot, IsThere}
+pub use Rattle.sig_model.specs.Turns.{Commits, Puts, carried}
 pub use Rattle.sig_machine.specs.ActorMachines.{IsMachineOfActor, IsOpOfStep, IsStepDone, actor_in, instant_of, last_in, seen_in, truths_in}
 pub use Rattle.sig_machine.specs.declared.actor.ActorMachine.{ActorMachine}
 pub use Rattle.sig_machine.proofs.Doing.{faults_it, gives_it}
@@ -20,11 +23,10 @@ pub use Rattle.sig_plan.proofs.Common.{NamesWithin}
 pub use Rattle.sig_plan.proofs.Naming.{step_names}
 pub use Rattle.sig_schedules.proofs.Collecting.{commit_last}
 pub use Rattle.sig_schedules.proofs.Common.{Actor, AtLimit, Cause, CodeView, Commit, Compute, DelayRead, Depends, Do, Fails, Faults, Gives, Goes, IsRunnable, Kernel, Left, Op, OpId, OpKind, Outcome, Place, PlanView, Read, Registers, Right, SigId, Slot, Step, StepKind, Stopped, Store, Takes, Turn, code_of, fills, is_true, length-replicate, moved_on, next_place, no_code, no_registers, operated, outcome, outcome_by, position_of, reaction_in, received, slot_holds, target_of_op, test, truths_of, turn, turn_at, turn_by, turn_of_op, turn_with, with_at, with_signal}
-pub use Rattle.sig_step.specs.Acting.{Acts, CountsAt, CountsNeeds, CountsWalk, Finds, NamesNoLink, TakesTurn}
-pub use Rattle.sig_step.specs.GoingOn.{ActsOn, DoesStep, DoesSteps}
-pub use Rattle.sig_step.specs.LinkEnds.{Asks, BothTell, Nothing, Past, PastGoesOn, Popped, Queues, QueuesGoOn}
+pub use Rattle.sig_step.specs.Acting.{Acts, CountsAt, CountsNeeds, CountsNone, CountsWalk, Finds, NamesNoLink, TakesTurn, done_as}
+pub use Rattle.sig_step.specs.GoingOn.{ActsOn, ActsUntil, DoesStep, DoesSteps, IsSameAndQuiet}
+pub use Rattle.sig_step.specs.LinkEnds.{Asked, Asks, BothTell, Nothing, Past, PastGoesOn, Popped, Queues, QueuesGoOn}
 pub use Rattle.sig_step.specs.Moving.{CanRun, IsMet, IsReady, IsSameActor, IsSlotMet, MayGoOn, MovesOn, StaysMet}
-pub use Rattle.sig_step.specs.Plain.{DoesPlain, DoesPlainSteps, FailsAt, answered_as, done_as}
 pub use Rattle.sig_step.specs.States.{AreMarks, AreMarksAt, IsStateOf, KnowsGuard, actor_of, cause_by, cause_of_op, known_in, mark_holds, mark_is_met, parent_holds, place_of}
 pub use Rattle.sig_step.specs.declared.answer.Acted.{Acted}
 pub use Rattle.sig_step.specs.declared.answer.Acted.TheVariants.{AtLimit as AtTheLimit, Commit as CommitDone, Done, Empty, Failed, Full, Stopped as HasStopped}

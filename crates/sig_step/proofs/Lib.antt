@@ -4,21 +4,21 @@ pub mod Doing
 pub mod Going
 pub mod GuardLemmas
 pub mod MarkLemmas
-pub mod PlainSteps
 pub mod Several
 pub mod StateLemmas
 pub mod Taking
 pub mod TruthLemmas
 pub mod Turning
 pub mod WalkLemmas
+pub mod Within
 unfoldable pub use Common.*
 pub use Beginning.*
 pub use Doing.*
 pub use Going.*
 pub use GuardLemmas.*
-pub use PlainSteps.*
 pub use Several.*
 pub use StateLemmas.*
 pub use Taking.*
 pub use Turning.*
 pub use WalkLemmas.*
+pub use Within.*

@@ -1,6 +1,6 @@
 -- What a call of an actor's step leaves: its turn, done as the links answer.
 use Rattle.std.specs.Prelude.{◌≡◌, ◌≤◌, ◌<◌, ◌+◌, ◌⊎◌}
-use Rattle.sig_step.specs.Prelude.{ℕ, ℤ, true, false, List, length, slice_get, Option, None, Some, Contains, Spans, Node, Ref, Kernel, Actor, code_of, ended_at, AtLimit, Commits, Fails, Goes, Puts, Stopped, Takes, Turn, PlanView, Slot, Step, StepKind, Do, Send, Receive, Report, Collect, Commit as CommitStep, instant_of}
+use Rattle.sig_step.specs.Prelude.{ℕ, ℤ, true, false, List, length, slice_get, Option, None, Some, Result, Ok, Err, Place, Contains, Spans, Node, Ref, Kernel, Actor, code_of, ended_at, AtLimit, Commits, Fails, Goes, Puts, Stopped, Takes, Turn, PlanView, Slot, Step, StepKind, Do, Send, Receive, Report, Collect, Commit as CommitStep, instant_of}
 use Rattle.sig_step.specs.LinkEnds.{Asked, Asks, FoundEmpty, FoundFull, Nothing, Past, Popped, Pushed, Queues}
 use Rattle.sig_step.specs.States.{actor_of, is_met, last_reaction, parent_holds}
 use Rattle.sig_step.specs.declared.answer.Acted.{Acted}
@@ -43,6 +43,11 @@ Finds found_full found_empty Commit before after = Unit {0}
 Finds found_full found_empty (Failed place) before after = Unit {0}
 Finds found_full found_empty AtTheLimit before after = Unit {0}
 Finds found_full found_empty HasStopped before after = Unit {0}
+
+-- what a call answers of an operation: it was done, or it has no value
+abbrev pub done_as : {U : Type 0} → Result U Place → Acted
+done_as (Ok done) = Done
+done_as (Err place) = Failed place
 
 -- an answer names no link
 abbrev pub NamesNoLink : Acted → Type 0

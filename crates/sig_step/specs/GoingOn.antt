@@ -31,6 +31,10 @@ DoesSteps {E} past queues found_full found_empty same plan flows (suc n) old new
     × DoesSteps past queues found_full found_empty same plan flows n old mid before between count_before amid
     × DoesStep past queues found_full found_empty same plan flows Done mid new between after amid count_after
 
+-- both are ends of the same links, and the later ones are quiet
+abbrev pub IsSameAndQuiet : {E : Type 0} → (E → E → Type 0) → (E → Type 0) → E → E → Type 0
+IsSameAndQuiet same quiet before after = same before after × quiet after
+
 -- Steps one after another: all but the last are done, and this is what the last came to.
 pub record ActsOn {E : Type 0} (past : E → Option Past) (queues : E → Option Queues) (found_full found_empty : ℕ → E → E → Type 0) (same : E → E → Type 0) (plan : PlanView) (flows : List (List ℤ))
     (acted : Acted) (old new : ClusterState) (before after : E) (count_before count_after : ℕ) : Type 0 where
@@ -39,4 +43,14 @@ pub record ActsOn {E : Type 0} (past : E → Option Past) (queues : E → Option
   pub between : E
   pub amid : ℕ
   pub done : DoesSteps past queues found_full found_empty same plan flows count old mid before between count_before amid
+  pub last : DoesStep past queues found_full found_empty same plan flows acted mid new between after amid count_after
+
+-- The same, where all but the last leave ends that are quiet.
+pub record ActsUntil {E : Type 0} (past : E → Option Past) (queues : E → Option Queues) (found_full found_empty : ℕ → E → E → Type 0) (same : E → E → Type 0) (quiet : E → Type 0) (plan : PlanView)
+    (flows : List (List ℤ)) (acted : Acted) (old new : ClusterState) (before after : E) (count_before count_after : ℕ) : Type 0 where
+  pub count : ℕ
+  pub mid : ClusterState
+  pub between : E
+  pub amid : ℕ
+  pub done : DoesSteps past queues found_full found_empty (IsSameAndQuiet same quiet) plan flows count old mid before between count_before amid
   pub last : DoesStep past queues found_full found_empty same plan flows acted mid new between after amid count_after

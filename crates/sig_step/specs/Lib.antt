@@ -3,5 +3,4 @@ pub mod Acting
 pub mod GoingOn
 pub mod LinkEnds
 pub mod Moving
-pub mod Plain
 pub mod States

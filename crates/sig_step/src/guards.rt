@@ -44,10 +44,10 @@ impl ClusterState {
         ensures counted { (slot : Slot) → slice_get (code_of plan.now self.old.actor).slots number ≡ Some slot
             → CountsWalk plan.now self.old number slot steps.old steps.new }
     {
-        let slot = self.slot_at(plan, number);
         if let Some(holds) = self.known(number) {
             return holds;
         }
+        let slot = self.slot_at(plan, number);
         let holds = self.walk(plan, slot, steps);
         self.note(number, holds);
         holds

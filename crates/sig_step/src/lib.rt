@@ -10,7 +10,6 @@ mod guards;
 mod making;
 mod moving;
 mod operating;
-mod plain;
 mod plans;
 mod putting;
 mod receiving;
@@ -20,6 +19,6 @@ mod state;
 mod step;
 
 pub use answer::{Acted, StepAnswer};
-pub use ends::Ends;
+pub use ends::{Calls, Ends};
 pub use sharing::states_may_be_moved;
 pub use state::ClusterState;

@@ -29,20 +29,9 @@ pub(crate) fn step_in(steps: &[Step], number: u32) -> Step
 }
 
 impl ClusterState {
-    /// Goes to the next step, or to the first one of the next instant.
+    /// Goes to the next step of the actor's code, or to the first one of the next instant.
     #[inline(always)]
-    pub(crate) fn move_on(&mut self, plan: &Plan)
-        requires { (flows : List (List ℤ)) × MayGoOn plan.now flows self.old }
-        ensures moves { MovesOn plan.now self.old self.new }
-        ensures state { (flows : List (List ℤ)) → MayGoOn plan.now flows self.old → IsStateOf plan.now flows self.new }
-    {
-        let steps = self.code(plan);
-        self.move_on_in(plan, steps);
-    }
-
-    /// The same over the steps of the actor's code.
-    #[inline(always)]
-    pub(crate) fn move_on_in(&mut self, plan: &Plan, steps: &[Step])
+    pub(crate) fn move_on(&mut self, plan: &Plan, steps: &[Step])
         requires may { (flows : List (List ℤ)) × MayGoOn plan.now flows self.old }
         requires steps { steps.now ≡ (code_of plan.now self.old.actor).steps }
         ensures moves { MovesOn plan.now self.old self.new }

@@ -1,11 +1,10 @@
 //! The operations of an actor.
 
 ghost use Rattle.std.specs.Prelude.{◌≡◌};
-ghost use Rattle.sig_step.specs.Prelude.{false, Ok, code_of, turn_by, StepKind};
-ghost use Rattle.sig_step.specs.Acting.{Acts, NamesNoLink};
+ghost use Rattle.sig_step.specs.Prelude.{code_of, turn_by, StepKind};
 ghost use Rattle.sig_step.specs.LinkEnds.{Nothing};
 ghost use Rattle.sig_step.specs.Moving.{IsReady, IsSameActor, StaysMet};
-ghost use Rattle.sig_step.specs.Plain.{answered_as, done_as};
+ghost use Rattle.sig_step.specs.Acting.{Acts, NamesNoLink, done_as};
 ghost use Rattle.sig_step.specs.States.{IsStateOf, actor_of};
 
 use crate::answer::Acted;
@@ -17,44 +16,18 @@ use sig_plan::{Plan, Step, StepKind};
 impl ClusterState {
     /// Does an operation, or ends where it has no value.
     #[inline(always)]
-    pub(crate) fn operate(&mut self, plan: &Plan, inputs: &Inputs, o: OpId) -> Acted
-        requires { IsReady plan.now inputs.now self.old (StepKind.Do o) }
+    pub(crate) fn operate(&mut self, plan: &Plan, inputs: &Inputs, code: &[Step], o: OpId) -> Acted
+        requires ready { IsReady plan.now inputs.now self.old (StepKind.Do o) }
+        requires code { code.now ≡ (code_of plan.now self.old.actor).steps }
         ensures acts { Acts plan.now.kernel (turn_by plan.now inputs.now (code_of plan.now self.old.actor) (actor_of self.old) (StepKind.Do o)) result self.old self.new Nothing }
         ensures state { IsStateOf plan.now inputs.now self.new }
         ensures same { IsSameActor self.old self.new }
         ensures met { StaysMet plan.now result self.new }
         ensures alone { NamesNoLink result }
     {
-        let steps = self.code(plan);
-        match self.do_operation(plan, inputs, steps, o) {
+        match self.do_operation(plan, inputs, code, o) {
             Ok(()) => Acted::Done,
             Err(place) => Acted::Failed(place),
-        }
-    }
-
-    /// Does a step of this kind where it is an operation, and tells whether it was one; or ends at the place of
-    /// the operation, where that has no value.
-    #[inline(always)]
-    pub(crate) fn do_kind(
-        &mut self,
-        plan: &Plan,
-        inputs: &Inputs,
-        steps: &[Step],
-        kind: StepKind,
-    ) -> Result<bool, Place>
-        requires ready { IsReady plan.now inputs.now self.old kind }
-        requires steps { steps.now ≡ (code_of plan.now self.old.actor).steps }
-        ensures acts { (result ≡ Ok false → ⊥) → Acts plan.now.kernel (turn_by plan.now inputs.now (code_of plan.now self.old.actor) (actor_of self.old) kind) (answered_as result) self.old self.new Nothing }
-        ensures left { result ≡ Ok false → self.new ≡ self.old }
-        ensures state { IsStateOf plan.now inputs.now self.new }
-        ensures same { IsSameActor self.old self.new }
-    {
-        match kind {
-            StepKind::Do(o) => match self.do_operation(plan, inputs, steps, o) {
-                Ok(()) => Ok(true),
-                Err(place) => Err(place),
-            },
-            _ => Ok(false),
         }
     }
 
@@ -74,7 +47,7 @@ impl ClusterState {
         ensures same { IsSameActor self.old self.new }
     {
         if self.values.follow(plan, self.actor, self.step, inputs) {
-            self.move_on_in(plan, steps);
+            self.move_on(plan, steps);
             Ok(())
         } else {
             self.ended = true;

@@ -11,7 +11,7 @@ use crate::ends::Ends;
 use crate::state::ClusterState;
 use sig_base::SigId;
 use sig_kernel::Inputs;
-use sig_plan::Plan;
+use sig_plan::{Plan, Step};
 
 impl ClusterState {
     /// Takes an item from a link into the register of a signal, where there is one, and goes on once the
@@ -21,6 +21,7 @@ impl ClusterState {
         &mut self,
         plan: &Plan,
         inputs: &Inputs,
+        code: &[Step],
         ends: &mut E,
         link: u32,
         signal: Option<SigId>,
@@ -30,6 +31,7 @@ impl ClusterState {
         requires end { Contains (E.pops ends.old) link }
         requires there { IsThere plan.now signal }
         requires fills { (x : SigId) → signal ≡ Some x → FillsAt plan.now self.old.actor self.old.step x }
+        requires code { code.now ≡ (code_of plan.now self.old.actor).steps }
         ensures turn { TakesTurn E.past E.queues plan.now.kernel (Takes link (λ (item : ℤ). moved_on (length (code_of plan.now self.old.actor).steps) (received signal item (actor_of self.old))))
             result self.old self.new ends.old ends.new }
         ensures state { IsStateOf plan.now inputs.now self.new }
@@ -43,7 +45,7 @@ impl ClusterState {
         match ends.pop(link) {
             Some(item) => {
                 self.values.write(signal, item);
-                self.move_on(plan);
+                self.move_on(plan, code);
                 Acted::Done
             }
             None => Acted::Empty(link),

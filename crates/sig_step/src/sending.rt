@@ -11,7 +11,7 @@ use crate::ends::Ends;
 use crate::state::ClusterState;
 use sig_base::SigId;
 use sig_kernel::Inputs;
-use sig_plan::Plan;
+use sig_plan::{Plan, Step};
 
 impl ClusterState {
     /// The item of a link that carries this signal, or a report.
@@ -31,12 +31,14 @@ impl ClusterState {
         &mut self,
         plan: &Plan,
         inputs: &Inputs,
+        code: &[Step],
         ends: &mut E,
         link: u32,
         item: i64,
     ) -> Acted
         requires may { MayGoOn plan.now inputs.now self.old }
         requires end { Contains (E.pushes ends.old) link }
+        requires code { code.now ≡ (code_of plan.now self.old.actor).steps }
         ensures turn { TakesTurn E.past E.queues plan.now.kernel (Puts link item (moved_on (length (code_of plan.now self.old.actor).steps) (actor_of self.old)))
             result self.old self.new ends.old ends.new }
         ensures state { IsStateOf plan.now inputs.now self.new }
@@ -49,7 +51,7 @@ impl ClusterState {
     {
         match ends.push(link, item) {
             Ok(()) => {
-                self.move_on(plan);
+                self.move_on(plan, code);
                 Acted::Done
             }
             Err(_) => Acted::Full(link),

@@ -98,4 +98,14 @@ impl ClusterState {
     {
         step_in(self.code(plan), self.step)
     }
+
+    /// The same, where these are the steps of the actor's code.
+    #[inline(always)]
+    pub(crate) fn next_step_in(&self, _plan: &Plan, code: &[Step]) -> Step
+        requires code { code.now ≡ (code_of _plan.now self.now.actor).steps }
+        requires step { self.now.step < length (code_of _plan.now self.now.actor).steps }
+        ensures { slice_get (code_of _plan.now self.now.actor).steps self.now.step ≡ Some result }
+    {
+        step_in(code, self.step)
+    }
 }

@@ -12,7 +12,7 @@ use crate::plans::{carried, plans_can_run};
 use crate::state::ClusterState;
 use sig_dd::Steps;
 use sig_kernel::Inputs;
-use sig_plan::{Plan, StepKind};
+use sig_plan::{Plan, Step, StepKind};
 use std::sync::ledger::Ledger;
 
 impl ClusterState {
@@ -48,15 +48,17 @@ impl ClusterState {
             self.ended = true;
             return Acted::AtLimit;
         }
-        self.take_step(plan, inputs, ends, steps)
+        let code = self.code(plan);
+        self.take_step(plan, inputs, code, ends, steps)
     }
 
     /// Does the next step within the limit.
     #[inline(always)]
-    fn take_step<E: Ends, L: Ledger>(
+    pub(crate) fn take_step<E: Ends, L: Ledger>(
         &mut self,
         plan: &Plan,
         inputs: &Inputs,
+        code: &[Step],
         ends: &mut E,
         steps: &mut Steps<L>,
     ) -> Acted
@@ -64,6 +66,7 @@ impl ClusterState {
         requires runs { self.old.ended ≡ false }
         requires within { instant_of self.old.values ≤ self.old.limit }
         requires links { MayUse plan.now self.old.actor (E.pushes ends.old) (E.pops ends.old) }
+        requires code { code.now ≡ (code_of plan.now self.old.actor).steps }
         ensures state { IsStateOf plan.now inputs.now self.new }
         ensures same { IsSameActor self.old self.new }
         ensures turn { TakesTurn E.past E.queues plan.now.kernel (turn_at plan.now inputs.now (code_of plan.now self.old.actor) (actor_of self.old) (slice_get (code_of plan.now self.old.actor).steps self.old.step))
@@ -76,9 +79,9 @@ impl ClusterState {
         ensures counts { Counts plan.now self.old steps.old steps.new }
     {
         plans_can_run(plan);
-        let step = self.next_step(plan);
+        let step = self.next_step_in(plan, code);
         let holds = self.holds(plan, step.slot, steps);
-        self.do_or_pass(plan, inputs, ends, step.kind, holds)
+        self.do_or_pass(plan, inputs, code, ends, step.kind, holds)
     }
 
     /// Does a step whose guard holds, and passes over another.
@@ -87,12 +90,14 @@ impl ClusterState {
         &mut self,
         plan: &Plan,
         inputs: &Inputs,
+        code: &[Step],
         ends: &mut E,
         kind: StepKind,
         holds: bool,
     ) -> Acted
         requires ready { IsReady plan.now inputs.now self.old kind }
         requires links { MayDo (E.pushes ends.old) (E.pops ends.old) kind }
+        requires code { code.now ≡ (code_of plan.now self.old.actor).steps }
         ensures state { IsStateOf plan.now inputs.now self.new }
         ensures same { IsSameActor self.old self.new }
         ensures turn { TakesTurn E.past E.queues plan.now.kernel
@@ -105,9 +110,9 @@ impl ClusterState {
         ensures pops { E.pops ends.new ≡ E.pops ends.old }
     {
         if holds {
-            self.perform(plan, inputs, ends, kind)
+            self.perform(plan, inputs, code, ends, kind)
         } else {
-            self.move_on(plan);
+            self.move_on(plan, code);
             Acted::Done
         }
     }
@@ -118,11 +123,13 @@ impl ClusterState {
         &mut self,
         plan: &Plan,
         inputs: &Inputs,
+        code: &[Step],
         ends: &mut E,
         kind: StepKind,
     ) -> Acted
         requires ready { IsReady plan.now inputs.now self.old kind }
         requires links { MayDo (E.pushes ends.old) (E.pops ends.old) kind }
+        requires code { code.now ≡ (code_of plan.now self.old.actor).steps }
         ensures state { IsStateOf plan.now inputs.now self.new }
         ensures same { IsSameActor self.old self.new }
         ensures turn { TakesTurn E.past E.queues plan.now.kernel (turn_by plan.now inputs.now (code_of plan.now self.old.actor) (actor_of self.old) kind)
@@ -134,16 +141,16 @@ impl ClusterState {
         ensures pops { E.pops ends.new ≡ E.pops ends.old }
     {
         match kind {
-            StepKind::Do(o) => self.operate(plan, inputs, o),
+            StepKind::Do(o) => self.operate(plan, inputs, code, o),
             StepKind::Send(j) => {
                 let item = self.item(carried(plan, j));
-                self.send(plan, inputs, ends, j, item)
+                self.send(plan, inputs, code, ends, j, item)
             }
-            StepKind::Report(j) => self.send(plan, inputs, ends, j, 0),
-            StepKind::Receive(j) => self.receive(plan, inputs, ends, j, carried(plan, j)),
-            StepKind::Collect(j) => self.receive(plan, inputs, ends, j, None),
+            StepKind::Report(j) => self.send(plan, inputs, code, ends, j, 0),
+            StepKind::Receive(j) => self.receive(plan, inputs, code, ends, j, carried(plan, j)),
+            StepKind::Collect(j) => self.receive(plan, inputs, code, ends, j, None),
             StepKind::Commit => {
-                self.move_on(plan);
+                self.move_on(plan, code);
                 Acted::Commit
             }
         }

@@ -6,8 +6,8 @@ follow-requires-clause-op c =
     let (op, there) = op_there c.args.plan.now c.args.inputs.now c.args.self.now c.args._o c.requires.ready in
     (op, does_op c.args.plan.now c.args.inputs.now c.args.self.now c.args._o c.requires.ready op there)
 
-pub move_on_in-requires-clause-may : goal.move_on_in-requires-clause-may
-move_on_in-requires-clause-may c =
+pub move_on-requires-clause-may : goal.move_on-requires-clause-may
+move_on-requires-clause-may c =
     let plan = c.args.plan.now in
     let s = c.args.self.now in
     let (op, there) = op_there plan c.args.inputs.now s c.args._o c.requires.ready in
@@ -20,7 +20,7 @@ returns-then-follow-clause-acts c =
     let s = c.args.self.now in
     let (op, there) = op_there plan c.args.inputs.now s c.args._o c.requires.ready in
     let done = subst (λ b. IsStepDone plan.kernel c.args.inputs.now op b s.values c.follow.new.self) c.if-follow.true (c.follow.ensures.done op (does_op plan c.args.inputs.now s c.args._o c.requires.ready op there)) in
-    op_done plan c.args.inputs.now s c.args._o c.requires.ready op there c.follow.new.self done.0 done.2 done.1 c.move_on_in.new.self c.move_on_in.ensures.moves
+    op_done plan c.args.inputs.now s c.args._o c.requires.ready op there c.follow.new.self done.0 done.2 done.1 c.move_on.new.self c.move_on.ensures.moves
 
 pub returns-then-follow-clause-state : goal.returns-then-follow-clause-state
 returns-then-follow-clause-state c =
@@ -28,7 +28,7 @@ returns-then-follow-clause-state c =
     let s = c.args.self.now in
     let (op, there) = op_there plan c.args.inputs.now s c.args._o c.requires.ready in
     let done = subst (λ b. IsStepDone plan.kernel c.args.inputs.now op b s.values c.follow.new.self) c.if-follow.true (c.follow.ensures.done op (does_op plan c.args.inputs.now s c.args._o c.requires.ready op there)) in
-    c.move_on_in.ensures.state c.args.inputs.now
+    c.move_on.ensures.state c.args.inputs.now
     (done_may_go_on plan c.args.inputs.now s c.args._o c.requires.ready op there c.follow.new.self done.0 done.2 c.follow.ensures.machine)
 
 pub returns-else-follow-clause-acts : goal.returns-else-follow-clause-acts

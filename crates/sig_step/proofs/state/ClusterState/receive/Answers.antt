@@ -4,8 +4,8 @@ use Rattle.sig_step.proofs.state.ClusterState.receive.Goals as goal
 pub write-requires : goal.write-requires
 write-requires g c = (c.args.plan.now, c.args.self.now.actor, c.args.inputs.now, c.requires.may.state.values, if_signal c.args.plan.now c.args.signal c.requires.there)
 
-pub move_on-requires : goal.move_on-requires
-move_on-requires g c = (
+pub move_on-requires-clause-may : goal.move_on-requires-clause-may
+move_on-requires-clause-may g c = (
   c.args.inputs.now,
   may_with c.args.plan.now c.args.inputs.now c.args.self.now c.requires.runnable c.requires.may c.write.new.self
       (c.write.ensures.machine c.args.plan.now c.args.self.now.actor c.args.inputs.now c.requires.may.state.values)
