@@ -20,7 +20,8 @@ item costs, for which an actor waits.
 
 Part `crowd`: 64 clusters of one operation each over links of one item, without workers and with 2, 8 and 64 of them, on all
 processors, on one, and beside twelve busy processes. Compares the texts, and prints the processor times, which are to be at
-most 30 times that without workers.
+most 30 times that without workers. Beside them it prints that of bench/rests.c, in which 64 threads that do nothing rest and are
+woken once an instant, as those of 64 workers are.
 
 Part `pay`: chains of 1 to 250 sums, and of as many remainders, in one, two and four clusters that share nothing but their
 clock, without workers and with as many as there are clusters, and the longest ones with 1, 2, 4 and 8 workers at the capacities
@@ -211,11 +212,16 @@ def run_words(sigc, workers, capacity=16):
     return [sigc, "run", "program.sig", "flows", "--workers", str(workers), "--capacity", str(capacity)]
 
 
+def compiled(folder, name):
+    """A C program of this folder."""
+    made = os.path.join(folder, "plain-" + name)
+    subprocess.run(["gcc", "-O2", "-pthread", "-o", made, os.path.join(HERE, name + ".c")], check=True)
+    return made
+
+
 def plain_program(folder):
     """The C program of all baselines."""
-    made = os.path.join(folder, "plain-run")
-    subprocess.run(["gcc", "-O2", "-o", made, os.path.join(HERE, "run.c")], check=True)
-    return made
+    return compiled(folder, "run")
 
 
 def beside_c(sigc, folder):
@@ -293,7 +299,8 @@ def busy(count):
 
 
 def crowd(sigc, folder):
-    put_files(folder, chains(CROWD, 1, one_more), chains_flows(CROWD, INSTANTS // 500)(random.Random(1)))
+    instants = put_files(folder, chains(CROWD, 1, one_more), chains_flows(CROWD, INSTANTS // 500)(random.Random(1)))
+    rests = [compiled(folder, "rests"), str(CROWD), str(instants)]
     for setting, before, beside in (("all processors", [], 0), ("one processor", ["taskset", "-c", "0"], 0), (f"{BUSY} busy processes beside", [], BUSY)):
         others = busy(beside)
         try:
@@ -304,6 +311,8 @@ def crowd(sigc, folder):
                 alone = alone or spent
                 held = "" if spent <= MOST_RATIO * alone else f", more than {MOST_RATIO}"
                 print(f"{CROWD} clusters, {setting}, {workers} workers: processors {spent:.3f} s, ratio {spent / alone:.1f}{held}; wall {wall:.3f} s")
+            spent, wall, _ = measured([*before, *rests], folder, "rests")
+            print(f"{CROWD} threads that only rest, {setting}: processors {spent:.3f} s, ratio {spent / alone:.1f}; wall {wall:.3f} s")
         finally:
             for other in others:
                 other.kill()

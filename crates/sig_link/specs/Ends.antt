@@ -1,6 +1,7 @@
 -- What a contract sees of the two ends of a link.
 use Rattle.std.specs.Prelude.{◌≡◌, ◌≤◌, ◌+◌, ◌-◌, ◌^◌, ℕ, ℤ, List, ◌++◌, length, min}
 use Rattle.std.specs.Arc.{arc_value}
+use Rattle.crossbeam_utils.specs.Padded.{padded_value}
 use Rattle.crossbeam_queue.specs.Passes.{view, ruled_capacity}
 use Rattle.atomic_table.specs.Seated.{TableId}
 use Rattle.sig_link.specs.Rule.{WasEmpty, WasFull}
@@ -20,7 +21,10 @@ take_link t = t.pass.table_id
 
 -- how many items the link holds at most
 abbrev pub put_capacity : Put → ℕ
-put_capacity p = ruled_capacity (arc_value p.line)
+put_capacity p = ruled_capacity (padded_value (arc_value p.line))
+
+abbrev pub take_capacity : Take → ℕ
+take_capacity t = ruled_capacity (padded_value (arc_value t.line))
 
 -- all items that were sent, oldest first
 abbrev pub sent : Put → List ℤ

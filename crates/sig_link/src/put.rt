@@ -2,10 +2,12 @@
 
 ghost use Rattle.std.specs.Prelude.{◌≡◌, ◌≤◌, [], ◌∷◌, ◌++◌, true, OnErr, OnOk};
 ghost use Rattle.std.specs.Arc.{arc_value};
+ghost use Rattle.crossbeam_utils.specs.Padded.{padded_value};
 ghost use Rattle.crossbeam_queue.specs.Passes.{view, ruled_capacity, IsPassOf};
 
 use super::rule::{Line, LinkPass};
 use super::steps::push_step;
+use crossbeam_utils::CachePadded;
 use sig_base::Full;
 use std::alloc::Global;
 use std::sync::{Arc, Wait};
@@ -13,17 +15,24 @@ use std::sync::{Arc, Wait};
 /// The end of a link that puts. It may be moved to another thread.
 #[derive(Drop)]
 pub struct Put {
-    pub(crate) line: Arc<Line, Global>,
+    pub(crate) line: Arc<CachePadded<Line>, Global>,
     pub(crate) pass: LinkPass,
     /// How many calls found the link full, up to the greatest number.
     pub(crate) times_full: u64,
-    ghost fits: { IsPassOf (arc_value line) pass },
+    ghost fits: { IsPassOf (padded_value (arc_value line)) pass },
     ghost puts: { (view pass).puts ≡ true },
-    ghost sized: { ruled_capacity (arc_value line) ≤ 65536 },
+    ghost sized: { ruled_capacity (padded_value (arc_value line)) ≤ 65536 },
 }
 
 impl Put {
-    ghost use Rattle.sig_link.specs.Ends.{sent, times_full, FoundFull, IsSamePut};
+    ghost use Rattle.sig_link.specs.Ends.{put_capacity, sent, times_full, FoundFull, IsSamePut};
+
+    /// How many items the link holds at most.
+    pub fn capacity(&self) -> u32
+        ensures { result ≡ put_capacity self.now }
+    {
+        self.line.capacity() as u32
+    }
 
     /// Puts the item last of what was sent. `Full` comes only where the queue was full at a step of
     /// this call, which is counted; nothing else then changed. It may wait for the other end to end a

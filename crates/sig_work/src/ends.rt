@@ -27,6 +27,16 @@ impl LinkEnds {
         }
     }
 
+    /// The end of a link that puts, if it is here.
+    pub(crate) fn put_at(&self, link: u32) -> Option<&Put> {
+        self.puts.get(link as usize)?.as_ref()
+    }
+
+    /// The end of a link that takes, if it is here.
+    pub(crate) fn take_at(&self, link: u32) -> Option<&Take> {
+        self.takes.get(link as usize)?.as_ref()
+    }
+
     /// Hands out the ends, and keeps none.
     pub(crate) fn take(&mut self) -> LinkEnds
         ensures { result ≡ self.old }

@@ -25,6 +25,7 @@ mod serving;
 mod settling;
 mod share;
 mod stopping;
+mod turn;
 mod turning;
 mod word;
 mod workers;

@@ -1,8 +1,10 @@
 //! The threads at the other ends of links.
 
 use crate::handing::share_for;
+use crate::member::Member;
 use crate::plans::{actors_in, links_in};
 use crate::share::Share;
+use crate::turn::MANY_GAINED;
 use sig_halt::Halt;
 use sig_plan::{LinkInfo, Plan, StepKind};
 
@@ -66,14 +68,7 @@ impl Neighbours<'_> {
 
     /// The link for which these shares wait, where they have one actor alone.
     pub(crate) fn link_for(&self, shares: &[Share]) -> Option<u32> {
-        let share = shares.first()?;
-        let member = share.members.first()?;
-        if shares.len() > 1 || share.members.len() > 1 {
-            return None;
-        }
-        let plan = self.plan;
-        let code = plan.codes.get(member.number as usize)?;
-        match code.steps().get(member.state.step() as usize)?.kind {
+        match self.next_of(only_member(shares)?)? {
             StepKind::Send(link)
             | StepKind::Receive(link)
             | StepKind::Report(link)
@@ -81,4 +76,37 @@ impl Neighbours<'_> {
             StepKind::Do(_) | StepKind::Commit => None,
         }
     }
+
+    /// The instant of the actor of these shares, where they have one alone, and its next step uses a link to or from
+    /// the collector with room for a turn.
+    pub(crate) fn turn_of(&self, shares: &[Share]) -> Option<u32> {
+        let member = only_member(shares)?;
+        let room = match self.next_of(member)? {
+            StepKind::Report(link) => member.ends.put_at(link)?.capacity(),
+            StepKind::Collect(link) => member.ends.take_at(link)?.capacity(),
+            StepKind::Send(_) | StepKind::Receive(_) | StepKind::Do(_) | StepKind::Commit => 0,
+        };
+        if room > MANY_GAINED {
+            Some(member.state.instant())
+        } else {
+            None
+        }
+    }
+
+    /// What the next step of an actor is.
+    fn next_of(&self, member: &Member) -> Option<StepKind> {
+        let plan = self.plan;
+        let code = plan.codes.get(member.number as usize)?;
+        Some(code.steps().get(member.state.step() as usize)?.kind)
+    }
+}
+
+/// The actor of these shares, where they have one alone.
+fn only_member(shares: &[Share]) -> Option<&Member> {
+    let share = shares.first()?;
+    let member = share.members.first()?;
+    if shares.len() > 1 || share.members.len() > 1 {
+        return None;
+    }
+    Some(member)
 }

@@ -2,9 +2,9 @@
 
 use crate::neighbours::Neighbours;
 use crate::share::Share;
+use crate::turn::{Turn, spin};
 use sig_halt::{Halt, Rest};
 use sig_plan::Plan;
-use std::hint;
 use std::sync::Wait;
 
 /// How often in a row it only spins before it rests, where that helps, and where it does not.
@@ -28,6 +28,7 @@ pub(crate) struct Patience<'a> {
     /// How often something was done, since others were told.
     moves: u32,
     rest: Option<Rest<'a>>,
+    turn: Turn,
 }
 
 impl<'a> Patience<'a> {
@@ -41,17 +42,22 @@ impl<'a> Patience<'a> {
             spins: MOST_SPINS,
             moves: 0,
             rest: None,
+            turn: Turn::none(),
         }
     }
 
-    /// Something was done, which may give threads that rest something to do: they are told of it now and then.
-    pub(crate) fn renew(&mut self) {
+    /// Something was done, which may give threads that rest something to do: they are told of it now and then. Where
+    /// a link of the collector refused what is next, the thread waits its turn.
+    pub(crate) fn renew(&mut self, shares: &[Share]) {
         self.spun();
         self.rounds = 0;
         if self.moves < MOVES {
             self.moves += 1;
         } else {
             self.tell();
+        }
+        if let Some(instant) = self.neighbours.turn_of(shares) {
+            self.turn.wait(instant);
         }
     }
 
@@ -97,11 +103,5 @@ impl<'a> Patience<'a> {
                 self.rest = Some(self.neighbours.halt.rest_in(self.bed, link));
             }
         }
-    }
-}
-
-fn spin(times: u32) {
-    for _ in 0..times {
-        hint::spin_loop();
     }
 }

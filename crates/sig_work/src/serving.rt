@@ -75,7 +75,7 @@ fn serve_on<R: Wait, S: Sink, G: Gate>(
         match serve_round(rt, plan, inputs, halt, shares, gate, sink)? {
             Round::Ended => return Ok(()),
             Round::Still => patience.wait(rt, shares),
-            Round::Moved | Round::Stuck => patience.renew(),
+            Round::Moved | Round::Stuck => patience.renew(shares),
         }
     }
     unreachable!()
