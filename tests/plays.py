@@ -62,9 +62,9 @@ def drawn(draws, actors, count):
 
 
 def repeated(flows):
-    """The lines of a flow file, the values of each of them many times."""
+    """The lines of a flow file, the values of each of them many times; the line of its version stays."""
     lines = [it.split() for it in flows.splitlines() if it.split()]
-    return "".join(f"{name} {' '.join(values * REPEATED)}\n" for name, *values in lines)
+    return "".join(f"{name} {' '.join(values * (1 if name == 'flows' else REPEATED))}\n" for name, *values in lines)
 
 
 def difference(played, wanted, actors, capacity):
@@ -126,12 +126,14 @@ class Plays:
         program, own = f"{EXAMPLES}/{name}.sig", f"{EXAMPLES}/{name}.flows"
         with open(own, encoding="ascii") as file:
             long = self.put("flows", repeated(file.read()))
-        actors = called([self.sigc, "code", program])[0].count("actor ")
+        # A program without a root is run with its paces.
+        pace = [] if called([self.sigc, "check", program])[2] == 0 else ["--pace"]
+        actors = called([self.sigc, "code", program] + pace)[0].count("actor ")
         before = self.passed
-        self.lists(name, [program, own], actors, "its own flows")
-        self.lists(name, [program, long], actors, "long flows")
-        self.lists(name, [program, long, "--instants", "3"], actors, "long flows, 3 instants")
-        self.greatest(name, [program, long], actors)
+        self.lists(name, [program, own] + pace, actors, "its own flows")
+        self.lists(name, [program, long] + pace, actors, "long flows")
+        self.lists(name, [program, long, "--instants", "3"] + pace, actors, "long flows, 3 instants")
+        self.greatest(name, [program, long] + pace, actors)
         print(f"{name}, {actors} actors: {self.passed - before} plays give the text and the end of the run", flush=True)
 
 
