@@ -1,4 +1,5 @@
 -- An instant, operation by operation.
+use Rattle.std.proofs.lemmas.Option.{same_Some}
 use Rattle.std.proofs.Common.{◌≡◌, ◌+◌, inl, inr, ℕ, ℤ, Bool, true, List, length, None, Some, refl, sym, ap, subst, ◌∙◌, arith}
 use Rattle.std.specs.Prelude.{slice_get}
 use Rattle.std.proofs.lemmas.Bool.{cases_lt}
@@ -9,13 +10,10 @@ use Rattle.sig_dd.specs.Diagram.{value_at}
 use Rattle.sig_file.specs.Guarded.{Guarded, IsSoundImage, IsWrittenBefore, Writes, guards_of}
 use Rattle.sig_file.specs.Images.{ImageView, IsImage}
 use Rattle.sig_file.specs.ImageRuns.{State, cleared, proposal_of}
-use Rattle.sig_exec.specs.Instants.{IsAmid}
-use Rattle.sig_exec.proofs.Operating.{AreAlike, HasReads, operated, operated_alike, others_stay, written_there}
+use Rattle.sig_exec.specs.inner.Instants.{IsAmid}
+use Rattle.sig_exec.proofs.OperationOutcomes.{AreAlike, HasReads, operated, operated_alike, others_stay, written_there}
 use Rattle.sig_exec.proofs.Places.{may_do, writes_within}
-use Rattle.sig_exec.proofs.Walking.{Stays, stays}
-
-some_is : {A : Type 0} (a b : A) → Some a ≡ Some b → a ≡ b
-some_is a b e = cc
+use Rattle.sig_exec.proofs.GuardWalks.{Stays, stays}
 
 module _ (image : ImageView) (right : IsImage image) (sound : IsSoundImage image) where
   abbrev truths : State → List Bool
@@ -42,7 +40,7 @@ module _ (image : ImageView) (right : IsImage image) (sound : IsSoundImage image
             (v, keeps x earlier ∙ seen)
         | inr late ↦
             let here : w.earlier ≡ n = omega (arith, late, b) in
-            let same : w.op ≡ op = some_is w.op op (sym w.is ∙ ap (slice_get (guards_of image).ops) here ∙ is) in
+            let same : w.op ≡ op = same_Some w.op op (sym w.is ∙ ap (slice_get (guards_of image).ops) here ∙ is) in
             let on = stays (guards_of image) sound n s t keeps n op (omega arith) is ∙ subst (λ (o : Guarded). value_at o.guard (truths t) ≡ true) same w.holds in
             own x on (subst (λ (o : Guarded). Writes o.kind x) same w.writes)
       ]

@@ -6,13 +6,13 @@ use Rattle.std.proofs.lemmas.List.{drop-set-lt, drop-set-add, take-set-le, get_o
 use Rattle.std.proofs.lemmas.Bool.{cases_lt}
 use Rattle.sig_base.specs.Traces.{Seen, seen_at}
 use Rattle.sig_file.specs.Images.{ImageView}
-use Rattle.sig_exec.specs.Lowerings.{cell}
-use Rattle.sig_exec.specs.Machines.{HasCells, IsKept, left_of, registers_of, seen_in, shown, shown_all, taken_after}
+use Rattle.sig_exec.specs.inner.Lowerings.{cell}
+use Rattle.sig_exec.specs.inner.Machines.{HasCells, IsKept, left_of, registers_of, seen_in, shown, shown_all, taken_after}
 use Rattle.sig_exec.specs.declared.instruction.Instruction.{Instruction}
 use Rattle.sig_exec.specs.declared.instruction.Work.{Work}
 use Rattle.sig_exec.specs.declared.instruction.Work.TheVariants.{Next}
 use Rattle.sig_exec.specs.declared.machine.Machine.{Machine}
-use Rattle.sig_exec.proofs.Operating.{behind_first, value_in}
+use Rattle.sig_exec.proofs.OperationOutcomes.{behind_first, value_in}
 
 -- ---- what is shown
 

@@ -17,8 +17,8 @@ use Rattle.sig_file.specs.ImageRuns.{is_true, proposal_of}
 use Rattle.sig_file.specs.declared.images.ImageNode.{ImageNode}
 use Rattle.sig_file.proofs.Behind.{each_at}
 use Rattle.sig_file.proofs.Reduced.{reduced}
-use Rattle.sig_exec.specs.Instants.{reference}
-use Rattle.sig_exec.specs.Machines.{HasCells, registers_of, seen_in, truths_of}
+use Rattle.sig_exec.specs.inner.Instants.{reference}
+use Rattle.sig_exec.specs.inner.Machines.{HasCells, registers_of, seen_in, truths_of}
 use Rattle.sig_exec.specs.declared.machine.Machine.{Machine}
 use Rattle.sig_exec.proofs.Cells.{registers_at}
 use Rattle.sig_exec.proofs.Places.{condition_within}

@@ -6,7 +6,7 @@ use Rattle.sig_file.specs.Images.{ImageView, IsImage}
 use Rattle.sig_file.specs.ImageRuns.{Ends, EndsIn, Handles, HandlesAll, State, holds}
 use Rattle.sig_file.specs.declared.images.ImageOp.{ImageOp}
 use Rattle.sig_file.specs.declared.run.ImageCause.{ImageCause}
-use Rattle.sig_exec.specs.Instants.{DoesAt, EndsAt, HandlesEach, HandlesFirst}
+use Rattle.sig_exec.specs.inner.Instants.{DoesAt, EndsAt, HandlesEach, HandlesFirst}
 use Rattle.sig_exec.proofs.Places.{guarded_at}
 
 -- one more at the end

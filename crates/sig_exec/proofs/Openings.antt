@@ -7,11 +7,11 @@ use Rattle.sig_file.specs.Guarded.{guards_of}
 use Rattle.sig_file.specs.Images.{ImageView}
 use Rattle.sig_file.specs.ImageRuns.{State, cleared, opening}
 use Rattle.sig_file.specs.declared.images.ImageMemory.{ImageMemory}
-use Rattle.sig_exec.specs.Lowerings.{Lowers, inits_of}
-use Rattle.sig_exec.specs.Machines.{IsMachineOf, left_of, shown, shown_all, state_of}
+use Rattle.sig_exec.specs.inner.Lowerings.{Lowers, inits_of}
+use Rattle.sig_exec.specs.inner.Machines.{IsMachineOf, left_of, shown, shown_all, state_of}
 use Rattle.sig_exec.specs.declared.lowered.Lowered.{Lowered}
 use Rattle.sig_exec.specs.declared.machine.Machine.{Machine}
-use Rattle.sig_exec.proofs.Working.{has_cells}
+use Rattle.sig_exec.proofs.InstructionWorks.{has_cells}
 
 -- a stamp before the instant is none of it
 stale : (instant stamp : ℕ) (value : ℤ) → stamp < instant → shown instant stamp value ≡ None

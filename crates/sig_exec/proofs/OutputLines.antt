@@ -7,7 +7,7 @@ use Rattle.sig_text.specs.Sink.{Joins, TookPrefix, TookPrefix-longer, TookPrefix
 use Rattle.sig_file.specs.Images.{ImageView}
 use Rattle.sig_file.specs.ImageRuns.{instant_lines, seen_line, seen_lines}
 use Rattle.sig_file.specs.declared.images.ImageSignal.{ImageSignal}
-use Rattle.sig_exec.specs.Instants.{line_at, line_where}
+use Rattle.sig_exec.specs.inner.Instants.{line_at, line_where}
 
 -- the line of a signal, by what it is
 pub line_is : (image : ImageView) (registers : Instant) (number : ℕ) (signal : ImageSignal) → slice_get image.signals number ≡ Some signal → (seen : Seen) → seen_at registers number ≡ seen

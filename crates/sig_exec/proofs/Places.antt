@@ -15,9 +15,9 @@ use Rattle.sig_file.specs.declared.images.ImageOpKind.{ImageOpKind}
 use Rattle.sig_file.specs.declared.images.ImageOpKind.TheVariants as does
 use Rattle.sig_file.specs.declared.images.ImageSignal.{ImageSignal}
 use Rattle.sig_file.proofs.Behind.{each_at}
-use Rattle.sig_exec.specs.Lowerings.{bound_of, target_of}
-use Rattle.sig_exec.specs.Instants.{IsAmid}
-use Rattle.sig_exec.proofs.Operating.{HasPlaces}
+use Rattle.sig_exec.specs.inner.Lowerings.{bound_of, target_of}
+use Rattle.sig_exec.specs.inner.Instants.{IsAmid}
+use Rattle.sig_exec.proofs.OperationOutcomes.{HasPlaces}
 use Rattle.sig_file.specs.ImageRuns.{State}
 
 no_option : {A : Type 0} (o : Option A) → (o ≡ None → ⊥) → (x : A) × (o ≡ Some x)

@@ -3,7 +3,7 @@ use Rattle.std.proofs.Common.{◌≡◌, ◌<◌, ◌^◌, zero, suc, ℤ, pos, 
 use Rattle.std.proofs.lemmas.Int.{ints, quot-rem}
 use Rattle.sig_base.specs.Functions.{Remainder, remainder}
 use Rattle.sig_base.specs.Traces.{has_64_bits}
-use Rattle.sig_exec.specs.Results.{computed}
+use Rattle.sig_exec.specs.inner.Results.{computed}
 use Rattle.sig_exec.specs.declared.fault.Fault.{Fault}
 
 -- what a division leaves

@@ -7,7 +7,7 @@ use Rattle.std.proofs.lemmas.Int.{ints}
 use Rattle.sig_base.specs.Functions.{Function, Identity, Negative, Not, And, Or, Xor, Equal, NotEqual, Less, LessEqual, Greater, GreaterEqual, Sum, Difference, Product, Quotient, Remainder, Gives, Tells, operand_count}
 use Rattle.sig_base.specs.Traces.{Bounded, has_64_bits}
 use Rattle.sig_file.specs.ImageRuns.{HasZeroDivisor}
-use Rattle.sig_exec.specs.Results.{computed, divides_by_zero, result_of, truth_value}
+use Rattle.sig_exec.specs.inner.Results.{computed, divides_by_zero, result_of, truth_value}
 use Rattle.sig_exec.specs.declared.fault.Fault.{Fault}
 use Rattle.sig_exec.specs.declared.fault.Fault.TheVariants.{Overflow, ZeroDivisor}
 

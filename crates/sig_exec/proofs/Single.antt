@@ -1,4 +1,5 @@
 -- An image has one run.
+use Rattle.std.proofs.lemmas.Option.{same_Some}
 use Rattle.std.proofs.Common.{◌≡◌, ◌≤◌, arith, inl, inr, ℕ, zero, suc, ℤ, Bool, true, false, List, [], ◌∷◌, length, Some, refl, sym, ap, subst, ◌∙◌}
 use Rattle.std.specs.Prelude.{slice_set}
 use Rattle.std.specs.List.{flat_map}
@@ -17,14 +18,11 @@ use Rattle.sig_file.specs.declared.run.ImageCause.{ImageCause}
 use Rattle.sig_file.specs.declared.run.ImageEnd.{ImageEnd}
 use Rattle.sig_exec.proofs.Results.{gives_one, zero_gives_nothing}
 
-some_is : {A : Type 0} (a b : A) → Some a ≡ Some b → a ≡ b
-some_is a b e = cc
-
 -- operands have one list of values
 same_values : (instant : Instant) (operands : List Operand) (v w : List ℤ) → HaveValues instant operands v → HaveValues instant operands w → v ≡ w
 same_values instant [] [] [] one other = refl
 same_values instant (Sig x ∷ operands) (a ∷ v) (b ∷ w) one other =
-    let first : a ≡ b = some_is a b (sym one.0 ∙ other.0) in
+    let first : a ≡ b = same_Some a b (sym one.0 ∙ other.0) in
     ap (λ (c : ℤ). c ∷ v) first ∙ ap (λ (l : List ℤ). b ∷ l) (same_values instant operands v w one.1 other.1)
 same_values instant (Const c ∷ operands) (a ∷ v) (b ∷ w) one other =
     ap (λ (c : ℤ). c ∷ v) (sym one.0 ∙ other.0) ∙ ap (λ (l : List ℤ). b ∷ l) (same_values instant operands v w one.1 other.1)
@@ -42,7 +40,7 @@ clash {A} b on off = absurd (let e : true ≡ false = sym on ∙ off in cc)
 
 does_once : (kind : ImageOpKind) (s t u : State) → Does kind s t → Does kind s u → t ≡ u
 does_once (does.Read x) s t u (v, rest, at, is) (w, more, there, same) =
-    let list : v ∷ rest ≡ w ∷ more = some_is (v ∷ rest) (w ∷ more) (sym at ∙ there) in
+    let list : v ∷ rest ≡ w ∷ more = same_Some (v ∷ rest) (w ∷ more) (sym at ∙ there) in
     let first : v ≡ w = cc in
     let behind : rest ≡ more = cc in
     is ∙ ap (λ (a : ℤ). written x a (record s { flows = slice_set s.flows x.0 rest })) first
@@ -51,15 +49,15 @@ does_once (does.Fun y op operands) s t u (v, (values, have, gives), small, is) (
     let values_are = same_values s.registers operands others values has have in
     let one : v ≡ w = gives_one (function_of op) values v w gives (subst (λ (l : List ℤ). Gives Bounded (function_of op) l w) values_are gave) in
     is ∙ ap (λ (a : ℤ). written y a s) one ∙ sym same
-does_once (does.Copy y x) s t u (v, at, is) (w, there, same) = is ∙ ap (λ (a : ℤ). written y a s) (some_is v w (sym at ∙ there)) ∙ sym same
+does_once (does.Copy y x) s t u (v, at, is) (w, there, same) = is ∙ ap (λ (a : ℤ). written y a s) (same_Some v w (sym at ∙ there)) ∙ sym same
 does_once (does.Const y value) s t u is same = is ∙ sym same
-does_once (does.DelayRead y memory) s t u (v, at, is) (w, there, same) = is ∙ ap (λ (a : ℤ). written y a s) (some_is v w (sym at ∙ there)) ∙ sym same
+does_once (does.DelayRead y memory) s t u (v, at, is) (w, there, same) = is ∙ ap (λ (a : ℤ). written y a s) (same_Some v w (sym at ∙ there)) ∙ sym same
 does_once (does.Store memory x) s t u (v, at, is) (w, there, same) =
-    is ∙ ap (λ (a : ℤ). record s { memories = slice_set s.memories memory a }) (some_is v w (sym at ∙ there)) ∙ sym same
+    is ∙ ap (λ (a : ℤ). record s { memories = slice_set s.memories memory a }) (same_Some v w (sym at ∙ there)) ∙ sym same
 
 does_or_ends : (kind : ImageOpKind) (at : Span) (s t : State) (cause : ImageCause) → Does kind s t → Ends kind at s cause → ⊥
 does_or_ends (does.Read x) at s t cause (v, rest, here, is) (none, why) =
-    let e : v ∷ rest ≡ [] = some_is (v ∷ rest) [] (sym here ∙ none) in cc
+    let e : v ∷ rest ≡ [] = same_Some (v ∷ rest) [] (sym here ∙ none) in cc
 does_or_ends (does.Fun y op operands) at s t cause (v, (values, have, gives), small, is) (inl (w, (others, has, gave), large, why)) =
     let values_are = same_values s.registers operands others values has have in
     let one : w ≡ v = gives_one (function_of op) values w v (subst (λ (l : List ℤ). Gives Bounded (function_of op) l w) values_are gave) gives in

@@ -1,7 +1,3 @@
 pub mod Prelude
-pub mod Outcomes
-pub mod Results
-pub mod Lowerings
-pub mod Machines
-pub mod Instants
 pub mod Running
+pub mod inner

@@ -1,10 +1,10 @@
 -- What the definitions and the clauses of this crate cite of std and of the crates below, passed on from one place.
 pub use Rattle.std.specs.Prelude.{Bool, Err, FitsSigned, IfErr, IfOk, IfSome, List, None, Ok, OnErr, OnOk, Option, Result, Some, SomeIff, [], drop, false, if◌then◌else◌, int_le, int_lt, length, map, neg_ℤ, negsuc, not, pos, replicate, slice_get, slice_index_or, slice_set, take, true, zero, suc, ℕ, ℤ}
 pub use Rattle.std.specs.Int.{w64}
-pub use Rattle.std.specs.List.{AllPass, flat_map}
+pub use Rattle.std.specs.List.{AllByRecursion, AllPass, flat_map}
 pub use Rattle.std.specs.Ordering.{int_eq}
 pub use Rattle.sig_base.specs.Functions.{Function, Identity, Negative, Not, And, Or, Xor, Equal, NotEqual, Less, LessEqual, Greater, GreaterEqual, Sum, Difference, Product, Quotient, Remainder, quotient, remainder}
-pub use Rattle.sig_base.specs.Traces.{Instant, Seen, Trace, has_64_bits, seen_at}
+pub use Rattle.sig_base.specs.Traces.{AreOfKinds, Bounded, Instant, Seen, Trace, has_64_bits, seen_at}
 pub use Rattle.sig_base.specs.declared.ids.Kind.{Kind}
 pub use Rattle.sig_base.specs.declared.ids.SigId.{SigId}
 pub use Rattle.sig_base.specs.declared.span.Span.{Span}

@@ -1,6 +1,6 @@
 -- What running an image makes.
 use Rattle.std.specs.Prelude.{◌≡◌, ◌<◌}
-use Rattle.sig_exec.specs.Prelude.{ℕ, ℤ, List, [], length, slice_get, slice_index_or, Some, AllPass, TookPrefix, value_is, ImageView, ImageSignal, ImageEnd, IsImageRun}
+use Rattle.sig_exec.specs.Prelude.{ℕ, ℤ, List, [], length, map, slice_get, slice_index_or, Some, AllPass, AreOfKinds, Bounded, Instant, TookPrefix, value_is, ImageView, ImageSignal, ImageEnd, IsImageRun}
 
 -- Flows fit an image.
 pub record AreFlowsOf (image : ImageView) (flows : List (List ℤ)) : Type 0 where
@@ -18,3 +18,7 @@ TookRun image flows limit took before after end = (text : List ℕ) × IsImageRu
 abbrev pub TookSome : ImageView → List (List ℤ) → ℕ → {S : Type 0} → (S → List ℕ → S → Type 0) → S → S → Type 0
 TookSome image flows limit took before after =
     (text : List ℕ) (end : ImageEnd) → IsImageRun image flows limit text end → TookPrefix took before text after
+
+-- At an instant each signal of an image is absent, or has a value of its kind.
+abbrev pub HaveKinds : ImageView → Instant → Type 0
+HaveKinds image instant = AreOfKinds Bounded (map (λ signal. signal.kind) image.signals) instant

@@ -2,7 +2,7 @@
 
 ghost use Rattle.std.specs.Prelude.{◌≡◌, ◌∷◌};
 ghost use Rattle.sig_exec.specs.Prelude.{[], function_of};
-ghost use Rattle.sig_exec.specs.Results.{IsWithin, computed, truth_value};
+ghost use Rattle.sig_exec.specs.inner.Results.{IsWithin, computed, truth_value};
 ghost use Rattle.sig_kernel.specs.declared.equation.FunOp.{FunOp};
 
 use crate::fault::Fault;

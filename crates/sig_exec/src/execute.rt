@@ -2,8 +2,8 @@
 
 ghost use Rattle.std.specs.Prelude.{◌≡◌, ◌≤◌};
 ghost use Rattle.sig_exec.specs.Prelude.{Err, IfOk, IsSoundImage, OnErr, Rose, cleared, guards_of, length, opening};
-ghost use Rattle.sig_exec.specs.Lowerings.{Lowers};
-ghost use Rattle.sig_exec.specs.Machines.{IsMachineOf, state_of};
+ghost use Rattle.sig_exec.specs.inner.Lowerings.{Lowers};
+ghost use Rattle.sig_exec.specs.inner.Machines.{IsMachineOf, state_of};
 ghost use Rattle.sig_exec.specs.Running.{AreFlowsOf, TookRun, TookSome};
 ghost use Rattle.sig_exec.specs.declared.answer.ExecAnswer.{ExecAnswer};
 

@@ -1,7 +1,7 @@
 //! Why an operation has no value.
 
 ghost use Rattle.std.specs.Prelude.{◌≡◌};
-ghost use Rattle.sig_exec.specs.Outcomes.{cause_of};
+ghost use Rattle.sig_exec.specs.inner.Outcomes.{cause_of};
 
 use sig_base::{SigId, Span};
 use sig_file::ImageCause;

@@ -2,8 +2,8 @@
 
 ghost use Rattle.std.specs.Prelude.{◌≡◌, ◌<◌, ◌+◌, if◌then◌else◌};
 ghost use Rattle.sig_exec.specs.Prelude.{length, is_true, nodes_in, test};
-ghost use Rattle.sig_exec.specs.Instants.{reference};
-ghost use Rattle.sig_exec.specs.Machines.{HasCells, seen_in, truths_of};
+ghost use Rattle.sig_exec.specs.inner.Instants.{reference};
+ghost use Rattle.sig_exec.specs.inner.Machines.{HasCells, seen_in, truths_of};
 
 use crate::images::{condition_at, images_are_right, node_at};
 use crate::machine::Machine;

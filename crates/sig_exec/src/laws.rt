@@ -1,8 +1,8 @@
 //! What holds of the runs of images.
 
 ghost use Rattle.std.specs.Prelude.{◌≡◌, ◌≤◌};
-ghost use Rattle.sig_exec.specs.Prelude.{ℕ, ℤ, List, IsImage, IsImageRun, IsSoundImage, ImageEnd, ImageView};
-ghost use Rattle.sig_exec.specs.Running.{AreFlowsOf};
+ghost use Rattle.sig_exec.specs.Prelude.{ℕ, ℤ, List, AllByRecursion, IsImage, IsImageRun, IsSoundImage, ImageEnd, ImageView};
+ghost use Rattle.sig_exec.specs.Running.{AreFlowsOf, HaveKinds};
 
 /// A law: over given flows and up to a limit an image has at most one run, of at most as many instants; and an image that is
 /// sound has one.
@@ -13,4 +13,11 @@ pub fn images_have_one_run()
         → (text : List ℕ) × (end : ImageEnd) × IsImageRun image flows limit text end }
     ensures within { (image : ImageView) (flows : List (List ℤ)) (limit : ℕ) (text : List ℕ) (end : ImageEnd)
         → IsImageRun image flows limit text end → end.instants ≤ limit }
+{}
+
+/// A law: in each committed instant of a run of an image that is right, over flows that fit, each signal is absent or has a
+/// value of its kind.
+pub fn committed_values_have_kinds()
+    ensures { (image : ImageView) (flows : List (List ℤ)) (limit : ℕ) (text : List ℕ) (end : ImageEnd) → IsImage image → AreFlowsOf image flows
+        → (run : IsImageRun image flows limit text end) → AllByRecursion (HaveKinds image) run.committed }
 {}

@@ -20,5 +20,5 @@ mod works;
 
 pub use answer::ExecAnswer;
 pub use execute::exec;
-pub use laws::images_have_one_run;
+pub use laws::{committed_values_have_kinds, images_have_one_run};
 pub use sig_verify::{Verified, VerifyAnswer, verify};

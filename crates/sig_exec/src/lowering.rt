@@ -2,7 +2,7 @@
 
 ghost use Rattle.std.specs.Prelude.{◌≡◌, ◌≤◌, ◌<◌, ◌+◌, ◌++◌, ◌∷◌};
 ghost use Rattle.sig_exec.specs.Prelude.{ℕ, IfOk, [], length, pos, replicate, IsOperation, scope_of};
-ghost use Rattle.sig_exec.specs.Lowerings.{Grows, IsCellOf, IsFor, IsFunctionWork, IsWorkOf, Lowers, bound_of, inits_of, target_of};
+ghost use Rattle.sig_exec.specs.inner.Lowerings.{Grows, IsCellOf, IsFor, IsFunctionWork, IsWorkOf, Lowers, bound_of, inits_of, target_of};
 
 use crate::images::{images_are_right, op_at};
 use crate::instruction::{Instruction, Work};

@@ -2,8 +2,8 @@
 
 ghost use Rattle.std.specs.Prelude.{◌≡◌, ◌<◌};
 ghost use Rattle.sig_exec.specs.Prelude.{ℕ, ℤ, List, IfOk, ImageView, cleared, guards_of, length, opening, replicate};
-ghost use Rattle.sig_exec.specs.Lowerings.{Lowers};
-ghost use Rattle.sig_exec.specs.Machines.{IsMachineOf, seen_in, state_of};
+ghost use Rattle.sig_exec.specs.inner.Lowerings.{Lowers};
+ghost use Rattle.sig_exec.specs.inner.Machines.{IsMachineOf, seen_in, state_of};
 ghost use Rattle.sig_exec.specs.declared.lowered.Lowered.{Lowered};
 
 use crate::lowered::Lowered;

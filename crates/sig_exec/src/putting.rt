@@ -2,8 +2,8 @@
 
 ghost use Rattle.std.specs.Prelude.{◌≤◌, ◌<◌};
 ghost use Rattle.sig_exec.specs.Prelude.{OnErr, OnOk, Rose, TookPrefix, instant_lines, length};
-ghost use Rattle.sig_exec.specs.Instants.{line_at};
-ghost use Rattle.sig_exec.specs.Machines.{HasCells, registers_of};
+ghost use Rattle.sig_exec.specs.inner.Instants.{line_at};
+ghost use Rattle.sig_exec.specs.inner.Machines.{HasCells, registers_of};
 
 use crate::images::{images_are_right, inputs_of, outputs_of, signal_at};
 use crate::machine::Machine;

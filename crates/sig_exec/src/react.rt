@@ -2,9 +2,9 @@
 
 ghost use Rattle.std.specs.Prelude.{◌≡◌, ◌+◌};
 ghost use Rattle.sig_exec.specs.Prelude.{IfErr, IfOk, OnOk, EndsIn, IsSoundImage, Some, guards_of, length, nodes_in, slice_get, test, true};
-ghost use Rattle.sig_exec.specs.Instants.{DoesAt, EndsAt, HandlesEach, IsAmid, reference};
-ghost use Rattle.sig_exec.specs.Lowerings.{Lowers};
-ghost use Rattle.sig_exec.specs.Machines.{IsMachineOf, state_of, truths_of};
+ghost use Rattle.sig_exec.specs.inner.Instants.{DoesAt, EndsAt, HandlesEach, IsAmid, reference};
+ghost use Rattle.sig_exec.specs.inner.Lowerings.{Lowers};
+ghost use Rattle.sig_exec.specs.inner.Machines.{IsMachineOf, state_of, truths_of};
 
 use crate::fault::cause_of;
 use crate::guard::Asked;

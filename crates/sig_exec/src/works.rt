@@ -2,7 +2,7 @@
 
 ghost use Rattle.std.specs.Prelude.{◌≡◌, ◌<◌, ◌+◌, ◌^◌};
 ghost use Rattle.sig_exec.specs.Prelude.{IfOk, IfSome, [], length, slice_get, slice_index_or};
-ghost use Rattle.sig_exec.specs.Machines.{IsKept, ReadsWithin, came_to, input_id, input_taken, next_of, taken_of};
+ghost use Rattle.sig_exec.specs.inner.Machines.{IsKept, ReadsWithin, came_to, input_id, input_taken, next_of, taken_of};
 
 use crate::computed::{computed_of_one, computed_of_two};
 use crate::fault::Fault;

@@ -1,6 +1,6 @@
 use Rattle.std.proofs.Common.{◌≡◌, ◌≤◌}
-use Rattle.sig_exec.specs.Machines.{IsMachineOf, state_of}
-use Rattle.sig_exec.proofs.Running.{HasRun}
+use Rattle.sig_exec.specs.inner.Machines.{IsMachineOf, state_of}
+use Rattle.sig_exec.proofs.RunByInstants.{HasRun}
 use Rattle.sig_exec.proofs.execute.run.Given as goal
 
 abbrev pub invariant-loop-done : goal.invariant-loop-done

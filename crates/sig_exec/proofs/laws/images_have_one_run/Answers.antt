@@ -1,4 +1,4 @@
-use Rattle.sig_exec.proofs.Existing.{some_run}
+use Rattle.sig_exec.proofs.RunOfSoundImage.{some_run}
 use Rattle.sig_exec.proofs.Single.{one_run, run_within}
 use Rattle.sig_exec.proofs.laws.images_have_one_run.Goals as goal
 

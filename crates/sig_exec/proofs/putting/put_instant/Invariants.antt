@@ -1,5 +1,5 @@
 use Rattle.std.proofs.Common.{◌≤◌}
-use Rattle.sig_exec.specs.Machines.{registers_of}
+use Rattle.sig_exec.specs.inner.Machines.{registers_of}
 use Rattle.sig_exec.proofs.OutputLines.{lines_upto}
 use Rattle.sig_exec.proofs.putting.put_instant.Given as goal
 

@@ -3,7 +3,7 @@ use Rattle.std.proofs.lemmas.Int.{to_z-of_z}
 use Rattle.sig_kernel.specs.OutputText.{line_of}
 use Rattle.std.specs.Prelude.{OnErr, OnOk}
 use Rattle.sig_text.specs.Sink.{TookPrefix}
-use Rattle.sig_exec.specs.Machines.{registers_of}
+use Rattle.sig_exec.specs.inner.Machines.{registers_of}
 use Rattle.sig_exec.proofs.Cells.{registers_at}
 use Rattle.sig_exec.proofs.OutputLines.{line_is}
 use Rattle.sig_exec.proofs.putting.put_signal.Goals as goal

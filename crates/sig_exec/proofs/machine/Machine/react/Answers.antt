@@ -4,11 +4,11 @@ use Rattle.sig_dd.specs.Nodes.{test}
 use Rattle.sig_file.specs.Guarded.{guards_of, nodes_in}
 use Rattle.sig_file.specs.ImageRuns.{EndsIn}
 use Rattle.sig_file.specs.declared.run.ImageCause.{ImageCause}
-use Rattle.sig_exec.specs.Instants.{HandlesFirst, IsAmid, reference}
-use Rattle.sig_exec.specs.Machines.{IsMachineOf, state_of, truths_of}
+use Rattle.sig_exec.specs.inner.Instants.{HandlesFirst, IsAmid, reference}
+use Rattle.sig_exec.specs.inner.Machines.{IsMachineOf, state_of, truths_of}
 use Rattle.sig_exec.specs.declared.machine.Machine.{Machine}
 use Rattle.sig_exec.proofs.Guards.{constant_truth}
-use Rattle.sig_exec.proofs.Reacting.{amid_passed, amid_start, guard_within, one_done, one_ends, one_passed}
+use Rattle.sig_exec.proofs.InstructionsOfInstant.{amid_passed, amid_start, guard_within, one_done, one_ends, one_passed}
 use Rattle.sig_exec.proofs.machine.Machine.react.Goals as goal
 use Rattle.sig_exec.proofs.machine.Machine.react.Goals.{then-asked+in_ok-operate, else-asked}
 

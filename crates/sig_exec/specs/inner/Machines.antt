@@ -1,8 +1,8 @@
 -- The state that a machine is.
 use Rattle.std.specs.Prelude.{◌≡◌, ◌<◌, ◌≤◌, ◌+◌, ◌==◌, ◌∷◌, if◌then◌else◌}
 use Rattle.sig_exec.specs.Prelude.{ℕ, ℤ, Bool, List, [], length, drop, take, slice_get, slice_index_or, slice_set, Option, None, Some, Result, Ok, Err, Instant, Seen, SigId, function_of, proposal_of, ImageView, State}
-use Rattle.sig_exec.specs.Lowerings.{bound_of, cell}
-use Rattle.sig_exec.specs.Results.{computed}
+use Rattle.sig_exec.specs.inner.Lowerings.{bound_of, cell}
+use Rattle.sig_exec.specs.inner.Results.{computed}
 use Rattle.sig_exec.specs.declared.fault.Fault.{Fault}
 use Rattle.sig_exec.specs.declared.fault.Fault.TheVariants.{Exhausted}
 use Rattle.sig_exec.specs.declared.instruction.Instruction.{Instruction}

@@ -1,4 +1,5 @@
 -- An instruction whose guard holds does what its operation does.
+use Rattle.std.proofs.lemmas.Option.{same_Some}
 use Rattle.std.proofs.Common.{◌≡◌, ◌<◌, ◌+◌, ℕ, ℤ, true, List, length, Some, Result, Ok, Err, sym, subst, ◌∙◌}
 use Rattle.std.specs.Prelude.{slice_get}
 use Rattle.sig_dd.specs.Nodes.{test}
@@ -6,21 +7,18 @@ use Rattle.sig_file.specs.Guarded.{IsSoundImage, guarded_in, nodes_in}
 use Rattle.sig_file.specs.Images.{ImageView, IsImage, MayDo, scope_of}
 use Rattle.sig_file.specs.ImageRuns.{Does, Ends, State, proposal_of}
 use Rattle.sig_file.specs.declared.images.ImageOp.{ImageOp}
-use Rattle.sig_exec.specs.Instants.{DoesAt, EndsAt, IsAmid, reference}
-use Rattle.sig_exec.specs.Lowerings.{IsFor, Lowers}
-use Rattle.sig_exec.specs.Machines.{IsKept, IsMachineOf, ReadsWithin, came_to, state_of, truths_of}
-use Rattle.sig_exec.specs.Outcomes.{cause_of}
+use Rattle.sig_exec.specs.inner.Instants.{DoesAt, EndsAt, IsAmid, reference}
+use Rattle.sig_exec.specs.inner.Lowerings.{IsFor, Lowers}
+use Rattle.sig_exec.specs.inner.Machines.{IsKept, IsMachineOf, ReadsWithin, came_to, state_of, truths_of}
+use Rattle.sig_exec.specs.inner.Outcomes.{cause_of}
 use Rattle.sig_exec.specs.declared.fault.Fault.{Fault}
 use Rattle.sig_exec.specs.declared.instruction.Instruction.{Instruction}
 use Rattle.sig_exec.specs.declared.lowered.Lowered.{Lowered}
 use Rattle.sig_exec.specs.declared.machine.Machine.{Machine}
 use Rattle.sig_exec.proofs.Amid.{IsOn, behind_done, reads_there, still_done}
-use Rattle.sig_exec.proofs.Operating.{Comes, HasPlaces, HasReads, comes, operated}
+use Rattle.sig_exec.proofs.OperationOutcomes.{Comes, HasPlaces, HasReads, comes, operated}
 use Rattle.sig_exec.proofs.Places.{guarded_at, has_places, operation_at}
-use Rattle.sig_exec.proofs.Working.{Fits, fits, machine_kept, state_kept, target_cell, target_stamp}
-
-some_is : {A : Type 0} (a b : A) → Some a ≡ Some b → a ≡ b
-some_is a b e = cc
+use Rattle.sig_exec.proofs.InstructionWorks.{Fits, fits, machine_kept, state_kept, target_cell, target_stamp}
 
 module _ (image : ImageView) (right : IsImage image) (sound : IsSoundImage image) (lowered : Lowered) (lowers : Lowers image lowered) (flows : List (List ℤ)) (m : Machine) (is : IsMachineOf image lowered flows m)
     (place : ℕ) (amid : IsAmid image place (state_of image flows m)) (instruction : Instruction) (at : slice_get lowered.instructions.items place ≡ Some instruction)
@@ -59,7 +57,7 @@ module _ (image : ImageView) (right : IsImage image) (sound : IsSoundImage image
   came r e = subst (Comes op.kind op.at s) (sym (e ∙ fit.value)) (comes op.kind op.at s places reads)
 
   pub ended : (fault : Fault) → Err fault ≡ came_to flows m instruction.work → EndsAt image place s (cause_of op.at fault)
-  ended fault e other here = subst (λ (o : ImageOp). Ends o.kind o.at s (cause_of op.at fault)) (some_is op other (sym there ∙ here)) (came (Err fault) e)
+  ended fault e other here = subst (λ (o : ImageOp). Ends o.kind o.at s (cause_of op.at fault)) (same_Some op other (sym there ∙ here)) (came (Err fault) e)
 
   module _ (v : ℤ) (new : Machine) (kept : IsKept instruction v m new) where
     state : state_of image flows new ≡ operated op.kind v s
@@ -67,7 +65,7 @@ module _ (image : ImageView) (right : IsImage image) (sound : IsSoundImage image
 
     pub done : Ok v ≡ came_to flows m instruction.work → DoesAt image place s (state_of image flows new)
     done e other here =
-        subst (λ (o : ImageOp). Does o.kind s (state_of image flows new)) (some_is op other (sym there ∙ here))
+        subst (λ (o : ImageOp). Does o.kind s (state_of image flows new)) (same_Some op other (sym there ∙ here))
         (subst (λ (t : State). Does op.kind s t) (sym state) (came (Ok v) e))
 
     pub amid_more : IsAmid image (place + 1) (state_of image flows new)

@@ -17,8 +17,8 @@ use Rattle.sig_file.specs.Images.{operand_count}
 use Rattle.sig_file.specs.ImageRuns.{Does, Ends, State, written}
 use Rattle.sig_file.specs.declared.images.ImageOpKind.{ImageOpKind}
 use Rattle.sig_file.specs.declared.images.ImageOpKind.TheVariants as does
-use Rattle.sig_exec.specs.Outcomes.{cause_of}
-use Rattle.sig_exec.specs.Results.{computed}
+use Rattle.sig_exec.specs.inner.Outcomes.{cause_of}
+use Rattle.sig_exec.specs.inner.Results.{computed}
 use Rattle.sig_exec.specs.declared.fault.Fault.{Fault}
 use Rattle.sig_exec.specs.declared.fault.Fault.TheVariants.{Exhausted}
 use Rattle.sig_exec.proofs.Results.{Computed, computed_is, overflow, result, zero_divisor}

@@ -15,16 +15,16 @@ use Rattle.sig_file.specs.declared.images.ImageMemory.{ImageMemory}
 use Rattle.sig_file.specs.declared.images.ImageOp.{ImageOp}
 use Rattle.sig_file.specs.declared.images.ImageOpKind.{ImageOpKind}
 use Rattle.sig_file.specs.declared.images.ImageOpKind.TheVariants as does
-use Rattle.sig_exec.specs.Lowerings.{IsCellOf, IsConstant, IsFor, IsFunctionWork, IsWorkOf, Lowers, bound_of, cell, inits_of, target_of}
-use Rattle.sig_exec.specs.Machines.{HasCells, IsKept, IsMachineOf, ReadsWithin, came_to, left_of, next_of, registers_of, state_of, taken_after, taken_of}
-use Rattle.sig_exec.specs.Results.{computed}
+use Rattle.sig_exec.specs.inner.Lowerings.{IsCellOf, IsConstant, IsFor, IsFunctionWork, IsWorkOf, Lowers, bound_of, cell, inits_of, target_of}
+use Rattle.sig_exec.specs.inner.Machines.{HasCells, IsKept, IsMachineOf, ReadsWithin, came_to, left_of, next_of, registers_of, state_of, taken_after, taken_of}
+use Rattle.sig_exec.specs.inner.Results.{computed}
 use Rattle.sig_exec.specs.declared.instruction.Instruction.{Instruction}
 use Rattle.sig_exec.specs.declared.instruction.Work.{Work}
 use Rattle.sig_exec.specs.declared.instruction.Work.TheVariants.{Next, Copy, One, Two}
 use Rattle.sig_exec.specs.declared.lowered.Lowered.{Lowered}
 use Rattle.sig_exec.specs.declared.machine.Machine.{Machine}
 use Rattle.sig_exec.proofs.Cells.{cell_of_seen, flows_read, flows_same, left_at, left_length, memory_memories, memory_registers, signal_memories, signal_registers}
-use Rattle.sig_exec.proofs.Operating.{HasPlaces, HasReads, next_in, operand_in, operated, outcome, value_in}
+use Rattle.sig_exec.proofs.OperationOutcomes.{HasPlaces, HasReads, next_in, operand_in, operated, outcome, value_in}
 use Rattle.sig_exec.proofs.Places.{stored_within, target_within, writes_within}
 
 next_drop : (x : SigId) (flow : List ℤ) (t : ℕ) → next_of x (slice_get flow t) ≡ next_in x (drop t flow)

@@ -1,4 +1,5 @@
 -- Instructions stay right where cells of constants are added.
+use Rattle.std.proofs.lemmas.Option.{same_Some}
 use Rattle.std.proofs.Common.{◌≡◌, ◌<◌, ◌≤◌, ◌++◌, ◌⊎◌, inl, inr, ℕ, zero, suc, ℤ, pos, List, [], ◌∷◌, length, replicate, None, Some, refl, sym, ap, subst, ◌∙◌, arith, append_assoc, length-append}
 use Rattle.std.specs.Prelude.{slice_get}
 use Rattle.std.proofs.lemmas.List.{length-map, length-replicate}
@@ -10,7 +11,7 @@ use Rattle.sig_file.specs.declared.images.ImageMemory.{ImageMemory}
 use Rattle.sig_file.specs.declared.images.ImageOp.{ImageOp}
 use Rattle.sig_file.specs.declared.images.ImageOpKind.{ImageOpKind}
 use Rattle.sig_file.specs.declared.images.ImageOpKind.TheVariants as does
-use Rattle.sig_exec.specs.Lowerings.{AreFor, BeginWith, Grows, IsCellOf, IsConstant, IsFor, IsFunctionWork, IsWorkOf, bound_of, cell, inits_of}
+use Rattle.sig_exec.specs.inner.Lowerings.{AreFor, BeginWith, Grows, IsCellOf, IsConstant, IsFor, IsFunctionWork, IsWorkOf, bound_of, cell, inits_of}
 use Rattle.sig_exec.specs.declared.instruction.Instruction.{Instruction}
 use Rattle.sig_exec.specs.declared.instruction.Work.{Work}
 
@@ -69,14 +70,11 @@ get_push (z ∷ xs) y x (suc n) e = elim (get_push xs y x n e) [
   | inr (last, same) ↦ inr (omega (arith, last), same)
 ]
 
-some_is : {A : Type 0} (a b : A) → Some a ≡ Some b → a ≡ b
-some_is a b e = cc
-
 pub one_more : (image : ImageView) (old new : List ℤ) (instructions : List Instruction) (instruction : Instruction) (op : ImageOp) → AreFor image old instructions → Grows old new
     → slice_get image.ops (length instructions) ≡ Some op → IsFor image new op instruction → AreFor image new (instructions ++ instruction ∷ [])
 one_more image old new instructions instruction op are (more, grown) there is = λ place other that at here. elim (get_push instructions instruction other place at) [
   | inl before ↦ subst (λ (cells : List ℤ). IsFor image cells that other) (sym grown) (for_grows image old more that other (are place other that before here))
   | inr (last, same) ↦
-      let one : op ≡ that = some_is op that (sym there ∙ ap (slice_get image.ops) (sym last) ∙ here) in
+      let one : op ≡ that = same_Some op that (sym there ∙ ap (slice_get image.ops) (sym last) ∙ here) in
       subst (λ (i : Instruction). IsFor image new that i) same (subst (λ (o : ImageOp). IsFor image new o instruction) one is)
 ]

@@ -11,11 +11,11 @@ use Rattle.sig_file.specs.declared.images.ImageMemory.{ImageMemory}
 use Rattle.sig_file.specs.declared.run.ImageCause.{ImageCause}
 use Rattle.sig_file.specs.declared.run.ImageCause.TheVariants.{Limit}
 use Rattle.sig_file.specs.declared.run.ImageEnd.{ImageEnd}
-use Rattle.sig_exec.specs.Instants.{IsAmid}
-use Rattle.sig_exec.specs.Outcomes.{cause_of}
+use Rattle.sig_exec.specs.inner.Instants.{IsAmid}
+use Rattle.sig_exec.specs.inner.Outcomes.{cause_of}
 use Rattle.sig_exec.specs.declared.fault.Fault.{Fault}
 use Rattle.sig_exec.proofs.Amid.{amid_cleared, behind_done, behind_passed, reads_there}
-use Rattle.sig_exec.proofs.Operating.{Comes, comes, operated, outcome}
+use Rattle.sig_exec.proofs.OperationOutcomes.{Comes, comes, operated, outcome}
 use Rattle.sig_exec.proofs.Places.{has_places, may_do}
 
 -- what stands behind a front

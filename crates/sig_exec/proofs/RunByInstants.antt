@@ -9,9 +9,9 @@ use Rattle.sig_file.specs.ImageRuns.{EndsIn, HandlesAll, Runs, State, cleared, i
 use Rattle.sig_file.specs.declared.run.ImageCause.{ImageCause}
 use Rattle.sig_file.specs.declared.run.ImageCause.TheVariants.{Limit}
 use Rattle.sig_file.specs.declared.run.ImageEnd.{ImageEnd}
-use Rattle.sig_exec.specs.Instants.{HandlesEach}
+use Rattle.sig_exec.specs.inner.Instants.{HandlesEach}
 use Rattle.sig_exec.specs.Running.{TookRun, TookSome}
-use Rattle.sig_exec.proofs.Existing.{IsFitting, runs_on}
+use Rattle.sig_exec.proofs.RunOfSoundImage.{IsFitting, runs_on}
 use Rattle.sig_exec.proofs.Single.{one_run}
 
 -- the text of instants

@@ -7,9 +7,9 @@ use Rattle.sig_file.specs.Images.{ImageView, IsImage}
 use Rattle.sig_file.specs.ImageRuns.{EndsIn, holds}
 use Rattle.sig_file.specs.declared.images.ImageOp.{ImageOp}
 use Rattle.sig_file.specs.declared.run.ImageCause.{ImageCause}
-use Rattle.sig_exec.specs.Instants.{DoesAt, EndsAt, HandlesFirst, IsAmid, reference}
-use Rattle.sig_exec.specs.Lowerings.{Lowers}
-use Rattle.sig_exec.specs.Machines.{IsMachineOf, state_of, truths_of}
+use Rattle.sig_exec.specs.inner.Instants.{DoesAt, EndsAt, HandlesFirst, IsAmid, reference}
+use Rattle.sig_exec.specs.inner.Lowerings.{Lowers}
+use Rattle.sig_exec.specs.inner.Machines.{IsMachineOf, state_of, truths_of}
 use Rattle.sig_exec.specs.declared.instruction.Instruction.{Instruction}
 use Rattle.sig_exec.specs.declared.lowered.Lowered.{Lowered}
 use Rattle.sig_exec.specs.declared.machine.Machine.{Machine}
@@ -17,7 +17,7 @@ use Rattle.sig_exec.proofs.Amid.{amid_first, behind_passed}
 use Rattle.sig_exec.proofs.Cells.{registers_length}
 use Rattle.sig_exec.proofs.InOrder.{first_done, first_ends, first_passed}
 use Rattle.sig_exec.proofs.Places.{guarded_at, operation_at}
-use Rattle.sig_exec.proofs.Working.{flows_length, has_cells, memories_length}
+use Rattle.sig_exec.proofs.InstructionWorks.{flows_length, has_cells, memories_length}
 
 some_at : {A : Type 0} (xs : List A) (n : ℕ) → n < length xs → (x : A) × (slice_get xs n ≡ Some x)
 some_at [] n below = absurd (omega (arith, below))
