@@ -1,8 +1,8 @@
 -- What an actor does on its machine.
 use Rattle.sig_machine.proofs.Common.{◌≡◌, ◌<◌, ◌≤◌, ◌+◌, ◌∙◌, inl, inr, Bool, true, false, ℕ, ℤ, List, [], length, slice_get, Option, None, Some, IfSome, refl, sym, ap, subst, arith, get_within, SigId, Kernel, PlanView, Op, Compute, Actor, Registers, code_of, input_of, is_one, operated, outcome, truths_of, with_at, with_signal, IsFor, IsTarget, HasShape, IsKept, IsPut, ReadsWithin, as_named, input_taken, named, FaultsWith, IsDoneWith, given, told_at, AreVariables, HasActor, IsOpOfStep, IsStepDone, actor_in, seen_in, ActorMachine, Instruction, Work, Next, Copy, One, Two, Machine}
-use Rattle.sig_machine.proofs.Doing.{gives_it}
-use Rattle.sig_machine.proofs.Following.{kept_by}
-use Rattle.sig_machine.proofs.Keeping.{behind, machine_behind}
+use Rattle.sig_machine.proofs.OneInstruction.{gives_it}
+use Rattle.sig_machine.proofs.FollowedInstructions.{kept_by}
+use Rattle.sig_machine.proofs.LeftValues.{behind, machine_behind}
 use Rattle.sig_machine.proofs.Presence.{given_outcome}
 use Rattle.sig_machine.proofs.Shapes.{shaped}
 use Rattle.sig_machine.proofs.Told.{told_none, told_signal, truths_count}

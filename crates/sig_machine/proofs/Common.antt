@@ -14,7 +14,7 @@ pub use Rattle.sig_clock.proofs.Common.{AreInOrder, IsEarlier, Signal, cases_ord
 pub use Rattle.sig_clock.proofs.LayerLemmas.{one_layer}
 pub use Rattle.sig_plan.proofs.Common.{IsGuardOf, Ref, of_operation}
 pub use Rattle.sig_plan.proofs.Indices.{read_below}
-pub use Rattle.sig_plan.proofs.Naming.{order_names}
+pub use Rattle.sig_plan.proofs.NamedInSteps.{order_names}
 pub use Rattle.sig_plan.proofs.Slotted.{guard_alone, guard_held}
 pub use Rattle.sig_model.specs.Actors.{code_of, opening_actor, value_in}
 pub use Rattle.sig_model.specs.Operating.{memory_of}
@@ -26,30 +26,38 @@ pub use Rattle.sig_values.specs.Values.{at_next}
 pub use Rattle.sig_meaning.proofs.Common.{Actor, All-cons, All-contains, All-nil, AreFlowsFor, Cause, Compute, Const, Default, Delay, DelayRead, Depends, EqId, Equation, Event, Faults, Form, Fun, FunOp, Function, HasOperations, Holds, Instant, IsAccepted, IsValid, Kernel, Left, Node, Op, OpKind, Operand, Operation, PlanView, Presence, Read, Registers, Right, Sig, SigId, Store, Sync, Trace, When, WhenConst, abstraction_of, and_parts, computed, computed_at, computed_by, computed_for, contains_at, contains_head, contains_later, divides_by_zero, each_operation, first_in, form_within, function_of, get_at, get_within, is_below, is_true, list_all, no_registers, numbers_of, only, operand_in, operand_within, operands_of, operation_in, operations_in, operations_of, outcome, outcome_by, place_at, plan_operations, read_present, result_of, seen_at, signal_id, signals_of, store_of, stores_of, test, truth_of, truths_of, with_at, with_signal, without, writes_of, writing, written_below}
 pub use Rattle.sig_doing.proofs.Amid.{guard_known, here, reads_known}
 pub use Rattle.sig_doing.proofs.Common.{Gives, IsAmid, OpId, StandsAt, compiled, condition_signal, defined_by, fitting, flow_count, has_64_bits, initial_in, operated, own_present, remembers, stepped, taken_by, target_of, target_within}
-pub use Rattle.sig_doing.proofs.Failing.{fault_end}
-pub use Rattle.sig_doing.proofs.Knowing.{is_next, keeps, speaks}
+pub use Rattle.sig_doing.proofs.FaultEndsRun.{fault_end}
+pub use Rattle.sig_doing.proofs.ReferenceInstant.{is_next, keeps, speaks}
 pub use Rattle.sig_doing.proofs.Operated.{done_behind}
-pub use Rattle.sig_doing.proofs.Passing.{passed_over}
+pub use Rattle.sig_doing.proofs.PassedOver.{passed_over}
 pub use Rattle.sig_doing.proofs.Places.{one_at}
 pub use Rattle.sig_machine.specs.ActorMachines.{AreForSteps, DoesOp, HasActor, IsForKind, IsOpOfStep, IsStepDone, actor_in, instant_of, last_in, seen_in, truths_in}
 unfoldable pub use Rattle.sig_machine.specs.ActorMachines.{IsMachineOfActor}
-pub use Rattle.sig_machine.specs.Instants.{EndsBy, GoesOn, ended_behind}
+pub use Rattle.sig_machine.specs.inner.Implied.{HasTruth, IsFurther, IsGuardOn, IsNarrowed, IsPairOn, IsTold, LeadsOn}
+pub use Rattle.sig_machine.specs.Instants.{ComesOn, EndsBy, GoesOn, ended_behind}
 pub use Rattle.sig_machine.specs.Lowerings.{AreRuns, HasReads, HasShape, IsFor, IsLeft, IsRun, IsTarget, IsWorkOf, Lowers, taken_by_form}
 pub use Rattle.sig_machine.specs.Machines.{HaveConstants, IsMachineFor, IsMachineOf, actor_at, cell, memories_at, memories_of, registers_of, stamped, taken_of}
 pub use Rattle.sig_machine.specs.Opcodes.{AreCoded, ComesTo, IsCoded, work_of}
-pub use Rattle.sig_machine.specs.Present.{FaultsWith, IsDoneWith, given, present_cell}
-pub use Rattle.sig_machine.specs.Sources.{AreBelow, Grows, IsCellOf, IsConstant, IsSource}
-pub use Rattle.sig_machine.specs.Tests.{AreTests, IsJoined, IsTest, literal_holds}
-pub use Rattle.sig_machine.specs.Truths.{AreDifferent, AreEntered, AreVariables, AreWithin, told_at}
-pub use Rattle.sig_machine.specs.Works.{IsFollowed, IsKept, IsPut, ReadsWithin, as_named, came_to, input_id, input_taken, named, no_equation, taken_after}
+pub use Rattle.sig_machine.specs.inner.Present.{FaultsWith, IsDoneWith, given, present_cell}
+pub use Rattle.sig_machine.specs.inner.Sources.{AreBelow, Grows, IsCellOf, IsConstant, IsSource}
+pub use Rattle.sig_machine.specs.inner.Tests.{AsksWithin, IsJoined, IsTest, Tells, holds_by, literal_holds, told_by, value_by}
+pub use Rattle.sig_machine.specs.inner.Truths.{AreDifferent, AreEntered, AreVariables, AreWithin, told_at}
+pub use Rattle.sig_machine.specs.inner.Ways.{ArePassed, AreWays, AreWaysOf, IsFirst, LeadsTo}
+pub use Rattle.sig_machine.specs.inner.Works.{IsFollowed, IsKept, IsPut, ReadsWithin, as_named, came_to, input_id, input_taken, named, no_equation, taken_after}
 pub use Rattle.sig_machine.specs.declared.actor.ActorMachine.{ActorMachine}
 pub use Rattle.sig_machine.specs.declared.coded.Coded.{Coded}
 pub use Rattle.sig_machine.specs.declared.coded.Opcode.{Opcode}
+pub use Rattle.sig_machine.specs.declared.implied.Narrowed.{Narrowed}
+pub use Rattle.sig_machine.specs.declared.implied.Pair.{Pair}
+pub use Rattle.sig_machine.specs.declared.implied.Way.{Way}
 pub use Rattle.sig_machine.specs.declared.instruction.Instruction.{Instruction}
 pub use Rattle.sig_machine.specs.declared.instruction.Work.{Work}
 pub use Rattle.sig_machine.specs.declared.instruction.Work.TheVariants.{Copy, Next, One, Two}
+pub use Rattle.sig_machine.specs.declared.lowered.Known.{Known}
 pub use Rattle.sig_machine.specs.declared.lowered.Literal.{Literal}
 pub use Rattle.sig_machine.specs.declared.lowered.Lowered.{Lowered}
+pub use Rattle.sig_machine.specs.declared.lowered.Successor.{Successor}
 pub use Rattle.sig_machine.specs.declared.lowered.Run.{Run}
 pub use Rattle.sig_machine.specs.declared.lowered.Test.{Test}
+pub use Rattle.sig_machine.specs.declared.lowered.Ways.{Ways}
 pub use Rattle.sig_machine.specs.declared.machine.Machine.{Machine}

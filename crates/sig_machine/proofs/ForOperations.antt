@@ -1,6 +1,6 @@
 -- Works of operations.
 use Rattle.sig_machine.proofs.Common.{true, false, inl, inr, ◌⊎◌, get_or, ◌≡◌, ◌<◌, ◌≤◌, ◌+◌, ◌∙◌, ℕ, ℤ, pos, List, [], ◌∷◌, length, nat_lt, None, Option, Some, refl, sym, ap, subst, Contains, slice_get, ltb-true, ltb-false, unwrap_or, arith, length-append, slice_get_past, slice_get_read, contains_head, EqId, SigId, Equation, Kernel, Op, OpKind, Compute, Left, Right, Store, Actor, Registers, Gives, computed_at, computed_for, first_in, outcome, outcome_by, input_of, HasShape, IsWorkOf, taken_by_form, actor_at, cell, registers_of, AreBelow, IsConstant, ReadsWithin, as_named, came_to, input_taken, Work, Next, Copy, One, Two, Machine}
-use Rattle.sig_machine.proofs.Working.{IsFormSource, cell_last}
+use Rattle.sig_machine.proofs.WorksWithMoreConstants.{IsFormSource, cell_last}
 
 -- what is found at a place of a list
 pub found : (equations : List Equation) (n : ℕ) (equation d : Equation) → true ≡ nat_lt n (length equations) → equation ≡ get_or equations n equation → slice_get equations n ≡ Some equation

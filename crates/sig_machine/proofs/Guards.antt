@@ -1,6 +1,6 @@
 -- The walk of a guard over the cells of the conditions.
 use Rattle.sig_machine.proofs.Common.{◌≡◌, ◌<◌, ◌∙◌, ℕ, zero, suc, Bool, true, List, [], ◌∷◌, length, eqb, slice_get, slice_index_or, None, Some, refl, ap, sym, subst, arith, SigId, Depends, truth_of, Holds, IsReduced, IsRefOf, node_of, test, Node, Ref, one_ref, IsRefOf-constant, HasVariable-node, tests_own, Depends-Tests, constant_value, IsGuardOf, IsAccepted, PlanView, Op, get_within, of_operation, guard_alone, guard_held, condition_signal, StandsAt, IsRun, Run, Registers, is_true, truths_of}
-use Rattle.sig_machine.proofs.Standing.{stands_somewhere}
+use Rattle.sig_machine.proofs.PlacesOfOrder.{stands_somewhere}
 
 -- the truth of a variable is that of its condition
 pub truth_at : (conditions : List SigId) (registers : Registers) (v : ℕ) (d : SigId) → v < length conditions

@@ -1,11 +1,6 @@
 -- Lists in which one place is set, and functions over lists.
+pub use Rattle.std.proofs.lemmas.Option.{same_Some}
 use Rattle.sig_machine.proofs.Common.{◌≡◌, ◌≢◌, ◌<◌, ◌+◌, ◌∙◌, ℕ, zero, suc, Bool, false, List, [], ◌∷◌, length, map, replicate, set, slice_get, Option, None, Some, refl, ap, arith, subst, sym, inl, inr, eqb_tells}
-
-pub some_is : {A : Type 0} (a b : A) → Some a ≡ Some b → a ≡ b
-some_is {A} a b is = ap (λ o. from o) is where
-  from : Option A → A
-  from None = a
-  from (Some x) = x
 
 -- lists in which one place is set
 pub get_set_same : {X : Type 0} (xs : List X) (i : ℕ) (w : X) → i < length xs → slice_get (set xs i w) i ≡ Some w
@@ -49,7 +44,7 @@ map_length f (x ∷ xs) = ap suc (map_length f xs)
 pub all_false : (xs : List Bool) → ((k : ℕ) → k < length xs → slice_get xs k ≡ Some false) → xs ≡ replicate (length xs) false
 all_false [] h = refl
 all_false (x ∷ xs) h =
-    ap (λ y. y ∷ xs) (some_is x false (h 0 (omega arith))) ∙ ap (λ ys. false ∷ ys) (all_false xs (λ k below. h (suc k) (omega (arith, below))))
+    ap (λ y. y ∷ xs) (same_Some x false (h 0 (omega arith))) ∙ ap (λ ys. false ∷ ys) (all_false xs (λ k below. h (suc k) (omega (arith, below))))
 
 pub one_more_false : (xs : List Bool) (i : ℕ) → i < length xs → ((k : ℕ) → k < i → slice_get xs k ≡ Some false)
     → (k : ℕ) → k < i + 1 → slice_get (set xs i false) k ≡ Some false

@@ -1,7 +1,7 @@
 -- Two lists of which the items at each place belong to each other.
 use Rattle.sig_machine.proofs.Common.{◌≡◌, ◌++◌, ◌∷◌, [], ◌∙◌, inl, inr, ℕ, List, length, Some, sym, ap, subst, slice_get}
 use Rattle.sig_machine.proofs.InARow.{get_push}
-use Rattle.sig_machine.proofs.Lists.{some_is}
+use Rattle.sig_machine.proofs.Lists.{same_Some}
 
 module _ {A B : Type 0} (P : A → B → Type 0) (xs : List A) where
   abbrev pub ArePairs : List B → Type 0
@@ -12,6 +12,6 @@ module _ {A B : Type 0} (P : A → B → Type 0) (xs : List A) where
   pairs_push ys x y are here is = λ n a b at_x at_y. elim (get_push ys y b n at_y) [
     | inl there ↦ are n a b at_x there
     | inr last ↦
-        let same : x ≡ a = some_is x a (sym here ∙ ap (slice_get xs) (sym last.0) ∙ at_x) in
+        let same : x ≡ a = same_Some x a (sym here ∙ ap (slice_get xs) (sym last.0) ∙ at_x) in
         subst (λ (z : B). P a z) (sym last.1) (subst (λ (z : A). P z y) same is)
   ]

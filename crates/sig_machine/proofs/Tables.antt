@@ -1,6 +1,6 @@
 -- The table of the variables that stand for signals.
 use Rattle.sig_machine.proofs.Common.{◌≡◌, ◌⊎◌, ◌<◌, ◌≤◌, ◌+◌, ◌∙◌, ℕ, zero, suc, true, false, List, length, replicate, set, slice_get, Option, None, Some, refl, sym, ap, subst, inl, inr, arith, length-set, length-replicate, and_parts, cases_order, eqb_tells, SigId, Signal, contains_at, get_within, one_layer, AreInOrder, IsEarlier, is_condition, is_free, signal_id, is_boolean_kind, kind_at, kind_of, Kernel, AreDifferent, AreEntered, AreVariables, AreWithin}
-use Rattle.sig_machine.proofs.Lists.{get_set_other, get_set_same, some_is}
+use Rattle.sig_machine.proofs.Lists.{get_set_other, get_set_same, same_Some}
 
 -- a table in which nothing is entered
 nothing : Option ℕ
@@ -32,7 +32,7 @@ one_entered conditions signals variable condition variables differ within at ent
         | inl same ↦
             let here : slice_get (set variables condition.0 (Some variable)) signal ≡ Some (Some variable) =
             subst (λ (k : ℕ). slice_get (set variables condition.0 (Some variable)) k ≡ Some (Some variable)) (sym same.1) (get_set_same variables condition.0 (Some variable) room) in
-            let one : variable ≡ other = some_is variable other (some_is (Some variable) (Some other) (sym here ∙ there)) in
+            let one : variable ≡ other = same_Some variable other (same_Some (Some variable) (Some other) (sym here ∙ there)) in
             (condition, ap (slice_get conditions) (sym one) ∙ at, sym same.1, omega (arith, one))
         | inr apart ↦
             let (found, found_at, number, before) = entered.is signal other (sym (get_set_other variables condition.0 signal (Some variable) apart.1) ∙ there) in
@@ -40,7 +40,7 @@ one_entered conditions signals variable condition variables differ within at ent
       ];
       all = λ other found below found_at. elim (eqb_tells other variable) [
         | inl same ↦
-            let one : found ≡ condition = some_is found condition (sym found_at ∙ ap (slice_get conditions) same.1 ∙ at) in
+            let one : found ≡ condition = same_Some found condition (sym found_at ∙ ap (slice_get conditions) same.1 ∙ at) in
             subst (λ (c : SigId). slice_get (set variables condition.0 (Some variable)) c.0 ≡ Some (Some other)) (sym one)
             (get_set_same variables condition.0 (Some variable) room ∙ ap (λ (n : ℕ). Some (Some n)) (sym same.1))
         | inr apart ↦

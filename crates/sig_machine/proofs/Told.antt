@@ -1,6 +1,6 @@
 -- The truths of conditions, behind values that are written and in the next instant.
 use Rattle.sig_machine.proofs.Common.{◌≡◌, ◌≢◌, ◌≤◌, ◌∙◌, ℕ, ℤ, Bool, false, List, length, replicate, set, slice_get, Option, None, Some, refl, ap, sym, inl, inr, eq-eqb, eqb_tells, arith, slice_get_past, SigId, Registers, is_one, is_true, no_registers, truths_of, with_at, AreVariables, told_at}
-use Rattle.sig_machine.proofs.Lists.{map_changed, map_length, map_same, map_to_constant, some_is}
+use Rattle.sig_machine.proofs.Lists.{map_changed, map_length, map_same, map_to_constant, same_Some}
 
 -- the truth of a condition by registers
 abbrev truth_by : Registers → SigId → Bool
@@ -27,8 +27,8 @@ truths_written conditions variables signals x variable v registers table there =
     (λ j condition at other. with_other x v registers condition (λ same.
     let one : Some (Some j) ≡ Some (Some variable) =
     sym (table.all j condition at) ∙ ap (slice_get variables) same ∙ there in
-    other (some_is j variable (some_is (Some j) (Some variable) one))))
-    (λ condition at. with_same x v registers condition (ap (λ (c : SigId). c.0) (some_is condition named (sym at ∙ is)) ∙ number))
+    other (same_Some j variable (same_Some (Some j) (Some variable) one))))
+    (λ condition at. with_same x v registers condition (ap (λ (c : SigId). c.0) (same_Some condition named (sym at ∙ is)) ∙ number))
 
 -- and once one is written that is none
 pub truths_stay : (conditions : List SigId) (variables : List (Option ℕ)) (signals x : ℕ) (v : ℤ) (registers : Registers)

@@ -3,7 +3,7 @@ use Rattle.std.specs.Prelude.{◌≡◌, ◌≤◌, ◌+◌, ◌-◌}
 use Rattle.sig_machine.specs.Prelude.{ℕ, ℤ, Bool, true, false, List, length, slice_get, Some, Kernel, PlanView, Step, StepKind, Do, OpId, Op, Actor, Registers, Cause, Faults, Gives, code_of, operated, outcome, truths_of, IsAccepted}
 use Rattle.sig_machine.specs.Lowerings.{IsFor}
 use Rattle.sig_machine.specs.Machines.{IsMachineFor, actor_at, registers_at, registers_of}
-use Rattle.sig_machine.specs.Truths.{AreVariables}
+use Rattle.sig_machine.specs.inner.Truths.{AreVariables}
 use Rattle.sig_machine.specs.declared.actor.ActorMachine.{ActorMachine}
 use Rattle.sig_machine.specs.declared.instruction.Instruction.{Instruction}
 

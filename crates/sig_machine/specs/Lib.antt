@@ -4,8 +4,4 @@ pub mod Instants
 pub mod Lowerings
 pub mod Machines
 pub mod Opcodes
-pub mod Present
-pub mod Sources
-pub mod Tests
-pub mod Truths
-pub mod Works
+pub mod inner

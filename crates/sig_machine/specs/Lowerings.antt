@@ -3,8 +3,8 @@ use Rattle.std.specs.Prelude.{◌≡◌, ◌<◌, ◌≤◌, ◌+◌, ◌⊎◌,
 use Rattle.sig_machine.specs.Prelude.{ℕ, ℤ, List, [], length, slice_get, None, Some, Contains, EqId, SigId, Implies, Equation, Form, Fun, Delay, When, WhenConst, Default, Sync, Event, Kernel, signals_of, PlanView, Op, Read, Compute, initial_in, outcome, remembers, input_of, StandsAt}
 use Rattle.sig_machine.specs.Machines.{HaveConstants, actor_at, cell, memories_at, registers_of}
 use Rattle.sig_machine.specs.Opcodes.{AreCoded}
-use Rattle.sig_machine.specs.Tests.{AreTests}
-use Rattle.sig_machine.specs.Works.{ReadsWithin, as_named, came_to, input_taken}
+use Rattle.sig_machine.specs.inner.Ways.{AreWays, IsFirst}
+use Rattle.sig_machine.specs.inner.Works.{ReadsWithin, as_named, came_to, input_taken}
 use Rattle.sig_machine.specs.declared.instruction.Instruction.{Instruction}
 use Rattle.sig_machine.specs.declared.instruction.Work.{Work}
 use Rattle.sig_machine.specs.declared.lowered.Lowered.{Lowered}
@@ -80,4 +80,5 @@ pub record Lowers (plan : PlanView) (lowered : Lowered) : Type 0 where
   pub runs : length lowered.runs.items ≡ length plan.order
   pub run : AreRuns plan lowered.runs.items
   pub coded : AreCoded lowered.instructions.items lowered.coded.items
-  pub tests : AreTests plan lowered.runs.items lowered.tests.items
+  pub first : IsFirst plan lowered.runs.items lowered.first
+  pub ways : AreWays plan lowered.runs.items lowered.ways.items

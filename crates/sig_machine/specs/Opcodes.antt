@@ -1,7 +1,7 @@
 -- Instructions by their opcodes.
 use Rattle.std.specs.Prelude.{◌≡◌}
 use Rattle.sig_machine.specs.Prelude.{ℕ, ℤ, List, length, slice_get, Option, None, Some, IfSome, Ok, FunOp, answered}
-use Rattle.sig_machine.specs.Works.{came_to, input_taken}
+use Rattle.sig_machine.specs.inner.Works.{came_to, input_taken}
 use Rattle.sig_machine.specs.declared.coded.Coded.{Coded}
 use Rattle.sig_machine.specs.declared.coded.Opcode.{Opcode}
 use Rattle.sig_machine.specs.declared.instruction.Instruction.{Instruction}

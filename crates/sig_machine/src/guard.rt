@@ -3,7 +3,7 @@
 ghost use Rattle.std.specs.Prelude.{◌≡◌, ◌<◌, ◌≤◌, ◌&&◌, if◌then◌else◌};
 ghost use Rattle.sig_machine.specs.Prelude.{ℕ, length, slice_get, Some, SigId, Depends, Holds, test, truths_of, is_true};
 ghost use Rattle.sig_machine.specs.Machines.{registers_of};
-ghost use Rattle.sig_machine.specs.Tests.{literal_holds};
+ghost use Rattle.sig_machine.specs.inner.Tests.{literal_holds};
 
 use crate::lowered::Literal;
 use crate::machine::Machine;

@@ -32,6 +32,27 @@ pub enum Test {
     Walk,
 }
 
+/// A guard, and a truth that it has.
+#[derive(Clone, Copy, Debug, PartialEq, Eq)]
+pub struct Known {
+    pub guard: Ref,
+    pub truth: bool,
+}
+
+/// Where an instant goes on: at the run of a place, with how its guard is told there, or behind the last place.
+#[derive(Clone, Copy, Debug, PartialEq, Eq)]
+pub struct Successor {
+    pub place: usize,
+    pub test: Test,
+}
+
+/// Where an instant goes on behind a run whose guard holds, and where it does not.
+#[derive(Clone, Copy, Debug, PartialEq, Eq)]
+pub struct Ways {
+    pub on: Successor,
+    pub off: Successor,
+}
+
 /// A plan as instructions, one for each place of its order. The cells are those of its signals, then those of its delays,
 /// by the signals that they define, then constants; here they have what they have at the opening.
 #[derive(Drop)]
@@ -40,6 +61,7 @@ pub struct Lowered {
     pub(crate) instructions: Vec<Instruction>,
     pub(crate) coded: Vec<Coded>,
     pub(crate) runs: Vec<Run>,
-    pub(crate) tests: Vec<Test>,
+    pub(crate) first: Successor,
+    pub(crate) ways: Vec<Ways>,
     pub(crate) cells: Vec<i64>,
 }

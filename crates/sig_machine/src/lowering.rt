@@ -4,7 +4,7 @@ ghost use Rattle.std.specs.Prelude.{◌≡◌, ◌≤◌, ◌<◌, ◌+◌};
 ghost use Rattle.sig_machine.specs.Prelude.{ℕ, IfOk, length, IsValid, initial_in, Compute};
 ghost use Rattle.sig_machine.specs.Lowerings.{HasShape, IsTarget, IsWorkOf, Lowers};
 ghost use Rattle.sig_machine.specs.Machines.{memories_at};
-ghost use Rattle.sig_machine.specs.Sources.{Grows};
+ghost use Rattle.sig_machine.specs.inner.Sources.{Grows};
 
 use crate::coded::all_coded;
 use crate::instruction::{Instruction, Work};
@@ -12,7 +12,7 @@ use crate::lowered::Lowered;
 use crate::plans::{kernel_of, op_at, order_of};
 use crate::runs::runs_of;
 use crate::sources::{constant, work_of_form};
-use crate::tests::tests_of;
+use crate::ways::{first_of, ways_of};
 use sig_base::SigId;
 use sig_kernel::Kernel;
 use sig_plan::{Op, OpKind, Plan};
@@ -34,13 +34,16 @@ pub fn lower(alloc: Global, plan: &Plan) -> Result<Lowered, AllocError>
     }
     let coded = all_coded(alloc, &instructions)?;
     let runs = runs_of(alloc, plan)?;
-    let tests = tests_of(alloc, plan, &runs)?;
+    let made = runs.as_slice();
+    let first = first_of(plan, made);
+    let ways = ways_of(alloc, plan, made)?;
     Ok(Lowered {
         signals: signal_count(kernel),
         instructions,
         coded,
         runs,
-        tests,
+        first,
+        ways,
         cells,
     })
 }

@@ -3,7 +3,7 @@
 ghost use Rattle.std.specs.Prelude.{◌≡◌, ◌<◌};
 ghost use Rattle.sig_machine.specs.Prelude.{IfNone, IfSome, None, Some, length, slice_get, IsAccepted, StandsAt, code_of};
 ghost use Rattle.sig_machine.specs.Lowerings.{HasShape};
-ghost use Rattle.sig_machine.specs.Works.{named};
+ghost use Rattle.sig_machine.specs.inner.Works.{named};
 
 use sig_base::{EqId, OpId, SigId};
 use sig_dd::Store;

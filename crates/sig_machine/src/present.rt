@@ -3,8 +3,8 @@
 ghost use Rattle.std.specs.Prelude.{◌≡◌, ◌+◌, ◌<◌, ◌^◌};
 ghost use Rattle.sig_machine.specs.Prelude.{IfOk, IfNone, IfSome, List, None, Ok, ℤ, length, answered};
 ghost use Rattle.sig_machine.specs.Machines.{taken_of};
-ghost use Rattle.sig_machine.specs.Present.{FaultsWith, IsDoneWith, given, present_cell};
-ghost use Rattle.sig_machine.specs.Works.{ReadsWithin, input_taken};
+ghost use Rattle.sig_machine.specs.inner.Present.{FaultsWith, IsDoneWith, given, present_cell};
+ghost use Rattle.sig_machine.specs.inner.Works.{ReadsWithin, input_taken};
 
 use crate::instruction::{Instruction, Work};
 use crate::machine::Machine;

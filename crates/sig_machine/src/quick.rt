@@ -2,7 +2,7 @@
 
 ghost use Rattle.std.specs.Prelude.{◌≡◌, ◌∷◌};
 ghost use Rattle.sig_machine.specs.Prelude.{[], IfSome, Ok, answered, computed, function_of, truth_value};
-ghost use Rattle.sig_machine.specs.Works.{IsFitting, no_equation};
+ghost use Rattle.sig_machine.specs.inner.Works.{IsFitting, no_equation};
 
 use sig_kernel::FunOp;
 

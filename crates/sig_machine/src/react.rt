@@ -1,11 +1,12 @@
 //! One instant.
 
 ghost use Rattle.std.specs.Prelude.{◌≡◌, ◌≤◌, ◌<◌};
-ghost use Rattle.sig_machine.specs.Prelude.{ℕ, true, IfErr, IfOk, OnOk, length, test, AreFlowsFor, truths_of};
-ghost use Rattle.sig_machine.specs.Instants.{EndsBy, GoesOn};
+ghost use Rattle.sig_machine.specs.Prelude.{ℕ, IfErr, IfOk, OnOk, length, AreFlowsFor};
+ghost use Rattle.sig_machine.specs.Instants.{ComesOn, EndsBy, GoesOn};
 ghost use Rattle.sig_machine.specs.Lowerings.{IsRun, Lowers};
 ghost use Rattle.sig_machine.specs.Machines.{IsMachineOf, registers_of};
-ghost use Rattle.sig_machine.specs.Tests.{IsTest};
+ghost use Rattle.sig_machine.specs.inner.Tests.{AsksWithin, value_by};
+ghost use Rattle.sig_machine.specs.declared.machine.Machine.{Machine};
 
 use crate::lowered::{Lowered, Run, Test};
 use crate::machine::Machine;
@@ -25,34 +26,35 @@ impl Machine {
     {
         plans_are_accepted(plan);
         let places = order_of(plan).len();
-        let mut place = 0;
-        while place < places {
+        let mut next = &lowered.first;
+        while next.place < places {
+            let place = next.place;
             let run = lowered.runs[place];
-            let how = lowered.tests[place];
-            if self.is_on(plan, run, how) {
+            let ways = &lowered.ways[place];
+            if self.is_on(plan, run, &next.test) {
                 self.do_run(plan, lowered, inputs, place, run)?;
-                place = run.end;
+                next = &ways.on;
             } else {
-                place = run.skip;
+                next = &ways.off;
             }
         }
         Ok(())
     }
 
-    /// Whether the guard of a run is true.
-    fn is_on(&self, plan: &Plan, run: Run, how: Test) -> bool
+    /// Whether the guard of a run is true, as a test or else a walk tells it.
+    fn is_on(&self, plan: &Plan, run: Run, how: &Test) -> bool
         requires signals { self.now.signals ≡ length plan.now.kernel.signals }
         requires cells { self.now.signals ≤ length self.now.cells.items }
         requires stamps { self.now.signals ≤ length self.now.stamps.items }
         requires run { (place : ℕ) × IsRun plan.now place run }
-        requires how { IsTest plan.now run.guard how }
-        ensures { result ≡ test plan.now.store.nodes run.guard (truths_of plan.now.clocks.conditions (registers_of self.now)) }
+        requires asks { AsksWithin self.now.signals how.now }
+        ensures { result ≡ value_by plan.now how.now run.guard (registers_of self.now) }
     {
         match how {
             Test::Always => true,
-            Test::Is(x) => self.is_true(x),
-            Test::IsNot(x) => !self.is_true(x),
-            Test::Both(a, b) => self.hold(a, b),
+            Test::Is(x) => self.is_true(*x),
+            Test::IsNot(x) => !self.is_true(*x),
+            Test::Both(a, b) => self.hold(*a, *b),
             Test::Walk => self.holds(store_of(plan), conditions_of(plan), run.guard),
         }
     }
@@ -70,9 +72,10 @@ impl Machine {
         requires fits { AreFlowsFor plan.now.kernel inputs.now }
         requires machine { IsMachineOf plan.now lowered.now inputs.now self.old }
         requires run { IsRun plan.now first run }
-        requires on { test plan.now.store.nodes run.guard (truths_of plan.now.clocks.conditions (registers_of self.old)) ≡ true }
-        ensures done { OnOk result (GoesOn plan.now inputs.now self.old first self.new run.end) }
-        ensures fault { IfErr result (EndsBy plan.now inputs.now self.old first) }
+        ensures done { OnOk result ((start : Machine) → ComesOn plan.now inputs.now start self.old first run.guard
+            → GoesOn plan.now inputs.now start 0 self.new run.end) }
+        ensures fault { IfErr result (λ cause. (start : Machine) → ComesOn plan.now inputs.now start self.old first run.guard
+            → EndsBy plan.now inputs.now start 0 cause) }
         ensures machine { IsMachineOf plan.now lowered.now inputs.now self.new }
     {
         plans_are_accepted(plan);

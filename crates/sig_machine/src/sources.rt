@@ -3,7 +3,7 @@
 ghost use Rattle.std.specs.Prelude.{◌≡◌, ◌≤◌, ◌<◌, ◌+◌, ◌++◌, ◌∷◌};
 ghost use Rattle.sig_machine.specs.Prelude.{[], ℕ, IfOk, length, map, function_of, signals_of, computed, computed_by, operand_in};
 ghost use Rattle.sig_machine.specs.Lowerings.{taken_by_form};
-ghost use Rattle.sig_machine.specs.Sources.{AreBelow, Grows, IsCellOf, IsConstant, IsSource};
+ghost use Rattle.sig_machine.specs.inner.Sources.{AreBelow, Grows, IsCellOf, IsConstant, IsSource};
 
 use crate::instruction::Work;
 use sig_kernel::{Form, FunOp, Operand};

@@ -3,7 +3,7 @@
 ghost use Rattle.std.specs.Prelude.{◌≡◌, ◌≤◌, ◌<◌, ◌+◌};
 ghost use Rattle.sig_machine.specs.Prelude.{IfOk, Some, length, slice_get, IsValid};
 ghost use Rattle.sig_machine.specs.ActorMachines.{AreForSteps, IsForKind};
-ghost use Rattle.sig_machine.specs.Sources.{Grows};
+ghost use Rattle.sig_machine.specs.inner.Sources.{Grows};
 ghost use Rattle.sig_machine.specs.Lowerings.{HasShape, IsFor};
 
 use crate::instruction::{Instruction, Work};

@@ -1,60 +1,68 @@
 //! How the guards of runs are told.
 
 ghost use Rattle.std.specs.Prelude.{◌≡◌, ◌<◌};
-ghost use Rattle.sig_machine.specs.Prelude.{ℕ, true, IfOk, Some, length, Depends, Holds, node_of, test};
-ghost use Rattle.sig_machine.specs.Lowerings.{AreRuns};
-ghost use Rattle.sig_machine.specs.Tests.{AreTests, IsJoined, IsTest};
+ghost use Rattle.sig_machine.specs.Prelude.{ℕ, true, Some, length, Depends, Holds, Registers, node_of, test};
+ghost use Rattle.sig_machine.specs.inner.Tests.{AsksWithin, IsJoined, IsTest, literal_holds, told_by};
+ghost use Rattle.sig_machine.specs.declared.lowered.Known.{Known};
 
-use crate::lowered::{Literal, Run, Test};
-use crate::plans::{conditions_of, plans_are_accepted, store_of};
+use crate::implied::{is_told, narrow};
+use crate::lowered::{Known, Literal, Test};
+use crate::plans::{conditions_of, store_of};
 use sig_dd::{Node, Ref};
 use sig_plan::Plan;
-use std::alloc::{AllocError, Global};
 
-/// How the guard of each run is told.
-pub(crate) fn tests_of(alloc: Global, plan: &Plan, runs: &Vec<Run>) -> Result<Vec<Test>, AllocError>
-    requires { AreRuns plan.now runs.now.items }
-    ensures { IfOk result (λ tests. AreTests plan.now runs.now.items tests.items) }
-{
-    plans_are_accepted(plan);
-    let mut tests = Vec::new(alloc);
-    for place in 0..runs.len() {
-        let run = runs[place];
-        tests.push(test_of(plan, run.guard))?;
-    }
-    Ok(tests)
-}
-
-/// How a guard is told.
-fn test_of(plan: &Plan, guard: Ref) -> Test
+/// How a guard is told where the truth of another one is known.
+pub(crate) fn test_where(plan: &Plan, known: Known, guard: Ref) -> Test
+    requires known { Holds plan.now.store.nodes known.guard }
     requires held { Holds plan.now.store.nodes guard }
     requires told { (v : ℕ) → Depends (test plan.now.store.nodes guard) v → v < length plan.now.clocks.conditions }
-    ensures { IsTest plan.now guard result }
+    ensures { IsTest plan.now known guard result }
 {
-    match short_test_of(plan, guard) {
-        Test::Walk => long_test_of(plan, guard),
+    match short_test_where(plan, known, guard) {
+        Test::Walk => long_test_where(plan, known, guard),
         told => told,
     }
 }
 
-/// How a guard of more than one node is told.
-fn long_test_of(plan: &Plan, guard: Ref) -> Test
+/// How a guard is told of which what is known leaves one node at most.
+fn short_test_where(plan: &Plan, known: Known, guard: Ref) -> Test
+    requires known { Holds plan.now.store.nodes known.guard }
     requires held { Holds plan.now.store.nodes guard }
     requires told { (v : ℕ) → Depends (test plan.now.store.nodes guard) v → v < length plan.now.clocks.conditions }
-    ensures { IsTest plan.now guard result }
+    ensures { IsTest plan.now known guard result }
 {
-    match store_of(plan).node(guard) {
-        Some(node) => joined_test(plan, guard, node),
+    let store = store_of(plan);
+    let holds = Known { guard, truth: true };
+    if is_told(store, known, holds) {
+        Test::Always
+    } else {
+        let left = narrow(store, known, guard);
+        short_test_of(plan, left.guard)
+    }
+}
+
+/// How a guard is told of which what is known leaves more than one node.
+fn long_test_where(plan: &Plan, known: Known, guard: Ref) -> Test
+    requires known { Holds plan.now.store.nodes known.guard }
+    requires held { Holds plan.now.store.nodes guard }
+    requires told { (v : ℕ) → Depends (test plan.now.store.nodes guard) v → v < length plan.now.clocks.conditions }
+    ensures { IsTest plan.now known guard result }
+{
+    let store = store_of(plan);
+    let left = narrow(store, known, guard);
+    match store.node(left.guard) {
+        Some(node) => joined_test(plan, left.known, left.guard, node),
         None => Test::Walk,
     }
 }
 
 /// How a guard of this node is told, where one of its children is false.
-fn joined_test(plan: &Plan, guard: Ref, node: Node) -> Test
+fn joined_test(plan: &Plan, known: Known, guard: Ref, node: Node) -> Test
+    requires known { Holds plan.now.store.nodes known.guard }
     requires held { Holds plan.now.store.nodes guard }
     requires told { (v : ℕ) → Depends (test plan.now.store.nodes guard) v → v < length plan.now.clocks.conditions }
     requires node { Some node ≡ node_of plan.now.store.nodes guard }
-    ensures { IsTest plan.now guard result }
+    ensures { IsTest plan.now known guard result }
 {
     let no = store_of(plan).constant(false);
     let low = is_same(node.low, no);
@@ -65,14 +73,14 @@ fn joined_test(plan: &Plan, guard: Ref, node: Node) -> Test
             signal,
             positive: true,
         };
-        let on_high = test_with(plan, guard, literal, node.high);
+        let on_high = test_with(plan, known, guard, literal, node.high);
         on_high
     } else if high {
         let literal = Literal {
             signal,
             positive: false,
         };
-        let on_low = test_with(plan, guard, literal, node.low);
+        let on_low = test_with(plan, known, guard, literal, node.low);
         on_low
     } else {
         Test::Walk
@@ -80,13 +88,15 @@ fn joined_test(plan: &Plan, guard: Ref, node: Node) -> Test
 }
 
 /// How a guard is told that holds where a literal and another function hold.
-fn test_with(plan: &Plan, _guard: Ref, literal: Literal, rest: Ref) -> Test
+fn test_with(plan: &Plan, known: Known, _guard: Ref, literal: Literal, rest: Ref) -> Test
+    requires known { Holds plan.now.store.nodes known.guard }
     requires held { Holds plan.now.store.nodes rest }
     requires told { (v : ℕ) → Depends (test plan.now.store.nodes rest) v → v < length plan.now.clocks.conditions }
     requires joined { IsJoined plan.now _guard literal rest }
-    ensures { IsTest plan.now _guard result }
+    ensures { IsTest plan.now known _guard result }
 {
-    match short_test_of(plan, rest) {
+    match short_test_where(plan, known, rest) {
+        Test::Always => test_of_literal(literal),
         Test::Is(signal) => Test::Both(
             literal,
             Literal {
@@ -105,6 +115,18 @@ fn test_with(plan: &Plan, _guard: Ref, literal: Literal, rest: Ref) -> Test
     }
 }
 
+/// How a literal is told.
+fn test_of_literal(literal: Literal) -> Test
+    ensures asks { (count : ℕ) → literal.signal.0 < count → AsksWithin count result }
+    ensures tells { (registers : Registers) → told_by result registers ≡ Some (literal_holds literal registers) }
+{
+    if literal.positive {
+        Test::Is(literal.signal)
+    } else {
+        Test::IsNot(literal.signal)
+    }
+}
+
 /// Whether two references are the same.
 fn is_same(a: Ref, b: Ref) -> bool
     ensures { result ≡ true → a ≡ b }
@@ -116,7 +138,7 @@ fn is_same(a: Ref, b: Ref) -> bool
 fn short_test_of(plan: &Plan, guard: Ref) -> Test
     requires held { Holds plan.now.store.nodes guard }
     requires told { (v : ℕ) → Depends (test plan.now.store.nodes guard) v → v < length plan.now.clocks.conditions }
-    ensures { IsTest plan.now guard result }
+    ensures { (known : Known) → IsTest plan.now known guard result }
 {
     let store = store_of(plan);
     match store.node(guard) {
@@ -136,7 +158,7 @@ fn test_of_node(plan: &Plan, _guard: Ref, node: Node) -> Test
     requires held { Holds plan.now.store.nodes _guard }
     requires told { (v : ℕ) → Depends (test plan.now.store.nodes _guard) v → v < length plan.now.clocks.conditions }
     requires node { Some node ≡ node_of plan.now.store.nodes _guard }
-    ensures { IsTest plan.now _guard result }
+    ensures { (known : Known) → IsTest plan.now known _guard result }
 {
     let store = store_of(plan);
     let yes = store.constant(true);

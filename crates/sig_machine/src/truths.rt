@@ -2,7 +2,7 @@
 
 ghost use Rattle.std.specs.Prelude.{◌≡◌, ◌<◌};
 ghost use Rattle.sig_machine.specs.Prelude.{ℕ, false, List, IfOk, None, length, replicate, slice_get, SigId, is_one};
-ghost use Rattle.sig_machine.specs.Truths.{AreDifferent, AreVariables, AreWithin, told_at};
+ghost use Rattle.sig_machine.specs.inner.Truths.{AreDifferent, AreVariables, AreWithin, told_at};
 
 use crate::actor::ActorMachine;
 use sig_base::SigId;

@@ -4,7 +4,7 @@ ghost use Rattle.std.specs.Prelude.{◌≡◌, ◌<◌, ◌+◌, ◌^◌, ◌∷
 ghost use Rattle.sig_machine.specs.Prelude.{[], Err, IfErr, IfOk, IfSome, IsSomeAnd, Ok, OnErr, OnOk, Some, length, slice_get, answered, computed, function_of};
 ghost use Rattle.sig_machine.specs.Machines.{cell, taken_of};
 ghost use Rattle.sig_machine.specs.Opcodes.{ComesTo, IsCoded, work_of};
-ghost use Rattle.sig_machine.specs.Works.{IsFollowed, IsKept, IsPut, ReadsWithin, came_to, input_taken, no_equation};
+ghost use Rattle.sig_machine.specs.inner.Works.{IsFollowed, IsKept, IsPut, ReadsWithin, came_to, input_taken, no_equation};
 
 use crate::coded::{Coded, Opcode};
 use crate::instruction::{Instruction, Work};

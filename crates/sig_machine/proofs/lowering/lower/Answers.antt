@@ -1,4 +1,4 @@
-use Rattle.sig_machine.proofs.{◌≡◌, ◌+◌, ◌∷◌, [], ◌∙◌, ap, sym, subst, length, length-append, List, ℕ, arith, OpId, Kernel, StandsAt, initial_in, memories_at, Instruction, AreFor, one_more, memories_stay}
+use Rattle.sig_machine.proofs.{◌≡◌, ◌+◌, ◌∷◌, [], ◌∙◌, ap, sym, subst, length, length-append, List, ℕ, arith, OpId, Kernel, StandsAt, AreRuns, AreWays, IsFirst, Run, initial_in, memories_at, Instruction, AreFor, one_more, memories_stay}
 use Rattle.sig_machine.proofs.lowering.lower.Goals as goal
 
 pub loop-place-preserved : goal.loop-place-preserved
@@ -40,8 +40,12 @@ returns c =
       runs = c.in_ok-runs.ensures.count;
       run = c.in_ok-runs.ensures.each;
       coded = c.in_ok-coded.ensures;
-      tests = c.in_ok-tests.ensures;
+      first = subst (λ (runs : List Run). IsFirst plan runs c.first_of-first.result) c.as_slice-made.ensures.value c.first_of-first.ensures;
+      ways = subst (λ (runs : List Run). AreWays plan runs c.in_ok-ways.ways.items) c.as_slice-made.ensures.value c.in_ok-ways.ensures;
     }
 
-pub tests_of-requires : goal.tests_of-requires
-tests_of-requires c = c.in_ok-runs.ensures.each
+pub first_of-first-requires : goal.first_of-first-requires
+first_of-first-requires c = subst (AreRuns c.args.plan.now) (sym c.as_slice-made.ensures.value) c.in_ok-runs.ensures.each
+
+pub ways_of-requires-clause-runs : goal.ways_of-requires-clause-runs
+ways_of-requires-clause-runs c = subst (AreRuns c.args.plan.now) (sym c.as_slice-made.ensures.value) c.in_ok-runs.ensures.each

@@ -53,10 +53,12 @@ returns-in-Err-clause-fault c =
     let at = slice_get_read c.args.lowered.now.instructions.items (length c.args.lowered.now.instructions.items) place instruction refl (omega (arith, end, test, count)) c.index-instruction.ensures in
     let op = c.op_at.result.now in
     let stands = c.op_at.ensures.op in
-    subst (EndsBy plan flows c.args.self.now c.args.first) (sym c.named.ensures)
-    (λ trace instant began.
-    let amid = c.loop-place.invariant.goes trace instant began in
-    let on = one_guard plan accepted flows c.requires.fits c.args.self.now c.args.first c.args.run c.requires.run c.loop-place.self place c.loop-place.auto.place test op stands trace instant began amid ∙ c.requires.on in
+    λ start comes.
+    subst (EndsBy plan flows start 0) (sym c.named.ensures)
+    (λ trace instant started.
+    let (began, holds) = comes trace instant started in
+    let amid = c.loop-place.invariant.goes start comes trace instant started in
+    let on = one_guard plan accepted flows c.requires.fits c.args.self.now c.args.first c.args.run c.requires.run c.loop-place.self place c.loop-place.auto.place test op stands trace instant began amid ∙ holds in
     ends_by plan accepted flows c.requires.fits c.args.lowered.now c.requires.lowers c.loop-place.self c.loop-place.invariant.machine place op stands on instruction
     (c.requires.lowers.each place instruction at op stands) c.in-Err.cause c.in-Err.ensures.fault trace instant amid)
 
@@ -82,9 +84,10 @@ loop-place-preserved c =
     let new = c.follow.new.self in
     record {
       machine = machine_behind plan.kernel c.args.lowered.now.cells.items (room_of plan c.args.lowered.now c.requires.lowers) flows c.loop-place.self c.loop-place.invariant.machine op instruction for_op.target followed.value new followed.kept;
-      goes = λ trace instant began.
-          let amid = c.loop-place.invariant.goes trace instant began in
-          let on = one_guard plan accepted flows c.requires.fits c.args.self.now c.args.first c.args.run c.requires.run c.loop-place.self place c.loop-place.auto.place test op stands trace instant began amid ∙ c.requires.on in
+      goes = λ start comes trace instant started.
+          let (began, holds) = comes trace instant started in
+          let amid = c.loop-place.invariant.goes start comes trace instant started in
+          let on = one_guard plan accepted flows c.requires.fits c.args.self.now c.args.first c.args.run c.requires.run c.loop-place.self place c.loop-place.auto.place test op stands trace instant began amid ∙ holds in
           goes_on plan accepted flows c.requires.fits c.args.lowered.now c.requires.lowers c.loop-place.self c.loop-place.invariant.machine place op stands on instruction for_op
           followed.value followed.gives new followed.kept within trace instant amid;
     }
@@ -95,7 +98,7 @@ returns-clause-done c =
     let test = c.loop-place-test.false in
     let later = c.requires.run.later in
     let all : c.loop-place.place ≡ c.args.run.end = omega (arith, end, test, later) in
-    subst (GoesOn c.args.plan.now c.args.inputs.now c.args.self.now c.args.first c.loop-place.self) all c.loop-place.invariant.goes
+    λ start comes. subst (GoesOn c.args.plan.now c.args.inputs.now start 0 c.loop-place.self) all (c.loop-place.invariant.goes start comes)
 
 pub follow-requires-clause-coded : goal.follow-requires-clause-coded
 follow-requires-clause-coded c =
@@ -118,3 +121,9 @@ follow-requires-clause-at c =
     let count = c.requires.lowers.count in
     let instructions = c.args.lowered.now.instructions.items in
     slice_get_read instructions (length instructions) c.loop-place.place c.index-instruction.result.now refl (omega (arith, end, test, count)) c.index-instruction.ensures
+
+pub loop-place-init : goal.loop-place-init
+loop-place-init c = record {
+  machine = c.requires.machine;
+  goes = λ start comes trace instant started. (comes trace instant started).0;
+}

@@ -1,8 +1,8 @@
-use Rattle.sig_machine.proofs.{GoesOn, IsMachineOf}
+use Rattle.sig_machine.proofs.{ComesOn, GoesOn, IsMachineOf, Machine}
 use Rattle.sig_machine.proofs.machine.Machine.do_run.Given as goal
 
 abbrev pub invariant-loop-place : goal.invariant-loop-place
 invariant-loop-place l = record {
   machine : IsMachineOf l.plan l.lowered l.inputs l.self;
-  goes : GoesOn l.plan l.inputs l.fn.self l.first l.self l.place;
+  goes : (start : Machine) → ComesOn l.plan l.inputs start l.fn.self l.first l.fn.run.guard → GoesOn l.plan l.inputs start 0 l.self l.place;
 }

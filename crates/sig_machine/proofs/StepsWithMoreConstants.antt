@@ -1,8 +1,8 @@
 -- Instructions of steps stay right where cells of constants are added.
 use Rattle.sig_machine.proofs.Common.{◌≡◌, ◌++◌, ◌∷◌, ◌∙◌, [], inl, inr, ℤ, List, length, None, Some, sym, ap, subst, slice_get, Do, OpId, Op, Kernel, Step, StepKind, PlanView, AreForSteps, DoesOp, Grows, IsFor, IsForKind, Instruction}
-use Rattle.sig_machine.proofs.Growing.{for_grows}
+use Rattle.sig_machine.proofs.MoreConstants.{for_grows}
 use Rattle.sig_machine.proofs.InARow.{get_push}
-use Rattle.sig_machine.proofs.Lists.{some_is}
+use Rattle.sig_machine.proofs.Lists.{same_Some}
 
 pub one_more_step : (plan : PlanView) (steps : List Step) (old new : List ℤ) (instructions : List Instruction) (step : Step) (instruction : Instruction)
     → AreForSteps plan steps old instructions → Grows old new → slice_get steps (length instructions) ≡ Some step → IsForKind plan step.kind new instruction
@@ -10,7 +10,7 @@ pub one_more_step : (plan : PlanView) (steps : List Step) (old new : List ℤ) (
 one_more_step plan steps old new instructions step instruction are (more, grown) here is = λ number that other at there. elim (get_push instructions instruction other number there) [
   | inl before ↦ λ op does. subst (λ (cells : List ℤ). IsFor plan.kernel cells op other) (sym grown) (for_grows plan.kernel old more op other (are number that other at before op does))
   | inr last ↦
-      let one : step ≡ that = some_is step that (sym (ap (slice_get steps) last.0 ∙ here) ∙ at) in
+      let one : step ≡ that = same_Some step that (sym (ap (slice_get steps) last.0 ∙ here) ∙ at) in
       subst (λ (i : Instruction). IsForKind plan that.kind new i) (sym last.1) (subst (λ (s : Step). IsForKind plan s.kind new instruction) one is)
 ]
 
@@ -19,7 +19,7 @@ same_op : (plan : PlanView) (kind : StepKind) (o : OpId) (op other : Op) → kin
 same_op plan kind o op other is there does =
     let e : Do o ≡ Do does.number = sym is ∙ does.does in
     let same : o ≡ does.number = cc in
-    some_is op other (sym there ∙ ap (λ (n : OpId). slice_get plan.ops n.0) same ∙ does.is)
+    same_Some op other (sym there ∙ ap (λ (n : OpId). slice_get plan.ops n.0) same ∙ does.is)
 
 -- the instruction of that operation
 pub for_kind : (plan : PlanView) (kernel : Kernel) (kind : StepKind) (o : OpId) (op : Op) (cells : List ℤ) → kernel ≡ plan.kernel → kind ≡ Do o → slice_get plan.ops o.0 ≡ Some op

@@ -2,7 +2,7 @@
 use Rattle.std.specs.Prelude.{◌≡◌, ◌∷◌, if◌then◌else◌}
 use Rattle.sig_machine.specs.Prelude.{ℕ, ℤ, pos, List, [], nat_lt, slice_get, slice_index_or, Ok, unwrap_or, answered, function_of, Cause, Faults, Gives, Outcome, computed, next_of}
 use Rattle.sig_machine.specs.Machines.{cell, stamped, taken_of}
-use Rattle.sig_machine.specs.Works.{IsKept, input_id, no_equation}
+use Rattle.sig_machine.specs.inner.Works.{IsKept, input_id, no_equation}
 use Rattle.sig_machine.specs.declared.instruction.Instruction.{Instruction}
 use Rattle.sig_machine.specs.declared.instruction.Work.{Work}
 use Rattle.sig_machine.specs.declared.instruction.Work.TheVariants.{Next, Copy, One, Two}

@@ -1,7 +1,7 @@
 -- One instruction of a machine that is amid an instant.
 use Rattle.sig_machine.proofs.Common.{Bool, true, false, inl, inr, ◌≡◌, ◌<◌, ◌≤◌, ◌+◌, ◌∙◌, ℕ, zero, suc, ℤ, List, length, Some, Ok, Err, is_some, IfSome, refl, sym, ap, subst, Contains, slice_get, arith, SigId, Instant, Trace, AreFlowsFor, test, IsAccepted, PlanView, numbers_of, operation_in, operations_in, Cause, Op, Actor, truths_of, place_at, Faults, Gives, Outcome, outcome, own_present, abstraction_of, read_present, seen_at, answered, IsAmid, stepped, StandsAt, guard_known, here, reads_known, compiled, fault_end, is_next, keeps, speaks, done_behind, passed_over, EndsBy, GoesOn, ended_behind, HasReads, IsFor, IsRun, IsTarget, Lowers, IsMachineOf, actor_at, registers_of, IsKept, ReadsWithin, as_named, came_to, input_taken, named, Instruction, Lowered, Run, Machine, fitting, flow_count, Ref, Work, Next, Copy, One, Two}
-use Rattle.sig_machine.proofs.Keeping.{behind, register_value, room_of}
-use Rattle.sig_machine.proofs.Standing.{stands_somewhere}
+use Rattle.sig_machine.proofs.LeftValues.{behind, register_value, room_of}
+use Rattle.sig_machine.proofs.PlacesOfOrder.{stands_somewhere}
 
 -- answers tell outcomes
 pub gives_it : (o : Outcome) (v : ℤ) → Ok v ≡ answered o → o ≡ Gives v
@@ -12,7 +12,7 @@ pub faults_it : (o : Outcome) (cause : Cause) → Err cause ≡ answered o → o
 faults_it (Gives w) cause is = absurd (let e : Err cause ≡ Ok w = is in cc)
 faults_it (Faults other) cause is = let e : Err cause ≡ Err other = is in let same : other ≡ cause = cc in ap Faults same
 
-none_where : (b : Bool) → (b ≡ true → ⊥) → b ≡ false
+pub none_where : (b : Bool) → (b ≡ true → ⊥) → b ≡ false
 none_where true not = absurd (not refl)
 none_where false not = refl
 

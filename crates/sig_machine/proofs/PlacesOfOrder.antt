@@ -1,15 +1,10 @@
 -- The operation at a place of the order.
+use Rattle.std.proofs.lemmas.Option.{same_Some}
 use Rattle.sig_machine.proofs.Common.{◌≡◌, ◌<◌, ◌∙◌, ℕ, zero, suc, List, [], ◌∷◌, length, get_or, Option, None, Some, refl, sym, ap, slice_get, arith, OpId, IsAccepted, PlanView, numbers_of, Op, get_at, order_names, StandsAt}
-
-some_is : {A : Type 0} (a b : A) → Some a ≡ Some b → a ≡ b
-some_is {A} a b is = ap (λ o. from o) is where
-  from : Option A → A
-  from None = a
-  from (Some x) = x
 
 numbered : (order : List OpId) (place : ℕ) (number : OpId) → slice_get order place ≡ Some number → slice_get (numbers_of order) place ≡ Some number.0
 numbered [] place number is = absurd (let e : None ≡ Some number = is in cc)
-numbered (o ∷ order) zero number is = ap (λ (n : OpId). Some n.0) (some_is o number is)
+numbered (o ∷ order) zero number is = ap (λ (n : OpId). Some n.0) (same_Some o number is)
 numbered (o ∷ order) (suc place) number is = numbered order place number is
 
 module _ (plan : PlanView) (accepted : IsAccepted plan) (place : ℕ) (number d : OpId) (here : place < length plan.order) (is : number ≡ get_or plan.order place d) where

@@ -1,10 +1,6 @@
 -- Guards that one condition tells.
-use Rattle.sig_machine.proofs.Common.{subst, IsSide, ◌&&◌, Depends-Tests, Tests-Depends, IsJoined, ◌<◌, length, slice_index_or, Depends, IsAccepted, ◌≡◌, ◌∙◌, ℕ, Bool, true, false, not, List, Some, refl, sym, ap, SigId, Registers, is_true, truth_of, truths_of, PlanView, Holds, IsReduced, IsRefOf, IsSide-child, node_of, test, Node, Ref, IsTest, Run, Test, if◌then◌else◌}
+use Rattle.sig_machine.proofs.Common.{subst, AsksWithin, IfSome, IsNarrowed, IsTest, IsTold, Known, Literal, Narrowed, Test, holds_by, literal_holds, told_by, IsSide, ◌&&◌, Depends-Tests, Tests-Depends, IsJoined, ◌<◌, length, slice_index_or, Depends, IsAccepted, ◌≡◌, ◌∙◌, ℕ, Bool, true, false, not, List, Some, refl, sym, ap, SigId, Registers, is_true, truth_of, truths_of, PlanView, Holds, IsReduced, IsRefOf, IsSide-child, node_of, test, Node, Ref, if◌then◌else◌}
 use Rattle.sig_machine.proofs.Guards.{condition_at, conditions_below, truth_at, variable_within}
-
--- a test tells the guard of a run
-abbrev pub TellsRun : PlanView → Run → Test → Type 0
-TellsRun plan run t = IsTest plan run.guard t
 
 module _ (nodes : List Node) (reduced : IsReduced nodes) (r : Ref) (held : Holds nodes r) (n : Node) (is : Some n ≡ node_of nodes r) (truths : List Bool) where
   -- a node has the truth of that child to which the truth of its variable leads
@@ -22,6 +18,57 @@ module _ (nodes : List Node) (reduced : IsReduced nodes) (r : Ref) (held : Holds
     by : (b : Bool) → truth_of truths n.variable ≡ b → test nodes r truths ≡ not (truth_of truths n.variable)
     by true at = by_child true at n.high refl false high ∙ ap not (sym at)
     by false at = by_child false at n.low refl true low ∙ ap not (sym at)
+
+-- what a test tells of what is left of a guard, it tells of the guard
+module _ (plan : PlanView) (known : Known) (guard : Ref) where
+  pub test_narrowed : (left : Narrowed) → IsNarrowed plan.store.nodes known guard left → (t : Test) → IsTest plan left.known left.guard t → IsTest plan known guard t
+  test_narrowed left narrowed t is = record {
+    asks = is.asks;
+    tells = λ registers on.
+        subst (λ b. IfSome (told_by t registers) (λ holds. holds ≡ b)) (narrowed.same (truths_of plan.clocks.conditions registers) on)
+        (is.tells registers (narrowed.has (truths_of plan.clocks.conditions registers) on));
+  }
+
+  pub test_always : IsTold plan.store.nodes known (record { guard = guard; truth = true }) → IsTest plan known guard Test.Always
+  test_always told = record {
+    asks = tt;
+    tells = λ registers on. sym (told (truths_of plan.clocks.conditions registers) on);
+  }
+
+  pub test_is : (x : SigId) → (x.0 < length plan.kernel.signals) × ((registers : Registers) → holds_by plan guard registers ≡ is_true (registers x.0)) → IsTest plan known guard (Test.Is x)
+  test_is x told = record { asks = told.0; tells = λ registers on. sym (told.1 registers) }
+
+  pub test_is_not : (x : SigId) → (x.0 < length plan.kernel.signals) × ((registers : Registers) → holds_by plan guard registers ≡ not (is_true (registers x.0))) → IsTest plan known guard (Test.IsNot x)
+  test_is_not x told = record { asks = told.0; tells = λ registers on. sym (told.1 registers) }
+
+  pub test_walk : IsTest plan known guard Test.Walk
+  test_walk = record { asks = tt; tells = λ registers on. tt }
+
+  -- a literal before another function
+  module _ (literal : Literal) (rest : Ref) (joined : IsJoined plan guard literal rest) where
+    pub literal_alone : (t : Test) → AsksWithin (length plan.kernel.signals) t → ((registers : Registers) → told_by t registers ≡ Some (literal_holds literal registers))
+        → IsTest plan known rest Test.Always → IsTest plan known guard t
+    literal_alone t asks tells is = record {
+      asks = asks;
+      tells = λ registers on.
+          subst (λ told. IfSome told (λ holds. holds ≡ holds_by plan guard registers)) (sym (tells registers))
+          (sym (joined.1 registers ∙ ap (λ b. literal_holds literal registers && b) (sym (is.tells registers on)) ∙ and_true (literal_holds literal registers)));
+    } where
+      and_true : (b : Bool) → (b && true) ≡ b
+      and_true true = refl
+      and_true false = refl
+
+    pub literal_and : (x : SigId) → IsTest plan known rest (Test.Is x) → IsTest plan known guard (Test.Both literal (record { signal = x; positive = true }))
+    literal_and x is = record {
+      asks = (joined.0, is.asks);
+      tells = λ registers on. ap (λ b. literal_holds literal registers && b) (is.tells registers on) ∙ sym (joined.1 registers);
+    }
+
+    pub literal_and_not : (x : SigId) → IsTest plan known rest (Test.IsNot x) → IsTest plan known guard (Test.Both literal (record { signal = x; positive = false }))
+    literal_and_not x is = record {
+      asks = (joined.0, is.asks);
+      tells = λ registers on. ap (λ b. literal_holds literal registers && b) (is.tells registers on) ∙ sym (joined.1 registers);
+    }
 
 -- a guard of a plan whose node leads to constants alone
 module _ (plan : PlanView) (accepted : IsAccepted plan) (guard : Ref) (held : Holds plan.store.nodes guard)

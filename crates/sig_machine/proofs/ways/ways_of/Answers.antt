@@ -1,0 +1,20 @@
+use Rattle.sig_machine.proofs.{◌≡◌, ◌+◌, ◌∷◌, [], ◌∙◌, ℕ, ap, sym, subst, length, length-append, slice_get, slice_index_or, Some, get_at, ArePairs, AreWaysOf, Run, pairs_push}
+use Rattle.sig_machine.proofs.ways.ways_of.Goals as goal
+
+abbrev none : Run
+none = record { guard = record { number = 0 }; end = 0; skip = 0 }
+
+pub loop-place-preserved : goal.loop-place-preserved
+loop-place-preserved c =
+    let plan = c.args.plan.now in
+    let runs = c.args.runs.now in
+    let ways = c.loop-place.ways.items in
+    let place = c.loop-place.place in
+    let one = c.ways_from.result in
+    let run = slice_index_or runs place none in
+    let at = get_at runs place none c.loop-place-test.true in
+    record {
+      count = ap length c.in_ok-push.ensures.items ∙ length-append ways (one ∷ []) ∙ ap (λ (n : ℕ). n + 1) c.loop-place.invariant.count;
+      each = subst (ArePairs (AreWaysOf plan runs) runs) (sym c.in_ok-push.ensures.items)
+          (pairs_push (AreWaysOf plan runs) runs ways run one c.loop-place.invariant.each (subst (λ n. slice_get runs n ≡ Some run) (sym c.loop-place.invariant.count) at) (c.ways_from.ensures run at));
+    }
