@@ -1,8 +1,6 @@
 pub mod Common
-pub mod LastOutputs
-pub mod OutputLines
-pub mod Running
+pub mod Rests
+pub mod RunByInstants
 pub use Common.*
-pub use LastOutputs.*
-pub use OutputLines.*
-pub use Running.*
+pub use Rests.*
+pub use RunByInstants.*

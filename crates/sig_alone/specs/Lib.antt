@@ -1,3 +1,4 @@
 pub mod Prelude
-pub mod Lines
+pub mod Ready
 pub mod Runs
+pub mod inner

@@ -1,5 +1,5 @@
 -- What the definitions and the clauses of this crate cite of std and of the crates below, passed on from one place.
-pub use Rattle.std.specs.Prelude.{Err, IfOk, List, None, OnErr, OnOk, Option, Some, [], length, slice_get, ℕ, ℤ, ◌+◌, ◌<◌, ◌^◌, ◌≡◌, ◌≤◌}
+pub use Rattle.std.specs.Prelude.{Bool, Err, IfOk, List, None, OnErr, OnOk, Option, Some, [], drop, false, length, slice_get, true, ℕ, ℤ, ◌+◌, ◌<◌, ◌^◌, ◌≡◌, ◌≤◌}
 pub use Rattle.sig_kernel.specs.OutputText.{output_text, seen_line}
 pub use Rattle.sig_model.specs.Prelude.{IsKernelTrace, IsLongest, Signal, outputs_of, seen_lines}
 pub use Rattle.sig_model.specs.Turns.{reaction_in}

@@ -6,7 +6,9 @@ mod answer;
 mod gates;
 mod plans;
 mod putting;
+mod ready;
 mod run;
 
 pub use answer::RunAnswer;
+pub use ready::ReadyRun;
 pub use run::run_alone;

@@ -1,18 +1,18 @@
 //! A run.
 
 ghost use Rattle.std.specs.Prelude.{◌≡◌, ◌≤◌, ◌<◌, ◌+◌, ◌^◌};
-ghost use Rattle.sig_alone.specs.Prelude.{Err, IfOk, OnErr, OnOk, AreFlowsFor, opening_actor, Rose, TookPrefix, Lowers, IsMachineOf, actor_at, at_next, longest_lines, outputs_of, registers_of, ℕ};
-ghost use Rattle.sig_alone.specs.Lines.{lines_of};
-ghost use Rattle.sig_alone.specs.Runs.{IsWholeRun, TookSome};
+ghost use Rattle.sig_alone.specs.Prelude.{Err, IfOk, OnErr, OnOk, AreFlowsFor, Rose, TookPrefix, IsMachineOf, actor_at, at_next, longest_lines, outputs_of, registers_of, ℕ};
+ghost use Rattle.sig_alone.specs.inner.Due.{lines_due};
+ghost use Rattle.sig_alone.specs.Ready.{IsReady};
+ghost use Rattle.sig_alone.specs.Runs.{IsWholeRest, IsWholeRun, TookSome, TookSomeRest};
 ghost use Rattle.sig_alone.specs.declared.answer.RunAnswer.{RunAnswer};
 
 use crate::answer::RunAnswer;
 use crate::gates::pass_all;
-use crate::plans::{outputs_of, plans_are_accepted};
-use crate::putting::put_reaction;
-use sig_flow::OutputLines;
+use crate::plans::plans_are_accepted;
+use crate::putting::put_due;
+use crate::ready::ReadyRun;
 use sig_kernel::Inputs;
-use sig_machine::{Lowered, Machine, lower};
 use sig_plan::{Cause, Ended, Plan};
 use sig_text::{Gate, Sink, WriteFault};
 use std::alloc::Global;
@@ -38,91 +38,74 @@ pub fn run_alone<S: Sink, G: Gate>(
     ensures faults_stay { S.faults sink.old ≤ S.faults sink.new }
     ensures memory { result ≡ Err RunAnswer.OutOfMemory → sink.new ≡ sink.old }
 {
-    let Ok(lowered) = lower(alloc, plan) else {
+    let Ok(mut ready) = ReadyRun::new(alloc, plan, inputs) else {
         return Err(RunAnswer::OutOfMemory);
     };
-    let Ok(mut machine) = Machine::new(alloc, plan, &lowered, inputs) else {
-        return Err(RunAnswer::OutOfMemory);
-    };
-    let Ok(mut lines) = OutputLines::new(alloc, outputs_of(plan)) else {
-        return Err(RunAnswer::OutOfMemory);
-    };
-    match run(
-        &mut machine,
-        plan,
-        &lowered,
-        inputs,
-        limit,
-        gate,
-        &mut lines,
-        sink,
-    ) {
+    match ready.run(plan, inputs, limit, 0, gate, sink) {
         Ok(ended) => Ok(ended),
         Err(WriteFault) => Err(RunAnswer::WriteFault),
     }
 }
 
-/// Runs from the opening.
-fn run<S: Sink, G: Gate>(
-    machine: &mut Machine,
-    plan: &Plan,
-    lowered: &Lowered,
-    inputs: &Inputs,
-    limit: u32,
-    gate: &G,
-    lines: &mut OutputLines,
-    sink: &mut S,
-) -> Result<Ended, WriteFault>
-    requires fits { AreFlowsFor plan.now.kernel inputs.now }
-    requires limit { limit + 1 < 2 ^ 32 }
-    requires lowers { Lowers plan.now lowered.now }
-    requires machine { IsMachineOf plan.now lowered.now inputs.now machine.old }
-    requires opening { actor_at machine.old 0 ≡ opening_actor plan.now.kernel }
-    requires room { longest_lines (outputs_of plan.now.kernel) ≤ lines.old.size }
-    ensures whole { IfOk result (IsWholeRun plan.now inputs.now limit S.took sink.old sink.new) }
-    ensures prefix { OnErr result (TookSome plan.now inputs.now limit S.took sink.old sink.new) }
-    ensures failed { OnErr result (Rose (S.faults sink.old) (S.faults sink.new)) }
-    ensures faults_stay { S.faults sink.old ≤ S.faults sink.new }
-{
-    plans_are_accepted(plan);
-    for done in 0..limit {
-        pass_all(plan, gate, done + 1);
-        if let Err(cause) = machine.react(plan, lowered, inputs) {
-            return Ok(Ended {
-                instants: done,
-                cause,
-            });
+impl ReadyRun {
+    /// Runs from the opening, where the text of so many first instants is left out.
+    pub(crate) fn run<S: Sink, G: Gate>(
+        &mut self,
+        plan: &Plan,
+        inputs: &Inputs,
+        limit: u32,
+        written: u32,
+        gate: &G,
+        sink: &mut S,
+    ) -> Result<Ended, WriteFault>
+        requires fits { AreFlowsFor plan.now.kernel inputs.now }
+        requires limit { limit + 1 < 2 ^ 32 }
+        requires ready { IsReady plan.now inputs.now self.old }
+        ensures whole { IfOk result (IsWholeRest plan.now inputs.now limit written S.took sink.old sink.new) }
+        ensures prefix { OnErr result (TookSomeRest plan.now inputs.now limit written S.took sink.old sink.new) }
+        ensures failed { OnErr result (Rose (S.faults sink.old) (S.faults sink.new)) }
+        ensures faults_stay { S.faults sink.old ≤ S.faults sink.new }
+    {
+        plans_are_accepted(plan);
+        for done in 0..limit {
+            pass_all(plan, gate, done + 1);
+            if let Err(cause) = self.machine.react(plan, &self.lowered, inputs) {
+                return Ok(Ended {
+                    instants: done,
+                    cause,
+                });
+            }
+            self.commit(plan, inputs, done >= written, sink)?;
         }
-        commit(machine, plan, lowered, inputs, lines, sink)?;
+        pass_all(plan, gate, limit + 1);
+        Ok(Ended {
+            instants: limit,
+            cause: Cause::Limit,
+        })
     }
-    pass_all(plan, gate, limit + 1);
-    Ok(Ended {
-        instants: limit,
-        cause: Cause::Limit,
-    })
-}
 
-/// Appends the lines of a reaction, and goes to the next instant.
-fn commit<S: Sink>(
-    machine: &mut Machine,
-    plan: &Plan,
-    _lowered: &Lowered,
-    _inputs: &Inputs,
-    lines: &mut OutputLines,
-    sink: &mut S,
-) -> Result<(), WriteFault>
-    requires instant { machine.old.instant + 1 < 2 ^ 32 }
-    requires machine { IsMachineOf plan.now _lowered.now _inputs.now machine.old }
-    requires room { longest_lines (outputs_of plan.now.kernel) ≤ lines.old.size }
-    ensures size { lines.new.size ≡ lines.old.size }
-    ensures all { OnOk result (S.took sink.old (lines_of plan.now.kernel (registers_of machine.old)) sink.new) }
-    ensures next { OnOk result ((step : ℕ) → actor_at machine.new 0 ≡ at_next (actor_at machine.old step)) }
-    ensures machine { OnOk result (IsMachineOf plan.now _lowered.now _inputs.now machine.new) }
-    ensures prefix { OnErr result (TookPrefix S.took sink.old (lines_of plan.now.kernel (registers_of machine.old)) sink.new) }
-    ensures failed { OnErr result (Rose (S.faults sink.old) (S.faults sink.new)) }
-    ensures faults_stay { S.faults sink.old ≤ S.faults sink.new }
-{
-    put_reaction(machine, plan, lines, sink)?;
-    machine.next_instant();
-    Ok(())
+    /// Appends the lines of a reaction, where they are due, and goes to the next instant.
+    fn commit<S: Sink>(
+        &mut self,
+        plan: &Plan,
+        _inputs: &Inputs,
+        due: bool,
+        sink: &mut S,
+    ) -> Result<(), WriteFault>
+        requires instant { self.old.machine.instant + 1 < 2 ^ 32 }
+        requires machine { IsMachineOf plan.now self.old.lowered _inputs.now self.old.machine }
+        requires room { longest_lines (outputs_of plan.now.kernel) ≤ self.old.lines.size }
+        ensures lowered { self.new.lowered ≡ self.old.lowered }
+        ensures size { self.new.lines.size ≡ self.old.lines.size }
+        ensures all { OnOk result (S.took sink.old (lines_due due plan.now.kernel (registers_of self.old.machine)) sink.new) }
+        ensures next { OnOk result ((step : ℕ) → actor_at self.new.machine 0 ≡ at_next (actor_at self.old.machine step)) }
+        ensures machine { OnOk result (IsMachineOf plan.now self.new.lowered _inputs.now self.new.machine) }
+        ensures prefix { OnErr result (TookPrefix S.took sink.old (lines_due due plan.now.kernel (registers_of self.old.machine)) sink.new) }
+        ensures failed { OnErr result (Rose (S.faults sink.old) (S.faults sink.new)) }
+        ensures faults_stay { S.faults sink.old ≤ S.faults sink.new }
+    {
+        put_due(&self.machine, plan, due, &mut self.lines, sink)?;
+        self.machine.next_instant();
+        Ok(())
+    }
 }

@@ -5,6 +5,7 @@ pub use Rattle.std.proofs.lemmas.Option.{slice_get_past}
 pub use Rattle.std.specs.Vec.{with_item}
 pub use Rattle.std.specs.declared.collections.VecDeque.{VecDeque}
 pub use Rattle.sig_base.specs.Places.{no_place, packed}
+pub use Rattle.sig_flow.specs.OutputLines.{LinesInFront, longest_lines}
 pub use Rattle.sig_text.specs.declared.sink.WriteFault.{WriteFault}
 pub use Rattle.sig_model.specs.Cores.{Core as ModelCore}
 pub use Rattle.sig_schedules.proofs.Bounds.{bounded_behind, bounded_events}
@@ -23,19 +24,20 @@ pub use Rattle.sig_step.specs.States.{last_reaction}
 pub use Rattle.sig_step.specs.declared.answer.Acted.{Acted}
 pub use Rattle.sig_step.specs.declared.answer.Acted.TheVariants.{AtLimit as AtTheLimit, Done, Empty, Failed, Full, Stopped as HasStopped}
 pub use Rattle.sig_step.specs.declared.state.ClusterState.{ClusterState}
-pub use Rattle.sig_step.proofs.Common.{Acts, DoesStep, DoesSteps, IsSameAndQuiet, IsStateOf, Nothing, Queues, QueuesGoOn, TookPrefix, actor_of, err_from_is_err_and, instant_of, place_of, slice_get_read, some_is}
-pub use Rattle.sig_core.specs.Acting.{CommitsAs, CommitsBy, IsStepped, TakesTurnAt, changes, no_past, told_queues}
+pub use Rattle.sig_step.proofs.Common.{Acts, DoesStep, DoesSteps, IsSameAndQuiet, IsStateOf, Nothing, Queues, QueuesGoOn, TookPrefix, actor_of, err_from_is_err_and, instant_of, place_of, slice_get_read, same_Some}
+pub use Rattle.sig_core.specs.inner.Acting.{CommitsAs, CommitsBy, IsStepped, TakesTurnAt, changes, no_past, told_queues}
 pub use Rattle.sig_core.specs.Cores.{Happened, IsActorState, IsCore, IsReached, IsSameRun, IsWord, IsWordOf, Keeps, LeavesLess, Shows, TellsChange, TookMore, given_of, left_at, left_from, left_in, one_to_end}
 pub use Rattle.sig_core.specs.Finishing.{HasEnded, IsEndOf, IsStill, LeadsTo, LeadsWithin, Led, TookBehind, TookRest, after_of, instants_by, instants_of}
-pub use Rattle.sig_core.specs.First.{AllFirst, IsFirst, actor_in}
-pub use Rattle.sig_core.specs.GoingOn.{DoesTurn, DoesTurns, IsStepBy, KeepsBelow, KeepsWord, StepsOn, TakesTurns, next_of}
+pub use Rattle.sig_core.specs.inner.First.{AllFirst, IsFirst, actor_in}
+pub use Rattle.sig_core.specs.inner.GoingOn.{DoesTurn, DoesTurns, IsStepBy, KeepsBelow, KeepsWord, StepsOn, TakesTurns, next_of}
 pub use Rattle.sig_core.specs.Lists.{AreEmpty, IsFoundEmpty, IsFoundFull, queue_in, queues_of}
-pub use Rattle.sig_core.specs.Making.{AreOpened, IsOpened}
-pub use Rattle.sig_core.specs.Resting.{IsLow, RestBelow, Rests, SeesNothing, Serves, Touches, left_behind, link_at, link_by, link_of, next_link}
+pub use Rattle.sig_core.specs.inner.Making.{AreOpened, IsOpened}
+pub use Rattle.sig_core.specs.inner.Resting.{IsLow, RestBelow, Rests, SeesNothing, Serves, Touches, left_behind, link_at, link_by, link_of, next_link}
 pub use Rattle.sig_core.specs.Schedules.{AreBounded, BeginsTheText, GoesOn, HasTheEnd, HoldsOf, InEachRun, KeepsToTheReference, RecordsNoneBefore, run_of}
 pub use Rattle.sig_core.specs.Telling.{length_in}
 pub use Rattle.sig_core.specs.declared.lists.Lists.{Lists}
 pub use Rattle.sig_core.specs.declared.state.Core.{Core}
-pub use Rattle.sig_alone.proofs.Common.{Joins, TookPrefix-longer, TookPrefix-then, length-map}
+pub use Rattle.sig_text.specs.Sink.{Joins, TookPrefix-longer, TookPrefix-then}
+pub use Rattle.sig_doing.proofs.Common.{length-map}
 pub use Rattle.sig_core.specs.Watching.{ActsUnder, IsNoted, IsPassed, IsQuiet, IsSameWatch, IsUnused, IsUsed, IsWatchEmpty, IsWatchFull, IsWatchOf, held_by, lesser_link, untold}
 pub use Rattle.sig_core.specs.declared.watching.Watch.{Watch}

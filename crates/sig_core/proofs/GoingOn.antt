@@ -1,12 +1,12 @@
 -- Turns of one actor, one after another.
 use Rattle.sig_core.proofs.Common.{◌≡◌, ◌<◌, ◌≤◌, ◌+◌, ◌*◌, ◌∙◌, ℕ, zero, suc, true, false, List, [], length, refl, sym, ap, subst, arith, Option, slice_index_or, no_place, mul-le-mul_right, Place, CommitsBy, changes, Happened, IsCore, IsReached, IsSameRun, IsWord, TellsChange, given_of, left_in, LeadsTo, DoesTurn, DoesTurns, IsStepBy, KeepsWord, StepsOn, TakesTurns, next_of, RestBelow, Serves, Touches, next_link, Core, outputs_of, seen_lines, Given, Act, IsAccepted, last_reaction, Acted, Done, Empty, Full, Failed, ClusterState}
-use Rattle.sig_core.proofs.Finishing.{Join, act_leads, leads_nowhere, leads_reached, leads_then}
-use Rattle.sig_core.proofs.Happening.{commit_happened, kept_happened, state_there, step_kept}
+use Rattle.sig_core.proofs.EventsToTheEnd.{Join, act_leads, leads_nowhere, leads_reached, leads_then}
+use Rattle.sig_core.proofs.HappenedEvents.{commit_happened, kept_happened, state_there, step_kept}
 use Rattle.sig_core.proofs.Looks.{no_word_looks}
 use Rattle.sig_core.proofs.RunningOut.{accepted_on}
-use Rattle.sig_core.proofs.Serving.{kept_serves, none_rest, rests_where, resting_serves}
-use Rattle.sig_core.proofs.Stepping.{place_of_step, step_commits, step_core, step_leaves, step_stepped, step_tells, word_by}
-use Rattle.sig_core.proofs.Touching.{touches_word, turn_touches}
+use Rattle.sig_core.proofs.ServedActors.{kept_serves, none_rest, rests_where, resting_serves}
+use Rattle.sig_core.proofs.CoreSteps.{place_of_step, step_commits, step_core, step_leaves, step_stepped, step_tells, word_by}
+use Rattle.sig_core.proofs.TouchedLinks.{touches_word, turn_touches}
 use Rattle.sig_step.specs.declared.answer.Acted.TheVariants.{Commit, AtLimit, Stopped}
 
 -- a core behind turns is a core, and differs in states and links alone

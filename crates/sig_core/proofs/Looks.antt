@@ -1,7 +1,7 @@
 -- What a look of an actor does to a core.
-use Rattle.sig_core.proofs.Common.{◌≡◌, ◌<◌, ◌≤◌, ◌+◌, ◌^◌, ◌↔◌, ◌∙◌, inl, inr, ℕ, Bool, true, false, cond, List, length, map, set, if◌then◌else◌, refl, sym, ap, subst, arith, length-set, None, Option, Some, IsTrue, slice_get, no_place, packed, Place, IsActorState, IsCore, Keeps, LeavesLess, Shows, TellsChange, given_of, left_from, Core, same_or_not, Actor, code_of, ended_at, next_place, position_of, ModelCore, Given, looked, stepped, with_actor, word_before, Look, PlanView, put_elsewhere, put_here, set_get, set_here, IsStateOf, actor_of, place_of, ClusterState, some_is, instant_of}
-use Rattle.sig_core.proofs.Leaving.{Falls, end_falls, get_map, left_falls, map_set, set_there}
-use Rattle.sig_core.proofs.Wording.{no_word_told, word_before_is}
+use Rattle.sig_core.proofs.Common.{◌≡◌, ◌<◌, ◌≤◌, ◌+◌, ◌^◌, ◌↔◌, ◌∙◌, inl, inr, ℕ, Bool, true, false, cond, List, length, map, set, if◌then◌else◌, refl, sym, ap, subst, arith, length-set, None, Option, Some, IsTrue, slice_get, no_place, packed, Place, IsActorState, IsCore, Keeps, LeavesLess, Shows, TellsChange, given_of, left_from, Core, same_or_not, Actor, code_of, ended_at, next_place, position_of, ModelCore, Given, looked, stepped, with_actor, word_before, Look, PlanView, put_elsewhere, put_here, set_get, set_here, IsStateOf, actor_of, place_of, ClusterState, same_Some, instant_of}
+use Rattle.sig_core.proofs.WhatIsLeft.{Falls, end_falls, get_map, left_falls, map_set, set_there}
+use Rattle.sig_core.proofs.FailureWord.{no_word_told, word_before_is}
 
 -- where no failure is recorded, a look changes nothing
 module _ (c : Core) (k : ℕ) (none : c.word ≡ no_place) where
@@ -106,7 +106,7 @@ module _ (old : Core) (is : IsCore old) (k : ℕ) (s next : ClusterState) (at : 
   differs m shows does same =
       let ends : with_actor k (ended_at a) m ≡ m = sym (looked_as m shows true does) ∙ same in
       let first : Some (ended_at a) ≡ Some a = sym (set_here m.actors k (ended_at a) a (there m shows)) ∙ ap (λ (n : ModelCore). slice_get n.actors k) ends ∙ there m shows in
-      let clash : true ≡ false = ap (λ (x : Actor). x.ended) (some_is (ended_at a) a first) ∙ runs does in
+      let clash : true ≡ false = ap (λ (x : Actor). x.ended) (same_Some (ended_at a) a first) ∙ runs does in
       cc
 
   pub look_tells : TellsChange old (Look k) answer
@@ -155,4 +155,5 @@ module _ (old : Core) (is : IsCore old) (k : ℕ) (s next : ClusterState) (at : 
     room = is.room;
     held = is.held;
     word = is.word;
+    lines = is.lines;
   } in c)

@@ -1,8 +1,8 @@
 -- The opening of a core.
-use Rattle.sig_core.proofs.Common.{◌≡◌, ◌<◌, ◌≤◌, ◌+◌, ◌^◌, ◌++◌, ◌⊎◌, ◌∙◌, inl, inr, ℕ, zero, suc, ℤ, List, [], ◌∷◌, length, map, replicate, refl, sym, ap, subst, arith, length-append, Global, None, Some, slice_get, slice_index_or, length-replicate, slice_get_past, deque_capacity, VecDeque, IsCore, Shows, AreEmpty, queue_in, queues_of, AreOpened, IsOpened, Lists, Core, no_place, AreFlowsFor, at_most_or, opening_actor, opening, PlanView, LinkQueue, actor_of, ClusterState, some_is}
+use Rattle.sig_core.proofs.Common.{◌≡◌, ◌<◌, ◌≤◌, ◌+◌, ◌^◌, ◌++◌, ◌⊎◌, ◌∙◌, inl, inr, ℕ, zero, suc, ℤ, List, [], ◌∷◌, length, map, replicate, refl, sym, ap, subst, arith, length-append, Global, None, Some, slice_get, slice_index_or, length-replicate, slice_get_past, deque_capacity, VecDeque, IsCore, Shows, AreEmpty, queue_in, queues_of, AreOpened, IsOpened, Lists, Core, no_place, AreFlowsFor, at_most_or, opening_actor, opening, outputs_of, longest_lines, PlanView, LinkQueue, actor_of, ClusterState, same_Some}
 
 pub pushed_get : {X : Type 0} (xs : List X) (x : X) (k : ℕ) (y : X) → slice_get (xs ++ x ∷ []) k ≡ Some y → (slice_get xs k ≡ Some y) ⊎ ((k ≡ length xs) × (x ≡ y))
-pushed_get [] x zero y at = inr (refl, some_is x y at)
+pushed_get [] x zero y at = inr (refl, same_Some x y at)
 pushed_get [] x (suc k) y at = inl at
 pushed_get (z ∷ xs) x zero y at = inl at
 pushed_get (z ∷ xs) x (suc k) y at = elim (pushed_get xs x k y at) [ inl before ↦ inl before | inr last ↦ inr (ap suc last.0, last.1) ]
@@ -62,8 +62,8 @@ nothing_there (suc n) (suc j) = nothing_there n j
 
 module _ (c : Core) (fits : AreFlowsFor c.plan.now.kernel c.inputs.now) (limit : c.limit + 1 < 2 ^ 32) (capacity : 1 ≤ c.capacity) (small : c.capacity < 2 ^ 32)
     (are : AreOpened c.plan.now c.inputs.now c.limit (length c.plan.now.codes) c.states.items) (few : length c.states.items < 2 ^ 32) (empty : AreEmpty (length c.plan.now.links) c.capacity c.lists) where
-  pub opened_core : c.word ≡ no_place → IsCore c
-  opened_core none = record {
+  pub opened_core : c.word ≡ no_place → longest_lines (outputs_of c.plan.now.kernel) ≤ c.lines.size → IsCore c
+  opened_core none lines = record {
     fits = fits;
     limit = limit;
     capacity = capacity;
@@ -75,6 +75,7 @@ module _ (c : Core) (fits : AreFlowsFor c.plan.now.kernel c.inputs.now) (limit :
     room = λ j lt. ap (λ (l : LinkQueue). l.capacity) (empty.each j lt);
     held = λ j lt. (let none : length (queues_of c.lists j).items ≡ 0 = ap (λ (l : LinkQueue). length l.items) (empty.each j lt) in omega (arith, none));
     word = (None, none);
+    lines = lines;
   }
 
   items_none : (j : ℕ) → (queues_of c.lists j).items ≡ []

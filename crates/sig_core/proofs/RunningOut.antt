@@ -1,7 +1,7 @@
 -- A run to its end, as it was served actor by actor.
 use Rattle.sig_core.proofs.Common.{◌≡◌, ◌≤◌, ℕ, List, length, sym, subst, arith, Trace, Place, Option, IsCore, IsReached, IsSameRun, Shows, HasEnded, IsEndOf, after_of, instants_of, RestBelow, Core, IsEnd, ModelCore, Given, cause_of, IsAccepted, Ended, Joins, TookPrefix, TookPrefix-then}
-use Rattle.sig_core.proofs.Ending.{all_ended, end_is}
-use Rattle.sig_core.proofs.Finishing.{Join}
+use Rattle.sig_core.proofs.ReachedEnd.{all_ended, end_is}
+use Rattle.sig_core.proofs.EventsToTheEnd.{Join}
 
 -- takings, and then a prefix of more
 pub join_part : {S : Type 0} (took : S → List ℕ → S → Type 0) → Joins took → Join took (TookPrefix took)

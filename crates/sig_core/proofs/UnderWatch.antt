@@ -1,10 +1,10 @@
 -- Steps of an actor over links under watch, as turns of a core.
 use Rattle.sig_core.proofs.Common.{◌≡◌, ◌<◌, ◌≤◌, ◌∙◌, inl, inr, ℕ, zero, suc, ℤ, List, [], ◌∷◌, length, set, refl, sym, ap, subst, arith, Some, slice_get, with_item, TakesTurnAt, IsCore, given_of, DoesTurns, KeepsBelow, TakesTurns, link_by, next_link, Lists, Core, IsAccepted, PlanView, same_or_not, set_here, DoesStep, DoesSteps, IsSameAndQuiet, ActsUnder, IsPassed, IsQuiet, IsSameWatch, IsWatchEmpty, IsWatchFull, IsWatchOf, held_by, lesser_link, untold, Watch, queues_of, QueuesGoOn, Acted, Done, ClusterState}
 use Rattle.sig_core.proofs.GoingOn.{core_on}
-use Rattle.sig_core.proofs.Leaving.{set_there}
-use Rattle.sig_core.proofs.Queuing.{set_past}
+use Rattle.sig_core.proofs.WhatIsLeft.{set_there}
+use Rattle.sig_core.proofs.QueueItems.{set_past}
 use Rattle.sig_core.proofs.RunningOut.{accepted_on}
-use Rattle.sig_core.proofs.Serving.{at_end}
+use Rattle.sig_core.proofs.ServedActors.{at_end}
 
 set_twice : {X : Type 0} (xs : List X) (k : ℕ) (x y : X) → set (set xs k x) k y ≡ set xs k y
 set_twice [] k x y = refl

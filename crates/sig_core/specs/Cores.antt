@@ -1,6 +1,6 @@
 -- What the state of a core means: the actors, the links and the failure word of a state of sig_model.
 use Rattle.std.specs.Prelude.{◌≡◌, ◌<◌, ◌≤◌, ◌+◌, ◌-◌, ◌*◌, ◌^◌, ◌∷◌, ◌++◌}
-use Rattle.sig_core.specs.Prelude.{ℕ, List, [], length, map, slice_get, slice_index_or, Option, None, Some, Bool, true, false, no_place, packed, Place, AreFlowsFor, Kernel, Actor, code_of, Core as ModelCore, Given, IsEnabled, after, reactions_text, stepped, Reaction, Event, PlanView, IsStateOf, actor_of, limit_of, number_of, ClusterState}
+use Rattle.sig_core.specs.Prelude.{ℕ, List, [], length, map, slice_get, slice_index_or, Option, None, Some, Bool, true, false, longest_lines, outputs_of, no_place, packed, Place, AreFlowsFor, Kernel, Actor, code_of, Core as ModelCore, Given, IsEnabled, after, reactions_text, stepped, Reaction, Event, PlanView, IsStateOf, actor_of, limit_of, number_of, ClusterState}
 use Rattle.sig_core.specs.Lists.{queues_of}
 use Rattle.sig_core.specs.declared.state.Core.{Core}
 
@@ -24,8 +24,8 @@ abbrev pub IsWord : Option Place → ℕ → Type 0
 IsWord None word = word ≡ no_place
 IsWord (Some place) word = IsWordOf place word
 
--- A core has the states of all actors of its plan, its links have their capacity, and its word is that of some place, or of
--- none.
+-- A core has the states of all actors of its plan, its links have their capacity, its word is that of some place, or of none,
+-- and the lines of all outputs have room.
 pub record IsCore (c : Core) : Type 0 where
   pub fits : AreFlowsFor c.plan.now.kernel c.inputs.now
   pub limit : c.limit + 1 < 2 ^ 32
@@ -38,6 +38,7 @@ pub record IsCore (c : Core) : Type 0 where
   pub room : (j : ℕ) → j < length c.plan.now.links → (queues_of c.lists j).capacity ≡ c.capacity
   pub held : (j : ℕ) → j < length c.plan.now.links → length (queues_of c.lists j).items ≤ c.capacity
   pub word : (place : Option Place) × IsWord place c.word
+  pub lines : longest_lines (outputs_of c.plan.now.kernel) ≤ c.lines.size
 
 -- A core is in this state, whatever is committed in it.
 pub record Shows (m : ModelCore) (c : Core) : Type 0 where

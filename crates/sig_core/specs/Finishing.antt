@@ -2,7 +2,7 @@
 use Rattle.std.specs.Prelude.{◌≡◌, ◌≤◌, ◌+◌, ◌*◌, ◌-◌, ◌++◌}
 use Rattle.sig_core.specs.Prelude.{ℕ, List, true, fold, length, slice_get, Option, None, Some, Trace, OpId, Place, output_text, IsEnd, Core as ModelCore, after, cause_of_op, reactions_text, stepped, Event, Act, Look, Cause, Ended, steps_in, actor_of, ClusterState}
 use Rattle.sig_core.specs.Cores.{Shows, TookMore, given_of}
-use Rattle.sig_core.specs.First.{AllFirst}
+use Rattle.sig_core.specs.inner.First.{AllFirst}
 use Rattle.sig_core.specs.declared.state.Core.{Core}
 
 -- Events led from one state of a core to another, each of them the first that changed the state, and a sink took the text of

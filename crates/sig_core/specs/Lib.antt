@@ -1,12 +1,8 @@
 pub mod Prelude
-pub mod Acting
 pub mod Cores
 pub mod Finishing
-pub mod First
-pub mod GoingOn
 pub mod Lists
-pub mod Making
-pub mod Resting
 pub mod Schedules
 pub mod Telling
 pub mod Watching
+pub mod inner

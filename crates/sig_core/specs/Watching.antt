@@ -3,7 +3,7 @@ use Rattle.std.specs.Prelude.{◌≡◌, ◌<◌, ◌≤◌, ◌⊎◌}
 use Rattle.std.proofs.Common.{inl, refl}
 use Rattle.sig_core.specs.Prelude.{ℕ, ℤ, List, length, slice_get, slice_set, None, Option, Some, LinkInfo, PlanView, ActsUntil, AllStay, OthersStay, Past, Queues, Acted, ClusterState}
 use Rattle.sig_core.specs.Lists.{IsFoundEmpty, IsFoundFull, queues_of}
-use Rattle.sig_core.specs.Resting.{link_by}
+use Rattle.sig_core.specs.inner.Resting.{link_by}
 use Rattle.sig_core.specs.declared.lists.Lists.{Lists}
 use Rattle.sig_core.specs.declared.watching.Watch.{Watch}
 

@@ -2,9 +2,9 @@
 
 ghost use Rattle.std.specs.Prelude.{◌≡◌, ◌<◌, ◌≤◌};
 ghost use Rattle.sig_core.specs.Prelude.{IfOk, OnErr, OnOk, length, true, Act, Rose, TookPrefix};
-ghost use Rattle.sig_core.specs.Acting.{CommitsBy, IsStepped, TakesTurnAt, changes};
+ghost use Rattle.sig_core.specs.inner.Acting.{CommitsBy, IsStepped, TakesTurnAt, changes};
 ghost use Rattle.sig_core.specs.Cores.{Happened, IsCore, IsSameRun, LeavesLess, TellsChange};
-ghost use Rattle.sig_core.specs.Resting.{Touches, next_link};
+ghost use Rattle.sig_core.specs.inner.Resting.{Touches, next_link};
 
 use crate::plans::plans_are_accepted;
 use crate::state::Core;
@@ -35,7 +35,7 @@ impl<'a> Core<'a> {
         }
         match self.step::<Brand>(k, Blank::new(1)) {
             Acted::Commit => {
-                self.states[k as usize].put_reaction(self.plan, sink)?;
+                self.states[k as usize].put_reaction_at_once(self.plan, &mut self.lines, sink)?;
                 Ok(true)
             }
             acted => Ok(changes(acted)),

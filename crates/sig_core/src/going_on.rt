@@ -4,8 +4,8 @@ ghost use Rattle.std.specs.Prelude.{◌≡◌, ◌+◌, ◌<◌, ◌≤◌, ◌^
 ghost use Rattle.sig_core.specs.Prelude.{IfOk, OnErr, OnOk, length, no_place, Rose, TookPrefix};
 ghost use Rattle.sig_core.specs.Cores.{IsCore, IsReached, IsSameRun};
 ghost use Rattle.sig_core.specs.Finishing.{LeadsTo};
-ghost use Rattle.sig_core.specs.GoingOn.{StepsOn, TakesTurns, next_of};
-ghost use Rattle.sig_core.specs.Resting.{RestBelow, Serves};
+ghost use Rattle.sig_core.specs.inner.GoingOn.{StepsOn, TakesTurns, next_of};
+ghost use Rattle.sig_core.specs.inner.Resting.{RestBelow, Serves};
 
 use crate::plans::plans_are_accepted;
 use crate::state::Core;
@@ -36,7 +36,7 @@ impl<'a> Core<'a> {
         let stretch = self.steps::<Brand>(k, Blank::new(1));
         match stretch.acted {
             Acted::Commit => {
-                self.states[k as usize].put_reaction(self.plan, sink)?;
+                self.states[k as usize].put_reaction_at_once(self.plan, &mut self.lines, sink)?;
                 Ok(stretch.low)
             }
             acted => Ok(next_of(k, stretch.low, acted)),

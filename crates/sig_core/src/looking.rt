@@ -3,7 +3,7 @@
 ghost use Rattle.std.specs.Prelude.{◌≡◌, ◌<◌, ◌^◌};
 ghost use Rattle.sig_core.specs.Prelude.{None, Look};
 ghost use Rattle.sig_core.specs.Cores.{IsCore, IsSameRun, Keeps, LeavesLess, TellsChange};
-ghost use Rattle.sig_core.specs.Resting.{Touches};
+ghost use Rattle.sig_core.specs.inner.Resting.{Touches};
 
 use crate::state::Core;
 

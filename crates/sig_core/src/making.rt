@@ -3,14 +3,15 @@
 ghost use Rattle.std.specs.Prelude.{◌≡◌, ◌≤◌, ◌<◌, ◌+◌, ◌^◌};
 ghost use Rattle.sig_core.specs.Prelude.{IfOk, length, AreFlowsFor, opening};
 ghost use Rattle.sig_core.specs.Cores.{IsCore, IsReached, Shows, given_of};
-ghost use Rattle.sig_core.specs.Making.{AreOpened};
+ghost use Rattle.sig_core.specs.inner.Making.{AreOpened};
 ghost use Rattle.sig_core.specs.Schedules.{AreBounded, BeginsTheText, GoesOn, HasTheEnd, InEachRun, KeepsToTheReference, RecordsNoneBefore};
 
 use crate::answer::CoreAnswer;
 use crate::laws::runs_keep_to_the_plan;
 use crate::lists::Lists;
-use crate::plans::{actors_in, links_in};
+use crate::plans::{actors_in, links_in, outputs_of};
 use crate::state::Core;
+use sig_flow::OutputLines;
 use sig_kernel::Inputs;
 use sig_plan::Plan;
 use sig_step::ClusterState;
@@ -48,6 +49,7 @@ impl<'a> Core<'a> {
             limit,
             states: opened(alloc, plan, inputs, limit)?,
             lists: Lists::new(alloc, links_in(plan), capacity as usize)?,
+            lines: OutputLines::new(alloc, outputs_of(plan))?,
             word: u64::MAX,
         })
     }

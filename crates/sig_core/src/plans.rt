@@ -1,10 +1,10 @@
 //! The parts of a plan.
 
 ghost use Rattle.std.specs.Prelude.{◌≡◌, ◌<◌};
-ghost use Rattle.sig_core.specs.Prelude.{length, slice_get, Some, code_of, IsAccepted};
-ghost use Rattle.sig_core.specs.Resting.{link_at, link_of};
+ghost use Rattle.sig_core.specs.Prelude.{length, slice_get, Some, code_of, outputs_of, IsAccepted};
+ghost use Rattle.sig_core.specs.inner.Resting.{link_at, link_of};
 
-use sig_base::OpId;
+use sig_base::{OpId, Signal};
 use sig_plan::{LinkInfo, Op, Plan, StepKind};
 
 /// A law: each plan is an accepted one.
@@ -87,4 +87,14 @@ pub(crate) fn link_of(kind: StepKind) -> Option<u32>
             Some(j)
         }
     }
+}
+
+/// The outputs of a plan, in order.
+pub(crate) fn outputs_of(plan: &Plan) -> &[Signal]
+    ensures { result.now ≡ outputs_of plan.now.kernel }
+{
+    let kernel = &plan.kernel;
+    let (_, behind) = kernel.signals.as_slice().split_at(kernel.inputs as usize);
+    let (outputs, _) = behind.split_at(kernel.outputs as usize);
+    outputs
 }

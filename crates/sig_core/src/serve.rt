@@ -4,7 +4,7 @@ ghost use Rattle.std.specs.Prelude.{◌≤◌, ◌<◌};
 ghost use Rattle.sig_core.specs.Prelude.{IfOk, OnErr, OnOk, length, Rose, TookPrefix};
 ghost use Rattle.sig_core.specs.Cores.{IsCore, IsReached, IsSameRun};
 ghost use Rattle.sig_core.specs.Finishing.{LeadsTo};
-ghost use Rattle.sig_core.specs.Resting.{RestBelow, SeesNothing, Serves};
+ghost use Rattle.sig_core.specs.inner.Resting.{RestBelow, SeesNothing, Serves};
 
 use crate::plans::plans_are_accepted;
 use crate::state::Core;

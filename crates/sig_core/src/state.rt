@@ -1,6 +1,7 @@
 //! The state of all actors.
 
 use crate::lists::Lists;
+use sig_flow::OutputLines;
 use sig_kernel::Inputs;
 use sig_plan::Plan;
 use sig_step::ClusterState;
@@ -15,6 +16,8 @@ pub struct Core<'a> {
     pub(crate) limit: u32,
     pub(crate) states: Vec<ClusterState>,
     pub(crate) lists: Lists,
+    /// Room for the text of a reaction.
+    pub(crate) lines: OutputLines,
     /// The least place that was recorded, packed, or `u64::MAX`.
     pub(crate) word: u64,
 }

@@ -3,7 +3,7 @@
 ghost use Rattle.std.specs.Prelude.{◌≡◌, ◌<◌, ◌↔◌};
 ghost use Rattle.sig_core.specs.Prelude.{IsTrue, Some, length, min, slice_get, LinkInfo};
 ghost use Rattle.sig_core.specs.Cores.{IsCore};
-ghost use Rattle.sig_core.specs.Resting.{IsLow, next_link};
+ghost use Rattle.sig_core.specs.inner.Resting.{IsLow, next_link};
 
 use crate::plans::{link_of, links_of, plans_are_accepted, step_at};
 use crate::state::Core;

@@ -1,7 +1,7 @@
 -- Events one after another, and what a sink took of them.
 use Rattle.sig_plays.proofs.Common.{◌≡◌, ◌<◌, ◌+◌, ◌++◌, ◌∙◌, ℕ, List, [], ◌∷◌, length, map, take, drop, get_or, refl, sym, ap, subst, append_assoc, fold, append-nil, map-append, take-append-drop, take_more, Join, more_then, text_append, Happened, IsSameRun, Shows, TookMore, given_of, FileEvent, Kernel, Core as ModelCore, Given, reactions_text, stepped, Event, happens, AllHappened, PartHappened, behind, TookPrefix, TookPrefix-longer}
 use Rattle.sig_core.specs.declared.state.Core.{Core}
-use Rattle.sig_plays.proofs.Growing.{grows}
+use Rattle.sig_plays.proofs.StaysCommitted.{grows}
 
 pub fold_append : {A B : Type 0} (f : A → B → A) (z : A) (xs ys : List B) → fold f z (xs ++ ys) ≡ fold f (fold f z xs) ys
 fold_append f z [] ys = refl

@@ -1,13 +1,15 @@
 pub mod Common
+mod Committed
 pub mod Complete
-pub mod Ending
+pub mod EndOfPlay
 mod EventLines
-mod Growing
+mod StaysCommitted
 mod Happened
-mod Lining
+mod LinesInARow
 mod Loads
+mod Missing
 pub mod OnePlay
-mod Playing
+mod TakenOfPlay
 mod SamePlans
 mod StateTaken
 mod Written
@@ -15,10 +17,11 @@ pub use Common.*
 pub use Complete.*
 pub use EventLines.*
 pub use Happened.*
-pub use Lining.*
+pub use LinesInARow.*
 pub use Loads.*
+pub use Missing.*
 pub use OnePlay.*
-pub use Playing.*
+pub use TakenOfPlay.*
 pub use StateTaken.*
 pub use Written.*
 pub use Rattle.sig_plays.proofs.Written.{few_links}

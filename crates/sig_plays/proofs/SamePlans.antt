@@ -1,5 +1,5 @@
 -- The plans of a kernel have the same states behind the same events: they differ in the references of guards alone.
-use Rattle.sig_plays.proofs.Common.{◌≡◌, ◌∙◌, ℕ, ℤ, List, [], ◌∷◌, Bool, length, replicate, refl, sym, ap, arith, Option, None, Some, fold, nat_lt, pos, slice_get, unwrap_or, if◌then◌else◌, SigId, get_within, run_of, Ref, Kernel, some_at, Actor, code_of, ended_at, guard_holds, moved_on, no_code, opening_actor, position_of, slot_holds, truths_of, Core, Given, acted, after, looked, opening, stepped, turned, with_actor, word_before, Faults, Gives, operated, outcome, outcome_by, AtLimit, Commits, Fails, Goes, Puts, Stopped, Takes, Turn, carried, item_of, reaction_in, received, turn, turn_at, turn_by, turn_of_op, turn_with, Event, Act, Look, AreAlike, CodeView, Operation, operation_in, operations_in, IsAccepted, PlanView, Slot, Step, StepKind, Do, Send, Receive, Report, Collect, Commit, Op, OpKind, Read, Compute, Left, Right, DelayRead, Store, get_map, map_get, some_is, codes_alike, same_actors, same_conditions, same_links, same_operations}
+use Rattle.sig_plays.proofs.Common.{◌≡◌, ◌∙◌, ℕ, ℤ, List, [], ◌∷◌, Bool, length, replicate, refl, sym, ap, arith, Option, None, Some, fold, nat_lt, pos, slice_get, unwrap_or, if◌then◌else◌, SigId, get_within, run_of, Ref, Kernel, some_at, Actor, code_of, ended_at, guard_holds, moved_on, no_code, opening_actor, position_of, slot_holds, truths_of, Core, Given, acted, after, looked, opening, stepped, turned, with_actor, word_before, Faults, Gives, operated, outcome, outcome_by, AtLimit, Commits, Fails, Goes, Puts, Stopped, Takes, Turn, carried, item_of, reaction_in, received, turn, turn_at, turn_by, turn_of_op, turn_with, Event, Act, Look, AreAlike, CodeView, Operation, operation_in, operations_in, IsAccepted, PlanView, Slot, Step, StepKind, Do, Send, Receive, Report, Collect, Commit, Op, OpKind, Read, Compute, Left, Right, DelayRead, Store, get_map, map_get, same_Some, codes_alike, same_actors, same_conditions, same_links, same_operations}
 use Rattle.sig_model.specs.Operating.{Outcome}
 
 none_some : {X : Type 0} (x : X) → None ≡ Some x → ⊥
@@ -132,7 +132,7 @@ module _ (p q : PlanView) (one : IsAccepted p) (other : IsAccepted q) (kernels :
           let left = get_map (operation_in p.store.nodes) p.ops number x at_p in
           let right = get_map (operation_in q.store.nodes) q.ops number y at_q in
           let both : Some (operation_in p.store.nodes x) ≡ Some (operation_in q.store.nodes y) = sym left ∙ (ap (λ (os : List Operation). slice_get os number) operations ∙ right) in
-          op_same x y (some_is (operation_in p.store.nodes x) (operation_in q.store.nodes y) both)
+          op_same x y (same_Some (operation_in p.store.nodes x) (operation_in q.store.nodes y) both)
 
     by_same : (kind : StepKind) → turn_by p flows a actor kind ≡ turn_by q flows b actor kind
     by_same (Do o) = ops_same o.0

@@ -1,5 +1,5 @@
 -- What a sink took of the text of a state.
-use Rattle.sig_plays.proofs.Common.{◌≡◌, ◌≤◌, ◌<◌, ◌++◌, ◌^◌, ℕ, ℤ, List, length, refl, ap, subst, arith, Option, None, Some, codes, flat_map, length-map, Place, IsCore, Shows, length_in, state_in, ActorState, Actor, Core as ModelCore, TookOf, actor_line, actor_pieces, lines_from, link_line, link_pieces, state_text, word_line, actor_of, Joins, TookPrefix, TookPrefix-longer, TookPrefix-then, some_is}
+use Rattle.sig_plays.proofs.Common.{◌≡◌, ◌≤◌, ◌<◌, ◌++◌, ◌^◌, ℕ, ℤ, List, length, refl, ap, subst, arith, Option, None, Some, codes, flat_map, length-map, Place, IsCore, Shows, length_in, state_in, ActorState, Actor, Core as ModelCore, TookOf, actor_line, actor_pieces, lines_from, link_line, link_pieces, state_text, word_line, actor_of, Joins, TookPrefix, TookPrefix-longer, TookPrefix-then, same_Some}
 use Rattle.sig_core.specs.declared.state.Core.{Core}
 
 -- ---- actors and links that a core tells of
@@ -8,7 +8,7 @@ pub actor_there : (o : Option Actor) (state : ActorState) → Some state ≡ sta
     → (actor : Actor) × (o ≡ Some actor) × ((k : ℕ) → flat_map (λ piece. piece) (actor_pieces k state.instant state.step state.ended) ≡ actor_line k actor)
 actor_there None state is = absurd (let e : Some state ≡ None = is in cc)
 actor_there (Some actor) state is =
-    let same = some_is state (record { instant = actor.instant; step = actor.step; ended = actor.ended }) is in
+    let same = same_Some state (record { instant = actor.instant; step = actor.step; ended = actor.ended }) is in
     (actor, refl, λ k. ap (λ (s : ActorState). flat_map (λ piece. piece) (actor_pieces k s.instant s.step s.ended)) same)
 
 pub no_actor : (o : Option Actor) → None ≡ state_in o → o ≡ None
@@ -19,7 +19,7 @@ pub link_there : (o : Option (List ℤ)) (count : ℕ) → Some count ≡ length
     → (items : List ℤ) × (o ≡ Some items) × ((j : ℕ) → flat_map (λ piece. piece) (link_pieces j count) ≡ link_line j items)
 link_there None count is = absurd (let e : Some count ≡ None = is in cc)
 link_there (Some items) count is =
-    let same = some_is count (length items) is in
+    let same = same_Some count (length items) is in
     (items, refl, λ j. ap (λ n. flat_map (λ piece. piece) (link_pieces j n)) same)
 
 pub no_link : (o : Option (List ℤ)) → None ≡ length_in o → o ≡ None

@@ -1,6 +1,4 @@
 pub mod Prelude
 pub mod Complete
-pub mod EventFiles
-pub mod Happening
 pub mod Plays
-pub mod StateLines
+pub mod inner

@@ -3,8 +3,8 @@
 -- The refusals of the command are tried in the order in which the equations below stand.
 use Rattle.std.specs.Prelude.{◌≡◌, ◌⊎◌}
 use Rattle.sig_plays.specs.Prelude.{ℕ, ℤ, Bool, List, map, Option, Some, Trace, FLOW_BYTES, PROGRAM_BYTES, Place, Contents, name_where_there, inputs_of, Kernel, PlanView, Ended, IsKernelEnd, IsPlanOf, Core, after, run_of, AreEvents, AreFlows, FileEvent, Settings, Holds, Outcome, Task, Writes, Refusal, IsAcceptedAs, AtPlan, HoldsBeyondBound, end_line, end_status, AtFlows, AtLinks, HasBegunRun, IsAboutRun, IsRunStatus}
-use Rattle.sig_plays.specs.EventFiles.{AtEvents, IsAboutEvents, happens}
-use Rattle.sig_plays.specs.Happening.{IsRest, played_text}
+use Rattle.sig_plays.specs.inner.EventFiles.{AtEvents, IsAboutEvents, happens}
+use Rattle.sig_plays.specs.inner.Happening.{IsRest, played_text}
 
 -- ---- the play
 

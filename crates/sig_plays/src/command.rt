@@ -1,13 +1,15 @@
 //! The command `play`: from the names of three files to a status.
 
 ghost use Rattle.std.specs.Prelude.{◌≡◌, ◌⊎◌, ◌≤◌};
-ghost use Rattle.sig_plays.specs.Prelude.{length, ITEMS, IsCore, Shows, AreFlowsFor, opening, Performs, SaysLine, IsAccepted, HoldFew, LacksMemory};
+ghost use Rattle.sig_plays.specs.Prelude.{length, ITEMS, Shows, AreFlowsFor, opening, Performs, SaysLine, IsAccepted, HoldFew, LacksMemory};
 ghost use Rattle.sig_plays.specs.Plays.{WritesPlay, playing};
+ghost use Rattle.sig_plays.specs.inner.Standing.{IsPlay};
 
 use crate::load::{Script, load_script};
+use crate::play::Play;
 use crate::writing::play_out;
 use sig_base::limits::INSTANTS_MAX;
-use sig_core::{Core, CoreAnswer};
+use sig_core::CoreAnswer;
 use sig_flow::FileEvent;
 use sig_kernel::Kernel;
 use sig_outcome::{refuse, say_fault, say_no_memory};
@@ -61,8 +63,8 @@ fn play_script<S: Sink, E: Sink>(
         ⊎ LacksMemory out.old out.new (SaysLine E.took (E.faults err.old) (E.faults err.new) err.old err.new) result }
 {
     let (plan, inputs) = (&script.loaded.plan, &script.loaded.inputs);
-    match Core::new(alloc, plan, inputs, settings.capacity, settings.instants) {
-        Ok(mut core) => play_core(&mut core, &plan.kernel, &script.events, out, err),
+    match Play::new(alloc, plan, inputs, settings) {
+        Ok(mut play) => play_through(&mut play, &plan.kernel, &script.events, out, err),
         Err(CoreAnswer::OutOfMemory) => {
             say_no_memory(err);
             7
@@ -70,24 +72,24 @@ fn play_script<S: Sink, E: Sink>(
     }
 }
 
-/// Plays events at the opening of a core, and says on `err` how the run ended.
-fn play_core<S: Sink, E: Sink>(
-    core: &mut Core<'_>,
+/// Plays events at the opening of a play, and says on `err` how the run ended.
+fn play_through<S: Sink, E: Sink>(
+    play: &mut Play<'_>,
     kernel: &Kernel,
     events: &[FileEvent],
     out: &mut S,
     err: &mut E,
 ) -> u8
-    requires core { IsCore core.old }
-    requires opening { Shows (opening core.old.plan.now) core.old }
-    requires accepted { IsAccepted core.old.plan.now }
-    requires links { length core.old.plan.now.links ≤ ITEMS }
-    requires kernel { kernel.now ≡ core.old.plan.now.kernel }
-    ensures { WritesPlay core.old.plan.now.kernel core.old.inputs.now core.old.capacity core.old.limit events.now
+    requires play { IsPlay play.old }
+    requires opening { Shows (opening play.old.core.plan.now) play.old.core }
+    requires accepted { IsAccepted play.old.core.plan.now }
+    requires links { length play.old.core.plan.now.links ≤ ITEMS }
+    requires kernel { kernel.now ≡ play.old.core.plan.now.kernel }
+    ensures { WritesPlay play.old.core.plan.now.kernel play.old.core.inputs.now play.old.core.capacity play.old.core.limit events.now
         S.took out.old out.new (S.faults out.old) (S.faults out.new) (S.clean out.new)
         (SaysLine E.took (E.faults err.old) (E.faults err.new) err.old err.new) result }
 {
-    match play_out(core, events, out) {
+    match play_out(play, events, out) {
         Ok(end) => {
             say_end(err, kernel, end);
             end_status(end.cause)

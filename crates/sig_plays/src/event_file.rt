@@ -2,7 +2,7 @@
 
 ghost use Rattle.std.specs.Prelude.{◌≡◌, ◌≢◌, ◌≤◌};
 ghost use Rattle.sig_plays.specs.Prelude.{Some, IfErr, IfOk, IfSome, length, AreEvents, Good, Reads, HasCount, IsOfData, IsOwn, outcome_of};
-ghost use Rattle.sig_plays.specs.EventFiles.{AtEvents, FindsEvents, IsAboutEvents, RefusesEvents, bad_events};
+ghost use Rattle.sig_plays.specs.inner.EventFiles.{AtEvents, FindsEvents, IsAboutEvents, RefusesEvents, bad_events};
 
 use sig_flow::{EventAnswer, FileEvent, read_events};
 use sig_outcome::{Refusal, read_data};

@@ -2,8 +2,8 @@
 
 ghost use Rattle.std.specs.Prelude.{◌≡◌, ◌≤◌};
 ghost use Rattle.sig_plays.specs.Prelude.{OnErr, OnOk, map, IsCore, IsSameRun, Rose, TookPrefix};
-ghost use Rattle.sig_plays.specs.EventFiles.{happens};
-ghost use Rattle.sig_plays.specs.Happening.{AllHappened, PartHappened};
+ghost use Rattle.sig_plays.specs.inner.EventFiles.{happens};
+ghost use Rattle.sig_plays.specs.inner.Happening.{AllHappened, PartHappened};
 
 use sig_core::{Core, Event};
 use sig_flow::FileEvent;

@@ -1,6 +1,6 @@
 //! The command `play`: a program and its flows are loaded by sig_runs and the events of an event file are
-//! read by sig_flow, the events happen one after another at the core of sig_core, and the state that they
-//! leave is written before the run is finished. What the command comes to is defined in
+//! read by sig_flow, the events happen one after another at the core of sig_core, the state that they leave
+//! is written, and then the rest of the text by a run of sig_alone. What the command comes to is defined in
 //! `specs/Plays.antt`. It stands on sig_outcome for what every command promises.
 #![tactic(auto)]
 
@@ -9,6 +9,9 @@ mod event_file;
 mod events;
 mod laws;
 mod load;
+mod plans;
+mod play;
+mod rest;
 mod state;
 mod writing;
 

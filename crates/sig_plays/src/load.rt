@@ -2,7 +2,7 @@
 
 ghost use Rattle.std.specs.Prelude.{◌≡◌};
 ghost use Rattle.sig_plays.specs.Prelude.{IfErr, IfOk, IfSome, FindsAccepted, AreFlowsFor, inputs_of, Good, Stops, FindsFlows, HoldFew, name_where_there};
-ghost use Rattle.sig_plays.specs.EventFiles.{FindsEvents};
+ghost use Rattle.sig_plays.specs.inner.EventFiles.{FindsEvents};
 ghost use Rattle.sig_plays.specs.Plays.{playing};
 
 use crate::event_file::load_events;

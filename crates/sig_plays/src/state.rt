@@ -2,8 +2,8 @@
 
 ghost use Rattle.std.specs.Prelude.{◌≡◌, ◌≤◌};
 ghost use Rattle.sig_plays.specs.Prelude.{OnErr, OnOk, flat_map, length, ITEMS, IsCore, Rose, TookPrefix};
-ghost use Rattle.sig_plays.specs.Happening.{TookOf};
-ghost use Rattle.sig_plays.specs.StateLines.{actor_line, actor_pieces, end_word, lines_from, link_line, link_pieces, place_pieces, state_text, word_line};
+ghost use Rattle.sig_plays.specs.inner.Happening.{TookOf};
+ghost use Rattle.sig_plays.specs.inner.StateLines.{actor_line, actor_pieces, end_word, lines_from, link_line, link_pieces, place_pieces, state_text, word_line};
 
 use itoa::Buffer;
 use sig_base::Place;

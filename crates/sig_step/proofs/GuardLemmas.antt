@@ -1,5 +1,5 @@
 -- The guards of an actor's slots, which are known in an instant once they were met.
-use Rattle.sig_step.proofs.Common.{◌≡◌, ◌<◌, ◌≤◌, ◌⊎◌, ◌∙◌, ◌&&◌, ℕ, Bool, true, false, List, length, get_or, slice_get, set, Option, None, Some, refl, sym, ap, subst, inl, inr, arith, length-set, eqb_tells, slice_get-get_or, slice_get_within, test, code_of, slot_holds, truths_of, IsRunnable, PlanView, Slot, Step, get_set_other, get_set_same, some_is, instant_of, seen_in, CountsNeeds, CountsWalk, IsSlotMet, AreMarks, KnowsGuard, known_in, mark_holds, mark_is_met, parent_holds, ClusterState, Mark}
+use Rattle.sig_step.proofs.Common.{◌≡◌, ◌<◌, ◌≤◌, ◌⊎◌, ◌∙◌, ◌&&◌, ℕ, Bool, true, false, List, length, get_or, slice_get, set, Option, None, Some, refl, sym, ap, subst, inl, inr, arith, length-set, eqb_tells, slice_get-get_or, slice_get_within, test, code_of, slot_holds, truths_of, IsRunnable, PlanView, Slot, Step, get_set_other, get_set_same, same_Some, instant_of, seen_in, CountsNeeds, CountsWalk, IsSlotMet, AreMarks, KnowsGuard, known_in, mark_holds, mark_is_met, parent_holds, ClusterState, Mark}
 
 and_drops : (p q : Bool) → (q ≡ true → p ≡ true) → (p && q) ≡ q
 and_drops true q h = refl
@@ -57,7 +57,7 @@ module _ (plan : PlanView) (s : ClusterState) (runnable : IsRunnable plan) (mark
         | inl same ↦
             let here : slice_get (set s.marks.items number new) k ≡ Some new =
             subst (λ (n : ℕ). slice_get (set s.marks.items number new) n ≡ Some new) (sym same.1) (get_set_same s.marks.items number new within_marks) in
-            inl (same.1, some_is new mark (sym here ∙ at_set))
+            inl (same.1, same_Some new mark (sym here ∙ at_set))
         | inr other ↦ inr (sym (get_set_other s.marks.items number k new other.1) ∙ at_set)
       ]
 
@@ -122,7 +122,7 @@ module _ (plan : PlanView) (s : ClusterState) (runnable : IsRunnable plan) (mark
       → ((holds : Bool) → known_in (instant_of s.values) (slice_get s.marks.items number) ≡ Some holds → ⊥)
       → (other : Slot) → slice_get (code_of plan s.actor).slots number ≡ Some other → CountsWalk plan s number other before after
   counts before after needs parent unknown other is =
-      let same : slot ≡ other = some_is slot other (sym there ∙ is) in
+      let same : slot ≡ other = same_Some slot other (sym there ∙ is) in
       let all : CountsWalk plan s number slot before after = record {
         needs = needs;
         met = λ met. absurd (unmet (slice_get s.marks.items number) refl unknown met);

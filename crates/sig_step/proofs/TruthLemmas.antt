@@ -1,5 +1,5 @@
 -- Truths that agree where a function depends on them, and guards that stay known while registers are written.
-use Rattle.sig_step.proofs.Common.{◌≡◌, ◌≢◌, ◌⊎◌, ◌+◌, ◌∙◌, ◌++◌, ℕ, zero, suc, ℤ, Bool, true, false, List, [], ◌∷◌, length, map, slice_get, None, Some, refl, sym, ap, subst, inl, inr, arith, append_assoc, length-append, eqb_tells, SigId, Depends, with_truth, Registers, is_true, truths_of, with_at, some_is}
+use Rattle.sig_step.proofs.Common.{◌≡◌, ◌≢◌, ◌⊎◌, ◌+◌, ◌∙◌, ◌++◌, ℕ, zero, suc, ℤ, Bool, true, false, List, [], ◌∷◌, length, map, slice_get, None, Some, refl, sym, ap, subst, inl, inr, arith, append_assoc, length-append, eqb_tells, SigId, Depends, with_truth, Registers, is_true, truths_of, with_at, same_Some}
 
 with_truth_at : (pre : List Bool) (t b : Bool) (ts : List Bool) → with_truth (pre ++ t ∷ ts) (length pre) b ≡ pre ++ b ∷ ts
 unfolding with_truth
@@ -45,7 +45,7 @@ agree_where_needed f ts us same h =
 
 map_get : {X Y : Type 0} (f : X → Y) (xs : List X) (j : ℕ) (y : Y) → slice_get (map f xs) j ≡ Some y → (x : X) × (slice_get xs j ≡ Some x) × (f x ≡ y)
 map_get f [] j y at = absurd (let e : None ≡ Some y = at in cc)
-map_get f (x ∷ xs) zero y at = (x, refl, some_is (f x) y at)
+map_get f (x ∷ xs) zero y at = (x, refl, same_Some (f x) y at)
 map_get f (x ∷ xs) (suc j) y at = map_get f xs j y at
 
 map_lengths : {X Y : Type 0} (f g : X → Y) (xs : List X) → length (map f xs) ≡ length (map g xs)
@@ -71,5 +71,5 @@ test_stays conditions f x v registers free =
     (λ j t u depends at_t at_u.
     let (a, at_a, is_t) = map_get old conditions j t at_t in
     let (b, at_b, is_u) = map_get new conditions j u at_u in
-    let same : a ≡ b = some_is a b (sym at_a ∙ at_b) in
+    let same : a ≡ b = same_Some a b (sym at_a ∙ at_b) in
     sym is_t ∙ truth_stays x v registers a (λ e. free j a at_a e depends) ∙ ap new same ∙ is_u)

@@ -1,5 +1,5 @@
 -- How many nodes the walk of a guard visits.
-use Rattle.sig_step.proofs.Common.{◌≡◌, ◌≢◌, ◌<◌, ◌≤◌, ◌+◌, ◌∙◌, ℕ, zero, suc, Bool, true, false, List, [], ◌∷◌, length, map, get_or, slice_get, Contains, Some, if◌then◌else◌, refl, sym, ap, inl, inr, arith, slice_get-get_or, SigId, proper, tests_spanned, IsProper, Tests-later, Choice, Constant, Diagram, Tests, truth_of, visited, Holds, IsReduced, diagram, Node, Ref, Registers, truths_of, some_is, CountsNeeds}
+use Rattle.sig_step.proofs.Common.{◌≡◌, ◌≢◌, ◌<◌, ◌≤◌, ◌+◌, ◌∙◌, ℕ, zero, suc, Bool, true, false, List, [], ◌∷◌, length, map, get_or, slice_get, Contains, Some, if◌then◌else◌, refl, sym, ap, inl, inr, arith, slice_get-get_or, SigId, proper, tests_spanned, IsProper, Tests-later, Choice, Constant, Diagram, Tests, truth_of, visited, Holds, IsReduced, diagram, Node, Ref, Registers, truths_of, same_Some, CountsNeeds}
 
 -- a list without the item at a place
 drop_at : ℕ → List ℕ → List ℕ
@@ -27,7 +27,7 @@ in_rest vs k v u below is later (j, within, at) =
     let other : j ≢ k = λ same.
     let at_k : slice_get vs k ≡ Some v = slice_get-get_or vs k v below ∙ ap Some is in
     let at_j : slice_get vs j ≡ Some u = slice_get-get_or vs j u within ∙ ap Some at in
-    let e : v ≡ u = some_is v u (sym at_k ∙ ap (slice_get vs) (sym same) ∙ at_j) in
+    let e : v ≡ u = same_Some v u (sym at_k ∙ ap (slice_get vs) (sym same) ∙ at_j) in
     omega (arith, later, e) in
     let (i, there, same) = drop_keeps k j vs u within other in
     (i, there, same ∙ at)

@@ -1,6 +1,6 @@
 -- Steps of an actor that runs within its limit.
 use Rattle.sig_step.proofs.Common.{◌≡◌, ◌≢◌, ◌≤◌, ◌+◌, ◌∙◌, inl, inr, ℕ, ℤ, Bool, true, false, List, length, nat_lt, slice_get, if◌then◌else◌, Option, None, Some, refl, sym, ap, subst, arith, cond, Kernel, Actor, code_of, guard_holds, moved_on, no_registers, Faults, Gives, Outcome, operated, outcome, AtLimit, Commits, Fails, Goes, Puts, Stopped, Takes, Turn, carried, received, turn, turn_at, turn_by, turn_of_op, turn_with, PlanView, Step, StepKind, Do, Send, Receive, Report, Collect, Commit, Op, Acts, CountsNone, TakesTurn, Asked, actor_of, Past, Queues, Acted, AtTheLimit, CommitDone, Done, Failed, Full, Empty, HasStopped, ClusterState, instant_of}
-use Rattle.sig_step.proofs.Going.{no_further}
+use Rattle.sig_step.proofs.WayInTheCode.{no_further}
 
 -- an actor that a step leaves amid its instant runs on in it
 abbrev pub StaysAmid : Actor → Actor → Type 0

@@ -4,3 +4,4 @@ pub mod GoingOn
 pub mod LinkEnds
 pub mod Moving
 pub mod States
+pub mod inner

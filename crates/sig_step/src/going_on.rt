@@ -78,6 +78,7 @@ impl ClusterState {
             if !ends.is_quiet() {
                 return acted;
             }
+            self.pass_over(plan, inputs, code);
         }
         self.act_once(plan, inputs, ends, steps)
     }

@@ -10,6 +10,7 @@ mod guards;
 mod making;
 mod moving;
 mod operating;
+mod passing;
 mod plans;
 mod putting;
 mod receiving;

@@ -1,8 +1,12 @@
 pub mod Common
 pub mod Functions
+pub mod LastOutputs
 pub mod Opening
+pub mod OutputLines
 pub mod Remainders
 pub use Common.*
 pub use Functions.*
+pub use LastOutputs.*
 pub use Opening.*
+pub use OutputLines.*
 pub use Remainders.*

@@ -1,5 +1,5 @@
 //! What functions give of values, the next values of inputs, and the initial values of delays. What that is,
-//! sig_model says.
+//! sig_model says. What the lines of a reaction are stands here too, in `specs/Lines.antt`.
 #![tactic(auto)]
 
 mod computed;

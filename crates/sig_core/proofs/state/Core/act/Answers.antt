@@ -1,4 +1,4 @@
-use Rattle.sig_core.proofs.{◌≡◌, ◌<◌, ◌≤◌, ℕ, arith, length, ap, refl, Some, slice_get, slice_index_or, err_from_is_err_and, commit_happened, kept_happened, past_act_keeps, past_act_tells, state_there, IsCore, IsSameRun, Core, Given, Act, ClusterState, TookPrefix}
+use Rattle.sig_core.proofs.{◌≡◌, ◌<◌, ◌≤◌, ℕ, arith, length, ap, refl, Some, slice_get, slice_index_or, err_from_is_err_and, commit_happened, lines_core, lines_happened, lines_touch, next_link, kept_happened, past_act_keeps, past_act_tells, state_there, IsCore, IsSameRun, Core, Given, Act, ClusterState, TookPrefix}
 use Rattle.sig_core.proofs.state.Core.act.Goals as goal
 
 past : (core : Core) (k len : ℕ) → len ≡ core.states.len → len ≤ k → length core.states.items ≤ k
@@ -15,20 +15,34 @@ returns-then-k-len-clause-happened g c =
 pub returns-then-k-len-clause-answer : goal.returns-then-k-len-clause-answer
 returns-then-k-len-clause-answer g c = past_act_tells c.args.self.now c.args.k (past c.args.self.now c.args.k c.len.result c.len.ensures c.if-k-len.true)
 
-pub returns-in_err-put_reaction-in-Commit-clause-part : goal.returns-in_err-put_reaction-in-Commit-clause-part
-returns-in_err-put_reaction-in-Commit-clause-part g c =
+pub returns-in_err-put_reaction_at_once-in-Commit-clause-part : goal.returns-in_err-put_reaction_at_once-in-Commit-clause-part
+returns-in_err-put_reaction_at_once-in-Commit-clause-part g c =
     let p = err_from_is_err_and c.from_residual.result c.from_residual.ensures.1 in
-    rw p.1 (commit_happened (TookPrefix g.S.Sink.took) c.args.self.now c.step.new.self c.args.k c.index.result.now (there c.args.self.now c.step.new.self c.requires c.in-Commit.ensures.core c.in-Commit.ensures.run c.args.k c.len.result c.len.ensures c.if-k-len.false c.index.result.now c.index.ensures)
+    rw p.1 (lines_happened c.step.new.self c.put_reaction_at_once.new.lines (TookPrefix g.S.Sink.took) (Act c.args.k) c.args.self.now c.args.sink.now c.put_reaction_at_once.new.sink
+    (commit_happened (TookPrefix g.S.Sink.took) c.args.self.now c.step.new.self c.args.k c.index.result.now (there c.args.self.now c.step.new.self c.requires c.in-Commit.ensures.core c.in-Commit.ensures.run c.args.k c.len.result c.len.ensures c.if-k-len.false c.index.result.now c.index.ensures)
     c.step.new.self.plan.now.kernel refl (ap (λ (given : Given). given.plan.kernel) c.in-Commit.ensures.run)
-    c.args.sink.now c.put_reaction.new.sink c.in_err-put_reaction-in-Commit.ensures.prefix c.in-Commit.ensures.stepped c.in-Commit.ensures.commits)
+    c.args.sink.now c.put_reaction_at_once.new.sink c.in_err-put_reaction_at_once-in-Commit.ensures.prefix c.in-Commit.ensures.stepped c.in-Commit.ensures.commits))
 
-pub returns-in_err-put_reaction-in-Commit-clause-changed : goal.returns-in_err-put_reaction-in-Commit-clause-changed
-returns-in_err-put_reaction-in-Commit-clause-changed g c =
+pub returns-in_err-put_reaction_at_once-in-Commit-clause-changed : goal.returns-in_err-put_reaction_at_once-in-Commit-clause-changed
+returns-in_err-put_reaction_at_once-in-Commit-clause-changed g c =
     let p = err_from_is_err_and c.from_residual.result c.from_residual.ensures.1 in
     rw p.1 c.in-Commit.ensures.answer
 
-pub returns-in_ok-put_reaction-in-Commit-clause-happened : goal.returns-in_ok-put_reaction-in-Commit-clause-happened
-returns-in_ok-put_reaction-in-Commit-clause-happened g c =
-    commit_happened g.S.Sink.took c.args.self.now c.step.new.self c.args.k c.index.result.now (there c.args.self.now c.step.new.self c.requires c.in-Commit.ensures.core c.in-Commit.ensures.run c.args.k c.len.result c.len.ensures c.if-k-len.false c.index.result.now c.index.ensures)
+pub returns-in_ok-put_reaction_at_once-in-Commit-clause-happened : goal.returns-in_ok-put_reaction_at_once-in-Commit-clause-happened
+returns-in_ok-put_reaction_at_once-in-Commit-clause-happened g c =
+    lines_happened c.step.new.self c.put_reaction_at_once.new.lines g.S.Sink.took (Act c.args.k) c.args.self.now c.args.sink.now c.put_reaction_at_once.new.sink
+    (commit_happened g.S.Sink.took c.args.self.now c.step.new.self c.args.k c.index.result.now (there c.args.self.now c.step.new.self c.requires c.in-Commit.ensures.core c.in-Commit.ensures.run c.args.k c.len.result c.len.ensures c.if-k-len.false c.index.result.now c.index.ensures)
     c.step.new.self.plan.now.kernel refl (ap (λ (given : Given). given.plan.kernel) c.in-Commit.ensures.run)
-    c.args.sink.now c.put_reaction.new.sink c.in_ok-put_reaction-in-Commit.ensures.all c.in-Commit.ensures.stepped c.in-Commit.ensures.commits
+    c.args.sink.now c.put_reaction_at_once.new.sink c.in_ok-put_reaction_at_once-in-Commit.ensures.all c.in-Commit.ensures.stepped c.in-Commit.ensures.commits)
+
+pub returns-in_err-put_reaction_at_once-in-Commit-clause-core : goal.returns-in_err-put_reaction_at_once-in-Commit-clause-core
+returns-in_err-put_reaction_at_once-in-Commit-clause-core g c = lines_core c.step.new.self c.put_reaction_at_once.new.lines c.in-Commit.ensures.core c.put_reaction_at_once.ensures.size
+
+pub returns-in_err-put_reaction_at_once-in-Commit-clause-touches : goal.returns-in_err-put_reaction_at_once-in-Commit-clause-touches
+returns-in_err-put_reaction_at_once-in-Commit-clause-touches g c = lines_touch c.step.new.self c.put_reaction_at_once.new.lines c.args.k (next_link c.args.self.now c.args.k) c.args.self.now c.in-Commit.ensures.touches
+
+pub returns-in_ok-put_reaction_at_once-in-Commit-clause-core : goal.returns-in_ok-put_reaction_at_once-in-Commit-clause-core
+returns-in_ok-put_reaction_at_once-in-Commit-clause-core g c = lines_core c.step.new.self c.put_reaction_at_once.new.lines c.in-Commit.ensures.core c.put_reaction_at_once.ensures.size
+
+pub returns-in_ok-put_reaction_at_once-in-Commit-clause-touches : goal.returns-in_ok-put_reaction_at_once-in-Commit-clause-touches
+returns-in_ok-put_reaction_at_once-in-Commit-clause-touches g c = lines_touch c.step.new.self c.put_reaction_at_once.new.lines c.args.k (next_link c.args.self.now c.args.k) c.args.self.now c.in-Commit.ensures.touches

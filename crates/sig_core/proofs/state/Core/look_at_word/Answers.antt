@@ -1,4 +1,4 @@
-use Rattle.sig_core.proofs.{◌≡◌, ◌<◌, ◌≤◌, ◌∙◌, ◌^◌, ap, arith, refl, rules, sym, Some, slice_get, with_item, slice_get_read, no_place, packed, Place, look_core, look_keeps, look_leaves, look_tells, set_past, Core, place_of, some_is}
+use Rattle.sig_core.proofs.{◌≡◌, ◌<◌, ◌≤◌, ◌∙◌, ◌^◌, ap, arith, refl, rules, sym, Some, slice_get, with_item, slice_get_read, no_place, packed, Place, look_core, look_keeps, look_leaves, look_tells, set_past, Core, place_of, same_Some}
 use Rattle.sig_core.proofs.state.Core.look_at_word.Goals as goal
 
 within : (c : goal.After-self-1) → c.args.k < c.args.self.now.states.len
@@ -11,7 +11,7 @@ there c = slice_get_read c.args.self.now.states.items c.args.self.now.states.len
 the_place : (c : goal.After-self-1) → c.next_place-place.result ≡ place_of c.index_mut.result.now
 the_place c =
     let read = slice_get_read c.args.self.now.states.items c.args.self.now.states.len c.args.k c.index.result.now c.args.self.now.states.ok.0 (within c) c.index.ensures in
-    c.next_place-place.ensures ∙ ap place_of (some_is c.index.result.now c.index_mut.result.now (sym read ∙ there c))
+    c.next_place-place.ensures ∙ ap place_of (same_Some c.index.result.now c.index_mut.result.now (sym read ∙ there c))
 
 position : (c : goal.After-self-1) → c.index_mut.result.now.pos < 2 ^ 32
 position c =

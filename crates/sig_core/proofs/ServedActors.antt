@@ -1,0 +1,235 @@
+-- Actors of a core that rest.
+use Rattle.sig_core.proofs.Common.{◌≡◌, ◌≢◌, ◌<◌, ◌≤◌, ◌-◌, ◌+◌, ◌*◌, ◌⊎◌, ◌∙◌, inl, inr, false, ℕ, zero, suc, List, [], ◌∷◌, length, map, refl, sym, ap, subst, arith, None, Option, Some, min, slice_get, mul-le-mul_right, suc-mul, Happened, IsCore, IsReached, IsSameRun, IsWord, Shows, TellsChange, given_of, left_in, IsStill, after_of, queues_of, IsLow, KeepsBelow, RestBelow, Rests, SeesNothing, Serves, Touches, left_behind, link_at, link_by, link_of, next_link, Core, some_at, at_most_or, Actor, code_of, ModelCore, Given, acted, items_on, looked, stepped, Act, Look, NamesWithin, IsAccepted, PlanView, Step, StepKind, Do, Send, Receive, Report, Collect, Commit, LinkInfo, step_names, step_coded, LinkQueue, actor_of, ClusterState, same_Some}
+use Rattle.sig_core.proofs.WhatIsLeft.{get_map}
+use Rattle.sig_core.proofs.ActorsAtRest.{act_rests, has_end, look_rests}
+use Rattle.sig_core.proofs.FailureWord.{word_once}
+
+get_map_none : {X Y : Type 0} (f : X → Y) (xs : List X) (k : ℕ) → slice_get xs k ≡ None → slice_get (map f xs) k ≡ None
+get_map_none f [] k none = refl
+get_map_none f (x ∷ xs) zero none = absurd (let e : Some x ≡ None = none in cc)
+get_map_none f (x ∷ xs) (suc k) none = get_map_none f xs k none
+
+-- a step that names a link names one that is there
+names_there : (plan : PlanView) → IsAccepted plan → (k number : ℕ) (step : Step) → slice_get (code_of plan k).steps number ≡ Some step → (j : ℕ) → link_of step.kind ≡ Some j → j < length plan.links
+names_there plan accepted k number step at j names = by step.kind (step_names plan accepted k (code_of plan k) (step_coded plan k number step at) number step at) names where
+  by : (kind : StepKind) → NamesWithin (length plan.ops) (length plan.links) kind → link_of kind ≡ Some j → j < length plan.links
+  by (Do o) named is = absurd (let e : None ≡ Some j = is in cc)
+  by (Send l) named is = subst (λ n. n < length plan.links) (same_Some l j is) named
+  by (Receive l) named is = subst (λ n. n < length plan.links) (same_Some l j is) named
+  by (Report l) named is = subst (λ n. n < length plan.links) (same_Some l j is) named
+  by (Collect l) named is = subst (λ n. n < length plan.links) (same_Some l j is) named
+  by Commit named is = absurd (let e : None ≡ Some j = is in cc)
+
+-- an actor has one of the ends of the link that its next step uses
+pub at_end : (c : Core) → IsAccepted c.plan.now → (i j : ℕ) → next_link c i ≡ Some j → (info : LinkInfo) × (slice_get c.plan.now.links j ≡ Some info) × ((i ≡ info.writer) ⊎ (i ≡ info.reader))
+at_end c accepted i j names = by (slice_get c.states.items i) names where
+  at_step : (number : ℕ) (step : Option Step) → slice_get (code_of c.plan.now i).steps number ≡ step → link_at step ≡ Some j
+      → (info : LinkInfo) × (slice_get c.plan.now.links j ≡ Some info) × ((i ≡ info.writer) ⊎ (i ≡ info.reader))
+  at_step number None at there = absurd (let e : None ≡ Some j = there in cc)
+  at_step number (Some step) at there =
+      let (info, found) = some_at c.plan.now.links j (names_there c.plan.now accepted i number step at j there) in
+      (info, found, has_end c.plan.now accepted i number step at j info found there)
+
+  by : (o : Option ClusterState) → link_by c.plan.now i o ≡ Some j → (info : LinkInfo) × (slice_get c.plan.now.links j ≡ Some info) × ((i ≡ info.writer) ⊎ (i ≡ info.reader))
+  by None there = absurd (let e : None ≡ Some j = there in cc)
+  by (Some s) there = at_step s.step (slice_get (code_of c.plan.now i).steps s.step) refl there
+
+-- An actor that rests in a state of one core rests in each state of another one, where its own state, its link and the word
+-- are the same.
+module _ (old new : Core) (is : IsCore old) (same : IsSameRun old new) (accepted : IsAccepted old.plan.now) (m : ModelCore) (shows : Shows m old) (word : new.word ≡ old.word)
+    (i : ℕ) (own : slice_get new.states.items i ≡ slice_get old.states.items i) (link : (j : ℕ) → next_link old i ≡ Some j → queues_of new.lists j ≡ queues_of old.lists j)
+    (n : ModelCore) (shows_n : Shows n new) where
+  abbrev given : Given
+  given = given_of old
+
+  there_none : slice_get old.states.items i ≡ None → slice_get n.actors i ≡ None
+  there_none none = ap (λ (xs : List Actor). slice_get xs i) shows_n.actors ∙ get_map_none actor_of new.states.items i (own ∙ none)
+
+  module _ (s : ClusterState) (at : slice_get old.states.items i ≡ Some s) where
+    inside : (actor_of s).step < length (code_of given.plan i).steps
+    inside = subst (λ x. s.step < length (code_of given.plan x).steps) (is.states i s at).number (is.states i s at).state.step
+
+    at_m : slice_get m.actors i ≡ Some (actor_of s)
+    at_m = ap (λ (xs : List Actor). slice_get xs i) shows.actors ∙ get_map actor_of old.states.items i s at
+
+    at_n : slice_get n.actors i ≡ Some (actor_of s)
+    at_n = ap (λ (xs : List Actor). slice_get xs i) shows_n.actors ∙ get_map actor_of new.states.items i s (own ∙ at)
+
+    words : n.word ≡ m.word
+    words = word_once n.word m.word old.word (subst (IsWord n.word) word shows_n.word) shows.word
+
+    links : (j : ℕ) → link_at (slice_get (code_of given.plan i).steps s.step) ≡ Some j → items_on n j ≡ items_on m j
+    links j names = shows_n.links j ∙ ap (λ (q : LinkQueue). q.items) (link j (ap (link_by given.plan i) at ∙ names)) ∙ sym (shows.links j)
+
+    look_some : stepped given m (Look i) ≡ m → stepped given n (Look i) ≡ n
+    look_some before = look_rests given accepted i (actor_of s) inside m n at_m at_n words links before
+
+    act_some : stepped given m (Act i) ≡ m → stepped given n (Act i) ≡ n
+    act_some before = act_rests given accepted i (actor_of s) inside m n at_m at_n words links before
+
+  pub look_on : stepped given m (Look i) ≡ m → stepped (given_of new) n (Look i) ≡ n
+  look_on before = subst (λ (g : Given). stepped g n (Look i) ≡ n) (sym same) (by (slice_get old.states.items i) refl) where
+    by : (o : Option ClusterState) → slice_get old.states.items i ≡ o → stepped given n (Look i) ≡ n
+    by None at = ap (looked given.plan i n) (there_none at)
+    by (Some s) at = look_some s at before
+
+  act_on : stepped given m (Act i) ≡ m → stepped (given_of new) n (Act i) ≡ n
+  act_on before = subst (λ (g : Given). stepped g n (Act i) ≡ n) (sym same) (by (slice_get old.states.items i) refl) where
+    by : (o : Option ClusterState) → slice_get old.states.items i ≡ o → stepped given n (Act i) ≡ n
+    by None at = ap (acted given i n) (there_none at)
+    by (Some s) at = act_some s at before
+
+  pub still_on : IsStill old m i → IsStill new n i
+  still_on before = (look_on before.0, act_on before.1)
+
+-- what rests in one state of a core rests in each
+pub rests_in : (c : Core) → IsCore c → IsAccepted c.plan.now → (m : ModelCore) → Shows m c → (i : ℕ) → IsStill c m i → Rests c i
+rests_in c is accepted m shows i before n shows_n = still_on c c is refl accepted m shows refl i refl (λ j names. refl) n shows_n before
+
+pub looks_in : (c : Core) → IsCore c → IsAccepted c.plan.now → (m : ModelCore) → Shows m c → (i : ℕ) → stepped (given_of c) m (Look i) ≡ m
+    → (n : ModelCore) → Shows n c → stepped (given_of c) n (Look i) ≡ n
+looks_in c is accepted m shows i before n shows_n = look_on c c is refl accepted m shows refl i refl (λ j names. refl) n shows_n before
+
+-- an actor that an event of another one does not touch rests on
+pub rests_on : (old new : Core) → IsCore old → IsSameRun old new → IsAccepted old.plan.now → (m : ModelCore) → Shows m old → (k : ℕ) (link : Option ℕ) → Touches k link old new → new.word ≡ old.word
+    → (i : ℕ) → i ≢ k → ((j : ℕ) → link ≡ Some j → next_link old i ≡ Some j → ⊥) → IsStill old m i → Rests new i
+rests_on old new is same accepted m shows k link touches word i other apart before n shows_n =
+    still_on old new is same accepted m shows word i (touches.states i other) (λ j names. touches.links j (λ here. apart j here names)) n shows_n before
+
+-- so it does where the link that its next step uses stays as it is
+pub rests_where : (old new : Core) → IsCore old → IsSameRun old new → IsAccepted old.plan.now → (m : ModelCore) → Shows m old → new.word ≡ old.word
+    → (i : ℕ) → slice_get new.states.items i ≡ slice_get old.states.items i → ((j : ℕ) → next_link old i ≡ Some j → queues_of new.lists j ≡ queues_of old.lists j) → IsStill old m i → Rests new i
+rests_where old new is same accepted m shows word i own link before n shows_n = still_on old new is same accepted m shows word i own link n shows_n before
+
+suc-mul' : (a n : ℕ) → (a + 1) * n ≡ a * n + n
+suc-mul' a n = ap (λ x. x * n) (let e : a + 1 ≡ suc a = omega arith in e) ∙ suc-mul a n
+
+-- less is left where less was, or one more actor rests
+pub left_falls_by : (old new : Core) (k next : ℕ) → length new.states.items ≡ length old.states.items → left_in new < left_in old → left_behind new next < left_behind old k
+left_falls_by old new k next count less = by (left_in new) (left_in old) (length new.states.items) (length old.states.items) count less where
+  by : (a b n n2 : ℕ) → n ≡ n2 → a < b → a * (n + 1) + (n - next) < b * (n2 + 1) + (n2 - k)
+  by a b n n2 same lt =
+      let over : (a + 1) * (n + 1) ≤ b * (n + 1) = mul-le-mul_right (n + 1) (omega (arith, lt)) in
+      let row : (a + 1) * (n + 1) ≡ a * (n + 1) + (n + 1) = suc-mul' a (n + 1) in
+      let rows : b * (n + 1) ≡ b * (n2 + 1) = ap (λ x. b * (x + 1)) same in
+      omega (arith, over, row, rows)
+
+-- ---- an actor that was served
+
+module _ {S : Type 0} (took : S → List ℕ → S → Type 0) (old new : Core) (is_old : IsCore old) (is_new : IsCore new) (same : IsSameRun old new) (accepted : IsAccepted old.plan.now)
+    (reached : IsReached old) (k : ℕ) (there : k < length old.states.items) (rest : RestBelow k old) where
+  abbrev m : ModelCore
+  m = after_of old reached.0
+
+  shows : Shows m old
+  shows = reached.1
+
+  count : length new.states.items ≡ length old.states.items
+  count =
+      let before = is_old.actors in
+      let behind = is_new.actors in
+      let codes = ap (λ (given : Given). length given.plan.codes) same in
+      omega (arith, before, behind, codes)
+
+  pub none_rest : (less : left_in new < left_in old) → Serves k old new 0
+  none_rest less = record { within = omega arith; rest = λ i lt. absurd (omega (arith, lt)); less = left_falls_by old new k 0 count less }
+
+  -- it looked, and ended
+  pub looked_serves : Touches k None old new → new.word ≡ old.word → left_in new < left_in old → Serves k old new k
+  looked_serves touches word less = record {
+    within = (let c = count in omega (arith, c, there));
+    rest = λ i lt. rests_on old new is_old same accepted m shows k None touches word i (λ e. omega (arith, e, lt)) (λ j names names_i. let e : None ≡ Some j = names in cc) (rest i lt m shows);
+    less = left_falls_by old new k k count less;
+  }
+
+  -- it did a step
+  pub stepped_serves : (low : ℕ) → IsLow old k low → Touches k (next_link old k) old new → new.word ≡ old.word → left_in new < left_in old → Serves k old new low
+  stepped_serves low is_low touches word less = record {
+    within = (let c = count in let own = is_low.own in omega (arith, c, there, own));
+    rest = λ i lt.
+        let own = is_low.own in
+        rests_on old new is_old same accepted m shows k (next_link old k) touches word i (λ e. omega (arith, e, lt, own)) (λ j names names_i. is_low.apart i lt j names names_i)
+        (rest i (omega (arith, lt, own)) m shows);
+    less = left_falls_by old new k low count less;
+  }
+
+  -- it did a step for which no actor below a number waits
+  pub kept_serves : (low : ℕ) → low ≤ k → (link : Option ℕ) → Touches k link old new → KeepsBelow low old new → new.word ≡ old.word → left_in new < left_in old → Serves k old new low
+  kept_serves low own link touches keeps word less = record {
+    within = (let c = count in omega (arith, c, there, own));
+    rest = λ i lt.
+        rests_where old new is_old same accepted m shows word i (touches.states i (λ e. omega (arith, e, lt, own))) (keeps i lt) (rest i (omega (arith, lt, own)) m shows);
+    less = left_falls_by old new k low count less;
+  }
+
+  -- it has no event that changes something
+  module _ (looks : SeesNothing k old) (tells : TellsChange old (Act k) false) (before after_it : S) (happened : Happened took (Act k) old new before after_it) where
+    shows_new : Shows m new
+    shows_new = subst (λ n. Shows n new) (tells m shows) (happened m shows).0
+
+    accepted_new : IsAccepted new.plan.now
+    accepted_new = subst (λ (given : Given). IsAccepted given.plan) (sym same) accepted
+
+    still : (i : ℕ) → i < k + 1 → IsStill old m i
+    still i lt = elim (at_most_or k i) [
+      | inl le ↦ subst (IsStill old m) (let e : k ≡ i = omega (arith, le, lt) in e) (looks m shows, tells m shows)
+      | inr below ↦ rest i below m shows
+    ]
+
+    pub resting_serves : left_in new ≡ left_in old → Serves k old new (k + 1)
+    resting_serves stays = record {
+      within = (let c = count in omega (arith, c, there));
+      rest = λ i lt. rests_in new is_new accepted_new m shows_new i (subst (λ (given : Given). (stepped given m (Look i) ≡ m) × (stepped given m (Act i) ≡ m)) (sym same) (still i lt));
+      less =
+          let c = count in
+          let rows : left_in new * (length new.states.items + 1) ≡ left_in old * (length old.states.items + 1) = ap (λ n. n * (length new.states.items + 1)) stays ∙ ap (λ n. left_in old * (n + 1)) c in
+          omega (arith, rows, c, there);
+    }
+
+-- ---- the least of an actor and the one that waits at the other end of its link
+
+pub low_alone : (c : Core) (k : ℕ) → next_link c k ≡ None → IsLow c k k
+low_alone c k none = record { own = omega arith; apart = λ i lt j names names_i. let e : None ≡ Some j = sym none ∙ names in cc }
+
+module _ (c : Core) (accepted : IsAccepted c.plan.now) (k j : ℕ) (names : next_link c k ≡ Some j) (other : ℕ)
+    (least : (link : LinkInfo) → slice_get c.plan.now.links j ≡ Some link → other ≡ min link.writer link.reader) where
+  -- the actors of the link are not below the lesser one of its ends
+  not_below : (i : ℕ) → next_link c i ≡ Some j → other ≤ i
+  not_below i names_i =
+      let (info, there, end) = at_end c accepted i j names_i in
+      let is = least info there in
+      elim end [ inl same ↦ grind (arith, is, same) | inr same ↦ grind (arith, is, same) ]
+
+  -- one below the actor k is the one at the other end
+  is_other : (i : ℕ) → i < k → next_link c i ≡ Some j → i ≡ other
+  is_other i lt names_i =
+      let (info, there, end) = at_end c accepted i j names_i in
+      let (mine, there_k, end_k) = at_end c accepted k j names in
+      by info (least info there) end (subst (λ (x : LinkInfo). (k ≡ x.writer) ⊎ (k ≡ x.reader)) (same_Some mine info (sym there_k ∙ there)) end_k) where
+        by : (x : LinkInfo) → other ≡ min x.writer x.reader → (i ≡ x.writer) ⊎ (i ≡ x.reader) → (k ≡ x.writer) ⊎ (k ≡ x.reader) → i ≡ other
+        by x is (inl same) (inl same_k) = absurd (omega (arith, lt, same, same_k))
+        by x is (inl same) (inr same_k) = grind (arith, is, lt, same, same_k)
+        by x is (inr same) (inl same_k) = grind (arith, is, lt, same, same_k)
+        by x is (inr same) (inr same_k) = absurd (omega (arith, lt, same, same_k))
+
+  here : (l : ℕ) → next_link c k ≡ Some l → l ≡ j
+  here l names_l = same_Some l j (sym names_l ∙ names)
+
+  -- it is below, and waits there
+  pub low_other : other < k → IsLow c k other
+  low_other lt = record {
+    own = omega (arith, lt);
+    apart = λ i below l names_l names_i.
+        let least_i = not_below i (names_i ∙ ap (λ n. Some n) (here l names_l)) in
+        omega (arith, below, least_i);
+  }
+
+  -- it is not below, or does not wait there
+  pub low_own : (other < k → next_link c other ≡ Some j → ⊥) → IsLow c k k
+  low_own apart = record {
+    own = omega arith;
+    apart = λ i below l names_l names_i.
+        let names_j : next_link c i ≡ Some j = names_i ∙ ap (λ n. Some n) (here l names_l) in
+        let same = is_other i below names_j in
+        apart (omega (arith, same, below)) (subst (λ n. next_link c n ≡ Some j) same names_j);
+  }

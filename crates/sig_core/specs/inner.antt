@@ -1,0 +1,6 @@
+-- Definitions that no other crate cites.
+pub mod Acting
+pub mod First
+pub mod GoingOn
+pub mod Making
+pub mod Resting
