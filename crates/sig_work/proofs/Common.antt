@@ -30,18 +30,18 @@ pub use Rattle.sig_step.specs.States.{cause_of_op as cause_of_step, last_reactio
 pub use Rattle.sig_step.specs.declared.answer.Acted.{Acted}
 pub use Rattle.sig_step.specs.declared.answer.Acted.TheVariants.{Done, Empty}
 pub use Rattle.sig_step.specs.declared.state.ClusterState.{ClusterState}
-pub use Rattle.sig_step.proofs.Common.{Acts, ActsOn, DoesSteps, IsSameActor, IsStateOf, Past, PastGoesOn, Queues, TookPrefix, actor_of, cause_by, err_from_is_err_and, instant_of, place_of, slice_get_read, some_is}
+pub use Rattle.sig_step.proofs.Common.{Acts, ActsOn, DoesSteps, IsSameActor, IsStateOf, Past, PastGoesOn, Queues, TookPrefix, actor_of, cause_by, err_from_is_err_and, instant_of, place_of, slice_get_read, same_Some}
 pub use Rattle.sig_alone.proofs.Common.{IsWholeRun, Joins, TookPrefix-longer, TookPrefix-then, TookSome, length-map}
-pub use Rattle.sig_work.specs.Among.{AreSingle, HasNone, HasNoneIn, Is, IsAmong, StandsAt, times, times_in}
-pub use Rattle.sig_work.specs.Dealing.{AreHandedFrom, AreJoined, AreNumbered, AreOpened, AreSeated, HasGiven, HasGivenPut, HasGivenTake, HaveRoom, HaveSameSeats, IsJoinedLink, IsOpened, IsSameBare, share_for}
+pub use Rattle.sig_work.specs.inner.Among.{AreSingle, HasNone, HasNoneIn, Is, IsAmong, StandsAt, times, times_in}
+pub use Rattle.sig_work.specs.inner.Dealing.{AreHandedFrom, AreJoined, AreNumbered, AreOpened, AreSeated, HasGiven, HasGivenPut, HasGivenTake, HaveRoom, HaveSameSeats, IsJoinedLink, IsOpened, IsSameBare, share_for}
 pub use Rattle.sig_work.specs.Ends.{AreSameEnds, AreSameEnds-itself, HasEnds, HasFoundEmpty, HasFoundFull, HasNoEnds, has_put, has_take, past_of, puts_of, sent_by, sent_of, taken_by, taken_of, takes_of}
 pub use Rattle.sig_work.specs.Gathered.{AreAll, AreDealt, AreDone, AreLinked, AreTogether, BeginsTheRun, HoldFinished, IsEndOfRun, IsFresh, IsShareOf}
 pub use Rattle.sig_work.specs.Members.{EndsWith, HasActedAs, HasDone, IsBehindSeen, IsMember, IsSameMember, before_stop, commits_of, failure_in, is_collector, own_of, run_of, word_of}
-pub use Rattle.sig_work.specs.Rounds.{ArePastZero, ChangedBelow, GoesOn, HasEndedAt, HasStopped, HaveEndedAt, IsOfRun, IsPastZero, IsServed, IsServedInSome, IsShareOfSome, KeepsMember, KeepsSeat, KeepsShare, KeepsShares, ServesMember, ServesShare, ServesShares, ShareStopped, SharesStopped}
+pub use Rattle.sig_work.specs.inner.Rounds.{ArePastZero, ChangedBelow, GoesOn, HasEndedAt, HasStopped, HaveEndedAt, IsOfRun, IsPastZero, IsServed, IsServedInSome, IsShareOfSome, KeepsMember, KeepsSeat, KeepsShare, KeepsShares, ServesMember, ServesShare, ServesShares, ShareStopped, SharesStopped}
 pub use Rattle.sig_work.specs.Running.{AreBegun, AreBegunInSome, AreKept, IsOfClusters, IsOfSomeClusters, IsOneOf, IsServedAs, IsUnfaulted, WereHalted, WereRun}
-pub use Rattle.sig_work.specs.Settling.{AreLeft, AreLeftEnds, AreSettledBelow, But, Each, From, HasNoPut, HasNoTake, HaveRoomFor, IsLeftMember, IsLeftShare, IsLinked, IsPutOf, IsSettledLink, IsTakeOf}
+pub use Rattle.sig_work.specs.inner.Settling.{AreLeft, AreLeftEnds, AreSettledBelow, But, Each, From, HasNoPut, HasNoTake, HaveRoomFor, IsLeftMember, IsLeftShare, IsLinked, IsPutOf, IsSettledLink, IsTakeOf}
 pub use Rattle.sig_work.specs.Shares.{AllEnded, AreOfRun, AreOfSomeRun, AreSameShares, AreServing, HasCollector, HasOneCollector, HasSeat, HaveCollector, HaveDone, HaveEnded, HaveOneCollector, IsSameShare, IsServing, NoneFaulted, WereServed, WereStopped, least_failed}
-pub use Rattle.sig_work.specs.Words.{AreSeatsOf, HasActors, IsClosed, IsIn, IsInFirst, IsJoined, IsLeastOf, IsLeastWord, IsOfFirst, IsWord, NamesCause}
+pub use Rattle.sig_work.specs.inner.Words.{AreSeatsOf, HasActors, IsClosed, IsIn, IsInFirst, IsJoined, IsLeastOf, IsLeastWord, IsOfFirst, IsWord, NamesCause}
 pub use Rattle.sig_work.specs.declared.ends.LinkEnds.{LinkEnds}
 pub use Rattle.sig_work.specs.declared.finding.Spot.{Spot}
 pub use Rattle.sig_work.specs.declared.member.Ending.{Ending}

@@ -1,8 +1,8 @@
 -- Actors that were dealt to shares.
-use Rattle.sig_work.proofs.Common.{◌≡◌, ◌<◌, ◌≤◌, ◌+◌, ◌-◌, ◌*◌, ◌/◌, ◌%◌, ◌++◌, ◌∙◌, inl, inr, ℕ, zero, suc, ℤ, Bool, true, false, cond, List, [], ◌∷◌, length, refl, ap, sym, subst, arith, None, Option, Some, min, slice_get, sum_by, vec_capacity, ◌==◌, ◌||◌, eq-eqb, eqb-true, mod-eq_of_lt, mul_comm, length-append, sum_by-cons, sum_by_push, no_place, get_within, IsSeatOf, halt_parts, parts, recorded, seen, Halt, HaltSeat, OfOneLink, Put, Take, some_at, same_or_not, Actor, opening_actor, Given, Reaction, IsAccepted, PlanView, opening_own, IsStateOf, actor_of, place_of, ClusterState, some_is, IsAmong, times, times_in, AreHandedFrom, AreJoined, AreNumbered, AreOpened, AreSeated, HasGiven, IsOpened, IsSameBare, share_for, HasEnds, HasNoEnds, sent_by, sent_of, taken_by, taken_of, AreDealt, IsFresh, IsShareOf, is_collector, EndsWith, HasDone, IsBehindSeen, IsMember, before_stop, commits_of, failure_in, own_of, word_of, AreServing, least_failed, Member, Share}
-use Rattle.sig_work.proofs.Giving.{placed_here, seats_here, times_here, times_others}
-use Rattle.sig_work.proofs.Leaving.{same_sums}
-use Rattle.sig_work.proofs.Placing.{get_more}
+use Rattle.sig_work.proofs.Common.{◌≡◌, ◌<◌, ◌≤◌, ◌+◌, ◌-◌, ◌*◌, ◌/◌, ◌%◌, ◌++◌, ◌∙◌, inl, inr, ℕ, zero, suc, ℤ, Bool, true, false, cond, List, [], ◌∷◌, length, refl, ap, sym, subst, arith, None, Option, Some, min, slice_get, sum_by, vec_capacity, ◌==◌, ◌||◌, eq-eqb, eqb-true, mod-eq_of_lt, mul_comm, length-append, sum_by-cons, sum_by_push, no_place, get_within, IsSeatOf, halt_parts, parts, recorded, seen, Halt, HaltSeat, OfOneLink, Put, Take, some_at, same_or_not, Actor, opening_actor, Given, Reaction, IsAccepted, PlanView, opening_own, IsStateOf, actor_of, place_of, ClusterState, same_Some, IsAmong, times, times_in, AreHandedFrom, AreJoined, AreNumbered, AreOpened, AreSeated, HasGiven, IsOpened, IsSameBare, share_for, HasEnds, HasNoEnds, sent_by, sent_of, taken_by, taken_of, AreDealt, IsFresh, IsShareOf, is_collector, EndsWith, HasDone, IsBehindSeen, IsMember, before_stop, commits_of, failure_in, own_of, word_of, AreServing, least_failed, Member, Share}
+use Rattle.sig_work.proofs.GivenMembers.{placed_here, seats_here, times_here, times_others}
+use Rattle.sig_work.proofs.WhatIsLeft.{same_sums}
+use Rattle.sig_work.proofs.ItemInPlace.{get_more}
 
 -- ---- opening
 
@@ -46,13 +46,13 @@ joined_none plan flows limit count capacity members opened = record {
               let lt = get_within m.ends.puts.items j (Some put) at in
               let count_puts = none.puts in
               let e : Some (Some put) ≡ Some None = sym at ∙ none.no_put j (omega (arith, lt, count_puts)) in
-              let clash : Some put ≡ None = some_is (Some put) None e in
+              let clash : Some put ≡ None = same_Some (Some put) None e in
               cc));
           taken_none = λ j. taken_nothing (slice_get m.ends.takes.items j) (λ take at. (
               let lt = get_within m.ends.takes.items j (Some take) at in
               let count_takes = none.takes in
               let e : Some (Some take) ≡ Some None = sym at ∙ none.no_take j (omega (arith, lt, count_takes)) in
-              let clash : Some take ≡ None = some_is (Some take) None e in
+              let clash : Some take ≡ None = same_Some (Some take) None e in
               cc));
         }),
   );
@@ -223,7 +223,7 @@ module _ (given : Given) (accepted : IsAccepted given.plan) (zeroth members : Li
       let many = joined.count in
       let b = some_at zeroth k (let lt = get_within members k m is in omega (arith, lt, many)) in
       let found = joined.each k b.0 b.1 in
-      (b.0, opened.each k b.0 b.1, subst (λ (x : Member). IsSameBare (length given.plan.links) b.0 x) (some_is found.0 m (sym found.1 ∙ is)) found.2)
+      (b.0, opened.each k b.0 b.1, subst (λ (x : Member). IsSameBare (length given.plan.links) b.0 x) (same_Some found.0 m (sym found.1 ∙ is)) found.2)
 
   pub numbered : AreNumbered members
   numbered k m is = let b = bare_of k m is in b.2.number ∙ b.1.number
@@ -253,11 +253,11 @@ module _ (given : Given) (accepted : IsAccepted given.plan) (zeroth members : Li
       takes = b.2.takes;
       writes = λ link info at writer. (
           let j = joined.joined link info (get_within given.plan.links link info at) at in
-          let same : j.writer ≡ m = some_is j.writer m (sym j.writes ∙ ap (slice_get members) writer ∙ is) in
+          let same : j.writer ≡ m = same_Some j.writer m (sym j.writes ∙ ap (slice_get members) writer ∙ is) in
           (j.put, ap (λ (x : Member). slice_get x.ends.puts.items link) (sym same) ∙ j.has_put, j.capacity_is));
       reads = λ link info at reader. (
           let j = joined.joined link info (get_within given.plan.links link info at) at in
-          let same : j.reader ≡ m = some_is j.reader m (sym j.reads ∙ ap (slice_get members) reader ∙ is) in
+          let same : j.reader ≡ m = same_Some j.reader m (sym j.reads ∙ ap (slice_get members) reader ∙ is) in
           (j.take, ap (λ (x : Member). slice_get x.ends.takes.items link) (sym same) ∙ j.has_take));
     }
 
@@ -318,7 +318,7 @@ module _ (given : Given) (accepted : IsAccepted given.plan) (zeroth members : Li
         let many = handed.seats.count in
         let e = some_at empty at (let lt = get_within shares at share there in omega (arith, lt, many)) in
         let found = handed.seats.each at e.0 e.1 in
-        (e.0, e.1, ap (λ (s : Share). s.seat) (some_is share found.0 (sym there ∙ found.1)) ∙ found.2)
+        (e.0, e.1, ap (λ (s : Share). s.seat) (same_Some share found.0 (sym there ∙ found.1)) ∙ found.2)
 
     pub serving : AreServing given word [] shares
     serving at share there =
@@ -344,11 +344,11 @@ module _ (given : Given) (accepted : IsAccepted given.plan) (zeroth members : Li
             omega (arith, more, none));
         linked = λ link info at w one r two put take is_put is_take. (
             let j = joined.joined link info (get_within given.plan.links link info at) at in
-            let w_is : j.writer ≡ w = some_is j.writer w (sym j.writes ∙ among_is info.writer w one) in
-            let r_is : j.reader ≡ r = some_is j.reader r (sym j.reads ∙ among_is info.reader r two) in
-            let put_is : Some j.put ≡ Some put = some_is (Some j.put) (Some put) (sym j.has_put ∙ ap (λ (x : Member). slice_get x.ends.puts.items link) w_is ∙ is_put) in
-            let take_is : Some j.take ≡ Some take = some_is (Some j.take) (Some take) (sym j.has_take ∙ ap (λ (x : Member). slice_get x.ends.takes.items link) r_is ∙ is_take) in
-            subst (λ p. OfOneLink p take) (some_is j.put put put_is) (subst (λ t. OfOneLink j.put t) (some_is j.take take take_is) j.one));
+            let w_is : j.writer ≡ w = same_Some j.writer w (sym j.writes ∙ among_is info.writer w one) in
+            let r_is : j.reader ≡ r = same_Some j.reader r (sym j.reads ∙ among_is info.reader r two) in
+            let put_is : Some j.put ≡ Some put = same_Some (Some j.put) (Some put) (sym j.has_put ∙ ap (λ (x : Member). slice_get x.ends.puts.items link) w_is ∙ is_put) in
+            let take_is : Some j.take ≡ Some take = same_Some (Some j.take) (Some take) (sym j.has_take ∙ ap (λ (x : Member). slice_get x.ends.takes.items link) r_is ∙ is_take) in
+            subst (λ p. OfOneLink p take) (same_Some j.put put put_is) (subst (λ t. OfOneLink j.put t) (same_Some j.take take take_is) j.one));
         parts = same_sums (λ (share : Share). parts share.seat) empty shares handed.seats.count (λ at e there. (
             let found = handed.seats.each at e there in
             (found.0, found.1, ap parts found.2))) ∙ seated.parts_are ∙ sym all_parts;

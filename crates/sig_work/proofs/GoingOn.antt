@@ -1,6 +1,6 @@
 -- Reactions that were committed one behind another.
 use Rattle.sig_work.proofs.Common.{◌≡◌, ◌++◌, ◌⊎◌, ◌∙◌, inl, inr, ℕ, ℤ, true, List, [], ◌∷◌, append_assoc, refl, ap, sym, subst, append-nil, Halt, HaltSeat, outputs_of, seen_lines, Kernel, Given, reactions_text, Reaction, PlanView, joined_append, Joins, TookPrefix, TookPrefix-then, is_collector, run_of, GoesOn, IsOfRun, IsServed, IsServedInSome, IsShareOfSome, KeepsMember, KeepsShare, KeepsShares, ServesMember, ServesShare, ServesShares, AreOfRun, AreOfSomeRun, HasCollector, HaveCollector, Member, Share}
-use Rattle.sig_work.proofs.Keeping.{have_collector_on, has_collector_on, is_collector_on}
+use Rattle.sig_work.proofs.WhatStays.{have_collector_on, has_collector_on, is_collector_on}
 
 -- a taking, and then one of another kind, are one of that kind
 abbrev pub JoinsTo : {S : Type 0} → (S → List ℕ → S → Type 0) → (S → List ℕ → S → Type 0) → Type 0

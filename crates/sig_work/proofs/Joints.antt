@@ -1,6 +1,6 @@
 -- Members that get the ends of links.
-use Rattle.sig_work.proofs.Common.{◌≡◌, ◌<◌, ◌+◌, ◌∙◌, inl, inr, ℕ, List, [], length, set, refl, ap, sym, subst, arith, Some, slice_get, length-set, get_within, OfOneLink, put_capacity, sent, taken, Put, Take, some_at, same_or_not, LinkInfo, set_here, some_is, AreJoined, HasGivenPut, HasGivenTake, IsJoinedLink, IsSameBare, sent_by, taken_by, But, Each, IsLeftMember, Member}
-use Rattle.sig_work.proofs.Placing.{set_apart}
+use Rattle.sig_work.proofs.Common.{◌≡◌, ◌<◌, ◌+◌, ◌∙◌, inl, inr, ℕ, List, [], length, set, refl, ap, sym, subst, arith, Some, slice_get, length-set, get_within, OfOneLink, put_capacity, sent, taken, Put, Take, some_at, same_or_not, LinkInfo, set_here, same_Some, AreJoined, HasGivenPut, HasGivenTake, IsJoinedLink, IsSameBare, sent_by, taken_by, But, Each, IsLeftMember, Member}
+use Rattle.sig_work.proofs.ItemInPlace.{set_apart}
 
 module _ (members : List Member) (k link : ℕ) where
   pub given_put : (put : Put) (old new : Member) → slice_get members k ≡ Some old → IsLeftMember (But link) Each old new → slice_get new.ends.puts.items link ≡ Some (Some put)
@@ -11,7 +11,7 @@ module _ (members : List Member) (k link : ℕ) where
     here = λ before same. (
       new,
       set_here members k new old at,
-      subst (λ (m : Member). IsLeftMember (But link) Each m new) (some_is old before (sym at ∙ same)) left,
+      subst (λ (m : Member). IsLeftMember (But link) Each m new) (same_Some old before (sym at ∙ same)) left,
       is,
     );
   }
@@ -24,7 +24,7 @@ module _ (members : List Member) (k link : ℕ) where
     here = λ before same. (
       new,
       set_here members k new old at,
-      subst (λ (m : Member). IsLeftMember Each (But link) m new) (some_is old before (sym at ∙ same)) left,
+      subst (λ (m : Member). IsLeftMember Each (But link) m new) (same_Some old before (sym at ∙ same)) left,
       is,
     );
   }
@@ -68,7 +68,7 @@ module _ (links : List LinkInfo) (capacity n : ℕ) (old now : List Member) (joi
       let there = get_within now info.writer m is in
       let before = some_at old info.writer (omega (arith, many, there)) in
       let found = joined.each info.writer before.0 before.1 in
-      let same : found.0 ≡ m = some_is found.0 m (sym found.1 ∙ is) in
+      let same : found.0 ≡ m = same_Some found.0 m (sym found.1 ∙ is) in
       let puts = found.2.puts in
       subst (λ (x : Member). n < length x.ends.puts.items) same (omega (arith, puts, lt))
 
@@ -79,7 +79,7 @@ module _ (links : List LinkInfo) (capacity n : ℕ) (old now : List Member) (joi
       let there = get_within now k m is in
       let before = some_at old k (omega (arith, many, there)) in
       let found = joined.each k before.0 before.1 in
-      let same : found.0 ≡ m = some_is found.0 m (sym found.1 ∙ is) in
+      let same : found.0 ≡ m = same_Some found.0 m (sym found.1 ∙ is) in
       let takes = found.2.takes in
       subst (λ (x : Member). n < length x.ends.takes.items) same (omega (arith, takes, lt))
 
@@ -91,7 +91,7 @@ module _ (links : List LinkInfo) (capacity n : ℕ) (old now : List Member) (joi
         let there = get_within mid info.reader m is in
         let w = some_at now info.writer (omega (arith, more, there, same)) in
         let after = gave.here w.0 w.1 in
-        let m_is : after.0 ≡ m = some_is after.0 m (sym after.1 ∙ ap (slice_get mid) (sym same) ∙ is) in
+        let m_is : after.0 ≡ m = same_Some after.0 m (sym after.1 ∙ ap (slice_get mid) (sym same) ∙ is) in
         let count = after.2.ends.takes_count in
         let room = takes_count info.writer w.0 w.1 in
         subst (λ (x : Member). n < length x.ends.takes.items) m_is (omega (arith, count, room))
@@ -175,7 +175,7 @@ module _ (links : List LinkInfo) (capacity n : ℕ) (old now mid new : List Memb
         (y.0, y.1, y.3 before (x.3 before m.2)));
     joined = λ link other below is. elim (same_or_not link n) [
       | inl same ↦
-          let info_is : info ≡ other = some_is info other (sym at ∙ ap (slice_get links) (sym same) ∙ is) in
+          let info_is : info ≡ other = same_Some info other (sym at ∙ ap (slice_get links) (sym same) ∙ is) in
           subst (λ j. IsJoinedLink capacity new j other) (sym same) (subst (λ i. IsJoinedLink capacity new n i) info_is newest)
       | inr apart ↦ older link other apart (joined.joined link other (omega (arith, below, apart)) is)
     ];

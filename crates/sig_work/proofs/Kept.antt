@@ -1,9 +1,9 @@
 -- Shares of one run that change hands, and what their services come to together.
-use Rattle.sig_work.proofs.Common.{◌≡◌, ◌+◌, ◌++◌, ◌∙◌, ◌⊎◌, inl, inr, ℕ, zero, suc, Bool, true, false, cond, List, [], ◌∷◌, length, refl, ap, sym, subst, arith, append_assoc, None, Some, slice_get, sum_by, ◌==◌, eqb-true, length-append, flat_map-append, sum_by-append, sum_by_push, get_within, parts, Halt, outputs_of, seen_lines, Kernel, some_at, Given, reactions_text, Reaction, Joins, TookPrefix, TookPrefix-then, some_is, AreSingle, times_in, HasDone, commits_of, is_collector, AreBegun, AreKept, IsOfClusters, IsOneOf, IsUnfaulted, WereHalted, WereRun, AreOfRun, AreSameShares, HasCollector, HaveDone, HaveOneCollector, IsSameShare, IsServing, WereServed, WereStopped, Member, Share}
-use Rattle.sig_work.proofs.Counting.{same_number, same_share}
-use Rattle.sig_work.proofs.Keeping.{same_member, same_member_then, same_seat_then}
-use Rattle.sig_work.proofs.Leaving.{same_sums}
-use Rattle.sig_work.proofs.Placing.{get_back, get_either, get_front}
+use Rattle.sig_work.proofs.Common.{◌≡◌, ◌+◌, ◌++◌, ◌∙◌, ◌⊎◌, inl, inr, ℕ, zero, suc, Bool, true, false, cond, List, [], ◌∷◌, length, refl, ap, sym, subst, arith, append_assoc, None, Some, slice_get, sum_by, ◌==◌, eqb-true, length-append, flat_map-append, sum_by-append, sum_by_push, get_within, parts, Halt, outputs_of, seen_lines, Kernel, some_at, Given, reactions_text, Reaction, Joins, TookPrefix, TookPrefix-then, same_Some, AreSingle, times_in, HasDone, commits_of, is_collector, AreBegun, AreKept, IsOfClusters, IsOneOf, IsUnfaulted, WereHalted, WereRun, AreOfRun, AreSameShares, HasCollector, HaveDone, HaveOneCollector, IsSameShare, IsServing, WereServed, WereStopped, Member, Share}
+use Rattle.sig_work.proofs.CountedMembers.{same_number, same_share}
+use Rattle.sig_work.proofs.WhatStays.{same_member, same_member_then, same_seat_then}
+use Rattle.sig_work.proofs.WhatIsLeft.{same_sums}
+use Rattle.sig_work.proofs.ItemInPlace.{get_back, get_either, get_front}
 
 -- ---- one of a list
 
@@ -22,7 +22,7 @@ one_single x = (0, refl)
 pub is_single : (x y : Share) → IsOneOf (x ∷ []) y → x ≡ y
 is_single x y one = by one.0 one.1 where
   by : (at : ℕ) → slice_get (x ∷ []) at ≡ Some y → x ≡ y
-  by zero is = some_is x y is
+  by zero is = same_Some x y is
   by (suc at) is = absurd (let e : None ≡ Some y = is in cc)
 
 -- ---- the same share
@@ -50,7 +50,7 @@ kept_same old new same = record {
       let count = same.count in
       let before = some_at old one.0 (let lt = get_within new one.0 after one.1 in omega (arith, lt, count)) in
       let found = same.each one.0 before.0 before.1 in
-      let is : found.0 ≡ after = some_is found.0 after (sym found.1 ∙ one.1) in
+      let is : found.0 ≡ after = same_Some found.0 after (sym found.1 ∙ one.1) in
       (before.0, (one.0, before.1), subst (λ (s : Share). IsSameShare before.0 s) is found.2));
   times_are = λ k. same_sums (λ (s : Share). times_in k s) old new same.count (λ at before there. (
       let found = same.each at before there in

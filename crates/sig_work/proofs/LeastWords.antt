@@ -1,6 +1,6 @@
 -- The least word of members, joined part by part, and the seats of shares joined.
-use Rattle.sig_work.proofs.Common.{◌≡◌, ◌<◌, ◌≤◌, ◌+◌, ◌++◌, ◌^◌, ◌∙◌, ◌⊎◌, inl, inr, ℕ, zero, suc, List, [], ◌∷◌, length, refl, ap, sym, subst, arith, None, Some, min, slice_get, sum_by-cons, no_place, get_within, parts, recorded, seen, HaltSeat, at_most_or, same_or_not, place_of, some_is, IsAmong, failure_in, word_of, IsClosed, IsIn, IsInFirst, IsJoined, IsLeastOf, IsLeastWord, IsOfFirst, Member, Share}
-use Rattle.sig_work.proofs.Placing.{get_more}
+use Rattle.sig_work.proofs.Common.{◌≡◌, ◌<◌, ◌≤◌, ◌+◌, ◌++◌, ◌^◌, ◌∙◌, ◌⊎◌, inl, inr, ℕ, zero, suc, List, [], ◌∷◌, length, refl, ap, sym, subst, arith, None, Some, min, slice_get, sum_by-cons, no_place, get_within, parts, recorded, seen, HaltSeat, at_most_or, same_or_not, place_of, same_Some, IsAmong, failure_in, word_of, IsClosed, IsIn, IsInFirst, IsJoined, IsLeastOf, IsLeastWord, IsOfFirst, Member, Share}
+use Rattle.sig_work.proofs.ItemInPlace.{get_more}
 
 -- ---- the least word
 
@@ -64,7 +64,7 @@ pub first_more : (share : Share) (n v : ℕ) (m : Member) (f : ℕ) → IsLeastO
 first_more share n v m f least at is within position =
     least_joined (IsInFirst n share) (λ x. m ≡ x) (IsInFirst (n + 1) share) v f least (least_of_one m f is within position)
     (λ x inside. elim (same_or_not inside.0 n) [
-      | inl same ↦ inr (some_is m x (sym at ∙ ap (slice_get share.members.items) (sym same) ∙ inside.2))
+      | inl same ↦ inr (same_Some m x (sym at ∙ ap (slice_get share.members.items) (sym same) ∙ inside.2))
       | inr apart ↦ inl (inside.0, (let lt = inside.1 in omega (arith, lt, apart)), inside.2)
     ])
     (λ x inside. (inside.0, (let lt = inside.1 in omega (arith, lt)), inside.2))
@@ -85,7 +85,7 @@ shares_more shares n v share f least at here =
     least_joined (IsOfFirst n shares) (IsIn share) (IsOfFirst (n + 1) shares) v f least here
     (λ x inside. elim (same_or_not inside.0 n) [
       | inl same ↦
-          let s_is : share ≡ inside.1 = some_is share inside.1 (sym at ∙ ap (slice_get shares) (sym same) ∙ inside.3) in
+          let s_is : share ≡ inside.1 = same_Some share inside.1 (sym at ∙ ap (slice_get shares) (sym same) ∙ inside.3) in
           inr (subst (λ (s : Share). IsIn s x) (sym s_is) inside.4)
       | inr apart ↦ inl (inside.0, inside.1, (let lt = inside.2 in omega (arith, lt, apart)), inside.3, inside.4)
     ])
@@ -130,7 +130,7 @@ joined_more first mid last shares share joined parts_last recorded_last seen_las
 } where
   each : (f : HaltSeat → ℕ) → f last ≡ min (f mid) (f share.seat) → ((at : ℕ) (s : Share) → slice_get shares at ≡ Some s → f mid ≤ f s.seat)
       → (at : ℕ) (s : Share) → slice_get (share ∷ shares) at ≡ Some s → f last ≤ f s.seat
-  each f is rest zero s there = (let same = ap (λ (x : Share). f x.seat) (some_is share s there) in omega (arith, is, same))
+  each f is rest zero s there = (let same = ap (λ (x : Share). f x.seat) (same_Some share s there) in omega (arith, is, same))
   each f is rest (suc at) s there = (let more = rest at s there in omega (arith, is, more))
 
 -- all seats in the last one

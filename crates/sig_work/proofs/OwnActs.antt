@@ -2,7 +2,7 @@
 use Rattle.sig_work.proofs.Common.{◌≡◌, ◌<◌, ◌≤◌, ◌+◌, ◌++◌, ◌∙◌, inl, inr, ℕ, zero, suc, ℤ, true, false, cond, List, [], ◌∷◌, length, refl, ap, sym, subst, None, Option, Some, nat_lt, slice_get, eq-eqb, Place, same_or_not, Actor, code_of, ended_at, next_place, position_of, Given, Commits, Fails, Goes, Puts, Reaction, Stopped, Takes, Turn, turn, turn_at, IsAccepted, PlanView, HasTurned, IsOwn, Own, Acts, MayUse, ActsOn, DoesSteps, AllStay, Asked, LinkPast, OthersStay, Past, PastGoesOn, Queues, IsSameActor, IsStateOf, actor_of, last_reaction, place_of, Acted, Done, ClusterState, AreSameEnds, AreSameEnds-itself, HasEnds, past_of, puts_of, sent_of, taken_of, takes_of, EndsWith, HasActedAs, HasDone, IsMember, before_stop, failure_in, own_of, LinkEnds, Ending, Failed, AtLimit as EndedAtLimit, Member}
 use Rattle.sig_model.specs.Turns.{AtLimit}
 use Rattle.sig_step.specs.GoingOn.{DoesStep}
-use Rattle.sig_work.proofs.Keeping.{same_ends_then}
+use Rattle.sig_work.proofs.WhatStays.{same_ends_then}
 use Rattle.sig_work.proofs.OwnTurns.{IsTurn, is_turn, may_use, own_more}
 
 -- the same links, with the same capacities

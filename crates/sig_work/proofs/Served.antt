@@ -1,6 +1,6 @@
 -- A member that did a step, which ended it or not.
 use Rattle.sig_work.proofs.Common.{◌≡◌, ◌<◌, ◌≤◌, ◌+◌, ◌^◌, ◌∙◌, ℕ, ℤ, Bool, true, false, List, refl, ap, sym, subst, arith, None, Option, Some, IsTrue, ◌↔◌, min, no_place, packed, Place, IsSameSeat, recorded, seen, Halt, HaltSeat, Actor, Given, Reaction, PlanView, IsOwn, Own, IsStateOf, actor_of, place_of, ClusterState, AreSameEnds-itself, sent_of, taken_of, EndsWith, HasDone, IsBehindSeen, before_stop, failure_in, own_of, word_of, HasStopped, IsServed, KeepsMember, KeepsSeat, Ending, Failed, Looked, AtLimit, Faulted, Member}
-use Rattle.sig_work.proofs.Lifting.{behind_lower}
+use Rattle.sig_work.proofs.LiftedShares.{behind_lower}
 
 -- a member whose actor runs has no ending
 pub no_ending : (ending : Option Ending) (ended : Bool) → EndsWith ending ended → ended ≡ false → ending ≡ None

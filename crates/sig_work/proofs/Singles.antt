@@ -1,5 +1,5 @@
 -- One share of clusters that was served by itself.
-use Rattle.sig_work.proofs.Common.{◌≡◌, ◌+◌, ◌∙◌, ℕ, zero, suc, ℤ, List, [], ◌∷◌, length, get_or, refl, ap, sym, subst, arith, Err, None, Ok, OnErr, OnOk, Result, Some, slice_get, ◌==◌, get_at, get_within, Halt, some_at, Given, Reaction, PlanView, Rose, some_is, run_of, IsOfClusters, IsServedAs, AreOfRun, AreSameShares, HasCollector, IsSameShare, IsServing, WereServed, Member, Share}
+use Rattle.sig_work.proofs.Common.{◌≡◌, ◌+◌, ◌∙◌, ℕ, zero, suc, ℤ, List, [], ◌∷◌, length, get_or, refl, ap, sym, subst, arith, Err, None, Ok, OnErr, OnOk, Result, Some, slice_get, ◌==◌, get_at, get_within, Halt, some_at, Given, Reaction, PlanView, Rose, same_Some, run_of, IsOfClusters, IsServedAs, AreOfRun, AreSameShares, HasCollector, IsSameShare, IsServing, WereServed, Member, Share}
 use Rattle.sig_work.proofs.Kept.{serves_clusters}
 
 -- a sink that never fails has no fault
@@ -8,7 +8,7 @@ only_ok (Ok x) P none all = all
 only_ok (Err e) P none all = absurd (omega (arith, none))
 
 at_single : (share : Share) (at : ℕ) (s : Share) → slice_get (share ∷ []) at ≡ Some s → (at ≡ 0) × (share ≡ s)
-at_single share zero s is = (refl, some_is share s is)
+at_single share zero s is = (refl, same_Some share s is)
 at_single share (suc at) s is = absurd (let e : None ≡ Some s = is in cc)
 
 pub run_single : (given : Given) (word : Halt) (share : Share) → IsOfClusters given word share → AreOfRun given word [] (share ∷ [])
@@ -28,7 +28,7 @@ had_collector given a b same has =
     let lt = get_within b.members.items has.0 has.1 has.2 in
     let m = some_at a.members.items has.0 (omega (arith, lt, count)) in
     let after = same.members has.0 m.0 m.1 in
-    let is : after.0 ≡ has.1 = some_is after.0 has.1 (sym after.1 ∙ has.2) in
+    let is : after.0 ≡ has.1 = same_Some after.0 has.1 (sym after.1 ∙ has.2) in
     let number : m.0.number ≡ has.1.number = sym after.2.number ∙ ap (λ (x : Member). x.number) is in
     (has.0, m.0, m.1, ap (λ i. i + 1 == length given.plan.codes) number ∙ has.3)
 
@@ -43,7 +43,7 @@ module _ (plan : PlanView) (flows : List (List ℤ)) (word : Halt) (old : Share)
   same_share =
       let all : AreSameShares (old ∷ []) shares = subst (λ (xs : List Share). AreSameShares xs shares) is_single same in
       let found = all.each 0 old refl in
-      subst (λ (s : Share). IsSameShare old s) (some_is found.0 new (sym found.1 ∙ new_at)) found.2
+      subst (λ (s : Share). IsSameShare old s) (same_Some found.0 new (sym found.1 ∙ new_at)) found.2
 
   module _ {S X E : Type 0} (took : S → List ℕ → S → Type 0) (before after : S) (answer : Result X E) (none : OnErr answer (Rose 0 0))
       (some : (capacity : ℕ) × (limit : ℕ) × IsOfClusters (run_of plan flows capacity limit) word old)

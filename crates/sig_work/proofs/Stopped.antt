@@ -1,7 +1,7 @@
 -- Shares after a service, and after a stop.
-use Rattle.sig_work.proofs.Common.{◌≡◌, ◌≤◌, ◌+◌, ◌∙◌, inl, inr, ℕ, List, [], length, set, refl, ap, sym, subst, arith, Some, ◌++◌, if◌then◌else◌, slice_get, length-set, get_within, IsSeatOf, Halt, some_at, same_or_not, Given, Reaction, set_here, some_is, HasDone, commits_of, is_collector, ArePastZero, ChangedBelow, GoesOn, HasStopped, IsPastZero, KeepsShare, KeepsShares, ShareStopped, SharesStopped, AreOfRun, AreSameShares, HaveCollector, HaveDone, HaveEnded, IsSameShare, WereServed, WereStopped, Member, Share}
+use Rattle.sig_work.proofs.Common.{◌≡◌, ◌≤◌, ◌+◌, ◌∙◌, inl, inr, ℕ, List, [], length, set, refl, ap, sym, subst, arith, Some, ◌++◌, if◌then◌else◌, slice_get, length-set, get_within, IsSeatOf, Halt, some_at, same_or_not, Given, Reaction, set_here, same_Some, HasDone, commits_of, is_collector, ArePastZero, ChangedBelow, GoesOn, HasStopped, IsPastZero, KeepsShare, KeepsShares, ShareStopped, SharesStopped, AreOfRun, AreSameShares, HaveCollector, HaveDone, HaveEnded, IsSameShare, WereServed, WereStopped, Member, Share}
 use Rattle.sig_work.proofs.EndLemmas.{set_apart}
-use Rattle.sig_work.proofs.Keeping.{none_faulted, same_member_then, same_seat_then}
+use Rattle.sig_work.proofs.WhatStays.{none_faulted, same_member_then, same_seat_then}
 
 -- ---- one element after another
 
@@ -16,7 +16,7 @@ module _ {A : Type 0} (R : A → A → Type 0) (old : List A) where
       | inl same ↦ (
         y,
         ap (λ (xs : List A). slice_get xs j) items ∙ ap (slice_get (set mid count y)) same ∙ set_here mid count y x at,
-        subst (λ (z : A). R z y) (some_is x before (sym at ∙ is.above count (omega arith) ∙ ap (slice_get old) (sym same) ∙ there)) related,
+        subst (λ (z : A). R z y) (same_Some x before (sym at ∙ is.above count (omega arith) ∙ ap (slice_get old) (sym same) ∙ there)) related,
       )
       | inr apart ↦
           let p = is.below j before (omega (arith, lt, apart)) there in
@@ -36,14 +36,14 @@ pub member_ran : (old new : Share) → ShareStopped old new → (number : ℕ) (
 member_ran old new stopped number n is =
     let found = some_at old.members.items number (let lt = get_within new.members.items number n is in let count = stopped.count in omega (arith, lt, count)) in
     let now = stopped.members number found.0 found.1 in
-    (found.0, found.1, subst (HasStopped found.0) (some_is now.0 n (sym now.1 ∙ is)) now.2)
+    (found.0, found.1, subst (HasStopped found.0) (same_Some now.0 n (sym now.1 ∙ is)) now.2)
 
 pub share_ran : (old new : List Share) → SharesStopped old new → (number : ℕ) (t : Share) → slice_get new number ≡ Some t
     → (s : Share) × (slice_get old number ≡ Some s) × ShareStopped s t
 share_ran old new stopped number t is =
     let found = some_at old number (let lt = get_within new number t is in let count = stopped.count in omega (arith, lt, count)) in
     let now = stopped.each number found.0 found.1 in
-    (found.0, found.1, subst (ShareStopped found.0) (some_is now.0 t (sym now.1 ∙ is)) now.2)
+    (found.0, found.1, subst (ShareStopped found.0) (same_Some now.0 t (sym now.1 ∙ is)) now.2)
 
 pub stopped_same : (a b c : List Share) → KeepsShares a b → SharesStopped b c → AreSameShares a c
 stopped_same a b c keeps stopped = record {

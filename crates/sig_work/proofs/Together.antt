@@ -1,7 +1,7 @@
 -- The actors of all shares, put together: their links are balanced.
-use Rattle.sig_work.proofs.Common.{◌≡◌, ◌<◌, ◌≤◌, ◌+◌, ◌++◌, ◌∙◌, inl, inr, ℕ, ℤ, cond, List, [], length, ap, sym, subst, arith, None, Option, Some, slice_get, slice_index_or, eq-eqb, IsPrefixOf, get_at, get_within, Halt, output_text, some_at, at_most_or, Given, reactions_text, Reaction, plan_operations, ends_within, operations_in, IsAccepted, PlanView, LinkInfo, after_begins, IsOwn, Own, opening_own, AreBalanced, acts, collector_of, some_is, AreSingle, IsAmong, times, sent_by, taken_by, AreAll, AreTogether, BeginsTheRun, HasDone, commits_of, own_of, AreSettledBelow, HaveRoomFor, Member, Share}
-use Rattle.sig_work.proofs.Choosing.{chosen}
-use Rattle.sig_work.proofs.Counting.{same_member, some_member}
+use Rattle.sig_work.proofs.Common.{◌≡◌, ◌<◌, ◌≤◌, ◌+◌, ◌++◌, ◌∙◌, inl, inr, ℕ, ℤ, cond, List, [], length, ap, sym, subst, arith, None, Option, Some, slice_get, slice_index_or, eq-eqb, IsPrefixOf, get_at, get_within, Halt, output_text, some_at, at_most_or, Given, reactions_text, Reaction, plan_operations, ends_within, operations_in, IsAccepted, PlanView, LinkInfo, after_begins, IsOwn, Own, opening_own, AreBalanced, acts, collector_of, same_Some, AreSingle, IsAmong, times, sent_by, taken_by, AreAll, AreTogether, BeginsTheRun, HasDone, commits_of, own_of, AreSettledBelow, HaveRoomFor, Member, Share}
+use Rattle.sig_work.proofs.ChoicesBelow.{chosen}
+use Rattle.sig_work.proofs.CountedMembers.{same_member, some_member}
 use Rattle.sig_work.proofs.Settled.{StepsInterleave}
 
 -- a number has one member
@@ -126,7 +126,7 @@ module _ (given : Given) (accepted : IsAccepted given.plan) (committed : List Re
     held_by j lt =
         let link = some_at given.plan.links j lt in
         let held = held_here j link.0 link.1 lt in
-        (held.0, λ info at. subst (λ (i : LinkInfo). ((own i.writer).sent j ≡ (own i.reader).taken j ++ held.0) × (length held.0 ≤ given.capacity)) (some_is link.0 info (sym link.1 ∙ at)) (held.1, held.2))
+        (held.0, λ info at. subst (λ (i : LinkInfo). ((own i.writer).sent j ≡ (own i.reader).taken j ++ held.0) × (length held.0 ≤ given.capacity)) (same_Some link.0 info (sym link.1 ∙ at)) (held.1, held.2))
 
     abbrev pub all_held : (ls : List (List ℤ)) × (length ls ≡ length given.plan.links) × ((j : ℕ) (items : List ℤ) → slice_get ls j ≡ Some items → HeldBy j items)
     all_held = chosen HeldBy (length given.plan.links) held_by

@@ -1,8 +1,8 @@
 -- A whole run: what was dealt and then served comes to the end of the run.
-use Rattle.sig_work.proofs.Common.{◌≡◌, ◌<◌, ◌≤◌, ◌-◌, ◌+◌, ◌++◌, ◌∙◌, inl, inr, ℕ, ℤ, List, [], ◌∷◌, length, refl, ap, sym, subst, arith, None, Option, Some, slice_get, eqb-true, length-append, IsWholeRun, TookSome, IsLongest, Trace, Place, get_within, Halt, IsKernelTrace, output_text, AreFlowsFor, OfOneLink, Put, Take, some_at, at_most_or, IsEnd, Given, reactions_text, Reaction, IsAccepted, PlanView, LinkInfo, text_is, TookPrefix, TookPrefix-longer, some_is, AreSingle, IsAmong, times, AreAll, AreDealt, AreDone, AreTogether, BeginsTheRun, IsEndOfRun, IsSameMember, run_of, AreBegun, AreKept, IsOfClusters, WereHalted, WereRun, HaveEnded, IsServing, NoneFaulted, Faulted, Member, Share}
+use Rattle.sig_work.proofs.Common.{◌≡◌, ◌<◌, ◌≤◌, ◌-◌, ◌+◌, ◌++◌, ◌∙◌, inl, inr, ℕ, ℤ, List, [], ◌∷◌, length, refl, ap, sym, subst, arith, None, Option, Some, slice_get, eqb-true, length-append, IsWholeRun, TookSome, IsLongest, Trace, Place, get_within, Halt, IsKernelTrace, output_text, AreFlowsFor, OfOneLink, Put, Take, some_at, at_most_or, IsEnd, Given, reactions_text, Reaction, IsAccepted, PlanView, LinkInfo, text_is, TookPrefix, TookPrefix-longer, same_Some, AreSingle, IsAmong, times, AreAll, AreDealt, AreDone, AreTogether, BeginsTheRun, IsEndOfRun, IsSameMember, run_of, AreBegun, AreKept, IsOfClusters, WereHalted, WereRun, HaveEnded, IsServing, NoneFaulted, Faulted, Member, Share}
 use Rattle.sig_plan.specs.declared.ended.Ended.{Ended}
-use Rattle.sig_work.proofs.Counting.{some_member}
-use Rattle.sig_work.proofs.Placing.{get_front, get_last, get_more}
+use Rattle.sig_work.proofs.CountedMembers.{some_member}
+use Rattle.sig_work.proofs.ItemInPlace.{get_front, get_last, get_more}
 
 -- ---- all shares, as dealt and as kept
 
@@ -65,7 +65,7 @@ module _ (given : Given) (workers : ℕ) (word : Halt) (dealt : List Share) (are
         let lt = get_within one.share.members.items one.number m one.is in
         let b = some_at before.0.members.items one.number (omega (arith, lt, many)) in
         let after = before.2.members one.number b.0 b.1 in
-        let same : after.0 ≡ m = some_is after.0 m (sym after.1 ∙ one.is) in
+        let same : after.0 ≡ m = same_Some after.0 m (sym after.1 ∙ one.is) in
         let is_m : IsSameMember b.0 m = subst (λ (x : Member). IsSameMember b.0 x) same after.2 in (
           b.0,
           record { at = before.1.0; number = one.number; share = before.0; there = before.1.1; is = b.1; numbered = sym is_m.number ∙ one.numbered },
@@ -93,11 +93,11 @@ module _ (given : Given) (workers : ℕ) (word : Halt) (dealt : List Share) (are
           let old_take = had_take j info at c.0 c.1 in
           let now_put = b.2.ends.put j old_put.0 old_put.1 in
           let now_take = c.2.ends.take j old_take.0 old_take.1 in
-          let puts : Some now_put.0 ≡ Some put = some_is (Some now_put.0) (Some put) (sym now_put.1 ∙ is_put) in
-          let takes : Some now_take.0 ≡ Some take = some_is (Some now_take.0) (Some take) (sym now_take.1 ∙ is_take) in
+          let puts : Some now_put.0 ≡ Some put = same_Some (Some now_put.0) (Some put) (sym now_put.1 ∙ is_put) in
+          let takes : Some now_take.0 ≡ Some take = same_Some (Some now_take.0) (Some take) (sym now_take.1 ∙ is_take) in
           let were : OfOneLink old_put.0 old_take.0 = are.all.linked j info at b.0 b.1 c.0 c.1 old_put.0 old_take.0 old_put.1 old_take.1 in
-          subst (λ p. OfOneLink p take) (some_is now_put.0 put puts)
-          (subst (λ t. OfOneLink now_put.0 t) (some_is now_take.0 take takes) (now_put.2 ∙ were ∙ sym now_take.2)));
+          subst (λ p. OfOneLink p take) (same_Some now_put.0 put puts)
+          (subst (λ t. OfOneLink now_put.0 t) (same_Some now_take.0 take takes) (now_put.2 ∙ were ∙ sym now_take.2)));
       parts = kept.parts_are ∙ are.all.parts;
     }
 

@@ -1,10 +1,10 @@
 -- What all shares of a run come to.
 use Rattle.std.specs.Prelude.{◌≡◌, ◌<◌, ◌≤◌, ◌-◌, ◌++◌, ◌+◌, ◌*◌, ◌⊎◌}
 use Rattle.sig_work.specs.Prelude.{ℕ, ℤ, List, [], length, min, slice_get, slice_index_or, Option, None, Some, sum_by, IsPrefixOf, Trace, Place, halt_parts, parts, Halt, output_text, AreFlowsFor, opening_actor, IsEnd, AllChange, Given, IsFinished, after, opening, reactions_text, reactions_of, Reaction, PlanView, Ended, LinkInfo, AreInOrder, IsLeastFailure, LeadBy, acts_then_looks, opening_own, times_among, actor_of}
-use Rattle.sig_work.specs.Among.{Is, IsAmong, times}
+use Rattle.sig_work.specs.inner.Among.{Is, IsAmong, times}
 use Rattle.sig_work.specs.Ends.{sent_of, taken_of}
 use Rattle.sig_work.specs.Members.{commits_of, failure_in, own_of, run_of}
-use Rattle.sig_work.specs.Settling.{IsLinked}
+use Rattle.sig_work.specs.inner.Settling.{IsLinked}
 use Rattle.sig_work.specs.Shares.{AreServing, HaveDone, HaveEnded, NoneFaulted}
 use Rattle.sig_work.specs.declared.member.Member.{Member}
 use Rattle.sig_work.specs.declared.share.Share.{Share}

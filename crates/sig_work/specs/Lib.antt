@@ -1,11 +1,7 @@
 pub mod Prelude
-pub mod Among
-pub mod Dealing
 pub mod Ends
 pub mod Gathered
 pub mod Members
-pub mod Rounds
 pub mod Running
-pub mod Settling
 pub mod Shares
-pub mod Words
+pub mod inner

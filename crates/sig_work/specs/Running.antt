@@ -1,7 +1,7 @@
 -- Shares of one run, of which some are served on threads of their own.
 use Rattle.std.specs.Prelude.{◌≡◌, ◌≢◌, ◌++◌}
 use Rattle.sig_work.specs.Prelude.{ℕ, ℤ, List, [], length, slice_get, sum_by, Some, parts, Halt, Given, reactions_text, Reaction, PlanView}
-use Rattle.sig_work.specs.Among.{AreSingle, times}
+use Rattle.sig_work.specs.inner.Among.{AreSingle, times}
 use Rattle.sig_work.specs.Members.{run_of}
 use Rattle.sig_work.specs.Shares.{AreServing, HasCollector, HaveDone, IsSameShare, IsServing, NoneFaulted}
 use Rattle.sig_work.specs.declared.member.Ending.TheVariants.{Faulted}

@@ -2,7 +2,7 @@
 
 ghost use Rattle.std.specs.Prelude.{◌≡◌};
 ghost use Rattle.sig_work.specs.Prelude.{slice_get, IfNone, IfSome, None, Some, Core, cause_of, cause_of_op, Op};
-ghost use Rattle.sig_work.specs.Words.{HasActors, NamesCause};
+ghost use Rattle.sig_work.specs.inner.Words.{HasActors, NamesCause};
 
 use crate::finding::member_of;
 use crate::plans::{ops_of, order_of};

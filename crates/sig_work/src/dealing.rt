@@ -2,7 +2,7 @@
 
 ghost use Rattle.std.specs.Prelude.{◌≡◌, ◌≤◌, ◌<◌, ◌+◌, ◌^◌};
 ghost use Rattle.sig_work.specs.Prelude.{IfOk, length, AreFlowsFor};
-ghost use Rattle.sig_work.specs.Dealing.{AreOpened};
+ghost use Rattle.sig_work.specs.inner.Dealing.{AreOpened};
 ghost use Rattle.sig_work.specs.Gathered.{AreDealt};
 ghost use Rattle.sig_work.specs.Members.{run_of};
 

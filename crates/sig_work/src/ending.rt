@@ -2,7 +2,7 @@
 
 ghost use Rattle.std.specs.Prelude.{◌≡◌, ◌≢◌};
 ghost use Rattle.sig_work.specs.Prelude.{ℕ, List, Some, min, true, no_place, packed, IsSeatOf, recorded, Given, Reaction};
-ghost use Rattle.sig_work.specs.Rounds.{HasStopped, IsPastZero, IsServed, KeepsMember, KeepsSeat};
+ghost use Rattle.sig_work.specs.inner.Rounds.{HasStopped, IsPastZero, IsServed, KeepsMember, KeepsSeat};
 ghost use Rattle.sig_work.specs.declared.member.Ending.TheVariants.{Failed};
 ghost use Rattle.sig_work.specs.declared.round.Round.TheVariants.{Ended};
 

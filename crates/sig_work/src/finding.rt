@@ -1,7 +1,7 @@
 //! Where the member of a number stands.
 
 ghost use Rattle.std.specs.Prelude.{◌<◌, IfNone, IfSome, length};
-ghost use Rattle.sig_work.specs.Among.{HasNone, HasNoneIn, IsAmong, StandsAt, StandsIn};
+ghost use Rattle.sig_work.specs.inner.Among.{HasNone, HasNoneIn, IsAmong, StandsAt, StandsIn};
 
 use crate::member::Member;
 use crate::share::Share;

@@ -2,10 +2,10 @@
 
 ghost use Rattle.std.specs.Prelude.{◌≡◌, ◌-◌};
 ghost use Rattle.sig_work.specs.Prelude.{ℕ, List, length, Reaction, actor_of};
-ghost use Rattle.sig_work.specs.Among.{AreSingle, Is};
+ghost use Rattle.sig_work.specs.inner.Among.{AreSingle, Is};
 ghost use Rattle.sig_work.specs.Gathered.{AreDone, AreOfSomeWhole, AreTogether, AreTogetherOfSome, BeginsTheRun, HoldFinished, IsEndOfRun};
 ghost use Rattle.sig_work.specs.Members.{run_of};
-ghost use Rattle.sig_work.specs.Words.{IsLeastWord, NamesCause};
+ghost use Rattle.sig_work.specs.inner.Words.{IsLeastWord, NamesCause};
 
 use crate::cause::cause_named;
 use crate::finding::member_of;

@@ -2,7 +2,7 @@
 
 ghost use Rattle.std.specs.Prelude.{◌≡◌, ◌≤◌, ◌<◌, ◌+◌};
 ghost use Rattle.sig_work.specs.Prelude.{ℕ, [], IfOk, length, slice_get, Some, no_place, IsSeatOf, parts, recorded};
-ghost use Rattle.sig_work.specs.Dealing.{AreHanded, AreNumbered, AreSeated, HasGiven, HaveRoom, share_for};
+ghost use Rattle.sig_work.specs.inner.Dealing.{AreHanded, AreNumbered, AreSeated, HasGiven, HaveRoom, share_for};
 
 use crate::answer::DealAnswer;
 use crate::member::Member;

@@ -2,8 +2,8 @@
 
 ghost use Rattle.std.specs.Prelude.{◌≡◌, ◌≤◌, ◌<◌};
 ghost use Rattle.sig_work.specs.Prelude.{length, slice_get, OnOk, Some, put_capacity, sent, taken, OfOneLink};
-ghost use Rattle.sig_work.specs.Dealing.{AreJoined, HasGivenPut, HasGivenTake};
-ghost use Rattle.sig_work.specs.Settling.{AreLeftEnds, But, Each};
+ghost use Rattle.sig_work.specs.inner.Dealing.{AreJoined, HasGivenPut, HasGivenTake};
+ghost use Rattle.sig_work.specs.inner.Settling.{AreLeftEnds, But, Each};
 ghost use Rattle.sig_work.specs.declared.member.Member.{Member};
 
 use crate::answer::DealAnswer;

@@ -24,6 +24,7 @@ mod running;
 mod serving;
 mod settling;
 mod share;
+mod spins;
 mod stopping;
 mod turn;
 mod turning;

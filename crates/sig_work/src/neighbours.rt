@@ -93,6 +93,14 @@ impl Neighbours<'_> {
         }
     }
 
+    /// The instant of the first actor of these shares.
+    pub(crate) fn instant_of(&self, shares: &[Share]) -> u32 {
+        match first_member(shares) {
+            Some(member) => member.state.instant(),
+            None => 0,
+        }
+    }
+
     /// What the next step of an actor is.
     fn next_of(&self, member: &Member) -> Option<StepKind> {
         let plan = self.plan;
@@ -109,4 +117,9 @@ fn only_member(shares: &[Share]) -> Option<&Member> {
         return None;
     }
     Some(member)
+}
+
+/// The first actor of these shares.
+fn first_member(shares: &[Share]) -> Option<&Member> {
+    shares.first()?.members.first()
 }

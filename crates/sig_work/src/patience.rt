@@ -2,15 +2,11 @@
 
 use crate::neighbours::Neighbours;
 use crate::share::Share;
+use crate::spins::Spins;
 use crate::turn::{Turn, spin};
 use sig_halt::{Halt, Rest};
 use sig_plan::Plan;
 use std::sync::Wait;
-
-/// How often in a row it only spins before it rests, where that helps, and where it does not.
-const MOST_SPINS: u32 = 12;
-
-const LEAST_SPINS: u32 = 2;
 
 /// How often something is done before threads that rest are told.
 const MOVES: u32 = 16;
@@ -23,8 +19,7 @@ pub(crate) struct Patience<'a> {
     bed: usize,
     /// How often nothing was found to do, since something was done or the thread rested.
     rounds: u32,
-    /// How often in a row it spins.
-    spins: u32,
+    spins: Spins,
     /// How often something was done, since others were told.
     moves: u32,
     rest: Option<Rest<'a>>,
@@ -39,7 +34,7 @@ impl<'a> Patience<'a> {
             neighbours,
             bed: neighbours.bed_for(shares),
             rounds: 0,
-            spins: MOST_SPINS,
+            spins: Spins::new(),
             moves: 0,
             rest: None,
             turn: Turn::none(),
@@ -61,11 +56,11 @@ impl<'a> Patience<'a> {
         }
     }
 
-    /// Where it found something to do while it spun, or had announced a rest, it spins for longer from now on.
+    /// Where it found something to do while it spun, or had announced a rest, its spinning has helped.
     fn spun(&mut self) {
         let rest = self.rest.take();
         if self.rounds > 0 || rest.is_some() {
-            self.spins = MOST_SPINS.min(self.spins.saturating_mul(2));
+            self.spins.help(self.rounds);
         }
         if let Some(rest) = rest {
             rest.give_up();
@@ -82,7 +77,7 @@ impl<'a> Patience<'a> {
     /// yields: beside other programs a yield may cost it a whole time slice.
     pub(crate) fn wait<R: Wait>(&mut self, rt: &R, shares: &[Share]) {
         self.tell();
-        if self.rounds < self.spins {
+        if self.rounds < self.spins.limit() {
             spin(1 + self.rounds / 4);
             self.rounds += 1;
         } else {
@@ -90,13 +85,13 @@ impl<'a> Patience<'a> {
         }
     }
 
-    /// Announces a rest, or rests where it is announced; it spins for less time from then on.
+    /// Announces a rest, or rests where it is announced: its spinning has failed.
     fn rest<R: Wait>(&mut self, rt: &R, shares: &[Share]) {
         match self.rest.take() {
             Some(rest) => {
                 rest.sleep(rt);
                 self.rounds = 0;
-                self.spins = LEAST_SPINS.max(self.spins / 2);
+                self.spins.fail(self.neighbours.instant_of(shares));
             }
             None => {
                 let link = self.neighbours.link_for(shares);

@@ -3,7 +3,7 @@
 ghost use Rattle.std.specs.Prelude.{◌≡◌, ◌≤◌, ◌<◌};
 ghost use Rattle.sig_work.specs.Prelude.{ℕ, List, Ok, OnErr, OnOk, length, Reaction, Rose, TookPrefix};
 ghost use Rattle.sig_work.specs.Members.{run_of};
-ghost use Rattle.sig_work.specs.Rounds.{HasEndedAt, HaveEndedAt, IsShareOfSome, KeepsShare, KeepsShares, ServesShare, ServesShares};
+ghost use Rattle.sig_work.specs.inner.Rounds.{HasEndedAt, HaveEndedAt, IsShareOfSome, KeepsShare, KeepsShares, ServesShare, ServesShares};
 ghost use Rattle.sig_work.specs.Shares.{AllEnded, AreOfRun, AreOfSomeRun, AreSameShares, HaveEnded, WereServed, WereStopped};
 ghost use Rattle.sig_work.specs.declared.round.Round.TheVariants.{Ended};
 

@@ -1,9 +1,9 @@
 //! The settling of all links.
 
 ghost use Rattle.std.specs.Prelude.{◌≡◌, ◌<◌, ℕ, length, slice_get, IfNone, IfSome, Some};
-ghost use Rattle.sig_work.specs.Among.{AreSingle};
+ghost use Rattle.sig_work.specs.inner.Among.{AreSingle};
 ghost use Rattle.sig_work.specs.Gathered.{AreLinked};
-ghost use Rattle.sig_work.specs.Settling.{AreLeft, AreLeftEnds, AreSettledBelow, But, Each, From, HasNoPut, HasNoTake, HaveRoomFor, IsLeftShare, IsLinked, IsPutOf, IsSettledLink, IsTakeOf};
+ghost use Rattle.sig_work.specs.inner.Settling.{AreLeft, AreLeftEnds, AreSettledBelow, But, Each, From, HasNoPut, HasNoTake, HaveRoomFor, IsLeftShare, IsLinked, IsPutOf, IsSettledLink, IsTakeOf};
 ghost use Rattle.sig_work.specs.declared.member.Member.{Member};
 
 use crate::ends::LinkEnds;

@@ -2,7 +2,7 @@
 
 ghost use Rattle.std.specs.Prelude.{◌≡◌};
 ghost use Rattle.sig_work.specs.Prelude.{IsSeatOf, ℕ, slice_get, Some};
-ghost use Rattle.sig_work.specs.Rounds.{ArePastZero, ShareStopped, SharesStopped};
+ghost use Rattle.sig_work.specs.inner.Rounds.{ArePastZero, ShareStopped, SharesStopped};
 ghost use Rattle.sig_work.specs.declared.share.Share.{Share};
 
 use crate::share::Share;

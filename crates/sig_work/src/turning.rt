@@ -2,7 +2,7 @@
 
 ghost use Rattle.std.specs.Prelude.{◌≡◌, ◌≤◌};
 ghost use Rattle.sig_work.specs.Prelude.{false, true, Ok, OnErr, OnOk, Rose, TookPrefix};
-ghost use Rattle.sig_work.specs.Rounds.{IsServedInSome, KeepsMember, KeepsSeat, ServesMember};
+ghost use Rattle.sig_work.specs.inner.Rounds.{IsServedInSome, KeepsMember, KeepsSeat, ServesMember};
 ghost use Rattle.sig_work.specs.declared.round.Round.TheVariants.{Ended};
 
 use crate::member::{Ending, Member};

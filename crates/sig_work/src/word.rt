@@ -3,7 +3,7 @@
 ghost use Rattle.std.specs.Prelude.{◌≡◌, ◌≤◌, ◌<◌, ◌^◌};
 ghost use Rattle.sig_work.specs.Prelude.{length, sum_by, IsSeatOf, halt_parts, parts, place_of};
 ghost use Rattle.sig_work.specs.Members.{failure_in, word_of};
-ghost use Rattle.sig_work.specs.Words.{AreSeatsOf, IsClosed, IsIn, IsJoined, IsLeastOf, IsLeastWord};
+ghost use Rattle.sig_work.specs.inner.Words.{AreSeatsOf, IsClosed, IsIn, IsJoined, IsLeastOf, IsLeastWord};
 
 use crate::member::{Ending, Member};
 use crate::share::Share;

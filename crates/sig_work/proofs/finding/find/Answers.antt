@@ -1,4 +1,4 @@
-use Rattle.sig_work.proofs.{◌≡◌, inl, inr, sym, ap, subst, ◌∙◌, arith, Some, slice_get, get_within, same_or_not, some_is, item_at, HasNoneIn, Share}
+use Rattle.sig_work.proofs.{◌≡◌, inl, inr, sym, ap, subst, ◌∙◌, arith, Some, slice_get, get_within, same_or_not, same_Some, item_at, HasNoneIn, Share}
 use Rattle.sig_work.proofs.finding.find.Goals as goal
 
 pub returns-in-Some-clause-some : goal.returns-in-Some-clause-some
@@ -17,7 +17,7 @@ loop-at-preserved c = λ i share lt at. elim (same_or_not i c.loop-at.at) [
   | inl same ↦
       let here : slice_get c.args.shares.now c.loop-at.at ≡ Some c.index-shares-at.result =
       item_at c.args.shares.now c.loop-at.at c.index-shares-at.result c.loop-at-test.true c.index-shares-at.is in
-      let s_is : c.index-shares-at.result ≡ share = some_is c.index-shares-at.result share (sym here ∙ ap (slice_get c.args.shares.now) (sym same) ∙ at) in
+      let s_is : c.index-shares-at.result ≡ share = same_Some c.index-shares-at.result share (sym here ∙ ap (slice_get c.args.shares.now) (sym same) ∙ at) in
       subst (λ (s : Share). HasNoneIn s c.args.number) s_is c.in_default.ensures.none
   | inr apart ↦ c.loop-at.invariant i share (omega (arith, lt, apart)) at
 ]

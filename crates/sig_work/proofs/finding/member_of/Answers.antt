@@ -1,4 +1,4 @@
-use Rattle.sig_work.proofs.{◌≡◌, get_or, sym, subst, ◌∙◌, Some, slice_get, some_is, among_at, member_at, member_within, item_at, IsAmong, Member}
+use Rattle.sig_work.proofs.{◌≡◌, get_or, sym, subst, ◌∙◌, Some, slice_get, same_Some, among_at, member_at, member_within, item_at, IsAmong, Member}
 use Rattle.sig_work.proofs.finding.member_of.Goals as goal
 
 pub returns-clause-some : goal.returns-clause-some
@@ -9,5 +9,5 @@ returns-clause-some c =
     let read : slice_get (get_or c.args.shares.now spot.share d).members.items spot.member ≡ Some c.index.result.now =
     item_at (get_or c.args.shares.now spot.share d).members.items spot.member c.index.result.now (member_within c.args.shares.now c.args.number spot stands d) c.index.ensures in
     subst (λ (m : Member). IsAmong c.args.shares.now c.args.number m)
-    (some_is stands.member c.index.result.now (sym (member_at c.args.shares.now c.args.number spot stands d) ∙ read))
+    (same_Some stands.member c.index.result.now (sym (member_at c.args.shares.now c.args.number spot stands d) ∙ read))
     (among_at c.args.shares.now c.args.number spot stands d)

@@ -1,4 +1,4 @@
-use Rattle.sig_work.proofs.{◌≡◌, inl, inr, sym, ap, subst, ◌∙◌, arith, length, List, Some, slice_get, get_within, same_or_not, some_is, item_at, Member}
+use Rattle.sig_work.proofs.{◌≡◌, inl, inr, sym, ap, subst, ◌∙◌, arith, length, List, Some, slice_get, get_within, same_or_not, same_Some, item_at, Member}
 use Rattle.sig_work.proofs.share.Share.find.Goals as goal
 
 pub returns-then-member-number-clause-some : goal.returns-then-member-number-clause-some
@@ -15,7 +15,7 @@ loop-at-preserved c = λ i m lt at is. elim (same_or_not i c.loop-at.at) [
       let here : slice_get c.args.self.now.members.items c.loop-at.at ≡ Some c.member-item.result =
       subst (λ (xs : List Member). slice_get xs c.loop-at.at ≡ Some c.member-item.result) c.deref-member-items.ensures.value
       (item_at c.deref-member-items.result.now c.loop-at.at c.member-item.result c.loop-at-test.true c.member-item.is) in
-      let m_is : c.member-item.result ≡ m = some_is c.member-item.result m (sym here ∙ ap (slice_get c.args.self.now.members.items) (sym same) ∙ at) in
+      let m_is : c.member-item.result ≡ m = same_Some c.member-item.result m (sym here ∙ ap (slice_get c.args.self.now.members.items) (sym same) ∙ at) in
       c.if-member-number.false (ap (λ (n : Member). n.number) m_is ∙ is)
   | inr apart ↦ c.loop-at.invariant i m (omega (arith, lt, apart)) at is
 ]

@@ -1,4 +1,4 @@
-use Rattle.sig_work.proofs.{refl, sym, ap, ◌≡◌, ◌∙◌, slice_get, some_is, left_share, item_at, But, Each, Member}
+use Rattle.sig_work.proofs.{refl, sym, ap, ◌≡◌, ◌∙◌, slice_get, same_Some, left_share, item_at, But, Each, Member}
 use Rattle.sig_work.proofs.share.Share.take_put.Goals as goal
 
 pub returns-clause-left : goal.returns-clause-left
@@ -11,5 +11,5 @@ returns-clause-left c =
 pub returns-clause-put : goal.returns-clause-put
 returns-clause-put c = λ m is. (
     let here = item_at c.args.self.now.members.items c.args.number c.index_mut.result.now c.requires.there c.index_mut.ensures.value in
-    let same : c.index_mut.result.now ≡ m = some_is c.index_mut.result.now m (sym here ∙ is) in
+    let same : c.index_mut.result.now ≡ m = same_Some c.index_mut.result.now m (sym here ∙ is) in
     ap (λ (n : Member). slice_get n.ends.puts.items c.args.link) (sym same) ∙ c.take_put.ensures.put)

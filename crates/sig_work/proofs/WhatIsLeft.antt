@@ -1,7 +1,7 @@
 -- What is left of shares whose members give up ends.
-use Rattle.sig_work.proofs.Common.{◌≡◌, ◌<◌, ◌+◌, ◌∙◌, inl, inr, ℕ, suc, cond, List, [], ◌∷◌, length, get_or, set, refl, ap, sym, subst, arith, IfNone, IfSome, None, Option, Some, slice_get, sum_by, ◌==◌, length-set, sum_by-cons, get_at, get_within, IsSeatOf, parts, recorded, seen, Halt, HaltSeat, IsSettled, Put, Take, some_at, same_or_not, LinkInfo, set_here, some_is, AreSingle, IsAmong, StandsAt, times, times_in, AreLeft, AreLeftEnds, AreSettledBelow, But, Each, From, HasNoPut, HasNoTake, HaveRoomFor, IsLeftMember, IsLeftShare, IsLinked, IsPutOf, IsSettledLink, IsTakeOf, AreSeatsOf, IsClosed, LinkEnds, Spot, Member, Share}
-use Rattle.sig_work.proofs.Counting.{same_member}
-use Rattle.sig_work.proofs.Placing.{set_apart}
+use Rattle.sig_work.proofs.Common.{◌≡◌, ◌<◌, ◌+◌, ◌∙◌, inl, inr, ℕ, suc, cond, List, [], ◌∷◌, length, get_or, set, refl, ap, sym, subst, arith, IfNone, IfSome, None, Option, Some, slice_get, sum_by, ◌==◌, length-set, sum_by-cons, get_at, get_within, IsSeatOf, parts, recorded, seen, Halt, HaltSeat, IsSettled, Put, Take, some_at, same_or_not, LinkInfo, set_here, same_Some, AreSingle, IsAmong, StandsAt, times, times_in, AreLeft, AreLeftEnds, AreSettledBelow, But, Each, From, HasNoPut, HasNoTake, HaveRoomFor, IsLeftMember, IsLeftShare, IsLinked, IsPutOf, IsSettledLink, IsTakeOf, AreSeatsOf, IsClosed, LinkEnds, Spot, Member, Share}
+use Rattle.sig_work.proofs.CountedMembers.{same_member}
+use Rattle.sig_work.proofs.ItemInPlace.{set_apart}
 
 -- lists with equal counts at equal places count the same
 pub same_sums : {A : Type 0} (f : A → ℕ) (xs ys : List A) → length ys ≡ length xs
@@ -11,7 +11,7 @@ same_sums {A} f [] (y ∷ ys) count each = absurd (let clash : suc (length ys) �
 same_sums {A} f (x ∷ xs) [] count each = absurd (let clash : 0 ≡ suc (length xs) = count in omega (arith, clash))
 same_sums {A} f (x ∷ xs) (y ∷ ys) count each =
     let first = each 0 x refl in
-    let here : f y ≡ f x = ap f (some_is y first.0 first.1) ∙ first.2 in
+    let here : f y ≡ f x = ap f (same_Some y first.0 first.1) ∙ first.2 in
     let rest = same_sums f xs ys (let one : suc (length ys) ≡ suc (length xs) = count in omega (arith, one)) (λ i z at. each (suc i) z at) in
     let mine = sum_by-cons f x xs in
     let theirs = sum_by-cons f y ys in
@@ -52,13 +52,13 @@ module _ (P Q : ℕ → Type 0) where
         let within = get_within new one.at one.share one.there in
         let share = some_at old one.at (omega (arith, count, within)) in
         let after = left.each one.at share.0 share.1 in
-        let same : after.0 ≡ one.share = some_is after.0 one.share (sym after.1 ∙ one.there) in
+        let same : after.0 ≡ one.share = same_Some after.0 one.share (sym after.1 ∙ one.there) in
         let many = after.2.count in
         let here : slice_get after.0.members.items one.number ≡ Some n = ap (λ (s : Share). slice_get s.members.items one.number) same ∙ one.is in
         let inside = get_within after.0.members.items one.number n here in
         let m = some_at share.0.members.items one.number (omega (arith, many, inside)) in
         let found = after.2.each one.number m.0 m.1 in
-        let is_n : found.0 ≡ n = some_is found.0 n (sym found.1 ∙ here) in
+        let is_n : found.0 ≡ n = same_Some found.0 n (sym found.1 ∙ here) in
         let left_n : IsLeftMember P Q m.0 n = subst (λ (x : Member). IsLeftMember P Q m.0 x) is_n found.2 in (
           m.0,
           record { at = one.at; number = one.number; share = share.0; there = share.1; is = m.1; numbered = sym left_n.number ∙ one.numbered },
@@ -151,7 +151,7 @@ module _ (n : ℕ) where
       → (info : LinkInfo) → slice_get links n ≡ Some info → IsSettledLink now n info → AreSettledBelow (n + 1) links old
   more_settled links old now left settled info at here link other below is = elim (same_or_not link n) [
     | inl same ↦
-        let info_is : info ≡ other = some_is info other (sym at ∙ ap (slice_get links) (sym same) ∙ is) in
+        let info_is : info ≡ other = same_Some info other (sym at ∙ ap (slice_get links) (sym same) ∙ is) in
         subst (λ i. IsSettledLink old i other) (sym same)
         (subst (λ i. IsSettledLink old n i) info_is (settled_left (From n) (From n) old now left n info (omega arith) (omega arith) here))
     | inr apart ↦ settled link other (omega (arith, below, apart)) is
@@ -164,18 +164,18 @@ module _ (shares : List Share) (single : AreSingle shares) (link : ℕ) (info : 
   settled_both put take left p t settled w one r two put_w take_r is_put is_take =
       let w_is : p.member ≡ w = same_member shares info.writer (single info.writer) p.member w p.among one in
       let r_is : t.member ≡ r = same_member shares info.reader (single info.reader) t.member r t.among two in
-      let puts : Some put ≡ Some put_w = some_is (Some put) (Some put_w) (sym p.is ∙ ap (λ (m : Member). slice_get m.ends.puts.items link) w_is ∙ is_put) in
-      let takes : Some take ≡ Some take_r = some_is (Some take) (Some take_r) (sym t.is ∙ ap (λ (m : Member). slice_get m.ends.takes.items link) r_is ∙ is_take) in
-      (left, subst (λ q. IsSettled q take_r left) (some_is put put_w puts) (subst (λ q. IsSettled put q left) (some_is take take_r takes) settled))
+      let puts : Some put ≡ Some put_w = same_Some (Some put) (Some put_w) (sym p.is ∙ ap (λ (m : Member). slice_get m.ends.puts.items link) w_is ∙ is_put) in
+      let takes : Some take ≡ Some take_r = same_Some (Some take) (Some take_r) (sym t.is ∙ ap (λ (m : Member). slice_get m.ends.takes.items link) r_is ∙ is_take) in
+      (left, subst (λ q. IsSettled q take_r left) (same_Some put put_w puts) (subst (λ q. IsSettled put q left) (same_Some take take_r takes) settled))
 
   pub settled_without_put : HasNoPut shares info.writer link → IsSettledLink shares link info
   settled_without_put none w one r two put take is_put is_take =
-      let clash : None ≡ Some put = some_is None (Some put) (sym (none w one) ∙ is_put) in
+      let clash : None ≡ Some put = same_Some None (Some put) (sym (none w one) ∙ is_put) in
       absurd cc
 
   pub settled_without_take : HasNoTake shares info.reader link → IsSettledLink shares link info
   settled_without_take none w one r two put take is_put is_take =
-      let clash : None ≡ Some take = some_is None (Some take) (sym (none r two) ∙ is_take) in
+      let clash : None ≡ Some take = same_Some None (Some take) (sym (none r two) ∙ is_take) in
       absurd cc
 
 -- ---- an end taken out of one member
@@ -186,7 +186,7 @@ module _ (P Q : ℕ → Type 0) where
         → (after : Member) × (slice_get (set old.members.items number n) i ≡ Some after) × IsLeftMember P Q before after
     member_after i before is = elim (same_or_not i number) [
       | inl same ↦
-          let m_is : m ≡ before = some_is m before (sym at ∙ ap (slice_get old.members.items) (sym same) ∙ is) in
+          let m_is : m ≡ before = same_Some m before (sym at ∙ ap (slice_get old.members.items) (sym same) ∙ is) in
           (n, ap (slice_get (set old.members.items number n)) same ∙ set_here old.members.items number n m at, subst (λ (x : Member). IsLeftMember P Q x n) m_is left)
       | inr apart ↦ (before, set_apart old.members.items number n i apart ∙ is, same_left P Q before)
     ]
@@ -205,7 +205,7 @@ module _ (P Q : ℕ → Type 0) where
     count = length-set shares at new;
     each = λ i before is. elim (same_or_not i at) [
       | inl same ↦
-          let share_is : share ≡ before = some_is share before (sym there ∙ ap (slice_get shares) (sym same) ∙ is) in
+          let share_is : share ≡ before = same_Some share before (sym there ∙ ap (slice_get shares) (sym same) ∙ is) in
           (new, ap (slice_get (set shares at new)) same ∙ set_here shares at new share there, subst (λ (x : Share). IsLeftShare P Q x new) share_is left)
       | inr apart ↦ (before, set_apart shares at new i apart ∙ is, (let same : IsLeftShare P Q before before = record { seat = refl; count = refl; each = λ number m at. (m, at, same_left P Q m) } in same))
     ];
@@ -221,7 +221,7 @@ module _ (shares : List Share) (k : ℕ) (spot : Spot) (stands : StandsAt shares
   share_at = get_at shares spot.share d (get_within shares spot.share stands.share stands.there)
 
   pub share_is : stands.share ≡ here
-  share_is = some_is stands.share here (sym stands.there ∙ share_at)
+  share_is = same_Some stands.share here (sym stands.there ∙ share_at)
 
   pub member_at : slice_get here.members.items spot.member ≡ Some stands.member
   member_at = ap (λ (s : Share). slice_get s.members.items spot.member) (sym share_is) ∙ stands.is
@@ -265,7 +265,7 @@ module _ (P Q : ℕ → Type 0) (old new : List Share) (left : AreLeft P Q old n
       let lt = get_within new at after there in
       let before = some_at old at (omega (arith, count, lt)) in
       let found = left.each at before.0 before.1 in
-      let same : found.0 ≡ after = some_is found.0 after (sym found.1 ∙ there) in
+      let same : found.0 ≡ after = same_Some found.0 after (sym found.1 ∙ there) in
       (before.0, before.1, ap (λ (s : Share). s.seat) (sym same) ∙ found.2.seat)
 
   pub seats_left : (word : Halt) → AreSeatsOf word old → AreSeatsOf word new

@@ -1,7 +1,7 @@
 -- The failure word of all shares, and the cause that it names.
 use Rattle.std.specs.Prelude.{◌≡◌, ◌<◌, ◌≤◌, ◌^◌, ◌+◌, ◌⊎◌}
 use Rattle.sig_work.specs.Prelude.{ℕ, ℤ, List, sum_by, slice_get, Option, None, Some, no_place, packed, Place, IsSeatOf, parts, recorded, seen, Halt, HaltSeat, Core, cause_of, PlanView, Cause, actor_of, place_of}
-use Rattle.sig_work.specs.Among.{IsAmong}
+use Rattle.sig_work.specs.inner.Among.{IsAmong}
 use Rattle.sig_work.specs.Members.{failure_in, word_of}
 use Rattle.sig_work.specs.declared.member.Member.{Member}
 use Rattle.sig_work.specs.declared.share.Share.{Share}

@@ -1,12 +1,12 @@
 -- Members counted by their numbers: where a number is counted once, one member has it.
-use Rattle.sig_work.proofs.Common.{◌≡◌, ◌≤◌, ◌∙◌, ℕ, zero, suc, Bool, true, false, cond, List, [], ◌∷◌, refl, ap, sym, subst, arith, None, Some, slice_get, sum_by, ◌==◌, eq-eqb, eqb-true, sum_by-cons, some_is, IsAmong, times, times_in, Member, Share}
+use Rattle.sig_work.proofs.Common.{◌≡◌, ◌≤◌, ◌∙◌, ℕ, zero, suc, Bool, true, false, cond, List, [], ◌∷◌, refl, ap, sym, subst, arith, None, Some, slice_get, sum_by, ◌==◌, eq-eqb, eqb-true, sum_by-cons, same_Some, IsAmong, times, times_in, Member, Share}
 
 module _ {A : Type 0} (f : A → ℕ) where
   -- an item counts no more than all
   pub item_counts : (xs : List A) (i : ℕ) (x : A) → slice_get xs i ≡ Some x → f x ≤ sum_by f xs
   item_counts [] i x at = absurd (let e : None ≡ Some x = at in cc)
   item_counts (y ∷ xs) zero x at =
-      let same = ap f (some_is y x at) in
+      let same = ap f (same_Some y x at) in
       let all = sum_by-cons f y xs in
       omega (arith, same, all)
   item_counts (y ∷ xs) (suc i) x at =
@@ -37,12 +37,12 @@ module _ {A : Type 0} (f : A → ℕ) where
   one_counts [] most i j x y one other here there = absurd (let e : None ≡ Some x = one in cc)
   one_counts (z ∷ xs) most zero zero x y one other here there = refl
   one_counts (z ∷ xs) most zero (suc j) x y one other here there =
-      let same = ap f (some_is z x one) in
+      let same = ap f (same_Some z x one) in
       let all = sum_by-cons f z xs in
       let rest = item_counts xs j y other in
       absurd (omega (arith, same, all, rest, most, here, there))
   one_counts (z ∷ xs) most (suc i) zero x y one other here there =
-      let same = ap f (some_is z y other) in
+      let same = ap f (same_Some z y other) in
       let all = sum_by-cons f z xs in
       let rest = item_counts xs i x one in
       absurd (omega (arith, same, all, rest, most, here, there))
@@ -90,7 +90,7 @@ module _ (shares : List Share) (k : ℕ) (most : times k shares ≤ 1) (a b : Me
       (share_counts k one.number one.share a one.is one.numbered) (share_counts k other.number other.share b other.is other.numbered)
 
   share_is : one.share ≡ other.share
-  share_is = some_is one.share other.share (sym one.there ∙ ap (slice_get shares) same_share ∙ other.there)
+  share_is = same_Some one.share other.share (sym one.there ∙ ap (slice_get shares) same_share ∙ other.there)
 
   there_too : slice_get one.share.members.items other.number ≡ Some b
   there_too = ap (λ (s : Share). slice_get s.members.items other.number) share_is ∙ other.is
@@ -101,4 +101,4 @@ module _ (shares : List Share) (k : ℕ) (most : times k shares ≤ 1) (a b : Me
       one.number other.number a b one.is there_too (number_counts k a one.numbered) (number_counts k b other.numbered)
 
   pub same_member : a ≡ b
-  same_member = some_is a b (sym one.is ∙ ap (slice_get one.share.members.items) same_number ∙ there_too)
+  same_member = same_Some a b (sym one.is ∙ ap (slice_get one.share.members.items) same_number ∙ there_too)

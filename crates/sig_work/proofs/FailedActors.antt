@@ -1,5 +1,5 @@
 -- An actor that failed did so within the limit; and the order of places as words.
-use Rattle.sig_work.proofs.Common.{◌≡◌, ◌<◌, ◌≤◌, ◌^◌, ◌∙◌, inl, inr, ℕ, zero, suc, Bool, true, false, cond, length, refl, ap, sym, subst, arith, None, Option, Some, nat_lt, slice_get, and_from, and_parts, cases_order, eq-eqb, eqb-true, lt-ltb, ltb-false, ltb-true, or_cases, or_left, or_right, ◌==◌, ◌&&◌, packed, Place, Actor, code_of, guard_holds, moved_on, Given, is_before, Faults, Gives, Outcome, outcome, Commits, Fails, Goes, Puts, Stopped, Takes, Turn, turn, turn_at, turn_by, turn_of_op, turn_with, Step, StepKind, Do, Send, Receive, Report, Collect, Commit, Op, HasTurned, IsOwn, IsOwnStep, LeadBy, Own, opening_own, some_is}
+use Rattle.sig_work.proofs.Common.{◌≡◌, ◌<◌, ◌≤◌, ◌^◌, ◌∙◌, inl, inr, ℕ, zero, suc, Bool, true, false, cond, length, refl, ap, sym, subst, arith, None, Option, Some, nat_lt, slice_get, and_from, and_parts, cases_order, eq-eqb, eqb-true, lt-ltb, ltb-false, ltb-true, or_cases, or_left, or_right, ◌==◌, ◌&&◌, packed, Place, Actor, code_of, guard_holds, moved_on, Given, is_before, Faults, Gives, Outcome, outcome, Commits, Fails, Goes, Puts, Stopped, Takes, Turn, turn, turn_at, turn_by, turn_of_op, turn_with, Step, StepKind, Do, Send, Receive, Report, Collect, Commit, Op, HasTurned, IsOwn, IsOwnStep, LeadBy, Own, opening_own, same_Some}
 use Rattle.sig_model.specs.Turns.{AtLimit}
 
 -- ---- where an actor fails
@@ -67,7 +67,7 @@ module _ (given : Given) (k : ℕ) where
   turned_failed Stopped a b fails failed runs turned = absurd turned
   turned_failed AtLimit a b fails failed runs turned = λ p is. none_failed a failed runs p (sym turned.0.fails ∙ is)
   turned_failed (Fails place) a b fails failed runs turned = λ p is. (
-    subst (λ (q : Place). q.instant ≤ given.limit) (some_is place p (sym turned.0.fails ∙ is)) fails,
+    subst (λ (q : Place). q.instant ≤ given.limit) (same_Some place p (sym turned.0.fails ∙ is)) fails,
     ap (λ (c : Actor). c.ended) turned.0.is,
   )
   turned_failed (Goes next) a b fails failed runs turned = λ p is. none_failed a failed runs p (sym turned.0.fails ∙ is)

@@ -1,5 +1,5 @@
 -- What stays of members and shares: from one call to the next, and where one of several goes on.
-use Rattle.sig_work.proofs.Common.{◌≡◌, ◌≢◌, ◌<◌, ◌≤◌, ◌+◌, ◌⊎◌, ◌∙◌, inl, inr, ℕ, true, List, length, set, refl, ap, sym, subst, arith, Some, ◌==◌, slice_get, length-set, get_within, IsSameSeat, HaltSeat, some_at, same_or_not, Given, set_here, some_is, AreSameEnds, AreSameEnds-itself, IsSameMember, is_collector, HasEndedAt, HaveEndedAt, KeepsMember, KeepsSeat, KeepsShare, KeepsShares, AllEnded, AreSameShares, HasCollector, HaveCollector, HaveEnded, NoneFaulted, LinkEnds, Member, Share}
+use Rattle.sig_work.proofs.Common.{◌≡◌, ◌≢◌, ◌<◌, ◌≤◌, ◌+◌, ◌⊎◌, ◌∙◌, inl, inr, ℕ, true, List, length, set, refl, ap, sym, subst, arith, Some, ◌==◌, slice_get, length-set, get_within, IsSameSeat, HaltSeat, some_at, same_or_not, Given, set_here, same_Some, AreSameEnds, AreSameEnds-itself, IsSameMember, is_collector, HasEndedAt, HaveEndedAt, KeepsMember, KeepsSeat, KeepsShare, KeepsShares, AllEnded, AreSameShares, HasCollector, HaveCollector, HaveEnded, NoneFaulted, LinkEnds, Member, Share}
 use Rattle.sig_work.proofs.EndLemmas.{set_apart}
 
 -- ---- one element of a list changed
@@ -8,7 +8,7 @@ use Rattle.sig_work.proofs.EndLemmas.{set_apart}
 pub at_set : {A : Type 0} (xs : List A) (k : ℕ) (old new : A) → slice_get xs k ≡ Some old → (j : ℕ) (x : A) → slice_get (set xs k new) j ≡ Some x
     → ((j ≡ k) × (new ≡ x)) ⊎ ((j ≢ k) × (slice_get xs j ≡ Some x))
 at_set {A} xs k old new at j x is = elim (same_or_not j k) [
-  | inl same ↦ inl (same, some_is new x (sym (set_here xs k new old at) ∙ ap (slice_get (set xs k new)) (sym same) ∙ is))
+  | inl same ↦ inl (same, same_Some new x (sym (set_here xs k new old at) ∙ ap (slice_get (set xs k new)) (sym same) ∙ is))
   | inr apart ↦ inr (apart, sym (set_apart xs k new j apart) ∙ is)
 ]
 
@@ -91,14 +91,14 @@ pub member_was : (old new : Share) → KeepsShare old new → (number : ℕ) (n 
 member_was old new keeps number n is =
     let found = some_at old.members.items number (let lt = get_within new.members.items number n is in let count = keeps.count in omega (arith, lt, count)) in
     let now = keeps.members number found.0 found.1 in
-    (found.0, found.1, subst (KeepsMember found.0) (some_is now.0 n (sym now.1 ∙ is)) now.2)
+    (found.0, found.1, subst (KeepsMember found.0) (same_Some now.0 n (sym now.1 ∙ is)) now.2)
 
 pub share_was : (old new : List Share) → KeepsShares old new → (number : ℕ) (t : Share) → slice_get new number ≡ Some t
     → (s : Share) × (slice_get old number ≡ Some s) × KeepsShare s t
 share_was old new keeps number t is =
     let found = some_at old number (let lt = get_within new number t is in let count = keeps.count in omega (arith, lt, count)) in
     let now = keeps.each number found.0 found.1 in
-    (found.0, found.1, subst (KeepsShare found.0) (some_is now.0 t (sym now.1 ∙ is)) now.2)
+    (found.0, found.1, subst (KeepsShare found.0) (same_Some now.0 t (sym now.1 ∙ is)) now.2)
 
 -- ---- one of several goes on
 
@@ -109,7 +109,7 @@ one_member old new number m n at items keeps seats = record {
     | inl same ↦ (
       n,
       ap (λ (xs : List Member). slice_get xs j) items ∙ ap (slice_get (set old.members.items number n)) same ∙ set_here old.members.items number n m at,
-      subst (λ (x : Member). KeepsMember x n) (some_is m before (sym at ∙ ap (slice_get old.members.items) (sym same) ∙ is)) keeps,
+      subst (λ (x : Member). KeepsMember x n) (same_Some m before (sym at ∙ ap (slice_get old.members.items) (sym same) ∙ is)) keeps,
     )
     | inr apart ↦ (before, ap (λ (xs : List Member). slice_get xs j) items ∙ set_apart old.members.items number n j apart ∙ is, keeps_member before)
   ];
@@ -123,7 +123,7 @@ one_share old new number s t at items keeps = record {
     | inl same ↦ (
       t,
       ap (λ (xs : List Share). slice_get xs j) items ∙ ap (slice_get (set old number t)) same ∙ set_here old number t s at,
-      subst (λ (x : Share). KeepsShare x t) (some_is s before (sym at ∙ ap (slice_get old) (sym same) ∙ is)) keeps,
+      subst (λ (x : Share). KeepsShare x t) (same_Some s before (sym at ∙ ap (slice_get old) (sym same) ∙ is)) keeps,
     )
     | inr apart ↦ (before, ap (λ (xs : List Share). slice_get xs j) items ∙ set_apart old number t j apart ∙ is, keeps_share before)
   ];
@@ -193,12 +193,12 @@ have_ended_stay old new keeps number ended t there =
 -- the one of several that went on has ended
 pub ended_here : (old new : Share) (number : ℕ) (m n : Member) → slice_get old.members.items number ≡ Some m → new.members.items ≡ set old.members.items number n → n.state.ended ≡ true → HasEndedAt new number
 ended_here old new number m n at items ended x there =
-    let same : n ≡ x = some_is n x (sym (set_here old.members.items number n m at) ∙ sym (ap (λ (xs : List Member). slice_get xs number) items) ∙ there) in
+    let same : n ≡ x = same_Some n x (sym (set_here old.members.items number n m at) ∙ sym (ap (λ (xs : List Member). slice_get xs number) items) ∙ there) in
     subst (λ (y : Member). y.state.ended ≡ true) same ended
 
 pub have_ended_here : (old new : List Share) (number : ℕ) (s t : Share) → slice_get old number ≡ Some s → new ≡ set old number t → AllEnded t → HaveEndedAt new number
 have_ended_here old new number s t at items ended x there =
-    let same : t ≡ x = some_is t x (sym (set_here old number t s at) ∙ sym (ap (λ (xs : List Share). slice_get xs number) items) ∙ there) in
+    let same : t ≡ x = same_Some t x (sym (set_here old number t s at) ∙ sym (ap (λ (xs : List Share). slice_get xs number) items) ∙ there) in
     subst AllEnded same ended
 
 -- one more

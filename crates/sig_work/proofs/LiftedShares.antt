@@ -1,6 +1,6 @@
 -- A share of which one member went on, and shares of which one went on.
-use Rattle.sig_work.proofs.Common.{◌≡◌, ◌≢◌, ◌<◌, ◌≤◌, ◌+◌, ◌++◌, ◌⊎◌, ◌∙◌, inl, inr, ℕ, zero, suc, ℤ, Bool, true, false, cond, List, [], ◌∷◌, length, set, refl, ap, sym, subst, arith, None, Option, Some, ◌==◌, min, slice_get, append-nil, no_place, packed, Place, seen, Halt, Kernel, Given, Reaction, PlanView, set_here, place_of, some_is, HasDone, IsBehindSeen, commits_of, failure_in, is_collector, run_of, word_of, GoesOn, IsOfRun, IsServed, KeepsMember, KeepsSeat, KeepsShare, KeepsShares, ServesMember, ServesShare, ServesShares, AreOfRun, HasCollector, HasOneCollector, HasSeat, HaveCollector, IsServing, least_failed, Ending, Failed, Looked, AtLimit, Faulted, Member, Share}
-use Rattle.sig_work.proofs.Keeping.{at_set, had_collector, member_was, one_member, one_share, share_was, was_collector}
+use Rattle.sig_work.proofs.Common.{◌≡◌, ◌≢◌, ◌<◌, ◌≤◌, ◌+◌, ◌++◌, ◌⊎◌, ◌∙◌, inl, inr, ℕ, zero, suc, ℤ, Bool, true, false, cond, List, [], ◌∷◌, length, set, refl, ap, sym, subst, arith, None, Option, Some, ◌==◌, min, slice_get, append-nil, no_place, packed, Place, seen, Halt, Kernel, Given, Reaction, PlanView, set_here, place_of, same_Some, HasDone, IsBehindSeen, commits_of, failure_in, is_collector, run_of, word_of, GoesOn, IsOfRun, IsServed, KeepsMember, KeepsSeat, KeepsShare, KeepsShares, ServesMember, ServesShare, ServesShares, AreOfRun, HasCollector, HasOneCollector, HasSeat, HaveCollector, IsServing, least_failed, Ending, Failed, Looked, AtLimit, Faulted, Member, Share}
+use Rattle.sig_work.proofs.WhatStays.{at_set, had_collector, member_was, one_member, one_share, share_was, was_collector}
 
 -- ---- the least failure
 
@@ -22,7 +22,7 @@ min_apart a b c = omega arith
 least_is : (ms : List Member) (k : ℕ) (m : Member) → slice_get ms k ≡ Some m → least_failed ms ≡ min (least_but k ms) (failed_word m)
 unfolding least_but
 least_is [] k m at = absurd (let e : None ≡ Some m = at in cc)
-least_is (x ∷ xs) zero m at = min_swap (failed_word x) (least_failed xs) ∙ ap (λ y. min (least_failed xs) (failed_word y)) (some_is x m at)
+least_is (x ∷ xs) zero m at = min_swap (failed_word x) (least_failed xs) ∙ ap (λ y. min (least_failed xs) (failed_word y)) (same_Some x m at)
 least_is (x ∷ xs) (suc k) m at = ap (min (failed_word x)) (least_is xs k m at) ∙ min_apart (failed_word x) (least_but k xs) (failed_word m)
 
 least_set : (ms : List Member) (k : ℕ) (m n : Member) → slice_get ms k ≡ Some m → least_failed (set ms k n) ≡ min (least_but k ms) (failed_word n)

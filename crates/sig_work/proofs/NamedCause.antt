@@ -1,6 +1,6 @@
 -- The cause that a word names, as one actor tells it.
 use Rattle.sig_work.proofs.Common.{◌≡◌, ◌<◌, ◌^◌, ◌∙◌, ℕ, ℤ, List, refl, ap, sym, arith, None, Some, slice_get, no_place, packed, Place, Core, cause_at, cause_in, cause_of, cause_of_op, Faults, Gives, Outcome, outcome, PlanView, Cause, Limit, Op, actor_of, cause_by, cause_of_step, HasNone, IsAmong, HasActors, NamesCause, Member, Share}
-use Rattle.sig_work.proofs.Failing.{packed_once}
+use Rattle.sig_work.proofs.FailedActors.{packed_once}
 
 same_cause : (o : Outcome) → cause_by o ≡ cause_in o
 same_cause (Gives v) = refl

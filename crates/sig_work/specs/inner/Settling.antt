@@ -1,7 +1,7 @@
 -- The settling of links, whose ends the members of shares give up one after another.
 use Rattle.std.specs.Prelude.{◌≡◌, ◌≢◌, ◌<◌, ◌≤◌}
 use Rattle.sig_work.specs.Prelude.{ℕ, List, length, slice_get, None, Some, IsSettled, OfOneLink, Put, Take, LinkInfo}
-use Rattle.sig_work.specs.Among.{Is, IsAmong}
+use Rattle.sig_work.specs.inner.Among.{Is, IsAmong}
 use Rattle.sig_work.specs.declared.ends.LinkEnds.{LinkEnds}
 use Rattle.sig_work.specs.declared.member.Member.{Member}
 use Rattle.sig_work.specs.declared.share.Share.{Share}

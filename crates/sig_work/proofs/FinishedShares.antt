@@ -1,10 +1,10 @@
 -- Shares that were served to their end hold a finished state.
-use Rattle.sig_work.proofs.Common.{◌≡◌, ◌<◌, ◌≤◌, ◌-◌, ◌+◌, ◌++◌, ◌^◌, ◌∙◌, ◌⊎◌, inl, inr, ℕ, suc, ℤ, true, false, List, [], ◌∷◌, length, take, refl, ap, sym, subst, arith, None, Option, Some, min, slice_get, slice_index_or, length-map, length-take, no_place, packed, Instant, Trace, seen_at, Place, seen, Halt, get_within, some_at, fitting, at_most_or, some_reference, Actor, code_of, ended_at, next_place, position_of, Core, Given, IsFinished, after, cause_of, word_before, IsOnReference, reactions_of, IsReference, Reaction, reaction_in, Event, IsAccepted, Cause, after_has_end, after_on, Own, ActInOrder, AreSettled, HasEndedBy, LeadBy, LookBehind, acts_then_looks, opening_own, times_among, IsLeastFailure, collector_of, actor_of, place_of, some_is, instant_of, IsAmong, taken_of, AreDone, AreTogether, HoldFinished, IsEndOfRun, EndsWith, HasDone, IsBehindSeen, before_stop, commits_of, failure_in, own_of, word_of, AreSettledBelow, least_failed, HasActors, IsClosed, IsLeastWord, IsWord, NamesCause, Ending, Failed, Looked, AtLimit, Faulted, Member, Share}
+use Rattle.sig_work.proofs.Common.{◌≡◌, ◌<◌, ◌≤◌, ◌-◌, ◌+◌, ◌++◌, ◌^◌, ◌∙◌, ◌⊎◌, inl, inr, ℕ, suc, ℤ, true, false, List, [], ◌∷◌, length, take, refl, ap, sym, subst, arith, None, Option, Some, min, slice_get, slice_index_or, length-map, length-take, no_place, packed, Instant, Trace, seen_at, Place, seen, Halt, get_within, some_at, fitting, at_most_or, some_reference, Actor, code_of, ended_at, next_place, position_of, Core, Given, IsFinished, after, cause_of, word_before, IsOnReference, reactions_of, IsReference, Reaction, reaction_in, Event, IsAccepted, Cause, after_has_end, after_on, Own, ActInOrder, AreSettled, HasEndedBy, LeadBy, LookBehind, acts_then_looks, opening_own, times_among, IsLeastFailure, collector_of, actor_of, place_of, same_Some, instant_of, IsAmong, taken_of, AreDone, AreTogether, HoldFinished, IsEndOfRun, EndsWith, HasDone, IsBehindSeen, before_stop, commits_of, failure_in, own_of, word_of, AreSettledBelow, least_failed, HasActors, IsClosed, IsLeastWord, IsWord, NamesCause, Ending, Failed, Looked, AtLimit, Faulted, Member, Share}
 use Rattle.sig_plan.specs.declared.ended.Ended.{Ended}
-use Rattle.sig_work.proofs.Choosing.{chosen}
-use Rattle.sig_work.proofs.Failing.{not_before, own_failed, packed_before}
+use Rattle.sig_work.proofs.ChoicesBelow.{chosen}
+use Rattle.sig_work.proofs.FailedActors.{not_before, own_failed, packed_before}
 use Rattle.sig_work.proofs.Settled.{SettledInOrder, least_same}
-use Rattle.sig_work.proofs.Placing.{get_past}
+use Rattle.sig_work.proofs.ItemInPlace.{get_past}
 use Rattle.sig_work.proofs.Together.{balanced, done_of, links, one_among, own, own_commits, own_is, there, within}
 
 -- where all were served, each is what its own steps leave
@@ -29,7 +29,7 @@ at_most_least (m ∷ ms) w within each =
 
 failed_ending : (e : Option Ending) (p : Place) → failure_in e ≡ Some p → e ≡ Some (Failed p)
 failed_ending None p is = absurd (let clash : None ≡ Some p = is in cc)
-failed_ending (Some (Failed q)) p is = ap (λ r. Some (Failed r)) (some_is q p is)
+failed_ending (Some (Failed q)) p is = ap (λ r. Some (Failed r)) (same_Some q p is)
 failed_ending (Some Looked) p is = absurd (let clash : None ≡ Some p = is in cc)
 failed_ending (Some AtLimit) p is = absurd (let clash : None ≡ Some p = is in cc)
 failed_ending (Some Faulted) p is = absurd (let clash : None ≡ Some p = is in cc)

@@ -1,9 +1,9 @@
 -- The dealing of actors to shares, step by step.
 use Rattle.std.specs.Prelude.{◌≡◌, ◌≢◌, ◌<◌, ◌≤◌, ◌+◌, ◌-◌, ◌%◌, ◌==◌, ◌||◌, ◌⊎◌, ◌∷◌, ◌++◌, if◌then◌else◌}
 use Rattle.sig_work.specs.Prelude.{ℕ, ℤ, List, [], length, slice_get, sum_by, vec_capacity, None, Some, no_place, IsSeatOf, parts, recorded, Halt, OfOneLink, put_capacity, Put, Take, opening_actor, PlanView, LinkInfo, IsStateOf, actor_of}
-use Rattle.sig_work.specs.Among.{times}
+use Rattle.sig_work.specs.inner.Among.{times}
 use Rattle.sig_work.specs.Ends.{HasNoEnds, sent_of, taken_of}
-use Rattle.sig_work.specs.Settling.{But, Each, IsLeftMember}
+use Rattle.sig_work.specs.inner.Settling.{But, Each, IsLeftMember}
 use Rattle.sig_work.specs.declared.member.Member.{Member}
 use Rattle.sig_work.specs.declared.share.Share.{Share}
 

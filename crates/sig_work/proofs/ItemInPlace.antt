@@ -1,5 +1,5 @@
 -- An item of a list put in place of another, and one more item.
-use Rattle.sig_work.proofs.Common.{◌≡◌, ◌<◌, ◌≤◌, ◌+◌, ◌++◌, ◌∙◌, ◌⊎◌, inl, inr, ℕ, zero, suc, List, [], ◌∷◌, length, get_or, set, take, refl, ap, sym, subst, arith, None, Some, slice_get, get_at, some_is}
+use Rattle.sig_work.proofs.Common.{◌≡◌, ◌<◌, ◌≤◌, ◌+◌, ◌++◌, ◌∙◌, ◌⊎◌, inl, inr, ℕ, zero, suc, List, [], ◌∷◌, length, get_or, set, take, refl, ap, sym, subst, arith, None, Some, slice_get, get_at, same_Some}
 
 module _ {A : Type 0} where
   pub set_apart : (xs : List A) (k : ℕ) (x : A) (m : ℕ) → ((m ≡ k) → ⊥) → slice_get (set xs k x) m ≡ slice_get xs m
@@ -44,7 +44,7 @@ module _ {A : Type 0} where
 
   -- an item of a list with one more
   pub get_more : (xs : List A) (x : A) (k : ℕ) (y : A) → slice_get (xs ++ x ∷ []) k ≡ Some y → (slice_get xs k ≡ Some y) ⊎ ((x ≡ y) × (k ≡ length xs))
-  get_more [] x zero y is = inr (some_is x y is, refl)
+  get_more [] x zero y is = inr (same_Some x y is, refl)
   get_more [] x (suc k) y is = absurd (let e : None ≡ Some y = is in cc)
   get_more (z ∷ xs) x zero y is = inl is
   get_more (z ∷ xs) x (suc k) y is = elim (get_more xs x k y is) [

@@ -1,6 +1,6 @@
 -- Members that are given to shares, one after another.
-use Rattle.sig_work.proofs.Common.{◌≡◌, ◌<◌, ◌≤◌, ◌+◌, ◌++◌, ◌∙◌, ◌⊎◌, inl, inr, ℕ, zero, suc, Bool, true, false, cond, List, [], ◌∷◌, length, set, refl, ap, sym, subst, arith, None, Some, slice_get, sum_by, vec_capacity, ◌==◌, eq-eqb, eqb-true, length-set, length-append, sum_by-cons, sum_by_push, some_at, same_or_not, set_here, some_is, times, times_in, HasGiven, HaveRoom, HaveSameSeats, Member, Share}
-use Rattle.sig_work.proofs.Placing.{get_more, set_apart}
+use Rattle.sig_work.proofs.Common.{◌≡◌, ◌<◌, ◌≤◌, ◌+◌, ◌++◌, ◌∙◌, ◌⊎◌, inl, inr, ℕ, zero, suc, Bool, true, false, cond, List, [], ◌∷◌, length, set, refl, ap, sym, subst, arith, None, Some, slice_get, sum_by, vec_capacity, ◌==◌, eq-eqb, eqb-true, length-set, length-append, sum_by-cons, sum_by_push, some_at, same_or_not, set_here, same_Some, times, times_in, HasGiven, HaveRoom, HaveSameSeats, Member, Share}
+use Rattle.sig_work.proofs.ItemInPlace.{get_more, set_apart}
 
 -- one share got a member
 pub given_share : (shares : List Share) (at : ℕ) (share new : Share) (member : Member) → slice_get shares at ≡ Some share → new.seat ≡ share.seat
@@ -9,7 +9,7 @@ given_share shares at share new member there seat items capacity = record {
   count = length-set shares at new;
   others = λ other apart. set_apart shares at new other apart;
   here = λ before is. (
-      let same : share ≡ before = some_is share before (sym there ∙ is) in (
+      let same : share ≡ before = same_Some share before (sym there ∙ is) in (
         new,
         set_here shares at new share there,
         seat ∙ ap (λ (s : Share). s.seat) same,
@@ -27,7 +27,7 @@ same_rest [] [] count each = refl
 same_rest [] (y ∷ ys) count each = absurd (let clash : suc (length ys) ≡ 0 = count in omega (arith, clash))
 same_rest (x ∷ xs) [] count each = absurd (let clash : 0 ≡ suc (length xs) = count in omega (arith, clash))
 same_rest (x ∷ xs) (y ∷ ys) count each =
-    let first : y ≡ x = some_is y x (each 0) in
+    let first : y ≡ x = same_Some y x (each 0) in
     let rest = same_rest xs ys (let one : suc (length ys) ≡ suc (length xs) = count in omega (arith, one)) (λ k. each (suc k)) in
     λ t. first t ∷ rest t
 
@@ -40,13 +40,13 @@ module _ (f : Share → ℕ) where
   sum_more (a ∷ xs) (b ∷ ys) zero more count others x y is_x is_y grows =
       let mine = sum_by-cons f a xs in
       let theirs = sum_by-cons f b ys in
-      let first : f b ≡ f a + more = ap f (some_is b y is_y) ∙ grows ∙ ap (λ (s : Share). f s + more) (sym (some_is a x is_x)) in
+      let first : f b ≡ f a + more = ap f (same_Some b y is_y) ∙ grows ∙ ap (λ (s : Share). f s + more) (sym (same_Some a x is_x)) in
       let rest : sum_by f ys ≡ sum_by f xs = ap (λ (zs : List Share). sum_by f zs) (same_rest xs ys (let e : suc (length ys) ≡ suc (length xs) = count in omega (arith, e)) (λ k. others (suc k) (λ e. omega (arith, e)))) in
       omega (arith, mine, theirs, first, rest)
   sum_more (a ∷ xs) (b ∷ ys) (suc at) more count others x y is_x is_y grows =
       let mine = sum_by-cons f a xs in
       let theirs = sum_by-cons f b ys in
-      let first : f b ≡ f a = ap f (some_is b a (others 0 (λ e. omega (arith, e)))) in
+      let first : f b ≡ f a = ap f (same_Some b a (others 0 (λ e. omega (arith, e)))) in
       let rest = sum_more xs ys at more (let e : suc (length ys) ≡ suc (length xs) = count in omega (arith, e)) (λ other apart. others (suc other) (λ e. apart (let d : suc other ≡ suc at = e in omega (arith, d)))) x y is_x is_y grows in
       omega (arith, mine, theirs, first, rest)
 
@@ -76,7 +76,7 @@ module _ (old new : List Share) (at : ℕ) (member : Member) (given : HasGiven o
     count = given.count;
     each = λ i share there. elim (same_or_not i at) [
       | inl same ↦
-          let s_is : before.0 ≡ share = some_is before.0 share (sym before.1 ∙ ap (slice_get old) (sym same) ∙ there) in
+          let s_is : before.0 ≡ share = same_Some before.0 share (sym before.1 ∙ ap (slice_get old) (sym same) ∙ there) in
           (after.0, ap (slice_get new) same ∙ after.1, after.2 ∙ ap (λ (s : Share). s.seat) s_is)
       | inr apart ↦ (share, given.others i apart ∙ there, refl)
     ];
@@ -87,7 +87,7 @@ module _ (old new : List Share) (at : ℕ) (member : Member) (given : HasGiven o
       → ((s : Share) × (slice_get old i ≡ Some s) × (slice_get s.members.items number ≡ Some m)) ⊎ ((member ≡ m) × (i ≡ at))
   placed_here i number share m there is = elim (same_or_not i at) [
     | inl same ↦
-        let s_is : after.0 ≡ share = some_is after.0 share (sym after.1 ∙ ap (slice_get new) (sym same) ∙ there) in
+        let s_is : after.0 ≡ share = same_Some after.0 share (sym after.1 ∙ ap (slice_get new) (sym same) ∙ there) in
         let here : slice_get (before.0.members.items ++ member ∷ []) number ≡ Some m =
         ap (λ (ms : List Member). slice_get ms number) (sym after.3 ∙ ap (λ (s : Share). s.members.items) s_is) ∙ is in
         elim (get_more before.0.members.items member number m here) [
@@ -100,7 +100,7 @@ module _ (old new : List Share) (at : ℕ) (member : Member) (given : HasGiven o
   pub room_here : (more : ℕ) → HaveRoom (suc more) old → HaveRoom more new
   room_here more room i share there = elim (same_or_not i at) [
     | inl same ↦
-        let s_is : after.0 ≡ share = some_is after.0 share (sym after.1 ∙ ap (slice_get new) (sym same) ∙ there) in
+        let s_is : after.0 ≡ share = same_Some after.0 share (sym after.1 ∙ ap (slice_get new) (sym same) ∙ there) in
         let had = room at before.0 before.1 in
         let items = ap length after.3 in
         let longer = length-append before.0.members.items (member ∷ []) in
