@@ -13,8 +13,8 @@ In a document (README.md, docs/*.md, examples/README.md, tools/README.md)
 
 Commands run in the document's folder, in which `examples` and `tools` are those of the repository, and `sigc` is
 the program. A ```signal fence without a name, or one that no command of its document names, is a failure, and so is
-a link between the pages that leads nowhere, a program of examples/ that its README does not run, or a test that the page of sig_tests_tool
-names and that is not there. The last line is `N passed, M failed`.
+a link between the pages that leads nowhere, a program of examples/ that its README does not run, or a test or table that the page of
+sig_tests_tool names and that is not there. The last line is `N passed, M failed`.
 """
 import argparse
 import glob
@@ -225,7 +225,7 @@ def unnamed_examples():
 
 
 def missing_tests():
-    """The tests that the page of sig_tests_tool names and that are not there: (crate, MODULE::FUNCTION)."""
+    """The tests and tables that the page of sig_tests_tool names and that are not there: (crate, MODULE::NAME)."""
     with open(f"{TOP}/crates/sig_tests_tool/README.md", encoding="utf-8") as it:
         rows = re.findall(r"^\| .* \| (.*) \|$", it.read(), flags=re.M)
     for row in rows:
@@ -234,8 +234,17 @@ def missing_tests():
             module, _, name = word.partition("::")
             if word.startswith("sig_tests_"):
                 crate = word
-            elif name and f"#[test]\nfn {name}(" not in text_of(f"{TOP}/crates/{crate}/src/tests/{module}.rt"):
+            elif name and not has_test(f"{TOP}/crates/{crate}/src/tests", module, name):
                 yield crate, word
+
+
+def has_test(folder, module, name):
+    """Whether a module has a test of this name or, where it is in capitals, a table whose rows a test calls."""
+    text = text_of(f"{folder}/{module}.rt")
+    if not name.isupper():
+        return f"#[test]\nfn {name}(" in text
+    lists = text_of(f"{folder}/tables.rt") + text_of(f"{folder}.rt")
+    return f"const {name}: &str =" in text and f", {module}::{name})" in lists
 
 
 def text_of(path):

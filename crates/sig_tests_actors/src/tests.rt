@@ -1,7 +1,8 @@
-//! The tests of each crate in a module of its name, and what they share.
+//! Rows of a table, what each of them does, and the test that compares.
 
-mod alone;
-mod cores;
-mod step;
-mod texts;
-mod work;
+mod events;
+mod kept;
+mod loaded;
+mod rows;
+mod runs;
+mod steps;

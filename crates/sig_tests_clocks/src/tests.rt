@@ -1,11 +1,21 @@
-//! The tests of each crate in a module of its name, and what they share.
+//! Lines of tables: each asks for what is made in a store of diagrams or is known of a program, with the answer. One loop
+//! reads them all, and `answer` answers them.
 
-mod clock;
+mod answer;
+mod clocks;
 mod dd;
 mod diagrams;
-mod hier;
-mod pace;
+mod kernels;
+mod lines;
 mod rel;
-mod solve;
 mod texts;
-mod writing;
+
+const TABLES: [(&str, &str); 2] = [("dd", dd::STORES), ("kernels", kernels::KERNELS)];
+
+#[test]
+fn lines_are_answered(rt: HostRuntime) -> Result<(), std::test::Fail> {
+    for (name, table) in TABLES {
+        lines::check(&rt, name, table)?;
+    }
+    Ok(())
+}

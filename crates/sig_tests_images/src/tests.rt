@@ -1,7 +1,9 @@
-//! The tests of sig_file, of sig_verify and of sig_exec in modules of their names, and those of the images of plans.
+//! Rows of a table and images that are damaged, what reads them, and the test that compares.
 
-mod exec;
-mod file;
+mod damaged;
 mod flows;
-mod plans;
-mod verify;
+mod images;
+mod numbers;
+mod reading;
+mod rows;
+mod told;

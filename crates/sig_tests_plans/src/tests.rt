@@ -1,9 +1,5 @@
-//! The tests of each crate in a module of its name, and what they share.
+//! Rows of a table, what is told of each, and the test that compares them.
 
-mod back;
-mod code;
-mod graph;
-mod part;
-mod passes;
-mod plan;
-mod texts;
+mod programs;
+mod rows;
+mod told;

@@ -1,8 +1,32 @@
-//! The tests of each crate in a module of its name, and what they share.
+//! Lines of tables: each says what is read, with what must come of it. One loop reads them all.
 
+mod answer;
+mod bytes;
 mod expressions;
 mod lex;
+mod lines;
 mod parse;
 mod print;
 mod texts;
-mod writing;
+
+const TABLES: [(&str, &str); 11] = [
+    ("lex::TOKENS", lex::TOKENS),
+    ("lex::ANSWERS", lex::ANSWERS),
+    ("lex::NEIGHBOURS", lex::NEIGHBOURS),
+    ("lex::LABELS", lex::LABELS),
+    ("lex::LONGEST", lex::LONGEST),
+    ("expressions::LEVELS", expressions::LEVELS),
+    ("parse::REFUSED", parse::REFUSED),
+    ("parse::LIMITS", parse::LIMITS),
+    ("parse::PARTS", parse::PARTS),
+    ("print::OPERATORS", print::OPERATORS),
+    ("print::PROGRAMS", print::PROGRAMS),
+];
+
+#[test]
+fn lines_are_answered(rt: HostRuntime) -> Result<(), std::test::Fail> {
+    for (name, table) in TABLES {
+        lines::check(&rt, name, table)?;
+    }
+    Ok(())
+}

@@ -1,100 +1,109 @@
-//! The calls at small stores.
+//! Calls at small stores.
 
-ghost use Rattle.std.specs.Prelude.{IfOk};
+ghost use Rattle.std.specs.Prelude.{◌≤◌, All, IfOk, IfSome, length};
 ghost use Rattle.sig_dd.specs.Nodes.{Holds};
 
 use super::diagrams::value;
 use sig_dd::{DdAnswer, Ref, Store};
 use std::alloc::Global;
+use std::fmt::Write;
 use std::test::Fail;
 
-/// Two variables, and where both are true.
-#[derive(Drop)]
-struct Two {
-    a: Ref,
-    b: Ref,
-    both: Ref,
-}
+/// Functions that are made in stores, and what is asked of them.
+pub const STORES: &str = r"
+% A full store refuses, and still tells what it has.
+store 3
+variable 0: a
+variable 1: b
+conj a b: c
+conj b a: c
+disj a b: Budget(3)
+len: 3
+value c 1 1: Ok(Some(true))
 
-fn two_of(store: &mut Store) -> Result<Two, DdAnswer>
-    ensures a { IfOk result (λ two. Holds store.new.nodes two.a) }
-    ensures b { IfOk result (λ two. Holds store.new.nodes two.b) }
-    ensures both { IfOk result (λ two. Holds store.new.nodes two.both) }
-{
-    let a = store.variable(0)?;
-    let b = store.variable(1)?;
-    let both = store.conj(a, b)?;
-    Ok(Two { a, b, both })
-}
+% A function has its values.
+store 100
+variable 0: a
+variable 1: b
+conj a b: c
+disj a b: d
+value d 0 1: Ok(Some(true))
+value c 0 1: Ok(Some(false))
 
-#[test]
-fn a_full_store_refuses(rt: HostRuntime) -> Result<(), Fail> {
-    let mut store = Store::new(rt.alloc(), 3)?;
-    let two = two_of(&mut store)?;
-    assert_eq!(rt; store.conj(two.b, two.a), Ok(two.both));
-    assert_eq!(rt; store.disj(two.a, two.b), Err(DdAnswer::Budget(3)));
-    assert_eq!(rt; store.len(), 3);
-    assert_eq!(rt; value(&store, two.both, &[true, true])?, Some(true));
-    Ok(())
-}
+% Operations answer.
+store 100
+variable 0: a
+variable 1: b
+conj a b: c
+ite a b F: c
+negate a: d
+negate d: a
+implies c a: Ok(true)
 
-#[test]
-fn a_function_has_its_values(rt: HostRuntime) -> Result<(), Fail> {
-    let mut store = Store::new(rt.alloc(), 100)?;
-    let two = two_of(&mut store)?;
-    let either = store.disj(two.a, two.b)?;
-    let mixed = value(&store, either, &[false, true])?;
-    let both = value(&store, two.both, &[false, true])?;
-    assert_eq!(rt; (mixed, both), (Some(true), Some(false)));
-    Ok(())
-}
+% Quantifiers answer.
+store 100
+variable 0: a
+variable 1: b
+conj a b: c
+restrict c 0 1: b
+forget_var c 0: b
+meet_without_0 a b: b
+support c: Ok([0, 1])
 
-#[test]
-fn operations_answer(rt: HostRuntime) -> Result<(), Fail> {
-    let mut store = Store::new(rt.alloc(), 100)?;
-    let two = two_of(&mut store)?;
-    let never = store.constant(false);
-    assert_eq!(rt; store.ite(two.a, two.b, never), Ok(two.both));
-    let not_a = store.negate(two.a)?;
-    assert_eq!(rt; store.negate(not_a), Ok(two.a));
-    assert_eq!(rt; store.implies(two.both, two.a), Ok(true));
-    Ok(())
-}
+% Variables are renamed. Behind the end of the list of new variables one counts as false.
+store 100
+variable 0: a
+variable 1: b
+conj a b: c
+rename c 1 0: c
+rename a 1 0: b
+rename b 1 0: a
+store 100
+variable 0: a
+variable 1: b
+conj a b: c
+rename c 1: F
+rename a 1: b
+rename b 1: F
 
-#[test]
-fn quantifiers_answer(rt: HostRuntime) -> Result<(), Fail> {
-    let mut store = Store::new(rt.alloc(), 100)?;
-    let two = two_of(&mut store)?;
-    assert_eq!(rt; store.restrict(two.both, 0, true), Ok(two.b));
-    assert_eq!(rt; store.forget_var(two.both, 0), Ok(two.b));
-    assert_eq!(rt; store.meet_without(two.a, two.b, &[true]), Ok(two.b));
-    let variables = store.support(two.both)?;
-    assert_eq!(rt; variables.as_slice(), [0, 1].as_slice());
-    Ok(())
-}
+% Where a table or the cache is not asked, each of these calls takes 2 ^ 40 steps.
+store 10000
+parity 39: a
+parity 40: b
+negate b: c
+negate c: b
+restrict b 39 0: a
+overlap b c: Ok(false)
+within b b: Ok(true)
+support c: Ok([0, 1, 2, 3, 4, 5, 6, 7, 8, 9, 10, 11, 12, 13, 14, 15, 16, 17, 18, 19, 20, 21, 22, 23, 24, 25, 26, 27, 28, 29, 30, 31, 32, 33, 34, 35, 36, 37, 38, 39])
 
-/// Of two variables, with these in their place: whether both are true where they were, whether the second one stands
-/// where the first one stood, and whether nothing stands where the second one stood.
-fn renamed(alloc: Global, to: &[u32]) -> Result<(bool, bool, bool), DdAnswer> {
-    let mut store = Store::new(alloc, 100)?;
-    let two = two_of(&mut store)?;
-    let both = store.rename(two.both, to)? == two.both;
-    let first = store.rename(two.a, to)? == two.b;
-    let second = store.rename(two.b, to)? == store.constant(false);
-    Ok((both, first, second))
-}
+% Two truths answer, and make nothing.
+store 100
+variable 0: a
+variable 1: b
+conj a b: c
+within c a: Ok(true)
+within a c: Ok(false)
+negate a: d
+len: 4
+overlap a b: Ok(true)
+overlap c d: Ok(false)
+len: 4
 
-#[test]
-fn variables_are_renamed(rt: HostRuntime) -> Result<(), Fail> {
-    let alloc = rt.alloc();
-    assert_eq!(rt; renamed(alloc, &[1, 0])?, (true, true, false));
-    assert_eq!(rt; renamed(alloc, &[1])?, (false, true, true));
-    Ok(())
-}
+% Many supports are told at once.
+store 100
+variable 63: a
+variable 64: b
+variable 130: c
+conj c a: d
+disj d b: e
+supports e T d b: [63, 64, 130][][63, 130][64]
+";
 
 /// Whether an odd number of the first variables is true.
 fn parity(store: &mut Store, count: u32) -> Result<Ref, DdAnswer>
-    ensures { IfOk result (Holds store.new.nodes) }
+    ensures grows { length store.old.nodes ≤ length store.new.nodes }
+    ensures held { IfOk result (Holds store.new.nodes) }
 {
     let mut odd = store.constant(false);
     for v in 0..count {
@@ -105,57 +114,63 @@ fn parity(store: &mut Store, count: u32) -> Result<Ref, DdAnswer>
     Ok(odd)
 }
 
-// Where a table or the cache is not asked, each of these calls takes 2 ^ 40 steps.
-#[test]
-fn each_question_is_split_once(rt: HostRuntime) -> Result<(), Fail> {
-    let mut store = Store::new(rt.alloc(), 10_000)?;
-    let less = parity(&mut store, 39)?;
-    let odd = parity(&mut store, 40)?;
-    let even = store.negate(odd)?;
-    assert_eq!(rt; store.negate(even)?, odd);
-    assert_eq!(rt; store.restrict(odd, 39, false)?, less);
-    assert!(rt; !store.overlap(odd, even)?);
-    assert!(rt; store.within(odd, odd)?);
-    assert_eq!(rt; store.support(even)?.len(), 40);
-    Ok(())
-}
-
-#[test]
-fn two_truths_answer(rt: HostRuntime) -> Result<(), Fail> {
-    let mut store = Store::new(rt.alloc(), 100)?;
-    let two = two_of(&mut store)?;
-    let within = (
-        store.within(two.both, two.a)?,
-        store.within(two.a, two.both)?,
-    );
-    assert_eq!(rt; within, (true, false));
-    let not_a = store.negate(two.a)?;
-    let count = store.len();
-    let overlap = (
-        store.overlap(two.a, two.b)?,
-        store.overlap(two.both, not_a)?,
-    );
-    assert_eq!(rt; overlap, (true, false));
-    assert_eq!(rt; store.len(), count);
-    Ok(())
-}
-
-#[test]
-fn many_supports_answer(rt: HostRuntime) -> Result<(), Fail> {
-    let mut store = Store::new(rt.alloc(), 100)?;
-    let early = store.variable(63)?;
-    let late = store.variable(64)?;
-    let last = store.variable(130)?;
-    let both = store.conj(last, early)?;
-    let some = store.disj(both, late)?;
-    let lists = store.supports(&[some, store.constant(true), both, late])?;
-    let lengths = [3, 0, 2, 1];
-    let variables = [63, 64, 130, 63, 130, 64];
-    let mut found = Vec::new(rt.alloc());
-    for (i, list) in lists.as_slice().iter().enumerate() {
-        assert_eq!(rt; lengths.get(i).copied(), Some(list.as_slice().len()));
-        found.extend_from_slice(list.as_slice())?;
+/// The function that is made, or why it is not; nothing where none is asked for.
+pub fn made(
+    store: &mut Store,
+    what: &str,
+    held: &[Ref],
+    numbers: &[u32],
+) -> Option<Result<Ref, DdAnswer>>
+    requires { All (λ f. Holds store.old.nodes f) held.now }
+    ensures grows { length store.old.nodes ≤ length store.new.nodes }
+    ensures held { IfSome result (λ made. IfOk made (Holds store.new.nodes)) }
+{
+    match (what, held, numbers) {
+        ("variable", _, [v]) => Some(store.variable(*v)),
+        ("parity", _, [count]) => Some(parity(store, *count)),
+        ("conj", [f, g], _) => Some(store.conj(*f, *g)),
+        ("disj", [f, g], _) => Some(store.disj(*f, *g)),
+        ("ite", [f, g, h], _) => Some(store.ite(*f, *g, *h)),
+        ("negate", [f], _) => Some(store.negate(*f)),
+        ("restrict", [f], [v, truth]) => Some(store.restrict(*f, *v, *truth == 1)),
+        ("forget_var", [f], [v]) => Some(store.forget_var(*f, *v)),
+        ("meet_without_0", [f, g], _) => Some(store.meet_without(*f, *g, &[true])),
+        ("rename", [f], to) => Some(store.rename(*f, to)),
+        _ => None,
     }
-    assert_eq!(rt; found.as_slice(), variables.as_slice());
-    Ok(())
+}
+
+/// What is asked of the functions.
+pub fn told(
+    alloc: Global,
+    store: &mut Store,
+    what: &str,
+    held: &[Ref],
+    numbers: &[u32],
+) -> Result<String, Fail>
+    requires { All (λ f. Holds store.old.nodes f) held.now }
+    ensures { length store.old.nodes ≤ length store.new.nodes }
+{
+    let mut out = String::new(alloc);
+    match (what, held) {
+        ("len", _) => write!(out, "{}", store.len())?,
+        ("within", [f, g]) => write!(out, "{:?}", store.within(*f, *g))?,
+        ("overlap", [f, g]) => write!(out, "{:?}", store.overlap(*f, *g))?,
+        ("implies", [f, g]) => write!(out, "{:?}", store.implies(*f, *g))?,
+        ("support", [f]) => write!(out, "{:?}", store.support(*f))?,
+        ("supports", roots) => {
+            for list in store.supports(roots)?.as_slice() {
+                write!(out, "{:?}", list.as_slice())?;
+            }
+        }
+        ("value", [f]) => {
+            let truths = numbers
+                .iter()
+                .map(|number| *number == 1)
+                .collect::<Vec<bool>>(alloc)?;
+            write!(out, "{:?}", value(store, *f, truths.as_slice()))?;
+        }
+        _ => return Err(Fail::from("there is no such question")),
+    }
+    Ok(out)
 }

@@ -9,9 +9,6 @@ use sig_tree::Flat;
 use std::alloc::Global;
 use std::test::Fail;
 
-/// An integer, a boolean and an event.
-pub const THREE_KINDS: &[u8] = b"process KINDS = (? integer A; boolean B; event C ! ) (| |);";
-
 /// The flat body of a text that has one.
 pub fn flat_of(alloc: Global, text: &[u8]) -> Result<Flat, Fail>
     ensures { IfOk result (λ flat. IsDistinct bytes_eq (map (λ signal. signal.name) flat.signals.items)) }

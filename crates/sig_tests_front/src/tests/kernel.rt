@@ -4,131 +4,115 @@ use sig_base::{Kind, SigId, Signal, Span, Text};
 use sig_kernel::{
     Equation, Equations, Flow, Form, FunOp, Inputs, Kernel, Operand, Operands, Signals,
 };
-use std::alloc::{AllocError, Global};
+use std::alloc::Global;
+use std::fmt::Write;
 use std::test::Fail;
+
+/// Whether kernels are valid, or whether the one flow 3 2 fits them. They have the signals of a countdown, so many inputs
+/// and so many of its equations, and one more equation where one is told.
+pub const FORMS: &str = r"
+valid 1 6: true
+valid 3 6: false
+valid 1 5 Sync 5 0: true
+valid 1 5 Sync 5 6: false
+valid 1 5 Event 0 5: false
+valid 1 5 Event 5 0: false
+% Kinds of operands.
+valid 1 4 Event 5 0: true
+valid 1 4 WhenConst 5 1 4: true
+valid 1 4 WhenConst 5 0 4: false
+valid 1 4 WhenConst 5 1 0: false
+valid 1 4 Default 5 4 4: false
+valid 1 4 When 5 4 4: false
+valid 1 4 Delay 5 4 1: false
+valid 1 4 Eq 5 4 1: false
+% Flows that fit.
+fits 1 6: true
+fits 2 6: false
+fits 0 6: false
+";
+
+/// The signals of `Y := A default (ZY - 1)`, `ZY := Y $ init 0`, `A ^= when (ZY <= 0)`.
+const SIGNALS: &str = "A Y ZY #1:1 #1:2 #1:3";
+
+/// Their kinds.
+const KINDS: [Kind; 6] = [
+    Kind::Integer,
+    Kind::Integer,
+    Kind::Integer,
+    Kind::Integer,
+    Kind::Boolean,
+    Kind::Event,
+];
+
+/// Their equations.
+const EQUATIONS: &str = "Sub 3 2 1,Default 1 0 3,Delay 2 1 0,Le 4 2 0,WhenConst 5 1 4,Sync 0 5";
 
 const AT: Span = Span { line: 1, col: 1 };
 
-fn signal(alloc: Global, name: &[u8], kind: Kind) -> Result<Signal, AllocError> {
-    Ok(Signal {
-        name: Text::from_bytes(alloc, name)?,
-        kind,
-        cluster: 0,
-        at: AT,
-    })
-}
-
-/// The signals of `Y := A default (ZY - 1)`, `ZY := Y $ init 0`, `A ^= when (ZY <= 0)`.
-fn down_signals(alloc: Global) -> Result<Vec<Signal>, AllocError> {
-    let mut signals = Vec::new(alloc);
-    signals.push(signal(alloc, b"A", Kind::Integer)?)?;
-    signals.push(signal(alloc, b"Y", Kind::Integer)?)?;
-    signals.push(signal(alloc, b"ZY", Kind::Integer)?)?;
-    signals.push(signal(alloc, b"#1:1", Kind::Integer)?)?;
-    signals.push(signal(alloc, b"#1:2", Kind::Boolean)?)?;
-    signals.push(signal(alloc, b"#1:3", Kind::Event)?)?;
-    Ok(signals)
-}
-
-fn fun(alloc: Global, y: u32, op: FunOp, x: u32, constant: i64) -> Result<Form, AllocError> {
+/// The form of an equation that words tell.
+fn form_of(alloc: Global, text: &str) -> Result<Form, Fail> {
+    let mut words = text.split(' ');
+    let name = words.next().unwrap_or("");
+    let y = words.next().unwrap_or("0").parse::<u32>()?;
+    let x = words.next().unwrap_or("0").parse::<u32>()?;
+    let z = words.next().unwrap_or("0").parse::<u32>()?;
+    let operator = match name {
+        "Default" => return Ok(Form::Default(SigId(y), SigId(x), SigId(z))),
+        "When" => return Ok(Form::When(SigId(y), SigId(x), SigId(z))),
+        "WhenConst" => return Ok(Form::WhenConst(SigId(y), i64::from(x), SigId(z))),
+        "Delay" => return Ok(Form::Delay(SigId(y), SigId(x), i64::from(z))),
+        "Event" => return Ok(Form::Event(SigId(y), SigId(x))),
+        "Sync" => return Ok(Form::Sync(SigId(y), SigId(x))),
+        "Sub" => FunOp::Sub,
+        "Le" => FunOp::Le,
+        _ => FunOp::Eq,
+    };
     let mut operands = Vec::new(alloc);
     operands.push(Operand::Sig(SigId(x)))?;
-    operands.push(Operand::Const(constant))?;
-    Ok(Form::Fun(SigId(y), op, Operands::from(operands)))
+    operands.push(Operand::Const(i64::from(z)))?;
+    Ok(Form::Fun(SigId(y), operator, Operands::from(operands)))
 }
 
-fn down_forms(alloc: Global) -> Result<Vec<Form>, AllocError> {
-    let mut forms = Vec::new(alloc);
-    forms.push(fun(alloc, 3, FunOp::Sub, 2, 1)?)?;
-    forms.push(Form::Default(SigId(1), SigId(0), SigId(3)))?;
-    forms.push(Form::Delay(SigId(2), SigId(1), 0))?;
-    forms.push(fun(alloc, 4, FunOp::Le, 2, 0)?)?;
-    forms.push(Form::WhenConst(SigId(5), 1, SigId(4)))?;
-    forms.push(Form::Sync(SigId(0), SigId(5)))?;
-    Ok(forms)
-}
-
-fn kernel(alloc: Global, forms: Vec<Form>) -> Result<Kernel, AllocError> {
+/// The kernel that words tell: how many inputs it has, how many of the equations, and one more.
+fn kernel_of(alloc: Global, text: &str) -> Result<Kernel, Fail> {
+    let mut words = text.splitn(3, ' ');
+    let inputs = words.next().unwrap_or("").parse::<u32>()?;
+    let count = words.next().unwrap_or("").parse::<usize>()?;
     let mut equations = Vec::new(alloc);
-    for form in forms {
+    for text in EQUATIONS.split(',').take(count).chain(words) {
+        let form = form_of(alloc, text)?;
         equations.push(Equation { form, at: AT })?;
     }
+    let mut signals = Vec::new(alloc);
+    for (name, kind) in SIGNALS.split(' ').zip(KINDS) {
+        signals.push(Signal {
+            name: Text::from_bytes(alloc, name.as_bytes())?,
+            kind,
+            cluster: 0,
+            at: AT,
+        })?;
+    }
     Ok(Kernel {
-        signals: Signals::from(down_signals(alloc)?),
+        signals: Signals::from(signals),
         equations: Equations::from(equations),
-        inputs: 1,
+        inputs,
         outputs: 1,
         declared: 3,
     })
 }
 
-/// Whether the kernel is valid with one more equation in place of the last one.
-fn is_valid_with(alloc: Global, last: Form) -> Result<bool, AllocError> {
-    let mut forms = down_forms(alloc)?;
-    let _ = forms.pop();
-    forms.push(last)?;
-    Ok(kernel(alloc, forms)?.is_valid())
-}
-
-#[test]
-fn valid_kernels(rt: HostRuntime) -> Result<(), Fail> {
-    let alloc = rt.alloc();
-    let mut down = kernel(alloc, down_forms(alloc)?)?;
-    let is_valid = down.is_valid();
-    down.inputs = 3;
-    assert_eq!(rt; (is_valid, down.is_valid()), (true, false));
-    let rows = [
-        (Form::Sync(SigId(5), SigId(0)), true),
-        (Form::Sync(SigId(5), SigId(6)), false),
-        (Form::Event(SigId(0), SigId(5)), false),
-        (Form::Event(SigId(5), SigId(0)), false),
-    ];
-    for (last, wanted) in rows {
-        assert_eq!(rt; is_valid_with(alloc, last)?, wanted);
-    }
-    Ok(())
-}
-
-/// The forms of the first kernel with another one that defines the event.
-fn with_event(alloc: Global, form: Form) -> Result<bool, AllocError> {
-    let mut forms = down_forms(alloc)?;
-    let _ = forms.pop();
-    let _ = forms.pop();
-    forms.push(form)?;
-    Ok(kernel(alloc, forms)?.is_valid())
-}
-
-#[test]
-fn kinds_of_operands(rt: HostRuntime) -> Result<(), Fail> {
-    let alloc = rt.alloc();
-    let compared = fun(alloc, 5, FunOp::Eq, 4, 1)?;
-    let rows = [
-        (Form::Event(SigId(5), SigId(0)), true),
-        (Form::WhenConst(SigId(5), 1, SigId(4)), true),
-        (Form::WhenConst(SigId(5), 0, SigId(4)), false),
-        (Form::WhenConst(SigId(5), 1, SigId(0)), false),
-        (Form::Default(SigId(5), SigId(4), SigId(4)), false),
-        (Form::When(SigId(5), SigId(4), SigId(4)), false),
-        (Form::Delay(SigId(5), SigId(4), 1), false),
-        (compared, false),
-    ];
-    for (form, wanted) in rows {
-        assert_eq!(rt; with_event(alloc, form)?, wanted);
-    }
-    Ok(())
-}
-
-#[test]
-fn flows_that_fit(rt: HostRuntime) -> Result<(), Fail> {
-    let alloc = rt.alloc();
-    let mut down = kernel(alloc, down_forms(alloc)?)?;
+/// Adds whether the kernel is valid, or whether the flow fits.
+pub fn write_valid(alloc: Global, out: &mut String, kind: &str, text: &str) -> Result<(), Fail> {
+    let kernel = kernel_of(alloc, text)?;
     let mut flows = Vec::new(alloc);
     flows.push(Flow::from([3, 2].to_vec(alloc)?))?;
     let inputs = Inputs::from(flows);
-    assert!(rt; inputs.fits(&down));
-    down.inputs = 2;
-    assert!(rt; !inputs.fits(&down));
-    down.inputs = 0;
-    assert!(rt; !inputs.fits(&down));
+    let holds = if kind == "fits" {
+        inputs.fits(&kernel)
+    } else {
+        kernel.is_valid()
+    };
+    write!(out, "{holds}")?;
     Ok(())
 }

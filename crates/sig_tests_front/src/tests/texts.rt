@@ -1,37 +1,20 @@
 //! Programs and flat bodies by their texts.
 
+ghost use Rattle.std.specs.Prelude.{IfOk};
+ghost use Rattle.sig_tree.specs.Grammar.{IsText};
+ghost use Rattle.sig_tree.specs.Syntax.{program_of};
+
+use sig_base::Text;
 use sig_base::limits::PROGRAM_BYTES;
 use sig_front::{flat, tree};
 use sig_tree::{Flat, Program};
 use std::alloc::Global;
 use std::test::Fail;
 
-pub const SUM: &[u8] = b"process SUM = (? integer A, B ! integer Y) Y := A + B;";
-
-/// A watchdog: a value that is held, and an alarm where no request came for three instants.
-pub const WATCH: &[u8] =
-    b"process WATCH = (? event TICK; boolean REQ; integer V ! integer HELD; boolean ALARM)
-pragmas RunOn {AGE, ALARM} \"1\" end pragmas
-(| REQ ^= TICK
- | V ^= when REQ
- | HELD := V cell TICK init 0
- | AGE := COUNT{3}(REQ)
- | LATE := AGE >= 3
- | WAS := LATE $ init false
- | ALARM := LATE and not WAS
- |)
-where integer AGE; boolean LATE, WAS;
-  process COUNT = {integer MAX} (? boolean R ! integer N)
-  (| N := (0 when R) default (MAX when (ZN >= MAX)) default (ZN + 1)
-   | ZN := N $
-   | N ^= R
-   |)
-  where integer ZN init 0; end;
-end;
-";
-
 /// The program of a text that is one.
-pub fn program(alloc: Global, text: &[u8]) -> Result<Program, Fail> {
+pub fn program(alloc: Global, text: &[u8]) -> Result<Program, Fail>
+    ensures { IfOk result (λ program. IsText text.now (program_of program)) }
+{
     if text.len() > PROGRAM_BYTES {
         return Err(Fail::from("the text is too long"));
     }
@@ -44,4 +27,9 @@ pub fn flat_of(alloc: Global, text: &[u8]) -> Result<Flat, Fail> {
         return Err(Fail::from("the text is too long"));
     }
     Ok(flat(alloc, text)?)
+}
+
+/// A name in writing.
+pub fn written(text: &Text) -> &str {
+    str::from_utf8(text.as_bytes()).unwrap_or("?")
 }

@@ -1,10 +1,35 @@
 //! Expressions, each with its tree in writing, made by hand from the levels of the operators.
 
-use super::texts::parsed;
-use super::writing::write_bytes;
-use sig_tree::{BinOp, Body, Constant, Expr, Right, UnOp};
-use std::alloc::{AllocError, Global};
-use std::test::Fail;
+use sig_base::Text;
+use sig_tree::{BinOp, Constant, Expr, UnOp};
+use std::alloc::AllocError;
+use std::fmt::Write;
+
+/// Operators by their levels.
+pub const LEVELS: &str = r"
+tree process P = ( ? ! ) X := a - b * c ;: (a - (b * c))
+tree process P = ( ? ! ) X := a - b - c ;: ((a - b) - c)
+tree process P = ( ? ! ) X := (a - (b - c)) ;: (a - (b - c))
+tree process P = ( ? ! ) X := a * b modulo c / d ;: (((a * b) modulo c) / d)
+tree process P = ( ? ! ) X := a default b default c ;: ((a default b) default c)
+tree process P = ( ? ! ) X := a when b default c ;: ((a when b) default c)
+tree process P = ( ? ! ) X := when a when b ;: ((when a) when b)
+tree process P = ( ? ! ) X := a cell b init 1 when c ;: ((a cell b init 1) when c)
+tree process P = ( ? ! ) X := a when b cell ^c init -3 ;: ((a when b) cell (^ c) init -3)
+tree process P = ( ? ! ) X := not a and b or c xor d ;: ((((not a) and b) or c) xor d)
+tree process P = ( ? ! ) X := not not a = b ;: (not (not (a = b)))
+tree process P = ( ? ! ) X := a ^+ b ^* c ^- d ;: (((a ^+ b) ^* c) ^- d)
+tree process P = ( ? ! ) X := a + b <= - c * d ;: ((a + b) <= ((- c) * d))
+tree process P = ( ? ! ) X := - - a $ $ ;: (- (- ((a $) $)))
+tree process P = ( ? ! ) X := a $ 1 init true $ init N ;: ((a $ init true) $ init N)
+tree process P = ( ? ! ) X := ^ ^ a $ + 7 ;: (((^ (^ a)) $) + 7)
+tree process P = ( ? ! ) X := true default false ;: (true default false)
+";
+
+/// A name in writing.
+pub fn written(text: &Text) -> &str {
+    str::from_utf8(text.as_bytes()).unwrap_or("?")
+}
 
 fn unary_text(op: UnOp) -> &'static str {
     match op {
@@ -39,21 +64,18 @@ fn binary_text(op: BinOp) -> &'static str {
     }
 }
 
-fn write_constant(out: &mut String, constant: &Constant) -> Result<(), AllocError> {
+pub fn write_constant(out: &mut String, constant: &Constant) -> Result<(), AllocError> {
     match constant {
         Constant::Int(value, _) => write!(out, " init {value}"),
         Constant::Bool(truth, _) => write!(out, " init {truth}"),
-        Constant::Param(name) => {
-            out.push_str(" init ")?;
-            write_bytes(out, name.text.as_bytes())
-        }
+        Constant::Param(name) => write!(out, " init {}", written(&name.text)),
     }
 }
 
 /// An expression with parentheses around each operator.
-fn write_tree(out: &mut String, e: &Expr) -> Result<(), AllocError> {
+pub fn write_tree(out: &mut String, e: &Expr) -> Result<(), AllocError> {
     match e {
-        Expr::Name(name) => return write_bytes(out, name.text.as_bytes()),
+        Expr::Name(name) => return out.push_str(written(&name.text)),
         Expr::Int(value, _) => return write!(out, "{value}"),
         Expr::Bool(truth, _) => return write!(out, "{truth}"),
         _ => out.push('(')?,
@@ -87,51 +109,4 @@ fn write_tree(out: &mut String, e: &Expr) -> Result<(), AllocError> {
         _ => {}
     }
     out.push(')')
-}
-
-/// The tree of an expression in writing.
-fn written(alloc: Global, text: &[u8]) -> Result<String, Fail> {
-    let mut program = Vec::new(alloc);
-    program.extend_from_slice(b"process P = ( ? ! ) X := ")?;
-    program.extend_from_slice(text)?;
-    program.extend_from_slice(b" ;")?;
-    let mut out = String::new(alloc);
-    if let Ok(read) = parsed(alloc, &program)? {
-        if let Some(process) = read.processes.first() {
-            if let Body::Def(_, Right::Value(e)) = &process.body {
-                write_tree(&mut out, e)?;
-            }
-        }
-    }
-    Ok(out)
-}
-
-#[test]
-fn reads_operators_by_their_levels(rt: HostRuntime) -> Result<(), Fail> {
-    let rows: [(&[u8], &str); 17] = [
-        (b"a - b * c", "(a - (b * c))"),
-        (b"a - b - c", "((a - b) - c)"),
-        (b"(a - (b - c))", "(a - (b - c))"),
-        (b"a * b modulo c / d", "(((a * b) modulo c) / d)"),
-        (b"a default b default c", "((a default b) default c)"),
-        (b"a when b default c", "((a when b) default c)"),
-        (b"when a when b", "((when a) when b)"),
-        (b"a cell b init 1 when c", "((a cell b init 1) when c)"),
-        (
-            b"a when b cell ^c init -3",
-            "((a when b) cell (^ c) init -3)",
-        ),
-        (b"not a and b or c xor d", "((((not a) and b) or c) xor d)"),
-        (b"not not a = b", "(not (not (a = b)))"),
-        (b"a ^+ b ^* c ^- d", "(((a ^+ b) ^* c) ^- d)"),
-        (b"a + b <= - c * d", "((a + b) <= ((- c) * d))"),
-        (b"- - a $ $", "(- (- ((a $) $)))"),
-        (b"a $ 1 init true $ init N", "((a $ init true) $ init N)"),
-        (b"^ ^ a $ + 7", "(((^ (^ a)) $) + 7)"),
-        (b"true default false", "(true default false)"),
-    ];
-    for (text, tree) in rows {
-        assert_eq!(rt; written(rt.alloc(), text)?.as_str(), tree, "at {text:?}");
-    }
-    Ok(())
 }

@@ -1,199 +1,83 @@
 //! Programs, and texts that are none, each with the line of its refusal, made by hand from the grammar.
 
-use super::texts::{parsed, program};
-use sig_base::{Kind, Span};
-use sig_tree::{Body, Constant, Expr, Process, Right};
-use std::alloc::{AllocError, Global};
+use super::expressions::{write_constant, write_tree, written};
+use sig_tree::{Body, Process, Right};
+use std::fmt::Write;
 use std::test::Fail;
 
-/// The line of a refusal, or `read`.
-fn line(alloc: Global, text: &[u8]) -> Result<String, Fail> {
-    match parsed(alloc, text)? {
-        Ok(_) => Ok(format!(in alloc; "read")?),
-        Err(answer) => Ok(answer.to_string(alloc)?),
-    }
-}
+/// Texts that are refused at the first wrong token.
+pub const REFUSED: &str = r#"
+parse : error 1:1: syntax
+parse process SUM = (? integer A: error 1:27: syntax
+parse process P = ( ? ! ) (| |) ;: read
+parse process P = ( ? ! ) (| |): error 1:26: syntax
+parse process P = ( ? ! ) (| |) ; ;: error 1:29: syntax
+parse process P = ( ? integer A init 1 ! ) (| |) ;: error 1:27: syntax
+parse process P = ( ? ! integer A init 1 ) (| |) ;: read
+parse process P = { event E } ( ? ! ) (| |) ;: error 1:15: syntax
+parse process P = { } ( ? ! ) (| |) ;: read
+parse process P = ( ? integer A ; ! ) (| |) ;: read
+parse process P = ( ? ; ! ) (| |) ;: error 1:17: syntax
+parse process P = ( ? ! ) A ;: error 1:23: syntax
+parse process P = ( ? ! ) ( A ) := F ( ) ;: read
+parse process P = ( ? ! ) ( A ) + B ^= C ;: read
+parse process P = ( ? ! ) ( A , B ) ^= C ;: error 1:31: syntax
+parse process P = ( ? ! ) X := A = B = C ;: error 1:32: syntax
+parse process P = ( ? ! ) X := F { } ;: error 1:32: syntax
+parse process P = ( ? ! ) X := F { - 1 , true } ( A , not B ) ;: read
+parse process P = ( ? ! ) X := A $ 2 ;: error 1:30: syntax
+parse process P = ( ? ! ) X := A 1 ;: error 1:28: syntax
+parse process P = ( ? ! ) X := A $ 1 1 ;: error 1:32: syntax
+parse process P = ( ? ! ) X := A init 0 ;: error 1:28: syntax
+parse process P = ( ? ! ) X := A cell B init C + D ;: error 1:42: syntax
+parse process P = ( ? ! ) X := F { 1 } { 2 } ( A ) ;: error 1:34: syntax
+parse process P = ( ? ! ) X := A ( B ) ;: read
+parse process P = ( ? ! ) X := A + B ( C ) ;: error 1:32: syntax
+parse process P = ( ? ! ) A := B ^= C ;: error 1:28: syntax
+parse process P = ( ? ! ) A ^= B := C ;: error 1:28: syntax
+parse process P = ( ? ! ) pragmas RunOff { A } "1" end pragmas (| |) ;: error 1:29: syntax
+parse process P = ( ? ! ) pragmas end pragmas (| |) ;: read
+parse process P = ( ? ! ) (| |) where integer A end ;: error 1:43: syntax
+"#;
 
-#[test]
-fn refuses_at_the_first_wrong_token(rt: HostRuntime) -> Result<(), Fail> {
-    let rows: [(&[u8], &str); 31] = [
-        (b"", "error 1:1: syntax"),
-        (b"process SUM = (? integer A", "error 1:27: syntax"),
-        (b"process P = ( ? ! ) (| |) ;", "read"),
-        (b"process P = ( ? ! ) (| |)", "error 1:26: syntax"),
-        (b"process P = ( ? ! ) (| |) ; ;", "error 1:29: syntax"),
-        (
-            b"process P = ( ? integer A init 1 ! ) (| |) ;",
-            "error 1:27: syntax",
-        ),
-        (b"process P = ( ? ! integer A init 1 ) (| |) ;", "read"),
-        (
-            b"process P = { event E } ( ? ! ) (| |) ;",
-            "error 1:15: syntax",
-        ),
-        (b"process P = { } ( ? ! ) (| |) ;", "read"),
-        (b"process P = ( ? integer A ; ! ) (| |) ;", "read"),
-        (b"process P = ( ? ; ! ) (| |) ;", "error 1:17: syntax"),
-        (b"process P = ( ? ! ) A ;", "error 1:23: syntax"),
-        (b"process P = ( ? ! ) ( A ) := F ( ) ;", "read"),
-        (b"process P = ( ? ! ) ( A ) + B ^= C ;", "read"),
-        (
-            b"process P = ( ? ! ) ( A , B ) ^= C ;",
-            "error 1:31: syntax",
-        ),
-        (
-            b"process P = ( ? ! ) X := A = B = C ;",
-            "error 1:32: syntax",
-        ),
-        (b"process P = ( ? ! ) X := F { } ;", "error 1:32: syntax"),
-        (
-            b"process P = ( ? ! ) X := F { - 1 , true } ( A , not B ) ;",
-            "read",
-        ),
-        (b"process P = ( ? ! ) X := A $ 2 ;", "error 1:30: syntax"),
-        (b"process P = ( ? ! ) X := A 1 ;", "error 1:28: syntax"),
-        (b"process P = ( ? ! ) X := A $ 1 1 ;", "error 1:32: syntax"),
-        (b"process P = ( ? ! ) X := A init 0 ;", "error 1:28: syntax"),
-        (
-            b"process P = ( ? ! ) X := A cell B init C + D ;",
-            "error 1:42: syntax",
-        ),
-        (
-            b"process P = ( ? ! ) X := F { 1 } { 2 } ( A ) ;",
-            "error 1:34: syntax",
-        ),
-        (b"process P = ( ? ! ) X := A ( B ) ;", "read"),
-        (
-            b"process P = ( ? ! ) X := A + B ( C ) ;",
-            "error 1:32: syntax",
-        ),
-        (b"process P = ( ? ! ) A := B ^= C ;", "error 1:28: syntax"),
-        (b"process P = ( ? ! ) A ^= B := C ;", "error 1:28: syntax"),
-        (
-            b"process P = ( ? ! ) pragmas RunOff { A } \"1\" end pragmas (| |) ;",
-            "error 1:29: syntax",
-        ),
-        (b"process P = ( ? ! ) pragmas end pragmas (| |) ;", "read"),
-        (
-            b"process P = ( ? ! ) (| |) where integer A end ;",
-            "error 1:43: syntax",
-        ),
-    ];
-    for (text, wanted) in rows {
-        assert_eq!(rt; line(rt.alloc(), text)?.as_str(), wanted, "at {text:?}");
+/// The limits of bodies and processes.
+pub const LIMITS: &str = r"
+parse process P = ( ? ! ) \{65 (|\}: error 1:149: nesting deeper than 64
+parse process P = ( ? ! ) \{64 (|\}X := A: error 1:155: syntax
+parse process P = ( ? ! ) \{64 (|\}X := - A: error 1:154: nesting deeper than 64
+parse process P = ( ? ! ) \{65 (\}A: error 1:85: nesting deeper than 64
+parse process P = ( ? ! ) X := \{513 A+\}A ;: error 1:1051: more than 512 operators
+parse process P = ( ? ! ) X := \{512 A+\}A ;: read
+parse process P = ( ? ! ) A ^= \{600 A^=\}A ;: read
+parse process P = ( ? ! ) X := \{65 not \}A ;: error 1:282: nesting deeper than 64
+parse process P = ( ? ! ) X := \{65 -\}A ;: error 1:90: nesting deeper than 64
+parse process P = ( ? ! ) X := \{64 ^\}(A) ;: error 1:90: nesting deeper than 64
+parse process P = ( ? ! ) X := \{64 (\}A ;: error 1:92: syntax
+% The 65th of these processes stands inside 63 others, and its `(|` inside 64.
+parse \{66 process P = ( ? ! ) (| |) where \}: error 1:2069: nesting deeper than 64
+parse \{66 process P = ( ? ! ) X := A where \}: error 1:2146: nesting deeper than 64
+";
+
+/// The parts of a process: its name and its place; how many parameters, inputs, outputs, pragmas, locals and processes it
+/// has; the kinds of the inputs; the outputs' first values; the pragmas, each with how many names it has, its place and its
+/// label; and the equations.
+pub const PARTS: &str = r#"
+parts process COUNT = { integer MAX } ( ? boolean RESET ; ! integer N , M init - 1 )\npragmas RunOn { N , Z } "3" end pragmas\n(| ( N , M ) := F { MAX , true } ( Z , 7 ) | Z := N $ 1 init 0 | N ^= RESET |)\nwhere integer Z ; process F = ( ? ! ) (| |) ; end ;: COUNT Span { line: 1, col: 9 } [1, 1, 1, 1, 1, 1] Boolean none init -1 2 Span { line: 2, col: 9 } 3 call (N $ init 0) same
+"#;
+
+/// Adds an equation: its expression, or what else it is.
+pub fn write_body(out: &mut String, body: &Body) -> Result<(), Fail> {
+    match body {
+        Body::All(_) => out.push_str("all")?,
+        Body::Same(_) => out.push_str("same")?,
+        Body::Def(_, Right::Call(..)) => out.push_str("call")?,
+        Body::Def(_, Right::Value(e)) => write_tree(out, e)?,
     }
     Ok(())
 }
 
-/// Some bytes, then so many times others, and some at the end.
-fn around(
-    alloc: Global,
-    before: &[u8],
-    count: u32,
-    this: &[u8],
-    behind: &[u8],
-) -> Result<Vec<u8>, AllocError> {
-    let mut text = Vec::new(alloc);
-    text.extend_from_slice(before)?;
-    for _ in 0..count {
-        text.extend_from_slice(this)?;
-    }
-    text.extend_from_slice(behind)?;
-    Ok(text)
-}
-
-#[test]
-fn keeps_the_limits_of_bodies_and_processes(rt: HostRuntime) -> Result<(), Fail> {
-    let head = b"process P = ( ? ! ) ".as_slice();
-    let rows: [(&[u8], u32, &[u8], &[u8], &str); 13] = [
-        (head, 65, b"(|", b"", "error 1:149: nesting deeper than 64"),
-        (head, 64, b"(|", b"X := A", "error 1:155: syntax"),
-        (
-            head,
-            64,
-            b"(|",
-            b"X := - A",
-            "error 1:154: nesting deeper than 64",
-        ),
-        (head, 65, b"(", b"A", "error 1:85: nesting deeper than 64"),
-        (
-            b"process P = ( ? ! ) X := ",
-            513,
-            b"A+",
-            b"A ;",
-            "error 1:1051: more than 512 operators",
-        ),
-        (b"process P = ( ? ! ) X := ", 512, b"A+", b"A ;", "read"),
-        (b"process P = ( ? ! ) A ^= ", 600, b"A^=", b"A ;", "read"),
-        (
-            b"process P = ( ? ! ) X := ",
-            65,
-            b"not ",
-            b"A ;",
-            "error 1:282: nesting deeper than 64",
-        ),
-        (
-            b"process P = ( ? ! ) X := ",
-            65,
-            b"-",
-            b"A ;",
-            "error 1:90: nesting deeper than 64",
-        ),
-        (
-            b"process P = ( ? ! ) X := ",
-            64,
-            b"^",
-            b"(A) ;",
-            "error 1:90: nesting deeper than 64",
-        ),
-        (
-            b"process P = ( ? ! ) X := ",
-            64,
-            b"(",
-            b"A ;",
-            "error 1:92: syntax",
-        ),
-        // The 65th of these processes stands inside 63 others, and its `(|` inside 64.
-        (
-            b"",
-            66,
-            b"process P = ( ? ! ) (| |) where ",
-            b"",
-            "error 1:2069: nesting deeper than 64",
-        ),
-        (
-            b"",
-            66,
-            b"process P = ( ? ! ) X := A where ",
-            b"",
-            "error 1:2146: nesting deeper than 64",
-        ),
-    ];
-    for (before, count, this, behind, wanted) in rows {
-        let text = around(rt.alloc(), before, count, this, behind)?;
-        assert_eq!(rt; line(rt.alloc(), &text)?.as_str(), wanted, "at {this:?}");
-    }
-    Ok(())
-}
-
-const COUNT: &[u8] =
-    b"process COUNT = { integer MAX } ( ? boolean RESET ; ! integer N , M init - 1 )
-pragmas RunOn { N , Z } \"3\" end pragmas
-(| ( N , M ) := F { MAX , true } ( Z , 7 ) | Z := N $ 1 init 0 | N ^= RESET |)
-where integer Z ; process F = ( ? ! ) (| |) ; end ;";
-
-/// The one process of the text.
-fn count(alloc: Global) -> Result<Process, Fail> {
-    let mut read = program(alloc, COUNT)?;
-    match read.processes.pop() {
-        Some(process) if read.processes.is_empty() => Ok(process),
-        _ => Err(Fail::from("there is one process")),
-    }
-}
-
-#[test]
-fn gives_the_parts_of_a_process(rt: HostRuntime) -> Result<(), Fail> {
-    let process = count(rt.alloc())?;
+/// Adds the parts of a process.
+pub fn write_parts(out: &mut String, process: &Process) -> Result<(), Fail> {
     let lengths = [
         process.params.len(),
         process.inputs.len(),
@@ -202,65 +86,28 @@ fn gives_the_parts_of_a_process(rt: HostRuntime) -> Result<(), Fail> {
         process.locals.len(),
         process.inner.len(),
     ];
-    assert_eq!(rt; lengths, [1, 1, 1, 1, 1, 1]);
-    assert_eq!(rt; process.name.text.as_bytes(), b"COUNT".as_slice());
-    assert_eq!(rt; process.name.at, Span { line: 1, col: 9 });
-    Ok(())
-}
-
-#[test]
-fn gives_declarations_and_pragmas(rt: HostRuntime) -> Result<(), Fail> {
-    let process = count(rt.alloc())?;
+    let name = &process.name;
+    write!(out, "{} {:?} {lengths:?}", written(&name.text), name.at)?;
     for group in &process.inputs {
-        assert_eq!(rt; group.kind, Kind::Boolean);
+        write!(out, " {:?}", group.kind)?;
     }
     for group in &process.outputs {
-        let inits: Vec<bool> = group
-            .items
-            .iter()
-            .map(|item| matches!(item.init, Some(Constant::Int(-1, _))))
-            .collect(rt.alloc())?;
-        assert_eq!(rt; inits.as_slice(), [false, true].as_slice());
+        for item in &group.items {
+            match &item.init {
+                Some(constant) => write_constant(out, constant)?,
+                None => out.push_str(" none")?,
+            }
+        }
     }
     for run_on in &process.run_on {
-        assert_eq!(rt;
-            (run_on.names.len(), run_on.at),
-            (2, Span { line: 2, col: 9 })
-        );
-        assert_eq!(rt; run_on.label.as_bytes(), b"3".as_slice());
+        let label = written(&run_on.label);
+        write!(out, " {} {:?} {label}", run_on.names.len(), run_on.at)?;
     }
-    Ok(())
-}
-
-fn is_delay_by_0(e: &Expr) -> bool {
-    match e {
-        Expr::Delay(_, init, _) => match init {
-            Some(constant) => matches!(constant, Constant::Int(0, _)),
-            None => false,
-        },
-        _ => false,
+    if let Body::All(bodies) = &process.body {
+        for body in bodies {
+            out.push(' ')?;
+            write_body(out, body)?;
+        }
     }
-}
-
-/// 0 for a call, 1 for a delay by 0, 2 for a clock equation, and 3 for all else.
-fn sort(body: &Body) -> u32 {
-    match body {
-        Body::All(_) => 3,
-        Body::Same(_) => 2,
-        Body::Def(_, right) => match right {
-            Right::Call(..) => 0,
-            Right::Value(e) => if is_delay_by_0(e) { 1 } else { 3 },
-        },
-    }
-}
-
-#[test]
-fn gives_the_equations(rt: HostRuntime) -> Result<(), Fail> {
-    let process = count(rt.alloc())?;
-    let sorts = match &process.body {
-        Body::All(bodies) => bodies.iter().map(|body| sort(body)).collect(rt.alloc())?,
-        _ => Vec::new(rt.alloc()),
-    };
-    assert_eq!(rt; sorts.as_slice(), [0, 1, 2].as_slice());
     Ok(())
 }

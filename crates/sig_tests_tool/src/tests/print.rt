@@ -1,69 +1,35 @@
 //! Canonical texts, and texts that are no program.
 
-use super::*;
+/// Canonical texts.
+pub const PRINTED: &str = r"
+$ print P
+P is SUM
+out: process SUM = ( ? integer A , B ! integer Y ) Y := A + B ;\n
+$ print P
+P: process K=(?integer A!integer Y)Y:=A-(A-A)$init 0*(A);
+out: process K = ( ? integer A ! integer Y ) Y := A - ( A - A ) $ 1 init 0 * A ;\n
+";
 
-/// Prints a program with room for the whole text.
-fn print_text<R: Threads + Wait + Sync + Abort + AllocGlobal>(
-    rt: &R,
-    program: &[u8],
-    wanted: Wanted,
-) -> Result<(), Fail> {
-    let mut files = files_of(rt.alloc(), program, b"")?;
-    let mut out = MemSink::new(rt.alloc(), 1000)?;
-    call(rt, &["print", "P"], &mut files, &mut out, wanted)
-}
+/// Texts that are no program.
+pub const REFUSED: &str = r"
+status: 1
 
-#[test]
-fn prints_programs(rt: HostRuntime) -> Result<(), Fail> {
-    let texts: [(&[u8], &[u8]); 2] = [
-        (
-            SUM,
-            b"process SUM = ( ? integer A , B ! integer Y ) Y := A + B ;\n",
-        ),
-        (
-            b"process K=(?integer A!integer Y)Y:=A-(A-A)$init 0*(A);",
-            b"process K = ( ? integer A ! integer Y ) Y := A - ( A - A ) $ 1 init 0 * A ;\n",
-        ),
-    ];
-    for (program, text) in texts {
-        let wanted = Wanted {
-            out: text,
-            err: b"",
-            status: 0,
-        };
-        print_text(&rt, program, wanted)?;
-    }
-    Ok(())
-}
-
-#[test]
-fn prints_no_text_that_is_no_program(rt: HostRuntime) -> Result<(), Fail> {
-    let texts: [(&[u8], &[u8]); 5] = [
-        (b"", b"error 1:1: syntax\n"),
-        (b"% note", b"error 1:1: comment not closed\n"),
-        (b"process SUM = (? integer A", b"error 1:27: syntax\n"),
-        (
-            b"process P = (? integer A ! integer Y)\nY := A + 9223372036854775808;",
-            b"error 2:10: number too large\n",
-        ),
-        (
-            b"process P = (? integer A ! integer Y)\nY := ((((((((((((((((((((((((((((((((((((((((((((((((((((((((((((((((((A)))))))))))))))))))))))))))))))))))))))))))))))))))))))))))))))));",
-            b"error 2:70: nesting deeper than 64\n",
-        ),
-    ];
-    for (program, line) in texts {
-        let wanted = Wanted {
-            out: b"",
-            err: line,
-            status: 1,
-        };
-        print_text(&rt, program, wanted)?;
-    }
-    let long = vec![in rt.alloc(); b' '; 1_048_577]?;
-    let wanted = Wanted {
-        out: b"",
-        err: b"error: program longer than 1048576 bytes\n",
-        status: 1,
-    };
-    print_text(&rt, &long, wanted)
-}
+$ print P
+P:
+err: error 1:1: syntax\n
+$ print P
+P: % note
+err: error 1:1: comment not closed\n
+$ print P
+P: process SUM = (? integer A
+err: error 1:27: syntax\n
+$ print P
+P: process P = (? integer A ! integer Y)\nY := A + 9223372036854775808;
+err: error 2:10: number too large\n
+$ print P
+P: process P = (? integer A ! integer Y)\nY := ((((((((((((((((((((((((((((((((((((((((((((((((((((((((((((((((((A)))))))))))))))))))))))))))))))))))))))))))))))))))))))))))))))));
+err: error 2:70: nesting deeper than 64\n
+$ print P
+P upto 1048577
+err: error: program longer than 1048576 bytes\n
+";

@@ -1,0 +1,4 @@
+use Rattle.sig_tests_actors.proofs.tests.rows.told.Given as goal
+
+abbrev pub ghosts-stepped : goal.ghosts-stepped
+ghosts-stepped g a = record { name = a.blank.name; parts = a.blank.parts }

@@ -1,6 +1,0 @@
-use Rattle.sig_tree.specs.Syntax.{program_of}
-use Rattle.sig_tests_front.proofs.tests.call.expanded.Goals as goal
-
-pub inline-requires : goal.inline-requires
-inline-requires c =
-    rw c.in-Ok.ensures.same (c.trees_of_texts.ensures.tree c.args.text.now (program_of c.in_ok-program.program) c.in_ok-program.ensures.tree)
