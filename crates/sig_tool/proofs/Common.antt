@@ -13,20 +13,20 @@ pub use Rattle.sig_words.specs.declared.command.Command.{Command}
 pub use Rattle.sig_words.specs.declared.command.Command.TheVariants.{Build, Check, Code, Exec, Judge, Load, Play, Print, Run, Tree}
 pub use Rattle.sig_words.proofs.Common.{AreSeedAndStages, HasPlainWords, IsCommand, IsSetting, Word, false≢true, files_of, option_values, options_of, settings_of, texts, verb_of}
 pub use Rattle.sig_outcome.specs.Tasks.{IsCut, IsDone, IsRefused, IsRefusedBy, MayAnswer, Owes, Task, memory_line}
-pub use Rattle.sig_outcome.proofs.Performing.{not_refused}
+pub use Rattle.sig_outcome.proofs.PerformedCalls.{not_refused}
 pub use Rattle.sig_compile.proofs.Common.{IsCodeText, IsCompileStatus, IsTreeText, IsVerdictText, canonical_text, done}
-pub use Rattle.sig_compile.proofs.OneCompiling.{one_compile_outcome, one_print_outcome}
-pub use Rattle.sig_judging.proofs.OneJudging.{one_judge_outcome}
+pub use Rattle.sig_compile.proofs.OneCompilation.{one_compile_outcome, one_print_outcome}
+pub use Rattle.sig_judge_command.proofs.OneVerdict.{one_judge_outcome}
 pub use Rattle.sig_runs.proofs.Common.{IsDue, IsRunStatus, Stops, told_both}
-pub use Rattle.sig_runs.proofs.Ending.{has_run}
+pub use Rattle.sig_runs.proofs.EndOfRun.{has_run}
 pub use Rattle.sig_runs.proofs.OneRun.{one_run_outcome}
-pub use Rattle.sig_loads.proofs.Common.{Budget, CanLoad, Contents, Data, HasCount, INSTANTS_DEFAULT, IsAboutLoad, IsLoadStatus, IsOwn, LongFile, LongImage, LongProgram, Missing, OutOfMemory, Outcome, Performs, Program, ReadFault, Refusal, Rose, SaysLine, Settings, TooManyItems, TookPrefix, err_from_is_err_and, loading, outcome_of, performs_refusal, status_of, told}
-pub use Rattle.sig_loads.proofs.OneLoad.{one_load_outcome}
-pub use Rattle.sig_plays.proofs.Ending.{has_play}
+pub use Rattle.sig_load_command.proofs.Common.{Budget, CanLoad, Contents, Data, HasCount, INSTANTS_DEFAULT, IsAboutLoad, IsLoadStatus, IsOwn, LongFile, LongImage, LongProgram, Missing, OutOfMemory, Outcome, Performs, Program, ReadFault, Refusal, Rose, SaysLine, Settings, TooManyItems, TookPrefix, err_from_is_err_and, loading, outcome_of, performs_refusal, status_of, told}
+pub use Rattle.sig_load_command.proofs.OneLoad.{one_load_outcome}
+pub use Rattle.sig_plays.proofs.EndOfPlay.{has_play}
 pub use Rattle.sig_plays.proofs.OnePlay.{one_play_outcome}
 pub use Rattle.sig_images.specs.Builds.{IsBuildStatus}
 pub use Rattle.sig_images.specs.Execs.{IsExecStatus}
-pub use Rattle.sig_images.proofs.Ending.{has_built, has_executed, has_long_image}
+pub use Rattle.sig_images.proofs.CommandEnds.{has_built, has_executed, has_long_image}
 pub use Rattle.sig_images.proofs.OneBuild.{one_build_outcome}
 pub use Rattle.sig_images.proofs.OneExec.{one_exec_outcome}
 pub use Rattle.sig_tool.specs.Commands.{HasStages, IsLimited}

@@ -2,7 +2,7 @@
 use Rattle.sig_tool.proofs.Common.{◌≡◌, ◌⊎◌, ◌≤◌, ◌<◌, ℕ, List, Bool, Option, None, Some, IfSome, inl, inr, refl, ap, arith, DidNotRise, raised, Contents, Command, Build, Check, Code, Exec, Load, Play, Print, Run, Tree, IsCodeText, IsTreeText, Outcome, HasCount, IsOwn, outcome_of, status_of, IsDone, IsRefused, Owes, Performs, Task, Refusal, Missing, ReadFault, LongProgram, Program, Budget, TooManyItems, LongFile, Data, LongImage, OutOfMemory, not_refused, IsVerdictText, CanLoad, loading, CanBeDone, ComesTo, IfLoad, IsStatus, task_of}
 use Rattle.sig_compile.proofs.Complete as compiles
 use Rattle.sig_images.proofs.Complete as images
-use Rattle.sig_loads.proofs.Complete as loads
+use Rattle.sig_load_command.proofs.Complete as loads
 use Rattle.sig_plays.proofs.Complete as plays
 use Rattle.sig_runs.proofs.Complete as runs
 use Rattle.sig_tool.proofs.TopClauses.{is_status}

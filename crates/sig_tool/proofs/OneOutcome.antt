@@ -3,7 +3,7 @@ use Rattle.sig_tool.proofs.Common.{◌≡◌, Contents, Command, Build, Check, C
 use Rattle.sig_compile.specs.declared.product.Product.TheVariants as product
 use Rattle.sig_compile.proofs.Complete as compiles
 use Rattle.sig_images.proofs.Complete as images
-use Rattle.sig_loads.proofs.Complete as loads
+use Rattle.sig_load_command.proofs.Complete as loads
 use Rattle.sig_plays.proofs.Complete as plays
 use Rattle.sig_runs.proofs.Complete as runs
 

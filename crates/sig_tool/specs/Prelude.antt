@@ -17,13 +17,13 @@ pub use Rattle.sig_compile.specs.Compiling.{CompileComesTo, IsBeyondBound, IsCom
 pub use Rattle.sig_compile.specs.Complete.{CanCompile, CanPrint}
 pub use Rattle.sig_compile.specs.Prelude.{IsCodeText, IsTreeText}
 pub use Rattle.sig_compile.specs.Printing.{IsAboutText, IsPrintStatus, PrintComesTo}
-pub use Rattle.sig_judging.specs.Judging.{HasBegunJudge, IsAboutJudge, IsJudgeStatus, JudgeComesTo}
+pub use Rattle.sig_judge_command.specs.Judging.{HasBegunJudge, IsAboutJudge, IsJudgeStatus, JudgeComesTo}
 pub use Rattle.sig_runs.specs.Complete.{CanRun}
 pub use Rattle.sig_runs.specs.Prelude.{AreFlowsFor, Contents, Ended, HoldsBeyondBound, IsAboutPlan, IsEnded, IsKernelEnd, Kernel, Outcome, Performs, Refusal, Rose, SaysLine, Settings, Task, TookPrefix, Trace, WORKERS_MAX, memory_line, name_where_there, output_text}
 pub use Rattle.sig_runs.specs.Runs.{AreWithinBounds, HasBegunRun, HasRun, IsAboutRun, IsRunStatus, RunComesTo, running}
-pub use Rattle.sig_loads.specs.Complete.{CanLoad}
-pub use Rattle.sig_loads.specs.Loads.{IsLoadStatus, IsShortProgram, LoadComesTo, loading}
-pub use Rattle.sig_loads.specs.Refusals.{IsAboutLoad}
+pub use Rattle.sig_load_command.specs.Complete.{CanLoad}
+pub use Rattle.sig_load_command.specs.Loads.{IsLoadStatus, IsShortProgram, LoadComesTo, loading}
+pub use Rattle.sig_load_command.specs.Refusals.{IsAboutLoad}
 pub use Rattle.sig_plays.specs.Complete.{CanPlay}
 pub use Rattle.sig_plays.specs.Prelude.{Core, Event, Given, IsPlanOf, PlanView, after, reactions_text, run_of}
 pub use Rattle.sig_plays.specs.Plays.{HasBegunPlay, HasPlay, IsAboutPlay, PlayComesTo}

@@ -1,6 +1,6 @@
 //! The top call of sigc: from the words of a command line, files and sinks to a status. It reads the
 //! words by sig_words and hands each command to the crate that promises what it does: sig_compile,
-//! sig_judging, sig_runs, sig_plays, sig_loads or sig_images. What they promise has one form, the task of
+//! sig_judge_command, sig_runs, sig_plays, sig_load_command or sig_images. What they promise has one form, the task of
 //! sig_outcome, of which each clause of `sig_main` is a part. `specs/Headline.antt` has all that is promised on one page.
 #![tactic(auto)]
 
@@ -17,7 +17,7 @@ pub use sig_images::{
     builds_have_one_outcome, execs_have_one_outcome, good_builds_are_done, good_execs_end,
     images_of_kernels_are_one, images_run_as_their_kernels,
 };
-pub use sig_loads::{good_loads_end, loads_have_one_outcome};
+pub use sig_load_command::{good_loads_end, loads_have_one_outcome};
 pub use sig_plays::{good_plays_end, plays_have_one_outcome};
 pub use sig_runs::{good_runs_end, runs_have_one_outcome};
 pub use top::{good_commands_are_done, one_outcome, sig_main};

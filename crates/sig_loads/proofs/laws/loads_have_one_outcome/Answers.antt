@@ -1,8 +1,0 @@
-use Rattle.sig_loads.proofs.{one_load_outcome, some_outcome}
-use Rattle.sig_loads.proofs.laws.loads_have_one_outcome.Goals as goal
-
-pub returns-clause-some : goal.returns-clause-some
-returns-clause-some c = some_outcome
-
-pub returns-clause-one : goal.returns-clause-one
-returns-clause-one c = one_load_outcome

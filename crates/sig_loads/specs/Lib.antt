@@ -1,6 +1,0 @@
-pub mod Prelude
-pub mod Complete
-pub mod Loads
-pub mod Refusals
-pub mod Stopping
-pub mod Summaries
