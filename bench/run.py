@@ -6,9 +6,10 @@ each), four chains of 64 sums and the generated program of 12 stages (200,000 in
 bench/run.c, compiled by gcc -O2, on the same flows. The texts are compared. Prints of each the least processor time of five
 runs, their ratio, the time of an instant and the peak memory.
 
-Part `play`: the same of `SIGC play` with no events, which finishes the run step by step of its actors, over links of 16
-items: the watchdog, bench/controller.sig with ten outputs (1,000,000 instants each) and the 12 stages (20,000 instants). Prints
-also the time of a step, of which each instant has as many as `SIGC code` shows, without that of a play of one instant.
+Part `play`: the same of `SIGC play` with no events: the watchdog, bench/controller.sig with ten outputs (1,000,000 instants
+each) and the 12 stages (20,000 instants). Then a play of 300,000 events on the watchdog over 20,000 instants, a step of each
+actor in turn over links of 16 items: prints the time of an event, which is that of the play without that of one with no events,
+by their number.
 
 Part `workers`: the 12 stages and a program of four clusters of 64 operations each with 0, 1, 2 and 4 workers. Compares the
 texts, and prints the least wall time of five runs, its ratio to that of 0 workers, and the processor time.
@@ -45,6 +46,7 @@ OPERATIONS = 64
 HANDED = 32
 CROWD = 64
 BUSY = 12
+EVENTS = 300_000
 MOST_RATIO = 30
 # how many operations each of so many clusters has, up to the most that 512 signals allow
 CHAINS = {1: (1, 16, 64, 128, 250), 2: (1, 16, 64, 128, 250), 4: (1, 16, 32, 64, 125)}
@@ -78,14 +80,15 @@ def controller_flows(draws):
     return flows
 
 
-def watch_flows(draws):
-    asked = [truth(draws) for _ in range(INSTANTS)]
+def watch_flows(draws, instants=INSTANTS):
+    asked = [truth(draws) for _ in range(instants)]
     values = [str(draws.randrange(1000)) for _ in range(asked.count("true"))]
-    return {"TICK": ["true"] * INSTANTS, "REQ": asked, "V": values}
+    return {"TICK": ["true"] * instants, "REQ": asked, "V": values}
 
 
-def stages_flows(draws, instants=INSTANTS // 5):
-    """Each input of as many values as are taken in these instants, half of them at each next stage."""
+def stages_flows(draws):
+    """Each input of as many values as are taken in the instants, half of them at each next stage."""
+    instants = INSTANTS // 5
     flows = {"A": [str(draws.randrange(1000)) for _ in range(instants)]}
     taken = instants
     for i in range(1, STAGES + 1):
@@ -175,7 +178,7 @@ PROGRAMS = {
 PLAYS = {
     "watch": PROGRAMS["watch"],
     "controller": PROGRAMS["controller"],
-    "stages": (lambda: stages(STAGES), lambda draws: stages_flows(draws, INSTANTS // 50)),
+    "stages": (lambda: stages(STAGES), stages_flows),
 }
 
 
@@ -237,29 +240,52 @@ def beside_c(sigc, folder):
         )
 
 
-def steps_of(sigc, folder):
-    """How many steps the actors of the program have in all."""
+def actors_of(sigc, folder):
+    """How many actors the program has."""
     code = subprocess.run([sigc, "code", "program.sig"], cwd=folder, capture_output=True, check=True).stdout
-    return sum(not line.startswith(b"actor") for line in code.splitlines())
+    return sum(line.startswith(b"actor") for line in code.splitlines())
+
+
+def put_events(folder, events):
+    with open(os.path.join(folder, "events"), "w", encoding="ascii") as file:
+        file.writelines(f"{event}\n" for event in events)
+
+
+def played_text(folder, name):
+    """The text of a play without its state: what the events commit, and the rest."""
+    before, _, behind = read(folder, name).partition(b"events done\n")
+    return before + behind.partition(b"finish\n")[2]
 
 
 def played_beside_c(sigc, folder):
     plain_run = plain_program(folder)
-    open(os.path.join(folder, "events"), "w", encoding="ascii").close()
     play = [sigc, "play", "program.sig", "flows", "events"]
+    put_events(folder, [])
     for name, (program, flows) in PLAYS.items():
         instants = put_files(folder, program(), flows(random.Random(1)))
-        steps = steps_of(sigc, folder)
-        begun, _, _ = measured([*play, "--instants", "1"], folder, "own")
         own, _, peak = measured(play, folder, "own")
         plain, _, _ = measured([plain_run, name, "flows"], folder, "plain")
-        text = read(folder, "own").partition(b"\nfinish\n")[2]
-        assert text == read(folder, "plain"), f"{name}: the texts differ"
+        assert played_text(folder, "own") == read(folder, "plain"), f"{name}: the texts differ"
         print(
-            f"{name} played: sigc {own:.3f} s, {begun:.3f} s of it before the second instant "
-            f"({1e9 * own / instants:.0f} ns an instant, {peak:.0f} MB), C {plain:.3f} s, ratio {own / plain:.2f}; "
-            f"{steps} steps an instant, {1e9 * (own - begun) / (instants * steps):.1f} ns a step"
+            f"{name} played: sigc {own:.3f} s ({1e9 * own / instants:.0f} ns an instant, {peak:.0f} MB), "
+            f"C {plain:.3f} s, ratio {own / plain:.2f}"
         )
+    events_in_turn(sigc, folder, play)
+
+
+def events_in_turn(sigc, folder, play):
+    """The time of an event, from a play of steps of each actor in turn and one of no events, over few instants."""
+    put_files(folder, example("watch"), watch_flows(random.Random(1), INSTANTS // 50))
+    actors = actors_of(sigc, folder)
+    put_events(folder, [])
+    none, _, _ = measured(play, folder, "none")
+    put_events(folder, [f"act {i % actors}" for i in range(EVENTS)])
+    own, _, _ = measured(play, folder, "own")
+    assert played_text(folder, "own") == played_text(folder, "none"), "the texts differ"
+    print(
+        f"{EVENTS} events in turn at the {actors} actors of the watchdog: {own:.3f} s, {none:.3f} s without them, "
+        f"{1e9 * (own - none) / EVENTS:.0f} ns an event"
+    )
 
 
 def with_workers(sigc, folder):
