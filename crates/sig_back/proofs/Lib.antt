@@ -1,8 +1,8 @@
 pub mod Common
-mod Accepting
-mod Growing
+mod AcceptedKernels
+mod ShownNames
 mod Rooms
 pub use Common.*
-pub use Accepting.*
-pub use Growing.*
+pub use AcceptedKernels.*
+pub use ShownNames.*
 pub use Rooms.*

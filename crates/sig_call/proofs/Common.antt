@@ -45,13 +45,13 @@ pub use Rattle.sig_tree.proofs.CandidateLemmas.{each_append, each_flat}
 pub use Rattle.sig_tree.proofs.Common.{AllByRecursion, AreBodies, AreConstants, AreFurtherBodies, AreGroups, AreLocals, Between, Binary, Bodies, Boolean, Bounded, Called, Candidate, Cell, Computed, Copy, Declared, Defined, Delay, Each, Enclosed, Ended, Equated, Equations, Event, Expanded, Expands, Expression, FlatBody, FlatEquation, FlatExpression, Further, HasTree, Heading, Integer, IsBare, IsBody, IsClockEquation, IsConstant, IsDefinition, IsExpression, IsFlatBody, IsGroup, IsInit, IsInterface, IsItem, IsLeft, IsLocalGroup, IsModel, IsName, IsOptionalInit, IsPlainItem, IsRight, Kind, Leaf, Limits, Listed, Modelled, Named, NoneHolds, Number, Offence, Placement, ProcessModel, ProcessModels, Progress, RightSide, Separated, Sig, Span, Terminal, Together, Token, Truth, Unary, all_processes, append_cancel_left, bytes_eq-Decides, called_copy, cases_lt, each, equations_of_model, inputs_defined, inputs_of, kind_word, label, leaf, leaves_of, level_of, mark, more_bodies, more_models, name, name_leaf, no_body, no_model, number, outputs_defined, outputs_of, with_copy, word}
 pub use Rattle.sig_scope.specs.declared.scope.Interface.{Interface}
 pub use Rattle.sig_scope.proofs.Common.{Body, Declaration, Input, Local, Name, Output, Parameter, Process, bodies_in, declaration_in, declaration_of, declarations_in, declared_as, equations_in, equations_inside, equations_of, get_or_default, interface_models, length-map, locals_of, map-append, model_of, name_of, out-Process, params_of, placement_of, pragmas_of_model, those_inner, with_inner}
-pub use Rattle.sig_scope.proofs.Placing.{is_found, is_missing, within}
+pub use Rattle.sig_scope.proofs.FirstPlaces.{is_found, is_missing, within}
 pub use Rattle.sig_scope.proofs.Scopes.{read_mapped}
 pub use Rattle.sig_scope.proofs.Trees.{body_is, pragmas_are}
 pub use Rattle.sig_call.specs.Bindings.{binding_found, bindings_in, bindings_of, bound_in, texts_bound}
 pub use Rattle.sig_call.specs.Constants.{HasBoundedInits, IsBounded, IsBoundedConstant, IsBoundedEquation, IsBoundedInit, IsBoundedProcess, IsBoundedRight}
-pub use Rattle.sig_call.specs.Copies.{copy_in}
-pub use Rattle.sig_call.specs.MadeOf.{made_of}
+pub use Rattle.sig_call.specs.inner.Copies.{copy_in}
+pub use Rattle.sig_call.specs.inner.MadeOf.{made_of}
 pub use Rattle.sig_call.specs.Making.{Advances, IsRefused, IsRefusedBy, Leads, Made, NeedsMore, NeedsTooMany, signals_copied, with_equations, with_progress, with_signals}
 pub use Rattle.sig_call.specs.Places.{AtPlaces, AtPlacesOfBody, AtPlacesOfEquation, IsWithin}
 pub use Rattle.sig_call.specs.declared.answer.CallAnswer.{CallAnswer}

@@ -2,7 +2,7 @@
 -- for it, and once where the signal was made on the way.
 use Rattle.sig_call.proofs.Common.{◌≡◌, ◌+◌, ◌++◌, ◌==◌, ◌∙◌, ℕ, suc, inl, inr, List, [], ◌∷◌, Some, false, map, length, count_by, refl, ap, arith, cases_eq, eq-eqb, length-append, length-map, AllByRecursion, flat_map, Name, Expression, Equations, ProcessModel, Sig, FlatEquation, inputs_of, process_of, equations_of_model, left_sides, Copy, Progress, Expands, Ended, Defined, Equated, Expanded, flat_of, flat_right, inputs_defined, outputs_defined, called_copy, with_copy, signal_of, signals_declared, IsReady, AreExpandable, defines}
 use Rattle.sig_tree.specs.FlatSyntax.{Defines, Equal}
-use Rattle.sig_call.proofs.Counting.{below, tally, count_append, count_cons}
+use Rattle.sig_call.proofs.Counts.{below, tally, count_append, count_cons}
 use Rattle.sig_call.proofs.LeftSides.{DefinesOnce, left_count, no_number}
 use Rattle.sig_call.proofs.Readiness.{call_numbers}
 

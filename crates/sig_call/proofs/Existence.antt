@@ -1,18 +1,13 @@
 -- A well-formed program has a flat body: calls do not lead back, so each of them ends.
+use Rattle.std.proofs.lemmas.Option.{same_Some}
 use Rattle.sig_call.proofs.Common.{◌≡◌, ◌⊎◌, ◌<◌, ◌≤◌, ℕ, zero, suc, List, [], ◌∷◌, None, Some, Option, Bool, true, false, cond, length, get_or, refl, sym, ap, subst, ◌∙◌, inl, inr, arith, Contains, bytes_eq-Decides, AllByRecursion, flat_map, bytes_eq, Name, Expression, Computed, Called, Equations, Together, Defines, Equal, ProcessModel, FlatEquation, FlatBody, name_of, inputs_of, outputs_of, process_of, all_processes, texts, called_in, called_by, equations_of_model, Copy, Progress, Expands, Ended, Defined, Equated, Expanded, IsFlatBody, called_copy, with_copy, first_copy, first_progress, NoneHolds, candidate, each, Recursive, CallsByName, Reaches, Itself, ByCall, IsWellFormed, IsTree, IsReady, Fits, AreExpandable}
 use Rattle.sig_call.proofs.Expandable.{expandable, rules_hold, key_rules}
 use Rattle.sig_call.proofs.Whole.{first_found}
 
-some_is : {A : Type 0} {a b : A} → Some a ≡ Some b → a ≡ b
-some_is {A} {a} {b} is = ap (λ o. from o) is where
-  from : Option A → A
-  from None = a
-  from (Some x) = x
-
 -- the name by which a process is found is its own
 name_step : (text : List ℕ) (x p : ProcessModel) (b : Bool) (later : Option ProcessModel) → bytes_eq (name_of x).text text ≡ b → (later ≡ Some p → (name_of p).text ≡ text)
     → cond b (Some x) later ≡ Some p → (name_of p).text ≡ text
-name_step text x p true later is rest found = ap (λ (q : ProcessModel). (name_of q).text) (sym (some_is found)) ∙ (bytes_eq-Decides (name_of x).text text).0 is
+name_step text x p true later is rest found = ap (λ (q : ProcessModel). (name_of q).text) (sym (same_Some _ _ found)) ∙ (bytes_eq-Decides (name_of x).text text).0 is
 name_step text x p false later is rest found = rest found
 
 pub found_name : (xs : List ProcessModel) (text : List ℕ) (p : ProcessModel) → process_of xs text ≡ Some p → (name_of p).text ≡ text

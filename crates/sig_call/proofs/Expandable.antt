@@ -1,4 +1,5 @@
 -- The processes of a well-formed program can be expanded.
+use Rattle.std.proofs.lemmas.Option.{same_Some}
 use Rattle.sig_call.proofs.Common.{◌≡◌, ◌≢◌, ◌++◌, ◌≤◌, ℕ, List, [], ◌∷◌, None, Some, Option, Bool, true, false, cond, length, find, refl, ap, subst, inl, inr, arith, cases_eq, cases_lt, AllByRecursion, flat_map, bytes_eq, Name, Constant, Expression, Placement, Computed, Called, Equations, Together, Defines, Equal, Bodies, no_body, more_bodies, ProcessModel, Declaration, declarations, name_of, inputs_of, outputs_of, locals_of, process_of, all_processes, behind, Use, uses_of_equation, uses_of_inits, uses_of_right, signals_used, body_of_model, equations_of_model, equations_in, equations_inside, pragmas_of_model, Candidate, NoneHolds, each, unknown_use, unknown_names, declared_twice, defined_twice, undefined, clashes, bare_constants, bad_calls, bad_calls_of, recursive_calls, bad_pragmas, bad_pragmas_of, missing_inits_in, DiffersFrom, IsCluster, number_of, IsWellFormed, rules_on, each_append, each_flat, IsRead, IsTree, IsReady, IsLow, Fits, AreExpandable}
 use Rattle.sig_tree.specs.Rules.{inputs_defined}
 
@@ -7,15 +8,9 @@ pub none_parts : (cs ds : List Candidate) → NoneHolds (cs ++ ds) → NoneHolds
 none_parts [] ds h = (tt, h)
 none_parts (c ∷ cs) ds h = let rest = none_parts cs ds h.1 in ((h.0, rest.0), rest.1)
 
-some_is : {A : Type 0} {a b : A} → Some a ≡ Some b → a ≡ b
-some_is {A} {a} {b} is = ap (λ o. from o) is where
-  from : Option A → A
-  from None = a
-  from (Some x) = x
-
 -- what holds of all holds of what is found
 found_step : {A : Type 0} (P : A → Type 0) (y x : A) (b : Bool) (later : Option A) → P y → (later ≡ Some x → P x) → cond b (Some y) later ≡ Some x → P x
-found_step P y x true later here rest found = subst P (some_is found) here
+found_step P y x true later here rest found = subst P (same_Some _ _ found) here
 found_step P y x false later here rest found = rest found
 
 pub found_all : {A : Type 0} (P : A → Type 0) (test : A → Bool) (xs : List A) (x : A) → AllByRecursion P xs → find test xs ≡ Some x → P x

@@ -4,8 +4,8 @@ use Rattle.sig_tree.specs.FlatSyntax.{Unary, Binary, Delay, Cell}
 use Rattle.sig_tree.specs.WellMade.{is_constant}
 use Rattle.sig_call.proofs.Expandable.{none_parts}
 use Rattle.sig_call.proofs.GoodCopies.{IsGoodCopy, Suits}
-use Rattle.sig_call.proofs.KindRules.{some_is, same_kind, fits_pos, fits_neg, Alike, unary_alike, binary_alike, allowed, not_constant}
-use Rattle.sig_call.proofs.Obeying.{all_parts}
+use Rattle.sig_call.proofs.KindRules.{same_Some, same_kind, fits_pos, fits_neg, Alike, unary_alike, binary_alike, allowed, not_constant}
+use Rattle.sig_call.proofs.ProcessRules.{all_parts}
 
 -- a flat expression for one of this kind, which is a constant or not
 pub record IsGood (signals : List Signal) (flat : FlatExpression) (kind : Option Kind) (constant : Bool) : Type 0 where
@@ -22,16 +22,16 @@ param_fits : (signals : List Signal) (d : Option Declaration) (bound : Option Bo
 param_fits signals None bound kind suits is = absurd cc
 param_fits signals (Some d) None kind suits is = absurd suits
 param_fits signals (Some d) (Some (BoundSignal number)) kind suits is = (let none : kind_of_parameter d ≡ None = suits.0 in let some : kind_of_parameter d ≡ Some kind = is in absurd cc)
-param_fits signals (Some d) (Some (BoundConstant value k)) kind suits is = subst (λ l. IsValue Bounded l value) (suits.1 ∙ some_is (sym suits.0 ∙ is)) suits.2
+param_fits signals (Some d) (Some (BoundConstant value k)) kind suits is = subst (λ l. IsValue Bounded l value) (suits.1 ∙ same_Some _ _ (sym suits.0 ∙ is)) suits.2
 
 constant_kind : (o : Option Kind) (kind : Kind) → ((o ≡ None) ⊎ ((k : Kind) × (Some kind ≡ Some k) × (o ≡ Some k → ⊥)) → ⊥) → o ≡ Some kind
 constant_kind None kind fit = absurd (fit (inl refl))
-constant_kind (Some k) kind fit = elim (same_kind k kind) [ inl same ↦ ap Some same | inr other ↦ absurd (fit (inr (kind, refl, λ is. other (some_is is)))) ]
+constant_kind (Some k) kind fit = elim (same_kind k kind) [ inl same ↦ ap Some same | inr other ↦ absurd (fit (inr (kind, refl, λ is. other (same_Some _ _ is)))) ]
 
 constant_of_kind : (signals : List Signal) (copy : Copy) → IsGoodCopy signals copy → (constant : Constant) (kind : Kind) → kind_of_constant (declarations copy.process) constant ≡ Some kind → IsBoundedConstant constant
     → IsValue Bounded kind (value_of copy constant)
-constant_of_kind signals copy good (Int value at) kind is small = subst (λ k. IsValue Bounded k value) (some_is is) small
-constant_of_kind signals copy good (Truthful truth at) kind is small = subst (λ k. IsValue Bounded k (truth_value truth)) (some_is is) (truth_fits truth)
+constant_of_kind signals copy good (Int value at) kind is small = subst (λ k. IsValue Bounded k value) (same_Some _ _ is) small
+constant_of_kind signals copy good (Truthful truth at) kind is small = subst (λ k. IsValue Bounded k (truth_value truth)) (same_Some _ _ is) (truth_fits truth)
 constant_of_kind signals copy good (Param name) kind is small = param_fits signals (declaration_of (declarations copy.process) name.text) (binding_of copy name.text) kind (good.names name.text) is
 
 -- a constant that is not unfit is a value of the kind that is wanted

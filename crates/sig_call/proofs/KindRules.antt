@@ -1,11 +1,6 @@
 -- What follows where the rules on kinds do not refuse.
+pub use Rattle.std.proofs.lemmas.Option.{same_Some}
 use Rattle.sig_call.proofs.Common.{◌≡◌, ◌≢◌, ◌⊎◌, ◌<◌, ◌^◌, ◌∙◌, ℕ, zero, suc, pos, neg_ℤ, Bool, true, false, if◌then◌else◌, Option, None, Some, refl, sym, ap, inl, inr, arith, FitsSigned, w64, Kind, Integer, Boolean, Event, FormRow, ConstantRule, NoConstant, OneConstant, FirstConstant, accepts, kind_of_result, unary_kind, binary_kind, stored, Takes, RefusesOne, RefusesTwo, MayNotBeFirst, MayNotBeSecond, Allows}
-
-pub some_is : {A : Type 0} {a b : A} → Some a ≡ Some b → a ≡ b
-some_is {A} {a} {b} is = ap (λ o. from o) is where
-  from : Option A → A
-  from None = a
-  from (Some x) = x
 
 -- integers of 64 bits
 pub fits_pos : (n : ℕ) → n < 2 ^ 63 → FitsSigned w64 (pos n)

@@ -2,7 +2,7 @@
 -- the copy's signals that are no inputs.
 use Rattle.sig_call.proofs.Common.{◌≡◌, ◌≢◌, ◌+◌, ◌-◌, ◌<◌, ◌==◌, ◌++◌, ◌∙◌, ℕ, ℤ, zero, suc, Bool, true, false, cond, List, [], ◌∷◌, map, find, length, get_or, count_by, Contains, Some, option_map, refl, sym, ap, subst, inl, inr, arith, eq-eqb, eqb-true, cases_eq, cases_lt, length-append, length-map, get_or-append-add, get_or_default, bytes_eq-Decides, AllByRecursion, bytes_eq, Name, ProcessModel, Declaration, params_of, inputs_of, outputs_of, locals_of, declarations, texts, left_sides_of, Binding as BoundTo, BoundSignal, Copy, bound_constants, bound_from, binding_of, signal_bound, signal_of, signals_declared, binding_found, bindings_of}
 use Rattle.sig_call.proofs.Apart.{all_so, Apart, apart_right}
-use Rattle.sig_call.proofs.Counting.{below, count_map, count_none, count_same, not_it, once, holds_at}
+use Rattle.sig_call.proofs.Counts.{below, count_map, count_none, count_same, not_it, once, holds_at}
 use Rattle.sig_call.proofs.Named.{declared_texts, texts_append}
 
 -- the first binding of a name, or a later one

@@ -1,8 +1,8 @@
 pub mod Common
 pub mod Apart
 pub mod Bound
-pub mod Counting
-pub mod Declaring
+pub mod Counts
+pub mod DeclaredItems
 pub mod DefinitionCounts
 pub mod Existence
 pub mod Expandable
@@ -12,7 +12,7 @@ pub mod GoodExpressions
 pub mod Graphic
 pub mod KindRules
 pub mod Labels
-pub mod Leading
+pub mod ProgressSteps
 pub mod LeafBytes
 pub mod LeftSides
 pub mod Lists
@@ -20,10 +20,10 @@ pub mod MadeBodies
 pub mod MadeEquations
 pub mod Named
 pub mod Numbered
-pub mod Obeying
+pub mod ProcessRules
 pub mod Places
 pub mod Readiness
-pub mod SignalNaming
+pub mod SignalNames
 pub mod Size
 pub mod Spelled
 pub mod Texts
@@ -35,11 +35,11 @@ pub use Existence.*
 pub use FlatPlaces.*
 pub use Expandable.*
 pub use Labels.*
-pub use Leading.*
+pub use ProgressSteps.*
 pub use Lists.*
 pub use Named.*
 pub use Readiness.*
-pub use SignalNaming.*
+pub use SignalNames.*
 pub use Size.*
 pub use Spelled.*
 pub use Texts.*

@@ -4,7 +4,7 @@ use Rattle.sig_call.proofs.Expandable.{none_parts, unknown_at}
 use Rattle.sig_call.proofs.GoodCopies.{AreNumbered, AreValues, IsGoodCopy, copied_numbered, good_copy}
 use Rattle.sig_call.proofs.GoodExpressions.{IsKnown}
 use Rattle.sig_call.proofs.MadeEquations.{AskedAll, constants_fit, defined_made, equated_made, inputs_made, outputs_made}
-use Rattle.sig_call.proofs.Obeying.{AreObeying, EquationObeys, InitObeys, all_parts, names_known}
+use Rattle.sig_call.proofs.ProcessRules.{AreObeying, EquationObeys, InitObeys, all_parts, names_known}
 use Rattle.sig_call.proofs.Readiness.{call_numbers}
 use Rattle.sig_call.proofs.Texts.{all_both}
 

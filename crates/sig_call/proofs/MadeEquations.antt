@@ -5,7 +5,7 @@ use Rattle.sig_call.proofs.Expandable.{found_all, none_parts}
 use Rattle.sig_call.proofs.GoodCopies.{AreNumbered, AreValues, IsGoodCopy, Suits}
 use Rattle.sig_call.proofs.GoodExpressions.{Asked, IsGood, IsKnown, constant_fits, delay_good, good, numbered_within}
 use Rattle.sig_call.proofs.KindRules.{not_constant, takes_if, takes_stored}
-use Rattle.sig_call.proofs.Obeying.{InitObeys, all_parts, own_found}
+use Rattle.sig_call.proofs.ProcessRules.{InitObeys, all_parts, own_found}
 
 -- a whole expression
 whole : (signals : List Signal) (flat : FlatExpression) (kind : Option Kind) (constant : Bool) → IsGood signals flat kind constant → (constant ≡ true → ⊥) → (k : Kind) × (kind ≡ Some k) × IsWhole signals flat k

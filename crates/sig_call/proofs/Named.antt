@@ -3,7 +3,7 @@ use Rattle.sig_call.proofs.Common.{◌≡◌, ◌≢◌, ◌++◌, ◌<◌, ◌�
 use Rattle.sig_call.proofs.Apart.{all_so, prefixed, all_prefixed, all_texts, Apart, distinct, apart_both, apart_right, apart_prefixed, Lacks}
 use Rattle.sig_call.proofs.Existence.{found_name}
 use Rattle.sig_call.proofs.Expandable.{expandable, found_all, none_parts, rules_hold}
-use Rattle.sig_call.proofs.Leading.{grows_along}
+use Rattle.sig_call.proofs.ProgressSteps.{grows_along}
 use Rattle.sig_call.proofs.Numbered.{Numbered, name_lacks, later_too, copied, new_name}
 use Rattle.sig_call.proofs.Readiness.{call_adds}
 use Rattle.sig_call.proofs.Spelled.{IsNamed, Spelled}

@@ -1,6 +1,6 @@
 -- What holds of equations that can be expanded.
 use Rattle.sig_call.proofs.Common.{◌≡◌, ◌++◌, ◌+◌, ◌<◌, ◌≤◌, ℕ, suc, List, [], ◌∷◌, None, Some, length, get_or, sym, ap, subst, ◌∙◌, arith, Option, Result, Err, length-append, length-map, Name, Constant, Expression, Equations, Defines, Computed, Called, ProcessModel, DefinesFlat, inputs_of, outputs_of, locals_of, process_of, Copy, Progress, signal_of, flat_right, with_copy, copied_signals, copy_prefix, cluster_of_call, signals_declared, Made, with_equations, Advances, IsRefused, IsRefusedBy, IsReady, Fits, CallAnswer, TooManySignals, OutOfMemory}
-use Rattle.sig_call.proofs.Leading.{leads_defined, advances_by}
+use Rattle.sig_call.proofs.ProgressSteps.{leads_defined, advances_by}
 
 -- a definition by an expression
 pub advances_defined : (all : List ProcessModel) (copy : Copy) (old new : Made) (equation : Equations) (names : List Name) (e : Expression) (name : Name)

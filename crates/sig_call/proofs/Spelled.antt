@@ -1,6 +1,6 @@
 -- The names that the processes of a text declare are spelled as names, and the inits beside them have 64 bits.
 use Rattle.sig_call.proofs.Common.{◌≡◌, ◌++◌, ℕ, List, [], ◌∷◌, Option, subst, AllByRecursion, Token, Lexeme, lexemes, the_end, IsNameText, IsSpelled, Name, Constant, Item, ProcessModel, Declaration, inputs_of, outputs_of, locals_of, all_processes, Leaf, leaves_of, IsItem, HasTree, IsBoundedInit, IsBoundedProcess}
-use Rattle.sig_call.proofs.Declaring.{Declares, each_declares}
+use Rattle.sig_call.proofs.DeclaredItems.{Declares, each_declares}
 use Rattle.sig_call.proofs.Texts.{SmallLeaf, Small, leaves_behind, leaves_small, optional_init_bounded, HasBoundedEquations}
 
 -- the name of what is declared, and its init

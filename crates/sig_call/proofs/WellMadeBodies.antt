@@ -1,13 +1,13 @@
 -- The flat body of a well-formed program is well made.
 use Rattle.sig_call.proofs.Common.{◌≡◌, ◌≢◌, ◌+◌, ◌++◌, ◌<◌, ◌≤◌, ◌∙◌, ℕ, List, [], ◌∷◌, length, count_by, Some, refl, sym, ap, subst, arith, append-nil, length-append, length-map, AllByRecursion, Signal, ProcessModel, Modelled, FlatEquation, FlatBody, Declaration, name_of, params_of, inputs_of, outputs_of, locals_of, process_of, all_processes, equations_of_model, IsWellFormed, rules_on, IsFlatBody, Progress, copied_signals, first_copy, first_progress, signals_declared, IsBounded, IsTree, IsMadeEquation, IsWellMade, defines}
-use Rattle.sig_call.proofs.Counting.{below}
+use Rattle.sig_call.proofs.Counts.{below}
 use Rattle.sig_call.proofs.DefinitionCounts.{counted, lefts_for}
 use Rattle.sig_call.proofs.Expandable.{expandable, none_parts}
 use Rattle.sig_call.proofs.GoodCopies.{AreNumbered, AreValues, IsGoodCopy, copied_numbered, good_copy}
-use Rattle.sig_call.proofs.Leading.{grows_along}
+use Rattle.sig_call.proofs.ProgressSteps.{grows_along}
 use Rattle.sig_call.proofs.LeftSides.{left_count}
 use Rattle.sig_call.proofs.MadeBodies.{grown, made_along}
-use Rattle.sig_call.proofs.Obeying.{AreObeying, lawful, obeying}
+use Rattle.sig_call.proofs.ProcessRules.{AreObeying, lawful, obeying}
 use Rattle.sig_call.proofs.Whole.{first_found}
 
 -- the first process has no parameter

@@ -1,6 +1,6 @@
 -- The flat body of a whole program, from its first process.
 use Rattle.sig_call.proofs.Common.{◌≡◌, ◌≢◌, ◌++◌, ◌<◌, ◌≤◌, ℕ, List, [], ◌∷◌, Some, cond, true, length, get_or, refl, sym, ap, subst, ◌∙◌, arith, append-nil, bytes_eq-Decides, flat_map, bytes_eq, Equations, ProcessModel, Modelled, model_of, FlatBody, FlatEquation, name_of, inputs_of, outputs_of, all_processes, with_inner, those_inner, process_of, equations_of_model, Copy, Progress, Expands, Ended, IsFlatBody, first_copy, first_progress, copied_signals, Interface, interface_models, Made, Advances, NeedsMore, NeedsTooMany}
-use Rattle.sig_call.proofs.Leading.{grows_along}
+use Rattle.sig_call.proofs.ProgressSteps.{grows_along}
 
 -- a process stands before those inside it
 itself_first : (p : ProcessModel) (rest : List ProcessModel) → (later : List ProcessModel) × (with_inner p ++ rest ≡ p ∷ later)

@@ -2,9 +2,9 @@
 
 ghost use Rattle.std.specs.Prelude.{◌≡◌, ◌≢◌, ◌+◌, ◌++◌, ◌<◌, ◌≤◌, ◌∷◌};
 ghost use Rattle.sig_call.specs.Prelude.{[], length, map, IfOk, OnOk, AllByRecursion, model_of, equations_of, right_side_of, Defines, pragmas_of_model, outputs_of, with_copy, called_copy, interface_models, bodies_in, IsLow, IsReady, AreExpandable};
-ghost use Rattle.sig_call.specs.Calling.{call_of};
-ghost use Rattle.sig_call.specs.Copies.{copy_in};
-ghost use Rattle.sig_call.specs.MadeOf.{made_of};
+ghost use Rattle.sig_call.specs.inner.Calling.{call_of};
+ghost use Rattle.sig_call.specs.inner.Copies.{copy_in};
+ghost use Rattle.sig_call.specs.inner.MadeOf.{made_of};
 ghost use Rattle.sig_call.specs.Making.{IsRefused, Advances, NeedsMore, with_progress};
 
 use crate::answer::CallAnswer;

@@ -35,7 +35,7 @@ pub struct ProcessCopy<'a> {
 }
 
 impl<'a> ProcessCopy<'a> {
-    ghost use Rattle.sig_call.specs.Copies.{copy_in};
+    ghost use Rattle.sig_call.specs.inner.Copies.{copy_in};
 
     /// A copy whose parameters are these constants, and whose signals are numbered from the first
     /// one's number.

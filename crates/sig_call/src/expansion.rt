@@ -26,9 +26,9 @@ pub struct Expansion {
 impl Expansion {
     ghost use Rattle.std.specs.Prelude.{◌≡◌, ◌+◌, ◌++◌, ◌<◌, ◌^◌, ◌∷◌};
     ghost use Rattle.sig_call.specs.Prelude.{[], ℕ, map, OnOk, AllByRecursion, model_of, expression_of, pragmas_of_model, flat_body_of, flat_equation_of, flat_expression_of, DefinesFlat, Equal as EqualFlat, cluster_at, cluster_of_call, copied_signals, flat_right, flat_of, inputs_defined, outputs_defined, signal_of, declarations_in, IsSmall, IsLow};
-    ghost use Rattle.sig_call.specs.Copies.{copy_in};
+    ghost use Rattle.sig_call.specs.inner.Copies.{copy_in};
     ghost use Rattle.sig_call.specs.Making.{Made, IsRefused, with_signals, with_equations, signals_copied};
-    ghost use Rattle.sig_call.specs.MadeOf.{made_of};
+    ghost use Rattle.sig_call.specs.inner.MadeOf.{made_of};
 
     /// No call, signal or equation.
     pub fn new(alloc: Global) -> Expansion

@@ -2,7 +2,7 @@
 
 ghost use Rattle.std.specs.Prelude.{◌≡◌};
 ghost use Rattle.sig_call.specs.Prelude.{map, IfOk, AllByRecursion, expression_of, flat_expression_of, binding_of, flat_name, flat_unary, flat_of, flat_right, IsSmall};
-ghost use Rattle.sig_call.specs.Copies.{copy_in};
+ghost use Rattle.sig_call.specs.inner.Copies.{copy_in};
 
 use crate::binding::Binding;
 use crate::copy::ProcessCopy;

@@ -32,7 +32,7 @@ pub use Rattle.sig_clock.specs.ClockRefusals.{HasClocks, IsFirstPinned, IsLeast,
 pub use Rattle.sig_clock.specs.Clocks.{AreInOrder}
 pub use Rattle.sig_clock.specs.Conditions.{AreFreeBy, added, frees, is_condition, is_free, signal_id}
 pub use Rattle.sig_clock.specs.Layers.{AgreeOn, EntersBy, HasLayer, IsDead, IsDetermined, IsEarlier, IsSolved}
-pub use Rattle.sig_clock.specs.Links.{AreJoined, Tied, relabel_one}
+pub use Rattle.sig_clock.specs.inner.Links.{AreJoined, Tied, relabel_one}
 pub use Rattle.sig_clock.specs.Pinned.{IsFree, IsPinned}
 pub use Rattle.sig_clock.specs.Reactions.{IsReaction, Reaction, Speaks, Status, are_statuses, constant_truth, function_truth, has_truth, is_boolean_kind, is_integer, is_integer_kind, is_present, is_silent, is_status_of, is_with, meets, operand_truth, or_else, same_status, same_truth, status_at, truth_function, truth_of_status, where_present, where_true}
 pub use Rattle.sig_clock.specs.SameClocks.{AreLeast, AreRelated, Equivalence, SameClock, given, itself, joined, related, signals_among, turned}

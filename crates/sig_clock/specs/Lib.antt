@@ -5,7 +5,7 @@ pub mod ClockRefusals
 pub mod Clocks
 pub mod Conditions
 pub mod Layers
-pub mod Links
 pub mod Pinned
 pub mod Reactions
 pub mod SameClocks
+pub mod inner

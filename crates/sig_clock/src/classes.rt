@@ -3,7 +3,7 @@
 ghost use Rattle.std.specs.Prelude.{◌≡◌, ◌≤◌, ◌<◌, ◌∷◌};
 ghost use Rattle.sig_clock.specs.Prelude.{[], ℕ, true, length, map, slice_index, IfOk, list_all, range_with_len, IsValid, form_within, operand_within};
 ghost use Rattle.sig_clock.specs.SameClocks.{AreLeast, signals_among, related};
-ghost use Rattle.sig_clock.specs.Links.{AreJoined, relabel_one};
+ghost use Rattle.sig_clock.specs.inner.Links.{AreJoined, relabel_one};
 
 use crate::answer::ClockBase;
 use sig_base::SigId;

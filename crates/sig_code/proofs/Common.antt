@@ -15,7 +15,7 @@ pub use Rattle.sig_plan.specs.declared.parts.LinkInfo.{LinkInfo}
 pub use Rattle.sig_plan.proofs.Common.{All-push, AreSlots, CodeView, Guard, HasNoCycle, Holds, ImpliesSlot, Instruction, IsAccepted, IsCompiledOrder, IsLastBelow, IsRefOf, IsStepOf, Kernel, Node, OpId, Operation, PartsView, PlanView, Precedes, Reaches, Ref, SigId, always, at_end, at_number, cases_lt, cons_option, directly, enumerate_from, get_at, get_or_append_left, get_or_push, get_within, instructions_of, is_signal, length-map, links_of, links_to, map-append, numbers_of, on_ok_weaker, onward, op_id, operation_in, operations_in, over_order, report_links, reports_of, take_more, test, under, unguarded}
 pub use Rattle.sig_plan.proofs.Orders.{none_before_itself}
 pub use Rattle.sig_plan.proofs.PlanOnce.{same_actors, same_instructions, same_operations}
-pub use Rattle.sig_code.specs.Coding.{Adds, AreCodesOf, AreHeld, FindsSlot, HasNoSlot, IsCodeOf, IsNewSlot, IsSlotOf, IsWithin, has_guard}
+pub use Rattle.sig_code.specs.inner.Coding.{Adds, AreCodesOf, AreHeld, FindsSlot, HasNoSlot, IsCodeOf, IsNewSlot, IsSlotOf, IsWithin, has_guard}
 pub use Rattle.sig_code.specs.Texts.{IsCodeText, act_text, actor_text, code_text_of, op_text, step_text, what_text}
-pub use Rattle.sig_code.specs.Turns.{doing, ending, parts_of, receiving, route_if, routes_of, sending}
+pub use Rattle.sig_code.specs.inner.Turns.{doing, ending, parts_of, receiving, route_if, routes_of, sending}
 pub use Rattle.sig_code.specs.declared.routes.Route.{Route}

@@ -1,5 +1,4 @@
 pub mod Prelude
-pub mod Coding
 pub mod Made
 pub mod Texts
-pub mod Turns
+pub mod inner

@@ -2,9 +2,9 @@
 
 ghost use Rattle.std.specs.Prelude.{◌≡◌, ◌+◌, ◌<◌};
 ghost use Rattle.sig_code.specs.Prelude.{All, IfOk, length, HasClocks, AreClocks, Holds as HoldsRef, IsStore, IsValid, instructions_of, AreOperations, operations_in, IsCompiledOrder, AreParts, numbers_of};
-ghost use Rattle.sig_code.specs.Coding.{AreCodesOf};
+ghost use Rattle.sig_code.specs.inner.Coding.{AreCodesOf};
 ghost use Rattle.sig_code.specs.Made.{Holds};
-ghost use Rattle.sig_code.specs.Turns.{parts_of};
+ghost use Rattle.sig_code.specs.inner.Turns.{parts_of};
 
 use crate::answer::CodeAnswer;
 use crate::routes::routes_of_each;

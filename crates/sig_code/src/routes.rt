@@ -1,7 +1,7 @@
 //! The links that carry what operations write.
 
 ghost use Rattle.std.specs.Prelude.{◌≡◌, ◌<◌, ◌^◌, IfOk, length, map};
-ghost use Rattle.sig_code.specs.Turns.{route_if, routes_of};
+ghost use Rattle.sig_code.specs.inner.Turns.{route_if, routes_of};
 
 use sig_base::SigId;
 use sig_plan::{LinkInfo, Op};

@@ -2,8 +2,8 @@
 
 ghost use Rattle.std.specs.Prelude.{◌≡◌, ◌∷◌, ◌<◌, ◌^◌};
 ghost use Rattle.sig_code.specs.Prelude.{[], IfOk, OnOk, length, map, position, option_to_list, Holds, IsLastBelow};
-ghost use Rattle.sig_code.specs.Coding.{Adds, AreHeld, FindsSlot, IsWithin, has_guard};
-ghost use Rattle.sig_code.specs.Turns.{doing};
+ghost use Rattle.sig_code.specs.inner.Coding.{Adds, AreHeld, FindsSlot, IsWithin, has_guard};
+ghost use Rattle.sig_code.specs.inner.Turns.{doing};
 
 use crate::answer::CodeAnswer;
 use sig_dd::{Ref, Store};

@@ -2,8 +2,8 @@
 
 ghost use Rattle.std.specs.Prelude.{◌≡◌, ◌+◌, ◌*◌, ◌<◌, ◌^◌, ◌++◌};
 ghost use Rattle.sig_code.specs.Prelude.{IfOk, OnOk, map, length, slice_get, filter_map, Holds, at_end, at_number, instructions_of, numbered, over_order, operations_in, numbers_of};
-ghost use Rattle.sig_code.specs.Coding.{Adds, AreCodesOf, AreHeld, IsCodeOf};
-ghost use Rattle.sig_code.specs.Turns.{AreReady, doing, ending, parts_of, receiving, sending};
+ghost use Rattle.sig_code.specs.inner.Coding.{Adds, AreCodesOf, AreHeld, IsCodeOf};
+ghost use Rattle.sig_code.specs.inner.Turns.{AreReady, doing, ending, parts_of, receiving, sending};
 
 use crate::answer::CodeAnswer;
 use crate::routes::{Route, Routes};

@@ -4,10 +4,10 @@ pub use Rattle.std.proofs.lemmas.Option.{IfSome_then}
 pub use Rattle.sig_base.specs.declared.limits.TheConstants.{PROGRAM_BYTES}
 pub use Rattle.sig_print.specs.Canonical.{canonical_text}
 pub use Rattle.sig_dd.specs.Nodes.{IsFull}
-pub use Rattle.sig_deciding.proofs.Coding.{dec_implied, value_there}
+pub use Rattle.sig_deciding.proofs.ActorCodes.{dec_implied, value_there}
 pub use Rattle.sig_deciding.proofs.Common.{Implies, IsLastBelow, IsPlanOf, PlanView, cases_lt}
 pub use Rattle.sig_deciding.proofs.KernelRuns.{some_plan}
-pub use Rattle.sig_deciding.proofs.Searching.{last_as, last_below}
+pub use Rattle.sig_deciding.proofs.Searchable.{last_as, last_below}
 pub use Rattle.sig_deciding.proofs.Tables.{table, table_at, table_length}
 pub use Rattle.sig_code.specs.Texts.{IsCodeText, code_text_of}
 pub use Rattle.sig_code.proofs.CodeOnce.{code_text_once}
@@ -18,7 +18,7 @@ pub use Rattle.sig_pace.specs.Paced.{GetsPaces, IsPaced}
 pub use Rattle.sig_pace.specs.Refusals.{HasNoPaceRoom, HasTooManySignals, IsNameTaken, IsPaceRefusal}
 pub use Rattle.sig_pace.specs.declared.answer.PaceAnswer.{PaceAnswer}
 pub use Rattle.sig_pace.specs.declared.answer.PaceAnswer.TheVariants.{Budget as NoNodes, TooManySignals as TooManyPaced}
-pub use Rattle.sig_pace.proofs.Refusing.{many_or_paced, one_pacing, one_taken, taken_or_many, taken_or_paced}
+pub use Rattle.sig_pace.proofs.OneWayOrRefused.{many_or_paced, one_pacing, one_taken, taken_or_many, taken_or_paced}
 pub use Rattle.sig_back.specs.Budgets.{MeetsUnknownBound}
 pub use Rattle.sig_back.specs.Faults.{FaultView, IsFaultOf}
 pub use Rattle.sig_back.specs.Shown.{fault_line}
@@ -35,7 +35,7 @@ pub use Rattle.sig_outcome.specs.declared.refusal.Refusal.{Refusal}
 pub use Rattle.sig_outcome.specs.declared.refusal.Refusal.TheVariants.{Budget, Data, LongFile, LongImage, LongProgram, Missing, Program, ReadFault, TooManyItems}
 pub use Rattle.sig_outcome.proofs.Common.{Contents, Good, IsOfProgram, OneAtMost, Outcome, done, status_of}
 pub use Rattle.sig_outcome.proofs.OneFile.{reaches_text, stops_bytes, stops_unread}
-pub use Rattle.sig_outcome.proofs.Performing.{performs_outcome, performs_refusal}
+pub use Rattle.sig_outcome.proofs.PerformedCalls.{performs_outcome, performs_refusal}
 pub use Rattle.sig_outcome.proofs.Refused.{about_bytes, budget_of, no_eight, of_more, on_err, on_ok, refused_program, told}
 pub use Rattle.sig_outcome.proofs.Stages.{behind_program, one_at_program}
 pub use Rattle.sig_compile.specs.Acceptance.{AreRefused, Becomes, HasKernel, HasOwnKernel, IsAcceptedAs, IsAcceptedProgram, IsRefusedKernel, IsRefusedPace, IsRefusedProgram, IsRefusedText, IsUnpaced, SaysNameTaken, SaysTooManySignals, taken_line}

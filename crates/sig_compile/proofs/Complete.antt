@@ -1,6 +1,6 @@
 -- A program that is accepted is compiled, and one whose text has a tree is printed.
 use Rattle.sig_compile.proofs.Common.{◌≡◌, ℕ, Bool, List, refl, ap, Contents, Kernel, canonical_text, IsText, ProcessModel, tree_once, Good, Outcome, WritesDue, done, behind_program, AreRefused, IsAcceptedAs, CompileComesTo, IsDueOf, Product, CanCompile, CanPrint, PrintComesTo, RefusesText}
-use Rattle.sig_compile.proofs.OneCompiling.{no_text_line, text_apart}
+use Rattle.sig_compile.proofs.OneCompilation.{no_text_line, text_apart}
 use Rattle.sig_compile.proofs.Products.{some_product}
 use Rattle.sig_compile.proofs.Verdicts.{accepted_once, accepted_or_refused, refused_once}
 

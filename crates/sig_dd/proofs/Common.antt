@@ -27,14 +27,14 @@ pub use Rattle.lru.proofs.CallerLemmas.{Contains-lookup, Contains-put_entries}
 pub use Rattle.sig_dd.specs.Cache.{IsCache, question_of}
 pub use Rattle.sig_dd.specs.Diagram.{Agree, Choice, Constant, Depends, Diagram, truth_of}
 unfoldable pub use Rattle.sig_dd.specs.Diagram.{StartsFrom, Tests, value_at, visited, with_truth}
-pub use Rattle.sig_dd.specs.Meets.{HoldsPair, IsPairSplit, Meets, pair_weight}
+pub use Rattle.sig_dd.specs.inner.Meets.{HoldsPair, IsPairSplit, Meets, pair_weight}
 pub use Rattle.sig_dd.specs.Nodes.{Holds, Implies, IsChoice, IsFull, IsNodeAt, IsReduced, IsRefOf, IsStore, Keeps, Spans, StoreView, allowance, node_numbered, node_of, test}
 unfoldable pub use Rattle.sig_dd.specs.Nodes.{diagram, diagrams, with_node}
 pub use Rattle.sig_dd.specs.Operand.{IsOperand, earlier_of, side_of}
 pub use Rattle.sig_dd.specs.Products.{AgreeBut, AreProducts, IsJoined, IsPairProduct, IsPairSide, IsProduct, IsProductSplit, MeetWithout, PairTests, PairTestsOnly}
 unfoldable pub use Rattle.sig_dd.specs.Products.{product_room}
 pub use Rattle.sig_dd.specs.Question.{AllStartFrom, HasVariable, HoldsAll, IsAnswer, IsHalf, IsSide, IsSplit, IsStep, IsTable, SomeHas, SomeTests, TestsOnly, asked, weight}
-pub use Rattle.sig_dd.specs.Renaming.{AreRenamed, IsChoiceBy, IsRenamed, RefTestsOnly, truth_in}
+pub use Rattle.sig_dd.specs.inner.Renaming.{AreRenamed, IsChoiceBy, IsRenamed, RefTestsOnly, truth_in}
 pub use Rattle.sig_dd.specs.Shares.{HasAll, HoldAll, IsRefused, Share, Shares, SpanAll, Trail, refusal}
 pub use Rattle.sig_dd.specs.Supports.{AreMasks, AreTestedBelow, HasBit, IsMask, IsSupport, IsTestedBelow, added}
 pub use Rattle.sig_dd.specs.Walks.{Asks, IsIdle}

@@ -12,7 +12,7 @@ pub mod Kept
 pub mod Cached
 pub mod Counts
 pub mod Functions
-pub mod Adding
+pub mod CallsInARow
 pub mod Variables
 pub mod CallerLemmas
 pub mod Dependence
@@ -22,7 +22,7 @@ pub mod RelationalProducts
 pub mod Renamed
 pub mod Supported
 unfoldable pub use Common.*
-pub use Adding.*
+pub use CallsInARow.*
 pub use Cached.*
 pub use CallerLemmas.*
 pub use Canonical.*

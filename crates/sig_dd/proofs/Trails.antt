@@ -1,6 +1,6 @@
 -- Calls in a row, one after another.
 use Rattle.sig_dd.proofs.Common.{ℕ, ◌+◌, List, [], ◌∷◌, Option, None, StoreView, Holds, Keeps, Spans, Share, Shares, SpanAll, HoldAll, HasAll, Trail, DdAnswer, Ref}
-use Rattle.sig_dd.proofs.Adding.{Share-none, Share-then}
+use Rattle.sig_dd.proofs.CallsInARow.{Share-none, Share-then}
 use Rattle.sig_dd.proofs.CallerLemmas.{Keeps-itself, Keeps-trans, Holds-kept, Spans-kept}
 
 pub Trail-begins : (vs : List ℕ) (s : StoreView) (fs : List Ref) → HoldAll s.nodes fs → SpanAll s.nodes fs vs → Trail 0 vs s s fs

@@ -4,9 +4,7 @@ pub mod Nodes
 pub mod Operand
 pub mod Question
 pub mod Cache
-pub mod Meets
 pub mod Products
-pub mod Renaming
 pub mod Shares
-pub mod Support
 pub mod Supports
+pub mod inner

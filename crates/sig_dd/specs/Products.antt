@@ -2,7 +2,7 @@
 use Rattle.std.specs.Prelude.{◌≡◌, ◌↔◌, ◌⊎◌, ◌+◌, ◌*◌, ◌^◌, ◌<◌, ◌||◌, ℕ, zero, suc, Bool, true, false, List, IfSome, IsTrue, Contains, if◌then◌else◌}
 use Rattle.std.specs.HashMap.{HashMap, get}
 use Rattle.sig_dd.specs.Diagram.{Tests, truth_of}
-use Rattle.sig_dd.specs.Meets.{HoldsPair, pair_weight}
+use Rattle.sig_dd.specs.inner.Meets.{HoldsPair, pair_weight}
 use Rattle.sig_dd.specs.Nodes.{Holds, diagram, test}
 use Rattle.sig_dd.specs.Question.{IsSide}
 use Rattle.sig_dd.specs.declared.meets.Pair.{Pair}

@@ -3,7 +3,7 @@
 ghost use Rattle.std.specs.Prelude.{◌≡◌, ◌≢◌, ◌↔◌, ℕ, IfOk, OnOk, Err, IsTrue};
 ghost use Rattle.sig_dd.specs.Nodes.{Holds, IsStore, Implies, Overlap};
 ghost use Rattle.sig_dd.specs.Operand.{side_of};
-ghost use Rattle.sig_dd.specs.Meets.{HoldsPair, Meets, NoneMeets, IsPairStep};
+ghost use Rattle.sig_dd.specs.inner.Meets.{HoldsPair, Meets, NoneMeets, IsPairStep};
 
 use crate::answer::DdAnswer;
 use crate::node::Ref;

@@ -2,7 +2,7 @@
 
 ghost use Rattle.std.specs.Prelude.{◌≡◌, ◌+◌, ◌*◌, ◌^◌, ◌<◌, ◌≤◌, suc, false, true, ℕ, List, length, IfOk, IfSome, Err};
 ghost use Rattle.sig_dd.specs.Diagram.{Depends, StartsFrom, truth_of};
-ghost use Rattle.sig_dd.specs.Meets.{HoldsPair};
+ghost use Rattle.sig_dd.specs.inner.Meets.{HoldsPair};
 ghost use Rattle.sig_dd.specs.Nodes.{Holds, IsFull, IsStore, Keeps, Spans, diagram, test};
 ghost use Rattle.sig_dd.specs.Operand.{side_of};
 ghost use Rattle.sig_dd.specs.Products.{product_room, AreProducts, IsJoined, IsPairProduct, IsProduct, IsProductStep, PairTestsOnly};

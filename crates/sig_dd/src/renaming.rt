@@ -3,7 +3,7 @@
 ghost use Rattle.std.specs.Prelude.{◌≡◌, ◌+◌, ◌*◌, ◌^◌, ◌<◌, ◌≤◌, ℕ, List, length, map, slice_get, Contains, IfOk, IfSome, Some, Err};
 ghost use Rattle.sig_dd.specs.Diagram.{truth_of, Depends};
 ghost use Rattle.sig_dd.specs.Nodes.{Holds, IsFull, IsRefOf, IsStore, Keeps, Spans, test};
-ghost use Rattle.sig_dd.specs.Renaming.{AreRenamed, IsChoiceBy, IsRenamed, RefTestsOnly};
+ghost use Rattle.sig_dd.specs.inner.Renaming.{AreRenamed, IsChoiceBy, IsRenamed, RefTestsOnly};
 ghost use Rattle.sig_dd.specs.Shares.{refusal, Share};
 
 use crate::answer::DdAnswer;

@@ -4,7 +4,7 @@ ghost use Rattle.std.specs.Prelude.{◌≡◌, ◌≢◌, ◌↔◌, ℕ, IfOk, 
 ghost use Rattle.std.specs.List.Sorted.{IsStrictlyIncreasing};
 ghost use Rattle.sig_dd.specs.Diagram.{Depends};
 ghost use Rattle.sig_dd.specs.Nodes.{Holds, IsStore, test};
-ghost use Rattle.sig_dd.specs.Support.{Collects, IsSeen};
+ghost use Rattle.sig_dd.specs.inner.Support.{Collects, IsSeen};
 
 use crate::answer::DdAnswer;
 use crate::node::Ref;

@@ -1,6 +1,6 @@
 -- What is so of an accepted kernel, by any of its plans.
 use Rattle.sig_deciding.proofs.Common.{◌≡◌, ◌∙◌, ◌≤◌, ◌+◌, ℕ, ℤ, List, length, refl, sym, subst, All, Option, Some, LINKS, Trace, Instant, Place, AreFlowsFor, IsValid, Kernel, SigId, IsAcceptedKernel, Operation, operations_in, IsCompiledOrder, Precedes, AreParts, IsAccepted, PlanView, numbers_of, LinkInfo, Ended, operations_once, plan_operations, same_order, WritesWithin, operations_fine, parts_once, IsEnd, IsNamedCause, place_at, Memory, IsNext, same_instant, HasOneReaction, StopsBefore, IsFirstFault, compiled, one_reaction, some_end, one_end, end_at_first, AreKernelLinks, AreOrdered, IsKernelEnd, IsPlanOf}
-use Rattle.sig_deciding.proofs.Fitting.{accepted_plan}
+use Rattle.sig_deciding.proofs.KernelPlans.{accepted_plan}
 
 -- ---- once
 

@@ -1,28 +1,28 @@
 pub mod Common
-mod Deciding
-pub mod Searching
-mod Sorting
+mod DecidedStatements
+pub mod Searchable
+mod SortedLists
 pub mod Tables
-mod Counting
-mod Closing
-mod Reacting
+mod Counts
+mod StandStill
+mod SearchedReactions
 mod Rounds
-mod Pinning
-mod Refusing
-mod Guarding
-mod Preceding
-mod Cycling
-mod Parting
-mod Accepting
-mod Taking
-mod Numbering
-pub mod Coding
-mod Planning
-mod Building
-mod Classing
-mod Fitting
+mod PinnedOrFree
+mod FirstRefusal
+mod ClockFunctionsOfKernel
+mod Precedence
+mod CyclesOrNone
+mod PartsOfOperations
+mod AcceptedOrRefused
+mod OrderOfNumbers
+mod FirstNumbers
+pub mod ActorCodes
+mod PlansOverStores
+mod BuiltNodes
+mod ClassGuards
+mod KernelPlans
 pub mod KernelRuns
 unfoldable pub use Common.*
-pub use Accepting.*
+pub use AcceptedOrRefused.*
 pub use KernelRuns.*
-pub use Planning.*
+pub use PlansOverStores.*

@@ -1,9 +1,9 @@
 -- Whether a signal enters in some round is decided, since some round is still.
 use Rattle.sig_deciding.proofs.Common.{◌≡◌, ◌<◌, ◌⊎◌, inl, inr, ℕ, zero, suc, true, length, arith, IsLeast, is_condition, AgreeOn, EntersBy, HasLayer, IsDetermined, IsSolved, NeverEnters, Reaction, Speaks, is_present, enters_stays, Kernel}
-use Rattle.sig_deciding.proofs.Closing.{IsStill, still}
-use Rattle.sig_deciding.proofs.Deciding.{dec_as, dec_implies, dec_truth}
-use Rattle.sig_deciding.proofs.Reacting.{condition_is_signal, dec_agree, searched_speaking}
-use Rattle.sig_deciding.proofs.Searching.{dec_each, some_least}
+use Rattle.sig_deciding.proofs.StandStill.{IsStill, still}
+use Rattle.sig_deciding.proofs.DecidedStatements.{dec_as, dec_implies, dec_truth}
+use Rattle.sig_deciding.proofs.SearchedReactions.{condition_is_signal, dec_agree, searched_speaking}
+use Rattle.sig_deciding.proofs.Searchable.{dec_each, some_least}
 
 module _ (kernel : Kernel) where
   dec_determined : (Known : ℕ → Type 0) → ((condition : ℕ) → is_condition kernel condition ≡ true → Dec (Known condition)) → (signal : ℕ) → Dec (IsDetermined kernel Known signal)

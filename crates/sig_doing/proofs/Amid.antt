@@ -1,6 +1,6 @@
 -- An actor amid an instant knows the guard at its place, and has what the operation there reads.
 use Rattle.sig_doing.proofs.Common.{◌≡◌, ◌<◌, ◌≤◌, ◌+◌, ◌⊎◌, inl, inr, ℕ, ℤ, Bool, true, false, List, length, refl, ap, sym, subst, ◌∙◌, arith, Contains, Some, is_some, slice_get, slice_index, Instant, Trace, seen_at, SigId, get_within, test, AreAlike, IsAmid, IsWrittenBefore, StandsAt, StandsBefore, IsFaultAt, met_place, at_most_or, HasFault, Meets, Cause, Memory, remembered, AreFlowsFor, Kernel, compiled, Compiled, condition_signal, own_written, some_at, truth_at, next_in, none_where, Actor, is_true, truths_of, Operation, operation_in, operations_in, Needs, IsAccepted, PlanView, numbers_of, Op, OpKind, Read, Store, guards_alone, needed_earlier, read_earlier}
-use Rattle.sig_doing.proofs.Knowing.{is_next, written_at, written_is_there}
+use Rattle.sig_doing.proofs.ReferenceInstant.{is_next, written_at, written_is_there}
 use Rattle.sig_doing.proofs.Places.{at_place}
 
 -- actors that are alike are amid alike

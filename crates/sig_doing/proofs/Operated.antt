@@ -2,8 +2,8 @@
 use Rattle.sig_doing.proofs.Common.{◌≡◌, ◌<◌, ◌≤◌, ◌+◌, ◌++◌, ◌⊎◌, inl, inr, ℕ, ℤ, Bool, true, false, cond, List, [], ◌∷◌, length, map, get_or, refl, ap, sym, subst, ◌∙◌, arith, Contains, Option, None, Some, slice_get, slice_index, option_to_list, ◌==◌, eq-eqb, eqb-true, length-append, Function, Instant, Seen, Trace, flow_of, seen_at, EqId, SigId, abstraction_of, test, IsAmid, stepped, IsDone, IsWrittenBefore, StandsAt, StandsBefore, Memory, function_of, remembered, target_of, AreFlowsFor, Equation, Delay, Kernel, IsAt, IsOutcome, compiled, Compiled, fitting, flow_more, next_in, same_or_not, is_outcome, Fitting, got, stored, form_in, have_map, same_operands, Actor, truths_of, with_at, with_signal, Computes, HasFault, Meets, Faults, Gives, bounded, computed, computed_at, computed_by, computed_for, defined_by, first_in, next_of, operand_in, operated, outcome, outcome_by, remembers, taken_by, divides_by_zero, has_64_bits, result_of, Operation, operation_in, operations_in, Keeps, Precedes, IsAccepted, PlanView, numbers_of, Cause, Exhausted, Limit, Overflow, ZeroDivisor, Op, OpKind, Compute, DelayRead, Left, Read, Right, Store, written_by_one, kept_order, stands_once}
 use Rattle.sig_doing.proofs.Amid.{guard_known, here, place_within, reads_known, sound_next}
 use Rattle.sig_doing.proofs.Committed.{committed_clean}
-use Rattle.sig_doing.proofs.Defining.{defined_once, one_memory, same_equation, same_signal}
-use Rattle.sig_doing.proofs.Knowing.{among, compute_is, goes_on, is_next, keeps, read_is, remembered_present, speaks}
+use Rattle.sig_doing.proofs.DefinedOnce.{defined_once, one_memory, same_equation, same_signal}
+use Rattle.sig_doing.proofs.ReferenceInstant.{among, compute_is, goes_on, is_next, keeps, read_is, remembered_present, speaks}
 use Rattle.sig_doing.proofs.Places.{at_place, places, stands_before_or_here, stands_here, stands_later, written_before_or_here, written_here, written_later}
 
 -- ---- functions with another value at one number

@@ -1,4 +1,5 @@
 -- What the bytes of kinds stand for.
+use Rattle.std.proofs.lemmas.Option.{same_Some}
 use Rattle.sig_file.proofs.Common.{◌≡◌, ℕ, zero, suc, Some, refl, ap, slice_get}
 use Rattle.sig_file.specs.Prelude.{Kind, Integer, Boolean, Event, FunOp, Id, Neg, Not, And, Or, Xor, Eq, Ne, Lt, Le, Gt, Ge, Add, Sub, Mul, Div, Mod}
 use Rattle.sig_file.specs.Bytes.{function_number, kind_number}
@@ -21,64 +22,61 @@ abbrev pub operand_number : OperandTag → ℕ
 operand_number operand.Signal = 0
 operand_number operand.Constant = 1
 
-some_is : {A : Type 0} (x y : A) → Some x ≡ Some y → x ≡ y
-some_is x y e = cc
-
 kinds_place : (n : ℕ) (x : Kind) → slice_get kinds n ≡ Some x → n ≡ kind_number x
-kinds_place zero x e = ap kind_number (some_is Integer x e)
-kinds_place (suc zero) x e = ap kind_number (some_is Boolean x e)
-kinds_place (suc (suc zero)) x e = ap kind_number (some_is Event x e)
+kinds_place zero x e = ap kind_number (same_Some Integer x e)
+kinds_place (suc zero) x e = ap kind_number (same_Some Boolean x e)
+kinds_place (suc (suc zero)) x e = ap kind_number (same_Some Event x e)
 kinds_place (suc (suc (suc n))) x e = absurd cc
 
 pub kinds_numbered : AreNumbered kinds kind_number
 kinds_numbered = record { there = kinds_place }
 
 memory_kinds_place : (n : ℕ) (x : Kind) → slice_get memory_kinds n ≡ Some x → n ≡ kind_number x
-memory_kinds_place zero x e = ap kind_number (some_is Integer x e)
-memory_kinds_place (suc zero) x e = ap kind_number (some_is Boolean x e)
+memory_kinds_place zero x e = ap kind_number (same_Some Integer x e)
+memory_kinds_place (suc zero) x e = ap kind_number (same_Some Boolean x e)
 memory_kinds_place (suc (suc n)) x e = absurd cc
 
 pub memory_kinds_numbered : AreNumbered memory_kinds kind_number
 memory_kinds_numbered = record { there = memory_kinds_place }
 
 functions_place : (n : ℕ) (x : FunOp) → slice_get functions n ≡ Some x → n ≡ function_number x
-functions_place zero x e = ap function_number (some_is Id x e)
-functions_place (suc zero) x e = ap function_number (some_is Neg x e)
-functions_place (suc (suc zero)) x e = ap function_number (some_is Not x e)
-functions_place (suc (suc (suc zero))) x e = ap function_number (some_is And x e)
-functions_place (suc (suc (suc (suc zero)))) x e = ap function_number (some_is Or x e)
-functions_place (suc (suc (suc (suc (suc zero))))) x e = ap function_number (some_is Xor x e)
-functions_place (suc (suc (suc (suc (suc (suc zero)))))) x e = ap function_number (some_is Eq x e)
-functions_place (suc (suc (suc (suc (suc (suc (suc zero))))))) x e = ap function_number (some_is Ne x e)
-functions_place (suc (suc (suc (suc (suc (suc (suc (suc zero)))))))) x e = ap function_number (some_is Lt x e)
-functions_place (suc (suc (suc (suc (suc (suc (suc (suc (suc zero))))))))) x e = ap function_number (some_is Le x e)
-functions_place (suc (suc (suc (suc (suc (suc (suc (suc (suc (suc zero)))))))))) x e = ap function_number (some_is Gt x e)
-functions_place (suc (suc (suc (suc (suc (suc (suc (suc (suc (suc (suc zero))))))))))) x e = ap function_number (some_is Ge x e)
-functions_place (suc (suc (suc (suc (suc (suc (suc (suc (suc (suc (suc (suc zero)))))))))))) x e = ap function_number (some_is Add x e)
-functions_place (suc (suc (suc (suc (suc (suc (suc (suc (suc (suc (suc (suc (suc zero))))))))))))) x e = ap function_number (some_is Sub x e)
-functions_place (suc (suc (suc (suc (suc (suc (suc (suc (suc (suc (suc (suc (suc (suc zero)))))))))))))) x e = ap function_number (some_is Mul x e)
-functions_place (suc (suc (suc (suc (suc (suc (suc (suc (suc (suc (suc (suc (suc (suc (suc zero))))))))))))))) x e = ap function_number (some_is Div x e)
-functions_place (suc (suc (suc (suc (suc (suc (suc (suc (suc (suc (suc (suc (suc (suc (suc (suc zero)))))))))))))))) x e = ap function_number (some_is Mod x e)
+functions_place zero x e = ap function_number (same_Some Id x e)
+functions_place (suc zero) x e = ap function_number (same_Some Neg x e)
+functions_place (suc (suc zero)) x e = ap function_number (same_Some Not x e)
+functions_place (suc (suc (suc zero))) x e = ap function_number (same_Some And x e)
+functions_place (suc (suc (suc (suc zero)))) x e = ap function_number (same_Some Or x e)
+functions_place (suc (suc (suc (suc (suc zero))))) x e = ap function_number (same_Some Xor x e)
+functions_place (suc (suc (suc (suc (suc (suc zero)))))) x e = ap function_number (same_Some Eq x e)
+functions_place (suc (suc (suc (suc (suc (suc (suc zero))))))) x e = ap function_number (same_Some Ne x e)
+functions_place (suc (suc (suc (suc (suc (suc (suc (suc zero)))))))) x e = ap function_number (same_Some Lt x e)
+functions_place (suc (suc (suc (suc (suc (suc (suc (suc (suc zero))))))))) x e = ap function_number (same_Some Le x e)
+functions_place (suc (suc (suc (suc (suc (suc (suc (suc (suc (suc zero)))))))))) x e = ap function_number (same_Some Gt x e)
+functions_place (suc (suc (suc (suc (suc (suc (suc (suc (suc (suc (suc zero))))))))))) x e = ap function_number (same_Some Ge x e)
+functions_place (suc (suc (suc (suc (suc (suc (suc (suc (suc (suc (suc (suc zero)))))))))))) x e = ap function_number (same_Some Add x e)
+functions_place (suc (suc (suc (suc (suc (suc (suc (suc (suc (suc (suc (suc (suc zero))))))))))))) x e = ap function_number (same_Some Sub x e)
+functions_place (suc (suc (suc (suc (suc (suc (suc (suc (suc (suc (suc (suc (suc (suc zero)))))))))))))) x e = ap function_number (same_Some Mul x e)
+functions_place (suc (suc (suc (suc (suc (suc (suc (suc (suc (suc (suc (suc (suc (suc (suc zero))))))))))))))) x e = ap function_number (same_Some Div x e)
+functions_place (suc (suc (suc (suc (suc (suc (suc (suc (suc (suc (suc (suc (suc (suc (suc (suc zero)))))))))))))))) x e = ap function_number (same_Some Mod x e)
 functions_place (suc (suc (suc (suc (suc (suc (suc (suc (suc (suc (suc (suc (suc (suc (suc (suc (suc n))))))))))))))))) x e = absurd cc
 
 pub functions_numbered : AreNumbered functions function_number
 functions_numbered = record { there = functions_place }
 
 op_tags_place : (n : ℕ) (x : OpTag) → slice_get op_tags n ≡ Some x → n ≡ tag_number x
-op_tags_place zero x e = ap tag_number (some_is tag.Read x e)
-op_tags_place (suc zero) x e = ap tag_number (some_is tag.Fun x e)
-op_tags_place (suc (suc zero)) x e = ap tag_number (some_is tag.Copy x e)
-op_tags_place (suc (suc (suc zero))) x e = ap tag_number (some_is tag.Const x e)
-op_tags_place (suc (suc (suc (suc zero)))) x e = ap tag_number (some_is tag.DelayRead x e)
-op_tags_place (suc (suc (suc (suc (suc zero))))) x e = ap tag_number (some_is tag.Store x e)
+op_tags_place zero x e = ap tag_number (same_Some tag.Read x e)
+op_tags_place (suc zero) x e = ap tag_number (same_Some tag.Fun x e)
+op_tags_place (suc (suc zero)) x e = ap tag_number (same_Some tag.Copy x e)
+op_tags_place (suc (suc (suc zero))) x e = ap tag_number (same_Some tag.Const x e)
+op_tags_place (suc (suc (suc (suc zero)))) x e = ap tag_number (same_Some tag.DelayRead x e)
+op_tags_place (suc (suc (suc (suc (suc zero))))) x e = ap tag_number (same_Some tag.Store x e)
 op_tags_place (suc (suc (suc (suc (suc (suc n)))))) x e = absurd cc
 
 pub op_tags_numbered : AreNumbered op_tags tag_number
 op_tags_numbered = record { there = op_tags_place }
 
 operand_tags_place : (n : ℕ) (x : OperandTag) → slice_get operand_tags n ≡ Some x → n ≡ operand_number x
-operand_tags_place zero x e = ap operand_number (some_is operand.Signal x e)
-operand_tags_place (suc zero) x e = ap operand_number (some_is operand.Constant x e)
+operand_tags_place zero x e = ap operand_number (same_Some operand.Signal x e)
+operand_tags_place (suc zero) x e = ap operand_number (same_Some operand.Constant x e)
 operand_tags_place (suc (suc n)) x e = absurd cc
 
 pub operand_tags_numbered : AreNumbered operand_tags operand_number

@@ -6,7 +6,7 @@ use Rattle.sig_dd.specs.Nodes.{Holds, IsRefOf, IsStore, StoreView, diagram, node
 use Rattle.sig_dd.specs.declared.node.Ref.{Ref}
 use Rattle.sig_dd.proofs.Canonical.{one_ref}
 use Rattle.sig_dd.proofs.Listed.{shape}
-use Rattle.sig_file.specs.Numbering.{IsNumbered}
+use Rattle.sig_file.specs.inner.Numbering.{IsNumbered}
 use Rattle.sig_file.specs.PlanImages.{visited}
 use Rattle.sig_file.specs.declared.images.ImageNode.{ImageNode}
 

@@ -4,7 +4,7 @@ use Rattle.sig_file.specs.Prelude.{NODES, SIGNALS, SigId}
 use Rattle.sig_file.specs.Bytes.{condition_bytes, image_bytes, magic, memory_bytes, node_bytes, number_bytes, op_bytes, signal_bytes}
 use Rattle.sig_file.specs.Fields.{all_read, condition_at, counts_at, fields_of_file, file_at, memory_from, node_at, op_at, ops_at, signal_at}
 use Rattle.sig_file.specs.Images.{Each, ImageView, IsImage, IsMemory, IsNodeBehind, IsOperation, IsSignalBehind, Scope, is_condition_behind}
-use Rattle.sig_file.specs.Reading.{◌>>=◌}
+use Rattle.sig_file.specs.inner.Reading.{◌>>=◌}
 use Rattle.sig_file.specs.declared.counts.Counts.{Counts}
 use Rattle.sig_file.specs.declared.images.ImageMemory.{ImageMemory}
 use Rattle.sig_file.specs.declared.images.ImageNode.{ImageNode}

@@ -4,7 +4,7 @@ use Rattle.sig_file.specs.Prelude.{ℤ, ◌&&◌, not, Kind, Integer, Boolean, E
 use Rattle.sig_file.specs.Bytes.{condition_bytes, kind_number, memory_bytes, node_bytes, number_bytes, signal_bytes}
 use Rattle.sig_file.specs.Fields.{condition_at, kinds, memory_from, memory_kinds, node_at, signal_at, signal_id}
 use Rattle.sig_file.specs.Images.{IsMemory, IsNodeBehind, IsSignalBehind, is_child, is_condition_behind, is_high_child, is_later, is_memory_kind, is_name, is_name_length, is_taken}
-use Rattle.sig_file.specs.Reading.{number_if}
+use Rattle.sig_file.specs.inner.Reading.{number_if}
 use Rattle.sig_file.specs.declared.images.ImageMemory.{ImageMemory}
 use Rattle.sig_file.specs.declared.images.ImageNode.{ImageNode}
 use Rattle.sig_file.specs.declared.images.ImageSignal.{ImageSignal}

@@ -1,6 +1,6 @@
 -- Reading items one behind the other, as a loop does.
 use Rattle.sig_file.proofs.Common.{◌≡◌, ℕ, suc, ◌-◌, ◌+◌, ◌≤◌, ◌<◌, List, [], ◌∷◌, ◌++◌, Result, Ok, Err, refl, sym, ap, ◌∙◌, arith}
-use Rattle.sig_file.specs.Reading.{Reading, Stops, added, several}
+use Rattle.sig_file.specs.inner.Reading.{Reading, Stops, added, several}
 use Rattle.sig_file.specs.declared.stop.Stop.{Stop}
 use Rattle.sig_file.specs.declared.stop.Stop.TheVariants as stops
 

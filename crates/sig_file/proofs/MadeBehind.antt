@@ -9,7 +9,7 @@ use Rattle.sig_base.specs.declared.ids.OpId.{OpId}
 use Rattle.sig_dd.specs.Nodes.{diagram}
 use Rattle.sig_plan.specs.Plans.{PlanView}
 use Rattle.sig_plan.specs.declared.op.Op.{Op}
-use Rattle.sig_file.specs.Numbering.{made_behind}
+use Rattle.sig_file.specs.inner.Numbering.{made_behind}
 use Rattle.sig_file.specs.PlanImages.{before, image_op, made_of, visited}
 use Rattle.sig_file.specs.declared.images.ImageNode.{ImageNode}
 use Rattle.sig_file.specs.declared.images.ImageOp.{ImageOp}

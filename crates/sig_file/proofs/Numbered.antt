@@ -6,7 +6,7 @@ use Rattle.sig_dd.specs.Nodes.{Holds, IsStore, StoreView, diagram, node_of}
 use Rattle.sig_dd.specs.declared.node.Node.{Node}
 use Rattle.sig_dd.specs.declared.node.Ref.{Ref}
 use Rattle.sig_dd.proofs.Sides.{names_node}
-use Rattle.sig_file.specs.Numbering.{AreNumbered, IsNumbered}
+use Rattle.sig_file.specs.inner.Numbering.{AreNumbered, IsNumbered}
 use Rattle.sig_file.specs.PlanImages.{place_of, visited, with_node}
 use Rattle.sig_file.specs.Prelude.{IfSome}
 use Rattle.sig_file.specs.declared.images.ImageNode.{ImageNode}

@@ -1,4 +1,5 @@
 -- The nodes of an image as those of a store of diagrams.
+use Rattle.std.proofs.lemmas.Option.{same_Some}
 use Rattle.sig_file.proofs.Common.{◌≡◌, ℕ, zero, suc, ◌+◌, ◌<◌, inl, inr, Bool, true, false, List, [], ◌∷◌, take, slice_get, Option, Some, None, refl, sym, ap, subst, ◌∙◌, arith, list_any, cases_lt, slice_get-map, option_map, eq-eqb, ltb-true, length-take}
 use Rattle.sig_file.specs.Prelude.{◌&&◌, ◌==◌, not, Node, Ref}
 use Rattle.std.specs.Prelude.{IfSome}
@@ -12,9 +13,6 @@ use Rattle.sig_file.proofs.Operands.{or_left, or_right}
 use Rattle.sig_file.proofs.Rules.{both}
 use Rattle.sig_file.proofs.Values.{all_true, not_true}
 
-some_is : {A : Type 0} (x y : A) → Some x ≡ Some y → x ≡ y
-some_is x y e = cc
-
 taken : {A : Type 0} (xs : List A) (i k : ℕ) (x : A) → slice_get (take i xs) k ≡ Some x → slice_get xs k ≡ Some x
 taken [] zero k x e = absurd cc
 taken [] (suc i) k x e = absurd cc
@@ -25,7 +23,7 @@ taken (y ∷ xs) (suc i) (suc k) x e = taken xs i k x e
 found_in : {A : Type 0} (p : A → Bool) (xs : List A) (i j : ℕ) (x : A) → i < j → slice_get xs i ≡ Some x → p x ≡ true → list_any p (take j xs) ≡ true
 found_in p [] i j x lt e h = absurd cc
 found_in p (y ∷ xs) i zero x lt e h = absurd (omega arith)
-found_in p (y ∷ xs) zero (suc j) x lt e h = or_left (p y) (list_any p (take j xs)) (ap p (some_is y x e) ∙ h)
+found_in p (y ∷ xs) zero (suc j) x lt e h = or_left (p y) (list_any p (take j xs)) (ap p (same_Some y x e) ∙ h)
 found_in p (y ∷ xs) (suc i) (suc j) x lt e h = or_right (p y) (list_any p (take j xs)) (found_in p xs i j x (omega arith) e h)
 
 -- the node of an image that a node of the store is
@@ -36,7 +34,7 @@ record Stands (nodes : List ImageNode) (i : ℕ) (n : Node) : Type 0 where
 
 stands_by : (nodes : List ImageNode) (i : ℕ) (n : Node) (o : Option ImageNode) → slice_get nodes i ≡ o → option_map node_in o ≡ Some n → Stands nodes i n
 stands_by nodes i n None here e = absurd cc
-stands_by nodes i n (Some node) here e = record { node = node; is = here; same = some_is (node_in node) n e }
+stands_by nodes i n (Some node) here e = record { node = node; is = here; same = same_Some (node_in node) n e }
 
 stands : (nodes : List ImageNode) (i : ℕ) (n : Node) → slice_get (nodes_in nodes) i ≡ Some n → Stands nodes i n
 stands nodes i n e = stands_by nodes i n (slice_get nodes i) refl (sym (slice_get-map node_in nodes i) ∙ e)

@@ -3,7 +3,7 @@ use Rattle.sig_file.proofs.Common.{◌≡◌, ℕ, suc, ◌+◌, ◌<◌, ◌≤
 use Rattle.std.specs.List.{position_or_len}
 use Rattle.sig_dd.specs.Diagram.{Diagram, Constant, Choice}
 use Rattle.sig_file.specs.Images.{is_node}
-use Rattle.sig_file.specs.Numbering.{IsNumbered}
+use Rattle.sig_file.specs.inner.Numbering.{IsNumbered}
 use Rattle.sig_file.specs.PlanImages.{place_of, visited, with_node}
 use Rattle.sig_file.specs.declared.images.ImageNode.{ImageNode}
 use Rattle.sig_file.proofs.Common.{eq-eqb, ◌||◌}

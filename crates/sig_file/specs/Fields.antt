@@ -4,7 +4,7 @@ use Rattle.std.specs.Prelude.{◌≡◌, ◌+◌, ◌&&◌, ◌||◌, ◌∷◌,
 use Rattle.sig_file.specs.Prelude.{ℕ, Bool, true, not, nat_lt, nat_le, List, [], length, bytes_eq, list_any, Option, Result, Ok, Err, Kind, Integer, Boolean, Event, SigId, SIGNALS, NODES, w32, is_signal, value_is, FunOp, Id, Neg, Not, And, Or, Xor, Eq, Ne, Lt, Le, Gt, Ge, Add, Sub, Mul, Div, Mod, Operand, Sig, Const}
 use Rattle.sig_file.specs.Bytes.{magic}
 use Rattle.sig_file.specs.Images.{ImageView, Scope, accepts, accepts_value, are_operands, is_child, is_condition_behind, is_high_child, is_name, is_name_length, is_same, is_taken, kind_at, memory_at, operand_count}
-use Rattle.sig_file.specs.Reading.{Reading, ◌>>=◌, choice_at, choice_if, long_at, long_if, number_if, right_or, several, text_if, word_at}
+use Rattle.sig_file.specs.inner.Reading.{Reading, ◌>>=◌, choice_at, choice_if, long_at, long_if, number_if, right_or, several, text_if, word_at}
 use Rattle.sig_file.specs.declared.choice.OpTag.{OpTag}
 use Rattle.sig_file.specs.declared.choice.OpTag.TheVariants as tag
 use Rattle.sig_file.specs.declared.choice.OperandTag.{OperandTag}

@@ -3,10 +3,7 @@ pub mod Fields
 pub mod Guarded
 pub mod ImageRuns
 pub mod Images
-pub mod Names
-pub mod Numbering
-pub mod Parts
 pub mod PlanImages
 pub mod Prelude
-pub mod Reading
 pub mod Spelled
+pub mod inner

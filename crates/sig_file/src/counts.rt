@@ -3,7 +3,7 @@
 ghost use Rattle.std.specs.Prelude.{◌≡◌, ◌+◌};
 ghost use Rattle.sig_file.specs.Fields.{counts_at};
 ghost use Rattle.sig_file.specs.Prelude.{nat_le};
-ghost use Rattle.sig_file.specs.Reading.{Gives, number_if};
+ghost use Rattle.sig_file.specs.inner.Reading.{Gives, number_if};
 
 use crate::field::{number_at, text_at};
 use crate::limits::{CONDITIONS, MEMORIES, OPERATIONS};

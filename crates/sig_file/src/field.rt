@@ -2,7 +2,7 @@
 
 ghost use Rattle.std.specs.Prelude.{◌≡◌};
 ghost use Rattle.sig_file.specs.Prelude.{w32};
-ghost use Rattle.sig_file.specs.Reading.{Gives, choice_at, long_at, text_at, word_at};
+ghost use Rattle.sig_file.specs.inner.Reading.{Gives, choice_at, long_at, text_at, word_at};
 
 use crate::stop::Stop;
 

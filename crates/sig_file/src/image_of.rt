@@ -4,7 +4,7 @@ ghost use Rattle.sig_file.specs.Prelude.{ℕ, Err, IfOk, OnOk, flat_map, length}
 ghost use Rattle.std.specs.Prelude.{◌≡◌, ◌+◌, ◌-◌, ◌^◌, ◌<◌, ◌≤◌, min};
 ghost use Rattle.sig_file.specs.Bytes.{field_bytes, image_bytes, op_bytes, operand_bytes, signal_bytes};
 ghost use Rattle.sig_file.specs.Images.{IsImage};
-ghost use Rattle.sig_file.specs.Parts.{view_of};
+ghost use Rattle.sig_file.specs.inner.Parts.{view_of};
 ghost use Rattle.sig_file.specs.PlanImages.{image_of};
 ghost use Rattle.sig_file.specs.Spelled.{HasNames, HavePlaces};
 ghost use Rattle.sig_file.specs.declared.limits.TheConstants.{IMAGE_BYTES};

@@ -5,8 +5,8 @@ ghost use Rattle.std.specs.List.{cons_option};
 ghost use Rattle.std.specs.Prelude.{◌≡◌, ◌<◌, ◌∷◌, ◌++◌, filter_map, unwrap_or};
 ghost use Rattle.sig_dd.specs.Nodes.{Holds};
 ghost use Rattle.sig_kernel.specs.Table.{kind_at};
-ghost use Rattle.sig_file.specs.Numbering.{AreNumbered, made_behind};
-ghost use Rattle.sig_file.specs.Parts.{view_of};
+ghost use Rattle.sig_file.specs.inner.Numbering.{AreNumbered, made_behind};
+ghost use Rattle.sig_file.specs.inner.Parts.{view_of};
 ghost use Rattle.sig_file.specs.PlanImages.{before, image_of, image_op, image_signal, made_of, memories_of, memory_of, ordered, visited};
 ghost use Rattle.sig_file.specs.declared.limits.TheConstants.{IMAGE_BYTES, ROOM_FOR_NODES};
 

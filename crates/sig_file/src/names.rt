@@ -2,7 +2,7 @@
 
 ghost use Rattle.std.specs.Prelude.{◌≡◌, ◌++◌, ◌∷◌};
 ghost use Rattle.sig_file.specs.Prelude.{[], ℕ, List, OnOk, bytes_eq, list_any};
-ghost use Rattle.sig_file.specs.Names.{IsSetOf};
+ghost use Rattle.sig_file.specs.inner.Names.{IsSetOf};
 
 use std::alloc::{AllocError, Global};
 use std::collections::HashMap;

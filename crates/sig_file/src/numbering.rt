@@ -3,7 +3,7 @@
 ghost use Rattle.std.specs.Prelude.{◌≡◌, ◌<◌, ◌+◌};
 ghost use Rattle.sig_file.specs.Prelude.{ℕ, List, [], Node, Err, IfOk, IfSome, OnOk, None, length};
 ghost use Rattle.sig_dd.specs.Nodes.{Holds, IsStore, diagram, node_of};
-ghost use Rattle.sig_file.specs.Numbering.{AreNumbered, IsNumbered};
+ghost use Rattle.sig_file.specs.inner.Numbering.{AreNumbered, IsNumbered};
 ghost use Rattle.sig_file.specs.PlanImages.{place_of, visited, with_node};
 ghost use Rattle.sig_file.specs.declared.images.ImageNode.{ImageNode};
 ghost use Rattle.sig_file.specs.declared.limits.TheConstants.{IMAGE_BYTES, ROOM_FOR_NODES};

@@ -5,7 +5,7 @@ ghost use Rattle.sig_file.specs.Prelude.{[], list_any};
 ghost use Rattle.sig_file.specs.Prelude.{is_signal};
 ghost use Rattle.sig_file.specs.Fields.{function_at, functions, may_follow, operand_at, operand_from, operand_tags};
 ghost use Rattle.sig_file.specs.Images.{are_operands, kind_at, operand_count};
-ghost use Rattle.sig_file.specs.Reading.{Gives, added, choice_if, several};
+ghost use Rattle.sig_file.specs.inner.Reading.{Gives, added, choice_if, several};
 
 use crate::choice::OperandTag;
 use crate::field::{choice_at, long_at, number_at, text_at};

@@ -3,7 +3,7 @@
 ghost use Rattle.std.specs.Prelude.{◌≡◌};
 ghost use Rattle.sig_file.specs.Prelude.{nat_lt};
 ghost use Rattle.sig_file.specs.Fields.{fields_at, op_at, ops_at};
-ghost use Rattle.sig_file.specs.Reading.{Gives, number_if};
+ghost use Rattle.sig_file.specs.inner.Reading.{Gives, number_if};
 
 use crate::choice::OpTag;
 use crate::field::{choice_at, long_at, number_at};

@@ -4,8 +4,8 @@ ghost use Rattle.std.specs.Prelude.{◌≡◌, ◌&&◌, ◌==◌};
 ghost use Rattle.sig_file.specs.Prelude.{[], IfOk, false, list_any, not};
 ghost use Rattle.sig_file.specs.Fields.{condition_at, memory_from, node_at, signal_at};
 ghost use Rattle.sig_file.specs.Images.{is_boolean, is_child, is_high_child, is_name, is_name_length, is_node, is_taken, names_of};
-ghost use Rattle.sig_file.specs.Names.{IsSetOf};
-ghost use Rattle.sig_file.specs.Reading.{Gives, number_if, several, text_if};
+ghost use Rattle.sig_file.specs.inner.Names.{IsSetOf};
+ghost use Rattle.sig_file.specs.inner.Reading.{Gives, number_if, several, text_if};
 
 use crate::field::{choice_at, long_at, number_at, text_at};
 use crate::fits::{is_value, kind_at};

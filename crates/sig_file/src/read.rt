@@ -5,8 +5,8 @@ ghost use Rattle.sig_file.specs.Prelude.{Err, IfOk, IsErrAnd, MatchResult, ℕ, 
 ghost use Rattle.sig_file.specs.Bytes.{image_bytes};
 ghost use Rattle.sig_file.specs.Fields.{IsBrokenAt, fields_of_file, file_at};
 ghost use Rattle.sig_file.specs.Images.{ImageView, IsImage};
-ghost use Rattle.sig_file.specs.Reading.{Gives};
-ghost use Rattle.sig_file.specs.Parts.{view_of};
+ghost use Rattle.sig_file.specs.inner.Reading.{Gives};
+ghost use Rattle.sig_file.specs.inner.Parts.{view_of};
 ghost use Rattle.sig_file.specs.declared.limits.TheConstants.{IMAGE_BYTES};
 
 use crate::answer::ImageAnswer;

@@ -1,6 +1,6 @@
 -- The kernel of a well-made flat body defines no input, and each other signal once.
 use Rattle.sig_flat.proofs.Common.{◌≡◌, ◌++◌, ◌+◌, ◌<◌, ◌≤◌, ℕ, Bool, true, false, List, [], ◌∷◌, length, Option, None, Some, refl, sym, ap, ◌∙◌, inl, inr, arith, if◌then◌else◌, nat_eq, count_by, is_count_by, cases_lt, ne_eqb, AllByRecursion, range_with_len, SigId, Signal, Span, IsMadeEquation, defines_flat, IsWellMade, FlatExpression, FlatEquation, Defines, Equal, FlatBody, Equation, Sync, target_of, DefinesEach, defines, is_target, Site, Made, Together, with_equation, cluster_at, translate, operands_from, with_syncs, with_all_syncs, with_flat_equation, with_flat_equations, made_of, kernel_of}
-use Rattle.sig_flat.proofs.Counting.{times, times_append, range_append, times_before, times_within}
+use Rattle.sig_flat.proofs.Counts.{times, times_append, range_append, times_before, times_within}
 use Rattle.sig_flat.proofs.NumberedKinds.{kind_below}
 use Rattle.sig_flat.proofs.Targets.{target_list, targets, targets_added, Plain, Around, none_made, plain_then, translate_plain, translate_around}
 

@@ -3,7 +3,7 @@
 use Rattle.sig_flat.proofs.Common.{◌≡◌, ◌++◌, ℕ, suc, ℤ, pos, Bool, true, false, List, [], ◌∷◌, length, Option, None, Some, refl, sym, ap, subst, ◌∙◌, append_assoc, if◌then◌else◌, ⊤, none-some, AllByRecursion, unwrap_or, Kind, Integer, Boolean, Event, SigId, Signal, Span, Bounded, IsPrefixOf, IsValue, kind_numbered, Allows, BinOp, Default as DefaultOf, When as Sampled, Plus, Meet, Less, Or as OrOf, Xor as XorOf, And as AndOf, Eq as EqOf, Ne as NeOf, Lt as LtOf, Le as LeOf, Gt as GtOf, Ge as GeOf, Add as AddOf, Sub as SubOf, Mul as MulOf, Div as DivOf, Mod as ModOf, FormRow, binary_row, accepts, kind_of_result, merged, unary_kind, binary_kind, stored, Alike, AnyThenTruth, Equation, Not, Operand, Sig, Form, Fun, Delay, WhenConst, Sync, EventOf, form_fits, Site, Made, Translated, signal_id, signal_in, with_equation, with_signal, with_own, with_clocks, with_clock_equations, by_one, own, next, binary_form, plus, meet, less, cell}
 use Rattle.sig_kernel.specs.declared.equation.Form.TheVariants.{When, Default}
 use Rattle.sig_kernel.specs.Table.{kind_at}
-use Rattle.sig_flat.proofs.Growing.{Grows, own_grows}
+use Rattle.sig_flat.proofs.AddedBehind.{Grows, own_grows}
 use Rattle.sig_flat.proofs.NumberedKinds.{kind_stays, kind_added, kind_in_kernel}
 use Rattle.sig_flat.proofs.FittingForms.{IsOperandOf, of_signal, of_constant, takes, takes_itself, takes_stored, event_fits, when_fits, when_const_fits, default_fits, delay_fits, arithmetic_fits, comparison_fits, connective_fits, equality_fits, not_fits, second_truth}
 

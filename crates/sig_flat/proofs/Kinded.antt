@@ -2,7 +2,7 @@
 use Rattle.sig_flat.proofs.Common.{◌≡◌, ℤ, pos, Bool, true, false, List, [], ◌∷◌, Option, None, Some, length, if◌then◌else◌, refl, sym, ap, subst, ◌∙◌, inl, inr, FitsSigned, w64, Kind, Integer, Boolean, Event, Signal as Declared, Function, Negative, FunctionNot, FunctionAnd, FunctionOr, FunctionXor, NotEqual, FunctionLess, LessEqual, Greater, GreaterEqual, Sum, Difference, Product, Quotient, Remainder, Gives, Tells, Seen, Instant, Bounded, IsValue, IsOfKind, UnOp, NotOf, Neg as NegOf, WhenOf, Clock, BinOp, Default as DefaultOf, When as Sampled, Plus, Meet, Less, Or as OrOf, Xor as XorOf, And as AndOf, Eq as EqOf, Ne as NeOf, Lt as LtOf, Le as LeOf, Gt as GtOf, Ge as GeOf, Add as AddOf, Sub as SubOf, Mul as MulOf, Div as DivOf, Mod as ModOf, FlatExpression, SigOf, Const as ConstOf, Unary, Binary, DelayOf, Cell, FormRow, Alike, unary_row, binary_row, delay_row, cell_row, unary_kind, binary_kind, accepts, kind_of_result, stored, merged as merged_kind, Found, Constant, AppliesToOne, AppliesToBoth, Changes, Combines, sampled, clock_of, both_of, without, delayed, held as held_value, is_true, Steps, kept, flat_kind, is_constant, IsMade, MayBegin, place_of}
 use Rattle.sig_base.specs.Functions.{Equal}
 use Rattle.sig_tree.specs.Operators.{Signal, merged}
-use Rattle.sig_flat.proofs.Agreeing.{Suits, Agree}
+use Rattle.sig_flat.proofs.Agreement.{Suits, Agree}
 
 abbrev pub HasKind : Kind → Found → Type 0
 HasKind kind (Signal v) = IsOfKind Bounded kind v

@@ -1,54 +1,54 @@
 pub mod Common
-mod Adding
-mod Agreeing
-mod Applying
+mod AddedSignals
+mod Agreement
+mod AppliedFunctions
 mod Binaries
-mod Counting
+mod Counts
 mod DefinedOnce
-mod Determining
-mod Equating
-mod Expressing
+mod DeterminedIntermediates
+mod TranslatedEquations
+mod ExpressionValues
 mod FewEquations
-mod Fitting
+mod KindsOfEquations
 mod FittingForms
 mod FittingOperators
-mod Growing
+mod AddedBehind
 mod Instants
 mod Kept
 mod Kinded
-mod Meeting
-mod Naming
+mod MetOperators
+mod NamedSignals
 mod NumberedKinds
-mod Operating
+mod OperatorEquations
 mod Parts
 mod Places
-mod Reacting
-mod Reading
-mod Restricting
-mod Saying
+mod MetTranslations
+mod SignalOfNumber
+mod RestrictedTraces
+mod MetExpressions
 mod SignalNames
 mod Sizes
-mod Speaking
-mod Stepping
+mod SignalOperands
+mod WhatIsLeft
 mod Targets
-mod Tracing
-mod Translating
-mod Validating
+mod TraceByInstants
+mod TranslationCases
+mod ValidKernel
 mod WellMadeNames
 pub use Common.*
 pub use Binaries.*
 pub use FewEquations.*
-pub use Growing.*
-pub use Meeting.*
-pub use Naming.*
+pub use AddedBehind.*
+pub use MetOperators.*
+pub use NamedSignals.*
 pub use Parts.*
 pub use Places.*
-pub use Reading.*
-pub use Restricting.*
+pub use SignalOfNumber.*
+pub use RestrictedTraces.*
 pub use SignalNames.*
 pub use Sizes.*
-pub use Speaking.*
-pub use Stepping.*
-pub use Tracing.*
-pub use Validating.*
-pub use Rattle.sig_flat.proofs.Meeting.{cell_row, delay_row}
+pub use SignalOperands.*
+pub use WhatIsLeft.*
+pub use TraceByInstants.*
+pub use ValidKernel.*
+pub use Rattle.sig_flat.proofs.MetOperators.{cell_row, delay_row}

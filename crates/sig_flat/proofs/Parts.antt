@@ -1,6 +1,6 @@
 -- The parts of a kernel.
 use Rattle.sig_flat.proofs.Common.{◌≡◌, ◌≤◌, ◌<◌, ◌+◌, ◌^◌, [], length, take, ap, ◌∙◌, take-append-le, SIGNALS, FlatBody, HasParts, inputs_of, kernel_of}
-use Rattle.sig_flat.proofs.Growing.{begins}
+use Rattle.sig_flat.proofs.AddedBehind.{begins}
 use Rattle.sig_flat.proofs.Sizes.{equations_no_less}
 
 pub parts : (flat : FlatBody) → flat.inputs + flat.outputs ≤ length flat.signals

@@ -1,7 +1,7 @@
 -- No translation makes the signals fewer.
 use Rattle.sig_flat.proofs.Common.{◌≡◌, ◌≤◌, ◌+◌, ◌<◌, ℕ, suc, ℤ, List, ◌∷◌, Option, None, Some, length, map, drop, get_or, sym, ap, ◌∙◌, arith, drop-cons, length-append, Kind, SigId, Span, BinOp, FlatExpression, Binary, Cell, FlatEquation, Equal, flat_expression_of, flat_equation_of, FlatExpr, FlatEq, Site, Made, Translated, Together, with_own, translate, operands_from, with_flat_equation, with_flat_equations}
-use Rattle.sig_flat.proofs.Stepping.{behind}
-use Rattle.sig_flat.proofs.Growing.{Grows, then, own_grows, binary_grows, cell_grows, translate_grows, operands_grow, all_syncs_grow, equation_grows, equations_grow}
+use Rattle.sig_flat.proofs.WhatIsLeft.{behind}
+use Rattle.sig_flat.proofs.AddedBehind.{Grows, then, own_grows, binary_grows, cell_grows, translate_grows, operands_grow, all_syncs_grow, equation_grows, equations_grow}
 
 no_less : {a b : Made} → Grows a b → length a.signals ≤ length b.signals
 no_less {a} {b} g = let e : length b.signals ≡ length a.signals + length g.more = ap length g.is ∙ length-append a.signals g.more in omega arith

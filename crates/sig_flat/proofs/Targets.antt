@@ -2,7 +2,7 @@
 use Rattle.sig_flat.proofs.Common.{◌≡◌, ◌++◌, ◌+◌, ℕ, suc, ℤ, pos, false, List, [], ◌∷◌, length, Option, None, Some, refl, sym, ap, ◌∙◌, append_assoc, arith, append-nil, length-append, false≢true, range_with_len, Kind, Boolean, Event, SigId, Span, is_constant, UnOp, NotOf, Neg as NegOf, WhenOf, Clock, BinOp, Default as DefaultOf, When as Sampled, Plus, Meet, Less, Or as OrOf, Xor as XorOf, And as AndOf, Eq as EqOf, Ne as NeOf, Lt as LtOf, Le as LeOf, Gt as GtOf, Ge as GeOf, Add as AddOf, Sub as SubOf, Mul as MulOf, Div as DivOf, Mod as ModOf, FlatExpression, SigOf, Const as ConstOf, Unary, Binary, DelayOf, Cell, unary_row, binary_row, kind_of_result, stored, Equation, Id, Not, Operand, Sig, Form, Fun, Delay, WhenConst, Sync, EventOf, target_of, Site, Made, Translated, signal_id, signal_in, with_equation, with_signal, with_own, with_clocks, with_clock_equations, by_one, own, next, unary_form, sampled_form, binary_form, kind_at, plus, meet, less, binary, cell, translate}
 use Rattle.sig_kernel.specs.declared.equation.Operand.TheVariants.{Const}
 use Rattle.sig_kernel.specs.declared.equation.Form.TheVariants.{When, Default}
-use Rattle.sig_flat.proofs.Counting.{range_append}
+use Rattle.sig_flat.proofs.Counts.{range_append}
 
 abbrev pub target_list : Option SigId → List ℕ
 target_list None = []

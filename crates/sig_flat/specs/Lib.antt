@@ -1,8 +1,8 @@
 pub mod Prelude
 pub mod Answers
 pub mod Bodies
-pub mod Drafts
 pub mod KernelOf
 pub mod Places
 pub mod Restricted
 pub mod Rows
+pub mod inner

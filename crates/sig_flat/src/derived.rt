@@ -2,7 +2,7 @@
 
 ghost use Rattle.std.specs.Prelude.{◌≡◌, ◌<◌, suc, length, IfOk, OnOk};
 ghost use Rattle.sig_flat.specs.Answers.{IsRefused};
-ghost use Rattle.sig_flat.specs.Drafts.{left_of, translated};
+ghost use Rattle.sig_flat.specs.inner.Drafts.{left_of, translated};
 ghost use Rattle.sig_flat.specs.KernelOf.{cell, less, meet, next, plus, signal_id, with_clock_equations, with_clocks};
 
 use crate::answer::FlatAnswer;

@@ -2,7 +2,7 @@
 
 ghost use Rattle.std.specs.Prelude.{◌≡◌, ◌<◌, ◌≤◌, [], length, IfOk, OnOk};
 ghost use Rattle.sig_flat.specs.Answers.{IsRefused};
-ghost use Rattle.sig_flat.specs.Drafts.{left_of};
+ghost use Rattle.sig_flat.specs.inner.Drafts.{left_of};
 ghost use Rattle.sig_flat.specs.KernelOf.{Made, cluster_at, kind_at, next, own, signal_id, with_equation, with_own, with_signal};
 
 use crate::answer::FlatAnswer;

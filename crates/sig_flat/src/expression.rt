@@ -3,7 +3,7 @@
 ghost use Rattle.std.specs.Prelude.{◌≡◌, ◌<◌, ◌++◌};
 ghost use Rattle.sig_flat.specs.Prelude.{None, Some, length, map, IfOk, OnOk, Delay, SigOf, flat_expression_of, kind_of_result, stored, unary_row};
 ghost use Rattle.sig_flat.specs.Answers.{IsRefused};
-ghost use Rattle.sig_flat.specs.Drafts.{left_of, translated, together};
+ghost use Rattle.sig_flat.specs.inner.Drafts.{left_of, translated, together};
 ghost use Rattle.sig_flat.specs.KernelOf.{Site as Place, binary, by_one, operands_from, place_of, signal_in, translate, unary_form};
 
 use crate::answer::FlatAnswer;

@@ -30,7 +30,7 @@ pub use Rattle.sig_text.specs.Sink.{Joins, TookPrefix, TookPrefix-longer, TookPr
 pub use Rattle.sig_kernel.specs.OutputText.{line_with, truth_text, value_text}
 pub use Rattle.sig_kernel.specs.declared.kernel.Kernel.{Kernel}
 pub use Rattle.sig_kernel.proofs.Common.{AllByRecursion, AllPass-from_list_all, AreFlowsFor, Boolean, Integer, IsDistinct, Kind, Signal, false≢true, get_or_default, has_64_bits, inputs_of, list_all, value_is}
-pub use Rattle.sig_flow.specs.Bodies.{body_behind}
+pub use Rattle.sig_flow.specs.inner.Bodies.{body_behind}
 pub use Rattle.sig_flow.specs.Digits.{IsShortNumber, is_digits, short_number}
 pub use Rattle.sig_flow.specs.Events.{AreEvents, IsFirstBadEvent, event_fault, event_judge, events_among}
 pub use Rattle.sig_flow.specs.First.{AllGood, IsFirst, Judge, first_fault}

@@ -1,5 +1,4 @@
 pub mod Prelude
-pub mod Bodies
 pub mod Digits
 pub mod Events
 pub mod First
@@ -11,3 +10,4 @@ pub mod OutputLines
 pub mod Shown
 pub mod Values
 pub mod Words
+pub mod inner

@@ -1,7 +1,7 @@
 //! The version of a flow file, and the lines that hold its flows.
 
 ghost use Rattle.std.specs.Prelude.{◌≡◌, ◌≤◌, ◌<◌, ◌+◌, ◌^◌, ◌∷◌, ◌&&◌, length, bytes_eq, codes, is_none};
-ghost use Rattle.sig_flow.specs.Bodies.{StartsAs, body_behind};
+ghost use Rattle.sig_flow.specs.inner.Bodies.{StartsAs, body_behind};
 ghost use Rattle.sig_flow.specs.Flows.{file_body, is_header, kind_named};
 ghost use Rattle.sig_flow.specs.NextWords.{word_of, words_behind};
 ghost use Rattle.sig_flow.specs.Words.{words_of};

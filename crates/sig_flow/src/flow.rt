@@ -2,7 +2,7 @@
 
 ghost use Rattle.std.specs.Prelude.{◌≡◌, ◌≤◌, ◌<◌, ◌+◌, ◌^◌, ◌⊎◌};
 ghost use Rattle.sig_flow.specs.Prelude.{ℕ, [], bytes_eq, length, map, vec_len, slice_index_or, IfOk, IfErr, IsDistinct};
-ghost use Rattle.sig_flow.specs.Bodies.{body_behind};
+ghost use Rattle.sig_flow.specs.inner.Bodies.{body_behind};
 ghost use Rattle.sig_flow.specs.Flows.{AreFlowsIn, IsFirstIn};
 ghost use Rattle.sig_flow.specs.declared.answer.FlowAnswer.TheVariants.{OutOfMemory};
 

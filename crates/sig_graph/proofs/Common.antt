@@ -16,7 +16,7 @@ pub use Rattle.sig_plan.specs.declared.op.OpKind.TheVariants.{Compute, DelayRead
 pub use Rattle.sig_plan.proofs.Common.{All-contains, All-map, ClocksView, ComesBefore, Contains-append_left, Contains-append_right, Depends, EqId, HasNoCycle, Holds, IfOk-weaker, IsCycle, IsOnCycle, IsOrdered, IsReady, Needs, Node, OpId, Operation, Precedes, Reaches, Ref, SigId, cases_order, cons_option, directly, false≢true, get_or_append_left, get_or_push, length-map, list_all, map-append, numbers_of, onward, operation_in, operations_in, take_more, test}
 pub use Rattle.sig_plan.proofs.Orders.{none_before_itself}
 pub use Rattle.sig_plan.proofs.Pigeons.{two_are_same}
-pub use Rattle.sig_graph.specs.Counts.{Adds, AreFirst, AreSuccessors, Has, Releases, Takes, left_in, occurs}
-pub use Rattle.sig_graph.specs.Graphs.{Edge, IsAcyclic, IsBefore, IsGraph, IsOpen, IsTaken, IsTakenOut, IsWithin, added, mark_at, marked_count}
-pub use Rattle.sig_graph.specs.Marks.{AreReaching, IsLeastOnCycle, Visits, Walks, WritesOnCycle, lesser}
-pub use Rattle.sig_graph.specs.Memories.{keeps_memory}
+pub use Rattle.sig_graph.specs.inner.Counts.{Adds, AreFirst, AreSuccessors, Has, Releases, Takes, left_in, occurs}
+pub use Rattle.sig_graph.specs.inner.Graphs.{Edge, IsAcyclic, IsBefore, IsGraph, IsOpen, IsTaken, IsTakenOut, IsWithin, added, mark_at, marked_count}
+pub use Rattle.sig_graph.specs.inner.Marks.{AreReaching, IsLeastOnCycle, Visits, Walks, WritesOnCycle, lesser}
+pub use Rattle.sig_graph.specs.inner.Memories.{keeps_memory}

@@ -1,6 +1,3 @@
 pub mod Prelude
 pub mod Answers
-pub mod Counts
-pub mod Graphs
-pub mod Marks
-pub mod Memories
+pub mod inner

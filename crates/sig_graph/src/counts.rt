@@ -2,7 +2,7 @@
 //! count is 0.
 
 ghost use Rattle.std.specs.Prelude.{◌≡◌, ◌<◌, ◌≤◌, ◌∷◌, [], ℕ, IfOk, OnOk, All, length, map, slice_index_or};
-ghost use Rattle.sig_graph.specs.Counts.{AreFirst, Releases, occurs};
+ghost use Rattle.sig_graph.specs.inner.Counts.{AreFirst, Releases, occurs};
 
 use crate::numbers::Numbers;
 use std::alloc::{AllocError, Global};

@@ -1,8 +1,8 @@
 //! Operations that precede themselves, directly or through others.
 
 ghost use Rattle.std.specs.Prelude.{◌≡◌, ◌<◌, ◌∷◌, [], IfOk, OnOk, All, length};
-ghost use Rattle.sig_graph.specs.Graphs.{IsWithin};
-ghost use Rattle.sig_graph.specs.Marks.{AreReaching, IsLeastOnCycle, Visits, lesser};
+ghost use Rattle.sig_graph.specs.inner.Graphs.{IsWithin};
+ghost use Rattle.sig_graph.specs.inner.Marks.{AreReaching, IsLeastOnCycle, Visits, lesser};
 
 use crate::marks::unmarked;
 use crate::numbers::Numbers;

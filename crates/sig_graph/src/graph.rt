@@ -2,8 +2,8 @@
 
 ghost use Rattle.std.specs.Prelude.{◌≡◌, ◌↔◌};
 ghost use Rattle.sig_graph.specs.Prelude.{IfOk, OnOk, IsTrue, All, Contains, List, map, slice_get, filter_map, SigId, Holds, operation_in, ComesBefore, Needs};
-ghost use Rattle.sig_graph.specs.Graphs.{IsBefore, IsGraph, added};
-ghost use Rattle.sig_graph.specs.Memories.{is_equation, keeps_memory};
+ghost use Rattle.sig_graph.specs.inner.Graphs.{IsBefore, IsGraph, added};
+ghost use Rattle.sig_graph.specs.inner.Memories.{is_equation, keeps_memory};
 
 use crate::numbers::Numbers;
 use sig_base::{EqId, SigId};

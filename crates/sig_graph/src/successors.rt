@@ -1,8 +1,8 @@
 //! The numbers that a number precedes.
 
 ghost use Rattle.std.specs.Prelude.{◌<◌, [], IfOk, OnOk, All, length};
-ghost use Rattle.sig_graph.specs.Counts.{Adds, AreSuccessors};
-ghost use Rattle.sig_graph.specs.Graphs.{IsWithin};
+ghost use Rattle.sig_graph.specs.inner.Counts.{Adds, AreSuccessors};
+ghost use Rattle.sig_graph.specs.inner.Graphs.{IsWithin};
 
 use crate::numbers::Numbers;
 use std::alloc::{AllocError, Global};

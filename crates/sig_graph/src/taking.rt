@@ -2,7 +2,7 @@
 
 ghost use Rattle.std.specs.Prelude.{◌^◌, ◌<◌};
 ghost use Rattle.sig_graph.specs.Prelude.{IfOk, length, numbers_of};
-ghost use Rattle.sig_graph.specs.Graphs.{IsTakenOut, IsWithin};
+ghost use Rattle.sig_graph.specs.inner.Graphs.{IsTakenOut, IsWithin};
 
 use crate::counts::{counts_of, ready_first, release};
 use crate::numbers::Numbers;

@@ -16,7 +16,7 @@ use Rattle.sig_compile.specs.Acceptance.{AreRefused, IsAcceptedAs}
 use Rattle.sig_compile.proofs.Verdicts.{accepted_once, accepted_or_refused, refused_once}
 use Rattle.sig_runs.specs.Runs.{AtFlows, RefusesFlows}
 use Rattle.sig_runs.proofs.Complete.{flows_either}
-use Rattle.sig_runs.proofs.Finding.{some_at_data}
+use Rattle.sig_runs.proofs.FoundFiles.{some_at_data}
 use Rattle.sig_runs.proofs.OneRun.{flows_apart, no_flows_line, one_flows}
 use Rattle.sig_images.proofs.ImageRuns.{some_image_run}
 use Rattle.sig_images.specs.Builds.{AreFewBytes, AreManyBytes, BuildComesTo, BuildsTo, IsKernelImage}

@@ -5,7 +5,7 @@ use Rattle.sig_file.specs.ImageRuns.{IsImageRun}
 use Rattle.sig_file.specs.Images.{ImageView, IsImage}
 use Rattle.sig_file.specs.declared.run.ImageEnd.{ImageEnd}
 use Rattle.sig_exec.specs.Running.{AreFlowsOf}
-use Rattle.sig_exec.proofs.Existing.{some_run}
+use Rattle.sig_exec.proofs.RunOfSoundImage.{some_run}
 use Rattle.sig_exec.proofs.Single.{one_run}
 
 pub one_image_run : (image : ImageView) (flows : List (List ℤ)) (limit : ℕ) (text other : List ℕ) (end last : ImageEnd)

@@ -1,6 +1,6 @@
 pub mod Causes
 pub mod Complete
-pub mod Ending
+pub mod CommandEnds
 pub mod EndsAlike
 pub mod FileOnce
 pub mod FileVerdict

@@ -13,7 +13,7 @@ use Rattle.sig_outcome.specs.declared.refusal.Refusal.TheVariants.{Missing, Read
 use Rattle.sig_outcome.proofs.Stages.{at_file_ends, one_at_program}
 use Rattle.sig_compile.specs.Acceptance.{AreRefused, IsAcceptedAs}
 use Rattle.sig_compile.specs.Compiling.{AtPlan}
-use Rattle.sig_compile.proofs.OneCompiling.{compile_number}
+use Rattle.sig_compile.proofs.OneCompilation.{compile_number}
 use Rattle.sig_compile.proofs.Verdicts.{accepted_once, accepted_or_refused, refused_once}
 use Rattle.sig_images.specs.Builds.{AreFewBytes, AreManyBytes, BuildComesTo, BuildsTo, HasImage, IsAboutBuild, IsBuildStatus}
 use Rattle.sig_images.proofs.ImageOnce.{image_once}

@@ -13,7 +13,7 @@ use Rattle.sig_exec.specs.Running.{TookRun, TookSome}
 use Rattle.sig_outcome.specs.Outcomes.{Good}
 use Rattle.sig_outcome.specs.Tasks.{IsEnded, Performs, write_line}
 use Rattle.sig_outcome.specs.declared.refusal.Refusal.TheVariants.{OutOfMemory}
-use Rattle.sig_outcome.proofs.Performing.{performs_outcome, performs_refusal}
+use Rattle.sig_outcome.proofs.PerformedCalls.{performs_outcome, performs_refusal}
 use Rattle.sig_runs.specs.Runs.{FindsFlows, LacksMemory}
 use Rattle.sig_images.specs.ExecEnds.{exec_line, exec_status}
 use Rattle.sig_images.specs.Execs.{WritesExec, executed, executing, inputs_of_image}

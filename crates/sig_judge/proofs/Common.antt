@@ -16,9 +16,9 @@ pub use Rattle.sig_tree.specs.declared.expr.BinOp.{BinOp}
 pub use Rattle.sig_tree.specs.declared.expr.BinOp.TheVariants.{Add, Default, Div, Eq, Ge, Gt, Le, Lt, Meet, Mod, Mul, Ne, Plus, Sub, When}
 pub use Rattle.sig_tree.proofs.Common.{AllZip, AppliesToBoth, BodySteps, Bounded, Combines, Defines, Difference, Equal, EquationSteps, FlatBody, FlatEquation, FlatExpression, Function, Greater, GreaterEqual, HoldThroughout, HoldsAt, HoldsBehind, Instant, IsProcessTrace, Leads, LessEqual, NotEqual, Operand, Product, Quotient, Remainder, Seen, Sum, Trace, instant_at, is_function}
 pub use Rattle.sig_tree.proofs.UpTo.{holds_up_to}
-pub use Rattle.sig_judge.specs.Decides.{Agree, BreaksAt, DecidesSeen, DecidesValue, DecidesWhether, HasPresence, operand_of}
-pub use Rattle.sig_judge.specs.Headers.{IsHeaderOf, IsPlace, Named, body_behind, header_line, instants_in, line_of}
-pub use Rattle.sig_judge.specs.Nodes.{equation_of, node_expression, without_prefix}
+pub use Rattle.sig_judge.specs.inner.Decides.{Agree, BreaksAt, DecidesSeen, DecidesValue, DecidesWhether, HasPresence, operand_of}
+pub use Rattle.sig_judge.specs.inner.Headers.{IsHeaderOf, IsPlace, Named, body_behind, header_line, instants_in, line_of}
+pub use Rattle.sig_judge.specs.inner.Nodes.{equation_of, node_expression, without_prefix}
 pub use Rattle.sig_judge.specs.Rows.{seen_of}
 pub use Rattle.sig_judge.specs.TraceFiles.{Body, IsFirstBadPlace, IsTraceFile, are_names, bad_header, bad_row, body_at, body_of, cell_fault, cell_said, cells_fault, cells_said, column_of, header_fault, instants_said, is_header, is_named_once, kinds_named, names_in, no_header, present_with, row_judge, seen_said, text_fault, texts_of}
 pub use Rattle.sig_judge.specs.Verdicts.{IsBroken, IsVerdict}

@@ -2,8 +2,8 @@
 
 ghost use Rattle.std.specs.Prelude.{◌≡◌, ◌<◌};
 ghost use Rattle.sig_judge.specs.Prelude.{IfOk, IfNone, IfSome, length, map, vec_len, flat_equation_of, BodySteps};
-ghost use Rattle.sig_judge.specs.Decides.{BreaksAt};
-ghost use Rattle.sig_judge.specs.Nodes.{equation_of, without_prefix};
+ghost use Rattle.sig_judge.specs.inner.Decides.{BreaksAt};
+ghost use Rattle.sig_judge.specs.inner.Nodes.{equation_of, without_prefix};
 
 use crate::equation::Equation;
 use crate::trace::Row;

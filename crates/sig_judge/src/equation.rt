@@ -2,8 +2,8 @@
 
 ghost use Rattle.std.specs.Prelude.{◌≡◌, ◌⊎◌, ◌↔◌};
 ghost use Rattle.sig_judge.specs.Prelude.{None, Some, IfOk, IsTrue, length, map, flat_equation_of, flat_expression_of, Signal, EquationSteps, Steps};
-ghost use Rattle.sig_judge.specs.Decides.{Agree, DecidesPresence, DecidesWhether};
-ghost use Rattle.sig_judge.specs.Nodes.{equation_of, node_expression, without_prefix};
+ghost use Rattle.sig_judge.specs.inner.Decides.{Agree, DecidesPresence, DecidesWhether};
+ghost use Rattle.sig_judge.specs.inner.Nodes.{equation_of, node_expression, without_prefix};
 ghost use Rattle.sig_judge.specs.Rows.{seen_of};
 
 use crate::node::{Node, signal};

@@ -2,7 +2,7 @@
 
 ghost use Rattle.std.specs.Prelude.{◌≡◌, ◌↔◌, if◌then◌else◌};
 ghost use Rattle.sig_judge.specs.Prelude.{pos, None, Some, true, IsTrue, is_function, Combines, Signal};
-ghost use Rattle.sig_judge.specs.Decides.{DecidesValue};
+ghost use Rattle.sig_judge.specs.inner.Decides.{DecidesValue};
 
 use sig_tree::BinOp;
 

@@ -2,7 +2,7 @@
 
 ghost use Rattle.std.specs.Prelude.{◌≡◌, ◌≤◌, ◌+◌, ◌^◌, ◌<◌, ◌⊎◌};
 ghost use Rattle.sig_judge.specs.Prelude.{ℕ, None, Some, IfOk, IfErr, IfNone, IfSome, OnOk, bytes_eq, length, map, slice_index_or, vec_len, IsDistinct, lines_of, words_of};
-ghost use Rattle.sig_judge.specs.Headers.{IsHeaderOf, Named, body_behind, header_line};
+ghost use Rattle.sig_judge.specs.inner.Headers.{IsHeaderOf, Named, body_behind, header_line};
 ghost use Rattle.sig_judge.specs.TraceFiles.{body_of, header_fault, names_in};
 ghost use Rattle.sig_judge.specs.declared.trace_answer.TraceAnswer.TheVariants.{OutOfMemory};
 

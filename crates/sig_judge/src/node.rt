@@ -2,8 +2,8 @@
 
 ghost use Rattle.std.specs.Prelude.{◌≡◌};
 ghost use Rattle.sig_judge.specs.Prelude.{IfOk, flat_expression_of, delayed, held, kept};
-ghost use Rattle.sig_judge.specs.Decides.{DecidesStep};
-ghost use Rattle.sig_judge.specs.Nodes.{node_expression, signal_found};
+ghost use Rattle.sig_judge.specs.inner.Decides.{DecidesStep};
+ghost use Rattle.sig_judge.specs.inner.Nodes.{node_expression, signal_found};
 ghost use Rattle.sig_judge.specs.Rows.{seen_of};
 
 use crate::operator::{Found, change, combine};

@@ -2,7 +2,7 @@
 
 ghost use Rattle.std.specs.Prelude.{◌≡◌};
 ghost use Rattle.sig_judge.specs.Prelude.{true, option_map, is_function, Changes, Combines, Constant, Signal};
-ghost use Rattle.sig_judge.specs.Decides.{DecidesSeen, operand_of};
+ghost use Rattle.sig_judge.specs.inner.Decides.{DecidesSeen, operand_of};
 ghost use Rattle.sig_judge.specs.Rows.{seen_of};
 ghost use Rattle.sig_judge.specs.declared.trace.Seen.TheVariants.{Value};
 

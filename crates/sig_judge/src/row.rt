@@ -2,7 +2,7 @@
 
 ghost use Rattle.std.specs.Prelude.{◌≡◌, ◌<◌, ◌≤◌, ◌+◌, ◌++◌, ◌^◌, ◌⊎◌};
 ghost use Rattle.sig_judge.specs.Prelude.{None, Some, Ok, Err, IfOk, IfErr, MatchResult, OnOk, flat_map, length, map, option_to_list, slice_index_or, lines, AllGood, IsFirst, numbered, words_from, words_of};
-ghost use Rattle.sig_judge.specs.Headers.{instants_in};
+ghost use Rattle.sig_judge.specs.inner.Headers.{instants_in};
 ghost use Rattle.sig_judge.specs.Rows.{seen_of};
 ghost use Rattle.sig_judge.specs.TraceFiles.{cell_fault, cell_said, cells_fault, cells_said, row_judge, seen_said, text_fault};
 ghost use Rattle.sig_judge.specs.declared.trace_answer.TraceAnswer.TheVariants.{OutOfMemory};

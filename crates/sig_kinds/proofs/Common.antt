@@ -13,6 +13,6 @@ pub use Rattle.sig_tree.proofs.Common.{AllByRecursion, Binary, Boolean, Called, 
 pub use Rattle.sig_scope.specs.Typed.{AreKinds, expressions_of, kinds_in, kinds_of_model, kinds_of_program, known, nodes}
 pub use Rattle.sig_scope.specs.declared.scope.Interface.{Interface}
 pub use Rattle.sig_scope.proofs.Common.{Body, Declaration, Name, ProcessModel, bodies_in, declaration_of, equations_of, equations_of_model, inputs_of, interface_models, locals_of, map-append, map-map, model_of, outputs_of, params_of}
-pub use Rattle.sig_scope.proofs.Growing.{grown, grows}
+pub use Rattle.sig_scope.proofs.LongerLists.{grown, grows}
 pub use Rattle.sig_scope.proofs.Trees.{body_is}
 pub use Rattle.sig_kinds.specs.Forms.{binary_refused, unary_refused}

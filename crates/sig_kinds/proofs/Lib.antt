@@ -1,8 +1,8 @@
 pub mod Common
 pub mod Backwards
 pub mod Refusals
-pub mod Typing
+pub mod EachHasAKind
 pub use Common.*
 pub use Backwards.*
 pub use Refusals.*
-pub use Typing.*
+pub use EachHasAKind.*

@@ -19,7 +19,7 @@ pub use Rattle.memchr.specs.Find.{IsFirstByte, is_byte}
 pub use Rattle.sig_base.specs.declared.span.Span.{Span}
 pub use Rattle.sig_lex.specs.Bytes.{first, is_blank, is_label_byte, is_name_byte, is_percent, is_quote}
 pub use Rattle.sig_lex.specs.Lexemes.{EndsWord, IsLabelText, IsPrintable, IsSpaced, IsSpelled, Lexeme, Spaced, Spells, lexeme_of, lexemes, printed_text, spaced_text, text_of, the_end, word_of}
-pub use Rattle.sig_lex.specs.Places.{place_after}
+pub use Rattle.sig_lex.specs.inner.Places.{place_after}
 pub use Rattle.sig_lex.specs.Slices.{EndsOnce, InOrder, StandsIn}
 pub use Rattle.sig_lex.specs.Tables.{IsMark, IsWord, marks, words}
 pub use Rattle.sig_lex.specs.Tokens.{AreTokens, BeginsWithFault, IsComment, IsDigits, IsFirstFault, IsLabel, IsLexeme, IsLongNumber, IsLongestMark, IsNameOrWord, IsOpenComment, IsOpenLabel, IsOther, IsPiece, IsStray, Piece, Stand, greatest_number, token_at, token_of, tokens_among}

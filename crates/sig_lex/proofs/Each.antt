@@ -2,7 +2,7 @@
 use Rattle.sig_lex.proofs.Common.{◌≡◌, ℕ, zero, suc, ◌+◌, ◌<◌, ◌≤◌, List, [], ◌∷◌, ◌++◌, length, drop, get_or, Option, None, Some, refl, sym, ap, ◌∙◌, subst, ⊎_elim, arith, length-append, ◌≢◌, ◌↔◌, All, option_to_list, option_map, AllByRecursion, cases_lt, get_or_at, get_or_append_left, map-append, Token, TokenKind, Last, Lexeme, lexeme_of, lexemes, text_of, the_end, Spells, IsSpelled, StandsIn, InOrder, Piece, IsPiece, Stand, AreTokens, tokens_among, token_at}
 use Rattle.sig_lex.proofs.Fronts.{piece_there}
 use Rattle.sig_lex.proofs.SliceLemmas.{in_order, ends_once}
-use Rattle.sig_lex.proofs.Spacing.{lexeme_at, last_lexeme}
+use Rattle.sig_lex.proofs.SpacedWords.{lexeme_at, last_lexeme}
 use Rattle.sig_lex.proofs.SpellingLemmas.{front_spells}
 
 all_at : {X : Type 0} (P : X → Type 0) (xs : List X) → AllByRecursion P xs → All P xs

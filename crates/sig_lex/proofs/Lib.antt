@@ -13,7 +13,7 @@ pub mod Unique
 pub mod SliceLemmas
 pub mod SpellingLemmas
 pub mod Total
-pub mod Spacing
+pub mod SpacedWords
 pub mod Each
 pub use Common.*
 pub use Along.*
@@ -26,7 +26,7 @@ pub use Numbers.*
 pub use Pieces.*
 pub use PlaceLemmas.*
 pub use SliceLemmas.*
-pub use Spacing.*
+pub use SpacedWords.*
 pub use SpellingLemmas.*
 pub use Stands.*
 pub use Total.*

@@ -3,7 +3,7 @@ use Rattle.std.specs.Prelude.{◌≡◌, ◌≢◌, ◌<◌, ◌≤◌, ◌∷�
 use Rattle.sig_lex.specs.Prelude.{ℕ, List, [], length, take, AllByRecursion}
 use Rattle.sig_lex.specs.declared.token.Token.{Token}
 use Rattle.sig_lex.specs.declared.token.TokenKind.TheVariants.{Last}
-use Rattle.sig_lex.specs.Places.{place_after}
+use Rattle.sig_lex.specs.inner.Places.{place_after}
 use Rattle.sig_lex.specs.Tokens.{token_at}
 
 -- The token is a slice of the text, with the place of its first byte.

@@ -7,7 +7,7 @@ use Rattle.sig_lex.specs.declared.token.Token.{Token}
 use Rattle.sig_lex.specs.declared.token.TokenKind.{TokenKind}
 use Rattle.sig_lex.specs.declared.token.TokenKind.TheVariants.{Name, Word, Number, Label, Mark, Last}
 use Rattle.sig_lex.specs.Bytes.{first, is_blank, is_name_byte, is_percent, is_quote, is_label_byte}
-use Rattle.sig_lex.specs.Places.{place_after}
+use Rattle.sig_lex.specs.inner.Places.{place_after}
 use Rattle.sig_lex.specs.Tables.{IsWord, IsMark}
 
 -- the greatest value of a number, 2 ^ 63 - 1

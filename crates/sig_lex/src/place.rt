@@ -2,7 +2,7 @@
 
 ghost use Rattle.std.specs.Prelude.{◌≡◌, ◌≤◌};
 ghost use Rattle.sig_lex.specs.Prelude.{length, take, PROGRAM_BYTES};
-ghost use Rattle.sig_lex.specs.Places.{place_after};
+ghost use Rattle.sig_lex.specs.inner.Places.{place_after};
 
 use sig_base::Span;
 

@@ -4,7 +4,7 @@ ghost use Rattle.std.specs.Prelude.{◌≡◌, ◌+◌, ◌<◌, ◌≤◌, ◌^
 ghost use Rattle.sig_lex.specs.Prelude.{ℕ, List, OnOk, IfOk, IfErr, IsErrAnd, MatchResult, length, take, drop, option_to_list, option_map, PROGRAM_BYTES};
 ghost use Rattle.sig_lex.specs.declared.token.Token.{Token};
 ghost use Rattle.sig_lex.specs.declared.answer.LexAnswer.{LexAnswer};
-ghost use Rattle.sig_lex.specs.Places.{place_after};
+ghost use Rattle.sig_lex.specs.inner.Places.{place_after};
 ghost use Rattle.sig_lex.specs.Tokens.{AreTokens, IsFirstFault, IsPiece, token_of};
 
 use crate::answer::LexAnswer;

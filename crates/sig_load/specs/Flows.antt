@@ -1,7 +1,7 @@
 -- The generated flows, from a seed on.
 use Rattle.std.specs.Prelude.{ℕ, ◌+◌, ◌*◌, ◌%◌, List, ◌++◌, decimal, codes, if◌then◌else◌}
-use Rattle.sig_load.specs.Draws.{draw, is_odd}
-use Rattle.sig_load.specs.Pieces.{each, numbered}
+use Rattle.sig_load.specs.inner.Draws.{draw, is_odd}
+use Rattle.sig_load.specs.inner.Pieces.{each, numbered}
 
 -- the number of values of each input
 abbrev pub flow_values : ℕ

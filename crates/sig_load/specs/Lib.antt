@@ -1,5 +1,4 @@
-pub mod Draws
 pub mod Flows
-pub mod Pieces
 pub mod Program
 pub mod Tally
+pub mod inner

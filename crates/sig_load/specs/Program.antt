@@ -1,6 +1,6 @@
 -- The generated program, of so many stages.
 use Rattle.std.specs.Prelude.{◌==◌, ℕ, ◌-◌, ◌%◌, List, [], ◌++◌, decimal, codes, if◌then◌else◌}
-use Rattle.sig_load.specs.Pieces.{at_first, each, numbered}
+use Rattle.sig_load.specs.inner.Pieces.{at_first, each, numbered}
 
 -- the letters of the conditions and of the two signals of a stage
 abbrev pub letter_b : ℕ

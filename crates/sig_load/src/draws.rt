@@ -1,7 +1,7 @@
 //! Draws: pseudorandom numbers from a seed on.
 
 ghost use Rattle.std.specs.Prelude.{◌≡◌, ◌/◌, ◌^◌};
-ghost use Rattle.sig_load.specs.Draws.{next_state};
+ghost use Rattle.sig_load.specs.inner.Draws.{next_state};
 
 /// The state of the draws, at first the seed.
 #[derive(Clone, Copy, Debug)]

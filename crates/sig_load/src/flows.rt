@@ -1,9 +1,9 @@
 //! The generated flows.
 
 ghost use Rattle.std.specs.Prelude.{◌≡◌, ◌≤◌, ℕ, IfOk, OnOk};
-ghost use Rattle.sig_load.specs.Draws.{draw, state_after};
+ghost use Rattle.sig_load.specs.inner.Draws.{draw, state_after};
 ghost use Rattle.sig_load.specs.Flows.{flows, integer_value, integers, truth_value, truths, truths_from};
-ghost use Rattle.sig_load.specs.Pieces.{Appends, each};
+ghost use Rattle.sig_load.specs.inner.Pieces.{Appends, each};
 
 use crate::answer::LoadAnswer;
 use crate::draws::Draws;

@@ -1,7 +1,7 @@
 //! Pieces of a text, appended one after another.
 
 ghost use Rattle.std.specs.Prelude.{OnOk, decimal};
-ghost use Rattle.sig_load.specs.Pieces.{Appends, numbered};
+ghost use Rattle.sig_load.specs.inner.Pieces.{Appends, numbered};
 
 use itoa::Buffer;
 use std::alloc::AllocError;

@@ -1,7 +1,7 @@
 //! The generated program.
 
 ghost use Rattle.std.specs.Prelude.{◌≡◌, ◌≤◌, ◌++◌, IfOk, OnOk};
-ghost use Rattle.sig_load.specs.Pieces.{Appends, each};
+ghost use Rattle.sig_load.specs.inner.Pieces.{Appends, each};
 ghost use Rattle.sig_load.specs.Program.{before, clock, cluster, clusters, further, interface, listed, locals, merge, program, sample, stage};
 
 use crate::answer::LoadAnswer;

@@ -1,12 +1,12 @@
 -- There is one named cause.
 use Rattle.sig_meaning.proofs.Common.{◌≡◌, ◌<◌, ◌≤◌, ◌+◌, ◌++◌, ◌⊎◌, inl, inr, ℕ, suc, ℤ, pos, negsuc, neg_ℤ, true, false, List, [], ◌∷◌, length, refl, ap, sym, subst, ◌∙◌, arith, None, Option, Some, slice_get, div-zero, Function, Quotient, Remainder, Instant, IsLongest, Trace, Unbounded, has_64_bits, EqId, Place, one_longest, contains_at, IsFunction, IsKernelTrace, IsReaction, Meets, Memory, function_of, remembered, AreFlowsFor, Equation, Form, Fun, Kernel, at_element, comes_from, StopsBefore, IsFirstFault, Computes, GoesOn, HasFault, IsEnd, IsFirstCause, IsNamedCause, MeetsFault, MeetsAt, place_at, IsReference, divides_by_zero, result_of, Operation, operations_in, IsAccepted, PlanView, numbers_of, Cause, Exhausted, Overflow, ZeroDivisor, Limit, Ended, Read, Compute}
 use Rattle.sig_meaning.proofs.Accepted.{compiled}
-use Rattle.sig_meaning.proofs.Causing.{first_fault}
-use Rattle.sig_meaning.proofs.Ending.{fitting}
+use Rattle.sig_meaning.proofs.NamedCause.{first_fault}
+use Rattle.sig_meaning.proofs.EndOfRun.{fitting}
 use Rattle.sig_meaning.proofs.FirstFaults.{one_computes}
 use Rattle.sig_meaning.proofs.Longest.{IsClean, longest_cut, same_values}
 use Rattle.sig_meaning.proofs.Longest.{clean as clean_of}
-use Rattle.sig_meaning.proofs.Naming.{first_cause, reference_goes_on}
+use Rattle.sig_meaning.proofs.FirstFaultIsNamed.{first_cause, reference_goes_on}
 use Rattle.sig_meaning.proofs.Results.{determined, equal}
 
 -- a quotient or a remainder by 0 is 0

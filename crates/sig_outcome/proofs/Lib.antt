@@ -3,6 +3,6 @@ pub mod TakenPieces
 pub mod Stages
 pub mod Refused
 pub mod OneFile
-pub mod Performing
+pub mod PerformedCalls
 pub use Common.*
 pub use TakenPieces.*

@@ -30,15 +30,15 @@ pub use Rattle.sig_solve.proofs.StoreLemmas.{more_calls, older_test, out_of_memo
 pub use Rattle.sig_solve.proofs.SystemLemmas.{in_variables, presence_over, presence_read, solution_newer, solution_older, system_kept, variables_count}
 pub use Rattle.sig_solve.proofs.TriangleLemmas.{first_is_root}
 pub use Rattle.sig_pace.specs.Answers.{IsFromSystem}
-pub use Rattle.sig_pace.specs.Asked.{AreCandidates, HoldsPresences, IsAskedIn, IsCandidate, presence_in, reactions_in, variables_of}
-pub use Rattle.sig_pace.specs.Leaders.{AreIncreasing, AreLeaders}
+pub use Rattle.sig_pace.specs.inner.Asked.{AreCandidates, HoldsPresences, IsAskedIn, IsCandidate, presence_in, reactions_in, variables_of}
+pub use Rattle.sig_pace.specs.inner.Leaders.{AreIncreasing, AreLeaders}
 pub use Rattle.sig_pace.specs.MaximalClocks.{AreMaximalClocks, AreOfOneClock, IsBelow, IsLeastMaximal, IsMaximal}
-pub use Rattle.sig_pace.specs.Names.{FindsNamed, NoneNamedBelow, is_named}
+pub use Rattle.sig_pace.specs.inner.Names.{FindsNamed, NoneNamedBelow, is_named}
 pub use Rattle.sig_pace.specs.Paced.{GetsPaces, IsPaced, IsTaken, NeedsNoPaces, NeedsPaces, marked_from, marks_from, others_together, pace_name, paced_kernel, paces_from, place_of, together_from}
 pub use Rattle.sig_pace.specs.Refusals.{HasNoPaceRoom, HasTooManySignals, IsNameTaken, KeepsToPaceShare, KeepsToSystemShare}
 pub use Rattle.sig_pace.specs.Renumbering.{moved, renumbered, renumbered_equation, renumbered_form, renumbered_operand}
 pub use Rattle.sig_pace.specs.Restriction.{FitPaces, HasTracesOf, paced_seen, restricted, without_paces}
-pub use Rattle.sig_pace.specs.Tops.{AddsTop, AreByNumber, AreMaxima, AreNotBelow, AreTops, IsBelowCandidate, IsBelowOne, IsCover, signals_of}
+pub use Rattle.sig_pace.specs.inner.Tops.{AddsTop, AreByNumber, AreMaxima, AreNotBelow, AreTops, IsBelowCandidate, IsBelowOne, IsCover, signals_of}
 pub use Rattle.sig_pace.specs.declared.answer.PaceAnswer.{PaceAnswer}
 pub use Rattle.sig_pace.specs.declared.asked.Asked.{Asked}
 pub use Rattle.sig_pace.specs.declared.candidates.Candidate.{Candidate}

@@ -1,7 +1,7 @@
 -- Each kernel is paced or refused, since what is asked of its reactions is decided.
 use Rattle.sig_pace.proofs.Common.{◌≡◌, ◌<◌, ◌≤◌, ◌+◌, ◌⊎◌, inl, inr, ℕ, suc, true, List, length, slice_get, refl, arith, cases_lt, true_from_ne_false, SIGNALS, Signal, HasNoRoot, HasRoot, IsAlive, IsPossible, IsDead, IsSignal, Reaction, Speaks, is_present, is_silent, Kernel, AreMaximalClocks, AreOfOneClock, IsBelow, IsLeastMaximal, IsMaximal, IsPaced, IsTaken, NeedsPaces, pace_name, paced_kernel, HasTooManySignals, IsNameTaken}
-use Rattle.sig_pace.proofs.Deciding.{dec_as, dec_both, dec_each, dec_implies, dec_most, dec_some, dec_text, dec_truth, searched_below, searched_speaking, some_least}
-use Rattle.sig_pace.proofs.Rising.{AreChosen, chosen}
+use Rattle.sig_pace.proofs.DecidedQuestions.{dec_as, dec_both, dec_each, dec_implies, dec_most, dec_some, dec_text, dec_truth, searched_below, searched_speaking, some_least}
+use Rattle.sig_pace.proofs.RisingLists.{AreChosen, chosen}
 
 module _ (kernel : Kernel) where
   -- ---- clocks

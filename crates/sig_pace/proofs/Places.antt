@@ -1,7 +1,7 @@
 -- Where the signals of a paced kernel stand.
 use Rattle.sig_pace.proofs.Common.{◌≡◌, ◌<◌, ◌≤◌, ◌+◌, ◌∙◌, ℕ, zero, suc, List, [], ◌∷◌, length, slice_get, refl, sym, ap, subst, arith, None, Some, Boolean, Event, IsSignal, get_within, kind_of, IsValid, Kernel, marks_from, pace_name, paced_kernel, paces_from, place_of, moved}
 use Rattle.sig_pace.proofs.Rooms.{last_found, more_found, next_offset, no_offset, old_found, room_length}
-use Rattle.sig_pace.proofs.Standing.{StandAt}
+use Rattle.sig_pace.proofs.RenumberedSignals.{StandAt}
 
 pub paces_count : (kernel : Kernel) (number : ℕ) (least : List ℕ) → length (paces_from kernel number least) ≡ length least
 paces_count kernel number [] = refl

@@ -1,11 +1,8 @@
 pub mod Prelude
 pub mod Answers
-pub mod Asked
-pub mod Leaders
 pub mod MaximalClocks
-pub mod Names
 pub mod Paced
 pub mod Refusals
 pub mod Renumbering
 pub mod Restriction
-pub mod Tops
+pub mod inner

@@ -2,7 +2,7 @@
 
 ghost use Rattle.std.specs.Prelude.{◌≡◌, ◌<◌};
 ghost use Rattle.sig_pace.specs.Prelude.{length, IfOk, IsStore, Keeps, Share, refusal, IsSystem};
-ghost use Rattle.sig_pace.specs.Asked.{IsAskedIn, presence_in, variables_of};
+ghost use Rattle.sig_pace.specs.inner.Asked.{IsAskedIn, presence_in, variables_of};
 
 use sig_dd::{DdAnswer, Ref, Store};
 use sig_kernel::Kernel;

@@ -2,8 +2,8 @@
 
 ghost use Rattle.std.specs.Prelude.{◌≡◌};
 ghost use Rattle.sig_pace.specs.Prelude.{ℕ, length, IfOk, Contains, IsSignal, IsStore, Keeps, Share, refusal};
-ghost use Rattle.sig_pace.specs.Asked.{AreCandidates, IsAskedIn, variables_of};
-ghost use Rattle.sig_pace.specs.Tops.{signals_of};
+ghost use Rattle.sig_pace.specs.inner.Asked.{AreCandidates, IsAskedIn, variables_of};
+ghost use Rattle.sig_pace.specs.inner.Tops.{signals_of};
 
 use crate::asked::Asked;
 use sig_dd::{DdAnswer, Ref, Store};

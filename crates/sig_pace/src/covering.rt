@@ -2,9 +2,9 @@
 
 ghost use Rattle.std.specs.Prelude.{◌≡◌, ◌≢◌};
 ghost use Rattle.sig_pace.specs.Prelude.{ℕ, true, IfOk, Err, Contains, IsSignal};
-ghost use Rattle.sig_pace.specs.Asked.{IsAskedIn};
-ghost use Rattle.sig_pace.specs.Leaders.{AreIncreasing};
-ghost use Rattle.sig_pace.specs.Tops.{IsBelowOne, IsCover};
+ghost use Rattle.sig_pace.specs.inner.Asked.{IsAskedIn};
+ghost use Rattle.sig_pace.specs.inner.Leaders.{AreIncreasing};
+ghost use Rattle.sig_pace.specs.inner.Tops.{IsBelowOne, IsCover};
 
 use crate::asked::Asked;
 use sig_dd::{DdAnswer, Store};

@@ -2,7 +2,7 @@
 
 ghost use Rattle.std.specs.Prelude.{◌≡◌, ◌≤◌};
 ghost use Rattle.sig_pace.specs.Prelude.{length, IfOk, IsValid, leaders_of};
-ghost use Rattle.sig_pace.specs.Leaders.{AreLeaders};
+ghost use Rattle.sig_pace.specs.inner.Leaders.{AreLeaders};
 
 use sig_clock::{ClockBase, same_clock};
 use sig_kernel::Kernel;

@@ -2,10 +2,10 @@
 
 ghost use Rattle.std.specs.Prelude.{◌≡◌, ◌+◌, ◌≤◌};
 ghost use Rattle.sig_pace.specs.Prelude.{ℕ, length, IfErr, IfOk, IsStore, Keeps, Share, refusal, IsValid, IsSystem};
-ghost use Rattle.sig_pace.specs.Asked.{IsAskedIn, variables_of};
-ghost use Rattle.sig_pace.specs.Leaders.{AreLeaders};
+ghost use Rattle.sig_pace.specs.inner.Asked.{IsAskedIn, variables_of};
+ghost use Rattle.sig_pace.specs.inner.Leaders.{AreLeaders};
 ghost use Rattle.sig_pace.specs.Refusals.{KeepsToSystemShare};
-ghost use Rattle.sig_pace.specs.Tops.{AreMaxima, signals_of};
+ghost use Rattle.sig_pace.specs.inner.Tops.{AreMaxima, signals_of};
 
 use crate::asked::{Asked, asked_of};
 use crate::candidates::{Candidate, candidates_of};

@@ -2,7 +2,7 @@
 
 ghost use Rattle.std.specs.Prelude.{◌≡◌, ◌<◌, ◌^◌, ◌++◌};
 ghost use Rattle.sig_pace.specs.Prelude.{bytes_eq, decimal, length, IfOk, list_any};
-ghost use Rattle.sig_pace.specs.Names.{FindsNamed};
+ghost use Rattle.sig_pace.specs.inner.Names.{FindsNamed};
 
 use itoa::Buffer;
 use sig_base::{SigId, Signal, Text};

@@ -2,7 +2,7 @@
 
 ghost use Rattle.std.specs.Prelude.{◌≡◌, ◌≢◌, ◌≤◌, ◌<◌, ◌↔◌, ◌+◌, ◌++◌};
 ghost use Rattle.sig_pace.specs.Prelude.{ℕ, drop, length, map, take, Contains, Err, IfErr, IfOk, IsTrue, OnOk, SIGNALS, IsValid};
-ghost use Rattle.sig_pace.specs.Names.{FindsNamed};
+ghost use Rattle.sig_pace.specs.inner.Names.{FindsNamed};
 ghost use Rattle.sig_pace.specs.Paced.{GetsPaces, IsTaken, NeedsPaces, marked_from, marks_from, others_together, paced_kernel, paces_from};
 ghost use Rattle.sig_pace.specs.Refusals.{IsPaceRefusal};
 ghost use Rattle.sig_pace.specs.Renumbering.{moved, renumbered_equation};

@@ -2,8 +2,8 @@
 
 ghost use Rattle.std.specs.Prelude.{◌≢◌, ◌↔◌};
 ghost use Rattle.sig_pace.specs.Prelude.{ℕ, IfOk, Err, IsTrue, IsSignal};
-ghost use Rattle.sig_pace.specs.Asked.{AreCandidates, IsCandidate};
-ghost use Rattle.sig_pace.specs.Tops.{AddsTop, AreByNumber, AreNotBelow, AreTops, IsBelowCandidate};
+ghost use Rattle.sig_pace.specs.inner.Asked.{AreCandidates, IsCandidate};
+ghost use Rattle.sig_pace.specs.inner.Tops.{AddsTop, AreByNumber, AreNotBelow, AreTops, IsBelowCandidate};
 
 use crate::asked::Asked;
 use crate::candidates::Candidate;

@@ -1,7 +1,7 @@
 -- Bodies from their parts.
 use mathlib.Core.Former.{Count}
 use Rattle.sig_parse.proofs.Common.{◌≡◌, ◌++◌, ◌≤◌, ◌<◌, ℕ, suc, List, [], ◌∷◌, codes, length, map, sum_by, refl, sym, ap, ◌∙◌, subst, append_assoc, arith, Vec, Global, Span, Name, Body, All, All', Row_of-Body, end_of-Body, more_of-Body, items-the_row-Body, items_hidden-the_row-Body-0, Expression, RightSide, Equations, Defines, equations_of, bodies_of, Leaf, leaf, mark, both_limits, operators, right_operators, Further, Separated, Listed, IsExpression, IsLeft, IsRight, IsClockEquation, IsBody, AreBodies, AreFurtherBodies, State, Reads, Covers, IsLeaf}
-use Rattle.sig_parse.proofs.Covering.{seen_as, between_marks}
+use Rattle.sig_parse.proofs.CoveredParts.{seen_as, between_marks}
 
 -- a left side, `:=` and a right side
 pub definition : (names : List Name) (right : RightSide) (depth : ℕ) (at : Span) (begun : State) {s t u v : State}

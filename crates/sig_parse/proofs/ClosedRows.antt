@@ -1,8 +1,8 @@
 -- Lists with separators up to what closes them.
 use Rattle.sig_parse.proofs.Common.{◌≡◌, ◌++◌, ◌+◌, ℕ, List, [], ◌∷◌, inl, inr, refl, sym, ap, ◌∙◌, subst, append_assoc, append-nil, Span, Terminal, Leaf, leaf, Limits, Further, Listed, StartsWith, StopsBefore, ContinuesNothing, ContinuesList, no_place, append_to, stops_nothing, Cause, Agrees, Refuses, InLeaf, counted, Closes, UpTo}
-use Rattle.sig_parse.proofs.Refusing.{SameFirst, refuses_first}
+use Rattle.sig_parse.proofs.PartRefusals.{SameFirst, refuses_first}
 use Rattle.sig_parse.proofs.AheadLemmas.{leaf_is}
-use Rattle.sig_parse.proofs.Leading.{Leads, leads_refuses, same_behind, starts_or_stops}
+use Rattle.sig_parse.proofs.PassedLanguages.{Leads, leads_refuses, same_behind, starts_or_stops}
 use Rattle.sig_parse.proofs.Lists.{listed}
 use Rattle.sig_parse.proofs.Rows.{Row, RowRest}
 

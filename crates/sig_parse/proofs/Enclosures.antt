@@ -1,7 +1,7 @@
 -- What stands up to a terminal, what stands there any number of times, and what may be missing.
 use Rattle.sig_parse.proofs.Common.{◌≡◌, ◌++◌, ◌⊎◌, List, [], ◌∷◌, inl, inr, refl, sym, ap, ◌∙◌, subst, append_assoc, Span, Terminal, Leaf, leaf, Limits, no_limits, Each, StartsWith, StopsBefore, OneReading, ContinuesNothing, ContinuesOptional, no_place, starts_longer, cons_same, append_to, part_at, stops_nothing, State, Covers, IsLeaf, Cause, Refuses, Settles, InSome, UpTo}
-use Rattle.sig_parse.proofs.Refusing.{SameFirst, agrees_first}
-use Rattle.sig_parse.proofs.Leading.{Leads, Then, refuses_where, leads_where, settles_where, apart_nothing, then_first, leads_alone, starts_or_stops, starts_same}
+use Rattle.sig_parse.proofs.PartRefusals.{SameFirst, agrees_first}
+use Rattle.sig_parse.proofs.PassedLanguages.{Leads, Then, refuses_where, leads_where, settles_where, apart_nothing, then_first, leads_alone, starts_or_stops, starts_same}
 use Rattle.sig_parse.proofs.RefusedDeclarations.{Always}
 
 -- the first leaf is in both sets

@@ -1,10 +1,10 @@
 -- Expressions with a separator between them, from the trace of a parser that read them one after another.
 use Rattle.sig_parse.proofs.Common.{◌≡◌, ◌≤◌, ℕ, List, arith, Expr, expression_of, Terminal, Leaf, default_level, Limits, both_limits, no_limits, MayHave, operators, IsExpression, StopsBefore, ContinuesNothing, ContinuesList, ContinuesExpression, expression_unlimited, expression_within, expression_once, Refusal, State, Reads, RefusedBy, Settles, Closes, InLevel, InAny, ReadsParts, ReadsSeparated, RefusesSeparated}
-use Rattle.sig_parse.proofs.Covering.{covered}
-use Rattle.sig_parse.proofs.Leading.{settled_once}
+use Rattle.sig_parse.proofs.CoveredParts.{covered}
+use Rattle.sig_parse.proofs.PassedLanguages.{settled_once}
 use Rattle.sig_parse.proofs.RefusedLevels.{fewer}
 use Rattle.sig_parse.proofs.RefusedEquations.{Expression_of}
-use Rattle.sig_parse.proofs.Repeating.{behind_parts}
+use Rattle.sig_parse.proofs.RepeatedParts.{behind_parts}
 use Rattle.sig_parse.proofs.Rows.{Row, alike_once}
 use Rattle.sig_parse.proofs.ReadRows.{SoFar, so_far, rows_refused}
 use Rattle.sig_parse.proofs.ClosedRows.{Closed, closed_refused, closed_ends}

@@ -1,7 +1,7 @@
 -- Declarations and pragmas from their parts.
 use Rattle.sig_parse.proofs.Common.{◌≡◌, ◌≢◌, ◌++◌, ℕ, List, [], ◌∷◌, codes, Option, None, refl, sym, ap, subst, inl, inr, append-nil, Span, Kind, Event, Name, Constant, Item, Declared, Placement, Leaf, leaf, kind_word, name, word, label, mark, Between, Each, Separated, IsOptionalInit, IsName, IsPlainItem, IsItem, IsGroup, IsParam, AreGroups, AreParams, IsInterface, IsPlacement, ArePragmas, IsLocalGroup, Declares, Parameters, Inputs, Signals, IsItemOf, IsGroupOf, State, Reads, IsLeaf}
 use Rattle.sig_parse.proofs.Joins.{joined, viewed, after_leaf}
-use Rattle.sig_parse.proofs.Enclosing.{between}
+use Rattle.sig_parse.proofs.EnclosedParts.{between}
 
 -- a name, and an init where there is one
 pub item_with_init : (declares : Declares) (n : Name) (init : Option Constant) {s t u : State} → declares ≡ Signals

@@ -3,7 +3,7 @@ use mathlib.Core.Former.{Count}
 use denote.Hole.Carrier.{roll}
 use Rattle.sig_parse.proofs.Common.{◌≡◌, ◌++◌, ℕ, List, [], ◌∷◌, codes, map, refl, sym, ap, ◌∙◌, subst, inl, inr, append_assoc, Vec, Global, append-nil, map-append, Span, Name, Group, RunOn, Body, Process', Row_of-Process, end_of-Process, more_of-Process, items-the_row-Process, items_hidden-the_row-Process-0, roll-Process, Declared, Placement, Equations, Heading, ProcessModel, declared_of, placement_of, equations_of, heading_of, model_of, models_of, no_model, Leaf, leaf, name_leaf, word, mark, both_limits, IsBody, IsLocalGroup, IsWhere, IsProcess, IsModel, AreLocals, AreParams, IsInterface, ArePragmas, IsTitle, IsInnerProcess, AreDeclared, AreBehindWhere, State, Covers, IsLeaf}
 use Rattle.sig_tree.specs.declared.process.Process.{Process}
-use Rattle.sig_parse.proofs.Covering.{Both, and_then, seen_as}
+use Rattle.sig_parse.proofs.CoveredParts.{Both, and_then, seen_as}
 
 -- declarations, whose first is a group or a process
 pub group_first : (depth : ℕ) (models : List ProcessModel) (g : Declared) (groups : List Declared) (front back : List Leaf)

@@ -1,9 +1,9 @@
 -- Lists with separators, from the trace of a parser that read their parts one after another.
 use Rattle.sig_parse.proofs.Common.{◌≡◌, ◌++◌, ◌≤◌, ◌⊎◌, ℕ, List, [], ◌∷◌, map, sum_by, inl, inr, refl, sym, subst, arith, map-id, Span, Terminal, Leaf, Limits, both_limits, no_limits, Separated, Listed, StopsBefore, ContinuesNothing, ContinuesList, Refusal, State, Reads, IsLeaf, IsOfText, cause_of, Refuses, RefusedBy, Settles, Closes, ReadsParts, ReadsSeparated, RefusesSeparated, InAny, InSome, UpTo}
-use Rattle.sig_parse.proofs.Covering.{covered}
+use Rattle.sig_parse.proofs.CoveredParts.{covered}
 use Rattle.sig_parse.proofs.Lists.{counted_one, counted_more}
-use Rattle.sig_parse.proofs.Leading.{Leads, leads_on, leads_refuses, settles_on, refuses_as, settles_as}
-use Rattle.sig_parse.proofs.Repeating.{behind_parts}
+use Rattle.sig_parse.proofs.PassedLanguages.{Leads, leads_on, leads_refuses, settles_on, refuses_as, settles_as}
+use Rattle.sig_parse.proofs.RepeatedParts.{behind_parts}
 use Rattle.sig_parse.proofs.Rows.{none_of, none_summed, Unbounded, fewer_unbounded, Item, Row, RowRest, row_ends, row_separated, row_refused, row_item}
 use Rattle.sig_parse.proofs.ClosedRows.{Closed, closed_refused, closed_ends}
 

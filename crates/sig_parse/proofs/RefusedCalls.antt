@@ -1,8 +1,8 @@
 -- What is refused of calls, of their constants and of their arguments, where the parser stands.
 use Rattle.sig_parse.proofs.Common.{◌≡◌, ◌++◌, ◌+◌, ◌≤◌, ◌<◌, ℕ, List, [], ◌∷◌, codes, map, sum_by, true, false, inl, inr, ◌⊎◌, refl, sym, ap, ◌∙◌, subst, arith, append-nil, Span, Name, Constant, Expr, expression_of, RightSide, Computed, Called, Leaf, leaf, mark, name_leaf, default_level, Limits, both_limits, MayHave, operators, right_operators, Between, Listed, Separated, IsConstant, IsExpression, IsName, AreConstants, IsRight, StartsWith, BeginsName, BeginsConstant, BeginsLeft, StopsBefore, OneReading, ContinuesNothing, ContinuesOptional, ContinuesEach, ContinuesList, ContinuesExpression, ContinuesDefinition, no_place, different, constant_once, cons_same, between_once, listed_once, constant_begins, mark_apart, stops_nothing, names_once, call_or_expression, Opens, Refusal, State, Reads, IsLeaf, Cause, Wrong, TooDeep, Refuses, RefusedBy, Settles, Closes, BeginsCall, InLeaf, InOne, counted, InConstant, InConstantList, InConstants, InLevel, InArgumentList, InArguments, InRight, InLeft, InSome, UpTo, InNames, ReadsSeparated, RefusesSeparated}
-use Rattle.sig_parse.proofs.Refusing.{SameFirst, refuses_first}
-use Rattle.sig_parse.proofs.Covering.{covered}
-use Rattle.sig_parse.proofs.Lifting.{Lifts, leaf_split}
+use Rattle.sig_parse.proofs.PartRefusals.{SameFirst, refuses_first}
+use Rattle.sig_parse.proofs.CoveredParts.{covered}
+use Rattle.sig_parse.proofs.LiftedRefusals.{Lifts, leaf_split}
 use Rattle.sig_parse.proofs.RefusedLevels.{fewer}
 use Rattle.sig_parse.proofs.RefusedLists.{List_of, bracketed_from_closed, closed_from_inside, closed_from_end}
 use Rattle.sig_parse.proofs.RefusedSides.{Name_of, Constant_of, no_operators, counted_sum, left_refused, left_too_deep, left_from_names, constants_from_list, right_from_expression}
@@ -14,8 +14,8 @@ use Rattle.sig_parse.proofs.ReadRows.{plain_reads, plain_not_closed, plain_close
 use Rattle.sig_parse.proofs.ClosedRows.{Closed}
 use Rattle.sig_parse.proofs.ExpressionRows.{ExpressionRead, ExpressionRefused, expressions_so_far, enclosed_refused, enclosed_closes}
 use Rattle.sig_parse.proofs.Enclosures.{optional_settled, leaf_next}
-use Rattle.sig_parse.proofs.Enclosing.{between}
-use Rattle.sig_parse.proofs.Leading.{Leads, Then, Apart, settled_once, leads_on, leads_refuses, leads_settled, then_first, refuses_as, starts_same}
+use Rattle.sig_parse.proofs.EnclosedParts.{between}
+use Rattle.sig_parse.proofs.PassedLanguages.{Leads, Then, Apart, settled_once, leads_on, leads_refuses, leads_settled, then_first, refuses_as, starts_same}
 
 -- Constants.
 

@@ -1,9 +1,9 @@
 -- What is refused of a body, where its first leaves tell whether it is a definition or a clock equation.
 use Rattle.sig_parse.proofs.Common.{◌≡◌, ◌++◌, ◌⊎◌, ℕ, List, [], ◌∷◌, codes, None, Some, inl, inr, refl, sym, ap, ◌∙◌, subst, append_assoc, arith, append-nil, Span, Name, Expression, Named, Computed, Equations, Together, Defines, Equal, Terminal, Leaf, leaf, mark, name_leaf, default_level, Limits, both_limits, nesting_limit, no_limits, MayStandInside, IsExpression, IsClockEquation, IsBody, StartsWith, BeginsExpression, StopsBefore, ContinuesExpression, ContinuesDefinition, ContinuesClockEquation, ContinuesBody, no_place, stops_smaller, different, clock_equation_unlimited, expression_read, expression_once, ReadSettles, settles_once, From, run, clock_equation_begins, cons_same, append_to, part_at, mark_apart, named_alone, definition_starts, BeginsDefinition, Cause, Wrong, TooDeep, TooMany, refused_within, ReachesNext, IsAllowed, Agrees, Refuses, InDefinition, InClockEquation, InBody}
-use Rattle.sig_parse.proofs.Refusing.{SameFirst, agrees_first}
+use Rattle.sig_parse.proofs.PartRefusals.{SameFirst, agrees_first}
 use Rattle.sig_parse.proofs.RefusedConstants.{some_name, some_leaf}
 use Rattle.sig_parse.proofs.RefusedSides.{counted_sum}
-use Rattle.sig_parse.proofs.Leading.{starts_or_stops}
+use Rattle.sig_parse.proofs.PassedLanguages.{starts_or_stops}
 use Rattle.sig_parse.proofs.AheadLemmas.{names_read, name_of_leaf, leaf_is, clock_opens, definition_opens, definition_ahead}
 
 -- A smaller language refuses, where the larger one has nothing else that the leaves could begin with.

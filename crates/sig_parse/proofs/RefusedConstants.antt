@@ -1,7 +1,7 @@
 -- What the parts of the parser refuse: constants and inits.
 use Rattle.sig_parse.proofs.Common.{◌≡◌, ◌++◌, ℕ, List, [], ◌∷◌, true, false, Option, None, Some, codes, inl, inr, refl, sym, ap, ◌∙◌, subst, pos, neg_ℤ, append-nil, Span, Name, Constant, Int, BoolConstant, Param, Terminal, Leaf, leaf, name, number, word, mark, name_leaf, no_limits, IsConstant, IsInit, IsOptionalInit, StopsBefore, StartsWith, BeginsConstant, BeginsName, ContinuesNothing, ContinuesInit, no_place, different, cons_same, constant_begins, stops_nothing, init_once, Cause, Wrong, Agrees, Refuses, InLeaf, InNumber, InConstant, InInit, InOptionalInit}
-use Rattle.sig_parse.proofs.Leading.{behind_agrees}
-use Rattle.sig_parse.proofs.Refusing.{SameFirst, refuses_inside, refuses_first, refuses_at_once}
+use Rattle.sig_parse.proofs.PassedLanguages.{behind_agrees}
+use Rattle.sig_parse.proofs.PartRefusals.{SameFirst, refuses_inside, refuses_first, refuses_at_once}
 
 -- some name
 abbrev pub some_name : Name

@@ -1,8 +1,8 @@
 -- What is refused of declarations, and what was read of them, from their parts.
 use Rattle.sig_parse.proofs.Common.{◌≡◌, ◌≢◌, ◌++◌, List, [], ◌∷◌, codes, None, refl, sym, ap, ◌∙◌, subst, Span, Kind, Integer, Boolean, Event, Name, Item, Terminal, Leaf, leaf, name_leaf, kind_word, word, mark, Limits, no_limits, Separated, IsName, StartsWith, StopsBefore, OneReading, ContinuesNothing, ContinuesInit, no_place, different, cons_same, name_once, stops_nothing, Declares, Parameters, Inputs, Signals, IsItemOf, Refusal, Syntax, State, Reads, Covers, IsLeaf, ReadsSeparated, RefusesSeparated, Cause, Wrong, cause_of, Refuses, RefusedBy, Settles, InLeaf, InOptionalInit, InSome, IsKindOf, InKind, InItem, InItems, InGroup, ContinuesItem, ContinuesItems}
-use Rattle.sig_parse.proofs.Refusing.{SameFirst, refuses_at_once}
+use Rattle.sig_parse.proofs.PartRefusals.{SameFirst, refuses_at_once}
 use Rattle.sig_parse.proofs.RefusedConstants.{some_name, some_leaf}
-use Rattle.sig_parse.proofs.Leading.{Leads, Then, leads_refuses, settles_on, refuses_where, settles_where, apart_nothing, then_first, leads_alone, settled_once, starts_or_stops}
+use Rattle.sig_parse.proofs.PassedLanguages.{Leads, Then, leads_refuses, settles_on, refuses_where, settles_where, apart_nothing, then_first, leads_alone, settled_once, starts_or_stops}
 use Rattle.sig_parse.proofs.ReadRows.{plain_reads, plain_settles, plain_refused}
 
 -- what stands the same, whatever the limits

@@ -1,6 +1,6 @@
 -- What is refused of definitions and clock equations, where the parser stands.
 use Rattle.sig_parse.proofs.Common.{◌≡◌, ◌++◌, ◌+◌, ◌≤◌, ◌<◌, ℕ, List, [], ◌∷◌, length, codes, map, sum_by, inl, inr, refl, sym, ap, subst, arith, sum_by_push, Span, Name, Expr, Expression, expression_of, Named, Computed, Terminal, Leaf, leaf, mark, default_level, Limits, both_limits, no_limits, MayHave, operators, Separated, IsExpression, IsLeft, IsClockEquation, StopsBefore, ContinuesNothing, ContinuesExpression, ContinuesDefinition, ContinuesClockEquation, no_place, left_unlimited, left_within, named_alone, left_once, Refusal, State, Covers, IsLeaf, Cause, Wrong, cause_of, Refuses, RefusedBy, Settles, InLeaf, counted, InLeft, InRight, InDefinition, InClockEquation, ReadsSeparated, RefusesSeparated}
-use Rattle.sig_parse.proofs.Refusing.{refuses_first}
+use Rattle.sig_parse.proofs.PartRefusals.{refuses_first}
 use Rattle.sig_parse.proofs.Lists.{separated_more}
 use Rattle.sig_parse.proofs.RefusedConstants.{some_name, some_leaf}
 use Rattle.sig_parse.proofs.RefusedLevels.{fewer}
@@ -8,7 +8,7 @@ use Rattle.sig_parse.proofs.RefusedSides.{counted_sum}
 use Rattle.sig_parse.proofs.RefusedTokens.{leaf_missing}
 use Rattle.sig_parse.proofs.RefusedEquations.{same_clock, some_expression, clock_sign, apart}
 use Rattle.sig_parse.proofs.ExpressionRows.{ExpressionRead, ExpressionRefused, Expressions, expressions_refused}
-use Rattle.sig_parse.proofs.Leading.{Leads, leads_refuses, refuses_where, apart_nothing, then_first, leads_alone, Leaf_of, leads_leaf}
+use Rattle.sig_parse.proofs.PassedLanguages.{Leads, leads_refuses, refuses_where, apart_nothing, then_first, leads_alone, Leaf_of, leads_leaf}
 use Rattle.sig_parse.proofs.SettledBodies.{Left_of, SignThen, Defining, defining, defined, definition_settles}
 
 module _ (depth : ℕ) where

@@ -1,7 +1,7 @@
 -- What is refused and what is settled of delays and cells, whose end is not told by what an operand is.
 use Rattle.sig_parse.proofs.Common.{◌≡◌, ◌++◌, ◌≤◌, ℕ, suc, List, [], ◌∷◌, codes, Option, None, Some, inl, inr, refl, sym, ap, ◌∙◌, subst, append_assoc, arith, append-nil, append_cancel_left, Span, Constant, Expression, Terminal, Leaf, leaf, number, word, mark, delay_level, primary_level, Limits, both_limits, no_limits, IsInit, IsOptionalInit, IsOptionalOne, IsAtLevel, StopsBefore, StartsWith, ContinuesInit, ContinuesExpression, Step, WithOperand, WithCell, WithDelay, IsStep, stops_smaller, OfCell, OfDelay, Tighter, expression_unlimited, cons_same, append_to, part_at, stops_nothing, expression_once, init_once, State, MatchOption, Natural, Reads, Shorter, IsLeaf, Cause, Wrong, Reaches, Refuses, Settles, InOptionalOne, InOptionalInit, InStep}
-use Rattle.sig_parse.proofs.Refusing.{SameFirst, refuses_inside}
-use Rattle.sig_parse.proofs.Leading.{behind_agrees, agrees_behind, same_behind}
+use Rattle.sig_parse.proofs.PartRefusals.{SameFirst, refuses_inside}
+use Rattle.sig_parse.proofs.PassedLanguages.{behind_agrees, agrees_behind, same_behind}
 use Rattle.sig_parse.proofs.RefusedSteps.{no_primary, two_no_cell, two_no_delay, cell_no_delay, step_operator}
 
 -- What was read is settled, and the next leaf goes on with it: that leaf is wrong.

@@ -1,6 +1,6 @@
 -- What is refused of definitions and clock equations, from what is refused of their parts.
 use Rattle.sig_parse.proofs.Common.{◌≡◌, ◌++◌, ◌+◌, ◌≤◌, ℕ, List, [], ◌∷◌, codes, refl, sym, ap, ◌∙◌, subst, arith, sum_by, Span, Expression, Named, Leaf, leaf, mark, default_level, Limits, both_limits, no_limits, MayHave, operators, Further, IsExpression, IsClockEquation, StopsBefore, ContinuesNothing, ContinuesExpression, ContinuesClockEquation, expression_unlimited, expression_within, expression_once, append_to, part_at, mark_apart, stops_nothing, Cause, Refuses, InLeaf, counted, InClockEquation}
-use Rattle.sig_parse.proofs.Refusing.{first_stops, refuses_inside}
+use Rattle.sig_parse.proofs.PartRefusals.{first_stops, refuses_inside}
 use Rattle.sig_parse.proofs.RefusedConstants.{some_name, some_leaf}
 use Rattle.sig_parse.proofs.RefusedLevels.{fewer}
 use Rattle.sig_parse.proofs.RefusedSides.{counted_sum}

@@ -2,7 +2,7 @@
 use Rattle.sig_parse.proofs.Common.{◌≡◌, ◌++◌, ◌+◌, ◌≤◌, ◌<◌, ℕ, suc, List, [], ◌∷◌, codes, Option, inl, inr, ◌⊎◌, refl, sym, ap, ◌∙◌, subst, append_assoc, arith, append-nil, append_cancel_right, Span, Constant, UnOp, Not as UnaryNot, Neg, When as UnaryWhen, Clock as UnaryClock, BinOp, Default as OpDefault, Expression, Unary, Terminal, Leaf, leaf, number, word, mark, unary_terminal, default_level, mixed_level, relation_level, delay_level, primary_level, unary_level, operand_level, binary_level, right_level, Limits, both_limits, operators, IsInit, IsOptionalInit, IsOptionalOne, IsAtLevel, StopsBefore, StartsWith, BeginsExpression, ContinuesNothing, ContinuesInit, ContinuesExpression, IsAtom, IsOperand, WithOperand, WithCell, WithDelay, IsStep, AreSoMany, stops_smaller, tighter_continues, not_tighter, Refusal, Syntax, Nesting, Operators, Level, Relation, Primary, Infix, Binary, Cell, Delay as DelayOp, State, Reads, Shorter, IsLeaf, Cause, Wrong, TooDeep, TooMany, cause_of, Refuses, IsOfText, Settles, InLeaf, InInit, InOptionalInit, InOptionalOne, InLevel, InOperand, InStep, InSteps, level_number, first_level, infix_terminal, infix_level, IsOperatorOf, ContinuesStep, BeginsAtom, IsTighter, ReadsStep, Completes}
 use Rattle.sig_tree.specs.Continuing.{IsInfix as StandsBehind}
 use Rattle.sig_parse.proofs.Joins.{joined, viewed, after_leaf}
-use Rattle.sig_parse.proofs.Lifting.{Lifts, leaf_split, wrong}
+use Rattle.sig_parse.proofs.LiftedRefusals.{Lifts, leaf_split, wrong}
 use Rattle.sig_parse.proofs.OperatorLemmas.{in_tree, same_terminal, same_level, of_level, one_level, operator_continues, operand_continues_more}
 use Rattle.sig_parse.proofs.RefusedLevels.{level_from_steps, steps_from_step, steps_from_steps, steps_stop, steps_too_many}
 use Rattle.sig_parse.proofs.RefusedOperands.{prefix_operand, prefix_too_deep, prefix_too_many, tighter_operand}

@@ -1,8 +1,8 @@
 -- What is refused of groups up to the mark that ends them, from their parts.
 use Rattle.sig_parse.proofs.Common.{◌≡◌, ◌++◌, ◌⊎◌, List, [], ◌∷◌, codes, inl, inr, refl, sym, ap, ◌∙◌, subst, append_assoc, Span, Integer, Boolean, Event, Declared, Terminal, Leaf, leaf, word, mark, Limits, Further, AreGroups, StartsWith, BeginsGroup, StopsBefore, ContinuesNothing, no_place, different, cons_same, append_to, Declares, Parameters, Inputs, Signals, IsGroupOf, State, Covers, IsLeaf, Cause, Refuses, Settles, Closes, InLeaf, InSome, UpTo, InGroup, InGroups, ContinuesItem, ContinuesItems, EndsGroups}
-use Rattle.sig_parse.proofs.Refusing.{SameFirst}
+use Rattle.sig_parse.proofs.PartRefusals.{SameFirst}
 use Rattle.sig_parse.proofs.ClosedRows.{closes_next}
-use Rattle.sig_parse.proofs.Leading.{Leads, Then, Apart, leads_refuses, leads_on, refuses_where, leads_where, then_first, leads_settled, starts_or_stops}
+use Rattle.sig_parse.proofs.PassedLanguages.{Leads, Then, Apart, leads_refuses, leads_on, refuses_where, leads_where, then_first, leads_settled, starts_or_stops}
 use Rattle.sig_parse.proofs.RefusedDeclarations.{Always}
 
 abbrev semicolon : Span → Leaf

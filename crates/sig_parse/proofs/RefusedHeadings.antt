@@ -2,7 +2,7 @@
 -- parts.
 use Rattle.sig_parse.proofs.Common.{◌≡◌, ◌++◌, ◌⊎◌, List, [], ◌∷◌, codes, inl, inr, refl, sym, ap, ◌∙◌, subst, append_assoc, Span, Name, Declared, Terminal, Leaf, leaf, name_leaf, word, mark, Limits, IsName, AreGroups, StartsWith, StopsBefore, OneReading, ContinuesNothing, ContinuesOptional, ContinuesGroups, no_place, name_once, stops_nothing, param_groups_once, plain_groups_once, item_groups_once, Declares, Parameters, Inputs, Signals, IsGroupOf, State, Covers, IsLeaf, Cause, Refuses, Settles, InLeaf, InName, UpTo, InGroup, InGroups, ContinuesItems, EndsGroups, InParams, InInterface, InTitle, InLocalGroup}
 use Rattle.sig_parse.proofs.RefusedConstants.{some_name, some_leaf}
-use Rattle.sig_parse.proofs.Leading.{Leads, Then, Apart, leads_refuses, leads_on, settles_on, refuses_where, apart_nothing, then_first, leads_settled, leads_alone, settled_once, Leaf_of, leads_leaf}
+use Rattle.sig_parse.proofs.PassedLanguages.{Leads, Then, Apart, leads_refuses, leads_on, settles_on, refuses_where, apart_nothing, then_first, leads_settled, leads_alone, settled_once, Leaf_of, leads_leaf}
 use Rattle.sig_parse.proofs.RefusedDeclarations.{Always}
 use Rattle.sig_parse.proofs.RefusedGroups.{ending_mark, ending_semicolon, ending_continues, semicolon_continues}
 use Rattle.sig_parse.proofs.Enclosures.{up_to_once, up_to_covered, optional_refused, optional_settled, optional_missing, leaf_next}

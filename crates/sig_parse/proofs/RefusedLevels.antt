@@ -2,7 +2,7 @@
 -- behind it.
 use Rattle.sig_parse.proofs.Common.{◌≡◌, ◌++◌, ◌+◌, ◌≤◌, ℕ, suc, List, [], ◌∷◌, length, codes, None, inl, inr, ◌⊎◌, refl, sym, ap, ◌∙◌, subst, arith, append-nil, Span, Param, BinOp, Expression, Named, Terminal, Leaf, leaf, word, primary_level, right_level, Limits, both_limits, nesting_limit, no_limits, MayHave, operators, Each, IsAtLevel, StopsBefore, ContinuesExpression, IsOperand, Step, WithOperand, WithCell, WithDelay, stepped, stepped_all, IsStep, AreSoMany, no_place, OfTwo, OfCell, OfDelay, infix_stands, Tighter, append_to, part_at, spine_of, spine_at, operand_at, operand_unlimited, operand_within, step_unlimited, step_within, infix_of_step, place_of_step, step_seen, operand_once, step_once, operand_stops, step_stops, Cause, Wrong, TooMany, Refuses, InLevel, InOperand, InStep, InSteps, step_operators, steps_operators}
 use Rattle.sig_tree.proofs.Operators.{Infix, infix_terminal, infix_level}
-use Rattle.sig_parse.proofs.Refusing.{SameFirst, agrees_first, first_stops, refuses_inside, refuses_first, refuses_second}
+use Rattle.sig_parse.proofs.PartRefusals.{SameFirst, agrees_first, first_stops, refuses_inside, refuses_first, refuses_second}
 use Rattle.sig_parse.proofs.RefusedConstants.{some_name, some_leaf}
 
 -- the operators of an expression are those of its first operand and of its steps

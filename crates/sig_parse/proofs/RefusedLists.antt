@@ -1,7 +1,7 @@
 -- What is refused of lists with separators, and of what stands in brackets, from what is refused of their
 -- parts.
 use Rattle.sig_parse.proofs.Common.{◌≡◌, ◌++◌, ◌+◌, ◌≤◌, ℕ, List, [], ◌∷◌, refl, sym, ap, ◌∙◌, append_assoc, append-nil, Span, Terminal, Leaf, leaf, Limits, both_limits, no_limits, Between, Separated, Listed, StopsBefore, OneReading, ContinuesNothing, no_place, cons_same, append_to, part_at, stops_nothing, Cause, Refuses, InLeaf, InOne}
-use Rattle.sig_parse.proofs.Refusing.{first_stops, refuses_inside, refuses_first}
+use Rattle.sig_parse.proofs.PartRefusals.{first_stops, refuses_inside, refuses_first}
 
 -- leaves and the one that closes them
 abbrev pub Closed : {A : Type 0} → (Limits → A → List Leaf → Type 0) → Terminal → Limits → A → List Leaf → Type 0

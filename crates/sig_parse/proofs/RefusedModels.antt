@@ -1,8 +1,8 @@
 -- What is refused of a whole process, from its parts.
 use Rattle.sig_parse.proofs.Common.{◌≡◌, ◌++◌, ◌≤◌, ◌<◌, ℕ, suc, List, [], ◌∷◌, codes, inl, inr, refl, sym, ap, ◌∙◌, subst, arith, append-nil, Span, Name, Declared, Placement, Named, Computed, Equations, Defines, ProcessModel, Modelled, ProcessModels, no_model, more_models, Leaf, leaf, name_leaf, word, mark, Limits, both_limits, nesting_limit, no_limits, IsBody, AreParams, ArePragmas, StartsWith, BeginsBody, BeginsProcess, StopsBefore, ContinuesNothing, ContinuesOptional, ContinuesBody, no_place, different, body_unlimited, body_within, body_begins, append_to, starts_apart, named_alone, interface_once, IsTitle, HasSides, AreBehindWhere, Refusal, Nesting, State, Covers, Cause, TooDeep, cause_of, Refuses, RefusedBy, Settles, InLeaf, InBody, InTitle, InParams, InInterface, InPragmas, InProcess, InDeclared, IsWherePart, InWhere}
-use Rattle.sig_parse.proofs.Refusing.{SameFirst, agrees_first}
+use Rattle.sig_parse.proofs.PartRefusals.{SameFirst, agrees_first}
 use Rattle.sig_parse.proofs.RefusedConstants.{some_name, some_leaf}
-use Rattle.sig_parse.proofs.Leading.{Leads, Then, Apart, leads_refuses, leads_on, refuses_where, apart_nothing, then_first, leads_settled, leads_alone}
+use Rattle.sig_parse.proofs.PassedLanguages.{Leads, Then, Apart, leads_refuses, leads_on, refuses_where, apart_nothing, then_first, leads_settled, leads_alone}
 use Rattle.sig_parse.proofs.RefusedDeclarations.{Always}
 use Rattle.sig_parse.proofs.AheadLemmas.{leaf_is}
 use Rattle.sig_parse.proofs.RefusedProcesses.{where_no_body, semicolon_no_body, pragmas_no_body, title_once, locals_within, locals_unlimited, chained, chained_locals, process_from, declared_process}

@@ -1,9 +1,9 @@
 -- Names with commas between them, and what is refused of them.
 use Rattle.sig_parse.proofs.Common.{◌≡◌, List, codes, inl, inr, arith, Name, Terminal, Leaf, mark, Separated, IsName, StopsBefore, ContinuesNothing, ContinuesList, stops_smaller, name_once, stops_nothing, Refusal, State, Reads, Cause, Refuses, RefusedBy, Settles, InName, InOne, counted, InSome, InNames, ReadsSeparated, RefusesSeparated}
-use Rattle.sig_parse.proofs.Covering.{covered}
+use Rattle.sig_parse.proofs.CoveredParts.{covered}
 use Rattle.sig_parse.proofs.RefusedLists.{List_of}
 use Rattle.sig_parse.proofs.RefusedSides.{Name_of, no_operators}
-use Rattle.sig_parse.proofs.Leading.{refuses_as, settled_once}
+use Rattle.sig_parse.proofs.PassedLanguages.{refuses_as, settled_once}
 use Rattle.sig_parse.proofs.Rows.{none_of}
 use Rattle.sig_parse.proofs.ReadRows.{plain_reads, plain_refused}
 

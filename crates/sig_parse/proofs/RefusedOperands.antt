@@ -1,6 +1,6 @@
 -- What the parts of the parser refuse: operands, and what an operator takes.
 use Rattle.sig_parse.proofs.Common.{◌≡◌, ◌++◌, ◌+◌, ◌≤◌, ◌<◌, ℕ, suc, List, [], ◌∷◌, inl, inr, ◌⊎◌, refl, sym, ap, ◌∙◌, subst, arith, append-nil, Span, UnOp, Not, Expression, Named, Unary, Leaf, leaf, unary_terminal, primary_level, unary_level, operand_level, Limits, both_limits, nesting_limit, no_limits, MayStandInside, MayHave, operators, IsAtLevel, StopsBefore, StartsWith, BeginsExpression, ContinuesExpression, IsOperand, stops_smaller, cons_same, unary_same, prefix_no_inner, operand_tighter, inner_begins, Cause, TooDeep, TooMany, Refuses, InLevel, InOperand}
-use Rattle.sig_parse.proofs.Refusing.{SameFirst, refuses_inside, refuses_first}
+use Rattle.sig_parse.proofs.PartRefusals.{SameFirst, refuses_inside, refuses_first}
 use Rattle.sig_parse.proofs.RefusedConstants.{some_name, some_leaf}
 use Rattle.sig_parse.proofs.RefusedLevels.{fewer}
 

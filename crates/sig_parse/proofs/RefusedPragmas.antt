@@ -1,7 +1,7 @@
 -- What is refused of pragmas, and what was read of them, from their parts.
 use Rattle.sig_parse.proofs.Common.{◌≡◌, ◌++◌, ◌⊎◌, List, [], ◌∷◌, codes, inl, inr, refl, sym, ap, ◌∙◌, subst, append_assoc, Span, Name, Placement, Terminal, Leaf, leaf, name, word, mark, label, Limits, Each, Separated, IsName, IsPlacement, StartsWith, BeginsPlacement, StopsBefore, OneReading, ContinuesNothing, ContinuesList, ContinuesOptional, ContinuesPlacements, no_place, different, between_once, names_once, stops_nothing, placement_once, pragma_list_once, State, Covers, IsLeaf, Cause, Refuses, Settles, Closes, InLeaf, InLabel, UpTo, InNames, IsBraced, InBraced, InPragma, InPragmaList, InPragmas}
 use Rattle.sig_parse.proofs.RefusedConstants.{some_name, some_leaf}
-use Rattle.sig_parse.proofs.Leading.{Leads, Then, leads_refuses, settles_on, refuses_where, apart_nothing, then_first, leads_stopped, leads_alone, settled_once, Leaf_of, leaf_once, leads_leaf}
+use Rattle.sig_parse.proofs.PassedLanguages.{Leads, Then, leads_refuses, settles_on, refuses_where, apart_nothing, then_first, leads_stopped, leads_alone, settled_once, Leaf_of, leaf_once, leads_leaf}
 use Rattle.sig_parse.proofs.RefusedDeclarations.{Always}
 use Rattle.sig_parse.proofs.ClosedRows.{closes_next}
 use Rattle.sig_parse.proofs.Enclosures.{up_to_once, up_to_covered, each_refused, each_read, optional_refused, optional_settled, optional_missing, leaf_next}

@@ -1,7 +1,7 @@
 -- What the parts of the parser refuse: names, numbers, truths and parentheses.
 use Rattle.sig_parse.proofs.Common.{◌≡◌, ◌++◌, ◌+◌, ◌≤◌, ◌<◌, ℕ, suc, List, [], ◌∷◌, codes, inl, inr, refl, sym, ap, ◌∙◌, subst, arith, append-nil, Span, UnOp, Expression, Named, Number, Truth, Unary, Leaf, leaf, name, number, mark, truth_word, unary_terminal, default_level, primary_level, Limits, both_limits, nesting_limit, no_limits, MayStandInside, operators, IsAtLevel, StopsBefore, BeginsExpression, ContinuesNothing, ContinuesExpression, IsAtom, IsOperand, no_place, AtTruth, AtOpening, AtPrefix, first_of, expression_unlimited, expression_within, prefix_first, truth_first, expression_once, expression_begins, cons_same, append_to, part_at, mark_apart, stops_nothing, operand_at, Cause, Wrong, TooDeep, Refuses, InLeaf, InLevel, InOperand}
 use Rattle.sig_tree.specs.Syntax.{Binary, Delay, Cell}
-use Rattle.sig_parse.proofs.Refusing.{first_stops, refuses_inside, refuses_at_once}
+use Rattle.sig_parse.proofs.PartRefusals.{first_stops, refuses_inside, refuses_at_once}
 use Rattle.sig_parse.proofs.RefusedConstants.{some_name, some_leaf}
 use Rattle.sig_parse.proofs.RefusedOperands.{named_operand}
 

@@ -1,8 +1,8 @@
 -- What is refused of programs, from what is refused of their processes.
 use Rattle.sig_parse.proofs.Common.{◌≡◌, ◌≢◌, ◌++◌, ◌⊎◌, List, [], ◌∷◌, inl, inr, refl, sym, ap, ◌∙◌, subst, append_assoc, append-nil, Span, ProcessModel, Leaf, Limits, both_limits, nesting_limit, no_limits, Each, IsModel, IsProgram, Begins, HasTree, StopsBefore, ContinuesNothing, model_unlimited, model_within, program_unlimited, program_within, model_once, Refusal, Syntax, Nesting, Operators, ParseAnswer, OutOfMemory as NoMemory, State, Covers, Cause, Wrong, TooDeep, TooMany, refused_within, Agrees, ReachesNext, IsAllowed, Refuses, RefusedBy, place_of, answer_of, GoesOn, GoesOnOtherwise, IsRefused, answer_for, IsAnswerOf, IsFirstRefusal, InProcess, InProgram, IsAnything}
 use Rattle.sig_parse.specs.declared.refusal.Refusal.TheVariants.{OutOfMemory}
-use Rattle.sig_parse.proofs.Refusing.{SameFirst}
-use Rattle.sig_parse.proofs.Leading.{Leads, Then, leads_refuses, leads_on, refuses_where, leads_where, apart_nothing, then_first, leads_alone}
+use Rattle.sig_parse.proofs.PartRefusals.{SameFirst}
+use Rattle.sig_parse.proofs.PassedLanguages.{Leads, Then, leads_refuses, leads_on, refuses_where, leads_where, apart_nothing, then_first, leads_alone}
 
 abbrev Model : Limits → ProcessModel → List Leaf → Type 0
 Model limits model leaves = IsModel limits model 0 leaves

@@ -1,7 +1,7 @@
 -- What the parts of the parser refuse: what an operator behind an operand takes.
 use Rattle.sig_parse.proofs.Common.{◌≡◌, ◌++◌, ◌+◌, ◌≤◌, ℕ, suc, List, [], ◌∷◌, codes, refl, sym, ap, ◌∙◌, subst, arith, append-nil, Span, Param, BinOp, Expression, Terminal, Leaf, leaf, word, binary_terminal, mixed_level, primary_level, binary_level, right_level, Limits, both_limits, no_limits, MayHave, operators, IsInit, IsAtLevel, StopsBefore, ContinuesNothing, ContinuesExpression, Step, WithOperand, WithCell, WithDelay, IsStep, no_place, stops_smaller, OfTwo, OfCell, OfDelay, Tighter, two_levels, continues_tighter, expression_unlimited, expression_within, expression_once, cons_same, append_to, part_at, stops_nothing, infix_same, infix_of_step, step_seen, primary_ends, Cause, Refuses, InInit, InLevel, InStep, step_operators}
 use Rattle.sig_tree.proofs.Operators.{Infix, infix_terminal}
-use Rattle.sig_parse.proofs.Refusing.{refuses_inside}
+use Rattle.sig_parse.proofs.PartRefusals.{refuses_inside}
 use Rattle.sig_parse.proofs.RefusedConstants.{some_name, some_leaf}
 use Rattle.sig_parse.proofs.RefusedLevels.{fewer}
 

@@ -1,8 +1,8 @@
 -- What is refused of bodies one behind another, from their parts.
 use Rattle.sig_parse.proofs.Common.{◌≡◌, ◌++◌, ◌≤◌, ◌<◌, ℕ, suc, List, [], ◌∷◌, codes, refl, sym, ap, ◌∙◌, subst, Span, Equations, Together, Defines, Equal, Leaf, leaf, mark, default_level, Limits, both_limits, IsBody, StartsWith, BeginsExpression, StopsBefore, ContinuesNothing, ContinuesList, ContinuesBody, different, body_unlimited, body_within, clock_equation_begins, starts_longer, mark_apart, stops_nothing, together_apart, definition_starts, bar_apart, Refusal, Nesting, State, Covers, IsLeaf, Cause, cause_of, Refuses, RefusedBy, Settles, Closes, InBody, Body_at, InBodies}
-use Rattle.sig_parse.proofs.Refusing.{SameFirst}
+use Rattle.sig_parse.proofs.PartRefusals.{SameFirst}
 use Rattle.sig_parse.proofs.RefusedBodies.{to_list, from_list, bodies_list, list_bodies, together_too_deep}
-use Rattle.sig_parse.proofs.Leading.{Leads, Then, leads_refuses, leads_on, refuses_as, refuses_where, Leaf_of, leads_leaf, starts_same}
+use Rattle.sig_parse.proofs.PassedLanguages.{Leads, Then, leads_refuses, leads_on, refuses_as, refuses_where, Leaf_of, leads_leaf, starts_same}
 use Rattle.sig_parse.proofs.Rows.{none_of, Unbounded, fewer_unbounded, Item, Row, RowRest, row_refused, row_item, row_separated}
 use Rattle.sig_parse.proofs.ClosedRows.{Closed, closed_refused, closed_ends}
 use Rattle.sig_parse.proofs.Enclosures.{both_begin, leaf_next}

@@ -1,6 +1,6 @@
 -- What is refused where one token is read.
 use Rattle.sig_parse.proofs.Common.{◌≡◌, ℕ, List, [], ◌∷◌, refl, sym, subst, Terminal, Leaf, leaf, label, Limits, no_limits, StopsBefore, StartsWith, BeginsName, ContinuesNothing, no_place, Syntax, State, InLeaf, InLabel, InName, Wrong, Refuses, RefusedBy}
-use Rattle.sig_parse.proofs.Refusing.{refuses_at_once}
+use Rattle.sig_parse.proofs.PartRefusals.{refuses_at_once}
 use Rattle.sig_parse.proofs.RefusedConstants.{some_name, some_leaf, leaf_refused}
 
 label_starts : (leaves : List Leaf) → InLabel no_limits leaves → StartsWith (λ t. (text : List ℕ) × (t ≡ label text)) leaves

@@ -1,7 +1,7 @@
 -- Lists with separators, whose items have operators, as the leaves of them are passed one after another.
 use Rattle.sig_parse.proofs.Common.{◌≡◌, ◌++◌, ◌+◌, ◌≤◌, ℕ, List, [], ◌∷◌, inl, inr, refl, sym, ap, ◌∙◌, subst, sum_by, arith, append_cancel_left, append_cancel_right, sum_by-cons, Span, Terminal, Leaf, leaf, Limits, both_limits, no_limits, Further, Separated, StopsBefore, OneReading, ContinuesList, stops_smaller, cons_same, append_to, State, Covers, IsLeaf, Cause, Agrees, Refuses, Settles, counted, InAny}
-use Rattle.sig_parse.proofs.Refusing.{SameFirst, agrees_first, refuses_first}
-use Rattle.sig_parse.proofs.Leading.{Leads, agrees_behind, starts_or_stops}
+use Rattle.sig_parse.proofs.PartRefusals.{SameFirst, agrees_first, refuses_first}
+use Rattle.sig_parse.proofs.PassedLanguages.{Leads, agrees_behind, starts_or_stops}
 
 -- no operators, and any number of them
 abbrev pub none_of : {A : Type 0} → A → ℕ

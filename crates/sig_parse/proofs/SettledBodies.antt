@@ -1,9 +1,9 @@
 -- Right sides, definitions, clock equations and bodies are read so far and no further, whatever stands
 -- behind the next leaf.
 use Rattle.sig_parse.proofs.Common.{◌≡◌, ◌++◌, ◌+◌, ℕ, suc, List, [], ◌∷◌, true, false, codes, inl, inr, refl, sym, ap, ◌∙◌, subst, arith, append_cancel_right, Span, Name, Constant, Not, Neg, When as UnaryWhen, Clock, Expression, Named, RightSide, Computed, Called, Equations, Together, Defines, Equal, Bodies, Terminal, Leaf, leaf, mark, name_leaf, default_level, Limits, both_limits, no_limits, right_operators, IsExpression, IsLeft, AreConstants, AreArguments, IsRight, IsDefinition, IsClockEquation, IsBody, AreBodies, StartsWith, BeginsName, BeginsExpression, BeginsBody, StopsBefore, ContinuesOptional, ContinuesExpression, ContinuesDefinition, ContinuesClockEquation, ContinuesBody, ContinuesBodies, stops_smaller, different, expression_unlimited, left_unlimited, left_within, right_unlimited, definition_unlimited, clock_equation_unlimited, body_unlimited, expression_once, clock_equation_begins, starts_longer, cons_same, append_to, part_at, starts_apart, between_at, mark_apart, stops_nothing, named_alone, Opens, opens_apart, call_opens, call_or_expression, constants_once, arguments_once, left_once, starts_conflict, together_apart, definition_starts, clock_equation_once, bodies_once, State, Covers, IsLeaf, BeginsCall, BeginsDefinition, Agrees, Settles, InRight, InDefinition, InClockEquation, InBody}
-use Rattle.sig_parse.proofs.Refusing.{SameFirst, first_stops}
+use Rattle.sig_parse.proofs.PartRefusals.{SameFirst, first_stops}
 use Rattle.sig_parse.proofs.RefusedLevels.{fewer}
-use Rattle.sig_parse.proofs.Leading.{Then, settles_on, settles_where, leads_alone, leads_leaf, Leaf_of, behind_agrees, settled_once, starts_same}
+use Rattle.sig_parse.proofs.PassedLanguages.{Then, settles_on, settles_where, leads_alone, leads_leaf, Leaf_of, behind_agrees, settled_once, starts_same}
 use Rattle.sig_parse.proofs.Enclosures.{both_begin}
 use Rattle.sig_parse.proofs.AheadLemmas.{definition_ahead}
 use Rattle.sig_parse.proofs.RefusedChoice.{clock_ahead}

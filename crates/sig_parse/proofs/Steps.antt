@@ -2,7 +2,7 @@
 use Rattle.sig_parse.proofs.Common.{◌≡◌, ◌++◌, ◌+◌, ◌≤◌, ◌<◌, ℕ, suc, List, [], ◌∷◌, codes, length, length-append, Option, refl, sym, ap, subst, arith, Span, Constant, UnOp, Not, Neg, When, Clock, BinOp, Expression, Unary, Leaf, leaf, mark, unary_terminal, default_level, primary_level, unary_level, operand_level, right_level, both_limits, operators, IsInit, IsOptionalInit, IsOptionalOne, IsAtLevel, Level, Relation, Infix, Binary as BinaryOp, Cell as CellOp, Delay as DelayOp, State, Reads, Shorter, IsLeaf, level_number, first_level, infix_terminal, IsTighter, IsInfix, Completes}
 use Rattle.sig_tree.specs.Syntax.{Binary, Delay, Cell}
 use Rattle.sig_parse.proofs.Joins.{joined, viewed, after_leaf, no_longer}
-use Rattle.sig_parse.proofs.Standing.{looser, parenthesised, unary, completes_binary, completes_cell, completes_delay, completed}
+use Rattle.sig_parse.proofs.ExpressionParts.{looser, parenthesised, unary, completes_binary, completes_cell, completes_delay, completed}
 
 pub below_first : (level : Level) → level_number level ≤ first_level level
 below_first Relation = omega arith

@@ -3,7 +3,7 @@ use Rattle.sig_tree.specs.Terminals.{Terminal as SpecTerminal, Leaf as SpecLeaf,
 use Rattle.sig_parse.specs.declared.leaf.Terminal.{Terminal}
 use Rattle.sig_parse.specs.declared.leaf.Terminal.TheVariants.{Name, Number, Label, Keyword}
 use Rattle.sig_parse.specs.declared.leaf.Leaf.{Leaf}
-use Rattle.sig_parse.specs.Keywords.{terminal_of}
+use Rattle.sig_parse.specs.inner.Keywords.{terminal_of}
 
 abbrev pub terminal_seen : Terminal → SpecTerminal
 terminal_seen (Name text) = name text.now

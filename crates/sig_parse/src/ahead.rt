@@ -2,8 +2,8 @@
 
 ghost use Rattle.std.specs.Prelude.{◌≡◌};
 ghost use Rattle.sig_parse.specs.Prelude.{map, MatchBool, BeginsName};
-ghost use Rattle.sig_parse.specs.Ahead.{StandsAt, BeginsCall, BeginsDefinition};
-ghost use Rattle.sig_parse.specs.Keywords.{terminal_of};
+ghost use Rattle.sig_parse.specs.inner.Ahead.{StandsAt, BeginsCall, BeginsDefinition};
+ghost use Rattle.sig_parse.specs.inner.Keywords.{terminal_of};
 ghost use Rattle.sig_parse.specs.Seen.{leaf_seen};
 
 use crate::keyword::{Keyword, is_same};

@@ -3,7 +3,7 @@
 ghost use Rattle.std.specs.Prelude.{◌≡◌, ◌≢◌};
 ghost use Rattle.sig_parse.specs.Prelude.{codes, map, IfOk, OnOk, IfErr, OnErr, Event, declared_of, kind_word, mark, Separated, AreGroups, ContinuesNothing};
 ghost use Rattle.sig_parse.specs.Declarations.{IsItemOf, IsGroupOf};
-ghost use Rattle.sig_parse.specs.Keywords.{terminal_of};
+ghost use Rattle.sig_parse.specs.inner.Keywords.{terminal_of};
 ghost use Rattle.sig_parse.specs.Parts.{InKind, InItem, InItems, InGroup, InGroups, ContinuesItem, ContinuesItems, EndsGroups};
 ghost use Rattle.sig_parse.specs.Reads.{Reads, Shorter, IsLeaf};
 ghost use Rattle.sig_parse.specs.Refusals.{RefusedBy};

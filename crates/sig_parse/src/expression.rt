@@ -2,7 +2,7 @@
 
 ghost use Rattle.std.specs.Prelude.{◌≡◌, ◌<◌, ◌≤◌, ◌⊎◌, ◌∷◌};
 ghost use Rattle.sig_parse.specs.Prelude.{ℕ, suc, codes, IfOk, OnOk, MatchOption, MatchBool, IfSome, IfErr, OnErr, UnOp, Constant, expression_of, Binary, Cell, leaf, mark, unary_terminal, default_level, mixed_level, relation_level, delay_level, primary_level, unary_level, both_limits, operators, IsInit, IsAtLevel, IsExpression, StopsBefore, StartsWith, ContinuesDelay, ContinuesExpression, IsAtom, IsOperand};
-ghost use Rattle.sig_parse.specs.Operators.{level_number, first_level, infix_terminal, infix_level, IsOperator, IsOperatorOf, IsInfix, ContinuesStep, BeginsAtom, Completes, ReadsStep, RefusesInit};
+ghost use Rattle.sig_parse.specs.inner.Operators.{level_number, first_level, infix_terminal, infix_level, IsOperator, IsOperatorOf, IsInfix, ContinuesStep, BeginsAtom, Completes, ReadsStep, RefusesInit};
 ghost use Rattle.sig_parse.specs.Reads.{Reads, Shorter, IsLeaf};
 ghost use Rattle.sig_parse.specs.Refusals.{IsOfText};
 ghost use Rattle.sig_parse.specs.Languages.{InLevel, InOperand, InStep};

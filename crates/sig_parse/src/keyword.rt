@@ -2,7 +2,7 @@
 
 ghost use Rattle.std.specs.Prelude.{◌≡◌, ◌↔◌};
 ghost use Rattle.sig_parse.specs.Prelude.{IsTrue, IsWord, IsMark, word, mark};
-ghost use Rattle.sig_parse.specs.Keywords.{terminal_of, spelling_of};
+ghost use Rattle.sig_parse.specs.inner.Keywords.{terminal_of, spelling_of};
 
 /// A reserved word or a mark.
 #[derive(Clone, Copy, PartialEq, Eq)]

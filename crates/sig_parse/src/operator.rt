@@ -3,8 +3,8 @@
 ghost use Rattle.std.specs.Prelude.{◌≡◌};
 ghost use Rattle.sig_parse.specs.Prelude.{IfSome, IfNone, MatchOption, UnOp, unary_level, operand_level, right_level, unary_terminal};
 ghost use Rattle.sig_parse.specs.declared.operator.Infix.{Infix};
-ghost use Rattle.sig_parse.specs.Keywords.{terminal_of};
-ghost use Rattle.sig_parse.specs.Operators.{level_number, first_level, infix_terminal, infix_level, infix_left, IsTighter};
+ghost use Rattle.sig_parse.specs.inner.Keywords.{terminal_of};
+ghost use Rattle.sig_parse.specs.inner.Operators.{level_number, first_level, infix_terminal, infix_level, infix_left, IsTighter};
 
 use crate::keyword::Keyword;
 use sig_tree::{BinOp, UnOp};

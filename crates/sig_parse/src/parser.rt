@@ -2,7 +2,7 @@
 
 ghost use Rattle.std.specs.Prelude.{◌≡◌, ◌≤◌, ◌<◌, ◌∷◌};
 ghost use Rattle.sig_parse.specs.Prelude.{ℕ, List, suc, true, [], codes, map, IfOk, IfErr, OnOk, MatchOption, MatchBool, OnErr, length, name, number, label, StopsBefore, StartsWith, BeginsName, ContinuesNothing, IsName, IsOptionalOne};
-ghost use Rattle.sig_parse.specs.Keywords.{terminal_of, IsKeyword};
+ghost use Rattle.sig_parse.specs.inner.Keywords.{terminal_of, IsKeyword};
 ghost use Rattle.sig_parse.specs.Languages.{InLeaf, InLabel, InName, InOptionalOne};
 ghost use Rattle.sig_parse.specs.Refusals.{RefusedBy};
 ghost use Rattle.sig_parse.specs.Settling.{Settles};

@@ -4,7 +4,7 @@ ghost use Rattle.std.specs.Prelude.{◌≡◌, ◌∷◌};
 ghost use Rattle.sig_parse.specs.Prelude.{[], codes, map, IfOk, OnOk, IfErr, Span, roll-Process, declared_of, equations_of, model_of, placement_of, leaf, name_leaf, word, mark, both_limits, AreParams, IsInterface, IsLocalGroup, IsModel, StartsWith, BeginsProcess, ContinuesNothing, ContinuesOptional};
 ghost use Rattle.sig_parse.specs.Declarations.{IsTitle, HasSides, HasDeclared, HasBehindWhere, AreDeclared, AreBehindWhere, IsInnerProcess};
 ghost use Rattle.sig_parse.specs.Parts.{InParams, InInterface, InTitle, InLocalGroup, InProcess, InDeclared, InWhere};
-ghost use Rattle.sig_parse.specs.Beginnings.{ReadsBeginning};
+ghost use Rattle.sig_parse.specs.inner.Beginnings.{ReadsBeginning};
 ghost use Rattle.sig_parse.specs.Reads.{Reads, Covers, Shorter};
 ghost use Rattle.sig_parse.specs.Refusals.{RefusedBy};
 ghost use Rattle.sig_parse.specs.Settling.{Settles, Closes};

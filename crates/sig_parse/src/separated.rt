@@ -2,9 +2,9 @@
 
 ghost use Rattle.std.specs.Prelude.{◌≤◌, length, IfOk, IfErr, OnOk};
 ghost use Rattle.sig_parse.specs.State.{State};
-ghost use Rattle.sig_parse.specs.Keywords.{terminal_of};
+ghost use Rattle.sig_parse.specs.inner.Keywords.{terminal_of};
 ghost use Rattle.sig_parse.specs.declared.refusal.Refusal.{Refusal};
-ghost use Rattle.sig_parse.specs.Repeats.{ReadsSeparated, RefusesSeparated};
+ghost use Rattle.sig_parse.specs.inner.Repeats.{ReadsSeparated, RefusesSeparated};
 
 use crate::keyword::Keyword;
 use crate::parser::Parser;

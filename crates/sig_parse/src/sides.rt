@@ -2,7 +2,7 @@
 
 ghost use Rattle.std.specs.Prelude.{◌≤◌};
 ghost use Rattle.sig_parse.specs.Prelude.{codes, map, sum_by, IfOk, OnOk, IfErr, expression_of, right_side_of, mark, both_limits, operators, right_operators, Separated, Listed, IsConstant, IsExpression, IsName, IsLeft, AreConstants, AreArguments, IsRight, StopsBefore, ContinuesNothing, ContinuesOptional, ContinuesList, ContinuesDefinition};
-ghost use Rattle.sig_parse.specs.Ahead.{BeginsCall};
+ghost use Rattle.sig_parse.specs.inner.Ahead.{BeginsCall};
 ghost use Rattle.sig_parse.specs.Languages.{InName, InConstant, InLeft, InConstantList, InConstants, InArgumentList, InArguments, InRight};
 ghost use Rattle.sig_parse.specs.Parts.{InNames};
 ghost use Rattle.sig_parse.specs.Refusals.{RefusedBy};

@@ -13,9 +13,9 @@ pub use Rattle.sig_plan.specs.declared.op.Op.{Op}
 pub use Rattle.sig_plan.specs.declared.parts.LinkInfo.{LinkInfo}
 pub use Rattle.sig_plan.proofs.Common.{All-map, AreImports, AreParts, AreSignalLinks, AreWritten, ClocksView, Contains-append_left, Contains-append_right, Depends, Holds, IfOk-weaker, Imports, IsEarlierLink, IsOutput, IsWrittenElsewhere, Kernel, Needs, Node, Operation, Ref, SigId, Signal, at_contained, cases_eq, cases_order, cluster_at, cluster_count, cluster_of, cons_option, contains_at, contains_cons, contains_head, contains_later, contains_none, false≢true, get_at, get_or_append_left, get_or_push, get_within, guarded, length-map, length-range_with_len, map-range_with_len_more, operation_in, operations_in, output, presence_in, range_with_len, report_link, take_more, test, used}
 pub use Rattle.sig_plan.proofs.Lists.{get_map, get_some, map_get, signal_same}
-pub use Rattle.sig_plan.proofs.Writing.{operations_written}
-pub use Rattle.sig_part.specs.Closing.{AreClosed, Closes, Visits, Walks, is_elsewhere, is_other, onward, seed}
-pub use Rattle.sig_part.specs.Imported.{AreImported, AreImportedBy}
-pub use Rattle.sig_part.specs.Linking.{AreLinksBefore, AreLinksOfMarks, IsBefore, IsMarkedFor, IsMarkedLink}
-pub use Rattle.sig_part.specs.Marks.{AreMarked, AreMarkedIn, mark_at, marked_count}
-pub use Rattle.sig_part.specs.Uses.{AreNeeded, AreNeededForEach, IsNeededWithin, IsUsedWithin}
+pub use Rattle.sig_plan.proofs.WrittenSignals.{operations_written}
+pub use Rattle.sig_part.specs.inner.Closing.{AreClosed, Closes, Visits, Walks, is_elsewhere, is_other, onward, seed}
+pub use Rattle.sig_part.specs.inner.Imported.{AreImported, AreImportedBy}
+pub use Rattle.sig_part.specs.inner.Linking.{AreLinksBefore, AreLinksOfMarks, IsBefore, IsMarkedFor, IsMarkedLink}
+pub use Rattle.sig_part.specs.inner.Marks.{AreMarked, AreMarkedIn, mark_at, marked_count}
+pub use Rattle.sig_part.specs.inner.Uses.{AreNeeded, AreNeededForEach, IsNeededWithin, IsUsedWithin}

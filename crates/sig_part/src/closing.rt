@@ -2,7 +2,7 @@
 //! guards of the operations need which write them.
 
 ghost use Rattle.std.specs.Prelude.{◌≡◌, ◌∷◌, [], IfOk, OnOk, length};
-ghost use Rattle.sig_part.specs.Closing.{AreClosed, Visits, is_elsewhere};
+ghost use Rattle.sig_part.specs.inner.Closing.{AreClosed, Visits, is_elsewhere};
 
 use crate::marks::{Marks, unmarked};
 use crate::needs::Conditions;

@@ -2,8 +2,8 @@
 
 ghost use Rattle.std.specs.Prelude.{◌≡◌, ◌+◌, ◌<◌, ◌^◌, ◌↔◌};
 ghost use Rattle.sig_part.specs.Prelude.{List, IfOk, Contains, length, SigId, Node, operations_in, IsOutput, cluster_count};
-ghost use Rattle.sig_part.specs.Imported.{AreImportedBy};
-ghost use Rattle.sig_part.specs.Uses.{AreNeeded};
+ghost use Rattle.sig_part.specs.inner.Imported.{AreImportedBy};
+ghost use Rattle.sig_part.specs.inner.Uses.{AreNeeded};
 
 use crate::closing::closed;
 use crate::marks::Marks;

@@ -2,7 +2,7 @@
 
 ghost use Rattle.std.specs.Prelude.{◌≡◌, ◌≤◌, ◌^◌, ◌++◌};
 ghost use Rattle.sig_part.specs.Prelude.{IfOk, OnOk, length, map, range_with_len, report_link};
-ghost use Rattle.sig_part.specs.Linking.{AddsLinks, AreLinksOfMarks};
+ghost use Rattle.sig_part.specs.inner.Linking.{AddsLinks, AreLinksOfMarks};
 
 use crate::marks::Marks;
 use sig_base::{SigId, Signal};

@@ -1,7 +1,7 @@
 //! Marks on signals, and the lists of those that are marked.
 
 ghost use Rattle.std.specs.Prelude.{◌≡◌, IfOk, false, replicate};
-ghost use Rattle.sig_part.specs.Marks.{AreMarked, AreMarkedIn, mark_at};
+ghost use Rattle.sig_part.specs.inner.Marks.{AreMarked, AreMarkedIn, mark_at};
 
 use sig_base::SigId;
 use sig_plan::Imports;

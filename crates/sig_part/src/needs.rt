@@ -2,7 +2,7 @@
 
 ghost use Rattle.std.specs.Prelude.{◌≡◌, ◌↔◌};
 ghost use Rattle.sig_part.specs.Prelude.{IfOk, All, Contains, map, slice_get, filter_map, SigId, Holds, operation_in, Needs};
-ghost use Rattle.sig_part.specs.Uses.{AreNeeded};
+ghost use Rattle.sig_part.specs.inner.Uses.{AreNeeded};
 
 use sig_base::SigId;
 use sig_clock::Clocks;

@@ -2,7 +2,7 @@
 
 ghost use Rattle.std.specs.Prelude.{◌≡◌, ◌↔◌};
 ghost use Rattle.sig_part.specs.Prelude.{IfOk, IsTrue, Contains, length, SigId};
-ghost use Rattle.sig_part.specs.Uses.{AreNeededForEach, IsNeededWithin, IsUsedWithin};
+ghost use Rattle.sig_part.specs.inner.Uses.{AreNeededForEach, IsNeededWithin, IsUsedWithin};
 
 use crate::needs::Conditions;
 use sig_base::SigId;

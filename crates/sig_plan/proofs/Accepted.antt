@@ -1,6 +1,6 @@
 -- An accepted plan has its kernel's operations.
 use Rattle.sig_plan.proofs.Common.{◌≡◌, get_or, subst, Some, get_at, IsClockFunction, HasClocks, AreClocks, ClocksView, guard_of, signal_id, Node, Kernel, HasOperations, AreOperations, operations_in, presence_in, IsAccepted, PlanView, Op, List}
-use Rattle.sig_plan.proofs.Adding.{guard_is}
+use Rattle.sig_plan.proofs.AddedOperations.{guard_is}
 
 pub operations_made_are : (kernel : Kernel) (nodes : List Node) (clocks : ClocksView) (ops : List Op) → HasClocks kernel → AreClocks kernel nodes clocks
     → AreOperations kernel nodes clocks ops → HasOperations kernel clocks.conditions (operations_in nodes ops)

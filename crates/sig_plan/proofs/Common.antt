@@ -14,7 +14,7 @@ pub use Rattle.sig_dd.specs.declared.answer.DdAnswer.{DdAnswer}
 pub use Rattle.sig_dd.specs.declared.answer.DdAnswer.TheVariants.{Budget, OutOfMemory as NoMemory}
 pub use Rattle.sig_dd.specs.declared.node.Node.{Node}
 pub use Rattle.sig_dd.specs.declared.node.Ref.{Ref}
-pub use Rattle.sig_dd.proofs.Adding.{Share-then}
+pub use Rattle.sig_dd.proofs.CallsInARow.{Share-then}
 pub use Rattle.sig_dd.proofs.CallerLemmas.{Agree-kept, Depends-of_one, Depends-of_two, Holds-kept, Keeps-trans, Spans-kept, Spans-of, one_reference}
 pub use Rattle.sig_dd.proofs.Common.{Agree, Asks, Contains-append_left, Depends, Holds, IsIdle, IsRefOf, IsRefused, IsStore, Keeps, Share, Spans, StoreView, allowance, cases_eq, cases_lt, diagram, eqb-false, get_or_append_left, get_or_push, length-map, test}
 pub use Rattle.sig_dd.proofs.Dependence.{allowance_rises, ref_depends}
@@ -35,7 +35,7 @@ pub use Rattle.sig_plan.specs.Codes.{AreSlots, CodeView, ImpliesSlot, Instructio
 pub use Rattle.sig_plan.specs.Guards.{IsGuardOf, of_operation, of_slot}
 pub use Rattle.sig_plan.specs.Holding.{Gives, HasBefore, HasGuard}
 pub use Rattle.sig_plan.specs.Instructions.{CarriesFrom, IsFor, IsProvidedBefore, NamesWithin, Provides, StandsAt, collects, commits, does, receives, reports, sends}
-pub use Rattle.sig_plan.specs.Making.{Adds, AreHeld, AreOver, Extends, HoldGuards, IsMade, Spends}
+pub use Rattle.sig_plan.specs.inner.Making.{Adds, AreHeld, AreOver, Extends, HoldGuards, IsMade, Spends}
 pub use Rattle.sig_plan.specs.Operations.{AreOperations, Guard, Operation, Presence, cluster_at, cluster_of, default_of, equation_id, function_in, of_each, operation_in, operations_in, operations_of, presence_in, read_of, signals_of, store_of, stores_of, without, writes_of, writing}
 pub use Rattle.sig_plan.specs.Order.{ComesBefore, HasNoCycle, IsCompiledOrder, IsCycle, IsOnCycle, IsOrdered, IsReady, Needs, Precedes, Reaches, Writes, directly, onward}
 pub use Rattle.sig_plan.specs.Parts.{AreImports, AreParts, AreSignalLinks, Carries, Imports, IsEarlierLink, IsOperation, IsOutput, IsWrittenElsewhere, PartsView, cluster_count, guarded, output, report_link, used}

@@ -2,7 +2,7 @@
 use Rattle.sig_plan.proofs.Common.{◌≡◌, ◌<◌, ◌≤◌, inl, inr, ℕ, Bool, true, List, length, get_or, sym, ap, ◌∙◌, subst, arith, Contains, Some, slice_get, SigId, get_at, get_within, KeepsTo, Reaction, Speaks, is_present, ref_depends, Depends, IsRefOf, test, CodeView, Instruction, IsStepOf, instructions_of, op_id, Gives, HasBefore, HasGuard, IsProvidedBefore, Provides, Operation, operation_in, operations_in, IsOutput, IsAccepted, PlanView, numbers_of, Slot, Step, Do, Send, Commit, Op, LinkInfo}
 use Rattle.sig_plan.proofs.Accepted.{plan_operations}
 use Rattle.sig_plan.proofs.Lists.{get_map, map_get}
-use Rattle.sig_plan.proofs.Naming.{step_instruction}
+use Rattle.sig_plan.proofs.NamedInSteps.{step_instruction}
 use Rattle.sig_plan.proofs.Provided.{committed_before, condition_before, read_before, sent_before}
 
 module _ (plan : PlanView) (is : IsAccepted plan) (proposal : List Bool) (reaction : Reaction) (speaks : Speaks plan.kernel reaction) (keeps : KeepsTo plan.clocks.conditions proposal reaction)

@@ -1,7 +1,7 @@
 -- Operations name signals and equations of their kernel.
 use Rattle.sig_plan.proofs.Common.{◌≡◌, ◌<◌, ℕ, inl, inr, true, List, [], ◌∷◌, length, sym, subst, Contains, All, Some, slice_get, All-cons, All-contains, All-nil, EqId, SigId, contains_at, contains_cons, contains_none, get_within, IsValid, form_within, Form, Fun, Delay, When, WhenConst, Default, Sync, Event, Kernel, HasOperations, Operation, Presence, operations_of, stores_of, without, writes_of, writing, Writes, Left, Right}
 use Rattle.sig_plan.proofs.EachOperation.{each_operation, first_below, only, operands_below, second_below, signal_below}
-use Rattle.sig_plan.proofs.Writing.{operations_written}
+use Rattle.sig_plan.proofs.WrittenSignals.{operations_written}
 
 module _ (kernel : Kernel) (presence : Presence) where
   abbrev ReadsBelow : Operation → Type 0

@@ -1,8 +1,8 @@
 -- A link has one writer and one reader, and what is sent on it is received at an equal position under an equal guard.
 use Rattle.sig_plan.proofs.Common.{◌≡◌, ◌≢◌, ◌<◌, ◌≤◌, ◌+◌, ◌*◌, ◌⊎◌, ◌++◌, inl, inr, ℕ, Bool, true, List, [], ◌∷◌, length, map, refl, sym, ap, ◌∙◌, subst, arith, Contains, zero, suc, None, Option, Some, fold, max, slice_get, ◌==◌, if◌then◌else◌, enumerate_from, range_with_len, le-max_left, le-max_right, Contains-append_left, Contains-append_right, SigId, Signal, at_contained, contains_at, contains_head, contains_later, IsValid, Kernel, HasOperations, Instruction, at_end, at_number, at_place, instructions_of, is_signal, links_of, links_to, over_order, op_id, report_links, reports_of, under, unguarded, CarriesFrom, IsFor, StandsAt, collects, commits, does, receives, reports, sends, Operation, AreParts, Imports, used, output, guarded, IsWrittenElsewhere, PartsView, report_link, AreWritten, Do, Send, Receive, Report, Collect, Commit, LinkInfo}
-use Rattle.sig_plan.proofs.Instructing.{chosen, instruction_for}
+use Rattle.sig_plan.proofs.InstructionsOfActors.{chosen, instruction_for}
 use Rattle.sig_plan.proofs.Lists.{contains_either, contains_flat, contains_mapped, contains_numbered, eq_false, eq_true, in_range, mapped_from}
-use Rattle.sig_plan.proofs.Writing.{operations_written}
+use Rattle.sig_plan.proofs.WrittenSignals.{operations_written}
 
 -- ---- clusters
 

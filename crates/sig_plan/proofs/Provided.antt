@@ -3,7 +3,7 @@ use Rattle.sig_plan.proofs.Common.{◌≡◌, ◌≢◌, ◌<◌, ◌≤◌, ◌
 use Rattle.sig_plan.proofs.Done.{present_written}
 use Rattle.sig_plan.proofs.EachOperation.{each_operation, only}
 use Rattle.sig_plan.proofs.Earlier.{needed_earlier, read_earlier}
-use Rattle.sig_plan.proofs.Instructing.{instruction_for}
+use Rattle.sig_plan.proofs.InstructionsOfActors.{instruction_for}
 use Rattle.sig_plan.proofs.LinkEnds.{carrying_ends, cluster_under, does_there, grows, receives_there}
 use Rattle.sig_plan.proofs.Positions.{stands_before}
 use Rattle.sig_plan.proofs.Orders.{stands_somewhere}

@@ -2,7 +2,7 @@
 use Rattle.sig_plan.proofs.Common.{◌≡◌, ◌≢◌, ◌<◌, ◌⊎◌, inl, inr, ℕ, Bool, false, true, List, length, get_or, refl, sym, ap, ◌∙◌, subst, arith, None, Some, slice_get, All-contains, SigId, contains_at, get_at, get_within, KeepsTo, Reaction, Speaks, status_at, ref_depends, asked_agree, asks_depends, asks_no_idle, Depends, truth_of, with_truth, Holds, IsRefOf, diagram, test, Asks, IsIdle, Ref, CodeView, Instruction, always, instructions_of, IsFor, collects, commits, does, receives, reports, sends, Guard, Operation, operation_in, operations_in, IsAccepted, PlanView, numbers_of, Slot, Op, LinkInfo, IsGuardOf, of_operation, of_slot}
 use Rattle.sig_plan.proofs.Accepted.{plan_operations}
 use Rattle.sig_plan.proofs.Earlier.{guards_alone, guards_idle}
-use Rattle.sig_plan.proofs.Instructing.{instruction_for}
+use Rattle.sig_plan.proofs.InstructionsOfActors.{instruction_for}
 use Rattle.sig_plan.proofs.Lists.{get_map}
 
 module _ (plan : PlanView) (is : IsAccepted plan) where

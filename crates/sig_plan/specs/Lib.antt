@@ -6,10 +6,10 @@ pub mod Codes
 pub mod Guards
 pub mod Holding
 pub mod Instructions
-pub mod Making
 pub mod Operations
 pub mod Order
 pub mod Parts
 pub mod Plans
 pub mod Shares
 pub mod Written
+pub mod inner

@@ -2,7 +2,7 @@
 
 ghost use Rattle.std.specs.Prelude.{◌≡◌, ◌*◌, ◌^◌, ◌<◌, ◌≤◌, ◌++◌, ◌∷◌};
 ghost use Rattle.sig_plan.specs.Prelude.{[], IfErr, IfOk, OnOk, length, map, true, AllPass, range_with_len, AreClocks, signal_id, IsStore, Keeps, IsValid, form_within};
-ghost use Rattle.sig_plan.specs.Making.{Adds, AreHeld, Extends, HaveGuards, HoldGuards, Spends};
+ghost use Rattle.sig_plan.specs.inner.Making.{Adds, AreHeld, Extends, HaveGuards, HoldGuards, Spends};
 ghost use Rattle.sig_plan.specs.Operations.{AreOperations, default_of, of_each, read_of, stores_of, writes_of};
 ghost use Rattle.sig_plan.specs.Shares.{KeepsToShare, share_of};
 

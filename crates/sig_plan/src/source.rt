@@ -2,7 +2,7 @@
 
 ghost use Rattle.std.specs.Prelude.{◌≡◌, ◌<◌, ◌∷◌};
 ghost use Rattle.sig_plan.specs.Prelude.{[], ℕ, List, Some, None, IfOk, Contains, length, guard_of, Holds, IsRefOf, IsStore, Keeps, Spans, test, Share, refusal};
-ghost use Rattle.sig_plan.specs.Making.{HaveGuards, IsMade};
+ghost use Rattle.sig_plan.specs.inner.Making.{HaveGuards, IsMade};
 ghost use Rattle.sig_plan.specs.Operations.{cluster_at, read_of, signal_in, signals_of, store_of, without, writing};
 
 use crate::op::{Op, OpKind, Reads};

@@ -28,5 +28,5 @@ unfoldable pub use Rattle.sig_tree.specs.declared.process.Process.{out-Process}
 pub use Rattle.sig_tree.specs.declared.process.RunOn.{RunOn}
 pub use Rattle.sig_tree.proofs.Common.{AreArguments, AreBodies, AreConstants, AreFurtherBodies, AreGroups, AreLocals, AreParams, ArePragmas, Between, Binary, Bodies, Boolean, Called, Cell, Computed, Declared, Delay, Each, Enclosed, Equations, Event, Expression, Further, Heading, Integer, IsAtLevel, IsBare, IsBody, IsClockEquation, IsConstant, IsDefinition, IsExpression, IsGroup, IsInit, IsInterface, IsItem, IsLeft, IsLocalGroup, IsModel, IsName, IsOptionalInit, IsOptionalOne, IsParam, IsPlacement, IsPlainItem, IsRight, IsWhere, Kind, Leaf, Limits, Listed, MayHave, MayStandInside, Modelled, Named, Number, Placement, ProcessModel, ProcessModels, RightSide, Separated, Stands, Terminal, Together, Token, Truth, Unary, binary_terminal, both_limits, default_level, delay_level, leaf, leaves_of, left_level, level_of, mixed_level, more_bodies, more_models, name_leaf, no_body, no_model, number, operand_level, primary_level, right_level, truth_word, unary_terminal, word}
 pub use Rattle.sig_print.specs.Canonical.{bare_words, bodies_words, body_list_words, body_words, canonical_text, constant_words, constants_words, expression_words, fitted, further, further_bodies_words, group_words, groups_words, heading_in, heading_words, init_words, integer_words, item_words, left_words, local_words, names_words, optional_init_words, params_words, pragma_words, pragmas_words, process_words, processes_words, right_words, separated, where_words}
-pub use Rattle.sig_print.specs.Prints.{Adds}
-pub use Rattle.sig_print.specs.Words.{after_blank, binary_word, kind_word, label, mark, name, number as number_of, on_new_line, one, reserved, truth, unary_word}
+pub use Rattle.sig_print.specs.inner.Prints.{Adds}
+pub use Rattle.sig_print.specs.inner.Words.{after_blank, binary_word, kind_word, label, mark, name, number as number_of, on_new_line, one, reserved, truth, unary_word}

@@ -3,7 +3,7 @@
 use Rattle.std.specs.Prelude.{◌++◌, ◌∷◌, if◌then◌else◌}
 use Rattle.sig_print.specs.Prelude.{ℕ, ℤ, pos, negsuc, suc, List, [], codes, Option, None, Some, nat_lt, flat_map, Spaced, printed_text, Name, Word, Mark, TreeName, Constant, Int, Bool, Param, Item, Expression, Named, Truth, Unary, Binary, Delay, Cell, Declared, Placement, RightSide, Computed, Called, Equations, Together, Defines, Equal, Bodies, no_body, more_bodies, Heading, ProcessModel, Modelled, ProcessModels, no_model, more_models, default_level, mixed_level, delay_level, primary_level, operand_level, left_level, right_level, level_of}
 use Rattle.sig_tree.specs.Syntax.{Number}
-use Rattle.sig_print.specs.Words.{after_blank, on_new_line, mark, reserved, name, number, one, label, truth, kind_word, unary_word, binary_word}
+use Rattle.sig_print.specs.inner.Words.{after_blank, on_new_line, mark, reserved, name, number, one, label, truth, kind_word, unary_word, binary_word}
 
 -- X { separator X }, and nothing for no X
 abbrev pub further : {A : Type 0} → (A → List Spaced) → Spaced → List A → List Spaced

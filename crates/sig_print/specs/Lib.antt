@@ -1,5 +1,3 @@
 pub mod Prelude
 pub mod Canonical
-pub mod Levels
-pub mod Prints
-pub mod Words
+pub mod inner

@@ -3,8 +3,8 @@
 ghost use Rattle.std.specs.Prelude.{◌∷◌};
 ghost use Rattle.sig_print.specs.Prelude.{map, [], codes, Mark, default_level, expression_of, right_side_of, equations_of};
 ghost use Rattle.sig_print.specs.Canonical.{body_list_words, body_words, constant_words, constants_words, expression_words, further, left_words, names_words, right_words, separated};
-ghost use Rattle.sig_print.specs.Prints.{Adds};
-ghost use Rattle.sig_print.specs.Words.{mark, name, on_new_line};
+ghost use Rattle.sig_print.specs.inner.Prints.{Adds};
+ghost use Rattle.sig_print.specs.inner.Words.{mark, name, on_new_line};
 
 use crate::answer::PrintAnswer;
 use crate::expression::{constant, expression};

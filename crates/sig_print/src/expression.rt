@@ -3,9 +3,9 @@
 ghost use Rattle.std.specs.Prelude.{◌≡◌, ◌++◌, ◌∷◌, if◌then◌else◌};
 ghost use Rattle.sig_print.specs.Prelude.{[], codes, expression_of};
 ghost use Rattle.sig_print.specs.Canonical.{constant_words, init_words, optional_init_words, expression_words, bare_words};
-ghost use Rattle.sig_print.specs.Levels.{level_number};
-ghost use Rattle.sig_print.specs.Prints.{Adds};
-ghost use Rattle.sig_print.specs.Words.{unary_text, binary_text, truth};
+ghost use Rattle.sig_print.specs.inner.Levels.{level_number};
+ghost use Rattle.sig_print.specs.inner.Prints.{Adds};
+ghost use Rattle.sig_print.specs.inner.Words.{unary_text, binary_text, truth};
 
 use crate::answer::PrintAnswer;
 use crate::level::{Level, is_looser, left_level, level_of, operand_level, right_level};

@@ -2,7 +2,7 @@
 
 ghost use Rattle.std.specs.Prelude.{◌≡◌};
 ghost use Rattle.sig_print.specs.Prelude.{nat_lt, unary_level, operand_level, binary_level, left_level, right_level, level_of, expression_of};
-ghost use Rattle.sig_print.specs.Levels.{level_number};
+ghost use Rattle.sig_print.specs.inner.Levels.{level_number};
 
 use sig_tree::{BinOp, Expr, UnOp};
 

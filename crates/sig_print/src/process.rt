@@ -3,8 +3,8 @@
 ghost use Rattle.std.specs.Prelude.{◌≡◌, ◌++◌, ◌∷◌};
 ghost use Rattle.sig_print.specs.Prelude.{[], IfOk, codes, map, declared_of, placement_of, model_of, program_of, flat_map};
 ghost use Rattle.sig_print.specs.Canonical.{canonical_text, further, group_words, groups_words, heading_in, heading_words, item_words, local_words, params_words, pragma_words, pragmas_words, process_words, separated, where_words};
-ghost use Rattle.sig_print.specs.Prints.{Adds};
-ghost use Rattle.sig_print.specs.Words.{kind_text, mark};
+ghost use Rattle.sig_print.specs.inner.Prints.{Adds};
+ghost use Rattle.sig_print.specs.inner.Words.{kind_text, mark};
 
 use crate::answer::PrintAnswer;
 use crate::equation::{body, names};

@@ -11,7 +11,7 @@ pub use Rattle.sig_tree.specs.Rules.{ByCall, Itself, Reaches}
 pub use Rattle.sig_scope.specs.Walked.{names_in, process_texts}
 pub use Rattle.sig_scope.specs.declared.scope.Interface.{Interface}
 pub use Rattle.sig_scope.proofs.Common.{Body, Name, ProcessModel, bodies_in, bytes_eq-Decides, equations_of, get_or_default, interface_models, length-map, map-map, model_of, name_of, place_of, take_more}
-pub use Rattle.sig_scope.proofs.Growing.{grown, lengthens}
-pub use Rattle.sig_scope.proofs.Placing.{find_none, find_some, within}
+pub use Rattle.sig_scope.proofs.LongerLists.{grown, lengthens}
+pub use Rattle.sig_scope.proofs.FirstPlaces.{find_none, find_some, within}
 pub use Rattle.sig_scope.proofs.Trees.{body_is}
 pub use Rattle.sig_recursion.specs.Calls.{Here, IsCovered, IsFalling, IsGraph, IsPassed, IsVisited, IsWalk, Path, There, Visits, callees_at, graph_in, graph_of, list_of, places_called, rank_of}

@@ -1,8 +1,8 @@
 pub mod Common
-pub mod Calling
-pub mod Ranking
-pub mod Walking
+pub mod CallsByPlace
+pub mod FallingRanks
+pub mod CallWalks
 pub use Common.*
-pub use Calling.*
-pub use Ranking.*
-pub use Walking.*
+pub use CallsByPlace.*
+pub use FallingRanks.*
+pub use CallWalks.*

@@ -20,7 +20,7 @@ pub use Rattle.sig_dd.specs.declared.answer.DdAnswer.{DdAnswer}
 pub use Rattle.sig_dd.specs.declared.answer.DdAnswer.TheVariants.{Budget, OutOfMemory}
 pub use Rattle.sig_dd.specs.declared.node.Node.{Node}
 pub use Rattle.sig_dd.specs.declared.node.Ref.{Ref}
-pub use Rattle.sig_dd.proofs.Adding.{Share-then, Share-wider}
+pub use Rattle.sig_dd.proofs.CallsInARow.{Share-then, Share-wider}
 pub use Rattle.sig_dd.proofs.CallerLemmas.{Agree-kept, Depends-of_one, Depends-of_two, Holds-kept, IsRefOf-kept, Keeps-itself, Keeps-trans, Spans-kept, Spans-of}
 pub use Rattle.sig_dd.proofs.Common.{Agree, Depends, HasAll, HoldAll, Holds, IsRefOf, IsRefused, IsStore, Keeps, Share, Shares, SpanAll, Spans, StoreView, allowance, cases_eq, cases_lt, get_or_from_slice_get, length-map, position-Some, refusal, slice_get-get_or, slice_get-map, slice_get_within, test}
 pub use Rattle.sig_dd.proofs.Dependence.{choice_depends, variable_depends}
@@ -32,25 +32,25 @@ pub use Rattle.sig_clock.proofs.Common.{Add, AllByRecursion, Allows, AnInteger, 
 pub use Rattle.sig_clock.proofs.Lists.{at_contained, contains_at, contains_cons, contains_head, contains_later, contains_none, get_at, get_within, item_at, written}
 pub use Rattle.sig_clock.proofs.ReactionLemmas.{absent_in_silence, present_together, statuses_are_same, truths_are_same}
 pub use Rattle.sig_rel.specs.Answers.{IsFromStore}
-pub use Rattle.sig_rel.specs.Elements.{IsCut, IsGiven, IsGivenBy, entry_of, signal_of, truths_read}
-pub use Rattle.sig_rel.specs.FreeColumns.{Adds, AreFilled, AreFresh, IsProposal, IsProposalBelow, IsSystemOf, truth_ref}
-pub use Rattle.sig_rel.specs.GeneralColumns.{AreSubstitutedColumns, IsSystemWith, numbers_of, substituting}
-pub use Rattle.sig_rel.specs.Numberings.{AreGiven, AreNumbers, HasNumbers, IsBoolean, IsOwn, Retains, given_at, next_after, number_of}
-pub use Rattle.sig_rel.specs.OwnColumns.{AreOwnColumns, IsUnknownWhere, classes_below, count_one, is_own, truths_below, unknown_of}
+pub use Rattle.sig_rel.specs.inner.Elements.{IsCut, IsGiven, IsGivenBy, entry_of, signal_of, truths_read}
+pub use Rattle.sig_rel.specs.inner.FreeColumns.{Adds, AreFilled, AreFresh, IsProposal, IsProposalBelow, IsSystemOf, truth_ref}
+pub use Rattle.sig_rel.specs.inner.GeneralColumns.{AreSubstitutedColumns, IsSystemWith, numbers_of, substituting}
+pub use Rattle.sig_rel.specs.inner.Numberings.{AreGiven, AreNumbers, HasNumbers, IsBoolean, IsOwn, Retains, given_at, next_after, number_of}
+pub use Rattle.sig_rel.specs.inner.OwnColumns.{AreOwnColumns, IsUnknownWhere, classes_below, count_one, is_own, truths_below, unknown_of}
 pub use Rattle.sig_rel.specs.Relations.{AreUnknowns, IsRelation, IsUnknownCount, IsUsed, RelationView, is_boolean, reaction_in, status_in, truth_in}
-pub use Rattle.sig_rel.specs.Residues.{IsOwnStatus, IsPresentFrom, IsSomePresent, is_met, left_refs}
-pub use Rattle.sig_rel.specs.Rules.{AreRules, AreValues, EntersAfter, HoldsAfter, StandsAfter, Values, has, operand_value, presence_by, truth_by_form, value_status}
-pub use Rattle.sig_rel.specs.Firsts.{AreCounted, AreFirsts, first_or, first_where, is_unexcused, is_unexcused_by, kept_by}
-pub use Rattle.sig_rel.specs.Schedules.{AreNamed, HasPlace, IsFoundAmong, IsOrderOfWriting, IsPlannedStep, IsSchedule, IsScheduling, IsStepBy, IsTaken, IsWhole, MayBeWritten, ReadsBefore, is_left, is_left_truth, is_waiting, with_counted, with_defined}
+pub use Rattle.sig_rel.specs.inner.Residues.{IsOwnStatus, IsPresentFrom, IsSomePresent, is_met, left_refs}
+pub use Rattle.sig_rel.specs.inner.Rules.{AreRules, AreValues, EntersAfter, HoldsAfter, StandsAfter, Values, has, operand_value, presence_by, truth_by_form, value_status}
+pub use Rattle.sig_rel.specs.inner.Firsts.{AreCounted, AreFirsts, first_or, first_where, is_unexcused, is_unexcused_by, kept_by}
+pub use Rattle.sig_rel.specs.inner.Schedules.{AreNamed, HasPlace, IsFoundAmong, IsOrderOfWriting, IsPlannedStep, IsSchedule, IsScheduling, IsStepBy, IsTaken, IsWhole, MayBeWritten, ReadsBefore, is_left, is_left_truth, is_waiting, with_counted, with_defined}
 pub use Rattle.sig_rel.specs.Shares.{IsRefusedFor, KeepsToShare, KeepsToTriangularShare, Leads, Makes, share_of, triangular_share_of}
-pub use Rattle.sig_rel.specs.Statuses.{AreUnknownsOf, LieWithin, itself, refs_of, status_by}
-pub use Rattle.sig_rel.specs.Substituted.{AreSubstituted, Fits, IsCutClass, IsCutTruth}
-pub use Rattle.sig_rel.specs.Substitutions.{ArePlain, AreWritten, Gives, GivesTruth, HoldColumns, IsPartlyWritten, IsSet, IsWhollyWritten, IsWritten, SpanColumns, given_by, no_ref, operand_at, present_at, ref_at, row_at, size_of, step_at, steps, truth_at, values_at}
+pub use Rattle.sig_rel.specs.inner.Statuses.{AreUnknownsOf, LieWithin, itself, refs_of, status_by}
+pub use Rattle.sig_rel.specs.inner.Substituted.{AreSubstituted, Fits, IsCutClass, IsCutTruth}
+pub use Rattle.sig_rel.specs.inner.Substitutions.{ArePlain, AreWritten, Gives, GivesTruth, HoldColumns, IsPartlyWritten, IsSet, IsWhollyWritten, IsWritten, SpanColumns, given_by, no_ref, operand_at, present_at, ref_at, row_at, size_of, step_at, steps, truth_at, values_at}
 pub use Rattle.sig_rel.specs.Systems.{AreConditions, IsFreeSystem, IsOver, IsSolution, IsSystem, IsVariable, SystemView, proposed, reading, status_read, statuses_read}
-pub use Rattle.sig_rel.specs.Tables.{AreMarks, AreRulesOf, IsBegun, IsFreshWithin, IsMarkedWithin, IsPlaced, IsStuck, IsTriangleOf, IsWithin, MayBePlaced, allows_top, boolean_ready, class_ready, counted_at, counted_for, counted_if, defined_for, gives, governs, has_both, has_class, has_operand, has_operand_of, has_truth_of, has_whole, is_excused, is_numbered, is_top_class, may_enter, may_hold, presence_ready, presence_ready_at, repeats, target_number, truth_ready, truth_ready_at, unmarked, with_class, with_truth_of}
+pub use Rattle.sig_rel.specs.inner.Tables.{AreMarks, AreRulesOf, IsBegun, IsFreshWithin, IsMarkedWithin, IsPlaced, IsStuck, IsTriangleOf, IsWithin, MayBePlaced, allows_top, boolean_ready, class_ready, counted_at, counted_for, counted_if, defined_for, gives, governs, has_both, has_class, has_operand, has_operand_of, has_truth_of, has_whole, is_excused, is_numbered, is_top_class, may_enter, may_hold, presence_ready, presence_ready_at, repeats, target_number, truth_ready, truth_ready_at, unmarked, with_class, with_truth_of}
 pub use Rattle.sig_rel.specs.Triangles.{Governs, HasClasses, HasOperandOf, HasTruths, IsClass, IsCounted, IsTop, IsTriangle, IsTriangular, MayEnter, MayHold, MayStand, Repeats, classes_among, form_at, operand_signals, tested}
-pub use Rattle.sig_rel.specs.TruthFunctions.{truth_by, truth_given}
-pub use Rattle.sig_rel.specs.Variables.{AreVariables, IsVariableAt, IsVariableOf}
+pub use Rattle.sig_rel.specs.inner.TruthFunctions.{truth_by, truth_given}
+pub use Rattle.sig_rel.specs.inner.Variables.{AreVariables, IsVariableAt, IsVariableOf}
 pub use Rattle.sig_rel.specs.declared.answer.RelAnswer.{RelAnswer}
 pub use Rattle.sig_rel.specs.declared.elements.Element.{Element}
 pub use Rattle.sig_rel.specs.declared.elements.Element.TheVariants.{Presence, Truth}

@@ -1,6 +1,6 @@
 -- Columns that were written by a schedule, with what is left to be met, are the system of a kernel's clocks.
 use Rattle.sig_rel.proofs.Common.{◌≡◌, ◌<◌, ◌≤◌, ◌+◌, ◌-◌, inl, inr, ℕ, suc, Bool, true, false, List, [], ◌∷◌, length, get_or, map, Option, None, Some, refl, sym, ap, ◌∙◌, subst, arith, Contains, if◌then◌else◌, IsTrue, is_some, slice_get, slice_index, option_map, list_all, range_with_len, and_parts, cases_Bool, cases_lt, eq-eqb, eqb-true, false≢true, length-map, get_or-range_with_len, length-map-range_with_len, length-range_with_len, get_or_from_slice_get, slice_get-map, slice_get_past, SigId, IsValid, Equation, Kernel, Allows, KeepsTo, is_condition, is_free, IsReaction, Reaction, Speaks, Status, is_present, is_silent, status_at, contains_at, absent_in_silence, truth_of, with_truth, Holds, Spans, test, Node, Ref, truth_ref, number_of, AreUnknowns, IsUnknownCount, IsUsed, is_boolean, truth_in, IsPresentFrom, is_met, Values, has, value_status, IsSchedule, AreSubstituted, Fits, IsCutTruth, HoldColumns, SpanColumns, present_at, truth_at, values_at, AreConditions, IsOver, IsSolution, IsSystem, IsVariable, SystemView, proposed, reading, status_read, statuses_read, Unknowns, Schedule, Columns}
-use Rattle.sig_rel.proofs.Agreeing.{agreeing_all}
+use Rattle.sig_rel.proofs.ScheduledReaction.{agreeing_all}
 use Rattle.sig_rel.proofs.ChosenTruths.{choices}
 use Rattle.sig_rel.proofs.ClassLemmas.{least_of_class, least_own, least_within}
 use Rattle.sig_rel.proofs.FittingTruths.{changed_fits, chosen_fit, reading_fits}

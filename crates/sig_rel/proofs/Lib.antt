@@ -12,7 +12,7 @@ pub mod UsedLemmas
 pub mod ShareLemmas
 pub mod RelationLemmas
 pub mod Reactions
-pub mod Staying
+pub mod KeptFunctions
 pub mod TriangleKinds
 pub mod OnceDefined
 pub mod TriangleLemmas
@@ -35,8 +35,8 @@ pub mod AddingLemmas
 pub mod FilledLemmas
 pub mod TriangleOrders
 pub mod ResidueLemmas
-pub mod Telling
-pub mod Agreeing
+pub mod ToldElements
+pub mod ScheduledReaction
 pub mod ScheduleLemmas
 pub mod BestSignals
 pub mod ValueReactions
@@ -75,7 +75,7 @@ pub use ScheduleLemmas.*
 pub use Searches.*
 pub use SeenReactions.*
 pub use SignalNumbers.*
-pub use Staying.*
+pub use KeptFunctions.*
 pub use StepLemmas.*
 pub use SubstitutedColumns.*
 pub use TriangleOrders.*

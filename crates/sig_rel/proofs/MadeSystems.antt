@@ -2,7 +2,7 @@
 use Rattle.sig_rel.proofs.Common.{◌≡◌, ◌+◌, ◌*◌, ℕ, Bool, List, Result, Ok, length, sym, ap, ◌∙◌, subst, IsTrue, list_all, SigId, IsValid, Equation, Kernel, Agree, StoreView, test, DdAnswer, AreSubstitutedColumns, IsSystemWith, numbers_of, classes_below, IsPresentFrom, IsSomePresent, is_met, left_refs, Values, IsSchedule, Makes, AreUnknownsOf, LieWithin, AreSubstituted, SpanColumns, present_at, values_at, AreConditions, IsSystem, SystemView, Left, Unknowns, Schedule, Columns}
 use Rattle.sig_rel.proofs.GeneralSystems.{is_system}
 use Rattle.sig_rel.proofs.ResidueLemmas.{columns_hold, columns_span, columns_values}
-use Rattle.sig_rel.proofs.Staying.{test_kept}
+use Rattle.sig_rel.proofs.KeptFunctions.{test_kept}
 
 -- how many calls ask what is left
 abbrev pub asking : Kernel → List ℕ → ℕ

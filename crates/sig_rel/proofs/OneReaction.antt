@@ -3,7 +3,7 @@ use Rattle.sig_rel.proofs.Common.{◌≡◌, ◌<◌, inl, inr, ℕ, zero, suc, 
 use Rattle.sig_rel.proofs.ChosenTruths.{all_statuses}
 use Rattle.sig_rel.proofs.ClassLemmas.{least_within, least_own}
 use Rattle.sig_rel.proofs.FormLemmas.{inside, met, three, two}
-use Rattle.sig_rel.proofs.Telling.{Told, class_told, of_class as class_presence, told_whole, truth_told}
+use Rattle.sig_rel.proofs.ToldElements.{Told, class_told, of_class as class_presence, told_whole, truth_told}
 use Rattle.sig_rel.proofs.TriangleLemmas.{before_place, class_place, not_own, place_of_class}
 use Rattle.sig_rel.proofs.ValueFits.{or_else_present}
 

@@ -1,6 +1,6 @@
 -- What is asked of columns where an equation is to be met.
 use Rattle.sig_rel.proofs.Common.{◌≡◌, ◌<◌, ◌≤◌, ◌+◌, ◌-◌, inl, inr, arith, ℕ, ℤ, Bool, true, false, List, length, get_or, take, None, Some, refl, sym, ap, ◌∙◌, subst, if◌then◌else◌, ◌&&◌, ◌||◌, list_all, and_from, and_parts, cases_eq, false≢true, or_cases, list_all_more, SigId, Signal, kind_at, Equation, Form, When, WhenConst, Default, Status, constant_truth, has_truth, same_status, where_true, Holds, Keeps, Spans, StoreView, test, HoldAll, SpanAll, Node, Ref, Holds-kept, Spans-kept, is_own, IsOwnStatus, IsSomePresent, is_met, Values, has, presence_by, truth_by_form, value_status, refs_of, status_by, HoldColumns, SpanColumns, present_at, truth_at, values_at, Known, Columns}
-use Rattle.sig_rel.proofs.Staying.{or_else_is, status, test_kept, where_true_is}
+use Rattle.sig_rel.proofs.KeptFunctions.{or_else_is, status, test_kept, where_true_is}
 
 -- columns stay as a store grows
 module _ (s t : StoreView) (kept : Keeps s t) (columns : Columns) (held : HoldColumns s.nodes columns) where

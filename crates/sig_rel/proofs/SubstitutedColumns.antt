@@ -3,7 +3,7 @@ use Rattle.sig_rel.proofs.Common.{◌≡◌, ◌<◌, ℕ, Bool, true, List, len
 use Rattle.sig_rel.proofs.ElementLemmas.{held_at}
 use Rattle.sig_rel.proofs.OwnLemmas.{class_unknown}
 use Rattle.sig_rel.proofs.ScheduleLemmas.{named_class}
-use Rattle.sig_rel.proofs.Staying.{test_kept}
+use Rattle.sig_rel.proofs.KeptFunctions.{test_kept}
 
 not_both : (row : Option (Option ℕ)) (number : ℕ) → row ≡ Some None → row ≡ Some (Some number) → ⊥
 not_both row number none some = let none_of : Option ℕ = None in let both : Some none_of ≡ Some (Some number) = sym none ∙ some in cc

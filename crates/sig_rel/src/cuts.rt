@@ -2,7 +2,7 @@
 
 ghost use Rattle.std.specs.Prelude.{◌≡◌, ◌⊎◌};
 ghost use Rattle.sig_rel.specs.Prelude.{Some, IfOk, MatchOption, IsValid};
-ghost use Rattle.sig_rel.specs.Schedules.{IsFoundAmong, IsPlannedStep, IsScheduling, IsWhole, is_waiting};
+ghost use Rattle.sig_rel.specs.inner.Schedules.{IsFoundAmong, IsPlannedStep, IsScheduling, IsWhole, is_waiting};
 
 use crate::elements::Element;
 use crate::links::number_at;

@@ -3,8 +3,8 @@
 
 ghost use Rattle.std.specs.Prelude.{◌≡◌, ◌<◌, ◌==◌, if◌then◌else◌};
 ghost use Rattle.sig_rel.specs.Prelude.{ℕ, None, length, slice_index_or, IfOk, IsValid, defines};
-ghost use Rattle.sig_rel.specs.Firsts.{AreCounted, AreFirsts, first_or, first_where, is_unexcused, kept_by};
-ghost use Rattle.sig_rel.specs.Tables.{gives};
+ghost use Rattle.sig_rel.specs.inner.Firsts.{AreCounted, AreFirsts, first_or, first_where, is_unexcused, kept_by};
+ghost use Rattle.sig_rel.specs.inner.Tables.{gives};
 
 use crate::rules::{class_of, defines, gives, is_excused, no_rows, target_number};
 use sig_base::SigId;

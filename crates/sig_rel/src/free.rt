@@ -2,11 +2,11 @@
 
 ghost use Rattle.std.specs.Prelude.{◌≡◌, ◌≤◌};
 ghost use Rattle.sig_rel.specs.Prelude.{length, map, slice_index, IfErr, IfOk, MatchOption, OnOk, range_with_len, IsStore, Keeps, IsValid};
-ghost use Rattle.sig_rel.specs.FreeColumns.{Adds, AreFilled, AreFresh, IsSystemOf, truth_ref};
+ghost use Rattle.sig_rel.specs.inner.FreeColumns.{Adds, AreFilled, AreFresh, IsSystemOf, truth_ref};
 ghost use Rattle.sig_rel.specs.Shares.{KeepsToTriangularShare, triangular_share_of};
-ghost use Rattle.sig_rel.specs.Substitutions.{present_at};
+ghost use Rattle.sig_rel.specs.inner.Substitutions.{present_at};
 ghost use Rattle.sig_rel.specs.Systems.{AreConditions, IsFreeSystemOf};
-ghost use Rattle.sig_rel.specs.Tables.{IsTriangleOf};
+ghost use Rattle.sig_rel.specs.inner.Tables.{IsTriangleOf};
 ghost use Rattle.sig_rel.specs.Triangles.{IsTriangular};
 ghost use Rattle.sig_rel.specs.declared.answer.RelAnswer.TheVariants.{OutOfMemory};
 

@@ -2,7 +2,7 @@
 
 ghost use Rattle.std.specs.Prelude.{◌≡◌, ◌∷◌, if◌then◌else◌};
 ghost use Rattle.sig_rel.specs.Prelude.{[], Bool, List, None, Some, list_any, Signal, is_integer, Operand};
-ghost use Rattle.sig_rel.specs.TruthFunctions.{truth_given, truth_of_some};
+ghost use Rattle.sig_rel.specs.inner.TruthFunctions.{truth_given, truth_of_some};
 
 use sig_base::{Kind, Signal};
 use sig_kernel::{FunOp, Operand};

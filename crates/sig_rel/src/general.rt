@@ -3,16 +3,16 @@
 
 ghost use Rattle.std.specs.Prelude.{◌≡◌, ◌≤◌, ◌+◌, ◌*◌, ◌<◌, ◌&&◌, ◌||◌};
 ghost use Rattle.sig_rel.specs.Prelude.{ℕ, true, length, map, slice_get, IfOk, OnOk, list_all, Agree, Holds, IsStore, Keeps, test, SpanAll, IsValid};
-ghost use Rattle.sig_rel.specs.FreeColumns.{Adds, AreFresh};
-ghost use Rattle.sig_rel.specs.GeneralColumns.{AreSubstitutedColumns, IsSystemWith, substituting};
-ghost use Rattle.sig_rel.specs.Numberings.{number_of};
-ghost use Rattle.sig_rel.specs.OwnColumns.{classes_below, count_one, is_own};
+ghost use Rattle.sig_rel.specs.inner.FreeColumns.{Adds, AreFresh};
+ghost use Rattle.sig_rel.specs.inner.GeneralColumns.{AreSubstitutedColumns, IsSystemWith, substituting};
+ghost use Rattle.sig_rel.specs.inner.Numberings.{number_of};
+ghost use Rattle.sig_rel.specs.inner.OwnColumns.{classes_below, count_one, is_own};
 ghost use Rattle.sig_rel.specs.Relations.{IsUnknownCount};
-ghost use Rattle.sig_rel.specs.Residues.{IsSomePresent, is_met, left_refs};
-ghost use Rattle.sig_rel.specs.Schedules.{IsSchedule};
+ghost use Rattle.sig_rel.specs.inner.Residues.{IsSomePresent, is_met, left_refs};
+ghost use Rattle.sig_rel.specs.inner.Schedules.{IsSchedule};
 ghost use Rattle.sig_rel.specs.Shares.{KeepsToShare, Makes};
-ghost use Rattle.sig_rel.specs.Statuses.{AreUnknownsOf, LieWithin, itself};
-ghost use Rattle.sig_rel.specs.Substitutions.{HoldColumns, SpanColumns, present_at, values_at};
+ghost use Rattle.sig_rel.specs.inner.Statuses.{AreUnknownsOf, LieWithin, itself};
+ghost use Rattle.sig_rel.specs.inner.Substitutions.{HoldColumns, SpanColumns, present_at, values_at};
 ghost use Rattle.sig_rel.specs.Systems.{AreConditions, IsSystem};
 
 use crate::answer::RelAnswer;

@@ -2,9 +2,9 @@
 
 ghost use Rattle.std.specs.Prelude.{◌≡◌, ◌<◌, ◌+◌, ◌^◌};
 ghost use Rattle.sig_rel.specs.Prelude.{ℕ, true, None, length, map, replicate, slice_get, slice_index_or, vec_len, IfOk, conditions_of, AreLeast, IsValid, form_within, operand_within, list_all};
-ghost use Rattle.sig_rel.specs.Numberings.{AreGiven, HasNumbers, Retains, given_at, next_after, number_of};
+ghost use Rattle.sig_rel.specs.inner.Numberings.{AreGiven, HasNumbers, Retains, given_at, next_after, number_of};
 ghost use Rattle.sig_rel.specs.Relations.{is_boolean};
-ghost use Rattle.sig_rel.specs.Statuses.{AreUnknownsOf, LieWithin};
+ghost use Rattle.sig_rel.specs.inner.Statuses.{AreUnknownsOf, LieWithin};
 
 use crate::elements::Element;
 use sig_base::Kind;

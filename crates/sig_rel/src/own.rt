@@ -3,10 +3,10 @@
 
 ghost use Rattle.std.specs.Prelude.{◌≡◌, ◌<◌, ◌≤◌, ◌+◌};
 ghost use Rattle.sig_rel.specs.Prelude.{ℕ, Some, is_some, length, slice_get, IfOk, OnOk, SigId, IsStore};
-ghost use Rattle.sig_rel.specs.Elements.{signal_of};
-ghost use Rattle.sig_rel.specs.FreeColumns.{Adds, AreFresh, IsProposal};
-ghost use Rattle.sig_rel.specs.OwnColumns.{AreOwnColumns, IsUnknownWhere, classes_below, count_one, truths_below, unknown_of};
-ghost use Rattle.sig_rel.specs.Variables.{AreVariables, IsVariableAt};
+ghost use Rattle.sig_rel.specs.inner.Elements.{signal_of};
+ghost use Rattle.sig_rel.specs.inner.FreeColumns.{Adds, AreFresh, IsProposal};
+ghost use Rattle.sig_rel.specs.inner.OwnColumns.{AreOwnColumns, IsUnknownWhere, classes_below, count_one, truths_below, unknown_of};
+ghost use Rattle.sig_rel.specs.inner.Variables.{AreVariables, IsVariableAt};
 
 use crate::elements::Element;
 use crate::firsts::row;

@@ -2,9 +2,9 @@
 
 ghost use Rattle.std.specs.Prelude.{◌≡◌, ◌<◌, ◌≤◌, ◌∷◌, ◌++◌};
 ghost use Rattle.sig_rel.specs.Prelude.{[], ℕ, true, false, length, slice_get, slice_index_or, IfOk, OnOk, MatchOption, MatchBool, list_all, IsValid};
-ghost use Rattle.sig_rel.specs.Schedules.{is_left, may_write};
+ghost use Rattle.sig_rel.specs.inner.Schedules.{is_left, may_write};
 ghost use Rattle.sig_rel.specs.Systems.{AreConditions};
-ghost use Rattle.sig_rel.specs.Tables.{AreMarks, AreRulesOf, IsPlaced, IsStuck, IsTriangleOf, IsWithin, MayBePlaced, boolean_ready, has_both, has_class, has_operand, has_truth_of, has_whole, is_top_class, may_enter, may_hold, presence_ready, truth_ready, with_class, with_truth_of};
+ghost use Rattle.sig_rel.specs.inner.Tables.{AreMarks, AreRulesOf, IsPlaced, IsStuck, IsTriangleOf, IsWithin, MayBePlaced, boolean_ready, has_both, has_class, has_operand, has_truth_of, has_whole, is_top_class, may_enter, may_hold, presence_ready, truth_ready, with_class, with_truth_of};
 ghost use Rattle.sig_rel.specs.Triangles.{IsTriangular};
 
 use crate::elements::Element;

@@ -2,12 +2,12 @@
 
 ghost use Rattle.std.specs.Prelude.{◌≡◌, ◌*◌, ◌&&◌, ◌∷◌, if◌then◌else◌};
 ghost use Rattle.sig_rel.specs.Prelude.{[], ℕ, Bool, true, List, None, Some, length, IfOk, list_all, has_truth, same_status, where_present, Agree, Holds, IsStore, test, SpanAll};
-ghost use Rattle.sig_rel.specs.Residues.{IsOwnStatus, is_met};
-ghost use Rattle.sig_rel.specs.Rules.{presence_by, truth_by_form, value_status};
+ghost use Rattle.sig_rel.specs.inner.Residues.{IsOwnStatus, is_met};
+ghost use Rattle.sig_rel.specs.inner.Rules.{presence_by, truth_by_form, value_status};
 ghost use Rattle.sig_rel.specs.Shares.{Makes};
-ghost use Rattle.sig_rel.specs.Statuses.{itself};
-ghost use Rattle.sig_rel.specs.Substitutions.{HoldColumns, SpanColumns, operand_at, values_at};
-ghost use Rattle.sig_rel.specs.TruthFunctions.{truth_given};
+ghost use Rattle.sig_rel.specs.inner.Statuses.{itself};
+ghost use Rattle.sig_rel.specs.inner.Substitutions.{HoldColumns, SpanColumns, operand_at, values_at};
+ghost use Rattle.sig_rel.specs.inner.TruthFunctions.{truth_given};
 
 use crate::functions::truth_function;
 use crate::statuses::Known;

@@ -2,10 +2,10 @@
 
 ghost use Rattle.std.specs.Prelude.{◌≡◌, ◌<◌};
 ghost use Rattle.sig_rel.specs.Prelude.{ℕ, false, true, None, length, map, replicate, slice_index, IfOk, MatchOption, list_all, list_any, range_with_len, IsValid, defines};
-ghost use Rattle.sig_rel.specs.Firsts.{AreFirsts};
-ghost use Rattle.sig_rel.specs.Schedules.{AreNamed};
+ghost use Rattle.sig_rel.specs.inner.Firsts.{AreFirsts};
+ghost use Rattle.sig_rel.specs.inner.Schedules.{AreNamed};
 ghost use Rattle.sig_rel.specs.Systems.{AreConditions};
-ghost use Rattle.sig_rel.specs.Tables.{AreRulesOf, allows_top, counted_for, defined_for, gives, governs, has_operand_of, is_excused, is_numbered, is_top_class, repeats, target_number};
+ghost use Rattle.sig_rel.specs.inner.Tables.{AreRulesOf, allows_top, counted_for, defined_for, gives, governs, has_operand_of, is_excused, is_numbered, is_top_class, repeats, target_number};
 
 use crate::firsts::{first_defining, first_given, row, without_unexcused};
 use crate::numbering::is_boolean;

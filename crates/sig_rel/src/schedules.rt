@@ -2,7 +2,7 @@
 
 ghost use Rattle.std.specs.Prelude.{◌≡◌};
 ghost use Rattle.sig_rel.specs.Prelude.{None, slice_index_or, IfOk, IfSome, MatchOption, OnOk, IsValid, Kernel};
-ghost use Rattle.sig_rel.specs.Schedules.{HasPlace, IsPlannedStep, IsSchedule, IsScheduling, IsTaken, IsWhole, MayBeWritten, is_left, is_waiting};
+ghost use Rattle.sig_rel.specs.inner.Schedules.{HasPlace, IsPlannedStep, IsSchedule, IsScheduling, IsTaken, IsWhole, MayBeWritten, is_left, is_waiting};
 ghost use Rattle.sig_rel.specs.Systems.{AreConditions};
 
 use crate::elements::Element;

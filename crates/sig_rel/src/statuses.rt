@@ -3,7 +3,7 @@
 ghost use Rattle.std.specs.Prelude.{◌∷◌, if◌then◌else◌};
 ghost use Rattle.sig_rel.specs.Prelude.{[], IfOk, true, same_status, same_truth, Holds, test, Agree, SpanAll, HoldAll};
 ghost use Rattle.sig_rel.specs.Shares.{Makes};
-ghost use Rattle.sig_rel.specs.Statuses.{itself, refs_of, status_by};
+ghost use Rattle.sig_rel.specs.inner.Statuses.{itself, refs_of, status_by};
 
 use sig_dd::{DdAnswer, Ref, Store};
 

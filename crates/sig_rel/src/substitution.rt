@@ -2,12 +2,12 @@
 
 ghost use Rattle.std.specs.Prelude.{◌≡◌, ◌<◌, ◌∷◌, ◌&&◌};
 ghost use Rattle.sig_rel.specs.Prelude.{[], not, ℕ, List, Bool, Some, length, slice_index, IfOk, Agree, constant_truth, same_truth, Holds, IsStore, Spans, test, SpanAll, kind_at};
-ghost use Rattle.sig_rel.specs.Elements.{signal_of};
-ghost use Rattle.sig_rel.specs.Rules.{presence_by};
+ghost use Rattle.sig_rel.specs.inner.Elements.{signal_of};
+ghost use Rattle.sig_rel.specs.inner.Rules.{presence_by};
 ghost use Rattle.sig_rel.specs.Shares.{Makes};
-ghost use Rattle.sig_rel.specs.Statuses.{itself};
-ghost use Rattle.sig_rel.specs.Substitutions.{Gives, GivesTruth, HoldColumns, IsSet, SpanColumns, operand_at, present_at, row_at, truth_at, values_at};
-ghost use Rattle.sig_rel.specs.TruthFunctions.{truth_by, truth_given};
+ghost use Rattle.sig_rel.specs.inner.Statuses.{itself};
+ghost use Rattle.sig_rel.specs.inner.Substitutions.{Gives, GivesTruth, HoldColumns, IsSet, SpanColumns, operand_at, present_at, row_at, truth_at, values_at};
+ghost use Rattle.sig_rel.specs.inner.TruthFunctions.{truth_by, truth_given};
 
 use crate::elements::Element;
 use crate::functions::{TruthFunction, truth_function};

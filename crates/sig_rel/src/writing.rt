@@ -2,10 +2,10 @@
 
 ghost use Rattle.std.specs.Prelude.{◌≡◌, ◌*◌, ◌<◌};
 ghost use Rattle.sig_rel.specs.Prelude.{length, IfOk, MatchOption, OnOk, IsStore, IsValid};
-ghost use Rattle.sig_rel.specs.Elements.{IsCut, IsGiven, signal_of};
+ghost use Rattle.sig_rel.specs.inner.Elements.{IsCut, IsGiven, signal_of};
 ghost use Rattle.sig_rel.specs.Shares.{Makes};
-ghost use Rattle.sig_rel.specs.Substitutions.{ArePlain, HoldColumns, IsPartlyWritten, IsWritten, SpanColumns, no_ref, step_at, steps};
-ghost use Rattle.sig_rel.specs.Schedules.{IsOrderOfWriting};
+ghost use Rattle.sig_rel.specs.inner.Substitutions.{ArePlain, HoldColumns, IsPartlyWritten, IsWritten, SpanColumns, no_ref, step_at, steps};
+ghost use Rattle.sig_rel.specs.inner.Schedules.{IsOrderOfWriting};
 
 use crate::elements::Element;
 use crate::rules::Rules;

@@ -6,7 +6,7 @@ pub use Rattle.sig_base.specs.declared.limits.TheConstants.{ITEMS, VALUES}
 pub use Rattle.sig_plan.proofs.Indices.{equation_below}
 pub use Rattle.sig_model.specs.Causes.{Meets}
 pub use Rattle.sig_meaning.proofs.Common.{AreFlowsFor, Cause, Ended, Exhausted, HasOperations, IsAccepted, IsEnd, IsKernelTrace, IsLongest, IsNamedCause, IsValid, Kernel, Kind, Limit, Operation, Overflow, Place, PlanView, Signal, Trace, ZeroDivisor, contains_at, inputs_of, list_all, numbers_of, one_longest, operations_in, operations_of, plan_operations, written_below}
-pub use Rattle.sig_meaning.proofs.Ending.{some_end}
+pub use Rattle.sig_meaning.proofs.EndOfRun.{some_end}
 pub use Rattle.sig_meaning.proofs.FirstFaults.{one_either}
 pub use Rattle.sig_deciding.proofs.KernelRuns.{kernel_end, links_once, one_kernel_end, plan_links, some_kernel_end, some_links}
 pub use Rattle.sig_words.specs.declared.command.Settings.{Settings}

@@ -1,6 +1,6 @@
 -- An accepted program comes to an outcome, and one that can be run over flows to the end of its run.
 use Rattle.sig_runs.proofs.Common.{◌⊎◌, ℕ, ℤ, List, Some, ⊎_elim, inl, inr, refl, sym, ap, subst, PROGRAM_BYTES, Contents, inputs_of, Kernel, Signal, some_kernel_end, AreFlows, flows_or_fault, read_fit, Settings, Good, Holds, Outcome, refused, too_many_items, IsEnded, behind_data, behind_program, AreRefused, IsAcceptedAs, AtPlan, accepted_once, accepted_or_refused, refused_once, CanRun, AtFlows, AtLinks, HoldFew, RefusesFlows, RunComesTo, RunsTo, bad_flows, ended}
-use Rattle.sig_runs.proofs.Finding.{some_at_data}
+use Rattle.sig_runs.proofs.FoundFiles.{some_at_data}
 use Rattle.sig_runs.proofs.OneRun.{flows_apart, links_refuse, no_flows_line, one_flows}
 use Rattle.sig_runs.proofs.Plans.{items_are}
 use Rattle.sig_runs.proofs.Written.{is_ended}

@@ -2,10 +2,10 @@ pub mod Common
 pub mod Plans
 pub mod FlowLines
 pub mod OneRun
-pub mod Finding
+pub mod FoundFiles
 mod Loads
 pub mod Written
-pub mod Ending
+pub mod EndOfRun
 pub mod Complete
 pub use Common.*
 pub use Complete.*

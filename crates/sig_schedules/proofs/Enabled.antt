@@ -1,14 +1,14 @@
 -- An event is enabled until all actors have ended.
 use Rattle.sig_schedules.proofs.Common.{◌≡◌, ◌<◌, ◌≤◌, ◌+◌, ◌*◌, ◌⊎◌, inl, inr, ℕ, ℤ, Bool, true, false, cond, List, length, refl, ap, sym, subst, ◌∙◌, arith, Some, slice_get, cases_lt, Instant, Trace, seen_at, Place, get_at, get_within, AreFlowsFor, some_at, fitting, some_reference, Actor, code_of, ended_at, next_place, position_of, Core, Given, IsEnabled, IsFinished, acted, after, looked, turned, with_actor, word_before, HasReason, IsActorOn, IsOnReference, instant_at, sent_on, taken_from, IsReference, turn, Event, Act, Look, Instruction, instructions_of, IsFor, Operation, operations_in, IsAccepted, PlanView, numbers_of, Step, LinkInfo, plan_operations, ends_within, positions_rise}
 use Rattle.sig_schedules.proofs.Interleavings.{after_on}
-use Rattle.sig_schedules.proofs.Keeping.{reader_is, writer_is}
+use Rattle.sig_schedules.proofs.EventsOnReference.{reader_is, writer_is}
 use Rattle.sig_schedules.proofs.Least.{IsLeast, some_least}
-use Rattle.sig_schedules.proofs.Linking.{reader_end}
+use Rattle.sig_schedules.proofs.EndsOfLinks.{reader_end}
 use Rattle.sig_schedules.proofs.Moved.{chosen_of}
-use Rattle.sig_schedules.proofs.Sending.{IsSending, sends_item, sends_report}
+use Rattle.sig_schedules.proofs.SentItems.{IsSending, sends_item, sends_report}
 use Rattle.sig_schedules.proofs.Steps.{DoesStep, step_does}
-use Rattle.sig_schedules.proofs.Turning.{coded}
-use Rattle.sig_schedules.proofs.Waiting.{WaitsToPut, WaitsToTake, acts_or_waits, differs, ended_apart, put_there, reader_earlier, writer_no_later}
+use Rattle.sig_schedules.proofs.TurnsOnReference.{coded}
+use Rattle.sig_schedules.proofs.WaitsForPartner.{WaitsToPut, WaitsToTake, acts_or_waits, differs, ended_apart, put_there, reader_earlier, writer_no_later}
 use Rattle.sig_schedules.proofs.Words.{NotAfter, reached_onward, word_onward}
 
 module _ (given : Given) (accepted : IsAccepted given.plan) (fit : AreFlowsFor given.plan.kernel given.flows) (reference : Trace) (long : given.limit + 1 ≤ length reference) (room : 1 ≤ given.capacity) (core : Core) (on : IsOnReference given reference core) where

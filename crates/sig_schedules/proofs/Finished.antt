@@ -2,19 +2,19 @@
 use Rattle.sig_schedules.proofs.Common.{◌≡◌, ◌<◌, ◌≤◌, ◌-◌, ◌+◌, ◌*◌, ◌++◌, inl, inr, ℕ, suc, ℤ, Bool, true, false, List, [], ◌∷◌, length, take, drop, refl, ap, sym, subst, ◌∙◌, arith, Contains, None, Option, Some, slice_get, option_and_then, ◌/◌, cases_lt, false_from_ne_true, map-append, take-append-drop, div-mul-add, Instant, IsLongest, IsPrefixOf, Trace, seen_at, OpId, SigId, Place, at_contained, get_within, IsKernelTrace, output_text, outputs_of, seen_lines, AreFlowsFor, Kernel, StopsBefore, IsFirstFault, IsOutcome, compiled, Compiled, some_at, fitting, one_either, first_cause, at_most_or, got, some_reference, end_at_first, one_end, form_in, Actor, code_of, guard_holds, next_place, position_of, HasFault, IsEnd, Meets, place_at, Core, Given, IsFinished, after, cause_at, cause_in, cause_of, cause_of_op, is_before, op_at, reactions_text, Faults, Gives, Outcome, outcome, HasReason, IsActorOn, IsFaulty, IsOnReference, IsWordOn, instant_at, reactions_of, sent_on, taken_from, yielded_in, IsReference, Reaction, reaction_in, Event, Instruction, instructions_of, op_id, under, IsFor, StandsAt, does, sends, receives, reports, collects, commits, Operation, operation_in, operations_in, Writes, report_link, IsAccepted, PlanView, numbers_of, Step, Do, Send, Receive, Report, Collect, Cause, Exhausted, Limit, Overflow, ZeroDivisor, Ended, Op, LinkInfo, cluster_under, does_there, map_get, positions_rise, operations_written, HasEnd, IsNotBefore, IsPast, IsSound}
 use Rattle.sig_schedules.proofs.Beginnings.{report_contained}
 use Rattle.sig_schedules.proofs.Counts.{carried_before, carried_next, carried_rises, counted, front_fewer}
-use Rattle.sig_schedules.proofs.Ending.{fault_there, first_faulty, front_is, is_clean, least_faulty, none_before, of_trace, trace_is}
+use Rattle.sig_schedules.proofs.ReferenceEnd.{fault_there, first_faulty, front_is, is_clean, least_faulty, none_before, of_trace, trace_is}
 use Rattle.sig_schedules.proofs.Ends.{nothing_from}
 use Rattle.sig_schedules.proofs.Faultless.{done_fault, passed_fault}
-use Rattle.sig_schedules.proofs.Going.{outcome_is}
+use Rattle.sig_schedules.proofs.NextOnReference.{outcome_is}
 use Rattle.sig_schedules.proofs.Inputs.{in_kernel}
 use Rattle.sig_schedules.proofs.Interleavings.{after_on, after_sound}
-use Rattle.sig_schedules.proofs.Linking.{reader_end, writer_end}
+use Rattle.sig_schedules.proofs.EndsOfLinks.{reader_end, writer_end}
 use Rattle.sig_schedules.proofs.Lists.{joined_append, none_chosen, taken_get}
 use Rattle.sig_schedules.proofs.Moved.{chosen_of}
 use Rattle.sig_schedules.proofs.Steps.{DoesStep, instruction_step, step_does}
 use Rattle.sig_schedules.proofs.Texts.{text_is}
-use Rattle.sig_schedules.proofs.Turning.{coded}
-use Rattle.sig_schedules.proofs.Waiting.{balance}
+use Rattle.sig_schedules.proofs.TurnsOnReference.{coded}
+use Rattle.sig_schedules.proofs.WaitsForPartner.{balance}
 use Rattle.sig_schedules.proofs.Words.{NotAfter, after_or_before, before_no_later, not_after_onward, reached_not_after, same_places, word_onward}
 
 module _ (given : Given) (accepted : IsAccepted given.plan) (fit : AreFlowsFor given.plan.kernel given.flows) (reference : Trace) (exact : length reference ≡ given.limit + 1) (core : Core) (on : IsOnReference given reference core)

@@ -1,6 +1,6 @@
 -- Every interleaving leaves a state on the reference.
 use Rattle.sig_schedules.proofs.Common.{◌≡◌, ◌≤◌, ◌+◌, inl, inr, List, [], ◌∷◌, length, sym, subst, arith, None, Some, fold, Trace, AreFlowsFor, code_of, opening_actor, Core, Given, after, opening, stepped, IsOnReference, IsReference, Event, IsAccepted, IsSound, IsSoundActor}
-use Rattle.sig_schedules.proofs.Keeping.{stepped_on}
+use Rattle.sig_schedules.proofs.EventsOnReference.{stepped_on}
 use Rattle.sig_schedules.proofs.Opening.{opening_on, repeated}
 use Rattle.sig_schedules.proofs.Sound.{stepped_sound}
 

@@ -4,7 +4,7 @@ use Rattle.sig_schedules.proofs.Amid.{guard_known}
 use Rattle.sig_schedules.proofs.Faultless.{done_fault, fault_here, passed_fault}
 use Rattle.sig_schedules.proofs.Lists.{put_elsewhere, put_here, set_get}
 use Rattle.sig_schedules.proofs.Moved.{moved_cases}
-use Rattle.sig_schedules.proofs.Turning.{actor_on, coded}
+use Rattle.sig_schedules.proofs.TurnsOnReference.{actor_on, coded}
 
 module _ (given : Given) (accepted : IsAccepted given.plan) (fit : AreFlowsFor given.plan.kernel given.flows) (reference : Trace) (core : Core) (on : IsOnReference given reference core) (sound : IsSound given reference core)
     (k : ℕ) (actor : Actor) (at_k : slice_get core.actors k ≡ Some actor) where

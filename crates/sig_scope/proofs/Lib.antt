@@ -1,10 +1,10 @@
 pub mod Common
-pub mod Growing
-pub mod Placing
+pub mod LongerLists
+pub mod FirstPlaces
 pub mod Scopes
 pub mod Trees
 unfoldable pub use Common.*
-pub use Growing.*
-pub use Placing.*
+pub use LongerLists.*
+pub use FirstPlaces.*
 pub use Scopes.*
 pub use Trees.*

@@ -1,6 +1,6 @@
 -- Declarations that are found by their names.
 use Rattle.sig_scope.proofs.Common.{◌≡◌, ap, ℕ, List, [], ◌∷◌, map, Some, length, get_or, ◌<◌, arith, zero, suc, length-map, Declared, place_of, declaration_in, declarations_in, texts_in}
-use Rattle.sig_scope.proofs.Placing.{within}
+use Rattle.sig_scope.proofs.FirstPlaces.{within}
 
 pub within_declared : (names : List (List ℕ)) (ds : List Declared) (t : List ℕ) (i : ℕ) → names ≡ texts_in (declarations_in ds) → Some i ≡ place_of names t → i < length ds
 within_declared names ds t i n e =

@@ -1,7 +1,7 @@
 //! Programs that are well formed, with the kinds of their expressions.
 
 ghost use Rattle.sig_scope.specs.Prelude.{program_of, IsWellFormed};
-ghost use Rattle.sig_scope.specs.Formed.{IsWellFormed-prop};
+ghost use Rattle.sig_scope.specs.inner.Formed.{IsWellFormed-prop};
 ghost use Rattle.sig_scope.specs.Typed.{AreKinds};
 
 use sig_base::Kind;

@@ -1,7 +1,7 @@
 -- A state amid the own steps of its actors, and what one more own step leaves of it.
 use Rattle.sig_settling.proofs.Common.{◌≡◌, ◌<◌, ◌≤◌, ◌+◌, ◌++◌, inl, inr, ℕ, zero, suc, ℤ, true, false, cond, List, [], ◌∷◌, length, get_or, set, refl, ap, sym, subst, ◌∙◌, append_assoc, arith, None, Option, Some, slice_get, eq-eqb, lt-ltb, ne_eqb, get_or-set_other, get_or-set_same, IsPrefixOf, Trace, get_within, AreFlowsFor, same_or_not, Actor, ended_at, with_at, Core, Given, acted, items_on, lesser, take_first, turned, with_actor, with_items, IsOnReference, AtLimit, Commits, Fails, Goes, Puts, Reaction, Stopped, Takes, Turn, turn, IsAccepted, LinkInfo, plan_operations, ends_within, operations_in, set_here, same_next, Grow, HasTurned, IsBehind, IsOwnStep, LeadBy, Own, Stay, UsesNone, AreBalanced, IsLeastFailure, collector_of}
 use Rattle.sig_settling.proofs.Failures.{least_lesser, least_same}
-use Rattle.sig_settling.proofs.Owning.{lead_begins}
+use Rattle.sig_settling.proofs.OwnItems.{lead_begins}
 use Rattle.sig_settling.proofs.Tells.{Tells}
 
 pub set_apart : {A : Type 0} (xs : List A) (k : ℕ) (x : A) (m : ℕ) → ((m ≡ k) → ⊥) → slice_get (set xs k x) m ≡ slice_get xs m

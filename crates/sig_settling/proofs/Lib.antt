@@ -1,15 +1,15 @@
 pub mod Common
 mod Tells
-mod Owning
+mod OwnItems
 mod Failures
 mod Amid
 mod Least
-mod Ordering
-mod Moving
-mod Going
-mod Acting
-mod Looking
+mod OrderOfSteps
+mod RanksOfSteps
+mod NextOwnStep
+mod OwnStepsDone
+mod FinalLooks
 pub use Common.*
-pub use Acting.*
-pub use Looking.*
-pub use Rattle.sig_settling.proofs.Acting.{acted}
+pub use OwnStepsDone.*
+pub use FinalLooks.*
+pub use Rattle.sig_settling.proofs.OwnStepsDone.{acted}

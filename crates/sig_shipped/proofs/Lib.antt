@@ -1,8 +1,8 @@
 pub mod Cases
-pub mod Doing
+pub mod OperationsInImage
 pub mod Lists
 pub mod Pairs
 pub mod Placed
-pub mod Running
+pub mod ImageRunsAsPlan
 pub mod Sound
-pub mod Tracking
+pub mod TrackedState

@@ -2,7 +2,7 @@
 use Rattle.std.proofs.Common.{◌≡◌, ◌<◌, ◌≤◌, ℕ, zero, suc, List, [], ◌∷◌, length, map, Option, None, Some, refl, sym, ap, subst, ◌∙◌, arith, slice_get}
 use Rattle.std.specs.Prelude.{option_map}
 use Rattle.std.specs.List.{AllByRecursion}
-use Rattle.std.proofs.lemmas.Option.{slice_get-map}
+use Rattle.std.proofs.lemmas.Option.{same_Some, slice_get-map}
 use Rattle.sig_base.specs.declared.ids.OpId.{OpId}
 use Rattle.sig_base.specs.declared.ids.SigId.{SigId}
 use Rattle.sig_dd.specs.Diagram.{Diagram}
@@ -11,7 +11,7 @@ use Rattle.sig_plan.specs.Operations.{operation_in}
 use Rattle.sig_plan.specs.Plans.{IsAccepted, PlanView, numbers_of}
 use Rattle.sig_plan.specs.declared.op.Op.{Op}
 use Rattle.sig_plan.proofs.Common.{get_within}
-use Rattle.sig_plan.proofs.Naming.{order_names}
+use Rattle.sig_plan.proofs.NamedInSteps.{order_names}
 use Rattle.sig_file.specs.Guarded.{Guarded, guarded_in, guards_of}
 use Rattle.sig_file.specs.PlanImages.{image_of, made_of, ordered}
 use Rattle.sig_file.specs.declared.images.ImageNode.{ImageNode}
@@ -31,13 +31,10 @@ number_at [] k id is = absurd cc
 number_at (i ∷ ids) zero id is = let one : i ≡ id = cc in ap (λ (z : OpId). Some z.0) one
 number_at (i ∷ ids) (suc k) id is = number_at ids k id is
 
-some_is : {A : Type 0} (x y : A) → Some x ≡ Some y → x ≡ y
-some_is x y e = cc
-
 -- an item of a list that a function makes of another one
 mapped : {A B : Type 0} (f : A → B) (xs : List A) (n : ℕ) (o : Option A) (y : B) → slice_get xs n ≡ o → slice_get (map f xs) n ≡ Some y → (x : A) × (o ≡ Some x) × (y ≡ f x)
 mapped f xs n None y here e = absurd (let f : None ≡ Some y = sym (slice_get-map f xs n ∙ ap (option_map f) here) ∙ e in cc)
-mapped f xs n (Some x) y here e = (x, refl, some_is y (f x) (sym e ∙ slice_get-map f xs n ∙ ap (option_map f) here))
+mapped f xs n (Some x) y here e = (x, refl, same_Some y (f x) (sym e ∙ slice_get-map f xs n ∙ ap (option_map f) here))
 
 -- a guarded operation of a plan's image is made for this operation
 pub record IsMadeFor (plan : PlanView) (op : Op) (g : Guarded) : Type 0 where

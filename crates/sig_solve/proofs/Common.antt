@@ -4,7 +4,7 @@ pub use Rattle.std.proofs.lemmas.List.Kept.{AllPairs-filter}
 pub use Rattle.std.proofs.lemmas.List.Quantifiers.{all_pairs_push}
 unfoldable pub use Rattle.sig_dd.specs.Diagram.{StartsFrom}
 pub use Rattle.sig_dd.specs.Nodes.{Holds, Overlap}
-pub use Rattle.sig_dd.proofs.Adding.{Share-none, refusal_is}
+pub use Rattle.sig_dd.proofs.CallsInARow.{Share-none, refusal_is}
 pub use Rattle.sig_dd.proofs.CallerLemmas.{one_reference}
 pub use Rattle.sig_dd.proofs.Canonical.{proper, same_ref}
 pub use Rattle.sig_dd.proofs.Common.{AgreeBut, Choice, Constant, Diagram, Implies, IsProduct, diagram, get_or_append_left, get_or_push, get_or_read, length_push, value_at}
@@ -29,16 +29,16 @@ pub use Rattle.sig_rel.proofs.ChosenTruths.{all_statuses}
 pub use Rattle.sig_rel.proofs.Common.{Agree-kept, Allows, AreConditions, AreLeast, Budget, DdAnswer, Default, Delay, Depends, Depends-of_one, Depends-of_two, Equation, Event, Form, Fun, Governs, Holds, Holds-kept, IsFreeSystem, IsOver, IsReaction, IsRefOf, IsRefusedFor, IsSolution, IsStore, IsSystem, IsTriangle, IsTriangular, IsUnknownCount, IsValid, IsVariable, Keeps, Keeps-itself, Keeps-trans, KeepsTo, KeepsToShare, KeepsToTriangularShare, Kernel, MayStand, Node, OutOfMemory, Reaction, Ref, SameClock, Share, Share-then, Share-wider, SigId, Signal, Spans, Speaks, Status, StoreView, Sync, SystemView, When, WhenConst, absent_in_silence, allowance, and_parts, at_contained, cases_eq, cases_lt, classes_among, conditions_of, contains_cons, contains_head, contains_later, contains_none, count_by-le-length, false≢true, form_at, form_within, get_or-range_with_len, get_or-replicate, is_boolean, is_boolean_kind, is_condition, is_free, is_present, is_silent, joined, kind_at, kind_of, length-filter, length-range_with_len, length-replicate, list_any, meets, operand_signals, or_else, present_together, proposed, range_with_len, reading, refusal, signal_id, slice_get_within, status_at, status_read, statuses_are_same, statuses_read, sum_by-cons, take_more, test, triangular_share_of, truth_of, truth_of-with_other, truth_of_status, turned, where_true, with_truth}
 pub use Rattle.sig_rel.proofs.FreeSystems.{conditions_few}
 pub use Rattle.sig_rel.proofs.UsedLemmas.{in_range, one_least}
-pub use Rattle.sig_solve.specs.Answers.{FindsPinned}
-pub use Rattle.sig_solve.specs.Asked.{AreHalves, ArePlaced, AreProposed, ForgetsAllBut, IsAskedIn, IsImage, IsMet, IsProposalOf, truth_at, variables_of}
-pub use Rattle.sig_solve.specs.Awaiting.{AreAwaited, IsApart, IsRest}
-pub use Rattle.sig_solve.specs.Classes.{AreClasses, AreFirsts, AreGuardsOf, AreMadeOf, IsPlace, Precedes, guard_at}
+pub use Rattle.sig_solve.specs.inner.Answers.{FindsPinned}
+pub use Rattle.sig_solve.specs.inner.Asked.{AreHalves, ArePlaced, AreProposed, ForgetsAllBut, IsAskedIn, IsImage, IsMet, IsProposalOf, truth_at, variables_of}
+pub use Rattle.sig_solve.specs.inner.Awaiting.{AreAwaited, IsApart, IsRest}
+pub use Rattle.sig_solve.specs.inner.Classes.{AreClasses, AreFirsts, AreGuardsOf, AreMadeOf, IsPlace, Precedes, guard_at}
 pub use Rattle.sig_solve.specs.Frames.{IsAmong, IsFrame, leaders_of}
-pub use Rattle.sig_solve.specs.Free.{AreNeeds, IsFreeIn, is_unknown, is_unknown_to}
-pub use Rattle.sig_solve.specs.Guards.{AreGuards, IsGuard}
-pub use Rattle.sig_solve.specs.Orders.{IsFreeBy, IsPinnedBy, by_layer, of_layer}
+pub use Rattle.sig_solve.specs.inner.Free.{AreNeeds, IsFreeIn, is_unknown, is_unknown_to}
+pub use Rattle.sig_solve.specs.inner.Guards.{AreGuards, IsGuard}
+pub use Rattle.sig_solve.specs.inner.Orders.{IsFreeBy, IsPinnedBy, by_layer, of_layer}
 pub use Rattle.sig_solve.specs.Refusals.{HasNoRoom, IsFromRelation, IsFromStore, IsRefusalOf, IsSystemRoom, IsWithin, calls_of, rest_of_share, share_of, store_refusal}
-pub use Rattle.sig_solve.specs.Rounds.{AreEntered, AreIncreasing, ArePassed, AreRounds, AreSettled, IsOpenAnswer, has_entered, layer_in}
+pub use Rattle.sig_solve.specs.inner.Rounds.{AreEntered, AreIncreasing, ArePassed, AreRounds, AreSettled, IsOpenAnswer, has_entered, layer_in}
 pub use Rattle.sig_solve.specs.Walks.{Asks}
 pub use Rattle.sig_solve.specs.declared.answer.ClockAnswer.{ClockAnswer}
 pub use Rattle.sig_solve.specs.declared.answer.ClockAnswer.TheVariants.{Dead, MissingRoot, Pinned, Unsolved}

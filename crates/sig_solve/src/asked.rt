@@ -2,7 +2,7 @@
 
 ghost use Rattle.std.specs.Prelude.{◌≡◌, ◌+◌, ◌<◌};
 ghost use Rattle.sig_solve.specs.Prelude.{length, IfOk, IsStore, Keeps, test, IsProduct, Share, refusal, IsValid, AreConditions, IsOver, IsSystem};
-ghost use Rattle.sig_solve.specs.Asked.{IsAskedIn, presence_in, truth_at, variables_of};
+ghost use Rattle.sig_solve.specs.inner.Asked.{IsAskedIn, presence_in, truth_at, variables_of};
 ghost use Rattle.sig_solve.specs.Frames.{IsFrame};
 
 use crate::frame::Frame;

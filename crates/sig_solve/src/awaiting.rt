@@ -3,10 +3,10 @@
 
 ghost use Rattle.std.specs.Prelude.{◌≡◌, ◌≢◌, ◌&&◌, ◌+◌, ◌*◌, ◌<◌};
 ghost use Rattle.sig_solve.specs.Prelude.{not, ℕ, true, length, replicate, Err, None, Some, IfOk, OnOk, IsTrue, slice_get, IsSignal, truth_of, IsStore, Keeps, Share, refusal};
-ghost use Rattle.sig_solve.specs.Asked.{AreKnown, AreProposed, ForgetsAllBut, IsAskedIn, variables_of};
-ghost use Rattle.sig_solve.specs.Awaiting.{AreAwaited, IsApart, IsRest};
+ghost use Rattle.sig_solve.specs.inner.Asked.{AreKnown, AreProposed, ForgetsAllBut, IsAskedIn, variables_of};
+ghost use Rattle.sig_solve.specs.inner.Awaiting.{AreAwaited, IsApart, IsRest};
 ghost use Rattle.sig_solve.specs.Frames.{IsAmong};
-ghost use Rattle.sig_solve.specs.Rounds.{AreEntered, IsOpenAnswer};
+ghost use Rattle.sig_solve.specs.inner.Rounds.{AreEntered, IsOpenAnswer};
 
 use crate::asked::Asked;
 use crate::known::{Known, known_of};

@@ -2,9 +2,9 @@
 
 ghost use Rattle.std.specs.Prelude.{◌≡◌, ◌+◌, ◌^◌, ◌<◌, ◌≤◌};
 ghost use Rattle.sig_solve.specs.Prelude.{ℕ, [], length, map, Some, slice_get, IfOk, SigId, Ref};
-ghost use Rattle.sig_solve.specs.Classes.{AreClasses, AreFirsts, AreGuardsOf, AreMadeOf, IsPlace, Precedes, guard_at};
+ghost use Rattle.sig_solve.specs.inner.Classes.{AreClasses, AreFirsts, AreGuardsOf, AreMadeOf, IsPlace, Precedes, guard_at};
 ghost use Rattle.sig_solve.specs.Frames.{IsFrame};
-ghost use Rattle.sig_solve.specs.Rounds.{AreSettled, layer_in};
+ghost use Rattle.sig_solve.specs.inner.Rounds.{AreSettled, layer_in};
 
 use crate::frame::Frame;
 use crate::layers::{layer_in, number_at};

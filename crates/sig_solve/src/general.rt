@@ -2,9 +2,9 @@
 
 ghost use Rattle.std.specs.Prelude.{◌≡◌, ◌+◌, ◌*◌, ◌≤◌};
 ghost use Rattle.sig_solve.specs.Prelude.{ℕ, true, [], length, IfErr, IfOk, HasClocks, HasRoot, AreClocks, AreInOrder, conditions_of, is_condition, IsRoot, IsFree, IsStore, Keeps, Share, IsValid, IsUnknownCount, AreConditions, IsSystem};
-ghost use Rattle.sig_solve.specs.Asked.{IsAskedIn, variables_of};
+ghost use Rattle.sig_solve.specs.inner.Asked.{IsAskedIn, variables_of};
 ghost use Rattle.sig_solve.specs.Refusals.{IsRefusalOf, IsWithin, KeepsToShare, calls_of, rest_of_share, store_refusal};
-ghost use Rattle.sig_solve.specs.Rounds.{AreSettled};
+ghost use Rattle.sig_solve.specs.inner.Rounds.{AreSettled};
 
 use crate::answer::ClockAnswer;
 use crate::asked::{Asked, asked_of};

@@ -2,8 +2,8 @@
 
 ghost use Rattle.std.specs.Prelude.{◌≡◌, ◌+◌, ◌*◌, ◌==◌, ◌≤◌};
 ghost use Rattle.sig_solve.specs.Prelude.{ℕ, true, length, slice_get, None, Some, IfOk, Contains, MatchOption, SigId, AreInOrder, IsSignal, IsStore, Keeps, Share, refusal};
-ghost use Rattle.sig_solve.specs.Asked.{AreProposed, ArePlaced, ForgetsAllBut, IsAskedIn, variables_of};
-ghost use Rattle.sig_solve.specs.Guards.{AreGuards, IsGuard};
+ghost use Rattle.sig_solve.specs.inner.Asked.{AreProposed, ArePlaced, ForgetsAllBut, IsAskedIn, variables_of};
+ghost use Rattle.sig_solve.specs.inner.Guards.{AreGuards, IsGuard};
 
 use crate::asked::Asked;
 use crate::known::known_of;

@@ -3,7 +3,7 @@
 
 ghost use Rattle.std.specs.Prelude.{◌≡◌, ◌+◌};
 ghost use Rattle.sig_solve.specs.Prelude.{true, false, Some, IfOk, IsSignal, is_present, status_at, IsStore, Keeps, Share, refusal};
-ghost use Rattle.sig_solve.specs.Asked.{IsAskedIn, IsImage, variables_of};
+ghost use Rattle.sig_solve.specs.inner.Asked.{IsAskedIn, IsImage, variables_of};
 
 use crate::asked::Asked;
 use sig_dd::{DdAnswer, Ref, Store};

@@ -2,7 +2,7 @@
 
 ghost use Rattle.std.specs.Prelude.{◌≡◌, ◌==◌};
 ghost use Rattle.sig_solve.specs.Prelude.{IfOk, list_any};
-ghost use Rattle.sig_solve.specs.Asked.{AreProposed, ForgetsAllBut};
+ghost use Rattle.sig_solve.specs.inner.Asked.{AreProposed, ForgetsAllBut};
 
 use sig_base::SigId;
 use sig_rel::System;

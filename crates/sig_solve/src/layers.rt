@@ -2,9 +2,9 @@
 
 ghost use Rattle.std.specs.Prelude.{◌≡◌, ◌+◌, ◌*◌, ◌<◌, ◌≤◌};
 ghost use Rattle.sig_solve.specs.Prelude.{ℕ, suc, length, slice_index, filter, replicate, IfOk, OnOk, Contains, conditions_of, IsStore, Keeps, Share, refusal};
-ghost use Rattle.sig_solve.specs.Asked.{AreKnown, ForgetsAllBut, IsAskedIn, variables_of};
-ghost use Rattle.sig_solve.specs.Awaiting.{AreAwaited};
-ghost use Rattle.sig_solve.specs.Rounds.{AreEntered, AreRounds, AreSettled, has_entered, layer_in};
+ghost use Rattle.sig_solve.specs.inner.Asked.{AreKnown, ForgetsAllBut, IsAskedIn, variables_of};
+ghost use Rattle.sig_solve.specs.inner.Awaiting.{AreAwaited};
+ghost use Rattle.sig_solve.specs.inner.Rounds.{AreEntered, AreRounds, AreSettled, has_entered, layer_in};
 
 use crate::asked::Asked;
 use crate::awaiting::{Guide, guide_of, none_awaited, stays_open};

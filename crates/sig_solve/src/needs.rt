@@ -2,7 +2,7 @@
 
 ghost use Rattle.std.specs.Prelude.{◌≡◌, ◌≢◌};
 ghost use Rattle.sig_solve.specs.Prelude.{ℕ, Err, IfOk, IsSystem};
-ghost use Rattle.sig_solve.specs.Free.{AreNeeds};
+ghost use Rattle.sig_solve.specs.inner.Free.{AreNeeds};
 
 use crate::frame::Frame;
 use sig_dd::{DdAnswer, Store, VariableList};

@@ -2,8 +2,8 @@
 
 ghost use Rattle.std.specs.Prelude.{◌≡◌, ◌+◌, ◌*◌};
 ghost use Rattle.sig_solve.specs.Prelude.{true, length, IfOk, AreInOrder, is_condition, IsStore, Keeps, Share, refusal};
-ghost use Rattle.sig_solve.specs.Answers.{FindsPinned};
-ghost use Rattle.sig_solve.specs.Asked.{AreHalves, IsAskedIn, variables_of};
+ghost use Rattle.sig_solve.specs.inner.Answers.{FindsPinned};
+ghost use Rattle.sig_solve.specs.inner.Asked.{AreHalves, IsAskedIn, variables_of};
 
 use crate::asked::Asked;
 use crate::known::{Known, known_of};

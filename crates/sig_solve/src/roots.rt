@@ -2,7 +2,7 @@
 
 ghost use Rattle.std.specs.Prelude.{◌≡◌, ◌≢◌};
 ghost use Rattle.sig_solve.specs.Prelude.{ℕ, MatchOption, IfErr, IfOk, Err, HasNoRoot, IsAlive, IsLeast, IsMissingRoot, IsRoot, Holds, IsStore, Keeps, Share, refusal};
-ghost use Rattle.sig_solve.specs.Asked.{IsAskedIn, IsMet, variables_of};
+ghost use Rattle.sig_solve.specs.inner.Asked.{IsAskedIn, IsMet, variables_of};
 ghost use Rattle.sig_solve.specs.Refusals.{IsRefusalOf, store_refusal};
 
 use crate::answer::ClockAnswer;

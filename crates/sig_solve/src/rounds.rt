@@ -3,8 +3,8 @@
 ghost use Rattle.std.specs.Prelude.{◌≡◌, ◌==◌, ◌≢◌, ◌<◌, ◌≤◌, ◌+◌};
 ghost use Rattle.sig_solve.specs.Prelude.{ℕ, suc, true, length, map, slice_index_or, Some, Err, IfOk, Contains, list_any, conditions_of, IsSignal, IsStore};
 ghost use Rattle.sig_solve.specs.Frames.{IsAmong, IsFrame};
-ghost use Rattle.sig_solve.specs.Free.{AreNeeds, IsFreeIn, is_unknown_to};
-ghost use Rattle.sig_solve.specs.Rounds.{AreEntered, AreRounds, AreSettled, IsOpenAnswer};
+ghost use Rattle.sig_solve.specs.inner.Free.{AreNeeds, IsFreeIn, is_unknown_to};
+ghost use Rattle.sig_solve.specs.inner.Rounds.{AreEntered, AreRounds, AreSettled, IsOpenAnswer};
 
 use crate::frame::Frame;
 use crate::layers::{Layers, entered, zeros};

@@ -5,7 +5,7 @@ ghost use Rattle.std.specs.Prelude.{◌≡◌, ◌≤◌, ◌+◌};
 ghost use Rattle.sig_solve.specs.Prelude.{ℕ, true, [], length, IfErr, IfOk, IsTrue, HasClocks, HasRoot, IsAlive, AreClocks, AreInOrder, is_condition, IsRoot, IsFree, IsStore, Keeps, IsValid, KeepsToShare, KeepsToTriangularShare, AreConditions, IsFreeSystem, IsSystem, AreClassesInOrder, IsTriangular};
 ghost use Rattle.sig_solve.specs.Frames.{IsFrame};
 ghost use Rattle.sig_solve.specs.Refusals.{IsRefusalOf, IsSystemRoom, IsWithin};
-ghost use Rattle.sig_solve.specs.Rounds.{AreSettled};
+ghost use Rattle.sig_solve.specs.inner.Rounds.{AreSettled};
 ghost use Rattle.sig_solve.specs.declared.answer.ClockAnswer.TheVariants.{OutOfMemory};
 
 use crate::answer::ClockAnswer;

@@ -1,6 +1,6 @@
 pub mod Common
 pub mod CandidateLemmas
-pub mod Combining
+pub mod CombinedReadings
 pub mod EquationLaws
 pub mod FirstLeaves
 pub mod OneExpansion
@@ -15,11 +15,11 @@ pub mod ReadExpressions
 pub mod ReadProcesses
 pub mod ReadSpines
 pub mod Reader
-pub mod Settling
+pub mod SettledFunctions
 pub mod Silence
 pub mod Spines
 pub mod StepLaws
-pub mod Stopping
+pub mod ListsThatStop
 pub mod Unlimited
 pub mod UpTo
 pub use Common.*

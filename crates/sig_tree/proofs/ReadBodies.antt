@@ -1,13 +1,13 @@
 -- One reading of definitions, clock equations and bodies.
 use Rattle.sig_tree.proofs.Common.{◌≡◌, ℕ, suc, ◌++◌, List, [], ◌∷◌, true, false, refl, sym, ap, ◌∙◌, subst, codes, None, Some, inl, inr, arith, Span, Name, Not, Neg, When as UnaryWhen, Clock, Expression, Named, RightSide, Equations, Together, Bodies, no_body, more_bodies, Terminal, Leaf, leaf, mark, name_leaf, default_level, Limits, Separated, IsExpression, IsLeft, IsDefinition, IsClockEquation, IsBody, AreBodies, AreFurtherBodies, StartsWith, BeginsExpression, BeginsLeft, BeginsBody, StopsBefore, OneReading, ContinuesNothing, ContinuesExpression, ContinuesDefinition, ContinuesClockEquation, ContinuesBody, ContinuesFurtherBodies, ContinuesBodies}
 use Rattle.sig_tree.specs.Syntax.{Defines, Equal}
-use Rattle.sig_tree.proofs.Settling.{◌>>=◌, Settles, settles_now, settles_next, settles_bind, settles_once}
-use Rattle.sig_tree.proofs.Stopping.{stops_smaller}
+use Rattle.sig_tree.proofs.SettledFunctions.{◌>>=◌, Settles, settles_now, settles_next, settles_bind, settles_once}
+use Rattle.sig_tree.proofs.ListsThatStop.{stops_smaller}
 use Rattle.sig_tree.proofs.Operators.{different}
 use Rattle.sig_tree.proofs.Reader.{From, Behind, run, closed}
 use Rattle.sig_tree.proofs.ReadExpressions.{expression_read, expression_once}
 use Rattle.sig_tree.proofs.FirstLeaves.{definition_begins, clock_equation_begins, body_begins}
-use Rattle.sig_tree.proofs.Combining.{OneAt, cons_same, append_to, starts_stops, part_at, between_at, separated_once}
+use Rattle.sig_tree.proofs.CombinedReadings.{OneAt, cons_same, append_to, starts_stops, part_at, between_at, separated_once}
 use Rattle.sig_tree.proofs.ReadEquations.{mark_apart, stops_nothing, starts_conflict, left_once, right_once, named_alone}
 
 none_no_some : {A : Type 0} (x : A) → None ≡ Some x → ⊥

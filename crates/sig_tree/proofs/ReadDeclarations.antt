@@ -1,10 +1,10 @@
 -- One reading of declarations, interfaces and pragmas.
 use Rattle.sig_tree.proofs.Common.{◌≡◌, ℕ, ◌++◌, List, [], ◌∷◌, refl, sym, ap, ◌∙◌, subst, codes, inl, inr, ◌⊎◌, Span, Kind, Integer, Boolean, Event, Item, Declared, Terminal, Leaf, leaf, name, word, label, mark, name_leaf, kind_word, Between, Each, Further, Separated, IsName, IsPlainItem, IsItem, IsGroup, IsParam, AreGroups, AreParams, IsInterface, IsPlacement, ArePragmas, IsLocalGroup, StartsWith, BeginsGroup, BeginsPlacement, StopsBefore, OneReading, ContinuesNothing, ContinuesOptional, ContinuesInit, ContinuesList, ContinuesEach, ContinuesParam, ContinuesGroup, ContinuesGroups, ContinuesPlacements}
-use Rattle.sig_tree.proofs.Stopping.{stops_smaller}
+use Rattle.sig_tree.proofs.ListsThatStop.{stops_smaller}
 use Rattle.sig_tree.proofs.Operators.{different}
 use Rattle.sig_tree.proofs.ReadExpressions.{optional_init_once}
 use Rattle.sig_tree.proofs.FirstLeaves.{group_begins, placement_begins}
-use Rattle.sig_tree.proofs.Combining.{cons_same, append_to, starts_stops, part_at, between_once, further_stops, separated_once, each_once}
+use Rattle.sig_tree.proofs.CombinedReadings.{cons_same, append_to, starts_stops, part_at, between_once, further_stops, separated_once, each_once}
 use Rattle.sig_tree.proofs.ReadEquations.{name_same, name_once, names_once, optional_between}
 
 -- in a larger set too

@@ -1,11 +1,11 @@
 -- One reading of names, left and right sides, definitions, clock equations and bodies.
 use Rattle.sig_tree.proofs.Common.{◌≡◌, ℕ, ◌++◌, List, [], ◌∷◌, true, false, refl, sym, ap, ◌∙◌, subst, codes, None, inl, inr, ◌⊎◌, arith, Span, Name, Constant, Not, Neg, When as UnaryWhen, Clock, Expression, Named, Computed, Called, Terminal, Leaf, leaf, name, mark, name_leaf, default_level, Limits, Between, Separated, Listed, IsConstant, IsExpression, IsName, IsLeft, AreConstants, AreArguments, IsRight, StartsWith, BeginsConstant, BeginsExpression, StopsBefore, OneReading, ContinuesNothing, ContinuesOptional, ContinuesExpression, ContinuesList, ContinuesEach, ContinuesDefinition}
-use Rattle.sig_tree.proofs.Stopping.{stops_smaller}
+use Rattle.sig_tree.proofs.ListsThatStop.{stops_smaller}
 use Rattle.sig_tree.proofs.Operators.{different, infix_of, no_infix}
 use Rattle.sig_tree.proofs.Reader.{closed}
 use Rattle.sig_tree.proofs.ReadExpressions.{constant_once, expression_once}
 use Rattle.sig_tree.proofs.FirstLeaves.{constant_begins, expression_begins}
-use Rattle.sig_tree.proofs.Combining.{cons_same, append_to, starts_stops, starts_apart, part_at, between_once, separated_once, listed_once}
+use Rattle.sig_tree.proofs.CombinedReadings.{cons_same, append_to, starts_stops, starts_apart, part_at, between_once, separated_once, listed_once}
 
 -- a mark that is no operator behind an operand continues no expression
 pub mark_apart : (text : List ℕ) → infix_of (mark text) ≡ None → (level : ℕ) → ContinuesExpression level (mark text) → ⊥

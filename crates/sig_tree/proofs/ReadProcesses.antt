@@ -1,9 +1,9 @@
 -- One reading of processes and programs.
 use Rattle.sig_tree.proofs.Common.{◌≡◌, ℕ, suc, ◌++◌, List, [], ◌∷◌, true, false, refl, sym, ap, ◌∙◌, subst, codes, None, inl, inr, append_assoc, append_cancel_left, Span, Integer, Boolean, Event, Not, Neg, When as UnaryWhen, Clock, Declared, Heading, ProcessModel, Modelled, ProcessModels, no_model, more_models, Terminal, Leaf, leaf, word, mark, number, name_leaf, default_level, Limits, Each, IsBody, AreParams, IsInterface, ArePragmas, IsLocalGroup, IsWhere, IsModel, AreLocals, IsProgram, BeginsBody, BeginsGroup, BeginsProcess, StopsBefore, OneReading, ContinuesNothing, ContinuesOptional, ContinuesEach, ContinuesBody, ContinuesLocals, ContinuesProgram}
-use Rattle.sig_tree.proofs.Stopping.{stops_smaller}
+use Rattle.sig_tree.proofs.ListsThatStop.{stops_smaller}
 use Rattle.sig_tree.proofs.Operators.{different, infix_of, no_infix}
 use Rattle.sig_tree.proofs.FirstLeaves.{local_group_begins, body_begins, model_begins}
-use Rattle.sig_tree.proofs.Combining.{OneAt, cons_same, append_to, starts_stops, starts_apart, part_at, each_once}
+use Rattle.sig_tree.proofs.CombinedReadings.{OneAt, cons_same, append_to, starts_stops, starts_apart, part_at, each_once}
 use Rattle.sig_tree.proofs.ReadEquations.{mark_apart, stops_nothing, name_same}
 use Rattle.sig_tree.proofs.ReadBodies.{body_once}
 use Rattle.sig_tree.proofs.ReadDeclarations.{once_larger, params_once, interface_once, pragmas_once, local_group_once}

@@ -1,12 +1,12 @@
 -- One reading of operands and of the operators behind them.
 use Rattle.sig_tree.proofs.Common.{◌≡◌, ℕ, suc, ◌≤◌, ◌++◌, List, [], ◌∷◌, Some, refl, sym, ap, ◌∙◌, subst, codes, inl, inr, arith, append_cancel_right, Span, UnOp, Not, BinOp, Expression, Named, Number, Truth, Unary, Binary, Delay, Cell, Terminal, Leaf, leaf, word, mark, unary_terminal, binary_terminal, delay_level, primary_level, unary_level, operand_level, binary_level, right_level, Limits, Each, IsAtLevel, StartsWith, BeginsExpression, StopsBefore, OneReading, ContinuesDelay, ContinuesExpression, IsAtom, IsInner, Step, WithOperand, WithCell, WithDelay, IsStep}
 use Rattle.sig_tree.specs.Spines.{IsOperand}
-use Rattle.sig_tree.proofs.Stopping.{stops_smaller, pair_same}
+use Rattle.sig_tree.proofs.ListsThatStop.{stops_smaller, pair_same}
 use Rattle.sig_tree.proofs.Operators.{Infix, OfTwo, OfCell, OfDelay, infix_terminal, infix_level, infix_of, infix_found, infix_seen, Tighter, not_tighter, continues_tighter, tighter_continues, two_levels, operand_continues}
 use Rattle.sig_tree.proofs.Reader.{AtName, AtNumber, AtTruth, AtOpening, AtPrefix, first_of, delay_read, optional_init_at, skip_one}
 use Rattle.sig_tree.proofs.ReadExpressions.{prefix_first, truth_first, init_stops, init_looser, init_once, expression_once}
 use Rattle.sig_tree.proofs.FirstLeaves.{expression_begins, starts_at}
-use Rattle.sig_tree.proofs.Combining.{cons_same, append_to, part_at}
+use Rattle.sig_tree.proofs.CombinedReadings.{cons_same, append_to, part_at}
 use Rattle.sig_tree.proofs.ReadEquations.{starts_conflict, stops_nothing}
 use Rattle.sig_tree.proofs.Spines.{operand_at}
 

@@ -1,8 +1,8 @@
 -- A reader of constants and expressions. It reads what the grammar's expressions stand as, and more,
 -- and goes down no deeper than a bound. It serves to show that they have one reading.
 use Rattle.sig_tree.proofs.Common.{◌≡◌, ℕ, zero, suc, ◌++◌, List, [], ◌∷◌, Bool, true, false, leb, refl, sym, ap, ◌∙◌, codes, Option, None, Some, inl, inr, cond, pos, neg_ℤ, Span, Constant, Int, BoolConstant, Param, UnOp, Not, Neg, When as UnaryWhen, Clock, Expression, Named, Number, Truth, Unary, Binary, Delay, Cell, Terminal, Leaf, name, word, number, label, mark, truth_word, unary_terminal, default_level, primary_level, operand_level, right_level, IsConstant, IsInit, IsOptionalOne, IsOptionalInit, StopsBefore, ContinuesDelay, ContinuesInit}
-use Rattle.sig_tree.proofs.Stopping.{stops_smaller}
-use Rattle.sig_tree.proofs.Settling.{◌>>=◌}
+use Rattle.sig_tree.proofs.ListsThatStop.{stops_smaller}
+use Rattle.sig_tree.proofs.SettledFunctions.{◌>>=◌}
 use Rattle.sig_tree.proofs.Operators.{is_terminal, terminal_same, Infix, OfTwo, OfCell, OfDelay, infix_level, infix_of}
 
 -- what is read, and the leaves behind it

@@ -1,5 +1,3 @@
 pub mod Prelude
 pub mod Answers
-pub mod Asked
-pub mod Findings
-pub mod Unknown
+pub mod inner

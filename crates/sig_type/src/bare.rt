@@ -3,7 +3,7 @@
 ghost use Rattle.std.specs.Prelude.{◌≡◌, ◌↔◌, ◌∷◌};
 ghost use Rattle.sig_type.specs.Prelude.{[], List, IsTrue, true, false, map, Name, expression_of, equations_of, right_side_of, Defines, each, is_constant, is_negative_number, MayNotBeFirst, MayNotBeSecond, bare_operands, bare_in_expression, bare_alone, bare_in_equation, form_in, bodies_in};
 ghost use Rattle.sig_tree.specs.Rules.{place_of};
-ghost use Rattle.sig_type.specs.Findings.{Finds};
+ghost use Rattle.sig_type.specs.inner.Findings.{Finds};
 
 use crate::finding::{Finding, First};
 use sig_base::Span;

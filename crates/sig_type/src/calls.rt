@@ -2,7 +2,7 @@
 
 ghost use Rattle.std.specs.Prelude.{◌≡◌, ◌≢◌, ◌↔◌, ◌∷◌};
 ghost use Rattle.sig_type.specs.Prelude.{[], IsTrue, Some, map, expression_of, right_side_of, equations_of, model_of, Defines, BadCall, candidate, each, process_of, DiffersFrom, bad_calls_of, bodies_in, interface_models};
-ghost use Rattle.sig_type.specs.Findings.{Finds};
+ghost use Rattle.sig_type.specs.inner.Findings.{Finds};
 
 use crate::finding::{Finding, First};
 use sig_scope::{Interface, Processes};

@@ -2,8 +2,8 @@
 
 ghost use Rattle.std.specs.Prelude.{◌≡◌, ◌↔◌, ◌∷◌};
 ghost use Rattle.sig_type.specs.Prelude.{[], IsTrue, Some, None, map, Any, zip, option_map, slice_get, expression_of, right_side_of, equations_of, model_of, Defines, each, kind_of, place_of_constant, IsUnfit, clash_of_constant, clash_of_init, clashes_of_expression, DoesNotTake, clash_of_left, clashes_of_results, clashes_of_constants, clashes_of_call, clashes_of_equation, clashes_of_inits, declarations_in, bodies_in, interface_models};
-ghost use Rattle.sig_type.specs.Asked.{clashes_in, lefts_given, result_at};
-ghost use Rattle.sig_type.specs.Findings.{Finds};
+ghost use Rattle.sig_type.specs.inner.Asked.{clashes_in, lefts_given, result_at};
+ghost use Rattle.sig_type.specs.inner.Findings.{Finds};
 
 use crate::finding::{Finding, First};
 use sig_base::{Kind, Span};

@@ -3,7 +3,7 @@
 ghost use Rattle.std.specs.Prelude.{◌≡◌, ◌∷◌};
 ghost use Rattle.sig_type.specs.Prelude.{IsTrue, IfOk, [], MatchOption, ⊤, candidate};
 ghost use Rattle.sig_type.specs.Answers.{offence_of};
-ghost use Rattle.sig_type.specs.Findings.{Finds, offence_in, sooner};
+ghost use Rattle.sig_type.specs.inner.Findings.{Finds, offence_in, sooner};
 
 use crate::answer::TypeAnswer;
 use sig_base::{Span, Text};

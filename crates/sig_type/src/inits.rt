@@ -2,7 +2,7 @@
 
 ghost use Rattle.std.specs.Prelude.{◌≡◌, ◌↔◌};
 ghost use Rattle.sig_type.specs.Prelude.{IsTrue, map, AllByRecursion, expression_of, equations_of, right_side_of, Defines, each, declaration_of, HasInit, missing_init, missing_inits, missing_inits_of_right, missing_inits_of_equation, bodies_in};
-ghost use Rattle.sig_type.specs.Findings.{Finds};
+ghost use Rattle.sig_type.specs.inner.Findings.{Finds};
 
 use crate::finding::{Finding, First};
 use sig_base::Span;

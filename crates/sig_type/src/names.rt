@@ -2,8 +2,8 @@
 
 ghost use Rattle.std.specs.Prelude.{◌≡◌, ◌∷◌};
 ghost use Rattle.sig_type.specs.Prelude.{[], map, List, flat_map, expression_of, right_side_of, equations_of, model_of, each, names_of_constant, names_of_init, names_of_expression, uses_of_right, uses_of_equation, uses_of_inits, declarations_in, bodies_in, interface_models};
-ghost use Rattle.sig_type.specs.Findings.{Finds};
-ghost use Rattle.sig_type.specs.Unknown.{unknown_signals, unknown_uses, unknown_in};
+ghost use Rattle.sig_type.specs.inner.Findings.{Finds};
+ghost use Rattle.sig_type.specs.inner.Unknown.{unknown_signals, unknown_uses, unknown_in};
 
 use crate::finding::{Finding, First};
 use sig_scope::{Declared, Interface, Processes, Scope};

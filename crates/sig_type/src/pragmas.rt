@@ -2,8 +2,8 @@
 
 ghost use Rattle.std.specs.Prelude.{◌≡◌, ◌↔◌, ◌⊎◌, ◌++◌, ◌≤◌};
 ghost use Rattle.sig_type.specs.Prelude.{[], IsTrue, OnOk, length, map, AllByRecursion, placement_of, declaration_of, texts, IsSignal, IsDigit, number_of, IsCluster, bad_pragmas_of};
-ghost use Rattle.sig_type.specs.Asked.{placed_twice};
-ghost use Rattle.sig_type.specs.Findings.{Finds};
+ghost use Rattle.sig_type.specs.inner.Asked.{placed_twice};
+ghost use Rattle.sig_type.specs.inner.Findings.{Finds};
 
 use crate::finding::{Finding, First};
 use sig_base::limits::CLUSTER_MAX;

@@ -2,8 +2,8 @@
 
 ghost use Rattle.std.specs.Prelude.{◌≡◌};
 ghost use Rattle.sig_type.specs.Prelude.{Some, OnOk, graph_of, graph_in, place_of, names_in, interface_models, process_texts};
-ghost use Rattle.sig_type.specs.Asked.{recursive_in};
-ghost use Rattle.sig_type.specs.Findings.{Finds};
+ghost use Rattle.sig_type.specs.inner.Asked.{recursive_in};
+ghost use Rattle.sig_type.specs.inner.Findings.{Finds};
 
 use crate::finding::{Finding, First};
 use sig_recursion::{Calls, is_recursive, none_leads_back};

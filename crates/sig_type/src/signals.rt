@@ -2,8 +2,8 @@
 
 ghost use Rattle.std.specs.Prelude.{◌≡◌};
 ghost use Rattle.sig_type.specs.Prelude.{OnOk, IfOk, map, DeclaredTwice, DefinedTwice, texts, declarations_in, names_in};
-ghost use Rattle.sig_type.specs.Asked.{repeated, given_in, undefined_in};
-ghost use Rattle.sig_type.specs.Findings.{Finds};
+ghost use Rattle.sig_type.specs.inner.Asked.{repeated, given_in, undefined_in};
+ghost use Rattle.sig_type.specs.inner.Findings.{Finds};
 
 use crate::finding::{Finding, First};
 use sig_scope::{Declared, Role, Scope, Texts};

@@ -3,8 +3,8 @@
 ghost use Rattle.std.specs.Prelude.{◌≡◌, ◌≢◌, ◌↔◌};
 ghost use Rattle.sig_type.specs.Prelude.{[], Some, slice_get, MatchOption, IfOk, IfErr, OnOk, IsTrue, Contains, length, map, take, ⊤, all_processes, name_of, texts, program_of, model_of, IsWellFormed, IsFirstOffence, rules_of, rules_on, graph_of, graph_in, declarations_in, bodies_in, interface_models};
 ghost use Rattle.sig_type.specs.Answers.{offence_of};
-ghost use Rattle.sig_type.specs.Asked.{definitions_in, calls_in};
-ghost use Rattle.sig_type.specs.Findings.{Finds, IsFoundOf};
+ghost use Rattle.sig_type.specs.inner.Asked.{definitions_in, calls_in};
+ghost use Rattle.sig_type.specs.inner.Findings.{Finds, IsFoundOf};
 
 use crate::answer::TypeAnswer;
 use crate::bare::bare_constants;

@@ -1,7 +1,7 @@
 -- All that a walk asks for.
 use Rattle.std.proofs.Common.{◌≡◌, ℕ, Bool, true, false, List, inl, inr, refl, sym, ap, subst, ◌∙◌}
 use Rattle.std.specs.Prelude.{◌&&◌, if◌then◌else◌}
-use Rattle.sig_verify.specs.Asking.{all_asked}
+use Rattle.sig_verify.specs.inner.Asking.{all_asked}
 use Rattle.sig_verify.specs.Prelude.{Asks, Choice, Constant, Diagram, truth_of}
 
 pub both : (a b : Bool) → (a && b) ≡ true → (a ≡ true) × (b ≡ true)

@@ -9,7 +9,7 @@ use Rattle.sig_dd.specs.Shares.{HasAll, IsRefused, Share, Shares, SpanAll, refus
 use Rattle.sig_dd.proofs.CallerLemmas.{Agree-kept, Depends-of_two, Holds-kept, Spans-kept, Spans-of}
 use Rattle.sig_dd.proofs.Dependence.{choice_depends, variable_depends}
 use Rattle.sig_dd.proofs.Functions.{IfOk-weaker}
-use Rattle.sig_verify.specs.Diagrams.{AreDiagrams, Follows, IsFor, IsOf, IsRefusal, variables}
+use Rattle.sig_verify.specs.inner.Diagrams.{AreDiagrams, Follows, IsFor, IsOf, IsRefusal, variables}
 use Rattle.sig_verify.specs.Prelude.{Budget, DdAnswer, NODES, OutOfMemory, Ref}
 use Rattle.sig_verify.specs.declared.diagrams.Diagrams.{Diagrams}
 

@@ -13,8 +13,8 @@ use Rattle.sig_dd.proofs.Operands.{IsEarlier, earlier_is, side_is}
 use Rattle.sig_dd.proofs.Pairs.{constant_ref, constant_test, known_apart, known_constant, known_itself, pair_split}
 use Rattle.sig_dd.proofs.Sides.{HasVariable-node, own_first, starts_own, tests_own}
 use Rattle.sig_dd.proofs.Variables.{Depends-Tests}
-use Rattle.sig_verify.specs.Diagrams.{IsOf, variables}
-use Rattle.sig_verify.specs.Pairs.{HoldsBoth, IsSplitInto, IsTired, IsWithin, Meets}
+use Rattle.sig_verify.specs.inner.Diagrams.{IsOf, variables}
+use Rattle.sig_verify.specs.inner.Pairs.{HoldsBoth, IsSplitInto, IsTired, IsWithin, Meets}
 use Rattle.sig_verify.specs.Prelude.{Budget, DdAnswer, NODES, Node, OutOfMemory, Ref, earlier_of, side_of}
 use Rattle.sig_verify.specs.declared.diagrams.Diagrams.{Diagrams}
 use Rattle.sig_verify.specs.declared.pairs.Pair.{Pair}

@@ -8,8 +8,8 @@ use Rattle.sig_kernel.specs.declared.equation.Operand.TheVariants.{Const, Sig}
 use Rattle.sig_file.specs.Guarded.{Guarded, Guards, IsSoundOperation, IsWrittenBefore, Reads, Writes}
 use Rattle.sig_file.specs.declared.images.ImageOpKind.{ImageOpKind}
 use Rattle.sig_file.specs.declared.images.ImageOpKind.TheVariants as does
-use Rattle.sig_verify.specs.Asking.{all_asked, target_of}
-use Rattle.sig_verify.specs.Known.{is_target}
+use Rattle.sig_verify.specs.inner.Asking.{all_asked, target_of}
+use Rattle.sig_verify.specs.inner.Known.{is_target}
 use Rattle.sig_dd.specs.Diagram.{value_at}
 use Rattle.sig_verify.specs.Prelude.{Asks, Choice, Constant, Diagram, SigId, truth_of}
 use Rattle.sig_verify.proofs.Asks.{asked_all, asked_each, both, both_true}

@@ -2,7 +2,7 @@
 use Rattle.std.proofs.Common.{◌≡◌, ℕ, ◌+◌, ◌*◌, ◌<◌, ◌≤◌, Bool, true, false, List, [], length, ◌^◌, ◌⊎◌, Option, None, Some, Result, Ok, Err, inl, inr, sym, ap, subst, ◌∙◌, arith}
 use Rattle.std.proofs.lemmas.Bool.{cases_lt}
 use Rattle.std.proofs.lemmas.List.{length-map}
-use Rattle.std.proofs.lemmas.Option.{slice_get_cases, slice_get_within}
+use Rattle.std.proofs.lemmas.Option.{same_Some, slice_get_cases, slice_get_within}
 use Rattle.std.specs.HashMap.{HashMap, get}
 use Rattle.std.specs.Prelude.{◌↔◌, Contains, IfErr, IfOk, IsTrue, nat_eq, slice_get}
 use Rattle.sig_kernel.specs.declared.equation.FunOp.{FunOp}
@@ -15,20 +15,20 @@ use Rattle.sig_file.specs.Guarded.{IsSoundImage, IsSoundOperation, Reads, guarde
 use Rattle.sig_file.specs.Images.{ImageView, IsImage, IsOperation, scope_of}
 use Rattle.sig_file.specs.declared.images.ImageOp.{ImageOp}
 use Rattle.sig_file.proofs.Behind.{each_at}
-use Rattle.sig_verify.specs.Asking.{AreGood, AreOf, AreTold, IsGood, IsGuard, IsTold, IsWrittenWhere, all_asked, asked, choices, guard_at, operands_of, target_of}
-use Rattle.sig_verify.specs.Diagrams.{Follows, IsRefusal}
-use Rattle.sig_verify.specs.Known.{IsFree, IsKnown, IsSoundAt, IsTakenIn, IsWant}
+use Rattle.sig_verify.specs.inner.Asking.{AreGood, AreOf, AreTold, IsGood, IsGuard, IsTold, IsWrittenWhere, all_asked, asked, choices, guard_at, operands_of, target_of}
+use Rattle.sig_verify.specs.inner.Diagrams.{Follows, IsRefusal}
+use Rattle.sig_verify.specs.inner.Known.{IsFree, IsKnown, IsSoundAt, IsTakenIn, IsWant}
 use Rattle.sig_verify.specs.Verifying.{IsFirstUnsound}
 use Rattle.sig_verify.specs.Prelude.{DdAnswer, OutOfMemory, Ref, SigId, test}
 use Rattle.sig_verify.specs.declared.diagrams.Diagrams.{Diagrams}
-use Rattle.sig_verify.specs.Pairs.{IsTired}
+use Rattle.sig_verify.specs.inner.Pairs.{IsTired}
 use Rattle.sig_verify.specs.declared.pairs.Work.{Work}
 use Rattle.sig_verify.specs.declared.verifier.Verifier.{Verifier}
 use Rattle.sig_verify.specs.declared.walk.Told.{Told}
 use Rattle.sig_verify.proofs.Sound.{asks_all, op_sound, reads_all, target_free}
 use Rattle.sig_verify.proofs.Stays.{are_good_kept}
 use Rattle.sig_verify.proofs.Tables.{entry_added}
-use Rattle.sig_verify.proofs.Tiring.{few_operands, reads_room, tired_wants, write_room}
+use Rattle.sig_verify.proofs.CountedPairs.{few_operands, reads_room, tired_wants, write_room}
 use Rattle.sig_verify.proofs.Taken.{calls_for, known_next, told_mid, wants}
 
 -- ---- a guard
@@ -141,9 +141,6 @@ err_weaker P Q (Err e) f h = f e h
 
 -- ---- all operations
 
-some_is : {A : Type 0} (x y : A) → Some x ≡ Some y → x ≡ y
-some_is x y e = cc
-
 as_many : (image : ImageView) → length (guards_of image).ops ≡ length image.ops
 as_many image = length-map image.ops (guarded_in image.nodes)
 
@@ -164,7 +161,7 @@ first_found image n lt unsound before = elim (slice_get_cases (guards_of image).
   | inl found ↦ record {
     op = found.0;
     is = found.2;
-    unsound = λ sound. unsound (λ other e. subst (IsSoundOperation (guards_of image) n) (some_is found.0 other (sym found.2 ∙ e)) sound);
+    unsound = λ sound. unsound (λ other e. subst (IsSoundOperation (guards_of image) n) (same_Some found.0 other (sym found.2 ∙ e)) sound);
     before = λ m earlier less e. before m less earlier e;
   }
   | inr past ↦ let many = as_many image in let le = past.0 in absurd (omega (arith, lt, many, le))

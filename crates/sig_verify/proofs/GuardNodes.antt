@@ -19,7 +19,7 @@ use Rattle.sig_file.specs.Images.{ImageView, IsImage, IsNodeBehind}
 use Rattle.sig_file.specs.declared.images.ImageNode.{ImageNode}
 use Rattle.sig_file.proofs.Behind.{each_at}
 use Rattle.sig_file.proofs.Reduced.{reduced}
-use Rattle.sig_verify.specs.Asking.{choices, guard_at}
+use Rattle.sig_verify.specs.inner.Asking.{choices, guard_at}
 use Rattle.sig_verify.specs.Prelude.{Choice, Constant, Diagram, Holds, slice_get}
 
 pub starts_anywhere : (d : Diagram) → StartsFrom 0 d

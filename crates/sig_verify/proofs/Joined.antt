@@ -2,8 +2,8 @@
 use Rattle.std.proofs.Common.{◌≡◌, ℕ, Bool, List, ap, ◌∙◌, arith}
 use Rattle.std.specs.HashMap.{HashMap}
 use Rattle.std.specs.Prelude.{◌&&◌, if◌then◌else◌}
-use Rattle.sig_verify.specs.Asking.{AreOf, asked}
-use Rattle.sig_verify.specs.Diagrams.{Follows, IsFor, IsOf, IsRefusal}
+use Rattle.sig_verify.specs.inner.Asking.{AreOf, asked}
+use Rattle.sig_verify.specs.inner.Diagrams.{Follows, IsFor, IsOf, IsRefusal}
 use Rattle.sig_verify.specs.Prelude.{DdAnswer, ImageView, Ref, test, truth_of}
 use Rattle.sig_verify.specs.declared.diagrams.Diagrams.{Diagrams}
 use Rattle.sig_verify.proofs.Calls.{for_kept, for_same, test_kept}

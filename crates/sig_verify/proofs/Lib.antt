@@ -10,6 +10,6 @@ pub mod Spent
 pub mod Stays
 pub mod Tables
 pub mod Taken
-pub mod Tiring
+pub mod CountedPairs
 pub mod Verdict
 pub mod Walked

@@ -1,38 +1,35 @@
 -- What makes an operation sound.
 use Rattle.std.proofs.Common.{◌≡◌, ℕ, ◌+◌, Bool, true, List, Option, None, Some, inl, inr, refl, sym, ap, subst, ◌∙◌, ◌⊎◌, arith}
 use Rattle.std.proofs.lemmas.Bool.{cases_lt}
-use Rattle.std.proofs.lemmas.Option.{slice_get-map}
+use Rattle.std.proofs.lemmas.Option.{same_Some, slice_get-map}
 use Rattle.std.specs.HashMap.{HashMap}
 use Rattle.std.specs.Prelude.{◌↔◌, option_map, slice_get}
 use Rattle.sig_file.specs.Guarded.{Guarded, IsSoundOperation, IsWrittenBefore, Reads, Writes, guarded_in, guards_of}
 use Rattle.sig_file.specs.declared.images.ImageOp.{ImageOp}
 use Rattle.sig_file.specs.declared.images.ImageOpKind.{ImageOpKind}
 use Rattle.sig_file.specs.declared.images.ImageOpKind.TheVariants as does
-use Rattle.sig_verify.specs.Asking.{IsGood, IsWrittenWhere, all_asked, asked, asked_of, guard_at, is_written, target_of}
-use Rattle.sig_verify.specs.Known.{IsSoundAt}
+use Rattle.sig_verify.specs.inner.Asking.{IsGood, IsWrittenWhere, all_asked, asked, asked_of, guard_at, is_written, target_of}
+use Rattle.sig_verify.specs.inner.Known.{IsSoundAt}
 use Rattle.sig_verify.specs.Prelude.{Asks, ImageView, Ref, SigId, test, value_at}
 use Rattle.sig_verify.specs.declared.diagrams.Diagrams.{Diagrams}
 use Rattle.sig_verify.proofs.Asks.{asked_all, asked_each}
 
-some_is : {A : Type 0} (x y : A) → Some x ≡ Some y → x ≡ y
-some_is x y e = cc
-
 -- ---- the signal that an operation writes
 
 pub target_written : (kind : ImageOpKind) (y : SigId) → target_of kind ≡ Some y → (x : SigId) → Writes kind x → x ≡ y
-target_written (does.Read z) y e x h = h ∙ some_is z y e
-target_written (does.Fun z op operands) y e x h = h ∙ some_is z y e
-target_written (does.Copy z source) y e x h = h ∙ some_is z y e
-target_written (does.Const z value) y e x h = h ∙ some_is z y e
-target_written (does.DelayRead z memory) y e x h = h ∙ some_is z y e
+target_written (does.Read z) y e x h = h ∙ same_Some z y e
+target_written (does.Fun z op operands) y e x h = h ∙ same_Some z y e
+target_written (does.Copy z source) y e x h = h ∙ same_Some z y e
+target_written (does.Const z value) y e x h = h ∙ same_Some z y e
+target_written (does.DelayRead z memory) y e x h = h ∙ same_Some z y e
 target_written (does.Store memory z) y e x h = absurd h
 
 pub target_writes : (kind : ImageOpKind) (y : SigId) → target_of kind ≡ Some y → Writes kind y
-target_writes (does.Read z) y e = sym (some_is z y e)
-target_writes (does.Fun z op operands) y e = sym (some_is z y e)
-target_writes (does.Copy z source) y e = sym (some_is z y e)
-target_writes (does.Const z value) y e = sym (some_is z y e)
-target_writes (does.DelayRead z memory) y e = sym (some_is z y e)
+target_writes (does.Read z) y e = sym (same_Some z y e)
+target_writes (does.Fun z op operands) y e = sym (same_Some z y e)
+target_writes (does.Copy z source) y e = sym (same_Some z y e)
+target_writes (does.Const z value) y e = sym (same_Some z y e)
+target_writes (does.DelayRead z memory) y e = sym (same_Some z y e)
 target_writes (does.Store memory z) y e = absurd cc
 
 pub no_target : (kind : ImageOpKind) → target_of kind ≡ None → (x : SigId) → Writes kind x → ⊥
@@ -58,7 +55,7 @@ module _ (ops : List Guarded) (n : ℕ) (op : Guarded) (at : slice_get ops n ≡
     | inr le ↦
         let below = h.before in
         let same : h.earlier ≡ n = omega (arith, below, le) in
-        let here : op ≡ h.op = some_is op h.op (sym at ∙ subst (λ m. slice_get ops m ≡ Some h.op) same h.is) in
+        let here : op ≡ h.op = same_Some op h.op (sym at ∙ subst (λ m. slice_get ops m ≡ Some h.op) same h.is) in
         inr (subst (λ (o : Guarded). value_at o.guard truths ≡ true) (sym here) h.holds, subst (λ (o : Guarded). Writes o.kind x) (sym here) h.writes)
   ]
 
@@ -69,7 +66,7 @@ module _ (image : ImageView) (n : ℕ) (op : ImageOp) (at : slice_get image.ops 
   at_guarded = slice_get-map (guarded_in image.nodes) image.ops n ∙ ap (option_map (guarded_in image.nodes)) at
 
   pub sound_at : IsSoundOperation (guards_of image) n (guarded_in image.nodes op) → IsSoundAt image n
-  sound_at sound other is = subst (IsSoundOperation (guards_of image) n) (some_is (guarded_in image.nodes op) other (sym at_guarded ∙ is)) sound
+  sound_at sound other is = subst (IsSoundOperation (guards_of image) n) (same_Some (guarded_in image.nodes op) other (sym at_guarded ∙ is)) sound
 
   module _ {S : Type 0} (d : Diagrams) (written : HashMap ℕ Ref S)
       (told : (x : SigId) (truths : List Bool) → (is_written d.store.nodes written x.0 truths ≡ true) ↔ IsWrittenBefore (guards_of image).ops n truths x) where

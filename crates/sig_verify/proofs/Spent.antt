@@ -3,7 +3,7 @@ use Rattle.std.proofs.Common.{◌≡◌, ℕ, ◌+◌, ◌*◌, ◌<◌, ◌≤�
 use Rattle.std.specs.Prelude.{IfErr, IsErrAnd}
 use Rattle.std.proofs.Math.Nat.{mul-le-mul}
 use Rattle.sig_dd.proofs.CallerLemmas.{Keeps-itself, Keeps-trans}
-use Rattle.sig_verify.specs.Diagrams.{AreDiagrams, Follows, IsRefusal}
+use Rattle.sig_verify.specs.inner.Diagrams.{AreDiagrams, Follows, IsRefusal}
 use Rattle.sig_verify.specs.Prelude.{Budget, DdAnswer, NODES, OutOfMemory}
 use Rattle.sig_verify.specs.declared.diagrams.Diagrams.{Diagrams}
 

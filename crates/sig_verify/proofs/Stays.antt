@@ -2,8 +2,8 @@
 use Rattle.std.proofs.Common.{◌≡◌, ℕ, Bool, true, List, Option, None, Some, refl, sym, subst, ◌∙◌}
 use Rattle.std.specs.HashMap.{HashMap, get}
 use Rattle.std.specs.Prelude.{IfSome, nat_eq, slice_get}
-use Rattle.sig_verify.specs.Asking.{AreGood, AreOf, AreTold, IsGood, IsScene, IsTold, all_asked, asked, asked_of, guard_at, is_written, true_at}
-use Rattle.sig_verify.specs.Diagrams.{Follows, IsOf}
+use Rattle.sig_verify.specs.inner.Asking.{AreGood, AreOf, AreTold, IsGood, IsScene, IsTold, all_asked, asked, asked_of, guard_at, is_written, true_at}
+use Rattle.sig_verify.specs.inner.Diagrams.{Follows, IsOf}
 use Rattle.sig_verify.specs.Prelude.{ImageView, Ref, SigId}
 use Rattle.sig_verify.specs.declared.diagrams.Diagrams.{Diagrams}
 use Rattle.sig_verify.specs.declared.walk.Told.{Told}

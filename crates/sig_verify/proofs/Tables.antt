@@ -3,8 +3,8 @@ use Rattle.std.proofs.Common.{◌≡◌, ℕ, Bool, true, false, List, Option, N
 use Rattle.std.proofs.lemmas.Bool.{eqb-true}
 use Rattle.std.specs.HashMap.{HashMap, get}
 use Rattle.std.specs.Prelude.{◌||◌, ◌&&◌, ◌↔◌, IfSome, IsTrue, nat_eq, slice_get}
-use Rattle.sig_verify.specs.Asking.{AreOf, IsWrittenWhere, asked, asked_of, is_written, true_at}
-use Rattle.sig_verify.specs.Diagrams.{Follows, IsFor, IsOf}
+use Rattle.sig_verify.specs.inner.Asking.{AreOf, IsWrittenWhere, asked, asked_of, is_written, true_at}
+use Rattle.sig_verify.specs.inner.Diagrams.{Follows, IsFor, IsOf}
 use Rattle.sig_verify.specs.Prelude.{ImageView, Implies, Overlap, Ref, SigId, test}
 use Rattle.sig_verify.specs.declared.diagrams.Diagrams.{Diagrams}
 use Rattle.sig_verify.proofs.Calls.{for_same}

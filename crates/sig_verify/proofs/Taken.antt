@@ -6,9 +6,9 @@ use Rattle.std.specs.Prelude.{◌↔◌, ◌||◌, ◌&&◌, nat_eq, slice_get}
 use Rattle.std.proofs.lemmas.Bool.{eq-eqb, eqb-true}
 use Rattle.sig_file.specs.Guarded.{IsWrittenBefore, Writes, guarded_in, guards_of}
 use Rattle.sig_file.specs.declared.images.ImageOp.{ImageOp}
-use Rattle.sig_verify.specs.Asking.{AreGood, AreTold, IsGood, IsScene, IsTold, asked, asked_of, choices, guard_at, is_written, target_of}
-use Rattle.sig_verify.specs.Diagrams.{Follows, IsRefusal}
-use Rattle.sig_verify.specs.Known.{IsKnown, IsTakenIn, IsWant, is_target}
+use Rattle.sig_verify.specs.inner.Asking.{AreGood, AreTold, IsGood, IsScene, IsTold, asked, asked_of, choices, guard_at, is_written, target_of}
+use Rattle.sig_verify.specs.inner.Diagrams.{Follows, IsRefusal}
+use Rattle.sig_verify.specs.inner.Known.{IsKnown, IsTakenIn, IsWant, is_target}
 use Rattle.sig_verify.specs.Verifying.{IsBeyondBound}
 use Rattle.sig_verify.specs.Prelude.{Budget, DdAnswer, ImageView, IsImage, NODES, OutOfMemory, Ref, SigId, test, value_at}
 use Rattle.sig_verify.specs.declared.diagrams.Diagrams.{Diagrams}

@@ -4,7 +4,7 @@ use Rattle.std.proofs.lemmas.Bool.{cases_lt}
 use Rattle.std.specs.Prelude.{slice_get}
 use Rattle.sig_file.specs.Guarded.{Guarded, IsSoundImage, IsSoundOperation, guards_of}
 use Rattle.sig_file.specs.Images.{ImageView}
-use Rattle.sig_verify.specs.Known.{IsSoundAt}
+use Rattle.sig_verify.specs.inner.Known.{IsSoundAt}
 use Rattle.sig_verify.specs.Verifying.{IsFirstUnsound}
 use Rattle.sig_verify.proofs.Decided.{Decides, sound_or_not}
 use Rattle.sig_verify.proofs.Found.{all_sound, first_found, one_more}

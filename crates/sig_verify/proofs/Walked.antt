@@ -4,8 +4,8 @@ use Rattle.std.proofs.lemmas.Bool.{cases_eq}
 use Rattle.std.specs.HashMap.{HashMap}
 use Rattle.std.specs.Prelude.{◌&&◌, if◌then◌else◌, nat_eq, slice_get}
 use Rattle.sig_file.specs.declared.images.ImageNode.{ImageNode}
-use Rattle.sig_verify.specs.Asking.{AreOf, IsTold, all_asked, asked, choices, guard_at}
-use Rattle.sig_verify.specs.Diagrams.{Follows, IsFor, IsRefusal}
+use Rattle.sig_verify.specs.inner.Asking.{AreOf, IsTold, all_asked, asked, choices, guard_at}
+use Rattle.sig_verify.specs.inner.Diagrams.{Follows, IsFor, IsRefusal}
 use Rattle.sig_verify.specs.Prelude.{Constant, DdAnswer, Diagram, ImageView, IsImage, Ref, test, truth_of}
 use Rattle.sig_dd.specs.Diagram.{value_at}
 use Rattle.sig_verify.specs.declared.diagrams.Diagrams.{Diagrams}

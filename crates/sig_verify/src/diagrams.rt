@@ -2,8 +2,8 @@
 
 ghost use Rattle.std.specs.Prelude.{◌≡◌, ◌↔◌, ◌+◌, ◌<◌, ◌≤◌, ◌^◌, ◌&&◌, ◌||◌, if◌then◌else◌};
 ghost use Rattle.sig_verify.specs.Prelude.{Bool, List, IfErr, IfOk, IsTrue, OnErr, OnOk, true, NODES, Implies, Overlap, test, truth_of};
-ghost use Rattle.sig_verify.specs.Diagrams.{AreDiagrams, Follows, IsFor, IsOf, IsRefusal};
-ghost use Rattle.sig_verify.specs.Pairs.{IsTired};
+ghost use Rattle.sig_verify.specs.inner.Diagrams.{AreDiagrams, Follows, IsFor, IsOf, IsRefusal};
+ghost use Rattle.sig_verify.specs.inner.Pairs.{IsTired};
 
 use crate::pairs::Work;
 use sig_base::limits::NODES;

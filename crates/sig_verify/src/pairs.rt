@@ -2,8 +2,8 @@
 
 ghost use Rattle.std.specs.Prelude.{◌≡◌, ◌↔◌, ◌<◌, ◌≤◌, ◌+◌, ◌-◌, ◌^◌};
 ghost use Rattle.sig_verify.specs.Prelude.{ℕ, IfErr, IfOk, IsStore, IsTrue, OnErr, OnOk, earlier_of, side_of};
-ghost use Rattle.sig_verify.specs.Diagrams.{IsOf};
-ghost use Rattle.sig_verify.specs.Pairs.{HoldsBoth, IsPairStep, IsTired, IsWithin, Meets, NoneMeets};
+ghost use Rattle.sig_verify.specs.inner.Diagrams.{IsOf};
+ghost use Rattle.sig_verify.specs.inner.Pairs.{HoldsBoth, IsPairStep, IsTired, IsWithin, Meets, NoneMeets};
 
 use crate::diagrams::Diagrams;
 use sig_base::limits::NODES;

@@ -2,9 +2,9 @@
 
 ghost use Rattle.std.specs.Prelude.{◌≡◌, ◌↔◌, ◌≤◌, ◌+◌, ◌*◌, ◌^◌};
 ghost use Rattle.sig_verify.specs.Prelude.{Contains, IfErr, IfOk, IsTrue, ImageOpKind, Operand, Reads, Sig, SigId, length};
-ghost use Rattle.sig_verify.specs.Asking.{AreOf, IsWrittenWhere, operands_of, target_of};
-ghost use Rattle.sig_verify.specs.Diagrams.{IsOf};
-ghost use Rattle.sig_verify.specs.Pairs.{IsTired};
+ghost use Rattle.sig_verify.specs.inner.Asking.{AreOf, IsWrittenWhere, operands_of, target_of};
+ghost use Rattle.sig_verify.specs.inner.Diagrams.{IsOf};
+ghost use Rattle.sig_verify.specs.inner.Pairs.{IsTired};
 
 use crate::diagrams::Diagrams;
 use crate::pairs::Work;

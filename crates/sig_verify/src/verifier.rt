@@ -2,10 +2,10 @@
 
 ghost use Rattle.std.specs.Prelude.{◌≡◌, ◌<◌, ◌≤◌, ◌+◌, ◌*◌, ◌^◌, ◌↔◌, ◌⊎◌};
 ghost use Rattle.sig_verify.specs.Prelude.{IfErr, IfOk, IfSome, IsTrue, OnOk, OutOfMemory, SigId, Some, false, length, true};
-ghost use Rattle.sig_verify.specs.Asking.{AreGood, AreOf, AreTold, IsGood, IsGuard, IsScene, asked, choices, guard_at};
-ghost use Rattle.sig_verify.specs.Diagrams.{AreDiagrams, Follows, IsOf, IsRefusal};
-ghost use Rattle.sig_verify.specs.Pairs.{IsTired};
-ghost use Rattle.sig_verify.specs.Known.{IsFree, IsKnown, IsSoundAt, IsTakenIn, IsWant};
+ghost use Rattle.sig_verify.specs.inner.Asking.{AreGood, AreOf, AreTold, IsGood, IsGuard, IsScene, asked, choices, guard_at};
+ghost use Rattle.sig_verify.specs.inner.Diagrams.{AreDiagrams, Follows, IsOf, IsRefusal};
+ghost use Rattle.sig_verify.specs.inner.Pairs.{IsTired};
+ghost use Rattle.sig_verify.specs.inner.Known.{IsFree, IsKnown, IsSoundAt, IsTakenIn, IsWant};
 
 use crate::diagrams::Diagrams;
 use crate::pairs::Work;

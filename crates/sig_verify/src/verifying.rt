@@ -2,7 +2,7 @@
 
 ghost use Rattle.std.specs.Prelude.{◌≡◌, ◌⊎◌};
 ghost use Rattle.sig_verify.specs.Prelude.{ℕ, IfErr, IfOk, IsErrAnd, IsSoundImage};
-ghost use Rattle.sig_verify.specs.Known.{IsVerdict, IsWant};
+ghost use Rattle.sig_verify.specs.inner.Known.{IsVerdict, IsWant};
 ghost use Rattle.sig_verify.specs.Verifying.{IsBeyondBound, IsFirstUnsound};
 
 use crate::answer::VerifyAnswer;

@@ -2,8 +2,8 @@
 
 ghost use Rattle.std.specs.Prelude.{◌≡◌, ◌<◌, ◌+◌, ◌*◌, ◌&&◌, if◌then◌else◌};
 ghost use Rattle.sig_verify.specs.Prelude.{ℕ, Bool, List, IfErr, IfOk, ImageView, OnOk, false, length, test, true, truth_of};
-ghost use Rattle.sig_verify.specs.Asking.{AreTold, IsScene, IsTold, asked, choices, guard_at};
-ghost use Rattle.sig_verify.specs.Diagrams.{Follows, IsFor, IsOf, IsRefusal};
+ghost use Rattle.sig_verify.specs.inner.Asking.{AreTold, IsScene, IsTold, asked, choices, guard_at};
+ghost use Rattle.sig_verify.specs.inner.Diagrams.{Follows, IsFor, IsOf, IsRefusal};
 ghost use Rattle.sig_verify.specs.declared.diagrams.Diagrams.{Diagrams};
 
 use crate::diagrams::Diagrams;

@@ -2,8 +2,8 @@
 
 ghost use Rattle.std.specs.Prelude.{◌≡◌};
 ghost use Rattle.sig_verify.specs.Prelude.{ℕ, OnOk, Some, false, get, nat_eq};
-ghost use Rattle.sig_verify.specs.Asking.{AreOf, asked, is_written};
-ghost use Rattle.sig_verify.specs.Diagrams.{IsFor};
+ghost use Rattle.sig_verify.specs.inner.Asking.{AreOf, asked, is_written};
+ghost use Rattle.sig_verify.specs.inner.Diagrams.{IsFor};
 
 use crate::diagrams::Diagrams;
 use crate::parts::condition_at;

@@ -30,10 +30,10 @@ pub use Rattle.clap.specs.declared.parser.matches.ValueSource.{ValueSource}
 pub use Rattle.clap.specs.declared.parser.matches.ValueSource.TheVariants.{CommandLine, DefaultValue}
 pub use Rattle.clap.proofs.WalkLemmas.{first_value-rows, one_text-rows, raw_values-rows}
 pub use Rattle.sig_words.specs.Commands.{AreSeedAndStages, AreSettings, HasPlainWords, IsCommand, IsFlag, IsSetting, OptionValues, files_of, option_values, options_of, settings_of, spelling, verb_of}
-pub use Rattle.sig_words.specs.Lines.{Shows, command_line, line_shape, option_rule, pace_rule, plain_rule}
-pub use Rattle.sig_words.specs.Numbers.{IsNumber, IsNumberWithin}
+pub use Rattle.sig_words.specs.inner.Lines.{Shows, command_line, line_shape, option_rule, pace_rule, plain_rule}
+pub use Rattle.sig_words.specs.inner.Numbers.{IsNumber, IsNumberWithin}
 pub use Rattle.sig_words.specs.Readings.{Apart, IsGood, IsReading, Item, Joined, Pace, Plain, Reading, Word, is_plain, name_of, paces, plain_in, plain_words, texts, values_in, values_of, written, written_behind}
-pub use Rattle.sig_words.specs.Said.{HasPlainValue, IsMadeWith, IsSaid, Said, referents, said_by, said_values}
+pub use Rattle.sig_words.specs.inner.Said.{HasPlainValue, IsMadeWith, IsSaid, Said, referents, said_by, said_values}
 pub use Rattle.sig_words.specs.declared.answer.WordsAnswer.{WordsAnswer}
 pub use Rattle.sig_words.specs.declared.command.Command.{Command}
 pub use Rattle.sig_words.specs.declared.command.Command.TheVariants.{Build, Check, Code, Exec, Judge, Load, Play, Print, Run, Tree}

@@ -1,7 +1,7 @@
 -- The commands, and the words that are one.
 use Rattle.std.specs.Prelude.{◌≡◌, ◌⊎◌, ℕ, Bool, true, false, List, [], ◌∷◌, codes}
 use Rattle.sig_base.specs.declared.limits.TheConstants.{WORKERS_MAX, WORKERS_DEFAULT, CAPACITY_MAX, CAPACITY_DEFAULT, INSTANTS_MAX, INSTANTS_DEFAULT}
-use Rattle.sig_words.specs.Numbers.{IsNumberWithin}
+use Rattle.sig_words.specs.inner.Numbers.{IsNumberWithin}
 use Rattle.sig_words.specs.Readings.{Word, Reading, IsReading, plain_words, values_of, paces}
 use Rattle.sig_words.specs.declared.option.OptionName.TheVariants.{Workers, Capacity, Instants}
 use Rattle.sig_words.specs.declared.verb.Options.{Options}

@@ -1,5 +1,3 @@
 pub mod Commands
-pub mod Lines
-pub mod Numbers
 pub mod Readings
-pub mod Said
+pub mod inner

@@ -2,9 +2,9 @@
 
 ghost use Rattle.std.specs.Prelude.{◌≡◌, ◌⊎◌, false, IfOk, IfErr};
 ghost use Rattle.clap.specs.Words.{app_of, found_of, rows_of, rule_of};
-ghost use Rattle.sig_words.specs.Lines.{Shows, command_line, option_rule};
+ghost use Rattle.sig_words.specs.inner.Lines.{Shows, command_line, option_rule};
 ghost use Rattle.sig_words.specs.Readings.{texts};
-ghost use Rattle.sig_words.specs.Said.{IsSaid, Said, said_by};
+ghost use Rattle.sig_words.specs.inner.Said.{IsSaid, Said, said_by};
 
 use crate::answer::WordsAnswer;
 use crate::option::OptionName;

@@ -3,7 +3,7 @@
 ghost use Rattle.std.specs.Prelude.{◌≡◌, ◌≤◌, ◌^◌, ℕ, MatchOption};
 ghost use Rattle.std.specs.List.{list_all};
 ghost use Rattle.std.specs.Char.{is_ascii_digit};
-ghost use Rattle.sig_words.specs.Numbers.{IsNumber};
+ghost use Rattle.sig_words.specs.inner.Numbers.{IsNumber};
 
 /// The most digits of a number.
 const DIGITS: usize = 20;

@@ -3,7 +3,7 @@
 ghost use Rattle.std.specs.Prelude.{◌≡◌, ◌≢◌, ◌⊎◌, ◌∷◌, [], ℕ, IfOk, IfErr};
 ghost use Rattle.sig_words.specs.Commands.{AreSeedAndStages, HasPlainWords, verb_of};
 ghost use Rattle.sig_words.specs.Readings.{Word};
-ghost use Rattle.sig_words.specs.Said.{IsMadeWith, referents};
+ghost use Rattle.sig_words.specs.inner.Said.{IsMadeWith, referents};
 ghost use Rattle.sig_words.specs.declared.command.Command.{Command};
 
 use crate::answer::WordsAnswer;

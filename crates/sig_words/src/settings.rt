@@ -2,7 +2,7 @@
 
 ghost use Rattle.std.specs.Prelude.{◌≡◌, ◌≤◌, ◌^◌, ◌<◌, ℕ, MatchResult, option_map, option_to_list};
 ghost use Rattle.sig_words.specs.Commands.{AreSettings, IsFlag, IsSetting};
-ghost use Rattle.sig_words.specs.Said.{said_values, said_by};
+ghost use Rattle.sig_words.specs.inner.Said.{said_values, said_by};
 ghost use Rattle.sig_words.specs.declared.command.Settings.{Settings};
 
 use crate::answer::WordsAnswer;

@@ -1,4 +1,4 @@
-use Rattle.sig_flat.proofs.Validating.{valid}
+use Rattle.sig_flat.proofs.ValidKernel.{valid}
 use Rattle.sig_flat.proofs.valid.kernels_are_valid.Goals as goal
 
 pub returns : goal.returns

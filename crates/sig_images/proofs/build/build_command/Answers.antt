@@ -1,7 +1,7 @@
 use Rattle.std.proofs.Common.{◌≡◌, ◌∙◌, inl, inr, refl, sym}
 use Rattle.sig_outcome.specs.Outcomes.{done}
 use Rattle.sig_outcome.specs.Tasks.{SaysLine}
-use Rattle.sig_outcome.proofs.Performing.{performs_outcome, performs_refusal}
+use Rattle.sig_outcome.proofs.PerformedCalls.{performs_outcome, performs_refusal}
 use Rattle.sig_images.specs.Builds.{building}
 use Rattle.sig_images.proofs.LastBegun.{no_refusal}
 use Rattle.sig_images.proofs.ImageTaken.{took_image}

@@ -1,7 +1,7 @@
 use Rattle.std.proofs.Common.{◌≡◌}
 use Rattle.sig_text.specs.Files.{name_where_there}
 use Rattle.sig_outcome.specs.Tasks.{SaysLine}
-use Rattle.sig_outcome.proofs.Performing.{performs_refusal}
+use Rattle.sig_outcome.proofs.PerformedCalls.{performs_refusal}
 use Rattle.sig_images.specs.Execs.{executing}
 use Rattle.sig_images.proofs.LastBegun.{no_run_budget, told_by, told_never}
 use Rattle.sig_images.proofs.OneExec.{exec_number, one_exec_outcome}

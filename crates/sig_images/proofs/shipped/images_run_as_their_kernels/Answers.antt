@@ -12,7 +12,7 @@ use Rattle.sig_file.specs.ImageRuns.{IsImageRun}
 use Rattle.sig_file.specs.Images.{ImageView}
 use Rattle.sig_file.specs.PlanImages.{image_of}
 use Rattle.sig_shipped.specs.Ends.{end_in}
-use Rattle.sig_shipped.proofs.Running.{runs_as}
+use Rattle.sig_shipped.proofs.ImageRunsAsPlan.{runs_as}
 use Rattle.sig_shipped.proofs.Sound.{sound}
 use Rattle.sig_images.specs.Builds.{IsKernelImage}
 use Rattle.sig_images.proofs.shipped.images_run_as_their_kernels.Goals as goal

@@ -1,5 +1,5 @@
 use Rattle.std.proofs.Common.{◌*◌, ◌^◌, length, arith}
-use Rattle.sig_verify.specs.Pairs.{IsTired}
+use Rattle.sig_verify.specs.inner.Pairs.{IsTired}
 use Rattle.sig_verify.proofs.Compared.{all_of_few, one_more_few, one_more_tired}
 use Rattle.sig_verify.proofs.Spent.{pass_on}
 use Rattle.sig_verify.proofs.reads.operands_written.Goals as goal

@@ -1,7 +1,7 @@
 -- The signals among the operands so far were written, and each was compared once.
 use Rattle.std.proofs.Common.{◌≡◌, ℕ, ◌+◌, ◌*◌, ◌^◌, ◌<◌, ◌≤◌}
 use Rattle.std.specs.Prelude.{slice_index_or}
-use Rattle.sig_verify.specs.Asking.{IsWrittenWhere}
+use Rattle.sig_verify.specs.inner.Asking.{IsWrittenWhere}
 use Rattle.sig_verify.specs.Prelude.{Sig, SigId}
 use Rattle.sig_verify.proofs.reads.operands_written.Given as goal
 

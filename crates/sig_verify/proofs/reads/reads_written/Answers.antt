@@ -1,4 +1,4 @@
-use Rattle.sig_verify.specs.Asking.{IsWrittenWhere}
+use Rattle.sig_verify.specs.inner.Asking.{IsWrittenWhere}
 use Rattle.sig_verify.proofs.Found.{fun_reads}
 use Rattle.sig_verify.proofs.reads.reads_written.Goals as goal
 

@@ -1,6 +1,6 @@
 use Rattle.std.proofs.Common.{◌*◌, arith, false, ◌∙◌}
-use Rattle.sig_verify.specs.Asking.{asked, choices, guard_at}
-use Rattle.sig_verify.specs.Diagrams.{IsRefusal}
+use Rattle.sig_verify.specs.inner.Asking.{asked, choices, guard_at}
+use Rattle.sig_verify.specs.inner.Diagrams.{IsRefusal}
 use Rattle.sig_verify.proofs.Calls.{of_kept}
 use Rattle.sig_verify.proofs.GuardNodes.{high_less, high_within, low_less, low_within, variable_within}
 use Rattle.sig_verify.proofs.Spent.{pass_on}

@@ -1,5 +1,5 @@
 use Rattle.sig_file.proofs.Common.{◌≡◌, ◌+◌, Err, ap, drop, rules}
-use Rattle.sig_file.specs.Numbering.{made_behind}
+use Rattle.sig_file.specs.inner.Numbering.{made_behind}
 use Rattle.sig_file.specs.declared.answer.FileAnswer.TheVariants.{TooLong}
 use Rattle.sig_file.specs.declared.limits.TheConstants.{ROOM_FOR_NODES}
 use Rattle.sig_file.proofs.MadeBehind.{long_behind}

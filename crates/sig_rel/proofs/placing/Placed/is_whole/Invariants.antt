@@ -1,5 +1,5 @@
 use Rattle.sig_rel.proofs.{◌≡◌, ◌<◌, ℕ, true}
-use Rattle.sig_rel.specs.Tables.{has_both}
+use Rattle.sig_rel.specs.inner.Tables.{has_both}
 use Rattle.sig_rel.proofs.placing.Placed.is_whole.Given as goal
 
 abbrev pub invariant-loop-signal : goal.invariant-loop-signal

@@ -1,5 +1,5 @@
 use Rattle.sig_rel.proofs.{[], ◌∷◌, arith, ap, sym, ◌∙◌, IfOk-weaker, SpanAll, truth_by_form, itself, SpanColumns, operand_at, values_at, presence_spans, truth_spans, made_choice, makes_wider}
-use Rattle.sig_rel.specs.TruthFunctions.{truth_given}
+use Rattle.sig_rel.specs.inner.TruthFunctions.{truth_given}
 use Rattle.sig_rel.proofs.substitution.Columns.truth.Goals as goal
 
 pub returns-in-Fun-clause-value : goal.returns-in-Fun-clause-value

@@ -1,6 +1,6 @@
 use Rattle.std.proofs.Common.{◌*◌, sym, subst}
-use Rattle.sig_verify.specs.Asking.{IsScene, choices, guard_at}
-use Rattle.sig_verify.specs.Diagrams.{IsRefusal}
+use Rattle.sig_verify.specs.inner.Asking.{IsScene, choices, guard_at}
+use Rattle.sig_verify.specs.inner.Diagrams.{IsRefusal}
 use Rattle.sig_verify.proofs.Found.{err_weaker}
 use Rattle.sig_verify.proofs.Spent.{again_refused}
 use Rattle.sig_verify.proofs.Stays.{scene_kept}

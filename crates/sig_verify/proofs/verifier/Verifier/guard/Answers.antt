@@ -1,5 +1,5 @@
 use Rattle.std.proofs.Common.{◌*◌, sym, subst}
-use Rattle.sig_verify.specs.Asking.{AreGood, AreOf, IsGuard, choices, guard_at}
+use Rattle.sig_verify.specs.inner.Asking.{AreGood, AreOf, IsGuard, choices, guard_at}
 use Rattle.sig_verify.proofs.Found.{good_added}
 use Rattle.sig_verify.proofs.Stays.{are_good_kept}
 use Rattle.sig_verify.proofs.verifier.Verifier.guard.Goals as goal

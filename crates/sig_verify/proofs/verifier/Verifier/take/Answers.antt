@@ -1,8 +1,8 @@
 use Rattle.std.proofs.Common.{◌*◌, ◌^◌, ◌⊎◌, subst}
-use Rattle.sig_verify.specs.Asking.{IsGuard, choices, guard_at}
-use Rattle.sig_verify.specs.Diagrams.{IsRefusal}
-use Rattle.sig_verify.specs.Known.{IsWant}
-use Rattle.sig_verify.specs.Pairs.{IsTired}
+use Rattle.sig_verify.specs.inner.Asking.{IsGuard, choices, guard_at}
+use Rattle.sig_verify.specs.inner.Diagrams.{IsRefusal}
+use Rattle.sig_verify.specs.inner.Known.{IsWant}
+use Rattle.sig_verify.specs.inner.Pairs.{IsTired}
 use Rattle.sig_verify.proofs.Found.{err_weaker, few_behind, guard_unsound, guard_wants, guard_within, reads_unsound, reads_wants, write_known, write_sound, written_wants}
 use Rattle.sig_verify.proofs.Spent.{pass_on}
 use Rattle.sig_verify.proofs.Taken.{scene_mid}

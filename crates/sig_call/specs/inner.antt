@@ -1,0 +1,4 @@
+-- Definitions that no other crate cites.
+pub mod Calling
+pub mod Copies
+pub mod MadeOf

@@ -1,0 +1,3 @@
+-- Definitions that no other crate cites.
+pub mod Coding
+pub mod Turns

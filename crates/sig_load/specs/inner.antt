@@ -1,0 +1,3 @@
+-- Definitions that no other crate cites.
+pub mod Draws
+pub mod Pieces

@@ -1,0 +1,2 @@
+-- Definitions that no other crate cites.
+pub mod Making

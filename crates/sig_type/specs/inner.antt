@@ -1,0 +1,4 @@
+-- Definitions that no other crate cites.
+pub mod Asked
+pub mod Findings
+pub mod Unknown

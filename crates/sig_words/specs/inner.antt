@@ -1,0 +1,4 @@
+-- Definitions that no other crate cites.
+pub mod Lines
+pub mod Numbers
+pub mod Said
