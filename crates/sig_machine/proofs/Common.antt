@@ -1,8 +1,8 @@
 -- What the proofs of this crate cite of std, of the crates below and of its own specs, passed on from one place.
-pub use Rattle.std.proofs.Common.{All, Bool, Contains, Err, FitsSigned, IfOk, IfSome, IsSomeAnd, IsTrue, List, None, Ok, Option, Result, Some, [], ap, append_assoc, arith, cond, drop, eq-eqb, eqb, eqb-true, false, get_or, if◌then◌else◌, inl, inr, is_some, length, length-append, length-set, ltb-false, ltb-true, map, nat_lt, not, pos, refl, replicate, rules, set, slice_get, slice_index_or, subst, suc, sym, take, take_at, true, unwrap_or, w64, zero, ℕ, ℤ, ◌++◌, ◌+◌, ◌-◌, ◌<◌, ◌==◌, ◌∙◌, ◌∷◌, ◌≡◌, ◌≢◌, ◌≤◌, ◌⊎◌, ◌&&◌}
+pub use Rattle.std.proofs.Common.{All, Bool, Contains, Err, FitsSigned, IfOk, IfSome, IsSomeAnd, IsTrue, List, None, Ok, Option, Result, Some, [], ap, append_assoc, arith, cond, drop, eq-eqb, eqb, eqb-true, false, get_or, if◌then◌else◌, inl, inr, is_some, length, length-append, length-set, ltb-false, ltb-true, map, nat_lt, not, pos, refl, replicate, rules, set, slice_get, slice_index_or, subst, suc, sym, take, take_at, to_z, of_z, true, unwrap_or, w64, zero, ℕ, ℤ, ◌++◌, ◌+◌, ◌-◌, ◌<◌, ◌==◌, ◌∙◌, ◌∷◌, ◌≡◌, ◌≢◌, ◌≤◌, ◌⊎◌, ◌&&◌}
 pub use Rattle.std.proofs.lemmas.Bool.Decides.{eqb_tells}
-pub use Rattle.std.proofs.lemmas.List.{length-replicate}
-pub use Rattle.std.proofs.lemmas.Option.{slice_get_past}
+pub use Rattle.std.proofs.lemmas.List.{length-replicate, with_items_is}
+pub use Rattle.std.proofs.lemmas.Option.{slice_get-get_or as get_at, slice_get_past, slice_get_within as get_within}
 pub use Rattle.std.proofs.lemmas.Result.{err_from_is_err_and}
 pub use Rattle.std.specs.Vec.{with_items}
 pub use Rattle.sig_dd.proofs.Canonical.{one_ref}
@@ -14,6 +14,7 @@ pub use Rattle.sig_clock.proofs.Common.{AreInOrder, IsEarlier, Signal, cases_ord
 pub use Rattle.sig_clock.proofs.LayerLemmas.{one_layer}
 pub use Rattle.sig_plan.proofs.Common.{IsGuardOf, Ref, of_operation}
 pub use Rattle.sig_plan.proofs.Indices.{read_below}
+pub use Rattle.sig_lists.proofs.Places.{some_at}
 pub use Rattle.sig_plan.proofs.NamedInSteps.{order_names}
 pub use Rattle.sig_plan.proofs.Slotted.{guard_alone, guard_held}
 pub use Rattle.sig_model.specs.Actors.{code_of, opening_actor, value_in}
@@ -23,7 +24,8 @@ pub use Rattle.sig_model.specs.Results.{is_one}
 pub use Rattle.sig_values.proofs.Common.{Outcome, answered, input_of, slice_get_read, to_z-of_z}
 pub use Rattle.sig_values.proofs.Functions.{of_many, two_of}
 pub use Rattle.sig_values.specs.Values.{at_next}
-pub use Rattle.sig_meaning.proofs.Common.{Actor, All-cons, All-contains, All-nil, AreFlowsFor, Cause, Compute, Const, Default, Delay, DelayRead, Depends, EqId, Equation, Event, Faults, Form, Fun, FunOp, Function, HasOperations, Holds, Instant, IsAccepted, IsValid, Kernel, Left, Node, Op, OpKind, Operand, Operation, PlanView, Presence, Read, Registers, Right, Sig, SigId, Store, Sync, Trace, When, WhenConst, abstraction_of, and_parts, computed, computed_at, computed_by, computed_for, contains_at, contains_head, contains_later, divides_by_zero, each_operation, first_in, form_within, function_of, get_at, get_within, is_below, is_true, list_all, no_registers, numbers_of, only, operand_in, operand_within, operands_of, operation_in, operations_in, operations_of, outcome, outcome_by, place_at, plan_operations, read_present, result_of, seen_at, signal_id, signals_of, store_of, stores_of, test, truth_of, truths_of, with_at, with_signal, without, writes_of, writing, written_below}
+pub use Rattle.sig_meaning.proofs.Common.{Actor, All-cons, All-contains, All-nil, AreFlowsFor, Cause, Compute, Const, Default, Delay, DelayRead, Depends, EqId, Equation, Event, Faults, Form, Fun, FunOp, Function, HasOperations, Holds, Instant, IsAccepted, IsValid, Kernel, Left, Node, Op, OpKind, Operand, Operation, PlanView, Presence, Read, Registers, Right, Sig, SigId, Store, Sync, Trace, When, WhenConst, abstraction_of, and_parts, computed, computed_at, computed_by, computed_for, divides_by_zero, each_operation, first_in, form_within, function_of, is_below, is_true, list_all, no_registers, numbers_of, only, operand_in, operand_within, operands_of, operation_in, operations_in, operations_of, outcome, outcome_by, place_at, plan_operations, read_present, result_of, seen_at, signal_id, signals_of, store_of, stores_of, test, truth_of, truths_of, with_at, with_signal, without, writes_of, writing, written_below}
+pub use Rattle.sig_lists.proofs.Contained.{contains_at, contains_head, contains_later}
 pub use Rattle.sig_doing.proofs.Amid.{guard_known, here, reads_known}
 pub use Rattle.sig_doing.proofs.Common.{Gives, IsAmid, OpId, StandsAt, compiled, condition_signal, defined_by, fitting, flow_count, has_64_bits, initial_in, operated, own_present, remembers, stepped, taken_by, target_of, target_within}
 pub use Rattle.sig_doing.proofs.FaultEndsRun.{fault_end}
@@ -38,6 +40,7 @@ pub use Rattle.sig_machine.specs.Instants.{ComesOn, EndsBy, GoesOn, ended_behind
 pub use Rattle.sig_machine.specs.Lowerings.{AreRuns, HasReads, HasShape, IsFor, IsLeft, IsRun, IsTarget, IsWorkOf, Lowers, taken_by_form}
 pub use Rattle.sig_machine.specs.Machines.{HaveConstants, IsMachineFor, IsMachineOf, actor_at, cell, memories_at, memories_of, registers_of, stamped, taken_of}
 pub use Rattle.sig_machine.specs.Opcodes.{AreCoded, ComesTo, IsCoded, work_of}
+pub use Rattle.sig_machine.specs.inner.Rows.{GoesAlong}
 pub use Rattle.sig_machine.specs.inner.Present.{FaultsWith, IsDoneWith, given, present_cell}
 pub use Rattle.sig_machine.specs.inner.Sources.{AreBelow, Grows, IsCellOf, IsConstant, IsSource}
 pub use Rattle.sig_machine.specs.inner.Tests.{AsksWithin, IsJoined, IsTest, Tells, holds_by, literal_holds, told_by, value_by}

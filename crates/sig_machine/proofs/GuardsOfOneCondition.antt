@@ -1,5 +1,5 @@
 -- Guards that one condition tells.
-use Rattle.sig_machine.proofs.Common.{subst, AsksWithin, IfSome, IsNarrowed, IsTest, IsTold, Known, Literal, Narrowed, Test, holds_by, literal_holds, told_by, IsSide, ◌&&◌, Depends-Tests, Tests-Depends, IsJoined, ◌<◌, length, slice_index_or, Depends, IsAccepted, ◌≡◌, ◌∙◌, ℕ, Bool, true, false, not, List, Some, refl, sym, ap, SigId, Registers, is_true, truth_of, truths_of, PlanView, Holds, IsReduced, IsRefOf, IsSide-child, node_of, test, Node, Ref, if◌then◌else◌}
+use Rattle.sig_machine.proofs.Common.{subst, IfSome, IsNarrowed, IsTest, IsTold, Known, Narrowed, Test, holds_by, told_by, IsSide, Depends-Tests, Tests-Depends, IsJoined, ◌<◌, length, slice_index_or, Depends, IsAccepted, ◌≡◌, ◌∙◌, ℕ, Bool, true, false, not, List, Some, refl, sym, ap, SigId, Registers, is_true, truth_of, truths_of, PlanView, Holds, IsReduced, IsRefOf, IsSide-child, node_of, test, Node, Ref, if◌then◌else◌}
 use Rattle.sig_machine.proofs.Guards.{condition_at, conditions_below, truth_at, variable_within}
 
 module _ (nodes : List Node) (reduced : IsReduced nodes) (r : Ref) (held : Holds nodes r) (n : Node) (is : Some n ≡ node_of nodes r) (truths : List Bool) where
@@ -43,32 +43,6 @@ module _ (plan : PlanView) (known : Known) (guard : Ref) where
 
   pub test_walk : IsTest plan known guard Test.Walk
   test_walk = record { asks = tt; tells = λ registers on. tt }
-
-  -- a literal before another function
-  module _ (literal : Literal) (rest : Ref) (joined : IsJoined plan guard literal rest) where
-    pub literal_alone : (t : Test) → AsksWithin (length plan.kernel.signals) t → ((registers : Registers) → told_by t registers ≡ Some (literal_holds literal registers))
-        → IsTest plan known rest Test.Always → IsTest plan known guard t
-    literal_alone t asks tells is = record {
-      asks = asks;
-      tells = λ registers on.
-          subst (λ told. IfSome told (λ holds. holds ≡ holds_by plan guard registers)) (sym (tells registers))
-          (sym (joined.1 registers ∙ ap (λ b. literal_holds literal registers && b) (sym (is.tells registers on)) ∙ and_true (literal_holds literal registers)));
-    } where
-      and_true : (b : Bool) → (b && true) ≡ b
-      and_true true = refl
-      and_true false = refl
-
-    pub literal_and : (x : SigId) → IsTest plan known rest (Test.Is x) → IsTest plan known guard (Test.Both literal (record { signal = x; positive = true }))
-    literal_and x is = record {
-      asks = (joined.0, is.asks);
-      tells = λ registers on. ap (λ b. literal_holds literal registers && b) (is.tells registers on) ∙ sym (joined.1 registers);
-    }
-
-    pub literal_and_not : (x : SigId) → IsTest plan known rest (Test.IsNot x) → IsTest plan known guard (Test.Both literal (record { signal = x; positive = false }))
-    literal_and_not x is = record {
-      asks = (joined.0, is.asks);
-      tells = λ registers on. ap (λ b. literal_holds literal registers && b) (is.tells registers on) ∙ sym (joined.1 registers);
-    }
 
 -- a guard of a plan whose node leads to constants alone
 module _ (plan : PlanView) (accepted : IsAccepted plan) (guard : Ref) (held : Holds plan.store.nodes guard)
@@ -124,20 +98,12 @@ module _ (plan : PlanView) (accepted : IsAccepted plan) (guard : Ref) (held : Ho
     known : truth_of truths n.variable ≡ is_true (registers condition.0)
     known = truth_at plan.clocks.conditions registers n.variable (record { 0 = 0 }) variable_there
 
-    high_joined : IsRefOf plan.store.nodes (λ _. false) n.low → test plan.store.nodes guard truths ≡ (is_true (registers condition.0) && test plan.store.nodes n.high truths)
-    high_joined off = by (is_true (registers condition.0)) refl where
-      by : (b : Bool) → is_true (registers condition.0) ≡ b → test plan.store.nodes guard truths ≡ (is_true (registers condition.0) && test plan.store.nodes n.high truths)
-      by true one = subst (λ z. test plan.store.nodes guard truths ≡ (z && test plan.store.nodes n.high truths)) (sym one) (sym ((side true).function truths (known ∙ one)))
-      by false one = subst (λ z. test plan.store.nodes guard truths ≡ (z && test plan.store.nodes n.high truths)) (sym one) (sym ((side false).function truths (known ∙ one)) ∙ off.function truths)
+    joined_at : (b : Bool) (otherwise : Bool) → IsRefOf plan.store.nodes (λ _. otherwise) (child (not b)) → (z : Bool) → is_true (registers condition.0) ≡ z
+        → test plan.store.nodes guard truths ≡ (if (if b then z else not z) then test plan.store.nodes (child b) truths else otherwise)
+    joined_at true otherwise leaf true one = sym ((side true).function truths (known ∙ one))
+    joined_at true otherwise leaf false one = sym ((side false).function truths (known ∙ one)) ∙ leaf.function truths
+    joined_at false otherwise leaf true one = sym ((side true).function truths (known ∙ one)) ∙ leaf.function truths
+    joined_at false otherwise leaf false one = sym ((side false).function truths (known ∙ one))
 
-    low_joined : IsRefOf plan.store.nodes (λ _. false) n.high → test plan.store.nodes guard truths ≡ (not (is_true (registers condition.0)) && test plan.store.nodes n.low truths)
-    low_joined off = by (is_true (registers condition.0)) refl where
-      by : (b : Bool) → is_true (registers condition.0) ≡ b → test plan.store.nodes guard truths ≡ (not (is_true (registers condition.0)) && test plan.store.nodes n.low truths)
-      by true one = subst (λ z. test plan.store.nodes guard truths ≡ (not z && test plan.store.nodes n.low truths)) (sym one) (sym ((side true).function truths (known ∙ one)) ∙ off.function truths)
-      by false one = subst (λ z. test plan.store.nodes guard truths ≡ (not z && test plan.store.nodes n.low truths)) (sym one) (sym ((side false).function truths (known ∙ one)))
-
-  pub joined_high : IsRefOf plan.store.nodes (λ _. false) n.low → IsJoined plan guard (record { signal = condition; positive = true }) n.high
-  joined_high off = (below, λ registers. high_joined registers off)
-
-  pub joined_low : IsRefOf plan.store.nodes (λ _. false) n.high → IsJoined plan guard (record { signal = condition; positive = false }) n.low
-  joined_low off = (below, λ registers. low_joined registers off)
+  pub joined_node : (b otherwise : Bool) → IsRefOf plan.store.nodes (λ _. otherwise) (child (not b)) → IsJoined plan guard (record { signal = condition; positive = b }) (child b) otherwise
+  joined_node b otherwise leaf = (below, λ registers. joined_at registers b otherwise leaf (is_true (registers condition.0)) refl)

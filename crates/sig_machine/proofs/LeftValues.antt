@@ -15,7 +15,7 @@ get_other (x ∷ xs) zero (suc n) v apart = refl
 get_other (x ∷ xs) (suc p) zero v apart = refl
 get_other (x ∷ xs) (suc p) (suc n) v apart = get_other xs p n v (λ e. apart (ap suc e))
 
-or_same : {A : Type 0} (xs : List A) (p : ℕ) (v d : A) → p < length xs → slice_index_or (set xs p v) p d ≡ v
+pub or_same : {A : Type 0} (xs : List A) (p : ℕ) (v d : A) → p < length xs → slice_index_or (set xs p v) p d ≡ v
 or_same [] p v d less = absurd (omega (arith, less))
 or_same (x ∷ xs) zero v d less = refl
 or_same (x ∷ xs) (suc p) v d less = or_same xs p v d (omega (arith, less))

@@ -17,6 +17,7 @@ pub mod Openings
 pub mod Pairs
 pub mod Passed
 pub mod Presence
+pub mod Rows
 pub mod Shapes
 pub mod PlacesOfOrder
 pub mod StepsWithMoreConstants
@@ -43,6 +44,7 @@ pub use Openings.*
 pub use Pairs.*
 pub use Passed.*
 pub use Presence.*
+pub use Rows.*
 pub use Shapes.*
 pub use PlacesOfOrder.*
 pub use StepsWithMoreConstants.*

@@ -1,19 +1,7 @@
 -- Lists in which one place is set, and functions over lists.
 pub use Rattle.std.proofs.lemmas.Option.{same_Some}
-use Rattle.sig_machine.proofs.Common.{◌≡◌, ◌≢◌, ◌<◌, ◌+◌, ◌∙◌, ℕ, zero, suc, Bool, false, List, [], ◌∷◌, length, map, replicate, set, slice_get, Option, None, Some, refl, ap, arith, subst, sym, inl, inr, eqb_tells}
-
--- lists in which one place is set
-pub get_set_same : {X : Type 0} (xs : List X) (i : ℕ) (w : X) → i < length xs → slice_get (set xs i w) i ≡ Some w
-get_set_same [] i w h = absurd (omega arith)
-get_set_same (x ∷ xs) zero w h = refl
-get_set_same (x ∷ xs) (suc i) w h = get_set_same xs i w (omega arith)
-
-pub get_set_other : {X : Type 0} (xs : List X) (i j : ℕ) (w : X) → j ≢ i → slice_get (set xs i w) j ≡ slice_get xs j
-get_set_other [] i j w h = refl
-get_set_other (x ∷ xs) zero zero w h = absurd (h refl)
-get_set_other (x ∷ xs) zero (suc j) w h = refl
-get_set_other (x ∷ xs) (suc i) zero w h = refl
-get_set_other (x ∷ xs) (suc i) (suc j) w h = get_set_other xs i j w (λ e. h (ap suc e))
+use Rattle.sig_machine.proofs.Common.{◌≡◌, ◌≢◌, ◌<◌, ◌+◌, ◌∙◌, ℕ, zero, suc, Bool, false, List, [], ◌∷◌, length, map, replicate, set, slice_get, Some, refl, ap, arith, subst, sym, inl, inr, eqb_tells}
+use Rattle.sig_lists.proofs.SetItems.{get_set_other, get_set_same}
 
 -- two functions that agree on a list
 pub map_same : {X Y : Type 0} (f g : X → Y) (xs : List X) → ((j : ℕ) (a : X) → slice_get xs j ≡ Some a → f a ≡ g a) → map f xs ≡ map g xs

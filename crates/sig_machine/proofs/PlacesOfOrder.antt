@@ -1,6 +1,6 @@
 -- The operation at a place of the order.
 use Rattle.std.proofs.lemmas.Option.{same_Some}
-use Rattle.sig_machine.proofs.Common.{◌≡◌, ◌<◌, ◌∙◌, ℕ, zero, suc, List, [], ◌∷◌, length, get_or, Option, None, Some, refl, sym, ap, slice_get, arith, OpId, IsAccepted, PlanView, numbers_of, Op, get_at, order_names, StandsAt}
+use Rattle.sig_machine.proofs.Common.{◌≡◌, ◌<◌, ◌∙◌, ℕ, zero, suc, List, [], ◌∷◌, length, get_or, None, Some, refl, sym, ap, slice_get, arith, OpId, IsAccepted, PlanView, numbers_of, Op, get_at, order_names, StandsAt}
 
 numbered : (order : List OpId) (place : ℕ) (number : OpId) → slice_get order place ≡ Some number → slice_get (numbers_of order) place ≡ Some number.0
 numbered [] place number is = absurd (let e : None ≡ Some number = is in cc)

@@ -1,6 +1,7 @@
 -- The table of the variables that stand for signals.
 use Rattle.sig_machine.proofs.Common.{◌≡◌, ◌⊎◌, ◌<◌, ◌≤◌, ◌+◌, ◌∙◌, ℕ, zero, suc, true, false, List, length, replicate, set, slice_get, Option, None, Some, refl, sym, ap, subst, inl, inr, arith, length-set, length-replicate, and_parts, cases_order, eqb_tells, SigId, Signal, contains_at, get_within, one_layer, AreInOrder, IsEarlier, is_condition, is_free, signal_id, is_boolean_kind, kind_at, kind_of, Kernel, AreDifferent, AreEntered, AreVariables, AreWithin}
-use Rattle.sig_machine.proofs.Lists.{get_set_other, get_set_same, same_Some}
+use Rattle.sig_machine.proofs.Lists.{same_Some}
+use Rattle.sig_lists.proofs.SetItems.{get_set_other, get_set_same}
 
 -- a table in which nothing is entered
 nothing : Option ℕ

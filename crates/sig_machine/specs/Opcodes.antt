@@ -1,7 +1,7 @@
 -- Instructions by their opcodes.
-use Rattle.std.specs.Prelude.{◌≡◌}
+use Rattle.std.specs.Prelude.{◌≡◌, ◌<◌}
 use Rattle.sig_machine.specs.Prelude.{ℕ, ℤ, List, length, slice_get, Option, None, Some, IfSome, Ok, FunOp, answered}
-use Rattle.sig_machine.specs.inner.Works.{came_to, input_taken}
+use Rattle.sig_machine.specs.inner.Works.{ReadsWithin, came_to, input_taken}
 use Rattle.sig_machine.specs.declared.coded.Coded.{Coded}
 use Rattle.sig_machine.specs.declared.coded.Opcode.{Opcode}
 use Rattle.sig_machine.specs.declared.instruction.Instruction.{Instruction}
@@ -28,10 +28,11 @@ work_of Opcode.Add a b = Some (Two FunOp.Add a b)
 work_of Opcode.Sub a b = Some (Two FunOp.Sub a b)
 work_of Opcode.Mul a b = Some (Two FunOp.Mul a b)
 
--- what an instruction does by its opcode, is its work
+-- what an instruction does by its opcode, is its work, and the cells are there wherever those are that it reads
 pub record IsCoded (instruction : Instruction) (coded : Coded) : Type 0 where
   pub target : coded.target ≡ instruction.target
   pub work : IfSome (work_of coded.opcode coded.a coded.b) (λ work. work ≡ instruction.work)
+  pub reads : (inputs cells : ℕ) → ReadsWithin inputs cells instruction.work → 0 < cells → (coded.a < cells) × (coded.b < cells)
 
 -- each of these is the instruction of its place
 pub record AreCoded (instructions : List Instruction) (coded : List Coded) : Type 0 where

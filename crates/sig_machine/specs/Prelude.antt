@@ -7,7 +7,7 @@ pub use Rattle.sig_model.specs.Actors.{code_of, is_true}
 pub use Rattle.sig_model.specs.Prelude.{Cause, Compute, Const, Default, Delay, Depends, Do, Ended, EqId, Equation, Event, Exhausted, Form, Fun, FunOp, Holds, Implies, Instant, Kernel, Limit, Op, Operand, Overflow, Place, PlanView, Read, Seen, Sig, SigId, Step, StepKind, Sync, Trace, When, WhenConst, ZeroDivisor, function_of, test}
 pub use Rattle.sig_plan.specs.Prelude.{Ref}
 pub use Rattle.sig_dd.specs.Diagram.{truth_of}
-pub use Rattle.sig_dd.specs.Nodes.{node_of}
+pub use Rattle.sig_dd.specs.Nodes.{IsRefOf, node_of}
 pub use Rattle.sig_dd.specs.declared.node.Node.{Node}
 pub use Rattle.sig_values.specs.Answers.{answered}
 pub use Rattle.sig_values.specs.Prelude.{Gives, bounded, computed, computed_by, computed_for, first_in, initial_in, input_of, is_one, memory_of, next_of, opening_actor, operand_in, operated, remembers, truth_value, value_in, with_signal}

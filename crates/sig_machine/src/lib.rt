@@ -18,6 +18,7 @@ mod plans;
 mod present;
 mod quick;
 mod react;
+mod row;
 mod runs;
 mod sources;
 mod steps;

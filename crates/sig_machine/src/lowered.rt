@@ -21,14 +21,16 @@ pub struct Literal {
     pub positive: bool,
 }
 
-/// How the guard of a run is told: it always holds, it is the truth of a signal, or that of its negation, or two literals
-/// tell it, or a walk.
+/// How the guard of a run is told: it always holds, or always and the run is a long one, it is the truth of a signal, or that
+/// of its negation, or it holds where two literals do, or unless both do, or a walk tells it.
 #[derive(Clone, Copy, Debug, PartialEq, Eq)]
 pub enum Test {
     Always,
+    Long,
     Is(SigId),
     IsNot(SigId),
     Both(Literal, Literal),
+    NotBoth(Literal, Literal),
     Walk,
 }
 

@@ -32,7 +32,8 @@ impl Machine {
             let run = lowered.runs[place];
             let ways = &lowered.ways[place];
             if self.is_on(plan, run, &next.test) {
-                self.do_run(plan, lowered, inputs, place, run)?;
+                let long = is_long(&next.test);
+                self.do_run(plan, lowered, inputs, place, run, long)?;
                 next = &ways.on;
             } else {
                 next = &ways.off;
@@ -51,10 +52,11 @@ impl Machine {
         ensures { result ≡ value_by plan.now how.now run.guard (registers_of self.now) }
     {
         match how {
-            Test::Always => true,
+            Test::Always | Test::Long => true,
             Test::Is(x) => self.is_true(*x),
             Test::IsNot(x) => !self.is_true(*x),
             Test::Both(a, b) => self.hold(*a, *b),
+            Test::NotBoth(a, b) => !self.hold(*a, *b),
             Test::Walk => self.holds(store_of(plan), conditions_of(plan), run.guard),
         }
     }
@@ -67,6 +69,7 @@ impl Machine {
         inputs: &Inputs,
         first: usize,
         run: Run,
+        long: bool,
     ) -> Result<(), Cause>
         requires lowers { Lowers plan.now lowered.now }
         requires fits { AreFlowsFor plan.now.kernel inputs.now }
@@ -79,13 +82,24 @@ impl Machine {
         ensures machine { IsMachineOf plan.now lowered.now inputs.now self.new }
     {
         plans_are_accepted(plan);
+        if long {
+            return self.do_long_run(plan, lowered, inputs, first, run.guard, run.end, run.skip);
+        }
         for place in first..run.end {
-            let instruction = lowered.instructions[place];
             let coded = lowered.coded[place];
-            if let Err(cause) = self.follow(coded, lowered, place, instruction, inputs) {
+            if let Err(cause) = self.follow(coded, lowered, place, inputs) {
                 return Err(named(op_at(plan, place).eq, cause));
             }
         }
         Ok(())
+    }
+}
+
+/// Whether a test says that a run is long.
+#[inline(always)]
+fn is_long(test: &Test) -> bool {
+    match test {
+        Test::Long => true,
+        _ => false,
     }
 }

@@ -1,10 +1,10 @@
 //! Where an instant goes on behind a run.
 
 ghost use Rattle.std.specs.Prelude.{◌≡◌, ◌≤◌, ◌<◌};
-ghost use Rattle.sig_machine.specs.Prelude.{true, false, IfOk, Some, length, slice_get, Holds};
+ghost use Rattle.sig_machine.specs.Prelude.{ℕ, true, false, IfOk, Registers, Some, length, slice_get, Holds};
 ghost use Rattle.sig_machine.specs.inner.Implied.{IsTold};
 ghost use Rattle.sig_machine.specs.Lowerings.{AreRuns};
-ghost use Rattle.sig_machine.specs.inner.Tests.{IsTest};
+ghost use Rattle.sig_machine.specs.inner.Tests.{AsksWithin, IsTest, told_by};
 ghost use Rattle.sig_machine.specs.inner.Ways.{ArePassed, AreWays, AreWaysOf, IsFirst, LeadsTo};
 ghost use Rattle.sig_machine.specs.declared.lowered.Run.{Run};
 ghost use Rattle.sig_machine.specs.declared.lowered.Test.{Test};
@@ -16,6 +16,9 @@ use crate::tests::test_where;
 use sig_dd::Ref;
 use sig_plan::Plan;
 use std::alloc::{AllocError, Global};
+
+/// From how many operations on a run is long.
+const LONG: usize = 16;
 
 /// How many runs in a row are looked at that are passed over.
 const MOST_PASSED: usize = 4;
@@ -146,8 +149,26 @@ fn test_at(plan: &Plan, runs: &[Run], known: Known, place: usize) -> Test
     plans_are_accepted(plan);
     if place < runs.len() {
         let run = runs[place];
-        test_where(plan, known, run.guard)
+        let test = test_where(plan, known, run.guard);
+        of_length(test, run.end.saturating_sub(place))
     } else {
         Test::Walk
+    }
+}
+
+/// The same test of a run of so many operations.
+fn of_length(test: Test, count: usize) -> Test
+    ensures asks { (signals : ℕ) → AsksWithin signals test → AsksWithin signals result }
+    ensures tells { (registers : Registers) → told_by result registers ≡ told_by test registers }
+{
+    match test {
+        Test::Always => {
+            if count >= LONG {
+                Test::Long
+            } else {
+                Test::Always
+            }
+        }
+        other => other,
     }
 }

@@ -4,6 +4,7 @@ ghost use Rattle.std.specs.Prelude.{◌≡◌, ◌<◌, ◌+◌, ◌^◌, ◌∷
 ghost use Rattle.sig_machine.specs.Prelude.{[], Err, IfErr, IfOk, IfSome, IsSomeAnd, Ok, OnErr, OnOk, Some, length, slice_get, answered, computed, function_of};
 ghost use Rattle.sig_machine.specs.Machines.{cell, taken_of};
 ghost use Rattle.sig_machine.specs.Opcodes.{ComesTo, IsCoded, work_of};
+ghost use Rattle.sig_machine.specs.declared.instruction.Instruction.{Instruction};
 ghost use Rattle.sig_machine.specs.inner.Works.{IsFollowed, IsKept, IsPut, ReadsWithin, came_to, input_taken, no_equation};
 
 use crate::coded::{Coded, Opcode};
@@ -28,17 +29,17 @@ impl Machine {
         coded: Coded,
         lowered: &Lowered,
         place: usize,
-        _instruction: Instruction,
         inputs: &Inputs,
     ) -> Result<(), Cause>
-        requires at { slice_get lowered.now.instructions.items place ≡ Some _instruction }
-        requires coded { IsCoded _instruction coded }
-        requires reads { ReadsWithin (length self.old.taken.items) (length self.old.cells.items) _instruction.work }
-        requires cells { _instruction.target < length self.old.cells.items }
-        requires stamps { _instruction.target < length self.old.stamps.items }
-        requires input { IfSome (input_taken _instruction.work) (λ x. x.0 < length self.old.taken.items) }
-        ensures done { OnOk result (IsFollowed inputs.now _instruction self.old self.new) }
-        ensures fault { IfErr result (λ cause. Err cause ≡ answered (came_to inputs.now self.old _instruction.work)) }
+        ghost instruction: { Instruction }
+        requires at { slice_get lowered.now.instructions.items place ≡ Some instruction }
+        requires coded { IsCoded instruction coded }
+        requires reads { ReadsWithin (length self.old.taken.items) (length self.old.cells.items) instruction.work }
+        requires cells { instruction.target < length self.old.cells.items }
+        requires stamps { instruction.target < length self.old.stamps.items }
+        requires input { IfSome (input_taken instruction.work) (λ x. x.0 < length self.old.taken.items) }
+        ensures done { OnOk result (IsFollowed inputs.now instruction self.old self.new) }
+        ensures fault { IfErr result (λ cause. Err cause ≡ answered (came_to inputs.now self.old instruction.work)) }
         ensures same { OnErr result (self.new ≡ self.old) }
     {
         match self.simply(coded) {
@@ -46,16 +47,17 @@ impl Machine {
                 self.put(coded.target, value);
                 Ok(())
             }
-            None => {
-                let instruction = instruction_at(lowered, place, _instruction);
-                self.follow_further(instruction, inputs)
-            }
+            None => self.follow_further(lowered.instructions[place], inputs),
         }
     }
 
     /// Does an instruction that may take the value of an input, or tells why it has no value.
     #[inline(always)]
-    fn follow_further(&mut self, instruction: Instruction, inputs: &Inputs) -> Result<(), Cause>
+    pub(crate) fn follow_further(
+        &mut self,
+        instruction: Instruction,
+        inputs: &Inputs,
+    ) -> Result<(), Cause>
         requires reads { ReadsWithin (length self.old.taken.items) (length self.old.cells.items) instruction.work }
         requires cells { instruction.target < length self.old.cells.items }
         requires stamps { instruction.target < length self.old.stamps.items }
@@ -204,13 +206,4 @@ impl Machine {
             self.taken[input as usize] += 1;
         }
     }
-}
-
-/// The instruction of a place.
-#[inline(always)]
-fn instruction_at(lowered: &Lowered, place: usize, _instruction: Instruction) -> Instruction
-    requires { slice_get lowered.now.instructions.items place ≡ Some _instruction }
-    ensures { result ≡ _instruction }
-{
-    lowered.instructions[place]
 }

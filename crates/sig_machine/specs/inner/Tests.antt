@@ -15,17 +15,21 @@ literal_holds literal registers = if literal.positive then is_true (registers li
 -- what a test tells by registers, unless it is a walk
 abbrev pub told_by : Test → Registers → Option Bool
 told_by Test.Always registers = Some true
+told_by Test.Long registers = Some true
 told_by (Test.Is x) registers = Some (is_true (registers x.0))
 told_by (Test.IsNot x) registers = Some (not (is_true (registers x.0)))
 told_by (Test.Both a b) registers = Some (literal_holds a registers && literal_holds b registers)
+told_by (Test.NotBoth a b) registers = Some (not (literal_holds a registers && literal_holds b registers))
 told_by Test.Walk registers = None
 
 -- the signals that a test asks are among so many
 abbrev pub AsksWithin : ℕ → Test → Type 0
 AsksWithin count Test.Always = ⊤
+AsksWithin count Test.Long = ⊤
 AsksWithin count (Test.Is x) = x.0 < count
 AsksWithin count (Test.IsNot x) = x.0 < count
 AsksWithin count (Test.Both a b) = (a.signal.0 < count) × (b.signal.0 < count)
+AsksWithin count (Test.NotBoth a b) = (a.signal.0 < count) × (b.signal.0 < count)
 AsksWithin count Test.Walk = ⊤
 
 -- a test that is no walk tells the value of a guard by registers
@@ -41,8 +45,8 @@ pub record IsTest (plan : PlanView) (known : Known) (guard : Ref) (t : Test) : T
   pub asks : AsksWithin (length plan.kernel.signals) t
   pub tells : (registers : Registers) → holds_by plan known.guard registers ≡ known.truth → Tells plan t guard registers
 
--- whatever was written, a guard holds where a literal of a signal and another function hold
-abbrev pub IsJoined : PlanView → Ref → Literal → Ref → Type 0
-IsJoined plan guard literal rest =
+-- whatever was written, a guard has the value of another function where a literal of a signal holds, and a constant one elsewhere
+abbrev pub IsJoined : PlanView → Ref → Literal → Ref → Bool → Type 0
+IsJoined plan guard literal rest otherwise =
     (literal.signal.0 < length plan.kernel.signals)
-    × ((registers : Registers) → holds_by plan guard registers ≡ (literal_holds literal registers && holds_by plan rest registers))
+    × ((registers : Registers) → holds_by plan guard registers ≡ (if literal_holds literal registers then holds_by plan rest registers else otherwise))

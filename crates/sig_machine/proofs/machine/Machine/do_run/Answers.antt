@@ -1,44 +1,24 @@
-use Rattle.sig_machine.proofs.{◌≡◌, ◌≤◌, ◌∙◌, ℕ, length, refl, sym, subst, arith, slice_get_read, EndsBy, GoesOn, IsMachineOf, Machine, ends_by, goes_on, input_there, one_guard, reads_there, stamp_there, target_there, machine_behind, room_of, stands_somewhere}
+use Rattle.sig_machine.proofs.{instruction_at, instruction_stands, ◌≡◌, ◌≤◌, ◌∙◌, ℕ, length, refl, sym, subst, arith, slice_get_read, EndsBy, GoesOn, IsMachineOf, Machine, ends_by, goes_on, input_there, one_guard, reads_there, stamp_there, target_there, machine_behind, room_of, stands_somewhere}
 use Rattle.sig_machine.proofs.machine.Machine.do_run.Goals as goal
 
 ends_within : (a b n : ℕ) → a ≤ b → b ≤ n → a ≤ n
 ends_within a b n one two = omega (arith, one, two)
 
-pub follow-requires-clause-reads : goal.follow-requires-clause-reads
-follow-requires-clause-reads c =
+pub follow-requires : goal.follow-requires
+follow-requires c =
     let place = c.loop-place.place in
     let end = (let a = c.requires.run.leaves in let b = c.requires.run.within in ends_within _ _ _ a b) in
     let test = c.loop-place-test.true in
-    let count = c.requires.lowers.count in
-    let at = slice_get_read c.args.lowered.now.instructions.items (length c.args.lowered.now.instructions.items) place c.index-instruction.result.now refl (omega (arith, end, test, count)) c.index-instruction.ensures in
-    reads_there c.args.plan.now c.plans_are_accepted.ensures c.args.inputs.now c.requires.fits c.args.lowered.now c.requires.lowers c.loop-place.self c.loop-place.invariant.machine place c.index-instruction.result.now at (omega (arith, end, test))
-
-pub follow-requires-clause-cells : goal.follow-requires-clause-cells
-follow-requires-clause-cells c =
-    let place = c.loop-place.place in
-    let end = (let a = c.requires.run.leaves in let b = c.requires.run.within in ends_within _ _ _ a b) in
-    let test = c.loop-place-test.true in
-    let count = c.requires.lowers.count in
-    let at = slice_get_read c.args.lowered.now.instructions.items (length c.args.lowered.now.instructions.items) place c.index-instruction.result.now refl (omega (arith, end, test, count)) c.index-instruction.ensures in
-    target_there c.args.plan.now c.plans_are_accepted.ensures c.args.inputs.now c.requires.fits c.args.lowered.now c.requires.lowers c.loop-place.self c.loop-place.invariant.machine place c.index-instruction.result.now at (omega (arith, end, test))
-
-pub follow-requires-clause-stamps : goal.follow-requires-clause-stamps
-follow-requires-clause-stamps c =
-    let place = c.loop-place.place in
-    let end = (let a = c.requires.run.leaves in let b = c.requires.run.within in ends_within _ _ _ a b) in
-    let test = c.loop-place-test.true in
-    let count = c.requires.lowers.count in
-    let at = slice_get_read c.args.lowered.now.instructions.items (length c.args.lowered.now.instructions.items) place c.index-instruction.result.now refl (omega (arith, end, test, count)) c.index-instruction.ensures in
-    stamp_there c.args.plan.now c.plans_are_accepted.ensures c.args.inputs.now c.requires.fits c.args.lowered.now c.requires.lowers c.loop-place.self c.loop-place.invariant.machine place c.index-instruction.result.now at (omega (arith, end, test))
-
-pub follow-requires-clause-input : goal.follow-requires-clause-input
-follow-requires-clause-input c =
-    let place = c.loop-place.place in
-    let end = (let a = c.requires.run.leaves in let b = c.requires.run.within in ends_within _ _ _ a b) in
-    let test = c.loop-place-test.true in
-    let count = c.requires.lowers.count in
-    let at = slice_get_read c.args.lowered.now.instructions.items (length c.args.lowered.now.instructions.items) place c.index-instruction.result.now refl (omega (arith, end, test, count)) c.index-instruction.ensures in
-    input_there c.args.plan.now c.plans_are_accepted.ensures c.args.inputs.now c.requires.fits c.args.lowered.now c.requires.lowers c.loop-place.self c.loop-place.invariant.machine place c.index-instruction.result.now at (omega (arith, end, test))
+    let lowers = c.requires.lowers in
+    let lowered = c.args.lowered.now in
+    let count = lowers.count in
+    let all = lowers.coded.count in
+    let instruction = instruction_at lowered place in
+    let at = instruction_stands lowered place (omega (arith, end, test, count)) in
+    let coded = lowers.coded.each place instruction c.index-coded.result.now at
+    (slice_get_read lowered.coded.items (length lowered.coded.items) place c.index-coded.result.now refl (omega (arith, end, test, count, all)) c.index-coded.ensures) in
+    let machine = c.loop-place.invariant.machine in
+    (at, (coded, (reads_there c.args.plan.now c.plans_are_accepted.ensures c.args.inputs.now c.requires.fits lowered lowers c.loop-place.self machine place instruction at (omega (arith, end, test)), (target_there c.args.plan.now c.plans_are_accepted.ensures c.args.inputs.now c.requires.fits lowered lowers c.loop-place.self machine place instruction at (omega (arith, end, test)), (stamp_there c.args.plan.now c.plans_are_accepted.ensures c.args.inputs.now c.requires.fits lowered lowers c.loop-place.self machine place instruction at (omega (arith, end, test)), input_there c.args.plan.now c.plans_are_accepted.ensures c.args.inputs.now c.requires.fits lowered lowers c.loop-place.self machine place instruction at (omega (arith, end, test)))))))
 
 pub returns-in-Err-clause-fault : goal.returns-in-Err-clause-fault
 returns-in-Err-clause-fault c =
@@ -49,8 +29,8 @@ returns-in-Err-clause-fault c =
     let end = (let a = c.requires.run.leaves in let b = c.requires.run.within in ends_within _ _ _ a b) in
     let test = c.loop-place-test.true in
     let count = c.requires.lowers.count in
-    let instruction = c.index-instruction.result.now in
-    let at = slice_get_read c.args.lowered.now.instructions.items (length c.args.lowered.now.instructions.items) place instruction refl (omega (arith, end, test, count)) c.index-instruction.ensures in
+    let instruction = (instruction_at c.args.lowered.now c.loop-place.place) in
+    let at = instruction_stands c.args.lowered.now place (omega (arith, end, test, count)) in
     let op = c.op_at.result.now in
     let stands = c.op_at.ensures.op in
     λ start comes.
@@ -75,8 +55,8 @@ loop-place-preserved c =
     let end = (let a = c.requires.run.leaves in let b = c.requires.run.within in ends_within _ _ _ a b) in
     let test = c.loop-place-test.true in
     let count = c.requires.lowers.count in
-    let instruction = c.index-instruction.result.now in
-    let at = slice_get_read c.args.lowered.now.instructions.items (length c.args.lowered.now.instructions.items) place instruction refl (omega (arith, end, test, count)) c.index-instruction.ensures in
+    let instruction = (instruction_at c.args.lowered.now c.loop-place.place) in
+    let at = instruction_stands c.args.lowered.now place (omega (arith, end, test, count)) in
     let (op, stands) = stands_somewhere plan accepted place (omega (arith, end, test)) in
     let for_op = c.requires.lowers.each place instruction at op stands in
     let within = input_there plan accepted flows c.requires.fits c.args.lowered.now c.requires.lowers c.loop-place.self c.loop-place.invariant.machine place instruction at (omega (arith, end, test)) in
@@ -99,28 +79,6 @@ returns-clause-done c =
     let later = c.requires.run.later in
     let all : c.loop-place.place ≡ c.args.run.end = omega (arith, end, test, later) in
     λ start comes. subst (GoesOn c.args.plan.now c.args.inputs.now start 0 c.loop-place.self) all (c.loop-place.invariant.goes start comes)
-
-pub follow-requires-clause-coded : goal.follow-requires-clause-coded
-follow-requires-clause-coded c =
-    let lowers = c.requires.lowers in
-    let place = c.loop-place.place in
-    let end = (let a = c.requires.run.leaves in let b = c.requires.run.within in ends_within _ _ _ a b) in
-    let test = c.loop-place-test.true in
-    let count = lowers.count in
-    let all = lowers.coded.count in
-    let instructions = c.args.lowered.now.instructions.items in
-    let coded = c.args.lowered.now.coded.items in
-    lowers.coded.each place c.index-instruction.result.now c.index-coded.result.now
-    (slice_get_read instructions (length instructions) place c.index-instruction.result.now refl (omega (arith, end, test, count)) c.index-instruction.ensures)
-    (slice_get_read coded (length coded) place c.index-coded.result.now refl (omega (arith, end, test, count, all)) c.index-coded.ensures)
-
-pub follow-requires-clause-at : goal.follow-requires-clause-at
-follow-requires-clause-at c =
-    let end = (let a = c.requires.run.leaves in let b = c.requires.run.within in ends_within _ _ _ a b) in
-    let test = c.loop-place-test.true in
-    let count = c.requires.lowers.count in
-    let instructions = c.args.lowered.now.instructions.items in
-    slice_get_read instructions (length instructions) c.loop-place.place c.index-instruction.result.now refl (omega (arith, end, test, count)) c.index-instruction.ensures
 
 pub loop-place-init : goal.loop-place-init
 loop-place-init c = record {

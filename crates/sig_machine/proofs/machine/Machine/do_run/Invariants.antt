@@ -1,5 +1,8 @@
-use Rattle.sig_machine.proofs.{ComesOn, GoesOn, IsMachineOf, Machine}
+use Rattle.sig_machine.proofs.{ComesOn, GoesOn, IsMachineOf, Machine, instruction_at}
 use Rattle.sig_machine.proofs.machine.Machine.do_run.Given as goal
+
+abbrev pub ghost-follow : goal.ghost-follow
+ghost-follow a = instruction_at a.lowered.now a.place
 
 abbrev pub invariant-loop-place : goal.invariant-loop-place
 invariant-loop-place l = record {
