@@ -1,5 +1,5 @@
 -- Elements of columns, and what one of them is set to.
-use Rattle.sig_rel.proofs.Common.{◌≡◌, ◌<◌, ◌⊎◌, inl, inr, ℕ, Bool, true, List, length, get_or, replicate, sym, ap, ◌∙◌, subst, arith, slice_set, cases_eq, cases_lt, get_or-replicate, get_or-set_other, get_or-set_same, get_or_past, length-replicate, length-set, Holds, IsRefOf, Spans, Node, Ref, AreFresh, HoldColumns, IsSet, SpanColumns, present_at, ref_at, row_at, truth_at, Element, Presence, Truth, Known, Columns}
+use Rattle.sig_rel.proofs.Common.{◌≡◌, ◌<◌, ◌⊎◌, inl, inr, ℕ, true, List, length, get_or, replicate, sym, ap, ◌∙◌, subst, arith, slice_set, cases_eq, cases_lt, get_or-replicate, get_or-set_other, get_or-set_same, get_or_past, length-replicate, length-set, Holds, IsRefOf, Spans, Node, Ref, AreFresh, HoldColumns, IsSet, SpanColumns, present_at, ref_at, row_at, truth_at, Element, Presence, Truth, Known, Columns}
 use Rattle.sig_rel.proofs.PlacingLemmas.{apart_kinds, presence_is, truth_is}
 
 same_element : (d e : Element) → (d ≡ e) ⊎ (d ≡ e → ⊥)

@@ -1,5 +1,5 @@
 -- Columns with the proposals of a triangular kernel's conditions, before and after the others are written.
-use Rattle.sig_rel.proofs.Common.{◌≡◌, ◌<◌, ◌≤◌, ◌+◌, ◌⊎◌, inl, inr, ℕ, Bool, true, false, List, length, Some, refl, sym, ap, ◌∙◌, subst, arith, Contains, slice_get, range_with_len, and_parts, cases_Bool, cases_eq, false≢true, get_or_past, SigId, IsValid, Form, Kernel, is_condition, is_free, at_contained, contains_at, truth_of, Holds, IsRefOf, Keeps, Spans, StoreView, test, Node, Ref, IsRefOf-kept, Spans-of, variable_depends, IsCut, AreFilled, AreFresh, IsProposal, IsProposalBelow, is_boolean, AreValues, presence_by, ArePlain, HoldColumns, IsWhollyWritten, SpanColumns, present_at, ref_at, truth_at, values_at, AreConditions, IsTriangleOf, IsTriangle, AreVariables, IsVariableAt, Element, Presence, Truth, Triangle, Known, Columns}
+use Rattle.sig_rel.proofs.Common.{◌≡◌, ◌<◌, ◌≤◌, ◌+◌, ◌⊎◌, inl, inr, ℕ, Bool, true, false, List, length, Some, refl, sym, ap, ◌∙◌, subst, arith, Contains, slice_get, range_with_len, and_parts, cases_Bool, cases_eq, false≢true, get_or_past, SigId, IsValid, Kernel, is_condition, is_free, at_contained, contains_at, truth_of, Holds, IsRefOf, Keeps, Spans, StoreView, test, Node, Ref, IsRefOf-kept, Spans-of, variable_depends, IsCut, AreFilled, AreFresh, IsProposal, IsProposalBelow, is_boolean, AreValues, presence_by, ArePlain, HoldColumns, IsWhollyWritten, SpanColumns, present_at, ref_at, truth_at, values_at, AreConditions, IsTriangleOf, IsTriangle, AreVariables, IsVariableAt, Element, Presence, Truth, Triangle, Known, Columns}
 use Rattle.sig_rel.proofs.ElementLemmas.{held_by, span_by}
 use Rattle.sig_rel.proofs.Makings.{constant_spans}
 use Rattle.sig_rel.proofs.OnceDefined.{got_within}
@@ -117,7 +117,7 @@ module _ (kernel : Kernel) (conditions : List SigId) (are : AreConditions kernel
         highest = ap (λ (x : Ref). test t.nodes x truths) (written.cut (Presence tri.top) (top_uncounted kernel valid triangle.rules is.are_rules triangle.list.items tri) ∙ presence_always tri.top) ∙ true_after.function truths;
         classes = λ class number form there at.
             let counted = counted_form kernel valid triangle.rules is.are_rules class number form there at in
-            let class_is = governed_class kernel valid triangle.rules is.are_rules class number form at counted.0.governs in
+            let class_is = governed_class kernel valid triangle.rules.least.items is.are_rules.are_least class number form at counted.0.governs in
             written.written (Presence class) number form ((tri.classes class).1 class_is) (there, at) truths (presence_by least (values_at t.nodes last truths) form) refl;
         proposals = λ i c at.
             let after = IsRefOf-kept s t keeps (λ truths. truth_of truths i) (truth_at columns c.0) (proposal i c at) in

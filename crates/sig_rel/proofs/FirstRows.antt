@@ -1,5 +1,5 @@
 -- Tables of first equations, made by one walk over the equations.
-use Rattle.sig_rel.proofs.Common.{◌≡◌, ◌<◌, ◌≤◌, ◌+◌, ◌&&◌, ◌++◌, ◌∷◌, [], ℕ, Bool, true, false, not, List, length, map, take, take_all, take_more, get_or, replicate, get_or-replicate, length-replicate, length-range_with_len, Option, None, Some, refl, sym, ap, subst, ◌∙◌, arith, cond, position, slice_get, slice_index_or, list_all, list_all_more, ext_get_or, range_with_len, get_or_from_slice_get, slice_get_within, length-map, Equation, Form, Kernel, AreCounted, AreFirsts, first_or, is_unexcused, is_unexcused_by, kept_by, counted_at, counted_for, counted_if, gives, is_excused}
+use Rattle.sig_rel.proofs.Common.{◌≡◌, ◌<◌, ◌≤◌, ◌+◌, ◌&&◌, ℕ, Bool, true, false, not, List, length, map, take, take_all, get_or, replicate, get_or-replicate, length-replicate, length-range_with_len, Option, None, Some, refl, sym, ap, subst, ◌∙◌, arith, cond, position, slice_get, list_all, list_all_more, ext_get_or, range_with_len, get_or_from_slice_get, slice_get_within, length-map, Equation, Kernel, AreCounted, AreFirsts, first_or, is_unexcused, is_unexcused_by, kept_by, counted_at, counted_for, counted_if, gives, is_excused}
 use Rattle.sig_rel.proofs.RuleLemmas.{map_range_got, position_place}
 use Rattle.sig_rel.proofs.Searches.{IsNoneBelow, first_is, no_first, none_more}
 

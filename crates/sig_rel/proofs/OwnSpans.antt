@@ -1,5 +1,5 @@
 -- Columns that are the unknowns of a kernel hold and span these, and take no more nodes than there are unknowns.
-use Rattle.sig_rel.proofs.Common.{◌≡◌, ◌<◌, ◌≤◌, ◌+◌, ◌-◌, ◌*◌, ◌^◌, inl, inr, ℕ, Bool, true, false, List, length, get_or, Option, None, Some, Result, refl, sym, ap, ◌∙◌, subst, arith, Contains, if◌then◌else◌, is_some, slice_get, slice_index, count_by, ◌==◌, range_with_len, mul-le-mul_left, pow-le-pow_right, cases_lt, false≢true, get_or_past, take_all, length-range_with_len, truth_of, IsRefOf, Spans, StoreView, allowance, DdAnswer, Node, Spans-of, variable_depends, Kernel, AreLeast, Adds, numbers_of, substituting, AreOwnColumns, classes_below, is_own, truths_below, unknown_of, AreUnknowns, IsUnknownCount, IsUsed, is_boolean, truth_in, LieWithin, ArePlain, HoldColumns, SpanColumns, ref_at, Element, Presence, Truth, Unknowns, Columns}
+use Rattle.sig_rel.proofs.Common.{◌≡◌, ◌≤◌, ◌+◌, ◌-◌, ◌*◌, ◌^◌, inl, inr, ℕ, Bool, true, false, List, length, get_or, Option, None, Some, Result, refl, sym, ap, ◌∙◌, subst, arith, Contains, if◌then◌else◌, is_some, slice_get, slice_index, count_by, ◌==◌, range_with_len, mul-le-mul_left, pow-le-pow_right, cases_lt, false≢true, get_or_past, take_all, length-range_with_len, truth_of, IsRefOf, Spans, StoreView, allowance, DdAnswer, Node, Spans-of, variable_depends, Kernel, AreLeast, Adds, numbers_of, substituting, AreOwnColumns, classes_below, is_own, truths_below, unknown_of, AreUnknowns, IsUnknownCount, IsUsed, is_boolean, truth_in, LieWithin, ArePlain, HoldColumns, SpanColumns, ref_at, Element, Presence, Truth, Unknowns, Columns}
 use Rattle.sig_rel.proofs.AddingLemmas.{adds_more}
 use Rattle.sig_rel.proofs.ElementLemmas.{held_by, span_by}
 use Rattle.sig_rel.proofs.Makings.{constant_spans}

@@ -1,6 +1,6 @@
 -- A list that is put together one element after another shows that a kernel is triangular where it is whole, and
 -- where nothing more may be placed and it is not whole, no list does.
-use Rattle.sig_rel.proofs.Common.{◌≡◌, ◌<◌, ◌+◌, ◌++◌, ◌⊎◌, inl, inr, ℕ, zero, suc, Bool, true, false, not, cond, List, [], ◌∷◌, length, get_or, take, Option, None, Some, refl, sym, ap, ◌∙◌, subst, arith, Contains, ◌&&◌, slice_get, slice_set, option_map, count_by, ◌==◌, list_all, and_parts, and_from, cases_Bool, cases_eq, eq-eqb, eqb-true, false≢true, ltb-true, not-true, or_cases, or_left, or_right, get_or-set_other, get_or-set_same, length-set, take-append-le, take_all, sum_by-set, IsValid, defines, form_within, is_below, Equation, Form, Fun, Delay, When, WhenConst, Default, Sync, Event, Operand, Sig, Const, Kernel, is_condition, signals_among, at_contained, contains_at, contains_cons, contains_head, contains_later, contains_none, is_boolean, EntersAfter, HoldsAfter, StandsAfter, AreMarks, AreRulesOf, IsBegun, IsFreshWithin, IsMarkedWithin, IsPlaced, IsStuck, IsWithin, MayBePlaced, allows_top, boolean_ready, class_ready, has_class, has_operand, has_operand_of, has_truth_of, has_whole, governs, is_top_class, may_enter, may_hold, presence_ready, presence_ready_at, truth_ready, truth_ready_at, unmarked, with_class, with_truth_of, Governs, HasClasses, HasOperandOf, HasTruths, IsClass, IsCounted, IsTop, IsTriangle, IsTriangular, MayHold, MayStand, form_at, operand_signals, tested, Element, Presence, Truth, Placed, Rules}
+use Rattle.sig_rel.proofs.Common.{◌≡◌, ◌<◌, ◌+◌, ◌++◌, ◌⊎◌, inl, inr, ℕ, zero, suc, Bool, true, false, not, cond, List, [], ◌∷◌, length, get_or, take, Option, None, Some, refl, sym, ap, ◌∙◌, subst, arith, Contains, ◌&&◌, slice_get, slice_set, option_map, count_by, ◌==◌, list_all, and_parts, and_from, cases_Bool, cases_eq, eq-eqb, eqb-true, false≢true, ltb-true, not-true, or_cases, or_left, or_right, get_or-set_other, get_or-set_same, length-set, take-append-le, take_all, sum_by-set, IsValid, defines, form_within, is_below, Equation, Form, Fun, Delay, When, WhenConst, Default, Sync, Event, Operand, Sig, Const, Kernel, is_condition, signals_among, at_contained, contains_at, contains_cons, contains_head, contains_later, contains_none, is_boolean, EntersAfter, HoldsAfter, StandsAfter, AreMarks, AreRulesOf, IsBegun, IsFreshWithin, IsPlaced, IsStuck, IsWithin, MayBePlaced, allows_top, has_class, has_operand, has_operand_of, has_truth_of, has_whole, governs, is_top_class, presence_ready, truth_ready, unmarked, with_class, with_truth_of, Governs, HasClasses, HasOperandOf, HasTruths, IsClass, IsCounted, IsTop, IsTriangle, IsTriangular, MayHold, MayStand, form_at, operand_signals, tested, Element, Presence, Truth, Placed, Rules, ◌-◌, ◌*◌, if◌then◌else◌, lt-ltb, signal_of, is_ready, form_by, equation_for, get_or_from_slice_get, is_left, may_take, AreLeast, numbered_element, step_by, nat_lt}
 use Rattle.sig_rel.proofs.ClassLemmas.{least_own, least_within}
 use Rattle.sig_rel.proofs.OnceDefined.{defined_once, within_at}
 use Rattle.sig_rel.proofs.RuleLemmas.{all_at, all_from, governs_from, governs_true, operand_from, operand_true}
@@ -85,7 +85,7 @@ truth_is a b e = cc
 pub apart_kinds : (a b : ℕ) → Presence a ≡ Truth b → ⊥
 apart_kinds a b e = cc
 
-pub marks_more : (n : ℕ) (old new : Placed) (element : Element) → AreMarks n old → IsMarkedWithin n element → new.list.items ≡ old.list.items ++ element ∷ []
+pub marks_more : (n : ℕ) (old new : Placed) (element : Element) → AreMarks n old → signal_of element < n → new.list.items ≡ old.list.items ++ element ∷ []
     → new.classes.items ≡ with_class old.classes.items element → new.truths.items ≡ with_truth_of old.truths.items element → AreMarks n new
 marks_more n old new (Presence c) marks lt list classes truths =
     let within : c < length old.classes.items = let e = marks.class_count in omega (arith, lt, e) in
@@ -177,7 +177,7 @@ module _ (kernel : Kernel) (least : List ℕ) (placed : Placed) (marks : AreMark
   class_from : (x : ℕ) → HasClass x → has_class least placed x ≡ true
   class_from x there = (marks.classes (get_or least x 0)).1 there
 
-  pub truth_says : (x : ℕ) → has_truth_of kernel placed x ≡ true → HasTruth x
+  truth_says : (x : ℕ) → has_truth_of kernel placed x ≡ true → HasTruth x
   truth_says x is boolean = elim (or_cases (not (is_boolean kernel x)) (get_or placed.truths.items x false) is) [
     | inl other ↦ absurd (false≢true (sym (not-true (is_boolean kernel x) other) ∙ boolean))
     | inr mark ↦ (marks.truths x).0 mark
@@ -267,26 +267,86 @@ module _ (kernel : Kernel) (least : List ℕ) (placed : Placed) (marks : AreMark
       (whole_from y.0 (classes y.0 (contains_later x.0 y.0 (y.0 ∷ []) (contains_head y.0 []))) (truths y.0 (contains_later x.0 y.0 (y.0 ∷ []) (contains_head y.0 []))))
   both_from (Event y x) classes truths = whole_from x.0 (classes x.0 (contains_head x.0 [])) (truths x.0 (contains_head x.0 []))
 
-  unmarked_class : (class : ℕ) → get_or placed.classes.items class false ≡ false → Contains placed.list.items (Presence class) → ⊥
-  unmarked_class class unset there = false≢true (sym unset ∙ (marks.classes class).1 there)
+  -- what is left is fresh, and what is fresh was not placed
+  pub left_fresh : (element : Element) → signal_of element < length kernel.signals → is_left kernel least placed element ≡ true → IsFreshWithin placed element
+  left_fresh (Presence class) lt left = (
+    let e = marks.class_count in let l : class < length kernel.signals = lt in omega (arith, e, l),
+    not-true (get_or placed.classes.items class false) (and_parts (get_or least class 0 == class) (not (get_or placed.classes.items class false)) left).1,
+  )
+  left_fresh (Truth signal) lt left = (
+    let e = marks.truth_count in let l : signal < length kernel.signals = lt in omega (arith, e, l),
+    not-true (get_or placed.truths.items signal false) (and_parts (is_boolean kernel signal && has_class least placed signal) (not (get_or placed.truths.items signal false)) left).1,
+  )
 
-  unmarked_truth : (signal : ℕ) → get_or placed.truths.items signal false ≡ false → Contains placed.list.items (Truth signal) → ⊥
-  unmarked_truth signal unset there = false≢true (sym unset ∙ (marks.truths signal).1 there)
+  pub fresh_within : (element : Element) → IsFreshWithin placed element → signal_of element < length kernel.signals
+  fresh_within (Presence class) fresh = let e = marks.class_count in let lt = fresh.0 in omega (arith, e, lt)
+  fresh_within (Truth signal) fresh = let e = marks.truth_count in let lt = fresh.0 in omega (arith, e, lt)
+
+  pub not_listed : (element : Element) → IsFreshWithin placed element → Contains placed.list.items element → ⊥
+  not_listed (Presence class) fresh there = false≢true (sym fresh.1 ∙ (marks.classes class).1 there)
+  not_listed (Truth signal) fresh there = false≢true (sym fresh.1 ∙ (marks.truths signal).1 there)
+
+-- ---- steps
+
+element_of_class : (count class : ℕ) → class < count → numbered_element count class ≡ Presence class
+element_of_class count class lt = ap (λ (b : Bool). if b then Presence class else Truth (class - count)) (lt-ltb class count lt)
+
+element_of_truth : (count signal : ℕ) → numbered_element count (count + signal) ≡ Truth signal
+element_of_truth count signal = by (nat_lt (count + signal) count) refl where
+  by : (b : Bool) → nat_lt (count + signal) count ≡ b → numbered_element count (count + signal) ≡ Truth signal
+  by true is = absurd (let lt = ltb-true (count + signal) count is in omega (arith, lt))
+  by false is = ap (λ (b : Bool). if b then Presence (count + signal) else Truth (count + signal - count)) is ∙ ap Truth (let e : count + signal - count ≡ signal = omega arith in e)
+
+pub element_within : (count place : ℕ) → place < 2 * count → signal_of (numbered_element count place) < count
+element_within count place lt = by (nat_lt place count) refl where
+  by : (b : Bool) → nat_lt place count ≡ b → signal_of (numbered_element count place) < count
+  by true is = subst (λ (b : Bool). signal_of (if b then Presence place else Truth (place - count)) < count) (sym is) (ltb-true place count is)
+  by false is = subst (λ (b : Bool). signal_of (if b then Presence place else Truth (place - count)) < count) (sym is) (omega (arith, lt, zero_less count place lt)) where
+    zero_less : (count place : ℕ) → place < 2 * count → 0 < count
+    zero_less count place lt = omega (arith, lt)
+
+-- where no step by the tables may be taken, nothing more may be placed
+pub is_stuck : (kernel : Kernel) (rules : Rules) (placed : Placed) → ((place : ℕ) → place < 2 * length kernel.signals → may_take kernel rules.least.items placed (step_by rules (numbered_element (length kernel.signals) place)) ≡ false) → IsStuck kernel rules placed
+is_stuck kernel rules placed none (Presence class) lt =
+    subst (λ e. may_take kernel rules.least.items placed (step_by rules e) ≡ false) (element_of_class (length kernel.signals) class lt) (none class (let l : class < length kernel.signals = lt in omega (arith, l)))
+is_stuck kernel rules placed none (Truth signal) lt =
+    subst (λ e. may_take kernel rules.least.items placed (step_by rules e) ≡ false) (element_of_truth (length kernel.signals) signal) (none (length kernel.signals + signal) (let l : signal < length kernel.signals = lt in omega (arith, l)))
+
+-- the row of a table that has a number
+pub row_there : (rows : List (Option ℕ)) (k number : ℕ) → get_or rows k None ≡ Some number → slice_get rows k ≡ Some (Some number)
+row_there [] k number is = absurd (let none : None ≡ Some number = is in cc)
+row_there (row ∷ rows) zero number is = ap Some is
+row_there (row ∷ rows) (suc k) number is = row_there rows k number is
 
 pub past : {X : Type 0} (xs : List X) (k : ℕ) → slice_get xs k ≡ None → k < length xs → ⊥
 past [] k is lt = omega (arith, lt)
 past (x ∷ xs) zero is lt = let some : Some x ≡ None = is in cc
 past (x ∷ xs) (suc k) is lt = past xs k is (omega (arith, lt))
 
+form_of : (kernel : Kernel) (number : ℕ) (form : Form) → form_at kernel number ≡ Some form → (equation : Equation) × (slice_get kernel.equations number ≡ Some equation) × (equation.form ≡ form)
+form_of kernel number form at = by (slice_get kernel.equations number) refl at where
+  by : (o : Option Equation) → slice_get kernel.equations number ≡ o → option_map (λ (e : Equation). e.form) o ≡ Some form → (equation : Equation) × (slice_get kernel.equations number ≡ Some equation) × (equation.form ≡ form)
+  by None there is = absurd (let no : None ≡ Some form = is in cc)
+  by (Some equation) there is = (equation, there, cc)
+
+-- a class that is governed is one
+pub governed_class : (kernel : Kernel) (valid : IsValid kernel) (least : List ℕ) (are_least : AreLeast kernel least) (class number : ℕ) (form : Form) → form_at kernel number ≡ Some form → Governs least class form → IsClass kernel least class
+governed_class kernel valid least are_least class number form at governs = let e = form_of kernel number form at in by form (subst (λ f. form_within (length kernel.signals) f ≡ true) e.2 (within_at kernel valid number e.0 e.1)) governs where
+  of_target : (y : ℕ) → y < length kernel.signals → get_or least y 0 ≡ class → IsClass kernel least class
+  of_target y lt is = subst (IsClass kernel least) is (least_within kernel least are_least y lt, least_own kernel least are_least y lt)
+
+  by : (form : Form) → form_within (length kernel.signals) form ≡ true → Governs least class form → IsClass kernel least class
+  by (Fun y op operands) within governs = absurd governs
+  by (Delay y x c) within governs = absurd governs
+  by (When y x b) within governs = of_target y.0 (ltb-true y.0 (length kernel.signals) (and_parts (is_below (length kernel.signals) y) _ within).0) governs
+  by (WhenConst y c b) within governs = of_target y.0 (ltb-true y.0 (length kernel.signals) (and_parts (is_below (length kernel.signals) y) _ within).0) governs
+  by (Default y u v) within governs = of_target y.0 (ltb-true y.0 (length kernel.signals) (and_parts (is_below (length kernel.signals) y) _ within).0) governs
+  by (Sync x y) within governs = absurd governs
+  by (Event y x) within governs = absurd governs
+
 module _ (kernel : Kernel) (valid : IsValid kernel) (rules : Rules) (are : AreRulesOf kernel rules) where
   abbrev least : List ℕ
   least = rules.least.items
-
-  form_of : (number : ℕ) (form : Form) → form_at kernel number ≡ Some form → (equation : Equation) × (slice_get kernel.equations number ≡ Some equation) × (equation.form ≡ form)
-  form_of number form at = by (slice_get kernel.equations number) refl at where
-    by : (o : Option Equation) → slice_get kernel.equations number ≡ o → option_map (λ (e : Equation). e.form) o ≡ Some form → (equation : Equation) × (slice_get kernel.equations number ≡ Some equation) × (equation.form ≡ form)
-    by None there is = absurd (let no : None ≡ Some form = is in cc)
-    by (Some equation) there is = (equation, there, cc)
 
   -- the form that is counted for a class, by the table
   pub counted_form : (class number : ℕ) (form : Form) → slice_get rules.counted.items class ≡ Some (Some number) → form_at kernel number ≡ Some form → IsCounted kernel least class number form × (HasOperandOf least class form → ⊥)
@@ -296,21 +356,6 @@ module _ (kernel : Kernel) (valid : IsValid kernel) (rules : Rules) (are : AreRu
       let same : is.0 ≡ form = cc in
       (subst (IsCounted kernel least class number) same is.1, subst (λ f. HasOperandOf least class f → ⊥) same is.2)
 
-  -- a class that is governed is one
-  pub governed_class : (class number : ℕ) (form : Form) → form_at kernel number ≡ Some form → Governs least class form → IsClass kernel least class
-  governed_class class number form at governs = let e = form_of number form at in by form (subst (λ f. form_within (length kernel.signals) f ≡ true) e.2 (within_at kernel valid number e.0 e.1)) governs where
-    of_target : (y : ℕ) → y < length kernel.signals → get_or least y 0 ≡ class → IsClass kernel least class
-    of_target y lt is = subst (IsClass kernel least) is (least_within kernel least are.are_least y lt, least_own kernel least are.are_least y lt)
-
-    by : (form : Form) → form_within (length kernel.signals) form ≡ true → Governs least class form → IsClass kernel least class
-    by (Fun y op operands) within governs = absurd governs
-    by (Delay y x c) within governs = absurd governs
-    by (When y x b) within governs = of_target y.0 (ltb-true y.0 (length kernel.signals) (and_parts (is_below (length kernel.signals) y) _ within).0) governs
-    by (WhenConst y c b) within governs = of_target y.0 (ltb-true y.0 (length kernel.signals) (and_parts (is_below (length kernel.signals) y) _ within).0) governs
-    by (Default y u v) within governs = of_target y.0 (ltb-true y.0 (length kernel.signals) (and_parts (is_below (length kernel.signals) y) _ within).0) governs
-    by (Sync x y) within governs = absurd governs
-    by (Event y x) within governs = absurd governs
-
   -- ---- tops
 
   pub top_from : (class : ℕ) → is_top_class kernel least class ≡ true → (get_or least class 0 ≡ class) × IsTop kernel least class
@@ -318,7 +363,7 @@ module _ (kernel : Kernel) (valid : IsValid kernel) (rules : Rules) (are : AreRu
       let parts = and_parts (get_or least class 0 == class) (list_all (allows_top least class) kernel.equations) is in (
         eqb-true (get_or least class 0) class parts.0,
         λ number form at governs_it.
-            let e = form_of number form at in
+            let e = form_of kernel number form at in
             subst (λ f. Governs least class f → HasOperandOf least class f) e.2 (λ inside.
             elim (or_cases (not (governs least class e.0.form)) (has_operand_of least class e.0.form) (all_at (allows_top least class) kernel.equations number e.0 parts.1 e.1)) [
               | inl outside ↦ absurd (false≢true (sym (not-true (governs least class e.0.form) outside) ∙ governs_from least class e.0.form inside))
@@ -365,94 +410,76 @@ module _ (kernel : Kernel) (valid : IsValid kernel) (rules : Rules) (are : AreRu
   -- ---- what is placed stands behind what decides it
 
   module _ (placed : Placed) (is : IsPlaced kernel rules placed) where
-    pub enters_after : (class : ℕ) → may_enter kernel rules placed class ≡ true → EntersAfter kernel least rules.counted.items placed.list.items class
-    enters_after class may = by (slice_get rules.counted.items class) refl (and_parts (not (get_or placed.classes.items class false)) (class_ready kernel least placed (slice_get rules.counted.items class)) may).1 where
-      at_number : (number : ℕ) → slice_get rules.counted.items class ≡ Some (Some number) → (o : Option Equation) → slice_get kernel.equations number ≡ o → presence_ready_at kernel least placed o ≡ true
-          → EntersAfter kernel least rules.counted.items placed.list.items class
-      at_number number there None at ready = absurd (false≢true ready)
-      at_number number there (Some equation) at ready =
-          let at_it = ap (option_map (λ (e : Equation). e.form)) at in
-          let says = presence_says kernel least placed is.marks class equation.form (counted_form class number equation.form there at_it).0.governs ready in
-          record { number = number; form = equation.form; is_counted = there; at = at_it; classes = says.0; tests = says.1 }
+    enters_after : (class : ℕ) → is_ready kernel least placed (Presence class) (form_by kernel (get_or rules.counted.items class None)) ≡ true → EntersAfter kernel least rules.counted.items placed.list.items class
+    enters_after class ready = by (get_or rules.counted.items class None) refl ready where
+      with_form : (number : ℕ) → slice_get rules.counted.items class ≡ Some (Some number) → (o : Option Form) → form_at kernel number ≡ o → is_ready kernel least placed (Presence class) o ≡ true → EntersAfter kernel least rules.counted.items placed.list.items class
+      with_form number there None at ready = absurd (false≢true ready)
+      with_form number there (Some form) at ready =
+          let parts = and_parts (governs least class form) (presence_ready kernel least placed form) ready in
+          let says = presence_says kernel least placed is.marks class form (governs_true least class form parts.0) parts.1 in
+          record { number = number; form = form; is_counted = there; at = at; classes = says.0; tests = says.1 }
 
-      by : (o : Option (Option ℕ)) → slice_get rules.counted.items class ≡ o → class_ready kernel least placed o ≡ true → EntersAfter kernel least rules.counted.items placed.list.items class
+      by : (o : Option ℕ) → get_or rules.counted.items class None ≡ o → is_ready kernel least placed (Presence class) (form_by kernel o) ≡ true → EntersAfter kernel least rules.counted.items placed.list.items class
       by None there ready = absurd (false≢true ready)
-      by (Some None) there ready = absurd (false≢true ready)
-      by (Some (Some number)) there ready = at_number number there (slice_get kernel.equations number) refl ready
+      by (Some number) there ready = with_form number (row_there rules.counted.items class number there) (form_at kernel number) refl ready
 
-    pub enters_from : (class : ℕ) → EntersAfter kernel least rules.counted.items placed.list.items class → get_or placed.classes.items class false ≡ false → may_enter kernel rules placed class ≡ true
-    enters_from class after unset =
-        let e = form_of after.number after.form after.at in
-        and_from (not (get_or placed.classes.items class false)) (class_ready kernel least placed (slice_get rules.counted.items class)) (ap not unset)
-        (ap (class_ready kernel least placed) after.is_counted ∙ ap (presence_ready_at kernel least placed) e.1 ∙ ap (presence_ready kernel least placed) e.2
-        ∙ presence_from kernel least placed is.marks after.form after.classes after.tests)
+    enters_from : (class : ℕ) → IsClass kernel least class → EntersAfter kernel least rules.counted.items placed.list.items class → get_or placed.classes.items class false ≡ false → may_take kernel least placed (step_by rules (Presence class)) ≡ true
+    enters_from class of after unset =
+        let counted = counted_form class after.number after.form after.is_counted after.at in
+        and_from (is_left kernel least placed (Presence class)) (is_ready kernel least placed (Presence class) (form_by kernel (get_or rules.counted.items class None)))
+        (and_from (get_or least class 0 == class) (not (get_or placed.classes.items class false)) (eq-eqb (get_or least class 0) class of.1) (ap not unset))
+        (ap (λ o. is_ready kernel least placed (Presence class) (form_by kernel o)) (get_or_from_slice_get rules.counted.items class (Some after.number) None after.is_counted)
+        ∙ ap (is_ready kernel least placed (Presence class)) after.at
+        ∙ and_from (governs least class after.form) (presence_ready kernel least placed after.form) (governs_from least class after.form counted.0.governs) (presence_from kernel least placed is.marks after.form after.classes after.tests))
 
-    pub holds_after : (signal : ℕ) → may_hold kernel rules placed signal ≡ true → HoldsAfter kernel least rules.defined.items placed.list.items signal
-    holds_after signal may =
-        let parts = and_parts (is_boolean kernel signal && not (get_or placed.truths.items signal false)) (has_class least placed signal && boolean_ready kernel least placed (slice_get rules.defined.items signal)) may in
-        let first = and_parts (is_boolean kernel signal) (not (get_or placed.truths.items signal false)) parts.0 in
-        let second = and_parts (has_class least placed signal) (boolean_ready kernel least placed (slice_get rules.defined.items signal)) parts.1 in
+    holds_after : (signal : ℕ) → is_left kernel least placed (Truth signal) ≡ true → is_ready kernel least placed (Truth signal) (form_by kernel (get_or rules.defined.items signal None)) ≡ true → HoldsAfter kernel least rules.defined.items placed.list.items signal
+    holds_after signal left ready =
+        let parts = and_parts (is_boolean kernel signal && has_class least placed signal) (not (get_or placed.truths.items signal false)) left in
+        let first = and_parts (is_boolean kernel signal) (has_class least placed signal) parts.0 in
         record {
           boolean = first.0;
-          class = class_says kernel least placed is.marks signal second.0;
-          classes = λ number form there at z among. (both_said kernel least placed is.marks form (ready number form there at second.1) z among).0;
-          truths = λ number form there at z among. (both_said kernel least placed is.marks form (ready number form there at second.1) z among).1;
+          class = class_says kernel least placed is.marks signal first.1;
+          classes = λ number form there at z among. (both_said kernel least placed is.marks form (ready_form number form there at) z among).0;
+          truths = λ number form there at z among. (both_said kernel least placed is.marks form (ready_form number form there at) z among).1;
         } where
-          ready : (number : ℕ) (form : Form) → slice_get rules.defined.items signal ≡ Some (Some number) → form_at kernel number ≡ Some form → boolean_ready kernel least placed (slice_get rules.defined.items signal) ≡ true → truth_ready kernel least placed form ≡ true
-          ready number form there at all =
-              let e = form_of number form at in
-              sym (ap (boolean_ready kernel least placed) there ∙ ap (truth_ready_at kernel least placed) e.1 ∙ ap (truth_ready kernel least placed) e.2) ∙ all
+          ready_form : (number : ℕ) (form : Form) → slice_get rules.defined.items signal ≡ Some (Some number) → form_at kernel number ≡ Some form → truth_ready kernel least placed form ≡ true
+          ready_form number form there at =
+              sym (ap (λ o. is_ready kernel least placed (Truth signal) (form_by kernel o)) (get_or_from_slice_get rules.defined.items signal (Some number) None there) ∙ ap (is_ready kernel least placed (Truth signal)) at) ∙ ready
 
-    pub holds_from : (signal : ℕ) → signal < length kernel.signals → HoldsAfter kernel least rules.defined.items placed.list.items signal → get_or placed.truths.items signal false ≡ false → may_hold kernel rules placed signal ≡ true
-    holds_from signal lt after unset =
-        and_from (is_boolean kernel signal && not (get_or placed.truths.items signal false)) (has_class least placed signal && boolean_ready kernel least placed (slice_get rules.defined.items signal))
-        (and_from (is_boolean kernel signal) (not (get_or placed.truths.items signal false)) after.boolean (ap not unset))
-        (and_from (has_class least placed signal) (boolean_ready kernel least placed (slice_get rules.defined.items signal)) (class_from kernel least placed is.marks signal after.class) (by (slice_get rules.defined.items signal) refl)) where
-          at_number : (number : ℕ) → slice_get rules.defined.items signal ≡ Some (Some number) → truth_ready_at kernel least placed (slice_get kernel.equations number) ≡ true
-          at_number number there =
-              let e = are.is_defined signal number there in
-              let at = ap (option_map (λ (d : Equation). d.form)) e.1 in
-              ap (truth_ready_at kernel least placed) e.1 ∙ both_from kernel least placed is.marks e.0.form (after.classes number e.0.form there at) (after.truths number e.0.form there at)
+    holds_from : (signal : ℕ) → HoldsAfter kernel least rules.defined.items placed.list.items signal → get_or placed.truths.items signal false ≡ false → may_take kernel least placed (step_by rules (Truth signal)) ≡ true
+    holds_from signal after unset =
+        and_from (is_left kernel least placed (Truth signal)) (is_ready kernel least placed (Truth signal) (form_by kernel (get_or rules.defined.items signal None)))
+        (and_from (is_boolean kernel signal && has_class least placed signal) (not (get_or placed.truths.items signal false))
+        (and_from (is_boolean kernel signal) (has_class least placed signal) after.boolean (class_from kernel least placed is.marks signal after.class)) (ap not unset))
+        (by (get_or rules.defined.items signal None) refl) where
+          with_form : (number : ℕ) → slice_get rules.defined.items signal ≡ Some (Some number) → (o : Option Form) → form_at kernel number ≡ o → is_ready kernel least placed (Truth signal) o ≡ true
+          with_form number there None at = refl
+          with_form number there (Some form) at = both_from kernel least placed is.marks form (after.classes number form there at) (after.truths number form there at)
 
-          by : (o : Option (Option ℕ)) → slice_get rules.defined.items signal ≡ o → boolean_ready kernel least placed o ≡ true
-          by None there = let long = are.definitions in absurd (past rules.defined.items signal there (omega (arith, lt, long)))
-          by (Some None) there = refl
-          by (Some (Some number)) there = at_number number there
+          by : (o : Option ℕ) → get_or rules.defined.items signal None ≡ o → is_ready kernel least placed (Truth signal) (form_by kernel o) ≡ true
+          by None there = refl
+          by (Some number) there = with_form number (row_there rules.defined.items signal number there) (form_at kernel number) refl
 
     -- an element that may be placed is fresh, and stands behind what decides it
-    pub class_fresh : (class : ℕ) → may_enter kernel rules placed class ≡ true → get_or placed.classes.items class false ≡ false
-    class_fresh class may = not-true (get_or placed.classes.items class false) (and_parts (not (get_or placed.classes.items class false)) (class_ready kernel least placed (slice_get rules.counted.items class)) may).0
-
-    pub truth_fresh : (signal : ℕ) → may_hold kernel rules placed signal ≡ true → get_or placed.truths.items signal false ≡ false
-    truth_fresh signal may =
-        let parts = and_parts (is_boolean kernel signal && not (get_or placed.truths.items signal false)) (has_class least placed signal && boolean_ready kernel least placed (slice_get rules.defined.items signal)) may in
-        not-true (get_or placed.truths.items signal false) (and_parts (is_boolean kernel signal) (not (get_or placed.truths.items signal false)) parts.0).1
+    parts : (element : Element) → MayBePlaced kernel rules placed element → (is_left kernel least placed element ≡ true) × (is_ready kernel least placed element (form_by kernel (equation_for rules element)) ≡ true)
+    parts element may = and_parts (is_left kernel least placed element) (is_ready kernel least placed element (form_by kernel (equation_for rules element))) may.1
 
     pub may_stand : (element : Element) → MayBePlaced kernel rules placed element → StandsAfter kernel least rules.counted.items rules.defined.items placed.list.items element
-    may_stand (Presence class) may = enters_after class may.1
-    may_stand (Truth signal) may = holds_after signal may.1
-
-    pub not_yet : (element : Element) → MayBePlaced kernel rules placed element → Contains placed.list.items element → ⊥
-    not_yet (Presence class) may there = unmarked_class kernel least placed is.marks class (class_fresh class may.1) there
-    not_yet (Truth signal) may there = unmarked_truth kernel least placed is.marks signal (truth_fresh signal may.1) there
-
-    pub mark_there : (element : Element) → MayBePlaced kernel rules placed element → IsMarkedWithin (length kernel.signals) element
-    mark_there (Presence class) may = may.0
-    mark_there (Truth signal) may = may.0
+    may_stand (Presence class) may = enters_after class (parts (Presence class) may).1
+    may_stand (Truth signal) may = let both = parts (Truth signal) may in holds_after signal both.0 both.1
 
     pub fresh_there : (element : Element) → MayBePlaced kernel rules placed element → IsFreshWithin placed element
-    fresh_there (Presence class) may = (let e = is.marks.class_count in let lt = may.0 in omega arith, class_fresh class may.1)
-    fresh_there (Truth signal) may = (let e = is.marks.truth_count in let lt = may.0 in omega arith, truth_fresh signal may.1)
+    fresh_there element may = left_fresh kernel least placed is.marks element may.0 (parts element may).0
 
     pub place_there : (element : Element) → MayBePlaced kernel rules placed element → IsWithin placed element
-    place_there (Presence class) may = let e = is.marks.class_count in let lt = may.0 in omega arith
-    place_there (Truth signal) may = let e = is.marks.truth_count in let lt = may.0 in omega arith
+    place_there (Presence class) may = let e = is.marks.class_count in let lt : class < length kernel.signals = may.0 in omega (arith, e, lt)
+    place_there (Truth signal) may = let e = is.marks.truth_count in let lt : signal < length kernel.signals = may.0 in omega (arith, e, lt)
 
     pub placed_more : (new : Placed) (element : Element) → MayBePlaced kernel rules placed element → new.list.items ≡ placed.list.items ++ element ∷ []
         → new.classes.items ≡ with_class placed.classes.items element → new.truths.items ≡ with_truth_of placed.truths.items element → IsPlaced kernel rules new
     placed_more new element may list classes truths = record {
-      begun = subst (IsBegun kernel rules) (sym list) (begun_more kernel rules placed.list.items element is.begun (not_yet element may) (may_stand element may));
-      marks = marks_more (length kernel.signals) placed new element is.marks (mark_there element may) list classes truths;
+      begun = subst (IsBegun kernel rules) (sym list) (begun_more kernel rules placed.list.items element is.begun (not_listed kernel least placed is.marks element (fresh_there element may)) (may_stand element may));
+      marks = marks_more (length kernel.signals) placed new element is.marks may.0 list classes truths;
     }
 
     -- ---- a whole list
@@ -467,7 +494,7 @@ module _ (kernel : Kernel) (valid : IsValid kernel) (rules : Rules) (are : AreRu
     listed_class zero class at = subst (IsClass kernel least) (presence_is is.begun.top class (first_is_top (Presence class) at)) (is.begun.within, is.begun.own)
     listed_class (suc k) class at =
         let after = is.begun.order (suc k) (Presence class) (omega arith) at in
-        governed_class class after.number after.form after.at (counted_form class after.number after.form after.is_counted after.at).0.governs
+        governed_class kernel valid least are.are_least class after.number after.form after.at (counted_form class after.number after.form after.is_counted after.at).0.governs
 
     listed_boolean : (k signal : ℕ) → slice_get list k ≡ Some (Truth signal) → is_boolean kernel signal ≡ true
     listed_boolean zero signal at = absurd (apart_kinds is.begun.top signal (first_is_top (Truth signal) at))
@@ -537,7 +564,7 @@ module _ (kernel : Kernel) (valid : IsValid kernel) (rules : Rules) (are : AreRu
             let may = tri.order (suc k) (Presence class) (omega arith) at in
             let of = place_of_class kernel least other tri (suc k) class at in
             let there = are.all_counted class may.number may.form of may.counted (not_own kernel least other tri (suc k) class at may) in
-            absurd (false≢true (sym (stuck.classes class of.0) ∙ enters_from class (record {
+            absurd (false≢true (sym (stuck (Presence class) of.0) ∙ enters_from class of (record {
               number = may.number;
               form = may.form;
               is_counted = there;
@@ -563,7 +590,7 @@ module _ (kernel : Kernel) (valid : IsValid kernel) (rules : Rules) (are : AreRu
 
         by : (b : Bool) → get_or placed.truths.items signal false ≡ b → Contains list (Truth signal)
         by true set = (is.marks.truths signal).0 set
-        by false unset = absurd (false≢true (sym (stuck.truths signal (boolean_within kernel signal boolean)) ∙ holds_from signal (boolean_within kernel signal boolean) (record {
+        by false unset = absurd (false≢true (sym (stuck (Truth signal) (boolean_within kernel signal boolean)) ∙ holds_from signal (record {
           boolean = boolean;
           class = before (Presence (get_or least signal 0)) may.class;
           classes = λ number form there at_form x among.

@@ -1,5 +1,5 @@
 -- What is left to be met where each class and each boolean is its own unknown is a kernel's relation.
-use Rattle.sig_rel.proofs.Common.{◌≡◌, ◌<◌, ℕ, Bool, true, false, List, length, get_or, None, Some, Ok, sym, ap, ◌∙◌, subst, arith, if◌then◌else◌, list_all, range_with_len, eq-eqb, ext_get_or, length-map-range_with_len, Agree, truth_of, StoreView, test, Ref, IsValid, Equation, Kernel, IsReaction, Reaction, status_at, AreLeast, turned, AreOwnColumns, AreUnknowns, IsRelation, is_boolean, reaction_in, is_met, Values, has, value_status, Makes, LieWithin, itself, SpanColumns, truth_at, values_at, Truth, Unknowns, Columns}
+use Rattle.sig_rel.proofs.Common.{◌≡◌, ◌<◌, ℕ, Bool, true, false, List, length, get_or, None, Some, Ok, sym, ap, ◌∙◌, subst, arith, if◌then◌else◌, list_all, eq-eqb, ext_get_or, length-map-range_with_len, Agree, truth_of, StoreView, test, Ref, IsValid, Equation, Kernel, IsReaction, Reaction, status_at, AreLeast, turned, AreOwnColumns, AreUnknowns, IsRelation, is_boolean, reaction_in, is_met, Values, has, value_status, Makes, LieWithin, itself, SpanColumns, truth_at, values_at, Truth, Unknowns, Columns}
 use Rattle.sig_rel.proofs.ChosenTruths.{length_in}
 use Rattle.sig_rel.proofs.ClassLemmas.{least_own, least_within}
 use Rattle.sig_rel.proofs.Makings.{makes_spans}

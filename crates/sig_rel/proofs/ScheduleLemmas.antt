@@ -1,8 +1,8 @@
 -- A schedule that is put together one step after another.
-use Rattle.sig_rel.proofs.Common.{◌≡◌, ◌<◌, ◌++◌, ◌⊎◌, inl, inr, ℕ, zero, suc, Bool, true, false, not, List, [], ◌∷◌, length, get_or, map, replicate, take, Option, None, Some, refl, sym, ap, ◌∙◌, subst, arith, Contains, ◌&&◌, ◌==◌, slice_get, slice_set, slice_index, slice_index_or, option_map, range_with_len, and_parts, and_from, cases_eq, eq-eqb, eqb-true, false≢true, ltb-true, not-true, or_right, length-replicate, length-set, take-append-le, take_all, get_or_from_slice_get, SigId, IsValid, form_within, is_below, Equation, Form, Fun, Delay, When, WhenConst, Default, Sync, Event, Kernel, AreLeast, contains_at, contains_none, is_boolean, AreNamed, HasPlace, IsOrderOfWriting, IsPlannedStep, IsSchedule, IsScheduling, IsStepBy, IsTaken, IsWhole, MayBeWritten, ReadsBefore, is_left, is_left_truth, with_counted, with_defined, AreConditions, AreMarks, IsFreshWithin, IsMarkedWithin, boolean_ready, counted_for, defined_for, governs, has_class, has_truth_of, may_hold, presence_ready, truth_ready, truth_ready_at, Governs, HasClasses, HasTruths, IsClass, form_at, operand_signals, tested, Element, Presence, Truth, Placed, Rules, Schedule, Scheduling, Step}
+use Rattle.sig_rel.proofs.Common.{◌≡◌, ◌<◌, ◌++◌, ◌⊎◌, inl, inr, ℕ, zero, suc, Bool, true, false, not, List, [], ◌∷◌, length, get_or, map, replicate, take, Option, None, Some, refl, sym, ap, ◌∙◌, subst, arith, Contains, ◌&&◌, ◌==◌, slice_get, slice_set, slice_index, slice_index_or, range_with_len, and_parts, and_from, cases_eq, eq-eqb, eqb-true, false≢true, ltb-true, length-replicate, length-set, take-append-le, take_all, SigId, IsValid, form_within, is_below, Equation, Form, Fun, Delay, When, WhenConst, Default, Sync, Event, Kernel, AreLeast, contains_at, contains_none, is_boolean, AreNamed, HasPlace, IsOrderOfWriting, IsPlannedStep, IsSchedule, IsScheduling, IsStepBy, IsTaken, IsWhole, ReadsBefore, is_left, with_counted, with_defined, AreConditions, AreMarks, IsFreshWithin, counted_for, defined_for, governs, has_class, presence_ready, Governs, HasClasses, HasTruths, IsClass, form_at, operand_signals, tested, Element, Presence, Truth, Placed, Rules, Schedule, Scheduling, Step, target_number, signal_of, is_ready, IsByTable, form_by, may_take, slice_get-get_or}
 use Rattle.sig_rel.proofs.ClassLemmas.{least_own, least_within}
 use Rattle.sig_rel.proofs.OnceDefined.{within_at}
-use Rattle.sig_rel.proofs.PlacingLemmas.{among_more, apart_kinds, both_said, got_more, marks_more, presence_is, presence_says, truth_is, truth_says}
+use Rattle.sig_rel.proofs.PlacingLemmas.{among_more, apart_kinds, both_said, fresh_within, got_more, governed_class, left_fresh, marks_more, not_listed, presence_is, presence_says, row_there, truth_is}
 use Rattle.sig_rel.proofs.RuleLemmas.{are_rules, governs_true}
 use Rattle.sig_rel.proofs.UnknownLemmas.{boolean_within}
 
@@ -56,28 +56,8 @@ row_number row m n first second = let both : Some (Some m) ≡ Some (Some n) = s
 
 -- ---- classes that equations govern
 
-pub governed_is_class : (kernel : Kernel) (valid : IsValid kernel) (least : List ℕ) (are_least : AreLeast kernel least) (class number : ℕ) (equation : Equation) → slice_get kernel.equations number ≡ Some equation → Governs least class equation.form → IsClass kernel least class
-governed_is_class kernel valid least are_least class number equation at governs_it = by equation.form (within_at kernel valid number equation at) governs_it where
-  of_target : (y : ℕ) → y < length kernel.signals → get_or least y 0 ≡ class → IsClass kernel least class
-  of_target y lt is = subst (IsClass kernel least) is (least_within kernel least are_least y lt, least_own kernel least are_least y lt)
-
-  by : (form : Form) → form_within (length kernel.signals) form ≡ true → Governs least class form → IsClass kernel least class
-  by (Fun y op operands) within governs_it = absurd governs_it
-  by (Delay y x c) within governs_it = absurd governs_it
-  by (When y x b) within governs_it = of_target y.0 (ltb-true y.0 (length kernel.signals) (and_parts (is_below (length kernel.signals) y) _ within).0) governs_it
-  by (WhenConst y c b) within governs_it = of_target y.0 (ltb-true y.0 (length kernel.signals) (and_parts (is_below (length kernel.signals) y) _ within).0) governs_it
-  by (Default y u v) within governs_it = of_target y.0 (ltb-true y.0 (length kernel.signals) (and_parts (is_below (length kernel.signals) y) _ within).0) governs_it
-  by (Sync x y) within governs_it = absurd governs_it
-  by (Event y x) within governs_it = absurd governs_it
-
 pub named_class : (kernel : Kernel) (valid : IsValid kernel) (rules : Rules) (named : AreNamed kernel rules) (class number : ℕ) → slice_get rules.counted.items class ≡ Some (Some number) → IsClass kernel rules.least.items class
-named_class kernel valid rules named class number at = let is = named.presence class number at in by is.0 is.1 is.2 (slice_get kernel.equations number) refl where
-  by : (form : Form) → form_at kernel number ≡ Some form → Governs rules.least.items class form → (o : Option Equation) → slice_get kernel.equations number ≡ o → IsClass kernel rules.least.items class
-  by form there governs_it None e = absurd (let no : None ≡ Some form = sym (ap (option_map (λ (x : Equation). x.form)) e) ∙ there in cc)
-  by form there governs_it (Some equation) e =
-      let both : Some equation.form ≡ Some form = sym (ap (option_map (λ (x : Equation). x.form)) e) ∙ there in
-      let same : form ≡ equation.form = cc in
-      governed_is_class kernel valid rules.least.items named.are_least class number equation e (subst (Governs rules.least.items class) same governs_it)
+named_class kernel valid rules named class number at = let is = named.presence class number at in governed_class kernel valid rules.least.items named.are_least class number is.0 is.1 is.2
 
 -- ---- nothing is scheduled at first
 
@@ -107,14 +87,6 @@ nothing_scheduled kernel scheduling named empty marks = record {
 
 -- ---- one more step
 
-not_yet : (n : ℕ) (placed : Placed) (marks : AreMarks n placed) (element : Element) → IsFreshWithin placed element → Contains placed.list.items element → ⊥
-not_yet n placed marks (Presence class) fresh there = false≢true (sym fresh.1 ∙ (marks.classes class).1 there)
-not_yet n placed marks (Truth signal) fresh there = false≢true (sym fresh.1 ∙ (marks.truths signal).1 there)
-
-marked_within : (n : ℕ) (placed : Placed) (marks : AreMarks n placed) (element : Element) → IsFreshWithin placed element → IsMarkedWithin n element
-marked_within n placed marks (Presence class) fresh = let e = marks.class_count in let lt = fresh.0 in omega arith
-marked_within n placed marks (Truth signal) fresh = let e = marks.truth_count in let lt = fresh.0 in omega arith
-
 step_class : (kernel : Kernel) (rules : Rules) (before : List Element) (class : ℕ) (equation : Option ℕ) → IsStepBy kernel rules before (Presence class) equation → IsClass kernel rules.least.items class
 step_class kernel rules before class None is = is
 step_class kernel rules before class (Some number) is = is.0
@@ -131,7 +103,7 @@ module _ (kernel : Kernel) (old new : Scheduling) (step : Step) (is : IsScheduli
   least_kept = ap (λ v. v.items) (sym taken.least)
 
   fresh_in_list : Contains list step.element → ⊥
-  fresh_in_list there = not_yet (length kernel.signals) old.placed is.marks step.element planned.fresh there
+  fresh_in_list there = not_listed kernel old.rules.least.items old.placed is.marks step.element planned.fresh there
 
   counted_row : (class : ℕ) → (step.element ≡ Presence class → ⊥) → slice_get new.rules.counted.items class ≡ slice_get old.rules.counted.items class
   counted_row class apart = ap (λ xs. slice_get xs class) taken.counted ∙ counted_other old.rules.counted.items step.element step.equation class apart
@@ -141,15 +113,15 @@ module _ (kernel : Kernel) (old new : Scheduling) (step : Step) (is : IsScheduli
 
   class_within : (class : ℕ) → step.element ≡ Presence class → class < length old.rules.counted.items
   class_within class same =
-      let here = marked_within (length kernel.signals) old.placed is.marks step.element planned.fresh in
-      let lt : class < length kernel.signals = subst (IsMarkedWithin (length kernel.signals)) same here in
+      let here = fresh_within kernel old.rules.least.items old.placed is.marks step.element planned.fresh in
+      let lt : class < length kernel.signals = subst (λ e. signal_of e < length kernel.signals) same here in
       let long = is.order.named.countings in
       omega (arith, lt, long)
 
   truth_within : (signal : ℕ) → step.element ≡ Truth signal → signal < length old.rules.defined.items
   truth_within signal same =
-      let here = marked_within (length kernel.signals) old.placed is.marks step.element planned.fresh in
-      let lt : signal < length kernel.signals = subst (IsMarkedWithin (length kernel.signals)) same here in
+      let here = fresh_within kernel old.rules.least.items old.placed is.marks step.element planned.fresh in
+      let lt : signal < length kernel.signals = subst (λ e. signal_of e < length kernel.signals) same here in
       let long = is.order.named.definitions in
       omega (arith, lt, long)
 
@@ -237,7 +209,7 @@ module _ (kernel : Kernel) (old new : Scheduling) (step : Step) (is : IsScheduli
   pub scheduling_more : IsScheduling kernel new
   scheduling_more = record {
     order = subst (IsOrderOfWriting kernel new.rules) (sym taken.list) order_more;
-    marks = marks_more (length kernel.signals) old.placed new.placed step.element is.marks (marked_within (length kernel.signals) old.placed is.marks step.element planned.fresh) taken.list taken.classes taken.truths;
+    marks = marks_more (length kernel.signals) old.placed new.placed step.element is.marks (fresh_within kernel old.rules.least.items old.placed is.marks step.element planned.fresh) taken.list taken.classes taken.truths;
   }
 
 -- the tables have a row for a step
@@ -256,90 +228,73 @@ module _ (kernel : Kernel) (valid : IsValid kernel) (scheduling : Scheduling) (i
   abbrev placed : Placed
   placed = scheduling.placed
 
-  left_parts : (class : ℕ) → is_left least placed class ≡ true → (slice_index least class ≡ class) × (slice_index_or placed.classes.items class false ≡ false)
-  left_parts class left =
-      let parts = and_parts (slice_index least class == class) (not (slice_index_or placed.classes.items class false)) left in
-      (eqb-true (slice_index least class) class parts.0, not-true (slice_index_or placed.classes.items class false) parts.1)
+  left_boolean : (signal : ℕ) → is_left kernel least placed (Truth signal) ≡ true → is_boolean kernel signal ≡ true
+  left_boolean signal left =
+      let parts = and_parts (is_boolean kernel signal && has_class least placed signal) (not (slice_index_or placed.truths.items signal false)) left in
+      (and_parts (is_boolean kernel signal) (has_class least placed signal) parts.0).0
 
-  left_fresh : (class : ℕ) → class < length kernel.signals → is_left least placed class ≡ true → IsFreshWithin placed (Presence class)
-  left_fresh class lt left = (let e = is.marks.class_count in omega arith, (left_parts class left).1)
+  cut_by : (element : Element) → signal_of element < length kernel.signals → is_left kernel least placed element ≡ true → IsStepBy kernel scheduling.rules placed.list.items element None
+  cut_by (Presence class) lt left = (lt, eqb-true (slice_index least class) class (and_parts (slice_index least class == class) (not (slice_index_or placed.classes.items class false)) left).0)
+  cut_by (Truth signal) lt left = left_boolean signal left
 
-  left_truth_parts : (signal : ℕ) → is_left_truth kernel least placed signal ≡ true → (is_boolean kernel signal ≡ true) × (slice_index_or placed.truths.items signal false ≡ false)
-  left_truth_parts signal left =
-      let parts = and_parts (is_boolean kernel signal && has_class least placed signal) (not (has_truth_of kernel placed signal)) left in
-      let first = and_parts (is_boolean kernel signal) (has_class least placed signal) parts.0 in
-      (first.0, by (slice_index_or placed.truths.items signal false) refl (not-true (has_truth_of kernel placed signal) parts.1)) where
-        by : (b : Bool) → slice_index_or placed.truths.items signal false ≡ b → has_truth_of kernel placed signal ≡ false → slice_index_or placed.truths.items signal false ≡ false
-        by false e missing = e
-        by true e missing = absurd (false≢true (sym missing ∙ or_right (not (is_boolean kernel signal)) (slice_index_or placed.truths.items signal false) e))
-
-  pub planned_class_cut : (step : Step) (class : ℕ) → step.element ≡ Presence class → step.equation ≡ None → class < length kernel.signals → is_left least placed class ≡ true → IsPlannedStep kernel scheduling step
-  planned_class_cut step class element equation lt left = record {
-    fresh = subst (IsFreshWithin placed) (sym element) (left_fresh class lt left);
-    by = subst (λ e. IsStepBy kernel scheduling.rules placed.list.items e step.equation) (sym element) (subst (λ o. IsStepBy kernel scheduling.rules placed.list.items (Presence class) o) (sym equation) (lt, (left_parts class left).0));
+  pub planned_cut : (step : Step) (element : Element) → step.element ≡ element → step.equation ≡ None → signal_of element < length kernel.signals → is_left kernel least placed element ≡ true → IsPlannedStep kernel scheduling step
+  planned_cut step element same none lt left = record {
+    fresh = subst (IsFreshWithin placed) (sym same) (left_fresh kernel least placed is.marks element lt left);
+    by = subst (λ e. IsStepBy kernel scheduling.rules placed.list.items e step.equation) (sym same) (subst (λ o. IsStepBy kernel scheduling.rules placed.list.items element o) (sym none) (cut_by element lt left));
   }
 
-  pub planned_truth_cut : (step : Step) (signal : ℕ) → step.element ≡ Truth signal → step.equation ≡ None → signal < length kernel.signals → is_left_truth kernel least placed signal ≡ true → IsPlannedStep kernel scheduling step
-  planned_truth_cut step signal element equation lt left =
-      let parts = left_truth_parts signal left in
-      record {
-        fresh = subst (IsFreshWithin placed) (sym element) (let e = is.marks.truth_count in omega arith, parts.1);
-        by = subst (λ e. IsStepBy kernel scheduling.rules placed.list.items e step.equation) (sym element) (subst (λ o. IsStepBy kernel scheduling.rules placed.list.items (Truth signal) o) (sym equation) parts.0);
-      }
+  class_by : (class number : ℕ) (o : Option Form) → form_at kernel number ≡ o → is_ready kernel least placed (Presence class) o ≡ true → IsStepBy kernel scheduling.rules placed.list.items (Presence class) (Some number)
+  class_by class number None at ready = absurd (false≢true ready)
+  class_by class number (Some form) at ready =
+      let parts = and_parts (governs least class form) (presence_ready kernel least placed form) ready in
+      let governs_it = governs_true least class form parts.0 in
+      let says = presence_says kernel least placed is.marks class form governs_it parts.1 in
+      (governed_class kernel valid least is.order.named.are_least class number form at governs_it, (form, at, governs_it, says.0, says.1))
 
-  -- the class that an equation may write
-  pub written_is_class : (class number : ℕ) (equation : Equation) → slice_get kernel.equations number ≡ Some equation → MayBeWritten kernel scheduling equation.form class → IsClass kernel least class
-  written_is_class class number equation at may =
-      let parts = and_parts (governs least class equation.form) (presence_ready kernel least placed equation.form) may.1 in
-      governed_is_class kernel valid least is.order.named.are_least class number equation at (governs_true least class equation.form parts.0)
+  made_by : (element : Element) (equation : Option ℕ) → ((signal : ℕ) → element ≡ Truth signal → equation ≡ slice_index_or scheduling.rules.defined.items signal None) → is_left kernel least placed element ≡ true
+      → is_ready kernel least placed element (form_by kernel equation) ≡ true → IsStepBy kernel scheduling.rules placed.list.items element equation
+  made_by (Presence class) None tabled left ready = absurd (false≢true ready)
+  made_by (Presence class) (Some number) tabled left ready = class_by class number (form_at kernel number) refl ready
+  made_by (Truth signal) None tabled left ready = left_boolean signal left
+  made_by (Truth signal) (Some number) tabled left ready = (
+    left_boolean signal left,
+    row_there scheduling.rules.defined.items signal number (sym (tabled signal refl)),
+    λ form at.
+        let says = both_said kernel least placed is.marks form (sym (ap (is_ready kernel least placed (Truth signal)) at) ∙ ready) in
+        ((λ z among. (says z among).0), (λ z among. (says z among).1)),
+  )
 
-  pub planned_class : (step : Step) (class number : ℕ) (equation : Equation) → step.element ≡ Presence class → step.equation ≡ Some number → slice_get kernel.equations number ≡ Some equation → MayBeWritten kernel scheduling equation.form class
-      → IsPlannedStep kernel scheduling step
-  planned_class step class number equation element here at may =
-      let parts = and_parts (governs least class equation.form) (presence_ready kernel least placed equation.form) may.1 in
-      let governs_it = governs_true least class equation.form parts.0 in
-      let class_is = governed_is_class kernel valid least is.order.named.are_least class number equation at governs_it in
-      let says = presence_says kernel least placed is.marks class equation.form governs_it parts.1 in
-      record {
-        fresh = subst (IsFreshWithin placed) (sym element) (left_fresh class class_is.0 may.0);
-        by = subst (λ e. IsStepBy kernel scheduling.rules placed.list.items e step.equation) (sym element) (subst (λ o. IsStepBy kernel scheduling.rules placed.list.items (Presence class) o) (sym here)
-            (class_is, (equation.form, ap (option_map (λ (e : Equation). e.form)) at, governs_it, says.0, says.1)));
-      }
+  made_within : (element : Element) (equation : Option ℕ) → IsStepBy kernel scheduling.rules placed.list.items element equation → signal_of element < length kernel.signals
+  made_within (Presence class) equation made = (step_class kernel scheduling.rules placed.list.items class equation made).0
+  made_within (Truth signal) equation made = boolean_within kernel signal (step_truth kernel scheduling.rules placed.list.items signal equation made)
 
-  ready_form : (number : ℕ) (form : Form) → form_at kernel number ≡ Some form → (o : Option Equation) → slice_get kernel.equations number ≡ o → truth_ready_at kernel least placed o ≡ true → truth_ready kernel least placed form ≡ true
-  ready_form number form at None there ready = absurd (false≢true ready)
-  ready_form number form at (Some equation) there ready =
-      let both : Some equation.form ≡ Some form = sym (ap (option_map (λ (e : Equation). e.form)) there) ∙ at in
-      let same : equation.form ≡ form = cc in
-      subst (λ f. truth_ready kernel least placed f ≡ true) same ready
+  -- a step that may be taken is planned
+  pub planned_step : (step : Step) → IsByTable scheduling.rules step → may_take kernel least placed step ≡ true → IsPlannedStep kernel scheduling step
+  planned_step step tabled may =
+      let both = and_parts (is_left kernel least placed step.element) (is_ready kernel least placed step.element (form_by kernel step.equation)) may in
+      let made = made_by step.element step.equation tabled both.0 both.1 in
+      record { fresh = left_fresh kernel least placed is.marks step.element (made_within step.element step.equation made) both.0; by = made }
 
-  pub planned_truth : (step : Step) (signal : ℕ) → step.element ≡ Truth signal → step.equation ≡ slice_index_or scheduling.rules.defined.items signal None → may_hold kernel scheduling.rules placed signal ≡ true → IsPlannedStep kernel scheduling step
-  planned_truth step signal element here may =
-      let parts = and_parts (is_boolean kernel signal && not (slice_index_or placed.truths.items signal false)) (has_class least placed signal && boolean_ready kernel least placed (slice_get scheduling.rules.defined.items signal)) may in
-      let first = and_parts (is_boolean kernel signal) (not (slice_index_or placed.truths.items signal false)) parts.0 in
-      let second = and_parts (has_class least placed signal) (boolean_ready kernel least placed (slice_get scheduling.rules.defined.items signal)) parts.1 in
-      record {
-        fresh = subst (IsFreshWithin placed) (sym element) (let lt = boolean_within kernel signal first.0 in let e = is.marks.truth_count in omega (arith, lt, e), not-true (slice_index_or placed.truths.items signal false) first.1);
-        by = subst (λ e. IsStepBy kernel scheduling.rules placed.list.items e step.equation) (sym element) (subst (λ o. IsStepBy kernel scheduling.rules placed.list.items (Truth signal) o) (sym here)
-            (by (slice_get scheduling.rules.defined.items signal) refl first.0 second.1));
-      } where
-        by : (o : Option (Option ℕ)) → slice_get scheduling.rules.defined.items signal ≡ o → is_boolean kernel signal ≡ true → boolean_ready kernel least placed (slice_get scheduling.rules.defined.items signal) ≡ true
-            → IsStepBy kernel scheduling.rules placed.list.items (Truth signal) (slice_index_or scheduling.rules.defined.items signal None)
-        by None there boolean ready = absurd (false≢true (sym (ap (boolean_ready kernel least placed) there) ∙ ready))
-        by (Some None) there boolean ready =
-            subst (λ o. IsStepBy kernel scheduling.rules placed.list.items (Truth signal) o) (sym (get_or_from_slice_get scheduling.rules.defined.items signal None None there)) boolean
-        by (Some (Some number)) there boolean ready =
-            subst (λ o. IsStepBy kernel scheduling.rules placed.list.items (Truth signal) o) (sym (get_or_from_slice_get scheduling.rules.defined.items signal (Some number) None there)) (
-              boolean,
-              there,
-              λ form at.
-                  let form_ready = ready_form number form at (slice_get kernel.equations number) refl (sym (ap (boolean_ready kernel least placed) there) ∙ ready) in
-                  ((λ z among. (both_said kernel least placed is.marks form form_ready z among).0), (λ z among. (both_said kernel least placed is.marks form form_ready z among).1)),
-            )
+  -- the class that an equation is tried for is the number of a signal
+  pub tried_within : (number : ℕ) (otherwise : Equation) → number < length kernel.equations → slice_index least (target_number (slice_index_or kernel.equations number otherwise).form) < length kernel.signals
+  tried_within number otherwise lt =
+      let equation : Equation = slice_index_or kernel.equations number otherwise in
+      least_within kernel least is.order.named.are_least (target_number equation.form) (target_below equation.form (within_at kernel valid number equation (slice_get-get_or kernel.equations number otherwise lt))) where
+        below : (y : SigId) (rest : Bool) → is_below (length kernel.signals) y && rest ≡ true → y.0 < length kernel.signals
+        below y rest within = ltb-true y.0 (length kernel.signals) (and_parts (is_below (length kernel.signals) y) rest within).0
+
+        target_below : (form : Form) → form_within (length kernel.signals) form ≡ true → target_number form < length kernel.signals
+        target_below (Fun y op operands) within = below y _ within
+        target_below (Delay y x c) within = below y _ within
+        target_below (When y x b) within = below y _ within
+        target_below (WhenConst y c b) within = below y _ within
+        target_below (Default y u v) within = below y _ within
+        target_below (Sync x y) within = below x _ within
+        target_below (Event y x) within = below y _ within
 
   -- ---- nothing is left
 
-  pub nothing_left : ((class : ℕ) → class < length kernel.signals → is_left least placed class ≡ false) → ((signal : ℕ) → signal < length kernel.signals → is_left_truth kernel least placed signal ≡ false) → IsWhole kernel scheduling
+  pub nothing_left : ((class : ℕ) → class < length kernel.signals → is_left kernel least placed (Presence class) ≡ false) → ((signal : ℕ) → signal < length kernel.signals → is_left kernel least placed (Truth signal) ≡ false) → IsWhole kernel scheduling
   nothing_left no_class no_truth = record { classes = class_there; truths = truth_there } where
     class_marked : (class : ℕ) → IsClass kernel least class → slice_index_or placed.classes.items class false ≡ true
     class_marked class of = by (slice_index_or placed.classes.items class false) refl where
@@ -351,17 +306,17 @@ module _ (kernel : Kernel) (valid : IsValid kernel) (scheduling : Scheduling) (i
     class_there class of = (is.marks.classes class).0 (class_marked class of)
 
     truth_there : (signal : ℕ) → is_boolean kernel signal ≡ true → Contains placed.list.items (Truth signal)
-    truth_there signal boolean = by (has_truth_of kernel placed signal) refl where
+    truth_there signal boolean = (is.marks.truths signal).0 (by (slice_index_or placed.truths.items signal false) refl) where
       lt : signal < length kernel.signals
       lt = boolean_within kernel signal boolean
 
       own : has_class least placed signal ≡ true
       own = class_marked (get_or least signal 0) (least_within kernel least is.order.named.are_least signal lt, least_own kernel least is.order.named.are_least signal lt)
 
-      by : (b : Bool) → has_truth_of kernel placed signal ≡ b → Contains placed.list.items (Truth signal)
-      by true e = truth_says kernel least placed is.marks signal e boolean
+      by : (b : Bool) → slice_index_or placed.truths.items signal false ≡ b → slice_index_or placed.truths.items signal false ≡ true
+      by true e = e
       by false e = absurd (false≢true (sym (no_truth signal lt)
-          ∙ and_from (is_boolean kernel signal && has_class least placed signal) (not (has_truth_of kernel placed signal)) (and_from (is_boolean kernel signal) (has_class least placed signal) boolean own) (ap not e)))
+          ∙ and_from (is_boolean kernel signal && has_class least placed signal) (not (slice_index_or placed.truths.items signal false)) (and_from (is_boolean kernel signal) (has_class least placed signal) boolean own) (ap not e)))
 
 pub whole_schedule : (kernel : Kernel) (scheduling : Scheduling) (schedule : Schedule) → IsScheduling kernel scheduling → IsWhole kernel scheduling → schedule.rules ≡ scheduling.rules → schedule.list ≡ scheduling.placed.list → IsSchedule kernel schedule
 whole_schedule kernel scheduling schedule is whole rules list = record {

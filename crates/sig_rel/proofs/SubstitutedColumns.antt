@@ -1,5 +1,5 @@
 -- Columns that were written in the order of a schedule are what its equations give, and else their own unknowns.
-use Rattle.sig_rel.proofs.Common.{◌≡◌, ◌<◌, ℕ, Bool, true, List, length, Option, None, Some, refl, sym, ap, ◌∙◌, arith, Contains, slice_get, slice_index, eq-eqb, IsValid, Kernel, Keeps, StoreView, test, Ref, entry_of, AreOwnColumns, AreUnknowns, is_boolean, presence_by, IsOrderOfWriting, AreSubstituted, HoldColumns, IsPartlyWritten, ref_at, values_at, IsClass, Element, Presence, Truth, Unknowns, Rules, Columns}
+use Rattle.sig_rel.proofs.Common.{◌≡◌, ◌<◌, ℕ, Bool, true, List, length, Option, None, Some, refl, sym, ap, ◌∙◌, arith, Contains, slice_index, eq-eqb, IsValid, Kernel, Keeps, StoreView, test, Ref, entry_of, AreOwnColumns, AreUnknowns, is_boolean, presence_by, IsOrderOfWriting, AreSubstituted, HoldColumns, IsPartlyWritten, ref_at, values_at, IsClass, Element, Presence, Truth, Unknowns, Rules, Columns}
 use Rattle.sig_rel.proofs.ElementLemmas.{held_at}
 use Rattle.sig_rel.proofs.OwnLemmas.{class_unknown}
 use Rattle.sig_rel.proofs.ScheduleLemmas.{named_class}

@@ -1,5 +1,5 @@
 -- The unknowns of a kernel as a list, and their count.
-use Rattle.sig_rel.proofs.Common.{◌≡◌, ◌<◌, ◌≤◌, ◌+◌, inl, inr, ℕ, zero, suc, List, [], ◌∷◌, length, get_or, Option, None, Some, sym, ap, ◌∙◌, subst, arith, Contains, slice_get, count_by, slice_index, ◌==◌, range_with_len, cases_eq, ext_get_or, Kernel, conditions_of, AreLeast, contains_cons, contains_head, contains_later, contains_none, AreUnknowns, IsUnknownCount, IsUsed, is_boolean}
+use Rattle.sig_rel.proofs.Common.{◌≡◌, ◌<◌, ◌≤◌, ◌+◌, inl, inr, ℕ, zero, suc, List, [], ◌∷◌, length, get_or, Option, None, Some, sym, ap, ◌∙◌, subst, arith, Contains, slice_get, count_by, slice_index, ◌==◌, range_with_len, cases_eq, ext_get_or, Kernel, AreLeast, contains_cons, contains_head, contains_later, contains_none, IsUnknownCount, IsUsed, is_boolean}
 
 abbrev pub truths_among : List (Option ℕ) → List ℕ
 truths_among [] = []

@@ -1,5 +1,5 @@
 -- Columns that are written in an order in which each element stands behind what its equation reads.
-use Rattle.sig_rel.proofs.Common.{◌≡◌, ◌<◌, ◌≤◌, ◌++◌, ◌⊎◌, inl, inr, ℕ, Bool, true, false, List, [], ◌∷◌, length, get_or, map, take, Option, None, Some, refl, sym, ap, ◌∙◌, subst, arith, Contains, if◌then◌else◌, ◌&&◌, ◌||◌, slice_get, cases_Bool, false≢true, Signal, Holds, Keeps, Spans, StoreView, test, Node, Ref, Holds-kept, Spans-kept, Form, Fun, Delay, When, WhenConst, Default, Sync, Event, Operand, Sig, Const, Kernel, compares, truth_function, signals_among, contains_at, contains_head, contains_later, contains_none, IsCut, IsGivenBy, entry_of, truths_read, is_boolean, Values, has, operand_value, presence_by, truth_by_form, ArePlain, AreWritten, Gives, HoldColumns, IsPartlyWritten, IsSet, IsWritten, SpanColumns, given_by, ref_at, truth_at, values_at, IsOrderOfWriting, form_at, operand_signals, tested, Element, Presence, Truth, Rules, Columns}
+use Rattle.sig_rel.proofs.Common.{◌≡◌, ◌≤◌, ◌++◌, inl, inr, ℕ, Bool, true, false, List, [], ◌∷◌, length, get_or, map, take, Option, None, Some, refl, sym, ap, ◌∙◌, subst, arith, Contains, if◌then◌else◌, ◌&&◌, ◌||◌, slice_get, cases_Bool, false≢true, Signal, Holds, Keeps, Spans, StoreView, test, Node, Ref, Holds-kept, Spans-kept, Form, Fun, Delay, When, WhenConst, Default, Sync, Event, Operand, Sig, Const, Kernel, compares, truth_function, signals_among, contains_at, contains_head, contains_later, contains_none, IsCut, IsGivenBy, entry_of, truths_read, is_boolean, Values, has, operand_value, presence_by, truth_by_form, ArePlain, AreWritten, Gives, HoldColumns, IsPartlyWritten, IsSet, IsWritten, SpanColumns, given_by, ref_at, truth_at, values_at, IsOrderOfWriting, form_at, operand_signals, tested, Element, Presence, Truth, Rules, Columns}
 use Rattle.sig_rel.proofs.ElementLemmas.{held_at, held_by, set_ref, span_at, span_by}
 use Rattle.sig_rel.proofs.PlacingLemmas.{among_more}
 use Rattle.sig_rel.proofs.KeptFunctions.{test_kept}

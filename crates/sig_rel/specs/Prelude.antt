@@ -1,5 +1,5 @@
 -- What the definitions and the clauses of this crate cite of std and of the crates below, passed on from one place.
-pub use Rattle.std.specs.Prelude.{Bool, Contains, Err, IfErr, IfOk, IfSome, IsTrue, List, MatchBool, MatchOption, None, Ok, OnOk, Option, Result, Some, [], cond, count_by, false, if◌then◌else◌, is_some, length, map, not, option_map, pos, position, replicate, slice_get, slice_index, slice_index_or, slice_set, sum_by, take, true, vec_len, ℕ, ◌&&◌, ◌*◌, ◌++◌, ◌+◌, ◌-◌, ◌<◌, ◌==◌, ◌^◌, ◌||◌, ◌↔◌, ◌∷◌, ◌≡◌, ◌≢◌, ◌≤◌, ◌⊎◌}
+pub use Rattle.std.specs.Prelude.{Bool, Contains, Err, IfErr, IfOk, IsTrue, List, MatchBool, MatchOption, None, Ok, OnOk, Option, Result, Some, [], cond, count_by, false, if◌then◌else◌, is_some, length, map, not, option_map, pos, position, replicate, slice_get, slice_index, slice_index_or, slice_set, sum_by, take, true, vec_len, ℕ, ◌&&◌, ◌*◌, ◌++◌, ◌+◌, ◌-◌, ◌<◌, ◌==◌, ◌^◌, ◌||◌, ◌↔◌, ◌∷◌, ◌≡◌, ◌≢◌, ◌≤◌, ◌⊎◌}
 pub use Rattle.sig_kernel.specs.Table.{operands_of}
 pub use Rattle.sig_kernel.specs.Validity.{defines}
 pub use Rattle.sig_dd.specs.Nodes.{IsFull, IsRefOf, IsStore, Keeps, Spans, StoreView}

@@ -4,10 +4,10 @@ ghost use Rattle.std.specs.Prelude.{◌≡◌, ◌⊎◌};
 ghost use Rattle.sig_rel.specs.Prelude.{Some, IfOk, MatchOption, IsValid};
 ghost use Rattle.sig_rel.specs.inner.Schedules.{IsFoundAmong, IsPlannedStep, IsScheduling, IsWhole, is_waiting};
 
-use crate::elements::Element;
+use crate::elements::{Element, Step};
 use crate::links::number_at;
 use crate::rules::{least_of, target_number};
-use crate::schedules::{Scheduling, Step, cut};
+use crate::schedules::{Scheduling, cut};
 use sig_base::SigId;
 use sig_kernel::{Form, Kernel, Operand};
 use std::alloc::{AllocError, Global};

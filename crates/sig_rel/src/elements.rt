@@ -13,6 +13,13 @@ pub enum Element {
     Truth(u32),
 }
 
+/// An element that may be put next, and the number of the equation that gives it, if one does.
+#[derive(Clone, Copy)]
+pub(crate) struct Step {
+    pub(crate) element: Element,
+    pub(crate) equation: Option<u32>,
+}
+
 /// The classes of a list, in order.
 pub(crate) fn classes_of(alloc: Global, list: &[Element]) -> Result<Vec<u32>, AllocError>
     ensures { IfOk result (λ classes. classes.items ≡ classes_among list.now) }

@@ -1,13 +1,13 @@
 //! The list of a triangular kernel, put together one element after another.
 
-ghost use Rattle.std.specs.Prelude.{◌≡◌, ◌<◌, ◌≤◌, ◌∷◌, ◌++◌};
-ghost use Rattle.sig_rel.specs.Prelude.{[], ℕ, true, false, length, slice_get, slice_index_or, IfOk, OnOk, MatchOption, MatchBool, list_all, IsValid};
-ghost use Rattle.sig_rel.specs.inner.Schedules.{is_left, may_write};
+ghost use Rattle.std.specs.Prelude.{◌≡◌, ◌<◌, ◌≤◌, ◌*◌, ◌∷◌, ◌++◌};
+ghost use Rattle.sig_rel.specs.Prelude.{[], ℕ, None, Some, true, false, length, slice_index_or, IfOk, OnOk, MatchOption, MatchBool, list_all, IsValid};
 ghost use Rattle.sig_rel.specs.Systems.{AreConditions};
-ghost use Rattle.sig_rel.specs.inner.Tables.{AreMarks, AreRulesOf, IsPlaced, IsStuck, IsTriangleOf, IsWithin, MayBePlaced, boolean_ready, has_both, has_class, has_operand, has_truth_of, has_whole, is_top_class, may_enter, may_hold, presence_ready, truth_ready, with_class, with_truth_of};
+ghost use Rattle.sig_rel.specs.inner.Tables.{AreMarks, AreRulesOf, IsPlaced, IsStuck, IsTriangleOf, IsWithin, MayBePlaced, form_by, has_both, has_class, has_operand, has_truth_of, has_whole, is_left, is_top_class, may_take, numbered_element, presence_ready, step_by, truth_ready, with_class, with_truth_of};
 ghost use Rattle.sig_rel.specs.Triangles.{IsTriangular};
 
-use crate::elements::Element;
+use crate::elements::{Element, Step};
+use crate::firsts::row;
 use crate::numbering::is_boolean;
 use crate::rules::{Rules, governs, least_of, rules_of, top_of};
 use sig_base::SigId;
@@ -92,26 +92,6 @@ impl Placed {
         })
     }
 
-    /// Whether a number is that of a class that was not placed.
-    pub(crate) fn is_left(&self, least: &[u32], class: usize) -> bool
-        ensures { result ≡ is_left least.now self.now class }
-    {
-        least_of(least, class) == class && !is_marked(self.classes.as_slice(), class)
-    }
-
-    /// Whether an equation of this form may give a class its presence from what was placed.
-    pub(crate) fn may_write(
-        &self,
-        kernel: &Kernel,
-        least: &[u32],
-        class: usize,
-        form: &Form,
-    ) -> bool
-        ensures { result ≡ may_write kernel.now least.now self.now class form.now }
-    {
-        governs(least, class, form) && self.presence_ready(kernel, least, form)
-    }
-
     /// Places elements as long as one may stand behind those that were placed.
     fn place_all(&mut self, kernel: &Kernel, rules: &Rules) -> Result<(), AllocError>
         requires valid { IsValid kernel.now }
@@ -140,89 +120,60 @@ impl Placed {
         Ok(())
     }
 
-    /// An element that was not placed, and may stand behind those that were.
+    /// The first element that was not placed, and may stand behind those that were.
     fn next(&self, kernel: &Kernel, rules: &Rules) -> Option<Element>
         requires { length kernel.now.signals ≤ 512 }
         ensures { MatchOption result (IsStuck kernel.now rules.now self.now)
             (MayBePlaced kernel.now rules.now self.now) }
     {
         let count = kernel.signals.as_slice().len();
-        if let Some(class) = self.next_class(kernel, rules, count) {
-            return Some(Element::Presence(class as u32));
-        }
-        match self.next_truth(kernel, rules, count) {
-            Some(signal) => Some(Element::Truth(signal as u32)),
-            None => None,
-        }
-    }
-
-    /// The least class that was not placed, and may be.
-    fn next_class(&self, kernel: &Kernel, rules: &Rules, count: usize) -> Option<usize>
-        ensures { MatchOption result
-            ((class : ℕ) → class < count → may_enter kernel.now rules.now self.now class ≡ false)
-            (λ class. (class < count) × (may_enter kernel.now rules.now self.now class ≡ true)) }
-    {
-        for class in 0..count {
-            if self.may_enter(kernel, rules, class) {
-                return Some(class);
+        for place in 0..2 * count {
+            let step = tabled_step(rules, count, place);
+            if self.may_take(kernel, rules.least.as_slice(), step) {
+                return Some(step.element);
             }
         }
         None
     }
 
-    /// The least boolean that was not placed, and may be.
-    fn next_truth(&self, kernel: &Kernel, rules: &Rules, count: usize) -> Option<usize>
-        ensures { MatchOption result
-            ((signal : ℕ) → signal < count → may_hold kernel.now rules.now self.now signal ≡ false)
-            (λ signal. (signal < count) × (may_hold kernel.now rules.now self.now signal ≡ true)) }
+    /// Whether a step may be taken next: its element is left, and what its equation makes it of was
+    /// placed. A class is placed by an equation alone.
+    pub(crate) fn may_take(&self, kernel: &Kernel, least: &[u32], step: Step) -> bool
+        ensures { result ≡ may_take kernel.now least.now self.now step }
     {
-        for signal in 0..count {
-            if self.may_hold(kernel, rules, signal) {
-                return Some(signal);
-            }
-        }
-        None
-    }
-
-    /// Whether a class was not placed, and may be.
-    fn may_enter(&self, kernel: &Kernel, rules: &Rules, class: usize) -> bool
-        ensures { result ≡ may_enter kernel.now rules.now self.now class }
-    {
-        if is_marked(self.classes.as_slice(), class) {
+        if !self.is_left(kernel, least, step.element) {
             return false;
         }
-        match rules.counted.get(class) {
-            Some(Some(number)) => match kernel.equations.as_slice().get(*number as usize) {
-                Some(equation) => {
-                    self.presence_ready(kernel, rules.least.as_slice(), &equation.form)
+        let form = form_by(kernel, step.equation);
+        match step.element {
+            Element::Presence(class) => match form {
+                Some(form) => {
+                    governs(least, class as usize, form) && self.presence_ready(kernel, least, form)
                 }
                 None => false,
             },
-            _ => false,
+            Element::Truth(_) => match form {
+                Some(form) => self.truth_ready(kernel, least, form),
+                None => true,
+            },
         }
     }
 
-    /// Whether a boolean was not placed, and may be.
-    pub(crate) fn may_hold(&self, kernel: &Kernel, rules: &Rules, signal: usize) -> bool
-        ensures { result ≡ may_hold kernel.now rules.now self.now signal }
+    /// Whether an element is left: a class that was not placed, at its least signal, or a boolean that was
+    /// not, of a class that was.
+    pub(crate) fn is_left(&self, kernel: &Kernel, least: &[u32], element: Element) -> bool
+        ensures { result ≡ is_left kernel.now least.now self.now element }
     {
-        (is_boolean(kernel, signal) && !is_marked(self.truths.as_slice(), signal))
-            && (self.has_class(rules.least.as_slice(), signal)
-                && self.is_ready(kernel, rules, signal))
-    }
-
-    /// Whether what the equation of a boolean reads was placed, if it has one.
-    fn is_ready(&self, kernel: &Kernel, rules: &Rules, signal: usize) -> bool
-        ensures { result
-            ≡ boolean_ready kernel.now rules.now.least.items self.now (slice_get rules.now.defined.items signal) }
-    {
-        match rules.defined.get(signal) {
-            Some(Some(number)) => match kernel.equations.as_slice().get(*number as usize) {
-                Some(equation) => self.truth_ready(kernel, rules.least.as_slice(), &equation.form),
-                None => false,
-            },
-            Some(None) => true,
-            None => false,
+        match element {
+            Element::Presence(class) => {
+                let class = class as usize;
+                least_of(least, class) == class && !is_marked(self.classes.as_slice(), class)
+            }
+            Element::Truth(signal) => {
+                let signal = signal as usize;
+                (is_boolean(kernel, signal) && self.has_class(least, signal))
+                    && !is_marked(self.truths.as_slice(), signal)
+            }
         }
     }
 
@@ -315,6 +266,41 @@ impl Placed {
         ensures { result ≡ has_both kernel.now rules.now self.now signal }
     {
         self.has_class(rules.least.as_slice(), signal) && self.has_truth_of(kernel, signal)
+    }
+}
+
+/// The steps by the tables in the order in which they are tried: each class of so many signals, and
+/// then each boolean.
+fn tabled_step(rules: &Rules, count: usize, place: usize) -> Step
+    requires count { count ≤ 512 }
+    requires place { place < 2 * count }
+    ensures { result ≡ step_by rules.now (numbered_element count place) }
+{
+    if place < count {
+        Step {
+            element: Element::Presence(place as u32),
+            equation: row(rules.counted.as_slice(), place),
+        }
+    } else {
+        let signal = place - count;
+        Step {
+            element: Element::Truth(signal as u32),
+            equation: row(rules.defined.as_slice(), signal),
+        }
+    }
+}
+
+/// The form of the equation of a number, if there is one.
+fn form_by(kernel: &Kernel, equation: Option<u32>) -> Option<&Form>
+    ensures { MatchOption result (form_by kernel.now equation ≡ None)
+        (λ form. form_by kernel.now equation ≡ Some form.now) }
+{
+    match equation {
+        Some(number) => match kernel.equations.as_slice().get(number as usize) {
+            Some(equation) => Some(&equation.form),
+            None => None,
+        },
+        None => None,
     }
 }
 

@@ -1,14 +1,13 @@
 //! The order in which the clocks of a kernel are written, each behind what it is written from.
 
-ghost use Rattle.std.specs.Prelude.{◌≡◌};
-ghost use Rattle.sig_rel.specs.Prelude.{None, slice_index_or, IfOk, IfSome, MatchOption, OnOk, IsValid, Kernel};
-ghost use Rattle.sig_rel.specs.inner.Schedules.{HasPlace, IsPlannedStep, IsSchedule, IsScheduling, IsTaken, IsWhole, MayBeWritten, is_left, is_waiting};
+ghost use Rattle.std.specs.Prelude.{◌≡◌, ◌<◌, ◌+◌};
+ghost use Rattle.sig_rel.specs.Prelude.{None, length, IfOk, MatchOption, OnOk, IsValid, Kernel};
+ghost use Rattle.sig_rel.specs.inner.Schedules.{HasPlace, IsByTable, IsPlannedStep, IsSchedule, IsScheduling, IsTaken, IsWhole, is_waiting};
 ghost use Rattle.sig_rel.specs.Systems.{AreConditions};
 
-use crate::elements::Element;
+use crate::elements::{Element, Step};
 use crate::firsts::{first_given, row};
 use crate::links::Links;
-use crate::numbering::is_boolean;
 use crate::placing::Placed;
 use crate::rules::{Rules, defined_rules, least_of, target_number};
 use crate::writing::form_for;
@@ -25,13 +24,6 @@ pub(crate) struct Schedule {
     pub(crate) rules: Rules,
     pub(crate) list: Vec<Element>,
     pub(crate) links: Links,
-}
-
-/// An element that may be written next, and the equation that writes it; none for a cut.
-#[derive(Clone, Copy)]
-pub(crate) struct Step {
-    pub(crate) element: Element,
-    pub(crate) equation: Option<u32>,
 }
 
 /// What was scheduled so far.
@@ -164,7 +156,7 @@ impl Scheduling {
     {
         let firsts = first_given(alloc, kernel, self.rules.least.as_slice())?;
         for class in 0..kernel.signals.as_slice().len() {
-            if self.is_left(class) && row(&firsts, class).is_none() {
+            if self.is_waiting(kernel, false, class) && row(&firsts, class).is_none() {
                 self.take(cut(Element::Presence(class as u32)))?;
             }
         }
@@ -196,97 +188,60 @@ impl Scheduling {
         self.placed.place(step.element)
     }
 
-    /// What may be written next: a class or a boolean by an equation, and a cut where there is none
-    /// such. None where nothing is left.
+    /// What is written next: a class or a boolean by an equation, and a cut where there is none such.
+    /// None where nothing is left.
     fn next(&self, alloc: Global, kernel: &Kernel) -> Result<Option<Step>, AllocError>
         requires valid { IsValid kernel.now }
         requires scheduling { IsScheduling kernel.now self.now }
         ensures { IfOk result (λ step. MatchOption step (IsWhole kernel.now self.now) (IsPlannedStep kernel.now self.now)) }
     {
-        if let Some(step) = self.next_class(kernel) {
-            return Ok(Some(step));
+        let least = self.rules.least.as_slice();
+        let equations = kernel.equations.as_slice().len();
+        for place in 0..equations + kernel.signals.as_slice().len() {
+            let step = self.step_tried(kernel, place);
+            if self.placed.may_take(kernel, least, step) {
+                return Ok(Some(step));
+            }
         }
-        match self.next_truth(kernel) {
-            Some(step) => Ok(Some(step)),
-            None => self.next_cut(alloc, kernel),
-        }
+        self.next_cut(alloc, kernel)
     }
 
-    /// The first equation that may write the class of the signal that it defines.
-    fn next_class(&self, kernel: &Kernel) -> Option<Step>
+    /// The steps in the order in which they are tried: by each equation one that writes the class of
+    /// what it defines, and then for each boolean one that writes it.
+    fn step_tried(&self, kernel: &Kernel, place: usize) -> Step
         requires valid { IsValid kernel.now }
         requires scheduling { IsScheduling kernel.now self.now }
-        ensures { IfSome result (IsPlannedStep kernel.now self.now) }
+        requires place { place < length kernel.now.equations + length kernel.now.signals }
+        ensures { IsByTable self.now.rules result }
     {
         let equations = kernel.equations.as_slice();
-        for number in 0..equations.len() {
-            if let Some(class) = self.written_class(kernel, &equations[number].form) {
-                return Some(Step {
-                    element: Element::Presence(class as u32),
-                    equation: Some(number as u32),
-                });
+        if place < equations.len() {
+            let target = target_number(&equations[place].form) as usize;
+            Step {
+                element: Element::Presence(least_of(self.rules.least.as_slice(), target) as u32),
+                equation: Some(place as u32),
             }
-        }
-        None
-    }
-
-    /// The class that an equation of this form may write.
-    fn written_class(&self, kernel: &Kernel, form: &Form) -> Option<usize>
-        ensures { IfSome result (MayBeWritten kernel.now self.now form.now) }
-    {
-        let least = self.rules.least.as_slice();
-        let class = least_of(least, target_number(form) as usize);
-        if self.is_left(class) && self.placed.may_write(kernel, least, class, form) {
-            Some(class)
         } else {
-            None
-        }
-    }
-
-    /// The least boolean whose truth may be written: a condition, or one that its equation gives.
-    fn next_truth(&self, kernel: &Kernel) -> Option<Step>
-        requires valid { IsValid kernel.now }
-        requires scheduling { IsScheduling kernel.now self.now }
-        ensures { IfSome result (IsPlannedStep kernel.now self.now) }
-    {
-        for signal in 0..kernel.signals.as_slice().len() {
-            if self.placed.may_hold(kernel, &self.rules, signal) {
-                return Some(Step {
-                    element: Element::Truth(signal as u32),
-                    equation: self.definition(signal),
-                });
+            let signal = place - equations.len();
+            Step {
+                element: Element::Truth(signal as u32),
+                equation: row(self.rules.defined.as_slice(), signal),
             }
         }
-        None
-    }
-
-    /// The equation that gives a boolean its truth.
-    fn definition(&self, signal: usize) -> Option<u32>
-        ensures { result ≡ slice_index_or self.now.rules.defined.items signal None }
-    {
-        match self.rules.defined.get(signal) {
-            Some(number) => *number,
-            None => None,
-        }
-    }
-
-    /// Whether a number is that of a class that was not written.
-    pub(crate) fn is_left(&self, class: usize) -> bool
-        ensures { result ≡ is_left self.now.rules.least.items self.now.placed class }
-    {
-        self.placed.is_left(self.rules.least.as_slice(), class)
     }
 
     /// Whether an element of one kind is left: a boolean of a class that was written, or a class.
     pub(crate) fn is_waiting(&self, kernel: &Kernel, truths: bool, signal: usize) -> bool
+        requires { signal < 512 }
         ensures { result ≡ is_waiting kernel.now self.now truths signal }
     {
+        let least = self.rules.least.as_slice();
+        let signal = signal as u32;
         if truths {
-            is_boolean(kernel, signal)
-                && self.placed.has_class(self.rules.least.as_slice(), signal)
-                && !self.placed.has_truth_of(kernel, signal)
+            self.placed.is_left(kernel, least, Element::Truth(signal))
         } else {
-            self.is_left(signal)
+            self.placed
+                .is_left(kernel, least, Element::Presence(signal))
         }
     }
 }

@@ -1,6 +1,6 @@
 -- The elements that equations give, by the tables of a kernel.
 use Rattle.std.specs.Prelude.{◌≡◌}
-use Rattle.sig_rel.specs.Prelude.{ℕ, List, Option, None, Some, slice_get, Form, Kernel}
+use Rattle.sig_rel.specs.Prelude.{ℕ, List, Option, Some, slice_get, Form, Kernel}
 use Rattle.sig_rel.specs.Triangles.{form_at, operand_signals, tested}
 use Rattle.sig_rel.specs.declared.elements.Element.{Element}
 use Rattle.sig_rel.specs.declared.elements.Element.TheVariants.{Presence, Truth}

@@ -1,18 +1,17 @@
 -- The order in which the clocks of a kernel are written: each behind what its equation reads, where one writes it, and
 -- by a variable of its own where none does. Where everything waits for itself, something is cut: it gets a variable too.
-use Rattle.std.specs.Prelude.{◌≡◌, ◌<◌, ◌++◌, ◌&&◌, ◌==◌, ◌∷◌}
-use Rattle.sig_rel.specs.Prelude.{not, ℕ, Bool, true, false, List, [], length, take, Option, None, Some, slice_index, slice_index_or, slice_get, slice_set, MatchOption, Contains, defines, Equation, Form, Kernel, is_condition, AreLeast}
+use Rattle.std.specs.Prelude.{◌≡◌, ◌<◌, ◌++◌, ◌∷◌}
+use Rattle.sig_rel.specs.Prelude.{ℕ, Bool, true, false, List, [], length, take, Option, None, Some, slice_index_or, slice_get, slice_set, MatchOption, Contains, defines, Equation, Form, Kernel, is_condition, AreLeast}
 use Rattle.sig_rel.specs.inner.Elements.{entry_of, truths_read}
 use Rattle.sig_rel.specs.Relations.{is_boolean}
-use Rattle.sig_rel.specs.inner.Tables.{AreMarks, IsFreshWithin, governs, has_class, has_truth_of, presence_ready, with_class, with_truth_of}
+use Rattle.sig_rel.specs.inner.Tables.{AreMarks, IsFreshWithin, is_left, with_class, with_truth_of}
 use Rattle.sig_rel.specs.Triangles.{Governs, HasClasses, HasTruths, IsClass, form_at, operand_signals, tested}
 use Rattle.sig_rel.specs.declared.elements.Element.{Element}
 use Rattle.sig_rel.specs.declared.elements.Element.TheVariants.{Presence, Truth}
-use Rattle.sig_rel.specs.declared.placing.Placed.{Placed}
+use Rattle.sig_rel.specs.declared.elements.Step.{Step}
 use Rattle.sig_rel.specs.declared.rules.Rules.{Rules}
 use Rattle.sig_rel.specs.declared.schedules.Schedule.{Schedule}
 use Rattle.sig_rel.specs.declared.schedules.Scheduling.{Scheduling}
-use Rattle.sig_rel.specs.declared.schedules.Step.{Step}
 
 -- The tables name equations: a When, WhenConst or Default for a class that defines a signal of it, and for a boolean that
 -- is no condition the equation that defines it.
@@ -57,26 +56,10 @@ pub record IsWhole (kernel : Kernel) (scheduling : Scheduling) : Type 0 where
 
 -- ---- what is left
 
--- the number is that of a class that was not scheduled
-abbrev pub is_left : List ℕ → Placed → ℕ → Bool
-is_left least placed class = (slice_index least class == class) && not (slice_index_or placed.classes.items class false)
-
--- a boolean was not scheduled, but its class was
-abbrev pub is_left_truth : Kernel → List ℕ → Placed → ℕ → Bool
-is_left_truth kernel least placed signal = (is_boolean kernel signal && has_class least placed signal) && not (has_truth_of kernel placed signal)
-
 -- an element of one kind is left: a boolean of a class that was scheduled, or a class
 abbrev pub is_waiting : Kernel → Scheduling → Bool → ℕ → Bool
-is_waiting kernel scheduling true signal = is_left_truth kernel scheduling.rules.least.items scheduling.placed signal
-is_waiting kernel scheduling false class = is_left scheduling.rules.least.items scheduling.placed class
-
--- an equation of this form gives a class its presence from what was scheduled
-abbrev pub may_write : Kernel → List ℕ → Placed → ℕ → Form → Bool
-may_write kernel least placed class form = governs least class form && presence_ready kernel least placed form
-
--- the class was not scheduled, and an equation of this form may write it
-abbrev pub MayBeWritten : Kernel → Scheduling → Form → ℕ → Type 0
-MayBeWritten kernel scheduling form class = (is_left scheduling.rules.least.items scheduling.placed class ≡ true) × (may_write kernel scheduling.rules.least.items scheduling.placed class form ≡ true)
+is_waiting kernel scheduling true signal = is_left kernel scheduling.rules.least.items scheduling.placed (Truth signal)
+is_waiting kernel scheduling false class = is_left kernel scheduling.rules.least.items scheduling.placed (Presence class)
 
 -- one of the signals is such a one, where one was found; else none is
 abbrev pub IsFoundAmong : Kernel → (ℕ → Bool) → Option ℕ → Type 0
@@ -93,6 +76,10 @@ IsStepBy kernel rules before (Presence class) (Some number) = IsClass kernel rul
 IsStepBy kernel rules before (Truth signal) None = is_boolean kernel signal ≡ true
 IsStepBy kernel rules before (Truth signal) (Some number) = (is_boolean kernel signal ≡ true) × (slice_get rules.defined.items signal ≡ Some (Some number))
     × ((form : Form) → form_at kernel number ≡ Some form → HasClasses rules.least.items before (operand_signals form) × HasTruths kernel before (operand_signals form))
+
+-- a boolean's step is by the equation that the table has for it
+abbrev pub IsByTable : Rules → Step → Type 0
+IsByTable rules step = (signal : ℕ) → step.element ≡ Truth signal → step.equation ≡ slice_index_or rules.defined.items signal None
 
 -- a step that may be taken next
 pub record IsPlannedStep (kernel : Kernel) (scheduling : Scheduling) (step : Step) : Type 0 where

@@ -1,5 +1,5 @@
 -- Statuses of signals as functions of variables, and the unknowns of a kernel.
-use Rattle.std.specs.Prelude.{◌≡◌, ◌<◌, ◌≤◌, ◌+◌, ◌∷◌, if◌then◌else◌}
+use Rattle.std.specs.Prelude.{◌<◌, ◌≤◌, ◌+◌, ◌∷◌, if◌then◌else◌}
 use Rattle.sig_rel.specs.Prelude.{ℕ, Bool, List, [], None, Some, Status, test, Node, Ref, Kernel}
 use Rattle.sig_rel.specs.Relations.{AreUnknowns, IsUnknownCount, IsUsed}
 use Rattle.sig_rel.specs.declared.numbering.Unknowns.{Unknowns}

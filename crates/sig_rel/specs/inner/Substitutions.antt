@@ -1,7 +1,7 @@
 -- Clocks of a kernel as they are written, one after another.
-use Rattle.std.specs.Prelude.{◌≡◌, ◌<◌, ◌⊎◌, ◌∷◌}
-use Rattle.sig_rel.specs.Prelude.{ℕ, Bool, true, false, List, [], length, Option, None, Some, slice_index_or, slice_get, sum_by, Contains, Signal, Form, Operand, Holds, Spans, test, Node, Ref, Kernel}
-use Rattle.sig_rel.specs.inner.Elements.{IsGivenBy, IsCut, entry_of, signal_of}
+use Rattle.std.specs.Prelude.{◌≡◌, ◌⊎◌}
+use Rattle.sig_rel.specs.Prelude.{ℕ, Bool, true, false, List, [], length, Option, None, Some, slice_index_or, sum_by, Contains, Signal, Form, Operand, Holds, Spans, test, Node, Ref, Kernel}
+use Rattle.sig_rel.specs.inner.Elements.{IsGivenBy, IsCut, entry_of}
 use Rattle.sig_rel.specs.Relations.{is_boolean}
 use Rattle.sig_rel.specs.inner.Rules.{Values, operand_value, presence_by, truth_by_form}
 use Rattle.sig_rel.specs.declared.elements.Element.{Element}

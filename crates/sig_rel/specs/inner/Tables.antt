@@ -1,11 +1,13 @@
 -- Tests by which the tables of a triangular kernel are made, and its list is put together.
-use Rattle.std.specs.Prelude.{◌≡◌, ◌<◌, ◌↔◌, ◌&&◌, ◌||◌, ◌==◌, ◌+◌, if◌then◌else◌}
+use Rattle.std.specs.Prelude.{◌≡◌, ◌<◌, ◌↔◌, ◌&&◌, ◌||◌, ◌==◌, ◌+◌, ◌-◌, nat_lt, if◌then◌else◌}
 use Rattle.sig_rel.specs.Prelude.{ℕ, Bool, true, false, not, List, length, take, Option, None, Some, slice_index, slice_index_or, slice_get, slice_set, position, count_by, Contains, list_all, list_any, SigId, defines, Equation, Form, Fun, Delay, When, WhenConst, Default, Sync, Event, Operand, Sig, Const, Kernel}
 use Rattle.sig_rel.specs.Relations.{is_boolean}
+use Rattle.sig_rel.specs.inner.Elements.{signal_of}
 use Rattle.sig_rel.specs.inner.Rules.{AreRules, StandsAfter}
-use Rattle.sig_rel.specs.Triangles.{IsTop, IsTriangle}
+use Rattle.sig_rel.specs.Triangles.{IsTop, IsTriangle, form_at}
 use Rattle.sig_rel.specs.declared.elements.Element.{Element}
 use Rattle.sig_rel.specs.declared.elements.Element.TheVariants.{Presence, Truth}
+use Rattle.sig_rel.specs.declared.elements.Step.{Step}
 use Rattle.sig_rel.specs.declared.placing.Placed.{Placed}
 use Rattle.sig_rel.specs.declared.placing.Triangle.{Triangle}
 use Rattle.sig_rel.specs.declared.rules.Rules.{Rules}
@@ -121,33 +123,41 @@ truth_ready kernel least placed (Default y u v) = has_whole kernel least placed 
 truth_ready kernel least placed (Sync x y) = has_whole kernel least placed x.0 && has_whole kernel least placed y.0
 truth_ready kernel least placed (Event y x) = has_whole kernel least placed x.0
 
-abbrev pub presence_ready_at : Kernel → List ℕ → Placed → Option Equation → Bool
-presence_ready_at kernel least placed None = false
-presence_ready_at kernel least placed (Some equation) = presence_ready kernel least placed equation.form
+-- ---- steps
 
-abbrev pub truth_ready_at : Kernel → List ℕ → Placed → Option Equation → Bool
-truth_ready_at kernel least placed None = false
-truth_ready_at kernel least placed (Some equation) = truth_ready kernel least placed equation.form
+-- an element is left: a class that was not placed, at its least signal, or a boolean that was not, of a class that was
+abbrev pub is_left : Kernel → List ℕ → Placed → Element → Bool
+is_left kernel least placed (Presence class) = (slice_index least class == class) && not (slice_index_or placed.classes.items class false)
+is_left kernel least placed (Truth signal) = (is_boolean kernel signal && has_class least placed signal) && not (slice_index_or placed.truths.items signal false)
 
-abbrev pub class_ready : Kernel → List ℕ → Placed → Option (Option ℕ) → Bool
-class_ready kernel least placed None = false
-class_ready kernel least placed (Some None) = false
-class_ready kernel least placed (Some (Some number)) = presence_ready_at kernel least placed (slice_get kernel.equations number)
+-- what an equation of this form makes an element of was placed; without one a boolean alone is ready
+abbrev pub is_ready : Kernel → List ℕ → Placed → Element → Option Form → Bool
+is_ready kernel least placed (Presence class) None = false
+is_ready kernel least placed (Presence class) (Some form) = governs least class form && presence_ready kernel least placed form
+is_ready kernel least placed (Truth signal) None = true
+is_ready kernel least placed (Truth signal) (Some form) = truth_ready kernel least placed form
 
-abbrev pub boolean_ready : Kernel → List ℕ → Placed → Option (Option ℕ) → Bool
-boolean_ready kernel least placed None = false
-boolean_ready kernel least placed (Some None) = true
-boolean_ready kernel least placed (Some (Some number)) = truth_ready_at kernel least placed (slice_get kernel.equations number)
+-- the form of the equation of a number, if there is one
+abbrev pub form_by : Kernel → Option ℕ → Option Form
+form_by kernel None = None
+form_by kernel (Some number) = form_at kernel number
 
--- a class was not placed, and may be
-abbrev pub may_enter : Kernel → Rules → Placed → ℕ → Bool
-may_enter kernel rules placed class = not (slice_index_or placed.classes.items class false) && class_ready kernel rules.least.items placed (slice_get rules.counted.items class)
+-- a step may be taken next: its element is left, and what its equation makes it of was placed
+abbrev pub may_take : Kernel → List ℕ → Placed → Step → Bool
+may_take kernel least placed step = is_left kernel least placed step.element && is_ready kernel least placed step.element (form_by kernel step.equation)
 
--- a boolean was not placed, and may be
-abbrev pub may_hold : Kernel → Rules → Placed → ℕ → Bool
-may_hold kernel rules placed signal =
-    (is_boolean kernel signal && not (slice_index_or placed.truths.items signal false))
-    && (has_class rules.least.items placed signal && boolean_ready kernel rules.least.items placed (slice_get rules.defined.items signal))
+-- the equation that the tables have for an element
+abbrev pub equation_for : Rules → Element → Option ℕ
+equation_for rules (Presence class) = slice_index_or rules.counted.items class None
+equation_for rules (Truth signal) = slice_index_or rules.defined.items signal None
+
+-- the step of an element by the tables
+abbrev pub step_by : Rules → Element → Step
+step_by rules element = record { element = element; equation = equation_for rules element }
+
+-- classes and booleans by number: those of so many signals, the classes first
+abbrev pub numbered_element : ℕ → ℕ → Element
+numbered_element count place = if nat_lt place count then Presence place else Truth (place - count)
 
 abbrev pub has_both : Kernel → Rules → Placed → ℕ → Bool
 has_both kernel rules placed signal = has_whole kernel rules.least.items placed signal
@@ -180,13 +190,11 @@ pub record IsPlaced (kernel : Kernel) (rules : Rules) (placed : Placed) : Type 0
   pub marks : AreMarks (length kernel.signals) placed
 
 -- nothing more may be placed
-pub record IsStuck (kernel : Kernel) (rules : Rules) (placed : Placed) : Type 0 where
-  pub classes : (class : ℕ) → class < length kernel.signals → may_enter kernel rules placed class ≡ false
-  pub truths : (signal : ℕ) → signal < length kernel.signals → may_hold kernel rules placed signal ≡ false
+abbrev pub IsStuck : Kernel → Rules → Placed → Type 0
+IsStuck kernel rules placed = (element : Element) → signal_of element < length kernel.signals → may_take kernel rules.least.items placed (step_by rules element) ≡ false
 
 abbrev pub MayBePlaced : Kernel → Rules → Placed → Element → Type 0
-MayBePlaced kernel rules placed (Presence class) = (class < length kernel.signals) × (may_enter kernel rules placed class ≡ true)
-MayBePlaced kernel rules placed (Truth signal) = (signal < length kernel.signals) × (may_hold kernel rules placed signal ≡ true)
+MayBePlaced kernel rules placed element = (signal_of element < length kernel.signals) × (may_take kernel rules.least.items placed (step_by rules element) ≡ true)
 
 -- there is a mark for an element
 abbrev pub IsWithin : Placed → Element → Type 0
@@ -209,10 +217,6 @@ unmarked placed = count_by not placed.classes.items + count_by not placed.truths
 pub record IsTriangleOf (kernel : Kernel) (triangle : Triangle) : Type 0 where
   pub are_rules : AreRulesOf kernel triangle.rules
   pub is_triangle : IsTriangle kernel triangle.rules.least.items triangle.list.items
-
-abbrev pub IsMarkedWithin : ℕ → Element → Type 0
-IsMarkedWithin count (Presence class) = class < count
-IsMarkedWithin count (Truth signal) = signal < count
 
 -- there is a mark for an element, which is not set
 abbrev pub IsFreshWithin : Placed → Element → Type 0

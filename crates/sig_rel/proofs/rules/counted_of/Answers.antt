@@ -1,4 +1,4 @@
-use Rattle.sig_rel.proofs.{◌≡◌, ◌∙◌, ℕ, List, Option, None, length, map, sym, ap, subst, range_with_len, length-map, length-range_with_len, written, counted_for, gives, AreFirsts}
+use Rattle.sig_rel.proofs.{◌≡◌, ◌∙◌, length, sym, ap, subst, range_with_len, length-map, length-range_with_len, written, counted_for, gives, AreFirsts}
 use Rattle.sig_rel.proofs.rules.counted_of.Goals as goal
 
 pub without_unexcused-requires : goal.without_unexcused-requires

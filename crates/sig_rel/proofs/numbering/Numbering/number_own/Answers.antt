@@ -1,4 +1,4 @@
-use Rattle.sig_rel.proofs.{◌≡◌, ◌<◌, get_or, length, arith, class_given, room_for_next}
+use Rattle.sig_rel.proofs.{◌<◌, length, arith, class_given, room_for_next}
 use Rattle.sig_rel.proofs.numbering.Numbering.number_own.Goals as goal
 
 pub number_class-requires-clause-room : goal.number_class-requires-clause-room

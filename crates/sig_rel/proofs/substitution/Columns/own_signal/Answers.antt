@@ -1,4 +1,4 @@
-use Rattle.sig_rel.proofs.{◌+◌, Ok, Err, subst, sym, arith, is_some, Adds, count_one, unknown_of, AreVariables, IsVariableAt, on_ok_weaker, Presence, Truth, adds_err, adds_then, both_made}
+use Rattle.sig_rel.proofs.{◌+◌, Ok, Err, subst, arith, is_some, Adds, count_one, unknown_of, AreVariables, IsVariableAt, on_ok_weaker, Presence, Truth, adds_err, adds_then, both_made}
 use Rattle.sig_rel.proofs.substitution.Columns.own_signal.Goals as goal
 
 pub returns-in_err-set_variable-clause-adds : goal.returns-in_err-set_variable-clause-adds

@@ -1,4 +1,4 @@
-use Rattle.sig_rel.proofs.{◌≡◌, ◌+◌, Ok, Err, length, get_or, arith, get_at, IsProposalBelow, adds_err, adds_more, adds_none, adds_then, all_proposed, one_proposed, no_variables}
+use Rattle.sig_rel.proofs.{◌+◌, Ok, Err, length, get_or, arith, get_at, IsProposalBelow, adds_err, adds_more, adds_none, adds_then, all_proposed, one_proposed, no_variables}
 use Rattle.sig_rel.proofs.substitution.Columns.propose.Goals as goal
 
 pub loop-v-init : goal.loop-v-init

@@ -1,4 +1,4 @@
-use Rattle.sig_rel.proofs.{None, Ok, sym, subst, is_some, Adds, count_one, AreVariables, IsVariableAt, adds_none, adds_variable, variable_refused, no_variable, one_variable}
+use Rattle.sig_rel.proofs.{Ok, sym, subst, is_some, Adds, count_one, AreVariables, IsVariableAt, adds_none, adds_variable, variable_refused, no_variable, one_variable}
 use Rattle.sig_rel.proofs.substitution.Columns.set_variable.Goals as goal
 
 pub returns-in_err-value-in-Some-clause-adds : goal.returns-in_err-value-in-Some-clause-adds
