@@ -1,11 +1,12 @@
 //! Calls of the top call over files and sinks in memory, and what they must write and answer. Most of them are rows of
 //! tables, which stand in a module for each command, or for what is asked of it; `rows` calls them.
 
-use rows::{answer, call_of, check, status_of};
-use sig_text::{Begun, Files, Gate, HostFiles, HostSink, MemFiles, MemSink, Sink, WriteFault};
+use rows::{answer, answer_of, call_of, check, status_of};
+use sig_text::{
+    Begun, Files, Gate, HostFiles, HostSink, MemAnswer, MemFiles, MemSink, Sink, WriteFault,
+};
 use sig_tool::sig_main;
 use std::alloc::Global;
-use std::process::Abort;
 use std::sync::Wait;
 use std::sync::atomic::{AtomicU64, Ordering};
 use std::test::Fail;

@@ -14,19 +14,33 @@ fn has_line(text: &str, line: &str) -> bool {
     false
 }
 
-/// Compares what is told of each program with what its row asks for.
+/// The first of these lines that a text does not have.
+fn missing<'a>(text: &str, wanted: &'a str) -> Option<&'a str> {
+    for line in wanted.lines() {
+        if !has_line(text, line) {
+            return Some(line);
+        }
+    }
+    None
+}
+
+/// Compares what is told of a program with what its row asks for.
+fn check_row(alloc: Global, number: usize, row: &str) -> Result<(), Fail> {
+    let (head, wanted) = row.split_once("\n=\n").unwrap_or((row, "an answer"));
+    let (word, program) = head.split_once('\n').unwrap_or((head, ""));
+    let text = told(alloc, word, program.as_bytes())?;
+    match missing(&text, wanted) {
+        Some(line) => Err(Fail::new(format_args!(
+            "PROGRAMS, row {number}: there is no line {line} in {text}"
+        ))),
+        None => Ok(()),
+    }
+}
+
+/// Checks each row.
 fn check(alloc: Global) -> Result<(), Fail> {
     for (number, row) in PROGRAMS.split("\n$ ").skip(1).enumerate() {
-        let (head, wanted) = row.split_once("\n=\n").unwrap_or((row, "an answer"));
-        let (word, program) = head.split_once('\n').unwrap_or((head, ""));
-        let text = told(alloc, word, program.as_bytes())?;
-        for line in wanted.lines() {
-            if !has_line(&text, line) {
-                return Err(Fail::new(format_args!(
-                    "PROGRAMS, row {number}: there is no line {line} in {text}"
-                )));
-            }
-        }
+        check_row(alloc, number, row)?;
     }
     Ok(())
 }

@@ -110,10 +110,19 @@ out: Y 11\nY\s
 status: 6
 ";
 
+const FLOWS: &str = "A 1 2 3\nB 10 20\n";
+
+/// The beginning of the names of files of the outside.
+fn base_of(rt: &HostRuntime) -> Result<String, Fail> {
+    let folder = env::temp_dir(rt)?;
+    let id = process::id(rt.process());
+    Ok(format!(in rt.alloc(); "{}/sig_tool_{id}", folder.display())?)
+}
+
 /// Writes a file of the outside, whose name has this beginning and end.
-fn put_file(rt: &HostRuntime, base: &str, end: &str, bytes: &[u8]) -> Result<(), Fail> {
+fn put_file(rt: &HostRuntime, base: &str, end: &str, text: &str) -> Result<(), Fail> {
     let name = format!(in rt.alloc(); "{base}.{end}")?;
-    fs::write(rt, name.as_str(), bytes)?;
+    fs::write(rt, name.as_str(), text.as_bytes())?;
     Ok(())
 }
 
@@ -125,37 +134,52 @@ fn take_file(rt: &HostRuntime, base: &str, end: &str) -> Result<String, Fail> {
     Ok(text)
 }
 
+/// Compares the text of a file of the outside, which is removed.
+fn check_file(rt: &HostRuntime, base: &str, end: &str, wanted: &str) -> Result<(), Fail> {
+    let text = take_file(rt, base, end)?;
+    if text.as_str() != wanted {
+        return Err(Fail::new(format_args!("{end}: {text}")));
+    }
+    Ok(())
+}
+
+/// A sink into a file of the outside.
+fn sink_of<R: AllocGlobal + rt::Files>(
+    rt: &R,
+    base: &str,
+    end: &str,
+) -> Result<HostSink<R::File>, Fail> {
+    let name = format!(in rt.alloc(); "{base}.{end}")?;
+    let file = fs::create(rt, name.as_str())?;
+    Ok(HostSink::new(rt.alloc(), file)?)
+}
+
 /// Runs over files of the outside, whose names have this beginning.
-fn run_files<R: Threads + Wait + Sync + Abort + AllocGlobal + rt::Files>(
+fn run_files<R: Threads + Wait + Sync + AllocGlobal + rt::Files>(
     rt: &R,
     base: &str,
 ) -> Result<u8, Fail> {
     let line = format!(in rt.alloc(); "run {base}.sig {base}.flows")?;
-    let out_name = format!(in rt.alloc(); "{base}.out")?;
-    let err_name = format!(in rt.alloc(); "{base}.err")?;
     let mut files = HostFiles::new(rt);
-    let mut out = HostSink::new(rt.alloc(), fs::create(rt, out_name.as_str())?)?;
-    let mut err = HostSink::new(rt.alloc(), fs::create(rt, err_name.as_str())?)?;
+    let mut out = sink_of(rt, base, "out")?;
+    let mut err = sink_of(rt, base, "err")?;
     answer(rt, &line, "", &mut files, &mut out, &mut err)
+}
+
+/// Compares the texts of the four files of the run, which are removed.
+fn check_files(rt: &HostRuntime, base: &str) -> Result<(), Fail> {
+    check_file(rt, base, "out", "Y 11\nY 22\n")?;
+    check_file(rt, base, "err", "end: input B exhausted after 2 instants\n")?;
+    check_file(rt, base, "sig", SUM)?;
+    check_file(rt, base, "flows", FLOWS)
 }
 
 #[test]
 fn runs_over_real_files(rt: HostRuntime) -> Result<(), Fail> {
-    let folder = env::temp_dir(&rt)?;
-    let id = process::id(rt.process());
-    let base = format!(in rt.alloc(); "{}/sig_tool_{id}", folder.display())?;
-    put_file(&rt, &base, "sig", SUM.as_bytes())?;
-    put_file(&rt, &base, "flows", b"A 1 2 3\nB 10 20\n")?;
+    let base = base_of(&rt)?;
+    put_file(&rt, &base, "sig", SUM)?;
+    put_file(&rt, &base, "flows", FLOWS)?;
     let status = run_files(&rt, &base)?;
     assert_eq!(rt; status, 0);
-    for (end, wanted) in [
-        ("out", "Y 11\nY 22\n"),
-        ("err", "end: input B exhausted after 2 instants\n"),
-        ("sig", SUM),
-        ("flows", "A 1 2 3\nB 10 20\n"),
-    ] {
-        let text = take_file(&rt, &base, end)?;
-        assert_eq!(rt; text.as_str(), wanted, "{end}");
-    }
-    Ok(())
+    check_files(&rt, &base)
 }

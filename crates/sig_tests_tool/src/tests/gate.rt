@@ -1,5 +1,6 @@
 //! Clusters that must run on threads of their own.
 
+use super::rows::Streams;
 use super::*;
 use sig_text::Wrote;
 use std::thread;
@@ -34,7 +35,24 @@ struct Lines {
     begun: bool,
 }
 
+impl Party {
+    fn new() -> Party {
+        Party {
+            came: AtomicU64::new(0),
+            passed: AtomicU64::new(0),
+        }
+    }
+}
+
 impl Meeting {
+    fn new() -> Meeting {
+        Meeting {
+            parties: (Party::new(), Party::new()),
+            taken: AtomicU64::new(0),
+            failures: AtomicU64::new(0),
+        }
+    }
+
     /// Waits until a word is set, however long the other threads are kept from a processor. A wait in vain fails the test.
     fn wait_for(&self, word: &AtomicU64) {
         for _ in 0..VAIN {
@@ -100,6 +118,18 @@ struct Told<'a, S> {
     lines: Lines,
 }
 
+/// A sink in memory that tells this gate.
+fn told_of<'a>(alloc: Global, meeting: &'a Meeting) -> Result<Told<'a, MemSink>, MemAnswer> {
+    Ok(Told {
+        sink: MemSink::new(alloc, 5000)?,
+        meeting,
+        lines: Lines {
+            whole: 0,
+            begun: false,
+        },
+    })
+}
+
 impl<'a, S: Sink> Sink for Told<'a, S> {
     ghost took = { λ a bytes b. S.took a.sink bytes b.sink };
 
@@ -124,39 +154,40 @@ impl<'a, S: Sink> Sink for Told<'a, S> {
     ghost took_both = { λ first middle last bytes more. S.took_both first.sink middle.sink last.sink bytes more };
 }
 
+/// The run of TWO on two threads beside the collector's, into this sink.
+fn run_two<R: Threads + Wait + Sync + AllocGlobal, S: Sink>(
+    rt: &R,
+    out: &mut S,
+    meeting: &Meeting,
+) -> Result<(), Fail> {
+    let mut streams = call_of(rt.alloc(), TWO.as_bytes(), TWO_FLOWS.as_bytes())?;
+    run_over(rt, &mut streams, out, meeting)
+}
+
+/// The same, over these files and this standard error.
+fn run_over<R: Threads + Wait + Sync + AllocGlobal, S: Sink>(
+    rt: &R,
+    streams: &mut Streams,
+    out: &mut S,
+    meeting: &Meeting,
+) -> Result<(), Fail> {
+    let line = "run P F --capacity 1 --workers 2";
+    let (files, err) = (&mut streams.files, &mut streams.err);
+    let status = status_of(rt, line, files, out, err, meeting)?;
+    let failures = meeting.failures.load(Ordering::SeqCst);
+    let is_said = streams.err.bytes() == b"end: input B exhausted after 3 instants\n".as_slice();
+    if status == 0 && failures == 0 && is_said {
+        return Ok(());
+    }
+    Err(Fail::new(format_args!("status {status}, {failures} failures")))
+}
+
 /// Two clusters run on two threads beside the collector's, instant by instant.
 #[test]
 fn gate_two(rt: HostRuntime) -> Result<(), Fail> {
-    let (mut files, sink, mut err) = call_of(rt.alloc(), TWO.as_bytes(), TWO_FLOWS.as_bytes())?;
-    let meeting = Meeting {
-        parties: (
-            Party {
-                came: AtomicU64::new(0),
-                passed: AtomicU64::new(0),
-            },
-            Party {
-                came: AtomicU64::new(0),
-                passed: AtomicU64::new(0),
-            },
-        ),
-        taken: AtomicU64::new(0),
-        failures: AtomicU64::new(0),
-    };
-    let mut out = Told {
-        sink,
-        meeting: &meeting,
-        lines: Lines {
-            whole: 0,
-            begun: false,
-        },
-    };
-    let line = "run P F --capacity 1 --workers 2";
-    let status = status_of(&rt, line, &mut files, &mut out, &mut err, &meeting)?;
-    assert_eq!(rt; (status, meeting.failures.load(Ordering::SeqCst)), (0, 0));
-    assert_eq!(rt;
-        err.bytes(),
-        b"end: input B exhausted after 3 instants\n".as_slice()
-    );
+    let meeting = Meeting::new();
+    let mut out = told_of(rt.alloc(), &meeting)?;
+    run_two(&rt, &mut out, &meeting)?;
     assert_eq!(rt; out.sink.bytes(), TWO_TEXT.as_bytes());
     Ok(())
 }
