@@ -8,11 +8,11 @@ here=$(cd "$(dirname "$0")" && pwd)
 work=$(mktemp -d)
 trap 'rm -rf "$work"' EXIT
 mkdir -p "$work/crates/dd_bench/src"
-for part in src specs proofs; do
-    mkdir -p "$work/crates/sig_dd"
-    cp -r "$here/../crates/sig_dd/$part" "$work/crates/sig_dd/$part"
+mkdir -p "$work/crates/sig_dd" "$work/crates/sig_lists"
+for part in sig_dd/src sig_dd/specs sig_dd/proofs sig_lists/src sig_lists/proofs; do
+    cp -r "$here/../crates/$part" "$work/crates/$part"
 done
-printf 'sig_dd: indexmap lru thiserror\ndd_bench: sig_dd anyhow\n' >"$work/crates.txt"
+printf 'sig_lists:\nsig_dd: sig_lists indexmap lru thiserror\ndd_bench: sig_dd anyhow\n' >"$work/crates.txt"
 cp "$here/diagrams/program.txt" "$work/crates/dd_bench/src/main.rt"
 for name in rules row_has_one queens parity path; do
     mkdir -p "$work/crates/dd_bench/proofs/$name"

@@ -5,7 +5,7 @@ set -eu
 here=$(cd "$(dirname "$0")" && pwd)
 work=$(mktemp -d)
 trap 'rm -rf "$work"' EXIT
-for crate in sig_base sig_lex; do
+for crate in sig_lists sig_base sig_lex; do
     for part in src specs proofs; do
         mkdir -p "$work/crates/$crate"
         if [ -d "$here/../crates/$crate/$part" ]; then
@@ -15,7 +15,7 @@ for crate in sig_base sig_lex; do
 done
 mkdir -p "$work/crates/lex_bench/src"
 cp "$here/tokens/program.txt" "$work/crates/lex_bench/src/main.rt"
-printf 'sig_base:\nsig_lex: sig_base memchr thiserror\nlex_bench: sig_base sig_lex anyhow\n' >"$work/crates.txt"
+printf 'sig_lists:\nsig_base:\nsig_lex: sig_lists sig_base memchr thiserror\nlex_bench: sig_base sig_lex anyhow\n' >"$work/crates.txt"
 cd "$work/crates/lex_bench"
 rt run >"$work/log" 2>&1 || { tail -n 20 "$work/log"; exit 1; }
 ./out/lex_bench

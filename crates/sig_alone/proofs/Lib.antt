@@ -2,5 +2,4 @@ pub mod Common
 pub mod Rests
 pub mod RunByInstants
 pub use Common.*
-pub use Rests.*
 pub use RunByInstants.*

@@ -31,10 +31,6 @@ module _ (plan : PlanView) (accepted : IsAccepted plan) (flows : List (List ℤ)
     count_more : length (run.trace ++ run.instant ∷ []) ≡ done + 1
     count_more = let h = length-append run.trace (run.instant ∷ []) in omega (arith, h, run.count)
 
-    -- the number of the instant that is done
-    pub instant_is : whole.instant ≡ done + 1
-    instant_is = let h = amid_all.number in omega (arith, h, run.count)
-
     -- its lines are due where its text is not among that which is left out
     abbrev due : List ℕ
     due = lines_due (leb written done) plan.kernel (registers_of whole)

@@ -1,5 +1,5 @@
 -- What the passes give means that the kernel is accepted, and what they refuse that it is not.
-use Rattle.sig_back.proofs.Common.{◌≡◌, ◌<◌, ℕ, List, [], ◌∷◌, length, slice_get, slice_index, refl, sym, ap, ◌∙◌, subst, arith, zero, suc, Option, Some, Result, Ok, Err, IfErr, IfOk, IsErrAnd, SigId, IsRefusal, IsToldUnlessWanting, IsWanting, Tells, said_of, told_as, BackAnswer, Refused, Budget, OutOfMemory, BackKind, IsClockFunction, HasClocks, AreClocks, ClocksView, guard_of, signal_id, IsSignal, Node, Ref, IsValid, Kernel, accepted_or_refused, fault_once, HasOperations, IsAcceptedKernel, IsRefusedFor, KernelFault, AreOperations, function_in, operations_in, presence_in, Op}
+use Rattle.sig_back.proofs.Common.{◌≡◌, ℕ, List, slice_index, sym, ap, ◌∙◌, subst, Option, Some, Result, Ok, Err, IfErr, IfOk, IsErrAnd, SigId, IsRefusal, IsToldUnlessWanting, IsWanting, Tells, said_of, told_as, BackAnswer, Refused, Budget, OutOfMemory, BackKind, IsClockFunction, HasClocks, AreClocks, ClocksView, guard_of, signal_id, IsSignal, Node, Ref, IsValid, Kernel, accepted_or_refused, fault_once, HasOperations, IsAcceptedKernel, IsRefusedFor, KernelFault, AreOperations, function_in, operations_in, presence_in, Op, some_at}
 
 -- an answer that tells of a rule refuses the kernel that does not meet it
 pub refuses : (kernel : Kernel) (fault : KernelFault) (kind : BackKind) (signals : List SigId) (answer : BackAnswer) → IsRefusedFor kernel fault
@@ -8,11 +8,6 @@ refuses kernel fault kind signals (Refused told) refused same is = (fault, refus
 refuses kernel fault kind signals (Budget nodes) refused same is = absurd is
 refuses kernel fault kind signals OutOfMemory refused same is = tt
 
-present : {X : Type 0} (xs : List X) (k : ℕ) → k < length xs → (x : X) × (slice_get xs k ≡ Some x)
-present [] k lt = absurd (omega (arith, lt))
-present (x ∷ xs) zero lt = (x, refl)
-present (x ∷ xs) (suc k) lt = present xs k (omega (arith, lt))
-
 -- the operations that were made are the kernel's
 pub operations : (kernel : Kernel) (nodes : List Node) (clocks : ClocksView) (ops : List Op) → HasClocks kernel → AreClocks kernel nodes clocks
     → AreOperations kernel nodes clocks ops → HasOperations kernel clocks.conditions (operations_in nodes ops)
@@ -20,7 +15,7 @@ operations kernel nodes clocks ops has are made = record {
   clocks = has;
   order = are.conditions;
   presence = presence_in nodes clocks;
-  functions = λ signal is. let there = present clocks.guard (slice_index clocks.class_of signal) (are.classes signal is) in of signal is there.0 there.1;
+  functions = λ signal is. let there = some_at clocks.guard (slice_index clocks.class_of signal) (are.classes signal is) in of signal is there.0 there.1;
   are = made.are;
 } where
   of : (signal : ℕ) → IsSignal kernel signal → (guard : Ref) → guard_of clocks signal ≡ Some guard

@@ -4,5 +4,5 @@ mod ShownNames
 mod Rooms
 pub use Common.*
 pub use AcceptedKernels.*
-pub use ShownNames.*
 pub use Rooms.*
+pub use ShownNames.*

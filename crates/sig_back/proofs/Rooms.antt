@@ -1,7 +1,6 @@
 -- A kernel within the bound does not run out of nodes.
-use Rattle.sig_back.proofs.Common.{◌≡◌, ◌<◌, ◌≤◌, ◌+◌, ◌*◌, ◌^◌, ◌⊎◌, inl, inr, ℕ, Bool, true, false, eqb, List, [], length, map, filter, get_or, slice_get, sym, ap, ◌∙◌, subst, arith, Some, Result, list_any, range_with_len, mul-le-mul_right, pow_mono, nat_eq_equiv, get_or-map, length-filter, IsDistinct-from_apart, length-le_from_is_member, SigId, NODES, HasNoRoomFor, IsBeyondBound, Spends, AreClocks, ClocksView, conditions_of, is_condition, signal_id, HasLayer, IsEarlier, one_layer, Keeps, StoreView, Node, Kernel, PlanAnswer, NoNodes, IsUnknownCount, is_boolean, IsTriangular, HasNoRoom, KeepsToShare, KeepsToTriangularShare, share_of, triangular_share_of, ClockAnswer, Dead, any_is, apart-eqb, get_at, in_filter, in_range, is_any, map_length, of_map, condition_is_boolean, condition_is_signal}
+use Rattle.sig_back.proofs.Common.{◌≡◌, ◌<◌, ◌≤◌, ◌+◌, ◌*◌, ◌^◌, ◌⊎◌, inl, inr, ℕ, Bool, true, false, eqb, List, length, map, filter, get_or, slice_get, sym, ◌∙◌, subst, arith, Some, list_any, range_with_len, mul-le-mul_right, pow_mono, nat_eq_equiv, get_or-map, length-filter, IsDistinct-from_apart, length-le_from_is_member, SigId, NODES, IsBeyondBound, Spends, AreClocks, ClocksView, conditions_of, is_condition, signal_id, HasLayer, IsEarlier, one_layer, Keeps, StoreView, Node, Kernel, PlanAnswer, NoNodes, IsUnknownCount, is_boolean, share_of, condition_is_boolean, condition_is_signal, mapped_from, one_passes, passes_one, ne_eqb, slice_get-get_or, in_filter, in_range, length-map}
 use Rattle.sig_plan.specs.Shares.{IsRefusedFor}
-use Rattle.sig_solve.specs.declared.answer.ClockAnswer.TheVariants.{MissingRoot, Unsolved, Pinned, Budget, OutOfMemory}
 
 number : SigId → ℕ
 number c = c.0
@@ -22,7 +21,7 @@ fewer_conditions : (kernel : Kernel) (nodes : List Node) (clocks : ClocksView) �
 unfolding number
 fewer_conditions kernel nodes clocks are p holds =
     let fewer : length own ≤ length wide = length-le_from_is_member nat_eq_equiv own wide (IsDistinct-from_apart eqb own apart) among in
-    omega (arith, fewer, map_length number clocks.conditions)
+    omega (arith, fewer, length-map clocks.conditions number)
   where
     range : List ℕ
     range = range_with_len 0 (length kernel.signals)
@@ -34,22 +33,22 @@ fewer_conditions kernel nodes clocks are p holds =
     wide = filter p range
 
     at : (i : ℕ) → i < length own → slice_get clocks.conditions i ≡ Some (get_or clocks.conditions i (signal_id 0))
-    at i lt = get_at clocks.conditions i (signal_id 0) (omega (arith, lt, map_length number clocks.conditions))
+    at i lt = slice_get-get_or clocks.conditions i (signal_id 0) (omega (arith, lt, length-map clocks.conditions number))
 
     own_at : (i d : ℕ) → i < length own → get_or own i d ≡ number (get_or clocks.conditions i (signal_id 0))
-    own_at i d lt = get_or-map number clocks.conditions i (signal_id 0) d (omega (arith, lt, map_length number clocks.conditions))
+    own_at i d lt = get_or-map number clocks.conditions i (signal_id 0) d (omega (arith, lt, length-map clocks.conditions number))
 
     apart : (i j d : ℕ) → i < j → j < length own → eqb (get_or own i d) (get_or own j d) ≡ false
-    apart i j d less lt = apart-eqb (get_or own i d) (get_or own j d) (λ same.
+    apart i j d less lt = ne_eqb (get_or own i d) (get_or own j d) (λ same.
         never_earlier kernel _ _ (sym (own_at i d (omega (arith, less, lt))) ∙ same ∙ own_at j d lt)
         (are.conditions.order i j _ _ less (at i (omega (arith, less, lt))) (at j lt)))
 
     among : (q : ℕ) → list_any (eqb q) own ≡ true → list_any (eqb q) wide ≡ true
     among q there =
-        let (x, in_own, same) = any_is (eqb q) own there in
-        let (c, in_conditions, e) = of_map number clocks.conditions x in_own in
+        let (x, in_own, same) = passes_one (eqb q) own there in
+        let (c, in_conditions, e) = mapped_from number clocks.conditions x in_own in
         let is_x : is_condition kernel x ≡ true = subst (λ n. is_condition kernel n ≡ true) (sym e) ((are.conditions.all c).0 in_conditions) in
-        is_any (eqb q) wide x (in_filter p range x (in_range (length kernel.signals) x (condition_is_signal kernel x is_x)) (holds x is_x)) same
+        one_passes (eqb q) wide x (in_filter p range x (in_range (length kernel.signals) x (condition_is_signal kernel x is_x)) (holds x is_x)) same
 
 -- the conditions are no more than the booleans, and so no more than the unknowns
 pub few_conditions : (kernel : Kernel) (nodes : List Node) (clocks : ClocksView) → AreClocks kernel nodes clocks
@@ -60,44 +59,11 @@ few_conditions kernel nodes clocks are unknowns (least, is, sum) =
 -- no condition is counted twice
 pub all_conditions : (kernel : Kernel) (nodes : List Node) (clocks : ClocksView) → AreClocks kernel nodes clocks → length clocks.conditions ≤ length (conditions_of kernel)
 all_conditions kernel nodes clocks are =
-    omega (arith, fewer_conditions kernel nodes clocks are (is_condition kernel) (λ x is_x. is_x), map_length signal_id (filter (is_condition kernel) (range_with_len 0 (length kernel.signals))))
-
--- what a store without nodes holds behind the clocks
-pub spends : {T : Type 0} (kernel : Kernel) (old new : StoreView) (result : Result T ClockAnswer) → old.nodes ≡ [] → old.made_for ≡ NODES → Keeps old new
-    → KeepsToShare kernel old new result → KeepsToTriangularShare kernel old new result → Spends kernel new
-spends kernel old new result empty made kept share own = record {
-  made_for = kept.made_for ∙ made;
-  share = λ u counted. let none : length old.nodes ≡ 0 = ap length empty in omega (arith, none, (share u counted).added);
-  triangular = λ is. let none : length old.nodes ≡ 0 = ap length empty in omega (arith, none, (own is).added);
-}
+    omega (arith, fewer_conditions kernel nodes clocks are (is_condition kernel) (λ x is_x. is_x), length-map (filter (is_condition kernel) (range_with_len 0 (length kernel.signals))) signal_id)
 
 -- a kernel within a bound has room for the clocks and the operations
 within_bound : (p x : ℕ) → p * 36 * x + p * 3 * x ≡ p * 39 * x
 within_bound p x = omega arith
-
--- the clocks find no room only for a kernel that is not within the bound
-pub no_room : (kernel : Kernel) (old new : StoreView) (answer : ClockAnswer) → old.nodes ≡ [] → old.made_for ≡ NODES → Keeps old new
-    → ((unknowns : ℕ) → IsUnknownCount kernel unknowns → HasNoRoom old new (share_of kernel unknowns) answer) → (IsTriangular kernel → HasNoRoom old new (triangular_share_of kernel) answer) → HasNoRoomFor kernel answer
-no_room kernel old new Dead empty made kept room own = tt
-no_room kernel old new (MissingRoot x y) empty made kept room own = tt
-no_room kernel old new (Unsolved x) empty made kept room own = tt
-no_room kernel old new (Pinned b) empty made kept room own = tt
-no_room kernel old new OutOfMemory empty made kept room own = tt
-no_room kernel old new (Budget n) empty made kept room own = λ meets.
-    let none : length old.nodes ≡ 0 = ap length empty in
-    elim meets [
-      | inl at ↦
-          let (full, less) = room at.unknowns at.counted in
-          let fits = at.fits in
-          let is : n ≡ NODES = sym full.0 ∙ kept.made_for ∙ made in
-          omega (arith, less, none, fits, is)
-      | inr at ↦
-          let (full, less) = own at.triangular in
-          let fits = at.fits in
-          let is : n ≡ NODES = sym full.0 ∙ kept.made_for ∙ made in
-          let both = within_bound (2 ^ length (conditions_of kernel)) (length kernel.equations + 1) in
-          omega (arith, less, none, fits, is, both)
-    ]
 
 -- powers rise
 powers_rise : (a b : ℕ) → a ≤ b → 2 ^ a ≤ 2 ^ b

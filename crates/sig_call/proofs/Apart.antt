@@ -1,11 +1,5 @@
 -- Texts that differ from one another, and texts that are cut at the first of a byte.
-use Rattle.sig_call.proofs.Common.{◌≡◌, ◌≢◌, ◌++◌, ℕ, List, [], ◌∷◌, Bool, true, false, map, refl, append_cancel_left, bytes_eq-Decides, AllByRecursion, IsDistinct, bytes_eq}
-use Rattle.sig_call.proofs.Texts.{all_both}
-
--- what holds of each, if something else does
-pub all_so : {A : Type 0} (P Q : A → Type 0) → ((x : A) → P x → Q x) → (xs : List A) → AllByRecursion P xs → AllByRecursion Q xs
-all_so P Q so [] h = tt
-all_so P Q so (x ∷ xs) h = (so x h.0, all_so P Q so xs h.1)
+use Rattle.sig_call.proofs.Common.{◌≡◌, ◌≢◌, ◌++◌, ℕ, List, [], ◌∷◌, false, map, refl, append_cancel_left, bytes_eq-Decides, AllByRecursion, IsDistinct, bytes_eq, all_both, all_so, false_from_ne_true}
 
 -- texts behind a prefix
 abbrev pub prefixed : List ℕ → List (List ℕ) → List (List ℕ)
@@ -24,15 +18,11 @@ abbrev pub Apart : List (List ℕ) → Type 0
 Apart [] = Unit {0}
 Apart (x ∷ xs) = AllByRecursion (λ y. x ≢ y) xs × Apart xs
 
-unequal : (b : Bool) → (b ≡ true → ⊥) → b ≡ false
-unequal true h = absurd (h refl)
-unequal false h = refl
-
 pub distinct : (xs : List (List ℕ)) → Apart xs → IsDistinct bytes_eq xs
 unfolding IsDistinct
 distinct [] h = tt
 distinct (x ∷ xs) h = (
-  all_so (λ y. x ≢ y) (λ y. bytes_eq x y ≡ false) (λ y other. unequal (bytes_eq x y) (λ same. other ((bytes_eq-Decides x y).0 same))) xs h.0,
+  all_so (λ y. x ≢ y) (λ y. bytes_eq x y ≡ false) (λ y other. false_from_ne_true (bytes_eq x y) (λ same. other ((bytes_eq-Decides x y).0 same))) xs h.0,
   distinct xs h.1,
 )
 

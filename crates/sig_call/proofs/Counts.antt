@@ -1,6 +1,6 @@
 -- Counting: elements that pass a test, and numbers below others.
-use Rattle.sig_call.proofs.Common.{◌≡◌, ◌≢◌, ◌+◌, ◌-◌, ◌<◌, ◌++◌, ◌∙◌, ℕ, zero, suc, Bool, true, false, cond, List, [], ◌∷◌, map, length, get_or, count_by, Contains, refl, sym, ap, subst, arith, sum_by-append, sum_by-cons, bytes_eq-Decides, AllByRecursion, bytes_eq}
-use Rattle.sig_call.proofs.Apart.{all_so, Apart}
+use Rattle.sig_call.proofs.Common.{◌≡◌, ◌≢◌, ◌+◌, ◌-◌, ◌<◌, ◌++◌, ◌∙◌, ℕ, zero, suc, Bool, true, false, cond, List, [], ◌∷◌, map, length, get_or, count_by, Contains, refl, sym, ap, subst, arith, sum_by-append, sum_by-cons, bytes_eq-Decides, AllByRecursion, bytes_eq, all_so, holds_at}
+use Rattle.sig_call.proofs.Apart.{Apart}
 
 -- one where a number is below another, or else none
 abbrev pub below : ℕ → ℕ → ℕ
@@ -48,11 +48,6 @@ not_it u t other = no (bytes_eq t u) refl where
   no : (b : Bool) → bytes_eq t u ≡ b → b ≡ false
   no true is = absurd (other ((bytes_eq-Decides t u).0 is))
   no false is = refl
-
-pub holds_at : {A : Type 0} (P : A → Type 0) (xs : List A) (k : ℕ) (d : A) → AllByRecursion P xs → k < length xs → P (get_or xs k d)
-holds_at P [] k d all h = let no : k < 0 = h in absurd (omega arith)
-holds_at P (x ∷ xs) zero d all h = all.0
-holds_at P (x ∷ xs) (suc k) d all h = holds_at P xs k d all.1 (let n : suc k < suc (length xs) = h in omega arith)
 
 once_at : (xs : List (List ℕ)) (u : List ℕ) (k : ℕ) → Apart xs → k < length xs → get_or xs k u ≡ u → count_by (λ t. bytes_eq t u) xs ≡ 1
 once_at [] u k apart h is = let no : k < 0 = h in absurd (omega arith)

@@ -1,6 +1,6 @@
 -- What the leaves of a text make true of each item that they declare holds of each signal that its processes declare.
-use Rattle.sig_call.proofs.Common.{◌≡◌, ◌++◌, ℕ, suc, List, [], ◌∷◌, Option, map, refl, sym, subst, inl, inr, AllByRecursion, flat_map, Name, Constant, Item, Declared, ProcessModel, Modelled, ProcessModels, no_model, more_models, Declaration, Role, Input, Output, Local, declared_as, name_of, with_inner, those_inner, signals_declared, Leaf, name_leaf, Limits, Each, IsOptionalInit, IsGroup, AreGroups, IsInterface, IsModel, IsLocalGroup, AreLocals, IsPlainItem, IsItem}
-use Rattle.sig_call.proofs.Texts.{AllLeaves, leaves_left, leaves_right, leaves_behind, leaves_between, separated_all, all_both}
+use Rattle.sig_call.proofs.Common.{◌≡◌, ◌++◌, ℕ, suc, List, [], ◌∷◌, Option, map, refl, sym, subst, inl, inr, AllByRecursion, flat_map, Name, Constant, Item, Declared, ProcessModel, Modelled, ProcessModels, no_model, more_models, Declaration, Role, Input, Output, Local, declared_as, name_of, with_inner, those_inner, signals_declared, Leaf, name_leaf, Limits, Each, IsOptionalInit, IsGroup, AreGroups, IsInterface, IsModel, IsLocalGroup, AreLocals, IsPlainItem, IsItem, all_both}
+use Rattle.sig_call.proofs.Texts.{AllLeaves, leaves_left, leaves_right, leaves_behind, leaves_between, separated_all}
 
 -- a process: its name is among leaves of which this holds, and of all signals that it declares that holds
 pub record Declares (P : Leaf → Type 0) (G : Name → Option Constant → Type 0) (p : ProcessModel) : Type 0 where

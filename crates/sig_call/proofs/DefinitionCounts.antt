@@ -1,16 +1,16 @@
 -- How often the equations of an expansion define each signal: as often as the left sides of the copy stand
 -- for it, and once where the signal was made on the way.
-use Rattle.sig_call.proofs.Common.{◌≡◌, ◌+◌, ◌++◌, ◌==◌, ◌∙◌, ℕ, suc, inl, inr, List, [], ◌∷◌, Some, false, map, length, count_by, refl, ap, arith, cases_eq, eq-eqb, length-append, length-map, AllByRecursion, flat_map, Name, Expression, Equations, ProcessModel, Sig, FlatEquation, inputs_of, process_of, equations_of_model, left_sides, Copy, Progress, Expands, Ended, Defined, Equated, Expanded, flat_of, flat_right, inputs_defined, outputs_defined, called_copy, with_copy, signal_of, signals_declared, IsReady, AreExpandable, defines}
+use Rattle.sig_call.proofs.Common.{◌≡◌, ◌+◌, ◌++◌, ◌==◌, ◌∙◌, ℕ, suc, inl, inr, List, [], ◌∷◌, Some, false, map, length, count_by, refl, ap, arith, cases_eq, eq-eqb, length-append, length-map, AllByRecursion, flat_map, Name, Expression, Equations, ProcessModel, Sig, FlatEquation, inputs_of, process_of, equations_of_model, left_sides, Copy, Progress, Expands, Ended, Defined, Equated, Expanded, flat_of, flat_right, inputs_defined, outputs_defined, called_copy, with_copy, signal_of, signals_declared, IsReady, AreExpandable, defines, ne_eqb}
 use Rattle.sig_tree.specs.FlatSyntax.{Defines, Equal}
 use Rattle.sig_call.proofs.Counts.{below, tally, count_append, count_cons}
-use Rattle.sig_call.proofs.LeftSides.{DefinesOnce, left_count, no_number}
+use Rattle.sig_call.proofs.LeftSides.{DefinesOnce, left_count}
 use Rattle.sig_call.proofs.Readiness.{call_numbers}
 
 -- one more number below
 one_below : (base n : ℕ) → tally (base == n) + below base n ≡ below (suc base) n
 one_below base n = elim (cases_eq base n) [
   | inl same ↦ (let one : tally (base == n) ≡ 1 = ap tally (eq-eqb base n same) in omega arith)
-  | inr other ↦ (let none : tally (base == n) ≡ 0 = ap tally (no_number base n other) in omega arith)
+  | inr other ↦ (let none : tally (base == n) ≡ 0 = ap tally (ne_eqb base n other) in omega arith)
 ]
 
 -- the copied inputs

@@ -1,6 +1,5 @@
 -- A well-formed program has a flat body: calls do not lead back, so each of them ends.
-use Rattle.std.proofs.lemmas.Option.{same_Some}
-use Rattle.sig_call.proofs.Common.{◌≡◌, ◌⊎◌, ◌<◌, ◌≤◌, ℕ, zero, suc, List, [], ◌∷◌, None, Some, Option, Bool, true, false, cond, length, get_or, refl, sym, ap, subst, ◌∙◌, inl, inr, arith, Contains, bytes_eq-Decides, AllByRecursion, flat_map, bytes_eq, Name, Expression, Computed, Called, Equations, Together, Defines, Equal, ProcessModel, FlatEquation, FlatBody, name_of, inputs_of, outputs_of, process_of, all_processes, texts, called_in, called_by, equations_of_model, Copy, Progress, Expands, Ended, Defined, Equated, Expanded, IsFlatBody, called_copy, with_copy, first_copy, first_progress, NoneHolds, candidate, each, Recursive, CallsByName, Reaches, Itself, ByCall, IsWellFormed, IsTree, IsReady, Fits, AreExpandable}
+use Rattle.sig_call.proofs.Common.{same_Some, ◌≡◌, ◌⊎◌, ◌<◌, ◌≤◌, ℕ, zero, suc, List, [], ◌∷◌, None, Some, Option, Bool, true, false, cond, length, get_or, refl, sym, ap, subst, ◌∙◌, inl, inr, arith, Contains, bytes_eq-Decides, AllByRecursion, flat_map, bytes_eq, Name, Expression, Computed, Called, Equations, Together, Defines, Equal, ProcessModel, FlatEquation, FlatBody, name_of, inputs_of, outputs_of, process_of, all_processes, texts, called_in, called_by, equations_of_model, Copy, Progress, Expands, Ended, Defined, Equated, Expanded, IsFlatBody, called_copy, with_copy, first_copy, first_progress, NoneHolds, candidate, each, Recursive, CallsByName, Reaches, Itself, ByCall, IsWellFormed, IsTree, IsReady, Fits, AreExpandable}
 use Rattle.sig_call.proofs.Expandable.{expandable, rules_hold, key_rules}
 use Rattle.sig_call.proofs.Whole.{first_found}
 

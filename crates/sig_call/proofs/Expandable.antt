@@ -1,6 +1,5 @@
 -- The processes of a well-formed program can be expanded.
-use Rattle.std.proofs.lemmas.Option.{same_Some}
-use Rattle.sig_call.proofs.Common.{◌≡◌, ◌≢◌, ◌++◌, ◌≤◌, ℕ, List, [], ◌∷◌, None, Some, Option, Bool, true, false, cond, length, find, refl, ap, subst, inl, inr, arith, cases_eq, cases_lt, AllByRecursion, flat_map, bytes_eq, Name, Constant, Expression, Placement, Computed, Called, Equations, Together, Defines, Equal, Bodies, no_body, more_bodies, ProcessModel, Declaration, declarations, name_of, inputs_of, outputs_of, locals_of, process_of, all_processes, behind, Use, uses_of_equation, uses_of_inits, uses_of_right, signals_used, body_of_model, equations_of_model, equations_in, equations_inside, pragmas_of_model, Candidate, NoneHolds, each, unknown_use, unknown_names, declared_twice, defined_twice, undefined, clashes, bare_constants, bad_calls, bad_calls_of, recursive_calls, bad_pragmas, bad_pragmas_of, missing_inits_in, DiffersFrom, IsCluster, number_of, IsWellFormed, rules_on, each_append, each_flat, IsRead, IsTree, IsReady, IsLow, Fits, AreExpandable}
+use Rattle.sig_call.proofs.Common.{same_Some, ◌≡◌, ◌≢◌, ◌++◌, ◌≤◌, ℕ, List, [], ◌∷◌, None, Some, Option, Bool, true, false, cond, length, find, refl, subst, inl, inr, arith, cases_eq, cases_lt, AllByRecursion, flat_map, bytes_eq, Name, Constant, Expression, Placement, Computed, Called, Equations, Together, Defines, Equal, Bodies, no_body, more_bodies, ProcessModel, Declaration, declarations, name_of, inputs_of, outputs_of, locals_of, process_of, all_processes, behind, Use, uses_of_equation, uses_of_inits, uses_of_right, signals_used, body_of_model, equations_of_model, equations_in, equations_inside, pragmas_of_model, Candidate, NoneHolds, each, unknown_use, unknown_names, declared_twice, defined_twice, undefined, clashes, bare_constants, bad_calls, bad_calls_of, recursive_calls, bad_pragmas, bad_pragmas_of, missing_inits_in, DiffersFrom, IsCluster, number_of, IsWellFormed, rules_on, each_append, each_flat, IsRead, IsTree, IsReady, IsLow, Fits, AreExpandable, all_both}
 use Rattle.sig_tree.specs.Rules.{inputs_defined}
 
 -- candidates in two lists
@@ -35,10 +34,6 @@ abbrev IsPlain : Equations → Type 0
 IsPlain (Together bodies) = ⊥
 IsPlain (Defines names right) = Unit {0}
 IsPlain (Equal operands) = Unit {0}
-
-all_both : {A : Type 0} (P : A → Type 0) (xs ys : List A) → AllByRecursion P xs → AllByRecursion P ys → AllByRecursion P (xs ++ ys)
-all_both P [] ys h k = k
-all_both P (x ∷ xs) ys h k = (h.0, all_both P xs ys h.1 k)
 
 mutual
   plain_in : (e : Equations) → AllByRecursion IsPlain (equations_in e)

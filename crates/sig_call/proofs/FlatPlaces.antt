@@ -1,10 +1,9 @@
 -- The places of a flat body are places of its program: what holds at those of the processes holds at those of the flat body.
-use Rattle.sig_call.proofs.Common.{◌≡◌, ◌++◌, ◌+◌, ℕ, suc, List, [], ◌∷◌, None, Some, Option, length, map, sym, subst, AllByRecursion, bytes_eq, Signal, Span, Name, Neg, Expression, Named, Number, Truth, Unary as UnaryForm, Binary as BinaryForm, Delay as DelayForm, Cell as CellForm, Equations, ProcessModel, FlatEquation, FlatBody, inputs_of, name_of, process_of, all_processes, Binding as BoundTo, BoundSignal, BoundConstant, Copy, Progress, Expands, Ended, Defined, Equated, Expanded, IsFlatBody, binding_of, copied_signals, copy_prefix, cluster_of_call, flat_name, flat_of, flat_right, inputs_defined, outputs_defined, signals_declared, Token, InOrder, leaves_of, HasTree, AtOperators, AtPlaces, AtPlacesOfBody, AtPlacesOfEquation, IsWithin}
-use Rattle.sig_tree.specs.FlatSyntax.{FlatExpression, Sig, Const, Unary, Binary, Delay, Cell}
+use Rattle.sig_call.proofs.Common.{◌≡◌, ◌++◌, ◌+◌, ℕ, suc, List, [], ◌∷◌, None, Some, Option, length, map, sym, subst, AllByRecursion, bytes_eq, Signal, Span, Name, Neg, Expression, Named, Number, Truth, Unary as UnaryForm, Binary as BinaryForm, Delay as DelayForm, Cell as CellForm, Equations, ProcessModel, FlatEquation, FlatBody, inputs_of, name_of, process_of, all_processes, Binding as BoundTo, BoundSignal, BoundConstant, Copy, Progress, Expands, Ended, Defined, Equated, Expanded, IsFlatBody, binding_of, copied_signals, copy_prefix, cluster_of_call, flat_name, flat_of, flat_right, inputs_defined, outputs_defined, signals_declared, Token, InOrder, leaves_of, HasTree, AtOperators, AtPlaces, AtPlacesOfBody, AtPlacesOfEquation, IsWithin, FlatExpression, Sig, Const, all_both}
+use Rattle.sig_tree.specs.FlatSyntax.{Unary, Binary, Delay, Cell}
 use Rattle.sig_call.proofs.Expandable.{found_all}
 use Rattle.sig_call.proofs.ProcessRules.{all_map}
 use Rattle.sig_call.proofs.Places.{AtNames, AtPlacesOf, ArePlaced, IsPlaced, all_placed, leaves_placed}
-use Rattle.sig_call.proofs.Texts.{all_both}
 use Rattle.sig_call.proofs.Whole.{first_found}
 
 -- expressions

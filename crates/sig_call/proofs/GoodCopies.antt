@@ -1,8 +1,6 @@
 -- What the names of a copy are bound to, by their declarations.
-use Rattle.sig_call.proofs.Common.{◌≡◌, ◌++◌, ℕ, suc, ℤ, Bool, true, false, cond, List, [], ◌∷◌, map, find, length, Option, None, Some, option_map, refl, sym, ap, subst, AllByRecursion, bytes_eq, Kind, Signal, Bounded, IsValue, ProcessModel, Role, Parameter, Input, Output, Local, Declaration, declarations, declaration_of, params_of, inputs_of, outputs_of, locals_of, heading_of_model, locals_of_model, kind_of_parameter, Binding as BoundTo, BoundSignal, BoundConstant, Copy, binding_of, bound_constants, bound_from, copied_signals, signals_declared, binding_found, bindings_of, kind_numbered}
-use Rattle.sig_call.proofs.Apart.{all_so}
+use Rattle.sig_call.proofs.Common.{◌≡◌, ◌++◌, ℕ, suc, ℤ, Bool, true, false, cond, List, [], ◌∷◌, map, find, length, Option, None, Some, option_map, refl, sym, ap, subst, AllByRecursion, bytes_eq, Kind, Signal, Bounded, IsValue, ProcessModel, Role, Parameter, Input, Output, Local, Declaration, declarations, declaration_of, params_of, inputs_of, outputs_of, locals_of, heading_of_model, locals_of_model, kind_of_parameter, Binding as BoundTo, BoundSignal, BoundConstant, Copy, binding_of, bound_constants, bound_from, copied_signals, signals_declared, binding_found, bindings_of, kind_numbered, all_both, all_so}
 use Rattle.sig_call.proofs.ProcessRules.{roles}
-use Rattle.sig_call.proofs.Texts.{all_both}
 
 -- a name is bound to a signal of its kind, or, a parameter, to a value of its kind
 abbrev pub Suits : List Signal → Option Declaration → Option BoundTo → Type 0

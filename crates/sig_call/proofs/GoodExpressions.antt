@@ -1,10 +1,10 @@
 -- Expressions of a copy: their constants, and their kinds.
-use Rattle.sig_call.proofs.Common.{◌≡◌, ◌⊎◌, ◌++◌, ◌<◌, ◌∙◌, ℕ, ℤ, Bool, true, false, List, length, Option, None, Some, option_map, refl, sym, ap, subst, inl, inr, slice_get_within, AllByRecursion, slice_get, Kind, Integer, Boolean, Signal, Span, Bounded, IsValue, Name, Constant, Int, Truthful, Param, UnOp, Neg, BinOp, Expression, Named, Number, Truth, Unary as UnaryForm, Binary as BinaryForm, Delay as DelayForm, Cell as CellForm, FlatExpression, Declaration, declarations, declaration_of, names_of_expression, names_of_init, names_of_constant, NoConstant, unary_row, binary_row, delay_row, cell_row, unary_kind, binary_kind, stored, kind_of, kind_of_constant, kind_of_parameter, parameter_kind, is_parameter, is_constant as is_constant_in, NoneHolds, IsUnfit, RefusesOne, RefusesTwo, clashes_of_expression, bare_in_expression, missing_inits, Binding as BoundTo, BoundSignal, BoundConstant, Copy, binding_of, flat_name, flat_of, truth_value, value_bound, value_of, IsBoundedConstant, HasBoundedInits, IsSmall, kind_numbered, flat_kind, Allows, IsMade, MayBegin}
+use Rattle.sig_call.proofs.Common.{◌≡◌, ◌⊎◌, ◌++◌, ◌<◌, ◌∙◌, ℕ, ℤ, Bool, true, false, List, length, Option, None, Some, option_map, refl, sym, ap, subst, inl, inr, slice_get_within, AllByRecursion, slice_get, Kind, Integer, Boolean, Signal, Span, Bounded, IsValue, Name, Constant, Int, Truthful, Param, UnOp, Neg, BinOp, Expression, Named, Number, Truth, Unary as UnaryForm, Binary as BinaryForm, Delay as DelayForm, Cell as CellForm, FlatExpression, Declaration, declarations, declaration_of, names_of_expression, names_of_init, names_of_constant, NoConstant, unary_row, binary_row, delay_row, cell_row, unary_kind, binary_kind, stored, kind_of, kind_of_constant, kind_of_parameter, parameter_kind, is_parameter, is_constant as is_constant_in, NoneHolds, IsUnfit, RefusesOne, RefusesTwo, clashes_of_expression, bare_in_expression, missing_inits, Binding as BoundTo, BoundSignal, BoundConstant, Copy, binding_of, flat_name, flat_of, truth_value, value_bound, value_of, IsBoundedConstant, HasBoundedInits, IsSmall, kind_numbered, flat_kind, Allows, IsMade, MayBegin, same_Some, false_from_ne_true}
 use Rattle.sig_tree.specs.FlatSyntax.{Unary, Binary, Delay, Cell}
 use Rattle.sig_tree.specs.WellMade.{is_constant}
 use Rattle.sig_call.proofs.Expandable.{none_parts}
 use Rattle.sig_call.proofs.GoodCopies.{IsGoodCopy, Suits}
-use Rattle.sig_call.proofs.KindRules.{same_Some, same_kind, fits_pos, fits_neg, Alike, unary_alike, binary_alike, allowed, not_constant}
+use Rattle.sig_call.proofs.KindRules.{same_kind, fits_pos, fits_neg, Alike, unary_alike, binary_alike, allowed}
 use Rattle.sig_call.proofs.ProcessRules.{all_parts}
 
 -- a flat expression for one of this kind, which is a constant or not
@@ -67,7 +67,7 @@ name_good signals (Some d) (Some (BoundConstant value kind)) at suits known = re
 unary_good : (signals : List Signal) (op : UnOp) (flat : FlatExpression) (kind : Option Kind) (constant : Bool) (at : Span) → IsGood signals flat kind constant
     → (RefusesOne (unary_row op) kind → ⊥) → (constant ≡ true → ⊥) → IsGood signals (Unary op flat at) (unary_kind (unary_row op) kind) false
 unary_good signals op flat kind constant at good accepted bare = record {
-  made = (good.same ∙ not_constant constant bare, good.made);
+  made = (good.same ∙ false_from_ne_true constant bare, good.made);
   same = refl;
   kinded = unary_alike (unary_row op) kind (flat_kind signals flat) good.kinded accepted;
 }
@@ -114,7 +114,7 @@ init_fits signals copy good flat kind same init fit small =
 pub delay_good : (signals : List Signal) (copy : Copy) (flat : FlatExpression) (kind : Option Kind) (constant : Bool) (value : ℤ) (at : Span) → IsGood signals flat kind constant
     → (constant ≡ true → ⊥) → MayBegin signals flat value → IsGood signals (Delay flat value at) (unary_kind delay_row kind) false
 delay_good signals copy flat kind constant value at good bare begins = record {
-  made = (good.same ∙ not_constant constant bare, good.made, begins);
+  made = (good.same ∙ false_from_ne_true constant bare, good.made, begins);
   same = refl;
   kinded = unary_alike delay_row kind (flat_kind signals flat) good.kinded (λ refused. (let no : true ≡ false = refused.2 in absurd cc));
 }

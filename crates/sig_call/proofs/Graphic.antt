@@ -1,25 +1,17 @@
 -- Bytes of names and numbers are printable and no blanks.
-use Rattle.sig_call.proofs.Common.{◌≡◌, ◌⊎◌, ◌<◌, ◌≤◌, ◌^◌, ◌&&◌, ◌||◌, ◌==◌, ℕ, suc, Bool, true, false, List, [], ◌∷◌, length, decimal, refl, inl, inr, arith, eqb-true, leb-true, decimal_is_IsNumeral_wide, digit_from_value, is_ascii_alphabetic, is_ascii_alphanumeric, is_in_range, AllByRecursion, AllPass, AllDigits, first, is_name_byte, IsNameText, IsGraphic}
-
-or_true : (a b : Bool) → (a || b) ≡ true → (a ≡ true) ⊎ (b ≡ true)
-or_true true b h = inl refl
-or_true false b h = inr h
-
-and_true : (a b : Bool) → (a && b) ≡ true → (a ≡ true) × (b ≡ true)
-and_true true b h = (refl, h)
-and_true false b h = absurd cc
+use Rattle.sig_call.proofs.Common.{◌≡◌, ◌<◌, ◌≤◌, ◌^◌, ◌||◌, ◌==◌, ℕ, suc, true, false, List, [], ◌∷◌, length, decimal, inl, inr, arith, eqb-true, leb-true, decimal_is_IsNumeral_wide, digit_from_value, is_ascii_alphabetic, is_ascii_alphanumeric, is_in_range, AllByRecursion, AllPass, AllDigits, first, is_name_byte, IsNameText, IsGraphic, and_parts, or_cases}
 
 ranged : (low high c : ℕ) → 33 ≤ low → high ≤ 126 → is_in_range low high c ≡ true → IsGraphic c
 ranged low high c below above h =
-    let parts = and_true _ _ h in
+    let parts = and_parts _ _ h in
     let first : low ≤ c = leb-true low c parts.0 in
     let second : c ≤ high = leb-true c high parts.1 in
     (omega arith, omega arith)
 
 name_byte_graphic : (c : ℕ) → is_name_byte c ≡ true → IsGraphic c
-name_byte_graphic c h = elim (or_true (is_ascii_alphanumeric c) (c == 95) h) [
-  | inl wide ↦ elim (or_true (is_in_range 48 57 c || is_in_range 65 90 c) (is_in_range 97 122 c) wide) [
-    | inl some ↦ elim (or_true (is_in_range 48 57 c) (is_in_range 65 90 c) some) [ inl digit ↦ ranged 48 57 c (omega arith) (omega arith) digit | inr upper ↦ ranged 65 90 c (omega arith) (omega arith) upper ]
+name_byte_graphic c h = elim (or_cases (is_ascii_alphanumeric c) (c == 95) h) [
+  | inl wide ↦ elim (or_cases (is_in_range 48 57 c || is_in_range 65 90 c) (is_in_range 97 122 c) wide) [
+    | inl some ↦ elim (or_cases (is_in_range 48 57 c) (is_in_range 65 90 c) some) [ inl digit ↦ ranged 48 57 c (omega arith) (omega arith) digit | inr upper ↦ ranged 65 90 c (omega arith) (omega arith) upper ]
     | inr lower ↦ ranged 97 122 c (omega arith) (omega arith) lower
   ]
   | inr under ↦ (let same : c ≡ 95 = eqb-true c 95 under in (omega arith, omega arith))

@@ -1,6 +1,6 @@
 -- What follows where the rules on kinds do not refuse.
 pub use Rattle.std.proofs.lemmas.Option.{same_Some}
-use Rattle.sig_call.proofs.Common.{◌≡◌, ◌≢◌, ◌⊎◌, ◌<◌, ◌^◌, ◌∙◌, ℕ, zero, suc, pos, neg_ℤ, Bool, true, false, if◌then◌else◌, Option, None, Some, refl, sym, ap, inl, inr, arith, FitsSigned, w64, Kind, Integer, Boolean, Event, FormRow, ConstantRule, NoConstant, OneConstant, FirstConstant, accepts, kind_of_result, unary_kind, binary_kind, stored, Takes, RefusesOne, RefusesTwo, MayNotBeFirst, MayNotBeSecond, Allows}
+use Rattle.sig_call.proofs.Common.{◌≡◌, ◌≢◌, ◌⊎◌, ◌<◌, ◌^◌, ◌∙◌, ℕ, zero, suc, pos, neg_ℤ, Bool, true, false, if◌then◌else◌, Option, None, Some, refl, sym, ap, inl, inr, arith, FitsSigned, w64, Kind, Integer, Boolean, Event, FormRow, ConstantRule, NoConstant, OneConstant, FirstConstant, accepts, kind_of_result, unary_kind, binary_kind, stored, Takes, RefusesOne, RefusesTwo, MayNotBeFirst, MayNotBeSecond, Allows, true_from_ne_false}
 
 -- integers of 64 bits
 pub fits_pos : (n : ℕ) → n < 2 ^ 63 → FitsSigned w64 (pos n)
@@ -50,16 +50,12 @@ takes_stored wanted k (inr event) = absurd (no_event k event.1)
 abbrev pub Alike : Option Kind → Option Kind → Type 0
 Alike given other = (k : Kind) × (given ≡ Some k) × (other ≡ Some k)
 
-unrefused : (b : Bool) → (b ≡ false → ⊥) → b ≡ true
-unrefused true h = refl
-unrefused false h = absurd (h refl)
-
 unary_some : (form : FormRow) (k : Kind) → accepts form.operands k None ≡ true → unary_kind form (Some k) ≡ Some (kind_of_result form.result k None)
 unary_some form k is = ap (λ (b : Bool). if b then Some (kind_of_result form.result k None) else None) is
 
 pub unary_alike : (form : FormRow) (given other : Option Kind) → Alike given other → (RefusesOne form given → ⊥) → Alike (unary_kind form given) (unary_kind form other)
 unary_alike form given other same h =
-    let accepted : accepts form.operands same.0 None ≡ true = unrefused (accepts form.operands same.0 None) (λ is. h (same.0, same.1, is)) in
+    let accepted : accepts form.operands same.0 None ≡ true = true_from_ne_false (accepts form.operands same.0 None) (λ is. h (same.0, same.1, is)) in
     (kind_of_result form.result same.0 None, ap (unary_kind form) same.1 ∙ unary_some form same.0 accepted, ap (unary_kind form) same.2 ∙ unary_some form same.0 accepted)
 
 binary_some : (form : FormRow) (k l : Kind) → accepts form.operands k (Some l) ≡ true → binary_kind form (Some k) (Some l) ≡ Some (kind_of_result form.result k (Some l))
@@ -68,7 +64,7 @@ binary_some form k l is = ap (λ (b : Bool). if b then Some (kind_of_result form
 pub binary_alike : (form : FormRow) (first second other_first other_second : Option Kind) → Alike first other_first → Alike second other_second → (RefusesTwo form first second → ⊥)
     → Alike (binary_kind form first second) (binary_kind form other_first other_second)
 binary_alike form first second other_first other_second left right h =
-    let accepted : accepts form.operands left.0 (Some right.0) ≡ true = unrefused (accepts form.operands left.0 (Some right.0)) (λ is. h (left.0, right.0, left.1, right.1, is)) in
+    let accepted : accepts form.operands left.0 (Some right.0) ≡ true = true_from_ne_false (accepts form.operands left.0 (Some right.0)) (λ is. h (left.0, right.0, left.1, right.1, is)) in
     let some = binary_some form left.0 right.0 accepted in (
       kind_of_result form.result left.0 (Some right.0),
       ap (λ o. binary_kind form o second) left.1 ∙ ap (binary_kind form (Some left.0)) right.1 ∙ some,
@@ -88,7 +84,3 @@ allowed OneConstant false false f g h = refl
 allowed FirstConstant true false f g h = refl
 allowed FirstConstant false true f g h = absurd (h (tt, refl, refl))
 allowed FirstConstant false false f g h = refl
-
-pub not_constant : (b : Bool) → (b ≡ true → ⊥) → b ≡ false
-not_constant true h = absurd (h refl)
-not_constant false h = refl

@@ -1,8 +1,6 @@
 -- How many bytes of a text the leaves of a tree are: no more than there are, and in each process more than its
 -- name, a declared name and 19 other bytes.
-use Rattle.sig_call.proofs.Common.{◌≡◌, ◌++◌, ◌+◌, ◌-◌, ◌≤◌, ◌∙◌, ℕ, suc, List, [], ◌∷◌, length, drop, map, codes, sym, ap, subst, inl, inr, arith, slice_range, length-take, AllByRecursion, flat_map, option_to_list, option_map, Span, Kind, Integer, Boolean, Event, Token, TokenKind, NameToken, Word, NumberToken, Label, Mark, Last, InOrder, text_of, Item, Declared, Equations, Together, Defines, Equal, Heading, Placement, ProcessModel, Modelled, ProcessModels, no_model, more_models, Declaration, Role, Input, Output, Local, declared_as, name_of, with_inner, those_inner, signals_declared, Terminal, name, word, number, label, mark, Leaf, leaf, kind_word, terminal_of, leaf_of, leaves_of, Limits, Each, Further, Separated, Between, IsBody, IsGroup, AreGroups, IsInterface, IsModel, IsProcess, IsLocalGroup, AreLocals, IsPlainItem, IsItem}
-use Rattle.sig_call.proofs.Apart.{all_so}
-use Rattle.sig_call.proofs.Texts.{all_both}
+use Rattle.sig_call.proofs.Common.{◌≡◌, ◌++◌, ◌+◌, ◌-◌, ◌≤◌, ◌∙◌, ℕ, suc, List, [], ◌∷◌, length, drop, map, codes, sym, ap, subst, inl, inr, arith, slice_range, length-take, AllByRecursion, flat_map, option_to_list, option_map, Span, Kind, Integer, Boolean, Event, Token, TokenKind, NameToken, Word, NumberToken, Label, Mark, Last, InOrder, text_of, Item, Declared, Equations, Together, Defines, Equal, Heading, Placement, ProcessModel, Modelled, ProcessModels, no_model, more_models, Declaration, Role, Input, Output, Local, declared_as, name_of, with_inner, those_inner, signals_declared, Terminal, name, word, number, label, mark, Leaf, leaf, kind_word, terminal_of, leaf_of, leaves_of, Limits, Each, Further, Separated, Between, IsBody, IsGroup, AreGroups, IsInterface, IsModel, IsProcess, IsLocalGroup, AreLocals, IsPlainItem, IsItem, all_both, all_so}
 
 -- the bytes of a leaf; those of numbers and labels are left out
 abbrev pub bytes_in : Terminal → ℕ

@@ -1,8 +1,8 @@
 -- The left sides of a process name its outputs and locals, each once: in a copy they stand for the numbers of
 -- the copy's signals that are no inputs.
-use Rattle.sig_call.proofs.Common.{◌≡◌, ◌≢◌, ◌+◌, ◌-◌, ◌<◌, ◌==◌, ◌++◌, ◌∙◌, ℕ, ℤ, zero, suc, Bool, true, false, cond, List, [], ◌∷◌, map, find, length, get_or, count_by, Contains, Some, option_map, refl, sym, ap, subst, inl, inr, arith, eq-eqb, eqb-true, cases_eq, cases_lt, length-append, length-map, get_or-append-add, get_or_default, bytes_eq-Decides, AllByRecursion, bytes_eq, Name, ProcessModel, Declaration, params_of, inputs_of, outputs_of, locals_of, declarations, texts, left_sides_of, Binding as BoundTo, BoundSignal, Copy, bound_constants, bound_from, binding_of, signal_bound, signal_of, signals_declared, binding_found, bindings_of}
-use Rattle.sig_call.proofs.Apart.{all_so, Apart, apart_right}
-use Rattle.sig_call.proofs.Counts.{below, count_map, count_none, count_same, not_it, once, holds_at}
+use Rattle.sig_call.proofs.Common.{◌≡◌, ◌≢◌, ◌+◌, ◌-◌, ◌<◌, ◌==◌, ◌++◌, ◌∙◌, ℕ, ℤ, zero, suc, Bool, true, false, cond, List, [], ◌∷◌, map, find, length, get_or, count_by, Contains, Some, option_map, refl, sym, ap, subst, inl, inr, arith, eq-eqb, cases_eq, cases_lt, length-append, length-map, get_or-append-add, get_or_default, bytes_eq-Decides, AllByRecursion, bytes_eq, Name, ProcessModel, Declaration, params_of, inputs_of, outputs_of, locals_of, declarations, texts, left_sides_of, Binding as BoundTo, BoundSignal, Copy, bound_constants, bound_from, binding_of, signal_bound, signal_of, signals_declared, binding_found, bindings_of, ne_eqb, all_so, holds_at}
+use Rattle.sig_call.proofs.Apart.{Apart, apart_right}
+use Rattle.sig_call.proofs.Counts.{below, count_map, count_none, count_same, not_it, once}
 use Rattle.sig_call.proofs.Named.{declared_texts, texts_append}
 
 -- the first binding of a name, or a later one
@@ -77,12 +77,6 @@ own_number p copy base constants apart bound t k within is =
 is_number : (m n k : ℕ) → m ≡ n → n ≡ k → (m == k) ≡ true
 is_number m n k first second = eq-eqb m k (first ∙ second)
 
-pub no_number : (m k : ℕ) → m ≢ k → (m == k) ≡ false
-no_number m k other = no (m == k) refl where
-  no : (b : Bool) → (m == k) ≡ b → b ≡ false
-  no true is = absurd (other (eqb-true m k is))
-  no false is = refl
-
 -- whether a text that names an output or a local has a number, where the text of that number is another or the same
 test_at : (p : ProcessModel) (copy : Copy) (base : ℕ) (constants : List ℤ) → Apart (declared_texts (declarations p)) → copy.bindings ≡ bindings_of base constants p
     → (u : List ℕ) (j : ℕ) → j < length (declared_texts (outputs_of p ++ locals_of p)) → get_or (declared_texts (outputs_of p ++ locals_of p)) j u ≡ u
@@ -99,7 +93,7 @@ test_at p copy base constants apart bound u j below_own is t here =
           ∙ sym ((bytes_eq-Decides t u).1 same_text))
       | inr other ↦
           (let apart_number : here.0 ≢ j = other in
-          no_number (signal_bound (binding_of copy t)) (base + (length (inputs_of p) + j)) (λ same. apart_number (omega arith))
+          ne_eqb (signal_bound (binding_of copy t)) (base + (length (inputs_of p) + j)) (λ same. apart_number (omega arith))
           ∙ sym (not_it u t (λ same. (let equal : signal_bound (binding_of copy t) ≡ signal_bound (binding_of copy u) = ap (λ x. signal_bound (binding_of copy x)) same in apart_number (omega arith)))))
     ]
 
@@ -109,7 +103,7 @@ test_outside : (p : ProcessModel) (copy : Copy) (base : ℕ) (constants : List �
     → (signal_bound (binding_of copy t) == n) ≡ false
 test_outside p copy base constants apart bound n outside t here =
     let first : signal_bound (binding_of copy t) ≡ base + (length (inputs_of p) + here.0) = own_number p copy base constants apart bound t here.0 here.1 here.2 in
-    no_number (signal_bound (binding_of copy t)) n (λ same. outside here.0 here.1 (sym first ∙ same))
+    ne_eqb (signal_bound (binding_of copy t)) n (λ same. outside here.0 here.1 (sym first ∙ same))
 
 -- the left sides that stand for a number
 pub left_count : (p : ProcessModel) (copy : Copy) (base : ℕ) (constants : List ℤ) → DefinesOnce p → copy.bindings ≡ bindings_of base constants p → (n : ℕ)

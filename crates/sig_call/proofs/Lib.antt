@@ -32,12 +32,12 @@ pub mod Whole
 unfoldable pub use Common.*
 pub use Bound.*
 pub use Existence.*
-pub use FlatPlaces.*
 pub use Expandable.*
+pub use FlatPlaces.*
 pub use Labels.*
-pub use ProgressSteps.*
 pub use Lists.*
 pub use Named.*
+pub use ProgressSteps.*
 pub use Readiness.*
 pub use SignalNames.*
 pub use Size.*

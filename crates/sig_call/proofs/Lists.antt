@@ -1,5 +1,5 @@
 -- What holds of each element of a list.
-use Rattle.sig_call.proofs.Common.{◌≡◌, ◌<◌, ◌≤◌, ◌+◌, ◌++◌, ◌∙◌, ℕ, zero, suc, List, [], ◌∷◌, map, length, get_or, take, drop, arith, subst, sym, ap, drop_more, drop_all, AllByRecursion}
+use Rattle.sig_call.proofs.Common.{◌≡◌, ◌<◌, ◌++◌, ℕ, zero, suc, List, [], ◌∷◌, map, length, get_or, take, drop, arith, subst, sym, ap, AllByRecursion}
 
 -- what holds of all that a list is mapped to
 pub all_mapped : {A B : Type 0} (P : B → Type 0) (f : A → B) (xs : List A) (i : ℕ) (x : A) → AllByRecursion P (map f xs) → i < length xs → x ≡ get_or xs i x → P (f x)
@@ -12,11 +12,3 @@ pub split_at : {A B : Type 0} (f : A → B) (xs : List A) (i : ℕ) (x : A) → 
 split_at f [] i x h e = let n : i < 0 = h in absurd (omega arith)
 split_at f (y ∷ ys) zero x h e = ap (λ z. f z ∷ map f ys) (sym e)
 split_at f (y ∷ ys) (suc i) x h e = ap (λ l. f y ∷ l) (split_at f ys i x (let n : suc i < suc (length ys) = h in omega arith) e)
-
--- what is left of a list, one step on and at the end
-pub all_rest : {A B G : Type 0} (P : B → Type 0) (f : A → B) (xs : List A) (i : ℕ) (x : A) → i < length xs → x ≡ get_or xs i x → P (f x)
-    → (AllByRecursion P (map f (drop i xs)) → G) → AllByRecursion P (map f (drop (i + 1) xs)) → G
-all_rest P f xs i x h is here then = λ rest. then (subst (λ l. AllByRecursion P (map f l)) (sym (drop_more xs i x h ∙ ap (λ y. y ∷ drop (i + 1) xs) (sym is))) (here, rest))
-
-pub all_end : {A B G : Type 0} (P : B → Type 0) (f : A → B) (xs : List A) (i : ℕ) → length xs ≤ i → (AllByRecursion P (map f (drop i xs)) → G) → G
-all_end P f xs i h then = then (subst (λ l. AllByRecursion P (map f l)) (sym (drop_all i xs h)) tt)

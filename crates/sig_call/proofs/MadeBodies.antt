@@ -1,12 +1,11 @@
 -- The equations of an expansion, and flat bodies.
-use Rattle.sig_call.proofs.Common.{◌≡◌, ◌+◌, ◌++◌, ◌∙◌, ℕ, suc, List, [], ◌∷◌, map, length, Some, refl, sym, ap, subst, inl, inr, arith, append_assoc, append-nil, cases_eq, AllByRecursion, flat_map, Signal, Name, Constant, Expression, Called, Equations, Defines as DefinesNames, ProcessModel, FlatEquation, Declaration, declarations, params_of, inputs_of, outputs_of, locals_of, process_of, names_of_expression, names_of_constant, signals_used, uses_of_right, NoneHolds, each, DiffersFrom, bad_calls_of, clash_of_arguments, clashes_of_call, clashes_of_constants, clashes_of_expression, clashes_of_results, Copy, Progress, Expands, Ended, Defined, Equated, Expanded, inputs_defined, outputs_defined, called_copy, copied_signals, copy_prefix, cluster_of_call, signals_declared, value_of, each_append, IsReady, IsSmall, IsMadeEquation}
+use Rattle.sig_call.proofs.Common.{◌≡◌, ◌+◌, ◌++◌, ◌∙◌, ℕ, suc, List, [], ◌∷◌, map, length, Some, refl, sym, ap, subst, inl, inr, arith, append_assoc, append-nil, cases_eq, AllByRecursion, flat_map, Signal, Name, Constant, Expression, Called, Equations, Defines as DefinesNames, ProcessModel, FlatEquation, Declaration, declarations, params_of, inputs_of, outputs_of, locals_of, process_of, names_of_expression, names_of_constant, signals_used, uses_of_right, NoneHolds, each, DiffersFrom, bad_calls_of, clash_of_arguments, clashes_of_call, clashes_of_constants, clashes_of_expression, clashes_of_results, Copy, Progress, Expands, Ended, Defined, Equated, Expanded, inputs_defined, outputs_defined, called_copy, copied_signals, copy_prefix, cluster_of_call, signals_declared, value_of, each_append, IsReady, IsSmall, IsMadeEquation, all_both}
 use Rattle.sig_call.proofs.Expandable.{none_parts, unknown_at}
 use Rattle.sig_call.proofs.GoodCopies.{AreNumbered, AreValues, IsGoodCopy, copied_numbered, good_copy}
 use Rattle.sig_call.proofs.GoodExpressions.{IsKnown}
 use Rattle.sig_call.proofs.MadeEquations.{AskedAll, constants_fit, defined_made, equated_made, inputs_made, outputs_made}
 use Rattle.sig_call.proofs.ProcessRules.{AreObeying, EquationObeys, InitObeys, all_parts, names_known}
 use Rattle.sig_call.proofs.Readiness.{call_numbers}
-use Rattle.sig_call.proofs.Texts.{all_both}
 
 -- signals are added behind those that are there
 pub record Grown (before after : List Signal) : Type 0 where

@@ -1,16 +1,16 @@
 -- The equations of a copy, each by itself.
-use Rattle.sig_call.proofs.Common.{◌≡◌, ◌⊎◌, ◌++◌, ◌<◌, ◌∙◌, ℕ, suc, Bool, true, List, [], ◌∷◌, map, zip, length, Option, None, Some, IsSome, Any, option_map, option_and_then, refl, sym, ap, subst, inl, inr, arith, AllByRecursion, flat_map, bytes_eq, Kind, Signal, Bounded, IsValue, Name, Constant, Expression, Delay as DelayForm, FlatExpression, Role, Parameter, Input, Output, Local, Declaration, declarations, declaration_of, outputs_of, locals_of, names_of_expression, delay_row, unary_kind, stored, kind_of, kind_of_name, is_constant as is_constant_in, Takes, NoneHolds, each, IsGiven, HasInit, DoesNotTake, clash_of_init, clashes_of_constants, clashes_of_expression, clashes_of_results, bare_alone, bare_in_expression, missing_inits, missing_inits_of_right, Binding as BoundTo, BoundSignal, BoundConstant, Copy, binding_of, declared_init, flat_of, flat_right, init_value, inputs_defined, outputs_defined, signal_bound, signal_of, value_of, IsBoundedConstant, IsBoundedInit, HasBoundedInits, IsSmall, kind_numbered, IsMadeEquation, IsWhole}
+use Rattle.sig_call.proofs.Common.{◌≡◌, ◌⊎◌, ◌++◌, ◌<◌, ◌∙◌, ℕ, suc, Bool, true, List, [], ◌∷◌, map, zip, length, Option, None, Some, IsSome, Any, option_map, option_and_then, refl, sym, ap, subst, inl, inr, arith, AllByRecursion, flat_map, bytes_eq, Kind, Signal, Bounded, IsValue, Name, Constant, Expression, Delay as DelayForm, FlatExpression, Role, Parameter, Input, Output, Local, Declaration, declarations, declaration_of, outputs_of, locals_of, names_of_expression, delay_row, unary_kind, stored, kind_of, kind_of_name, is_constant as is_constant_in, Takes, NoneHolds, each, IsGiven, HasInit, DoesNotTake, clash_of_init, clashes_of_constants, clashes_of_expression, clashes_of_results, bare_alone, bare_in_expression, missing_inits, missing_inits_of_right, Binding as BoundTo, BoundSignal, BoundConstant, Copy, binding_of, declared_init, flat_of, flat_right, init_value, inputs_defined, outputs_defined, signal_bound, signal_of, value_of, IsBoundedConstant, IsBoundedInit, HasBoundedInits, IsSmall, kind_numbered, IsMadeEquation, IsWhole, false_from_ne_true}
 use Rattle.sig_tree.specs.FlatSyntax.{Defines, Equal}
 use Rattle.sig_call.proofs.Expandable.{found_all, none_parts}
 use Rattle.sig_call.proofs.GoodCopies.{AreNumbered, AreValues, IsGoodCopy, Suits}
 use Rattle.sig_call.proofs.GoodExpressions.{Asked, IsGood, IsKnown, constant_fits, delay_good, good, numbered_within}
-use Rattle.sig_call.proofs.KindRules.{not_constant, takes_if, takes_stored}
+use Rattle.sig_call.proofs.KindRules.{takes_if, takes_stored}
 use Rattle.sig_call.proofs.ProcessRules.{InitObeys, all_parts, own_found}
 
 -- a whole expression
 whole : (signals : List Signal) (flat : FlatExpression) (kind : Option Kind) (constant : Bool) → IsGood signals flat kind constant → (constant ≡ true → ⊥) → (k : Kind) × (kind ≡ Some k) × IsWhole signals flat k
 whole signals flat kind constant is bare =
-    (is.kinded.0, is.kinded.1, record { made = is.made; signal = is.same ∙ not_constant constant bare; kinded = is.kinded.2 })
+    (is.kinded.0, is.kinded.1, record { made = is.made; signal = is.same ∙ false_from_ne_true constant bare; kinded = is.kinded.2 })
 
 -- what a left side stands for
 given_by : (role : Role) (kind k : Kind) → elim role as (λ _. Option Kind) [ Parameter ↦ Some kind | Input ↦ None | Output ↦ None | Local ↦ None ] ≡ Some k → (role ≡ Input) ⊎ (role ≡ Parameter)

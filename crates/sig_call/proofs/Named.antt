@@ -1,13 +1,12 @@
 -- The names of a flat body's signals differ.
-use Rattle.sig_call.proofs.Common.{◌≡◌, ◌≢◌, ◌++◌, ◌<◌, ◌≤◌, ◌^◌, ℕ, suc, List, [], ◌∷◌, Some, length, map, refl, sym, ap, subst, ◌∙◌, inl, arith, Contains, map-append, Contains-append_left, Contains-push, AllByRecursion, IsDistinct, bytes_eq, Signal, Name, Equations, ProcessModel, FlatEquation, FlatBody, Declaration, behind, declarations, params_of, name_of, process_of, texts, all_processes, Copy, Progress, Expands, Ended, Defined, Equated, Expanded, IsFlatBody, copied_signals, copy_prefix, cluster_of_call, first_progress, signals_declared, with_copy, Offence, NoneHolds, DeclaredTwice, candidate, each, unknown_names, declared_twice, IsWellFormed, IsTree, IsReady, AreExpandable}
-use Rattle.sig_call.proofs.Apart.{all_so, prefixed, all_prefixed, all_texts, Apart, distinct, apart_both, apart_right, apart_prefixed, Lacks}
+use Rattle.sig_call.proofs.Common.{◌≡◌, ◌≢◌, ◌++◌, ◌<◌, ◌≤◌, ◌^◌, ℕ, suc, List, [], ◌∷◌, Some, length, map, refl, sym, ap, subst, ◌∙◌, inl, arith, Contains, map-append, Contains-append_left, Contains-push, AllByRecursion, IsDistinct, bytes_eq, Signal, Name, Equations, ProcessModel, FlatEquation, FlatBody, Declaration, behind, declarations, params_of, name_of, process_of, texts, all_processes, Copy, Progress, Expands, Ended, Defined, Equated, Expanded, IsFlatBody, copied_signals, copy_prefix, cluster_of_call, first_progress, signals_declared, with_copy, Offence, NoneHolds, DeclaredTwice, candidate, each, unknown_names, declared_twice, IsWellFormed, IsTree, IsReady, AreExpandable, all_both, all_so}
+use Rattle.sig_call.proofs.Apart.{prefixed, all_prefixed, all_texts, Apart, distinct, apart_both, apart_right, apart_prefixed, Lacks}
 use Rattle.sig_call.proofs.Existence.{found_name}
 use Rattle.sig_call.proofs.Expandable.{expandable, found_all, none_parts, rules_hold}
 use Rattle.sig_call.proofs.ProgressSteps.{grows_along}
 use Rattle.sig_call.proofs.Numbered.{Numbered, name_lacks, later_too, copied, new_name}
 use Rattle.sig_call.proofs.Readiness.{call_adds}
 use Rattle.sig_call.proofs.Spelled.{IsNamed, Spelled}
-use Rattle.sig_call.proofs.Texts.{all_both}
 use Rattle.sig_call.proofs.Whole.{first_found}
 
 abbrev names_of : List Signal → List (List ℕ)

@@ -1,7 +1,7 @@
 -- The places in the tree of a text: those of names, constants and operators are places of leaves.
-use Rattle.sig_call.proofs.Common.{◌++◌, ◌+◌, ◌-◌, ◌≤◌, ◌==◌, ℕ, suc, not, List, [], ◌∷◌, None, Some, Option, length, take, count_by, refl, sym, subst, inl, inr, arith, length-take, length-drop, count_by-le-length, AllByRecursion, after_last, flat_map, suffix_len, option_to_list, option_map, Span, Token, text_of, place_after, InOrder, Expression, Named, Number, Truth, Unary, Binary, Delay, Cell, Name, Item, Declaration, Declared, RightSide, Computed, Called, Equations, Together, Defines, Equal, Bodies, no_body, more_bodies, ProcessModel, Modelled, ProcessModels, no_model, more_models, equations_in, equations_inside, equations_of_model, with_inner, those_inner, all_processes, signals_declared, Terminal, Leaf, leaf, terminal_of, leaf_of, leaves_of, level_of, Limits, Each, IsBare, IsExpression, IsName, IsLeft, IsRight, IsClockEquation, IsBody, AreBodies, AreFurtherBodies, IsModel, AreLocals, IsItem, HasTree, IsWithin}
+use Rattle.sig_call.proofs.Common.{◌++◌, ◌+◌, ◌-◌, ◌≤◌, ◌==◌, ℕ, suc, not, List, [], ◌∷◌, None, Some, Option, length, take, count_by, refl, sym, subst, inl, inr, arith, length-take, length-drop, count_by-le-length, AllByRecursion, after_last, flat_map, suffix_len, option_to_list, option_map, Span, Token, text_of, place_after, InOrder, Expression, Named, Number, Truth, Unary, Binary, Delay, Cell, Name, Item, Declaration, Declared, RightSide, Computed, Called, Equations, Together, Defines, Equal, Bodies, no_body, more_bodies, ProcessModel, Modelled, ProcessModels, no_model, more_models, equations_in, equations_inside, equations_of_model, with_inner, those_inner, all_processes, signals_declared, Terminal, Leaf, leaf, terminal_of, leaf_of, leaves_of, level_of, Limits, Each, IsBare, IsExpression, IsName, IsLeft, IsRight, IsClockEquation, IsBody, AreBodies, AreFurtherBodies, IsModel, AreLocals, IsItem, HasTree, IsWithin, all_both}
 use Rattle.sig_call.proofs.DeclaredItems.{Declares, each_declares}
-use Rattle.sig_call.proofs.Texts.{AllLeaves, leaves_left, leaves_right, leaves_behind, leaves_between, leaves_enclosed, separated_all, listed_all, all_both}
+use Rattle.sig_call.proofs.Texts.{AllLeaves, leaves_left, leaves_right, leaves_behind, leaves_between, leaves_enclosed, separated_all, listed_all}
 
 -- what holds at the place of each name, constant and operator of an expression
 abbrev pub AtPlacesOf : (Span → Type 0) → Expression → Type 0

@@ -1,11 +1,9 @@
 -- What the rules say of the processes of a well-formed program.
-use Rattle.sig_call.proofs.Common.{◌≡◌, ◌⊎◌, ◌++◌, ◌<◌, ℕ, zero, suc, Bool, true, false, cond, List, [], ◌∷◌, None, Some, Option, map, length, get_or, Contains, refl, sym, subst, inl, inr, arith, bytes_eq-Decides, AllByRecursion, flat_map, bytes_eq, Name, Item, Declared, Equations, Together, Defines, Equal, ProcessModel, Role, Parameter, Input, Declaration, declared_as, heading_of_model, declarations, declaration_of, params_of, inputs_of, outputs_of, locals_of, name_of, process_of, all_processes, texts, left_sides, left_sides_of, equations_of_model, uses_of_equation, uses_of_right, signals_used, Candidate, NoneHolds, candidate, each, DefinedTwice, Undefined, InputDefined, IsGiven, unknown_names, declared_twice, defined_twice, undefined, clashes, clashes_of_equation, clashes_of_inits, clash_of_init, bare_constants, bare_in_equation, bad_calls, bad_calls_of, recursive_calls, bad_pragmas, missing_inits_in, missing_inits_of_equation, IsWellFormed, rules_on, each_append, IsBounded, IsBoundedEquation, IsBoundedInit, IsBoundedProcess, IsTree, IsReady}
+use Rattle.sig_call.proofs.Common.{◌≡◌, ◌++◌, ◌<◌, ℕ, suc, Bool, true, false, cond, List, [], ◌∷◌, None, Some, Option, map, length, Contains, refl, sym, subst, inl, inr, arith, bytes_eq-Decides, AllByRecursion, flat_map, bytes_eq, Name, Item, Declared, Equations, Together, Defines, Equal, ProcessModel, Role, Parameter, Input, Declaration, declared_as, heading_of_model, declarations, declaration_of, params_of, inputs_of, outputs_of, locals_of, name_of, process_of, all_processes, texts, left_sides, left_sides_of, equations_of_model, uses_of_equation, uses_of_right, signals_used, Candidate, NoneHolds, candidate, each, DefinedTwice, Undefined, InputDefined, IsGiven, unknown_names, declared_twice, defined_twice, undefined, clashes, clashes_of_equation, clashes_of_inits, clash_of_init, bare_constants, bare_in_equation, bad_calls, bad_calls_of, recursive_calls, bad_pragmas, missing_inits_in, missing_inits_of_equation, IsWellFormed, rules_on, each_append, IsBounded, IsBoundedEquation, IsBoundedInit, IsBoundedProcess, IsTree, IsReady, contained_or_not, all_both, all_so}
 use Rattle.sig_tree.specs.Rules.{inputs_defined}
-use Rattle.sig_call.proofs.Apart.{all_so}
 use Rattle.sig_call.proofs.Expandable.{expandable, found_all, known_in_equations, none_parts, rules_hold, unknown_at}
 use Rattle.sig_call.proofs.LeftSides.{DefinesOnce}
 use Rattle.sig_call.proofs.Named.{all_apart, apart_behind, declared_texts}
-use Rattle.sig_call.proofs.Texts.{all_both}
 
 -- what the rules say of an equation
 pub record EquationObeys (all : List ProcessModel) (declared : List Declaration) (q : Equations) : Type 0 where
@@ -105,24 +103,8 @@ left_inside p name known none =
     let d = some_found (declaration_of (declarations p) name.text) known in
     contains_found (outputs_of p ++ locals_of p) name.text d.0 (own_found p name.text d.0 d.1 (λ given. none (subst IsGiven (sym d.1) given)))
 
--- a text is among some, or not
-contained : (xs : List (List ℕ)) (t : List ℕ) → Contains xs t ⊎ (Contains xs t → ⊥)
-contained [] t = inr (λ h. (let no : h.0 < 0 = h.1 in omega arith))
-contained (x ∷ xs) t = here (bytes_eq x t) refl (contained xs t) where
-  later : (k : ℕ) → k < length (x ∷ xs) → get_or (x ∷ xs) k t ≡ t → (x ≡ t) ⊎ Contains xs t
-  later zero h is = inl is
-  later (suc k) h is = inr (k, (let m : suc k < suc (length xs) = h in omega arith), is)
-
-  here : (b : Bool) → bytes_eq x t ≡ b → Contains xs t ⊎ (Contains xs t → ⊥) → Contains (x ∷ xs) t ⊎ (Contains (x ∷ xs) t → ⊥)
-  here true is rest = inl (0, omega arith, (bytes_eq-Decides x t).0 is)
-  here false is (inl h) = inl (suc h.0, (let m : h.0 < length xs = h.1 in omega arith), h.2)
-  here false is (inr none) = inr (λ h. elim (later h.0 h.1 h.2) [
-    | inl same ↦ (let yes : bytes_eq x t ≡ true = (bytes_eq-Decides x t).1 same in let no : bytes_eq x t ≡ false = is in absurd cc)
-    | inr there ↦ none there
-  ])
-
 contained_if : (xs : List (List ℕ)) (t : List ℕ) → ((Contains xs t → ⊥) → ⊥) → Contains xs t
-contained_if xs t h = elim (contained xs t) [ inl there ↦ there | inr none ↦ absurd (h none) ]
+contained_if xs t h = elim (contained_or_not xs t) [ inl there ↦ there | inr none ↦ absurd (h none) ]
 
 -- names that are used are known, those of left sides too
 pub names_known : (all : List ProcessModel) (declared : List Declaration) (names : List Name) → NoneHolds (each (unknown_at all declared) (signals_used names)) → AllByRecursion (λ name. declaration_of declared name.text ≡ None → ⊥) names

@@ -1,6 +1,5 @@
 -- How equations lead from one progress to another.
-use Rattle.std.proofs.lemmas.Option.{same_Some}
-use Rattle.sig_call.proofs.Common.{◌≡◌, ◌++◌, ◌+◌, ◌<◌, ◌≤◌, ℕ, List, [], ◌∷◌, Option, None, Some, length, map, refl, sym, ap, subst, ◌∙◌, append_assoc, arith, append-nil, length-append, Name, Constant, Expression, Equations, Defines, Equal, Computed, Called, ProcessModel, FlatEquation, DefinesFlat, EqualFlat, inputs_of, process_of, equations_of_model, Copy, Progress, Expands, Ended, Defined, Equated, Expanded, called_copy, with_copy, copied_signals, copy_prefix, cluster_of_call, inputs_defined, outputs_defined, signal_of, flat_right, flat_of, Made, with_equations, with_progress, Leads, Advances, NeedsMore}
+use Rattle.sig_call.proofs.Common.{same_Some, ◌≡◌, ◌++◌, ◌+◌, ◌<◌, ◌≤◌, ℕ, List, [], ◌∷◌, Some, length, map, refl, sym, ap, subst, ◌∙◌, append_assoc, arith, append-nil, length-append, Name, Constant, Expression, Equations, Defines, Equal, Computed, Called, ProcessModel, FlatEquation, DefinesFlat, EqualFlat, inputs_of, process_of, equations_of_model, Copy, Progress, Expands, Ended, Defined, Equated, Expanded, called_copy, with_copy, copied_signals, copy_prefix, cluster_of_call, inputs_defined, outputs_defined, signal_of, flat_right, flat_of, Made, with_equations, with_progress, Leads, Advances, NeedsMore}
 
 -- signals are never lost
 pub grows_along : {all : List ProcessModel} {copy : Copy} {equations : List Equations} {before after : Progress} {flat : List FlatEquation}
@@ -17,43 +16,6 @@ grows_along {copy = copy} {before = before} {after = after} (Expanded {inside = 
 -- no equation leads nowhere
 ended_is : {all : List ProcessModel} {copy : Copy} {before after : Progress} {flat : List FlatEquation} → Expands all copy [] before after flat → after ≡ before
 ended_is Ended = refl
-
-pub leads_nowhere : (all : List ProcessModel) (copy : Copy) (before : Progress) → Leads all copy [] before before []
-leads_nowhere all copy before = record {
-  there = λ rest end later h. h;
-  back = λ rest end whole h. (whole, h);
-}
-
--- some equations, and then others
-pub leads_then : {all : List ProcessModel} {copy : Copy} {xs ys : List Equations} {a b c : Progress} {f g : List FlatEquation}
-    → Leads all copy xs a b f → Leads all copy ys b c g → Leads all copy (xs ++ ys) a c (f ++ g)
-leads_then {all} {copy} {xs} {ys} {a} {b} {c} {f} {g} h k = record {
-  there = λ rest end later e.
-      let whole : Expands all copy (xs ++ (ys ++ rest)) a end (f ++ (g ++ later)) = h.there (ys ++ rest) end (g ++ later) (k.there rest end later e) in
-      subst (λ es. Expands all copy es a end ((f ++ g) ++ later)) (sym (append_assoc xs ys rest))
-      (subst (λ fs. Expands all copy (xs ++ (ys ++ rest)) a end fs) (sym (append_assoc f g later)) whole);
-  back = λ rest end whole e.
-      let first = h.back (ys ++ rest) end whole (subst (λ es. Expands all copy es a end whole) (append_assoc xs ys rest) e) in
-      k.back rest end first.0 first.1;
-}
-
-pub advances_nowhere : (all : List ProcessModel) (copy : Copy) (made : Made) → Advances all copy [] made made
-advances_nowhere all copy made = record {
-  flat = [];
-  added = sym (append-nil made.equations);
-  leads = leads_nowhere all copy made.progress;
-  grows = omega arith;
-}
-
-pub advances_then : {all : List ProcessModel} {copy : Copy} {xs ys : List Equations} {a b c : Made} → Advances all copy xs a b → Advances all copy ys b c → Advances all copy (xs ++ ys) a c
-advances_then {all} {copy} {xs} {ys} {a} {b} {c} h k = record {
-  flat = h.flat ++ k.flat;
-  added = k.added ∙ ap (λ l. l ++ k.flat) h.added ∙ append_assoc a.equations h.flat k.flat;
-  leads = leads_then h.leads k.leads;
-  grows = let first : length a.progress.signals ≤ length b.progress.signals = h.grows in
-      let second : length b.progress.signals ≤ length c.progress.signals = k.grows in
-      omega arith;
-}
 
 -- where an equation behind others needs more, all of them do
 pub needs_later : {all : List ProcessModel} {copy : Copy} {xs : List Equations} {a b : Progress} {f : List FlatEquation} (equation : Equations) (ys : List Equations)

@@ -1,16 +1,14 @@
 -- The names of a flat body's signals and of the intermediates of its operators, in a text within the limits.
-use Rattle.sig_call.proofs.Common.{◌≡◌, ◌++◌, ◌+◌, ◌<◌, ◌≤◌, ◌∙◌, ℕ, suc, List, [], ◌∷◌, Some, length, map, decimal, sym, ap, subst, arith, length-decimal-le, length-append, AllByRecursion, bytes_eq, PROGRAM_BYTES, SIGNALS, Signal, Span, Name, Expression, Equations, ProcessModel, FlatEquation, FlatBody, Declaration, inputs_of, outputs_of, locals_of, name_of, process_of, all_processes, Copy, Progress, Expands, Ended, Defined, Equated, Expanded, IsFlatBody, copied_signals, copy_prefix, cluster_of_call, first_progress, flat_of, flat_right, inputs_defined, outputs_defined, signals_declared, with_copy, Token, Lexeme, lexemes, the_end, IsSpelled, InOrder, leaves_of, HasTree, IsWellFormed, AtOperators, IsGraphic, IsSignalName, NamesOperators, placed_name, IsTree, IsReady, AreExpandable, IsWithin}
+use Rattle.sig_call.proofs.Common.{◌≡◌, ◌++◌, ◌+◌, ◌<◌, ◌≤◌, ◌∙◌, ℕ, suc, List, [], ◌∷◌, Some, length, map, decimal, sym, ap, subst, arith, length-decimal-le, length-append, AllByRecursion, bytes_eq, PROGRAM_BYTES, SIGNALS, Signal, Span, Name, Expression, Equations, ProcessModel, FlatEquation, FlatBody, Declaration, inputs_of, outputs_of, locals_of, name_of, process_of, all_processes, Copy, Progress, Expands, Ended, Defined, Equated, Expanded, IsFlatBody, copied_signals, copy_prefix, cluster_of_call, first_progress, flat_of, flat_right, inputs_defined, outputs_defined, signals_declared, with_copy, Token, Lexeme, lexemes, the_end, IsSpelled, InOrder, leaves_of, HasTree, IsWellFormed, AtOperators, IsGraphic, IsSignalName, NamesOperators, placed_name, IsTree, IsReady, AreExpandable, IsWithin, all_both, all_so}
 use Rattle.sig_call.proofs.Existence.{found_name}
 use Rattle.sig_call.proofs.Expandable.{expandable, found_all}
 use Rattle.sig_call.proofs.FlatPlaces.{flat_at, operators_of, right_at}
 use Rattle.sig_call.proofs.Graphic.{decimal_graphic, name_graphic, name_some}
 use Rattle.sig_call.proofs.ProgressSteps.{grows_along}
-use Rattle.sig_call.proofs.Apart.{all_so}
 use Rattle.sig_call.proofs.ProcessRules.{all_map, all_parts}
 use Rattle.sig_call.proofs.Places.{AtPlacesOf, ArePlaced, IsPlaced, StandsAt, all_placed, leaves_placed}
 use Rattle.sig_call.proofs.Readiness.{call_adds, call_numbers, some_names}
 use Rattle.sig_call.proofs.Spelled.{IsNamed, Spelled, all_spelled}
-use Rattle.sig_call.proofs.Texts.{all_both}
 use Rattle.sig_call.proofs.LeafBytes.{IsRoomyProcess, each_roomy, leaf_bytes, leaf_bytes_within}
 use Rattle.sig_call.proofs.Whole.{first_found}
 

@@ -1,6 +1,6 @@
 -- The trees of texts: their numbers are small, the integers among their constants have 64 bits, definitions have
 -- left sides, and processes are no longer than the text.
-use Rattle.sig_call.proofs.Common.{◌≡◌, ◌≢◌, ◌++◌, ◌+◌, ◌<◌, ◌≤◌, ◌^◌, ℕ, zero, suc, List, [], ◌∷◌, None, Some, Option, length, map, refl, sym, ap, subst, ◌∙◌, inl, inr, arith, codes, length-append, length-map, AllByRecursion, flat_map, option_to_list, option_map, Span, Bounded, IsInteger, Token, TokenKind, NameToken, Word, NumberToken, Label, Mark, Last, token_at, InOrder, EndsOnce, Lexeme, lexeme_of, lexemes, text_of, the_end, IsNameText, Spells, IsSpelled, Name, Constant, Int, Truthful, Param, Item, Expression, Named, Number, Truth, Unary, Binary, Delay, Cell, Declared, RightSide, Computed, Called, Equations, Together, Defines, Equal, Bodies, no_body, more_bodies, Heading, ProcessModel, Modelled, ProcessModels, no_model, more_models, Declaration, Role, Input, Output, declared_as, equations_in, equations_inside, equations_of_model, with_inner, those_inner, all_processes, Terminal, name, word, number, label, mark, Leaf, leaf, terminal_of, leaf_of, leaves_of, Limits, Each, Further, Separated, Listed, Between, Enclosed, IsBare, IsConstant, IsExpression, IsInit, IsOptionalInit, level_of, AreConstants, IsLeft, IsRight, IsDefinition, IsClockEquation, IsBody, AreBodies, AreFurtherBodies, IsGroup, AreGroups, IsInterface, IsModel, IsProcess, AreLocals, IsPlainItem, IsItem, HasTree, IsBoundedConstant, IsBoundedEquation, IsBoundedInit, IsBoundedRight, HasBoundedInits, IsSmall, IsSmallRight, IsRead, IsTree, IsSized, size_of, weights}
+use Rattle.sig_call.proofs.Common.{◌≡◌, ◌≢◌, ◌++◌, ◌+◌, ◌<◌, ◌≤◌, ◌^◌, ℕ, zero, suc, List, [], ◌∷◌, None, Some, Option, length, map, refl, sym, ap, subst, ◌∙◌, inl, inr, arith, codes, length-append, length-map, AllByRecursion, flat_map, option_to_list, option_map, Span, Bounded, IsInteger, Token, TokenKind, NameToken, Word, NumberToken, Label, Mark, Last, token_at, InOrder, EndsOnce, Lexeme, lexeme_of, lexemes, text_of, the_end, IsNameText, Spells, IsSpelled, Name, Constant, Int, Truthful, Param, Item, Expression, Named, Number, Truth, Unary, Binary, Delay, Cell, Declared, RightSide, Computed, Called, Equations, Together, Defines, Equal, Bodies, no_body, more_bodies, Heading, ProcessModel, Modelled, ProcessModels, no_model, more_models, Declaration, Role, Input, Output, declared_as, equations_in, equations_inside, equations_of_model, with_inner, those_inner, all_processes, Terminal, name, word, number, label, mark, Leaf, leaf, terminal_of, leaf_of, leaves_of, Limits, Each, Further, Separated, Listed, Between, Enclosed, IsBare, IsConstant, IsExpression, IsInit, IsOptionalInit, level_of, AreConstants, IsLeft, IsRight, IsDefinition, IsClockEquation, IsBody, AreBodies, AreFurtherBodies, IsGroup, AreGroups, IsInterface, IsModel, IsProcess, AreLocals, IsPlainItem, IsItem, HasTree, IsBoundedConstant, IsBoundedEquation, IsBoundedInit, IsBoundedRight, HasBoundedInits, IsSmall, IsSmallRight, IsRead, IsTree, IsSized, size_of, weights, all_both}
 use Rattle.sig_call.proofs.KindRules.{fits_neg, fits_pos}
 
 -- a leaf's number is small, and its name is spelled as one
@@ -191,10 +191,6 @@ clocks_read limits depth (e ∷ f ∷ others) leaves h small =
           let whole : length leaves ≡ length h.0.0 + length h.0.1 = ap length h.0.2 ∙ length-append h.0.0 h.0.1 in
           omega arith;
     }
-
-pub all_both : {A : Type 0} (P : A → Type 0) (xs ys : List A) → AllByRecursion P xs → AllByRecursion P ys → AllByRecursion P (xs ++ ys)
-all_both P [] ys h k = k
-all_both P (x ∷ xs) ys h k = (h.0, all_both P xs ys h.1 k)
 
 both_read : {xs ys : List Equations} {front back leaves : List Leaf} → ReadBody xs front → ReadBody ys back → length front + length back ≤ length leaves → ReadBody (xs ++ ys) leaves
 both_read {xs} {ys} {front} {back} {leaves} h k within = record {

@@ -1,5 +1,5 @@
 -- Lemmas on what is left of an instant where the values of integers are left out.
-use Rattle.sig_clock.proofs.Common.{◌≡◌, ◌<◌, ◌⊎◌, inl, inr, ℕ, ℤ, pos, Bool, true, false, not, cond, List, [], ◌∷◌, length, map, get_or, refl, sym, ap, ◌∙◌, subst, arith, zero, suc, Option, None, Some, is_some, slice_get, ◌&&◌, ◌||◌, list_all, list_any, AllByRecursion, int_eq, and_parts, false≢true, or-false, Function, Identity, Not as Negation, And as Conjunction, Or as Disjunction, Xor as Exclusive, Equal, NotEqual, Gives, Tells, Seen, Instant, Range, AreOfKinds, IsOfKind, IsValue, is_silent_instant, seen_at, Kind, Integer, Boolean, SigId, Signal, Memory, Meets, HaveValues, AreAbsent, IsFunction, IsInstant, function_of, seen_where_present, seen_where_true, seen_or_else, defines_well, equality, form_fits, function_rows, handed_on, handed_on_where, is_kind, keeps_to_one, kind_at, kind_fits, kind_is, kind_of, merged, operand_is, operands_are, operands_of, target_fits, IsValid, is_signal, Equation, Form, Fun, Delay, When, WhenConst, Default, Sync, Event as EventOf, FunOp, Id, Neg, Eq, Ne, Lt, Le, Gt, Ge, Add, Sub, Mul, Div, Mod, Kernel, Decides-int_eq, Operand, Sig, Const, Sort, AnInteger, Truth, AnEvent, abstraction_of, status_of, truth_of_value, IsReaction, Speaks, Status, status_at, is_present, is_silent, is_with, is_integer, is_integer_kind, same_status, same_truth, where_present, where_true, or_else, constant_truth, meets, are_statuses, is_status_of, operand_truth, truth_of_status, truth_function, function_truth, has_truth}
+use Rattle.sig_clock.proofs.Common.{◌≡◌, ◌<◌, ◌⊎◌, inl, inr, ℕ, ℤ, pos, Bool, true, false, not, cond, List, [], ◌∷◌, length, map, get_or, refl, sym, ap, ◌∙◌, subst, arith, zero, suc, Option, None, Some, is_some, slice_get, ◌&&◌, ◌||◌, list_all, list_any, AllByRecursion, int_eq, and_parts, false≢true, or-false, Function, Identity, Not as Negation, And as Conjunction, Or as Disjunction, Xor as Exclusive, Equal, NotEqual, Gives, Tells, Seen, Instant, Range, AreOfKinds, IsOfKind, IsValue, is_silent_instant, seen_at, Kind, Integer, Boolean, SigId, Signal, Memory, Meets, HaveValues, AreAbsent, IsFunction, IsInstant, function_of, seen_where_present, seen_where_true, seen_or_else, defines_well, equality, form_fits, function_rows, handed_on, handed_on_where, is_kind, keeps_to_one, kind_at, kind_fits, kind_is, kind_of, merged, operand_is, operands_are, operands_of, target_fits, IsValid, is_signal, Equation, Form, Fun, Delay, When, WhenConst, Default, Sync, Event as EventOf, FunOp, Id, Neg, Eq, Ne, Lt, Le, Gt, Ge, Add, Sub, Mul, Div, Mod, Kernel, Decides-int_eq, Operand, Sig, Const, Sort, AnInteger, Truth, AnEvent, abstraction_of, status_of, truth_of_value, IsReaction, Speaks, Status, status_at, is_present, is_silent, is_with, is_integer, is_integer_kind, same_status, same_truth, where_present, where_true, or_else, constant_truth, meets, are_statuses, is_status_of, operand_truth, truth_of_status, truth_function, function_truth, has_truth, two_parts, and_from}
 use Rattle.sig_base.specs.declared.ids.Kind.TheVariants.{Event}
 use Rattle.sig_kernel.specs.declared.equation.FunOp.TheVariants.{Not, And, Or, Xor}
 
@@ -69,11 +69,6 @@ truth_is range Integer v fits is = absurd (false≢true fits)
 truth_is range Boolean v fits is = refl
 truth_is range Event v fits is = sym (one_is v is)
 
-two_parts : (p q : Bool) → ((p && (q && true)) || false) ≡ true → (p ≡ true) × (q ≡ true)
-two_parts p q all =
-    let parts = and_parts p (q && true) (sym (or-false (p && (q && true))) ∙ all) in
-    (parts.0, (and_parts q true parts.1).0)
-
 pub where_rows : (signals : List Signal) (target : Kind) (a b : Operand) → keeps_to_one signals target (a ∷ b ∷ []) handed_on_where ≡ true
     → (operand_is signals a (sort_of target) ≡ true) × (operand_is signals b Truth ≡ true)
 where_rows signals Integer a b fits = two_parts (operand_is signals a AnInteger) (operand_is signals b Truth) fits
@@ -139,13 +134,10 @@ or_else_of : (range : Range) (target ku kv : Kind) (u v : Seen) → kind_is (sor
 or_else_of range target ku kv None v fits_u fits_v is_u is_v = like range target kv v fits_v is_v
 or_else_of range target ku kv (Some w) v fits_u fits_v is_u is_v = like range target ku (Some w) fits_u is_u
 
-both_true : (p q : Bool) → p ≡ true → q ≡ true → (p && q) ≡ true
-both_true p q is_p is_q = ap (λ b. b && q) is_p ∙ is_q
-
 absent_with : (range : Range) (signals : List Signal) (instant : Instant) (operands : List Operand) → AreOfKinds range (map (λ signal. signal.kind) signals) instant
     → AreAbsent instant operands → list_all (is_with (abstraction_of signals instant) false) operands ≡ true
 absent_with range signals instant [] kinds absent = refl
-absent_with range signals instant (Sig x ∷ operands) kinds absent = both_true (same_truth false (is_present (abstraction_of signals instant) x.0)) (list_all (is_with (abstraction_of signals instant) false) operands)
+absent_with range signals instant (Sig x ∷ operands) kinds absent = and_from (same_truth false (is_present (abstraction_of signals instant) x.0)) (list_all (is_with (abstraction_of signals instant) false) operands)
     (same_if false (is_present (abstraction_of signals instant) x.0) (sym (present_by range signals instant x.0 kinds ∙ ap is_some absent.0)))
     (absent_with range signals instant operands kinds absent.1)
 absent_with range signals instant (Const c ∷ operands) kinds absent = absent_with range signals instant operands kinds absent
@@ -155,7 +147,7 @@ present_with : (range : Range) (signals : List Signal) (instant : Instant) (oper
 present_with range signals instant [] values kinds have = refl
 present_with range signals instant (Sig x ∷ operands) [] kinds have = absurd have
 present_with range signals instant (Const c ∷ operands) [] kinds have = absurd have
-present_with range signals instant (Sig x ∷ operands) (v ∷ values) kinds have = both_true (same_truth true (is_present (abstraction_of signals instant) x.0)) (list_all (is_with (abstraction_of signals instant) true) operands)
+present_with range signals instant (Sig x ∷ operands) (v ∷ values) kinds have = and_from (same_truth true (is_present (abstraction_of signals instant) x.0)) (list_all (is_with (abstraction_of signals instant) true) operands)
     (same_if true (is_present (abstraction_of signals instant) x.0) (sym (present_by range signals instant x.0 kinds ∙ ap is_some have.0)))
     (present_with range signals instant operands values kinds have.1)
 present_with range signals instant (Const c ∷ operands) (v ∷ values) kinds have = present_with range signals instant operands values kinds have.1
@@ -435,12 +427,12 @@ abstract_meets range signals memory instant (Fun y op operands) kinds fits speak
   by : (seen : Seen) → seen_at instant y.0 ≡ seen → (k : Kind) × (kind_at signals y ≡ Some k) × (defines_well signals k (Fun y op operands) ≡ true) → meets signals (abstraction_of signals instant) (Fun y op operands) ≡ true
   by None e target =
       let absent : AreAbsent instant operands = subst (λ seen. IsFunction range (function_of op) instant operands seen) e met in
-      both_true (list_all (is_with (abstraction_of signals instant) (is_present (abstraction_of signals instant) y.0)) operands) (has_truth (status_at (abstraction_of signals instant) y.0) (function_truth signals (abstraction_of signals instant) op operands))
+      and_from (list_all (is_with (abstraction_of signals instant) (is_present (abstraction_of signals instant) y.0)) operands) (has_truth (status_at (abstraction_of signals instant) y.0) (function_truth signals (abstraction_of signals instant) op operands))
       (subst (λ p. list_all (is_with (abstraction_of signals instant) p) operands ≡ true) (sym (present_by range signals instant y.0 kinds ∙ ap is_some e)) (absent_with range signals instant operands kinds absent))
       (subst (λ s. has_truth s (function_truth signals (abstraction_of signals instant) op operands) ≡ true) (sym (at range signals instant y.0 kinds ∙ ap (λ k. status_by k (seen_at instant y.0)) target.1 ∙ ap (status_of target.0) e)) refl)
   by (Some v) e target =
       let present = subst (λ seen. IsFunction range (function_of op) instant operands seen) e met in
-      both_true (list_all (is_with (abstraction_of signals instant) (is_present (abstraction_of signals instant) y.0)) operands) (has_truth (status_at (abstraction_of signals instant) y.0) (function_truth signals (abstraction_of signals instant) op operands))
+      and_from (list_all (is_with (abstraction_of signals instant) (is_present (abstraction_of signals instant) y.0)) operands) (has_truth (status_at (abstraction_of signals instant) y.0) (function_truth signals (abstraction_of signals instant) op operands))
       (subst (λ p. list_all (is_with (abstraction_of signals instant) p) operands ≡ true) (sym (present_by range signals instant y.0 kinds ∙ ap is_some e)) (present_with range signals instant operands present.0 kinds present.1))
       (subst (λ s. has_truth s (function_truth signals (abstraction_of signals instant) op operands) ≡ true) (sym (at range signals instant y.0 kinds ∙ ap (λ k. status_by k (seen_at instant y.0)) target.1 ∙ ap (status_of target.0) e))
       (function_met range signals instant target.0 op operands present.0 v kinds target.2 speaks present.1 present.2))
@@ -506,7 +498,7 @@ status_fits range Event (Some v) = refl
 statuses_fit : (range : Range) (signals : List Signal) (instant : Instant) → AreOfKinds range (map (λ signal. signal.kind) signals) instant → are_statuses signals (abstraction_of signals instant) ≡ true
 statuses_fit range [] instant kinds = refl
 statuses_fit range (signal ∷ signals) [] kinds = absurd kinds
-statuses_fit range (signal ∷ signals) (seen ∷ instant) kinds = both_true (is_status_of signal.kind (status_of signal.kind seen)) (are_statuses signals (abstraction_of signals instant)) (status_fits range signal.kind seen) (statuses_fit range signals instant kinds.1)
+statuses_fit range (signal ∷ signals) (seen ∷ instant) kinds = and_from (is_status_of signal.kind (status_of signal.kind seen)) (are_statuses signals (abstraction_of signals instant)) (status_fits range signal.kind seen) (statuses_fit range signals instant kinds.1)
 
 each_meets : (range : Range) (memory : Memory) (instant : Instant) (equations : List Equation) (k : ℕ) (d : Equation) → k < length equations → AllByRecursion (λ equation. Meets range memory instant equation.form) equations → Meets range memory instant (get_or equations k d).form
 each_meets range memory instant [] k d lt all = absurd (omega (arith, lt))

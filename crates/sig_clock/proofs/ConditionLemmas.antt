@@ -1,6 +1,5 @@
 -- Lemmas on the conditions of a kernel.
-use Rattle.sig_clock.proofs.Common.{◌≡◌, ◌<◌, ◌+◌, ◌++◌, ℕ, Bool, true, false, cond, List, [], ◌∷◌, length, map, get_or, refl, sym, ap, ◌∙◌, subst, arith, ◌&&◌, ◌||◌, nat_lt, filter, list_any, range_with_len, or-false, take_all, filter-append, get_or-map-range_with_len, length-map-range_with_len, SigId, Signal, kind_at, Kernel, AreFreeBy, added, frees, is_condition, is_free, signal_id, is_boolean_kind}
-use Rattle.sig_clock.proofs.Lists.{range_from_zero}
+use Rattle.sig_clock.proofs.Common.{◌≡◌, ◌<◌, ◌+◌, ◌++◌, ℕ, Bool, true, false, cond, List, [], ◌∷◌, length, map, get_or, refl, sym, ap, ◌∙◌, subst, arith, ◌&&◌, ◌||◌, nat_lt, filter, list_any, range_with_len, or-false, take_all, filter-append, get_or-map-range_with_len, length-map-range_with_len, SigId, Signal, kind_at, Kernel, AreFreeBy, added, frees, is_condition, is_free, signal_id, is_boolean_kind, range_from_zero}
 
 pub first_free : (kernel : Kernel) (free : List Bool) (n : ℕ) → free ≡ map (λ number. nat_lt number kernel.inputs) (range_with_len 0 n) → n ≡ length kernel.signals → AreFreeBy kernel 0 free
 first_free kernel free n is count = record {

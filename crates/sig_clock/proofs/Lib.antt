@@ -1,5 +1,4 @@
 pub mod Common
-pub mod Lists
 pub mod LinkLemmas
 pub mod SameClockLemmas
 pub mod ConditionLemmas
@@ -14,7 +13,6 @@ pub use AbstractLemmas.*
 pub use ConditionLemmas.*
 pub use LayerLemmas.*
 pub use LinkLemmas.*
-pub use Lists.*
 pub use ProposalLemmas.*
 pub use ReactionLemmas.*
 pub use SameClockLemmas.*

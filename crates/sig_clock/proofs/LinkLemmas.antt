@@ -1,6 +1,5 @@
 -- Lemmas on putting signals into one class.
-use Rattle.sig_clock.proofs.Common.{◌≡◌, ◌<◌, ◌≤◌, ◌⊎◌, inl, inr, ℕ, ℤ, Bool, true, false, List, [], ◌∷◌, length, map, get_or, refl, sym, ap, ◌∙◌, subst, arith, Contains, cond, ◌==◌, ◌&&◌, zero, suc, and_parts, cases_order, ltb-true, list_all, operand_within, get_or-eq_default, get_or-set_same, get_or-set_other, slice_set, ◌+◌, SigId, Operand, Sig, Const, signals_among, Equivalence, given, itself, turned, joined, AreJoined, Tied, relabel_one}
-use Rattle.sig_clock.proofs.Lists.{contains_head, contains_later, contains_cons, contains_none}
+use Rattle.sig_clock.proofs.Common.{◌≡◌, ◌<◌, ◌≤◌, ◌⊎◌, inl, inr, ℕ, ℤ, Bool, true, false, List, [], ◌∷◌, length, get_or, refl, sym, ap, ◌∙◌, subst, arith, Contains, cond, ◌==◌, and_parts, cases_order, ltb-true, list_all, operand_within, get_or-eq_default, get_or-set_same, get_or-set_other, slice_set, ◌+◌, SigId, Operand, Sig, Const, signals_among, Equivalence, given, itself, turned, joined, AreJoined, Tied, relabel_one, contains_cons, contains_head, contains_later, contains_none, contains_one}
 
 -- an equivalence that contains a relation contains the smallest one that does
 pub equivalence_in : {R S : ℕ → ℕ → Type 0} → ((x y : ℕ) → R x y → Equivalence S x y) → (x y : ℕ) → Equivalence R x y → Equivalence S x y
@@ -105,15 +104,12 @@ none_joined numbers = record {
   only = λ s in_s. given s (get_or numbers s 0) (inl (in_s, refl));
 }
 
-only_one : (x z : ℕ) → Contains (x ∷ []) z → z ≡ x
-only_one x z there = elim (contains_cons x z [] there) [ inl is ↦ is | inr none ↦ absurd (contains_none z none) ]
-
 pub alone_joined : (numbers : List ℕ) (x : ℕ) → AreJoined numbers numbers (x ∷ [])
 alone_joined numbers x = record {
   count = refl;
   keeps = λ s t in_s in_t same. same;
   lowers = λ s. omega arith;
-  one = λ s t in_s in_t. ap (λ k. get_or numbers k 0) (only_one x s in_s ∙ sym (only_one x t in_t));
+  one = λ s t in_s in_t. ap (λ k. get_or numbers k 0) (contains_one x s in_s ∙ sym (contains_one x t in_t));
   only = λ s in_s. given s (get_or numbers s 0) (inl (in_s, refl));
 }
 
@@ -176,7 +172,7 @@ same_joined old mid new y more first second in_y = record {
   within s in_s = subst (λ n. s < n) (sym first.count) in_s
 
   widen : (s : ℕ) → Contains (y ∷ []) s → Contains (y ∷ more) s
-  widen s there = subst (λ k. Contains (y ∷ more) k) (sym (only_one y s there)) (contains_head y more)
+  widen s there = subst (λ k. Contains (y ∷ more) k) (sym (contains_one y s there)) (contains_head y more)
 
   first_tied : (s t : ℕ) → Tied old (y ∷ []) s t → Equivalence (Tied old (y ∷ more)) s t
   first_tied s t (inl own) = given s t (inl own)

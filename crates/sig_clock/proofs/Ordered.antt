@@ -1,6 +1,5 @@
 -- Two lists in one strict order that have the same elements are equal.
-use Rattle.sig_clock.proofs.Common.{◌≡◌, ◌<◌, ◌⊎◌, inl, inr, ℕ, List, [], ◌∷◌, refl, sym, ◌∙◌, subst, arith, Contains, suc, Some, slice_get}
-use Rattle.sig_clock.proofs.Lists.{at_contained, contains_cons, contains_head, contains_later, contains_none}
+use Rattle.sig_clock.proofs.Common.{◌≡◌, ◌<◌, ◌⊎◌, inl, inr, ℕ, List, [], ◌∷◌, refl, sym, ◌∙◌, subst, arith, Contains, suc, Some, slice_get, at_contained, contains_cons, contains_head, contains_later, contains_none}
 
 -- what stands earlier is related to what stands later
 abbrev pub IsOrdered : {X : Type 0} → (X → X → Type 0) → List X → Type 0

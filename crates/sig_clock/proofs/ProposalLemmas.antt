@@ -1,27 +1,14 @@
 -- Lemmas on proposals and the reactions that keep to them.
-use Rattle.sig_clock.proofs.Common.{◌≡◌, ◌<◌, ◌≤◌, ◌+◌, ◌⊎◌, inl, inr, ℕ, Bool, true, false, not, List, [], ◌∷◌, length, get_or, refl, sym, ap, ◌∙◌, subst, arith, Contains, zero, suc, Option, None, Some, is_some, slice_get, ◌&&◌, and_parts, cases_order, false≢true, SigId, Signal, kind_at, kind_of, Kernel, truth_of, with_truth, Allows, IsClockFunction, KeepsTo, HasClocks, AreInOrder, is_condition, is_free, signal_id, AgreeOn, EntersBy, HasLayer, IsDetermined, IsEarlier, IsSolved, IsFree, Reaction, Status, Speaks, IsReaction, is_boolean_kind, is_present, is_silent, status_at}
+use Rattle.sig_clock.proofs.Common.{◌≡◌, ◌<◌, ◌≤◌, ◌⊎◌, inl, inr, ℕ, Bool, true, false, not, List, [], ◌∷◌, length, refl, sym, ap, ◌∙◌, subst, arith, Contains, zero, suc, Option, None, Some, is_some, slice_get, and_parts, cases_order, false≢true, SigId, Signal, kind_at, kind_of, Kernel, truth_of, with_truth, Allows, IsClockFunction, KeepsTo, HasClocks, AreInOrder, is_condition, is_free, signal_id, EntersBy, HasLayer, IsEarlier, IsSolved, Reaction, Status, Speaks, IsReaction, is_boolean_kind, is_present, is_silent, status_at, slice_get-get_or, slice_get_within, contains_at}
 use Rattle.sig_clock.proofs.LayerLemmas.{one_layer}
 use Rattle.sig_clock.proofs.ReactionLemmas.{absent_in_silence}
-
-get_at : {X : Type 0} (xs : List X) (k : ℕ) (d : X) → k < length xs → slice_get xs k ≡ Some (get_or xs k d)
-get_at [] k d lt = absurd (omega (arith, lt))
-get_at (x ∷ xs) zero d lt = refl
-get_at (x ∷ xs) (suc k) d lt = get_at xs k d (omega (arith, lt))
-
-get_within : {X : Type 0} (xs : List X) (k : ℕ) (x : X) → slice_get xs k ≡ Some x → k < length xs
-get_within [] k x is = cc
-get_within (y ∷ xs) zero x is = omega arith
-get_within (y ∷ xs) (suc k) x is = omega (arith, get_within xs k x is)
-
-contains_at : {X : Type 0} (xs : List X) (k : ℕ) (x : X) → slice_get xs k ≡ Some x → Contains xs x
-contains_at xs k x is = let e : Some (get_or xs k x) ≡ Some x = sym (get_at xs k x (get_within xs k x is)) ∙ is in (k, get_within xs k x is, cc)
 
 -- the place of a condition
 index_of : (kernel : Kernel) (conditions : List SigId) → AreInOrder kernel conditions → (condition : ℕ) → is_condition kernel condition ≡ true
     → (v : ℕ) × (slice_get conditions v ≡ Some (signal_id condition))
 index_of kernel conditions order condition is =
     let there : Contains conditions (signal_id condition) = (order.all (signal_id condition)).1 is in
-    (there.0, get_at conditions there.0 (signal_id condition) there.1 ∙ ap Some there.2)
+    (there.0, slice_get-get_or conditions there.0 (signal_id condition) there.1 ∙ ap Some there.2)
 
 is_condition_at : (kernel : Kernel) (conditions : List SigId) → AreInOrder kernel conditions → (v : ℕ) (condition : SigId) → slice_get conditions v ≡ Some condition → is_condition kernel condition.0 ≡ true
 is_condition_at kernel conditions order v condition is = (order.all condition).0 (contains_at conditions v condition is)
@@ -105,7 +92,7 @@ reach kernel conditions proposal (suc m) has order = let before = reach kernel c
 
 pub some_reaction : (kernel : Kernel) (conditions : List SigId) → HasClocks kernel → AreInOrder kernel conditions → (proposal : List Bool) → (reaction : Reaction) × Speaks kernel reaction × KeepsTo conditions proposal reaction
 some_reaction kernel conditions has order proposal = let found = reach kernel conditions proposal (length conditions) has order in
-    (found.0, found.1, (λ v condition is. found.2 v condition (get_within conditions v condition is) is))
+    (found.0, found.1, (λ v condition is. found.2 v condition (slice_get_within conditions v condition is) is))
 
 pub one_presence : (kernel : Kernel) (conditions : List SigId) → HasClocks kernel → AreInOrder kernel conditions → (proposal : List Bool) (a b : Reaction) → Speaks kernel a → Speaks kernel b
     → KeepsTo conditions proposal a → KeepsTo conditions proposal b → (signal : ℕ) → signal < length kernel.signals → is_present a signal ≡ is_present b signal

@@ -1,7 +1,6 @@
 -- Lemmas on abstract reactions.
-use Rattle.sig_clock.proofs.Common.{◌≡◌, ◌<◌, ◌+◌, ◌⊎◌, inl, inr, ℕ, Bool, true, false, not, List, [], ◌∷◌, length, get_or, refl, sym, ap, ◌∙◌, subst, arith, Contains, ◌&&◌, zero, suc, Option, None, Some, is_some, list_all, and_parts, false≢true, Kind, Integer, Boolean, Signal, Equation, Form, Fun, Delay, When, WhenConst, Default, Sync, Event as EventOf, Operand, Sig, Const, Kernel, Status, Reaction, IsReaction, status_at, is_present, is_silent, is_with, is_status_of, are_statuses, same_truth, same_status, where_present, has_truth, function_truth, meets, AreRelated, Equivalence, SameClock, given, itself, turned, joined, related, signals_among}
+use Rattle.sig_clock.proofs.Common.{◌≡◌, ◌<◌, ◌+◌, ◌⊎◌, inl, inr, ℕ, Bool, true, false, not, List, [], ◌∷◌, length, get_or, refl, sym, ap, ◌∙◌, subst, arith, Contains, ◌&&◌, zero, suc, Option, None, Some, is_some, list_all, and_parts, false≢true, Kind, Integer, Boolean, Signal, Equation, Form, Fun, Delay, When, WhenConst, Default, Sync, Event as EventOf, Operand, Sig, Const, Kernel, Status, Reaction, IsReaction, status_at, is_present, is_silent, is_with, is_status_of, are_statuses, same_truth, same_status, where_present, has_truth, function_truth, meets, AreRelated, Equivalence, SameClock, given, itself, turned, joined, related, signals_among, contains_cons, contains_none}
 use Rattle.sig_base.specs.declared.ids.Kind.TheVariants.{Event}
-use Rattle.sig_clock.proofs.Lists.{contains_cons, contains_none}
 
 pub truths_are_same : (a b : Bool) → same_truth a b ≡ true → a ≡ b
 truths_are_same true true is = refl

@@ -1,6 +1,5 @@
 -- Lemmas on clock classes.
-use Rattle.sig_clock.proofs.Common.{◌≡◌, ◌<◌, ◌≤◌, ◌+◌, ◌⊎◌, inl, inr, ℕ, Bool, true, false, List, [], ◌∷◌, length, map, get_or, refl, sym, ap, ◌∙◌, subst, arith, Contains, ◌&&◌, zero, suc, list_all, AllPass, range_with_len, and_parts, ltb-true, cases_order, length-map-range_with_len, get_or-map-range_with_len, SigId, form_within, operand_within, is_below, Equation, Form, Fun, Delay, When, WhenConst, Default, Sync, Event, Operand, Sig, Const, Kernel, AreLeast, AreRelated, Equivalence, SameClock, given, itself, turned, joined, related, signals_among, AreJoined, Tied}
-use Rattle.sig_clock.proofs.Lists.{contains_cons, contains_none}
+use Rattle.sig_clock.proofs.Common.{◌≡◌, ◌<◌, ◌≤◌, ◌+◌, ◌⊎◌, inl, inr, ℕ, Bool, true, false, List, [], ◌∷◌, length, map, get_or, refl, sym, ap, ◌∙◌, subst, arith, Contains, ◌&&◌, zero, suc, list_all, AllPass, range_with_len, and_parts, ltb-true, cases_order, length-map-range_with_len, get_or-map-range_with_len, SigId, form_within, operand_within, is_below, Equation, Form, Fun, Delay, When, WhenConst, Default, Sync, Event, Operand, Sig, Const, Kernel, AreLeast, AreRelated, Equivalence, SameClock, given, itself, turned, joined, related, signals_among, AreJoined, Tied, contains_cons, contains_none}
 use Rattle.sig_clock.proofs.LinkLemmas.{equivalence_in}
 
 -- the numbers are those of classes, as far as the first equations say

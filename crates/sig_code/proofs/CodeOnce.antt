@@ -1,5 +1,5 @@
 -- The text of a kernel's code is one.
-use Rattle.sig_code.proofs.Common.{◌≡◌, ◌<◌, ◌+◌, ◌++◌, ℕ, List, [], ◌∷◌, length, refl, sym, ap, ◌∙◌, subst, arith, zero, suc, Option, None, Some, true, codes, slice_get, decimal, enumerate_from, flat_map, act_text, actor_text, code_text_of, op_text, step_text, what_text, Node, Kernel, CodeView, Instruction, instructions_of, Operation, operations_in, IsAccepted, PlanView, numbers_of, Step, StepKind, Do, Send, Receive, Report, Collect, Commit, Op, same_actors, same_instructions, same_operations, get_at, get_within, IsCodeText}
+use Rattle.sig_code.proofs.Common.{◌≡◌, ◌<◌, ◌+◌, ◌++◌, ℕ, List, [], ◌∷◌, length, refl, sym, ap, ◌∙◌, subst, arith, zero, suc, Option, None, Some, true, codes, slice_get, decimal, enumerate_from, flat_map, act_text, actor_text, code_text_of, op_text, step_text, what_text, Node, Kernel, CodeView, Instruction, instructions_of, Operation, operations_in, IsAccepted, PlanView, numbers_of, Step, StepKind, Do, Send, Receive, Report, Collect, Commit, Op, same_actors, same_instructions, same_operations, IsCodeText, slice_get-get_or, slice_get_within}
 
 -- ---- texts of lists
 
@@ -50,8 +50,8 @@ module _ (kernel : Kernel) (nodes others : List Node) (ops other_ops : List Op) 
       → actor_text kernel ops (actor, a) ≡ actor_text kernel other_ops (actor, b)
   same_actor actor instructions a b count_a count_b of_a of_b =
       let lines = same_texts (step_text kernel ops) (step_text kernel other_ops) 0 a.steps b.steps (count_a ∙ sym count_b) (λ k step other at_a at_b.
-      let within : k < length instructions = omega (arith, get_within a.steps k step at_a, count_a) in
-      let is = get_at instructions k (record { kind = step.kind; position = 0; guard = λ proposal. true }) within in
+      let within : k < length instructions = omega (arith, slice_get_within a.steps k step at_a, count_a) in
+      let is = slice_get-get_or instructions k (record { kind = step.kind; position = 0; guard = λ proposal. true }) within in
       let one = of_a k _ step is at_a in
       let two = of_b k _ other is at_b in
       same_step (0 + k) step other (one.0 ∙ sym two.0) (one.1 ∙ sym two.1)) in

@@ -8,10 +8,10 @@ pub mod OneMoreElement
 pub mod ActorTurns
 pub mod CodeOnce
 pub use Common.*
+pub use ActorTurns.*
 pub use CodeOnce.*
-pub use OneMoreStep.*
 pub use MoreInstructions.*
 pub use Numbered.*
+pub use OneMoreStep.*
 pub use Parents.*
 pub use WholePlan.*
-pub use ActorTurns.*

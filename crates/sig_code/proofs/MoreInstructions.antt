@@ -1,12 +1,6 @@
 -- Instructions that are added one after another.
-use Rattle.sig_code.proofs.Common.{◌≡◌, ℕ, ◌+◌, ◌<◌, ◌≤◌, List, [], ◌∷◌, ◌++◌, length, map, take, get_or, Option, None, Some, refl, sym, ap, ◌∙◌, subst, append_assoc, cons_option, enumerate_from, filter_map, option_to_list, append-nil, map-append, map_more, take_all, take_more, filter_map-append, Adds, AreHeld, IsCodeOf, Node, CodeView, Instruction, StepKind}
+use Rattle.sig_code.proofs.Common.{◌≡◌, ℕ, ◌+◌, ◌<◌, ◌≤◌, List, [], ◌∷◌, ◌++◌, length, map, take, get_or, Option, None, Some, refl, sym, ap, ◌∙◌, subst, append_assoc, cons_option, enumerate_from, filter_map, option_to_list, map-append, map_more, take_all, take_more, filter_map-append, Adds, IsCodeOf, Node, CodeView, Instruction, StepKind}
 use Rattle.sig_code.proofs.Numbered.{numbered_more}
-
-pub adds_none : (nodes : List Node) (code : CodeView) → AreHeld nodes code.slots → Adds nodes [] code code
-adds_none nodes code held = record {
-  held = held;
-  goes_on = λ before is. subst (λ (is : List Instruction). IsCodeOf nodes is code) (sym (append-nil before)) is;
-}
 
 pub adds_then : (nodes : List Node) (first second all : List Instruction) (a b c : CodeView) → first ++ second ≡ all → Adds nodes first a b → Adds nodes second b c
     → Adds nodes all a c

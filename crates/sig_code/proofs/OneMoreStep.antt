@@ -1,7 +1,7 @@
 -- A code that goes on by one step.
-use Rattle.sig_code.proofs.Common.{◌≡◌, ℕ, ◌<◌, ◌≤◌, true, List, ◌∷◌, ◌++◌, [], length, None, Some, Option, get_or, slice_get, refl, sym, ap, ◌∙◌, subst, inl, inr, arith, length-append, position, position_or_len, cases_lt, eq-eqb, eqb-true, lt-ltb, All-push, position-Some, fails_before_first, get_or_from_slice_get, slice_get-get_or, slice_get_within, Adds, AreHeld, FindsSlot, HasNoSlot, IsCodeOf, IsNewSlot, IsSlotOf, IsWithin, has_guard, doing, Holds, IsRefOf, test, Node, Ref, AreSlots, CodeView, ImpliesSlot, Instruction, IsLastBelow, IsStepOf, Slot, Step, StepKind}
+use Rattle.sig_code.proofs.Common.{◌≡◌, ℕ, ◌<◌, ◌≤◌, true, List, ◌∷◌, ◌++◌, [], length, None, Some, Option, get_or, slice_get, refl, sym, ap, ◌∙◌, subst, inl, inr, arith, length-append, position, position_or_len, cases_lt, eq-eqb, eqb-true, lt-ltb, All-push, position-Some, fails_before_first, get_or_from_slice_get, slice_get-get_or, slice_get_within, Adds, AreHeld, FindsSlot, HasNoSlot, IsCodeOf, IsNewSlot, IsSlotOf, IsWithin, has_guard, doing, Holds, IsRefOf, test, Node, Ref, AreSlots, CodeView, ImpliesSlot, Instruction, IsLastBelow, IsStepOf, Slot, Step, StepKind, get_last, get_pushed}
 use Rattle.sig_code.proofs.Parents.{no_slot}
-use Rattle.sig_code.proofs.OneMoreElement.{push_either, push_last, push_old}
+use Rattle.sig_code.proofs.OneMoreElement.{push_old}
 
 -- a slot that was found has the guard
 pub slot_found : (slots : List Slot) (guard : Ref) (number : ℕ) → position (has_guard guard) slots ≡ Some number → IsSlotOf slots guard number
@@ -42,7 +42,7 @@ module _ (nodes : List Node) (steps : List Step) (slots : List Slot) (are : AreS
   first_more : last.slot ≤ length slots → (number : ℕ) (step : Step) → slice_get More number ≡ Some step
       → (earlier : ℕ) → earlier < step.slot → (k : ℕ) × (other : Step) × (k < number) × (slice_get More k ≡ Some other) × (other.slot ≡ earlier)
   first_more le number step is earlier lt =
-      elim (push_either steps last number step is) [
+      elim (get_pushed steps last number step is) [
         | inl before ↦ let f = are.first number step before earlier lt in (f.0, f.1, f.2, push_old steps last f.0 f.1 f.3, f.4)
         | inr here ↦
             let slot = ap (λ (s : Step). s.slot) here.1 in
@@ -67,14 +67,14 @@ module _ (nodes : List Node) (steps : List Step) (slots : List Slot) (are : AreS
 
     differ_more : (i j : ℕ) (s t : Slot) → slice_get Slots i ≡ Some s → slice_get Slots j ≡ Some t → s.guard ≡ t.guard → i ≡ j
     differ_more i j s t is other same =
-        elim (push_either slots one.slot i s is) [
+        elim (get_pushed slots one.slot i s is) [
           | inl before ↦
-              elim (push_either slots one.slot j t other) [
+              elim (get_pushed slots one.slot j t other) [
                 | inl too ↦ are.differ i j s t before too same
                 | inr here ↦ absurd (not_both i s before (same ∙ ap (λ (x : Slot). x.guard) (sym here.1)))
               ]
           | inr here ↦
-              elim (push_either slots one.slot j t other) [
+              elim (get_pushed slots one.slot j t other) [
                 | inl before ↦ absurd (not_both j t before (sym same ∙ ap (λ (x : Slot). x.guard) (sym here.1)))
                 | inr too ↦ here.0 ∙ sym too.0
               ]
@@ -86,13 +86,13 @@ module _ (nodes : List Node) (steps : List Step) (slots : List Slot) (are : AreS
           | inl before ↦ used_more i before
           | inr past ↦
               let is : i ≡ length slots = omega (arith, lt, length-append slots (one.slot ∷ [])) in
-              (length steps, last, push_last steps last, at ∙ one.place ∙ sym is)
+              (length steps, last, get_last steps last, at ∙ one.place ∙ sym is)
         ]
 
     -- the slots below a bound are the same
     back : (guard : Ref) (k : ℕ) → k < length slots → IsWithin nodes Slots guard k → IsWithin nodes slots guard k
     back guard k lt within =
-        elim (push_either slots one.slot k within.0 within.1) [ inl before ↦ (within.0, before, within.2) | inr here ↦ absurd (omega (arith, lt, here.0)) ]
+        elim (get_pushed slots one.slot k within.0 within.1) [ inl before ↦ (within.0, before, within.2) | inr here ↦ absurd (omega (arith, lt, here.0)) ]
 
     last_below : (guard : Ref) (bound : ℕ) (parent : Option ℕ) → bound ≤ length slots → IsLastBelow (IsWithin nodes slots guard) bound parent
         → IsLastBelow (IsWithin nodes Slots guard) bound parent
@@ -107,7 +107,7 @@ module _ (nodes : List Node) (steps : List Step) (slots : List Slot) (are : AreS
 
     parents_more : (i : ℕ) (s : Slot) → slice_get Slots i ≡ Some s → IsLastBelow (ImpliesSlot nodes Slots s) i s.parent
     parents_more i s is =
-        elim (push_either slots one.slot i s is) [
+        elim (get_pushed slots one.slot i s is) [
           | inl before ↦ let lt = slice_get_within slots i s before in last_below s.guard i s.parent (omega (arith, lt)) (are.parents i s before)
           | inr here ↦
               subst (λ (x : Slot). IsLastBelow (ImpliesSlot nodes Slots x) i x.parent) here.1
@@ -157,14 +157,14 @@ module _ (nodes : List Node) (guard : Ref) (pos : ℕ) (kind : StepKind) (number
       → (k : ℕ) (instruction : Instruction) (step : Step) → slice_get (before ++ doing nodes guard pos kind ∷ []) k ≡ Some instruction
       → slice_get (old.steps ++ Done ∷ []) k ≡ Some step → IsStepOf nodes slots instruction step
   steps_more slots before is has kept k instruction step at there =
-      elim (push_either before (doing nodes guard pos kind) k instruction at) [
+      elim (get_pushed before (doing nodes guard pos kind) k instruction at) [
         | inl earlier ↦
-            elim (push_either old.steps Done k step there) [
+            elim (get_pushed old.steps Done k step there) [
               | inl too ↦ kept instruction step (is.steps k instruction step earlier too)
               | inr here ↦ let lt = slice_get_within before k instruction earlier in absurd (omega (arith, lt, here.0, is.count))
             ]
         | inr here ↦
-            elim (push_either old.steps Done k step there) [
+            elim (get_pushed old.steps Done k step there) [
               | inl earlier ↦ let lt = slice_get_within old.steps k step earlier in absurd (omega (arith, lt, here.0, is.count))
               | inr too ↦
                   subst (λ (x : Step). IsStepOf nodes slots instruction x) too.1
@@ -178,7 +178,7 @@ module _ (nodes : List Node) (guard : Ref) (pos : ℕ) (kind : StepKind) (number
   new_slot : (new : List Slot) (one : IsNewSlot nodes old.slots new guard number) → IsSlotOf (old.slots ++ one.slot ∷ []) guard number
   new_slot new one = record {
     slot = one.slot;
-    has = ap (λ (n : ℕ). slice_get (old.slots ++ one.slot ∷ []) n) one.place ∙ push_last old.slots one.slot;
+    has = ap (λ (n : ℕ). slice_get (old.slots ++ one.slot ∷ []) n) one.place ∙ get_last old.slots one.slot;
     guarded = one.guarded;
   }
 

@@ -1,6 +1,5 @@
 -- The codes of all actors, and the plan that they make whole.
-use Rattle.sig_code.proofs.Common.{◌≡◌, ℕ, ◌+◌, ◌<◌, List, [], ◌∷◌, ◌++◌, All, length, get_or, sym, ap, ◌∙◌, subst, inl, inr, arith, length-append, get_or-map, length-map, slice_get_within, OpId, SigId, AreCodesOf, IsCodeOf, parts_of, Node, AreCodes, CodeView, Instruction, instructions_of, Operation, operation_in, operations_in, HasNoCycle, IsCompiledOrder, Precedes, Reaches, directly, onward, PartsView, numbers_of, Op, none_before_itself}
-use Rattle.sig_code.proofs.OneMoreElement.{push_either}
+use Rattle.sig_code.proofs.Common.{◌≡◌, ℕ, ◌+◌, ◌<◌, List, [], ◌∷◌, ◌++◌, All, length, get_or, sym, ap, ◌∙◌, subst, inl, inr, arith, length-append, get_or-map, length-map, slice_get_within, OpId, SigId, AreCodesOf, IsCodeOf, parts_of, Node, AreCodes, CodeView, Instruction, instructions_of, Operation, operation_in, operations_in, HasNoCycle, IsCompiledOrder, Precedes, Reaches, directly, onward, PartsView, numbers_of, Op, none_before_itself, get_pushed}
 
 pub codes_none : (nodes : List Node) (instructions : ℕ → List Instruction) (codes : List CodeView) → codes ≡ [] → AreCodesOf nodes instructions 0 codes
 codes_none nodes instructions codes none = record {
@@ -15,7 +14,7 @@ codes_more nodes instructions n codes code new added are is =
     subst (λ (cs : List CodeView). AreCodesOf nodes instructions (n + 1) cs) (sym added)
     (record {
       counted = omega (arith, are.counted, length-append codes (code ∷ []));
-      each = λ actor other at. elim (push_either codes code actor other at) [
+      each = λ actor other at. elim (get_pushed codes code actor other at) [
         | inl before ↦ are.each actor other before
         | inr here ↦
             let last : n ≡ actor = sym (here.0 ∙ are.counted) in

@@ -9,9 +9,9 @@ mod Products
 pub mod Complete
 pub use Common.*
 pub use Complete.*
-pub use ShownNames.*
 pub use OneCompilation.*
 pub use OwnNames.*
 pub use Pacings.*
 pub use Rooms.*
+pub use ShownNames.*
 pub use Verdicts.*

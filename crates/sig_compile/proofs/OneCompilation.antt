@@ -1,6 +1,5 @@
 -- The compiling and the printing of a program over told contents come to one outcome at most.
-use Rattle.sig_compile.proofs.Common.{◌≡◌, ◌∙◌, ℕ, Bool, List, inl, inr, refl, sym, ap, Contents, IsText, ProcessModel, canonical_text, front_line, tree_once, refusal_once, tree_or_refusal, HasClocks, code_text_once, tree_text_once, Kernel, OneAtMost, WritesDue, done, status_of, Refusal, Missing, ReadFault, LongProgram, Program, Budget, TooManyItems, LongFile, Data, LongImage, one_at_program, AreRefused, IsAcceptedAs, CompileComesTo, IsAboutPlan, IsCompileStatus, IsDueOf, IsAboutText, IsPrintStatus, PrintComesTo, RefusesText, Product, Code, Tree, Verdict}
-use Rattle.sig_outcome.specs.declared.refusal.Refusal.TheVariants.{OutOfMemory}
+use Rattle.sig_compile.proofs.Common.{◌≡◌, ◌∙◌, ℕ, Bool, List, inl, inr, refl, sym, ap, Contents, IsText, ProcessModel, canonical_text, front_line, tree_once, refusal_once, tree_or_refusal, HasClocks, code_text_once, tree_text_once, Kernel, OneAtMost, WritesDue, done, status_of, Refusal, Missing, ReadFault, LongProgram, Program, Budget, TooManyItems, LongFile, Data, LongImage, one_at_program, AreRefused, IsAcceptedAs, CompileComesTo, IsAboutPlan, IsCompileStatus, IsDueOf, IsAboutText, IsPrintStatus, PrintComesTo, RefusesText, Product, Code, Tree, Verdict, OutOfMemory}
 use Rattle.sig_compile.proofs.Verdicts.{accepted_once, accepted_or_refused, refused_once}
 
 -- ---- the products of a program

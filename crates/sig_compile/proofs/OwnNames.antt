@@ -1,7 +1,5 @@
 -- The names of the signals of a program that gets no paces.
-use Rattle.sig_compile.proofs.Common.{◌≡◌, ◌≤◌, ℕ, Bool, false, List, length, subst, sym, Kernel, PROGRAM_BYTES}
-use Rattle.sig_front.specs.Kernels.{IsKernelText}
-use Rattle.sig_compile.specs.Acceptance.{HasKernel, HasSignalNames}
+use Rattle.sig_compile.proofs.Common.{◌≡◌, ◌≤◌, ℕ, Bool, false, List, length, subst, sym, Kernel, PROGRAM_BYTES, IsKernelText, HasKernel, HasSignalNames}
 
 pub own_names : ((text : List ℕ) (kernel : Kernel) → length text ≤ PROGRAM_BYTES → IsKernelText text kernel → HasSignalNames kernel)
     → (bytes : List ℕ) → length bytes ≤ PROGRAM_BYTES → (pace : Bool) → pace ≡ false → (kernel : Kernel) → HasKernel pace bytes kernel → HasSignalNames kernel

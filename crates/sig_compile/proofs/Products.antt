@@ -1,5 +1,5 @@
 -- An accepted kernel has a text of each product.
-use Rattle.sig_compile.proofs.Common.{◌<◌, ℕ, List, length, codes, refl, sym, subst, arith, inl, inr, Option, None, Some, cases_lt, Node, Ref, Implies, AreClocks, AreParents, IsParentIfAny, IsWithin, guard_at, parents_are_tree, within_at, IsTreeText, text_of, IsCodeText, code_text_of, IsValid, Kernel, IsAcceptedKernel, IsLastBelow, IsPlanOf, PlanView, some_plan, dec_implied, value_there, last_as, last_below, table, table_at, table_length, IsDueOf, Product, Code, Tree, Verdict}
+use Rattle.sig_compile.proofs.Common.{◌<◌, ℕ, List, length, codes, refl, sym, subst, arith, inl, inr, Option, None, Some, cases_lt, Node, Ref, Implies, AreClocks, AreParents, IsParentIfAny, IsWithin, guard_at, parents_are_tree, within_at, IsTreeText, text_of, IsCodeText, code_text_of, IsValid, Kernel, IsAcceptedKernel, IsLastBelow, IsPlanOf, PlanView, some_plan, dec_implied, last_as, last_below, table, table_at, table_length, IsDueOf, Product, Code, Tree, Verdict, value_there}
 
 module _ (nodes : List Node) (guards : List Ref) where
   abbrev Contained : ℕ → ℕ → Type 0

@@ -1,11 +1,5 @@
 -- Why the bytes of a program are refused, and that the nodes do not suffice for it.
-use Rattle.sig_compile.proofs.Common.{◌≡◌, ◌≤◌, ◌<◌, ◌+◌, ◌⊎◌, ◌∙◌, ℕ, Bool, true, false, List, [], length, Some, inl, inr, ⊎_elim, sym, ap, subst, arith, slice_get, NODES, SIGNALS, Signal, MeetsUnknownBound, FaultView, IsFaultOf, fault_line, IsFull, Keeps, StoreView, IsNoKernelText, front_line, IsNoText, FrontAnswer, OutOfMemory as FrontMemory, TooManySignals, Kernel, HasNoPaceRoom, HasTooManySignals, IsNameTaken, IsPaceRefusal, PaceAnswer, NoNodes, TooManyPaced, IsUnknownCount, share_of, Contents, IsOfProgram, Refusal, of_more, AreRefused, HasKernel, HasOwnKernel, IsRefusedKernel, IsRefusedPace, IsRefusedText, IsUnpaced, SaysNameTaken, SaysTooManySignals, taken_line, HoldsBeyondBound, IsBudget, IsPlanLine, LacksNodes, IsFrontLine, RefusesText}
-
--- a refusal by the line of an answer of the passes is one of the bytes
-pub refused_front : (bytes : List ℕ) (answer : FrontAnswer) (r : Refusal) → IsNoKernelText bytes answer → IsOfProgram (λ line. line ≡ front_line answer) (λ nodes. ⊥) r → IsOfProgram (IsRefusedText bytes) (λ nodes. ⊥) r
-refused_front bytes answer r none is =
-    of_more (λ line. line ≡ front_line answer) (IsRefusedText bytes) (λ nodes. ⊥) (λ nodes. ⊥)
-    (λ line says. record { answer = answer; none = none; says = says }) (λ nodes lacks. lacks) r is
+use Rattle.sig_compile.proofs.Common.{◌≡◌, ◌≤◌, ◌<◌, ◌+◌, ◌∙◌, ℕ, Bool, true, false, List, [], length, Some, inl, inr, sym, ap, subst, arith, slice_get, NODES, SIGNALS, Signal, MeetsUnknownBound, IsFull, Keeps, StoreView, front_line, FrontAnswer, TooManySignals, Kernel, HasNoPaceRoom, HasTooManySignals, IsNameTaken, IsPaceRefusal, PaceAnswer, NoNodes, TooManyPaced, IsUnknownCount, share_of, Contents, IsOfProgram, Refusal, of_more, AreRefused, HasOwnKernel, IsRefusedPace, IsRefusedText, IsUnpaced, SaysNameTaken, SaysTooManySignals, taken_line, HoldsBeyondBound, IsBudget, IsPlanLine, LacksNodes, IsFrontLine, RefusesText}
 
 pub refused_own : (pace : Bool) (bytes : List ℕ) (r : Refusal) → IsOfProgram (IsRefusedText bytes) (λ nodes. ⊥) r → IsOfProgram (AreRefused pace bytes) (LacksNodes pace bytes) r
 refused_own pace bytes r is = of_more (IsRefusedText bytes) (AreRefused pace bytes) (λ nodes. ⊥) (LacksNodes pace bytes) (λ line text. inl text) (λ nodes lacks. absurd lacks) r is
@@ -37,18 +31,6 @@ refused_many bytes own answer limit r has is refusal said =
     (λ line says. let is : SaysTooManySignals own line = record { many = why.1; says = says ∙ ap large_line why.0 } in inr is)
     (λ nodes lacks. lacks) r said)
 
--- and one by the line of a fault of the kernel
-pub refused_back : (pace : Bool) (bytes : List ℕ) (kernel : Kernel) (fault : FaultView) (r : Refusal) → HasKernel pace bytes kernel → IsFaultOf kernel fault → IsOfProgram (λ line. line ≡ fault_line fault) (λ nodes. ⊥) r
-    → IsOfProgram (AreRefused pace bytes) (LacksNodes pace bytes) r
-refused_back pace bytes kernel fault r has told is =
-    of_more (λ line. line ≡ fault_line fault) (AreRefused pace bytes) (λ nodes. ⊥) (LacksNodes pace bytes)
-    (λ line says. let refused : IsRefusedKernel pace bytes line = record { kernel = kernel; has = has; fault = fault; told = told; says = says } in inr (inr refused)) (λ nodes lacks. absurd lacks) r is
-
-pub refused_text : (bytes : List ℕ) (answer : FrontAnswer) (r : Refusal) → IsNoText bytes answer → IsOfProgram (λ line. line ≡ front_line answer) (λ nodes. ⊥) r → IsOfProgram (RefusesText bytes) (λ nodes. ⊥) r
-refused_text bytes answer r none is =
-    of_more (λ line. line ≡ front_line answer) (RefusesText bytes) (λ nodes. ⊥) (λ nodes. ⊥)
-    (λ line says. record { answer = answer; none = none; says = says }) (λ nodes lacks. lacks) r is
-
 -- a store that was empty finds no room for the paces of a kernel only where the kernel is not within the bound
 pub no_pace_room : (own : Kernel) (old new : StoreView) (answer : PaceAnswer) (n : ℕ) → answer ≡ NoNodes n → old.nodes ≡ [] → old.made_for ≡ NODES → Keeps old new
     → ((unknowns : ℕ) → IsUnknownCount own unknowns → HasNoPaceRoom old new (share_of own unknowns) answer) → MeetsUnknownBound own → ⊥
@@ -58,10 +40,6 @@ no_pace_room own old new answer n is empty made kept room meets =
     let all : n ≡ NODES = sym lacks.0.0 ∙ kept.made_for ∙ made in
     let fits = meets.fits in
     omega (arith, lacks.1, none, fits, all)
-
--- an answer that is not want of memory
-pub not_memory : (answer : FrontAnswer) (Fact : Type 0) → (answer ≡ FrontMemory → ⊥) → (answer ≡ FrontMemory) ⊎ Fact → Fact
-not_memory answer Fact other why = ⊎_elim (λ memory. absurd (other memory)) (λ fact. fact) why
 
 -- ---- which lines these are
 

@@ -1,5 +1,5 @@
 -- An actor for which no event changes anything rests as long as its own state, its link and the word stay.
-use Rattle.sig_core.proofs.Common.{◌≡◌, ◌<◌, ◌⊎◌, ◌++◌, ◌∙◌, inl, inr, ℕ, ℤ, Bool, true, false, cond, List, [], ◌∷◌, length, set, refl, sym, ap, subst, arith, None, Option, Some, nat_lt, slice_get, Place, contains_at, left_at, link_at, link_of, Actor, code_of, ended_at, guard_holds, moved_on, next_place, ModelCore, Given, acted, items_on, looked, stepped, take_first, turned, with_actor, with_items, word_before, Faults, Gives, Outcome, outcome, AtLimit, Commits, Fails, Goes, Puts, Stopped, Takes, Turn, turn, turn_at, turn_by, turn_of_op, turn_with, Act, Look, Instruction, instructions_of, operations_in, IsAccepted, PlanView, numbers_of, Step, StepKind, Do, Send, Receive, Report, Collect, Commit, Op, LinkInfo, plan_operations, one_reader, one_writer, step_instruction, step_coded, set_here, same_Some}
+use Rattle.sig_core.proofs.Common.{◌≡◌, ◌<◌, ◌⊎◌, ◌++◌, ◌∙◌, inl, inr, ℕ, ℤ, Bool, true, false, cond, List, [], ◌∷◌, length, set, refl, sym, ap, subst, arith, None, Option, Some, nat_lt, slice_get, Place, left_at, link_at, link_of, Actor, code_of, ended_at, guard_holds, moved_on, next_place, ModelCore, Given, acted, items_on, looked, stepped, take_first, turned, with_actor, with_items, word_before, Faults, Gives, Outcome, outcome, AtLimit, Commits, Fails, Goes, Puts, Stopped, Takes, Turn, turn, turn_at, turn_by, turn_of_op, turn_with, Act, Look, Instruction, instructions_of, operations_in, IsAccepted, PlanView, numbers_of, Step, StepKind, Do, Send, Receive, Report, Collect, Commit, Op, LinkInfo, plan_operations, one_reader, one_writer, step_instruction, step_coded, same_Some, contains_at, set_here}
 use Rattle.sig_core.proofs.WhatIsLeft.{Falls, end_falls}
 use Rattle.sig_core.proofs.ActorTurns.{IsTurnOf, turn_is}
 

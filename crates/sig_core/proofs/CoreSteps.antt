@@ -1,6 +1,6 @@
 -- What a step of an actor does to a core.
-use Rattle.sig_core.proofs.Common.{◌≡◌, ◌<◌, ◌+◌, ◌++◌, ◌∙◌, inl, inr, ℕ, Bool, true, false, cond, List, [], ◌∷◌, length, map, set, refl, sym, ap, subst, arith, length-set, Option, Some, nat_lt, slice_get, slice_index_or, lt-ltb, ltb-true, Place, CommitsAs, CommitsBy, IsStepped, TakesTurnAt, changes, IsActorState, IsCore, IsWord, LeavesLess, Shows, TellsChange, given_of, left_from, left_at, queues_of, Core, Kernel, same_or_not, Actor, code_of, ended_at, ModelCore, Given, acted as acted_in, items_on, lesser, stepped, take_first, turned, with_actor, with_items, AtLimit, Commits, Fails, Goes, Puts, Reaction, Stopped, Takes, Turn, turn, Act, IsAccepted, PlanView, put_elsewhere, put_here, set_get, set_here, Acts, Asked, FoundEmpty, FoundFull, LinkQueue, Popped, Pushed, Queues, QueuesGoOn, actor_of, last_reaction, Acted, Done, Empty, Full, Failed, AtTheLimit, HasStopped, ClusterState, same_Some}
-use Rattle.sig_core.proofs.WhatIsLeft.{Falls, get_map, left_falls, map_set, set_there}
+use Rattle.sig_core.proofs.Common.{◌≡◌, ◌<◌, ◌+◌, ◌++◌, ◌∙◌, inl, inr, ℕ, Bool, true, false, cond, List, [], ◌∷◌, length, map, set, refl, sym, ap, subst, arith, length-set, Option, Some, nat_lt, slice_get, slice_index_or, lt-ltb, ltb-true, Place, CommitsAs, CommitsBy, IsStepped, TakesTurnAt, changes, IsActorState, IsCore, IsWord, LeavesLess, Shows, TellsChange, given_of, left_from, left_at, queues_of, Core, Kernel, Actor, code_of, ended_at, ModelCore, Given, acted as acted_in, items_on, lesser, stepped, take_first, turned, with_actor, with_items, AtLimit, Commits, Fails, Goes, Puts, Reaction, Stopped, Takes, Turn, turn, Act, IsAccepted, PlanView, put_elsewhere, put_here, set_get, Acts, Asked, FoundEmpty, FoundFull, LinkQueue, Popped, Pushed, Queues, QueuesGoOn, actor_of, last_reaction, Acted, Done, Empty, Full, Failed, AtTheLimit, HasStopped, ClusterState, same_Some, cases_eq, set_here, get_map}
+use Rattle.sig_core.proofs.WhatIsLeft.{Falls, left_falls, map_set, set_there}
 use Rattle.sig_core.proofs.LinkItems.{links_put, links_stay, room_stays}
 use Rattle.sig_core.proofs.ActorTurns.{IsFailure, IsTurnOf, turn_is}
 use Rattle.sig_step.specs.declared.answer.Acted.TheVariants.{Commit}
@@ -265,7 +265,7 @@ module _ (old mid : Core) (is : IsCore old) (accepted : IsAccepted old.plan.now)
     state_there : (i : ℕ) (s : ClusterState) → slice_get mid.states.items i ≡ Some s → IsActorState given i s
     state_there i s at =
         let found = set_get old.states.items k took.next i s (subst (λ (xs : List ClusterState). slice_get xs i ≡ Some s) took.is at) in
-        subst (IsActorState given i) (sym found.2) (elim (same_or_not i k) [
+        subst (IsActorState given i) (sym found.2) (elim (cases_eq i k) [
           | inl same ↦ subst (IsActorState given i) (sym (put_here k took.next i found.0 same)) (subst (λ n. IsActorState given n took.next) (sym same) (record {
             state = took.state;
             number = took.same.actor ∙ mine.number;

@@ -1,13 +1,9 @@
 -- Events one after another, to the end of a run.
-use Rattle.sig_core.proofs.Common.{◌≡◌, ◌++◌, ◌∙◌, ℕ, Bool, true, false, List, [], ◌∷◌, refl, sym, ap, subst, append_assoc, fold, append-nil, bounded_behind, AllFirst, Happened, IsReached, IsSameRun, Shows, TellsChange, TookMore, given_of, LeadsTo, LeadsWithin, RestBelow, SeesNothing, after_of, Core, IsAccepted, outputs_of, seen_lines, Kernel, ModelCore, Given, after, opening, reactions_text, stepped, Reaction, Event, Act, joined_append}
+use Rattle.sig_core.proofs.Common.{◌≡◌, ◌++◌, ◌∙◌, ℕ, Bool, true, false, List, [], ◌∷◌, sym, ap, subst, append_assoc, fold, append-nil, bounded_behind, AllFirst, Happened, IsReached, IsSameRun, Shows, TellsChange, TookMore, given_of, LeadsTo, LeadsWithin, RestBelow, SeesNothing, after_of, Core, IsAccepted, outputs_of, seen_lines, Kernel, ModelCore, Given, after, opening, reactions_text, stepped, Reaction, Event, Act, fold-append, flat_map-append}
 use Rattle.sig_core.proofs.Firsts.{ComesFirst, act_first, first_behind, first_change}
 
-fold_append : {A B : Type 0} (f : A → B → A) (z : A) (xs ys : List B) → fold f z (xs ++ ys) ≡ fold f (fold f z xs) ys
-fold_append f z [] ys = refl
-fold_append f z (x ∷ xs) ys = fold_append f (f z x) xs ys
-
 pub text_append : (kernel : Kernel) (xs ys : List Reaction) → reactions_text kernel (xs ++ ys) ≡ reactions_text kernel xs ++ reactions_text kernel ys
-text_append kernel xs ys = joined_append (λ (reaction : Reaction). seen_lines (outputs_of kernel) reaction) xs ys
+text_append kernel xs ys = flat_map-append (λ (reaction : Reaction). seen_lines (outputs_of kernel) reaction) xs ys
 
 -- takings that are one
 abbrev pub Join : {S : Type 0} → (S → List ℕ → S → Type 0) → (S → List ℕ → S → Type 0) → Type 0
@@ -54,7 +50,7 @@ leads_then {S} took also join old mid new first middle last same one two m shows
     let there : ModelCore = fold (stepped (given_of old)) m led.events in
     let on = two there led.shows in
     let end_is : fold (stepped (given_of mid)) there on.events ≡ fold (stepped (given_of old)) m (led.events ++ on.events) =
-    ap (λ (g : Given). fold (stepped g) there on.events) same ∙ sym (fold_append (stepped (given_of old)) m led.events on.events) in
+    ap (λ (g : Given). fold (stepped g) there on.events) same ∙ sym (fold-append (stepped (given_of old)) m led.events on.events) in
     let kernel : mid.plan.now.kernel ≡ old.plan.now.kernel = ap (λ (g : Given). g.plan.kernel) same in
     record {
       events = led.events ++ on.events;
@@ -79,14 +75,14 @@ pub leads_reached : {S : Type 0} (took : S → List ℕ → S → Type 0) (old n
 leads_reached took old new first last same leads (events, shows) =
     let led = leads (after_of old events) shows in
     let is : fold (stepped (given_of old)) (after_of old events) led.events ≡ after_of new (events ++ led.events) =
-    sym (fold_append (stepped (given_of old)) (opening old.plan.now) events led.events) ∙ ap (λ (g : Given). after g (events ++ led.events)) (sym same) in
+    sym (fold-append (stepped (given_of old)) (opening old.plan.now) events led.events) ∙ ap (λ (g : Given). after g (events ++ led.events)) (sym same) in
     (events ++ led.events, subst (λ n. Shows n new) is led.shows)
 
 -- behind an event of a core that was reached so is the next one
 pub event_reached : {S : Type 0} (took : S → List ℕ → S → Type 0) (e : Event) (old new : Core) (before after_it : S) → IsSameRun old new → Happened took e old new before after_it → IsReached old → IsReached new
 event_reached took e old new before after_it same happened (events, shows) =
     let is : stepped (given_of old) (after_of old events) e ≡ after_of new (events ++ e ∷ []) =
-    sym (fold_append (stepped (given_of old)) (opening old.plan.now) events (e ∷ [])) ∙ ap (λ (g : Given). after g (events ++ e ∷ [])) (sym same) in
+    sym (fold-append (stepped (given_of old)) (opening old.plan.now) events (e ∷ [])) ∙ ap (λ (g : Given). after g (events ++ e ∷ [])) (sym same) in
     (events ++ e ∷ [], subst (λ n. Shows n new) is (happened (after_of old events) shows).0)
 
 -- from a core that was reached no more events lead on than there are steps, times the limit, and actors

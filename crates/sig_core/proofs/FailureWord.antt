@@ -68,11 +68,6 @@ word_before_is (Some word) w is p fits within b test =
       λ less. sym test ∙ packed_less word p is.position fits (omega (arith, less, same)),
     )
 
--- a word that is told as a place
-pub word_told : (word : Option Place) (w : ℕ) → IsWord word w → (p : Place) → p.pos < 2 ^ 32 → packed p ≡ w → (w ≡ no_place → ⊥) → Some p ≡ word
-word_told None w is p fits packs some = absurd (some is)
-word_told (Some word) w is p fits packs some = ap (λ q. Some q) (packed_once p word fits is.position (packs ∙ sym is.is))
-
 pub no_word_told : (word : Option Place) (w : ℕ) → IsWord word w → w ≡ no_place → None ≡ word
 no_word_told None w is none = refl
 no_word_told (Some word) w is none =

@@ -1,5 +1,5 @@
 -- Events of a core that happened.
-use Rattle.sig_core.proofs.Common.{◌≡◌, ◌<◌, ◌≤◌, ◌++◌, ◌∙◌, ℕ, Bool, List, [], ◌∷◌, length, map, false, refl, sym, ap, subst, arith, None, OnErr, OnOk, Option, Result, Ok, Err, Some, slice_get, slice_index_or, append-nil, length-map, slice_get_past, get_at, CommitsAs, CommitsBy, IsStepped, Happened, IsCore, IsReached, IsSameRun, Keeps, Shows, TellsChange, TookMore, given_of, Touches, Core, outputs_of, seen_lines, Kernel, Actor, ModelCore, Given, acted, looked, stepped, Event, Act, Look, actor_of, last_reaction, Acted, Done, Empty, Full, Failed, ClusterState, TookPrefix, WriteFault}
+use Rattle.sig_core.proofs.Common.{◌≡◌, ◌<◌, ◌≤◌, ◌++◌, ◌∙◌, ℕ, Bool, List, [], ◌∷◌, length, map, false, refl, sym, ap, subst, arith, None, OnErr, OnOk, Result, Ok, Err, Some, slice_get, slice_index_or, append-nil, length-map, slice_get_past, CommitsAs, CommitsBy, IsStepped, Happened, IsCore, IsReached, IsSameRun, Keeps, Shows, TellsChange, TookMore, given_of, Core, outputs_of, seen_lines, Kernel, Actor, ModelCore, Given, acted, stepped, Event, Act, actor_of, last_reaction, Acted, Done, Empty, Full, Failed, ClusterState, TookPrefix, WriteFault, slice_get-get_or}
 use Rattle.sig_core.proofs.EventsToTheEnd.{event_reached}
 use Rattle.sig_step.specs.declared.answer.Acted.TheVariants.{Commit, AtLimit, Stopped}
 
@@ -44,24 +44,11 @@ module _ (c : Core) (k : ℕ) (past : length c.states.items ≤ k) where
     act_past : stepped (given_of c) m (Act k) ≡ m
     act_past = ap (acted (given_of c) k m) nobody
 
-    look_past : stepped (given_of c) m (Look k) ≡ m
-    look_past = ap (looked c.plan.now k m) nobody
-
   pub past_act_keeps : Keeps (Act k) c c
   past_act_keeps m shows = (subst (λ n. Shows n c) (sym (act_past m shows)) shows, ap (λ (n : ModelCore). n.committed) (act_past m shows))
 
-  pub past_look_keeps : Keeps (Look k) c c
-  past_look_keeps m shows = (subst (λ n. Shows n c) (sym (look_past m shows)) shows, ap (λ (n : ModelCore). n.committed) (look_past m shows))
-
   pub past_act_tells : TellsChange c (Act k) false
   past_act_tells m shows = act_past m shows
-
-  pub past_look_tells : TellsChange c (Look k) false
-  past_look_tells m shows = look_past m shows
-
--- nothing was touched
-pub touches_nothing : (k : ℕ) (link : Option ℕ) (c : Core) → Touches k link c c
-touches_nothing k link c = record { states = λ i other. refl; links = λ j apart. refl }
 
 -- the state of an actor, behind an event
 pub state_there : (old new : Core) → IsCore old → IsCore new → IsSameRun old new → (k : ℕ) → k < length old.states.items → (s : ClusterState) → s ≡ slice_index_or new.states.items k s
@@ -70,7 +57,7 @@ state_there old new is_old is_new same k lt s is =
     let before = is_old.actors in
     let behind = is_new.actors in
     let codes = ap (λ (given : Given). length given.plan.codes) same in
-    get_at new.states.items k s (omega (arith, lt, before, behind, codes)) ∙ ap (λ x. Some x) (sym is)
+    slice_get-get_or new.states.items k s (omega (arith, lt, before, behind, codes)) ∙ ap (λ x. Some x) (sym is)
 
 -- an event happened, whatever became of its text: the core was reached if the one before it was
 pub reached_by : {S : Type 0} (took : S → List ℕ → S → Type 0) (e : Event) (old new : Core) (before after : S) → IsSameRun old new → (result : Result Bool WriteFault)

@@ -24,8 +24,9 @@ pub mod UnderWatch
 pub mod WatchedLinks
 pub mod FailureWord
 pub use Common.*
-pub use ReachedEnd.*
+pub use CoreSteps.*
 pub use EventsToTheEnd.*
+pub use FailureWord.*
 pub use Firsts.*
 pub use GoingOn.*
 pub use HappenedEvents.*
@@ -34,13 +35,12 @@ pub use Looks.*
 pub use Opening.*
 pub use Parts.*
 pub use QueueItems.*
+pub use ReachedEnd.*
 pub use RunningOut.*
 pub use Schedules.*
 pub use ServedActors.*
-pub use CoreSteps.*
 pub use TouchedLinks.*
-pub use UsedLinks.*
-pub use WithLines.*
 pub use UnderWatch.*
+pub use UsedLinks.*
 pub use WatchedLinks.*
-pub use FailureWord.*
+pub use WithLines.*

@@ -1,5 +1,5 @@
 -- What links hold before and after they were asked.
-use Rattle.sig_core.proofs.Common.{◌≡◌, ◌<◌, ◌≤◌, ◌∙◌, inl, inr, ℕ, ℤ, List, [], ◌∷◌, length, set, refl, sym, ap, subst, arith, slice_index_or, get_or-set_other, get_or-set_same, length-append, same_or_not, AllStay, Asked, FoundEmpty, FoundFull, LinkQueue, Nothing, OthersStay, Popped, Pushed, Queues, QueuesGoOn}
+use Rattle.sig_core.proofs.Common.{◌≡◌, ◌<◌, ◌≤◌, ◌∙◌, inl, inr, ℕ, ℤ, List, [], ◌∷◌, length, set, refl, sym, ap, subst, arith, slice_index_or, get_or-set_other, get_or-set_same, length-append, AllStay, Asked, FoundEmpty, FoundFull, LinkQueue, Nothing, OthersStay, Popped, Pushed, Queues, QueuesGoOn, cases_eq}
 
 module _ (q r : Queues) where
   abbrev HasRoom : LinkQueue → LinkQueue → Type 0
@@ -9,7 +9,7 @@ module _ (q r : Queues) where
   stays j same = subst (λ (l : LinkQueue). HasRoom (q j) l) (sym same) (refl, λ fits. fits)
 
   one_changed : (link : ℕ) → OthersStay link q r → HasRoom (q link) (r link) → (j : ℕ) → HasRoom (q j) (r j)
-  one_changed link others here j = elim (same_or_not j link) [
+  one_changed link others here j = elim (cases_eq j link) [
     | inl same ↦ subst (λ i. HasRoom (q i) (r i)) (sym same) here
     | inr apart ↦ stays j (others j apart)
   ]
@@ -33,7 +33,7 @@ module _ (q r : Queues) where
     -- one link changed
     pub links_put : (link : ℕ) → link < length links → (items : List ℤ) → (r link).items ≡ items → OthersStay link q r
         → (j : ℕ) → slice_index_or (set links link items) j [] ≡ (r j).items
-    links_put link within items is others j = elim (same_or_not j link) [
+    links_put link within items is others j = elim (cases_eq j link) [
       | inl same ↦ subst (λ i. slice_index_or (set links link items) i [] ≡ (r i).items) (sym same) (get_or-set_same links link items [] within ∙ sym is)
       | inr apart ↦ get_or-set_other links link j items [] apart ∙ shows j ∙ ap (λ (l : LinkQueue). l.items) (sym (others j apart))
     ]

@@ -1,6 +1,6 @@
 -- What a look of an actor does to a core.
-use Rattle.sig_core.proofs.Common.{◌≡◌, ◌<◌, ◌≤◌, ◌+◌, ◌^◌, ◌↔◌, ◌∙◌, inl, inr, ℕ, Bool, true, false, cond, List, length, map, set, if◌then◌else◌, refl, sym, ap, subst, arith, length-set, None, Option, Some, IsTrue, slice_get, no_place, packed, Place, IsActorState, IsCore, Keeps, LeavesLess, Shows, TellsChange, given_of, left_from, Core, same_or_not, Actor, code_of, ended_at, next_place, position_of, ModelCore, Given, looked, stepped, with_actor, word_before, Look, PlanView, put_elsewhere, put_here, set_get, set_here, IsStateOf, actor_of, place_of, ClusterState, same_Some, instant_of}
-use Rattle.sig_core.proofs.WhatIsLeft.{Falls, end_falls, get_map, left_falls, map_set, set_there}
+use Rattle.sig_core.proofs.Common.{◌≡◌, ◌<◌, ◌≤◌, ◌+◌, ◌^◌, ◌↔◌, ◌∙◌, inl, inr, ℕ, Bool, true, false, cond, List, length, map, set, if◌then◌else◌, refl, sym, ap, subst, arith, length-set, None, Option, Some, IsTrue, slice_get, no_place, packed, Place, IsActorState, IsCore, Keeps, LeavesLess, Shows, TellsChange, given_of, left_from, Core, Actor, code_of, ended_at, next_place, position_of, ModelCore, Given, looked, stepped, with_actor, word_before, Look, PlanView, put_elsewhere, put_here, set_get, IsStateOf, actor_of, place_of, ClusterState, same_Some, instant_of, cases_eq, set_here, get_map}
+use Rattle.sig_core.proofs.WhatIsLeft.{Falls, end_falls, left_falls, map_set, set_there}
 use Rattle.sig_core.proofs.FailureWord.{no_word_told, word_before_is}
 
 -- where no failure is recorded, a look changes nothing
@@ -126,7 +126,7 @@ module _ (old : Core) (is : IsCore old) (k : ℕ) (s next : ClusterState) (at : 
   state_there : (i : ℕ) (t : ClusterState) → slice_get behind.states.items i ≡ Some t → IsActorState given i t
   state_there i t at_i =
       let found = set_get old.states.items k next i t (subst (λ (xs : List ClusterState). slice_get xs i ≡ Some t) states_are at_i) in
-      subst (IsActorState given i) (sym found.2) (elim (same_or_not i k) [
+      subst (IsActorState given i) (sym found.2) (elim (cases_eq i k) [
         | inl same ↦ subst (IsActorState given i) (sym (put_here k next i found.0 same)) (subst (λ n. IsActorState given n next) (sym same) (record {
           state = kept;
           number = numbers answer refl ∙ mine.number;

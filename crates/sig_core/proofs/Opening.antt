@@ -1,30 +1,11 @@
 -- The opening of a core.
-use Rattle.sig_core.proofs.Common.{◌≡◌, ◌<◌, ◌≤◌, ◌+◌, ◌^◌, ◌++◌, ◌⊎◌, ◌∙◌, inl, inr, ℕ, zero, suc, ℤ, List, [], ◌∷◌, length, map, replicate, refl, sym, ap, subst, arith, length-append, Global, None, Some, slice_get, slice_index_or, length-replicate, slice_get_past, deque_capacity, VecDeque, IsCore, Shows, AreEmpty, queue_in, queues_of, AreOpened, IsOpened, Lists, Core, no_place, AreFlowsFor, at_most_or, opening_actor, opening, outputs_of, longest_lines, PlanView, LinkQueue, actor_of, ClusterState, same_Some}
-
-pub pushed_get : {X : Type 0} (xs : List X) (x : X) (k : ℕ) (y : X) → slice_get (xs ++ x ∷ []) k ≡ Some y → (slice_get xs k ≡ Some y) ⊎ ((k ≡ length xs) × (x ≡ y))
-pushed_get [] x zero y at = inr (refl, same_Some x y at)
-pushed_get [] x (suc k) y at = inl at
-pushed_get (z ∷ xs) x zero y at = inl at
-pushed_get (z ∷ xs) x (suc k) y at = elim (pushed_get xs x k y at) [ inl before ↦ inl before | inr last ↦ inr (ap suc last.0, last.1) ]
-
-get_before : {X : Type 0} (xs ys : List X) (k : ℕ) → k < length xs → slice_get (xs ++ ys) k ≡ slice_get xs k
-get_before [] ys k lt = absurd (omega (arith, lt))
-get_before (x ∷ xs) ys zero lt = refl
-get_before (x ∷ xs) ys (suc k) lt = get_before xs ys k (omega (arith, lt))
-
-get_last : {X : Type 0} (xs : List X) (x : X) → slice_get (xs ++ x ∷ []) (length xs) ≡ Some x
-get_last [] x = refl
-get_last (y ∷ xs) x = get_last xs x
-
--- one more state
-pub none_opened : (plan : PlanView) (flows : List (List ℤ)) (limit : ℕ) → AreOpened plan flows limit 0 []
-none_opened plan flows limit = record { actors = refl; each = λ k s at. absurd (let e : None ≡ Some s = at in cc) }
+use Rattle.sig_core.proofs.Common.{◌≡◌, ◌<◌, ◌≤◌, ◌+◌, ◌^◌, ◌++◌, ◌∙◌, inl, inr, ℕ, zero, suc, ℤ, List, [], ◌∷◌, length, map, replicate, refl, sym, ap, subst, arith, length-append, Global, None, Some, slice_get, slice_index_or, length-replicate, slice_get_past, deque_capacity, VecDeque, IsCore, Shows, AreEmpty, queue_in, queues_of, AreOpened, IsOpened, Lists, Core, no_place, AreFlowsFor, at_most_or, opening_actor, opening, outputs_of, longest_lines, PlanView, LinkQueue, actor_of, ClusterState, get_before, get_last, get_pushed}
 
 pub opened_more : (plan : PlanView) (flows : List (List ℤ)) (limit n : ℕ) (states : List ClusterState) (s : ClusterState) → AreOpened plan flows limit n states → IsOpened plan flows limit n s
     → AreOpened plan flows limit (n + 1) (states ++ s ∷ [])
 opened_more plan flows limit n states s are new = record {
   actors = let count = are.actors in let more = length-append states (s ∷ []) in omega (arith, count, more);
-  each = λ k t at. elim (pushed_get states s k t at) [
+  each = λ k t at. elim (get_pushed states s k t at) [
     | inl before ↦ are.each k t before
     | inr last ↦ subst (IsOpened plan flows limit k) last.1 (subst (λ i. IsOpened plan flows limit i s) (let same = last.0 in let count = are.actors in (let e : n ≡ k = omega (arith, same, count) in e)) new)
   ];

@@ -1,29 +1,6 @@
 -- What pushes and pops do to the queues of links.
-use Rattle.sig_core.proofs.Common.{◌≡◌, ◌≢◌, ◌<◌, ◌≤◌, ◌+◌, ◌++◌, ◌∙◌, inl, inr, ℕ, zero, suc, ℤ, List, [], ◌∷◌, length, set, drop, refl, sym, ap, subst, arith, Contains, Global, None, Option, Some, option_to_list, slice_get, slice_index_or, range_with_len, deque_capacity, VecDeque, at_contained, get_at, get_within, queue_in, Lists, same_or_not, set_here, FoundEmpty, FoundFull, LinkQueue, Popped, Pushed, Queues, QueuesGoOn, asked_to_pop, same_Some}
+use Rattle.sig_core.proofs.Common.{◌≡◌, ◌≢◌, ◌<◌, ◌≤◌, ◌++◌, ◌∙◌, inl, inr, ℕ, suc, ℤ, List, [], ◌∷◌, length, set, drop, refl, sym, ap, subst, arith, Contains, Global, None, Option, Some, option_to_list, slice_get, slice_index_or, range_with_len, deque_capacity, VecDeque, queue_in, Lists, FoundEmpty, FoundFull, LinkQueue, Popped, Pushed, Queues, QueuesGoOn, asked_to_pop, get_set_other, set_here, within_range, slice_get-get_or, cases_eq}
 use Rattle.sig_core.proofs.WhatIsLeft.{set_there}
-use Rattle.sig_core.proofs.UsedLinks.{range_get}
-
-pub set_past : {X : Type 0} (xs : List X) (k : ℕ) (x : X) (m : ℕ) → m ≢ k → slice_get (set xs k x) m ≡ slice_get xs m
-set_past [] k x m apart = refl
-set_past (y ∷ xs) zero x zero apart = absurd (apart refl)
-set_past (y ∷ xs) zero x (suc m) apart = refl
-set_past (y ∷ xs) (suc k) x zero apart = refl
-set_past (y ∷ xs) (suc k) x (suc m) apart = set_past xs k x m (λ e. apart (ap suc e))
-
-pub length_range : (a n : ℕ) → length (range_with_len a n) ≡ n
-length_range a zero = refl
-length_range a (suc n) = ap suc (length_range (a + 1) n)
-
--- a number of a range from 0 is within it
-pub within_range : (n k : ℕ) → Contains (range_with_len 0 n) k → k < n
-within_range n k there =
-    let i : ℕ = there.0 in
-    let at : slice_get (range_with_len 0 n) i ≡ Some k = at_contained (range_with_len 0 n) k there in
-    let lt = get_within (range_with_len 0 n) i k at in
-    let count = length_range 0 n in
-    let inside : i < n = omega (arith, lt, count) in
-    let same : 0 + i ≡ k = same_Some (0 + i) k (sym (range_get 0 n i inside) ∙ at) in
-    omega (arith, inside, same)
 
 -- a list that is its own rest
 drop_none : (items : List ℤ) → items ≡ drop 1 items → items ≡ []
@@ -43,7 +20,7 @@ module _ {Z : Type 0} where
     there = ap queue_in at
 
     elsewhere : (j : ℕ) → j ≢ link → held ys j ≡ held xs j
-    elsewhere j apart = ap queue_in (ap (λ zs. slice_get zs j) is ∙ set_past xs link next j apart)
+    elsewhere j apart = ap queue_in (ap (λ zs. slice_get zs j) is ∙ get_set_other xs link j next apart)
 
     pub pushed : (item : ℤ) → length queue.items < deque_capacity queue → next.items ≡ queue.items ++ item ∷ [] → deque_capacity next ≡ deque_capacity queue
         → QueuesGoOn (Pushed link item) (held xs) (held ys)
@@ -66,7 +43,7 @@ module _ {Z : Type 0} where
     pub found_empty : queue.items ≡ [] → next.items ≡ [] → deque_capacity next ≡ deque_capacity queue → QueuesGoOn (FoundEmpty link) (held xs) (held ys)
     found_empty none still capacity = (
       ap (λ (l : LinkQueue). l.items) there ∙ none,
-      λ j. elim (same_or_not j link) [
+      λ j. elim (cases_eq j link) [
         | inl same ↦ subst (λ i. held ys i ≡ held xs i) (sym same)
             (here ∙ ap (λ zs. let l : LinkQueue = record { items = zs; capacity = deque_capacity next } in l) (still ∙ sym none)
             ∙ ap (λ c. let l : LinkQueue = record { items = queue.items; capacity = c } in l) capacity ∙ sym there)
@@ -93,4 +70,4 @@ module _ {Z : Type 0} where
 -- the queue of a link to which one can push
 pub queue_there : (lists : Lists) (link : ℕ) (queue : VecDeque ℤ Global) → Contains (range_with_len 0 (length lists.queues.items)) link → queue ≡ slice_index_or lists.queues.items link queue
     → slice_get lists.queues.items link ≡ Some queue
-queue_there lists link queue there is = get_at lists.queues.items link queue (within_range (length lists.queues.items) link there) ∙ ap (λ q. Some q) (sym is)
+queue_there lists link queue there is = slice_get-get_or lists.queues.items link queue (within_range (length lists.queues.items) link there) ∙ ap (λ q. Some q) (sym is)

@@ -1,17 +1,6 @@
 -- The end of a run that was reached.
-use Rattle.sig_core.proofs.Common.{◌≡◌, ◌<◌, ◌≤◌, ◌-◌, ◌+◌, ◌++◌, ◌∙◌, inl, inr, ℕ, zero, suc, true, false, List, [], ◌∷◌, length, map, take, refl, sym, ap, subst, arith, append_assoc, None, Option, Some, fold, slice_get, length-map, length-take, Instant, Trace, seen_at, Place, get_at, get_within, IsCore, IsSameRun, Shows, given_of, HasEnded, IsEndOf, IsStill, LeadsTo, Led, TookBehind, TookRest, after_of, instants_by, instants_of, Core, output_text, some_at, fitting, at_most_or, some_reference, Actor, code_of, next_place, IsEnd, ModelCore, Given, IsEnabled, IsFinished, acted, after, cause_of, looked, reactions_text, stepped, IsOnReference, reactions_of, IsReference, reaction_in, Event, Act, Look, IsAccepted, Cause, Ended, some_enabled, after_begins, after_has_end, after_on, some_least, text_is, HasEnd, actor_of, ClusterState, TookPrefix, TookPrefix-longer, same_Some, instant_of}
+use Rattle.sig_core.proofs.Common.{◌≡◌, ◌<◌, ◌≤◌, ◌-◌, ◌+◌, ◌++◌, ◌∙◌, inl, inr, ℕ, true, false, List, length, map, take, refl, sym, ap, subst, arith, append_assoc, None, Option, Some, fold, slice_get, length-map, length-take, Instant, Trace, seen_at, Place, IsCore, IsSameRun, Shows, given_of, HasEnded, IsEndOf, IsStill, LeadsTo, Led, TookBehind, TookRest, after_of, instants_by, instants_of, Core, output_text, fitting, at_most_or, some_reference, Actor, code_of, next_place, IsEnd, ModelCore, Given, IsEnabled, IsFinished, acted, after, cause_of, looked, reactions_text, stepped, IsOnReference, reactions_of, IsReference, reaction_in, Event, Act, Look, IsAccepted, Cause, Ended, some_enabled, after_begins, after_has_end, after_on, some_least, text_is, HasEnd, actor_of, ClusterState, TookPrefix, TookPrefix-longer, same_Some, instant_of, slice_get-get_or, slice_get_past, slice_get_within, get_map, map_get, some_at, fold-append}
 use Rattle.sig_core.proofs.EventsToTheEnd.{text_append}
-use Rattle.sig_core.proofs.WhatIsLeft.{get_map}
-
-get_past : {X : Type 0} (xs : List X) (k : ℕ) → length xs ≤ k → slice_get xs k ≡ None
-get_past [] k past = refl
-get_past (x ∷ xs) zero past = absurd (omega (arith, past))
-get_past (x ∷ xs) (suc k) past = get_past xs k (omega (arith, past))
-
-map_get : {X Y : Type 0} (f : X → Y) (xs : List X) (k : ℕ) (y : Y) → slice_get (map f xs) k ≡ Some y → (x : X) × (slice_get xs k ≡ Some x) × (f x ≡ y)
-map_get f [] k y at = absurd (let e : None ≡ Some y = at in cc)
-map_get f (x ∷ xs) zero y at = (x, refl, same_Some (f x) y at)
-map_get f (x ∷ xs) (suc k) y at = map_get f xs k y at
 
 ended_is : (i j : ℕ) (c d : Cause) → i ≡ j → c ≡ d → (let e : Ended = record { instants = i; cause = c } in e) ≡ (let f : Ended = record { instants = j; cause = d } in f)
 ended_is i j c d one two =
@@ -46,14 +35,14 @@ module _ (c : Core) (is : IsCore c) (accepted : IsAccepted c.plan.now) (events :
 
   pub finished : HasEnded c → IsFinished n
   finished ended k d lt =
-      let (s, at, same) = state_of k _ (get_at n.actors k d lt) in
+      let (s, at, same) = state_of k _ (slice_get-get_or n.actors k d lt) in
       sym (ap (λ (a : Actor). a.ended) same) ∙ ended k s at
 
   -- ---- where no event changes anything
 
   module _ (still : (k : ℕ) → k < length c.states.items → IsStill c n k) where
     none_past : (k : ℕ) → length c.states.items ≤ k → slice_get n.actors k ≡ None
-    none_past k past = ap (λ (xs : List Actor). slice_get xs k) shows.actors ∙ get_past (map actor_of c.states.items) k (let same = length-map c.states.items actor_of in omega (arith, past, same))
+    none_past k past = ap (λ (xs : List Actor). slice_get xs k) shows.actors ∙ slice_get_past (map actor_of c.states.items) k (let same = length-map c.states.items actor_of in omega (arith, past, same))
 
     no_event : (e : Event) → IsEnabled given n e → ⊥
     no_event (Act k) enabled = elim (at_most_or (length c.states.items) k) [
@@ -69,9 +58,9 @@ module _ (c : Core) (is : IsCore c) (accepted : IsAccepted c.plan.now) (events :
     all_ended k s at = elim (some_least (λ m a. next_place (code_of given.plan m) a) n.actors) [
       | inl all ↦ all k (actor_of s) (ap (λ (xs : List Actor). slice_get xs k) shows.actors ∙ get_map actor_of c.states.items k s at)
       | inr l ↦
-          let lt = get_within n.actors l.k l.actor l.at in
+          let lt = slice_get_within n.actors l.k l.actor l.at in
           let (e, enabled) = some_enabled given accepted is.fits reference long is.capacity n on (λ all.
-          let same = same_Some _ l.actor (sym (get_at n.actors l.k l.actor lt) ∙ l.at) in
+          let same = same_Some _ l.actor (sym (slice_get-get_or n.actors l.k l.actor lt) ∙ l.at) in
           let clash : true ≡ false = sym (all l.k l.actor lt) ∙ ap (λ (a : Actor). a.ended) same ∙ l.runs in
           cc) in
           absurd (no_event e enabled)
@@ -116,10 +105,6 @@ module _ (c : Core) (is : IsCore c) (accepted : IsAccepted c.plan.now) (events :
 
 -- ---- the text of a run
 
-fold_append : {A B : Type 0} (f : A → B → A) (z : A) (xs ys : List B) → fold f z (xs ++ ys) ≡ fold f (fold f z xs) ys
-fold_append f z [] ys = refl
-fold_append f z (x ∷ xs) ys = fold_append f (f z x) xs ys
-
 module _ {S : Type 0} (took : S → List ℕ → S → Type 0) (old new : Core) (same : IsSameRun old new) (before after_it : S) (is : IsCore new) (accepted : IsAccepted new.plan.now) where
   -- events that led on lead from the opening
   module _ (events : List Event) (m : ModelCore) (m_is : m ≡ after_of old events) (led : Led took m old new before after_it) where
@@ -130,7 +115,7 @@ module _ {S : Type 0} (took : S → List ℕ → S → Type 0) (old new : Core) 
     behind = fold (stepped (given_of old)) m led.events
 
     reached_is : behind ≡ after_of new all
-    reached_is = ap (λ z. fold (stepped (given_of old)) z led.events) m_is ∙ sym (fold_append (stepped (given_of old)) _ events led.events) ∙ ap (λ (g : Given). after g all) (sym same)
+    reached_is = ap (λ z. fold (stepped (given_of old)) z led.events) m_is ∙ sym (fold-append (stepped (given_of old)) _ events led.events) ∙ ap (λ (g : Given). after g all) (sym same)
 
     pub reached_shows : Shows (after_of new all) new
     reached_shows = subst (λ z. Shows z new) reached_is led.shows

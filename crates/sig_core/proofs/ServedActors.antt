@@ -1,6 +1,5 @@
 -- Actors of a core that rest.
-use Rattle.sig_core.proofs.Common.{◌≡◌, ◌≢◌, ◌<◌, ◌≤◌, ◌-◌, ◌+◌, ◌*◌, ◌⊎◌, ◌∙◌, inl, inr, false, ℕ, zero, suc, List, [], ◌∷◌, length, map, refl, sym, ap, subst, arith, None, Option, Some, min, slice_get, mul-le-mul_right, suc-mul, Happened, IsCore, IsReached, IsSameRun, IsWord, Shows, TellsChange, given_of, left_in, IsStill, after_of, queues_of, IsLow, KeepsBelow, RestBelow, Rests, SeesNothing, Serves, Touches, left_behind, link_at, link_by, link_of, next_link, Core, some_at, at_most_or, Actor, code_of, ModelCore, Given, acted, items_on, looked, stepped, Act, Look, NamesWithin, IsAccepted, PlanView, Step, StepKind, Do, Send, Receive, Report, Collect, Commit, LinkInfo, step_names, step_coded, LinkQueue, actor_of, ClusterState, same_Some}
-use Rattle.sig_core.proofs.WhatIsLeft.{get_map}
+use Rattle.sig_core.proofs.Common.{◌≡◌, ◌≢◌, ◌<◌, ◌≤◌, ◌-◌, ◌+◌, ◌*◌, ◌⊎◌, ◌∙◌, inl, inr, false, ℕ, zero, suc, List, [], ◌∷◌, length, map, refl, sym, ap, subst, arith, None, Option, Some, min, slice_get, mul-le-mul_right, suc-mul, Happened, IsCore, IsReached, IsSameRun, IsWord, Shows, TellsChange, given_of, left_in, IsStill, after_of, queues_of, IsLow, KeepsBelow, RestBelow, Rests, SeesNothing, Serves, Touches, left_behind, link_at, link_by, link_of, next_link, Core, at_most_or, Actor, code_of, ModelCore, Given, acted, items_on, looked, stepped, Act, Look, NamesWithin, IsAccepted, PlanView, Step, StepKind, Do, Send, Receive, Report, Collect, Commit, LinkInfo, step_names, step_coded, LinkQueue, actor_of, ClusterState, same_Some, get_map, some_at}
 use Rattle.sig_core.proofs.ActorsAtRest.{act_rests, has_end, look_rests}
 use Rattle.sig_core.proofs.FailureWord.{word_once}
 
@@ -85,10 +84,6 @@ module _ (old new : Core) (is : IsCore old) (same : IsSameRun old new) (accepted
 -- what rests in one state of a core rests in each
 pub rests_in : (c : Core) → IsCore c → IsAccepted c.plan.now → (m : ModelCore) → Shows m c → (i : ℕ) → IsStill c m i → Rests c i
 rests_in c is accepted m shows i before n shows_n = still_on c c is refl accepted m shows refl i refl (λ j names. refl) n shows_n before
-
-pub looks_in : (c : Core) → IsCore c → IsAccepted c.plan.now → (m : ModelCore) → Shows m c → (i : ℕ) → stepped (given_of c) m (Look i) ≡ m
-    → (n : ModelCore) → Shows n c → stepped (given_of c) n (Look i) ≡ n
-looks_in c is accepted m shows i before n shows_n = look_on c c is refl accepted m shows refl i refl (λ j names. refl) n shows_n before
 
 -- an actor that an event of another one does not touch rests on
 pub rests_on : (old new : Core) → IsCore old → IsSameRun old new → IsAccepted old.plan.now → (m : ModelCore) → Shows m old → (k : ℕ) (link : Option ℕ) → Touches k link old new → new.word ≡ old.word

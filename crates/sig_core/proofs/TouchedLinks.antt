@@ -1,6 +1,5 @@
 -- A step of an actor touches no other actor, and no link but that of its step.
-use Rattle.sig_core.proofs.Common.{◌≡◌, ◌≢◌, ◌∙◌, inl, inr, ℕ, List, sym, ap, subst, Option, Some, slice_get, TakesTurnAt, IsCore, given_of, queues_of, Touches, link_by, next_link, Core, Kernel, AtLimit, Commits, Fails, Goes, Puts, Stopped, Takes, Turn, turn, IsAccepted, Acts, Asked, FoundEmpty, FoundFull, Nothing, Popped, Pushed, Queues, QueuesGoOn, actor_of, Acted, ClusterState}
-use Rattle.sig_core.proofs.QueueItems.{set_past}
+use Rattle.sig_core.proofs.Common.{◌≡◌, ◌≢◌, ◌∙◌, inl, inr, ℕ, List, sym, ap, subst, Option, Some, slice_get, TakesTurnAt, IsCore, given_of, queues_of, Touches, link_by, next_link, Core, Kernel, AtLimit, Commits, Fails, Goes, Puts, Stopped, Takes, Turn, turn, IsAccepted, Acts, Asked, FoundEmpty, FoundFull, Nothing, Popped, Pushed, Queues, QueuesGoOn, actor_of, Acted, ClusterState, get_set_other}
 use Rattle.sig_core.proofs.ActorsAtRest.{UsesLink, turn_uses}
 use Rattle.sig_core.proofs.CoreSteps.{acts, goes}
 
@@ -21,7 +20,7 @@ module _ (kernel : Kernel) (named : Option ℕ) (acted : Acted) (old new : Clust
 
 pub turn_touches : (old mid : Core) → IsCore old → IsAccepted old.plan.now → (k : ℕ) (acted : Acted) → TakesTurnAt k acted old mid → Touches k (next_link old k) old mid
 turn_touches old mid is accepted k acted took = record {
-  states = λ i other. ap (λ (xs : List ClusterState). slice_get xs i) took.is ∙ set_past old.states.items k took.next i other;
+  states = λ i other. ap (λ (xs : List ClusterState). slice_get xs i) took.is ∙ get_set_other old.states.items k i took.next other;
   links = λ j apart. others_stay old.plan.now.kernel (next_link old k) acted took.before took.next (queues_of old.lists) (queues_of mid.lists)
       (turn old.plan.now old.inputs.now old.limit k (actor_of took.before))
       (subst (λ o. UsesLink (link_by old.plan.now k o) (turn old.plan.now old.inputs.now old.limit k (actor_of took.before))) (sym took.at) (turn_uses (given_of old) k (actor_of took.before)))

@@ -1,8 +1,6 @@
 -- Steps of an actor over links under watch, as turns of a core.
-use Rattle.sig_core.proofs.Common.{◌≡◌, ◌<◌, ◌≤◌, ◌∙◌, inl, inr, ℕ, zero, suc, ℤ, List, [], ◌∷◌, length, set, refl, sym, ap, subst, arith, Some, slice_get, with_item, TakesTurnAt, IsCore, given_of, DoesTurns, KeepsBelow, TakesTurns, link_by, next_link, Lists, Core, IsAccepted, PlanView, same_or_not, set_here, DoesStep, DoesSteps, IsSameAndQuiet, ActsUnder, IsPassed, IsQuiet, IsSameWatch, IsWatchEmpty, IsWatchFull, IsWatchOf, held_by, lesser_link, untold, Watch, queues_of, QueuesGoOn, Acted, Done, ClusterState}
-use Rattle.sig_core.proofs.GoingOn.{core_on}
+use Rattle.sig_core.proofs.Common.{◌≡◌, ◌<◌, ◌≤◌, ◌∙◌, inl, inr, ℕ, zero, suc, ℤ, List, [], ◌∷◌, length, set, refl, sym, ap, subst, arith, Some, slice_get, with_item, TakesTurnAt, IsCore, given_of, DoesTurns, KeepsBelow, TakesTurns, link_by, next_link, Lists, Core, IsAccepted, PlanView, DoesStep, DoesSteps, IsSameAndQuiet, ActsUnder, IsPassed, IsQuiet, IsSameWatch, IsWatchEmpty, IsWatchFull, IsWatchOf, held_by, lesser_link, untold, Watch, queues_of, QueuesGoOn, Acted, Done, ClusterState, cases_eq, get_set_other, set_here}
 use Rattle.sig_core.proofs.WhatIsLeft.{set_there}
-use Rattle.sig_core.proofs.QueueItems.{set_past}
 use Rattle.sig_core.proofs.RunningOut.{accepted_on}
 use Rattle.sig_core.proofs.ServedActors.{at_end}
 
@@ -47,9 +45,6 @@ module _ (old : Core) (is : IsCore old) (accepted : IsAccepted old.plan.now) (k 
   })
 
   module _ (n : ℕ) (mid : ClusterState) (w v : Watch) (b : Between n mid w) (same : IsSameWatch w v) (new : Core) (lists_is : new.lists ≡ v.lists) where
-    is_core : IsCore b.core
-    is_core = (core_on old is accepted k n b.core b.done).0
-
     accepted_here : IsAccepted b.core.plan.now
     accepted_here = accepted_on old b.core (ap given_of b.stays) accepted
 
@@ -73,7 +68,7 @@ module _ (old : Core) (is : IsCore old) (accepted : IsAccepted old.plan.now) (k 
         let below : i < k = omega (arith, lt, le) in
         let states : slice_get v.lesser.now i ≡ slice_get b.core.states.items i =
         ap (λ (x : Watch). slice_get x.lesser.now i) v_is ∙ begins.lesser i below
-        ∙ sym (ap (λ (xs : List ClusterState). slice_get xs i) b.items ∙ set_past old.states.items k mid i (λ e. omega (arith, e, below))) in
+        ∙ sym (ap (λ (xs : List ClusterState). slice_get xs i) b.items ∙ get_set_other old.states.items k i mid (λ e. omega (arith, e, below))) in
         ap (λ o. link_by v.plan.now i o) states ∙ ap (λ (p : PlanView). link_by p i (slice_get b.core.states.items i)) plan_v
 
     passed : (i link : ℕ) → i < v.low → next_link b.core i ≡ Some link → (end : ℕ) → i ≡ end → IsPassed v end link → ⊥
@@ -84,7 +79,7 @@ module _ (old : Core) (is : IsCore old) (accepted : IsAccepted old.plan.now) (k 
         ap (λ (l : Lists). queues_of l j) lists_is
         ∙ elim same.used [
           | inl unused ↦ unused.links j
-          | inr (link, used) ↦ elim (same_or_not j link) [
+          | inr (link, used) ↦ elim (cases_eq j link) [
             | inr apart ↦ used.others j apart
             | inl here ↦
                 let names_link : next_link b.core i ≡ Some link = names ∙ ap (λ m. Some m) here in

@@ -51,8 +51,3 @@ pub set_there : {X : Type 0} (xs : List X) (k : ℕ) (x : X) → slice_get xs k 
 set_there [] k x at = refl
 set_there (y ∷ xs) zero x at = ap (λ z. z ∷ xs) (sym (same_Some y x at))
 set_there (y ∷ xs) (suc k) x at = ap (λ ys. y ∷ ys) (set_there xs k x at)
-
-pub get_map : {X Y : Type 0} (f : X → Y) (xs : List X) (k : ℕ) (x : X) → slice_get xs k ≡ Some x → slice_get (map f xs) k ≡ Some (f x)
-get_map f [] k x at = absurd (let e : None ≡ Some x = at in cc)
-get_map f (y ∷ xs) zero x at = ap (λ z. Some (f z)) (same_Some y x at)
-get_map f (y ∷ xs) (suc k) x at = get_map f xs k x at

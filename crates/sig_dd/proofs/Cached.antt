@@ -1,8 +1,7 @@
 -- The cache keeps right results, whatever is asked of it and put into it.
-use Rattle.sig_dd.proofs.Common.{◌≡◌, ℕ, Bool, true, List, ◌++◌, inl, inr, Option, None, Some, IfSome, Result, Ok, Err, OnOk, OnErr, sym, subst, eqb, ◌&&◌, eqb-true, lookup, LruCache, lru_cache, put_entries, Contains-lookup, Contains-put_entries, IsCache, question_of, HoldsAll, IsAnswer, Node, Ref}
+use Rattle.sig_dd.proofs.Common.{◌≡◌, ℕ, Bool, true, List, ◌++◌, inl, inr, Option, None, Some, IfSome, Result, Ok, Err, OnOk, OnErr, sym, subst, eqb, ◌&&◌, eqb-true, lookup, LruCache, lru_cache, put_entries, Contains-lookup, Contains-put_entries, IsCache, question_of, HoldsAll, IsAnswer, Node, Ref, and_first, and_second}
 use Rattle.sig_dd.specs.declared.cache.Choice.{Choice}
 use Rattle.sig_dd.proofs.Canonical.{same_ref}
-use Rattle.sig_dd.proofs.Growth.{and_left, and_right}
 use Rattle.sig_dd.proofs.Kept.{HoldsAll-append, IsAnswer-append}
 
 -- `==` of choices
@@ -11,10 +10,10 @@ choice_eq c d = eqb c.first.number d.first.number && (eqb c.second.number d.seco
 
 choice_eq-same : (c d : Choice) → choice_eq c d ≡ true → c ≡ d
 choice_eq-same c d e =
-    let rest = and_right _ _ e in
-    let a = same_ref c.first d.first (eqb-true _ _ (and_left _ _ e)) in
-    let b = same_ref c.second d.second (eqb-true _ _ (and_left _ _ rest)) in
-    let z = same_ref c.third d.third (eqb-true _ _ (and_right _ _ rest)) in
+    let rest = and_second _ _ e in
+    let a = same_ref c.first d.first (eqb-true _ _ (and_first _ _ e)) in
+    let b = same_ref c.second d.second (eqb-true _ _ (and_first _ _ rest)) in
+    let z = same_ref c.third d.third (eqb-true _ _ (and_second _ _ rest)) in
     λ j. record { first = a j; second = b j; third = z j }
 
 pub IsCache-append : (old more : List Node) (entries : List (Choice × Ref)) → IsCache old entries → IsCache (old ++ more) entries

@@ -1,5 +1,5 @@
 -- What a proof above this crate cites: what stays as a store grows, and on what made functions depend.
-use Rattle.sig_dd.proofs.Common.{◌≡◌, ◌≢◌, ℕ, Bool, true, false, List, [], ◌++◌, ◌⊎◌, inl, inr, refl, sym, ◌∙◌, ap, subst, append_assoc, arith, true≢false, Contains, false≢true, append-nil, with_truth, Depends, Agree, StoreView, IsStore, Holds, Keeps, IsRefOf, Spans, test, Ref, Node}
+use Rattle.sig_dd.proofs.Common.{◌≡◌, ℕ, Bool, true, false, List, [], ◌++◌, ◌⊎◌, inl, inr, refl, sym, ◌∙◌, ap, subst, append_assoc, arith, Contains, append-nil, with_truth, Depends, Agree, StoreView, IsStore, Holds, Keeps, IsRefOf, Spans, test, Ref, Node, same_truth}
 use Rattle.sig_dd.proofs.Canonical.{one_ref}
 use Rattle.sig_dd.proofs.Functions.{test-kept, Spans-append}
 use Rattle.sig_dd.proofs.Growth.{Holds-append}
@@ -41,12 +41,6 @@ IsRefOf-kept old new kept f r is = record {
 -- a reference depends on what its function depends on
 pub Spans-of : (nodes : List Node) (f : List Bool → Bool) (r : Ref) → IsRefOf nodes f r → (vs : List ℕ) → ((v : ℕ) → Depends f v → Contains vs v) → Spans nodes r vs
 Spans-of nodes f r is vs only v (ts, ne) = only v (ts, λ e. ne (is.function _ ∙ e ∙ sym (is.function _)))
-
-pub same_truth : (x y : Bool) → (x ≡ y) ⊎ (x ≢ y)
-same_truth true true = inl refl
-same_truth true false = inr true≢false
-same_truth false true = inr false≢true
-same_truth false false = inl refl
 
 -- a function of two functions depends on what one of them depends on
 pub Depends-of_two : (op : Bool → Bool → Bool) (f g : List Bool → Bool) (v : ℕ) → Depends (λ ts. op (f ts) (g ts)) v → Depends f v ⊎ Depends g v

@@ -12,7 +12,7 @@ pub use Rattle.std.proofs.lemmas.Map.Lookups.{exact_unsigned}
 pub use Rattle.std.proofs.lemmas.Map.Views.{btree_set_contains_iff}
 pub use Rattle.std.proofs.lemmas.Nat.Bits.{bit_at-lt, bit_at-zero, bit_at_or, bit_at_set_other, bit_at_set_same}
 pub use Rattle.std.proofs.lemmas.Option.{get_or_from_slice_get, slice_get-get_or, slice_get-map, slice_get_within}
-pub use Rattle.std.proofs.lemmas.Result.{IfErr-at_err}
+pub use Rattle.std.proofs.lemmas.Result.{IfErr-at_err, IfOk-weaker}
 pub use Rattle.std.specs.BTreeMap.{is_at}
 pub use Rattle.std.specs.BTreeSet.{contains}
 pub use Rattle.std.specs.HashMap.{get}
@@ -24,17 +24,18 @@ pub use Rattle.std.specs.declared.cmp.Ordering.TheVariants.{Equal, Greater, Less
 pub use Rattle.indexmap.specs.IndexSet.{insert_key}
 pub use Rattle.lru.specs.LruCache.{LruCache, lru_cache, put_entries}
 pub use Rattle.lru.proofs.CallerLemmas.{Contains-lookup, Contains-put_entries}
+pub use Rattle.sig_lists.proofs.Joined.{empty_more, get_before, get_last}
+pub use Rattle.sig_lists.proofs.Places.{read_or_empty}
+pub use Rattle.sig_lists.proofs.Truths.{and_first, and_second, same_truth}
 pub use Rattle.sig_dd.specs.Cache.{IsCache, question_of}
 pub use Rattle.sig_dd.specs.Diagram.{Agree, Choice, Constant, Depends, Diagram, truth_of}
 unfoldable pub use Rattle.sig_dd.specs.Diagram.{StartsFrom, Tests, value_at, visited, with_truth}
-pub use Rattle.sig_dd.specs.inner.Meets.{HoldsPair, IsPairSplit, Meets, pair_weight}
 pub use Rattle.sig_dd.specs.Nodes.{Holds, Implies, IsChoice, IsFull, IsNodeAt, IsReduced, IsRefOf, IsStore, Keeps, Spans, StoreView, allowance, node_numbered, node_of, test}
 unfoldable pub use Rattle.sig_dd.specs.Nodes.{diagram, diagrams, with_node}
 pub use Rattle.sig_dd.specs.Operand.{IsOperand, earlier_of, side_of}
 pub use Rattle.sig_dd.specs.Products.{AgreeBut, AreProducts, IsJoined, IsPairProduct, IsPairSide, IsProduct, IsProductSplit, MeetWithout, PairTests, PairTestsOnly}
 unfoldable pub use Rattle.sig_dd.specs.Products.{product_room}
 pub use Rattle.sig_dd.specs.Question.{AllStartFrom, HasVariable, HoldsAll, IsAnswer, IsHalf, IsSide, IsSplit, IsStep, IsTable, SomeHas, SomeTests, TestsOnly, asked, weight}
-pub use Rattle.sig_dd.specs.inner.Renaming.{AreRenamed, IsChoiceBy, IsRenamed, RefTestsOnly, truth_in}
 pub use Rattle.sig_dd.specs.Shares.{HasAll, HoldAll, IsRefused, Share, Shares, SpanAll, Trail, refusal}
 pub use Rattle.sig_dd.specs.Supports.{AreMasks, AreTestedBelow, HasBit, IsMask, IsSupport, IsTestedBelow, added}
 pub use Rattle.sig_dd.specs.Walks.{Asks, IsIdle}
@@ -51,3 +52,5 @@ pub use Rattle.sig_dd.specs.declared.question.Question.TheVariants.{Fix, Pick}
 pub use Rattle.sig_dd.specs.declared.question.Split.{Split}
 pub use Rattle.sig_dd.specs.declared.question.Step.{Step}
 pub use Rattle.sig_dd.specs.declared.question.Step.TheVariants.{Known, Open}
+pub use Rattle.sig_dd.specs.inner.Meets.{HoldsPair, IsPairSplit, Meets, pair_weight}
+pub use Rattle.sig_dd.specs.inner.Renaming.{AreRenamed, IsChoiceBy, IsRenamed, RefTestsOnly, truth_in}

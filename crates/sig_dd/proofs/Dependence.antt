@@ -1,6 +1,6 @@
 -- On what functions of others depend.
-use Rattle.sig_dd.proofs.Common.{◌≡◌, ◌≢◌, ℕ, ◌≤◌, Bool, true, false, List, [], ◌⊎◌, inl, inr, refl, sym, ◌∙◌, ap, subst, ◌||◌, IsTrue, length, if◌then◌else◌, arith, false≢true, cases_eq, pow_mono, truth_of, with_truth, Depends, allowance, diagram, test, IsRefOf, Ref, Node}
-use Rattle.sig_dd.proofs.CallerLemmas.{Depends-of_two, same_truth}
+use Rattle.sig_dd.proofs.Common.{◌≡◌, ◌≢◌, ℕ, ◌≤◌, Bool, true, false, List, [], ◌⊎◌, inl, inr, refl, sym, ◌∙◌, ap, subst, ◌||◌, IsTrue, length, if◌then◌else◌, arith, false≢true, cases_eq, pow_mono, truth_of, with_truth, Depends, allowance, diagram, test, IsRefOf, Ref, Node, same_truth}
+use Rattle.sig_dd.proofs.CallerLemmas.{Depends-of_two}
 use Rattle.sig_dd.proofs.Functions.{fixed_twice}
 use Rattle.sig_dd.proofs.Trees.{truth_of-with_same, truth_of-with_other, value_at-same, with_truth-swap}
 

@@ -1,13 +1,9 @@
 -- From the questions of the recursion to the functions of the calls.
-use Rattle.sig_dd.proofs.Common.{◌≡◌, ℕ, Bool, true, false, not, ◌&&◌, ◌||◌, List, inl, inr, Result, Ok, Err, IfOk, refl, sym, ◌∙◌, ap, subst, arith, cond, if◌then◌else◌, Contains, IsTrue, true≢false, value_at, truth_of, with_truth, StartsFrom, Tests, Agree, Holds, diagram, test, IsReduced, Keeps, StoreView, IsRefOf, IsChoice, Spans, Implies, HoldsAll, asked, IsAnswer, TestsOnly, Ref, Node, Question, Pick, Fix, cases_eq}
+use Rattle.sig_dd.proofs.Common.{◌≡◌, ℕ, Bool, true, false, not, ◌&&◌, ◌||◌, List, inl, inr, refl, sym, ◌∙◌, ap, subst, arith, cond, if◌then◌else◌, Contains, IsTrue, true≢false, value_at, truth_of, with_truth, StartsFrom, Tests, Agree, Holds, diagram, test, IsReduced, Keeps, StoreView, IsRefOf, IsChoice, Spans, Implies, HoldsAll, asked, IsAnswer, TestsOnly, Ref, Node, Question, Pick, Fix, cases_eq}
 use Rattle.sig_dd.proofs.Trees.{Depends-tests, value_at-same, truth_of-with_same, truth_of-with_other, with_truth-swap}
 use Rattle.sig_dd.proofs.Listed.{diagram-true, diagram-false}
 use Rattle.sig_dd.proofs.Canonical.{proper, one_ref}
 use Rattle.sig_dd.proofs.Kept.{asked-append, test-append}
-
-pub IfOk-weaker : {T E : Type 0} (P Q : T → Type 0) (r : Result T E) → ((x : T) → P x → Q x) → IfOk r P → IfOk r Q
-IfOk-weaker P Q (Ok x) f h = f x h
-IfOk-weaker P Q (Err e) f h = tt
 
 -- the answer of a question is the function that it asks for
 pub IsRefOf-answer : (old new : StoreView) → Keeps old new → (q : Question) → HoldsAll old.nodes q → (r : Ref) → IsAnswer new.nodes q r → IsRefOf new.nodes (asked old.nodes q) r

@@ -1,28 +1,19 @@
 -- A list of nodes that grows by one node stays reduced.
-use Rattle.sig_dd.proofs.Common.{◌≡◌, ◌≢◌, ℕ, zero, suc, ◌+◌, ◌<◌, ◌≤◌, ◌^◌, Bool, true, false, List, [], ◌∷◌, ◌++◌, ◌⊎◌, inl, inr, Option, None, Some, IfSome, length, slice_get, refl, sym, ◌∙◌, ap, subst, arith, if◌then◌else◌, ◌||◌, true≢false, eqb, ◌&&◌, position, get_or, cases_lt, eqb-true, eqb-false, eq-eqb, length_push, length-append, append-nil, slice_get_within, slice_get-get_or, position-Some, value_at, truth_of, StartsFrom, Holds, node_numbered, node_of, diagram, test, IsNodeAt, IsReduced, IsStore, IsChoice, Ref, Node, insert_key, list_any}
+use Rattle.sig_dd.proofs.Common.{◌≡◌, ◌≢◌, ℕ, zero, suc, ◌+◌, ◌<◌, ◌≤◌, Bool, true, false, List, [], ◌∷◌, ◌++◌, ◌⊎◌, inl, inr, Option, None, Some, IfSome, length, slice_get, refl, sym, ◌∙◌, ap, subst, arith, if◌then◌else◌, ◌||◌, true≢false, eqb, ◌&&◌, position, get_or, cases_lt, eqb-true, eqb-false, eq-eqb, length_push, length-append, append-nil, slice_get_within, slice_get-get_or, position-Some, value_at, truth_of, StartsFrom, Holds, node_numbered, node_of, diagram, test, IsNodeAt, IsReduced, IsStore, IsChoice, Ref, Node, insert_key, list_any, get_before, get_last, and_first, and_second}
 use Rattle.sig_dd.proofs.Trees.{value_at-choice, StartsFrom-weaker}
 use Rattle.sig_dd.proofs.Listed.{diagram-append, diagram-node}
 use Rattle.sig_dd.proofs.Canonical.{node-StartsFrom, same_ref, same_node}
-
-slice_get-append : {X : Type 0} (xs ys : List X) (i : ℕ) → i < length xs → slice_get (xs ++ ys) i ≡ slice_get xs i
-slice_get-append [] ys i lt = absurd (omega arith)
-slice_get-append (x ∷ xs) ys zero lt = refl
-slice_get-append (x ∷ xs) ys (suc i) lt = slice_get-append xs ys i (omega arith)
-
-slice_get-seam : {X : Type 0} (xs : List X) (y : X) → slice_get (xs ++ y ∷ []) (length xs) ≡ Some y
-slice_get-seam [] y = refl
-slice_get-seam (x ∷ xs) y = slice_get-seam xs y
 
 -- what stands in a list with one more element
 slice_get-push_cases : {X : Type 0} (xs : List X) (y : X) (i : ℕ) (x : X) → slice_get (xs ++ y ∷ []) i ≡ Some x → ((i < length xs) × (slice_get xs i ≡ Some x)) ⊎ ((i ≡ length xs) × (x ≡ y))
 slice_get-push_cases xs y i x e =
     elim (cases_lt i (length xs)) [
-      | inl lt ↦ inl (lt, sym (slice_get-append xs (y ∷ []) i lt) ∙ e)
+      | inl lt ↦ inl (lt, sym (get_before xs (y ∷ []) i lt) ∙ e)
       | inr ge ↦
           let within = slice_get_within _ i x e in
           let len : length (xs ++ y ∷ []) ≡ length xs + 1 = length_push xs y in
           let at : i ≡ length xs = omega (arith, len) in
-          let same : Some x ≡ Some y = sym e ∙ ap (slice_get (xs ++ y ∷ [])) at ∙ slice_get-seam xs y in
+          let same : Some x ≡ Some y = sym e ∙ ap (slice_get (xs ++ y ∷ [])) at ∙ get_last xs y in
           inr (at, cc)
     ]
 
@@ -32,7 +23,7 @@ Holds-append nodes more r h = let e = length-append nodes more in omega (arith, 
 numbered-append : (nodes more : List Node) (m : ℕ) → m < length nodes + 2 → node_numbered (nodes ++ more) m ≡ node_numbered nodes m
 numbered-append nodes more zero h = refl
 numbered-append nodes more (suc zero) h = refl
-numbered-append nodes more (suc (suc i)) h = slice_get-append nodes more i (omega arith)
+numbered-append nodes more (suc (suc i)) h = get_before nodes more i (omega arith)
 
 pub node_of-append : (nodes more : List Node) (r : Ref) → Holds nodes r → node_of (nodes ++ more) r ≡ node_of nodes r
 node_of-append nodes more r h = numbered-append nodes more r.number h
@@ -94,21 +85,13 @@ any_at p (m ∷ nodes) (suc i) n e h = ap (λ b. p m || b) (any_at p nodes i n e
 abbrev pub node_eq : Node → Node → Bool
 node_eq m n = eqb m.variable n.variable && (eqb m.low.number n.low.number && eqb m.high.number n.high.number)
 
-pub and_left : (a b : Bool) → (a && b) ≡ true → a ≡ true
-and_left true b h = refl
-and_left false b h = h
-
-pub and_right : (a b : Bool) → (a && b) ≡ true → b ≡ true
-and_right true b h = h
-and_right false b h = absurd (true≢false (sym h))
-
 pub node_eq-same : (m n : Node) → node_eq m n ≡ true → m ≡ n
 node_eq-same m n h =
-    let v = and_left _ _ h in
-    let children = and_right _ _ h in
+    let v = and_first _ _ h in
+    let children = and_second _ _ h in
     same_node m n (eqb-true m.variable n.variable v)
-    (same_ref m.low n.low (eqb-true _ _ (and_left _ _ children)))
-    (same_ref m.high n.high (eqb-true _ _ (and_right _ _ children)))
+    (same_ref m.low n.low (eqb-true _ _ (and_first _ _ children)))
+    (same_ref m.high n.high (eqb-true _ _ (and_second _ _ children)))
 
 pub node_eq-itself : (n : Node) → node_eq n n ≡ true
 node_eq-itself n =

@@ -22,9 +22,9 @@ pub mod RelationalProducts
 pub mod Renamed
 pub mod Supported
 unfoldable pub use Common.*
-pub use CallsInARow.*
 pub use Cached.*
 pub use CallerLemmas.*
+pub use CallsInARow.*
 pub use Canonical.*
 pub use Counts.*
 pub use Dependence.*

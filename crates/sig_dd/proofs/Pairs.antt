@@ -1,15 +1,14 @@
 -- A step of a pair tells whether it meets, or splits it.
-use Rattle.sig_dd.proofs.Common.{◌≡◌, ◌≢◌, ◌↔◌, ℕ, suc, ◌+◌, ◌<◌, Bool, true, false, not, cond, List, ◌⊎◌, inl, inr, None, refl, sym, ◌∙◌, ap, arith, true≢false, IsTrue, eqb, ◌&&◌, false≢true, eqb-true, Constant, value_at, truth_of, with_truth, Holds, node_of, diagram, test, IsReduced, HasVariable, IsSide, HoldsPair, Meets, IsPairSplit, Ref, Node, Pair}
+use Rattle.sig_dd.proofs.Common.{◌≡◌, ◌≢◌, ◌↔◌, ℕ, suc, ◌+◌, ◌<◌, Bool, true, false, not, cond, List, ◌⊎◌, inl, inr, None, refl, sym, ◌∙◌, ap, arith, true≢false, IsTrue, eqb, ◌&&◌, false≢true, eqb-true, Constant, value_at, truth_of, with_truth, Holds, node_of, diagram, test, IsReduced, HasVariable, IsSide, HoldsPair, Meets, IsPairSplit, Ref, Node, Pair, and_first, and_second}
 use Rattle.sig_dd.proofs.Trees.{equal_or_differ, value_at-earlier, truth_of-with_same}
 use Rattle.sig_dd.proofs.Listed.{diagram-true, diagram-false}
 use Rattle.sig_dd.proofs.Canonical.{proper, one_reference, same_ref}
 use Rattle.sig_dd.proofs.Sides.{constant_below}
-use Rattle.sig_dd.proofs.Growth.{and_left, and_right}
 
 pub pair_eq-same : (p q : Pair) → (eqb p.first.number q.first.number && eqb p.second.number q.second.number) ≡ true → p ≡ q
 pair_eq-same p q e =
-    let a = same_ref p.first q.first (eqb-true _ _ (and_left _ _ e)) in
-    let b = same_ref p.second q.second (eqb-true _ _ (and_right _ _ e)) in
+    let a = same_ref p.first q.first (eqb-true _ _ (and_first _ _ e)) in
+    let b = same_ref p.second q.second (eqb-true _ _ (and_second _ _ e)) in
     λ j. record { first = a j; second = b j }
 
 other_truth : (x b : Bool) → x ≢ b → x ≡ not b

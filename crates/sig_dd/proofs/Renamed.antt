@@ -1,10 +1,10 @@
 -- Functions of other variables, and how many nodes they add.
-use Rattle.sig_dd.proofs.Common.{◌≡◌, ◌≢◌, ℕ, zero, suc, ◌+◌, ◌-◌, ◌*◌, ◌^◌, ◌<◌, ◌≤◌, Bool, true, false, List, [], ◌∷◌, inl, inr, None, Some, Option, IfSome, Result, Ok, Err, IfOk, length, map, slice_get, refl, sym, ◌∙◌, ap, subst, arith, Contains, if◌then◌else◌, slice_index_or, HashMap, get, cases_eq, length-map, get_or_from_slice_get, slice_get-get_or, slice_get-map, option_map, add-mul, mul-le-mul, mul-suc, mul_assoc, one-mul, pow-suc, suc-mul, pow_mono, Diagram, Constant, Choice, Depends, Tests, truth_of, value_at, with_truth, Holds, IsFull, IsReduced, IsRefOf, IsStore, Keeps, Spans, StoreView, allowance, diagram, node_of, test, AreRenamed, IsChoiceBy, IsRenamed, RefTestsOnly, truth_in, IsRefused, Share, Shares, SpanAll, refusal, DdAnswer, Budget, OutOfMemory, Node, Ref}
-use Rattle.sig_dd.proofs.CallerLemmas.{Agree-kept, Holds-kept, IsRefOf-kept, Spans-of, same_truth}
+use Rattle.sig_dd.proofs.Common.{◌≡◌, ◌≢◌, ℕ, zero, suc, ◌+◌, ◌-◌, ◌*◌, ◌^◌, ◌<◌, ◌≤◌, Bool, true, false, List, [], ◌∷◌, inl, inr, None, Some, Option, IfSome, Result, Ok, Err, IfOk, length, map, slice_get, refl, sym, ◌∙◌, ap, subst, arith, Contains, if◌then◌else◌, slice_index_or, HashMap, get, cases_eq, length-map, get_or_from_slice_get, slice_get-get_or, slice_get-map, option_map, add-mul, mul-le-mul, mul-suc, mul_assoc, one-mul, pow-suc, suc-mul, pow_mono, Diagram, Constant, Choice, Depends, Tests, truth_of, value_at, with_truth, Holds, IsFull, IsReduced, IsRefOf, IsStore, Keeps, Spans, StoreView, allowance, diagram, node_of, test, AreRenamed, IsChoiceBy, IsRenamed, RefTestsOnly, truth_in, IsRefused, Share, Shares, SpanAll, refusal, DdAnswer, Budget, OutOfMemory, Node, Ref, same_truth, IfOk-weaker}
+use Rattle.sig_dd.proofs.CallerLemmas.{Agree-kept, Holds-kept, IsRefOf-kept, Spans-of}
 use Rattle.sig_dd.proofs.Canonical.{children_held, children_later, proper}
 use Rattle.sig_dd.proofs.Counts.{Contains-without, length-without_contained, without}
 use Rattle.sig_dd.proofs.Dependence.{variable_depends}
-use Rattle.sig_dd.proofs.Functions.{IfOk-weaker, Spans-append}
+use Rattle.sig_dd.proofs.Functions.{Spans-append}
 use Rattle.sig_dd.proofs.Kept.{tests_back}
 use Rattle.sig_dd.proofs.Sides.{names_node}
 use Rattle.sig_dd.proofs.Trees.{Tests-later, truth_of-with_other, value_at-choice}
@@ -133,7 +133,7 @@ module _ (old mid : StoreView) (kept : Keeps old mid) (v : ℕ) (chosen low high
 
   pub choice_made : (o : Option ℕ) → Some v ≡ o → (new : StoreView) (result : Result Ref DdAnswer) → IfOk result (IsRefOf new.nodes (λ ts. if test mid.nodes chosen ts then test mid.nodes high ts else test mid.nodes low ts))
       → IfOk result (IsChoiceBy old.nodes new.nodes o low high)
-  choice_made o same new result made = IfOk-weaker _ _ result (λ r picks. subst (λ o. IsChoiceBy old.nodes new.nodes o low high r) same (chosen_by new r picks)) made
+  choice_made o same new result made = IfOk-weaker result _ _ (λ r picks. subst (λ o. IsChoiceBy old.nodes new.nodes o low high r) same (chosen_by new r picks)) made
 
   -- what the three operands depend on
   pub operands_span : (vs : List ℕ) (o : Option ℕ) → Some v ≡ o → Spans old.nodes low vs → Spans old.nodes high vs → IfSome o (Contains vs) → SpanAll mid.nodes (chosen ∷ high ∷ low ∷ []) vs

@@ -1,5 +1,5 @@
 -- The variables of many functions: masks of blocks, and lists that grow block by block.
-use Rattle.sig_dd.proofs.Common.{◌≡◌, ℕ, zero, suc, ◌+◌, ◌*◌, ◌<◌, ◌≤◌, ◌↔◌, Bool, true, false, List, [], ◌∷◌, ◌++◌, ◌⊎◌, inl, inr, Option, None, Some, IfSome, length, get_or, set, get_or-set_same, get_or-set_other, slice_get, refl, sym, ◌∙◌, ap, subst, arith, IsTrue, Contains, false≢true, cases_eq, cases_lt, length_push, get_or_append_left, get_or_default, get_or_push, get_or_read, get_or_from_slice_get, Contains-push, Contains-push_cases, Contains-append_left, IsStrictlyIncreasing, max, bit_at, bit_or, bit_at_or, bit_at-lt, bit_at-zero, Tests, Holds, node_of, diagram, IsReduced, Ref, Node, HasBit, IsMask, AreMasks, IsTestedBelow, IsSupport, added}
+use Rattle.sig_dd.proofs.Common.{◌≡◌, ℕ, suc, ◌+◌, ◌*◌, ◌<◌, ◌≤◌, ◌↔◌, Bool, true, false, List, [], ◌∷◌, ◌++◌, ◌⊎◌, inl, inr, Option, None, Some, IfSome, length, get_or, set, get_or-set_same, get_or-set_other, slice_get, refl, sym, ◌∙◌, ap, subst, arith, IsTrue, Contains, false≢true, cases_eq, cases_lt, length_push, get_or_append_left, get_or_default, get_or_push, Contains-push, Contains-push_cases, Contains-append_left, IsStrictlyIncreasing, max, bit_at, bit_or, bit_at_or, bit_at-lt, bit_at-zero, Tests, Holds, node_of, diagram, IsReduced, Ref, Node, HasBit, IsMask, AreMasks, IsTestedBelow, IsSupport, added}
 use Rattle.sig_dd.proofs.Canonical.{same_ref}
 use Rattle.sig_dd.proofs.Variables.{constant_tests, node_tests, tests_node, low_below, high_below, Depends-Tests, Tests-Depends}
 
@@ -121,13 +121,6 @@ tested_more nodes bound r list false before tells = record {
   );
 }
 
--- no variable was looked at yet
-pub tested_none : (nodes : List Node) (r : Ref) → IsTestedBelow nodes 0 r []
-tested_none nodes r = record {
-  increasing = λ k lt. absurd (omega arith);
-  exact = λ v. ((λ has. absurd (omega (arith, has.1))), (λ is. absurd (omega (arith, is.0))));
-}
-
 -- all variables were looked at
 pub supported : (nodes : List Node) → IsReduced nodes → (bound : ℕ) (r : Ref) (held : Holds nodes r) → ((v : ℕ) → Tests (diagram nodes r) v → v < bound) → (list : List ℕ) → IsTestedBelow nodes bound r list → IsSupport nodes r list
 supported nodes reduced bound r held within list tested = record {
@@ -137,13 +130,6 @@ supported nodes reduced bound r held within list tested = record {
     (λ depends. let tests = Tests-Depends nodes reduced r held v depends in (tested.exact v).1 (within v tests, tests)),
   );
 }
-
--- one more empty list
-pub empty_more : (lists : List (List ℕ)) → ((i : ℕ) → get_or lists i [] ≡ []) → (i : ℕ) → get_or (lists ++ [] ∷ []) i [] ≡ []
-empty_more [] none zero = refl
-empty_more [] none (suc i) = refl
-empty_more (list ∷ lists) none zero = none 0
-empty_more (list ∷ lists) none (suc i) = empty_more lists (λ k. none (suc k)) i
 
 -- a block was added to one more list
 pub block_more : (nodes : List Node) (bound : ℕ) (roots : List Ref) (lists : List (List ℕ)) (n : ℕ) (new : List ℕ) → n < length lists
@@ -156,10 +142,3 @@ block_more nodes bound roots lists n new lt before here i r less get = elim (cas
       subst (IsTestedBelow nodes bound r) (sym read) (here r (ap (slice_get roots) (sym same) ∙ get))
   | inr differ ↦ subst (IsTestedBelow nodes bound r) (sym (get_or-set_other lists n i new [] differ)) (before i r (omega (arith, less, differ)) get)
 ]
-
--- an element that was read
-pub get_is : {X : Type 0} (xs : List X) (k : ℕ) (x d : X) → slice_get xs k ≡ Some x → get_or xs k d ≡ x
-get_is xs k x d is = get_or_from_slice_get xs k x d is
-
-pub read_at : (xs : List (List ℕ)) (i : ℕ) (x : List ℕ) → i < length xs → x ≡ get_or xs i x → x ≡ get_or xs i []
-read_at xs i x lt is = get_or_read xs i x lt is []

@@ -1,6 +1,5 @@
 -- Where a store holds the guards of operations, each actor has a code.
-use Rattle.sig_deciding.proofs.Common.{◌≡◌, ◌<◌, ◌+◌, ℕ, zero, suc, Bool, true, List, [], ◌∷◌, length, refl, sym, ap, ◌∙◌, subst, arith, Contains, Option, Some, slice_get, slice_index_or, if◌then◌else◌, contains_head, contains_later, get_at, get_within, Choice, Constant, Diagram, value_at, Implies, IsRefOf, diagram, test, Node, Ref, diagram-true, AreCodes, AreSlots, CodeView, ImpliesSlot, Instruction, IsCode, IsLastBelow, IsStepOf, always, instructions_of, unguarded, IsFor, collects, commits, does, receives, reports, sends, Operation, PartsView, Slot, Step, Commit, instruction_for}
-use Rattle.sig_deciding.proofs.DecidedStatements.{dec_as, dec_both, dec_not, dec_number, dec_truth}
+use Rattle.sig_deciding.proofs.Common.{◌≡◌, ◌<◌, ◌+◌, ℕ, zero, suc, Bool, true, List, [], ◌∷◌, length, refl, sym, ap, ◌∙◌, subst, arith, Contains, Option, Some, slice_get, slice_index_or, if◌then◌else◌, Choice, Constant, Diagram, value_at, Implies, IsRefOf, diagram, test, Node, Ref, diagram-true, AreCodes, AreSlots, CodeView, ImpliesSlot, Instruction, IsCode, IsLastBelow, IsStepOf, always, instructions_of, unguarded, IsFor, collects, commits, does, receives, reports, sends, Operation, PartsView, Slot, Step, Commit, instruction_for, value_there, contains_head, contains_later, slice_get-get_or, slice_get_within, map_dec, dec_both, dec_not, dec_number, dec_truth}
 use Rattle.sig_deciding.proofs.ClockFunctionsOfKernel.{Sees}
 use Rattle.sig_deciding.proofs.FirstNumbers.{AreNumbered, numbered_exist}
 use Rattle.sig_deciding.proofs.Precedence.{dec_some_proposal}
@@ -10,7 +9,7 @@ use Rattle.sig_deciding.proofs.Tables.{table, table_get, table_is, table_length}
 -- ---- what one reference implies
 
 pub dec_reference : (f g : Ref) → Dec (f ≡ g)
-dec_reference f g = dec_as (λ same. λ j. record { number = same j }) (λ same. ap (λ (r : Ref). r.number) same) (dec_number f.number g.number)
+dec_reference f g = map_dec (λ same. λ j. record { number = same j }) (λ same. ap (λ (r : Ref). r.number) same) (dec_number f.number g.number)
 
 -- a diagram sees the first truths alone
 diagram_sees : (d : Diagram) → (n : ℕ) × Sees n (value_at d)
@@ -34,7 +33,7 @@ dec_implied nodes f g = at (diagram_sees (diagram nodes f)) (diagram_sees (diagr
 
   at : ((n : ℕ) × Sees n (test nodes f)) → ((n : ℕ) × Sees n (test nodes g)) → Dec (Implies nodes f g)
   at a b =
-      dec_as none_parts (λ implies found. found.1.1 (implies found.0 found.1.0))
+      map_dec none_parts (λ implies found. found.1.1 (implies found.0 found.1.0))
       (dec_not (dec_some_proposal (a.0 + b.0) Parts (λ truths. dec_both (dec_truth (test nodes f truths) true) (dec_not (dec_truth (test nodes g truths) true))) (λ p q agree parts. (
         sym (a.1 p q (λ v less. agree v (omega (arith, less)))) ∙ parts.0,
         (λ is. parts.1 (b.1 p q (λ v less. agree v (omega (arith, less))) ∙ is)),
@@ -56,9 +55,6 @@ refs_exist nodes (first ∷ instructions) held = at (held first (contains_head f
     each (suc k) i is = rest.1.each k i is
 
 -- ---- a code
-
-pub value_there : {X : Type 0} (xs : List X) (k : ℕ) (d x : X) → slice_get xs k ≡ Some x → slice_index_or xs k d ≡ x
-value_there xs k d x is = let e : Some (slice_index_or xs k d) ≡ Some x = sym (get_at xs k d (get_within xs k x is)) ∙ is in cc
 
 module _ (nodes : List Node) (instructions : List Instruction) (refs keys : List Ref) (numbers : List ℕ) (are : AreRefs nodes instructions refs) (numbered : AreNumbered refs keys numbers) where
   abbrev key : ℕ → Ref
@@ -83,17 +79,17 @@ module _ (nodes : List Node) (instructions : List Instruction) (refs keys : List
   steps = table step_at (length instructions)
 
   key_there : (i : ℕ) → i < length keys → slice_get keys i ≡ Some (key i)
-  key_there i less = get_at keys i (record { number = 0 }) less
+  key_there i less = slice_get-get_or keys i (record { number = 0 }) less
 
   -- the number of a step's slot
   number_there : (k : ℕ) → k < length instructions → slice_get numbers k ≡ Some (slice_index_or numbers k 0)
-  number_there k less = let count = numbered.count in let all = are.count in get_at numbers k 0 (omega (arith, less, count, all))
+  number_there k less = let count = numbered.count in let all = are.count in slice_get-get_or numbers k 0 (omega (arith, less, count, all))
 
   step_there : (k i : ℕ) → slice_get numbers k ≡ Some i → (slice_get steps k ≡ Some (step_at k)) × ((step_at k).slot ≡ i)
   step_there k i is =
       let count = numbered.count in
       let all = are.count in
-      let within = get_within numbers k i is in
+      let within = slice_get_within numbers k i is in
       (table_get step_at (length instructions) k (omega (arith, within, count, all)), value_there numbers k 0 i is)
 
   is_step : (k : ℕ) (i : Instruction) → slice_get instructions k ≡ Some i → IsStepOf nodes slots i (step_at k)
@@ -107,7 +103,7 @@ module _ (nodes : List Node) (instructions : List Instruction) (refs keys : List
         kind = ap (λ (x : Instruction). x.kind) same;
         position = ap (λ (x : Instruction). x.position) same;
         slot = slot_at number.0;
-        has = ap (slice_get slots) own ∙ table_get slot_at (length keys) number.0 (get_within keys number.0 held.0 number.2);
+        has = ap (slice_get slots) own ∙ table_get slot_at (length keys) number.0 (slice_get_within keys number.0 held.0 number.2);
         guard = subst (IsRefOf nodes i.guard) (sym guard) held.2;
       }
 

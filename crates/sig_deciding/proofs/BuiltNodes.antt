@@ -1,10 +1,7 @@
 -- A list of nodes that holds some functions: they are built one after another, each by its two sides.
-use Rattle.sig_deciding.proofs.Common.{◌≡◌, ◌<◌, ◌≤◌, ◌+◌, inl, inr, ℕ, zero, suc, Bool, true, false, cond, List, [], ◌∷◌, ◌++◌, length, refl, sym, ap, ◌∙◌, subst, arith, Contains, append-nil, append_assoc, Some, slice_get, if◌then◌else◌, cases_eq, contains_cons, contains_head, contains_later, contains_none, get_within, StartsFrom, truth_of, with_truth, Holds, IsChoice, IsReduced, IsRefOf, diagram, test, Node, Ref, same_node, IsRefOf-constant, IsRefOf-same, starts_false, starts_true, Holds-append, IsChoice-node, IsChoice-same, IsNodeAt-next, IsReduced-push, starts_on, test-append, truth_of-with_other, truth_of-with_same, Guard}
-use Rattle.sig_deciding.proofs.DecidedStatements.{dec_as, dec_both, dec_number, dec_option}
+use Rattle.sig_deciding.proofs.Common.{◌≡◌, ◌<◌, ◌≤◌, ◌+◌, inl, inr, ℕ, zero, suc, Bool, true, false, cond, List, [], ◌∷◌, ◌++◌, length, refl, sym, ap, ◌∙◌, subst, arith, Contains, append-nil, append_assoc, Some, slice_get, if◌then◌else◌, cases_eq, StartsFrom, truth_of, with_truth, Holds, IsChoice, IsReduced, IsRefOf, diagram, test, Node, Ref, same_node, IsRefOf-constant, IsRefOf-same, starts_false, starts_true, Holds-append, IsChoice-node, IsChoice-same, IsNodeAt-next, IsReduced-push, starts_on, test-append, truth_of-with_other, truth_of-with_same, Guard, contains_cons, contains_head, contains_later, contains_none, slice_get_within, get_last, map_dec, dec_both, dec_number, dec_option, searched_below}
 use Rattle.sig_deciding.proofs.ActorCodes.{dec_reference}
 use Rattle.sig_deciding.proofs.ClockFunctionsOfKernel.{Sees}
-use Rattle.sig_deciding.proofs.FirstNumbers.{get_end}
-use Rattle.sig_deciding.proofs.Searchable.{searched_below}
 
 -- ---- functions and their sides
 
@@ -68,7 +65,7 @@ built_constant nodes reduced v f sees = record {
 
 dec_node : (m n : Node) → Dec (m ≡ n)
 dec_node m n =
-    dec_as (λ parts. same_node m n parts.0 parts.1.0 parts.1.1) (λ same. (ap (λ (k : Node). k.variable) same, (ap (λ (k : Node). k.low) same, ap (λ (k : Node). k.high) same)))
+    map_dec (λ parts. same_node m n parts.0 parts.1.0 parts.1.1) (λ same. (ap (λ (k : Node). k.variable) same, (ap (λ (k : Node). k.low) same, ap (λ (k : Node). k.high) same)))
     (dec_both (dec_number m.variable n.variable) (dec_both (dec_reference m.low n.low) (dec_reference m.high n.high)))
 
 module _ (nodes : List Node) (v k : ℕ) (f : Guard) (sees : SeesOnly v (suc k) f) (low : Built nodes (suc v) (side f v false)) (high : Built low.new (suc v) (side f v true)) where
@@ -120,7 +117,7 @@ module _ (nodes : List Node) (v k : ℕ) (f : Guard) (sees : SeesOnly v (suc k) 
     pushed = IsReduced-push mid chosen high.reduced (IsNodeAt-next mid chosen high.reduced low_is.holds high.is.holds apart low_starts high.starts) none
 
     choice : IsChoice mid (mid ++ chosen ∷ []) v low.r high.r (node_ref (length mid))
-    choice = IsChoice-node mid (chosen ∷ []) (length mid) chosen (node_ref (length mid)) pushed low_is.holds high.is.holds (get_end mid chosen) refl
+    choice = IsChoice-node mid (chosen ∷ []) (length mid) chosen (node_ref (length mid)) pushed low_is.holds high.is.holds (get_last mid chosen) refl
 
     new_is : IsRefOf (mid ++ chosen ∷ []) f (node_ref (length mid))
     new_is = from_choice (mid ++ chosen ∷ []) (node_ref (length mid)) choice
@@ -130,7 +127,7 @@ module _ (nodes : List Node) (v k : ℕ) (f : Guard) (sees : SeesOnly v (suc k) 
     at : Dec (low.r ≡ high.r) → Dec ((i : ℕ) × (i < length mid) × (slice_get mid i ≡ Some chosen)) → Built nodes v f
     at (yes same) found = built_same same
     at (no apart) (yes found) = built_old found.0 found.2
-    at (no apart) (no none) = built_new apart (λ i is. none (i, get_within mid i chosen is, is))
+    at (no apart) (no none) = built_new apart (λ i is. none (i, slice_get_within mid i chosen is, is))
 
 built : (k v : ℕ) (f : Guard) → SeesOnly v k f → (nodes : List Node) → IsReduced nodes → Built nodes v f
 built zero v f sees nodes reduced = built_constant nodes reduced v f sees

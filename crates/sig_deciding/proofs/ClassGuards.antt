@@ -1,9 +1,7 @@
 -- Where nodes hold the clock functions of a kernel's signals, they hold the guards of its clocks.
-use Rattle.sig_deciding.proofs.Common.{◌≡◌, ◌<◌, ◌≤◌, ◌⊎◌, inl, inr, ◌↔◌, ℕ, zero, suc, Bool, true, false, List, length, map, get_or, refl, sym, ap, ◌∙◌, subst, arith, Contains, None, Some, slice_get, slice_index, cases_lt, cases_order, length-map, SigId, Allows, IsClockFunction, KeepsTo, HasClocks, AreClocks, AreInOrder, ClocksView, IsLeastOf, guard_of, signal_id, EntersBy, HasLayer, IsRoot, IsSignal, Reaction, Speaks, Status, is_present, status_at, truth_of_status, one_layer, contains_at, at_contained, get_within, IsOrdered, Agree, Depends, with_truth, Holds, IsReduced, IsRefOf, test, Node, Ref, one_ref, truth_of-with_other, Kernel, Guard, get_map, get_some, map_get}
-use Rattle.sig_deciding.proofs.ActorCodes.{dec_reference, value_there}
-use Rattle.sig_deciding.proofs.DecidedStatements.{dec_both, dec_less, dec_not}
+use Rattle.sig_deciding.proofs.Common.{◌≡◌, ◌<◌, ◌≤◌, ◌⊎◌, inl, inr, ◌↔◌, ℕ, zero, suc, Bool, true, false, List, length, map, get_or, refl, sym, ap, ◌∙◌, subst, arith, Contains, None, Some, slice_get, slice_index, cases_lt, cases_order, length-map, SigId, Allows, IsClockFunction, KeepsTo, HasClocks, AreClocks, AreInOrder, ClocksView, IsLeastOf, guard_of, signal_id, EntersBy, HasLayer, IsRoot, IsSignal, Reaction, Speaks, Status, is_present, status_at, truth_of_status, one_layer, IsOrdered, Agree, Depends, with_truth, Holds, IsReduced, IsRefOf, test, Node, Ref, one_ref, truth_of-with_other, Kernel, Guard, at_contained, contains_at, slice_get_within, get_map, map_get, some_at, value_there, dec_lt, dec_both, dec_not, dec_each, first_below, searched_below}
+use Rattle.sig_deciding.proofs.ActorCodes.{dec_reference}
 use Rattle.sig_deciding.proofs.ClockFunctionsOfKernel.{kept, presence_functions, presence_of, presence_sees}
-use Rattle.sig_deciding.proofs.Searchable.{dec_each, first_below, searched_below}
 use Rattle.sig_deciding.proofs.SortedLists.{listed}
 use Rattle.sig_deciding.proofs.Tables.{table, table_at, table_get, table_length}
 
@@ -17,7 +15,7 @@ proposal_of conditions reaction = (
   table truth (length conditions),
   λ v condition is.
       let own : get_or conditions v (signal_id 0) ≡ condition = value_there conditions v (signal_id 0) condition is in
-      subst (Allows (status_at reaction condition.0)) (ap (λ (c : SigId). truth_of_status (status_at reaction c.0)) (sym own) ∙ table_at truth (length conditions) v false (get_within conditions v condition is))
+      subst (Allows (status_at reaction condition.0)) (ap (λ (c : SigId). truth_of_status (status_at reaction c.0)) (sym own) ∙ table_at truth (length conditions) v false (slice_get_within conditions v condition is))
       (allows_own (status_at reaction condition.0)),
 )
   where
@@ -47,11 +45,11 @@ module _ (kernel : Kernel) (has : HasClocks kernel) (conditions : List SigId) (o
   picked s within (no none) = absurd (none within)
 
   pub ref : ℕ → Ref
-  ref s = pick s (dec_less s n)
+  ref s = pick s (dec_lt s n)
 
   ref_is : (s : ℕ) → s < n → IsRefOf nodes (presence s) (ref s)
   unfolding ref
-  ref_is s within = picked s within (dec_less s n)
+  ref_is s within = picked s within (dec_lt s n)
 
   abbrev pick_layer : (s : ℕ) → Dec (s < n) → ℕ
   pick_layer s (yes within) = (has.solved s within).0
@@ -62,11 +60,11 @@ module _ (kernel : Kernel) (has : HasClocks kernel) (conditions : List SigId) (o
   picked_layer s within (no none) = absurd (none within)
 
   pub layer : ℕ → ℕ
-  layer s = pick_layer s (dec_less s n)
+  layer s = pick_layer s (dec_lt s n)
 
   layer_is : (s : ℕ) → s < n → HasLayer kernel s (layer s)
   unfolding layer
-  layer_is s within = picked_layer s within (dec_less s n)
+  layer_is s within = picked_layer s within (dec_lt s n)
 
   same_function : (s t : ℕ) → s < n → t < n → ref s ≡ ref t → (proposal : List Bool) → presence s proposal ≡ presence t proposal
   same_function s t within_s within_t same proposal = sym ((ref_is s within_s).function proposal) ∙ ap (λ r. test nodes r proposal) same ∙ (ref_is t within_t).function proposal
@@ -129,7 +127,7 @@ module _ (kernel : Kernel) (has : HasClocks kernel) (conditions : List SigId) (o
   IsLeader a = (a < n) × ((t : ℕ) → t < a → ref t ≡ ref a → ⊥)
 
   dec_leader : (a : ℕ) → Dec (IsLeader a)
-  dec_leader a = dec_both (dec_less a n) (dec_each (λ t. t < a) (searched_below a) (λ t. ref t ≡ ref a → ⊥) (λ t _. dec_not (dec_reference (ref t) (ref a))))
+  dec_leader a = dec_both (dec_lt a n) (dec_each (λ t. t < a) (searched_below a) (λ t. ref t ≡ ref a → ⊥) (λ t _. dec_not (dec_reference (ref t) (ref a))))
 
   leader_of : (s : ℕ) → s < n → (t : ℕ) × IsLeader t × (ref t ≡ ref s)
   leader_of s within = at (first_below (λ t. ref t ≡ ref s) (λ t. dec_reference (ref t) (ref s)) (suc s)) where
@@ -216,11 +214,11 @@ module _ (kernel : Kernel) (has : HasClocks kernel) (conditions : List SigId) (o
   picked_class s within (no none) = absurd (none within)
 
   pub class : ℕ → ℕ
-  class s = pick_class s (dec_less s n)
+  class s = pick_class s (dec_lt s n)
 
   class_is : (s : ℕ) → s < n → (t : ℕ) × (slice_get firsts (class s) ≡ Some t) × (ref t ≡ ref s)
   unfolding class IsPlaceOf
-  class_is s within = picked_class s within (dec_less s n)
+  class_is s within = picked_class s within (dec_lt s n)
 
   class_from : (s i a : ℕ) → s < n → slice_get firsts i ≡ Some a → ref a ≡ ref s → class s ≡ i
   class_from s i a within at same = let own = class_is s within in one_place (class s) i own.0 a own.1 at (own.2 ∙ sym same)
@@ -245,7 +243,7 @@ module _ (kernel : Kernel) (has : HasClocks kernel) (conditions : List SigId) (o
       place : (0 < class root) ⊎ (class root ≤ 0) → class root ≡ 0
       place (inr none) = omega (arith, none)
       place (inl more) =
-          let first = get_some firsts 0 (omega (arith, more, get_within firsts (class root) t at)) in
+          let first = some_at firsts 0 (omega (arith, more, slice_get_within firsts (class root) t at)) in
           absurd (before first.0 (in_order 0 (class root) first.0 t more first.1 at))
 
   -- ---- clocks
@@ -274,7 +272,7 @@ module _ (kernel : Kernel) (has : HasClocks kernel) (conditions : List SigId) (o
   classes_within : (s : ℕ) → s < n → slice_index clocks.class_of s < length clocks.guard
   classes_within s within =
       let own = class_is s within in
-      let less = get_within firsts (class s) own.0 own.1 in
+      let less = slice_get_within firsts (class s) own.0 own.1 in
       omega (arith, class_at s within, guards_count, less)
 
   least_of : (c a : ℕ) → slice_get firsts c ≡ Some a → IsLeastOf clocks.class_of c a
@@ -310,7 +308,7 @@ module _ (kernel : Kernel) (has : HasClocks kernel) (conditions : List SigId) (o
       omega (arith, one, other)
 
   members : (c : ℕ) → c < length clocks.guard → (s : ℕ) × IsLeastOf clocks.class_of c s
-  members c less = let found = get_some firsts c (omega (arith, less, guards_count)) in (found.0, least_of c found.0 found.1)
+  members c less = let found = some_at firsts c (omega (arith, less, guards_count)) in (found.0, least_of c found.0 found.1)
 
   guards_held : (c : ℕ) (guard : Ref) → slice_get clocks.guard c ≡ Some guard → Holds nodes guard
   guards_held c guard at = let of = guard_at c guard at in subst (Holds nodes) of.2 (ref_is of.0 (leader_at c of.0 of.1).0).holds
@@ -380,7 +378,7 @@ module _ (kernel : Kernel) (has : HasClocks kernel) (conditions : List SigId) (o
 
   numbers : (c d s t : ℕ) → 1 ≤ c → c < d → d < length clocks.guard → IsLeastOf clocks.class_of c s → IsLeastOf clocks.class_of d t
       → (slice_index clocks.layer c < slice_index clocks.layer d) ⊎ ((slice_index clocks.layer c ≡ slice_index clocks.layer d) × (s < t))
-  numbers c d s t later less within is_s is_t = by (get_some firsts c (omega (arith, less, within, guards_count))) (get_some firsts d (omega (arith, within, guards_count))) where
+  numbers c d s t later less within is_s is_t = by (some_at firsts c (omega (arith, less, within, guards_count))) (some_at firsts d (omega (arith, within, guards_count))) where
     by : ((a : ℕ) × (slice_get firsts c ≡ Some a)) → ((b : ℕ) × (slice_get firsts d ≡ Some b))
         → (slice_index clocks.layer c < slice_index clocks.layer d) ⊎ ((slice_index clocks.layer c ≡ slice_index clocks.layer d) × (s < t))
     by (a, at_c) (b, at_d) = at (in_order c d a b less at_c at_d) where

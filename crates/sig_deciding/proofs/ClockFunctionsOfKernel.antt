@@ -1,6 +1,6 @@
 -- The clock functions of a kernel that has clocks. They see a proposal as far as there are conditions, and so do
 -- the guards of its operations.
-use Rattle.sig_deciding.proofs.Common.{◌≡◌, ◌<◌, ◌≤◌, ◌⊎◌, inl, inr, ℕ, Bool, false, not, List, [], ◌∷◌, length, refl, sym, ◌∙◌, subst, arith, ◌&&◌, All, cases_lt, All-cons, All-nil, EqId, SigId, Signal, Allows, IsClockFunction, KeepsTo, HasClocks, AreInOrder, signal_id, IsSignal, Reaction, Speaks, is_present, status_at, get_within, one_presence, some_reaction, truth_of, Form, Fun, Delay, When, WhenConst, Default, Sync, Event, Kernel, Guard, Operation, Presence, operations_of, read_of, signals_of, store_of, stores_of, without, writes_of, writing, Writes, OpKind, Compute, DelayRead, Left, Right, Store, each_operation, only}
+use Rattle.sig_deciding.proofs.Common.{◌≡◌, ◌<◌, ◌≤◌, ◌⊎◌, inl, inr, ℕ, Bool, false, not, List, [], ◌∷◌, length, refl, sym, ◌∙◌, subst, arith, ◌&&◌, All, cases_lt, All-cons, All-nil, EqId, SigId, Signal, Allows, IsClockFunction, KeepsTo, HasClocks, AreInOrder, signal_id, IsSignal, Reaction, Speaks, is_present, status_at, one_presence, some_reaction, truth_of, Form, Fun, Delay, When, WhenConst, Default, Sync, Event, Kernel, Guard, Operation, Presence, operations_of, read_of, signals_of, store_of, stores_of, without, writes_of, writing, Writes, OpKind, Compute, DelayRead, Left, Right, Store, each_operation, only, slice_get_within}
 use Rattle.sig_deciding.proofs.SearchedReactions.{absent_beyond, reaction_count}
 
 abbrev pub AgreeBelow : ℕ → List Bool → List Bool → Type 0
@@ -80,7 +80,7 @@ module _ (kernel : Kernel) (has : HasClocks kernel) (conditions : List SigId) (o
     at : (a : Kept p) (b : Kept q) → (x.0 < length kernel.signals) ⊎ (length kernel.signals ≤ x.0) → is_present a.0 x.0 ≡ is_present b.0 x.0
     at a b (inl within) =
         one_presence kernel conditions has order q a.0 b.0 a.1 b.1
-        (λ v condition is. subst (Allows (status_at a.0 condition.0)) (agree v (get_within conditions v condition is)) (a.2 v condition is)) b.2 x.0 within
+        (λ v condition is. subst (Allows (status_at a.0 condition.0)) (agree v (slice_get_within conditions v condition is)) (a.2 v condition is)) b.2 x.0 within
     at a b (inr beyond) = absent a.0 a.1 beyond ∙ sym (absent b.0 b.1 beyond)
 
   pub all_sound : All (IsSound (length conditions)) (operations_of kernel presence_of)

@@ -1,10 +1,9 @@
 -- Operations have no cycle, or they have one, and some operation of it writes a least signal.
-use Rattle.sig_deciding.proofs.Common.{◌≡◌, ◌<◌, ◌⊎◌, inl, inr, ℕ, List, length, subst, refl, All, Some, slice_get, All-contains, SigId, signal_id, contains_at, get_within, Operation, ComesBefore, HasNoCycle, IsCycle, IsOnCycle, Precedes, Reaches, Writes, directly, onward}
+use Rattle.sig_deciding.proofs.Common.{◌≡◌, ◌<◌, ◌⊎◌, inl, inr, ℕ, List, length, subst, refl, All, Some, slice_get, All-contains, SigId, signal_id, Operation, ComesBefore, HasNoCycle, IsCycle, IsOnCycle, Precedes, Reaches, Writes, directly, onward, contains_at, slice_get_within, map_dec, dec_both, dec_found, dec_number, dec_some, searched_below}
 use Rattle.sig_deciding.proofs.StandStill.{dec_least}
-use Rattle.sig_deciding.proofs.DecidedStatements.{dec_as, dec_both, dec_found, dec_number, dec_some}
 use Rattle.sig_deciding.proofs.ClockFunctionsOfKernel.{IsSound}
 use Rattle.sig_deciding.proofs.Precedence.{dec_before}
-use Rattle.sig_deciding.proofs.Searchable.{searched_below, some_least}
+use Rattle.sig_deciding.proofs.Searchable.{some_least}
 
 -- what is reached from a number, by one step after another
 module _ (R : ℕ → ℕ → Type 0) (n : ℕ) (within : (i j : ℕ) → R i j → (i < n) × (j < n)) (last : ℕ) (S : ℕ → Type 0)
@@ -26,12 +25,12 @@ module _ (conditions : List SigId) (operations : List Operation) (sound : All (I
 
   pub dec_precedes : (i j : ℕ) → Dec (Before i j)
   dec_precedes i j =
-      dec_as (λ found. record { p = found.0; q = found.2.0; is = found.1; other = found.2.1; before = found.2.2 }) (λ before. (before.p, before.is, (before.q, before.other, before.before)))
+      map_dec (λ found. record { p = found.0; q = found.2.0; is = found.1; other = found.2.1; before = found.2.2 }) (λ before. (before.p, before.is, (before.q, before.other, before.before)))
       (dec_found (λ (p : Operation). (q : Operation) × (slice_get operations j ≡ Some q) × ComesBefore conditions p q) (slice_get operations i) (λ p is.
       dec_found (ComesBefore conditions p) (slice_get operations j) (λ q other. dec_before conditions p q (sound_at i p is) (sound_at j q other))))
 
   pub precedes_within : (i j : ℕ) → Before i j → (i < length operations) × (j < length operations)
-  precedes_within i j before = (get_within operations i before.p before.is, get_within operations j before.q before.other)
+  precedes_within i j before = (slice_get_within operations i before.p before.is, slice_get_within operations j before.q before.other)
 
   pub dec_reaches : (i last : ℕ) → Dec (Reaches Before i last)
   dec_reaches i last =
@@ -44,9 +43,9 @@ module _ (conditions : List SigId) (operations : List Operation) (sound : All (I
 
   dec_on_cycle : (signal : ℕ) → Dec (IsOnCycle conditions operations signal)
   dec_on_cycle signal =
-      dec_as
+      map_dec
       (λ found. let on = found.2 in record { number = found.0; p = on.0; writes = on.2.0.0; is = on.1; target = on.2.0.1; named = on.2.0.2; cycle = on.2.1 })
-      (λ on. (on.number, get_within operations on.number on.p on.is, (on.p, on.is, ((on.writes, on.target, on.named), on.cycle))))
+      (λ on. (on.number, slice_get_within operations on.number on.p on.is, (on.p, on.is, ((on.writes, on.target, on.named), on.cycle))))
       (searched_below (length operations) (OnCycle signal) (λ number _.
       dec_some (λ (p : Operation). ((x : SigId) × (p.writes ≡ Some x) × (x.0 ≡ signal)) × Reaches Before number number) (slice_get operations number) (λ p.
       dec_both (dec_some (λ (x : SigId). x.0 ≡ signal) p.writes (λ x. dec_number x.0 signal)) (dec_reaches number number))))

@@ -1,26 +1,10 @@
 -- The different elements of a list, in the order in which they are met first, and the number of each.
-use Rattle.sig_deciding.proofs.Common.{◌≡◌, ◌<◌, ◌⊎◌, inl, inr, ℕ, zero, suc, List, [], ◌∷◌, ◌++◌, length, refl, sym, ap, ◌∙◌, subst, arith, append-nil, append_assoc, Some, slice_get, cases_eq, length_push, at_contained, contains_at, get_within}
-use Rattle.sig_deciding.proofs.DecidedStatements.{dec_contains}
+use Rattle.sig_deciding.proofs.Common.{◌≡◌, ◌<◌, ◌⊎◌, inl, inr, ℕ, List, [], ◌∷◌, ◌++◌, length, refl, sym, ap, ◌∙◌, subst, arith, append-nil, append_assoc, Some, slice_get, cases_eq, length_push, get_last, get_pushed, still_at, at_contained, contains_at, slice_get_within, dec_contains}
 
 -- ---- elements of longer lists
 
-get_left : {X : Type 0} (xs ys : List X) (k : ℕ) (x : X) → slice_get xs k ≡ Some x → slice_get (xs ++ ys) k ≡ Some x
-get_left [] ys k x is = cc
-get_left (z ∷ xs) ys zero x is = is
-get_left (z ∷ xs) ys (suc k) x is = get_left xs ys k x is
-
-pub get_end : {X : Type 0} (xs : List X) (x : X) → slice_get (xs ++ x ∷ []) (length xs) ≡ Some x
-get_end [] x = refl
-get_end (z ∷ xs) x = get_end xs x
-
 end_at : {X : Type 0} (xs : List X) (x : X) (k : ℕ) → k ≡ length xs → slice_get (xs ++ x ∷ []) k ≡ Some x
-end_at xs x k same = subst (λ m. slice_get (xs ++ x ∷ []) m ≡ Some x) (sym same) (get_end xs x)
-
-get_pushed : {X : Type 0} (xs : List X) (y : X) (k : ℕ) (z : X) → slice_get (xs ++ y ∷ []) k ≡ Some z → (slice_get xs k ≡ Some z) ⊎ ((k ≡ length xs) × (y ≡ z))
-get_pushed [] y zero z is = let same : y ≡ z = cc in inr (refl, same)
-get_pushed [] y (suc k) z is = cc
-get_pushed (x ∷ xs) y zero z is = inl is
-get_pushed (x ∷ xs) y (suc k) z is = elim (get_pushed xs y k z is) [ inl old ↦ inl old | inr end ↦ inr (ap suc end.0, end.1) ]
+end_at xs x k same = subst (λ m. slice_get (xs ++ x ∷ []) m ≡ Some x) (sym same) (get_last xs x)
 
 -- ---- numbers
 
@@ -39,24 +23,24 @@ module _ {X : Type 0} (xs keys : List X) (numbers : List ℕ) (before : AreNumbe
   earlier_met : (i k e : ℕ) → k ≡ length numbers → e < length keys → (j : ℕ) × (j < k) × (slice_get (numbers ++ i ∷ []) j ≡ Some e)
   earlier_met i k e end less =
       let from = before.used e less in
-      let place = get_within numbers from.0 e from.1 in
-      (from.0, omega (arith, place, end), get_left numbers (i ∷ []) from.0 e from.1)
+      let place = slice_get_within numbers from.0 e from.1 in
+      (from.0, omega (arith, place, end), still_at numbers (i ∷ []) from.0 e from.1)
 
   first_kept : (i k j : ℕ) → slice_get numbers k ≡ Some j → (e : ℕ) → e < j → (m : ℕ) × (m < k) × (slice_get (numbers ++ i ∷ []) m ≡ Some e)
-  first_kept i k j old e less = let from = before.first k j old e less in (from.0, from.1, get_left numbers (i ∷ []) from.0 e from.2)
+  first_kept i k j old e less = let from = before.first k j old e less in (from.0, from.1, still_at numbers (i ∷ []) from.0 e from.2)
 
   number_old : (i : ℕ) → slice_get keys i ≡ Some x → AreNumbered (xs ++ x ∷ []) keys (numbers ++ i ∷ [])
   number_old i at_x = record {
     count = count_more i;
     is = λ k z at_k. elim (get_pushed xs x k z at_k) [
-      | inl old ↦ (let from = before.is k z old in (from.0, get_left numbers (i ∷ []) k from.0 from.1, from.2))
+      | inl old ↦ (let from = before.is k z old in (from.0, still_at numbers (i ∷ []) k from.0 from.1, from.2))
       | inr end ↦ (i, end_at numbers i k (end.0 ∙ sym before.count), at_x ∙ ap Some end.1)
     ];
     differ = before.differ;
-    used = λ j less. let from = before.used j less in (from.0, get_left numbers (i ∷ []) from.0 j from.1);
+    used = λ j less. let from = before.used j less in (from.0, still_at numbers (i ∷ []) from.0 j from.1);
     first = λ k j at_k e less. elim (get_pushed numbers i k j at_k) [
       | inl old ↦ first_kept i k j old e less
-      | inr end ↦ (let same : i ≡ j = end.1 in let within = get_within keys i x at_x in earlier_met i k e end.0 (omega (arith, less, same, within)))
+      | inr end ↦ (let same : i ≡ j = end.1 in let within = slice_get_within keys i x at_x in earlier_met i k e end.0 (omega (arith, less, same, within)))
     ];
   }
 
@@ -73,16 +57,16 @@ module _ {X : Type 0} (xs keys : List X) (numbers : List ℕ) (before : AreNumbe
     number_new = record {
       count = count_more (length keys);
       is = λ k z at_k. elim (get_pushed xs x k z at_k) [
-        | inl old ↦ (let from = before.is k z old in (from.0, get_left numbers (length keys ∷ []) k from.0 from.1, get_left keys (x ∷ []) from.0 z from.2))
-        | inr end ↦ (length keys, end_at numbers (length keys) k (end.0 ∙ sym before.count), get_end keys x ∙ ap Some end.1)
+        | inl old ↦ (let from = before.is k z old in (from.0, still_at numbers (length keys ∷ []) k from.0 from.1, still_at keys (x ∷ []) from.0 z from.2))
+        | inr end ↦ (length keys, end_at numbers (length keys) k (end.0 ∙ sym before.count), get_last keys x ∙ ap Some end.1)
       ];
       differ = new_differ;
       used = λ i less. elim (cases_eq i (length keys)) [
-        | inl same ↦ (length numbers, get_end numbers (length keys) ∙ ap Some (sym same))
+        | inl same ↦ (length numbers, get_last numbers (length keys) ∙ ap Some (sym same))
         | inr apart ↦ (
             let more = length_push keys x in
             let from = before.used i (omega (arith, less, apart, more)) in
-            (from.0, get_left numbers (length keys ∷ []) from.0 i from.1))
+            (from.0, still_at numbers (length keys ∷ []) from.0 i from.1))
       ];
       first = λ k j at_k e less. elim (get_pushed numbers (length keys) k j at_k) [
         | inl old ↦ first_kept (length keys) k j old e less

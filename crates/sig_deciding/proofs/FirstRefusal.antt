@@ -1,10 +1,9 @@
 -- A kernel has clocks, or it is refused for the first reason why it has none.
-use Rattle.sig_deciding.proofs.Common.{◌≡◌, ◌<◌, ◌⊎◌, inl, inr, ℕ, true, false, length, arith, true_from_ne_false, SigId, AreSolved, HasClocks, HasNoRoot, HasRoot, IsAlive, IsMissingRoot, IsOpen, IsPossible, IsPossibleWithout, IsUnsolved, signal_id, IsDead, IsSignal, NeverEnters, Reaction, Speaks, is_present, is_silent, Kernel, Dead, IsRefusedFor, KernelFault, MissingRoot, Pinned, Unsolved}
-use Rattle.sig_deciding.proofs.DecidedStatements.{dec_as, dec_both, dec_less, dec_then, dec_truth}
+use Rattle.sig_deciding.proofs.Common.{◌≡◌, ◌<◌, ◌⊎◌, inl, inr, ℕ, true, false, length, arith, true_from_ne_false, SigId, AreSolved, HasClocks, HasNoRoot, HasRoot, IsAlive, IsMissingRoot, IsOpen, IsPossible, IsPossibleWithout, IsUnsolved, signal_id, IsDead, IsSignal, NeverEnters, Reaction, Speaks, is_present, is_silent, Kernel, Dead, IsRefusedFor, KernelFault, MissingRoot, Pinned, Unsolved, dec_lt, map_dec, dec_both, dec_then, dec_truth, dec_each, searched_below}
 use Rattle.sig_deciding.proofs.PinnedOrFree.{clocks_or_pinned, conditions_ordered}
 use Rattle.sig_deciding.proofs.SearchedReactions.{present_within, reaction_count, searched_speaking, some_present}
 use Rattle.sig_deciding.proofs.Rounds.{solved_or_never}
-use Rattle.sig_deciding.proofs.Searchable.{dec_each, searched_below, some_least}
+use Rattle.sig_deciding.proofs.Searchable.{some_least}
 
 module _ (kernel : Kernel) where
   abbrev IsRefused : Type 0
@@ -13,7 +12,7 @@ module _ (kernel : Kernel) where
   -- ---- some reaction is possible
 
   dec_alive : Dec (IsAlive kernel)
-  dec_alive = dec_as (λ found. (found.0, found.1)) (λ alive. (alive.0, alive.1, tt)) (searched_speaking kernel (λ _. Unit {0}) (λ _ _. yes tt))
+  dec_alive = map_dec (λ found. (found.0, found.1)) (λ alive. (alive.0, alive.1, tt)) (searched_speaking kernel (λ _. Unit {0}) (λ _ _. yes tt))
 
   dead : (IsAlive kernel → ⊥) → IsDead kernel
   dead none reaction is = true_from_ne_false (is_silent reaction) (λ speaks. none (reaction, record { is = is; some = speaks }))
@@ -28,7 +27,7 @@ module _ (kernel : Kernel) where
 
   dec_root : Dec (HasRoot kernel)
   dec_root =
-      dec_as (λ found. (found.0, record { is = found.1; everywhere = found.2 })) (λ root. (root.0, root.1.is, root.1.everywhere))
+      map_dec (λ found. (found.0, record { is = found.1; everywhere = found.2 })) (λ root. (root.0, root.1.is, root.1.everywhere))
       (searched_below (length kernel.signals) Everywhere (λ signal _. dec_everywhere signal))
 
   dec_possible : (signal : ℕ) → Dec (IsPossible kernel signal)
@@ -36,7 +35,7 @@ module _ (kernel : Kernel) where
 
   dec_possible_without : (other signal : ℕ) → Dec (IsPossibleWithout kernel other signal)
   dec_possible_without other signal =
-      dec_as (λ found. (found.0, found.1, found.2.0, found.2.1)) (λ found. (found.0, found.1, (found.2, found.3)))
+      map_dec (λ found. (found.0, found.1, found.2.0, found.2.1)) (λ found. (found.0, found.1, (found.2, found.3)))
       (searched_speaking kernel (λ reaction. (is_present reaction signal ≡ true) × (is_present reaction other ≡ false)) (λ reaction _.
       dec_both (dec_truth (is_present reaction signal) true) (dec_truth (is_present reaction other) false)))
 
@@ -62,7 +61,7 @@ module _ (kernel : Kernel) where
   -- ---- signals that are solved
 
   dec_open : (signal : ℕ) → Dec (IsOpen kernel signal)
-  dec_open signal = dec_then (dec_less signal (length kernel.signals)) (λ within. elim (solved_or_never kernel signal within) [
+  dec_open signal = dec_then (dec_lt signal (length kernel.signals)) (λ within. elim (solved_or_never kernel signal within) [
     | inl solved ↦ no (λ never. never solved.0 solved.1.enters)
     | inr never ↦ yes never
   ])

@@ -1,5 +1,5 @@
 -- An accepted kernel has a plan: a list of nodes holds its guards.
-use Rattle.sig_deciding.proofs.Common.{◌≡◌, ◌<◌, inl, inr, ℕ, List, [], ◌∷◌, ◌++◌, length, map, get_or, refl, sym, ◌∙◌, subst, arith, Contains, All, Some, All-contains, All-cons, All-nil, Contains-append_cases, Contains-append_left, Contains-append_right, SigId, IsClockFunction, HasClocks, AreClocks, AreInOrder, ClocksView, guard_of, signal_id, IsSignal, at_contained, contains_at, contains_head, contains_later, get_at, Holds, IsRefOf, StoreView, Node, Ref, IsValid, Kernel, HasOperations, IsAcceptedKernel, AreOperations, Guard, Operation, operation_in, operations_in, operations_of, presence_in, IsAccepted, PlanView, Op, guard_is, contains_mapped, mapped_from, operations_once}
+use Rattle.sig_deciding.proofs.Common.{◌≡◌, ◌<◌, inl, inr, ℕ, List, [], ◌∷◌, ◌++◌, length, map, get_or, refl, sym, ◌∙◌, subst, arith, Contains, All, Some, All-contains, All-cons, All-nil, Contains-append_cases, Contains-append_left, Contains-append_right, SigId, IsClockFunction, HasClocks, AreClocks, AreInOrder, ClocksView, guard_of, signal_id, IsSignal, Holds, IsRefOf, StoreView, Node, Ref, IsValid, Kernel, HasOperations, IsAcceptedKernel, AreOperations, Guard, Operation, operation_in, operations_in, operations_of, presence_in, IsAccepted, PlanView, Op, guard_is, operations_once, at_contained, contains_at, contains_head, contains_later, contains_mapped, mapped_from, slice_get-get_or}
 use Rattle.sig_deciding.proofs.AcceptedOrRefused.{has_operations}
 use Rattle.sig_deciding.proofs.BuiltNodes.{HoldsEach, nodes_exist}
 use Rattle.sig_deciding.proofs.ClassGuards.{are_clocks, clocks}
@@ -70,7 +70,7 @@ module _ (kernel : Kernel) (valid : IsValid kernel) (has : HasClocks kernel) (co
     functions = λ signal within.
         let class = get_or view.class_of signal 0 in
         let guard = get_or view.guard class (record { number = 0 }) in
-        let there : guard_of view signal ≡ Some guard = get_at view.guard class (record { number = 0 }) (are.classes signal within) in
+        let there : guard_of view signal ≡ Some guard = slice_get-get_or view.guard class (record { number = 0 }) (are.classes signal within) in
         subst (IsClockFunction kernel view.conditions signal) (guard_is view (signal_id signal) guard there nodes) (are.functions signal guard within there);
     are = refl;
   }

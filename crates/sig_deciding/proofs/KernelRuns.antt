@@ -144,8 +144,5 @@ module _ (kernel : Kernel) (plan : PlanView) (planned : IsPlanOf kernel plan) (f
   pub end_of_kernel : IsEnd plan flows limit trace place ended → IsKernelEnd kernel flows limit trace place ended
   end_of_kernel ends = subst (λ (k : Kernel). IsKernelEnd k flows limit trace place ended) planned.same (kernel_end plan planned.accepted flows limit trace place ended ends)
 
-  pub end_of_plan : IsKernelEnd kernel flows limit trace place ended → IsEnd plan flows limit trace place ended
-  end_of_plan ends = plan_end plan planned.accepted flows limit trace place ended (subst (λ (k : Kernel). IsKernelEnd k flows limit trace place ended) (sym planned.same) ends)
-
 pub some_plan : (kernel : Kernel) → IsValid kernel → IsAcceptedKernel kernel → (plan : PlanView) × IsPlanOf kernel plan
 some_plan kernel valid accepted = let plan = accepted_plan kernel valid accepted in (plan.0, record { accepted = plan.1; same = plan.2 })

@@ -1,9 +1,8 @@
 -- Numbers that no relation leads back to themselves have an order.
-use Rattle.sig_deciding.proofs.Common.{◌≡◌, ◌<◌, ◌≤◌, inl, inr, ℕ, zero, suc, List, [], ◌∷◌, ◌++◌, length, get_or, take, refl, sym, ap, ◌∙◌, subst, arith, Contains, slice_index, cases_eq, get_or_append_left, get_or_default, get_or_push, length_push, take-append-le, take_at, IsLeast, IsReady, Reaches, directly, onward, AreTwo, two_are_same}
+use Rattle.sig_deciding.proofs.Common.{◌≡◌, ◌<◌, ◌≤◌, inl, inr, ℕ, zero, suc, List, [], ◌∷◌, ◌++◌, length, get_or, take, refl, sym, ap, ◌∙◌, subst, arith, Contains, slice_index, cases_eq, get_or_append_left, get_or_default, get_or_push, length_push, take-append-le, take_at, IsLeast, IsReady, Reaches, directly, onward, AreTwo, two_are_same, dec_lt, map_dec, dec_both, dec_contains, dec_implies, dec_not, dec_number, dec_each, searched_below}
 use Rattle.sig_plan.specs.Order.{IsOrdered}
 use Rattle.sig_deciding.proofs.Counts.{counted, counted_less}
-use Rattle.sig_deciding.proofs.DecidedStatements.{dec_as, dec_both, dec_contains, dec_implies, dec_less, dec_not, dec_number}
-use Rattle.sig_deciding.proofs.Searchable.{dec_each, searched_below, some_least}
+use Rattle.sig_deciding.proofs.Searchable.{some_least}
 
 dec_taken : (taken : List ℕ) (k : ℕ) → Dec (Contains taken k)
 dec_taken taken k = dec_contains dec_number taken k
@@ -85,8 +84,8 @@ module _ (R : ℕ → ℕ → Type 0) (n : ℕ) (within : (i j : ℕ) → R i j 
 
     dec_ready : (i : ℕ) → Dec (IsReady R n taken i)
     dec_ready i =
-        dec_as (λ parts. record { within = parts.0; left = parts.1.0; free = λ p edge. parts.1.1 p (within p i edge).0 edge }) (λ is. (is.within, (is.left, λ p _ edge. is.free p edge)))
-        (dec_both (dec_less i n) (dec_both (dec_not (dec_taken taken i))
+        map_dec (λ parts. record { within = parts.0; left = parts.1.0; free = λ p edge. parts.1.1 p (within p i edge).0 edge }) (λ is. (is.within, (is.left, λ p _ edge. is.free p edge)))
+        (dec_both (dec_lt i n) (dec_both (dec_not (dec_taken taken i))
         (dec_each (λ p. p < n) (searched_below n) (λ p. R p i → Contains taken p) (λ p _. dec_implies (decide p i) (dec_taken taken p)))))
 
     least_ready : length taken < n → (j : ℕ) × IsLeast (IsReady R n taken) j

@@ -1,10 +1,9 @@
 -- Each list of sound operations has parts: the imports of each actor, and the links.
-use Rattle.sig_deciding.proofs.Common.{◌≡◌, ◌≢◌, ◌<◌, ◌≤◌, ◌+◌, ◌⊎◌, inl, inr, ℕ, zero, suc, List, [], ◌∷◌, ◌++◌, length, map, refl, sym, ap, ◌∙◌, subst, arith, Contains, All, None, Option, Some, slice_index_or, range_with_len, cases_eq, cases_order, All-contains, Contains-append_left, Contains-append_right, SigId, Signal, signal_id, at_contained, contains_at, contains_cons, contains_none, Kernel, Operation, cluster_at, cluster_of, Needs, Writes, AreImports, AreParts, AreSignalLinks, Carries, Imports, used, output, guarded, IsEarlierLink, IsNeededFor, IsOperation, IsOutput, IsUsed, IsWrittenElsewhere, PartsView, cluster_count, report_link, LinkInfo, contains_either, contains_mapped, mapped_from, signal_same}
+use Rattle.sig_deciding.proofs.Common.{◌≡◌, ◌≢◌, ◌<◌, ◌≤◌, ◌+◌, ◌⊎◌, inl, inr, ℕ, zero, suc, List, [], ◌∷◌, ◌++◌, length, map, refl, sym, ap, ◌∙◌, subst, arith, Contains, All, None, Option, Some, slice_index_or, range_with_len, cases_eq, cases_order, All-contains, Contains-append_left, Contains-append_right, SigId, Signal, signal_id, Kernel, Operation, cluster_at, cluster_of, Needs, Writes, AreImports, AreParts, AreSignalLinks, Carries, Imports, used, output, guarded, IsEarlierLink, IsNeededFor, IsOperation, IsOutput, IsUsed, IsWrittenElsewhere, PartsView, cluster_count, report_link, LinkInfo, signal_same, at_contained, contains_at, contains_cons, contains_mapped, contains_none, mapped_from, Contains-append_cases, dec_le, dec_lt, map_dec, dec_both, dec_contains, dec_either, dec_not, dec_number, dec_option, Searched, searched_as, searched_members}
 use Rattle.sig_deciding.proofs.StandStill.{dec_least}
-use Rattle.sig_deciding.proofs.DecidedStatements.{dec_as, dec_both, dec_contains, dec_either, dec_less, dec_most, dec_not, dec_number, dec_option, dec_signal}
+use Rattle.sig_deciding.proofs.DecidedStatements.{dec_signal}
 use Rattle.sig_deciding.proofs.ClockFunctionsOfKernel.{IsSound}
 use Rattle.sig_deciding.proofs.Precedence.{dec_needs}
-use Rattle.sig_deciding.proofs.Searchable.{Searched, searched_as, searched_members}
 use Rattle.sig_deciding.proofs.SortedLists.{below_listed, listed, signals_below, sorted}
 use Rattle.sig_deciding.proofs.Tables.{table, table_at, table_length}
 
@@ -49,18 +48,18 @@ module _ (conditions : List SigId) (operations : List Operation) (sound : All (I
 
   dec_elsewhere : (actor : ℕ) (x : SigId) → Dec (IsWrittenElsewhere operations actor x)
   dec_elsewhere actor x =
-      dec_as (λ found. record { writer = found.0; is = found.1; writes = found.2.0; other = found.2.1 }) (λ elsewhere. (elsewhere.writer, elsewhere.is, (elsewhere.writes, elsewhere.other)))
+      map_dec (λ found. record { writer = found.0; is = found.1; writes = found.2.0; other = found.2.1 }) (λ elsewhere. (elsewhere.writer, elsewhere.is, (elsewhere.writes, elsewhere.other)))
       (searched_operations (λ (p : Operation). Writes p x × (p.cluster ≢ actor)) (λ p _. dec_both (dec_writes p x) (dec_not (dec_number p.cluster actor))))
 
   dec_used : (cluster : ℕ) (x : SigId) → Dec (IsUsed conditions operations cluster x)
   dec_used cluster x =
-      dec_as (λ found. record { user = found.0; is = found.1; own = found.2.0; used = found.2.1 }) (λ uses. (uses.user, uses.is, (uses.own, uses.used)))
+      map_dec (λ found. record { user = found.0; is = found.1; own = found.2.0; used = found.2.1 }) (λ uses. (uses.user, uses.is, (uses.own, uses.used)))
       (searched_operations (λ (p : Operation). (p.cluster ≡ cluster) × (Contains p.reads x ⊎ Needs conditions p x)) (λ p is.
       dec_both (dec_number p.cluster cluster) (dec_either (dec_contains dec_signal p.reads x) (dec_needs conditions p (sound_of p is) x))))
 
   dec_needed_for : (x condition : SigId) → Dec (IsNeededFor conditions operations x condition)
   dec_needed_for x condition =
-      dec_as (λ found. record { writer = found.0; is = found.1; writes = found.2.0; needs = found.2.1 }) (λ needed. (needed.writer, needed.is, (needed.writes, needed.needs)))
+      map_dec (λ found. record { writer = found.0; is = found.1; writes = found.2.0; needs = found.2.1 }) (λ needed. (needed.writer, needed.is, (needed.writes, needed.needs)))
       (searched_operations (λ (p : Operation). Writes p x × Needs conditions p condition) (λ p is. dec_both (dec_writes p x) (dec_needs conditions p (sound_of p is) condition)))
 
   -- ---- imports
@@ -87,8 +86,8 @@ module _ (conditions : List SigId) (operations : List Operation) (sound : All (I
         let x = signal_id k in
         dec_both
         (dec_either
-        (dec_both (dec_less actor (cluster_count kernel.signals)) (dec_used actor x))
-        (dec_both (dec_number actor (cluster_count kernel.signals)) (dec_both (dec_most kernel.inputs x.0) (dec_less x.0 (kernel.inputs + kernel.outputs)))))
+        (dec_both (dec_lt actor (cluster_count kernel.signals)) (dec_used actor x))
+        (dec_both (dec_number actor (cluster_count kernel.signals)) (dec_both (dec_le kernel.inputs x.0) (dec_lt x.0 (kernel.inputs + kernel.outputs)))))
         (dec_elsewhere actor x)
 
     dec_leads : (j k : ℕ) → Dec (Leads j k)
@@ -165,7 +164,7 @@ module _ (signals : List Signal) (imports : List (List SigId)) where
   link_listed : (n : ℕ) → n ≤ length imports → (link : LinkInfo) → Contains (links_below n) link → IsLink link
   unfolding links_to
   link_listed zero most link there = absurd (contains_none link there)
-  link_listed (suc n) most link there = elim (contains_either (links_below n) (links_to n) link there) [
+  link_listed (suc n) most link there = elim (Contains-append_cases (links_below n) (links_to n) link there) [
     | inl earlier ↦ link_listed n (omega (arith, most)) link earlier
     | inr here ↦ at (mapped_from (λ x. link_of x n) (imported_by n) link here)
   ] where

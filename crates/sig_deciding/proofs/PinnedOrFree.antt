@@ -1,8 +1,6 @@
 -- Where each signal is solved, the conditions have an order, and each is free or pinned.
-use Rattle.sig_deciding.proofs.Common.{◌≡◌, ◌<◌, ◌⊎◌, inl, inr, ℕ, Bool, true, not, List, length, sym, ap, ◌∙◌, subst, arith, Contains, Some, slice_get, cases_order, SigId, AreSolved, HasClocks, HasRoot, IsAlive, IsFirstPinned, AreInOrder, is_condition, signal_id, AgreeOn, IsEarlier, IsSolved, IsFree, IsPinned, IsReaction, Reaction, status_at, one_layer, at_contained, get_within, Kernel}
-use Rattle.sig_deciding.proofs.DecidedStatements.{dec_as, dec_both, dec_either, dec_less, dec_not, dec_number, dec_option, dec_some, dec_truth}
+use Rattle.sig_deciding.proofs.Common.{◌≡◌, ◌<◌, ◌⊎◌, inl, inr, ℕ, Bool, true, not, List, length, sym, ap, ◌∙◌, subst, arith, Contains, Some, slice_get, cases_order, SigId, AreSolved, HasClocks, HasRoot, IsAlive, IsFirstPinned, AreInOrder, is_condition, signal_id, AgreeOn, IsEarlier, IsSolved, IsFree, IsPinned, IsReaction, Reaction, status_at, one_layer, Kernel, at_contained, slice_get_within, dec_lt, map_dec, dec_both, dec_either, dec_not, dec_number, dec_option, dec_some, dec_truth, first_below}
 use Rattle.sig_deciding.proofs.SearchedReactions.{condition_is_signal, dec_agree, searched_reactions}
-use Rattle.sig_deciding.proofs.Searchable.{first_below}
 use Rattle.sig_deciding.proofs.SortedLists.{below_listed, listed, signals_below}
 
 -- ---- the order of conditions
@@ -59,7 +57,7 @@ module _ (kernel : Kernel) where
     pub dec_earlier : (b d : ℕ) → is_condition kernel d ≡ true → Dec (IsEarlier kernel b d)
     dec_earlier b d is_d = at (dec_truth (is_condition kernel b) true) where
       by_layers : is_condition kernel b ≡ true → IsSolved kernel b → IsSolved kernel d → Dec (IsEarlier kernel b d)
-      by_layers is_b has_b has_d = dec_as to back (dec_either (dec_less has_b.0 has_d.0) (dec_both (dec_number has_b.0 has_d.0) (dec_less b d))) where
+      by_layers is_b has_b has_d = map_dec to back (dec_either (dec_lt has_b.0 has_d.0) (dec_both (dec_number has_b.0 has_d.0) (dec_lt b d))) where
         to : (has_b.0 < has_d.0) ⊎ ((has_b.0 ≡ has_d.0) × (b < d)) → IsEarlier kernel b d
         to is = record { is = is_b; layer = has_b.0; later_layer = has_d.0; has = has_b.1; later_has = has_d.1; before = is }
 
@@ -109,7 +107,7 @@ module _ (kernel : Kernel) where
 
       dec_pinned_condition : Dec (IsPinned kernel condition)
       dec_pinned_condition =
-          dec_as (λ found. pinned_as found.0 found.2.0 found.1 found.2.1 found.2.2)
+          map_dec (λ found. pinned_as found.0 found.2.0 found.1 found.2.1 found.2.2)
           (λ pinned. (pinned.reaction, pinned.possible, (pinned.truth, pinned.present, (λ others. pinned.forced others.0 others.1 others.2.0 others.2.1))))
           (searched_reactions kernel Forces (λ reaction _. dec_some (λ truth. Others reaction truth → ⊥) (status_at reaction condition) (λ truth. dec_not (dec_others reaction truth))))
 
@@ -165,5 +163,5 @@ module _ (kernel : Kernel) where
           solved = solved;
           free = λ condition is. free_unless condition is (λ pinned.
               let place = place_of conditions order condition is in
-              none place.0 (get_within conditions place.0 (signal_id condition) place.1) (signal_id condition, place.1, pinned));
+              none place.0 (slice_get_within conditions place.0 (signal_id condition) place.1) (signal_id condition, place.1, pinned));
         })

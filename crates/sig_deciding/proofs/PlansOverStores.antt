@@ -1,5 +1,5 @@
 -- An accepted kernel has a plan over each store that holds the guards of its operations.
-use Rattle.sig_deciding.proofs.Common.{◌≡◌, ℕ, List, [], ◌∷◌, length, map, refl, sym, ap, subst, All, Some, slice_get, All-contains, SigId, AreClocks, ClocksView, contains_at, Holds, IsRefOf, IsStore, StoreView, Node, Ref, IsValid, Kernel, HasOperations, IsAcceptedKernel, op_id, AreOperations, Operation, operation_in, operations_in, operations_of, HasNoCycle, IsCompiledOrder, Precedes, AreParts, IsAccepted, PlanView, numbers_of, Op, operations_made_are, map_get, operations_once}
+use Rattle.sig_deciding.proofs.Common.{◌≡◌, ℕ, List, [], ◌∷◌, length, map, refl, sym, ap, subst, All, Some, slice_get, All-contains, SigId, AreClocks, ClocksView, Holds, IsRefOf, IsStore, StoreView, Node, Ref, IsValid, Kernel, HasOperations, IsAcceptedKernel, op_id, AreOperations, Operation, operation_in, operations_in, operations_of, HasNoCycle, IsCompiledOrder, Precedes, AreParts, IsAccepted, PlanView, numbers_of, Op, operations_made_are, operations_once, contains_at, map_get}
 use Rattle.sig_deciding.proofs.AcceptedOrRefused.{has_operations}
 use Rattle.sig_deciding.proofs.ActorCodes.{codes_exist}
 use Rattle.sig_deciding.proofs.CyclesOrNone.{dec_precedes, dec_reaches, precedes_within}

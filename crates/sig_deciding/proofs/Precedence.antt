@@ -1,8 +1,7 @@
 -- Which operations come before which is decided.
-use Rattle.sig_deciding.proofs.Common.{◌≡◌, ◌≢◌, inl, inr, ℕ, zero, suc, Bool, true, false, List, [], ◌∷◌, length, refl, sym, ap, ◌∙◌, subst, arith, Contains, Some, slice_get, cases_eq, EqId, SigId, get_within, Depends, truth_of, with_truth, Guard, Operation, ComesBefore, Decides, DoneTogether, Feeds, Keeps, Needs, OpKind, Compute, DelayRead, Left, Read, Right, Store}
-use Rattle.sig_deciding.proofs.DecidedStatements.{dec_as, dec_both, dec_contains, dec_either, dec_equation, dec_not, dec_option, dec_signal, dec_some, dec_truth}
+use Rattle.sig_deciding.proofs.Common.{◌≡◌, ◌≢◌, inl, inr, ℕ, zero, suc, Bool, true, false, List, [], ◌∷◌, length, refl, sym, ap, ◌∙◌, subst, arith, Contains, Some, slice_get, cases_eq, EqId, SigId, Depends, truth_of, with_truth, Guard, Operation, ComesBefore, Decides, DoneTogether, Feeds, Keeps, Needs, OpKind, Compute, DelayRead, Left, Read, Right, Store, slice_get_within, map_dec, dec_both, dec_contains, dec_either, dec_not, dec_option, dec_some, dec_truth, all_truths, searched_below, searched_lists}
+use Rattle.sig_deciding.proofs.DecidedStatements.{dec_equation, dec_signal}
 use Rattle.sig_deciding.proofs.ClockFunctionsOfKernel.{AgreeBelow, IsSound, Sees}
-use Rattle.sig_deciding.proofs.Searchable.{all_truths, searched_below, searched_lists}
 
 -- ---- proposals
 
@@ -26,7 +25,7 @@ cut_agrees (suc n) (t ∷ p) (suc v) less = cut_agrees n p v (omega (arith, less
 
 pub dec_some_proposal : (n : ℕ) (P : List Bool → Type 0) → ((p : List Bool) → Dec (P p)) → ((p q : List Bool) → AgreeBelow n p q → P p → P q) → Dec ((p : List Bool) × P p)
 dec_some_proposal n P decide same =
-    dec_as (λ found. (found.0, found.2)) (λ found. (cut n found.0, cut_length n found.0, same found.0 (cut n found.0) (cut_agrees n found.0) found.1))
+    map_dec (λ found. (found.0, found.2)) (λ found. (cut n found.0, cut_length n found.0, same found.0 (cut n found.0) (cut_agrees n found.0) found.1))
     (searched_lists all_truths n P (λ p _. decide p))
 
 own_truth : (truths : List Bool) (v : ℕ) (b : Bool) → truth_of (with_truth truths v b) v ≡ b
@@ -77,36 +76,36 @@ is_store Compute delay = no (λ e. cc)
 is_store Left delay = no (λ e. cc)
 is_store Right delay = no (λ e. cc)
 is_store DelayRead delay = no (λ e. cc)
-is_store (Store d) delay = dec_as (ap Store) (λ e. cc) (dec_equation d delay)
+is_store (Store d) delay = map_dec (ap Store) (λ e. cc) (dec_equation d delay)
 
 dec_together : (n : ℕ) (p q : Operation) → Sees n p.guard → Sees n q.guard → Dec (DoneTogether p q)
 dec_together n p q sees_p sees_q =
-    dec_as (λ found. (found.0, found.1.0, found.1.1)) (λ found. (found.0, (found.1, found.2)))
+    map_dec (λ found. (found.0, found.1.0, found.1.1)) (λ found. (found.0, (found.1, found.2)))
     (dec_some_proposal n (λ proposal. (p.guard proposal ≡ true) × (q.guard proposal ≡ true)) (λ proposal. dec_both (dec_truth (p.guard proposal) true) (dec_truth (q.guard proposal) true))
     (λ a b agree both. (sym (sees_p a b agree) ∙ both.0, sym (sees_q a b agree) ∙ both.1)))
 
 module _ (conditions : List SigId) where
   pub dec_needs : (q : Operation) → IsSound (length conditions) q → (condition : SigId) → Dec (Needs conditions q condition)
   dec_needs q sound condition =
-      dec_as (λ found. record { variable = found.0; is = found.2.0; depends = found.2.1 })
-      (λ needs. (needs.variable, get_within conditions needs.variable condition needs.is, (needs.is, needs.depends)))
+      map_dec (λ found. record { variable = found.0; is = found.2.0; depends = found.2.1 })
+      (λ needs. (needs.variable, slice_get_within conditions needs.variable condition needs.is, (needs.is, needs.depends)))
       (searched_below (length conditions) (λ v. (slice_get conditions v ≡ Some condition) × Depends q.guard v) (λ v _.
       dec_both (dec_option dec_signal (slice_get conditions v) (Some condition)) (dec_depends (length conditions) q.guard sound.sees v)))
 
   module _ (p q : Operation) (sound_p : IsSound (length conditions) p) (sound_q : IsSound (length conditions) q) where
     dec_feeds : Dec (Feeds p q)
     dec_feeds =
-        dec_as (λ found. record { signal = found.0; writes = found.1; reads = found.2.0; together = found.2.1 }) (λ feeds. (feeds.signal, feeds.writes, (feeds.reads, feeds.together)))
+        map_dec (λ found. record { signal = found.0; writes = found.1; reads = found.2.0; together = found.2.1 }) (λ feeds. (feeds.signal, feeds.writes, (feeds.reads, feeds.together)))
         (dec_some (λ x. Contains q.reads x × DoneTogether p q) p.writes (λ x. dec_both (dec_contains dec_signal q.reads x) (dec_together (length conditions) p q sound_p.sees sound_q.sees)))
 
     dec_decides : Dec (Decides conditions p q)
     dec_decides =
-        dec_as (λ found. record { condition = found.0; writes = found.1; needs = found.2 }) (λ decides. (decides.condition, decides.writes, decides.needs))
+        map_dec (λ found. record { condition = found.0; writes = found.1; needs = found.2 }) (λ decides. (decides.condition, decides.writes, decides.needs))
         (dec_some (Needs conditions q) p.writes (dec_needs q sound_q))
 
     dec_keeps : Dec (Keeps p q)
     dec_keeps =
-        dec_as (λ found. record { delay = found.0; read = found.2.0; of = found.1; store = found.2.1 }) (λ keeps. (keeps.delay, keeps.of, (keeps.read, keeps.store)))
+        map_dec (λ found. record { delay = found.0; read = found.2.0; of = found.1; store = found.2.1 }) (λ keeps. (keeps.delay, keeps.of, (keeps.read, keeps.store)))
         (dec_some (λ delay. (p.kind ≡ DelayRead) × (q.kind ≡ Store delay)) p.equation (λ delay. dec_both (is_delay_read p.kind) (is_store q.kind delay)))
 
     pub dec_before : Dec (ComesBefore conditions p q)

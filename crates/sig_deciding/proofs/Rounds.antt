@@ -1,14 +1,13 @@
 -- Whether a signal enters in some round is decided, since some round is still.
-use Rattle.sig_deciding.proofs.Common.{◌≡◌, ◌<◌, ◌⊎◌, inl, inr, ℕ, zero, suc, true, length, arith, IsLeast, is_condition, AgreeOn, EntersBy, HasLayer, IsDetermined, IsSolved, NeverEnters, Reaction, Speaks, is_present, enters_stays, Kernel}
+use Rattle.sig_deciding.proofs.Common.{◌≡◌, ◌<◌, ◌⊎◌, inl, inr, ℕ, zero, suc, true, length, arith, IsLeast, is_condition, AgreeOn, EntersBy, HasLayer, IsDetermined, IsSolved, NeverEnters, Reaction, Speaks, is_present, enters_stays, Kernel, map_dec, dec_implies, dec_truth, dec_each}
 use Rattle.sig_deciding.proofs.StandStill.{IsStill, still}
-use Rattle.sig_deciding.proofs.DecidedStatements.{dec_as, dec_implies, dec_truth}
 use Rattle.sig_deciding.proofs.SearchedReactions.{condition_is_signal, dec_agree, searched_speaking}
-use Rattle.sig_deciding.proofs.Searchable.{dec_each, some_least}
+use Rattle.sig_deciding.proofs.Searchable.{some_least}
 
 module _ (kernel : Kernel) where
   dec_determined : (Known : ℕ → Type 0) → ((condition : ℕ) → is_condition kernel condition ≡ true → Dec (Known condition)) → (signal : ℕ) → Dec (IsDetermined kernel Known signal)
   dec_determined Known known signal =
-      dec_as (λ all. λ a b speaks_a speaks_b agree. all a speaks_a b speaks_b agree) (λ is. λ a speaks_a b speaks_b agree. is a b speaks_a speaks_b agree)
+      map_dec (λ all. λ a b speaks_a speaks_b agree. all a speaks_a b speaks_b agree) (λ is. λ a speaks_a b speaks_b agree. is a b speaks_a speaks_b agree)
       (dec_each (Speaks kernel) (searched_speaking kernel) (λ a. (b : Reaction) → Speaks kernel b → AgreeOn kernel Known a b → is_present a signal ≡ is_present b signal) (λ a _.
       dec_each (Speaks kernel) (searched_speaking kernel) (λ b. AgreeOn kernel Known a b → is_present a signal ≡ is_present b signal) (λ b _.
       dec_implies (dec_agree kernel Known known a b) (dec_truth (is_present a signal) (is_present b signal)))))

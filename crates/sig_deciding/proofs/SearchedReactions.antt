@@ -1,7 +1,5 @@
 -- Reactions can be searched, and what is said of all of them is decided.
-use Rattle.sig_deciding.proofs.Common.{◌≡◌, ◌<◌, ◌≤◌, ℕ, zero, suc, Bool, true, false, List, [], ◌∷◌, length, refl, sym, arith, None, Some, list_all, and_parts, false≢true, AllPass-from_list_all, list_all-from_AllPass, Signal, is_condition, is_free, signal_id, AgreeOn, IsReaction, Reaction, Speaks, are_statuses, is_boolean_kind, is_present, is_silent, is_status_of, meets, status_at, kind_at, kind_of, Equation, Kernel, slice_get}
-use Rattle.sig_deciding.proofs.DecidedStatements.{dec_as, dec_both, dec_implies, dec_option, dec_truth}
-use Rattle.sig_deciding.proofs.Searchable.{Searched, all_options, all_truths, dec_each, searched_as, searched_below, searched_lists, searched_where}
+use Rattle.sig_deciding.proofs.Common.{◌≡◌, ◌<◌, ◌≤◌, ℕ, zero, suc, Bool, true, false, List, [], ◌∷◌, length, refl, sym, arith, None, Some, list_all, and_parts, false≢true, AllPass-from_list_all, list_all-from_AllPass, Signal, is_condition, is_free, signal_id, AgreeOn, IsReaction, Reaction, Speaks, are_statuses, is_boolean_kind, is_present, is_silent, is_status_of, meets, status_at, kind_at, kind_of, Equation, Kernel, slice_get, map_dec, dec_both, dec_implies, dec_option, dec_truth, Searched, all_options, all_truths, dec_each, searched_as, searched_below, searched_lists, searched_where}
 
 -- ---- reactions
 
@@ -22,7 +20,7 @@ module _ (kernel : Kernel) where
 
   dec_reaction : (reaction : Reaction) → Dec (IsReaction kernel reaction)
   dec_reaction reaction =
-      dec_as (λ both. record { kinds = both.0; equations = AllPass-from_list_all (λ (equation : Equation). meets kernel.signals reaction equation.form) kernel.equations both.1 })
+      map_dec (λ both. record { kinds = both.0; equations = AllPass-from_list_all (λ (equation : Equation). meets kernel.signals reaction equation.form) kernel.equations both.1 })
       (λ is. (is.kinds, list_all-from_AllPass (λ (equation : Equation). meets kernel.signals reaction equation.form) kernel.equations is.equations))
       (dec_both (dec_truth (are_statuses kernel.signals reaction) true) (dec_truth (meets_all reaction) true))
 

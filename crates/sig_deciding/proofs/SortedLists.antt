@@ -1,5 +1,5 @@
 -- Lists in an order: what is decided of the elements of a list is true of those of a list that is in order.
-use Rattle.sig_deciding.proofs.Common.{◌≡◌, ◌<◌, ◌⊎◌, inl, inr, ◌↔◌, ℕ, zero, suc, List, [], ◌∷◌, refl, sym, subst, arith, Contains, cases_eq, SigId, signal_id, at_contained, contains_at, contains_cons, contains_head, contains_later, contains_none, IsOrdered}
+use Rattle.sig_deciding.proofs.Common.{◌≡◌, ◌<◌, ◌⊎◌, inl, inr, ◌↔◌, ℕ, zero, suc, List, [], ◌∷◌, refl, sym, subst, arith, Contains, cases_eq, SigId, signal_id, IsOrdered, at_contained, contains_at, contains_cons, contains_head, contains_later, contains_none}
 
 module _ {X : Type 0} (D : X → Type 0) (decide : (x : X) → Dec (D x)) where
   -- the elements of a list of which a statement holds

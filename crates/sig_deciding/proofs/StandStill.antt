@@ -1,8 +1,6 @@
 -- Statements on numbers below a bound that come to hold round after round: they come to stand still.
-use Rattle.sig_deciding.proofs.Common.{◌<◌, ◌≤◌, ◌+◌, ◌⊎◌, inl, inr, ℕ, zero, suc, arith}
+use Rattle.sig_deciding.proofs.Common.{◌<◌, ◌≤◌, ◌+◌, ◌⊎◌, inl, inr, ℕ, zero, suc, arith, map_dec, dec_both, dec_either, dec_not, searched_below}
 use Rattle.sig_deciding.proofs.Counts.{counted, counted_less, counted_most}
-use Rattle.sig_deciding.proofs.DecidedStatements.{dec_as, dec_both, dec_either, dec_not}
-use Rattle.sig_deciding.proofs.Searchable.{searched_below}
 
 module _ (P : ℕ → ℕ → Type 0) (decide : (round k : ℕ) → Dec (P round k)) (rises : (round k : ℕ) → P round k → P (suc round) k) where
   -- of how many numbers below m the statement holds in a round
@@ -56,7 +54,7 @@ module _ (n : ℕ) (Begins : ℕ → Type 0) (Leads : ℕ → ℕ → Type 0) (b
   pub dec_least : (T : ℕ → Type 0) → ((k : ℕ) → Begins k → T k) → ((j k : ℕ) → T j → Leads j k → T k)
       → ((S : ℕ → Type 0) → ((k : ℕ) → k < n → Begins k → S k) → ((j k : ℕ) → j < n → k < n → S j → Leads j k → S k) → (k : ℕ) → T k → S k)
       → (k : ℕ) → Dec (T k)
-  dec_least T begin lead least k = dec_as (from last.0 k) (least (Stage last.0) to_begin to_lead k) (stage_decided last.0 k) where
+  dec_least T begin lead least k = map_dec (from last.0 k) (least (Stage last.0) to_begin to_lead k) (stage_decided last.0 k) where
     last : (round : ℕ) × ((k : ℕ) → k < n → Stage (suc round) k → Stage round k)
     last = still Stage stage_decided stage_rises n
 

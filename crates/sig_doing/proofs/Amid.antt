@@ -1,5 +1,5 @@
 -- An actor amid an instant knows the guard at its place, and has what the operation there reads.
-use Rattle.sig_doing.proofs.Common.{◌≡◌, ◌<◌, ◌≤◌, ◌+◌, ◌⊎◌, inl, inr, ℕ, ℤ, Bool, true, false, List, length, refl, ap, sym, subst, ◌∙◌, arith, Contains, Some, is_some, slice_get, slice_index, Instant, Trace, seen_at, SigId, get_within, test, AreAlike, IsAmid, IsWrittenBefore, StandsAt, StandsBefore, IsFaultAt, met_place, at_most_or, HasFault, Meets, Cause, Memory, remembered, AreFlowsFor, Kernel, compiled, Compiled, condition_signal, own_written, some_at, truth_at, next_in, none_where, Actor, is_true, truths_of, Operation, operation_in, operations_in, Needs, IsAccepted, PlanView, numbers_of, Op, OpKind, Read, Store, guards_alone, needed_earlier, read_earlier}
+use Rattle.sig_doing.proofs.Common.{◌≡◌, ◌<◌, ◌≤◌, ◌+◌, ◌⊎◌, inl, inr, ℕ, ℤ, Bool, true, false, List, length, refl, ap, sym, subst, ◌∙◌, arith, Contains, Some, is_some, slice_get, slice_index, Instant, Trace, seen_at, SigId, test, AreAlike, IsAmid, IsWrittenBefore, StandsAt, StandsBefore, IsFaultAt, met_place, at_most_or, HasFault, Meets, Cause, Memory, remembered, AreFlowsFor, Kernel, compiled, Compiled, condition_signal, own_written, truth_at, next_in, none_where, Actor, is_true, truths_of, Operation, operation_in, operations_in, Needs, IsAccepted, PlanView, numbers_of, Op, OpKind, Read, Store, guards_alone, needed_earlier, read_earlier, slice_get_within, some_at}
 use Rattle.sig_doing.proofs.ReferenceInstant.{is_next, written_at, written_is_there}
 use Rattle.sig_doing.proofs.Places.{at_place}
 
@@ -76,7 +76,7 @@ module _ (plan : PlanView) (accepted : IsAccepted plan) (flows : List (List ℤ)
       let there = some_at conditions v (guards_alone kernel c.valid conditions operations c.has (slice_index order actor.step) q here.1 v depends) in
       let needs : Needs conditions q there.0 = record { variable = v; is = there.1; depends = depends } in
       let signal = condition_signal kernel conditions c.has.order v there.0 there.1 in
-      let same = condition_known there.0 (get_within kernel.signals there.0.0 signal.0 signal.1) needs in
+      let same = condition_known there.0 (slice_get_within kernel.signals there.0.0 signal.0 signal.1) needs in
       truth_at conditions actor.registers v there.0 there.1 ∙ ap is_true same ∙ sym (truth_at conditions (seen_at instant) v there.0 there.1))
 
   -- what is read where the operation is done is there

@@ -1,5 +1,5 @@
 -- An actor behind the last place: its instant is committed, and it goes on with the next one.
-use Rattle.sig_doing.proofs.Common.{◌≡◌, ◌<◌, ◌+◌, ◌++◌, ℕ, suc, ℤ, pos, Bool, true, false, List, [], ◌∷◌, length, map, get_or, drop, refl, ap, sym, subst, ◌∙◌, arith, Contains, Some, is_some, slice_get, range_with_len, length-append, length-drop, length-take, Contains-append_left, Contains-append_right, get_or-map-range_with_len, length-map-range_with_len, Bounded, Instant, Trace, seen_at, EqId, SigId, signal_id, at_contained, contains_head, IsCommitted, IsAmid, instant_behind, IsWrittenBefore, StandsBefore, instant_text, output_text, outputs_of, seen_lines, target_of, AreFlowsFor, Equation, Form, Delay, Kernel, no_instants, IsWithinBounds, compiled, Compiled, without_faults, place_of, fitting, among_each, IsClean, clean_more, got, none_where, Actor, opening_actor, IsReference, reaction_in, Operation, equation_id, of_each, operations_in, operations_of, read_of, store_of, stores_of, writes_of, IsAccepted, PlanView, numbers_of, OpKind, Read, Store}
+use Rattle.sig_doing.proofs.Common.{◌≡◌, ◌<◌, ◌+◌, ◌++◌, ℕ, suc, ℤ, pos, Bool, true, false, List, [], ◌∷◌, length, map, get_or, drop, refl, ap, sym, subst, ◌∙◌, arith, Contains, Some, is_some, slice_get, range_with_len, length-append, length-drop, length-take, Contains-append_left, Contains-append_right, get_or-map-range_with_len, length-map-range_with_len, Bounded, Instant, Trace, seen_at, EqId, SigId, signal_id, IsCommitted, IsAmid, instant_behind, IsWrittenBefore, StandsBefore, instant_text, output_text, outputs_of, seen_lines, target_of, AreFlowsFor, Equation, Form, Delay, Kernel, no_instants, IsWithinBounds, compiled, Compiled, without_faults, place_of, fitting, among_each, IsClean, clean_more, none_where, Actor, opening_actor, IsReference, reaction_in, Operation, equation_id, of_each, operations_in, operations_of, read_of, store_of, stores_of, writes_of, IsAccepted, PlanView, numbers_of, OpKind, Read, Store, at_contained, contains_head, got}
 use Rattle.sig_doing.proofs.Committed.{committed_clean}
 use Rattle.sig_doing.proofs.DefinedOnce.{defined_once, initial_is}
 use Rattle.sig_doing.proofs.ReferenceInstant.{goes_on, written_is_there, written_somewhere}

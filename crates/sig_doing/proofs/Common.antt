@@ -14,19 +14,19 @@ pub use Rattle.sig_model.specs.Operating.{Gives, defined_by, operated, remembers
 pub use Rattle.sig_model.specs.Results.{has_64_bits}
 pub use Rattle.sig_model.specs.Turns.{reaction_in}
 pub use Rattle.sig_meaning.proofs.Accepted.{compiled}
-pub use Rattle.sig_meaning.proofs.Agreement.{Compiled, condition_signal, own_keeps, own_present, own_speaks, own_written, some_at, truth_at}
-pub use Rattle.sig_meaning.proofs.NamedCause.{follows, meets_at, met_place, own_presence, without_faults}
-pub use Rattle.sig_meaning.proofs.Common.{Actor, All-cons, All-contains, All-nil, AreFlowsFor, Bounded, Cause, Compute, Computes, Contains-append_left, Contains-append_right, Default, Delay, DelayRead, Ended, EqId, Equation, Event, Exhausted, Faults, Form, Fun, Function, HasFault, Instant, IsAccepted, IsAt, IsEnd, IsFaultAt, IsFirstFault, IsKernelTrace, IsLongest, IsNamedCause, IsNext, IsOutcome, IsPrefixOf, IsReference, IsValid, IsWithinBounds, KeepsTo, Kernel, Left, Limit, Memory, Needs, Node, Op, OpKind, Operation, Overflow, PlanView, Precedes, Presence, Reaction, Read, Registers, Right, Seen, SigId, Signal, Speaks, StopsBefore, Store, Sync, Trace, When, WhenConst, Writes, ZeroDivisor, abstraction_of, at_contained, bounded, computed, computed_at, computed_by, computed_for, contains_at, contains_head, divides_by_zero, each_operation, equation_id, first_below, first_in, flow_of, form_within, function_of, get_at, get_or-map-range_with_len, get_within, guards_alone, is_true, length-map, length-map-range_with_len, needed_earlier, next_of, no_instants, numbers_of, of_each, only, operand_in, operands_below, operation_in, operations_in, operations_of, outcome, outcome_by, place_at, prefix_length, range_with_len, read_earlier, read_of, remembered, result_of, seen_at, signal_id, signals_of, stands_once, store_of, stores_of, target_below, test, truths_of, with_at, with_signal, without, writes_of, writing, written_below, written_by_one, written_present}
-pub use Rattle.sig_meaning.proofs.OrderedOperations.{place_of}
+pub use Rattle.sig_meaning.proofs.Agreement.{Compiled, condition_signal, own_keeps, own_present, own_speaks, own_written, truth_at}
+pub use Rattle.sig_meaning.proofs.Common.{Actor, All-cons, All-contains, All-nil, AreFlowsFor, Bounded, Cause, Compute, Computes, Contains-append_left, Contains-append_right, Default, Delay, DelayRead, Ended, EqId, Equation, Event, Exhausted, Faults, Form, Fun, Function, HasFault, Instant, IsAccepted, IsAt, IsEnd, IsFaultAt, IsFirstFault, IsKernelTrace, IsLongest, IsNamedCause, IsNext, IsOutcome, IsPrefixOf, IsReference, IsValid, IsWithinBounds, KeepsTo, Kernel, Left, Limit, Memory, Needs, Node, Op, OpKind, Operation, Overflow, PlanView, Precedes, Presence, Reaction, Read, Registers, Right, Seen, SigId, Signal, Speaks, StopsBefore, Store, Sync, Trace, When, WhenConst, Writes, ZeroDivisor, abstraction_of, at_contained, bounded, cases_eq, computed, computed_at, computed_by, computed_for, contains_at, contains_head, divides_by_zero, each_operation, equation_id, first_below, first_in, flow_of, form_within, function_of, get_or-map-range_with_len, got, guards_alone, is_true, length-map, length-map-range_with_len, needed_earlier, next_of, no_instants, numbers_of, of_each, only, operand_in, operands_below, operation_in, operations_in, operations_of, outcome, outcome_by, place_at, prefix_length, range_with_len, read_earlier, read_of, remembered, result_of, seen_at, signal_id, signals_of, slice_get-get_or, slice_get_within, some_at, stands_once, store_of, stores_of, target_below, test, truths_of, with_at, with_signal, without, writes_of, writing, written_below, written_by_one, written_present}
 pub use Rattle.sig_meaning.proofs.EndOfRun.{fitting}
 pub use Rattle.sig_meaning.proofs.Equations.{among_each}
+pub use Rattle.sig_meaning.proofs.FirstFaultIsNamed.{first_cause}
 pub use Rattle.sig_meaning.proofs.FirstFaults.{one_either}
 pub use Rattle.sig_meaning.proofs.Flows.{flow_more, next_in}
 pub use Rattle.sig_meaning.proofs.Longest.{Decided, IsClean, clean, clean_more, cut_longest}
-pub use Rattle.sig_meaning.proofs.FirstFaultIsNamed.{first_cause}
-pub use Rattle.sig_meaning.proofs.Numbers.{at_most_or, same_or_not}
+pub use Rattle.sig_meaning.proofs.NamedCause.{follows, meets_at, met_place, own_presence, without_faults}
+pub use Rattle.sig_meaning.proofs.Numbers.{at_most_or}
+pub use Rattle.sig_meaning.proofs.OrderedOperations.{place_of}
 pub use Rattle.sig_meaning.proofs.Outcomes.{is_outcome}
-pub use Rattle.sig_meaning.proofs.References.{Fitting, flow_count, got, memory_values, next_values, reference_more}
+pub use Rattle.sig_meaning.proofs.References.{Fitting, flow_count, memory_values, next_values, reference_more}
 pub use Rattle.sig_meaning.proofs.StoredValues.{stored}
 pub use Rattle.sig_meaning.proofs.Values.{form_for, form_in, has_form, have_map, none_where, same_operands}
 pub use Rattle.sig_meaning.proofs.WithinBounds.{bounds_without_faults}

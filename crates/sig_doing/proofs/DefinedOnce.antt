@@ -1,5 +1,5 @@
 -- A signal is defined once: by one equation, and where that is a delay, it is written by the delay's read alone.
-use Rattle.sig_doing.proofs.Common.{◌≡◌, ◌<◌, ◌≤◌, ◌⊎◌, inl, inr, ℕ, zero, suc, ℤ, Bool, true, false, cond, List, [], ◌∷◌, length, refl, ap, sym, subst, ◌∙◌, arith, Contains, All, Option, None, Some, slice_get, ◌==◌, count_by, eq-eqb, eqb-true, All-cons, All-contains, All-nil, EqId, SigId, signal_id, target_of, IsValid, defines, form_within, is_target, target_within, Equation, Form, Fun, Delay, When, WhenConst, Default, Sync, Event, Kernel, at_most_or, got, form_for, form_in, has_form, initial_by, initial_in, Operation, Presence, operations_of, signals_of, store_of, stores_of, without, writes_of, writing, Writes, Compute, DelayRead, Left, Right, counted, fold_tally, one_place, tally, each_operation, only, target_below}
+use Rattle.sig_doing.proofs.Common.{◌≡◌, ◌<◌, ◌≤◌, ◌⊎◌, inl, inr, ℕ, zero, suc, ℤ, Bool, true, false, cond, List, [], ◌∷◌, length, refl, ap, sym, subst, ◌∙◌, arith, Contains, All, Option, None, Some, slice_get, ◌==◌, count_by, eq-eqb, eqb-true, All-cons, All-contains, All-nil, EqId, SigId, signal_id, target_of, IsValid, defines, form_within, is_target, target_within, Equation, Form, Fun, Delay, When, WhenConst, Default, Sync, Event, Kernel, at_most_or, form_for, form_in, has_form, initial_by, initial_in, Operation, Presence, operations_of, signals_of, store_of, stores_of, without, writes_of, writing, Writes, Compute, DelayRead, Left, Right, counted, fold_tally, one_place, tally, each_operation, only, target_below, got}
 
 pub same_signal : (x y : SigId) → x.0 ≡ y.0 → x ≡ y
 same_signal x y e = λ j. record { 0 = e j }

@@ -1,5 +1,5 @@
 -- An operation that is done and comes to a value meets no fault, and leaves an actor amid the instant.
-use Rattle.sig_doing.proofs.Common.{◌≡◌, ◌<◌, ◌≤◌, ◌+◌, ◌++◌, ◌⊎◌, inl, inr, ℕ, ℤ, Bool, true, false, cond, List, [], ◌∷◌, length, map, get_or, refl, ap, sym, subst, ◌∙◌, arith, Contains, Option, None, Some, slice_get, slice_index, option_to_list, ◌==◌, eq-eqb, eqb-true, length-append, Function, Instant, Seen, Trace, flow_of, seen_at, EqId, SigId, abstraction_of, test, IsAmid, stepped, IsDone, IsWrittenBefore, StandsAt, StandsBefore, Memory, function_of, remembered, target_of, AreFlowsFor, Equation, Delay, Kernel, IsAt, IsOutcome, compiled, Compiled, fitting, flow_more, next_in, same_or_not, is_outcome, Fitting, got, stored, form_in, have_map, same_operands, Actor, truths_of, with_at, with_signal, Computes, HasFault, Meets, Faults, Gives, bounded, computed, computed_at, computed_by, computed_for, defined_by, first_in, next_of, operand_in, operated, outcome, outcome_by, remembers, taken_by, divides_by_zero, has_64_bits, result_of, Operation, operation_in, operations_in, Keeps, Precedes, IsAccepted, PlanView, numbers_of, Cause, Exhausted, Limit, Overflow, ZeroDivisor, Op, OpKind, Compute, DelayRead, Left, Read, Right, Store, written_by_one, kept_order, stands_once}
+use Rattle.sig_doing.proofs.Common.{◌≡◌, ◌<◌, ◌≤◌, ◌+◌, ◌++◌, ◌⊎◌, inl, inr, ℕ, ℤ, Bool, true, false, cond, List, [], ◌∷◌, length, map, get_or, refl, ap, sym, subst, ◌∙◌, arith, Contains, Option, None, Some, slice_get, slice_index, option_to_list, ◌==◌, eq-eqb, eqb-true, length-append, Function, Instant, Seen, Trace, flow_of, seen_at, EqId, SigId, abstraction_of, test, IsAmid, stepped, IsDone, IsWrittenBefore, StandsAt, StandsBefore, Memory, function_of, remembered, target_of, AreFlowsFor, Equation, Delay, Kernel, IsAt, IsOutcome, compiled, Compiled, fitting, flow_more, next_in, is_outcome, Fitting, stored, form_in, have_map, same_operands, Actor, truths_of, with_at, with_signal, Computes, HasFault, Meets, Faults, Gives, bounded, computed, computed_at, computed_by, computed_for, defined_by, first_in, next_of, operand_in, operated, outcome, outcome_by, remembers, taken_by, divides_by_zero, has_64_bits, result_of, Operation, operation_in, operations_in, Keeps, Precedes, IsAccepted, PlanView, numbers_of, Cause, Exhausted, Limit, Overflow, ZeroDivisor, Op, OpKind, Compute, DelayRead, Left, Read, Right, Store, written_by_one, kept_order, stands_once, cases_eq, got}
 use Rattle.sig_doing.proofs.Amid.{guard_known, here, place_within, reads_known, sound_next}
 use Rattle.sig_doing.proofs.Committed.{committed_clean}
 use Rattle.sig_doing.proofs.DefinedOnce.{defined_once, one_memory, same_equation, same_signal}
@@ -20,7 +20,7 @@ at_other {A} y v g x apart = by (x == y.0) refl where
 -- with a value at a signal, if there is one: the value at that signal, and elsewhere what was there
 signal_cases : {A : Type 0} (P : A → Type 0) (o : Option SigId) (v : A) (g : ℕ → A) (x : SigId) → (o ≡ Some x → P v) → ((o ≡ Some x → ⊥) → P (g x.0)) → P (with_signal o v g x.0)
 signal_cases {A} P None v g x same other = other (λ e. let f : None ≡ Some x = e in cc)
-signal_cases {A} P (Some z) v g x same other = elim (same_or_not z.0 x.0) [
+signal_cases {A} P (Some z) v g x same other = elim (cases_eq z.0 x.0) [
   | inl e ↦ subst P (sym (at_same z v g x.0 e)) (same (ap Some (same_signal z x e)))
   | inr apart ↦ subst P (sym (at_other z v g x.0 apart)) (other (λ e. apart (let f : Some z ≡ Some x = e in let one : z ≡ x = cc in ap (λ (y : SigId). y.0) one)))
 ]
@@ -215,7 +215,7 @@ module _ (plan : PlanView) (accepted : IsAccepted plan) (flows : List (List ℤ)
         omega (arith, longer, is_at.taken x kind)
 
     taken_cases : (P : ℕ → Type 0) (kind : OpKind) (x : SigId) → (kind ≡ Read x → P (actor.taken x.0 + 1)) → ((kind ≡ Read x → ⊥) → P (actor.taken x.0)) → P (taken_by kind actor.taken x.0)
-    taken_cases P (Read z) x same other = elim (same_or_not z.0 x.0) [
+    taken_cases P (Read z) x same other = elim (cases_eq z.0 x.0) [
       | inl e ↦
           let one : z ≡ x = same_signal z x e in
           subst P (sym (at_same z (actor.taken z.0 + 1) actor.taken x.0 e ∙ ap (λ (y : SigId). actor.taken y.0 + 1) one)) (same (ap Read one))

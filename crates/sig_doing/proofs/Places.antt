@@ -1,5 +1,5 @@
 -- The operations at the places of a plan's order.
-use Rattle.sig_doing.proofs.Common.{◌≡◌, ◌<◌, ◌≤◌, ◌+◌, ◌⊎◌, inl, inr, ℕ, zero, suc, List, [], ◌∷◌, length, refl, ap, sym, subst, ◌∙◌, arith, Some, slice_get, slice_index, length-map, Instant, EqId, OpId, SigId, get_at, Node, IsDone, IsWrittenBefore, StandsAt, StandsBefore, some_at, Decided, at_most_or, same_or_not, got, Operation, operation_in, operations_in, IsAccepted, PlanView, numbers_of, Op, OpKind, Compute, DelayRead, Left, Read, Right, Store}
+use Rattle.sig_doing.proofs.Common.{◌≡◌, ◌<◌, ◌≤◌, ◌+◌, ◌⊎◌, inl, inr, ℕ, zero, suc, List, [], ◌∷◌, length, refl, ap, sym, subst, ◌∙◌, arith, Some, slice_get, slice_index, length-map, Instant, EqId, OpId, SigId, Node, IsDone, IsWrittenBefore, StandsAt, StandsBefore, Decided, at_most_or, Operation, operation_in, operations_in, IsAccepted, PlanView, numbers_of, Op, OpKind, Compute, DelayRead, Left, Read, Right, Store, slice_get-get_or, got, some_at, cases_eq}
 
 -- ---- operations, and their numbers
 
@@ -42,7 +42,7 @@ module _ (plan : PlanView) where
 
   pub to_place : (k : ℕ) (p : Operation) → k < length order → slice_get operations (slice_index order k) ≡ Some p → (op : Op) × StandsAt plan k op × (operation_in plan.store.nodes op ≡ p)
   to_place k p lt at =
-      let id = id_at plan.order k (slice_index order k) (get_at order k 0 lt) in
+      let id = id_at plan.order k (slice_index order k) (slice_get-get_or order k 0 lt) in
       let made = made_of plan.store.nodes plan.ops (slice_index order k) p at in
       (made.0, record { number = id.0; ordered = id.1; is = ap (slice_get plan.ops) id.2 ∙ made.1 }, made.2)
 
@@ -91,7 +91,7 @@ module _ (plan : PlanView) where
 -- ---- whether an operation of a kind stands before a place
 
 pub decide_store : (e : EqId) (kind : OpKind) → Decided (kind ≡ Store e)
-decide_store e (Store d) = elim (same_or_not d.0 e.0) [
+decide_store e (Store d) = elim (cases_eq d.0 e.0) [
   | inl same ↦ inl (let one : d ≡ e = λ j. record { 0 = same j } in ap Store one)
   | inr apart ↦ inr (λ is. apart (let f : Store d ≡ Store e = is in let one : d ≡ e = cc in ap (λ (n : EqId). n.0) one))
 ]
@@ -102,7 +102,7 @@ decide_store e Right = inr (λ is. let f : Right ≡ Store e = is in cc)
 decide_store e DelayRead = inr (λ is. let f : DelayRead ≡ Store e = is in cc)
 
 pub decide_read : (x : SigId) (kind : OpKind) → Decided (kind ≡ Read x)
-decide_read x (Read z) = elim (same_or_not z.0 x.0) [
+decide_read x (Read z) = elim (cases_eq z.0 x.0) [
   | inl same ↦ inl (let one : z ≡ x = λ j. record { 0 = same j } in ap Read one)
   | inr apart ↦ inr (λ is. apart (let f : Read z ≡ Read x = is in let one : z ≡ x = cc in ap (λ (n : SigId). n.0) one))
 ]

@@ -1,5 +1,5 @@
 -- What the operations of an accepted plan have to do with the instant by which the reference goes on.
-use Rattle.sig_doing.proofs.Common.{◌≡◌, ◌<◌, ◌+◌, ◌++◌, ℕ, suc, ℤ, Bool, true, List, [], ◌∷◌, length, refl, ap, sym, subst, ◌∙◌, arith, Contains, All, None, Some, is_some, slice_get, slice_index, option_to_list, append-nil, All-cons, All-contains, All-nil, Instant, Trace, flow_of, seen_at, EqId, SigId, abstraction_of, KeepsTo, signal_id, Reaction, Speaks, contains_at, test, IsCommitted, IsWrittenBefore, StandsAt, Memory, last_of, remembered, AreFlowsFor, IsValid, form_within, Equation, Form, Fun, Delay, When, WhenConst, Default, Sync, Event, Kernel, IsNext, compiled, Compiled, own_keeps, own_present, own_speaks, own_written, follows, own_presence, place_of, fitting, one_either, flow_more, next_in, IsClean, Fitting, got, form_for, form_in, has_form, truths_of, Computes, IsReference, Operation, Presence, operation_in, operations_in, operations_of, signals_of, store_of, stores_of, without, writes_of, writing, Writes, IsAccepted, PlanView, numbers_of, Op, Compute, DelayRead, Left, Read, Right, Store, written_present, each_operation, first_below, only, operands_below, written_below}
+use Rattle.sig_doing.proofs.Common.{◌≡◌, ◌<◌, ◌+◌, ◌++◌, ℕ, suc, ℤ, Bool, true, List, [], ◌∷◌, length, refl, ap, sym, subst, ◌∙◌, arith, Contains, All, None, Some, is_some, slice_get, slice_index, option_to_list, append-nil, All-cons, All-contains, All-nil, Instant, Trace, flow_of, seen_at, EqId, SigId, abstraction_of, KeepsTo, signal_id, Reaction, Speaks, test, IsCommitted, IsWrittenBefore, StandsAt, Memory, last_of, remembered, AreFlowsFor, IsValid, form_within, Equation, Form, Fun, Delay, When, WhenConst, Default, Sync, Event, Kernel, IsNext, compiled, Compiled, own_keeps, own_present, own_speaks, own_written, follows, own_presence, place_of, fitting, one_either, flow_more, next_in, IsClean, Fitting, form_for, form_in, has_form, truths_of, Computes, IsReference, Operation, Presence, operation_in, operations_in, operations_of, signals_of, store_of, stores_of, without, writes_of, writing, Writes, IsAccepted, PlanView, numbers_of, Op, Compute, DelayRead, Left, Read, Right, Store, written_present, each_operation, first_below, only, operands_below, written_below, contains_at, got}
 use Rattle.sig_doing.proofs.Committed.{committed_clean}
 use Rattle.sig_doing.proofs.Places.{at_place, to_place}
 

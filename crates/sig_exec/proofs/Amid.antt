@@ -1,16 +1,5 @@
 -- An instant, operation by operation.
-use Rattle.std.proofs.lemmas.Option.{same_Some}
-use Rattle.std.proofs.Common.{◌≡◌, ◌+◌, inl, inr, ℕ, ℤ, Bool, true, List, length, None, Some, refl, sym, ap, subst, ◌∙◌, arith}
-use Rattle.std.specs.Prelude.{slice_get}
-use Rattle.std.proofs.lemmas.Bool.{cases_lt}
-use Rattle.std.proofs.lemmas.List.{length-replicate}
-use Rattle.sig_base.specs.Traces.{seen_at}
-use Rattle.sig_base.specs.declared.ids.SigId.{SigId}
-use Rattle.sig_dd.specs.Diagram.{value_at}
-use Rattle.sig_file.specs.Guarded.{Guarded, IsSoundImage, IsWrittenBefore, Writes, guards_of}
-use Rattle.sig_file.specs.Images.{ImageView, IsImage}
-use Rattle.sig_file.specs.ImageRuns.{State, cleared, proposal_of}
-use Rattle.sig_exec.specs.inner.Instants.{IsAmid}
+use Rattle.sig_exec.proofs.Common.{same_Some, ◌≡◌, ◌+◌, inl, inr, ℕ, ℤ, Bool, true, List, length, None, Some, refl, sym, ap, subst, ◌∙◌, arith, slice_get, cases_lt, length-replicate, seen_at, SigId, value_at, Guarded, IsSoundImage, IsWrittenBefore, Writes, guards_of, ImageView, IsImage, State, cleared, proposal_of, IsAmid}
 use Rattle.sig_exec.proofs.OperationOutcomes.{AreAlike, HasReads, operated, operated_alike, others_stay, written_there}
 use Rattle.sig_exec.proofs.Places.{may_do, writes_within}
 use Rattle.sig_exec.proofs.GuardWalks.{Stays, stays}

@@ -1,17 +1,5 @@
 -- What an instruction keeps of cells, stamps and counts.
-use Rattle.std.proofs.Common.{if◌then◌else◌, ◌≡◌, ◌<◌, ◌≤◌, ◌+◌, inl, inr, ℕ, zero, suc, ℤ, Bool, true, false, List, [], ◌∷◌, length, set, take, drop, None, Some, refl, sym, ap, ◌∙◌, arith, eq-eqb}
-use Rattle.std.specs.Prelude.{slice_index_or, ◌==◌}
-use Rattle.std.proofs.Math.Seq.{take-set-lt}
-use Rattle.std.proofs.lemmas.List.{drop-set-lt, drop-set-add, take-set-le, get_or-take, get_or_past, length-take-le}
-use Rattle.std.proofs.lemmas.Bool.{cases_lt}
-use Rattle.sig_base.specs.Traces.{Seen, seen_at}
-use Rattle.sig_file.specs.Images.{ImageView}
-use Rattle.sig_exec.specs.inner.Lowerings.{cell}
-use Rattle.sig_exec.specs.inner.Machines.{HasCells, IsKept, left_of, registers_of, seen_in, shown, shown_all, taken_after}
-use Rattle.sig_exec.specs.declared.instruction.Instruction.{Instruction}
-use Rattle.sig_exec.specs.declared.instruction.Work.{Work}
-use Rattle.sig_exec.specs.declared.instruction.Work.TheVariants.{Next}
-use Rattle.sig_exec.specs.declared.machine.Machine.{Machine}
+use Rattle.sig_exec.proofs.Common.{if◌then◌else◌, ◌≡◌, ◌<◌, ◌≤◌, ◌+◌, inl, inr, ℕ, zero, suc, ℤ, Bool, true, false, List, [], ◌∷◌, length, set, take, drop, None, Some, refl, sym, ap, ◌∙◌, arith, eq-eqb, slice_index_or, ◌==◌, take-set-lt, drop-set-lt, drop-set-add, take-set-le, get_or-take, get_or_past, length-take-le, cases_lt, Seen, seen_at, ImageView, cell, HasCells, IsKept, left_of, registers_of, seen_in, shown, shown_all, taken_after, Instruction, Work, Next, Machine}
 use Rattle.sig_exec.proofs.OperationOutcomes.{behind_first, value_in}
 
 -- ---- what is shown

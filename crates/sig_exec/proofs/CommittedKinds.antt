@@ -1,19 +1,6 @@
 -- The values of committed instants are of the kinds of their signals.
-use Rattle.std.proofs.Common.{◌≡◌, inl, inr, ℕ, zero, suc, ℤ, List, [], ◌∷◌, Some, refl, sym, subst, arith}
-use Rattle.std.specs.Prelude.{slice_get, slice_set}
-use Rattle.std.specs.List.{AllByRecursion}
-use Rattle.sig_base.specs.Traces.{Bounded, IsValue, Trace}
-use Rattle.sig_base.specs.declared.ids.Kind.{Kind}
-use Rattle.sig_base.specs.declared.ids.SigId.{SigId}
-use Rattle.sig_file.specs.Guarded.{Guarded, guards_of}
-use Rattle.sig_file.specs.Images.{ImageView, IsImage, IsMemory, MayDo, kind_at, memory_at, scope_of}
-use Rattle.sig_file.specs.ImageRuns.{Does, Handles, HandlesAll, IsImageRun, Runs, State, cleared, opening}
-use Rattle.sig_file.specs.declared.images.ImageOpKind.{ImageOpKind}
+use Rattle.sig_exec.proofs.Common.{◌≡◌, inl, inr, ℕ, zero, suc, ℤ, List, [], ◌∷◌, Some, refl, sym, subst, arith, slice_get, slice_set, AllByRecursion, Bounded, IsValue, Trace, Kind, SigId, Guarded, guards_of, ImageView, IsImage, IsMemory, MayDo, kind_at, memory_at, scope_of, Does, Handles, HandlesAll, IsImageRun, Runs, State, cleared, opening, ImageOpKind, ImageCause, ImageEnd, each_at, AreFlowsOf, HaveKinds}
 use Rattle.sig_file.specs.declared.images.ImageOpKind.TheVariants as does
-use Rattle.sig_file.specs.declared.run.ImageCause.{ImageCause}
-use Rattle.sig_file.specs.declared.run.ImageEnd.{ImageEnd}
-use Rattle.sig_file.proofs.Behind.{each_at}
-use Rattle.sig_exec.specs.Running.{AreFlowsOf, HaveKinds}
 use Rattle.sig_exec.proofs.FunctionKinds.{function_kind}
 use Rattle.sig_exec.proofs.KeptKinds.{AreValues, Feed, Kinded, Remember, accepted, alike, begin, fed, flow_kind, flow_set, given, kind_there, memory_kind, memory_set, none_kinded, register_kind, register_set}
 use Rattle.sig_exec.proofs.Places.{may_do}

@@ -1,21 +1,6 @@
 -- The values of functions are of the kinds of the signals that they define.
-use Rattle.std.proofs.Common.{◌≡◌, inl, inr, suc, ℤ, Bool, true, false, List, [], ◌∷◌, length, Option, None, Some, refl, sym, ap, subst, ◌∙◌}
-use Rattle.std.specs.Prelude.{IsTrue, ◌&&◌, ◌||◌}
-use Rattle.sig_base.specs.Functions.{Gives, Tells}
-use Rattle.sig_base.specs.Traces.{Bounded, Instant, IsValue, has_64_bits}
-use Rattle.sig_base.specs.declared.ids.Kind.{Kind}
-use Rattle.sig_base.specs.declared.ids.Kind.TheVariants.{Boolean, Event, Integer}
-use Rattle.sig_base.proofs.TraceLemmas.{fits_by_test}
-use Rattle.sig_kernel.specs.KernelTraces.{HaveValues, function_of}
-use Rattle.sig_kernel.specs.Table.{constant_is}
-use Rattle.sig_kernel.specs.Validity.{value_is}
-use Rattle.sig_kernel.specs.declared.equation.FunOp.{FunOp}
-use Rattle.sig_kernel.specs.declared.equation.FunOp.TheVariants.{Id, Neg, Not, And, Or, Xor, Eq, Ne, Lt, Le, Gt, Ge, Add, Sub, Mul, Div, Mod}
-use Rattle.sig_kernel.specs.declared.equation.Operand.{Operand}
-use Rattle.sig_kernel.specs.declared.equation.Operand.TheVariants.{Const, Sig}
-use Rattle.sig_kernel.proofs.ValueLemmas.{value_of}
-use Rattle.sig_file.specs.Images.{are_operands, kind_at, operand_count, operand_is, sort_of}
-use Rattle.sig_file.specs.declared.images.ImageSignal.{ImageSignal}
+use Rattle.sig_exec.proofs.Common.{◌≡◌, inl, inr, suc, ℤ, Bool, true, false, List, [], ◌∷◌, length, Option, None, Some, refl, sym, ap, subst, ◌∙◌, IsTrue, ◌&&◌, ◌||◌, Gives, Tells, Bounded, Instant, IsValue, has_64_bits, Kind, Boolean, Event, Integer, fits_by_test, HaveValues, function_of, constant_is, value_is, FunOp, Id, Neg, Not, And, Or, Xor, Eq, Ne, Lt, Le, Gt, Ge, Add, Sub, Mul, Div, Mod, Operand, Const, Sig, value_of, are_operands, kind_at, operand_is, sort_of, ImageSignal}
+use Rattle.sig_file.specs.Images.{operand_count}
 use Rattle.sig_exec.proofs.KeptKinds.{Kinded, register_kind, taken}
 
 not_so : {B : Type 0} → false ≡ true → B

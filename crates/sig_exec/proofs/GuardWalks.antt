@@ -1,13 +1,6 @@
 -- The guards of earlier operations keep their truth, since the conditions that their walks asked were written before, and what
 -- was written stays.
-use Rattle.std.proofs.Common.{◌≡◌, ◌≤◌, inl, inr, ℕ, zero, suc, Bool, true, false, List, [], ◌∷◌, Option, None, Some, refl, sym, ap, ◌∙◌, arith}
-use Rattle.std.specs.Prelude.{slice_get}
-use Rattle.sig_base.specs.Traces.{Instant, seen_at}
-use Rattle.sig_base.specs.declared.ids.SigId.{SigId}
-use Rattle.sig_dd.specs.Diagram.{Diagram, Constant, Choice, truth_of, value_at}
-use Rattle.sig_dd.specs.Walks.{Asks}
-use Rattle.sig_file.specs.Guarded.{Guarded, Guards, IsSound, IsWrittenBefore}
-use Rattle.sig_file.specs.ImageRuns.{State, is_true, proposal_of}
+use Rattle.sig_exec.proofs.Common.{◌≡◌, ◌≤◌, inl, inr, ℕ, zero, suc, Bool, true, false, List, [], ◌∷◌, Option, None, Some, refl, sym, ap, ◌∙◌, arith, slice_get, Instant, seen_at, SigId, Diagram, Constant, Choice, truth_of, value_at, Asks, Guarded, Guards, IsSound, IsWrittenBefore, State, is_true, proposal_of}
 
 choice_is : (u : ℕ) (low high : Diagram) (truths : List Bool) (x : Bool) → truth_of truths u ≡ x → value_at (Choice u low high) truths ≡ (elim x [ true ↦ value_at high truths | false ↦ value_at low truths ])
 unfolding value_at

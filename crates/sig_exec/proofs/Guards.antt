@@ -1,25 +1,5 @@
 -- The walk of a guard over the cells of the conditions.
-use Rattle.std.proofs.Common.{◌≡◌, ◌<◌, ◌≤◌, ◌+◌, ◌-◌, ◌∙◌, ℕ, zero, suc, Bool, true, false, List, [], ◌∷◌, length, eqb, if◌then◌else◌, None, Some, refl, ap, sym, arith}
-use Rattle.std.specs.Prelude.{slice_get, slice_index_or, option_map}
-use Rattle.std.proofs.lemmas.List.{length-map}
-use Rattle.std.proofs.lemmas.Option.{slice_get-map}
-use Rattle.sig_base.specs.Traces.{Instant, seen_at}
-use Rattle.sig_base.specs.declared.ids.SigId.{SigId}
-use Rattle.sig_dd.specs.Diagram.{truth_of}
-use Rattle.sig_dd.specs.Nodes.{Holds, IsReduced, node_of, test}
-use Rattle.sig_dd.specs.Question.{IsSide}
-use Rattle.sig_dd.specs.declared.node.Node.{Node}
-use Rattle.sig_dd.proofs.Sides.{HasVariable-node, IsSide-child}
-use Rattle.sig_dd.proofs.Variables.{constant_value}
-use Rattle.sig_file.specs.Guarded.{node_in, nodes_in}
-use Rattle.sig_file.specs.Images.{ImageView, IsImage, IsNodeBehind}
-use Rattle.sig_file.specs.ImageRuns.{is_true, proposal_of}
-use Rattle.sig_file.specs.declared.images.ImageNode.{ImageNode}
-use Rattle.sig_file.proofs.Behind.{each_at}
-use Rattle.sig_file.proofs.Reduced.{reduced}
-use Rattle.sig_exec.specs.inner.Instants.{reference}
-use Rattle.sig_exec.specs.inner.Machines.{HasCells, registers_of, seen_in, truths_of}
-use Rattle.sig_exec.specs.declared.machine.Machine.{Machine}
+use Rattle.sig_exec.proofs.Common.{◌≡◌, ◌<◌, ◌≤◌, ◌+◌, ◌-◌, ◌∙◌, ℕ, zero, suc, Bool, true, false, List, [], ◌∷◌, length, eqb, if◌then◌else◌, None, Some, refl, ap, sym, arith, slice_get, slice_index_or, option_map, length-map, slice_get-map, Instant, seen_at, SigId, truth_of, Holds, IsReduced, node_of, test, IsSide, Node, HasVariable-node, IsSide-child, constant_value, node_in, nodes_in, ImageView, IsImage, IsNodeBehind, is_true, proposal_of, ImageNode, each_at, reduced, reference, HasCells, registers_of, seen_in, truths_of, Machine}
 use Rattle.sig_exec.proofs.Cells.{registers_at}
 use Rattle.sig_exec.proofs.Places.{condition_within}
 

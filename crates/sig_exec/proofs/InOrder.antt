@@ -1,12 +1,5 @@
 -- The operations of an instant, one after another.
-use Rattle.std.proofs.Common.{◌≡◌, ◌≤◌, ◌+◌, inl, inr, ℕ, zero, suc, true, false, List, [], ◌∷◌, length, take, None, Some, refl, sym, ap, subst, arith}
-use Rattle.std.specs.Prelude.{slice_get}
-use Rattle.sig_file.specs.Guarded.{Guarded, Guards, guarded_in, guards_of}
-use Rattle.sig_file.specs.Images.{ImageView, IsImage}
-use Rattle.sig_file.specs.ImageRuns.{Ends, EndsIn, Handles, HandlesAll, State, holds}
-use Rattle.sig_file.specs.declared.images.ImageOp.{ImageOp}
-use Rattle.sig_file.specs.declared.run.ImageCause.{ImageCause}
-use Rattle.sig_exec.specs.inner.Instants.{DoesAt, EndsAt, HandlesEach, HandlesFirst}
+use Rattle.sig_exec.proofs.Common.{◌≡◌, ◌+◌, inl, inr, ℕ, zero, suc, true, false, List, [], ◌∷◌, take, None, Some, refl, sym, subst, arith, slice_get, Guarded, Guards, guarded_in, guards_of, ImageView, IsImage, Ends, EndsIn, Handles, HandlesAll, State, holds, ImageOp, ImageCause, DoesAt, EndsAt, HandlesFirst}
 use Rattle.sig_exec.proofs.Places.{guarded_at}
 
 -- one more at the end
@@ -30,12 +23,6 @@ then_ends guards (o ∷ ops) zero op s t cause is all on ends =
     )
 then_ends guards (o ∷ ops) (suc n) op s t cause is (middle, first, rest) on ends = inr (middle, first, then_ends guards ops n op middle t cause is rest on ends)
 
-all_taken : (ops : List Guarded) (n : ℕ) → length ops ≤ n → take n ops ≡ ops
-all_taken [] zero few = refl
-all_taken [] (suc n) few = refl
-all_taken (op ∷ ops) zero few = absurd (omega (arith, few))
-all_taken (op ∷ ops) (suc n) few = ap (λ (l : List Guarded). op ∷ l) (all_taken ops n (omega (arith, few)))
-
 module _ (image : ImageView) (right : IsImage image) (n : ℕ) (op : ImageOp) (is : slice_get image.ops n ≡ Some op) (s t : State) (first : HandlesFirst image n s t) where
   abbrev guarded : Guarded
   guarded = guarded_in image.nodes op
@@ -55,6 +42,3 @@ module _ (image : ImageView) (right : IsImage image) (n : ℕ) (op : ImageOp) (i
 
   pub first_ends : holds (guards_of image) guarded t ≡ true → (cause : ImageCause) → EndsAt image n t cause → EndsIn (guards_of image) (guards_of image).ops s cause
   first_ends on cause ends = then_ends (guards_of image) (guards_of image).ops n guarded s t cause (guarded_at image right n op is) first on (ends op is)
-
-pub first_all : (image : ImageView) (n : ℕ) (s t : State) → length (guards_of image).ops ≤ n → HandlesFirst image n s t → HandlesEach image s t
-first_all image n s t few first = subst (λ (l : List Guarded). HandlesAll (guards_of image) l s t) (all_taken (guards_of image).ops n few) first

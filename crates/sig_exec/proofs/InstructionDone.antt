@@ -1,20 +1,5 @@
 -- An instruction whose guard holds does what its operation does.
-use Rattle.std.proofs.lemmas.Option.{same_Some}
-use Rattle.std.proofs.Common.{◌≡◌, ◌<◌, ◌+◌, ℕ, ℤ, true, List, length, Some, Result, Ok, Err, sym, subst, ◌∙◌}
-use Rattle.std.specs.Prelude.{slice_get}
-use Rattle.sig_dd.specs.Nodes.{test}
-use Rattle.sig_file.specs.Guarded.{IsSoundImage, guarded_in, nodes_in}
-use Rattle.sig_file.specs.Images.{ImageView, IsImage, MayDo, scope_of}
-use Rattle.sig_file.specs.ImageRuns.{Does, Ends, State, proposal_of}
-use Rattle.sig_file.specs.declared.images.ImageOp.{ImageOp}
-use Rattle.sig_exec.specs.inner.Instants.{DoesAt, EndsAt, IsAmid, reference}
-use Rattle.sig_exec.specs.inner.Lowerings.{IsFor, Lowers}
-use Rattle.sig_exec.specs.inner.Machines.{IsKept, IsMachineOf, ReadsWithin, came_to, state_of, truths_of}
-use Rattle.sig_exec.specs.inner.Outcomes.{cause_of}
-use Rattle.sig_exec.specs.declared.fault.Fault.{Fault}
-use Rattle.sig_exec.specs.declared.instruction.Instruction.{Instruction}
-use Rattle.sig_exec.specs.declared.lowered.Lowered.{Lowered}
-use Rattle.sig_exec.specs.declared.machine.Machine.{Machine}
+use Rattle.sig_exec.proofs.Common.{same_Some, ◌≡◌, ◌<◌, ◌+◌, ℕ, ℤ, true, List, length, Some, Result, Ok, Err, sym, subst, ◌∙◌, slice_get, test, IsSoundImage, guarded_in, nodes_in, ImageView, IsImage, MayDo, scope_of, Does, Ends, State, proposal_of, ImageOp, DoesAt, EndsAt, IsAmid, reference, IsFor, Lowers, IsKept, IsMachineOf, ReadsWithin, came_to, state_of, truths_of, cause_of, Fault, Instruction, Lowered, Machine}
 use Rattle.sig_exec.proofs.Amid.{IsOn, behind_done, reads_there, still_done}
 use Rattle.sig_exec.proofs.OperationOutcomes.{Comes, HasPlaces, HasReads, comes, operated}
 use Rattle.sig_exec.proofs.Places.{guarded_at, has_places, operation_at}

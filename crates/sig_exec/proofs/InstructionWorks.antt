@@ -1,28 +1,6 @@
 -- An instruction comes to what its operation comes to, and leaves what that leaves.
-use Rattle.std.proofs.Common.{◌≡◌, ◌<◌, ◌≤◌, ◌+◌, ◌++◌, ℕ, zero, suc, ℤ, pos, List, [], ◌∷◌, length, set, drop, replicate, Some, Ok, refl, sym, ap, subst, ◌∙◌, arith, length-set, length-append, get_or-set_other}
-use Rattle.std.specs.Prelude.{slice_get, slice_index_or, Contains}
-use Rattle.std.proofs.lemmas.List.{get_or-take, get_or-drop, length-take-le, length-drop, length-map, length-replicate}
-use Rattle.sig_base.specs.Traces.{Instant, seen_at}
-use Rattle.sig_base.specs.declared.ids.SigId.{SigId}
-use Rattle.sig_kernel.specs.KernelTraces.{function_of}
-use Rattle.sig_kernel.specs.declared.equation.FunOp.{FunOp}
-use Rattle.sig_kernel.specs.declared.equation.Operand.{Operand}
-use Rattle.sig_kernel.specs.declared.equation.Operand.TheVariants.{Const, Sig}
-use Rattle.sig_file.specs.Guarded.{Writes}
-use Rattle.sig_file.specs.Images.{ImageView, IsImage, MayDo, scope_of}
-use Rattle.sig_file.specs.ImageRuns.{State}
-use Rattle.sig_file.specs.declared.images.ImageMemory.{ImageMemory}
-use Rattle.sig_file.specs.declared.images.ImageOp.{ImageOp}
-use Rattle.sig_file.specs.declared.images.ImageOpKind.{ImageOpKind}
+use Rattle.sig_exec.proofs.Common.{◌≡◌, ◌<◌, ◌≤◌, ◌+◌, ◌++◌, ℕ, zero, suc, ℤ, pos, List, [], ◌∷◌, length, set, drop, replicate, Some, Ok, refl, sym, ap, subst, ◌∙◌, arith, length-set, length-append, get_or-set_other, slice_get, slice_index_or, Contains, get_or-take, get_or-drop, length-take-le, length-drop, length-map, length-replicate, Instant, seen_at, SigId, function_of, FunOp, Operand, Const, Sig, Writes, ImageView, IsImage, MayDo, scope_of, State, ImageMemory, ImageOp, ImageOpKind, IsCellOf, IsConstant, IsFor, IsFunctionWork, IsWorkOf, Lowers, bound_of, cell, inits_of, target_of, HasCells, IsKept, IsMachineOf, ReadsWithin, came_to, left_of, next_of, registers_of, state_of, taken_after, taken_of, computed, Instruction, Work, Next, Copy, One, Two, Lowered, Machine}
 use Rattle.sig_file.specs.declared.images.ImageOpKind.TheVariants as does
-use Rattle.sig_exec.specs.inner.Lowerings.{IsCellOf, IsConstant, IsFor, IsFunctionWork, IsWorkOf, Lowers, bound_of, cell, inits_of, target_of}
-use Rattle.sig_exec.specs.inner.Machines.{HasCells, IsKept, IsMachineOf, ReadsWithin, came_to, left_of, next_of, registers_of, state_of, taken_after, taken_of}
-use Rattle.sig_exec.specs.inner.Results.{computed}
-use Rattle.sig_exec.specs.declared.instruction.Instruction.{Instruction}
-use Rattle.sig_exec.specs.declared.instruction.Work.{Work}
-use Rattle.sig_exec.specs.declared.instruction.Work.TheVariants.{Next, Copy, One, Two}
-use Rattle.sig_exec.specs.declared.lowered.Lowered.{Lowered}
-use Rattle.sig_exec.specs.declared.machine.Machine.{Machine}
 use Rattle.sig_exec.proofs.Cells.{cell_of_seen, flows_read, flows_same, left_at, left_length, memory_memories, memory_registers, signal_memories, signal_registers}
 use Rattle.sig_exec.proofs.OperationOutcomes.{HasPlaces, HasReads, next_in, operand_in, operated, outcome, value_in}
 use Rattle.sig_exec.proofs.Places.{stored_within, target_within, writes_within}
@@ -32,12 +10,6 @@ next_drop x [] zero = refl
 next_drop x [] (suc t) = refl
 next_drop x (v ∷ flow) zero = refl
 next_drop x (v ∷ flow) (suc t) = next_drop x flow t
-
-contains_first : {A : Type 0} (x : A) (xs : List A) → Contains (x ∷ xs) x
-contains_first x xs = (zero, omega arith, refl)
-
-contains_second : {A : Type 0} (y x : A) (xs : List A) → Contains (y ∷ x ∷ xs) x
-contains_second y x xs = (suc zero, omega arith, refl)
 
 module _ (image : ImageView) (lowered : Lowered) (lowers : Lowers image lowered) (flows : List (List ℤ)) (m : Machine) (is : IsMachineOf image lowered flows m) where
   pub room : bound_of image ≤ length lowered.cells.items

@@ -1,28 +1,10 @@
 -- An instant, instruction by instruction.
-use Rattle.std.proofs.Common.{◌≡◌, ◌<◌, ◌+◌, ℕ, zero, suc, ℤ, Bool, true, false, List, [], ◌∷◌, length, Some, refl, sym, subst, ◌∙◌, arith}
-use Rattle.std.specs.Prelude.{slice_get}
-use Rattle.sig_dd.specs.Nodes.{test}
-use Rattle.sig_file.specs.Guarded.{IsSoundImage, guarded_in, guards_of, nodes_in}
-use Rattle.sig_file.specs.Images.{ImageView, IsImage}
-use Rattle.sig_file.specs.ImageRuns.{EndsIn, holds}
-use Rattle.sig_file.specs.declared.images.ImageOp.{ImageOp}
-use Rattle.sig_file.specs.declared.run.ImageCause.{ImageCause}
-use Rattle.sig_exec.specs.inner.Instants.{DoesAt, EndsAt, HandlesFirst, IsAmid, reference}
-use Rattle.sig_exec.specs.inner.Lowerings.{Lowers}
-use Rattle.sig_exec.specs.inner.Machines.{IsMachineOf, state_of, truths_of}
-use Rattle.sig_exec.specs.declared.instruction.Instruction.{Instruction}
-use Rattle.sig_exec.specs.declared.lowered.Lowered.{Lowered}
-use Rattle.sig_exec.specs.declared.machine.Machine.{Machine}
+use Rattle.sig_exec.proofs.Common.{◌≡◌, ◌<◌, ◌+◌, ℕ, ℤ, Bool, true, false, List, length, Some, sym, subst, ◌∙◌, arith, slice_get, test, IsSoundImage, guarded_in, guards_of, nodes_in, ImageView, IsImage, EndsIn, holds, ImageOp, ImageCause, DoesAt, EndsAt, HandlesFirst, IsAmid, reference, Lowers, IsMachineOf, state_of, truths_of, Instruction, Lowered, Machine, some_at}
 use Rattle.sig_exec.proofs.Amid.{amid_first, behind_passed}
 use Rattle.sig_exec.proofs.Cells.{registers_length}
 use Rattle.sig_exec.proofs.InOrder.{first_done, first_ends, first_passed}
 use Rattle.sig_exec.proofs.Places.{guarded_at, operation_at}
 use Rattle.sig_exec.proofs.InstructionWorks.{flows_length, has_cells, memories_length}
-
-some_at : {A : Type 0} (xs : List A) (n : ℕ) → n < length xs → (x : A) × (slice_get xs n ≡ Some x)
-some_at [] n below = absurd (omega (arith, below))
-some_at (x ∷ xs) zero below = (x, refl)
-some_at (x ∷ xs) (suc n) below = some_at xs n (omega (arith, below))
 
 module _ (image : ImageView) (right : IsImage image) (sound : IsSoundImage image) (lowered : Lowered) (lowers : Lowers image lowered) (flows : List (List ℤ)) (count : length flows ≡ image.inputs) where
   pub amid_start : (m : Machine) → IsMachineOf image lowered flows m → IsAmid image 0 (state_of image flows m)

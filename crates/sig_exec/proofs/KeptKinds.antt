@@ -1,19 +1,7 @@
 -- What is kept of kinds: registers, memories and flows have values of their kinds, whatever an operation does.
 pub use Rattle.std.proofs.lemmas.Option.{same_Some}
-use Rattle.std.proofs.Common.{◌≡◌, ◌<◌, inr, ℕ, zero, suc, ℤ, Bool, true, false, List, [], ◌∷◌, length, map, replicate, Option, None, Some, refl, sym, ap, subst, arith}
-use Rattle.std.specs.Prelude.{IsTrue, slice_get, slice_index_or, slice_set, ⊤, ◌&&◌}
-use Rattle.std.specs.List.{AllByRecursion, AllPass, list_all}
-use Rattle.std.proofs.lemmas.List.Sums.{list_all-from_AllPass}
-use Rattle.sig_base.specs.Traces.{AreOfKinds, Bounded, Instant, IsOfKind, IsValue, Seen, seen_at}
-use Rattle.sig_base.specs.declared.ids.Kind.{Kind}
-use Rattle.sig_base.specs.declared.ids.Kind.TheVariants.{Boolean, Event, Integer}
-use Rattle.sig_kernel.specs.Table.{is_kind, kind_fits}
-use Rattle.sig_kernel.specs.Validity.{value_is}
-use Rattle.sig_kernel.proofs.ValueLemmas.{value_of}
-use Rattle.sig_file.specs.Images.{IsMemory, accepts, accepts_value, is_same, kind_at, memory_at, sort_of}
-use Rattle.sig_file.specs.declared.images.ImageMemory.{ImageMemory}
+use Rattle.sig_exec.proofs.Common.{◌≡◌, ◌<◌, inr, ℕ, zero, suc, ℤ, Bool, true, false, List, [], ◌∷◌, length, map, replicate, Option, None, Some, refl, sym, ap, subst, arith, IsTrue, slice_get, slice_index_or, slice_set, ⊤, ◌&&◌, AllByRecursion, AllPass, list_all, list_all-from_AllPass, AreOfKinds, Bounded, Instant, IsOfKind, IsValue, Seen, seen_at, Kind, Boolean, Event, Integer, is_kind, kind_fits, value_is, value_of, IsMemory, accepts, accepts_value, is_same, kind_at, memory_at, sort_of, ImageMemory, ImageSignal}
 use Rattle.sig_file.specs.declared.images.ImageOpKind.TheVariants as does
-use Rattle.sig_file.specs.declared.images.ImageSignal.{ImageSignal}
 
 pub none_is : {A B : Type 0} (a : A) → None ≡ Some a → B
 none_is {A} {B} a e = absurd (let f : None ≡ Some a = e in cc)

@@ -1,3 +1,4 @@
+pub mod Common
 pub mod Results
 pub mod Remainders
 pub mod Single
@@ -19,3 +20,18 @@ pub mod InstructionsOfInstant
 pub mod KeptKinds
 pub mod FunctionKinds
 pub mod CommittedKinds
+unfoldable pub use Common.*
+pub use Cells.*
+pub use CommittedKinds.*
+pub use Guards.*
+pub use InstructionDone.*
+pub use InstructionWorks.*
+pub use InstructionsOfInstant.*
+pub use MoreConstants.*
+pub use Openings.*
+pub use OutputLines.*
+pub use Places.*
+pub use Remainders.*
+pub use RunByInstants.*
+pub use RunOfSoundImage.*
+pub use Single.*

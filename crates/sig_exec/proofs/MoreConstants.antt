@@ -1,19 +1,6 @@
 -- Instructions stay right where cells of constants are added.
-use Rattle.std.proofs.lemmas.Option.{same_Some}
-use Rattle.std.proofs.Common.{◌≡◌, ◌<◌, ◌≤◌, ◌++◌, ◌⊎◌, inl, inr, ℕ, zero, suc, ℤ, pos, List, [], ◌∷◌, length, replicate, None, Some, refl, sym, ap, subst, ◌∙◌, arith, append_assoc, length-append}
-use Rattle.std.specs.Prelude.{slice_get}
-use Rattle.std.proofs.lemmas.List.{length-map, length-replicate}
-use Rattle.sig_kernel.specs.declared.equation.FunOp.{FunOp}
-use Rattle.sig_kernel.specs.declared.equation.Operand.{Operand}
-use Rattle.sig_kernel.specs.declared.equation.Operand.TheVariants.{Const, Sig}
-use Rattle.sig_file.specs.Images.{ImageView}
-use Rattle.sig_file.specs.declared.images.ImageMemory.{ImageMemory}
-use Rattle.sig_file.specs.declared.images.ImageOp.{ImageOp}
-use Rattle.sig_file.specs.declared.images.ImageOpKind.{ImageOpKind}
+use Rattle.sig_exec.proofs.Common.{same_Some, ◌≡◌, ◌<◌, ◌≤◌, ◌++◌, inl, inr, ℕ, zero, suc, ℤ, pos, List, [], ◌∷◌, length, replicate, Some, refl, sym, ap, subst, ◌∙◌, arith, append_assoc, length-append, slice_get, length-map, length-replicate, FunOp, Operand, Const, Sig, ImageView, ImageMemory, ImageOp, ImageOpKind, AreFor, BeginWith, Grows, IsCellOf, IsConstant, IsFor, IsFunctionWork, IsWorkOf, bound_of, cell, inits_of, Instruction, Work, get_pushed}
 use Rattle.sig_file.specs.declared.images.ImageOpKind.TheVariants as does
-use Rattle.sig_exec.specs.inner.Lowerings.{AreFor, BeginWith, Grows, IsCellOf, IsConstant, IsFor, IsFunctionWork, IsWorkOf, bound_of, cell, inits_of}
-use Rattle.sig_exec.specs.declared.instruction.Instruction.{Instruction}
-use Rattle.sig_exec.specs.declared.instruction.Work.{Work}
 
 -- signals and memories have their cells
 pub begin_room : (image : ImageView) (cells : List ℤ) → BeginWith image cells → bound_of image ≤ length cells
@@ -61,18 +48,9 @@ work_grows image cells more (does.Store memory x) work is = is
 for_grows : (image : ImageView) (cells more : List ℤ) (op : ImageOp) (instruction : Instruction) → IsFor image cells op instruction → IsFor image (cells ++ more) op instruction
 for_grows image cells more op instruction is = record { work = work_grows image cells more op.kind instruction.work is.work; target = is.target; guard = is.guard }
 
-get_push : {A : Type 0} (xs : List A) (y x : A) (n : ℕ) → slice_get (xs ++ y ∷ []) n ≡ Some x → (slice_get xs n ≡ Some x) ⊎ ((n ≡ length xs) × (y ≡ x))
-get_push [] y x zero e = inr (refl, cc)
-get_push [] y x (suc n) e = absurd (let f : None ≡ Some x = e in cc)
-get_push (z ∷ xs) y x zero e = inl e
-get_push (z ∷ xs) y x (suc n) e = elim (get_push xs y x n e) [
-  | inl before ↦ inl before
-  | inr (last, same) ↦ inr (omega (arith, last), same)
-]
-
 pub one_more : (image : ImageView) (old new : List ℤ) (instructions : List Instruction) (instruction : Instruction) (op : ImageOp) → AreFor image old instructions → Grows old new
     → slice_get image.ops (length instructions) ≡ Some op → IsFor image new op instruction → AreFor image new (instructions ++ instruction ∷ [])
-one_more image old new instructions instruction op are (more, grown) there is = λ place other that at here. elim (get_push instructions instruction other place at) [
+one_more image old new instructions instruction op are (more, grown) there is = λ place other that at here. elim (get_pushed instructions instruction place other at) [
   | inl before ↦ subst (λ (cells : List ℤ). IsFor image cells that other) (sym grown) (for_grows image old more that other (are place other that before here))
   | inr (last, same) ↦
       let one : op ≡ that = same_Some op that (sym there ∙ ap (slice_get image.ops) (sym last) ∙ here) in

@@ -1,16 +1,5 @@
 -- A machine before the first instant, and at the start of each.
-use Rattle.std.proofs.Common.{◌≡◌, ◌<◌, ◌≤◌, ◌++◌, ℕ, zero, suc, ℤ, pos, Bool, true, false, List, [], ◌∷◌, length, take, drop, replicate, None, Some, refl, sym, ap, ◌∙◌, arith, eqb-true, append_assoc}
-use Rattle.std.specs.Prelude.{slice_get, ◌==◌}
-use Rattle.std.proofs.lemmas.List.{length-map, length-replicate}
-use Rattle.sig_base.specs.Traces.{Seen}
-use Rattle.sig_file.specs.Guarded.{guards_of}
-use Rattle.sig_file.specs.Images.{ImageView}
-use Rattle.sig_file.specs.ImageRuns.{State, cleared, opening}
-use Rattle.sig_file.specs.declared.images.ImageMemory.{ImageMemory}
-use Rattle.sig_exec.specs.inner.Lowerings.{Lowers, inits_of}
-use Rattle.sig_exec.specs.inner.Machines.{IsMachineOf, left_of, shown, shown_all, state_of}
-use Rattle.sig_exec.specs.declared.lowered.Lowered.{Lowered}
-use Rattle.sig_exec.specs.declared.machine.Machine.{Machine}
+use Rattle.sig_exec.proofs.Common.{◌≡◌, ◌<◌, ◌≤◌, ◌++◌, ℕ, zero, suc, ℤ, pos, Bool, true, false, List, [], ◌∷◌, length, take, drop, replicate, None, Some, refl, sym, ap, ◌∙◌, arith, eqb-true, append_assoc, slice_get, ◌==◌, length-map, length-replicate, Seen, guards_of, ImageView, State, cleared, opening, ImageMemory, Lowers, inits_of, IsMachineOf, left_of, shown, shown_all, state_of, Lowered, Machine}
 use Rattle.sig_exec.proofs.InstructionWorks.{has_cells}
 
 -- a stamp before the instant is none of it

@@ -1,26 +1,7 @@
 -- What an operation comes to in a state, and what it leaves.
-use Rattle.std.proofs.Common.{◌≡◌, ◌<◌, inl, inr, ℕ, zero, suc, ℤ, pos, List, [], ◌∷◌, length, map, None, Some, Result, Ok, Err, unwrap_or, refl, sym, ap, ◌∙◌, arith, length-set, get_or-set_other, get_or-set_same}
-use Rattle.std.specs.Prelude.{Contains, slice_get, slice_set, slice_index_or}
-use Rattle.std.proofs.lemmas.List.{length-map}
-use Rattle.std.proofs.lemmas.Option.{slice_get-get_or}
-use Rattle.sig_base.specs.Functions.{operand_count as count_of}
-use Rattle.sig_base.specs.Traces.{Instant, Seen, seen_at}
-use Rattle.sig_base.specs.declared.ids.SigId.{SigId}
-use Rattle.sig_base.specs.declared.span.Span.{Span}
-use Rattle.sig_kernel.specs.KernelTraces.{HaveValues, function_of}
-use Rattle.sig_kernel.specs.declared.equation.FunOp.{FunOp}
-use Rattle.sig_kernel.specs.declared.equation.FunOp.TheVariants.{Id, Neg, Not, And, Or, Xor, Eq, Ne, Lt, Le, Gt, Ge, Add, Sub, Mul, Div, Mod}
-use Rattle.sig_kernel.specs.declared.equation.Operand.{Operand}
-use Rattle.sig_kernel.specs.declared.equation.Operand.TheVariants.{Const, Sig}
-use Rattle.sig_file.specs.Guarded.{Reads, Writes}
+use Rattle.sig_exec.proofs.Common.{◌≡◌, ◌<◌, inl, inr, ℕ, ℤ, pos, List, [], ◌∷◌, length, map, None, Some, Result, Ok, Err, unwrap_or, refl, sym, ap, ◌∙◌, length-set, get_or-set_other, get_or-set_same, Contains, slice_get, slice_set, slice_index_or, length-map, slice_get-get_or, operand_count as count_of, Instant, Seen, seen_at, SigId, Span, HaveValues, function_of, FunOp, Id, Neg, Not, And, Or, Xor, Eq, Ne, Lt, Le, Gt, Ge, Add, Sub, Mul, Div, Mod, Operand, Const, Sig, Reads, Writes, Does, Ends, State, written, ImageOpKind, cause_of, computed, Fault, Exhausted, contains_head, contains_later}
 use Rattle.sig_file.specs.Images.{operand_count}
-use Rattle.sig_file.specs.ImageRuns.{Does, Ends, State, written}
-use Rattle.sig_file.specs.declared.images.ImageOpKind.{ImageOpKind}
 use Rattle.sig_file.specs.declared.images.ImageOpKind.TheVariants as does
-use Rattle.sig_exec.specs.inner.Outcomes.{cause_of}
-use Rattle.sig_exec.specs.inner.Results.{computed}
-use Rattle.sig_exec.specs.declared.fault.Fault.{Fault}
-use Rattle.sig_exec.specs.declared.fault.Fault.TheVariants.{Exhausted}
 use Rattle.sig_exec.proofs.Results.{Computed, computed_is, overflow, result, zero_divisor}
 
 abbrev pub value_in : Seen → ℤ
@@ -74,18 +55,12 @@ pub there_is : (seen : Seen) → ((v : ℤ) × (seen ≡ Some v)) → seen ≡ S
 there_is None (v, e) = absurd (let h : None ≡ Some v = e in cc)
 there_is (Some w) (v, e) = refl
 
-contains_first : {A : Type 0} (x : A) (xs : List A) → Contains (x ∷ xs) x
-contains_first x xs = (zero, omega arith, refl)
-
-contains_behind : {A : Type 0} (y : A) (xs : List A) (x : A) → Contains xs x → Contains (y ∷ xs) x
-contains_behind y xs x (k, below, is) = (suc k, omega (arith, below), is)
-
 have_values : (registers : Instant) (operands : List Operand) → ((x : SigId) → Contains operands (Sig x) → (v : ℤ) × (seen_at registers x.0 ≡ Some v))
     → HaveValues registers operands (map (operand_in registers) operands)
 have_values registers [] there = tt
 have_values registers (Sig x ∷ operands) there =
-    (there_is (seen_at registers x.0) (there x (contains_first (Sig x) operands)), have_values registers operands (λ y among. there y (contains_behind (Sig x) operands (Sig y) among)))
-have_values registers (Const c ∷ operands) there = (refl, have_values registers operands (λ y among. there y (contains_behind (Const c) operands (Sig y) among)))
+    (there_is (seen_at registers x.0) (there x (contains_head (Sig x) operands)), have_values registers operands (λ y among. there y (contains_later (Sig x) (Sig y) operands among)))
+have_values registers (Const c ∷ operands) there = (refl, have_values registers operands (λ y among. there y (contains_later (Const c) (Sig y) operands among)))
 
 counts : (op : FunOp) → operand_count op ≡ count_of (function_of op)
 counts Id = refl

@@ -1,13 +1,5 @@
 -- The lines of the first outputs.
-use Rattle.std.proofs.Common.{◌≡◌, ◌<◌, ◌≤◌, ◌+◌, ◌-◌, ◌∙◌, ℕ, zero, suc, List, [], ◌∷◌, ◌++◌, length, take, drop, append_assoc, append-nil, refl, sym, ap, subst, arith, Option, None, Some}
-use Rattle.std.specs.Prelude.{slice_get}
-use Rattle.std.proofs.lemmas.Option.{same_Some}
-use Rattle.sig_base.specs.Traces.{Instant, Seen, seen_at}
-use Rattle.sig_text.specs.Sink.{Joins, TookPrefix, TookPrefix-longer, TookPrefix-then}
-use Rattle.sig_file.specs.Images.{ImageView}
-use Rattle.sig_file.specs.ImageRuns.{instant_lines, seen_line, seen_lines}
-use Rattle.sig_file.specs.declared.images.ImageSignal.{ImageSignal}
-use Rattle.sig_exec.specs.inner.Instants.{line_at, line_where}
+use Rattle.sig_exec.proofs.Common.{◌≡◌, ◌<◌, ◌≤◌, ◌+◌, ◌-◌, ◌∙◌, ℕ, zero, suc, List, [], ◌∷◌, ◌++◌, length, take, drop, append_assoc, append-nil, refl, sym, ap, subst, arith, Option, None, Some, slice_get, same_Some, Instant, Seen, seen_at, Joins, TookPrefix, TookPrefix-longer, TookPrefix-then, ImageView, instant_lines, seen_line, seen_lines, ImageSignal, line_at, line_where}
 
 -- the line of a signal, by what it is
 pub line_is : (image : ImageView) (registers : Instant) (number : ℕ) (signal : ImageSignal) → slice_get image.signals number ≡ Some signal → (seen : Seen) → seen_at registers number ≡ seen

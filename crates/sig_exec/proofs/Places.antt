@@ -1,28 +1,7 @@
 -- What the operations of an image name is there.
-use Rattle.std.proofs.Common.{◌≡◌, ◌<◌, ℕ, ℤ, Bool, true, false, List, [], length, Option, None, Some, refl, sym, ap, subst, ◌∙◌, arith, take}
-use Rattle.std.specs.Prelude.{slice_get, IsTrue, option_map, ◌&&◌, not, ◌==◌}
-use Rattle.std.specs.List.{list_any}
-use Rattle.std.proofs.lemmas.Option.{slice_get-map, slice_get_within}
-use Rattle.sig_base.specs.declared.ids.Kind.{Kind}
-use Rattle.sig_base.specs.declared.ids.SigId.{SigId}
-use Rattle.sig_kernel.specs.declared.equation.FunOp.{FunOp}
-use Rattle.sig_kernel.specs.declared.equation.Operand.{Operand}
-use Rattle.sig_file.specs.Guarded.{Guarded, guarded_in, guards_of, Writes}
-use Rattle.sig_file.specs.Images.{ImageView, IsImage, IsOperation, MayDo, accepts, accepts_value, are_operands, is_boolean, is_condition_behind, is_same, kind_at, kind_in, memory_at, memory_in, scope_of}
-use Rattle.sig_file.specs.declared.images.ImageMemory.{ImageMemory}
-use Rattle.sig_file.specs.declared.images.ImageOp.{ImageOp}
-use Rattle.sig_file.specs.declared.images.ImageOpKind.{ImageOpKind}
+use Rattle.sig_exec.proofs.Common.{◌≡◌, ◌<◌, ℕ, ℤ, true, false, List, [], length, Option, None, Some, refl, sym, ap, subst, ◌∙◌, arith, take, slice_get, IsTrue, option_map, not, ◌==◌, list_any, slice_get-map, slice_get_within, Kind, SigId, FunOp, Operand, Guarded, guarded_in, guards_of, Writes, ImageView, IsImage, IsOperation, MayDo, accepts, accepts_value, are_operands, is_boolean, is_condition_behind, is_same, kind_at, kind_in, memory_at, memory_in, scope_of, ImageMemory, ImageOp, ImageOpKind, ImageSignal, each_at, bound_of, target_of, IsAmid, State, and_first}
 use Rattle.sig_file.specs.declared.images.ImageOpKind.TheVariants as does
-use Rattle.sig_file.specs.declared.images.ImageSignal.{ImageSignal}
-use Rattle.sig_file.proofs.Behind.{each_at}
-use Rattle.sig_exec.specs.inner.Lowerings.{bound_of, target_of}
-use Rattle.sig_exec.specs.inner.Instants.{IsAmid}
 use Rattle.sig_exec.proofs.OperationOutcomes.{HasPlaces}
-use Rattle.sig_file.specs.ImageRuns.{State}
-
-no_option : {A : Type 0} (o : Option A) → (o ≡ None → ⊥) → (x : A) × (o ≡ Some x)
-no_option None some = absurd (some refl)
-no_option (Some x) some = (x, refl)
 
 signal_of : (signals : List ImageSignal) (x : ℕ) → (kind_at signals x ≡ None → ⊥) → x < length signals
 signal_of signals x some = by (slice_get signals x) refl where
@@ -67,10 +46,6 @@ boolean_some : (o : Option Kind) → is_boolean o ≡ true → o ≡ None → �
 boolean_some None fits e = not_false fits
 boolean_some (Some k) fits e = not_some k e
 
-both_first : (a b : Bool) → (a && b) ≡ true → a ≡ true
-both_first true b both = refl
-both_first false b both = not_false both
-
 module _ (image : ImageView) (right : IsImage image) where
   pub operation_at : (n : ℕ) (op : ImageOp) → slice_get image.ops n ≡ Some op → IsOperation (scope_of image) op
   operation_at n op is = each_at (λ before. IsOperation (scope_of image)) [] image.ops n op right.ops is
@@ -79,7 +54,7 @@ module _ (image : ImageView) (right : IsImage image) where
   pub condition_within : (n : ℕ) (x : SigId) → slice_get image.conditions n ≡ Some x → x.0 < length image.signals
   condition_within n x is =
       let rule = each_at (λ before y. IsTrue (is_condition_behind image.signals before y.0)) [] image.conditions n x right.conditions is in
-      signal_of image.signals x.0 (boolean_some (kind_at image.signals x.0) (both_first (is_boolean (kind_at image.signals x.0)) (not (list_any (λ condition. condition.0 == x.0) (take n image.conditions))) rule))
+      signal_of image.signals x.0 (boolean_some (kind_at image.signals x.0) (and_first (is_boolean (kind_at image.signals x.0)) (not (list_any (λ condition. condition.0 == x.0) (take n image.conditions))) rule))
 
   -- what an operation writes has its cell
   module _ (kind : ImageOpKind) (may : MayDo (scope_of image) kind) where

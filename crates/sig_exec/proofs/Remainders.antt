@@ -1,10 +1,5 @@
 -- Remainders, and numbers of 64 bits.
-use Rattle.std.proofs.Common.{◌≡◌, ◌<◌, ◌^◌, zero, suc, ℤ, pos, negsuc, ◌+ℤ◌, ◌-ℤ◌, ◌*ℤ◌, true, false, [], ◌∷◌, refl, ap, subst, arith, rules, FitsSigned, w64, int_div, int_rem, int_eq, Result, Ok}
-use Rattle.std.proofs.lemmas.Int.{ints, quot-rem}
-use Rattle.sig_base.specs.Functions.{Remainder, remainder}
-use Rattle.sig_base.specs.Traces.{has_64_bits}
-use Rattle.sig_exec.specs.inner.Results.{computed}
-use Rattle.sig_exec.specs.declared.fault.Fault.{Fault}
+use Rattle.sig_exec.proofs.Common.{◌≡◌, ◌<◌, ◌^◌, zero, suc, ℤ, pos, negsuc, ◌+ℤ◌, ◌-ℤ◌, ◌*ℤ◌, true, false, [], ◌∷◌, refl, ap, subst, arith, rules, FitsSigned, w64, int_div, int_rem, int_eq, Result, Ok, ints, quot-rem, Remainder, remainder, has_64_bits, computed, Fault}
 
 -- what a division leaves
 left_over : (a q r : ℤ) → q +ℤ r ≡ a → r ≡ a -ℤ q

@@ -1,15 +1,6 @@
 -- The results of functions are what functions give.
-use Rattle.std.proofs.Common.{◌≡◌, ◌≢◌, ◌⊎◌, inl, inr, ℤ, pos, Bool, true, false, List, [], ◌∷◌, length, refl, sym, ◌∙◌, arith, Result, Ok, Err}
-use Rattle.std.specs.Prelude.{not, ◌&&◌, ◌||◌, ◌<ℤ◌, ◌≤ℤ◌, int_lt, int_le}
-use Rattle.std.specs.Ordering.{int_eq}
-use Rattle.std.proofs.lemmas.Bool.Decides.{Decides-int_eq}
-use Rattle.std.proofs.lemmas.Int.{ints}
-use Rattle.sig_base.specs.Functions.{Function, Identity, Negative, Not, And, Or, Xor, Equal, NotEqual, Less, LessEqual, Greater, GreaterEqual, Sum, Difference, Product, Quotient, Remainder, Gives, Tells, operand_count}
-use Rattle.sig_base.specs.Traces.{Bounded, has_64_bits}
-use Rattle.sig_file.specs.ImageRuns.{HasZeroDivisor}
-use Rattle.sig_exec.specs.inner.Results.{computed, divides_by_zero, result_of, truth_value}
-use Rattle.sig_exec.specs.declared.fault.Fault.{Fault}
-use Rattle.sig_exec.specs.declared.fault.Fault.TheVariants.{Overflow, ZeroDivisor}
+use Rattle.sig_exec.proofs.Common.{◌≡◌, ◌≢◌, ◌⊎◌, inl, inr, ℤ, pos, Bool, true, false, List, [], ◌∷◌, length, refl, sym, ◌∙◌, arith, Result, Ok, Err, not, ◌&&◌, ◌||◌, ◌<ℤ◌, ◌≤ℤ◌, int_lt, int_le, int_eq, Decides-int_eq, ints, Function, Identity, Negative, Equal, NotEqual, Less, LessEqual, Greater, GreaterEqual, Sum, Difference, Product, Quotient, Remainder, Gives, Tells, operand_count, Bounded, has_64_bits, HasZeroDivisor, computed, divides_by_zero, result_of, truth_value, Fault, Overflow, ZeroDivisor}
+use Rattle.sig_base.specs.Functions.{Not, And, Or, Xor}
 
 -- a test that decides a statement
 pub record Tests (b : Bool) (Statement : Type 0) : Type 0 where

@@ -1,16 +1,5 @@
 -- A run, instant by instant.
-use Rattle.std.proofs.Common.{◌≡◌, ◌<◌, ◌+◌, ◌-◌, ◌++◌, inl, inr, ℕ, zero, suc, ℤ, List, [], ◌∷◌, length, refl, sym, ap, subst, ◌∙◌, arith, append_assoc, append-nil, length-append}
-use Rattle.std.specs.List.{flat_map}
-use Rattle.sig_base.specs.Traces.{Instant, Trace}
-use Rattle.sig_text.specs.Sink.{Joins, TookPrefix, TookPrefix-longer, TookPrefix-then}
-use Rattle.sig_file.specs.Guarded.{Guards, IsSoundImage, guards_of}
-use Rattle.sig_file.specs.Images.{ImageView, IsImage}
-use Rattle.sig_file.specs.ImageRuns.{EndsIn, HandlesAll, Runs, State, cleared, instant_lines, opening}
-use Rattle.sig_file.specs.declared.run.ImageCause.{ImageCause}
-use Rattle.sig_file.specs.declared.run.ImageCause.TheVariants.{Limit}
-use Rattle.sig_file.specs.declared.run.ImageEnd.{ImageEnd}
-use Rattle.sig_exec.specs.inner.Instants.{HandlesEach}
-use Rattle.sig_exec.specs.Running.{TookRun, TookSome}
+use Rattle.sig_exec.proofs.Common.{◌≡◌, ◌<◌, ◌+◌, ◌-◌, ◌++◌, inl, inr, ℕ, zero, suc, ℤ, List, [], ◌∷◌, length, refl, sym, ap, subst, ◌∙◌, arith, append_assoc, append-nil, length-append, flat_map, Instant, Trace, Joins, TookPrefix, TookPrefix-longer, TookPrefix-then, Guards, IsSoundImage, guards_of, ImageView, IsImage, EndsIn, HandlesAll, Runs, State, cleared, instant_lines, opening, ImageCause, Limit, ImageEnd, HandlesEach, TookRun, TookSome}
 use Rattle.sig_exec.proofs.RunOfSoundImage.{IsFitting, runs_on}
 use Rattle.sig_exec.proofs.Single.{one_run}
 

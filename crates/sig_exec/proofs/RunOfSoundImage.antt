@@ -1,19 +1,5 @@
 -- A sound image has a run.
-use Rattle.std.proofs.Common.{◌≡◌, ◌+◌, ◌++◌, ◌⊎◌, inl, inr, ℕ, zero, suc, ℤ, Bool, true, false, List, [], ◌∷◌, length, Some, Result, Ok, Err, refl, sym, ap, subst, ◌∙◌, append_assoc, length-append}
-use Rattle.std.specs.Prelude.{slice_get}
-use Rattle.std.specs.List.{flat_map}
-use Rattle.std.proofs.lemmas.List.{length-map}
-use Rattle.sig_base.specs.Traces.{Trace}
-use Rattle.sig_file.specs.Guarded.{Guarded, Guards, IsSoundImage, guards_of}
-use Rattle.sig_file.specs.Images.{ImageView, IsImage}
-use Rattle.sig_file.specs.ImageRuns.{EndsIn, Handles, HandlesAll, IsImageRun, Runs, State, cleared, holds, instant_lines, opening}
-use Rattle.sig_file.specs.declared.images.ImageMemory.{ImageMemory}
-use Rattle.sig_file.specs.declared.run.ImageCause.{ImageCause}
-use Rattle.sig_file.specs.declared.run.ImageCause.TheVariants.{Limit}
-use Rattle.sig_file.specs.declared.run.ImageEnd.{ImageEnd}
-use Rattle.sig_exec.specs.inner.Instants.{IsAmid}
-use Rattle.sig_exec.specs.inner.Outcomes.{cause_of}
-use Rattle.sig_exec.specs.declared.fault.Fault.{Fault}
+use Rattle.sig_exec.proofs.Common.{◌≡◌, ◌+◌, ◌++◌, ◌⊎◌, inl, inr, ℕ, zero, suc, ℤ, Bool, true, false, List, [], ◌∷◌, length, Some, Result, Ok, Err, refl, sym, ap, subst, ◌∙◌, append_assoc, length-append, slice_get, flat_map, length-map, Trace, Guarded, Guards, IsSoundImage, guards_of, ImageView, IsImage, EndsIn, Handles, HandlesAll, IsImageRun, Runs, State, cleared, holds, instant_lines, opening, ImageMemory, ImageCause, Limit, ImageEnd, IsAmid, cause_of, Fault}
 use Rattle.sig_exec.proofs.Amid.{amid_cleared, behind_done, behind_passed, reads_there}
 use Rattle.sig_exec.proofs.OperationOutcomes.{Comes, comes, operated, outcome}
 use Rattle.sig_exec.proofs.Places.{has_places, may_do}

@@ -1,21 +1,6 @@
 -- An image has one run.
-use Rattle.std.proofs.lemmas.Option.{same_Some}
-use Rattle.std.proofs.Common.{◌≡◌, ◌≤◌, arith, inl, inr, ℕ, zero, suc, ℤ, Bool, true, false, List, [], ◌∷◌, length, Some, refl, sym, ap, subst, ◌∙◌}
-use Rattle.std.specs.Prelude.{slice_set}
-use Rattle.std.specs.List.{flat_map}
-use Rattle.sig_base.specs.Functions.{Gives}
-use Rattle.sig_base.specs.Traces.{Bounded, Instant, Trace, has_64_bits}
-use Rattle.sig_base.specs.declared.span.Span.{Span}
-use Rattle.sig_kernel.specs.KernelTraces.{HaveValues, function_of}
-use Rattle.sig_kernel.specs.declared.equation.Operand.{Operand}
-use Rattle.sig_kernel.specs.declared.equation.Operand.TheVariants.{Const, Sig}
-use Rattle.sig_file.specs.Guarded.{Guarded, Guards, guards_of}
-use Rattle.sig_file.specs.Images.{ImageView}
-use Rattle.sig_file.specs.ImageRuns.{Does, Ends, EndsIn, Handles, HandlesAll, HasZeroDivisor, IsImageRun, Runs, State, cleared, holds, instant_lines, opening, written}
-use Rattle.sig_file.specs.declared.images.ImageOpKind.{ImageOpKind}
+use Rattle.sig_exec.proofs.Common.{same_Some, ◌≡◌, ◌≤◌, arith, inl, inr, ℕ, zero, suc, ℤ, Bool, true, false, List, [], ◌∷◌, length, Some, refl, sym, ap, subst, ◌∙◌, slice_set, flat_map, Gives, Bounded, Instant, Trace, has_64_bits, Span, HaveValues, function_of, Operand, Const, Sig, Guarded, Guards, guards_of, ImageView, Does, Ends, EndsIn, Handles, HandlesAll, HasZeroDivisor, IsImageRun, Runs, State, cleared, holds, instant_lines, opening, written, ImageOpKind, ImageCause, ImageEnd}
 use Rattle.sig_file.specs.declared.images.ImageOpKind.TheVariants as does
-use Rattle.sig_file.specs.declared.run.ImageCause.{ImageCause}
-use Rattle.sig_file.specs.declared.run.ImageEnd.{ImageEnd}
 use Rattle.sig_exec.proofs.Results.{gives_one, zero_gives_nothing}
 
 -- operands have one list of values

@@ -1,7 +1,5 @@
 -- Items at their places.
-use Rattle.std.proofs.lemmas.Option.{same_Some}
-use Rattle.sig_file.proofs.Common.{◌≡◌, ℕ, zero, suc, List, [], ◌∷◌, ◌++◌, take, slice_get, Some, sym, subst, append-nil, append_assoc}
-use Rattle.sig_file.specs.Images.{Each}
+use Rattle.sig_file.proofs.Common.{same_Some, ◌≡◌, ℕ, zero, suc, List, [], ◌∷◌, ◌++◌, take, slice_get, Some, sym, subst, append-nil, append_assoc, Each}
 
 -- an item is right behind those before it
 pub each_at : {A : Type 0} (right : List A → A → Type 0) (before xs : List A) (n : ℕ) (x : A) → Each right before xs → slice_get xs n ≡ Some x → right (before ++ take n xs) x

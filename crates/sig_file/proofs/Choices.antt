@@ -1,12 +1,6 @@
 -- What the bytes of kinds stand for.
-use Rattle.std.proofs.lemmas.Option.{same_Some}
-use Rattle.sig_file.proofs.Common.{◌≡◌, ℕ, zero, suc, Some, refl, ap, slice_get}
-use Rattle.sig_file.specs.Prelude.{Kind, Integer, Boolean, Event, FunOp, Id, Neg, Not, And, Or, Xor, Eq, Ne, Lt, Le, Gt, Ge, Add, Sub, Mul, Div, Mod}
-use Rattle.sig_file.specs.Bytes.{function_number, kind_number}
-use Rattle.sig_file.specs.Fields.{functions, kinds, memory_kinds, op_tags, operand_tags}
-use Rattle.sig_file.specs.declared.choice.OpTag.{OpTag}
+use Rattle.sig_file.proofs.Common.{same_Some, ◌≡◌, ℕ, zero, suc, Some, refl, ap, slice_get, Kind, Integer, Boolean, Event, FunOp, Id, Neg, Not, And, Or, Xor, Eq, Ne, Lt, Le, Gt, Ge, Add, Sub, Mul, Div, Mod, function_number, kind_number, functions, kinds, memory_kinds, op_tags, operand_tags, OpTag, OperandTag}
 use Rattle.sig_file.specs.declared.choice.OpTag.TheVariants as tag
-use Rattle.sig_file.specs.declared.choice.OperandTag.{OperandTag}
 use Rattle.sig_file.specs.declared.choice.OperandTag.TheVariants as operand
 use Rattle.sig_file.proofs.Fields.{AreNumbered}
 

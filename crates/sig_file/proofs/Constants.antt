@@ -1,14 +1,5 @@
 -- The diagrams of constants, by the references that name no node.
-use Rattle.sig_file.proofs.Common.{◌≡◌, Bool, true, false, List, [], Some, None, inl, inr, refl, sym, ap, ◌∙◌}
-use Rattle.std.proofs.Common.{◌≢◌}
-use Rattle.sig_dd.specs.Diagram.{Constant, value_at}
-use Rattle.sig_dd.specs.Nodes.{Holds, IsRefOf, IsStore, StoreView, diagram, node_of}
-use Rattle.sig_dd.specs.declared.node.Ref.{Ref}
-use Rattle.sig_dd.proofs.Canonical.{one_ref}
-use Rattle.sig_dd.proofs.Listed.{shape}
-use Rattle.sig_file.specs.inner.Numbering.{IsNumbered}
-use Rattle.sig_file.specs.PlanImages.{visited}
-use Rattle.sig_file.specs.declared.images.ImageNode.{ImageNode}
+use Rattle.sig_file.proofs.Common.{◌≡◌, Bool, true, false, List, [], Some, None, inl, inr, refl, sym, ap, ◌∙◌, ◌≢◌, Constant, value_at, Holds, IsRefOf, IsStore, StoreView, diagram, node_of, Ref, one_ref, shape, IsNumbered, visited, ImageNode}
 
 module _ (s : StoreView) (store : IsStore s) (r t : Ref) (held : Holds s.nodes r) (none : node_of s.nodes r ≡ None) (is : IsRefOf s.nodes (λ _. true) t) where
   true_where : (b : Bool) → diagram s.nodes r ≡ Constant b → r ≡ t → b ≡ true

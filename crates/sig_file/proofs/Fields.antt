@@ -1,10 +1,6 @@
 -- Fields both ways: what is read is spelled so, and what is spelled so is read again.
-use Rattle.sig_file.proofs.Common.{◌≡◌, ℕ, suc, ◌+◌, ◌^◌, ◌<◌, ◌≤◌, Bool, true, false, cond, ltb, List, [], ◌∷◌, ◌++◌, length, get_or, take, drop, Option, Some, None, Result, Ok, Err, refl, sym, ap, subst, ◌∙◌, append_assoc, arith, ◌⊎◌, inl, inr, ltb-false, le-ltb, cases_lt, take_at, drop_at, take-append-drop, length-append, length-take, get_or-drop, get_or-take, get_or_past, be_bytes_4, be_bytes_8, from_be_bytes-to_be_bytes_4, from_be_bytes-to_be_bytes_8, of_z-to_z, to_z-of_z, slice_get}
-use Rattle.sig_file.specs.Prelude.{ℤ, Width, w32, w64, byte_len, cast_signed, cast_unsigned, from_be_bytes, to_be_bytes}
-use Rattle.sig_file.specs.Bytes.{long_bytes, number_bytes}
-use Rattle.sig_file.specs.inner.Reading.{Reading, ◌>>=◌, choice_at, choice_of, long_at, right_or, text_at, word_at}
+use Rattle.sig_file.proofs.Common.{◌≡◌, ℕ, suc, ◌+◌, ◌^◌, ◌<◌, ◌≤◌, Bool, true, false, cond, ltb, List, [], ◌∷◌, ◌++◌, length, get_or, take, drop, Option, Some, None, Result, Ok, Err, refl, sym, ap, subst, ◌∙◌, append_assoc, arith, ◌⊎◌, inl, inr, ltb-false, le-ltb, cases_lt, take_at, drop_at, take-append-drop, length-append, length-take, get_or-drop, get_or-take, get_or_past, be_bytes_4, be_bytes_8, from_be_bytes-to_be_bytes_4, from_be_bytes-to_be_bytes_8, of_z-to_z, to_z-of_z, slice_get, ℤ, Width, w32, w64, byte_len, cast_signed, cast_unsigned, from_be_bytes, to_be_bytes, long_bytes, number_bytes, Reading, ◌>>=◌, choice_at, choice_of, long_at, right_or, text_at, word_at, sfits_to_z, Fits-of_z}
 use mir.Val.{SFits}
-use Rattle.std.proofs.Math.Facts.{sfits_to_z, Fits-of_z}
 
 abbrev pub IsBytes : List ℕ → Type 0
 IsBytes bytes = (i : ℕ) → get_or bytes i 0 < 256

@@ -1,16 +1,5 @@
 -- The whole of an image's file, both ways.
-use Rattle.sig_file.proofs.Common.{◌≡◌, ℕ, ◌+◌, ◌<◌, ◌≤◌, ◌^◌, Bool, true, List, [], ◌∷◌, ◌++◌, length, Result, Ok, Err, refl, sym, ap, subst, ◌∙◌, arith, inl, inr, append-nil, append_assoc, bytes_eq, bytes_eq-Decides, flat_map, leb, leb-true, le-leb}
-use Rattle.sig_file.specs.Prelude.{NODES, SIGNALS, SigId}
-use Rattle.sig_file.specs.Bytes.{condition_bytes, image_bytes, magic, memory_bytes, node_bytes, number_bytes, op_bytes, signal_bytes}
-use Rattle.sig_file.specs.Fields.{all_read, condition_at, counts_at, fields_of_file, file_at, memory_from, node_at, op_at, ops_at, signal_at}
-use Rattle.sig_file.specs.Images.{Each, ImageView, IsImage, IsMemory, IsNodeBehind, IsOperation, IsSignalBehind, Scope, is_condition_behind}
-use Rattle.sig_file.specs.inner.Reading.{◌>>=◌}
-use Rattle.sig_file.specs.declared.counts.Counts.{Counts}
-use Rattle.sig_file.specs.declared.images.ImageMemory.{ImageMemory}
-use Rattle.sig_file.specs.declared.images.ImageNode.{ImageNode}
-use Rattle.sig_file.specs.declared.images.ImageOp.{ImageOp}
-use Rattle.sig_file.specs.declared.images.ImageSignal.{ImageSignal}
-use Rattle.sig_file.specs.declared.limits.TheConstants.{CONDITIONS, MEMORIES, OPERATIONS}
+use Rattle.sig_file.proofs.Common.{◌≡◌, ℕ, ◌+◌, ◌<◌, ◌≤◌, ◌^◌, Bool, true, List, [], ◌∷◌, ◌++◌, length, Result, Ok, Err, refl, sym, ap, subst, ◌∙◌, arith, inl, inr, append-nil, append_assoc, bytes_eq, bytes_eq-Decides, flat_map, leb, leb-true, le-leb, NODES, SIGNALS, SigId, condition_bytes, image_bytes, magic, memory_bytes, node_bytes, number_bytes, op_bytes, signal_bytes, all_read, condition_at, counts_at, fields_of_file, file_at, memory_from, node_at, op_at, ops_at, signal_at, Each, ImageView, IsImage, IsMemory, IsNodeBehind, IsOperation, IsSignalBehind, Scope, is_condition_behind, ◌>>=◌, Counts, ImageMemory, ImageNode, ImageOp, ImageSignal, CONDITIONS, MEMORIES, OPERATIONS, same_bytes}
 use Rattle.sig_file.proofs.Fields.{IsBytes, Reads, bind_err, bind_ok, shorter, if_reads, last_reads, number_reads, ok_is, reads_so, text_reads, then_reads, then_reads_if}
 use Rattle.sig_file.proofs.Items.{condition_reads, memory_reads, node_reads, rule_reads, signal_reads}
 use Rattle.sig_file.proofs.Operations.{IsSmall, op_reads}
@@ -39,9 +28,6 @@ most limit n = leb n limit
 
 abbrev with_inputs : ℕ → ℕ → ℕ → Bool
 with_inputs signals inputs n = leb (inputs + n) signals
-
-same_text : (a b : List ℕ) → bytes_eq a b ≡ true → a ≡ b
-same_text a b e = (bytes_eq-Decides a b).0 e
 
 pub counts_reads : Reads counts_at AreCounts head_bytes
 unfolding counts_at
@@ -93,7 +79,7 @@ counts_reads =
     (λ outputs c h k. ap (λ (y : Counts). y.outputs) (sym k.1.1.1.1)))
     (λ inputs c h k. ap (λ (y : Counts). y.inputs) (sym k.1.1.1.1.1)))
     (λ signals c h k. ap (λ (y : Counts). y.signals) (sym k.1.1.1.1.1.1)))
-    (λ text c h k. same_text magic text h.1))
+    (λ text c h k. same_bytes magic text h.1))
 
 -- ---- the parts
 

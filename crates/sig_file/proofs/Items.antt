@@ -1,17 +1,9 @@
 -- Signals, conditions, memories and nodes, both ways.
-use Rattle.sig_file.proofs.Common.{◌≡◌, ℕ, zero, suc, ◌+◌, ◌<◌, ◌≤◌, ◌^◌, Bool, true, List, length, Option, None, Some, refl, sym, ap, arith, append_assoc, cases_lt, inl, inr, ltb-true, lt-ltb, slice_get, slice_get_past, ltb}
-use Rattle.sig_file.specs.Prelude.{ℤ, ◌&&◌, not, Kind, Integer, Boolean, Event, SigId, SIGNALS, NODES, value_is}
-use Rattle.sig_file.specs.Bytes.{condition_bytes, kind_number, memory_bytes, node_bytes, number_bytes, signal_bytes}
-use Rattle.sig_file.specs.Fields.{condition_at, kinds, memory_from, memory_kinds, node_at, signal_at, signal_id}
-use Rattle.sig_file.specs.Images.{IsMemory, IsNodeBehind, IsSignalBehind, is_child, is_condition_behind, is_high_child, is_later, is_memory_kind, is_name, is_name_length, is_taken}
-use Rattle.sig_file.specs.inner.Reading.{number_if}
-use Rattle.sig_file.specs.declared.images.ImageMemory.{ImageMemory}
-use Rattle.sig_file.specs.declared.images.ImageNode.{ImageNode}
-use Rattle.sig_file.specs.declared.images.ImageSignal.{ImageSignal}
+use Rattle.sig_file.proofs.Common.{◌≡◌, ℕ, zero, suc, ◌+◌, ◌<◌, ◌≤◌, ◌^◌, Bool, true, List, length, Option, None, Some, refl, sym, ap, arith, append_assoc, cases_lt, inl, inr, ltb-true, lt-ltb, slice_get, slice_get_past, ltb, ℤ, ◌&&◌, not, Kind, Integer, Boolean, Event, SigId, SIGNALS, NODES, value_is, condition_bytes, kind_number, memory_bytes, node_bytes, number_bytes, signal_bytes, condition_at, kinds, memory_from, memory_kinds, node_at, signal_at, signal_id, IsMemory, IsNodeBehind, IsSignalBehind, is_child, is_condition_behind, is_high_child, is_later, is_memory_kind, is_name, is_name_length, is_taken, number_if, ImageMemory, ImageNode, ImageSignal, and_from, and_parts, not_from_false, not_true}
 use Rattle.sig_file.proofs.Choices.{kinds_numbered, kinds_there, memory_kinds_numbered}
 use Rattle.sig_file.proofs.Fields.{Reads, choice_reads, if_reads, last_reads, long_reads, number_reads, reads_so, text_reads, then_reads}
-use Rattle.sig_file.proofs.Rules.{both, is_short}
-use Rattle.sig_file.proofs.Values.{all_true, boolean_below, not_false, not_true, value_fits}
+use Rattle.sig_file.proofs.Rules.{is_short}
+use Rattle.sig_file.proofs.Values.{boolean_below, value_fits}
 
 -- a number that a rule lets through
 pub rule_reads : (rule : ℕ → Bool) → Reads (number_if rule) (λ n. (n < 2 ^ 32) × (rule n ≡ true)) number_bytes
@@ -29,8 +21,8 @@ pub signal_reads : (inputs : ℕ) (before : List ImageSignal) → Reads (signal_
 unfolding signal_at
 signal_reads inputs before =
     reads_so _ _ _ _ _
-    (λ s h. (let rules = both (is_name s.name) (not (is_taken inputs before s.name)) h.1.1.0.1 in record { long = h.1.0.1; printable = rules.0; free = not_true _ rules.1 }))
-    (λ s h. (kinds_there s.kind, ((is_short (length s.name) h.long, h.long), ((refl, all_true _ _ h.printable (not_false _ h.free)), refl))))
+    (λ s h. (let rules = and_parts (is_name s.name) (not (is_taken inputs before s.name)) h.1.1.0.1 in record { long = h.1.0.1; printable = rules.0; free = not_true _ rules.1 }))
+    (λ s h. (kinds_there s.kind, ((is_short (length s.name) h.long, h.long), ((refl, and_from _ _ h.printable (not_from_false _ h.free)), refl))))
     (λ s h. refl)
     (then_reads _ _ _ _ _ _ (λ s. s.kind) (choice_reads kinds kind_number kinds_numbered)
     (λ kind. then_reads _ _ _ _ _ _ (λ s. length s.name) (rule_reads is_name_length)
@@ -45,7 +37,7 @@ unfolding condition_at
 condition_reads signals few before =
     reads_so _ _ _ _ _
     (λ x h. h.0.1)
-    (λ x h. (let lt : x.0 < length signals = boolean_below signals x.0 (both _ _ h).0 in ((omega arith, h), refl)))
+    (λ x h. (let lt : x.0 < length signals = boolean_below signals x.0 (and_parts _ _ h).0 in ((omega arith, h), refl)))
     (λ x h. refl)
     (last_reads _ _ _ signal_id (λ x. x.0) (λ n. refl) (rule_reads (is_condition_behind signals before)))
 
@@ -100,7 +92,7 @@ node_reads conditions few before small =
     (λ n h. record { variable = ltb-true _ _ h.0.1; low = h.1.0.1; high = h.1.1.0.1 })
     (λ n h. (
     let low = child_below before n.variable n.low h.low in
-    let high = child_below before n.variable n.high (both _ _ h.high).0 in
+    let high = child_below before n.variable n.high (and_parts _ _ h.high).0 in
     ((omega (arith, h.variable), lt-ltb _ _ h.variable), ((omega arith, h.low), ((omega arith, h.high), refl)))))
     (λ n h. sym (append_assoc (number_bytes n.variable) (number_bytes n.low) (number_bytes n.high)))
     (then_reads _ _ _ _ _ _ (λ n. n.variable) (rule_reads (λ v. ltb v conditions))

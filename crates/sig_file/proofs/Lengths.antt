@@ -1,15 +1,6 @@
 -- How many bytes the parts of an image have.
-use Rattle.sig_file.proofs.Common.{◌≡◌, ℕ, ◌+◌, ◌<◌, List, [], ◌∷◌, ◌++◌, length, take, get_or, refl, sym, ap, ◌∙◌, arith, append-nil, flat_map, flat_map-cons, length-append}
-use Rattle.std.specs.Prelude.{◌*◌}
-use Rattle.std.proofs.lemmas.Grind.{flat_map-append, take_at_read}
-use Rattle.sig_file.specs.Bytes.{condition_bytes, count_bytes, field_bytes, function_number, image_bytes, long_bytes, magic, memory_bytes, node_bytes, number_bytes, op_bytes, operand_bytes, signal_bytes}
-use Rattle.sig_file.specs.Images.{ImageView}
-use Rattle.sig_file.specs.Prelude.{ℤ, FunOp, Operand, Sig, Const, SigId}
-use Rattle.sig_file.specs.declared.images.ImageMemory.{ImageMemory}
-use Rattle.sig_file.specs.declared.images.ImageNode.{ImageNode}
-use Rattle.sig_file.specs.declared.images.ImageOp.{ImageOp}
+use Rattle.sig_file.proofs.Common.{◌≡◌, ℕ, ◌+◌, ◌<◌, List, [], ◌∷◌, ◌++◌, length, take, get_or, refl, sym, ap, ◌∙◌, arith, append-nil, flat_map, flat_map-cons, length-append, ◌*◌, flat_map-append, take_at_read, condition_bytes, count_bytes, field_bytes, function_number, image_bytes, long_bytes, magic, memory_bytes, node_bytes, number_bytes, op_bytes, operand_bytes, signal_bytes, ImageView, ℤ, FunOp, Operand, Sig, Const, SigId, ImageMemory, ImageNode, ImageOp, ImageSignal}
 use Rattle.sig_file.specs.declared.images.ImageOpKind.TheVariants as does
-use Rattle.sig_file.specs.declared.images.ImageSignal.{ImageSignal}
 
 four : (n : ℕ) → length (number_bytes n) ≡ 4
 unfolding number_bytes

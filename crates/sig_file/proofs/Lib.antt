@@ -1,6 +1,6 @@
+pub mod Common
 pub mod Behind
 pub mod Choices
-pub mod Common
 pub mod Constants
 pub mod Fields
 pub mod Files
@@ -11,7 +11,6 @@ pub mod MadeBehind
 pub mod Numbered
 pub mod Operands
 pub mod Operations
-pub mod PartsOf
 pub mod PlanBytes
 pub mod PlanConditions
 pub mod PlanCounts
@@ -27,3 +26,24 @@ pub mod Small
 pub mod Values
 pub mod Visits
 pub mod Written
+unfoldable pub use Common.*
+pub use Behind.*
+pub use Constants.*
+pub use Fields.*
+pub use Files.*
+pub use Lengths.*
+pub use Loops.*
+pub use MadeBehind.*
+pub use Numbered.*
+pub use PlanBytes.*
+pub use PlanConditions.*
+pub use PlanCounts.*
+pub use PlanMemories.*
+pub use PlanOperations.*
+pub use PlanSignals.*
+pub use Reduced.*
+pub use Rules.*
+pub use Small.*
+pub use Visits.*
+pub use Written.*
+pub use Rattle.sig_file.proofs.Fields.{AreNumbered}

@@ -1,7 +1,5 @@
 -- Reading items one behind the other, as a loop does.
-use Rattle.sig_file.proofs.Common.{◌≡◌, ℕ, suc, ◌-◌, ◌+◌, ◌≤◌, ◌<◌, List, [], ◌∷◌, ◌++◌, Result, Ok, Err, refl, sym, ap, ◌∙◌, arith}
-use Rattle.sig_file.specs.inner.Reading.{Reading, Stops, added, several}
-use Rattle.sig_file.specs.declared.stop.Stop.{Stop}
+use Rattle.sig_file.proofs.Common.{◌≡◌, ℕ, suc, ◌-◌, ◌+◌, ◌≤◌, ◌<◌, List, [], ◌∷◌, ◌++◌, Result, Ok, Err, refl, sym, ap, ◌∙◌, arith, Reading, Stops, added, several, Stop}
 use Rattle.sig_file.specs.declared.stop.Stop.TheVariants as stops
 
 pub goes_on : {A : Type 0} (item : List A → Reading A) (count i : ℕ) (before seen : List A) (bytes : List ℕ) (x : A) (rest : List ℕ) (total : Result (List A × List ℕ) ℕ)

@@ -1,18 +1,5 @@
 -- What is made of the operations of an order, one behind the other.
-use Rattle.sig_file.proofs.Common.{◌≡◌, ◌<◌, ◌≤◌, ◌+◌, ℕ, suc, List, [], ◌∷◌, ◌++◌, length, take, drop, Option, None, Some, sym, ap, ◌∙◌, arith, append_assoc, append-nil, slice_get, get_or}
-use Rattle.std.proofs.lemmas.Grind.{take_at_read}
-use Rattle.std.proofs.lemmas.Option.{slice_get-get_or, slice_get_past}
-use Rattle.std.proofs.Common.{drop-cons, add-one}
-use Rattle.std.specs.List.{cons_option, filter_map}
-use Rattle.std.proofs.lemmas.List.Elements.{filter_map-append}
-use Rattle.sig_base.specs.declared.ids.OpId.{OpId}
-use Rattle.sig_dd.specs.Nodes.{diagram}
-use Rattle.sig_plan.specs.Plans.{PlanView}
-use Rattle.sig_plan.specs.declared.op.Op.{Op}
-use Rattle.sig_file.specs.inner.Numbering.{made_behind}
-use Rattle.sig_file.specs.PlanImages.{before, image_op, made_of, visited}
-use Rattle.sig_file.specs.declared.images.ImageNode.{ImageNode}
-use Rattle.sig_file.specs.declared.images.ImageOp.{ImageOp}
+use Rattle.sig_file.proofs.Common.{◌≡◌, ◌<◌, ◌≤◌, ◌+◌, ℕ, List, [], ◌∷◌, ◌++◌, length, take, drop, Option, None, Some, sym, ap, ◌∙◌, arith, append_assoc, append-nil, slice_get, get_or, take_at_read, slice_get-get_or, slice_get_past, drop-cons, add-one, cons_option, filter_map, filter_map-append, OpId, diagram, PlanView, Op, made_behind, before, image_op, made_of, visited, ImageNode, ImageOp}
 use Rattle.sig_file.proofs.Visits.{visited_longer}
 
 -- one more item
@@ -21,10 +8,6 @@ filter_map_more h xs i x lt is =
     ap (λ ys. filter_map h ys) ((take_at_read xs i x lt).1)
     ∙ filter_map-append h (take i xs) (get_or xs i x ∷ [])
     ∙ ap (λ y. filter_map h (take i xs) ++ cons_option (h y) []) (sym is)
-
-pub drop_at : {X : Type 0} (xs : List X) (i : ℕ) (x : X) → i < length xs → x ≡ get_or xs i x → drop i xs ≡ x ∷ drop (i + 1) xs
-drop_at xs i x lt is =
-    drop-cons xs i x lt ∙ ap (λ y. y ∷ drop (suc i) xs) (sym is) ∙ ap (λ n. x ∷ drop n xs) (sym (add-one i))
 
 before_append : (ops xs : List ImageOp) (o : Option ImageOp) → ops ++ before o xs ≡ (ops ++ before o []) ++ xs
 before_append ops xs None = ap (λ ys. ys ++ xs) (sym (append-nil ops))

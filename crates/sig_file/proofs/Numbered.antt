@@ -1,17 +1,6 @@
 -- The number of a reference, by those of its children.
-use Rattle.sig_file.proofs.Common.{◌≡◌, ◌<◌, ◌≤◌, ◌+◌, ℕ, List, ◌++◌, length, Option, None, Some, sym, ap, subst, ◌∙◌, arith}
-use Rattle.std.specs.HashMap.{HashMap, get}
-use Rattle.sig_dd.specs.Diagram.{Diagram, Choice}
-use Rattle.sig_dd.specs.Nodes.{Holds, IsStore, StoreView, diagram, node_of}
-use Rattle.sig_dd.specs.declared.node.Node.{Node}
-use Rattle.sig_dd.specs.declared.node.Ref.{Ref}
-use Rattle.sig_dd.proofs.Sides.{names_node}
-use Rattle.sig_file.specs.inner.Numbering.{AreNumbered, IsNumbered}
-use Rattle.sig_file.specs.PlanImages.{place_of, visited, with_node}
-use Rattle.sig_file.specs.Prelude.{IfSome}
-use Rattle.sig_file.specs.declared.images.ImageNode.{ImageNode}
+use Rattle.sig_file.proofs.Common.{◌≡◌, ◌<◌, ◌≤◌, ◌+◌, ℕ, List, ◌++◌, length, Option, None, Some, sym, ap, subst, ◌∙◌, arith, HashMap, get, Diagram, Choice, Holds, IsStore, StoreView, diagram, node_of, Node, Ref, names_node, AreNumbered, IsNumbered, place_of, visited, with_node, IfSome, ImageNode, length-append, Bool}
 use Rattle.sig_file.proofs.Visits.{visited_again, visited_choice, visited_kept, visited_longer, with_node_more}
-use Rattle.sig_file.proofs.Common.{length-append, Bool}
 
 -- numbers stay as nodes are added
 pub numbers_stay : {S : Type 0} (eq : Ref → Ref → Bool) (store : List Node) (ks more : List ImageNode) (table : HashMap Ref ℕ S) → AreNumbered eq store ks table → AreNumbered eq store (ks ++ more) table
@@ -32,12 +21,6 @@ choice_longer : (v : ℕ) (low high : Diagram) (ks : List ImageNode) → length 
 choice_longer v low high ks = let one = visited low ks in let other = visited high one.0 in with_node_longer v one.1 other.1 other.0
 
 module _ (s : StoreView) (store : IsStore s) (r : Ref) (held : Holds s.nodes r) (n : Node) (is : Some n ≡ node_of s.nodes r) (old : List ImageNode) where
-  low_of : Diagram
-  low_of = diagram s.nodes n.low
-
-  high_of : Diagram
-  high_of = diagram s.nodes n.high
-
   choice : diagram s.nodes r ≡ Choice n.variable (diagram s.nodes n.low) (diagram s.nodes n.high)
   choice = let (i, p) = names_node s.nodes store.reduced r held n is in p.diagram_is
 

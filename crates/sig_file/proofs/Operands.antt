@@ -1,19 +1,12 @@
 -- Functions and their operands, both ways.
-use Rattle.sig_file.proofs.Common.{◌≡◌, ℕ, suc, ◌<◌, ◌≤◌, ◌^◌, ◌⊎◌, inl, inr, Bool, true, false, List, [], ◌∷◌, ◌++◌, length, Option, None, Some, refl, sym, ap, subst, ◌∙◌, arith, bytes_eq, bytes_eq-Decides, list_any, ltb, AllByRecursion, flat_map}
-use Rattle.sig_file.specs.Prelude.{ℤ, w64, ◌||◌, Kind, FunOp, Id, Neg, Not, And, Or, Xor, Eq, Ne, Lt, Le, Gt, Ge, Add, Sub, Mul, Div, Mod, Operand, Sig, Const, pos, Sort, Row, SIGNALS, function_rows, is_kind, is_signal}
-use Rattle.sig_file.specs.Bytes.{function_number, long_bytes, number_bytes, operand_bytes}
-use Rattle.sig_file.specs.Fields.{function_at, functions, may_follow, operand_at, operand_from, operand_tags, signal_id}
-use Rattle.sig_file.specs.Images.{Each, IsFunction, are_operands, begins_row, kind_at, operand_count, operand_is, operands_begin}
-use Rattle.sig_file.specs.declared.choice.OperandTag.{OperandTag}
+use Rattle.sig_file.proofs.Common.{◌≡◌, ℕ, suc, ◌<◌, ◌≤◌, ◌^◌, ◌⊎◌, inl, inr, Bool, true, false, List, [], ◌∷◌, ◌++◌, length, Option, None, Some, refl, sym, ap, subst, ◌∙◌, arith, bytes_eq, bytes_eq-Decides, list_any, ltb, AllByRecursion, flat_map, ℤ, w64, ◌||◌, Kind, FunOp, Id, Neg, Not, And, Or, Xor, Eq, Ne, Lt, Le, Gt, Ge, Add, Sub, Mul, Div, Mod, Operand, Sig, Const, pos, Sort, Row, SIGNALS, function_rows, is_kind, is_signal, function_number, long_bytes, number_bytes, operand_bytes, function_at, functions, may_follow, operand_at, operand_from, operand_tags, signal_id, Each, IsFunction, are_operands, begins_row, kind_at, operand_count, operand_is, operands_begin, OperandTag, ImageOpKind, ImageSignal, and_from, and_parts, or_left, or_right}
 use Rattle.sig_file.specs.declared.choice.OperandTag.TheVariants as operand
-use Rattle.sig_file.specs.declared.images.ImageOpKind.{ImageOpKind}
 use Rattle.sig_file.specs.declared.images.ImageOpKind.TheVariants as does
-use Rattle.sig_file.specs.declared.images.ImageSignal.{ImageSignal}
 use Rattle.sig_file.proofs.Choices.{functions_numbered, functions_there, operand_number, operand_tags_numbered, operand_tags_there}
 use Rattle.sig_file.proofs.Fields.{Reads, choice_reads, if_reads, last_reads, long_reads, number_reads, reads_so, text_reads, then_reads}
 use Rattle.sig_file.proofs.Rows.{several_reads}
-use Rattle.sig_file.proofs.Rules.{both, count_few}
-use Rattle.sig_file.proofs.Values.{all_true, constant_fits, fitting_below}
+use Rattle.sig_file.proofs.Rules.{count_few}
+use Rattle.sig_file.proofs.Values.{constant_fits, fitting_below}
 use mir.Val.{SFits}
 
 -- ---- what fits, and how much of it
@@ -25,13 +18,6 @@ lead p x false rest here f later h = later h
 any_leads : {A Q : Type 0} (p : A → Bool) (xs : List A) → ((x : A) → p x ≡ true → Q) → list_any p xs ≡ true → Q
 any_leads p [] f e = absurd cc
 any_leads p (x ∷ xs) f e = lead p x (p x) (list_any p xs) refl f (any_leads p xs f) e
-
-pub or_left : (a b : Bool) → a ≡ true → (a || b) ≡ true
-or_left a b e = rw e refl
-
-pub or_right : (a b : Bool) → b ≡ true → (a || b) ≡ true
-or_right true b e = refl
-or_right false b e = e
 
 more : {A : Type 0} (p q : A → Bool) (x : A) (b rest other : Bool) → p x ≡ b → ((y : A) → p y ≡ true → q y ≡ true) → (rest ≡ true → other ≡ true) → (b || rest) ≡ true → (q x || other) ≡ true
 more p q x true rest other here f later h = or_left (q x) other (f x here)
@@ -45,13 +31,13 @@ begins_less : (signals : List ImageSignal) (xs ys : List Operand) (sorts : List 
 begins_less signals [] ys sorts e = refl
 begins_less signals (x ∷ xs) ys [] e = e
 begins_less signals (x ∷ xs) ys (sort ∷ sorts) e =
-    let two = both (operand_is signals x sort) (operands_begin signals (xs ++ ys) sorts) e in
-    all_true _ _ two.0 (begins_less signals xs ys sorts two.1)
+    let two = and_parts (operand_is signals x sort) (operands_begin signals (xs ++ ys) sorts) e in
+    and_from _ _ two.0 (begins_less signals xs ys sorts two.1)
 
 row_less : (signals : List ImageSignal) (kind : Kind) (xs ys : List Operand) (row : Row) → begins_row signals kind (xs ++ ys) row ≡ true → begins_row signals kind xs row ≡ true
 row_less signals kind xs ys row e =
-    let two = both (is_kind kind row.result) (operands_begin signals (xs ++ ys) row.operands) e in
-    all_true _ _ two.0 (begins_less signals xs ys row.operands two.1)
+    let two = and_parts (is_kind kind row.result) (operands_begin signals (xs ++ ys) row.operands) e in
+    and_from _ _ two.0 (begins_less signals xs ys row.operands two.1)
 
 -- the first of some operands that fit do
 fewer : (signals : List ImageSignal) (op : FunOp) (kind : Option Kind) (xs ys : List Operand) → are_operands signals op kind (xs ++ ys) ≡ true → are_operands signals op kind xs ≡ true
@@ -71,13 +57,13 @@ all_fit : (signals : List ImageSignal) → length signals ≤ SIGNALS → (xs : 
 all_fit signals few [] sorts e = tt
 all_fit signals few (x ∷ xs) [] e = absurd cc
 all_fit signals few (x ∷ xs) (sort ∷ sorts) e =
-    let two = both (operand_is signals x sort) (operands_begin signals xs sorts) e in
+    let two = and_parts (operand_is signals x sort) (operands_begin signals xs sorts) e in
     (operand_bytes_fit signals few x sort two.0, all_fit signals few xs sorts two.1)
 
 operands_fit : (signals : List ImageSignal) → length signals ≤ SIGNALS → (op : FunOp) (kind : Option Kind) (xs : List Operand) → are_operands signals op kind xs ≡ true → AllByRecursion HasBytes xs
 operands_fit signals few op None xs e = absurd cc
 operands_fit signals few op (Some kind) xs e =
-    any_leads (begins_row signals kind xs) (function_rows op) (λ row h. all_fit signals few xs row.operands (both (is_kind kind row.result) (operands_begin signals xs row.operands) h).1) e
+    any_leads (begins_row signals kind xs) (function_rows op) (λ row h. all_fit signals few xs row.operands (and_parts (is_kind kind row.result) (operands_begin signals xs row.operands) h).1) e
 
 -- ---- operands
 

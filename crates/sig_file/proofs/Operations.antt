@@ -1,15 +1,7 @@
 -- Operations, both ways.
-use Rattle.sig_file.proofs.Common.{◌≡◌, ℕ, ◌+◌, ◌<◌, ◌≤◌, ◌^◌, Bool, true, List, [], ◌∷◌, ◌++◌, length, Option, None, Some, refl, sym, ap, ◌∙◌, arith, append_assoc, ltb, ltb-true, lt-ltb}
-use Rattle.sig_file.specs.Prelude.{ℤ, pos, w64, Kind, FunOp, Id, Operand, SIGNALS}
-use Rattle.sig_file.specs.Bytes.{field_bytes, long_bytes, number_bytes, op_bytes, op_number}
-use Rattle.sig_file.specs.Fields.{fields_at, op_at, op_tags, signal_id}
-use Rattle.sig_file.specs.Images.{IsOperation, MayDo, Scope, accepts, accepts_value, are_operands, is_same, kind_at, memory_at}
-use Rattle.sig_file.specs.declared.choice.OpTag.{OpTag}
+use Rattle.sig_file.proofs.Common.{◌≡◌, ℕ, ◌+◌, ◌<◌, ◌≤◌, ◌^◌, Bool, true, List, [], ◌∷◌, ◌++◌, length, Option, None, Some, refl, sym, ap, ◌∙◌, arith, append_assoc, ltb, ltb-true, lt-ltb, ℤ, pos, w64, Kind, FunOp, Id, Operand, SIGNALS, field_bytes, long_bytes, number_bytes, op_bytes, op_number, fields_at, op_at, op_tags, signal_id, IsOperation, MayDo, Scope, accepts, accepts_value, are_operands, is_same, kind_at, memory_at, OpTag, ImageOp, ImageOpKind, ImageSignal}
 use Rattle.sig_file.specs.declared.choice.OpTag.TheVariants as tag
-use Rattle.sig_file.specs.declared.images.ImageOp.{ImageOp}
-use Rattle.sig_file.specs.declared.images.ImageOpKind.{ImageOpKind}
 use Rattle.sig_file.specs.declared.images.ImageOpKind.TheVariants as does
-use Rattle.sig_file.specs.declared.images.ImageSignal.{ImageSignal}
 use Rattle.sig_file.proofs.Choices.{op_tags_numbered, op_tags_there, tag_number}
 use Rattle.sig_file.proofs.Fields.{Reads, choice_reads, if_reads, last_reads, long_reads, number_reads, reads_so, then_reads}
 use Rattle.sig_file.proofs.Items.{rule_reads}
@@ -80,9 +72,6 @@ IsOf scope t kind = MayDo scope kind × (tag_of kind ≡ t)
 
 -- Of each form: what the fields tell, and back, and their bytes.
 module _ (scope : Scope) (small : IsSmall scope) where
-  signal_rule : ℕ → Bool
-  signal_rule y = ltb y (length scope.signals)
-
   abbrev IsNumber : (ℕ → Bool) → ℕ → Type 0
   IsNumber rule n = (n < 2 ^ 32) × (rule n ≡ true)
 

@@ -1,9 +1,5 @@
 -- An image of few bytes has few nodes.
-use Rattle.sig_file.proofs.Common.{◌≡◌, ℕ, ◌≤◌, List, [], ◌∷◌, ◌++◌, length, refl, ap, ◌∙◌, arith, flat_map, flat_map-cons, length-append}
-use Rattle.std.specs.Prelude.{◌*◌}
-use Rattle.sig_file.specs.Bytes.{condition_bytes, count_bytes, image_bytes, magic, memory_bytes, node_bytes, number_bytes, op_bytes, signal_bytes}
-use Rattle.sig_file.specs.Images.{ImageView}
-use Rattle.sig_file.specs.declared.images.ImageNode.{ImageNode}
+use Rattle.sig_file.proofs.Common.{◌≡◌, ℕ, ◌≤◌, List, [], ◌∷◌, ◌++◌, length, refl, ap, ◌∙◌, arith, flat_map, flat_map-cons, length-append, ◌*◌, condition_bytes, count_bytes, image_bytes, magic, memory_bytes, node_bytes, number_bytes, op_bytes, signal_bytes, ImageView, ImageNode}
 
 four : (n : ℕ) → length (number_bytes n) ≡ 4
 unfolding number_bytes

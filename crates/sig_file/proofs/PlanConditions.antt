@@ -1,22 +1,6 @@
 -- The conditions of a plan's image.
-use Rattle.sig_file.proofs.Common.{◌≡◌, ℕ, zero, suc, ◌<◌, ◌≤◌, ◌⊎◌, inl, inr, Bool, true, false, List, [], ◌∷◌, length, map, take, slice_get, Option, Some, None, refl, sym, subst, arith, list_any}
-use Rattle.sig_file.specs.Prelude.{◌==◌, not, Kind, Integer, Boolean, Event, SigId, IsTrue}
-use Rattle.std.proofs.Common.{get_or, eqb-true}
-use Rattle.std.proofs.lemmas.Bool.{and_parts, cases_lt}
-use Rattle.sig_base.specs.declared.signal.Signal.{Signal}
-use Rattle.sig_kernel.specs.Table.{kind_of}
-use Rattle.sig_kernel.specs.declared.kernel.Kernel.{Kernel}
-use Rattle.sig_clock.specs.Clocks.{AreInOrder}
-use Rattle.sig_clock.specs.Conditions.{is_free}
-use Rattle.sig_clock.specs.Layers.{HasLayer, IsEarlier}
-use Rattle.sig_clock.specs.Reactions.{is_boolean_kind}
-use Rattle.sig_clock.proofs.LayerLemmas.{one_layer}
-use Rattle.sig_clock.proofs.Lists.{contains_at, get_at, get_within}
-use Rattle.sig_plan.proofs.Pigeons.{two_are_same}
-use Rattle.sig_file.specs.Images.{Each, is_boolean, is_condition_behind, kind_at}
-use Rattle.sig_file.specs.PlanImages.{image_signal}
-use Rattle.sig_file.proofs.PlanSignals.{each_from, kind_image, neither}
-use Rattle.sig_file.proofs.Values.{all_true, not_false}
+use Rattle.sig_file.proofs.Common.{◌≡◌, ℕ, zero, suc, ◌<◌, ◌≤◌, ◌⊎◌, inl, inr, Bool, true, false, List, [], ◌∷◌, length, map, take, slice_get, Option, Some, None, refl, sym, subst, arith, list_any, ◌==◌, not, Kind, Integer, Boolean, Event, SigId, IsTrue, get_or, eqb-true, and_parts, cases_lt, Signal, kind_of, Kernel, AreInOrder, is_free, HasLayer, IsEarlier, is_boolean_kind, one_layer, two_are_same, Each, is_boolean, is_condition_behind, kind_at, image_signal, contains_at, slice_get-get_or, slice_get_within, and_from, not_from_false, or_from}
+use Rattle.sig_file.proofs.PlanSignals.{each_from, kind_image}
 
 boolean_by : (o : Option Kind) → is_boolean_kind o ≡ true → is_boolean o ≡ true
 boolean_by None e = absurd cc
@@ -49,7 +33,7 @@ none_before [] x f = refl
 none_before (c ∷ xs) x f = by (c.0 == x) refl (none_before xs x (λ k d. f (suc k) d)) where
   by : (b : Bool) → (c.0 == x) ≡ b → list_any (λ (d : SigId). d.0 == x) xs ≡ false → list_any (λ (d : SigId). d.0 == x) (c ∷ xs) ≡ false
   by true e rest = absurd (f 0 c refl (eqb-true c.0 x e))
-  by false e rest = neither (c.0 == x) (list_any (λ (d : SigId). d.0 == x) xs) e rest
+  by false e rest = or_from (c.0 == x) (list_any (λ (d : SigId). d.0 == x) xs) e rest
 
 module _ (kernel : Kernel) (conditions : List SigId) (order : AreInOrder kernel conditions) where
   free_boolean : (n : ℕ) (x : SigId) → slice_get conditions n ≡ Some x → is_boolean_kind (kind_of (slice_get kernel.signals x.0)) ≡ true
@@ -59,7 +43,7 @@ module _ (kernel : Kernel) (conditions : List SigId) (order : AreInOrder kernel 
   condition_right n x e =
       let boolean = subst (λ (o : Option Kind). is_boolean o ≡ true) (sym (kind_image kernel.signals x.0)) (boolean_by (kind_of (slice_get kernel.signals x.0)) (free_boolean n x e)) in
       let none = none_before (take n conditions) x.0 (λ k c at same. (let there = front conditions n k c at in not_earlier kernel c.0 x.0 same (order.order k n c x there.0 there.1 e))) in
-      all_true (is_boolean (kind_at (map image_signal kernel.signals) x.0)) (not (list_any (λ (c : SigId). c.0 == x.0) (take n conditions))) boolean (not_false (list_any (λ (c : SigId). c.0 == x.0) (take n conditions)) none)
+      and_from (is_boolean (kind_at (map image_signal kernel.signals) x.0)) (not (list_any (λ (c : SigId). c.0 == x.0) (take n conditions))) boolean (not_from_false (list_any (λ (c : SigId). c.0 == x.0) (take n conditions)) none)
 
   -- each condition is a boolean, and no condition before it
   pub conditions_right : Each (λ before (x : SigId). IsTrue (is_condition_behind (map image_signal kernel.signals) before x.0)) [] conditions
@@ -72,8 +56,8 @@ module _ (kernel : Kernel) (conditions : List SigId) (order : AreInOrder kernel 
   unfolding number_at
   number_below k lt =
       let x = get_or conditions k (record { 0 = 0 }) in
-      let there = there_by (slice_get kernel.signals x.0) (free_boolean k x (get_at conditions k (record { 0 = 0 }) lt)) in
-      get_within kernel.signals x.0 there.0 there.1
+      let there = there_by (slice_get kernel.signals x.0) (free_boolean k x (slice_get-get_or conditions k (record { 0 = 0 }) lt)) in
+      slice_get_within kernel.signals x.0 there.0 there.1
 
   -- there are no more conditions than signals
   pub conditions_few : length conditions ≤ length kernel.signals
@@ -86,6 +70,6 @@ module _ (kernel : Kernel) (conditions : List SigId) (order : AreInOrder kernel 
         let within = two.within in
         absurd (not_earlier kernel (number_at two.a) (number_at two.b) two.same
         (order.order two.a two.b (get_or conditions two.a (record { 0 = 0 })) (get_or conditions two.b (record { 0 = 0 })) two.less
-        (get_at conditions two.a (record { 0 = 0 }) (omega (arith, less, within, more))) (get_at conditions two.b (record { 0 = 0 }) (omega (arith, within, more)))))
+        (slice_get-get_or conditions two.a (record { 0 = 0 }) (omega (arith, less, within, more))) (slice_get-get_or conditions two.b (record { 0 = 0 }) (omega (arith, within, more)))))
         )
   ]

@@ -1,31 +1,7 @@
 -- A plan's image has few memories and few operations: each comes from an equation that defines a signal, and none defines what
 -- another one defines.
-use Rattle.sig_file.proofs.Common.{◌≡◌, ℕ, zero, suc, ◌+◌, ◌<◌, ◌≤◌, inl, inr, Bool, true, false, cond, List, [], ◌∷◌, ◌++◌, length, map, slice_get, Option, Some, None, refl, sym, ap, ◌∙◌, arith, eqb, ltb, lt-ltb, le-ltb, eq-eqb, length-append}
-use Rattle.sig_file.specs.Prelude.{SigId, diagram, list_all}
-use Rattle.std.specs.Prelude.{count_by, filter_map, ◌*◌}
-use Rattle.std.specs.List.{cons_option, range_with_len}
-use Rattle.std.proofs.Common.{eqb-true}
-use Rattle.std.proofs.lemmas.Bool.{and_parts, cases_order}
-use Rattle.std.proofs.lemmas.List.FromFn.{length-range_with_len}
-use Rattle.std.proofs.lemmas.List.Sums.{sum_by-cons}
-use Rattle.std.proofs.Math.ListN.{length-map}
-use Rattle.sig_base.specs.declared.ids.EqId.{EqId}
-use Rattle.sig_base.specs.declared.ids.OpId.{OpId}
-use Rattle.sig_base.specs.declared.signal.Signal.{Signal}
-use Rattle.sig_kernel.specs.Table.{operands_of, target_of}
-use Rattle.sig_kernel.specs.Validity.{defines, form_within, is_below, is_target, operand_within, target_within, IsValid}
-use Rattle.sig_kernel.specs.declared.equation.Equation.{Equation}
-use Rattle.sig_kernel.specs.declared.equation.Form.{Form}
-use Rattle.sig_kernel.specs.declared.equation.Form.TheVariants.{Fun, Delay, When, WhenConst, Default, Sync, Event as EventOf}
-use Rattle.sig_kernel.specs.declared.kernel.Kernel.{Kernel}
+use Rattle.sig_file.proofs.Common.{◌≡◌, ℕ, zero, suc, ◌+◌, ◌<◌, ◌≤◌, inl, inr, Bool, true, false, cond, List, [], ◌∷◌, ◌++◌, length, map, slice_get, Option, Some, None, refl, sym, ap, ◌∙◌, arith, eqb, ltb, lt-ltb, le-ltb, eq-eqb, length-append, SigId, diagram, list_all, count_by, filter_map, ◌*◌, cons_option, range_with_len, and_parts, cases_order, length-range_with_len, sum_by-cons, length-map, EqId, OpId, Signal, operands_of, target_of, defines, form_within, is_below, is_target, operand_within, target_within, IsValid, Equation, Form, Fun, Delay, When, WhenConst, Default, Sync, EventOf, Kernel, Operation, Presence, equation_id, of_each, operations_of, presence_in, read_of, stores_of, writes_of, IsAccepted, PlanView, Op, before, image_op, made_of, memory_of, ordered, visited, ImageMemory, ImageNode, ImageOp, ne_eqb}
 use Rattle.sig_clock.specs.Conditions.{signal_id}
-use Rattle.sig_plan.specs.Operations.{Operation, Presence, equation_id, of_each, operations_of, presence_in, read_of, stores_of, writes_of}
-use Rattle.sig_plan.specs.Plans.{IsAccepted, PlanView}
-use Rattle.sig_plan.specs.declared.op.Op.{Op}
-use Rattle.sig_file.specs.PlanImages.{before, image_op, made_of, memory_of, ordered, visited}
-use Rattle.sig_file.specs.declared.images.ImageMemory.{ImageMemory}
-use Rattle.sig_file.specs.declared.images.ImageNode.{ImageNode}
-use Rattle.sig_file.specs.declared.images.ImageOp.{ImageOp}
 
 one_of : Bool → ℕ
 one_of b = cond b 1 0
@@ -61,19 +37,13 @@ under n equations = total (λ (d : Equation). one_of (is_under n (target_of d.fo
 three : (a b c : Bool) (x y z : Bool) → a ≡ x → b ≡ y → c ≡ z → one_of x ≡ one_of y + one_of z → one_of a ≡ one_of b + one_of c
 three a b c x y z e f g h = ap one_of e ∙ h ∙ ap (λ w. one_of w + one_of z) (sym f) ∙ ap (λ w. one_of b + one_of w) (sym g)
 
-apart : (a b : ℕ) → (a ≡ b → ⊥) → eqb a b ≡ false
-apart a b ne = by (eqb a b) refl where
-  by : (t : Bool) → eqb a b ≡ t → eqb a b ≡ false
-  by true e = absurd (ne (eqb-true a b e))
-  by false e = e
-
 one_more : (n : ℕ) (t : Option SigId) → one_of (is_under (suc n) t) ≡ one_of (is_under n t) + one_of (is_target n t)
 unfolding is_under one_of
 one_more n None = omega arith
 one_more n (Some y) = elim (cases_order y.0 n) [
   | inl e ↦ three (ltb y.0 (suc n)) (ltb y.0 n) (eqb y.0 n) true false true (lt-ltb y.0 (suc n) (omega (arith, e))) (le-ltb y.0 n (omega (arith, e))) (eq-eqb y.0 n e) (omega arith)
-  | inr (inl lt) ↦ three (ltb y.0 (suc n)) (ltb y.0 n) (eqb y.0 n) true true false (lt-ltb y.0 (suc n) (omega (arith, lt))) (lt-ltb y.0 n lt) (apart y.0 n (λ e. omega (arith, e, lt))) (omega arith)
-  | inr (inr gt) ↦ three (ltb y.0 (suc n)) (ltb y.0 n) (eqb y.0 n) false false false (le-ltb y.0 (suc n) (omega (arith, gt))) (le-ltb y.0 n (omega (arith, gt))) (apart y.0 n (λ e. omega (arith, e, gt))) (omega arith)
+  | inr (inl lt) ↦ three (ltb y.0 (suc n)) (ltb y.0 n) (eqb y.0 n) true true false (lt-ltb y.0 (suc n) (omega (arith, lt))) (lt-ltb y.0 n lt) (ne_eqb y.0 n (λ e. omega (arith, e, lt))) (omega arith)
+  | inr (inr gt) ↦ three (ltb y.0 (suc n)) (ltb y.0 n) (eqb y.0 n) false false false (le-ltb y.0 (suc n) (omega (arith, gt))) (le-ltb y.0 n (omega (arith, gt))) (ne_eqb y.0 n (λ e. omega (arith, e, gt))) (omega arith)
 ]
 
 nothing_under : (t : Option SigId) → one_of (is_under 0 t) ≡ 0

@@ -1,23 +1,8 @@
 -- What the operation of an equation does in a plan's image fits the kinds of its signals.
-use Rattle.sig_file.proofs.Common.{◌≡◌, ℕ, suc, true, List, [], ◌∷◌, length, map, slice_get, Option, Some, None, refl, sym, ap, subst, ◌∙◌, list_any, inl, inr, AllByRecursion}
-use Rattle.sig_file.specs.Prelude.{ℤ, pos, Kind, Integer, Boolean, Event, SigId, Sort, AnInteger, Truth, AnEvent, Row, constant_is, function_rows, is_kind, is_signal, kind_fits, value_is, Operand, Sig, Const, FunOp, Id, Neg, Not, And, Or, Xor, Eq, Ne, Lt, Le, Gt, Ge, Add, Sub, Mul, Div, Mod}
-use Rattle.std.specs.Prelude.{IfSome, unwrap_or}
-use Rattle.std.proofs.lemmas.Bool.{and_parts}
-use Rattle.sig_base.specs.declared.signal.Signal.{Signal}
-use Rattle.sig_kernel.specs.Table.{defines_well, form_fits, handed_on_where, keeps_to, keeps_to_one, kind_of, merged, operands_are, operands_of, presence, target_fits}
+use Rattle.sig_file.proofs.Common.{◌≡◌, ℕ, suc, true, List, [], ◌∷◌, length, map, slice_get, Option, Some, None, refl, sym, ap, subst, ◌∙◌, list_any, inl, inr, AllByRecursion, ℤ, pos, Kind, Integer, Boolean, Event, SigId, Sort, AnInteger, Truth, AnEvent, Row, constant_is, function_rows, is_kind, is_signal, kind_fits, value_is, Operand, Sig, Const, FunOp, Id, Neg, Not, And, Or, Xor, Eq, Ne, Lt, Le, Gt, Ge, Add, Sub, Mul, Div, Mod, IfSome, unwrap_or, and_parts, Signal, defines_well, form_fits, handed_on_where, keeps_to, keeps_to_one, kind_of, merged, operands_are, operands_of, presence, target_fits, Form, Fun, Delay, When, WhenConst, Default, EventOf, OpKind, Compute, Left, Right, DelayRead, Store, IsFunction, MayDo, Scope, accepts, accepts_value, are_operands, begins_row, is_same, kind_at, memory_at, memory_in, operand_count, operand_is, operands_begin, sort_of, does_of, image_signal, memory_of, ImageMemory, ImageSignal, and_from, or_cases, or_left, or_right, two_parts}
 use Rattle.sig_kernel.specs.Table as table
-use Rattle.sig_kernel.specs.declared.equation.Form.{Form}
-use Rattle.sig_kernel.specs.declared.equation.Form.TheVariants.{Fun, Delay, When, WhenConst, Default, Event as EventOf}
-use Rattle.sig_plan.specs.declared.op.OpKind.{OpKind}
-use Rattle.sig_plan.specs.declared.op.OpKind.TheVariants.{Compute, Left, Right, DelayRead, Store}
-use Rattle.sig_file.specs.Images.{IsFunction, MayDo, Scope, accepts, accepts_value, are_operands, begins_row, is_same, kind_at, memory_at, memory_in, operand_count, operand_is, operands_begin, sort_of}
-use Rattle.sig_file.specs.PlanImages.{does_of, image_signal, memory_of}
-use Rattle.sig_file.specs.declared.images.ImageMemory.{ImageMemory}
-use Rattle.sig_file.specs.declared.images.ImageSignal.{ImageSignal}
-use Rattle.sig_file.proofs.Operands.{or_left, or_right}
-use Rattle.sig_file.proofs.PlanMemories.{delay_kept, two_parts}
+use Rattle.sig_file.proofs.PlanMemories.{delay_kept}
 use Rattle.sig_file.proofs.PlanSignals.{kind_image}
-use Rattle.sig_file.proofs.Values.{all_true, either}
 
 -- ---- functions
 
@@ -55,7 +40,7 @@ module _ (signals : List Signal) where
   count_is : (kind : Kind) (operands : List Operand) (n : ℕ) (rows : List Row) → HaveCount n rows → keeps_to_one signals kind operands rows ≡ true → length operands ≡ n
   unfolding HaveCount
   count_is kind operands n [] have e = absurd cc
-  count_is kind operands n (r ∷ rows) have e = elim (either (keeps_to signals kind operands r) (keeps_to_one signals kind operands rows) e) [
+  count_is kind operands n (r ∷ rows) have e = elim (or_cases (keeps_to signals kind operands r) (keeps_to_one signals kind operands rows) e) [
     | inl here ↦ as_many signals operands r.operands (and_parts (is_kind kind r.result) (operands_are signals operands r.operands) here).1 ∙ have.0
     | inr later ↦ count_is kind operands n rows have.1 later
   ]
@@ -69,15 +54,15 @@ module _ (signals : List Signal) where
   begin (operand ∷ operands) [] e = absurd cc
   begin (operand ∷ operands) (sort ∷ sorts) e =
       let two = and_parts (table.operand_is signals operand sort) (operands_are signals operands sorts) e in
-      all_true (operand_is (map image_signal signals) operand sort) (operands_begin (map image_signal signals) operands sorts) (same_operand operand sort two.0) (begin operands sorts two.1)
+      and_from (operand_is (map image_signal signals) operand sort) (operands_begin (map image_signal signals) operands sorts) (same_operand operand sort two.0) (begin operands sorts two.1)
 
   begin_one : (kind : Kind) (operands : List Operand) (rows : List Row) → keeps_to_one signals kind operands rows ≡ true → list_any (begins_row (map image_signal signals) kind operands) rows ≡ true
   begin_one kind operands [] e = absurd cc
-  begin_one kind operands (r ∷ rows) e = elim (either (keeps_to signals kind operands r) (keeps_to_one signals kind operands rows) e) [
+  begin_one kind operands (r ∷ rows) e = elim (or_cases (keeps_to signals kind operands r) (keeps_to_one signals kind operands rows) e) [
     | inl here ↦ (
         let two = and_parts (is_kind kind r.result) (operands_are signals operands r.operands) here in
         or_left (begins_row (map image_signal signals) kind operands r) (list_any (begins_row (map image_signal signals) kind operands) rows)
-        (all_true (is_kind kind r.result) (operands_begin (map image_signal signals) operands r.operands) two.0 (begin operands r.operands two.1))
+        (and_from (is_kind kind r.result) (operands_begin (map image_signal signals) operands r.operands) two.0 (begin operands r.operands two.1))
         )
     | inr later ↦ or_right (begins_row (map image_signal signals) kind operands r) (list_any (begins_row (map image_signal signals) kind operands) rows) (begin_one kind operands rows later)
   ]

@@ -1,24 +1,6 @@
 -- The memories of a plan's image: those of the delays.
-use Rattle.sig_file.proofs.Common.{◌≡◌, ℕ, zero, suc, ◌+◌, Bool, true, false, cond, List, [], ◌∷◌, ◌++◌, take, slice_get, Option, Some, None, refl, ap, subst, ◌∙◌, arith}
-use Rattle.sig_file.specs.Prelude.{◌&&◌, ◌||◌, ℤ, Kind, Integer, Boolean, Event, SigId, AnInteger, Truth, Sig, Const, constant_is, kind_fits, value_is}
-use Rattle.std.specs.Prelude.{filter_map, unwrap_or}
-use Rattle.std.specs.List.{AllPass, cons_option}
-use Rattle.std.proofs.lemmas.Option.{get_or_from_slice_get}
-use Rattle.sig_clock.proofs.Lists.{get_within}
-use Rattle.std.proofs.lemmas.List.Sums.{sum_by-cons}
-use Rattle.sig_base.specs.declared.signal.Signal.{Signal}
-use Rattle.sig_kernel.specs.Table.{form_fits, keeps_to_one, kept, kind_of, operand_is, target_fits}
-use Rattle.sig_kernel.specs.declared.equation.Equation.{Equation}
-use Rattle.sig_kernel.specs.declared.equation.Form.{Form}
-use Rattle.sig_kernel.specs.declared.equation.Form.TheVariants.{Fun, Delay, When, WhenConst, Default, Sync, Event as EventOf}
-use Rattle.sig_file.specs.Images.{Each, IsMemory, is_memory_kind, sort_of}
-use Rattle.sig_file.specs.PlanImages.{is_delay, memory_number, memory_of}
-use Rattle.sig_file.specs.declared.images.ImageMemory.{ImageMemory}
-
-pub two_parts : (p q : Bool) → ((p && (q && true)) || false) ≡ true → (p ≡ true) × (q ≡ true)
-two_parts true true e = (refl, refl)
-two_parts true false e = absurd cc
-two_parts false q e = absurd cc
+use Rattle.sig_file.proofs.Common.{◌≡◌, ℕ, zero, suc, ◌+◌, true, cond, List, [], ◌∷◌, ◌++◌, take, slice_get, Option, Some, None, refl, ap, ◌∙◌, arith, ℤ, Kind, Integer, Boolean, Event, SigId, AnInteger, Truth, Sig, Const, constant_is, kind_fits, value_is, filter_map, unwrap_or, cons_option, sum_by-cons, Signal, form_fits, keeps_to_one, kept, kind_of, target_fits, Equation, Form, Fun, Delay, When, WhenConst, Default, Sync, EventOf, Each, IsMemory, is_memory_kind, sort_of, is_delay, memory_number, memory_of, ImageMemory, two_parts}
+use Rattle.sig_kernel.specs.Table.{operand_is}
 
 -- a memory of this kind keeps this at first, and then what the signal has
 pub record IsKept (signals : List Signal) (kind : Kind) (x : SigId) (init : ℤ) : Type 0 where
@@ -40,9 +22,6 @@ delay_kept signals y x init e = kept_by signals y x init (kind_of (slice_get sig
 
 memory_right : (signals : List Signal) (y x : SigId) (init : ℤ) → form_fits signals (Delay y x init) ≡ true → IsMemory (record { kind = unwrap_or (kind_of (slice_get signals y.0)) Integer; init = init })
 memory_right signals y x init e = let k = delay_kept signals y x init e in record { kept = k.kept; init = k.value }
-
-pub at_each : {A : Type 0} (p : A → Bool) (xs : List A) → AllPass p xs → (k : ℕ) (x : A) → slice_get xs k ≡ Some x → p x ≡ true
-at_each p xs all k x e = subst (λ (y : _). p y ≡ true) (get_or_from_slice_get xs k x x e) (all k x (get_within xs k x e))
 
 AreMemories : List ImageMemory → List ImageMemory → Type 0
 AreMemories before memories = Each (λ (b : List ImageMemory). IsMemory) before memories

@@ -1,16 +1,5 @@
 -- The nodes that are gathered from reduced and ordered diagrams are right: each stands behind its children, and once.
-use Rattle.sig_file.proofs.Common.{◌≡◌, ℕ, zero, suc, ◌+◌, ◌<◌, ◌⊎◌, inl, inr, Bool, true, false, cond, List, [], ◌∷◌, ◌++◌, length, slice_get, Some, refl, sym, ap, subst, ◌∙◌, arith, append-nil, append_assoc, list_any, lt-ltb}
-use Rattle.sig_file.specs.Prelude.{◌&&◌, ◌==◌, not, Diagram}
-use Rattle.std.proofs.Common.{eqb-true}
-use Rattle.std.proofs.lemmas.Bool.{and_parts}
-use Rattle.sig_dd.specs.Diagram.{Constant, Choice, StartsFrom, Tests}
-use Rattle.sig_dd.proofs.Trees.{IsProper}
-use Rattle.sig_clock.proofs.Lists.{get_within}
-use Rattle.sig_file.specs.Images.{Each, IsNodeBehind, is_child, is_later, is_node}
-use Rattle.sig_file.specs.PlanImages.{place_of, visited, with_node}
-use Rattle.sig_file.specs.declared.images.ImageNode.{ImageNode}
-use Rattle.sig_file.proofs.PlanSignals.{neither}
-use Rattle.sig_file.proofs.Values.{all_true, not_false}
+use Rattle.sig_file.proofs.Common.{◌≡◌, ℕ, suc, ◌+◌, ◌<◌, ◌⊎◌, inl, inr, Bool, true, false, cond, List, [], ◌∷◌, ◌++◌, length, slice_get, Some, refl, sym, ap, subst, ◌∙◌, arith, append-nil, append_assoc, list_any, lt-ltb, ◌&&◌, ◌==◌, not, Diagram, eqb-true, and_parts, Constant, Choice, StartsFrom, Tests, IsProper, Each, IsNodeBehind, is_child, is_later, is_node, place_of, visited, with_node, ImageNode, get_last, still_at, slice_get_within, and_from, not_from_false, or_from}
 
 -- the diagram of this number among nodes
 abbrev pub Shows : List ImageNode → ℕ → Diagram → Type 0
@@ -18,11 +7,6 @@ Shows nodes n (Constant false) = n ≡ 0
 Shows nodes n (Constant true) = n ≡ 1
 Shows nodes n (Choice v low high) =
     (i : ℕ) × (node : ImageNode) × (n ≡ suc (suc i)) × (slice_get nodes i ≡ Some node) × (node.variable ≡ v) × Shows nodes node.low low × Shows nodes node.high high
-
-still_at : {A : Type 0} (xs ys : List A) (i : ℕ) (x : A) → slice_get xs i ≡ Some x → slice_get (xs ++ ys) i ≡ Some x
-still_at [] ys i x e = absurd cc
-still_at (z ∷ xs) ys zero x e = e
-still_at (z ∷ xs) ys (suc i) x e = still_at xs ys i x e
 
 shows_still : (d : Diagram) (nodes more : List ImageNode) (n : ℕ) → Shows nodes n d → Shows (nodes ++ more) n d
 shows_still (Constant false) nodes more n s = s
@@ -60,7 +44,7 @@ child_at nodes v n (Choice u low high) s later =
 pub number_below : (nodes : List ImageNode) (n : ℕ) (d : Diagram) → Shows nodes n d → n < length nodes + 2
 number_below nodes n (Constant false) s = omega (arith, s)
 number_below nodes n (Constant true) s = omega (arith, s)
-number_below nodes n (Choice v low high) s = omega (arith, s.2, get_within nodes s.0 s.1 s.3)
+number_below nodes n (Choice v low high) s = omega (arith, s.2, slice_get_within nodes s.0 s.1 s.3)
 
 -- ---- one more node
 
@@ -91,7 +75,7 @@ module _ (v l h : ℕ) where
   new_later first nodes other new = record {
     more = ap (λ (b : Bool). cond b (first ∷ nodes) (first ∷ with_node v l h nodes)) other ∙ ap (λ (rest : List ImageNode). first ∷ rest) new.more;
     last = ap (λ (b : Bool). cond b 0 (suc (place_of v l h nodes))) other ∙ ap suc new.last;
-    none = neither (is_node v l h first) (list_any (is_node v l h) nodes) other new.none;
+    none = or_from (is_node v l h first) (list_any (is_node v l h) nodes) other new.none;
   }
 
   found_here : (first : ImageNode) (nodes : List ImageNode) → is_node v l h first ≡ true → IsFound v l h (first ∷ nodes)
@@ -115,10 +99,6 @@ each_push : {A : Type 0} (right : List A → A → Type 0) (front xs : List A) (
 each_push right front [] x each here = (subst (λ (l : List _). right l x) (append-nil front) here, tt)
 each_push right front (y ∷ xs) x each here =
     (each.0, each_push right (front ++ y ∷ []) xs x each.1 (subst (λ (l : List _). right l x) (sym (append_assoc front (y ∷ []) xs)) here))
-
-last_at : {A : Type 0} (xs : List A) (x : A) → slice_get (xs ++ x ∷ []) (length xs) ≡ Some x
-last_at [] x = refl
-last_at (y ∷ xs) x = last_at xs x
 
 -- ---- all nodes of a diagram
 
@@ -168,8 +148,8 @@ module _ (k v : ℕ) (low high : Diagram) (proper : IsProper (Choice v low high)
       let behind : IsNodeBehind k nodes node = record {
         variable = within;
         low = child_at nodes v l low at_low proper.0;
-        high = all_true (is_child nodes v h) (not (h == l) && not (list_any (is_node v l h) nodes)) (child_at nodes v h high at_high proper.1)
-            (all_true (not (h == l)) (not (list_any (is_node v l h) nodes)) (not_false (h == l) (differ nodes l h at_low at_high)) (not_false (list_any (is_node v l h) nodes) new.none));
+        high = and_from (is_child nodes v h) (not (h == l) && not (list_any (is_node v l h) nodes)) (child_at nodes v h high at_high proper.1)
+            (and_from (not (h == l)) (not (list_any (is_node v l h) nodes)) (not_from_false (h == l) (differ nodes l h at_low at_high)) (not_from_false (list_any (is_node v l h) nodes) new.none));
       } in
       record {
         more = node ∷ [];
@@ -179,7 +159,7 @@ module _ (k v : ℕ) (low high : Diagram) (proper : IsProper (Choice v low high)
           place_of v l h nodes,
           node,
           two_more (place_of v l h nodes),
-          ap (slice_get (nodes ++ node ∷ [])) new.last ∙ last_at nodes node,
+          ap (slice_get (nodes ++ node ∷ [])) new.last ∙ get_last nodes node,
           refl,
           shows_still low nodes (node ∷ []) l at_low,
           shows_still high nodes (node ∷ []) h at_high,

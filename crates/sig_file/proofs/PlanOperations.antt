@@ -1,42 +1,8 @@
 -- The operations and the nodes of a plan's image.
-use Rattle.sig_file.proofs.Common.{◌≡◌, ℕ, zero, suc, ◌+◌, ◌<◌, true, List, [], ◌∷◌, ◌++◌, length, map, slice_get, Option, Some, None, refl, sym, ap, subst, ◌∙◌, arith, append-nil, append_assoc, All, AllByRecursion, slice_get-map, option_map, list_any, length-append}
-use Rattle.sig_file.specs.Prelude.{diagram, is_signal}
-use Rattle.std.specs.Prelude.{IfSome, filter_map}
-use Rattle.std.specs.List.{cons_option}
-use Rattle.std.proofs.lemmas.List.Elements.{All-cons, All-nil}
-use Rattle.std.proofs.lemmas.Option.{get_or_from_slice_get}
-use Rattle.sig_base.specs.declared.ids.EqId.{EqId}
-use Rattle.sig_base.specs.declared.ids.OpId.{OpId}
-use Rattle.sig_base.specs.declared.ids.SigId.{SigId}
-use Rattle.sig_base.specs.declared.span.Span.{Span}
-use Rattle.sig_base.specs.declared.signal.Signal.{Signal}
+use Rattle.sig_file.proofs.Common.{◌≡◌, ℕ, zero, suc, ◌+◌, ◌<◌, true, List, [], ◌∷◌, ◌++◌, length, map, slice_get, Option, Some, None, refl, sym, ap, subst, ◌∙◌, arith, append-nil, append_assoc, All, AllByRecursion, slice_get-map, option_map, list_any, length-append, diagram, is_signal, IfSome, filter_map, cons_option, All-cons, All-nil, get_or_from_slice_get, EqId, OpId, SigId, Span, Signal, Tests, proper, Depends-tests, IsProper, form_fits, operands_of, Equation, Form, Fun, Delay, When, WhenConst, Default, Sync, EventOf, Kernel, of_operation, Operation, Presence, operation_in, operations_in, operations_of, presence_in, stores_of, without, writes_of, writing, IsAccepted, PlanView, Op, OpKind, Read, Compute, Left, Right, DelayRead, Store, guard_alone, guard_held, each_operation, only, Each, IsNodeBehind, IsOperation, MayDo, Scope, scope_of, before, does_of, equation_at, equation_numbered, image_of, image_op, image_signal, made_of, memories_of, memory_number, memory_of, op_with, ordered, read_at, visited, HasPlace, HavePlaces, ImageMemory, ImageNode, ImageOp, ImageOpKind, slice_get_within, at_each}
 use Rattle.sig_clock.specs.Conditions.{signal_id}
-use Rattle.sig_clock.proofs.Lists.{get_within}
-use Rattle.sig_dd.specs.Diagram.{Tests}
-use Rattle.sig_dd.proofs.Canonical.{proper}
-use Rattle.sig_dd.proofs.Trees.{Depends-tests, IsProper}
-use Rattle.sig_kernel.specs.Table.{form_fits, operands_of}
-use Rattle.sig_kernel.specs.declared.equation.Equation.{Equation}
-use Rattle.sig_kernel.specs.declared.equation.Form.{Form}
-use Rattle.sig_kernel.specs.declared.equation.Form.TheVariants.{Fun, Delay, When, WhenConst, Default, Sync, Event as EventOf}
-use Rattle.sig_kernel.specs.declared.kernel.Kernel.{Kernel}
-use Rattle.sig_plan.specs.Guards.{of_operation}
-use Rattle.sig_plan.specs.Operations.{Operation, Presence, operation_in, operations_in, operations_of, presence_in, stores_of, without, writes_of, writing}
-use Rattle.sig_plan.specs.Plans.{IsAccepted, PlanView}
-use Rattle.sig_plan.specs.declared.op.Op.{Op}
-use Rattle.sig_plan.specs.declared.op.OpKind.{OpKind}
-use Rattle.sig_plan.specs.declared.op.OpKind.TheVariants.{Read, Compute, Left, Right, DelayRead, Store}
-use Rattle.sig_plan.proofs.Slotted.{guard_alone, guard_held}
-use Rattle.sig_plan.proofs.EachOperation.{each_operation, only}
-use Rattle.sig_file.specs.Images.{Each, IsNodeBehind, IsOperation, MayDo, Scope, scope_of}
-use Rattle.sig_file.specs.PlanImages.{before, does_of, equation_at, equation_numbered, image_of, image_op, image_signal, made_of, memories_of, memory_number, memory_of, op_with, ordered, read_at, visited}
-use Rattle.sig_file.specs.Spelled.{HasPlace, HavePlaces}
-use Rattle.sig_file.specs.declared.images.ImageMemory.{ImageMemory}
-use Rattle.sig_file.specs.declared.images.ImageNode.{ImageNode}
-use Rattle.sig_file.specs.declared.images.ImageOp.{ImageOp}
-use Rattle.sig_file.specs.declared.images.ImageOpKind.{ImageOpKind}
 use Rattle.sig_file.proofs.PlanFunctions.{does_right}
-use Rattle.sig_file.proofs.PlanMemories.{at_each, memory_there}
+use Rattle.sig_file.proofs.PlanMemories.{memory_there}
 use Rattle.sig_file.proofs.PlanNodes.{number_below, visited_right}
 use Rattle.sig_file.proofs.PlanSignals.{each_from}
 
@@ -120,7 +86,7 @@ module _ (kernel : Kernel) (presence : Presence) where
       (λ number lt x e. (let same : signal_id number ≡ x = cc in subst (λ (z : SigId). z.0 < kernel.inputs) same lt)) writes_read stores_read
 
 all_at : {A : Type 0} (P : A → Type 0) (xs : List A) → All P xs → (n : ℕ) (x : A) → slice_get xs n ≡ Some x → P x
-all_at P xs all n x e = subst P (get_or_from_slice_get xs n x x e) (all n x (get_within xs n x e))
+all_at P xs all n x e = subst P (get_or_from_slice_get xs n x x e) (all n x (slice_get_within xs n x e))
 
 op_good : (plan : PlanView) → IsAccepted plan → (n : ℕ) (op : Op) → slice_get plan.ops n ≡ Some op → IsGood plan op
 unfolding ReadsInput

@@ -1,15 +1,5 @@
 -- The signals of a plan's image: their names and kinds.
-use Rattle.sig_file.proofs.Common.{◌≡◌, ℕ, zero, suc, ◌<◌, Bool, true, false, List, [], ◌∷◌, ◌++◌, length, map, take, slice_get, Option, Some, None, refl, sym, ap, subst, ◌∙◌, arith, append-nil, append_assoc, list_any, bytes_eq, bytes_eq-Decides, slice_get-map, option_map, AllByRecursion, ltb, ltb-true, length-take}
-use Rattle.sig_file.specs.Prelude.{◌&&◌, ◌||◌, Contains}
-use Rattle.std.proofs.lemmas.Map.Keys.{IsDistinct-head, IsDistinct-tail}
-use Rattle.std.specs.List.{IsDistinct}
-use Rattle.sig_base.specs.declared.signal.Signal.{Signal}
-use Rattle.sig_kernel.specs.Table.{kind_of}
-use Rattle.sig_clock.proofs.Lists.{contains_at, get_within}
-use Rattle.sig_file.specs.Images.{Each, IsSignalBehind, kind_at, kind_in, names_of}
-use Rattle.sig_file.specs.PlanImages.{image_signal}
-use Rattle.sig_file.specs.Spelled.{HasName}
-use Rattle.sig_file.specs.declared.images.ImageSignal.{ImageSignal}
+use Rattle.sig_file.proofs.Common.{◌≡◌, ℕ, zero, suc, ◌<◌, Bool, true, false, List, [], ◌∷◌, ◌++◌, length, map, take, slice_get, Option, Some, None, refl, sym, ap, subst, ◌∙◌, arith, append-nil, append_assoc, list_any, bytes_eq, bytes_eq-Decides, slice_get-map, option_map, AllByRecursion, ltb, ltb-true, length-take, ◌&&◌, Contains, IsDistinct-head, IsDistinct-tail, IsDistinct, Signal, kind_of, Each, IsSignalBehind, kind_at, kind_in, names_of, image_signal, HasName, ImageSignal, or_from, contains_at, slice_get_within}
 
 -- each is right behind those before it, if it is so at each place
 pub each_from : {A : Type 0} (right : List A → A → Type 0) (before xs : List A) → ((n : ℕ) (x : A) → slice_get xs n ≡ Some x → right (before ++ take n xs) x) → Each right before xs
@@ -39,10 +29,6 @@ name_at P (s ∷ signals) zero m x all lt e = absurd (omega (arith, lt))
 name_at P (s ∷ signals) (suc i) zero x all lt e = let same : s ≡ x = cc in subst (λ (y : Signal). P y.name) same all.0
 name_at P (s ∷ signals) (suc i) (suc m) x all lt e = name_at P signals i m x all.1 (omega (arith, lt)) e
 
-pub neither : (a b : Bool) → a ≡ false → b ≡ false → (a || b) ≡ false
-neither false b e f = f
-neither true b e f = absurd cc
-
 -- no input before another one has its name
 free_name : (inputs : ℕ) (signals : List Signal) (n : ℕ) (x : Signal) → IsDistinct bytes_eq (map (λ (s : Signal). s.name) (take inputs signals)) → n < inputs → slice_get signals n ≡ Some x
     → list_any (bytes_eq x.name) (names_of (take n (map image_signal signals))) ≡ false
@@ -52,7 +38,7 @@ free_name (suc i) (s ∷ signals) zero x distinct lt e = refl
 free_name (suc i) (s ∷ signals) (suc m) x distinct lt e =
     let less : m < i = omega (arith, lt) in
     let head = IsDistinct-head bytes_eq s.name (map (λ (t : Signal). t.name) (take i signals)) distinct in
-    neither (bytes_eq x.name s.name) (list_any (bytes_eq x.name) (names_of (take m (map image_signal signals))))
+    or_from (bytes_eq x.name s.name) (list_any (bytes_eq x.name) (names_of (take m (map image_signal signals))))
     (other_way s.name x.name (bytes_eq x.name s.name) refl (name_at (λ name. bytes_eq s.name name ≡ false) signals i m x head less e))
     (free_name i signals m x (IsDistinct-tail bytes_eq s.name (map (λ (t : Signal). t.name) (take i signals)) distinct) less e)
 
@@ -73,7 +59,7 @@ signal_right : (inputs : ℕ) (signals : List Signal) → IsDistinct bytes_eq (m
     → (n : ℕ) (x : Signal) → slice_get signals n ≡ Some x → IsSignalBehind inputs (take n (map image_signal signals)) (image_signal x)
 signal_right inputs signals distinct names n x e =
     let named = names x (contains_at signals n x e) in
-    let within = get_within signals n x e in
+    let within = slice_get_within signals n x e in
     let long : length (take n (map image_signal signals)) ≡ n = omega (arith, within, length-take n (map image_signal signals), length-image signals) in
     record {
       long = named.long;

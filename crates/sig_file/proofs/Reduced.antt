@@ -1,24 +1,7 @@
 -- The nodes of an image as those of a store of diagrams.
-use Rattle.std.proofs.lemmas.Option.{same_Some}
-use Rattle.sig_file.proofs.Common.{◌≡◌, ℕ, zero, suc, ◌+◌, ◌<◌, inl, inr, Bool, true, false, List, [], ◌∷◌, take, slice_get, Option, Some, None, refl, sym, ap, subst, ◌∙◌, arith, list_any, cases_lt, slice_get-map, option_map, eq-eqb, ltb-true, length-take}
-use Rattle.sig_file.specs.Prelude.{◌&&◌, ◌==◌, not, Node, Ref}
-use Rattle.std.specs.Prelude.{IfSome}
-use Rattle.sig_dd.specs.Nodes.{IsNodeAt, IsReduced, node_of}
-use Rattle.sig_file.specs.Guarded.{node_in, nodes_in}
-use Rattle.sig_file.specs.Images.{Each, IsNodeBehind, is_child, is_later, is_node}
-use Rattle.sig_file.specs.declared.images.ImageNode.{ImageNode}
+use Rattle.sig_file.proofs.Common.{same_Some, ◌≡◌, ℕ, zero, suc, ◌+◌, ◌<◌, inl, inr, Bool, true, false, List, [], ◌∷◌, take, slice_get, Option, Some, None, refl, sym, ap, subst, ◌∙◌, arith, list_any, cases_lt, slice_get-map, option_map, eq-eqb, ltb-true, length-take, ◌&&◌, ◌==◌, not, Node, Ref, IfSome, IsNodeAt, IsReduced, node_of, node_in, nodes_in, Each, IsNodeBehind, is_child, is_later, is_node, ImageNode, taken_is, and_from, and_parts, or_left, or_right, not_true}
 use Rattle.sig_file.proofs.Behind.{each_at}
 use Rattle.sig_file.proofs.Items.{child_below}
-use Rattle.sig_file.proofs.Operands.{or_left, or_right}
-use Rattle.sig_file.proofs.Rules.{both}
-use Rattle.sig_file.proofs.Values.{all_true, not_true}
-
-taken : {A : Type 0} (xs : List A) (i k : ℕ) (x : A) → slice_get (take i xs) k ≡ Some x → slice_get xs k ≡ Some x
-taken [] zero k x e = absurd cc
-taken [] (suc i) k x e = absurd cc
-taken (y ∷ xs) zero k x e = absurd cc
-taken (y ∷ xs) (suc i) zero x e = e
-taken (y ∷ xs) (suc i) (suc k) x e = taken xs i k x e
 
 found_in : {A : Type 0} (p : A → Bool) (xs : List A) (i j : ℕ) (x : A) → i < j → slice_get xs i ≡ Some x → p x ≡ true → list_any p (take j xs) ≡ true
 found_in p [] i j x lt e h = absurd cc
@@ -42,7 +25,7 @@ stands nodes i n e = stands_by nodes i n (slice_get nodes i) refl (sym (slice_ge
 later_by : (nodes : List ImageNode) (i k variable : ℕ) (o : Option ImageNode) → slice_get (take i nodes) k ≡ o → is_later variable o ≡ true → IfSome (slice_get (nodes_in nodes) k) (λ m. variable < m.variable)
 later_by nodes i k variable None here e = absurd cc
 later_by nodes i k variable (Some m) here e =
-    let there : slice_get (nodes_in nodes) k ≡ Some (node_in m) = slice_get-map node_in nodes k ∙ ap (option_map node_in) (taken nodes i k m here) in
+    let there : slice_get (nodes_in nodes) k ≡ Some (node_in m) = slice_get-map node_in nodes k ∙ ap (option_map node_in) (taken_is nodes i k m here) in
     subst (λ (o : Option Node). IfSome o (λ n. variable < n.variable)) (sym there) (ltb-true _ _ e)
 
 later_child : (nodes : List ImageNode) (i variable child : ℕ) → is_child (take i nodes) variable child ≡ true → IfSome (node_of (nodes_in nodes) (record { number = child })) (λ m. variable < m.variable)
@@ -61,8 +44,8 @@ reference_number a b e = ap (λ (r : Ref). r.number) e
 
 node_at : (conditions : ℕ) (nodes : List ImageNode) (i : ℕ) (node : ImageNode) → IsNodeBehind conditions (take i nodes) node → IsNodeAt (nodes_in nodes) i (node_in node)
 node_at conditions nodes i node h =
-    let high = both (is_child (take i nodes) node.variable node.high) (not (node.high == node.low) && not (list_any (is_node node.variable node.low node.high) (take i nodes))) h.high in
-    let other = both (not (node.high == node.low)) (not (list_any (is_node node.variable node.low node.high) (take i nodes))) high.1 in
+    let high = and_parts (is_child (take i nodes) node.variable node.high) (not (node.high == node.low) && not (list_any (is_node node.variable node.low node.high) (take i nodes))) h.high in
+    let other = and_parts (not (node.high == node.low)) (not (list_any (is_node node.variable node.low node.high) (take i nodes))) high.1 in
     record {
       low_before = child_before nodes i node.variable node.low h.low;
       high_before = child_before nodes i node.variable node.high high.0;
@@ -75,12 +58,12 @@ node_at conditions nodes i node h =
 not_twice : (conditions : ℕ) (nodes : List ImageNode) (i j : ℕ) (n : Node) → Each (IsNodeBehind conditions) [] nodes → i < j → Stands nodes i n → Stands nodes j n → ⊥
 not_twice conditions nodes i j n each lt a b =
     let h = each_at (IsNodeBehind conditions) [] nodes j b.node each b.is in
-    let high = both (is_child (take j nodes) b.node.variable b.node.high) (not (b.node.high == b.node.low) && not (list_any (is_node b.node.variable b.node.low b.node.high) (take j nodes))) h.high in
-    let other = both (not (b.node.high == b.node.low)) (not (list_any (is_node b.node.variable b.node.low b.node.high) (take j nodes))) high.1 in
+    let high = and_parts (is_child (take j nodes) b.node.variable b.node.high) (not (b.node.high == b.node.low) && not (list_any (is_node b.node.variable b.node.low b.node.high) (take j nodes))) h.high in
+    let other = and_parts (not (b.node.high == b.node.low)) (not (list_any (is_node b.node.variable b.node.low b.node.high) (take j nodes))) high.1 in
     let none : list_any (is_node b.node.variable b.node.low b.node.high) (take j nodes) ≡ false = not_true _ other.1 in
     let same : node_in b.node ≡ node_in a.node = b.same ∙ sym a.same in
     let is : is_node b.node.variable b.node.low b.node.high a.node ≡ true =
-    all_true _ _ (eq-eqb _ _ (ap (λ (m : Node). m.variable) same)) (all_true _ _ (eq-eqb _ _ (ap (λ (m : Node). m.low.number) same)) (eq-eqb _ _ (ap (λ (m : Node). m.high.number) same))) in
+    and_from _ _ (eq-eqb _ _ (ap (λ (m : Node). m.variable) same)) (and_from _ _ (eq-eqb _ _ (ap (λ (m : Node). m.low.number) same)) (eq-eqb _ _ (ap (λ (m : Node). m.high.number) same))) in
     let some : list_any (is_node b.node.variable b.node.low b.node.high) (take j nodes) ≡ true = found_in (is_node b.node.variable b.node.low b.node.high) nodes i j a.node lt a.is is in
     absurd cc
 

@@ -1,7 +1,5 @@
 -- Items in a row, both ways.
-use Rattle.sig_file.proofs.Common.{◌≡◌, ℕ, zero, suc, ◌+◌, ◌<◌, ◌≤◌, List, [], ◌∷◌, ◌++◌, length, Result, Ok, Err, refl, sym, ap, subst, ◌∙◌, append_assoc, append-nil, arith, inl, inr, flat_map, flat_map-cons, length-append}
-use Rattle.sig_file.specs.Images.{Each}
-use Rattle.sig_file.specs.inner.Reading.{Reading, ◌>>=◌, several}
+use Rattle.sig_file.proofs.Common.{◌≡◌, ℕ, zero, suc, ◌+◌, ◌<◌, ◌≤◌, List, [], ◌∷◌, ◌++◌, length, Result, Ok, Err, refl, sym, ap, subst, ◌∙◌, append_assoc, append-nil, arith, inl, inr, flat_map, flat_map-cons, length-append, Each, Reading, ◌>>=◌, several}
 use Rattle.sig_file.proofs.Fields.{IsBytes, Reads, Takes, Takes-then, bind_err, bind_ok, ok_is, shorter}
 
 module _ {A : Type 0} (item : List A → Reading A) (right : List A → A → Type 0) (spell : A → List ℕ) (limit : ℕ) (each : (before : List A) → length before < limit → Reads (item before) (right before) spell) where

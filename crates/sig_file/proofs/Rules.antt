@@ -1,17 +1,6 @@
 -- What follows from the rules of an image.
-use Rattle.sig_file.proofs.Common.{◌≡◌, ◌<◌, ◌≤◌, ◌^◌, ◌++◌, ◌∷◌, [], ℕ, List, Bool, true, false, All, AllByRecursion, All-from_recursion, length, ltb, arith, leb-true, leb, refl}
-use Rattle.sig_file.specs.Bytes.{HasFew, IsNamed}
-use Rattle.sig_file.specs.Images.{Each, IsOperation, IsSignalBehind, MayDo, Scope, is_name_length, operand_count}
-use Rattle.sig_file.specs.Prelude.{FunOp, Id, Neg, Not, And, Or, Xor, Eq, Ne, Lt, Le, Gt, Ge, Add, Sub, Mul, Div, Mod, ◌&&◌}
-use Rattle.sig_file.specs.declared.images.ImageOp.{ImageOp}
-use Rattle.sig_file.specs.declared.images.ImageOpKind.{ImageOpKind}
+use Rattle.sig_file.proofs.Common.{◌≡◌, ◌<◌, ◌≤◌, ◌^◌, ◌++◌, ◌∷◌, [], ℕ, List, true, All, AllByRecursion, All-from_recursion, length, ltb, arith, leb-true, leb, HasFew, IsNamed, Each, IsOperation, IsSignalBehind, MayDo, Scope, is_name_length, operand_count, FunOp, Id, Neg, Not, And, Or, Xor, Eq, Ne, Lt, Le, Gt, Ge, Add, Sub, Mul, Div, Mod, ImageOp, ImageOpKind, ImageSignal, and_parts}
 use Rattle.sig_file.specs.declared.images.ImageOpKind.TheVariants as does
-use Rattle.sig_file.specs.declared.images.ImageSignal.{ImageSignal}
-
-pub both : (a b : Bool) → (a && b) ≡ true → (a ≡ true) × (b ≡ true)
-both true true e = (refl, refl)
-both true false e = absurd cc
-both false b e = absurd cc
 
 each_of : {A : Type 0} (right : List A → A → Type 0) (Q : A → Type 0) (before xs : List A) → ((b : List A) (x : A) → right b x → Q x) → Each right before xs → AllByRecursion Q xs
 each_of right Q before [] f h = tt
@@ -22,7 +11,7 @@ pub all_of : {A : Type 0} (right : List A → A → Type 0) (Q : A → Type 0) (
 all_of right Q xs f h = All-from_recursion Q xs (each_of right Q [] xs f h)
 
 pub is_short : (n : ℕ) → is_name_length n ≡ true → n < 2 ^ 32
-is_short n e = let two = both (ltb 0 n) (leb n 1048576) e in omega (arith, leb-true n 1048576 two.1)
+is_short n e = let two = and_parts (ltb 0 n) (leb n 1048576) e in omega (arith, leb-true n 1048576 two.1)
 
 pub all_named : (inputs : ℕ) (signals : List ImageSignal) → Each (IsSignalBehind inputs) [] signals → All IsNamed signals
 all_named inputs signals h = all_of (IsSignalBehind inputs) IsNamed signals (λ b x right. is_short (length x.name) right.long) h

@@ -1,6 +1,5 @@
 -- Small facts.
-use Rattle.sig_file.specs.Prelude.{OnOk}
-use Rattle.sig_file.proofs.Common.{Result, Ok, Err, ◌≡◌, ◌++◌, ◌∷◌, [], List, ℕ, Bool, true, false, cond, is_some, Option, Some, refl, sym, ap, ◌∙◌, bytes_eq, bytes_eq-Decides, list_any, list_any-append, ◌||◌}
+use Rattle.sig_file.proofs.Common.{OnOk, Result, Ok, Err, ◌≡◌, ◌++◌, ◌∷◌, [], List, ℕ, Bool, true, false, cond, is_some, Option, Some, refl, sym, ap, ◌∙◌, bytes_eq, bytes_eq-Decides, list_any, list_any-append, ◌||◌}
 
 pub cond_false : {A : Type 0} (b : Bool) (x y : A) → b ≡ false → cond b x y ≡ y
 cond_false true x y e = absurd cc

@@ -1,26 +1,6 @@
 -- Numbers that fit.
-use Rattle.sig_file.proofs.Common.{◌≡◌, ℕ, ◌<◌, ◌⊎◌, inl, inr, Bool, true, false, List, length, Option, None, Some, refl, sym, ap, subst, ◌∙◌, arith, cases_lt, ltb-true, slice_get, slice_get_past, Decides-int_eq}
-use Rattle.sig_file.specs.Prelude.{ℤ, w64, ◌&&◌, ◌||◌, not, Kind, Integer, Boolean, Event, Sort, AnInteger, Truth, AnEvent, constant_is, kind_fits, value_is, has_64_bits, int_eq, pos, negsuc}
-use Rattle.sig_kernel.specs.declared.table.Sort.TheVariants.{Any}
-use Rattle.sig_file.specs.Images.{accepts, accepts_value, is_boolean, is_same, kind_at, kind_in, memory_at, memory_in}
-use Rattle.sig_file.specs.declared.images.ImageMemory.{ImageMemory}
-use Rattle.sig_file.specs.declared.images.ImageSignal.{ImageSignal}
+use Rattle.sig_file.proofs.Common.{◌≡◌, ℕ, ◌<◌, inl, inr, true, List, length, Option, None, Some, refl, sym, ap, subst, ◌∙◌, arith, cases_lt, ltb-true, slice_get, slice_get_past, Decides-int_eq, ℤ, w64, ◌||◌, Kind, Integer, Boolean, Event, Sort, AnInteger, Truth, AnEvent, constant_is, kind_fits, value_is, has_64_bits, int_eq, pos, negsuc, Any, accepts, accepts_value, is_boolean, is_same, kind_at, kind_in, memory_at, memory_in, ImageMemory, ImageSignal, or_cases}
 use mir.Val.{SFits}
-
-pub either : (a b : Bool) → (a || b) ≡ true → (a ≡ true) ⊎ (b ≡ true)
-either true b e = inl refl
-either false b e = inr e
-
-pub not_true : (b : Bool) → not b ≡ true → b ≡ false
-not_true true e = absurd cc
-not_true false e = refl
-
-pub not_false : (b : Bool) → b ≡ false → not b ≡ true
-not_false true e = absurd cc
-not_false false e = refl
-
-pub all_true : (a b : Bool) → a ≡ true → b ≡ true → (a && b) ≡ true
-all_true a b e f = rw (e, f) refl
 
 pub fits_64 : (v : ℤ) → has_64_bits v ≡ true → SFits w64 v
 fits_64 (pos n) e = record { sfits = ltb-true _ _ e }
@@ -36,7 +16,7 @@ one_fits : SFits w64 (pos 1)
 one_fits = record { sfits = omega arith }
 
 truth_fits : (v : ℤ) → (int_eq v (pos 0) || int_eq v (pos 1)) ≡ true → SFits w64 v
-truth_fits v e = elim (either (int_eq v (pos 0)) (int_eq v (pos 1)) e) [ inl h ↦ is_small v (pos 0) zero_fits h | inr h ↦ is_small v (pos 1) one_fits h ]
+truth_fits v e = elim (or_cases (int_eq v (pos 0)) (int_eq v (pos 1)) e) [ inl h ↦ is_small v (pos 0) zero_fits h | inr h ↦ is_small v (pos 1) one_fits h ]
 
 pub value_fits : (kind : Kind) (v : ℤ) → value_is kind v ≡ true → SFits w64 v
 value_fits Integer v e = fits_64 v e

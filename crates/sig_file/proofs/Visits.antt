@@ -1,13 +1,5 @@
 -- Visits of diagrams: what they add, and that a visit of what was visited adds nothing.
-use Rattle.sig_file.proofs.Common.{◌≡◌, ℕ, suc, ◌+◌, ◌<◌, ◌≤◌, Bool, true, false, List, [], ◌∷◌, ◌++◌, length, refl, sym, ap, subst, ◌∙◌, append_assoc, append-nil, arith, length-append, cond, list_any}
-use Rattle.std.specs.List.{position_or_len}
-use Rattle.sig_dd.specs.Diagram.{Diagram, Constant, Choice}
-use Rattle.sig_file.specs.Images.{is_node}
-use Rattle.sig_file.specs.inner.Numbering.{IsNumbered}
-use Rattle.sig_file.specs.PlanImages.{place_of, visited, with_node}
-use Rattle.sig_file.specs.declared.images.ImageNode.{ImageNode}
-use Rattle.sig_file.proofs.Common.{eq-eqb, ◌||◌}
-use Rattle.std.specs.Prelude.{not}
+use Rattle.sig_file.proofs.Common.{◌≡◌, ℕ, suc, ◌+◌, ◌<◌, ◌≤◌, Bool, true, false, List, [], ◌∷◌, ◌++◌, length, refl, sym, ap, subst, ◌∙◌, append_assoc, append-nil, arith, length-append, cond, list_any, position_or_len, Diagram, Constant, Choice, is_node, IsNumbered, place_of, visited, with_node, ImageNode, eq-eqb, ◌||◌, not}
 
 no_more : {A : Type 0} (xs ys : List A) → xs ++ ys ≡ xs → ys ≡ []
 no_more [] ys e = e
@@ -27,9 +19,6 @@ none_added {A = A} xs a b c e =
 -- ---- one node
 
 module _ (v l h : ℕ) where
-  node : ImageNode
-  node = record { variable = v; low = l; high = h }
-
   itself : is_node v l h (record { variable = v; low = l; high = h }) ≡ true
   itself = rw (eq-eqb v v refl, eq-eqb l l refl, eq-eqb h h refl) refl
 

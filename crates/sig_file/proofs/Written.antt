@@ -1,12 +1,5 @@
 -- The bytes of an image, part by part.
-use Rattle.sig_file.proofs.Common.{◌≡◌, ◌++◌, ℕ, List, refl, ap, ◌∙◌, flat_map}
-use Rattle.sig_file.specs.Bytes.{condition_bytes, count_bytes, image_bytes, magic, memory_bytes, node_bytes, op_bytes, signal_bytes}
-use Rattle.sig_file.specs.Images.{ImageView}
-use Rattle.sig_file.specs.Prelude.{SigId}
-use Rattle.sig_file.specs.declared.images.ImageMemory.{ImageMemory}
-use Rattle.sig_file.specs.declared.images.ImageNode.{ImageNode}
-use Rattle.sig_file.specs.declared.images.ImageOp.{ImageOp}
-use Rattle.sig_file.specs.declared.images.ImageSignal.{ImageSignal}
+use Rattle.sig_file.proofs.Common.{◌≡◌, ◌++◌, ℕ, List, refl, ap, ◌∙◌, flat_map, condition_bytes, count_bytes, image_bytes, magic, memory_bytes, node_bytes, op_bytes, signal_bytes, ImageView, SigId, ImageMemory, ImageNode, ImageOp, ImageSignal}
 
 in_turn : (m a b c d e f o0 o1 o2 o3 o4 o5 o6 : List ℕ) → o0 ≡ m → o1 ≡ o0 ++ a → o2 ≡ o1 ++ b → o3 ≡ o2 ++ c → o4 ≡ o3 ++ d → o5 ≡ o4 ++ e → o6 ≡ o5 ++ f
     → o6 ≡ (((((m ++ a) ++ b) ++ c) ++ d) ++ e) ++ f

@@ -1,7 +1,7 @@
 -- Instants that say of signals behind those that are there what these are.
-use Rattle.sig_flat.proofs.Common.{◌≡◌, ◌≤◌, ◌<◌, ◌+◌, ◌++◌, ℕ, suc, List, [], ◌∷◌, Option, None, Some, length, refl, sym, ap, subst, ◌∙◌, arith, append_assoc, ⊎_elim, cases_order, length-append, ◌⊎◌, Kind, Event, Signal as Declared, Span, Seen, Instant, Bounded, IsOfKind, AreOfKinds, seen_at, Found, clock_of, kinds_of, Site, Made, with_signal, with_own, with_clocks, own, next as next_signal}
+use Rattle.sig_flat.proofs.Common.{◌≡◌, ◌≤◌, ◌<◌, ◌+◌, ◌++◌, ℕ, suc, List, [], ◌∷◌, Option, None, Some, length, refl, sym, ap, subst, ◌∙◌, arith, append_assoc, ⊎_elim, cases_order, length-append, ◌⊎◌, Kind, Event, Signal as Declared, Span, Seen, Instant, Bounded, IsOfKind, AreOfKinds, seen_at, Found, clock_of, kinds_of, Site, Made, with_signal, with_own, with_clocks, own, next as next_signal, one_longer}
 use Rattle.sig_tree.specs.Operators.{Signal}
-use Rattle.sig_flat.proofs.Agreement.{Agree, seen_before, seen_last, one_longer, kinds_length, kinds_more}
+use Rattle.sig_flat.proofs.Agreement.{Agree, seen_before, seen_last, kinds_length, kinds_more}
 use Rattle.sig_flat.proofs.AddedBehind.{Grows}
 use Rattle.sig_flat.proofs.Kinded.{clock_kind}
 

@@ -23,10 +23,6 @@ pub seen_last : (now : Instant) (v : Seen) → seen_at (now ++ v ∷ []) (length
 seen_last [] v = refl
 seen_last (s ∷ now) v = seen_last now v
 
-pub one_longer : {A : Type 0} (xs : List A) (x : A) → length (xs ++ x ∷ []) ≡ suc (length xs)
-one_longer [] x = refl
-one_longer (y ∷ xs) x = ap suc (one_longer xs x)
-
 -- instants of the same length that agree are the same
 pub same_instant : (a b : Instant) → length a ≡ length b → Agree (length a) a b → a ≡ b
 same_instant [] [] e h = refl

@@ -1,5 +1,5 @@
 -- An operator of two operands, from what its operands are.
-use Rattle.sig_flat.proofs.Common.{◌≡◌, ℕ, Option, None, Some, Result, Ok, Err, IfOk, refl, ap, ◌∙◌, Span, BinOp, Default, When, Plus, Meet, Less, Or, Xor, And, Eq, Ne, Lt, Le, Gt, Ge, Add, Sub, Mul, Div, Mod, FlatExpr, FlatExpression, Binary, flat_expression_of, Site, Made, Translated, binary, translate, translated, Term}
+use Rattle.sig_flat.proofs.Common.{◌≡◌, ℕ, Option, None, Some, refl, ap, ◌∙◌, Span, BinOp, Default, When, Plus, Meet, Less, Or, Xor, And, Eq, Ne, Lt, Le, Gt, Ge, Add, Sub, Mul, Div, Mod, FlatExpr, FlatExpression, Binary, flat_expression_of, Site, Made, Translated, binary, translate, translated, Term}
 
 -- what was made for the second operand is what the operator adds to
 first_made : (left : Option ℕ) (site : Site) (op : BinOp) (at : Span) (u : Term) (a b : Made) (v : Translated) → binary left site op at (translated u a) v ≡ binary left site op at (translated u b) v
@@ -43,7 +43,3 @@ binary_is left site op first second x y at u v made a b result x_is y_is first_i
     ∙ whole left site op (flat_expression_of x) (flat_expression_of y) at made
     ∙ ap (λ e. translate left site (Binary op (flat_expression_of e) (flat_expression_of y) at) made) x_is
     ∙ ap (λ e. translate left site (Binary op (flat_expression_of first) (flat_expression_of e) at) made) y_is
-
-pub ok_then : {A E : Type 0} (r : Result A E) (P Q : A → Type 0) → ((a : A) → P a → Q a) → IfOk r P → IfOk r Q
-ok_then (Ok a) P Q step h = step a h
-ok_then (Err e) P Q step h = h

@@ -33,14 +33,6 @@ times_before s a (suc n) before = elim (eqb_tells a s) [
       ∙ times_before s (a + 1) n (omega arith)
 ]
 
-pub times_behind : (s a n : ℕ) → a + n ≤ s → times s (range_with_len a n) ≡ 0
-times_behind s a zero behind = refl
-times_behind s a (suc n) behind = elim (eqb_tells a s) [
-  | inl met ↦ let same : a ≡ s = met.1 in absurd (omega arith)
-  | inr apart ↦ ap (λ b. if b then 1 + times s (range_with_len (a + 1) n) else times s (range_with_len (a + 1) n)) apart.0
-      ∙ times_behind s (a + 1) n (omega arith)
-]
-
 pub times_within : (s a n : ℕ) → a ≤ s → s < a + n → times s (range_with_len a n) ≡ 1
 times_within s a zero from to = absurd (omega arith)
 times_within s a (suc n) from to = elim (eqb_tells a s) [

@@ -1,5 +1,5 @@
 -- A kernel has few equations beside its signals.
-use Rattle.sig_flat.proofs.Common.{◌≡◌, ◌++◌, ◌+◌, ◌*◌, ◌≤◌, ℕ, suc, ℤ, pos, List, [], ◌∷◌, length, Option, None, Some, refl, ap, arith, length-append, Kind, Boolean, Event, SigId, Span, flat_weight, flat_weights, BinOp, Default as DefaultOf, When as Sampled, Plus, Meet, Less, Or as OrOf, Xor as XorOf, And as AndOf, Eq as EqOf, Ne as NeOf, Lt as LtOf, Le as LeOf, Gt as GtOf, Ge as GeOf, Add as AddOf, Sub as SubOf, Mul as MulOf, Div as DivOf, Mod as ModOf, FlatExpression, SigOf, Const as ConstOf, Unary, Binary, DelayOf, Cell, FlatEquation, Defines, Equal, FlatBody, unary_row, binary_row, kind_of_result, stored, Id, Not, Operand, Sig, Form, Fun, Delay, WhenConst, Sync, EventOf, Site, Made, Translated, Together, signal_id, signal_in, with_equation, with_signal, with_own, with_clocks, with_clock_equations, by_one, own, next, unary_form, binary_form, kind_at, cluster_at, plus, meet, less, binary, cell, translate, operands_from, with_syncs, with_all_syncs, with_flat_equation, with_flat_equations, made_of, kernel_of}
+use Rattle.sig_flat.proofs.Common.{◌≡◌, ◌+◌, ◌*◌, ◌≤◌, ℕ, suc, ℤ, pos, List, [], ◌∷◌, length, Option, None, Some, refl, ap, arith, length-append, Kind, Boolean, Event, SigId, Span, flat_weight, flat_weights, BinOp, Default as DefaultOf, When as Sampled, Plus, Meet, Less, Or as OrOf, Xor as XorOf, And as AndOf, Eq as EqOf, Ne as NeOf, Lt as LtOf, Le as LeOf, Gt as GtOf, Ge as GeOf, Add as AddOf, Sub as SubOf, Mul as MulOf, Div as DivOf, Mod as ModOf, FlatExpression, SigOf, Const as ConstOf, Unary, Binary, DelayOf, Cell, FlatEquation, Defines, Equal, FlatBody, unary_row, binary_row, kind_of_result, stored, Id, Not, Operand, Sig, Form, Fun, Delay, WhenConst, Sync, EventOf, Site, Made, Translated, Together, signal_id, signal_in, with_equation, with_signal, with_own, with_clocks, with_clock_equations, by_one, own, next, unary_form, binary_form, kind_at, cluster_at, plus, meet, less, binary, cell, translate, operands_from, with_syncs, with_all_syncs, with_flat_equation, with_flat_equations, kernel_of}
 use Rattle.sig_kernel.specs.declared.equation.Form.TheVariants.{When, Default}
 
 -- at most two equations for each signal that was made, and so many more
@@ -24,10 +24,6 @@ signal_more site kind at made = length-append made.signals _
 equation_more : (made : Made) (at : Span) (form : Form) → length (with_equation made at form).equations ≡ length made.equations + 1
 equation_more made at form = length-append made.equations _
 
--- the signal of an operator, where it defines none
-own_adds : (site : Site) (kind : Kind) (at : Span) (made : Made) → length (with_own None site kind at made).signals ≡ length made.signals + 1
-own_adds site kind at made = signal_more site kind at made
-
 one_few : (site : Site) (kind : Kind) (at : Span) (form : SigId → Form) (made : Made) → Few 0 made (by_one None site kind at form made).made
 one_few site kind at form made =
     let signals = signal_more site kind at made in
@@ -36,10 +32,6 @@ one_few site kind at form made =
 
 left_few : (left : ℕ) (site : Site) (kind : Kind) (at : Span) (form : SigId → Form) (made : Made) → Few 1 made (by_one (Some left) site kind at form made).made
 left_few left site kind at form made = let equations = equation_more made at (form (signal_id left)) in record { bound = omega arith }
-
--- so many more signals, and at most twice as many more equations
-by_counts : (s e : ℕ) (a b : Made) → length b.signals ≡ length a.signals + s → length b.equations ≡ length a.equations + e → e ≤ 2 * s → Few 0 a b
-by_counts s e a b signals equations within = record { bound = omega arith }
 
 clocks_more : (site : Site) (at : Span) (made : Made) → length (with_clocks site at made).signals ≡ length made.signals + 2
 clocks_more site at made =

@@ -1,5 +1,5 @@
 -- Forms whose operands have kinds that a row of the table takes.
-use Rattle.sig_flat.proofs.Common.{◌≡◌, ◌⊎◌, ◌++◌, ◌&&◌, ◌||◌, ℤ, pos, Bool, true, false, List, [], ◌∷◌, None, Some, refl, ap, ◌∙◌, inl, inr, false≢true, fits_by_test, Kind, Integer, Boolean, Event, SigId, Signal, Bounded, IsValue, UnOp, NotOf, Neg as NegOf, WhenOf, Clock, Integers, Truths, Alike, AnyThenTruth, accepts, kind_of_result, merged, stored, unary_row, Takes, FunOp, Id, Not, Fun, Delay, WhenConst, EventOf, Operand, Sig, Sort, AnInteger, Truth, AnEvent, Any, Row, row, is_kind, kind_is, kind_fits, constant_is, operand_is, keeps_to, keeps_to_one, function_rows, arithmetic, connective, comparison, equality, handed_on, handed_on_where, merged_rows, target_fits, form_fits, signal_in, unary_form}
+use Rattle.sig_flat.proofs.Common.{◌≡◌, ◌⊎◌, ◌++◌, ◌||◌, ℤ, pos, Bool, true, false, List, [], ◌∷◌, None, Some, refl, ap, ◌∙◌, inl, inr, false≢true, fits_by_test, Kind, Integer, Boolean, Event, SigId, Signal, Bounded, IsValue, UnOp, NotOf, Neg as NegOf, WhenOf, Clock, Integers, Truths, Alike, AnyThenTruth, accepts, kind_of_result, merged, stored, unary_row, Takes, FunOp, Id, Not, Fun, Delay, WhenConst, EventOf, Operand, Sig, Sort, AnInteger, Truth, AnEvent, Any, Row, row, is_kind, kind_is, kind_fits, constant_is, operand_is, keeps_to, keeps_to_one, function_rows, arithmetic, connective, comparison, equality, handed_on, handed_on_where, merged_rows, target_fits, form_fits, signal_in, unary_form, and_from, or_right}
 use Rattle.sig_kernel.specs.declared.equation.FunOp.TheVariants.{Neg}
 use Rattle.sig_kernel.specs.declared.equation.Form.TheVariants.{When, Default}
 use Rattle.sig_kernel.specs.declared.equation.Operand.TheVariants.{Const}
@@ -58,13 +58,6 @@ handed Event Integer is = absurd (false≢true is)
 handed Event Boolean is = absurd (false≢true is)
 handed Event Event is = refl
 
-both_true : {a b : Bool} → a ≡ true → b ≡ true → (a && b) ≡ true
-both_true {a} {b} e f = ap (λ x. x && b) e ∙ f
-
-right_true : (a : Bool) {b : Bool} → b ≡ true → (a || b) ≡ true
-right_true true f = refl
-right_true false f = f
-
 constant_fits : (sort : Sort) (kind : Kind) (c : ℤ) → IsValue Bounded kind c → kind_is sort kind ≡ true → constant_is sort c ≡ true
 constant_fits AnInteger Integer c value fits = (fits_by_test c).1 value
 constant_fits AnInteger Boolean c value fits = absurd (false≢true fits)
@@ -86,10 +79,6 @@ sort_fits : (signals : List Signal) (kind : Kind) (b : Bool) (o : Operand) (sort
 sort_fits signals kind _ _ sort (of_signal x is) fits = ap (kind_fits sort) is ∙ fits
 sort_fits signals kind _ _ sort (of_constant c value) fits = constant_fits sort kind c value fits
 
--- the signal that an operand is has its kind
-pub signal_kind : (signals : List Signal) (kind : Kind) (o : Operand) → IsOperandOf signals kind false o → kind_at signals (signal_in o) ≡ Some kind
-signal_kind signals kind _ (of_signal x is) = is
-
 as_signal : (signals : List Signal) (kind : Kind) (o : Operand) → IsOperandOf signals kind false o → IsOperandOf signals kind false (Sig (signal_in o))
 as_signal signals kind _ (of_signal x is) = of_signal x is
 
@@ -100,17 +89,17 @@ same_kind Event = refl
 
 keeps_one : (signals : List Signal) (kind : Kind) (o : Operand) (s : Sort) → operand_is signals o s ≡ true
     → keeps_to signals kind (o ∷ []) (row (s ∷ []) kind) ≡ true
-keeps_one signals kind o s is = both_true (same_kind kind) (both_true is refl)
+keeps_one signals kind o s is = and_from _ _ (same_kind kind) (and_from _ _ is refl)
 
 keeps_two : (signals : List Signal) (kind : Kind) (o p : Operand) (s t : Sort) → operand_is signals o s ≡ true → operand_is signals p t ≡ true
     → keeps_to signals kind (o ∷ p ∷ []) (row (s ∷ t ∷ []) kind) ≡ true
-keeps_two signals kind o p s t is also = both_true (same_kind kind) (both_true is (both_true also refl))
+keeps_two signals kind o p s t is also = and_from _ _ (same_kind kind) (and_from _ _ is (and_from _ _ also refl))
 
 -- one of some rows is kept to
 kept_by : (signals : List Signal) (kind : Kind) (os : List Operand) (before : List Row) (r : Row) (after : List Row)
     → keeps_to signals kind os r ≡ true → keeps_to_one signals kind os (before ++ r ∷ after) ≡ true
 kept_by signals kind os [] r after is = ap (λ b. b || keeps_to_one signals kind os after) is
-kept_by signals kind os (first ∷ before) r after is = right_true (keeps_to signals kind os first) (kept_by signals kind os before r after is)
+kept_by signals kind os (first ∷ before) r after is = or_right (keeps_to signals kind os first) _ (kept_by signals kind os before r after is)
 
 -- a value that is handed on, and the row of the kind that takes it
 hands_on : (signals : List Signal) (kind : Kind) (o : Operand) → operand_is signals o (sort_for kind) ≡ true → keeps_to_one signals kind (o ∷ []) handed_on ≡ true

@@ -1,6 +1,6 @@
 -- The equations of operators keep to the table of kinds. What is said of signals is said of the whole kernel's,
 -- which those made so far begin.
-use Rattle.sig_flat.proofs.Common.{◌≡◌, ◌++◌, ℕ, suc, ℤ, pos, Bool, true, false, List, [], ◌∷◌, length, Option, None, Some, refl, sym, ap, subst, ◌∙◌, append_assoc, if◌then◌else◌, ⊤, none-some, AllByRecursion, unwrap_or, Kind, Integer, Boolean, Event, SigId, Signal, Span, Bounded, IsPrefixOf, IsValue, kind_numbered, Allows, BinOp, Default as DefaultOf, When as Sampled, Plus, Meet, Less, Or as OrOf, Xor as XorOf, And as AndOf, Eq as EqOf, Ne as NeOf, Lt as LtOf, Le as LeOf, Gt as GtOf, Ge as GeOf, Add as AddOf, Sub as SubOf, Mul as MulOf, Div as DivOf, Mod as ModOf, FormRow, binary_row, accepts, kind_of_result, merged, unary_kind, binary_kind, stored, Alike, AnyThenTruth, Equation, Not, Operand, Sig, Form, Fun, Delay, WhenConst, Sync, EventOf, form_fits, Site, Made, Translated, signal_id, signal_in, with_equation, with_signal, with_own, with_clocks, with_clock_equations, by_one, own, next, binary_form, plus, meet, less, cell}
+use Rattle.sig_flat.proofs.Common.{◌≡◌, ◌++◌, ℕ, suc, ℤ, pos, Bool, true, false, List, [], ◌∷◌, length, Option, None, Some, refl, sym, ap, subst, ◌∙◌, append_assoc, if◌then◌else◌, ⊤, none-some, AllByRecursion, unwrap_or, Kind, Integer, Boolean, Event, SigId, Signal, Span, Bounded, IsPrefixOf, IsValue, kind_numbered, Allows, BinOp, Default as DefaultOf, When as Sampled, Plus, Meet, Less, Or as OrOf, Xor as XorOf, And as AndOf, Eq as EqOf, Ne as NeOf, Lt as LtOf, Le as LeOf, Gt as GtOf, Ge as GeOf, Add as AddOf, Sub as SubOf, Mul as MulOf, Div as DivOf, Mod as ModOf, FormRow, binary_row, accepts, kind_of_result, merged, unary_kind, binary_kind, stored, Alike, AnyThenTruth, Equation, Not, Operand, Sig, Form, Fun, Delay, WhenConst, Sync, EventOf, form_fits, Site, Made, Translated, signal_id, signal_in, with_equation, with_signal, with_own, with_clocks, with_clock_equations, by_one, own, next, binary_form, plus, meet, less, cell, all_added, one_longer}
 use Rattle.sig_kernel.specs.declared.equation.Form.TheVariants.{When, Default}
 use Rattle.sig_kernel.specs.Table.{kind_at}
 use Rattle.sig_flat.proofs.AddedBehind.{Grows, own_grows}
@@ -45,10 +45,6 @@ own_takes (Some left) site kind at made whole begins takes_it = record { wanted 
 -- equations keep to the table
 abbrev pub AllFit : List Signal → Made → Type 0
 AllFit whole made = AllByRecursion (λ (q : Equation). form_fits whole q.form ≡ true) made.equations
-
-all_added : {A : Type 0} (P : A → Type 0) (xs : List A) (y : A) → AllByRecursion P xs → P y → AllByRecursion P (xs ++ y ∷ [])
-all_added P [] y h k = (k, tt)
-all_added P (x ∷ xs) y h k = (h.0, all_added P xs y h.1 k)
 
 pub fit_added : (whole : List Signal) (made : Made) (at : Span) (form : Form) → AllFit whole made → form_fits whole form ≡ true → AllFit whole (with_equation made at form)
 fit_added whole made at form all fits = all_added (λ (q : Equation). form_fits whole q.form ≡ true) made.equations (record { form = form; at = at }) all fits
@@ -140,11 +136,6 @@ binary_one whole MulOf y w a b u v c d is takes_it accepted allowed first second
 binary_one whole DivOf y w a b u v c d is takes_it accepted allowed first second = arithmetic_fits whole _ y a b w u v refl is takes_it accepted (record { first_constant = c; second_constant = d; first = first; second = second })
 binary_one whole ModOf y w a b u v c d is takes_it accepted allowed first second = arithmetic_fits whole _ y a b w u v refl is takes_it accepted (record { first_constant = c; second_constant = d; first = first; second = second })
 
--- one more
-length_more : {A : Type 0} (xs : List A) (y : A) → length (xs ++ y ∷ []) ≡ suc (length xs)
-length_more [] y = refl
-length_more (x ∷ xs) y = ap suc (length_more xs y)
-
 pub signal_grows : (site : Site) (kind : Kind) (at : Span) (made : Made) → Grows made (with_signal site kind at made)
 signal_grows site kind at made = record { more = _; is = refl }
 
@@ -152,7 +143,7 @@ signal_grows site kind at made = record { more = _; is = refl }
 second_kind : (site : Site) (first second : Kind) (at : Span) (made : Made) (whole : List Signal)
     → IsPrefixOf (with_signal site second at (with_signal site first at made)).signals whole → kind_at whole (signal_id (suc (length made.signals))) ≡ Some second
 second_kind site first second at made whole begins =
-    subst (λ n. kind_at whole (signal_id n) ≡ Some second) (length_more made.signals _) (added_kind site second at (with_signal site first at made) whole begins)
+    subst (λ n. kind_at whole (signal_id n) ≡ Some second) (one_longer made.signals _) (added_kind site second at (with_signal site first at made) whole begins)
 
 all_own : (left : Option ℕ) (site : Site) (kind : Kind) (at : Span) (made : Made) (whole : List Signal) → AllFit whole made → AllFit whole (with_own left site kind at made)
 all_own None site kind at made whole all = all
@@ -247,7 +238,7 @@ stored_stored Event = refl
 third_kind : (site : Site) (first second third : Kind) (at : Span) (made : Made) (whole : List Signal)
     → IsPrefixOf (with_signal site third at (with_signal site second at (with_signal site first at made))).signals whole → kind_at whole (signal_id (suc (suc (length made.signals)))) ≡ Some third
 third_kind site first second third at made whole begins =
-    subst (λ n. kind_at whole (signal_id (suc n)) ≡ Some third) (length_more made.signals _) (second_kind site second third at (with_signal site first at made) whole begins)
+    subst (λ n. kind_at whole (signal_id (suc n)) ≡ Some third) (one_longer made.signals _) (second_kind site second third at (with_signal site first at made) whole begins)
 
 pub cell_all : (whole : List Signal) (left : Option ℕ) (site : Site) (init : ℤ) (at : Span) (l : Kind) (x b : Translated)
     → IsPrefixOf (cell left site init at x b).made.signals whole → LeftTakes whole left (stored x.kind) → AllFit whole b.made

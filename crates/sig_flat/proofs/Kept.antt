@@ -1,5 +1,5 @@
 -- What holds of each signal that an operator adds to a kernel, and at the place of each equation, holds of all of them.
-use Rattle.sig_flat.proofs.Common.{◌++◌, ℕ, ℤ, List, [], ◌∷◌, Option, None, Some, AllByRecursion, Kind, Boolean, Event, SigId, Signal, Span, placed_name, AtOperators, BinOp, Default as DefaultOf, When as Sampled, Plus, Meet, Less, Or as OrOf, Xor as XorOf, And as AndOf, Eq as EqOf, Ne as NeOf, Lt as LtOf, Le as LeOf, Gt as GtOf, Ge as GeOf, Add as AddOf, Sub as SubOf, Mul as MulOf, Div as DivOf, Mod as ModOf, FlatExpression, SigOf, Const as ConstOf, Unary, Binary, DelayOf, Cell, FlatEquation, Defines, Equal, Equation, Form, Delay, Operand, unary_row, binary_row, kind_of_result, stored, Site, Made, Translated, Together, next, with_signal, with_own, with_clocks, with_clock_equations, with_equation, by_one, unary_form, signal_in, binary, binary_form, cell, cluster_at, place_of, translate, operands_from, with_syncs, with_all_syncs, with_flat_equation, with_flat_equations}
+use Rattle.sig_flat.proofs.Common.{ℕ, ℤ, List, [], ◌∷◌, Option, None, Some, AllByRecursion, Kind, Boolean, Event, SigId, Signal, Span, placed_name, AtOperators, BinOp, Default as DefaultOf, When as Sampled, Plus, Meet, Less, Or as OrOf, Xor as XorOf, And as AndOf, Eq as EqOf, Ne as NeOf, Lt as LtOf, Le as LeOf, Gt as GtOf, Ge as GeOf, Add as AddOf, Sub as SubOf, Mul as MulOf, Div as DivOf, Mod as ModOf, FlatExpression, SigOf, Const as ConstOf, Unary, Binary, DelayOf, Cell, FlatEquation, Defines, Equal, Equation, Form, Delay, Operand, unary_row, binary_row, kind_of_result, stored, Site, Made, Translated, Together, next, with_signal, with_own, with_clocks, with_clock_equations, with_equation, by_one, unary_form, signal_in, binary, binary_form, cell, cluster_at, place_of, translate, operands_from, with_syncs, with_all_syncs, with_flat_equation, with_flat_equations, all_added}
 
 -- of what was made so far: this of each signal, and that at the place of each equation
 pub record Kept (OfSignal : Signal → Type 0) (Holds : Span → Type 0) (made : Made) : Type 0 where
@@ -10,10 +10,6 @@ pub record Kept (OfSignal : Signal → Type 0) (Holds : Span → Type 0) (made :
 abbrev pub Asks : (List ℕ → Span → Type 0) → (Span → Type 0) → FlatEquation → Type 0
 Asks At Holds (Defines left e prefix) = Holds (place_of e) × AtOperators (At prefix) e
 Asks At Holds (Equal operands prefix) = AllByRecursion (λ e. Holds (place_of e) × AtOperators (At prefix) e) operands
-
-all_added : {A : Type 0} (P : A → Type 0) (xs : List A) (y : A) → AllByRecursion P xs → P y → AllByRecursion P (xs ++ y ∷ [])
-all_added P [] y h k = (k, tt)
-all_added P (x ∷ xs) y h k = (h.0, all_added P xs y h.1 k)
 
 abbrev result_of : BinOp → Translated → Translated → Kind
 result_of op u v = kind_of_result (binary_row op).result u.kind (Some v.kind)

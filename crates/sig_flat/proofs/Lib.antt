@@ -36,19 +36,19 @@ mod TranslationCases
 mod ValidKernel
 mod WellMadeNames
 pub use Common.*
+pub use AddedBehind.*
 pub use Binaries.*
 pub use FewEquations.*
-pub use AddedBehind.*
 pub use MetOperators.*
 pub use NamedSignals.*
 pub use Parts.*
 pub use Places.*
-pub use SignalOfNumber.*
 pub use RestrictedTraces.*
 pub use SignalNames.*
-pub use Sizes.*
+pub use SignalOfNumber.*
 pub use SignalOperands.*
-pub use WhatIsLeft.*
+pub use Sizes.*
 pub use TraceByInstants.*
 pub use ValidKernel.*
+pub use WhatIsLeft.*
 pub use Rattle.sig_flat.proofs.MetOperators.{cell_row, delay_row}

@@ -109,9 +109,6 @@ equation_before signals (Equal es prefix) made now fits h m =
     let t : Together = turned_operands (shared prefix) es made in
     operands_before (shared prefix) signals es made now fits h (all_syncs_met now t.signals t.made m).0
 
-abbrev both : List (SigId × Span) → Made → Together
-both signals made = record { signals = signals; made = made }
-
 pub equation_says : (signals : List Declared) (q : FlatEquation) (made : Made) (now : Instant) → Fitting now → Suits signals now → IsMadeEquation signals q → Met now (turned q made) → EquationSays q made now
 equation_says signals (Defines left e prefix) made now fits suits h m =
     let w = h.3 in

@@ -1,5 +1,5 @@
 -- The equations of a kernel name signals that are there.
-use Rattle.sig_flat.proofs.Common.{◌≡◌, ◌≤◌, ◌<◌, ◌+◌, ◌++◌, ◌&&◌, ℕ, suc, ℤ, pos, true, List, [], ◌∷◌, Option, None, Some, length, refl, ap, ◌∙◌, arith, lt-ltb, length-append, AllPass-from_list_all, AllByRecursion, AllPass, list_all, Kind, Boolean, Event, SigId, Span, UnOp, NotOf, Neg as NegOf, WhenOf, Clock, BinOp, Default as DefaultOf, When as Sampled, Plus, Meet, Less, Or, Xor, And, Eq, Ne, Lt, Le, Gt, Ge, Add, Sub, Mul, Div, Mod, FlatExpression, SigOf, Const as ConstOf, Unary, Binary, DelayOf, Cell, FlatEquation, Defines, Equal, FlatBody, unary_row, binary_row, kind_of_result, stored, operands_of, target_of, form_within, operand_within, target_within, Equation, Id, Not as Negation, Operand, Sig, Form, Fun, Delay, WhenConst, Sync, EventOf, Site, Made, Translated, Together, with_signal, with_equation, with_own, with_clocks, own, next, by_one, unary_form, sampled_form, binary_form, kind_at, cluster_at, signal_in, signal_id, plus, meet, less, binary, cell, translate, operands_from, with_syncs, with_all_syncs, with_flat_equation, with_flat_equations, made_of, kernel_of, NamesBelow, IsBelow, NamesItsSignals}
+use Rattle.sig_flat.proofs.Common.{◌≡◌, ◌≤◌, ◌<◌, ◌+◌, ◌&&◌, ℕ, suc, ℤ, pos, true, List, [], ◌∷◌, Option, None, Some, length, refl, ap, ◌∙◌, arith, lt-ltb, length-append, AllPass-from_list_all, AllByRecursion, AllPass, list_all, Kind, Boolean, Event, SigId, Span, UnOp, NotOf, Neg as NegOf, WhenOf, Clock, BinOp, Default as DefaultOf, When as Sampled, Plus, Meet, Less, Or, Xor, And, Eq, Ne, Lt, Le, Gt, Ge, Add, Sub, Mul, Div, Mod, FlatExpression, SigOf, Const as ConstOf, Unary, Binary, DelayOf, Cell, FlatEquation, Defines, Equal, FlatBody, unary_row, binary_row, kind_of_result, stored, operands_of, target_of, form_within, operand_within, target_within, Equation, Id, Not as Negation, Operand, Sig, Form, Fun, Delay, WhenConst, Sync, EventOf, Site, Made, Translated, Together, with_signal, with_equation, with_own, with_clocks, own, next, by_one, unary_form, sampled_form, binary_form, kind_at, cluster_at, signal_in, signal_id, plus, meet, less, binary, cell, translate, operands_from, with_syncs, with_all_syncs, with_flat_equation, with_flat_equations, made_of, kernel_of, NamesBelow, IsBelow, NamesItsSignals, all_added, all_so}
 use Rattle.sig_kernel.specs.declared.equation.Operand.TheVariants.{Const}
 use Rattle.sig_kernel.specs.declared.equation.Form.TheVariants.{When, Default}
 use Rattle.sig_flat.proofs.Sizes.{own_no_less, translate_no_less, operands_no_less, equation_no_less}
@@ -36,19 +36,11 @@ left_more : (m n : ℕ) (y : Option ℕ) → m ≤ n → LeftLow m y → LeftLow
 left_more m n None more h = tt
 left_more m n (Some y) more h = let below : y < m = h in omega arith
 
-all_more : {A : Type 0} (P Q : A → Type 0) (xs : List A) → ((x : A) → P x → Q x) → AllByRecursion P xs → AllByRecursion Q xs
-all_more P Q [] step h = h
-all_more P Q (x ∷ xs) step h = (step x h.0, all_more P Q xs step h.1)
-
 form_more : (m n : ℕ) (form : Form) → m ≤ n → FormLow m form → FormLow n form
 form_more m n form more h = record {
   target = target_more m n (target_of form) more h.target;
-  operands = all_more (OperandLow m) (OperandLow n) (operands_of form) (λ o. operand_more m n o more) h.operands;
+  operands = all_so (OperandLow m) (OperandLow n) (λ o. operand_more m n o more) (operands_of form) h.operands;
 }
-
-all_added : {A : Type 0} (P : A → Type 0) (xs : List A) (y : A) → AllByRecursion P xs → P y → AllByRecursion P (xs ++ y ∷ [])
-all_added P [] y h k = (k, tt)
-all_added P (x ∷ xs) y h k = (h.0, all_added P xs y h.1 k)
 
 low_added : (made : Made) (at : Span) (form : Form) → IsLow made → FormLow (length made.signals) form → IsLow (with_equation made at form)
 low_added made at form low h = all_added (λ (q : Equation). FormLow (length made.signals) q.form) made.equations (record { form = form; at = at }) low h
@@ -59,8 +51,7 @@ one_more site kind at made = length-append made.signals _
 low_signal : (site : Site) (kind : Kind) (at : Span) (made : Made) → IsLow made → IsLow (with_signal site kind at made)
 low_signal site kind at made low =
     let more : length (with_signal site kind at made).signals ≡ length made.signals + 1 = one_more site kind at made in
-    all_more (λ (q : Equation). FormLow (length made.signals) q.form) (λ (q : Equation). FormLow (length (with_signal site kind at made).signals) q.form) made.equations
-    (λ q. form_more (length made.signals) (length (with_signal site kind at made).signals) q.form (omega arith)) low
+    all_so (λ (q : Equation). FormLow (length made.signals) q.form) (λ (q : Equation). FormLow (length (with_signal site kind at made).signals) q.form) (λ q. form_more (length made.signals) (length (with_signal site kind at made).signals) q.form (omega arith)) made.equations low
 
 low_own : (left : Option ℕ) (site : Site) (kind : Kind) (at : Span) (made : Made) → IsLow made → IsLow (with_own left site kind at made)
 low_own None site kind at made low = low_signal site kind at made low
@@ -397,7 +388,7 @@ operands_good site (e ∷ es) made some low h =
     let good : Good x = operand_good site e made some low h.0 in
     let count : length made.signals ≤ length x.made.signals = translate_no_less None site e made in
     let rest : AllGood (operands_from site es x.made) = operands_good site es x.made (omega arith) good.low
-    (all_more (NamesBelow (length made.signals)) (NamesBelow (length x.made.signals)) es (λ e. names_more (length made.signals) (length x.made.signals) e count) h.1) in
+    (all_so (NamesBelow (length made.signals)) (NamesBelow (length x.made.signals)) (λ e. names_more (length made.signals) (length x.made.signals) e count) es h.1) in
     let n : ℕ = length (operands_from site es x.made).made.signals in
     let more : length x.made.signals ≤ n = operands_no_less site es x.made in
     record {
@@ -422,14 +413,14 @@ equation_low (Equal operands prefix) made some low h =
 
 below_more : (m n : ℕ) (q : FlatEquation) → m ≤ n → IsBelow m q → IsBelow n q
 below_more m n (Defines left e prefix) more h = (let below : left < m = h.0 in omega arith, names_more m n e more h.1)
-below_more m n (Equal operands prefix) more h = all_more (NamesBelow m) (NamesBelow n) operands (λ e. names_more m n e more) h
+below_more m n (Equal operands prefix) more h = all_so (NamesBelow m) (NamesBelow n) (λ e. names_more m n e more) operands h
 
 equations_low : (qs : List FlatEquation) (made : Made) → 0 < length made.signals → IsLow made → AllByRecursion (IsBelow (length made.signals)) qs → IsLow (with_flat_equations qs made)
 equations_low [] made some low h = low
 equations_low (q ∷ qs) made some low h =
     let count : length made.signals ≤ length (with_flat_equation q made).signals = equation_no_less q made in
     equations_low qs (with_flat_equation q made) (omega arith) (equation_low q made some low h.0)
-    (all_more (IsBelow (length made.signals)) (IsBelow (length (with_flat_equation q made).signals)) qs (λ r. below_more (length made.signals) (length (with_flat_equation q made).signals) r count) h.1)
+    (all_so (IsBelow (length made.signals)) (IsBelow (length (with_flat_equation q made).signals)) (λ r. below_more (length made.signals) (length (with_flat_equation q made).signals) r count) qs h.1)
 
 -- the same as tests
 operands_pass : (n : ℕ) (os : List Operand) → AllByRecursion (OperandLow n) os → list_all (operand_within n) os ≡ true

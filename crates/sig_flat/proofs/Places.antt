@@ -1,6 +1,5 @@
 -- The places of a kernel are places of its flat body.
-use Rattle.sig_flat.proofs.Common.{ℕ, List, [], ◌∷◌, AllByRecursion, Signal, Span, FlatEquation, Defines, Equal, FlatBody, kernel_of}
-use Rattle.sig_flat.specs.Places.{AtPlacesOfKernel, AtTakenOfBody, AtTakenOfEquation}
+use Rattle.sig_flat.proofs.Common.{ℕ, List, [], ◌∷◌, AllByRecursion, Signal, Span, FlatEquation, Defines, Equal, FlatBody, kernel_of, AtPlacesOfKernel, AtTakenOfBody, AtTakenOfEquation}
 use Rattle.sig_flat.proofs.Kept.{Asks, all_kept}
 
 -- the same at each operator, whatever its prefix

@@ -1,5 +1,5 @@
 -- The equations of a kernel have a signal among their operands.
-use Rattle.sig_flat.proofs.Common.{◌≡◌, ◌⊎◌, ◌++◌, ◌&&◌, ◌||◌, ℕ, ℤ, true, List, [], ◌∷◌, Option, None, Some, refl, ap, ◌∙◌, inl, inr, AllPass-from_list_all, AllByRecursion, AllPass, list_all, list_any, Kind, SigId, Span, UnOp, NotOf, Neg as NegOf, WhenOf, Clock, BinOp, Default as DefaultOf, When as Sampled, Plus, Meet, Less, Or, Xor, And, Eq, Ne, Lt, Le, Gt, Ge, Add, Sub, Mul, Div, Mod, FlatExpression, SigOf, Const as ConstOf, Unary, Binary, DelayOf, Cell, FlatEquation, Defines, Equal, FlatBody, unary_row, binary_row, kind_of_result, stored, operands_of, is_signal, Equation, Id, Operand, Sig, Form, Fun, Delay, Sync, Site, Made, Translated, Together, with_equation, with_own, by_one, unary_form, sampled_form, binary_form, kind_at, cluster_at, own, signal_in, signal_id, binary, cell, translate, operands_from, with_syncs, with_all_syncs, with_flat_equation, with_flat_equations, made_of, kernel_of, IsSignal, Speaks, EquationSpeaks}
+use Rattle.sig_flat.proofs.Common.{◌≡◌, ◌⊎◌, ◌++◌, ◌&&◌, ◌||◌, ℕ, ℤ, true, List, [], ◌∷◌, Option, None, Some, refl, ap, ◌∙◌, inl, inr, AllPass-from_list_all, AllByRecursion, AllPass, list_all, list_any, Kind, SigId, Span, UnOp, NotOf, Neg as NegOf, WhenOf, Clock, BinOp, Default as DefaultOf, When as Sampled, Plus, Meet, Less, Or, Xor, And, Eq, Ne, Lt, Le, Gt, Ge, Add, Sub, Mul, Div, Mod, FlatExpression, SigOf, Const as ConstOf, Unary, Binary, DelayOf, Cell, FlatEquation, Defines, Equal, FlatBody, unary_row, binary_row, kind_of_result, stored, operands_of, is_signal, Equation, Id, Operand, Sig, Form, Fun, Delay, Sync, Site, Made, Translated, Together, with_equation, with_own, by_one, unary_form, sampled_form, binary_form, kind_at, cluster_at, own, signal_in, signal_id, binary, cell, translate, operands_from, with_syncs, with_all_syncs, with_flat_equation, with_flat_equations, made_of, kernel_of, IsSignal, Speaks, EquationSpeaks, all_added}
 use Rattle.sig_kernel.specs.declared.equation.Operand.TheVariants.{Const}
 
 abbrev Tells : Form → Type 0
@@ -7,10 +7,6 @@ Tells form = list_any is_signal (operands_of form) ≡ true
 
 abbrev AllTell : Made → Type 0
 AllTell made = AllByRecursion (λ (q : Equation). Tells q.form) made.equations
-
-all_added : {A : Type 0} (P : A → Type 0) (xs : List A) (y : A) → AllByRecursion P xs → P y → AllByRecursion P (xs ++ y ∷ [])
-all_added P [] y h k = (k, tt)
-all_added P (x ∷ xs) y h k = (h.0, all_added P xs y h.1 k)
 
 told : (made : Made) (at : Span) (form : Form) → AllTell made → Tells form → AllTell (with_equation made at form)
 told made at form all h = all_added (λ (q : Equation). Tells q.form) made.equations (record { form = form; at = at }) all h

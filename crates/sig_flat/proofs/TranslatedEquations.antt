@@ -1,5 +1,5 @@
 -- Instants that meet the equations of a flat equation's translation.
-use Rattle.sig_flat.proofs.Common.{◌≡◌, ℕ, ℤ, Bool, true, false, List, [], ◌∷◌, None, Some, is_some, length, refl, sym, ap, subst, ◌∙◌, inl, inr, ◌⊎◌, AllByRecursion, AllZip, Kind, SigId, Signal as Declared, Span, Seen, Instant, seen_at, Sync, FlatExpression, FlatEquation, Defines, Equal, Steps, IsWhole, Site, Made, Translated, Together, with_equation, signal_in, place_of, translate, operands_from, with_syncs, with_all_syncs, cluster_at, with_flat_equation, with_flat_equations}
+use Rattle.sig_flat.proofs.Common.{◌≡◌, ℕ, ℤ, Bool, true, false, List, [], ◌∷◌, None, Some, is_some, length, refl, sym, ap, subst, ◌∙◌, inl, inr, ◌⊎◌, AllByRecursion, AllZip, Kind, SigId, Signal as Declared, Span, Seen, Instant, seen_at, Sync, FlatExpression, FlatEquation, Defines, Equal, Steps, IsWhole, Site, Made, Translated, Together, with_equation, signal_in, place_of, translate, operands_from, with_syncs, with_all_syncs, cluster_at, with_flat_equation, with_flat_equations, all_so}
 use Rattle.sig_tree.specs.Operators.{Signal}
 use Rattle.sig_flat.proofs.Agreement.{Agree}
 use Rattle.sig_flat.proofs.AddedBehind.{Grows, equation_grows}
@@ -60,10 +60,6 @@ number_in p = let x : SigId = p.0 in x.0
 abbrev pub ArePresent : Instant → Bool → List (SigId × Span) → Type 0
 ArePresent now present signals = AllByRecursion (λ (p : SigId × Span). is_some (seen_at now (number_in p)) ≡ present) signals
 
-all_through : {A : Type 0} (P Q : A → Type 0) → ((a : A) → P a → Q a) → (xs : List A) → AllByRecursion P xs → AllByRecursion Q xs
-all_through P Q f [] h = tt
-all_through P Q f (x ∷ xs) h = (f x h.0, all_through P Q f xs h.1)
-
 syncs_met : (now : Instant) (first : SigId) (others : List (SigId × Span)) (made : Made) → Met now (with_syncs first others made) → Met now made × ArePresent now (is_some (seen_at now first.0)) others
 syncs_met now first [] made h = (h, tt)
 syncs_met now first (second ∷ others) made h =
@@ -72,7 +68,7 @@ syncs_met now first (second ∷ others) made h =
       q.0,
       (
         sym q.1,
-        all_through (λ (p : SigId × Span). is_some (seen_at now (number_in p)) ≡ is_some (seen_at now (number_in second)))
+        all_so (λ (p : SigId × Span). is_some (seen_at now (number_in p)) ≡ is_some (seen_at now (number_in second)))
             (λ (p : SigId × Span). is_some (seen_at now (number_in p)) ≡ is_some (seen_at now first.0)) (λ p e. e ∙ sym q.1) others r.1,
       ),
     )

@@ -1,5 +1,5 @@
 -- Translations once more, by cases on the expression alone, and what a translation adds to what was made.
-use Rattle.sig_flat.proofs.Common.{◌≡◌, ◌↔◌, ◌++◌, ℕ, ℤ, Bool, true, false, List, [], ◌∷◌, Option, None, Some, map, refl, ap, ◌∙◌, AllByRecursion, Kind, Span, Instant, Bounded, seen_at, Meets, Equation, Form, Fun, Delay, Id, Operand, Sig, UnOp, BinOp, Plus, Meet, Less, FlatExpression, SigOf, Const as ConstOf, Unary, Binary, DelayOf, Cell, unary_row, kind_of_result, stored, is_constant, AreMet, found_at, Site, Made, Translated, with_equation, with_own, own, by_one, unary_form, kind_at, signal_in, signal_id, made_signal, binary, cell, translate}
+use Rattle.sig_flat.proofs.Common.{◌≡◌, ◌↔◌, ◌++◌, ℕ, ℤ, Bool, true, false, List, [], ◌∷◌, Option, None, Some, map, refl, ap, ◌∙◌, AllByRecursion, Kind, Span, Instant, Bounded, seen_at, Meets, Equation, Form, Fun, Delay, Id, Operand, Sig, UnOp, BinOp, Plus, Meet, Less, FlatExpression, SigOf, Const as ConstOf, Unary, Binary, DelayOf, Cell, unary_row, kind_of_result, stored, is_constant, AreMet, found_at, Site, Made, Translated, with_equation, with_own, by_one, unary_form, kind_at, signal_in, signal_id, made_signal, binary, cell, translate, all_added}
 use Rattle.sig_kernel.specs.declared.equation.Operand.TheVariants.{Const}
 use Rattle.sig_tree.specs.Operators.{Signal}
 use Rattle.sig_flat.proofs.Instants.{at_first, behind_form, behind_equation, behind_equations, MeetAll, behind_made}
@@ -110,15 +110,11 @@ all_and_last : {A : Type 0} (P : A → Type 0) (xs : List A) (y : A) → AllByRe
 all_and_last P [] y h = (tt, h.0)
 all_and_last P (x ∷ xs) y h = let rest = all_and_last P xs y h.1 in ((h.0, rest.0), rest.1)
 
-all_with_last : {A : Type 0} (P : A → Type 0) (xs : List A) (y : A) → AllByRecursion P xs → P y → AllByRecursion P (xs ++ y ∷ [])
-all_with_last P [] y h k = (k, tt)
-all_with_last P (x ∷ xs) y h k = (h.0, all_with_last P xs y h.1 k)
-
 pub equation_met : (now : Instant) (at : Span) (form : Form) (made : Made) → Met now (with_equation made at form) → Met now made × Meets Bounded at_first now form
 equation_met now at form made h = all_and_last (λ (q : Equation). Meets Bounded at_first now q.form) made.equations (record { form = form; at = at }) h
 
 pub equation_meets : (now : Instant) (at : Span) (form : Form) (made : Made) → Met now made → Meets Bounded at_first now form → Met now (with_equation made at form)
-equation_meets now at form made h k = all_with_last (λ (q : Equation). Meets Bounded at_first now q.form) made.equations (record { form = form; at = at }) h k
+equation_meets now at form made h k = all_added (λ (q : Equation). Meets Bounded at_first now q.form) made.equations (record { form = form; at = at }) h k
 
 pub forms_met : (now : Instant) (at : Span) (forms : List Form) (made : Made) → Met now (with_forms at forms made) → Met now made × AreMet at_first now forms
 forms_met now at [] made h = (h, tt)
@@ -147,11 +143,3 @@ forms_behind now at (form ∷ forms) made =
 pub own_met : (left : Option ℕ) (site : Site) (kind : Kind) (at : Span) (made : Made) (now : Instant) → Met now (with_own left site kind at made) ↔ Met now made
 own_met None site kind at made now = (λ h. h, λ h. h)
 own_met (Some left) site kind at made now = (λ h. h, λ h. h)
-
-pub own_behind : (left : Option ℕ) (site : Site) (kind : Kind) (at : Span) (made : Made) (now : Instant) → with_own left site kind at (behind_made now made) ≡ behind_made now (with_own left site kind at made)
-own_behind None site kind at made now = refl
-own_behind (Some left) site kind at made now = refl
-
-pub own_is : (left : Option ℕ) (made : Made) (now : Instant) → own left (behind_made now made) ≡ own left made
-own_is None made now = refl
-own_is (Some left) made now = refl

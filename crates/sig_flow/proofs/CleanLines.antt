@@ -1,5 +1,5 @@
 -- A line whose words are good holds no other bytes than a line may.
-use Rattle.sig_flow.proofs.Common.{◌≡◌, ◌<◌, ◌∙◌, ◌+◌, ◌&&◌, ℕ, suc, ℤ, Bool, true, false, List, [], ◌∷◌, length, get_or, eqb, nat_le, nat_lt, cond, Option, None, Some, Result, Ok, Err, refl, sym, ap, subst, arith, codes, ltb-true, and_from, false≢true, nat_tests, list_all-append, passes_at_first, split_at_first, bytes_eq-Decides, AllByRecursion, after_first, before_first, list_all, onto_first, position_or_len, slice_split, is_ascii_alphabetic, bytes_eq, digits_value, Kind, Integer, Boolean, Event, Signal, BadLine, Run, WordFault, Bad, Outside, Version, One, Two, is_digits, short_number, AllGood, is_line_byte, is_name, is_name_byte, kind_named, named_fault, text_fault, value_judge, word_fault, words_fault, is_numeral, is_star, repeated, run_length, run_said, starred, times_said, value_said, Word, is_blank, words_among, words_from, words_of}
+use Rattle.sig_flow.proofs.Common.{◌≡◌, ◌<◌, ◌∙◌, ◌+◌, ◌&&◌, ℕ, suc, ℤ, Bool, true, false, List, [], ◌∷◌, length, get_or, eqb, nat_le, nat_lt, cond, Option, None, Some, Result, Ok, Err, refl, sym, ap, subst, arith, codes, ltb-true, and_from, nat_tests, list_all-append, passes_at_first, split_at_first, bytes_eq-Decides, AllByRecursion, after_first, before_first, list_all, onto_first, position_or_len, slice_split, is_ascii_alphabetic, bytes_eq, digits_value, Kind, Integer, Boolean, Event, Signal, BadLine, Run, WordFault, Bad, Outside, Version, One, Two, is_digits, short_number, AllGood, is_line_byte, is_name, is_name_byte, kind_named, named_fault, text_fault, value_judge, word_fault, words_fault, is_numeral, is_star, repeated, run_length, run_said, starred, times_said, value_said, Word, is_blank, words_among, words_from, words_of, and_first, and_second}
 use Rattle.sig_flow.proofs.FirstLemmas.{good_from_none}
 use Rattle.sig_flow.proofs.LineWords.{kept}
 use Rattle.sig_flow.proofs.Numerals.{digit_in}
@@ -10,22 +10,14 @@ Clean text = list_all is_line_byte text ≡ true
 abbrev CleanWord : Word → Type 0
 CleanWord word = Clean word.text
 
-and_head : (a b : Bool) → (a && b) ≡ true → a ≡ true
-and_head true b both = refl
-and_head false b both = both
-
-and_tail : (a b : Bool) → (a && b) ≡ true → b ≡ true
-and_tail true b both = both
-and_tail false b both = absurd (false≢true both)
-
 clean_cons : (x : ℕ) (xs : List ℕ) → is_line_byte x ≡ true → Clean xs → Clean (x ∷ xs)
 clean_cons x xs here rest = and_from (is_line_byte x) (list_all is_line_byte xs) here rest
 
 clean_head : (x : ℕ) (xs : List ℕ) → Clean (x ∷ xs) → is_line_byte x ≡ true
-clean_head x xs clean = and_head (is_line_byte x) (list_all is_line_byte xs) clean
+clean_head x xs clean = and_first (is_line_byte x) (list_all is_line_byte xs) clean
 
 clean_tail : (x : ℕ) (xs : List ℕ) → Clean (x ∷ xs) → Clean xs
-clean_tail x xs clean = and_tail (is_line_byte x) (list_all is_line_byte xs) clean
+clean_tail x xs clean = and_second (is_line_byte x) (list_all is_line_byte xs) clean
 
 blank_is_clean : (x : ℕ) → is_blank x ≡ true → is_line_byte x ≡ true
 blank_is_clean x blank = grind (arith, nat_tests)
@@ -56,8 +48,8 @@ of_words col xs all = of_pieces xs (pieces_of_words col (slice_split is_blank xs
 of_name_bytes : (xs : List ℕ) → list_all is_name_byte xs ≡ true → Clean xs
 of_name_bytes [] name = refl
 of_name_bytes (x ∷ xs) name =
-    let here = and_head (is_name_byte x) (list_all is_name_byte xs) name in
-    clean_cons x xs (grind (arith, nat_tests)) (of_name_bytes xs (and_tail (is_name_byte x) (list_all is_name_byte xs) name))
+    let here = and_first (is_name_byte x) (list_all is_name_byte xs) name in
+    clean_cons x xs (grind (arith, nat_tests)) (of_name_bytes xs (and_second (is_name_byte x) (list_all is_name_byte xs) name))
 
 of_bytes : (xs : List ℕ) → ((k : ℕ) → k < length xs → is_line_byte (get_or xs k 0) ≡ true) → Clean xs
 of_bytes [] each = refl
@@ -71,8 +63,8 @@ of_digits xs digits =
 of_name : (xs : List ℕ) → is_name xs ≡ true → Clean xs
 of_name [] name = refl
 of_name (x ∷ xs) name =
-    let here = and_head (is_ascii_alphabetic x) (list_all is_name_byte xs) name in
-    clean_cons x xs (grind (arith, nat_tests)) (of_name_bytes xs (and_tail (is_ascii_alphabetic x) (list_all is_name_byte xs) name))
+    let here = and_first (is_ascii_alphabetic x) (list_all is_name_byte xs) name in
+    clean_cons x xs (grind (arith, nat_tests)) (of_name_bytes xs (and_second (is_ascii_alphabetic x) (list_all is_name_byte xs) name))
 
 some_is_not : {X : Type 0} (x : X) → (let o : Option X = Some x in o ≡ None) → ⊥
 some_is_not x same = cc
@@ -123,7 +115,7 @@ of_times digits false n times same = absurd (none_is_not times same)
 times_short : (digits : List ℕ) (o : Option ℕ) → short_number digits ≡ o → (value : Result ℤ WordFault) (run : Run) → starred (elim o [ None ↦ None | Some times ↦ cond (nat_le 1 times && nat_le times 4000000) (Some times) None ]) value ≡ Ok run → is_digits digits ≡ true
 times_short digits None short value run same = absurd (not_ok Bad run same)
 times_short digits (Some n) short value run same =
-    and_head (is_digits digits) (nat_le (length digits) 9) (of_times digits (is_digits digits && nat_le (length digits) 9) (digits_value 10 digits) n short)
+    and_first (is_digits digits) (nat_le (length digits) 9) (of_times digits (is_digits digits && nat_le (length digits) 9) (digits_value 10 digits) n short)
 
 starred_value : (o : Option ℕ) (value : Result ℤ WordFault) (run : Run) (G : Type 0) → ((z : ℤ) → value ≡ Ok z → G) → starred o value ≡ Ok run → G
 starred_value None value run G good same = absurd (not_ok Bad run same)

@@ -83,11 +83,6 @@ not_both judge before xs fault good first = not_some fault (sym (none_from_good 
 pub one_first : {A E : Type 0} (judge : Judge A E) (before : ℕ) (xs : List A) (a b : E) → IsFirst judge before xs a → IsFirst judge before xs b → a ≡ b
 one_first judge before xs a b here there = some_of a b (sym (some_from_first judge before xs a here) ∙ some_from_first judge before xs b there)
 
--- what is wrong behind a good element is what is wrong from it on
-pub judged_behind : {A E : Type 0} (judge : Judge A E) (before after : ℕ) (x : A) (xs ys : List A) → ys ≡ x ∷ xs → judge.fault before x ≡ None → after ≡ before + judge.size x → first_fault judge after xs ≡ first_fault judge before ys
-judged_behind judge before after x xs ys are good is =
-    ap (λ n. first_fault judge n xs) is ∙ sym (after_good judge before x xs good) ∙ ap (first_fault judge before) (sym are)
-
 -- and at a wrong one it is that
 pub judged_at : {A E : Type 0} (judge : Judge A E) (before : ℕ) (x : A) (xs ys : List A) (fault : E) → ys ≡ x ∷ xs → judge.fault before x ≡ Some fault → first_fault judge before ys ≡ Some fault
 judged_at judge before x xs ys fault are wrong = ap (first_fault judge before) are ∙ at_wrong judge before x xs fault wrong

@@ -1,5 +1,5 @@
 -- Lemmas: the values that are read are of the kinds of their inputs.
-use Rattle.sig_flow.proofs.Common.{◌≡◌, ◌≤◌, ◌++◌, ◌^◌, ℕ, zero, suc, ℤ, pos, neg_ℤ, Bool, true, false, ◌&&◌, List, [], ◌∷◌, length, get_or, replicate, refl, sym, ap, ◌∙◌, subst, arith, Option, None, Some, Result, Ok, Err, bytes_eq, codes, flat_map, nat_le, nat_lt, if◌then◌else◌, ◌==◌, list_all, before_first, after_first, position_or_len, digits_value, false≢true, leb-true, lt-ltb, get_or-map, length-map, AllPass-from_list_all, has_64_bits, Kind, Integer, Boolean, Event, Signal, AreFlowsFor, inputs_of, value_is, Kernel, AreFlows, file_body, flow_in, values_for, values_of, Line, integer_of, is_numeral, is_star, is_within, repeated, run_said, run_values, starred, times_said, value_said, Word, words_of, Version, One, Two, WordFault, Bad, Outside}
+use Rattle.sig_flow.proofs.Common.{◌≡◌, ◌≤◌, ◌++◌, ◌^◌, ℕ, zero, suc, ℤ, pos, neg_ℤ, Bool, true, false, ◌&&◌, List, [], ◌∷◌, length, get_or, replicate, refl, sym, ap, ◌∙◌, subst, arith, Option, None, Some, Result, Ok, Err, bytes_eq, codes, flat_map, nat_le, nat_lt, if◌then◌else◌, ◌==◌, list_all, before_first, after_first, position_or_len, digits_value, false≢true, leb-true, lt-ltb, get_or-map, length-map, AllPass-from_list_all, has_64_bits, Kind, Integer, Boolean, Event, Signal, AreFlowsFor, inputs_of, value_is, Kernel, AreFlows, file_body, flow_in, values_for, values_of, Line, integer_of, is_numeral, is_star, is_within, repeated, run_said, run_values, starred, times_said, value_said, Word, words_of, Version, One, Two, WordFault, Bad, Outside, and_parts}
 
 -- where a word has a value, it is one of the kind
 abbrev IsGood : Kind → Result ℤ WordFault → Type 0
@@ -44,14 +44,10 @@ AllGood kind values = list_all (value_is kind) values ≡ true
 more_good : (kind : Kind) (v : ℤ) (values : List ℤ) → value_is kind v ≡ true → AllGood kind values → AllGood kind (v ∷ values)
 more_good kind v values first rest = ap (λ b. b && list_all (value_is kind) values) first ∙ rest
 
-both : (a b : Bool) → a && b ≡ true → (a ≡ true) × (b ≡ true)
-both true b given = (refl, given)
-both false b given = absurd (false≢true given)
-
 append_good : (kind : Kind) (front back : List ℤ) → AllGood kind front → AllGood kind back → AllGood kind (front ++ back)
 append_good kind [] back first rest = rest
 append_good kind (v ∷ front) back first rest =
-    let parts = both (value_is kind v) (list_all (value_is kind) front) first in
+    let parts = and_parts (value_is kind v) (list_all (value_is kind) front) first in
     more_good kind v (front ++ back) parts.0 (append_good kind front back parts.1 rest)
 
 flat_good : {A : Type 0} (kind : Kind) (values : A → List ℤ) (xs : List A) → ((x : A) → AllGood kind (values x)) → AllGood kind (flat_map values xs)

@@ -1,7 +1,7 @@
 -- What the lines of a flow file give each input.
-use Rattle.sig_flow.proofs.Common.{◌≡◌, ◌≢◌, ◌<◌, ◌+◌, ℕ, ℤ, List, [], ◌∷◌, ◌++◌, length, get_or, set, map, Option, None, Some, Result, Ok, Err, bytes_eq, sym, refl, ◌∙◌, ap, subst, ⊎_elim, ◌⊎◌, inl, inr, arith, cases_eq, get_or_default, get_or-set_same, get_or-set_other, get_or-map, append-nil, ext_get_or, length-map, bytes_eq-Decides, IsDistinct, IfOk, IfErr, MatchResult, IsErrAnd, lines, Signal, FlowAnswer, OutOfMemory, Version, first_fault, AreFlows, AreFlowsIn, Body, IsFirstBadPlace, IsFirstIn, file_body, flow_in, line_judge, text_fault, values_for, values_of, words_count, words_of, Line, numbered, Word, append_assoc, take, drop, take-append_seam}
+use Rattle.sig_flow.proofs.Common.{◌≡◌, ◌≢◌, ◌<◌, ◌+◌, ℕ, ℤ, List, [], ◌∷◌, ◌++◌, length, get_or, set, map, Option, None, Some, Result, Ok, Err, bytes_eq, sym, refl, ◌∙◌, ap, subst, ⊎_elim, ◌⊎◌, inl, inr, arith, cases_eq, get_or_default, get_or-set_same, get_or-set_other, get_or-map, append-nil, ext_get_or, length-map, bytes_eq-Decides, IsDistinct, IfOk, IfErr, MatchResult, IsErrAnd, lines, Signal, FlowAnswer, OutOfMemory, Version, first_fault, AreFlows, AreFlowsIn, Body, IsFirstBadPlace, IsFirstIn, file_body, flow_in, line_judge, text_fault, values_for, values_of, words_of, Line, numbered, Word, append_assoc, other_bytes}
 use Rattle.sig_flow.proofs.FirstLemmas.{judged_at, good_from_none, first_from_some, not_both, one_first}
-use Rattle.sig_flow.proofs.InputLemmas.{differ_eq, names_differ, nobody}
+use Rattle.sig_flow.proofs.InputLemmas.{names_differ, nobody}
 
 -- the values of a line are those of the input that it names
 values_for_own : (version : Version) (input : Signal) (name : Word) (values : List Word) → name.text ≡ input.name → values_for version input (name ∷ values) ≡ values_of version input.kind values
@@ -9,7 +9,7 @@ values_for_own version input name values same = rw ((bytes_eq-Decides name.text 
 
 -- and no other's
 values_for_other : (version : Version) (input : Signal) (name : Word) (values : List Word) → name.text ≢ input.name → values_for version input (name ∷ values) ≡ []
-values_for_other version input name values other = rw (differ_eq name.text input.name other) refl
+values_for_other version input name values other = rw (other_bytes name.text input.name other) refl
 
 -- after a line, the input that it names has its values at the end, and the others' flows are as before
 pub after_line : (version : Version) (inputs : List Signal) (flows : List (List ℤ)) (i : ℕ) (e : Signal) (name : Word) (values : List Word) (flow : List ℤ) → IsDistinct bytes_eq (map (λ input. input.name) inputs) → length flows ≡ length inputs → i < length inputs → (get_or inputs i e).name ≡ name.text → flow ≡ get_or flows i [] ++ values_of version (get_or inputs i e).kind values → (k : ℕ) (d : Signal) → k < length inputs → get_or (set flows i flow) k [] ≡ get_or flows k [] ++ values_for version (get_or inputs k d) (name ∷ values)
@@ -40,12 +40,6 @@ module _ (version : Version) (inputs : List Signal) (rest line after : List ℕ)
   wrong_at old fault wrong =
       judged_at (line_judge version inputs) old (line_at number line) (numbered (number + 1) (lines after)) (numbered number (lines rest)) fault numbered_first wrong
 
-  -- behind a good line
-  pub behind_good : (old : ℕ) → text_fault version inputs number old line ≡ None → first_fault (line_judge version inputs) old (numbered number (lines rest)) ≡ first_fault (line_judge version inputs) (old + words_count version inputs (words_of line)) (numbered (number + 1) (lines after))
-  behind_good old good =
-      ap (first_fault (line_judge version inputs) old) numbered_first
-      ∙ rw good refl
-
   -- what a line and those behind it give an input
   pub flow_behind : (input : Signal) → flow_in version (numbered number (lines rest)) input ≡ values_for version input (words_of line) ++ flow_in version (numbered (number + 1) (lines after)) input
   flow_behind input = ap (λ ls. flow_in version ls input) numbered_first
@@ -56,11 +50,6 @@ module _ (version : Version) (inputs : List Signal) (rest line after : List ℕ)
       ap (λ vs. vs ++ flow_in version (numbered (number + 1) (lines after)) input) is
       ∙ append_assoc old (values_for version input (words_of line)) (flow_in version (numbered (number + 1) (lines after)) input)
       ∙ ap (λ vs. old ++ vs) (sym (flow_behind input))
-
--- what is written over flows of the same number is all of them
-pub written_flows : (len : ℕ) (new items : List (List ℤ)) → length new ≡ length items → len ≡ length items → take len (new ++ drop (length new) items) ≡ new
-written_flows len new items same is =
-    ap (λ n. take n (new ++ drop (length new) items)) (is ∙ sym same) ∙ take-append_seam new (drop (length new) items)
 
 -- the first line that is wrong
 pub fault_here : (inputs : List Signal) (body : Body) (rest line after : List ℕ) (number before : ℕ) (fault : FlowAnswer) → lines rest ≡ line ∷ lines after → (fault ≡ OutOfMemory) ⊎ (text_fault body.version inputs number before line ≡ Some fault) → first_fault (line_judge body.version inputs) before (numbered number (lines rest)) ≡ first_fault (line_judge body.version inputs) 0 body.lines → (fault ≡ OutOfMemory) ⊎ IsFirstIn inputs body fault

@@ -1,26 +1,22 @@
 -- Inputs by their names.
-use Rattle.sig_flow.proofs.Common.{Bool, true, Option, cond, ap, cases_eq, ArePlaces, IsInput, ◌+◌, ◌≡◌, ◌≢◌, ◌<◌, ℕ, zero, suc, List, [], ◌∷◌, length, get_or, map, None, Some, false, bytes_eq, sym, refl, ◌∙◌, ⊎_elim, arith, cases_Bool, cases_order, not_from_Decides, get_or-map, length-map, apart_from_distinct, bytes_eq-Decides, IsDistinct, Signal, Integer, kind_named}
+use Rattle.sig_flow.proofs.Common.{Bool, true, Option, cond, ap, cases_eq, ArePlaces, IsInput, ◌+◌, ◌≡◌, ◌≢◌, ◌<◌, ℕ, zero, suc, List, [], ◌∷◌, length, get_or, map, None, Some, false, bytes_eq, sym, refl, ◌∙◌, ⊎_elim, arith, cases_order, not_from_Decides, get_or-map, length-map, apart_from_distinct, bytes_eq-Decides, IsDistinct, Signal, Integer, kind_named, other_bytes}
 
 -- some signal, for the places past the end of a list
 pub nobody : Signal
 nobody = record { name = []; kind = Integer; cluster = 0; at = record { line = 0; col = 0 } }
 
--- texts that differ
-pub differ_eq : (xs ys : List ℕ) → xs ≢ ys → bytes_eq xs ys ≡ false
-differ_eq xs ys ne = ⊎_elim (λ same. absurd (ne ((bytes_eq-Decides xs ys).0 same))) (λ other. other) (cases_Bool (bytes_eq xs ys))
-
 -- no input has the name
 pub kind_absent : (inputs : List Signal) (name : List ℕ) → ((k : ℕ) (d : Signal) → k < length inputs → (get_or inputs k d).name ≡ name → ⊥) → kind_named inputs name ≡ None
 kind_absent [] name none = refl
 kind_absent (input ∷ inputs) name none =
-    rw (differ_eq input.name name (none 0 input (omega arith))) (kind_absent inputs name (λ k d lt. none (suc k) d (omega arith)))
+    rw (other_bytes input.name name (none 0 input (omega arith))) (kind_absent inputs name (λ k d lt. none (suc k) d (omega arith)))
 
 -- the first input of the name
 pub kind_at : (inputs : List Signal) (name : List ℕ) (i : ℕ) (d : Signal) → i < length inputs → ((k : ℕ) (e : Signal) → k < i → (get_or inputs k e).name ≡ name → ⊥) → (get_or inputs i d).name ≡ name → kind_named inputs name ≡ Some (get_or inputs i d).kind
 kind_at [] name i d lt none is = absurd (omega arith)
 kind_at (input ∷ inputs) name zero d lt none is = rw ((bytes_eq-Decides input.name name).1 is) refl
 kind_at (input ∷ inputs) name (suc i) d lt none is =
-    rw (differ_eq input.name name (none 0 d (omega arith))) (kind_at inputs name i d (omega arith) (λ k e below. none (suc k) e (omega arith)) is)
+    rw (other_bytes input.name name (none 0 d (omega arith))) (kind_at inputs name i d (omega arith) (λ k e below. none (suc k) e (omega arith)) is)
 
 -- two inputs have different names
 pub names_differ : (inputs : List Signal) (i k : ℕ) (d : Signal) → IsDistinct bytes_eq (map (λ input. input.name) inputs) → i < length inputs → k < length inputs → k ≢ i → (get_or inputs i d).name ≢ (get_or inputs k d).name
@@ -53,7 +49,7 @@ module _ (inputs : List Signal) (n : ℕ) (place now : List ℕ → Option ℕ) 
       let q = (get_or inputs i d).name in
       ⊎_elim
       (λ e. updates q ∙ ap (λ b. cond b (Some n) (place q)) ((bytes_eq-Decides name q).1 (sym (named d) ∙ ap (λ k. (get_or inputs k d).name) (sym e))) ∙ ap Some (sym e))
-      (λ ne. updates q ∙ ap (λ b. cond b (Some n) (place q)) (differ_eq name q (λ same. names_differ inputs n i d distinct lt (omega (arith, less, lt)) ne (named d ∙ same))) ∙ before.all i d (omega (arith, less, ne)))
+      (λ ne. updates q ∙ ap (λ b. cond b (Some n) (place q)) (other_bytes name q (λ same. names_differ inputs n i d distinct lt (omega (arith, less, lt)) ne (named d ∙ same))) ∙ before.all i d (omega (arith, less, ne)))
       (cases_eq i n)
 
   pub places_more : ArePlaces inputs (n + 1) now

@@ -28,4 +28,4 @@ pub use ShortNumbers.*
 pub use StarLemmas.*
 pub use TakenPieces.*
 pub use WrittenLines.*
-pub use Rattle.sig_flow.proofs.FlowLemmas.{all_read, flow_on, given, refused, written_flows}
+pub use Rattle.sig_flow.proofs.FlowLemmas.{all_read, given, refused}

@@ -1,10 +1,5 @@
 -- Lines and texts of values that are written from their ends.
-use Rattle.sig_flow.proofs.Common.{Bool, true, false, if◌then◌else◌, ◌≡◌, ◌≤◌, ◌<◌, ◌+◌, ◌∙◌, ℕ, ℤ, pos, negsuc, List, [], ◌∷◌, ◌++◌, length, drop, set, codes, refl, sym, ap, arith, append_assoc, length-append, drop-set, true≢false, w64, FitsSigned, int_eq, int_le, unsigned_abs, leb-zero, decimal, signed_decimal, length_signed_le, line_with, truth_text}
-
--- an integer from 0 on has no sign
-pub text_of_plain : (z : ℤ) → int_le (pos 0) z ≡ true → decimal (unsigned_abs z) ≡ signed_decimal z
-text_of_plain (pos n) is = refl
-text_of_plain (negsuc n) is = absurd (let clash : false ≡ true = is in cc)
+use Rattle.sig_flow.proofs.Common.{false, ◌≡◌, ◌≤◌, ◌<◌, ◌+◌, ◌∙◌, ℕ, ℤ, pos, negsuc, List, [], ◌∷◌, ◌++◌, length, drop, set, refl, sym, ap, arith, append_assoc, length-append, drop-set, true≢false, w64, FitsSigned, int_le, unsigned_abs, leb-zero, decimal, signed_decimal, length_signed_le, line_with}
 
 -- one below 0 has one
 pub text_of_minus : (z : ℤ) → int_le (pos 0) z ≡ false → 45 ∷ decimal (unsigned_abs z) ≡ signed_decimal z
@@ -15,13 +10,6 @@ text_of_minus (negsuc n) is = refl
 pub integer_is_short : (z : ℤ) → FitsSigned w64 z → length (signed_decimal z) ≤ 20
 integer_is_short (pos n) fits = let small = fits.sfits in length_signed_le 19 (pos n) (omega (arith, small)) (omega (arith, small))
 integer_is_short (negsuc n) fits = let small = fits.sfits in length_signed_le 19 (negsuc n) (omega (arith, small)) (omega (arith, small))
-
-word_is_short : (b : Bool) → length (if b then codes "false" else codes "true") ≤ 20
-word_is_short true = omega arith
-word_is_short false = omega arith
-
-pub truth_is_short : (z : ℤ) → length (truth_text z) ≤ 20
-truth_is_short z = word_is_short (int_eq z (pos 0))
 
 -- a line, and what stands behind it
 line_then : (name value rest : List ℕ) → line_with name value ++ rest ≡ name ++ (32 ∷ (value ++ (10 ∷ rest)))

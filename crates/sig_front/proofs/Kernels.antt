@@ -1,8 +1,7 @@
 -- The kernel of a text is valid, has few equations and has the traces of the program.
-use Rattle.sig_front.proofs.Common.{◌≡◌, ◌<◌, ◌≤◌, ◌+◌, ◌*◌, ◌^◌, ℕ, List, length, map, take, bytes_eq, sym, subst, arith, AllByRecursion, IsDistinct, SIGNALS, Signal, Trace, IsFlatBody, FlatBody, IsText, IsProcessTrace, ProcessModel, IsWellFormed, IsBounded, IsSignalName, NamesOperators, IsTree, IsSized, flat_weights, IsWellMade, IsKernelTrace, IsValid, Kernel, kernel_of, restricted, IsFlatText, HasTracesOf, IsKernelText}
+use Rattle.sig_front.proofs.Common.{◌≡◌, ◌<◌, ◌≤◌, ◌+◌, ◌*◌, ◌^◌, ℕ, List, length, map, take, bytes_eq, sym, subst, arith, AllByRecursion, IsDistinct, SIGNALS, Signal, Trace, IsFlatBody, FlatBody, IsText, IsProcessTrace, ProcessModel, IsWellFormed, IsBounded, IsSignalName, NamesOperators, IsTree, IsSized, flat_weights, IsWellMade, IsKernelTrace, IsValid, Kernel, kernel_of, restricted, IsFlatText, HasTracesOf, IsKernelText, mul-le}
 use Rattle.sig_front.proofs.Distinct.{first_distinct}
 use Rattle.sig_front.proofs.OneFlat.{flat_once}
-use Rattle.sig_front.proofs.SmallBodies.{product}
 
 module _ (trees : (text : List ℕ) (program : List ProcessModel) → IsText text program → IsTree program)
     (bounded : (text : List ℕ) (program : List ProcessModel) → IsText text program → IsBounded program)
@@ -51,7 +50,7 @@ module _ (trees : (text : List ℕ) (program : List ProcessModel) → IsText tex
       let says = is.says in
       let weights = sizes says.tree flat (length text) (trees text says.tree says.good.reads) says.good.formed (sized text says.tree says.good.reads) says.expands in
       let few : length flat.signals ≤ 512 = says.few in
-      let most : length text * (length flat.signals + 1) ≤ 1048576 * 513 = product (length text) (length flat.signals + 1) 1048576 513 short (omega (arith, few)) in
+      let most : length text * (length flat.signals + 1) ≤ 1048576 * 513 = mul-le (length text) (length flat.signals + 1) 1048576 513 short (omega (arith, few)) in
       let kept : length (kernel_of flat).signals ≤ 512 = subst (λ (k : Kernel). length k.signals ≤ 512) is.made is.few in
       let bound = bounds flat in
       subst (λ (k : Kernel). length k.equations < 2 ^ 30) (sym is.made) (omega (arith, weights, most, kept, bound))

@@ -6,9 +6,7 @@ pub mod OneFlat
 pub mod OneKernel
 pub mod OneText
 pub mod Places
-pub mod Results
 pub mod SmallBodies
-pub mod TextRefusals
 unfoldable pub use Common.*
 pub use Given.*
 pub use Kernels.*
@@ -16,7 +14,6 @@ pub use OneFlat.*
 pub use OneKernel.*
 pub use OneText.*
 pub use Places.*
-pub use Results.*
 pub use SmallBodies.*
 pub use Rattle.sig_front.proofs.OneText.{tree_once}
 pub use Rattle.sig_front.proofs.SmallBodies.{names}

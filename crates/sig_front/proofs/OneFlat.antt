@@ -1,5 +1,5 @@
 -- A text has one flat body that is kept or one refusal, at most, and not both.
-use Rattle.sig_front.proofs.Common.{◌≡◌, ◌<◌, ◌∙◌, ◌⊎◌, ℕ, List, length, sym, ap, subst, refl, arith, ⊎_elim, inl, inr, MatchOption, ⊤, Offence, all_processes, IsFlatBody, FlatBody, IsText, ProcessModel, IsWellFormed, IsFirstOffence, rules_of, one_first, none_first, one_body, offence_of, TypeAnswer, Unknown, DeclaredTwice, InputDefined, DefinedTwice, Undefined, Clash, BareConstant, BadCall, Recursive, BadPragma, NoInit, TypeMemory, IsRefusedBy, NeedsTooMany, CallAnswer, TooMany, CallMemory, IsFlatText, IsGood, IsNoFlatText, IsTooLarge, Offends, answer_for, of_call, of_type, IsNoText, FrontAnswer, Lex, Parse, «Type» as TypeRefused, TooManySignals, OutOfMemory}
+use Rattle.sig_front.proofs.Common.{◌≡◌, ◌<◌, ◌∙◌, ℕ, List, length, sym, ap, subst, arith, Offence, all_processes, IsFlatBody, FlatBody, IsText, ProcessModel, IsFirstOffence, rules_of, one_first, none_first, one_body, TypeAnswer, IsFlatText, IsGood, IsNoFlatText, IsTooLarge, Offends, answer_for, IsNoText, FrontAnswer, Lex, Parse, «Type» as TypeRefused, TooManySignals, OutOfMemory}
 use Rattle.sig_front.proofs.OneText.{tree_once, refusal_once, tree_or_refusal}
 
 -- ---- a flat body
@@ -71,40 +71,5 @@ no_flat_once text OutOfMemory b x y = absurd x
 
 -- ---- what the passes answer
 
-no_text_no_flat : (text : List ℕ) (answer : FrontAnswer) → IsNoText text answer → IsNoFlatText text answer
-no_text_no_flat text (Lex fault) none = none
-no_text_no_flat text (Parse refusal) none = none
-no_text_no_flat text (TypeRefused answer) none = absurd none
-no_text_no_flat text (TooManySignals limit) none = absurd none
-no_text_no_flat text OutOfMemory none = none
-
-pub tree_refused : (text : List ℕ) (answer : FrontAnswer) → (answer ≡ OutOfMemory) ⊎ IsNoText text answer → (answer ≡ OutOfMemory) ⊎ IsNoFlatText text answer
-tree_refused text answer why = ⊎_elim (λ memory. inl memory) (λ none. inr (no_text_no_flat text answer none)) why
-
 offends : (text : List ℕ) (tree : List ProcessModel) (offence : Offence) (answer : TypeAnswer) → IsText text tree → IsFirstOffence tree offence → answer ≡ answer_for offence → Offends text answer
 offends text tree offence answer reads first named = record { tree = tree; reads = reads; offence = offence; first = first; named = named }
-
-pub check_refused : (text : List ℕ) (tree : List ProcessModel) (answer : TypeAnswer) → MatchOption (offence_of answer) ⊤ (IsFirstOffence tree) → IsText text tree → (of_type answer ≡ OutOfMemory) ⊎ IsNoFlatText text (of_type answer)
-check_refused text tree TypeMemory first reads = inl refl
-check_refused text tree (Unknown name) first reads = inr (offends text tree _ (Unknown name) reads first refl)
-check_refused text tree (DeclaredTwice name) first reads = inr (offends text tree _ (DeclaredTwice name) reads first refl)
-check_refused text tree (InputDefined name) first reads = inr (offends text tree _ (InputDefined name) reads first refl)
-check_refused text tree (DefinedTwice name) first reads = inr (offends text tree _ (DefinedTwice name) reads first refl)
-check_refused text tree (Undefined name) first reads = inr (offends text tree _ (Undefined name) reads first refl)
-check_refused text tree (Clash at) first reads = inr (offends text tree _ (Clash at) reads first refl)
-check_refused text tree (BareConstant at) first reads = inr (offends text tree _ (BareConstant at) reads first refl)
-check_refused text tree (BadCall name) first reads = inr (offends text tree _ (BadCall name) reads first refl)
-check_refused text tree (Recursive name) first reads = inr (offends text tree _ (Recursive name) reads first refl)
-check_refused text tree (BadPragma at) first reads = inr (offends text tree _ (BadPragma at) reads first refl)
-check_refused text tree (NoInit at) first reads = inr (offends text tree _ (NoInit at) reads first refl)
-
-pub call_refused : (text : List ℕ) (tree : List ProcessModel) (answer : CallAnswer) → IsText text tree → IsWellFormed tree → IsRefusedBy answer (NeedsTooMany tree) → (of_call answer ≡ OutOfMemory) ⊎ IsNoFlatText text (of_call answer)
-call_refused text tree (TooMany limit) reads formed refused = inr (record {
-  tree = tree;
-  good = record { reads = reads; formed = formed };
-  flat = refused.1.some.0;
-  expands = refused.1.some.1;
-  many = refused.1.each refused.1.some.0 refused.1.some.1;
-  said = refused.0;
-})
-call_refused text tree CallMemory reads formed refused = inl refl

@@ -1,6 +1,5 @@
 -- A text has one kernel that is kept or one refusal, at most, and not both.
-use Rattle.sig_front.proofs.Common.{◌≡◌, ◌⊎◌, ◌<◌, ◌≤◌, ◌∙◌, ℕ, List, length, sym, ap, subst, refl, arith, ⊎_elim, inl, inr, FlatBody, Kernel, kernel_of, FlatAnswer, TooManyMade, FlatMemory, IsFlatText, IsNoFlatText, IsTooLarge, of_flat, HasLargeKernel, IsKernelText, IsNoKernelText, FrontAnswer, Lex, Parse, «Type» as TypeRefused, TooManySignals, OutOfMemory}
-use Rattle.sig_flat.specs.Answers.{IsRefusedBy}
+use Rattle.sig_front.proofs.Common.{◌≡◌, ◌⊎◌, ◌<◌, ◌≤◌, ◌∙◌, ℕ, List, length, sym, ap, subst, arith, ⊎_elim, inl, inr, FlatBody, Kernel, kernel_of, IsNoFlatText, IsTooLarge, HasLargeKernel, IsKernelText, IsNoKernelText, FrontAnswer, Lex, Parse, «Type» as TypeRefused, TooManySignals, OutOfMemory}
 use Rattle.sig_front.proofs.OneFlat.{flat_once, flat_or_refusal, no_flat_once}
 
 pub kernel_once : (text : List ℕ) (a b : Kernel) → IsKernelText text a → IsKernelText text b → a ≡ b
@@ -58,17 +57,3 @@ no_kernel_once text (TooManySignals n) (TypeRefused b) x y = sym (before_size te
 no_kernel_once text (TooManySignals n) (TooManySignals m) x y = same_limit n m (limit_said text n x) (limit_said text m y)
 no_kernel_once text (TooManySignals n) OutOfMemory x y = absurd y
 no_kernel_once text OutOfMemory b x y = absurd x
-
--- what the passes answer
-pub flat_refused : (text : List ℕ) (answer : FrontAnswer) → (answer ≡ OutOfMemory) ⊎ IsNoFlatText text answer → (answer ≡ OutOfMemory) ⊎ IsNoKernelText text answer
-flat_refused text answer (inl memory) = inl memory
-flat_refused text (Lex fault) (inr none) = inr none
-flat_refused text (Parse refusal) (inr none) = inr none
-flat_refused text (TypeRefused answer) (inr none) = inr none
-flat_refused text (TooManySignals limit) (inr large) = inr (inl large)
-flat_refused text OutOfMemory (inr none) = inl refl
-
-pub kernel_refused : (text : List ℕ) (flat : FlatBody) (answer : FlatAnswer) → IsFlatText text flat → IsRefusedBy answer (512 < length (kernel_of flat).signals)
-    → (of_flat answer ≡ OutOfMemory) ⊎ IsNoKernelText text (of_flat answer)
-kernel_refused text flat (TooManyMade limit) says refused = inr (inr (record { flat = flat; says = says; many = refused.1; said = refused.0 }))
-kernel_refused text flat FlatMemory says refused = inl refl

@@ -1,7 +1,5 @@
 -- The places of the kernel of a text lie in the text.
-use Rattle.sig_front.proofs.Common.{◌+◌, ◌&&◌, ℕ, Bool, List, length, and_from, and_parts, le-leb, leb-true, nat_le, sym, subst, IsTrue, Signal, Span, IsFlatBody, FlatBody, FlatEquation, IsText, ProcessModel, Kernel, kernel_of, IsKernelText, AtPlaces, AtPlacesOfBody, AtPlacesOfEquation, AtPlacesOfKernel, AtTaken, AtTakenOfBody, AtTakenOfEquation, IsWithin, place_of, all_so, operators_of}
-use Rattle.sig_tree.specs.FlatSyntax.{FlatExpression, Sig, Const, Unary, Binary, Delay, Cell, Defines, Equal}
-use Rattle.sig_kernel.specs.declared.equation.Equation.{Equation}
+use Rattle.sig_front.proofs.Common.{◌+◌, ◌&&◌, ℕ, Bool, List, length, and_from, and_parts, le-leb, leb-true, nat_le, sym, subst, IsTrue, Signal, Span, IsFlatBody, FlatBody, FlatEquation, IsText, ProcessModel, Kernel, kernel_of, IsKernelText, AtPlaces, AtPlacesOfBody, AtPlacesOfEquation, AtPlacesOfKernel, AtTaken, AtTakenOfBody, AtTakenOfEquation, IsWithin, place_of, operators_of, FlatExpression, Sig, Const, Unary, Binary, Delay, Cell, Defines, Equal, Equation, all_so}
 
 -- whether a place lies in a text of so many bytes
 abbrev lies_within : ℕ → Span → Bool

@@ -1,9 +1,5 @@
 -- A flat body of a text has few equations, and signals of different names.
-use Rattle.sig_front.proofs.Common.{◌<◌, ◌≤◌, ◌+◌, ◌*◌, ◌^◌, ℕ, List, length, map, bytes_eq, arith, mul-le-mul, IsFlatBody, length-map, IsDistinct, Result, Ok, Err, IfOk, Flat, FrontAnswer, FlatBody, FlatEquation, flat_body_of, flat_equation_of, IsText, ProcessModel, IsWellFormed, IsTree, IsSized, flat_weights, IsFlatText}
-
--- a product of bounded numbers
-pub product : (size signals bytes most : ℕ) → size ≤ bytes → signals ≤ most → size * signals ≤ bytes * most
-product size signals bytes most first second = mul-le-mul first second
+use Rattle.sig_front.proofs.Common.{◌<◌, ◌≤◌, ◌+◌, ◌*◌, ◌^◌, ℕ, List, length, map, bytes_eq, arith, IsFlatBody, length-map, IsDistinct, Result, Ok, Err, IfOk, Flat, FrontAnswer, FlatBody, FlatEquation, flat_body_of, flat_equation_of, IsText, ProcessModel, IsWellFormed, IsTree, IsSized, flat_weights, IsFlatText, mul-le}
 
 module _ (trees : (text : List ℕ) (program : List ProcessModel) → IsText text program → IsTree program)
     (sized : (text : List ℕ) (program : List ProcessModel) → IsText text program → IsSized (length text) program)
@@ -12,7 +8,7 @@ module _ (trees : (text : List ℕ) (program : List ProcessModel) → IsText tex
   few : (text : List ℕ) (flat : FlatBody) → length text ≤ 1048576 → IsFlatText text flat → length flat.equations < 2 ^ 30
   few text flat short is =
       let bound : flat_weights flat.equations ≤ length text * (length flat.signals + 1) = sizes is.tree flat (length text) (trees text is.tree is.good.reads) is.good.formed (sized text is.tree is.good.reads) is.expands in
-      let most : length text * (length flat.signals + 1) ≤ 1048576 * 513 = product (length text) (length flat.signals + 1) 1048576 513 short (omega (arith, is.few)) in
+      let most : length text * (length flat.signals + 1) ≤ 1048576 * 513 = mul-le (length text) (length flat.signals + 1) 1048576 513 short (omega (arith, is.few)) in
       omega (arith, bound, most, counted flat.equations)
 
   pub small : (text : List ℕ) (result : Result Flat FrontAnswer) → length text ≤ 1048576 → IfOk result (λ flat. IsFlatText text (flat_body_of flat)) → IfOk result (λ flat. length flat.body.items < 2 ^ 30)

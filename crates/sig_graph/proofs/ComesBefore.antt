@@ -1,33 +1,11 @@
 -- Which operations come before which.
-use Rattle.sig_graph.proofs.Common.{◌≡◌, ◌<◌, ◌+◌, ◌⊎◌, inl, inr, ◌↔◌, ℕ, Bool, true, false, List, [], ◌∷◌, ◌++◌, length, get_or, refl, sym, ap, ◌∙◌, subst, arith, Contains, IsTrue, eqb, eq-eqb, zero, suc, Option, None, Some, slice_get, slice_index_or, take, ◌||◌, filter_map, list_any, cases_order, eqb-true, false≢true, get_or_append_left, get_or_push, length-take-le, Contains-append_left, Contains-push, Contains-push_cases, EqId, SigId, Depends, Overlap, test, Node, operation_in, ComesBefore, Keeps, Needs, Op, OpKind, Read, Compute, Left, Right, DelayRead, Store, IsBefore, added, keeps_memory}
-use Rattle.sig_graph.proofs.Lists.{chosen, chosen_from, get_is, get_within, is_taken, taken_is}
-
-equation_same : (a b : EqId) → eqb a.0 b.0 ≡ true → a ≡ b
-equation_same a b is = let same : a.0 ≡ b.0 = eqb-true a.0 b.0 is in λ j. record { 0 = same j }
+use Rattle.sig_graph.proofs.Common.{◌≡◌, ◌<◌, ◌+◌, ◌⊎◌, inl, inr, ◌↔◌, ℕ, Bool, true, false, List, [], ◌∷◌, ◌++◌, length, get_or, refl, sym, ap, ◌∙◌, subst, arith, Contains, IsTrue, eqb, eq-eqb, zero, suc, Some, slice_get, slice_index_or, take, ◌||◌, filter_map, list_any, cases_order, eqb-true, false≢true, get_or_append_left, get_or_push, length-take-le, Contains-append_left, Contains-push, Contains-push_cases, EqId, SigId, Depends, Overlap, test, Node, operation_in, ComesBefore, Keeps, Needs, Op, DelayRead, Store, IsBefore, added, keeps_memory, chosen, chosen_from, get_or_from_slice_get, slice_get_within, get_taken, taken_is}
 
 signal_same : (a b : SigId) → eqb a.0 b.0 ≡ true → a ≡ b
 signal_same a b is = let same : a.0 ≡ b.0 = eqb-true a.0 b.0 is in λ j. record { 0 = same j }
 
--- what the test of two kinds says
-kept_memory : (a : OpKind) (equation : Option EqId) (b : OpKind) → keeps_memory a equation b ≡ true → (e : EqId) × (a ≡ DelayRead) × (equation ≡ Some e) × (b ≡ Store e)
-kept_memory DelayRead (Some d) (Store e) is = (e, refl, ap Some (equation_same d e is), refl)
-kept_memory DelayRead None (Store e) is = absurd (false≢true is)
-kept_memory DelayRead equation (Read x) is = absurd (false≢true is)
-kept_memory DelayRead equation Compute is = absurd (false≢true is)
-kept_memory DelayRead equation Left is = absurd (false≢true is)
-kept_memory DelayRead equation Right is = absurd (false≢true is)
-kept_memory DelayRead equation DelayRead is = absurd (false≢true is)
-kept_memory (Read x) equation b is = absurd (false≢true is)
-kept_memory Compute equation b is = absurd (false≢true is)
-kept_memory Left equation b is = absurd (false≢true is)
-kept_memory Right equation b is = absurd (false≢true is)
-kept_memory (Store d) equation b is = absurd (false≢true is)
-
 keeps_same : (e : EqId) → keeps_memory DelayRead (Some e) (Store e) ≡ true
 keeps_same e = eq-eqb e.0 e.0 refl
-
-pub keeps_from : (nodes : List Node) (p q : Op) → keeps_memory p.kind p.eq q.kind ≡ true → Keeps (operation_in nodes p) (operation_in nodes q)
-keeps_from nodes p q is = let from = kept_memory p.kind p.eq q.kind is in record { delay = from.0; read = from.1; of = from.2; store = from.3 }
 
 pub keeps_to : (nodes : List Node) (p q : Op) → Keeps (operation_in nodes p) (operation_in nodes q) → keeps_memory p.kind p.eq q.kind ≡ true
 keeps_to nodes p q keeps = (λ j. keeps_memory (keeps.read j) (keeps.of j) (keeps.store j)) ∙ keeps_same keeps.delay
@@ -70,16 +48,6 @@ module _ (nodes : List Node) (conditions : List SigId) (p q : Op) (x : SigId) (w
   pub feeds_before : Contains q.reads x → Overlap nodes p.guard q.guard → ComesBefore conditions (operation_in nodes p) (operation_in nodes q)
   feeds_before reads together = inl (record { signal = x; writes = writes; reads = reads; together = together })
 
-  pub decides_before : Needs conditions (operation_in nodes q) x → ComesBefore conditions (operation_in nodes p) (operation_in nodes q)
-  decides_before needs = inr (inl (record { condition = x; writes = writes; needs = needs }))
-
--- an operation that writes nothing comes before another one only as the read of its delay
-pub not_before_silent : (nodes : List Node) (conditions : List SigId) (p q : Op) → p.writes ≡ None → (keeps_memory p.kind p.eq q.kind ≡ false)
-    → ComesBefore conditions (operation_in nodes p) (operation_in nodes q) → ⊥
-not_before_silent nodes conditions p q silent no_memory (inl feeds) = let e : None ≡ Some feeds.signal = sym silent ∙ feeds.writes in cc
-not_before_silent nodes conditions p q silent no_memory (inr (inl decides)) = let e : None ≡ Some decides.condition = sym silent ∙ decides.writes in cc
-not_before_silent nodes conditions p q silent no_memory (inr (inr keeps)) = false≢true (sym no_memory ∙ keeps_to nodes p q keeps)
-
 -- the conditions that stand at the variables on which a guard depends
 pub needs_are : (nodes : List Node) (conditions : List SigId) (q : Op) (variables : List ℕ) (needs : List SigId) → ((v : ℕ) → Contains variables v ↔ Depends (test nodes q.guard) v)
     → needs ≡ filter_map (slice_get conditions) variables → (x : SigId) → Contains needs x ↔ Needs conditions (operation_in nodes q) x
@@ -116,13 +84,13 @@ module _ (conditions : List SigId) (nodes : List Node) (ops : List Op) (q op : O
     own : (i : ℕ) (p : Op) → slice_get (take (n + 1) ops) i ≡ Some p → i ≡ n → p ≡ op
     own i p get e =
         let here : slice_get ops n ≡ Some p = subst (λ (k : ℕ). slice_get ops k ≡ Some p) e (taken_is ops (n + 1) i p get) in
-        sym (get_is ops n p op here) ∙ sym is
+        sym (get_or_from_slice_get ops n p op here) ∙ sym is
 
     earlier : (i : ℕ) (p : Op) → slice_get (take (n + 1) ops) i ≡ Some p → i < n → Contains list i ↔ ComesBefore conditions (operation_in nodes p) (operation_in nodes q)
-    earlier i p get less = before.exact i p (is_taken ops n i p less (taken_is ops (n + 1) i p get))
+    earlier i p get less = before.exact i p (get_taken n ops i p less (taken_is ops (n + 1) i p get))
 
     place : (i : ℕ) (p : Op) → slice_get (take (n + 1) ops) i ≡ Some p → (i ≡ n) ⊎ (i < n)
-    place i p get = elim (cases_order i n) [ inl e ↦ inl e | inr (inl less) ↦ inr less | inr (inr more) ↦ absurd (omega (arith, more, long, get_within (take (n + 1) ops) i p get)) ]
+    place i p get = elim (cases_order i n) [ inl e ↦ inl e | inr (inl less) ↦ inr less | inr (inr more) ↦ absurd (omega (arith, more, long, slice_get_within (take (n + 1) ops) i p get)) ]
 
     with_none : (IsTrue false ↔ ComesBefore conditions (operation_in nodes op) (operation_in nodes q)) → (i : ℕ) (p : Op) → slice_get (take (n + 1) ops) i ≡ Some p → ((i ≡ n) ⊎ (i < n))
         → Contains list i ↔ ComesBefore conditions (operation_in nodes p) (operation_in nodes q)
@@ -162,7 +130,7 @@ pub graph_more : (conditions : List SigId) (nodes : List Node) (ops : List Op) (
 graph_more conditions nodes ops graph new n op list count before lt is next same j other less get = subst (λ (g : List (List ℕ)). IsBefore conditions nodes ops other (get_or g j [])) (sym same) (at (cases_order j n)) where
   at : ((j ≡ n) ⊎ ((j < n) ⊎ (n < j))) → IsBefore conditions nodes ops other (get_or (graph ++ list ∷ []) j [])
   at (inl e) =
-      let own : op ≡ other = is ∙ get_is ops n other op (subst (λ (k : ℕ). slice_get ops k ≡ Some other) e get) in
+      let own : op ≡ other = is ∙ get_or_from_slice_get ops n other op (subst (λ (k : ℕ). slice_get ops k ≡ Some other) e get) in
       let last : get_or (graph ++ list ∷ []) j [] ≡ list = get_or_push graph list [] j (omega (arith, count, e)) in
       subst (IsBefore conditions nodes ops other) (sym last) (subst (λ (o : Op). IsBefore conditions nodes ops o list) own next)
   at (inr (inl below)) = subst (IsBefore conditions nodes ops other) (sym (get_or_append_left graph (list ∷ []) [] j (omega (arith, below, count)))) (before j other below get)

@@ -1,7 +1,6 @@
 -- What a graph of operations says of them.
-use Rattle.sig_graph.proofs.Common.{◌≡◌, ◌<◌, inl, inr, ℕ, List, length, get_or, refl, sym, ap, ◌∙◌, subst, arith, None, Some, slice_get, take, length-map, SigId, Node, Operation, operation_in, operations_in, ComesBefore, HasNoCycle, IsCycle, IsOnCycle, IsOrdered, IsReady, Precedes, Reaches, directly, onward, Op, OpKind, DelayRead, Store, none_before_itself, Edge, IsAcyclic, IsGraph, IsWithin, IsLeastOnCycle, WritesOnCycle}
+use Rattle.sig_graph.proofs.Common.{◌≡◌, ◌<◌, inl, inr, ℕ, List, length, get_or, refl, sym, ap, ◌∙◌, subst, arith, None, Some, slice_get, take, length-map, SigId, Node, Operation, operation_in, operations_in, ComesBefore, HasNoCycle, IsCycle, IsOnCycle, IsOrdered, IsReady, Precedes, Reaches, directly, onward, Op, OpKind, DelayRead, Store, none_before_itself, Edge, IsAcyclic, IsGraph, IsWithin, IsLeastOnCycle, WritesOnCycle, get_map, map_get, some_at, slice_get_within}
 use Rattle.sig_graph.proofs.NumberCounts.{edge_within}
-use Rattle.sig_graph.proofs.Lists.{get_map, get_some, get_within, map_get}
 
 -- a relation that holds where another one does
 pub reaches_as : (R S : ℕ → ℕ → Type 0) → ((p q : ℕ) → R p q → S p q) → (i j : ℕ) → Reaches R i j → Reaches S i j
@@ -32,7 +31,7 @@ module _ (conditions : List SigId) (nodes : List Node) (ops : List Op) (graph : 
   graph_within p q edge =
       let count = is.count in
       let lt = edge_within graph p q edge in
-      let at_q = get_some ops q (omega (arith, lt, count)) in
+      let at_q = some_at ops q (omega (arith, lt, count)) in
       let below = (is.each q at_q.0 at_q.1).within p edge in
       omega (arith, below, count)
 
@@ -40,9 +39,9 @@ module _ (conditions : List SigId) (nodes : List Node) (ops : List Op) (graph : 
   edge_precedes p q edge =
       let count = is.count in
       let lt = edge_within graph p q edge in
-      let at_q = get_some ops q (omega (arith, lt, count)) in
+      let at_q = some_at ops q (omega (arith, lt, count)) in
       let before = is.each q at_q.0 at_q.1 in
-      let at_p = get_some ops p (before.within p edge) in
+      let at_p = some_at ops p (before.within p edge) in
       record {
         p = operation_in nodes at_p.0;
         q = operation_in nodes at_q.0;
@@ -75,7 +74,7 @@ module _ (conditions : List SigId) (nodes : List Node) (ops : List Op) (graph : 
       let at = map_get (operation_in nodes) ops on.number on.p on.is in
       record {
         number = on.number;
-        below = get_within ops on.number at.0 at.1;
+        below = slice_get_within ops on.number at.0 at.1;
         op = at.0;
         writes = on.writes;
         is = at.1;
@@ -93,8 +92,8 @@ module _ (conditions : List SigId) (operations : List Operation) where
   Before = Precedes conditions operations
 
   starts_within : (i k : ℕ) → Reaches Before i k → i < length operations
-  starts_within _ _ (directly i k step) = get_within operations i step.p step.is
-  starts_within _ _ (onward i j k step rest) = get_within operations i step.p step.is
+  starts_within _ _ (directly i k step) = slice_get_within operations i step.p step.is
+  starts_within _ _ (onward i j k step rest) = slice_get_within operations i step.p step.is
 
   -- operations with a compiled order have no cycle
   pub ordered_no_cycle : (order : List ℕ) → IsOrdered Before (length operations) order → HasNoCycle conditions operations

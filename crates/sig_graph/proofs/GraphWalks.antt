@@ -1,34 +1,10 @@
 -- Walks over a graph against its edges.
-use Rattle.sig_graph.proofs.Common.{◌≡◌, ◌<◌, ◌≤◌, ◌+◌, ◌⊎◌, inl, inr, ℕ, Bool, true, false, List, [], ◌∷◌, ◌++◌, length, get_or, set, replicate, refl, sym, ap, ◌∙◌, subst, arith, Contains, Option, None, Some, slice_get, nat_lt, if◌then◌else◌, ltb-false, ltb-true, SigId, IsLeast, Op, cases_order, false≢true, length-replicate, length-set, length_push, Contains-append_cases, Contains-append_left, Contains-append_right, Contains-push, Contains-push_cases, Reaches, directly, onward, Edge, mark_at, AreReaching, IsLeastOnCycle, Visits, Walks, WritesOnCycle, lesser}
-use Rattle.sig_graph.proofs.Lists.{contains_none}
+use Rattle.sig_graph.proofs.Common.{◌≡◌, ◌<◌, ◌≤◌, ◌+◌, ◌⊎◌, inl, inr, ℕ, Bool, true, false, List, [], ◌∷◌, ◌++◌, length, get_or, set, replicate, refl, sym, ap, ◌∙◌, subst, arith, Contains, Option, None, Some, slice_get, nat_lt, if◌then◌else◌, ltb-false, ltb-true, SigId, IsLeast, Op, cases_order, false≢true, length-replicate, length-set, length_push, Contains-append_cases, Contains-append_left, Contains-append_right, Contains-push, Contains-push_cases, Reaches, directly, onward, Edge, mark_at, AreReaching, IsLeastOnCycle, Visits, Walks, WritesOnCycle, lesser, contains_none, contains_one}
 use Rattle.sig_graph.proofs.Takings.{marked_more, marked_within, no_mark, one_marked}
 
 -- a list of one
 pub one_contains : (n : ℕ) → Contains (n ∷ []) n
 one_contains n = (0, omega arith, refl)
-
-contained_in_one : (n k : ℕ) → Contains (n ∷ []) k → k ≡ n
-contained_in_one n k there = elim (Contains-push_cases [] n k there) [ inl before ↦ absurd (contains_none k before) | inr e ↦ sym e ]
-
-pub visits_none : (marks : List Bool) (waiting : List ℕ) → Visits [] marks marks waiting waiting
-visits_none marks waiting = record {
-  count = refl;
-  marks = λ k. ((λ is. inl is), (λ is. elim is [ inl before ↦ before | inr there ↦ absurd (contains_none k there) ]));
-  waits = λ k is. inl is;
-  kept = λ k there. there;
-  only = λ k there. inl there;
-  balance = refl;
-}
-
-pub visits_marked : (n : ℕ) (marks : List Bool) (waiting : List ℕ) → mark_at marks n ≡ true → Visits (n ∷ []) marks marks waiting waiting
-visits_marked n marks waiting is = record {
-  count = refl;
-  marks = λ k. ((λ marked. inl marked), (λ cases. elim cases [ inl before ↦ before | inr there ↦ ap (mark_at marks) (contained_in_one n k there) ∙ is ]));
-  waits = λ k marked. inl marked;
-  kept = λ k there. there;
-  only = λ k there. inl there;
-  balance = refl;
-}
 
 pub visits_new : (n : ℕ) (marks : List Bool) (waiting : List ℕ) → n < length marks → mark_at marks n ≡ false → Visits (n ∷ []) marks (set marks n true) waiting (waiting ++ n ∷ [])
 visits_new n marks waiting lt left =
@@ -38,7 +14,7 @@ visits_new n marks waiting lt left =
       count = length-set marks n true;
       marks = λ k. (
         (λ marked. elim ((marked_more marks n k lt).0 marked) [ inl before ↦ inl before | inr e ↦ inr (subst (Contains (n ∷ [])) (sym e) (one_contains n)) ]),
-        (λ cases. (marked_more marks n k lt).1 (elim cases [ inl before ↦ inl before | inr there ↦ inr (contained_in_one n k there) ])),
+        (λ cases. (marked_more marks n k lt).1 (elim cases [ inl before ↦ inl before | inr there ↦ inr (contains_one n k there) ])),
       );
       waits = λ k marked. elim ((marked_more marks n k lt).0 marked) [ inl before ↦ inl before | inr e ↦ inr (subst (Contains (waiting ++ n ∷ [])) (sym e) (Contains-push waiting n)) ];
       kept = λ k there. Contains-append_left waiting (n ∷ []) k there;
@@ -191,6 +167,3 @@ module _ (graph : List (List ℕ)) (ops : List Op) (n : ℕ) where
       least = λ other on. elim (on_before_or_here other on) [ inl before ↦ is_least.least other before | inr here ↦ absurd (let e : None ≡ Some here.0 = sym is_writes ∙ here.1 in cc) ];
     }
     least_with_here (Some a) (Some b) is_writes is_least cycle = least_of_two a b (nat_lt a.0 b.0) refl is_least is_writes cycle
-
-pub none_on_cycle : (graph : List (List ℕ)) (ops : List Op) → IsLeastOnCycle graph ops 0 None
-none_on_cycle graph ops signal on = let below = on.below in omega (arith, below)

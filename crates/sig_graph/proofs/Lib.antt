@@ -7,8 +7,7 @@ pub mod GraphWalks
 pub mod GraphRelations
 pub use Common.*
 pub use ComesBefore.*
-pub use NumberCounts.*
-pub use Lists.*
 pub use GraphRelations.*
-pub use Takings.*
 pub use GraphWalks.*
+pub use NumberCounts.*
+pub use Takings.*

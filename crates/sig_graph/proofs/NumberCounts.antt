@@ -1,6 +1,5 @@
 -- How often numbers stand in lists, and how many of them are left.
-use Rattle.sig_graph.proofs.Common.{◌≡◌, ◌≢◌, ◌<◌, ◌≤◌, ◌+◌, ◌⊎◌, inl, inr, ◌↔◌, ℕ, Bool, true, false, List, [], ◌∷◌, ◌++◌, length, map, get_or, set, replicate, refl, sym, ap, ◌∙◌, subst, arith, Contains, eqb, eq-eqb, cond, Ordering, zero, suc, not, take, BTreeSet, contains, nat_cmp_is, nat_cmp, is_eq, Less, Equal, Greater, cases_order, eqb-true, ne_eqb, false≢true, get_or-map, get_or-set_other, get_or-set_same, get_or_past, get_or-take, length-map, length-set, take_more, Contains-append_cases, Contains-append_left, Contains-append_right, sum_by-append, sum_by-cons, exact_unsigned, IsLeast, Adds, AreSuccessors, Has, Releases, Takes, left_in, occurs, Edge, IsOpen, mark_at}
-use Rattle.sig_graph.proofs.Lists.{contains_none}
+use Rattle.sig_graph.proofs.Common.{◌≡◌, ◌≢◌, ◌<◌, ◌≤◌, ◌+◌, ◌⊎◌, inl, inr, ◌↔◌, ℕ, Bool, true, false, List, [], ◌∷◌, ◌++◌, length, map, get_or, set, replicate, refl, sym, ap, ◌∙◌, subst, arith, Contains, eqb, eq-eqb, cond, Ordering, zero, suc, not, take, BTreeSet, contains, nat_cmp_is, nat_cmp, is_eq, Less, Equal, Greater, cases_order, eqb-true, ne_eqb, false≢true, get_or-map, get_or-set_other, get_or-set_same, get_or_past, get_or-take, length-map, length-set, take_more, Contains-append_cases, Contains-append_left, Contains-append_right, sum_by-append, sum_by-cons, exact_unsigned, IsLeast, Adds, AreSuccessors, Has, Releases, Takes, left_in, occurs, Edge, IsOpen, mark_at, contains_later, contains_none}
 use Rattle.sig_graph.proofs.Takings.{marked_more, no_mark, taking_begins, taking_goes_on}
 
 -- 1 where it is so
@@ -19,9 +18,6 @@ occurs_one n = ap (λ (b : Bool). 0 + one_if b) (eq-eqb n n refl)
 pub occurs_other : (n q : ℕ) → q ≢ n → occurs q (n ∷ []) ≡ 0
 occurs_other n q apart = ap (λ (b : Bool). 0 + one_if b) (ne_eqb n q (λ e. apart (sym e)))
 
-later : (n x : ℕ) (xs : List ℕ) → Contains xs n → Contains (x ∷ xs) n
-later n x xs there = (suc there.0, omega (arith, there.1), there.2)
-
 pub occurs_contains : (n : ℕ) (xs : List ℕ) → 0 < occurs n xs → Contains xs n
 occurs_contains n [] some = absurd (omega (arith, some))
 occurs_contains n (x ∷ xs) some = at (eqb x n) refl (occurs_contains n xs) where
@@ -30,7 +26,7 @@ occurs_contains n (x ∷ xs) some = at (eqb x n) refl (occurs_contains n xs) whe
   at false is rest =
       let here : one_if (eqb x n) ≡ 0 = ap one_if is in
       let e = occurs_cons n x xs in
-      later n x xs (rest (omega (arith, here, e, some)))
+      contains_later x n xs (rest (omega (arith, here, e, some)))
 
 pub contains_occurs : (n : ℕ) (xs : List ℕ) → Contains xs n → 0 < occurs n xs
 contains_occurs n [] there = absurd (contains_none n there)
@@ -71,7 +67,7 @@ pub all_left_none : (marks : List Bool) (xs : List ℕ) → ((p : ℕ) → Conta
 all_left_none marks [] all = refl
 all_left_none marks (x ∷ xs) all =
     let here : one_if (not (mark_at marks x)) ≡ 0 = ap (λ (b : Bool). one_if (not b)) (all x (0, omega arith, refl)) in
-    let rest = all_left_none marks xs (λ p there. all p (later p x xs there)) in
+    let rest = all_left_none marks xs (λ p there. all p (contains_later x p xs there)) in
     let e = left_cons marks x xs in
     omega (arith, here, rest, e)
 
@@ -171,13 +167,6 @@ popped old new k updates q = at (is_eq (nat_cmp k q)) refl where
   at false is =
       let kept : contains nat_cmp new q ≡ contains nat_cmp old q = updates q ∙ ap (λ b. cond b false (contains nat_cmp old q)) is in
       ((λ has. (sym kept ∙ has, λ e. false≢true (sym is ∙ ap (λ m. is_eq (nat_cmp k m)) e ∙ ap is_eq (sym (nat_cmp_is k k Equal refl))))), (λ both. kept ∙ both.0))
-
--- lists of no number
-pub empty_more : (lists : List (List ℕ)) → ((p : ℕ) → get_or lists p [] ≡ []) → (p : ℕ) → get_or (lists ++ [] ∷ []) p [] ≡ []
-empty_more [] none zero = refl
-empty_more [] none (suc p) = refl
-empty_more (x ∷ xs) none zero = none 0
-empty_more (x ∷ xs) none (suc p) = empty_more xs (λ k. none (suc k)) p
 
 pub adds_then : (number : ℕ) (xs : List ℕ) (old lists : List (List ℕ)) (p : ℕ) → Adds number xs old lists → p < length old → Adds number (xs ++ p ∷ []) old (set lists p (get_or lists p [] ++ number ∷ []))
 adds_then number xs old lists p adds lt = record {

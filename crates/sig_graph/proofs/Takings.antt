@@ -1,6 +1,6 @@
 -- Numbers that are taken one after another.
-use Rattle.sig_graph.proofs.Common.{◌≡◌, ◌≢◌, ◌<◌, ◌≤◌, ◌+◌, ◌⊎◌, inl, inr, ◌↔◌, ℕ, Bool, true, false, List, [], ◌∷◌, ◌++◌, length, get_or, set, replicate, refl, sym, ap, ◌∙◌, subst, arith, Contains, get_or-set_same, get_or-set_other, zero, suc, All, take, sum_by, fold, if◌then◌else◌, list_all, cases_order, false≢true, get_or_append_left, get_or_push, get_or_read, length-replicate, length-set, length_push, take-append-le, take_at, All-contains, Contains-append_left, Contains-get_or, Contains-push, Contains-push_cases, AllPass-from_list_all, sum_by-set, count_by-le-length, IsLeast, IsOrdered, IsReady, Reaches, directly, onward, Edge, IsAcyclic, IsOpen, IsTaken, IsTakenOut, IsWithin, mark_at, marked_count, two_are_same}
-use Rattle.sig_graph.proofs.Lists.{contains_none, failing}
+use Rattle.sig_graph.proofs.Common.{◌≡◌, ◌≢◌, ◌<◌, ◌≤◌, ◌+◌, ◌⊎◌, inl, inr, ◌↔◌, ℕ, Bool, true, false, List, [], ◌∷◌, ◌++◌, length, get_or, set, replicate, refl, sym, ap, ◌∙◌, subst, arith, Contains, get_or-set_same, get_or-set_other, zero, suc, All, take, sum_by, fold, if◌then◌else◌, list_all, cases_order, false≢true, get_or_append_left, get_or_push, length-replicate, length-set, length_push, take-append-le, take_at, All-contains, Contains-append_left, Contains-get_or, Contains-push, Contains-push_cases, AllPass-from_list_all, sum_by-set, count_by-le-length, IsLeast, IsOrdered, IsReady, Reaches, directly, onward, Edge, IsAcyclic, IsOpen, IsTaken, IsTakenOut, IsWithin, mark_at, marked_count, two_are_same, read_or_empty, contains_none}
+use Rattle.sig_graph.proofs.Lists.{failing}
 
 pub no_mark : (n k : ℕ) → mark_at (replicate n false) k ≡ false
 no_mark zero k = refl
@@ -181,11 +181,7 @@ taking_ends graph marks order below acyclic is none =
 pub taken_ordered : (graph : List (List ℕ)) (order : List ℕ) → IsTakenOut graph order → length order ≡ length graph → IsOrdered (Edge graph) (length graph) order
 taken_ordered graph order is full = record { all = full; each = λ k lt. is.taken.each k (omega (arith, lt, full)) }
 
--- the predecessors of a number that were read
-pub edges_read : (graph : List (List ℕ)) (number : ℕ) (numbers : List ℕ) → number < length graph → numbers ≡ get_or graph number numbers → numbers ≡ get_or graph number []
-edges_read graph number numbers lt is = get_or_read graph number numbers lt is []
-
 pub edges_below : (graph : List (List ℕ)) (number : ℕ) (numbers list : List ℕ) → IsWithin graph → number < length graph → numbers ≡ get_or graph number numbers → list ≡ numbers
     → All (λ (n : ℕ). n < length graph) list
 edges_below graph number numbers list below lt is same k d less =
-    below (get_or list k d) number (subst (λ (xs : List ℕ). Contains xs (get_or list k d)) (same ∙ edges_read graph number numbers lt is) (Contains-get_or list k d less))
+    below (get_or list k d) number (subst (λ (xs : List ℕ). Contains xs (get_or list k d)) (same ∙ read_or_empty graph number numbers lt is) (Contains-get_or list k d less))

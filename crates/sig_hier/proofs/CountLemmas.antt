@@ -1,5 +1,5 @@
 -- If each of the first numbers is an element of a list, there are no more of them than elements.
-use Rattle.sig_hier.proofs.Common.{◌≡◌, ◌⊎◌, ℕ, zero, suc, ◌+◌, ◌<◌, ◌≤◌, Bool, true, false, ◌||◌, List, length, inl, inr, refl, sym, arith, get_or, eqb, eq-eqb, AllByRecursion, IsDistinct, list_any, range_with_len, nat_tests, nat_eq_equiv, list_any_at, length-range_with_len, IsDistinct-cons, length-le_from_is_member}
+use Rattle.sig_hier.proofs.Common.{◌≡◌, ℕ, zero, suc, ◌+◌, ◌<◌, ◌≤◌, true, false, List, length, inl, inr, sym, arith, get_or, eqb, eq-eqb, AllByRecursion, IsDistinct, list_any, range_with_len, nat_tests, nat_eq_equiv, list_any_at, length-range_with_len, IsDistinct-cons, length-le_from_is_member, eqb-true, or_cases}
 
 differ : (a b : ℕ) → a < b → eqb a b ≡ false
 differ a b lt = grind (arith, nat_tests)
@@ -13,18 +13,11 @@ unfolding IsDistinct
 range_distinct a zero = tt
 range_distinct a (suc n) = IsDistinct-cons eqb a (range_with_len (a + 1) n) (range_above a (a + 1) n (omega arith)) (range_distinct (a + 1) n)
 
-same : (a b : ℕ) → eqb a b ≡ true → a ≡ b
-same a b is = grind (arith, nat_tests)
-
-one_of : (p q : Bool) → (p || q) ≡ true → (p ≡ true) ⊎ (q ≡ true)
-one_of true q is = inl refl
-one_of false q is = inr is
-
 range_below : (a n q : ℕ) → list_any (eqb q) (range_with_len a n) ≡ true → q < a + n
 range_below a zero q is = cc
 range_below a (suc n) q is =
-    elim (one_of (eqb q a) (list_any (eqb q) (range_with_len (a + 1) n)) is) [
-      | inl here ↦ let e = same q a here in omega (arith, e)
+    elim (or_cases (eqb q a) (list_any (eqb q) (range_with_len (a + 1) n)) is) [
+      | inl here ↦ let e = eqb-true q a here in omega (arith, e)
       | inr there ↦ let lt = range_below (a + 1) n q there in omega (arith, lt)
     ]
 

@@ -1,5 +1,5 @@
 -- The classes below a class, when the children among so many first classes are listed.
-use Rattle.sig_hier.proofs.Common.{◌≡◌, ℕ, zero, suc, ◌+◌, ◌-◌, ◌<◌, Bool, true, false, cond, List, [], ◌∷◌, ◌++◌, length, filter, None, Option, refl, ap, append_assoc, sym, ◌∙◌, arith, slice_index_or, flat_map-append, append-nil, filter-append, flat_map, range_with_len, range_from_zero, children, is_parent, preorder_from, Line}
+use Rattle.sig_hier.proofs.Common.{◌≡◌, ℕ, zero, suc, ◌+◌, ◌-◌, ◌<◌, Bool, true, false, cond, List, [], ◌∷◌, ◌++◌, length, filter, None, Option, refl, ap, append_assoc, sym, ◌∙◌, arith, slice_index_or, flat_map-append, append-nil, filter-append, flat_map, range_with_len, children, is_parent, preorder_from, Line, range_from_zero}
 
 abbrev pub is_child : List (Option ℕ) → ℕ → ℕ → Bool
 is_child tree class other = is_parent (slice_index_or tree other None) class

@@ -1,5 +1,5 @@
 -- The text of the hierarchy of a kernel's clocks is one.
-use Rattle.sig_hier.proofs.Common.{◌≡◌, ◌<◌, ◌≤◌, ◌⊎◌, inl, inr, ⊎_elim, ℕ, Bool, true, false, List, [], ◌∷◌, length, map, get_or, refl, sym, ap, ◌∙◌, subst, arith, Contains, zero, suc, ◌==◌, Option, None, Some, IsTrue, slice_get, if◌then◌else◌, flat_map, range_with_len, cases_order, ext_get_or, get_or-map-range_with_len, length-map-range_with_len, slice_get_past, IsClockFunction, HasClocks, AreClocks, ClocksView, IsLeastOf, HasLayer, IsRoot, IsSignal, one_layer, test, Node, Ref, IsTreeText, line_text, preorder, text_of, IsTree, IsWithin, Kernel, at_contained, contains_at, get_at, get_within, conditions_once, function_once, same_list}
+use Rattle.sig_hier.proofs.Common.{◌≡◌, ◌<◌, ◌≤◌, ◌⊎◌, inl, inr, ⊎_elim, ℕ, Bool, false, List, [], ◌∷◌, length, map, get_or, refl, sym, ap, ◌∙◌, subst, arith, Contains, zero, suc, ◌==◌, Option, None, Some, IsTrue, slice_get, if◌then◌else◌, flat_map, range_with_len, cases_order, ext_get_or, get_or-map-range_with_len, length-map-range_with_len, slice_get_past, IsClockFunction, HasClocks, AreClocks, ClocksView, IsLeastOf, HasLayer, IsRoot, IsSignal, one_layer, test, Node, Ref, IsTreeText, line_text, preorder, text_of, IsTree, IsWithin, Kernel, conditions_once, function_once, same_list, eq-eqb, at_contained, contains_at, slice_get-get_or, slice_get_within}
 
 -- ---- the place of the first of some numbers that is this one
 
@@ -7,16 +7,13 @@ pub first : List ℕ → ℕ → ℕ
 first [] c = 0
 first (x ∷ xs) c = if x == c then 0 else suc (first xs c)
 
-equal_is : (x c : ℕ) → x ≡ c → (x == c) ≡ true
-equal_is x c is = grind arith
-
 equal_is_not : (x c : ℕ) → (x ≡ c → ⊥) → (x == c) ≡ false
 equal_is_not x c differ = grind arith
 
 first_is : (xs : List ℕ) (c s : ℕ) → s < length xs → get_or xs s 0 ≡ c → ((other : ℕ) → other < length xs → get_or xs other 0 ≡ c → s ≤ other) → first xs c ≡ s
 unfolding first
 first_is [] c s lt is least = absurd (omega (arith, lt))
-first_is (x ∷ xs) c zero lt is least = ap (λ (b : Bool). if b then 0 else suc (first xs c)) (equal_is x c is)
+first_is (x ∷ xs) c zero lt is least = ap (λ (b : Bool). if b then 0 else suc (first xs c)) (eq-eqb x c is)
 first_is (x ∷ xs) c (suc s) lt is least =
     ap (λ (b : Bool). if b then 0 else suc (first xs c)) (equal_is_not x c (λ same. let le : suc s ≤ 0 = least 0 (omega arith) same in omega (arith, le)))
     ∙ ap suc (first_is xs c s (omega (arith, lt)) is (λ other there same. let le : suc s ≤ suc other = least (suc other) (omega (arith, there)) same in omega (arith, le)))
@@ -73,7 +70,7 @@ module _ (kernel : Kernel) (nodes : List Node) (clocks : ClocksView) (are : AreC
   guard c = get_or clocks.guard c no_ref
 
   pub guard_there : (c : ℕ) → c < length clocks.guard → slice_get clocks.guard c ≡ Some (guard c)
-  guard_there c lt = get_at clocks.guard c no_ref lt
+  guard_there c lt = slice_get-get_or clocks.guard c no_ref lt
 
   pub class_below : (signal : ℕ) → IsSignal kernel signal → class signal < length clocks.guard
   class_below signal is = are.classes signal is
@@ -110,8 +107,8 @@ module _ (kernel : Kernel) (nodes : List Node) (clocks : ClocksView) (are : AreC
 
   leasts_get : (c x : ℕ) → slice_get leasts c ≡ Some x → (c < length clocks.guard) × (least c ≡ x)
   leasts_get c x is =
-      let within : c < length clocks.guard = omega (arith, get_within leasts c x is, count_leasts) in
-      let there : slice_get leasts c ≡ Some (get_or leasts c 0) = get_at leasts c 0 (omega (arith, within, count_leasts)) in
+      let within : c < length clocks.guard = omega (arith, slice_get_within leasts c x is, count_leasts) in
+      let there : slice_get leasts c ≡ Some (get_or leasts c 0) = slice_get-get_or leasts c 0 (omega (arith, within, count_leasts)) in
       let both : Some x ≡ Some (get_or leasts c 0) = sym is ∙ there in
       let same : x ≡ get_or leasts c 0 = cc in
       (within, sym (same ∙ leasts_at c within))
@@ -189,7 +186,7 @@ module _ (kernel : Kernel) (has : HasClocks kernel) (n m : List Node) (a b : Clo
               subst (λ s. s ≤ other) place.1 ((least_is kernel n a one there.0 place.0).least other (omega (arith, signal, full_a)) (back ∙ own));
         }) in
         contains_at (leasts kernel m b two) (class kernel m b two x) x
-        (get_at (leasts kernel m b two) (class kernel m b two x) 0 (omega (arith, below, count_leasts kernel m b two)) ∙ ap Some (leasts_at kernel m b two (class kernel m b two x) below ∙ found))
+        (slice_get-get_or (leasts kernel m b two) (class kernel m b two x) 0 (omega (arith, below, count_leasts kernel m b two)) ∙ ap Some (leasts_at kernel m b two (class kernel m b two x) below ∙ found))
 
 module _ (kernel : Kernel) (has : HasClocks kernel) (n m : List Node) (a b : ClocksView) (one : AreClocks kernel n a) (two : AreClocks kernel m b) where
   same_leasts : leasts kernel n a one ≡ leasts kernel m b two
@@ -224,7 +221,7 @@ module _ (kernel : Kernel) (has : HasClocks kernel) (n m : List Node) (a b : Clo
 
   function_of : (c : ℕ) (f : Ref) → slice_get a.guard c ≡ Some f → test n f ≡ test m (guard kernel m b two c)
   function_of c f is =
-      let lt : c < length a.guard = get_within a.guard c f is in
+      let lt : c < length a.guard = slice_get_within a.guard c f is in
       let both : Some f ≡ Some (guard kernel n a one c) = sym is ∙ guard_there kernel n a one c lt in
       let same : f ≡ guard kernel n a one c = cc in
       ap (test n) same ∙ guards c lt
@@ -233,8 +230,8 @@ module _ (kernel : Kernel) (has : HasClocks kernel) (n m : List Node) (a b : Clo
   within_here c d is = record {
     guard = guard kernel m b two c;
     other_guard = guard kernel m b two d;
-    has = guard_there kernel m b two c (subst (λ k. c < k) same_count (get_within a.guard c is.guard is.has));
-    other_has = guard_there kernel m b two d (subst (λ k. d < k) same_count (get_within a.guard d is.other_guard is.other_has));
+    has = guard_there kernel m b two c (subst (λ k. c < k) same_count (slice_get_within a.guard c is.guard is.has));
+    other_has = guard_there kernel m b two d (subst (λ k. d < k) same_count (slice_get_within a.guard d is.other_guard is.other_has));
     implies = λ truths holds.
         let from : IsTrue (test n is.guard truths) = subst (λ (f : (List Bool → Bool)). IsTrue (f truths)) (sym (function_of c is.guard is.has)) holds in
         subst (λ (f : (List Bool → Bool)). IsTrue (f truths)) (function_of d is.other_guard is.other_has) (is.implies truths from);

@@ -1,17 +1,6 @@
 -- The cause of the end of an image's run names an input of the image.
-use Rattle.std.proofs.Common.{◌∷◌, ◌++◌, ℕ, zero, suc, ℤ, List, [], map, inl, inr, sym, subst, arith}
-use Rattle.sig_base.specs.Traces.{Trace}
-use Rattle.sig_base.specs.declared.span.Span.{Span}
-use Rattle.sig_file.specs.Guarded.{Guards, guarded_in, guards_of}
-use Rattle.sig_file.specs.ImageRuns.{Ends, EndsIn, IsImageRun, Runs, State, cleared, opening}
-use Rattle.sig_file.specs.Images.{Each, ImageView, IsImage, IsOperation, MayDo, scope_of}
-use Rattle.sig_file.specs.declared.images.ImageNode.{ImageNode}
-use Rattle.sig_file.specs.declared.images.ImageOp.{ImageOp}
-use Rattle.sig_file.specs.declared.images.ImageOpKind.{ImageOpKind}
+use Rattle.sig_images.proofs.Common.{◌∷◌, ◌++◌, ℕ, zero, suc, ℤ, List, [], map, inl, inr, sym, subst, arith, Trace, Span, Guards, guarded_in, guards_of, Ends, EndsIn, IsImageRun, Runs, State, cleared, opening, Each, ImageView, IsImage, IsOperation, MayDo, scope_of, ImageNode, ImageOp, ImageOpKind, ImageCause, ImageEnd, IsOfImage}
 use Rattle.sig_file.specs.declared.images.ImageOpKind.TheVariants as does
-use Rattle.sig_file.specs.declared.run.ImageCause.{ImageCause}
-use Rattle.sig_file.specs.declared.run.ImageEnd.{ImageEnd}
-use Rattle.sig_images.specs.ExecEnds.{IsOfImage}
 
 module _ (image : ImageView) (right : IsImage image) where
   ends_there : (kind : ImageOpKind) (at : Span) (s : State) (cause : ImageCause) → MayDo (scope_of image) kind → Ends kind at s cause → IsOfImage image cause

@@ -1,23 +1,6 @@
 -- A build with status 0 is one of an accepted program, one with status 10 of one whose image is too long; and a run of an image
 -- with status 0 or 3 is one of a sound image over flows of its inputs.
-use Rattle.std.proofs.Common.{◌≡◌, ◌∙◌, ◌⊎◌, ℕ, ℤ, false, List, Option, None, Some, IfSome, inl, inr, refl, sym, ap, subst, arith}
-use Rattle.sig_text.specs.Files.{Contents}
-use Rattle.sig_words.specs.declared.command.Settings.{Settings}
-use Rattle.sig_kernel.specs.declared.kernel.Kernel.{Kernel}
-use Rattle.sig_file.specs.Images.{ImageView}
-use Rattle.sig_outcome.specs.Outcomes.{Absent, AtFile, Bad, Found, Good, Long, Outcome, long_file, long_program}
-use Rattle.sig_outcome.specs.Refusals.{IsOwn, outcome_of, status_of}
-use Rattle.sig_outcome.specs.Tasks.{IsDue, IsEnded, Owes}
-use Rattle.sig_outcome.specs.declared.refusal.Refusal.{Refusal}
-use Rattle.sig_outcome.specs.declared.refusal.Refusal.TheVariants.{Missing, ReadFault, LongProgram, Program, Budget, TooManyItems, LongFile, Data, LongImage, OutOfMemory}
-use Rattle.sig_compile.specs.Compiling.{FindsAccepted}
-use Rattle.sig_runs.specs.Runs.{FindsFlows}
-use Rattle.sig_images.specs.Builds.{BuildComesTo, BuildsTo, HasBuilt, HasLongImage}
-use Rattle.sig_images.specs.Execs.{ExecComesTo, ExecutesTo, HasExecuted, inputs_of_image}
-use Rattle.sig_images.specs.ImageFiles.{FindsImage}
-
-number_of : (o p : Outcome) → o ≡ p → o.status ≡ p.status
-number_of o p is = ap (λ (q : Outcome). q.status) is
+use Rattle.sig_images.proofs.Common.{◌≡◌, ◌∙◌, ◌⊎◌, ℕ, ℤ, false, List, Option, None, Some, IfSome, inl, inr, refl, sym, ap, subst, arith, Contents, Settings, Kernel, ImageView, Absent, AtFile, Bad, Found, Good, Long, Outcome, long_file, long_program, IsOwn, outcome_of, status_of, IsDue, IsEnded, Owes, Refusal, Missing, ReadFault, LongProgram, Program, Budget, TooManyItems, LongFile, Data, LongImage, OutOfMemory, FindsAccepted, FindsFlows, BuildComesTo, BuildsTo, HasBuilt, HasLongImage, ExecComesTo, ExecutesTo, HasExecuted, inputs_of_image, FindsImage}
 
 two_numbers : (status m n : ℕ) → status ≡ m → status ≡ n → m ≡ n
 two_numbers status m n a b = sym a ∙ b

@@ -1,28 +1,7 @@
 -- An accepted program comes to an outcome of a build, and a sound image to one of its run; and each that is good is done.
-use Rattle.std.proofs.Common.{◌≡◌, ◌∙◌, ◌⊎◌, ℕ, ℤ, false, List, length, Some, inl, inr, refl, sym, ap, subst}
-use Rattle.std.proofs.lemmas.Bool.{cases_lt}
-use Rattle.sig_base.specs.declared.limits.TheConstants.{PROGRAM_BYTES}
-use Rattle.sig_text.specs.Files.{Contents}
-use Rattle.sig_words.specs.declared.command.Settings.{Settings}
-use Rattle.sig_kernel.specs.declared.kernel.Kernel.{Kernel}
-use Rattle.sig_flow.specs.Flows.{AreFlows}
-use Rattle.sig_file.specs.Bytes.{image_bytes}
-use Rattle.sig_file.specs.Images.{ImageView}
-use Rattle.sig_file.specs.declared.limits.TheConstants.{IMAGE_BYTES}
-use Rattle.sig_outcome.specs.Outcomes.{Good, Holds, Outcome, done, long_image, refused}
-use Rattle.sig_outcome.specs.Tasks.{IsEnded}
-use Rattle.sig_outcome.proofs.Stages.{behind_data, behind_program}
-use Rattle.sig_compile.specs.Acceptance.{AreRefused, IsAcceptedAs}
-use Rattle.sig_compile.proofs.Verdicts.{accepted_once, accepted_or_refused, refused_once}
-use Rattle.sig_runs.specs.Runs.{AtFlows, RefusesFlows}
-use Rattle.sig_runs.proofs.Complete.{flows_either}
-use Rattle.sig_runs.proofs.FoundFiles.{some_at_data}
-use Rattle.sig_runs.proofs.OneRun.{flows_apart, no_flows_line, one_flows}
+use Rattle.sig_images.proofs.Common.{◌≡◌, ◌∙◌, ◌⊎◌, ℕ, ℤ, false, List, length, Some, inl, inr, refl, sym, ap, subst, cases_lt, PROGRAM_BYTES, Contents, Settings, Kernel, AreFlows, image_bytes, ImageView, IMAGE_BYTES, Good, Outcome, done, long_image, refused, IsEnded, behind_data, behind_program, AreRefused, IsAcceptedAs, accepted_once, accepted_or_refused, refused_once, AtFlows, RefusesFlows, flows_either, some_at_data, flows_apart, no_flows_line, one_flows, AreFewBytes, AreManyBytes, BuildComesTo, BuildsTo, IsKernelImage, CanBuild, CanExec, ExecComesTo, ExecutesTo, executed, inputs_of_image, IsSoundFile, RefusesImage}
+use Rattle.sig_outcome.specs.Outcomes.{Holds}
 use Rattle.sig_images.proofs.ImageRuns.{some_image_run}
-use Rattle.sig_images.specs.Builds.{AreFewBytes, AreManyBytes, BuildComesTo, BuildsTo, IsKernelImage}
-use Rattle.sig_images.specs.Complete.{CanBuild, CanExec}
-use Rattle.sig_images.specs.Execs.{ExecComesTo, ExecutesTo, executed, inputs_of_image}
-use Rattle.sig_images.specs.ImageFiles.{IsSoundFile, RefusesImage}
 use Rattle.sig_images.proofs.FileOnce.{image_apart, one_image_line, one_sound}
 use Rattle.sig_images.proofs.ImageOnce.{image_once, some_image}
 use Rattle.sig_images.proofs.Inputs.{flows_fit}

@@ -1,26 +1,6 @@
 -- The end of the run of a kernel's image is said as that of the kernel's run.
-use Rattle.std.proofs.Common.{◌≡◌, ◌∙◌, ◌∷◌, ℕ, zero, suc, List, [], length, map, slice_get, refl, sym, ap}
-use Rattle.std.specs.Prelude.{codes, flat_map, slice_index_or}
-use Rattle.std.specs.Fmt.{decimal}
-use Rattle.sig_base.specs.Traces.{Trace}
-use Rattle.sig_base.specs.declared.ids.EqId.{EqId}
-use Rattle.sig_base.specs.declared.ids.SigId.{SigId}
-use Rattle.sig_base.specs.declared.signal.Signal.{Signal}
-use Rattle.sig_base.specs.declared.span.Span.{Span}
-use Rattle.sig_kernel.specs.OutputText.{output_text}
-use Rattle.sig_kernel.specs.declared.equation.Equation.{Equation}
-use Rattle.sig_kernel.specs.declared.kernel.Kernel.{Kernel}
-use Rattle.sig_plan.specs.declared.ended.Cause.{Cause}
+use Rattle.sig_images.proofs.Common.{◌≡◌, ◌∙◌, ◌∷◌, ℕ, zero, suc, List, [], length, map, slice_get, refl, sym, ap, codes, flat_map, slice_index_or, decimal, Trace, EqId, SigId, Signal, Span, output_text, Equation, Kernel, Cause, Ended, ImageView, names_of, image_signal, col_at, end_line, end_pieces, end_status, line_at, name_at, pieces_at, ended, cause_in, end_in, span_at, span_of, IsKernelImage, exec_line, exec_pieces, exec_status, name_in, executed}
 use Rattle.sig_plan.specs.declared.ended.Cause.TheVariants.{Exhausted, Overflow, ZeroDivisor, Limit}
-use Rattle.sig_plan.specs.declared.ended.Ended.{Ended}
-use Rattle.sig_file.specs.Images.{ImageView, names_of}
-use Rattle.sig_file.specs.PlanImages.{image_signal}
-use Rattle.sig_runs.specs.Ends.{col_at, end_line, end_pieces, end_status, line_at, name_at, pieces_at}
-use Rattle.sig_runs.specs.Runs.{ended}
-use Rattle.sig_shipped.specs.Ends.{cause_in, end_in, span_at, span_of}
-use Rattle.sig_images.specs.Builds.{IsKernelImage}
-use Rattle.sig_images.specs.ExecEnds.{exec_line, exec_pieces, exec_status, name_in}
-use Rattle.sig_images.specs.Execs.{executed}
 
 -- ---- places and names
 

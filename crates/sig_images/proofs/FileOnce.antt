@@ -1,13 +1,5 @@
 -- The bytes of a file are one image at most, or they are refused with one line.
-use Rattle.std.proofs.Common.{◌≡◌, ◌∙◌, ◌≤◌, ℕ, List, Option, Result, Ok, Err, Some, length, inl, inr, sym, ap, subst, arith}
-use Rattle.std.proofs.lemmas.Bool.{cases_order}
-use Rattle.sig_file.specs.Fields.{IsBrokenAt, file_at}
-use Rattle.sig_file.specs.Guarded.{IsSoundImage}
-use Rattle.sig_file.specs.Images.{ImageView}
-use Rattle.sig_file.proofs.Files.{file_again}
-use Rattle.sig_file.specs.declared.limits.TheConstants.{IMAGE_BYTES}
-use Rattle.sig_verify.specs.Verifying.{IsBeyondBound, IsFirstUnsound}
-use Rattle.sig_images.specs.ImageFiles.{HoldsBeyondVerifying, IsBudget, IsFileOf, IsImageLine, IsSoundFile, IsUnsoundFile, LacksNodes, RefusesImage, bad_image, unsound_image}
+use Rattle.sig_images.proofs.Common.{◌≡◌, ◌∙◌, ◌≤◌, ℕ, List, Option, Result, Ok, Err, Some, length, inl, inr, sym, ap, subst, arith, cases_order, IsBrokenAt, file_at, IsSoundImage, ImageView, file_again, IMAGE_BYTES, IsBeyondBound, IsFirstUnsound, HoldsBeyondVerifying, IsBudget, IsFileOf, IsImageLine, IsSoundFile, IsUnsoundFile, LacksNodes, RefusesImage, bad_image, unsound_image}
 
 -- the fields of an image's bytes
 read_again : (bytes : List ℕ) (image : ImageView) → IsFileOf bytes image → file_at bytes ≡ Ok image

@@ -1,11 +1,5 @@
 -- The bytes of a file are those of a sound image, or there is a line by which they are refused.
-use Rattle.std.proofs.Common.{◌≡◌, ◌⊎◌, ◌+◌, ◌-◌, ◌≤◌, ℕ, List, Result, Ok, Err, length, inl, inr, refl, arith}
-use Rattle.sig_file.specs.Fields.{file_at}
-use Rattle.sig_file.specs.Images.{ImageView}
-use Rattle.sig_file.proofs.Fields.{IsBytes}
-use Rattle.sig_file.proofs.Files.{file_short, file_takes}
-use Rattle.sig_verify.proofs.Verdict.{verdict}
-use Rattle.sig_images.specs.ImageFiles.{AreBytes, IsFileOf, IsSoundFile, RefusesImage, bad_image, unsound_image}
+use Rattle.sig_images.proofs.Common.{◌≡◌, ◌⊎◌, ◌+◌, ◌-◌, ◌≤◌, ℕ, List, Result, Ok, Err, length, inl, inr, refl, arith, file_at, ImageView, IsBytes, file_short, file_takes, verdict, AreBytes, IsFileOf, IsSoundFile, RefusesImage, bad_image, unsound_image}
 
 abbrev HasVerdict : (name bytes : List ℕ) → Type 0
 HasVerdict name bytes = ((image : ImageView) × IsSoundFile bytes image) ⊎ ((line : List ℕ) × RefusesImage name bytes line)

@@ -1,23 +1,6 @@
 -- A flow file is read alike for a kernel and for its image: the reading asks for the names and the kinds of the inputs alone.
-use Rattle.std.proofs.Common.{◌≡◌, ◌∙◌, ◌∷◌, ◌&&◌, ℕ, zero, suc, ℤ, Bool, List, [], map, take, Option, None, Some, refl, sym, ap, subst}
-use Rattle.std.specs.Prelude.{◌↔◌, bytes_eq, codes, flat_map, if◌then◌else◌, is_none}
-use Rattle.std.specs.List.{list_all}
-use Rattle.std.proofs.lemmas.List.{take-map}
-use Rattle.sig_base.specs.declared.signal.Signal.{Signal}
-use Rattle.sig_kernel.specs.Validity.{inputs_of}
-use Rattle.sig_kernel.specs.declared.kernel.Kernel.{Kernel}
-use Rattle.sig_flow.specs.First.{AllGood, IsFirst, Judge}
-use Rattle.sig_flow.specs.Flows.{AreFlows, AreFlowsIn, Body, IsFirstBadPlace, IsFirstIn, body_at, body_of, file_body, flow_in, is_header, is_line_byte, is_name, kind_named, line_judge, named_count, named_fault, text_fault, values_for, words_count, words_fault}
-use Rattle.sig_flow.specs.Lines.{Line, lines_of}
-use Rattle.sig_flow.specs.Words.{Word, words_of}
-use Rattle.sig_flow.specs.declared.answer.FlowAnswer.{FlowAnswer}
-use Rattle.sig_flow.specs.declared.answer.FlowAnswer.TheVariants.{BadLine}
-use Rattle.sig_flow.specs.declared.version.Version.{Version}
-use Rattle.sig_flow.specs.declared.version.Version.TheVariants.{One, Two}
-use Rattle.sig_file.specs.Images.{ImageView}
-use Rattle.sig_file.specs.PlanImages.{image_signal}
-use Rattle.sig_images.specs.Builds.{IsKernelImage}
-use Rattle.sig_images.specs.Execs.{input_of, inputs_of_image}
+use Rattle.sig_images.proofs.Common.{◌≡◌, ◌∙◌, ◌∷◌, ◌&&◌, ℕ, zero, suc, ℤ, Bool, List, [], map, take, Option, None, Some, refl, sym, ap, subst, ◌↔◌, bytes_eq, codes, flat_map, if◌then◌else◌, is_none, list_all, take-map, Signal, inputs_of, Kernel, AllGood, IsFirst, Judge, AreFlows, AreFlowsIn, Body, IsFirstBadPlace, IsFirstIn, body_at, body_of, file_body, flow_in, is_header, is_line_byte, kind_named, line_judge, named_count, named_fault, text_fault, values_for, words_count, words_fault, Line, lines_of, Word, words_of, FlowAnswer, BadLine, Version, One, Two, ImageView, image_signal, IsKernelImage, input_of, inputs_of_image}
+use Rattle.sig_flow.specs.Flows.{is_name}
 
 -- ---- inputs of the same names and kinds
 

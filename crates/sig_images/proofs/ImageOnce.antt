@@ -1,29 +1,5 @@
 -- The accepted plans of a kernel have one image: their guards have one diagram each, whatever the stores.
-use Rattle.std.proofs.Common.{◌≡◌, ◌∙◌, ◌∷◌, ℕ, zero, suc, List, [], Option, None, Some, All, map, slice_get, refl, sym, ap}
-use Rattle.std.specs.Prelude.{filter_map}
-use Rattle.std.specs.List.{cons_option}
-use Rattle.std.proofs.lemmas.List.Elements.{All-head, All-tail}
-use Rattle.sig_base.specs.declared.ids.EqId.{EqId}
-use Rattle.sig_dd.specs.Diagram.{Diagram}
-use Rattle.sig_dd.specs.Nodes.{Holds, IsReduced, diagram}
-use Rattle.sig_dd.specs.declared.node.Node.{Node}
-use Rattle.sig_dd.proofs.Canonical.{proper}
-use Rattle.sig_dd.proofs.Trees.{one_diagram}
-use Rattle.sig_kernel.specs.Validity.{IsValid}
-use Rattle.sig_kernel.specs.declared.kernel.Kernel.{Kernel}
-use Rattle.sig_plan.specs.Acceptance.{IsAcceptedKernel}
-use Rattle.sig_plan.specs.Operations.{Operation, operation_in, operations_in}
-use Rattle.sig_plan.specs.Plans.{IsAccepted, PlanView}
-use Rattle.sig_plan.specs.declared.op.Op.{Op}
-use Rattle.sig_base.specs.declared.ids.OpId.{OpId}
-use Rattle.sig_plan.specs.declared.op.OpKind.{OpKind}
-use Rattle.sig_plan.proofs.PlanOnce.{same_conditions, same_ids, same_operations}
-use Rattle.sig_deciding.proofs.KernelRuns.{some_plan}
-use Rattle.sig_file.specs.Images.{ImageView}
-use Rattle.sig_file.specs.PlanImages.{before, image_of, image_op, image_signal, made_of, memories_of, ordered, visited}
-use Rattle.sig_file.specs.declared.images.ImageNode.{ImageNode}
-use Rattle.sig_file.specs.declared.images.ImageOp.{ImageOp}
-use Rattle.sig_images.specs.Builds.{IsKernelImage}
+use Rattle.sig_images.proofs.Common.{◌≡◌, ◌∙◌, ◌∷◌, ℕ, zero, suc, List, [], Option, None, Some, All, map, slice_get, refl, sym, ap, filter_map, cons_option, All-head, All-tail, EqId, Diagram, Holds, IsReduced, diagram, Node, proper, one_diagram, IsValid, Kernel, IsAcceptedKernel, Operation, operation_in, operations_in, IsAccepted, PlanView, Op, OpId, OpKind, same_conditions, same_ids, same_operations, some_plan, ImageView, before, image_of, image_op, image_signal, made_of, memories_of, ordered, visited, ImageNode, ImageOp, IsKernelImage}
 
 -- ---- what an image takes of an operation: its guard's diagram, its kind and its equation
 

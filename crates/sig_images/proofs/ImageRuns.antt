@@ -1,12 +1,5 @@
 -- An image has one run at most over given flows, and a sound one has one over flows that fit.
-use Rattle.std.proofs.Common.{◌≡◌, ℕ, ℤ, List}
-use Rattle.sig_file.specs.Guarded.{IsSoundImage}
-use Rattle.sig_file.specs.ImageRuns.{IsImageRun}
-use Rattle.sig_file.specs.Images.{ImageView, IsImage}
-use Rattle.sig_file.specs.declared.run.ImageEnd.{ImageEnd}
-use Rattle.sig_exec.specs.Running.{AreFlowsOf}
-use Rattle.sig_exec.proofs.RunOfSoundImage.{some_run}
-use Rattle.sig_exec.proofs.Single.{one_run}
+use Rattle.sig_images.proofs.Common.{◌≡◌, ℕ, ℤ, List, IsSoundImage, IsImageRun, ImageView, IsImage, ImageEnd, AreFlowsOf, some_run, one_run}
 
 pub one_image_run : (image : ImageView) (flows : List (List ℤ)) (limit : ℕ) (text other : List ℕ) (end last : ImageEnd)
     → IsImageRun image flows limit text end → IsImageRun image flows limit other last → (text ≡ other) × (end ≡ last)

@@ -1,13 +1,5 @@
 -- The bytes that a build writes are those of a sound image.
-use Rattle.std.proofs.Common.{◌≡◌, ◌≤◌, ℕ, List, Result, Ok, Err, IfOk, length, subst}
-use Rattle.sig_plan.specs.Plans.{IsAccepted, PlanView}
-use Rattle.sig_file.specs.Bytes.{image_bytes}
-use Rattle.sig_file.specs.Images.{ImageView, IsImage}
-use Rattle.sig_file.specs.PlanImages.{image_of}
-use Rattle.sig_file.specs.declared.limits.TheConstants.{IMAGE_BYTES}
-use Rattle.sig_shipped.proofs.Sound.{sound}
-use Rattle.sig_images.specs.Builds.{AreImageBytes}
-use Rattle.sig_images.specs.ImageFiles.{TookSoundImage}
+use Rattle.sig_images.proofs.Common.{◌≡◌, ◌≤◌, ℕ, List, Result, Ok, Err, IfOk, length, subst, IsAccepted, PlanView, image_bytes, ImageView, IsImage, image_of, IMAGE_BYTES, sound, AreImageBytes, TookSoundImage}
 
 pub of_plan : (plan : PlanView) → IsAccepted plan → (bytes : List ℕ) → AreImageBytes plan bytes → IsImage (image_of plan) → TookSoundImage (λ are. bytes ≡ are)
 of_plan plan accepted bytes are right = record {

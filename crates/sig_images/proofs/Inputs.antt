@@ -1,20 +1,5 @@
 -- The inputs of an image: their names differ, and flows that are read for them fit.
-use Rattle.std.proofs.Common.{◌≡◌, ◌∙◌, ◌<◌, ◌≤◌, ◌+◌, ◌++◌, ◌∷◌, ℕ, zero, suc, ℤ, Bool, true, false, List, [], length, map, take, get_or, slice_get, Some, refl, sym, ap, subst, arith, bytes_eq}
-use Rattle.std.specs.Prelude.{◌&&◌, ◌||◌, nat_lt}
-use Rattle.std.specs.List.{AllByRecursion, AllPass, IsDistinct, list_any}
-use Rattle.std.proofs.lemmas.Bool.{lt-ltb}
-use Rattle.std.proofs.lemmas.List.{get_or-map, length-append, length-map, length-take-le, map-append}
-use Rattle.std.proofs.lemmas.List.Folds.{list_any-append}
-use Rattle.std.proofs.lemmas.Slice.Eq.{bytes_eq-Decides}
-use Rattle.sig_base.specs.declared.signal.Signal.{Signal}
-use Rattle.sig_kernel.specs.Validity.{inputs_of, value_is}
-use Rattle.sig_kernel.specs.declared.kernel.Kernel.{Kernel}
-use Rattle.sig_flow.specs.Flows.{AreFlows}
-use Rattle.sig_flow.proofs.FittingFlows.{read_fit}
-use Rattle.sig_file.specs.Images.{Each, ImageView, IsImage, IsSignalBehind, names_of}
-use Rattle.sig_file.specs.declared.images.ImageSignal.{ImageSignal}
-use Rattle.sig_exec.specs.Running.{AreFlowsOf}
-use Rattle.sig_images.specs.Execs.{input_of, inputs_of_image}
+use Rattle.sig_images.proofs.Common.{◌≡◌, ◌∙◌, ◌<◌, ◌≤◌, ◌+◌, ◌++◌, ◌∷◌, ℕ, zero, suc, ℤ, Bool, true, false, List, [], length, map, take, get_or, slice_get, Some, refl, sym, ap, subst, arith, bytes_eq, ◌&&◌, ◌||◌, nat_lt, AllByRecursion, AllPass, IsDistinct, list_any, lt-ltb, get_or-map, length-append, length-map, length-take-le, map-append, list_any-append, bytes_eq-Decides, Signal, inputs_of, value_is, Kernel, AreFlows, read_fit, Each, ImageView, IsImage, IsSignalBehind, names_of, ImageSignal, AreFlowsOf, input_of, inputs_of_image}
 
 -- ---- names
 

@@ -1,30 +1,11 @@
 -- The image of an accepted program is right: its signals have names of the form that an image asks for.
-use Rattle.std.proofs.Common.{◌≡◌, ◌≤◌, ◌+◌, ◌<◌, ◌^◌, ◌∷◌, ◌&&◌, ℕ, zero, suc, Bool, true, false, List, [], length, refl, sym, subst, arith}
-use Rattle.std.specs.List.{AllByRecursion}
-use Rattle.std.specs.Prelude.{Contains, IsTrue, nat_lt}
-use Rattle.std.proofs.lemmas.Bool.{le-leb, lt-ltb}
-use Rattle.sig_base.specs.declared.limits.TheConstants.{PROGRAM_BYTES}
-use Rattle.sig_base.specs.declared.signal.Signal.{Signal}
-use Rattle.sig_front.specs.Prelude.{IsSignalName}
-use Rattle.sig_kernel.specs.declared.kernel.Kernel.{Kernel}
-use Rattle.sig_plan.specs.Plans.{IsAccepted, PlanView}
-use Rattle.sig_front.specs.Kernels.{IsKernelText}
-use Rattle.sig_file.specs.Bytes.{image_bytes}
-use Rattle.sig_file.specs.Guarded.{IsSoundImage}
-use Rattle.sig_file.specs.Images.{ImageView, IsImage, is_name}
-use Rattle.sig_file.specs.PlanImages.{image_of}
-use Rattle.sig_file.specs.Spelled.{HasName, HasNames, HavePlaces}
-use Rattle.sig_file.specs.declared.limits.TheConstants.{IMAGE_BYTES}
-use Rattle.sig_compile.specs.Acceptance.{HasSignalNames, IsAcceptedAs}
-use Rattle.sig_verify.proofs.Asks.{both_true}
-use Rattle.sig_images.specs.Builds.{AreFewBytes, IsKernelImage}
-use Rattle.sig_images.specs.ImageFiles.{IsSoundFile}
+use Rattle.sig_images.proofs.Common.{◌≡◌, ◌≤◌, ◌+◌, ◌<◌, ◌^◌, ◌∷◌, ◌&&◌, ℕ, zero, suc, Bool, true, false, List, [], length, refl, sym, subst, arith, AllByRecursion, Contains, IsTrue, nat_lt, le-leb, lt-ltb, PROGRAM_BYTES, Signal, IsSignalName, Kernel, IsAccepted, PlanView, IsKernelText, image_bytes, IsSoundImage, ImageView, IsImage, is_name, image_of, HasName, HasNames, HavePlaces, IMAGE_BYTES, HasSignalNames, IsAcceptedAs, AreFewBytes, IsKernelImage, IsSoundFile, and_from}
 
 printable : (name : List ℕ) → AllByRecursion (λ byte. (33 ≤ byte) × (byte ≤ 126)) name → is_name name ≡ true
 printable [] all = refl
 printable (byte ∷ name) all =
-    both_true (nat_lt 32 byte && nat_lt byte 127) (is_name name)
-    (both_true (nat_lt 32 byte) (nat_lt byte 127) (lt-ltb 32 byte (let from = all.0.0 in omega (arith, from))) (lt-ltb byte 127 (let to = all.0.1 in omega (arith, to))))
+    and_from (nat_lt 32 byte && nat_lt byte 127) (is_name name)
+    (and_from (nat_lt 32 byte) (nat_lt byte 127) (lt-ltb 32 byte (let from = all.0.0 in omega (arith, from))) (lt-ltb byte 127 (let to = all.0.1 in omega (arith, to))))
     (printable name all.1)
 
 has_name : (signal : Signal) → IsSignalName signal.name → HasName signal
@@ -32,7 +13,7 @@ has_name signal is =
     let some = is.some in
     let few = is.few in
     record {
-      long = both_true _ _ (lt-ltb 0 (length signal.name) (omega (arith, some))) (le-leb (length signal.name) 1048576 (omega (arith, few)));
+      long = and_from _ _ (lt-ltb 0 (length signal.name) (omega (arith, some))) (le-leb (length signal.name) 1048576 (omega (arith, few)));
       printable = printable signal.name is.graphic;
     }
 

@@ -1,31 +1,6 @@
 -- The operations of the image of an accepted program have places whose lines and columns have 32 bits.
-use Rattle.std.proofs.Common.{◌≤◌, ◌+◌, ◌<◌, ◌^◌, ◌∷◌, ℕ, zero, suc, false, List, [], Option, None, Some, length, slice_get, sym, subst, arith}
-use Rattle.std.specs.List.{AllByRecursion}
-use Rattle.std.specs.Prelude.{IfSome}
-use Rattle.std.proofs.lemmas.List.Elements.{All-from_recursion}
-use Rattle.sig_base.specs.declared.ids.EqId.{EqId}
-use Rattle.sig_base.specs.declared.ids.SigId.{SigId}
-use Rattle.sig_base.specs.declared.limits.TheConstants.{PROGRAM_BYTES}
-use Rattle.sig_base.specs.declared.signal.Signal.{Signal}
-use Rattle.sig_base.specs.declared.span.Span.{Span}
-use Rattle.sig_kernel.specs.declared.equation.Equation.{Equation}
-use Rattle.sig_kernel.specs.declared.kernel.Kernel.{Kernel}
-use Rattle.sig_plan.specs.Plans.{PlanView}
-use Rattle.sig_plan.specs.declared.op.Op.{Op}
-use Rattle.sig_plan.specs.declared.op.OpKind.{OpKind}
-use Rattle.sig_plan.specs.declared.op.OpKind.TheVariants.{Read, Compute, Left, Right, DelayRead, Store}
-use Rattle.sig_front.specs.Kernels.{IsKernelText}
-use Rattle.sig_front.specs.Prelude.{AtPlacesOfKernel, IsWithin}
-use Rattle.sig_file.specs.Images.{ImageView}
-use Rattle.sig_file.specs.PlanImages.{before, does_of, equation_at, equation_numbered, image_of, image_op, made_of, memory_number, op_with, ordered, read_at, visited}
-use Rattle.sig_file.specs.Spelled.{HasPlace, HavePlaces}
-use Rattle.sig_file.specs.declared.images.ImageNode.{ImageNode}
-use Rattle.sig_file.specs.declared.images.ImageOp.{ImageOp}
-use Rattle.sig_file.specs.declared.images.ImageOpKind.{ImageOpKind}
+use Rattle.sig_images.proofs.Common.{◌≤◌, ◌+◌, ◌<◌, ◌^◌, ◌∷◌, ℕ, zero, suc, false, List, [], Option, None, Some, length, slice_get, sym, subst, arith, AllByRecursion, IfSome, All-from_recursion, EqId, SigId, PROGRAM_BYTES, Signal, Span, Equation, Kernel, PlanView, Op, OpKind, Read, Compute, Left, Right, DelayRead, Store, IsKernelText, AtPlacesOfKernel, IsWithin, ImageView, before, does_of, equation_at, equation_numbered, image_of, image_op, made_of, memory_number, op_with, ordered, read_at, visited, HasPlace, HavePlaces, ImageNode, ImageOp, ImageOpKind, IsAcceptedAs, diagram, IsKernelImage, all_so}
 use Rattle.sig_file.specs.declared.images.ImageOpKind.TheVariants as does
-use Rattle.sig_compile.specs.Acceptance.{IsAcceptedAs}
-use Rattle.sig_dd.specs.Nodes.{diagram}
-use Rattle.sig_images.specs.Builds.{IsKernelImage}
 
 -- a place whose line and column have 32 bits
 record IsPlace (at : Span) : Type 0 where
@@ -86,10 +61,6 @@ in_text size short at within =
     let line : at.line ≤ size + 1 = within.line in
     let col : at.col ≤ size + 1 = within.col in
     record { line = omega (arith, few, line); col = omega (arith, few, col) }
-
-all_so : {A : Type 0} (P Q : A → Type 0) → ((x : A) → P x → Q x) → (xs : List A) → AllByRecursion P xs → AllByRecursion Q xs
-all_so P Q so [] h = tt
-all_so P Q so (x ∷ xs) h = (so x h.0, all_so P Q so xs h.1)
 
 kernel_placed : (size : ℕ) (kernel : Kernel) → size ≤ PROGRAM_BYTES → AtPlacesOfKernel (IsWithin size) kernel → AtPlacesOfKernel IsPlace kernel
 kernel_placed size kernel short within = record {

@@ -1,15 +1,5 @@
 -- Which statuses say that nodes do not suffice, and which that all was written.
-use Rattle.std.proofs.Common.{◌≡◌, ◌⊎◌, ℕ, ℤ, List, Option, None, Some, Bool, IfSome, inl, inr, sym, ap, subst, ◌∙◌}
-use Rattle.sig_text.specs.Files.{Contents}
-use Rattle.sig_file.specs.Images.{ImageView}
-use Rattle.sig_file.specs.declared.run.ImageCause.{ImageCause}
-use Rattle.sig_file.specs.declared.run.ImageCause.TheVariants.{Exhausted, Limit, Overflow, ZeroDivisor}
-use Rattle.sig_outcome.specs.Refusals.{status_of}
-use Rattle.sig_outcome.specs.declared.refusal.Refusal.{Refusal}
-use Rattle.sig_outcome.specs.declared.refusal.Refusal.TheVariants.{Missing, ReadFault, LongProgram, Program, Budget, TooManyItems, LongFile, Data, LongImage, OutOfMemory}
-use Rattle.sig_runs.specs.Runs.{IsAboutFlows, LacksMemory}
-use Rattle.sig_images.specs.ExecEnds.{exec_status}
-use Rattle.sig_images.specs.Execs.{WritesExec}
+use Rattle.sig_images.proofs.Common.{◌≡◌, ◌⊎◌, ℕ, ℤ, List, Option, None, Some, Bool, IfSome, inl, inr, sym, ap, subst, ◌∙◌, Contents, ImageView, ImageCause, Exhausted, Limit, Overflow, ZeroDivisor, status_of, Refusal, Missing, ReadFault, LongProgram, Program, Budget, TooManyItems, LongFile, Data, LongImage, OutOfMemory, IsAboutFlows, LacksMemory, exec_status, WritesExec}
 
 -- no refusal has status 0
 pub no_refusal : (r : Refusal) → status_of r ≡ 0 → ⊥

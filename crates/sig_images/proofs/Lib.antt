@@ -1,3 +1,4 @@
+pub mod Common
 pub mod Causes
 pub mod Complete
 pub mod CommandEnds
@@ -16,3 +17,21 @@ pub mod Loads
 pub mod OneBuild
 pub mod OneExec
 pub mod Written
+unfoldable pub use Common.*
+pub use Causes.*
+pub use Complete.*
+pub use EndsAlike.*
+pub use FileOnce.*
+pub use FileVerdict.*
+pub use FlowsAlike.*
+pub use ImageOnce.*
+pub use ImageRuns.*
+pub use ImageTaken.*
+pub use Inputs.*
+pub use KernelImage.*
+pub use KernelPlaces.*
+pub use LastBegun.*
+pub use Loads.*
+pub use OneBuild.*
+pub use OneExec.*
+pub use Written.*

@@ -1,25 +1,5 @@
 -- What the files of a build, and of a run of an image, call for.
-use Rattle.std.proofs.Common.{◌≡◌, ◌≤◌, ℕ, ℤ, false, List, Option, Some, IfSome, inl, inr, refl, ap, subst, arith}
-use Rattle.std.specs.Prelude.{⊤}
-use Rattle.sig_text.specs.Files.{Contents, name_where_there}
-use Rattle.sig_words.specs.declared.command.Settings.{Settings}
-use Rattle.sig_plan.specs.Plans.{IsAccepted, PlanView}
-use Rattle.sig_file.specs.Bytes.{image_bytes}
-use Rattle.sig_file.specs.Images.{ImageView}
-use Rattle.sig_file.specs.ImageRuns.{IsImageRun}
-use Rattle.sig_file.specs.PlanImages.{image_of}
-use Rattle.sig_file.specs.declared.run.ImageEnd.{ImageEnd}
-use Rattle.sig_outcome.specs.Outcomes.{Good, done}
-use Rattle.sig_outcome.specs.Refusals.{HasCount, IsOfLength, IsOwn, outcome_of, status_of}
-use Rattle.sig_outcome.specs.Tasks.{Reaches, Stops}
-use Rattle.sig_outcome.specs.declared.refusal.Refusal.{Refusal}
-use Rattle.sig_outcome.specs.declared.refusal.Refusal.TheVariants.{Missing, ReadFault, LongProgram, Program, Budget, TooManyItems, LongFile, Data, LongImage, OutOfMemory}
-use Rattle.sig_outcome.proofs.Refused.{count_of_length, later_count, later_own, no_budget_of_length, told, told_both}
-use Rattle.sig_compile.specs.Compiling.{AtPlan, FindsAccepted, HoldsBeyondBound, IsAboutPlan}
-use Rattle.sig_runs.specs.Runs.{AtFlows, FindsFlows, IsAboutFlows}
-use Rattle.sig_images.specs.Builds.{AreFewBytes, AreManyBytes, BuildComesTo, IsKernelImage, building}
-use Rattle.sig_images.specs.Execs.{ExecComesTo, ExecutesTo, executed, executing, inputs_of_image}
-use Rattle.sig_images.specs.ImageFiles.{AtImage, FindsImage, HoldsBeyondVerifying, IsAboutFile}
+use Rattle.sig_images.proofs.Common.{◌≡◌, ◌≤◌, ℕ, ℤ, false, List, Option, Some, IfSome, inl, inr, refl, ap, subst, arith, ⊤, Contents, name_where_there, Settings, IsAccepted, PlanView, image_bytes, ImageView, IsImageRun, image_of, ImageEnd, Good, done, HasCount, IsOfLength, IsOwn, outcome_of, status_of, Reaches, Stops, Refusal, Missing, ReadFault, LongProgram, Program, Budget, TooManyItems, LongFile, Data, LongImage, OutOfMemory, count_of_length, later_count, later_own, no_budget_of_length, told, told_both, AtPlan, FindsAccepted, HoldsBeyondBound, IsAboutPlan, AtFlows, FindsFlows, IsAboutFlows, AreFewBytes, AreManyBytes, BuildComesTo, IsKernelImage, building, ExecComesTo, ExecutesTo, executed, executing, inputs_of_image, AtImage, FindsImage, HoldsBeyondVerifying, IsAboutFile}
 use Rattle.sig_images.proofs.OneBuild.{plan_refuses}
 use Rattle.sig_images.proofs.OneExec.{executes, image_refuses, inputs_refuse}
 

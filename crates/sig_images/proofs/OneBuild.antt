@@ -1,21 +1,5 @@
 -- The building of a program's image over told contents comes to one outcome at most.
-use Rattle.std.proofs.Common.{◌≡◌, ◌∙◌, ◌<◌, ◌≤◌, ℕ, false, List, length, inl, inr, refl, sym, ap, arith}
-use Rattle.std.specs.Prelude.{⊤}
-use Rattle.sig_text.specs.Files.{Contents}
-use Rattle.sig_kernel.specs.declared.kernel.Kernel.{Kernel}
-use Rattle.sig_file.specs.Bytes.{image_bytes}
-use Rattle.sig_file.specs.Images.{ImageView}
-use Rattle.sig_file.specs.declared.limits.TheConstants.{IMAGE_BYTES}
-use Rattle.sig_outcome.specs.Outcomes.{OneAtMost, Outcome, done, long_program}
-use Rattle.sig_outcome.specs.Refusals.{IsOfLength, status_of}
-use Rattle.sig_outcome.specs.declared.refusal.Refusal.{Refusal}
-use Rattle.sig_outcome.specs.declared.refusal.Refusal.TheVariants.{Missing, ReadFault, LongProgram, Program, Budget, TooManyItems, LongFile, Data, LongImage, OutOfMemory}
-use Rattle.sig_outcome.proofs.Stages.{at_file_ends, one_at_program}
-use Rattle.sig_compile.specs.Acceptance.{AreRefused, IsAcceptedAs}
-use Rattle.sig_compile.specs.Compiling.{AtPlan}
-use Rattle.sig_compile.proofs.OneCompilation.{compile_number}
-use Rattle.sig_compile.proofs.Verdicts.{accepted_once, accepted_or_refused, refused_once}
-use Rattle.sig_images.specs.Builds.{AreFewBytes, AreManyBytes, BuildComesTo, BuildsTo, HasImage, IsAboutBuild, IsBuildStatus}
+use Rattle.sig_images.proofs.Common.{◌≡◌, ◌∙◌, ◌<◌, ◌≤◌, ℕ, false, List, length, inl, inr, refl, sym, ap, arith, ⊤, Contents, Kernel, image_bytes, ImageView, IMAGE_BYTES, OneAtMost, Outcome, done, long_program, IsOfLength, status_of, Refusal, Missing, ReadFault, LongProgram, Program, Budget, TooManyItems, LongFile, Data, LongImage, OutOfMemory, at_file_ends, one_at_program, AreRefused, IsAcceptedAs, AtPlan, compile_number, accepted_once, accepted_or_refused, refused_once, AreFewBytes, AreManyBytes, BuildComesTo, BuildsTo, HasImage, IsAboutBuild, IsBuildStatus}
 use Rattle.sig_images.proofs.ImageOnce.{image_once}
 
 -- the bytes of a kernel's image are not both few and many

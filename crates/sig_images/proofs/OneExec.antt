@@ -1,20 +1,6 @@
 -- The run of an image over told contents comes to one outcome at most.
-use Rattle.std.proofs.Common.{◌∙◌, ℕ, ℤ, List, inl, inr, ⊎_elim, refl, sym, ap}
-use Rattle.sig_text.specs.Files.{Contents}
-use Rattle.sig_words.specs.declared.command.Settings.{Settings}
-use Rattle.sig_flow.specs.Flows.{AreFlows}
-use Rattle.sig_file.specs.Images.{ImageView}
-use Rattle.sig_file.specs.declared.run.ImageEnd.{ImageEnd}
-use Rattle.sig_outcome.specs.Outcomes.{Good, OneAtMost, Outcome, long_file}
-use Rattle.sig_outcome.specs.Refusals.{status_of}
-use Rattle.sig_outcome.specs.declared.refusal.Refusal.{Refusal}
-use Rattle.sig_outcome.specs.declared.refusal.Refusal.TheVariants.{Missing, ReadFault, LongProgram, Program, Budget, TooManyItems, LongFile, Data, LongImage, OutOfMemory}
-use Rattle.sig_outcome.proofs.Stages.{at_file_ends, one_at_data}
-use Rattle.sig_runs.specs.Runs.{AtFlows, FindsFlows, RefusesFlows}
-use Rattle.sig_runs.proofs.OneRun.{flows_apart, no_flows_line, one_flows}
+use Rattle.sig_images.proofs.Common.{◌∙◌, ℕ, ℤ, List, inl, inr, ⊎_elim, refl, sym, ap, Contents, Settings, AreFlows, ImageView, ImageEnd, Good, OneAtMost, Outcome, long_file, status_of, Refusal, Missing, ReadFault, LongProgram, Program, Budget, TooManyItems, LongFile, Data, LongImage, OutOfMemory, at_file_ends, one_at_data, AtFlows, FindsFlows, RefusesFlows, flows_apart, no_flows_line, one_flows, ExecComesTo, ExecutesTo, IsAboutExec, IsExecStatus, executed, inputs_of_image, AtImage, FindsImage, IsSoundFile, RefusesImage}
 use Rattle.sig_images.proofs.ImageRuns.{one_image_run}
-use Rattle.sig_images.specs.Execs.{ExecComesTo, ExecutesTo, IsAboutExec, IsExecStatus, executed, inputs_of_image}
-use Rattle.sig_images.specs.ImageFiles.{AtImage, FindsImage, IsSoundFile, RefusesImage}
 use Rattle.sig_images.proofs.FileOnce.{image_apart, one_image_line, one_sound}
 
 -- a run of an image has one outcome

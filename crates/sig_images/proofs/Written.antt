@@ -1,23 +1,5 @@
 -- What is promised of a run of an image follows from what its files gave and what was written.
-use Rattle.std.proofs.Common.{◌≡◌, ◌∙◌, ◌⊎◌, ℕ, ℤ, List, [], Bool, Option, IfSome, inl, inr, refl, sym, subst, arith, IsTrue}
-use Rattle.sig_text.specs.Counts.{Rose}
-use Rattle.sig_text.specs.Files.{Contents, name_where_there}
-use Rattle.sig_text.specs.Sink.{TookPrefix-whole}
-use Rattle.sig_words.specs.declared.command.Settings.{Settings}
-use Rattle.sig_file.specs.ImageRuns.{IsImageRun}
-use Rattle.sig_file.specs.Images.{ImageView}
-use Rattle.sig_file.specs.declared.run.ImageCause.{ImageCause}
-use Rattle.sig_file.specs.declared.run.ImageCause.TheVariants.{Exhausted, Limit, Overflow, ZeroDivisor}
-use Rattle.sig_file.specs.declared.run.ImageEnd.{ImageEnd}
-use Rattle.sig_exec.specs.Running.{TookRun, TookSome}
-use Rattle.sig_outcome.specs.Outcomes.{Good}
-use Rattle.sig_outcome.specs.Tasks.{IsEnded, Performs, write_line}
-use Rattle.sig_outcome.specs.declared.refusal.Refusal.TheVariants.{OutOfMemory}
-use Rattle.sig_outcome.proofs.PerformedCalls.{performs_outcome, performs_refusal}
-use Rattle.sig_runs.specs.Runs.{FindsFlows, LacksMemory}
-use Rattle.sig_images.specs.ExecEnds.{exec_line, exec_status}
-use Rattle.sig_images.specs.Execs.{WritesExec, executed, executing, inputs_of_image}
-use Rattle.sig_images.specs.ImageFiles.{FindsImage}
+use Rattle.sig_images.proofs.Common.{◌≡◌, ◌∙◌, ◌⊎◌, ℕ, ℤ, List, [], Bool, Option, IfSome, inl, inr, refl, sym, subst, arith, IsTrue, Rose, Contents, name_where_there, TookPrefix-whole, Settings, IsImageRun, ImageView, ImageCause, Exhausted, Limit, Overflow, ZeroDivisor, ImageEnd, TookRun, TookSome, Good, IsEnded, Performs, write_line, OutOfMemory, performs_outcome, performs_refusal, FindsFlows, LacksMemory, exec_line, exec_status, WritesExec, executed, executing, inputs_of_image, FindsImage}
 use Rattle.sig_images.proofs.Loads.{reaches_end, stops_memory}
 use Rattle.sig_images.proofs.OneExec.{exec_number, one_exec_outcome}
 

@@ -1,5 +1,5 @@
 -- The names of a header, and the places at which signals are named.
-use Rattle.sig_judge.proofs.Common.{◌≡◌, ◌≢◌, ◌<◌, ◌+◌, ◌++◌, ◌&&◌, ℕ, Bool, true, false, cond, not, List, [], ◌∷◌, length, map, get_or, set, Option, None, Some, bytes_eq, is_some, unwrap_or, refl, sym, ap, ◌∙◌, subst, arith, ⊎_elim, append_assoc, cases_Bool, cases_eq, ne_eqb, eq-eqb, false≢true, get_or_default, get_or-set_same, get_or-set_other, ext_get_or, length-map, length-set, map-append, append-nil, list_all-append, list_all_at, sum_by-append, sum_by-cons, list_all-from_AllPass, bytes_eq-Decides, IsDistinct, count_by, list_all, position_or_len, Kind, Integer, Signal, kind_named, Word, words_from, words_of, differ_eq, names_differ, nobody, IsPlace, Named, are_names, column_of, is_header, is_named_once, kinds_named, texts_of}
+use Rattle.sig_judge.proofs.Common.{◌≡◌, ◌≢◌, ◌<◌, ◌+◌, ◌++◌, ◌&&◌, ℕ, Bool, true, false, cond, not, List, [], ◌∷◌, length, map, get_or, set, Option, None, Some, bytes_eq, is_some, unwrap_or, refl, sym, ap, ◌∙◌, subst, arith, ⊎_elim, append_assoc, cases_Bool, cases_eq, ne_eqb, eq-eqb, false≢true, get_or_default, get_or-set_same, get_or-set_other, ext_get_or, length-map, length-set, map-append, append-nil, list_all-append, list_all_at, sum_by-append, sum_by-cons, list_all-from_AllPass, bytes_eq-Decides, IsDistinct, count_by, list_all, position_or_len, Kind, Integer, Signal, kind_named, Word, words_from, words_of, names_differ, nobody, IsPlace, Named, are_names, column_of, is_header, is_named_once, kinds_named, texts_of, other_bytes}
 use Rattle.std.proofs.lemmas.List.{get_or-map}
 
 module _ {X : Type 0} (p : X → Bool) where
@@ -94,7 +94,7 @@ module _ (signals : List Signal) (differ : IsDistinct bytes_eq (map (λ signal. 
       (λ (other : k ≢ i).
       let apart : (get_or signals k d).name ≢ text = λ (same : (get_or signals k d).name ≡ text). names_differ signals i k d differ lt lt_k other (own ∙ sym same) in
       subst (λ o. IsPlace (names ++ text ∷ []) (get_or signals k d).name o) (sym (get_or-set_other places i k (Some n) None other))
-      (place_kept names (get_or signals k d).name text (get_or places k None) (differ_eq (get_or signals k d).name text apart) (are k d lt_k)))
+      (place_kept names (get_or signals k d).name text (get_or places k None) (other_bytes (get_or signals k d).name text apart) (are k d lt_k)))
       (cases_eq k i)
 
 -- the words behind a word that was taken
@@ -137,13 +137,6 @@ module _ (signals : List Signal) (line : List ℕ) (kinds : List Kind) (places :
   texts_with : (word : Word) (behind : List Word) → words_from col rest ≡ word ∷ behind → texts_of (words_of line) ≡ texts_of named.done ++ word.text ∷ texts_of behind
   texts_with word behind are =
       ap texts_of (named.split ∙ ap (λ (ws : List Word). named.done ++ ws) are) ∙ map-append (λ (w : Word). w.text) named.done (word ∷ behind)
-
-  -- a name of no signal
-  pub unknown_name : (word : Word) (behind : List Word) → words_from col rest ≡ word ∷ behind → kind_named signals word.text ≡ None → is_header signals (texts_of (words_of line)) ≡ false
-  unknown_name word behind are none =
-      let known : List ℕ → Bool = λ text. is_some (kind_named signals text) in
-      let all : are_names signals (texts_of (words_of line)) ≡ false = ap (are_names signals) (texts_with word behind are) ∙ list_all-append known (texts_of named.done) (word.text ∷ texts_of behind) ∙ rw (named.known, none) refl in
-      rw all refl
 
   -- a signal that was named before
   named_before : (i : ℕ) (e : Signal) (word : Word) (behind : List Word) (o : Option ℕ) → words_from col rest ≡ word ∷ behind → i < length signals → (get_or signals i e).name ≡ word.text → get_or places i None ≡ o → is_some o ≡ true → is_header signals (texts_of (words_of line)) ≡ false

@@ -1,5 +1,5 @@
 -- Instants of signals of their kinds.
-use Rattle.sig_judge.proofs.Common.{◌≡◌, ◌<◌, ◌+◌, ◌++◌, ℕ, zero, suc, List, [], ◌∷◌, length, map, take, get_or, refl, sym, ap, subst, arith, AllByRecursion, get_or-map, take_more, map-append, Kind, Signal, Seen as SeenAt, Instant, Bounded, IsOfKind, AreOfKinds, kinds_of, seen_of}
+use Rattle.sig_judge.proofs.Common.{◌≡◌, ◌<◌, ◌+◌, ◌++◌, ℕ, zero, suc, List, [], ◌∷◌, length, map, take, get_or, refl, sym, ap, subst, arith, get_or-map, take_more, map-append, Kind, Signal, Seen as SeenAt, Instant, Bounded, IsOfKind, AreOfKinds, kinds_of, seen_of}
 use Rattle.sig_judge.specs.declared.trace.Seen.{Seen}
 
 pub kinds_length : (kinds : List Kind) (row : Instant) → AreOfKinds Bounded kinds row → length row ≡ length kinds
@@ -37,12 +37,3 @@ kind_of_signal signals row i g s h lt =
     subst (λ (k : Kind). IsOfKind Bounded k (seen_of (get_or row i s))) (get_or-map (λ (signal : Signal). signal.kind) signals i g)
     (subst (λ (x : SeenAt). IsOfKind Bounded (get_or (kinds_of signals) i g.kind) x) (get_or-map seen_of row i s)
     (kinds_at (kinds_of signals) (map seen_of row) h i g.kind (seen_of s) lt))
-
-pub all_append : {A : Type 0} (P : A → Type 0) (xs : List A) (x : A) → AllByRecursion P xs → P x → AllByRecursion P (xs ++ x ∷ [])
-all_append P [] x h p = (p, tt)
-all_append P (y ∷ xs) x h p = (h.0, all_append P xs x h.1 p)
-
-pub all_get : {A : Type 0} (P : A → Type 0) (xs : List A) (i : ℕ) (d : A) → AllByRecursion P xs → i < length xs → P (get_or xs i d)
-all_get P [] i d h lt = absurd (omega arith)
-all_get P (x ∷ xs) zero d h lt = h.0
-all_get P (x ∷ xs) (suc i) d h lt = all_get P xs i d h.1 (omega arith)

@@ -1,5 +1,5 @@
 -- Trace files, their instants of kinds, and that each has one reading.
-use Rattle.sig_judge.proofs.Common.{◌≡◌, ◌<◌, ◌++◌, ◌&&◌, ◌⊎◌, ℕ, suc, Bool, true, false, List, [], ◌∷◌, length, map, get_or, Option, None, Some, Result, Ok, Err, bytes_eq, unwrap_or, refl, sym, ap, ◌∙◌, subst, ⊎_elim, inl, inr, arith, eqb-true, false≢true, length-map, get_or_default, flat_map-cons, AllPass-from_list_all, passes_at_first, bytes_eq-Decides, IfOk, IfErr, IsErrAnd, MatchResult, IsDistinct, count_by, flat_map, list_all, Seen as SeenAt, Instant, Trace, Bounded, AreOfKinds, IsOfKind, Kind, Integer, Signal, IsTraceOf, AllGood, IsFirst, is_line_byte, kind_named, Line, lines_of, Word, words_of, not_both as good_and_wrong, one_first, kind_at, names_differ, Header, TraceAnswer, BadHeader, BadLine, OutOfMemory, IsHeaderOf, instants_in, Body, IsFirstBadPlace, IsTraceFile, are_names, bad_header, bad_row, body_of, cells_said, column_of, header_fault, instants_said, is_header, is_named_once, kinds_named, names_in, no_header, row_judge}
+use Rattle.sig_judge.proofs.Common.{◌≡◌, ◌<◌, ◌++◌, ◌⊎◌, ℕ, suc, Bool, true, false, List, [], ◌∷◌, length, map, get_or, Option, None, Some, Result, Ok, Err, bytes_eq, unwrap_or, refl, sym, ap, ◌∙◌, subst, ⊎_elim, inl, inr, arith, eqb-true, length-map, get_or_default, flat_map-cons, AllPass-from_list_all, passes_at_first, bytes_eq-Decides, IfOk, IfErr, IsErrAnd, MatchResult, IsDistinct, count_by, flat_map, list_all, Seen as SeenAt, Instant, Trace, Bounded, AreOfKinds, IsOfKind, Kind, Integer, Signal, IsTraceOf, AllGood, IsFirst, is_line_byte, kind_named, Line, lines_of, Word, words_of, not_both as good_and_wrong, one_first, kind_at, names_differ, Header, TraceAnswer, BadHeader, BadLine, OutOfMemory, IsHeaderOf, instants_in, Body, IsFirstBadPlace, IsTraceFile, are_names, bad_header, bad_row, body_of, cells_said, column_of, header_fault, instants_said, is_header, is_named_once, kinds_named, names_in, no_header, row_judge, and_second}
 use Rattle.std.proofs.lemmas.List.{get_or-map}
 use Rattle.sig_judge.proofs.HeaderNames.{placed_within}
 use Rattle.sig_judge.proofs.ValueKinds.{cell_at_of_kind}
@@ -25,14 +25,10 @@ header_by signals header false b clean is none = absurd (some_is_none (BadLine h
 pub header_is : (signals : List Signal) (header : Line) → header_fault signals header ≡ None → is_header signals (names_in header) ≡ true
 header_is signals header none = header_by signals header (list_all is_line_byte header.text) (is_header signals (names_in header)) refl refl none
 
-right_true : (a b : Bool) → (a && b) ≡ true → b ≡ true
-right_true true b both = both
-right_true false b both = absurd (false≢true both)
-
 module _ (signals : List Signal) (names : List (List ℕ)) (differ : IsDistinct bytes_eq (map (λ signal. signal.name) signals)) (header : is_header signals names ≡ true) where
   -- each signal is named once
   named_once : (k : ℕ) (d : Signal) → k < length signals → count_by (bytes_eq (get_or signals k d).name) names ≡ 1
-  named_once k d lt = eqb-true _ _ (AllPass-from_list_all (λ signal. is_named_once names signal.name) signals (right_true (are_names signals names) (list_all (λ signal. is_named_once names signal.name) signals) header) k d lt)
+  named_once k d lt = eqb-true _ _ (AllPass-from_list_all (λ signal. is_named_once names signal.name) signals (and_second (are_names signals names) (list_all (λ signal. is_named_once names signal.name) signals) header) k d lt)
 
   -- the kind of its column is its own
   own_kind : (k : ℕ) (d : Signal) → k < length signals → get_or (kinds_named signals names) (column_of names (get_or signals k d).name) Integer ≡ (get_or signals k d).kind

@@ -1,5 +1,5 @@
 -- The instants of a trace file, line by line and word by word.
-use Rattle.sig_judge.proofs.Common.{◌≡◌, ◌<◌, ◌+◌, ◌++◌, ◌⊎◌, ℕ, List, [], ◌∷◌, length, map, drop, get_or, Option, None, Some, sym, ap, ◌∙◌, subst, ⊎_elim, inl, inr, arith, append_assoc, length-append, append-nil, drop_more, map-append, flat_map, lines, Seen as SeenAt, Instant, Kind, Integer, AllGood, IsFirst, first_fault, Line, numbered, Word, words_of, judged_behind, judged_at, good_from_none, first_from_some, Header, TraceAnswer, OutOfMemory, instants_in, line_of, seen_of, cell_fault, cell_said, cells_fault, cells_said, row_judge, seen_said, text_fault}
+use Rattle.sig_judge.proofs.Common.{◌≡◌, ◌<◌, ◌+◌, ◌++◌, ◌⊎◌, ℕ, List, [], ◌∷◌, length, map, drop, get_or, Option, None, Some, sym, ap, ◌∙◌, subst, ⊎_elim, inl, inr, arith, append_assoc, length-append, drop_more, map-append, lines, Seen as SeenAt, Kind, Integer, AllGood, IsFirst, first_fault, Line, numbered, Word, judged_at, good_from_none, first_from_some, TraceAnswer, OutOfMemory, line_of, seen_of, cell_fault, cell_said, cells_fault, cells_said, row_judge, seen_said, text_fault}
 use Rattle.sig_judge.specs.declared.trace.Seen.{Seen}
 
 module _ (kinds : List Kind) (n : ℕ) (words : List Word) (word : Word) (behind : List Word) (lt : n < length kinds) (are : words ≡ word ∷ behind) where
@@ -14,13 +14,6 @@ module _ (kinds : List Kind) (n : ℕ) (words : List Word) (word : Word) (behind
       ∙ ap (λ ks. cells_fault number before ks (word ∷ behind)) (drop_more kinds n Integer lt)
       ∙ ap (λ (f : Option TraceAnswer). elim f [ Some fault ↦ Some fault | None ↦ cells_fault number (before + 1) (drop (n + 1) kinds) behind ]) good
       ∙ ap (λ m. cells_fault number m (drop (n + 1) kinds) behind) (sym is))
-
-  -- at a wrong word
-  pub wrong_word : (number before : ℕ) (fault : TraceAnswer) → cell_fault number before word.col (cell_said here word.text) ≡ Some fault → cells_fault number before (drop n kinds) words ≡ Some fault
-  wrong_word number before fault wrong =
-      ap (cells_fault number before (drop n kinds)) are
-      ∙ ap (λ ks. cells_fault number before ks (word ∷ behind)) (drop_more kinds n Integer lt)
-      ∙ ap (λ (f : Option TraceAnswer). elim f [ Some other ↦ Some other | None ↦ cells_fault number (before + 1) (drop (n + 1) kinds) behind ]) wrong
 
   -- what the words so far say, with the next
   said_next : (cells : List Seen) (seen : Seen) → seen_said (cell_said here word.text) ≡ seen_of seen
@@ -56,11 +49,6 @@ module _ (kinds : List Kind) (rest line after : List ℕ) (number : ℕ) (first 
   numbered_first : numbered number (lines rest) ≡ line_of number line ∷ numbered (number + 1) (lines after)
   numbered_first = ap (numbered number) first
 
-  -- behind a good line
-  pub judged_on : (old new : ℕ) → text_fault number old kinds line ≡ None → new ≡ old + length (words_of line) → first_fault (row_judge kinds) new (numbered (number + 1) (lines after)) ≡ first_fault (row_judge kinds) old (numbered number (lines rest))
-  judged_on old new good counted =
-      judged_behind (row_judge kinds) old new (line_of number line) (numbered (number + 1) (lines after)) (numbered number (lines rest)) numbered_first good counted
-
   -- at a wrong line
   pub wrong_line : (old : ℕ) (all : List Line) (fault : TraceAnswer) → (fault ≡ OutOfMemory) ⊎ (text_fault number old kinds line ≡ Some fault) → first_fault (row_judge kinds) old (numbered number (lines rest)) ≡ first_fault (row_judge kinds) 0 all → (fault ≡ OutOfMemory) ⊎ IsFirst (row_judge kinds) 0 all fault
   wrong_line old all fault why so_far = ⊎_elim
@@ -68,20 +56,7 @@ module _ (kinds : List Kind) (rest line after : List ℕ) (number : ℕ) (first 
       (λ wrong. inr (first_from_some (row_judge kinds) 0 all fault (sym so_far ∙ judged_at (row_judge kinds) old (line_of number line) (numbered (number + 1) (lines after)) (numbered number (lines rest)) fault numbered_first wrong)))
       why
 
--- the instants so far, with those of a line
-pub instants_on : (header : Header) (rest line after : List ℕ) (number : ℕ) (old new here : List Instant) → lines rest ≡ line ∷ lines after → new ≡ old ++ here → here ≡ instants_in header (words_of line)
-    → new ++ flat_map (λ line. instants_in header (words_of line.text)) (numbered (number + 1) (lines after)) ≡ old ++ flat_map (λ line. instants_in header (words_of line.text)) (numbered number (lines rest))
-instants_on header rest line after number old new here first added is =
-    let behind : List Instant = flat_map (λ line. instants_in header (words_of line.text)) (numbered (number + 1) (lines after)) in
-    ap (λ (is : List Instant). is ++ behind) (added ∙ ap (λ (is : List Instant). old ++ is) is)
-    ∙ append_assoc old (instants_in header (words_of line)) behind
-    ∙ ap (λ (ls : List (List ℕ)). old ++ flat_map (λ line. instants_in header (words_of line.text)) (numbered number ls)) (sym first)
-
 -- behind the last line
 pub all_good : (kinds : List Kind) (rest : List ℕ) (number before : ℕ) (all : List Line) → length rest ≡ 0 → first_fault (row_judge kinds) before (numbered number (lines rest)) ≡ first_fault (row_judge kinds) 0 all → AllGood (row_judge kinds) 0 all
 all_good kinds [] number before all none judged = good_from_none (row_judge kinds) 0 all (sym judged)
 all_good kinds (b ∷ rest) number before all none judged = absurd (omega arith)
-
-pub all_instants : (header : Header) (rest : List ℕ) (number : ℕ) (instants all : List Instant) → length rest ≡ 0 → instants ++ flat_map (λ line. instants_in header (words_of line.text)) (numbered number (lines rest)) ≡ all → instants ≡ all
-all_instants header [] number instants all none read = sym (append-nil instants) ∙ read
-all_instants header (b ∷ rest) number instants all none read = absurd (omega arith)

@@ -1,6 +1,6 @@
 -- What the equations of a flat body lead to decides the verdict.
-use Rattle.sig_judge.proofs.Common.{◌≡◌, ◌<◌, ◌≤◌, ◌+◌, ◌++◌, ◌⊎◌, ℕ, suc, List, [], ◌∷◌, length, map, take, drop, get_or, refl, sym, ap, subst, ◌∙◌, arith, ⊎_elim, length-append, AllByRecursion, AllZip, get_or-append, drop-cons, cases_order, take-append-drop, take_all, length-take-le, length-map, Instant, Trace, Bounded, AreOfKinds, FlatEquation, Defines, Equal, FlatBody, instant_at, HoldsAt, HoldThroughout, IsTraceOf, IsProcessTrace, kinds_of, EquationSteps, Leads, HoldsBehind, holds_up_to, BreaksAt, without_prefix, IsBroken, IsVerdict, Verdict, Accepted, Broken}
-use Rattle.sig_judge.proofs.ZipLemmas.{Splits, zip_split, zip_map_left, zip_left, zip_back, zip_length, all_at, all_map, all_front}
+use Rattle.sig_judge.proofs.Common.{◌≡◌, ◌<◌, ◌≤◌, ◌+◌, ◌++◌, ◌⊎◌, ℕ, suc, List, [], ◌∷◌, length, map, take, drop, get_or, refl, sym, ap, subst, ◌∙◌, arith, ⊎_elim, length-append, AllByRecursion, AllZip, get_or-append, drop-cons, cases_order, take-append-drop, take_all, length-take-le, length-map, Instant, Trace, Bounded, AreOfKinds, FlatEquation, Defines, Equal, FlatBody, instant_at, HoldsAt, HoldThroughout, IsTraceOf, IsProcessTrace, kinds_of, EquationSteps, Leads, HoldsBehind, holds_up_to, BreaksAt, without_prefix, IsBroken, IsVerdict, Verdict, Accepted, Broken, all_front, zip_back, zip_left}
+use Rattle.sig_judge.proofs.ZipLemmas.{Splits, zip_split, zip_map_left, zip_length, all_at, all_map}
 
 -- laws of process traces
 abbrev pub Hold : Type 0

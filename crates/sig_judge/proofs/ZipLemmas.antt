@@ -1,5 +1,5 @@
 -- Lists whose elements are related one by one.
-use Rattle.sig_judge.proofs.Common.{◌≡◌, ◌<◌, ◌+◌, ◌++◌, ◌⊎◌, ℕ, zero, suc, Bool, true, false, List, [], ◌∷◌, length, map, take, get_or, Option, None, Some, refl, sym, ap, subst, ◌∙◌, arith, inl, inr, AllByRecursion, AllZip, set, get_or-map, take_more, take_more_set, map-append, length-map, length-take-le, get_or-take, Instant, FlatExpression, HasPresence, Agree}
+use Rattle.sig_judge.proofs.Common.{◌≡◌, ◌<◌, ◌+◌, ◌++◌, ◌⊎◌, ℕ, zero, suc, Bool, true, false, List, [], ◌∷◌, length, map, take, get_or, Option, None, Some, refl, sym, ap, subst, ◌∙◌, arith, inl, inr, AllByRecursion, AllZip, set, get_or-map, take_more, take_more_set, map-append, length-map, length-take-le, get_or-take, Instant, FlatExpression, HasPresence, Agree, zip_same}
 
 pub zip_append : {A B : Type 0} (R : A → B → Type 0) → (xs : List A) (ys : List B) (x : A) (y : B) → AllZip R xs ys → R x y → AllZip R (xs ++ x ∷ []) (ys ++ y ∷ [])
 zip_append R [] [] x y h r = (r, tt)
@@ -12,12 +12,6 @@ zip_at R [] ys h i d lt = absurd (omega arith)
 zip_at R (x ∷ xs) [] h i d lt = absurd h
 zip_at R (x ∷ xs) (y ∷ ys) h zero d lt = (y, h.0)
 zip_at R (x ∷ xs) (y ∷ ys) h (suc i) d lt = zip_at R xs ys h.1 i d (omega arith)
-
-pub zip_same : {A B : Type 0} (R S : A → B → Type 0) → ((a : A) (b : B) → R a b → S a b) → (xs : List A) (ys : List B) → AllZip R xs ys → AllZip S xs ys
-zip_same R S f [] [] h = tt
-zip_same R S f [] (y ∷ ys) h = absurd h
-zip_same R S f (x ∷ xs) [] h = absurd h
-zip_same R S f (x ∷ xs) (y ∷ ys) h = (f x y h.0, zip_same R S f xs ys h.1)
 
 -- where the second list is split, so is the first
 pub record Splits {A B : Type 0} (R : A → B → Type 0) (xs : List A) (front : List B) (y : B) : Type 0 where
@@ -50,10 +44,6 @@ all_at P (z ∷ front) x back h = all_at P front x back h.1
 pub all_map : {A B : Type 0} (f : A → B) (P : B → Type 0) (Q : A → Type 0) → ((a : A) → P (f a) → Q a) → (xs : List A) → AllByRecursion P (map f xs) → AllByRecursion Q xs
 all_map f P Q g [] h = tt
 all_map f P Q g (x ∷ xs) h = (g x h.0, all_map f P Q g xs h.1)
-
-pub all_front : {A : Type 0} (P : A → Type 0) → (front back : List A) → AllByRecursion P (front ++ back) → AllByRecursion P front
-all_front P [] back h = tt
-all_front P (x ∷ front) back h = (h.0, all_front P front back h.1)
 
 -- an operand has the presence of those before
 abbrev pub AgreesWith : Instant → Option Bool → FlatExpression → FlatExpression → Type 0
@@ -100,16 +90,6 @@ two_agree now es i j d p q lt below first second others h =
     let a = zip_at (HasPresence now r.0) es others r.1 i d lt in
     let b = zip_at (HasPresence now r.0) es others r.1 j d below in
     sym (first r.0 a.0 a.1) ∙ second r.0 b.0 b.1
-
-pub zip_left : {A B : Type 0} (P : A → Type 0) (R : A → B → Type 0) → ((a : A) (b : B) → R a b → P a) → (xs : List A) (ys : List B) → AllZip R xs ys → AllByRecursion P xs
-zip_left P R f [] ys h = tt
-zip_left P R f (x ∷ xs) [] h = absurd h
-zip_left P R f (x ∷ xs) (y ∷ ys) h = (f x y h.0, zip_left P R f xs ys h.1)
-
-pub zip_back : {A B : Type 0} (P : A → Type 0) (Q : B → Type 0) (R : A → B → Type 0) → ((a : A) (b : B) → R a b → Q b → P a) → (xs : List A) (ys : List B) → AllZip R xs ys → AllByRecursion Q ys → AllByRecursion P xs
-zip_back P Q R f [] ys h all = tt
-zip_back P Q R f (x ∷ xs) [] h all = absurd h
-zip_back P Q R f (x ∷ xs) (y ∷ ys) h all = (f x y h.0 all.0, zip_back P Q R f xs ys h.1 all.1)
 
 pub zip_length : {A B : Type 0} (R : A → B → Type 0) → (xs : List A) (ys : List B) → AllZip R xs ys → length xs ≡ length ys
 zip_length R [] [] h = refl

@@ -1,6 +1,7 @@
 -- What the proofs of this crate cite of std, of the crates below and of its own specs, passed on from one place.
 pub use Rattle.std.proofs.Common.{IfSome, List, Option, Some, ap, append_assoc, arith, inl, inr, length, refl, string_bytes, subst, sym, ℕ, ⊎_elim, ◌↔◌, ◌∙◌, ◌≡◌, ◌≢◌, ◌≤◌, ◌⊎◌}
 pub use Rattle.std.proofs.lemmas.Option.{IfSome_then}
+pub use Rattle.std.proofs.lemmas.Result.{IfErr-weaker}
 pub use Rattle.sig_judge.specs.declared.trace_answer.TraceAnswer.{TraceAnswer}
 pub use Rattle.sig_judge.specs.declared.trace_answer.TraceAnswer.TheVariants.{OutOfMemory}
 pub use Rattle.sig_judge.specs.declared.verdict.Verdict.{Verdict}
@@ -16,6 +17,6 @@ pub use Rattle.sig_outcome.specs.declared.refusal.Refusal.{Refusal}
 pub use Rattle.sig_outcome.specs.declared.refusal.Refusal.TheVariants.{Budget, Data, LongFile, LongImage, LongProgram, Missing, Program, ReadFault, TooManyItems}
 pub use Rattle.sig_outcome.proofs.Common.{Contents, Good, HasCount, IsDone, IsOfData, IsOwn, OneAtMost, Outcome, Reaches, Stops, long_file, long_program, name_where_there, outcome_of, status_of}
 pub use Rattle.sig_outcome.proofs.PerformedCalls.{performs_outcome, performs_refusal}
-pub use Rattle.sig_outcome.proofs.Refused.{later_count, later_own, of_more_data, on_err, refused_data, refused_program, told_both}
+pub use Rattle.sig_outcome.proofs.Refused.{later_count, later_own, of_more_data, refused_data, refused_program, told_both}
 pub use Rattle.sig_outcome.proofs.Stages.{at_file_ends, one_at_data, one_at_program}
 pub use Rattle.sig_judge_command.specs.Judging.{AtFlat, AtTrace, FindsFlat, FindsTrace, IsAboutFlat, IsAboutJudge, IsAboutTrace, IsJudgeStatus, JudgeComesTo, JudgesTo, RefusesFlat, RefusesTrace, bad_trace, judged, judging, verdict_status}

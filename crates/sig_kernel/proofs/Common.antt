@@ -1,7 +1,7 @@
 -- What the proofs of this crate cite of std, of the crates below and of its own specs, passed on from one place.
 pub use Rattle.std.proofs.Common.{Bool, Contains, IsTrue, List, None, Option, Some, [], ap, append-nil, append_assoc, arith, bytes_eq, cond, count_by, drop, false, get_or, inl, inr, int_eq, le-ltb, length, lt-ltb, map, nat_lt, not, option_to_list, pos, refl, slice_get, slice_index_or, subst, suc, sym, take, true, zero, ℕ, ℤ, ◌&&◌, ◌++◌, ◌<◌, ◌||◌, ◌↔◌, ◌∙◌, ◌∷◌, ◌≡◌, ◌≤◌, ◌⊎◌}
 pub use Rattle.std.proofs.Math.Bool.{and-false}
-pub use Rattle.std.proofs.lemmas.Bool.{false≢true}
+pub use Rattle.std.proofs.lemmas.Bool.{and_parts, false≢true}
 pub use Rattle.std.proofs.lemmas.Bool.Decides.{Decides-int_eq}
 pub use Rattle.std.proofs.lemmas.List.{get_or_default}
 pub use Rattle.std.proofs.lemmas.List.Sums.{AllPass-from_list_all, list_all-from_AllPass}
@@ -9,6 +9,7 @@ pub use Rattle.std.proofs.lemmas.Map.Keys.{IsDistinct-cons, IsDistinct-head, IsD
 pub use Rattle.std.specs.List.{AllByRecursion, AllPass, list_all, list_any}
 unfoldable pub use Rattle.std.specs.List.{IsDistinct}
 pub use Rattle.std.specs.Prelude.{⊤}
+pub use Rattle.sig_lists.proofs.Each.{at_element}
 pub use Rattle.sig_base.specs.Functions.{Function, Gives}
 pub use Rattle.sig_base.specs.Traces.{AreOfKinds, Bounded, Instant, IsInteger, IsOfKind, IsPrefixOf, IsValue, Range, Seen, Trace, Unbounded, flow_of, has_64_bits, is_silent, reduce, seen_at}
 pub use Rattle.sig_base.specs.declared.ids.Kind.{Kind}

@@ -1,14 +1,6 @@
 -- Lemmas on the flow of a delay.
-use Rattle.sig_kernel.proofs.Common.{◌≡◌, ◌++◌, ℕ, ℤ, List, [], ◌∷◌, length, take, get_or, refl, ap, subst, ◌∙◌, arith, ◌<◌, None, Some, option_to_list, Contains, suc, zero, AllByRecursion, append-nil, Trace, Instant, Seen, Range, seen_at, flow_of, SigId, Span, flow_append, last_of, remembered, where_present, IsTraceIn, Meets, Equation, Delay, Kernel}
+use Rattle.sig_kernel.proofs.Common.{◌≡◌, ◌++◌, ℕ, ℤ, List, [], ◌∷◌, length, take, refl, ap, ◌∙◌, None, Some, option_to_list, Contains, append-nil, Trace, Instant, Seen, Range, seen_at, flow_of, SigId, Span, flow_append, last_of, remembered, where_present, IsTraceIn, Meets, Equation, Delay, Kernel, at_element}
 use Rattle.sig_kernel.proofs.TraceLemmas.{Runs, runs_from_trace}
-
--- what holds of all elements holds of one
-pub at_element : {X : Type 0} (P : X → Type 0) (xs : List X) (x : X) → Contains xs x → AllByRecursion P xs → P x
-at_element P xs x there all = subst P there.2 (at_index P xs there.0 x there.1 all) where
-  at_index : {X : Type 0} (P : X → Type 0) (xs : List X) (k : ℕ) (d : X) → k < length xs → AllByRecursion P xs → P (get_or xs k d)
-  at_index P [] k d lt all = absurd (omega (arith, lt))
-  at_index P (x ∷ xs) zero d lt all = all.0
-  at_index P (x ∷ xs) (suc k) d lt all = at_index P xs k d (omega (arith, lt)) all.1
 
 last_more : (initial : ℤ) (values : List ℤ) (v : ℤ) → last_of initial (values ++ v ∷ []) ≡ v
 last_more initial [] v = refl

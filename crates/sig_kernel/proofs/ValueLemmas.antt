@@ -1,7 +1,6 @@
 -- Lemmas on constants and values of flows: they are values of their kinds.
-use Rattle.sig_kernel.proofs.Common.{◌≡◌, ◌⊎◌, inl, inr, ◌<◌, ℕ, zero, suc, ℤ, pos, Bool, true, false, ◌&&◌, ◌||◌, ◌++◌, List, [], ◌∷◌, length, map, refl, sym, ap, ◌∙◌, subst, arith, Option, None, Some, Contains, option_to_list, slice_get, slice_index_or, AllByRecursion, list_all, int_eq, false≢true, AllPass-from_list_all, list_all-from_AllPass, Decides-int_eq, fits_by_test, Bounded, Unbounded, Range, Trace, Instant, Seen, IsInteger, IsOfKind, IsValue, AreOfKinds, flow_of, has_64_bits, seen_at, SigId, Span, Kind, Integer, Boolean, Signal, IsTraceIn, last_of, remembered, Row, constant_is, form_fits, handed_on_where, is_kind, keeps_to, keeps_to_one, kept, kind_at, kind_fits, kind_of, operand_is, operands_are, operands_of, rows_of, target_fits, AreFlowsFor, AreWellMade, inputs_of, value_is, Equation, Form, Fun, Delay, When, WhenConst, Default, Sync, Event as EventOf, Operand, Sig, Const, Sort, AnInteger, Truth, AnEvent, Any, Kernel}
+use Rattle.sig_kernel.proofs.Common.{◌≡◌, ◌⊎◌, inl, inr, ◌<◌, ℕ, zero, suc, ℤ, pos, Bool, true, false, ◌&&◌, ◌||◌, ◌++◌, List, [], ◌∷◌, length, map, refl, sym, ap, ◌∙◌, subst, arith, Option, None, Some, Contains, option_to_list, slice_get, slice_index_or, AllByRecursion, list_all, int_eq, false≢true, AllPass-from_list_all, list_all-from_AllPass, Decides-int_eq, fits_by_test, Bounded, Unbounded, Range, Trace, Instant, Seen, IsInteger, IsOfKind, IsValue, AreOfKinds, flow_of, has_64_bits, seen_at, SigId, Span, Kind, Integer, Boolean, Signal, IsTraceIn, last_of, remembered, Row, constant_is, form_fits, handed_on_where, is_kind, keeps_to, keeps_to_one, kept, kind_at, kind_fits, kind_of, operand_is, operands_are, operands_of, rows_of, target_fits, AreFlowsFor, AreWellMade, inputs_of, value_is, Equation, Form, Fun, Delay, When, WhenConst, Default, Sync, Event as EventOf, Operand, Sig, Const, Sort, AnInteger, Truth, AnEvent, Any, Kernel, and_parts, at_element}
 use Rattle.sig_base.specs.declared.ids.Kind.TheVariants.{Event}
-use Rattle.sig_kernel.proofs.DelayLemmas.{at_element}
 use Rattle.sig_kernel.proofs.TraceLemmas.{Runs, runs_from_trace}
 
 same_number : (v w : ℤ) (b : Bool) → int_eq v w ≡ b → b ≡ true → v ≡ w
@@ -23,11 +22,6 @@ is_value_of Boolean v (inl e) = rw e refl
 is_value_of Boolean v (inr e) = rw e refl
 is_value_of Event v e = rw e refl
 
--- both parts of a test
-both : (a b : Bool) → a && b ≡ true → (a ≡ true) × (b ≡ true)
-both true b given = (refl, given)
-both false b given = absurd (false≢true given)
-
 either : (a b : Bool) → a || b ≡ true → (a ≡ true) ⊎ (b ≡ true)
 either true b given = inl refl
 either false b given = inr given
@@ -35,7 +29,7 @@ either false b given = inr given
 values_of : (kind : Kind) (values : List ℤ) → list_all (value_is kind) values ≡ true → AllByRecursion (IsValue Bounded kind) values
 values_of kind [] all = tt
 values_of kind (v ∷ values) all =
-    let parts = both (value_is kind v) (list_all (value_is kind) values) all in (value_of kind v parts.0, values_of kind values parts.1)
+    let parts = and_parts (value_is kind v) (list_all (value_is kind) values) all in (value_of kind v parts.0, values_of kind values parts.1)
 
 are_values : (kind : Kind) (values : List ℤ) → AllByRecursion (IsValue Bounded kind) values → list_all (value_is kind) values ≡ true
 are_values kind [] all = refl
@@ -82,7 +76,7 @@ all_few : (signals : List Signal) (operands : List Operand) (sorts : List Sort) 
 all_few signals [] sorts are = tt
 all_few signals (operand ∷ operands) [] are = absurd (false≢true are)
 all_few signals (operand ∷ operands) (sort ∷ sorts) are =
-    let parts = both (operand_is signals operand sort) (operands_are signals operands sorts) are in
+    let parts = and_parts (operand_is signals operand sort) (operands_are signals operands sorts) are in
     (one_few signals operand sort parts.0, all_few signals operands sorts parts.1)
 
 -- the row that is kept to
@@ -90,7 +84,7 @@ row_few : (signals : List Signal) (kind : Kind) (operands : List Operand) (rows 
 row_few signals kind operands [] keeps = absurd (false≢true keeps)
 row_few signals kind operands (r ∷ rows) keeps = by (λ others. row_few signals kind operands rows others) (either (keeps_to signals kind operands r) (keeps_to_one signals kind operands rows) keeps) where
   by : (keeps_to_one signals kind operands rows ≡ true → AllByRecursion HasFew operands) → (keeps_to signals kind operands r ≡ true) ⊎ (keeps_to_one signals kind operands rows ≡ true) → AllByRecursion HasFew operands
-  by rest (inl one) = all_few signals operands r.operands (both (is_kind kind r.result) (operands_are signals operands r.operands) one).1
+  by rest (inl one) = all_few signals operands r.operands (and_parts (is_kind kind r.result) (operands_are signals operands r.operands) one).1
   by rest (inr others) = rest others
 
 of_target : (signals : List Signal) (kind : Option Kind) (form : Form) → target_fits signals kind form ≡ true → AllByRecursion HasFew (operands_of form)

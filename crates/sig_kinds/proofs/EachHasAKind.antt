@@ -1,5 +1,5 @@
 -- In a well-formed program each expression has a kind.
-use Rattle.sig_kinds.proofs.Common.{◌≡◌, ◌++◌, List, [], ◌∷◌, refl, ap, sym, ◌∙◌, subst, Bool, true, false, cond, Option, None, Some, option_map, map, append_assoc, append-nil, map-append, map-map, AllByRecursion, flat_map, Kind, Integer, Boolean, Name, Constant, Expression, Named, Number, Truth, Unary, Binary, Delay, Cell, Computed, Called, Equations, Together, Defines, Equal, ProcessModel, Declaration, declarations, declaration_of, process_of, outputs_of, locals_of, inputs_of, params_of, names_of_expression, names_of_constant, names_of_init, Use, OfProcess, signals_used, uses_of_inits, uses_of_equation, uses_of, equations_of_model, all_processes, behind, Candidate, candidate, Clash, NoneHolds, each, FormRow, accepts, unary_row, binary_row, delay_row, cell_row, unary_kind, binary_kind, kind_of_result, stored, kind_of, unknown_use, unknown_names, RefusesOne, RefusesTwo, clash_of_init, clash_of_left, clashes_of_results, clash_of_arguments, clashes_of_constants, clashes_of_expression, clashes_of_call, clashes_of_equation, clashes_of_inits, clashes, declared_twice, inputs_defined, defined_twice, undefined, IsWellFormed, rules_on, nodes, expressions_of, kinds_in, kinds_of_model, kinds_of_program, AreKinds, known}
+use Rattle.sig_kinds.proofs.Common.{◌≡◌, ◌++◌, List, [], ◌∷◌, refl, ap, sym, ◌∙◌, subst, Bool, true, false, cond, Option, None, Some, option_map, map, append_assoc, append-nil, map-append, map-map, AllByRecursion, flat_map, Kind, Integer, Boolean, Name, Constant, Expression, Named, Number, Truth, Unary, Binary, Delay, Cell, Computed, Called, Equations, Together, Defines, Equal, ProcessModel, Declaration, declarations, declaration_of, process_of, outputs_of, locals_of, inputs_of, params_of, names_of_expression, names_of_constant, names_of_init, Use, OfProcess, signals_used, uses_of_inits, uses_of_equation, uses_of, equations_of_model, all_processes, behind, Candidate, candidate, Clash, NoneHolds, each, FormRow, accepts, unary_row, binary_row, delay_row, cell_row, unary_kind, binary_kind, kind_of_result, stored, kind_of, unknown_use, unknown_names, RefusesOne, RefusesTwo, clash_of_init, clash_of_left, clashes_of_results, clash_of_arguments, clashes_of_constants, clashes_of_expression, clashes_of_call, clashes_of_equation, clashes_of_inits, clashes, declared_twice, inputs_defined, defined_twice, undefined, IsWellFormed, rules_on, nodes, expressions_of, kinds_in, kinds_of_model, kinds_of_program, AreKinds, known, all_back, all_both, all_front}
 
 none_left : (ps qs : List Candidate) → NoneHolds (ps ++ qs) → NoneHolds ps
 none_left [] qs n = tt
@@ -8,18 +8,6 @@ none_left (c ∷ cs) qs n = (n.0, none_left cs qs n.1)
 none_right : (ps qs : List Candidate) → NoneHolds (ps ++ qs) → NoneHolds qs
 none_right [] qs n = n
 none_right (c ∷ cs) qs n = none_right cs qs n.1
-
-all_left : {A : Type 0} (P : A → Type 0) (xs ys : List A) → AllByRecursion P (xs ++ ys) → AllByRecursion P xs
-all_left P [] ys h = tt
-all_left P (x ∷ xs) ys h = (h.0, all_left P xs ys h.1)
-
-all_right : {A : Type 0} (P : A → Type 0) (xs ys : List A) → AllByRecursion P (xs ++ ys) → AllByRecursion P ys
-all_right P [] ys h = h
-all_right P (x ∷ xs) ys h = all_right P xs ys h.1
-
-all_both : {A : Type 0} (P : A → Type 0) (xs ys : List A) → AllByRecursion P xs → AllByRecursion P ys → AllByRecursion P (xs ++ ys)
-all_both P [] ys h k = k
-all_both P (x ∷ xs) ys h k = (h.0, all_both P xs ys h.1 k)
 
 -- a name that is declared, and an expression that has a kind
 abbrev IsKnown : List Declaration → Name → Type 0
@@ -63,29 +51,29 @@ typed_expression scope (Unary op operand at) h n =
     let k : HasKind scope (Unary op operand at) = unary_known (unary_row op) (kind_of scope operand) inside.0.0 inside.0.1 n.0 in (k, (k, inside.1))
 typed_expression scope (Binary op left right at) h n =
     let own : Candidate = candidate (Clash at) (RefusesTwo (binary_row op) (kind_of scope left) (kind_of scope right)) in
-    let first = typed_expression scope left (all_left (IsKnown scope) (names_of_expression left) (names_of_expression right) h) (none_left (clashes_of_expression scope left) (own ∷ clashes_of_expression scope right) n) in
+    let first = typed_expression scope left (all_front (IsKnown scope) (names_of_expression left) (names_of_expression right) h) (none_left (clashes_of_expression scope left) (own ∷ clashes_of_expression scope right) n) in
     let rest : NoneHolds (own ∷ clashes_of_expression scope right) = none_right (clashes_of_expression scope left) (own ∷ clashes_of_expression scope right) n in
-    let second = typed_expression scope right (all_right (IsKnown scope) (names_of_expression left) (names_of_expression right) h) rest.1 in
+    let second = typed_expression scope right (all_back (IsKnown scope) (names_of_expression left) (names_of_expression right) h) rest.1 in
     let k : HasKind scope (Binary op left right at) = binary_known (binary_row op) (kind_of scope left) (kind_of scope right) first.0.0 second.0.0 first.0.1 second.0.1 rest.0 in
     (k, (k, all_both (HasKind scope) (nodes left) (nodes right) first.1 second.1))
 typed_expression scope (Delay operand init at) h n =
-    let inside = typed_expression scope operand (all_left (IsKnown scope) (names_of_expression operand) (names_of_init init) h) (none_left (clashes_of_expression scope operand) (clash_of_init scope (kind_of scope operand) init) n) in
+    let inside = typed_expression scope operand (all_front (IsKnown scope) (names_of_expression operand) (names_of_init init) h) (none_left (clashes_of_expression scope operand) (clash_of_init scope (kind_of scope operand) init) n) in
     let k : HasKind scope (Delay operand init at) = delay_known (kind_of scope operand) inside.0.0 inside.0.1 in (k, (k, inside.1))
 typed_expression scope (Cell operand held init at) h n =
     let own : Candidate = candidate (Clash at) (RefusesTwo cell_row (kind_of scope operand) (kind_of scope held)) in
     let behind : List Candidate = clashes_of_expression scope held ++ clash_of_init scope (kind_of scope operand) (Some init) in
-    let names : AllByRecursion (IsKnown scope) (names_of_expression held ++ names_of_constant init) = all_right (IsKnown scope) (names_of_expression operand) (names_of_expression held ++ names_of_constant init) h in
-    let first = typed_expression scope operand (all_left (IsKnown scope) (names_of_expression operand) (names_of_expression held ++ names_of_constant init) h) (none_left (clashes_of_expression scope operand) (own ∷ behind) n) in
+    let names : AllByRecursion (IsKnown scope) (names_of_expression held ++ names_of_constant init) = all_back (IsKnown scope) (names_of_expression operand) (names_of_expression held ++ names_of_constant init) h in
+    let first = typed_expression scope operand (all_front (IsKnown scope) (names_of_expression operand) (names_of_expression held ++ names_of_constant init) h) (none_left (clashes_of_expression scope operand) (own ∷ behind) n) in
     let rest : NoneHolds (own ∷ behind) = none_right (clashes_of_expression scope operand) (own ∷ behind) n in
-    let second = typed_expression scope held (all_left (IsKnown scope) (names_of_expression held) (names_of_constant init) names) (none_left (clashes_of_expression scope held) (clash_of_init scope (kind_of scope operand) (Some init)) rest.1) in
+    let second = typed_expression scope held (all_front (IsKnown scope) (names_of_expression held) (names_of_constant init) names) (none_left (clashes_of_expression scope held) (clash_of_init scope (kind_of scope operand) (Some init)) rest.1) in
     let k : HasKind scope (Cell operand held init at) = binary_known cell_row (kind_of scope operand) (kind_of scope held) first.0.0 second.0.0 first.0.1 second.0.1 rest.0 in
     (k, (k, all_both (HasKind scope) (nodes operand) (nodes held) first.1 second.1))
 
 typed_expressions : (scope : List Declaration) (es : List Expression) → AllByRecursion (IsKnown scope) (flat_map names_of_expression es) → NoneHolds (each (clashes_of_expression scope) es) → AllByRecursion (HasKind scope) (flat_map nodes es)
 typed_expressions scope [] h n = tt
 typed_expressions scope (e ∷ es) h n =
-    all_both (HasKind scope) (nodes e) (flat_map nodes es) (typed_expression scope e (all_left (IsKnown scope) (names_of_expression e) (flat_map names_of_expression es) h) (none_left (clashes_of_expression scope e) (each (clashes_of_expression scope) es) n)).1
-    (typed_expressions scope es (all_right (IsKnown scope) (names_of_expression e) (flat_map names_of_expression es) h) (none_right (clashes_of_expression scope e) (each (clashes_of_expression scope) es) n))
+    all_both (HasKind scope) (nodes e) (flat_map nodes es) (typed_expression scope e (all_front (IsKnown scope) (names_of_expression e) (flat_map names_of_expression es) h) (none_left (clashes_of_expression scope e) (each (clashes_of_expression scope) es) n)).1
+    (typed_expressions scope es (all_back (IsKnown scope) (names_of_expression e) (flat_map names_of_expression es) h) (none_right (clashes_of_expression scope e) (each (clashes_of_expression scope) es) n))
 
 -- a use that is not unknown
 abbrev IsFound : List ProcessModel → List Declaration → Use → Type 0
@@ -114,14 +102,14 @@ typed_equation : (all : List ProcessModel) (scope : List Declaration) (eq : Equa
 typed_equation all scope (Together bodies) h n = tt
 typed_equation all scope (Defines names (Computed e)) h n =
     let lefts : List Candidate = each (λ name. clash_of_left scope (kind_of scope e) name ∷ []) names in
-    let inside = typed_expression scope e (signals_known all scope (names_of_expression e) (all_right (IsFound all scope) (signals_used names) (signals_used (names_of_expression e)) h)) (none_right lefts (clashes_of_expression scope e) n) in
+    let inside = typed_expression scope e (signals_known all scope (names_of_expression e) (all_back (IsFound all scope) (signals_used names) (signals_used (names_of_expression e)) h)) (none_right lefts (clashes_of_expression scope e) n) in
     all_both (HasKind scope) (nodes e) [] inside.1 tt
 typed_equation all scope (Defines names (Called name constants arguments)) h n =
     let values : List Name = flat_map names_of_constant constants in
     let inputs : List Name = flat_map names_of_expression arguments in
-    let rest : AllByRecursion (IsFound all scope) (OfProcess name ∷ signals_used (values ++ inputs)) = all_right (IsFound all scope) (signals_used names) (OfProcess name ∷ signals_used (values ++ inputs)) h in
+    let rest : AllByRecursion (IsFound all scope) (OfProcess name ∷ signals_used (values ++ inputs)) = all_back (IsFound all scope) (signals_used names) (OfProcess name ∷ signals_used (values ++ inputs)) h in
     let used : AllByRecursion (IsKnown scope) (values ++ inputs) = signals_known all scope (values ++ inputs) rest.1 in
-    typed_call all scope names name constants arguments (process_of all name.text) rest.0 (all_right (IsKnown scope) values inputs used) n
+    typed_call all scope names name constants arguments (process_of all name.text) rest.0 (all_back (IsKnown scope) values inputs used) n
 typed_equation all scope (Equal operands) h n = typed_expressions scope operands (signals_known all scope (flat_map names_of_expression operands) h) n
 
 flat_nodes : (es fs : List Expression) → flat_map nodes (es ++ fs) ≡ flat_map nodes es ++ flat_map nodes fs
@@ -132,8 +120,8 @@ typed_equations : (all : List ProcessModel) (scope : List Declaration) (eqs : Li
     → AllByRecursion (HasKind scope) (flat_map nodes (flat_map expressions_of eqs))
 typed_equations all scope [] h n = tt
 typed_equations all scope (eq ∷ eqs) h n =
-    let first = typed_equation all scope eq (all_left (IsFound all scope) (uses_of_equation eq) (flat_map uses_of_equation eqs) h) (none_left (clashes_of_equation all scope eq) (each (clashes_of_equation all scope) eqs) n) in
-    let rest = typed_equations all scope eqs (all_right (IsFound all scope) (uses_of_equation eq) (flat_map uses_of_equation eqs) h) (none_right (clashes_of_equation all scope eq) (each (clashes_of_equation all scope) eqs) n) in
+    let first = typed_equation all scope eq (all_front (IsFound all scope) (uses_of_equation eq) (flat_map uses_of_equation eqs) h) (none_left (clashes_of_equation all scope eq) (each (clashes_of_equation all scope) eqs) n) in
+    let rest = typed_equations all scope eqs (all_back (IsFound all scope) (uses_of_equation eq) (flat_map uses_of_equation eqs) h) (none_right (clashes_of_equation all scope eq) (each (clashes_of_equation all scope) eqs) n) in
     let P : List Expression → Type 0 = λ l. AllByRecursion (HasKind scope) l in
     subst P (sym (flat_nodes (expressions_of eq) (flat_map expressions_of eqs))) (all_both (HasKind scope) (flat_map nodes (expressions_of eq)) (flat_map nodes (flat_map expressions_of eqs)) first rest)
 
@@ -169,7 +157,7 @@ typed_process all before p n =
     let scope : List Declaration = declarations p in
     let eqs : List Equations = equations_of_model p in
     let found : AllByRecursion (IsFound all scope) (uses_of p) = uses_found all scope (uses_of p) (none_left (unknown_names all p) _ n) in
-    let used : AllByRecursion (IsFound all scope) (flat_map uses_of_equation eqs) = all_left (IsFound all scope) (flat_map uses_of_equation eqs) (uses_of_inits (locals_of p)) (all_right (IsFound all scope) (uses_of_inits (outputs_of p)) (flat_map uses_of_equation eqs ++ uses_of_inits (locals_of p)) found) in
+    let used : AllByRecursion (IsFound all scope) (flat_map uses_of_equation eqs) = all_front (IsFound all scope) (flat_map uses_of_equation eqs) (uses_of_inits (locals_of p)) (all_back (IsFound all scope) (uses_of_inits (outputs_of p)) (flat_map uses_of_equation eqs ++ uses_of_inits (locals_of p)) found) in
     let later = none_right (undefined p) _ (none_right (defined_twice p) _ (none_right (inputs_defined p) _ (none_right (declared_twice before p) _ (none_right (unknown_names all p) _ n)))) in
     let kinds : NoneHolds (clashes all p) = none_left (clashes all p) _ later in
     let own : NoneHolds (each (clashes_of_equation all scope) eqs) = none_left (each (clashes_of_equation all scope) eqs) (clashes_of_inits scope (locals_of p)) (none_right (clashes_of_inits scope (outputs_of p)) (each (clashes_of_equation all scope) eqs ++ clashes_of_inits scope (locals_of p)) kinds) in

@@ -4,5 +4,5 @@ pub mod Refusals
 pub mod EachHasAKind
 pub use Common.*
 pub use Backwards.*
-pub use Refusals.*
 pub use EachHasAKind.*
+pub use Refusals.*

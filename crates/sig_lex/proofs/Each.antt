@@ -1,5 +1,5 @@
 -- What is true of each token of a text.
-use Rattle.sig_lex.proofs.Common.{◌≡◌, ℕ, zero, suc, ◌+◌, ◌<◌, ◌≤◌, List, [], ◌∷◌, ◌++◌, length, drop, get_or, Option, None, Some, refl, sym, ap, ◌∙◌, subst, ⊎_elim, arith, length-append, ◌≢◌, ◌↔◌, All, option_to_list, option_map, AllByRecursion, cases_lt, get_or_at, get_or_append_left, map-append, Token, TokenKind, Last, Lexeme, lexeme_of, lexemes, text_of, the_end, Spells, IsSpelled, StandsIn, InOrder, Piece, IsPiece, Stand, AreTokens, tokens_among, token_at}
+use Rattle.sig_lex.proofs.Common.{◌≡◌, ℕ, zero, suc, ◌+◌, ◌<◌, ◌≤◌, List, [], ◌∷◌, ◌++◌, length, drop, get_or, Option, None, Some, refl, sym, ap, ◌∙◌, subst, ⊎_elim, arith, length-append, ◌≢◌, ◌↔◌, All, option_to_list, option_map, AllByRecursion, cases_lt, get_or_at, get_or_append_left, map-append, Token, TokenKind, Last, Lexeme, lexeme_of, lexemes, text_of, the_end, Spells, IsSpelled, StandsIn, InOrder, Piece, IsPiece, Stand, AreTokens, tokens_among, token_at, all_both}
 use Rattle.sig_lex.proofs.Fronts.{piece_there}
 use Rattle.sig_lex.proofs.SliceLemmas.{in_order, ends_once}
 use Rattle.sig_lex.proofs.SpacedWords.{lexeme_at, last_lexeme}
@@ -9,10 +9,6 @@ all_at : {X : Type 0} (P : X → Type 0) (xs : List X) → AllByRecursion P xs �
 all_at P [] all k d lt = absurd (omega arith)
 all_at P (x ∷ xs) (here, rest) zero d lt = here
 all_at P (x ∷ xs) (here, rest) (suc k) d lt = all_at P xs rest k d (omega arith)
-
-all_append : {X : Type 0} (P : X → Type 0) (xs ys : List X) → AllByRecursion P xs → AllByRecursion P ys → AllByRecursion P (xs ++ ys)
-all_append P [] ys first second = second
-all_append P (x ∷ xs) ys (here, rest) second = (here, all_append P xs ys rest second)
 
 module _ (text : List ℕ) where
   order_within : (i : ℕ) (tokens : List Token) → InOrder text i tokens → i ≤ length text
@@ -59,7 +55,7 @@ module _ (text : List ℕ) where
     token_spelled =
         let end : Token = token_at text (length text) Last 0 in
         let others = but_last (tokens_among text 0 are.0) (spelled_among 0 (length text) are.0 are.1) in
-        all_at _ tokens (subst (AllByRecursion (λ t. t.kind ≢ Last → spells t)) (sym are.2) (all_append _ (tokens_among text 0 are.0) (end ∷ []) others ((λ not_last. absurd (not_last refl)), tt)))
+        all_at _ tokens (subst (AllByRecursion (λ t. t.kind ≢ Last → spells t)) (sym are.2) (all_both _ (tokens_among text 0 are.0) (end ∷ []) others ((λ not_last. absurd (not_last refl)), tt)))
 
     pub token_words : (words : List Lexeme) × (lexemes text tokens ≡ words ++ the_end ∷ []) × AllByRecursion IsSpelled words
     token_words =

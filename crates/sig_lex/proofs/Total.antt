@@ -1,26 +1,14 @@
 -- Each text has tokens or a first fault.
-use Rattle.sig_lex.proofs.Common.{◌≡◌, ℕ, zero, suc, ◌+◌, ◌-◌, ◌<◌, ◌≤◌, List, [], ◌∷◌, ◌++◌, Bool, true, false, length, take, drop, get_or, Option, None, Some, refl, sym, ◌∙◌, subst, ⊎_elim, inl, inr, arith, length-drop, ◌⊎◌, Contains, not, prefix_len, is_ascii_alphabetic, is_ascii_digit, digits_value, cases_lt, false≢true, prefix_len-le-length, Span, LexAnswer, BadByte, OpenComment, LongNumber, Token, TokenKind, Name, Word, Number, Label, Mark, Last, first, is_blank, is_name_byte, is_percent, is_quote, is_label_byte, place_after, words, marks, greatest_number, IsPiece, Piece, Stand, AreTokens, IsOther, BeginsWithFault, IsFirstFault, tokens_among, token_at}
-use Rattle.sig_lex.proofs.Fronts.{is_listed, is_listed_true, listed_true}
+use Rattle.sig_lex.proofs.Common.{◌≡◌, ℕ, zero, suc, ◌+◌, ◌-◌, ◌<◌, ◌≤◌, List, [], ◌∷◌, ◌++◌, true, false, length, take, drop, get_or, Option, None, Some, refl, subst, ⊎_elim, inl, inr, arith, length-drop, ◌⊎◌, Contains, not, prefix_len, is_ascii_alphabetic, is_ascii_digit, digits_value, cases_lt, prefix_len-le-length, Span, LexAnswer, BadByte, OpenComment, LongNumber, Token, TokenKind, Name, Word, Number, Label, Mark, Last, first, is_blank, is_name_byte, is_percent, is_quote, is_label_byte, place_after, words, marks, greatest_number, IsPiece, Piece, Stand, AreTokens, IsOther, BeginsWithFault, IsFirstFault, tokens_among, token_at, cases_Bool, contained_or_not}
 use Rattle.sig_lex.proofs.Marks.{two_bytes, one_byte, no_mark}
 use Rattle.sig_lex.proofs.SliceLemmas.{lexeme_some}
 use Rattle.sig_lex.proofs.SpellingLemmas.{lexeme_within}
-
-true_or_false : (b : Bool) → (b ≡ true) ⊎ (b ≡ false)
-true_or_false true = inl refl
-true_or_false false = inr refl
-
--- a table has some bytes or not
-listed_or_not : (table : List (List ℕ)) (bytes : List ℕ) → Contains table bytes ⊎ (Contains table bytes → ⊥)
-listed_or_not table bytes = ⊎_elim
-    (λ (yes : is_listed table bytes ≡ true). inl (is_listed_true table bytes yes))
-    (λ (not_there : is_listed table bytes ≡ false). inr (λ there. false≢true (sym not_there ∙ listed_true table bytes there)))
-    (true_or_false (is_listed table bytes))
 
 -- some bytes begin with a mark of k bytes or not
 mark_or_not : (bytes : List ℕ) (k : ℕ) → ((k ≤ length bytes) × Contains marks (take k bytes)) ⊎ (k ≤ length bytes → Contains marks (take k bytes) → ⊥)
 mark_or_not bytes k = ⊎_elim
     (λ (short : length bytes < k). inr (λ (within : k ≤ length bytes). absurd (omega arith)))
-    (λ (within : k ≤ length bytes). ⊎_elim (λ there. inl (within, there)) (λ not_there. inr (λ _. not_there)) (listed_or_not marks (take k bytes)))
+    (λ (within : k ≤ length bytes). ⊎_elim (λ there. inl (within, there)) (λ not_there. inr (λ _. not_there)) (contained_or_not marks (take k bytes)))
     (cases_lt (length bytes) k)
 
 module _ (bytes : List ℕ) (at : Span) where
@@ -44,7 +32,7 @@ module _ (bytes : List ℕ) (at : Span) where
       let n = prefix_len is_name_byte bytes in ⊎_elim
       (λ (word : Contains words (take n bytes)). token Word n (record { letter = letter; whole = refl }, word))
       (λ (no_word : Contains words (take n bytes) → ⊥). token Name n (record { letter = letter; whole = refl }, no_word))
-      (listed_or_not words (take n bytes))
+      (contained_or_not words (take n bytes))
 
   number : is_ascii_digit (first bytes) ≡ true → Begins
   number digit =
@@ -60,7 +48,7 @@ module _ (bytes : List ℕ) (at : Span) where
       let last : m + 1 ≡ m + 2 - 1 = omega arith in ⊎_elim
       (λ (closed : is_quote (get_or bytes (m + 1) 0) ≡ true). token Label (m + 2) (record { opened = opened; whole = refl; closed = subst (λ (k : ℕ). is_quote (get_or bytes k 0) ≡ true) last closed }))
       (λ (opens : is_quote (get_or bytes (m + 1) 0) ≡ false). inr (BadByte at, (refl, inr (record { opened = opened; not_closed = opens }))))
-      (true_or_false (is_quote (get_or bytes (m + 1) 0)))
+      (cases_Bool (is_quote (get_or bytes (m + 1) 0)))
 
   mark : IsOther bytes → Begins
   mark other = ⊎_elim
@@ -80,11 +68,11 @@ module _ (bytes : List ℕ) (at : Span) where
       (λ no_letter. ⊎_elim number
       (λ no_digit. ⊎_elim label
       (λ no_quote. mark (record { there = there; no_blank = no_blank; no_percent = no_percent; no_letter = no_letter; no_digit = no_digit; no_quote = no_quote }))
-      (true_or_false (is_quote (first bytes))))
-      (true_or_false (is_ascii_digit (first bytes))))
-      (true_or_false (is_ascii_alphabetic (first bytes))))
-      (true_or_false (is_percent (first bytes))))
-      (true_or_false (is_blank (first bytes)))
+      (cases_Bool (is_quote (first bytes))))
+      (cases_Bool (is_ascii_digit (first bytes))))
+      (cases_Bool (is_ascii_alphabetic (first bytes))))
+      (cases_Bool (is_percent (first bytes))))
+      (cases_Bool (is_blank (first bytes)))
 
 piece_some : (kind : Option TokenKind) (n : ℕ) (bytes : List ℕ) → 0 < length bytes → IsPiece kind bytes n → 0 < n
 piece_some None n bytes there piece = ⊎_elim (λ blank. omega (arith, blank.1)) (λ comment. omega (arith, comment.whole)) piece

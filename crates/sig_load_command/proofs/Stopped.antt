@@ -1,5 +1,5 @@
 -- The refusals of a load.
-use Rattle.sig_load_command.proofs.Common.{◌≡◌, ◌≤◌, ℕ, false, List, Option, None, length, inl, inr, refl, ap, sym, subst, arith, string_bytes, FLOW_BYTES, PROGRAM_BYTES, inputs_of, Kernel, flows, program, Contents, long_file, long_program, refused, HasCount, IsOfData, IsOfProgram, IsOwn, outcome_of, status_of, Refusal, Missing, ReadFault, LongProgram, Program, Budget, TooManyItems, LongFile, Data, LongImage, OutOfMemory, told, AreRefused, IsBeyondBound, LacksNodes, plan_line, HoldFew, HoldTooMany, RefusesFlows, flow_line, Settings, IsLoadStatus, IsShortProgram, LoadComesTo, IsAboutLoad, IsOfFlowsText, IsOfProgramText, flows_name, StopsLoad}
+use Rattle.sig_load_command.proofs.Common.{◌≡◌, ◌≤◌, ℕ, false, List, Option, None, length, inl, inr, refl, ap, sym, subst, arith, string_bytes, PROGRAM_BYTES, inputs_of, Kernel, flows, program, Contents, long_file, long_program, refused, HasCount, IsOfProgram, IsOwn, outcome_of, status_of, Refusal, Missing, ReadFault, LongProgram, Program, Budget, TooManyItems, LongFile, Data, LongImage, OutOfMemory, told, AreRefused, IsBeyondBound, LacksNodes, plan_line, HoldFew, HoldTooMany, flow_line, Settings, IsLoadStatus, IsShortProgram, LoadComesTo, IsAboutLoad, IsOfFlowsText, IsOfProgramText, flows_name, StopsLoad}
 
 -- a refusal of a load has a status of a load
 pub load_number : (r : Refusal) → IsAboutLoad r → IsLoadStatus (status_of r)
@@ -149,15 +149,3 @@ of_program bytes short (LongFile name) of = absurd of
 of_program bytes short (Data line) of = absurd of
 of_program bytes short LongImage of = absurd of
 of_program bytes short OutOfMemory of = tt
-
-pub of_flows : (kernel : Kernel) (bytes : List ℕ) → length bytes ≤ FLOW_BYTES → (r : Refusal) → IsOfData (λ line. RefusesFlows flows_name (inputs_of kernel) bytes line) r → IsOfFlowsText kernel bytes r
-of_flows kernel bytes short (Missing name) of = absurd of
-of_flows kernel bytes short (ReadFault name) of = absurd of
-of_flows kernel bytes short LongProgram of = absurd of
-of_flows kernel bytes short (Program line) of = absurd of
-of_flows kernel bytes short (Budget nodes) of = absurd of
-of_flows kernel bytes short TooManyItems of = absurd of
-of_flows kernel bytes short (LongFile name) of = absurd of
-of_flows kernel bytes short (Data line) of = (short, of)
-of_flows kernel bytes short LongImage of = absurd of
-of_flows kernel bytes short OutOfMemory of = tt

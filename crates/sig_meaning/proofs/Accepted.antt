@@ -1,5 +1,5 @@
 -- Accepted plans are compiled.
-use Rattle.sig_meaning.proofs.Common.{◌≡◌, ℕ, List, [], ◌∷◌, refl, sym, subst, ◌∙◌, get_or, Some, slice_get, zero, suc, get_at, get_within, Depends, Holds, test, Node, depends_agree, plan_operations, Operation, operation_in, operations_in, IsAccepted, PlanView, numbers_of, Op}
+use Rattle.sig_meaning.proofs.Common.{◌≡◌, ℕ, List, [], ◌∷◌, refl, sym, subst, ◌∙◌, get_or, Some, slice_get, zero, suc, Depends, Holds, test, Node, depends_agree, plan_operations, Operation, operation_in, operations_in, IsAccepted, PlanView, numbers_of, Op, slice_get-get_or, slice_get_within}
 use Rattle.sig_meaning.proofs.Agreement.{Compiled}
 
 made_of : (nodes : List Node) (ops : List Op) (number : ℕ) (p : Operation) → slice_get (operations_in nodes ops) number ≡ Some p
@@ -15,8 +15,8 @@ compiled plan accepted = record {
   ordered = accepted.order;
   agree = λ number p is truths others same.
       let from = made_of plan.store.nodes plan.ops number p is in
-      let lt = get_within plan.ops number from.0 from.1 in
-      let at : get_or plan.ops number from.0 ≡ from.0 = (let e : Some (get_or plan.ops number from.0) ≡ Some from.0 = sym (get_at plan.ops number from.0 lt) ∙ from.1 in cc) in
+      let lt = slice_get_within plan.ops number from.0 from.1 in
+      let at : get_or plan.ops number from.0 ≡ from.0 = (let e : Some (get_or plan.ops number from.0) ≡ Some from.0 = sym (slice_get-get_or plan.ops number from.0 lt) ∙ from.1 in cc) in
       let held : Holds plan.store.nodes from.0.guard = subst (λ (op : Op). Holds plan.store.nodes op.guard) at (accepted.operations.held number from.0 lt) in
       let agree : test plan.store.nodes from.0.guard truths ≡ test plan.store.nodes from.0.guard others =
       depends_agree plan.store accepted.store from.0.guard held truths others

@@ -1,7 +1,6 @@
 -- Two instants of an accepted kernel with the same memories and next values agree, place by place of the compiled order.
-use Rattle.sig_meaning.proofs.Common.{◌≡◌, ◌<◌, ◌≤◌, ◌⊎◌, inl, inr, ℕ, zero, suc, ℤ, Bool, true, false, List, [], ◌∷◌, length, map, refl, ap, sym, subst, ◌∙◌, arith, Contains, Option, None, Some, is_some, slice_get, slice_index, and_parts, get_or_default, length-map, All-contains, AreOfKinds, Instant, Range, Seen, Unbounded, seen_at, Kind, Integer, Boolean, SigId, Signal, abstraction_of, status_of, Allows, KeepsTo, AreInOrder, is_condition, is_free, signal_id, Reaction, Speaks, is_boolean_kind, is_present, status_at, abstract_presence, abstract_speaks, abstract_status, contains_at, get_within, Depends, truth_of, IsReaction, Memory, kind_at, kind_of, IsValid, Kernel, IsNext, Registers, is_true, truths_of, HasOperations, Operation, operations_of, IsCompiledOrder, Needs, Precedes, Writes, OpKind, Read, Compute, Left, Right, DelayRead, Store, present_written, guards_alone, needed_earlier, read_earlier, stands_somewhere}
+use Rattle.sig_meaning.proofs.Common.{◌≡◌, ◌<◌, ◌≤◌, ◌⊎◌, inl, inr, ℕ, zero, suc, ℤ, Bool, true, false, List, [], ◌∷◌, length, map, refl, ap, sym, subst, ◌∙◌, arith, Contains, Option, None, Some, is_some, slice_get, slice_index, and_parts, get_or_default, length-map, All-contains, AreOfKinds, Instant, Range, Seen, Unbounded, seen_at, Kind, Integer, Boolean, SigId, Signal, abstraction_of, status_of, Allows, KeepsTo, AreInOrder, is_condition, is_free, signal_id, Reaction, Speaks, is_boolean_kind, is_present, status_at, abstract_presence, abstract_speaks, abstract_status, Depends, truth_of, IsReaction, Memory, kind_at, kind_of, IsValid, Kernel, IsNext, Registers, is_true, truths_of, HasOperations, Operation, operations_of, IsCompiledOrder, Needs, Precedes, Writes, OpKind, Read, Compute, Left, Right, DelayRead, Store, present_written, guards_alone, needed_earlier, read_earlier, stands_somewhere, some_at, contains_at, slice_get_within, cases_eq}
 use Rattle.sig_base.specs.declared.ids.Kind.TheVariants.{Event}
-use Rattle.sig_meaning.proofs.Numbers.{same_or_not}
 use Rattle.sig_meaning.proofs.Values.{all_depend, all_seen, form_for, none_where, value, value_by}
 
 -- truths that agree on the variables on which a guard depends give it one value
@@ -20,11 +19,6 @@ pub truth_at : (conditions : List SigId) (registers : Registers) (v : ℕ) (c : 
 truth_at [] registers v c is = absurd (let e = is in cc)
 truth_at (d ∷ conditions) registers zero c is = let e : Some d ≡ Some c = is in let one : d ≡ c = cc in ap (λ (x : SigId). is_true (registers x.0)) one
 truth_at (d ∷ conditions) registers (suc v) c is = truth_at conditions registers v c is
-
-pub some_at : {A : Type 0} (xs : List A) (k : ℕ) → k < length xs → (x : A) × (slice_get xs k ≡ Some x)
-some_at {A} [] k lt = absurd (omega (arith, lt))
-some_at {A} (x ∷ xs) zero lt = (x, refl)
-some_at {A} (x ∷ xs) (suc k) lt = some_at xs k (omega (arith, lt))
 
 boolean_kind : (owner : Option Signal) → is_boolean_kind (kind_of owner) ≡ true → (signal : Signal) × (owner ≡ Some signal) × (signal.kind ≡ Boolean)
 boolean_kind None is = absurd (let e : false ≡ true = is in cc)
@@ -146,7 +140,7 @@ module _ (kernel : Kernel) (conditions : List SigId) (operations : List Operatio
       let there = some_at conditions v (guards_alone kernel c.valid conditions operations c.has (slice_index order k) q at v depends) in
       let signal = condition_signal kernel conditions c.has.order v there.0 there.1 in
       let needs : Needs conditions q there.0 = record { variable = v; is = there.1; depends = depends } in
-      let same : seen_at a there.0.0 ≡ seen_at b there.0.0 = same_condition k before there.0 (get_within kernel.signals there.0.0 signal.0 signal.1)
+      let same : seen_at a there.0.0 ≡ seen_at b there.0.0 = same_condition k before there.0 (slice_get_within kernel.signals there.0.0 signal.0 signal.1)
       (λ number p is_p writes. needed_earlier kernel c.valid conditions operations c.has order c.ordered k lt q at there.0 needs number p is_p writes) in
       truth_at conditions (seen_at a) v there.0 there.1 ∙ ap is_true same ∙ sym (truth_at conditions (seen_at b) v there.0 there.1))
 
@@ -171,7 +165,7 @@ module _ (kernel : Kernel) (conditions : List SigId) (operations : List Operatio
       }
 
   same_next : (k : ℕ) → suc k ≤ length operations → ReadsAgree k → SameBefore k → SameBefore (suc k)
-  same_next k le agree before i lt q at = by (same_or_not i k) where
+  same_next k le agree before i lt q at = by (cases_eq i k) where
     by : (i ≡ k) ⊎ ((i ≡ k) → ⊥) → SameAt q
     by (inl e) = same_value k (omega (arith, le)) agree before q (sym (ap (λ j. slice_get operations (slice_index order j)) e) ∙ at)
     by (inr differs) = before i (omega (arith, lt, differs)) q at
@@ -182,7 +176,7 @@ module _ (kernel : Kernel) (conditions : List SigId) (operations : List Operatio
 
   pub same_seen : ((i : ℕ) → ReadsAgree i) → (x : SigId) → x.0 < length kernel.signals → seen_at a x.0 ≡ seen_at b x.0
   same_seen agree x lt = same_condition (length operations) (same_before (length operations) (omega arith) (λ i below. agree i)) x lt (λ number p at writes.
-      let within = get_within operations number p at in
+      let within = slice_get_within operations number p at in
       let somewhere = stands_somewhere (Precedes conditions operations) (length operations) order c.ordered number within in
       (somewhere.0, omega (arith, somewhere.1, c.ordered.all), get_or_default order somewhere.0 0 number somewhere.1 ∙ somewhere.2))
 

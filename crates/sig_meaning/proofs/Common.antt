@@ -3,15 +3,18 @@ pub use Rattle.std.proofs.Common.{All, Bool, Contains, List, None, Option, Some,
 pub use Rattle.std.proofs.Math.Bool.{or-true}
 pub use Rattle.std.proofs.Math.Nat.{div-zero}
 pub use Rattle.std.proofs.lemmas.Int.{ints}
+pub use Rattle.std.proofs.lemmas.Map.Keys.{any_passes_from_place}
 pub use Rattle.std.specs.Prelude.{⊤}
+pub use Rattle.sig_lists.proofs.Fronts.{no_more}
+pub use Rattle.sig_lists.proofs.Places.{got}
+pub use Rattle.sig_lists.proofs.Truths.{not_true}
 pub use Rattle.sig_base.specs.Functions.{Difference, Greater, GreaterEqual, Less, LessEqual, Negative, Product, Quotient, Remainder, Sum, operand_count}
 pub use Rattle.sig_base.specs.Traces.{Fits, IsLongest, NoneSilent}
 pub use Rattle.sig_base.specs.declared.ids.Kind.TheVariants.{Event as AnEvent}
 pub use Rattle.sig_base.specs.declared.place.Place.{Place}
 pub use Rattle.sig_base.proofs.TraceLemmas.{fits_reduced, prefix_fits, prefix_length, prefix_speaks, speaks}
 pub use Rattle.sig_kernel.specs.KernelTraces.{or_else}
-pub use Rattle.sig_kernel.proofs.Common.{AreFlowsFor, Bounded, IsKernelTrace, IsPrefixOf, IsReaction, IsTraceIn, Span, Trace, Unbounded, fits_by_test, flow_append, flow_of, has_64_bits, inputs_of, is_silent, one_longest, reduce, remembered, silent_at}
-pub use Rattle.sig_kernel.proofs.DelayLemmas.{at_element}
+pub use Rattle.sig_kernel.proofs.Common.{AreFlowsFor, Bounded, IsKernelTrace, IsPrefixOf, IsReaction, IsTraceIn, Span, Trace, Unbounded, at_element, fits_by_test, flow_append, flow_of, has_64_bits, inputs_of, is_silent, one_longest, reduce, remembered, silent_at}
 pub use Rattle.sig_kernel.proofs.RangeLemmas.{wide_trace}
 pub use Rattle.sig_kernel.proofs.TraceLemmas.{comes_from, goes_on, no_instants, prefix_trace, reduced_trace}
 pub use Rattle.sig_kernel.proofs.ValueLemmas.{few_constants, flow_values, remembered_value, sampled_value}
@@ -27,7 +30,7 @@ pub use Rattle.sig_plan.specs.declared.op.Op.{Op}
 pub use Rattle.sig_plan.specs.declared.op.OpKind.{OpKind}
 pub use Rattle.sig_plan.specs.declared.op.OpKind.TheVariants.{Compute, DelayRead, Left, Read, Right, Store}
 pub use Rattle.sig_plan.proofs.Accepted.{plan_operations}
-pub use Rattle.sig_plan.proofs.Common.{All-cons, All-contains, All-nil, Allows, Const, Contains-append_left, Contains-append_right, Default, Delay, Depends, EqId, Equation, Event, Form, Fun, HasOperations, Holds, IsAccepted, IsCompiledOrder, IsValid, KeepsTo, Kernel, Needs, Node, Operand, Operation, PlanView, Precedes, Presence, Reaction, Sig, SigId, Signal, Speaks, Status, Sync, When, WhenConst, Writes, and_parts, are_statuses, at_contained, contains_at, contains_head, contains_later, eqb-false, equation_id, false≢true, form_within, function_truth, get_at, get_or_default, get_within, has_truth, is_below, is_present, is_status_of, is_with, length-map, list_all, meets, numbers_of, of_each, operand_within, operands_of, operation_in, operations_in, operations_of, range_with_len, read_of, same_truth, signal_id, signals_of, some_reaction, status_at, store_of, stores_of, test, truth_of, truths_are_same, where_true, without, writes_of, writing}
+pub use Rattle.sig_plan.proofs.Common.{All-cons, All-contains, All-nil, Allows, Const, Contains-append_left, Contains-append_right, Default, Delay, Depends, EqId, Equation, Event, Form, Fun, HasOperations, Holds, IsAccepted, IsCompiledOrder, IsValid, KeepsTo, Kernel, Needs, Node, Operand, Operation, PlanView, Precedes, Presence, Reaction, Sig, SigId, Signal, Speaks, Status, Sync, When, WhenConst, Writes, and_parts, are_statuses, at_contained, cases_eq, contains_at, contains_head, contains_later, eqb-false, equation_id, false≢true, form_within, function_truth, get_or_default, has_truth, is_below, is_present, is_status_of, is_with, length-map, list_all, meets, numbers_of, of_each, operand_within, operands_of, operation_in, operations_in, operations_of, range_with_len, read_of, same_truth, signal_id, signals_of, slice_get-get_or, slice_get_within, some_at, some_reaction, status_at, store_of, stores_of, test, truth_of, truths_are_same, where_true, without, writes_of, writing}
 pub use Rattle.sig_plan.proofs.Done.{present_written, read_present, written_by_one, written_present}
 pub use Rattle.sig_plan.proofs.EachOperation.{each_operation, first_below, only, operands_below, second_below, target_below}
 pub use Rattle.sig_plan.proofs.Earlier.{guards_alone, needed_earlier, read_earlier}

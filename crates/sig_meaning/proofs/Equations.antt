@@ -1,5 +1,5 @@
 -- Registers that hold what the operations write meet the equations of a kernel.
-use Rattle.sig_meaning.proofs.Common.{◌≡◌, ◌<◌, ◌+◌, ℕ, zero, suc, ℤ, pos, Bool, true, false, not, cond, ◌&&◌, List, [], ◌∷◌, length, map, get_or, refl, ap, sym, subst, ◌∙◌, arith, Contains, Option, None, Some, is_some, slice_get, unwrap_or, AllByRecursion, list_all, range_with_len, int_eq, and_parts, false≢true, length-map, Contains-append_left, Contains-append_right, get_or-map-range_with_len, length-map-range_with_len, Instant, IsOfKind, Seen, Unbounded, is_silent, seen_at, EqId, SigId, Signal, silent_at, truth_of_value, signal_id, IsAbstract, Reaction, Status, are_statuses, is_present, is_silent_reaction, is_status_of, is_with, meets, status_or_else, function_truth, has_truth, same_truth, status_at, where_present as status_where_present, where_true as status_where_true, constant_truth, truth_is, where_rows, contains_head, contains_later, truths_are_same, AreAbsent, HaveValues, IsFunction, IsReaction, Meets, Memory, function_of, or_else, defines_well, form_fits, kind_at, kind_fits, kind_is, kind_of, operand_is, target_fits, Truth, IsValid, form_within, is_below, operand_within, Equation, Form, Fun, Delay, When, WhenConst, Default, Sync, Event as EventOf, FunOp, Operand, Sig, Const, Kernel, IsNext, Registers, value_in, operand_in, Operation, Presence, equation_id, of_each, operations_of, read_of, signals_of, stores_of, without, writes_of, writing, Writes, Compute, DelayRead, Left, Right, first_below, operands_below, second_below, target_below}
+use Rattle.sig_meaning.proofs.Common.{◌≡◌, ◌<◌, ◌+◌, ℕ, zero, suc, ℤ, pos, Bool, true, false, not, cond, ◌&&◌, List, [], ◌∷◌, length, map, get_or, refl, ap, sym, subst, ◌∙◌, arith, Contains, Option, None, Some, is_some, slice_get, unwrap_or, AllByRecursion, list_all, range_with_len, int_eq, and_parts, false≢true, length-map, Contains-append_left, Contains-append_right, get_or-map-range_with_len, length-map-range_with_len, Instant, IsOfKind, Seen, Unbounded, is_silent, seen_at, EqId, SigId, Signal, silent_at, truth_of_value, signal_id, IsAbstract, Reaction, Status, are_statuses, is_present, is_silent_reaction, is_status_of, is_with, meets, status_or_else, function_truth, has_truth, same_truth, status_at, where_present as status_where_present, where_true as status_where_true, constant_truth, truth_is, where_rows, truths_are_same, AreAbsent, HaveValues, IsFunction, IsReaction, Meets, Memory, function_of, or_else, defines_well, form_fits, kind_at, kind_fits, kind_is, kind_of, operand_is, target_fits, Truth, IsValid, form_within, is_below, operand_within, Equation, Form, Fun, Delay, When, WhenConst, Default, Sync, Event as EventOf, FunOp, Operand, Sig, Const, Kernel, IsNext, Registers, value_in, operand_in, Operation, Presence, equation_id, of_each, operations_of, read_of, signals_of, stores_of, without, writes_of, writing, Writes, Compute, DelayRead, Left, Right, first_below, operands_below, second_below, target_below, contains_head, contains_later}
 use Rattle.sig_kernel.specs.KernelTraces.{where_present, where_true}
 use Rattle.sig_meaning.proofs.Results.{given}
 use Rattle.sig_meaning.proofs.Steps.{AreKnown, instant_of, of_kinds, seen_of}

@@ -1,5 +1,5 @@
 -- The first fault of the reference is the named cause.
-use Rattle.sig_meaning.proofs.Common.{◌≡◌, ◌<◌, ◌≤◌, ◌+◌, ◌++◌, inl, inr, ℕ, suc, ℤ, Bool, true, List, [], ◌∷◌, length, get_or, refl, ap, sym, subst, ◌∙◌, arith, Contains, None, Some, is_some, slice_get, slice_index, option_to_list, unwrap_or, append-nil, length-append, Instant, IsPrefixOf, Seen, Trace, Unbounded, flow_of, has_64_bits, seen_at, EqId, SigId, prefix_length, abstraction_of, contains_at, contains_head, contains_later, HaveValues, Memory, function_of, remembered, Fun, Operand, Sig, Const, Kernel, comes_from, IsFirstFault, IsNext, truths_of, AgreeSoFar, Computes, GoesOn, HasFault, IsFirstCause, IsPastEnd, MeetsFault, place_at, IsReference, divides_by_zero, Operation, operations_of, signals_of, Writes, Cause, Exhausted, Overflow, ZeroDivisor, Limit, Read, Compute, written_below}
+use Rattle.sig_meaning.proofs.Common.{◌≡◌, ◌<◌, ◌≤◌, ◌+◌, ◌++◌, inl, inr, ℕ, suc, ℤ, Bool, true, List, [], ◌∷◌, length, get_or, refl, ap, sym, subst, ◌∙◌, arith, Contains, None, Some, is_some, slice_get, slice_index, option_to_list, unwrap_or, append-nil, length-append, Instant, IsPrefixOf, Seen, Trace, Unbounded, flow_of, has_64_bits, seen_at, EqId, SigId, prefix_length, abstraction_of, HaveValues, Memory, function_of, remembered, Fun, Operand, Sig, Const, Kernel, comes_from, IsFirstFault, IsNext, truths_of, AgreeSoFar, Computes, GoesOn, HasFault, IsFirstCause, IsPastEnd, MeetsFault, place_at, IsReference, divides_by_zero, Operation, operations_of, signals_of, Writes, Cause, Exhausted, Overflow, ZeroDivisor, Limit, Read, Compute, written_below, contains_at, contains_head, contains_later}
 use Rattle.sig_meaning.proofs.Agreement.{Compiled, ReadsAgree, SameBefore, own_keeps, own_present, own_speaks, same_before, same_guard, same_reads, same_value}
 use Rattle.sig_meaning.proofs.NamedCause.{follows, meets_at, met_place, own_presence}
 use Rattle.sig_meaning.proofs.Numbers.{at_most_or}

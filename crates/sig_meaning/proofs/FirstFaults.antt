@@ -1,5 +1,5 @@
 -- The first fault of the instant by which the reference goes on.
-use Rattle.sig_meaning.proofs.Common.{◌≡◌, ◌<◌, ◌≤◌, ◌++◌, ◌⊎◌, inl, inr, ℤ, Bool, true, false, List, [], ◌∷◌, length, get_or, refl, ap, sym, subst, ◌∙◌, arith, Contains, All, Option, None, Some, slice_get, All-cons, All-contains, All-nil, Instant, Seen, Trace, Unbounded, flow_of, has_64_bits, seen_at, EqId, SigId, signal_id, contains_at, HaveValues, IsFunction, IsReaction, Meets, Memory, function_of, Equation, Form, Fun, Delay, When, WhenConst, Default, Sync, Event, FunOp, Operand, Kernel, at_element, Computes, HasFault, IsPastEnd, MeetsFault, divides_by_zero, Operation, Presence, operations_of, signals_of, stores_of, without, writes_of, writing, Writes, Cause, Exhausted, Overflow, ZeroDivisor, Limit, OpKind, Read, Compute, Left, Right, DelayRead, Store, each_operation, only}
+use Rattle.sig_meaning.proofs.Common.{◌≡◌, ◌<◌, ◌≤◌, ◌++◌, ◌⊎◌, inl, inr, ℤ, Bool, true, false, List, [], ◌∷◌, length, get_or, refl, ap, sym, subst, ◌∙◌, arith, Contains, All, Option, None, Some, slice_get, All-cons, All-contains, All-nil, Instant, Seen, Trace, Unbounded, flow_of, has_64_bits, seen_at, EqId, SigId, signal_id, HaveValues, IsFunction, IsReaction, Meets, Memory, function_of, Equation, Form, Fun, Delay, When, WhenConst, Default, Sync, Event, FunOp, Operand, Kernel, Computes, HasFault, IsPastEnd, MeetsFault, divides_by_zero, Operation, Presence, operations_of, signals_of, stores_of, without, writes_of, writing, Writes, Cause, Exhausted, Overflow, ZeroDivisor, Limit, OpKind, Read, Compute, Left, Right, DelayRead, Store, each_operation, only, contains_at, at_element}
 use Rattle.sig_meaning.proofs.Numbers.{at_most_or}
 use Rattle.sig_meaning.proofs.Longest.{Decided, same_values}
 use Rattle.sig_meaning.proofs.Values.{form_for, has_form}

@@ -24,15 +24,15 @@ pub mod WithinBounds
 pub use Common.*
 pub use Accepted.*
 pub use Agreement.*
-pub use NamedCause.*
 pub use EndOfRun.*
 pub use Longest.*
+pub use NamedCause.*
 pub use Outcomes.*
-pub use WrittenInstant.*
 pub use References.*
 pub use Results.*
 pub use StoredValues.*
 pub use Uniqueness.*
 pub use Values.*
 pub use WithinBounds.*
+pub use WrittenInstant.*
 pub use Rattle.sig_meaning.proofs.Values.{computed}

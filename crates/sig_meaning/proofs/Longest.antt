@@ -1,8 +1,8 @@
 -- Lemmas on the longest trace of a kernel that has one reaction.
-use Rattle.sig_meaning.proofs.Common.{◌≡◌, ◌≤◌, ◌<◌, ◌+◌, ◌++◌, ◌⊎◌, inl, inr, ℕ, zero, suc, ℤ, Bool, true, false, List, [], ◌∷◌, length, get_or, map, refl, ap, sym, subst, ◌∙◌, arith, append_assoc, None, Some, AllByRecursion, Function, Gives, AreOfKinds, Bounded, Fits, Instant, IsLongest, IsOfKind, IsPrefixOf, NoneSilent, Seen, Trace, Unbounded, flow_of, has_64_bits, reduce, seen_at, Kind, Integer, Boolean, fits_by_test, fits_reduced, prefix_fits, one_longest, speaks, prefix_length, HaveValues, IsFunction, IsKernelTrace, IsReaction, Meets, Memory, function_of, remembered, Equation, Form, Fun, Delay, When, WhenConst, Default, Sync, Event as EventOf, Operand, Sig, Const, Kernel, comes_from, goes_on, prefix_trace, reduced_trace, wide_trace, IsCut, IsWithinBounds, StopsBefore, IsReference, divides_by_zero}
+use Rattle.sig_meaning.proofs.Common.{◌≡◌, ◌≤◌, ◌<◌, ◌+◌, ◌++◌, ◌⊎◌, inl, inr, ℕ, zero, suc, ℤ, Bool, true, false, List, [], ◌∷◌, length, get_or, map, refl, ap, sym, subst, ◌∙◌, arith, append_assoc, None, Some, AllByRecursion, Function, Gives, AreOfKinds, Bounded, Fits, Instant, IsLongest, IsOfKind, IsPrefixOf, NoneSilent, Seen, Trace, Unbounded, flow_of, has_64_bits, reduce, seen_at, Kind, Integer, Boolean, fits_by_test, fits_reduced, prefix_fits, one_longest, speaks, prefix_length, HaveValues, IsFunction, IsKernelTrace, IsReaction, Meets, Memory, function_of, remembered, Equation, Form, Fun, Delay, When, WhenConst, Default, Sync, Event as EventOf, Operand, Sig, Const, Kernel, comes_from, goes_on, prefix_trace, reduced_trace, wide_trace, IsCut, IsWithinBounds, StopsBefore, IsReference, divides_by_zero, cases_eq}
 use Rattle.sig_base.specs.declared.ids.Kind.TheVariants.{Event}
 use Rattle.sig_meaning.proofs.Flows.{fits_follows, follows_fits, last_value, of_prefix, within_flow}
-use Rattle.sig_meaning.proofs.Numbers.{at_most_or, same_or_not}
+use Rattle.sig_meaning.proofs.Numbers.{at_most_or}
 use Rattle.sig_meaning.proofs.References.{Fitting, reference_begins, some_reference, split_last}
 use Rattle.sig_meaning.proofs.Results.{bounded_gives, never_by_zero, within_bounds}
 
@@ -94,7 +94,7 @@ decide_below f g (suc n) = by (decide_below f g n) (at_most_or (f n) (g n)) wher
   last all le input lt (inr differs) = all input (omega (arith, lt, differs))
 
   by : Decided ((input : ℕ) → input < n → f input ≤ g input) → (f n ≤ g n) ⊎ (g n < f n) → Decided ((input : ℕ) → input < suc n → f input ≤ g input)
-  by (inl all) (inl le) = inl (λ input lt. last all le input lt (same_or_not input n))
+  by (inl all) (inl le) = inl (λ input lt. last all le input lt (cases_eq input n))
   by (inl all) (inr more) = inr (λ each. omega (arith, more, each n (omega arith)))
   by (inr fails) le = inr (λ each. fails (λ input lt. each input (omega (arith, lt))))
 

@@ -1,19 +1,19 @@
 -- The reference goes on within bounds, or has a first fault, which is the named cause.
-use Rattle.sig_meaning.proofs.Common.{◌≡◌, ◌<◌, ◌≤◌, ◌+◌, ◌++◌, ◌⊎◌, inl, inr, ℕ, zero, suc, ℤ, Bool, true, false, List, [], ◌∷◌, length, map, get_or, refl, ap, sym, subst, ◌∙◌, arith, Contains, None, Some, is_some, slice_get, slice_index, option_to_list, AllByRecursion, range_with_len, append-nil, length-append, length-map, get_or-map-range_with_len, length-map-range_with_len, Contains-append_left, Contains-append_right, AreOfKinds, Bounded, Instant, IsValue, Range, Seen, Trace, Unbounded, flow_of, has_64_bits, seen_at, Kind, SigId, Signal, prefix_length, abstraction_of, signal_id, at_contained, contains_at, contains_head, get_at, Memory, function_of, remembered, inputs_of, Equation, Fun, Form, FunOp, Operand, Kernel, flow_values, IsWithinBounds, IsFaultAt, IsFirstFault, IsNext, truths_of, Computes, HasFault, IsPastEnd, MeetsFault, MeetsAt, IsReference, divides_by_zero, Operation, equation_id, of_each, operations_of, read_of, signals_of, stores_of, writes_of, writing, Writes, Cause, Exhausted, ZeroDivisor, Compute, read_earlier}
-use Rattle.sig_meaning.proofs.Agreement.{Compiled, own_keeps, own_present, own_speaks, own_written, some_at}
+use Rattle.sig_meaning.proofs.Common.{◌≡◌, ◌<◌, ◌≤◌, ◌+◌, ◌++◌, ◌⊎◌, inl, inr, ℕ, zero, suc, ℤ, Bool, true, false, List, [], ◌∷◌, length, map, get_or, refl, ap, sym, subst, ◌∙◌, arith, Contains, None, Some, is_some, slice_get, slice_index, option_to_list, AllByRecursion, range_with_len, append-nil, length-append, length-map, get_or-map-range_with_len, length-map-range_with_len, Contains-append_left, Contains-append_right, AreOfKinds, Bounded, Instant, IsValue, Range, Seen, Trace, Unbounded, flow_of, has_64_bits, seen_at, Kind, SigId, Signal, prefix_length, abstraction_of, signal_id, Memory, function_of, remembered, inputs_of, Equation, Fun, Form, FunOp, Operand, Kernel, flow_values, IsWithinBounds, IsFaultAt, IsFirstFault, IsNext, truths_of, Computes, HasFault, IsPastEnd, MeetsFault, MeetsAt, IsReference, divides_by_zero, Operation, equation_id, of_each, operations_of, read_of, signals_of, stores_of, writes_of, writing, Writes, Cause, Exhausted, ZeroDivisor, Compute, read_earlier, at_contained, contains_at, contains_head, slice_get-get_or, got, some_at}
+use Rattle.sig_meaning.proofs.Agreement.{Compiled, own_keeps, own_present, own_speaks, own_written}
 use Rattle.sig_meaning.proofs.OrderedOperations.{place_of}
 use Rattle.sig_meaning.proofs.Numbers.{at_most_or}
 use Rattle.sig_meaning.proofs.Equations.{among_each}
 use Rattle.sig_meaning.proofs.FirstFaults.{decide_fault}
 use Rattle.sig_meaning.proofs.Flows.{flow_more, last_value, next_in}
 use Rattle.sig_meaning.proofs.Longest.{Decided, IsClean}
-use Rattle.sig_meaning.proofs.References.{Fitting, flow_count, got, reference_last, taken_at}
+use Rattle.sig_meaning.proofs.References.{Fitting, flow_count, reference_last, taken_at}
 use Rattle.sig_meaning.proofs.Small.{bounded_reaction, one_small, small_value}
 
 -- a place of the order at which an operation meets a fault
 pub meets_at : (operations : List Operation) (order : List ℕ) (k : ℕ) (q : Operation) (cause : Cause) → k < length order → slice_get operations (slice_index order k) ≡ Some q → MeetsFault q cause
     → MeetsAt operations order k cause
-meets_at operations order k q cause lt at meets = record { number = slice_index order k; ordered = get_at order k 0 lt; operation = q; is = at; meets = meets }
+meets_at operations order k q cause lt at meets = record { number = slice_index order k; ordered = slice_get-get_or order k 0 lt; operation = q; is = at; meets = meets }
 
 pub met_place : (operations : List Operation) (order : List ℕ) (k : ℕ) (cause : Cause) (m : MeetsAt operations order k cause) → (k < length order) × (slice_get operations (slice_index order k) ≡ Some m.operation)
 met_place operations order k cause m =

@@ -1,6 +1,6 @@
 -- The operations of a compiled kernel, done in order.
-use Rattle.sig_meaning.proofs.Common.{◌≡◌, ◌<◌, ◌≤◌, ◌⊎◌, inl, inr, ℕ, zero, suc, ℤ, Bool, true, false, cond, List, length, refl, ap, sym, ◌∙◌, arith, Contains, Option, None, Some, is_some, slice_get, slice_index, ◌==◌, eqb-false, eqb-true, get_or_default, Seen, SigId, get_within, some_reaction, KeepsTo, Reaction, Speaks, is_present, Memory, Kernel, Registers, is_true, no_registers, truths_of, with_at, with_signal, Operation, Needs, Precedes, Writes, present_written, written_by_one, written_present, guards_alone, needed_earlier, read_earlier, stands_once, stands_somewhere}
-use Rattle.sig_meaning.proofs.Agreement.{Compiled, some_at, truth_at, value_by_reads}
+use Rattle.sig_meaning.proofs.Common.{◌≡◌, ◌<◌, ◌≤◌, ◌⊎◌, inl, inr, ℕ, zero, suc, ℤ, Bool, true, false, cond, List, length, refl, ap, sym, ◌∙◌, arith, Contains, Option, None, Some, is_some, slice_get, slice_index, ◌==◌, eqb-false, eqb-true, get_or_default, Seen, SigId, some_reaction, KeepsTo, Reaction, Speaks, is_present, Memory, Kernel, Registers, is_true, no_registers, truths_of, with_at, with_signal, Operation, Needs, Precedes, Writes, present_written, written_by_one, written_present, guards_alone, needed_earlier, read_earlier, stands_once, stands_somewhere, slice_get_within, some_at}
+use Rattle.sig_meaning.proofs.Agreement.{Compiled, truth_at, value_by_reads}
 use Rattle.sig_meaning.proofs.Numbers.{at_most_or}
 use Rattle.sig_meaning.proofs.Values.{value}
 
@@ -149,7 +149,7 @@ module _ (kernel : Kernel) (conditions : List SigId) (operations : List Operatio
     -- the place of an operation
     pub place_of : (number : ℕ) (p : Operation) → slice_get operations number ≡ Some p → (k : ℕ) × (k < count) × (slice_get operations (slice_index order k) ≡ Some p)
     place_of number p at =
-        let somewhere = stands_somewhere Rule count order c.ordered number (get_within operations number p at) in
+        let somewhere = stands_somewhere Rule count order c.ordered number (slice_get_within operations number p at) in
         let lt : somewhere.0 < count = omega (arith, somewhere.1, c.ordered.all) in
         (somewhere.0, lt, ap (slice_get operations) (get_or_default order somewhere.0 0 number somewhere.1 ∙ somewhere.2) ∙ at)
 

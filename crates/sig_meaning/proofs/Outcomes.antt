@@ -1,10 +1,10 @@
 -- What an operation of an accepted plan comes to is what the instant by which the reference goes on has.
-use Rattle.sig_meaning.proofs.Common.{◌≡◌, ◌<◌, ◌≤◌, ◌+◌, ◌++◌, ℕ, zero, suc, ℤ, Bool, true, false, cond, List, [], ◌∷◌, length, map, get_or, refl, ap, sym, subst, ◌∙◌, arith, Contains, All, Option, None, Some, is_some, slice_get, option_to_list, length-append, All-cons, All-contains, All-nil, Instant, Trace, Unbounded, flow_of, has_64_bits, seen_at, EqId, SigId, abstraction_of, signal_id, contains_at, HaveValues, IsFunction, Memory, Meets, function_of, remembered, Equation, Form, Fun, Delay, When, WhenConst, Default, Sync, Event, FunOp, Operand, at_element, Kernel, IsAt, IsOutcome, IsNext, Actor, truths_of, Computes, Faults, bounded, computed, computed_at, computed_by, computed_for, first_in, memory_of, next_of, operand_in, outcome, outcome_by, IsReference, divides_by_zero, result_of, Operation, Presence, operation_in, operations_of, signals_of, store_of, stores_of, without, writes_of, writing, Writes, Overflow, ZeroDivisor, Op, OpKind, Read, Compute, Left, Right, DelayRead, Store, each_operation, only, Node}
+use Rattle.sig_meaning.proofs.Common.{◌≡◌, ◌<◌, ◌≤◌, ◌+◌, ◌++◌, ℕ, zero, suc, ℤ, Bool, true, false, cond, List, [], ◌∷◌, length, map, get_or, refl, ap, sym, subst, ◌∙◌, arith, Contains, All, Option, None, Some, is_some, slice_get, option_to_list, length-append, All-cons, All-contains, All-nil, Instant, Trace, Unbounded, flow_of, has_64_bits, seen_at, EqId, SigId, abstraction_of, signal_id, HaveValues, IsFunction, Memory, Meets, function_of, remembered, Equation, Form, Fun, Delay, When, WhenConst, Default, Sync, Event, FunOp, Operand, Kernel, IsAt, IsOutcome, IsNext, Actor, truths_of, Computes, Faults, bounded, computed, computed_at, computed_by, computed_for, first_in, memory_of, next_of, operand_in, outcome, outcome_by, IsReference, divides_by_zero, result_of, Operation, Presence, operation_in, operations_of, signals_of, store_of, stores_of, without, writes_of, writing, Writes, Overflow, ZeroDivisor, Op, OpKind, Read, Compute, Left, Right, DelayRead, Store, each_operation, only, Node, contains_at, at_element, got}
 use Rattle.sig_meaning.proofs.Agreement.{Compiled, own_keeps, own_present, own_seen, own_speaks, value_by_reads}
 use Rattle.sig_meaning.proofs.FirstFaults.{one_either}
 use Rattle.sig_meaning.proofs.Flows.{flow_more, last_value, next_in}
 use Rattle.sig_meaning.proofs.Longest.{IsClean}
-use Rattle.sig_meaning.proofs.References.{Fitting, got, reference_last}
+use Rattle.sig_meaning.proofs.References.{Fitting, reference_last}
 use Rattle.sig_meaning.proofs.Values.{computed as computed_value, form_for, form_in, has_form, have_map, kept_in, same_operands, value, value_by, where_some}
 use Rattle.sig_model.specs.Operating.{Gives}
 

@@ -1,5 +1,5 @@
 -- Lemmas on extended references of a kernel that has one reaction.
-use Rattle.sig_meaning.proofs.Common.{◌≡◌, ◌≤◌, ◌<◌, ◌++◌, inl, ℕ, zero, suc, ℤ, false, List, [], ◌∷◌, length, get_or, take, refl, ap, sym, subst, ◌∙◌, arith, Some, slice_get, AllByRecursion, length-append, length-take, Bounded, Instant, IsPrefixOf, IsValue, NoneSilent, Trace, Unbounded, flow_of, is_silent, Kind, Integer, Boolean, Signal, prefix_speaks, IsTraceIn, remembered, AreFlowsFor, IsValid, inputs_of, Kernel, comes_from, goes_on, no_instants, prefix_trace, flow_values, remembered_value, HasNextValues, HasOneReaction, IsNext, RemembersValues, IsReference, filler}
+use Rattle.sig_meaning.proofs.Common.{◌≡◌, ◌≤◌, ◌<◌, ◌++◌, inl, ℕ, zero, suc, ℤ, false, List, [], ◌∷◌, length, get_or, take, refl, ap, sym, subst, ◌∙◌, arith, Some, slice_get, AllByRecursion, length-append, length-take, Bounded, Instant, IsPrefixOf, IsValue, NoneSilent, Trace, Unbounded, flow_of, is_silent, Kind, Integer, Boolean, Signal, prefix_speaks, IsTraceIn, remembered, AreFlowsFor, IsValid, inputs_of, Kernel, comes_from, goes_on, no_instants, prefix_trace, flow_values, remembered_value, HasNextValues, HasOneReaction, IsNext, RemembersValues, IsReference, filler, got, no_more}
 use Rattle.sig_base.specs.declared.ids.Kind.TheVariants.{Event}
 use Rattle.sig_meaning.proofs.Flows.{fill, fits_follows, follows_fits, follows_front, follows_more, follows_takes, last_value, next_in}
 
@@ -23,11 +23,6 @@ taken_at [] n k signal lt is = cc
 taken_at (s ∷ signals) zero k signal lt is = absurd (omega (arith, lt))
 taken_at (s ∷ signals) (suc n) zero signal lt is = is
 taken_at (s ∷ signals) (suc n) (suc k) signal lt is = taken_at signals n k signal (omega (arith, lt)) is
-
-pub got : {A : Type 0} (xs : List A) (k : ℕ) (d x : A) → slice_get xs k ≡ Some x → (k < length xs) × (get_or xs k d ≡ x)
-got {A} [] k d x is = absurd (let e = is in cc)
-got {A} (y ∷ xs) zero d x is = (omega arith, cc)
-got {A} (y ∷ xs) (suc k) d x is = let rest = got xs k d x is in (omega (arith, rest.0), rest.1)
 
 -- the inputs of a valid kernel are as many as it says
 pub count_inputs : (kernel : Kernel) → IsValid kernel → length (inputs_of kernel) ≡ kernel.inputs
@@ -120,10 +115,6 @@ some_reference {kernel} {flows} f (suc count) =
     let before = some_reference f count in
     let next = f.one.some (remembered before.0) (next_in kernel flows before.0) (memory_values kernel before.0 f.valid before.1.is) (next_values kernel flows before.0 f.fit) in
     (before.0 ++ next.0 ∷ [], reference_more f count before.0 next.0 before.1 next.1)
-
-no_more : {A : Type 0} (xs : List A) → length xs ≡ 0 → xs ≡ []
-no_more {A} [] e = refl
-no_more {A} (x ∷ xs) e = absurd (omega (arith, e))
 
 pub one_reference : {kernel : Kernel} {flows : List (List ℤ)} → Fitting kernel flows → (count : ℕ) (a b : Trace) → IsReference kernel flows count a → IsReference kernel flows count b → a ≡ b
 one_reference {kernel} {flows} f zero a b is other = no_more a is.instants ∙ sym (no_more b other.instants)

@@ -1,6 +1,5 @@
 -- Where no operation of an instant has a fault, its values have 64 bits and nothing is divided by 0.
-use Rattle.sig_meaning.proofs.Common.{◌≡◌, ◌<◌, inl, inr, ℕ, suc, ℤ, pos, Bool, true, false, not, List, [], ◌∷◌, length, map, get_or, refl, ap, sym, subst, ◌∙◌, Contains, All, Option, None, Some, is_some, slice_get, and_parts, All-cons, All-contains, All-nil, AreOfKinds, Bounded, Instant, IsOfKind, IsValue, Seen, Trace, Unbounded, has_64_bits, seen_at, EqId, Kind, Integer, Boolean, AnEvent, SigId, Signal, Span, fits_by_test, signal_id, contains_at, contains_head, get_at, IsFunction, IsReaction, IsTraceIn, Meets, function_of, or_else, remembered, form_fits, kind_of, target_fits, IsValid, form_within, Equation, Form, Fun, Delay, When, WhenConst, Default, Sync, Event, FunOp, Sig, Const, Operand, Kernel, at_element, few_constants, remembered_value, Computes, HasFault, IsPastEnd, MeetsFault, divides_by_zero, Operation, Presence, equation_id, operations_of, signals_of, stores_of, without, writes_of, writing, Writes, Cause, Exhausted, Overflow, Compute, Left, Right, each_operation, first_below, only, operands_below}
-use Rattle.sig_meaning.proofs.Numbers.{not_true}
+use Rattle.sig_meaning.proofs.Common.{◌≡◌, ◌<◌, inl, inr, ℕ, suc, ℤ, pos, Bool, true, false, not, List, [], ◌∷◌, length, map, get_or, refl, ap, sym, subst, ◌∙◌, Contains, All, Option, None, Some, is_some, slice_get, and_parts, All-cons, All-contains, All-nil, AreOfKinds, Bounded, Instant, IsOfKind, IsValue, Seen, Trace, Unbounded, has_64_bits, seen_at, EqId, Kind, Integer, Boolean, AnEvent, SigId, Signal, Span, fits_by_test, signal_id, IsFunction, IsReaction, IsTraceIn, Meets, function_of, or_else, remembered, form_fits, kind_of, target_fits, IsValid, form_within, Equation, Form, Fun, Delay, When, WhenConst, Default, Sync, Event, FunOp, Sig, Const, Operand, Kernel, few_constants, remembered_value, Computes, HasFault, IsPastEnd, MeetsFault, divides_by_zero, Operation, Presence, equation_id, operations_of, signals_of, stores_of, without, writes_of, writing, Writes, Cause, Exhausted, Overflow, Compute, Left, Right, each_operation, first_below, only, operands_below, contains_at, contains_head, slice_get-get_or, at_element, not_true}
 use Rattle.sig_meaning.proofs.Equations.{from_index}
 use Rattle.sig_meaning.proofs.Results.{bounded_gives}
 use Rattle.sig_meaning.proofs.Values.{none_where, where_present_some, where_some, where_true_some}
@@ -101,14 +100,14 @@ module _ (kernel : Kernel) (valid : IsValid kernel) (flows : List (List ℤ)) (t
   is_equation : (k : ℕ) (d : Equation) → k < length kernel.equations → IsEquation (equation_id k) (get_or kernel.equations k d).form
   is_equation k d lt = record {
     equation = get_or kernel.equations k d;
-    at = get_at kernel.equations k d lt;
+    at = slice_get-get_or kernel.equations k d lt;
     has = refl;
     met = at_element (λ (equation : Equation). Meets Unbounded (remembered trace) instant equation.form) kernel.equations (get_or kernel.equations k d)
-        (contains_at kernel.equations k (get_or kernel.equations k d) (get_at kernel.equations k d lt)) is.equations;
+        (contains_at kernel.equations k (get_or kernel.equations k d) (slice_get-get_or kernel.equations k d lt)) is.equations;
     within = valid.equations.within k d lt;
     fits = valid.equations.fit k d lt;
     span = (get_or kernel.equations k d).at;
-    there = contains_at kernel.equations k (get_or kernel.equations k d) (get_at kernel.equations k d lt);
+    there = contains_at kernel.equations k (get_or kernel.equations k d) (slice_get-get_or kernel.equations k d lt);
   }
 
   all_small : All IsSmall (operations_of kernel presence)

@@ -1,12 +1,11 @@
 -- What an operation writes is of its signal's kind, and has the truth that an abstract reaction gives to the signal, where what
 -- it reads is and has.
-use Rattle.sig_meaning.proofs.Common.{◌≡◌, ◌<◌, ◌≤◌, ◌+◌, inl, inr, ℕ, zero, suc, ℤ, pos, Bool, true, false, not, cond, ◌&&◌, ◌||◌, List, [], ◌∷◌, length, map, get_or, refl, ap, sym, subst, ◌∙◌, arith, Contains, All, Option, None, Some, is_some, slice_get, unwrap_or, ◌==◌, nat_lt, list_all, list_any, range_with_len, int_eq, and_parts, eqb-false, false≢true, lt-ltb, or-true, length-map, All-cons, All-contains, All-nil, get_or-map-range_with_len, Gives, AreOfKinds, Instant, IsOfKind, IsValue, Seen, Unbounded, seen_at, EqId, Kind, Integer, Boolean, SigId, Signal, Span, abstraction_of, status_of, truth_of_value, freed, frees, is_condition, is_free, is_number, signal_id, Reaction, Status, compares, constant_truth, function_truth, has_truth, is_boolean_kind, is_present, is_status_of, is_with, meets, operand_truth, same_truth, status_at, truth_function, truth_of_status, where_present, where_true, at as status_by_kind, function_met, handed_row, like, merged_rows, one_operand, sort_of, status_by, where_rows, at_contained, contains_at, contains_head, contains_later, get_at, get_within, truths_are_same, HaveValues, Memory, function_of, defines_well, form_fits, function_rows, keeps_to_one, kind_at, kind_fits, kind_is, kind_of, operand_is, operands_of, target_fits, IsValid, form_within, is_below, is_signal, operand_within, Form, Fun, Delay, When, WhenConst, Default, Sync, Event as EventOf, FunOp, Id, Operand, Sig, Const, Kernel, sampled_value, HasNextValues, RemembersValues, Registers, value_in, operand_in, result_of, Operation, Presence, operations_of, signals_of, stores_of, without, writes_of, writing, Writes, Left, Right, each_operation, first_below, only, operands_below, target_below}
+use Rattle.sig_meaning.proofs.Common.{◌≡◌, ◌<◌, ◌≤◌, ◌+◌, inl, inr, ℕ, zero, suc, ℤ, pos, Bool, true, false, not, cond, ◌&&◌, ◌||◌, List, [], ◌∷◌, length, map, get_or, refl, ap, sym, subst, ◌∙◌, arith, Contains, All, Option, None, Some, is_some, slice_get, unwrap_or, ◌==◌, nat_lt, list_all, list_any, range_with_len, int_eq, and_parts, eqb-false, false≢true, lt-ltb, or-true, length-map, All-cons, All-contains, All-nil, get_or-map-range_with_len, Gives, AreOfKinds, Instant, IsOfKind, IsValue, Seen, Unbounded, seen_at, EqId, Kind, Integer, Boolean, SigId, Signal, Span, abstraction_of, status_of, truth_of_value, freed, frees, is_condition, is_free, is_number, signal_id, Reaction, Status, compares, constant_truth, function_truth, has_truth, is_boolean_kind, is_present, is_status_of, is_with, meets, operand_truth, same_truth, status_at, truth_function, truth_of_status, where_present, where_true, at as status_by_kind, function_met, handed_row, like, merged_rows, one_operand, sort_of, status_by, where_rows, truths_are_same, HaveValues, Memory, function_of, defines_well, form_fits, function_rows, keeps_to_one, kind_at, kind_fits, kind_is, kind_of, operand_is, operands_of, target_fits, IsValid, form_within, is_below, is_signal, operand_within, Form, Fun, Delay, When, WhenConst, Default, Sync, Event as EventOf, FunOp, Id, Operand, Sig, Const, Kernel, sampled_value, HasNextValues, RemembersValues, Registers, value_in, operand_in, result_of, Operation, Presence, operations_of, signals_of, stores_of, without, writes_of, writing, Writes, Left, Right, each_operation, first_below, only, operands_below, target_below, at_contained, contains_at, contains_head, contains_later, slice_get-get_or, slice_get_within, not_true, any_passes_from_place}
 use Rattle.sig_base.specs.declared.ids.Kind.TheVariants.{Event}
 use Rattle.sig_clock.specs.Reactions.{IsReaction, or_else}
-use Rattle.sig_meaning.proofs.Numbers.{not_true}
 use Rattle.sig_meaning.proofs.References.{wide}
 use Rattle.sig_meaning.proofs.Results.{given}
-use Rattle.sig_meaning.proofs.Truths.{any_at, boolean_result, event_result, handed_value, no_status, operands_counted, plain, sampled, some_status, status_fits, statuses_equal, truth_told}
+use Rattle.sig_meaning.proofs.Truths.{boolean_result, event_result, handed_value, no_status, operands_counted, plain, sampled, some_status, status_fits, statuses_equal, truth_told}
 use Rattle.sig_meaning.proofs.Values.{computed, form_for, has_form, kept_in, value, where_some}
 
 -- ---- the instant of registers
@@ -63,7 +62,7 @@ pub freed_condition : (kernel : Kernel) (y : SigId) (form : Form) (at : Span) �
 freed_condition kernel y form at there free signal own boolean =
     let kind : is_boolean_kind (kind_of (slice_get kernel.signals y.0)) ≡ true = ap (λ o. is_boolean_kind (kind_of o)) own ∙ ap (λ k. is_boolean_kind (Some k)) boolean in
     let some : list_any (frees kernel.signals y.0) kernel.equations ≡ true =
-    any_at (frees kernel.signals y.0) kernel.equations there.0 (record { form = form; at = at }) (at_contained kernel.equations (record { form = form; at = at }) there) (ap (is_number y.0) free ∙ itself y.0) in
+    any_passes_from_place (frees kernel.signals y.0) kernel.equations there.0 (record { form = form; at = at }) (at_contained kernel.equations (record { form = form; at = at }) there) (ap (is_number y.0) free ∙ itself y.0) in
     ap (λ b. b && is_free kernel y.0) kind ∙ ap (λ b. nat_lt y.0 kernel.inputs || b) some ∙ or-true (nat_lt y.0 kernel.inputs)
 
 pub input_condition : (kernel : Kernel) (number : ℕ) → number < kernel.inputs → (signal : Signal) → slice_get kernel.signals number ≡ Some signal → signal.kind ≡ Boolean → is_condition kernel number ≡ true
@@ -203,7 +202,7 @@ module _ (kernel : Kernel) (valid : IsValid kernel) (memory : Memory) (next : �
   read_fit number signal lt own done = (
     nexts number signal lt own,
     λ free.
-        let t = status_there (signal_id number) (get_within kernel.signals number signal own) done in
+        let t = status_there (signal_id number) (slice_get_within kernel.signals number signal own) done in
         plain_status (signal_id number) signal (next number) t.0 own t.1 (λ boolean. absurd (false≢true (sym free ∙ input_condition kernel number lt signal own boolean))),
   )
 
@@ -354,7 +353,7 @@ module _ (kernel : Kernel) (valid : IsValid kernel) (memory : Memory) (next : �
         speaks = valid.equations.speak k d lt;
         met = is.equations k d lt;
         span = (get_or kernel.equations k d).at;
-        there = contains_at kernel.equations k (get_or kernel.equations k d) (get_at kernel.equations k d lt);
+        there = contains_at kernel.equations k (get_or kernel.equations k d) (slice_get-get_or kernel.equations k d lt);
       })
       (λ number lt z target done signal there reads.
       let e : Some (signal_id number) ≡ Some z = target in

@@ -1,5 +1,5 @@
 -- What a store keeps is what the instant has of the signal that its delay delays.
-use Rattle.sig_meaning.proofs.Common.{◌≡◌, ◌∙◌, ℕ, ℤ, pos, true, List, [], ◌∷◌, ap, subst, sym, Contains, All, Some, slice_get, unwrap_or, All-cons, All-contains, All-nil, Instant, Seen, seen_at, EqId, SigId, abstraction_of, signal_id, contains_at, contains_head, Memory, Form, Fun, Delay, When, WhenConst, Default, Sync, Event, Kernel, IsNext, Registers, truths_of, first_in, Operation, Presence, operations_of, signals_of, store_of, stores_of, without, writes_of, writing, Compute, DelayRead, Left, Read, Right, Store, read_present, each_operation, only}
+use Rattle.sig_meaning.proofs.Common.{◌≡◌, ◌∙◌, ℕ, ℤ, pos, true, List, [], ◌∷◌, ap, subst, sym, Contains, All, Some, slice_get, unwrap_or, All-cons, All-contains, All-nil, Instant, Seen, seen_at, EqId, SigId, abstraction_of, signal_id, Memory, Form, Fun, Delay, When, WhenConst, Default, Sync, Event, Kernel, IsNext, Registers, truths_of, first_in, Operation, Presence, operations_of, signals_of, store_of, stores_of, without, writes_of, writing, Compute, DelayRead, Left, Read, Right, Store, read_present, each_operation, only, contains_at, contains_head}
 use Rattle.sig_meaning.proofs.Agreement.{Compiled, own_keeps, own_present, own_speaks}
 use Rattle.sig_meaning.proofs.Values.{form_for, has_form, where_some}
 

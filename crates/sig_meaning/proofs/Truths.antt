@@ -1,5 +1,5 @@
 -- What an operation writes is of its signal's kind, and has the truth that an abstract reaction gives to the signal.
-use Rattle.sig_meaning.proofs.Common.{◌≡◌, ◌⊎◌, inl, inr, ℕ, zero, suc, ℤ, pos, Bool, true, false, not, int_le, int_lt, ◌&&◌, ◌||◌, List, [], ◌∷◌, length, refl, ap, sym, subst, ◌∙◌, arith, None, Some, is_some, slice_get, list_any, int_eq, and_parts, false≢true, or-false, or-true, Function, Not as Negation, And as Conjunction, Or as Disjunction, Xor as Exclusive, Equal, NotEqual, Less, LessEqual, Greater, GreaterEqual, operand_count, IsValue, Unbounded, Kind, Integer, Boolean, Signal, truth_of_value, Reaction, Status, are_statuses, compares, is_status_of, same_status, same_truth, status_at, truth_function, where_true, boolean_row, equality_rows, handed_row, kind_bit, one_operand, sort_of, two_operands, truths_are_same, function_of, function_rows, is_kind, keeps_to_one, kind_is, operands_are, Sort, AnInteger, Truth, FunOp, Id, Neg, Eq, Ne, Lt, Le, Gt, Ge, Add, Sub, Mul, Div, Mod, Operand, is_one, result_of, truth_value}
+use Rattle.sig_meaning.proofs.Common.{◌≡◌, ◌⊎◌, inl, inr, ℕ, zero, suc, ℤ, pos, Bool, true, false, not, int_le, int_lt, ◌&&◌, ◌||◌, List, [], ◌∷◌, length, refl, ap, sym, subst, ◌∙◌, arith, None, Some, is_some, slice_get, int_eq, and_parts, false≢true, or-false, Function, Not as Negation, And as Conjunction, Or as Disjunction, Xor as Exclusive, Equal, NotEqual, Less, LessEqual, Greater, GreaterEqual, operand_count, IsValue, Unbounded, Kind, Integer, Boolean, Signal, truth_of_value, Reaction, Status, are_statuses, compares, is_status_of, same_status, same_truth, status_at, truth_function, where_true, boolean_row, equality_rows, handed_row, kind_bit, one_operand, sort_of, two_operands, truths_are_same, function_of, function_rows, is_kind, keeps_to_one, kind_is, operands_are, Sort, AnInteger, Truth, FunOp, Id, Neg, Eq, Ne, Lt, Le, Gt, Ge, Add, Sub, Mul, Div, Mod, Operand, is_one, result_of, truth_value}
 use Rattle.sig_base.specs.declared.ids.Kind.TheVariants.{Event}
 use Rattle.sig_kernel.specs.declared.equation.FunOp.TheVariants.{Not, And, Or, Xor}
 
@@ -183,8 +183,3 @@ handed_value Boolean kind v fits is = kind_bit Unbounded kind v fits is
 handed_value Event Integer v fits is = absurd (false≢true fits)
 handed_value Event Boolean v fits is = absurd (false≢true fits)
 handed_value Event Event v fits is = is
-
-pub any_at : {A : Type 0} (f : A → Bool) (xs : List A) (k : ℕ) (x : A) → slice_get xs k ≡ Some x → f x ≡ true → list_any f xs ≡ true
-any_at {A} f [] k x is holds = absurd (let e = is in cc)
-any_at {A} f (y ∷ xs) zero x is holds = let e : Some y ≡ Some x = is in let one : y ≡ x = cc in ap (λ b. b || list_any f xs) (ap f one ∙ holds)
-any_at {A} f (y ∷ xs) (suc k) x is holds = ap (λ b. f y || b) (any_at f xs k x is holds) ∙ or-true (f y)

@@ -1,5 +1,5 @@
 -- There is one named cause.
-use Rattle.sig_meaning.proofs.Common.{◌≡◌, ◌<◌, ◌≤◌, ◌+◌, ◌++◌, ◌⊎◌, inl, inr, ℕ, suc, ℤ, pos, negsuc, neg_ℤ, true, false, List, [], ◌∷◌, length, refl, ap, sym, subst, ◌∙◌, arith, None, Option, Some, slice_get, div-zero, Function, Quotient, Remainder, Instant, IsLongest, Trace, Unbounded, has_64_bits, EqId, Place, one_longest, contains_at, IsFunction, IsKernelTrace, IsReaction, Meets, Memory, function_of, remembered, AreFlowsFor, Equation, Form, Fun, Kernel, at_element, comes_from, StopsBefore, IsFirstFault, Computes, GoesOn, HasFault, IsEnd, IsFirstCause, IsNamedCause, MeetsFault, MeetsAt, place_at, IsReference, divides_by_zero, result_of, Operation, operations_in, IsAccepted, PlanView, numbers_of, Cause, Exhausted, Overflow, ZeroDivisor, Limit, Ended, Read, Compute}
+use Rattle.sig_meaning.proofs.Common.{◌≡◌, ◌<◌, ◌≤◌, ◌+◌, ◌++◌, ◌⊎◌, inl, inr, ℕ, suc, ℤ, pos, negsuc, neg_ℤ, true, false, List, [], ◌∷◌, length, refl, ap, sym, subst, ◌∙◌, arith, None, Option, Some, slice_get, div-zero, Function, Quotient, Remainder, Instant, IsLongest, Trace, Unbounded, has_64_bits, EqId, Place, one_longest, IsFunction, IsKernelTrace, IsReaction, Meets, Memory, function_of, remembered, AreFlowsFor, Equation, Form, Fun, Kernel, comes_from, StopsBefore, IsFirstFault, Computes, GoesOn, HasFault, IsEnd, IsFirstCause, IsNamedCause, MeetsFault, MeetsAt, place_at, IsReference, divides_by_zero, result_of, Operation, operations_in, IsAccepted, PlanView, numbers_of, Cause, Exhausted, Overflow, ZeroDivisor, Limit, Ended, Read, Compute, contains_at, at_element}
 use Rattle.sig_meaning.proofs.Accepted.{compiled}
 use Rattle.sig_meaning.proofs.NamedCause.{first_fault}
 use Rattle.sig_meaning.proofs.EndOfRun.{fitting}

@@ -1,7 +1,6 @@
 -- The value that an operation writes, by what it reads.
-use Rattle.sig_meaning.proofs.Common.{◌≡◌, ◌<◌, ℕ, ℤ, pos, Bool, true, false, not, List, [], ◌∷◌, length, map, get_or, refl, ap, sym, subst, ◌∙◌, arith, Contains, All, Option, None, Some, is_some, slice_get, unwrap_or, int_eq, and_parts, All-cons, All-nil, Function, Instant, Seen, Unbounded, seen_at, EqId, SigId, signal_id, contains_at, contains_head, contains_later, get_at, HaveValues, IsFunction, IsReaction, Meets, Memory, function_of, or_else, IsValid, form_within, Equation, Form, Fun, Delay, When, WhenConst, Default, Sync, Event, Operand, Sig, Const, Kernel, at_element, Registers, value_in, first_in, operand_in, result_of, Operation, Presence, equation_id, operations_of, signals_of, stores_of, without, writes_of, writing, Writes, OpKind, Read, Compute, Left, Right, DelayRead, Store, each_operation, first_below, only, operands_below, second_below, target_below}
+use Rattle.sig_meaning.proofs.Common.{◌≡◌, ◌<◌, ℕ, ℤ, pos, Bool, true, false, not, List, [], ◌∷◌, length, map, get_or, refl, ap, sym, subst, ◌∙◌, arith, Contains, All, Option, None, Some, is_some, slice_get, unwrap_or, int_eq, and_parts, All-cons, All-nil, Function, Instant, Seen, Unbounded, seen_at, EqId, SigId, signal_id, HaveValues, IsFunction, IsReaction, Meets, Memory, function_of, or_else, IsValid, form_within, Equation, Form, Fun, Delay, When, WhenConst, Default, Sync, Event, Operand, Sig, Const, Kernel, Registers, value_in, first_in, operand_in, result_of, Operation, Presence, equation_id, operations_of, signals_of, stores_of, without, writes_of, writing, Writes, OpKind, Read, Compute, Left, Right, DelayRead, Store, each_operation, first_below, only, operands_below, second_below, target_below, contains_at, contains_head, contains_later, slice_get-get_or, at_element, not_true}
 use Rattle.sig_kernel.specs.KernelTraces.{where_present, where_true}
-use Rattle.sig_meaning.proofs.Numbers.{not_true}
 use Rattle.sig_meaning.proofs.Results.{determined}
 
 abbrev pub form_in : Option Equation → Option Form
@@ -47,7 +46,7 @@ value kernel memory next registers p = value_by memory next registers p.reads (f
 
 -- the form of the equation of a number
 pub has_form : (kernel : Kernel) (k : ℕ) (d : Equation) → k < length kernel.equations → form_for kernel (Some (equation_id k)) ≡ Some (get_or kernel.equations k d).form
-has_form kernel k d lt = ap form_in (get_at kernel.equations k d lt)
+has_form kernel k d lt = ap form_in (slice_get-get_or kernel.equations k d lt)
 
 -- ---- the value depends on what is read alone
 
@@ -212,7 +211,7 @@ module _ (kernel : Kernel) (memory : Memory) (next : ℕ → ℤ) (presence : Pr
       (λ k d lt. (
         has_form kernel k d lt,
         at_element (λ (equation : Equation). Meets Unbounded memory instant equation.form) kernel.equations (get_or kernel.equations k d)
-            (contains_at kernel.equations k (get_or kernel.equations k d) (get_at kernel.equations k d lt)) is.equations,
+            (contains_at kernel.equations k (get_or kernel.equations k d) (slice_get-get_or kernel.equations k d lt)) is.equations,
         valid.equations.within k d lt,
       ))
       (λ number lt z target done.

@@ -1,6 +1,6 @@
 -- An instant that is within bounds has no fault.
-use Rattle.sig_meaning.proofs.Common.{◌≡◌, ◌<◌, ℕ, ℤ, true, false, List, length, map, ap, sym, subst, ◌∙◌, arith, Contains, Some, length-map, Gives, Bounded, Instant, IsOfKind, Trace, has_64_bits, seen_at, EqId, SigId, Signal, of_kind, contains_at, IsFunction, IsReaction, Meets, Memory, function_of, remembered, kind_of, Equation, Form, Fun, Kernel, at_element, IsWithinBounds, IsFaultAt, Computes, HasFault, MeetsFault, divides_by_zero, Operation, Cause, Exhausted, Overflow, ZeroDivisor, Limit}
-use Rattle.sig_meaning.proofs.Agreement.{Compiled, some_at}
+use Rattle.sig_meaning.proofs.Common.{◌≡◌, ◌<◌, ℕ, ℤ, true, false, List, length, map, ap, sym, subst, ◌∙◌, arith, Contains, Some, length-map, Gives, Bounded, Instant, IsOfKind, Trace, has_64_bits, seen_at, EqId, SigId, Signal, of_kind, IsFunction, IsReaction, Meets, Memory, function_of, remembered, kind_of, Equation, Form, Fun, Kernel, IsWithinBounds, IsFaultAt, Computes, HasFault, MeetsFault, divides_by_zero, Operation, Cause, Exhausted, Overflow, ZeroDivisor, Limit, contains_at, at_element, some_at}
+use Rattle.sig_meaning.proofs.Agreement.{Compiled}
 use Rattle.sig_meaning.proofs.NamedCause.{beyond_end, kinds_length}
 use Rattle.sig_meaning.proofs.FirstFaults.{one_either}
 use Rattle.sig_meaning.proofs.Longest.{same_values}

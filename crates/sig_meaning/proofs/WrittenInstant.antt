@@ -1,9 +1,8 @@
 -- What the operations of a compiled kernel write, done in order, is an instant of the kernel.
-use Rattle.sig_meaning.proofs.Common.{◌≡◌, ◌<◌, ◌≤◌, ◌⊎◌, inl, inr, ℕ, zero, suc, ℤ, Bool, true, false, List, length, refl, ap, sym, subst, ◌∙◌, arith, Contains, Option, None, Some, is_some, slice_get, slice_index, Instant, IsValue, Unbounded, Kind, Boolean, SigId, Signal, truth_of_value, Allows, is_condition, Reaction, Status, is_present, status_at, at_contained, contains_at, truth_of, Memory, Kernel, HasNextValues, HasOneReaction, IsNext, RemembersValues, Registers, is_true, Operation, operations_of, Writes, written_present}
+use Rattle.sig_meaning.proofs.Common.{◌≡◌, ◌<◌, ◌≤◌, ◌⊎◌, inl, inr, ℕ, zero, suc, ℤ, Bool, true, false, List, length, refl, ap, sym, subst, ◌∙◌, arith, Contains, Option, None, Some, is_some, slice_get, slice_index, Instant, IsValue, Unbounded, Kind, Boolean, SigId, Signal, truth_of_value, Allows, is_condition, Reaction, Status, is_present, status_at, truth_of, Memory, Kernel, HasNextValues, HasOneReaction, IsNext, RemembersValues, Registers, is_true, Operation, operations_of, Writes, written_present, at_contained, contains_at, cases_eq}
 use Rattle.sig_meaning.proofs.Agreement.{Compiled, condition_signal, same_instant, truth_at}
 use Rattle.sig_meaning.proofs.OrderedOperations.{WritesAt, final, finally_present, finally_written, guard_settled, place_of, reaction, read_there, run, run_none, truths, unchanged, written_stays}
 use Rattle.sig_meaning.proofs.Equations.{next_instant}
-use Rattle.sig_meaning.proofs.Numbers.{same_or_not}
 use Rattle.sig_meaning.proofs.Steps.{AreKnown, instant_of, one_fit}
 use Rattle.sig_meaning.proofs.Truths.{some_status}
 use Rattle.sig_meaning.proofs.Values.{value}
@@ -76,7 +75,7 @@ module _ (kernel : Kernel) (conditions : List SigId) (operations : List Operatio
     by (Some q) at = written (at_x q.writes refl) (q.guard P) refl where
       at_x : (w : Option SigId) → q.writes ≡ w → ((y : SigId) × Writes q y × (y.0 ≡ x)) ⊎ ((y : SigId) → Writes q y → y.0 ≡ x → ⊥)
       at_x None e = inr (λ y writes same. let f : None ≡ Some y = sym e ∙ writes in cc)
-      at_x (Some y) e = decide (same_or_not y.0 x) where
+      at_x (Some y) e = decide (cases_eq y.0 x) where
         decide : (y.0 ≡ x) ⊎ ((y.0 ≡ x) → ⊥) → ((z : SigId) × Writes q z × (z.0 ≡ x)) ⊎ ((z : SigId) → Writes q z → z.0 ≡ x → ⊥)
         decide (inl f) = inl (y, e, f)
         decide (inr differs) = inr (λ z writes f.

@@ -1,14 +1,5 @@
 -- What a file that gives nothing ends a command with.
-use Rattle.sig_outcome.proofs.Common.{◌≡◌, ◌≤◌, ℕ, List, Option, None, Some, IfSome, Result, Ok, Err, length, inl, inr, refl, arith, IfErr, IfOk, string_bytes, Contents, Absent, AtData, AtProgram, Bad, Long, Outcome, long_program, AtNoBytes, HasCount, IsAboutData, IsAboutImage, IsAboutProgram, IsOfData, IsOfImage, IsOfLength, IsOfProgram, IsOwn, outcome_of, status_of, Refusal, Missing, ReadFault, LongProgram, Program, Budget, TooManyItems, LongFile, Data, LongImage, OutOfMemory}
-
--- what holds of one result holds of another one that is told by it
-pub on_err : {T E : Type 0} (result : Result T E) (P Q : E → Type 0) → ((e : E) → P e → Q e) → IfErr result P → IfErr result Q
-on_err (Ok x) P Q weaker holds = tt
-on_err (Err e) P Q weaker holds = weaker e holds
-
-pub on_ok : {T E : Type 0} (result : Result T E) (P Q : T → Type 0) → ((x : T) → P x → Q x) → IfOk result P → IfOk result Q
-on_ok (Ok x) P Q weaker holds = weaker x holds
-on_ok (Err e) P Q weaker holds = tt
+use Rattle.sig_outcome.proofs.Common.{◌≡◌, ◌≤◌, ℕ, List, Option, None, Some, IfSome, length, inl, inr, refl, arith, string_bytes, Contents, Absent, AtData, AtProgram, Bad, Long, Outcome, long_program, AtNoBytes, HasCount, IsAboutData, IsAboutImage, IsAboutProgram, IsOfData, IsOfImage, IsOfLength, IsOfProgram, IsOwn, outcome_of, status_of, Refusal, Missing, ReadFault, LongProgram, Program, Budget, TooManyItems, LongFile, Data, LongImage, OutOfMemory}
 
 -- two facts of what is told
 pub told_both : (contents : Option Contents) (P Q R : Contents → Type 0) → ((held : Contents) → P held → Q held → R held) → IfSome contents P → IfSome contents Q → IfSome contents R
@@ -137,18 +128,6 @@ module _ (IsLine : List ℕ → Type 0) where
 
 -- a refusal of the bytes of an image file has no count, and may be one of that file
 module _ (IsLine : List ℕ → Type 0) (IsBudget : ℕ → Type 0) where
-  pub count_of_image : (contents : Option Contents) (at : Option (List ℕ)) (misses misses' faults faults' : ℕ) (r : Refusal) → IsOfImage IsLine IsBudget r → HasCount contents at misses misses' faults faults' r
-  count_of_image contents at misses misses' faults faults' (Missing n) is = absurd is
-  count_of_image contents at misses misses' faults faults' (ReadFault n) is = absurd is
-  count_of_image contents at misses misses' faults faults' LongProgram is = tt
-  count_of_image contents at misses misses' faults faults' (Program line) is = tt
-  count_of_image contents at misses misses' faults faults' (Budget nodes) is = tt
-  count_of_image contents at misses misses' faults faults' TooManyItems is = tt
-  count_of_image contents at misses misses' faults faults' (LongFile n) is = tt
-  count_of_image contents at misses misses' faults faults' (Data line) is = tt
-  count_of_image contents at misses misses' faults faults' LongImage is = tt
-  count_of_image contents at misses misses' faults faults' OutOfMemory is = tt
-
   pub about_image : (name : List ℕ) (MayBe : List ℕ → Type 0) (MayLack : ℕ → Type 0) → ((line : List ℕ) → IsLine line → MayBe line) → ((nodes : ℕ) → IsBudget nodes → MayLack nodes) → (r : Refusal) → IsOfImage IsLine IsBudget r → IsAboutImage name MayBe MayLack r
   about_image name MayBe MayLack lines nodes (Missing n) is = absurd is
   about_image name MayBe MayLack lines nodes (ReadFault n) is = absurd is
@@ -173,19 +152,6 @@ module _ (IsLine : List ℕ → Type 0) (IsBudget : ℕ → Type 0) where
   budget_of_image (Data line) is eight = absurd (omega (arith, eight))
   budget_of_image LongImage is eight = absurd is
   budget_of_image OutOfMemory is eight = absurd (omega (arith, eight))
-
--- what may be a refusal of a flow file or a trace file, may be one of an image file
-pub image_of_data : (name : List ℕ) (IsLine : List ℕ → Type 0) (IsBudget : ℕ → Type 0) (r : Refusal) → IsAboutData name IsLine r → IsAboutImage name IsLine IsBudget r
-image_of_data name IsLine IsBudget (Missing n) is = is
-image_of_data name IsLine IsBudget (ReadFault n) is = is
-image_of_data name IsLine IsBudget LongProgram is = absurd is
-image_of_data name IsLine IsBudget (Program line) is = absurd is
-image_of_data name IsLine IsBudget (Budget n) is = absurd is
-image_of_data name IsLine IsBudget TooManyItems is = absurd is
-image_of_data name IsLine IsBudget (LongFile n) is = is
-image_of_data name IsLine IsBudget (Data line) is = is
-image_of_data name IsLine IsBudget LongImage is = absurd is
-image_of_data name IsLine IsBudget OutOfMemory is = tt
 
 -- a refusal of an image that is too long has no count, and its status is another one than 8
 pub count_of_length : (IsLong : Type 0) (contents : Option Contents) (at : Option (List ℕ)) (misses misses' faults faults' : ℕ) (r : Refusal) → IsOfLength IsLong r → HasCount contents at misses misses' faults faults' r

@@ -1,12 +1,8 @@
 -- Presences and reactions in the store, and what they say of a kernel's signals.
-use Rattle.sig_pace.proofs.Common.{◌≡◌, ◌↔◌, ◌&&◌, ℕ, Bool, true, false, List, refl, sym, ap, ◌∙◌, IsTrue, false≢true, IsPossible, IsSignal, Reaction, Speaks, is_present, Holds, Implies, IsRefOf, IsStore, Keeps, Overlap, Spans, StoreView, test, Node, Ref, Holds-kept, IsOver, IsSystem, SystemView, reading, over_two, older_test, in_variables, presence_over, presence_read, solution_newer, solution_older, system_kept, HoldsPresences, IsAskedIn, IsCandidate, presence_in, reactions_in, variables_of, IsBelow, Asked}
+use Rattle.sig_pace.proofs.Common.{◌≡◌, ◌&&◌, ℕ, Bool, true, List, sym, ap, ◌∙◌, IsTrue, IsPossible, IsSignal, Reaction, Speaks, is_present, Holds, Implies, IsRefOf, IsStore, Keeps, Overlap, Spans, StoreView, test, Node, Ref, Holds-kept, IsOver, IsSystem, SystemView, reading, over_two, older_test, in_variables, presence_over, presence_read, solution_newer, solution_older, system_kept, HoldsPresences, IsAskedIn, IsCandidate, presence_in, reactions_in, variables_of, IsBelow, Asked, both_true}
 
 pub over_spans : (nodes : List Node) (system : SystemView) (r : Ref) → IsOver nodes system r → Spans nodes r (variables_of system)
 over_spans nodes system r over v d = in_variables system v (over.within v d)
-
-pub both_true : (a b : Bool) → IsTrue (a && b) ↔ (IsTrue a × IsTrue b)
-both_true true b = ((λ t. (refl, t)), (λ p. p.1))
-both_true false b = ((λ t. absurd (false≢true t)), (λ p. absurd (false≢true p.0)))
 
 -- the solutions are where the residue and the speaking are both true
 pub asked_is : (old new : StoreView) (kept : Keeps old new) (asked : Asked) → IsStore new → IsSystem asked.kernel.now old.nodes asked.system

@@ -1,15 +1,6 @@
 -- Lists of candidates, one after another.
-use Rattle.sig_pace.proofs.Common.{◌≡◌, ◌<◌, ◌+◌, ◌⊎◌, inl, inr, ℕ, List, [], ◌∷◌, ◌++◌, length, length-append, get_or, map, refl, sym, ap, ◌∙◌, subst, arith, Contains, zero, suc, None, Some, slice_get, Contains-get_or, IsSignal, at_contained, IsRefOf, Keeps, StoreView, IsRefOf-kept, map_length, AreCandidates, IsAskedIn, reactions_in, AreIncreasing, AreByNumber, signals_of, Asked, Candidate}
+use Rattle.sig_pace.proofs.Common.{◌≡◌, ◌<◌, ◌+◌, inl, inr, ℕ, List, [], ◌∷◌, ◌++◌, length, length-append, get_or, map, refl, sym, ap, ◌∙◌, subst, arith, Contains, zero, suc, Some, slice_get, Contains-get_or, IsSignal, IsRefOf, Keeps, StoreView, IsRefOf-kept, AreCandidates, IsAskedIn, reactions_in, AreIncreasing, AreByNumber, signals_of, Asked, Candidate, get_pushed, at_contained, length-map}
 use Rattle.sig_pace.proofs.AskedLemmas.{candidate_is, presences_kept}
-
-get_pushed : {X : Type 0} (xs : List X) (x : X) (k : ℕ) (y : X) → slice_get (xs ++ x ∷ []) k ≡ Some y → (slice_get xs k ≡ Some y) ⊎ ((k ≡ length xs) × (x ≡ y))
-get_pushed [] x zero y at = inr (refl, (let e : Some x ≡ Some y = at in cc))
-get_pushed [] x (suc k) y at = absurd (let e : None ≡ Some y = at in cc)
-get_pushed (z ∷ xs) x zero y at = inl at
-get_pushed (z ∷ xs) x (suc k) y at = elim (get_pushed xs x k y at) [
-  | inl old ↦ inl old
-  | inr last ↦ inr (ap suc last.0, last.1)
-]
 
 pub pushed_count : (xs : List Candidate) (x : Candidate) (ys : List Candidate) (k : ℕ) → ys ≡ xs ++ x ∷ [] → length xs ≡ k → length ys ≡ k + 1
 pushed_count xs x ys k is count = let long = length-append xs (x ∷ []) in let e = ap length is in omega (arith, e, long, count)
@@ -55,5 +46,5 @@ pub by_number : (candidates : List Candidate) → AreIncreasing (signals_of cand
 by_number candidates increasing i j d less within =
     let a = map_get (λ (c : Candidate). c.signal) candidates i 0 d (omega (arith, less, within)) in
     let b = map_get (λ (c : Candidate). c.signal) candidates j 0 d within in
-    let lt = increasing i j 0 less (let long = map_length (λ (c : Candidate). c.signal) candidates in omega (arith, within, long)) in
+    let lt = increasing i j 0 less (let long = length-map candidates (λ (c : Candidate). c.signal) in omega (arith, within, long)) in
     omega (arith, a, b, lt)

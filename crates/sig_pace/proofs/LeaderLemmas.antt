@@ -1,14 +1,5 @@
 -- The least signals of the clock classes are no more than the unknowns.
-use Rattle.sig_pace.proofs.Common.{◌≡◌, ◌<◌, ◌≤◌, ◌⊎◌, inl, inr, ℕ, Bool, true, false, cond, eqb, count_by, filter, List, [], ◌∷◌, length, get_or, refl, sym, ap, ◌∙◌, subst, arith, Contains, suc, range_with_len, cases_lt, eq-eqb, false≢true, length-filter, AreLeast, itself, contains_head, contains_later, Kernel, IsUnknownCount, is_boolean, leaders_of, least_below, least_twice, in_filter, in_range, of_filter, of_range, ordered_leaders, AreLeaders}
-
-filter_same : (p q : ℕ → Bool) (xs : List ℕ) → ((x : ℕ) → Contains xs x → p x ≡ q x) → length (filter p xs) ≡ length (filter q xs)
-filter_same p q [] same = refl
-filter_same p q (x ∷ xs) same = by (p x) (q x) (same x (contains_head x xs)) (filter_same p q xs (λ y there. same y (contains_later x y xs there))) where
-  by : (a b : Bool) → a ≡ b → length (filter p xs) ≡ length (filter q xs) → length (cond a (x ∷ filter p xs) (filter p xs)) ≡ length (cond b (x ∷ filter q xs) (filter q xs))
-  by true true e rest = ap suc rest
-  by false false e rest = rest
-  by true false e rest = absurd (false≢true (sym e))
-  by false true e rest = absurd (false≢true e)
+use Rattle.sig_pace.proofs.Common.{◌≡◌, ◌<◌, ◌≤◌, ◌⊎◌, inl, inr, ℕ, eqb, count_by, filter, List, length, get_or, sym, ap, ◌∙◌, subst, arith, Contains, range_with_len, cases_lt, eq-eqb, length-filter, AreLeast, itself, Kernel, IsUnknownCount, is_boolean, leaders_of, least_below, least_twice, ordered_leaders, AreLeaders, filter_same, in_filter, of_filter, in_range, within_range}
 
 least_one : (kernel : Kernel) (a b : List ℕ) → AreLeast kernel a → AreLeast kernel b → (s : ℕ) → s < length kernel.signals → get_or a s 0 ≡ get_or b s 0
 least_one kernel a b is_a is_b s lt = omega (arith, is_a.least s (get_or b s 0) lt (is_b.same s lt), is_b.least s (get_or a s 0) lt (is_a.same s lt))
@@ -25,7 +16,7 @@ module _ (kernel : Kernel) (least leaders : List ℕ) (are : AreLeast kernel lea
   leader_signal : (s : ℕ) → Contains leaders s → s < length kernel.signals
   leader_signal s there =
       let parts = of_filter (λ k. eqb (get_or least k 0) k) (range_with_len 0 (length least)) s (subst (λ (xs : List ℕ). Contains xs s) is there) in
-      let lt = of_range (length least) s parts.0 in
+      let lt = within_range (length least) s parts.0 in
       omega (arith, lt, are.count)
 
   module _ (u : ℕ) (count : IsUnknownCount kernel u) where
@@ -34,7 +25,7 @@ module _ (kernel : Kernel) (least leaders : List ℕ) (are : AreLeast kernel lea
         let range = range_with_len 0 (length kernel.signals) in
         ap length is
         ∙ ap (λ n. length (filter (λ s. eqb (get_or least s 0) s) (range_with_len 0 n))) are.count
-        ∙ filter_same (λ s. eqb (get_or least s 0) s) (λ s. eqb (get_or count.0 s 0) s) range (λ s there. ap (λ k. eqb k s) (least_one kernel least count.0 are count.1 s (of_range (length kernel.signals) s there)))
+        ∙ filter_same (λ s. eqb (get_or least s 0) s) (λ s. eqb (get_or count.0 s 0) s) range (λ s there. ap (λ k. eqb k s) (least_one kernel least count.0 are count.1 s (within_range (length kernel.signals) s there)))
         ∙ length-filter (λ s. eqb (get_or count.0 s 0) s) range
 
     few_leaders : length leaders ≤ u

@@ -28,13 +28,13 @@ pub use CandidateLemmas.*
 pub use FlowsOfPaced.*
 pub use LeaderLemmas.*
 pub use MaximaLemmas.*
+pub use OneWayOrRefused.*
+pub use PaceIsClock.*
+pub use PacedIsValid.*
 pub use PacedLemmas.*
 pub use PacedOrRefused.*
-pub use Places.*
-pub use OneWayOrRefused.*
 pub use PacedRoot.*
+pub use Places.*
 pub use ShareLemmas.*
-pub use PaceIsClock.*
 pub use TopLemmas.*
 pub use TracesWithoutPaces.*
-pub use PacedIsValid.*

@@ -1,7 +1,6 @@
 -- The tops among the least signals of all clock classes are the least signals of the maximal clocks. There are two of
 -- them or more exactly where a kernel needs paces.
-use Rattle.sig_pace.proofs.Common.{◌≡◌, ◌<◌, ◌≤◌, ◌⊎◌, inl, inr, ℕ, Bool, true, false, List, [], ◌∷◌, length, get_or, map, refl, sym, ap, ◌∙◌, subst, arith, Contains, zero, suc, None, Some, slice_get, false≢true, IsPossible, IsDead, IsRoot, IsSignal, Reaction, is_present, is_silent, SameClock, contains_cons, contains_head, contains_later, contains_none, present_together, Kernel, all_statuses, get_is, in_map, of_map, AreLeaders, AreMaximalClocks, IsBelow, IsLeastMaximal, NeedsNoPaces, NeedsPaces, AreMaxima, AreTops, IsCover, signals_of, Candidate}
-use Rattle.sig_solve.proofs.ListLemmas.{get_at, get_within}
+use Rattle.sig_pace.proofs.Common.{◌≡◌, ◌<◌, ◌≤◌, inl, inr, ℕ, true, false, List, [], ◌∷◌, length, get_or, refl, sym, ap, ◌∙◌, subst, arith, Contains, zero, suc, None, Some, false≢true, IsPossible, IsDead, IsRoot, IsSignal, Reaction, is_present, is_silent, SameClock, present_together, Kernel, all_statuses, AreLeaders, AreMaximalClocks, IsBelow, IsLeastMaximal, NeedsNoPaces, NeedsPaces, AreMaxima, AreTops, IsCover, signals_of, Candidate, map_get, cases_Bool, contains_cons, contains_head, contains_later, contains_mapped, contains_none, mapped_from, get_or_from_slice_get, slice_get-get_or, slice_get_within}
 use Rattle.sig_pace.proofs.TopLemmas.{below_through}
 
 -- ---- what is present
@@ -26,23 +25,18 @@ class_below kernel s l one reaction speaks present = sym (present_together kerne
 
 -- ---- maximal clocks
 
-map_at : {X Y : Type 0} (f : X → Y) (xs : List X) (i : ℕ) (y : Y) → slice_get (map f xs) i ≡ Some y → (x : X) × (slice_get xs i ≡ Some x) × (f x ≡ y)
-map_at f [] i y at = absurd (let e : None ≡ Some y = at in cc)
-map_at f (x ∷ xs) zero y at = let e : Some (f x) ≡ Some y = at in (x, refl, cc)
-map_at f (x ∷ xs) (suc i) y at = map_at f xs i y at
-
 module _ (kernel : Kernel) (leaders found : List ℕ) (are : AreLeaders kernel leaders) (cover : IsCover kernel leaders found) (candidates tops : List Candidate) (same : signals_of candidates ≡ found) (is : AreTops kernel candidates tops) where
   -- each signal is below a candidate that is no greater
   candidate_above : (s : ℕ) → IsSignal kernel s → (c : Candidate) × Contains candidates c × (c.signal ≤ s) × IsBelow kernel s c.signal
   candidate_above s lt =
       let l = are.all s lt in
       let x = cover.cover l.0 l.1 in
-      let c = of_map (λ (c : Candidate). c.signal) candidates x.0 (subst (λ (xs : List ℕ). Contains xs x.0) (sym same) x.1) in
+      let c = mapped_from (λ (c : Candidate). c.signal) candidates x.0 (subst (λ (xs : List ℕ). Contains xs x.0) (sym same) x.1) in
       let low : c.0.signal ≤ s = (let a = l.3 in let b = x.2 in let e = c.2 in omega (arith, a, b, e)) in
       (c.0, c.1, low, subst (IsBelow kernel s) c.2 (below_through kernel s l.0 x.0 (class_below kernel s l.0 l.2) x.3))
 
   candidate_signal : (c : Candidate) → Contains candidates c → IsSignal kernel c.signal
-  candidate_signal c there = are.are c.signal (cover.among c.signal (subst (λ (xs : List ℕ). Contains xs c.signal) same (in_map (λ (c : Candidate). c.signal) candidates c there)))
+  candidate_signal c there = are.are c.signal (cover.among c.signal (subst (λ (xs : List ℕ). Contains xs c.signal) same (contains_mapped (λ (c : Candidate). c.signal) candidates c there)))
 
   top_is_maximal : (m : Candidate) → Contains tops m → IsLeastMaximal kernel m.signal
   top_is_maximal m there = record {
@@ -78,28 +72,28 @@ module _ (kernel : Kernel) (leaders found : List ℕ) (are : AreLeaders kernel l
       let down = (is.top m.0 c.0 m.1 c.1 (below_through kernel m.0.signal x c.0.signal back c.3)).1 in
       let low = c.2 in
       let e : m.0.signal ≡ x = omega (arith, up, down, low) in
-      subst (Contains (signals_of tops)) e (in_map (λ (c : Candidate). c.signal) tops m.0 m.1)
+      subst (Contains (signals_of tops)) e (contains_mapped (λ (c : Candidate). c.signal) tops m.0 m.1)
 
   pub maxima_are : AreMaxima kernel (signals_of tops)
   maxima_are = record {
     clocks = record {
       all = λ x. (
-        (λ there. let m = of_map (λ (c : Candidate). c.signal) tops x there in subst (IsLeastMaximal kernel) (sym m.2) (top_is_maximal m.0 m.1)),
+        (λ there. let m = mapped_from (λ (c : Candidate). c.signal) tops x there in subst (IsLeastMaximal kernel) (sym m.2) (top_is_maximal m.0 m.1)),
         maximal_is_top x,
       );
       order = λ i j x y less at_i at_j.
-          let a = map_at (λ (c : Candidate). c.signal) tops i x at_i in
-          let b = map_at (λ (c : Candidate). c.signal) tops j y at_j in
-          let lt = is.order i j a.0 less (get_within tops j b.0 b.1) in
-          let own_a : get_or tops i a.0 ≡ a.0 = get_is tops i a.0 a.0 a.1 in
-          let own_b : get_or tops j a.0 ≡ b.0 = get_is tops j b.0 a.0 b.1 in
+          let a = map_get (λ (c : Candidate). c.signal) tops i x at_i in
+          let b = map_get (λ (c : Candidate). c.signal) tops j y at_j in
+          let lt = is.order i j a.0 less (slice_get_within tops j b.0 b.1) in
+          let own_a : get_or tops i a.0 ≡ a.0 = get_or_from_slice_get tops i a.0 a.0 a.1 in
+          let own_b : get_or tops j a.0 ≡ b.0 = get_or_from_slice_get tops j b.0 a.0 b.1 in
           let signal_a = ap (λ (c : Candidate). c.signal) own_a in
           let signal_b = ap (λ (c : Candidate). c.signal) own_b in
           let e = a.2 in
           let f = b.2 in
           omega (arith, lt, signal_a, signal_b, e, f);
     };
-    cover = λ s possible. let m = covered s possible in (m.0.signal, in_map (λ (c : Candidate). c.signal) tops m.0 m.1, m.2);
+    cover = λ s possible. let m = covered s possible in (m.0.signal, contains_mapped (λ (c : Candidate). c.signal) tops m.0 m.1, m.2);
   }
 
 -- ---- their number
@@ -112,7 +106,7 @@ module _ (kernel : Kernel) (least : List ℕ) (are : AreMaximalClocks kernel lea
   place_below zero lt = omega arith
   place_below (suc i) lt =
       let before = place_below i (omega (arith, lt)) in
-      let less = are.order i (suc i) (get_or least i 0) (get_or least (suc i) 0) (omega arith) (get_at least i 0 (omega (arith, lt))) (get_at least (suc i) 0 lt) in
+      let less = are.order i (suc i) (get_or least i 0) (get_or least (suc i) 0) (omega arith) (slice_get-get_or least i 0 (omega (arith, lt))) (slice_get-get_or least (suc i) 0 lt) in
       omega (arith, before, less)
 
   pub few_maximal : length least ≤ length kernel.signals
@@ -122,17 +116,13 @@ module _ (kernel : Kernel) (least : List ℕ) (are : AreMaximalClocks kernel lea
     by (suc n) e =
         let lt : n < length least = omega (arith, e) in
         let low = place_below n lt in
-        let high = maximal_signal (get_or least n 0) (n, lt, get_is least n (get_or least n 0) (get_or least n 0) (get_at least n 0 lt)) in
+        let high = maximal_signal (get_or least n 0) (n, lt, get_or_from_slice_get least n (get_or least n 0) (get_or least n 0) (slice_get-get_or least n 0 lt)) in
         omega (arith, low, high)
 
 -- ---- which kernels need paces
 
-bool_cases : (b : Bool) → (b ≡ true) ⊎ (b ≡ false)
-bool_cases true = inl refl
-bool_cases false = inr refl
-
 none_is_dead : (kernel : Kernel) → AreMaxima kernel [] → IsDead kernel
-none_is_dead kernel are reaction is = elim (bool_cases (is_silent reaction)) [
+none_is_dead kernel are reaction is = elim (cases_Bool (is_silent reaction)) [
   | inl e ↦ e
   | inr e ↦
       let s = some_present reaction e in

@@ -1,8 +1,7 @@
 -- At each instant of a trace of a paced kernel a clock is present where its pace is true.
-use Rattle.sig_pace.proofs.Common.{◌≡◌, ◌+◌, ◌++◌, ◌↔◌, ◌∙◌, ℕ, zero, suc, pos, Bool, true, false, cond, int_eq, List, [], ◌∷◌, length, map, slice_get, refl, sym, ap, subst, None, Some, is_some, AllByRecursion, false≢true, Decides-int_eq, Instant, Range, Seen, Trace, seen_at, IsSignal, IsTraceIn, Meets, Memory, remembered, where_true, Equation, Kernel, Runs, runs_from_trace, marked_from, others_together, paced_kernel, moved, renumbered_equation, without_paces}
+use Rattle.sig_pace.proofs.Common.{◌≡◌, ◌+◌, ◌++◌, ◌↔◌, ◌∙◌, ℕ, zero, suc, pos, Bool, true, false, cond, int_eq, List, [], ◌∷◌, length, map, slice_get, refl, sym, ap, subst, None, Some, is_some, AllByRecursion, false≢true, Decides-int_eq, Instant, Range, Seen, Trace, seen_at, IsSignal, IsTraceIn, Meets, Memory, remembered, where_true, Equation, Kernel, Runs, runs_from_trace, marked_from, others_together, paced_kernel, moved, renumbered_equation, without_paces, all_back}
 use Rattle.sig_kernel.specs.KernelTraces.{IsReaction}
 use Rattle.sig_pace.proofs.Agreement.{what_is_left}
-use Rattle.sig_pace.proofs.Listed.{all_back}
 use Rattle.sig_pace.proofs.Rooms.{next_offset, no_offset}
 
 -- what is there where a signal is true tells that it is

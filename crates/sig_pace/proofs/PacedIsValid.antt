@@ -1,7 +1,7 @@
 -- The paced kernel of a valid kernel is valid.
-use Rattle.sig_pace.proofs.Common.{◌≡◌, ◌<◌, ◌≤◌, ◌+◌, ◌-◌, ◌++◌, ◌&&◌, ◌||◌, ◌==◌, ◌∙◌, ◌^◌, inl, inr, ℕ, zero, suc, Bool, true, false, cond, List, [], ◌∷◌, length, map, take, drop, slice_get, refl, sym, ap, subst, arith, Contains, Some, pos, bytes_eq, count_by, sum_by, IsDistinct, list_all, list_any, codes, decimal, and_from, and_parts, cases_eq, cases_lt, eq-eqb, false_from_ne_true, lt-ltb, ltb-true, ne_eqb, decimal_injective, append_assoc, append_cancel_left, length-append, length-map, length-take-le, map-append, take_at, AllPass-from_list_all, list_all-from_AllPass, sum_by-append, sum_by-cons, IsDistinct-cons, IsDistinct-head, IsDistinct-tail, bytes_eq-Decides, Boolean, Event as EventKind, SigId, SIGNALS, Signal, Span, IsSignal, contains_cons, contains_head, contains_later, contains_none, form_fits, kind_at, kind_fits, operands_of, target_fits, target_of, AreWellMade, DefinesEach, HasParts, IsValid, defines, form_within, inputs_of, is_below, is_signal, is_target, operand_within, target_within, Equation, Form, Default, Delay, Fun, Sync, When, WhenConst, Operand, Const, Sig, Kernel, Truth, GetsPaces, IsTaken, marked_from, marks_from, others_together, pace_name, paced_kernel, paces_from, place_of, together_from, moved, renumbered, renumbered_equation, renumbered_form, renumbered_operand}
+use Rattle.sig_pace.proofs.Common.{◌≡◌, ◌<◌, ◌≤◌, ◌+◌, ◌-◌, ◌++◌, ◌&&◌, ◌||◌, ◌==◌, ◌∙◌, ◌^◌, inl, inr, ℕ, zero, suc, Bool, true, false, cond, List, [], ◌∷◌, length, map, take, drop, slice_get, refl, sym, ap, subst, arith, Contains, Some, pos, bytes_eq, count_by, sum_by, IsDistinct, list_all, list_any, codes, decimal, and_from, and_parts, cases_eq, cases_lt, eq-eqb, false_from_ne_true, lt-ltb, ltb-true, ne_eqb, decimal_injective, append_assoc, append_cancel_left, length-append, length-map, length-take-le, map-append, take_at, AllPass-from_list_all, list_all-from_AllPass, sum_by-append, sum_by-cons, IsDistinct-cons, IsDistinct-head, IsDistinct-tail, bytes_eq-Decides, Boolean, Event as EventKind, SigId, SIGNALS, Signal, Span, IsSignal, form_fits, kind_at, kind_fits, operands_of, target_fits, target_of, AreWellMade, DefinesEach, HasParts, IsValid, defines, form_within, inputs_of, is_below, is_signal, is_target, operand_within, target_within, Equation, Form, Default, Delay, Fun, Sync, When, WhenConst, Operand, Const, Sig, Kernel, Truth, GetsPaces, IsTaken, marked_from, marks_from, others_together, pace_name, paced_kernel, paces_from, place_of, together_from, moved, renumbered, renumbered_equation, renumbered_form, renumbered_operand, contains_cons, contains_head, contains_later, contains_none, all_both}
 use Rattle.sig_kernel.specs.declared.equation.Form.TheVariants.{Event}
-use Rattle.sig_pace.proofs.Listed.{all_joined, all_members, three_pass}
+use Rattle.sig_pace.proofs.Listed.{all_members, three_pass}
 use Rattle.sig_pace.proofs.Places.{kind_of_mark, kind_of_pace, paced_count, paces_count, stand}
 use Rattle.sig_pace.proofs.Rooms.{IsPlace, is_last, is_new, is_old, moved_apart, moved_before, moved_below, moved_outside, next_offset, no_offset, place_cases, same_at}
 use Rattle.sig_pace.proofs.RenumberedSignals.{fits_alike, operands_moved}
@@ -12,7 +12,7 @@ distinct_joined : (xs ys : List (List ℕ)) → IsDistinct bytes_eq xs → IsDis
 distinct_joined [] ys first second apart = second
 distinct_joined (x ∷ xs) ys first second apart =
     IsDistinct-cons bytes_eq x (xs ++ ys)
-    (all_joined (λ y. bytes_eq x y ≡ false) xs ys (IsDistinct-head bytes_eq x xs first) (all_members (λ y. bytes_eq x y ≡ false) ys (λ y there. apart x y (contains_head x xs) there)))
+    (all_both (λ y. bytes_eq x y ≡ false) xs ys (IsDistinct-head bytes_eq x xs first) (all_members (λ y. bytes_eq x y ≡ false) ys (λ y there. apart x y (contains_head x xs) there)))
     (distinct_joined xs ys (IsDistinct-tail bytes_eq x xs first) second (λ z y in_xs there. apart z y (contains_later x z xs in_xs) there))
 
 names_apart : (a b : ℕ) → a < 2 ^ 64 → b < 2 ^ 64 → (a ≡ b → ⊥) → bytes_eq (pace_name a) (pace_name b) ≡ false

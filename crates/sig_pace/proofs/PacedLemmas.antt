@@ -1,15 +1,7 @@
 -- The names of paces: which declared signal is the first that has one.
-use Rattle.sig_pace.proofs.Common.{◌≡◌, ◌<◌, ◌≤◌, ◌+◌, ◌⊎◌, inl, inr, ◌||◌, ℕ, Bool, true, false, List, [], ◌∷◌, length, take, sym, ap, ◌∙◌, refl, arith, zero, suc, None, Some, bytes_eq, slice_get, cases_lt, false≢true, bytes_eq-Decides, SigId, Signal, Kernel, FindsNamed, is_named, IsTaken, NeedsPaces, pace_name, paces_from, IsNameTaken}
+use Rattle.sig_pace.proofs.Common.{◌≡◌, ◌<◌, ◌≤◌, ◌+◌, inl, inr, ◌||◌, ℕ, true, List, [], ◌∷◌, length, take, sym, ap, ◌∙◌, arith, suc, None, Some, bytes_eq, slice_get, cases_lt, false≢true, bytes_eq-Decides, SigId, Signal, Kernel, FindsNamed, is_named, IsTaken, NeedsPaces, pace_name, paces_from, IsNameTaken, get_taken, taken_get, or_cases, or_right}
 
 -- ---- names
-
-or_cases : (a b : Bool) → (a || b) ≡ true → (a ≡ true) ⊎ (b ≡ true)
-or_cases true b is = inl refl
-or_cases false b is = inr is
-
-or_right : (a b : Bool) → b ≡ true → (a || b) ≡ true
-or_right true b is = refl
-or_right false b is = is
 
 -- what is named as a pace has its name
 pub named_pace : (kernel : Kernel) (n : ℕ) (least : List ℕ) (signal : Signal) → is_named (paces_from kernel n least) signal ≡ true → (number : ℕ) × (n ≤ number) × (number < n + length least) × (signal.name ≡ pace_name number)
@@ -32,24 +24,11 @@ pace_named kernel n (m ∷ least) signal number low high is = elim (cases_lt n n
       ap (λ b. b || is_named (paces_from kernel (suc n) least) signal) here
 ]
 
--- the first signals of a list
-get_taken : {X : Type 0} (xs : List X) (k j : ℕ) (x : X) → slice_get (take k xs) j ≡ Some x → (j < k) × (slice_get xs j ≡ Some x)
-get_taken xs zero j x at = absurd (let e : None ≡ Some x = at in cc)
-get_taken [] (suc k) j x at = absurd (let e : None ≡ Some x = at in cc)
-get_taken (y ∷ xs) (suc k) zero x at = (omega arith, at)
-get_taken (y ∷ xs) (suc k) (suc j) x at = let rest = get_taken xs k j x at in (omega (arith, rest.0), rest.1)
-
-of_taken : {X : Type 0} (xs : List X) (k j : ℕ) (x : X) → j < k → slice_get xs j ≡ Some x → slice_get (take k xs) j ≡ Some x
-of_taken xs zero j x lt at = absurd (omega (arith, lt))
-of_taken [] (suc k) j x lt at = absurd (let e : None ≡ Some x = at in cc)
-of_taken (y ∷ xs) (suc k) zero x lt at = at
-of_taken (y ∷ xs) (suc k) (suc j) x lt at = of_taken xs k j x (omega (arith, lt)) at
-
 module _ (kernel : Kernel) (least : List ℕ) where
   -- a taken name is found
   taken_named : (s : ℕ) (taken : IsTaken kernel least s) → (slice_get (take kernel.declared kernel.signals) s ≡ Some taken.found) × (is_named (paces_from kernel 1 least) taken.found ≡ true)
   taken_named s taken = (
-    of_taken kernel.signals kernel.declared s taken.found (let lt = taken.declared in omega (arith, lt)) taken.is,
+    get_taken kernel.declared kernel.signals s taken.found (let lt = taken.declared in omega (arith, lt)) taken.is,
     pace_named kernel 1 least taken.found taken.number taken.counted.0 (let le = taken.counted.1 in omega (arith, le)) taken.named,
   )
 
@@ -58,7 +37,7 @@ module _ (kernel : Kernel) (least : List ℕ) where
 
   pub first_taken : (x : SigId) → NeedsPaces kernel least → FindsNamed (take kernel.declared kernel.signals) (paces_from kernel 1 least) (Some x) → IsNameTaken kernel x.0
   first_taken x needs found =
-      let at = get_taken kernel.signals kernel.declared x.0 found.0 found.1 in
+      let at = taken_get kernel.declared kernel.signals x.0 found.0 found.1 in
       let name = named_pace kernel 1 least found.0 found.2 in
       record {
         least = least;

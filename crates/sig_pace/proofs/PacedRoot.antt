@@ -1,5 +1,5 @@
 -- A paced kernel has a root: its first pace is present wherever something is.
-use Rattle.sig_pace.proofs.Common.{◌≡◌, ◌<◌, ◌≤◌, ◌+◌, ◌++◌, ◌&&◌, ◌∙◌, inl, inr, ℕ, zero, suc, Bool, true, false, List, [], ◌∷◌, length, map, get_or, slice_get, refl, sym, ap, subst, arith, Contains, None, Some, is_some, pos, list_all, and_parts, cases_lt, false≢true, true_from_ne_false, list_all-append, AllPass-from_list_all, list_all-from_AllPass, HasRoot, IsSignal, IsReaction, Reaction, Speaks, Status, constant_truth, is_present, is_silent, is_status_of, meets, same_status, same_truth, status_at, get_at, get_within, absent_in_silence, statuses_are_same, truths_are_same, Signal, kind_at, IsValid, form_within, Equation, Kernel, GetsPaces, NeedsPaces, marked_from, others_together, paced_kernel, together_from, moved, renumbered_equation, restricted}
+use Rattle.sig_pace.proofs.Common.{◌≡◌, ◌<◌, ◌≤◌, ◌+◌, ◌++◌, ◌&&◌, ◌∙◌, inl, inr, ℕ, zero, suc, Bool, true, false, List, [], ◌∷◌, length, map, get_or, slice_get, refl, sym, ap, subst, arith, Contains, None, Some, is_some, pos, list_all, and_parts, cases_lt, false≢true, true_from_ne_false, list_all-append, AllPass-from_list_all, list_all-from_AllPass, HasRoot, IsSignal, IsReaction, Reaction, Speaks, Status, constant_truth, is_present, is_silent, is_status_of, meets, same_status, same_truth, status_at, absent_in_silence, statuses_are_same, truths_are_same, Signal, kind_at, IsValid, form_within, Equation, Kernel, GetsPaces, NeedsPaces, marked_from, others_together, paced_kernel, together_from, moved, renumbered_equation, restricted, slice_get-get_or, slice_get_within}
 use Rattle.sig_clock.specs.Reactions.{where_true}
 use Rattle.sig_pace.proofs.Agreement.{Agrees, how_many_left, what_is_left}
 use Rattle.sig_pace.proofs.ClocksAbove.{maximal_above}
@@ -124,7 +124,7 @@ module _ (kernel : Kernel) (least : List ℕ) (valid : IsValid kernel) where
   pub old_reaction : (wide : Reaction) → IsReaction paced wide → IsReaction kernel (without wide)
   old_reaction wide is = record {
     kinds = statuses_from_places kernel.signals (without wide) (how_many_left count place wide) (λ k signal found.
-        let lt = get_within kernel.signals k signal found in
+        let lt = slice_get_within kernel.signals k signal found in
         subst (λ status. is_status_of signal.kind status ≡ true) (sym (left_out wide k lt))
         (status_fits paced.signals wide is.kinds (place k) signal (sym (stand kernel least inputs_within k lt) ∙ found)));
     equations = AllPass-from_list_all (λ (equation : Equation). meets kernel.signals (without wide) equation.form) kernel.equations
@@ -155,7 +155,7 @@ module _ (kernel : Kernel) (least : List ℕ) (valid : IsValid kernel) where
       no_pace j lt = others_present kernel paced.signals wide least met.others j lt ∙ absent
 
       no_mark : (j m : ℕ) → slice_get least j ≡ Some m → (is_present wide (count + length least + j) ≡ false) × (is_present wide (place m) ≡ false)
-      no_mark j m is = marked_absent kernel paced.signals wide place kernel.inputs (count + length least) least met.marked j m is (no_pace j (get_within least j m is))
+      no_mark j m is = marked_absent kernel paced.signals wide place kernel.inputs (count + length least) least met.marked j m is (no_pace j (slice_get_within least j m is))
 
       -- no old signal is present, since some least one would be
       none_old : (x : ℕ) → x < count → is_present wide (place x) ≡ true → ⊥
@@ -166,7 +166,7 @@ module _ (kernel : Kernel) (least : List ℕ) (valid : IsValid kernel) where
           let m = found.0 in
           let listed : Contains least m = (needs.clocks.all m).1 found.1 in
           let up : is_present (without wide) m ≡ true = found.2 (without wide) old_speaks present in
-          let off = (no_mark listed.0 m (get_at least listed.0 m listed.1 ∙ ap Some listed.2)).1 in
+          let off = (no_mark listed.0 m (slice_get-get_or least listed.0 m listed.1 ∙ ap Some listed.2)).1 in
           false≢true (sym off ∙ sym (ap is_some (left_out wide m found.1.maximal.is)) ∙ up))
 
       nothing : ⊥
@@ -180,7 +180,7 @@ module _ (kernel : Kernel) (least : List ℕ) (valid : IsValid kernel) where
         by : (k : ℕ) → is_present wide k ≡ true → IsPlace kernel.inputs count (length least) (length least) k → ⊥
         by k there (is_old x lt is) = none_old x lt (ap (is_present wide) is ∙ there)
         by k there (is_new j lt is) = false≢true (sym (no_pace j lt) ∙ ap (is_present wide) is ∙ there)
-        by k there (is_last j lt is) = false≢true (sym (no_mark j (get_or least j 0) (get_at least j 0 lt)).0 ∙ ap (is_present wide) is ∙ there)
+        by k there (is_last j lt is) = false≢true (sym (no_mark j (get_or least j 0) (slice_get-get_or least j 0 lt)).0 ∙ ap (is_present wide) is ∙ there)
 
     pub first_pace : HasRoot paced
     first_pace = (

@@ -1,5 +1,5 @@
 -- Where the signals of a paced kernel stand.
-use Rattle.sig_pace.proofs.Common.{◌≡◌, ◌<◌, ◌≤◌, ◌+◌, ◌∙◌, ℕ, zero, suc, List, [], ◌∷◌, length, slice_get, refl, sym, ap, subst, arith, None, Some, Boolean, Event, IsSignal, get_within, kind_of, IsValid, Kernel, marks_from, pace_name, paced_kernel, paces_from, place_of, moved}
+use Rattle.sig_pace.proofs.Common.{◌≡◌, ◌<◌, ◌≤◌, ◌+◌, ◌∙◌, ℕ, zero, suc, List, [], ◌∷◌, length, slice_get, refl, sym, ap, subst, arith, None, Some, Boolean, Event, IsSignal, kind_of, IsValid, Kernel, marks_from, pace_name, paced_kernel, paces_from, place_of, moved, slice_get_within}
 use Rattle.sig_pace.proofs.Rooms.{last_found, more_found, next_offset, no_offset, old_found, room_length}
 use Rattle.sig_pace.proofs.RenumberedSignals.{StandAt}
 
@@ -59,6 +59,6 @@ old_signals kernel least valid signal is = sym (stand kernel least (omega (arith
 pub pace_signals : (kernel : Kernel) (least : List ℕ) → IsValid kernel → (j m : ℕ) → slice_get least j ≡ Some m
     → slice_get (paced_kernel kernel least).signals (kernel.inputs + j) ≡ Some (record { name = pace_name (1 + j); kind = Boolean; cluster = 0; at = place_of kernel m })
 pace_signals kernel least valid j m is =
-    let lt = get_within least j m is in
+    let lt = slice_get_within least j m is in
     more_found kernel.inputs (paces_from kernel 1 least) (marks_from kernel 1 least) kernel.signals (omega (arith, valid.parts.interface, valid.parts.declared)) j (omega (arith, paces_count kernel 1 least, lt))
     ∙ pace_there kernel 1 least j m is

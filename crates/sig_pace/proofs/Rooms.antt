@@ -1,5 +1,5 @@
 -- Room for more in a list: some behind its first elements, and some at its end.
-use Rattle.sig_pace.proofs.Common.{◌≡◌, ◌<◌, ◌≤◌, ◌+◌, ◌-◌, ◌++◌, ◌⊎◌, inl, inr, ℕ, suc, List, [], ◌∷◌, length, take, drop, cond, get_or, slice_get, refl, sym, ap, ◌∙◌, arith, Some, cases_lt, le-ltb, lt-ltb, get_or-append-add, get_or-drop, get_or-take, get_or_append_left, length-append, length-drop, length-take-le, get_at, moved}
+use Rattle.sig_pace.proofs.Common.{◌≡◌, ◌<◌, ◌≤◌, ◌+◌, ◌-◌, ◌++◌, ◌⊎◌, inl, inr, ℕ, suc, List, [], ◌∷◌, length, take, drop, cond, get_or, slice_get, refl, sym, ap, ◌∙◌, arith, Some, cases_lt, le-ltb, lt-ltb, get_or-append-add, get_or-drop, get_or-take, get_or_append_left, length-append, length-drop, length-take-le, moved, slice_get-get_or}
 
 -- ---- numbers
 
@@ -57,7 +57,7 @@ module _ {A : Type 0} (n : ℕ) (more last xs : List A) (within : n ≤ length x
 -- the same element, whatever would stand past the end
 same_found : {A : Type 0} (xs ys : List A) (i k : ℕ) → i < length xs → k < length ys → ((d : A) → get_or xs i d ≡ get_or ys k d) → slice_get xs i ≡ slice_get ys k
 same_found [] ys i k lt lt' same = absurd (omega (arith, lt))
-same_found (x ∷ xs) ys i k lt lt' same = get_at (x ∷ xs) i x lt ∙ ap Some (same x) ∙ sym (get_at ys k x lt')
+same_found (x ∷ xs) ys i k lt lt' same = slice_get-get_or (x ∷ xs) i x lt ∙ ap Some (same x) ∙ sym (slice_get-get_or ys k x lt')
 
 module _ {A : Type 0} (n : ℕ) (more last xs : List A) (within : n ≤ length xs) where
   moved_within : (k : ℕ) → k < length xs → moved n (length more) k < length (with_room n more last xs)

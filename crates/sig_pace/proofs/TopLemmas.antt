@@ -1,5 +1,5 @@
 -- Lemmas on the tops among signals.
-use Rattle.sig_pace.proofs.Common.{◌≡◌, ◌<◌, ◌≤◌, ◌+◌, ◌⊎◌, inl, inr, ℕ, List, [], ◌∷◌, ◌++◌, length, get_or, take, take_all, length-take-le, length-append, sym, ◌∙◌, subst, arith, Contains, AllPairs, zero, suc, get_or_default, take_more, Contains-append_left, Contains-push, Contains-push_cases, all_pairs_push, IsPossible, contains_none, Kernel, AreIncreasing, IsBelow, AddsTop, AreByNumber, AreNotBelow, AreTops, IsBelowCandidate, IsBelowOne, IsCover, Candidate}
+use Rattle.sig_pace.proofs.Common.{◌≡◌, ◌<◌, ◌≤◌, ◌+◌, ◌⊎◌, inl, inr, ℕ, List, [], ◌∷◌, ◌++◌, length, get_or, take, take_all, length-take-le, length-append, sym, ◌∙◌, subst, arith, Contains, AllPairs, zero, suc, get_or_default, take_more, Contains-append_left, Contains-push, Contains-push_cases, all_pairs_push, IsPossible, Kernel, AreIncreasing, IsBelow, AddsTop, AreByNumber, AreNotBelow, AreTops, IsBelowCandidate, IsBelowOne, IsCover, Candidate, contains_none}
 
 -- ---- lists
 

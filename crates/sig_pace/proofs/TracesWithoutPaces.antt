@@ -1,10 +1,9 @@
 -- The traces of a paced kernel, without the paces, are those of the old one.
-use Rattle.sig_pace.proofs.Common.{◌≡◌, ◌<◌, ◌≤◌, ◌+◌, ◌++◌, inl, inr, ℕ, zero, suc, pos, Bool, true, false, cond, not, List, [], ◌∷◌, length, map, take, drop, get_or, slice_get, refl, sym, ap, ◌∙◌, subst, arith, Contains, None, Some, is_some, AllByRecursion, list_all, option_to_list, slice_index_or, and_parts, ext_get_or, get_or-map, length-map, map-append, list_all-from_AllPass, AreOfKinds, Instant, IsOfKind, Range, Seen, Trace, flow_of, seen_at, Boolean, Event, silent_at, IsSignal, contains_at, get_at, get_within, Meets, Memory, last_of, remembered, where_true, IsValid, form_within, Equation, Kernel, Runs, runs_from_trace, trace_from_runs, marked_from, marks_from, others_together, paced_kernel, paces_from, together_from, moved, renumbered_equation, HasTracesOf, paced_seen, without_paces}
+use Rattle.sig_pace.proofs.Common.{◌≡◌, ◌<◌, ◌≤◌, ◌+◌, ◌++◌, inl, inr, ℕ, zero, suc, pos, Bool, true, false, cond, not, List, [], ◌∷◌, length, map, take, drop, get_or, slice_get, refl, sym, ap, ◌∙◌, subst, arith, Contains, None, Some, is_some, AllByRecursion, list_all, option_to_list, slice_index_or, and_parts, ext_get_or, get_or-map, length-map, map-append, list_all-from_AllPass, AreOfKinds, Instant, IsOfKind, Range, Seen, Trace, flow_of, seen_at, Boolean, Event, silent_at, IsSignal, Meets, Memory, last_of, remembered, where_true, IsValid, form_within, Equation, Kernel, Runs, runs_from_trace, trace_from_runs, marked_from, marks_from, others_together, paced_kernel, paces_from, together_from, moved, renumbered_equation, HasTracesOf, paced_seen, without_paces, contains_at, slice_get-get_or, slice_get_within, all_both, all_front, value_there}
 use Rattle.sig_base.specs.Traces.{is_silent}
 use Rattle.sig_kernel.specs.KernelTraces.{IsReaction}
 use Rattle.sig_pace.proofs.Agreement.{Agrees, RememberAlike, how_many_left, meets_back, meets_to, what_is_left}
 use Rattle.sig_pace.proofs.Kinded.{kind_there, kinds_dropped, kinds_from_places, kinds_joined, kinds_length, kinds_of, kinds_taken}
-use Rattle.sig_pace.proofs.Listed.{all_front, all_joined, value_found}
 use Rattle.sig_pace.proofs.Places.{stand}
 use Rattle.sig_pace.proofs.Rooms.{last_at, more_at, next_offset, no_offset, old_at, same_at, with_room}
 
@@ -144,7 +143,7 @@ module _ (kernel : Kernel) (least : List ℕ) (valid : IsValid kernel) (are : (m
   only_reaction : (range : Range) (past : Trace) (wide : Instant) → IsReaction range paced (remembered past) wide → IsReaction range kernel (remembered (map without past)) (without wide)
   only_reaction range past wide is = record {
     kinds = kinds_from_places range kernel.signals (without wide) (how_many_left count place wide) (λ k signal found.
-        let lt = get_within kernel.signals k signal found in
+        let lt = slice_get_within kernel.signals k signal found in
         subst (IsOfKind range signal.kind) (sym (left_out kernel least wide k lt)) (kind_there range paced.signals wide is.kinds (place k) signal (sym (stand kernel least inputs_within k lt) ∙ found)));
     equations = back_met range past wide kernel.equations equations_within (all_front (λ (equation : Equation). Meets range (remembered past) wide equation.form) (map (renumbered_equation place) kernel.equations)
         (others_together kernel least ++ marked_from kernel place kernel.inputs (length kernel.signals + length least) least) is.equations);
@@ -165,16 +164,16 @@ module _ (kernel : Kernel) (least : List ℕ) (valid : IsValid kernel) (are : (m
 
   pace_at : (old : Instant) → length old ≡ count → (j m : ℕ) → slice_get least j ≡ Some m → seen_at (wider old) (kernel.inputs + j) ≡ paced_seen old m
   pace_at old len j m is =
-      let lt = get_within least j m is in
+      let lt = slice_get_within least j m is in
       more_at kernel.inputs (map (paced_seen old) least) (map (marked_seen old) least) old (omega (arith, len, inputs_within)) j None (omega (arith, length-map least (paced_seen old), lt))
-      ∙ get_or-map (paced_seen old) least j m None lt ∙ ap (paced_seen old) (value_found least j m m is)
+      ∙ get_or-map (paced_seen old) least j m None lt ∙ ap (paced_seen old) (value_there least j m m is)
 
   mark_at : (old : Instant) → length old ≡ count → (j m : ℕ) → slice_get least j ≡ Some m → seen_at (wider old) (count + length least + j) ≡ marked_seen old m
   mark_at old len j m is =
-      let lt = get_within least j m is in
+      let lt = slice_get_within least j m is in
       same_at (seen_at (wider old)) (count + length least + j) (length old + length (map (paced_seen old) least) + j) (omega (arith, len, length-map least (paced_seen old)))
       ∙ last_at kernel.inputs (map (paced_seen old) least) (map (marked_seen old) least) old (omega (arith, len, inputs_within)) j None
-      ∙ get_or-map (marked_seen old) least j m None lt ∙ ap (marked_seen old) (value_found least j m m is)
+      ∙ get_or-map (marked_seen old) least j m None lt ∙ ap (marked_seen old) (value_there least j m m is)
 
   to_met : (range : Range) (past : Trace) (old wide : Instant) → Agrees place count old wide → (equations : List Equation) → list_all (λ (equation : Equation). form_within count equation.form) equations ≡ true
       → AllByRecursion (λ equation. Meets range (remembered (map without past)) old equation.form) equations
@@ -192,12 +191,12 @@ module _ (kernel : Kernel) (least : List ℕ) (valid : IsValid kernel) (are : (m
         (take kernel.inputs old) (map (paced_seen old) least ++ (drop kernel.inputs old ++ map (marked_seen old) least)) (kinds_taken range kernel.inputs kernel.signals old is.kinds)
         (kinds_joined range (paces_from kernel 1 least) (drop kernel.inputs kernel.signals ++ marks_from kernel 1 least) (map (paced_seen old) least) (drop kernel.inputs old ++ map (marked_seen old) least) (paces_kinds range kernel old 1 least)
         (kinds_joined range (drop kernel.inputs kernel.signals) (marks_from kernel 1 least) (drop kernel.inputs old) (map (marked_seen old) least) (kinds_dropped range kernel.inputs kernel.signals old is.kinds) (marks_kinds range kernel old 1 least)));
-    equations = all_joined (λ (equation : Equation). Meets range (remembered past) (wider old) equation.form) (map (renumbered_equation place) kernel.equations) (others_together kernel least ++ marked_from kernel place kernel.inputs (count + length least) least)
+    equations = all_both (λ (equation : Equation). Meets range (remembered past) (wider old) equation.form) (map (renumbered_equation place) kernel.equations) (others_together kernel least ++ marked_from kernel place kernel.inputs (count + length least) least)
         (to_met range past old (wider old) (put_in old len) kernel.equations equations_within is.equations)
-        (all_joined (λ (equation : Equation). Meets range (remembered past) (wider old) equation.form) (others_together kernel least) (marked_from kernel place kernel.inputs (count + length least) least)
+        (all_both (λ (equation : Equation). Meets range (remembered past) (wider old) equation.form) (others_together kernel least) (marked_from kernel place kernel.inputs (count + length least) least)
         (others_met range kernel (remembered past) (wider old) (not (is_silent old)) least (λ j lt.
         let m = get_or least j 0 in
-        ap is_some (pace_at old len j m (get_at least j 0 lt)) ∙ pace_speaks (is_silent old) (is_some (seen_at old m))))
+        ap is_some (pace_at old len j m (slice_get-get_or least j 0 lt)) ∙ pace_speaks (is_silent old) (is_some (seen_at old m))))
         (marked_met range kernel (remembered past) place old (wider old) kernel.inputs (count + length least) least (λ j m found. record {
           told = pace_at old len j m found;
           shown = mark_at old len j m found;

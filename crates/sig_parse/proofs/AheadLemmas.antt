@@ -1,10 +1,7 @@
 -- What begins a definition begins no clock equation.
-use Rattle.sig_parse.proofs.Common.{◌≡◌, ◌++◌, ℕ, suc, zero, List, [], ◌∷◌, true, false, codes, None, Some, inl, inr, refl, sym, ap, ◌∙◌, subst, Span, Name, Expression, Named, Number, Truth, Unary, RightSide, Terminal, Leaf, leaf, name_leaf, name, number, word, mark, default_level, mixed_level, delay_level, level_of, left_level, Limits, no_limits, MayStandInside, IsBare, Enclosed, IsLeft, IsDefinition, IsClockEquation, StartsWith, BeginsExpression, ◌>>=◌, settles_now, settles_next, settles_bind, different, From, Behind, run, closed, expression_read, expression_begins, append_to, mark_apart, named_alone, BeginsDefinition}
+use Rattle.sig_parse.proofs.Common.{◌≡◌, ◌++◌, ℕ, suc, zero, List, [], ◌∷◌, true, false, codes, None, inl, inr, refl, sym, ap, ◌∙◌, subst, Span, Name, Expression, Named, Number, Truth, Unary, RightSide, Terminal, Leaf, leaf, name_leaf, name, number, word, mark, default_level, mixed_level, delay_level, level_of, left_level, Limits, no_limits, MayStandInside, IsBare, Enclosed, IsLeft, IsDefinition, IsClockEquation, StartsWith, BeginsExpression, ◌>>=◌, settles_now, settles_next, settles_bind, different, From, Behind, run, closed, expression_read, expression_begins, append_to, mark_apart, named_alone, BeginsDefinition}
 use Rattle.sig_tree.specs.Syntax.{Binary, Delay, Cell}
 use Rattle.sig_tree.proofs.SettledFunctions.{Settles}
-
-none_no_some : {A : Type 0} (x : A) → None ≡ Some x → ⊥
-none_no_some x e = cc
 
 abbrev opening : Terminal
 opening = mark (codes "(")

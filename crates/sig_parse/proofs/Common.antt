@@ -4,6 +4,7 @@ pub use Rattle.std.proofs.lemmas.List.{length-map, map-append, take_more}
 pub use Rattle.std.proofs.lemmas.List.Concat.{flat_map-append}
 pub use Rattle.std.proofs.lemmas.List.Sums.{sum_by-cons, sum_by_push}
 pub use Rattle.std.proofs.lemmas.Result.{IfOk-weaker}
+pub use Rattle.sig_lists.proofs.Fronts.{no_more}
 pub use Rattle.sig_base.specs.Lines.{refusal_at}
 pub use Rattle.sig_lex.specs.Tables.{marks, words}
 pub use Rattle.sig_tree.specs.Grammar.{Begins}
@@ -30,6 +31,7 @@ pub use Rattle.sig_tree.specs.declared.process.RunOn.{RunOn}
 pub use Rattle.sig_tree.proofs.CombinedReadings.{append_to, between_at, between_once, cons_same, listed_once, part_at, starts_apart}
 pub use Rattle.sig_tree.proofs.Common.{AreArguments, AreBodies, AreConstants, AreFurtherBodies, AreGroups, AreLocals, AreParams, ArePragmas, AreSoMany, BeginsBody, BeginsConstant, BeginsExpression, BeginsGroup, BeginsLeft, BeginsName, BeginsPlacement, BeginsProcess, Between, Bodies, Boolean, Called, Computed, ContinuesBodies, ContinuesBody, ContinuesClockEquation, ContinuesDefinition, ContinuesDelay, ContinuesEach, ContinuesExpression, ContinuesGroups, ContinuesInit, ContinuesList, ContinuesLocals, ContinuesNothing, ContinuesOptional, ContinuesPlacements, Declared, Each, Enclosed, Equations, Event, Expression, Further, HasTree, Heading, Integer, IsAtLevel, IsAtom, IsBare, IsBody, IsClockEquation, IsConstant, IsDefinition, IsExpression, IsGroup, IsInit, IsInterface, IsItem, IsLeft, IsLocalGroup, IsModel, IsName, IsOptionalInit, IsOptionalOne, IsParam, IsPlacement, IsPlainItem, IsProgram, IsRight, IsStep, IsWhere, Kind, Leaf, Limits, Listed, MayHave, MayStandInside, Modelled, Named, Number, OneReading, Placement, ProcessModel, ProcessModels, RightSide, Separated, Span, StartsWith, Step, StopsBefore, Terminal, Together, Token, Truth, Unary, WithCell, WithDelay, WithOperand, append_cancel_left, append_cancel_right, binary_level, binary_terminal, both_limits, default_level, delay_level, kind_word, label, leaf, leaves_of, left_level, level_of, mark, mixed_level, more_bodies, more_models, name, name_leaf, no_body, no_limits, no_model, number, operand_level, primary_level, relation_level, right_level, stepped, stepped_all, truth_word, unary_level, unary_terminal, word}
 pub use Rattle.sig_tree.proofs.FirstLeaves.{body_begins, clock_equation_begins, constant_begins, expression_begins, left_begins, local_group_begins, model_begins, starts_longer}
+pub use Rattle.sig_tree.proofs.ListsThatStop.{stops_smaller}
 pub use Rattle.sig_tree.proofs.Operators.{Infix as TreeInfix, OfCell, OfDelay, OfTwo, Tighter, continues_tighter, different, infix_level as tree_level, infix_of, infix_seen, infix_stands, infix_terminal as tree_terminal, is_terminal, no_infix, not_tighter, tighter_continues, two_levels}
 pub use Rattle.sig_tree.proofs.ReadBodies.{bar_apart, bodies_once, clock_equation_once, definition_starts, together_apart}
 pub use Rattle.sig_tree.proofs.ReadDeclarations.{interface_once, item_groups_once, local_group_once, param_groups_once, placement_once, plain_groups_once, pragma_list_once}
@@ -40,20 +42,15 @@ pub use Rattle.sig_tree.proofs.ReadSpines.{infix_of_step, infix_same, inner_begi
 pub use Rattle.sig_tree.proofs.Reader.{AtOpening, AtPrefix, AtTruth, Behind, From, closed, first_of, run}
 pub use Rattle.sig_tree.proofs.SettledFunctions.{Settles as ReadSettles, settles_bind, settles_next, settles_now, settles_once, ◌>>=◌}
 pub use Rattle.sig_tree.proofs.Spines.{operand_at, operand_unlimited, operand_within, spine_at, spine_of, step_unlimited, step_within}
-pub use Rattle.sig_tree.proofs.ListsThatStop.{stops_smaller}
 pub use Rattle.sig_tree.proofs.Unlimited.{body_unlimited, body_within, clock_equation_unlimited, definition_unlimited, expression_unlimited, expression_within, left_unlimited, left_within, model_unlimited, model_within, program_unlimited, program_within, right_unlimited}
-pub use Rattle.sig_parse.specs.inner.Ahead.{BeginsCall, BeginsDefinition}
 pub use Rattle.sig_parse.specs.Declarations.{AreBehindWhere, AreDeclared, HasSides, IsGroupOf, IsInnerProcess, IsItemOf, IsTitle}
 pub use Rattle.sig_parse.specs.Exact.{GoesOn, GoesOnOtherwise, IsAnswerOf, IsFirstRefusal, IsRefused, answer_for}
-pub use Rattle.sig_parse.specs.inner.Keywords.{IsKeyword, spelling_of, terminal_of}
 pub use Rattle.sig_parse.specs.Languages.{InArgumentList, InArguments, InClockEquation, InConstant, InConstantList, InConstants, InDefinition, InInit, InLabel, InLeaf, InLeft, InLevel, InName, InNumber, InOne, InOperand, InOptionalInit, InOptionalOne, InRight, InStep, InSteps, counted, step_operators, steps_operators}
 pub use Rattle.sig_parse.specs.Lines.{answer_line}
-pub use Rattle.sig_parse.specs.inner.Operators.{BeginsAtom, Completes, ContinuesStep, IsInfix, IsOperator, IsOperatorOf, IsTighter, ReadsStep, first_level, infix_left, infix_level, infix_terminal, level_number}
 pub use Rattle.sig_parse.specs.Parts.{Body_at, ContinuesItem, ContinuesItems, EndsGroups, InAny, InBodies, InBody, InBraced, InDeclared, InGroup, InGroups, InInterface, InItem, InItems, InKind, InLocalGroup, InNames, InParams, InPragma, InPragmaList, InPragmas, InProcess, InProgram, InSome, InTitle, InWhere, IsAnything, IsBraced, IsDeclared, IsKindOf, IsWherePart, UpTo}
 pub use Rattle.sig_parse.specs.Reads.{Covers, IsLeaf, Reads, Shorter}
 pub use Rattle.sig_parse.specs.Refusals.{Agrees, Cause, IsAllowed, IsOfText, Reaches, ReachesNext, RefusedBy, Refuses, TooDeep, TooMany, Wrong, cause_of, refused_within}
 pub use Rattle.sig_parse.specs.Refused.{IsRefusal, StandsBehind, answer_of, end_of, place_of}
-pub use Rattle.sig_parse.specs.inner.Repeats.{ReadsFurther, ReadsParts, ReadsSeparated, RefusesSeparated}
 pub use Rattle.sig_parse.specs.Seen.{leaf_seen, terminal_seen}
 pub use Rattle.sig_parse.specs.Settling.{Closes, Settles}
 pub use Rattle.sig_parse.specs.State.{State}
@@ -72,3 +69,7 @@ pub use Rattle.sig_parse.specs.declared.parse_answer.ParseAnswer.{ParseAnswer}
 pub use Rattle.sig_parse.specs.declared.parse_answer.ParseAnswer.TheVariants.{OutOfMemory}
 pub use Rattle.sig_parse.specs.declared.refusal.Refusal.{Refusal}
 pub use Rattle.sig_parse.specs.declared.refusal.Refusal.TheVariants.{Nesting, Operators, Syntax}
+pub use Rattle.sig_parse.specs.inner.Ahead.{BeginsCall, BeginsDefinition}
+pub use Rattle.sig_parse.specs.inner.Keywords.{IsKeyword, spelling_of, terminal_of}
+pub use Rattle.sig_parse.specs.inner.Operators.{BeginsAtom, Completes, ContinuesStep, IsInfix, IsOperator, IsOperatorOf, IsTighter, ReadsStep, first_level, infix_left, infix_level, infix_terminal, level_number}
+pub use Rattle.sig_parse.specs.inner.Repeats.{ReadsFurther, ReadsParts, ReadsSeparated, RefusesSeparated}

@@ -61,12 +61,12 @@ pub use ExpressionRows.*
 pub use GroupLemmas.*
 pub use Joins.*
 pub use KeywordLemmas.*
-pub use PassedLanguages.*
 pub use LeafLists.*
 pub use LiftedRefusals.*
 pub use Lists.*
 pub use OperatorLemmas.*
 pub use Outcomes.*
+pub use PassedLanguages.*
 pub use PassedLeaf.*
 pub use ProcessLemmas.*
 pub use RefusedCalls.*
@@ -93,8 +93,9 @@ pub use RepeatedParts.*
 pub use SettledBodies.*
 pub use Steps.*
 pub use Tables.*
+pub use Rattle.sig_parse.proofs.CoveredParts.{no_more}
 pub use Rattle.sig_parse.proofs.ExpressionRows.{Enclosed}
-pub use Rattle.sig_parse.proofs.PassedLanguages.{settles_once}
 pub use Rattle.sig_parse.proofs.LiftedRefusals.{one_more}
+pub use Rattle.sig_parse.proofs.PassedLanguages.{settles_once}
 pub use Rattle.sig_parse.proofs.RefusedExpressions.{step_stops}
 pub use Rattle.sig_parse.proofs.Steps.{prefix_first, whole}

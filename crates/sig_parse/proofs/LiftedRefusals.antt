@@ -22,10 +22,6 @@ module _ {Part Whole : Limits → List Leaf → Type 0} {PartContinues Continues
   raised_last after (Err e) lift refused = λ text. lift (cause_of e) after (refused text)
 
 module _ {Part Whole : Limits → List Leaf → Type 0} {PartContinues Continues : Terminal → Type 0} {before here : List Leaf} where
-  -- the part stands behind these leaves, or behind one
-  pub behind : (front : List Leaf) → before ≡ front ++ here → Lifts Part PartContinues here Whole Continues (front ++ here) → Lifts Part PartContinues here Whole Continues before
-  behind front split lift cause after r = subst (λ (b : List Leaf). Refuses Whole Continues cause b after) (sym split) (lift cause after r)
-
   pub behind_one : {l : Leaf} → before ≡ l ∷ here → Lifts Part PartContinues here Whole Continues (l ∷ here) → Lifts Part PartContinues here Whole Continues before
   behind_one split lift cause after r = subst (λ (b : List Leaf). Refuses Whole Continues cause b after) (sym split) (lift cause after r)
 

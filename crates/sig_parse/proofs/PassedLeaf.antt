@@ -1,5 +1,5 @@
 -- Passing the next leaf.
-use Rattle.sig_parse.proofs.Common.{◌≡◌, ℕ, ◌+◌, ◌<◌, ◌≤◌, suc, List, [], ◌∷◌, length, map, get_or, drop, drop-cons, length-drop, Bool, true, false, refl, sym, ap, ◌∙◌, arith, leb, length-map, leb-true, leb-false, MatchBool, Terminal, leaf, leaf_seen, terminal_seen, State, Reads, Shorter, IsLeaf}
+use Rattle.sig_parse.proofs.Common.{◌≡◌, ℕ, ◌+◌, ◌<◌, ◌≤◌, suc, List, [], ◌∷◌, length, map, get_or, drop, drop-cons, length-drop, Bool, true, false, refl, sym, ap, ◌∙◌, arith, leb, length-map, leb-true, leb-false, MatchBool, Terminal, leaf, leaf_seen, terminal_seen, State, Reads, Shorter, IsLeaf, no_more}
 use Rattle.sig_parse.specs.declared.leaf.Leaf.{Leaf}
 
 -- the state at an index
@@ -29,17 +29,13 @@ passed leaves i count s l terminal e lt is said =
       omega (arith, ap length split),
     )
 
-none : {A : Type 0} (xs : List A) → length xs ≡ 0 → xs ≡ []
-none [] e = refl
-none (x ∷ xs) e = absurd (omega arith)
-
 pub nothing_left : (leaves : List Leaf) (i count : ℕ) (s : State) → state_at leaves i count ≡ s → length leaves ≤ i → s.leaves ≡ []
 nothing_left leaves i count s e beyond =
-    ap (λ (x : State). x.leaves) (sym e) ∙ ap (map leaf_seen) (none (drop i leaves) (omega (arith, length-drop i leaves)))
+    ap (λ (x : State). x.leaves) (sym e) ∙ ap (map leaf_seen) (no_more (drop i leaves) (omega (arith, length-drop i leaves)))
 
 some_left : (leaves : List Leaf) (i count : ℕ) (s : State) → state_at leaves i count ≡ s → i < length leaves → s.leaves ≡ [] → ⊥
-some_left leaves i count s e before none =
-    let empty : map leaf_seen (drop i leaves) ≡ [] = ap (λ (x : State). x.leaves) e ∙ none in
+some_left leaves i count s e before nothing =
+    let empty : map leaf_seen (drop i leaves) ≡ [] = ap (λ (x : State). x.leaves) e ∙ nothing in
     absurd (omega (arith, length-drop i leaves, length-map (drop i leaves) leaf_seen, ap length empty))
 
 -- whether none is left

@@ -1,5 +1,5 @@
 -- What is refused of left and right sides, from what is refused of their parts.
-use Rattle.sig_parse.proofs.Common.{◌≡◌, ◌++◌, ◌+◌, ◌≤◌, ◌<◌, ℕ, List, [], ◌∷◌, codes, inl, inr, refl, sym, ap, ◌∙◌, subst, append_assoc, arith, append-nil, sum_by-cons, sum_by, Span, Name, Constant, Expression, Named, RightSide, Computed, Called, Leaf, leaf, mark, name_leaf, default_level, Limits, nesting_limit, no_limits, MayStandInside, MayHave, operators, right_operators, Separated, Listed, IsConstant, IsExpression, IsName, IsLeft, AreConstants, AreArguments, IsRight, StopsBefore, BeginsLeft, ContinuesNothing, ContinuesOptional, ContinuesExpression, ContinuesDefinition, no_place, stops_smaller, left_begins, cons_same, append_to, starts_apart, stops_nothing, name_no_mark, call_opens, Opens, opens_apart, named_alone, Cause, Wrong, TooDeep, Refuses, InOne, counted, InLevel, InLeft, InConstants, InRight}
+use Rattle.sig_parse.proofs.Common.{◌≡◌, ◌++◌, ◌+◌, ◌≤◌, ◌<◌, ℕ, List, [], ◌∷◌, codes, inl, inr, refl, sym, ap, ◌∙◌, subst, append_assoc, arith, append-nil, sum_by-cons, sum_by, Span, Name, Constant, Expression, Named, RightSide, Computed, Called, Leaf, leaf, mark, name_leaf, default_level, Limits, nesting_limit, no_limits, MayStandInside, MayHave, operators, right_operators, Separated, Listed, IsConstant, IsExpression, IsName, IsLeft, AreConstants, IsRight, StopsBefore, BeginsLeft, ContinuesNothing, ContinuesOptional, ContinuesExpression, ContinuesDefinition, no_place, stops_smaller, left_begins, cons_same, append_to, starts_apart, stops_nothing, name_no_mark, call_opens, Opens, opens_apart, named_alone, Cause, Wrong, TooDeep, Refuses, InOne, counted, InLevel, InLeft, InConstants, InRight}
 use Rattle.sig_parse.proofs.PartRefusals.{refuses_inside, refuses_first, refuses_at_once}
 use Rattle.sig_parse.proofs.RefusedConstants.{some_name, some_leaf}
 use Rattle.sig_parse.proofs.RefusedLevels.{fewer}
@@ -114,6 +114,3 @@ module _ (depth used : ℕ) where
         (Named n, named_alone limits depth n, fewer limits (used + 0) (used + sum_by operators arguments) (omega arith) fits),
         starts_apart Opens (ContinuesExpression default_level) (front ++ rest) back opens_apart (call_opens limits depth constants arguments front rest are_constants are_arguments),
       )
-
-  some_arguments : (limits : Limits) → AreArguments limits depth [] (leaf (mark (codes "(")) no_place ∷ leaf (mark (codes ")")) no_place ∷ [])
-  some_arguments limits = (no_place, no_place, [], refl, refl)

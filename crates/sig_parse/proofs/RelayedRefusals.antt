@@ -1,5 +1,5 @@
 -- A refusal that is handed on.
-use Rattle.sig_parse.proofs.Common.{◌≡◌, sym, subst, Result, Ok, Err, IfErr, IsErr, IsErrAnd, Refusal, IsOfText}
+use Rattle.sig_parse.proofs.Common.{◌≡◌, sym, subst, Result, Ok, Err, IfErr, IsErr, IsErrAnd, Refusal}
 
 -- and what is said of it
 pub handed : {T : Type 0} (P : Refusal → Type 0) (r : Result T Refusal) (e : Refusal) → IsErr r × IsErrAnd r (λ f. f ≡ e) → P e → IfErr r P
@@ -14,8 +14,3 @@ since_refused P Q (Err e) h f = f e h
 pub since_both : {T : Type 0} (P O Q : Refusal → Type 0) (r : Result T Refusal) → IfErr r P → IfErr r O → ((why : Refusal) → P why → O why → Q why) → IfErr r Q
 since_both P O Q (Ok x) h g f = tt
 since_both P O Q (Err e) h g f = f e h g
-
--- whatever the refusal
-pub whatever : {T P : Type 0} (r : Result T Refusal) → P → IfErr r (λ why. IsOfText why → P)
-whatever (Ok x) p = tt
-whatever (Err e) p = λ text. p

@@ -7,18 +7,6 @@ at_map f [] i d e lt = absurd (omega arith)
 at_map f (x ∷ xs) zero d e lt = refl
 at_map f (x ∷ xs) (suc i) d e lt = at_map f xs i d e (omega arith)
 
-spelled_words : map spelling_of WORDS ≡ words
-spelled_words = refl
-
-said_words : map terminal_of WORDS ≡ map word words
-said_words = refl
-
-spelled_marks : map spelling_of MARKS ≡ marks
-spelled_marks = refl
-
-said_marks : map terminal_of MARKS ≡ map mark marks
-said_marks = refl
-
 pub word_at : (i : ℕ) (d : Keyword) (e : List ℕ) → i < 18 → get_or words i e ≡ spelling_of (get_or WORDS i d)
 word_at i d e lt = at_map spelling_of WORDS i d e lt
 

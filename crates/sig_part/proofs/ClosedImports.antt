@@ -1,5 +1,5 @@
 -- The closed sets of marked signals are the imports.
-use Rattle.sig_part.proofs.Common.{◌≡◌, ◌≢◌, ◌<◌, ◌+◌, ◌⊎◌, inl, inr, ◌↔◌, ℕ, Bool, true, false, not, List, [], ◌∷◌, ◌++◌, length, get_or, refl, sym, ap, ◌∙◌, subst, arith, Contains, eqb, eq-eqb, Option, None, Some, slice_get, eqb-true, false≢true, length_push, SigId, Signal, Node, Kernel, Operation, operation_in, operations_in, Needs, Imports, used, output, guarded, IsNeededFor, IsOutput, IsUsed, IsWrittenElsewhere, cluster_count, Op, get_within, AreClosed, Closes, seed, onward, is_elsewhere, is_other, AreImported, AreImportedBy, AreNeeded, AreNeededForEach, IsNeededWithin, IsUsedWithin, AreWritten, get_map, map_get}
+use Rattle.sig_part.proofs.Common.{◌≡◌, ◌≢◌, ◌<◌, ◌+◌, ◌⊎◌, inl, inr, ◌↔◌, ℕ, Bool, true, false, not, List, [], ◌∷◌, ◌++◌, length, get_or, refl, sym, ap, ◌∙◌, subst, arith, Contains, eqb, eq-eqb, Option, None, Some, slice_get, eqb-true, false≢true, length_push, SigId, Signal, Node, Kernel, Operation, operation_in, operations_in, Needs, Imports, used, output, guarded, IsNeededFor, IsOutput, IsUsed, IsWrittenElsewhere, cluster_count, Op, AreClosed, Closes, seed, onward, is_elsewhere, is_other, AreImported, AreImportedBy, AreNeeded, AreNeededForEach, IsNeededWithin, IsUsedWithin, AreWritten, slice_get_within, get_map, map_get}
 use Rattle.sig_part.proofs.Lists.{each_more}
 
 -- listed operations are the operations of the kernel
@@ -20,7 +20,7 @@ module _ (conditions : List SigId) (nodes : List Node) (ops : List Op) (needs : 
         let same : use_of.user ≡ operation_in nodes listed.0 = sym listed.2 in
         record {
           number = use_of.is.0;
-          below = get_within ops use_of.is.0 listed.0 listed.1;
+          below = slice_get_within ops use_of.is.0 listed.0 listed.1;
           op = listed.0;
           is = listed.1;
           own = ap (λ (p : Operation). p.cluster) listed.2 ∙ use_of.own;
@@ -46,7 +46,7 @@ module _ (conditions : List SigId) (nodes : List Node) (ops : List Op) (needs : 
         let same : needed_for.writer ≡ operation_in nodes listed.0 = sym listed.2 in
         record {
           number = needed_for.is.0;
-          below = get_within ops needed_for.is.0 listed.0 listed.1;
+          below = slice_get_within ops needed_for.is.0 listed.0 listed.1;
           op = listed.0;
           is = listed.1;
           writes = ap (λ (p : Operation). p.writes) listed.2 ∙ needed_for.writes;
@@ -69,7 +69,7 @@ module _ (signals : List Signal) (operations : List Operation) (written : AreWri
     at : (owner : Option Signal) → slice_get signals x.0 ≡ owner → is_other actor owner ≡ true → IsWrittenElsewhere operations actor x
     at None get other = absurd (false≢true other)
     at (Some owner) get other =
-        let found = written.writer x (get_within signals x.0 owner get) in
+        let found = written.writer x (slice_get_within signals x.0 owner get) in
         let own = written.owner found.0 x found.1 found.2 in
         let same : owner ≡ own.0 = (let e : Some owner ≡ Some own.0 = sym get ∙ own.1 in cc) in
         record {
@@ -88,7 +88,7 @@ module _ (signals : List Signal) (operations : List Operation) (written : AreWri
   elsewhere_within is = at (slice_get signals x.0) refl is where
     at : (owner : Option Signal) → slice_get signals x.0 ≡ owner → is_other actor owner ≡ true → x.0 < length signals
     at None get other = absurd (false≢true other)
-    at (Some owner) get other = get_within signals x.0 owner get
+    at (Some owner) get other = slice_get_within signals x.0 owner get
 
 pub imported_none : (kernel : Kernel) (conditions : List SigId) (operations : List Operation) → AreImportedBy kernel conditions operations 0 []
 imported_none kernel conditions operations = record { count = refl; each = λ written actor less. absurd (omega (arith, less)) }

@@ -9,11 +9,11 @@ pub mod ClosedImports
 pub mod PartsOfMarks
 pub mod PartsOfKernels
 pub use Common.*
-pub use PartsOfKernels.*
 pub use ClosedImports.*
 pub use Linked.*
-pub use MarkedSignals.*
 pub use Lists.*
+pub use MarkedSignals.*
+pub use MarkingWalks.*
+pub use PartsOfKernels.*
 pub use PartsOfMarks.*
 pub use UsedAndNeeded.*
-pub use MarkingWalks.*

@@ -1,6 +1,6 @@
 -- Links of marked signals.
-use Rattle.sig_part.proofs.Common.{◌≡◌, ◌<◌, ◌+◌, ◌⊎◌, inl, inr, ℕ, Bool, false, List, [], ◌∷◌, ◌++◌, length, get_or, refl, sym, ap, ◌∙◌, subst, arith, Some, cases_order, false≢true, Contains-append_left, Contains-push, SigId, Signal, cluster_at, cluster_of, AreSignalLinks, IsEarlierLink, LinkInfo, at_contained, AreLinksBefore, IsBefore, IsMarkedFor, IsMarkedLink, AreMarkedIn, mark_at, signal_same}
-use Rattle.sig_part.proofs.Lists.{get_push, pairwise_push}
+use Rattle.sig_part.proofs.Common.{◌≡◌, ◌<◌, ◌+◌, ◌⊎◌, inl, inr, ℕ, Bool, false, List, [], ◌∷◌, ◌++◌, length, get_or, refl, sym, ap, ◌∙◌, subst, arith, Some, cases_order, false≢true, Contains-append_left, Contains-push, SigId, Signal, cluster_at, cluster_of, AreSignalLinks, IsEarlierLink, LinkInfo, AreLinksBefore, IsBefore, IsMarkedFor, IsMarkedLink, AreMarkedIn, mark_at, signal_same, at_contained, get_pushed}
+use Rattle.sig_part.proofs.Lists.{pairwise_push}
 
 pub links_none : (signals : List Signal) (marks : List (List Bool)) → AreLinksBefore signals marks 0 0 []
 links_none signals marks = record {
@@ -50,7 +50,7 @@ module _ (signals : List Signal) (marks : List (List Bool)) where
 
       pub links_more : AreLinksBefore signals marks x.0 (r + 1) (links ++ here_link ∷ [])
       links_more = record {
-        each = λ number link is. elim (get_push links here_link link number is) [
+        each = λ number link is. elim (get_pushed links here_link number link is) [
           | inl old ↦ (let from = before.each number link old in (from.0, from.1, before_later x.0 r link.reader from.0 from.2))
           | inr here ↦ subst (λ (l : LinkInfo). (y : SigId) × IsMarkedLink signals marks l y × IsBefore x.0 (r + 1) l.reader y) here.1
               (x, record { signal = refl; writer = sym owner; reader = within_actors; marked = is_marked }, inr (refl, omega arith))

@@ -1,5 +1,5 @@
 -- Marked signals, by number.
-use Rattle.sig_part.proofs.Common.{◌≡◌, ◌<◌, ◌≤◌, ◌+◌, ◌⊎◌, inl, inr, ◌↔◌, ℕ, Bool, true, false, List, [], ◌∷◌, ◌++◌, sym, ap, ◌∙◌, subst, arith, Contains, cases_order, false≢true, Contains-append_left, Contains-push, Contains-push_cases, SigId, contains_none, AreMarked, mark_at, signal_same}
+use Rattle.sig_part.proofs.Common.{◌≡◌, ◌<◌, ◌≤◌, ◌+◌, ◌⊎◌, inl, inr, ◌↔◌, ℕ, Bool, true, false, List, [], ◌∷◌, ◌++◌, sym, ap, ◌∙◌, subst, arith, Contains, cases_order, false≢true, Contains-append_left, Contains-push, Contains-push_cases, SigId, AreMarked, mark_at, signal_same, contains_none}
 use Rattle.sig_part.proofs.Lists.{pairwise_push}
 
 abbrev numbered : ℕ → SigId

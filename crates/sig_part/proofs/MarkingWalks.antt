@@ -1,5 +1,5 @@
 -- Walks that mark what is closed.
-use Rattle.sig_part.proofs.Common.{◌≡◌, ◌<◌, ◌⊎◌, inl, inr, ℕ, Bool, true, false, List, [], ◌∷◌, ◌++◌, length, get_or, set, replicate, refl, sym, ap, ◌∙◌, subst, arith, Contains, Option, None, Some, slice_get, false≢true, length-replicate, length-set, length_push, Contains-append_cases, Contains-append_left, Contains-append_right, Contains-push, Contains-push_cases, SigId, Signal, contains_cons, contains_head, contains_none, get_within, AreClosed, Closes, seed, onward, Visits, Walks, is_elsewhere, is_other, mark_at}
+use Rattle.sig_part.proofs.Common.{◌≡◌, ◌<◌, ◌⊎◌, inl, inr, ℕ, Bool, true, false, List, [], ◌∷◌, ◌++◌, length, get_or, set, replicate, refl, sym, ap, ◌∙◌, subst, arith, Contains, Option, None, Some, slice_get, false≢true, length-replicate, length-set, length_push, Contains-append_cases, Contains-append_left, Contains-append_right, Contains-push, Contains-push_cases, SigId, Signal, AreClosed, Closes, seed, onward, Visits, Walks, is_elsewhere, is_other, mark_at, contains_cons, contains_head, contains_none, slice_get_within}
 use Rattle.sig_part.proofs.SetMarks.{marked_more, marked_within, no_mark, one_marked}
 
 -- a signal that is there
@@ -7,7 +7,7 @@ pub elsewhere_below : (signals : List Signal) (actor : ℕ) (x : SigId) (marks :
 elsewhere_below signals actor x marks count is = at (slice_get signals x.0) refl is where
   at : (owner : Option Signal) → slice_get signals x.0 ≡ owner → is_other actor owner ≡ true → x.0 < length marks
   at None get there = absurd (false≢true there)
-  at (Some owner) get there = omega (arith, get_within signals x.0 owner get, count)
+  at (Some owner) get there = omega (arith, slice_get_within signals x.0 owner get, count)
 
 in_one : (x y : SigId) → Contains (x ∷ []) y → y ≡ x
 in_one x y there = elim (contains_cons x y [] there) [ inl same ↦ same | inr later ↦ absurd (contains_none y later) ]

@@ -1,5 +1,5 @@
 -- The parts of a kernel are there, whatever memory a list of them would take.
-use Rattle.sig_part.proofs.Common.{◌≡◌, ◌<◌, ◌≤◌, ◌+◌, ◌-◌, ◌⊎◌, inl, inr, ◌↔◌, ℕ, Bool, true, false, List, [], ◌∷◌, ◌++◌, length, map, get_or, refl, sym, ap, ◌∙◌, subst, arith, Contains, replicate, zero, suc, Option, None, Some, range_with_len, cases_eq, length-append, length-map, length-replicate, length_push, length-range_with_len, count_by-le-length, SigId, LINKS, Signal, contains_none, Node, Kernel, AreClosed, Visits, Walks, is_elsewhere, AreImported, AreImportedBy, AreLinksBefore, AreMarked, AreMarkedIn, mark_at, marked_count, AreNeeded, AreNeededForEach, IsNeededWithin, IsUsedWithin, cluster_at, operations_in, NeedsTooManyLinks, cluster_count, report_link, AreWritten, Op, LinkInfo, get_some, signal_same, cases_Bool as bool_cases}
+use Rattle.sig_part.proofs.Common.{◌≡◌, ◌<◌, ◌≤◌, ◌+◌, ◌-◌, ◌⊎◌, inl, inr, ◌↔◌, ℕ, Bool, true, false, List, [], ◌∷◌, ◌++◌, length, map, get_or, refl, sym, ap, ◌∙◌, subst, arith, Contains, replicate, zero, suc, Option, None, Some, range_with_len, cases_eq, length-append, length-map, length-replicate, length_push, length-range_with_len, count_by-le-length, SigId, LINKS, Signal, Node, Kernel, AreClosed, Visits, Walks, is_elsewhere, AreImported, AreImportedBy, AreLinksBefore, AreMarked, AreMarkedIn, mark_at, marked_count, AreNeeded, AreNeededForEach, IsNeededWithin, IsUsedWithin, cluster_at, operations_in, NeedsTooManyLinks, cluster_count, report_link, AreWritten, Op, LinkInfo, signal_same, cases_Bool as bool_cases, contains_none, some_at}
 use Rattle.sig_part.proofs.ClosedImports.{closed_imported, cluster_begins, collector_begins, elsewhere_within, imported_none, imported_push}
 use Rattle.sig_part.proofs.Linked.{links_more, links_next, links_none, links_not}
 use Rattle.sig_part.proofs.MarkedSignals.{AreFromTo, from_to_more, from_to_none, marked_next, marked_none, marked_not}
@@ -21,7 +21,7 @@ module _ (ops : List Op) (needs : List (List SigId)) where
   used_exist cluster zero le = ([], λ x. ((λ there. absurd (contains_none x there)), (λ found. let below = found.below in absurd (omega (arith, below)))))
   used_exist cluster (suc n) le =
       let before = used_exist cluster n (omega (arith, le)) in
-      let op = get_some ops n (omega (arith, le)) in
+      let op = some_at ops n (omega (arith, le)) in
       let next : n + 1 ≡ suc n = omega arith in
       subst (λ (k : ℕ). (used : List SigId) × ((x : SigId) → Contains used x ↔ IsUsedWithin ops needs cluster k x)) next
       (elim (cases_eq op.0.actor cluster) [
@@ -33,7 +33,7 @@ module _ (ops : List Op) (needs : List (List SigId)) where
   needed_exist y zero le = ([], λ x. ((λ there. absurd (contains_none x there)), (λ found. let below = found.below in absurd (omega (arith, below)))))
   needed_exist y (suc n) le =
       let before = needed_exist y n (omega (arith, le)) in
-      let op = get_some ops n (omega (arith, le)) in
+      let op = some_at ops n (omega (arith, le)) in
       let next : n + 1 ≡ suc n = omega arith in
       subst (λ (k : ℕ). (needed : List SigId) × ((x : SigId) → Contains needed x ↔ IsNeededWithin ops needs y k x)) next
       (elim (is_signal op.0.writes y) [

@@ -1,6 +1,5 @@
 -- What operations use and what their guards need.
-use Rattle.sig_part.proofs.Common.{◌≡◌, ◌≢◌, ◌<◌, ◌+◌, ◌⊎◌, inl, inr, ◌↔◌, ℕ, List, [], ◌++◌, get_or, sym, ap, ◌∙◌, subst, arith, Contains, Some, slice_get, filter_map, cases_order, Contains-append_cases, Contains-append_left, Contains-append_right, SigId, Depends, test, Node, operation_in, Needs, Op, IsNeededWithin, IsUsedWithin}
-use Rattle.sig_part.proofs.Lists.{chosen, chosen_from}
+use Rattle.sig_part.proofs.Common.{◌≡◌, ◌≢◌, ◌<◌, ◌+◌, ◌⊎◌, inl, inr, ◌↔◌, ℕ, List, [], ◌++◌, get_or, sym, ap, ◌∙◌, subst, arith, Contains, Some, slice_get, filter_map, cases_order, Contains-append_cases, Contains-append_left, Contains-append_right, SigId, Depends, test, Node, operation_in, Needs, Op, IsNeededWithin, IsUsedWithin, chosen, chosen_from}
 
 -- the conditions that stand at the variables on which a guard depends
 pub needs_are : (nodes : List Node) (conditions : List SigId) (op : Op) (variables : List ℕ) (needs : List SigId) → ((v : ℕ) → Contains variables v ↔ Depends (test nodes op.guard) v)

@@ -1,6 +1,6 @@
 -- What is done at a reaction that keeps to a proposal: the signals that are there, and these alone, are written, each once; and
 -- what is read is there.
-use Rattle.sig_plan.proofs.Common.{◌≡◌, ◌≢◌, ◌<◌, ◌≤◌, ◌+◌, ◌⊎◌, inl, inr, ◌&&◌, ◌||◌, ℕ, Bool, true, false, not, cond, List, [], ◌∷◌, ◌++◌, length, map, get_or, refl, sym, ap, ◌∙◌, subst, arith, Contains, zero, suc, All, None, Option, Some, is_some, slice_get, ◌==◌, count_by, list_all, range_with_len, and_parts, cases_order, eqb-false, eqb-true, false≢true, All-cons, All-contains, All-nil, EqId, SigId, contains_at, contains_cons, contains_none, statuses_are_same, truths_are_same, KeepsTo, signal_id, IsReaction, Reaction, Speaks, Status, function_truth, has_truth, is_present, is_with, meets, or_else, same_truth, status_at, where_true, target_of, IsValid, defines, form_within, is_target, Equation, Form, Fun, Delay, When, WhenConst, Default, Sync, Event, Operand, Sig, Const, Kernel, HasOperations, Operation, Presence, equation_id, of_each, operations_of, read_of, signals_of, store_of, stores_of, without, writes_of, writing, Writes, OpKind, Compute, Left, Right, DelayRead}
+use Rattle.sig_plan.proofs.Common.{◌≡◌, ◌≢◌, ◌<◌, ◌≤◌, ◌+◌, ◌⊎◌, inl, inr, ◌&&◌, ◌||◌, ℕ, Bool, true, false, not, cond, List, [], ◌∷◌, ◌++◌, length, map, get_or, refl, sym, ap, ◌∙◌, subst, arith, Contains, zero, suc, All, None, Option, Some, is_some, slice_get, ◌==◌, count_by, list_all, range_with_len, and_parts, cases_order, eqb-false, eqb-true, false≢true, All-cons, All-contains, All-nil, EqId, SigId, statuses_are_same, truths_are_same, KeepsTo, signal_id, IsReaction, Reaction, Speaks, Status, function_truth, has_truth, is_present, is_with, meets, or_else, same_truth, status_at, where_true, target_of, IsValid, defines, form_within, is_target, Equation, Form, Fun, Delay, When, WhenConst, Default, Sync, Event, Operand, Sig, Const, Kernel, HasOperations, Operation, Presence, equation_id, of_each, operations_of, read_of, signals_of, store_of, stores_of, without, writes_of, writing, Writes, OpKind, Compute, Left, Right, DelayRead, contains_at, contains_cons, contains_none}
 use Rattle.sig_plan.proofs.Counts.{counted, fold_tally, found, one_of, one_place, scaled, scaled_none, scaled_one, tally, tally_append, tally_cons, tally_none}
 use Rattle.sig_plan.proofs.Indices.{written_below}
 use Rattle.sig_plan.proofs.EachOperation.{each_operation, first_below, only, operands_below, second_below, target_below}

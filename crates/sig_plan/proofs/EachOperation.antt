@@ -1,5 +1,5 @@
 -- What holds of each operation of a kernel, since it holds of what each equation makes.
-use Rattle.sig_plan.proofs.Common.{◌≡◌, ◌<◌, ◌≤◌, ◌+◌, inl, inr, ℕ, Bool, true, List, [], ◌∷◌, length, map, get_or, refl, sym, ◌∙◌, subst, arith, Contains, zero, suc, All, ◌&&◌, list_all, range_with_len, and_parts, ltb-true, All-append, All-cons, All-nil, EqId, SigId, Signal, signal_id, contains_cons, contains_none, operands_of, target_of, IsValid, form_within, is_below, operand_within, target_within, Equation, Form, Fun, Delay, When, WhenConst, Default, Sync, Event, Operand, Sig, Const, Kernel, Guard, Operation, Presence, equation_id, of_each, operations_of, read_of, signals_of, stores_of, without, writes_of, writing, Left, Right}
+use Rattle.sig_plan.proofs.Common.{◌≡◌, ◌<◌, ◌≤◌, ◌+◌, inl, inr, ℕ, Bool, true, List, [], ◌∷◌, length, map, get_or, refl, sym, ◌∙◌, subst, arith, Contains, zero, suc, All, ◌&&◌, list_all, range_with_len, and_parts, ltb-true, All-append, All-cons, All-nil, EqId, SigId, Signal, signal_id, operands_of, target_of, IsValid, form_within, is_below, operand_within, target_within, Equation, Form, Fun, Delay, When, WhenConst, Default, Sync, Event, Operand, Sig, Const, Kernel, Guard, Operation, Presence, equation_id, of_each, operations_of, read_of, signals_of, stores_of, without, writes_of, writing, Left, Right, contains_cons, contains_none}
 
 module _ (P : Operation → Type 0) where
   pub only : (p : Operation) → P p → All P (p ∷ [])

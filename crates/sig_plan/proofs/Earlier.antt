@@ -1,5 +1,5 @@
 -- In the compiled order what an operation needs stands before it, and guards depend on conditions alone.
-use Rattle.sig_plan.proofs.Common.{◌≡◌, ◌≢◌, ◌<◌, ◌≤◌, inl, inr, ◌&&◌, ℕ, Bool, true, false, not, List, length, sym, ap, ◌∙◌, subst, arith, Contains, None, Some, slice_get, slice_index, cases_lt, All-contains, SigId, contains_at, get_within, absent_makes_none, some_reaction, Allows, KeepsTo, Reaction, Speaks, status_at, Depends-of_two, truth_of-with_other, Depends, with_truth, IsIdle, IsValid, Kernel, HasOperations, Guard, Operation, operations_of, without, ComesBefore, IsCompiledOrder, Needs, Precedes, Writes}
+use Rattle.sig_plan.proofs.Common.{◌≡◌, ◌≢◌, ◌<◌, ◌≤◌, inl, inr, ◌&&◌, ℕ, Bool, true, false, not, List, length, sym, ap, ◌∙◌, subst, arith, Contains, None, Some, slice_get, slice_index, cases_lt, All-contains, SigId, absent_makes_none, some_reaction, Allows, KeepsTo, Reaction, Speaks, status_at, Depends-of_two, truth_of-with_other, Depends, with_truth, IsIdle, IsValid, Kernel, HasOperations, Guard, Operation, operations_of, without, ComesBefore, IsCompiledOrder, Needs, Precedes, Writes, contains_at, slice_get_within}
 use Rattle.sig_plan.proofs.Done.{present_written, read_present}
 use Rattle.sig_plan.proofs.EachOperation.{each_guard}
 use Rattle.sig_plan.proofs.Indices.{read_below}
@@ -17,7 +17,7 @@ module _ (kernel : Kernel) (valid : IsValid kernel) (conditions : List SigId) (o
 
   beyond : (v : ℕ) (ts : List Bool) (x y : Bool) → length conditions ≤ v → (reaction : Reaction) → KeepsTo conditions (with_truth ts v x) reaction → KeepsTo conditions (with_truth ts v y) reaction
   beyond v ts x y most reaction keeps u condition is =
-      let lt = get_within conditions u condition is in
+      let lt = slice_get_within conditions u condition is in
       let apart : u ≢ v = λ e. omega (arith, e, lt, most) in
       subst (Allows (status_at reaction condition.0)) (truth_of-with_other ts v x u apart ∙ sym (truth_of-with_other ts v y u apart)) (keeps u condition is)
 

@@ -1,5 +1,5 @@
 -- The guards of clocks, and what stays of them as a store grows.
-use Rattle.sig_plan.proofs.Common.{◌≡◌, ℕ, Bool, List, get_or, refl, sym, ap, ◌∙◌, subst, Option, None, Some, slice_get, at_contained, contains_at, AreClocks, ClocksView, guard_of, Depends, Holds, Keeps, StoreView, test, Node, Ref, Agree-kept, Holds-kept, Spans-kept, Kernel, AreOver, HoldGuards, function_in, presence_in}
+use Rattle.sig_plan.proofs.Common.{◌≡◌, ℕ, Bool, List, get_or, refl, sym, ap, ◌∙◌, subst, Option, None, Some, slice_get, AreClocks, ClocksView, guard_of, Depends, Holds, Keeps, StoreView, test, Node, Ref, Agree-kept, Holds-kept, Spans-kept, Kernel, AreOver, HoldGuards, function_in, presence_in, at_contained, contains_at}
 
 module _ (kernel : Kernel) (nodes : List Node) (clocks : ClocksView) (are : AreClocks kernel nodes clocks) where
   pub guards_held : HoldGuards nodes clocks

@@ -1,7 +1,6 @@
 -- Before a step of an accepted plan whose guard holds, its actor has what the step needs.
-use Rattle.sig_plan.proofs.Common.{◌≡◌, ◌<◌, ◌≤◌, inl, inr, ℕ, Bool, true, List, length, get_or, sym, ap, ◌∙◌, subst, arith, Contains, Some, slice_get, SigId, get_at, get_within, KeepsTo, Reaction, Speaks, is_present, ref_depends, Depends, IsRefOf, test, CodeView, Instruction, IsStepOf, instructions_of, op_id, Gives, HasBefore, HasGuard, IsProvidedBefore, Provides, Operation, operation_in, operations_in, IsOutput, IsAccepted, PlanView, numbers_of, Slot, Step, Do, Send, Commit, Op, LinkInfo}
+use Rattle.sig_plan.proofs.Common.{◌≡◌, ◌<◌, ◌≤◌, inl, inr, ℕ, Bool, true, List, length, get_or, sym, ap, ◌∙◌, subst, arith, Contains, Some, slice_get, SigId, KeepsTo, Reaction, Speaks, is_present, ref_depends, Depends, IsRefOf, test, CodeView, Instruction, IsStepOf, instructions_of, op_id, Gives, HasBefore, HasGuard, IsProvidedBefore, Provides, Operation, operation_in, operations_in, IsOutput, IsAccepted, PlanView, numbers_of, Slot, Step, Do, Send, Commit, Op, LinkInfo, slice_get-get_or, slice_get_within, get_map, map_get}
 use Rattle.sig_plan.proofs.Accepted.{plan_operations}
-use Rattle.sig_plan.proofs.Lists.{get_map, map_get}
 use Rattle.sig_plan.proofs.NamedInSteps.{step_instruction}
 use Rattle.sig_plan.proofs.Provided.{committed_before, condition_before, read_before, sent_before}
 
@@ -14,7 +13,7 @@ module _ (plan : PlanView) (is : IsAccepted plan) (proposal : List Bool) (reacti
   all = instructions_of operations (numbers_of plan.order) is.parts actor
 
   most : actor ≤ is.parts.clusters
-  most = let lt = get_within plan.codes actor code coded in let count = is.codes.actors in omega (arith, lt, count)
+  most = let lt = slice_get_within plan.codes actor code coded in let count = is.codes.actors in omega (arith, lt, count)
 
   -- the guard of a step's slot is that of its instruction
   guard_of_step : (k : ℕ) (step : Step) (slot : Slot) → (at : slice_get code.steps k ≡ Some step) → HasGuard code step slot → IsRefOf plan.store.nodes (step_instruction plan is actor code coded k step at).0.guard slot.guard
@@ -35,7 +34,7 @@ module _ (plan : PlanView) (is : IsAccepted plan) (proposal : List Bool) (reacti
   has_before k x within (i, instruction, less, at, holds, provides) =
       let d : Step = record { kind = Commit; pos = 0; slot = 0 } in
       let step : Step = get_or code.steps i d in
-      let there : slice_get code.steps i ≡ Some step = get_at code.steps i d (omega (arith, less, within)) in
+      let there : slice_get code.steps i ≡ Some step = slice_get-get_or code.steps i d (omega (arith, less, within)) in
       let found = step_instruction plan is actor code coded i step there in
       let same : found.0 ≡ instruction = (let e : Some found.0 ≡ Some instruction = sym found.1 ∙ at in cc) in
       let done = found.2 in
@@ -55,7 +54,7 @@ module _ (plan : PlanView) (is : IsAccepted plan) (proposal : List Bool) (reacti
     found = step_instruction plan is actor code coded k step at
 
     within : k < length code.steps
-    within = get_within code.steps k step at
+    within = slice_get_within code.steps k step at
 
     guard_holds : test plan.store.nodes slot.guard proposal ≡ true → found.0.guard proposal ≡ true
     unfolding found

@@ -1,5 +1,5 @@
 -- Operations name signals and equations of their kernel.
-use Rattle.sig_plan.proofs.Common.{◌≡◌, ◌<◌, ℕ, inl, inr, true, List, [], ◌∷◌, length, sym, subst, Contains, All, Some, slice_get, All-cons, All-contains, All-nil, EqId, SigId, contains_at, contains_cons, contains_none, get_within, IsValid, form_within, Form, Fun, Delay, When, WhenConst, Default, Sync, Event, Kernel, HasOperations, Operation, Presence, operations_of, stores_of, without, writes_of, writing, Writes, Left, Right}
+use Rattle.sig_plan.proofs.Common.{◌≡◌, ◌<◌, ℕ, inl, inr, true, List, [], ◌∷◌, length, sym, subst, Contains, All, Some, slice_get, All-cons, All-contains, All-nil, EqId, SigId, IsValid, form_within, Form, Fun, Delay, When, WhenConst, Default, Sync, Event, Kernel, HasOperations, Operation, Presence, operations_of, stores_of, without, writes_of, writing, Writes, Left, Right, contains_at, contains_cons, contains_none, slice_get_within}
 use Rattle.sig_plan.proofs.EachOperation.{each_operation, first_below, only, operands_below, second_below, signal_below}
 use Rattle.sig_plan.proofs.WrittenSignals.{operations_written}
 
@@ -85,7 +85,7 @@ module _ (kernel : Kernel) (valid : IsValid kernel) (conditions : List SigId) (o
   pub written_below : (x : SigId) → Writes p x → x.0 < length kernel.signals
   written_below x writes =
       let owner = (operations_written kernel has.presence operations valid has.are).owner p x (number, is) writes in
-      get_within kernel.signals x.0 owner.0 owner.1
+      slice_get_within kernel.signals x.0 owner.0 owner.1
 
   pub equation_below : (e : EqId) → p.equation ≡ Some e → e.0 < length kernel.equations
   equation_below e there =

@@ -1,5 +1,5 @@
 -- What the instructions of an actor are for.
-use Rattle.sig_plan.proofs.Common.{◌≡◌, ◌+◌, ◌*◌, ◌++◌, inl, inr, ℕ, Bool, true, false, cond, List, [], ◌∷◌, length, map, refl, sym, ap, ◌∙◌, subst, arith, Contains, zero, suc, All, None, Option, Some, flat_map, slice_get, ◌==◌, if◌then◌else◌, cons_option, enumerate_from, filter_map, eqb-false, eqb-true, false≢true, All-append, All-cons, All-contains, All-nil, SigId, contains_cons, contains_head, contains_later, contains_none, Instruction, at_end, at_number, instructions_of, is_signal, links_of, links_to, over_order, report_links, reports_of, under, unguarded, op_id, CarriesFrom, IsFor, StandsAt, collects, commits, does, receives, reports, sends, Operation, PartsView, Do, Send, Receive, Report, Collect, Commit, LinkInfo}
+use Rattle.sig_plan.proofs.Common.{◌≡◌, ◌+◌, ◌*◌, ◌++◌, inl, inr, ℕ, Bool, true, false, cond, List, [], ◌∷◌, length, map, refl, sym, ap, ◌∙◌, subst, arith, Contains, zero, suc, All, None, Option, Some, flat_map, slice_get, ◌==◌, if◌then◌else◌, cons_option, enumerate_from, filter_map, eqb-false, eqb-true, false≢true, All-append, All-cons, All-contains, All-nil, SigId, Instruction, at_end, at_number, instructions_of, is_signal, links_of, links_to, over_order, report_links, reports_of, under, unguarded, op_id, CarriesFrom, IsFor, StandsAt, collects, commits, does, receives, reports, sends, Operation, PartsView, Do, Send, Receive, Report, Collect, Commit, LinkInfo, contains_cons, contains_head, contains_later, contains_none}
 
 -- ---- links that were chosen
 

@@ -36,8 +36,8 @@ pub use Holdings.*
 pub use Indices.*
 pub use InstructionsOfActors.*
 pub use LinkEnds.*
-pub use NamedInSteps.*
 pub use MadeOperations.*
+pub use NamedInSteps.*
 pub use OperationsOnce.*
 pub use Orders.*
 pub use PlanOnce.*

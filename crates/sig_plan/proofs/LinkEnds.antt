@@ -1,7 +1,7 @@
 -- A link has one writer and one reader, and what is sent on it is received at an equal position under an equal guard.
-use Rattle.sig_plan.proofs.Common.{◌≡◌, ◌≢◌, ◌<◌, ◌≤◌, ◌+◌, ◌*◌, ◌⊎◌, ◌++◌, inl, inr, ℕ, Bool, true, List, [], ◌∷◌, length, map, refl, sym, ap, ◌∙◌, subst, arith, Contains, zero, suc, None, Option, Some, fold, max, slice_get, ◌==◌, if◌then◌else◌, enumerate_from, range_with_len, le-max_left, le-max_right, Contains-append_left, Contains-append_right, SigId, Signal, at_contained, contains_at, contains_head, contains_later, IsValid, Kernel, HasOperations, Instruction, at_end, at_number, at_place, instructions_of, is_signal, links_of, links_to, over_order, op_id, report_links, reports_of, under, unguarded, CarriesFrom, IsFor, StandsAt, collects, commits, does, receives, reports, sends, Operation, AreParts, Imports, used, output, guarded, IsWrittenElsewhere, PartsView, report_link, AreWritten, Do, Send, Receive, Report, Collect, Commit, LinkInfo}
+use Rattle.sig_plan.proofs.Common.{◌≡◌, ◌≢◌, ◌<◌, ◌≤◌, ◌+◌, ◌*◌, ◌⊎◌, ◌++◌, inl, inr, ℕ, Bool, true, List, [], ◌∷◌, length, map, refl, sym, ap, ◌∙◌, subst, arith, Contains, zero, suc, None, Option, Some, fold, max, slice_get, ◌==◌, if◌then◌else◌, enumerate_from, range_with_len, le-max_left, le-max_right, Contains-append_left, Contains-append_right, SigId, Signal, IsValid, Kernel, HasOperations, Instruction, at_end, at_number, at_place, instructions_of, is_signal, links_of, links_to, over_order, op_id, report_links, reports_of, under, unguarded, CarriesFrom, IsFor, StandsAt, collects, commits, does, receives, reports, sends, Operation, AreParts, Imports, used, output, guarded, IsWrittenElsewhere, PartsView, report_link, AreWritten, Do, Send, Receive, Report, Collect, Commit, LinkInfo, at_contained, contains_at, contains_head, contains_later, contains_mapped, mapped_from, Contains-append_cases, eq-eqb, ne_eqb}
 use Rattle.sig_plan.proofs.InstructionsOfActors.{chosen, instruction_for}
-use Rattle.sig_plan.proofs.Lists.{contains_either, contains_flat, contains_mapped, contains_numbered, eq_false, eq_true, in_range, mapped_from}
+use Rattle.sig_plan.proofs.Lists.{contains_flat, contains_numbered, in_range}
 use Rattle.sig_plan.proofs.WrittenSignals.{operations_written}
 
 -- ---- clusters
@@ -38,11 +38,11 @@ module _ (operations : List Operation) (order : List ℕ) (parts : PartsView) (a
   pub does_there : p.cluster ≡ actor → Contains (instructions_of operations order parts actor) (under p (Do (op_id number)) (2 * j))
   does_there own =
       at_this_place (under p (Do (op_id number)) (2 * j))
-      (subst (λ b. Contains (Own b) (under p (Do (op_id number)) (2 * j))) (sym (eq_true p.cluster actor own)) (contains_head (under p (Do (op_id number)) (2 * j)) (map (λ link. under p (Send link) (2 * j + 1)) (links_of parts.links p.writes))))
+      (subst (λ b. Contains (Own b) (under p (Do (op_id number)) (2 * j))) (sym (eq-eqb p.cluster actor own)) (contains_head (under p (Do (op_id number)) (2 * j)) (map (λ link. under p (Send link) (2 * j + 1)) (links_of parts.links p.writes))))
 
   module _ (link : ℕ) (from : CarriesFrom parts.links p link) where
     same_signal : is_signal from.info.signal (Some from.signal) ≡ true
-    same_signal = ap (λ o. is_signal o (Some from.signal)) from.carries ∙ eq_true from.signal.0 from.signal.0 refl
+    same_signal = ap (λ o. is_signal o (Some from.signal)) from.carries ∙ eq-eqb from.signal.0 from.signal.0 refl
 
     number_zero : (let o : Option ℕ = Some (0 + link) in o) ≡ Some link
     number_zero = ap Some (omega arith)
@@ -52,7 +52,7 @@ module _ (operations : List Operation) (order : List ℕ) (parts : PartsView) (a
         let among : Contains (links_of parts.links (Some from.signal)) link =
         chosen (λ l. if is_signal l.1.signal (Some from.signal) then Some l.0 else None) 0 parts.links link from.info link from.is (ap (λ b. if b then Some (0 + link) else None) same_signal ∙ number_zero) in
         at_this_place (under p (Send link) (2 * j + 1))
-        (subst (λ b. Contains (Own b) (under p (Send link) (2 * j + 1))) (sym (eq_true p.cluster actor own))
+        (subst (λ b. Contains (Own b) (under p (Send link) (2 * j + 1))) (sym (eq-eqb p.cluster actor own))
         (contains_later (under p (Do (op_id number)) (2 * j)) (under p (Send link) (2 * j + 1)) (map (λ l. under p (Send l) (2 * j + 1)) (links_of parts.links p.writes))
         (contains_mapped (λ l. under p (Send l) (2 * j + 1)) (links_of parts.links p.writes) link (subst (λ w. Contains (links_of parts.links w) link) (sym from.writes) among))))
 
@@ -61,9 +61,9 @@ module _ (operations : List Operation) (order : List ℕ) (parts : PartsView) (a
         let among : Contains (links_to parts.links (Some from.signal) actor) link =
         chosen (λ l. if is_signal l.1.signal (Some from.signal) then (if l.1.reader == actor then Some l.0 else None) else None) 0 parts.links link from.info link from.is
         (ap (λ b. if b then (if from.info.reader == actor then Some (0 + link) else None) else None) same_signal
-        ∙ (ap (λ b. if b then Some (0 + link) else None) (eq_true from.info.reader actor reader) ∙ number_zero)) in
+        ∙ (ap (λ b. if b then Some (0 + link) else None) (eq-eqb from.info.reader actor reader) ∙ number_zero)) in
         at_this_place (under p (Receive link) (2 * j + 1))
-        (subst (λ b. Contains (Own b) (under p (Receive link) (2 * j + 1))) (sym (eq_false p.cluster actor other))
+        (subst (λ b. Contains (Own b) (under p (Receive link) (2 * j + 1))) (sym (ne_eqb p.cluster actor other))
         (contains_mapped (λ l. under p (Receive l) (2 * j + 1)) (links_to parts.links p.writes actor) link (subst (λ w. Contains (links_to parts.links w actor) link) (sym from.writes) among)))
 
 -- ---- the ends of links
@@ -90,7 +90,7 @@ module _ (kernel : Kernel) (valid : IsValid kernel) (conditions : List SigId) (o
     pub apart : info.writer ≢ info.reader
 
   pub carrying_ends : (link : ℕ) (info : LinkInfo) (x : SigId) → slice_get parts.links link ≡ Some info → info.signal ≡ Some x → Ends info x
-  carrying_ends link info x at is = elim (contains_either split.links.carrying (map (report_link parts.clusters) (range_with_len 0 parts.clusters)) info (subst (λ (ls : List LinkInfo). Contains ls info) split.links.joined (contains_at parts.links link info at))) [
+  carrying_ends link info x at is = elim (Contains-append_cases split.links.carrying (map (report_link parts.clusters) (range_with_len 0 parts.clusters)) info (subst (λ (ls : List LinkInfo). Contains ls info) split.links.joined (contains_at parts.links link info at))) [
     | inr report ↦
         let (cluster, there, same) = mapped_from (report_link parts.clusters) (range_with_len 0 parts.clusters) info report in
         let none : Some x ≡ None = sym is ∙ ap (λ (l : LinkInfo). l.signal) same in
@@ -115,7 +115,7 @@ module _ (kernel : Kernel) (valid : IsValid kernel) (conditions : List SigId) (o
       owner.2 ∙ (ap (λ (s : Signal). s.cluster) same ∙ sym ends.writer)
 
   report_ends : (link : ℕ) (info : LinkInfo) → slice_get parts.links link ≡ Some info → info.signal ≡ None → (info.writer < parts.clusters) × (info.reader ≡ parts.clusters)
-  report_ends link info at is = elim (contains_either split.links.carrying (map (report_link parts.clusters) (range_with_len 0 parts.clusters)) info (subst (λ (ls : List LinkInfo). Contains ls info) split.links.joined (contains_at parts.links link info at))) [
+  report_ends link info at is = elim (Contains-append_cases split.links.carrying (map (report_link parts.clusters) (range_with_len 0 parts.clusters)) info (subst (λ (ls : List LinkInfo). Contains ls info) split.links.joined (contains_at parts.links link info at))) [
     | inr report ↦
         let (cluster, there, same) = mapped_from (report_link parts.clusters) (range_with_len 0 parts.clusters) info report in
         let lt = in_range 0 parts.clusters cluster there in
@@ -222,10 +222,10 @@ module _ (operations : List Operation) (order : List ℕ) (parts : PartsView) (l
       let among : Contains (reports_of parts.links actor) link =
       chosen (λ l. if is_signal l.1.signal None then (if l.1.writer == actor then Some l.0 else None) else None) 0 parts.links link info link at
       (ap (λ o. if is_signal o None then (if info.writer == actor then Some (0 + link) else None) else None) none
-      ∙ (ap (λ b. if b then Some (0 + link) else None) (eq_true info.writer actor writer) ∙ report_number)) in
+      ∙ (ap (λ b. if b then Some (0 + link) else None) (eq-eqb info.writer actor writer) ∙ report_number)) in
       Contains-append_right (over_order operations order parts.links actor) (at_end parts.links parts.clusters (length operations) actor) (unguarded (Report link) (2 * length operations))
       (subst (λ b. Contains (if b then map (λ l. unguarded (Collect l) (2 * length operations)) (report_links parts.links) ++ unguarded Commit (2 * length operations + 1) ∷ [] else map (λ l. unguarded (Report l) (2 * length operations)) (reports_of parts.links actor)) (unguarded (Report link) (2 * length operations)))
-      (sym (eq_false actor parts.clusters other))
+      (sym (ne_eqb actor parts.clusters other))
       (contains_mapped (λ l. unguarded (Report l) (2 * length operations)) (reports_of parts.links actor) link among))
 
   pub collects_there : (actor : ℕ) → actor ≡ parts.clusters → Contains (instructions_of operations order parts actor) (unguarded (Collect link) (2 * length operations))
@@ -234,7 +234,7 @@ module _ (operations : List Operation) (order : List ℕ) (parts : PartsView) (l
       chosen (λ l. if is_signal l.1.signal None then Some l.0 else None) 0 parts.links link info link at (ap (λ o. if is_signal o None then Some (0 + link) else None) none ∙ report_number) in
       Contains-append_right (over_order operations order parts.links actor) (at_end parts.links parts.clusters (length operations) actor) (unguarded (Collect link) (2 * length operations))
       (subst (λ b. Contains (if b then map (λ l. unguarded (Collect l) (2 * length operations)) (report_links parts.links) ++ unguarded Commit (2 * length operations + 1) ∷ [] else map (λ l. unguarded (Report l) (2 * length operations)) (reports_of parts.links actor)) (unguarded (Collect link) (2 * length operations)))
-      (sym (eq_true actor parts.clusters own))
+      (sym (eq-eqb actor parts.clusters own))
       (Contains-append_left (map (λ l. unguarded (Collect l) (2 * length operations)) (report_links parts.links)) (unguarded Commit (2 * length operations + 1) ∷ []) (unguarded (Collect link) (2 * length operations))
       (contains_mapped (λ l. unguarded (Collect l) (2 * length operations)) (report_links parts.links) link among)))
 

@@ -1,13 +1,10 @@
 -- What the making of a kernel's operations comes to.
-use Rattle.sig_plan.proofs.Common.{◌≡◌, ◌<◌, ◌*◌, ℕ, List, [], ◌++◌, length, map, sym, ap, ◌∙◌, subst, arith, Contains, Result, Ok, Err, range_with_len, IsErrAnd, get_or-range_with_len, length-range_with_len, Signal, AreClocks, ClocksView, signal_id, Keeps, StoreView, Node, Equation, Kernel, Adds, AreOver, Extends, Spends, AreOperations, Operation, Presence, of_each, operations_in, operations_of, presence_in, read_of, stores_of, writes_of, IsRefusedFor, KeepsToShare, share_of, PlanAnswer, OutOfMemory, Op, at_contained}
+use Rattle.sig_plan.proofs.Common.{◌≡◌, ◌*◌, ℕ, List, [], ◌++◌, length, map, sym, ap, ◌∙◌, subst, Result, Ok, Err, range_with_len, IsErrAnd, Signal, AreClocks, ClocksView, signal_id, Keeps, StoreView, Node, Equation, Kernel, Adds, AreOver, Extends, Spends, AreOperations, Operation, Presence, of_each, operations_in, operations_of, presence_in, read_of, stores_of, writes_of, IsRefusedFor, KeepsToShare, share_of, PlanAnswer, OutOfMemory, Op, in_range, at_contained}
 use Rattle.sig_plan.proofs.Guards.{guards_held, guards_kept, presence_stays}
-
-range_contains : (n v : ℕ) → v < n → Contains (range_with_len 0 n) v
-range_contains n v lt = (v, omega (arith, lt, length-range_with_len 0 n), get_or-range_with_len 0 n v v lt ∙ omega arith)
 
 -- guards depend on the conditions alone
 pub over_conditions : (kernel : Kernel) (nodes : List Node) (clocks : ClocksView) → AreClocks kernel nodes clocks → AreOver nodes (range_with_len 0 (length clocks.conditions)) clocks
-over_conditions kernel nodes clocks are guard there v depends = range_contains (length clocks.conditions) v (are.variables there.0 guard (at_contained clocks.guard guard there) v depends)
+over_conditions kernel nodes clocks are guard there v depends = in_range (length clocks.conditions) v (are.variables there.0 guard (at_contained clocks.guard guard there) v depends)
 
 module _ {T : Type 0} (kernel : Kernel) (clocks : ClocksView) (s t : StoreView) (are : AreClocks kernel s.nodes clocks) where
   pub within_share : (result : Result T PlanAnswer) → Spends (2 * length kernel.equations) clocks s t result → KeepsToShare (share_of kernel clocks.conditions) s t result

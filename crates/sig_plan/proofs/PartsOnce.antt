@@ -1,5 +1,5 @@
 -- The parts of a kernel are one thing: the imports of each actor and the links.
-use Rattle.sig_plan.proofs.Common.{◌≡◌, ◌<◌, ◌≤◌, ◌+◌, ◌⊎◌, ◌++◌, inl, inr, ℕ, true, List, [], ◌∷◌, length, map, get_or, refl, sym, ap, ◌∙◌, subst, arith, Contains, zero, suc, Option, None, Some, IfSome, All, slice_get, AllPass, list_all, range_with_len, and_parts, ltb-true, ext_get_or, All-append, All-cons, All-contains, All-head, All-nil, All-tail, EqId, SigId, Signal, signal_id, operands_of, target_of, IsValid, form_within, operand_within, target_within, Equation, Form, Fun, Delay, When, WhenConst, Default, Sync, Event, Kernel, Operation, Presence, equation_id, of_each, operations_of, read_of, stores_of, without, writes_of, writing, Left, Right, Writes, AreImports, AreParts, AreSignalLinks, Carries, Imports, used, output, guarded, IsEarlierLink, IsOperation, PartsView, report_link, LinkInfo, at_contained, contains_at, same_list}
+use Rattle.sig_plan.proofs.Common.{◌≡◌, ◌<◌, ◌≤◌, ◌+◌, ◌⊎◌, ◌++◌, inl, inr, ℕ, true, List, [], ◌∷◌, length, map, get_or, refl, sym, ap, ◌∙◌, subst, arith, Contains, zero, suc, Option, None, Some, IfSome, All, slice_get, AllPass, list_all, range_with_len, and_parts, ltb-true, ext_get_or, All-append, All-cons, All-contains, All-head, All-nil, All-tail, EqId, SigId, Signal, signal_id, operands_of, target_of, IsValid, form_within, operand_within, target_within, Equation, Form, Fun, Delay, When, WhenConst, Default, Sync, Event, Kernel, Operation, Presence, equation_id, of_each, operations_of, read_of, stores_of, without, writes_of, writing, Left, Right, Writes, AreImports, AreParts, AreSignalLinks, Carries, Imports, used, output, guarded, IsEarlierLink, IsOperation, PartsView, report_link, LinkInfo, same_list, at_contained, contains_at}
 
 -- ---- operations write signals of the kernel
 

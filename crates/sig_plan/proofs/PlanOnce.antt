@@ -1,5 +1,5 @@
 -- The accepted plans of a kernel differ in the references of guards alone.
-use Rattle.sig_plan.proofs.Common.{◌≡◌, ◌<◌, ◌+◌, ◌⊎◌, inl, inr, ℕ, List, [], ◌∷◌, length, get_or, refl, sym, ap, ◌∙◌, subst, arith, zero, suc, All, None, Option, Some, slice_get, cases_order, ext_get_or, OpId, get_at, get_within, one_reference, Agree, IsStore, StoreView, test, Node, Kernel, HasOperations, AreAlike, AreSlots, CodeView, ImpliesSlot, Instruction, IsLastBelow, IsStepOf, always, instructions_of, Operation, operations_in, presence_in, IsCompiledOrder, Precedes, AreParts, IsAccepted, PlanView, numbers_of, Slot, Step, Commit}
+use Rattle.sig_plan.proofs.Common.{◌≡◌, ◌<◌, ◌+◌, ◌⊎◌, inl, inr, ℕ, List, [], ◌∷◌, length, get_or, refl, sym, ap, ◌∙◌, subst, arith, zero, suc, All, None, Option, Some, slice_get, cases_order, ext_get_or, OpId, one_reference, Agree, IsStore, StoreView, test, Node, Kernel, HasOperations, AreAlike, AreSlots, CodeView, ImpliesSlot, Instruction, IsLastBelow, IsStepOf, always, instructions_of, Operation, operations_in, presence_in, IsCompiledOrder, Precedes, AreParts, IsAccepted, PlanView, numbers_of, Slot, Step, Commit, slice_get-get_or, slice_get_within}
 use Rattle.sig_plan.proofs.Accepted.{plan_operations}
 use Rattle.sig_plan.proofs.OperationsOnce.{operations_once}
 use Rattle.sig_plan.proofs.Orders.{same_order}
@@ -83,7 +83,7 @@ nothing = record { kind = Commit; position = 0; guard = always }
 
 module _ (instructions : List Instruction) (s : StoreView) (store : IsStore s) (code : CodeView) (is : IsCodeOf s.nodes instructions code) where
   instruction_at : (k : ℕ) (step : Step) → slice_get code.steps k ≡ Some step → slice_get instructions k ≡ Some (get_or instructions k nothing)
-  instruction_at k step at = let lt = get_within code.steps k step at in let count = is.count in get_at instructions k nothing (omega (arith, lt, count))
+  instruction_at k step at = let lt = slice_get_within code.steps k step at in let count = is.count in slice_get-get_or instructions k nothing (omega (arith, lt, count))
 
   done : (k : ℕ) (step : Step) → slice_get code.steps k ≡ Some step → IsStepOf s.nodes code.slots (get_or instructions k nothing) step
   done k step at = is.steps k (get_or instructions k nothing) step (instruction_at k step at) at
@@ -123,10 +123,10 @@ module _ (instructions : List Instruction) (s t : StoreView) (store : IsStore s)
   counts = one.count ∙ sym other.count
 
   step_of_b : (k : ℕ) (x : Step) → slice_get a.steps k ≡ Some x → (y : Step) × (slice_get b.steps k ≡ Some y)
-  step_of_b k x at = let lt = get_within a.steps k x at in (get_or b.steps k x, get_at b.steps k x (omega (arith, lt, counts)))
+  step_of_b k x at = let lt = slice_get_within a.steps k x at in (get_or b.steps k x, slice_get-get_or b.steps k x (omega (arith, lt, counts)))
 
   step_of_a : (k : ℕ) (y : Step) → slice_get b.steps k ≡ Some y → (x : Step) × (slice_get a.steps k ≡ Some x)
-  step_of_a k y at = let lt = get_within b.steps k y at in (get_or a.steps k y, get_at a.steps k y (omega (arith, lt, counts)))
+  step_of_a k y at = let lt = slice_get_within b.steps k y at in (get_or a.steps k y, slice_get-get_or a.steps k y (omega (arith, lt, counts)))
 
   slots_same : (n k : ℕ) → k < n → (x y : Step) → slice_get a.steps k ≡ Some x → slice_get b.steps k ≡ Some y → x.slot ≡ y.slot
   slots_same zero k lt x y at_a at_b = absurd (omega (arith, lt))
@@ -159,12 +159,12 @@ module _ (instructions : List Instruction) (s t : StoreView) (store : IsStore s)
   steps_same : a.steps ≡ b.steps
   steps_same =
       let d : Step = record { kind = Commit; pos = 0; slot = 0 } in
-      ext_get_or d a.steps b.steps counts (λ k lt. step_same k (get_or a.steps k d) (get_or b.steps k d) (get_at a.steps k d lt) (get_at b.steps k d (omega (arith, lt, counts))))
+      ext_get_or d a.steps b.steps counts (λ k lt. step_same k (get_or a.steps k d) (get_or b.steps k d) (slice_get-get_or a.steps k d lt) (slice_get-get_or b.steps k d (omega (arith, lt, counts))))
 
   -- a slot of one code is there in the other one, with the same function
   matched : (i : ℕ) (x : Slot) → slice_get a.slots i ≡ Some x → (y : Slot) × (slice_get b.slots i ≡ Some y) × Agree (test s.nodes x.guard) (test t.nodes y.guard)
   matched i x at =
-      let (k, u, at_u, is) = one.slots.used i (get_within a.slots i x at) in
+      let (k, u, at_u, is) = one.slots.used i (slice_get_within a.slots i x at) in
       let (v, at_v) = step_of_b k u at_u in
       let same = slots_same (suc k) k (omega arith) u v at_u at_v in
       let second = done instructions t others b other k v at_v in (
@@ -176,7 +176,7 @@ module _ (instructions : List Instruction) (s t : StoreView) (store : IsStore s)
 
   matched_back : (i : ℕ) (y : Slot) → slice_get b.slots i ≡ Some y → (x : Slot) × (slice_get a.slots i ≡ Some x) × Agree (test s.nodes x.guard) (test t.nodes y.guard)
   matched_back i y at =
-      let (k, v, at_v, is) = other.slots.used i (get_within b.slots i y at) in
+      let (k, v, at_v, is) = other.slots.used i (slice_get_within b.slots i y at) in
       let (u, at_u) = step_of_a k v at_v in
       let same = slots_same (suc k) k (omega arith) u v at_u at_v in
       let first = done instructions s store a one k u at_u in (
@@ -199,12 +199,12 @@ module _ (instructions : List Instruction) (s t : StoreView) (store : IsStore s)
     | inl same ↦ same
     | inr (inl less) ↦
         let d : Slot = record { guard = record { number = 0 }; parent = None } in
-        let (x, at, agree) = matched_back (length a.slots) (get_or b.slots (length a.slots) d) (get_at b.slots (length a.slots) d less) in
-        absurd (let lt = get_within a.slots (length a.slots) x at in omega (arith, lt))
+        let (x, at, agree) = matched_back (length a.slots) (get_or b.slots (length a.slots) d) (slice_get-get_or b.slots (length a.slots) d less) in
+        absurd (let lt = slice_get_within a.slots (length a.slots) x at in omega (arith, lt))
     | inr (inr more) ↦
         let d : Slot = record { guard = record { number = 0 }; parent = None } in
-        let (y, at, agree) = matched (length b.slots) (get_or a.slots (length b.slots) d) (get_at a.slots (length b.slots) d more) in
-        absurd (let lt = get_within b.slots (length b.slots) y at in omega (arith, lt))
+        let (y, at, agree) = matched (length b.slots) (get_or a.slots (length b.slots) d) (slice_get-get_or a.slots (length b.slots) d more) in
+        absurd (let lt = slice_get_within b.slots (length b.slots) y at in omega (arith, lt))
   ]
 
   parents_same : (i : ℕ) (x y : Slot) → slice_get a.slots i ≡ Some x → slice_get b.slots i ≡ Some y → x.parent ≡ y.parent

@@ -1,6 +1,5 @@
 -- Instructions stand by position.
-use Rattle.sig_plan.proofs.Common.{◌≡◌, ◌<◌, ◌≤◌, ◌+◌, ◌*◌, ◌++◌, inl, inr, ℕ, Bool, true, false, List, [], ◌∷◌, length, map, refl, sym, ap, ◌∙◌, subst, arith, Contains, zero, suc, None, Option, Some, flat_map, slice_get, ◌==◌, if◌then◌else◌, enumerate_from, cases_order, at_contained, contains_at, contains_cons, contains_head, contains_later, contains_none, Instruction, at_end, at_number, instructions_of, links_of, links_to, op_id, over_order, report_links, reports_of, under, unguarded, Operation, PartsView, Do, Send, Receive, Report, Collect, Commit, LinkInfo}
-use Rattle.sig_plan.proofs.Lists.{contains_either, mapped_from}
+use Rattle.sig_plan.proofs.Common.{◌≡◌, ◌<◌, ◌≤◌, ◌+◌, ◌*◌, ◌++◌, inl, inr, ℕ, Bool, true, false, List, [], ◌∷◌, length, map, refl, sym, ap, ◌∙◌, subst, arith, Contains, zero, suc, None, Option, Some, flat_map, slice_get, ◌==◌, if◌then◌else◌, enumerate_from, cases_order, Instruction, at_end, at_number, instructions_of, links_of, links_to, op_id, over_order, report_links, reports_of, under, unguarded, Operation, PartsView, Do, Send, Receive, Report, Collect, Commit, LinkInfo, at_contained, contains_at, contains_cons, contains_head, contains_later, contains_none, mapped_from, Contains-append_cases}
 
 -- each stands at no later position than those behind it
 Sorted : List Instruction → Type 0
@@ -15,7 +14,7 @@ sorted_append : (xs ys : List Instruction) → Sorted xs → Sorted ys → ((a b
 unfolding Sorted
 sorted_append [] ys first second apart = second
 sorted_append (x ∷ xs) ys first second apart = (
-  λ y there. elim (contains_either xs ys y there) [ inl own ↦ first.0 y own | inr other ↦ apart x y (contains_head x xs) other ],
+  λ y there. elim (Contains-append_cases xs ys y there) [ inl own ↦ first.0 y own | inr other ↦ apart x y (contains_head x xs) other ],
   sorted_append xs ys first.1 second (λ a b in_a in_b. apart a b (contains_later x a xs in_a) in_b),
 )
 
@@ -40,7 +39,7 @@ between_cons low high x xs above below rest y there = elim (contains_cons x y xs
 ]
 
 between_append : (low high : ℕ) (xs ys : List Instruction) → Between low high xs → Between low high ys → Between low high (xs ++ ys)
-between_append low high xs ys first second y there = elim (contains_either xs ys y there) [ inl own ↦ first y own | inr other ↦ second y other ]
+between_append low high xs ys first second y there = elim (Contains-append_cases xs ys y there) [ inl own ↦ first y own | inr other ↦ second y other ]
 
 between_none : (low high : ℕ) → Between low high []
 between_none low high y there = absurd (contains_none y there)

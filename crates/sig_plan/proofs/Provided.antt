@@ -1,5 +1,5 @@
 -- Before a step whose guard holds, an actor has done or received what the step needs and reads.
-use Rattle.sig_plan.proofs.Common.{◌≡◌, ◌≢◌, ◌<◌, ◌≤◌, ◌+◌, ◌*◌, inl, inr, ℕ, Bool, true, List, [], ◌∷◌, length, map, get_or, refl, sym, ap, ◌∙◌, subst, arith, Contains, All, None, Option, Some, slice_get, slice_index, zero, suc, and_parts, cases_eq, false≢true, All-cons, All-contains, All-nil, Contains-append_left, EqId, SigId, Signal, at_contained, contains_at, get_at, get_within, KeepsTo, signal_id, Reaction, Speaks, are_statuses, is_present, is_status_of, Depends, IsValid, Form, Fun, Delay, When, WhenConst, Default, Sync, Event, Kernel, HasOperations, Instruction, instructions_of, op_id, under, IsFor, Provides, StandsAt, collects, commits, does, receives, reports, sends, Operation, Presence, cluster_at, cluster_of, operations_of, stores_of, without, writes_of, writing, IsCompiledOrder, Needs, Writes, AreParts, Imports, used, output, guarded, IsOutput, PartsView, cluster_count, Do, Send, Receive, Commit, Left, Right, LinkInfo, Precedes}
+use Rattle.sig_plan.proofs.Common.{◌≡◌, ◌≢◌, ◌<◌, ◌≤◌, ◌+◌, ◌*◌, inl, inr, ℕ, Bool, true, List, [], ◌∷◌, length, map, get_or, refl, sym, ap, ◌∙◌, subst, arith, Contains, All, None, Option, Some, slice_get, slice_index, zero, suc, and_parts, cases_eq, false≢true, All-cons, All-contains, All-nil, Contains-append_left, EqId, SigId, Signal, KeepsTo, signal_id, Reaction, Speaks, are_statuses, is_present, is_status_of, Depends, IsValid, Form, Fun, Delay, When, WhenConst, Default, Sync, Event, Kernel, HasOperations, Instruction, instructions_of, op_id, under, IsFor, Provides, StandsAt, collects, commits, does, receives, reports, sends, Operation, Presence, cluster_at, cluster_of, operations_of, stores_of, without, writes_of, writing, IsCompiledOrder, Needs, Writes, AreParts, Imports, used, output, guarded, IsOutput, PartsView, cluster_count, Do, Send, Receive, Commit, Left, Right, LinkInfo, Precedes, at_contained, contains_at, slice_get-get_or, slice_get_within}
 use Rattle.sig_plan.proofs.Done.{present_written}
 use Rattle.sig_plan.proofs.EachOperation.{each_operation, only}
 use Rattle.sig_plan.proofs.Earlier.{needed_earlier, read_earlier}
@@ -99,15 +99,15 @@ module _ (kernel : Kernel) (valid : IsValid kernel) (conditions : List SigId) (o
   ]
 
   number_at : (j number : ℕ) → slice_get order j ≡ Some number → slice_index order j ≡ number
-  number_at j number place = let e : Some (get_or order j 0) ≡ Some number = sym (get_at order j 0 (get_within order j number place)) ∙ place in cc
+  number_at j number place = let e : Some (get_or order j 0) ≡ Some number = sym (slice_get-get_or order j 0 (slice_get_within order j number place)) ∙ place in cc
 
   place_below : (j number : ℕ) → slice_get order j ≡ Some number → j < length operations
-  place_below j number place = let lt = get_within order j number place in let full = ordered.all in omega (arith, lt, full)
+  place_below j number place = let lt = slice_get_within order j number place in let full = ordered.all in omega (arith, lt, full)
 
   stands_at : (i j number : ℕ) (p : Operation) → i < j → j < length operations → slice_index order i ≡ number → slice_get operations number ≡ Some p → StandsAt operations order i number p
   stands_at i j number p less lt same at =
       let full = ordered.all in
-      record { place = get_at order i 0 (omega (arith, less, lt, full)) ∙ ap Some same; is = at }
+      record { place = slice_get-get_or order i 0 (omega (arith, less, lt, full)) ∙ ap Some same; is = at }
 
   -- what the guard of an operation needs, where the actor imports what it does not write
   module _ (j number : ℕ) (q : Operation) (stands : StandsAt operations order j number q) where
@@ -234,9 +234,9 @@ module _ (kernel : Kernel) (valid : IsValid kernel) (conditions : List SigId) (o
   commit_by k _ at (commits own) kind x is_output present =
       let within : x.0 < length kernel.signals = (let upper = is_output.1 in omega (arith, upper, valid.parts.interface, valid.parts.declared)) in
       let (m, p, at_p, writes, done) = present_written kernel valid conditions operations has proposal reaction speaks keeps x within present in
-      let (i, lt_i, at_i) = stands_somewhere (Precedes conditions operations) (length operations) order ordered m (get_within operations m p at_p) in
+      let (i, lt_i, at_i) = stands_somewhere (Precedes conditions operations) (length operations) order ordered m (slice_get_within operations m p at_p) in
       let full = ordered.all in
-      let place : slice_get order i ≡ Some m = get_at order i m lt_i ∙ ap Some at_i in
+      let place : slice_get order i ≡ Some m = slice_get-get_or order i m lt_i ∙ ap Some at_i in
       before k _ at x (2 * i + 1)
       (provided i m p x (record { place = place; is = at_p }) writes done (λ other. output x (own ∙ split.clusters) is_output (record { writer = p; is = (m, at_p); writes = writes; other = other })))
       (omega (arith, lt_i, full))

@@ -1,9 +1,8 @@
 -- The guards of an accepted plan's operations and slots.
-use Rattle.sig_plan.proofs.Common.{◌≡◌, ◌≢◌, ◌<◌, ◌⊎◌, inl, inr, ℕ, Bool, false, true, List, length, get_or, refl, sym, ap, ◌∙◌, subst, arith, None, Some, slice_get, All-contains, SigId, contains_at, get_at, get_within, KeepsTo, Reaction, Speaks, status_at, ref_depends, asked_agree, asks_depends, asks_no_idle, Depends, truth_of, with_truth, Holds, IsRefOf, diagram, test, Asks, IsIdle, Ref, CodeView, Instruction, always, instructions_of, IsFor, collects, commits, does, receives, reports, sends, Guard, Operation, operation_in, operations_in, IsAccepted, PlanView, numbers_of, Slot, Op, LinkInfo, IsGuardOf, of_operation, of_slot}
+use Rattle.sig_plan.proofs.Common.{◌≡◌, ◌≢◌, ◌<◌, ◌⊎◌, inl, inr, ℕ, Bool, false, true, List, length, get_or, refl, sym, ap, ◌∙◌, subst, arith, None, Some, slice_get, All-contains, SigId, KeepsTo, Reaction, Speaks, status_at, ref_depends, asked_agree, asks_depends, asks_no_idle, Depends, truth_of, with_truth, Holds, IsRefOf, diagram, test, Asks, IsIdle, Ref, CodeView, Instruction, always, instructions_of, IsFor, collects, commits, does, receives, reports, sends, Guard, Operation, operation_in, operations_in, IsAccepted, PlanView, numbers_of, Slot, Op, LinkInfo, IsGuardOf, of_operation, of_slot, contains_at, slice_get-get_or, slice_get_within, get_map}
 use Rattle.sig_plan.proofs.Accepted.{plan_operations}
 use Rattle.sig_plan.proofs.Earlier.{guards_alone, guards_idle}
 use Rattle.sig_plan.proofs.InstructionsOfActors.{instruction_for}
-use Rattle.sig_plan.proofs.Lists.{get_map}
 
 module _ (plan : PlanView) (is : IsAccepted plan) where
   abbrev operations : List Operation
@@ -27,10 +26,10 @@ module _ (plan : PlanView) (is : IsAccepted plan) where
   slot_guard actor code at i slot there =
       let all = instructions_of operations (numbers_of plan.order) is.parts actor in
       let coded = is.codes.each actor code at in
-      let (number, step, at_step, same) = coded.slots.used i (get_within code.slots i slot there) in
-      let within : number < length all = (let lt = get_within code.steps number step at_step in let count = coded.count in omega (arith, lt, count)) in
+      let (number, step, at_step, same) = coded.slots.used i (slice_get_within code.slots i slot there) in
+      let within : number < length all = (let lt = slice_get_within code.steps number step at_step in let count = coded.count in omega (arith, lt, count)) in
       let instruction : Instruction = get_or all number (record { kind = step.kind; position = 0; guard = always }) in
-      let found : slice_get all number ≡ Some instruction = get_at all number (record { kind = step.kind; position = 0; guard = always }) within in
+      let found : slice_get all number ≡ Some instruction = slice_get-get_or all number (record { kind = step.kind; position = 0; guard = always }) within in
       let done = coded.steps number instruction step found at_step in
       let slots : done.slot ≡ slot = (let e : Some done.slot ≡ Some slot = sym done.has ∙ (ap (slice_get code.slots) same ∙ there) in cc) in (
         instruction.guard,
@@ -86,7 +85,7 @@ module _ (plan : PlanView) (is : IsAccepted plan) where
       pub guard_asks : (v : ℕ) → Asks (diagram plan.store.nodes guard) proposal v → (condition : SigId) × (slice_get plan.clocks.conditions v ≡ Some condition) × (status_at reaction condition.0 ≢ None)
       guard_asks v asks =
           let lt = guard_alone v (asks_depends plan.store is.store guard guard_held proposal v asks) in
-          let there = get_at plan.clocks.conditions v (record { 0 = 0 }) lt in
+          let there = slice_get-get_or plan.clocks.conditions v (record { 0 = 0 }) lt in
           (_, there, not_absent v _ there asks)
 
       -- so truths that agree on these give it one value

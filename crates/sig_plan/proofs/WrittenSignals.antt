@@ -1,6 +1,6 @@
 -- The operations of a valid kernel write its signals.
-use Rattle.sig_plan.proofs.Common.{◌≡◌, ◌<◌, ◌≤◌, ◌+◌, ◌⊎◌, inl, inr, ◌&&◌, ℕ, Bool, true, false, cond, List, [], ◌∷◌, ◌++◌, length, map, refl, sym, ap, ◌∙◌, subst, arith, Contains, All, Some, fold, nat_lt, slice_get, range_with_len, count_by, AllPass, list_all, cases_order, eqb-true, false≢true, ltb-true, get_or-range_with_len, length-range_with_len, All-append, All-cons, All-contains, All-from_get_or, All-head, All-map, All-tail, Contains-append_left, Contains-append_right, EqId, SigId, Signal, signal_id, at_contained, contains_at, contains_head, get_at, operands_of, target_of, IsValid, defines, form_within, is_target, operand_within, target_within, Equation, Form, Fun, Delay, When, WhenConst, Default, Sync, Event, Kernel, Guard, Operation, Presence, cluster_at, cluster_of, equation_id, of_each, operations_of, read_of, signals_of, store_of, stores_of, without, writes_of, writing, Writes, OpKind, Compute, Left, Right, DelayRead, AreWritten}
-use Rattle.sig_plan.proofs.Lists.{get_map, get_some, signal_same}
+use Rattle.sig_plan.proofs.Common.{◌≡◌, ◌<◌, ◌≤◌, ◌+◌, ◌⊎◌, inl, inr, ◌&&◌, ℕ, Bool, true, false, cond, List, [], ◌∷◌, ◌++◌, length, map, refl, sym, ap, ◌∙◌, subst, arith, Contains, All, Some, fold, nat_lt, slice_get, range_with_len, count_by, AllPass, list_all, cases_order, eqb-true, false≢true, ltb-true, get_or-range_with_len, length-range_with_len, All-append, All-cons, All-contains, All-from_get_or, All-head, All-map, All-tail, Contains-append_left, Contains-append_right, EqId, SigId, Signal, signal_id, operands_of, target_of, IsValid, defines, form_within, is_target, operand_within, target_within, Equation, Form, Fun, Delay, When, WhenConst, Default, Sync, Event, Kernel, Guard, Operation, Presence, cluster_at, cluster_of, equation_id, of_each, operations_of, read_of, signals_of, store_of, stores_of, without, writes_of, writing, Writes, OpKind, Compute, Left, Right, DelayRead, AreWritten, at_contained, contains_at, contains_head, slice_get-get_or, get_map, some_at}
+use Rattle.sig_plan.proofs.Lists.{signal_same}
 
 -- the operation writes signals of its own cluster
 abbrev IsOwn : List Signal → Operation → Type 0
@@ -15,7 +15,7 @@ module _ (signals : List Signal) where
 
   own_at : (p : Operation) (y : SigId) → y.0 < length signals → p.writes ≡ Some y → p.cluster ≡ cluster_at signals y → IsOwn signals p
   own_at p y lt writes cluster x is =
-      let got = get_some signals y.0 lt in
+      let got = some_at signals y.0 lt in
       let same : y ≡ x = (let e : Some y ≡ Some x = sym writes ∙ is in cc) in
       (got.0, ap (λ (s : SigId). slice_get signals s.0) (sym same) ∙ got.1, cluster ∙ ap cluster_of got.1)
 
@@ -132,7 +132,7 @@ module _ (kernel : Kernel) (presence : Presence) (valid : IsValid kernel) where
   in_range : (n k : ℕ) → k < n → slice_get (range_with_len 0 n) k ≡ Some k
   in_range n k lt =
       let same : 0 + k ≡ k = omega arith in
-      get_at (range_with_len 0 n) k 0 (omega (arith, lt, length-range_with_len 0 n)) ∙ ap Some (get_or-range_with_len 0 n k 0 lt ∙ same)
+      slice_get-get_or (range_with_len 0 n) k 0 (omega (arith, lt, length-range_with_len 0 n)) ∙ ap Some (get_or-range_with_len 0 n k 0 lt ∙ same)
 
   defined : (x : SigId) → x.0 < length kernel.signals → kernel.inputs ≤ x.0 → (p : Operation) × Contains (operations_of kernel presence) p × Writes p x
   unfolding reads writes stores

@@ -1,5 +1,5 @@
 -- What events have committed is the first instants of the longest trace.
-use Rattle.sig_plays.proofs.Common.{◌≡◌, ◌≤◌, ◌+◌, ◌-◌, ◌∙◌, List, length, take, sym, ap, subst, arith, Option, Some, slice_get, length-map, length-take, take-map, take_at, Instant, Trace, Seen, seen_at, Place, fitting, some_at, some_reference, Actor, AreFlowsFor, IsAccepted, IsEnd, IsReference, IsOnReference, IsSound, Core as ModelCore, Given, after, after_on, after_sound, reaction_in, reactions_begin, reactions_of, reactions_text, output_text, text_is, Event, Ended, committed_in, instants_before}
+use Rattle.sig_plays.proofs.Common.{◌≡◌, ◌≤◌, ◌+◌, ◌-◌, ◌∙◌, List, length, take, sym, ap, subst, arith, Option, Some, slice_get, length-map, length-take, take-map, take_at, Instant, Trace, Seen, seen_at, Place, fitting, some_reference, Actor, AreFlowsFor, IsAccepted, IsEnd, IsReference, IsOnReference, IsSound, Core as ModelCore, Given, after, after_on, after_sound, reaction_in, reactions_begin, reactions_of, reactions_text, output_text, text_is, Event, Ended, committed_in, instants_before, some_at}
 
 module _ (given : Given) (accepted : IsAccepted given.plan) (fit : AreFlowsFor given.plan.kernel given.flows) (events : List Event) where
   abbrev left : ModelCore

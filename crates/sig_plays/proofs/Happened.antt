@@ -1,11 +1,7 @@
 -- Events one after another, and what a sink took of them.
-use Rattle.sig_plays.proofs.Common.{◌≡◌, ◌<◌, ◌+◌, ◌++◌, ◌∙◌, ℕ, List, [], ◌∷◌, length, map, take, drop, get_or, refl, sym, ap, subst, append_assoc, fold, append-nil, map-append, take-append-drop, take_more, Join, more_then, text_append, Happened, IsSameRun, Shows, TookMore, given_of, FileEvent, Kernel, Core as ModelCore, Given, reactions_text, stepped, Event, happens, AllHappened, PartHappened, behind, TookPrefix, TookPrefix-longer}
+use Rattle.sig_plays.proofs.Common.{◌≡◌, ◌<◌, ◌+◌, ◌++◌, ◌∙◌, ℕ, List, [], ◌∷◌, length, map, take, drop, get_or, sym, ap, subst, append_assoc, map-append, take-append-drop, take_more, Join, more_then, text_append, Happened, IsSameRun, Shows, TookMore, given_of, FileEvent, Kernel, Core as ModelCore, Given, reactions_text, stepped, Event, happens, AllHappened, PartHappened, behind, TookPrefix, TookPrefix-longer, fold-append}
 use Rattle.sig_core.specs.declared.state.Core.{Core}
 use Rattle.sig_plays.proofs.StaysCommitted.{grows}
-
-pub fold_append : {A B : Type 0} (f : A → B → A) (z : A) (xs ys : List B) → fold f z (xs ++ ys) ≡ fold f (fold f z xs) ys
-fold_append f z [] ys = refl
-fold_append f z (x ∷ xs) ys = fold_append f (f z x) xs ys
 
 -- ---- the events of a file
 
@@ -19,10 +15,6 @@ with_rest es i = sym (map-append happens (take i es) (drop i es)) ∙ ap (map ha
 
 -- ---- what happened
 
--- no event
-pub none_happened : {S : Type 0} (took : S → List ℕ → S → Type 0) (c : Core) (first : S) → took first [] first → AllHappened took [] c c first first
-none_happened took c first nothing m shows = (shows, record { more = []; committed = sym (append-nil m.committed); taken = nothing })
-
 -- one more event
 pub happened_more : {S : Type 0} (took also : S → List ℕ → S → Type 0) → Join took also → (old mid new : Core) (first middle last : S) → IsSameRun old mid
     → (events : List Event) (e : Event) → AllHappened took events old mid first middle → Happened also e mid new middle last → AllHappened also (events ++ e ∷ []) old new first last
@@ -31,7 +23,7 @@ happened_more {S} took also join old mid new first middle last same events e all
     let there : ModelCore = behind (given_of old) m events in
     let on = next there before.0 in
     let end_is : stepped (given_of mid) there e ≡ behind (given_of old) m (events ++ e ∷ []) =
-    ap (λ (g : Given). stepped g there e) same ∙ sym (fold_append (stepped (given_of old)) m events (e ∷ [])) in
+    ap (λ (g : Given). stepped g there e) same ∙ sym (fold-append (stepped (given_of old)) m events (e ∷ [])) in
     let kernel : mid.plan.now.kernel ≡ old.plan.now.kernel = ap (λ (g : Given). g.plan.kernel) same in (
       subst (λ n. Shows n new) end_is on.0,
       subst (λ n. TookMore also old.plan.now.kernel m n first last) end_is
@@ -47,7 +39,7 @@ part_longer took old new first last events rest part m shows =
     let n : ModelCore = behind (given_of old) m events in
     let more = grows (given_of old) rest n in
     let kernel : Kernel = old.plan.now.kernel in
-    subst (λ k. TookMore (TookPrefix took) old.plan.now.kernel m k first last) (sym (fold_append (stepped (given_of old)) m events rest))
+    subst (λ k. TookMore (TookPrefix took) old.plan.now.kernel m k first last) (sym (fold-append (stepped (given_of old)) m events rest))
     (record {
       more = so_far.more ++ more.0;
       committed = more.1 ∙ ap (λ rs. rs ++ more.0) so_far.committed ∙ append_assoc m.committed so_far.more more.0;

@@ -21,7 +21,6 @@ pub use LinesInARow.*
 pub use Loads.*
 pub use Missing.*
 pub use OnePlay.*
-pub use TakenOfPlay.*
 pub use StateTaken.*
+pub use TakenOfPlay.*
 pub use Written.*
-pub use Rattle.sig_plays.proofs.Written.{few_links}

@@ -1,5 +1,5 @@
 -- Lines of a list, one after another.
-use Rattle.sig_plays.proofs.Common.{◌≡◌, ◌≤◌, ◌+◌, ◌∙◌, ◌++◌, ℕ, List, [], ◌∷◌, length, take, refl, sym, ap, subst, append_assoc, arith, zero, suc, None, Some, slice_get, append-nil, lines_from, Joins, TookPrefix, TookPrefix-longer, TookPrefix-then}
+use Rattle.sig_plays.proofs.Common.{◌≡◌, ◌+◌, ◌∙◌, ◌++◌, ℕ, List, [], ◌∷◌, take, refl, sym, ap, subst, append_assoc, arith, zero, suc, None, Some, slice_get, append-nil, lines_from, Joins, TookPrefix, TookPrefix-longer, TookPrefix-then}
 
 -- one more line
 line_next : {A : Type 0} (line : ℕ → A → List ℕ) (number k : ℕ) (xs : List A) (x : A) → slice_get xs k ≡ Some x
@@ -27,18 +27,6 @@ lines_rest line number (suc k) [] = ([], refl)
 lines_rest line number (suc k) (x ∷ xs) =
     let more = lines_rest line (number + 1) k xs in
     (more.0, ap (λ text. line number x ++ text) more.1 ∙ sym (append_assoc (line number x) (lines_from line (number + 1) (take k xs)) more.0))
-
--- no line is left
-pub lines_all : {A : Type 0} (k : ℕ) (xs : List A) → length xs ≤ k → take k xs ≡ xs
-lines_all zero [] le = refl
-lines_all zero (x ∷ xs) le = absurd (omega (arith, le))
-lines_all (suc k) [] le = refl
-lines_all (suc k) (x ∷ xs) le = ap (λ ys. x ∷ ys) (lines_all k xs (omega (arith, le)))
-
-pub past_end : {A : Type 0} (xs : List A) (k : ℕ) → slice_get xs k ≡ None → length xs ≤ k
-past_end [] k none = omega arith
-past_end (x ∷ xs) zero none = absurd (let e : Some x ≡ None = none in cc)
-past_end (x ∷ xs) (suc k) none = let le = past_end xs k none in omega (arith, le)
 
 -- some lines, and then a prefix of the next: a prefix of all
 pub part_of_lines : {S : Type 0} (took : S → List ℕ → S → Type 0) → Joins took → {A : Type 0} (line : ℕ → A → List ℕ) (k : ℕ) (xs : List A) (x : A) → slice_get xs k ≡ Some x

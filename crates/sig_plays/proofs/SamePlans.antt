@@ -1,9 +1,6 @@
 -- The plans of a kernel have the same states behind the same events: they differ in the references of guards alone.
-use Rattle.sig_plays.proofs.Common.{◌≡◌, ◌∙◌, ℕ, ℤ, List, [], ◌∷◌, Bool, length, replicate, refl, sym, ap, arith, Option, None, Some, fold, nat_lt, pos, slice_get, unwrap_or, if◌then◌else◌, SigId, get_within, run_of, Ref, Kernel, some_at, Actor, code_of, ended_at, guard_holds, moved_on, no_code, opening_actor, position_of, slot_holds, truths_of, Core, Given, acted, after, looked, opening, stepped, turned, with_actor, word_before, Faults, Gives, operated, outcome, outcome_by, AtLimit, Commits, Fails, Goes, Puts, Stopped, Takes, Turn, carried, item_of, reaction_in, received, turn, turn_at, turn_by, turn_of_op, turn_with, Event, Act, Look, AreAlike, CodeView, Operation, operation_in, operations_in, IsAccepted, PlanView, Slot, Step, StepKind, Do, Send, Receive, Report, Collect, Commit, Op, OpKind, Read, Compute, Left, Right, DelayRead, Store, get_map, map_get, same_Some, codes_alike, same_actors, same_conditions, same_links, same_operations}
+use Rattle.sig_plays.proofs.Common.{◌≡◌, ◌∙◌, ℕ, ℤ, List, [], ◌∷◌, Bool, length, replicate, refl, sym, ap, arith, Option, None, Some, fold, nat_lt, pos, slice_get, unwrap_or, if◌then◌else◌, SigId, run_of, Ref, Kernel, Actor, code_of, ended_at, guard_holds, moved_on, no_code, opening_actor, position_of, slot_holds, truths_of, Core, Given, acted, after, looked, opening, stepped, turned, with_actor, word_before, Faults, Gives, operated, outcome, outcome_by, AtLimit, Commits, Fails, Goes, Puts, Stopped, Takes, Turn, carried, item_of, reaction_in, received, turn, turn_at, turn_by, turn_of_op, turn_with, Event, Act, Look, AreAlike, CodeView, Operation, operation_in, operations_in, IsAccepted, PlanView, Slot, Step, StepKind, Do, Send, Receive, Report, Collect, Commit, Op, OpKind, Read, Compute, Left, Right, DelayRead, Store, same_Some, codes_alike, same_actors, same_conditions, same_links, same_operations, none-some, slice_get_within, get_map, map_get, some_at}
 use Rattle.sig_model.specs.Operating.{Outcome}
-
-none_some : {X : Type 0} (x : X) → None ≡ Some x → ⊥
-none_some x same = let e : None ≡ Some x = same in cc
 
 -- ---- the reference of an operation's guard is not looked at
 
@@ -34,15 +31,15 @@ module _ (p q : PlanView) (a b : CodeView) (alike : AreAlike p.store.nodes q.sto
     by : (x y : Option Slot) → slice_get a.slots number ≡ x → slice_get b.slots number ≡ y → slot_holds p.store.nodes truths x ≡ slot_holds q.store.nodes truths y
     by None None at_a at_b = refl
     by None (Some y) at_a at_b =
-        let lt = get_within b.slots number y at_b in
+        let lt = slice_get_within b.slots number y at_b in
         let count = alike.count in
         let there = some_at a.slots number (omega (arith, lt, count)) in
-        absurd (none_some there.0 (sym at_a ∙ there.1))
+        absurd (none-some there.0 (sym at_a ∙ there.1))
     by (Some x) None at_a at_b =
-        let lt = get_within a.slots number x at_a in
+        let lt = slice_get_within a.slots number x at_a in
         let count = alike.count in
         let there = some_at b.slots number (omega (arith, lt, count)) in
-        absurd (none_some there.0 (sym at_b ∙ there.1))
+        absurd (none-some there.0 (sym at_b ∙ there.1))
     by (Some x) (Some y) at_a at_b = alike.guards number x y at_a at_b truths
 
 -- ---- two plans of a kernel
@@ -63,19 +60,19 @@ module _ (p q : PlanView) (one : IsAccepted p) (other : IsAccepted q) (kernels :
     by None None at_p at_q = record {
       steps = refl;
       count = refl;
-      parents = λ number s t at_s at_t. absurd (none_some s at_s);
-      guards = λ number s t at_s at_t. absurd (none_some s at_s);
+      parents = λ number s t at_s at_t. absurd (none-some s at_s);
+      guards = λ number s t at_s at_t. absurd (none-some s at_s);
     }
     by None (Some y) at_p at_q =
-        let lt = get_within q.codes k y at_q in
+        let lt = slice_get_within q.codes k y at_q in
         let count = same_actors p q one other kernels in
         let there = some_at p.codes k (omega (arith, lt, count)) in
-        absurd (none_some there.0 (sym at_p ∙ there.1))
+        absurd (none-some there.0 (sym at_p ∙ there.1))
     by (Some x) None at_p at_q =
-        let lt = get_within p.codes k x at_p in
+        let lt = slice_get_within p.codes k x at_p in
         let count = same_actors p q one other kernels in
         let there = some_at q.codes k (omega (arith, lt, count)) in
-        absurd (none_some there.0 (sym at_q ∙ there.1))
+        absurd (none-some there.0 (sym at_q ∙ there.1))
     by (Some x) (Some y) at_p at_q = codes_alike p q one other kernels k x y at_p at_q
 
   -- the operations of a number differ in their guards alone
@@ -123,11 +120,11 @@ module _ (p q : PlanView) (one : IsAccepted p) (other : IsAccepted q) (kernels :
       by None (Some y) at_p at_q =
           let there = get_map (operation_in q.store.nodes) q.ops number y at_q in
           let back = map_get (operation_in p.store.nodes) p.ops number (operation_in q.store.nodes y) (ap (λ (os : List Operation). slice_get os number) operations ∙ there) in
-          absurd (none_some back.0 (sym at_p ∙ back.1))
+          absurd (none-some back.0 (sym at_p ∙ back.1))
       by (Some x) None at_p at_q =
           let there = get_map (operation_in p.store.nodes) p.ops number x at_p in
           let back = map_get (operation_in q.store.nodes) q.ops number (operation_in p.store.nodes x) (ap (λ (os : List Operation). slice_get os number) (sym operations) ∙ there) in
-          absurd (none_some back.0 (sym at_q ∙ back.1))
+          absurd (none-some back.0 (sym at_q ∙ back.1))
       by (Some x) (Some y) at_p at_q =
           let left = get_map (operation_in p.store.nodes) p.ops number x at_p in
           let right = get_map (operation_in q.store.nodes) q.ops number y at_q in

@@ -1,5 +1,5 @@
 -- What a sink took of the text of a state.
-use Rattle.sig_plays.proofs.Common.{◌≡◌, ◌≤◌, ◌<◌, ◌++◌, ◌^◌, ℕ, ℤ, List, length, refl, ap, subst, arith, Option, None, Some, codes, flat_map, length-map, Place, IsCore, Shows, length_in, state_in, ActorState, Actor, Core as ModelCore, TookOf, actor_line, actor_pieces, lines_from, link_line, link_pieces, state_text, word_line, actor_of, Joins, TookPrefix, TookPrefix-longer, TookPrefix-then, same_Some}
+use Rattle.sig_plays.proofs.Common.{◌≡◌, ◌++◌, ℕ, ℤ, List, length, refl, ap, subst, Option, None, Some, codes, flat_map, Place, Shows, length_in, state_in, ActorState, Actor, Core as ModelCore, TookOf, actor_line, actor_pieces, lines_from, link_line, link_pieces, state_text, word_line, Joins, TookPrefix, TookPrefix-longer, TookPrefix-then, same_Some}
 use Rattle.sig_core.specs.declared.state.Core.{Core}
 
 -- ---- actors and links that a core tells of
@@ -11,27 +11,12 @@ actor_there (Some actor) state is =
     let same = same_Some state (record { instant = actor.instant; step = actor.step; ended = actor.ended }) is in
     (actor, refl, λ k. ap (λ (s : ActorState). flat_map (λ piece. piece) (actor_pieces k s.instant s.step s.ended)) same)
 
-pub no_actor : (o : Option Actor) → None ≡ state_in o → o ≡ None
-no_actor None is = refl
-no_actor (Some actor) is = absurd (let e : None ≡ state_in (Some actor) = is in cc)
-
 pub link_there : (o : Option (List ℤ)) (count : ℕ) → Some count ≡ length_in o
     → (items : List ℤ) × (o ≡ Some items) × ((j : ℕ) → flat_map (λ piece. piece) (link_pieces j count) ≡ link_line j items)
 link_there None count is = absurd (let e : Some count ≡ None = is in cc)
 link_there (Some items) count is =
     let same = same_Some count (length items) is in
     (items, refl, λ j. ap (λ n. flat_map (λ piece. piece) (link_pieces j n)) same)
-
-pub no_link : (o : Option (List ℤ)) → None ≡ length_in o → o ≡ None
-no_link None is = refl
-no_link (Some items) is = absurd (let e : None ≡ length_in (Some items) = is in cc)
-
--- there are few of each
-pub few_actors : (c : Core) → IsCore c → (m : ModelCore) → Shows m c → length m.actors < 2 ^ 32
-few_actors c is m shows = let same = ap length shows.actors in let count = length-map c.states.items actor_of in let few = is.few in omega (arith, same, count, few)
-
-pub few_links : (c : Core) → IsCore c → length c.plan.now.links ≤ 16777216 → (m : ModelCore) → Shows m c → length m.links ≤ 16777216
-few_links c is few m shows = let same = shows.count in let count = is.links in omega (arith, same, count, few)
 
 -- ---- the parts of the text, one after another
 

@@ -1,23 +1,5 @@
 -- A walk over a graph of calls.
-use Rattle.sig_recursion.proofs.Common.{◌≡◌, ◌≢◌, ◌++◌, ◌⊎◌, ℕ, List, [], ◌∷◌, refl, ap, sym, ◌∙◌, subst, inl, inr, Bool, true, false, not, cond, take, drop, length, get_or, ◌+◌, ◌<◌, ◌≤◌, arith, Contains, count_by, Vec, All, cases_eq, set, append-nil, take_more, take_all, drop_all, length-set, length-append, get_or-set_same, get_or-set_other, get_or-map, length-map, Contains-append_left, Contains-get_or, Contains-push, Contains-push_cases, sum_by-set, callees_at, graph_in, IsGraph, Path, Here, There, IsVisited, IsPassed, IsCovered, Visits, IsWalk}
-
-none_of : (t : ℕ) → Contains [] t → ⊥
-none_of t c = let h : c.0 < 0 = c.1 in omega arith
-
--- nothing is visited yet
-pub visits_none : (visited : List Bool) (waiting : List ℕ) (places : List ℕ) → Visits visited waiting visited waiting (take 0 places)
-visits_none visited waiting places = record {
-  kept = λ place h. h;
-  seen = λ place c. absurd (none_of place c);
-  fresh = λ place h. inl h;
-  waits = λ place c. c;
-  from = λ place c. inl c;
-  size = refl;
-  left = refl;
-}
-
-turn : (places : List ℕ) (i x : ℕ) → x ≡ get_or places i x → i < length places → take (i + 1) places ≡ take i places ++ x ∷ []
-turn places i x is h = take_more places i x h ∙ ap (λ y. take i places ++ y ∷ []) (sym is)
+use Rattle.sig_recursion.proofs.Common.{◌≡◌, ◌≢◌, ◌++◌, ◌⊎◌, ℕ, List, [], ◌∷◌, refl, ap, sym, ◌∙◌, subst, inl, inr, Bool, true, false, not, cond, take, length, get_or, ◌+◌, ◌<◌, arith, Contains, count_by, Vec, All, cases_eq, set, length-set, length-append, get_or-set_same, get_or-set_other, get_or-map, length-map, Contains-append_left, Contains-get_or, Contains-push, Contains-push_cases, sum_by-set, callees_at, graph_in, IsGraph, Path, Here, There, IsVisited, IsPassed, IsCovered, Visits, IsWalk, contains_none, front_more}
 
 visits_as : {v n : List Bool} {w m ps qs : List ℕ} → ps ≡ qs → Visits v w n m ps → Visits v w n m qs
 visits_as {v} {n} {w} {m} {ps} {qs} e h = let P : List ℕ → Type 0 = λ l. Visits v w n m l in subst P e h
@@ -27,7 +9,7 @@ seen_push now ps x h e place c = elim (Contains-push_cases ps x place c) [ inl k
 
 -- a place that was visited before
 pub visits_seen : (v n : List Bool) (w m places : List ℕ) (i x : ℕ) → x ≡ get_or places i x → i < length places → IsVisited n x → Visits v w n m (take i places) → Visits v w n m (take (i + 1) places)
-visits_seen v n w m places i x is h e k = visits_as (sym (turn places i x is h)) (record {
+visits_seen v n w m places i x is h e k = visits_as (sym (front_more places i x is h)) (record {
   kept = k.kept;
   seen = seen_push n (take i places) x k.seen e;
   fresh = k.fresh;
@@ -55,7 +37,7 @@ left_set n x h e =
 -- a place that was not
 pub visits_more : (v n : List Bool) (w m places : List ℕ) (i x : ℕ) → x ≡ get_or places i x → i < length places → x < length n → get_or n x false ≡ false
     → Visits v w n m (take i places) → Visits v w (set n x true) (m ++ x ∷ []) (take (i + 1) places)
-visits_more v n w m places i x is h below e k = visits_as (sym (turn places i x is h)) (record {
+visits_more v n w m places i x is h below e k = visits_as (sym (front_more places i x is h)) (record {
   kept = λ place o. set_kept n x place below (k.kept place o);
   seen = seen_push (set n x true) (take i places) x (λ place c. set_kept n x place below (k.seen place c)) (get_or-set_same n x true false below);
   fresh = λ place o. elim (set_fresh n x place o) [
@@ -74,9 +56,6 @@ visits_more v n w m places i x is h below e k = visits_as (sym (turn places i x 
       omega arith;
 })
 
-pub visits_all : (v n : List Bool) (w m places : List ℕ) (i : ℕ) → length places ≤ i → Visits v w n m (take i places) → Visits v w n m places
-visits_all v n w m places i h k = visits_as (take_all i places h) k
-
 passed_kept : (graph : List (List ℕ)) (target : ℕ) (v n : List Bool) (place : ℕ) → ((p : ℕ) → IsVisited v p → IsVisited n p) → IsPassed graph target v place → IsPassed graph target n place
 passed_kept graph target v n place kept p = record { apart = p.apart; called = λ next c. kept next (p.called next c) }
 
@@ -85,16 +64,16 @@ path_more graph a b c Here call = There call Here
 path_more graph a b c (There first rest) call = There first (path_more graph _ b c rest call)
 
 at_one : (x place : ℕ) → Contains (x ∷ []) place → x ≡ place
-at_one x place c = elim (Contains-push_cases [] x place c) [ inl n ↦ absurd (none_of place n) | inr s ↦ s ]
+at_one x place c = elim (Contains-push_cases [] x place c) [ inl n ↦ absurd (contains_none place n) | inr s ↦ s ]
 
 -- the beginning of a walk
 pub walk_begins : (graph : List (List ℕ)) (start target : ℕ) (v n : List Bool) (m : List ℕ) → start < length graph → IsCovered graph target v [] → Visits v [] n m (start ∷ []) → IsWalk graph start target n m
 walk_begins graph start target v n m h cov k =
-    let from : (place : ℕ) → Contains m place → start ≡ place = λ place c. elim (k.from place c) [ inl o ↦ absurd (none_of place o) | inr s ↦ at_one start place s ] in
+    let from : (place : ℕ) → Contains m place → start ≡ place = λ place c. elim (k.from place c) [ inl o ↦ absurd (contains_none place o) | inr s ↦ at_one start place s ] in
     record {
       covered = record {
         covered = λ place o. elim (k.fresh place o) [
-          | inl b ↦ elim (cov.covered place b) [ inl c ↦ absurd (none_of place c) | inr p ↦ inr (passed_kept graph target v n place k.kept p) ]
+          | inl b ↦ elim (cov.covered place b) [ inl c ↦ absurd (contains_none place c) | inr p ↦ inr (passed_kept graph target v n place k.kept p) ]
           | inr c ↦ inl c
         ];
       };
@@ -130,9 +109,9 @@ walk_goes graph start target next v n all w m callees g e apart is walk k =
 
 -- what is covered does not lead to the target
 pub covered_misses : (graph : List (List ℕ)) (target place to : ℕ) (v : List Bool) → to ≡ target → IsCovered graph target v [] → IsVisited v place → Path graph place to → ⊥
-covered_misses graph target place to v e cov o Here = elim (cov.covered place o) [ inl c ↦ none_of place c | inr p ↦ p.apart e ]
+covered_misses graph target place to v e cov o Here = elim (cov.covered place o) [ inl c ↦ contains_none place c | inr p ↦ p.apart e ]
 covered_misses graph target place to v e cov o (There {from} {next} call rest) =
-    elim (cov.covered place o) [ inl c ↦ none_of place c | inr p ↦ covered_misses graph target _ to v e cov (p.called _ call) rest ]
+    elim (cov.covered place o) [ inl c ↦ contains_none place c | inr p ↦ covered_misses graph target _ to v e cov (p.called _ call) rest ]
 
 -- the callees of the code
 pub callees_are : (callees : List (Vec ℕ)) (i : ℕ) (x : Vec ℕ) → i < length callees → x ≡ get_or callees i x → x.items ≡ callees_at (graph_in callees) i
@@ -165,7 +144,3 @@ none_waits (x ∷ xs) n is e = absurd (omega arith)
 -- at the end of a walk, what is visited is covered
 pub walk_covers : (graph : List (List ℕ)) (start target : ℕ) (v : List Bool) (waiting : List ℕ) (n : ℕ) → n ≡ length waiting → n ≡ 0 → IsWalk graph start target v waiting → IsCovered graph target v []
 walk_covers graph start target v waiting n is e walk = let P : List ℕ → Type 0 = λ w. IsCovered graph target v w in subst P (none_waits waiting n is e) walk.covered
-
--- what was written to all of a vector through a slice of it
-pub written : {A : Type 0} (xs items : List A) (n : ℕ) → n ≡ length items → length xs ≡ length items → take n (xs ++ drop (length xs) items) ≡ xs
-written xs items n is e = ap (λ l. take n (xs ++ l)) (drop_all (length xs) items (omega arith)) ∙ ap (take n) (append-nil xs) ∙ take_all n xs (omega arith)

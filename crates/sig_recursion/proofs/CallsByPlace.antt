@@ -1,38 +1,29 @@
 -- Calls by names and by places.
-use Rattle.sig_recursion.proofs.Common.{◌≡◌, ◌⊎◌, ◌↔◌, ℕ, List, [], ◌∷◌, refl, ap, sym, ◌∙◌, subst, inl, inr, Bool, true, false, cond, IsTrue, Option, None, Some, map, length, get_or, ◌<◌, arith, Contains, find, zero, suc, Vec, bytes_eq, bytes_eq-Decides, get_or-map, get_or_default, length-map, map-id, Contains-append_left, Contains-append_right, Contains-append_cases, Contains-push, Contains-push_cases, Name, ProcessModel, name_of, process_of, called_by, texts, Reaches, Itself, ByCall, place_of, process_texts, list_of, places_called, graph_of, graph_in, callees_at, IsGraph, Path, Here, There, find_some, find_none, within}
-
-none_at : {A : Type 0} (t : A) → Contains [] t → ⊥
-none_at t c = let h : c.0 < 0 = c.1 in omega arith
+use Rattle.sig_recursion.proofs.Common.{◌≡◌, ◌⊎◌, ◌↔◌, ℕ, List, [], ◌∷◌, refl, ap, sym, ◌∙◌, subst, inl, inr, Bool, true, false, cond, IsTrue, Option, None, Some, map, length, get_or, ◌<◌, arith, Contains, find, zero, suc, Vec, bytes_eq, bytes_eq-Decides, get_or-map, get_or_default, length-map, map-id, Contains-append_left, Contains-append_right, Contains-append_cases, Contains-push_cases, Name, ProcessModel, name_of, process_of, called_by, texts, Reaches, Itself, ByCall, place_of, process_texts, list_of, places_called, graph_of, graph_in, callees_at, IsGraph, Path, Here, There, find_some, find_none, within, contains_head, contains_later, contains_none}
 
 in_cons : {A : Type 0} (x : A) (xs : List A) (t : A) → Contains (x ∷ xs) t → (x ≡ t) ⊎ Contains xs t
-in_cons x xs t c = elim (Contains-append_cases (x ∷ []) xs t c) [ inl o ↦ inl (elim (Contains-push_cases [] x t o) [ inl n ↦ absurd (none_at t n) | inr s ↦ s ]) | inr r ↦ inr r ]
-
-in_head : {A : Type 0} (x : A) (xs : List A) → Contains (x ∷ xs) x
-in_head x xs = Contains-append_left (x ∷ []) xs x (Contains-push [] x)
-
-in_tail : {A : Type 0} (x : A) (xs : List A) (t : A) → Contains xs t → Contains (x ∷ xs) t
-in_tail x xs t c = Contains-append_right (x ∷ []) xs t c
+in_cons x xs t c = elim (Contains-append_cases (x ∷ []) xs t c) [ inl o ↦ inl (elim (Contains-push_cases [] x t o) [ inl n ↦ absurd (contains_none t n) | inr s ↦ s ]) | inr r ↦ inr r ]
 
 -- a name's place is one place more
 placed : (o : Option ℕ) (j : ℕ) → Contains (list_of o) j → o ≡ Some j
-placed None j c = absurd (none_at j c)
-placed (Some i) j c = elim (in_cons i [] j c) [ inl s ↦ ap Some s | inr n ↦ absurd (none_at j n) ]
+placed None j c = absurd (contains_none j c)
+placed (Some i) j c = elim (in_cons i [] j c) [ inl s ↦ ap Some s | inr n ↦ absurd (contains_none j n) ]
 
 listed : (o : Option ℕ) (j : ℕ) → o ≡ Some j → Contains (list_of o) j
 listed None j e = absurd cc
-listed (Some i) j e = let s : i ≡ j = cc in let P : ℕ → Type 0 = λ k. Contains (i ∷ []) k in subst P s (in_head i [])
+listed (Some i) j e = let s : i ≡ j = cc in let P : ℕ → Type 0 = λ k. Contains (i ∷ []) k in subst P s (contains_head i [])
 
 -- what is called at a place comes from a name that is called
 called_from : (ts : List (List ℕ)) (names : List Name) (j : ℕ) → Contains (places_called ts names) j → (u : List ℕ) × Contains (texts names) u × (place_of ts u ≡ Some j)
-called_from ts [] j c = absurd (none_at j c)
+called_from ts [] j c = absurd (contains_none j c)
 called_from ts (n ∷ names) j c = elim (Contains-append_cases (list_of (place_of ts n.text)) (places_called ts names) j c) [
-  | inl h ↦ (n.text, in_head n.text (texts names), placed (place_of ts n.text) j h)
+  | inl h ↦ (n.text, contains_head n.text (texts names), placed (place_of ts n.text) j h)
   | inr r ↦ (let rest : (u : List ℕ) × Contains (texts names) u × (place_of ts u ≡ Some j) = called_from ts names j r in
-      (rest.0, in_tail n.text (texts names) rest.0 rest.1, rest.2))
+      (rest.0, contains_later n.text rest.0 (texts names) rest.1, rest.2))
 ]
 
 called_to : (ts : List (List ℕ)) (names : List Name) (u : List ℕ) (j : ℕ) → Contains (texts names) u → place_of ts u ≡ Some j → Contains (places_called ts names) j
-called_to ts [] u j c e = absurd (none_at u c)
+called_to ts [] u j c e = absurd (contains_none u c)
 called_to ts (n ∷ names) u j c e = elim (in_cons n.text (texts names) u c) [
   | inl s ↦ Contains-append_left (list_of (place_of ts n.text)) (places_called ts names) j (listed (place_of ts n.text) j (ap (place_of ts) s ∙ e))
   | inr r ↦ Contains-append_right (list_of (place_of ts n.text)) (places_called ts names) j (called_to ts names u j r e)
@@ -105,7 +96,7 @@ pub reaches_none : (all : List ProcessModel) (t u : List ℕ) (b : ℕ) → None
 reaches_none all t u b e f r = let found = reaches_path all t u r b (sym f) in let s : None ≡ Some found.0 = e ∙ found.1 in absurd cc
 
 graph_within : (ts : List (List ℕ)) (ps : List ProcessModel) (place next : ℕ) → Contains (get_or (map (λ p. places_called ts (called_by p)) ps) place []) next → (u : List ℕ) × (place_of ts u ≡ Some next)
-graph_within ts [] place next c = absurd (none_at next c)
+graph_within ts [] place next c = absurd (contains_none next c)
 graph_within ts (p ∷ ps) zero next c = let from = called_from ts (called_by p) next c in (from.0, from.2)
 graph_within ts (p ∷ ps) (suc place) next c = graph_within ts ps place next c
 

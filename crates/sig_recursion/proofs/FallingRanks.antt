@@ -1,11 +1,7 @@
 -- Ranks that fall along calls.
-use Rattle.sig_recursion.proofs.Common.{◌≡◌, ◌⊎◌, ℕ, List, [], ◌∷◌, ◌∙◌, subst, inl, inr, false, Option, Some, length, get_or, ◌+◌, ◌<◌, ◌≤◌, arith, Contains, leb, Vec, All, get_or_past, length-map, All-contains, cases_lt, leb-false, ProcessModel, Reaches, callees_at, graph_in, graph_of, rank_of, IsFalling, Path, Here, There, place_of, process_texts}
+use Rattle.sig_recursion.proofs.Common.{◌≡◌, ◌⊎◌, ℕ, List, [], ◌∙◌, subst, inl, inr, false, Option, Some, length, get_or, ◌+◌, ◌<◌, ◌≤◌, arith, Contains, leb, Vec, All, get_or_past, length-map, All-contains, cases_lt, leb-false, ProcessModel, Reaches, callees_at, graph_in, graph_of, rank_of, IsFalling, Path, Here, There, place_of, process_texts}
 use Rattle.sig_recursion.proofs.CallsByPlace.{reaches_same}
 use Rattle.sig_recursion.proofs.CallWalks.{callees_are}
-
--- no ranks at all
-pub no_ranks : (graph : List (List ℕ)) → IsFalling graph []
-no_ranks graph = record { falls = λ place next c. omega arith }
 
 -- no path leads to a higher rank
 pub path_falls : (graph : List (List ℕ)) (ranks : List (Option ℕ)) (a b : ℕ) → IsFalling graph ranks → Path graph a b → rank_of ranks b ≤ rank_of ranks a
@@ -22,9 +18,6 @@ rises_apart all graph ranks t u a b g f e h low r =
 -- what a loop over places has seen to fall
 abbrev pub FallsBelow : List (List ℕ) → List (Option ℕ) → ℕ → Type 0
 FallsBelow graph ranks n = (place : ℕ) → place < n → All (λ next. rank_of ranks next ≤ rank_of ranks place) (callees_at graph place)
-
-pub falls_none : (graph : List (List ℕ)) (ranks : List (Option ℕ)) → FallsBelow graph ranks 0
-falls_none graph ranks place h = absurd (omega arith)
 
 pub falls_more : (callees : List (Vec ℕ)) (ranks : List (Option ℕ)) (i : ℕ) (x : Vec ℕ) (row : List ℕ) → i < length callees → x ≡ get_or callees i x → row ≡ x.items → All (λ next. rank_of ranks next ≤ rank_of ranks i) row
     → FallsBelow (graph_in callees) ranks i → FallsBelow (graph_in callees) ranks (i + 1)

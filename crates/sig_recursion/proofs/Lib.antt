@@ -3,6 +3,6 @@ pub mod CallsByPlace
 pub mod FallingRanks
 pub mod CallWalks
 pub use Common.*
+pub use CallWalks.*
 pub use CallsByPlace.*
 pub use FallingRanks.*
-pub use CallWalks.*

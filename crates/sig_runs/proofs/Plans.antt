@@ -1,5 +1,5 @@
 -- What the links of a kernel hold, and what the end of a run names.
-use Rattle.sig_runs.proofs.Common.{◌≡◌, ◌≤◌, ◌*◌, ◌⊎◌, ℕ, ℤ, List, length, Contains, inl, inr, ⊎_elim, sym, ap, subst, arith, cases_lt, Option, None, Some, slice_get, IsValid, IsAcceptedKernel, links_once, some_links, Trace, ITEMS, Place, contains_at, Kernel, HasOperations, Operation, operations_in, operations_of, IsAccepted, PlanView, numbers_of, Cause, Exhausted, Overflow, ZeroDivisor, Limit, Ended, LinkInfo, plan_operations, equation_below, written_below, one_either, IsEnd, IsNamedCause, Meets, IsOfKernel, HoldFew, HoldTooMany}
+use Rattle.sig_runs.proofs.Common.{◌≡◌, ◌≤◌, ◌*◌, ◌⊎◌, ℕ, ℤ, List, length, Contains, inl, inr, ⊎_elim, sym, ap, subst, arith, cases_lt, Option, None, Some, slice_get, IsValid, IsAcceptedKernel, links_once, some_links, Trace, ITEMS, Place, Kernel, HasOperations, Operation, operations_in, operations_of, IsAccepted, PlanView, numbers_of, Cause, Exhausted, Overflow, ZeroDivisor, Limit, Ended, LinkInfo, plan_operations, equation_below, written_below, one_either, IsEnd, IsNamedCause, Meets, IsOfKernel, HoldFew, HoldTooMany, contains_at}
 
 -- ---- the items of a kernel's links
 

@@ -1,10 +1,9 @@
 -- An actor on the reference knows the guard of its next step, and has what the step needs.
-use Rattle.sig_schedules.proofs.Common.{◌≡◌, ◌-◌, inl, inr, ℕ, ℤ, Bool, true, false, cond, List, length, take, refl, ap, sym, ◌∙◌, Contains, None, Option, Some, is_some, option_and_then, slice_get, ◌&&◌, and_from, eq-eqb, Instant, Seen, Trace, seen_at, OpId, SigId, abstraction_of, is_present, depends_agree, Depends, test, Memory, remembered, AreFlowsFor, IsNext, some_at, truth_at, next_in, none_where, Actor, guard_holds, is_true, slot_holds, truths_of, IsActorOn, fills, instant_at, is_filled, names, target_of_op, IsReference, CodeView, of_slot, HasBefore, HasGuard, IsOutput, IsAccepted, PlanView, Step, Do, Send, Commit, Op, LinkInfo, step_has_conditions, step_has_outputs, step_has_reads, step_has_sent, guard_alone, guard_held}
+use Rattle.sig_schedules.proofs.Common.{◌≡◌, ◌-◌, inl, inr, ℕ, ℤ, Bool, true, false, cond, List, length, take, refl, ap, sym, ◌∙◌, Contains, None, Option, Some, is_some, option_and_then, slice_get, ◌&&◌, and_from, eq-eqb, Instant, Seen, Trace, seen_at, OpId, SigId, abstraction_of, is_present, depends_agree, Depends, test, Memory, remembered, AreFlowsFor, IsNext, truth_at, next_in, none_where, Actor, guard_holds, is_true, slot_holds, truths_of, IsActorOn, fills, instant_at, is_filled, names, target_of_op, IsReference, CodeView, of_slot, HasBefore, HasGuard, IsOutput, IsAccepted, PlanView, Step, Do, Send, Commit, Op, LinkInfo, step_has_conditions, step_has_outputs, step_has_reads, step_has_sent, guard_alone, guard_held, some_at, any_passes_from_place, get_taken}
 use Rattle.sig_clock.specs.Reactions.{Reaction}
 use Rattle.sig_plan.specs.Holding.{Gives}
 use Rattle.sig_schedules.proofs.Done.{keeps, present_is, speaks}
 use Rattle.sig_schedules.proofs.Instants.{next_at}
-use Rattle.sig_schedules.proofs.Lists.{any_there, get_taken}
 use Rattle.sig_schedules.proofs.Steps.{DoesStep, step_does}
 
 when_absent : (b : Bool) (s : Seen) → s ≡ None → (let kept : Seen = cond b s None in kept) ≡ s
@@ -44,7 +43,7 @@ module _ (plan : PlanView) (accepted : IsAccepted plan) (flows : List (List ℤ)
       let holds : guard_holds plan code (seen_at now) before.step ≡ true = ap (slot_holds plan.store.nodes own) before.guarded.has ∙ before.holds in
       let named : names x.0 (fills plan before.step.kind) ≡ true = ap (names x.0) (filling x before.step before.gives) ∙ eq-eqb x.0 x.0 refl in
       let some : is_filled plan code now (take actor.step code.steps) x.0 ≡ true =
-      any_there (λ other. guard_holds plan code (seen_at now) other && names x.0 (fills plan other.kind)) (take actor.step code.steps) before.place before.step (get_taken actor.step code.steps before.place before.step before.before before.is)
+      any_passes_from_place (λ other. guard_holds plan code (seen_at now) other && names x.0 (fills plan other.kind)) (take actor.step code.steps) before.place before.step (get_taken actor.step code.steps before.place before.step before.before before.is)
       (and_from (guard_holds plan code (seen_at now) before.step) (names x.0 (fills plan before.step.kind)) holds named) in
       on.registers x.0 ∙ ap (λ b. cond b (seen_at now x.0) None) some
 

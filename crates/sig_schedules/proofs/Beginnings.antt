@@ -1,5 +1,5 @@
 -- Each actor of an accepted plan has an instruction.
-use Rattle.sig_schedules.proofs.Common.{◌≡◌, ◌<◌, ◌≤◌, ◌+◌, ◌*◌, ◌⊎◌, ◌++◌, inl, inr, ℕ, List, [], ◌∷◌, length, map, refl, sym, subst, arith, Contains, Some, slice_get, if◌then◌else◌, range_with_len, Contains-append_right, get_or-map-range_with_len, length-map-range_with_len, at_contained, contains_head, same_or_not, CodeView, Instruction, at_end, instructions_of, over_order, report_links, reports_of, unguarded, Operation, operations_in, PartsView, report_link, IsAccepted, PlanView, numbers_of, Collect, Commit, Report, LinkInfo, reports_there, eq_true}
+use Rattle.sig_schedules.proofs.Common.{◌≡◌, ◌<◌, ◌≤◌, ◌+◌, ◌*◌, ◌⊎◌, ◌++◌, inl, inr, ℕ, List, [], ◌∷◌, length, map, refl, sym, subst, arith, Contains, Some, slice_get, if◌then◌else◌, range_with_len, Contains-append_right, get_or-map-range_with_len, length-map-range_with_len, CodeView, Instruction, at_end, instructions_of, over_order, report_links, reports_of, unguarded, Operation, operations_in, PartsView, report_link, IsAccepted, PlanView, numbers_of, Collect, Commit, Report, LinkInfo, reports_there, at_contained, contains_head, cases_eq, eq-eqb}
 
 -- the collector commits
 pub commits_there : (operations : List Operation) (order : List ℕ) (parts : PartsView) (actor : ℕ) → actor ≡ parts.clusters
@@ -8,7 +8,7 @@ commits_there operations order parts actor own =
     let i : Instruction = unguarded Commit (2 * length operations + 1) in
     Contains-append_right (over_order operations order parts.links actor) (at_end parts.links parts.clusters (length operations) actor) i
     (subst (λ b. Contains (if b then map (λ l. unguarded (Collect l) (2 * length operations)) (report_links parts.links) ++ unguarded Commit (2 * length operations + 1) ∷ [] else map (λ l. unguarded (Report l) (2 * length operations)) (reports_of parts.links actor)) i)
-    (sym (eq_true actor parts.clusters own))
+    (sym (eq-eqb actor parts.clusters own))
     (Contains-append_right (map (λ l. unguarded (Collect l) (2 * length operations)) (report_links parts.links)) (i ∷ []) i (contains_head i [])))
 
 module _ (plan : PlanView) (accepted : IsAccepted plan) where
@@ -29,7 +29,7 @@ module _ (plan : PlanView) (accepted : IsAccepted plan) where
       ))
 
   some_instruction : (k : ℕ) → k ≤ parts.clusters → (i : Instruction) × Contains (all k) i
-  some_instruction k le = by (same_or_not k parts.clusters) where
+  some_instruction k le = by (cases_eq k parts.clusters) where
     by : (k ≡ parts.clusters) ⊎ ((k ≡ parts.clusters) → ⊥) → (i : Instruction) × Contains (all k) i
     by (inl own) = (unguarded Commit (2 * length (operations_in plan.store.nodes plan.ops) + 1), commits_there (operations_in plan.store.nodes plan.ops) (numbers_of plan.order) parts k own)
     by (inr other) =

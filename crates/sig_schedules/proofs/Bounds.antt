@@ -1,9 +1,8 @@
 -- A list of events that each change the state is bounded: each moves one actor on, or ends one.
-use Rattle.sig_schedules.proofs.Common.{◌≡◌, ◌<◌, ◌≤◌, ◌-◌, ◌+◌, ◌*◌, ◌++◌, ◌⊎◌, inl, inr, ℕ, zero, suc, ℤ, Bool, true, false, cond, List, [], ◌∷◌, length, set, refl, ap, sym, subst, ◌∙◌, arith, None, Option, Some, fold, nat_lt, slice_get, mul-add, suc-mul, ltb-false, length-replicate, length-set, mul-le, get_within, same_or_not, Actor, code_of, ended_at, guard_holds, moved_on, next_place, opening_actor, Core, Given, IsEnabled, acted, after, items_on, looked, opening, stepped, take_first, turned, with_actor, with_items, word_before, Faults, Gives, Outcome, operated, outcome, AtLimit, Commits, Fails, Goes, Puts, Stopped, Takes, Turn, carried, received, turn, turn_at, turn_by, turn_of_op, turn_with, Event, Act, Look, CodeView, IsAccepted, PlanView, Step, StepKind, Do, Send, Receive, Report, Collect, Commit, Op, one_of, AllChange, all_gone, gone_by, steps_in}
+use Rattle.sig_schedules.proofs.Common.{◌≡◌, ◌<◌, ◌≤◌, ◌-◌, ◌+◌, ◌*◌, ◌++◌, ◌⊎◌, inl, inr, ℕ, zero, suc, ℤ, Bool, true, false, cond, List, [], ◌∷◌, length, set, refl, ap, sym, subst, ◌∙◌, arith, None, Option, Some, fold, nat_lt, slice_get, mul-add, suc-mul, ltb-false, length-replicate, length-set, mul-le, Actor, code_of, ended_at, guard_holds, moved_on, next_place, opening_actor, Core, Given, IsEnabled, acted, after, items_on, looked, opening, stepped, take_first, turned, with_actor, with_items, word_before, Faults, Gives, Outcome, operated, outcome, AtLimit, Commits, Fails, Goes, Puts, Stopped, Takes, Turn, carried, received, turn, turn_at, turn_by, turn_of_op, turn_with, Event, Act, Look, CodeView, IsAccepted, PlanView, Step, StepKind, Do, Send, Receive, Report, Collect, Commit, Op, one_of, AllChange, all_gone, gone_by, steps_in, slice_get_within, cases_eq, repeated}
 use Rattle.sig_schedules.proofs.Coded.{actor_coded, code_is}
 use Rattle.sig_schedules.proofs.Lists.{put_elsewhere, put_here, set_get}
 use Rattle.sig_schedules.proofs.Moved.{moved_cases}
-use Rattle.sig_schedules.proofs.Opening.{repeated}
 use Rattle.sig_schedules.proofs.Runnables.{is_runnable}
 
 -- ---- how far an actor has gone
@@ -60,7 +59,7 @@ module _ (limit : ℕ) where
         record {
           from = omega (arith, from, instant);
           step = omega (arith, inside);
-          within = elim (same_or_not a.instant limit) [
+          within = elim (cases_eq a.instant limit) [
             | inl full ↦ inr (omega (arith, full, instant), refl)
             | inr apart ↦ inl (omega (arith, apart, within, instant))
           ];
@@ -246,12 +245,12 @@ module _ (given : Given) where
           actors = ap (λ (xs : List Actor). length xs) m.is ∙ length-set core.actors m.k m.next ∙ kept.actors;
           each = λ k a at.
               let s = set_get core.actors m.k m.next k a (subst (λ (xs : List Actor). slice_get xs k ≡ Some a) m.is at) in
-              subst (IsKept given.limit (count k)) (sym s.2) (elim (same_or_not k m.k) [
+              subst (IsKept given.limit (count k)) (sym s.2) (elim (cases_eq k m.k) [
                 | inl same ↦ subst (IsKept given.limit (count k)) (sym (put_here m.k m.next k s.0 same)) (subst (λ i. IsKept given.limit (count i) m.next) (sym same) next.0)
                 | inr apart ↦ subst (IsKept given.limit (count k)) (sym (put_elsewhere m.k m.next k s.0 apart)) (kept.each k s.0 s.1)
               ]);
         },
-        ap (all_gone plan.codes) m.is ∙ total_set plan.codes core.actors m.k (code_of plan m.k) m.actor m.next (actor_coded plan m.k (omega (arith, get_within core.actors m.k m.actor m.at, actors))) m.at next.1,
+        ap (all_gone plan.codes) m.is ∙ total_set plan.codes core.actors m.k (code_of plan m.k) m.actor m.next (actor_coded plan m.k (omega (arith, slice_get_within core.actors m.k m.actor m.at, actors))) m.at next.1,
       )
 
   within : (core : Core) → AreKept core → all_gone plan.codes core.actors ≤ given.limit * steps_in plan.codes + length plan.codes
@@ -281,7 +280,7 @@ module _ (given : Given) where
           subst (IsKept given.limit (count k)) (sym there.1) (record {
             from = omega arith;
             step = (is_runnable plan accepted).begins k there.0;
-            within = elim (same_or_not given.limit 0) [ inl none ↦ inr (omega (arith, none), refl) | inr some ↦ inl (omega (arith, some)) ];
+            within = elim (cases_eq given.limit 0) [ inl none ↦ inr (omega (arith, none), refl) | inr some ↦ inl (omega (arith, some)) ];
           });
     }
 

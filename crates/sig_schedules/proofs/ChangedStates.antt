@@ -1,5 +1,5 @@
 -- A state in which one actor, the items of links, the word or what is committed changed, is on the reference.
-use Rattle.sig_schedules.proofs.Common.{◌≡◌, ◌<◌, ◌≤◌, ◌-◌, ◌++◌, inl, inr, ℕ, ℤ, true, List, [], length, get_or, set, take, ap, sym, subst, ◌∙◌, arith, Option, Some, slice_get, length-set, Trace, Place, same_or_not, Actor, code_of, Core, Given, HasReason, IsActorOn, IsLinkOn, IsOnReference, IsWordOn, Yield, reactions_of, yielded_before, Reaction, CodeView, PlanView, LinkInfo}
+use Rattle.sig_schedules.proofs.Common.{◌≡◌, ◌<◌, ◌≤◌, ◌-◌, ◌++◌, inl, inr, ℕ, ℤ, true, List, [], length, get_or, set, take, ap, sym, subst, ◌∙◌, arith, Option, Some, slice_get, length-set, Trace, Place, Actor, code_of, Core, Given, HasReason, IsActorOn, IsLinkOn, IsOnReference, IsWordOn, Yield, reactions_of, yielded_before, Reaction, CodeView, PlanView, LinkInfo, cases_eq}
 use Rattle.sig_schedules.proofs.Lists.{put, put_elsewhere, put_here, set_get}
 
 module _ (given : Given) (reference : Trace) (core : Core) (on : IsOnReference given reference core) (k : ℕ) (actor : Actor) (at_k : slice_get core.actors k ≡ Some actor) where
@@ -45,7 +45,7 @@ module _ (given : Given) (reference : Trace) (core : Core) (on : IsOnReference g
         change.commits s.0 s.1 ∙ ap (λ (a : Actor). reactions_of plan.kernel (take (a.instant - 1) reference)) (sym s.2);
   } where
     put_cases : (P : ℕ → Actor → Type 0) (m : ℕ) (old : Actor) → P k next → P m old → P m (put k next m old)
-    put_cases P m old here there = elim (same_or_not m k) [
+    put_cases P m old here there = elim (cases_eq m k) [
       | inl same ↦ subst (P m) (sym (put_here k next m old same)) (subst (λ n. P n next) (sym same) here)
       | inr apart ↦ subst (P m) (sym (put_elsewhere k next m old apart)) there
     ]
@@ -71,7 +71,7 @@ module _ (given : Given) (reference : Trace) (core : Core) (on : IsOnReference g
   -- and stays for all others, or where the step gives nothing
   pub yields_stay : (next : Actor) (yield : Yield) → yields yield k next ≡ yields yield k actor → (m : ℕ) (old : Actor) → slice_get core.actors m ≡ Some old
       → yields yield m (put k next m old) ≡ yields yield m old
-  yields_stay next yield stays m old at = elim (same_or_not m k) [
+  yields_stay next yield stays m old at = elim (cases_eq m k) [
     | inl same ↦
         ap (yields yield m) (put_here k next m old same) ∙ ap (λ n. yields yield n next) same ∙ stays
         ∙ ap (λ n. yields yield n actor) (sym same) ∙ ap (yields yield m) (sym (same_actor m old at same))
@@ -82,7 +82,7 @@ module _ (given : Given) (reference : Trace) (core : Core) (on : IsOnReference g
   pub commits_stay : (next : Actor) → (k ≡ last → next.instant ≡ actor.instant) → (collector : Actor) → slice_get core.actors last ≡ Some collector
       → core.committed ≡ reactions_of plan.kernel (take ((put k next last collector).instant - 1) reference)
   commits_stay next stays collector at =
-      on.committed collector at ∙ ap (λ n. reactions_of plan.kernel (take (n - 1) reference)) (elim (same_or_not last k) [
+      on.committed collector at ∙ ap (λ n. reactions_of plan.kernel (take (n - 1) reference)) (elim (cases_eq last k) [
         | inl same ↦ ap (λ (a : Actor). a.instant) (same_actor last collector at same) ∙ sym (stays (sym same)) ∙ ap (λ (a : Actor). a.instant) (sym (put_here k next last collector same))
         | inr apart ↦ ap (λ (a : Actor). a.instant) (sym (put_elsewhere k next last collector apart))
       ])

@@ -1,5 +1,5 @@
 -- The code of an actor.
-use Rattle.sig_schedules.proofs.Common.{◌≡◌, ◌<◌, ℕ, length, refl, ap, sym, ◌∙◌, Option, None, Some, slice_get, unwrap_or, some_at, code_of, no_code, CodeView, PlanView, Slot, Step}
+use Rattle.sig_schedules.proofs.Common.{◌≡◌, ◌<◌, ℕ, length, refl, ap, sym, ◌∙◌, Option, None, Some, slice_get, unwrap_or, code_of, no_code, CodeView, PlanView, Slot, Step, some_at}
 
 -- a code that is there is that of its actor
 pub code_is : (plan : PlanView) (k : ℕ) (code : CodeView) → slice_get plan.codes k ≡ Some code → code_of plan k ≡ code

@@ -1,5 +1,5 @@
 -- The collector commits at its last step, and nobody else commits.
-use Rattle.sig_schedules.proofs.Common.{◌≡◌, ◌<◌, ◌≤◌, ◌+◌, ◌*◌, ◌⊎◌, inl, inr, ℕ, zero, suc, true, List, ◌∷◌, length, map, refl, ap, sym, ◌∙◌, arith, Some, slice_get, range_with_len, get_within, some_at, at_most_or, Registers, guard_holds, truths_of, CodeView, Instruction, unguarded, IsFor, does, sends, receives, reports, collects, commits, Operation, operations_in, IsAccepted, PlanView, numbers_of, Step, Do, Send, Receive, Report, Collect, Commit, positions_rise}
+use Rattle.sig_schedules.proofs.Common.{◌≡◌, ◌<◌, ◌≤◌, ◌+◌, ◌*◌, ◌⊎◌, inl, inr, ℕ, zero, suc, true, List, ◌∷◌, length, map, refl, ap, sym, ◌∙◌, arith, Some, slice_get, range_with_len, at_most_or, Registers, guard_holds, truths_of, CodeView, Instruction, unguarded, IsFor, does, sends, receives, reports, collects, commits, Operation, operations_in, IsAccepted, PlanView, numbers_of, Step, Do, Send, Receive, Report, Collect, Commit, positions_rise, slice_get_within, some_at}
 use Rattle.sig_schedules.proofs.Beginnings.{commits_there}
 use Rattle.sig_schedules.proofs.Steps.{before_by_position, instruction_step, same_place, step_does}
 
@@ -18,9 +18,9 @@ module _ (plan : PlanView) (accepted : IsAccepted plan) where
 
   -- an instruction commits, for the collector, or is at an earlier position
   commit_or_before : (k : ℕ) (i : Instruction) → IsKnown k i → ((i ≡ commit) × (k ≡ accepted.parts.clusters)) ⊎ (i.position < 2 * length operations + 1)
-  commit_or_before k _ (does j number p stands own) = let lt = get_within order j number stands.place in let full = accepted.order.all in inr (omega (arith, lt, full))
-  commit_or_before k _ (sends j number link p stands own from) = let lt = get_within order j number stands.place in let full = accepted.order.all in inr (omega (arith, lt, full))
-  commit_or_before k _ (receives j number link p stands other from reader) = let lt = get_within order j number stands.place in let full = accepted.order.all in inr (omega (arith, lt, full))
+  commit_or_before k _ (does j number p stands own) = let lt = slice_get_within order j number stands.place in let full = accepted.order.all in inr (omega (arith, lt, full))
+  commit_or_before k _ (sends j number link p stands own from) = let lt = slice_get_within order j number stands.place in let full = accepted.order.all in inr (omega (arith, lt, full))
+  commit_or_before k _ (receives j number link p stands other from reader) = let lt = slice_get_within order j number stands.place in let full = accepted.order.all in inr (omega (arith, lt, full))
   commit_or_before k _ (reports link info other at none writer) = inr (omega arith)
   commit_or_before k _ (collects link info own at none) = inr (omega arith)
   commit_or_before k _ (commits own) = inl (refl, own)
@@ -54,13 +54,13 @@ module _ (plan : PlanView) (accepted : IsAccepted plan) where
           | inl last ↦ absurd (other (d.kind ∙ ap (λ (i : Instruction). i.kind) last.0))
           | inr lt ↦ before_by_position plan accepted k code coded s there.0 step there.1 d there.3 (omega (arith, lt, position))
         ] in
-        omega (arith, before, get_within code.steps there.0 there.1 there.2)
+        omega (arith, before, slice_get_within code.steps there.0 there.1 there.2)
 
     -- where it commits, none follows
     pub commit_last : step.kind ≡ Commit → suc s ≡ length code.steps
     commit_last kind = by (at_most_or (length code.steps) (s + 1)) where
       within : s < length code.steps
-      within = get_within code.steps s step at
+      within = slice_get_within code.steps s step at
 
       by : (length code.steps ≤ s + 1) ⊎ (s + 1 < length code.steps) → suc s ≡ length code.steps
       by (inl le) = omega (arith, le, within)

@@ -1,8 +1,8 @@
 -- How many items an end of a link has given or taken before a step.
-use Rattle.sig_schedules.proofs.Common.{◌≡◌, ◌<◌, ◌≤◌, ◌-◌, ◌+◌, ◌++◌, ℕ, zero, suc, ℤ, List, [], ◌∷◌, length, take, drop, ap, sym, ◌∙◌, arith, None, Option, Some, flat_map, option_to_list, slice_get, cons_option, filter_map, length-append, take-append-drop, Instant, Seen, Trace, seen_at, SigId, AreFlowsFor, Yield, instant_at, yielded_before, yielded_in, IsReference, CodeView, IsAccepted, PlanView, Step, StepKind, LinkInfo}
+use Rattle.sig_schedules.proofs.Common.{◌≡◌, ◌<◌, ◌≤◌, ◌-◌, ◌+◌, ◌++◌, ℕ, zero, suc, ℤ, List, [], ◌∷◌, length, take, drop, ap, sym, ◌∙◌, arith, None, Option, Some, flat_map, option_to_list, slice_get, cons_option, filter_map, length-append, take-append-drop, Instant, Seen, Trace, seen_at, SigId, AreFlowsFor, Yield, instant_at, yielded_before, yielded_in, IsReference, CodeView, IsAccepted, PlanView, Step, StepKind, LinkInfo, filter_map-append, get_taken, taken_get}
 use Rattle.sig_schedules.proofs.Ends.{IsLinkEnd, carried_at, in_instant}
 use Rattle.sig_schedules.proofs.Instants.{instants_to, next_at}
-use Rattle.sig_schedules.proofs.Lists.{chosen_append, chosen_push, get_taken, joined_push, joined_same, take_next, taken_get}
+use Rattle.sig_schedules.proofs.Lists.{chosen_push, joined_push, joined_same, take_next}
 use Rattle.sig_schedules.proofs.Moved.{chosen_of}
 use Rattle.sig_schedules.proofs.Prefixes.{at_instant, carried_over}
 
@@ -76,7 +76,7 @@ module _ (plan : PlanView) (accepted : IsAccepted plan) (flows : List (List ℤ)
     front_fewer s =
         let split : length (yielded_in plan code yield now code.steps) ≡ length (so_far s) + length (filter_map (chosen_of plan code reference yield now) (drop s code.steps)) =
         ap (λ steps. length (yielded_in plan code yield now steps)) (sym (take-append-drop s code.steps))
-        ∙ ap (λ (xs : List ℤ). length xs) (chosen_append (chosen_of plan code reference yield now) (take s code.steps) (drop s code.steps))
+        ∙ ap (λ (xs : List ℤ). length xs) (filter_map-append (chosen_of plan code reference yield now) (take s code.steps) (drop s code.steps))
         ∙ length-append (so_far s) (filter_map (chosen_of plan code reference yield now) (drop s code.steps)) in
         let all : length (yielded_in plan code yield now code.steps) ≡ length (carried_at now info.signal) = ap (λ (xs : List ℤ). length xs) whole_now in
         omega (arith, split, all)

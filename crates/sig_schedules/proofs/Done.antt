@@ -1,5 +1,5 @@
 -- What is done at one instant of the reference.
-use Rattle.sig_schedules.proofs.Common.{◌≡◌, ◌<◌, ℕ, ℤ, Bool, true, List, length, sym, subst, ◌∙◌, Contains, Some, is_some, slice_get, Instant, seen_at, SigId, abstraction_of, KeepsTo, Speaks, is_present, at_contained, contains_at, get_within, Memory, Kernel, IsNext, compiled, Compiled, own_keeps, own_present, own_speaks, own_written, truths_of, StandsAt, Operation, operations_in, operations_of, Precedes, Writes, IsAccepted, PlanView, numbers_of, written_by_one, written_present, stands_somewhere}
+use Rattle.sig_schedules.proofs.Common.{◌≡◌, ◌<◌, ℕ, ℤ, Bool, true, List, length, sym, ◌∙◌, Some, is_some, slice_get, Instant, seen_at, SigId, abstraction_of, KeepsTo, Speaks, is_present, Memory, Kernel, IsNext, compiled, Compiled, own_keeps, own_present, own_speaks, own_written, truths_of, StandsAt, Operation, operations_in, Precedes, Writes, IsAccepted, PlanView, numbers_of, written_by_one, written_present, stands_somewhere, at_contained, slice_get_within}
 use Rattle.sig_clock.specs.Reactions.{Reaction}
 
 -- an operation stands at some place
@@ -7,7 +7,7 @@ pub stands_of : (plan : PlanView) → IsAccepted plan → (number : ℕ) (p : Op
     → (j : ℕ) × StandsAt (operations_in plan.store.nodes plan.ops) (numbers_of plan.order) j number p
 stands_of plan accepted number p at =
     let operations = operations_in plan.store.nodes plan.ops in
-    let there = stands_somewhere (Precedes plan.clocks.conditions operations) (length operations) (numbers_of plan.order) accepted.order number (get_within operations number p at) in
+    let there = stands_somewhere (Precedes plan.clocks.conditions operations) (length operations) (numbers_of plan.order) accepted.order number (slice_get_within operations number p at) in
     (there.0, record { place = at_contained (numbers_of plan.order) number there; is = at })
 
 module _ (plan : PlanView) (accepted : IsAccepted plan) (memory : Memory) (next : ℕ → ℤ) (instant : Instant) (is : IsNext plan.kernel memory next instant) where
@@ -54,7 +54,3 @@ module _ (plan : PlanView) (accepted : IsAccepted plan) (memory : Memory) (next 
 
   pub done_once : (i j : ℕ) (p q : Operation) (x : SigId) → slice_get operations i ≡ Some p → slice_get operations j ≡ Some q → Writes p x → Writes q x → p.guard own ≡ true → q.guard own ≡ true → i ≡ j
   done_once i j p q x at_i at_j writes_i writes_j done_i done_j = written_by_one kernel c.valid conditions operations c.has own left speaks keeps i j p q x at_i at_j writes_i writes_j done_i done_j
-
-  -- an operation, among the kernel's
-  pub among : (number : ℕ) (p : Operation) → slice_get operations number ≡ Some p → Contains (operations_of kernel c.has.presence) p
-  among number p at = subst (λ (ps : List Operation). Contains ps p) c.has.are (contains_at operations number p at)

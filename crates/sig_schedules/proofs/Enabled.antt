@@ -1,5 +1,5 @@
 -- An event is enabled until all actors have ended.
-use Rattle.sig_schedules.proofs.Common.{◌≡◌, ◌<◌, ◌≤◌, ◌+◌, ◌*◌, ◌⊎◌, inl, inr, ℕ, ℤ, Bool, true, false, cond, List, length, refl, ap, sym, subst, ◌∙◌, arith, Some, slice_get, cases_lt, Instant, Trace, seen_at, Place, get_at, get_within, AreFlowsFor, some_at, fitting, some_reference, Actor, code_of, ended_at, next_place, position_of, Core, Given, IsEnabled, IsFinished, acted, after, looked, turned, with_actor, word_before, HasReason, IsActorOn, IsOnReference, instant_at, sent_on, taken_from, IsReference, turn, Event, Act, Look, Instruction, instructions_of, IsFor, Operation, operations_in, IsAccepted, PlanView, numbers_of, Step, LinkInfo, plan_operations, ends_within, positions_rise}
+use Rattle.sig_schedules.proofs.Common.{◌≡◌, ◌<◌, ◌≤◌, ◌+◌, ◌*◌, ◌⊎◌, inl, inr, ℕ, ℤ, Bool, true, false, cond, List, length, refl, ap, sym, subst, ◌∙◌, arith, Some, slice_get, cases_lt, Instant, Trace, seen_at, Place, AreFlowsFor, fitting, some_reference, Actor, code_of, ended_at, next_place, position_of, Core, Given, IsEnabled, IsFinished, acted, after, looked, turned, with_actor, word_before, HasReason, IsActorOn, IsOnReference, instant_at, sent_on, taken_from, IsReference, turn, Event, Act, Look, Instruction, instructions_of, IsFor, Operation, operations_in, IsAccepted, PlanView, numbers_of, Step, LinkInfo, plan_operations, ends_within, positions_rise, slice_get-get_or, slice_get_within, some_at}
 use Rattle.sig_schedules.proofs.Interleavings.{after_on}
 use Rattle.sig_schedules.proofs.EventsOnReference.{reader_is, writer_is}
 use Rattle.sig_schedules.proofs.Least.{IsLeast, some_least}
@@ -161,7 +161,7 @@ module _ (given : Given) (accepted : IsAccepted given.plan) (fit : AreFlowsFor g
         | inl lt ↦ inl lt
         | inr both ↦
             let position : position_of (slice_get (code_of plan waits.info.writer).steps w.0.step) ≡ 2 * fails.0.at = ap (λ (p : Place). p.pos) fails.0.is in
-            let strict = sending.behind fails.0.at (get_within order fails.0.at fails.0.meets.number fails.0.meets.ordered) (omega (arith, position, my_position, both.1)) in
+            let strict = sending.behind fails.0.at (slice_get_within order fails.0.at fails.0.meets.number fails.0.meets.ordered) (omega (arith, position, my_position, both.1)) in
             inr (both.0, omega (arith, position, my_position, strict))
       ])),
     )
@@ -211,7 +211,7 @@ module _ (given : Given) (accepted : IsAccepted given.plan) (fit : AreFlowsFor g
 
   pub some_enabled : (IsFinished core → ⊥) → SomeEnabled
   some_enabled unfinished = elim (some_least place core.actors) [
-    | inl all ↦ absurd (unfinished (λ m a lt. all m _ (get_at core.actors m a lt)))
+    | inl all ↦ absurd (unfinished (λ m a lt. all m _ (slice_get-get_or core.actors m a lt)))
     | inr l ↦ least_enabled l
   ]
 

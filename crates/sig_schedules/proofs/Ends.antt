@@ -1,5 +1,5 @@
 -- What the two ends of a link send and take at an instant.
-use Rattle.sig_schedules.proofs.Common.{◌≡◌, ◌+◌, ◌*◌, ◌⊎◌, inl, inr, ℕ, ℤ, pos, Bool, true, false, cond, List, [], ◌∷◌, length, refl, ap, sym, subst, ◌∙◌, Contains, None, Option, Some, is_some, option_to_list, slice_get, unwrap_or, Instant, Seen, seen_at, SigId, get_within, Memory, IsNext, guard_holds, truths_of, Yield, yielded_in, item_of, CodeView, Instruction, instructions_of, under, unguarded, IsFor, StandsAt, Operation, operations_in, Writes, IsAccepted, PlanView, numbers_of, Step, StepKind, LinkInfo, plan_operations, carrying_ends}
+use Rattle.sig_schedules.proofs.Common.{◌≡◌, ◌+◌, ◌*◌, ◌⊎◌, inl, inr, ℕ, ℤ, pos, Bool, true, false, cond, List, [], ◌∷◌, length, refl, ap, sym, subst, ◌∙◌, Contains, None, Option, Some, is_some, option_to_list, slice_get, unwrap_or, Instant, Seen, seen_at, SigId, Memory, IsNext, guard_holds, truths_of, Yield, yielded_in, item_of, CodeView, Instruction, instructions_of, under, unguarded, IsFor, StandsAt, Operation, operations_in, Writes, IsAccepted, PlanView, numbers_of, Step, StepKind, LinkInfo, plan_operations, carrying_ends, slice_get_within}
 use Rattle.sig_schedules.proofs.Done.{done_once, done_there, stands_of, there_done}
 use Rattle.sig_schedules.proofs.Lists.{none_chosen, one_chosen}
 use Rattle.sig_schedules.proofs.Steps.{DoesStep, instruction_step, places_once, same_place, step_does}
@@ -109,7 +109,7 @@ module _ (plan : PlanView) (accepted : IsAccepted plan) (link : ℕ) (info : Lin
       present : (v : ℤ) → seen_at instant x.0 ≡ Some v → yielded_in plan code yield instant code.steps ≡ v ∷ []
       present v some =
           let ends = carrying_ends plan.kernel accepted.valid plan.clocks.conditions operations (plan_operations plan accepted) accepted.parts accepted.split link info x at_parts carries in
-          let w = there_done plan accepted memory next instant is x (get_within plan.kernel.signals x.0 ends.owner ends.owned) (ap (λ (s : Seen). is_some s) some) in
+          let w = there_done plan accepted memory next instant is x (slice_get_within plan.kernel.signals x.0 ends.owner ends.owned) (ap (λ (s : Seen). is_some s) some) in
           let stands = stands_of plan accepted w.0 w.1 w.2 in
           let there = instruction_step plan accepted k code coded (under w.1 K (2 * stands.0 + 1)) (end.has_item stands.0 w.0 w.1 x stands.1 w.3 carries) in
           let kind : there.1.kind ≡ K = there.3.kind ∙ ap (λ (i : Instruction). i.kind) there.4 in

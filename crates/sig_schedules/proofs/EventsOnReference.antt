@@ -1,5 +1,5 @@
 -- Each event leaves a state on the reference.
-use Rattle.sig_schedules.proofs.Common.{◌≡◌, ◌<◌, ◌≤◌, ◌-◌, ◌+◌, ◌++◌, ◌⊎◌, inl, inr, ℕ, suc, ℤ, pos, Bool, true, false, cond, List, [], ◌∷◌, length, refl, ap, sym, subst, ◌∙◌, arith, Contains, None, Option, Some, is_some, nat_lt, slice_get, unwrap_or, ◌==◌, eq-eqb, ltb-false, ltb-true, ne_eqb, Instant, IsPrefixOf, Seen, Trace, seen_at, OpId, SigId, signal_id, contains_at, AreFlowsFor, some_at, where_some, Actor, code_of, ended_at, guard_holds, moved_on, next_place, truths_of, Core, Given, acted, items_on, looked, stepped, take_first, turned, with_actor, with_items, word_before, Faults, Gives, Outcome, operated, outcome, IsActorOn, IsOnReference, Yield, fills, instant_at, read_at, sent_on, stored_at, taken_from, yielded_before, AtLimit, Goes, Stopped, carried, item_of, reaction_in, received, turn, turn_at, turn_by, turn_of_op, turn_with, Event, Act, Look, CodeView, Instruction, instructions_of, IsFor, NamesWithin, Operation, operations_in, IsAccepted, PlanView, numbers_of, Step, StepKind, Do, Send, Receive, Report, Collect, Commit, Op, LinkInfo, plan_operations, ends_within, one_reader, one_writer, step_names}
+use Rattle.sig_schedules.proofs.Common.{◌≡◌, ◌<◌, ◌≤◌, ◌-◌, ◌+◌, ◌++◌, ◌⊎◌, inl, inr, ℕ, suc, ℤ, pos, Bool, true, false, cond, List, [], ◌∷◌, length, refl, ap, sym, subst, ◌∙◌, arith, Contains, None, Option, Some, is_some, nat_lt, slice_get, unwrap_or, ◌==◌, eq-eqb, ltb-false, ltb-true, ne_eqb, Instant, IsPrefixOf, Seen, Trace, seen_at, OpId, SigId, signal_id, AreFlowsFor, where_some, Actor, code_of, ended_at, guard_holds, moved_on, next_place, truths_of, Core, Given, acted, items_on, looked, stepped, take_first, turned, with_actor, with_items, word_before, Faults, Gives, Outcome, operated, outcome, IsActorOn, IsOnReference, Yield, fills, instant_at, read_at, sent_on, stored_at, taken_from, yielded_before, AtLimit, Goes, Stopped, carried, item_of, reaction_in, received, turn, turn_at, turn_by, turn_of_op, turn_with, Event, Act, Look, CodeView, Instruction, instructions_of, IsFor, NamesWithin, Operation, operations_in, IsAccepted, PlanView, numbers_of, Step, StepKind, Do, Send, Receive, Report, Collect, Commit, Op, LinkInfo, plan_operations, ends_within, one_reader, one_writer, step_names, contains_at, some_at}
 use Rattle.sig_schedules.proofs.Amid.{guard_known, next_now, outputs_known, sent_known}
 use Rattle.sig_schedules.proofs.Coded.{actor_coded}
 use Rattle.sig_schedules.proofs.CollectorCommits.{another_follows, commit_holds, commit_last, commits_alone, mapped_same}

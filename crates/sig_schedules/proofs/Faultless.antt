@@ -1,5 +1,5 @@
 -- An operation that is passed over, or comes to a value, has no fault.
-use Rattle.sig_schedules.proofs.Common.{◌≡◌, ◌<◌, ◌≤◌, ◌-◌, ◌*◌, ◌++◌, ◌⊎◌, inl, inr, ℕ, ℤ, Bool, true, false, List, [], ◌∷◌, length, map, get_or, take, refl, ap, sym, subst, ◌∙◌, arith, Contains, None, Option, Some, is_some, option_to_list, slice_get, append-nil, Instant, Seen, Trace, flow_of, seen_at, EqId, OpId, SigId, Place, test, gives_bounded, one_longer, function_of, remembered, AreFlowsFor, Kernel, IsOutcome, compiled, Compiled, one_either, flow_more, next_in, at_most_or, got, form_in, have_map, none_where, same_operands, Actor, guard_holds, truths_of, Computes, HasFault, Meets, Faults, Gives, computed, computed_at, computed_by, computed_for, next_of, operand_in, outcome, outcome_by, IsActorOn, IsFaulty, instant_at, IsReference, divides_by_zero, has_64_bits, CodeView, Operation, operation_in, operations_in, signals_of, IsAccepted, PlanView, numbers_of, Step, Do, Cause, Exhausted, Limit, Overflow, ZeroDivisor, Op, OpKind, Compute, Read, written_below, get_map, IsSoundActor}
+use Rattle.sig_schedules.proofs.Common.{◌≡◌, ◌<◌, ◌≤◌, ◌-◌, ◌*◌, ◌++◌, ◌⊎◌, inl, inr, ℕ, ℤ, Bool, true, false, List, [], ◌∷◌, length, map, get_or, take, refl, ap, sym, subst, ◌∙◌, arith, Contains, None, Option, Some, is_some, option_to_list, slice_get, append-nil, Instant, Seen, Trace, flow_of, seen_at, EqId, OpId, SigId, Place, test, gives_bounded, one_longer, function_of, remembered, AreFlowsFor, Kernel, IsOutcome, compiled, Compiled, one_either, flow_more, next_in, at_most_or, form_in, have_map, none_where, same_operands, Actor, guard_holds, truths_of, Computes, HasFault, Meets, Faults, Gives, computed, computed_at, computed_by, computed_for, next_of, operand_in, outcome, outcome_by, IsActorOn, IsFaulty, instant_at, IsReference, divides_by_zero, has_64_bits, CodeView, Operation, operation_in, operations_in, signals_of, IsAccepted, PlanView, numbers_of, Step, Do, Cause, Exhausted, Limit, Overflow, ZeroDivisor, Op, OpKind, Compute, Read, written_below, IsSoundActor, get_map, got}
 use Rattle.sig_schedules.proofs.Amid.{next_now}
 use Rattle.sig_schedules.proofs.Done.{clock_is}
 use Rattle.sig_schedules.proofs.NextOnReference.{is_at, outcome_is, reads}

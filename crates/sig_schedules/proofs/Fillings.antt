@@ -1,5 +1,5 @@
 -- A condition that the guard of a step needs is filled by earlier steps alone.
-use Rattle.sig_schedules.proofs.Common.{◌≡◌, ◌<◌, ◌≤◌, ◌+◌, ◌*◌, ◌⊎◌, inl, inr, ℕ, List, length, refl, ap, sym, subst, ◌∙◌, arith, None, Option, Some, slice_get, option_and_then, cases_order, SigId, contains_at, ref_depends, Depends, IsRefOf, test, got, fills, target_of_op, CodeView, Instruction, IsStepOf, instructions_of, IsFor, StandsAt, does, sends, receives, reports, collects, commits, Operation, operation_in, operations_in, Needs, Precedes, Writes, IsAccepted, PlanView, numbers_of, Slot, Step, LinkInfo, plan_operations, needed_earlier, instruction_for, map_get, step_instruction, stands_once, positions_rise}
+use Rattle.sig_schedules.proofs.Common.{◌≡◌, ◌<◌, ◌≤◌, ◌+◌, ◌*◌, ◌⊎◌, inl, inr, ℕ, List, length, refl, ap, sym, subst, ◌∙◌, arith, None, Option, Some, slice_get, option_and_then, cases_order, SigId, ref_depends, Depends, IsRefOf, test, fills, target_of_op, CodeView, Instruction, IsStepOf, instructions_of, IsFor, StandsAt, does, sends, receives, reports, collects, commits, Operation, operation_in, operations_in, Needs, Precedes, Writes, IsAccepted, PlanView, numbers_of, Slot, Step, LinkInfo, plan_operations, needed_earlier, instruction_for, step_instruction, stands_once, positions_rise, contains_at, got, map_get}
 
 -- an instruction fills a signal that is written at its place
 pub record FilledAt (operations : List Operation) (order : List ℕ) (i : Instruction) (x : SigId) : Type 0 where

@@ -1,5 +1,5 @@
 -- Where all actors have ended, the longest trace is committed, and the word names the place of its cause.
-use Rattle.sig_schedules.proofs.Common.{◌≡◌, ◌<◌, ◌≤◌, ◌-◌, ◌+◌, ◌*◌, ◌++◌, inl, inr, ℕ, suc, ℤ, Bool, true, false, List, [], ◌∷◌, length, take, drop, refl, ap, sym, subst, ◌∙◌, arith, Contains, None, Option, Some, slice_get, option_and_then, ◌/◌, cases_lt, false_from_ne_true, map-append, take-append-drop, div-mul-add, Instant, IsLongest, IsPrefixOf, Trace, seen_at, OpId, SigId, Place, at_contained, get_within, IsKernelTrace, output_text, outputs_of, seen_lines, AreFlowsFor, Kernel, StopsBefore, IsFirstFault, IsOutcome, compiled, Compiled, some_at, fitting, one_either, first_cause, at_most_or, got, some_reference, end_at_first, one_end, form_in, Actor, code_of, guard_holds, next_place, position_of, HasFault, IsEnd, Meets, place_at, Core, Given, IsFinished, after, cause_at, cause_in, cause_of, cause_of_op, is_before, op_at, reactions_text, Faults, Gives, Outcome, outcome, HasReason, IsActorOn, IsFaulty, IsOnReference, IsWordOn, instant_at, reactions_of, sent_on, taken_from, yielded_in, IsReference, Reaction, reaction_in, Event, Instruction, instructions_of, op_id, under, IsFor, StandsAt, does, sends, receives, reports, collects, commits, Operation, operation_in, operations_in, Writes, report_link, IsAccepted, PlanView, numbers_of, Step, Do, Send, Receive, Report, Collect, Cause, Exhausted, Limit, Overflow, ZeroDivisor, Ended, Op, LinkInfo, cluster_under, does_there, map_get, positions_rise, operations_written, HasEnd, IsNotBefore, IsPast, IsSound}
+use Rattle.sig_schedules.proofs.Common.{◌≡◌, ◌<◌, ◌≤◌, ◌-◌, ◌+◌, ◌*◌, ◌++◌, inl, inr, ℕ, suc, ℤ, Bool, true, false, List, [], ◌∷◌, length, take, drop, refl, ap, sym, subst, ◌∙◌, arith, Contains, None, Option, Some, slice_get, option_and_then, ◌/◌, cases_lt, false_from_ne_true, map-append, take-append-drop, div-mul-add, Instant, IsLongest, IsPrefixOf, Trace, seen_at, OpId, SigId, Place, IsKernelTrace, output_text, outputs_of, seen_lines, AreFlowsFor, Kernel, StopsBefore, IsFirstFault, IsOutcome, compiled, Compiled, fitting, one_either, first_cause, at_most_or, some_reference, end_at_first, one_end, form_in, Actor, code_of, guard_holds, next_place, position_of, HasFault, IsEnd, Meets, place_at, Core, Given, IsFinished, after, cause_at, cause_in, cause_of, cause_of_op, is_before, op_at, reactions_text, Faults, Gives, Outcome, outcome, HasReason, IsActorOn, IsFaulty, IsOnReference, IsWordOn, instant_at, reactions_of, sent_on, taken_from, yielded_in, IsReference, Reaction, reaction_in, Event, Instruction, instructions_of, op_id, under, IsFor, StandsAt, does, sends, receives, reports, collects, commits, Operation, operation_in, operations_in, Writes, report_link, IsAccepted, PlanView, numbers_of, Step, Do, Send, Receive, Report, Collect, Cause, Exhausted, Limit, Overflow, ZeroDivisor, Ended, Op, LinkInfo, cluster_under, does_there, positions_rise, operations_written, HasEnd, IsNotBefore, IsPast, IsSound, at_contained, slice_get_within, got, map_get, some_at, flat_map-append, taken_get}
 use Rattle.sig_schedules.proofs.Beginnings.{report_contained}
 use Rattle.sig_schedules.proofs.Counts.{carried_before, carried_next, carried_rises, counted, front_fewer}
 use Rattle.sig_schedules.proofs.ReferenceEnd.{fault_there, first_faulty, front_is, is_clean, least_faulty, none_before, of_trace, trace_is}
@@ -9,7 +9,7 @@ use Rattle.sig_schedules.proofs.NextOnReference.{outcome_is}
 use Rattle.sig_schedules.proofs.Inputs.{in_kernel}
 use Rattle.sig_schedules.proofs.Interleavings.{after_on, after_sound}
 use Rattle.sig_schedules.proofs.EndsOfLinks.{reader_end, writer_end}
-use Rattle.sig_schedules.proofs.Lists.{joined_append, none_chosen, taken_get}
+use Rattle.sig_schedules.proofs.Lists.{none_chosen}
 use Rattle.sig_schedules.proofs.Moved.{chosen_of}
 use Rattle.sig_schedules.proofs.Steps.{DoesStep, instruction_step, step_does}
 use Rattle.sig_schedules.proofs.Texts.{text_is}
@@ -101,7 +101,7 @@ module _ (given : Given) (accepted : IsAccepted given.plan) (fit : AreFlowsFor g
     stands = record { place = first.is.met.ordered; is = first.is.met.is }
 
     k_within : k < length operations
-    k_within = let full = accepted.order.all in omega (arith, get_within order k number first.is.met.ordered, full)
+    k_within = let full = accepted.order.all in omega (arith, slice_get_within order k number first.is.met.ordered, full)
 
     writes_of : (why : Cause) → Meets p why → HasFault kernel flows trace instant why → (x : SigId) × Writes p x
     writes_of (Exhausted x) meets fault = (x, ((one_either kernel c.has.presence p (in_kernel plan accepted number p first.is.met.is)).0 x meets).0)
@@ -426,7 +426,7 @@ module _ (given : Given) (accepted : IsAccepted given.plan) (fit : AreFlowsFor g
       let begins = reactions_begin place ended end in (
         reactions_text given.plan.kernel begins.0,
         sym (text_is given.plan.kernel accepted.valid trace) ∙ ap (reactions_text given.plan.kernel) begins.1
-            ∙ joined_append (λ (reaction : Reaction). seen_lines (outputs_of given.plan.kernel) reaction) core.committed begins.0,
+            ∙ flat_map-append (λ (reaction : Reaction). seen_lines (outputs_of given.plan.kernel) reaction) core.committed begins.0,
       )
 
   -- no place before that of the named cause is recorded, and none at all where the limit is the cause

@@ -1,9 +1,9 @@
 -- What the steps of an actor read of an input, and store for a delay, are the values of its signal.
-use Rattle.sig_schedules.proofs.Common.{◌≡◌, ◌<◌, ◌≤◌, ◌-◌, ◌*◌, ◌++◌, inr, ℕ, ℤ, Bool, true, false, cond, List, [], length, take, refl, ap, sym, subst, ◌∙◌, arith, Contains, None, Option, Some, is_some, option_to_list, slice_get, slice_index, eq-eqb, eqb-true, append-nil, Instant, Seen, Trace, flow_of, seen_at, EqId, OpId, SigId, test, contains_at, store_stands, defined_once, one_memory, same_equation, same_signal, delayed_below, one_storing, Memory, target_of, AreFlowsFor, Equation, Delay, Kernel, IsNext, compiled, Compiled, one_either, got, stored, form_for, form_in, guard_holds, truths_of, defined_by, first_in, remembers, Yield, input_of, names, read_at, read_by, stored_at, stored_by, yielded_before, yielded_in, instant_at, IsReference, CodeView, Instruction, op_id, under, Operation, cluster_of, operation_in, operations_in, operations_of, Keeps, Precedes, IsAccepted, PlanView, numbers_of, Step, StepKind, Do, Send, Receive, Report, Collect, Commit, Op, OpKind, Read, Compute, Left, Right, DelayRead, Store, does_there, get_map, kept_order, stands_once, operations_written}
+use Rattle.sig_schedules.proofs.Common.{◌≡◌, ◌<◌, ◌≤◌, ◌-◌, ◌*◌, ◌++◌, inr, ℕ, ℤ, Bool, true, false, cond, List, [], length, take, refl, ap, sym, subst, ◌∙◌, arith, Contains, None, Option, Some, is_some, option_to_list, slice_get, slice_index, eq-eqb, eqb-true, append-nil, Instant, Seen, Trace, flow_of, seen_at, EqId, OpId, SigId, test, store_stands, defined_once, one_memory, same_equation, same_signal, delayed_below, one_storing, Memory, target_of, AreFlowsFor, Equation, Delay, Kernel, IsNext, compiled, Compiled, one_either, stored, form_for, form_in, guard_holds, truths_of, defined_by, first_in, remembers, Yield, input_of, names, read_at, read_by, stored_at, stored_by, yielded_before, yielded_in, instant_at, IsReference, CodeView, Instruction, op_id, under, Operation, cluster_of, operation_in, operations_in, operations_of, Keeps, Precedes, IsAccepted, PlanView, numbers_of, Step, StepKind, Do, Send, Receive, Report, Collect, Commit, Op, OpKind, Read, Compute, Left, Right, DelayRead, Store, does_there, kept_order, stands_once, operations_written, contains_at, get_map, got, taken_get}
 use Rattle.sig_schedules.proofs.Done.{clock_is, done_once}
 use Rattle.sig_schedules.proofs.Ends.{nothing_from}
 use Rattle.sig_schedules.proofs.Instants.{next_at, next_some}
-use Rattle.sig_schedules.proofs.Lists.{joined_same, none_chosen, one_chosen, taken_get}
+use Rattle.sig_schedules.proofs.Lists.{joined_same, none_chosen, one_chosen}
 use Rattle.sig_schedules.proofs.Steps.{before_by_position, does_once, instruction_step, op_done}
 use Rattle.sig_schedules.proofs.StoredOnce.{store_cluster, stores_once}
 

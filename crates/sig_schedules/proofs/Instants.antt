@@ -1,11 +1,11 @@
 -- The instants of a reference.
-use Rattle.sig_schedules.proofs.Common.{◌≡◌, ◌≤◌, ◌-◌, ◌++◌, ℕ, suc, ℤ, List, [], ◌∷◌, length, get_or, take, drop, ap, sym, subst, ◌∙◌, arith, Some, slice_get, length-take-le, take-append-drop, Instant, Trace, get_at, Memory, remembered, AreFlowsFor, IsNext, fitting, next_in, got, reference_front, reference_last, instant_at, IsReference, IsAccepted, PlanView}
+use Rattle.sig_schedules.proofs.Common.{◌≡◌, ◌≤◌, ◌-◌, ◌++◌, ℕ, suc, ℤ, List, [], ◌∷◌, length, get_or, take, drop, ap, sym, subst, ◌∙◌, arith, Some, slice_get, length-take-le, take-append-drop, Instant, Trace, Memory, remembered, AreFlowsFor, IsNext, fitting, next_in, reference_front, reference_last, instant_at, IsReference, IsAccepted, PlanView, slice_get-get_or, got}
 use Rattle.sig_schedules.proofs.Lists.{take_next}
 
 pub instants_to : (reference : Trace) (i : ℕ) → 1 ≤ i → i ≤ length reference → take i reference ≡ take (i - 1) reference ++ instant_at reference i ∷ []
 instants_to reference i from within =
     let next : i ≡ suc (i - 1) = omega (arith, from) in
-    ap (λ n. take n reference) next ∙ take_next (i - 1) reference (instant_at reference i) (get_at reference (i - 1) [] (omega (arith, from, within)))
+    ap (λ n. take n reference) next ∙ take_next (i - 1) reference (instant_at reference i) (slice_get-get_or reference (i - 1) [] (omega (arith, from, within)))
 
 pub instants_before : (reference : Trace) (i : ℕ) → 1 ≤ i → i ≤ length reference → length (take (i - 1) reference) ≡ i - 1
 instants_before reference i from within = length-take-le (i - 1) reference (omega (arith, from, within))

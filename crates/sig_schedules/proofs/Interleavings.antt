@@ -1,7 +1,7 @@
 -- Every interleaving leaves a state on the reference.
-use Rattle.sig_schedules.proofs.Common.{◌≡◌, ◌≤◌, ◌+◌, inl, inr, List, [], ◌∷◌, length, sym, subst, arith, None, Some, fold, Trace, AreFlowsFor, code_of, opening_actor, Core, Given, after, opening, stepped, IsOnReference, IsReference, Event, IsAccepted, IsSound, IsSoundActor}
+use Rattle.sig_schedules.proofs.Common.{◌≡◌, ◌≤◌, ◌+◌, inl, inr, List, [], ◌∷◌, length, sym, subst, arith, None, Some, fold, Trace, AreFlowsFor, code_of, opening_actor, Core, Given, after, opening, stepped, IsOnReference, IsReference, Event, IsAccepted, IsSound, IsSoundActor, repeated}
 use Rattle.sig_schedules.proofs.EventsOnReference.{stepped_on}
-use Rattle.sig_schedules.proofs.Opening.{opening_on, repeated}
+use Rattle.sig_schedules.proofs.Opening.{opening_on}
 use Rattle.sig_schedules.proofs.Sound.{stepped_sound}
 
 module _ (given : Given) (accepted : IsAccepted given.plan) (fit : AreFlowsFor given.plan.kernel given.flows) (reference : Trace) (is : IsReference given.plan.kernel given.flows (length reference) reference)

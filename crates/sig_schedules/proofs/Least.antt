@@ -1,5 +1,5 @@
 -- All actors have ended, or one that runs is at a least place.
-use Rattle.sig_schedules.proofs.Common.{◌≡◌, ◌⊎◌, inl, inr, ℕ, zero, suc, Bool, true, false, List, [], ◌∷◌, refl, ap, sym, subst, ◌∙◌, arith, None, Some, slice_get, Place, Actor}
+use Rattle.sig_schedules.proofs.Common.{◌≡◌, ◌⊎◌, inl, inr, ℕ, zero, suc, Bool, true, false, List, [], ◌∷◌, refl, ap, sym, subst, ◌∙◌, arith, None, Some, slice_get, Place, Actor, both_ways}
 use Rattle.sig_schedules.proofs.Words.{NotAfter, not_after_onward, total_places}
 
 abbrev pub AllEnded : List Actor → Type 0
@@ -11,9 +11,6 @@ pub record IsLeast (place : ℕ → Actor → Place) (xs : List Actor) : Type 0 
   pub at : slice_get xs k ≡ Some actor
   pub runs : actor.ended ≡ false
   pub least : (m : ℕ) (b : Actor) → slice_get xs m ≡ Some b → b.ended ≡ false → NotAfter (place k actor) (place m b)
-
-both_ways : (b : Bool) → b ≡ true → b ≡ false → ⊥
-both_ways b one two = let clash : true ≡ false = sym one ∙ two in cc
 
 same_first : (x b : Actor) (xs : List Actor) → slice_get (x ∷ xs) 0 ≡ Some b → x ≡ b
 same_first x b xs at = let e : Some x ≡ Some b = at in cc

@@ -37,9 +37,9 @@ pub mod Words
 pub use Common.*
 pub use Bounds.*
 pub use Enabled.*
+pub use EventsOnReference.*
 pub use Finished.*
 pub use Interleavings.*
-pub use EventsOnReference.*
 pub use Opening.*
 pub use Runnables.*
 pub use Sound.*

@@ -1,17 +1,5 @@
 -- Lists: fronts, what is chosen of them, and what is put into them.
-use Rattle.sig_schedules.proofs.Common.{◌≡◌, ◌<◌, ◌++◌, inl, inr, ℕ, zero, suc, Bool, true, false, cond, List, [], ◌∷◌, set, take, refl, ap, sym, ◌∙◌, arith, None, Option, Some, flat_map, option_to_list, slice_get, ◌==◌, ◌||◌, cons_option, filter_map, list_any, eq-eqb, ne_eqb, append-nil, append_assoc, same_or_not}
-
-pub taken_get : {A : Type 0} (s : ℕ) (xs : List A) (i : ℕ) (x : A) → slice_get (take s xs) i ≡ Some x → (i < s) × (slice_get xs i ≡ Some x)
-taken_get {A} zero xs i x is = absurd (let e : None ≡ Some x = is in cc)
-taken_get {A} (suc s) [] i x is = absurd (let e : None ≡ Some x = is in cc)
-taken_get {A} (suc s) (y ∷ xs) zero x is = (omega arith, is)
-taken_get {A} (suc s) (y ∷ xs) (suc i) x is = let rest = taken_get s xs i x is in (omega (arith, rest.0), rest.1)
-
-pub get_taken : {A : Type 0} (s : ℕ) (xs : List A) (i : ℕ) (x : A) → i < s → slice_get xs i ≡ Some x → slice_get (take s xs) i ≡ Some x
-get_taken {A} zero xs i x lt is = absurd (omega (arith, lt))
-get_taken {A} (suc s) [] i x lt is = is
-get_taken {A} (suc s) (y ∷ xs) zero x lt is = is
-get_taken {A} (suc s) (y ∷ xs) (suc i) x lt is = get_taken s xs i x (omega (arith, lt)) is
+use Rattle.sig_schedules.proofs.Common.{◌≡◌, ◌++◌, inl, inr, ℕ, zero, suc, Bool, true, false, cond, List, [], ◌∷◌, set, take, refl, ap, sym, ◌∙◌, arith, None, Option, Some, flat_map, option_to_list, slice_get, ◌==◌, ◌||◌, cons_option, filter_map, list_any, eq-eqb, ne_eqb, append-nil, append_assoc, filter_map-append, cases_eq}
 
 pub take_next : {A : Type 0} (s : ℕ) (xs : List A) (x : A) → slice_get xs s ≡ Some x → take (suc s) xs ≡ take s xs ++ x ∷ []
 take_next {A} s [] x is = absurd (let e : None ≡ Some x = is in cc)
@@ -28,24 +16,8 @@ any_push {A} f (y ∷ xs) x = by (f y) (any_push f xs x) where
   by true rest = refl
   by false rest = rest
 
--- some element of a front passes
-pub any_there : {A : Type 0} (f : A → Bool) (xs : List A) (i : ℕ) (x : A) → slice_get xs i ≡ Some x → f x ≡ true → list_any f xs ≡ true
-any_there {A} f [] i x is pass = absurd (let e : None ≡ Some x = is in cc)
-any_there {A} f (y ∷ xs) zero x is pass = let e : Some y ≡ Some x = is in let same : y ≡ x = cc in ap (λ b. b || list_any f xs) (ap f same ∙ pass)
-any_there {A} f (y ∷ xs) (suc i) x is pass = by (f y) (any_there f xs i x is pass) where
-  by : (b : Bool) → list_any f xs ≡ true → (b || list_any f xs) ≡ true
-  by true rest = refl
-  by false rest = rest
-
-pub chosen_append : {A B : Type 0} (f : A → Option B) (xs ys : List A) → filter_map f (xs ++ ys) ≡ filter_map f xs ++ filter_map f ys
-chosen_append {A} {B} f [] ys = refl
-chosen_append {A} {B} f (x ∷ xs) ys = by (f x) (chosen_append f xs ys) where
-  by : (o : Option B) → filter_map f (xs ++ ys) ≡ filter_map f xs ++ filter_map f ys → cons_option o (filter_map f (xs ++ ys)) ≡ cons_option o (filter_map f xs) ++ filter_map f ys
-  by None rest = rest
-  by (Some y) rest = ap (λ zs. y ∷ zs) rest
-
 pub chosen_push : {A B : Type 0} (f : A → Option B) (xs : List A) (x : A) → filter_map f (xs ++ x ∷ []) ≡ filter_map f xs ++ option_to_list (f x)
-chosen_push {A} {B} f xs x = chosen_append f xs (x ∷ []) ∙ ap (λ ys. filter_map f xs ++ ys) (by (f x)) where
+chosen_push {A} {B} f xs x = filter_map-append f xs (x ∷ []) ∙ ap (λ ys. filter_map f xs ++ ys) (by (f x)) where
   by : (o : Option B) → cons_option o [] ≡ option_to_list o
   by None = refl
   by (Some y) = refl
@@ -68,10 +40,6 @@ pub joined_push : {A B : Type 0} (f : A → List B) (xs : List A) (x : A) → fl
 joined_push {A} {B} f [] x = append-nil (f x)
 joined_push {A} {B} f (y ∷ xs) x = ap (λ zs. f y ++ zs) (joined_push f xs x) ∙ sym (append_assoc (f y) (flat_map f xs) (f x))
 
-pub joined_append : {A B : Type 0} (f : A → List B) (xs ys : List A) → flat_map f (xs ++ ys) ≡ flat_map f xs ++ flat_map f ys
-joined_append {A} {B} f [] ys = refl
-joined_append {A} {B} f (x ∷ xs) ys = ap (λ zs. f x ++ zs) (joined_append f xs ys) ∙ sym (append_assoc (f x) (flat_map f xs) (flat_map f ys))
-
 pub joined_same : {A B : Type 0} (f g : A → List B) (xs : List A) → ((i : ℕ) (x : A) → slice_get xs i ≡ Some x → f x ≡ g x) → flat_map f xs ≡ flat_map g xs
 joined_same {A} {B} f g [] same = refl
 joined_same {A} {B} f g (x ∷ xs) same = ap (λ zs. zs ++ flat_map f xs) (same 0 x refl) ∙ ap (λ zs. g x ++ zs) (joined_same f g xs (λ i y at. same (suc i) y at))
@@ -88,7 +56,7 @@ pub put_elsewhere : {A : Type 0} (k : ℕ) (x : A) (m : ℕ) (old : A) → ((m �
 put_elsewhere {A} k x m old apart = ap (λ b. cond b x old) (ne_eqb m k apart)
 
 put_later : {A : Type 0} (k : ℕ) (x : A) (m : ℕ) (old : A) → put k x m old ≡ put (suc k) x (suc m) old
-put_later {A} k x m old = elim (same_or_not m k) [
+put_later {A} k x m old = elim (cases_eq m k) [
   | inl same ↦ put_here k x m old same ∙ sym (put_here (suc k) x (suc m) old (ap suc same))
   | inr apart ↦ put_elsewhere k x m old apart ∙ sym (put_elsewhere (suc k) x (suc m) old (λ e. apart (omega (arith, e))))
 ]
@@ -99,8 +67,3 @@ set_get {A} (z ∷ xs) zero x zero y is = (z, refl, let e : Some x ≡ Some y = 
 set_get {A} (z ∷ xs) zero x (suc m) y is = (y, is, sym (put_elsewhere 0 x (suc m) y (λ e. omega (arith, e))))
 set_get {A} (z ∷ xs) (suc k) x zero y is = (z, refl, let e : Some z ≡ Some y = is in let same : z ≡ y = cc in sym same ∙ sym (put_elsewhere (suc k) x 0 z (λ e. omega (arith, e))))
 set_get {A} (z ∷ xs) (suc k) x (suc m) y is = let rest = set_get xs k x m y is in (rest.0, rest.1, rest.2 ∙ put_later k x m rest.0)
-
-pub set_here : {A : Type 0} (xs : List A) (k : ℕ) (x y : A) → slice_get xs k ≡ Some y → slice_get (set xs k x) k ≡ Some x
-set_here {A} [] k x y is = absurd (let e : None ≡ Some y = is in cc)
-set_here {A} (z ∷ xs) zero x y is = refl
-set_here {A} (z ∷ xs) (suc k) x y is = set_here xs k x y is

@@ -1,5 +1,5 @@
 -- What an actor on the reference makes of its next step: it stays on the reference, or has a fault there.
-use Rattle.sig_schedules.proofs.Common.{◌≡◌, ◌≤◌, ◌-◌, ◌+◌, ◌*◌, ◌++◌, inl, inr, ℕ, suc, ℤ, pos, Bool, true, false, cond, List, [], ◌∷◌, length, take, refl, ap, sym, subst, ◌∙◌, arith, Contains, None, Option, Some, option_to_list, slice_get, unwrap_or, ◌&&◌, and_from, and_left, and_right, eq-eqb, ne_eqb, append-nil, length-append, Instant, Seen, Trace, seen_at, OpId, SigId, contains_head, test, defined_once, initial_is, last_of, target_of, AreFlowsFor, Kernel, IsAt, IsOutcome, compiled, Compiled, fitting, one_either, same_or_not, reference_outcome, Actor, Registers, guard_holds, initial_in, next_place, position_of, truths_of, with_at, with_signal, HasFault, Meets, Faults, Gives, first_in, operated, outcome, outcome_by, remembers, taken_by, IsActorOn, IsFaulty, Yield, fills, input_of, instant_at, names, read_at, read_by, register_before, stored_at, stored_by, target_of_op, yielded_before, IsReference, carried, received, CodeView, Operation, operation_in, operations_in, IsAccepted, PlanView, numbers_of, Step, Do, Receive, Cause, Op, OpKind, Read, Compute, Left, Right, DelayRead, Store, get_map}
+use Rattle.sig_schedules.proofs.Common.{◌≡◌, ◌≤◌, ◌-◌, ◌+◌, ◌*◌, ◌++◌, inl, inr, ℕ, suc, ℤ, pos, Bool, true, false, cond, List, [], ◌∷◌, length, take, refl, ap, sym, subst, ◌∙◌, arith, Contains, None, Option, Some, option_to_list, slice_get, unwrap_or, ◌&&◌, and_from, and_left, and_right, eq-eqb, ne_eqb, append-nil, length-append, Instant, Seen, Trace, seen_at, OpId, SigId, test, defined_once, initial_is, last_of, target_of, AreFlowsFor, Kernel, IsAt, IsOutcome, compiled, Compiled, fitting, one_either, reference_outcome, Actor, Registers, guard_holds, initial_in, next_place, position_of, truths_of, with_at, with_signal, HasFault, Meets, Faults, Gives, first_in, operated, outcome, outcome_by, remembers, taken_by, IsActorOn, IsFaulty, Yield, fills, input_of, instant_at, names, read_at, read_by, register_before, stored_at, stored_by, target_of_op, yielded_before, IsReference, carried, received, CodeView, Operation, operation_in, operations_in, IsAccepted, PlanView, numbers_of, Step, Do, Receive, Cause, Op, OpKind, Read, Compute, Left, Right, DelayRead, Store, contains_head, cases_eq, get_map}
 use Rattle.sig_schedules.proofs.Amid.{guard_known, reads_known}
 use Rattle.sig_schedules.proofs.Inputs.{done_by, in_kernel, read_before, stored_before, stores_delay}
 use Rattle.sig_schedules.proofs.Instants.{reference_to}
@@ -105,7 +105,7 @@ module _ (plan : PlanView) (accepted : IsAccepted plan) (flows : List (List ℤ)
       filled_registers : (v : ℤ) (n : ℕ) (o : Option SigId) → fills plan step.kind ≡ o → ((x : SigId) → o ≡ Some x → seen_at now x.0 ≡ Some v)
           → with_signal o (Some v) actor.registers n ≡ register_before plan code now (suc actor.step) n
       filled_registers v n None fill given = on.registers n ∙ sym (not_filled plan code reference now actor.step step at_s n (and_right holds_now (names n (fills plan step.kind)) (ap (names n) fill)))
-      filled_registers v n (Some x) fill given = elim (same_or_not x.0 n) [
+      filled_registers v n (Some x) fill given = elim (cases_eq x.0 n) [
         | inl same ↦
             at_same x.0 (Some v) actor.registers n same ∙ sym (given x refl) ∙ ap (seen_at now) same
             ∙ sym (now_filled plan code reference now actor.step step at_s n (and_from holds_now (names n (fills plan step.kind)) holds (ap (names n) fill ∙ eq-eqb x.0 n same)))
@@ -183,7 +183,7 @@ module _ (plan : PlanView) (accepted : IsAccepted plan) (flows : List (List ℤ)
       memory_of : (n : ℕ) (target : Option SigId) → remembers kernel op.kind ≡ target
           → with_signal target v actor.memories n ≡ last_of (initial_in kernel.equations n) (before (stored_at plan n) ++ option_to_list (cond (names n target) (Some (first_in (seen_at now) op.reads)) None))
       memory_of n None remembered = on.memories n ∙ ap (last_of (initial_in kernel.equations n)) (sym (append-nil (before (stored_at plan n))))
-      memory_of n (Some y) remembered = elim (same_or_not y.0 n) [
+      memory_of n (Some y) remembered = elim (cases_eq y.0 n) [
         | inl same ↦
             at_same y.0 v actor.memories n same ∙ stored_value y remembered ∙ sym (last_more (initial_in kernel.equations n) (before (stored_at plan n)) (first_in (seen_at now) op.reads))
             ∙ ap (λ b. last_of (initial_in kernel.equations n) (before (stored_at plan n) ++ option_to_list (cond b (Some (first_in (seen_at now) op.reads)) None))) (sym (eq-eqb y.0 n same))
@@ -196,7 +196,7 @@ module _ (plan : PlanView) (accepted : IsAccepted plan) (flows : List (List ℤ)
       taken_same n = on.taken n ∙ ap (λ (items : List ℤ). length items) (sym (append-nil (before (read_at plan n))))
 
       taken_of : (n : ℕ) (kd : OpKind) → op.kind ≡ kd → taken_by kd actor.taken n ≡ length (before (read_at plan n) ++ option_to_list (cond (names n (input_of kd)) (seen_at now n) None))
-      taken_of n (Read x) of = elim (same_or_not x.0 n) [
+      taken_of n (Read x) of = elim (cases_eq x.0 n) [
         | inl same ↦
             let writes : op.writes ≡ Some x = ((one_either kernel c.has.presence p (in_kernel plan accepted o.0 p at_p)).0 x of).0 in
             let seen : seen_at now n ≡ Some v = ap (seen_at now) (sym same) ∙ given x writes in

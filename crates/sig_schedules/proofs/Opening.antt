@@ -1,11 +1,6 @@
 -- The opening state is on the reference.
-use Rattle.sig_schedules.proofs.Common.{◌≡◌, ◌<◌, ◌≤◌, ◌-◌, ℕ, zero, suc, ℤ, true, false, List, [], length, get_or, replicate, take, refl, ap, sym, subst, ◌∙◌, arith, Some, slice_get, length-replicate, Trace, Actor, code_of, opening_actor, Given, opening, IsActorOn, IsLinkOn, IsOnReference, reactions_of, IsReference, IsAccepted, PlanView, LinkInfo}
+use Rattle.sig_schedules.proofs.Common.{◌≡◌, ◌<◌, ◌≤◌, ◌-◌, ℕ, zero, suc, ℤ, true, false, List, [], length, get_or, replicate, take, refl, ap, sym, subst, ◌∙◌, arith, length-replicate, Trace, Actor, code_of, opening_actor, Given, opening, IsActorOn, IsLinkOn, IsOnReference, reactions_of, IsReference, IsAccepted, PlanView, LinkInfo, repeated}
 use Rattle.sig_schedules.proofs.Runnables.{is_runnable}
-
-pub repeated : {A : Type 0} (n k : ℕ) (a x : A) → slice_get (replicate n a) k ≡ Some x → (k < n) × (x ≡ a)
-repeated {A} zero k a x is = absurd (let e = is in cc)
-repeated {A} (suc n) zero a x is = (omega arith, let e : Some a ≡ Some x = is in cc)
-repeated {A} (suc n) (suc k) a x is = let rest = repeated n k a x is in (omega (arith, rest.0), rest.1)
 
 nothing_there : {A : Type 0} (n k : ℕ) → get_or (replicate n (let none : List A = [] in none)) k [] ≡ []
 nothing_there {A} zero k = refl

@@ -1,8 +1,8 @@
 -- What an end of a link gives or takes before a step begins what the link carries over the reference.
-use Rattle.sig_schedules.proofs.Common.{◌≡◌, ◌≤◌, ◌-◌, ◌++◌, ℕ, ℤ, List, [], ◌∷◌, length, take, drop, ap, sym, ◌∙◌, None, Option, Some, flat_map, slice_get, if◌then◌else◌, filter_map, append_assoc, append_cancel_left, take-append-drop, Instant, IsPrefixOf, Trace, seen_at, AreFlowsFor, guard_holds, Yield, instant_at, yielded_before, yielded_in, IsReference, CodeView, IsAccepted, PlanView, Step, StepKind, LinkInfo}
+use Rattle.sig_schedules.proofs.Common.{◌≡◌, ◌≤◌, ◌-◌, ◌++◌, ℕ, ℤ, List, [], ◌∷◌, length, take, drop, ap, sym, ◌∙◌, None, Option, Some, flat_map, slice_get, if◌then◌else◌, filter_map, append_assoc, append_cancel_left, take-append-drop, Instant, IsPrefixOf, Trace, seen_at, AreFlowsFor, guard_holds, Yield, instant_at, yielded_before, yielded_in, IsReference, CodeView, IsAccepted, PlanView, Step, StepKind, LinkInfo, filter_map-append, flat_map-append, taken_get}
 use Rattle.sig_schedules.proofs.Ends.{IsLinkEnd, carried_at, in_instant}
 use Rattle.sig_schedules.proofs.Instants.{instants_to, next_at, next_some}
-use Rattle.sig_schedules.proofs.Lists.{chosen_append, joined_append, joined_push, joined_same, taken_get}
+use Rattle.sig_schedules.proofs.Lists.{joined_push, joined_same}
 
 -- two lists that begin one list, each longer than the same front, go on alike
 pub same_next : (whole front more other : List ℤ) (a b : ℤ) → IsPrefixOf (front ++ a ∷ more) whole → IsPrefixOf (front ++ b ∷ other) whole → a ≡ b
@@ -26,7 +26,7 @@ module _ (plan : PlanView) (accepted : IsAccepted plan) (flows : List (List ℤ)
     begins_carried i from within s = (
       filter_map given (drop s code.steps) ++ carried_over (drop i reference),
       ap carried_over (sym (take-append-drop i reference) ∙ ap (λ t. t ++ drop i reference) (instants_to reference i from within))
-          ∙ joined_append (λ instant. carried_at instant info.signal) (past ++ now ∷ []) (drop i reference)
+          ∙ flat_map-append (λ instant. carried_at instant info.signal) (past ++ now ∷ []) (drop i reference)
           ∙ ap (λ items. items ++ carried_over (drop i reference)) (joined_push (λ instant. carried_at instant info.signal) past now ∙ ap (λ items. items ++ carried_at now info.signal) (sym earlier) ∙ ap (λ items. before ++ items) (sym here ∙ split))
           ∙ ap (λ items. items ++ carried_over (drop i reference)) (sym (append_assoc before (filter_map given (take s code.steps)) (filter_map given (drop s code.steps))))
           ∙ append_assoc (before ++ filter_map given (take s code.steps)) (filter_map given (drop s code.steps)) (carried_over (drop i reference)),
@@ -52,4 +52,4 @@ module _ (plan : PlanView) (accepted : IsAccepted plan) (flows : List (List ℤ)
           in_instant plan accepted link info at _ _ now next k code coded yield K M end
 
       split : filter_map given code.steps ≡ filter_map given (take s code.steps) ++ filter_map given (drop s code.steps)
-      split = ap (filter_map given) (sym (take-append-drop s code.steps)) ∙ chosen_append given (take s code.steps) (drop s code.steps)
+      split = ap (filter_map given) (sym (take-append-drop s code.steps)) ∙ filter_map-append given (take s code.steps) (drop s code.steps)

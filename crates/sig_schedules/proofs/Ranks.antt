@@ -1,5 +1,5 @@
 -- No instruction of an actor stands twice.
-use Rattle.sig_schedules.proofs.Common.{◌≡◌, ◌<◌, ◌≤◌, ◌+◌, ◌*◌, ◌++◌, ◌⊎◌, inl, inr, ℕ, zero, suc, Bool, true, false, List, [], ◌∷◌, length, map, refl, ap, sym, subst, ◌∙◌, arith, Contains, None, Option, Some, flat_map, slice_get, ◌==◌, if◌then◌else◌, cons_option, enumerate_from, filter_map, cases_order, SigId, contains_at, contains_cons, contains_head, contains_later, contains_none, Instruction, at_end, at_number, instructions_of, is_signal, links_of, links_to, op_id, over_order, report_links, reports_of, under, unguarded, Operation, PartsView, StepKind, Do, Send, Receive, Report, Collect, Commit, LinkInfo, contains_either, mapped_from}
+use Rattle.sig_schedules.proofs.Common.{◌≡◌, ◌<◌, ◌≤◌, ◌+◌, ◌*◌, ◌++◌, ◌⊎◌, inl, inr, ℕ, zero, suc, Bool, true, false, List, [], ◌∷◌, length, map, refl, ap, sym, subst, ◌∙◌, arith, Contains, None, Option, Some, flat_map, slice_get, ◌==◌, if◌then◌else◌, cons_option, enumerate_from, filter_map, cases_order, SigId, Instruction, at_end, at_number, instructions_of, is_signal, links_of, links_to, op_id, over_order, report_links, reports_of, under, unguarded, Operation, PartsView, StepKind, Do, Send, Receive, Report, Collect, Commit, LinkInfo, contains_at, contains_cons, contains_head, contains_later, contains_none, mapped_from, Contains-append_cases}
 
 -- the link that an instruction names
 abbrev link_in : StepKind → ℕ
@@ -24,12 +24,12 @@ Between low high xs = (x : Instruction) → Contains xs x → (low ≤ x.positio
 rising_append : (xs ys : List Instruction) → Rising xs → Rising ys → ((a b : Instruction) → Contains xs a → Contains ys b → Under a b) → Rising (xs ++ ys)
 rising_append [] ys first second apart = second
 rising_append (x ∷ xs) ys first second apart = (
-  λ y there. elim (contains_either xs ys y there) [ inl own ↦ first.0 y own | inr other ↦ apart x y (contains_head x xs) other ],
+  λ y there. elim (Contains-append_cases xs ys y there) [ inl own ↦ first.0 y own | inr other ↦ apart x y (contains_head x xs) other ],
   rising_append xs ys first.1 second (λ a b in_a in_b. apart a b (contains_later x a xs in_a) in_b),
 )
 
 between_append : (low high : ℕ) (xs ys : List Instruction) → Between low high xs → Between low high ys → Between low high (xs ++ ys)
-between_append low high xs ys first second y there = elim (contains_either xs ys y there) [ inl own ↦ first y own | inr other ↦ second y other ]
+between_append low high xs ys first second y there = elim (Contains-append_cases xs ys y there) [ inl own ↦ first y own | inr other ↦ second y other ]
 
 between_one : (low high : ℕ) (x : Instruction) → low ≤ x.position → x.position < high → Between low high (x ∷ [])
 between_one low high x above below y there = elim (contains_cons x y [] there) [

@@ -1,5 +1,5 @@
 -- An accepted plan has what the code of its actors asks of it.
-use Rattle.sig_schedules.proofs.Common.{◌≡◌, ◌<◌, ℕ, List, length, refl, sym, subst, None, Option, Some, slice_get, option_and_then, EqId, get_within, defined_local, target_of, Equation, some_at, code_of, defined_by, IsRunnable, IsThere, carried, CodeView, ImpliesSlot, IsLastBelow, of_slot, operation_in, operations_in, IsAccepted, PlanView, Slot, Op, LinkInfo, plan_operations, written_below, carrying_ends, get_map, step_slot, guard_alone, guard_held}
+use Rattle.sig_schedules.proofs.Common.{◌≡◌, ◌<◌, ℕ, List, length, refl, sym, subst, None, Option, Some, slice_get, option_and_then, EqId, defined_local, target_of, Equation, code_of, defined_by, IsRunnable, IsThere, carried, CodeView, ImpliesSlot, IsLastBelow, of_slot, operation_in, operations_in, IsAccepted, PlanView, Slot, Op, LinkInfo, plan_operations, written_below, carrying_ends, step_slot, guard_alone, guard_held, slice_get_within, get_map, some_at}
 use Rattle.sig_schedules.proofs.Beginnings.{code_begins}
 use Rattle.sig_schedules.proofs.Coded.{code_is, slot_coded, step_coded}
 use Rattle.sig_schedules.proofs.Fillings.{fills_earlier}
@@ -17,7 +17,7 @@ module _ (plan : PlanView) (accepted : IsAccepted plan) where
     by (Some info) at is =
         let there = subst (λ (ls : List LinkInfo). slice_get ls j ≡ Some info) (sym accepted.links) (at info refl) in
         let ends = carrying_ends plan.kernel accepted.valid plan.clocks.conditions (operations_in plan.store.nodes plan.ops) (plan_operations plan accepted) accepted.parts accepted.split j info x there is in
-        get_within plan.kernel.signals x.0 ends.owner ends.owned
+        slice_get_within plan.kernel.signals x.0 ends.owner ends.owned
 
   signals_defined : (e : EqId) → IsThere plan (defined_by plan.kernel e)
   signals_defined e x is = by (slice_get plan.kernel.equations e.0) (λ d s. s) is where

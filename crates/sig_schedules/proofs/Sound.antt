@@ -1,5 +1,5 @@
 -- Each event leaves a sound state sound: no actor goes past a fault.
-use Rattle.sig_schedules.proofs.Common.{◌≡◌, ◌<◌, ◌≤◌, ◌++◌, ◌⊎◌, inl, inr, ℕ, ℤ, Bool, true, false, cond, List, [], ◌∷◌, length, set, refl, ap, sym, subst, ◌∙◌, arith, None, Option, Some, nat_lt, slice_get, ltb-false, Instant, Trace, seen_at, OpId, Place, get_within, AreFlowsFor, some_at, at_most_or, same_or_not, Actor, code_of, ended_at, guard_holds, moved_on, next_place, Core, Given, acted, is_before, items_on, lesser, looked, stepped, take_first, turned, with_actor, with_items, word_before, Faults, Gives, Outcome, operated, outcome, IsActorOn, IsFaulty, IsOnReference, instant_at, AtLimit, Goes, Stopped, carried, item_of, received, turn, turn_at, turn_by, turn_of_op, turn_with, Event, Act, Look, CodeView, NamesWithin, IsAccepted, PlanView, Step, StepKind, Do, Send, Receive, Report, Collect, Commit, Op, step_names, IsPast, IsSound, IsSoundActor}
+use Rattle.sig_schedules.proofs.Common.{◌≡◌, ◌<◌, ◌≤◌, ◌++◌, ◌⊎◌, inl, inr, ℕ, ℤ, Bool, true, false, cond, List, [], ◌∷◌, length, set, refl, ap, sym, subst, ◌∙◌, arith, None, Option, Some, nat_lt, slice_get, ltb-false, Instant, Trace, seen_at, OpId, Place, AreFlowsFor, at_most_or, Actor, code_of, ended_at, guard_holds, moved_on, next_place, Core, Given, acted, is_before, items_on, lesser, looked, stepped, take_first, turned, with_actor, with_items, word_before, Faults, Gives, Outcome, operated, outcome, IsActorOn, IsFaulty, IsOnReference, instant_at, AtLimit, Goes, Stopped, carried, item_of, received, turn, turn_at, turn_by, turn_of_op, turn_with, Event, Act, Look, CodeView, NamesWithin, IsAccepted, PlanView, Step, StepKind, Do, Send, Receive, Report, Collect, Commit, Op, step_names, IsPast, IsSound, IsSoundActor, slice_get_within, some_at, cases_eq}
 use Rattle.sig_schedules.proofs.Amid.{guard_known}
 use Rattle.sig_schedules.proofs.Faultless.{done_fault, fault_here, passed_fault}
 use Rattle.sig_schedules.proofs.Lists.{put_elsewhere, put_here, set_get}
@@ -30,7 +30,7 @@ module _ (given : Given) (accepted : IsAccepted given.plan) (fit : AreFlowsFor g
   sound_with after next is one word = record {
     actors = λ m b at.
         let s = set_get core.actors k next m b (subst (λ (xs : List Actor). slice_get xs m ≡ Some b) is at) in
-        subst (IsSoundActor plan given.flows reference (code_of plan m)) (sym s.2) (elim (same_or_not m k) [
+        subst (IsSoundActor plan given.flows reference (code_of plan m)) (sym s.2) (elim (cases_eq m k) [
           | inl same ↦ subst (IsSoundActor plan given.flows reference (code_of plan m)) (sym (put_here k next m s.0 same)) (subst (λ n. IsSoundActor plan given.flows reference (code_of plan n) next) (sym same) one)
           | inr apart ↦ subst (IsSoundActor plan given.flows reference (code_of plan m)) (sym (put_elsewhere k next m s.0 apart)) (sound.actors m s.0 s.1)
         ]);
@@ -78,7 +78,7 @@ module _ (given : Given) (accepted : IsAccepted given.plan) (fit : AreFlowsFor g
         ])
 
     moved_sound : (b : Actor) → b.instant ≡ actor.instant → b.step ≡ actor.step → NoFault → IsSoundActor plan given.flows reference code (moved_on (length code.steps) b)
-    moved_sound b same_instant same_step none i s other o at_other kind past faulty = elim (past_or_here b same_instant same_step i s (get_within code.steps s other at_other) past) [
+    moved_sound b same_instant same_step none i s other o at_other kind past faulty = elim (past_or_here b same_instant same_step i s (slice_get_within code.steps s other at_other) past) [
       | inl before ↦ mine i s other o at_other kind before faulty
       | inr here ↦
           let e : Some other ≡ Some step = sym at_other ∙ ap (slice_get code.steps) here.1 ∙ at_s in

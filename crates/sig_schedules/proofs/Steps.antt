@@ -1,5 +1,5 @@
 -- The steps of an actor's code, and what they are for.
-use Rattle.sig_schedules.proofs.Common.{◌≡◌, ◌<◌, ◌*◌, ◌⊎◌, inl, inr, ℕ, Bool, List, length, refl, ap, sym, subst, ◌∙◌, arith, Contains, Some, slice_get, cases_order, OpId, at_contained, contains_at, some_at, got, Registers, guard_holds, slot_holds, truths_of, CodeView, Instruction, instructions_of, IsFor, StandsAt, does, sends, receives, reports, collects, commits, Operation, operation_in, operations_in, Precedes, IsAccepted, PlanView, numbers_of, Slot, Step, Do, Send, Receive, Report, Collect, Commit, Op, instruction_for, get_map, step_instruction, stands_once, positions_rise}
+use Rattle.sig_schedules.proofs.Common.{◌≡◌, ◌<◌, ◌*◌, ◌⊎◌, inl, inr, ℕ, Bool, List, length, refl, ap, sym, subst, ◌∙◌, arith, Contains, Some, slice_get, cases_order, OpId, Registers, guard_holds, slot_holds, truths_of, CodeView, Instruction, instructions_of, IsFor, StandsAt, does, sends, receives, reports, collects, commits, Operation, operation_in, operations_in, Precedes, IsAccepted, PlanView, numbers_of, Slot, Step, Do, Send, Receive, Report, Collect, Commit, Op, instruction_for, step_instruction, stands_once, positions_rise, at_contained, contains_at, get_map, got, some_at}
 use Rattle.sig_schedules.proofs.Ranks.{instruction_once}
 
 do_same : (a b : OpId) → Do a ≡ Do b → a.0 ≡ b.0

@@ -1,5 +1,5 @@
 -- The memory of a delay is stored into by one operation, of the cluster of the delay's signal.
-use Rattle.sig_schedules.proofs.Common.{◌≡◌, ◌<◌, ◌≤◌, ◌+◌, ◌++◌, inl, inr, ℕ, zero, suc, ℤ, Bool, true, false, List, [], ◌∷◌, map, refl, ap, sym, ◌∙◌, arith, Contains, All, Some, slice_get, ◌==◌, range_with_len, eq-eqb, ne_eqb, All-cons, All-contains, All-nil, EqId, SigId, signal_id, Equation, Form, Fun, Delay, When, WhenConst, Default, Sync, Kernel, same_or_not, form_for, has_form, Operation, Presence, cluster_at, equation_id, of_each, operations_of, read_of, signals_of, store_of, stores_of, without, writes_of, writing, OpKind, Read, Compute, Left, Right, DelayRead, Store, one_of, one_place, tally, tally_append, tally_cons, tally_none, each_operation, only}
+use Rattle.sig_schedules.proofs.Common.{◌≡◌, ◌<◌, ◌≤◌, ◌+◌, ◌++◌, inl, inr, ℕ, zero, suc, ℤ, Bool, true, false, List, [], ◌∷◌, map, refl, ap, sym, ◌∙◌, arith, Contains, All, Some, slice_get, ◌==◌, range_with_len, eq-eqb, ne_eqb, All-cons, All-contains, All-nil, EqId, SigId, signal_id, Equation, Form, Fun, Delay, When, WhenConst, Default, Sync, Kernel, form_for, has_form, Operation, Presence, cluster_at, equation_id, of_each, operations_of, read_of, signals_of, store_of, stores_of, without, writes_of, writing, OpKind, Read, Compute, Left, Right, DelayRead, Store, one_of, one_place, tally, tally_append, tally_cons, tally_none, each_operation, only, cases_eq}
 use Rattle.sig_kernel.specs.declared.equation.Form.TheVariants.{Event}
 
 -- an operation stores into the memory of the delay of a number
@@ -73,7 +73,7 @@ module _ (kernel : Kernel) (presence : Presence) (m : ℕ) where
       let both = tally_append stores (stores_of kernel.signals presence (equation_id n) equation.form) (of_each (stores_of kernel.signals presence) (n + 1) equations) in
       let first = stored_by n equation.form in
       let rest = all_stored (n + 1) equations in (
-        elim (same_or_not n m) [
+        elim (cases_eq n m) [
           | inl same ↦ omega (arith, both, first.0, rest.1 (omega (arith, same)))
           | inr apart ↦ omega (arith, both, first.1 apart, rest.0)
         ],

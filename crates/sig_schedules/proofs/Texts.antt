@@ -1,6 +1,5 @@
 -- The text that is committed begins that of the reference.
-use Rattle.sig_schedules.proofs.Common.{◌≡◌, ◌-◌, ◌++◌, [], ◌∷◌, length, map, take, drop, refl, ap, sym, ◌∙◌, arith, Some, slice_get, range_with_len, length-drop, length-take, take-append-drop, Instant, IsPrefixOf, Trace, seen_at, dropped_at, same_lines, instant_text, output_text, outputs_of, seen_lines, IsValid, Kernel, some_at, Actor, Core, Given, reactions_text, IsOnReference, reactions_of, reaction_in, IsAccepted}
-use Rattle.sig_schedules.proofs.Lists.{joined_append}
+use Rattle.sig_schedules.proofs.Common.{◌≡◌, ◌-◌, ◌++◌, [], ◌∷◌, length, map, take, drop, refl, ap, sym, ◌∙◌, arith, Some, slice_get, range_with_len, length-drop, length-take, take-append-drop, Instant, IsPrefixOf, Trace, seen_at, dropped_at, same_lines, instant_text, output_text, outputs_of, seen_lines, IsValid, Kernel, Actor, Core, Given, reactions_text, IsOnReference, reactions_of, reaction_in, IsAccepted, some_at, flat_map-append}
 
 module _ (kernel : Kernel) (valid : IsValid kernel) where
   lines_are : (instant : Instant) → seen_lines (outputs_of kernel) (reaction_in kernel (seen_at instant)) ≡ instant_text kernel instant
@@ -26,6 +25,6 @@ module _ (given : Given) (accepted : IsAccepted given.plan) (reference : Trace) 
       let collector = some_at core.actors (length given.plan.codes - 1) (omega (arith, actors, count)) in
       let n = collector.0.instant - 1 in (
         output_text given.plan.kernel (drop n reference),
-        ap (output_text given.plan.kernel) (sym (take-append-drop n reference)) ∙ joined_append (λ instant. instant_text given.plan.kernel instant) (take n reference) (drop n reference)
+        ap (output_text given.plan.kernel) (sym (take-append-drop n reference)) ∙ flat_map-append (λ instant. instant_text given.plan.kernel instant) (take n reference) (drop n reference)
             ∙ ap (λ text. text ++ output_text given.plan.kernel (drop n reference)) (sym (committed_text collector.0 collector.1)),
       )

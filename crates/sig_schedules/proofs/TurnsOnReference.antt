@@ -1,5 +1,5 @@
 -- A state stays on the reference where an actor ends, or goes on.
-use Rattle.sig_schedules.proofs.Common.{◌≡◌, ◌<◌, ◌≤◌, ◌-◌, ◌+◌, ◌++◌, inl, inr, ℕ, suc, ℤ, true, false, List, [], ◌∷◌, length, get_or, set, take, refl, ap, sym, subst, ◌∙◌, arith, None, Option, Some, option_to_list, slice_get, append_assoc, get_or-set_other, get_or-set_same, length-append, length-set, map_push, Instant, Trace, seen_at, Place, get_within, AreFlowsFor, same_or_not, Actor, code_of, ended_at, moved_on, next_place, Core, Given, items_on, lesser, with_actor, with_items, HasReason, IsActorOn, IsFaulty, IsLinkOn, IsOnReference, IsWordOn, Yield, instant_at, reactions_of, sent_on, taken_from, yielded_before, Reaction, reaction_in, CodeView, IsAccepted, PlanView, Step, LinkInfo}
+use Rattle.sig_schedules.proofs.Common.{◌≡◌, ◌<◌, ◌≤◌, ◌-◌, ◌+◌, ◌++◌, inl, inr, ℕ, suc, ℤ, true, false, List, [], ◌∷◌, length, get_or, set, take, refl, ap, sym, subst, ◌∙◌, arith, None, Option, Some, option_to_list, slice_get, append_assoc, get_or-set_other, get_or-set_same, length-append, length-set, map_push, Instant, Trace, seen_at, Place, AreFlowsFor, Actor, code_of, ended_at, moved_on, next_place, Core, Given, items_on, lesser, with_actor, with_items, HasReason, IsActorOn, IsFaulty, IsLinkOn, IsOnReference, IsWordOn, Yield, instant_at, reactions_of, sent_on, taken_from, yielded_before, Reaction, reaction_in, CodeView, IsAccepted, PlanView, Step, LinkInfo, slice_get_within, cases_eq}
 use Rattle.sig_schedules.proofs.ChangedStates.{IsChange, changed_on, commits_stay, same_actor, yields, yields_grow, yields_stay}
 use Rattle.sig_schedules.proofs.Coded.{actor_coded}
 use Rattle.sig_schedules.proofs.NextOnReference.{behind_is, behind_same}
@@ -20,7 +20,7 @@ module _ (given : Given) (accepted : IsAccepted given.plan) (fit : AreFlowsFor g
   last = length plan.codes - 1
 
   pub coded : slice_get plan.codes k ≡ Some code
-  coded = let count = on.actors in actor_coded plan k (omega (arith, get_within core.actors k actor at_k, count))
+  coded = let count = on.actors in actor_coded plan k (omega (arith, slice_get_within core.actors k actor at_k, count))
 
   pub actor_on : IsActorOn plan reference code actor
   actor_on = on.each k actor at_k
@@ -92,9 +92,6 @@ module _ (given : Given) (accepted : IsAccepted given.plan) (fit : AreFlowsFor g
     outside : suc actor.step ≡ length code.steps → next.instant ≡ actor.instant + 1
     outside e = moved_cases (λ m. m.instant ≡ b.instant + 1) (length code.steps) b (λ less. absurd (omega (arith, less, e, same_step))) (λ over. refl) ∙ ap (λ n. n + 1) same_instant
 
-    abbrev IsNextChange : List (List ℤ) → List Reaction → Type 0
-    IsNextChange links committed = IsChange given reference core on k actor at_k next links core.word committed
-
     -- what is common to all that go on
     next_change : (links : List (List ℤ)) (committed : List Reaction) → length links ≡ length core.links
         → ((j : ℕ) (link : LinkInfo) (writer reader : Actor) → slice_get plan.links j ≡ Some link → slice_get core.actors link.writer ≡ Some writer → slice_get core.actors link.reader ≡ Some reader
@@ -148,7 +145,7 @@ module _ (given : Given) (accepted : IsAccepted given.plan) (fit : AreFlowsFor g
 
     module _ (l : ℕ) (info : LinkInfo) (at_l : slice_get plan.links l ≡ Some info) (inner : k ≡ last → actor.step + 1 < length code.steps) where
       within_links : l < length core.links
-      within_links = let count = on.links in omega (arith, get_within plan.links l info at_l, count)
+      within_links = let count = on.links in omega (arith, slice_get_within plan.links l info at_l, count)
 
       same_info : (j : ℕ) (link : LinkInfo) → slice_get plan.links j ≡ Some link → j ≡ l → link ≡ info
       same_info j link at same = let e : Some link ≡ Some info = sym at ∙ ap (slice_get plan.links) same ∙ at_l in cc
@@ -164,7 +161,7 @@ module _ (given : Given) (accepted : IsAccepted given.plan) (fit : AreFlowsFor g
           → ((j : ℕ) → (j ≡ l → ⊥) → chosen (sent_on plan.links j) ≡ None) → ((j : ℕ) → (j ≡ l → ⊥) → chosen (taken_from plan.links j) ≡ None)
           → IsOnReference given reference (with_items l items (with_actor k next core))
       with_link items few here others_sent others_taken = next_change (set core.links l items) core.committed (length-set core.links l items)
-          (λ j link w r at at_w at_r. elim (same_or_not j l) [
+          (λ j link w r at at_w at_r. elim (cases_eq j l) [
             | inl same ↦
                 let one = same_info j link at same in
                 subst (IsLinkOn plan reference j link (put k next link.writer w) (put k next link.reader r)) (sym (new_items items j same))
@@ -174,7 +171,7 @@ module _ (given : Given) (accepted : IsAccepted given.plan) (fit : AreFlowsFor g
                 subst (IsLinkOn plan reference j link (put k next link.writer w) (put k next link.reader r)) (sym (old_items items j apart))
                 (quiet_link j link w r at at_w at_r (others_sent j apart) (others_taken j apart))
           ])
-          (λ j lt. elim (same_or_not j l) [
+          (λ j lt. elim (cases_eq j l) [
             | inl same ↦ subst (λ (xs : List ℤ). length xs ≤ given.capacity) (sym (new_items items j same)) few
             | inr apart ↦ subst (λ (xs : List ℤ). length xs ≤ given.capacity) (sym (old_items items j apart)) (on.room j lt)
           ])

@@ -1,10 +1,9 @@
 -- An actor that cannot go on waits for room on a link, or for an item.
-use Rattle.sig_schedules.proofs.Common.{◌≡◌, ◌<◌, ◌≤◌, ◌+◌, ◌++◌, ◌⊎◌, inl, inr, ℕ, ℤ, pos, Bool, true, false, cond, List, [], ◌∷◌, length, set, refl, ap, sym, subst, ◌∙◌, arith, None, Option, Some, nat_lt, slice_get, eq-eqb, ltb-false, length-append, Instant, Trace, seen_at, AreFlowsFor, some_at, at_most_or, Actor, code_of, ended_at, guard_holds, moved_on, Core, Given, items_on, take_first, turned, with_actor, with_items, Faults, Gives, Outcome, operated, outcome, IsActorOn, IsOnReference, Yield, instant_at, sent_on, taken_from, yielded_before, AtLimit, Goes, Stopped, carried, item_of, received, turn, turn_at, turn_by, turn_of_op, turn_with, CodeView, NamesWithin, IsAccepted, PlanView, Step, StepKind, Do, Send, Receive, Report, Collect, Commit, Op, LinkInfo, step_names}
+use Rattle.sig_schedules.proofs.Common.{◌≡◌, ◌<◌, ◌≤◌, ◌+◌, ◌++◌, ◌⊎◌, inl, inr, ℕ, ℤ, pos, Bool, true, false, cond, List, [], ◌∷◌, length, set, refl, ap, sym, subst, ◌∙◌, arith, None, Option, Some, nat_lt, slice_get, eq-eqb, ltb-false, length-append, Instant, Trace, seen_at, AreFlowsFor, at_most_or, Actor, code_of, ended_at, guard_holds, moved_on, Core, Given, items_on, take_first, turned, with_actor, with_items, Faults, Gives, Outcome, operated, outcome, IsActorOn, IsOnReference, Yield, instant_at, sent_on, taken_from, yielded_before, AtLimit, Goes, Stopped, carried, item_of, received, turn, turn_at, turn_by, turn_of_op, turn_with, CodeView, NamesWithin, IsAccepted, PlanView, Step, StepKind, Do, Send, Receive, Report, Collect, Commit, Op, LinkInfo, step_names, some_at, set_here}
 use Rattle.sig_schedules.proofs.Amid.{guard_known}
 use Rattle.sig_schedules.proofs.Counts.{all_given, carried_next, carried_rises, counted, given_behind, none_before}
 use Rattle.sig_schedules.proofs.NextOnReference.{done_chosen}
 use Rattle.sig_schedules.proofs.EndsOfLinks.{reader_end, writer_end}
-use Rattle.sig_schedules.proofs.Lists.{set_here}
 use Rattle.sig_schedules.proofs.Moved.{chosen_of, moved_cases}
 use Rattle.sig_schedules.proofs.TurnsOnReference.{actor_on, coded}
 

@@ -1,5 +1,5 @@
 -- The failure word only becomes less.
-use Rattle.sig_schedules.proofs.Common.{◌≡◌, ◌<◌, ◌≤◌, ◌⊎◌, inl, inr, Bool, true, false, not, cond, refl, ap, sym, ◌∙◌, arith, None, Option, Some, nat_lt, ◌==◌, ◌&&◌, and_from, and_parts, cases_lt, cases_order, eq-eqb, eqb-true, false_from_ne_true, lt-ltb, ltb-true, or_cases, or_left, or_right, Trace, Place, Actor, next_place, Given, is_before, lesser, word_before, HasReason, IsFaulty, IsWordOn, reached_by, CodeView}
+use Rattle.sig_schedules.proofs.Common.{◌≡◌, ◌<◌, ◌≤◌, ◌⊎◌, inl, inr, Bool, true, false, not, cond, refl, ap, sym, ◌∙◌, arith, None, Option, Some, nat_lt, ◌==◌, ◌&&◌, and_from, and_parts, cases_lt, cases_order, eq-eqb, eqb-true, false_from_ne_true, lt-ltb, ltb-true, or_cases, or_left, or_right, Trace, Place, Actor, next_place, Given, is_before, lesser, word_before, HasReason, IsFaulty, IsWordOn, reached_by, CodeView, not_true}
 
 abbrev Before : Place → Place → Type 0
 Before a b = (a.instant < b.instant) ⊎ ((a.instant ≡ b.instant) × (a.pos < b.pos))
@@ -30,10 +30,6 @@ before_onward a b c one two = from_there a c (onward a b c (is_there a b one) (i
 
 pub not_before_itself : (a : Place) → is_before a a ≡ false
 not_before_itself a = false_from_ne_true (is_before a a) (λ is. never a (is_there a a is))
-
-not_true : (b : Bool) → not b ≡ true → b ≡ false
-not_true true e = absurd (let f : false ≡ true = e in cc)
-not_true false e = refl
 
 -- ---- with a place recorded
 

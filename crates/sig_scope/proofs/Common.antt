@@ -1,11 +1,13 @@
 -- What the proofs of this crate cite of std, of the crates below and of its own specs, passed on from one place.
-pub use Rattle.std.proofs.Common.{Bool, Bor, Contains, Global, IsTrue, List, None, Option, Some, Vec, [], ap, append-nil, append_assoc, arith, bytes_eq, cond, false, find, flat_map, get_or, inl, inr, is_some, length, map, option_map, refl, subst, suc, sym, take, take_all, true, zero, ℕ, ◌++◌, ◌+◌, ◌<◌, ◌↔◌, ◌∙◌, ◌∷◌, ◌≡◌, ◌≤◌, ◌⊎◌}
+pub use Rattle.std.proofs.Common.{Bool, Bor, Contains, Global, IsTrue, List, None, Option, Some, Vec, [], ap, append_assoc, arith, bytes_eq, cond, false, find, flat_map, get_or, inl, inr, is_some, length, map, option_map, refl, subst, suc, sym, take, take_all, true, zero, ℕ, ◌++◌, ◌+◌, ◌<◌, ◌↔◌, ◌∙◌, ◌∷◌, ◌≡◌, ◌⊎◌}
 pub use Rattle.std.proofs.lemmas.List.{get_or_default, length-map, map-append, take_more}
 pub use Rattle.std.proofs.lemmas.List.Concat.{flat_map-append}
-pub use Rattle.std.proofs.lemmas.List.Folds.{flat_map-map}
 pub use Rattle.std.proofs.lemmas.Map.Text.{hash_map_updates_str}
 pub use Rattle.std.proofs.lemmas.Simd.{map-map}
 pub use Rattle.std.proofs.lemmas.Slice.Eq.{bytes_eq-Decides}
+pub use Rattle.sig_lists.proofs.Contained.{contains_later, contains_none}
+pub use Rattle.sig_lists.proofs.Grown.{grown}
+pub use Rattle.sig_lists.proofs.Places.{read_mapped}
 pub use Rattle.sig_tree.specs.Declarations.{Declaration, Input, Local, Output, Parameter, declaration_of, declared_as, equations_in, equations_inside, equations_of_model, inputs_of, locals_of, name_of, outputs_of, params_of, pragmas_of_model, those_inner, with_inner}
 pub use Rattle.sig_tree.specs.Syntax.{ProcessModel, bodies_of, declared_of, equations_of, model_of, models_of, placement_of}
 pub use Rattle.sig_tree.specs.declared.expr.Name.{Name}

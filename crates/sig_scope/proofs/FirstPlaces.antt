@@ -1,5 +1,5 @@
 -- Lemmas on the first place of a text.
-use Rattle.sig_scope.proofs.Common.{◌≡◌, ◌++◌, ◌<◌, ℕ, suc, zero, List, [], ◌∷◌, refl, ap, sym, ◌∙◌, inl, inr, ◌⊎◌, Bool, true, false, cond, IsTrue, Option, None, Some, option_map, map, length, get_or, ◌↔◌, arith, is_some, Contains, find, bytes_eq, bytes_eq-Decides, place_of}
+use Rattle.sig_scope.proofs.Common.{◌≡◌, ◌++◌, ◌<◌, ℕ, suc, zero, List, [], ◌∷◌, refl, ap, sym, ◌∙◌, inl, inr, ◌⊎◌, Bool, true, false, cond, IsTrue, Option, None, Some, option_map, map, length, get_or, ◌↔◌, arith, is_some, Contains, find, bytes_eq, bytes_eq-Decides, place_of, contains_later, contains_none}
 
 is_some_suc : (o : Option ℕ) → is_some (option_map suc o) ≡ is_some o
 is_some_suc None = refl
@@ -9,23 +9,17 @@ contains_at : (x : List ℕ) (xs : List (List ℕ)) (t : List ℕ) (k : ℕ) →
 contains_at x xs t zero h e = inl e
 contains_at x xs t (suc k) h e = inr (k, omega arith, e)
 
-contains_later : (x : List ℕ) (xs : List (List ℕ)) (t : List ℕ) → Contains xs t → Contains (x ∷ xs) t
-contains_later x xs t c = (suc c.0, (let h : c.0 < length xs = c.1 in omega arith), c.2)
-
-none_inside : (t : List ℕ) → Contains [] t → ⊥
-none_inside t c = let h : c.0 < 0 = c.1 in omega arith
-
 found_step : (x : List ℕ) (xs : List (List ℕ)) (t : List ℕ) (b : Bool) → bytes_eq x t ≡ b → (IsTrue (is_some (place_of xs t)) ↔ Contains xs t)
     → IsTrue (is_some (cond b (Some 0) (option_map suc (place_of xs t)))) ↔ Contains (x ∷ xs) t
 found_step x xs t true e rec = (λ _. (0, omega arith, (bytes_eq-Decides x t).0 e), λ _. refl)
 found_step x xs t false e rec = (
-  λ h. contains_later x xs t (rec.0 (sym (is_some_suc (place_of xs t)) ∙ h)),
+  λ h. contains_later x t xs (rec.0 (sym (is_some_suc (place_of xs t)) ∙ h)),
   λ c. is_some_suc (place_of xs t) ∙ rec.1 (elim (contains_at x xs t c.0 c.1 c.2) [ inl s ↦ (let d : bytes_eq x t ≡ true = (bytes_eq-Decides x t).1 s in absurd cc) | inr r ↦ r ]),
 )
 
 -- a text has a place exactly where it is among the texts
 pub place_found : (xs : List (List ℕ)) (t : List ℕ) → IsTrue (is_some (place_of xs t)) ↔ Contains xs t
-place_found [] t = (λ h. absurd cc, λ c. absurd (none_inside t c))
+place_found [] t = (λ h. absurd cc, λ c. absurd (contains_none t c))
 place_found (x ∷ xs) t = found_step x xs t (bytes_eq x t) refl (place_found xs t)
 
 find_step : {A : Type 0} (b : Bool) (o : Option ℕ) (x : A) (xs : List A) (r : Option A) (i : ℕ) (d : A)

@@ -4,7 +4,7 @@ pub mod FirstPlaces
 pub mod Scopes
 pub mod Trees
 unfoldable pub use Common.*
-pub use LongerLists.*
 pub use FirstPlaces.*
+pub use LongerLists.*
 pub use Scopes.*
 pub use Trees.*

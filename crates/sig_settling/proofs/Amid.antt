@@ -1,15 +1,8 @@
 -- A state amid the own steps of its actors, and what one more own step leaves of it.
-use Rattle.sig_settling.proofs.Common.{◌≡◌, ◌<◌, ◌≤◌, ◌+◌, ◌++◌, inl, inr, ℕ, zero, suc, ℤ, true, false, cond, List, [], ◌∷◌, length, get_or, set, refl, ap, sym, subst, ◌∙◌, append_assoc, arith, None, Option, Some, slice_get, eq-eqb, lt-ltb, ne_eqb, get_or-set_other, get_or-set_same, IsPrefixOf, Trace, get_within, AreFlowsFor, same_or_not, Actor, ended_at, with_at, Core, Given, acted, items_on, lesser, take_first, turned, with_actor, with_items, IsOnReference, AtLimit, Commits, Fails, Goes, Puts, Reaction, Stopped, Takes, Turn, turn, IsAccepted, LinkInfo, plan_operations, ends_within, operations_in, set_here, same_next, Grow, HasTurned, IsBehind, IsOwnStep, LeadBy, Own, Stay, UsesNone, AreBalanced, IsLeastFailure, collector_of}
+use Rattle.sig_settling.proofs.Common.{◌≡◌, ◌<◌, ◌≤◌, ◌+◌, ◌++◌, inl, inr, ℕ, ℤ, true, false, cond, List, [], ◌∷◌, length, get_or, set, refl, ap, sym, subst, ◌∙◌, append_assoc, arith, None, Option, Some, slice_get, eq-eqb, lt-ltb, ne_eqb, get_or-set_other, get_or-set_same, IsPrefixOf, Trace, AreFlowsFor, Actor, ended_at, with_at, Core, Given, acted, items_on, lesser, take_first, turned, with_actor, with_items, IsOnReference, AtLimit, Commits, Fails, Goes, Puts, Reaction, Stopped, Takes, Turn, turn, IsAccepted, LinkInfo, plan_operations, ends_within, operations_in, same_next, Grow, HasTurned, IsBehind, IsOwnStep, LeadBy, Own, Stay, UsesNone, AreBalanced, IsLeastFailure, collector_of, get_set_other, set_here, slice_get_within, cases_eq}
 use Rattle.sig_settling.proofs.Failures.{least_lesser, least_same}
 use Rattle.sig_settling.proofs.OwnItems.{lead_begins}
 use Rattle.sig_settling.proofs.Tells.{Tells}
-
-pub set_apart : {A : Type 0} (xs : List A) (k : ℕ) (x : A) (m : ℕ) → ((m ≡ k) → ⊥) → slice_get (set xs k x) m ≡ slice_get xs m
-set_apart {A} [] k x m apart = refl
-set_apart {A} (y ∷ xs) zero x zero apart = absurd (apart refl)
-set_apart {A} (y ∷ xs) zero x (suc m) apart = refl
-set_apart {A} (y ∷ xs) (suc k) x zero apart = refl
-set_apart {A} (y ∷ xs) (suc k) x (suc m) apart = set_apart xs k x m (λ e. apart (ap suc e))
 
 pub at_here : {A : Type 0} (k : ℕ) (x : A) (f : ℕ → A) (m : ℕ) → m ≡ k → with_at k x f m ≡ x
 at_here {A} k x f m same = ap (λ b. cond b x (f m)) (eq-eqb m k same)
@@ -51,7 +44,7 @@ module _ (given : Given) (accepted : IsAccepted given.plan) (fit : AreFlowsFor g
       (omega (arith, ends.0, actors), omega (arith, ends.1, actors))
 
   link_there : (l : ℕ) (info : LinkInfo) → slice_get given.plan.links l ≡ Some info → l < length core.links
-  link_there l info at_l = let count_links = on.links in omega (arith, get_within given.plan.links l info at_l, count_links)
+  link_there l info at_l = let count_links = on.links in omega (arith, slice_get_within given.plan.links l info at_l, count_links)
 
   module _ (k : ℕ) (lt : k < length given.plan.codes) (own : Own) (n : ℕ) (step : IsOwnStep given k (now k) own) (lead : LeadBy given k n own (final k)) (runs : (now k).actor.ended ≡ false) where
     abbrev pub later : ℕ → Own
@@ -65,37 +58,37 @@ module _ (given : Given) (accepted : IsAccepted given.plan) (fit : AreFlowsFor g
 
     -- what each has of a link, where that of the actor k stays
     sent_stays : Stay (now k).sent own.sent → (m j : ℕ) → (later m).sent j ≡ (now m).sent j
-    sent_stays stay m j = elim (same_or_not m k) [
+    sent_stays stay m j = elim (cases_eq m k) [
       | inl same ↦ ap (λ (o : Own). o.sent j) (at_here k own now m same) ∙ stay j ∙ ap (λ i. (now i).sent j) (sym same)
       | inr apart ↦ ap (λ (o : Own). o.sent j) (at_other k own now m apart)
     ]
 
     taken_stays : Stay (now k).taken own.taken → (m j : ℕ) → (later m).taken j ≡ (now m).taken j
-    taken_stays stay m j = elim (same_or_not m k) [
+    taken_stays stay m j = elim (cases_eq m k) [
       | inl same ↦ ap (λ (o : Own). o.taken j) (at_here k own now m same) ∙ stay j ∙ ap (λ i. (now i).taken j) (sym same)
       | inr apart ↦ ap (λ (o : Own). o.taken j) (at_other k own now m apart)
     ]
 
     sent_other : (l : ℕ) (item : ℤ) → Grow l item (now k).sent own.sent → (m j : ℕ) → ((j ≡ l) → ⊥) → (later m).sent j ≡ (now m).sent j
-    sent_other l item grow m j other = elim (same_or_not m k) [
+    sent_other l item grow m j other = elim (cases_eq m k) [
       | inl same ↦ ap (λ (o : Own). o.sent j) (at_here k own now m same) ∙ grow.others j other ∙ ap (λ i. (now i).sent j) (sym same)
       | inr apart ↦ ap (λ (o : Own). o.sent j) (at_other k own now m apart)
     ]
 
     taken_other : (l : ℕ) (item : ℤ) → Grow l item (now k).taken own.taken → (m j : ℕ) → ((j ≡ l) → ⊥) → (later m).taken j ≡ (now m).taken j
-    taken_other l item grow m j other = elim (same_or_not m k) [
+    taken_other l item grow m j other = elim (cases_eq m k) [
       | inl same ↦ ap (λ (o : Own). o.taken j) (at_here k own now m same) ∙ grow.others j other ∙ ap (λ i. (now i).taken j) (sym same)
       | inr apart ↦ ap (λ (o : Own). o.taken j) (at_other k own now m apart)
     ]
 
     failed_stays : own.failed ≡ (now k).failed → (m : ℕ) → (later m).failed ≡ (now m).failed
-    failed_stays stay m = elim (same_or_not m k) [
+    failed_stays stay m = elim (cases_eq m k) [
       | inl same ↦ ap (λ (o : Own). o.failed) (at_here k own now m same) ∙ stay ∙ ap (λ i. (now i).failed) (sym same)
       | inr apart ↦ ap (λ (o : Own). o.failed) (at_other k own now m apart)
     ]
 
     commits_stay : own.committed ≡ (now k).committed → (m : ℕ) → (later m).committed ≡ (now m).committed
-    commits_stay stay m = elim (same_or_not m k) [
+    commits_stay stay m = elim (cases_eq m k) [
       | inl same ↦ ap (λ (o : Own). o.committed) (at_here k own now m same) ∙ stay ∙ ap (λ i. (now i).committed) (sym same)
       | inr apart ↦ ap (λ (o : Own). o.committed) (at_other k own now m apart)
     ]
@@ -116,15 +109,15 @@ module _ (given : Given) (accepted : IsAccepted given.plan) (fit : AreFlowsFor g
     is_next : (next : Core) → next.actors ≡ set core.actors k own.actor → HasItems next → IsLeastFailure (length given.plan.codes) (λ m. (later m).failed) next.word
         → (own.actor.ended ≡ false → own.failed ≡ None) → next.committed ≡ (later last).committed → IsNext next
     is_next next actors items word quiet committed = record {
-      actors = λ m within. elim (same_or_not m k) [
+      actors = λ m within. elim (cases_eq m k) [
         | inl same ↦
             ap (λ (xs : List Actor). slice_get xs m) actors ∙ ap (slice_get (set core.actors k own.actor)) same
             ∙ set_here core.actors k own.actor (now k).actor (amid.actors k lt) ∙ ap (λ (o : Own). Some o.actor) (sym (at_here k own now m same))
         | inr apart ↦
-            ap (λ (xs : List Actor). slice_get xs m) actors ∙ set_apart core.actors k own.actor m apart ∙ amid.actors m within
+            ap (λ (xs : List Actor). slice_get xs m) actors ∙ get_set_other core.actors k m own.actor apart ∙ amid.actors m within
             ∙ ap (λ (o : Own). Some o.actor) (sym (at_other k own now m apart))
       ];
-      lead = λ m within. elim (same_or_not m k) [
+      lead = λ m within. elim (cases_eq m k) [
         | inl same ↦
             subst (λ (o : Own). LeadBy given m (less m) o (final m)) (sym (at_here k own now m same))
             (subst (λ i. LeadBy given m i own (final m)) (sym (at_here k n more m same)) (subst (λ i. LeadBy given i n own (final i)) (sym same) lead))
@@ -134,7 +127,7 @@ module _ (given : Given) (accepted : IsAccepted given.plan) (fit : AreFlowsFor g
       ];
       items = items;
       word = word;
-      quiet = λ m within. elim (same_or_not m k) [
+      quiet = λ m within. elim (cases_eq m k) [
         | inl same ↦ subst (λ (o : Own). o.actor.ended ≡ false → o.failed ≡ None) (sym (at_here k own now m same)) quiet
         | inr apart ↦ subst (λ (o : Own). o.actor.ended ≡ false → o.failed ≡ None) (sym (at_other k own now m apart)) (amid.quiet m within)
       ];
@@ -164,7 +157,7 @@ module _ (given : Given) (accepted : IsAccepted given.plan) (fit : AreFlowsFor g
       items_by : (items : List ℤ) (actor : Actor) → (later info.writer).sent l ≡ (later info.reader).taken l ++ items
           → ((m j : ℕ) → ((j ≡ l) → ⊥) → (later m).sent j ≡ (now m).sent j) → ((m j : ℕ) → ((j ≡ l) → ⊥) → (later m).taken j ≡ (now m).taken j)
           → HasItems (with_items l items (with_actor k actor core))
-      items_by items actor here sent taken j link at = elim (same_or_not j l) [
+      items_by items actor here sent taken j link at = elim (cases_eq j l) [
         | inl same ↦
             let one = same_info j link at same in
             let kept : get_or (set core.links l items) j [] ≡ items = ap (λ i. get_or (set core.links l items) i []) same ∙ get_or-set_same core.links l items [] (link_there l info at_l) in

@@ -1,15 +1,16 @@
 -- What the proofs of this crate cite of std, of the crates below and of its own specs, passed on from one place.
-pub use Rattle.std.proofs.Common.{Bool, List, None, Option, Some, [], ap, append-nil, append_assoc, arith, cond, count_by, eq-eqb, ext_get_or, false, fold, get_or, get_or-set_other, get_or-set_same, inl, inr, length, length-append, length-set, lt-ltb, ltb-false, nat_lt, ne_eqb, not, pos, refl, replicate, set, slice_get, subst, suc, sym, true, zero, ℕ, ℤ, ◌==◌, ◌*◌, ◌++◌, ◌+◌, ◌-◌, ◌<◌, ◌∙◌, ◌∷◌, ◌≡◌, ◌≤◌, ◌⊎◌}
+pub use Rattle.std.proofs.Common.{Bool, List, None, Option, Some, [], ap, append-nil, append_assoc, arith, cond, eq-eqb, ext_get_or, false, fold, get_or, get_or-set_other, get_or-set_same, inl, inr, length, length-append, length-set, lt-ltb, ltb-false, nat_lt, ne_eqb, not, pos, refl, replicate, set, slice_get, subst, suc, sym, true, zero, ℕ, ℤ, ◌*◌, ◌++◌, ◌+◌, ◌-◌, ◌<◌, ◌==◌, ◌∙◌, ◌∷◌, ◌≡◌, ◌≤◌, ◌⊎◌}
+pub use Rattle.std.proofs.lemmas.Bool.{cases_Bool}
 pub use Rattle.std.proofs.lemmas.List.Sums.{fold-append, sum_by-cons}
+pub use Rattle.sig_lists.proofs.SetItems.{get_set_other}
 pub use Rattle.sig_schedules.proofs.Amid.{guard_known}
 pub use Rattle.sig_schedules.proofs.CollectorCommits.{commits_alone}
-pub use Rattle.sig_schedules.proofs.Common.{Act, Actor, AllChange, AreFlowsFor, AtLimit, CodeView, Collect, Commit, Commits, Core, Do, Event, Fails, Faults, Given, Gives, Goes, Instant, Instruction, IsAccepted, IsActorOn, IsEnabled, IsFinished, IsFor, IsOnReference, IsPrefixOf, IsReference, LinkInfo, Look, NamesWithin, Op, Operation, Outcome, Place, PlanView, Puts, Reaction, Receive, Report, Send, StandsAt, Step, StepKind, Stopped, Takes, Trace, Turn, Yield, acted, after, append_cancel_left, carried, cases_lt, code_of, collects, commits, does, ended_at, ends_within, false_from_ne_true, fitting, get_at, get_within, guard_holds, instant_at, instructions_of, is_before, item_of, items_on, length-replicate, lesser, looked, moved_on, next_place, numbers_of, opening, opening_actor, operated, operations_in, outcome, plan_operations, position_of, positions_rise, received, receives, reports, same_or_not, seen_at, sends, sent_on, some_at, some_reference, step_names, stepped, take_first, taken_from, turn, turn_at, turn_by, turn_of_op, turn_with, turned, with_actor, with_at, with_items, word_before}
-pub use Rattle.sig_schedules.proofs.NextOnReference.{done_chosen}
-pub use Rattle.sig_schedules.proofs.EventsOnReference.{reader_is, stepped_on, writer_is}
+pub use Rattle.sig_schedules.proofs.Common.{Act, Actor, AllChange, AreFlowsFor, AtLimit, CodeView, Collect, Commit, Commits, Core, Do, Event, Fails, Faults, Given, Gives, Goes, Instant, Instruction, IsAccepted, IsActorOn, IsEnabled, IsFinished, IsFor, IsOnReference, IsPrefixOf, IsReference, LinkInfo, Look, NamesWithin, Op, Operation, Outcome, Place, PlanView, Puts, Reaction, Receive, Report, Send, StandsAt, Step, StepKind, Stopped, Takes, Trace, Turn, Yield, acted, after, append_cancel_left, both_ways, carried, cases_eq, cases_lt, code_of, collects, commits, does, ended_at, ends_within, false_from_ne_true, fitting, guard_holds, instant_at, instructions_of, is_before, item_of, items_on, length-replicate, lesser, looked, moved_on, next_place, numbers_of, opening, opening_actor, operated, operations_in, outcome, plan_operations, position_of, positions_rise, received, receives, repeated, reports, seen_at, sends, sent_on, set_here, slice_get-get_or, slice_get_within, some_at, some_reference, step_names, stepped, take_first, taken_from, turn, turn_at, turn_by, turn_of_op, turn_with, turned, with_actor, with_at, with_items, word_before}
 pub use Rattle.sig_schedules.proofs.EndsOfLinks.{reader_end}
-pub use Rattle.sig_schedules.proofs.Lists.{set_here}
+pub use Rattle.sig_schedules.proofs.EventsOnReference.{reader_is, stepped_on, writer_is}
 pub use Rattle.sig_schedules.proofs.Moved.{chosen_of, moved_cases}
-pub use Rattle.sig_schedules.proofs.Opening.{opening_on, repeated}
+pub use Rattle.sig_schedules.proofs.NextOnReference.{done_chosen}
+pub use Rattle.sig_schedules.proofs.Opening.{opening_on}
 pub use Rattle.sig_schedules.proofs.Prefixes.{same_next}
 pub use Rattle.sig_schedules.proofs.SentItems.{IsSending, sends_item, sends_report}
 pub use Rattle.sig_schedules.proofs.Steps.{DoesStep, step_does}

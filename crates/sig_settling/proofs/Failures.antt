@@ -1,18 +1,11 @@
 -- The least of the places at which actors failed.
-use Rattle.sig_settling.proofs.Common.{◌≡◌, ◌<◌, ◌⊎◌, inl, inr, ℕ, Bool, true, false, not, cond, refl, ap, sym, subst, ◌∙◌, None, Option, Some, Place, same_or_not, is_before, lesser, NotAfter, before_onward, not_before_itself, reached_not_after, same_places, IsLeastFailure}
-
-both_ways : (b : Bool) → b ≡ true → b ≡ false → ⊥
-both_ways b one two = let clash : true ≡ false = sym one ∙ two in cc
+use Rattle.sig_settling.proofs.Common.{◌≡◌, ◌<◌, inl, inr, ℕ, Bool, true, false, not, cond, refl, ap, sym, subst, ◌∙◌, None, Option, Some, Place, is_before, lesser, NotAfter, before_onward, not_before_itself, reached_not_after, same_places, IsLeastFailure, both_ways, cases_Bool, cases_eq}
 
 no_place : {A : Type 0} (p : Place) → None ≡ Some p → A
 no_place {A} p is = absurd (let e : None ≡ Some p = is in cc)
 
 same_place : (p q : Place) → Some p ≡ Some q → p ≡ q
 same_place p q is = let e : Some p ≡ Some q = is in cc
-
-false_or_true : (b : Bool) → (b ≡ true) ⊎ (b ≡ false)
-false_or_true true = inl refl
-false_or_true false = inr refl
 
 module _ (count : ℕ) where
   -- of failures that are the same the least is the same
@@ -28,7 +21,7 @@ module _ (count : ℕ) where
     first_failure : ((m : ℕ) → m < count → f m ≡ None) → IsLeastFailure count g (Some place)
     first_failure all = (
       (k, lt, here),
-      λ m p within is. elim (same_or_not m k) [
+      λ m p within is. elim (cases_eq m k) [
         | inl same ↦ subst (λ (q : Place). is_before q place ≡ false) (same_place place p (sym here ∙ ap g (sym same) ∙ is)) (not_before_itself place)
         | inr apart ↦ no_place p (sym (all m within) ∙ sym (others m apart) ∙ is)
       ],
@@ -37,9 +30,9 @@ module _ (count : ℕ) where
     further : (word : Place) → IsLeastFailure count f (Some word) → (b : Bool) → is_before place word ≡ b → IsLeastFailure count g (Some (cond b place word))
     further word least true before = (
       (k, lt, here),
-      λ m p within is. elim (same_or_not m k) [
+      λ m p within is. elim (cases_eq m k) [
         | inl same ↦ subst (λ (q : Place). is_before q place ≡ false) (same_place place p (sym here ∙ ap g (sym same) ∙ is)) (not_before_itself place)
-        | inr apart ↦ elim (false_or_true (is_before p place)) [
+        | inr apart ↦ elim (cases_Bool (is_before p place)) [
           | inl less ↦ absurd (both_ways (is_before p word) (before_onward p place word less before) (least.1 m p within (sym (others m apart) ∙ is)))
           | inr more ↦ more
         ]
@@ -49,12 +42,12 @@ module _ (count : ℕ) where
       (
         least.0.0,
         least.0.1,
-        elim (same_or_not least.0.0 k) [
+        elim (cases_eq least.0.0 k) [
           | inl same ↦ no_place word (sym none ∙ ap f (sym same) ∙ least.0.2)
           | inr apart ↦ others least.0.0 apart ∙ least.0.2
         ],
       ),
-      λ m p within is. elim (same_or_not m k) [
+      λ m p within is. elim (cases_eq m k) [
         | inl same ↦ subst (λ (q : Place). is_before q word ≡ false) (same_place place p (sym here ∙ ap g (sym same) ∙ is)) not_before
         | inr apart ↦ least.1 m p within (sym (others m apart) ∙ is)
       ],

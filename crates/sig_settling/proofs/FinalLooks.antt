@@ -1,7 +1,6 @@
 -- Those actors look at the word that a look ended: then all have ended.
-use Rattle.sig_settling.proofs.Common.{◌≡◌, ◌<◌, ◌≤◌, ◌++◌, inl, inr, ℕ, zero, suc, ℤ, Bool, true, false, cond, List, [], ◌∷◌, length, get_or, refl, ap, sym, subst, ◌∙◌, arith, Option, Some, fold, slice_get, length-set, fold-append, Place, get_at, AreFlowsFor, some_at, same_or_not, Actor, code_of, ended_at, next_place, AllChange, Core, Given, IsEnabled, IsFinished, after, looked, opening, stepped, with_actor, word_before, Event, Look, IsAccepted, set_here, Own, AreBalanced, ActInOrder, AreSettled, HasActed, HasEndedBy, LookBehind, acts, acts_then_looks, collector_of, looks}
+use Rattle.sig_settling.proofs.Common.{◌≡◌, ◌<◌, ◌≤◌, ◌++◌, inl, inr, ℕ, zero, suc, ℤ, Bool, true, false, cond, List, [], ◌∷◌, length, get_or, refl, ap, sym, subst, ◌∙◌, arith, Option, Some, fold, slice_get, length-set, fold-append, Place, AreFlowsFor, Actor, code_of, ended_at, next_place, AllChange, Core, Given, IsEnabled, IsFinished, after, looked, opening, stepped, with_actor, word_before, Event, Look, IsAccepted, Own, AreBalanced, ActInOrder, AreSettled, HasActed, HasEndedBy, LookBehind, acts, acts_then_looks, collector_of, looks, slice_get-get_or, some_at, cases_eq, get_set_other, set_here}
 use Rattle.sig_settling.proofs.OwnStepsDone.{own_acted}
-use Rattle.sig_settling.proofs.Amid.{set_apart}
 use Rattle.sig_settling.proofs.Failures.{one_least}
 
 same_list : {A : Type 0} (xs ys : List A) → length xs ≡ length ys → ((k : ℕ) → k < length ys → slice_get xs k ≡ slice_get ys k) → xs ≡ ys
@@ -57,7 +56,7 @@ module _ (given : Given) (own : ℕ → Own) (links : List (List ℤ)) (word : O
       links_stay = have.links_stay;
       word_stays = have.word_stays;
       commits_stay = have.commits_stay;
-      behind = λ k below. elim (same_or_not k n) [ inl is ↦ subst (λ i. slice_get core.actors i ≡ slice_get actors i) (sym is) same | inr apart ↦ have.behind k (omega (arith, below, apart)) ];
+      behind = λ k below. elim (cases_eq k n) [ inl is ↦ subst (λ i. slice_get core.actors i ≡ slice_get actors i) (sym is) same | inr apart ↦ have.behind k (omega (arith, below, apart)) ];
       before = λ k above. have.before k (omega (arith, above));
     }
 
@@ -67,11 +66,11 @@ module _ (given : Given) (own : ℕ → Own) (links : List (List ℤ)) (word : O
       links_stay = have.links_stay;
       word_stays = have.word_stays;
       commits_stay = have.commits_stay;
-      behind = λ k below. elim (same_or_not k n) [
+      behind = λ k below. elim (cases_eq k n) [
         | inl same ↦ subst (λ i. slice_get (with_actor n a core).actors i ≡ slice_get actors i) (sym same) (set_here core.actors n a (own n).actor mine ∙ sym is)
-        | inr apart ↦ set_apart core.actors n a k apart ∙ have.behind k (omega (arith, below, apart))
+        | inr apart ↦ get_set_other core.actors n k a apart ∙ have.behind k (omega (arith, below, apart))
       ];
-      before = λ k above. set_apart core.actors n a k (λ e. omega (arith, e, above)) ∙ have.before k (omega (arith, above));
+      before = λ k above. get_set_other core.actors n k a (λ e. omega (arith, e, above)) ∙ have.before k (omega (arith, above));
     }
 
     -- what the looks of this actor leave, if it has one
@@ -149,7 +148,7 @@ module _ (given : Given) (own : ℕ → Own) (links : List (List ℤ)) (word : O
   ended_by k a (inr look) = ap (λ (b : Actor). b.ended) look.2
 
   pub all_ended : IsFinished whole
-  all_ended = λ k a lt. ended_by k (get_or actors k a) (settled.each k (get_or actors k a) (get_at actors k a lt))
+  all_ended = λ k a lt. ended_by k (get_or actors k a) (settled.each k (get_or actors k a) (slice_get-get_or actors k a lt))
 
 -- the steps of actors in order, and then the looks
 pub acted_then_looked : (given : Given) → IsAccepted given.plan → AreFlowsFor given.plan.kernel given.flows → 1 ≤ given.capacity

@@ -1,5 +1,5 @@
 -- Of actors that have steps left, one is at a least place.
-use Rattle.sig_settling.proofs.Common.{◌≡◌, ◌<◌, ◌⊎◌, inl, inr, ℕ, zero, suc, refl, ap, sym, subst, ◌∙◌, arith, Place, same_or_not, NotAfter, not_after_onward, total_places}
+use Rattle.sig_settling.proofs.Common.{◌≡◌, ◌<◌, ◌⊎◌, inl, inr, ℕ, zero, suc, refl, ap, sym, subst, ◌∙◌, arith, Place, NotAfter, not_after_onward, total_places, cases_eq}
 
 module _ (place : ℕ → Place) (more : ℕ → ℕ) where
   pub record LeastLeft (n : ℕ) : Type 0 where
@@ -18,7 +18,7 @@ module _ (place : ℕ → Place) (more : ℕ → ℕ) where
     lt = omega arith;
     left = left;
     is = is;
-    least = λ m lt some. elim (same_or_not m n) [
+    least = λ m lt some. elim (cases_eq m n) [
       | inl same ↦ subst (λ i. NotAfter (place n) (place i)) (sym same) (self n)
       | inr apart ↦ before m (omega (arith, lt, apart)) some
     ];
@@ -30,7 +30,7 @@ module _ (place : ℕ → Place) (more : ℕ → ℕ) where
     lt = omega (arith, l.lt);
     left = l.left;
     is = l.is;
-    least = λ m lt some. elim (same_or_not m n) [
+    least = λ m lt some. elim (cases_eq m n) [
       | inl same ↦ subst (λ i. ((more i ≡ 0) → ⊥) → NotAfter (place l.k) (place i)) (sym same) last some
       | inr apart ↦ l.least m (omega (arith, lt, apart)) some
     ];
@@ -40,7 +40,7 @@ module _ (place : ℕ → Place) (more : ℕ → ℕ) where
   AllDone n = (k : ℕ) → k < n → more k ≡ 0
 
   next_left : (n left : ℕ) → more n ≡ left → AllDone n ⊎ LeastLeft n → AllDone (suc n) ⊎ LeastLeft (suc n)
-  next_left n zero is (inl all) = inl (λ k lt. elim (same_or_not k n) [ inl same ↦ ap more same ∙ is | inr apart ↦ all k (omega (arith, lt, apart)) ])
+  next_left n zero is (inl all) = inl (λ k lt. elim (cases_eq k n) [ inl same ↦ ap more same ∙ is | inr apart ↦ all k (omega (arith, lt, apart)) ])
   next_left n zero is (inr l) = inr (with_earlier n l (λ some. absurd (some is)))
   next_left n (suc left) is (inl all) = inr (with_last n left is (λ m lt some. absurd (some (all m lt))))
   next_left n (suc left) is (inr l) = elim (total_places (place n) (place l.k)) [

@@ -10,6 +10,6 @@ mod NextOwnStep
 mod OwnStepsDone
 mod FinalLooks
 pub use Common.*
-pub use OwnStepsDone.*
 pub use FinalLooks.*
+pub use OwnStepsDone.*
 pub use Rattle.sig_settling.proofs.OwnStepsDone.{acted}

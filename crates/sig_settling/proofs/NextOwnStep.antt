@@ -1,5 +1,5 @@
 -- Where an actor has own steps left, one of the actors can do its next one.
-use Rattle.sig_settling.proofs.Common.{◌≡◌, ◌<◌, ◌≤◌, ◌+◌, ◌⊎◌, inl, inr, ℕ, zero, suc, ℤ, true, false, List, [], ◌∷◌, length, get_or, refl, ap, sym, subst, ◌∙◌, arith, Some, slice_get, cases_lt, length-append, Instant, Trace, seen_at, Place, get_within, AreFlowsFor, some_at, Actor, code_of, next_place, position_of, Core, Given, items_on, IsActorOn, IsOnReference, instant_at, sent_on, taken_from, AtLimit, Commits, Fails, Goes, Puts, Stopped, Takes, Turn, turn, Instruction, instructions_of, IsFor, Operation, operations_in, IsAccepted, PlanView, numbers_of, Step, StepKind, Do, Send, Receive, Report, Collect, Commit, LinkInfo, positions_rise, reader_end, chosen_of, IsSending, sends_item, sends_report, DoesStep, step_does, coded, reader_earlier, writer_no_later, NotAfter, Grow, HasTurned, LeadBy, Own, AreBalanced, is_next, is_such, takes_item}
+use Rattle.sig_settling.proofs.Common.{◌≡◌, ◌<◌, ◌≤◌, ◌+◌, ◌⊎◌, inl, inr, ℕ, zero, suc, ℤ, true, false, List, [], ◌∷◌, length, get_or, refl, ap, sym, subst, ◌∙◌, arith, Some, slice_get, cases_lt, length-append, Instant, Trace, seen_at, Place, AreFlowsFor, Actor, code_of, next_place, position_of, Core, Given, items_on, IsActorOn, IsOnReference, instant_at, sent_on, taken_from, AtLimit, Commits, Fails, Goes, Puts, Stopped, Takes, Turn, turn, Instruction, instructions_of, IsFor, Operation, operations_in, IsAccepted, PlanView, numbers_of, Step, StepKind, Do, Send, Receive, Report, Collect, Commit, LinkInfo, positions_rise, reader_end, chosen_of, IsSending, sends_item, sends_report, DoesStep, step_does, coded, reader_earlier, writer_no_later, NotAfter, Grow, HasTurned, LeadBy, Own, AreBalanced, is_next, is_such, takes_item, slice_get_within, some_at}
 use Rattle.sig_settling.proofs.Amid.{CanHappen, IsAmid, ends_there}
 use Rattle.sig_settling.proofs.Least.{LeastLeft}
 use Rattle.sig_settling.proofs.OrderOfSteps.{rank_of, rank_place, takes_last}
@@ -120,7 +120,7 @@ module _ (given : Given) (accepted : IsAccepted given.plan) (fit : AreFlowsFor g
           let more_there = full.full in
           omega (arith, one, two, three, four, five, held, more_there) where
             link_below : l < length plan.links
-            link_below = get_within plan.links l p.info p.at_l
+            link_below = slice_get_within plan.links l p.info p.at_l
 
   -- ---- an actor of a least rank waits for no item: its writer would be at the same place, and of a lower rank
 

@@ -1,5 +1,5 @@
 -- Own steps: an actor that does one runs, and the items that it sent and took only become more.
-use Rattle.sig_settling.proofs.Common.{◌≡◌, ◌++◌, inl, inr, ℕ, zero, suc, ℤ, Bool, true, false, cond, List, [], ◌∷◌, refl, ap, sym, subst, ◌∙◌, append_assoc, nat_lt, slice_get, append-nil, same_or_not, code_of, Given, AtLimit, Commits, Fails, Goes, Puts, Stopped, Takes, Turn, turn, turn_at, Grow, HasTurned, IsOwnStep, Items, LeadBy, Own, Stay}
+use Rattle.sig_settling.proofs.Common.{◌≡◌, ◌++◌, inl, inr, ℕ, zero, suc, ℤ, Bool, true, false, cond, List, [], ◌∷◌, refl, ap, sym, subst, ◌∙◌, append_assoc, nat_lt, slice_get, append-nil, code_of, Given, AtLimit, Commits, Fails, Goes, Puts, Stopped, Takes, Turn, turn, turn_at, Grow, HasTurned, IsOwnStep, Items, LeadBy, Own, Stay, cases_eq}
 
 -- items stand in front of more
 abbrev pub Begin : Items → Items → Type 0
@@ -12,7 +12,7 @@ begin_stay : (before after : Items) → Stay before after → Begin before after
 begin_stay before after stay link = ([], stay link ∙ sym (append-nil (before link)))
 
 begin_grow : (l : ℕ) (item : ℤ) (before after : Items) → Grow l item before after → Begin before after
-begin_grow l item before after grow link = elim (same_or_not link l) [
+begin_grow l item before after grow link = elim (cases_eq link l) [
   | inl same ↦ (item ∷ [], subst (λ n. after n ≡ before n ++ item ∷ []) (sym same) grow.here)
   | inr apart ↦ ([], grow.others link apart ∙ sym (append-nil (before link)))
 ]

@@ -1,5 +1,5 @@
 -- The actors do all their own steps, one at a time.
-use Rattle.sig_settling.proofs.Common.{◌≡◌, ◌<◌, ◌≤◌, ◌+◌, ◌++◌, ◌⊎◌, inl, inr, ℕ, zero, suc, ℤ, Bool, true, false, cond, eq-eqb, ne_eqb, sum_by-cons, ◌==◌, List, [], ◌∷◌, length, get_or, replicate, refl, ap, sym, subst, ◌∙◌, arith, Some, fold, slice_get, cases_lt, append_cancel_left, ext_get_or, length-replicate, Trace, AreFlowsFor, some_at, fitting, same_or_not, some_reference, Place, Actor, code_of, opening_actor, with_at, AllChange, IsEnabled, Core, Given, after, opening, stepped, IsOnReference, IsReference, Act, CodeView, IsAccepted, stepped_on, opening_on, repeated, coded, NotAfter, not_after_onward, LeadBy, Own, opening_own, ActInOrder, AreBalanced, HasActed, acts, collector_of, times_among}
+use Rattle.sig_settling.proofs.Common.{◌≡◌, ◌<◌, ◌≤◌, ◌+◌, ◌++◌, ◌⊎◌, inl, inr, ℕ, zero, suc, ℤ, Bool, true, false, cond, eq-eqb, ne_eqb, sum_by-cons, ◌==◌, List, [], ◌∷◌, length, get_or, replicate, refl, ap, sym, subst, ◌∙◌, arith, Some, fold, slice_get, cases_lt, append_cancel_left, ext_get_or, length-replicate, Trace, AreFlowsFor, fitting, some_reference, Place, Actor, code_of, opening_actor, with_at, AllChange, IsEnabled, Core, Given, after, opening, stepped, IsOnReference, IsReference, Act, CodeView, IsAccepted, stepped_on, opening_on, coded, NotAfter, not_after_onward, LeadBy, Own, opening_own, ActInOrder, AreBalanced, HasActed, acts, collector_of, times_among, repeated, some_at, cases_eq}
 use Rattle.sig_settling.proofs.Amid.{IsAmid, amid_next, at_here, at_other, ends_there}
 use Rattle.sig_settling.proofs.Failures.{least_same}
 use Rattle.sig_settling.proofs.NextOwnStep.{CanAct, lead, rank, runs, some_acts}
@@ -26,7 +26,7 @@ total_same f g (suc n) same =
 -- one step less is left
 total_less : (k left : ℕ) (more : ℕ → ℕ) (g : ℕ → ℕ) (n : ℕ) → k < n → more k ≡ suc left → g k ≡ left → ((m : ℕ) → ((m ≡ k) → ⊥) → g m ≡ more m) → total more n ≡ suc (total g n)
 total_less k left more g zero lt is here others = absurd (omega (arith, lt))
-total_less k left more g (suc n) lt is here others = elim (same_or_not n k) [
+total_less k left more g (suc n) lt is here others = elim (cases_eq n k) [
   | inl same ↦
       let rest = total_same more g n (λ m before. sym (others m (λ e. omega (arith, e, same, before)))) in
       let old : more n ≡ suc left = ap more same ∙ is in
@@ -37,13 +37,6 @@ total_less k left more g (suc n) lt is here others = elim (same_or_not n k) [
       let last = others n apart in
       omega (arith, rest, last)
 ]
-
-none_left : (more : ℕ → ℕ) (n : ℕ) → ((k : ℕ) → k < n → more k ≡ 0) → total more n ≡ 0
-none_left more zero all = refl
-none_left more (suc n) all =
-    let rest = none_left more n (λ k lt. all k (omega (arith, lt))) in
-    let last = all n (omega arith) in
-    omega (arith, rest, last)
 
 module _ (given : Given) (accepted : IsAccepted given.plan) (fit : AreFlowsFor given.plan.kernel given.flows) (reference : Trace) (long : given.limit + 1 ≤ length reference) (room : 1 ≤ given.capacity)
     (final : ℕ → Own) (links : List (List ℤ)) (balanced : AreBalanced given final links) where
@@ -135,7 +128,7 @@ module _ (given : Given) (accepted : IsAccepted given.plan) (fit : AreFlowsFor g
     once_more numbers rest m lt =
         let first = sum_by-cons (λ (n : ℕ). one_if (n == m)) can.k numbers in
         let others = rest m lt in
-        elim (same_or_not m can.k) [
+        elim (cases_eq m can.k) [
           | inl same ↦
               let one : one_if (can.k == m) ≡ 1 = ap one_if (eq-eqb can.k m (sym same)) in
               let here : more_later core on now more amid can m ≡ can.left = at_here can.k can.left more m same in
@@ -158,7 +151,7 @@ module _ (given : Given) (accepted : IsAccepted given.plan) (fit : AreFlowsFor g
         (left_runs given can.k can.left (path core on now more amid can).0 (final can.k) (path core on now more amid can).2 some))
 
     lower_later : (low : Place) → NoneLower low now more → NoneLower low (now_later core on now more amid can) (more_later core on now more amid can)
-    lower_later low all = λ m lt some. elim (same_or_not m can.k) [
+    lower_later low all = λ m lt some. elim (cases_eq m can.k) [
       | inl same ↦
           subst (λ (o : Own). NotAfter low (rank_of (code_of given.plan m) o.actor)) (sym (at_here can.k (path core on now more amid can).0 now m same))
           (subst (λ i. NotAfter low (rank_of (code_of given.plan i) (path core on now more amid can).0.actor)) (sym same)

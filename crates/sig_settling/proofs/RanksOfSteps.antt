@@ -1,5 +1,5 @@
 -- A step of an actor's own does not lower its rank.
-use Rattle.sig_settling.proofs.Common.{◌≡◌, ◌<◌, ◌≤◌, ◌+◌, ◌*◌, ◌⊎◌, inl, inr, ℕ, zero, suc, ℤ, Bool, true, false, cond, List, length, refl, ap, sym, subst, ◌∙◌, arith, None, Option, Some, nat_lt, slice_get, cases_lt, get_within, some_at, Actor, code_of, ended_at, guard_holds, moved_on, next_place, position_of, Given, Faults, Gives, Outcome, operated, outcome, AtLimit, Commits, Fails, Goes, Puts, Stopped, Takes, Turn, carried, received, turn, turn_at, turn_by, turn_of_op, turn_with, CodeView, Instruction, IsFor, StandsAt, does, sends, receives, reports, collects, commits, Operation, operations_in, IsAccepted, PlanView, numbers_of, Step, StepKind, Do, Send, Receive, Report, Collect, Commit, Op, LinkInfo, positions_rise, moved_cases, DoesStep, step_does, NotAfter, HasTurned, IsOwnStep, LeadBy, Own, is_next, is_such, takes_item}
+use Rattle.sig_settling.proofs.Common.{◌≡◌, ◌<◌, ◌≤◌, ◌+◌, ◌*◌, ◌⊎◌, inl, inr, ℕ, zero, suc, ℤ, Bool, true, false, cond, List, length, refl, ap, sym, subst, ◌∙◌, arith, None, Option, Some, nat_lt, slice_get, cases_lt, Actor, code_of, ended_at, guard_holds, moved_on, next_place, position_of, Given, Faults, Gives, Outcome, operated, outcome, AtLimit, Commits, Fails, Goes, Puts, Stopped, Takes, Turn, carried, received, turn, turn_at, turn_by, turn_of_op, turn_with, CodeView, Instruction, IsFor, StandsAt, does, sends, receives, reports, collects, commits, Operation, operations_in, IsAccepted, PlanView, numbers_of, Step, StepKind, Do, Send, Receive, Report, Collect, Commit, Op, LinkInfo, positions_rise, moved_cases, DoesStep, step_does, NotAfter, HasTurned, IsOwnStep, LeadBy, Own, is_next, is_such, takes_item, slice_get_within, some_at}
 use Rattle.sig_settling.proofs.OrderOfSteps.{flag, flag_most, rank_of}
 use Rattle.sig_settling.proofs.OwnItems.{step_runs}
 
@@ -104,10 +104,10 @@ module _ (operations : List Operation) (order : List ℕ) (links : List LinkInfo
   beside_receive j number p stands other _ (receives j2 number2 link p2 stands2 foreign from reader) position = refl
   beside_receive j number p stands other _ (reports link found apart there none writer) position = absurd (omega (arith, position))
   beside_receive j number p stands other _ (collects link found mine there none) position = refl
-  beside_receive j number p stands other _ (commits mine) position = absurd (let within = get_within order j number stands.place in omega (arith, position, within, full))
+  beside_receive j number p stands other _ (commits mine) position = absurd (let within = slice_get_within order j number stands.place in omega (arith, position, within, full))
 
   beside_collect : actor ≡ clusters → (i : Instruction) → IsKnown i → i.position ≡ 2 * length operations → takes_item i.kind ≡ true
-  beside_collect own _ (does j number p stands mine) position = absurd (let within = get_within order j number stands.place in omega (arith, position, within, full))
+  beside_collect own _ (does j number p stands mine) position = absurd (let within = slice_get_within order j number stands.place in omega (arith, position, within, full))
   beside_collect own _ (sends j number link p stands mine from) position = absurd (omega (arith, position))
   beside_collect own _ (receives j number link p stands foreign from reader) position = refl
   beside_collect own _ (reports link found apart there none writer) position = absurd (apart own)

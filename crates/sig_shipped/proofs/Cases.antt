@@ -1,31 +1,6 @@
 -- What each operation of a kernel is, by its equation, and what it does in an image.
-use Rattle.std.proofs.Common.{◌≡◌, ◌<◌, ◌≤◌, inl, inr, zero, suc, ℕ, ℤ, List, [], ◌∷◌, length, map, get_or, Option, None, Some, refl, sym, ap, subst, ◌∙◌, arith, All, Contains, slice_get}
-use Rattle.std.specs.Prelude.{pos}
-use Rattle.std.proofs.lemmas.List.Elements.{All-cons, All-nil}
-use Rattle.sig_base.specs.declared.ids.EqId.{EqId}
-use Rattle.sig_base.specs.declared.ids.SigId.{SigId}
-use Rattle.sig_base.specs.declared.signal.Signal.{Signal}
-use Rattle.sig_base.specs.declared.span.Span.{Span}
-use Rattle.sig_clock.specs.Conditions.{signal_id}
-use Rattle.sig_kernel.specs.Validity.{IsValid}
-use Rattle.sig_kernel.specs.declared.equation.Equation.{Equation}
-use Rattle.sig_kernel.specs.declared.equation.Form.{Form}
-use Rattle.sig_kernel.specs.declared.equation.Form.TheVariants.{Fun, Delay, When, WhenConst, Default, Sync, Event}
-use Rattle.sig_kernel.specs.declared.equation.FunOp.{FunOp}
-use Rattle.sig_kernel.specs.declared.equation.Operand.{Operand}
-use Rattle.sig_kernel.specs.declared.equation.Operand.TheVariants.{Sig, Const}
-use Rattle.sig_kernel.specs.declared.kernel.Kernel.{Kernel}
-use Rattle.sig_plan.specs.Operations.{Operation, Presence, equation_id, operations_of, signals_of, stores_of, without, writes_of, writing}
-use Rattle.sig_plan.specs.declared.op.OpKind.{OpKind}
-use Rattle.sig_plan.specs.declared.op.OpKind.TheVariants.{Read, Compute, Left, Right, DelayRead, Store}
-use Rattle.sig_plan.proofs.EachOperation.{each_operation, only}
-use Rattle.sig_plan.proofs.Common.{contains_cons, contains_none, contains_head, contains_later, get_at}
-use Rattle.sig_file.specs.Guarded.{Reads, Writes}
-use Rattle.sig_file.specs.PlanImages.{does_of, image_op, memory_number, op_with}
-use Rattle.sig_file.specs.declared.images.ImageOp.{ImageOp}
-use Rattle.sig_file.specs.declared.images.ImageOpKind.{ImageOpKind}
+use Rattle.sig_shipped.proofs.Common.{◌≡◌, ◌<◌, ◌≤◌, inl, inr, zero, suc, ℕ, ℤ, List, [], ◌∷◌, length, map, get_or, Option, None, Some, refl, sym, ap, subst, ◌∙◌, arith, All, Contains, slice_get, pos, All-cons, All-nil, EqId, SigId, Signal, Span, signal_id, IsValid, Equation, Form, Fun, Delay, When, WhenConst, Default, Sync, Event, FunOp, Operand, Sig, Const, Kernel, Operation, Presence, equation_id, operations_of, signals_of, stores_of, without, writes_of, writing, OpKind, Read, Compute, Left, Right, DelayRead, Store, each_operation, only, Reads, Writes, does_of, image_op, memory_number, op_with, ImageOp, ImageOpKind, span_of, contains_cons, contains_head, contains_later, contains_none, slice_get-get_or}
 use Rattle.sig_file.specs.declared.images.ImageOpKind.TheVariants as does
-use Rattle.sig_shipped.specs.Ends.{span_of}
 
 -- an operation of an equation, with what it writes and reads
 pub record IsOf (kernel : Kernel) (p : Operation) (e : EqId) (d : Equation) (kind : OpKind) (form : Form) (writes : Option SigId) (reads : List SigId) : Type 0 where
@@ -105,7 +80,7 @@ module _ (kernel : Kernel) (presence : Presence) where
   pub all_cases : All (HasCase kernel) (operations_of kernel presence)
   all_cases =
       each_operation (HasCase kernel) kernel presence HasForm
-      (λ k d lt. record { equation = get_or kernel.equations k d; is = get_at kernel.equations k d lt; has = refl })
+      (λ k d lt. record { equation = get_or kernel.equations k d; is = slice_get-get_or kernel.equations k d lt; has = refl })
       (λ number below. (Reading (signal_id number), record { kind_is = refl; writes_is = refl; reads_is = refl; input = below }))
       cases_written cases_stored
 

@@ -1,63 +1,11 @@
 -- The image of a plan runs as the plan does.
-use Rattle.std.proofs.Common.{◌≡◌, ◌<◌, ◌≤◌, ◌+◌, ◌++◌, ◌⊎◌, inl, inr, ℕ, zero, suc, ℤ, Bool, true, false, List, [], ◌∷◌, length, map, take, drop, replicate, Option, None, Some, refl, sym, ap, subst, ◌∙◌, arith, flat_map, slice_get, append_assoc, length-append}
-use Rattle.std.proofs.lemmas.List.{append-nil, length-replicate}
-use Rattle.std.proofs.Common.{length-drop, length-take}
-use Rattle.std.proofs.lemmas.List.Concat.{flat_map-cons}
-use Rattle.std.proofs.lemmas.Option.{slice_get-map}
-use Rattle.std.specs.Prelude.{option_map, slice_index_or}
-use Rattle.sig_base.specs.declared.ids.EqId.{EqId}
-use Rattle.sig_base.specs.declared.ids.SigId.{SigId}
-use Rattle.sig_base.specs.declared.signal.Signal.{Signal}
-use Rattle.sig_base.specs.declared.place.Place.{Place}
-use Rattle.sig_base.specs.declared.span.Span.{Span}
-use Rattle.sig_base.specs.Traces.{Instant, Seen, Trace, seen_at}
-use Rattle.sig_kernel.specs.OutputText.{output_text, outputs_of, seen_line, seen_lines}
-use Rattle.sig_kernel.specs.Table.{target_of}
-use Rattle.sig_kernel.specs.Validity.{AreFlowsFor}
-use Rattle.sig_kernel.specs.declared.equation.Equation.{Equation}
-use Rattle.sig_kernel.specs.declared.equation.Form.TheVariants.{Delay}
-use Rattle.sig_kernel.specs.declared.kernel.Kernel.{Kernel}
-use Rattle.sig_dd.specs.Diagram.{Diagram, value_at}
-use Rattle.sig_dd.specs.Nodes.{test}
-use Rattle.sig_plan.specs.Plans.{IsAccepted, PlanView, numbers_of}
-use Rattle.sig_plan.specs.declared.ended.Cause.{Cause}
-use Rattle.sig_plan.specs.declared.ended.Cause.TheVariants.{Limit}
-use Rattle.sig_plan.specs.declared.ended.Ended.{Ended}
-use Rattle.sig_plan.specs.declared.op.Op.{Op}
-use Rattle.sig_plan.proofs.Common.{get_within, range_with_len}
-use Rattle.sig_model.specs.Actors.{Actor, opening_actor, truths_of}
+use Rattle.sig_shipped.proofs.Common.{◌≡◌, ◌<◌, ◌≤◌, ◌+◌, ◌++◌, ◌⊎◌, inl, inr, ℕ, zero, suc, ℤ, Bool, true, false, List, [], ◌∷◌, length, map, take, drop, replicate, Option, None, Some, refl, sym, ap, subst, ◌∙◌, arith, flat_map, slice_get, append_assoc, length-append, append-nil, length-replicate, length-drop, length-take, flat_map-cons, slice_get-map, option_map, slice_index_or, EqId, SigId, Signal, Place, Span, Instant, Seen, Trace, seen_at, output_text, outputs_of, seen_line, seen_lines, target_of, AreFlowsFor, Equation, Delay, Kernel, Diagram, value_at, test, IsAccepted, PlanView, numbers_of, Cause, Limit, Ended, Op, range_with_len, Actor, opening_actor, truths_of, Faults, Gives, Outcome, operated, outcome, IsReference, reaction_in, IsEnd, place_at, compiled, condition_signal, one_end, IsCommitted, IsAmid, instant_behind, stepped, StandsAt, limit_end, next_instant, committed_more, next_amid, none_committed, opening_amid, text_is, defined_once, initial_is, fault_end, dropped_at, same_lines, done_behind, passed_over, Guarded, Guards, guards_of, Does, Ends, EndsIn, Handles, HandlesAll, IsImageRun, Runs, State, cleared, holds, instant_lines, opening, proposal_of, ImageView, image_of, image_signal, memory_number, ImageMemory, ImageOpKind, ImageSignal, memory_there, cause_in, end_in, slice_get_within}
 use Rattle.sig_model.specs.Actors as model
-use Rattle.sig_model.specs.Operating.{Faults, Gives, Outcome, operated, outcome}
-use Rattle.sig_model.specs.References.{IsReference}
-use Rattle.sig_model.specs.Turns.{reaction_in}
-use Rattle.sig_model.specs.Causes.{IsEnd, place_at}
-use Rattle.sig_meaning.proofs.Accepted.{compiled}
-use Rattle.sig_meaning.proofs.Agreement.{condition_signal}
-use Rattle.sig_meaning.proofs.Uniqueness.{one_end}
-use Rattle.sig_doing.specs.Commits.{IsCommitted}
-use Rattle.sig_doing.specs.Doing.{IsAmid, instant_behind, stepped}
-use Rattle.sig_doing.specs.Places.{StandsAt}
-use Rattle.sig_doing.proofs.Committed.{limit_end, next_instant}
-use Rattle.sig_doing.proofs.CommittedInstant.{committed_more, next_amid, none_committed, opening_amid, text_is}
-use Rattle.sig_doing.proofs.DefinedOnce.{defined_once, initial_is}
-use Rattle.sig_doing.proofs.FaultEndsRun.{fault_end}
-use Rattle.sig_doing.proofs.Lines.{dropped_at, same_lines}
-use Rattle.sig_doing.proofs.Operated.{done_behind}
-use Rattle.sig_doing.proofs.PassedOver.{passed_over}
-use Rattle.sig_file.specs.Guarded.{Guarded, Guards, guards_of}
-use Rattle.sig_file.specs.ImageRuns.{Does, Ends, EndsIn, Handles, HandlesAll, IsImageRun, Runs, State, cleared, holds, instant_lines, opening, proposal_of}
 use Rattle.sig_file.specs.ImageRuns as image_runs
-use Rattle.sig_file.specs.Images.{ImageView}
-use Rattle.sig_file.specs.PlanImages.{image_of, image_signal, memory_number}
-use Rattle.sig_file.specs.declared.images.ImageMemory.{ImageMemory}
-use Rattle.sig_file.specs.declared.images.ImageOpKind.{ImageOpKind}
-use Rattle.sig_file.specs.declared.images.ImageSignal.{ImageSignal}
-use Rattle.sig_file.proofs.PlanMemories.{memory_there}
-use Rattle.sig_shipped.specs.Ends.{cause_in, end_in}
 use Rattle.sig_shipped.proofs.Cases.{does_in}
 use Rattle.sig_shipped.proofs.OperationsInImage.{does_by, ends_by}
 use Rattle.sig_shipped.proofs.Lists.{left_at}
-use Rattle.sig_shipped.proofs.Placed.{IsMadeFor, exists, guarded_for, image_long, stands_somewhere}
+use Rattle.sig_shipped.proofs.Placed.{IsMadeFor, guarded_for, image_long, stands_somewhere}
 use Rattle.sig_shipped.proofs.TrackedState.{Tracks, seen_there, tracks_as}
 
 none_past : {A : Type 0} (xs : List A) (n : ℕ) → n ≡ length xs → drop n xs ≡ []
@@ -121,7 +69,7 @@ module _ (plan : PlanView) (accepted : IsAccepted plan) (flows : List (List ℤ)
   conditions_within : (k : ℕ) (x : SigId) → slice_get conditions k ≡ Some x → x.0 < length kernel.signals
   conditions_within k x at =
       let signal = condition_signal kernel conditions (compiled plan accepted).has.order k x at in
-      get_within kernel.signals x.0 signal.0 signal.1
+      slice_get_within kernel.signals x.0 signal.0 signal.1
 
   holds_same : (actor : Actor) (s : State) → Tracks kernel flows actor s → (op : Op) (g : Guarded) → IsMadeFor plan op g
       → holds guards g s ≡ test plan.store.nodes op.guard (truths_of conditions actor.registers)

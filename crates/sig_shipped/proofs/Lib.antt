@@ -1,3 +1,4 @@
+pub mod Common
 pub mod Cases
 pub mod OperationsInImage
 pub mod Lists
@@ -6,3 +7,6 @@ pub mod Placed
 pub mod ImageRunsAsPlan
 pub mod Sound
 pub mod TrackedState
+pub use Common.*
+pub use ImageRunsAsPlan.*
+pub use Sound.*

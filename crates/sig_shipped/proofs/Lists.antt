@@ -1,19 +1,5 @@
 -- Lists of which an item was set, and what is left of a list.
-use Rattle.std.proofs.Common.{◌≡◌, ◌<◌, ◌≤◌, ◌+◌, ◌==◌, ℕ, zero, suc, Bool, true, false, cond, List, [], ◌∷◌, length, take, drop, set, Option, None, Some, refl, sym, ap, ◌∙◌, arith, slice_get, eqb-true, eq-eqb}
-use Rattle.std.specs.Prelude.{count_by}
-use Rattle.std.proofs.lemmas.List.Sums.{sum_by-cons}
-
-pub get_same : {A : Type 0} (xs : List A) (p : ℕ) (v : A) → p < length xs → slice_get (set xs p v) p ≡ Some v
-get_same [] p v less = absurd (omega (arith, less))
-get_same (x ∷ xs) zero v less = refl
-get_same (x ∷ xs) (suc p) v less = get_same xs p v (omega (arith, less))
-
-pub get_other : {A : Type 0} (xs : List A) (p n : ℕ) (v : A) → (n ≡ p → ⊥) → slice_get (set xs p v) n ≡ slice_get xs n
-get_other [] p n v apart = refl
-get_other (x ∷ xs) zero zero v apart = absurd (apart refl)
-get_other (x ∷ xs) zero (suc n) v apart = refl
-get_other (x ∷ xs) (suc p) zero v apart = refl
-get_other (x ∷ xs) (suc p) (suc n) v apart = get_other xs p n v (λ e. apart (ap suc e))
+use Rattle.sig_shipped.proofs.Common.{◌≡◌, ◌<◌, ◌+◌, ◌==◌, ℕ, zero, suc, Bool, true, false, cond, List, [], ◌∷◌, take, drop, set, None, Some, refl, sym, ap, ◌∙◌, arith, slice_get, eqb-true, eq-eqb, count_by, sum_by-cons}
 
 -- by whether two numbers are one
 pub by_equal : (P : Bool → Type 0) (a b : ℕ) → (a ≡ b → P true) → ((a ≡ b → ⊥) → P false) → P (a == b)

@@ -1,55 +1,9 @@
 -- What the operation at a place comes to in an actor, it comes to in a state of the image that has the same.
-use Rattle.std.proofs.Common.{◌≡◌, ◌<◌, ◌+◌, ◌⊎◌, inl, inr, ℕ, ℤ, Bool, true, false, List, [], ◌∷◌, length, map, drop, Option, None, Some, is_some, refl, sym, ap, subst, ◌∙◌, arith, Contains, slice_get, if◌then◌else◌}
-use Rattle.std.specs.Prelude.{pos, negsuc, slice_index, slice_index_or, slice_set, unwrap_or, option_and_then}
-use Rattle.std.proofs.lemmas.List.{length-map}
-use Rattle.sig_base.specs.declared.ids.EqId.{EqId}
-use Rattle.sig_base.specs.declared.ids.SigId.{SigId}
-use Rattle.sig_base.specs.declared.ids.Kind.{Kind}
-use Rattle.sig_base.specs.declared.span.Span.{Span}
-use Rattle.sig_base.specs.Functions.{Function, Quotient, Remainder, Identity, Negative, Not as Negation, And as Conjunction, Or as Disjunction, Xor as Exclusive, Equal, NotEqual, Less, LessEqual, Greater, GreaterEqual, Sum, Difference, Product, Gives as IsGiven, operand_count}
-use Rattle.sig_base.specs.Traces.{Bounded, Instant, Seen, Trace, seen_at, has_64_bits as fits_64}
-use Rattle.sig_kernel.specs.KernelTraces.{HaveValues, function_of}
-use Rattle.sig_kernel.specs.Table.{form_fits, kind_at, target_fits, target_of}
-use Rattle.sig_kernel.specs.Validity.{AreFlowsFor}
-use Rattle.sig_kernel.specs.declared.equation.Equation.{Equation}
-use Rattle.sig_kernel.specs.declared.equation.Form.{Form}
-use Rattle.sig_kernel.specs.declared.equation.Form.TheVariants.{Fun, Delay, When, WhenConst, Default, Event}
-use Rattle.sig_kernel.specs.declared.equation.FunOp.{FunOp}
-use Rattle.sig_kernel.specs.declared.equation.Operand.{Operand}
-use Rattle.sig_kernel.specs.declared.equation.Operand.TheVariants.{Sig, Const}
-use Rattle.sig_kernel.specs.declared.kernel.Kernel.{Kernel}
-use Rattle.sig_clock.specs.Abstractions.{abstraction_of}
-use Rattle.sig_dd.specs.Nodes.{test}
-use Rattle.sig_plan.specs.Operations.{Operation, operation_in, operations_in, signals_of}
-use Rattle.sig_plan.specs.Plans.{IsAccepted, PlanView, numbers_of}
-use Rattle.sig_plan.specs.declared.ended.Cause.{Cause}
-use Rattle.sig_plan.specs.declared.ended.Cause.TheVariants.{Exhausted, Overflow, ZeroDivisor}
-use Rattle.sig_plan.specs.declared.op.Op.{Op}
-use Rattle.sig_plan.specs.declared.op.OpKind.{OpKind}
-use Rattle.sig_plan.specs.declared.op.OpKind.TheVariants.{Read, Compute, Left, Right, DelayRead, Store}
-use Rattle.sig_plan.proofs.Common.{contains_head, contains_later, contains_at, get_within}
-use Rattle.sig_plan.proofs.Done.{read_present}
-use Rattle.sig_plan.proofs.Indices.{read_below, written_below}
-use Rattle.sig_model.specs.Actors.{Actor, Registers, truths_of, value_in, with_signal}
-use Rattle.sig_model.specs.Operating.{Faults, Gives, Outcome, bounded, computed, computed_at, computed_by, computed_for, defined_by, first_in, memory_of, next_of, operand_in, operated, outcome, outcome_by, remembers, taken_by}
-use Rattle.sig_model.specs.Results.{divides_by_zero, has_64_bits, result_of}
-use Rattle.sig_meaning.proofs.Accepted.{compiled}
-use Rattle.sig_meaning.proofs.Agreement.{Compiled, own_present}
-use Rattle.sig_meaning.proofs.Results.{bounded_gives, equal, given}
-use Rattle.sig_meaning.proofs.Truths.{operands_counted}
-use Rattle.sig_doing.specs.Doing.{IsAmid, stepped}
-use Rattle.sig_doing.specs.Places.{StandsAt}
-use Rattle.sig_doing.proofs.Amid.{guard_known, here, reads_known}
-use Rattle.sig_doing.proofs.DefinedOnce.{defined_local}
-use Rattle.sig_doing.proofs.ReferenceInstant.{is_next, keeps, speaks}
-use Rattle.sig_file.specs.ImageRuns.{Computes, Does, Ends, HasZeroDivisor, State, written}
-use Rattle.sig_file.specs.PlanImages.{memory_number}
-use Rattle.sig_file.proofs.PlanMemories.{at_each}
+use Rattle.sig_shipped.proofs.Common.{◌≡◌, ◌<◌, ◌+◌, inl, inr, ℕ, ℤ, Bool, true, false, List, [], ◌∷◌, length, map, drop, Option, None, Some, is_some, refl, sym, ap, subst, ◌∙◌, Contains, slice_get, if◌then◌else◌, pos, negsuc, slice_index, slice_index_or, slice_set, unwrap_or, option_and_then, length-map, EqId, SigId, Kind, Function, Quotient, Remainder, Identity, Negative, Not as Negation, And as Conjunction, Or as Disjunction, Xor as Exclusive, Equal, NotEqual, Less, LessEqual, Greater, GreaterEqual, Sum, Difference, Product, operand_count, Instant, Trace, seen_at, has_64_bits as fits_64, HaveValues, function_of, form_fits, kind_at, target_fits, target_of, AreFlowsFor, Equation, Form, Fun, When, WhenConst, Default, Event, FunOp, Operand, Sig, Const, Kernel, abstraction_of, test, Operation, operation_in, operations_in, signals_of, IsAccepted, PlanView, numbers_of, Cause, Exhausted, Overflow, ZeroDivisor, Op, OpKind, Read, Compute, Left, Right, DelayRead, Store, read_present, read_below, written_below, Actor, truths_of, value_in, with_signal, Faults, Gives, computed_at, computed_by, computed_for, defined_by, first_in, memory_of, next_of, operand_in, operated, outcome, outcome_by, remembers, taken_by, divides_by_zero, result_of, compiled, Compiled, own_present, bounded_gives, equal, given, operands_counted, IsAmid, stepped, StandsAt, guard_known, here, reads_known, is_next, keeps, speaks, Computes, Does, Ends, HasZeroDivisor, State, written, memory_number, cause_in, span_at, span_of, contains_head, contains_later, at_each}
+use Rattle.sig_model.specs.Results.{has_64_bits}
 use Rattle.sig_file.specs.declared.images.ImageOpKind.TheVariants as does
 use Rattle.sig_file.specs.declared.run.ImageCause.TheVariants as image
-use Rattle.sig_file.specs.declared.run.ImageCause.{ImageCause}
-use Rattle.sig_shipped.specs.Ends.{cause_in, span_at, span_of}
-use Rattle.sig_shipped.proofs.Cases.{Applies, Case, Fixes, IsCase, IsOf, IsReading, Keeps, Lefts, Reading, Recalls, Rights, Samples, Ticks, does_in, place_in}
+use Rattle.sig_shipped.proofs.Cases.{Applies, Case, Fixes, IsCase, IsOf, Keeps, Lefts, Reading, Recalls, Rights, Samples, Ticks, does_in, place_in}
 use Rattle.sig_shipped.proofs.Lists.{left_at, none_left}
 use Rattle.sig_shipped.proofs.TrackedState.{Tracks, seen_there, takes_value, tracks_as, tracks_stored, tracks_taken, tracks_written, writes_memory, writes_register}
 
@@ -162,9 +116,6 @@ module _ (plan : PlanView) (accepted : IsAccepted plan) (flows : List (List ℤ)
         same
         (tracks_written kernel flows actor s tracks y v (written_there y writes))
 
-  abbrev IsDone : Case → ℤ → Type 0
-  IsDone case v = (t : State) × Does (does_in kernel case) s t × Tracks kernel flows (behind v) t
-
   kind_outcome : (kind : OpKind) → op.kind ≡ kind → outcome kernel flows actor op ≡ outcome_by kernel flows actor op kind
   kind_outcome kind is = ap (outcome_by kernel flows actor op) is
 
@@ -209,9 +160,6 @@ module _ (plan : PlanView) (accepted : IsAccepted plan) (flows : List (List ℤ)
         let fits = at_each (λ (one : Equation). form_fits kernel.signals one.form) kernel.equations accepted.valid.equations.fit e.0 d is.at in
         length-map operands (operand_in actor.registers)
         ∙ counted_by kernel y function operands (kind_at kernel.signals y) (subst (λ (f : Form). form_fits kernel.signals f ≡ true) is.form_is fits)
-
-    abbrev Comes : Outcome → Type 0
-    Comes o = outcome kernel flows actor op ≡ o
 
     comes : (zeroed small : Bool) → divides_by_zero (function_of function) values ≡ zeroed → has_64_bits (result_of (function_of function) values) ≡ small
         → outcome kernel flows actor op ≡ (if zeroed then Faults (ZeroDivisor e) else (if small then Gives (result_of (function_of function) values) else Faults (Overflow e)))

@@ -1,35 +1,6 @@
 -- The operations of a plan's image, beside those of the plan in compiled order.
-use Rattle.std.proofs.Common.{◌≡◌, ◌<◌, ◌≤◌, ◌+◌, true, false, ℕ, zero, suc, List, [], ◌∷◌, ◌++◌, length, map, Option, None, Some, refl, sym, ap, subst, ◌∙◌, arith, All, slice_get}
-use Rattle.std.specs.Prelude.{filter_map, option_map}
-use Rattle.std.specs.List.{AllByRecursion, cons_option}
-use Rattle.std.proofs.lemmas.List.{append-nil}
-use Rattle.std.proofs.Common.{append_assoc}
-use Rattle.std.proofs.lemmas.List.Elements.{All-contains}
-use Rattle.std.proofs.lemmas.Option.{slice_get-map}
-use Rattle.sig_base.specs.declared.ids.OpId.{OpId}
-use Rattle.sig_base.specs.declared.ids.SigId.{SigId}
-use Rattle.sig_dd.specs.Diagram.{Choice, Constant, Diagram, Tests}
-use Rattle.sig_dd.specs.Nodes.{Holds, diagram}
-use Rattle.sig_dd.specs.declared.node.Ref.{Ref}
-use Rattle.sig_dd.proofs.Canonical.{proper}
-use Rattle.sig_dd.proofs.Trees.{Depends-tests, IsProper}
-use Rattle.sig_plan.specs.Guards.{of_operation}
-use Rattle.sig_plan.specs.Operations.{Operation, operation_in, operations_in, operations_of, presence_in}
-use Rattle.sig_plan.specs.Plans.{IsAccepted, PlanView}
-use Rattle.sig_plan.specs.declared.op.Op.{Op}
-use Rattle.sig_plan.proofs.Slotted.{guard_alone, guard_held}
-use Rattle.sig_plan.proofs.Common.{contains_at}
-use Rattle.sig_file.specs.Guarded.{Guarded, guarded_in, guards_of, node_in, nodes_in}
-use Rattle.sig_file.specs.Images.{Each, IsNodeBehind}
-use Rattle.sig_file.specs.PlanImages.{before, image_of, image_op, made_of, ordered, visited}
-use Rattle.sig_file.specs.declared.images.ImageNode.{ImageNode}
-use Rattle.sig_file.specs.declared.images.ImageOp.{ImageOp}
-use Rattle.sig_file.proofs.PlanNodes.{IsMade, Shows, visited_right}
-use Rattle.sig_file.proofs.PlanOperations.{nodes_right}
-use Rattle.sig_file.proofs.Reduced.{reduced}
-use Rattle.sig_dd.proofs.Listed.{diagram-false, diagram-node, diagram-true}
-use Rattle.sig_doing.specs.Places.{StandsAt}
-use Rattle.sig_shipped.proofs.Cases.{Case, HasCase, IsCase, all_cases, does_in, made, made_op, place_in}
+use Rattle.sig_shipped.proofs.Common.{◌≡◌, ◌<◌, ◌≤◌, true, false, ℕ, zero, suc, List, [], ◌∷◌, ◌++◌, length, Option, Some, refl, sym, ap, subst, ◌∙◌, arith, slice_get, filter_map, option_map, AllByRecursion, cons_option, append-nil, append_assoc, All-contains, slice_get-map, OpId, Choice, Constant, Diagram, Tests, diagram, Ref, proper, Depends-tests, IsProper, of_operation, Operation, operation_in, operations_in, operations_of, presence_in, IsAccepted, PlanView, Op, guard_alone, guard_held, node_in, nodes_in, Each, IsNodeBehind, before, image_op, made_of, visited, ImageNode, ImageOp, Shows, visited_right, reduced, diagram-false, diagram-node, diagram-true, still_at, contains_at}
+use Rattle.sig_shipped.proofs.Cases.{Case, HasCase, IsCase, all_cases, made, made_op}
 
 -- ---- what is so of each operation of a plan
 
@@ -57,11 +28,6 @@ op_good plan accepted n op e =
     }
 
 -- ---- diagrams of nodes
-
-still_at : {A : Type 0} (xs ys : List A) (i : ℕ) (x : A) → slice_get xs i ≡ Some x → slice_get (xs ++ ys) i ≡ Some x
-still_at [] ys i x e = absurd cc
-still_at (z ∷ xs) ys zero x e = e
-still_at (z ∷ xs) ys (suc i) x e = still_at xs ys i x e
 
 shows_still : (d : Diagram) (nodes more : List ImageNode) (n : ℕ) → Shows nodes n d → Shows (nodes ++ more) n d
 shows_still (Constant false) nodes more n s = s

@@ -1,30 +1,7 @@
 -- What stands at the places of a plan's image.
-use Rattle.std.proofs.Common.{◌≡◌, ◌<◌, ◌≤◌, ℕ, zero, suc, List, [], ◌∷◌, length, map, Option, None, Some, refl, sym, ap, subst, ◌∙◌, arith, slice_get}
-use Rattle.std.specs.Prelude.{option_map}
-use Rattle.std.specs.List.{AllByRecursion}
-use Rattle.std.proofs.lemmas.Option.{same_Some, slice_get-map}
-use Rattle.sig_base.specs.declared.ids.OpId.{OpId}
-use Rattle.sig_base.specs.declared.ids.SigId.{SigId}
-use Rattle.sig_dd.specs.Diagram.{Diagram}
-use Rattle.sig_dd.specs.Nodes.{diagram}
-use Rattle.sig_plan.specs.Operations.{operation_in}
-use Rattle.sig_plan.specs.Plans.{IsAccepted, PlanView, numbers_of}
-use Rattle.sig_plan.specs.declared.op.Op.{Op}
-use Rattle.sig_plan.proofs.Common.{get_within}
-use Rattle.sig_plan.proofs.NamedInSteps.{order_names}
-use Rattle.sig_file.specs.Guarded.{Guarded, guarded_in, guards_of}
-use Rattle.sig_file.specs.PlanImages.{image_of, made_of, ordered}
-use Rattle.sig_file.specs.declared.images.ImageNode.{ImageNode}
-use Rattle.sig_file.specs.declared.images.ImageOp.{ImageOp}
-use Rattle.sig_file.proofs.PlanOperations.{nodes_right}
-use Rattle.sig_doing.specs.Places.{StandsAt}
+use Rattle.sig_shipped.proofs.Common.{◌≡◌, ◌<◌, ◌≤◌, ℕ, zero, suc, List, [], ◌∷◌, length, map, Option, None, Some, refl, sym, ap, subst, ◌∙◌, arith, slice_get, option_map, AllByRecursion, same_Some, slice_get-map, OpId, diagram, operation_in, IsAccepted, PlanView, numbers_of, Op, order_names, Guarded, guarded_in, guards_of, image_of, made_of, ordered, ImageNode, ImageOp, nodes_right, StandsAt, some_at, slice_get_within}
 use Rattle.sig_shipped.proofs.Cases.{Case, IsCase, does_in, place_in}
 use Rattle.sig_shipped.proofs.Pairs.{IsGood, IsPair, Named, Pairs, all_taken, op_good, pair_at, pair_for, pairs_by, pairs_long, shown_is, taken_at, taken_long}
-
-pub exists : {A : Type 0} (xs : List A) (n : ℕ) → n < length xs → (x : A) × (slice_get xs n ≡ Some x)
-exists [] n less = absurd (omega (arith, less))
-exists (x ∷ xs) zero less = (x, refl)
-exists (x ∷ xs) (suc n) less = exists xs n (omega (arith, less))
 
 number_at : (ids : List OpId) (k : ℕ) (id : OpId) → slice_get ids k ≡ Some id → slice_get (numbers_of ids) k ≡ Some id.0
 number_at [] k id is = absurd cc
@@ -52,7 +29,7 @@ module _ (plan : PlanView) (accepted : IsAccepted plan) where
   many = (made_of plan (ordered plan) []).1
 
   named : Named plan.ops plan.order
-  named k number is = exists plan.ops number.0 (order_names plan accepted k number.0 (number_at plan.order k number is))
+  named k number is = some_at plan.ops number.0 (order_names plan accepted k number.0 (number_at plan.order k number is))
 
   few : plan.kernel.inputs ≤ length plan.kernel.signals
   few = let a = accepted.valid.parts.interface in let b = accepted.valid.parts.declared in omega (arith, a, b)
@@ -75,8 +52,8 @@ module _ (plan : PlanView) (accepted : IsAccepted plan) where
 
   ordered_stands : (n : ℕ) (op : Op) → slice_get (ordered plan) n ≡ Some op → StandsAt plan n op
   ordered_stands n op e =
-      let lt = get_within (ordered plan) n op e in
-      let (number, at) = exists plan.order n (let long = taken_long plan.ops plan.order named in omega (arith, lt, long)) in
+      let lt = slice_get_within (ordered plan) n op e in
+      let (number, at) = some_at plan.order n (let long = taken_long plan.ops plan.order named in omega (arith, lt, long)) in
       let (other, is) = named n number at in
       let same : Some other ≡ Some op = sym (taken_at plan.ops plan.order named n number other at is) ∙ e in
       record { number = number; ordered = at; is = is ∙ same }
@@ -104,6 +81,6 @@ module _ (plan : PlanView) (accepted : IsAccepted plan) where
 
   pub stands_somewhere : (n : ℕ) → n < length plan.order → (op : Op) × StandsAt plan n op
   stands_somewhere n lt =
-      let (number, at) = exists plan.order n lt in
+      let (number, at) = some_at plan.order n lt in
       let (op, is) = named n number at in
       (op, record { number = number; ordered = at; is = is })

@@ -1,32 +1,6 @@
 -- The image of an accepted plan is sound.
-use Rattle.std.proofs.Common.{◌≡◌, ◌<◌, ℕ, Bool, true, false, List, length, Option, None, Some, is_some, refl, sym, ap, subst, ◌∙◌, arith, Contains, slice_get}
-use Rattle.std.specs.Prelude.{slice_index}
-use Rattle.sig_base.specs.declared.ids.SigId.{SigId}
-use Rattle.sig_clock.specs.ClockFunctions.{KeepsTo}
-use Rattle.sig_clock.specs.Reactions.{Reaction, Speaks, Status, is_present, status_at}
-use Rattle.sig_clock.proofs.ProposalLemmas.{some_reaction}
-use Rattle.sig_dd.specs.Diagram.{Diagram, value_at}
-use Rattle.sig_dd.specs.Nodes.{Holds, diagram, test}
-use Rattle.sig_dd.specs.Walks.{Asks}
-use Rattle.sig_dd.proofs.Walks.{asks_depends, asks_no_idle}
-use Rattle.sig_plan.specs.Guards.{of_operation}
-use Rattle.sig_plan.specs.Operations.{Operation, operation_in, operations_in}
-use Rattle.sig_plan.specs.Order.{Needs, Precedes, Writes}
-use Rattle.sig_plan.specs.Plans.{IsAccepted, PlanView, numbers_of}
-use Rattle.sig_plan.specs.declared.op.Op.{Op}
-use Rattle.sig_plan.proofs.Common.{get_within}
-use Rattle.sig_plan.proofs.Done.{present_written, written_by_one}
-use Rattle.sig_plan.proofs.Earlier.{guards_idle, needed_earlier, read_earlier}
-use Rattle.sig_plan.proofs.Orders.{stands_once}
-use Rattle.sig_plan.proofs.Slotted.{guard_held}
-use Rattle.sig_meaning.proofs.Accepted.{compiled}
-use Rattle.sig_meaning.proofs.Agreement.{Compiled, condition_signal}
-use Rattle.sig_doing.specs.Places.{StandsAt}
-use Rattle.sig_doing.proofs.Places.{at_place, to_place}
-use Rattle.sig_file.specs.Guarded.{Guarded, IsSoundImage, IsSoundOperation, IsWrittenBefore, guards_of, Reads, Writes as WritesIn}
-use Rattle.sig_file.specs.Images.{ImageView}
-use Rattle.sig_file.specs.PlanImages.{image_of}
-use Rattle.sig_file.specs.declared.images.ImageOpKind.{ImageOpKind}
+use Rattle.sig_shipped.proofs.Common.{◌≡◌, ◌<◌, ℕ, Bool, true, false, List, length, Option, None, Some, is_some, refl, sym, ap, subst, ◌∙◌, arith, Contains, slice_get, slice_index, SigId, KeepsTo, Reaction, Speaks, Status, is_present, status_at, some_reaction, Diagram, value_at, Holds, diagram, test, Asks, asks_depends, asks_no_idle, of_operation, Operation, operation_in, operations_in, Needs, Precedes, IsAccepted, PlanView, numbers_of, Op, present_written, written_by_one, guards_idle, needed_earlier, read_earlier, stands_once, guard_held, compiled, Compiled, condition_signal, StandsAt, at_place, to_place, Guarded, IsSoundImage, IsSoundOperation, IsWrittenBefore, guards_of, Reads, Writes as WritesIn, ImageView, image_of, ImageOpKind, slice_get_within}
+use Rattle.sig_plan.specs.Order.{Writes}
 use Rattle.sig_shipped.proofs.Cases.{image_reads, image_writes, writes_image}
 use Rattle.sig_shipped.proofs.Placed.{IsMadeFor, guarded_at, guarded_for}
 
@@ -115,7 +89,7 @@ module _ (plan : PlanView) (accepted : IsAccepted plan) where
           (guards_idle plan.kernel c.valid conditions operations c.has proposal found.0 found.1 found.2 place x at absent (slice_index order n) q here.1))
       by (Some b) there =
           let signal = condition_signal plan.kernel conditions c.has.order place x at in
-          let lt = get_within plan.kernel.signals x.0 signal.0 signal.1 in
+          let lt = slice_get_within plan.kernel.signals x.0 signal.0 signal.1 in
           let w = present_written plan.kernel c.valid conditions operations c.has proposal found.0 found.1 found.2 x lt (ap is_some there) in
           let needs : Needs conditions q x = record { variable = place; is = at; depends = asks_depends plan.store accepted.store op.guard held proposal place walks } in
           let e = needed_earlier plan.kernel c.valid conditions operations c.has order c.ordered n within q here.1 x needs w.0 w.1 w.2 w.3 in

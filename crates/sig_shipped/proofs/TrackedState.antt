@@ -1,24 +1,6 @@
 -- An actor of a plan and a state of its image have the same of each signal, delay and input.
-use Rattle.std.proofs.lemmas.Option.{same_Some}
-use Rattle.std.proofs.Common.{◌≡◌, ◌<◌, ◌≤◌, ◌+◌, ◌==◌, ◌⊎◌, inl, inr, ℕ, zero, suc, ℤ, Bool, true, false, cond, List, [], ◌∷◌, length, map, drop, set, length-set, Option, None, Some, is_some, refl, sym, ap, subst, ◌∙◌, arith, Contains, slice_get, if◌then◌else◌}
-use Rattle.std.specs.Prelude.{pos, slice_index_or, slice_set, unwrap_or}
-use Rattle.sig_plan.proofs.Common.{cases_order}
-use Rattle.sig_base.specs.declared.ids.EqId.{EqId}
-use Rattle.sig_base.specs.declared.ids.SigId.{SigId}
-use Rattle.sig_base.specs.Traces.{Seen, seen_at}
-use Rattle.sig_kernel.specs.Table.{target_of}
-use Rattle.sig_kernel.specs.Validity.{IsValid}
-use Rattle.sig_kernel.specs.declared.equation.Equation.{Equation}
-use Rattle.sig_kernel.specs.declared.equation.Form.{Form}
-use Rattle.sig_kernel.specs.declared.equation.Form.TheVariants.{Delay}
-use Rattle.sig_kernel.specs.declared.kernel.Kernel.{Kernel}
-use Rattle.sig_model.specs.Actors.{Actor, with_at}
-use Rattle.sig_plan.proofs.Common.{get_within}
-use Rattle.sig_doing.proofs.DefinedOnce.{defined_once}
-use Rattle.sig_meaning.proofs.References.{got}
-use Rattle.sig_file.specs.ImageRuns.{State, written}
-use Rattle.sig_file.specs.PlanImages.{is_delay, memory_number}
-use Rattle.sig_shipped.proofs.Lists.{by_equal, counts_more, get_other, get_same}
+use Rattle.sig_shipped.proofs.Common.{same_Some, ◌≡◌, ◌<◌, ◌≤◌, ◌+◌, ◌==◌, ◌⊎◌, inl, inr, ℕ, zero, suc, ℤ, Bool, true, false, cond, List, [], ◌∷◌, length, map, drop, set, length-set, Option, None, Some, is_some, refl, sym, ap, subst, ◌∙◌, arith, Contains, slice_get, if◌then◌else◌, pos, slice_index_or, slice_set, unwrap_or, cases_order, EqId, SigId, Seen, seen_at, target_of, IsValid, Equation, Form, Delay, Kernel, Actor, with_at, defined_once, State, written, is_delay, memory_number, slice_get_within, got, get_set_other, get_set_same}
+use Rattle.sig_shipped.proofs.Lists.{by_equal, counts_more}
 
 module _ (kernel : Kernel) (flows : List (List ℤ)) where
   pub record Tracks (a : Actor) (s : State) : Type 0 where
@@ -54,8 +36,8 @@ module _ (kernel : Kernel) (flows : List (List ℤ)) where
   tracks_written a s tracks y v below = record {
     count = length-set s.registers y.0 (Some v) ∙ tracks.count;
     registers = λ x lt. by_equal (λ b. slice_get (set s.registers y.0 (Some v)) x ≡ Some (if b then Some v else a.registers x)) x y.0
-        (λ same. ap (slice_get (set s.registers y.0 (Some v))) same ∙ get_same s.registers y.0 (Some v) (let c = tracks.count in omega (arith, below, c)))
-        (λ apart. get_other s.registers y.0 x (Some v) apart ∙ tracks.registers x lt);
+        (λ same. ap (slice_get (set s.registers y.0 (Some v))) same ∙ get_set_same s.registers y.0 (Some v) (let c = tracks.count in omega (arith, below, c)))
+        (λ apart. get_set_other s.registers y.0 x (Some v) apart ∙ tracks.registers x lt);
     memories = tracks.memories;
     inputs = tracks.inputs;
   }
@@ -68,9 +50,9 @@ module _ (kernel : Kernel) (flows : List (List ℤ)) where
     memories = tracks.memories;
     inputs = λ k lt. by_equal (λ b. slice_get (set s.flows x.0 (drop (a.taken x.0 + 1) (slice_index_or flows x.0 []))) k ≡ Some (drop (if b then a.taken x.0 + 1 else a.taken k) (slice_index_or flows k []))) k x.0
         (λ same. ap (slice_get (set s.flows x.0 (drop (a.taken x.0 + 1) (slice_index_or flows x.0 [])))) same
-        ∙ get_same s.flows x.0 (drop (a.taken x.0 + 1) (slice_index_or flows x.0 [])) (get_within s.flows x.0 _ (tracks.inputs x.0 below))
+        ∙ get_set_same s.flows x.0 (drop (a.taken x.0 + 1) (slice_index_or flows x.0 [])) (slice_get_within s.flows x.0 _ (tracks.inputs x.0 below))
         ∙ ap (λ (n : ℕ). Some (drop (a.taken x.0 + 1) (slice_index_or flows n []))) (sym same))
-        (λ apart. get_other s.flows x.0 k (drop (a.taken x.0 + 1) (slice_index_or flows x.0 [])) apart ∙ tracks.inputs k lt);
+        (λ apart. get_set_other s.flows x.0 k (drop (a.taken x.0 + 1) (slice_index_or flows x.0 [])) apart ∙ tracks.inputs k lt);
   }
 
   module _ (valid : IsValid kernel) (e : EqId) (d : Equation) (y x : SigId) (initial : ℤ) (at : slice_get kernel.equations e.0 ≡ Some d) (form : d.form ≡ Delay y x initial) where
@@ -102,8 +84,8 @@ module _ (kernel : Kernel) (flows : List (List ℤ)) where
           (λ same.
           let target : z ≡ y = (λ j. record { 0 = same j }) in
           let one : e'.0 ≡ e.0 = defined_once kernel valid e'.0 e.0 q d y there at (ap target_of is ∙ ap Some target) (ap target_of form) in
-          ap (λ (n : ℕ). slice_get (set s.memories m v) (memory_number kernel.equations n)) one ∙ get_same s.memories m v (get_within s.memories m _ (tracks.memories e d y x initial at form)))
-          (λ apart. get_other s.memories m (memory_number kernel.equations e'.0) v
+          ap (λ (n : ℕ). slice_get (set s.memories m v) (memory_number kernel.equations n)) one ∙ get_set_same s.memories m v (slice_get_within s.memories m _ (tracks.memories e d y x initial at form)))
+          (λ apart. get_set_other s.memories m (memory_number kernel.equations e'.0) v
           (λ same.
           let one : e'.0 ≡ e.0 = own_memory e'.0 q z u i there is same in
           let target = delayed_one q z u i (ap (slice_get kernel.equations) (sym one) ∙ there) is in

@@ -1,7 +1,7 @@
 -- Lemmas on guards: the images of presences, with the proposals at the places of their conditions.
-use Rattle.sig_solve.proofs.Common.{◌≡◌, ◌≢◌, ◌<◌, ◌+◌, inl, inr, ℕ, Bool, true, List, length, map, get_or, set, replicate, sym, ap, ◌∙◌, subst, arith, IsTrue, Some, Result, Ok, Err, IfOk, slice_get, length-set, cases_eq, cases_order, length-replicate, SigId, Allows, KeepsTo, AreInOrder, is_condition, Reaction, Speaks, is_present, status_at, Depends, truth_of, IsRefOf, Keeps, StoreView, test, DdAnswer, Node, Ref, Holds-kept, SystemView, reading, AreProposed, ArePlaced, ForgetsAllBut, IsAskedIn, IsImage, IsGuard, Asked, Frame}
+use Rattle.sig_solve.proofs.Common.{◌≡◌, ◌≢◌, ◌<◌, ◌+◌, inl, inr, ℕ, Bool, true, List, length, map, get_or, set, sym, ap, ◌∙◌, subst, arith, IsTrue, Some, Result, Ok, Err, IfOk, slice_get, length-set, cases_eq, cases_order, SigId, Allows, KeepsTo, AreInOrder, is_condition, Reaction, Speaks, is_present, status_at, Depends, truth_of, IsRefOf, Keeps, StoreView, test, DdAnswer, Node, Ref, Holds-kept, SystemView, reading, AreProposed, ArePlaced, ForgetsAllBut, IsAskedIn, IsImage, IsGuard, Asked, Frame, contains_at, slice_get-get_or, slice_get_within, get_set_same}
 use Rattle.sig_solve.proofs.AskedLemmas.{is_condition_at, kept_proposals, moved, number_of, speaks_read, variable_at}
-use Rattle.sig_solve.proofs.ListLemmas.{contains_get, get_at, get_set_other, get_set_same, get_within}
+use Rattle.sig_solve.proofs.ListLemmas.{get_set_other}
 use Rattle.sig_solve.proofs.PinnedLemmas.{not_both}
 use Rattle.sig_solve.proofs.StoreLemmas.{older_test}
 use Rattle.sig_solve.proofs.SystemLemmas.{keeps_at, proposed_truth}
@@ -12,9 +12,6 @@ use Rattle.sig_solve.proofs.SystemLemmas.{keeps_at, proposed_truth}
 pub record ArePlacedTo (system : SystemView) (conditions : List SigId) (n : ℕ) (places : List ℕ) : Type 0 where
   pub count : length places ≡ system.first + system.variables
   pub each : (i v : ℕ) (c : SigId) → i < n → slice_get system.conditions i ≡ Some c → slice_get system.proposals i ≡ Some v → (place : ℕ) × (slice_get conditions place ≡ Some c) × (slice_get places v ≡ Some place)
-
-pub none_placed : (system : SystemView) (conditions : List SigId) (end : ℕ) → end ≡ system.first + system.variables → ArePlacedTo system conditions 0 (replicate end 0)
-none_placed system conditions end is = record { count = length-replicate end 0 ∙ is; each = λ i v c lt at own. absurd (omega (arith, lt)) }
 
 module _ (system : SystemView) (are : AreProposed system) (conditions : List SigId) (n : ℕ) (places : List ℕ) (before : ArePlacedTo system conditions n places) (c : SigId) (v : ℕ) (at : slice_get system.conditions n ≡ Some c) (own : slice_get system.proposals n ≡ Some v) where
   pub variable_within : v < length places
@@ -37,9 +34,6 @@ module _ (system : SystemView) (are : AreProposed system) (conditions : List Sig
     ];
   }
 
-pub all_placed : (system : SystemView) (conditions : List SigId) (n : ℕ) (places : List ℕ) → n ≡ length system.conditions → ArePlacedTo system conditions n places → ArePlaced system conditions places
-all_placed system conditions n places all are = record { each = λ v c own. are.each own.0 v c (omega (arith, all, get_within system.conditions own.0 c own.1)) own.1 own.2 }
-
 -- ---- guards
 
 -- the conditions in their order stand at one place each
@@ -59,7 +53,7 @@ module _ (store : StoreView) (asked : Asked) (is : IsAskedIn store asked) (condi
       proposed_truth proposal places v place.0 place.2 ∙ ap (truth_of proposal) (one_place asked.frame.kernel.now conditions order place.0 k c place.1 at_k)
 
   condition_place : (c : SigId) → is_condition asked.frame.kernel.now c.0 ≡ true → (k : ℕ) × (slice_get conditions k ≡ Some c)
-  condition_place c is_c = let there = (order.all c).1 is_c in (there.0, get_at conditions there.0 c there.1 ∙ ap Some there.2)
+  condition_place c is_c = let there = (order.all c).1 is_c in (there.0, slice_get-get_or conditions there.0 c there.1 ∙ ap Some there.2)
 
   module _ (new : List Node) (guard : Ref) (renamed : IsRefOf new (λ ts. test store.nodes image (map (truth_of ts) places)) guard)
       (depends : (w : ℕ) → Depends (test new guard) w → (v : ℕ) × Depends (test store.nodes image) v × (slice_get places v ≡ Some w)) where
@@ -69,11 +63,11 @@ module _ (store : StoreView) (asked : Asked) (is : IsAskedIn store asked) (condi
           reading store.nodes asked.system w.0,
           speaks_read store asked is w.0 w.2,
           λ k c at_k.
-              let is_c = (order.all c).0 (contains_get conditions k c at_k) in
+              let is_c = (order.all c).0 (contains_at conditions k c at_k) in
               let (i, at) = number_of store asked is c.0 is_c in
               let own = variable_at store asked is i c at in
               let v = get_or asked.system.proposals i 0 in
-              let kept = but.kept v c (contains_get conditions k c at_k) (i, at, own) in
+              let kept = but.kept v c (contains_at conditions k c at_k) (i, at, own) in
               subst (Allows (status_at (reading store.nodes asked.system w.0) c.0)) (sym (w.1 v kept) ∙ placed_truth proposal i v k c at own at_k)
               (keeps_at asked.frame.kernel.now store.nodes asked.system is.is_system w.0 i v c at own),
           w.3,
@@ -99,7 +93,7 @@ module _ (store : StoreView) (asked : Asked) (is : IsAskedIn store asked) (condi
           let place = placed.each v other.0 other.2 in
           let both : Some w ≡ Some place.0 = sym at ∙ place.2 in
           let same : w ≡ place.0 = cc in
-          omega (arith, same, get_within conditions place.0 other.0 place.1);
+          omega (arith, same, slice_get_within conditions place.0 other.0 place.1);
     }
 
   pub guard_ok : (new : StoreView) (result : Result Ref DdAnswer) → IfOk result (λ r. IsRefOf new.nodes (λ ts. test store.nodes image (map (truth_of ts) places)) r)

@@ -1,6 +1,5 @@
 -- Lemmas on the solutions of a system, and on images of statements on reactions.
-use Rattle.sig_solve.proofs.Common.{◌≡◌, ◌≢◌, ◌<◌, ◌≤◌, ◌↔◌, ◌&&◌, inl, inr, ℕ, Bool, true, false, not, List, length, get_or, refl, sym, ap, ◌∙◌, subst, arith, Contains, IsTrue, zero, suc, None, Some, Result, Ok, Err, IfOk, slice_get, if◌then◌else◌, cases_eq, false≢true, SigId, IsValid, Allows, is_condition, signal_id, Reaction, Status, Speaks, is_present, status_at, at_contained, truth_of, with_truth, Holds, IsRefOf, IsStore, Keeps, Spans, StoreView, test, AgreeBut, IsProduct, DdAnswer, Node, Ref, Depends-of_one, Depends-of_two, Holds-kept, ref_depends, product_forgets, product_spanned, truth_of-with_other, truth_of-with_same, AreConditions, IsOver, IsSolution, IsSystem, IsVariable, SystemView, reading, AreProposed, ForgetsAllBut, IsAskedIn, IsImage, IsProposalOf, variables_of, IsFrame, Asked}
-use Rattle.sig_solve.proofs.ListLemmas.{contains_get, get_at, get_within}
+use Rattle.sig_solve.proofs.Common.{◌≡◌, ◌≢◌, ◌<◌, ◌≤◌, ◌↔◌, ◌&&◌, inl, inr, ℕ, Bool, true, false, not, List, length, get_or, refl, sym, ap, ◌∙◌, subst, arith, Contains, IsTrue, zero, suc, None, Some, Result, Ok, Err, IfOk, slice_get, if◌then◌else◌, cases_eq, false≢true, SigId, IsValid, Allows, is_condition, signal_id, Reaction, Status, Speaks, is_present, status_at, truth_of, with_truth, Holds, IsRefOf, IsStore, Keeps, Spans, StoreView, test, AgreeBut, IsProduct, DdAnswer, Node, Ref, Depends-of_one, Depends-of_two, ref_depends, product_forgets, product_spanned, truth_of-with_other, truth_of-with_same, AreConditions, IsOver, IsSolution, IsSystem, IsVariable, SystemView, reading, AreProposed, ForgetsAllBut, IsAskedIn, IsImage, IsProposalOf, variables_of, IsFrame, Asked, both_true, not_true, at_contained, contains_at, slice_get-get_or, slice_get_within}
 use Rattle.sig_solve.proofs.StoreLemmas.{older_test}
 use Rattle.sig_solve.proofs.SystemLemmas.{in_variables, keeps_at, of_variables, over_kept, presence_over, presence_read, status_is, truth_over, reading_kept, reading_same, solution_newer, solution_older, solution_same, system_kept}
 use Rattle.sig_solve.proofs.TruthLemmas.{is_in, mixed, mixed_at, mixed_outside}
@@ -32,10 +31,6 @@ product_over store has system f g over_f over_g nodes forgotten r is =
     over_of nodes system r is.holds
     (product_spanned store has f g over_f.held over_g.held nodes forgotten r is (variables_of system) (over_spans store.nodes system f over_f) (over_spans store.nodes system g over_g))
 
-not_true : (b : Bool) → not b ≡ true → b ≡ false
-not_true true e = absurd (false≢true e)
-not_true false e = refl
-
 status_both : (p t : Bool) → IsTrue (p && t) ↔ ((if p then Some t else None) ≡ Some true)
 status_both true true = ((λ t. refl), (λ e. refl))
 status_both true false = ((λ t. absurd (false≢true t)), (λ e. let f : false ≡ true = cc in f))
@@ -47,10 +42,6 @@ status_fails true false = ((λ t. refl), (λ e. refl))
 status_fails false t = ((λ t. absurd (false≢true t)), (λ e. absurd (let none : None ≡ Some false = e in cc)))
 
 -- ---- a kernel with its solutions
-
-both_true : (a b : Bool) → IsTrue (a && b) ↔ (IsTrue a × IsTrue b)
-both_true true b = ((λ t. (refl, t)), (λ p. p.1))
-both_true false b = ((λ t. absurd (false≢true t)), (λ p. absurd (false≢true p.0)))
 
 -- the solutions are where the residue and the speaking are both true
 pub asked_is : (old new : StoreView) (kept : Keeps old new) (asked : Asked) → IsStore new → IsValid asked.frame.kernel.now → IsFrame asked.frame → AreConditions asked.frame.kernel.now asked.system.conditions
@@ -207,7 +198,7 @@ module _ (store : StoreView) (asked : Asked) (is : IsAskedIn store asked) where
   number_of c is_c = let there = (is.conditions.all (signal_id c)).1 is_c in (there.0, at_contained asked.system.conditions (signal_id c) there)
 
   pub variable_at : (i : ℕ) (c : SigId) → slice_get asked.system.conditions i ≡ Some c → slice_get asked.system.proposals i ≡ Some (get_or asked.system.proposals i 0)
-  variable_at i c at = get_at asked.system.proposals i 0 (omega (arith, get_within asked.system.conditions i c at, is.is_system.counted))
+  variable_at i c at = slice_get-get_or asked.system.proposals i 0 (omega (arith, slice_get_within asked.system.conditions i c at, is.is_system.counted))
 
   -- a variable is the proposal of one condition
   pub one_condition : (v : ℕ) (c d : SigId) → IsProposalOf asked.system v c → IsProposalOf asked.system v d → c ≡ d
@@ -272,12 +263,9 @@ module _ (store : StoreView) (asked : Asked) (is : IsAskedIn store asked) where
     turned (suc n) le =
         let before = turned n (omega (arith, le)) in
         let c = get_or asked.system.conditions n (signal_id 0) in
-        let at_c = get_at asked.system.conditions n (signal_id 0) (omega (arith, le)) in
+        let at_c = slice_get-get_or asked.system.conditions n (signal_id 0) (omega (arith, le)) in
         let v = get_or asked.system.proposals n 0 in
         one_more n before v c (variable_at n c at_c) at_c (truth_of forgotten v) refl (status_at (reading store.nodes asked.system before.0) c.0) refl
-
-    abbrev last : List Bool
-    last = (turned (length asked.system.conditions) (omega arith)).0
 
     pub moved : (o : List Bool) × AgreeBut forgotten a o × IsSolution store.nodes asked.system o × (reading store.nodes asked.system o ≡ reading store.nodes asked.system b)
     moved =
@@ -289,7 +277,7 @@ module _ (store : StoreView) (asked : Asked) (is : IsAskedIn store asked) where
             | inl there ↦
                 let var = of_variables asked.system v there in
                 let at = proposals v var kept in
-                let lt : at.0 < length asked.system.conditions = omega (arith, get_within asked.system.proposals at.0 v at.1, is.is_system.counted) in
+                let lt : at.0 < length asked.system.conditions = omega (arith, slice_get_within asked.system.proposals at.0 v at.1, is.is_system.counted) in
                 sym (same v var ∙ end.3 at.0 v lt at.1 kept)
             | inr out ↦ mixed_outside (variables_of asked.system) end.0 a v out
           ],
@@ -309,7 +297,4 @@ module _ (store : StoreView) (asked : Asked) (is : IsAskedIn store asked) where
       subst (Contains known) (one_condition v other.0 c other.2 (i, at_c, at)) other.1
 
   pub is_condition_at : (i : ℕ) (c : SigId) → slice_get asked.system.conditions i ≡ Some c → is_condition asked.frame.kernel.now c.0 ≡ true
-  is_condition_at i c at = (is.conditions.all c).0 (contains_get asked.system.conditions i c at)
-
-pub image_held : (old new : StoreView) (kept : Keeps old new) (asked : Asked) (forgotten : List Bool) (P : Reaction → Type 0) (r : Ref) → IsImage old.nodes asked forgotten P r → Holds new.nodes r
-image_held old new kept asked forgotten P r image = Holds-kept old new kept r image.over.held
+  is_condition_at i c at = (is.conditions.all c).0 (contains_at asked.system.conditions i c at)

@@ -1,9 +1,8 @@
 -- Lemmas on pinned conditions: what the images of the two halves of a condition say.
-use Rattle.sig_solve.proofs.Common.{◌≡◌, ◌≢◌, ◌<◌, ◌≤◌, ◌⊎◌, inl, inr, ℕ, Bool, true, false, not, eqb, List, take, refl, sym, ap, ◌∙◌, subst, arith, Contains, IsTrue, zero, suc, None, Some, slice_get, cases_eq, cases_lt, cases_order, eq-eqb, eqb-true, false≢true, SigId, Kernel, AreInOrder, is_condition, signal_id, AgreeOn, EntersBy, HasLayer, IsReaction, Reaction, Speaks, is_silent, status_at, one_layer, absent_in_silence, truth_of, StoreView, diagram, test, Ref, proper, same_ref, equal_or_differ, IsSolution, reading, AreHalves, ForgetsAllBut, IsAskedIn, IsImage, IsAmong, IsFreeBy, IsPinnedBy, Asked}
+use Rattle.sig_solve.proofs.Common.{◌≡◌, ◌≢◌, ◌<◌, ◌≤◌, ◌⊎◌, inl, inr, ℕ, Bool, true, false, not, eqb, List, take, refl, sym, ap, ◌∙◌, subst, arith, Contains, IsTrue, zero, suc, None, Some, slice_get, cases_eq, cases_lt, cases_order, eq-eqb, eqb-true, false≢true, SigId, Kernel, AreInOrder, is_condition, signal_id, AgreeOn, EntersBy, HasLayer, IsReaction, Reaction, Speaks, is_silent, status_at, one_layer, absent_in_silence, truth_of, StoreView, diagram, test, Ref, proper, same_ref, equal_or_differ, IsSolution, reading, AreHalves, ForgetsAllBut, IsAskedIn, IsImage, IsAmong, IsFreeBy, IsPinnedBy, Asked, contains_at, slice_get-get_or}
 use Rattle.sig_dd.proofs.Canonical.{one_reference}
 use Rattle.sig_solve.proofs.AskedLemmas.{speaks_read}
 use Rattle.sig_solve.proofs.AskedRounds.{agreeing, one_status}
-use Rattle.sig_solve.proofs.ListLemmas.{contains_get, get_at}
 use Rattle.sig_solve.proofs.PinnedLemmas.{get_take, taken_below}
 
 -- a reaction that has a signal speaks
@@ -31,7 +30,7 @@ module _ (store : StoreView) (asked : Asked) (is : IsAskedIn store asked) (condi
   earlier_place : (c : ℕ) → IsAmong (take place conditions) c → (k : ℕ) × (k < place) × (slice_get conditions k ≡ Some (signal_id c))
   earlier_place c there =
       let lt = taken_below conditions place there.0 there.1 in
-      (there.0, lt, sym (get_take conditions place there.0 lt) ∙ get_at (take place conditions) there.0 (signal_id c) there.1 ∙ ap Some there.2)
+      (there.0, lt, sym (get_take conditions place there.0 lt) ∙ slice_get-get_or (take place conditions) there.0 (signal_id c) there.1 ∙ ap Some there.2)
 
   -- ---- the earlier conditions agree where their proposals do
 
@@ -55,7 +54,7 @@ module _ (store : StoreView) (asked : Asked) (is : IsAskedIn store asked) (condi
       at_places k j lt at_c at_d (inr (inl less)) =
           let earlier = order.order j k (signal_id d) (signal_id c) less at_d at_c in
           let below : j < place = omega (arith, less, lt) in
-          (contains_get (take place conditions) j (signal_id d) (get_take conditions place j below ∙ at_d), (earlier.layer, earlier.has, not_later earlier.layer earlier.has))
+          (contains_at (take place conditions) j (signal_id d) (get_take conditions place j below ∙ at_d), (earlier.layer, earlier.has, not_later earlier.layer earlier.has))
       at_places k j lt at_c at_d (inr (inr more)) =
           let earlier = order.order k j (signal_id c) (signal_id d) more at_c at_d in
           let one : earlier.layer ≡ suc r = one_layer asked.frame.kernel.now c earlier.layer (suc r) earlier.has has in
@@ -63,7 +62,7 @@ module _ (store : StoreView) (asked : Asked) (is : IsAskedIn store asked) (condi
           absurd (elim earlier.before [ inl less ↦ omega (arith, less, one, low) | inr both ↦ omega (arith, both.0, one, low) ])
 
       by : (k : ℕ) × (k < place) × (slice_get conditions k ≡ Some (signal_id c)) → Contains conditions (signal_id d) → IsAmong (take place conditions) d × ((layer : ℕ) × HasLayer asked.frame.kernel.now d layer × (layer ≤ r))
-      by (k, lt, at_c) (j, within, e) = at_places k j lt at_c (get_at conditions j (signal_id d) within ∙ ap Some e) (cases_order j k)
+      by (k, lt, at_c) (j, within, e) = at_places k j lt at_c (slice_get-get_or conditions j (signal_id d) within ∙ ap Some e) (cases_order j k)
 
     by_layers : (r c : ℕ) → is_condition asked.frame.kernel.now c ≡ true → IsAmong (take place conditions) c → (layer : ℕ) → HasLayer asked.frame.kernel.now c layer → layer ≤ r → Same c
     by_layers zero c is_c among layer has le = let none : layer ≡ 0 = omega (arith, le) in absurd (subst (λ l. EntersBy asked.frame.kernel.now l c) none has.enters)

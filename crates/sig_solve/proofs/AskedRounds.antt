@@ -1,5 +1,5 @@
 -- Lemmas on rounds: where the proposals of known conditions are known, so are the conditions.
-use Rattle.sig_solve.proofs.Common.{◌≡◌, ◌≤◌, ◌↔◌, ℕ, Bool, true, false, List, get_or, refl, sym, ap, ◌∙◌, subst, arith, IsTrue, zero, suc, None, Some, Result, Ok, Err, IfOk, is_some, slice_get, false≢true, SigId, Allows, is_condition, signal_id, AgreeOn, EntersBy, IsDetermined, Reaction, Status, Speaks, is_present, status_at, truth_of, Overlap, StoreView, DdAnswer, Ref, IsSolution, reading, ForgetsAllBut, IsAskedIn, IsImage, IsAmong, AreEntered, IsOpenAnswer, Asked}
+use Rattle.sig_solve.proofs.Common.{◌≡◌, ◌≤◌, ℕ, Bool, true, false, List, get_or, refl, sym, ap, ◌∙◌, subst, arith, zero, suc, None, Some, is_some, slice_get, false≢true, SigId, Allows, is_condition, signal_id, AgreeOn, EntersBy, Reaction, Status, Speaks, is_present, status_at, truth_of, StoreView, IsSolution, reading, ForgetsAllBut, IsAskedIn, IsAmong, Asked}
 use Rattle.sig_solve.proofs.AskedLemmas.{is_condition_at, kept_known, kept_proposals, moved, number_of, speaks_read, variable_at}
 use Rattle.sig_solve.proofs.RoundLemmas.{enters_later}
 use Rattle.sig_solve.proofs.SystemLemmas.{keeps_at}
@@ -52,46 +52,4 @@ module _ (store : StoreView) (asked : Asked) (is : IsAskedIn store asked) where
     agreeing =
         let at = moved store asked is forgotten (kept_proposals store asked is known forgotten but) a own_truths.0 own_truths.1 allowed in
         (at.0, at.1, at.2, at.3 ∙ own_truths.2)
-
-  -- ---- whether known conditions leave a presence open
-
-  module _ (round : ℕ) (known : List SigId) (forgotten : List Bool) (but : ForgetsAllBut asked.system known forgotten) (entered : AreEntered asked.frame.kernel.now round known) (s : ℕ) (with without : Ref)
-      (is_with : IsImage store.nodes asked forgotten (λ r. is_present r s ≡ true) with) (is_without : IsImage store.nodes asked forgotten (λ r. is_present r s ≡ false) without) where
-    -- solutions that agree on what is not forgotten agree on the known conditions
-    known_agree : (a b : List Bool) → IsSolution store.nodes asked.system a → IsSolution store.nodes asked.system b → ((v : ℕ) → truth_of forgotten v ≡ false → truth_of a v ≡ truth_of b v)
-        → AgreeOn asked.frame.kernel.now (IsAmong known) (reading store.nodes asked.system a) (reading store.nodes asked.system b)
-    known_agree a b solves_a solves_b same c is_c among =
-        closed_rounds a b solves_a solves_b round
-        (λ i v d at own enters. same v (but.kept v d ((entered d.0 (is_condition_at store asked is i d at)).1 enters) (i, at, own)))
-        round (omega arith) c is_c ((entered c is_c).0 among)
-
-    overlap_open : Overlap store.nodes with without → IsDetermined asked.frame.kernel.now (IsAmong known) s → ⊥
-    overlap_open (ts, w, o) determined =
-        let a = (is_with.function ts).0 w in
-        let b = (is_without.function ts).0 o in
-        let same = determined (reading store.nodes asked.system a.0) (reading store.nodes asked.system b.0) (speaks_read store asked is a.0 a.2) (speaks_read store asked is b.0 b.2)
-        (known_agree a.0 b.0 a.2 b.2 (λ v kept. sym (a.1 v kept) ∙ b.1 v kept)) in
-        false≢true (sym b.3 ∙ sym same ∙ a.3)
-
-    -- two reactions that agree, one with the signal and one without
-    open_overlap : (p q : Reaction) → Speaks asked.frame.kernel.now p → Speaks asked.frame.kernel.now q → AgreeOn asked.frame.kernel.now (IsAmong known) p q → is_present p s ≡ true → is_present q s ≡ false → Overlap store.nodes with without
-    open_overlap p q speaks_p speaks_q agree here gone =
-        let a = is.is_system.complete p speaks_p in
-        let o = agreeing known forgotten but a.0 q speaks_q (λ c is_c among. ap (λ x. status_at x c) a.2 ∙ agree c is_c among) in (
-          a.0,
-          (is_with.function a.0).1 (a.0, (λ v kept. refl), a.1, ap (λ x. is_present x s) a.2 ∙ here),
-          (is_without.function a.0).1 (o.0, o.1, o.2, ap (λ x. is_present x s) o.3 ∙ gone),
-        )
-
-    none_determined : (Overlap store.nodes with without → ⊥) → IsDetermined asked.frame.kernel.now (IsAmong known) s
-    none_determined none p q speaks_p speaks_q agree = by (is_present p s) (is_present q s) refl refl where
-      by : (x y : Bool) → is_present p s ≡ x → is_present q s ≡ y → is_present p s ≡ is_present q s
-      by true true e f = e ∙ sym f
-      by false false e f = e ∙ sym f
-      by true false e f = absurd (none (open_overlap p q speaks_p speaks_q agree e f))
-      by false true e f = absurd (none (open_overlap q p speaks_q speaks_p (λ c is_c among. sym (agree c is_c among)) f e))
-
-    pub open_ok : (result : Result Bool DdAnswer) → IfOk result (λ holds. IsTrue holds ↔ Overlap store.nodes with without) → IfOk result (IsOpenAnswer asked.frame.kernel.now (IsAmong known) s)
-    open_ok (Err e) over = tt
-    open_ok (Ok true) over = overlap_open (over.0 refl)
-    open_ok (Ok false) over = none_determined (λ o. false≢true (over.1 o))
+    -- ---- whether known conditions leave a presence open

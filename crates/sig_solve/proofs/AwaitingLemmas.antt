@@ -1,8 +1,7 @@
 -- Lemmas on presences that wait for a condition.
-use Rattle.sig_solve.proofs.Common.{◌≡◌, ◌≢◌, ◌↔◌, ◌⊎◌, inl, inr, ℕ, Bool, true, false, List, [], ◌∷◌, length, get_or, set, replicate, refl, sym, ap, ◌∙◌, subst, arith, IsTrue, zero, suc, Option, None, Some, Result, Ok, Err, IfOk, slice_get, if◌then◌else◌, false≢true, length-replicate, length-set, SigId, AgreeOn, IsDetermined, IsSignal, Reaction, Speaks, is_present, status_at, truth_of, IsRefOf, Keeps, Overlap, Spans, StoreView, test, DdAnswer, Node, Ref, Holds-kept, IsSolution, reading, ForgetsAllBut, IsAskedIn, IsImage, IsProposalOf, AreAwaited, IsApart, IsRest, IsAmong, AreEntered, IsOpenAnswer, Asked}
+use Rattle.sig_solve.proofs.Common.{◌≡◌, ◌≢◌, ◌↔◌, ◌⊎◌, inl, inr, ℕ, Bool, true, false, List, [], ◌∷◌, length, get_or, set, replicate, refl, sym, ap, ◌∙◌, subst, arith, IsTrue, zero, suc, Option, None, Some, Result, Ok, Err, IfOk, slice_get, if◌then◌else◌, false≢true, length-replicate, length-set, SigId, AgreeOn, IsDetermined, IsSignal, Reaction, Speaks, is_present, status_at, truth_of, IsRefOf, Keeps, Overlap, Spans, StoreView, test, DdAnswer, Node, Ref, Holds-kept, IsSolution, reading, ForgetsAllBut, IsAskedIn, IsImage, IsProposalOf, AreAwaited, IsApart, IsRest, IsAmong, AreEntered, IsOpenAnswer, Asked, contains_at}
 use Rattle.sig_solve.proofs.AskedLemmas.{is_condition_at, speaks_read}
 use Rattle.sig_solve.proofs.AskedRounds.{agreeing, closed_rounds}
-use Rattle.sig_solve.proofs.ListLemmas.{contains_get}
 use Rattle.sig_solve.proofs.StoreLemmas.{older_test}
 use Rattle.sig_solve.proofs.SystemLemmas.{presence_read, reading_kept, solution_newer, solution_older}
 
@@ -56,9 +55,6 @@ module _ (store : StoreView) (asked : Asked) (is : IsAskedIn store asked) where
       gone = ap (λ x. is_present x s) (reading_kept store new kept asked.system asked.frame.kernel.now is.is_system apart.without) ∙ apart.gone;
       agree = apart.agree;
     }
-
-    pub awaited_kept : (awaited : List (Option ℕ)) → AreAwaited store.nodes asked awaited → AreAwaited new.nodes asked awaited
-    awaited_kept awaited are = record { count = are.count; each = λ s v at. apart_kept v s (are.each s v at) }
 
     -- with what was found of one more class
     pub awaited_set : (awaited : List (Option ℕ)) (class : ℕ) (awaits : Option ℕ) → AreAwaited store.nodes asked awaited → ((v : ℕ) → awaits ≡ Some v → IsApart new.nodes asked v class)
@@ -160,4 +156,4 @@ module _ (store : StoreView) (asked : Asked) (is : IsAskedIn store asked) where
 -- what is not forgotten beside one variable
 pub tried_keeps : (asked : Asked) (base tried : List Bool) (v : ℕ) → ForgetsAllBut asked.system asked.system.conditions base → ((u : ℕ) → u ≢ v → truth_of tried u ≡ truth_of base u)
     → (u : ℕ) (c : SigId) → IsProposalOf asked.system u c → u ≢ v → truth_of tried u ≡ false
-tried_keeps asked base tried v but same u c own apart = same u apart ∙ but.kept u c (contains_get asked.system.conditions own.0 c own.1) own
+tried_keeps asked base tried v but same u c own apart = same u apart ∙ but.kept u c (contains_at asked.system.conditions own.0 c own.1) own

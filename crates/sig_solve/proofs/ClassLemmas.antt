@@ -1,7 +1,6 @@
 -- Lemmas on the classes of clocks.
-use Rattle.sig_solve.proofs.Common.{◌≡◌, ◌<◌, ◌≤◌, ◌⊎◌, inl, inr, ℕ, Bool, true, false, eqb, List, [], ◌∷◌, length, map, get_or, refl, sym, ap, ◌∙◌, subst, arith, zero, suc, None, Some, slice_get, range_with_len, cases_eq, cases_lt, eq-eqb, eqb-true, false≢true, SigId, Kernel, Allows, IsClockFunction, KeepsTo, HasClocks, AreClocks, AreInOrder, ClocksView, IsLeastOf, signal_id, EntersBy, HasLayer, IsRoot, Reaction, Status, Speaks, is_present, status_at, truth_of_status, one_layer, one_presence, some_reaction, present_together, StoreView, IsStore, test, Ref, one_reference, AreFirsts, AreMadeOf, guard_at, IsFrame, AreGuards, IsGuard, by_layer, AreSettled, layer_in, Frame}
+use Rattle.sig_solve.proofs.Common.{◌≡◌, ◌<◌, ◌≤◌, ◌⊎◌, inl, inr, ℕ, Bool, true, false, eqb, List, [], ◌∷◌, length, map, get_or, refl, sym, ap, ◌∙◌, subst, arith, zero, suc, None, Some, slice_get, range_with_len, cases_eq, cases_lt, eq-eqb, eqb-true, false≢true, SigId, Kernel, Allows, IsClockFunction, KeepsTo, HasClocks, AreClocks, AreInOrder, ClocksView, IsLeastOf, signal_id, EntersBy, HasLayer, IsRoot, Reaction, Status, Speaks, is_present, status_at, truth_of_status, one_layer, one_presence, some_reaction, present_together, StoreView, IsStore, test, Ref, one_reference, AreFirsts, AreMadeOf, guard_at, IsFrame, AreGuards, IsGuard, by_layer, AreSettled, layer_in, Frame, get_map, get_or_from_slice_get, slice_get-get_or, slice_get_within, length-map}
 use Rattle.sig_solve.proofs.FrameLemmas.{leader_in}
-use Rattle.sig_solve.proofs.ListLemmas.{get_at, get_is, get_within, map_length}
 use Rattle.sig_solve.proofs.OrderLemmas.{listed_signal, listed_within, signal_layer}
 
 abbrev all_ordered : Frame → List ℕ → List SigId
@@ -67,11 +66,6 @@ least_member class_of class s lt is = by (least_from (λ k. eqb (get_or class_of
     },
   )
 
-get_map : {X Y : Type 0} (f : X → Y) (xs : List X) (i : ℕ) (x : X) → slice_get xs i ≡ Some x → slice_get (map f xs) i ≡ Some (f x)
-get_map f [] i x is = cc
-get_map f (y ∷ xs) zero x is = let e : Some y ≡ Some x = is in let same : y ≡ x = cc in ap (λ z. Some (f z)) same
-get_map f (y ∷ xs) (suc i) x is = get_map f xs i x is
-
 module _ (s : StoreView) (store : IsStore s) (frame : Frame) (is : IsFrame frame) (layers : List ℕ) (settled : AreSettled frame layers []) (guards : List Ref) (conditions : List SigId) (has : HasClocks frame.kernel.now)
     (order : AreInOrder frame.kernel.now conditions) (are_guards : AreGuards s.nodes frame conditions guards) where
   pub guard_for : (x : ℕ) → x < length frame.kernel.now.signals → (r : Ref) × (guard_at frame guards x ≡ Some r) × IsGuard s.nodes frame conditions x r
@@ -136,11 +130,11 @@ module _ (s : StoreView) (store : IsStore s) (frame : Frame) (is : IsFrame frame
     class_at i c at = let p = place c.0 (within i c at) in made.are.differ (get_or clocks.class_of c.0 0) i p.0 c p.1 at p.2
 
     first_of : (i : ℕ) → i < length clocks.guard → (c : SigId) × (slice_get made.firsts i ≡ Some c)
-    first_of i lt = let d : SigId = signal_id 0 in (get_or made.firsts i d, get_at made.firsts i d (omega (arith, lt, made.guard.count)))
+    first_of i lt = let d : SigId = signal_id 0 in (get_or made.firsts i d, slice_get-get_or made.firsts i d (omega (arith, lt, made.guard.count)))
 
     ref_at : (i : ℕ) (g : Ref) → slice_get clocks.guard i ≡ Some g → (c : SigId) × (slice_get made.firsts i ≡ Some c) × (guard_at frame guards c.0 ≡ Some g) × IsGuard s.nodes frame conditions c.0 g
     ref_at i g at =
-        let c = first_of i (get_within clocks.guard i g at) in
+        let c = first_of i (slice_get_within clocks.guard i g at) in
         let own = guard_for c.0.0 (within i c.0 c.1) in
         let is_g : guard_at frame guards c.0.0 ≡ Some g = sym (made.guard.each i c.0 c.1) ∙ at in
         let e : Some own.0 ≡ Some g = sym own.1 ∙ is_g in
@@ -148,7 +142,7 @@ module _ (s : StoreView) (store : IsStore s) (frame : Frame) (is : IsFrame frame
         (c.0, c.1, is_g, subst (λ r. IsGuard s.nodes frame conditions c.0.0 r) same own.2)
 
     layer_of : (i : ℕ) (c : SigId) → slice_get made.firsts i ≡ Some c → get_or clocks.layer i 0 ≡ layer_in frame layers c.0
-    layer_of i c at = ap (λ (xs : List ℕ). get_or xs i 0) made.layer ∙ get_is (map (λ (d : SigId). layer_in frame layers d.0) made.firsts) i (layer_in frame layers c.0) 0 (get_map (λ (d : SigId). layer_in frame layers d.0) made.firsts i c at)
+    layer_of i c at = ap (λ (xs : List ℕ). get_or xs i 0) made.layer ∙ get_or_from_slice_get (map (λ (d : SigId). layer_in frame layers d.0) made.firsts) i (layer_in frame layers c.0) 0 (get_map (λ (d : SigId). layer_in frame layers d.0) made.firsts i c at)
 
     has_layer : (x : ℕ) → x < length frame.kernel.now.signals → HasLayer frame.kernel.now x (get_or clocks.layer (get_or clocks.class_of x 0) 0)
     has_layer x lt =
@@ -205,9 +199,9 @@ module _ (s : StoreView) (store : IsStore s) (frame : Frame) (is : IsFrame frame
     pub clocks_are : AreClocks frame.kernel.now s.nodes clocks
     clocks_are = record {
       count = made.count;
-      layers = ap length made.layer ∙ map_length (λ (c : SigId). layer_in frame layers c.0) made.firsts ∙ sym made.guard.count;
+      layers = ap length made.layer ∙ length-map made.firsts (λ (c : SigId). layer_in frame layers c.0) ∙ sym made.guard.count;
       conditions = subst (λ xs. AreInOrder frame.kernel.now xs) (sym made.conditions_are) order;
-      classes = λ x lt. let p = place x lt in omega (arith, get_within made.firsts (get_or clocks.class_of x 0) p.0 p.1, made.guard.count);
+      classes = λ x lt. let p = place x lt in omega (arith, slice_get_within made.firsts (get_or clocks.class_of x 0) p.0 p.1, made.guard.count);
       members = λ class lt. let c = first_of class lt in least_member clocks.class_of class c.0.0 (let in_c = within class c.0 c.1 in omega (arith, in_c, made.count)) (class_at class c.0 c.1);
       held = λ class g at. (ref_at class g at).3.held;
       variables = λ class g at v d. let lt = (ref_at class g at).3.variables v d in omega (arith, lt, ap length made.conditions_are);

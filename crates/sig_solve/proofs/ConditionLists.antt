@@ -1,5 +1,5 @@
 -- Lemmas on the lists of a kernel's conditions: by number, and in their order.
-use Rattle.sig_solve.proofs.Common.{◌≡◌, ◌<◌, ◌≤◌, ◌+◌, ◌⊎◌, inl, inr, ℕ, Bool, true, false, cond, ltb, List, [], ◌∷◌, length, filter, refl, ap, ◌∙◌, arith, Contains, length-append, zero, suc, Some, slice_get, cases_eq, cases_lt, eq-eqb, false≢true, lt-ltb, ltb-true, SigId, Kernel, AreInOrder, conditions_of, one_layer, contains_head, contains_later, AreConditions, IsFrame, by_layer, of_layer, AreSettled, layer_in, Frame}
+use Rattle.sig_solve.proofs.Common.{◌≡◌, ◌<◌, ◌≤◌, ◌+◌, ◌⊎◌, inl, inr, ℕ, Bool, true, false, cond, ltb, List, [], ◌∷◌, length, filter, refl, ap, ◌∙◌, arith, Contains, length-append, zero, suc, Some, slice_get, cases_eq, cases_lt, eq-eqb, false≢true, lt-ltb, ltb-true, SigId, Kernel, AreInOrder, conditions_of, one_layer, AreConditions, IsFrame, by_layer, of_layer, AreSettled, layer_in, Frame, contains_head, contains_later}
 use Rattle.sig_solve.proofs.OrderLemmas.{by_fewer, conditions_in_order, signal_layer, sorted_at, sorted_conditions}
 use Rattle.sig_solve.proofs.ReactionLemmas.{condition_is_signal}
 use Rattle.sig_solve.proofs.RoundLemmas.{condition_listed, listed_condition}

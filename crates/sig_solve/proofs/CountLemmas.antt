@@ -1,22 +1,8 @@
 -- Lemmas on the share of solving.
-use Rattle.sig_solve.proofs.Common.{◌≡◌, ◌<◌, ◌≤◌, ◌+◌, ◌-◌, ◌*◌, ◌^◌, ◌⊎◌, inl, inr, ℕ, Bool, true, false, cond, eqb, count_by, List, [], ◌∷◌, length, filter, get_or, refl, sym, ap, ◌∙◌, subst, arith, Contains, zero, suc, Result, Ok, Err, IfErr, IsErrAnd, range_with_len, mul-le-mul_left, mul-le-mul_right, pow_mono, cases_lt, false≢true, length-filter, Kernel, conditions_of, is_condition, signal_id, AreLeast, StoreView, allowance, Share, contains_head, contains_later, IsUnknownCount, is_boolean, IsRefusedFor, RelAnswer, RelationBudget, NoRelation, IsFrame, Frame, HasNoRoom, IsFromRelation, IsWithin, calls_of, rest_of_share, share_of, store_refusal, ClockAnswer, Dead, MissingRoot, Unsolved, Pinned}
+use Rattle.sig_solve.proofs.Common.{◌≡◌, ◌<◌, ◌≤◌, ◌+◌, ◌-◌, ◌*◌, ◌^◌, ◌⊎◌, inl, inr, ℕ, Bool, true, false, cond, eqb, count_by, List, [], ◌∷◌, length, filter, get_or, refl, sym, ap, ◌∙◌, subst, arith, zero, suc, Result, Ok, Err, IfErr, IsErrAnd, range_with_len, mul-le-mul_left, mul-le-mul_right, pow_mono, cases_lt, false≢true, length-filter, Kernel, conditions_of, is_condition, signal_id, AreLeast, StoreView, allowance, Share, IsUnknownCount, is_boolean, IsRefusedFor, RelAnswer, RelationBudget, NoRelation, IsFrame, Frame, HasNoRoom, IsFromRelation, IsWithin, calls_of, rest_of_share, share_of, store_refusal, ClockAnswer, Dead, MissingRoot, Unsolved, Pinned, filter_same, length-map, within_range}
 use Rattle.sig_solve.specs.declared.answer.ClockAnswer.TheVariants.{Budget, OutOfMemory}
-use Rattle.sig_solve.proofs.ListLemmas.{map_length, of_range}
 use Rattle.sig_solve.proofs.FrameLemmas.{leader_in}
 use Rattle.sig_solve.proofs.ReactionLemmas.{condition_is_boolean}
-
--- refusals of one type of result are those of another
-same_err : (T U : Type 0) (e : ClockAnswer) → store_refusal {T = T} (Err e) ≡ store_refusal {T = U} (Err e)
-same_err T U Dead = refl
-same_err T U (MissingRoot x y) = refl
-same_err T U (Unsolved x) = refl
-same_err T U (Pinned b) = refl
-same_err T U (Budget n) = refl
-same_err T U OutOfMemory = refl
-
-pub passed_on : {T : Type 0} (U : Type 0) (n : ℕ) (vs : List ℕ) (s t : StoreView) (result : Result T ClockAnswer) (e : ClockAnswer) → IsErrAnd result (λ d. d ≡ e) → Share n vs s t (store_refusal {T = U} (Err e)) → Share n vs s t (store_refusal result)
-passed_on U n vs s t (Ok x) e is share = absurd is
-passed_on {T} U n vs s t (Err d) e is share = subst (Share n vs s t) (same_err U T e ∙ ap (λ a. store_refusal {T = T} (Err a)) (sym is)) share
 
 -- calls keep to a room
 pub within_of_share : {T : Type 0} (n : ℕ) (vs : List ℕ) (room : ℕ) (old new : StoreView) (result : Result T ClockAnswer) → n * allowance vs ≤ room → Share n vs old new (store_refusal result) → IsWithin room old new result
@@ -119,28 +105,19 @@ filter_fewer p q (x ∷ xs) wider = by (p x) (q x) (wider x) (filter_fewer p q x
 least_one : (kernel : Kernel) (a b : List ℕ) → AreLeast kernel a → AreLeast kernel b → (s : ℕ) → s < length kernel.signals → get_or a s 0 ≡ get_or b s 0
 least_one kernel a b is_a is_b s lt = omega (arith, is_a.least s (get_or b s 0) lt (is_b.same s lt), is_b.least s (get_or a s 0) lt (is_a.same s lt))
 
-filter_same : (p q : ℕ → Bool) (xs : List ℕ) → ((x : ℕ) → Contains xs x → p x ≡ q x) → length (filter p xs) ≡ length (filter q xs)
-filter_same p q [] same = refl
-filter_same p q (x ∷ xs) same = by (p x) (q x) (same x (contains_head x xs)) (filter_same p q xs (λ y there. same y (contains_later x y xs there))) where
-  by : (a b : Bool) → a ≡ b → length (filter p xs) ≡ length (filter q xs) → length (cond a (x ∷ filter p xs) (filter p xs)) ≡ length (cond b (x ∷ filter q xs) (filter q xs))
-  by true true e rest = ap suc rest
-  by false false e rest = rest
-  by true false e rest = absurd (false≢true (sym e))
-  by false true e rest = absurd (false≢true e)
-
 module _ (frame : Frame) (is : IsFrame frame) (u : ℕ) (count : IsUnknownCount frame.kernel.now u) where
   leaders_count : length frame.leaders.items ≡ count_by (λ s. eqb (get_or count.0 s 0) s) (range_with_len 0 (length frame.kernel.now.signals))
   leaders_count =
       let range = range_with_len 0 (length frame.kernel.now.signals) in
       ap length is.leaders ∙ ap (λ n. length (filter (λ s. eqb (get_or frame.least.items s 0) s) (range_with_len 0 n))) is.least.count
-      ∙ filter_same (λ s. eqb (get_or frame.least.items s 0) s) (λ s. eqb (get_or count.0 s 0) s) range (λ s there. ap (λ k. eqb k s) (least_one frame.kernel.now frame.least.items count.0 is.least count.1 s (of_range (length frame.kernel.now.signals) s there)))
+      ∙ filter_same (λ s. eqb (get_or frame.least.items s 0) s) (λ s. eqb (get_or count.0 s 0) s) range (λ s there. ap (λ k. eqb k s) (least_one frame.kernel.now frame.least.items count.0 is.least count.1 s (within_range (length frame.kernel.now.signals) s there)))
       ∙ length-filter (λ s. eqb (get_or count.0 s 0) s) range
 
   conditions_fewer : length (conditions_of frame.kernel.now) ≤ count_by (is_boolean frame.kernel.now) (range_with_len 0 (length frame.kernel.now.signals))
   conditions_fewer =
       let range = range_with_len 0 (length frame.kernel.now.signals) in
       let few = filter_fewer (is_condition frame.kernel.now) (is_boolean frame.kernel.now) range (λ x is_x. condition_is_boolean frame.kernel.now x is_x) in
-      omega (arith, few, length-filter (is_boolean frame.kernel.now) range, map_length signal_id (filter (is_condition frame.kernel.now) range))
+      omega (arith, few, length-filter (is_boolean frame.kernel.now) range, length-map (filter (is_condition frame.kernel.now) range) signal_id)
 
   -- the classes and the conditions are no more than the unknowns
   pub classes_and_conditions : length frame.leaders.items + length (conditions_of frame.kernel.now) ≤ u

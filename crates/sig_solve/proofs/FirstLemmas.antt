@@ -1,17 +1,17 @@
 -- Lemmas on the first signals of classes.
-use Rattle.sig_solve.proofs.Common.{◌≡◌, ◌<◌, ◌≤◌, ◌+◌, ◌⊎◌, inl, inr, ℕ, List, [], ◌∷◌, ◌++◌, length, take, get_or, refl, sym, ap, ◌∙◌, subst, arith, Contains, Some, slice_get, cases_eq, SigId, contains_none, Ref, AreClasses, AreFirsts, IsPlace, Precedes, guard_at, Frame}
-use Rattle.sig_solve.proofs.ListLemmas.{get_at, get_beyond, get_first, get_is, get_last, get_within}
+use Rattle.sig_solve.proofs.Common.{◌≡◌, ◌<◌, ◌≤◌, ◌⊎◌, inl, inr, ℕ, List, [], ◌∷◌, ◌++◌, length, take, get_or, refl, sym, ap, ◌∙◌, subst, arith, Contains, Some, slice_get, SigId, Ref, AreClasses, AreFirsts, IsPlace, Precedes, guard_at, Frame, contains_last, contains_none, get_or_from_slice_get, slice_get-get_or, slice_get_within, get_before, get_last}
+use Rattle.sig_solve.proofs.ListLemmas.{get_beyond}
 use Rattle.sig_solve.proofs.PinnedLemmas.{get_take}
-use Rattle.sig_solve.proofs.TruthLemmas.{contains_before, contains_end, contains_last}
+use Rattle.sig_solve.proofs.TruthLemmas.{contains_before, contains_end}
 
 module _ (frame : Frame) (layers : List ℕ) (guards : List Ref) (root : SigId) where
   pub firsts_begin : (firsts : List SigId) → firsts ≡ root ∷ [] → AreFirsts frame layers guards root [] firsts
   firsts_begin firsts is = subst (λ xs. AreFirsts frame layers guards root [] xs) (sym is) (record {
     root_is = refl;
-    differ = λ i j c d at_i at_j same. let a = get_within (root ∷ []) i c at_i in let b = get_within (root ∷ []) j d at_j in omega (arith, a, b);
+    differ = λ i j c d at_i at_j same. let a = slice_get_within (root ∷ []) i c at_i in let b = slice_get_within (root ∷ []) j d at_j in omega (arith, a, b);
     all = λ s there. absurd (contains_none s there);
-    listed = λ i c pos at. absurd (let a = get_within (root ∷ []) i c at in omega (arith, pos, a));
-    later = λ i j c d pos lt at_i at_j. absurd (let b = get_within (root ∷ []) j d at_j in omega (arith, pos, lt, b));
+    listed = λ i c pos at. absurd (let a = slice_get_within (root ∷ []) i c at in omega (arith, pos, a));
+    later = λ i j c d pos lt at_i at_j. absurd (let b = slice_get_within (root ∷ []) j d at_j in omega (arith, pos, lt, b));
     first = λ i c s pos at there same. absurd (contains_none s there);
   })
 
@@ -33,10 +33,10 @@ module _ (frame : Frame) (layers : List ℕ) (guards : List Ref) (root : SigId) 
     -- a signal that is the first of its class
     pub firsts_more : (firsts' : List SigId) → firsts' ≡ firsts ++ x ∷ [] → ((i : ℕ) (c : SigId) → slice_get firsts i ≡ Some c → guard_at frame guards c.0 ≡ guard_at frame guards x.0 → ⊥) → AreFirsts frame layers guards root (done ++ x ∷ []) firsts'
     firsts_more firsts' is new = subst (λ xs. AreFirsts frame layers guards root (done ++ x ∷ []) xs) (sym is) (record {
-      root_is = get_first firsts (x ∷ []) 0 (get_within firsts 0 root are.root_is) ∙ are.root_is;
+      root_is = get_before firsts (x ∷ []) 0 (slice_get_within firsts 0 root are.root_is) ∙ are.root_is;
       differ = λ i j c d at_i at_j same. by_differ i j c d (get_beyond firsts x c i at_i) (get_beyond firsts x d j at_j) at_i at_j same;
       all = λ s there. elim (contains_end done x s there) [
-        | inl before ↦ (let found = are.all s before in (found.0, found.1, get_first firsts (x ∷ []) found.0 (get_within firsts found.0 found.1 found.2) ∙ found.2, found.3))
+        | inl before ↦ (let found = are.all s before in (found.0, found.1, get_before firsts (x ∷ []) found.0 (slice_get_within firsts found.0 found.1 found.2) ∙ found.2, found.3))
         | inr e ↦ (length firsts, x, get_last firsts x, ap (λ (y : SigId). guard_at frame guards y.0) (sym e))
       ];
       listed = λ i c pos at. elim (get_beyond firsts x c i at) [
@@ -50,7 +50,7 @@ module _ (frame : Frame) (layers : List ℕ) (guards : List Ref) (root : SigId) 
       first = λ i c s pos at there own. by_first i c s pos at own (get_beyond firsts x c i at) (contains_end done x s there);
     }) where
       old : (i : ℕ) (c : SigId) → i < length firsts → slice_get (firsts ++ x ∷ []) i ≡ Some c → slice_get firsts i ≡ Some c
-      old i c lt at = sym (get_first firsts (x ∷ []) i lt) ∙ at
+      old i c lt at = sym (get_before firsts (x ∷ []) i lt) ∙ at
 
       by_differ : (i j : ℕ) (c d : SigId) → ((i < length firsts) ⊎ ((i ≡ length firsts) × (x ≡ c))) → ((j < length firsts) ⊎ ((j ≡ length firsts) × (x ≡ d)))
           → slice_get (firsts ++ x ∷ []) i ≡ Some c → slice_get (firsts ++ x ∷ []) j ≡ Some d → guard_at frame guards c.0 ≡ guard_at frame guards d.0 → i ≡ j
@@ -73,29 +73,18 @@ pub before_place : {R : SigId → SigId → Type 0} (ordered : List SigId) (k : 
     → (s : SigId) → Contains (take k ordered) s → R s x
 before_place {R} ordered k x order at s there =
     let lt : there.0 < k = Rattle.sig_solve.proofs.PinnedLemmas.taken_below ordered k there.0 there.1 in
-    order there.0 k s x lt (sym (get_take ordered k there.0 lt) ∙ get_at (take k ordered) there.0 s there.1 ∙ ap Some there.2) at
+    order there.0 k s x lt (sym (get_take ordered k there.0 lt) ∙ slice_get-get_or (take k ordered) there.0 s there.1 ∙ ap Some there.2) at
 
 -- one more class
 pub classes_more : (frame : Frame) (guards : List Ref) (firsts : List SigId) (classes classes' : List ℕ) (place : ℕ) → classes' ≡ classes ++ place ∷ [] → AreClasses frame guards firsts classes → IsPlace frame guards firsts (length classes) (Some place)
     → AreClasses frame guards firsts classes'
 classes_more frame guards firsts classes classes' place is are at = subst (λ xs. AreClasses frame guards firsts xs) (sym is) (record {
-  each = λ s lt. elim (get_beyond classes place (get_or (classes ++ place ∷ []) s 0) s (get_at (classes ++ place ∷ []) s 0 lt)) [
+  each = λ s lt. elim (get_beyond classes place (get_or (classes ++ place ∷ []) s 0) s (slice_get-get_or (classes ++ place ∷ []) s 0 lt)) [
     | inl less ↦
-        let own : get_or classes s 0 ≡ get_or (classes ++ place ∷ []) s 0 = sym (get_is (classes ++ place ∷ []) s (get_or classes s 0) 0 (get_first classes (place ∷ []) s less ∙ get_at classes s 0 less)) in
+        let own : get_or classes s 0 ≡ get_or (classes ++ place ∷ []) s 0 = sym (get_or_from_slice_get (classes ++ place ∷ []) s (get_or classes s 0) 0 (get_before classes (place ∷ []) s less ∙ slice_get-get_or classes s 0 less)) in
         subst (λ i. (c : SigId) × (slice_get firsts i ≡ Some c) × (guard_at frame guards c.0 ≡ guard_at frame guards s)) own (are.each s less)
     | inr last ↦
         subst (λ i. (c : SigId) × (slice_get firsts i ≡ Some c) × (guard_at frame guards c.0 ≡ guard_at frame guards s)) last.1
         (subst (λ k. (c : SigId) × (slice_get firsts place ≡ Some c) × (guard_at frame guards c.0 ≡ guard_at frame guards k)) (sym last.0) at)
   ];
 })
-
--- the guard of one more first signal
-pub guards_more : (frame : Frame) (guards own own' : List Ref) (firsts : List SigId) (k : ℕ) (x : SigId) (guard : Ref) → own' ≡ own ++ guard ∷ [] → length own ≡ k → slice_get firsts k ≡ Some x → guard_at frame guards x.0 ≡ Some guard
-    → ((i : ℕ) (c : SigId) → i < k → slice_get firsts i ≡ Some c → slice_get own i ≡ guard_at frame guards c.0) → (i : ℕ) (c : SigId) → i < k + 1 → slice_get firsts i ≡ Some c → slice_get own' i ≡ guard_at frame guards c.0
-guards_more frame guards own own' firsts k x guard is count at own_x before i c lt at_i = ap (λ xs. slice_get xs i) is ∙ elim (cases_eq i k) [
-  | inl e ↦
-      let same : Some x ≡ Some c = sym at ∙ ap (slice_get firsts) (sym e) ∙ at_i in
-      let it : x ≡ c = cc in
-      ap (slice_get (own ++ guard ∷ [])) (e ∙ sym count) ∙ get_last own guard ∙ sym own_x ∙ ap (λ (y : SigId). guard_at frame guards y.0) it
-  | inr ne ↦ (let less : i < k = omega (arith, lt, ne) in get_first own (guard ∷ []) i (omega (arith, less, count)) ∙ before i c less at_i)
-]

@@ -1,7 +1,6 @@
 -- Lemmas on free systems: what their truths read off.
-use Rattle.sig_solve.proofs.Common.{◌≡◌, ◌≢◌, ◌<◌, ◌≤◌, ◌↔◌, inl, inr, ℕ, Bool, true, false, eqb, not, List, [], ◌∷◌, length, map, get_or, refl, sym, ap, ◌∙◌, subst, arith, Contains, zero, suc, None, Some, slice_get, is_some, list_any, range_with_len, get_or-range_with_len, length-range_with_len, cases_eq, eq-eqb, eqb-true, false≢true, SigId, Kernel, Allows, KeepsTo, is_condition, signal_id, AgreeOn, EntersBy, HasLayer, IsDetermined, IsEarlier, IsFree, IsReaction, Reaction, Status, Speaks, is_present, is_silent, status_at, enters_stays, one_layer, absent_in_silence, Depends, truth_of, with_truth, StoreView, IsStore, test, Node, Ref, truth_of-with_same, truth_of-with_other, depends_agree, at_contained, AreConditions, IsFreeSystem, IsOver, IsSolution, IsSystem, SystemView, reading, IsAmong, IsFrame, IsFreeIn, is_unknown, is_unknown_to, AreGuards, AreEntered, IsOpenAnswer, Frame}
+use Rattle.sig_solve.proofs.Common.{◌≡◌, ◌≢◌, ◌<◌, ◌≤◌, ◌↔◌, inl, inr, ℕ, Bool, true, false, eqb, not, List, [], ◌∷◌, length, map, get_or, refl, sym, ap, ◌∙◌, subst, arith, Contains, zero, suc, None, Some, slice_get, is_some, list_any, range_with_len, get_or-range_with_len, length-range_with_len, cases_eq, eq-eqb, eqb-true, false≢true, SigId, Kernel, Allows, KeepsTo, is_condition, signal_id, AgreeOn, EntersBy, HasLayer, IsDetermined, IsEarlier, IsFree, IsReaction, Reaction, Status, Speaks, is_present, is_silent, status_at, enters_stays, one_layer, absent_in_silence, Depends, truth_of, with_truth, StoreView, IsStore, test, Node, Ref, truth_of-with_same, truth_of-with_other, depends_agree, AreConditions, IsFreeSystem, IsOver, IsSolution, IsSystem, SystemView, reading, IsAmong, IsFrame, IsFreeIn, is_unknown, is_unknown_to, AreGuards, AreEntered, IsOpenAnswer, Frame, at_contained, contains_at, one_passes, passes_one, slice_get-get_or, slice_get_within}
 use Rattle.sig_solve.proofs.FrameLemmas.{leader_is}
-use Rattle.sig_solve.proofs.ListLemmas.{any_is, contains_get, get_at, get_within, is_any}
 use Rattle.sig_solve.proofs.ReactionLemmas.{condition_is_signal}
 use Rattle.sig_solve.proofs.RoundLemmas.{determined_enters}
 use Rattle.sig_solve.proofs.SystemLemmas.{keeps_at, presence_at as presence_at_system, presence_over as presence_over_system, presence_read as presence_read_system, same_readings}
@@ -26,21 +25,11 @@ module _ (kernel : Kernel) (store : StoreView) (system : SystemView) (is : IsFre
   abbrev nodes : List Node
   nodes = store.nodes
 
-  abbrev read : List Bool → Reaction
-  read truths = reading store.nodes system truths
-
   pub solution : (truths : List Bool) → IsSolution store.nodes system truths
   solution truths = (is.is_free.residue truths, is.is_free.speaks truths)
 
   pub speaks_read : (truths : List Bool) → Speaks kernel (reading store.nodes system truths)
   speaks_read truths = is.is_system.sound truths (solution truths)
-
-  -- the presence of a signal, and its truth
-  abbrev pub presence_of : ℕ → Ref
-  presence_of s = get_or system.present s system.residue
-
-  abbrev truth_at : ℕ → Ref
-  truth_at s = get_or system.truth s system.residue
 
   pub presence_at : (s : ℕ) → s < length kernel.signals → slice_get system.present s ≡ Some (get_or system.present s system.residue)
   presence_at s lt = presence_at_system kernel store.nodes system is.is_system s lt
@@ -54,9 +43,9 @@ module _ (kernel : Kernel) (store : StoreView) (system : SystemView) (is : IsFre
   -- variable i is the proposal of condition i, and there are no others
   own_number : (v : ℕ) (c : SigId) → slice_get system.conditions v ≡ Some c → slice_get system.proposals v ≡ Some v
   own_number v c at =
-      let lt = get_within system.conditions v c at in
+      let lt = slice_get_within system.conditions v c at in
       ap (λ xs. slice_get xs v) is.is_free.proposals
-      ∙ get_at (range_with_len 0 (length system.conditions)) v 0 (omega (arith, lt, length-range_with_len 0 (length system.conditions)))
+      ∙ slice_get-get_or (range_with_len 0 (length system.conditions)) v 0 (omega (arith, lt, length-range_with_len 0 (length system.conditions)))
       ∙ ap Some (get_or-range_with_len 0 (length system.conditions) v 0 lt ∙ omega arith)
 
   pub keeps_own : (truths : List Bool) → KeepsTo system.conditions truths (reading store.nodes system truths)
@@ -83,7 +72,7 @@ module _ (kernel : Kernel) (store : StoreView) (system : SystemView) (is : IsFre
       let before = flipped proposal reaction keeps start is_start n (omega (arith, le)) in
       let t = before.0 in
       let d : SigId = signal_id 0 in
-      let at : slice_get system.conditions n ≡ Some (get_or system.conditions n d) = get_at system.conditions n d (omega (arith, le)) in (
+      let at : slice_get system.conditions n ≡ Some (get_or system.conditions n d) = slice_get-get_or system.conditions n d (omega (arith, le)) in (
         with_truth t n (truth_of proposal n),
         by t before.1 (get_or system.conditions n d) at (status_at reaction (get_or system.conditions n d).0) refl,
         λ v lt. elim (cases_eq v n) [
@@ -172,12 +161,12 @@ module _ (kernel : Kernel) (store : StoreView) (system : SystemView) (is : IsFre
   known_is known c is_known = by (list_any (λ (other : SigId). eqb other.0 c.0) known) refl where
     by : (b : Bool) → list_any (λ (other : SigId). eqb other.0 c.0) known ≡ b → IsAmong known c.0
     by true e =
-        let found = any_is (λ (other : SigId). eqb other.0 c.0) known e in
+        let found = passes_one (λ (other : SigId). eqb other.0 c.0) known e in
         subst (λ k. Contains known (signal_id k)) (eqb-true found.0.0 c.0 found.2) found.1
     by false e = absurd (false≢true (sym is_known ∙ ap not e))
 
   known_not : (known : List SigId) (c : SigId) → is_unknown_to known (Some c) ≡ true → IsAmong known c.0 → ⊥
-  known_not known c unknown among = false≢true (sym (ap not (is_any (λ (other : SigId). eqb other.0 c.0) known (signal_id c.0) among (eq-eqb c.0 c.0 refl))) ∙ unknown)
+  known_not known c unknown among = false≢true (sym (ap not (one_passes (λ (other : SigId). eqb other.0 c.0) known (signal_id c.0) among (eq-eqb c.0 c.0 refl))) ∙ unknown)
 
   -- a presence that needs proposals of known conditions alone is determined by these
   pub needs_known : (known : List SigId) (needs : List ℕ) (s : ℕ) → s < length kernel.signals → ((v : ℕ) → Depends (test store.nodes (get_or system.present s system.residue)) v → Contains needs v)
@@ -200,7 +189,7 @@ module _ (kernel : Kernel) (store : StoreView) (system : SystemView) (is : IsFre
       keeps v c at = elim (is_in needs v) [
         | inl there ↦
             let among = known_is known c (ap (is_unknown_to known) (sym at) ∙ told v there) in
-            let same = agree c.0 ((is.conditions.all c).0 (contains_get system.conditions v c at)) among in
+            let same = agree c.0 ((is.conditions.all c).0 (contains_at system.conditions v c at)) among in
             let own : Allows (status_at a c.0) (truth_of first.0 v) = subst (λ r. Allows (status_at r c.0) (truth_of first.0 v)) first.2 (keeps_own first.0 v c at) in
             subst (λ t. Allows (status_at b c.0) t) (sym (mixed_at needs first.0 second.0 v there)) (subst (λ x. Allows x (truth_of first.0 v)) same own)
         | inr out ↦
@@ -213,11 +202,11 @@ module _ (kernel : Kernel) (store : StoreView) (system : SystemView) (is : IsFre
       → is_unknown system.conditions known v ≡ true → IsDetermined kernel (IsAmong known) s → ⊥
   needs_unknown round known s v entered lt depends unknown determined = by (get_or system.conditions v (signal_id 0)) at where
     at : slice_get system.conditions v ≡ Some (get_or system.conditions v (signal_id 0))
-    at = get_at system.conditions v (signal_id 0) (below_of (get_or system.present s system.residue) (presence_over s lt) v depends)
+    at = slice_get-get_or system.conditions v (signal_id 0) (below_of (get_or system.present s system.residue) (presence_over s lt) v depends)
 
     by : (c : SigId) → slice_get system.conditions v ≡ Some c → ⊥
     by c at_c =
-        let is_c = (is.conditions.all c).0 (contains_get system.conditions v c at_c) in
+        let is_c = (is.conditions.all c).0 (contains_at system.conditions v c at_c) in
         depends_known round s v c lt (determined_enters kernel round known entered s determined) at_c
         (λ enters. known_not known c (ap (is_unknown_to known) (sym at_c) ∙ unknown) ((entered c.0 is_c).1 enters)) depends
 
@@ -230,12 +219,12 @@ module _ (kernel : Kernel) (store : StoreView) (system : SystemView) (is : IsFre
 
     by : (b : Bool) → list_any (is_unknown conditions known) variables ≡ b → IsOpenAnswer kernel (IsAmong known) s b
     by true e =
-        let found = any_is (is_unknown conditions known) variables e in
+        let found = passes_one (is_unknown conditions known) variables e in
         needs_unknown round known s found.0 entered lt ((present found.0).0 (subst (λ (xs : List ℕ). Contains xs found.0) all found.1)) (ap (λ cs. is_unknown cs known found.0) (sym same) ∙ found.2)
     by false e = needs_known known needs s lt (λ v d. (present v).1 d) (λ v there. told v there (is_unknown system.conditions known v) refl) where
       told : (v : ℕ) → Contains needs v → (b : Bool) → is_unknown system.conditions known v ≡ b → is_unknown system.conditions known v ≡ false
       told v there false f = f
-      told v there true f = absurd (false≢true (sym e ∙ is_any (is_unknown conditions known) variables v (subst (λ (xs : List ℕ). Contains xs v) (sym all) there) (ap (λ cs. is_unknown cs known v) same ∙ f)))
+      told v there true f = absurd (false≢true (sym e ∙ one_passes (is_unknown conditions known) variables v (subst (λ (xs : List ℕ). Contains xs v) (sym all) there) (ap (λ cs. is_unknown cs known v) same ∙ f)))
 
   -- the same where the conditions that are not known are marked
   pub marked_answer : (round : ℕ) (known : List SigId) (needs variables : List ℕ) (marks : List Bool) (s : ℕ) (result : Bool) → AreEntered kernel round known → s < length kernel.signals

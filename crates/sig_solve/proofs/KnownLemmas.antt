@@ -1,30 +1,22 @@
 -- Lemmas on known conditions, and on the variables that are forgotten beside their proposals.
-use Rattle.sig_solve.proofs.Common.{◌≡◌, ◌≢◌, ◌<◌, ◌+◌, inl, inr, ℕ, Bool, true, false, eqb, List, length, set, replicate, refl, sym, ap, ◌∙◌, subst, arith, Contains, get_or-set_same, get_or-set_other, Some, slice_get, list_any, length-set, cases_eq, eq-eqb, eqb-true, false≢true, get_or-replicate, length-replicate, SigId, truth_of, SystemView, AreProposed, ForgetsAllBut, IsProposalOf}
-use Rattle.sig_solve.proofs.ListLemmas.{any_is, get_within, is_any}
+use Rattle.sig_solve.proofs.Common.{◌≡◌, ◌≢◌, ◌<◌, ◌+◌, inl, inr, ℕ, Bool, true, false, eqb, List, length, set, refl, sym, ap, ◌∙◌, subst, arith, Contains, get_or-set_same, get_or-set_other, Some, slice_get, list_any, length-set, cases_eq, eq-eqb, eqb-true, false≢true, SigId, truth_of, SystemView, AreProposed, IsProposalOf, one_passes, passes_one}
 
 -- a condition is among others
 pub among_is : (known : List SigId) (c : SigId) → list_any (λ (other : SigId). eqb other.0 c.0) known ≡ true → Contains known c
 among_is known c is =
-    let found = any_is (λ (other : SigId). eqb other.0 c.0) known is in
+    let found = passes_one (λ (other : SigId). eqb other.0 c.0) known is in
     let same : found.0.0 ≡ c.0 = eqb-true found.0.0 c.0 found.2 in
     let whole : found.0 ≡ c = λ j. record { 0 = same j } in
     subst (Contains known) whole found.1
 
 pub among_not : (known : List SigId) (c : SigId) → list_any (λ (other : SigId). eqb other.0 c.0) known ≡ false → Contains known c → ⊥
-among_not known c not there = false≢true (sym not ∙ is_any (λ (other : SigId). eqb other.0 c.0) known c there (eq-eqb c.0 c.0 refl))
+among_not known c not there = false≢true (sym not ∙ one_passes (λ (other : SigId). eqb other.0 c.0) known c there (eq-eqb c.0 c.0 refl))
 
 -- the same, as far as some conditions tell
 pub record AreForgotten (system : SystemView) (known : List SigId) (n : ℕ) (forgotten : List Bool) : Type 0 where
   pub count : length forgotten ≡ system.first + system.variables
   pub kept : (i v : ℕ) (c : SigId) → i < n → slice_get system.conditions i ≡ Some c → slice_get system.proposals i ≡ Some v → Contains known c → truth_of forgotten v ≡ false
   pub others : (v : ℕ) → v < length forgotten → truth_of forgotten v ≡ false → (c : SigId) × Contains known c × IsProposalOf system v c
-
-pub all_forgotten : (system : SystemView) (known : List SigId) (end : ℕ) → end ≡ system.first + system.variables → AreForgotten system known 0 (replicate end true)
-all_forgotten system known end is = record {
-  count = length-replicate end true ∙ is;
-  kept = λ i v c lt at own there. absurd (omega (arith, lt));
-  others = λ v lt not. absurd (false≢true (sym not ∙ get_or-replicate end v true false (omega (arith, lt, length-replicate end true))));
-}
 
 module _ (system : SystemView) (are : AreProposed system) (known : List SigId) (n : ℕ) (forgotten : List Bool) (before : AreForgotten system known n forgotten) (c : SigId) (v : ℕ) (at : slice_get system.conditions n ≡ Some c) (own : slice_get system.proposals n ≡ Some v) where
   pub proposal_within : v < length forgotten
@@ -58,9 +50,3 @@ module _ (system : SystemView) (are : AreProposed system) (known : List SigId) (
     ];
     others = before.others;
   }
-
-pub forgets : (system : SystemView) (known : List SigId) (n : ℕ) (forgotten : List Bool) → n ≡ length system.conditions → AreForgotten system known n forgotten → ForgetsAllBut system known forgotten
-forgets system known n forgotten all are = record {
-  kept = λ v c there own. are.kept own.0 v c (omega (arith, all, get_within system.conditions own.0 c own.1)) own.1 own.2 there;
-  others = λ v var not. are.others v (let end = var.1 in omega (arith, end, are.count)) not;
-}

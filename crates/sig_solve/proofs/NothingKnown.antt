@@ -1,15 +1,11 @@
 -- Where no condition is known, a presence is open exactly where some reaction has the signal and some has not.
-use Rattle.sig_solve.proofs.Common.{◌≡◌, ◌<◌, ◌⊎◌, ◌&&◌, inl, inr, ◌↔◌, ℕ, Bool, true, false, not, List, [], ◌∷◌, length, get_or, refl, sym, ap, ◌∙◌, Contains, IsTrue, false≢true, SigId, Implies, Overlap, StoreView, test, signal_id, AgreeOn, IsDetermined, Reaction, Speaks, is_present, contains_none, reading, IsAskedIn, IsAmong, IsOpenAnswer, Asked}
+use Rattle.sig_solve.proofs.Common.{◌≡◌, ◌<◌, ◌&&◌, inl, inr, ◌↔◌, ℕ, Bool, true, false, not, List, [], ◌∷◌, length, get_or, refl, sym, ap, ◌∙◌, Contains, IsTrue, false≢true, SigId, Implies, Overlap, StoreView, test, signal_id, AgreeOn, IsDetermined, Reaction, Speaks, is_present, reading, IsAskedIn, IsAmong, IsOpenAnswer, Asked, cases_Bool, contains_none}
 use Rattle.sig_solve.proofs.RootLemmas.{implied_root}
 use Rattle.sig_solve.proofs.SystemLemmas.{presence_read}
 
 none_among : (known : List SigId) → length known ≡ 0 → (condition : SigId) → Contains known condition → ⊥
 none_among [] none condition there = contains_none condition there
 none_among (x ∷ known) none condition there = cc
-
-either : (b : Bool) → (b ≡ true) ⊎ (b ≡ false)
-either true = inl refl
-either false = inr refl
 
 module _ (store : StoreView) (asked : Asked) (is : IsAskedIn store asked) (s : ℕ) (lt : s < length asked.frame.kernel.now.signals) (known : List SigId) (none : length known ≡ 0) where
   agree : (a b : Reaction) → AgreeOn asked.frame.kernel.now (IsAmong known) a b
@@ -32,7 +28,7 @@ module _ (store : StoreView) (asked : Asked) (is : IsAskedIn store asked) (s : �
   met_by r says present = let at = is.is_system.complete r says in (at.0, (is.solutions at.0).1 at.1, sym (read at.0) ∙ ap (λ x. is_present x s) at.2 ∙ present)
 
   absent_in : (Overlap store.nodes asked.solutions (get_or asked.system.present s asked.system.residue) → ⊥) → (r : Reaction) → Speaks asked.frame.kernel.now r → is_present r s ≡ false
-  absent_in unmet r says = elim (either (is_present r s)) [ inl present ↦ absurd (unmet (met_by r says present)) | inr absent ↦ absent ]
+  absent_in unmet r says = elim (cases_Bool (is_present r s)) [ inl present ↦ absurd (unmet (met_by r says present)) | inr absent ↦ absent ]
 
   pub varies_open : (some all : Bool) → IsTrue some ↔ Overlap store.nodes asked.solutions (get_or asked.system.present s asked.system.residue)
       → IsTrue all ↔ Implies store.nodes asked.solutions (get_or asked.system.present s asked.system.residue) → IsOpenAnswer asked.frame.kernel.now (IsAmong known) s (some && not all)

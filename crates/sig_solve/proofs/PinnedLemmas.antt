@@ -1,6 +1,5 @@
 -- Lemmas on pinned conditions.
-use Rattle.sig_solve.proofs.Common.{◌≡◌, ◌<◌, ◌⊎◌, inl, inr, ℕ, true, List, [], ◌∷◌, length, length-take, take, refl, sym, ap, ◌∙◌, subst, arith, zero, suc, None, Some, slice_get, cases_order, SigId, Kernel, AreInOrder, is_condition, signal_id, IsEarlier, IsFree, IsPinned, one_layer, FindsPinned, IsAmong, IsFreeBy, IsPinnedBy}
-use Rattle.sig_solve.proofs.ListLemmas.{contains_get, get_at}
+use Rattle.sig_solve.proofs.Common.{◌≡◌, ◌<◌, ◌⊎◌, inl, inr, ℕ, true, List, [], ◌∷◌, length, length-take, take, refl, sym, ap, ◌∙◌, subst, arith, zero, suc, None, Some, slice_get, cases_order, SigId, Kernel, AreInOrder, is_condition, signal_id, IsEarlier, IsFree, IsPinned, one_layer, FindsPinned, IsAmong, IsFreeBy, IsPinnedBy, contains_at, slice_get-get_or}
 
 -- the conditions before a place are the earlier ones
 pub not_both : (kernel : Kernel) (c d : ℕ) → IsEarlier kernel c d → IsEarlier kernel d c → ⊥
@@ -26,13 +25,13 @@ module _ (kernel : Kernel) (conditions : List SigId) (order : AreInOrder kernel 
   among_earlier : (c : ℕ) → IsAmong (take place conditions) c → IsEarlier kernel c b.0
   among_earlier c there =
       let lt = taken_below conditions place there.0 there.1 in
-      let is : slice_get conditions there.0 ≡ Some (signal_id c) = sym (get_take conditions place there.0 lt) ∙ get_at (take place conditions) there.0 (signal_id c) there.1 ∙ ap Some there.2 in
+      let is : slice_get conditions there.0 ≡ Some (signal_id c) = sym (get_take conditions place there.0 lt) ∙ slice_get-get_or (take place conditions) there.0 (signal_id c) there.1 ∙ ap Some there.2 in
       order.order there.0 place (signal_id c) b lt is at
 
   pub earlier_among : (c : ℕ) → IsEarlier kernel c b.0 → (k : ℕ) × (k < place) × (slice_get conditions k ≡ Some (signal_id c))
   earlier_among c earlier =
       let there = (order.all (signal_id c)).1 earlier.is in
-      let is : slice_get conditions there.0 ≡ Some (signal_id c) = get_at conditions there.0 (signal_id c) there.1 ∙ ap Some there.2 in
+      let is : slice_get conditions there.0 ≡ Some (signal_id c) = slice_get-get_or conditions there.0 (signal_id c) there.1 ∙ ap Some there.2 in
       (there.0, by there.0 is earlier (cases_order there.0 place), is)
     where
       by : (k : ℕ) → slice_get conditions k ≡ Some (signal_id c) → IsEarlier kernel c b.0 → ((k ≡ place) ⊎ ((k < place) ⊎ (place < k))) → k < place
@@ -44,10 +43,10 @@ module _ (kernel : Kernel) (conditions : List SigId) (order : AreInOrder kernel 
       by k is earlier (inr (inr more)) = absurd (not_both kernel c b.0 earlier (order.order place k b (signal_id c) more at is))
 
   pub earlier_in : (c : ℕ) → IsEarlier kernel c b.0 → IsAmong (take place conditions) c
-  earlier_in c earlier = let found = earlier_among c earlier in contains_get (take place conditions) found.0 (signal_id c) (get_take conditions place found.0 found.1 ∙ found.2)
+  earlier_in c earlier = let found = earlier_among c earlier in contains_at (take place conditions) found.0 (signal_id c) (get_take conditions place found.0 found.1 ∙ found.2)
 
   is_b : is_condition kernel b.0 ≡ true
-  is_b = (order.all b).0 (contains_get conditions place b at)
+  is_b = (order.all b).0 (contains_at conditions place b at)
 
   pub pinned_is : IsPinnedBy kernel (IsAmong (take place conditions)) b.0 → IsPinned kernel b.0
   pinned_is by = record {
@@ -75,4 +74,4 @@ first_pinned kernel conditions order place b at free by = (
 pub all_free : (kernel : Kernel) (conditions : List SigId) (order : AreInOrder kernel conditions) → ((k : ℕ) (c : SigId) → k < length conditions → slice_get conditions k ≡ Some c → IsFree kernel c.0) → FindsPinned kernel conditions None
 all_free kernel conditions order free c is =
     let there = (order.all (signal_id c)).1 is in
-    free there.0 (signal_id c) there.1 (get_at conditions there.0 (signal_id c) there.1 ∙ ap Some there.2)
+    free there.0 (signal_id c) there.1 (slice_get-get_or conditions there.0 (signal_id c) there.1 ∙ ap Some there.2)

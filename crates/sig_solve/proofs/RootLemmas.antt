@@ -1,5 +1,5 @@
 -- Lemmas on roots, and on signals that are met in a part of the solutions.
-use Rattle.sig_solve.proofs.Common.{◌≡◌, ◌<◌, ◌≤◌, ◌⊎◌, inl, inr, ◌↔◌, ℕ, Bool, true, false, not, eqb, List, [], ◌∷◌, length, get_or, refl, sym, ap, ◌∙◌, subst, arith, Contains, IsTrue, zero, suc, None, Some, AllPairs, range_with_len, cases_eq, cases_lt, false≢true, get_or_default, AllPairs-filter, get_or-range_with_len, length-range_with_len, Kernel, itself, HasNoRoot, IsLeast, IsMissingRoot, IsRoot, Reaction, Speaks, is_present, is_silent, StoreView, Implies, Overlap, test, Ref, IsSolution, reading, all_statuses, IsAskedIn, IsMet, IsFrame, leaders_of, Frame, Asked}
+use Rattle.sig_solve.proofs.Common.{◌≡◌, ◌<◌, ◌≤◌, ◌⊎◌, inl, inr, ◌↔◌, ℕ, Bool, true, false, not, eqb, List, [], ◌∷◌, length, get_or, refl, sym, ap, ◌∙◌, subst, arith, Contains, IsTrue, zero, suc, None, Some, AllPairs, range_with_len, cases_eq, cases_lt, false≢true, get_or_default, AllPairs-filter, get_or-range_with_len, length-range_with_len, Kernel, itself, HasNoRoot, IsLeast, IsMissingRoot, IsRoot, Reaction, Speaks, is_present, is_silent, StoreView, Implies, Overlap, test, Ref, IsSolution, reading, all_statuses, IsAskedIn, IsMet, IsFrame, leaders_of, Frame, Asked, cases_Bool}
 use Rattle.sig_solve.proofs.FrameLemmas.{leader_in, leader_is, least_below}
 use Rattle.sig_solve.proofs.SystemLemmas.{presence_at, presence_read}
 
@@ -25,10 +25,6 @@ present_within : (reaction : Reaction) (s : ℕ) → is_present reaction s ≡ t
 present_within [] s present = absurd (false≢true present)
 present_within (status ∷ reaction) zero present = omega arith
 present_within (status ∷ reaction) (suc s) present = omega (arith, present_within reaction s present)
-
-bool_cases : (b : Bool) → (b ≡ true) ⊎ (b ≡ false)
-bool_cases true = inl refl
-bool_cases false = inr refl
 
 -- the leaders of a frame, by their places
 pub leader_at : (frame : Frame) (is : IsFrame frame) (leaders : List ℕ) (k : ℕ) → leaders ≡ frame.leaders.items → k < length leaders → get_or leaders k 0 < length frame.kernel.now.signals
@@ -136,7 +132,7 @@ module _ (store : StoreView) (asked : Asked) (is : IsAskedIn store asked) where
   -- the solutions without a signal, of a kernel that has no root
   module _ (x : ℕ) (lt : x < length asked.frame.kernel.now.signals) (rest : Ref) (says : (ts : List Bool) → IsTrue (test store.nodes rest ts) ↔ (IsSolution store.nodes asked.system ts × (is_present (reading store.nodes asked.system ts) x ≡ false))) where
     pub rest_met : HasNoRoot asked.frame.kernel.now → ((s : ℕ) → IsMet store.nodes asked rest s → ⊥) → ⊥
-    rest_met no_root none = no_root x (implied_root x lt (λ ts t. by ts t (bool_cases (test store.nodes (get_or asked.system.present x asked.system.residue) ts)))) where
+    rest_met no_root none = no_root x (implied_root x lt (λ ts t. by ts t (cases_Bool (test store.nodes (get_or asked.system.present x asked.system.residue) ts)))) where
       by : (ts : List Bool) → IsTrue (test store.nodes asked.solutions ts) → ((test store.nodes (get_or asked.system.present x asked.system.residue) ts ≡ true) ⊎ (test store.nodes (get_or asked.system.present x asked.system.residue) ts ≡ false))
           → IsTrue (test store.nodes (get_or asked.system.present x asked.system.residue) ts)
       by ts t (inl e) = e

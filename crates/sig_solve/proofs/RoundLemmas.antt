@@ -1,10 +1,10 @@
 -- Lemmas on rounds.
-use Rattle.sig_solve.proofs.Common.{◌≡◌, ◌≢◌, ◌<◌, ◌≤◌, ◌+◌, ◌⊎◌, inl, inr, ℕ, Bool, true, eqb, count_by, List, [], ◌∷◌, ◌++◌, length, get_or, set, drop, drop-cons, replicate, filter, sym, ap, ◌∙◌, subst, arith, Contains, get_or-set_same, get_or-set_other, zero, suc, length-set, cases_eq, cases_lt, lt-ltb, ltb-true, range_with_len, get_or-replicate, length-replicate, length_push, length-range_with_len, count_by-le-length, length-filter, all_pairs_push, SigId, Kernel, conditions_of, is_condition, signal_id, EntersBy, HasLayer, IsDetermined, SameClock, turned, enters_stays, present_together, contains_cons, contains_head, contains_later, contains_none, IsAmong, AreEntered, AreIncreasing, ArePassed, AreRounds, AreSettled, has_entered, Frame, IsFrame}
-use Rattle.sig_solve.proofs.TruthLemmas.{contains_before, contains_end, contains_last}
+use Rattle.sig_solve.proofs.Common.{◌≡◌, ◌≢◌, ◌<◌, ◌≤◌, ◌+◌, ◌⊎◌, inl, inr, ℕ, true, eqb, count_by, List, [], ◌∷◌, ◌++◌, length, get_or, set, drop, drop-cons, replicate, filter, sym, ap, ◌∙◌, subst, arith, Contains, get_or-set_same, get_or-set_other, zero, suc, length-set, cases_eq, cases_lt, lt-ltb, ltb-true, range_with_len, get_or-replicate, length-replicate, length_push, length-range_with_len, count_by-le-length, length-filter, all_pairs_push, SigId, Kernel, conditions_of, is_condition, signal_id, EntersBy, HasLayer, IsDetermined, SameClock, turned, enters_stays, present_together, IsAmong, AreEntered, AreIncreasing, ArePassed, AreRounds, AreSettled, has_entered, Frame, IsFrame, contains_cons, contains_head, contains_last, contains_later, contains_mapped, contains_none, mapped_from, in_filter, of_filter, length-map}
+use Rattle.sig_solve.proofs.TruthLemmas.{contains_before, contains_end}
 use Rattle.sig_solve.proofs.FrameLemmas.{leader_in, leader_is}
-use Rattle.sig_solve.proofs.ListLemmas.{in_filter, in_map, in_range, map_length, of_filter, of_map}
 use Rattle.sig_solve.proofs.ReactionLemmas.{condition_is_signal}
 use Rattle.sig_solve.proofs.RootLemmas.{ordered_leaders}
+use Rattle.sig_lists.proofs.Ranges.{in_range}
 
 -- signals of one clock enter together
 pub enters_same : (kernel : Kernel) (round s t : ℕ) → SameClock kernel s t → EntersBy kernel round s → EntersBy kernel round t
@@ -160,12 +160,12 @@ stuck_more still still' waiting i same before full k lt =
 -- the conditions of a kernel, in a list
 pub condition_listed : (kernel : Kernel) (c : SigId) → Contains (conditions_of kernel) c → is_condition kernel c.0 ≡ true
 condition_listed kernel c there =
-    let of = of_map signal_id (filter (is_condition kernel) (range_with_len 0 (length kernel.signals))) c there in
+    let of = mapped_from signal_id (filter (is_condition kernel) (range_with_len 0 (length kernel.signals))) c there in
     ap (is_condition kernel) (ap (λ (x : SigId). x.0) of.2) ∙ (of_filter (is_condition kernel) (range_with_len 0 (length kernel.signals)) of.0 of.1).1
 
 pub listed_condition : (kernel : Kernel) (c : ℕ) → is_condition kernel c ≡ true → Contains (conditions_of kernel) (signal_id c)
 listed_condition kernel c is =
-    in_map signal_id (filter (is_condition kernel) (range_with_len 0 (length kernel.signals))) c
+    contains_mapped signal_id (filter (is_condition kernel) (range_with_len 0 (length kernel.signals))) c
     (in_filter (is_condition kernel) (range_with_len 0 (length kernel.signals)) c (in_range (length kernel.signals) c (condition_is_signal kernel c is)) is)
 
 module _ (frame : Frame) (is : IsFrame frame) (round : ℕ) (layers waiting : List ℕ) (are : AreRounds frame round layers waiting) where
@@ -196,10 +196,6 @@ module _ (frame : Frame) (is : IsFrame frame) (round : ℕ) (layers waiting : Li
             (in_filter (has_entered frame layers) conditions (signal_id c) (subst (λ (xs : List SigId). Contains xs (signal_id c)) (sym same) (listed_condition frame.kernel.now c is_c))
             (lt-ltb 0 (get_or layers (get_or frame.least.items c 0) 0) (signal_entered c lt enters)))),
       )
-
-pub filtered_conditions : (kernel : Kernel) (p : SigId → Bool) (conditions known : List SigId) → conditions ≡ conditions_of kernel → known ≡ filter p conditions → (c : SigId) → Contains known c → is_condition kernel c.0 ≡ true
-filtered_conditions kernel p conditions known same filtered c there =
-    condition_listed kernel c (subst (λ (xs : List SigId). Contains xs c) same (of_filter p conditions c (subst (λ (xs : List SigId). Contains xs c) filtered there)).0)
 
 -- nothing has entered before the first round
 pub rounds_begin : (frame : Frame) (is : IsFrame frame) (layers waiting : List ℕ) (n : ℕ) → n ≡ length frame.least.items → layers ≡ replicate n 0 → waiting ≡ frame.leaders.items → AreRounds frame 0 layers waiting
@@ -244,15 +240,6 @@ rounds_stick frame is round layers waiting layers' still before after few all = 
       enters_same frame.kernel.now round (get_or frame.least.items s 0) s (turned s (get_or frame.least.items s 0) same)
       (stuck_leader (get_or frame.least.items s 0) (leader_in frame is s lt) (enters_same frame.kernel.now (suc round) s (get_or frame.least.items s 0) same enters))
 
-pub rounds_end : (frame : Frame) (round : ℕ) (layers waiting : List ℕ) → AreRounds frame round layers waiting → round ≡ length frame.leaders.items → length waiting ≡ 0 → AreSettled frame layers waiting
-rounds_end frame round layers waiting are all none = record {
-  count = are.count;
-  increasing = are.increasing;
-  entered = λ s leads pos. let at = are.entered s leads pos in (at.0, omega (arith, at.1, all));
-  left = λ s there. absurd (omega (arith, there.1, none));
-  all = are.all;
-}
-
 pub leaders_fewer : (frame : Frame) (is : IsFrame frame) → length frame.leaders.items ≤ length frame.kernel.now.signals
 leaders_fewer frame is =
     let p = λ (s : ℕ). eqb (get_or frame.least.items s 0) s in
@@ -265,7 +252,7 @@ pub conditions_few : (kernel : Kernel) → length (conditions_of kernel) ≤ len
 conditions_few kernel =
     omega (
       arith,
-      map_length signal_id (filter (is_condition kernel) (range_with_len 0 (length kernel.signals))),
+      length-map (filter (is_condition kernel) (range_with_len 0 (length kernel.signals))) signal_id,
       length-filter (is_condition kernel) (range_with_len 0 (length kernel.signals)),
       count_by-le-length (is_condition kernel) (range_with_len 0 (length kernel.signals)),
       length-range_with_len 0 (length kernel.signals),

@@ -1,6 +1,5 @@
 -- Lemmas on the steps of solving.
-use Rattle.sig_solve.proofs.Common.{◌≡◌, ◌≤◌, ◌+◌, ℕ, List, [], ◌∷◌, length, sym, ap, subst, arith, Some, Result, Ok, Err, IfOk, IsErrAnd, slice_get, SigId, AreSolved, HasRoot, IsFirstPinned, IsUnsolved, conditions_of, StoreView, IsUnknownCount, Share, DdAnswer, Budget as StoreBudget, OutOfMemory as NoMemory, FindsPinned, IsFrame, HasNoRoom, IsFromStore, IsWithin, calls_of, rest_of_share, store_refusal, AreSettled, layer_in, ClockAnswer, Frame}
-use Rattle.sig_solve.specs.declared.answer.ClockAnswer.TheVariants.{OutOfMemory}
+use Rattle.sig_solve.proofs.Common.{◌≡◌, ◌≤◌, ◌+◌, ℕ, List, [], ◌∷◌, length, sym, ap, subst, Some, Result, Ok, Err, IfOk, IsErrAnd, slice_get, SigId, AreSolved, HasRoot, IsFirstPinned, IsUnsolved, conditions_of, StoreView, IsUnknownCount, Share, DdAnswer, Budget as StoreBudget, OutOfMemory as NoMemory, FindsPinned, IsFrame, IsFromStore, IsWithin, calls_of, rest_of_share, store_refusal, AreSettled, layer_in, ClockAnswer, Frame}
 use Rattle.sig_solve.proofs.CountLemmas.{calls_fit, classes_and_conditions, some_class, within_of_share}
 use Rattle.sig_solve.proofs.OrderLemmas.{signal_layer, unsolved_first}
 use Rattle.sig_solve.proofs.ReactionLemmas.{condition_is_signal}
@@ -46,7 +45,3 @@ rest_within frame is u n vs old new result counted count few share =
     let k = length (conditions_of frame.kernel.now) in
     within_of_share (1 + calls_of c k n) vs (rest_of_share frame.kernel.now u) old new result
     (calls_fit n u c k (length frame.kernel.now.equations) vs count few (classes_and_conditions frame is u counted) (some_class frame is u counted)) share
-
-pub within_nothing : {T : Type 0} (room : ℕ) (s : StoreView) (result : Result T ClockAnswer) → IsErrAnd result (λ e. e ≡ OutOfMemory) → IsWithin room s s result
-within_nothing room s (Ok x) is = absurd is
-within_nothing room s (Err e) is = record { added = omega arith; refused = subst (λ x. HasNoRoom s s room x) (sym is) tt }

@@ -1,6 +1,5 @@
 -- Lemmas on systems: what their truths read off.
-use Rattle.sig_solve.proofs.Common.{◌≡◌, ◌<◌, ℕ, Bool, true, false, List, [], ◌∷◌, length, map, get_or, refl, sym, ap, ◌∙◌, subst, arith, Contains, zero, suc, None, Some, slice_get, is_some, if◌then◌else◌, get_or-range_with_len, length-range_with_len, SigId, Kernel, Allows, KeepsTo, Speaks, is_present, status_at, truth_of, with_truth, IsStore, Keeps, StoreView, test, Node, Ref, Holds-kept, depends_agree, IsOver, IsSolution, IsSystem, IsVariable, SystemView, proposed, reading, status_read, statuses_read, in_range, variables_of}
-use Rattle.sig_solve.proofs.ListLemmas.{get_at}
+use Rattle.sig_solve.proofs.Common.{◌≡◌, ◌<◌, ℕ, Bool, true, false, List, [], ◌∷◌, length, map, get_or, refl, sym, ap, ◌∙◌, subst, arith, Contains, zero, suc, None, Some, slice_get, is_some, if◌then◌else◌, get_or-range_with_len, length-range_with_len, SigId, Kernel, Allows, KeepsTo, Speaks, is_present, status_at, truth_of, with_truth, IsStore, Keeps, StoreView, test, Node, Ref, Holds-kept, depends_agree, IsOver, IsSolution, IsSystem, IsVariable, SystemView, proposed, reading, status_read, statuses_read, in_range, variables_of, slice_get-get_or}
 use Rattle.sig_solve.proofs.StoreLemmas.{older_test}
 
 -- what a signal is in what truths read off
@@ -49,18 +48,18 @@ variables_count system = length-range_with_len system.first system.variables
 
 module _ (kernel : Kernel) (nodes : List Node) (system : SystemView) (is : IsSystem kernel nodes system) where
   pub presence_at : (s : ℕ) → s < length kernel.signals → slice_get system.present s ≡ Some (get_or system.present s system.residue)
-  presence_at s lt = get_at system.present s system.residue (omega (arith, lt, is.presences))
+  presence_at s lt = slice_get-get_or system.present s system.residue (omega (arith, lt, is.presences))
 
   pub presence_over : (s : ℕ) → s < length kernel.signals → IsOver nodes system (get_or system.present s system.residue)
   presence_over s lt = is.present s (get_or system.present s system.residue) (presence_at s lt)
 
   pub truth_over : (s : ℕ) → s < length kernel.signals → IsOver nodes system (get_or system.truth s system.residue)
-  truth_over s lt = is.truth s (get_or system.truth s system.residue) (get_at system.truth s system.residue (omega (arith, lt, is.truths)))
+  truth_over s lt = is.truth s (get_or system.truth s system.residue) (slice_get-get_or system.truth s system.residue (omega (arith, lt, is.truths)))
 
   pub status_is : (s : ℕ) → s < length kernel.signals → (truths : List Bool)
       → status_at (reading nodes system truths) s ≡ (if test nodes (get_or system.present s system.residue) truths then Some (test nodes (get_or system.truth s system.residue) truths) else None)
   status_is s lt truths =
-      status_of_reading nodes truths system.present system.truth s (get_or system.present s system.residue) (get_or system.truth s system.residue) (presence_at s lt) (get_at system.truth s system.residue (omega (arith, lt, is.truths)))
+      status_of_reading nodes truths system.present system.truth s (get_or system.present s system.residue) (get_or system.truth s system.residue) (presence_at s lt) (slice_get-get_or system.truth s system.residue (omega (arith, lt, is.truths)))
 
   pub presence_read : (s : ℕ) → s < length kernel.signals → (truths : List Bool) → is_present (reading nodes system truths) s ≡ test nodes (get_or system.present s system.residue) truths
   presence_read s lt truths = ap is_some (status_is s lt truths) ∙ some_where (test nodes (get_or system.present s system.residue) truths) (test nodes (get_or system.truth s system.residue) truths)

@@ -1,8 +1,7 @@
 -- Lemmas on the two shares of a triangular kernel's system: that over its conditions is within that over its unknowns.
-use Rattle.sig_solve.proofs.Common.{◌≡◌, ◌≤◌, ◌+◌, ◌*◌, ◌^◌, ℕ, zero, suc, Bool, true, cond, List, [], ◌∷◌, length, sym, ap, ◌∙◌, subst, inl, inr, arith, Contains, mul-le-mul_left, mul-le-mul_right, pow_mono, eq-eqb, sum_by-cons, Result, Ok, Err, IfErr, IsErrAnd, count_by, ◌==◌, slice_index, range_with_len, Kernel, StoreView, conditions_of, contains_cons, contains_none, IsUnknownCount, IsRefusedFor, KeepsToShare, KeepsToTriangularShare, triangular_share_of, IsTriangular, Presence, RelAnswer, conditions_few, in_range, one_least}
+use Rattle.sig_solve.proofs.Common.{◌≡◌, ◌≤◌, ◌+◌, ◌*◌, ◌^◌, ℕ, zero, suc, Bool, true, cond, List, [], ◌∷◌, length, sym, ap, ◌∙◌, subst, inl, inr, arith, Contains, mul-le-mul_left, mul-le-mul_right, pow_mono, eq-eqb, sum_by-cons, Result, Ok, Err, IfErr, IsErrAnd, count_by, ◌==◌, slice_index, range_with_len, Kernel, StoreView, conditions_of, IsUnknownCount, IsRefusedFor, KeepsToShare, KeepsToTriangularShare, triangular_share_of, IsTriangular, Presence, RelAnswer, conditions_few, in_range, one_least, contains_at, contains_cons, contains_none}
 use Rattle.sig_rel.specs.Shares.{share_of}
 use Rattle.sig_rel.specs.declared.answer.RelAnswer.TheVariants.{Budget, OutOfMemory}
-use Rattle.sig_solve.proofs.ListLemmas.{contains_get}
 
 -- ---- a triangular kernel has an unknown, that of its top
 
@@ -18,7 +17,7 @@ count_some p (y ∷ xs) x there is =
 has_unknown : (kernel : Kernel) (u : ℕ) → IsTriangular kernel → IsUnknownCount kernel u → 1 ≤ u
 has_unknown kernel u is count =
     let triangle = is.2.1 in
-    let class = (triangle.classes triangle.top).0 (contains_get is.2.0 0 (Presence triangle.top) triangle.first) in
+    let class = (triangle.classes triangle.top).0 (contains_at is.2.0 0 (Presence triangle.top) triangle.first) in
     let leads : slice_index count.0 triangle.top ≡ triangle.top = ap (λ xs. slice_index xs triangle.top) (one_least kernel count.0 is.0 count.1 is.1) ∙ class.1 in
     let one = count_some (λ signal. slice_index count.0 signal == signal) (range_with_len 0 (length kernel.signals)) triangle.top
     (in_range 0 (length kernel.signals) triangle.top (omega arith) (let lt = class.0 in omega (arith, lt))) (eq-eqb (slice_index count.0 triangle.top) triangle.top leads) in

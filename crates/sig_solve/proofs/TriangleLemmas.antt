@@ -1,13 +1,6 @@
 -- The first class of a triangular kernel's list is a root.
-use Rattle.sig_solve.proofs.Common.{◌≡◌, ◌<◌, ◌⊎◌, inl, inr, ℕ, true, false, List, [], ◌∷◌, length, take, get_or, refl, sym, ap, ◌∙◌, subst, arith, Contains, zero, suc, Option, None, Some, option_map, slice_get, is_some, and_parts, false≢true, ltb-true, IsValid, Equation, Form, Fun, Delay, When, WhenConst, Default, Sync, Event, Kernel, IsRoot, IsReaction, Reaction, Status, is_present, is_silent, meets, or_else, status_at, where_true, AreLeast, at_contained, contains_head, contains_later, present_together, statuses_are_same, AreClassesInOrder, Governs, IsTriangle, IsTriangular, MayStand, classes_among, form_at, operand_signals, Element, Presence, Truth, all_statuses, form_within}
+use Rattle.sig_solve.proofs.Common.{◌≡◌, ◌<◌, ◌⊎◌, inl, inr, ℕ, true, false, List, [], ◌∷◌, length, take, get_or, refl, sym, ap, ◌∙◌, subst, arith, Contains, zero, suc, Option, None, Some, option_map, slice_get, is_some, and_parts, false≢true, ltb-true, IsValid, Equation, Form, Fun, Delay, When, WhenConst, Default, Sync, Event, Kernel, IsRoot, IsReaction, Reaction, Status, is_present, is_silent, meets, or_else, status_at, where_true, AreLeast, present_together, statuses_are_same, AreClassesInOrder, Governs, IsTriangle, IsTriangular, MayStand, classes_among, form_at, operand_signals, Element, Presence, Truth, all_statuses, form_within, taken_get, at_contained, contains_at, contains_head, contains_later, get_or_from_slice_get, slice_get_within}
 use Rattle.sig_solve.proofs.FrameLemmas.{least_below, least_twice}
-use Rattle.sig_solve.proofs.ListLemmas.{contains_get, get_is, get_within}
-
-get_taken : {X : Type 0} (xs : List X) (k j : ℕ) (x : X) → slice_get (take k xs) j ≡ Some x → (j < k) × (slice_get xs j ≡ Some x)
-get_taken xs zero j x at = absurd (let e : None ≡ Some x = at in cc)
-get_taken [] (suc k) j x at = absurd (let e : None ≡ Some x = at in cc)
-get_taken (y ∷ xs) (suc k) zero x at = (omega arith, at)
-get_taken (y ∷ xs) (suc k) (suc j) x at = let rest = get_taken xs k j x at in (omega (arith, rest.0), rest.1)
 
 -- where a sampling is present, its operands are
 sampled : (b x : Status) → is_some (where_true b x) ≡ true → (is_some b ≡ true) × (is_some x ≡ true)
@@ -69,8 +62,8 @@ module _ (kernel : Kernel) (valid : IsValid kernel) (least : List ℕ) (are : Ar
     by (Some equation) e f =
         let some : Some equation.form ≡ Some form = f in
         let own : equation.form ≡ form = cc in
-        let lt = get_within kernel.equations number equation e in
-        let same : (get_or kernel.equations number equation).form ≡ form = ap (λ (q : Equation). q.form) (get_is kernel.equations number equation equation e) ∙ own in (
+        let lt = slice_get_within kernel.equations number equation e in
+        let same : (get_or kernel.equations number equation).form ≡ form = ap (λ (q : Equation). q.form) (get_or_from_slice_get kernel.equations number equation equation e) ∙ own in (
           subst (λ g. form_within (length kernel.signals) g ≡ true) same (valid.equations.within number equation lt),
           subst (λ g. meets kernel.signals reaction g ≡ true) same (is.equations number equation lt),
         )
@@ -88,7 +81,7 @@ module _ (kernel : Kernel) (valid : IsValid kernel) (least : List ℕ) (are : Ar
         let form = form_is stands.number stands.form stands.counted.at in
         let operand = operand_of class stands.form form.0 stands.counted.governs form.1 here in
         let there = stands.classes operand.x operand.among in
-        let before = get_taken list (suc k) there.0 (Presence (get_or least operand.x 0)) (at_contained (take (suc k) list) (Presence (get_or least operand.x 0)) there) in
+        let before = taken_get (suc k) list there.0 (Presence (get_or least operand.x 0)) (at_contained (take (suc k) list) (Presence (get_or least operand.x 0)) there) in
         first_present n there.0 (get_or least operand.x 0) (omega (arith, before.0, lt)) before.1 (sym (class_present operand.x operand.below) ∙ operand.here)
 
 -- a reaction that is not silent has a signal
@@ -99,7 +92,7 @@ some_present (None ∷ reaction) not_silent = let rest = some_present reaction n
 
 pub top_is_root : (kernel : Kernel) → IsValid kernel → (least : List ℕ) → AreLeast kernel least → (list : List Element) (triangle : IsTriangle kernel least list) → IsRoot kernel triangle.top
 top_is_root kernel valid least are list triangle = record {
-  is = ((triangle.classes triangle.top).0 (contains_get list 0 (Presence triangle.top) triangle.first)).0;
+  is = ((triangle.classes triangle.top).0 (contains_at list 0 (Presence triangle.top) triangle.first)).0;
   everywhere = λ reaction speaks.
       let some = some_present reaction speaks.some in
       let lt : some.0 < length kernel.signals = omega (arith, some.1, all_statuses kernel.signals reaction speaks.is.kinds) in

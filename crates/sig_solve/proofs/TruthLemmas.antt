@@ -1,5 +1,5 @@
 -- Lemmas on truths and on lists of variables.
-use Rattle.sig_solve.proofs.Common.{◌≡◌, ◌≢◌, ◌⊎◌, inl, inr, ℕ, Bool, List, [], ◌∷◌, ◌++◌, refl, sym, ◌∙◌, subst, Contains, cases_eq, contains_cons, contains_head, contains_later, contains_none, truth_of, with_truth, truth_of-with_same, truth_of-with_other}
+use Rattle.sig_solve.proofs.Common.{◌≡◌, ◌≢◌, ◌⊎◌, inl, inr, ℕ, Bool, List, [], ◌∷◌, ◌++◌, refl, sym, ◌∙◌, subst, Contains, cases_eq, truth_of, with_truth, truth_of-with_same, truth_of-with_other, contains_cons, contains_head, contains_later, contains_none}
 
 -- a variable is in a list, or not
 pub is_in : (xs : List ℕ) (v : ℕ) → Contains xs v ⊎ (Contains xs v → ⊥)
@@ -23,10 +23,6 @@ contains_before (z ∷ xs) x y there = elim (contains_cons z y xs there) [
   | inl e ↦ subst (λ w. Contains (z ∷ xs ++ x ∷ []) w) (sym e) (contains_head z (xs ++ x ∷ []))
   | inr later ↦ contains_later z y (xs ++ x ∷ []) (contains_before xs x y later)
 ]
-
-pub contains_last : {X : Type 0} (xs : List X) (x : X) → Contains (xs ++ x ∷ []) x
-contains_last [] x = contains_head x []
-contains_last (z ∷ xs) x = contains_later z x (xs ++ x ∷ []) (contains_last xs x)
 
 -- truths that are those of one list at some variables, and of another one elsewhere
 pub mixed : List ℕ → List Bool → List Bool → List Bool

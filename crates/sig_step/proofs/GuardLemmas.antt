@@ -1,19 +1,10 @@
 -- The guards of an actor's slots, which are known in an instant once they were met.
-use Rattle.sig_step.proofs.Common.{◌≡◌, ◌<◌, ◌≤◌, ◌⊎◌, ◌∙◌, ◌&&◌, ℕ, Bool, true, false, List, length, get_or, slice_get, set, Option, None, Some, refl, sym, ap, subst, inl, inr, arith, length-set, eqb_tells, slice_get-get_or, slice_get_within, test, code_of, slot_holds, truths_of, IsRunnable, PlanView, Slot, Step, get_set_other, get_set_same, same_Some, instant_of, seen_in, CountsNeeds, CountsWalk, IsSlotMet, AreMarks, KnowsGuard, known_in, mark_holds, mark_is_met, parent_holds, ClusterState, Mark}
+use Rattle.sig_step.proofs.Common.{◌≡◌, ◌<◌, ◌≤◌, ◌⊎◌, ◌∙◌, ◌&&◌, ℕ, Bool, true, false, List, length, get_or, slice_get, set, Option, None, Some, refl, sym, ap, subst, inl, inr, arith, length-set, eqb_tells, slice_get-get_or, slice_get_within, test, code_of, slot_holds, truths_of, IsRunnable, PlanView, Slot, Step, same_Some, instant_of, seen_in, CountsNeeds, CountsWalk, IsSlotMet, AreMarks, KnowsGuard, known_in, mark_holds, mark_is_met, parent_holds, ClusterState, Mark, get_set_other, get_set_same}
 
 and_drops : (p q : Bool) → (q ≡ true → p ≡ true) → (p && q) ≡ q
 and_drops true q h = refl
 and_drops false true h = h refl
 and_drops false false h = refl
-
--- a guard that is known was met
-pub known_met : (s : ClusterState) (number : ℕ) (found : Option Mark) → slice_get s.marks.items number ≡ found → (holds : Bool)
-    → known_in (instant_of s.values) found ≡ Some holds → IsSlotMet s number
-known_met s number None at holds is = absurd (let e : None ≡ Some holds = is in cc)
-known_met s number (Some mark) at holds is = elim (eqb_tells mark.instant (instant_of s.values)) [
-  | inl same ↦ (mark, at, same.1)
-  | inr other ↦ absurd (let e : None ≡ Some holds = rw other.0 at is in cc)
-]
 
 -- the next step is one of this slot
 abbrev pub StandsAt : PlanView → ClusterState → ℕ → Type 0

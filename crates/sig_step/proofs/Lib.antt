@@ -13,14 +13,14 @@ pub mod CallsByTurn
 pub mod WalkLemmas
 pub mod Within
 unfoldable pub use Common.*
-pub use StateAtOpening.*
-pub use OperationsOfActor.*
-pub use WayInTheCode.*
+pub use CallsByTurn.*
 pub use GuardLemmas.*
+pub use OperationsOfActor.*
 pub use Passed.*
 pub use Several.*
+pub use StateAtOpening.*
 pub use StateLemmas.*
 pub use TakenItems.*
-pub use CallsByTurn.*
 pub use WalkLemmas.*
+pub use WayInTheCode.*
 pub use Within.*

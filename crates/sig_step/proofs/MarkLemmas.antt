@@ -1,5 +1,5 @@
 -- What is known of guards while an actor writes registers and goes on.
-use Rattle.sig_step.proofs.Common.{◌≡◌, ◌≤◌, ◌+◌, ◌∙◌, ℕ, ℤ, Bool, true, false, List, length, nat_lt, slice_get, if◌then◌else◌, Option, None, Some, refl, sym, ap, subst, inl, inr, arith, eqb_tells, SigId, test, Actor, Registers, code_of, no_registers, slot_holds, truths_of, with_at, with_signal, FillsAt, IsInSlot, IsRunnable, PlanView, Slot, Step, IsMet, MovesOn, AreMarks, AreMarksAt, actor_of, ClusterState, Mark, instant_of, seen_in}
+use Rattle.sig_step.proofs.Common.{◌≡◌, ◌≤◌, ◌∙◌, ℕ, ℤ, List, slice_get, Option, None, Some, refl, sym, ap, subst, arith, SigId, test, Registers, code_of, slot_holds, truths_of, with_at, with_signal, FillsAt, IsInSlot, IsRunnable, PlanView, Slot, Step, AreMarks, AreMarksAt, ClusterState, Mark, instant_of, seen_in}
 use Rattle.sig_step.proofs.TruthLemmas.{test_stays}
 
 id_is : (a b : SigId) → a.0 ≡ b.0 → a ≡ b
@@ -46,43 +46,3 @@ same_marks plan a b i j m n r q old new actor instant next registers marks are =
     (subst (λ (x : ℕ). AreMarksAt plan b j x r old) next
     (subst (λ (x : ℕ). AreMarksAt plan b x m r old) instant
     (subst (λ (x : ℕ). AreMarksAt plan x i m r old) actor are))))
-
--- the marks before the step behind one whose slot was met
-at_next_step : (plan : PlanView) (s : ClusterState) → AreMarks plan s → IsMet plan s
-    → AreMarksAt plan s.actor (instant_of s.values) (s.step + 1) (seen_in s.values) s.marks.items
-at_next_step plan s marks met = record {
-  count = marks.count;
-  past = marks.past;
-  known = λ k mark at now.
-      let (value, (number, step, before, step_at, in_slot)) = marks.known k mark at now in
-      (value, (number, step, omega (arith, before), step_at, in_slot));
-  reached = λ number step below at. elim (eqb_tells number s.step) [
-    | inl same ↦ met step (ap (slice_get (code_of plan s.actor).steps) (sym same.1) ∙ at)
-    | inr other ↦ marks.reached number step (omega (arith, below, other.1)) at
-  ];
-}
-
--- the marks at the next instant, of which nothing is known yet
-at_next_instant : (plan : PlanView) (s : ClusterState) → AreMarks plan s
-    → AreMarksAt plan s.actor ((instant_of s.values) + 1) 0 no_registers s.marks.items
-at_next_instant plan s marks = record {
-  count = marks.count;
-  past = λ k mark at. let h = marks.past k mark at in omega (arith, h);
-  known = λ k mark at now. let h = marks.past k mark at in absurd (omega (arith, h, now));
-  reached = λ number step below at. absurd (omega (arith, below));
-}
-
--- marks stay right where the actor goes on behind a step whose slot was met
-pub marks_moved : (plan : PlanView) (s new : ClusterState) → AreMarks plan s → IsMet plan s → MovesOn plan s new → AreMarks plan new
-marks_moved plan s new marks met moves = by_case (nat_lt (s.step + 1) (length (code_of plan s.actor).steps)) moves.actor where
-  by_case : (b : Bool)
-      → actor_of new ≡ (if b then record (actor_of s) { step = s.step + 1 } else record (actor_of s) { instant = (instant_of s.values) + 1; step = 0; registers = no_registers })
-      → AreMarks plan new
-  by_case true is =
-      same_marks plan s.actor new.actor (instant_of s.values) (instant_of new.values) (s.step + 1) new.step (seen_in s.values) (seen_in new.values) s.marks.items new.marks.items
-      (sym moves.same.actor) (sym (ap (λ (a : Actor). a.instant) is)) (sym (ap (λ (a : Actor). a.step) is)) (sym (ap (λ (a : Actor). a.registers) is))
-      (sym (ap (λ m. m.items) moves.marks)) (at_next_step plan s marks met)
-  by_case false is =
-      same_marks plan s.actor new.actor ((instant_of s.values) + 1) (instant_of new.values) 0 new.step no_registers (seen_in new.values) s.marks.items new.marks.items
-      (sym moves.same.actor) (sym (ap (λ (a : Actor). a.instant) is)) (sym (ap (λ (a : Actor). a.step) is)) (sym (ap (λ (a : Actor). a.registers) is))
-      (sym (ap (λ m. m.items) moves.marks)) (at_next_instant plan s marks)

@@ -1,5 +1,5 @@
 -- Operations that an actor does.
-use Rattle.sig_step.proofs.Common.{◌≡◌, ◌∙◌, ℕ, ℤ, Bool, true, List, length, slice_get, Option, None, Some, refl, sym, ap, subst, OpId, SigId, Place, Kernel, Actor, code_of, moved_on, next_place, Faults, Gives, Outcome, memory_of, operated, outcome, outcome_by, fills, target_of_op, FillsAt, Fails, Goes, Turn, turn_by, turn_of_op, turn_with, PlanView, Do, Cause, Op, OpKind, Read, Compute, Left, Right, DelayRead, Store, Acts, Nothing, IsReady, MayGoOn, MovesOn, actor_of, cause_by, cause_of_op, place_of, Acted, Done, Failed, ClusterState, IsMachineOfActor, IsOpOfStep, NamesWithin, StepKind, arith, step_names, ◌<◌, zero, suc, [], ◌∷◌, actor_in, instant_of, ActorMachine}
+use Rattle.sig_step.proofs.Common.{◌≡◌, ◌∙◌, ℕ, ℤ, Bool, true, List, length, slice_get, Option, None, Some, refl, sym, ap, subst, OpId, SigId, Place, Kernel, Actor, code_of, moved_on, next_place, Faults, Gives, Outcome, memory_of, operated, outcome, outcome_by, fills, target_of_op, FillsAt, Fails, Goes, Turn, turn_by, turn_of_op, turn_with, PlanView, Do, Cause, Op, OpKind, Read, Compute, Left, Right, DelayRead, Store, Acts, Nothing, IsReady, MayGoOn, MovesOn, actor_of, cause_by, cause_of_op, place_of, Acted, Done, Failed, ClusterState, IsMachineOfActor, IsOpOfStep, NamesWithin, StepKind, step_names, ◌<◌, actor_in, instant_of, ActorMachine, some_at}
 use Rattle.sig_step.proofs.StateLemmas.{may_with}
 use Rattle.sig_step.proofs.CallsByTurn.{coded}
 
@@ -22,17 +22,12 @@ pub same_outcome : (kernel : Kernel) (flows : List (List ℤ)) (s : ClusterState
     → outcome kernel flows (actor_of s) op ≡ outcome kernel flows (actor_in s.values s.step) op
 same_outcome kernel flows s op = outcome_of_kind kernel flows (actor_in s.values s.step) s.ended op op.kind
 
-somewhere : {A : Type 0} (xs : List A) (n : ℕ) → n < length xs → (x : A) × (slice_get xs n ≡ Some x)
-somewhere [] n less = absurd (omega (arith, less))
-somewhere (x ∷ xs) zero less = (x, refl)
-somewhere (x ∷ xs) (suc n) less = somewhere xs n (omega (arith, less))
-
 -- the operation of the next step is there
 pub op_there : (plan : PlanView) (flows : List (List ℤ)) (s : ClusterState) (o : OpId) → IsReady plan flows s (Do o) → (op : Op) × (slice_get plan.ops o.0 ≡ Some op)
 op_there plan flows s o ready =
     let named = step_names plan ready.plan_runs.accepted s.actor (code_of plan s.actor) (coded plan s.actor ready.may.state.actor) s.step ready.step ready.at in
     let below : o.0 < length plan.ops = subst (λ (kind : StepKind). NamesWithin (length plan.ops) (length plan.links) kind) ready.does named in
-    somewhere plan.ops o.0 below
+    some_at plan.ops o.0 below
 
 pub does_op : (plan : PlanView) (flows : List (List ℤ)) (s : ClusterState) (o : OpId) → IsReady plan flows s (Do o) → (op : Op) → slice_get plan.ops o.0 ≡ Some op
     → IsOpOfStep plan s.actor s.step op

@@ -1,5 +1,5 @@
 -- Steps that are passed over, one after another.
-use Rattle.sig_step.proofs.Common.{◌≡◌, ◌≤◌, ◌<◌, ◌+◌, ◌==◌, ◌∙◌, inl, inr, ℕ, zero, suc, ℤ, Bool, true, false, List, length, nat_lt, slice_get, if◌then◌else◌, Option, None, Some, refl, sym, ap, subst, arith, cond, eqb_tells, same_Some, Actor, code_of, moved_on, no_registers, guard_holds, Goes, Turn, turn, turn_at, turn_by, PlanView, Step, Acts, Counts, CountsAt, DoesStep, DoesSteps, Past, Queues, Nothing, IsMet, IsSlotMet, MayGoOn, MovesOn, IsStateOf, actor_of, known_in, Done, ClusterState, Mark, instant_of, seen_in, Passes, PassesOver, PassesSo, IsKnown}
+use Rattle.sig_step.proofs.Common.{◌≡◌, ◌≤◌, ◌<◌, ◌+◌, ◌==◌, ◌∙◌, inl, inr, ℕ, zero, suc, ℤ, Bool, true, false, List, length, nat_lt, slice_get, if◌then◌else◌, Option, None, Some, refl, sym, ap, subst, arith, cond, eqb_tells, same_Some, Actor, code_of, moved_on, no_registers, guard_holds, Goes, Turn, turn, turn_at, turn_by, PlanView, Step, Acts, Counts, CountsAt, DoesStep, DoesSteps, Past, Queues, Nothing, IsSlotMet, MayGoOn, MovesOn, IsStateOf, actor_of, known_in, Done, ClusterState, Mark, instant_of, seen_in, Passes, PassesOver, PassesSo, IsKnown}
 use Rattle.sig_step.proofs.Several.{same_actor_then}
 use Rattle.sig_step.proofs.CallsByTurn.{turn_alone}
 use Rattle.sig_step.proofs.Within.{turn_within}
@@ -59,10 +59,6 @@ module _ (plan : PlanView) (flows : List (List ℤ)) where
           instant = ap (λ (a : Actor). a.instant) is;
           step = ap (λ (a : Actor). a.step) is;
         }
-
-  -- no step
-  pub over_none : (s : ClusterState) → IsStateOf plan flows s → PassesOver plan flows s s
-  over_none s state = record { count = 0; turns = refl; state = state; actor = record { actor = refl; limit = refl }; ended = refl; instant = refl }
 
   -- one step more
   pub over_more : (s mid new : ClusterState) → PassesOver plan flows s mid → Passes plan flows mid new → PassesOver plan flows s new

@@ -1,35 +1,6 @@
 -- A state stays one of its actor while the actor does its steps.
-use Rattle.sig_step.proofs.Common.{◌≡◌, ◌<◌, ◌≤◌, ◌+◌, ◌∙◌, ◌^◌, ℕ, ℤ, Bool, true, false, List, length, nat_lt, slice_get, if◌then◌else◌, IfSome, IsThere, None, Option, Some, refl, sym, ap, subst, arith, SigId, Actor, code_of, no_registers, position_of, with_signal, FillsAt, IsRunnable, PlanView, MayGoOn, MovesOn, IsStateOf, actor_of, ClusterState, IsMachineOfActor, instant_of, seen_in, ActorMachine}
-use Rattle.sig_step.proofs.MarkLemmas.{marks_filled, marks_moved, same_marks}
-
-module _ (plan : PlanView) (flows : List (List ℤ)) (s new : ClusterState) (may : MayGoOn plan flows s) (moves : MovesOn plan s new) where
-  next_in : (b : Bool) → nat_lt (s.step + 1) (length (code_of plan s.actor).steps) ≡ b
-      → actor_of new ≡ (if b then record (actor_of s) { step = s.step + 1 } else record (actor_of s) { instant = instant_of s.values + 1; step = 0; registers = no_registers })
-      → (new.step < length (code_of plan s.actor).steps) × (1 ≤ instant_of new.values) × (instant_of new.values ≤ s.limit + 1)
-  next_in true test is =
-      let step_is : new.step ≡ s.step + 1 = ap (λ (a : Actor). a.step) is in
-      let instant_is : instant_of new.values ≡ instant_of s.values = ap (λ (a : Actor). a.instant) is in
-      (grind (arith, test, step_is), omega (arith, instant_is, may.state.from), omega (arith, instant_is, may.runs))
-  next_in false test is =
-      let step_is : new.step ≡ 0 = ap (λ (a : Actor). a.step) is in
-      let instant_is : instant_of new.values ≡ instant_of s.values + 1 = ap (λ (a : Actor). a.instant) is in
-      (omega (arith, step_is, may.state.step), omega (arith, instant_is), omega (arith, instant_is, may.runs))
-
-  pub state_moved : IsStateOf plan flows new
-  state_moved =
-      let (below, from, within) = next_in (nat_lt (s.step + 1) (length (code_of plan s.actor).steps)) refl moves.actor in
-      let same = moves.same.actor in
-      record {
-        actor = subst (λ (k : ℕ). k < length plan.codes) (sym same) may.state.actor;
-        limit = subst (λ (n : ℕ). n + 1 < 2 ^ 32) (sym moves.same.limit) may.state.limit;
-        from = from;
-        within = subst (λ (n : ℕ). instant_of new.values ≤ n + 1) (sym moves.same.limit) within;
-        step = subst (λ (k : ℕ). new.step < length (code_of plan k).steps) (sym same) below;
-        short = subst (λ (k : ℕ). length (code_of plan k).steps < 2 ^ 32) (sym same) may.state.short;
-        position = moves.position ∙ ap (λ (k : ℕ). position_of (slice_get (code_of plan k).steps new.step)) (sym same);
-        values = subst (λ (k : ℕ). IsMachineOfActor plan k flows new.values) (sym same) (moves.values flows may.state.values);
-        marks = marks_moved plan s new may.state.marks may.met moves;
-      }
+use Rattle.sig_step.proofs.Common.{◌≡◌, ◌<◌, ◌≤◌, ◌+◌, ◌∙◌, ℕ, ℤ, true, List, length, IfSome, IsThere, None, Option, Some, refl, sym, subst, SigId, with_signal, FillsAt, IsRunnable, PlanView, MayGoOn, IsStateOf, ClusterState, IsMachineOfActor, instant_of, seen_in, ActorMachine}
+use Rattle.sig_step.proofs.MarkLemmas.{marks_filled, same_marks}
 
 -- an actor may go on with values in which the signal of its step is filled, if there is one
 pub may_with : (plan : PlanView) (flows : List (List ℤ)) (s : ClusterState) → IsRunnable plan → MayGoOn plan flows s

@@ -1,20 +1,14 @@
 -- Truths that agree where a function depends on them, and guards that stay known while registers are written.
-use Rattle.sig_step.proofs.Common.{◌≡◌, ◌≢◌, ◌⊎◌, ◌+◌, ◌∙◌, ◌++◌, ℕ, zero, suc, ℤ, Bool, true, false, List, [], ◌∷◌, length, map, slice_get, None, Some, refl, sym, ap, subst, inl, inr, arith, append_assoc, length-append, eqb_tells, SigId, Depends, with_truth, Registers, is_true, truths_of, with_at, same_Some}
+use Rattle.sig_step.proofs.Common.{◌≡◌, ◌+◌, ◌∙◌, ◌++◌, ℕ, suc, ℤ, Bool, true, false, List, [], ◌∷◌, length, map, slice_get, Some, refl, sym, ap, subst, inl, inr, arith, append_assoc, length-append, eqb_tells, SigId, Depends, with_truth, Registers, is_true, truths_of, with_at, same_Some, same_truth, map_get}
 
 with_truth_at : (pre : List Bool) (t b : Bool) (ts : List Bool) → with_truth (pre ++ t ∷ ts) (length pre) b ≡ pre ++ b ∷ ts
 unfolding with_truth
 with_truth_at [] t b ts = refl
 with_truth_at (p ∷ pre) t b ts = ap (λ xs. p ∷ xs) (with_truth_at pre t b ts)
 
-same_bool : (a b : Bool) → (a ≡ b) ⊎ (a ≢ b)
-same_bool true true = inl refl
-same_bool false false = inl refl
-same_bool true false = inr (λ e. absurd cc)
-same_bool false true = inr (λ e. absurd cc)
-
 -- truths that differ at one place on which the function does not depend
 flipped : (f : List Bool → Bool) (pre ts : List Bool) → (Depends f (length pre) → ⊥) → f (pre ++ false ∷ ts) ≡ f (pre ++ true ∷ ts)
-flipped f pre ts free = elim (same_bool (f (pre ++ false ∷ ts)) (f (pre ++ true ∷ ts))) [
+flipped f pre ts free = elim (same_truth (f (pre ++ false ∷ ts)) (f (pre ++ true ∷ ts))) [
   | inl same ↦ same
   | inr differ ↦ absurd (free (pre ++ true ∷ ts, λ e. differ (ap f (sym (with_truth_at pre true false ts)) ∙ e ∙ ap f (with_truth_at pre true true ts))))
 ]
@@ -42,11 +36,6 @@ pub agree_where_needed : (f : List Bool → Bool) (ts us : List Bool) → length
     → ((j : ℕ) (t u : Bool) → Depends f j → slice_get ts j ≡ Some t → slice_get us j ≡ Some u → t ≡ u) → f ts ≡ f us
 agree_where_needed f ts us same h =
     agree_from f [] ts us same (λ j t u depends. h j t u (let e : 0 + j ≡ j = omega arith in subst (λ (n : ℕ). Depends f n) e depends))
-
-map_get : {X Y : Type 0} (f : X → Y) (xs : List X) (j : ℕ) (y : Y) → slice_get (map f xs) j ≡ Some y → (x : X) × (slice_get xs j ≡ Some x) × (f x ≡ y)
-map_get f [] j y at = absurd (let e : None ≡ Some y = at in cc)
-map_get f (x ∷ xs) zero y at = (x, refl, same_Some (f x) y at)
-map_get f (x ∷ xs) (suc j) y at = map_get f xs j y at
 
 map_lengths : {X Y : Type 0} (f g : X → Y) (xs : List X) → length (map f xs) ≡ length (map g xs)
 map_lengths f g [] = refl

@@ -1,5 +1,5 @@
 -- How many nodes the walk of a guard visits.
-use Rattle.sig_step.proofs.Common.{◌≡◌, ◌≢◌, ◌<◌, ◌≤◌, ◌+◌, ◌∙◌, ℕ, zero, suc, Bool, true, false, List, [], ◌∷◌, length, map, get_or, slice_get, Contains, Some, if◌then◌else◌, refl, sym, ap, inl, inr, arith, slice_get-get_or, SigId, proper, tests_spanned, IsProper, Tests-later, Choice, Constant, Diagram, Tests, truth_of, visited, Holds, IsReduced, diagram, Node, Ref, Registers, truths_of, same_Some, CountsNeeds}
+use Rattle.sig_step.proofs.Common.{◌≡◌, ◌≢◌, ◌<◌, ◌≤◌, ◌+◌, ◌∙◌, ℕ, zero, suc, Bool, true, false, List, [], ◌∷◌, length, get_or, slice_get, Contains, Some, if◌then◌else◌, refl, sym, ap, inl, inr, arith, slice_get-get_or, SigId, proper, tests_spanned, IsProper, Tests-later, Choice, Constant, Diagram, Tests, truth_of, visited, Holds, IsReduced, diagram, Node, Ref, Registers, truths_of, same_Some, CountsNeeds, length-map}
 
 -- a list without the item at a place
 drop_at : ℕ → List ℕ → List ℕ
@@ -57,9 +57,5 @@ walk_counts nodes reduced r held truths before after is = record {
       omega (arith, is, few);
 }
 
-map_length : {X Y : Type 0} (f : X → Y) (xs : List X) → length (map f xs) ≡ length xs
-map_length f [] = refl
-map_length f (x ∷ xs) = ap suc (map_length f xs)
-
 pub truths_length : (conditions : List SigId) (registers : Registers) → length (truths_of conditions registers) ≡ length conditions
-truths_length conditions registers = map_length _ conditions
+truths_length conditions registers = length-map conditions _

@@ -1,5 +1,5 @@
 -- Steps of an actor that runs within its limit.
-use Rattle.sig_step.proofs.Common.{◌≡◌, ◌≢◌, ◌≤◌, ◌+◌, ◌∙◌, inl, inr, ℕ, ℤ, Bool, true, false, List, length, nat_lt, slice_get, if◌then◌else◌, Option, None, Some, refl, sym, ap, subst, arith, cond, Kernel, Actor, code_of, guard_holds, moved_on, no_registers, Faults, Gives, Outcome, operated, outcome, AtLimit, Commits, Fails, Goes, Puts, Stopped, Takes, Turn, carried, received, turn, turn_at, turn_by, turn_of_op, turn_with, PlanView, Step, StepKind, Do, Send, Receive, Report, Collect, Commit, Op, Acts, CountsNone, TakesTurn, Asked, actor_of, Past, Queues, Acted, AtTheLimit, CommitDone, Done, Failed, Full, Empty, HasStopped, ClusterState, instant_of}
+use Rattle.sig_step.proofs.Common.{◌≡◌, ◌≢◌, ◌≤◌, ◌+◌, ◌∙◌, inl, inr, ℕ, ℤ, Bool, true, false, List, length, nat_lt, slice_get, if◌then◌else◌, Option, None, Some, refl, sym, ap, subst, cond, Kernel, Actor, code_of, guard_holds, moved_on, no_registers, Faults, Gives, Outcome, operated, outcome, AtLimit, Commits, Fails, Goes, Puts, Stopped, Takes, Turn, carried, received, turn, turn_at, turn_by, turn_of_op, turn_with, PlanView, Step, StepKind, Do, Send, Receive, Report, Collect, Commit, Op, Acts, TakesTurn, Asked, actor_of, Past, Queues, Acted, AtTheLimit, CommitDone, Done, Failed, Full, Empty, HasStopped, ClusterState, instant_of}
 use Rattle.sig_step.proofs.WayInTheCode.{no_further}
 
 -- an actor that a step leaves amid its instant runs on in it
@@ -68,11 +68,6 @@ module _ (plan : PlanView) (flows : List (List ℤ)) (s : ClusterState) (runs : 
       ap (λ (b : Bool). cond b Stopped (cond (nat_lt s.limit (instant_of s.values)) AtLimit
       (turn_at plan flows (code_of plan s.actor) (actor_of s) (slice_get (code_of plan s.actor).steps s.step)))) runs
       ∙ ap (λ (b : Bool). cond b AtLimit (turn_at plan flows (code_of plan s.actor) (actor_of s) (slice_get (code_of plan s.actor).steps s.step))) (no_further s.limit (instant_of s.values) within)
-
-  -- such an actor may walk a guard
-  pub idle_within : (before after : ℕ) → CountsNone s before after
-  idle_within before after (inl ended) = absurd (let e : true ≡ false = sym ended ∙ runs in cc)
-  idle_within before after (inr past) = absurd (omega (arith, past, within))
 
   -- behind a step that was done, the actor runs on, where it is amid its instant
   pub runs_on : {E : Type 0} (past : E → Option Past) (queues : E → Option Queues) (acted : Acted) → acted ≡ Done → (new : ClusterState) (before after : E)

@@ -1,6 +1,5 @@
 -- Facts of the command that words are.
-use Rattle.sig_words.specs.declared.answer.WordsAnswer.TheVariants.{OutOfMemory as NoMemory}
-use Rattle.sig_tool.proofs.Common.{◌≡◌, ◌⊎◌, ◌∙◌, ℕ, List, [], Bool, Option, None, inl, inr, refl, sym, subst, arith, Contents, Word, Command, Settings, Build, Check, Code, Exec, Judge, Load, Play, Print, Run, Tree, IsRefusedBy, Performs, Stops, memory_line, status_of, WordsAnswer, Refused, AreNoCommand, Refusal, Missing, ReadFault, LongProgram, Program, Budget, TooManyItems, LongFile, Data, LongImage, OutOfMemory, told, performs_refusal, IsLoadStatus, loading, IsAboutLoad, one_load_outcome, ComesTo, IfLoad, IsAbout, OfCommand}
+use Rattle.sig_tool.proofs.Common.{NoMemory, ◌≡◌, ◌⊎◌, ◌∙◌, ℕ, List, [], Bool, Option, None, inl, inr, refl, sym, subst, arith, Contents, Word, Command, Settings, Build, Check, Code, Exec, Judge, Load, Play, Print, Run, Tree, IsRefusedBy, Performs, Stops, memory_line, status_of, WordsAnswer, Refused, AreNoCommand, Refusal, Missing, ReadFault, LongProgram, Program, Budget, TooManyItems, LongFile, Data, LongImage, OutOfMemory, told, performs_refusal, IsLoadStatus, loading, IsAboutLoad, one_load_outcome, ComesTo, IfLoad, IsAbout, OfCommand}
 
 -- what holds of the one command that the words are holds of each
 pub of_one : (words : List Word) (command : Command) (Fact : Command → Type 0) → OfCommand words (λ c. c ≡ command) → Fact command → OfCommand words Fact

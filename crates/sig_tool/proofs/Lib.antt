@@ -2,12 +2,10 @@ pub mod Common
 mod OneOutcome
 mod CommandWords
 mod TopClauses
-mod Limits
 mod Complete
 mod Sentence
 pub use Common.*
 pub use CommandWords.*
 pub use Complete.*
 pub use Sentence.*
-pub use Limits.*
 pub use TopClauses.*

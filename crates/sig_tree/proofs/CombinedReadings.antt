@@ -25,12 +25,6 @@ pub starts_apart : (Begins Continues : Terminal → Type 0) (front back : List L
 starts_apart Begins Continues [] back apart starts = absurd starts
 starts_apart Begins Continues (l ∷ front) back apart starts = apart l.terminal starts
 
--- two sets of which one leaf is in both
-pub starts_both : (Begins Others : Terminal → Type 0) (front back : List Leaf) (l : Leaf) (rest : List Leaf) → front ++ back ≡ l ∷ rest
-    → StartsWith Begins front → Begins l.terminal
-starts_both Begins Others [] back l rest e starts = absurd starts
-starts_both Begins Others (m ∷ front) back l rest e starts = subst (λ (n : Leaf). Begins n.terminal) (cons_same m l (front ++ back) rest e).0 starts
-
 module _ {A : Type 0} (Is : A → List Leaf → Type 0) (Continues : Terminal → Type 0) where
   -- a part, with what stands behind it
   pub part_at : (x : A) → OneAt Is Continues x → (y : A) (front other_front back other_back : List Leaf)

@@ -2,7 +2,10 @@
 pub use Rattle.std.proofs.Common.{Bool, List, None, Option, Some, [], ap, append-nil, append_assoc, arith, bytes_eq, codes, cond, false, flat_map, inl, inr, le-leb, leb, length, length-append, map, neg_ℤ, pos, refl, subst, suc, sym, true, zero, ℕ, ℤ, ⊎_elim, ◌++◌, ◌+◌, ◌<◌, ◌∙◌, ◌∷◌, ◌≡◌, ◌≤◌, ◌⊎◌}
 pub use Rattle.std.proofs.lemmas.Bool.{cases_order}
 pub use Rattle.std.proofs.lemmas.List.{append_cancel_left, append_cancel_right}
+pub use Rattle.std.proofs.lemmas.Option.{none-some, same_Some}
 pub use Rattle.std.specs.List.{AllZip}
+pub use Rattle.sig_lists.proofs.Bytes.{same_bytes}
+pub use Rattle.sig_lists.proofs.Each.{zip_back, zip_left, zip_same}
 pub use Rattle.sig_base.specs.Functions.{And as FunctionAnd, Difference, Function, Gives, Greater, GreaterEqual, Less as FunctionLess, LessEqual, Negative, Not as FunctionNot, NotEqual, Or as FunctionOr, Product, Quotient, Remainder, Sum, Xor as FunctionXor}
 pub use Rattle.sig_base.specs.Traces.{Bounded, Instant, IsLongest, IsPrefixOf, NoneSilent, Range, Seen, Trace, is_silent, reduce, seen_at}
 pub use Rattle.sig_base.specs.declared.ids.Kind.{Kind}

@@ -1,5 +1,5 @@
 -- Equations read one instant at a time hold where they hold over a trace.
-use Rattle.sig_tree.proofs.Common.{◌≡◌, ◌+◌, ◌++◌, ℕ, zero, suc, ℤ, List, [], ◌∷◌, length, None, Some, refl, sym, subst, arith, inl, inr, ◌⊎◌, AllByRecursion, AllZip, Instant, Trace, seen_at, FlatExpression, FlatEquation, Defines, Equal, Operand, Signal, IsOperand, HoldsAt, HoldThroughout, Steps, EquationSteps, BodySteps, Leads, HoldsBehind}
+use Rattle.sig_tree.proofs.Common.{◌≡◌, ◌+◌, ◌++◌, ℕ, zero, suc, ℤ, List, [], ◌∷◌, length, None, Some, refl, sym, subst, arith, inl, inr, ◌⊎◌, AllByRecursion, AllZip, Instant, Trace, seen_at, FlatExpression, FlatEquation, Defines, Equal, Operand, Signal, IsOperand, HoldsAt, HoldThroughout, Steps, EquationSteps, BodySteps, Leads, HoldsBehind, zip_back, zip_left, zip_same}
 use Rattle.sig_tree.proofs.OneMeaning.{OneValue}
 use Rattle.sig_tree.proofs.StepLaws.{first_step, step_first, next_after, next_before}
 
@@ -11,21 +11,11 @@ zip_made P R f (x ∷ xs) h =
     let rs = zip_made P R f xs h.1 in
     (r.0 ∷ rs.0, (r.1, rs.1))
 
-pub zip_left : {A B : Type 0} (P : A → Type 0) (R : A → B → Type 0) → ((a : A) (b : B) → R a b → P a) → (xs : List A) (ys : List B) → AllZip R xs ys → AllByRecursion P xs
-zip_left P R f [] ys h = tt
-zip_left P R f (x ∷ xs) [] h = absurd h
-zip_left P R f (x ∷ xs) (y ∷ ys) h = (f x y h.0, zip_left P R f xs ys h.1)
-
 pub zip_over : {A B : Type 0} (P : A → Type 0) (Q : B → Type 0) (R : A → B → Type 0) → ((a : A) (b : B) → R a b → P a → Q b) → (xs : List A) (ys : List B) → AllZip R xs ys → AllByRecursion P xs → AllByRecursion Q ys
 zip_over P Q R f [] [] h all = tt
 zip_over P Q R f [] (y ∷ ys) h all = absurd h
 zip_over P Q R f (x ∷ xs) [] h all = absurd h
 zip_over P Q R f (x ∷ xs) (y ∷ ys) h all = (f x y h.0 all.0, zip_over P Q R f xs ys h.1 all.1)
-
-pub zip_back : {A B : Type 0} (P : A → Type 0) (Q : B → Type 0) (R : A → B → Type 0) → ((a : A) (b : B) → R a b → Q b → P a) → (xs : List A) (ys : List B) → AllZip R xs ys → AllByRecursion Q ys → AllByRecursion P xs
-zip_back P Q R f [] ys h all = tt
-zip_back P Q R f (x ∷ xs) [] h all = absurd h
-zip_back P Q R f (x ∷ xs) (y ∷ ys) h all = (f x y h.0 all.0, zip_back P Q R f xs ys h.1 all.1)
 
 abbrev AbsentTo : Instant → FlatExpression → FlatExpression → Type 0
 AbsentTo now e rest = Steps e now (Signal None) rest
@@ -62,12 +52,6 @@ step_hold t now (Equal es prefix) next a = holds_each t now es a.0 a.1
 -- an expression steps to another, whatever it is there
 abbrev StepsTo : Instant → FlatExpression → FlatExpression → Type 0
 StepsTo now e rest = (o : Operand) × Steps e now o rest
-
-zip_same : {A B : Type 0} (R S : A → B → Type 0) → ((a : A) (b : B) → R a b → S a b) → (xs : List A) (ys : List B) → AllZip R xs ys → AllZip S xs ys
-zip_same R S f [] [] h = tt
-zip_same R S f [] (y ∷ ys) h = absurd h
-zip_same R S f (x ∷ xs) [] h = absurd h
-zip_same R S f (x ∷ xs) (y ∷ ys) h = (f x y h.0, zip_same R S f xs ys h.1)
 
 each_steps : (now : Instant) (es rests : List FlatExpression) → AllZip (AbsentTo now) es rests ⊎ AllZip (PresentTo now) es rests → AllZip (StepsTo now) es rests
 each_steps now es rests (inl h) = zip_same (AbsentTo now) (StepsTo now) (λ e r s. (Signal None, s)) es rests h
@@ -158,10 +142,3 @@ same_behind one (now ∷ front) rest equations nexts h =
 pub leads_more : (front : Trace) (now : Instant) (equations behind nexts : List FlatEquation) → Leads equations front behind → BodySteps now behind nexts → Leads equations (front ++ now ∷ []) nexts
 leads_more [] now equations behind nexts h s = (nexts, subst (λ qs. BodySteps now qs nexts) h s, refl)
 leads_more (first ∷ front) now equations behind nexts h s = (h.0, h.1, leads_more front now h.0 behind nexts h.2 s)
-
--- the beginning of a trace
-pub leads_front : (front rest : Trace) (equations nexts : List FlatEquation) → Leads equations (front ++ rest) nexts → (behind : List FlatEquation) × Leads equations front behind
-leads_front [] rest equations nexts h = (equations, refl)
-leads_front (now ∷ front) rest equations nexts h =
-    let r = leads_front front rest h.0 nexts h.2 in
-    (r.0, (h.0, h.1, r.1))

@@ -1,5 +1,5 @@
 -- What a part of the grammar begins with.
-use Rattle.sig_tree.proofs.Common.{◌≡◌, ℕ, zero, suc, ◌≤◌, ◌++◌, List, [], ◌∷◌, refl, sym, subst, inl, inr, arith, Name, Constant, Int, BoolConstant, Param, Item, Expression, Named, Number, Truth, Unary, Binary, Delay, Cell, Declared, Placement, RightSide, Computed, Called, Equations, Together, ProcessModel, Modelled, Terminal, Leaf, default_level, mixed_level, delay_level, primary_level, binary_level, left_level, level_of, Limits, IsConstant, Enclosed, IsBare, IsAtLevel, IsLeft, IsRight, IsDefinition, IsClockEquation, IsBody, IsGroup, IsLocalGroup, IsPlacement, IsModel, IsProgram, StartsWith, BeginsName, BeginsConstant, BeginsExpression, BeginsLeft, BeginsBody, BeginsGroup, BeginsPlacement, BeginsProcess}
+use Rattle.sig_tree.proofs.Common.{◌≡◌, ℕ, zero, suc, ◌≤◌, ◌++◌, List, [], ◌∷◌, refl, sym, subst, inl, inr, arith, Name, Constant, Int, BoolConstant, Param, Item, Expression, Named, Number, Truth, Unary, Binary, Delay, Cell, Declared, Placement, RightSide, Computed, Called, Equations, Together, ProcessModel, Modelled, Terminal, Leaf, default_level, mixed_level, delay_level, primary_level, binary_level, left_level, level_of, Limits, IsConstant, Enclosed, IsBare, IsAtLevel, IsLeft, IsRight, IsDefinition, IsClockEquation, IsBody, IsGroup, IsLocalGroup, IsPlacement, IsModel, IsProgram, StartsWith, BeginsConstant, BeginsExpression, BeginsLeft, BeginsBody, BeginsGroup, BeginsPlacement, BeginsProcess}
 use Rattle.sig_tree.specs.Syntax.{Defines, Equal}
 use Rattle.sig_tree.proofs.Operators.{two_levels}
 
@@ -22,9 +22,6 @@ pub looser_begins : (low high : ℕ) → low ≤ high → (t : Terminal) → Beg
 looser_begins low high within t (inl (inl (op, e, tight))) = inl (inl (op, e, omega arith))
 looser_begins low high within t (inl (inr e)) = inl (inr e)
 looser_begins low high within t (inr rest) = inr rest
-
-name_begins : (wanted : ℕ) (t : Terminal) → BeginsName t → BeginsExpression wanted t
-name_begins wanted t begins = inr (inr (inr begins))
 
 pub constant_begins : (c : Constant) (leaves : List Leaf) → IsConstant c leaves → StartsWith BeginsConstant leaves
 constant_begins (Int value at) leaves (inl (n, v, e)) = starts_at BeginsConstant leaves _ _ e (inl (inr (n, refl)))

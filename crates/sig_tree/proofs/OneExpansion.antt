@@ -1,5 +1,5 @@
 -- A list of equations has one expansion.
-use Rattle.sig_tree.proofs.Common.{◌≡◌, ◌++◌, ◌+◌, List, [], ◌∷◌, Option, None, Some, length, refl, sym, ap, subst, ◌∙◌, Name, Expression, Equations, ProcessModel, FlatEquation, FlatBody as FlatBodyRecord, inputs_of, outputs_of, equations_of_model, Copy, Progress, Expands, Ended, Defined, Equated, Expanded, IsFlatBody, called_copy, with_copy, inputs_defined, outputs_defined}
+use Rattle.sig_tree.proofs.Common.{◌≡◌, ◌++◌, ◌+◌, List, [], ◌∷◌, length, refl, sym, ap, subst, ◌∙◌, Name, Expression, Equations, ProcessModel, FlatEquation, FlatBody as FlatBodyRecord, inputs_of, outputs_of, equations_of_model, Copy, Progress, Expands, Ended, Defined, Equated, Expanded, IsFlatBody, called_copy, with_copy, inputs_defined, outputs_defined, same_Some}
 
 -- what an expansion gives: the progress behind it, and the equations
 abbrev pub Given : Type 0
@@ -7,12 +7,6 @@ Given = Progress × List FlatEquation
 
 abbrev behind_first : (FlatEquation) → Given → Given
 behind_first equation given = (given.0, equation ∷ given.1)
-
-some_is : {A : Type 0} {a b : A} → Some a ≡ Some b → a ≡ b
-some_is {A} {a} {b} is = ap (λ o. from o) is where
-  from : Option A → A
-  from None = a
-  from (Some x) = x
 
 -- what a call gives, by the process that is called and by what its body and the equations behind it give
 abbrev by_call : Copy → Progress → List Name → List Expression → ProcessModel → Given → Given → Given
@@ -36,7 +30,7 @@ one (Defined name e rest) after' flat' (Defined _ _ other) = ap (behind_first _)
 one (Equated operands rest) after' flat' (Equated _ other) = ap (behind_first _) (one rest _ _ other)
 one {all = all} {copy = copy} {before = before} (Expanded {inside = i} {after = a} {rest = equations} {body = b} {flat = f} names name constants arguments called is inside rest) after' flat'
     (Expanded {inside = i'} {body = b'} {flat = f'} _ _ _ _ called' is' inside' rest') =
-    let same : called ≡ called' = some_is (sym is ∙ is') in
+    let same : called ≡ called' = same_Some _ _ (sym is ∙ is') in
     let inner : ◌≡◌ {A = Given} (i, b) (i', b') = one inside i' b'
     (subst (λ q. Expands all (called_copy copy before name constants q) (equations_of_model q) (with_copy copy before names name q) i' b') (sym same) inside') in
     let outer : ◌≡◌ {A = Given} (a, f) (after', f') = one rest after' f'

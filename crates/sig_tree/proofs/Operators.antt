@@ -1,5 +1,5 @@
 -- The operators that stand behind an operand, and the terminals that begin an expression, as tables.
-use Rattle.sig_tree.proofs.Common.{◌≡◌, ℕ, suc, ◌≤◌, List, [], ◌∷◌, Bool, true, false, refl, sym, ap, ◌∙◌, codes, Option, None, Some, inl, inr, ◌⊎◌, cond, arith, bytes_eq, bytes_eq-Decides, UnOp, Not, Neg, When as UnaryWhen, Clock, BinOp, Default, Plus, Meet, Less, Or, Xor, And, Eq, Ne, Lt, Le, Gt, Ge, Add, Sub, Mul, Div, Mod, Terminal, word, mark, binary_terminal, mixed_level, delay_level, unary_level, operand_level, binary_level, left_level, right_level, IsInfix, ContinuesDelay, ContinuesExpression}
+use Rattle.sig_tree.proofs.Common.{◌≡◌, ℕ, suc, ◌≤◌, List, [], ◌∷◌, Bool, true, false, refl, sym, ap, ◌∙◌, codes, Option, None, Some, inl, inr, ◌⊎◌, cond, arith, bytes_eq, UnOp, Not, Neg, When as UnaryWhen, Clock, BinOp, Default, Plus, Meet, Less, Or, Xor, And, Eq, Ne, Lt, Le, Gt, Ge, Add, Sub, Mul, Div, Mod, Terminal, word, mark, binary_terminal, mixed_level, delay_level, unary_level, operand_level, binary_level, left_level, right_level, IsInfix, ContinuesDelay, ContinuesExpression, same_bytes, none-some, same_Some}
 use Rattle.sig_tree.specs.declared.expr.BinOp.TheVariants.{When}
 
 -- whether two terminals are the same reserved word or mark
@@ -8,23 +8,14 @@ is_terminal (word a) (word b) = bytes_eq a b
 is_terminal (mark a) (mark b) = bytes_eq a b
 is_terminal _ _ = false
 
-bytes_same : (a b : List ℕ) → bytes_eq a b ≡ true → a ≡ b
-bytes_same a b e = (bytes_eq-Decides a b).0 e
-
 pub terminal_same : (a b : Terminal) → is_terminal a b ≡ true → a ≡ b
-terminal_same (word a) (word b) e = ap word (bytes_same a b e)
-terminal_same (mark a) (mark b) e = ap mark (bytes_same a b e)
+terminal_same (word a) (word b) e = ap word (same_bytes a b e)
+terminal_same (mark a) (mark b) e = ap mark (same_bytes a b e)
 terminal_same _ _ e = cc
 
 -- terminals that the test tells apart
 pub different : (t u : Terminal) → is_terminal t u ≡ false → is_terminal u u ≡ true → t ≡ u → ⊥
 different t u apart self e = let both : false ≡ true = sym apart ∙ ap (λ s. is_terminal s u) e ∙ self in cc
-
-some_same : {A : Type 0} (x y : A) → Some x ≡ Some y → x ≡ y
-some_same x y e = cc
-
-none_no_some : {A : Type 0} (x : A) → None ≡ Some x → ⊥
-none_no_some x e = cc
 
 -- an operator behind its left operand
 pub data Infix : Type 0 where
@@ -52,11 +43,11 @@ found spelled (x ∷ xs) t = cond (is_terminal (spelled x) t) (Some x) (found sp
 
 found_at : {A : Type 0} (spelled : A → Terminal) (y : A) (t : Terminal) (x : A) (rest : Option A) → (rest ≡ Some x → t ≡ spelled x)
     → (b : Bool) → is_terminal (spelled y) t ≡ b → cond b (Some y) rest ≡ Some x → t ≡ spelled x
-found_at spelled y t x rest further true same here = sym (terminal_same (spelled y) t same) ∙ ap spelled (some_same y x here)
+found_at spelled y t x rest further true same here = sym (terminal_same (spelled y) t same) ∙ ap spelled (same_Some y x here)
 found_at spelled y t x rest further false same here = further here
 
 found_is : {A : Type 0} (spelled : A → Terminal) (xs : List A) (t : Terminal) (x : A) → found spelled xs t ≡ Some x → t ≡ spelled x
-found_is spelled [] t x e = absurd (none_no_some x e)
+found_is spelled [] t x e = absurd (none-some x e)
 found_is spelled (y ∷ ys) t x e = found_at spelled y t x (found spelled ys t) (found_is spelled ys t x) (is_terminal (spelled y) t) refl e
 
 -- the operator that a terminal is, behind an operand

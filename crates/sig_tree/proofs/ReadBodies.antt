@@ -1,5 +1,5 @@
 -- One reading of definitions, clock equations and bodies.
-use Rattle.sig_tree.proofs.Common.{◌≡◌, ℕ, suc, ◌++◌, List, [], ◌∷◌, true, false, refl, sym, ap, ◌∙◌, subst, codes, None, Some, inl, inr, arith, Span, Name, Not, Neg, When as UnaryWhen, Clock, Expression, Named, RightSide, Equations, Together, Bodies, no_body, more_bodies, Terminal, Leaf, leaf, mark, name_leaf, default_level, Limits, Separated, IsExpression, IsLeft, IsDefinition, IsClockEquation, IsBody, AreBodies, AreFurtherBodies, StartsWith, BeginsExpression, BeginsLeft, BeginsBody, StopsBefore, OneReading, ContinuesNothing, ContinuesExpression, ContinuesDefinition, ContinuesClockEquation, ContinuesBody, ContinuesFurtherBodies, ContinuesBodies}
+use Rattle.sig_tree.proofs.Common.{◌≡◌, ℕ, suc, ◌++◌, List, [], ◌∷◌, true, false, refl, sym, ap, ◌∙◌, subst, codes, None, Some, inl, inr, arith, Span, Name, Not, Neg, When as UnaryWhen, Clock, Expression, Named, RightSide, Equations, Together, Bodies, no_body, more_bodies, Terminal, Leaf, leaf, mark, name_leaf, default_level, Limits, Separated, IsExpression, IsLeft, IsDefinition, IsClockEquation, IsBody, AreBodies, AreFurtherBodies, StartsWith, BeginsExpression, BeginsLeft, BeginsBody, StopsBefore, OneReading, ContinuesNothing, ContinuesExpression, ContinuesDefinition, ContinuesClockEquation, ContinuesBody, ContinuesFurtherBodies, ContinuesBodies, none-some}
 use Rattle.sig_tree.specs.Syntax.{Defines, Equal}
 use Rattle.sig_tree.proofs.SettledFunctions.{◌>>=◌, Settles, settles_now, settles_next, settles_bind, settles_once}
 use Rattle.sig_tree.proofs.ListsThatStop.{stops_smaller}
@@ -9,9 +9,6 @@ use Rattle.sig_tree.proofs.ReadExpressions.{expression_read, expression_once}
 use Rattle.sig_tree.proofs.FirstLeaves.{definition_begins, clock_equation_begins, body_begins}
 use Rattle.sig_tree.proofs.CombinedReadings.{OneAt, cons_same, append_to, starts_stops, part_at, between_at, separated_once}
 use Rattle.sig_tree.proofs.ReadEquations.{mark_apart, stops_nothing, starts_conflict, left_once, right_once, named_alone}
-
-none_no_some : {A : Type 0} (x : A) → None ≡ Some x → ⊥
-none_no_some x e = cc
 
 -- a body in brackets is neither of the others
 opening_begins_none : (level : ℕ) → BeginsExpression level (mark (codes "(|")) → ⊥
@@ -60,7 +57,7 @@ module _ (limits : Limits) (depth : ℕ) where
     several : (opened comma : Span) (n : Name) (more : List Leaf) → front ++ leaf (mark (codes ":=")) at ∷ rest ≡ leaf (mark (codes "(")) opened ∷ name_leaf n ∷ leaf (mark (codes ",")) comma ∷ more → ⊥
     several opened comma n more e =
         let some = expression_read limits x default_level depth other_front (leaf (mark (codes "^=")) other_at ∷ other_rest) other_is (mark_apart (codes "^=") refl default_level) in
-        none_no_some (x, leaf (mark (codes "^=")) other_at ∷ other_rest)
+        none-some (x, leaf (mark (codes "^=")) other_at ∷ other_rest)
         (settles_once (λ k. run k (From default_level) (other_front ++ leaf (mark (codes "^=")) other_at ∷ other_rest)) None (Some (x, leaf (mark (codes "^=")) other_at ∷ other_rest))
         (subst (λ (l : List Leaf). Settles (λ k. run k (From default_level) l) None) (sym e ∙ same) (names_read opened comma n more)) some)
 

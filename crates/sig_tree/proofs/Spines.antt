@@ -45,10 +45,6 @@ each_last : {A : Type 0} (Is : A → List Leaf → Type 0) (xs : List A) (x : A)
 each_last Is [] x front back e is = (back, [], ap (λ l. l ++ back) e ∙ sym (append-nil back), is, refl)
 each_last Is (y ∷ xs) x front back (first, rest, e, is_y, are) is = (first, rest ++ back, ap (λ l. l ++ back) e ∙ append_assoc first rest back, is_y, each_last Is xs x rest back are is)
 
-length_last : {A : Type 0} (xs : List A) (x : A) → length (xs ++ x ∷ []) ≡ suc (length xs)
-length_last [] x = refl
-length_last (y ∷ xs) x = ap suc (length_last xs x)
-
 module _ (limits : Limits) where
   -- an operand alone
   alone : (level depth : ℕ) (e : Expression) (leaves : List Leaf) → IsOperand limits level depth e leaves → IsSpine limits level depth e leaves

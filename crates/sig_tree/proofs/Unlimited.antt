@@ -169,12 +169,6 @@ module _ (limits : Limits) where
   pub body_unlimited : (body : Equations) (depth other : ℕ) (leaves : List Leaf) → IsBody limits body depth leaves → IsBody no_limits body other leaves
   body_unlimited body depth other leaves is = body_free limits no_limits (λ d o. Unit {0}) (λ d o c. tt) (unlimited_may limits) (unlimited_few limits) body depth other tt leaves is
 
-  pub bodies_unlimited : (bodies : Bodies) (depth other : ℕ) (leaves : List Leaf) → AreBodies limits bodies depth leaves → AreBodies no_limits bodies other leaves
-  bodies_unlimited bodies depth other leaves is = bodies_free limits no_limits (λ d o. Unit {0}) (λ d o c. tt) (unlimited_may limits) (unlimited_few limits) bodies depth other tt leaves is
-
-  pub further_bodies_unlimited : (bodies : Bodies) (depth other : ℕ) (leaves : List Leaf) → AreFurtherBodies limits bodies depth leaves → AreFurtherBodies no_limits bodies other leaves
-  further_bodies_unlimited bodies depth other leaves is = further_bodies_free limits no_limits (λ d o. Unit {0}) (λ d o c. tt) (unlimited_may limits) (unlimited_few limits) bodies depth other tt leaves is
-
   pub model_unlimited : (model : ProcessModel) (depth other : ℕ) (leaves : List Leaf) → IsModel limits model depth leaves → IsModel no_limits model other leaves
   model_unlimited model depth other leaves is = model_free limits no_limits (λ d o. Unit {0}) (λ d o c. tt) (unlimited_may limits) (unlimited_few limits) model depth other tt leaves is
 

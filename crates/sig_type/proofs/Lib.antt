@@ -10,9 +10,9 @@ pub mod PairedParts
 pub use Common.*
 pub use Earlier.*
 pub use NoCallLeadsBack.*
+pub use PairedParts.*
 pub use Sequences.*
 pub use ShownTexts.*
 pub use Small.*
 pub use Uses.*
 pub use Whole.*
-pub use PairedParts.*

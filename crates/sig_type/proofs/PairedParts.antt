@@ -1,5 +1,5 @@
 -- Parts of a call beside what the called process declares, as far as both lists go.
-use Rattle.sig_type.proofs.Common.{◌≡◌, ◌++◌, ◌⊎◌, ℕ, zero, suc, List, [], ◌∷◌, refl, ap, sym, ◌∙◌, subst, inl, inr, map, take, length, get_or, ◌+◌, ◌<◌, ◌≤◌, ◌↔◌, Option, None, Some, option_map, slice_get, arith, zip, Any, Bool, true, false, IsTrue, take_more, take_all, length-take-le, length-map, map-append, Kind, Name, Constant, Expr, Expression, expression_of, Declaration, kind_of, clash_of_left, clash_of_constant, clashes_of_results, clashes_of_constants, DoesNotTake, First, Finds, result_at}
+use Rattle.sig_type.proofs.Common.{◌≡◌, ◌++◌, ◌⊎◌, ℕ, zero, suc, List, [], ◌∷◌, refl, ap, sym, ◌∙◌, subst, inl, inr, map, take, length, get_or, ◌+◌, ◌<◌, ◌≤◌, ◌↔◌, Option, None, Some, option_map, slice_get, arith, zip, Any, Bool, true, false, IsTrue, take_all, length-take-le, length-map, map-append, Kind, Name, Constant, Expr, Expression, expression_of, Declaration, kind_of, clash_of_left, clash_of_constant, clashes_of_results, clashes_of_constants, DoesNotTake, First, Finds, result_at, front_more}
 use Rattle.sig_type.proofs.Sequences.{finds_then, finds_as}
 
 -- the kind of a declaration, where there is one
@@ -13,9 +13,6 @@ results_append scope [] (o ∷ os) n = refl
 results_append scope (m ∷ ns) [] n = refl
 results_append scope (m ∷ ns) (o ∷ os) n = ap (λ cs. clash_of_left scope (Some o.kind) m ∷ cs) (results_append scope ns os n)
 
-front : {A : Type 0} (xs : List A) (i : ℕ) (x : A) → x ≡ get_or xs i x → i < length xs → take (i + 1) xs ≡ take i xs ++ x ∷ []
-front xs i x is h = take_more xs i x h ∙ ap (λ y. take i xs ++ y ∷ []) (sym is)
-
 front_length : {A : Type 0} (xs : List A) (i : ℕ) → i < length xs → length (take i xs) ≡ i
 front_length xs i h = length-take-le i xs (omega arith)
 
@@ -23,7 +20,7 @@ front_length xs i h = length-take-le i xs (omega arith)
 pub results_more : (scope : List Declaration) {a b c : First} (names : List Name) (outputs : List Declaration) (i : ℕ) (n : Name) → n ≡ get_or names i n → i < length names
     → Finds a b (clashes_of_results scope (take i names) outputs) → Finds b c (result_at scope n (kind_at outputs i)) → Finds a c (clashes_of_results scope (take (i + 1) names) outputs)
 results_more scope names outputs i n is h before here =
-    finds_as (sym (ap (λ ns. clashes_of_results scope ns outputs) (front names i n is h) ∙ results_append scope (take i names) outputs n
+    finds_as (sym (ap (λ ns. clashes_of_results scope ns outputs) (front_more names i n is h) ∙ results_append scope (take i names) outputs n
     ∙ ap (λ k. clashes_of_results scope (take i names) outputs ++ result_at scope n (kind_at outputs k)) (front_length names i h)))
     (finds_then before here)
 
@@ -38,7 +35,7 @@ constants_append scope (d ∷ ds) (p ∷ ps) c = ap (λ cs. clash_of_constant sc
 pub constants_more : (scope : List Declaration) {a b c : First} (constants : List Constant) (params : List Declaration) (i : ℕ) (n : Constant) → n ≡ get_or constants i n → i < length constants
     → Finds a b (clashes_of_constants scope (take i constants) params) → Finds b c (clash_of_constant scope (kind_at params i) n ∷ []) → Finds a c (clashes_of_constants scope (take (i + 1) constants) params)
 constants_more scope constants params i n is h before here =
-    finds_as (sym (ap (λ ns. clashes_of_constants scope ns params) (front constants i n is h) ∙ constants_append scope (take i constants) params n
+    finds_as (sym (ap (λ ns. clashes_of_constants scope ns params) (front_more constants i n is h) ∙ constants_append scope (take i constants) params n
     ∙ ap (λ k. clashes_of_constants scope (take i constants) params ++ clash_of_constant scope (kind_at params k) n ∷ []) (front_length constants i h)))
     (finds_then before here)
 
@@ -96,7 +93,7 @@ pub refused_more : (scope : List Declaration) (all : List Expr) (inputs : List D
     → (IsTrue old ↔ AnyRefused scope (map expression_of (take i all)) inputs) → (IsTrue now ↔ AnyRefused scope (map expression_of (take (i + 1) all)) inputs)
 refused_more scope all inputs i x old now refused is h either here before =
     let es : List Expression = map expression_of (take i all) in
-    let grown : map expression_of (take (i + 1) all) ≡ es ++ expression_of x ∷ [] = ap (map expression_of) (front all i x is h) ∙ map-append expression_of (take i all) (x ∷ []) in
+    let grown : map expression_of (take (i + 1) all) ≡ es ++ expression_of x ∷ [] = ap (map expression_of) (front_more all i x is h) ∙ map-append expression_of (take i all) (x ∷ []) in
     let size : length es ≡ i = length-map (take i all) expression_of ∙ front_length all i h in
     let Q : ℕ → Type 0 = λ n. IsTrue refused ↔ DoesNotTake (kind_at inputs n) (kind_of scope (expression_of x)) in
     let at : IsTrue refused ↔ DoesNotTake (kind_at inputs (length es)) (kind_of scope (expression_of x)) = subst Q (sym size) here in

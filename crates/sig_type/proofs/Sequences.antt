@@ -1,5 +1,5 @@
 -- What is found of candidates that are asked for in a row.
-use Rattle.sig_type.proofs.Common.{◌≡◌, ◌++◌, ℕ, List, [], ◌∷◌, refl, ap, sym, ◌∙◌, subst, inl, inr, Option, None, Some, map, take, drop, length, get_or, ◌+◌, ◌<◌, ◌≤◌, ◌↔◌, append-nil, take_more, take_all, take-append-drop, get_or_default, flat_map, each_append, each_map, each_flat, Candidate, candidate, Offence, each, NoneHolds, IsFirst, Finding, First, offence_in, IsFoundOf, IsKept, Finds, sooner}
+use Rattle.sig_type.proofs.Common.{◌≡◌, ◌++◌, ℕ, List, [], ◌∷◌, refl, ap, sym, ◌∙◌, subst, inl, inr, Option, None, Some, map, take, drop, length, get_or, ◌+◌, ◌<◌, ◌≤◌, ◌↔◌, append-nil, take_more, take_all, take-append-drop, flat_map, each_append, each_map, each_flat, Candidate, candidate, Offence, each, NoneHolds, IsFirst, Finding, First, offence_in, IsFoundOf, IsKept, Finds, sooner}
 
 none_append : (ps qs : List Candidate) → NoneHolds ps → NoneHolds qs → NoneHolds (ps ++ qs)
 none_append [] qs n m = m
@@ -23,14 +23,6 @@ kept_then None (Some f) c ps qs h k = let P : Option Finding → Type 0 = λ v. 
 -- candidates, and then others
 pub finds_then : {a b c : First} {ps qs : List Candidate} → Finds a b ps → Finds b c qs → Finds a c (ps ++ qs)
 finds_then {a} {b} {c} {ps} {qs} h k = record { kept = kept_then a.found b.found c.found ps qs h.kept k.kept }
-
-kept_nothing : (a : Option Finding) → IsKept a a []
-kept_nothing None = tt
-kept_nothing (Some f) = refl
-
--- no candidates
-pub finds_nothing : (a : First) → Finds a a []
-finds_nothing a = record { kept = kept_nothing a.found }
 
 kept_later : (b l : Option Finding) (qs : List Candidate) → IsKept None l qs → IsKept b (sooner b l) qs
 kept_later None l qs h = h
@@ -72,11 +64,6 @@ pub finds_more : {A : Type 0} (of : A → List Candidate) {a b c : First} (xs : 
     → Finds a b (each of (take i xs)) → Finds b c (of x) → Finds a c (each of (take (i + 1) xs))
 finds_more of xs i x is h e f = finds_as (sym (each_more of xs i x is h)) (finds_then e f)
 
--- the same where the thing is read with a default
-pub finds_next : {A : Type 0} (of : A → List Candidate) {a b c : First} (xs : List A) (i : ℕ) (d : A) → i < length xs
-    → Finds a b (each of (take i xs)) → Finds b c (of (get_or xs i d)) → Finds a c (each of (take (i + 1) xs))
-finds_next of xs i d h e f = finds_more of xs i (get_or xs i d) (get_or_default xs i d (get_or xs i d) h) h e f
-
 -- its end
 pub finds_all : {A : Type 0} (of : A → List Candidate) {a b : First} (xs : List A) (i : ℕ) → length xs ≤ i → Finds a b (each of (take i xs)) → Finds a b (each of xs)
 finds_all of xs i h e = finds_as (ap (each of) (take_all i xs h)) e
@@ -94,14 +81,6 @@ finds_flat of g f xs i h e = finds_as (sym (each_flat of g (map f xs))) (finds_m
 -- candidates of some things, and then of others
 pub finds_both : {A : Type 0} (of : A → List Candidate) {a b c : First} (xs ys : List A) → Finds a b (each of xs) → Finds b c (each of ys) → Finds a c (each of (xs ++ ys))
 finds_both of xs ys h k = finds_as (sym (each_append of xs ys)) (finds_then h k)
-
-kept_false : (a : Option Finding) (o : Offence) (P : Type 0) → (P → ⊥) → IsKept a a (candidate o P ∷ [])
-kept_false None o P f = (f, tt)
-kept_false (Some g) o P f = refl
-
--- a candidate that does not hold
-pub finds_false : (a : First) (o : Offence) (P : Type 0) → (P → ⊥) → Finds a a (candidate o P ∷ [])
-finds_false a o P f = record { kept = kept_false a.found o P f }
 
 -- the end of a loop over things of which each has several that have candidates
 pub finds_spread : {A C : Type 0} (of : C → List Candidate) (g : A → List C) {a b : First} (xs : List A) (i : ℕ) → length xs ≤ i

@@ -1,5 +1,5 @@
 -- All rules on a process, joined.
-use Rattle.sig_type.proofs.Common.{◌≡◌, ◌++◌, List, [], ◌∷◌, refl, ap, sym, ◌∙◌, subst, append_assoc, Contains, map, ℕ, ◌+◌, ◌<◌, ◌≤◌, take, drop, length, get_or, Option, None, Some, ◌≢◌, ◌↔◌, Bool, IsTrue, slice_get, zero, suc, arith, is_some, inl, inr, true, false, slice_get_cases, get_or_from_slice_get, place_of, process_texts, place_found, get_or-map, length-map, append-nil, take_more, take_all, take-append-drop, flat_map, Name, ProcessModel, Equations, Placement, Candidate, candidate, DeclaredTwice, DefinedTwice, Undefined, BadCall, each, Declaration, declarations, outputs_of, locals_of, equations_of_model, pragmas_of_model, name_of, params_of, texts, behind, left_sides, called_in, unknown_names, declared_twice, inputs_defined, defined_twice, undefined, clashes, bare_constants, bad_calls, recursive_calls, bad_pragmas, missing_inits_in, bad_calls_of, bare_in_equation, bad_pragmas_of, missing_inits_of_equation, rules_on, rules_of, Finding, First, Finds, IsKept, IsFoundOf, repeated, given_in, undefined_in, recursive_in, clashes_in, definitions_in, calls_in, unknown_in, each_append}
+use Rattle.sig_type.proofs.Common.{◌≡◌, ◌++◌, List, [], ◌∷◌, refl, ap, sym, ◌∙◌, subst, append_assoc, Contains, map, ℕ, ◌+◌, ◌<◌, ◌≤◌, take, drop, length, get_or, Option, None, Some, ◌≢◌, ◌↔◌, Bool, IsTrue, slice_get, zero, suc, arith, is_some, true, false, get_or_from_slice_get, place_of, process_texts, place_found, get_or-map, length-map, append-nil, take_more, take_all, take-append-drop, flat_map, Name, ProcessModel, Equations, Placement, Candidate, candidate, DeclaredTwice, DefinedTwice, Undefined, BadCall, each, Declaration, declarations, outputs_of, locals_of, equations_of_model, pragmas_of_model, name_of, params_of, texts, behind, left_sides, called_in, unknown_names, declared_twice, inputs_defined, defined_twice, undefined, clashes, bare_constants, bad_calls, recursive_calls, bad_pragmas, missing_inits_in, bad_calls_of, bare_in_equation, bad_pragmas_of, missing_inits_of_equation, rules_on, rules_of, Finding, First, Finds, IsKept, IsFoundOf, repeated, given_in, undefined_in, recursive_in, clashes_in, definitions_in, calls_in, unknown_in, each_append, slice_get_within}
 use Rattle.sig_type.proofs.Sequences.{finds_as, finds_same, finds_both, finds_then, finds_stop}
 use Rattle.sig_type.proofs.Earlier.{behind_append}
 
@@ -75,9 +75,6 @@ take_none : {A : Type 0} (xs : List A) (i : ℕ) → i < length xs → take i xs
 take_none [] i h e = absurd (omega arith)
 take_none (x ∷ xs) zero h e = refl
 take_none (x ∷ xs) (suc i) h e = absurd cc
-
-slice_get_within : {A : Type 0} (xs : List A) (i : ℕ) (x : A) → slice_get xs i ≡ Some x → i < length xs
-slice_get_within xs i x e = elim (slice_get_cases xs i).1 [ inl w ↦ w.1 | inr n ↦ absurd (let s : None ≡ Some x = sym n.1 ∙ e in cc) ]
 
 -- a place is the first where nothing is before it
 pub first_same : {A : Type 0} (xs : List A) (i : ℕ) (x : A) → slice_get xs i ≡ Some x → (i ≡ 0) ↔ (take i xs ≡ [])

@@ -1,5 +1,5 @@
 -- The lines of the last outputs.
-use Rattle.sig_values.proofs.Common.{◌≡◌, ◌<◌, ◌≤◌, ◌+◌, ◌-◌, ◌∙◌, ℕ, zero, suc, List, [], ◌∷◌, ◌++◌, length, map, drop, get_or, sym, ap, subst, arith, length-take-le, length-drop, drop_all, drop_more, sum_by-cons, range_with_len, Seen, Signal, seen_line, seen_lines, outputs_of, Kernel, Registers, lines_of, longest_line, longest_lines}
+use Rattle.sig_values.proofs.Common.{◌≡◌, ◌<◌, ◌≤◌, ◌+◌, ◌-◌, ◌∙◌, ℕ, zero, suc, List, [], ◌∷◌, ◌++◌, length, map, drop, get_or, sym, ap, subst, arith, length-take-le, length-drop, drop_more, sum_by-cons, range_with_len, Seen, Signal, seen_line, seen_lines, outputs_of, Kernel, Registers, longest_line, longest_lines}
 use Rattle.sig_values.proofs.OutputLines.{InterfaceFits}
 
 -- the lines of the outputs from one on
@@ -7,18 +7,6 @@ abbrev pub lines_from : Kernel → Registers → ℕ → List ℕ
 lines_from kernel registers i = seen_lines (drop i (outputs_of kernel)) (map registers (range_with_len (kernel.inputs + i) (kernel.outputs - i)))
 
 module _ (kernel : Kernel) (registers : Registers) where
-  -- from the first one on they are all
-  pub lines_from_first : lines_from kernel registers 0 ≡ lines_of kernel registers
-  lines_from_first =
-      let first : kernel.inputs + 0 ≡ kernel.inputs = omega arith in
-      let all : kernel.outputs - 0 ≡ kernel.outputs = omega arith in
-      ap (λ (a : ℕ). seen_lines (outputs_of kernel) (map registers (range_with_len a (kernel.outputs - 0)))) first
-      ∙ ap (λ (n : ℕ). seen_lines (outputs_of kernel) (map registers (range_with_len kernel.inputs n))) all
-
-  -- behind the last one there are none
-  pub lines_from_end : (i : ℕ) → length (outputs_of kernel) ≤ i → lines_from kernel registers i ≡ []
-  lines_from_end i past = ap (λ signals. seen_lines signals (map registers (range_with_len (kernel.inputs + i) (kernel.outputs - i)))) (drop_all i (outputs_of kernel) past)
-
   -- from one on they are its line, and then those behind it
   pub lines_from_more : (i : ℕ) (d : Signal) → i < kernel.outputs → i < length (outputs_of kernel)
       → lines_from kernel registers i ≡ seen_line (get_or (outputs_of kernel) i d) (registers (kernel.inputs + i)) ++ lines_from kernel registers (i + 1)
@@ -48,16 +36,6 @@ count_of_outputs kernel fits =
     length-take-le kernel.outputs (drop kernel.inputs kernel.signals) (omega (arith, behind, fits))
 
 module _ (kernel : Kernel) (registers : Registers) (fits : InterfaceFits kernel) where
-  -- before any line
-  pub none_yet : (text : List ℕ) → text ≡ [] → text ≡ lines_from kernel registers (kernel.outputs - 0)
-  none_yet text none = none ∙ sym (lines_from_end kernel registers (kernel.outputs - 0) (let count = count_of_outputs kernel fits in omega (arith, count)))
-
-  -- behind the line of the first output
-  pub all_lines : (behind : ℕ) → kernel.outputs ≤ behind → (text : List ℕ) → text ≡ lines_from kernel registers (kernel.outputs - behind) → text ≡ lines_of kernel registers
-  all_lines behind past text so_far =
-      let first : kernel.outputs - behind ≡ 0 = omega (arith, past) in
-      so_far ∙ ap (λ (i : ℕ). lines_from kernel registers i) first ∙ lines_from_first kernel registers
-
   -- with the line of one more output
   module _ (behind output : ℕ) (below : behind < kernel.outputs) (at : output ≡ kernel.outputs - 1 - behind) (signal : Signal) (is : signal ≡ get_or (outputs_of kernel) output signal) (text : List ℕ) where
     within : output < length (outputs_of kernel)

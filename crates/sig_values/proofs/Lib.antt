@@ -5,8 +5,5 @@ pub mod Opening
 pub mod OutputLines
 pub mod Remainders
 pub use Common.*
-pub use Functions.*
-pub use LastOutputs.*
 pub use Opening.*
-pub use OutputLines.*
 pub use Remainders.*

@@ -1,6 +1,5 @@
 -- The lines of the first outputs.
-use Rattle.std.proofs.lemmas.Option.{same_Some}
-use Rattle.sig_values.proofs.Common.{◌≡◌, ◌<◌, ◌≤◌, ◌+◌, ◌-◌, ◌∙◌, ℕ, zero, suc, List, [], ◌∷◌, ◌++◌, length, map, take, drop, append_assoc, refl, sym, ap, subst, arith, Option, None, Some, slice_get, range_with_len, append-nil, Signal, seen_line, seen_lines, Kernel, Registers, line_at, line_where, lines_of, IsAccepted, PlanView, Joins, TookPrefix, TookPrefix-longer, TookPrefix-then}
+use Rattle.sig_values.proofs.Common.{same_Some, ◌≡◌, ◌<◌, ◌≤◌, ◌+◌, ◌-◌, ◌∙◌, ℕ, zero, suc, List, [], ◌∷◌, ◌++◌, length, map, take, drop, append_assoc, refl, sym, ap, subst, arith, Option, None, Some, slice_get, range_with_len, append-nil, Signal, seen_line, seen_lines, Kernel, Registers, line_at, line_where, lines_of, IsAccepted, PlanView, Joins, TookPrefix, TookPrefix-longer, TookPrefix-then}
 
 -- the lines of so many outputs
 abbrev pub lines_upto : Kernel → Registers → ℕ → List ℕ

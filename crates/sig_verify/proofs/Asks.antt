@@ -1,23 +1,12 @@
 -- All that a walk asks for.
-use Rattle.std.proofs.Common.{◌≡◌, ℕ, Bool, true, false, List, inl, inr, refl, sym, ap, subst, ◌∙◌}
-use Rattle.std.specs.Prelude.{◌&&◌, if◌then◌else◌}
-use Rattle.sig_verify.specs.inner.Asking.{all_asked}
-use Rattle.sig_verify.specs.Prelude.{Asks, Choice, Constant, Diagram, truth_of}
-
-pub both : (a b : Bool) → (a && b) ≡ true → (a ≡ true) × (b ≡ true)
-both true b h = (refl, h)
-both false b h = absurd cc
-
-pub both_true : (a b : Bool) → a ≡ true → b ≡ true → (a && b) ≡ true
-both_true true b h k = k
-both_true false b h k = h
+use Rattle.sig_verify.proofs.Common.{◌≡◌, ℕ, Bool, true, false, List, inl, inr, refl, sym, ap, subst, ◌∙◌, if◌then◌else◌, all_asked, Asks, Choice, Constant, Diagram, truth_of, and_from, and_parts}
 
 -- where all that the walk asks for was written, all of it is written
 pub asked_all : (w : ℕ → List Bool → Bool) (d : Diagram) (truths : List Bool) → ((v : ℕ) → Asks d truths v → w v truths ≡ true) → all_asked w d truths ≡ true
 unfolding all_asked
 asked_all w (Constant b) truths each = refl
 asked_all w (Choice u low high) truths each =
-    both_true (w u truths) (if truth_of truths u then all_asked w high truths else all_asked w low truths) (each u (inl refl))
+    and_from (w u truths) (if truth_of truths u then all_asked w high truths else all_asked w low truths) (each u (inl refl))
     (by (truth_of truths u) refl
     (λ e. asked_all w high truths (λ v asks. each v (inr (inl (e, asks)))))
     (λ e. asked_all w low truths (λ v asks. each v (inr (inr (e, asks))))))
@@ -31,12 +20,12 @@ pub asked_each : (w : ℕ → List Bool → Bool) (d : Diagram) (truths : List B
 unfolding all_asked
 asked_each w (Constant b) truths all v asks = absurd asks
 asked_each w (Choice u low high) truths all v (inl same) =
-    subst (λ z. w z truths ≡ true) (sym same) (both (w u truths) (if truth_of truths u then all_asked w high truths else all_asked w low truths) all).0
+    subst (λ z. w z truths ≡ true) (sym same) (and_parts (w u truths) (if truth_of truths u then all_asked w high truths else all_asked w low truths) all).0
 asked_each w (Choice u low high) truths all v (inr (inl (truth, asks))) =
-    let rest = (both (w u truths) (if truth_of truths u then all_asked w high truths else all_asked w low truths) all).1 in
+    let rest = (and_parts (w u truths) (if truth_of truths u then all_asked w high truths else all_asked w low truths) all).1 in
     asked_each w high truths (ap (λ b. if b then all_asked w high truths else all_asked w low truths) (sym truth) ∙ rest) v asks
 asked_each w (Choice u low high) truths all v (inr (inr (truth, asks))) =
-    let rest = (both (w u truths) (if truth_of truths u then all_asked w high truths else all_asked w low truths) all).1 in
+    let rest = (and_parts (w u truths) (if truth_of truths u then all_asked w high truths else all_asked w low truths) all).1 in
     asked_each w low truths (ap (λ b. if b then all_asked w high truths else all_asked w low truths) (sym truth) ∙ rest) v asks
 
 -- what asks for written conditions alone still does when more are written

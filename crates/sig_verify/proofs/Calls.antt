@@ -1,17 +1,5 @@
 -- What a counted call of the store does to diagrams.
-use Rattle.std.proofs.Common.{◌≡◌, ℕ, ◌+◌, ◌*◌, ◌<◌, ◌≤◌, ◌^◌, Bool, List, length, Option, None, Some, inl, inr, Result, Ok, Err, sym, ap, subst, ◌∙◌, arith}
-use Rattle.std.proofs.lemmas.List.FromFn.{get_or-range_with_len, length-range_with_len}
-use Rattle.std.proofs.lemmas.Nat.{pow_pos}
-use Rattle.std.specs.Prelude.{Contains, IfErr, IfOk, IfSome, if◌then◌else◌}
-use Rattle.sig_dd.specs.Diagram.{Agree, Depends, truth_of}
-use Rattle.sig_dd.specs.Nodes.{IsRefOf, IsStore, Keeps, Spans, StoreView, allowance, test}
-use Rattle.sig_dd.specs.Shares.{HasAll, IsRefused, Share, Shares, SpanAll, refusal}
-use Rattle.sig_dd.proofs.CallerLemmas.{Agree-kept, Depends-of_two, Holds-kept, Spans-kept, Spans-of}
-use Rattle.sig_dd.proofs.Dependence.{choice_depends, variable_depends}
-use Rattle.sig_dd.proofs.Functions.{IfOk-weaker}
-use Rattle.sig_verify.specs.inner.Diagrams.{AreDiagrams, Follows, IsFor, IsOf, IsRefusal, variables}
-use Rattle.sig_verify.specs.Prelude.{Budget, DdAnswer, NODES, OutOfMemory, Ref}
-use Rattle.sig_verify.specs.declared.diagrams.Diagrams.{Diagrams}
+use Rattle.sig_verify.proofs.Common.{◌≡◌, ℕ, ◌+◌, ◌*◌, ◌<◌, ◌≤◌, ◌^◌, Bool, List, length, Option, None, Some, inl, inr, Result, Ok, Err, sym, ap, subst, ◌∙◌, arith, get_or-range_with_len, length-range_with_len, pow_pos, Contains, IfErr, IfOk, IfSome, if◌then◌else◌, Agree, Depends, truth_of, IsRefOf, IsStore, Keeps, Spans, StoreView, allowance, test, HasAll, IsRefused, Share, Shares, SpanAll, refusal, Agree-kept, Depends-of_two, Holds-kept, Spans-kept, Spans-of, choice_depends, variable_depends, AreDiagrams, Follows, IsFor, IsOf, IsRefusal, variables, Budget, DdAnswer, NODES, OutOfMemory, Ref, Diagrams, IfOk-weaker}
 
 pub length-variables : (k : ℕ) → length (variables k) ≡ k
 length-variables k = length-range_with_len 0 k
@@ -38,7 +26,7 @@ for_of d f only r is = record { is = is; of = record { holds = is.holds; spans =
 
 made : (d : Diagrams) (f : List Bool → Bool) → ((v : ℕ) → Depends f v → Contains (variables d.conditions) v)
     → (result : Result Ref DdAnswer) → IfOk result (IsRefOf d.store.nodes f) → IfOk result (IsFor d f)
-made d f only result h = IfOk-weaker (IsRefOf d.store.nodes f) (IsFor d f) result (for_of d f only) h
+made d f only result h = IfOk-weaker result (IsRefOf d.store.nodes f) (IsFor d f) (for_of d f only) h
 
 module _ (old mid : Diagrams) (right : AreDiagrams old) (still : mid.store ≡ old.store) (same : mid.conditions ≡ old.conditions) (counted : mid.calls ≡ old.calls + 1) where
   -- the diagrams behind the call
@@ -139,7 +127,7 @@ pub chosen : (n : ℕ) (old mid new : Diagrams) → Follows n old mid → (v : �
     → IfOk result (IsFor new (λ ts. if test mid.store.nodes condition ts then test mid.store.nodes high ts else test mid.store.nodes low ts))
     → IfOk result (IsFor new (λ ts. if truth_of ts v then test old.store.nodes high ts else test old.store.nodes low ts))
 chosen n old mid new follows v condition low high is of_low of_high result h =
-    IfOk-weaker _ _ result (for_same new _ _ (λ ts.
+    IfOk-weaker result _ _ (for_same new _ _ (λ ts.
     ap (λ b. if b then test mid.store.nodes high ts else test mid.store.nodes low ts) (is.is.function ts)
     ∙ ap (λ x. if truth_of ts v then x else test mid.store.nodes low ts) (test_kept n old mid follows high of_high ts)
     ∙ ap (λ x. if truth_of ts v then test old.store.nodes high ts else x) (test_kept n old mid follows low of_low ts))) h

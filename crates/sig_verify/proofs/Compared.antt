@@ -1,31 +1,11 @@
 -- A step of a pair, and how many pairs there are.
-use Rattle.std.proofs.Common.{◌≡◌, ℕ, suc, ◌+◌, ◌-◌, ◌*◌, ◌<◌, ◌≤◌, ◌^◌, Bool, true, false, not, cond, List, Option, None, Some, Result, ◌⊎◌, inl, inr, refl, sym, ap, subst, ◌∙◌, arith}
-use Rattle.std.proofs.Math.Nat.{mul-le-mul}
-use Rattle.std.proofs.lemmas.List.FromFn.{get_or-range_with_len}
-use Rattle.std.proofs.lemmas.Nat.{pow_pos}
-use Rattle.std.proofs.lemmas.Bool.{eqb-true}
-use Rattle.std.specs.Prelude.{◌↔◌, ◌&&◌, Contains, IfErr, IsTrue, nat_eq}
-use Rattle.sig_dd.specs.Diagram.{StartsFrom, Tests}
-use Rattle.sig_dd.specs.Nodes.{Holds, IsReduced, IsRefOf, diagram, node_of}
-use Rattle.sig_dd.specs.Question.{HasVariable, IsSide}
-use Rattle.sig_dd.proofs.Canonical.{one_ref, same_ref}
-use Rattle.sig_dd.proofs.Operands.{IsEarlier, earlier_is, side_is}
-use Rattle.sig_dd.proofs.Pairs.{constant_ref, constant_test, known_apart, known_constant, known_itself, pair_split}
-use Rattle.sig_dd.proofs.Sides.{HasVariable-node, own_first, starts_own, tests_own}
-use Rattle.sig_dd.proofs.Variables.{Depends-Tests}
-use Rattle.sig_verify.specs.inner.Diagrams.{IsOf, variables}
-use Rattle.sig_verify.specs.inner.Pairs.{HoldsBoth, IsSplitInto, IsTired, IsWithin, Meets}
-use Rattle.sig_verify.specs.Prelude.{Budget, DdAnswer, NODES, Node, OutOfMemory, Ref, earlier_of, side_of}
-use Rattle.sig_verify.specs.declared.diagrams.Diagrams.{Diagrams}
-use Rattle.sig_verify.specs.declared.pairs.Pair.{Pair}
-use Rattle.sig_verify.specs.declared.pairs.Work.{Work}
-use Rattle.sig_verify.proofs.Asks.{both}
+use Rattle.sig_verify.proofs.Common.{◌≡◌, ℕ, suc, ◌+◌, ◌-◌, ◌*◌, ◌<◌, ◌≤◌, ◌^◌, Bool, true, false, not, cond, List, Option, None, Some, Result, ◌⊎◌, inl, inr, refl, sym, ap, subst, ◌∙◌, arith, mul-le-mul, get_or-range_with_len, pow_pos, eqb-true, ◌↔◌, ◌&&◌, Contains, IfErr, IsTrue, nat_eq, StartsFrom, Tests, Holds, IsReduced, IsRefOf, diagram, node_of, HasVariable, IsSide, one_ref, same_ref, IsEarlier, earlier_is, side_is, constant_ref, constant_test, known_constant, known_itself, pair_split, HasVariable-node, own_first, starts_own, tests_own, Depends-Tests, IsOf, variables, HoldsBoth, IsSplitInto, IsTired, IsWithin, Meets, Budget, DdAnswer, Node, OutOfMemory, Ref, earlier_of, side_of, Diagrams, Pair, Work, and_parts}
 use Rattle.sig_verify.proofs.Calls.{length-variables}
 use Rattle.sig_verify.proofs.GuardNodes.{doubled, starts_anywhere}
 
 pub pair_same : (p q : Pair) → (nat_eq p.first.number q.first.number && nat_eq p.second.number q.second.number) ≡ true → p ≡ q
 pair_same p q e =
-    let parts = both (nat_eq p.first.number q.first.number) (nat_eq p.second.number q.second.number) e in
+    let parts = and_parts (nat_eq p.first.number q.first.number) (nat_eq p.second.number q.second.number) e in
     let one = same_ref p.first q.first (eqb-true p.first.number q.first.number parts.0) in
     let other = same_ref p.second q.second (eqb-true p.second.number q.second.number parts.1) in
     λ j. record { first = one j; second = other j }
@@ -85,10 +65,6 @@ module _ (nodes : List Node) (reduced : IsReduced nodes) where
       other_number : other.number ≡ cond (not b) 1 0
       other_number = ap (λ (r : Ref). r.number) (constant_is (not b) other is_other)
 
-      pub apart_by : (p.first.number ≡ never.number) ⊎ (p.second.number ≡ other.number) → IsTrue false ↔ Meets nodes p b
-      apart_by (inl e) = known_apart nodes reduced (record { first = p.first; second = p.second }) held b (inl (e ∙ never_number))
-      apart_by (inr e) = known_apart nodes reduced (record { first = p.first; second = p.second }) held b (inr (e ∙ other_number))
-
       pub itself_by : p.first ≡ p.second → (p.first.number ≡ never.number → ⊥) → IsTrue b ↔ Meets nodes p b
       itself_by same ne = known_itself nodes reduced (record { first = p.first; second = p.second }) held b same (λ e. ne (e ∙ sym never_number))
 
@@ -120,23 +96,13 @@ module _ (nodes : List Node) (reduced : IsReduced nodes) where
 
 -- ---- how many pairs there are
 
-more_tired : (work : Work) (m n : ℕ) → m ≤ n → (answer : DdAnswer) → IsTired work m answer → IsTired work n answer
-more_tired work m n le (Budget nodes) h = let lt = h.1 in (h.0, omega (arith, lt, le))
-more_tired work m n le OutOfMemory h = tt
-
 pub later_tired : (old new : Work) (m n : ℕ) → new.pairs + m ≤ old.pairs + n → (answer : DdAnswer) → IsTired new m answer → IsTired old n answer
 later_tired old new m n le (Budget nodes) h = let lt = h.1 in (h.0, omega (arith, lt, le))
 later_tired old new m n le OutOfMemory h = tt
 
-pub none_more : (pairs from to : ℕ) → pairs < pairs + 2 ^ (to - from)
-none_more pairs from to = let some = pow_pos (to - from) in omega (arith, some)
-
 module _ (v from to : ℕ) (le : from ≤ v) (lt : v < to) (old counted : Work) (one : counted.pairs ≡ old.pairs + 1) where
   halves : 2 ^ (to - suc v) + 2 ^ (to - suc v) ≤ 2 ^ (to - from)
   halves = doubled to from v le lt
-
-  pub count_tired : (answer : DdAnswer) → IsTired old 1 answer → IsTired old (2 ^ (to - from)) answer
-  count_tired = let some = pow_pos (to - from) in more_tired old 1 (2 ^ (to - from)) (omega (arith, some))
 
   pub low_tired : (answer : DdAnswer) → IsTired counted (2 ^ (to - suc v)) answer → IsTired old (2 ^ (to - from)) answer
   low_tired = let half = halves in let some = pow_pos (to - suc v) in later_tired old counted (2 ^ (to - suc v)) (2 ^ (to - from)) (omega (arith, half, some, one))

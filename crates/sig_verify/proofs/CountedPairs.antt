@@ -1,20 +1,6 @@
 -- How many pairs there were, up to an operation.
-use Rattle.std.proofs.Common.{◌≡◌, ℕ, ◌+◌, ◌*◌, ◌<◌, ◌≤◌, ◌^◌, List, [], length, Some, ap, arith}
-use Rattle.std.proofs.Math.Nat.{mul-le-mul}
-use Rattle.std.proofs.lemmas.Nat.{pow_pos}
-use Rattle.std.specs.Prelude.{slice_get}
-use Rattle.sig_file.specs.Images.{ImageView, IsImage, IsOperation, MayDo, Scope, scope_of}
-use Rattle.sig_file.specs.declared.images.ImageOp.{ImageOp}
-use Rattle.sig_file.specs.declared.images.ImageOpKind.{ImageOpKind}
+use Rattle.sig_verify.proofs.Common.{◌≡◌, ℕ, ◌+◌, ◌*◌, ◌<◌, ◌≤◌, ◌^◌, List, [], length, Some, ap, arith, mul-le-mul, pow_pos, slice_get, ImageView, IsImage, IsOperation, MayDo, Scope, scope_of, ImageOp, ImageOpKind, each_at, count_few, operands_of, IsWant, IsTired, Budget, DdAnswer, NODES, OutOfMemory, IsBeyondBound, Work}
 use Rattle.sig_file.specs.declared.images.ImageOpKind.TheVariants as does
-use Rattle.sig_file.proofs.Behind.{each_at}
-use Rattle.sig_file.proofs.Rules.{count_few}
-use Rattle.sig_verify.specs.inner.Asking.{operands_of}
-use Rattle.sig_verify.specs.inner.Known.{IsWant}
-use Rattle.sig_verify.specs.inner.Pairs.{IsTired}
-use Rattle.sig_verify.specs.Prelude.{Budget, DdAnswer, NODES, OutOfMemory}
-use Rattle.sig_verify.specs.Verifying.{IsBeyondBound}
-use Rattle.sig_verify.specs.declared.pairs.Work.{Work}
 use Rattle.sig_verify.proofs.Taken.{four}
 
 -- ---- what an operation reads

@@ -1,19 +1,8 @@
 -- Whether an operation is sound is decided: what is asked of all proposals depends on finitely many conditions.
-use Rattle.std.proofs.Common.{◌≡◌, ℕ, ℤ, zero, suc, ◌+◌, ◌<◌, ◌≤◌, Bool, true, false, not, List, [], ◌∷◌, length, Option, None, Some, ◌⊎◌, inl, inr, refl, sym, ap, subst, ◌∙◌, arith}
-use Rattle.std.proofs.lemmas.Bool.{cases_lt}
-use Rattle.std.specs.Prelude.{◌↔◌, ◌&&◌, ◌||◌, Contains, if◌then◌else◌, nat_eq, slice_get}
-use Rattle.std.proofs.lemmas.Bool.{eq-eqb, eqb-true}
-use Rattle.sig_kernel.specs.declared.equation.Operand.{Operand}
-use Rattle.sig_kernel.specs.declared.equation.Operand.TheVariants.{Const, Sig}
-use Rattle.sig_file.specs.Guarded.{Guarded, Guards, IsSoundOperation, IsWrittenBefore, Reads, Writes}
-use Rattle.sig_file.specs.declared.images.ImageOpKind.{ImageOpKind}
+use Rattle.sig_verify.proofs.Common.{◌≡◌, ℕ, ℤ, zero, suc, ◌+◌, ◌<◌, ◌≤◌, Bool, true, false, not, List, [], ◌∷◌, Option, None, Some, ◌⊎◌, inl, inr, refl, sym, ap, subst, ◌∙◌, arith, cases_lt, ◌↔◌, ◌&&◌, ◌||◌, Contains, if◌then◌else◌, slice_get, eq-eqb, eqb-true, Operand, Const, Sig, Guarded, Guards, IsSoundOperation, IsWrittenBefore, Reads, Writes, ImageOpKind, all_asked, target_of, is_target, value_at, Asks, Choice, Constant, Diagram, SigId, truth_of, and_from, and_parts, or_cases, or_left, or_right}
 use Rattle.sig_file.specs.declared.images.ImageOpKind.TheVariants as does
-use Rattle.sig_verify.specs.inner.Asking.{all_asked, target_of}
-use Rattle.sig_verify.specs.inner.Known.{is_target}
-use Rattle.sig_dd.specs.Diagram.{value_at}
-use Rattle.sig_verify.specs.Prelude.{Asks, Choice, Constant, Diagram, SigId, truth_of}
-use Rattle.sig_verify.proofs.Asks.{asked_all, asked_each, both, both_true}
-use Rattle.sig_verify.proofs.Sound.{before_cases, before_more, before_now, no_target, target_writes, target_written}
+use Rattle.sig_verify.proofs.Asks.{asked_all, asked_each}
+use Rattle.sig_verify.proofs.Sound.{before_cases, before_now, no_target, target_writes, target_written}
 
 abbrev pub Decides : Type 0 → Type 0
 Decides A = A ⊎ (A → ⊥)
@@ -117,18 +106,6 @@ written_only ops (suc n) x a b same =
     (only_more (bound_at (slice_get ops n)) (bounds ops n + bound_at (slice_get ops n)) (omega arith) (λ ts. writes_at (slice_get ops n) ts x) (writes_only (slice_get ops n) x))
     a b same
 
-or_cases : (a b : Bool) → (a || b) ≡ true → (a ≡ true) ⊎ (b ≡ true)
-or_cases true b h = inl refl
-or_cases false b h = inr h
-
-or_right : (a b : Bool) → b ≡ true → (a || b) ≡ true
-or_right true b h = refl
-or_right false b h = h
-
-or_left : (a b : Bool) → a ≡ true → (a || b) ≡ true
-or_left true b h = refl
-or_left false b h = absurd cc
-
 target_is : (kind : ImageOpKind) (x : SigId) → (is_target (target_of kind) x.0 ≡ true) ↔ Writes kind x
 target_is kind x = (there (target_of kind) refl, back (target_of kind) refl)
   where
@@ -142,14 +119,11 @@ target_is kind x = (there (target_of kind) refl, back (target_of kind) refl)
     back None e writes = absurd (no_target kind e x writes)
     back (Some y) e writes = ap (λ t. is_target t x.0) e ∙ eq-eqb y.0 x.0 (sym (ap (λ (z : SigId). z.0) (target_written kind y e x writes)))
 
-some_same : {A : Type 0} (x y : A) → Some x ≡ Some y → x ≡ y
-some_same x y e = cc
-
 module _ (ops : List Guarded) (x : SigId) (ts : List Bool) where
   at_last : (n : ℕ) (o : Option Guarded) → slice_get ops n ≡ o → writes_at o ts x ≡ true → IsWrittenBefore ops (n + 1) ts x
   at_last n None e h = absurd cc
   at_last n (Some op) e h =
-      let parts = both (value_at op.guard ts) (is_target (target_of op.kind) x.0) h in
+      let parts = and_parts (value_at op.guard ts) (is_target (target_of op.kind) x.0) h in
       before_now ops n op e ts x parts.0 ((target_is op.kind x).0 parts.1)
 
   from_last : (n : ℕ) (o : Option Guarded) → slice_get ops n ≡ o → IsWrittenBefore ops (n + 1) ts x → IsWrittenBefore ops n ts x ⊎ (writes_at o ts x ≡ true)
@@ -163,7 +137,7 @@ module _ (ops : List Guarded) (x : SigId) (ts : List Bool) where
   ]
   from_last n (Some op) e h = elim (before_cases ops n op e ts x h) [
     | inl before ↦ inl before
-    | inr (holds, writes) ↦ inr (both_true (value_at op.guard ts) (is_target (target_of op.kind) x.0) holds ((target_is op.kind x).1 writes))
+    | inr (holds, writes) ↦ inr (and_from (value_at op.guard ts) (is_target (target_of op.kind) x.0) holds ((target_is op.kind x).1 writes))
   ]
 
   more : (n : ℕ) → IsWrittenBefore ops n ts x → IsWrittenBefore ops (n + 1) ts x
@@ -280,9 +254,9 @@ module _ (guards : Guards) (n : ℕ) (op : Guarded) where
   is_fresh x = elim (decide room (λ ts. not (value_at op.guard ts && written guards.ops n x ts))
       (only_two (λ a b. not (a && b)) room (value_at op.guard) (written guards.ops n x) guard_only (signal_only x))) [
         | inl all ↦ inl (λ ts holds before. never (value_at op.guard ts && written guards.ops n x ts) (all ts)
-            (both_true (value_at op.guard ts) (written guards.ops n x ts) holds ((written_is guards.ops x ts n).1 before)))
+            (and_from (value_at op.guard ts) (written guards.ops n x ts) holds ((written_is guards.ops x ts n).1 before)))
         | inr (ts, e) ↦ inr (λ all.
-            let parts = both (value_at op.guard ts) (written guards.ops n x ts) (not_never (value_at op.guard ts && written guards.ops n x ts) e) in
+            let parts = and_parts (value_at op.guard ts) (written guards.ops n x ts) (not_never (value_at op.guard ts && written guards.ops n x ts) e) in
             all ts parts.0 ((written_is guards.ops x ts n).0 parts.1))
       ]
 

@@ -1,30 +1,6 @@
 -- What is found out of an operation, and of all.
-use Rattle.std.proofs.Common.{◌≡◌, ℕ, ◌+◌, ◌*◌, ◌<◌, ◌≤◌, Bool, true, false, List, [], length, ◌^◌, ◌⊎◌, Option, None, Some, Result, Ok, Err, inl, inr, sym, ap, subst, ◌∙◌, arith}
-use Rattle.std.proofs.lemmas.Bool.{cases_lt}
-use Rattle.std.proofs.lemmas.List.{length-map}
-use Rattle.std.proofs.lemmas.Option.{same_Some, slice_get_cases, slice_get_within}
-use Rattle.std.specs.HashMap.{HashMap, get}
-use Rattle.std.specs.Prelude.{◌↔◌, Contains, IfErr, IfOk, IsTrue, nat_eq, slice_get}
-use Rattle.sig_kernel.specs.declared.equation.FunOp.{FunOp}
-use Rattle.sig_kernel.specs.declared.equation.Operand.{Operand}
-use Rattle.sig_kernel.specs.declared.equation.Operand.TheVariants.{Sig}
-use Rattle.sig_file.specs.declared.images.ImageOpKind.{ImageOpKind}
+use Rattle.sig_verify.proofs.Common.{◌≡◌, ℕ, ◌+◌, ◌*◌, ◌<◌, ◌≤◌, Bool, true, false, List, [], length, ◌^◌, ◌⊎◌, Option, None, Some, Result, Ok, Err, inl, inr, sym, ap, subst, ◌∙◌, arith, cases_lt, length-map, same_Some, slice_get_cases, slice_get_within, HashMap, get, ◌↔◌, Contains, IfErr, IfOk, IsTrue, nat_eq, slice_get, FunOp, Operand, Sig, ImageOpKind, IsSoundImage, IsSoundOperation, Reads, guarded_in, guards_of, ImageView, IsImage, IsOperation, scope_of, ImageOp, each_at, AreGood, AreOf, AreTold, IsGood, IsGuard, IsWrittenWhere, asked, choices, guard_at, operands_of, target_of, Follows, IsRefusal, IsFree, IsKnown, IsSoundAt, IsTakenIn, IsWant, IsFirstUnsound, DdAnswer, Ref, SigId, Diagrams, IsTired, Work, Verifier, IfOk-weaker}
 use Rattle.sig_file.specs.declared.images.ImageOpKind.TheVariants as does
-use Rattle.sig_dd.proofs.Functions.{IfOk-weaker}
-use Rattle.sig_file.specs.Guarded.{IsSoundImage, IsSoundOperation, Reads, guarded_in, guards_of}
-use Rattle.sig_file.specs.Images.{ImageView, IsImage, IsOperation, scope_of}
-use Rattle.sig_file.specs.declared.images.ImageOp.{ImageOp}
-use Rattle.sig_file.proofs.Behind.{each_at}
-use Rattle.sig_verify.specs.inner.Asking.{AreGood, AreOf, AreTold, IsGood, IsGuard, IsTold, IsWrittenWhere, all_asked, asked, choices, guard_at, operands_of, target_of}
-use Rattle.sig_verify.specs.inner.Diagrams.{Follows, IsRefusal}
-use Rattle.sig_verify.specs.inner.Known.{IsFree, IsKnown, IsSoundAt, IsTakenIn, IsWant}
-use Rattle.sig_verify.specs.Verifying.{IsFirstUnsound}
-use Rattle.sig_verify.specs.Prelude.{DdAnswer, OutOfMemory, Ref, SigId, test}
-use Rattle.sig_verify.specs.declared.diagrams.Diagrams.{Diagrams}
-use Rattle.sig_verify.specs.inner.Pairs.{IsTired}
-use Rattle.sig_verify.specs.declared.pairs.Work.{Work}
-use Rattle.sig_verify.specs.declared.verifier.Verifier.{Verifier}
-use Rattle.sig_verify.specs.declared.walk.Told.{Told}
 use Rattle.sig_verify.proofs.Sound.{asks_all, op_sound, reads_all, target_free}
 use Rattle.sig_verify.proofs.Stays.{are_good_kept}
 use Rattle.sig_verify.proofs.Tables.{entry_added}
@@ -33,15 +9,6 @@ use Rattle.sig_verify.proofs.Taken.{calls_for, known_next, told_mid, wants}
 
 -- ---- a guard
 
-module _ (exact : Bool) (d : Diagrams) (image : ImageView) {S : Type 0} (written : HashMap ℕ Ref S) (n : ℕ) (told : Told) (is : IsTold exact d image (asked d image written) n told)
-    (always : Bool) (test_is : IsTrue always ↔ ((truths : List Bool) → test d.store.nodes told.written truths ≡ true)) where
-  -- a guard of which that is told exactly is not good where it is not told of all proposals
-  pub not_good : exact ≡ true → always ≡ false → ((truths : List Bool) → all_asked (asked d image written) (guard_at image n) truths ≡ true) → ⊥
-  not_good now never all = let held : always ≡ true = test_is.1 (λ truths. is.all now truths (all truths)) in absurd cc
-
-  pub told_good : always ≡ true → IsGood d image written n told.function
-  told_good held = record { function = is.function; asks = λ truths. is.sure truths (test_is.0 held truths) }
-
 pub good_added : {S T : Type 0} (c : ℕ) (old new : Diagrams) → Follows c old new → (image : ImageView) (written : HashMap ℕ Ref S) → AreOf old written
     → (was is : HashMap ℕ Ref T) → AreGood old image written was → (n : ℕ) (r : Ref) → IsGood new image written n r
     → get nat_eq is n ≡ Some r → ((k : ℕ) → nat_eq n k ≡ false → get nat_eq is k ≡ get nat_eq was k) → AreGood new image written is
@@ -49,9 +16,6 @@ good_added c old new follows image written of was is good n r here at others =
     entry_added (IsGood new image written) was is n r here at others (are_good_kept c old new follows image written of was good)
 
 -- ---- an operation
-
-pub memory_wants : (image : ImageView) (answer : DdAnswer) → answer ≡ OutOfMemory → IsWant image answer
-memory_wants image answer e = subst (IsWant image) (sym e) tt
 
 module _ (image : ImageView) (n : ℕ) (op : ImageOp) (at : slice_get image.ops n ≡ Some op) (old : Verifier) (known : IsKnown image n old) where
   pub guard_within : IsImage image → op.guard < length image.nodes + 2
@@ -112,14 +76,14 @@ module _ (image : ImageView) (n : ℕ) (op : ImageOp) (at : slice_get image.ops 
             )
 
         pub write_sound : (result : Result Bool DdAnswer) → IfOk result (λ yes. IsTrue yes ↔ ((y : SigId) → target ≡ Some y → IsFree mid.diagrams mid.written y r)) → IfOk result (λ yes. IsTrue yes ↔ IsSoundAt image n)
-        write_sound result = IfOk-weaker (λ yes. IsTrue yes ↔ ((y : SigId) → target ≡ Some y → IsFree mid.diagrams mid.written y r)) (λ yes. IsTrue yes ↔ IsSoundAt image n) result free_sound
+        write_sound result = IfOk-weaker result (λ yes. IsTrue yes ↔ ((y : SigId) → target ≡ Some y → IsFree mid.diagrams mid.written y r)) (λ yes. IsTrue yes ↔ IsSoundAt image n) free_sound
 
         pub write_known : IsImage image → AreGood mid.diagrams image mid.written mid.guards → AreTold false mid.diagrams image (asked mid.diagrams image mid.written) mid.told → (new : Verifier)
             → Follows 1 mid.diagrams new.diagrams → new.guards ≡ mid.guards → new.told ≡ mid.told
             → (result : Result Bool DdAnswer) → IfOk result (λ yes. IsTrue yes → IsTakenIn mid.diagrams mid.written new.diagrams new.written target r)
             → new.work.pairs ≤ (n + 1) * (3 * 2 ^ length image.conditions) → IfOk result (λ yes. IsTrue yes → IsKnown image (n + 1) new)
         write_known is all_good all_told new followed guards tells result was few_pairs =
-            IfOk-weaker (λ yes. IsTrue yes → IsTakenIn mid.diagrams mid.written new.diagrams new.written target r) (λ yes. IsTrue yes → IsKnown image (n + 1) new) result (λ yes taken holds.
+            IfOk-weaker result (λ yes. IsTrue yes → IsTakenIn mid.diagrams mid.written new.diagrams new.written target r) (λ yes. IsTrue yes → IsKnown image (n + 1) new) (λ yes taken holds.
             known_next image n op at old mid known (10 * choices (guard_at image op.guard)) follows same all_good all_told r good new followed guards tells
             (subst (λ o. IsTakenIn mid.diagrams mid.written new.diagrams new.written o r) is_target (taken holds))
             (let few = calls_for image is n op.guard old.diagrams.calls (guard_within is) known.calls in

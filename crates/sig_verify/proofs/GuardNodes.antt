@@ -1,26 +1,5 @@
 -- The diagrams of the guards of an image.
-use Rattle.std.proofs.Common.{◌≡◌, ℕ, zero, suc, ◌+◌, ◌-◌, ◌<◌, ◌≤◌, ◌^◌, Bool, true, false, [], length, Some, inl, inr, refl, sym, ap, subst, ◌∙◌, arith}
-use Rattle.std.proofs.lemmas.Bool.{cases_eq, cases_lt}
-use Rattle.std.proofs.Math.Pow.{pow_mono}
-use Rattle.std.proofs.lemmas.Nat.{pow_pos}
-use Rattle.std.proofs.Math.Nat.{pow-suc}
-use Rattle.std.proofs.lemmas.List.{length-map}
-use Rattle.std.proofs.lemmas.Option.{slice_get-get_or, slice_get-map, slice_get_within}
-use Rattle.std.specs.Prelude.{option_map}
-use Rattle.sig_dd.specs.Diagram.{StartsFrom}
-use Rattle.sig_dd.specs.Nodes.{IsReduced, node_numbered, node_of}
-use Rattle.sig_dd.proofs.Canonical.{proper}
-use Rattle.sig_dd.proofs.Listed.{diagram-false, diagram-true}
-use Rattle.sig_dd.proofs.Sides.{names_node}
-use Rattle.sig_dd.proofs.Trees.{IsProper}
-use Rattle.sig_dd.proofs.Variables.{high_below, high_held, low_below, low_held}
-use Rattle.sig_file.specs.Guarded.{node_in, nodes_in}
-use Rattle.sig_file.specs.Images.{ImageView, IsImage, IsNodeBehind}
-use Rattle.sig_file.specs.declared.images.ImageNode.{ImageNode}
-use Rattle.sig_file.proofs.Behind.{each_at}
-use Rattle.sig_file.proofs.Reduced.{reduced}
-use Rattle.sig_verify.specs.inner.Asking.{choices, guard_at}
-use Rattle.sig_verify.specs.Prelude.{Choice, Constant, Diagram, Holds, slice_get}
+use Rattle.sig_verify.proofs.Common.{◌≡◌, ℕ, zero, suc, ◌+◌, ◌-◌, ◌<◌, ◌≤◌, ◌^◌, Bool, true, false, [], length, Some, inl, inr, refl, sym, ap, subst, ◌∙◌, arith, cases_eq, cases_lt, pow_mono, pow_pos, pow-suc, length-map, slice_get-get_or, slice_get-map, slice_get_within, option_map, StartsFrom, IsReduced, node_numbered, node_of, proper, diagram-false, diagram-true, names_node, IsProper, high_below, high_held, low_below, low_held, node_in, nodes_in, ImageView, IsImage, IsNodeBehind, ImageNode, each_at, reduced, choices, guard_at, Choice, Constant, Diagram, Holds, slice_get}
 
 pub starts_anywhere : (d : Diagram) → StartsFrom 0 d
 unfolding StartsFrom

@@ -1,11 +1,5 @@
 -- What is told of a node, call by call.
-use Rattle.std.proofs.Common.{◌≡◌, ℕ, Bool, List, ap, ◌∙◌, arith}
-use Rattle.std.specs.HashMap.{HashMap}
-use Rattle.std.specs.Prelude.{◌&&◌, if◌then◌else◌}
-use Rattle.sig_verify.specs.inner.Asking.{AreOf, asked}
-use Rattle.sig_verify.specs.inner.Diagrams.{Follows, IsFor, IsOf, IsRefusal}
-use Rattle.sig_verify.specs.Prelude.{DdAnswer, ImageView, Ref, test, truth_of}
-use Rattle.sig_verify.specs.declared.diagrams.Diagrams.{Diagrams}
+use Rattle.sig_verify.proofs.Common.{◌≡◌, ℕ, Bool, List, ap, ◌∙◌, arith, HashMap, ◌&&◌, if◌then◌else◌, AreOf, asked, Follows, IsFor, IsOf, IsRefusal, DdAnswer, ImageView, Ref, test, truth_of, Diagrams}
 use Rattle.sig_verify.proofs.Calls.{for_kept, for_same, test_kept}
 use Rattle.sig_verify.proofs.Spent.{refusal_more, refusal_then}
 use Rattle.sig_verify.proofs.Stays.{are_of_kept, asked_kept}

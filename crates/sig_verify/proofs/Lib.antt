@@ -1,3 +1,4 @@
+pub mod Common
 pub mod Asks
 pub mod Calls
 pub mod Compared
@@ -13,3 +14,15 @@ pub mod Taken
 pub mod CountedPairs
 pub mod Verdict
 pub mod Walked
+unfoldable pub use Common.*
+pub use Calls.*
+pub use Compared.*
+pub use Found.*
+pub use GuardNodes.*
+pub use Joined.*
+pub use Spent.*
+pub use Stays.*
+pub use Tables.*
+pub use Taken.*
+pub use Verdict.*
+pub use Walked.*

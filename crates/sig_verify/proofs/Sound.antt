@@ -1,17 +1,6 @@
 -- What makes an operation sound.
-use Rattle.std.proofs.Common.{◌≡◌, ℕ, ◌+◌, Bool, true, List, Option, None, Some, inl, inr, refl, sym, ap, subst, ◌∙◌, ◌⊎◌, arith}
-use Rattle.std.proofs.lemmas.Bool.{cases_lt}
-use Rattle.std.proofs.lemmas.Option.{same_Some, slice_get-map}
-use Rattle.std.specs.HashMap.{HashMap}
-use Rattle.std.specs.Prelude.{◌↔◌, option_map, slice_get}
-use Rattle.sig_file.specs.Guarded.{Guarded, IsSoundOperation, IsWrittenBefore, Reads, Writes, guarded_in, guards_of}
-use Rattle.sig_file.specs.declared.images.ImageOp.{ImageOp}
-use Rattle.sig_file.specs.declared.images.ImageOpKind.{ImageOpKind}
+use Rattle.sig_verify.proofs.Common.{◌≡◌, ℕ, ◌+◌, Bool, true, List, Option, None, Some, inl, inr, refl, sym, ap, subst, ◌∙◌, ◌⊎◌, arith, cases_lt, same_Some, slice_get-map, HashMap, ◌↔◌, option_map, slice_get, Guarded, IsSoundOperation, IsWrittenBefore, Reads, Writes, guarded_in, guards_of, ImageOp, ImageOpKind, IsGood, IsWrittenWhere, all_asked, asked, asked_of, guard_at, is_written, target_of, IsSoundAt, Asks, ImageView, Ref, SigId, test, value_at, Diagrams}
 use Rattle.sig_file.specs.declared.images.ImageOpKind.TheVariants as does
-use Rattle.sig_verify.specs.inner.Asking.{IsGood, IsWrittenWhere, all_asked, asked, asked_of, guard_at, is_written, target_of}
-use Rattle.sig_verify.specs.inner.Known.{IsSoundAt}
-use Rattle.sig_verify.specs.Prelude.{Asks, ImageView, Ref, SigId, test, value_at}
-use Rattle.sig_verify.specs.declared.diagrams.Diagrams.{Diagrams}
 use Rattle.sig_verify.proofs.Asks.{asked_all, asked_each}
 
 -- ---- the signal that an operation writes

@@ -1,15 +1,5 @@
 -- Calls in a row add up.
-use Rattle.std.proofs.Common.{◌≡◌, ℕ, ◌+◌, ◌*◌, ◌<◌, ◌≤◌, ◌^◌, Result, Ok, Err, refl, sym, subst, ◌∙◌, arith}
-use Rattle.std.specs.Prelude.{IfErr, IsErrAnd}
-use Rattle.std.proofs.Math.Nat.{mul-le-mul}
-use Rattle.sig_dd.proofs.CallerLemmas.{Keeps-itself, Keeps-trans}
-use Rattle.sig_verify.specs.inner.Diagrams.{AreDiagrams, Follows, IsRefusal}
-use Rattle.sig_verify.specs.Prelude.{Budget, DdAnswer, NODES, OutOfMemory}
-use Rattle.sig_verify.specs.declared.diagrams.Diagrams.{Diagrams}
-
--- no call leads to the same
-pub follows_none : (n : ℕ) (d : Diagrams) → AreDiagrams d → Follows n d d
-follows_none n d right = record { right = right; kept = Keeps-itself d.store; conditions = refl; counted = omega arith }
+use Rattle.sig_verify.proofs.Common.{◌≡◌, ℕ, ◌+◌, ◌*◌, ◌<◌, ◌≤◌, ◌^◌, Result, Ok, Err, sym, subst, ◌∙◌, arith, IfErr, IsErrAnd, mul-le-mul, Keeps-trans, Follows, IsRefusal, Budget, DdAnswer, NODES, OutOfMemory, Diagrams}
 
 -- more calls may have led there
 pub follows_more : (m n : ℕ) → m ≤ n → (old new : Diagrams) → Follows m old new → Follows n old new

@@ -1,12 +1,5 @@
 -- What stays as diagrams are made.
-use Rattle.std.proofs.Common.{◌≡◌, ℕ, Bool, true, List, Option, None, Some, refl, sym, subst, ◌∙◌}
-use Rattle.std.specs.HashMap.{HashMap, get}
-use Rattle.std.specs.Prelude.{IfSome, nat_eq, slice_get}
-use Rattle.sig_verify.specs.inner.Asking.{AreGood, AreOf, AreTold, IsGood, IsScene, IsTold, all_asked, asked, asked_of, guard_at, is_written, true_at}
-use Rattle.sig_verify.specs.inner.Diagrams.{Follows, IsOf}
-use Rattle.sig_verify.specs.Prelude.{ImageView, Ref, SigId}
-use Rattle.sig_verify.specs.declared.diagrams.Diagrams.{Diagrams}
-use Rattle.sig_verify.specs.declared.walk.Told.{Told}
+use Rattle.sig_verify.proofs.Common.{◌≡◌, ℕ, Bool, true, List, Option, None, Some, refl, sym, subst, ◌∙◌, HashMap, get, IfSome, nat_eq, slice_get, AreGood, AreOf, AreTold, IsGood, IsScene, IsTold, all_asked, asked, asked_of, guard_at, is_written, true_at, Follows, IsOf, ImageView, Ref, SigId, Diagrams, Told}
 use Rattle.sig_verify.proofs.Calls.{for_kept, of_kept, test_kept}
 
 -- what holds of the entry of a table, if there is one

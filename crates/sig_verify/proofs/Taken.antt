@@ -1,20 +1,6 @@
 -- What is known once an operation is taken in, and why one is not.
-use Rattle.std.proofs.Common.{◌≡◌, ℕ, ◌+◌, ◌*◌, ◌<◌, ◌≤◌, ◌^◌, zero, suc, Bool, true, false, List, length, Option, None, Some, inl, inr, refl, sym, ap, subst, ◌∙◌, ◌⊎◌, arith}
-use Rattle.std.proofs.Math.Nat.{mul-le-mul, pow-suc}
-use Rattle.std.specs.HashMap.{get}
-use Rattle.std.specs.Prelude.{◌↔◌, ◌||◌, ◌&&◌, nat_eq, slice_get}
-use Rattle.std.proofs.lemmas.Bool.{eq-eqb, eqb-true}
-use Rattle.sig_file.specs.Guarded.{IsWrittenBefore, Writes, guarded_in, guards_of}
-use Rattle.sig_file.specs.declared.images.ImageOp.{ImageOp}
-use Rattle.sig_verify.specs.inner.Asking.{AreGood, AreTold, IsGood, IsScene, IsTold, asked, asked_of, choices, guard_at, is_written, target_of}
-use Rattle.sig_verify.specs.inner.Diagrams.{Follows, IsRefusal}
-use Rattle.sig_verify.specs.inner.Known.{IsKnown, IsTakenIn, IsWant, is_target}
-use Rattle.sig_verify.specs.Verifying.{IsBeyondBound}
-use Rattle.sig_verify.specs.Prelude.{Budget, DdAnswer, ImageView, IsImage, NODES, OutOfMemory, Ref, SigId, test, value_at}
-use Rattle.sig_verify.specs.declared.diagrams.Diagrams.{Diagrams}
-use Rattle.sig_verify.specs.declared.verifier.Verifier.{Verifier}
-use Rattle.sig_verify.proofs.Asks.{asked_more, both, both_true}
-use Rattle.sig_verify.specs.declared.walk.Told.{Told}
+use Rattle.sig_verify.proofs.Common.{◌≡◌, ℕ, ◌+◌, ◌*◌, ◌<◌, ◌≤◌, ◌^◌, zero, suc, Bool, true, false, List, length, Option, None, Some, inl, inr, refl, sym, ap, subst, ◌∙◌, ◌⊎◌, arith, mul-le-mul, pow-suc, get, ◌↔◌, ◌||◌, ◌&&◌, nat_eq, slice_get, eq-eqb, eqb-true, IsWrittenBefore, Writes, guarded_in, guards_of, ImageOp, AreGood, AreTold, IsGood, IsScene, IsTold, asked, asked_of, choices, guard_at, is_written, target_of, Follows, IsRefusal, IsKnown, IsTakenIn, IsWant, is_target, IsBeyondBound, Budget, DdAnswer, ImageView, IsImage, NODES, OutOfMemory, Ref, SigId, test, value_at, Diagrams, Verifier, Told, and_from, and_parts, or_left, or_right}
+use Rattle.sig_verify.proofs.Asks.{asked_more}
 use Rattle.sig_verify.proofs.Calls.{for_kept, of_kept, test_kept}
 use Rattle.sig_verify.proofs.GuardNodes.{few_choices}
 use Rattle.sig_verify.proofs.Sound.{at_guarded, before_cases, before_more, before_now, no_target, target_writes, target_written}
@@ -65,15 +51,7 @@ calls_for image is n guard calls lt few =
 
 or_cases : (a b c : Bool) → (a || (b && c)) ≡ true → (a ≡ true) ⊎ ((b ≡ true) × (c ≡ true))
 or_cases true b c h = inl refl
-or_cases false b c h = inr (both b c h)
-
-or_left : (a b : Bool) → a ≡ true → (a || b) ≡ true
-or_left true b h = refl
-or_left false b h = absurd cc
-
-or_right : (a b : Bool) → b ≡ true → (a || b) ≡ true
-or_right true b h = refl
-or_right false b h = h
+or_cases false b c h = inr (and_parts b c h)
 
 -- the target is the signal of its number
 target_is : (o : Option SigId) (x : SigId) → is_target o x.0 ≡ true → o ≡ Some x
@@ -109,7 +87,7 @@ module _ (image : ImageView) (n : ℕ) (op : ImageOp) (at : slice_get image.ops 
         → (is_target o x.0 && test mid.diagrams.store.nodes r truths) ≡ true
     own x truths holds writes None e = absurd (no_target op.kind e x writes)
     own x truths holds writes (Some y) e =
-        both_true (nat_eq y.0 x.0) (test mid.diagrams.store.nodes r truths)
+        and_from (nat_eq y.0 x.0) (test mid.diagrams.store.nodes r truths)
         (eq-eqb y.0 x.0 (sym (ap (λ (z : SigId). z.0) (target_written op.kind y e x writes)))) (is.function.is.function truths ∙ holds)
 
     written_before : (x : SigId) (truths : List Bool) → IsWrittenBefore (guards_of image).ops (n + 1) truths x → is_written new.diagrams.store.nodes new.written x.0 truths ≡ true

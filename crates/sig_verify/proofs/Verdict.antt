@@ -1,22 +1,13 @@
 -- An image is sound, or one of its operations is the first that is not.
-use Rattle.std.proofs.Common.{◌≡◌, ℕ, zero, suc, ◌+◌, ◌<◌, ◌≤◌, List, length, Option, None, Some, ◌⊎◌, inl, inr, refl, sym, subst, ◌∙◌, arith}
-use Rattle.std.proofs.lemmas.Bool.{cases_lt}
-use Rattle.std.specs.Prelude.{slice_get}
-use Rattle.sig_file.specs.Guarded.{Guarded, IsSoundImage, IsSoundOperation, guards_of}
-use Rattle.sig_file.specs.Images.{ImageView}
-use Rattle.sig_verify.specs.inner.Known.{IsSoundAt}
-use Rattle.sig_verify.specs.Verifying.{IsFirstUnsound}
+use Rattle.sig_verify.proofs.Common.{◌≡◌, ℕ, zero, suc, ◌<◌, ◌≤◌, length, Option, None, Some, ◌⊎◌, inl, inr, refl, sym, subst, ◌∙◌, arith, slice_get, Guarded, IsSoundImage, IsSoundOperation, guards_of, ImageView, IsSoundAt, IsFirstUnsound, same_Some}
 use Rattle.sig_verify.proofs.Decided.{Decides, sound_or_not}
 use Rattle.sig_verify.proofs.Found.{all_sound, first_found, one_more}
-
-some_same : {A : Type 0} (x y : A) → Some x ≡ Some y → x ≡ y
-some_same x y e = cc
 
 module _ (image : ImageView) where
   at_option : (n : ℕ) (o : Option Guarded) → slice_get (guards_of image).ops n ≡ o → Decides (IsSoundAt image n)
   at_option n None e = inl (λ op is. let no : None ≡ Some op = sym e ∙ is in absurd cc)
   at_option n (Some op) e = elim (sound_or_not (guards_of image) n op) [
-    | inl sound ↦ inl (λ other is. subst (IsSoundOperation (guards_of image) n) (some_same op other (sym e ∙ is)) sound)
+    | inl sound ↦ inl (λ other is. subst (IsSoundOperation (guards_of image) n) (same_Some op other (sym e ∙ is)) sound)
     | inr fails ↦ inr (λ all. fails (all op e))
   ]
 

@@ -1,16 +1,5 @@
 -- What is told of a node, by what is told of its children.
-use Rattle.std.proofs.Common.{◌≡◌, ℕ, ◌+◌, ◌-◌, ◌*◌, ◌<◌, ◌≤◌, Bool, true, false, List, Some, inl, inr, sym, ap, subst, ◌∙◌, arith}
-use Rattle.std.proofs.lemmas.Bool.{cases_eq}
-use Rattle.std.specs.HashMap.{HashMap}
-use Rattle.std.specs.Prelude.{◌&&◌, if◌then◌else◌, nat_eq, slice_get}
-use Rattle.sig_file.specs.declared.images.ImageNode.{ImageNode}
-use Rattle.sig_verify.specs.inner.Asking.{AreOf, IsTold, all_asked, asked, choices, guard_at}
-use Rattle.sig_verify.specs.inner.Diagrams.{Follows, IsFor, IsRefusal}
-use Rattle.sig_verify.specs.Prelude.{Constant, DdAnswer, Diagram, ImageView, IsImage, Ref, test, truth_of}
-use Rattle.sig_dd.specs.Diagram.{value_at}
-use Rattle.sig_verify.specs.declared.diagrams.Diagrams.{Diagrams}
-use Rattle.sig_verify.specs.declared.walk.Told.{Told}
-use Rattle.sig_verify.proofs.Asks.{both, both_true}
+use Rattle.sig_verify.proofs.Common.{◌≡◌, ℕ, ◌+◌, ◌-◌, ◌*◌, ◌<◌, ◌≤◌, Bool, true, false, List, Some, inl, inr, sym, ap, subst, ◌∙◌, arith, cases_eq, HashMap, ◌&&◌, if◌then◌else◌, nat_eq, slice_get, ImageNode, AreOf, IsTold, all_asked, asked, choices, guard_at, Follows, IsFor, IsRefusal, Constant, DdAnswer, Diagram, ImageView, IsImage, Ref, test, truth_of, value_at, Diagrams, Told, and_from, and_parts}
 use Rattle.sig_verify.proofs.Calls.{for_same}
 use Rattle.sig_verify.proofs.GuardNodes.{guard_choice, guard_false, guard_true}
 use Rattle.sig_verify.proofs.Spent.{follows_more, follows_then, refusal_more, refusal_then}
@@ -116,17 +105,17 @@ module _ (image : ImageView) (is : IsImage image) (n : ℕ) (node : ImageNode) (
 
     own_sure : (ts : List Bool) → test new.store.nodes own.written ts ≡ true → all_asked (asked high image written) (guard_at image n) ts ≡ true
     own_sure ts e =
-        let parts = both (asked high image written node.variable ts) (if truth_of ts node.variable then test high.store.nodes high_told.written ts else test high.store.nodes low_told.written ts)
+        let parts = and_parts (asked high image written node.variable ts) (if truth_of ts node.variable then test high.store.nodes high_told.written ts else test high.store.nodes low_told.written ts)
         (sym (asks.is.function ts) ∙ e) in
-        all_by_children ts ∙ both_true (asked high image written node.variable ts) _ parts.0
+        all_by_children ts ∙ and_from (asked high image written node.variable ts) _ parts.0
         (chosen_more (truth_of ts node.variable) (test high.store.nodes high_told.written ts) (test high.store.nodes low_told.written ts) _ _ (high_is.sure ts) (low_still.sure ts) parts.1)
 
     own_all : exact ≡ true → (ts : List Bool) → all_asked (asked high image written) (guard_at image n) ts ≡ true → test new.store.nodes own.written ts ≡ true
     own_all e ts a =
-        let parts = both (asked high image written node.variable ts)
+        let parts = and_parts (asked high image written node.variable ts)
         (if truth_of ts node.variable then all_asked (asked high image written) (guard_at image node.high) ts else all_asked (asked high image written) (guard_at image node.low) ts)
         (sym (all_by_children ts) ∙ a) in
-        asks.is.function ts ∙ both_true (asked high image written node.variable ts) _ parts.0
+        asks.is.function ts ∙ and_from (asked high image written node.variable ts) _ parts.0
         (chosen_more (truth_of ts node.variable) (all_asked (asked high image written) (guard_at image node.high) ts) (all_asked (asked high image written) (guard_at image node.low) ts) _ _
         (high_is.all e ts) (low_still.all e ts) parts.1)
 

@@ -1,5 +1,5 @@
 -- The command as `clap` builds it, and what its walk over the words stands at between two words.
-use Rattle.sig_words.proofs.Common.{◌≡◌, Bool, true, false, List, [], ◌∷◌, Option, Some, None, codes, refl, is_simple_and_free, settle_fault, Kinds, App, Shape, built, is_simple, Held, Row, Rule, Text, Waiting, Walk, settled_rows, Set, command_line, line_shape, option_rule, pace_rule, plain_rule, OptionName, Workers, Capacity, Instants}
+use Rattle.sig_words.proofs.Common.{◌≡◌, Bool, true, false, List, [], ◌∷◌, Option, Some, None, codes, refl, is_simple_and_free, settle_fault, Kinds, Shape, is_simple, Held, Row, Rule, Text, Waiting, Walk, settled_rows, Set, command_line, line_shape, option_rule, pace_rule, plain_rule, OptionName, Workers, Capacity, Instants}
 use Rattle.clap.specs.declared.builder.value_parser.ValueParser.TheVariants as parser
 
 abbrev pub plain_built : Rule
@@ -29,12 +29,6 @@ rules = plain_built ∷ option_built Workers ∷ option_built Capacity ∷ optio
 
 abbrev pub top : Shape
 top = record line_shape { rules = rules; disable_help_subcommand = true; is_built = true }
-
-abbrev pub built_line : App
-built_line = record { top = top; subs = [] }
-
-pub built_is : built command_line ≡ built_line
-built_is = refl
 
 pub simple : is_simple command_line ≡ true
 simple = refl

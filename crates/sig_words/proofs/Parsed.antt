@@ -1,5 +1,6 @@
 -- What `clap` answers to the words, by what our steps come to.
 use Rattle.sig_words.proofs.Common.{◌≡◌, ◌≢◌, ◌⊎◌, inl, inr, Bool, true, false, ◌||◌, List, [], ◌∷◌, ◌++◌, refl, sym, ap, ◌∙◌, cond, Option, Some, None, subst, codes, fold, find, option_and_then, option_map, slice_get, unwrap_or, AllByRecursion, IsUtf8, bytes_eq, none-some, default_fault, defaults_fault, fault_of, given_default_fault, settle_fault, walk_fault, HasKind, IsAmong, Kinds, or_else, App, matches_of, kind_of, Row, Rule, Text, Walk, all_of, first_of, has_row, idle, is_empty, settled, with_default, with_values, AsWritten, Error, ErrorKind, OutOfMemory, DefaultValue, Shows, command_line, Word, name_of, IsSaid, Said, Workers, Capacity, Instants}
+use Rattle.sig_words.proofs.Common.{or-true}
 use Rattle.sig_words.proofs.Steps.{Any, nothing, run}
 use Rattle.sig_words.proofs.Built.{at, option_built, pace_built, plain_built, rules, top}
 use Rattle.sig_words.proofs.Says.{run_said, said_run}
@@ -28,12 +29,8 @@ all_ends words texts = ends words Any nothing start texts starts
 
 -- ---- the fault
 
-or_true : (b : Bool) → (b || true) ≡ true
-or_true true = refl
-or_true false = refl
-
 no_default : (rows : List Row) (a : Rule) → is_empty a.defaults ≡ true → default_fault rows a ≡ []
-no_default rows a none = rw (none, or_true (has_row a.id rows)) refl
+no_default rows a none = rw (none, or-true (has_row a.id rows)) refl
 
 pace_default : (rows : List Row) → default_fault rows pace_built ≡ []
 pace_default rows = at_row (has_row (codes "pace") rows)

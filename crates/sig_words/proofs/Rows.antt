@@ -2,10 +2,6 @@
 use Rattle.sig_words.proofs.Common.{◌≡◌, Bool, true, false, List, [], ◌∷◌, ◌++◌, refl, sym, ap, cond, Some, None, find, is_some, option_map, slice_get, unwrap_or, AllByRecursion, bytes_eq, none-some, bytes_eq-Decides, Row, Text, all_of, first_of, has_row, one_of, with_values, without, read_as, AsWritten, ValueSource}
 use Rattle.clap.specs.declared.builder.value_parser.Reading.{Reading}
 
--- a row that a new id gets
-abbrev new_row : Text → Reading → ValueSource → List Text → Row
-new_row id how source values = record { id = id; values = values; count = None; source = Some source; reading = how }
-
 same_text : (id : Text) → bytes_eq id id ≡ true
 same_text id = (bytes_eq-Decides id id).1 refl
 

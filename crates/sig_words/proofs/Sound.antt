@@ -1,5 +1,5 @@
 -- What the words are read as is a reading of them.
-use Rattle.sig_words.proofs.Common.{◌≡◌, Bool, true, false, List, [], ◌∷◌, ◌++◌, append_assoc, refl, sym, ap, ◌∙◌, cond, arith, Option, Some, None, eqb, subst, option_to_list, codes, option_map, option_and_then, AllByRecursion, bytes_eq, nat_tests, append-nil, none-some, same_Some, some_pair_parts, bytes_eq-Decides, Word, Plain, Joined, Apart, Pace, Reading, IsReading, is_plain, name_of, HasPlainValue, Said, OptionName, Workers, Capacity, Instants}
+use Rattle.sig_words.proofs.Common.{◌≡◌, Bool, true, false, List, [], ◌∷◌, ◌++◌, append_assoc, refl, sym, ap, ◌∙◌, cond, arith, Option, Some, None, subst, option_to_list, codes, option_map, option_and_then, AllByRecursion, bytes_eq, append-nil, none-some, same_Some, some_pair_parts, bytes_eq-Decides, Word, Plain, Joined, Apart, Pace, Reading, IsReading, is_plain, name_of, HasPlainValue, Said, OptionName, Workers, Capacity, Instants, eqb, nat_tests}
 use Rattle.sig_words.proofs.Steps.{Next, State, any_next, option_said, option_step, or_else, run, said_as, step, value_in_rest, after_front, with_pace, with_option, with_plain, with_value}
 use Rattle.sig_words.proofs.Steps as next
 use Rattle.sig_words.proofs.Fronts.{front_found}

@@ -1,5 +1,6 @@
 -- One turn of the walk of `clap`: what comes of a word, and where the walk stands behind it.
-use Rattle.sig_words.proofs.Common.{◌≡◌, ◌≢◌, ◌&&◌, Bool, true, false, List, [], ◌∷◌, refl, sym, ap, ◌∙◌, Option, Some, None, codes, bytes_eq, other_fault, repeat_fault, step_fault, turn_fault, Kinds, or_else, long_of, short_of, Held, Row, Step, Text, Waiting, after_step, idle, option, positional, subcommand_or_other, used, walked, TooManyValues, UnknownArgument, Word, name_of, OptionName, Workers, Capacity, Instants}
+use Rattle.sig_words.proofs.Common.{◌≡◌, ◌≢◌, Bool, true, false, List, [], ◌∷◌, refl, sym, ap, ◌∙◌, Option, Some, None, codes, bytes_eq, other_fault, repeat_fault, step_fault, turn_fault, Kinds, or_else, long_of, short_of, Held, Row, Step, Text, Waiting, after_step, idle, option, positional, subcommand_or_other, used, walked, TooManyValues, UnknownArgument, Word, name_of, OptionName, Workers, Capacity, Instants}
+use Rattle.sig_words.proofs.Common.{and-false}
 use Rattle.sig_words.proofs.Built.{at, held, option_built, pace_built, pending_fault, rows_settled, rules, top}
 use Rattle.sig_words.proofs.Sound.{option_word}
 use Rattle.sig_words.proofs.WordKinds.{flag_word}
@@ -9,10 +10,6 @@ abbrev pub is_free : Waiting → Bool
 is_free idle = true
 is_free (option id) = false
 is_free positional = true
-
-and_false : (b : Bool) → (b && false) ≡ false
-and_false true = refl
-and_false false = refl
 
 -- a turn where `--` did not stand yet
 abbrev met : Waiting → Word → Held → Held × Step
@@ -36,28 +33,28 @@ open_walk positional pending rows word = refl
 -- behind `--` each word is plain
 pub behind_fault : (waiting : Waiting) (pending : Option (Text × List Text)) (rows : List Row) (word : Word)
     → turn_fault top [] (at true waiting pending rows) word ≡ pending_fault pending rows
-behind_fault waiting pending rows word = rw (and_false _) refl
+behind_fault waiting pending rows word = rw (and-false _) refl
 
 pub behind_walk : (waiting : Waiting) (pending : Option (Text × List Text)) (rows : List Row) (word : Word)
     → walked rules [] (at true waiting pending rows) word ≡ at true positional (Some (codes "words", word ∷ [])) (rows_settled pending rows)
 unfolding walked
-behind_walk waiting pending rows word = rw (and_false _) refl
+behind_walk waiting pending rows word = rw (and-false _) refl
 
 -- a plain word, where no option waits for its value
 pub plain_fault : (waiting : Waiting) (pending : Option (Text × List Text)) (rows : List Row) (word : Word) → is_free waiting ≡ true
     → bytes_eq word (codes "--") ≡ false → long_of word ≡ None → short_of word ≡ None
     → turn_fault top [] (at false waiting pending rows) word ≡ pending_fault pending rows
-plain_fault idle pending rows word free unlike long short = rw (unlike, long, short, and_false _) refl
+plain_fault idle pending rows word free unlike long short = rw (unlike, long, short, and-false _) refl
 plain_fault (option id) pending rows word free unlike long short = cc
-plain_fault positional pending rows word free unlike long short = rw (unlike, long, short, and_false _) refl
+plain_fault positional pending rows word free unlike long short = rw (unlike, long, short, and-false _) refl
 
 pub plain_walk : (waiting : Waiting) (pending : Option (Text × List Text)) (rows : List Row) (word : Word) → is_free waiting ≡ true
     → bytes_eq word (codes "--") ≡ false → long_of word ≡ None → short_of word ≡ None
     → walked rules [] (at false waiting pending rows) word ≡ at false positional (Some (codes "words", word ∷ [])) (rows_settled pending rows)
 unfolding walked
-plain_walk idle pending rows word free unlike long short = rw (unlike, long, short, and_false _) refl
+plain_walk idle pending rows word free unlike long short = rw (unlike, long, short, and-false _) refl
 plain_walk (option id) pending rows word free unlike long short = cc
-plain_walk positional pending rows word free unlike long short = rw (unlike, long, short, and_false _) refl
+plain_walk positional pending rows word free unlike long short = rw (unlike, long, short, and-false _) refl
 
 -- a plain word that is the value of an option
 pub value_fault : (name : OptionName) (rows : List Row) (word : Word)

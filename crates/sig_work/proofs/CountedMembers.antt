@@ -77,12 +77,6 @@ share_counts k number share m at is =
     let most = item_counts (one_if k) share.members.items number m at in
     omega (arith, one, most)
 
-pub member_counts : (shares : List Share) (k : ℕ) (m : Member) → IsAmong shares k m → 1 ≤ times k shares
-member_counts shares k m one =
-    let here = share_counts k one.number one.share m one.is one.numbered in
-    let most = item_counts (times_in k) shares one.at one.share one.there in
-    omega (arith, here, most)
-
 -- where it is counted once, it stands at one place
 module _ (shares : List Share) (k : ℕ) (most : times k shares ≤ 1) (a b : Member) (one : IsAmong shares k a) (other : IsAmong shares k b) where
   pub same_share : one.at ≡ other.at

@@ -1,17 +1,10 @@
 -- Actors that were dealt to shares.
-use Rattle.sig_work.proofs.Common.{◌≡◌, ◌<◌, ◌≤◌, ◌+◌, ◌-◌, ◌*◌, ◌/◌, ◌%◌, ◌++◌, ◌∙◌, inl, inr, ℕ, zero, suc, ℤ, Bool, true, false, cond, List, [], ◌∷◌, length, refl, ap, sym, subst, arith, None, Option, Some, min, slice_get, sum_by, vec_capacity, ◌==◌, ◌||◌, eq-eqb, eqb-true, mod-eq_of_lt, mul_comm, length-append, sum_by-cons, sum_by_push, no_place, get_within, IsSeatOf, halt_parts, parts, recorded, seen, Halt, HaltSeat, OfOneLink, Put, Take, some_at, same_or_not, Actor, opening_actor, Given, Reaction, IsAccepted, PlanView, opening_own, IsStateOf, actor_of, place_of, ClusterState, same_Some, IsAmong, times, times_in, AreHandedFrom, AreJoined, AreNumbered, AreOpened, AreSeated, HasGiven, IsOpened, IsSameBare, share_for, HasEnds, HasNoEnds, sent_by, sent_of, taken_by, taken_of, AreDealt, IsFresh, IsShareOf, is_collector, EndsWith, HasDone, IsBehindSeen, IsMember, before_stop, commits_of, failure_in, own_of, word_of, AreServing, least_failed, Member, Share}
+use Rattle.sig_work.proofs.Common.{◌≡◌, ◌<◌, ◌≤◌, ◌+◌, ◌-◌, ◌*◌, ◌/◌, ◌%◌, ◌++◌, ◌∙◌, inl, inr, ℕ, zero, suc, ℤ, Bool, true, false, cond, List, [], ◌∷◌, length, refl, ap, sym, subst, arith, None, Option, Some, min, slice_get, sum_by, vec_capacity, ◌==◌, ◌||◌, eq-eqb, eqb-true, mod-eq_of_lt, mul_comm, length-append, sum_by-cons, sum_by_push, no_place, IsSeatOf, halt_parts, parts, recorded, seen, Halt, HaltSeat, OfOneLink, Put, Take, Actor, opening_actor, Given, Reaction, IsAccepted, PlanView, opening_own, IsStateOf, actor_of, place_of, ClusterState, same_Some, IsAmong, times, times_in, AreHandedFrom, AreJoined, AreNumbered, AreOpened, AreSeated, HasGiven, IsOpened, IsSameBare, share_for, HasEnds, HasNoEnds, sent_by, sent_of, taken_by, taken_of, AreDealt, IsFresh, IsShareOf, is_collector, EndsWith, HasDone, IsBehindSeen, IsMember, before_stop, commits_of, failure_in, own_of, word_of, AreServing, least_failed, Member, Share, slice_get_within, some_at, cases_eq}
 use Rattle.sig_work.proofs.GivenMembers.{placed_here, seats_here, times_here, times_others}
 use Rattle.sig_work.proofs.WhatIsLeft.{same_sums}
 use Rattle.sig_work.proofs.ItemInPlace.{get_more}
 
 -- ---- opening
-
-pub opened_none : (plan : PlanView) (flows : List (List ℤ)) (limit : ℕ) → AreOpened plan flows limit 0 []
-opened_none plan flows limit = record {
-  count_is = refl;
-  each = λ k m is. absurd (let e : None ≡ Some m = is in cc);
-  ends = λ k m is. absurd (let e : None ≡ Some m = is in cc);
-}
 
 pub opened_more : (plan : PlanView) (flows : List (List ℤ)) (limit n : ℕ) (members : List Member) (m : Member) → AreOpened plan flows limit n members
     → IsOpened plan flows limit n m → HasNoEnds (length plan.links) m.ends → AreOpened plan flows limit (n + 1) (members ++ m ∷ [])
@@ -43,13 +36,13 @@ joined_none plan flows limit count capacity members opened = record {
           puts = none.puts;
           takes = none.takes;
           sent_none = λ j. sent_nothing (slice_get m.ends.puts.items j) (λ put at. (
-              let lt = get_within m.ends.puts.items j (Some put) at in
+              let lt = slice_get_within m.ends.puts.items j (Some put) at in
               let count_puts = none.puts in
               let e : Some (Some put) ≡ Some None = sym at ∙ none.no_put j (omega (arith, lt, count_puts)) in
               let clash : Some put ≡ None = same_Some (Some put) None e in
               cc));
           taken_none = λ j. taken_nothing (slice_get m.ends.takes.items j) (λ take at. (
-              let lt = get_within m.ends.takes.items j (Some take) at in
+              let lt = slice_get_within m.ends.takes.items j (Some take) at in
               let count_takes = none.takes in
               let e : Some (Some take) ≡ Some None = sym at ∙ none.no_take j (omega (arith, lt, count_takes)) in
               let clash : Some take ≡ None = same_Some (Some take) None e in
@@ -69,15 +62,6 @@ joined_none plan flows limit count capacity members opened = record {
   taken_nothing (Some (Some take)) none = absurd (none take refl)
 
 -- ---- seats
-
-pub seated_none : (word : Halt) (room : ℕ) → AreSeated word 0 room []
-seated_none word room = record {
-  count_is = refl;
-  none = λ at share there. absurd (let e : None ≡ Some share = there in cc);
-  room_is = λ at share there. absurd (let e : None ≡ Some share = there in cc);
-  seat = λ at share there. absurd (let e : None ≡ Some share = there in cc);
-  parts_are = refl;
-}
 
 pub seated_more : (word : Halt) (n room : ℕ) (shares : List Share) (share : Share) → AreSeated word n room shares → share.members.items ≡ [] → room ≤ vec_capacity share.members
     → IsSeatOf word share.seat → recorded share.seat ≡ no_place → parts share.seat ≡ 1 → AreSeated word (n + 1) room (shares ++ share ∷ [])
@@ -116,7 +100,7 @@ module _ (members : List Member) (numbered : AreNumbered members) (old now new :
               let y = second.each i x.0 x.1 in
               (y.0, y.1, y.2 ∙ x.2));
         });
-    once = λ k from below. elim (same_or_not k n) [
+    once = λ k from below. elim (cases_eq k n) [
       | inl same ↦ times_here now new at m given lt k (number_is ∙ sym same) ∙ ap (λ i. i + 1) (handed.others k (inl (omega (arith, same))))
       | inr apart ↦ times_others now new at m given lt k (λ is. apart (sym is ∙ number_is)) ∙ handed.once k (omega (arith, from, apart)) below
     ];
@@ -159,7 +143,7 @@ cluster_stands given workers k zero is below at at_is =
     inl (omega (arith, is, below), at_is ∙ share_of_none (length given.plan.codes - 1) k)
 cluster_stands given workers k (suc s) is below at at_is =
     let rest : at ≡ k % suc s = at_is ∙ share_of_some s (length given.plan.codes - 1) k (λ e. omega (arith, e, below)) in
-    elim (same_or_not (suc s) workers) [
+    elim (cases_eq (suc s) workers) [
       | inl same ↦ inr (
         k / suc s,
         omega (arith, rest, same),
@@ -221,7 +205,7 @@ module _ (given : Given) (accepted : IsAccepted given.plan) (zeroth members : Li
   bare_of : (k : ℕ) (m : Member) → slice_get members k ≡ Some m → (b : Member) × IsOpened given.plan given.flows given.limit k b × IsSameBare (length given.plan.links) b m
   bare_of k m is =
       let many = joined.count in
-      let b = some_at zeroth k (let lt = get_within members k m is in omega (arith, lt, many)) in
+      let b = some_at zeroth k (let lt = slice_get_within members k m is in omega (arith, lt, many)) in
       let found = joined.each k b.0 b.1 in
       (b.0, opened.each k b.0 b.1, subst (λ (x : Member). IsSameBare (length given.plan.links) b.0 x) (same_Some found.0 m (sym found.1 ∙ is)) found.2)
 
@@ -252,11 +236,11 @@ module _ (given : Given) (accepted : IsAccepted given.plan) (zeroth members : Li
       puts = b.2.puts;
       takes = b.2.takes;
       writes = λ link info at writer. (
-          let j = joined.joined link info (get_within given.plan.links link info at) at in
+          let j = joined.joined link info (slice_get_within given.plan.links link info at) at in
           let same : j.writer ≡ m = same_Some j.writer m (sym j.writes ∙ ap (slice_get members) writer ∙ is) in
           (j.put, ap (λ (x : Member). slice_get x.ends.puts.items link) (sym same) ∙ j.has_put, j.capacity_is));
       reads = λ link info at reader. (
-          let j = joined.joined link info (get_within given.plan.links link info at) at in
+          let j = joined.joined link info (slice_get_within given.plan.links link info at) at in
           let same : j.reader ≡ m = same_Some j.reader m (sym j.reads ∙ ap (slice_get members) reader ∙ is) in
           (j.take, ap (λ (x : Member). slice_get x.ends.takes.items link) (sym same) ∙ j.has_take));
     }
@@ -267,7 +251,7 @@ module _ (given : Given) (accepted : IsAccepted given.plan) (zeroth members : Li
     is_member : IsMember given m.number m
     is_member = record {
       numbered = refl;
-      there = (let lt = get_within members k m is in let same = count_is in let number = its_number in omega (arith, lt, same, number));
+      there = (let lt = slice_get_within members k m is in let same = count_is in let number = its_number in omega (arith, lt, same, number));
       state = subst (λ (s : ClusterState). IsStateOf given.plan given.flows s) (sym state_is) b.1.state;
       actor = ap (λ (s : ClusterState). s.actor) state_is ∙ b.1.actor ∙ sym its_number;
       limit = ap (λ (s : ClusterState). s.limit) state_is ∙ b.1.limit_is;
@@ -316,7 +300,7 @@ module _ (given : Given) (accepted : IsAccepted given.plan) (zeroth members : Li
     seat_of : (at : ℕ) (share : Share) → slice_get shares at ≡ Some share → (e : Share) × (slice_get empty at ≡ Some e) × (share.seat ≡ e.seat)
     seat_of at share there =
         let many = handed.seats.count in
-        let e = some_at empty at (let lt = get_within shares at share there in omega (arith, lt, many)) in
+        let e = some_at empty at (let lt = slice_get_within shares at share there in omega (arith, lt, many)) in
         let found = handed.seats.each at e.0 e.1 in
         (e.0, e.1, ap (λ (s : Share). s.seat) (same_Some share found.0 (sym there ∙ found.1)) ∙ found.2)
 
@@ -343,7 +327,7 @@ module _ (given : Given) (accepted : IsAccepted given.plan) (zeroth members : Li
             let none = times_none k empty seated.none in
             omega (arith, more, none));
         linked = λ link info at w one r two put take is_put is_take. (
-            let j = joined.joined link info (get_within given.plan.links link info at) at in
+            let j = joined.joined link info (slice_get_within given.plan.links link info at) at in
             let w_is : j.writer ≡ w = same_Some j.writer w (sym j.writes ∙ among_is info.writer w one) in
             let r_is : j.reader ≡ r = same_Some j.reader r (sym j.reads ∙ among_is info.reader r two) in
             let put_is : Some j.put ≡ Some put = same_Some (Some j.put) (Some put) (sym j.has_put ∙ ap (λ (x : Member). slice_get x.ends.puts.items link) w_is ∙ is_put) in

@@ -1,12 +1,5 @@
 -- The ends of an actor, with one of them changed.
-use Rattle.sig_work.proofs.Common.{◌≡◌, ◌<◌, ◌≤◌, ◌+◌, ◌++◌, inl, inr, ℕ, zero, suc, ℤ, Bool, true, false, cond, List, [], ◌∷◌, length, get_or, set, Result, Ok, Err, refl, ap, sym, subst, ◌∙◌, arith, Contains, IfNone, IfSome, None, OnErr, OnOk, Option, Some, slice_get, filter, range_with_len, length-set, contains_cons, contains_head, contains_later, contains_none, get_at, get_within, put_capacity, put_link, sent, FoundEmpty, FoundFull, take_link, taken, Put, Take, same_or_not, Full, set_here, PastGoesOn, asked_to_pop, asked_to_push, AreSameEnds, HasFoundEmpty, HasFoundFull, has_put, has_take, past_of, puts_of, sent_by, sent_of, taken_by, taken_of, takes_of, LinkEnds}
-
-pub set_apart : {A : Type 0} (xs : List A) (k : ℕ) (x : A) (m : ℕ) → ((m ≡ k) → ⊥) → slice_get (set xs k x) m ≡ slice_get xs m
-set_apart {A} [] k x m apart = refl
-set_apart {A} (y ∷ xs) zero x zero apart = absurd (apart refl)
-set_apart {A} (y ∷ xs) zero x (suc m) apart = refl
-set_apart {A} (y ∷ xs) (suc k) x zero apart = refl
-set_apart {A} (y ∷ xs) (suc k) x (suc m) apart = set_apart xs k x m (λ e. apart (ap suc e))
+use Rattle.sig_work.proofs.Common.{◌≡◌, ◌<◌, ◌≤◌, ◌+◌, ◌++◌, inl, inr, ℕ, zero, suc, ℤ, Bool, true, false, cond, List, [], ◌∷◌, length, get_or, set, Result, Ok, Err, refl, ap, sym, subst, ◌∙◌, arith, Contains, IfNone, IfSome, None, OnErr, OnOk, Option, Some, slice_get, filter, range_with_len, length-set, put_capacity, put_link, sent, FoundEmpty, FoundFull, take_link, taken, Put, Take, Full, PastGoesOn, asked_to_pop, asked_to_push, AreSameEnds, HasFoundEmpty, HasFoundFull, has_put, has_take, past_of, puts_of, sent_by, sent_of, taken_by, taken_of, takes_of, LinkEnds, get_set_other, set_here, in_filter, contains_cons, contains_head, contains_later, contains_none, slice_get-get_or, slice_get_within, cases_eq}
 
 -- what a filter keeps
 of_filter : {A : Type 0} (p : A → Bool) (xs : List A) (x : A) → Contains (filter p xs) x → p x ≡ true
@@ -16,19 +9,9 @@ of_filter {A} p (y ∷ xs) x there = by (p y) refl (of_filter p xs x) there wher
   by true is rest inside = elim (contains_cons y x (filter p xs) inside) [ inl same ↦ ap p same ∙ is | inr later ↦ rest later ]
   by false is rest inside = rest inside
 
-in_filter : {A : Type 0} (p : A → Bool) (xs : List A) (x : A) → Contains xs x → p x ≡ true → Contains (filter p xs) x
-in_filter {A} p [] x there is = absurd (contains_none x there)
-in_filter {A} p (y ∷ xs) x there is = elim (contains_cons y x xs there) [
-  | inl same ↦ subst (λ b. Contains (cond b (y ∷ filter p xs) (filter p xs)) x) (sym (ap p (sym same) ∙ is)) (subst (λ (z : A). Contains (z ∷ filter p xs) x) same (contains_head x (filter p xs)))
-  | inr later ↦ by (p y) (in_filter p xs x later is)
-] where
-  by : (b : Bool) → Contains (filter p xs) x → Contains (cond b (y ∷ filter p xs) (filter p xs)) x
-  by true inside = contains_later y x (filter p xs) inside
-  by false inside = inside
-
 in_range : (a n j : ℕ) → a ≤ j → j < a + n → Contains (range_with_len a n) j
 in_range a zero j le lt = absurd (omega (arith, le, lt))
-in_range a (suc n) j le lt = elim (same_or_not j a) [
+in_range a (suc n) j le lt = elim (cases_eq j a) [
   | inl same ↦ subst (λ i. Contains (i ∷ range_with_len (a + 1) n) j) same (contains_head j (range_with_len (a + 1) n))
   | inr apart ↦ contains_later a j (range_with_len (a + 1) n) (in_range (a + 1) n j (omega (arith, le, apart)) (omega (arith, lt)))
 ]
@@ -61,11 +44,11 @@ take_there ends link there = some_take (slice_get ends.takes.items link) (of_fil
 
 pub there_put : (ends : LinkEnds) (link : ℕ) (put : Put) → slice_get ends.puts.items link ≡ Some (Some put) → Contains (puts_of ends) link
 there_put ends link put is =
-    in_filter (λ j. has_put (slice_get ends.puts.items j)) (range_with_len 0 (length ends.puts.items)) link (in_range 0 (length ends.puts.items) link (omega arith) (let lt = get_within ends.puts.items link (Some put) is in omega (arith, lt))) (ap has_put is)
+    in_filter (λ j. has_put (slice_get ends.puts.items j)) (range_with_len 0 (length ends.puts.items)) link (in_range 0 (length ends.puts.items) link (omega arith) (let lt = slice_get_within ends.puts.items link (Some put) is in omega (arith, lt))) (ap has_put is)
 
 pub there_take : (ends : LinkEnds) (link : ℕ) (take : Take) → slice_get ends.takes.items link ≡ Some (Some take) → Contains (takes_of ends) link
 there_take ends link take is =
-    in_filter (λ j. has_take (slice_get ends.takes.items j)) (range_with_len 0 (length ends.takes.items)) link (in_range 0 (length ends.takes.items) link (omega arith) (let lt = get_within ends.takes.items link (Some take) is in omega (arith, lt))) (ap has_take is)
+    in_filter (λ j. has_take (slice_get ends.takes.items j)) (range_with_len 0 (length ends.takes.items)) link (in_range 0 (length ends.takes.items) link (omega arith) (let lt = slice_get_within ends.takes.items link (Some take) is in omega (arith, lt))) (ap has_take is)
 
 -- ---- one end changed
 
@@ -77,7 +60,7 @@ module _ (puts : List (Option Put)) (link : ℕ) (old new : Put) (at : slice_get
   at_link = set_here puts link (Some new) (Some old) at
 
   pub put_sent : (j : ℕ) → ((j ≡ link) → ⊥) → sent_by (slice_get after j) ≡ sent_by (slice_get puts j)
-  put_sent j apart = ap sent_by (set_apart puts link (Some new) j apart)
+  put_sent j apart = ap sent_by (get_set_other puts link j (Some new) apart)
 
   pub put_sends : sent_by (slice_get after link) ≡ sent new
   put_sends = ap sent_by at_link
@@ -87,19 +70,19 @@ module _ (puts : List (Option Put)) (link : ℕ) (old new : Put) (at : slice_get
 
   pub puts_stay : filter (λ j. has_put (slice_get after j)) (range_with_len 0 (length after)) ≡ filter (λ j. has_put (slice_get puts j)) (range_with_len 0 (length puts))
   puts_stay = filter_alike (λ j. has_put (slice_get after j)) (λ j. has_put (slice_get puts j)) (length after) (length puts) (length-set puts link (Some new))
-      (λ j. elim (same_or_not j link) [
+      (λ j. elim (cases_eq j link) [
         | inl same ↦ ap (λ i. has_put (slice_get after i)) same ∙ ap has_put at_link ∙ sym (ap has_put at) ∙ ap (λ i. has_put (slice_get puts i)) (sym same)
-        | inr apart ↦ ap has_put (set_apart puts link (Some new) j apart)
+        | inr apart ↦ ap has_put (get_set_other puts link j (Some new) apart)
       ])
 
   pub put_same : put_link new ≡ put_link old → put_capacity new ≡ put_capacity old → (j : ℕ) (before : Put) → slice_get puts j ≡ Some (Some before)
       → (p : Put) × (slice_get after j ≡ Some (Some p)) × (put_link p ≡ put_link before) × (put_capacity p ≡ put_capacity before)
-  put_same same_link same_capacity j before is = elim (same_or_not j link) [
+  put_same same_link same_capacity j before is = elim (cases_eq j link) [
     | inl same ↦
         let e : Some (Some old) ≡ Some (Some before) = sym at ∙ ap (slice_get puts) (sym same) ∙ is in
         let one : old ≡ before = cc in
         (new, ap (slice_get after) same ∙ at_link, same_link ∙ ap put_link one, same_capacity ∙ ap put_capacity one)
-    | inr apart ↦ (before, set_apart puts link (Some new) j apart ∙ is, refl, refl)
+    | inr apart ↦ (before, get_set_other puts link j (Some new) apart ∙ is, refl, refl)
   ]
 
 module _ (takes : List (Option Take)) (link : ℕ) (old new : Take) (at : slice_get takes link ≡ Some (Some old)) where
@@ -110,7 +93,7 @@ module _ (takes : List (Option Take)) (link : ℕ) (old new : Take) (at : slice_
   at_take = set_here takes link (Some new) (Some old) at
 
   pub take_stays : (j : ℕ) → ((j ≡ link) → ⊥) → taken_by (slice_get after_take j) ≡ taken_by (slice_get takes j)
-  take_stays j apart = ap taken_by (set_apart takes link (Some new) j apart)
+  take_stays j apart = ap taken_by (get_set_other takes link j (Some new) apart)
 
   pub take_takes : taken_by (slice_get after_take link) ≡ taken new
   take_takes = ap taken_by at_take
@@ -120,40 +103,40 @@ module _ (takes : List (Option Take)) (link : ℕ) (old new : Take) (at : slice_
 
   pub takes_stay : filter (λ j. has_take (slice_get after_take j)) (range_with_len 0 (length after_take)) ≡ filter (λ j. has_take (slice_get takes j)) (range_with_len 0 (length takes))
   takes_stay = filter_alike (λ j. has_take (slice_get after_take j)) (λ j. has_take (slice_get takes j)) (length after_take) (length takes) (length-set takes link (Some new))
-      (λ j. elim (same_or_not j link) [
+      (λ j. elim (cases_eq j link) [
         | inl same ↦ ap (λ i. has_take (slice_get after_take i)) same ∙ ap has_take at_take ∙ sym (ap has_take at) ∙ ap (λ i. has_take (slice_get takes i)) (sym same)
-        | inr apart ↦ ap has_take (set_apart takes link (Some new) j apart)
+        | inr apart ↦ ap has_take (get_set_other takes link j (Some new) apart)
       ])
 
   pub take_same : take_link new ≡ take_link old → (j : ℕ) (before : Take) → slice_get takes j ≡ Some (Some before)
       → (p : Take) × (slice_get after_take j ≡ Some (Some p)) × (take_link p ≡ take_link before)
-  take_same same_link j before is = elim (same_or_not j link) [
+  take_same same_link j before is = elim (cases_eq j link) [
     | inl same ↦
         let e : Some (Some old) ≡ Some (Some before) = sym at ∙ ap (slice_get takes) (sym same) ∙ is in
         let one : old ≡ before = cc in
         (new, ap (slice_get after_take) same ∙ at_take, same_link ∙ ap take_link one)
-    | inr apart ↦ (before, set_apart takes link (Some new) j apart ∙ is, refl)
+    | inr apart ↦ (before, get_set_other takes link j (Some new) apart ∙ is, refl)
   ]
 
 -- ---- what a call leaves of the past
 
 place_is : {A : Type 0} (items : List A) (link : ℕ) (o x : A) → link < length items → o ≡ get_or items link o → o ≡ x → slice_get items link ≡ Some x
-place_is {A} items link o x lt value is = get_at items link o lt ∙ ap Some (sym value ∙ is)
+place_is {A} items link o x lt value is = slice_get-get_or items link o lt ∙ ap Some (sym value ∙ is)
 
 pub put_is : (ends : LinkEnds) (link : ℕ) (o : Option Put) (put : Put) → Contains (puts_of ends) link → o ≡ get_or ends.puts.items link o → o ≡ Some put → slice_get ends.puts.items link ≡ Some (Some put)
 put_is ends link o put there value is =
     let found = put_there ends link there in
-    place_is ends.puts.items link o (Some put) (get_within ends.puts.items link (Some found.0) found.1) value is
+    place_is ends.puts.items link o (Some put) (slice_get_within ends.puts.items link (Some found.0) found.1) value is
 
 pub take_is : (ends : LinkEnds) (link : ℕ) (o : Option Take) (take : Take) → Contains (takes_of ends) link → o ≡ get_or ends.takes.items link o → o ≡ Some take → slice_get ends.takes.items link ≡ Some (Some take)
 take_is ends link o take there value is =
     let found = take_there ends link there in
-    place_is ends.takes.items link o (Some take) (get_within ends.takes.items link (Some found.0) found.1) value is
+    place_is ends.takes.items link o (Some take) (slice_get_within ends.takes.items link (Some found.0) found.1) value is
 
 pub put_never_none : (ends : LinkEnds) (link : ℕ) (o : Option Put) → Contains (puts_of ends) link → o ≡ get_or ends.puts.items link o → o ≡ None → ⊥
 put_never_none ends link o there value none =
     let found = put_there ends link there in
-    let e : Some (Some found.0) ≡ Some o = sym found.1 ∙ place_is ends.puts.items link o o (get_within ends.puts.items link (Some found.0) found.1) value refl in
+    let e : Some (Some found.0) ≡ Some o = sym found.1 ∙ place_is ends.puts.items link o o (slice_get_within ends.puts.items link (Some found.0) found.1) value refl in
     let f : Some found.0 ≡ o = cc in
     let g : Some found.0 ≡ None = f ∙ none in
     cc
@@ -161,7 +144,7 @@ put_never_none ends link o there value none =
 pub take_never_none : (ends : LinkEnds) (link : ℕ) (o : Option Take) → Contains (takes_of ends) link → o ≡ get_or ends.takes.items link o → o ≡ None → ⊥
 take_never_none ends link o there value none =
     let found = take_there ends link there in
-    let e : Some (Some found.0) ≡ Some o = sym found.1 ∙ place_is ends.takes.items link o o (get_within ends.takes.items link (Some found.0) found.1) value refl in
+    let e : Some (Some found.0) ≡ Some o = sym found.1 ∙ place_is ends.takes.items link o o (slice_get_within ends.takes.items link (Some found.0) found.1) value refl in
     let f : Some found.0 ≡ o = cc in
     let g : Some found.0 ≡ None = f ∙ none in
     cc
@@ -184,7 +167,7 @@ module _ (ends later : LinkEnds) (link : ℕ) (old new : Put) (at : slice_get en
     past_at link (sent_of ends link ++ item ∷ []) (sent_at link ∙ put_sends ends.puts.items link old new at ∙ more ∙ ap (λ (xs : List ℤ). xs ++ item ∷ []) (sym (put_had ends.puts.items link old new at))),
     λ j apart. other_stays j apart,
   )
-  asked_push {U} item (Err full) more same = λ j. elim (same_or_not j link) [
+  asked_push {U} item (Err full) more same = λ j. elim (cases_eq j link) [
     | inl is ↦ subst (λ i. past_of later i ≡ past_of ends i) (sym is) (past_at link (sent_of ends link) (sent_at link ∙ put_sends ends.puts.items link old new at ∙ same ∙ sym (put_had ends.puts.items link old new at)))
     | inr apart ↦ other_stays j apart
   ]
@@ -201,9 +184,6 @@ module _ (ends later : LinkEnds) (link : ℕ) (old new : Put) (at : slice_get en
 
   pub pushed_puts : puts_of later ≡ puts_of ends
   pushed_puts = ap (λ (xs : List (Option Put)). filter (λ j. has_put (slice_get xs j)) (range_with_len 0 (length xs))) puts_are ∙ puts_stay ends.puts.items link old new at
-
-  pub pushed_takes : takes_of later ≡ takes_of ends
-  pushed_takes = ap (λ ts. filter (λ j. has_take (slice_get ts.items j)) (range_with_len 0 (length ts.items))) takes_are
 
 module _ (ends later : LinkEnds) (link : ℕ) (old new : Take) (at : slice_get ends.takes.items link ≡ Some (Some old)) (takes_are : later.takes.items ≡ set ends.takes.items link (Some new)) (puts_are : later.puts ≡ ends.puts) where
   taken_there : (j : ℕ) → taken_of later j ≡ taken_by (slice_get (set ends.takes.items link (Some new)) j)
@@ -223,7 +203,7 @@ module _ (ends later : LinkEnds) (link : ℕ) (old new : Take) (at : slice_get e
     past_there link (taken_of ends link ++ x ∷ []) (taken_there link ∙ take_takes ends.takes.items link old new at ∙ more ∙ ap (λ (xs : List ℤ). xs ++ x ∷ []) (sym (take_had ends.takes.items link old new at))),
     λ j apart. other_there j apart,
   )
-  asked_pop None more same = λ j. elim (same_or_not j link) [
+  asked_pop None more same = λ j. elim (cases_eq j link) [
     | inl is ↦ subst (λ i. past_of later i ≡ past_of ends i) (sym is) (past_there link (taken_of ends link) (taken_there link ∙ take_takes ends.takes.items link old new at ∙ same ∙ sym (take_had ends.takes.items link old new at)))
     | inr apart ↦ other_there j apart
   ]
@@ -240,9 +220,6 @@ module _ (ends later : LinkEnds) (link : ℕ) (old new : Take) (at : slice_get e
 
   pub popped_takes : takes_of later ≡ takes_of ends
   popped_takes = ap (λ (xs : List (Option Take)). filter (λ j. has_take (slice_get xs j)) (range_with_len 0 (length xs))) takes_are ∙ takes_stay ends.takes.items link old new at
-
-  pub popped_puts : puts_of later ≡ puts_of ends
-  popped_puts = ap (λ ps. filter (λ j. has_put (slice_get ps.items j)) (range_with_len 0 (length ps.items))) puts_are
 
 -- ---- a link that was found full, or empty
 

@@ -110,10 +110,3 @@ module _ (a b : Place) where
     by : (c : Bool) → is_before a b ≡ c → c ≡ false
     by false is = refl
     by true is = let less = before_packed fits is in absurd (omega (arith, most, less))
-
-  -- one word packs one place
-  pub packed_once : a.pos < 2 ^ 32 → b.pos < 2 ^ 32 → packed a ≡ packed b → a ≡ b
-  packed_once fits_a fits_b same =
-      let instant : a.instant ≡ b.instant = omega (arith, same, fits_a, fits_b) in
-      let pos : a.pos ≡ b.pos = omega (arith, same, instant) in
-      ap (λ n. let c : Place = record { instant = n; pos = a.pos } in c) instant ∙ ap (λ n. let c : Place = record { instant = b.instant; pos = n } in c) pos

@@ -1,5 +1,5 @@
 -- Shares that were served to their end hold a finished state.
-use Rattle.sig_work.proofs.Common.{◌≡◌, ◌<◌, ◌≤◌, ◌-◌, ◌+◌, ◌++◌, ◌^◌, ◌∙◌, ◌⊎◌, inl, inr, ℕ, suc, ℤ, true, false, List, [], ◌∷◌, length, take, refl, ap, sym, subst, arith, None, Option, Some, min, slice_get, slice_index_or, length-map, length-take, no_place, packed, Instant, Trace, seen_at, Place, seen, Halt, get_within, some_at, fitting, at_most_or, some_reference, Actor, code_of, ended_at, next_place, position_of, Core, Given, IsFinished, after, cause_of, word_before, IsOnReference, reactions_of, IsReference, Reaction, reaction_in, Event, IsAccepted, Cause, after_has_end, after_on, Own, ActInOrder, AreSettled, HasEndedBy, LeadBy, LookBehind, acts_then_looks, opening_own, times_among, IsLeastFailure, collector_of, actor_of, place_of, same_Some, instant_of, IsAmong, taken_of, AreDone, AreTogether, HoldFinished, IsEndOfRun, EndsWith, HasDone, IsBehindSeen, before_stop, commits_of, failure_in, own_of, word_of, AreSettledBelow, least_failed, HasActors, IsClosed, IsLeastWord, IsWord, NamesCause, Ending, Failed, Looked, AtLimit, Faulted, Member, Share}
+use Rattle.sig_work.proofs.Common.{◌≡◌, ◌<◌, ◌≤◌, ◌-◌, ◌+◌, ◌++◌, ◌^◌, ◌∙◌, ◌⊎◌, inl, inr, ℕ, suc, ℤ, true, false, List, [], ◌∷◌, length, take, refl, ap, sym, subst, arith, None, Option, Some, min, slice_get, slice_index_or, length-map, length-take, no_place, packed, Instant, Trace, seen_at, Place, seen, Halt, fitting, at_most_or, some_reference, Actor, code_of, ended_at, next_place, position_of, Core, Given, IsFinished, after, cause_of, word_before, IsOnReference, reactions_of, IsReference, Reaction, reaction_in, Event, IsAccepted, Cause, after_has_end, after_on, Own, ActInOrder, AreSettled, HasEndedBy, LeadBy, LookBehind, acts_then_looks, opening_own, times_among, IsLeastFailure, collector_of, actor_of, place_of, same_Some, instant_of, IsAmong, taken_of, AreDone, AreTogether, HoldFinished, IsEndOfRun, EndsWith, HasDone, IsBehindSeen, before_stop, commits_of, failure_in, own_of, word_of, AreSettledBelow, least_failed, HasActors, IsClosed, IsLeastWord, IsWord, NamesCause, Ending, Failed, Looked, AtLimit, Faulted, Member, Share, slice_get_within, some_at}
 use Rattle.sig_plan.specs.declared.ended.Ended.{Ended}
 use Rattle.sig_work.proofs.ChoicesBelow.{chosen}
 use Rattle.sig_work.proofs.FailedActors.{not_before, own_failed, packed_before}
@@ -218,7 +218,7 @@ module _ (given : Given) (accepted : IsAccepted given.plan) (committed : List Re
     count = all_actors.1;
     each = λ k b at. (
         let same = all_actors.1 in
-        let lt = get_within all_actors.0 k b at in
+        let lt = slice_get_within all_actors.0 k b at in
         let f = found k (omega (arith, lt, same)) in
         subst (λ (x : Actor). HasEndedBy place (code_of given.plan k) (mine k) x) (sym (all_actors.2 k b at f.0 f.1)) (has_ended_by k f.0 f.1));
   }

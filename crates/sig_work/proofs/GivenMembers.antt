@@ -1,5 +1,5 @@
 -- Members that are given to shares, one after another.
-use Rattle.sig_work.proofs.Common.{◌≡◌, ◌<◌, ◌≤◌, ◌+◌, ◌++◌, ◌∙◌, ◌⊎◌, inl, inr, ℕ, zero, suc, Bool, true, false, cond, List, [], ◌∷◌, length, set, refl, ap, sym, subst, arith, None, Some, slice_get, sum_by, vec_capacity, ◌==◌, eq-eqb, eqb-true, length-set, length-append, sum_by-cons, sum_by_push, some_at, same_or_not, set_here, same_Some, times, times_in, HasGiven, HaveRoom, HaveSameSeats, Member, Share}
+use Rattle.sig_work.proofs.Common.{◌≡◌, ◌<◌, ◌≤◌, ◌+◌, ◌++◌, ◌∙◌, ◌⊎◌, inl, inr, ℕ, zero, suc, Bool, true, false, cond, List, [], ◌∷◌, length, set, refl, ap, sym, subst, arith, None, Some, slice_get, sum_by, vec_capacity, ◌==◌, eq-eqb, eqb-true, length-set, length-append, sum_by-cons, sum_by_push, same_Some, times, times_in, HasGiven, HaveRoom, HaveSameSeats, Member, Share, some_at, cases_eq, set_here}
 use Rattle.sig_work.proofs.ItemInPlace.{get_more, set_apart}
 
 -- one share got a member
@@ -74,7 +74,7 @@ module _ (old new : List Share) (at : ℕ) (member : Member) (given : HasGiven o
   pub seats_here : HaveSameSeats old new
   seats_here = record {
     count = given.count;
-    each = λ i share there. elim (same_or_not i at) [
+    each = λ i share there. elim (cases_eq i at) [
       | inl same ↦
           let s_is : before.0 ≡ share = same_Some before.0 share (sym before.1 ∙ ap (slice_get old) (sym same) ∙ there) in
           (after.0, ap (slice_get new) same ∙ after.1, after.2 ∙ ap (λ (s : Share). s.seat) s_is)
@@ -85,7 +85,7 @@ module _ (old new : List Share) (at : ℕ) (member : Member) (given : HasGiven o
   -- a member behind is one of those before, or the new one
   pub placed_here : (i number : ℕ) (share : Share) (m : Member) → slice_get new i ≡ Some share → slice_get share.members.items number ≡ Some m
       → ((s : Share) × (slice_get old i ≡ Some s) × (slice_get s.members.items number ≡ Some m)) ⊎ ((member ≡ m) × (i ≡ at))
-  placed_here i number share m there is = elim (same_or_not i at) [
+  placed_here i number share m there is = elim (cases_eq i at) [
     | inl same ↦
         let s_is : after.0 ≡ share = same_Some after.0 share (sym after.1 ∙ ap (slice_get new) (sym same) ∙ there) in
         let here : slice_get (before.0.members.items ++ member ∷ []) number ≡ Some m =
@@ -98,7 +98,7 @@ module _ (old new : List Share) (at : ℕ) (member : Member) (given : HasGiven o
   ]
 
   pub room_here : (more : ℕ) → HaveRoom (suc more) old → HaveRoom more new
-  room_here more room i share there = elim (same_or_not i at) [
+  room_here more room i share there = elim (cases_eq i at) [
     | inl same ↦
         let s_is : after.0 ≡ share = same_Some after.0 share (sym after.1 ∙ ap (slice_get new) (sym same) ∙ there) in
         let had = room at before.0 before.1 in

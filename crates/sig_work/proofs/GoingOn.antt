@@ -1,5 +1,5 @@
 -- Reactions that were committed one behind another.
-use Rattle.sig_work.proofs.Common.{◌≡◌, ◌++◌, ◌⊎◌, ◌∙◌, inl, inr, ℕ, ℤ, true, List, [], ◌∷◌, append_assoc, refl, ap, sym, subst, append-nil, Halt, HaltSeat, outputs_of, seen_lines, Kernel, Given, reactions_text, Reaction, PlanView, joined_append, Joins, TookPrefix, TookPrefix-then, is_collector, run_of, GoesOn, IsOfRun, IsServed, IsServedInSome, IsShareOfSome, KeepsMember, KeepsShare, KeepsShares, ServesMember, ServesShare, ServesShares, AreOfRun, AreOfSomeRun, HasCollector, HaveCollector, Member, Share}
+use Rattle.sig_work.proofs.Common.{◌≡◌, ◌++◌, ◌⊎◌, ◌∙◌, inl, inr, ℕ, ℤ, true, List, [], ◌∷◌, append_assoc, refl, ap, sym, subst, append-nil, Halt, HaltSeat, outputs_of, seen_lines, Kernel, Given, reactions_text, Reaction, PlanView, Joins, TookPrefix, TookPrefix-then, is_collector, run_of, GoesOn, IsOfRun, IsServed, IsServedInSome, IsShareOfSome, KeepsMember, KeepsShare, KeepsShares, ServesMember, ServesShare, ServesShares, AreOfRun, AreOfSomeRun, HasCollector, HaveCollector, Member, Share, flat_map-append}
 use Rattle.sig_work.proofs.WhatStays.{have_collector_on, has_collector_on, is_collector_on}
 
 -- a taking, and then one of another kind, are one of that kind
@@ -33,7 +33,7 @@ module _ {S : Type 0} (took last : S → List ℕ → S → Type 0) (joins : Joi
     more = one.more ++ two.more;
     serving = subst Second (append_assoc committed one.more two.more) two.serving;
     mine = mine one.more two.more one.mine two.mine;
-    text = subst (λ bytes. last before bytes after) (sym (joined_append (λ reaction. seen_lines (outputs_of kernel) reaction) one.more two.more))
+    text = subst (λ bytes. last before bytes after) (sym (flat_map-append (λ reaction. seen_lines (outputs_of kernel) reaction) one.more two.more))
         (joins before middle after (reactions_text kernel one.more) (reactions_text kernel two.more) one.text two.text);
   } where
     two : GoesOn last kernel Second Later (committed ++ one.more) middle after

@@ -1,5 +1,5 @@
 -- An item of a list put in place of another, and one more item.
-use Rattle.sig_work.proofs.Common.{◌≡◌, ◌<◌, ◌≤◌, ◌+◌, ◌++◌, ◌∙◌, ◌⊎◌, inl, inr, ℕ, zero, suc, List, [], ◌∷◌, length, get_or, set, take, refl, ap, sym, subst, arith, None, Some, slice_get, get_at, same_Some}
+use Rattle.sig_work.proofs.Common.{◌≡◌, ◌<◌, ◌≤◌, ◌+◌, ◌++◌, ◌∙◌, ◌⊎◌, inl, inr, ℕ, zero, suc, List, [], ◌∷◌, length, get_or, set, take, refl, ap, sym, subst, arith, None, Some, slice_get, same_Some, slice_get-get_or}
 
 module _ {A : Type 0} where
   pub set_apart : (xs : List A) (k : ℕ) (x : A) (m : ℕ) → ((m ≡ k) → ⊥) → slice_get (set xs k x) m ≡ slice_get xs m
@@ -11,7 +11,7 @@ module _ {A : Type 0} where
 
   -- an item that is read
   pub item_at : (xs : List A) (k : ℕ) (d : A) → k < length xs → d ≡ get_or xs k d → slice_get xs k ≡ Some d
-  item_at xs k d lt is = get_at xs k d lt ∙ ap Some (sym is)
+  item_at xs k d lt is = slice_get-get_or xs k d lt ∙ ap Some (sym is)
 
   pub get_past : (xs : List A) (k : ℕ) → length xs ≤ k → slice_get xs k ≡ None
   get_past [] k past = refl
@@ -51,13 +51,6 @@ module _ {A : Type 0} where
     | inl front ↦ inl front
     | inr last ↦ inr (last.0, ap suc last.1)
   ]
-
-  -- the first items
-  pub get_taken : (n : ℕ) (xs : List A) (k : ℕ) (x : A) → slice_get (take n xs) k ≡ Some x → slice_get xs k ≡ Some x
-  get_taken zero xs k x is = absurd (let e : None ≡ Some x = is in cc)
-  get_taken (suc n) [] k x is = is
-  get_taken (suc n) (y ∷ xs) zero x is = is
-  get_taken (suc n) (y ∷ xs) (suc k) x is = get_taken n xs k x is
 
   -- what is written back into a list of as many items
   take_front : (xs zs : List A) → take (length xs) (xs ++ zs) ≡ xs

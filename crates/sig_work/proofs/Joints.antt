@@ -1,5 +1,5 @@
 -- Members that get the ends of links.
-use Rattle.sig_work.proofs.Common.{◌≡◌, ◌<◌, ◌+◌, ◌∙◌, inl, inr, ℕ, List, [], length, set, refl, ap, sym, subst, arith, Some, slice_get, length-set, get_within, OfOneLink, put_capacity, sent, taken, Put, Take, some_at, same_or_not, LinkInfo, set_here, same_Some, AreJoined, HasGivenPut, HasGivenTake, IsJoinedLink, IsSameBare, sent_by, taken_by, But, Each, IsLeftMember, Member}
+use Rattle.sig_work.proofs.Common.{◌≡◌, ◌<◌, ◌+◌, ◌∙◌, inl, inr, ℕ, List, [], length, set, refl, ap, sym, subst, arith, Some, slice_get, length-set, OfOneLink, put_capacity, sent, taken, Put, Take, LinkInfo, same_Some, AreJoined, HasGivenPut, HasGivenTake, IsJoinedLink, IsSameBare, sent_by, taken_by, But, Each, IsLeftMember, Member, slice_get_within, some_at, cases_eq, set_here}
 use Rattle.sig_work.proofs.ItemInPlace.{set_apart}
 
 module _ (members : List Member) (k link : ℕ) where
@@ -38,7 +38,7 @@ module _ (links : ℕ) (b m n : Member) (link : ℕ) (bare : IsSameBare links b 
     ending = left.ending ∙ bare.ending;
     puts = left.ends.puts_count ∙ bare.puts;
     takes = left.ends.takes_count ∙ bare.takes;
-    sent_none = λ j. elim (same_or_not j link) [
+    sent_none = λ j. elim (cases_eq j link) [
       | inl same ↦ ap (λ i. sent_by (slice_get n.ends.puts.items i)) same ∙ ap sent_by is ∙ none
       | inr apart ↦ ap sent_by (left.ends.puts j apart) ∙ bare.sent_none j
     ];
@@ -53,7 +53,7 @@ module _ (links : ℕ) (b m n : Member) (link : ℕ) (bare : IsSameBare links b 
     puts = left.ends.puts_count ∙ bare.puts;
     takes = left.ends.takes_count ∙ bare.takes;
     sent_none = λ j. ap sent_by (left.ends.puts j tt) ∙ bare.sent_none j;
-    taken_none = λ j. elim (same_or_not j link) [
+    taken_none = λ j. elim (cases_eq j link) [
       | inl same ↦ ap (λ i. taken_by (slice_get n.ends.takes.items i)) same ∙ ap taken_by is ∙ none
       | inr apart ↦ ap taken_by (left.ends.takes j apart) ∙ bare.taken_none j
     ];
@@ -64,8 +64,8 @@ module _ (links : List LinkInfo) (capacity n : ℕ) (old now : List Member) (joi
   pub put_room : (m : Member) → slice_get now info.writer ≡ Some m → n < length m.ends.puts.items
   put_room m is =
       let many = joined.count in
-      let lt = get_within links n info at in
-      let there = get_within now info.writer m is in
+      let lt = slice_get_within links n info at in
+      let there = slice_get_within now info.writer m is in
       let before = some_at old info.writer (omega (arith, many, there)) in
       let found = joined.each info.writer before.0 before.1 in
       let same : found.0 ≡ m = same_Some found.0 m (sym found.1 ∙ is) in
@@ -75,8 +75,8 @@ module _ (links : List LinkInfo) (capacity n : ℕ) (old now : List Member) (joi
   takes_count : (k : ℕ) (m : Member) → slice_get now k ≡ Some m → n < length m.ends.takes.items
   takes_count k m is =
       let many = joined.count in
-      let lt = get_within links n info at in
-      let there = get_within now k m is in
+      let lt = slice_get_within links n info at in
+      let there = slice_get_within now k m is in
       let before = some_at old k (omega (arith, many, there)) in
       let found = joined.each k before.0 before.1 in
       let same : found.0 ≡ m = same_Some found.0 m (sym found.1 ∙ is) in
@@ -85,10 +85,10 @@ module _ (links : List LinkInfo) (capacity n : ℕ) (old now : List Member) (joi
 
   -- also once the first end was given
   pub take_room : (mid : List Member) (put : Put) → HasGivenPut now mid info.writer n put → (m : Member) → slice_get mid info.reader ≡ Some m → n < length m.ends.takes.items
-  take_room mid put gave m is = elim (same_or_not info.reader info.writer) [
+  take_room mid put gave m is = elim (cases_eq info.reader info.writer) [
     | inl same ↦
         let more = gave.count in
-        let there = get_within mid info.reader m is in
+        let there = slice_get_within mid info.reader m is in
         let w = some_at now info.writer (omega (arith, more, there, same)) in
         let after = gave.here w.0 w.1 in
         let m_is : after.0 ≡ m = same_Some after.0 m (sym after.1 ∙ ap (slice_get mid) (sym same) ∙ is) in
@@ -109,7 +109,7 @@ module _ (links : List LinkInfo) (capacity n : ℕ) (old now mid new : List Memb
   -- a member behind the first gift, and behind the second
   after_put : (k : ℕ) (m : Member) → slice_get now k ≡ Some m → (x : Member) × (slice_get mid k ≡ Some x) × IsLeftMember (But n) Each m x
       × ((b : Member) → IsSameBare (length links) b m → IsSameBare (length links) b x)
-  after_put k m is = elim (same_or_not k info.writer) [
+  after_put k m is = elim (cases_eq k info.writer) [
     | inl same ↦
         let here = gave_put.here m (ap (slice_get now) (sym same) ∙ is) in
         (here.0, ap (slice_get mid) same ∙ here.1, here.2, λ b bare. bare_put (length links) b m here.0 n bare here.2 put here.3 none_sent)
@@ -118,7 +118,7 @@ module _ (links : List LinkInfo) (capacity n : ℕ) (old now mid new : List Memb
 
   after_take : (k : ℕ) (m : Member) → slice_get mid k ≡ Some m → (x : Member) × (slice_get new k ≡ Some x) × IsLeftMember Each (But n) m x
       × ((b : Member) → IsSameBare (length links) b m → IsSameBare (length links) b x)
-  after_take k m is = elim (same_or_not k info.reader) [
+  after_take k m is = elim (cases_eq k info.reader) [
     | inl same ↦
         let here = gave_take.here m (ap (slice_get mid) (sym same) ∙ is) in
         (here.0, ap (slice_get new) same ∙ here.1, here.2, λ b bare. bare_take (length links) b m here.0 n bare here.2 take here.3 none_taken)
@@ -173,7 +173,7 @@ module _ (links : List LinkInfo) (capacity n : ℕ) (old now mid new : List Memb
         let x = after_put k m.0 m.1 in
         let y = after_take k x.0 x.1 in
         (y.0, y.1, y.3 before (x.3 before m.2)));
-    joined = λ link other below is. elim (same_or_not link n) [
+    joined = λ link other below is. elim (cases_eq link n) [
       | inl same ↦
           let info_is : info ≡ other = same_Some info other (sym at ∙ ap (slice_get links) (sym same) ∙ is) in
           subst (λ j. IsJoinedLink capacity new j other) (sym same) (subst (λ i. IsJoinedLink capacity new n i) info_is newest)

@@ -1,5 +1,5 @@
 -- Shares of one run that change hands, and what their services come to together.
-use Rattle.sig_work.proofs.Common.{◌≡◌, ◌+◌, ◌++◌, ◌∙◌, ◌⊎◌, inl, inr, ℕ, zero, suc, Bool, true, false, cond, List, [], ◌∷◌, length, refl, ap, sym, subst, arith, append_assoc, None, Some, slice_get, sum_by, ◌==◌, eqb-true, length-append, flat_map-append, sum_by-append, sum_by_push, get_within, parts, Halt, outputs_of, seen_lines, Kernel, some_at, Given, reactions_text, Reaction, Joins, TookPrefix, TookPrefix-then, same_Some, AreSingle, times_in, HasDone, commits_of, is_collector, AreBegun, AreKept, IsOfClusters, IsOneOf, IsUnfaulted, WereHalted, WereRun, AreOfRun, AreSameShares, HasCollector, HaveDone, HaveOneCollector, IsSameShare, IsServing, WereServed, WereStopped, Member, Share}
+use Rattle.sig_work.proofs.Common.{◌≡◌, ◌+◌, ◌++◌, ◌∙◌, ◌⊎◌, inl, inr, ℕ, zero, suc, Bool, true, false, cond, List, [], ◌∷◌, length, refl, ap, sym, subst, arith, append_assoc, None, Some, slice_get, sum_by, ◌==◌, eqb-true, length-append, flat_map-append, sum_by-append, sum_by_push, parts, Halt, outputs_of, seen_lines, Kernel, Given, reactions_text, Reaction, Joins, TookPrefix, TookPrefix-then, same_Some, AreSingle, times_in, HasDone, commits_of, is_collector, AreBegun, AreKept, IsOfClusters, IsOneOf, IsUnfaulted, WereHalted, WereRun, AreOfRun, AreSameShares, HasCollector, HaveDone, HaveOneCollector, IsSameShare, IsServing, WereServed, WereStopped, Member, Share, slice_get_within, some_at}
 use Rattle.sig_work.proofs.CountedMembers.{same_number, same_share}
 use Rattle.sig_work.proofs.WhatStays.{same_member, same_member_then, same_seat_then}
 use Rattle.sig_work.proofs.WhatIsLeft.{same_sums}
@@ -48,7 +48,7 @@ pub kept_same : (old new : List Share) → AreSameShares old new → AreKept old
 kept_same old new same = record {
   from = λ after one. (
       let count = same.count in
-      let before = some_at old one.0 (let lt = get_within new one.0 after one.1 in omega (arith, lt, count)) in
+      let before = some_at old one.0 (let lt = slice_get_within new one.0 after one.1 in omega (arith, lt, count)) in
       let found = same.each one.0 before.0 before.1 in
       let is : found.0 ≡ after = same_Some found.0 after (sym found.1 ∙ one.1) in
       (before.0, (one.0, before.1), subst (λ (s : Share). IsSameShare before.0 s) is found.2));

@@ -1,16 +1,8 @@
 -- The least word of members, joined part by part, and the seats of shares joined.
-use Rattle.sig_work.proofs.Common.{◌≡◌, ◌<◌, ◌≤◌, ◌+◌, ◌++◌, ◌^◌, ◌∙◌, ◌⊎◌, inl, inr, ℕ, zero, suc, List, [], ◌∷◌, length, refl, ap, sym, subst, arith, None, Some, min, slice_get, sum_by-cons, no_place, get_within, parts, recorded, seen, HaltSeat, at_most_or, same_or_not, place_of, same_Some, IsAmong, failure_in, word_of, IsClosed, IsIn, IsInFirst, IsJoined, IsLeastOf, IsLeastWord, IsOfFirst, Member, Share}
+use Rattle.sig_work.proofs.Common.{◌≡◌, ◌<◌, ◌≤◌, ◌+◌, ◌++◌, ◌^◌, ◌∙◌, ◌⊎◌, inl, inr, ℕ, zero, suc, List, [], ◌∷◌, length, refl, ap, sym, subst, arith, None, Some, min, slice_get, sum_by-cons, no_place, parts, recorded, seen, HaltSeat, at_most_or, place_of, same_Some, IsAmong, failure_in, word_of, IsClosed, IsIn, IsInFirst, IsJoined, IsLeastOf, IsLeastWord, IsOfFirst, Member, Share, slice_get_within, cases_eq}
 use Rattle.sig_work.proofs.ItemInPlace.{get_more}
 
 -- ---- the least word
-
-pub least_of_none : (A : Member → Type 0) → ((m : Member) → A m → ⊥) → IsLeastOf A no_place
-least_of_none A none = record {
-  within = omega arith;
-  positions = λ m is. absurd (none m is);
-  below = λ m is. absurd (none m is);
-  met = inl refl;
-}
 
 pub least_of_one : (m : Member) (f : ℕ) → f ≡ word_of (failure_in m.ending) → f ≤ no_place → (place_of m.state).pos < 2 ^ 32 → IsLeastOf (λ n. m ≡ n) f
 least_of_one m f is within position = record {
@@ -56,14 +48,11 @@ least_joined A B C v w one two either left right = record {
 
 -- ---- member by member
 
-pub first_none : (share : Share) → IsLeastOf (IsInFirst 0 share) no_place
-first_none share = least_of_none (IsInFirst 0 share) (λ m is. (let lt = is.1 in omega (arith, lt)))
-
 pub first_more : (share : Share) (n v : ℕ) (m : Member) (f : ℕ) → IsLeastOf (IsInFirst n share) v → slice_get share.members.items n ≡ Some m
     → f ≡ word_of (failure_in m.ending) → f ≤ no_place → (place_of m.state).pos < 2 ^ 32 → IsLeastOf (IsInFirst (n + 1) share) (min v f)
 first_more share n v m f least at is within position =
     least_joined (IsInFirst n share) (λ x. m ≡ x) (IsInFirst (n + 1) share) v f least (least_of_one m f is within position)
-    (λ x inside. elim (same_or_not inside.0 n) [
+    (λ x inside. elim (cases_eq inside.0 n) [
       | inl same ↦ inr (same_Some m x (sym at ∙ ap (slice_get share.members.items) (sym same) ∙ inside.2))
       | inr apart ↦ inl (inside.0, (let lt = inside.1 in omega (arith, lt, apart)), inside.2)
     ])
@@ -72,18 +61,15 @@ first_more share n v m f least at is within position =
 
 pub first_all : (share : Share) (v n : ℕ) → length share.members.items ≤ n → IsLeastOf (IsInFirst n share) v → IsLeastOf (IsIn share) v
 first_all share v n all = least_alike (IsInFirst n share) (IsIn share) v (λ m is. (is.0, is.2))
-    (λ m is. (is.0, (let lt = get_within share.members.items is.0 m is.1 in omega (arith, lt, all)), is.1))
+    (λ m is. (is.0, (let lt = slice_get_within share.members.items is.0 m is.1 in omega (arith, lt, all)), is.1))
 
 -- ---- share by share
-
-pub shares_none : (shares : List Share) → IsLeastOf (IsOfFirst 0 shares) no_place
-shares_none shares = least_of_none (IsOfFirst 0 shares) (λ m is. (let lt = is.2 in omega (arith, lt)))
 
 pub shares_more : (shares : List Share) (n v : ℕ) (share : Share) (f : ℕ) → IsLeastOf (IsOfFirst n shares) v → slice_get shares n ≡ Some share → IsLeastOf (IsIn share) f
     → IsLeastOf (IsOfFirst (n + 1) shares) (min v f)
 shares_more shares n v share f least at here =
     least_joined (IsOfFirst n shares) (IsIn share) (IsOfFirst (n + 1) shares) v f least here
-    (λ x inside. elim (same_or_not inside.0 n) [
+    (λ x inside. elim (cases_eq inside.0 n) [
       | inl same ↦
           let s_is : share ≡ inside.1 = same_Some share inside.1 (sym at ∙ ap (slice_get shares) (sym same) ∙ inside.3) in
           inr (subst (λ (s : Share). IsIn s x) (sym s_is) inside.4)
@@ -95,17 +81,9 @@ shares_more shares n v share f least at here =
 pub shares_all : (shares : List Share) (v n : ℕ) → length shares ≤ n → IsLeastOf (IsOfFirst n shares) v → IsLeastWord shares v
 shares_all shares v n all = least_alike (IsOfFirst n shares) (λ m. IsAmong shares m.number m) v
     (λ m is. record { at = is.0; number = is.4.0; share = is.1; there = is.3; is = is.4.1; numbered = refl })
-    (λ m one. (one.at, one.share, (let lt = get_within shares one.at one.share one.there in omega (arith, lt, all)), one.there, (one.number, one.is)))
+    (λ m one. (one.at, one.share, (let lt = slice_get_within shares one.at one.share one.there in omega (arith, lt, all)), one.there, (one.number, one.is)))
 
 -- ---- seats
-
-pub joined_none : (seat : HaltSeat) → IsJoined seat seat []
-joined_none seat = record {
-  parts_are = omega arith;
-  met = inl refl;
-  least = (omega arith, λ at share there. absurd (let e : None ≡ Some share = there in cc));
-  seen_is = (omega arith, λ at share there. absurd (let e : None ≡ Some share = there in cc));
-}
 
 pub joined_more : (first mid last : HaltSeat) (shares : List Share) (share : Share) → IsJoined first mid shares
     → parts last ≡ parts mid + parts share.seat → recorded last ≡ min (recorded mid) (recorded share.seat) → seen last ≡ min (seen mid) (seen share.seat)

@@ -1,5 +1,5 @@
 -- A share of which one member went on, and shares of which one went on.
-use Rattle.sig_work.proofs.Common.{◌≡◌, ◌≢◌, ◌<◌, ◌≤◌, ◌+◌, ◌++◌, ◌⊎◌, ◌∙◌, inl, inr, ℕ, zero, suc, ℤ, Bool, true, false, cond, List, [], ◌∷◌, length, set, refl, ap, sym, subst, arith, None, Option, Some, ◌==◌, min, slice_get, append-nil, no_place, packed, Place, seen, Halt, Kernel, Given, Reaction, PlanView, set_here, place_of, same_Some, HasDone, IsBehindSeen, commits_of, failure_in, is_collector, run_of, word_of, GoesOn, IsOfRun, IsServed, KeepsMember, KeepsSeat, KeepsShare, KeepsShares, ServesMember, ServesShare, ServesShares, AreOfRun, HasCollector, HasOneCollector, HasSeat, HaveCollector, IsServing, least_failed, Ending, Failed, Looked, AtLimit, Faulted, Member, Share}
+use Rattle.sig_work.proofs.Common.{◌≡◌, ◌≢◌, ◌<◌, ◌≤◌, ◌+◌, ◌++◌, ◌⊎◌, ◌∙◌, inl, inr, ℕ, zero, suc, ℤ, Bool, true, false, cond, List, [], ◌∷◌, length, set, refl, ap, sym, subst, arith, None, Option, Some, ◌==◌, min, slice_get, append-nil, no_place, packed, Place, seen, Halt, Kernel, Given, Reaction, PlanView, place_of, same_Some, HasDone, IsBehindSeen, commits_of, failure_in, is_collector, run_of, word_of, GoesOn, IsOfRun, IsServed, KeepsMember, KeepsSeat, KeepsShare, KeepsShares, ServesMember, ServesShare, ServesShares, AreOfRun, HasCollector, HasOneCollector, HasSeat, HaveCollector, IsServing, least_failed, Ending, Failed, Looked, AtLimit, Faulted, Member, Share, min_comm, set_here}
 use Rattle.sig_work.proofs.WhatStays.{at_set, had_collector, member_was, one_member, one_share, share_was, was_collector}
 
 -- ---- the least failure
@@ -13,22 +13,19 @@ least_but k [] = no_place
 least_but zero (m ∷ ms) = least_failed ms
 least_but (suc k) (m ∷ ms) = min (failed_word m) (least_but k ms)
 
-min_swap : (a b : ℕ) → min a b ≡ min b a
-min_swap a b = omega arith
-
 min_apart : (a b c : ℕ) → min a (min b c) ≡ min (min a b) c
 min_apart a b c = omega arith
 
 least_is : (ms : List Member) (k : ℕ) (m : Member) → slice_get ms k ≡ Some m → least_failed ms ≡ min (least_but k ms) (failed_word m)
 unfolding least_but
 least_is [] k m at = absurd (let e : None ≡ Some m = at in cc)
-least_is (x ∷ xs) zero m at = min_swap (failed_word x) (least_failed xs) ∙ ap (λ y. min (least_failed xs) (failed_word y)) (same_Some x m at)
+least_is (x ∷ xs) zero m at = min_comm (failed_word x) (least_failed xs) ∙ ap (λ y. min (least_failed xs) (failed_word y)) (same_Some x m at)
 least_is (x ∷ xs) (suc k) m at = ap (min (failed_word x)) (least_is xs k m at) ∙ min_apart (failed_word x) (least_but k xs) (failed_word m)
 
 least_set : (ms : List Member) (k : ℕ) (m n : Member) → slice_get ms k ≡ Some m → least_failed (set ms k n) ≡ min (least_but k ms) (failed_word n)
 unfolding least_but
 least_set [] k m n at = absurd (let e : None ≡ Some m = at in cc)
-least_set (x ∷ xs) zero m n at = min_swap (failed_word n) (least_failed xs)
+least_set (x ∷ xs) zero m n at = min_comm (failed_word n) (least_failed xs)
 least_set (x ∷ xs) (suc k) m n at = ap (min (failed_word x)) (least_set xs k m n at) ∙ min_apart (failed_word x) (least_but k xs) (failed_word n)
 
 -- an actor behind a word is behind a lesser one

@@ -1,5 +1,5 @@
 -- One thread more: what is required, and what all of it comes to.
-use Rattle.sig_work.proofs.Common.{◌≡◌, ◌++◌, ℕ, suc, ℤ, List, [], ◌∷◌, length, refl, ap, sym, subst, arith, Err, Ok, OnErr, OnOk, Result, Halt, Reaction, PlanView, Joins, TookPrefix, run_of, AreBegun, AreBegunInSome, AreKept, IsOfSomeClusters, IsServedAs, WereHalted, WereRun, AreOfRun, AreOfSomeRun, AreSameShares, WereServed, WereStopped, Share}
+use Rattle.sig_work.proofs.Common.{◌≡◌, ◌++◌, ℕ, suc, ℤ, List, [], ◌∷◌, length, refl, ap, sym, subst, arith, Err, Ok, OnErr, OnOk, Result, Halt, Reaction, PlanView, Joins, TookPrefix, run_of, AreBegun, AreBegunInSome, AreKept, IsOfSomeClusters, IsServedAs, WereHalted, WereRun, AreOfRun, AreOfSomeRun, AreSameShares, WereServed, WereStopped, Share, on_err_weaker, on_ok_weaker}
 use Rattle.sig_work.proofs.Kept.{begun_less, begun_moved, begun_run, halted_again, halted_base, halted_pushed, kept_moved, kept_pushed, kept_same, kept_single, kept_then, middle_is, one_collector, run_again, run_base, run_moved, run_pushed}
 
 pub nil_of : (xs : List Share) → length xs ≡ 0 → xs ≡ []
@@ -9,14 +9,6 @@ nil_of (x ∷ xs) none = absurd (let e : suc (length xs) ≡ 0 = none in omega (
 pub one_of_length : (xs : List Share) → length xs ≡ 1 → (x : Share) × (xs ≡ x ∷ [])
 one_of_length [] one = absurd (let e : 0 ≡ 1 = one in omega (arith, e))
 one_of_length (x ∷ xs) one = (x, ap (λ (ys : List Share). x ∷ ys) (nil_of xs (let e : suc (length xs) ≡ 1 = one in omega (arith, e))))
-
-pub on_ok : {X E : Type 0} (answer : Result X E) (P Q : Type 0) → (P → Q) → OnOk answer P → OnOk answer Q
-on_ok (Ok x) P Q f h = f h
-on_ok (Err e) P Q f h = tt
-
-pub on_err : {X E : Type 0} (answer : Result X E) (P Q : Type 0) → (P → Q) → OnErr answer P → OnErr answer Q
-on_err (Ok x) P Q f h = tt
-on_err (Err e) P Q f h = f h
 
 module _ (plan : PlanView) (flows : List (List ℤ)) (word : Halt) {X E S : Type 0} (took : S → List ℕ → S → Type 0) (before after : S) (answer : Result X E) where
   -- what is said of each run of the plan
@@ -41,13 +33,13 @@ module _ (plan : PlanView) (flows : List (List ℤ)) (word : Halt) {X E S : Type
   alone_served : (mine new : List Share) → SaysServed mine new → SaysRun [] mine new
   alone_served mine new says capacity limit committed begun =
       let given = run_of plan flows capacity limit in
-      on_ok answer (WereServed took given word mine new before after committed) (WereRun took given word mine new before after committed)
+      on_ok_weaker answer
       (run_base took given word mine new before after committed) (says capacity limit committed (begun_run given word committed mine begun))
 
   alone_stopped : (mine new : List Share) → SaysStopped mine new → SaysHalted [] mine new
   alone_stopped mine new says capacity limit committed begun =
       let given = run_of plan flows capacity limit in
-      on_err answer (WereStopped (TookPrefix took) given word new before after committed) (WereHalted (TookPrefix took) given new before after committed)
+      on_err_weaker answer
       (halted_base (TookPrefix took) given word new before after committed) (says capacity limit committed (begun_run given word committed mine begun))
 
   pub base_served : (others mine now new final : List Share) → others ≡ [] → now ≡ mine → final ≡ new → SaysServed now new → SaysRun others mine final
@@ -65,14 +57,14 @@ module _ (plan : PlanView) (flows : List (List ℤ)) (word : Halt) {X E S : Type
     given_served new says capacity limit committed begun =
         let given = run_of plan flows capacity limit in
         let of = from.clusters capacity limit (middle_is given word committed rest mine s begun) in
-        on_ok answer (WereRun took given word (rest ++ mine) new before after committed) (WereRun took given word ((rest ++ s ∷ []) ++ mine) (new ++ t ∷ []) before after committed)
+        on_ok_weaker answer
         (run_pushed took given word rest mine s t from.unfaulted of before after committed new) (says capacity limit committed (begun_less given word committed rest mine s begun))
 
     given_stopped : (new : List Share) → SaysHalted rest mine new → SaysHalted (rest ++ s ∷ []) mine (new ++ t ∷ [])
     given_stopped new says capacity limit committed begun =
         let given = run_of plan flows capacity limit in
         let of = from.clusters capacity limit (middle_is given word committed rest mine s begun) in
-        on_err answer (WereHalted (TookPrefix took) given new before after committed) (WereHalted (TookPrefix took) given (new ++ t ∷ []) before after committed)
+        on_err_weaker answer
         (halted_pushed (TookPrefix took) given word rest mine s t from.unfaulted of before after committed new) (says capacity limit committed (begun_less given word committed rest mine s begun))
 
     pub pushed_served : (others new final : List Share) → others ≡ rest ++ s ∷ [] → final ≡ new ++ t ∷ [] → SaysRun rest mine new → SaysRun others mine final
@@ -89,7 +81,7 @@ module _ (plan : PlanView) (flows : List (List ℤ)) (word : Halt) {X E S : Type
     came_served new says capacity limit committed begun =
         let given = run_of plan flows capacity limit in
         let of = from.clusters capacity limit (middle_is given word committed rest mine s begun) in
-        on_ok answer (WereRun took given word (rest ++ (mine ++ t ∷ [])) new before after committed) (WereRun took given word ((rest ++ s ∷ []) ++ mine) new before after committed)
+        on_ok_weaker answer
         (run_moved took given word rest mine s t from.unfaulted of before after committed new) (says capacity limit committed (begun_moved given word committed rest mine s begun t from.same of))
 
     came_stopped : (new : List Share) → SaysHalted rest (mine ++ t ∷ []) new → SaysHalted (rest ++ s ∷ []) mine new
@@ -202,7 +194,7 @@ module _ (plan : PlanView) (flows : List (List ℤ)) (word : Halt) {X E S : Type
       let given = run_of plan flows capacity limit in
       let w = were capacity limit committed begun in
       subst (λ xs. OnOk answer (WereRun took given word (others ++ mine) xs before after committed)) (sym back)
-      (on_ok answer (WereServed took given word now new middle after w.behind) (WereRun took given word (others ++ mine) new before after committed)
+      (on_ok_weaker answer
       (λ served. run_again took joins given word (others ++ mine) mid new before middle after committed w (subst (λ xs. WereServed took given word xs new middle after w.behind) now_is served))
       (says capacity limit w.behind (run_now capacity limit committed begun)))
 
@@ -211,5 +203,5 @@ module _ (plan : PlanView) (flows : List (List ℤ)) (word : Halt) {X E S : Type
       let given = run_of plan flows capacity limit in
       let w = were capacity limit committed begun in
       subst (λ xs. OnErr answer (WereHalted (TookPrefix took) given xs before after committed)) (sym back)
-      (on_err answer (WereStopped (TookPrefix took) given word new middle after w.behind) (WereHalted (TookPrefix took) given new before after committed)
+      (on_err_weaker answer
       (halted_again took joins given word (others ++ mine) mid new before middle after committed w) (says capacity limit w.behind (run_now capacity limit committed begun)))

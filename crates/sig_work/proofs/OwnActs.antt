@@ -1,5 +1,5 @@
 -- What a step of a member leaves is what its own steps leave.
-use Rattle.sig_work.proofs.Common.{◌≡◌, ◌<◌, ◌≤◌, ◌+◌, ◌++◌, ◌∙◌, inl, inr, ℕ, zero, suc, ℤ, true, false, cond, List, [], ◌∷◌, length, refl, ap, sym, subst, None, Option, Some, nat_lt, slice_get, eq-eqb, Place, same_or_not, Actor, code_of, ended_at, next_place, position_of, Given, Commits, Fails, Goes, Puts, Reaction, Stopped, Takes, Turn, turn, turn_at, IsAccepted, PlanView, HasTurned, IsOwn, Own, Acts, MayUse, ActsOn, DoesSteps, AllStay, Asked, LinkPast, OthersStay, Past, PastGoesOn, Queues, IsSameActor, IsStateOf, actor_of, last_reaction, place_of, Acted, Done, ClusterState, AreSameEnds, AreSameEnds-itself, HasEnds, past_of, puts_of, sent_of, taken_of, takes_of, EndsWith, HasActedAs, HasDone, IsMember, before_stop, failure_in, own_of, LinkEnds, Ending, Failed, AtLimit as EndedAtLimit, Member}
+use Rattle.sig_work.proofs.Common.{◌≡◌, ◌<◌, ◌≤◌, ◌+◌, ◌++◌, ◌∙◌, inl, inr, ℕ, zero, suc, ℤ, true, false, cond, List, [], ◌∷◌, length, refl, ap, sym, subst, None, Option, Some, nat_lt, slice_get, eq-eqb, Place, Actor, code_of, ended_at, next_place, position_of, Given, Commits, Fails, Goes, Puts, Reaction, Stopped, Takes, Turn, turn, turn_at, IsAccepted, PlanView, HasTurned, IsOwn, Own, Acts, MayUse, ActsOn, DoesSteps, AllStay, Asked, LinkPast, OthersStay, Past, PastGoesOn, Queues, IsSameActor, IsStateOf, actor_of, last_reaction, place_of, Acted, Done, ClusterState, AreSameEnds, AreSameEnds-itself, HasEnds, past_of, puts_of, sent_of, taken_of, takes_of, EndsWith, HasActedAs, HasDone, IsMember, before_stop, failure_in, own_of, LinkEnds, Ending, Failed, AtLimit as EndedAtLimit, Member, cases_eq}
 use Rattle.sig_model.specs.Turns.{AtLimit}
 use Rattle.sig_step.specs.GoingOn.{DoesStep}
 use Rattle.sig_work.proofs.WhatStays.{same_ends_then}
@@ -88,13 +88,13 @@ module _ (given : Given) (accepted : IsAccepted given.plan) (number passed : ℕ
     -- a link of which one item more was sent, and one of which one more was taken
     module _ (link : ℕ) (item : ℤ) where
       pushed : (past_of f link ≡ record (past_of e link) { sent = sent_of e link ++ item ∷ [] }) → OthersStay link (past_of e) (past_of f) → (other : ℕ) → taken_of f other ≡ taken_of e other
-      pushed here others other = elim (same_or_not other link) [
+      pushed here others other = elim (cases_eq other link) [
         | inl at ↦ subst (λ j. taken_of f j ≡ taken_of e j) (sym at) (ap (λ (p : LinkPast). p.taken) here)
         | inr apart ↦ ap (λ (p : LinkPast). p.taken) (others other apart)
       ]
 
       popped : (past_of f link ≡ record (past_of e link) { taken = taken_of e link ++ item ∷ [] }) → OthersStay link (past_of e) (past_of f) → (other : ℕ) → sent_of f other ≡ sent_of e other
-      popped here others other = elim (same_or_not other link) [
+      popped here others other = elim (cases_eq other link) [
         | inl at ↦ subst (λ j. sent_of f j ≡ sent_of e j) (sym at) (ap (λ (p : LinkPast). p.sent) here)
         | inr apart ↦ ap (λ (p : LinkPast). p.sent) (others other apart)
       ]

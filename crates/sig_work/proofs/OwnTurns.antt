@@ -1,5 +1,5 @@
 -- A step of a member is an own step of its actor.
-use Rattle.sig_work.proofs.Common.{◌≡◌, ◌<◌, ◌≤◌, ◌+◌, ◌⊎◌, inl, inr, ℕ, zero, suc, ℤ, Bool, true, false, cond, List, length, refl, sym, subst, ◌∙◌, arith, Contains, None, Option, Some, nat_lt, slice_get, ltb-false, contains_at, some_at, Actor, code_of, guard_holds, moved_on, next_place, no_registers, Given, Faults, Gives, Outcome, operated, outcome, Commits, Fails, Goes, Puts, Stopped, Takes, Turn, carried, received, turn, turn_at, turn_by, turn_of_op, turn_with, CodeView, instructions_of, NamesWithin, Operation, operations_in, IsAccepted, PlanView, numbers_of, Step, StepKind, Do, Send, Receive, Report, Collect, Commit, Op, LinkInfo, plan_operations, one_reader, one_writer, step_names, actor_coded, commits_alone, DoesStep, step_does, IsOwn, IsOwnStep, LeadBy, Own, opening_own, MayDo, MayUse, HasEnds, puts_of, takes_of, LinkEnds}
+use Rattle.sig_work.proofs.Common.{◌≡◌, ◌<◌, ◌≤◌, ◌+◌, ◌⊎◌, inl, inr, ℕ, zero, suc, ℤ, Bool, true, false, cond, List, length, refl, sym, subst, ◌∙◌, arith, Contains, None, Option, Some, nat_lt, slice_get, ltb-false, Actor, code_of, guard_holds, moved_on, next_place, no_registers, Given, Faults, Gives, Outcome, operated, outcome, Commits, Fails, Goes, Puts, Stopped, Takes, Turn, carried, received, turn, turn_at, turn_by, turn_of_op, turn_with, CodeView, instructions_of, NamesWithin, Operation, operations_in, IsAccepted, PlanView, numbers_of, Step, StepKind, Do, Send, Receive, Report, Collect, Commit, Op, LinkInfo, plan_operations, one_reader, one_writer, step_names, actor_coded, commits_alone, DoesStep, step_does, IsOwn, IsOwnStep, LeadBy, Own, opening_own, MayDo, MayUse, HasEnds, puts_of, takes_of, LinkEnds, contains_at, some_at}
 use Rattle.sig_model.specs.Turns.{AtLimit}
 use Rattle.sig_work.proofs.EndLemmas.{there_put, there_take}
 

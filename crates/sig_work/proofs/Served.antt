@@ -7,10 +7,6 @@ pub no_ending : (ending : Option Ending) (ended : Bool) → EndsWith ending ende
 no_ending None ended noted is = refl
 no_ending (Some ending) ended noted is = absurd (let e : true ≡ false = sym noted ∙ is in cc)
 
--- and one that has an ending has ended
-pub ended_by : (given : Given) (committed : List Reaction) (m : Member) (ending : Ending) → HasDone given committed (record m { ending = Some ending }) → m.state.ended ≡ true
-ended_by given committed m ending is = is.member.ending
-
 pub runs_unended : (given : Given) (word : Halt) (others : ℕ) (committed : List Reaction) (m : Member) (by : HaltSeat) → m.state.ended ≡ false → IsServed given word others committed m by → m.ending ≡ None
 runs_unended given word others committed m by runs is = no_ending m.ending m.state.ended is.done.member.ending runs
 

@@ -1,5 +1,5 @@
 -- One share of clusters that was served by itself.
-use Rattle.sig_work.proofs.Common.{◌≡◌, ◌+◌, ◌∙◌, ℕ, zero, suc, ℤ, List, [], ◌∷◌, length, get_or, refl, ap, sym, subst, arith, Err, None, Ok, OnErr, OnOk, Result, Some, slice_get, ◌==◌, get_at, get_within, Halt, some_at, Given, Reaction, PlanView, Rose, same_Some, run_of, IsOfClusters, IsServedAs, AreOfRun, AreSameShares, HasCollector, IsSameShare, IsServing, WereServed, Member, Share}
+use Rattle.sig_work.proofs.Common.{◌≡◌, ◌+◌, ◌∙◌, ℕ, zero, suc, ℤ, List, [], ◌∷◌, length, get_or, refl, ap, sym, subst, arith, Err, None, Ok, OnErr, OnOk, Result, Some, slice_get, ◌==◌, Halt, Given, Reaction, PlanView, Rose, same_Some, run_of, IsOfClusters, IsServedAs, AreOfRun, AreSameShares, HasCollector, IsSameShare, IsServing, WereServed, Member, Share, slice_get-get_or, slice_get_within, some_at}
 use Rattle.sig_work.proofs.Kept.{serves_clusters}
 
 -- a sink that never fails has no fault
@@ -25,7 +25,7 @@ run_single given word share of = record {
 had_collector : (given : Given) (a b : Share) → IsSameShare a b → HasCollector given b → HasCollector given a
 had_collector given a b same has =
     let count = same.count in
-    let lt = get_within b.members.items has.0 has.1 has.2 in
+    let lt = slice_get_within b.members.items has.0 has.1 has.2 in
     let m = some_at a.members.items has.0 (omega (arith, lt, count)) in
     let after = same.members has.0 m.0 m.1 in
     let is : after.0 ≡ has.1 = same_Some after.0 has.1 (sym after.1 ∙ has.2) in
@@ -37,7 +37,7 @@ module _ (plan : PlanView) (flows : List (List ℤ)) (word : Halt) (old : Share)
   new = get_or shares 0 old
 
   new_at : slice_get shares 0 ≡ Some new
-  new_at = get_at shares 0 old (let count = same.count in let e = ap (λ (xs : List Share). length xs) is_single in omega (arith, count, e))
+  new_at = slice_get-get_or shares 0 old (let count = same.count in let e = ap (λ (xs : List Share). length xs) is_single in omega (arith, count, e))
 
   same_share : IsSameShare old new
   same_share =

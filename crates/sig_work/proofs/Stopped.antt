@@ -1,18 +1,14 @@
 -- Shares after a service, and after a stop.
-use Rattle.sig_work.proofs.Common.{◌≡◌, ◌≤◌, ◌+◌, ◌∙◌, inl, inr, ℕ, List, [], length, set, refl, ap, sym, subst, arith, Some, ◌++◌, if◌then◌else◌, slice_get, length-set, get_within, IsSeatOf, Halt, some_at, same_or_not, Given, Reaction, set_here, same_Some, HasDone, commits_of, is_collector, ArePastZero, ChangedBelow, GoesOn, HasStopped, IsPastZero, KeepsShare, KeepsShares, ShareStopped, SharesStopped, AreOfRun, AreSameShares, HaveCollector, HaveDone, HaveEnded, IsSameShare, WereServed, WereStopped, Member, Share}
-use Rattle.sig_work.proofs.EndLemmas.{set_apart}
+use Rattle.sig_work.proofs.Common.{◌≡◌, ◌≤◌, ◌+◌, ◌∙◌, inl, inr, ℕ, List, [], length, set, refl, ap, sym, subst, arith, Some, ◌++◌, if◌then◌else◌, slice_get, length-set, IsSeatOf, Halt, Given, Reaction, same_Some, HasDone, commits_of, is_collector, ArePastZero, ChangedBelow, GoesOn, HasStopped, IsPastZero, KeepsShare, KeepsShares, ShareStopped, SharesStopped, AreOfRun, AreSameShares, HaveCollector, HaveDone, HaveEnded, IsSameShare, WereServed, WereStopped, Member, Share, slice_get_within, some_at, cases_eq, get_set_other, set_here}
 use Rattle.sig_work.proofs.WhatStays.{none_faulted, same_member_then, same_seat_then}
 
 -- ---- one element after another
 
 module _ {A : Type 0} (R : A → A → Type 0) (old : List A) where
-  pub none_changed : ChangedBelow R 0 old old
-  none_changed = record { length_stays = refl; below = λ j before lt is. absurd (omega (arith, lt)); above = λ j le. refl }
-
   pub one_changed : (count : ℕ) (mid new : List A) (x y : A) → ChangedBelow R count old mid → slice_get mid count ≡ Some x → new ≡ set mid count y → R x y → ChangedBelow R (count + 1) old new
   one_changed count mid new x y is at items related = record {
     length_stays = ap (λ (xs : List A). length xs) items ∙ length-set mid count y ∙ is.length_stays;
-    below = λ j before lt there. elim (same_or_not j count) [
+    below = λ j before lt there. elim (cases_eq j count) [
       | inl same ↦ (
         y,
         ap (λ (xs : List A). slice_get xs j) items ∙ ap (slice_get (set mid count y)) same ∙ set_here mid count y x at,
@@ -20,13 +16,13 @@ module _ {A : Type 0} (R : A → A → Type 0) (old : List A) where
       )
       | inr apart ↦
           let p = is.below j before (omega (arith, lt, apart)) there in
-          (p.0, ap (λ (xs : List A). slice_get xs j) items ∙ set_apart mid count y j apart ∙ p.1, p.2)
+          (p.0, ap (λ (xs : List A). slice_get xs j) items ∙ get_set_other mid count j y apart ∙ p.1, p.2)
     ];
-    above = λ j le. ap (λ (xs : List A). slice_get xs j) items ∙ set_apart mid count y j (λ e. omega (arith, e, le)) ∙ is.above j (omega (arith, le));
+    above = λ j le. ap (λ (xs : List A). slice_get xs j) items ∙ get_set_other mid count j y (λ e. omega (arith, e, le)) ∙ is.above j (omega (arith, le));
   }
 
   pub all_changed : (count : ℕ) (new : List A) → ChangedBelow R count old new → length old ≤ count → (j : ℕ) (before : A) → slice_get old j ≡ Some before → (after : A) × (slice_get new j ≡ Some after) × R before after
-  all_changed count new is all j before there = is.below j before (let lt = get_within old j before there in omega (arith, lt, all)) there
+  all_changed count new is all j before there = is.below j before (let lt = slice_get_within old j before there in omega (arith, lt, all)) there
 
 -- ---- after a stop
 
@@ -34,14 +30,14 @@ module _ {A : Type 0} (R : A → A → Type 0) (old : List A) where
 pub member_ran : (old new : Share) → ShareStopped old new → (number : ℕ) (n : Member) → slice_get new.members.items number ≡ Some n
     → (m : Member) × (slice_get old.members.items number ≡ Some m) × HasStopped m n
 member_ran old new stopped number n is =
-    let found = some_at old.members.items number (let lt = get_within new.members.items number n is in let count = stopped.count in omega (arith, lt, count)) in
+    let found = some_at old.members.items number (let lt = slice_get_within new.members.items number n is in let count = stopped.count in omega (arith, lt, count)) in
     let now = stopped.members number found.0 found.1 in
     (found.0, found.1, subst (HasStopped found.0) (same_Some now.0 n (sym now.1 ∙ is)) now.2)
 
 pub share_ran : (old new : List Share) → SharesStopped old new → (number : ℕ) (t : Share) → slice_get new number ≡ Some t
     → (s : Share) × (slice_get old number ≡ Some s) × ShareStopped s t
 share_ran old new stopped number t is =
-    let found = some_at old number (let lt = get_within new number t is in let count = stopped.count in omega (arith, lt, count)) in
+    let found = some_at old number (let lt = slice_get_within new number t is in let count = stopped.count in omega (arith, lt, count)) in
     let now = stopped.each number found.0 found.1 in
     (found.0, found.1, subst (ShareStopped found.0) (same_Some now.0 t (sym now.1 ∙ is)) now.2)
 

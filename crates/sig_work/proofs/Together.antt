@@ -1,5 +1,5 @@
 -- The actors of all shares, put together: their links are balanced.
-use Rattle.sig_work.proofs.Common.{◌≡◌, ◌<◌, ◌≤◌, ◌+◌, ◌++◌, ◌∙◌, inl, inr, ℕ, ℤ, cond, List, [], length, ap, sym, subst, arith, None, Option, Some, slice_get, slice_index_or, eq-eqb, IsPrefixOf, get_at, get_within, Halt, output_text, some_at, at_most_or, Given, reactions_text, Reaction, plan_operations, ends_within, operations_in, IsAccepted, PlanView, LinkInfo, after_begins, IsOwn, Own, opening_own, AreBalanced, acts, collector_of, same_Some, AreSingle, IsAmong, times, sent_by, taken_by, AreAll, AreTogether, BeginsTheRun, HasDone, commits_of, own_of, AreSettledBelow, HaveRoomFor, Member, Share}
+use Rattle.sig_work.proofs.Common.{◌≡◌, ◌<◌, ◌≤◌, ◌+◌, ◌++◌, ◌∙◌, inl, inr, ℕ, ℤ, cond, List, [], length, ap, sym, subst, arith, None, Option, Some, slice_get, slice_index_or, eq-eqb, IsPrefixOf, Halt, output_text, at_most_or, Given, reactions_text, Reaction, plan_operations, ends_within, operations_in, IsAccepted, PlanView, LinkInfo, after_begins, IsOwn, Own, opening_own, AreBalanced, acts, collector_of, same_Some, AreSingle, IsAmong, times, sent_by, taken_by, AreAll, AreTogether, BeginsTheRun, HasDone, commits_of, own_of, AreSettledBelow, HaveRoomFor, Member, Share, slice_get-get_or, slice_get_within, some_at}
 use Rattle.sig_work.proofs.ChoicesBelow.{chosen}
 use Rattle.sig_work.proofs.CountedMembers.{same_member, some_member}
 use Rattle.sig_work.proofs.Settled.{StepsInterleave}
@@ -138,8 +138,8 @@ module _ (given : Given) (accepted : IsAccepted given.plan) (committed : List Re
         → ((own info.writer).sent j ≡ (own info.reader).taken j ++ slice_index_or links j []) × (length (slice_index_or links j []) ≤ given.capacity)
     held_at j info at =
         let count = all_held.1 in
-        let lt = get_within given.plan.links j info at in
-        all_held.2 j (slice_index_or links j []) (get_at links j [] (omega (arith, count, lt))) info at
+        let lt = slice_get_within given.plan.links j info at in
+        all_held.2 j (slice_index_or links j []) (slice_get-get_or links j [] (omega (arith, count, lt))) info at
 
     pub balanced : AreBalanced given own links
     balanced = record {

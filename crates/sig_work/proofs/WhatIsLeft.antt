@@ -1,5 +1,5 @@
 -- What is left of shares whose members give up ends.
-use Rattle.sig_work.proofs.Common.{◌≡◌, ◌<◌, ◌+◌, ◌∙◌, inl, inr, ℕ, suc, cond, List, [], ◌∷◌, length, get_or, set, refl, ap, sym, subst, arith, IfNone, IfSome, None, Option, Some, slice_get, sum_by, ◌==◌, length-set, sum_by-cons, get_at, get_within, IsSeatOf, parts, recorded, seen, Halt, HaltSeat, IsSettled, Put, Take, some_at, same_or_not, LinkInfo, set_here, same_Some, AreSingle, IsAmong, StandsAt, times, times_in, AreLeft, AreLeftEnds, AreSettledBelow, But, Each, From, HasNoPut, HasNoTake, HaveRoomFor, IsLeftMember, IsLeftShare, IsLinked, IsPutOf, IsSettledLink, IsTakeOf, AreSeatsOf, IsClosed, LinkEnds, Spot, Member, Share}
+use Rattle.sig_work.proofs.Common.{◌≡◌, ◌<◌, ◌+◌, ◌∙◌, inl, inr, ℕ, suc, cond, List, [], ◌∷◌, length, get_or, set, refl, ap, sym, subst, arith, IfNone, IfSome, None, Option, Some, slice_get, sum_by, ◌==◌, length-set, sum_by-cons, IsSeatOf, parts, recorded, seen, Halt, HaltSeat, IsSettled, Put, Take, LinkInfo, same_Some, AreSingle, IsAmong, StandsAt, times, times_in, AreLeft, AreLeftEnds, AreSettledBelow, But, Each, From, HasNoPut, HasNoTake, HaveRoomFor, IsLeftMember, IsLeftShare, IsLinked, IsPutOf, IsSettledLink, IsTakeOf, AreSeatsOf, IsClosed, LinkEnds, Spot, Member, Share, slice_get-get_or, slice_get_within, some_at, cases_eq, set_here}
 use Rattle.sig_work.proofs.CountedMembers.{same_member}
 use Rattle.sig_work.proofs.ItemInPlace.{set_apart}
 
@@ -49,13 +49,13 @@ module _ (P Q : ℕ → Type 0) where
     pub among_before : (k : ℕ) (n : Member) → IsAmong new k n → (m : Member) × IsAmong old k m × IsLeftMember P Q m n
     among_before k n one =
         let count = left.count in
-        let within = get_within new one.at one.share one.there in
+        let within = slice_get_within new one.at one.share one.there in
         let share = some_at old one.at (omega (arith, count, within)) in
         let after = left.each one.at share.0 share.1 in
         let same : after.0 ≡ one.share = same_Some after.0 one.share (sym after.1 ∙ one.there) in
         let many = after.2.count in
         let here : slice_get after.0.members.items one.number ≡ Some n = ap (λ (s : Share). slice_get s.members.items one.number) same ∙ one.is in
-        let inside = get_within after.0.members.items one.number n here in
+        let inside = slice_get_within after.0.members.items one.number n here in
         let m = some_at share.0.members.items one.number (omega (arith, many, inside)) in
         let found = after.2.each one.number m.0 m.1 in
         let is_n : found.0 ≡ n = same_Some found.0 n (sym found.1 ∙ here) in
@@ -149,7 +149,7 @@ module _ (n : ℕ) where
 
   pub more_settled : (links : List LinkInfo) (old now : List Share) → AreLeft (From n) (From n) old now → AreSettledBelow n links old
       → (info : LinkInfo) → slice_get links n ≡ Some info → IsSettledLink now n info → AreSettledBelow (n + 1) links old
-  more_settled links old now left settled info at here link other below is = elim (same_or_not link n) [
+  more_settled links old now left settled info at here link other below is = elim (cases_eq link n) [
     | inl same ↦
         let info_is : info ≡ other = same_Some info other (sym at ∙ ap (slice_get links) (sym same) ∙ is) in
         subst (λ i. IsSettledLink old i other) (sym same)
@@ -184,7 +184,7 @@ module _ (P Q : ℕ → Type 0) where
   module _ (old : Share) (number : ℕ) (m n : Member) (at : slice_get old.members.items number ≡ Some m) (left : IsLeftMember P Q m n) where
     member_after : (i : ℕ) (before : Member) → slice_get old.members.items i ≡ Some before
         → (after : Member) × (slice_get (set old.members.items number n) i ≡ Some after) × IsLeftMember P Q before after
-    member_after i before is = elim (same_or_not i number) [
+    member_after i before is = elim (cases_eq i number) [
       | inl same ↦
           let m_is : m ≡ before = same_Some m before (sym at ∙ ap (slice_get old.members.items) (sym same) ∙ is) in
           (n, ap (slice_get (set old.members.items number n)) same ∙ set_here old.members.items number n m at, subst (λ (x : Member). IsLeftMember P Q x n) m_is left)
@@ -203,7 +203,7 @@ module _ (P Q : ℕ → Type 0) where
   pub left_one : (shares : List Share) (at : ℕ) (share new : Share) → slice_get shares at ≡ Some share → IsLeftShare P Q share new → AreLeft P Q shares (set shares at new)
   left_one shares at share new there left = record {
     count = length-set shares at new;
-    each = λ i before is. elim (same_or_not i at) [
+    each = λ i before is. elim (cases_eq i at) [
       | inl same ↦
           let share_is : share ≡ before = same_Some share before (sym there ∙ ap (slice_get shares) (sym same) ∙ is) in
           (new, ap (slice_get (set shares at new)) same ∙ set_here shares at new share there, subst (λ (x : Share). IsLeftShare P Q x new) share_is left)
@@ -218,7 +218,7 @@ module _ (shares : List Share) (k : ℕ) (spot : Spot) (stands : StandsAt shares
   here = get_or shares spot.share d
 
   pub share_at : slice_get shares spot.share ≡ Some here
-  share_at = get_at shares spot.share d (get_within shares spot.share stands.share stands.there)
+  share_at = slice_get-get_or shares spot.share d (slice_get_within shares spot.share stands.share stands.there)
 
   pub share_is : stands.share ≡ here
   share_is = same_Some stands.share here (sym stands.there ∙ share_at)
@@ -227,7 +227,7 @@ module _ (shares : List Share) (k : ℕ) (spot : Spot) (stands : StandsAt shares
   member_at = ap (λ (s : Share). slice_get s.members.items spot.member) (sym share_is) ∙ stands.is
 
   pub member_within : spot.member < length here.members.items
-  member_within = get_within here.members.items spot.member stands.member member_at
+  member_within = slice_get_within here.members.items spot.member stands.member member_at
 
   pub among_at : IsAmong shares k stands.member
   among_at = record { at = spot.share; number = spot.member; share = stands.share; there = stands.there; is = stands.is; numbered = stands.numbered }
@@ -262,7 +262,7 @@ module _ (P Q : ℕ → Type 0) (old new : List Share) (left : AreLeft P Q old n
   seat_before : (at : ℕ) (after : Share) → slice_get new at ≡ Some after → (before : Share) × (slice_get old at ≡ Some before) × (after.seat ≡ before.seat)
   seat_before at after there =
       let count = left.count in
-      let lt = get_within new at after there in
+      let lt = slice_get_within new at after there in
       let before = some_at old at (omega (arith, count, lt)) in
       let found = left.each at before.0 before.1 in
       let same : found.0 ≡ after = same_Some found.0 after (sym found.1 ∙ there) in

@@ -1,15 +1,14 @@
 -- What stays of members and shares: from one call to the next, and where one of several goes on.
-use Rattle.sig_work.proofs.Common.{◌≡◌, ◌≢◌, ◌<◌, ◌≤◌, ◌+◌, ◌⊎◌, ◌∙◌, inl, inr, ℕ, true, List, length, set, refl, ap, sym, subst, arith, Some, ◌==◌, slice_get, length-set, get_within, IsSameSeat, HaltSeat, some_at, same_or_not, Given, set_here, same_Some, AreSameEnds, AreSameEnds-itself, IsSameMember, is_collector, HasEndedAt, HaveEndedAt, KeepsMember, KeepsSeat, KeepsShare, KeepsShares, AllEnded, AreSameShares, HasCollector, HaveCollector, HaveEnded, NoneFaulted, LinkEnds, Member, Share}
-use Rattle.sig_work.proofs.EndLemmas.{set_apart}
+use Rattle.sig_work.proofs.Common.{◌≡◌, ◌≢◌, ◌<◌, ◌≤◌, ◌+◌, ◌⊎◌, ◌∙◌, inl, inr, ℕ, true, List, length, set, refl, ap, sym, subst, arith, Some, ◌==◌, slice_get, length-set, IsSameSeat, HaltSeat, Given, same_Some, AreSameEnds, AreSameEnds-itself, IsSameMember, is_collector, HasEndedAt, HaveEndedAt, KeepsMember, KeepsSeat, KeepsShare, KeepsShares, AllEnded, AreSameShares, HasCollector, HaveCollector, HaveEnded, NoneFaulted, LinkEnds, Member, Share, slice_get_within, some_at, cases_eq, get_set_other, set_here}
 
 -- ---- one element of a list changed
 
 -- an element of a list with one changed: it is the new one, or was there before
 pub at_set : {A : Type 0} (xs : List A) (k : ℕ) (old new : A) → slice_get xs k ≡ Some old → (j : ℕ) (x : A) → slice_get (set xs k new) j ≡ Some x
     → ((j ≡ k) × (new ≡ x)) ⊎ ((j ≢ k) × (slice_get xs j ≡ Some x))
-at_set {A} xs k old new at j x is = elim (same_or_not j k) [
+at_set {A} xs k old new at j x is = elim (cases_eq j k) [
   | inl same ↦ inl (same, same_Some new x (sym (set_here xs k new old at) ∙ ap (slice_get (set xs k new)) (sym same) ∙ is))
-  | inr apart ↦ inr (apart, sym (set_apart xs k new j apart) ∙ is)
+  | inr apart ↦ inr (apart, sym (get_set_other xs k j new apart) ∙ is)
 ]
 
 -- ---- the same ends
@@ -89,14 +88,14 @@ shares_keep_then a b c one two = record {
 pub member_was : (old new : Share) → KeepsShare old new → (number : ℕ) (n : Member) → slice_get new.members.items number ≡ Some n
     → (m : Member) × (slice_get old.members.items number ≡ Some m) × KeepsMember m n
 member_was old new keeps number n is =
-    let found = some_at old.members.items number (let lt = get_within new.members.items number n is in let count = keeps.count in omega (arith, lt, count)) in
+    let found = some_at old.members.items number (let lt = slice_get_within new.members.items number n is in let count = keeps.count in omega (arith, lt, count)) in
     let now = keeps.members number found.0 found.1 in
     (found.0, found.1, subst (KeepsMember found.0) (same_Some now.0 n (sym now.1 ∙ is)) now.2)
 
 pub share_was : (old new : List Share) → KeepsShares old new → (number : ℕ) (t : Share) → slice_get new number ≡ Some t
     → (s : Share) × (slice_get old number ≡ Some s) × KeepsShare s t
 share_was old new keeps number t is =
-    let found = some_at old number (let lt = get_within new number t is in let count = keeps.count in omega (arith, lt, count)) in
+    let found = some_at old number (let lt = slice_get_within new number t is in let count = keeps.count in omega (arith, lt, count)) in
     let now = keeps.each number found.0 found.1 in
     (found.0, found.1, subst (KeepsShare found.0) (same_Some now.0 t (sym now.1 ∙ is)) now.2)
 
@@ -105,13 +104,13 @@ share_was old new keeps number t is =
 pub one_member : (old new : Share) (number : ℕ) (m n : Member) → slice_get old.members.items number ≡ Some m → new.members.items ≡ set old.members.items number n → KeepsMember m n → IsSameSeat old.seat new.seat → KeepsShare old new
 one_member old new number m n at items keeps seats = record {
   count = ap (λ (xs : List Member). length xs) items ∙ length-set old.members.items number n;
-  members = λ j before is. elim (same_or_not j number) [
+  members = λ j before is. elim (cases_eq j number) [
     | inl same ↦ (
       n,
       ap (λ (xs : List Member). slice_get xs j) items ∙ ap (slice_get (set old.members.items number n)) same ∙ set_here old.members.items number n m at,
       subst (λ (x : Member). KeepsMember x n) (same_Some m before (sym at ∙ ap (slice_get old.members.items) (sym same) ∙ is)) keeps,
     )
-    | inr apart ↦ (before, ap (λ (xs : List Member). slice_get xs j) items ∙ set_apart old.members.items number n j apart ∙ is, keeps_member before)
+    | inr apart ↦ (before, ap (λ (xs : List Member). slice_get xs j) items ∙ get_set_other old.members.items number j n apart ∙ is, keeps_member before)
   ];
   seats = seats;
 }
@@ -119,13 +118,13 @@ one_member old new number m n at items keeps seats = record {
 pub one_share : (old new : List Share) (number : ℕ) (s t : Share) → slice_get old number ≡ Some s → new ≡ set old number t → KeepsShare s t → KeepsShares old new
 one_share old new number s t at items keeps = record {
   count = ap (λ (xs : List Share). length xs) items ∙ length-set old number t;
-  each = λ j before is. elim (same_or_not j number) [
+  each = λ j before is. elim (cases_eq j number) [
     | inl same ↦ (
       t,
       ap (λ (xs : List Share). slice_get xs j) items ∙ ap (slice_get (set old number t)) same ∙ set_here old number t s at,
       subst (λ (x : Share). KeepsShare x t) (same_Some s before (sym at ∙ ap (slice_get old) (sym same) ∙ is)) keeps,
     )
-    | inr apart ↦ (before, ap (λ (xs : List Share). slice_get xs j) items ∙ set_apart old number t j apart ∙ is, keeps_share before)
+    | inr apart ↦ (before, ap (λ (xs : List Share). slice_get xs j) items ∙ get_set_other old number j t apart ∙ is, keeps_share before)
   ];
 }
 
@@ -203,19 +202,19 @@ have_ended_here old new number s t at items ended x there =
 
 -- one more
 pub more_ended : (old new : Share) → KeepsShare old new → (count : ℕ) → ((j : ℕ) → j < count → HasEndedAt old j) → HasEndedAt new count → (j : ℕ) → j < count + 1 → HasEndedAt new j
-more_ended old new keeps count before here j lt = elim (same_or_not j count) [
+more_ended old new keeps count before here j lt = elim (cases_eq j count) [
   | inl same ↦ subst (HasEndedAt new) (sym same) here
   | inr apart ↦ ended_stays old new keeps j (before j (omega (arith, lt, apart)))
 ]
 
 pub more_have_ended : (old new : List Share) → KeepsShares old new → (count : ℕ) → ((j : ℕ) → j < count → HaveEndedAt old j) → HaveEndedAt new count → (j : ℕ) → j < count + 1 → HaveEndedAt new j
-more_have_ended old new keeps count before here j lt = elim (same_or_not j count) [
+more_have_ended old new keeps count before here j lt = elim (cases_eq j count) [
   | inl same ↦ subst (HaveEndedAt new) (sym same) here
   | inr apart ↦ have_ended_stay old new keeps j (before j (omega (arith, lt, apart)))
 ]
 
 pub all_have_ended : (share : Share) (count : ℕ) → length share.members.items ≤ count → ((j : ℕ) → j < count → HasEndedAt share j) → AllEnded share
-all_have_ended share count all ended number m there = ended number (let lt = get_within share.members.items number m there in omega (arith, lt, all)) m there
+all_have_ended share count all ended number m there = ended number (let lt = slice_get_within share.members.items number m there in omega (arith, lt, all)) m there
 
 pub have_all_ended : (shares : List Share) (count : ℕ) → length shares ≤ count → ((j : ℕ) → j < count → HaveEndedAt shares j) → HaveEnded shares
-have_all_ended shares count all ended number share there = ended number (let lt = get_within shares number share there in omega (arith, lt, all)) share there
+have_all_ended shares count all ended number share there = ended number (let lt = slice_get_within shares number share there in omega (arith, lt, all)) share there

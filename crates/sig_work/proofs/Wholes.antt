@@ -1,5 +1,5 @@
 -- A whole run: what was dealt and then served comes to the end of the run.
-use Rattle.sig_work.proofs.Common.{◌≡◌, ◌<◌, ◌≤◌, ◌-◌, ◌+◌, ◌++◌, ◌∙◌, inl, inr, ℕ, ℤ, List, [], ◌∷◌, length, refl, ap, sym, subst, arith, None, Option, Some, slice_get, eqb-true, length-append, IsWholeRun, TookSome, IsLongest, Trace, Place, get_within, Halt, IsKernelTrace, output_text, AreFlowsFor, OfOneLink, Put, Take, some_at, at_most_or, IsEnd, Given, reactions_text, Reaction, IsAccepted, PlanView, LinkInfo, text_is, TookPrefix, TookPrefix-longer, same_Some, AreSingle, IsAmong, times, AreAll, AreDealt, AreDone, AreTogether, BeginsTheRun, IsEndOfRun, IsSameMember, run_of, AreBegun, AreKept, IsOfClusters, WereHalted, WereRun, HaveEnded, IsServing, NoneFaulted, Faulted, Member, Share}
+use Rattle.sig_work.proofs.Common.{◌≡◌, ◌<◌, ◌≤◌, ◌-◌, ◌+◌, ◌++◌, ◌∙◌, inl, inr, ℕ, ℤ, List, [], ◌∷◌, length, refl, ap, sym, subst, arith, None, Option, Some, slice_get, eqb-true, length-append, IsWholeRun, TookSome, IsLongest, Trace, Place, Halt, IsKernelTrace, output_text, AreFlowsFor, OfOneLink, Put, Take, at_most_or, IsEnd, Given, reactions_text, Reaction, IsAccepted, PlanView, LinkInfo, text_is, TookPrefix, TookPrefix-longer, same_Some, AreSingle, IsAmong, times, AreAll, AreDealt, AreDone, AreTogether, BeginsTheRun, IsEndOfRun, IsSameMember, run_of, AreBegun, AreKept, IsOfClusters, WereHalted, WereRun, HaveEnded, IsServing, NoneFaulted, Faulted, Member, Share, slice_get_within, some_at}
 use Rattle.sig_plan.specs.declared.ended.Ended.{Ended}
 use Rattle.sig_work.proofs.CountedMembers.{some_member}
 use Rattle.sig_work.proofs.ItemInPlace.{get_front, get_last, get_more}
@@ -38,7 +38,7 @@ module _ (given : Given) (workers : ℕ) (word : Halt) (dealt : List Share) (are
               let among : IsAmong dealt (length given.plan.codes - 1) m = record { at = at; number = has.0; share = share; there = inside; is = has.2; numbered = omega (arith, number) } in
               let stands = are.collector m among in
               let count = are.count in
-              let lt = get_within others at share there in
+              let lt = slice_get_within others at share there in
               let all = ap (λ (xs : List Share). length xs) is in
               let longer = length-append others (last ∷ []) in
               omega (arith, stands, count, lt, all, longer));
@@ -62,7 +62,7 @@ module _ (given : Given) (workers : ℕ) (word : Halt) (dealt : List Share) (are
     was_dealt k m one =
         let before = kept.from one.share (one.at, one.there) in
         let many = before.2.count in
-        let lt = get_within one.share.members.items one.number m one.is in
+        let lt = slice_get_within one.share.members.items one.number m one.is in
         let b = some_at before.0.members.items one.number (omega (arith, lt, many)) in
         let after = before.2.members one.number b.0 b.1 in
         let same : after.0 ≡ m = same_Some after.0 m (sym after.1 ∙ one.is) in

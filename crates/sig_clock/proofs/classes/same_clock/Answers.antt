@@ -1,4 +1,4 @@
-use Rattle.sig_clock.proofs.{◌≡◌, ◌+◌, ℕ, List, ap, sym, subst, ◌∙◌, length, arith, AreJoined, related, item_at, written, ArePartition, first_partition, last_partition, next_partition}
+use Rattle.sig_clock.proofs.{◌≡◌, ◌+◌, ℕ, List, ap, sym, subst, ◌∙◌, length, arith, AreJoined, related, ArePartition, first_partition, last_partition, next_partition, item_at, written}
 use Rattle.sig_clock.proofs.classes.same_clock.Goals as goal
 
 pub loop-equation-init : goal.loop-equation-init

@@ -1,5 +1,4 @@
-use Rattle.sig_compile.specs.Acceptance.{HasSignalNames}
-use Rattle.sig_compile.proofs.{subst, sym, own_names}
+use Rattle.sig_compile.proofs.{HasSignalNames, subst, sym, own_names}
 use Rattle.sig_compile.proofs.compile.plan_of.Goals as goal
 
 pub returns-in-Ok-clause-names : goal.returns-in-Ok-clause-names

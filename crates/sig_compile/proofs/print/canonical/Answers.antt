@@ -1,4 +1,4 @@
-use Rattle.sig_compile.proofs.{◌≡◌, ◌≤◌, ap, arith, length, err_from_is_err_and, IsText, canonical_text, done, reaches_text, stops_bytes, stops_unread, on_err, on_ok, IsFrontLine, IsPrintStatus, RefusesText, front_text_line}
+use Rattle.sig_compile.proofs.{◌≡◌, ◌≤◌, ap, arith, length, err_from_is_err_and, IsText, canonical_text, done, reaches_text, stops_bytes, stops_unread, IsFrontLine, IsPrintStatus, RefusesText, front_text_line, IfErr-weaker, IfOk-weaker}
 use Rattle.sig_compile.proofs.print.canonical.Goals as goal
 
 pub returns-in_err-bytes-clause-stops : goal.returns-in_err-bytes-clause-stops
@@ -12,7 +12,7 @@ returns-in_err-bytes-clause-stops g c =
 pub returns-clause-stops : goal.returns-clause-stops
 returns-clause-stops g c =
     let short : length c.in_ok-bytes.bytes.items ≤ 1048576 = omega (arith, c.in_ok-bytes.ensures.within, c.deref.ensures.len, ap length c.deref.ensures.value) in
-    on_err c.canonical_of.result _ _
+    IfErr-weaker c.canonical_of.result _ _
     (λ r is. stops_bytes IsText RefusesText (λ tree o. o ≡ done (canonical_text tree) c.args.name.now) IsPrintStatus IsFrontLine (λ nodes. ⊥) (λ held. ⊥) c.args.name.now
     (g.F.Files.contents c.args.files.now) (g.F.Files.at c.args.files.now) (g.F.Files.at c.read_program.new.files)
     (g.F.Files.misses c.args.files.now) (g.F.Files.misses c.read_program.new.files) (g.F.Files.faults c.args.files.now) (g.F.Files.faults c.read_program.new.files)
@@ -23,7 +23,7 @@ returns-clause-stops g c =
 pub returns-clause-text : goal.returns-clause-text
 returns-clause-text g c =
     let short : length c.in_ok-bytes.bytes.items ≤ 1048576 = omega (arith, c.in_ok-bytes.ensures.within, c.deref.ensures.len, ap length c.deref.ensures.value) in
-    on_ok c.canonical_of.result _ _
+    IfOk-weaker c.canonical_of.result _ _
     (λ text is. reaches_text IsText RefusesText (λ tree o. o ≡ done (canonical_text tree) c.args.name.now) IsPrintStatus IsFrontLine (λ nodes. ⊥) (λ held. ⊥) c.args.name.now
     (g.F.Files.contents c.args.files.now) (g.F.Files.at c.args.files.now) (g.F.Files.at c.read_program.new.files)
     c.in_ok-bytes.bytes.items text.items is.tree c.in_ok-bytes.ensures.bytes short is.is (ap (λ t. done t c.args.name.now) is.printed) c.in_ok-bytes.ensures.read.told)

@@ -1,7 +1,4 @@
-use Rattle.std.proofs.Common.{◌≡◌, ℤ, pos, ap, ◌∙◌, rules, w64, FitsSigned, int_rem}
-use Rattle.std.specs.Int.{cast_unsigned}
-use Rattle.std.proofs.lemmas.Int.{to_z-of_z}
-use Rattle.sig_exec.proofs.Remainders.{remainder_is, remaining_is}
+use Rattle.sig_exec.proofs.{◌≡◌, ℤ, pos, ap, ◌∙◌, rules, w64, FitsSigned, int_rem, cast_unsigned, to_z-of_z, remainder_is, remaining_is}
 use Rattle.sig_exec.proofs.computed.remaining.Goals as goal
 
 pub returns : goal.returns

@@ -1,6 +1,4 @@
-use Rattle.std.proofs.Common.{subst}
-use Rattle.sig_file.specs.Images.{ImageView}
-use Rattle.sig_exec.specs.Running.{TookSome}
+use Rattle.sig_exec.proofs.{subst, ImageView, TookSome}
 use Rattle.sig_exec.proofs.execute.exec.Goals as goal
 
 pub returns-clause-prefix : goal.returns-clause-prefix

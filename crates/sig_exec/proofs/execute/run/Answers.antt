@@ -1,11 +1,4 @@
-use Rattle.std.proofs.Common.{◌∙◌, arith, refl, subst}
-use Rattle.std.proofs.lemmas.Result.{err_from_is_err_and}
-use Rattle.sig_file.specs.Guarded.{guards_of}
-use Rattle.sig_file.specs.ImageRuns.{EndsIn, State, cleared}
-use Rattle.sig_exec.specs.inner.Instants.{HandlesEach}
-use Rattle.sig_exec.specs.inner.Machines.{state_of}
-use Rattle.sig_exec.proofs.RunByInstants.{run_begins, run_ends, run_fails, run_more, run_stops}
-use Rattle.sig_exec.proofs.InstructionWorks.{flows_length, has_cells, memories_length}
+use Rattle.sig_exec.proofs.{◌∙◌, arith, refl, subst, err_from_is_err_and, guards_of, EndsIn, State, cleared, HandlesEach, state_of, run_begins, run_ends, run_fails, run_more, run_stops, flows_length, has_cells, memories_length}
 use Rattle.sig_exec.proofs.execute.run.Goals as goal
 
 pub loop-done-init : goal.loop-done-init

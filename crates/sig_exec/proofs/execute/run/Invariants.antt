@@ -1,6 +1,4 @@
-use Rattle.std.proofs.Common.{◌≡◌, ◌≤◌}
-use Rattle.sig_exec.specs.inner.Machines.{IsMachineOf, state_of}
-use Rattle.sig_exec.proofs.RunByInstants.{HasRun}
+use Rattle.sig_exec.proofs.{◌≡◌, ◌≤◌, IsMachineOf, state_of, HasRun}
 use Rattle.sig_exec.proofs.execute.run.Given as goal
 
 abbrev pub invariant-loop-done : goal.invariant-loop-done

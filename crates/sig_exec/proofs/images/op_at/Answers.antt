@@ -1,8 +1,4 @@
-use Rattle.std.proofs.Common.{◌≡◌, ap, sym, subst, length, List, Some}
-use Rattle.std.specs.Prelude.{slice_get}
-use Rattle.std.proofs.lemmas.Option.{slice_get_read}
-use Rattle.sig_file.specs.declared.images.ImageOp.{ImageOp}
-use Rattle.sig_exec.proofs.Places.{operation_at}
+use Rattle.sig_exec.proofs.{◌≡◌, ap, sym, subst, length, List, Some, slice_get, slice_get_read, ImageOp, operation_at}
 use Rattle.sig_exec.proofs.images.op_at.Goals as goal
 
 pub returns-clause-right : goal.returns-clause-right

@@ -1,5 +1,4 @@
-use Rattle.sig_exec.proofs.RunOfSoundImage.{some_run}
-use Rattle.sig_exec.proofs.Single.{one_run, run_within}
+use Rattle.sig_exec.proofs.{some_run, one_run, run_within}
 use Rattle.sig_exec.proofs.laws.images_have_one_run.Goals as goal
 
 pub returns-clause-one : goal.returns-clause-one

@@ -1,8 +1,4 @@
-use Rattle.std.proofs.Common.{◌≡◌, ◌+◌, ◌∷◌, [], ◌∙◌, ap, sym, subst, length, length-append, List, ℕ, Some}
-use Rattle.std.specs.Prelude.{slice_get}
-use Rattle.sig_exec.specs.inner.Lowerings.{AreFor}
-use Rattle.sig_exec.specs.declared.instruction.Instruction.{Instruction}
-use Rattle.sig_exec.proofs.MoreConstants.{begin_room, grow_begin, one_more}
+use Rattle.sig_exec.proofs.{◌≡◌, ◌+◌, ◌∷◌, [], ◌∙◌, ap, sym, subst, length, length-append, List, ℕ, Some, slice_get, AreFor, Instruction, begin_room, grow_begin, one_more}
 use Rattle.sig_exec.proofs.lowering.lower.Goals as goal
 
 pub instruction_of-requires-clause-room : goal.instruction_of-requires-clause-room

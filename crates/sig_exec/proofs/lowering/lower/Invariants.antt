@@ -1,5 +1,4 @@
-use Rattle.std.proofs.Common.{◌≡◌, length}
-use Rattle.sig_exec.specs.inner.Lowerings.{AreFor, BeginWith}
+use Rattle.sig_exec.proofs.{◌≡◌, length, AreFor, BeginWith}
 use Rattle.sig_exec.proofs.lowering.lower.Given as goal
 
 abbrev pub invariant-loop-place : goal.invariant-loop-place

@@ -1,10 +1,4 @@
-use Rattle.std.proofs.Common.{◌≡◌, ◌<◌, ◌+◌, arith, length, ap, sym, subst, ℕ, List}
-use Rattle.std.proofs.lemmas.Result.{err_from_is_err_and}
-use Rattle.sig_text.specs.Sink.{TookPrefix}
-use Rattle.sig_exec.specs.inner.Instants.{line_at}
-use Rattle.sig_exec.specs.inner.Machines.{registers_of}
-use Rattle.sig_exec.proofs.Cells.{registers_length}
-use Rattle.sig_exec.proofs.OutputLines.{line_more, lines_upto, prefix_of_lines}
+use Rattle.sig_exec.proofs.{◌≡◌, ◌<◌, ◌+◌, arith, length, ap, sym, subst, ℕ, List, err_from_is_err_and, TookPrefix, line_at, registers_of, registers_length, line_more, lines_upto, prefix_of_lines}
 use Rattle.sig_exec.proofs.putting.put_instant.Goals as goal
 
 pub returns-in_err-put_signal-clause-prefix : goal.returns-in_err-put_signal-clause-prefix

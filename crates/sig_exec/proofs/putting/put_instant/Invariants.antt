@@ -1,6 +1,4 @@
-use Rattle.std.proofs.Common.{◌≤◌}
-use Rattle.sig_exec.specs.inner.Machines.{registers_of}
-use Rattle.sig_exec.proofs.OutputLines.{lines_upto}
+use Rattle.sig_exec.proofs.{◌≤◌, registers_of, lines_upto}
 use Rattle.sig_exec.proofs.putting.put_instant.Given as goal
 
 abbrev pub invariant-loop-output : goal.invariant-loop-output

@@ -1,11 +1,4 @@
-use Rattle.std.proofs.Common.{rules, w64, ◌∙◌, sym, subst, ℕ, ℤ, List, Some, None}
-use Rattle.std.proofs.lemmas.Int.{to_z-of_z}
-use Rattle.sig_kernel.specs.OutputText.{line_of}
-use Rattle.std.specs.Prelude.{OnErr, OnOk}
-use Rattle.sig_text.specs.Sink.{TookPrefix}
-use Rattle.sig_exec.specs.inner.Machines.{registers_of}
-use Rattle.sig_exec.proofs.Cells.{registers_at}
-use Rattle.sig_exec.proofs.OutputLines.{line_is}
+use Rattle.sig_exec.proofs.{rules, w64, ◌∙◌, sym, subst, ℕ, ℤ, List, Some, None, to_z-of_z, line_of, OnErr, OnOk, TookPrefix, registers_of, registers_at, line_is}
 use Rattle.sig_exec.proofs.putting.put_signal.Goals as goal
 
 pub returns-in-Some-clause-all : goal.returns-in-Some-clause-all

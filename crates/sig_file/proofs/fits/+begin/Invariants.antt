@@ -1,4 +1,4 @@
-use Rattle.sig_file.proofs.Common.{length}
+use Rattle.sig_file.proofs.{length}
 use Rattle.sig_file.proofs.fits.+begin.Given as goal
 
 abbrev pub decreases-begin : goal.decreases-begin

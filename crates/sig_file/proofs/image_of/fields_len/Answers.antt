@@ -1,6 +1,4 @@
-use Rattle.sig_file.proofs.Common.{arith, ◌≡◌, ap, length, flat_map}
-use Rattle.sig_file.specs.Bytes.{operand_bytes}
-use Rattle.sig_file.proofs.Lengths.{constant_len, copy_len, delay_read_len, function_len, read_len, store_len}
+use Rattle.sig_file.proofs.{arith, ◌≡◌, ap, length, flat_map, operand_bytes, constant_len, copy_len, delay_read_len, function_len, read_len, store_len}
 use Rattle.sig_file.proofs.image_of.fields_len.Goals as goal
 
 pub returns-in-Read : goal.returns-in-Read

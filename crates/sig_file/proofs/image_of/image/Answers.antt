@@ -1,7 +1,5 @@
-use Rattle.sig_file.proofs.Common.{◌≡◌, Err, ap, arith, rules}
+use Rattle.sig_file.proofs.{◌≡◌, Err, ap, arith, rules, TooLong, image_len}
 use Rattle.sig_file.specs.PlanImages.{image_of}
-use Rattle.sig_file.specs.declared.answer.FileAnswer.TheVariants.{TooLong}
-use Rattle.sig_file.proofs.Lengths.{image_len}
 use Rattle.sig_file.proofs.image_of.image.Goals as goal
 
 pub returns-in_err-parts-clause-long : goal.returns-in_err-parts-clause-long

@@ -1,7 +1,4 @@
-use Rattle.sig_file.proofs.Common.{◌≡◌, ap, arith, flat_map, length}
-use Rattle.sig_file.specs.Bytes.{op_bytes, signal_bytes}
-use Rattle.sig_file.specs.inner.Parts.{view_of}
-use Rattle.sig_file.proofs.Lengths.{image_len}
+use Rattle.sig_file.proofs.{◌≡◌, ap, arith, flat_map, length, op_bytes, signal_bytes, view_of, image_len}
 use Rattle.sig_file.proofs.image_of.len_of.Goals as goal
 
 pub returns : goal.returns

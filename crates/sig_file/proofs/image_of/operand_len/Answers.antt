@@ -1,5 +1,4 @@
-use Rattle.sig_file.proofs.Common.{sym}
-use Rattle.sig_file.proofs.Lengths.{constant_operand, signal_operand}
+use Rattle.sig_file.proofs.{sym, constant_operand, signal_operand}
 use Rattle.sig_file.proofs.image_of.operand_len.Goals as goal
 
 pub returns-in-Sig : goal.returns-in-Sig

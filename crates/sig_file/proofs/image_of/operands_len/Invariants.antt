@@ -1,6 +1,4 @@
-use Rattle.sig_file.proofs.Common.{◌≡◌, ◌-◌, ◌^◌, flat_map, length, take}
-use Rattle.std.specs.Prelude.{min}
-use Rattle.sig_file.specs.Bytes.{operand_bytes}
+use Rattle.sig_file.proofs.{◌≡◌, ◌-◌, ◌^◌, flat_map, length, take, min, operand_bytes}
 use Rattle.sig_file.proofs.image_of.operands_len.Given as goal
 
 abbrev pub invariant-loop-operand : goal.invariant-loop-operand

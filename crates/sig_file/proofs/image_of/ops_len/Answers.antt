@@ -1,6 +1,4 @@
-use Rattle.sig_file.proofs.Common.{arith}
-use Rattle.sig_file.specs.Bytes.{op_bytes}
-use Rattle.sig_file.proofs.Lengths.{length_next, op_len}
+use Rattle.sig_file.proofs.{arith, op_bytes, length_next, op_len}
 use Rattle.sig_file.proofs.image_of.ops_len.Goals as goal
 
 pub loop-op-preserved : goal.loop-op-preserved

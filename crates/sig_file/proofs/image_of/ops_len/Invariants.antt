@@ -1,6 +1,4 @@
-use Rattle.sig_file.proofs.Common.{◌≡◌, ◌-◌, ◌^◌, flat_map, length, take}
-use Rattle.std.specs.Prelude.{min}
-use Rattle.sig_file.specs.Bytes.{op_bytes}
+use Rattle.sig_file.proofs.{◌≡◌, ◌-◌, ◌^◌, flat_map, length, take, min, op_bytes}
 use Rattle.sig_file.proofs.image_of.ops_len.Given as goal
 
 abbrev pub invariant-loop-op : goal.invariant-loop-op

@@ -1,5 +1,4 @@
-use Rattle.sig_file.proofs.Common.{All, take}
-use Rattle.sig_file.specs.Spelled.{HasPlace}
+use Rattle.sig_file.proofs.{All, take, HasPlace}
 use Rattle.sig_file.proofs.image_of.places_fit.Given as goal
 
 abbrev pub invariant-loop-op : goal.invariant-loop-op

@@ -1,6 +1,4 @@
-use Rattle.sig_file.proofs.Common.{arith}
-use Rattle.sig_file.specs.Bytes.{signal_bytes}
-use Rattle.sig_file.proofs.Lengths.{length_next, signal_len}
+use Rattle.sig_file.proofs.{arith, signal_bytes, length_next, signal_len}
 use Rattle.sig_file.proofs.image_of.signals_len.Goals as goal
 
 pub loop-signal-preserved : goal.loop-signal-preserved

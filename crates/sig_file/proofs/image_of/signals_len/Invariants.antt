@@ -1,6 +1,4 @@
-use Rattle.sig_file.proofs.Common.{◌≡◌, ◌-◌, ◌^◌, flat_map, length, take}
-use Rattle.std.specs.Prelude.{min}
-use Rattle.sig_file.specs.Bytes.{signal_bytes}
+use Rattle.sig_file.proofs.{◌≡◌, ◌-◌, ◌^◌, flat_map, length, take, min, signal_bytes}
 use Rattle.sig_file.proofs.image_of.signals_len.Given as goal
 
 abbrev pub invariant-loop-signal : goal.invariant-loop-signal

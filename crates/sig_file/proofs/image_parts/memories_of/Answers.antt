@@ -1,5 +1,4 @@
-use Rattle.sig_file.specs.PlanImages.{memory_of}
-use Rattle.sig_file.proofs.MadeBehind.{filter_map_next}
+use Rattle.sig_file.proofs.{memory_of, filter_map_next}
 use Rattle.sig_file.proofs.image_parts.memories_of.Goals as goal
 
 pub loop-equation-preserved : goal.loop-equation-preserved

@@ -1,6 +1,4 @@
-use Rattle.sig_file.proofs.Common.{◌≡◌, take}
-use Rattle.std.specs.Prelude.{filter_map}
-use Rattle.sig_file.specs.PlanImages.{memory_of}
+use Rattle.sig_file.proofs.{◌≡◌, take, filter_map, memory_of}
 use Rattle.sig_file.proofs.image_parts.memories_of.Given as goal
 
 abbrev pub invariant-loop-equation : goal.invariant-loop-equation

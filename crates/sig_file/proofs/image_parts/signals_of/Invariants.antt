@@ -1,5 +1,4 @@
-use Rattle.sig_file.proofs.Common.{◌≡◌, map, take}
-use Rattle.sig_file.specs.PlanImages.{image_signal}
+use Rattle.sig_file.proofs.{◌≡◌, map, take, image_signal}
 use Rattle.sig_file.proofs.image_parts.signals_of.Given as goal
 
 abbrev pub invariant-loop-signal : goal.invariant-loop-signal

@@ -1,6 +1,4 @@
-use Rattle.sig_file.specs.Images.{IsMemory, IsNodeBehind, IsOperation, IsSignalBehind, is_condition_behind, scope_of}
-use Rattle.sig_file.specs.Prelude.{IsTrue, length}
-use Rattle.sig_file.proofs.Behind.{each_at}
+use Rattle.sig_file.proofs.{IsMemory, IsNodeBehind, IsOperation, IsSignalBehind, is_condition_behind, scope_of, IsTrue, length, each_at}
 use Rattle.sig_file.proofs.laws.items_of_images_are_right.Goals as goal
 
 pub returns-clause-signals : goal.returns-clause-signals

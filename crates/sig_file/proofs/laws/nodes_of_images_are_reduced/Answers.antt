@@ -1,5 +1,4 @@
-use Rattle.sig_file.specs.Prelude.{length}
-use Rattle.sig_file.proofs.Reduced.{reduced}
+use Rattle.sig_file.proofs.{length, reduced}
 use Rattle.sig_file.proofs.laws.nodes_of_images_are_reduced.Goals as goal
 
 pub returns : goal.returns

@@ -1,14 +1,5 @@
 use Rattle.sig_file.specs.PlanImages.{image_of}
-use Rattle.sig_file.proofs.Common.{arith, length}
-use Rattle.sig_file.proofs.PlanSignals.{length-image, signals_right}
-use Rattle.sig_file.proofs.PlanConditions.{conditions_few, conditions_right}
-use Rattle.sig_file.proofs.PlanOperations.{nodes_right, operations_right}
-use Rattle.sig_file.proofs.PlanBytes.{node_has_bytes}
-use Rattle.sig_file.proofs.PlanCounts.{memories_few, ops_few}
-use Rattle.sig_file.proofs.PlanMemories.{at_each, memories_right}
-use Rattle.sig_kernel.specs.Table.{form_fits}
-use Rattle.sig_kernel.specs.Validity.{form_within}
-use Rattle.sig_kernel.specs.declared.equation.Equation.{Equation}
+use Rattle.sig_file.proofs.{arith, length, length-image, signals_right, conditions_few, conditions_right, nodes_right, operations_right, node_has_bytes, memories_few, ops_few, memories_right, form_fits, form_within, Equation, at_each}
 use Rattle.sig_file.proofs.laws_plans.images_of_plans_are_right.Goals as goal
 
 pub returns : goal.returns

@@ -1,6 +1,4 @@
-use Rattle.sig_file.proofs.Common.{◌+◌, ◌≡◌, ◌∙◌, sym, ap, arith}
-use Rattle.sig_file.proofs.Visits.{place_of_is, place_within, with_node_is}
-use Rattle.sig_file.specs.PlanImages.{place_of}
+use Rattle.sig_file.proofs.{◌+◌, ◌≡◌, ◌∙◌, sym, ap, arith, place_of_is, place_within, with_node_is, place_of}
 use Rattle.sig_file.proofs.numbering.add_node.Goals as goal
 
 pub returns-then-place-ge-ROOM_FOR_NODES-clause-long : goal.returns-then-place-ge-ROOM_FOR_NODES-clause-long

@@ -1,5 +1,4 @@
-use Rattle.sig_dd.proofs.Growth.{ref_apart, ref_same}
-use Rattle.sig_file.proofs.Constants.{one_where, zero_where}
+use Rattle.sig_file.proofs.{ref_apart, ref_same, one_where, zero_where}
 use Rattle.sig_file.proofs.numbering.constant_number.Goals as goal
 
 pub returns-then-eq : goal.returns-then-eq

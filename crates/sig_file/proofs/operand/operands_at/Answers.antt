@@ -1,7 +1,4 @@
-use Rattle.sig_file.proofs.Common.{err_from_is_err_and, refl, ◌<◌, ◌≤◌}
-use Rattle.sig_file.proofs.Loops.{added_ok, added_stops, goes_on, is_done, stops_too}
-use Rattle.sig_file.specs.Fields.{operand_at}
-use Rattle.sig_file.specs.Images.{operand_count}
+use Rattle.sig_file.proofs.{err_from_is_err_and, refl, ◌<◌, ◌≤◌, added_ok, added_stops, goes_on, is_done, stops_too, operand_at, operand_count}
 use Rattle.sig_file.proofs.operand.operands_at.Goals as goal
 
 pub returns-in_err-rest : goal.returns-in_err-rest

@@ -1,7 +1,4 @@
-use Rattle.sig_file.proofs.Common.{◌≡◌, ◌-◌, []}
-use Rattle.sig_file.specs.Fields.{operand_at}
-use Rattle.sig_file.specs.Images.{operand_count}
-use Rattle.sig_file.specs.inner.Reading.{several}
+use Rattle.sig_file.proofs.{◌≡◌, ◌-◌, [], operand_at, operand_count, several}
 use Rattle.sig_file.proofs.operand.operands_at.Given as goal
 
 abbrev pub invariant-loop : goal.invariant-loop

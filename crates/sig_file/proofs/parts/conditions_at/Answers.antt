@@ -1,6 +1,4 @@
-use Rattle.sig_file.proofs.Common.{err_from_is_err_and}
-use Rattle.sig_file.proofs.Loops.{goes_on, is_done, stops_too}
-use Rattle.sig_file.specs.Fields.{condition_at}
+use Rattle.sig_file.proofs.{err_from_is_err_and, goes_on, is_done, stops_too, condition_at}
 use Rattle.sig_file.proofs.parts.conditions_at.Goals as goal
 
 pub returns-in_err-condition : goal.returns-in_err-condition

@@ -1,6 +1,4 @@
-use Rattle.sig_file.proofs.Common.{◌≡◌, ◌-◌, []}
-use Rattle.sig_file.specs.Fields.{condition_at}
-use Rattle.sig_file.specs.inner.Reading.{several}
+use Rattle.sig_file.proofs.{◌≡◌, ◌-◌, [], condition_at, several}
 use Rattle.sig_file.proofs.parts.conditions_at.Given as goal
 
 abbrev pub invariant-loop : goal.invariant-loop

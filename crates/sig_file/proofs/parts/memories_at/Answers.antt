@@ -1,6 +1,4 @@
-use Rattle.sig_file.proofs.Common.{err_from_is_err_and, refl}
-use Rattle.sig_file.proofs.Loops.{goes_on, is_done, stops_too}
-use Rattle.sig_file.specs.Fields.{memory_from}
+use Rattle.sig_file.proofs.{err_from_is_err_and, refl, goes_on, is_done, stops_too, memory_from}
 use Rattle.sig_file.proofs.parts.memories_at.Goals as goal
 
 pub returns-in_err-memory : goal.returns-in_err-memory

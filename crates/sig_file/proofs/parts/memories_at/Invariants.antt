@@ -1,6 +1,4 @@
-use Rattle.sig_file.proofs.Common.{◌≡◌, ◌-◌, []}
-use Rattle.sig_file.specs.Fields.{memory_from}
-use Rattle.sig_file.specs.inner.Reading.{several}
+use Rattle.sig_file.proofs.{◌≡◌, ◌-◌, [], memory_from, several}
 use Rattle.sig_file.proofs.parts.memories_at.Given as goal
 
 abbrev pub invariant-loop : goal.invariant-loop

@@ -1,7 +1,4 @@
-use Rattle.sig_file.proofs.Common.{err_from_is_err_and, [], ◌∷◌, ◌++◌, ◌≡◌, refl, ◌∙◌}
-use Rattle.sig_file.proofs.Small.{cond_false}
-use Rattle.sig_file.proofs.Loops.{goes_on, is_done, stops_too}
-use Rattle.sig_file.specs.Fields.{node_at}
+use Rattle.sig_file.proofs.{err_from_is_err_and, [], ◌∷◌, ◌++◌, ◌≡◌, refl, ◌∙◌, cond_false, goes_on, is_done, stops_too, node_at}
 use Rattle.sig_file.proofs.parts.nodes_at.Goals as goal
 
 pub returns-in_err-node : goal.returns-in_err-node

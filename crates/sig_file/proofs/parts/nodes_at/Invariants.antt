@@ -1,6 +1,4 @@
-use Rattle.sig_file.proofs.Common.{◌≡◌, ◌-◌, []}
-use Rattle.sig_file.specs.Fields.{node_at}
-use Rattle.sig_file.specs.inner.Reading.{several}
+use Rattle.sig_file.proofs.{◌≡◌, ◌-◌, [], node_at, several}
 use Rattle.sig_file.proofs.parts.nodes_at.Given as goal
 
 abbrev pub invariant-loop : goal.invariant-loop

@@ -1,8 +1,4 @@
-use Rattle.sig_file.proofs.Common.{err_from_is_err_and, map_push, List, [], ◌∷◌, ◌++◌, ◌≡◌, sym, ap, subst, ◌∙◌, ℕ}
-use Rattle.sig_file.proofs.Loops.{goes_on, is_done, stops_too}
-use Rattle.sig_file.specs.Fields.{signal_at}
-use Rattle.sig_file.specs.Images.{names_of}
-use Rattle.sig_file.specs.inner.Names.{IsSetOf}
+use Rattle.sig_file.proofs.{err_from_is_err_and, map_push, List, [], ◌∷◌, ◌++◌, ◌≡◌, sym, ap, subst, ◌∙◌, ℕ, goes_on, is_done, stops_too, signal_at, names_of, IsSetOf}
 use Rattle.sig_file.proofs.parts.signals_at.Goals as goal
 
 pub returns-in_err-signal : goal.returns-in_err-signal

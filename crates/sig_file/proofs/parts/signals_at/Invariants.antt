@@ -1,8 +1,4 @@
-use Rattle.sig_file.proofs.Common.{◌≡◌, ◌-◌, []}
-use Rattle.sig_file.specs.Fields.{signal_at}
-use Rattle.sig_file.specs.Images.{names_of}
-use Rattle.sig_file.specs.inner.Names.{IsSetOf}
-use Rattle.sig_file.specs.inner.Reading.{several}
+use Rattle.sig_file.proofs.{◌≡◌, ◌-◌, [], signal_at, names_of, IsSetOf, several}
 use Rattle.sig_file.proofs.parts.signals_at.Given as goal
 
 abbrev pub invariant-loop : goal.invariant-loop

@@ -1,9 +1,4 @@
-use Rattle.sig_file.proofs.Common.{◌≡◌, ℕ, ◌-◌, ◌≤◌, length, Result, Ok, Err, sym, ap, ◌∙◌, arith, inr}
-use Rattle.sig_file.specs.declared.answer.ImageAnswer.TheVariants.{BadImage}
-use Rattle.sig_file.specs.Fields.{file_at}
-use Rattle.sig_file.specs.inner.Parts.{view_of}
-use Rattle.sig_file.proofs.Fields.{ok_is}
-use Rattle.sig_file.proofs.Files.{file_again, file_short, file_takes}
+use Rattle.sig_file.proofs.{◌≡◌, ℕ, ◌-◌, ◌≤◌, length, Result, Ok, Err, sym, ap, ◌∙◌, arith, inr, BadImage, file_at, view_of, ok_is, file_again, file_short, file_takes}
 use Rattle.sig_file.proofs.read.read_image.Goals as goal
 
 both_no : {A : Type 0} (r : Result A ℕ) (x : A) (left : ℕ) → r ≡ Ok x → r ≡ Err left → ⊥

@@ -1,11 +1,4 @@
-use Rattle.std.specs.Prelude.{◌≡◌, length, true}
-use Rattle.std.proofs.lemmas.Bool.{and_parts}
-use Rattle.std.proofs.lemmas.List.Elements.{All-contains}
-use Rattle.std.proofs.lemmas.List.Sums.{AllPass-from_list_all}
-use Rattle.sig_file.proofs.Common.{◌∙◌, ap, sym}
-use Rattle.sig_file.specs.Images.{is_name, is_name_length}
-use Rattle.sig_file.specs.Prelude.{list_all}
-use Rattle.sig_file.specs.Spelled.{is_spelled}
+use Rattle.sig_file.proofs.{◌≡◌, length, true, and_parts, All-contains, AllPass-from_list_all, ◌∙◌, ap, sym, is_name, is_name_length, list_all, is_spelled}
 use Rattle.sig_file.proofs.spelled.has_names.Goals as goal
 
 pub returns : goal.returns

@@ -1,5 +1,4 @@
-use Rattle.sig_file.proofs.Common.{◌≡◌, ◌++◌, take, flat_map}
-use Rattle.sig_file.specs.Bytes.{condition_bytes}
+use Rattle.sig_file.proofs.{◌≡◌, ◌++◌, take, flat_map, condition_bytes}
 use Rattle.sig_file.proofs.write.put_conditions.Given as goal
 
 abbrev pub invariant-loop-condition : goal.invariant-loop-condition

@@ -1,5 +1,4 @@
-use Rattle.sig_file.proofs.Common.{◌≡◌, ◌++◌, take, flat_map}
-use Rattle.sig_file.specs.Bytes.{memory_bytes}
+use Rattle.sig_file.proofs.{◌≡◌, ◌++◌, take, flat_map, memory_bytes}
 use Rattle.sig_file.proofs.write.put_memories.Given as goal
 
 abbrev pub invariant-loop-memory : goal.invariant-loop-memory

@@ -1,5 +1,4 @@
-use Rattle.sig_file.proofs.Common.{◌≡◌, ◌++◌, take, flat_map}
-use Rattle.sig_file.specs.Bytes.{node_bytes}
+use Rattle.sig_file.proofs.{◌≡◌, ◌++◌, take, flat_map, node_bytes}
 use Rattle.sig_file.proofs.write.put_nodes.Given as goal
 
 abbrev pub invariant-loop-node : goal.invariant-loop-node

@@ -1,5 +1,4 @@
-use Rattle.sig_file.proofs.Common.{◌≡◌, ◌++◌, take, flat_map}
-use Rattle.sig_file.specs.Bytes.{op_bytes}
+use Rattle.sig_file.proofs.{◌≡◌, ◌++◌, take, flat_map, op_bytes}
 use Rattle.sig_file.proofs.write.put_ops.Given as goal
 
 abbrev pub invariant-loop-op : goal.invariant-loop-op

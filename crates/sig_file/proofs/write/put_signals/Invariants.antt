@@ -1,5 +1,4 @@
-use Rattle.sig_file.proofs.Common.{◌≡◌, ◌++◌, take, flat_map}
-use Rattle.sig_file.specs.Bytes.{signal_bytes}
+use Rattle.sig_file.proofs.{◌≡◌, ◌++◌, take, flat_map, signal_bytes}
 use Rattle.sig_file.proofs.write.put_signals.Given as goal
 
 abbrev pub invariant-loop-signal : goal.invariant-loop-signal

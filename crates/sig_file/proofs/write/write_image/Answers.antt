@@ -1,7 +1,4 @@
-use Rattle.sig_file.proofs.Common.{◌≡◌, ◌∙◌, ap}
-use Rattle.sig_file.specs.Images.{ImageView}
-use Rattle.sig_file.proofs.Rules.{all_few, all_named}
-use Rattle.sig_file.proofs.Written.{written}
+use Rattle.sig_file.proofs.{◌≡◌, ◌∙◌, ap, ImageView, all_few, all_named, written}
 use Rattle.sig_file.proofs.write.write_image.Goals as goal
 
 pub put_signals-requires : goal.put_signals-requires

@@ -1,4 +1,4 @@
-use Rattle.sig_flow.proofs.{◌≡◌, ◌⊎◌, ◌∙◌, ◌++◌, ◌+◌, [], ap, get_or, lines, flow_in, flow_on, numbered, values_for, words_of, written_flows, length, arith, rules, sym, subst, common_steps, err_from_is_err_and, FlowAnswer, OutOfMemory, body_behind, IsFirstIn, all_read, fault_here}
+use Rattle.sig_flow.proofs.{◌≡◌, ◌⊎◌, ◌∙◌, ◌++◌, ◌+◌, [], ap, get_or, lines, flow_in, flow_on, numbered, values_for, words_of, length, arith, rules, sym, subst, common_steps, err_from_is_err_and, FlowAnswer, OutOfMemory, body_behind, IsFirstIn, all_read, fault_here, written}
 use Rattle.sig_flow.proofs.flow.flows_of.Goals as goal
 
 pub returns-in_err-before-clause-fault : goal.returns-in_err-before-clause-fault
@@ -16,7 +16,7 @@ pub loop-rest-preserved : goal.loop-rest-preserved
 loop-rest-preserved c =
     let at = c.loop-rest in
     let same : length c.read_line.new.flows ≡ length at.flows.items = c.read_line.auto.flows ∙ ap length c.deref_mut.ensures.value in
-    let whole = written_flows at.flows.len c.read_line.new.flows at.flows.items same (sym c.deref_mut.ensures.len ∙ ap length c.deref_mut.ensures.value) in
+    let whole = written at.flows.len c.read_line.new.flows at.flows.items same (sym c.deref_mut.ensures.len ∙ ap length c.deref_mut.ensures.value) in
     record {
       within = search rules;
       same_length = ap length whole ∙ same ∙ at.invariant.same_length;

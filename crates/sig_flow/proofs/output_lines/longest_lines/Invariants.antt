@@ -1,5 +1,4 @@
-use Rattle.sig_flow.proofs.{◌≡◌, sum_by, take}
-use Rattle.sig_flow.specs.OutputLines.{longest_line}
+use Rattle.sig_flow.proofs.{◌≡◌, sum_by, take, longest_line}
 use Rattle.sig_flow.proofs.output_lines.longest_lines.Given as goal
 
 abbrev pub invariant-loop-signal : goal.invariant-loop-signal

@@ -1,20 +1,20 @@
-use Rattle.sig_front.proofs.{IsKernelText, IsNoKernelText, given, refused, kernel_once, kernel_or_refusal, no_kernel_once, of_ok}
+use Rattle.sig_front.proofs.{IsKernelText, IsNoKernelText, given, refused, kernel_once, kernel_or_refusal, no_kernel_once, IfOk-weaker}
 use Rattle.sig_front.proofs.kernel.front.Goals as goal
 
 pub returns-clause-valid : goal.returns-clause-valid
 returns-clause-valid c =
-    of_ok c.kernel_of.result (λ kernel. c.kernels_of_texts.ensures.valid c.args.bytes.now kernel c.requires.short) c.kernel_of.ensures.kernel
+    IfOk-weaker c.kernel_of.result _ _ (λ kernel. c.kernels_of_texts.ensures.valid c.args.bytes.now kernel c.requires.short) c.kernel_of.ensures.kernel
 
 pub returns-clause-traces : goal.returns-clause-traces
-returns-clause-traces c = of_ok c.kernel_of.result (c.kernels_of_texts.ensures.traces c.args.bytes.now) c.kernel_of.ensures.kernel
+returns-clause-traces c = IfOk-weaker c.kernel_of.result _ _ (c.kernels_of_texts.ensures.traces c.args.bytes.now) c.kernel_of.ensures.kernel
 
 pub returns-clause-small : goal.returns-clause-small
 returns-clause-small c =
-    of_ok c.kernel_of.result (λ kernel. c.kernels_of_texts.ensures.small c.args.bytes.now kernel c.requires.short) c.kernel_of.ensures.kernel
+    IfOk-weaker c.kernel_of.result _ _ (λ kernel. c.kernels_of_texts.ensures.small c.args.bytes.now kernel c.requires.short) c.kernel_of.ensures.kernel
 
 pub returns-clause-names : goal.returns-clause-names
 returns-clause-names c =
-    of_ok c.kernel_of.result (λ kernel. c.kernels_of_texts.ensures.names c.args.bytes.now kernel c.requires.short) c.kernel_of.ensures.kernel
+    IfOk-weaker c.kernel_of.result _ _ (λ kernel. c.kernels_of_texts.ensures.names c.args.bytes.now kernel c.requires.short) c.kernel_of.ensures.kernel
 
 pub returns-clause-given : goal.returns-clause-given
 returns-clause-given c =

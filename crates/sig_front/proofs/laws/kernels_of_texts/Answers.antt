@@ -1,6 +1,5 @@
-use Rattle.sig_front.proofs.{few_equations, is_valid, traces}
+use Rattle.sig_front.proofs.{few_equations, is_valid, traces, places}
 use Rattle.sig_front.proofs.Kernels.{names}
-use Rattle.sig_front.proofs.Places.{places}
 use Rattle.sig_front.proofs.laws.kernels_of_texts.Goals as goal
 
 pub returns-clause-traces : goal.returns-clause-traces

@@ -1,4 +1,4 @@
-use Rattle.sig_graph.proofs.{◌≡◌, ◌<◌, ◌+◌, ℕ, Bool, get_or, sym, subst, ◌∙◌, length, arith, refl, true, false, false≢true, get_or_read, IsLeastOnCycle, read_is, least_not_here, least_with_here}
+use Rattle.sig_graph.proofs.{◌≡◌, ◌<◌, ◌+◌, ℕ, Bool, get_or, sym, subst, ◌∙◌, length, arith, refl, true, false, false≢true, get_or_read, IsLeastOnCycle, least_not_here, least_with_here, read_is}
 use Rattle.sig_graph.proofs.cycles.least_on_cycle.Goals as goal
 use Rattle.sig_graph.proofs.cycles.least_on_cycle.Goals.{then-index, else-index}
 

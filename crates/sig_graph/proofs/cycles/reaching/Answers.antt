@@ -1,4 +1,4 @@
-use Rattle.sig_graph.proofs.{◌≡◌, ◌<◌, ◌∙◌, ℕ, Bool, List, sym, ap, subst, length, refl, false, Contains, rules, All, length-replicate, nil_from_length, Contains-push, written, Walks, edges_below, edges_read, visits_as, waiting_below, walk_begins, walk_ends, walk_goes_on}
+use Rattle.sig_graph.proofs.{◌≡◌, ◌<◌, ◌∙◌, ℕ, Bool, List, sym, ap, subst, length, refl, false, Contains, rules, All, length-replicate, nil_from_length, Contains-push, Walks, edges_below, visits_as, waiting_below, walk_begins, walk_ends, walk_goes_on, written, read_or_empty}
 use Rattle.sig_graph.proofs.cycles.reaching.Goals as goal
 
 pub visit-requires : goal.visit-requires
@@ -15,7 +15,7 @@ loop-number-init c =
     let whole = written c.in_ok-marks.marks.len c.visit.new.marks c.in_ok-marks.marks.items (visits.count ∙ ap length value) (sym c.deref_mut.ensures.len ∙ ap length value) in
     subst (λ (marks : List Bool). Walks graph c.args.target marks c.visit.new.waiting.items) (sym whole)
     (walk_begins graph c.args.target (length graph) c.visit.new.marks c.visit.new.waiting.items refl
-    (visits_as _ _ _ _ c.visit.new.marks _ _ c.visit.new.waiting.items (c.as_slice.ensures ∙ edges_read graph c.args.target c.index-graph-target.result c.requires.target c.index-graph-target.is) (value ∙ c.in_ok-marks.ensures) c.new-waiting.ensures.items visits))
+    (visits_as _ _ _ _ c.visit.new.marks _ _ c.visit.new.waiting.items (c.as_slice.ensures ∙ read_or_empty graph c.args.target c.index-graph-target.result c.requires.target c.index-graph-target.is) (value ∙ c.in_ok-marks.ensures) c.new-waiting.ensures.items visits))
 
 waits : (c : goal.In-Some) → Contains c.loop-number.waiting.items c.in-Some.number
 waits c = subst (λ (xs : List ℕ). Contains xs c.in-Some.number) (sym c.in-Some.ensures.items) (Contains-push c.pop.new.self.items c.in-Some.number)
@@ -45,7 +45,7 @@ loop-number-preserved c =
     let lt = waiting_below graph c.args.target c.loop-number.marks.items c.loop-number.waiting.items c.in-Some.number c.loop-number.invariant (subst (λ (xs : List ℕ). Contains xs c.in-Some.number) (sym c.in-Some.ensures.items) (Contains-push c.pop.new.self.items c.in-Some.number)) in
     subst (λ (marks : List Bool). Walks graph c.args.target marks c.visit-in-Some.new.waiting.items) (sym whole)
     (walk_goes_on graph c.args.target c.loop-number.marks.items c.visit-in-Some.new.marks c.loop-number.waiting.items c.pop.new.self.items c.visit-in-Some.new.waiting.items c.in-Some.number c.loop-number.invariant c.in-Some.ensures.items
-    (visits_as _ _ _ _ c.visit-in-Some.new.marks _ _ c.visit-in-Some.new.waiting.items (c.as_slice-in-Some.ensures ∙ edges_read graph c.in-Some.number c.index-graph-number.result lt c.index-graph-number.is) value refl visits))
+    (visits_as _ _ _ _ c.visit-in-Some.new.marks _ _ c.visit-in-Some.new.waiting.items (c.as_slice-in-Some.ensures ∙ read_or_empty graph c.in-Some.number c.index-graph-number.result lt c.index-graph-number.is) value refl visits))
 
 pub returns : goal.returns
 returns c =

@@ -1,4 +1,4 @@
-use Rattle.sig_graph.proofs.{◌≡◌, ◌<◌, ◌∙◌, ◌↔◌, Contains, ℕ, List, [], ap, sym, subst, arith, length, map, All, get_or, Some, slice_get, filter_map, get_or_read, length-map, length_push, All-map, ClocksView, Holds, IsSupport, Ref, SigId, operation_in, Needs, Op, graph_more, needs_are, get_map, get_within, read_is}
+use Rattle.sig_graph.proofs.{◌≡◌, ◌<◌, ◌∙◌, ◌↔◌, Contains, ℕ, List, [], ap, sym, subst, arith, length, map, All, get_or, Some, slice_get, filter_map, get_or_read, length-map, length_push, All-map, ClocksView, Holds, IsSupport, Ref, SigId, operation_in, Needs, Op, graph_more, needs_are, get_map, read_is, slice_get_within}
 use Rattle.sig_graph.proofs.graph.graph_of.Goals as goal
 
 pub supports-requires : goal.supports-requires
@@ -47,5 +47,5 @@ returns c =
     let most = c.loop-number.auto.number-end in
     record {
       count = omega (arith, n, last, most);
-      each = λ j q is. inv.each j q (omega (arith, get_within c.args.ops.now j q is, last)) is;
+      each = λ j q is. inv.each j q (omega (arith, slice_get_within c.args.ops.now j q is, last)) is;
     }

@@ -1,4 +1,4 @@
-use Rattle.sig_graph.proofs.{◌≡◌, ◌<◌, ◌≤◌, ◌∷◌, [], ◌∙◌, ℕ, List, sym, ap, subst, length, get_or, arith, rules, Contains, vec_len, get_or_read, length-map, map-append, Contains-get_or, le_from_not_gt, OpId, written, AreFirst, Releases, Takes, occurs, numbers_of, enough_left, least_open, popped, successors_within, takes_begins, takes_goes_on, room_left}
+use Rattle.sig_graph.proofs.{◌≡◌, ◌<◌, ◌≤◌, ◌∷◌, [], ◌∙◌, ℕ, List, sym, ap, subst, length, get_or, arith, rules, Contains, vec_len, get_or_read, length-map, map-append, Contains-get_or, le_from_not_gt, OpId, AreFirst, Releases, Takes, occurs, numbers_of, enough_left, least_open, popped, successors_within, takes_begins, takes_goes_on, room_left, written}
 use Rattle.sig_graph.proofs.taking.take_all.Goals as goal
 
 pub loop-number-init : goal.loop-number-init

@@ -1,11 +1,4 @@
-use Rattle.std.proofs.Common.{◌≡◌, ◌∙◌, inl, inr, refl, sym}
-use Rattle.sig_outcome.specs.Outcomes.{done}
-use Rattle.sig_outcome.specs.Tasks.{SaysLine}
-use Rattle.sig_outcome.proofs.PerformedCalls.{performs_outcome, performs_refusal}
-use Rattle.sig_images.specs.Builds.{building}
-use Rattle.sig_images.proofs.LastBegun.{no_refusal}
-use Rattle.sig_images.proofs.ImageTaken.{took_image}
-use Rattle.sig_images.proofs.OneBuild.{build_number, one_build_outcome}
+use Rattle.sig_images.proofs.{◌≡◌, ◌∙◌, inl, inr, refl, sym, done, SaysLine, performs_outcome, performs_refusal, building, no_refusal, took_image, build_number, one_build_outcome}
 use Rattle.sig_images.proofs.build.build_command.Goals as goal
 
 pub returns-in-Ok-clause-performs : goal.returns-in-Ok-clause-performs

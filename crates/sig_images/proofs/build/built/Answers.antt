@@ -1,7 +1,4 @@
-use Rattle.std.proofs.lemmas.Result.{err_from_is_err_and}
-use Rattle.sig_outcome.proofs.Refused.{on_err, on_ok}
-use Rattle.sig_images.proofs.ImageTaken.{of_plan, ok_both}
-use Rattle.sig_images.proofs.Loads.{reaches_image, stops_length, stops_plan}
+use Rattle.sig_images.proofs.{err_from_is_err_and, of_plan, ok_both, reaches_image, stops_length, stops_plan, IfErr-weaker, IfOk-weaker}
 use Rattle.sig_images.proofs.build.built.Goals as goal
 
 pub returns-in_err-plan-clause-stops : goal.returns-in_err-plan-clause-stops
@@ -14,7 +11,7 @@ returns-in_err-plan-clause-stops g c =
 
 pub returns-clause-stops : goal.returns-clause-stops
 returns-clause-stops g c =
-    on_err c.bytes_of.result _ _
+    IfErr-weaker c.bytes_of.result _ _
     (λ r is. stops_length (g.F.Files.contents c.args.files.now) (g.F.Files.at c.args.files.now) (g.F.Files.at c.load_plan.new.files)
     (g.F.Files.misses c.args.files.now) (g.F.Files.misses c.load_plan.new.files) (g.F.Files.faults c.args.files.now) (g.F.Files.faults c.load_plan.new.files)
     c.args.name.now c.in_ok-plan.plan c.bytes_of.ensures.accepted c.in_ok-plan.ensures.plan c.in_ok-plan.ensures.read.told r is)
@@ -22,7 +19,7 @@ returns-clause-stops g c =
 
 pub returns-clause-bytes : goal.returns-clause-bytes
 returns-clause-bytes g c =
-    on_ok c.bytes_of.result _ _
+    IfOk-weaker c.bytes_of.result _ _
     (λ bytes is. reaches_image (g.F.Files.contents c.args.files.now) (g.F.Files.at c.args.files.now) (g.F.Files.at c.load_plan.new.files)
     (g.F.Files.misses c.args.files.now) (g.F.Files.misses c.load_plan.new.files) (g.F.Files.faults c.args.files.now) (g.F.Files.faults c.load_plan.new.files)
     c.args.name.now c.in_ok-plan.plan c.bytes_of.ensures.accepted c.in_ok-plan.ensures.plan c.in_ok-plan.ensures.read.told bytes.items is.are is.few)

@@ -1,6 +1,4 @@
-use Rattle.std.proofs.Common.{subst}
-use Rattle.sig_file.specs.Images.{IsImage}
-use Rattle.sig_images.proofs.KernelImage.{have_names}
+use Rattle.sig_images.proofs.{subst, IsImage, have_names}
 use Rattle.sig_images.proofs.build.bytes_of.Goals as goal
 
 pub image-requires : goal.image-requires

@@ -1,11 +1,4 @@
-use Rattle.std.proofs.Common.{◌≡◌}
-use Rattle.sig_text.specs.Files.{name_where_there}
-use Rattle.sig_outcome.specs.Tasks.{SaysLine}
-use Rattle.sig_outcome.proofs.PerformedCalls.{performs_refusal}
-use Rattle.sig_images.specs.Execs.{executing}
-use Rattle.sig_images.proofs.LastBegun.{no_run_budget, told_by, told_never}
-use Rattle.sig_images.proofs.OneExec.{exec_number, one_exec_outcome}
-use Rattle.sig_images.proofs.Written.{performs_exec}
+use Rattle.sig_images.proofs.{◌≡◌, name_where_there, SaysLine, performs_refusal, executing, no_run_budget, told_by, told_never, exec_number, one_exec_outcome, performs_exec}
 use Rattle.sig_images.proofs.exec.exec_command.Goals as goal
 
 pub returns-in-Ok-clause-performs : goal.returns-in-Ok-clause-performs

@@ -1,10 +1,4 @@
-use Rattle.std.proofs.Common.{Err, ap, inl, refl, subst, sym}
-use Rattle.sig_file.specs.Images.{ImageView}
-use Rattle.sig_outcome.specs.Tasks.{SaysLine}
-use Rattle.sig_images.specs.ExecEnds.{IsOfImage, exec_line}
-use Rattle.sig_images.proofs.Causes.{cause_there}
-use Rattle.sig_images.proofs.ImageRuns.{some_image_run}
-use Rattle.sig_images.proofs.Written.{wrote_part, wrote_whole}
+use Rattle.sig_images.proofs.{Err, ap, inl, refl, subst, sym, ImageView, SaysLine, IsOfImage, exec_line, cause_there, some_image_run, wrote_part, wrote_whole}
 use Rattle.sig_images.proofs.exec.exec_loaded.Goals as goal
 
 pub say_end-requires : goal.say_end-requires

@@ -1,8 +1,4 @@
-use Rattle.std.proofs.Common.{◌∙◌, ℕ, List, Err, ap, subst, sym}
-use Rattle.std.proofs.lemmas.Result.{err_from_is_err_and}
-use Rattle.sig_text.specs.Sink.{TookPrefix-whole}
-use Rattle.sig_outcome.proofs.TakenPieces.{flushed}
-use Rattle.sig_images.proofs.ImageRuns.{one_image_run}
+use Rattle.sig_images.proofs.{◌∙◌, ℕ, List, Err, ap, subst, sym, err_from_is_err_and, TookPrefix-whole, flushed, one_image_run}
 use Rattle.sig_images.proofs.exec.exec_out.Goals as goal
 
 pub returns-in-Ok-clause-whole : goal.returns-in-Ok-clause-whole

@@ -1,9 +1,4 @@
-use Rattle.std.proofs.Common.{◌≡◌, ℕ, inl, inr}
-use Rattle.std.proofs.lemmas.Result.{err_from_is_err_and}
-use Rattle.sig_verify.specs.Verifying.{IsBeyondBound, IsFirstUnsound}
-use Rattle.sig_outcome.proofs.Refused.{of_more_image, on_err}
-use Rattle.sig_images.specs.ImageFiles.{IsBrokenFile, IsBudget, LacksNodes, RefusesImage, unsound_image}
-use Rattle.sig_images.proofs.FileOnce.{lacks_nodes, unsound_file}
+use Rattle.sig_images.proofs.{◌≡◌, ℕ, inl, inr, err_from_is_err_and, IsBeyondBound, IsFirstUnsound, of_more_image, IsBrokenFile, IsBudget, LacksNodes, RefusesImage, unsound_image, lacks_nodes, unsound_file, IfErr-weaker}
 use Rattle.sig_images.proofs.image_file.verified_of.Goals as goal
 
 pub returns-in_err-image-clause-refused : goal.returns-in_err-image-clause-refused
@@ -14,7 +9,7 @@ returns-in_err-image-clause-refused c =
 
 pub returns-clause-refused : goal.returns-clause-refused
 returns-clause-refused c =
-    on_err c.verified.result _ _
+    IfErr-weaker c.verified.result _ _
     (of_more_image (λ line. (n : ℕ) × IsFirstUnsound c.in_ok-image.image n × (line ≡ unsound_image c.args.name.now n)) (RefusesImage c.args.name.now c.args.bytes.now)
     (λ nodes. IsBudget nodes × IsBeyondBound c.in_ok-image.image) (LacksNodes c.args.bytes.now)
     (λ line unsound. inr (unsound_file c.args.name.now c.args.bytes.now line c.in_ok-image.image c.in_ok-image.ensures.file unsound.0 unsound.1 unsound.2))

@@ -1,5 +1,4 @@
-use Rattle.sig_images.proofs.Complete.{some_build}
-use Rattle.sig_images.proofs.OneBuild.{one_build_outcome}
+use Rattle.sig_images.proofs.{some_build, one_build_outcome}
 use Rattle.sig_images.proofs.laws.builds_have_one_outcome.Goals as goal
 
 pub returns-clause-some : goal.returns-clause-some

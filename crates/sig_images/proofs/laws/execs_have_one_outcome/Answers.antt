@@ -1,5 +1,4 @@
-use Rattle.sig_images.proofs.Complete.{some_exec}
-use Rattle.sig_images.proofs.OneExec.{one_exec_outcome}
+use Rattle.sig_images.proofs.{some_exec, one_exec_outcome}
 use Rattle.sig_images.proofs.laws.execs_have_one_outcome.Goals as goal
 
 pub returns-clause-some : goal.returns-clause-some

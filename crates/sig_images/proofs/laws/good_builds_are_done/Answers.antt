@@ -1,4 +1,4 @@
-use Rattle.sig_images.proofs.Complete.{is_built, only_build}
+use Rattle.sig_images.proofs.{is_built, only_build}
 use Rattle.sig_images.proofs.laws.good_builds_are_done.Goals as goal
 
 pub returns-clause-only : goal.returns-clause-only

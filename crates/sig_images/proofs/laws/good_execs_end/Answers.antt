@@ -1,4 +1,4 @@
-use Rattle.sig_images.proofs.Complete.{exec_status_is, only_exec, some_exec}
+use Rattle.sig_images.proofs.{exec_status_is, only_exec, some_exec}
 use Rattle.sig_images.proofs.laws.good_execs_end.Goals as goal
 
 pub returns-clause-only : goal.returns-clause-only

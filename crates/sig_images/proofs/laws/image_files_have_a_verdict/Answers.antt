@@ -1,5 +1,4 @@
-use Rattle.sig_images.proofs.FileOnce.{image_apart, one_image_line, one_sound}
-use Rattle.sig_images.proofs.FileVerdict.{image_verdict}
+use Rattle.sig_images.proofs.{image_apart, one_image_line, one_sound, image_verdict}
 use Rattle.sig_images.proofs.laws.image_files_have_a_verdict.Goals as goal
 
 pub returns-clause-some : goal.returns-clause-some

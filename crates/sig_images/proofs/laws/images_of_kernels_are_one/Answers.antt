@@ -1,4 +1,4 @@
-use Rattle.sig_images.proofs.ImageOnce.{image_once, some_image}
+use Rattle.sig_images.proofs.{image_once, some_image}
 use Rattle.sig_images.proofs.laws.images_of_kernels_are_one.Goals as goal
 
 pub returns-clause-some : goal.returns-clause-some

@@ -1,5 +1,4 @@
-use Rattle.sig_images.proofs.KernelImage.{of_kernel}
-use Rattle.sig_images.proofs.KernelPlaces.{places_of_kernel}
+use Rattle.sig_images.proofs.{of_kernel, places_of_kernel}
 use Rattle.sig_images.proofs.laws.images_of_kernels_are_right.Goals as goal
 
 pub returns : goal.returns

@@ -1,4 +1,4 @@
-use Rattle.sig_images.proofs.Inputs.{flows_fit, inputs_differ}
+use Rattle.sig_images.proofs.{flows_fit, inputs_differ}
 use Rattle.sig_images.proofs.load.flows_of.Goals as goal
 
 pub read_named-requires : goal.read_named-requires

@@ -1,6 +1,5 @@
 -- the inputs so far are those of the signals so far
-use Rattle.std.proofs.Common.{◌≡◌, map, take}
-use Rattle.sig_images.specs.Execs.{input_of}
+use Rattle.sig_images.proofs.{◌≡◌, map, take, input_of}
 use Rattle.sig_images.proofs.load.inputs_of.Given as goal
 
 abbrev pub invariant-loop-signal : goal.invariant-loop-signal

@@ -1,9 +1,4 @@
-use Rattle.std.proofs.Common.{◌≡◌}
-use Rattle.std.proofs.lemmas.Result.{err_from_is_err_and}
-use Rattle.sig_text.specs.Files.{name_where_there}
-use Rattle.sig_outcome.specs.Refusals.{status_of}
-use Rattle.sig_images.proofs.LastBegun.{no_flow_budget, told_always, told_never}
-use Rattle.sig_images.proofs.Loads.{stops_image, stops_inputs}
+use Rattle.sig_images.proofs.{◌≡◌, err_from_is_err_and, name_where_there, status_of, no_flow_budget, told_always, told_never, stops_image, stops_inputs}
 use Rattle.sig_images.proofs.load.load.Goals as goal
 
 pub returns-in_err-image-clause-stops : goal.returns-in_err-image-clause-stops

@@ -1,5 +1,4 @@
-use Rattle.sig_images.proofs.FlowsAlike.{same_bad_place, same_flows}
-use Rattle.sig_images.proofs.EndsAlike.{same_line, same_outcome, same_status}
+use Rattle.sig_images.proofs.{same_bad_place, same_flows, same_line, same_outcome, same_status}
 use Rattle.sig_images.proofs.shipped.built_images_end_as_their_programs.Goals as goal
 
 pub returns-clause-flows : goal.returns-clause-flows

@@ -1,20 +1,4 @@
-use Rattle.std.proofs.Common.{ℕ, ℤ, List, Option, sym, subst}
-use Rattle.sig_base.specs.Traces.{Trace}
-use Rattle.sig_base.specs.declared.place.Place.{Place}
-use Rattle.sig_kernel.specs.OutputText.{output_text}
-use Rattle.sig_kernel.specs.Validity.{AreFlowsFor}
-use Rattle.sig_kernel.specs.declared.kernel.Kernel.{Kernel}
-use Rattle.sig_plan.specs.declared.ended.Ended.{Ended}
-use Rattle.sig_deciding.specs.KernelRuns.{IsKernelEnd}
-use Rattle.sig_deciding.proofs.KernelRuns.{plan_end}
-use Rattle.sig_file.specs.Guarded.{IsSoundImage}
-use Rattle.sig_file.specs.ImageRuns.{IsImageRun}
-use Rattle.sig_file.specs.Images.{ImageView}
-use Rattle.sig_file.specs.PlanImages.{image_of}
-use Rattle.sig_shipped.specs.Ends.{end_in}
-use Rattle.sig_shipped.proofs.ImageRunsAsPlan.{runs_as}
-use Rattle.sig_shipped.proofs.Sound.{sound}
-use Rattle.sig_images.specs.Builds.{IsKernelImage}
+use Rattle.sig_images.proofs.{ℕ, ℤ, List, Option, sym, subst, Trace, Place, output_text, AreFlowsFor, Kernel, Ended, IsKernelEnd, plan_end, IsSoundImage, IsImageRun, ImageView, image_of, end_in, runs_as, sound, IsKernelImage}
 use Rattle.sig_images.proofs.shipped.images_run_as_their_kernels.Goals as goal
 
 pub returns-clause-sound : goal.returns-clause-sound

@@ -1,4 +1,4 @@
-use Rattle.sig_judge.proofs.{◌≡◌, ◌<◌, ◌≤◌, ◌⊎◌, true, false, List, None, Some, length, map, take, get_or, sym, ap, subst, ◌∙◌, arith, inr, get_or-set_other, length-map, take_all, length-set, get_or-map, AllZip, FlatExpression, HasPresence, node_expression, Node, AgreesWith, none_agrees, disagreed, all_agree, one_more, zip_same, zip_more}
+use Rattle.sig_judge.proofs.{◌≡◌, ◌<◌, ◌≤◌, ◌⊎◌, true, false, List, None, Some, length, map, take, get_or, sym, ap, subst, ◌∙◌, arith, inr, get_or-set_other, length-map, take_all, length-set, get_or-map, AllZip, FlatExpression, HasPresence, node_expression, Node, AgreesWith, none_agrees, disagreed, all_agree, one_more, zip_more, zip_same}
 use Rattle.sig_judge.proofs.equation.agree.Goals as goal
 
 pub returns-in_default : goal.returns-in_default

@@ -1,4 +1,4 @@
-use Rattle.sig_kinds.proofs.{map, ap, ◌∙◌, ◌++◌, Bor, Equations, equations_of, Body, grown, kinds_flat, known, kinds_in, expressions_of, bodies_in}
+use Rattle.sig_kinds.proofs.{map, ap, ◌∙◌, ◌++◌, Bor, Equations, equations_of, Body, kinds_flat, known, kinds_in, expressions_of, bodies_in, grown}
 use Rattle.sig_kinds.proofs.kinds.add_equations.Goals as goal
 
 pub returns : goal.returns

@@ -1,4 +1,4 @@
-use Rattle.sig_kinds.proofs.{map, ap, ◌∙◌, sym, ◌++◌, flat_map, kind_of, Expression, expression_of, Expr, grows, grown, pieces, known, nodes, map-map}
+use Rattle.sig_kinds.proofs.{map, ap, ◌∙◌, sym, ◌++◌, flat_map, kind_of, Expression, expression_of, Expr, pieces, known, nodes, map-map, grown, grows}
 use Rattle.sig_kinds.proofs.kinds.add_expressions.Goals as goal
 
 pub loop-e-preserved : goal.loop-e-preserved

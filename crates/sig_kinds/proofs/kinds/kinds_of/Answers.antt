@@ -1,4 +1,4 @@
-use Rattle.sig_kinds.proofs.{map, ap, ◌∙◌, [], flat_map, all_processes, ProcessModel, model_of, program_of, grows, grown, pieces, known, kinds_of_model, interface_models, Interface}
+use Rattle.sig_kinds.proofs.{map, ap, ◌∙◌, [], flat_map, all_processes, ProcessModel, model_of, program_of, pieces, known, kinds_of_model, interface_models, Interface, grown, grows}
 use Rattle.sig_kinds.proofs.kinds.kinds_of.Goals as goal
 
 pub loop-interface-preserved : goal.loop-interface-preserved

@@ -1,4 +1,4 @@
-use Rattle.sig_parse.proofs.{codes, map, inr, subst, sym, arith, word, declared_of, model_of, AreDeclared, AreBehindWhere, covered, no_more, seen_as, between_marks, ended, one_group_more, one_process_more, in_parts, modelled, nothing_begun, handed, since_refused, closes_next, leads_on, leads_refuses, leads_nowhere, InDeclared, InWhere, ContinuesNothing, ContinuesOptional, process_where, process_end, inner_too_deep, inner_refused, declared_group, group_declared, process_declared, where_missing, where_inside, where_settled, State, Settles}
+use Rattle.sig_parse.proofs.{codes, map, inr, subst, sym, arith, word, declared_of, model_of, AreDeclared, AreBehindWhere, covered, seen_as, between_marks, ended, one_group_more, one_process_more, in_parts, modelled, nothing_begun, handed, since_refused, closes_next, leads_on, leads_refuses, leads_nowhere, InDeclared, InWhere, ContinuesNothing, ContinuesOptional, process_where, process_end, inner_too_deep, inner_refused, declared_group, group_declared, process_declared, where_missing, where_inside, where_settled, State, Settles, no_more}
 use Rattle.sig_parse.proofs.ProcessLemmas.{whole}
 use Rattle.sig_parse.proofs.process.+process.Goals as goal
 

@@ -1,4 +1,4 @@
-use Rattle.sig_parse.proofs.{map, arith, declared_of, placement_of, covered, no_more, handed, process_title, process_params, process_interface, process_pragmas, process_body}
+use Rattle.sig_parse.proofs.{map, arith, declared_of, placement_of, covered, handed, process_title, process_params, process_interface, process_pragmas, process_body, no_more}
 use Rattle.sig_parse.proofs.process.beginning.Goals as goal
 
 pub returns-clause-reads : goal.returns-clause-reads

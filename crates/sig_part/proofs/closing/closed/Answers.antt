@@ -1,4 +1,4 @@
-use Rattle.sig_part.proofs.{◌∙◌, [], Bool, List, sym, ap, subst, length, refl, Contains, get_or_read, nil_from_length, Contains-push, SigId, written, AreClosed, Walks, is_elsewhere, visits_as, waiting_below, walk_begins, walk_ends, walk_goes_on}
+use Rattle.sig_part.proofs.{◌∙◌, [], Bool, List, sym, ap, subst, length, refl, Contains, get_or_read, nil_from_length, Contains-push, SigId, AreClosed, Walks, is_elsewhere, visits_as, waiting_below, walk_begins, walk_ends, walk_goes_on, written}
 use Rattle.sig_part.proofs.closing.closed.Goals as goal
 
 pub loop-x-init : goal.loop-x-init

@@ -1,4 +1,4 @@
-use Rattle.sig_part.proofs.{◌≡◌, ◌<◌, ◌↔◌, ◌∙◌, ℕ, List, [], ap, sym, subst, arith, length, map, Contains, Some, slice_get, filter_map, get_or, get_or_read, length_push, length-map, All-map, All, Holds, Ref, SigId, ClocksView, operation_in, Needs, Op, get_within, get_map, each_more, needs_are, IsSupport}
+use Rattle.sig_part.proofs.{◌≡◌, ◌<◌, ◌↔◌, ◌∙◌, ℕ, List, [], ap, sym, subst, arith, length, map, Contains, Some, slice_get, filter_map, get_or, get_or_read, length_push, length-map, All-map, All, Holds, Ref, SigId, ClocksView, operation_in, Needs, Op, each_more, needs_are, IsSupport, slice_get_within, get_map}
 use Rattle.sig_part.proofs.needs.needed_by_each.Goals as goal
 
 pub supports-requires : goal.supports-requires
@@ -40,5 +40,5 @@ returns c =
     let same = c.in_ok-supports.ensures.value.count in
     record {
       count = omega (arith, n, last, most, guards, lists, same);
-      each = λ number op is. inv.each number (omega (arith, get_within c.args.ops.now number op is, last, guards, lists, same)) op is;
+      each = λ number op is. inv.each number (omega (arith, slice_get_within c.args.ops.now number op is, last, guards, lists, same)) op is;
     }

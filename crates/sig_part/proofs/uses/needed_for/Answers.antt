@@ -1,4 +1,4 @@
-use Rattle.sig_part.proofs.{◌≡◌, ◌<◌, ◌+◌, ◌↔◌, ◌++◌, ◌∙◌, ℕ, List, [], length, sym, subst, arith, Contains, false≢true, get_or_read, SigId, IsNeededWithin, read_is, needed_more, needed_not}
+use Rattle.sig_part.proofs.{◌≡◌, ◌<◌, ◌+◌, ◌↔◌, ◌++◌, ◌∙◌, ℕ, List, [], length, sym, subst, arith, Contains, false≢true, get_or_read, SigId, IsNeededWithin, needed_more, needed_not, read_is}
 use Rattle.sig_part.proofs.uses.needed_for.Goals as goal
 use Rattle.sig_part.proofs.uses.needed_for.Goals.{then-writes+in_ok-extend_from_slice, else-writes}
 

@@ -1,4 +1,4 @@
-use Rattle.sig_part.proofs.{◌≡◌, ◌<◌, ◌+◌, ◌↔◌, ◌++◌, ◌∙◌, ℕ, List, [], length, sym, subst, arith, Contains, get_or_read, SigId, IsUsedWithin, read_is, used_more, used_not}
+use Rattle.sig_part.proofs.{◌≡◌, ◌<◌, ◌+◌, ◌↔◌, ◌++◌, ◌∙◌, ℕ, List, [], length, sym, subst, arith, Contains, get_or_read, SigId, IsUsedWithin, used_more, used_not, read_is}
 use Rattle.sig_part.proofs.uses.used_by.Goals as goal
 use Rattle.sig_part.proofs.uses.used_by.Goals.{then-op-cluster+in_ok-extend_from_slice+in_ok-extend_from_slice-2, else-op-cluster}
 

@@ -1,4 +1,4 @@
-use Rattle.sig_plays.proofs.{err_from_is_err_and, on_err, on_ok, part_actors, part_begin, part_end, part_links, part_word, whole_state}
+use Rattle.sig_plays.proofs.{err_from_is_err_and, part_actors, part_begin, part_end, part_links, part_word, whole_state, IfErr-weaker, IfOk-weaker}
 use Rattle.sig_plays.proofs.state.put_state.Goals as goal
 
 pub returns-in_err-put_all-clause-prefix : goal.returns-in_err-put_all-clause-prefix
@@ -25,14 +25,14 @@ returns-in_err-put_word-clause-prefix g c =
 
 pub returns-clause-whole : goal.returns-clause-whole
 returns-clause-whole g c =
-    on_ok c.put_all-2.result _ _
+    IfOk-weaker c.put_all-2.result _ _
     (λ _ end. whole_state g.S.Sink.took g.met.S.Sink.took_both c.args.core.now c.args.out.now c.put_all.new.sink c.in_ok-put_all.ensures.all c.put_actors.new.out c.in_ok-put_actors.ensures.whole
     c.put_links.new.out c.in_ok-put_links.ensures.whole c.word.result c.word.ensures c.put_word.new.out c.in_ok-put_word.ensures.whole c.put_all-2.new.sink end)
     c.put_all-2.ensures.all
 
 pub returns-clause-prefix : goal.returns-clause-prefix
 returns-clause-prefix g c =
-    on_err c.put_all-2.result _ _
+    IfErr-weaker c.put_all-2.result _ _
     (λ _ end. part_end g.S.Sink.took g.met.S.Sink.took_both c.args.core.now c.args.out.now c.put_all.new.sink c.in_ok-put_all.ensures.all c.put_actors.new.out c.in_ok-put_actors.ensures.whole
     c.put_links.new.out c.in_ok-put_links.ensures.whole c.word.result c.word.ensures c.put_word.new.out c.in_ok-put_word.ensures.whole c.put_all-2.new.sink end)
     c.put_all-2.ensures.prefix

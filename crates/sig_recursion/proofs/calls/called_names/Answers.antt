@@ -1,4 +1,4 @@
-use Rattle.sig_recursion.proofs.{Body, called_in, equations_of, grown, [], Bor}
+use Rattle.sig_recursion.proofs.{Body, called_in, equations_of, [], Bor, grown}
 use Rattle.sig_recursion.proofs.calls.called_names.Goals as goal
 
 pub returns : goal.returns

@@ -1,4 +1,4 @@
-use Rattle.sig_recursion.proofs.{Name, grown, list_of, place_of, process_texts, interface_models, [], Bor}
+use Rattle.sig_recursion.proofs.{Name, list_of, place_of, process_texts, interface_models, [], Bor, grown}
 use Rattle.sig_recursion.proofs.calls.places_of.Goals as goal
 
 pub returns : goal.returns

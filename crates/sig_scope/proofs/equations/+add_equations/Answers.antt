@@ -1,4 +1,4 @@
-use Rattle.sig_scope.proofs.{equations_in, equations_of, grown, together_is, bodies_in, map, ap, sym, ◌≡◌, ◌∙◌, ◌++◌, flat_map}
+use Rattle.sig_scope.proofs.{equations_in, equations_of, together_is, bodies_in, map, ap, sym, ◌≡◌, ◌∙◌, ◌++◌, flat_map, grown}
 use Rattle.sig_scope.proofs.equations.+add_equations.Goals as goal
 
 pub returns-after-loop-one : goal.returns-after-loop-one

@@ -1,4 +1,4 @@
-use Rattle.sig_scope.proofs.{with_inner, model_of, Process, grown, add_is, models_in, map, ap, Bor, ◌≡◌, ◌∙◌, ◌++◌, ◌∷◌, [], map-append, flat_map}
+use Rattle.sig_scope.proofs.{with_inner, model_of, Process, add_is, models_in, map, ap, Bor, ◌≡◌, ◌∙◌, ◌++◌, ◌∷◌, [], map-append, flat_map, grown}
 use Rattle.sig_scope.proofs.processes.+add_process.Goals as goal
 
 pub returns : goal.returns

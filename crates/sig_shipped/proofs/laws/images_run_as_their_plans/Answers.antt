@@ -1,4 +1,4 @@
-use Rattle.sig_shipped.proofs.ImageRunsAsPlan.{runs_as}
+use Rattle.sig_shipped.proofs.{runs_as}
 use Rattle.sig_shipped.proofs.laws.images_run_as_their_plans.Goals as goal
 
 pub returns : goal.returns

@@ -1,4 +1,4 @@
-use Rattle.sig_solve.proofs.{◌≡◌, ◌<◌, ◌≤◌, ◌+◌, ◌*◌, ℕ, List, length, map, get_or, refl, sym, ap, ◌∙◌, subst, arith, slice_get, range_with_len, length-range_with_len, SigId, signal_id, AreClasses, AreFirsts, AreGuardsOf, layer_in, by_layer, map_length, by_fewer, by_order, listed_signal, sorted_signals, first_within, leaders_fewer}
+use Rattle.sig_solve.proofs.{◌≡◌, ◌<◌, ◌≤◌, ◌+◌, ◌*◌, ℕ, List, length, map, get_or, refl, sym, ap, ◌∙◌, subst, arith, slice_get, range_with_len, length-range_with_len, SigId, signal_id, AreClasses, AreFirsts, AreGuardsOf, layer_in, by_layer, by_fewer, by_order, listed_signal, sorted_signals, first_within, leaders_fewer, length-map}
 use Rattle.sig_solve.proofs.classes.clocks_of.Goals as goal
 use Rattle.sig_solve.proofs.classes.clocks_of.Goals.{In_ok-ordered, In_ok-firsts}
 
@@ -21,7 +21,7 @@ ordered_few c =
       arith,
       ap length (ordered_is c),
       by_fewer c.args.frame.now c.args.layers.now (map signal_id (range_with_len 0 (length c.args.frame.now.kernel.now.signals))) (length c.args.frame.now.leaders.items),
-      map_length signal_id (range_with_len 0 (length c.args.frame.now.kernel.now.signals)),
+      length-map (range_with_len 0 (length c.args.frame.now.kernel.now.signals)) signal_id,
       length-range_with_len 0 (length c.args.frame.now.kernel.now.signals),
     )
 

@@ -1,4 +1,4 @@
-use Rattle.sig_solve.proofs.{◌≡◌, List, [], ◌∷◌, ◌++◌, length, take, sym, ap, ◌∙◌, subst, get_or, arith, length_push, take_all, slice_get, SigId, AreFirsts, Precedes, before_place, firsts_begin, firsts_more, firsts_stay, get_at, take_next}
+use Rattle.sig_solve.proofs.{◌≡◌, List, [], ◌∷◌, ◌++◌, length, take, sym, ap, ◌∙◌, subst, get_or, arith, length_push, take_all, slice_get, SigId, AreFirsts, Precedes, before_place, firsts_begin, firsts_more, firsts_stay, take_next, slice_get-get_or}
 use Rattle.sig_solve.proofs.classes.firsts_of.Goals as goal
 use Rattle.sig_solve.proofs.classes.firsts_of.Goals.{in-Some, in-None+in_ok-push-in-None}
 
@@ -17,7 +17,7 @@ pub loop-signal-preserved : goal.loop-signal-preserved
 loop-signal-preserved c =
     let d : SigId = record { 0 = 0 } in
     let x = get_or c.args.ordered.now c.loop-signal.signal-index d in
-    let at = get_at c.args.ordered.now c.loop-signal.signal-index d c.loop-signal-test.true in
+    let at = slice_get-get_or c.args.ordered.now c.loop-signal.signal-index d c.loop-signal-test.true in
     let done = take c.loop-signal.signal-index c.args.ordered.now in
     let next = sym (take_next c.args.ordered.now c.loop-signal.signal-index x at) in
     let order = before_place {R = Precedes c.args.frame.now c.args.layers.now} c.args.ordered.now c.loop-signal.signal-index x c.requires.order at in

@@ -1,4 +1,4 @@
-use Rattle.sig_solve.proofs.{◌≡◌, ◌≢◌, ◌<◌, ◌+◌, ◌*◌, inl, inr, ℕ, List, length, get_or, set, sym, ap, ◌∙◌, subst, arith, Contains, None, Some, slice_get, length-set, cases_eq, get_or_default, SigId, StoreView, Keeps, Ref, Node, Keeps-trans, variables_of, leaders_of, IsGuard, Frame, guard_stays, are_proposed, asked_stays, get_set_other, get_set_same, leader_at, ordered_leaders, next_turn, refused, turn_within}
+use Rattle.sig_solve.proofs.{◌≡◌, ◌≢◌, ◌<◌, ◌+◌, ◌*◌, inl, inr, ℕ, List, length, get_or, set, sym, ap, ◌∙◌, subst, arith, Contains, None, Some, slice_get, length-set, cases_eq, get_or_default, SigId, StoreView, Keeps, Ref, Node, Keeps-trans, variables_of, leaders_of, IsGuard, Frame, guard_stays, are_proposed, asked_stays, get_set_other, leader_at, ordered_leaders, next_turn, refused, turn_within, get_set_same}
 use Rattle.sig_solve.proofs.guards.guards_of.Goals as goal
 
 pub places_of-requires-clause-proposed : goal.places_of-requires-clause-proposed

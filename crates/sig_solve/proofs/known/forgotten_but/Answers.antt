@@ -1,4 +1,4 @@
-use Rattle.sig_solve.proofs.{◌≡◌, ◌+◌, ◌<◌, ℕ, List, get_or, length, sym, ap, ◌∙◌, subst, arith, Some, slice_get, SigId, SystemView, AreForgotten, among_is, among_not, next_known, next_other, get_at}
+use Rattle.sig_solve.proofs.{◌≡◌, ◌+◌, ◌<◌, ℕ, List, get_or, length, sym, ap, ◌∙◌, subst, arith, Some, slice_get, SigId, SystemView, AreForgotten, among_is, among_not, next_known, next_other, slice_get-get_or}
 use Rattle.sig_solve.proofs.known.forgotten_but.Goals.{then-is_among, else-is_among}
 use Rattle.sig_solve.proofs.known.forgotten_but.Goals as goal
 
@@ -11,9 +11,9 @@ loop-place-preserved c =
     let n = c.loop-place.place in
     let same : items ≡ system.conditions = c.as_slice-condition-items.ensures.value ∙ ap (λ (s : SystemView). s.conditions) c.system.view_is in
     let same_own : proposals ≡ system.proposals = c.as_slice-proposals.ensures.value ∙ ap (λ (s : SystemView). s.proposals) c.system.view_is in
-    let at : slice_get system.conditions n ≡ Some (get_or items n d) = ap (λ (xs : List SigId). slice_get xs n) (sym same) ∙ get_at items n d c.loop-place-test.true in
+    let at : slice_get system.conditions n ≡ Some (get_or items n d) = ap (λ (xs : List SigId). slice_get xs n) (sym same) ∙ slice_get-get_or items n d c.loop-place-test.true in
     let within : n < length proposals = omega (arith, c.loop-place-test.true, ap length same, ap length same_own, c.requires.counted) in
-    let own : slice_get system.proposals n ≡ Some (get_or proposals n 0) = ap (λ (xs : List ℕ). slice_get xs n) (sym same_own) ∙ get_at proposals n 0 within in
+    let own : slice_get system.proposals n ≡ Some (get_or proposals n 0) = ap (λ (xs : List ℕ). slice_get xs n) (sym same_own) ∙ slice_get-get_or proposals n 0 within in
     elim c.if-is_among.branch [
       | then-is_among w ↦
           subst (AreForgotten system c.args.known.now (n + 1)) (sym (ap (λ v. v.items) w.forgotten-is))

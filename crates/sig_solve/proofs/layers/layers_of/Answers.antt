@@ -1,4 +1,4 @@
-use Rattle.sig_solve.proofs.{◌≡◌, ◌<◌, ◌≤◌, ◌+◌, ◌*◌, ℕ, Bool, List, [], ◌∷◌, ◌++◌, length, true, false, get_or, drop, take, refl, sym, ap, ◌∙◌, subst, arith, Contains, None, suc, Err, mul-le-mul_left, written, OutOfMemory, Share, Share-none, Guide, Keeps-itself, Keeps-trans, ForgetsAllBut, variables_of, AreRounds, AreSettled, has_entered, AreAwaited, are_proposed, asked_stays, none_awaited as awaiting_begins, entered_conditions, leaders_fewer, rounds_begin, rounds_stick, more_calls, next_turn, no_turns, out_of_memory, refused}
+use Rattle.sig_solve.proofs.{◌≡◌, ◌<◌, ◌≤◌, ◌+◌, ◌*◌, ℕ, Bool, List, [], ◌∷◌, ◌++◌, length, true, false, get_or, drop, take, refl, sym, ap, ◌∙◌, subst, arith, Contains, None, suc, Err, mul-le-mul_left, OutOfMemory, Share, Share-none, Guide, Keeps-itself, Keeps-trans, ForgetsAllBut, variables_of, AreRounds, AreSettled, has_entered, AreAwaited, are_proposed, asked_stays, none_awaited as awaiting_begins, entered_conditions, leaders_fewer, rounds_begin, rounds_stick, more_calls, next_turn, no_turns, out_of_memory, refused, written}
 use Rattle.sig_solve.proofs.StoreLemmas.{asked}
 use Rattle.sig_solve.proofs.layers.layers_of.Goals as goal
 

@@ -1,4 +1,4 @@
-use Rattle.sig_solve.proofs.{◌≡◌, ◌<◌, ◌+◌, ◌*◌, inl, inr, ℕ, List, length, get_or, sym, ap, ◌∙◌, subst, arith, None, Some, slice_get, cases_eq, SigId, Kernel, IsFree, Keeps-trans, ForgetsAllBut, variables_of, are_proposed, asked_stays, apart_pinned, refs_apart, refs_same, same_free, get_at, all_free, first_pinned, free_is, next_turn, refused, turn_within}
+use Rattle.sig_solve.proofs.{◌≡◌, ◌<◌, ◌+◌, ◌*◌, inl, inr, ℕ, List, length, get_or, sym, ap, ◌∙◌, subst, arith, None, Some, slice_get, cases_eq, SigId, Kernel, IsFree, Keeps-trans, ForgetsAllBut, variables_of, are_proposed, asked_stays, apart_pinned, refs_apart, refs_same, same_free, all_free, first_pinned, free_is, next_turn, refused, turn_within, slice_get-get_or}
 use Rattle.sig_solve.proofs.pinned.find_pinned.Goals as goal
 
 pub known_of-requires : goal.known_of-requires
@@ -17,7 +17,7 @@ pub returns-then-ne-clause-value : goal.returns-then-ne-clause-value
 returns-then-ne-clause-value c =
     let d : SigId = record { 0 = 0 } in
     let b = get_or c.args.conditions.now c.loop-place.place d in
-    let at = get_at c.args.conditions.now c.loop-place.place d c.loop-place-test.true in
+    let at = slice_get-get_or c.args.conditions.now c.loop-place.place d c.loop-place-test.true in
     let is = asked_stays c.args.store.now c.halves.new.store (Keeps-trans c.args.store.now c.loop-place.store c.halves.new.store c.loop-place.invariant.kept c.in_ok-high.ensures.kept) c.args.asked.now c.in_ok-high.ensures.store c.requires.asked in
     let but = subst (λ xs. ForgetsAllBut c.args.asked.now.system xs c.in_ok-known.known.forgotten.items) c.in_ok-earlier.ensures.items c.in_ok-known.ensures.1 in
     first_pinned c.args.asked.now.frame.kernel.now c.args.conditions.now c.requires.conditions c.loop-place.place b at c.loop-place.invariant.free
@@ -28,7 +28,7 @@ one_more_free : (kernel : Kernel) (conditions : List SigId) (place : ℕ) (d : S
     → IsFree kernel (get_or conditions place d).0 → (k : ℕ) (c : SigId) → k < place + 1 → slice_get conditions k ≡ Some c → IsFree kernel c.0
 one_more_free kernel conditions place d within before here k c lt is = elim (cases_eq k place) [
   | inl e ↦
-      let at : Some (get_or conditions place d) ≡ Some c = sym (get_at conditions place d within) ∙ ap (slice_get conditions) (sym e) ∙ is in
+      let at : Some (get_or conditions place d) ≡ Some c = sym (slice_get-get_or conditions place d within) ∙ ap (slice_get conditions) (sym e) ∙ is in
       let same : get_or conditions place d ≡ c = cc in
       subst (λ (x : SigId). IsFree kernel x.0) same here
   | inr ne ↦ before k c (omega (arith, lt, ne)) is
@@ -39,7 +39,7 @@ loop-place-preserved c =
     let m = 5 + 2 * c.args.asked.now.system.variables in
     let d : SigId = record { 0 = 0 } in
     let b = get_or c.args.conditions.now c.loop-place.place d in
-    let at = get_at c.args.conditions.now c.loop-place.place d c.loop-place-test.true in
+    let at = slice_get-get_or c.args.conditions.now c.loop-place.place d c.loop-place-test.true in
     let is = asked_stays c.args.store.now c.halves.new.store (Keeps-trans c.args.store.now c.loop-place.store c.halves.new.store c.loop-place.invariant.kept c.in_ok-high.ensures.kept) c.args.asked.now c.in_ok-high.ensures.store c.requires.asked in
     let but = subst (λ xs. ForgetsAllBut c.args.asked.now.system xs c.in_ok-known.known.forgotten.items) c.in_ok-earlier.ensures.items c.in_ok-known.ensures.1 in
     record {

@@ -1,4 +1,4 @@
-use Rattle.sig_solve.proofs.{◌≡◌, ◌<◌, ◌+◌, ℕ, List, ◌++◌, length, drop, take, filter, sym, ap, ◌∙◌, subst, arith, Contains, suc, written, SystemView, AreNeeds, AreRounds, AreSettled, has_entered, entered_conditions, leaders_fewer, rounds_begin, rounds_stick}
+use Rattle.sig_solve.proofs.{◌≡◌, ◌<◌, ◌+◌, ℕ, List, ◌++◌, length, drop, take, filter, sym, ap, ◌∙◌, subst, arith, Contains, suc, SystemView, AreNeeds, AreRounds, AreSettled, has_entered, entered_conditions, leaders_fewer, rounds_begin, rounds_stick, written}
 use Rattle.sig_solve.proofs.rounds.rounds_of.Goals as goal
 
 pub overflow_cast-round-end : goal.overflow_cast-round-end

@@ -1,7 +1,4 @@
-use Rattle.std.proofs.lemmas.Bool.Decides.{Decides-eqb}
-use Rattle.std.proofs.lemmas.Slice.Eq.{slice_eq-Decides}
-use Rattle.std.specs.Bool.{Decides}
-use Rattle.sig_solve.proofs.{◌≡◌, ◌==◌, ap, SigId, signal_id}
+use Rattle.sig_solve.proofs.{Decides-eqb, slice_eq-Decides, Decides, ◌≡◌, ◌==◌, ap, SigId, signal_id}
 use Rattle.sig_solve.proofs.triangular.are_same.Goals as goal
 
 same_id : (a b : SigId) → Decides (a.0 == b.0) (a ≡ b)

@@ -1,7 +1,5 @@
-use Rattle.std.proofs.Common.{◌≡◌, ◌⊎◌, List, Result, Ok, Err, IfErr, IfOk, inl, inr, refl, sym}
-use Rattle.std.specs.Prelude.{MatchResult}
+use Rattle.sig_tool.proofs.{◌≡◌, ◌⊎◌, List, Result, Ok, Err, IfErr, IfOk, inl, inr, refl, sym, MatchResult, IsCommand, Word, texts, WordsAnswer, Refused, Command, AreNoCommand, OfCommand}
 use Rattle.sig_words.specs.declared.answer.WordsAnswer.TheVariants.{OutOfMemory}
-use Rattle.sig_tool.proofs.{IsCommand, Word, texts, WordsAnswer, Refused, Command, AreNoCommand, OfCommand}
 use Rattle.sig_tool.proofs.words.command_of.Goals as goal
 
 -- a result is the command that the words are, unless memory runs out

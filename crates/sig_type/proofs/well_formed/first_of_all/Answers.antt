@@ -1,4 +1,4 @@
-use Rattle.sig_type.proofs.{name_of, model_of, Name, texts_more, read_mapped, name_is, again_same, rules_more, rules_until, rules_all, interface_models, Interface, ap, sym, ◌∙◌, ◌≡◌, ◌<◌, ◌+◌, ◌++◌, ◌∷◌, [], length, arith, is_some, true, false, length-map, slice_get_read}
+use Rattle.sig_type.proofs.{name_of, model_of, Name, texts_more, name_is, again_same, rules_more, rules_until, rules_all, interface_models, Interface, ap, sym, ◌∙◌, ◌≡◌, ◌<◌, ◌+◌, ◌++◌, ◌∷◌, [], length, arith, is_some, true, false, length-map, slice_get_read, read_mapped}
 use Rattle.sig_type.proofs.well_formed.first_of_all.Goals as goal
 
 pub first_of_process-requires-clause-here : goal.first_of_process-requires-clause-here

@@ -1,5 +1,4 @@
-use Rattle.sig_verify.proofs.Found.{none_first, one_first}
-use Rattle.sig_verify.proofs.Verdict.{verdict}
+use Rattle.sig_verify.proofs.{none_first, one_first, verdict}
 use Rattle.sig_verify.proofs.laws.images_are_sound_or_not.Goals as goal
 
 pub returns-clause-verdict : goal.returns-clause-verdict

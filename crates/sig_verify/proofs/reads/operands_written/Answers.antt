@@ -1,7 +1,4 @@
-use Rattle.std.proofs.Common.{◌*◌, ◌^◌, length, arith}
-use Rattle.sig_verify.specs.inner.Pairs.{IsTired}
-use Rattle.sig_verify.proofs.Compared.{all_of_few, one_more_few, one_more_tired}
-use Rattle.sig_verify.proofs.Spent.{pass_on}
+use Rattle.sig_verify.proofs.{◌*◌, ◌^◌, length, arith, IsTired, all_of_few, one_more_few, one_more_tired, pass_on}
 use Rattle.sig_verify.proofs.reads.operands_written.Goals as goal
 
 pub returns-in_err-operand_written-clause-counted : goal.returns-in_err-operand_written-clause-counted

@@ -1,8 +1,5 @@
 -- The signals among the operands so far were written, and each was compared once.
-use Rattle.std.proofs.Common.{◌≡◌, ℕ, ◌+◌, ◌*◌, ◌^◌, ◌<◌, ◌≤◌}
-use Rattle.std.specs.Prelude.{slice_index_or}
-use Rattle.sig_verify.specs.inner.Asking.{IsWrittenWhere}
-use Rattle.sig_verify.specs.Prelude.{Sig, SigId}
+use Rattle.sig_verify.proofs.{◌≡◌, ℕ, ◌+◌, ◌*◌, ◌^◌, ◌<◌, ◌≤◌, slice_index_or, IsWrittenWhere, Sig, SigId}
 use Rattle.sig_verify.proofs.reads.operands_written.Given as goal
 
 abbrev pub invariant-loop-operand : goal.invariant-loop-operand

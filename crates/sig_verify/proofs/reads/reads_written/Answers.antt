@@ -1,5 +1,4 @@
-use Rattle.sig_verify.specs.inner.Asking.{IsWrittenWhere}
-use Rattle.sig_verify.proofs.Found.{fun_reads}
+use Rattle.sig_verify.proofs.{IsWrittenWhere, fun_reads}
 use Rattle.sig_verify.proofs.reads.reads_written.Goals as goal
 
 pub returns-in-Fun-clause-value : goal.returns-in-Fun-clause-value

@@ -1,5 +1,4 @@
-use Rattle.std.proofs.Common.{◌≡◌, true, false, arith}
-use Rattle.sig_verify.proofs.Found.{all_sound, first_found, one_more}
+use Rattle.sig_verify.proofs.{◌≡◌, true, false, arith, all_sound, first_found, one_more}
 use Rattle.sig_verify.proofs.verifying.first_unsound.Goals as goal
 
 pub returns-then-not-sound-clause-verdict : goal.returns-then-not-sound-clause-verdict

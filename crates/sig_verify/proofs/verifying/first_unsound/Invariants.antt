@@ -1,6 +1,5 @@
 -- The operations so far are sound, and were taken in.
-use Rattle.std.proofs.Common.{ℕ, ◌<◌}
-use Rattle.sig_verify.specs.inner.Known.{IsKnown, IsSoundAt}
+use Rattle.sig_verify.proofs.{ℕ, ◌<◌, IsKnown, IsSoundAt}
 use Rattle.sig_verify.proofs.verifying.first_unsound.Given as goal
 
 abbrev pub invariant-loop-n : goal.invariant-loop-n

@@ -1,11 +1,4 @@
-use Rattle.std.proofs.Common.{◌*◌, arith, false, ◌∙◌}
-use Rattle.sig_verify.specs.inner.Asking.{asked, choices, guard_at}
-use Rattle.sig_verify.specs.inner.Diagrams.{IsRefusal}
-use Rattle.sig_verify.proofs.Calls.{of_kept}
-use Rattle.sig_verify.proofs.GuardNodes.{high_less, high_within, low_less, low_within, variable_within}
-use Rattle.sig_verify.proofs.Spent.{pass_on}
-use Rattle.sig_verify.proofs.Stays.{are_told_kept, scene_kept}
-use Rattle.sig_verify.proofs.Walked.{constant_is_told, high_next, high_refused, low_next, low_refused, node_is_told, node_next, node_refused}
+use Rattle.sig_verify.proofs.{◌*◌, arith, false, ◌∙◌, asked, choices, guard_at, IsRefusal, of_kept, high_less, high_within, low_less, low_within, variable_within, pass_on, are_told_kept, scene_kept, constant_is_told, high_next, high_refused, low_next, low_refused, node_is_told, node_next, node_refused}
 use Rattle.sig_verify.proofs.walk.+walk.Goals as goal
 
 pub returns-then-n-lt2-clause-value : goal.returns-then-n-lt2-clause-value

@@ -1,7 +1,4 @@
-use Rattle.sig_verify.proofs.Calls.{of_kept}
-use Rattle.sig_verify.proofs.Joined.{function_joined, second_refused, still_of, third_refused, written_joined}
-use Rattle.sig_verify.proofs.Spent.{pass_on}
-use Rattle.sig_verify.specs.inner.Diagrams.{IsRefusal}
+use Rattle.sig_verify.proofs.{of_kept, function_joined, second_refused, still_of, third_refused, written_joined, pass_on, IsRefusal}
 use Rattle.sig_verify.proofs.walk.node_told.Goals as goal
 
 pub choice-requires-2-clause-low : goal.choice-requires-2-clause-low

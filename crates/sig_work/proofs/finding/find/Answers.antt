@@ -1,4 +1,4 @@
-use Rattle.sig_work.proofs.{◌≡◌, inl, inr, sym, ap, subst, ◌∙◌, arith, Some, slice_get, get_within, same_or_not, same_Some, item_at, HasNoneIn, Share}
+use Rattle.sig_work.proofs.{◌≡◌, inl, inr, sym, ap, subst, ◌∙◌, arith, Some, slice_get, same_Some, item_at, HasNoneIn, Share, slice_get_within, cases_eq}
 use Rattle.sig_work.proofs.finding.find.Goals as goal
 
 pub returns-in-Some-clause-some : goal.returns-in-Some-clause-some
@@ -13,7 +13,7 @@ returns-in-Some-clause-some c =
     }
 
 pub loop-at-preserved : goal.loop-at-preserved
-loop-at-preserved c = λ i share lt at. elim (same_or_not i c.loop-at.at) [
+loop-at-preserved c = λ i share lt at. elim (cases_eq i c.loop-at.at) [
   | inl same ↦
       let here : slice_get c.args.shares.now c.loop-at.at ≡ Some c.index-shares-at.result =
       item_at c.args.shares.now c.loop-at.at c.index-shares-at.result c.loop-at-test.true c.index-shares-at.is in
@@ -24,4 +24,4 @@ loop-at-preserved c = λ i share lt at. elim (same_or_not i c.loop-at.at) [
 
 pub returns-clause-none : goal.returns-clause-none
 returns-clause-none c = λ m one.
-    c.loop-at.invariant one.at one.share (let lt = get_within c.args.shares.now one.at one.share one.there in let all = c.loop-at-test.false in omega (arith, lt, all)) one.there one.number m one.is one.numbered
+    c.loop-at.invariant one.at one.share (let lt = slice_get_within c.args.shares.now one.at one.share one.there in let all = c.loop-at-test.false in omega (arith, lt, all)) one.there one.number m one.is one.numbered

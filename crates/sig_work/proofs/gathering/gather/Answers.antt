@@ -1,4 +1,4 @@
-use Rattle.sig_work.proofs.{◌≡◌, ◌-◌, ◌∙◌, ℕ, List, length, sym, subst, arith, get_within, actor_of, done_run, holds_finished, is_end, closed_left, parts_left, seats_left, all_room, all_single, there, AreSingle, Is, run_of, From, IsClosed, IsLeastWord, NamesCause, Share}
+use Rattle.sig_work.proofs.{◌≡◌, ◌-◌, ◌∙◌, ℕ, List, length, sym, subst, arith, actor_of, done_run, holds_finished, is_end, closed_left, parts_left, seats_left, all_room, all_single, there, AreSingle, Is, run_of, From, IsClosed, IsLeastWord, NamesCause, Share, slice_get_within}
 use Rattle.sig_work.proofs.gathering.gather.Goals as goal
 
 pub ended_by-ended-requires : goal.ended_by-ended-requires
@@ -25,7 +25,7 @@ close-requires-clause-some g c =
     let given = run_of c.args.plan.now c.args.inputs.now c.requires.0 c.requires.1 in
     let some = c.plans_are_accepted.ensures.codes.actors in
     let found = there given c.plans_are_accepted.ensures c.requires.2 c.args.halt c.args.shares.items (done_run given c.requires.2 c.args.halt c.args.shares.items c.requires.3) 0 (omega (arith, some)) in
-    let lt = get_within c.args.shares.items found.2.at found.2.share found.2.there in
+    let lt = slice_get_within c.args.shares.items found.2.at found.2.share found.2.there in
     let count = c.settle_links-shares.ensures.left.count in
     omega (arith, lt, count)
 

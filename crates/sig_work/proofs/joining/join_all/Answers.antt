@@ -1,4 +1,4 @@
-use Rattle.sig_work.proofs.{◌≡◌, ◌<◌, ℕ, get_or, length, List, subst, arith, None, Some, slice_get, get_at, LinkInfo, put_room, take_room, link_within}
+use Rattle.sig_work.proofs.{◌≡◌, ◌<◌, ℕ, get_or, length, List, subst, arith, None, Some, slice_get, LinkInfo, put_room, take_room, link_within, slice_get-get_or}
 use Rattle.sig_work.proofs.Joints.{joined_more}
 use Rattle.sig_work.proofs.joining.join_all.Goals as goal
 
@@ -8,7 +8,7 @@ none = record { signal = None; writer = 0; reader = 0 }
 -- the link of a number, as one of the plan
 module _ (links : List LinkInfo) (items : List LinkInfo) (same : items ≡ links) (n : ℕ) (lt : n < length items) where
   info_at : slice_get links n ≡ Some (get_or items n none)
-  info_at = subst (λ (ls : List LinkInfo). slice_get ls n ≡ Some (get_or items n none)) same (get_at items n none lt)
+  info_at = subst (λ (ls : List LinkInfo). slice_get ls n ≡ Some (get_or items n none)) same (slice_get-get_or items n none lt)
 
 pub give_put-requires-clause-there : goal.give_put-requires-clause-there
 give_put-requires-clause-there c =

@@ -1,4 +1,4 @@
-use Rattle.sig_work.proofs.{◌≡◌, ◌≤◌, ◌++◌, List, length, take, drop, ap, refl, subst, sym, arith, Rose, written_back, again_kept, again_requires, again_served, again_stopped, always_ok, err_of, on_err, HaveEnded, Share}
+use Rattle.sig_work.proofs.{◌≡◌, ◌≤◌, ◌++◌, List, length, take, drop, ap, refl, subst, sym, arith, Rose, written_back, again_kept, again_requires, again_served, again_stopped, always_ok, err_of, HaveEnded, Share, on_err_weaker}
 use Rattle.sig_work.proofs.running.run_shares.Goals as goal
 
 pub serve-again-requires : goal.serve-again-requires
@@ -51,7 +51,7 @@ returns-in-Ok-clause-stopped g c =
 pub returns-in-Ok-clause-failed : goal.returns-in-Ok-clause-failed
 returns-in-Ok-clause-failed g c =
     let first : g.S.Sink.faults c.args.sink.now ≤ g.S.Sink.faults c.run_threads-shares.new.sink = c.run_threads-shares.ensures.faults_stay in
-    on_err c.serve-again.result (Rose (g.S.Sink.faults c.run_threads-shares.new.sink) (g.S.Sink.faults c.serve-again.new.sink)) (Rose (g.S.Sink.faults c.args.sink.now) (g.S.Sink.faults c.serve-again.new.sink))
+    on_err_weaker c.serve-again.result
     (λ rose. omega (arith, first, rose)) c.serve-again.ensures.failed
 
 pub returns-in-Ok-clause-faults_stay : goal.returns-in-Ok-clause-faults_stay

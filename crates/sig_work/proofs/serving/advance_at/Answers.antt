@@ -1,4 +1,4 @@
-use Rattle.sig_work.proofs.{◌≡◌, List, get_or, refl, set, Some, slice_get, on_err_weaker, on_ok_weaker, get_at, TookPrefix, have_ended_here, one_share, share_may, share_served, Share}
+use Rattle.sig_work.proofs.{◌≡◌, List, get_or, refl, set, Some, slice_get, on_err_weaker, on_ok_weaker, TookPrefix, have_ended_here, one_share, share_may, share_served, Share, slice_get-get_or}
 use Rattle.sig_work.proofs.serving.advance_at.Given.{Over}
 use Rattle.sig_work.proofs.serving.advance_at.Goals as goal
 
@@ -7,7 +7,7 @@ module _ (g : Over) (c : goal.After-advance g) where
   it = get_or c.args.shares.now c.args.at c.index-shares-at.result
 
   there : slice_get c.args.shares.now c.args.at ≡ Some it
-  there = get_at c.args.shares.now c.args.at c.index-shares-at.result c.requires.there
+  there = slice_get-get_or c.args.shares.now c.args.at c.index-shares-at.result c.requires.there
 
   abbrev behind : List Share
   behind = set c.args.shares.now c.args.at c.advance.new.self
@@ -20,7 +20,7 @@ advance-requires g c =
         run.1,
         run.2,
         share_may c.args.plan.now c.args.inputs.now c.args.halt.now c.args.shares.now c.args.at (get_or c.args.shares.now c.args.at c.index-shares-at.result)
-            (get_at c.args.shares.now c.args.at c.index-shares-at.result c.requires.there) run.0 run.1 run.2 run.3,
+            (slice_get-get_or c.args.shares.now c.args.at c.index-shares-at.result c.requires.there) run.0 run.1 run.2 run.3,
       );
     }
 

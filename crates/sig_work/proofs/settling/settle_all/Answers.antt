@@ -1,4 +1,4 @@
-use Rattle.sig_work.proofs.{◌≡◌, get_or, subst, arith, length, None, get_at, LinkInfo, linked_left, more_left, more_settled, nothing_taken, room_left, single_left, AreLeft, AreSettledBelow, From}
+use Rattle.sig_work.proofs.{◌≡◌, get_or, subst, arith, length, None, LinkInfo, linked_left, more_left, more_settled, nothing_taken, room_left, single_left, AreLeft, AreSettledBelow, From, slice_get-get_or}
 use Rattle.sig_work.proofs.settling.settle_all.Goals as goal
 
 abbrev none : LinkInfo
@@ -14,7 +14,7 @@ pub settle_link-requires-clause-linked : goal.settle_link-requires-clause-linked
 settle_link-requires-clause-linked g c =
     linked_left (From c.loop-number.number) (From c.loop-number.number) c.args.shares.now c.loop-number.shares c.loop-number.invariant.left c.loop-number.number
     (get_or c.args.links.now c.loop-number.number none) (omega arith) (omega arith)
-    (c.requires.linked c.loop-number.number (get_or c.args.links.now c.loop-number.number none) (get_at c.args.links.now c.loop-number.number none c.loop-number-test.true))
+    (c.requires.linked c.loop-number.number (get_or c.args.links.now c.loop-number.number none) (slice_get-get_or c.args.links.now c.loop-number.number none c.loop-number-test.true))
 
 pub settle_link-requires-clause-single : goal.settle_link-requires-clause-single
 settle_link-requires-clause-single g c =
@@ -29,7 +29,7 @@ pub loop-number-preserved : goal.loop-number-preserved
 loop-number-preserved g c = record {
   left = more_left c.loop-number.number c.args.shares.now c.loop-number.shares c.settle_link.new.shares c.loop-number.invariant.left c.settle_link.ensures.left;
   settled = more_settled c.loop-number.number c.args.links.now c.args.shares.now c.loop-number.shares c.loop-number.invariant.left c.loop-number.invariant.settled
-      (get_or c.args.links.now c.loop-number.number none) (get_at c.args.links.now c.loop-number.number none c.loop-number-test.true) c.settle_link.ensures.settled;
+      (get_or c.args.links.now c.loop-number.number none) (slice_get-get_or c.args.links.now c.loop-number.number none c.loop-number-test.true) c.settle_link.ensures.settled;
 }
 
 pub returns-clause-left : goal.returns-clause-left

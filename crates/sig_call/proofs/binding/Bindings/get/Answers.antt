@@ -1,4 +1,4 @@
-use Rattle.sig_call.proofs.{◌≡◌, ◌∙◌, ap, ℕ, List, length, ◌<◌, arith, option_map, length-map, Binding as BoundTo, within, is_found, is_missing, read_mapped, bound_in, bindings_in, binding_found}
+use Rattle.sig_call.proofs.{◌≡◌, ◌∙◌, ap, ℕ, List, length, ◌<◌, arith, option_map, length-map, Binding as BoundTo, within, is_found, is_missing, bound_in, bindings_in, binding_found, read_mapped}
 use Rattle.sig_call.proofs.binding.Bindings.get.Goals as goal
 
 pub index-requires : goal.index-requires

@@ -1,4 +1,4 @@
-use Rattle.sig_core.proofs.{◌≡◌, ◌∙◌, arith, List, ℤ, Global, length, refl, ap, sym, Some, slice_get, ltb-false, slice_get_read, VecDeque, get_within, length_told, none_told, queue_in, queues_of}
+use Rattle.sig_core.proofs.{◌≡◌, ◌∙◌, arith, List, ℤ, Global, length, refl, ap, sym, Some, slice_get, ltb-false, slice_get_read, VecDeque, length_told, none_told, queue_in, queues_of, slice_get_within}
 use Rattle.sig_core.proofs.state.Core.link_len.Goals as goal
 
 there : (c : goal.After-len) → slice_get c.args.self.now.lists.queues.items c.args.j ≡ Some c.in-Some.queue.now
@@ -10,7 +10,7 @@ there c =
 pub overflow_cast-result : goal.overflow_cast-result
 overflow_cast-result c =
     let at = there c in
-    let lt = get_within c.args.self.now.lists.queues.items c.args.j c.in-Some.queue.now at in
+    let lt = slice_get_within c.args.self.now.lists.queues.items c.args.j c.in-Some.queue.now at in
     let count = c.requires.links in
     let held = c.requires.held c.args.j (omega (arith, lt, count)) in
     let items : length (queues_of c.args.self.now.lists c.args.j).items ≡ length c.in-Some.queue.now.items = ap (λ o. length (queue_in o).items) at in

@@ -1,4 +1,4 @@
-use Rattle.sig_core.proofs.{◌≡◌, ◌<◌, ◌≤◌, ◌∙◌, ◌^◌, ap, arith, refl, rules, sym, Some, slice_get, with_item, slice_get_read, no_place, packed, Place, look_core, look_keeps, look_leaves, look_tells, set_past, Core, place_of, same_Some}
+use Rattle.sig_core.proofs.{◌≡◌, ◌<◌, ◌≤◌, ◌∙◌, ◌^◌, ap, arith, refl, rules, sym, Some, slice_get, with_item, slice_get_read, no_place, packed, Place, look_core, look_keeps, look_leaves, look_tells, Core, place_of, same_Some, get_set_other}
 use Rattle.sig_core.proofs.state.Core.look_at_word.Goals as goal
 
 within : (c : goal.After-self-1) → c.args.k < c.args.self.now.states.len
@@ -51,4 +51,4 @@ returns-clause-left c =
     (c.look.ensures.kept c.args.self.now.plan.now c.args.self.now.inputs.now (c.requires.states c.args.k c.index_mut.result.now (there c)).state) (behind c) refl refl
 
 pub returns-clause-touches : goal.returns-clause-touches
-returns-clause-touches c = record { states = λ i other. set_past c.args.self.now.states.items c.args.k c.look.new.self i other; links = λ j apart. refl }
+returns-clause-touches c = record { states = λ i other. get_set_other c.args.self.now.states.items c.args.k i c.look.new.self other; links = λ j apart. refl }

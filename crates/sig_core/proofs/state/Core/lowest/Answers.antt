@@ -1,4 +1,4 @@
-use Rattle.sig_core.proofs.{◌≡◌, ◌∙◌, arith, false, sym, true, get_within, at_end, low_alone, low_other, low_own}
+use Rattle.sig_core.proofs.{◌≡◌, ◌∙◌, arith, false, sym, true, at_end, low_alone, low_other, low_own, slice_get_within}
 use Rattle.sig_core.proofs.state.Core.lowest.Goals as goal
 
 pub returns-in_default : goal.returns-in_default
@@ -8,7 +8,7 @@ pub least_end-other-requires : goal.least_end-other-requires
 least_end-other-requires c = record {
   link =
       let (info, there, end) = at_end c.args.self.now c.plans_are_accepted.ensures c.args.k c.in-Some.j (sym c.next_link.ensures ∙ c.in-Some.is) in
-      get_within c.args.self.now.plan.now.links c.in-Some.j info there;
+      slice_get_within c.args.self.now.plan.now.links c.in-Some.j info there;
 }
 
 pub returns-then-other-k : goal.returns-then-other-k

@@ -1,4 +1,4 @@
-use Rattle.sig_core.proofs.{◌≡◌, ◌∙◌, length, refl, ap, sym, Some, slice_get, slice_get_read, length_range, may_use}
+use Rattle.sig_core.proofs.{◌≡◌, ◌∙◌, length, refl, ap, sym, Some, slice_get, slice_get_read, may_use, length-range_with_len}
 use Rattle.sig_core.proofs.state.Core.turn.Goals as goal
 
 pub act-requires-clause-state : goal.act-requires-clause-state
@@ -20,5 +20,5 @@ returns-clause-turn g c = record {
   state = c.act.ensures.state;
   same = c.act.ensures.same;
   turn_is = c.act.ensures.turn;
-  count = sym (length_range 0 (length c.act.new.ends.queues.items)) ∙ ap length c.act.ensures.pushes ∙ length_range 0 (length c.args.self.now.lists.queues.items);
+  count = sym (length-range_with_len 0 (length c.act.new.ends.queues.items)) ∙ ap length c.act.ensures.pushes ∙ length-range_with_len 0 (length c.args.self.now.lists.queues.items);
 }

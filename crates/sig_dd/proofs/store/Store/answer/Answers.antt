@@ -1,9 +1,9 @@
-use Rattle.sig_dd.proofs.{arith, share_of, IfOk-weaker, IsRefOf-answer}
+use Rattle.sig_dd.proofs.{arith, share_of, IsRefOf-answer, IfOk-weaker}
 use Rattle.sig_dd.proofs.store.Store.answer.Goals as goal
 
 pub returns-clause-value : goal.returns-clause-value
 returns-clause-value c =
-    IfOk-weaker _ _ c.answer_in.result (IsRefOf-answer c.args.self.now c.answer_in.new.self c.answer_in.ensures.kept c.args.question c.requires.held) c.answer_in.ensures.value
+    IfOk-weaker c.answer_in.result _ _ (IsRefOf-answer c.args.self.now c.answer_in.new.self c.answer_in.ensures.kept c.args.question c.requires.held) c.answer_in.ensures.value
 
 pub returns-clause-spends : goal.returns-clause-spends
 returns-clause-spends c vs only =

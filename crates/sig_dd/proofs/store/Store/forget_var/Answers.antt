@@ -1,4 +1,4 @@
-use Rattle.sig_dd.proofs.{ℕ, true, false, List, arith, sym, ◌∙◌, ap, subst, ◌||◌, with_truth, test, Spans, Share, Bool, refusal_is, Share-then, Share-wider, IfOk-weaker, IsRefOf-same, Spans-append, Spans-fixed, test-kept}
+use Rattle.sig_dd.proofs.{ℕ, true, false, List, arith, sym, ◌∙◌, ap, subst, ◌||◌, with_truth, test, Spans, Share, Bool, refusal_is, Share-then, Share-wider, IsRefOf-same, Spans-append, Spans-fixed, test-kept, IfOk-weaker}
 use Rattle.sig_dd.proofs.store.Store.forget_var.Goals as goal
 
 -- the disjunction is of the two restrictions
@@ -6,7 +6,7 @@ pub returns-clause-value : goal.returns-clause-value
 returns-clause-value c =
     let at_low = λ (ts : List Bool). test-kept c.restrict.new.self c.restrict-2.new.self c.in_ok-high.ensures.kept c.in_ok-low.low c.in_ok-low.ensures.value.holds ts ∙ c.in_ok-low.ensures.value.function ts in
     let at_high = λ (ts : List Bool). c.in_ok-high.ensures.value.function ts ∙ test-kept c.args.self.now c.restrict.new.self c.in_ok-low.ensures.kept c.args.f c.requires (with_truth ts c.args.v true) in
-    IfOk-weaker _ _ c.disj.result
+    IfOk-weaker c.disj.result _ _
     (IsRefOf-same c.disj.new.self.nodes _ _ (λ ts.
     ap (λ b. b || test c.restrict-2.new.self.nodes c.in_ok-high.high ts) (at_low ts)
     ∙ ap (λ b. test c.args.self.now.nodes c.args.f (with_truth ts c.args.v false) || b) (at_high ts)))

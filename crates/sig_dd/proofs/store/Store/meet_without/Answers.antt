@@ -1,9 +1,9 @@
-use Rattle.sig_dd.proofs.{IfOk-weaker, only_spanned, product_forgets, product_share, test}
+use Rattle.sig_dd.proofs.{only_spanned, product_forgets, product_share, test, IfOk-weaker}
 use Rattle.sig_dd.proofs.store.Store.meet_without.Goals as goal
 
 pub returns-clause-forgets : goal.returns-clause-forgets
 returns-clause-forgets c =
-    IfOk-weaker _ _ c.product_in.result
+    IfOk-weaker c.product_in.result _ _
     (λ r is. product_forgets c.product_in.new.self.nodes c.args.forgotten.now (test c.args.self.now.nodes c.args.f) (test c.args.self.now.nodes c.args.g) r is) c.product_in.ensures.value
 
 pub returns-clause-spends : goal.returns-clause-spends

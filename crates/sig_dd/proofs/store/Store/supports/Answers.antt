@@ -1,4 +1,4 @@
-use Rattle.sig_dd.proofs.{◌≡◌, ◌+◌, ◌*◌, ◌++◌, ◌∙◌, ℕ, List, ap, sym, subst, arith, length, take, drop, append-nil, slice_get_within, get_or, Ref, AreMasks, AreTestedBelow, Holds, get_is, supported, drop_all, take_all}
+use Rattle.sig_dd.proofs.{◌≡◌, ◌+◌, ◌*◌, ◌++◌, ◌∙◌, ℕ, List, ap, sym, subst, arith, length, take, drop, append-nil, slice_get_within, get_or, Ref, AreMasks, AreTestedBelow, Holds, supported, drop_all, take_all, get_or_from_slice_get}
 use Rattle.sig_dd.proofs.store.Store.supports.Goals as goal
 
 -- what is written over a list of the same length is all of it
@@ -51,7 +51,7 @@ returns-clause-value c =
       count = inv.count;
       each = λ i r get.
           let lt = slice_get_within roots i r get in
-          let here = get_is roots i r r get in
+          let here = get_or_from_slice_get roots i r r get in
           let number = ap (λ (q : Ref). q.number) here in
           let within = c.count_of-count.ensures.within i r lt in
           let held = subst (Holds nodes) here (c.requires i r lt) in

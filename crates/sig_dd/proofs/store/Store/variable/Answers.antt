@@ -1,4 +1,4 @@
-use Rattle.sig_dd.proofs.{◌≡◌, ◌^◌, ◌≤◌, length, refl, ap, arith, pow_mono, IfErr-at_err, share_of, IfOk-weaker, IsRefOf-variable, starts_false, starts_true}
+use Rattle.sig_dd.proofs.{◌≡◌, ◌^◌, ◌≤◌, length, refl, ap, arith, pow_mono, IfErr-at_err, share_of, IsRefOf-variable, starts_false, starts_true, IfOk-weaker}
 use Rattle.sig_dd.proofs.store.Store.variable.Goals as goal
 
 pub node_for-requires-clause-low_later : goal.node_for-requires-clause-low_later
@@ -9,7 +9,7 @@ node_for-requires-clause-high_later c = starts_true _ _ refl _
 
 pub returns-clause-value : goal.returns-clause-value
 returns-clause-value c =
-    IfOk-weaker _ _ c.node_for.result (λ r. IsRefOf-variable c.args.self.now.nodes c.node_for.new.self.nodes c.args.v _ _ r refl refl) c.node_for.ensures.value
+    IfOk-weaker c.node_for.result _ _ (λ r. IsRefOf-variable c.args.self.now.nodes c.node_for.new.self.nodes c.args.v _ _ r refl refl) c.node_for.ensures.value
 
 pub returns-clause-spends : goal.returns-clause-spends
 returns-clause-spends c = record {

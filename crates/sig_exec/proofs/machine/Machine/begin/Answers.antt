@@ -1,4 +1,4 @@
-use Rattle.sig_exec.proofs.Openings.{state_cleared}
+use Rattle.sig_exec.proofs.{state_cleared}
 use Rattle.sig_exec.proofs.machine.Machine.begin.Goals as goal
 
 pub returns-clause-cleared : goal.returns-clause-cleared

@@ -1,7 +1,4 @@
-use Rattle.std.proofs.Common.{◌∙◌, arith}
-use Rattle.sig_exec.specs.inner.Machines.{truths_of}
-use Rattle.sig_exec.proofs.Guards.{child_held, child_smaller, child_value, constant_truth, variable_within}
-use Rattle.sig_exec.proofs.Places.{condition_within}
+use Rattle.sig_exec.proofs.{◌∙◌, arith, truths_of, child_held, child_smaller, child_value, constant_truth, variable_within, condition_within}
 use Rattle.sig_exec.proofs.machine.Machine.holds.Goals as goal
 
 pub condition_at-condition-requires : goal.condition_at-condition-requires

@@ -1,8 +1,4 @@
-use Rattle.std.proofs.Common.{◌≡◌, ◌<◌, ◌+◌, length}
-use Rattle.sig_dd.specs.Nodes.{test}
-use Rattle.sig_file.specs.Guarded.{nodes_in}
-use Rattle.sig_exec.specs.inner.Instants.{reference}
-use Rattle.sig_exec.specs.inner.Machines.{truths_of}
+use Rattle.sig_exec.proofs.{◌≡◌, ◌<◌, ◌+◌, length, test, nodes_in, reference, truths_of}
 use Rattle.sig_exec.proofs.machine.Machine.holds.Given as goal
 
 -- the walk keeps the value, and goes to earlier nodes

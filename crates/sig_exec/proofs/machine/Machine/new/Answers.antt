@@ -1,6 +1,4 @@
-use Rattle.std.proofs.Common.{◌≡◌, ◌∙◌, ap, ℤ, List, length, replicate}
-use Rattle.sig_exec.specs.declared.machine.Machine.{Machine}
-use Rattle.sig_exec.proofs.Openings.{state_opening}
+use Rattle.sig_exec.proofs.{◌≡◌, ◌∙◌, ap, ℤ, List, length, replicate, Machine, state_opening}
 use Rattle.sig_exec.proofs.machine.Machine.new.Goals as goal
 
 pub returns-clause-opening : goal.returns-clause-opening

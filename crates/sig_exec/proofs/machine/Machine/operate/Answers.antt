@@ -1,9 +1,4 @@
-use Rattle.std.proofs.Common.{rules, ℤ, subst, sym, w64}
-use Rattle.std.proofs.lemmas.Int.{to_z-of_z}
-use Rattle.sig_exec.specs.inner.Instants.{EndsAt}
-use Rattle.sig_exec.specs.inner.Machines.{IsKept, state_of}
-use Rattle.sig_file.specs.declared.run.ImageCause.{ImageCause}
-use Rattle.sig_exec.proofs.InstructionDone.{amid_more, done, ended, machine_more, reads_within, still_on, target_in_cells, target_in_stamps}
+use Rattle.sig_exec.proofs.{rules, ℤ, subst, sym, w64, to_z-of_z, EndsAt, IsKept, state_of, ImageCause, amid_more, done, ended, machine_more, reads_within, still_on, target_in_cells, target_in_stamps}
 use Rattle.sig_exec.proofs.machine.Machine.operate.Goals as goal
 
 pub come_to-requires : goal.come_to-requires

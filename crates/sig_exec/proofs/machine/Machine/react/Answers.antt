@@ -1,14 +1,4 @@
-use Rattle.std.proofs.Common.{◌≡◌, ◌<◌, ◌+◌, ◌∙◌, ℕ, length, refl, sym, ap, subst, arith}
-use Rattle.std.proofs.lemmas.Result.{err_from_is_err_and}
-use Rattle.sig_dd.specs.Nodes.{test}
-use Rattle.sig_file.specs.Guarded.{guards_of, nodes_in}
-use Rattle.sig_file.specs.ImageRuns.{EndsIn}
-use Rattle.sig_file.specs.declared.run.ImageCause.{ImageCause}
-use Rattle.sig_exec.specs.inner.Instants.{HandlesFirst, IsAmid, reference}
-use Rattle.sig_exec.specs.inner.Machines.{IsMachineOf, state_of, truths_of}
-use Rattle.sig_exec.specs.declared.machine.Machine.{Machine}
-use Rattle.sig_exec.proofs.Guards.{constant_truth}
-use Rattle.sig_exec.proofs.InstructionsOfInstant.{amid_passed, amid_start, guard_within, one_done, one_ends, one_passed}
+use Rattle.sig_exec.proofs.{◌≡◌, ◌<◌, ◌+◌, ◌∙◌, ℕ, length, refl, sym, ap, subst, arith, err_from_is_err_and, test, guards_of, nodes_in, EndsIn, ImageCause, HandlesFirst, IsAmid, reference, IsMachineOf, state_of, truths_of, Machine, constant_truth, amid_passed, amid_start, guard_within, one_done, one_ends, one_passed}
 use Rattle.sig_exec.proofs.machine.Machine.react.Goals as goal
 use Rattle.sig_exec.proofs.machine.Machine.react.Goals.{then-asked+in_ok-operate, else-asked}
 

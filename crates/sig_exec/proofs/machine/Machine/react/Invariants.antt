@@ -1,8 +1,4 @@
-use Rattle.std.proofs.Common.{◌≡◌}
-use Rattle.sig_dd.specs.Nodes.{test}
-use Rattle.sig_file.specs.Guarded.{nodes_in}
-use Rattle.sig_exec.specs.inner.Instants.{HandlesFirst, IsAmid, reference}
-use Rattle.sig_exec.specs.inner.Machines.{IsMachineOf, state_of, truths_of}
+use Rattle.sig_exec.proofs.{◌≡◌, test, nodes_in, HandlesFirst, IsAmid, reference, IsMachineOf, state_of, truths_of}
 use Rattle.sig_exec.proofs.machine.Machine.react.Given as goal
 
 abbrev pub invariant-loop-place : goal.invariant-loop-place

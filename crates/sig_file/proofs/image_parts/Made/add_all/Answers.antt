@@ -1,8 +1,4 @@
-use Rattle.sig_file.proofs.Common.{◌≡◌, ◌+◌, Err, ap, drop, rules}
-use Rattle.sig_file.specs.inner.Numbering.{made_behind}
-use Rattle.sig_file.specs.declared.answer.FileAnswer.TheVariants.{TooLong}
-use Rattle.sig_file.specs.declared.limits.TheConstants.{ROOM_FOR_NODES}
-use Rattle.sig_file.proofs.MadeBehind.{long_behind}
+use Rattle.sig_file.proofs.{◌≡◌, ◌+◌, Err, ap, drop, rules, made_behind, TooLong, ROOM_FOR_NODES, long_behind}
 use Rattle.sig_file.proofs.image_parts.Made.add_all.Goals as goal
 
 pub returns-in_err-add_numbered-clause-long : goal.returns-in_err-add_numbered-clause-long

@@ -1,6 +1,5 @@
-use Rattle.sig_file.proofs.Common.{◌≡◌, drop}
-use Rattle.sig_dd.specs.contracts.node.RefPartialEq.TheImpl.{eq-value}
-use Rattle.sig_file.specs.inner.Numbering.{AreNumbered, made_behind}
+use Rattle.sig_file.proofs.{◌≡◌, drop, eq-value, made_behind}
+use Rattle.sig_file.specs.inner.Numbering.{AreNumbered}
 use Rattle.sig_file.proofs.image_parts.Made.add_all.Given as goal
 
 abbrev pub invariant-loop-id : goal.invariant-loop-id

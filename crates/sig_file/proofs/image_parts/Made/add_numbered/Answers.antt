@@ -1,8 +1,4 @@
-use Rattle.sig_plan.specs.Plans.{PlanView}
-use Rattle.sig_file.proofs.Common.{◌≡◌, ◌∙◌, Some, None, ap, slice_get}
-use Rattle.sig_file.specs.declared.limits.TheConstants.{ROOM_FOR_NODES}
-use Rattle.sig_file.proofs.MadeBehind.{none_made, one_long, one_made, stands_at, stands_past}
-use Rattle.sig_file.proofs.Small.{on_ok}
+use Rattle.sig_file.proofs.{PlanView, ◌≡◌, ◌∙◌, Some, None, ap, slice_get, ROOM_FOR_NODES, none_made, one_long, one_made, stands_at, stands_past, on_ok}
 use Rattle.sig_file.proofs.image_parts.Made.add_numbered.Goals as goal
 
 pub returns-in-Some-clause-made : goal.returns-in-Some-clause-made

@@ -1,5 +1,4 @@
-use Rattle.sig_file.proofs.Common.{hash_map_updates_str, ◌∙◌, ap, is_some}
-use Rattle.sig_file.proofs.Small.{with_name}
+use Rattle.sig_file.proofs.{hash_map_updates_str, ◌∙◌, ap, is_some, with_name}
 use Rattle.sig_file.proofs.names.Names.add.Goals as goal
 
 pub returns : goal.returns

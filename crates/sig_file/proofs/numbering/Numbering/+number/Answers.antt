@@ -1,9 +1,4 @@
-use Rattle.sig_file.proofs.Common.{◌≡◌, Err, ap, arith, rules}
-use Rattle.sig_dd.proofs.Variables.{high_below, high_held, low_below, low_held}
-use Rattle.sig_dd.specs.contracts.node.RefPartialEq.TheImpl.{eq-value}
-use Rattle.sig_file.specs.declared.answer.FileAnswer.TheVariants.{TooLong}
-use Rattle.sig_file.specs.declared.limits.TheConstants.{ROOM_FOR_NODES}
-use Rattle.sig_file.proofs.Numbered.{high_long, low_long, node_again, node_long, node_visited, numbers_with}
+use Rattle.sig_file.proofs.{◌≡◌, Err, ap, arith, rules, high_below, high_held, low_below, low_held, eq-value, TooLong, ROOM_FOR_NODES, high_long, low_long, node_again, node_long, node_visited, numbers_with}
 use Rattle.sig_file.proofs.numbering.Numbering.+number.Goals as goal
 
 pub number-requires : goal.number-requires

@@ -1,6 +1,4 @@
-use Rattle.sig_file.proofs.Common.{err_from_is_err_and, refl, rules}
-use Rattle.sig_file.proofs.Loops.{goes_on, is_done, stops_too}
-use Rattle.sig_file.specs.Fields.{op_at, ops_at}
+use Rattle.sig_file.proofs.{err_from_is_err_and, refl, rules, goes_on, is_done, stops_too, op_at, ops_at}
 use Rattle.sig_file.proofs.operation.Scope.ops_at.Goals as goal
 
 pub returns-in_err-op : goal.returns-in_err-op

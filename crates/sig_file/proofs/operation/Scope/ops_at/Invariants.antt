@@ -1,6 +1,4 @@
-use Rattle.sig_file.proofs.Common.{◌≡◌, ◌-◌}
-use Rattle.sig_file.specs.Fields.{op_at, ops_at}
-use Rattle.sig_file.specs.inner.Reading.{several}
+use Rattle.sig_file.proofs.{◌≡◌, ◌-◌, op_at, ops_at, several}
 use Rattle.sig_file.proofs.operation.Scope.ops_at.Given as goal
 
 abbrev pub invariant-loop : goal.invariant-loop

@@ -1,6 +1,4 @@
-use Rattle.sig_flow.proofs.{◌≡◌, ◌∙◌, ℕ, List, None, Option, Some, sym, subst, length, bytes_eq, kind_named, ArePlaces, IsInput, Signal, place_input, place_none}
-use Rattle.std.specs.Prelude.{IfNone, IfSome}
-use Rattle.std.specs.HashMap.{get_by}
+use Rattle.sig_flow.proofs.{◌≡◌, ◌∙◌, ℕ, List, None, Option, Some, sym, subst, length, bytes_eq, kind_named, ArePlaces, IsInput, Signal, place_input, place_none, IfNone, IfSome, get_by}
 use Rattle.sig_flow.proofs.names.Names.find.Goals as goal
 
 found : (inputs : List Signal) (place : List ℕ → Option ℕ) → ArePlaces inputs (length inputs) place → (q : List ℕ) (o : Option ℕ) → o ≡ place q → IfSome o (IsInput inputs q)

@@ -1,5 +1,4 @@
-use Rattle.sig_flow.proofs.{◌∙◌, ℕ, List, Some, ap, sym, bytes_eq, get_or_default, hash_map_updates_str, Signal, places_more}
-use Rattle.std.specs.HashMap.{get_by}
+use Rattle.sig_flow.proofs.{◌∙◌, ℕ, List, Some, ap, sym, bytes_eq, get_or_default, hash_map_updates_str, Signal, places_more, get_by}
 use Rattle.sig_flow.proofs.names.Names.of.Goals as goal
 
 pub loop-i-preserved : goal.loop-i-preserved

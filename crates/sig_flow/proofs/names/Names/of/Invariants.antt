@@ -1,6 +1,5 @@
 -- the inputs so far have their places
-use Rattle.sig_flow.proofs.{ℕ, List, bytes_eq, ArePlaces}
-use Rattle.std.specs.HashMap.{get_by}
+use Rattle.sig_flow.proofs.{ℕ, List, bytes_eq, ArePlaces, get_by}
 use Rattle.sig_flow.proofs.names.Names.of.Given as goal
 
 abbrev pub invariant-loop-i : goal.invariant-loop-i

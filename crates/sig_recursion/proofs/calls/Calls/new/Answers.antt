@@ -1,4 +1,4 @@
-use Rattle.sig_recursion.proofs.{called_in, called_by, model_of, ProcessModel, lengthens, body_is, places_called, bodies_in, names_in, process_texts, interface_models, Interface, ℕ, [], ap, sym, ◌∙◌, map, take_all, map-map, Vec, flat_map}
+use Rattle.sig_recursion.proofs.{called_in, called_by, model_of, ProcessModel, body_is, places_called, bodies_in, names_in, process_texts, interface_models, Interface, ℕ, [], ap, sym, ◌∙◌, map, take_all, map-map, Vec, flat_map, lengthens}
 use Rattle.sig_recursion.proofs.calls.Calls.new.Goals as goal
 
 pub loop-interface-preserved : goal.loop-interface-preserved

@@ -1,4 +1,4 @@
-use Rattle.sig_scope.proofs.{name_of, model_of, within, is_found, is_missing, read_mapped, interface_models, arith, length, ◌≡◌, ◌<◌, length-map, Interface}
+use Rattle.sig_scope.proofs.{name_of, model_of, within, is_found, is_missing, interface_models, arith, length, ◌≡◌, ◌<◌, length-map, Interface, read_mapped}
 use Rattle.sig_scope.proofs.processes.Processes.get.Goals as goal
 
 pub index-requires : goal.index-requires

@@ -1,4 +1,4 @@
-use Rattle.sig_scope.proofs.{with_inner, model_of, grown, models_in, map, ap, ◌≡◌, ◌∙◌, [], flat_map}
+use Rattle.sig_scope.proofs.{with_inner, model_of, models_in, map, ap, ◌≡◌, ◌∙◌, [], flat_map, grown}
 use Rattle.sig_scope.proofs.processes.Processes.new.Goals as goal
 
 pub returns : goal.returns

@@ -1,9 +1,9 @@
-use Rattle.sig_solve.proofs.{◌+◌, subst, Share, refusal, IfOk-weaker, variables_of, over_spans, product_over, variables_count}
+use Rattle.sig_solve.proofs.{◌+◌, subst, Share, refusal, variables_of, over_spans, product_over, variables_count, IfOk-weaker}
 use Rattle.sig_solve.proofs.asked.Asked.image.Goals as goal
 
 pub returns-clause-over : goal.returns-clause-over
 returns-clause-over c =
-    IfOk-weaker _ _ c.meet_without.result
+    IfOk-weaker c.meet_without.result _ _
     (λ r is. product_over c.args.store.now c.requires.asked.has_store c.args.self.now.system c.args.self.now.solutions c.args.part c.requires.asked.over c.requires.part c.meet_without.new.self.nodes c.args.forgotten.now r is)
     c.meet_without.ensures.value
 

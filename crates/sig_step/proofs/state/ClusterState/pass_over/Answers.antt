@@ -1,4 +1,4 @@
-use Rattle.sig_step.proofs.{◌≡◌, ◌∙◌, ◌≤◌, ◌+◌, ◌<◌, ℕ, List, Step, ap, arith, refl, sym, subst, false, code_of, length, known_holds, may_pass, over_more, over_none, passes, ClusterState, IsKnown, IsStateOf, MayGoOn, MovesOn, PassesOver, instant_of, PlanView, ℤ}
+use Rattle.sig_step.proofs.{◌≡◌, ◌∙◌, ◌≤◌, ◌+◌, ◌<◌, ℕ, List, Step, ap, arith, refl, sym, subst, false, code_of, length, known_holds, may_pass, over_more, passes, ClusterState, IsKnown, IsStateOf, MayGoOn, MovesOn, PassesOver, instant_of, PlanView, ℤ}
 use Rattle.sig_step.proofs.state.ClusterState.pass_over.Goals as goal
 
 module _ (plan : PlanView) (flows : List (List ℤ)) (s t : ClusterState) (over : PassesOver plan flows s t) where

@@ -1,5 +1,4 @@
-use Rattle.std.specs.Prelude.{OnErr, OnOk}
-use Rattle.sig_step.proofs.{subst, TookPrefix, ◌∙◌}
+use Rattle.sig_step.proofs.{OnErr, OnOk, subst, TookPrefix, ◌∙◌}
 use Rattle.sig_step.proofs.state.ClusterState.put_reaction_at_once.Goals as goal
 
 pub returns-clause-all : goal.returns-clause-all

@@ -1,9 +1,4 @@
-use Rattle.std.proofs.Common.{◌≡◌, ◌-◌, ◌^◌, Bool, true, false, cond, suc, inl, inr, refl, sym, ap, subst, ◌∙◌}
-use Rattle.std.specs.HashSet.{contains}
-use Rattle.sig_verify.specs.inner.Pairs.{IsTired, Meets}
-use Rattle.sig_verify.specs.contracts.pairs.PairPartialEq.TheImpl.{eq-value}
-use Rattle.sig_verify.proofs.Compared.{high_few, high_tired, low_few, low_tired, pair_same}
-use Rattle.sig_verify.proofs.Spent.{pass_on}
+use Rattle.sig_verify.proofs.{◌≡◌, ◌-◌, ◌^◌, Bool, true, false, cond, suc, inl, inr, refl, sym, ap, subst, ◌∙◌, contains, IsTired, Meets, eq-value, high_few, high_tired, low_few, low_tired, pair_same, pass_on}
 use Rattle.sig_verify.proofs.diagrams.Diagrams.+meets_in.Goals.{In_ok-insert}
 use Rattle.sig_verify.proofs.diagrams.Diagrams.+meets_in.Goals as goal
 

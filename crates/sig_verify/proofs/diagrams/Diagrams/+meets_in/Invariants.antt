@@ -1,5 +1,5 @@
 -- The pairs below one are smaller.
-use Rattle.sig_verify.specs.inner.Pairs.{weight}
+use Rattle.sig_verify.proofs.{weight}
 use Rattle.sig_verify.proofs.diagrams.Diagrams.+meets_in.Given as goal
 
 abbrev pub decreases-meets_in : goal.decreases-meets_in

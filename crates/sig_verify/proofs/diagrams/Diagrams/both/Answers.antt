@@ -1,6 +1,4 @@
-use Rattle.std.proofs.Common.{[], ◌∷◌}
-use Rattle.std.specs.Prelude.{◌&&◌}
-use Rattle.sig_verify.proofs.Calls.{call_follows, call_refused, two_made}
+use Rattle.sig_verify.proofs.{[], ◌∷◌, ◌&&◌, call_follows, call_refused, two_made}
 use Rattle.sig_verify.proofs.diagrams.Diagrams.both.Goals as goal
 
 pub returns-clause-next : goal.returns-clause-next

@@ -1,4 +1,4 @@
-use Rattle.sig_verify.proofs.Calls.{chosen, of_kept}
+use Rattle.sig_verify.proofs.{chosen, of_kept}
 use Rattle.sig_verify.proofs.diagrams.Diagrams.choice.Goals as goal
 
 pub ite-requires-clause-g : goal.ite-requires-clause-g

@@ -1,7 +1,4 @@
-use Rattle.std.proofs.Common.{sym, ap, ◌∙◌, eq-eqb}
-use Rattle.sig_dd.proofs.CallerLemmas.{one_reference}
-use Rattle.sig_dd.proofs.Growth.{ref_same}
-use Rattle.sig_verify.specs.Prelude.{Ref, test}
+use Rattle.sig_verify.proofs.{sym, ap, ◌∙◌, eq-eqb, one_reference, ref_same, Ref, test}
 use Rattle.sig_verify.proofs.diagrams.Diagrams.is_true.Goals as goal
 
 pub returns : goal.returns

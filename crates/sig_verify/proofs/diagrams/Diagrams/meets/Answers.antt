@@ -1,4 +1,4 @@
-use Rattle.sig_verify.proofs.Compared.{all_few, all_tired}
+use Rattle.sig_verify.proofs.{all_few, all_tired}
 use Rattle.sig_verify.proofs.diagrams.Diagrams.meets.Goals as goal
 
 pub returns-clause-counted : goal.returns-clause-counted

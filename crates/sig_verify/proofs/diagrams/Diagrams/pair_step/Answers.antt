@@ -1,9 +1,4 @@
-use Rattle.std.proofs.Common.{◌≡◌, Bool, Option, None, Some, true, false, inl, inr, refl, sym, ◌∙◌}
-use Rattle.std.specs.Prelude.{is_some}
-use Rattle.std.proofs.lemmas.Bool.{eqb-false}
-use Rattle.sig_dd.proofs.Growth.{ref_same}
-use Rattle.sig_verify.specs.Prelude.{Node}
-use Rattle.sig_verify.proofs.Compared.{constant_by, itself_by, split_by}
+use Rattle.sig_verify.proofs.{◌≡◌, Bool, Option, None, Some, true, false, inl, inr, refl, sym, ◌∙◌, is_some, eqb-false, ref_same, Node, constant_by, itself_by, split_by}
 use Rattle.sig_verify.proofs.diagrams.Diagrams.pair_step.Goals as goal
 
 none_of : (o : Option Node) → is_some o ≡ false → None ≡ o

@@ -1,5 +1,4 @@
-use Rattle.std.proofs.Common.{[], ◌∷◌}
-use Rattle.sig_verify.proofs.Calls.{call_follows, call_refused, is_variable, variable_made}
+use Rattle.sig_verify.proofs.{[], ◌∷◌, call_follows, call_refused, is_variable, variable_made}
 use Rattle.sig_verify.proofs.diagrams.Diagrams.variable.Goals as goal
 
 pub returns-clause-next : goal.returns-clause-next

@@ -1,9 +1,4 @@
-use Rattle.std.proofs.Common.{◌*◌, sym, subst}
-use Rattle.sig_verify.specs.inner.Asking.{IsScene, choices, guard_at}
-use Rattle.sig_verify.specs.inner.Diagrams.{IsRefusal}
-use Rattle.sig_verify.proofs.Found.{err_weaker}
-use Rattle.sig_verify.proofs.Spent.{again_refused}
-use Rattle.sig_verify.proofs.Stays.{scene_kept}
+use Rattle.sig_verify.proofs.{◌*◌, sym, subst, IsScene, choices, guard_at, IsRefusal, err_weaker, again_refused, scene_kept}
 use Rattle.sig_verify.proofs.verifier.Verifier.find.Goals as goal
 
 pub tell-requires-2-clause-scene : goal.tell-requires-2-clause-scene

@@ -1,7 +1,4 @@
-use Rattle.std.proofs.Common.{◌*◌, sym, subst}
-use Rattle.sig_verify.specs.inner.Asking.{AreGood, AreOf, IsGuard, choices, guard_at}
-use Rattle.sig_verify.proofs.Found.{good_added}
-use Rattle.sig_verify.proofs.Stays.{are_good_kept}
+use Rattle.sig_verify.proofs.{◌*◌, sym, subst, AreGood, AreOf, IsGuard, choices, guard_at, good_added, are_good_kept}
 use Rattle.sig_verify.proofs.verifier.Verifier.guard.Goals as goal
 
 pub returns-in_default-found-clause-good : goal.returns-in_default-found-clause-good

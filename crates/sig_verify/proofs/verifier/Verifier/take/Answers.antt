@@ -1,11 +1,4 @@
-use Rattle.std.proofs.Common.{◌*◌, ◌^◌, ◌⊎◌, subst}
-use Rattle.sig_verify.specs.inner.Asking.{IsGuard, choices, guard_at}
-use Rattle.sig_verify.specs.inner.Diagrams.{IsRefusal}
-use Rattle.sig_verify.specs.inner.Known.{IsWant}
-use Rattle.sig_verify.specs.inner.Pairs.{IsTired}
-use Rattle.sig_verify.proofs.Found.{err_weaker, few_behind, guard_unsound, guard_wants, guard_within, reads_unsound, reads_wants, write_known, write_sound, written_wants}
-use Rattle.sig_verify.proofs.Spent.{pass_on}
-use Rattle.sig_verify.proofs.Taken.{scene_mid}
+use Rattle.sig_verify.proofs.{◌*◌, ◌^◌, ◌⊎◌, subst, IsGuard, choices, guard_at, IsRefusal, IsWant, IsTired, err_weaker, few_behind, guard_unsound, guard_wants, guard_within, reads_unsound, reads_wants, write_known, write_sound, written_wants, pass_on, scene_mid}
 use Rattle.sig_verify.proofs.verifier.Verifier.take.Goals as goal
 
 pub guard-requires-clause-n : goal.guard-requires-clause-n

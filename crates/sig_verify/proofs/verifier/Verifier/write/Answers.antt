@@ -1,4 +1,4 @@
-use Rattle.sig_verify.proofs.Tables.{are_of_added, written_added}
+use Rattle.sig_verify.proofs.{are_of_added, written_added}
 use Rattle.sig_verify.proofs.verifier.Verifier.write.Goals as goal
 
 pub returns-clause-taken : goal.returns-clause-taken

@@ -1,11 +1,11 @@
-use Rattle.sig_work.proofs.{◌≡◌, Some, arith, length, refl, rules, vec_len, with_item, get_within, asked_pop, empty_stays, found_empty_here, popped_ends, popped_takes, take_is, take_never_none, take_there}
+use Rattle.sig_work.proofs.{◌≡◌, Some, arith, length, refl, rules, vec_len, with_item, asked_pop, empty_stays, found_empty_here, popped_ends, popped_takes, take_is, take_never_none, take_there, slice_get_within}
 use Rattle.sig_work.proofs.ends.LentEnds.pop.Goals as goal
 
 pub index_mut-requires : goal.index_mut-requires
 index_mut-requires g c =
     let found = take_there c.args.self.now.ends c.args.link c.requires.end in
     let whole : vec_len c.args.self.now.ends.takes ≡ length c.args.self.now.ends.takes.items = search rules in
-    omega (arith, whole, get_within c.args.self.now.ends.takes.items c.args.link (Some found.0) found.1)
+    omega (arith, whole, slice_get_within c.args.self.now.ends.takes.items c.args.link (Some found.0) found.1)
 
 pub unreachable-requires : goal.unreachable-requires
 unreachable-requires g c = take_never_none c.args.self.now.ends c.args.link c.index_mut.result.now c.requires.end c.index_mut.ensures.value c.in-None.is

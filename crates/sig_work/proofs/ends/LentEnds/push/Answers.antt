@@ -1,11 +1,11 @@
-use Rattle.sig_work.proofs.{◌≡◌, ◌++◌, ◌∷◌, [], Some, arith, length, refl, rules, subst, w64, ℤ, OnOk, vec_len, to_z-of_z, with_item, get_within, sent, asked_push, found_full_here, full_stays, pushed_ends, pushed_puts, put_is, put_never_none, put_there}
+use Rattle.sig_work.proofs.{◌≡◌, ◌++◌, ◌∷◌, [], Some, arith, length, refl, rules, subst, w64, ℤ, OnOk, vec_len, to_z-of_z, with_item, sent, asked_push, found_full_here, full_stays, pushed_ends, pushed_puts, put_is, put_never_none, put_there, slice_get_within}
 use Rattle.sig_work.proofs.ends.LentEnds.push.Goals as goal
 
 pub index_mut-requires : goal.index_mut-requires
 index_mut-requires g c =
     let found = put_there c.args.self.now.ends c.args.link c.requires.end in
     let whole : vec_len c.args.self.now.ends.puts ≡ length c.args.self.now.ends.puts.items = search rules in
-    omega (arith, whole, get_within c.args.self.now.ends.puts.items c.args.link (Some found.0) found.1)
+    omega (arith, whole, slice_get_within c.args.self.now.ends.puts.items c.args.link (Some found.0) found.1)
 
 pub unreachable-requires : goal.unreachable-requires
 unreachable-requires g c = put_never_none c.args.self.now.ends c.args.link c.index_mut.result.now c.requires.end c.index_mut.ensures.value c.in-None.is

@@ -1,4 +1,4 @@
-use Rattle.sig_work.proofs.{◌≡◌, inl, inr, sym, ap, subst, ◌∙◌, arith, length, List, Some, slice_get, get_within, same_or_not, same_Some, item_at, Member}
+use Rattle.sig_work.proofs.{◌≡◌, inl, inr, sym, ap, subst, ◌∙◌, arith, length, List, Some, slice_get, same_Some, item_at, Member, slice_get_within, cases_eq}
 use Rattle.sig_work.proofs.share.Share.find.Goals as goal
 
 pub returns-then-member-number-clause-some : goal.returns-then-member-number-clause-some
@@ -10,7 +10,7 @@ returns-then-member-number-clause-some c = record {
 }
 
 pub loop-at-preserved : goal.loop-at-preserved
-loop-at-preserved c = λ i m lt at is. elim (same_or_not i c.loop-at.at) [
+loop-at-preserved c = λ i m lt at is. elim (cases_eq i c.loop-at.at) [
   | inl same ↦
       let here : slice_get c.args.self.now.members.items c.loop-at.at ≡ Some c.member-item.result =
       subst (λ (xs : List Member). slice_get xs c.loop-at.at ≡ Some c.member-item.result) c.deref-member-items.ensures.value
@@ -23,7 +23,7 @@ loop-at-preserved c = λ i m lt at is. elim (same_or_not i c.loop-at.at) [
 pub returns-clause-none : goal.returns-clause-none
 returns-clause-none c = λ number m at is.
     c.loop-at.invariant number m
-    (let lt = get_within c.args.self.now.members.items number m at in
+    (let lt = slice_get_within c.args.self.now.members.items number m at in
     let all = c.loop-at-test.false in
     let same = ap (λ (xs : List Member). length xs) c.deref-member-items.ensures.value in
     omega (arith, lt, all, same)) at is

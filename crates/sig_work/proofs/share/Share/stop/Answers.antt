@@ -1,11 +1,11 @@
-use Rattle.sig_work.proofs.{◌≡◌, ◌<◌, ◌++◌, ◌∙◌, ℕ, List, ap, arith, drop, get_or, length, refl, set, take, slice_get, get_at, written, all_changed, one_changed, HasStopped, Member}
+use Rattle.sig_work.proofs.{◌≡◌, ◌<◌, ◌++◌, ◌∙◌, ℕ, List, ap, arith, drop, get_or, length, refl, set, take, slice_get, all_changed, one_changed, HasStopped, Member, slice_get-get_or, written}
 use Rattle.sig_work.proofs.share.Share.stop.Goals as goal
 
 pub loop-member-preserved : goal.loop-member-preserved
 loop-member-preserved c =
     let lt : c.loop-member.member-index < length c.loop-member.member-items = omega (arith, c.loop-member-test.true) in
     one_changed HasStopped c.args.self.now.members.items c.loop-member.member-index c.loop-member.member-items (set c.loop-member.member-items c.loop-member.member-index c.stop.new.self)
-    (get_or c.loop-member.member-items c.loop-member.member-index c.member-item.result) c.stop.new.self c.loop-member.invariant (get_at c.loop-member.member-items c.loop-member.member-index c.member-item.result lt) refl c.stop.ensures
+    (get_or c.loop-member.member-items c.loop-member.member-index c.member-item.result) c.stop.new.self c.loop-member.invariant (slice_get-get_or c.loop-member.member-items c.loop-member.member-index c.member-item.result lt) refl c.stop.ensures
 
 -- the members are those of the loop
 after : (len : ℕ) (new items : List Member) → length new ≡ length items → len ≡ length items → take len (new ++ drop (length new) items) ≡ new

@@ -1,0 +1,14 @@
+pub mod Places
+pub mod Contained
+pub mod Joined
+pub mod SetItems
+pub mod Fronts
+pub mod Each
+pub mod Chosen
+pub mod Ranges
+pub mod Filtered
+pub mod Grown
+pub mod Truths
+pub mod Bytes
+pub mod Decided
+pub mod Searched
