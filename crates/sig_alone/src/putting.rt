@@ -54,6 +54,7 @@ fn put_reaction<S: Sink>(
 }
 
 /// Makes the lines those of the outputs that are present, from the last one to the first.
+#[inline(never)]
 fn put_lines(machine: &Machine, plan: &Plan, lines: &mut OutputLines)
     requires { longest_lines (outputs_of plan.now.kernel) ≤ lines.old.size }
     ensures size { lines.new.size ≡ lines.old.size }
@@ -70,7 +71,7 @@ fn put_lines(machine: &Machine, plan: &Plan, lines: &mut OutputLines)
 }
 
 /// Puts the line of a signal in front, where it is present.
-#[inline]
+#[inline(always)]
 fn put_seen(signal: &Signal, seen: Option<i64>, lines: &mut OutputLines)
     requires { length lines.old.text + longest_line signal.now ≤ lines.old.size }
     ensures size { lines.new.size ≡ lines.old.size }

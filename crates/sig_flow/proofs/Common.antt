@@ -1,12 +1,12 @@
 -- What the proofs of this crate cite of std, of the crates below and of its own specs, passed on from one place.
 pub use Rattle.std.proofs.Common.{All, Bool, Bor, Err, FitsSigned, IfErr, IfNone, IfOk, IfSome, IsErrAnd, IsTrue, List, MatchResult, None, Ok, Option, Result, Some, [], ap, append-nil, append_assoc, arith, bytes_eq, codes, cond, decimal, drop, eqb, ext_get_or, false, flat_map, get_or, get_or-drop, get_or-set_other, get_or-set_same, if◌then◌else◌, inl, inr, int_le, leb-true, length, length-append, length-drop, length-set, length-take-le, lt-ltb, ltb-true, map, nat_le, nat_lt, ne_eqb, neg_ℤ, negsuc, pos, refl, replicate, rules, set, subst, suc, sum_by, sym, take, take-append-drop, take_all, to_z, to_z-of_z, true, true≢false, unsigned_abs, vec_len, w64, zero, ℕ, ℤ, ⊎_elim, ◌&&◌, ◌*◌, ◌++◌, ◌+◌, ◌-◌, ◌<◌, ◌==◌, ◌^◌, ◌∙◌, ◌∷◌, ◌≡◌, ◌≢◌, ◌≤◌, ◌⊎◌}
-pub use Rattle.std.proofs.lemmas.Bool.{and_from, cases_Bool, cases_eq, cases_lt, cases_order}
+pub use Rattle.std.proofs.lemmas.Bool.{agree_below_at, and_from, cases_Bool, cases_eq, cases_lt, cases_order}
 pub use Rattle.std.proofs.lemmas.Bool.Decides.{nat_tests, not_from_Decides}
 pub use Rattle.std.proofs.lemmas.Fmt.{length-decimal-le, length_signed_le}
 pub use Rattle.std.proofs.lemmas.Grind.{common_steps}
 pub use Rattle.std.proofs.lemmas.Int.{to_z_pos}
 pub use Rattle.std.proofs.lemmas.Int.Digits.{digits_more, digits_value_more}
-pub use Rattle.std.proofs.lemmas.List.{drop-set, drop_all, drop_more, get_or-map, length-map}
+pub use Rattle.std.proofs.lemmas.List.{drop-set, drop_all, drop_more, get_or-map, get_or-take, length-map}
 pub use Rattle.std.proofs.lemmas.List.Concat.{flat_map-append}
 pub use Rattle.std.proofs.lemmas.List.Folds.{list_all-append}
 pub use Rattle.std.proofs.lemmas.List.Splits.{length-slice_split, slice_split-cons_yes, slice_split_first, slice_split_none}
@@ -41,7 +41,7 @@ pub use Rattle.sig_flow.specs.Inputs.{ArePlaces, IsInput}
 pub use Rattle.sig_flow.specs.Lines.{Line, lines_of, numbered}
 pub use Rattle.sig_flow.specs.NextWords.{word_of, words_behind}
 pub use Rattle.sig_flow.specs.OutputLines.{longest_line}
-pub use Rattle.sig_flow.specs.Values.{integer_of, integer_said, is_numeral, is_star, is_within, repeated, run_length, run_said, run_values, star_said, starred, times_said, value_said}
+pub use Rattle.sig_flow.specs.Values.{integer_of, integer_said, is_numeral, is_star, is_within, repeated, run_length, run_said, run_values, star_said, starred, times_said, truth_word, value_said}
 pub use Rattle.sig_flow.specs.Words.{Word, is_blank, words_among, words_from, words_of}
 pub use Rattle.sig_flow.specs.declared.answer.EventAnswer.{EventAnswer}
 pub use Rattle.sig_flow.specs.declared.answer.FlowAnswer.{FlowAnswer}

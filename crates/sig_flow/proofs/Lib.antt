@@ -12,6 +12,7 @@ mod Numerals
 mod ShortNumbers
 mod StarLemmas
 mod TakenPieces
+mod TruthWords
 mod WrittenLines
 pub use Common.*
 pub use BodyLemmas.*
@@ -27,5 +28,6 @@ pub use Numerals.*
 pub use ShortNumbers.*
 pub use StarLemmas.*
 pub use TakenPieces.*
+pub use TruthWords.*
 pub use WrittenLines.*
 pub use Rattle.sig_flow.proofs.FlowLemmas.{all_read, given, refused}

@@ -55,11 +55,18 @@ words_first col xs n some le word stop =
     (λ ge. only_word col xs n some (omega arith) word)
     (cases_lt n (length xs))
 
+-- a blank at the front of what is left stands behind the front that was taken
+pub blank_behind : (xs rest : List ℕ) (n : ℕ) → n < length xs → rest ≡ drop n xs → (0 < length rest → is_blank (get_or rest 0 0) ≡ true) → is_blank (get_or xs n 0) ≡ true
+blank_behind xs rest n lt is stop =
+    let here : n ≡ n + 0 = omega arith in
+    ap (λ k. is_blank (get_or xs k 0)) here
+    ∙ ap is_blank (sym (get_or-drop n xs 0 0))
+    ∙ ap (λ r. is_blank (get_or r 0 0)) (sym is)
+    ∙ stop (omega (arith, length-drop n xs, ap length is))
+
 -- a word has a byte
 some_byte : (xs rest : List ℕ) (i n : ℕ) → i < length xs → rest ≡ drop i xs → is_blank (get_or xs i 0) ≡ false → (n < length rest → is_blank (get_or rest n 0) ≡ true) → 0 < n
-some_byte xs rest i zero lt is begin stop =
-    let here : i ≡ i + 0 = omega arith in
-    absurd (false≢true (sym begin ∙ ap (λ k. is_blank (get_or xs k 0)) here ∙ ap is_blank (sym (get_or-drop i xs 0 0)) ∙ ap (λ r. is_blank (get_or r 0 0)) (sym is) ∙ stop (omega (arith, length-drop i xs, ap length is))))
+some_byte xs rest i zero lt is begin stop = absurd (false≢true (sym begin ∙ blank_behind xs rest i lt is stop))
 some_byte xs rest i (suc n) lt is begin stop = omega arith
 
 -- behind the blanks at the front stands the first word

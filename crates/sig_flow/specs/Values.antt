@@ -27,6 +27,10 @@ is_within (c ∷ cs) = if c == 45 then nat_le (digits_value 10 cs) (2 ^ 63) else
 abbrev pub integer_said : List ℕ → Result ℤ WordFault
 integer_said word = if is_numeral word then (if is_within word then Ok (integer_of word) else Err Outside) else Err Bad
 
+-- the word of a truth
+abbrev pub truth_word : Bool → List ℕ
+truth_word truth = if truth then codes "true" else codes "false"
+
 abbrev pub boolean_said : List ℕ → Result ℤ WordFault
 boolean_said word = if bytes_eq word (codes "true") then Ok (pos 1) else if bytes_eq word (codes "false") then Ok (pos 0) else Err Bad
 

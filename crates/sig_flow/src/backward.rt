@@ -1,9 +1,8 @@
 //! Writing from the end of some bytes to their front.
 
 ghost use Rattle.std.specs.Prelude.{◌≡◌, ◌≤◌, ◌+◌, ◌++◌};
-ghost use Rattle.sig_flow.specs.Prelude.{length, take, drop, signed_decimal, line_of, value_text};
+ghost use Rattle.sig_flow.specs.Prelude.{length, take, drop, signed_decimal, line_of, truth_text, value_text};
 
-use crate::put::truth_text;
 use itoa::write_digits;
 use sig_base::Kind;
 
@@ -35,7 +34,23 @@ fn value_before(bytes: &mut [u8], end: usize, kind: Kind, item: i64) -> usize
 {
     match kind {
         Kind::Integer => integer_before(bytes, end, item),
-        Kind::Boolean | Kind::Event => word_before(bytes, end, truth_text(item)),
+        Kind::Boolean | Kind::Event => truth_before(bytes, end, item),
+    }
+}
+
+/// Writes a truth so that it ends at `end`, and returns where it starts. Each word is copied where its
+/// length is known.
+#[inline(always)]
+fn truth_before(bytes: &mut [u8], end: usize, item: i64) -> usize
+    requires room { 5 ≤ end }
+    requires within { end ≤ length bytes.old }
+    ensures start { result + length (truth_text item) ≡ end }
+    ensures written { drop result bytes.new ≡ truth_text item ++ drop end bytes.old }
+{
+    if item == 0 {
+        word_before(bytes, end, b"false")
+    } else {
+        word_before(bytes, end, b"true")
     }
 }
 

@@ -14,7 +14,7 @@ use crate::named::{is_clean, is_name};
 use crate::names::Names;
 use crate::value::{Run, WordFault, run_of};
 use crate::version::Version;
-use crate::word::{Next, next_number, next_word};
+use crate::word::{Next, next_number, next_truth, next_word};
 use sig_base::limits::VALUES;
 use sig_base::{Kind, Signal};
 use sig_kernel::Flow;
@@ -141,7 +141,7 @@ fn make_room(flow: &mut Flow, bytes: usize, before: usize) -> Result<(), AllocEr
 }
 
 /// The first word of a line whose first byte stands at this column, and what it stands for. A short
-/// number is looked at once.
+/// number and a truth are looked at once.
 #[inline(always)]
 fn next_run(
     line: &[u8],
@@ -160,6 +160,14 @@ fn next_run(
         if let Some((next, number)) = next_number(line, col) {
             let run = Run {
                 value: number as i64,
+                times: 1,
+            };
+            return Some((next, Ok(run)));
+        }
+    } else if let Some((next, truth)) = next_truth(line, col) {
+        if truth || kind == Kind::Boolean {
+            let run = Run {
+                value: i64::from(truth),
                 times: 1,
             };
             return Some((next, Ok(run)));

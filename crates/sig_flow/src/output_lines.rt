@@ -56,7 +56,7 @@ impl OutputLines {
 
     /// Puts the line of a value in front of all lines: the signal's name, a blank, the value and a newline. It takes no
     /// memory.
-    #[inline]
+    #[inline(always)]
     pub fn put_in_front(&mut self, signal: &Signal, item: i64)
         requires room { length self.old.text + longest_line signal.now ≤ self.old.size }
         ensures text { self.new.text ≡ line_of signal.now.name signal.now.kind item ++ self.old.text }

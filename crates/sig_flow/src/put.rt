@@ -40,7 +40,7 @@ fn put_line<'a, S: Sink>(sink: &mut S, name: &'a [u8], value: &'a [u8]) -> Resul
 }
 
 /// A truth as a text.
-pub(crate) fn truth_text(item: i64) -> &'static [u8]
+fn truth_text(item: i64) -> &'static [u8]
     ensures { result.now ≡ truth_text item }
 {
     if item == 0 { b"false" } else { b"true" }

@@ -3,6 +3,7 @@
 ghost use Rattle.std.specs.Prelude.{◌≡◌, ◌<◌, ◌≤◌, ◌+◌, ◌^◌, ◌∷◌, [], ◌==◌, ◌||◌, ℕ, true, false, length, slice_index, take, IfSome, IfNone};
 ghost use Rattle.sig_flow.specs.Digits.{IsShortNumber};
 ghost use Rattle.sig_flow.specs.NextWords.{word_of, words_behind};
+ghost use Rattle.sig_flow.specs.Values.{truth_word};
 ghost use Rattle.sig_flow.specs.Words.{is_blank, words_from};
 
 /// Every short number is below this.
@@ -61,6 +62,63 @@ pub fn next_number(line: &[u8], col: usize) -> Option<(Next, u64)>
             Some((next, number.value))
         }
         None => None,
+    }
+}
+
+/// The first word of a line whose first byte stands at this column, and its truth, where it is one.
+/// The word is looked at once.
+#[inline(always)]
+pub(crate) fn next_truth(line: &[u8], col: usize) -> Option<(Next, bool)>
+    requires { col + length line.now < 2 ^ 64 }
+    ensures word { IfSome result (λ p. words_from col line.now ≡ word_of p.0 ∷ words_behind p.0) }
+    ensures truth { IfSome result (λ p. p.0.word.now ≡ truth_word p.1) }
+    ensures shorter { IfSome result (λ p. length p.0.rest.now < length line.now) }
+    ensures within { IfSome result (λ p. p.0.col + length p.0.word.now + length p.0.rest.now ≤ col + length line.now) }
+{
+    let start = blanks_in_front(line);
+    let (_, from_word) = line.split_at(start);
+    let truth = truth_in(from_word)?;
+    let (word, rest) = from_word.split_at(truth_length(truth));
+    if is_inside_word(rest) {
+        return None;
+    }
+    let next = Next {
+        col: col + start,
+        word,
+        rest,
+    };
+    Some((next, truth))
+}
+
+/// The truth at the front of a line.
+#[inline(always)]
+fn truth_in(line: &[u8]) -> Option<bool>
+    ensures within { IfSome result (λ truth. length (truth_word truth) ≤ length line.now) }
+    ensures word { IfSome result (λ truth. take (length (truth_word truth)) line.now ≡ truth_word truth) }
+{
+    match line {
+        [b't', b'r', b'u', b'e', ..] => Some(true),
+        [b'f', b'a', b'l', b's', b'e', ..] => Some(false),
+        _ => None,
+    }
+}
+
+/// The length of the word of a truth.
+#[inline(always)]
+fn truth_length(truth: bool) -> usize
+    ensures { result ≡ length (truth_word truth) }
+{
+    if truth { 4 } else { 5 }
+}
+
+/// Whether a word goes on at the front of a line.
+#[inline(always)]
+fn is_inside_word(line: &[u8]) -> bool
+    ensures { result ≡ false → 0 < length line.now → is_blank (slice_index line.now 0) ≡ true }
+{
+    match line {
+        [byte, ..] => !is_blank(*byte),
+        [] => false,
     }
 }
 
