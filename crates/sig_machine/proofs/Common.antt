@@ -1,5 +1,6 @@
 -- What the proofs of this crate cite of std, of the crates below and of its own specs, passed on from one place.
 pub use Rattle.std.proofs.Common.{All, Bool, Contains, Err, FitsSigned, IfOk, IfSome, IsSomeAnd, IsTrue, List, None, Ok, Option, Result, Some, [], ap, append_assoc, arith, cond, drop, eq-eqb, eqb, eqb-true, false, get_or, if◌then◌else◌, inl, inr, is_some, length, length-append, length-set, ltb-false, ltb-true, map, nat_lt, not, pos, refl, replicate, rules, set, slice_get, slice_index_or, subst, suc, sym, take, take_at, to_z, of_z, true, unwrap_or, w64, zero, ℕ, ℤ, ◌++◌, ◌+◌, ◌-◌, ◌<◌, ◌==◌, ◌∙◌, ◌∷◌, ◌≡◌, ◌≢◌, ◌≤◌, ◌⊎◌, ◌&&◌}
+pub use Rattle.std.proofs.lemmas.Bool.{lt-ltb}
 pub use Rattle.std.proofs.lemmas.Bool.Decides.{eqb_tells}
 pub use Rattle.std.proofs.lemmas.List.{length-replicate, with_items_is}
 pub use Rattle.std.proofs.lemmas.Option.{slice_get-get_or as get_at, slice_get_past, slice_get_within as get_within}
@@ -36,18 +37,19 @@ pub use Rattle.sig_doing.proofs.Places.{one_at}
 pub use Rattle.sig_machine.specs.ActorMachines.{AreForSteps, DoesOp, HasActor, IsForKind, IsOpOfStep, IsStepDone, actor_in, instant_of, last_in, seen_in, truths_in}
 unfoldable pub use Rattle.sig_machine.specs.ActorMachines.{IsMachineOfActor}
 pub use Rattle.sig_machine.specs.inner.Implied.{HasTruth, IsFurther, IsGuardOn, IsNarrowed, IsPairOn, IsTold, LeadsOn}
-pub use Rattle.sig_machine.specs.Instants.{ComesOn, EndsBy, GoesOn, ended_behind}
+pub use Rattle.sig_machine.specs.Instants.{EndsBy, GoesOn, ended_behind}
 pub use Rattle.sig_machine.specs.Lowerings.{AreRuns, HasReads, HasShape, IsFor, IsLeft, IsRun, IsTarget, IsWorkOf, Lowers, taken_by_form}
 pub use Rattle.sig_machine.specs.Machines.{HaveConstants, IsMachineFor, IsMachineOf, actor_at, cell, memories_at, memories_of, registers_of, stamped, taken_of}
 pub use Rattle.sig_machine.specs.Opcodes.{AreCoded, ComesTo, IsCoded, work_of}
-pub use Rattle.sig_machine.specs.inner.Rows.{GoesAlong}
+pub use Rattle.sig_machine.specs.inner.Lent.{ComesToNone, EndsIn, GoesUpTo, HoldAll, Has, HasOf, IsAtWork, IsLaid, registers_seen}
 pub use Rattle.sig_machine.specs.inner.Present.{FaultsWith, IsDoneWith, given, present_cell}
 pub use Rattle.sig_machine.specs.inner.Sources.{AreBelow, Grows, IsCellOf, IsConstant, IsSource}
-pub use Rattle.sig_machine.specs.inner.Tests.{AsksWithin, IsJoined, IsTest, Tells, holds_by, literal_holds, told_by, value_by}
+pub use Rattle.sig_machine.specs.inner.Tests.{AsksWithin, IsJoined, IsTest, IsTestWith, Tells, both_hold, holds_by, is_end, literal_holds, three_holds, told_by, value_by}
 pub use Rattle.sig_machine.specs.inner.Truths.{AreDifferent, AreEntered, AreVariables, AreWithin, told_at}
-pub use Rattle.sig_machine.specs.inner.Ways.{ArePassed, AreWays, AreWaysOf, IsFirst, LeadsTo}
-pub use Rattle.sig_machine.specs.inner.Works.{IsFollowed, IsKept, IsPut, ReadsWithin, as_named, came_to, input_id, input_taken, named, no_equation, taken_after}
+pub use Rattle.sig_machine.specs.inner.Ways.{AreDone, ArePassed, AreWays, AreWaysOf, IsFirst, IsStretch}
+pub use Rattle.sig_machine.specs.inner.Works.{IsKept, IsPut, ReadsWithin, as_named, came_to, input_id, input_taken, named, no_equation, taken_after}
 pub use Rattle.sig_machine.specs.declared.actor.ActorMachine.{ActorMachine}
+pub use Rattle.sig_machine.specs.declared.guard.Seen.{Seen}
 pub use Rattle.sig_machine.specs.declared.coded.Coded.{Coded}
 pub use Rattle.sig_machine.specs.declared.coded.Opcode.{Opcode}
 pub use Rattle.sig_machine.specs.declared.implied.Narrowed.{Narrowed}
@@ -59,8 +61,9 @@ pub use Rattle.sig_machine.specs.declared.instruction.Work.TheVariants.{Copy, Ne
 pub use Rattle.sig_machine.specs.declared.lowered.Known.{Known}
 pub use Rattle.sig_machine.specs.declared.lowered.Literal.{Literal}
 pub use Rattle.sig_machine.specs.declared.lowered.Lowered.{Lowered}
-pub use Rattle.sig_machine.specs.declared.lowered.Successor.{Successor}
+pub use Rattle.sig_machine.specs.declared.lowered.Stretch.{Stretch}
 pub use Rattle.sig_machine.specs.declared.lowered.Run.{Run}
 pub use Rattle.sig_machine.specs.declared.lowered.Test.{Test}
+pub use Rattle.sig_machine.specs.declared.tests.Joined.{Joined}
 pub use Rattle.sig_machine.specs.declared.lowered.Ways.{Ways}
 pub use Rattle.sig_machine.specs.declared.machine.Machine.{Machine}

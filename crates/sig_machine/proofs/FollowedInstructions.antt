@@ -1,7 +1,7 @@
 -- Instructions that take no value of an input.
 use Rattle.sig_machine.proofs.Common.{◌≡◌, ◌∙◌, ℕ, ℤ, List, Option, None, Some, IfSome, IsSomeAnd, refl, sym, subst, ComesTo, IsKept, IsPut, input_id, input_taken, taken_after, Instruction, Work, Next, Copy, One, Two, Machine}
 
-taken_stays : (work : Work) (taken : List ℕ) → input_taken work ≡ None → taken_after work taken ≡ taken
+pub taken_stays : (work : Work) (taken : List ℕ) → input_taken work ≡ None → taken_after work taken ≡ taken
 taken_stays (Next input) taken stays = absurd (let some : Some (input_id input) ≡ None = stays in cc)
 taken_stays (Copy source) taken stays = refl
 taken_stays (One function a) taken stays = refl

@@ -1,5 +1,5 @@
 -- Guards that one condition tells.
-use Rattle.sig_machine.proofs.Common.{subst, IfSome, IsNarrowed, IsTest, IsTold, Known, Narrowed, Test, holds_by, told_by, IsSide, Depends-Tests, Tests-Depends, IsJoined, ◌<◌, length, slice_index_or, Depends, IsAccepted, ◌≡◌, ◌∙◌, ℕ, Bool, true, false, not, List, Some, refl, sym, ap, SigId, Registers, is_true, truth_of, truths_of, PlanView, Holds, IsReduced, IsRefOf, IsSide-child, node_of, test, Node, Ref, if◌then◌else◌}
+use Rattle.sig_machine.proofs.Common.{subst, IfSome, IsNarrowed, IsTest, IsTold, Known, Literal, Narrowed, Test, holds_by, is_end, told_by, IsSide, Depends-Tests, Tests-Depends, IsJoined, ◌<◌, length, slice_index_or, Depends, IsAccepted, ◌≡◌, ◌∙◌, ℕ, Bool, true, false, not, List, Some, refl, sym, ap, SigId, Registers, is_true, truth_of, truths_of, PlanView, Holds, IsReduced, IsRefOf, IsSide-child, node_of, test, Node, Ref, if◌then◌else◌}
 use Rattle.sig_machine.proofs.Guards.{condition_at, conditions_below, truth_at, variable_within}
 
 module _ (nodes : List Node) (reduced : IsReduced nodes) (r : Ref) (held : Holds nodes r) (n : Node) (is : Some n ≡ node_of nodes r) (truths : List Bool) where
@@ -43,6 +43,20 @@ module _ (plan : PlanView) (known : Known) (guard : Ref) where
 
   pub test_walk : IsTest plan known guard Test.Walk
   test_walk = record { asks = tt; tells = λ registers on. tt }
+
+  pub test_end : IsTest plan known guard Test.End
+  test_end = record { asks = tt; tells = λ registers on. tt }
+
+-- a test that is not the end
+pub no_end : (t : Test) → (t ≡ Test.End → ⊥) → is_end t ≡ false
+no_end Test.Always other = refl
+no_end (Test.Is x) other = refl
+no_end (Test.IsNot x) other = refl
+no_end (Test.Both a b) other = refl
+no_end (Test.NotBoth a b) other = refl
+no_end (Test.Three three) other = refl
+no_end Test.Walk other = refl
+no_end Test.End other = absurd (other refl)
 
 -- a guard of a plan whose node leads to constants alone
 module _ (plan : PlanView) (accepted : IsAccepted plan) (guard : Ref) (held : Holds plan.store.nodes guard)
@@ -105,5 +119,11 @@ module _ (plan : PlanView) (accepted : IsAccepted plan) (guard : Ref) (held : Ho
     joined_at false otherwise leaf true one = sym ((side true).function truths (known ∙ one)) ∙ leaf.function truths
     joined_at false otherwise leaf false one = sym ((side false).function truths (known ∙ one))
 
-  pub joined_node : (b otherwise : Bool) → IsRefOf plan.store.nodes (λ _. otherwise) (child (not b)) → IsJoined plan guard (record { signal = condition; positive = b }) (child b) otherwise
-  joined_node b otherwise leaf = (below, λ registers. joined_at registers b otherwise leaf (is_true (registers condition.0)) refl)
+  pub joined_node : (b otherwise : Bool) → IsRefOf plan.store.nodes (λ _. otherwise) (child (not b)) → (literal : Literal) → literal ≡ record { signal = condition; positive = b }
+      → IsJoined plan guard (record { literal = literal; rest = child b; otherwise = otherwise })
+  joined_node b otherwise leaf literal is = subst (λ (l : Literal). IsJoined plan guard (record { literal = l; rest = child b; otherwise = otherwise })) (sym is) (record {
+    asks = below;
+    held = child_held b;
+    told = child_told b;
+    value = λ registers. joined_at registers b otherwise leaf (is_true (registers condition.0)) refl;
+  })

@@ -1,5 +1,6 @@
 pub mod Common
 pub mod Actors
+pub mod AmidWork
 pub mod Beginnings
 pub mod OneInstruction
 pub mod FollowedInstructions
@@ -9,6 +10,7 @@ pub mod Guards
 pub mod ImpliedGuards
 pub mod InARow
 pub mod Insides
+pub mod JoinedTests
 pub mod LeftValues
 pub mod KnownGuards
 pub mod WaysOn
@@ -27,6 +29,7 @@ pub mod Told
 pub mod WorksWithMoreConstants
 pub use Common.*
 pub use Actors.*
+pub use AmidWork.*
 pub use Beginnings.*
 pub use OneInstruction.*
 pub use FollowedInstructions.*
@@ -36,6 +39,7 @@ pub use Guards.*
 pub use ImpliedGuards.*
 pub use InARow.*
 pub use Insides.*
+pub use JoinedTests.*
 pub use LeftValues.*
 pub use KnownGuards.*
 pub use WaysOn.*

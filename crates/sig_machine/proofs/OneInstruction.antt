@@ -1,5 +1,5 @@
 -- One instruction of a machine that is amid an instant.
-use Rattle.sig_machine.proofs.Common.{Bool, true, false, inl, inr, ◌≡◌, ◌<◌, ◌≤◌, ◌+◌, ◌∙◌, ℕ, zero, suc, ℤ, List, length, Some, Ok, Err, is_some, IfSome, refl, sym, ap, subst, Contains, slice_get, arith, SigId, Instant, Trace, AreFlowsFor, test, IsAccepted, PlanView, numbers_of, operation_in, operations_in, Cause, Op, Actor, truths_of, place_at, Faults, Gives, Outcome, outcome, own_present, abstraction_of, read_present, seen_at, answered, IsAmid, stepped, StandsAt, guard_known, here, reads_known, compiled, fault_end, is_next, keeps, speaks, done_behind, passed_over, EndsBy, GoesOn, ended_behind, HasReads, IsFor, IsRun, IsTarget, Lowers, IsMachineOf, actor_at, registers_of, IsKept, ReadsWithin, as_named, came_to, input_taken, named, Instruction, Lowered, Run, Machine, fitting, flow_count, Ref, Work, Next, Copy, One, Two}
+use Rattle.sig_machine.proofs.Common.{Bool, true, false, inl, inr, ◌≡◌, ◌<◌, ◌≤◌, ◌+◌, ◌∙◌, ℕ, zero, suc, ℤ, List, length, Some, Ok, Err, is_some, IfSome, refl, sym, ap, subst, Contains, slice_get, arith, SigId, Instant, Trace, AreFlowsFor, test, IsAccepted, PlanView, numbers_of, operation_in, operations_in, Cause, Op, Actor, truths_of, place_at, Faults, Gives, Outcome, outcome, own_present, abstraction_of, read_present, seen_at, answered, IsAmid, stepped, StandsAt, guard_known, here, reads_known, compiled, fault_end, is_next, keeps, speaks, done_behind, passed_over, EndsBy, GoesOn, ended_behind, HasReads, IsFor, IsRun, IsTarget, Lowers, IsMachineOf, actor_at, registers_of, IsKept, ReadsWithin, as_named, came_to, input_taken, named, Instruction, Lowered, Run, Machine, fitting, flow_count, Work, Next, Copy, One, Two}
 use Rattle.sig_machine.proofs.LeftValues.{behind, register_value, room_of}
 use Rattle.sig_machine.proofs.PlacesOfOrder.{stands_somewhere}
 
@@ -65,18 +65,6 @@ module _ (plan : PlanView) (accepted : IsAccepted plan) (flows : List (List ℤ)
   -- ---- within a run of operations that have one guard
 
   module _ (old : Machine) (first : ℕ) (run : Run) (is_run : IsRun plan first run) where
-    -- its guard by the registers of one place is that by those of another
-    pub one_guard : (m : Machine) (place : ℕ) → first ≤ place → place < run.end → (op : Op) → StandsAt plan place op → (trace : Trace) (instant : Instant)
-        → IsAmid plan flows trace instant (actor_at old first) → IsAmid plan flows trace instant (actor_at m place)
-        → test plan.store.nodes op.guard (truths_of plan.clocks.conditions (registers_of m)) ≡ test plan.store.nodes run.guard (truths_of plan.clocks.conditions (registers_of old))
-    one_guard m place from before op stands trace instant began amid =
-        let (zero_op, zero_stands) = stands_somewhere plan accepted first (let a = is_run.later in let b = is_run.leaves in let d = is_run.within in omega (arith, a, b, d)) in
-        let own = truths_of plan.clocks.conditions (seen_at instant) in
-        by_instant m place op stands trace instant amid
-        ∙ ap (λ (g : Ref). test plan.store.nodes g own) (is_run.same place from before op stands ∙ sym (is_run.same first (omega arith) is_run.later zero_op zero_stands))
-        ∙ sym (by_instant old first zero_op zero_stands trace instant began)
-        ∙ ap (λ (g : Ref). test plan.store.nodes g (truths_of plan.clocks.conditions (registers_of old))) (is_run.same first (omega arith) is_run.later zero_op zero_stands)
-
     -- where it is false, all those behind it that are done only where it holds are passed over
     pub passes : test plan.store.nodes run.guard (truths_of plan.clocks.conditions (registers_of old)) ≡ false → (k : ℕ) → first + k ≤ run.skip → GoesOn plan flows old first old (first + k)
     passes off zero within trace instant amid = subst (λ n. IsAmid plan flows trace instant (actor_at old n)) (omega arith) amid

@@ -1,15 +1,15 @@
 -- How an instant goes on behind a run.
-use Rattle.sig_machine.proofs.Common.{◌≡◌, ◌≤◌, ◌+◌, ◌-◌, ◌∙◌, ℕ, zero, suc, ℤ, Bool, true, false, List, length, slice_get, Option, None, Some, IfSome, refl, sym, subst, arith, unwrap_or, AreFlowsFor, ArePassed, AsksWithin, ComesOn, GoesOn, Instant, IsAccepted, IsAmid, IsRun, Known, LeadsTo, Lowered, Lowers, Machine, Successor, PlanView, Ref, Registers, Run, Tells, Test, Trace, actor_at, holds_by, passed_over, registers_of, told_by, truths_of, value_by}
+use Rattle.sig_machine.proofs.Common.{◌≡◌, ◌≤◌, ◌+◌, ◌-◌, ◌∙◌, ℕ, zero, suc, ℤ, Bool, false, List, length, slice_get, Option, None, Some, IfSome, refl, sym, subst, arith, unwrap_or, AreFlowsFor, ArePassed, AsksWithin, GoesOn, Instant, IsAccepted, IsAmid, HoldAll, IsRun, IsStretch, Known, Lowered, Lowers, Machine, Stretch, PlanView, Ref, Registers, Run, Tells, Test, Trace, actor_at, holds_by, passed_over, registers_of, told_by, truths_of, value_by}
 use Rattle.sig_machine.proofs.OneInstruction.{passes}
 use Rattle.sig_machine.proofs.KnownGuards.{guard_stays}
 use Rattle.sig_machine.proofs.PlacesOfOrder.{stands_somewhere}
 
 -- a test asks signals that are there
-abbrev pub AsksThere : PlanView → Lowered → Successor → Type 0
+abbrev pub AsksThere : PlanView → Lowered → Stretch → Type 0
 AsksThere plan lowered next = (run : Run) → slice_get lowered.runs.items next.place ≡ Some run → AsksWithin (length plan.kernel.signals) next.test
 
 -- and tells the guard of the run, in whatever instant the machine began
-abbrev pub TellsThere : PlanView → List (List ℤ) → Lowered → Machine → Machine → Successor → Type 0
+abbrev pub TellsThere : PlanView → List (List ℤ) → Lowered → Machine → Machine → Stretch → Type 0
 TellsThere plan flows lowered start m next =
     (trace : Trace) (instant : Instant) → IsAmid plan flows trace instant (actor_at start 0)
     → (run : Run) → slice_get lowered.runs.items next.place ≡ Some run → Tells plan next.test run.guard (registers_of m)
@@ -32,7 +32,7 @@ module _ (plan : PlanView) (accepted : IsAccepted plan) (flows : List (List ℤ)
       let off = passed (from + k) (omega arith) (omega arith) op stands (truths_of plan.clocks.conditions (registers_of m)) has in
       subst (λ n. IsAmid plan flows trace instant (actor_at m n)) (omega arith) (passed_over plan accepted flows fit trace instant (actor_at m (from + k)) before op stands off)
 
-  module _ (lowered : Lowered) (lowers : Lowers plan lowered) (start old : Machine) (next : Successor) (run : Run) (at : slice_get lowered.runs.items next.place ≡ Some run)
+  module _ (lowered : Lowered) (lowers : Lowers plan lowered) (start old : Machine) (next : Stretch) (run : Run) (at : slice_get lowered.runs.items next.place ≡ Some run)
       (goes : GoesOn plan flows start 0 old next.place) (tells : TellsThere plan flows lowered start old next)
       (value : Bool) (is : value ≡ value_by plan next.test run.guard (registers_of old)) where
     is_run : IsRun plan next.place run
@@ -42,7 +42,7 @@ module _ (plan : PlanView) (accepted : IsAccepted plan) (flows : List (List ℤ)
     known_value trace instant began = sym (told_value plan next.test run.guard (registers_of old) (tells trace instant began run at)) ∙ sym is
 
     -- the guard of the run has that value wherever the instant goes on
-    stays : (m : Machine) (later : ℕ) → next.place ≤ later → (trace : Trace) (instant : Instant) → IsAmid plan flows trace instant (actor_at start 0) → IsAmid plan flows trace instant (actor_at m later)
+    pub stays : (m : Machine) (later : ℕ) → next.place ≤ later → (trace : Trace) (instant : Instant) → IsAmid plan flows trace instant (actor_at start 0) → IsAmid plan flows trace instant (actor_at m later)
         → holds_by plan run.guard (registers_of m) ≡ value
     stays m later after trace instant began amid =
         let (op, stands) = stands_somewhere plan accepted next.place (let a = is_run.later in let b = is_run.leaves in let d = is_run.within in omega (arith, a, b, d)) in
@@ -50,10 +50,6 @@ module _ (plan : PlanView) (accepted : IsAccepted plan) (flows : List (List ℤ)
         (guard_stays plan accepted flows fit trace instant (actor_at m later) amid next.place op stands after
         ∙ sym (guard_stays plan accepted flows fit trace instant (actor_at old next.place) (goes trace instant began) next.place op stands (omega arith)))
         ∙ known_value trace instant began
-
-    -- where it holds, the run is done
-    pub comes_on : value ≡ true → ComesOn plan flows start old next.place run.guard
-    comes_on on trace instant began = (goes trace instant began, known_value trace instant began ∙ on)
 
     -- where it does not, the run is left
     pub left_behind : value ≡ false → GoesOn plan flows start 0 old run.skip
@@ -64,22 +60,39 @@ module _ (plan : PlanView) (accepted : IsAccepted plan) (flows : List (List ℤ)
         subst (λ n. IsAmid plan flows trace instant (actor_at old n)) end
         (passes plan accepted flows fit old next.place run is_run (known_value trace instant began ∙ off) (run.skip - next.place) (omega (arith, a, b)) trace instant (goes trace instant began))
 
-    -- and from there on what is known to be passed over is
-    module _ (m : Machine) (from : ℕ) (after : next.place ≤ from) (further : GoesOn plan flows start 0 m from) (to : Successor)
-        (leads : LeadsTo plan lowered.runs.items (record { guard = run.guard; truth = value }) from to) where
-      pub goes_to : GoesOn plan flows start 0 m to.place
-      goes_to trace instant began =
-          let amid = further trace instant began in
-          let later = leads.later in
-          let within = leads.within in
-          let end : from + (to.place - from) ≡ to.place = omega (arith, later) in
-          subst (λ n. IsAmid plan flows trace instant (actor_at m n)) end
-          (passes_known m (record { guard = run.guard; truth = value }) from (to.place - from)
-          (λ other a b. leads.passed other a (omega (arith, b, later))) (omega (arith, later, within))
-          (stays m from after trace instant began amid) trace instant amid)
+    module _ (stretch : Stretch) (is_stretch : IsStretch plan lowered.runs.items (record { guard = run.guard; truth = value }) stretch) (after : next.place ≤ stretch.from) where
+      -- so all operations of a stretch are done
+      pub all_hold : (trace : Trace) (instant : Instant) → IsAmid plan flows trace instant (actor_at start 0) → HoldAll plan flows trace instant stretch.from stretch.to
+      all_hold trace instant began m place later before amid op stands =
+          is_stretch.done place later before op stands (truths_of plan.clocks.conditions (registers_of m)) (stays m place (omega (arith, after, later)) trace instant began amid)
 
-      pub tells_to : TellsThere plan flows lowered start m to
-      tells_to trace instant began r there = (leads.told r there).tells (registers_of m) (stays m from after trace instant began (further trace instant began))
+      -- and from there on what is known to be passed over is
+      module _ (m : Machine) (further : GoesOn plan flows start 0 m stretch.to) where
+        behind : next.place ≤ stretch.to
+        behind = let forth = is_stretch.forth in omega (arith, after, forth)
 
-      pub asks_to : AsksThere plan lowered to
-      asks_to r there = (leads.told r there).asks
+        pub goes_to : GoesOn plan flows start 0 m stretch.place
+        goes_to trace instant began =
+            let amid = further trace instant began in
+            let beyond = is_stretch.beyond in
+            let within = is_stretch.within in
+            let end : stretch.to + (stretch.place - stretch.to) ≡ stretch.place = omega (arith, beyond) in
+            subst (λ n. IsAmid plan flows trace instant (actor_at m n)) end
+            (passes_known m (record { guard = run.guard; truth = value }) stretch.to (stretch.place - stretch.to)
+            (λ other a b. is_stretch.over other a (omega (arith, b, beyond))) (omega (arith, beyond, within))
+            (stays m stretch.to behind trace instant began amid) trace instant amid)
+
+        pub tells_to : TellsThere plan flows lowered start m stretch
+        tells_to trace instant began r there = (is_stretch.told r there).tells (registers_of m) (stays m stretch.to behind trace instant began (further trace instant began))
+
+    -- where the guard does not hold, what is known to be passed over behind the run is
+    pub goes_open : value ≡ false → (from : ℕ) → run.skip ≤ from → from ≤ length plan.order → ArePassed plan (record { guard = run.guard; truth = false }) run.skip from → GoesOn plan flows start 0 old from
+    goes_open off from later within passed trace instant began =
+        let amid = left_behind off trace instant began in
+        let end : run.skip + (from - run.skip) ≡ from = omega (arith, later) in
+        let a = is_run.later in
+        let b = is_run.leaves in
+        subst (λ n. IsAmid plan flows trace instant (actor_at old n)) end
+        (passes_known old (record { guard = run.guard; truth = false }) run.skip (from - run.skip)
+        (λ other c d. passed other c (omega (arith, d, later))) (omega (arith, later, within))
+        (stays old run.skip (omega (arith, a, b)) trace instant began amid ∙ off) trace instant amid)

@@ -1,8 +1,7 @@
 -- How a machine goes on within an instant, and how a run ends in one.
-use Rattle.std.specs.Prelude.{◌≡◌, ◌<◌}
-use Rattle.sig_machine.specs.Prelude.{ℕ, ℤ, List, length, true, Option, Ref, Place, Instant, Trace, PlanView, Cause, Ended, IsEnd, IsAmid}
-use Rattle.sig_machine.specs.Machines.{actor_at, registers_of}
-use Rattle.sig_machine.specs.inner.Tests.{holds_by}
+use Rattle.std.specs.Prelude.{◌<◌}
+use Rattle.sig_machine.specs.Prelude.{ℕ, ℤ, List, length, Option, Place, Instant, Trace, PlanView, Cause, Ended, IsEnd, IsAmid}
+use Rattle.sig_machine.specs.Machines.{actor_at}
 use Rattle.sig_machine.specs.declared.machine.Machine.{Machine}
 
 -- Of whatever instant the actor of the old machine is amid before one place of the order, that of the new one is amid it before
@@ -20,10 +19,3 @@ abbrev pub EndsBy : PlanView → List (List ℤ) → Machine → ℕ → Cause �
 EndsBy plan flows machine place cause =
     (trace : Trace) (instant : Instant) → IsAmid plan flows trace instant (actor_at machine place) → (limit : ℕ) → length trace < limit
     → (at : Option Place) × IsEnd plan flows limit trace at (ended_behind trace cause)
-
--- Of whatever instant the actor of the one machine is amid before the first place of the order, that of the other one is amid it
--- before another place, where a guard holds by its registers.
-abbrev pub ComesOn : PlanView → List (List ℤ) → Machine → Machine → ℕ → Ref → Type 0
-ComesOn plan flows start machine place guard =
-    (trace : Trace) (instant : Instant) → IsAmid plan flows trace instant (actor_at start 0)
-    → IsAmid plan flows trace instant (actor_at machine place) × (holds_by plan guard (registers_of machine) ≡ true)

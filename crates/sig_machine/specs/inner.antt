@@ -1,7 +1,7 @@
 -- Definitions that no other crate cites.
 pub mod Implied
+pub mod Lent
 pub mod Present
-pub mod Rows
 pub mod Sources
 pub mod Tests
 pub mod Truths

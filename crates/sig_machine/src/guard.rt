@@ -1,24 +1,56 @@
 //! The guards of operations.
 
-ghost use Rattle.std.specs.Prelude.{◌≡◌, ◌<◌, ◌≤◌, ◌&&◌, if◌then◌else◌};
-ghost use Rattle.sig_machine.specs.Prelude.{ℕ, length, slice_get, Some, SigId, Depends, Holds, test, truths_of, is_true};
-ghost use Rattle.sig_machine.specs.Machines.{registers_of};
-ghost use Rattle.sig_machine.specs.inner.Tests.{literal_holds};
+ghost use Rattle.std.specs.Prelude.{◌≡◌, ◌<◌, ◌≤◌, if◌then◌else◌};
+ghost use Rattle.sig_machine.specs.Prelude.{ℕ, length, slice_get, Some, SigId, Depends, Holds, IsAccepted, test, truths_of, is_true};
+ghost use Rattle.sig_machine.specs.inner.Lent.{registers_seen};
+ghost use Rattle.sig_machine.specs.inner.Tests.{AsksWithin, both_hold, literal_holds, three_holds, value_by};
 
-use crate::lowered::Literal;
-use crate::machine::Machine;
+use crate::lowered::{Literal, Test, Three};
+use crate::plans::{conditions_of, store_of};
 use sig_base::SigId;
 use sig_dd::{Node, Ref, Store};
+use sig_plan::Plan;
 
-impl Machine {
+/// The values of a machine within an instant, as far as they were written.
+#[derive(Clone, Copy)]
+pub(crate) struct Seen<'a> {
+    pub(crate) signals: usize,
+    pub(crate) instant: u32,
+    pub(crate) cells: &'a [i64],
+    pub(crate) stamps: &'a [u32],
+}
+
+impl Seen<'_> {
+    /// Whether the guard of a run is true, as a test or else a walk tells it.
+    #[inline(always)]
+    pub(crate) fn is_on(self, plan: &Plan, guard: Ref, how: &Test) -> bool
+        requires signals { self.signals ≡ length plan.now.kernel.signals }
+        requires cells { self.signals ≤ length self.cells.now }
+        requires stamps { self.signals ≤ length self.stamps.now }
+        requires held { Holds plan.now.store.nodes guard }
+        requires told { (v : ℕ) → Depends (test plan.now.store.nodes guard) v → v < length plan.now.clocks.conditions }
+        requires asks { AsksWithin self.signals how.now }
+        ensures { result ≡ value_by plan.now how.now guard (registers_seen self.entry) }
+    {
+        match how {
+            Test::Always => true,
+            Test::Is(x) => self.is_true(*x),
+            Test::IsNot(x) => !self.is_true(*x),
+            Test::Both(a, b) => self.both_hold(*a, *b),
+            Test::NotBoth(a, b) => !self.both_hold(*a, *b),
+            Test::Three(three) => self.three_hold(three),
+            Test::Walk | Test::End => self.holds(store_of(plan), conditions_of(plan), guard),
+        }
+    }
+
     /// Whether a guard is true of the conditions.
-    pub(crate) fn holds(&self, store: &Store, conditions: &[SigId], guard: Ref) -> bool
+    fn holds(self, store: &Store, conditions: &[SigId], guard: Ref) -> bool
         requires held { Holds store.now.nodes guard }
         requires told { (v : ℕ) → Depends (test store.now.nodes guard) v → v < length conditions.now }
-        requires within { (v : ℕ) (c : SigId) → slice_get conditions.now v ≡ Some c → c.0 < self.now.signals }
-        requires cells { self.now.signals ≤ length self.now.cells.items }
-        requires stamps { self.now.signals ≤ length self.now.stamps.items }
-        ensures { result ≡ test store.now.nodes guard (truths_of conditions.now (registers_of self.now)) }
+        requires within { (v : ℕ) (c : SigId) → slice_get conditions.now v ≡ Some c → c.0 < self.signals }
+        requires cells { self.signals ≤ length self.cells.now }
+        requires stamps { self.signals ≤ length self.stamps.now }
+        ensures { result ≡ test store.now.nodes guard (truths_of conditions.now (registers_seen self.entry)) }
     {
         let mut r = guard;
         while let Some(node) = store.node(r) {
@@ -28,25 +60,43 @@ impl Machine {
         r == store.constant(true)
     }
 
+    /// Whether a guard of three literals holds.
+    #[inline(always)]
+    fn three_hold(self, three: &Three) -> bool
+        requires first { three.now.first.signal.0 < self.signals }
+        requires second { three.now.second.signal.0 < self.signals }
+        requires third { three.now.third.signal.0 < self.signals }
+        requires cells { self.signals ≤ length self.cells.now }
+        requires stamps { self.signals ≤ length self.stamps.now }
+        ensures { result ≡ three_holds three.now (registers_seen self.entry) }
+    {
+        if self.literal_holds(three.first) {
+            let both = self.both_hold(three.second, three.third);
+            if three.both { both } else { !both }
+        } else {
+            three.otherwise
+        }
+    }
+
     /// Whether two literals hold.
     #[inline(always)]
-    pub(crate) fn hold(&self, a: Literal, b: Literal) -> bool
-        requires first { a.signal.0 < self.now.signals }
-        requires second { b.signal.0 < self.now.signals }
-        requires cells { self.now.signals ≤ length self.now.cells.items }
-        requires stamps { self.now.signals ≤ length self.now.stamps.items }
-        ensures { result ≡ (literal_holds a (registers_of self.now) && literal_holds b (registers_of self.now)) }
+    fn both_hold(self, a: Literal, b: Literal) -> bool
+        requires first { a.signal.0 < self.signals }
+        requires second { b.signal.0 < self.signals }
+        requires cells { self.signals ≤ length self.cells.now }
+        requires stamps { self.signals ≤ length self.stamps.now }
+        ensures { result ≡ both_hold a b (registers_seen self.entry) }
     {
         self.literal_holds(a) && self.literal_holds(b)
     }
 
     /// Whether a literal holds.
     #[inline(always)]
-    fn literal_holds(&self, literal: Literal) -> bool
-        requires within { literal.signal.0 < self.now.signals }
-        requires cells { self.now.signals ≤ length self.now.cells.items }
-        requires stamps { self.now.signals ≤ length self.now.stamps.items }
-        ensures { result ≡ literal_holds literal (registers_of self.now) }
+    fn literal_holds(self, literal: Literal) -> bool
+        requires within { literal.signal.0 < self.signals }
+        requires cells { self.signals ≤ length self.cells.now }
+        requires stamps { self.signals ≤ length self.stamps.now }
+        ensures { result ≡ literal_holds literal (registers_seen self.entry) }
     {
         if literal.positive {
             self.is_true(literal.signal)
@@ -56,11 +106,12 @@ impl Machine {
     }
 
     /// Whether a signal is there and true.
-    pub(crate) fn is_true(&self, x: SigId) -> bool
-        requires within { x.0 < self.now.signals }
-        requires cells { self.now.signals ≤ length self.now.cells.items }
-        requires stamps { self.now.signals ≤ length self.now.stamps.items }
-        ensures { result ≡ is_true (registers_of self.now x.0) }
+    #[inline(always)]
+    fn is_true(self, x: SigId) -> bool
+        requires within { x.0 < self.signals }
+        requires cells { self.signals ≤ length self.cells.now }
+        requires stamps { self.signals ≤ length self.stamps.now }
+        ensures { result ≡ is_true (registers_seen self.entry x.0) }
     {
         self.stamps[x.0 as usize] == self.instant && self.cells[x.0 as usize] == 1
     }

@@ -30,6 +30,6 @@ mod works;
 pub use actor::ActorMachine;
 pub use coded::{Coded, Opcode};
 pub use instruction::{Instruction, Work};
-pub use lowered::{Known, Literal, Lowered, Run, Successor, Test, Ways};
+pub use lowered::{Known, Literal, Lowered, Run, Stretch, Test, Ways};
 pub use lowering::lower;
 pub use machine::Machine;

@@ -21,17 +21,29 @@ pub struct Literal {
     pub positive: bool,
 }
 
-/// How the guard of a run is told: it always holds, or always and the run is a long one, it is the truth of a signal, or that
-/// of its negation, or it holds where two literals do, or unless both do, or a walk tells it.
+/// A guard of three literals: where the first one holds, it tells whether both others do, or whether not both do; and it has one
+/// truth elsewhere.
+#[derive(Clone, Copy, Debug, PartialEq, Eq)]
+pub struct Three {
+    pub first: Literal,
+    pub second: Literal,
+    pub third: Literal,
+    pub both: bool,
+    pub otherwise: bool,
+}
+
+/// How the guard of a run is told: it always holds, it is the truth of a signal, or that of its negation, or it holds where two
+/// literals do, or unless both do, or three literals tell it, or a walk does; or there is no run any more.
 #[derive(Clone, Copy, Debug, PartialEq, Eq)]
 pub enum Test {
     Always,
-    Long,
     Is(SigId),
     IsNot(SigId),
     Both(Literal, Literal),
     NotBoth(Literal, Literal),
+    Three(Three),
     Walk,
+    End,
 }
 
 /// A guard, and a truth that it has.
@@ -41,18 +53,22 @@ pub struct Known {
     pub truth: bool,
 }
 
-/// Where an instant goes on: at the run of a place, with how its guard is told there, or behind the last place.
+/// Operations in a row that are all done, and where an instant goes on behind them: at the run of a place, with how its guard
+/// is told there, or behind the last place.
 #[derive(Clone, Copy, Debug, PartialEq, Eq)]
-pub struct Successor {
+pub struct Stretch {
+    pub from: usize,
+    pub to: usize,
     pub place: usize,
     pub test: Test,
 }
 
-/// Where an instant goes on behind a run whose guard holds, and where it does not.
+/// The guard of a run, and what is done from there on where it holds, and where it does not.
 #[derive(Clone, Copy, Debug, PartialEq, Eq)]
 pub struct Ways {
-    pub on: Successor,
-    pub off: Successor,
+    pub guard: Ref,
+    pub on: Stretch,
+    pub off: Stretch,
 }
 
 /// A plan as instructions, one for each place of its order. The cells are those of its signals, then those of its delays,
@@ -63,7 +79,7 @@ pub struct Lowered {
     pub(crate) instructions: Vec<Instruction>,
     pub(crate) coded: Vec<Coded>,
     pub(crate) runs: Vec<Run>,
-    pub(crate) first: Successor,
+    pub(crate) first: Stretch,
     pub(crate) ways: Vec<Ways>,
     pub(crate) cells: Vec<i64>,
 }

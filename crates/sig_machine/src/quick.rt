@@ -1,10 +1,40 @@
 //! Functions of values where no fault comes.
 
 ghost use Rattle.std.specs.Prelude.{◌≡◌, ◌∷◌};
-ghost use Rattle.sig_machine.specs.Prelude.{[], IfSome, Ok, answered, computed, function_of, truth_value};
+ghost use Rattle.sig_machine.specs.Prelude.{[], ℕ, IfSome, IsSomeAnd, Ok, answered, computed, function_of, truth_value};
+ghost use Rattle.sig_machine.specs.Machines.{cell};
+ghost use Rattle.sig_machine.specs.Opcodes.{ComesTo, work_of};
+ghost use Rattle.sig_machine.specs.declared.machine.Machine.{Machine};
 ghost use Rattle.sig_machine.specs.inner.Works.{IsFitting, no_equation};
 
+use crate::coded::Opcode;
 use sig_kernel::FunOp;
+
+/// What the instruction of an opcode comes to that reads these values, where it has one and no fault.
+#[inline(always)]
+pub(crate) fn value_by(opcode: Opcode, a: i64, b: i64) -> Option<i64>
+    ensures { (m : Machine) (x y : ℕ) → cell m.cells.items x ≡ a → cell m.cells.items y ≡ b
+        → IfSome result (λ v. IsSomeAnd (work_of opcode x y) (ComesTo m v)) }
+{
+    match opcode {
+        Opcode::Other => None,
+        Opcode::Copy => Some(a),
+        Opcode::Id => quickly_of_one(FunOp::Id, a),
+        Opcode::Not => quickly_of_one(FunOp::Not, a),
+        Opcode::And => quickly_of_two(FunOp::And, a, b),
+        Opcode::Or => quickly_of_two(FunOp::Or, a, b),
+        Opcode::Xor => quickly_of_two(FunOp::Xor, a, b),
+        Opcode::Eq => quickly_of_two(FunOp::Eq, a, b),
+        Opcode::Ne => quickly_of_two(FunOp::Ne, a, b),
+        Opcode::Lt => quickly_of_two(FunOp::Lt, a, b),
+        Opcode::Le => quickly_of_two(FunOp::Le, a, b),
+        Opcode::Gt => quickly_of_two(FunOp::Gt, a, b),
+        Opcode::Ge => quickly_of_two(FunOp::Ge, a, b),
+        Opcode::Add => quickly_of_two(FunOp::Add, a, b),
+        Opcode::Sub => quickly_of_two(FunOp::Sub, a, b),
+        Opcode::Mul => quickly_of_two(FunOp::Mul, a, b),
+    }
+}
 
 /// What a function gives of one value, or nothing, where it has a fault or is told elsewhere.
 #[inline(always)]

@@ -1,18 +1,25 @@
 //! One instant.
 
-ghost use Rattle.std.specs.Prelude.{◌≡◌, ◌≤◌, ◌<◌};
-ghost use Rattle.sig_machine.specs.Prelude.{ℕ, IfErr, IfOk, OnOk, length, AreFlowsFor};
-ghost use Rattle.sig_machine.specs.Instants.{ComesOn, EndsBy, GoesOn};
-ghost use Rattle.sig_machine.specs.Lowerings.{IsRun, Lowers};
-ghost use Rattle.sig_machine.specs.Machines.{IsMachineOf, registers_of};
-ghost use Rattle.sig_machine.specs.inner.Tests.{AsksWithin, value_by};
-ghost use Rattle.sig_machine.specs.declared.machine.Machine.{Machine};
+ghost use Rattle.std.specs.Prelude.{◌≡◌, ◌≤◌};
+ghost use Rattle.sig_machine.specs.Prelude.{IfErr, OnOk, length, AreFlowsFor};
+ghost use Rattle.sig_machine.specs.Instants.{EndsBy, GoesOn};
+ghost use Rattle.sig_machine.specs.Lowerings.{Lowers};
+ghost use Rattle.sig_machine.specs.Machines.{IsMachineOf};
+ghost use Rattle.sig_machine.specs.inner.Lent.{EndsIn, GoesUpTo, IsAtWork};
+ghost use Rattle.sig_machine.specs.inner.Tests.{is_end};
 
-use crate::lowered::{Lowered, Run, Test};
+use crate::guard::Seen;
+use crate::lowered::{Lowered, Stretch, Test};
 use crate::machine::Machine;
-use crate::plans::{conditions_of, named, op_at, order_of, plans_are_accepted, store_of};
+use crate::plans::{named, op_at, plans_are_accepted};
+use crate::quick::value_by;
+use crate::row::do_long;
+use crate::works::follow_further;
 use sig_kernel::Inputs;
 use sig_plan::{Cause, Plan};
+
+/// From how many operations on a stretch is long.
+const LONG: usize = 16;
 
 impl Machine {
     /// Does all operations of an instant in the compiled order, or tells why the first that has no value has none.
@@ -25,81 +32,124 @@ impl Machine {
         ensures machine { IsMachineOf plan.now lowered.now inputs.now self.new }
     {
         plans_are_accepted(plan);
-        let places = order_of(plan).len();
+        let signals = self.signals;
+        let instant = self.instant;
+        // Where they are lent for the whole instant, their addresses stay in registers.
+        let cells = self.cells.as_mut_slice();
+        let stamps = self.stamps.as_mut_slice();
+        let taken = self.taken.as_mut_slice();
         let mut next = &lowered.first;
-        while next.place < places {
-            let place = next.place;
-            let run = lowered.runs[place];
-            let ways = &lowered.ways[place];
-            if self.is_on(plan, run, &next.test) {
-                let long = is_long(&next.test);
-                self.do_run(plan, lowered, inputs, place, run, long)?;
+        while !is_end(&next.test) {
+            let ways = &lowered.ways[next.place];
+            let seen = Seen {
+                signals,
+                instant,
+                cells,
+                stamps,
+            };
+            if seen.is_on(plan, ways.guard, &next.test) {
                 next = &ways.on;
+                do_stretch(plan, lowered, inputs, next, instant, cells, stamps, taken)?;
             } else {
                 next = &ways.off;
-            }
-        }
-        Ok(())
-    }
-
-    /// Whether the guard of a run is true, as a test or else a walk tells it.
-    fn is_on(&self, plan: &Plan, run: Run, how: &Test) -> bool
-        requires signals { self.now.signals ≡ length plan.now.kernel.signals }
-        requires cells { self.now.signals ≤ length self.now.cells.items }
-        requires stamps { self.now.signals ≤ length self.now.stamps.items }
-        requires run { (place : ℕ) × IsRun plan.now place run }
-        requires asks { AsksWithin self.now.signals how.now }
-        ensures { result ≡ value_by plan.now how.now run.guard (registers_of self.now) }
-    {
-        match how {
-            Test::Always | Test::Long => true,
-            Test::Is(x) => self.is_true(*x),
-            Test::IsNot(x) => !self.is_true(*x),
-            Test::Both(a, b) => self.hold(*a, *b),
-            Test::NotBoth(a, b) => !self.hold(*a, *b),
-            Test::Walk => self.holds(store_of(plan), conditions_of(plan), run.guard),
-        }
-    }
-
-    /// Does the operations of a run whose guard is true.
-    fn do_run(
-        &mut self,
-        plan: &Plan,
-        lowered: &Lowered,
-        inputs: &Inputs,
-        first: usize,
-        run: Run,
-        long: bool,
-    ) -> Result<(), Cause>
-        requires lowers { Lowers plan.now lowered.now }
-        requires fits { AreFlowsFor plan.now.kernel inputs.now }
-        requires machine { IsMachineOf plan.now lowered.now inputs.now self.old }
-        requires run { IsRun plan.now first run }
-        ensures done { OnOk result ((start : Machine) → ComesOn plan.now inputs.now start self.old first run.guard
-            → GoesOn plan.now inputs.now start 0 self.new run.end) }
-        ensures fault { IfErr result (λ cause. (start : Machine) → ComesOn plan.now inputs.now start self.old first run.guard
-            → EndsBy plan.now inputs.now start 0 cause) }
-        ensures machine { IsMachineOf plan.now lowered.now inputs.now self.new }
-    {
-        plans_are_accepted(plan);
-        if long {
-            return self.do_long_run(plan, lowered, inputs, first, run.guard, run.end, run.skip);
-        }
-        for place in first..run.end {
-            let coded = lowered.coded[place];
-            if let Err(cause) = self.follow(coded, lowered, place, inputs) {
-                return Err(named(op_at(plan, place).eq, cause));
+                do_stretch(plan, lowered, inputs, next, instant, cells, stamps, taken)?;
             }
         }
         Ok(())
     }
 }
 
-/// Whether a test says that a run is long.
+/// Does the operations of a stretch.
 #[inline(always)]
-fn is_long(test: &Test) -> bool {
+fn do_stretch(
+    plan: &Plan,
+    lowered: &Lowered,
+    inputs: &Inputs,
+    stretch: &Stretch,
+    instant: u32,
+    cells: &mut [i64],
+    stamps: &mut [u32],
+    taken: &mut [usize],
+) -> Result<(), Cause>
+    requires lowers { Lowers plan.now lowered.now }
+    requires fits { AreFlowsFor plan.now.kernel inputs.now }
+    requires forth { stretch.now.from ≤ stretch.now.to }
+    requires within { stretch.now.to ≤ length plan.now.order }
+    requires machine { IsAtWork plan.now lowered.now inputs.now instant cells.old stamps.old taken.old }
+    ensures done { OnOk result (GoesUpTo plan.now inputs.now stretch.now.from stretch.now.to instant cells.old stamps.old taken.old stretch.now.from cells.new stamps.new taken.new stretch.now.to) }
+    ensures fault { IfErr result (EndsIn plan.now inputs.now stretch.now.from stretch.now.to instant cells.old stamps.old taken.old) }
+    ensures machine { IsAtWork plan.now lowered.now inputs.now instant cells.new stamps.new taken.new }
+{
+    let from = stretch.from;
+    let to = stretch.to;
+    if to - from >= LONG {
+        do_long(
+            plan, lowered, inputs, from, to, instant, cells, stamps, taken,
+        )?;
+    } else {
+        do_short(
+            plan, lowered, inputs, from, to, instant, cells, stamps, taken,
+        )?;
+    }
+    Ok(())
+}
+
+/// Does the operations of a stretch, one after another.
+#[inline(always)]
+fn do_short(
+    plan: &Plan,
+    lowered: &Lowered,
+    inputs: &Inputs,
+    from: usize,
+    to: usize,
+    instant: u32,
+    cells: &mut [i64],
+    stamps: &mut [u32],
+    taken: &mut [usize],
+) -> Result<(), Cause>
+    requires lowers { Lowers plan.now lowered.now }
+    requires fits { AreFlowsFor plan.now.kernel inputs.now }
+    requires forth { from ≤ to }
+    requires within { to ≤ length plan.now.order }
+    requires machine { IsAtWork plan.now lowered.now inputs.now instant cells.old stamps.old taken.old }
+    ensures done { OnOk result (GoesUpTo plan.now inputs.now from to instant cells.old stamps.old taken.old from cells.new stamps.new taken.new to) }
+    ensures fault { IfErr result (EndsIn plan.now inputs.now from to instant cells.old stamps.old taken.old) }
+    ensures machine { IsAtWork plan.now lowered.now inputs.now instant cells.new stamps.new taken.new }
+{
+    plans_are_accepted(plan);
+    let coded = lowered.coded.as_slice();
+    for place in from..to {
+        let one = coded[place];
+        match value_by(one.opcode, cells[one.a as usize], cells[one.b as usize]) {
+            Some(value) => {
+                cells[one.target as usize] = value;
+                stamps[one.target as usize] = instant;
+            }
+            None => {
+                let instruction = &lowered.instructions[place];
+                if let Err(cause) = follow_further(
+                    instruction,
+                    inputs,
+                    instant,
+                    cells,
+                    stamps,
+                    taken,
+                ) {
+                    return Err(named(op_at(plan, place).eq, cause));
+                }
+            }
+        }
+    }
+    Ok(())
+}
+
+/// Whether a test says that there is no run any more.
+#[inline(always)]
+fn is_end(test: &Test) -> bool
+    ensures { result ≡ is_end test.now }
+{
     match test {
-        Test::Long => true,
+        Test::End => true,
         _ => false,
     }
 }

@@ -1,18 +1,57 @@
 //! How the guards of runs are told.
 
 ghost use Rattle.std.specs.Prelude.{◌≡◌, ◌<◌, if◌then◌else◌};
-ghost use Rattle.sig_machine.specs.Prelude.{ℕ, true, IfSome, Some, length, Depends, Holds, IsRefOf, Registers, node_of, test};
-ghost use Rattle.sig_machine.specs.inner.Tests.{AsksWithin, IsJoined, IsTest, literal_holds, told_by};
+ghost use Rattle.sig_machine.specs.Prelude.{ℕ, true, not, IfSome, Some, length, Depends, Holds, IsRefOf, Registers, node_of, test};
+ghost use Rattle.sig_machine.specs.inner.Tests.{AsksWithin, IsJoined, IsTest, IsTestWith, both_hold, literal_holds, told_by};
 ghost use Rattle.sig_machine.specs.declared.lowered.Known.{Known};
 
 use crate::implied::{is_told, narrow};
-use crate::lowered::{Known, Literal, Test};
+use crate::lowered::{Known, Literal, Test, Three};
 use crate::plans::{conditions_of, plans_are_accepted, store_of};
+use sig_base::SigId;
 use sig_dd::{Node, Ref};
 use sig_plan::Plan;
 
+/// A guard by a literal: where it holds, the guard is what is left of it, and elsewhere it has one truth.
+#[derive(Clone, Copy)]
+pub(crate) struct Joined {
+    pub(crate) literal: Literal,
+    pub(crate) rest: Ref,
+    pub(crate) otherwise: bool,
+}
+
 /// How a guard is told where the truth of another one is known.
 pub(crate) fn test_where(plan: &Plan, known: Known, guard: Ref) -> Test
+    requires known { Holds plan.now.store.nodes known.guard }
+    requires held { Holds plan.now.store.nodes guard }
+    requires told { (v : ℕ) → Depends (test plan.now.store.nodes guard) v → v < length plan.now.clocks.conditions }
+    ensures { IsTest plan.now known guard result }
+{
+    match test_of_two_where(plan, known, guard) {
+        Test::Walk => test_of_three_where(plan, known, guard),
+        told => told,
+    }
+}
+
+/// How a guard is told that asks three literals where another one has its truth.
+fn test_of_three_where(plan: &Plan, known: Known, guard: Ref) -> Test
+    requires known { Holds plan.now.store.nodes known.guard }
+    requires held { Holds plan.now.store.nodes guard }
+    requires told { (v : ℕ) → Depends (test plan.now.store.nodes guard) v → v < length plan.now.clocks.conditions }
+    ensures { IsTest plan.now known guard result }
+{
+    let left = narrow(store_of(plan), known, guard);
+    match joined_of(plan, left.guard) {
+        Some(joined) => {
+            let rest = test_of_two_where(plan, left.known, joined.rest);
+            test_with_two(joined, rest)
+        }
+        None => Test::Walk,
+    }
+}
+
+/// How a guard is told that asks two literals at most where another one has its truth.
+fn test_of_two_where(plan: &Plan, known: Known, guard: Ref) -> Test
     requires known { Holds plan.now.store.nodes known.guard }
     requires held { Holds plan.now.store.nodes guard }
     requires told { (v : ℕ) → Depends (test plan.now.store.nodes guard) v → v < length plan.now.clocks.conditions }
@@ -48,43 +87,47 @@ fn long_test_where(plan: &Plan, known: Known, guard: Ref) -> Test
     requires told { (v : ℕ) → Depends (test plan.now.store.nodes guard) v → v < length plan.now.clocks.conditions }
     ensures { IsTest plan.now known guard result }
 {
-    let store = store_of(plan);
-    let left = narrow(store, known, guard);
-    match store.node(left.guard) {
-        Some(node) => joined_test(plan, left.known, left.guard, node),
+    let left = narrow(store_of(plan), known, guard);
+    match joined_of(plan, left.guard) {
+        Some(joined) => {
+            let rest = short_test_where(plan, left.known, joined.rest);
+            test_with_one(joined, rest)
+        }
         None => Test::Walk,
     }
 }
 
-/// How a guard of this node is told, where one of its children is a constant.
-fn joined_test(plan: &Plan, known: Known, guard: Ref, node: Node) -> Test
-    requires known { Holds plan.now.store.nodes known.guard }
+/// A guard by the literal of its first node, where one of its children is a constant.
+fn joined_of(plan: &Plan, guard: Ref) -> Option<Joined>
     requires held { Holds plan.now.store.nodes guard }
     requires told { (v : ℕ) → Depends (test plan.now.store.nodes guard) v → v < length plan.now.clocks.conditions }
-    requires node { Some node ≡ node_of plan.now.store.nodes guard }
-    ensures { IsTest plan.now known guard result }
+    ensures { IfSome result (IsJoined plan.now guard) }
 {
     plans_are_accepted(plan);
-    let low = truth_of_constant(plan, node.low);
-    let high = truth_of_constant(plan, node.high);
+    let node = store_of(plan).node(guard)?;
     let signal = conditions_of(plan)[node.variable as usize];
-    if let Some(otherwise) = low {
-        let literal = Literal {
-            signal,
-            positive: true,
-        };
-        let on_high = test_with(plan, known, guard, literal, node.high, otherwise);
-        on_high
-    } else if let Some(otherwise) = high {
-        let literal = Literal {
-            signal,
-            positive: false,
-        };
-        let on_low = test_with(plan, known, guard, literal, node.low, otherwise);
-        on_low
+    if let Some(otherwise) = truth_of_constant(plan, node.low) {
+        Some(Joined {
+            literal: literal_of(signal, true),
+            rest: node.high,
+            otherwise,
+        })
+    } else if let Some(otherwise) = truth_of_constant(plan, node.high) {
+        Some(Joined {
+            literal: literal_of(signal, false),
+            rest: node.low,
+            otherwise,
+        })
     } else {
-        Test::Walk
+        None
     }
+}
+
+/// A signal that is true, or one that is not.
+fn literal_of(signal: SigId, positive: bool) -> Literal
+    ensures { result ≡ record { signal = signal; positive = positive } }
+{
+    Literal { signal, positive }
 }
 
 /// The truth of a function, where it is a constant.
@@ -101,41 +144,47 @@ fn truth_of_constant(plan: &Plan, function: Ref) -> Option<bool>
     }
 }
 
-/// How a guard is told that another function tells where a literal holds, and that has one truth elsewhere.
-fn test_with(
-    plan: &Plan,
-    known: Known,
-    _guard: Ref,
-    literal: Literal,
-    rest: Ref,
-    otherwise: bool,
-) -> Test
-    requires known { Holds plan.now.store.nodes known.guard }
-    requires held { Holds plan.now.store.nodes rest }
-    requires told { (v : ℕ) → Depends (test plan.now.store.nodes rest) v → v < length plan.now.clocks.conditions }
-    requires joined { IsJoined plan.now _guard literal rest otherwise }
-    ensures { IsTest plan.now known _guard result }
+/// How a guard is told of which the rest asks one literal at most.
+fn test_with_one(joined: Joined, rest: Test) -> Test
+    ensures { IsTestWith joined rest result }
 {
-    match short_test_where(plan, known, rest) {
-        Test::Always => test_of_literal(literal, otherwise),
-        Test::Is(signal) => test_of_literals(
-            literal,
-            Literal {
-                signal,
-                positive: true,
-            },
-            otherwise,
-        ),
-        Test::IsNot(signal) => test_of_literals(
-            literal,
-            Literal {
-                signal,
-                positive: false,
-            },
-            otherwise,
-        ),
+    match rest {
+        Test::Always => test_of_literal(joined.literal, joined.otherwise),
+        Test::Is(signal) => {
+            let second = literal_of(signal, true);
+            test_of_literals(joined.literal, second, joined.otherwise)
+        }
+        Test::IsNot(signal) => {
+            let second = literal_of(signal, false);
+            test_of_literals(joined.literal, second, joined.otherwise)
+        }
         _ => Test::Walk,
     }
+}
+
+/// How a guard is told of which the rest asks two literals.
+fn test_with_two(joined: Joined, rest: Test) -> Test
+    ensures { IsTestWith joined rest result }
+{
+    match rest {
+        Test::Both(second, third) => test_of_three(joined, second, third, true),
+        Test::NotBoth(second, third) => test_of_three(joined, second, third, false),
+        _ => Test::Walk,
+    }
+}
+
+/// How a guard is told of which the rest tells whether both of two literals hold, or whether not both do.
+fn test_of_three(joined: Joined, second: Literal, third: Literal, both: bool) -> Test
+    ensures asks { (count : ℕ) → joined.literal.signal.0 < count → second.signal.0 < count → third.signal.0 < count → AsksWithin count result }
+    ensures tells { (registers : Registers) → told_by result registers ≡ Some (if literal_holds joined.literal registers then (if both then both_hold second third registers else not (both_hold second third registers)) else joined.otherwise) }
+{
+    Test::Three(Three {
+        first: joined.literal,
+        second,
+        third,
+        both,
+        otherwise: joined.otherwise,
+    })
 }
 
 /// How it is told what holds where a literal does, and has one truth elsewhere.

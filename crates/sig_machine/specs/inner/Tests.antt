@@ -1,9 +1,11 @@
 -- How the guards of runs are told.
 use Rattle.std.specs.Prelude.{◌≡◌, ◌<◌, ◌&&◌, if◌then◌else◌}
-use Rattle.sig_machine.specs.Prelude.{ℕ, Bool, length, Option, None, Some, IfSome, unwrap_or, true, not, ⊤, PlanView, Ref, Registers, is_true, test, truths_of}
+use Rattle.sig_machine.specs.Prelude.{ℕ, Bool, length, Option, None, Some, IfSome, IsSomeAnd, unwrap_or, true, false, not, ⊤, Depends, Holds, PlanView, Ref, Registers, is_true, test, truths_of}
 use Rattle.sig_machine.specs.declared.lowered.Known.{Known}
 use Rattle.sig_machine.specs.declared.lowered.Literal.{Literal}
 use Rattle.sig_machine.specs.declared.lowered.Test.{Test}
+use Rattle.sig_machine.specs.declared.lowered.Three.{Three}
+use Rattle.sig_machine.specs.declared.tests.Joined.{Joined}
 
 -- the value of a guard by registers
 abbrev pub holds_by : PlanView → Ref → Registers → Bool
@@ -12,25 +14,47 @@ holds_by plan guard registers = test plan.store.nodes guard (truths_of plan.cloc
 abbrev pub literal_holds : Literal → Registers → Bool
 literal_holds literal registers = if literal.positive then is_true (registers literal.signal.0) else not (is_true (registers literal.signal.0))
 
+abbrev pub both_hold : Literal → Literal → Registers → Bool
+both_hold a b registers = literal_holds a registers && literal_holds b registers
+
+-- a guard of three literals
+abbrev pub three_holds : Three → Registers → Bool
+three_holds three registers =
+    if literal_holds three.first registers then (if three.both then both_hold three.second three.third registers else not (both_hold three.second three.third registers))
+    else three.otherwise
+
+-- there is no run any more
+abbrev pub is_end : Test → Bool
+is_end Test.Always = false
+is_end (Test.Is x) = false
+is_end (Test.IsNot x) = false
+is_end (Test.Both a b) = false
+is_end (Test.NotBoth a b) = false
+is_end (Test.Three three) = false
+is_end Test.Walk = false
+is_end Test.End = true
+
 -- what a test tells by registers, unless it is a walk
 abbrev pub told_by : Test → Registers → Option Bool
 told_by Test.Always registers = Some true
-told_by Test.Long registers = Some true
 told_by (Test.Is x) registers = Some (is_true (registers x.0))
 told_by (Test.IsNot x) registers = Some (not (is_true (registers x.0)))
-told_by (Test.Both a b) registers = Some (literal_holds a registers && literal_holds b registers)
-told_by (Test.NotBoth a b) registers = Some (not (literal_holds a registers && literal_holds b registers))
+told_by (Test.Both a b) registers = Some (both_hold a b registers)
+told_by (Test.NotBoth a b) registers = Some (not (both_hold a b registers))
+told_by (Test.Three three) registers = Some (three_holds three registers)
 told_by Test.Walk registers = None
+told_by Test.End registers = None
 
 -- the signals that a test asks are among so many
 abbrev pub AsksWithin : ℕ → Test → Type 0
 AsksWithin count Test.Always = ⊤
-AsksWithin count Test.Long = ⊤
 AsksWithin count (Test.Is x) = x.0 < count
 AsksWithin count (Test.IsNot x) = x.0 < count
 AsksWithin count (Test.Both a b) = (a.signal.0 < count) × (b.signal.0 < count)
 AsksWithin count (Test.NotBoth a b) = (a.signal.0 < count) × (b.signal.0 < count)
+AsksWithin count (Test.Three three) = (three.first.signal.0 < count) × (three.second.signal.0 < count) × (three.third.signal.0 < count)
 AsksWithin count Test.Walk = ⊤
+AsksWithin count Test.End = ⊤
 
 -- a test that is no walk tells the value of a guard by registers
 abbrev pub Tells : PlanView → Test → Ref → Registers → Type 0
@@ -45,8 +69,15 @@ pub record IsTest (plan : PlanView) (known : Known) (guard : Ref) (t : Test) : T
   pub asks : AsksWithin (length plan.kernel.signals) t
   pub tells : (registers : Registers) → holds_by plan known.guard registers ≡ known.truth → Tells plan t guard registers
 
--- whatever was written, a guard has the value of another function where a literal of a signal holds, and a constant one elsewhere
-abbrev pub IsJoined : PlanView → Ref → Literal → Ref → Bool → Type 0
-IsJoined plan guard literal rest otherwise =
-    (literal.signal.0 < length plan.kernel.signals)
-    × ((registers : Registers) → holds_by plan guard registers ≡ (if literal_holds literal registers then holds_by plan rest registers else otherwise))
+-- Whatever was written, a guard has the value of what is left of it where the literal of a signal holds, and one truth elsewhere.
+pub record IsJoined (plan : PlanView) (guard : Ref) (joined : Joined) : Type 0 where
+  pub asks : joined.literal.signal.0 < length plan.kernel.signals
+  pub held : Holds plan.store.nodes joined.rest
+  pub told : (v : ℕ) → Depends (test plan.store.nodes joined.rest) v → v < length plan.clocks.conditions
+  pub value : (registers : Registers) → holds_by plan guard registers ≡ (if literal_holds joined.literal registers then holds_by plan joined.rest registers else joined.otherwise)
+
+-- a test tells what one of the rest tells where the literal holds, and the truth elsewhere
+pub record IsTestWith (joined : Joined) (rest t : Test) : Type 0 where
+  pub asks : (count : ℕ) → joined.literal.signal.0 < count → AsksWithin count rest → AsksWithin count t
+  pub tells : (registers : Registers) → IfSome (told_by t registers)
+      (λ holds. IsSomeAnd (told_by rest registers) (λ own. holds ≡ (if literal_holds joined.literal registers then own else joined.otherwise)))

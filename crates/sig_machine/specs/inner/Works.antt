@@ -69,12 +69,6 @@ pub record IsPut (target : ℕ) (value : ℤ) (old new : Machine) : Type 0 where
   pub stamps : new.stamps.items ≡ slice_set old.stamps.items target old.instant
   pub taken : new.taken.items ≡ old.taken.items
 
--- an instruction was done: the value that it comes to is in its cell
-pub record IsFollowed (flows : List (List ℤ)) (instruction : Instruction) (old new : Machine) : Type 0 where
-  pub value : ℤ
-  pub gives : Ok value ≡ answered (came_to flows old instruction.work)
-  pub kept : IsKept instruction value old new
-
 -- an option holds what a whole number comes to as a result, if that has 64 bits
 abbrev pub IsFitting : Option ℤ → Option ℤ → Type 0
 IsFitting value answer = (v : ℤ) → SomeIff value (FitsSigned w64 v) v → IfSome answer (λ w. Ok w ≡ answered (bounded no_equation v))

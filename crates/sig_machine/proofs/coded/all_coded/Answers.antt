@@ -11,6 +11,6 @@ loop-place-preserved c =
     let at = slice_get_read instructions (length instructions) c.loop-place.place instruction refl (omega (arith, test)) c.index-instruction.ensures in
     record {
       count = ap length c.in_ok-push.ensures.items ∙ length-append coded (one ∷ []) ∙ ap (λ (n : ℕ). n + 1) c.loop-place.invariant.count;
-      each = subst (ArePairs IsCoded instructions) (sym c.in_ok-push.ensures.items)
-          (pairs_push IsCoded instructions coded instruction one c.loop-place.invariant.each (subst (λ n. slice_get instructions n ≡ Some instruction) (sym c.loop-place.invariant.count) at) c.coded_of.ensures);
+      each = subst (ArePairs (λ _. IsCoded) instructions) (sym c.in_ok-push.ensures.items)
+          (pairs_push (λ _. IsCoded) instructions coded instruction one c.loop-place.invariant.each (subst (λ n. slice_get instructions n ≡ Some instruction) (sym c.loop-place.invariant.count) at) c.coded_of.ensures);
     }

@@ -44,8 +44,8 @@ returns c =
       ways = subst (λ (runs : List Run). AreWays plan runs c.in_ok-ways.ways.items) c.as_slice-made.ensures.value c.in_ok-ways.ensures;
     }
 
-pub first_of-first-requires : goal.first_of-first-requires
-first_of-first-requires c = subst (AreRuns c.args.plan.now) (sym c.as_slice-made.ensures.value) c.in_ok-runs.ensures.each
+pub first_of-first-requires-clause-runs : goal.first_of-first-requires-clause-runs
+first_of-first-requires-clause-runs c = subst (AreRuns c.args.plan.now) (sym c.as_slice-made.ensures.value) c.in_ok-runs.ensures.each
 
 pub ways_of-requires-clause-runs : goal.ways_of-requires-clause-runs
 ways_of-requires-clause-runs c = subst (AreRuns c.args.plan.now) (sym c.as_slice-made.ensures.value) c.in_ok-runs.ensures.each

@@ -1,33 +1,54 @@
-use Rattle.sig_machine.proofs.{◌≤◌, ◌∙◌, true, false, length, sym, subst, arith, slice_index_or, get_at, AreWaysOf, Holds, IsRun, Known, LeadsTo, PlanView, Run, leads_walk, run_held, same_Some}
+use Rattle.sig_machine.proofs.{◌≤◌, ◌∙◌, ℕ, true, false, length, refl, sym, subst, arith, slice_index_or, get_at, AreDone, ArePassed, AreWaysOf, Holds, IsRun, IsStretch, Known, PlanView, Run, none_done, none_passed, run_done, run_held, same_Some, walked_stretch}
 use Rattle.sig_machine.proofs.ways.ways_from.Goals as goal
 
 abbrev none : Run
 none = record { guard = record { number = 0 }; end = 0; skip = 0 }
 
-ends : (plan : PlanView) (place : _) (run : Run) → IsRun plan place run → run.end ≤ length plan.order
+ends : (plan : PlanView) (place : ℕ) (run : Run) → IsRun plan place run → run.end ≤ length plan.order
 ends plan place run is = let a = is.leaves in let b = is.within in omega (arith, a, b)
 
-pub next_from-requires-clause-from : goal.next_from-requires-clause-from
-next_from-requires-clause-from c =
+pub first_open-open-requires-clause-known : goal.first_open-open-requires-clause-known
+first_open-open-requires-clause-known c =
     let run = slice_index_or c.args.runs.now c.args.place none in
-    ends c.args.plan.now c.args.place run (c.requires.runs c.args.place run (get_at c.args.runs.now c.args.place none c.requires.place))
+    subst (λ (k : Known). Holds c.args.plan.now.store.nodes k.guard) (sym c.known_of-off.ensures)
+    (run_held c.args.plan.now c.plans_are_accepted.ensures c.args.place run (c.requires.runs c.args.place run (get_at c.args.runs.now c.args.place none c.requires.place)))
 
-pub next_from-requires-else-is_inside-clause-from : goal.next_from-requires-else-is_inside-clause-from
-next_from-requires-else-is_inside-clause-from c =
+pub first_open-open-requires-clause-from : goal.first_open-open-requires-clause-from
+first_open-open-requires-clause-from c =
     let run = slice_index_or c.args.runs.now c.args.place none in
     (c.requires.runs c.args.place run (get_at c.args.runs.now c.args.place none c.requires.place)).within
 
-pub next_from-requires-clause-known : goal.next_from-requires-clause-known
-next_from-requires-clause-known c =
+pub stretch_from-requires-clause-known : goal.stretch_from-requires-clause-known
+stretch_from-requires-clause-known c =
     let run = slice_index_or c.args.runs.now c.args.place none in
-    subst (λ (k : Known). Holds c.args.plan.now.store.nodes k.guard) (sym c.known_of.ensures)
+    subst (λ (k : Known). Holds c.args.plan.now.store.nodes k.guard) (sym c.known_of-on.ensures)
     (run_held c.args.plan.now c.plans_are_accepted.ensures c.args.place run (c.requires.runs c.args.place run (get_at c.args.runs.now c.args.place none c.requires.place)))
 
-pub next_from-requires-else-is_inside-clause-known : goal.next_from-requires-else-is_inside-clause-known
-next_from-requires-else-is_inside-clause-known c =
+pub stretch_from-requires-clause-forth : goal.stretch_from-requires-clause-forth
+stretch_from-requires-clause-forth c =
     let run = slice_index_or c.args.runs.now c.args.place none in
-    subst (λ (k : Known). Holds c.args.plan.now.store.nodes k.guard) (sym c.known_of-else-is_inside.ensures)
+    let is : IsRun c.args.plan.now c.args.place run = c.requires.runs c.args.place run (get_at c.args.runs.now c.args.place none c.requires.place) in
+    let later = is.later in omega (arith, later)
+
+pub stretch_from-requires-clause-within : goal.stretch_from-requires-clause-within
+stretch_from-requires-clause-within c =
+    let run = slice_index_or c.args.runs.now c.args.place none in
+    ends c.args.plan.now c.args.place run (c.requires.runs c.args.place run (get_at c.args.runs.now c.args.place none c.requires.place))
+
+pub stretch_from-requires-clause-done : goal.stretch_from-requires-clause-done
+stretch_from-requires-clause-done c =
+    let run = slice_index_or c.args.runs.now c.args.place none in
+    subst (λ (k : Known). AreDone c.args.plan.now k c.args.place run.end) (sym c.known_of-on.ensures)
+    (run_done c.args.plan.now c.args.place run (c.requires.runs c.args.place run (get_at c.args.runs.now c.args.place none c.requires.place)))
+
+pub stretch_from-requires-else-is_inside-clause-known : goal.stretch_from-requires-else-is_inside-clause-known
+stretch_from-requires-else-is_inside-clause-known c =
+    let run = slice_index_or c.args.runs.now c.args.place none in
+    subst (λ (k : Known). Holds c.args.plan.now.store.nodes k.guard) (sym c.known_of-off.ensures)
     (run_held c.args.plan.now c.plans_are_accepted.ensures c.args.place run (c.requires.runs c.args.place run (get_at c.args.runs.now c.args.place none c.requires.place)))
+
+pub stretch_from-requires-else-is_inside-clause-done : goal.stretch_from-requires-else-is_inside-clause-done
+stretch_from-requires-else-is_inside-clause-done c = none_done c.args.plan.now c.known_of-off.result c.first_open-open.result
 
 pub returns-then-is_inside : goal.returns-then-is_inside
 returns-then-is_inside c = λ other at.
@@ -35,10 +56,22 @@ returns-then-is_inside c = λ other at.
     let runs = c.args.runs.now in
     let run = slice_index_or runs c.args.place none in
     let here = get_at runs c.args.place none c.requires.place in
-    let is = c.requires.runs c.args.place run here in
-    subst (λ (r : Run). AreWaysOf plan runs r (record { on = c.walked.result; off = c.walked-then-is_inside.result })) (same_Some run other (sym here ∙ at)) (record {
-      on = leads_walk plan (record { guard = run.guard; truth = true }) runs run.end c.walked.result (ends plan c.args.place run is) c.walked.ensures.place c.walked.ensures.walk;
-      off = leads_walk plan (record { guard = run.guard; truth = false }) runs run.skip c.walked-then-is_inside.result is.within c.walked-then-is_inside.ensures.place c.walked-then-is_inside.ensures.walk;
+    let is : IsRun plan c.args.place run = c.requires.runs c.args.place run here in
+    let on = c.walked.result in
+    let off = c.walked-then-is_inside.result in
+    let known : Known = record { guard = run.guard; truth = false } in
+    let first = c.walked-then-is_inside.ensures.from in
+    let last = c.walked.ensures.to in
+    subst (λ (r : Run). AreWaysOf plan runs c.args.place r (record { guard = run.guard; on = on; off = off })) (same_Some run other (sym here ∙ at)) (record {
+      guard = refl;
+      on = walked_stretch plan (record { guard = run.guard; truth = true }) runs c.args.place run.end on c.requires.count (let later = is.later in omega (arith, later)) (ends plan c.args.place run is)
+          (run_done plan c.args.place run is) c.walked.ensures.from c.walked.ensures.to c.walked.ensures.place c.walked.ensures.walk;
+      on_from = c.walked.ensures.from;
+      on_to = omega (arith, last);
+      off = walked_stretch plan known runs run.skip run.skip off c.requires.count (omega arith) is.within
+          (none_done plan known run.skip) c.walked-then-is_inside.ensures.from c.walked-then-is_inside.ensures.to c.walked-then-is_inside.ensures.place c.walked-then-is_inside.ensures.walk;
+      off_from = omega (arith, first);
+      off_passed = subst (ArePassed plan known run.skip) (sym first) (none_passed plan known run.skip);
     })
 
 pub returns-else-is_inside : goal.returns-else-is_inside
@@ -47,7 +80,18 @@ returns-else-is_inside c = λ other at.
     let runs = c.args.runs.now in
     let run = slice_index_or runs c.args.place none in
     let here = get_at runs c.args.place none c.requires.place in
-    subst (λ (r : Run). AreWaysOf plan runs r (record { on = c.next_from.result; off = c.next_from-else-is_inside.result })) (same_Some run other (sym here ∙ at)) (record {
-      on = subst (λ (k : Known). LeadsTo plan runs k run.end c.next_from.result) c.known_of.ensures c.next_from.ensures;
-      off = subst (λ (k : Known). LeadsTo plan runs k run.skip c.next_from-else-is_inside.result) c.known_of-else-is_inside.ensures c.next_from-else-is_inside.ensures;
+    let on = c.stretch_from.result in
+    let off = c.stretch_from-else-is_inside.result in
+    let known : Known = record { guard = run.guard; truth = false } in
+    let first = c.stretch_from-else-is_inside.ensures.from in
+    let later = c.first_open-open.ensures.later in
+    subst (λ (r : Run). AreWaysOf plan runs c.args.place r (record { guard = run.guard; on = on; off = off })) (same_Some run other (sym here ∙ at)) (record {
+      guard = refl;
+      on = subst (λ (k : Known). IsStretch plan runs k on) c.known_of-on.ensures c.stretch_from.ensures.stretch;
+      on_from = c.stretch_from.ensures.from;
+      on_to = c.stretch_from.ensures.to;
+      off = subst (λ (k : Known). IsStretch plan runs k off) c.known_of-off.ensures c.stretch_from-else-is_inside.ensures.stretch;
+      off_from = omega (arith, first, later);
+      off_passed = subst (ArePassed plan known run.skip) (sym first)
+          (subst (λ (k : Known). ArePassed plan k run.skip c.first_open-open.result) c.known_of-off.ensures c.first_open-open.ensures.passed);
     })

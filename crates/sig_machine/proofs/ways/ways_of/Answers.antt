@@ -16,5 +16,5 @@ loop-place-preserved c =
     record {
       count = ap length c.in_ok-push.ensures.items ∙ length-append ways (one ∷ []) ∙ ap (λ (n : ℕ). n + 1) c.loop-place.invariant.count;
       each = subst (ArePairs (AreWaysOf plan runs) runs) (sym c.in_ok-push.ensures.items)
-          (pairs_push (AreWaysOf plan runs) runs ways run one c.loop-place.invariant.each (subst (λ n. slice_get runs n ≡ Some run) (sym c.loop-place.invariant.count) at) (c.ways_from.ensures run at));
+          (pairs_push (AreWaysOf plan runs) runs ways run one c.loop-place.invariant.each (subst (λ n. slice_get runs n ≡ Some run) (sym c.loop-place.invariant.count) at) (subst (λ n. AreWaysOf plan runs n run one) (sym c.loop-place.invariant.count) (c.ways_from.ensures run at)));
     }

@@ -1,119 +1,274 @@
-use Rattle.sig_machine.proofs.{◌≡◌, ◌≤◌, ◌∙◌, true, false, List, length, refl, sym, ap, subst, arith, slice_get_read, OpId, err_from_is_err_and, AsksWithin, Cause, EndsBy, GoesOn, asks_to, comes_on, goes_to, left_behind, tells_to}
+use Rattle.sig_machine.proofs.{◌∙◌, true, false, length, refl, sym, subst, arith, slice_get_read, err_from_is_err_and, Cause, EndsBy, GoesOn, amid_first, amid_off, amid_on, asks_first, asks_off, asks_on, asks_within, at_end, before_end, cause_off, cause_on, ends_off, ends_on, forth_off, forth_on, further_off, further_on, goes_back, ways_held, ways_told, is_end, lent, machine_back, order_off, order_on, within_first, within_off, within_on}
 use Rattle.sig_machine.proofs.machine.Machine.react.Goals as goal
 
-pub is_on-requires-clause-run : goal.is_on-requires-clause-run
-is_on-requires-clause-run c =
-    let at = (slice_get_read c.args.lowered.now.runs.items (length c.args.lowered.now.runs.items) c.loop-next.next.now.place c.index-run.result.now refl (let test = c.loop-next-test.true in let all = ap (λ (order : List OpId). length order) c.order_of-places.ensures in let n = c.requires.lowers.runs in omega (arith, test, all, n)) c.index-run.ensures) in
-    let is_run = c.requires.lowers.run c.loop-next.next.now.place c.index-run.result.now at in
-    (c.loop-next.next.now.place, is_run)
+pub loop-cells-init : goal.loop-cells-init
+loop-cells-init c = record {
+  amid = amid_first c.args.plan.now c.args.lowered.now c.requires.lowers c.args.inputs.now c.args.self.now c.requires.machine c.as_mut_slice-cells.result.now c.as_mut_slice-stamps.result.now c.as_mut_slice-taken.result.now
+      c.as_mut_slice-cells.ensures.value c.as_mut_slice-stamps.ensures.value c.as_mut_slice-taken.ensures.value;
+  within = within_first c.args.plan.now c.args.lowered.now c.requires.lowers c.args.inputs.now c.args.self.now c.requires.machine c.as_mut_slice-cells.result.now c.as_mut_slice-stamps.result.now c.as_mut_slice-taken.result.now
+      c.as_mut_slice-cells.ensures.value c.as_mut_slice-stamps.ensures.value c.as_mut_slice-taken.ensures.value;
+  end = c.requires.lowers.first.end;
+  asks = asks_first c.args.plan.now c.args.lowered.now c.requires.lowers c.args.inputs.now c.args.self.now c.requires.machine c.as_mut_slice-cells.result.now c.as_mut_slice-stamps.result.now c.as_mut_slice-taken.result.now
+      c.as_mut_slice-cells.ensures.value c.as_mut_slice-stamps.ensures.value c.as_mut_slice-taken.ensures.value;
+}
+
+pub is_on-requires-clause-held : goal.is_on-requires-clause-held
+is_on-requires-clause-held c =
+    let plan = c.args.plan.now in
+    let accepted = c.plans_are_accepted.ensures in
+    let flows = c.args.inputs.now in
+    let lowered = c.args.lowered.now in
+    let lowers = c.requires.lowers in
+    let start = c.args.self.now in
+    let next = c.loop-cells.next.now in
+    let amid = c.loop-cells.invariant.amid in
+    let within = before_end next.place (length plan.order) (is_end next.test) c.loop-cells.invariant.end (sym c.is_end.ensures ∙ c.loop-cells-test.true) in
+    let ways = c.index-ways.result.now in
+    let count = lowers.runs in
+    let all = lowers.ways.count in
+    let there = slice_get_read lowered.ways.items (length lowered.ways.items) next.place ways refl (omega (arith, within, count, all)) c.index-ways.ensures in
+    ways_held plan accepted flows c.requires.fits lowered lowers start start.instant c.loop-cells.cells c.loop-cells.stamps c.loop-cells.taken next amid within ways there
+
+pub is_on-requires-clause-told : goal.is_on-requires-clause-told
+is_on-requires-clause-told c =
+    let plan = c.args.plan.now in
+    let accepted = c.plans_are_accepted.ensures in
+    let flows = c.args.inputs.now in
+    let lowered = c.args.lowered.now in
+    let lowers = c.requires.lowers in
+    let start = c.args.self.now in
+    let next = c.loop-cells.next.now in
+    let amid = c.loop-cells.invariant.amid in
+    let within = before_end next.place (length plan.order) (is_end next.test) c.loop-cells.invariant.end (sym c.is_end.ensures ∙ c.loop-cells-test.true) in
+    let ways = c.index-ways.result.now in
+    let count = lowers.runs in
+    let all = lowers.ways.count in
+    let there = slice_get_read lowered.ways.items (length lowered.ways.items) next.place ways refl (omega (arith, within, count, all)) c.index-ways.ensures in
+    ways_told plan accepted flows c.requires.fits lowered lowers start start.instant c.loop-cells.cells c.loop-cells.stamps c.loop-cells.taken next amid within ways there
 
 pub is_on-requires-clause-asks : goal.is_on-requires-clause-asks
 is_on-requires-clause-asks c =
-    let at = (slice_get_read c.args.lowered.now.runs.items (length c.args.lowered.now.runs.items) c.loop-next.next.now.place c.index-run.result.now refl (let test = c.loop-next-test.true in let all = ap (λ (order : List OpId). length order) c.order_of-places.ensures in let n = c.requires.lowers.runs in omega (arith, test, all, n)) c.index-run.ensures) in
-    let is_run = c.requires.lowers.run c.loop-next.next.now.place c.index-run.result.now at in
-    subst (λ n. AsksWithin n c.loop-next.next.now.test) (sym c.loop-next.invariant.machine.signals) (c.loop-next.invariant.asks c.index-run.result.now at)
+    let plan = c.args.plan.now in
+    let accepted = c.plans_are_accepted.ensures in
+    let flows = c.args.inputs.now in
+    let lowered = c.args.lowered.now in
+    let lowers = c.requires.lowers in
+    let start = c.args.self.now in
+    let next = c.loop-cells.next.now in
+    let amid = c.loop-cells.invariant.amid in
+    let within = before_end next.place (length plan.order) (is_end next.test) c.loop-cells.invariant.end (sym c.is_end.ensures ∙ c.loop-cells-test.true) in
+    let ways = c.index-ways.result.now in
+    let count = lowers.runs in
+    let all = lowers.ways.count in
+    let there = slice_get_read lowered.ways.items (length lowered.ways.items) next.place ways refl (omega (arith, within, count, all)) c.index-ways.ensures in
+    asks_within plan accepted flows c.requires.fits lowered lowers start start.instant c.loop-cells.cells c.loop-cells.stamps c.loop-cells.taken next amid within ways there start.signals c.requires.machine.signals c.loop-cells.invariant.asks
 
-pub do_run-requires-clause-run : goal.do_run-requires-clause-run
-do_run-requires-clause-run c =
-    let at = (slice_get_read c.args.lowered.now.runs.items (length c.args.lowered.now.runs.items) c.loop-next.next.now.place c.index-run.result.now refl (let test = c.loop-next-test.true in let all = ap (λ (order : List OpId). length order) c.order_of-places.ensures in let n = c.requires.lowers.runs in omega (arith, test, all, n)) c.index-run.ensures) in
-    let is_run = c.requires.lowers.run c.loop-next.next.now.place c.index-run.result.now at in
-    is_run
+pub do_stretch-requires-clause-forth : goal.do_stretch-requires-clause-forth
+do_stretch-requires-clause-forth c =
+    let plan = c.args.plan.now in
+    let accepted = c.plans_are_accepted.ensures in
+    let flows = c.args.inputs.now in
+    let lowered = c.args.lowered.now in
+    let lowers = c.requires.lowers in
+    let start = c.args.self.now in
+    let next = c.loop-cells.next.now in
+    let amid = c.loop-cells.invariant.amid in
+    let within = before_end next.place (length plan.order) (is_end next.test) c.loop-cells.invariant.end (sym c.is_end.ensures ∙ c.loop-cells-test.true) in
+    let ways = c.index-ways.result.now in
+    let count = lowers.runs in
+    let all = lowers.ways.count in
+    let there = slice_get_read lowered.ways.items (length lowered.ways.items) next.place ways refl (omega (arith, within, count, all)) c.index-ways.ensures in
+    forth_on plan accepted flows c.requires.fits lowered lowers start start.instant c.loop-cells.cells c.loop-cells.stamps c.loop-cells.taken next amid within ways there
 
-pub returns-in_err-do_run-clause-fault : goal.returns-in_err-do_run-clause-fault
-returns-in_err-do_run-clause-fault c =
-    let at = (slice_get_read c.args.lowered.now.runs.items (length c.args.lowered.now.runs.items) c.loop-next.next.now.place c.index-run.result.now refl (let test = c.loop-next-test.true in let all = ap (λ (order : List OpId). length order) c.order_of-places.ensures in let n = c.requires.lowers.runs in omega (arith, test, all, n)) c.index-run.ensures) in
-    let is_run = c.requires.lowers.run c.loop-next.next.now.place c.index-run.result.now at in
+pub do_stretch-requires-clause-within : goal.do_stretch-requires-clause-within
+do_stretch-requires-clause-within c =
+    let plan = c.args.plan.now in
+    let accepted = c.plans_are_accepted.ensures in
+    let flows = c.args.inputs.now in
+    let lowered = c.args.lowered.now in
+    let lowers = c.requires.lowers in
+    let start = c.args.self.now in
+    let next = c.loop-cells.next.now in
+    let amid = c.loop-cells.invariant.amid in
+    let within = before_end next.place (length plan.order) (is_end next.test) c.loop-cells.invariant.end (sym c.is_end.ensures ∙ c.loop-cells-test.true) in
+    let ways = c.index-ways.result.now in
+    let count = lowers.runs in
+    let all = lowers.ways.count in
+    let there = slice_get_read lowered.ways.items (length lowered.ways.items) next.place ways refl (omega (arith, within, count, all)) c.index-ways.ensures in
+    order_on plan accepted flows c.requires.fits lowered lowers start start.instant c.loop-cells.cells c.loop-cells.stamps c.loop-cells.taken next amid within ways there
+
+pub loop-cells-smaller-in-Continue-1 : goal.loop-cells-smaller-in-Continue-1
+loop-cells-smaller-in-Continue-1 c =
+    let plan = c.args.plan.now in
+    let accepted = c.plans_are_accepted.ensures in
+    let flows = c.args.inputs.now in
+    let lowered = c.args.lowered.now in
+    let lowers = c.requires.lowers in
+    let start = c.args.self.now in
+    let next = c.loop-cells.next.now in
+    let amid = c.loop-cells.invariant.amid in
+    let within = before_end next.place (length plan.order) (is_end next.test) c.loop-cells.invariant.end (sym c.is_end.ensures ∙ c.loop-cells-test.true) in
+    let ways = c.index-ways.result.now in
+    let count = lowers.runs in
+    let all = lowers.ways.count in
+    let there = slice_get_read lowered.ways.items (length lowered.ways.items) next.place ways refl (omega (arith, within, count, all)) c.index-ways.ensures in
+    let further = further_on plan accepted flows c.requires.fits lowered lowers start start.instant c.loop-cells.cells c.loop-cells.stamps c.loop-cells.taken next amid within ways there in
+    let most = within_on plan accepted flows c.requires.fits lowered lowers start start.instant c.loop-cells.cells c.loop-cells.stamps c.loop-cells.taken next amid within ways there in
+    omega (arith, further, most)
+
+pub loop-cells-preserved-in-Continue-1 : goal.loop-cells-preserved-in-Continue-1
+loop-cells-preserved-in-Continue-1 c =
+    let plan = c.args.plan.now in
+    let accepted = c.plans_are_accepted.ensures in
+    let flows = c.args.inputs.now in
+    let lowered = c.args.lowered.now in
+    let lowers = c.requires.lowers in
+    let start = c.args.self.now in
+    let next = c.loop-cells.next.now in
+    let amid = c.loop-cells.invariant.amid in
+    let within = before_end next.place (length plan.order) (is_end next.test) c.loop-cells.invariant.end (sym c.is_end.ensures ∙ c.loop-cells-test.true) in
+    let ways = c.index-ways.result.now in
+    let count = lowers.runs in
+    let all = lowers.ways.count in
+    let there = slice_get_read lowered.ways.items (length lowered.ways.items) next.place ways refl (omega (arith, within, count, all)) c.index-ways.ensures in
+    let told = sym c.if-is_on.true ∙ c.is_on.ensures in
+    record {
+      amid = amid_on plan accepted flows c.requires.fits lowered lowers start start.instant c.loop-cells.cells c.loop-cells.stamps c.loop-cells.taken next amid within ways there start.signals c.requires.machine.signals true told refl c.do_stretch.new.cells c.do_stretch.new.stamps c.do_stretch.new.taken c.in_ok-do_stretch.ensures.machine c.in_ok-do_stretch.ensures.done;
+      within = within_on plan accepted flows c.requires.fits lowered lowers start start.instant c.loop-cells.cells c.loop-cells.stamps c.loop-cells.taken next amid within ways there;
+      end = ends_on plan accepted flows c.requires.fits lowered lowers start start.instant c.loop-cells.cells c.loop-cells.stamps c.loop-cells.taken next amid within ways there;
+      asks = asks_on plan accepted flows c.requires.fits lowered lowers start start.instant c.loop-cells.cells c.loop-cells.stamps c.loop-cells.taken next amid within ways there;
+    }
+
+pub returns-in_err-do_stretch-clause-fault : goal.returns-in_err-do_stretch-clause-fault
+returns-in_err-do_stretch-clause-fault c =
+    let plan = c.args.plan.now in
+    let accepted = c.plans_are_accepted.ensures in
+    let flows = c.args.inputs.now in
+    let lowered = c.args.lowered.now in
+    let lowers = c.requires.lowers in
+    let start = c.args.self.now in
+    let next = c.loop-cells.next.now in
+    let amid = c.loop-cells.invariant.amid in
+    let within = before_end next.place (length plan.order) (is_end next.test) c.loop-cells.invariant.end (sym c.is_end.ensures ∙ c.loop-cells-test.true) in
+    let ways = c.index-ways.result.now in
+    let count = lowers.runs in
+    let all = lowers.ways.count in
+    let there = slice_get_read lowered.ways.items (length lowered.ways.items) next.place ways refl (omega (arith, within, count, all)) c.index-ways.ensures in
+    let told = sym c.if-is_on.true ∙ c.is_on.ensures in
     let p = err_from_is_err_and c.from_residual.result c.from_residual.ensures.1 in
-    let comes = comes_on c.args.plan.now c.plans_are_accepted.ensures c.args.inputs.now c.requires.fits c.args.lowered.now c.requires.lowers c.args.self.now c.loop-next.self c.loop-next.next.now
-    c.index-run.result.now at c.loop-next.invariant.goes c.loop-next.invariant.tells true (sym c.if-is_on.true ∙ c.is_on.ensures) refl in
-    rw p.1 (subst (λ (cause : Cause). EndsBy c.args.plan.now c.args.inputs.now c.args.self.now 0 cause) (sym p.2) (c.in_err-do_run.ensures.fault c.args.self.now comes))
+    rw p.1 (subst (λ (cause : Cause). EndsBy plan flows start 0 cause) (sym p.2) (cause_on plan accepted flows c.requires.fits lowered lowers start start.instant c.loop-cells.cells c.loop-cells.stamps c.loop-cells.taken next amid within ways there start.signals c.requires.machine.signals true told refl _ c.in_err-do_stretch.ensures.fault))
 
-pub loop-next-smaller-then-is_on : goal.loop-next-smaller-then-is_on
-loop-next-smaller-then-is_on c =
-    let at = (slice_get_read c.args.lowered.now.runs.items (length c.args.lowered.now.runs.items) c.loop-next.next.now.place c.index-run.result.now refl (let test = c.loop-next-test.true in let all = ap (λ (order : List OpId). length order) c.order_of-places.ensures in let n = c.requires.lowers.runs in omega (arith, test, all, n)) c.index-run.ensures) in
-    let is_run = c.requires.lowers.run c.loop-next.next.now.place c.index-run.result.now at in
-    let ways_are = (c.requires.lowers.ways.each c.loop-next.next.now.place c.index-run.result.now c.index-ways.result.now at
-    (slice_get_read c.args.lowered.now.ways.items (length c.args.lowered.now.ways.items) c.loop-next.next.now.place c.index-ways.result.now refl (let test = c.loop-next-test.true in let all = ap (λ (order : List OpId). length order) c.order_of-places.ensures in let n = c.requires.lowers.runs in let m = c.requires.lowers.ways.count in omega (arith, test, all, n, m)) c.index-ways.ensures)) in
-    let ways = ways_are in
-    let a = is_run.later in let b = is_run.leaves in let d = is_run.within in let e = ways.on.later in let f = ways.on.within in omega (arith, a, b, d, e, f)
+pub returns-in_err-do_stretch-clause-machine : goal.returns-in_err-do_stretch-clause-machine
+returns-in_err-do_stretch-clause-machine c =
+    rw (c.in_err-do_stretch.self-in-Break-3-1-own.given.1 refl) (machine_back c.args.plan.now c.args.lowered.now c.args.inputs.now c.args.self.now c.requires.machine c.do_stretch.new.cells c.do_stretch.new.stamps c.do_stretch.new.taken c.in_err-do_stretch.ensures.machine)
 
-pub loop-next-preserved-then-is_on : goal.loop-next-preserved-then-is_on
-loop-next-preserved-then-is_on c =
-    let at = (slice_get_read c.args.lowered.now.runs.items (length c.args.lowered.now.runs.items) c.loop-next.next.now.place c.index-run.result.now refl (let test = c.loop-next-test.true in let all = ap (λ (order : List OpId). length order) c.order_of-places.ensures in let n = c.requires.lowers.runs in omega (arith, test, all, n)) c.index-run.ensures) in
-    let is_run = c.requires.lowers.run c.loop-next.next.now.place c.index-run.result.now at in
-    let ways_are = (c.requires.lowers.ways.each c.loop-next.next.now.place c.index-run.result.now c.index-ways.result.now at
-    (slice_get_read c.args.lowered.now.ways.items (length c.args.lowered.now.ways.items) c.loop-next.next.now.place c.index-ways.result.now refl (let test = c.loop-next-test.true in let all = ap (λ (order : List OpId). length order) c.order_of-places.ensures in let n = c.requires.lowers.runs in let m = c.requires.lowers.ways.count in omega (arith, test, all, n, m)) c.index-ways.ensures)) in
+pub do_stretch-requires-else-is_on-clause-forth : goal.do_stretch-requires-else-is_on-clause-forth
+do_stretch-requires-else-is_on-clause-forth c =
     let plan = c.args.plan.now in
     let accepted = c.plans_are_accepted.ensures in
     let flows = c.args.inputs.now in
-    let fits = c.requires.fits in
     let lowered = c.args.lowered.now in
     let lowers = c.requires.lowers in
     let start = c.args.self.now in
-    let old = c.loop-next.self in
-    let next = c.loop-next.next.now in
-    let run = c.index-run.result.now in
-    let goes = c.loop-next.invariant.goes in
-    let tells = c.loop-next.invariant.tells in
-    let is = sym c.if-is_on.true ∙ c.is_on.ensures in
-    let comes = comes_on plan accepted flows fits lowered lowers start old next run at goes tells true is refl in
-    let new = c.do_run.new.self in
-    let further : GoesOn plan flows start 0 new run.end = c.in_ok-do_run.ensures.done start comes in
-    let after : next.place ≤ run.end = let a = is_run.later in omega (arith, a) in
-    let leads = ways_are.on in
-    let to = c.index-ways.result.now.on in
-    record {
-      machine = c.in_ok-do_run.ensures.machine;
-      goes = goes_to plan accepted flows fits lowered lowers start old next run at goes tells true is new run.end after further to leads;
-      within = leads.within;
-      asks = asks_to plan accepted flows fits lowered lowers start old next run at goes tells true is new run.end after further to leads;
-      tells = tells_to plan accepted flows fits lowered lowers start old next run at goes tells true is new run.end after further to leads;
-    }
+    let next = c.loop-cells.next.now in
+    let amid = c.loop-cells.invariant.amid in
+    let within = before_end next.place (length plan.order) (is_end next.test) c.loop-cells.invariant.end (sym c.is_end.ensures ∙ c.loop-cells-test.true) in
+    let ways = c.index-ways.result.now in
+    let count = lowers.runs in
+    let all = lowers.ways.count in
+    let there = slice_get_read lowered.ways.items (length lowered.ways.items) next.place ways refl (omega (arith, within, count, all)) c.index-ways.ensures in
+    forth_off plan accepted flows c.requires.fits lowered lowers start start.instant c.loop-cells.cells c.loop-cells.stamps c.loop-cells.taken next amid within ways there
 
-pub loop-next-smaller : goal.loop-next-smaller
-loop-next-smaller c =
-    let at = (slice_get_read c.args.lowered.now.runs.items (length c.args.lowered.now.runs.items) c.loop-next.next.now.place c.index-run.result.now refl (let test = c.loop-next-test.true in let all = ap (λ (order : List OpId). length order) c.order_of-places.ensures in let n = c.requires.lowers.runs in omega (arith, test, all, n)) c.index-run.ensures) in
-    let is_run = c.requires.lowers.run c.loop-next.next.now.place c.index-run.result.now at in
-    let ways_are = (c.requires.lowers.ways.each c.loop-next.next.now.place c.index-run.result.now c.index-ways.result.now at
-    (slice_get_read c.args.lowered.now.ways.items (length c.args.lowered.now.ways.items) c.loop-next.next.now.place c.index-ways.result.now refl (let test = c.loop-next-test.true in let all = ap (λ (order : List OpId). length order) c.order_of-places.ensures in let n = c.requires.lowers.runs in let m = c.requires.lowers.ways.count in omega (arith, test, all, n, m)) c.index-ways.ensures)) in
-    let ways = ways_are in
-    let a = is_run.later in let b = is_run.leaves in let d = is_run.within in let e = ways.off.later in let f = ways.off.within in omega (arith, a, b, d, e, f)
-
-pub loop-next-preserved : goal.loop-next-preserved
-loop-next-preserved c =
-    let at = (slice_get_read c.args.lowered.now.runs.items (length c.args.lowered.now.runs.items) c.loop-next.next.now.place c.index-run.result.now refl (let test = c.loop-next-test.true in let all = ap (λ (order : List OpId). length order) c.order_of-places.ensures in let n = c.requires.lowers.runs in omega (arith, test, all, n)) c.index-run.ensures) in
-    let is_run = c.requires.lowers.run c.loop-next.next.now.place c.index-run.result.now at in
-    let ways_are = (c.requires.lowers.ways.each c.loop-next.next.now.place c.index-run.result.now c.index-ways.result.now at
-    (slice_get_read c.args.lowered.now.ways.items (length c.args.lowered.now.ways.items) c.loop-next.next.now.place c.index-ways.result.now refl (let test = c.loop-next-test.true in let all = ap (λ (order : List OpId). length order) c.order_of-places.ensures in let n = c.requires.lowers.runs in let m = c.requires.lowers.ways.count in omega (arith, test, all, n, m)) c.index-ways.ensures)) in
+pub do_stretch-requires-else-is_on-clause-within : goal.do_stretch-requires-else-is_on-clause-within
+do_stretch-requires-else-is_on-clause-within c =
     let plan = c.args.plan.now in
     let accepted = c.plans_are_accepted.ensures in
     let flows = c.args.inputs.now in
-    let fits = c.requires.fits in
     let lowered = c.args.lowered.now in
     let lowers = c.requires.lowers in
     let start = c.args.self.now in
-    let old = c.loop-next.self in
-    let next = c.loop-next.next.now in
-    let run = c.index-run.result.now in
-    let goes = c.loop-next.invariant.goes in
-    let tells = c.loop-next.invariant.tells in
-    let is = sym c.if-is_on.false ∙ c.is_on.ensures in
-    let further : GoesOn plan flows start 0 old run.skip = left_behind plan accepted flows fits lowered lowers start old next run at goes tells false is refl in
-    let after : next.place ≤ run.skip = let a = is_run.later in let b = is_run.leaves in omega (arith, a, b) in
-    let leads = ways_are.off in
-    let to = c.index-ways.result.now.off in
+    let next = c.loop-cells.next.now in
+    let amid = c.loop-cells.invariant.amid in
+    let within = before_end next.place (length plan.order) (is_end next.test) c.loop-cells.invariant.end (sym c.is_end.ensures ∙ c.loop-cells-test.true) in
+    let ways = c.index-ways.result.now in
+    let count = lowers.runs in
+    let all = lowers.ways.count in
+    let there = slice_get_read lowered.ways.items (length lowered.ways.items) next.place ways refl (omega (arith, within, count, all)) c.index-ways.ensures in
+    order_off plan accepted flows c.requires.fits lowered lowers start start.instant c.loop-cells.cells c.loop-cells.stamps c.loop-cells.taken next amid within ways there
+
+pub loop-cells-smaller : goal.loop-cells-smaller
+loop-cells-smaller c =
+    let plan = c.args.plan.now in
+    let accepted = c.plans_are_accepted.ensures in
+    let flows = c.args.inputs.now in
+    let lowered = c.args.lowered.now in
+    let lowers = c.requires.lowers in
+    let start = c.args.self.now in
+    let next = c.loop-cells.next.now in
+    let amid = c.loop-cells.invariant.amid in
+    let within = before_end next.place (length plan.order) (is_end next.test) c.loop-cells.invariant.end (sym c.is_end.ensures ∙ c.loop-cells-test.true) in
+    let ways = c.index-ways.result.now in
+    let count = lowers.runs in
+    let all = lowers.ways.count in
+    let there = slice_get_read lowered.ways.items (length lowered.ways.items) next.place ways refl (omega (arith, within, count, all)) c.index-ways.ensures in
+    let further = further_off plan accepted flows c.requires.fits lowered lowers start start.instant c.loop-cells.cells c.loop-cells.stamps c.loop-cells.taken next amid within ways there in
+    let most = within_off plan accepted flows c.requires.fits lowered lowers start start.instant c.loop-cells.cells c.loop-cells.stamps c.loop-cells.taken next amid within ways there in
+    omega (arith, further, most)
+
+pub loop-cells-preserved : goal.loop-cells-preserved
+loop-cells-preserved c =
+    let plan = c.args.plan.now in
+    let accepted = c.plans_are_accepted.ensures in
+    let flows = c.args.inputs.now in
+    let lowered = c.args.lowered.now in
+    let lowers = c.requires.lowers in
+    let start = c.args.self.now in
+    let next = c.loop-cells.next.now in
+    let amid = c.loop-cells.invariant.amid in
+    let within = before_end next.place (length plan.order) (is_end next.test) c.loop-cells.invariant.end (sym c.is_end.ensures ∙ c.loop-cells-test.true) in
+    let ways = c.index-ways.result.now in
+    let count = lowers.runs in
+    let all = lowers.ways.count in
+    let there = slice_get_read lowered.ways.items (length lowered.ways.items) next.place ways refl (omega (arith, within, count, all)) c.index-ways.ensures in
+    let told = sym c.if-is_on.false ∙ c.is_on.ensures in
     record {
-      machine = c.loop-next.invariant.machine;
-      goes = goes_to plan accepted flows fits lowered lowers start old next run at goes tells false is old run.skip after further to leads;
-      within = leads.within;
-      asks = asks_to plan accepted flows fits lowered lowers start old next run at goes tells false is old run.skip after further to leads;
-      tells = tells_to plan accepted flows fits lowered lowers start old next run at goes tells false is old run.skip after further to leads;
+      amid = amid_off plan accepted flows c.requires.fits lowered lowers start start.instant c.loop-cells.cells c.loop-cells.stamps c.loop-cells.taken next amid within ways there start.signals c.requires.machine.signals false told refl c.do_stretch-else-is_on.new.cells c.do_stretch-else-is_on.new.stamps c.do_stretch-else-is_on.new.taken c.in_ok-do_stretch-2.ensures.machine c.in_ok-do_stretch-2.ensures.done;
+      within = within_off plan accepted flows c.requires.fits lowered lowers start start.instant c.loop-cells.cells c.loop-cells.stamps c.loop-cells.taken next amid within ways there;
+      end = ends_off plan accepted flows c.requires.fits lowered lowers start start.instant c.loop-cells.cells c.loop-cells.stamps c.loop-cells.taken next amid within ways there;
+      asks = asks_off plan accepted flows c.requires.fits lowered lowers start start.instant c.loop-cells.cells c.loop-cells.stamps c.loop-cells.taken next amid within ways there;
     }
+
+pub returns-in_err-do_stretch-2-clause-fault : goal.returns-in_err-do_stretch-2-clause-fault
+returns-in_err-do_stretch-2-clause-fault c =
+    let plan = c.args.plan.now in
+    let accepted = c.plans_are_accepted.ensures in
+    let flows = c.args.inputs.now in
+    let lowered = c.args.lowered.now in
+    let lowers = c.requires.lowers in
+    let start = c.args.self.now in
+    let next = c.loop-cells.next.now in
+    let amid = c.loop-cells.invariant.amid in
+    let within = before_end next.place (length plan.order) (is_end next.test) c.loop-cells.invariant.end (sym c.is_end.ensures ∙ c.loop-cells-test.true) in
+    let ways = c.index-ways.result.now in
+    let count = lowers.runs in
+    let all = lowers.ways.count in
+    let there = slice_get_read lowered.ways.items (length lowered.ways.items) next.place ways refl (omega (arith, within, count, all)) c.index-ways.ensures in
+    let told = sym c.if-is_on.false ∙ c.is_on.ensures in
+    let p = err_from_is_err_and c.from_residual-in_err-do_stretch-2.result c.from_residual-in_err-do_stretch-2.ensures.1 in
+    rw p.1 (subst (λ (cause : Cause). EndsBy plan flows start 0 cause) (sym p.2) (cause_off plan accepted flows c.requires.fits lowered lowers start start.instant c.loop-cells.cells c.loop-cells.stamps c.loop-cells.taken next amid within ways there start.signals c.requires.machine.signals false told refl _ c.in_err-do_stretch-2.ensures.fault))
+
+pub returns-in_err-do_stretch-2-clause-machine : goal.returns-in_err-do_stretch-2-clause-machine
+returns-in_err-do_stretch-2-clause-machine c =
+    rw (c.in_err-do_stretch-2.self-in-Break-branch-2-3-1-own.given.1 refl) (machine_back c.args.plan.now c.args.lowered.now c.args.inputs.now c.args.self.now c.requires.machine c.do_stretch-else-is_on.new.cells c.do_stretch-else-is_on.new.stamps c.do_stretch-else-is_on.new.taken c.in_err-do_stretch-2.ensures.machine)
 
 pub returns-clause-done : goal.returns-clause-done
 returns-clause-done c =
-    let test = c.loop-next-test.false in
-    let all = ap (λ (order : List OpId). length order) c.order_of-places.ensures in
-    let within = c.loop-next.invariant.within in
-    let end : c.loop-next.next.now.place ≡ length c.args.plan.now.order = omega (arith, test, all, within) in
-    subst (GoesOn c.args.plan.now c.args.inputs.now c.args.self.now 0 c.loop-next.self) end c.loop-next.invariant.goes
+    let plan = c.args.plan.now in
+    let amid = c.loop-cells.invariant.amid in
+    let end = at_end c.loop-cells.next.now.place (length plan.order) c.loop-cells.invariant.within (is_end c.loop-cells.next.now.test) c.loop-cells.invariant.end (sym c.is_end.ensures ∙ c.loop-cells-test.false) in
+    rw (c.self-in-loop-cells-2-1.given.1 refl) (subst (GoesOn plan c.args.inputs.now c.args.self.now 0 (lent c.args.self.now c.loop-cells.cells c.loop-cells.stamps c.loop-cells.taken)) end
+    (goes_back plan c.args.lowered.now c.args.inputs.now c.args.self.now c.requires.machine c.loop-cells.cells c.loop-cells.stamps c.loop-cells.taken amid.works c.args.self.now c.loop-cells.next.now.place amid.goes))
+
+pub returns-clause-machine : goal.returns-clause-machine
+returns-clause-machine c =
+    rw (c.self-in-loop-cells-2-1.given.1 refl) (machine_back c.args.plan.now c.args.lowered.now c.args.inputs.now c.args.self.now c.requires.machine c.loop-cells.cells c.loop-cells.stamps c.loop-cells.taken c.loop-cells.invariant.amid.works)

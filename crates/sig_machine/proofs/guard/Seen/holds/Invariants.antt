@@ -1,11 +1,11 @@
-use Rattle.sig_machine.proofs.{◌≡◌, ◌<◌, ℕ, length, Depends, Holds, test, truths_of, registers_of}
-use Rattle.sig_machine.proofs.machine.Machine.holds.Given as goal
+use Rattle.sig_machine.proofs.{◌≡◌, ◌<◌, ℕ, length, Depends, Holds, test, truths_of, registers_seen}
+use Rattle.sig_machine.proofs.guard.Seen.holds.Given as goal
 
 -- the walk keeps the value, and goes to earlier nodes
 abbrev pub invariant-loop-node : goal.invariant-loop-node
 invariant-loop-node l = record {
   held : Holds l.store.nodes l.r;
-  value : test l.store.nodes l.r (truths_of l.conditions (registers_of l.self)) ≡ test l.store.nodes l.fn.guard (truths_of l.conditions (registers_of l.self));
+  value : test l.store.nodes l.r (truths_of l.conditions (registers_seen l.self)) ≡ test l.store.nodes l.fn.guard (truths_of l.conditions (registers_seen l.self));
   told : (v : ℕ) → Depends (test l.store.nodes l.r) v → v < length l.conditions;
 }
 

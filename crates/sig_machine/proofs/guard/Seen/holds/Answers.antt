@@ -1,6 +1,6 @@
-use Rattle.sig_machine.proofs.{◌∙◌, length, sym, SigId, IsSide, HasVariable-node, IsSide-child, Depends-Tests, Tests-Depends, truths_of, registers_of, condition_at, constant_is, truth_at, variable_within}
-use Rattle.sig_machine.proofs.machine.Machine.holds.Goals.{After-child-r}
-use Rattle.sig_machine.proofs.machine.Machine.holds.Goals as goal
+use Rattle.sig_machine.proofs.{◌∙◌, length, sym, SigId, IsSide, HasVariable-node, IsSide-child, Depends-Tests, Tests-Depends, truths_of, registers_seen, condition_at, constant_is, truth_at, variable_within}
+use Rattle.sig_machine.proofs.guard.Seen.holds.Goals.{After-child-r}
+use Rattle.sig_machine.proofs.guard.Seen.holds.Goals as goal
 
 abbrev none : SigId
 none = record { 0 = 0 }
@@ -32,8 +32,8 @@ loop-node-preserved c =
     (length c.args.conditions.now) c.loop-node.invariant.told in
     record {
       held = (side c).holds;
-      value = (side c).function (truths_of c.args.conditions.now (registers_of c.args.self.now))
-          (truth_at c.args.conditions.now (registers_of c.args.self.now) c.in-Some.node.variable none within ∙ sym c.is_true-truth.ensures)
+      value = (side c).function (truths_of c.args.conditions.now (registers_seen c.args.self))
+          (truth_at c.args.conditions.now (registers_seen c.args.self) c.in-Some.node.variable none within ∙ sym c.is_true-truth.ensures)
           ∙ c.loop-node.invariant.value;
       told = λ v depends.
           c.loop-node.invariant.told v
@@ -45,5 +45,5 @@ pub returns : goal.returns
 returns c =
     c.eq.ensures
     ∙ constant_is c.args.store.now.nodes c.in_default.ensures.store.reduced c.loop-node.r c.loop-node.invariant.held c.in_default.ensures.node
-    c.constant.result c.constant.ensures.value (truths_of c.args.conditions.now (registers_of c.args.self.now))
+    c.constant.result c.constant.ensures.value (truths_of c.args.conditions.now (registers_seen c.args.self))
     ∙ c.loop-node.invariant.value
